@@ -1,8 +1,8 @@
 -- Rows begin and end, the rule starts, and seats come.
-use Rattle.std.specs.Prelude.{◌≢◌, ◌==◌, ◌-◌, Option, Some, None, replicate, slice_get, slice_index_or, if◌then◌else◌}
-use Rattle.std.proofs.Common.{◌≡◌, ℕ, zero, suc, Bool, true, false, [], ◌⊎◌, inl, inr, refl, sym, subst, ap, ◌∙◌}
+use Rattle.std.specs.Prelude.{◌≢◌, Option, Some, None, replicate, slice_get}
+use Rattle.std.proofs.Common.{◌≡◌, ℕ, zero, suc, false, [], ◌⊎◌, inl, inr, refl, sym, subst, ap, ◌∙◌}
 use Rattle.std.proofs.lemmas.List.{length-replicate}
-use Rattle.seize_words.specs.Mem.{Mem, Can, Took, value_in, value_at}
+use Rattle.seize_words.specs.Mem.{Mem, Can, Took, value_at}
 use Rattle.seize_words.specs.Plan.{Steps}
 use Rattle.seize_words.specs.Word.{block_in, link_to}
 use Rattle.seize_words.proofs.Plans.{steps_as}
@@ -25,7 +25,7 @@ use Rattle.seize_acts.proofs.Answers.{same_some}
 use Rattle.seize_seats.specs.State.{State, view_of, Turns, Comes, Starts}
 use Rattle.seize_acts.specs.Waits.{SettlesOn}
 use Rattle.seize_shared.specs.Begun.{IsBegun, left_with}
-use Rattle.seize_bounds.specs.Bounds.{IsToTry, IsAloneOnSlot, ArePlain, TriesWithin}
+use Rattle.seize_bounds.specs.Bounds.{IsToTry, IsAloneOnSlot, TriesWithin}
 use Rattle.seize_shared.specs.Rows.{row_of, use_of, used_for, hand_of, leave_of, counting, IsCut, IsShort, IsUsed, IsKnown, Fits, Came, IsBounded, Holds, Keeps}
 use Rattle.seize_shared.specs.Promises.{IsNext, IsFree, RulesStart, SeatsCome, RowsTurn, SettlingsBegin}
 use Rattle.seize_shared.specs.declared.view.View.{View}
@@ -37,12 +37,12 @@ use Rattle.seize_shared.specs.declared.view.Has.TheVariants.{Nothing, Made, Seen
 use Rattle.seize_shared.specs.declared.view.Why.TheVariants.{Retiring, Ending}
 use Rattle.seize_shared.specs.declared.view.Fixed.{Fixed}
 use Rattle.seize_shared.proofs.Lists.{with_last, none_before}
-use Rattle.seize_shared.proofs.Aside.{has_it}
+use Rattle.seize_shared.proofs.Aside.{alone_after}
 use Rattle.seize_shared.proofs.Moved.{moved, used_so}
 use Rattle.seize_shared.proofs.Came.{came_then}
-use Rattle.seize_shared.proofs.Steps.{alone, begun, stepped, world_plain}
+use Rattle.seize_shared.proofs.Steps.{alone, begun, stepped}
 use Rattle.seize_shared.proofs.Operations.{used_as, slot_of, same_slot}
-use Rattle.seize_bounds.proofs.Tries.Within.{batches_are_tried}
+use Rattle.seize_bounds.proofs.Settles.Within.{batches_are_tried}
 
 not_use_cutting : (r i : ℕ) → world.InUse r ≡ world.Cutting i → ⊥
 not_use_cutting r i e = cc e
@@ -126,15 +126,13 @@ module _ {T : Type 0} (defers : T → Option ℕ) (fixed : Fixed) where
   -- a settling that begins on the slot of a seat takes so many steps
   settles_within : (s : State T (View T) (World T)) → H s → (id t : ℕ) (v : View T) (a : Use) → view_of s id ≡ Some v → use_of v ≡ used_as t a
       → (c : Settle) (n : World T) → c.slot ≡ t → IsToTry fixed.batch_size c → Came defers fixed n → n.row id ≡ world.Settles c
-      → ((j : ℕ) → j ≢ id → n.row j ≡ s.world.row j) → ArePlain defers n.memory → (k : ℕ) × TriesWithin defers fixed.batch_size id k n
-  settles_within s h id t v a at_id mine c n on to came row rows plain =
-      batches_are_tried defers fixed.batch_size fixed.roots came.0 n came.1 plain id c alone to row
+      → ((j : ℕ) → j ≢ id → n.row j ≡ s.world.row j) → (k : ℕ) × TriesWithin defers fixed.batch_size id k n
+  settles_within s h id t v a at_id mine c n on to came row rows =
+      batches_are_tried defers fixed.batch_size fixed.roots came.0 n came.1 id c alone to row
     where
       alone : IsAloneOnSlot id n
-      alone i slot ne its other =
-          let p : c.slot ≡ slot = subst (λ (r : Row). SettlesOn slot r) row its in
-          let b = has_it s.world (view_of s) (λ j x e. (h.seats j x e).row) h.unborn h.apart i slot (subst (λ (r : Row). SettlesOn slot r) (rows i ne) other) in
-          ne (h.apart i id slot b.1 a b.0 v b.2 at_id b.3 (mine ∙ ap (λ (k : ℕ). used_as k a) (sym on ∙ p)))
+      alone = alone_after s.world (view_of s) (λ j x e. (h.seats j x e).row) h.unborn h.apart id t a v at_id mine n
+          (λ slot its. sym on ∙ subst (λ (r : Row). SettlesOn slot r) row its) rows
 
   -- how a slot is used on which no row works
   abbrev resting : Becomes → Use
@@ -162,7 +160,7 @@ module _ {T : Type 0} (defers : T → Option ℕ) (fixed : Fixed) where
       (f.row ∙ rests, (subst (λ (a : Use). IsTaken a) (sym slot) (resting_taken way), cut, refl)) in
       let k = settles_within s h id t v (resting way) at_id mine c n refl (inl (t, link_to b, refl))
       (came_then defers fixed s.world n (Begin id (Retire t b)) h.came happens) (with_here s.world.row id (world.Settles c))
-      (λ j ne. with_other s.world.row id j (world.Settles c) ne) (world_plain defers fixed s id v h at_id) in
+      (λ j ne. with_other s.world.row id j (world.Settles c) ne) in
       let u : View T = Settles c (Retiring way) None k.0 in
       moved defers fixed s id v u s.memory n (IsBegun way c) h at_id
       (begun defers fixed s id v h at_id (Retire t b) u n happens refl refl
@@ -192,7 +190,7 @@ module _ {T : Type 0} (defers : T → Option ℕ) (fixed : Fixed) where
       (f.row ∙ rests, (subst (λ (a : Use). IsTaken a) (sym slot) (resting_taken way), refl)) in
       let k = settles_within s h id t v (resting way) at_id mine c n refl (inr (t, refl))
       (came_then defers fixed s.world n (Begin id (Flush t)) h.came happens) (with_here s.world.row id (world.Settles c))
-      (λ j ne. with_other s.world.row id j (world.Settles c) ne) (world_plain defers fixed s id v h at_id) in
+      (λ j ne. with_other s.world.row id j (world.Settles c) ne) in
       let u : View T = Settles c (Retiring way) None k.0 in
       moved defers fixed s id v u s.memory n (IsBegun way c) h at_id
       (begun defers fixed s id v h at_id (Flush t) u n happens refl refl
@@ -337,7 +335,6 @@ module _ {T : Type 0} (defers : T → Option ℕ) (fixed : Fixed) where
       sole = λ j k b x y e f p q. one j k b x y p q (with_last s.views j Rests x e) (with_last s.views k Rests y f);
       roots = h.roots;
       rooted = h.rooted;
-      plain = h.plain;
       bounded = λ j x e. bound j x (with_last s.views j Rests x e);
     },
     λ b u o keeps. keeps,
@@ -383,14 +380,9 @@ module _ {T : Type 0} (defers : T → Option ℕ) (fixed : Fixed) where
       sole = λ j k b v u e f p q. absurd (cc e);
       roots = λ r word e. inl (ap block_in (sym (zeros fixed.roots r word e)));
       rooted = length-replicate fixed.roots 0;
-      plain = λ b x e. nothing (b == 0) b x e;
       bounded = λ j v e. absurd (cc e);
     },
   )
-    where
-      nothing : (y : Bool) (b : ℕ) (x : T) → value_in (if y then None else slice_index_or [] (b - 1) None) ≡ Some x → defers x ≡ None
-      nothing true b x e = absurd (cc e)
-      nothing false b x e = absurd (cc e)
 
 module _ (T : Type 0) (defers : T → Option ℕ) where
   pub rules_start : RulesStart T defers

@@ -1,6 +1,6 @@
 -- A block is made, looked at, and taken away.
 use Rattle.std.specs.Prelude.{◌≢◌, ◌<◌, ◌^◌, Option, Some, None, IsSome, Ok, Err, length}
-use Rattle.std.proofs.Common.{◌≡◌, ℕ, Bool, true, false, cond, eqb, ◌⊎◌, inl, inr, refl, sym, subst, ap, ◌∙◌}
+use Rattle.std.proofs.Common.{◌≡◌, ℕ, true, ◌⊎◌, inl, inr, refl, sym, subst, ap, ◌∙◌}
 use Rattle.std.proofs.lemmas.Bool.{cases_eq}
 use Rattle.seize_words.specs.Mem.{Mem, Took, value_at}
 use Rattle.seize_words.specs.Op.{Op, Out, Make, Take, Found, Stored, Exchanged, Made as OutMade, Taken, Roomed}
@@ -14,9 +14,7 @@ use Rattle.seize_rule.proofs.World.Values.{taken_value, made_value}
 use Rattle.seize_alone.specs.Alone.{IsOfUsers}
 use Rattle.seize_alone.proofs.Histories.Reached.{Reached}
 use Rattle.seize_alone.proofs.Histories.NotTaken.{IsHad, IsHeld, kept_there}
-use Rattle.seize_acts.proofs.Answers.{same_some}
 use Rattle.seize_seats.specs.State.{State, view_of, Goes}
-use Rattle.seize_bounds.specs.Bounds.{ArePlain}
 use Rattle.seize_shared.specs.Rows.{had_in, hand_of, IsMade, IsInHand, Holds, Keeps}
 use Rattle.seize_shared.specs.Told.{alone_with, told}
 use Rattle.seize_shared.specs.Promises.{Names, BlocksAreMade, MadeAreTaken, OwnAreMade, OwnAreTaken, OwnAreShown, BorneAreShown, KnownAreShown}
@@ -28,7 +26,7 @@ use Rattle.seize_shared.specs.declared.view.Has.TheVariants.{Nothing, Made, Seen
 use Rattle.seize_shared.specs.declared.view.Fixed.{Fixed}
 use Rattle.seize_shared.proofs.Moved.{hand_users}
 use Rattle.seize_shared.proofs.Came.{of_users, reached, came_then}
-use Rattle.seize_shared.proofs.Steps.{roots_kept, world_roots, world_rooted, world_plain}
+use Rattle.seize_shared.proofs.Steps.{roots_kept, world_roots, world_rooted}
 use Rattle.seize_shared.proofs.Users.{use_making, beside, same_hand, world_took, making_not_held, passes_one, Carries, within, alone_carries, users}
 
 module _ {T : Type 0} (defers : T → Option ℕ) where
@@ -60,23 +58,6 @@ module _ {T : Type 0} (defers : T → Option ℕ) (fixed : Fixed) (s : State T (
   free_hand b k of none e =
       let some = kept_there defers fixed.batch_size w r b (IsHad (of_users w.hand b k of (sym e))) in cc (some, none)
 
-  -- no value keeps a list: where the memory is the same, a value comes that keeps none, or one goes
-
-  plain_same : (m : Mem T) → m ≡ w.memory → ArePlain defers m
-  plain_same m is = subst (λ (x : Mem T). ArePlain defers x) (sym is) (world_plain defers fixed s id (place had) h at)
-
-  plain_made : (b : ℕ) (value : T) (words : ℕ) (m : Mem T) → defers value ≡ None → Took w.memory (Make value words) (OutMade (Ok b)) m → ArePlain defers m
-  plain_made b value words m list took c x e =
-      by (eqb c b) (sym (ap (λ (k : Mem T). value_at k c) took.1 ∙ ap (λ (f : ℕ → Option T). f c) (made_one w.memory value words b took.0.0).values) ∙ e)
-    where
-      by : (y : Bool) → cond y (Some value) (value_at w.memory c) ≡ Some x → defers x ≡ None
-      by true is = ap defers (sym (same_some value x is)) ∙ list
-      by false is = world_plain defers fixed s id (place had) h at c x is
-
-  plain_left : (b : ℕ) (value : T) (m : Mem T) → Took w.memory (Take b) (Taken value) m → ArePlain defers m
-  plain_left b value m took c x e =
-      world_plain defers fixed s id (place had) h at c x (sym (value_left defers w.memory b c value m took (subst IsSome (sym e) refl) (cases_eq c b)) ∙ e)
-
   -- a block is made, beside what the seat knew
 
   made_value_of : (value : T) (words b : ℕ) (m : Mem T) → Took w.memory (Make value words) (OutMade (Ok b)) m → value_at m b ≡ Some value
@@ -89,7 +70,7 @@ module _ {T : Type 0} (defers : T → Option ℕ) (fixed : Fixed) (s : State T (
   free_of j b x ne e q none =
       let some = kept_there defers fixed.batch_size w r b (IsHad (hand_users w x b (h.seats j x e).known q).0) in cc (some, none)
 
-  makes : (value : T) (words : ℕ) → defers value ≡ None → (after : ℕ → Has T) → ((b : ℕ) → had_in (after b) ≡ Some b)
+  makes : (value : T) (words : ℕ) → HasListWord defers (defers value) words → (after : ℕ → Has T) → ((b : ℕ) → had_in (after b) ≡ Some b)
       → ((b : ℕ) (n : World T) → IsMade n b value → ((c : ℕ) → holds t c w.log ≡ true → holds t c n.log ≡ true) → IsInHand n t (after b))
       → (so : Out T → View T → Type 0) → ((b : ℕ) → b < 2 ^ 53 → so (OutMade (Ok b)) (place (after b)))
       → ((back : T) → back ≡ value → so (OutMade (Err back)) (place had)) → (out : Out T) (m : Mem T) → Took s.memory (Make value words) out m
@@ -102,7 +83,7 @@ module _ {T : Type 0} (defers : T → Option ℕ) (fixed : Fixed) (s : State T (
       users defers fixed s id t h place carries had at m n (after b) (record {
         came =
             came_then defers fixed w n (Makes id value words) h.came
-            (out, m, subst (λ (o : Option ℕ). HasListWord defers o words) (sym list) tt, here, refl);
+            (out, m, list, here, refl);
         memory = refl;
         row = refl;
         uses = refl;
@@ -116,9 +97,8 @@ module _ {T : Type 0} (defers : T → Option ℕ) (fixed : Fixed) (s : State T (
             (λ c a is. beside w b c (world.Making id) (world.InUse a) (λ e. free_hand b (world.InUse a) tt free e) is)
             (world_roots defers fixed s id (place had) h at);
         rooted = ap (λ (x : Mem T). length x.roots) here.1 ∙ world_rooted defers fixed s id (place had) h at;
-        plain = plain_made b value words m list here;
         passes = passes_one defers fixed s id t (Makes id value words) n (λ j. tt)
-            (out, m, subst (λ (o : Option ℕ). HasListWord defers o words) (sym list) tt, here, refl) (plain_made b value words m list here);
+            (out, m, list, here, refl);
       }) (so out) (tells b took.0.1)
   makes value words list after made_hand hand so tells refused (OutMade (Err back)) m took =
       let op : Op T = Make value words in let out : Out T = OutMade (Err back) in
@@ -127,7 +107,7 @@ module _ {T : Type 0} (defers : T → Option ℕ) (fixed : Fixed) (s : State T (
       users defers fixed s id t h place carries had at m n had (record {
         came =
             came_then defers fixed w n (Makes id value words) h.came
-            (out, m, subst (λ (o : Option ℕ). HasListWord defers o words) (sym list) tt, here, refl);
+            (out, m, list, here, refl);
         memory = refl;
         row = refl;
         uses = refl;
@@ -139,9 +119,8 @@ module _ {T : Type 0} (defers : T → Option ℕ) (fixed : Fixed) (s : State T (
         over = λ a c held. refl;
         roots = roots_kept w.memory m w.hand n.hand (ap (λ (x : Mem T). x.roots) here.1) (λ c a is. is) (world_roots defers fixed s id (place had) h at);
         rooted = ap (λ (x : Mem T). length x.roots) here.1 ∙ world_rooted defers fixed s id (place had) h at;
-        plain = plain_same m here.1;
         passes = passes_one defers fixed s id t (Makes id value words) n (λ j. tt)
-            (out, m, subst (λ (o : Option ℕ). HasListWord defers o words) (sym list) tt, here, refl) (plain_same m here.1);
+            (out, m, list, here, refl);
       }) (so out) (refused back took.0)
   makes value words list after made_hand hand so tells refused (Found x) m took = absurd took.0
   makes value words list after made_hand hand so tells refused Stored m took = absurd took.0
@@ -191,8 +170,7 @@ module _ {T : Type 0} (defers : T → Option ℕ) (fixed : Fixed) (s : State T (
         roots = roots_kept w.memory m w.hand n.hand (ap (λ (x : Mem T). x.roots) here.1)
             (λ c a had. beside w b c world.NoBlock (world.InUse a) (λ e. use_making a made.0.0 (e ∙ made.0.1)) had) (world_roots defers fixed s id (place had) h at);
         rooted = ap (λ (x : Mem T). length x.roots) here.1 ∙ world_rooted defers fixed s id (place had) h at;
-        plain = plain_left b value m here;
-        passes = passes_one defers fixed s id t (Drops id b) n (λ j. tt) (out, m, made.0, here, refl) (plain_left b value m here);
+        passes = passes_one defers fixed s id t (Drops id b) n (λ j. tt) (out, m, made.0, here, refl);
       }) (so out) (tells value (same_some value x (sym here.0 ∙ made.1)))
   takes b x made had_it after gone hand so tells (Found y) m took = absurd took.0
   takes b x made had_it after gone hand so tells Stored m took = absurd took.0

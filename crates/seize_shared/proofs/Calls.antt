@@ -8,6 +8,7 @@ use Rattle.seize_words.specs.declared.at.At.TheVariants.{Root, Slot}
 use Rattle.seize.specs.declared.states.TheConstants.{HEAD, ACTIVE}
 use Rattle.seize.specs.declared.rows.settle.Settle.{Settle}
 use Rattle.seize.specs.Settle.{retiring, flushing, counting_down}
+use Rattle.seize.specs.World.{HasListWord}
 use Rattle.seize_seats.specs.Lendings.{Shown}
 use Rattle.seize_seats.specs.State.{Allows, Turns}
 use Rattle.seize_shared.specs.Begun.{leaving, refreshes, IsBegun, Retires, Flushes, Makes}
@@ -111,8 +112,8 @@ module _ {T : Type 0} (defers : T → Option ℕ) (fixed : Fixed) (id : ℕ) (v 
   by_view : (w : View T) (op : Op T) → v ≡ w → Allows (Holds defers fixed) Keeps id w op (told defers w op) → MayMake op
   by_view w op is may = subst (λ (x : View T). Allows (Holds defers fixed) Keeps id x op (told defers x op)) (sym is) may
 
-  pub may_make : v ≡ Inside slot Nothing → (value : T) → defers value ≡ None → MayMake (Make value 0)
-  may_make is value list = by_view (Inside slot Nothing) (Make value 0) is (blocks_are_made T defers Nothing value 0 tt list fixed id slot)
+  pub may_make : v ≡ Inside slot Nothing → (value : T) (words : ℕ) → HasListWord defers (defers value) words → MayMake (Make value words)
+  may_make is value words list = by_view (Inside slot Nothing) (Make value words) is (blocks_are_made T defers Nothing value words tt list fixed id slot)
 
   pub may_take : (b : ℕ) (x : T) → v ≡ Inside slot (Made b x) → MayMake (Take b)
   may_take b x is = by_view (Inside slot (Made b x)) (Take b) is (made_are_taken T defers (Made b x) b refl fixed id slot)
@@ -123,9 +124,9 @@ module _ {T : Type 0} (defers : T → Option ℕ) (fixed : Fixed) (id : ℕ) (v 
   is_looking a true = tt
   is_looking a false = tt
 
-  pub may_make_beside : (a : ℕ) → v ≡ Inside slot (seen_as a) → (value : T) → defers value ≡ None → MayMake (Make value 0)
-  may_make_beside a is value list =
-      by_view (Inside slot (seen_as a)) (Make value 0) is (blocks_are_made T defers (seen_as a) value 0 (is_looking a (a == 0)) list fixed id slot)
+  pub may_make_beside : (a : ℕ) → v ≡ Inside slot (seen_as a) → (value : T) (words : ℕ) → HasListWord defers (defers value) words → MayMake (Make value words)
+  may_make_beside a is value words list =
+      by_view (Inside slot (seen_as a)) (Make value words) is (blocks_are_made T defers (seen_as a) value words (is_looking a (a == 0)) list fixed id slot)
 
   has_made : (b : ℕ) (x : T) (a : ℕ) (y : Bool) → HasMade (if y then Made b x else Both b x a) b
   has_made b x a true = refl
@@ -247,31 +248,31 @@ module _ {T : Type 0} (defers : T → Option ℕ) (v w : View T) (slot : ℕ) wh
 
   -- what a making tells beside a block that was seen, a taking away, and an exchange
 
-  made_told : (a b : ℕ) (value : T) (y : Bool) → v ≡ Inside slot (if y then Nothing else Seen a) → told defers v (Make value 0) (OutMade (Ok b)) w
+  made_told : {words : ℕ} (a b : ℕ) (value : T) (y : Bool) → v ≡ Inside slot (if y then Nothing else Seen a) → told defers v (Make value words) (OutMade (Ok b)) w
       → w ≡ Inside slot (if y then Made b value else Both b value a)
-  made_told a b value true is so =
-      let k = subst (λ (x : View T). told defers x (Make value 0) (OutMade (Ok b)) w) is so in k.2 ∙ ap (Inside slot) k.1.1
-  made_told a b value false is so =
-      let k = subst (λ (x : View T). told defers x (Make value 0) (OutMade (Ok b)) w) is so in k.2 ∙ ap (Inside slot) k.1.1
+  made_told {words} a b value true is so =
+      let k = subst (λ (x : View T). told defers x (Make value words) (OutMade (Ok b)) w) is so in k.2 ∙ ap (Inside slot) k.1.1
+  made_told {words} a b value false is so =
+      let k = subst (λ (x : View T). told defers x (Make value words) (OutMade (Ok b)) w) is so in k.2 ∙ ap (Inside slot) k.1.1
 
-  fits_told : (a b : ℕ) (value : T) (y : Bool) → v ≡ Inside slot (if y then Nothing else Seen a) → told defers v (Make value 0) (OutMade (Ok b)) w → b < 2 ^ 53
-  fits_told a b value true is so = let k = subst (λ (x : View T). told defers x (Make value 0) (OutMade (Ok b)) w) is so in k.1.0
-  fits_told a b value false is so = let k = subst (λ (x : View T). told defers x (Make value 0) (OutMade (Ok b)) w) is so in k.1.0
+  fits_told : {words : ℕ} (a b : ℕ) (value : T) (y : Bool) → v ≡ Inside slot (if y then Nothing else Seen a) → told defers v (Make value words) (OutMade (Ok b)) w → b < 2 ^ 53
+  fits_told {words} a b value true is so = let k = subst (λ (x : View T). told defers x (Make value words) (OutMade (Ok b)) w) is so in k.1.0
+  fits_told {words} a b value false is so = let k = subst (λ (x : View T). told defers x (Make value words) (OutMade (Ok b)) w) is so in k.1.0
 
-  pub made_beside_told : (a b : ℕ) (value : T) → v ≡ Inside slot (seen_as a) → told defers v (Make value 0) (OutMade (Ok b)) w
+  pub made_beside_told : {words : ℕ} (a b : ℕ) (value : T) → v ≡ Inside slot (seen_as a) → told defers v (Make value words) (OutMade (Ok b)) w
       → (w ≡ Inside slot (made_beside b value a)) × (b < 2 ^ 53)
-  made_beside_told a b value is so = (made_told a b value (a == 0) is so, fits_told a b value (a == 0) is so)
+  made_beside_told {words} a b value is so = (made_told a b value (a == 0) is so, fits_told a b value (a == 0) is so)
 
-  refused_told : (a : ℕ) (value back : T) (y : Bool) → v ≡ Inside slot (if y then Nothing else Seen a)
-      → told defers v (Make value 0) (OutMade (Err back)) w → (w ≡ Inside slot (if y then Nothing else Seen a)) × (back ≡ value)
-  refused_told a value back true is so =
-      let k = subst (λ (x : View T). told defers x (Make value 0) (OutMade (Err back)) w) is so in (k.2 ∙ ap (Inside slot) k.1.1, k.1.0)
-  refused_told a value back false is so =
-      let k = subst (λ (x : View T). told defers x (Make value 0) (OutMade (Err back)) w) is so in (k.2 ∙ ap (Inside slot) k.1.1, k.1.0)
+  refused_told : {words : ℕ} (a : ℕ) (value back : T) (y : Bool) → v ≡ Inside slot (if y then Nothing else Seen a)
+      → told defers v (Make value words) (OutMade (Err back)) w → (w ≡ Inside slot (if y then Nothing else Seen a)) × (back ≡ value)
+  refused_told {words} a value back true is so =
+      let k = subst (λ (x : View T). told defers x (Make value words) (OutMade (Err back)) w) is so in (k.2 ∙ ap (Inside slot) k.1.1, k.1.0)
+  refused_told {words} a value back false is so =
+      let k = subst (λ (x : View T). told defers x (Make value words) (OutMade (Err back)) w) is so in (k.2 ∙ ap (Inside slot) k.1.1, k.1.0)
 
-  pub not_made_told : (a : ℕ) (value back : T) → v ≡ Inside slot (seen_as a) → told defers v (Make value 0) (OutMade (Err back)) w
+  pub not_made_told : {words : ℕ} (a : ℕ) (value back : T) → v ≡ Inside slot (seen_as a) → told defers v (Make value words) (OutMade (Err back)) w
       → (w ≡ Inside slot (seen_as a)) × (back ≡ value)
-  not_made_told a value back is so = refused_told a value back (a == 0) is so
+  not_made_told {words} a value back is so = refused_told a value back (a == 0) is so
 
   taken_so : (a b : ℕ) (x value : T) (y : Bool) → v ≡ Inside slot (if y then Made b x else Both b x a) → told defers v (Take b) (Taken value) w
       → (w ≡ Inside slot (if y then Nothing else Seen a)) × (value ≡ x)

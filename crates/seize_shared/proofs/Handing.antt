@@ -116,7 +116,6 @@ module _ {T : Type 0} (defers : T → Option ℕ) (fixed : Fixed) (s : State T (
       sole = λ k l b x y e f a c. one_hand k l b x y (who k x e) (who l y f) a c;
       roots = h.roots;
       rooted = h.rooted;
-      plain = h.plain;
       bounded = λ k x e. bound k x (who k x e);
     }
 

@@ -11,7 +11,7 @@ use Rattle.seize_alone.specs.Alone.{IsOfUsers}
 use Rattle.seize_alone.proofs.Histories.NotTaken.{IsHad, kept_there}
 use Rattle.seize_acts.proofs.Answers.{same_some}
 use Rattle.seize_seats.specs.State.{State, view_of, Goes}
-use Rattle.seize_bounds.specs.Bounds.{HasCounted, HasTried, IsAloneOnSlot, IsAny, ArePlain, Meanwhile}
+use Rattle.seize_bounds.specs.Bounds.{HasCounted, HasTried, IsAloneOnSlot, Meanwhile}
 use Rattle.seize_shared.specs.Rows.{use_of, row_of, hand_of, had_in, settles_for, IsUsed, IsMade, IsInHand, IsKnown, RootsNameLinked, Fits, Came, IsBounded, Holds, Keeps}
 use Rattle.seize_shared.specs.declared.view.View.{View}
 use Rattle.seize_shared.specs.declared.view.View.TheVariants.{Rests, Registers, Outside, Owes, Enters, Inside, Settles, Leaves, Left, Frees, Brings, Bears}
@@ -22,7 +22,7 @@ use Rattle.seize_shared.specs.declared.view.Becomes.TheVariants.{Idle, Active}
 use Rattle.seize_shared.specs.declared.view.Fixed.{Fixed}
 use Rattle.seize_shared.proofs.Aside.{alone_on_slot}
 use Rattle.seize_shared.proofs.Came.{of_users, reached}
-use Rattle.seize_bounds.proofs.Bounds.Passing.{any, still_within}
+use Rattle.seize_bounds.proofs.Bounds.Passing.{still_within}
 use Rattle.seize_shared.proofs.Lists.{there, elsewhere}
 use Rattle.seize_shared.proofs.Reclaims.{reclaiming_there}
 
@@ -118,7 +118,6 @@ module _ {T : Type 0} (defers : T → Option ℕ) (fixed : Fixed) (s : State T (
     pub over : (t b : ℕ) → holds t b s.world.log ≡ true → is_over b n.log ≡ is_over b s.world.log
     pub roots : RootsNameLinked m n.hand
     pub rooted : length m.roots ≡ fixed.roots
-    pub plain : ArePlain defers n.memory
     pub passes : Passes n
     pub bounded : IsBounded defers fixed n id u
 
@@ -161,7 +160,7 @@ module _ {T : Type 0} (defers : T → Option ℕ) (fixed : Fixed) (s : State T (
         still_within defers (IsAloneOnSlot j) HasTried fixed.batch_size j left s.world n p.0 p.1 b
     bound j (Settles c (Ending size way) seen left) ne after b =
         let p = mo.passes j ne (alone_on_slot s.world (view_of s) (λ i y e. (h.seats i y e).row) h.unborn h.apart j) after in
-        still_within defers IsAny HasCounted fixed.batch_size j left s.world n p.0 (any defers (IsAloneOnSlot j) fixed.batch_size j p.0 s.world n p.1) b
+        still_within defers (IsAloneOnSlot j) HasCounted fixed.batch_size j left s.world n p.0 p.1 b
     bound j Rests ne after b = tt
     bound j (Registers c) ne after b = tt
     bound j (Outside t) ne after b = tt
@@ -187,7 +186,6 @@ module _ {T : Type 0} (defers : T → Option ℕ) (fixed : Fixed) (s : State T (
         sole = λ j k b x y e f p q. one j k b x y e f p q (cases_eq j id) (cases_eq k id);
         roots = mo.roots;
         rooted = mo.rooted;
-        plain = subst (λ (x : Mem T). ArePlain defers x) (sym mo.memory) mo.plain;
         bounded = λ j x e. bound_at j x e (cases_eq j id);
       },
       (λ j k b x o ne ne2 e f keeps. still j b x o ne e keeps),

@@ -5,6 +5,7 @@ use Rattle.std.proofs.lemmas.Bool.{ne_eqb}
 use Rattle.seize_words.specs.Op.{Op, Swap, Exchange, Make, Take, Found, Exchanged, Made as OutMade, Taken}
 use Rattle.seize_words.specs.Word.{block_in, link_to}
 use Rattle.seize_words.specs.declared.at.At.TheVariants.{Root}
+use Rattle.seize.specs.World.{HasListWord}
 use Rattle.seize_acts.proofs.Answers.{same_some}
 use Rattle.seize_seats.specs.Lendings.{Shown, IsValueOf}
 use Rattle.seize_seats.specs.State.{Allows, Meets}
@@ -60,8 +61,8 @@ module _ {T : Type 0} (defers : T → Option ℕ) (fixed : Fixed) (id : ℕ) (v 
   by_view : (w : View T) (op : Op T) → v ≡ w → Allows (Holds defers fixed) Keeps id w op (told defers w op) → MayMake op
   by_view w op is may = subst (λ (x : View T). Allows (Holds defers fixed) Keeps id x op (told defers x op)) (sym is) may
 
-  pub may_make_own : v ≡ Rests → (value : T) → defers value ≡ None → MayMake (Make value 0)
-  may_make_own is value list = by_view Rests (Make value 0) is (own_are_made T defers value 0 list fixed id)
+  pub may_make_own : v ≡ Rests → (value : T) (words : ℕ) → HasListWord defers (defers value) words → MayMake (Make value words)
+  may_make_own is value words list = by_view Rests (Make value words) is (own_are_made T defers value words list fixed id)
 
   pub may_take_own : (b : ℕ) → brought_by v ≡ Some b → MayMake (Take b)
   may_take_own b e = let k = brings b v e in by_view (Brings b k.0) (Take b) k.1 (own_are_taken T defers b k.0 fixed id)
@@ -94,12 +95,12 @@ module _ {T : Type 0} (defers : T → Option ℕ) (fixed : Fixed) (id : ℕ) (v 
       subst (λ (x : View T). Meets (Holds defers fixed) id x j u (Hands fixed x u)) (sym is) (borne_are_handed_on T defers fixed id j b u takes)
 
 module _ {T : Type 0} (defers : T → Option ℕ) (v w : View T) where
-  pub own_made_told : (b : ℕ) (value : T) → v ≡ Rests → told defers v (Make value 0) (OutMade (Ok b)) w → (w ≡ Brings b value) × (b < 2 ^ 53)
-  own_made_told b value is so =
-      let k = subst (λ (x : View T). told defers x (Make value 0) (OutMade (Ok b)) w) is so in (k.2 ∙ ap alone_with k.1.1, k.1.0)
+  pub own_made_told : {words : ℕ} (b : ℕ) (value : T) → v ≡ Rests → told defers v (Make value words) (OutMade (Ok b)) w → (w ≡ Brings b value) × (b < 2 ^ 53)
+  own_made_told {words} b value is so =
+      let k = subst (λ (x : View T). told defers x (Make value words) (OutMade (Ok b)) w) is so in (k.2 ∙ ap alone_with k.1.1, k.1.0)
 
-  pub own_refused_told : (value back : T) → v ≡ Rests → told defers v (Make value 0) (OutMade (Err back)) w → back ≡ value
-  own_refused_told value back is so = (subst (λ (x : View T). told defers x (Make value 0) (OutMade (Err back)) w) is so).1.0
+  pub own_refused_told : {words : ℕ} (value back : T) → v ≡ Rests → told defers v (Make value words) (OutMade (Err back)) w → back ≡ value
+  own_refused_told {words} value back is so = (subst (λ (x : View T). told defers x (Make value words) (OutMade (Err back)) w) is so).1.0
 
   pub own_taken_told : (b : ℕ) (x value : T) → v ≡ Brings b x → told defers v (Take b) (Taken value) w → value ≡ x
   own_taken_told b x value is so = (subst (λ (y : View T). told defers y (Take b) (Taken value) w) is so).1.0

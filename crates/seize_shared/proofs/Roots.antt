@@ -13,7 +13,7 @@ use Rattle.seize_alone.proofs.Given.SeizeMoves.State.Ghost.{Life, IsLinked, empt
 use Rattle.seize_rule.proofs.Points.Aside.{HandFits}
 use Rattle.seize_alone.proofs.Given.SeizeMoves.State.Held.{held_on}
 use Rattle.seize_alone.proofs.Given.SeizeMoves.State.Logs.{reached_held}
-use Rattle.seize_rule.proofs.Rows.Others.{with_here, with_other}
+use Rattle.seize_rule.proofs.Rows.Others.{with_here}
 use Rattle.seize_rule.proofs.Rows.Teams.{UseFits}
 use Rattle.seize_alone.proofs.Histories.Reached.{Reached}
 use Rattle.seize_seats.specs.State.{State, view_of, Goes}
@@ -27,7 +27,6 @@ use Rattle.seize_shared.specs.declared.view.Has.TheVariants.{Nothing, Made, Seen
 use Rattle.seize_shared.specs.declared.view.Fixed.{Fixed}
 use Rattle.seize_shared.proofs.Lists.{there}
 use Rattle.seize_shared.proofs.Came.{reached, came_then}
-use Rattle.seize_shared.proofs.Steps.{world_plain}
 use Rattle.seize_shared.proofs.Users.{use_making, making_use}
 use Rattle.seize_shared.proofs.Users.{beside, making_not_held, passes_then, Carries, within, alone_carries, users, users_outside, users_owe}
 use Rattle.seize_shared.proofs.Written.{Wrote, Cuts, block_of_link, wrote, rooted_still, roots_now, fresh, root_can, unlinked, clears}
@@ -104,7 +103,6 @@ module _ {T : Type 0} (defers : T → Option ℕ) (fixed : Fixed) (s : State T (
         over = λ a c held. refl;
         roots = subst (λ (x : Mem T). RootsNameLinked x w.hand) (sym same) h.roots;
         rooted = ap (λ (x : Mem T). length x.roots) same ∙ h.rooted;
-        plain = world_plain defers fixed s id (place had) h at;
         passes = λ j ne was now. ([], refl);
       }) so is
 
@@ -145,8 +143,7 @@ module _ {T : Type 0} (defers : T → Option ℕ) (fixed : Fixed) (s : State T (
         over = λ e c held. ap (λ (y : Bool). cond y false (is_over c w.log)) (ne_eqb c b (making_not_held defers fixed.batch_size w r i e b c held mine));
         roots = named;
         rooted = rooted_still defers fixed s id (place had) h at a word old m wrote;
-        plain = wrote.plain;
-        passes = passes_then defers fixed s id t (record w { memory = m }) n (Links id b a) tt (λ j. tt) wrote.passes ((i, mine), refl) wrote.plain;
+        passes = passes_then defers fixed s id t (record w { memory = m }) n (Links id b a) tt (λ j. tt) wrote.passes ((i, mine), refl);
       }) named (λ c f. other c (world.InUse a) (use_making a i) f) was (fresh defers fixed s id (place had) h at a word old m wrote was is_new)
     where
       new_block : (b a old : ℕ) → w.hand b ≡ world.Making i → (block_in old ≡ 0) ⊎ (w.hand (block_in old) ≡ world.InUse a) → (b ≡ 0) ⊎ (b ≢ 0)

@@ -1,5 +1,5 @@
 -- A row that begins, and a step of one, as what a seat has done.
-use Rattle.std.specs.Prelude.{◌≢◌, ◌++◌, Option, Some, None, IsSome, length, slice_get}
+use Rattle.std.specs.Prelude.{◌≢◌, ◌++◌, Option, Some, IsSome, length, slice_get}
 use Rattle.std.proofs.Common.{◌≡◌, ℕ, ◌+◌, List, [], ◌∷◌, ◌⊎◌, inl, inr, refl, sym, subst, ap, ◌∙◌, arith}
 use Rattle.std.proofs.lemmas.Bool.{cases_eq}
 use Rattle.seize_words.specs.Mem.{Mem, value_at}
@@ -18,7 +18,6 @@ use Rattle.seize_alone.proofs.Histories.Reached.{Reached}
 use Rattle.seize_alone.proofs.Histories.NotTaken.{IsHad, still_held, kept_hand, taken_gone, did}
 use Rattle.seize_alone.proofs.Histories.Uses.{uses_kept}
 use Rattle.seize_seats.specs.State.{State, view_of}
-use Rattle.seize_bounds.specs.Bounds.{ArePlain}
 use Rattle.seize_shared.specs.Rows.{row_of, use_of, hand_of, used_for, IsSeeking, IsShort, IsUsed, RootsNameLinked, Fits, IsBounded, Holds}
 use Rattle.seize_shared.specs.declared.view.View.{View}
 use Rattle.seize_shared.specs.declared.view.View.TheVariants.{Rests, Registers, Outside, Owes, Enters, Inside, Settles, Leaves, Left, Frees, Brings, Bears}
@@ -103,26 +102,9 @@ module _ {T : Type 0} (defers : T → Option ℕ) (fixed : Fixed) (s : State T (
   pub world_rooted : length w.memory.roots ≡ fixed.roots
   world_rooted = subst (λ (m : Mem T). length m.roots ≡ fixed.roots) h.memory h.rooted
 
-  -- and no value keeps a list
-  pub world_plain : ArePlain defers w.memory
-  world_plain = subst (λ (m : Mem T). ArePlain defers m) h.memory h.plain
-
-  -- a step of its row, after which none does
+  -- a step of its row
   pub step_of : (n : World T) → Steps' defers id (row_of v) w n → Steps' defers id (w.row id) w n
   step_of n taken = subst (λ (row : Row). Steps' defers id row w n) (sym (h.seats id v at_id).row) taken
-
-  pub step_plain : (n : World T) → Steps' defers id (w.row id) w n → ArePlain defers n.memory
-  step_plain n step b x there = by (cases_eq (times b (taken_in d.effects)) 0)
-    where
-      r : Reached defers fixed.batch_size w
-      r = reached defers fixed w h.came
-
-      d : RowStepped defers id w n
-      d = did defers fixed.batch_size w r id n step
-
-      by : (times b (taken_in d.effects) ≡ 0) ⊎ (times b (taken_in d.effects) ≢ 0) → defers x ≡ None
-      by (inl e) = world_plain b x (sym (d.frames.values b e) ∙ there)
-      by (inr ne) = let none = taken_gone defers fixed.batch_size w r id n step b ne in absurd (cc (there, none))
 
   pub begun : (request : Request) (u : View T) (n : World T) → Happens defers fixed.batch_size (Begin id request) w n → n.memory ≡ w.memory → n.log ≡ w.log
       → ((j b : ℕ) (x : View T) → j ≢ id → view_of s j ≡ Some x → hand_of x ≡ Some b → n.hand b ≡ w.hand b) → hand_of u ≡ None
@@ -144,13 +126,9 @@ module _ {T : Type 0} (defers : T → Option ℕ) (fixed : Fixed) (s : State T (
     over = λ t b held. ap (is_over b) log;
     roots = roots_kept s.memory s.memory w.hand n.hand refl linked h.roots;
     rooted = h.rooted;
-    plain = plain;
-    passes = λ j ne was now. (Begin id request ∷ [], (n, (λ e. ne (sym e)), happens, plain, now, refl));
+    passes = λ j ne was now. (Begin id request ∷ [], (n, (λ e. ne (sym e)), happens, now, refl));
     bounded = bounded;
   }
-    where
-      plain : ArePlain defers n.memory
-      plain = subst (λ (m : Mem T). ArePlain defers m) (sym memory) world_plain
 
   pub stepped : (u : View T) (m : Mem T) (n : World T) → Steps' defers id (row_of v) w n → m ≡ n.memory → Fits n id u
       → ((j t : ℕ) (x : View T) (a b : Use) → j ≢ id → view_of s j ≡ Some x → use_of x ≡ Some (t, a) → use_of u ≡ Some (t, b) → ⊥)
@@ -170,8 +148,7 @@ module _ {T : Type 0} (defers : T → Option ℕ) (fixed : Fixed) (s : State T (
     over = λ t b held. ap (is_over b) d.logged ∙ not_over b d.effects w.log d.one;
     roots = roots_kept w.memory m w.hand n.hand same_roots (λ b r is. kept b (world.InUse r) tt is) world_roots;
     rooted = ap length same_roots ∙ world_rooted;
-    plain = step_plain n step;
-    passes = λ j ne was now. (Step id ∷ [], (n, (λ e. ne (sym e)), step, step_plain n step, now, refl));
+    passes = λ j ne was now. (Step id ∷ [], (n, (λ e. ne (sym e)), step, now, refl));
     bounded = bounded;
   }
     where

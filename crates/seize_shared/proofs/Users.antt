@@ -14,7 +14,7 @@ use Rattle.seize_rule.proofs.Points.Aside.{HandFits}
 use Rattle.seize_rule.proofs.Rows.Others.{with_other, users_rows}
 use Rattle.seize_alone.proofs.Histories.Reached.{Reached}
 use Rattle.seize_seats.specs.State.{State, view_of, Goes}
-use Rattle.seize_bounds.specs.Bounds.{IsOfOthers, IsAloneOnSlot, ArePlain}
+use Rattle.seize_bounds.specs.Bounds.{IsOfOthers, IsAloneOnSlot}
 use Rattle.seize_shared.specs.Rows.{row_of, use_of, hand_of, had_in, IsShort, IsUsed, IsKnown, IsBounded, IsMade, IsInHand, RootsNameLinked, Fits, Came, Holds, Keeps}
 use Rattle.seize_shared.specs.Told.{alone_with}
 use Rattle.seize_shared.specs.declared.view.View.{View}
@@ -85,21 +85,19 @@ module _ {T : Type 0} (defers : T → Option ℕ) (fixed : Fixed) (s : State T (
     pub over : (a b : ℕ) → holds a b w.log ≡ true → is_over b n.log ≡ is_over b w.log
     pub roots : RootsNameLinked m n.hand
     pub rooted : length m.roots ≡ fixed.roots
-    pub plain : ArePlain defers n.memory
     pub passes : Passes defers fixed s id n
 
   -- one event of a user, and one more
-  pub passes_one : (e : Event T) (n : World T) → ((j : ℕ) → IsOfOthers j e) → Happens defers fixed.batch_size e w n → ArePlain defers n.memory
-      → Passes defers fixed s id n
-  passes_one e n is happens plain j ne was now = (e ∷ [], (n, is j, happens, plain, now, refl))
+  pub passes_one : (e : Event T) (n : World T) → ((j : ℕ) → IsOfOthers j e) → Happens defers fixed.batch_size e w n → Passes defers fixed s id n
+  passes_one e n is happens j ne was now = (e ∷ [], (n, is j, happens, now, refl))
 
   pub passes_then : (n v : World T) (e : Event T) → IsBetween e → ((j : ℕ) → IsOfOthers j e) → Passes defers fixed s id n
-      → Happens defers fixed.batch_size e n v → ArePlain defers v.memory → Passes defers fixed s id v
-  passes_then n v e between is before happens plain j ne was now =
+      → Happens defers fixed.batch_size e n v → Passes defers fixed s id v
+  passes_then n v e between is before happens j ne was now =
       let mid : IsAloneOnSlot j n =
       subst (λ (rows : ℕ → Row). IsAloneOnSlot j (record v { row = rows })) (users_rows defers fixed.batch_size n v e between happens) now in
       let p = before j ne was mid in
-      (p.0 ++ e ∷ [], both defers (IsAloneOnSlot j) fixed.batch_size j p.0 (e ∷ []) w n v p.1 (v, is j, happens, plain, now, refl))
+      (p.0 ++ e ∷ [], both defers (IsAloneOnSlot j) fixed.batch_size j p.0 (e ∷ []) w n v p.1 (v, is j, happens, now, refl))
 
 module _ {T : Type 0} (defers : T → Option ℕ) (fixed : Fixed) (s : State T (View T) (World T)) (id t : ℕ) (v x : View T) (h : Holds defers fixed s)
     (at : view_of s id ≡ Some v) (rests : row_of v ≡ world.Rests) (still : row_of x ≡ world.Rests) (same : use_of x ≡ use_of v) (short : IsShort x) where
@@ -130,7 +128,6 @@ module _ {T : Type 0} (defers : T → Option ℕ) (fixed : Fixed) (s : State T (
         over = u.over;
         roots = u.roots;
         rooted = u.rooted;
-        plain = u.plain;
         passes = u.passes;
         bounded = bounded;
       }) is

@@ -11,6 +11,7 @@ use Rattle.seize.specs.declared.rows.settle.Settling.TheVariants as settling_at
 use Rattle.seize.specs.declared.rows.settle.Settle.{Settle}
 use Rattle.seize.specs.Register.{register_plan}
 use Rattle.seize.specs.Settle.{retiring, flushing, settle_plan}
+use Rattle.seize.specs.World.{HasListWord}
 use Rattle.seize_seats.specs.Lendings.{Shown, IsValueOf}
 use Rattle.seize_seats.specs.State.{Starts, Comes, Allows, Turns, Meets}
 use Rattle.seize_shared.specs.Begun.{IsBegun, Hands, left_with}
@@ -117,9 +118,9 @@ module _ (T : Type 0) (defers : T → Option ℕ) where
   abbrev pub MayInside : Has T → Op T → Type 0
   MayInside has op = (fixed : Fixed) (id t : ℕ) → Allows (Holds defers fixed) Keeps id (Inside t has) op (told defers (Inside t has) op)
 
-  -- a block of a value that keeps no list may be made by whoever has none in its hand, and taken away by whoever has made it
+  -- a block with the words that its value asks for may be made by whoever has none in its hand, and taken away by whoever has made it
   abbrev pub BlocksAreMade : Type 0
-  BlocksAreMade = (has : Has T) (value : T) (words : ℕ) → IsLooking has → defers value ≡ None → MayInside has (Make value words)
+  BlocksAreMade = (has : Has T) (value : T) (words : ℕ) → IsLooking has → HasListWord defers (defers value) words → MayInside has (Make value words)
 
   abbrev pub MadeAreTaken : Type 0
   MadeAreTaken = (has : Has T) (b : ℕ) → HasMade has b → MayInside has (Take b)
@@ -153,13 +154,13 @@ module _ (T : Type 0) (defers : T → Option ℕ) where
       (r : ℕ) (fixed : Fixed) (id t : ℕ) → r < fixed.roots
       → Allows (Holds defers fixed) Keeps id (Outside t) (Swap (Root r) 0) (told defers (Outside t) (Swap (Root r) 0))
 
-  -- Without a slot a seat may make a block, of a value that keeps no list, take it away, or put it at a root, in place of what is there, or only in place of
-  -- this word.
+  -- Without a slot a seat may make a block with the words that its value asks for, take it away, or put it at a root, in place of what is there, or only in
+  -- place of this word.
   abbrev pub MayAlone : Has T → Op T → Type 0
   MayAlone has op = (fixed : Fixed) (id : ℕ) → Allows (Holds defers fixed) Keeps id (alone_with has) op (told defers (alone_with has) op)
 
   abbrev pub OwnAreMade : Type 0
-  OwnAreMade = (value : T) (words : ℕ) → defers value ≡ None → MayAlone Nothing (Make value words)
+  OwnAreMade = (value : T) (words : ℕ) → HasListWord defers (defers value) words → MayAlone Nothing (Make value words)
 
   abbrev pub OwnAreTaken : Type 0
   OwnAreTaken = (b : ℕ) (x : T) → MayAlone (Made b x) (Take b)

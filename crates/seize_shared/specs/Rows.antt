@@ -17,7 +17,7 @@ use Rattle.seize.specs.Law.{holds, is_over}
 use Rattle.seize.specs.World.{World, Row, Hand, Event, Use, Runs, at_start}
 use Rattle.seize.specs.World as world
 use Rattle.seize_seats.specs.State.{State, view_of}
-use Rattle.seize_bounds.specs.Bounds.{ArePlain, CountsWithin, TriesWithin}
+use Rattle.seize_bounds.specs.Bounds.{SettlesWithin, TriesWithin}
 use Rattle.seize_shared.specs.declared.view.View.{View}
 use Rattle.seize_shared.specs.declared.view.Becomes.{Becomes}
 use Rattle.seize_shared.specs.declared.view.Becomes.TheVariants.{Idle, Active}
@@ -165,7 +165,7 @@ module _ {T : Type 0} (defers : T → Option ℕ) (fixed : Fixed) where
   -- What a seat settles it has settled within so many steps: where its section has ended, its list is counted down; else its block is retired, or its batch
   -- tried.
   abbrev pub IsBounded : World T → ℕ → View T → Type 0
-  IsBounded w j (Settles c (Ending size way) seen left) = CountsWithin defers fixed.batch_size j left w
+  IsBounded w j (Settles c (Ending size way) seen left) = SettlesWithin defers fixed.batch_size j left w
   IsBounded w j (Settles c (Retiring way) seen left) = TriesWithin defers fixed.batch_size j left w
   IsBounded w j _ = Unit {0}
 
@@ -182,7 +182,6 @@ module _ {T : Type 0} (defers : T → Option ℕ) (fixed : Fixed) where
     pub sole : (j k b : ℕ) (v u : View T) → view_of s j ≡ Some v → view_of s k ≡ Some u → hand_of v ≡ Some b → hand_of u ≡ Some b → j ≡ k
     pub roots : RootsNameLinked s.memory s.world.hand
     pub rooted : length s.memory.roots ≡ fixed.roots
-    pub plain : ArePlain defers s.memory
     pub bounded : (j : ℕ) (v : View T) → view_of s j ≡ Some v → IsBounded s.world j v
 
 module _ {T : Type 0} where

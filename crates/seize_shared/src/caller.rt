@@ -1,6 +1,7 @@
 //! One of those who share the memory.
 ghost use Rattle.std.specs.Prelude.{◌≡◌, ◌≢◌, ◌<◌, ◌+◌, ◌^◌, None, true, false, IfOk, IfErr, IfSome, IfNone};
 ghost use Rattle.seize_words.specs.Word.{block_in};
+ghost use Rattle.seize.specs.World.{HasListWord};
 ghost use Rattle.seize.specs.declared.states.TheConstants.{LAST_SLOT};
 ghost use Rattle.seize.specs.declared.rows.register.Registering.TheVariants.{Take};
 ghost use Rattle.seize_seats.specs.Lendings.{IsValueOf};
@@ -123,28 +124,33 @@ impl<'a, T: Defers> Caller<'a, T> {
             .store(&mut self.seat, At::Slot(slot, HEAD), FREE);
     }
 
-    /// Makes a block within the section of its slot, of a value that keeps no list. Where no number is free the value comes back.
+    /// Makes a block within the section of its slot, with the words that its value asks for. Where there are none, or memory is refused, the value comes back.
     pub fn make(&mut self, _slot: u64, value: T) -> Result<u64, T>
         requires inside { self.old.seat.view ≡ Inside _slot Nothing }
-        requires plain { T.defers value ≡ None }
         ensures made { IfOk result (λ block. (self.new.seat.view ≡ Inside _slot (Made block value)) × (block < 2 ^ 53)) }
         ensures refused { IfErr result (λ back. self.new.seat.view ≡ Inside _slot Nothing) }
         ensures back { IfErr result (λ back. back ≡ value) }
         ensures blocks { self.new.blocks ≡ self.old.blocks }
     {
-        self.blocks.make(&mut self.seat, value, 0)
+        match words_for(&value) {
+            Some(words) => self.blocks.make(&mut self.seat, value, words),
+            None => Err(value),
+        }
     }
 
-    /// Makes a block of a value that keeps no list, beside the one that it has seen, or none, which is 0. Where no number is free the value comes back.
+    /// Makes a block beside the one that it has seen, or none, which is 0, with the words that its value asks for. Where there are none, or memory is refused,
+    /// the value comes back.
     pub fn make_beside(&mut self, _slot: u64, _seen: u64, value: T) -> Result<u64, T>
         requires inside { self.old.seat.view ≡ Inside _slot (seen_as _seen) }
-        requires plain { T.defers value ≡ None }
         ensures made { IfOk result (λ block. (self.new.seat.view ≡ Inside _slot (made_beside block value _seen)) × (block < 2 ^ 53)) }
         ensures refused { IfErr result (λ back. self.new.seat.view ≡ Inside _slot (seen_as _seen)) }
         ensures back { IfErr result (λ back. back ≡ value) }
         ensures blocks { self.new.blocks ≡ self.old.blocks }
     {
-        self.blocks.make(&mut self.seat, value, 0)
+        match words_for(&value) {
+            Some(words) => self.blocks.make(&mut self.seat, value, words),
+            None => Err(value),
+        }
     }
 
     /// Takes the block away that it has made beside the one that it has seen, and answers its value.
@@ -290,6 +296,16 @@ impl<'a, T: Defers> Drop for Caller<'a, T> {
             batch_size: _,
             seat: _,
         } = self;
+    }
+}
+
+/// How many words a block of this value has, if they can be counted.
+pub(crate) fn words_for<T: Defers>(value: &T) -> Option<u64>
+    ensures words { IfSome result (λ words. HasListWord T.defers (T.defers value.now) words) }
+{
+    match value.deferred() {
+        Some(field) => field.checked_add(1),
+        None => Some(0),
     }
 }
 

@@ -112,9 +112,8 @@ pub trait Guard<T: Defers> {
         ensures some { IfSome result (λ value. seen self.now ≢ 0) }
         ensures none { IfNone result (seen self.now ≡ 0) };
 
-    /// Puts a value at a root, and retires the one that was there. It comes back where there is no such root, or no number is free. The section is begun anew.
+    /// Puts a value at a root, and retires the one that was there. It comes back where there is no such root, or no block can be made of it. The section is begun anew.
     fn put(&mut self, root: u64, value: T) -> Result<(), T>
-        requires plain { T.defers value ≡ None }
         ensures home { home self.new ≡ home self.old }
         ensures slot { slot self.new ≡ slot self.old }
         ensures inside { inside self.new ≡ true }
@@ -122,9 +121,8 @@ pub trait Guard<T: Defers> {
         ensures back { IfErr result (λ back. back ≡ value) };
 
     /// Puts a value at a root if what it has seen last is there, or nothing where it has seen nothing, and retires that. Else the value comes back, and it has
-    /// seen what is there. It comes back, too, where there is no such root, or no number is free.
+    /// seen what is there. It comes back, too, where there is no such root, or no block can be made of it.
     fn exchange(&mut self, root: u64, value: T) -> Result<(), T>
-        requires plain { T.defers value ≡ None }
         ensures home { home self.new ≡ home self.old }
         ensures slot { slot self.new ≡ slot self.old }
         ensures inside { inside self.new ≡ inside self.old }

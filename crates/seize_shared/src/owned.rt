@@ -5,7 +5,7 @@ ghost use Rattle.seize_shared.specs.Rows.{Holds};
 ghost use Rattle.seize_shared.specs.Standing.{brought_by, borne_by};
 ghost use Rattle.seize_shared.specs.declared.view.View.TheVariants.{Brings};
 
-use crate::caller::named;
+use crate::caller::{named, words_for};
 use crate::rows::OfRows;
 use crate::view::Fixed;
 use seize::rows::Defers;
@@ -35,16 +35,19 @@ pub struct Unlinked<'a, T: Defers> {
 }
 
 impl<'a, T: Defers> Owned<'a, T> {
-    /// Makes a block of a value that keeps no list. What was chosen as the memory was opened is handed in. Where no number is free the value comes back.
+    /// Makes a block, with the words that its value asks for. What was chosen as the memory was opened is handed in. Where there are none, or memory is
+    /// refused, the value comes back.
     pub fn new(blocks: &'a Blocks<T, OfRows>, fixed: &Fixed, value: T) -> Result<Self, T>
         requires fixed { blocks.now.words.fixed ≡ fixed.now }
-        requires plain { T.defers value ≡ None }
         ensures made { IfOk result (λ owned. owned.seat.view ≡ Brings owned.block value) }
         ensures home { IfOk result (λ owned. owned.blocks.now ≡ blocks.now) }
         ensures back { IfErr result (λ back. back ≡ value) }
     {
+        let Some(words) = words_for(&value) else {
+            return Err(value);
+        };
         let mut seat = blocks.seat();
-        match blocks.make(&mut seat, value, 0) {
+        match blocks.make(&mut seat, value, words) {
             Ok(block) => Ok(Owned {
                 blocks,
                 roots: fixed.roots,

@@ -35,3 +35,5 @@ mod retiring;
 mod rewriting;
 #[cfg(test)]
 mod sections;
+#[cfg(test)]
+mod thousand;
