@@ -114,9 +114,10 @@ fn one_of_two_puts_its_value_where_none_is(rt: HostRuntime) -> Result<(), Fail> 
     Ok(())
 }
 
-/// Takes the value of a block, and answers its place.
-fn takes(owned: Owned<'_, Counted>) -> usize {
-    owned.into_value().place
+/// Takes the block out, and answers the place of its value.
+fn takes(given: &mut Option<Owned<'_, Counted>>) -> Option<usize> {
+    let owned = given.take()?;
+    Some(owned.into_value().place)
 }
 
 /// Makes a block of a value, which another thread takes; and under a guard retires the value that was at the root before. Answers the place of the one, and how often the other one was dropped before
@@ -130,8 +131,11 @@ fn sends<R: Threads + Sync>(
 {
     let mut guard = OwnedGuard::enter(blocks, &CHOSEN).ok()?;
     drop(guard.put(0, Counted::of(drops, 0)?));
-    let first = Owned::new(blocks, &CHOSEN, Counted::of(drops, 1)?).ok()?;
-    let (place, ()) = thread::join(rt, move || takes(first), || ());
+    let mut given = Owned::new(blocks, &CHOSEN, Counted::of(drops, 1)?).ok();
+    let (place, ()) = thread::join(rt, || takes(&mut given), || ());
+    if let Some(owned) = given {
+        drop(owned.into_value());
+    }
     let second = Owned::new(blocks, &CHOSEN, Counted::of(drops, 2)?).ok()?;
     match second.publish(0) {
         Ok(Some(old)) => guard.retire(old),
@@ -141,7 +145,7 @@ fn sends<R: Threads + Sync>(
     guard.flush();
     let before = dropped(drops, 0);
     drop(guard);
-    Some((place, before, dropped(drops, 0)))
+    Some((place?, before, dropped(drops, 0)))
 }
 
 #[test]
