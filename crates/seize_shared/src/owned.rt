@@ -35,9 +35,14 @@ pub struct Unlinked<'a, T: Defers> {
 }
 
 impl<'a, T: Defers> Owned<'a, T> {
-    /// Makes a block, with the words that its value asks for. What was chosen as the memory was opened is handed in. Where there are none, or memory is
-    /// refused, the value comes back.
-    pub fn new(blocks: &'a Blocks<T, OfRows>, fixed: &Fixed, value: T) -> Result<Self, T>
+    /// Makes a block, with the words that its value asks for. What was chosen as the memory was opened is handed in, and from where on a number is looked for,
+    /// which is then where to look for the next one. Where there are no such words, or memory is refused, the value comes back.
+    pub fn new(
+        blocks: &'a Blocks<T, OfRows>,
+        fixed: &Fixed,
+        near: &mut u64,
+        value: T,
+    ) -> Result<Self, T>
         requires fixed { blocks.now.words.fixed ≡ fixed.now }
         ensures made { IfOk result (λ owned. owned.seat.view ≡ Brings owned.block value) }
         ensures home { IfOk result (λ owned. owned.blocks.now ≡ blocks.now) }
@@ -47,7 +52,7 @@ impl<'a, T: Defers> Owned<'a, T> {
             return Err(value);
         };
         let mut seat = blocks.seat();
-        match blocks.make(&mut seat, value, words) {
+        match blocks.make(&mut seat, near, value, words) {
             Ok(block) => Ok(Owned {
                 blocks,
                 roots: fixed.roots,

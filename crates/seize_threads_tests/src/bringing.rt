@@ -15,13 +15,14 @@ use std::thread::Threads;
 fn brings(
     registration: &mut Registration<'_, Counted>,
     blocks: &Blocks<Counted, OfRows>,
+    near: &mut u64,
     value: Counted,
 ) -> bool
     requires fixed { blocks.now.words.fixed ≡ record { batch_size = 5; roots = 1 } }
     requires home { registration.old.stay.caller.blocks.now ≡ blocks.now }
     ensures home { registration.new.stay.caller.blocks ≡ registration.old.stay.caller.blocks }
 {
-    let owned = match Owned::new(blocks, &CHOSEN, value) {
+    let owned = match Owned::new(blocks, &CHOSEN, near, value) {
         Ok(owned) => owned,
         Err(_) => return false,
     };
@@ -45,10 +46,11 @@ fn brings_all(blocks: &Blocks<Counted, OfRows>, drops: &Table, from: usize) -> O
     requires { blocks.now.words.fixed ≡ record { batch_size = 5; roots = 1 } }
 {
     let mut registration = Registration::new(blocks, &CHOSEN).ok()?;
+    let mut near = 0;
     let mut put = 0;
     for turn in 0..TIMES {
         let value = Counted::of(drops, usize::wrapping_add(from, turn))?;
-        if brings(&mut registration, blocks, value) {
+        if brings(&mut registration, blocks, &mut near, value) {
             put = u64::wrapping_add(put, 1);
         }
     }
@@ -83,7 +85,8 @@ fn what_is_put_without_a_slot_is_seen_and_dropped_once(rt: HostRuntime) -> Resul
 fn places(blocks: &Blocks<Counted, OfRows>, drops: &Table, place: usize) -> Option<bool>
     requires { blocks.now.words.fixed ≡ record { batch_size = 5; roots = 1 } }
 {
-    let owned = Owned::new(blocks, &CHOSEN, Counted::of(drops, place)?).ok()?;
+    let mut near = 0;
+    let owned = Owned::new(blocks, &CHOSEN, &mut near, Counted::of(drops, place)?).ok()?;
     match owned.place(0) {
         Ok(()) => Some(true),
         Err(owned) => {
@@ -131,12 +134,13 @@ fn sends<R: Threads + Sync>(
 {
     let mut guard = OwnedGuard::enter(blocks, &CHOSEN).ok()?;
     drop(guard.put(0, Counted::of(drops, 0)?));
-    let mut given = Owned::new(blocks, &CHOSEN, Counted::of(drops, 1)?).ok();
+    let mut near = 0;
+    let mut given = Owned::new(blocks, &CHOSEN, &mut near, Counted::of(drops, 1)?).ok();
     let (place, ()) = thread::join(rt, || takes(&mut given), || ());
     if let Some(owned) = given {
         drop(owned.into_value());
     }
-    let second = Owned::new(blocks, &CHOSEN, Counted::of(drops, 2)?).ok()?;
+    let second = Owned::new(blocks, &CHOSEN, &mut near, Counted::of(drops, 2)?).ok()?;
     match second.publish(0) {
         Ok(Some(old)) => guard.retire(old),
         Ok(None) => return None,
