@@ -95,12 +95,12 @@ module _ {T : Type 0} (defers : T → Option ℕ) (fixed : Fixed) (id : ℕ) (v 
       subst (λ (x : View T). Meets (Holds defers fixed) id x j u (Hands fixed x u)) (sym is) (borne_are_handed_on T defers fixed id j b u takes)
 
 module _ {T : Type 0} (defers : T → Option ℕ) (v w : View T) where
-  pub own_made_told : {words : ℕ} (b : ℕ) (value : T) → v ≡ Rests → told defers v (Make value words) (OutMade (Ok b)) w → (w ≡ Brings b value) × (b < 2 ^ 53)
-  own_made_told {words} b value is so =
+  pub own_made_told : (words b : ℕ) (value : T) → v ≡ Rests → told defers v (Make value words) (OutMade (Ok b)) w → (w ≡ Brings b value) × (b < 2 ^ 53)
+  own_made_told words b value is so =
       let k = subst (λ (x : View T). told defers x (Make value words) (OutMade (Ok b)) w) is so in (k.2 ∙ ap alone_with k.1.1, k.1.0)
 
-  pub own_refused_told : {words : ℕ} (value back : T) → v ≡ Rests → told defers v (Make value words) (OutMade (Err back)) w → back ≡ value
-  own_refused_told {words} value back is so = (subst (λ (x : View T). told defers x (Make value words) (OutMade (Err back)) w) is so).1.0
+  pub own_refused_told : (words : ℕ) (value back : T) → v ≡ Rests → told defers v (Make value words) (OutMade (Err back)) w → back ≡ value
+  own_refused_told words value back is so = (subst (λ (x : View T). told defers x (Make value words) (OutMade (Err back)) w) is so).1.0
 
   pub own_taken_told : (b : ℕ) (x value : T) → v ≡ Brings b x → told defers v (Take b) (Taken value) w → value ≡ x
   own_taken_told b x value is so = (subst (λ (y : View T). told defers y (Take b) (Taken value) w) is so).1.0

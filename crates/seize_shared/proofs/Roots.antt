@@ -13,7 +13,7 @@ use Rattle.seize_alone.proofs.Given.SeizeMoves.State.Ghost.{Life, IsLinked, empt
 use Rattle.seize_rule.proofs.Points.Aside.{HandFits}
 use Rattle.seize_alone.proofs.Given.SeizeMoves.State.Held.{held_on}
 use Rattle.seize_alone.proofs.Given.SeizeMoves.State.Logs.{reached_held}
-use Rattle.seize_rule.proofs.Rows.Others.{with_here}
+use Rattle.seize_rule.proofs.Rows.Others.{with_here, with_other}
 use Rattle.seize_rule.proofs.Rows.Teams.{UseFits}
 use Rattle.seize_alone.proofs.Histories.Reached.{Reached}
 use Rattle.seize_seats.specs.State.{State, view_of, Goes}

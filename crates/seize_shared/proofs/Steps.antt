@@ -1,5 +1,5 @@
 -- A row that begins, and a step of one, as what a seat has done.
-use Rattle.std.specs.Prelude.{◌≢◌, ◌++◌, Option, Some, IsSome, length, slice_get}
+use Rattle.std.specs.Prelude.{◌≢◌, ◌++◌, Option, Some, IsSome, length, slice_get, None}
 use Rattle.std.proofs.Common.{◌≡◌, ℕ, ◌+◌, List, [], ◌∷◌, ◌⊎◌, inl, inr, refl, sym, subst, ap, ◌∙◌, arith}
 use Rattle.std.proofs.lemmas.Bool.{cases_eq}
 use Rattle.seize_words.specs.Mem.{Mem, value_at}
