@@ -12,5 +12,5 @@ pub make-requires-clause-may : goal.make-requires-clause-may
 make-requires-clause-may g c =
     let x = c.seat-seat.result in
     let defers = g.T.Defers.defers in
-    may_make_own defers c.args.blocks.now.words.fixed x.id x.view c.seat-seat.ensures.1 c.args.value c.words
-    (subst (λ (o : Option ℕ). IfSome o (λ words. HasListWord defers (defers c.args.value) words)) c.is c.words_for.ensures.words)
+    may_make_own defers c.args.blocks.now.words.fixed x.id x.view c.seat-seat.ensures.1 c.args.value c.before.before.before.in-Some.words
+    (subst (λ (o : Option ℕ). IfSome o (λ words. HasListWord defers (defers c.args.value) words)) c.before.before.before.in-Some.is c.words_for.ensures.words)

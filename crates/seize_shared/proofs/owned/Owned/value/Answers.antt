@@ -8,4 +8,4 @@ value-requires-clause-shown g c =
 pub returns : goal.returns
 returns g c =
     let x = c.args.self.now in
-    λ value is. brought_value g.T.Defers.defers x.blocks.now.words.fixed x.seat.id x.seat.view x.block value c.value.result.now is c.value.ensures
+    record { same = λ value is. brought_value g.T.Defers.defers x.blocks.now.words.fixed x.seat.id x.seat.view x.block value c.value.result.now is c.value.ensures }
