@@ -1,12 +1,13 @@
 //! Guards of sections: what they have in common, one of a slot that stays on its thread, and one with a slot of its own that may be sent.
-ghost use Rattle.std.specs.Prelude.{◌≡◌, ◌≢◌, ℕ, Bool, None, IfOk, IfErr, IfNone, IfSome, true, false};
+ghost use Rattle.std.specs.Prelude.{◌≡◌, ◌≢◌, ◌<◌, ◌^◌, ℕ, Bool, None, IfOk, IfErr, IfNone, IfSome, true, false};
+ghost use Rattle.seize_shared.specs.declared.view.View.TheVariants.{Bears};
 
 use crate::owned::Unlinked;
 use crate::rows::OfRows;
 use crate::stay::Stay;
 use crate::view::Fixed;
 use seize::rows::Defers;
-use seize_blocks::Blocks;
+use seize_blocks::{Blocks, Seat};
 use seize_words::Fault;
 use std::marker::PhantomData;
 
@@ -135,9 +136,11 @@ pub trait Guard<T: Defers> {
         ensures inside { inside self.new ≡ true }
         ensures fresh { seen self.new ≡ 0 };
 
-    /// Retires a block that was taken from a root of the same memory, without this guard. What it has seen it doesn't know any more.
-    fn retire<'u>(&mut self, old: Unlinked<'u, T>)
-        requires home { old.blocks.now.words.id.views_name ≡ home self.old }
+    /// Retires a block that a seat without a slot has unlinked, of the same memory (`Unlinked` does so by it). What it has seen it doesn't know any more.
+    fn takes_over(&mut self, seat: &mut Seat<T, OfRows>, block: u64)
+        requires own { seat.old.base ≡ home self.old }
+        requires bears { seat.old.view ≡ Bears block }
+        requires fits { block < 2 ^ 53 }
         ensures home { home self.new ≡ home self.old }
         ensures slot { slot self.new ≡ slot self.old }
         ensures inside { inside self.new ≡ inside self.old }
@@ -197,14 +200,8 @@ impl<'r, 'a, T: Defers + Drop> Guard<T> for LocalGuard<'r, 'a, T> {
         self.registration.stay.clears(root)
     }
 
-    fn retire<'u>(&mut self, old: Unlinked<'u, T>)
-        requires home { old.blocks.now.words.id.views_name ≡ self.old.registration.now.stay.caller.blocks.now.words.id.views_name }
-        ensures home { self.new.registration.now.stay.caller.blocks.now.words.id.views_name ≡ self.old.registration.now.stay.caller.blocks.now.words.id.views_name }
-        ensures slot { self.new.registration.now.stay.slot ≡ self.old.registration.now.stay.slot }
-        ensures inside { self.new.registration.now.stay.inside ≡ self.old.registration.now.stay.inside }
-        ensures fresh { self.new.registration.now.stay.seen ≡ 0 }
-    {
-        self.registration.stay.retires(old);
+    fn takes_over(&mut self, seat: &mut Seat<T, OfRows>, block: u64) {
+        self.registration.stay.takes_over(seat, block);
     }
 
     fn flush(&mut self) {
@@ -283,14 +280,8 @@ impl<'a, T: Defers + Drop> Guard<T> for OwnedGuard<'a, T> {
         self.stay.clears(root)
     }
 
-    fn retire<'u>(&mut self, old: Unlinked<'u, T>)
-        requires home { old.blocks.now.words.id.views_name ≡ self.old.stay.caller.blocks.now.words.id.views_name }
-        ensures home { self.new.stay.caller.blocks.now.words.id.views_name ≡ self.old.stay.caller.blocks.now.words.id.views_name }
-        ensures slot { self.new.stay.slot ≡ self.old.stay.slot }
-        ensures inside { self.new.stay.inside ≡ self.old.stay.inside }
-        ensures fresh { self.new.stay.seen ≡ 0 }
-    {
-        self.stay.retires(old);
+    fn takes_over(&mut self, seat: &mut Seat<T, OfRows>, block: u64) {
+        self.stay.takes_over(seat, block);
     }
 
     fn flush(&mut self) {

@@ -6,6 +6,7 @@ ghost use Rattle.seize_shared.specs.Standing.{brought_by, borne_by};
 ghost use Rattle.seize_shared.specs.declared.view.View.TheVariants.{Brings};
 
 use crate::caller::{named, words_for};
+use crate::guard::Guard;
 use crate::rows::OfRows;
 use crate::view::Fixed;
 use seize::rows::Defers;
@@ -144,5 +145,22 @@ impl<'a, T: Defers> Unlinked<'a, T> {
         ensures { IsValueOf (Holds T.defers self.now.blocks.now.words.fixed) self.now.seat.id self.now.seat.view self.now.block result.now }
     {
         self.blocks.value(&self.seat, self.block)
+    }
+
+    /// Retires it under a guard of the same memory. What the guard has seen it doesn't know any more.
+    pub fn retire<G: Guard<T>>(self, guard: &mut G)
+        requires home { self.blocks.now.words.id.views_name ≡ G.home guard.old }
+        ensures home { G.home guard.new ≡ G.home guard.old }
+        ensures slot { G.slot guard.new ≡ G.slot guard.old }
+        ensures inside { G.inside guard.new ≡ G.inside guard.old }
+        ensures fresh { G.seen guard.new ≡ 0 }
+    {
+        let Unlinked {
+            blocks: _,
+            seat,
+            block,
+        } = self;
+        let mut seat = seat;
+        guard.takes_over(&mut seat, block);
     }
 }

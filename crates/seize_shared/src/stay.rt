@@ -2,13 +2,14 @@
 ghost use Rattle.std.specs.Prelude.{◌≡◌, ◌≢◌, ◌<◌, ◌^◌, None, Some, IfOk, IfErr, IfNone, IfSome, true, false};
 ghost use Rattle.seize_shared.specs.Lent.{IsLent};
 ghost use Rattle.seize_shared.specs.Standing.{standing};
+ghost use Rattle.seize_shared.specs.declared.view.View.TheVariants.{Bears};
 
 use crate::caller::Caller;
 use crate::owned::Unlinked;
 use crate::rows::OfRows;
 use crate::view::Fixed;
 use seize::rows::Defers;
-use seize_blocks::Blocks;
+use seize_blocks::{Blocks, Seat};
 use seize_words::Fault;
 
 /// A caller who holds a slot: whether its section is open, and which block was seen there, 0 for none. The slot is given up as this ends.
@@ -197,7 +198,26 @@ impl<'a, T: Defers + Drop> Stay<'a, T> {
         }
     }
 
-    /// Retires a block that was unlinked without a section, whether one is open or not. What was seen before is not known any more.
+    /// Retires a block that another seat has unlinked, which has no slot, whether a section is open or not. What was seen before is not known any more.
+    pub(crate) fn takes_over(&mut self, seat: &mut Seat<T, OfRows>, block: u64)
+        requires own { seat.old.base ≡ self.old.caller.blocks.now.words.id.views_name }
+        requires bears { seat.old.view ≡ Bears block }
+        requires fits { block < 2 ^ 53 }
+        ensures home { self.new.caller.blocks ≡ self.old.caller.blocks }
+        ensures slot { self.new.slot ≡ self.old.slot }
+        ensures inside { self.new.inside ≡ self.old.inside }
+        ensures fresh { self.new.seen ≡ 0 }
+    {
+        self.caller.takes_over(self.slot, seat, block);
+        if self.inside {
+            self.caller.retire(self.slot, block);
+        } else {
+            self.caller.retire_idle(self.slot, block);
+        }
+        self.seen = 0;
+    }
+
+    /// Retires a block that has a seat of its own.
     pub(crate) fn retires<'u>(&mut self, old: Unlinked<'u, T>)
         requires home { old.blocks.now.words.id.views_name ≡ self.old.caller.blocks.now.words.id.views_name }
         ensures home { self.new.caller.blocks ≡ self.old.caller.blocks }
@@ -211,13 +231,7 @@ impl<'a, T: Defers + Drop> Stay<'a, T> {
             block,
         } = old;
         let mut seat = seat;
-        self.caller.takes_over(self.slot, &mut seat, block);
-        if self.inside {
-            self.caller.retire(self.slot, block);
-        } else {
-            self.caller.retire_idle(self.slot, block);
-        }
-        self.seen = 0;
+        self.takes_over(&mut seat, block);
     }
 
     /// Tries the slot's batch, whatever its length, where its section is open.

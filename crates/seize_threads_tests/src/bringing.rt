@@ -142,7 +142,7 @@ fn sends<R: Threads + Sync>(
     }
     let second = Owned::new(blocks, &CHOSEN, &mut near, Counted::of(drops, 2)?).ok()?;
     match second.publish(0) {
-        Ok(Some(old)) => guard.retire(old),
+        Ok(Some(old)) => old.retire(&mut guard),
         Ok(None) => return None,
         Err(owned) => drop(owned.into_value()),
     }

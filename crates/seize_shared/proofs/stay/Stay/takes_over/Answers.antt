@@ -1,7 +1,7 @@
 use Rattle.std.specs.Prelude.{Some}
 use Rattle.std.proofs.Common.{Bool, ap, ◌∙◌}
 use Rattle.seize_shared.proofs.Standing.{takes_inside}
-use Rattle.seize_shared.proofs.stay.Stay.retires.Goals as goal
+use Rattle.seize_shared.proofs.stay.Stay.takes_over.Goals as goal
 
 -- within its section the block is in its hand then
 pub retire-requires-clause-cut : goal.retire-requires-clause-cut
