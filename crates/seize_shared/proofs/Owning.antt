@@ -1,5 +1,5 @@
 -- What a seat without a slot may do with the block that it has, and what it knows then.
-use Rattle.std.specs.Prelude.{◌<◌, ◌==◌, Option, Some, None, Ok, Err, if◌then◌else◌}
+use Rattle.std.specs.Prelude.{◌<◌, ◌==◌, Option, Some, Ok, Err, if◌then◌else◌}
 use Rattle.std.proofs.Common.{◌≡◌, ℕ, ◌^◌, ◌%◌, Bool, sym, subst, ap, ◌∙◌}
 use Rattle.std.proofs.lemmas.Bool.{ne_eqb}
 use Rattle.seize_words.specs.Op.{Op, Swap, Exchange, Make, Take, Found, Exchanged, Made as OutMade, Taken}

@@ -25,7 +25,6 @@ use Rattle.seize_shared.specs.declared.view.View.TheVariants.{Outside, Owes, Ins
 use Rattle.seize_shared.specs.declared.view.Has.{Has}
 use Rattle.seize_shared.specs.declared.view.Has.TheVariants.{Nothing, Made, Seen, Both, Cut}
 use Rattle.seize_shared.specs.declared.view.Fixed.{Fixed}
-use Rattle.seize_shared.proofs.Lists.{there}
 use Rattle.seize_shared.proofs.Came.{reached, came_then}
 use Rattle.seize_shared.proofs.Users.{use_making, making_use}
 use Rattle.seize_shared.proofs.Users.{beside, making_not_held, passes_then, Carries, within, alone_carries, users, users_outside, users_owe}

@@ -18,7 +18,7 @@ use Rattle.seize_bounds.specs.Bounds.{IsOfOthers, IsAloneOnSlot}
 use Rattle.seize_shared.specs.Rows.{row_of, use_of, hand_of, had_in, IsShort, IsUsed, IsKnown, IsBounded, IsMade, IsInHand, RootsNameLinked, Fits, Came, Holds, Keeps}
 use Rattle.seize_shared.specs.Told.{alone_with}
 use Rattle.seize_shared.specs.declared.view.View.{View}
-use Rattle.seize_shared.specs.declared.view.View.TheVariants.{Rests, Outside, Owes, Inside}
+use Rattle.seize_shared.specs.declared.view.View.TheVariants.{Outside, Owes, Inside}
 use Rattle.seize_shared.specs.declared.view.Has.{Has}
 use Rattle.seize_shared.specs.declared.view.Has.TheVariants.{Nothing, Made, Seen, Both, Cut}
 use Rattle.seize_shared.specs.declared.view.Fixed.{Fixed}

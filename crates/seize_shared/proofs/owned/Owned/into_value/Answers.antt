@@ -1,4 +1,4 @@
-use Rattle.seize_shared.proofs.Owning.{may_take_own, own_taken_told}
+use Rattle.seize_shared.proofs.Owning.{may_take_own}
 use Rattle.seize_shared.proofs.owned.Owned.into_value.Goals as goal
 
 pub take-requires-clause-may : goal.take-requires-clause-may
