@@ -68,7 +68,7 @@ module _ {T M : Type 0} (defers : T → Option ℕ) (can : M → Op T → Type 0
       by_law SettleGoes took shown (settle_plan defers) can (λ s m. MayDrop defers took shown can s m) (λ s m h. may_step DropGoes took shown (settle_plan defers) can s m h)
       (λ s m h n t told so x. runs_on DropGoes took shown (settle_plan defers) can s m h n t told (drops told so) x)
 
-  leads_once : (s t : Settle) (m n : M) → SettleLeads defers took shown s m t n → DropLeads defers took shown s m t n
+  pub leads_once : (s t : Settle) (m n : M) → SettleLeads defers took shown s m t n → DropLeads defers took shown s m t n
   leads_once s t m n (none_taken _ _) = none_taken s m
   leads_once s t m n (one_more _ _ x k l told so _ _ y) = one_more s m x k (leads_once s x m k l) told (drops told so) t n y
 
