@@ -18,3 +18,4 @@ pub mod Calls
 pub mod Drives
 pub mod Seen
 pub mod Standing
+pub mod Straight
