@@ -15,6 +15,7 @@ use Rattle.seize.specs.declared.rows.settle.Settled.{Settled}
 use Rattle.seize.specs.Register as register
 use Rattle.seize.specs.Settle.{settle_plan, plan_at}
 use Rattle.seize_acts.proofs.Answers.{same_some}
+use Rattle.seize_straight.specs.Going.{DropGoes}
 use Rattle.seize_seats.specs.State.{State, view_of}
 use Rattle.seize_seats.specs.Lendings.{Shown, IsValueOf}
 use Rattle.seize_shared.specs.Rows.{Holds}
@@ -109,6 +110,7 @@ module _ {T : Type 0} (defers : T → Option ℕ) where
 
     pub has_stepped : (n : Caller T) (end : Settle × Settled T) → Steps (HasMade defers) shown_of caller (settle_plan defers c) n end
         → IsSettling why end.0 n.seat.view × (end.0.slot ≡ c.slot) × (n.blocks ≡ caller.blocks) × (left_in n.seat.view < left_in caller.seat.view)
+        × DropGoes end.1
     has_stepped n end st =
         let k = was_made (CanMake defers) (HasMade defers) shown_of caller (settle_plan defers c) n end (is_do c c.stands ne) st in
         let g = goes_on k.0 k.1 n k.2 in
@@ -118,6 +120,7 @@ module _ {T : Type 0} (defers : T → Option ℕ) where
           ap (λ (x : Settle × Settled T). x.0.slot) same ∙ g.slot,
           k.2.blocks,
           (let before = ap left_in is.2 in let after = ap left_in g.view in let falls = g.falls in omega (arith, before, after, falls)),
+          subst (λ (x : Settle × Settled T). DropGoes x.1) (sym same) g.further,
         )
 
 module _ (T : Type 0) (defers : T → Option ℕ) where

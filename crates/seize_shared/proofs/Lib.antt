@@ -20,3 +20,4 @@ pub mod Calls
 pub mod Drives
 pub mod Seen
 pub mod Standing
+pub mod Straight

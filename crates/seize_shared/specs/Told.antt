@@ -13,6 +13,7 @@ use Rattle.seize.specs.declared.rows.settle.Settle.{Settle}
 use Rattle.seize.specs.declared.rows.settle.Settled.{Settled}
 use Rattle.seize.specs.Register.{register_plan}
 use Rattle.seize.specs.Settle.{counting_down, settle_plan}
+use Rattle.seize_straight.specs.Going.{DropGoes}
 use Rattle.seize_shared.specs.Rows.{IsShort}
 use Rattle.seize_shared.specs.declared.view.View.{View}
 use Rattle.seize_shared.specs.declared.view.Becomes.{Becomes}
@@ -97,12 +98,13 @@ abbrev pub list_taken : {T : Type 0} → ℕ → ℕ → Becomes → ℕ → ℕ
 list_taken t size way head left = if nat_lt ACTIVE head then Settles (counting_down t size head) (Ending size way) None left else Left t size way
 
 module _ {T : Type 0} (defers : T → Option ℕ) where
-  -- a settling goes on, with the same slot, and fewer steps are left
+  -- a settling goes on, further steps are needed, with the same slot, and fewer are left
   pub record GoesOn (c : Settle) (why : Why) (left : ℕ) (out : Out T) (w : View T) : Type 0 where
     pub end : Settle × Settled T
     pub seen : Option (ℕ × T)
     pub now : ℕ
     pub follows : FollowsBy (shown_by seen) (settle_plan defers c) out end
+    pub further : DropGoes end.1
     pub slot : end.0.slot ≡ c.slot
     pub falls : now < left
     pub view : w ≡ Settles end.0 why seen now
