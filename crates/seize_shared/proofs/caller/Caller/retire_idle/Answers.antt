@@ -1,5 +1,4 @@
 use Rattle.std.proofs.Common.{◌≡◌, ap, ◌∙◌}
-use Rattle.seize.specs.declared.rows.settle.Settle.{Settle}
 use Rattle.seize.specs.Settle.{retiring}
 use Rattle.seize_words.specs.Word.{link_to}
 use Rattle.seize_shared.specs.Begun.{IsBegun}

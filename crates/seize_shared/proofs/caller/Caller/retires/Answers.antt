@@ -3,9 +3,7 @@ use Rattle.std.proofs.Common.{◌≡◌, refl, sym, subst, ap, ◌∙◌}
 use Rattle.seize.specs.declared.rows.settle.Settle.{Settle}
 use Rattle.seize.specs.declared.rows.settle.Settling.TheVariants.{Over}
 use Rattle.seize.specs.Settle.{retiring}
-use Rattle.seize_straight.specs.Retiring.{settle_at}
 use Rattle.seize_shared.specs.Begun.{IsBegun, ended, left_with}
-use Rattle.seize_shared.specs.Made.{IsSettling}
 use Rattle.seize_shared.specs.declared.view.Becomes.{Becomes}
 use Rattle.seize_shared.specs.declared.view.View.TheVariants.{Settles}
 use Rattle.seize_shared.specs.declared.view.Why.TheVariants.{Retiring}

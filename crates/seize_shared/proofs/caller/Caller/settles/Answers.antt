@@ -1,5 +1,5 @@
 -- Straight code reclaims what it can after each step.
-use Rattle.std.proofs.Common.{ℕ, ◌∙◌, arith}
+use Rattle.std.proofs.Common.{◌∙◌, arith}
 use Rattle.seize_shared.specs.Made.{IsSettling}
 use Rattle.seize_shared.specs.declared.view.Why.{Why}
 use Rattle.seize_shared.proofs.Straight.{Comes, led, may_drop}
