@@ -268,7 +268,7 @@ impl<T, R: Rule<T>> Blocks<T, R> {
     }
 
     /// Makes a block of a value and as many words, each 0, and answers its number. There are no blocks with words of their own yet. Where such
-    /// a block is asked for, or no number is free and there is no memory for more, the value comes back. A number is looked for from `near` on, which is then
+    /// a block is asked for, or no number is free and no further strip can be laid, the value comes back. A number is looked for from `near` on, which is then
     /// where to look for the next one: with one of their own, those who make blocks don't meet.
     pub fn make(
         &self,
