@@ -4,11 +4,11 @@ use Rattle.seize.specs.declared.rows.settle.Settle.{Settle}
 use Rattle.seize.specs.declared.rows.settle.Settling.TheVariants.{Over}
 use Rattle.seize.specs.Settle.{retiring}
 use Rattle.seize_straight.specs.Retiring.{settle_at}
-use Rattle.seize_shared.specs.Begun.{IsBegun, ended, left_with}
+use Rattle.seize_views.specs.Begun.{IsBegun, ended, left_with}
 use Rattle.seize_shared.specs.Made.{IsSettling}
-use Rattle.seize_shared.specs.declared.view.Becomes.{Becomes}
-use Rattle.seize_shared.specs.declared.view.View.TheVariants.{Settles}
-use Rattle.seize_shared.specs.declared.view.Why.TheVariants.{Retiring}
+use Rattle.seize_views.specs.declared.view.Becomes.{Becomes}
+use Rattle.seize_views.specs.declared.view.View.TheVariants.{Settles}
+use Rattle.seize_views.specs.declared.view.Why.TheVariants.{Retiring}
 use Rattle.seize_shared.proofs.Calls.{may_turn, settling_row}
 use Rattle.seize_shared.proofs.Straight.{Comes, has_ended, has_stopped, may_run}
 use Rattle.seize_shared.proofs.caller.Caller.retires.Given as given
