@@ -17,14 +17,12 @@ use Rattle.seize.specs.Settle.{settle_plan, plan_at, standing, drained_first}
 use Rattle.seize.specs.World.{World}
 use Rattle.seize_acts.proofs.Answers.{same_some}
 use Rattle.seize_seats.specs.State.{State, view_of}
-use Rattle.seize_seats.specs.Lendings.{Shown, IsValueOf}
+use Rattle.seize_seats.specs.Lendings.{Shown}
 use Rattle.seize_views.specs.Promises.{LookedAreShown}
 use Rattle.seize_views.specs.Rows.{IsReclaiming, IsLooked, Holds}
 use Rattle.seize_views.specs.Told.{shown_by}
 use Rattle.seize_views.specs.declared.view.View.{View}
 use Rattle.seize_views.specs.declared.view.View.TheVariants.{Settles}
-use Rattle.seize_views.specs.declared.view.Why.{Why}
-use Rattle.seize_views.specs.declared.view.Fixed.{Fixed}
 
 -- it looks at nothing
 abbrev pub IsNow : {T R : Type 0} → Then T R → Type 0
