@@ -1,14 +1,14 @@
 //! Blocks that have seats of their own, and so need no slot: one that was made, and one that was unlinked.
 ghost use Rattle.std.specs.Prelude.{◌≡◌, ◌<◌, ◌^◌, None, Some, IfOk, IfErr, IfSome};
 ghost use Rattle.seize_seats.specs.Lendings.{IsValueOf};
-ghost use Rattle.seize_shared.specs.Rows.{Holds};
+ghost use Rattle.seize_views.specs.Rows.{Holds};
 ghost use Rattle.seize_shared.specs.Standing.{brought_by, borne_by};
-ghost use Rattle.seize_shared.specs.declared.view.View.TheVariants.{Brings};
+ghost use Rattle.seize_views.specs.declared.view.View.TheVariants.{Brings};
 
 use crate::caller::{named, words_for};
 use crate::guard::Guard;
-use crate::rows::OfRows;
-use crate::view::Fixed;
+use seize_views::OfRows;
+use seize_views::Fixed;
 use seize::rows::Defers;
 use seize_blocks::{Blocks, Seat};
 use seize_words::{At, Link};

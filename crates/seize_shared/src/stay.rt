@@ -2,12 +2,12 @@
 ghost use Rattle.std.specs.Prelude.{◌≡◌, ◌≢◌, ◌<◌, ◌^◌, None, Some, IfOk, IfErr, IfNone, IfSome, true, false};
 ghost use Rattle.seize_shared.specs.Lent.{IsLent};
 ghost use Rattle.seize_shared.specs.Standing.{standing};
-ghost use Rattle.seize_shared.specs.declared.view.View.TheVariants.{Bears};
+ghost use Rattle.seize_views.specs.declared.view.View.TheVariants.{Bears};
 
 use crate::caller::Caller;
 use crate::owned::Unlinked;
-use crate::rows::OfRows;
-use crate::view::Fixed;
+use seize_views::OfRows;
+use seize_views::Fixed;
 use seize::rows::Defers;
 use seize_blocks::{Blocks, Seat};
 use seize_words::Fault;
