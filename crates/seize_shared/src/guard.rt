@@ -3,11 +3,10 @@ ghost use Rattle.std.specs.Prelude.{◌≡◌, ◌≢◌, ◌<◌, ◌^◌, ℕ,
 ghost use Rattle.seize_views.specs.declared.view.View.TheVariants.{Bears};
 
 use crate::owned::Unlinked;
-use seize_views::OfRows;
 use crate::stay::Stay;
-use seize_views::Fixed;
 use seize::rows::Defers;
 use seize_blocks::{Blocks, Seat};
+use seize_views::{Fixed, OfRows};
 use seize_words::Fault;
 use std::marker::PhantomData;
 

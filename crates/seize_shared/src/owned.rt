@@ -7,10 +7,9 @@ ghost use Rattle.seize_views.specs.declared.view.View.TheVariants.{Brings};
 
 use crate::caller::{named, words_for};
 use crate::guard::Guard;
-use seize_views::OfRows;
-use seize_views::Fixed;
 use seize::rows::Defers;
 use seize_blocks::{Blocks, Seat};
+use seize_views::{Fixed, OfRows};
 use seize_words::{At, Link};
 
 /// A block that was made, of its holder's alone: nobody else can reach it. It is spent, by taking it away, or by putting it at a root.

@@ -6,10 +6,9 @@ ghost use Rattle.seize_views.specs.declared.view.View.TheVariants.{Bears};
 
 use crate::caller::Caller;
 use crate::owned::Unlinked;
-use seize_views::OfRows;
-use seize_views::Fixed;
 use seize::rows::Defers;
 use seize_blocks::{Blocks, Seat};
+use seize_views::{Fixed, OfRows};
 use seize_words::Fault;
 
 /// A caller who holds a slot: whether its section is open, and which block was seen there, 0 for none. The slot is given up as this ends.

@@ -1,6 +1,6 @@
 //! The steps of a seat, or of two, that make no operation.
-use seize_views::{Fixed, View};
 use seize_blocks::{Meeting, Turn};
+use seize_views::{Fixed, View};
 
 /// Registering begins.
 pub(crate) struct Registering;
