@@ -1,8 +1,6 @@
 -- A settling as the row of a caller: it may take its next step, and is the one that its seat knows again.
 use Rattle.std.specs.Prelude.{◌==◌, Option, Some, None, IsSome, if◌then◌else◌}
 use Rattle.std.proofs.Common.{◌≡◌, ℕ, ◌<◌, Bool, true, false, refl, sym, subst, ap, ◌∙◌, eqb-true, arith}
-use Rattle.seize_words.specs.Mem.{Mem, value_at}
-use Rattle.seize.specs.World.{World}
 use Rattle.seize_words.specs.Op.{Op, Out, Rewrite}
 use Rattle.seize_words.specs.Plan.{Plan, Turn, Do, May, Steps}
 use Rattle.seize.specs.declared.rows.register.Registering.{Registering}
@@ -14,9 +12,7 @@ use Rattle.seize.specs.declared.rows.settle.Settling.TheVariants as at
 use Rattle.seize.specs.declared.rows.settle.Settled.{Settled}
 use Rattle.seize.specs.Register as register
 use Rattle.seize.specs.Settle.{settle_plan, plan_at}
-use Rattle.seize_acts.proofs.Answers.{same_some}
 use Rattle.seize_straight.specs.Going.{DropGoes}
-use Rattle.seize_seats.specs.State.{State, view_of}
 use Rattle.seize_seats.specs.Lendings.{Shown, IsValueOf}
 use Rattle.seize_views.specs.Rows.{Holds}
 use Rattle.seize_views.specs.Told.{shown_by, FollowsBy, GoesOn, told}
