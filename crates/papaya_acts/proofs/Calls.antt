@@ -33,10 +33,10 @@ use Rattle.papaya_scenes.proofs.Given.Finishes.Among.Countings.{countings_begin_
 use Rattle.papaya_scenes.proofs.Given.Finishes.Among.Machines.{machines_stand_among}
 use Rattle.papaya_scenes.proofs.Given.Finishes.Among.MachinesTold.{machines_told_among}
 use Rattle.papaya_scenes.proofs.Given.Finishes.Among.Rooms.{rooms_begin_among}
-use Rattle.papaya_scenes.proofs.Given.Finishes.Among.Sweeps.{sweeps_begin_among, walks_stop_among}
+use Rattle.papaya_scenes.proofs.Given.Finishes.Among.Sweeps.{sweeps_begin_among, sweeps_told_among, walks_stop_among}
 use Rattle.seize_acts.specs.Acts.{is_within}
 use Rattle.papaya_acts.specs.Acts.{Wanted, Get, Remove, Insert, TryToInsert, Compute, Update, UpdateOrInsert, TryToInsertWith, RemoveIf, MakeRoom, Count, GoOver, Answer, Nothing, OfCall, OfReply, OfAsking, BeginsCall, StepsCall, TellsCall, AsksCall, StopsCall, UnlessToCount, its, begun}
-use Rattle.papaya_acts.specs.Leads.{MayBe, AllStand, Led, call_at, call_steps}
+use Rattle.papaya_acts.specs.Leads.{MayBe, AllStand, Led, asked_on, call_at, call_steps}
 use Rattle.papaya_acts.proofs.Tests.{some_is, inside_is, its_class}
 use Rattle.papaya_scenes.proofs.NoCall.{none_is}
 use Rattle.papaya_scenes.specs.Replying.{scene_with, unless_stopped}
@@ -46,6 +46,13 @@ use Rattle.papaya_scenes.specs.Scene.{Scene}
 pub ready_is : (stage : Sweeping) → is_ready stage ≡ true → stage ≡ sweeping.Ready
 ready_is sweeping.Ready is = refl
 ready_is _ is = absurd (cc is)
+
+-- what was asked for its next pair has the machine that was asked
+pub asked_machine : {K V : Type 0} (u : UnderWay K V K) → machine_of (asked_on u) ≡ (machine_asked (machine_of u)).0
+asked_machine (OnKey k) = refl
+asked_machine (ForRoom r) = refl
+asked_machine (Counting sum) = refl
+asked_machine (OverAll o) = refl
 
 module _ {K V S : Type 0} (same : K → K → Bool) (hash : S → K → ℕ) (batch_size roots : ℕ) (slot : ℕ → ℕ) (s : Scene K V) (all : AllStand same hash batch_size roots slot s) (i m : ℕ) where
   abbrev Stands : Scene K V → Type 0
@@ -143,6 +150,20 @@ module _ {K V S : Type 0} (same : K → K → Bool) (hash : S → K → ℕ) (ba
       let here = both it.0 it.1 in
       came g it.0.0 it.0.1 here.0 here.1 found.0.0 found.0.1.0 found.0.1.1 it.2
 
+  -- what goes on as it was stands as it did
+  as_it_was : (u : UnderWay K V K) → s.calls m i ≡ Some u → Stands (scene_with m i u s)
+  as_it_was u has = subst (λ x. EndingsTogether V same same batch_size roots slot s.world s.maps x s.makers s.enders) (sym unchanged) all
+    where
+      unchanged : with_call s.calls m i (Some u) ≡ s.calls
+      unchanged = ap (λ x. with_call s.calls m i x) (sym has) ∙ (ap (λ x. with_at s.calls m x) (with_same (s.calls m) i) ∙ with_same s.calls m)
+
+  -- all stand together once a call was asked
+  pub asked_stands : (standing : Standing K) → s.maps m ≡ Some standing → (u : UnderWay K V K) → s.calls m i ≡ Some u → Stands (scene_with m i (asked_on u) s)
+  asked_stands standing stands (OverAll o) has = (sweeps_told_among V same same batch_size roots slot s.world s.maps s.calls s.makers s.enders all m standing stands i o has).next
+  asked_stands standing stands (OnKey k) has = as_it_was (OnKey k) has
+  asked_stands standing stands (ForRoom r) has = as_it_was (ForRoom r) has
+  asked_stands standing stands (Counting sum) has = as_it_was (Counting sum) has
+
   module _ (may : is_none (call_at s i m) ≡ false) where
     abbrev it : Standing K × UnderWay K V K
     it = (some_is (call_at s i m) may).0
@@ -156,20 +177,11 @@ module _ {K V S : Type 0} (same : K → K → Bool) (hash : S → K → ℕ) (ba
         (OfReply (machine_replied (machine_of it.1) reply).1, scene_with m i so.0 s, (it.0, here.0, it.1, so.0, here.1, so.1, refl, so.2, refl), so.3)
 
     pub call_asked : (told : Answer K V) × (n : Scene K V) × Led same hash batch_size roots slot (AsksCall i m) s told n × Stands n
-    call_asked =
-        let so = (machines_told_among V same same batch_size roots slot s.world s.maps s.calls s.makers s.enders all m it.0 here.0 i it.1 here.1).1 in
-        (OfAsking (machine_asked (machine_of it.1)).1, scene_with m i so.0 s, (it.1, so.0, here.1, so.1, refl, refl), so.2)
-
-    -- what is not given up is as it was
-    unchanged : with_call s.calls m i (Some it.1) ≡ s.calls
-    unchanged = ap (λ x. with_call s.calls m i x) (sym here.1) ∙ (ap (λ x. with_at s.calls m x) (with_same (s.calls m) i) ∙ with_same s.calls m)
-
-    goes_on : EndingsTogether V same same batch_size roots slot s.world s.maps (with_call s.calls m i (Some it.1)) s.makers s.enders
-    goes_on = subst (λ x. EndingsTogether V same same batch_size roots slot s.world s.maps x s.makers s.enders) (sym unchanged) all
+    call_asked = (OfAsking (machine_asked (machine_of it.1)).1, scene_with m i (asked_on it.1) s, (it.1, here.1, refl, refl), asked_stands it.0 here.0 it.1 here.1)
 
     stops : (u : UnderWay K V K) → it.1 ≡ u → (ready : Bool) → (machine_asked (machine_of u)).1 ≡ ready
         → EndingsTogether V same same batch_size roots slot s.world s.maps (with_call s.calls m i (unless_stopped ready it.1)) s.makers s.enders
-    stops u is false asked = goes_on
+    stops u is false asked = as_it_was it.1 here.1
     stops (OnKey k) is true asked = absurd (cc asked)
     stops (ForRoom r) is true asked = absurd (cc asked)
     stops (Counting sum) is true asked = absurd (cc asked)

@@ -30,7 +30,7 @@ use Rattle.papaya_scenes.specs.Given.Finishes.Machines.{machine_of}
 use Rattle.papaya_scenes.specs.Given.Finishes.Maps.{Standing}
 use Rattle.papaya_acts.specs.Acts.{Act, Answer, OfCall, OfReply, OfAsking, OfMaking, OfEnding, begun}
 use Rattle.papaya_acts.specs.Acts.{BeginsCall, StepsCall, TellsCall, AsksCall, StopsCall, BeginsMaking, StepsMaking, BeginsEnding, StepsEnding, BeginsRow, StepsRow}
-use Rattle.papaya_acts.specs.Leads.{MayBe, AllStand, Led, call_at}
+use Rattle.papaya_acts.specs.Leads.{MayBe, AllStand, Led, asked_on, call_at}
 use Rattle.papaya_scenes.specs.Beginning.{Begins}
 use Rattle.papaya_scenes.specs.Ending.{EndingBeginsTo, EndingLeads}
 use Rattle.papaya_scenes.specs.Held.{Held, IsAt}
@@ -105,7 +105,9 @@ module _ {K V S : Type 0} (same : K → K → Bool) (by_hasher : S → K → ℕ
       × (new.memory ≡ old.memory) × IsAt same hash new (scene_with m i (begun same slot_of standing i wanted) s)
   LeadsAs (StepsCall i m g) s answer old new = (told : CallProgress (Node K V)) × (answer ≡ OfCall told) × StepLeads same hash i told s old new
   LeadsAs (TellsCall i m reply) s answer old new = (result : Result Unit (Reply V)) × (answer ≡ OfReply result) × ReplyLeads same hash i reply result s old new
-  LeadsAs (AsksCall i m) s answer old new = (ready : Bool) × (answer ≡ OfAsking ready) × AskLeads same hash i ready s old new
+  LeadsAs (AsksCall i m) s answer old new =
+      (ready : Bool) × (answer ≡ OfAsking ready) × (leads : AskLeads same hash i ready s old new)
+      × ((map : ℕ) (u : UnderWay K V K) (here : s.calls map i ≡ Some u) → (leads map u here).0 ≡ asked_on u)
   LeadsAs (StopsCall i m) s answer old new = (stopped : Bool) × (answer ≡ OfAsking stopped) × StopLeads same hash i stopped s old new
   LeadsAs (BeginsMaking i map hasher given places) s answer old new =
       (new.memory ≡ old.memory) × IsAt same hash new (scene_making i (making_begun (by_hasher hasher) old.roots map given places) s)

@@ -20,7 +20,8 @@ use Rattle.papaya_scenes.specs.Given.Finishes.Maps.{Standing, with_call}
 use Rattle.papaya_acts.specs.Acts.{Answer, Wanted, Get, Remove, Insert, TryToInsert, Compute, Update, UpdateOrInsert, TryToInsertWith, RemoveIf, MakeRoom, Count, GoOver, begun}
 use Rattle.papaya_acts.specs.Acts.{Act, BeginsCall, StepsCall, TellsCall, AsksCall, StopsCall}
 use Rattle.papaya_acts.specs.AsSteps.{LeadsAs, changed_by, changed_of, held_in}
-use Rattle.papaya_acts.specs.Leads.{AllStand, CallCame, Led, call_at}
+use Rattle.papaya_acts.specs.Leads.{AllStand, CallCame, Led, asked_on, call_at}
+use Rattle.papaya_acts.proofs.Calls.{asked_machine}
 use Rattle.papaya_acts.proofs.AsSteps.There.{Hashed, Stand, calls_there, held_as, one_on_slot}
 use Rattle.papaya_acts.proofs.AsSteps.Told.{of_some, was_told}
 use Rattle.papaya_acts.proofs.Tests.{its_class}
@@ -144,11 +145,15 @@ module _ {K V S : Type 0} (same : K → K → Bool) (by_hasher : S → K → ℕ
       (next : UnderWay K V K) × (machine_of next ≡ (machine_asked (machine_of u)).0) × (ready ≡ (machine_asked (machine_of u)).1)
       × (s.world.memory ≡ s.world.memory) × IsAt same hash (held_in batch_size roots NoChange s) (scene_with k i next s)
 
+  abbrev AskedOn : Bool → ℕ → UnderWay K V K → Type 0
+  AskedOn ready k u = (so : Asked ready k u) × (so.0 ≡ asked_on u)
+
   pub asked_as : (told : Answer K V) → Led same by_hasher batch_size roots slot_of (AsksCall i m) s told n → Leads (AsksCall i m) told NoChange n
-  asked_as told (u, next, here, machine_is, told_is, is) =
-      onto (AsksCall i m) told NoChange (scene_with m i next s) is
-      (λ stand. let there = calls_there same hash batch_size roots s before at (with_call s.calls m i (Some next)) NoChange stand in
-      (((machine_asked (machine_of u)).1, told_is, one_call u here (Asked (machine_asked (machine_of u)).1) (next, machine_is, refl, refl, there)), there))
+  asked_as told (u, here, told_is, is) =
+      onto (AsksCall i m) told NoChange (scene_with m i (asked_on u) s) is
+      (λ stand. let there = calls_there same hash batch_size roots s before at (with_call s.calls m i (Some (asked_on u))) NoChange stand in
+      let so = one_call u here (AskedOn (machine_asked (machine_of u)).1) ((asked_on u, asked_machine u, refl, refl, there), refl) in
+      (((machine_asked (machine_of u)).1, told_is, λ k v has. (so k v has).0, λ k v has. (so k v has).1), there))
 
   abbrev Stopped : Bool → ℕ → UnderWay K V K → Type 0
   Stopped stopped k u =
