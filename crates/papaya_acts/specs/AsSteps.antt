@@ -163,9 +163,10 @@ ActsLeadAsSteps {K} {S} V same by_hasher hash batch_size roots =
     → (act : Act K V S) → IsOwn by_hasher hash act → MayBe same by_hasher batch_size roots slot_of act s → (told : Answer K V) → Led same by_hasher batch_size roots slot_of act s told n
     → LeadsAs same by_hasher hash act s told n (held_in batch_size roots before s) (held_in batch_size roots (changed_by same act s) n) × IsAt same hash (held_in batch_size roots (changed_by same act s) n) n
 
--- And so does a step of a caller that reclaims all.
+-- And so does a step of a caller that reclaims all, and to that scene.
 abbrev pub ReclaimingLeadsAsSteps : {K : Type 0} (V : Type 0) (same : K → K → Bool) (hash : ℕ → K → ℕ) (batch_size roots : ℕ) → Type 0
 ReclaimingLeadsAsSteps {K} V same hash batch_size roots =
     (s n : Scene K V) (before : Changed) (i : ℕ) (lists : ℕ → List ℕ) (c : ReclaimAll) → IsReclaiming same hash (held_in batch_size roots before s) s i lists c
     → (g : Grant) (end : Settled (Node K V)) (lists2 : ℕ → List ℕ) (c2 : ReclaimAll) → ReclaimedOn V same batch_size roots slot_of s i lists c g end n lists2 c2
-    → ReclaimingLeads same hash s i lists (held_in batch_size roots before s) (held_in batch_size roots (changed_of s.world.memory g (reclaim_all_plan deferred_word was_left c)) n) c c2 end
+    → (leads : ReclaimingLeads same hash s i lists (held_in batch_size roots before s) (held_in batch_size roots (changed_of s.world.memory g (reclaim_all_plan deferred_word was_left c)) n) c c2 end)
+    × (n ≡ record s { world = leads.1.w2; maps = leads.1.maps2 })
