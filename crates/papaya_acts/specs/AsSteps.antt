@@ -1,4 +1,5 @@
 -- A kind of step is a constructor of what is done: each act leads where a step of its kind does, of what is held before and after it.
+use Rattle.std.specs.Result.{is_err}
 use Rattle.std.specs.Prelude.{◌≡◌, ℕ, Bool, List, Option, Some, None, Result}
 use Rattle.std.specs.Option.{option_map_or}
 use Rattle.papaya_scenes.specs.Given.SeizeWords.Mem.{Mem}
@@ -133,7 +134,7 @@ module _ {K V S : Type 0} (same : K → K → Bool) (by_hasher : S → K → ℕ
       × ((map : ℕ) (u : UnderWay K V K) (here : s.calls map i ≡ Some u) → (let to = leads map u here in n ≡ scene_after same s old new map i to.0 u to.1 told to.4))
   LeadsAs (TellsCall i m reply) s answer n old new =
       (result : Result Unit (Reply V)) × (answer ≡ OfReply result) × (leads : ReplyLeads same hash i reply result s old new)
-      × ((map : ℕ) (u : UnderWay K V K) (here : s.calls map i ≡ Some u) → n ≡ scene_with map i (leads map u here).1 s)
+      × ((map : ℕ) (u : UnderWay K V K) (here : s.calls map i ≡ Some u) → (is_err result ≡ true → (leads map u here).1 ≡ u) × (n ≡ scene_with map i (leads map u here).1 s))
   LeadsAs (AsksCall i m) s answer n old new =
       (ready : Bool) × (answer ≡ OfAsking ready) × (leads : AskLeads same hash i ready s old new)
       × ((map : ℕ) (u : UnderWay K V K) (here : s.calls map i ≡ Some u) → ((leads map u here).0 ≡ asked_on u) × (n ≡ scene_with map i (leads map u here).0 s))

@@ -2,6 +2,7 @@
 use Rattle.std.specs.Prelude.{◌≡◌, ◌≢◌, ◌⊎◌, ℕ, ◌+◌, ◌<◌, ◌≤◌, ◌^◌, max, Bool, true, false, [], ◌∷◌, ◌++◌, Option, Some, None}
 use Rattle.std.specs.Int.{IsPowerOfTwo}
 use Rattle.std.specs.Option.{is_none}
+use Rattle.std.specs.Result.{is_err}
 use Rattle.papaya_scenes.specs.Given.SeizeWords.Mem.{Mem, value_at}
 use Rattle.papaya_scenes.specs.Given.Seize.World.{World, Begin, Step, Happens, with_at}
 use Rattle.papaya_scenes.specs.Given.Seize.declared.progress.Progress.{Progress}
@@ -136,7 +137,7 @@ module _ {K V S : Type 0} (same : K → K → Bool) (hash : S → K → ℕ) (ba
   Led (TellsCall i m reply) s told n =
       (standing : Standing K) × (s.maps m ≡ Some standing) × (u next : UnderWay K V K) × (s.calls m i ≡ Some u)
       × (machine_of next ≡ (machine_replied (machine_of u) reply).0) × (told ≡ OfReply (machine_replied (machine_of u) reply).1)
-      × ToldOfKind V same same batch_size roots slot standing i u reply next × (n ≡ scene_with m i next s)
+      × (ToldOfKind V same same batch_size roots slot standing i u reply next × (is_err (machine_replied (machine_of u) reply).1 ≡ true → next ≡ u)) × (n ≡ scene_with m i next s)
   Led (AsksCall i m) s told n =
       (u : UnderWay K V K) × (s.calls m i ≡ Some u) × (told ≡ OfAsking (machine_asked (machine_of u)).1) × (n ≡ scene_with m i (asked_on u) s)
   Led (StopsCall i m) s told n =

@@ -1,5 +1,6 @@
 -- What callers do with calls leads where a step of its kind does.
 use Rattle.std.specs.Prelude.{◌≢◌, Option, Some, Result}
+use Rattle.std.specs.Result.{is_err}
 use Rattle.std.proofs.Common.{◌≡◌, ◌⊎◌, ℕ, Bool, inl, inr, refl, sym, ap, subst, ◌∙◌}
 use Rattle.std.proofs.lemmas.Bool.{cases_eq}
 use Rattle.papaya_scenes.specs.Given.SeizeWords.Plan.{Plan}
@@ -139,13 +140,13 @@ module _ {K V S : Type 0} (same : K → K → Bool) (by_hasher : S → K → ℕ
       × (s.world.memory ≡ s.world.memory) × IsAt same hash (held_in batch_size roots NoChange s) (scene_with k i next s)
 
   abbrev RepliedTo : UnderWay K V K → Reply V → Result Unit (Reply V) → ℕ → UnderWay K V K → Type 0
-  RepliedTo next reply result k u = (so : Replied reply result k u) × (scene_with m i next s ≡ scene_with k i so.1 s)
+  RepliedTo next reply result k u = (so : Replied reply result k u) × (is_err result ≡ true → so.1 ≡ u) × (scene_with m i next s ≡ scene_with k i so.1 s)
 
   pub told_as : (reply : Reply V) (told : Answer K V) → Led same by_hasher batch_size roots slot_of (TellsCall i m reply) s told n → Leads (TellsCall i m reply) told NoChange n
   told_as reply told (standing, stands, u, next, here, machine_is, told_is, kind, is) =
       onto (TellsCall i m reply) told NoChange (scene_with m i next s) is
       (λ stand. let there = calls_there same hash batch_size roots s before at (with_call s.calls m i (Some next)) NoChange stand in
-      let so = one_call u here (RepliedTo next reply (machine_replied (machine_of u) reply).1) ((standing, next, stands, machine_is, refl, kind, refl, there), refl) in
+      let so = one_call u here (RepliedTo next reply (machine_replied (machine_of u) reply).1) ((standing, next, stands, machine_is, refl, kind.0, refl, there), kind.1, refl) in
       (((machine_replied (machine_of u) reply).1, told_is, λ k v has. (so k v has).0, λ k v has. (so k v has).1), there))
 
   abbrev Asked : Bool → ℕ → UnderWay K V K → Type 0
