@@ -1,6 +1,6 @@
 -- A sweep stands to take a reply only where its step has said that it asks.
 use Rattle.std.specs.Prelude.{◌≡◌, ℕ, ◌==◌, ◌&&◌, Bool, true, false, Some, Ok, Err, if◌then◌else◌}
-use Rattle.std.proofs.Common.{refl, ap, subst}
+use Rattle.std.proofs.Common.{refl, sym, subst}
 use Rattle.papaya_moments.specs.Given.SeizeWords.Op.{Out, Found, Stored, Exchanged, Made, Taken, Roomed}
 use Rattle.papaya_moments.specs.Given.SeizeWords.Plan.{plan_as}
 use Rattle.papaya_moments.specs.Given.SeizeWords.Word.{block_in}
@@ -45,7 +45,7 @@ TakesNone _ = Unit {0}
 
 module _ (K V : Type 0) (p : Sweep) where
   -- if it does, it was said that it asks
-  abbrev AsksAloud : Sweep × Swept (Node K V) → Type 0
+  abbrev pub AsksAloud : Sweep × Swept (Node K V) → Type 0
   AsksAloud (q, ends.Asks word) = Unit {0}
   AsksAloud (q, _) = TakesNone q.stands
 
@@ -125,7 +125,7 @@ module _ (K V : Type 0) (p : Sweep) where
   copied_aloud (c, outcome.Done root) = telling_aloud (entering p root)
   copied_aloud (c, outcome.Refused fault) = tt
 
-  from : (hash : K → ℕ) (stands : Sweeping) → p.stands ≡ stands → AlwaysOf AsksAloud (plan_at hash p stands)
+  pub from : (hash : K → ℕ) (stands : Sweeping) → p.stands ≡ stands → AlwaysOf AsksAloud (plan_at hash p stands)
   from hash at.Reads is = root_aloud (subst TakesNone (sym is) tt)
   from hash at.Follows is = next_aloud (subst TakesNone (sym is) tt)
   from hash (at.Copies copier) is = always_plan_as AsksAloud (copied p) copied_aloud (copier_plan hash copier)

@@ -2,6 +2,8 @@
 use Rattle.std.specs.Prelude.{◌≡◌, ℕ, ◌==◌, Bool, true, false, nat_lt, ◌&&◌, Option, Some, None, Result, Ok, Err, if◌then◌else◌}
 use Rattle.std.proofs.Common.{refl, sym, subst}
 use Rattle.papaya_moments.specs.Given.SeizeWords.Plan.{plan_as}
+use Rattle.papaya_moments.specs.Given.SeizeWords.declared.fault.Fault.TheVariants.{RemoveNothing}
+use Rattle.papaya_moments.specs.Given.Tables.declared.marks.TheConstants.{TOMBSTONE}
 use Rattle.papaya_moments.specs.Given.Tables.declared.node.Node.{Node}
 use Rattle.papaya_moments.specs.Given.Tables.declared.setting.Setting.{Setting}
 use Rattle.papaya_moments.specs.Given.Resize.Sum.{sum_plan}
@@ -84,6 +86,33 @@ module _ {K V : Type 0} where
   as_sweep p (q, swept_as.Done) so = so
   as_sweep p (q, swept_as.Refused fault) so = so
 
+-- of sweeps
+sweep_refuses : {V : Type 0} (stands : Sweeping) (c : Sweep) (said : Reply V) → sweeps.TakesNone stands → (sweep_told stands c said).1 ≡ Ok tt → ⊥
+sweep_refuses (sweeping.Asks word) c said none takes = none
+sweep_refuses _ c said none takes = cc takes
+
+further_none : (c : Sweep) → sweeps.TakesNone (further c).stands
+further_none c = by (nat_lt (past c).place c.table.len) (removes c.purpose && c.met)
+  where
+    by : (b d : Bool) → sweeps.TakesNone (if b then sweeping.Words else (if d then sweeping.Follows else sweeping.Over))
+    by true d = tt
+    by false true = tt
+    by false false = tt
+
+sweep_none : {V : Type 0} (stands : Sweeping) (c : Sweep) → c.stands ≡ stands → (said : Reply V) → (sweep_told stands c said).1 ≡ Ok tt → sweeps.TakesNone (sweep_told stands c said).0.stands
+sweep_none (sweeping.Asks word) c is reply.Yes e = subst (λ (x : Sweeping). sweeps.TakesNone (reply_at x c true).stands) (sym is) (further_none c)
+sweep_none (sweeping.Asks word) c is reply.No e = subst (λ (x : Sweeping). sweeps.TakesNone (reply_at x c false).stands) (sym is) tt
+sweep_none (sweeping.Asks word) c is _ e = absurd (cc e)
+sweep_none _ c is said e = absurd (cc e)
+
+next_none : (stands : Sweeping) (c : Sweep) → sweeps.TakesNone c.stands → sweeps.TakesNone (next_at stands c).stands
+next_none sweeping.Ready c none = by (nat_lt c.place c.table.len)
+  where
+    by : (b : Bool) → sweeps.TakesNone (if b then sweeping.Words else sweeping.Over)
+    by true = tt
+    by false = tt
+next_none _ c none = none
+
 -- After a step a machine takes no reply, unless it was said that it asks.
 module _ {K V : Type 0} (same : K → K → Bool) (hash : K → ℕ) (old new : Held K V) (after : Machine K V K) (said : Progress (Node K V)) where
   steps_aloud : (machine : Machine K V K) → StepsFrom same hash machine old new after said → AsksAloud (after, said)
@@ -115,10 +144,6 @@ module _ {K V : Type 0} where
   key_refuses (at.Asks (asking.Absent gap)) c said none takes = none
   key_refuses (at.Asks (asking.Present word)) c said none takes = none
   key_refuses _ c said none takes = cc takes
-
-  sweep_refuses : (stands : Sweeping) (c : Sweep) (said : Reply V) → sweeps.TakesNone stands → (sweep_told stands c said).1 ≡ Ok tt → ⊥
-  sweep_refuses (sweeping.Asks word) c said none takes = none
-  sweep_refuses _ c said none takes = cc takes
 
   pub refuses : (machine : Machine K V K) (said : Reply V) → TakesNone machine → (machine_replied machine said).1 ≡ Ok tt → ⊥
   refuses (kinds.Key c) said none takes = key_refuses c.stands c said none takes
@@ -156,6 +181,7 @@ module _ {K V : Type 0} where
   absent_none takes.Values c gap _ e = absurd (cc e)
   absent_none takes.Changes c gap _ e = absurd (cc e)
   absent_none takes.Choices c gap said e = absurd (cc e)
+  absent_none takes.Nothing c gap said e = absurd (cc e)
 
   present_none : (its : Takes) (c : KeyCall K V K) (word : ℕ) (said : Reply V) → (present_told its c word said).1 ≡ Ok tt → keys.TakesNone (present_told its c word said).0.stands
   present_none takes.Values c word (reply.Insert value) e = tt
@@ -167,25 +193,12 @@ module _ {K V : Type 0} where
   present_none takes.Values c word _ e = absurd (cc e)
   present_none takes.Changes c word _ e = absurd (cc e)
   present_none takes.Choices c word _ e = absurd (cc e)
+  present_none takes.Nothing c word said e = absurd (cc e)
 
   key_none : (stands : Calling) (c : KeyCall K V K) (said : Reply V) → (told_at stands c said).1 ≡ Ok tt → keys.TakesNone (told_at stands c said).0.stands
   key_none (at.Asks (asking.Absent gap)) c said e = absent_none c.replies.takes c gap said e
   key_none (at.Asks (asking.Present word)) c said e = present_none c.replies.takes c word said e
   key_none _ c said e = absurd (cc e)
-
-  further_none : (c : Sweep) → sweeps.TakesNone (further c).stands
-  further_none c = by (nat_lt (past c).place c.table.len) (removes c.purpose && c.met)
-    where
-      by : (b d : Bool) → sweeps.TakesNone (if b then sweeping.Words else (if d then sweeping.Follows else sweeping.Over))
-      by true d = tt
-      by false true = tt
-      by false false = tt
-
-  sweep_none : (stands : Sweeping) (c : Sweep) → c.stands ≡ stands → (said : Reply V) → (sweep_told stands c said).1 ≡ Ok tt → sweeps.TakesNone (sweep_told stands c said).0.stands
-  sweep_none (sweeping.Asks word) c is reply.Yes e = subst (λ (x : Sweeping). sweeps.TakesNone (reply_at x c true).stands) (sym is) (further_none c)
-  sweep_none (sweeping.Asks word) c is reply.No e = subst (λ (x : Sweeping). sweeps.TakesNone (reply_at x c false).stands) (sym is) tt
-  sweep_none (sweeping.Asks word) c is _ e = absurd (cc e)
-  sweep_none _ c is said e = absurd (cc e)
 
   pub took_none : (machine : Machine K V K) (said : Reply V) → (machine_replied machine said).1 ≡ Ok tt → TakesNone (machine_replied machine said).0
   took_none (kinds.Key c) said e = key_none c.stands c said e
@@ -194,14 +207,6 @@ module _ {K V : Type 0} where
   took_none (kinds.Count c) said e = tt
 
   -- and so it is where a walk goes on, and as a call begins.
-  next_none : (stands : Sweeping) (c : Sweep) → sweeps.TakesNone c.stands → sweeps.TakesNone (next_at stands c).stands
-  next_none sweeping.Ready c none = by (nat_lt c.place c.table.len)
-    where
-      by : (b : Bool) → sweeps.TakesNone (if b then sweeping.Words else sweeping.Over)
-      by true = tt
-      by false = tt
-  next_none _ c none = none
-
   pub asked_none : (machine : Machine K V K) → TakesNone machine → TakesNone (machine_asked machine).0
   asked_none (kinds.Key c) none = none
   asked_none (kinds.Sweep c) none = next_none c.stands c none

@@ -1,0 +1,6 @@
+pub mod Aloud
+pub mod AloudSweeps
+pub mod TakesReply
+pub mod Like
+pub mod CallsGo
+pub mod OthersGo

@@ -1,0 +1,2 @@
+//! Histories of lists of acts are linearizable.
+#![tactic(auto)]
