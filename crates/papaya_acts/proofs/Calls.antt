@@ -74,6 +74,7 @@ module _ {K V Q : Type 0} (c : KeyCall K V Q) where
   absent_refused takes.Values gap _ e = refl
   absent_refused takes.Changes gap _ e = refl
   absent_refused takes.Choices gap reply e = refl
+  absent_refused takes.Nothing gap reply e = refl
 
   present_refused : (takes : Takes) (word : ℕ) (reply : Reply V) → is_err (present_told takes c word reply).1 ≡ true → (present_told takes c word reply).0 ≡ c
   present_refused takes.Values word (reply.Insert value) e = absurd (cc e)
@@ -85,6 +86,7 @@ module _ {K V Q : Type 0} (c : KeyCall K V Q) where
   present_refused takes.Values word _ e = refl
   present_refused takes.Changes word _ e = refl
   present_refused takes.Choices word _ e = refl
+  present_refused takes.Nothing word reply e = refl
 
   key_refused : (stands : Calling) (reply : Reply V) → is_err (told_at stands c reply).1 ≡ true → (told_at stands c reply).0 ≡ c
   key_refused (at.Asks (asking.Absent gap)) reply e = absent_refused c.replies.takes gap reply e

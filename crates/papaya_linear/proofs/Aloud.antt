@@ -256,7 +256,7 @@ module _ {K V Q : Type 0} where
     filled_so : (word : ℕ) (out : Out (Node K V)) → Always AsksAloud (filled p word out)
     filled_so word (Made (Ok block)) = tt
     filled_so word (Made (Err back)) = tt
-    filled_so word (Taken value) = none
+    filled_so word (Taken value) = tt
     filled_so word (Found found) = none
     filled_so word Stored = none
     filled_so word (Exchanged r) = none

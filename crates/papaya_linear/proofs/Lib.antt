@@ -4,3 +4,5 @@ pub mod TakesReply
 pub mod Like
 pub mod CallsGo
 pub mod OthersGo
+pub mod Tied
+pub mod Heard

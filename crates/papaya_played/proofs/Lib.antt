@@ -1,4 +1,4 @@
-mod Alike
+pub mod Alike
 mod Calls
 mod Makings
 mod Rows

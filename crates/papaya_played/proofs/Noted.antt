@@ -64,7 +64,7 @@ use Rattle.papaya_played.proofs.PlayedAs.{PlayedAs, ReclaimedAs, played_as, recl
 use Rattle.papaya_played.proofs.Along.{AllFit, AreOfTheirOwn, At, Is, StaysSo, wherever}
 
 -- numbers that differ are names that do
-apart : (i j : ℕ) → j ≢ i → is_same (named i) (named j) ≡ false
+pub apart : (i j : ℕ) → j ≢ i → is_same (named i) (named j) ≡ false
 apart i j ne = by (i == j) refl
   where
     by : (q : Bool) → (i == j) ≡ q → is_same (named i) (named j) ≡ false
@@ -77,7 +77,7 @@ module _ {K V : Type 0} where
   IsNoted m on i call = (u : UnderWay K V) × (call_of (named i) m ≡ Some u) × (u.map ≡ on) × (u.call ≡ call)
 
   -- a caller has one call
-  one_call : (m : Moment K V) (on other i : ℕ) (call called : Call K V) → IsNoted m on i call → IsNoted m other i called → on ≡ other
+  pub one_call : (m : Moment K V) (on other i : ℕ) (call called : Call K V) → IsNoted m on i call → IsNoted m other i called → on ≡ other
   one_call m on other i call called (u, here, map_is, call_is) (v, there, other_is, called_is) =
       let same : u ≡ v = (let both : Some u ≡ Some v = sym here ∙ there in cc both) in sym map_is ∙ ap (λ (w : UnderWay K V). w.map) same ∙ other_is
 
@@ -128,7 +128,7 @@ module _ {K V : Type 0} where
   registers_at : (s : ℕ) → OfNoCall (Registers s)
   registers_at s = (λ o calls. refl, λ m. refl)
 
-  making_none : (on : ℕ) (before next : NewMap) → OfNoCall (making_deed on before next)
+  pub making_none : (on : ℕ) (before next : NewMap) → OfNoCall (making_deed on before next)
   making_none on before next = by (has_root before.stands) (has_root next.stands)
     where
       by : (b c : Bool)
@@ -138,7 +138,7 @@ module _ {K V : Type 0} where
       by false true = (λ o calls. refl, λ m. refl)
       by false false = (λ o calls. refl, λ m. refl)
 
-  ending_none : {T : Type 0} (f : Ending) (told : Settled T) → OfNoCall (ending_deed f told)
+  pub ending_none : {T : Type 0} (f : Ending) (told : Settled T) → OfNoCall (ending_deed f told)
   ending_none f told = if_none (is_over told) (MapGoes f.map) (Ends f.map) (λ o calls. refl, λ m. refl) (λ o calls. refl, λ m. refl)
 
   registers_none : (stands : Registering) (s : ℕ) → OfNoCall (registers_as stands s)
@@ -158,7 +158,7 @@ module _ {K V : Type 0} where
       if_none c.frees (Leaves c.slot) (if c.becomes == ACTIVE then Opens c.slot else Leaves c.slot) (leaves_slot c.slot)
       (if_none (c.becomes == ACTIVE) (Opens c.slot) (Leaves c.slot) (opens c.slot) (leaves_slot c.slot))
 
-  row_none : (row : SlotRow) → OfNoCall (row_deed row)
+  pub row_none : (row : SlotRow) → OfNoCall (row_deed row)
   row_none (rows.Registers c) = registers_none c.stands c.slot
   row_none (rows.Enters c) = opens c.slot
   row_none (rows.Leaves c) = leaves_none c c.stands
@@ -206,7 +206,7 @@ module _ {K V : Type 0} where
   )
 
   -- a step that goes on tells no end
-  not_over : (known : Known) (kind : Kind) (value : Option V) (told : CallProgress (Node K V)) → has_ended told ≡ false → ends_call (outcome_of known kind value told) ≡ false
+  pub not_over : (known : Known) (kind : Kind) (value : Option V) (told : CallProgress (Node K V)) → has_ended told ≡ false → ends_call (outcome_of known kind value told) ≡ false
   not_over known kind value comes.Goes e = refl
   not_over known kind value (comes.Gave back) e = refl
   not_over known kind value (comes.Unstored back) e = refl
@@ -231,10 +231,10 @@ module _ {K V : Type 0} where
       by false e some = (e, ap (λ (v : Calling K V). v.call) (sym (same_some c2 d some)) ∙ is)
 
 module _ {X : Type 0} (calls : ℕ → ℕ → Option X) (m i : ℕ) (it : Option X) (on j : ℕ) where
-  at_it : on ≡ m → j ≡ i → with_call calls m i it on j ≡ it
+  pub at_it : on ≡ m → j ≡ i → with_call calls m i it on j ≡ it
   at_it e f = ap (λ (k : ℕ). with_call calls m i it k j) e ∙ ap (λ (k : ℕ). with_call calls m i it m k) f ∙ its_call calls m i it
 
-  at_other_map : on ≢ m → with_call calls m i it on j ≡ calls on j
+  pub at_other_map : on ≢ m → with_call calls m i it on j ≡ calls on j
   at_other_map ne = ap (λ (f : ℕ → Option X). f j) (at_other calls m (with_at (calls m) i it) on ne)
 
 module _ {K V S : Type 0} where
@@ -323,7 +323,7 @@ module _ {K V S : Type 0} where
             by (inl e) (inl f) = absurd (let both : None ≡ Some d = sym (at_it x.now.calls m i None on j f e) ∙ has in cc both)
 
   -- a making that goes on leaves calls as they are
-  made_calls : (i : ℕ) (b : Making S) (machine : NewMap) (told : Progress Setting) (now : Now K V S) (on j : ℕ) → (made_on i b machine told now).calls on j ≡ now.calls on j
+  pub made_calls : (i : ℕ) (b : Making S) (machine : NewMap) (told : Progress Setting) (now : Now K V S) (on j : ℕ) → (made_on i b machine told now).calls on j ≡ now.calls on j
   made_calls i b machine progress.Goes now on j = refl
   made_calls i b machine progress.Waits now on j = refl
   made_calls i b machine (progress.Done setting) now on j = refl
