@@ -66,7 +66,7 @@ asked_machine (OverAll o) = refl
 
 -- a machine that does not take a reply is as it was
 module _ {K V Q : Type 0} (c : KeyCall K V Q) where
-  absent_refused : (takes : Takes) (gap : Gap) (said : Reply V) → is_err (absent_told takes c gap reply).1 ≡ true → (absent_told takes c gap reply).0 ≡ c
+  absent_refused : (takes : Takes) (gap : Gap) (said : Reply V) → is_err (absent_told takes c gap said).1 ≡ true → (absent_told takes c gap said).0 ≡ c
   absent_refused takes.Values gap (reply.Insert value) e = absurd (cc e)
   absent_refused takes.Changes gap (reply.Insert value) e = absurd (cc e)
   absent_refused takes.Changes gap reply.Remove e = absurd (cc e)

@@ -1,6 +1,6 @@
 -- A kind of step is a constructor of what is done: each act leads where a step of its kind does, of what is held before and after it.
 use Rattle.std.specs.Result.{is_err}
-use Rattle.std.specs.Prelude.{◌≡◌, ℕ, Bool, List, Option, Some, None, Result}
+use Rattle.std.specs.Prelude.{◌≡◌, ℕ, Bool, List, Option, Some, None, Result, true, ◌++◌, [], ◌∷◌}
 use Rattle.std.specs.Option.{option_map_or}
 use Rattle.papaya_scenes.specs.Given.SeizeWords.Mem.{Mem}
 use Rattle.papaya_scenes.specs.Given.SeizeWords.Op.{Op, Out}

@@ -6,3 +6,5 @@ pub mod CallsGo
 pub mod OthersGo
 pub mod Tied
 pub mod Heard
+pub mod CallSteps
+pub mod CallEntries

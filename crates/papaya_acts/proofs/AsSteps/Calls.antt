@@ -1,7 +1,7 @@
 -- What callers do with calls leads where a step of its kind does.
 use Rattle.std.specs.Prelude.{◌≢◌, Option, Some, Result}
 use Rattle.std.specs.Result.{is_err}
-use Rattle.std.proofs.Common.{◌≡◌, ◌⊎◌, ℕ, Bool, inl, inr, refl, sym, ap, subst, ◌∙◌}
+use Rattle.std.proofs.Common.{◌≡◌, ◌⊎◌, ℕ, Bool, true, inl, inr, refl, sym, ap, subst, ◌∙◌}
 use Rattle.std.proofs.lemmas.Bool.{cases_eq}
 use Rattle.papaya_scenes.specs.Given.SeizeWords.Plan.{Plan}
 use Rattle.seize_acts.specs.Answers.{Grant, then_on}
