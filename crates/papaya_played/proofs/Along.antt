@@ -171,7 +171,7 @@ module _ {K S : Type 0} (V : Type 0) (same : K → K → Bool) (by_hasher : S �
           to.1,
           to.2,
           stepped_by size p n g told done at,
-          so.steps p n x to.0 told g done is to.2 at leads to.1 here,
+          so.steps p n x to.0 told g done is to.2 at leads.0 leads.1 to.1 here,
         )
 
     module _ (course : Course V same by_hasher batch_size roots slot_of) where

@@ -386,7 +386,7 @@ module _ {K S : Type 0} (V : Type 0) (same : K → K → Bool) (by_hasher : S �
     acts = λ p n x y act told own fits none none_then is is_then at may led leads at_then played noted.
         acts_note same by_hasher batch_size roots aborts x y noted act (played_as same by_hasher batch_size roots aborts x y act played) (free p x is act may);
     begins = λ p n x i c none begun same_scene all_free is is_then at noted. noted;
-    steps = λ p n x y told g st is is_then at leads played noted.
+    steps = λ p n x y told g st is is_then at leads comes played noted.
         reclaiming_notes same by_hasher batch_size roots aborts x y noted g (reclaimed_as same by_hasher batch_size roots aborts x y g played);
   }
 
