@@ -6,5 +6,6 @@ pub mod CallsGo
 pub mod OthersGo
 pub mod Tied
 pub mod Heard
+pub mod Comes
 pub mod CallSteps
 pub mod CallEntries
