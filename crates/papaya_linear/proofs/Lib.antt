@@ -7,6 +7,7 @@ pub mod OthersGo
 pub mod Tied
 pub mod Heard
 pub mod Begun
+pub mod Taken
 pub mod Comes
 pub mod CallSteps
 pub mod CallEntries
