@@ -11,3 +11,4 @@ pub mod Taken
 pub mod Comes
 pub mod CallSteps
 pub mod CallEntries
+pub mod StepsPlayed

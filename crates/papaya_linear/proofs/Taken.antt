@@ -45,13 +45,13 @@ module _ {K V Q : Type 0} where
     refused (at.Asks (asking.Present word)) p is e = not_present p word (subst (λ (x : Takes). (present_told x p word told).1 ≡ Ok tt) is e)
     refused _ p is e = cc e
 
-  taken_choice : (k : K) (p : KeyCall K V Q) (r : Reply V) → p.replies.takes ≡ takes.Choices → (told_at p.stands p (as_told r)).1 ≡ Ok tt → IsTaken (RemoveIf {V = V} k) r
+  taken_choice : (k : K) (p : KeyCall K V Q) (r : Reply V) → p.replies.takes ≡ takes.Choices → (told_at p.stands p (as_told r)).1 ≡ Ok tt → IsTaken (RemoveIf k) r
   taken_choice k p (Decides b) is e = tt
   taken_choice k p (Gives v) is e = refused takes.Choices (reply.Insert v) (λ p gap e. cc e) (λ p word e. cc e) p.stands p is e
   taken_choice k p Removes is e = refused takes.Choices reply.Remove (λ p gap e. cc e) (λ p word e. cc e) p.stands p is e
   taken_choice k p (Aborts w) is e = refused takes.Choices reply.Abort (λ p gap e. cc e) (λ p word e. cc e) p.stands p is e
 
-  taken_change : (k : K) (p : KeyCall K V Q) (r : Reply V) → p.replies.takes ≡ takes.Changes → (told_at p.stands p (as_told r)).1 ≡ Ok tt → IsTaken (Compute {V = V} k) r
+  taken_change : (k : K) (p : KeyCall K V Q) (r : Reply V) → p.replies.takes ≡ takes.Changes → (told_at p.stands p (as_told r)).1 ≡ Ok tt → IsTaken (Compute k) r
   taken_change k p (Decides true) is e = refused takes.Changes reply.Yes (λ p gap e. cc e) (λ p word e. cc e) p.stands p is e
   taken_change k p (Decides false) is e = refused takes.Changes reply.No (λ p gap e. cc e) (λ p word e. cc e) p.stands p is e
   taken_change k p _ is e = tt
