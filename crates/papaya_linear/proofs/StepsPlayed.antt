@@ -135,10 +135,10 @@ module _ {K V S : Type 0} (same : K → K → Bool) (hash : ℕ → K → ℕ) (
             → IsHeard (moment then_at.history) i d2.call d2.machine d2.value
         by true ended none = absurd (let both : None ≡ Some d2 = none in cc both)
         by false goes is = record {
-          there = e;
+          there = comes_to o (record itself_then.0 { steps = itself_then.0.steps + 1 });
           is = itself_then.2;
           called = e_is.0 ∙ itself_then.1.0 ∙ it.called ∙ ap (λ (z : Calling K V). z.call) one;
-          keeps = subst (λ (z : Call K V). KeepsValue z e.replies d2.machine d2.value) (sym (e_is.0 ∙ itself_then.1.0))
+          keeps = subst (λ (z : Call K V). KeepsValue z (comes_to o (record itself_then.0 { steps = itself_then.0.steps + 1 })).replies d2.machine d2.value) (sym (e_is.0 ∙ itself_then.1.0))
               (subst (λ (z : List (Option ℕ × Reply V)). KeepsValue d.call z d2.machine d2.value) (sym (e_is.1 ∙ itself_then.1.1)) keeps_then);
           asks = asks_or_not known_then (kind_of c.call) c.value said said refl (record itself_then.0 { steps = itself_then.0.steps + 1 }) d2.machine none_then;
         }
@@ -150,10 +150,7 @@ module _ {K V S : Type 0} (same : K → K → Bool) (hash : ℕ → K → ℕ) (
             itself_then =
                 steps_itself i m o (effects_of (acts.Call i m) x.known new.changed) (is_refusal new.changed) (moment x.history) acted (not_over known_then (kind_of c.call) c.value said goes) d it.is
 
-            abbrev e : CallThere K V
-            e = comes_to o (record itself_then.0 { steps = itself_then.0.steps + 1 })
-
-            e_is : (e.call ≡ itself_then.0.call) × (e.replies ≡ itself_then.0.replies)
+            e_is : (let e = comes_to o (record itself_then.0 { steps = itself_then.0.steps + 1 }) in (e.call ≡ itself_then.0.call) × (e.replies ≡ itself_then.0.replies))
             e_is = come_said o (record itself_then.0 { steps = itself_then.0.steps + 1 })
 
             next : (u2 : UnderWay K V K) × (led.calls m i ≡ Some u2) × (d2.machine ≡ machine_of u2)
