@@ -6,6 +6,7 @@ pub mod CallsGo
 pub mod OthersGo
 pub mod Tied
 pub mod Heard
+pub mod HeardAll
 pub mod Begun
 pub mod Taken
 pub mod Comes

@@ -1,7 +1,6 @@
 -- The step of a call, as it is played, is an entry that is linearizable, and what the moment shows of calls and of what they were told it shows then.
 use Rattle.std.specs.Prelude.{◌≡◌, ◌≢◌, ◌⊎◌, ◌+◌, ℕ, Bool, true, false, List, ◌∷◌, Option, Some, None, option_map, if◌then◌else◌}
 use Rattle.std.proofs.Common.{refl, ap, sym, subst, ◌∙◌, inl, inr}
-use Rattle.std.proofs.lemmas.Bool.{cases_eq}
 use Rattle.seize_acts.proofs.Answers.{same_some}
 use Rattle.papaya_moments.specs.Given.SeizeWords.Mem.{Mem}
 use Rattle.papaya_moments.specs.Given.Tables.declared.node.Node.{Node}
@@ -35,12 +34,13 @@ use Rattle.papaya_values.proofs.Values.{values_go_on}
 use Rattle.papaya_deeds.specs.Deeds.{Entry, Steps, acted_on, map_of_call, moment, named}
 use Rattle.papaya_deeds.specs.History.{IsLinearizable, past}
 use Rattle.papaya_played.specs.Play.{Calling, State, call_stepped, going, is_refusal, keeps, outcome_of}
-use Rattle.papaya_played.proofs.Alike.{its_call, others_call}
-use Rattle.papaya_played.proofs.Noted.{CallsAreNoted, apart, at_other_map, not_over, one_call}
+use Rattle.papaya_played.proofs.Alike.{its_call}
+use Rattle.papaya_played.proofs.Noted.{CallsAreNoted, not_over}
 use Rattle.papaya_linear.specs.Shown.{ShowsAnswers}
 use Rattle.papaya_linear.proofs.CallSteps.{steps_answer, steps_are_linearizable}
 use Rattle.papaya_linear.proofs.Comes.{steps_come_so}
-use Rattle.papaya_linear.proofs.Heard.{IsHeard, IsSaid, come_asks, come_said, heard_on, steps_aside, steps_itself}
+use Rattle.papaya_linear.proofs.Heard.{IsHeard, IsSaid, come_asks, come_said, steps_aside, steps_itself}
+use Rattle.papaya_linear.proofs.HeardAll.{AreHeard, none_other, one_heard}
 use Rattle.papaya_linear.proofs.TakesReply.{TakesNone, steps_take_none}
 
 -- what is told alike of both is there alike
@@ -78,10 +78,6 @@ module _ {K V : Type 0} where
       → (((about : Option ℕ) → said ≡ progress.Asks about → ⊥) → TakesNone machine) → TakesNone machine ⊎ ((question : Option ℕ) × ((comes_to (outcome_of known kind value t) e).stands ≡ Asking question))
   asks_or_not known kind value said (progress.Asks about) is e machine none = inr (come_asks (option_map (number_by known) about) e)
   asks_or_not known kind value said _ is e machine none = inl (none (λ about asks. absurd (cc (is, asks))))
-
--- Each call of a state was heard so.
-abbrev pub AreHeard : {K V S : Type 0} → State K V S → Type 0
-AreHeard {K} {V} x = (on j : ℕ) (d : Calling K V) → x.now.calls on j ≡ Some d → IsHeard (moment x.history) j d.call d.machine d.value
 
 module _ {K V S : Type 0} (same : K → K → Bool) (hash : ℕ → K → ℕ) (x : State K V S) (s : Scene K V) (old new : Held K V) (at : IsAt same hash old s)
     (all : ShowsAnswers same (past x.history) (moment x.history) x.known s) (noted : CallsAreNoted x) (heard : AreHeard x) (i m : ℕ) (c : Calling K V) (here : x.now.calls m i ≡ Some c)
@@ -175,16 +171,7 @@ module _ {K V S : Type 0} (same : K → K → Bool) (hash : ℕ → K → ℕ) (
 
     -- So are all calls then.
     pub played_steps_are_heard : AreHeard then_at
-    played_steps_are_heard on j d2 has = by (cases_eq j i) (cases_eq on m)
-      where
-        by : (j ≡ i) ⊎ (j ≢ i) → (on ≡ m) ⊎ (on ≢ m) → IsHeard (moment then_at.history) j d2.call d2.machine d2.value
-        by (inr ne) at_map =
-            heard_on (moment x.history) (moment then_at.history) j
-            (steps_aside i m o (effects_of (acts.Call i m) x.known new.changed) (is_refusal new.changed) (moment x.history) acted j (apart i j ne)) d2.call d2.machine d2.value
-            (heard on j d2 (sym (others_call x.now.calls m i (going c machine said) on j ne) ∙ has))
-        by (inl e) (inr ne) =
-            absurd (ne (sym (one_call (moment x.history) m on i c.call d2.call (noted m i c here)
-            (noted on i d2 (sym (at_other_map x.now.calls m i (going c machine said) on i ne) ∙ sym (ap (then_at.now.calls on) e) ∙ has)))))
-        by (inl e) (inl f) =
-            subst (λ (k : ℕ). IsHeard (moment then_at.history) k d2.call d2.machine d2.value) (sym e)
-            (itself d2 (sym (ap (λ (k : ℕ). then_at.now.calls k i) f) ∙ sym (ap (then_at.now.calls on) e) ∙ has))
+    played_steps_are_heard =
+        one_heard x heard i m (going c machine said) (moment then_at.history)
+        (steps_aside i m o (effects_of (acts.Call i m) x.known new.changed) (is_refusal new.changed) (moment x.history) acted)
+        (λ d2 is. itself d2 (its_call x.now.calls m i (going c machine said) ∙ is)) (none_other x noted i m c here)
