@@ -13,3 +13,4 @@ pub mod Comes
 pub mod CallSteps
 pub mod CallEntries
 pub mod StepsPlayed
+pub mod RepliesPlayed
