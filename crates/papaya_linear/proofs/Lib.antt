@@ -14,3 +14,4 @@ pub mod CallSteps
 pub mod CallEntries
 pub mod StepsPlayed
 pub mod RepliesPlayed
+pub mod BeginsPlayed
