@@ -15,3 +15,4 @@ pub mod CallEntries
 pub mod StepsPlayed
 pub mod RepliesPlayed
 pub mod BeginsPlayed
+pub mod Shifts
