@@ -16,3 +16,4 @@ pub mod StepsPlayed
 pub mod RepliesPlayed
 pub mod BeginsPlayed
 pub mod Shifts
+pub mod RowsPlayed

@@ -8,7 +8,8 @@ use Rattle.papaya_moments.specs.Given.Schedules.declared.effect.Effect.{Effect}
 use Rattle.papaya_moments.specs.Given.Schedules.declared.effect.Effect.TheVariants as effect
 use Rattle.papaya_moments.specs.Given.Schedules.declared.effect.Thing.TheVariants.{ABlock, ABucket}
 use Rattle.papaya_moments.specs.Given.Schedules.Handing.{is_first_making}
-use Rattle.papaya_moments.specs.Given.Schedules.Linearizable.{Shift, shift_of}
+use Rattle.papaya_moments.specs.Given.Schedules.Linearizable.{shift_of}
+use Rattle.papaya_moments.specs.Given.Schedules.Sequential.{Shift}
 use Rattle.papaya_moments.specs.Given.Teller.declared.changed.Changed.{Changed}
 use Rattle.papaya_moments.specs.Given.Teller.declared.changed.Changed.TheVariants as changed
 use Rattle.papaya_moments.specs.Given.Effects.Effects.{effects_of, led_to, named, names_same, taken_by}
