@@ -2,7 +2,7 @@
 use Rattle.std.specs.Prelude.{◌≡◌, ◌==◌, ℕ, Bool, true, false, List, ◌∷◌, None, if◌then◌else◌}
 use Rattle.std.proofs.Common.{refl, inl}
 use Rattle.papaya_moments.specs.Given.Seize.World.{Step}
-use Rattle.papaya_moments.specs.Given.Seize.Values.{ACTIVE}
+use Rattle.papaya_moments.specs.Given.Seize.declared.states.TheConstants.{ACTIVE}
 use Rattle.papaya_moments.specs.Given.Seize.declared.rows.leave.Leave.{Leave}
 use Rattle.papaya_moments.specs.Given.Seize.declared.rows.leave.Leaving.{Leaving}
 use Rattle.papaya_moments.specs.Given.Seize.declared.rows.leave.Leaving.TheVariants as leaves
