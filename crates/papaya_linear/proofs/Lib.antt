@@ -17,3 +17,4 @@ pub mod RepliesPlayed
 pub mod BeginsPlayed
 pub mod Shifts
 pub mod RowsPlayed
+pub mod CallActs

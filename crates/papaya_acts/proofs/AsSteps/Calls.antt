@@ -125,6 +125,7 @@ module _ {K V S : Type 0} (same : K → K → Bool) (by_hasher : S → K → ℕ
     goes stand = (came.standing, came.machine, came.stands, was_told s.world.memory g plan (came.memory, (came.machine, came.progress)) came.computed, came.did, there stand)
 
     pub steps_as : Leads (StepsCall i m g) told (changed_by {S = S} same (StepsCall i m g) s) n
+    unfolding goes
     steps_as =
         onto (StepsCall i m g) told (changed_by {S = S} same (StepsCall i m g) s) after came.comes
         (λ stand. subst (λ (h : Held K V). LeadsAs same by_hasher hash (StepsCall i m g) s told after old h × IsAt same hash h after)
@@ -147,7 +148,7 @@ module _ {K V S : Type 0} (same : K → K → Bool) (by_hasher : S → K → ℕ
       onto (TellsCall i m reply) told NoChange (scene_with m i next s) is
       (λ stand. let there = calls_there same hash batch_size roots s before at (with_call s.calls m i (Some next)) NoChange stand in
       let so = one_call u here (RepliedTo next reply (machine_replied (machine_of u) reply).1) ((standing, next, stands, machine_is, refl, kind.0, refl, there), kind.1, refl) in
-      (((machine_replied (machine_of u) reply).1, told_is, λ k v has. (so k v has).0, λ k v has. (so k v has).1), there))
+      (((machine_replied (machine_of u) reply).1, told_is, λ k v has. (so k v has).0, λ k v has. ((so k v has).1, (so k v has).2)), there))
 
   abbrev Asked : Bool → ℕ → UnderWay K V K → Type 0
   Asked ready k u =
@@ -162,7 +163,7 @@ module _ {K V S : Type 0} (same : K → K → Bool) (by_hasher : S → K → ℕ
       onto (AsksCall i m) told NoChange (scene_with m i (asked_on u) s) is
       (λ stand. let there = calls_there same hash batch_size roots s before at (with_call s.calls m i (Some (asked_on u))) NoChange stand in
       let so = one_call u here (AskedOn (asked_on u) (machine_asked (machine_of u)).1) ((asked_on u, asked_machine u, refl, refl, there), refl, refl) in
-      (((machine_asked (machine_of u)).1, told_is, λ k v has. (so k v has).0, λ k v has. (so k v has).1), there))
+      (((machine_asked (machine_of u)).1, told_is, λ k v has. (so k v has).0, λ k v has. ((so k v has).1, (so k v has).2)), there))
 
   abbrev Stopped : Bool → ℕ → UnderWay K V K → Type 0
   Stopped stopped k u =
