@@ -84,7 +84,7 @@ module _ {K V S : Type 0} (same : K → K → Bool) (by_hasher : S → K → ℕ
       there.2 ∙ ap machine_of (same_some there.0 u (sym there.1 ∙ under))
 
   -- a step
-  steps_hold : (i m : ℕ) (g : Grant) → PlayedAs same by_hasher batch_size roots aborts x y (StepsCall i m g) → Led same by_hasher batch_size roots slot_of (StepsCall i m g) s told n
+  pub steps_hold : (i m : ℕ) (g : Grant) → PlayedAs same by_hasher batch_size roots aborts x y (StepsCall i m g) → Led same by_hasher batch_size roots slot_of (StepsCall i m g) s told n
       → LeadsAs same by_hasher hash (StepsCall i m g) s told n old (then_held (StepsCall i m g)) → Holds same y n
   steps_hold i m g played came (said, answer, leads, goes) =
       let tied = call_tied same by_hasher batch_size roots aborts s n rows x y is i m g told came played in
@@ -108,7 +108,7 @@ module _ {K V S : Type 0} (same : K → K → Bool) (by_hasher : S → K → ℕ
       })
 
   -- one that is told something takes it, or is as it was
-  told_hold : (i m : ℕ) (reply : Told V) → PlayedAs same by_hasher batch_size roots aborts x y (TellsCall i m reply) → Led same by_hasher batch_size roots slot_of (TellsCall i m reply) s told n
+  pub told_hold : (i m : ℕ) (reply : Told V) → PlayedAs same by_hasher batch_size roots aborts x y (TellsCall i m reply) → Led same by_hasher batch_size roots slot_of (TellsCall i m reply) s told n
       → IsAt same hash (then_held (TellsCall i m reply)) n → Holds same y n
   told_hold i m reply (c, here, y_is) (standing, stands, u, next, under, next_is, told_is, kind, n_is) at2 = by (is_ok (machine_replied c.machine reply).1) refl
     where
@@ -150,7 +150,7 @@ module _ {K V S : Type 0} (same : K → K → Bool) (by_hasher : S → K → ℕ
           })
 
   -- One is asked for its next pair,
-  asks_hold : (i m : ℕ) → PlayedAs same by_hasher batch_size roots aborts x y (AsksCall i m) → Led same by_hasher batch_size roots slot_of (AsksCall i m) s told n
+  pub asks_hold : (i m : ℕ) → PlayedAs same by_hasher batch_size roots aborts x y (AsksCall i m) → Led same by_hasher batch_size roots slot_of (AsksCall i m) s told n
       → LeadsAs same by_hasher hash (AsksCall i m) s told n old (then_held (AsksCall i m)) → Holds same y n
   asks_hold i m (c, here, y_is) (u, under, told_is, n_is) (ready, answer, leads, goes) =
       comes_so (call_asked i m x c) (scene_with m i (asked_on u) s) y_is n_is
@@ -162,7 +162,7 @@ module _ {K V S : Type 0} (same : K → K → Bool) (by_hasher : S → K → ℕ
       })
 
   -- or given up, if it is a walk that is ready,
-  stops_hold : (i m : ℕ) → PlayedAs same by_hasher batch_size roots aborts x y (StopsCall i m) → Led same by_hasher batch_size roots slot_of (StopsCall i m) s told n
+  pub stops_hold : (i m : ℕ) → PlayedAs same by_hasher batch_size roots aborts x y (StopsCall i m) → Led same by_hasher batch_size roots slot_of (StopsCall i m) s told n
       → LeadsAs same by_hasher hash (StopsCall i m) s told n old (then_held (StopsCall i m)) → Holds same y n
   stops_hold i m (c, here, y_is) (u, under, told_is, n_is) (stopped, answer, leads, goes) = by stopped (leads m u under).0 leads (goes m u under)
     where
@@ -198,7 +198,7 @@ module _ {K V S : Type 0} (same : K → K → Bool) (by_hasher : S → K → ℕ
           })
 
   -- and one begins.
-  begins_hold : (i m : ℕ) (wanted : Wanted K V) → PlayedAs same by_hasher batch_size roots aborts x y (BeginsCall i m wanted) → MayBe same by_hasher batch_size roots slot_of (BeginsCall i m wanted) s
+  pub begins_hold : (i m : ℕ) (wanted : Wanted K V) → PlayedAs same by_hasher batch_size roots aborts x y (BeginsCall i m wanted) → MayBe same by_hasher batch_size roots slot_of (BeginsCall i m wanted) s
       → LeadsAs same by_hasher hash (BeginsCall i m wanted) s told n old (then_held (BeginsCall i m wanted)) → Holds same y n
   begins_hold i m wanted (set, there, y_is) may (standing, stands, begins, memory, at2, n_is) =
       let new = then_held (BeginsCall i m wanted) in

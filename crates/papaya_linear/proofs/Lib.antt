@@ -18,3 +18,4 @@ pub mod BeginsPlayed
 pub mod Shifts
 pub mod RowsPlayed
 pub mod CallActs
+pub mod RowActs
