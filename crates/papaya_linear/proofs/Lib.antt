@@ -19,3 +19,4 @@ pub mod Shifts
 pub mod RowsPlayed
 pub mod CallActs
 pub mod RowActs
+pub mod MapsPlayed
