@@ -20,3 +20,4 @@ pub mod RowsPlayed
 pub mod CallActs
 pub mod RowActs
 pub mod MapsPlayed
+pub mod MapActs

@@ -39,14 +39,15 @@ use Rattle.papaya_linear.proofs.Like.{likes_answer}
 use Rattle.papaya_linear.proofs.OthersGo.{ends_step, makings_step, maps_come, maps_go}
 use Rattle.papaya_linear.proofs.Shifts.{ends_shift_none, firsts_shift_none}
 
+module _ {K V : Type 0} where
+  -- no map that stands has this name
+  abbrev pub IsApart : ℕ → Moment K V → Scene K V → Type 0
+  IsApart map v t = (n : ℕ) (standing : Standing K) (there : MapThere) → t.maps n ≡ Some standing → map_at n v ≡ Some there → is_same there.name (named map) ≡ false
+
 module _ {K V S : Type 0} (same : K → K → Bool) (hash : ℕ → K → ℕ) (x : State K V S) (s : Scene K V) (old new : Held K V) (at : IsAt same hash old s)
     (all : ShowsAnswers same (past x.history) (moment x.history) x.known s) (i : ℕ) where
   abbrev m : Moment K V
   m = moment x.history
-
-  -- no map that stands has this name
-  abbrev pub IsApart : ℕ → Moment K V → Scene K V → Type 0
-  IsApart map v t = (n : ℕ) (standing : Standing K) (there : MapThere) → t.maps n ≡ Some standing → map_at n v ≡ Some there → is_same there.name (named map) ≡ false
 
   -- A step of a making
   module _ (said : Making Setting) (leads : MakingLeads same hash i said s old new) (b : Beginning K) (here : s.makers i ≡ Some b) (o : Outcome V) where
@@ -106,7 +107,7 @@ module _ {K V S : Type 0} (same : K → K → Bool) (hash : ℕ → K → ℕ) (
     abbrev pub ended : Scene K V
     ended = let to = leads f here in ending_after same hash s new i f to.0 to.2.w2 to.2.deed said to.3
 
-    abbrev end_of : Deed K V → Entry K V
+    abbrev pub end_of : Deed K V → Entry K V
     end_of deed = record { deed = deed; outcome = o; effects = end_effects; refused = is_refusal new.changed }
 
     ends_shown : ShowsAnswers same (past x.history) (with_effects None (Some map) end_effects m) known_end ended
