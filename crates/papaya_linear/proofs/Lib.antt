@@ -21,3 +21,4 @@ pub mod CallActs
 pub mod RowActs
 pub mod MapsPlayed
 pub mod MapActs
+pub mod Names
