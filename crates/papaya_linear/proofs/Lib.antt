@@ -22,3 +22,4 @@ pub mod RowActs
 pub mod MapsPlayed
 pub mod MapActs
 pub mod Names
+pub mod Below
