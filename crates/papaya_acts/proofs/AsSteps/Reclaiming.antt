@@ -1,5 +1,5 @@
 -- A step of a caller that reclaims all leads where a step of its kind does.
-use Rattle.std.specs.Prelude.{Option, Some}
+use Rattle.std.specs.Prelude.{Some}
 use Rattle.std.proofs.Common.{◌≡◌, ℕ, Bool, List, refl, sym, ap, subst, ◌∙◌}
 use Rattle.papaya_scenes.specs.Given.SeizeWords.Plan.{Plan}
 use Rattle.papaya_scenes.specs.Given.Seize.ReclaimAll.{reclaim_all_plan}
