@@ -23,3 +23,4 @@ pub mod MapsPlayed
 pub mod MapActs
 pub mod Names
 pub mod Below
+pub mod Counted
