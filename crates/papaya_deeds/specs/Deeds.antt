@@ -7,7 +7,7 @@ use Rattle.papaya_schedules.specs.declared.call.Call.{Call}
 use Rattle.papaya_schedules.specs.declared.call.Reply.{Reply}
 use Rattle.papaya_schedules.specs.declared.effect.Effect.{Effect}
 use Rattle.papaya_schedules.specs.declared.outcome.Outcome.{Outcome}
-use Rattle.papaya_schedules.specs.declared.outcome.Outcome.TheVariants.{Goes, Slot}
+use Rattle.papaya_schedules.specs.declared.outcome.Outcome.TheVariants.{Goes}
 use Rattle.papaya_schedules.specs.After.{moment_by, replied, root_or, slots_on, stepped, tables_taken, unsheltered, without_call}
 use Rattle.papaya_schedules.specs.Beginning.{fresh_call}
 use Rattle.papaya_schedules.specs.Effects.{with_effects}
@@ -56,6 +56,10 @@ with_more new (r ∷ remains) =
 abbrev pub if_more : ℕ → List ℕ → List Remains → List Remains
 if_more root [] remains = remains
 if_more root (n ∷ pairs) remains = with_more (record { root = root; pairs = n ∷ pairs }) remains
+
+-- without the map of this number
+abbrev pub without_map : ℕ → List MapThere → List MapThere
+without_map n maps = filter (λ f. not (is_same f.name (named n))) maps
 
 module _ {K V : Type 0} where
   -- whose call takes a step
@@ -111,9 +115,6 @@ module _ {K V : Type 0} where
   calls_on (Stops i) Goes calls = calls
   calls_on (Stops i) outcome calls = without_call (named i) calls
   calls_on deed outcome calls = stepped (caller_of deed) outcome 1 calls
-
-  abbrev pub without_map : ℕ → List MapThere → List MapThere
-  without_map map maps = filter (λ f. not (is_same f.name (named map))) maps
 
   abbrev pub maps_on : Deed K V → List MapThere → List MapThere
   maps_on (MapFails map) maps = without_map map maps

@@ -1,5 +1,5 @@
 -- What is promised of each entry of a history: linearizability, the life of pairs, tables and blocks, protection and sweeps, by what is promised of what an entry does.
-use Rattle.std.specs.Prelude.{◌≡◌, ◌⊎◌, ℕ, ◌+◌, ◌==◌, ◌&&◌, Bool, true, false, not, List, [], ◌∷◌, ◌++◌, filter, length, Option, Some, None, if◌then◌else◌}
+use Rattle.std.specs.Prelude.{◌≡◌, ◌⊎◌, ℕ, ◌+◌, ◌==◌, ◌&&◌, Bool, true, false, not, List, [], ◌∷◌, ◌++◌, filter, length, Option, Some, if◌then◌else◌}
 use Rattle.std.specs.List.{list_all, list_any}
 use Rattle.papaya_raw.specs.Given.Seize.Register.{bucket_needed}
 use Rattle.papaya_schedules.specs.declared.call.Answer.{Answer}
@@ -25,7 +25,7 @@ use Rattle.papaya_schedules.specs.Terms.{Terms}
 use Rattle.papaya_schedules.specs.Things.{is_before, same_table}
 use Rattle.papaya_schedules.specs.Transition.{Past, Transition, call_left, worked_by}
 use Rattle.papaya_schedules.specs.Views.{capacity_or, chain_of, is_in_map, is_linked, map_at, size_of, tables_of}
-use Rattle.papaya_deeds.specs.Deeds.{Deed, Entry, Ends, Leaves, Makes, MapFails, MapGoes, Opens, ReclaimsAll, Registers, Shuts, Steps, acted_on, after, at_work, caller_of, moment}
+use Rattle.papaya_deeds.specs.Deeds.{Deed, Entry, Ends, Leaves, Makes, MapFails, MapGoes, ReclaimsAll, Registers, Steps, acted_on, after, at_work, caller_of, moment}
 
 module _ {K V : Type 0} where
   -- the moments since so many entries had come, the newest first
@@ -61,6 +61,20 @@ module _ {K V : Type 0} (eq : K → K → Bool) where
   abbrev pub IsSwept : Terms → List (Entry K V) → Entry K V → Type 0
   IsSwept terms log e = SweepsRight eq terms (past log) (transition log e)
 
+-- Who registers needs a bucket next: the first one, or before it takes a slot the one of the slot behind that, and it is not there yet.
+abbrev pub NeedsBucket : ℕ → ℕ → Type 0
+NeedsBucket slot there = ((slot ≡ 0) × (there ≡ 0)) ⊎ (bucket_needed slot ≡ Some there)
+
+-- the table stands first
+abbrev pub is_first_of : Table → List TableThere → Bool
+is_first_of t [] = false
+is_first_of t (u ∷ tables) = same_table u.table t
+
+-- where a growth was refused it was asked for, and nothing was made
+abbrev pub Refuses : Bool → List Effect → Type 0
+Refuses true effects = (has_grown effects ≡ true) × (list_any is_made effects ≡ false)
+Refuses false effects = Unit {0}
+
 module _ {K V : Type 0} where
   -- Whether a deed may have an effect: a step of a call, of who registers or leaves, and of a making or an end in its midst.
   abbrev pub may_do : Deed K V → Effect → Bool
@@ -95,10 +109,6 @@ module _ {K V : Type 0} where
   made_for map [] = 0
   made_for map (e ∷ log) = made_by map e.deed e.effects + made_for map log
 
-  -- Who registers needs a bucket next: the first one, or before it takes a slot the one of the slot behind that, and it is not there yet.
-  abbrev pub NeedsBucket : ℕ → ℕ → Type 0
-  NeedsBucket slot there = ((slot ≡ 0) × (there ≡ 0)) ⊎ (bucket_needed slot ≡ Some there)
-
   -- The end of a map takes its pairs by place, table by table, and then its tables, from the root's on.
 
   -- no pair of the map is before this one
@@ -108,10 +118,6 @@ module _ {K V : Type 0} where
   -- the tables of a map that it has not taken
   abbrev pub left_tables : ℕ → Moment K V → List TableThere
   left_tables map m = filter (λ u. is_linked u.stage) (chain_of map m)
-
-  abbrev pub is_first_of : Table → List TableThere → Bool
-  is_first_of t [] = false
-  is_first_of t (u ∷ tables) = same_table u.table t
 
   abbrev pub EndFinds : ℕ → Moment K V → Effect → Type 0
   EndFinds map m (Ended n) = (m.place n ≡ InMap map) × (is_next_pair map n m ≡ true)
@@ -124,20 +130,15 @@ module _ {K V : Type 0} where
   IsWhole log (MapGoes map) outcome effects w = (size_of map w ≡ 0) × (left_tables map w ≡ [])
   IsWhole log (MapFails map) outcome effects w = (made_for map log ≡ 0) × (tables_of map w ≡ [])
   IsWhole log (Makes map) Done effects w =
-      (length (tables_of map w) ≡ made_by {K = K} {V = V} map (Makes map) effects + made_for map log) × (length (tables_of map w) ≡ (if capacity_or (map_at map w) == 0 then 0 else 1))
+      (length (tables_of map w) ≡ made_by map (Makes map) effects + made_for map log) × (length (tables_of map w) ≡ (if capacity_or (map_at map w) == 0 then 0 else 1))
   IsWhole log (Makes map) (Refused fault) effects w = effects ≡ []
   IsWhole log deed outcome effects w = Unit {0}
-
-  -- where a growth was refused it was asked for, and nothing was made
-  abbrev pub Refuses : Bool → List Effect → Type 0
-  Refuses true effects = (has_grown effects ≡ true) × (list_any is_made effects ≡ false)
-  Refuses false effects = Unit {0}
 
 module _ {K V : Type 0} (terms : Terms) where
   -- What an effect finds: by an end of a map, as somebody registers, and else as in a run.
   abbrev pub FindsBy : List (Entry K V) → Deed K V → Transition K V → Moment K V → Effect → Type 0
   FindsBy log (Ends map) t m f = EndFinds map m f
-  FindsBy log (Registers slot) t m (Asked ABucket) = NeedsBucket {K = K} {V = V} slot (buckets log)
+  FindsBy log (Registers slot) t m (Asked ABucket) = NeedsBucket slot (buckets log)
   FindsBy log d t m f = Finds terms t.caller t.map (gives_all d) (moments_since terms (past log) (acting t.caller t.found)) m f
 
   -- each effect finds what it must, the deed may have it, and what has to come of it does

@@ -154,9 +154,7 @@ module _ {K V : Type 0} where
   leaves_none c leaves.Swaps = (λ o calls. refl, λ m. refl)
   leaves_none c (leaves.Settles settle) = leaves_slot c.slot
   leaves_none c leaves.Frees = leaves_slot c.slot
-  leaves_none c leaves.Over =
-      if_none c.frees (Leaves c.slot) (if c.becomes == ACTIVE then Opens c.slot else Leaves c.slot) (leaves_slot c.slot)
-      (if_none (c.becomes == ACTIVE) (Opens c.slot) (Leaves c.slot) (opens c.slot) (leaves_slot c.slot))
+  leaves_none c leaves.Over = if_none (c.becomes == ACTIVE) (Opens c.slot) (Leaves c.slot) (opens c.slot) (leaves_slot c.slot)
 
   pub row_none : (row : SlotRow) → OfNoCall (row_deed row)
   row_none (rows.Registers c) = registers_none c.stands c.slot

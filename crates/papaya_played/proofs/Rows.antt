@@ -49,7 +49,7 @@ use Rattle.papaya_played.specs.Reached.{IsOf, row_or_rests}
 use Rattle.papaya_acts.proofs.Courses.{same_set_up}
 
 -- the row that is asked for on a slot
-called_is : (slot : ℕ) (called : SlotCall) → slot_call_of (request_of slot called) ≡ Some called
+pub called_is : (slot : ℕ) (called : SlotCall) → slot_call_of (request_of slot called) ≡ Some called
 called_is slot (call.Register enters) = refl
 called_is slot call.Enter = refl
 called_is slot call.Leave = refl

@@ -302,7 +302,7 @@ registers_as _ s = Registers s
 
 abbrev pub leaves_as : {K V : Type 0} → Leave → Leaving → Deed K V
 leaves_as c leaves.Swaps = Shuts c.slot
-leaves_as c leaves.Over = if c.frees then Leaves c.slot else (if c.becomes == ACTIVE then Opens c.slot else Leaves c.slot)
+leaves_as c leaves.Over = if c.becomes == ACTIVE then Opens c.slot else Leaves c.slot
 leaves_as c _ = Leaves c.slot
 
 abbrev pub row_deed : {K V : Type 0} → SlotRow → Deed K V

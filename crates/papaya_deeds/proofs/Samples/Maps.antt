@@ -1,6 +1,6 @@
 -- A map is made with one table, has two pairs, and ends, step by step. And wrong histories of makings and ends.
-use Rattle.std.proofs.Common.{◌≡◌, ℕ, true, false, List, [], ◌∷◌, refl, sym}
-use Rattle.papaya_raw.specs.Given.SeizeWords.declared.fault.Fault.TheVariants.{Memory}
+use Rattle.std.proofs.Common.{◌≡◌, ℕ, true, List, [], ◌∷◌, refl, sym}
+use Rattle.seize_words.specs.declared.fault.Fault.TheVariants.{Memory}
 use Rattle.papaya_raw.specs.Given.Tables.declared.resize_mode.ResizeMode.TheVariants.{Incremental}
 use Rattle.papaya_runs.specs.declared.outcome.TableShape.{TableShape}
 use Rattle.papaya_schedules.specs.declared.call.Answer.TheVariants as answer
@@ -40,7 +40,7 @@ made = links ∷ tabled
 
 makes_right : MovesOn terms tabled links
 unfolding lib.Count.count_leading_zeros
-makes_right = record { finds = ((refl, refl, refl, refl, refl), tt); may = refl; granted = refl; refuses = tt; whole = (refl, refl); leaves = tt }
+makes_right = record { finds = ((refl, (refl, refl, (refl, refl))), tt); may = refl; granted = refl; refuses = tt; whole = (refl, refl); leaves = tt }
 
 -- two calls store a pair each, at the places 5 and 2
 abbrev stores : ℕ → ℕ → ℕ → List (Entry ℕ ℕ) → List (Entry ℕ ℕ)

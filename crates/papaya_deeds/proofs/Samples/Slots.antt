@@ -4,8 +4,8 @@ use Rattle.papaya_schedules.specs.declared.effect.Effect.{Effect}
 use Rattle.papaya_schedules.specs.declared.effect.Effect.TheVariants.{Asked, Reclaimed}
 use Rattle.papaya_schedules.specs.declared.effect.Growth.TheVariants.{ABucket}
 use Rattle.papaya_schedules.specs.declared.effect.Thing.TheVariants.{APair}
-use Rattle.papaya_schedules.specs.declared.outcome.Outcome.TheVariants.{Done, Goes, Slot}
-use Rattle.papaya_deeds.specs.Deeds.{Entry, Leaves, Opens, Registers, Shuts}
+use Rattle.papaya_schedules.specs.declared.outcome.Outcome.TheVariants.{Goes}
+use Rattle.papaya_deeds.specs.Deeds.{Entry, Leaves, Registers, Shuts}
 use Rattle.papaya_deeds.specs.History.{MovesOn}
 use Rattle.papaya_deeds.proofs.Samples.{either, entry, one_none, yes_no}
 use Rattle.papaya_deeds.proofs.Samples.Maps.{terms}

@@ -1,12 +1,12 @@
 -- A walk over a map shows each pair once that was there all the time. And wrong histories.
 use Rattle.std.specs.Prelude.{nat_eq}
-use Rattle.std.proofs.Common.{◌≡◌, ℕ, true, false, List, [], ◌∷◌, ◌⊎◌, inl, inr, refl, sym}
+use Rattle.std.proofs.Common.{◌≡◌, ℕ, true, false, List, [], ◌∷◌, ◌⊎◌, inl, refl, sym}
 use Rattle.papaya_schedules.specs.declared.call.Answer.TheVariants as answer
 use Rattle.papaya_schedules.specs.declared.call.Call.TheVariants.{Clear, Walk}
 use Rattle.papaya_schedules.specs.declared.outcome.Outcome.TheVariants.{Answered, Goes, Ready, Shows}
 use Rattle.papaya_deeds.specs.Deeds.{Begins, Entry, Steps}
 use Rattle.papaya_deeds.specs.History.{IsSwept}
-use Rattle.papaya_deeds.proofs.Samples.{entry, one_none, yes_no}
+use Rattle.papaya_deeds.proofs.Samples.{either, entry, never, one_none, yes_no}
 use Rattle.papaya_deeds.proofs.Samples.Maps.{filled, terms}
 
 -- the map has the pairs 1 and 2, and caller 1 goes over it
@@ -23,16 +23,17 @@ shows_one = (inl refl, refl)
 shows_twice : IsSwept nat_eq terms (shows 1 ∷ walking) (shows 1) → ⊥
 shows_twice is = yes_no is.1
 
-none_there : (false ≡ true) ⊎ ((false ≡ true) ⊎ ⊥) → ⊥
-none_there (inl e) = yes_no (sym e)
-none_there (inr (inl e)) = yes_no (sym e)
-none_there (inr (inr e)) = e
+none_there : (false ≡ true) ⊎ ((false ≡ true) ⊎ ((false ≡ true) ⊎ ⊥)) → ⊥
+none_there is = either no (either no (either no never)) is
+  where
+    no : false ≡ true → ⊥
+    no e = yes_no (sym e)
 
 shows_none : IsSwept nat_eq terms walking (shows 3) → ⊥
 shows_none is = none_there is.0
 
 ends_early : IsSwept nat_eq terms (shows 1 ∷ walking) (entry (Steps 1) (Answered answer.Absent) []) → ⊥
-ends_early is = one_none (sym (is 2 (refl, refl, refl, tt)))
+ends_early is = one_none (sym (is 2 (refl, (refl, (refl, (refl, tt))))))
 
 -- Wrong: a clearing leaves a pair that was there all the time.
 abbrev clearing : List (Entry ℕ ℕ)
