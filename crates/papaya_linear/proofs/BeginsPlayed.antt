@@ -56,17 +56,17 @@ its_number i j its = let one : named i ≡ named j = is_same_is (named i) (named
 not_named : (i j : ℕ) → (j ≡ i → ⊥) → is_same (named i) (named j) ≡ false
 not_named i j never = apart i j never
 
+-- a walk that is not ready stays as it is where it is asked for a pair
+next_same : (stands : Sweeping) (c : Sweep) → (stands ≡ sweeping.Ready → ⊥) → next_at stands c ≡ c
+next_same sweeping.Ready c never = absurd (never refl)
+next_same _ c never = refl
+
 module _ {K V : Type 0} where
   -- what is put where it was is as it was
   same_calls : (s : Scene K V) (m i : ℕ) (u : UnderWay K V K) → s.calls m i ≡ Some u → scene_with m i u s ≡ s
   same_calls s m i u has =
       ap (λ (calls : ℕ → ℕ → Option (UnderWay K V K)). record s { calls = calls })
       (ap (λ (o : Option (UnderWay K V K)). with_call s.calls m i o) (sym has) ∙ (ap (λ (f : ℕ → Option (UnderWay K V K)). with_at s.calls m f) (with_same (s.calls m) i) ∙ with_same s.calls m))
-
-  -- a walk that is not ready stays as it is where it is asked for a pair
-  next_same : (stands : Sweeping) (c : Sweep) → (stands ≡ sweeping.Ready → ⊥) → next_at stands c ≡ c
-  next_same sweeping.Ready c never = absurd (never refl)
-  next_same _ c never = refl
 
   -- what is asked keeps its value
   asked_keeps : (machine : Machine K V K) (call : Call K V) (replies : List (Option ℕ × Reply V)) (value : Option V) → KeepsValue call replies machine value → KeepsValue call replies (machine_asked machine).0 value
@@ -159,7 +159,7 @@ module _ {K V S : Type 0} (same : K → K → Bool) (hash : ℕ → K → ℕ) (
 
     -- what was said of others is said still
     as_said : (j : ℕ) → is_same (named i) (named j) ≡ false → SaidOn (moment x.history) (moment x.history) j
-    as_said j other w is = (w, is, refl, refl, refl)
+    as_said j other w is = (w, is, (refl, refl, refl))
 
     stays_heard : (c2 : Calling K V) → IsHeard (moment x.history) i c2.call c2.machine c2.value → AreHeardAt (moment x.history) (with_call x.now.calls m i (Some c2))
     stays_heard c2 so =

@@ -27,7 +27,7 @@ use Rattle.papaya_acts.specs.Leads.{EndingCame, Led, MakingCame}
 -- a map that goes on with its setting was there
 there_still : {K : Type 0} (before after : Option (Standing K)) → option_map (λ (st : Standing K). st.setting) after ≡ option_map (λ (st : Standing K). st.setting) before → (st : Standing K) → after ≡ Some st
     → (was : Standing K) × (before ≡ Some was)
-there_still None after is st has = absurd (let both : None ≡ Some st.setting = sym is ∙ ap (option_map (λ (z : Standing K). z.setting)) has in cc both)
+there_still {K} None after is st has = absurd (let both : None ≡ Some st.setting = sym is ∙ ap (option_map (λ (z : Standing K). z.setting)) has in cc both)
 there_still (Some was) after is st has = (was, refl)
 
 module _ {K V : Type 0} (count : ℕ) (s : Scene K V) (here : MapsAreBelow count s) where

@@ -27,7 +27,7 @@ use Rattle.papaya_moments.specs.Given.Hands.Calling.{AsksJust}
 use Rattle.papaya_moments.proofs.Given.Hands.Asking.{which}
 use Rattle.papaya_moments.proofs.Given.Follows.Calling.{is_same_is, is_same_refl}
 use Rattle.papaya_histories.specs.AsCalled.{AsksAsCalled}
-use Rattle.papaya_histories.specs.InEvent.{ComesSo, InEvent}
+use Rattle.papaya_histories.specs.InEvent.{ComesSo, InEvent, here_of}
 use Rattle.papaya_histories.specs.Questions.{AsksOnStill, AsksStill}
 use Rattle.papaya_histories.proofs.AnyCall.AsksThere.{events_ask_there}
 use Rattle.papaya_histories.proofs.AnyCall.InEvent.{events_begin, events_end}
@@ -55,8 +55,15 @@ module _ {K V : Type 0} (same : K → K → Bool) (hash : ℕ → K → ℕ) (hi
   abbrev pub known_then : Known
   known_then = known_after (acts.Call i map) new.changed known
 
+  midst : InEvent same named (past history) m map i d [] m known s u
+  midst = events_begin K V same hash named (past history) m (refl, refl) known s old at all.whole all.dues all.as_called map i u here d d_is
+
+  -- where it is under way
+  abbrev pub there_is : s.calls map i ≡ Some u
+  there_is = here_of same named (past history) m map i d [] m known s u midst
+
   abbrev pub led : Scene K V
-  led = let to = leads map u here in scene_after same s old new map i to.0 u to.1 said to.4
+  led = let to = leads map u there_is in scene_after same s old new map i to.0 u to.1 said to.4
 
   abbrev pub step : Bool → Entry K V
   step refused = record { deed = Steps i; outcome = o; effects = effects; refused = refused }
@@ -64,9 +71,6 @@ module _ {K V : Type 0} (same : K → K → Bool) (hash : ℕ → K → ℕ) (hi
   -- it acts on its map
   acted : acted_on {K = K} {V = V} (Steps i) m ≡ Some map
   acted = ap map_of_call d_is ∙ ap Some on_map
-
-  midst : InEvent same named (past history) m map i d [] m known s u
-  midst = events_begin K V same hash named (past history) m (refl, refl) known s old at all.whole all.dues all.as_called map i u here d d_is
 
   module _ (comes : ComesSo known_then d.call d.replies said o) (refused : Bool) where
     ends : Linearizes same (past history) (transition history (step refused)) × AsksOnStill (transition history (step refused))
@@ -78,8 +82,8 @@ module _ {K V : Type 0} (same : K → K → Bool) (hash : ℕ → K → ℕ) (hi
     module _ (over : ends_call o ≡ true → has_ended said ≡ true) where
       -- none that is under way then has its name, if it has ended
       ended : ends_call o ≡ true → NoneNamed named (named i) led
-      ended is n j x there = elim (which s.calls map i (leads map u here).4.next n j x there) as (λ _. is_same (named i) (named j) ≡ false) [
-        | inl goes ↦ absurd (let gone = gone_then (leads map u here).1 said (leads map u here).4.next (over is) (leads map u here).4.goes_on in let next = goes.2 in cc (gone, next))
+      ended is n j x there = elim (which s.calls map i (leads map u there_is).4.next n j x there) as (λ _. is_same (named i) (named j) ≡ false) [
+        | inl goes ↦ absurd (let gone = gone_then (leads map u there_is).1 said (leads map u there_is).4.next (over is) (leads map u there_is).4.goes_on in let next = goes.2 in cc (gone, next))
         | inr was ↦ by (is_same (named i) (named j)) refl (λ its. was.0 (all.whole.all.asked.apart n j map i x u was.1 here (ap (λ (q : ℕ). is_same (named q) (named i)) (its_number its) ∙ is_same_refl (named i))).0
             (all.whole.all.asked.apart n j map i x u was.1 here (ap (λ (q : ℕ). is_same (named q) (named i)) (its_number its) ∙ is_same_refl (named i))).1)
       ]
@@ -92,7 +96,7 @@ module _ {K V : Type 0} (same : K → K → Bool) (hash : ℕ → K → ℕ) (hi
           by true e never = absurd (never e)
 
       asks : (n j : ℕ) (x : UnderWay K V K) → led.calls n j ≡ Some x → is_same (named j) (named i) ≡ true → AsksJust known_then x o × AsksAsCalled known_then x o
-      asks n j x is its = elim (which s.calls map i (leads map u here).4.next n j x is) as (λ _. AsksJust known_then x o × AsksAsCalled known_then x o) [
+      asks n j x is its = elim (which s.calls map i (leads map u there_is).4.next n j x is) as (λ _. AsksJust known_then x o × AsksAsCalled known_then x o) [
         | inl goes ↦ events_ask_there K V same hash named (past history) m map i d [] m known s u midst old new at said leads o comes x goes.2
         | inr was ↦ absurd (let two = all.whole.all.asked.apart n j map i x u was.1 here its in was.0 two.0 two.1)
       ]
@@ -108,7 +112,7 @@ module _ {K V : Type 0} (same : K → K → Bool) (hash : ℕ → K → ℕ) (hi
       still c c_is = subst (IfCall (λ (x : CallThere K V). AsksStill x.stands o)) (ap (call_of (named i)) (sym worked_is) ∙ c_is) ends.1
 
       come : ShowsAnswers same (past history) (come_to (named i) o 1 v) known_then led
-      come = calls_come_to K V same (past history) v known_then led (calls_step K V same hash (past history) known s old at all map i new u here said leads) (named i) o 1 ended asks still
+      come = calls_come_to K V same (past history) v known_then led (calls_step K V same hash (past history) known s old at all map i new u there_is said leads) (named i) o 1 ended asks still
 
       counted : (moment (step refused ∷ history)).events ≡ suc (length history)
       counted = let before = all.dues.history.past.counted in omega (arith, before)

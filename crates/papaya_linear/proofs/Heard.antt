@@ -45,19 +45,19 @@ module _ {K V : Type 0} where
       record {
         there = w.0;
         is = w.1;
-        called = w.2 ∙ heard.called;
-        keeps = subst (λ (c : Call K V). KeepsValue c w.0.replies machine value) (sym w.2) (subst (λ (rs : List (Option ℕ × Reply V)). KeepsValue heard.there.call rs machine value) (sym w.3) heard.keeps);
-        asks = subst (λ (st : Stands). TakesNone machine ⊎ ((question : Option ℕ) × (st ≡ Asking question))) (sym w.4) heard.asks;
+        called = w.2.0 ∙ heard.called;
+        keeps = subst (λ (c : Call K V). KeepsValue c w.0.replies machine value) (sym w.2.0) (subst (λ (rs : List (Option ℕ × Reply V)). KeepsValue heard.there.call rs machine value) (sym w.2.1) heard.keeps);
+        asks = subst (λ (st : Stands). TakesNone machine ⊎ ((question : Option ℕ) × (st ≡ Asking question))) (sym w.2.2) heard.asks;
       }
 
   same_said : (m v : Moment K V) (i : ℕ) → v.calls ≡ m.calls → SaidOn m v i
-  same_said m v i same u is = (u, ap (λ (cs : List (UnderWay K V)). find (λ c. is_same c.caller (named i)) cs) same ∙ is, refl, refl, refl)
+  same_said m v i same u is = (u, ap (λ (cs : List (UnderWay K V)). find (λ c. is_same c.caller (named i)) cs) same ∙ is, (refl, refl, refl))
 
   then_said : (m v w : Moment K V) (i : ℕ) → SaidOn m v i → SaidOn v w i → SaidOn m w i
   then_said m v w i first second u is =
       let x = first u is in
       let y = second x.0 x.1 in
-      (y.0, y.1, y.2 ∙ x.2, y.3 ∙ x.3, y.4 ∙ x.4)
+      (y.0, y.1, (y.2.0 ∙ x.2.0, y.2.1 ∙ x.2.1, y.2.2 ∙ x.2.2))
 
   -- effects of no call leave calls as they are
   none_calls : (acted : Option ℕ) (effects : List Effect) (m : Moment K V) → (with_effects None acted effects m).calls ≡ m.calls
@@ -78,14 +78,14 @@ module _ {K V : Type 0} where
   aside_same change is_of own m i other u is =
       let its : u.caller ≡ named i = is_same_is u.caller (named i) (found_passes (λ c. is_same c.caller (named i)) (λ c. true) m.calls u is) in
       let kept : is_same u.caller own ≡ false = ap (λ (l : List ℕ). is_same l own) its ∙ apart_back own (named i) other in
-      (u, found change is_of own (named i) m.calls u is ∙ ap (λ (q : Bool). Some (if q then change u else u)) kept, refl, refl, refl)
+      (u, found change is_of own (named i) m.calls u is ∙ ap (λ (q : Bool). Some (if q then change u else u)) kept, (refl, refl, refl))
 
   -- one call is gone, but not another's
   aside_gone : (own : List ℕ) (m : Moment K V) (i : ℕ) → is_same own (named i) ≡ false → SaidOn m (record m { calls = without_call own m.calls }) i
   aside_gone own m i other u is =
       let its : u.caller ≡ named i = is_same_is u.caller (named i) (found_passes (λ c. is_same c.caller (named i)) (λ c. true) m.calls u is) in
       let kept : not (is_same u.caller own) ≡ true = ap (λ (l : List ℕ). not (is_same l own)) its ∙ ap not (apart_back own (named i) other) in
-      (u, found_kept (λ c. is_same c.caller (named i)) (λ c. not (is_same c.caller own)) m.calls u is kept, refl, refl, refl)
+      (u, found_kept (λ c. is_same c.caller (named i)) (λ c. not (is_same c.caller own)) m.calls u is kept, (refl, refl, refl))
 
   -- A step of a call, on its map
   module _ (own on : ℕ) (o : Outcome V) (effects : List Effect) (refused : Bool) (m : Moment K V) (acted : acted_on {K = K} {V = V} (Steps own) m ≡ Some on) where
@@ -99,7 +99,7 @@ module _ {K V : Type 0} where
     worked_said i u is =
         let d = calls_after (named own) on (named i) effects m u is in
         let on_so = d.2.0 in
-        (d.0, subst (λ (a : Option ℕ). call_of (named i) (with_effects (Some (named own)) a effects m) ≡ Some d.0) (sym acted) d.1, on_so.call, on_so.replies, on_so.stands)
+        (d.0, subst (λ (a : Option ℕ). call_of (named i) (with_effects (Some (named own)) a effects m) ≡ Some d.0) (sym acted) d.1, (on_so.call, on_so.replies, on_so.stands))
 
     -- others are as they were,
     pub steps_aside : (i : ℕ) → is_same (named own) (named i) ≡ false → SaidOn m (after step m) i
@@ -121,7 +121,7 @@ module _ {K V : Type 0} where
         found (λ c. comes_to o (record c { steps = c.steps + 1 })) (λ c. come_same o (record c { steps = c.steps + 1 })) (named own) (named own) w.calls x.0 x.1
         ∙ ap (λ (q : Bool). Some (if q then comes_to o (record x.0 { steps = x.0.steps + 1 }) else x.0)) here in (
           x.0,
-          (x.2, x.3, x.4),
+          x.2,
           subst (λ (b : Bool). call_of (named own)
               (record w { calls = if b then without_call (named own) w.calls else map (λ c. if is_same c.caller (named own) then comes_to o (record c { steps = c.steps + 1 }) else c) w.calls })
               ≡ Some (comes_to o (record x.0 { steps = x.0.steps + 1 }))) (sym goes) then_is,
@@ -170,7 +170,7 @@ module _ {K V : Type 0} where
   pub begins_aside : (own guard to : ℕ) (its : Call K V) (m : Moment K V) (i : ℕ) → is_same (named own) (named i) ≡ false
       → SaidOn m (after (record { deed = Begins own guard to its; outcome = outcome.Goes; effects = []; refused = false }) m) i
   begins_aside own guard to its m i other u is =
-      (u, ap (λ z. cond z (Some (fresh_call (named own) (named guard) its to m.events)) (find (λ c. is_same c.caller (named i)) m.calls)) other ∙ is, refl, refl, refl)
+      (u, ap (λ z. cond z (Some (fresh_call (named own) (named guard) its to m.events)) (find (λ c. is_same c.caller (named i)) m.calls)) other ∙ is, (refl, refl, refl))
 
   pub begins_itself : (own guard to : ℕ) (its : Call K V) (m : Moment K V)
       → call_of (named own) (after (record { deed = Begins own guard to its; outcome = outcome.Goes; effects = []; refused = false }) m) ≡ Some (fresh_call (named own) (named guard) its to m.events)

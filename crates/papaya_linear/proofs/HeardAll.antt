@@ -11,11 +11,11 @@ use Rattle.papaya_played.proofs.Alike.{its_call, others_call}
 use Rattle.papaya_played.proofs.Noted.{CallsAreNoted, apart, at_other_map, one_call}
 use Rattle.papaya_linear.proofs.Heard.{IsHeard, SaidOn, heard_on}
 
-module _ {K V S : Type 0} where
-  -- Each call of a state was heard so.
-  abbrev pub AreHeardAt : Moment K V → (ℕ → ℕ → Option (Calling K V)) → Type 0
-  AreHeardAt v calls = (on j : ℕ) (d : Calling K V) → calls on j ≡ Some d → IsHeard v j d.call d.machine d.value
+-- Each call of a state was heard so.
+abbrev pub AreHeardAt : {K V : Type 0} → Moment K V → (ℕ → ℕ → Option (Calling K V)) → Type 0
+AreHeardAt {K} {V} v calls = (on j : ℕ) (d : Calling K V) → calls on j ≡ Some d → IsHeard v j d.call d.machine d.value
 
+module _ {K V S : Type 0} where
   abbrev pub AreHeard : State K V S → Type 0
   AreHeard x = AreHeardAt (moment x.history) x.now.calls
 

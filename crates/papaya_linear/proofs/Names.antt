@@ -2,7 +2,7 @@
 use Rattle.std.specs.Prelude.{◌≡◌, ◌==◌, ℕ, Bool, true, false, not, List, [], ◌∷◌, Option, Some, None, if◌then◌else◌}
 use Rattle.std.specs.List.{All}
 use Rattle.std.proofs.Common.{refl, ap, sym, subst, ◌∙◌, arith}
-use Rattle.std.proofs.lemmas.List.Elements.{All-append, All-cons, All-map}
+use Rattle.std.proofs.lemmas.List.Elements.{All-append, All-cons, All-filter, All-map}
 use Rattle.papaya_moments.specs.Given.Runs.Same.{is_same}
 use Rattle.papaya_moments.specs.Given.Finishes.Maps.{Standing}
 use Rattle.papaya_moments.specs.Given.Schedules.declared.effect.Effect.{Effect}
@@ -12,7 +12,7 @@ use Rattle.papaya_moments.specs.Given.Schedules.Effects.{maps_by, promoted, with
 use Rattle.papaya_moments.specs.Given.Schedules.Moment.{MapThere, Moment}
 use Rattle.papaya_moments.specs.Given.Schedules.Views.{map_at}
 use Rattle.papaya_moments.specs.Given.Scenes.Scene.{Scene}
-use Rattle.papaya_moments.proofs.Numbers.{found_of, kept_so}
+use Rattle.papaya_moments.proofs.Numbers.{found_of}
 use Rattle.papaya_deeds.specs.Deeds.{come, named, without_map}
 use Rattle.papaya_played.proofs.Noted.{apart}
 use Rattle.papaya_linear.proofs.MapsPlayed.{IsApart}
@@ -35,6 +35,10 @@ maps_named : (f : Effect) (maps : List MapThere) → All IsNamed maps → All Is
 maps_named (Promoted t) maps all = All-map IsNamed (promoted t) maps (λ k d l. promoted_named t _ (all k d l))
 maps_named _ maps all = all
 
+-- where one is there no more
+pub gone_named : (own : ℕ) (maps : List MapThere) → All IsNamed maps → All IsNamed (without_map own maps)
+gone_named own maps all = All-filter (λ f. not (is_same f.name (named own))) IsNamed maps all
+
 module _ {K V : Type 0} where
   -- so after effects,
   pub effects_named : (caller : Option (List ℕ)) (acted : Option ℕ) (effects : List Effect) (m : Moment K V) → AreNamed m → AreNamed (with_effects caller acted effects m)
@@ -44,10 +48,6 @@ module _ {K V : Type 0} where
   -- where a map comes,
   pub come_named : (f : MapThere) (m : Moment K V) → IsNamed f → AreNamed m → AreNamed (come f m)
   come_named f m is all = All-append IsNamed m.maps (f ∷ []) all (All-cons IsNamed f [] is (λ k d l. absurd (omega (arith, l))))
-
-  -- and where one is there no more
-  pub gone_named : (own : ℕ) (maps : List MapThere) → All IsNamed maps → All IsNamed (without_map own maps)
-  gone_named own maps all = kept_so IsNamed IsNamed (λ f. not (is_same f.name (named own))) (λ f is kept. is) maps all
 
   -- one that stands has another name than one that does not
   pub apart_so : (own : ℕ) (v : Moment K V) (t : Scene K V) → AreNamed v → t.maps own ≡ None → IsApart own v t

@@ -52,7 +52,7 @@ use Rattle.papaya_histories.proofs.Aside.Stays.{as_called_stays, dues_stay}
 use Rattle.papaya_histories.proofs.Questions.{effects_keep_questions}
 use Rattle.papaya_logged.proofs.Given.Kept.Others.{endings_begin_kept, endings_find_kept, endings_keep_kept, makings_keep_kept, rows_begin_kept, rows_find_kept, rows_keep_kept}
 use Rattle.papaya_logged.proofs.Given.Kept.Stays.{makings_begin_kept, stays_kept}
-use Rattle.papaya_logged.proofs.Reclaiming.Rest.{none_under_way, reclaiming_found, reclaiming_keeps}
+use Rattle.papaya_logged.proofs.Reclaiming.Rest.{reclaiming_found, reclaiming_keeps}
 use Rattle.papaya_logged.proofs.Reclaiming.Steps.{reclaiming_whole}
 use Rattle.papaya_deeds.specs.Deeds.{named}
 use Rattle.papaya_linear.specs.Shown.{ShowsAnswers}
@@ -194,4 +194,4 @@ module _ (K V : Type 0) (same : K → K → Bool) (hash : ℕ → K → ℕ) (lo
       }
     where
       none : {X : Type 0} (map j : ℕ) (u : UnderWay K V K) → s.calls map j ≡ Some u → X
-      none map j u here = none_under_way same hash named m known s all.whole all.kept old new i lists before after told under_way leads map j u here
+      none map j u here = absurd (let both : None ≡ Some u = sym (under_way.under_way.stand.no_calls map j) ∙ here in cc both)

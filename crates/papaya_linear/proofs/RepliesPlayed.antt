@@ -1,5 +1,5 @@
 -- Where a call takes a reply, as it is played, the entry is linearizable, and what the moment shows of calls and of what they were told it shows then.
-use Rattle.std.specs.Prelude.{◌≡◌, ◌⊎◌, ℕ, Bool, List, [], ◌∷◌, Option, Some, Ok, is_ok, if◌then◌else◌}
+use Rattle.std.specs.Prelude.{◌≡◌, ◌⊎◌, ℕ, Bool, false, List, [], ◌∷◌, Option, Some, Ok, is_ok, if◌then◌else◌}
 use Rattle.std.proofs.Common.{refl, ap, sym, subst, ◌∙◌, inl, inr}
 use Rattle.seize_acts.proofs.Answers.{same_some}
 use Rattle.papaya_moments.specs.Given.Raw.Machine.{machine_replied}

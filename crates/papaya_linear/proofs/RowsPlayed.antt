@@ -74,17 +74,18 @@ module _ {K V : Type 0} where
   if_row true d other one two = one
   if_row false d other one two = two
 
-  registers_row : (stands : Registering) (s : ℕ) → IsOfRow (registers_as stands s)
+module _ (K V : Type 0) where
+  registers_row : (stands : Registering) (s : ℕ) → IsOfRow {K = K} {V = V} (registers_as stands s)
   registers_row registers.Enter s = tt
   registers_row _ s = tt
 
-  leaves_row : (c : Leave) (stands : Leaving) → IsOfRow (leaves_as c stands)
+  leaves_row : (c : Leave) (stands : Leaving) → IsOfRow {K = K} {V = V} (leaves_as c stands)
   leaves_row c leaves.Swaps = tt
   leaves_row c leaves.Over =
       if_row c.frees (Leaves c.slot) (if c.becomes == ACTIVE then Opens c.slot else Leaves c.slot) tt (if_row (c.becomes == ACTIVE) (Opens c.slot) (Leaves c.slot) tt tt)
   leaves_row c _ = tt
 
-  is_of_row : (row : SlotRow) → IsOfRow (row_deed row)
+  is_of_row : (row : SlotRow) → IsOfRow {K = K} {V = V} (row_deed row)
   is_of_row (rows.Registers c) = registers_row c.stands c.slot
   is_of_row (rows.Enters c) = tt
   is_of_row (rows.Leaves c) = leaves_row c c.stands
@@ -99,18 +100,18 @@ module _ {K V S : Type 0} (same : K → K → Bool) (hash : ℕ → K → ℕ) (
 
     pub played_rows_are_linearizable : IsLinearizable same x.history entry
     played_rows_are_linearizable =
-        none_is_linearizable same x.history entry (no_caller (row_deed row) (is_of_row row))
+        none_is_linearizable same x.history entry (no_caller (row_deed row) (is_of_row K V row))
         (rows_shift_none x.known new.changed (inl (row_tells old.memory new.memory new.changed ((leads row here).0, said) row (leads row here).1)))
 
     pub played_rows_answer : ShowsAnswers same (past (entry ∷ x.history)) (moment (entry ∷ x.history)) (known_after acts.Row new.changed x.known) (scene_then same hash (Step i) s old new (leads row here).2)
     played_rows_answer =
         entry_answers same x.history entry (with_effects None None entry.effects (moment x.history)) (known_after acts.Row new.changed x.known) (scene_then same hash (Step i) s old new (leads row here).2)
         (rows_step K V same hash (past x.history) (moment x.history) x.known s all old new at i said leads row here)
-        (rows_like (row_deed row) (is_of_row row) o entry.effects entry.refused (moment x.history))
+        (rows_like (row_deed row) (is_of_row K V row) o entry.effects entry.refused (moment x.history))
 
     pub played_rows_are_heard : AreHeardAt (moment (entry ∷ x.history)) x.now.calls
     played_rows_are_heard =
-        all_heard x heard (moment (entry ∷ x.history)) (none_said entry (moment x.history) (row_none row) (no_caller (row_deed row) (is_of_row row))) x.now.calls (λ on j. refl)
+        all_heard x heard (moment (entry ∷ x.history)) (none_said entry (moment x.history) (row_none row) (no_caller (row_deed row) (is_of_row K V row))) x.now.calls (λ on j. refl)
 
   -- who reclaims all
   module _ (i : ℕ) (lists : ℕ → List ℕ) (before next : ReclaimAll) (told : Settled (Node K V)) (at : IsReclaiming same hash old s i lists before)

@@ -6,7 +6,7 @@ use Rattle.std.proofs.lemmas.Grind.{flat_map-append}
 use Rattle.papaya_moments.specs.Given.SeizeWords.declared.at.At.TheVariants.{Root, Used, Slot, Entry, Word}
 use Rattle.papaya_moments.specs.Given.Schedules.declared.effect.Effect.{Effect}
 use Rattle.papaya_moments.specs.Given.Schedules.declared.effect.Effect.TheVariants as effect
-use Rattle.papaya_moments.specs.Given.Schedules.declared.effect.Thing.TheVariants.{ABlock, ABucket}
+use Rattle.papaya_moments.specs.Given.Schedules.declared.effect.Growth.TheVariants.{ABucket}
 use Rattle.papaya_moments.specs.Given.Schedules.Handing.{is_first_making}
 use Rattle.papaya_moments.specs.Given.Schedules.Linearizable.{shift_of}
 use Rattle.papaya_moments.specs.Given.Schedules.Sequential.{Shift}
@@ -71,10 +71,10 @@ first_shifts _ first = refl
 
 pub firsts_shift_none : (effects : List Effect) → list_all is_first_making effects ≡ true → flat_map shift_of effects ≡ []
 firsts_shift_none [] all = refl
-firsts_shift_none (f ∷ effects) all = by (is_first_making f) refl (list_all is_first_making effects) refl all
+firsts_shift_none (f ∷ effects) all = by (is_first_making f) refl (list_all is_first_making effects) (firsts_shift_none effects) all
   where
-    by : (b : Bool) → is_first_making f ≡ b → (d : Bool) → list_all is_first_making effects ≡ d → (b && d) ≡ true → shift_of f ++ flat_map shift_of effects ≡ []
-    by true first true rest both = ap (λ (l : List Shift). l ++ flat_map shift_of effects) (first_shifts f first) ∙ firsts_shift_none effects rest
+    by : (b : Bool) → is_first_making f ≡ b → (d : Bool) → (d ≡ true → flat_map shift_of effects ≡ []) → (b && d) ≡ true → shift_of f ++ flat_map shift_of effects ≡ []
+    by true first true rest both = ap (λ (l : List Shift). l ++ flat_map shift_of effects) (first_shifts f first) ∙ rest refl
     by true first false rest both = absurd (cc both)
     by false first d rest both = absurd (cc both)
 

@@ -1,5 +1,6 @@
 -- A step that is played is the one that has led on: of the same machine, with the same end, and what it has changed is the same.
-use Rattle.std.specs.Prelude.{Option, Some, None, option_map, option_map_or}
+use Rattle.std.specs.Prelude.{Option, Some, None, option_map}
+use Rattle.std.specs.Option.{option_map_or}
 use Rattle.std.proofs.Common.{◌≡◌, ℕ, Bool, refl, ap, sym, ◌∙◌}
 use Rattle.papaya_scenes.specs.Given.SeizeWords.Mem.{Mem}
 use Rattle.papaya_scenes.specs.Given.SeizeWords.Plan.{Plan}
@@ -87,7 +88,7 @@ module _ {K V S : Type 0} (same : K → K → Bool) (hash : S → K → ℕ) (ba
     }
 
   pub call_tied : (m : ℕ) (g : Grant) (told : Answer K V) (came : CallCame same hash batch_size roots slot_of s i m g told n) → PlayedAs same hash batch_size roots aborts x y (StepsCall i m g) → CallTied m g told came
-  call_tied m g told came (at, at_is, c, here, end, steps, comes) = call_tied_so m g told came at at_is c here end steps comes
+  call_tied m g told came (at, at_is, (c, here, end, steps, comes)) = call_tied_so m g told came at at_is c here end steps comes
 
   -- that of a making
   pub record MakingTied (g : Grant) (b : Beginning K) (end : Mem (Node K V) × (NewMap × Making' Setting)) : Type 0 where
