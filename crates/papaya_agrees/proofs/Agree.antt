@@ -42,9 +42,9 @@ module _ {K S : Type 0} (V : Type 0) (same : K → K → Bool) (by_hasher : S �
       one.begins p n x i c none begun same_scene all_free is is_then at here.0,
       two.begins p n x i c none begun same_scene all_free is is_then at here.1,
     );
-    steps = λ p n x y told g st is is_then at leads played here. (
-      one.steps p n x y told g st is is_then at leads played here.0,
-      two.steps p n x y told g st is is_then at leads played here.1,
+    steps = λ p n x y told g st is is_then at leads scene played here. (
+      one.steps p n x y told g st is is_then at leads scene played here.0,
+      two.steps p n x y told g st is is_then at leads scene played here.1,
     );
   }
 

@@ -44,17 +44,19 @@ module _ {K V : Type 0} where
   if_its true d e its other = its
   if_its false d e its other = other
 
-  making_its : (on : ℕ) (before next : NewMap) → BeginsOnIts (making_deed on before next)
+-- no deed of makings, ends and rows begins a call
+module _ (K V : Type 0) where
+  making_its : (on : ℕ) (before next : NewMap) → BeginsOnIts {K = K} {V = V} (making_deed on before next)
   making_its on before next =
       if_its (has_root before.stands) (if has_root next.stands then Makes on else MapFails on)
       (if has_root next.stands then MapComes on next.setting.root next.setting.mode (pairs_for next.setting.initial) else Makes on)
       (if_its (has_root next.stands) (Makes on) (MapFails on) tt tt)
       (if_its (has_root next.stands) (MapComes on next.setting.root next.setting.mode (pairs_for next.setting.initial)) (Makes on) tt tt)
 
-  ending_its : {T : Type 0} (f : Ending) (told : Settled T) → BeginsOnIts (ending_deed f told)
+  ending_its : {T : Type 0} (f : Ending) (told : Settled T) → BeginsOnIts {K = K} {V = V} (ending_deed f told)
   ending_its f told = if_its (is_over told) (MapGoes f.map) (Ends f.map) tt tt
 
-  registers_its : (stands : Registering) (s : ℕ) → BeginsOnIts (registers_as stands s)
+  registers_its : (stands : Registering) (s : ℕ) → BeginsOnIts {K = K} {V = V} (registers_as stands s)
   registers_its registers.Enter s = tt
   registers_its registers.Begin s = tt
   registers_its registers.Look s = tt
@@ -63,13 +65,13 @@ module _ {K V : Type 0} where
   registers_its registers.Registered s = tt
   registers_its (registers.Refused fault) s = tt
 
-  leaves_its : (c : Leave) (stands : Leaving) → BeginsOnIts (leaves_as c stands)
+  leaves_its : (c : Leave) (stands : Leaving) → BeginsOnIts {K = K} {V = V} (leaves_as c stands)
   leaves_its c leaves.Swaps = tt
   leaves_its c (leaves.Settles settle) = tt
   leaves_its c leaves.Frees = tt
   leaves_its c leaves.Over = if_its (c.becomes == ACTIVE) (Opens c.slot) (Leaves c.slot) tt tt
 
-  row_its : (row : SlotRow) → BeginsOnIts (row_deed row)
+  row_its : (row : SlotRow) → BeginsOnIts {K = K} {V = V} (row_deed row)
   row_its (rows.Registers c) = registers_its c.stands c.slot
   row_its (rows.Enters c) = tt
   row_its (rows.Leaves c) = leaves_its c c.stands
@@ -105,14 +107,14 @@ module _ {K V S : Type 0} (same : K → K → Bool) (by_hasher : S → K → ℕ
   acts_so (StepsMaking i g) (b, here, end, came, is) so =
       subst Has (sym is)
       (grows.works x.history (acting.Making b.map) x.known (changed_of x.now.memory g (new_map_plan {K = K} {V = V} b.machine)) (making_deed b.map b.machine end.1.0) (making_outcome end.1.1)
-      (making_its b.map b.machine end.1.0) so)
+      (making_its K V b.map b.machine end.1.0) so)
   acts_so (BeginsEnding i m) (at, there, is) so = subst Has (sym is) so
   acts_so (StepsEnding i g) (f, here, end, came, is) so =
       subst Has (sym is)
-      (grows.works x.history (acting.Ending f.map) x.known (changed_of x.now.memory g (end_map_plan {K = K} {V = V} f.machine)) (ending_deed f end.1.1) (settled_outcome end.1.1) (ending_its f end.1.1) so)
+      (grows.works x.history (acting.Ending f.map) x.known (changed_of x.now.memory g (end_map_plan {K = K} {V = V} f.machine)) (ending_deed f end.1.1) (settled_outcome end.1.1) (ending_its K V f end.1.1) so)
   acts_so (BeginsRow i request) (called, there, is) so = subst Has (sym is) so
   acts_so (StepsRow i g) (row, here, end, came, is) so =
-      subst Has (sym is) (grows.works x.history acting.Row x.known (row_changed (row_of row) g x.now.memory) (row_deed row) (row_outcome end.1.1) (row_its row) so)
+      subst Has (sym is) (grows.works x.history acting.Row x.known (row_changed (row_of row) g x.now.memory) (row_deed row) (row_outcome end.1.1) (row_its K V row) so)
 
   -- and after a step that reclaims all.
   reclaiming_so : (g : Grant) → ReclaimedAs same by_hasher batch_size roots aborts x y g → Has x → Has y
@@ -127,6 +129,6 @@ module _ {K S : Type 0} (V : Type 0) (same : K → K → Bool) (by_hasher : S �
     acts = λ p n x y act told own fits none none_then is is_then at may led leads at_then played so.
         acts_so same by_hasher batch_size roots aborts P grows x y act (played_as same by_hasher batch_size roots aborts x y act played) so;
     begins = λ p n x i c none begun same_scene all_free is is_then at so. so;
-    steps = λ p n x y told g st is is_then at leads played so.
+    steps = λ p n x y told g st is is_then at leads scene played so.
         reclaiming_so same by_hasher batch_size roots aborts P grows x y g (reclaimed_as same by_hasher batch_size roots aborts x y g played) so;
   }

@@ -67,6 +67,7 @@ module _ {K V S : Type 0} where
   made_rows i b machine (progress.Done setting) now = refl
   made_rows i b machine (progress.Refused fault) now = refl
 
+module _ {K V : Type 0} where
   -- one entry more or none, by which nobody comes or goes
   perhaps : (taken : Bool) (e : Entry K V) (log : List (Entry K V)) → LeavesThere e.deed → (moment (if taken then e ∷ log else log)).there ≡ (moment log).there
   perhaps true e log leaves = there_as_before e log leaves
@@ -121,7 +122,7 @@ module _ {K V S : Type 0} (same : K → K → Bool) (by_hasher : S → K → ℕ
       calm (ap (λ (v : Scene K V). v.world.uses) e) (ap (λ (v : State K V S). v.now.rows) is)
       (ap (λ (v : State K V S). (moment v.history).there) is
       ∙ perhaps (is_ok (machine_replied c.machine reply).1) (record { deed = Replies i (reply_for aborts reply); outcome = outcome.Goes; effects = []; refused = false }) x.history (λ there. refl))
-  acts_agree (AsksCall i m) own (c, has, is) may told (u, next, here_call, machine_is, told_is, e) =
+  acts_agree (AsksCall i m) own (c, has, is) may told (u, here_call, told_is, e) =
       calm (ap (λ (v : Scene K V). v.world.uses) e) (ap (λ (v : State K V S). v.now.rows) is) (ap (λ (v : State K V S). (moment v.history).there) is)
   acts_agree (StopsCall i m) own (c, has, is) may told (u, here_call, told_is, e) =
       calm (ap (λ (v : Scene K V). v.world.uses) e) (ap (λ (v : State K V S). v.now.rows) is)
@@ -140,7 +141,7 @@ module _ {K V S : Type 0} (same : K → K → Bool) (by_hasher : S → K → ℕ
         outcome = making_outcome end.1.1;
         effects = effects_of (acting.Making b.map) x.known change;
         refused = is_refusal change;
-      }) x.history (making_leaves b.map b.machine end.1.0))
+      }) x.history (making_leaves K V b.map b.machine end.1.0))
   acts_agree (BeginsEnding i m) own (at, there, is) may told (standing, stands, none, e) =
       calm (ap (λ (v : Scene K V). v.world.uses) e) (ap (λ (v : State K V S). v.now.rows) is) (ap (λ (v : State K V S). (moment v.history).there) is)
   acts_agree (StepsEnding i g) own (f, has, end, comes, is) may told (finishing, ends, m2, machine, settled_is, computed, told_is, did, went) =
@@ -152,7 +153,7 @@ module _ {K V S : Type 0} (same : K → K → Bool) (by_hasher : S → K → ℕ
         outcome = settled_outcome end.1.1;
         effects = effects_of (acting.Ending f.map) x.known change;
         refused = is_refusal change;
-      }) x.history (ending_leaves f end.1.1))
+      }) x.history (ending_leaves K V f end.1.1))
   acts_agree (BeginsRow i request) (called, own) (it, there, is) may told (w2, happens, maps2, as_they_were, none, e) =
       let same_call : called ≡ it = same_some called it (sym (called_is (slot_of i) called) ∙ ap slot_call_of (sym own) ∙ there) in
       let begins : BeginsSo deferred_word batch_size i (request_of (slot_of i) it) s.world w2 =
@@ -207,7 +208,7 @@ module _ {K S : Type 0} (V : Type 0) (same : K → K → Bool) (by_hasher : S �
         (subst (λ (o : Option (ℕ × ReclaimAll)). IsOf by_hasher p.0 (rows_beside o p.0.world.row) x.now) none is.scene) at.together.makings.standing.came
         (subst (λ (o : Option (ℕ × ReclaimAll)). UnlessReclaimed o (GuardsAgree x p.0.world.uses)) none here) act own (played_as same by_hasher batch_size roots aborts x y act played) may told led);
     begins = λ p n x i c none begun same_scene all_free is is_then at here. unless n (all_begun c x) (Some (i, c)) begun (λ e. absurd (cc e));
-    steps = λ p n x y told g st is is_then at leads played here.
+    steps = λ p n x y told g st is is_then at leads scene played here.
         unless n y (far V same by_hasher hash batch_size roots n) refl
         (λ none.
         let it = reclaimed_as same by_hasher batch_size roots aborts x y g played in

@@ -31,7 +31,9 @@ module _ {K V : Type 0} where
   pub there_as_before : (e : Entry K V) (log : List (Entry K V)) → LeavesThere e.deed → (moment (e ∷ log)).there ≡ (moment log).there
   there_as_before e log leaves = there_after e (moment log) ∙ leaves (moment log).there
 
-  pub making_leaves : (map : ℕ) (before next : NewMap) → LeavesThere (making_deed map before next)
+-- nobody comes or goes by makings and ends
+module _ (K V : Type 0) where
+  pub making_leaves : (map : ℕ) (before next : NewMap) → LeavesThere {K = K} {V = V} (making_deed map before next)
   making_leaves map before next there = by (has_root before.stands) (has_root next.stands)
     where
       by : (b c : Bool)
@@ -41,7 +43,7 @@ module _ {K V : Type 0} where
       by false true = refl
       by false false = refl
 
-  pub ending_leaves : {T : Type 0} (f : Ending) (told : Settled T) → LeavesThere (ending_deed f told)
+  pub ending_leaves : {T : Type 0} (f : Ending) (told : Settled T) → LeavesThere {K = K} {V = V} (ending_deed f told)
   ending_leaves f told there = by (is_over told)
     where
       by : (b : Bool) → there_on {K = K} {V = V} (if b then MapGoes f.map else Ends f.map) there ≡ there

@@ -1,5 +1,5 @@
 -- What is so of each guard of a list, and which guard is found there.
-use Rattle.std.specs.Prelude.{cond, filter, find, Some}
+use Rattle.std.specs.Prelude.{cond, filter, find, Some, if◌then◌else◌}
 use Rattle.std.specs.List.{AllByRecursion}
 use Rattle.std.proofs.Common.{◌≡◌, Bool, true, false, List, [], ◌∷◌, ◌++◌, refl, ap, sym, subst, ◌∙◌}
 
@@ -39,8 +39,8 @@ module _ {X : Type 0} where
   -- what is found is so
   pub found_so : (P : X → Type 0) (test : X → Bool) (xs : List X) (x : X) → AllByRecursion P xs → find test xs ≡ Some x → P x × (test x ≡ true)
   found_so P test [] x all is = absurd (cc is)
-  found_so P test (y ∷ xs) x all is = by (test y) refl is
+  found_so P test (y ∷ xs) x all is = by (test y) refl (λ rest. found_so P test xs x all.1 rest) is
     where
-      by : (p : Bool) → test y ≡ p → cond p (Some y) (find test xs) ≡ Some x → P x × (test x ≡ true)
-      by true e is_it = (let same : y ≡ x = (cc is_it) in (subst P same all.0, ap test (sym same) ∙ e))
-      by false e is_it = found_so P test xs x all.1 is_it
+      by : (p : Bool) → test y ≡ p → (find test xs ≡ Some x → P x × (test x ≡ true)) → cond p (Some y) (find test xs) ≡ Some x → P x × (test x ≡ true)
+      by true e later is_it = (let same : y ≡ x = (cc is_it) in (subst P same all.0, ap test (sym same) ∙ e))
+      by false e later is_it = later is_it

@@ -31,7 +31,7 @@ use Rattle.papaya_scenes.proofs.Given.Callers.Together.At.{at_other, at_same}
 use Rattle.papaya_scenes.specs.Scene.{row_of}
 use Rattle.papaya_scenes.specs.declared.row.SlotRow.{SlotRow}
 use Rattle.papaya_scenes.specs.declared.row.SlotRow.TheVariants as rows
-use Rattle.papaya_deeds.specs.Deeds.{Deed, Leaves, Opens, Registers}
+use Rattle.papaya_deeds.specs.Deeds.{Deed, Leaves, Opens}
 use Rattle.papaya_played.specs.Play.{leaves_as, registers_as, row_deed}
 
 -- Who is within a section after a deed was so, or the section began by it; and where it ends one nobody is within that.
@@ -113,7 +113,7 @@ module _ {K V : Type 0} (i : ℕ) (w : World (Node K V)) where
       freed true in_it = in_it
       freed false in_it = absurd in_it
 
-      by : (q : Bool) → InsideBy w.uses (with_at w.uses c.slot (if q then Inside 0 else (if c.frees then w.uses c.slot else Outside 0))) (if q then Opens {K = K} {V = V} c.slot else Leaves c.slot)
+      by : (q : Bool) → InsideBy w.uses (with_at w.uses c.slot (if q then Inside 0 else (if c.frees then w.uses c.slot else Outside 0))) {K = K} {V = V} (if q then Opens c.slot else Leaves c.slot)
       by true = inside_at w.uses c.slot (Inside 0) tt
       by false = outside_at w.uses c.slot (if c.frees then w.uses c.slot else Outside 0) (freed c.frees)
 

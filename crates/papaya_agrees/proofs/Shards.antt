@@ -29,7 +29,7 @@ use Rattle.papaya_agrees.specs.Shards.{AsksShards, ShardsAre}
 abbrev pub setting_of : {K : Type 0} → Option (Standing K) → Option Setting
 setting_of o = option_map (λ st. st.setting) o
 
-module _ {K V : Type 0} (shards : ℕ) where
+module _ {K : Type 0} (shards : ℕ) where
   -- a map that goes on with its setting has as many
   kept_so : (before after : Option (Standing K)) → setting_of after ≡ setting_of before → ((st : Standing K) → before ≡ Some st → st.setting.mask + 1 ≡ shards) → (st : Standing K) → after ≡ Some st
       → st.setting.mask + 1 ≡ shards
@@ -37,31 +37,31 @@ module _ {K V : Type 0} (shards : ℕ) where
   kept_so (Some old) after is so st has =
       let same : old.setting ≡ st.setting = same_some old.setting st.setting (sym is ∙ ap setting_of has) in ap (λ (x : Setting). x.mask + 1) (sym same) ∙ so old refl
 
-  module _ (s : Scene K V) (here : ShardsAre shards s) where
-    -- all maps go on with their settings, and makings are as they were
-    maps_so : (w2 : World (Node K V)) (maps2 : ℕ → Option (Standing K)) (n : Scene K V) → ((m : ℕ) → setting_of (maps2 m) ≡ setting_of (s.maps m)) → n.maps ≡ maps2 → n.makers ≡ s.makers → ShardsAre shards n
-    maps_so w2 maps2 n kept maps_are makers_are = record {
-      standing = λ m st has. kept_so (s.maps m) (maps2 m) (kept m) (here.standing m) st (sym (ap (λ (f : ℕ → Option (Standing K)). f m) maps_are) ∙ has);
-      made = λ i b makes. here.made i b (sym (ap (λ (f : ℕ → Option (Beginning K)). f i) makers_are) ∙ makes);
-    }
+module _ {K V : Type 0} (shards : ℕ) (s : Scene K V) (here : ShardsAre shards s) where
+  -- all maps go on with their settings, and makings are as they were
+  maps_so : (w2 : World (Node K V)) (maps2 : ℕ → Option (Standing K)) (n : Scene K V) → ((m : ℕ) → setting_of (maps2 m) ≡ setting_of (s.maps m)) → n.maps ≡ maps2 → n.makers ≡ s.makers → ShardsAre shards n
+  maps_so w2 maps2 n kept maps_are makers_are = record {
+    standing = λ m st has. kept_so shards (s.maps m) (maps2 m) (kept m) (here.standing m) st (sym (ap (λ (f : ℕ → Option (Standing K)). f m) maps_are) ∙ has);
+    made = λ i b makes. here.made i b (sym (ap (λ (f : ℕ → Option (Beginning K)). f i) makers_are) ∙ makes);
+  }
 
-    -- one caller makes another map, or none
-    made_so : (i : ℕ) (next : Option (Beginning K)) → ((b : Beginning K) → next ≡ Some b → b.given.mask + 1 ≡ shards) → (j : ℕ) (b : Beginning K) → with_at s.makers i next j ≡ Some b
-        → b.given.mask + 1 ≡ shards
-    made_so i next its j b makes = by (cases_eq j i)
-      where
-        by : (j ≡ i) ⊎ (j ≢ i) → b.given.mask + 1 ≡ shards
-        by (inl e) = its b (sym (at_same s.makers i next j e) ∙ makes)
-        by (inr ne) = here.made j b (sym (at_other s.makers i next j ne) ∙ makes)
+  -- one caller makes another map, or none
+  made_so : (i : ℕ) (next : Option (Beginning K)) → ((b : Beginning K) → next ≡ Some b → b.given.mask + 1 ≡ shards) → (j : ℕ) (b : Beginning K) → with_at s.makers i next j ≡ Some b
+      → b.given.mask + 1 ≡ shards
+  made_so i next its j b makes = by (cases_eq j i)
+    where
+      by : (j ≡ i) ⊎ (j ≢ i) → b.given.mask + 1 ≡ shards
+      by (inl e) = its b (sym (at_same s.makers i next j e) ∙ makes)
+      by (inr ne) = here.made j b (sym (at_other s.makers i next j ne) ∙ makes)
 
-    -- one map comes, or is there no more
-    one_so : (m : ℕ) (next : Option (Standing K)) → ((st : Standing K) → next ≡ Some st → st.setting.mask + 1 ≡ shards) → (k : ℕ) (st : Standing K) → with_at s.maps m next k ≡ Some st
-        → st.setting.mask + 1 ≡ shards
-    one_so m next its k st has = by (cases_eq k m)
-      where
-        by : (k ≡ m) ⊎ (k ≢ m) → st.setting.mask + 1 ≡ shards
-        by (inl e) = its st (sym (at_same s.maps m next k e) ∙ has)
-        by (inr ne) = here.standing k st (sym (at_other s.maps m next k ne) ∙ has)
+  -- one map comes, or is there no more
+  one_so : (m : ℕ) (next : Option (Standing K)) → ((st : Standing K) → next ≡ Some st → st.setting.mask + 1 ≡ shards) → (k : ℕ) (st : Standing K) → with_at s.maps m next k ≡ Some st
+      → st.setting.mask + 1 ≡ shards
+  one_so m next its k st has = by (cases_eq k m)
+    where
+      by : (k ≡ m) ⊎ (k ≢ m) → st.setting.mask + 1 ≡ shards
+      by (inl e) = its st (sym (at_same s.maps m next k e) ∙ has)
+      by (inr ne) = here.standing k st (sym (at_other s.maps m next k ne) ∙ has)
 
 module _ {K S : Type 0} (V : Type 0) (same : K → K → Bool) (by_hasher : S → K → ℕ) (hash : ℕ → K → ℕ) (batch_size roots shards : ℕ) (s n : Scene K V) (here : ShardsAre shards s)
     (hashes : (m : ℕ) (st : Standing K) → s.maps m ≡ Some st → st.hash ≡ hash m) where
@@ -114,7 +114,7 @@ module _ {K S : Type 0} (V : Type 0) (same : K → K → Bool) (by_hasher : S �
               (moved_map_keeps (hash m) came.standing (s.maps m) (came.did.maps2 m) came.stands (hashes m came.standing came.stands) came.did.its_map).setting
           by (inr ne) = (same_map_keeps (hash k) (s.maps k) (came.did.maps2 k) (hashes k) (came.did.others k ne)).setting
   acts_so (TellsCall i m reply) asks told (standing, stands, u, next, has, machine_is, told_is, kind, is) = is_so _ is (record { standing = here.standing; made = here.made })
-  acts_so (AsksCall i m) asks told (u, next, has, machine_is, told_is, is) = is_so _ is (record { standing = here.standing; made = here.made })
+  acts_so (AsksCall i m) asks told (u, has, told_is, is) = is_so _ is (record { standing = here.standing; made = here.made })
   acts_so (StopsCall i m) asks told (u, has, told_is, is) = is_so _ is (record { standing = here.standing; made = here.made })
   acts_so (BeginsMaking i map hasher given places) asks told (none, is) =
       is_so _ is
@@ -134,5 +134,5 @@ module _ {K S : Type 0} (V : Type 0) (same : K → K → Bool) (by_hasher : S �
   shards_stay = record {
     acts = λ p n x y act told own fits none none_then is is_then at may led leads at_then played here. acts_so V same by_hasher hash batch_size roots shards p.0 n.0 here at.hashes act fits told led;
     begins = λ p n x i c none begun same_scene all_free is is_then at here. subst (ShardsAre shards) (sym same_scene) here;
-    steps = λ p n x y told g st is is_then at leads played here. seen_so V same by_hasher hash batch_size roots shards p.0 n.0 here at.hashes st.did.did.w2 st.did.did.maps2 st.did.did.as_they_were st.did.comes;
+    steps = λ p n x y told g st is is_then at leads scene played here. seen_so V same by_hasher hash batch_size roots shards p.0 n.0 here at.hashes st.did.did.w2 st.did.did.maps2 st.did.did.as_they_were st.did.comes;
   }

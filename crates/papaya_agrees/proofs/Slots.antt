@@ -108,7 +108,7 @@ module _ {K V S : Type 0} (x : State K V S) (uses : ℕ → Use) (here : GuardsA
       quietly : ((c : Leave) → row ≡ rows.Leaves c → c.stands ≡ leaves.Swaps → ⊥) → StaysInside uses w2.uses → GuardsAre rows2 w2.uses guards
       quietly not stays = same_guards x.now.rows rows2 uses w2.uses guards here (λ t. on_unless t (λ c is at on. not c is at)) stays
 
-      begins : (t : ℕ) → ((c : Leave) → row ≡ rows.Leaves c → c.stands ≡ leaves.Swaps → ⊥) → InsideBy uses w2.uses (Opens {K = K} {V = V} t) → GuardsAre rows2 w2.uses (guards ++ guard_on t ∷ [])
+      begins : (t : ℕ) → ((c : Leave) → row ≡ rows.Leaves c → c.stands ≡ leaves.Swaps → ⊥) → InsideBy uses w2.uses {K = K} {V = V} (Opens t) → GuardsAre rows2 w2.uses (guards ++ guard_on t ∷ [])
       begins t not so = opened x.now.rows rows2 uses w2.uses guards here t (λ s. on_unless s (λ c is at on. not c is at)) so.0 so.1
 
       registers_so : (c : Register) (stands : Registering) → row ≡ rows.Registers c → InsideBy uses w2.uses (registers_as {K = K} {V = V} stands c.slot)
@@ -150,8 +150,8 @@ module _ {K V S : Type 0} (x : State K V S) (uses : ℕ → Use) (here : GuardsA
         leaves_so leaves.Frees at so = quietly (past leaves.Frees at (λ e. cc e)) so
         leaves_so leaves.Over at so = over (c.becomes == ACTIVE) so
           where
-            over : (q : Bool) → InsideBy uses w2.uses (if q then Opens {K = K} {V = V} c.slot else Leaves c.slot)
-                → GuardsAre rows2 w2.uses (there_on (if q then Opens {K = K} {V = V} c.slot else Leaves c.slot) (moment x.history).there).guards
+            over : (q : Bool) → InsideBy uses w2.uses {K = K} {V = V} (if q then Opens c.slot else Leaves c.slot)
+                → GuardsAre rows2 w2.uses (there_on {K = K} {V = V} (if q then Opens c.slot else Leaves c.slot) (moment x.history).there).guards
             over true open_so = begins c.slot (past leaves.Over at (λ e. cc e)) open_so
             over false stays = quietly (past leaves.Over at (λ e. cc e)) stays
 

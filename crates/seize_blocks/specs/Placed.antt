@@ -1,7 +1,9 @@
--- Where the word of a name is looked for, and places that are all full.
-use Rattle.std.specs.Prelude.{◌≡◌, ℕ, ◌+◌, ◌-◌, ◌*◌, ◌<◌, ◌≤◌, ◌^◌, Bool, true, List, replicate}
+-- Where the word of a name is looked for, and behind which door the strip of a number is.
+use Rattle.std.specs.Prelude.{◌≡◌, ℕ, ◌+◌, ◌-◌, ◌*◌, ◌<◌, ◌≤◌, ◌^◌, Some, IsSome}
 use denote.RawPtr.{Ptr}
+use Rattle.seize_words.specs.Mem.{word_at}
 use Rattle.seize_words.specs.declared.at.At.{At}
+use Rattle.seize_seats.specs.State.{State, view_of}
 use Rattle.seize_seats.specs.Lines.{IsWord}
 use Rattle.seize_seats.specs.Owned.{BaseId, IsIts, IsIn, place_in}
 
@@ -18,6 +20,10 @@ abbrev pub IsItsIndex : BaseId → ℕ → ℕ → Type 0
 IsItsIndex z block index =
     (0 < block → block ≤ z.count → IsIts z (block - 1)) × (0 < block → IsIts z (block - 1) → index ≡ block - 1 - z.first)
 
--- of so many places each is full
-abbrev pub all_full : ℕ → List Bool
-all_full n = replicate n true
+-- whatever the state is, if the seat has this view there is such a word
+abbrev pub HasWord : {T V W : Type 0} → (State T V W → Type 0) → ℕ → V → At → Type 0
+HasWord {T} {V} {W} holds id v at = (s : State T V W) → holds s → view_of s id ≡ Some v → IsSome (word_at s.memory at)
+
+-- the number of this index is one of the strip behind this door, and so many come before those of the strip
+abbrev pub IsBehind : ℕ → ℕ → ℕ → ℕ → Type 0
+IsBehind least index door first = (first ≡ least * 2 ^ door) × (first ≤ index) × (index < first * 2) × (door < 32)

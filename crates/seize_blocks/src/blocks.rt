@@ -1,61 +1,71 @@
 //! The memory as a whole, as those use it who share it.
 ghost use Rattle.std.specs.Prelude.{◌≡◌, ◌+◌, ◌-◌, ◌*◌, ◌≤◌, ◌<◌, ◌^◌, IfSome};
+ghost use denote.RawPtr.{InBlock};
 ghost use Rattle.seize_words.specs.Op.{Load, Store, Swap, Add, Or, Exchange, Make, Take, Rewrite, Room, Found, Stored, Exchanged, Made, Taken, Roomed};
 ghost use Rattle.seize_seats.specs.State.{Allows, Owns, Turns, Comes, Meets, Renews};
 ghost use Rattle.seize_seats.specs.Lines.{long};
 ghost use Rattle.seize_seats.specs.Owned.{core_of, IsFirst};
 ghost use Rattle.seize_seats.specs.Lendings.{Shown, ShownToBoth, IsValueOf, IsValueOfBoth};
-ghost use Rattle.seize_blocks.specs.Placed.{IsItsPlace, IsItsIndex};
+ghost use Rattle.seize_blocks.specs.Placed.{IsItsPlace, IsItsIndex, IsBehind, HasWord};
 
-use crate::claim::Claim;
-use crate::place::Place;
+use crate::part::{Spot, places_in};
+use crate::place::{Doors, Place};
+use crate::plot::skip_of;
 use crate::rule::{Meeting, Rule, Turn};
 use crate::seat::Seat;
 use crate::strip::Strip;
 use crate::words::Words;
 use seize_words::{At, Fault};
+use std::alloc::Global;
 use std::sync::atomic::AtomicU64;
-use std::sync::atomic::Ordering::SeqCst;
 
-/// A memory that threads share under a rule. It has words of roots and of the slots of the first bucket, and numbers for so many blocks, which have no
-/// words of their own yet.
+/// The most numbers that a memory has.
+pub(crate) const MOST: u64 = 4294967296;
+
+/// A memory that threads share under a rule. It has words of roots and of the slots of the first bucket, and numbers for blocks, which have no words of
+/// their own yet: so many in the first strip, and as many again with each further one, which is laid where it is needed.
 pub struct Blocks<T, R: Rule<T>> {
+    pub(crate) alloc: Global,
     pub words: Words<T, R>,
     pub(crate) roots: u64,
     pub(crate) count: u64,
     pub(crate) values: Place<T>,
+    pub(crate) doors: Doors,
     pub(crate) next: AtomicU64,
-    ghost counted: { (words.id.roots ≡ roots) × (words.id.count ≡ count) },
-    ghost lies: { words.id.values ≡ values.at },
+    ghost counted: { (words.id.roots ≡ roots) × (words.id.count ≡ 2 ^ 32) × (words.id.least ≡ count) },
+    ghost lies: { (words.id.values ≡ values.at) × (words.id.doors ≡ doors.at) },
     ghost strip: { IsFirst words.words words.id × (words.id.size ≡ count) },
-    ghost few: { (roots ≤ 65536) × (count ≤ 2 ^ 32) },
+    ghost few: { (roots ≤ 65536) × (0 < count) × (count ≤ 2 ^ 32) },
 }
 
 impl<T, R: Rule<T>> Blocks<T, R> {
-    /// Where the word of a name lies: in which strip, and at which place.
-    fn place_of(&self, at: At) -> (Strip<T>, u64)
-        ensures { (core_of result.0.id ≡ core_of self.now.words.id) × IsItsPlace result.0.words result.0.id at result.1 }
-    {
-        (self.words.strip(), self.place_in(at))
-    }
-
-    /// Where it lies in the first strip.
-    fn place_in(&self, at: At) -> u64
-        ensures { IsItsPlace self.now.words.words self.now.words.id at result }
+    /// Where the word of a name lies: in which strip, and at which place. Whatever the state is, if the seat has this view then there is such a word.
+    #[inline(always)]
+    fn place_of(&self, seat: &Seat<T, R>, at: At) -> (Strip<T>, u64)
+        requires own { seat.now.base ≡ self.now.words.id.views_name }
+        requires there { HasWord (R.holds self.now.words.fixed) seat.now.id seat.now.view at }
+        ensures { (core_of result.0.id ≡ core_of self.now.words.id) × InBlock result.0.words × IsItsPlace result.0.words result.0.id at result.1 }
     {
         match at {
-            At::Root(root) if root < self.roots => root * 16,
-            At::Used(root) if root < self.roots => (self.roots + root) * 16,
-            At::Slot(slot, field) if slot < 32 && field < 2 => (self.roots + self.roots + slot) * 16
-                + field,
-            At::Entry(block, word) if block > 0 && block <= self.count && word < 4 => self.first_of(
-                block - 1,
-            ) + word,
-            _ => 0,
+            At::Root(root) if root < self.roots => (self.words.strip(), root * 16),
+            At::Used(root) if root < self.roots => (self.words.strip(), (self.roots + root) * 16),
+            At::Slot(slot, field) if slot < 32 && field < 2 => {
+                (
+                    self.words.strip(),
+                    (self.roots + self.roots + slot) * 16 + field,
+                )
+            }
+            At::Entry(block, word) if word < 4 => {
+                let spot = self.spot_of(seat, seat, block);
+                let first = spot.first;
+                (spot.strip, first + word)
+            }
+            _ => (self.words.strip(), 0),
         }
     }
 
-    /// Where the words of a number lie: the first of them.
+    /// Where the words of a number of the first strip lie: the first of them.
+    #[inline(always)]
     fn first_of(&self, index: u64) -> u64
         requires { index ≤ 2 ^ 32 }
         ensures { result ≡ index * 5 + long self.now.words.id.roots }
@@ -63,18 +73,67 @@ impl<T, R: Rule<T>> Blocks<T, R> {
         index * 5 + (self.roots + self.roots + 32) * 16
     }
 
-    /// In which strip a number is, and its index there, if there is such a block.
-    fn index_of(&self, block: u64) -> (Strip<T>, u64)
-        ensures strip { (core_of result.0.id ≡ core_of self.now.words.id) × (result.0.id.skip ≡ long self.now.words.id.roots)
-            × (result.0.id.values ≡ self.now.values.at) }
-        ensures index { (result.1 < 2 ^ 32) × IsItsIndex result.0.id block result.1 }
+    /// Behind which door the strip of a number is, and how many numbers come before those of the strip.
+    pub(crate) fn door_of(&self, index: u64) -> (u64, u64)
+        requires { (self.now.words.id.least ≤ index) × (index < 2 ^ 32) }
+        ensures { IsBehind self.now.words.id.least index result.0 result.1 }
     {
-        let index = if block > 0 && block <= self.count {
-            block - 1
-        } else {
-            0
-        };
-        (self.words.strip(), index)
+        let mut first = self.count;
+        for door in 0..32 {
+            if index < first * 2 {
+                return (door, first);
+            }
+            first = first * 2;
+        }
+        unreachable!()
+    }
+
+    /// Where a block is: in which strip, its index there, and where the first of its words lies. The views of two seats show the block.
+    #[inline(always)]
+    fn spot_of(&self, guard: &Seat<T, R>, owner: &Seat<T, R>, block: u64) -> Spot<T>
+        requires own { (guard.now.base ≡ self.now.words.id.views_name) × (owner.now.base ≡ self.now.words.id.views_name) }
+        requires shown { ShownToBoth (R.holds self.now.words.fixed) guard.now.id guard.now.view owner.now.id owner.now.view block }
+        ensures strip { (core_of result.strip.id ≡ core_of self.now.words.id) × InBlock result.strip.words × (result.values ≡ result.strip.id.values) }
+        ensures index { IsItsIndex result.strip.id block result.index × (result.index < 2 ^ 32) }
+        ensures words { (result.first ≡ result.index * 5 + result.strip.id.skip) × (result.first + 4 < 2 ^ 60) }
+    {
+        if block <= self.count || block > MOST {
+            let index = if block > 0 && block <= self.count {
+                block - 1
+            } else {
+                0
+            };
+            return Spot {
+                strip: self.words.strip(),
+                values: self.values.at,
+                index,
+                first: self.first_of(index),
+            };
+        }
+        self.far_spot_of(guard, owner, block)
+    }
+
+    /// The same, of a block whose number lies behind a door.
+    fn far_spot_of(&self, guard: &Seat<T, R>, owner: &Seat<T, R>, block: u64) -> Spot<T>
+        requires far { (self.now.words.id.least < block) × (block ≤ 2 ^ 32) }
+        requires own { (guard.now.base ≡ self.now.words.id.views_name) × (owner.now.base ≡ self.now.words.id.views_name) }
+        requires shown { ShownToBoth (R.holds self.now.words.fixed) guard.now.id guard.now.view owner.now.id owner.now.view block }
+        ensures strip { (core_of result.strip.id ≡ core_of self.now.words.id) × InBlock result.strip.words × (result.values ≡ result.strip.id.values) }
+        ensures index { IsItsIndex result.strip.id block result.index × (result.index < 2 ^ 32) }
+        ensures words { (result.first ≡ result.index * 5 + result.strip.id.skip) × (result.first + 4 < 2 ^ 60) }
+    {
+        let (door, first) = self.door_of(block - 1);
+        let strip = self.words.find(guard, owner, block, self.doors.at, door);
+        let place = places_in(&strip);
+        let values = place.at;
+        let skip = skip_of::<T>(first as usize) as u64;
+        let index = block - 1 - first;
+        Spot {
+            strip,
+            values,
+            index,
+            first: index * 5 + skip,
+        }
     }
 
     /// A seat more.
@@ -111,7 +170,8 @@ impl<T, R: Rule<T>> Blocks<T, R> {
         requires ends { Renews (R.holds self.old.words.fixed) }
         ensures same { (self.new.words.words ≡ self.old.words.words) × (self.new.words.fixed ≡ self.old.words.fixed) }
         ensures names { (self.new.words.id.roots ≡ self.old.words.id.roots) × (self.new.words.id.count ≡ self.old.words.id.count)
-            × (self.new.words.id.values ≡ self.old.words.id.values) }
+            × (self.new.words.id.values ≡ self.old.words.id.values) × (self.new.words.id.doors ≡ self.old.words.id.doors)
+            × (self.new.words.id.size ≡ self.old.words.id.size) }
     {
         self.words.renew()
     }
@@ -133,95 +193,79 @@ impl<T, R: Rule<T>> Blocks<T, R> {
     }
 
     /// The word of a name.
+    #[inline(always)]
     pub fn load(&self, seat: &mut Seat<T, R>, at: At) -> u64
         requires own { seat.old.base ≡ self.now.words.id.views_name }
         requires may { Allows (R.holds self.now.words.fixed) R.keeps seat.old.id seat.old.view (Load at) (R.then seat.old.view (Load at)) }
         ensures same { (seat.new.base ≡ seat.old.base) × (seat.new.id ≡ seat.old.id) }
         ensures goes { R.then seat.old.view (Load at) (Found result) seat.new.view }
     {
-        let (strip, place) = self.place_of(at);
+        let (strip, place) = self.place_of(seat, at);
         self.words.by(&strip).load(seat, &at, place)
     }
 
     /// Writes the word of a name.
+    #[inline(always)]
     pub fn store(&self, seat: &mut Seat<T, R>, at: At, word: u64)
         requires own { seat.old.base ≡ self.now.words.id.views_name }
         requires may { Allows (R.holds self.now.words.fixed) R.keeps seat.old.id seat.old.view (Store at word) (R.then seat.old.view (Store at word)) }
         ensures same { (seat.new.base ≡ seat.old.base) × (seat.new.id ≡ seat.old.id) }
         ensures goes { R.then seat.old.view (Store at word) Stored seat.new.view }
     {
-        let (strip, place) = self.place_of(at);
+        let (strip, place) = self.place_of(seat, at);
         self.words.by(&strip).store(seat, &at, place, word)
     }
 
     /// Writes the word of a name, and answers the one before.
+    #[inline(always)]
     pub fn swap(&self, seat: &mut Seat<T, R>, at: At, word: u64) -> u64
         requires own { seat.old.base ≡ self.now.words.id.views_name }
         requires may { Allows (R.holds self.now.words.fixed) R.keeps seat.old.id seat.old.view (Swap at word) (R.then seat.old.view (Swap at word)) }
         ensures same { (seat.new.base ≡ seat.old.base) × (seat.new.id ≡ seat.old.id) }
         ensures goes { R.then seat.old.view (Swap at word) (Found result) seat.new.view }
     {
-        let (strip, place) = self.place_of(at);
+        let (strip, place) = self.place_of(seat, at);
         self.words.by(&strip).swap(seat, &at, place, word)
     }
 
     /// Adds to the word of a name, round at 2^64, and answers the one before.
+    #[inline(always)]
     pub fn add(&self, seat: &mut Seat<T, R>, at: At, by: u64) -> u64
         requires own { seat.old.base ≡ self.now.words.id.views_name }
         requires may { Allows (R.holds self.now.words.fixed) R.keeps seat.old.id seat.old.view (Add at by) (R.then seat.old.view (Add at by)) }
         ensures same { (seat.new.base ≡ seat.old.base) × (seat.new.id ≡ seat.old.id) }
         ensures goes { R.then seat.old.view (Add at by) (Found result) seat.new.view }
     {
-        let (strip, place) = self.place_of(at);
+        let (strip, place) = self.place_of(seat, at);
         self.words.by(&strip).add(seat, &at, place, by)
     }
 
     /// Sets bits of the word of a name, and answers the one before.
+    #[inline(always)]
     pub fn or(&self, seat: &mut Seat<T, R>, at: At, bits: u64) -> u64
         requires own { seat.old.base ≡ self.now.words.id.views_name }
         requires may { Allows (R.holds self.now.words.fixed) R.keeps seat.old.id seat.old.view (Or at bits) (R.then seat.old.view (Or at bits)) }
         ensures same { (seat.new.base ≡ seat.old.base) × (seat.new.id ≡ seat.old.id) }
         ensures goes { R.then seat.old.view (Or at bits) (Found result) seat.new.view }
     {
-        let (strip, place) = self.place_of(at);
+        let (strip, place) = self.place_of(seat, at);
         self.words.by(&strip).or(seat, &at, place, bits)
     }
 
     /// Writes a new word where the old one, the whole word, is found, and answers the word found: `Ok` where it was written.
+    #[inline(always)]
     pub fn exchange(&self, seat: &mut Seat<T, R>, at: At, old: u64, new: u64) -> Result<u64, u64>
         requires own { seat.old.base ≡ self.now.words.id.views_name }
         requires may { Allows (R.holds self.now.words.fixed) R.keeps seat.old.id seat.old.view (Exchange at old new) (R.then seat.old.view (Exchange at old new)) }
         ensures same { (seat.new.base ≡ seat.old.base) × (seat.new.id ≡ seat.old.id) }
         ensures goes { R.then seat.old.view (Exchange at old new) (Exchanged result) seat.new.view }
     {
-        let (strip, place) = self.place_of(at);
+        let (strip, place) = self.place_of(seat, at);
         self.words.by(&strip).exchange(seat, &at, place, old, new)
     }
 
-    /// A number that was free and is claimed now, for a block without words of its own. One after the other is tried, from that on which
-    /// follows the last one that was claimed.
-    fn number(&self, words: u64) -> Option<(u64, Claim)>
-        ensures { IfSome result (λ c. (words ≡ 0) × (c.0 < self.now.words.id.count) × (c.1.found ≡ 0)
-            × (c.1.base ≡ self.now.words.id.hands_name) × (c.1.index ≡ c.0)) }
-    {
-        if words != 0 || self.count == 0 {
-            return None;
-        }
-        let mut from = self.next.load(SeqCst);
-        for _ in 0..self.count {
-            let index = if from < self.count { from } else { 0 };
-            let (found, claim) = self.words.claim(index, self.first_of(index) + 4);
-            if found == 0 {
-                self.next.store(index + 1, SeqCst);
-                return Some((index, claim));
-            }
-            from = index + 1;
-        }
-        None
-    }
-
     /// Makes a block of a value and as many words, each 0, and answers its number. There are no blocks with words of their own yet. Where such
-    /// a block is asked for, or no number is free, the value comes back.
+    /// a block is asked for, or no number is free and there is no memory for more, the value comes back.
     pub fn make(&self, seat: &mut Seat<T, R>, value: T, words: u64) -> Result<u64, T>
         requires own { seat.old.base ≡ self.now.words.id.views_name }
         requires may { Allows (R.holds self.now.words.fixed) R.keeps seat.old.id seat.old.view (Make value words) (R.then seat.old.view (Make value words)) }
@@ -229,10 +273,11 @@ impl<T, R: Rule<T>> Blocks<T, R> {
         ensures goes { R.then seat.old.view (Make value words) (Made result) seat.new.view }
     {
         match self.number(words) {
-            Some((index, claim)) => {
+            Some((part, index, claim)) => {
                 self.words
-                    .put(seat, claim, index, self.values.at, value, words);
-                Ok(index + 1)
+                    .by(&part.strip)
+                    .put(seat, claim, index, part.values, value, words);
+                Ok(part.first + index + 1)
             }
             None => {
                 self.words.refuse(seat, &value, words);
@@ -242,19 +287,20 @@ impl<T, R: Rule<T>> Blocks<T, R> {
     }
 
     /// Takes a block away, and answers its value. Its number is free from then on.
+    #[inline(always)]
     pub fn take(&self, seat: &mut Seat<T, R>, block: u64) -> T
         requires own { seat.old.base ≡ self.now.words.id.views_name }
         requires may { Allows (R.holds self.now.words.fixed) R.keeps seat.old.id seat.old.view (Take block) (R.then seat.old.view (Take block)) }
         ensures same { (seat.new.base ≡ seat.old.base) × (seat.new.id ≡ seat.old.id) }
         ensures goes { R.then seat.old.view (Take block) (Taken result) seat.new.view }
     {
-        let (strip, index) = self.index_of(block);
-        let first = self.first_of(index);
-        let value = self.words.by(&strip).take(
+        let spot = self.spot_of(seat, seat, block);
+        let first = spot.first;
+        let value = self.words.by(&spot.strip).take(
             seat,
             block,
-            index,
-            self.values.at,
+            spot.index,
+            spot.values,
             first,
             first + 1,
             first + 2,
@@ -275,11 +321,11 @@ impl<T, R: Rule<T>> Blocks<T, R> {
         ensures same { (seat.new.base ≡ seat.old.base) × (seat.new.id ≡ seat.old.id) }
         ensures goes { R.then seat.old.view (Rewrite block value) (Taken result) seat.new.view }
     {
-        let (strip, index) = self.index_of(block);
+        let spot = self.spot_of(seat, seat, block);
         match self
             .words
-            .by(&strip)
-            .rewrite(seat, block, index, self.values.at, value)
+            .by(&spot.strip)
+            .rewrite(seat, block, spot.index, spot.values, value)
         {
             Some(before) => before,
             None => unreachable!(),
@@ -287,6 +333,7 @@ impl<T, R: Rule<T>> Blocks<T, R> {
     }
 
     /// The value of a block that the seat's view shows, for as long as the memory and the seat are borrowed.
+    #[inline(always)]
     pub fn value<'g>(&'g self, seat: &'g Seat<T, R>, block: u64) -> &'g T
         requires own { seat.now.base ≡ self.now.words.id.views_name }
         requires shown { Shown (R.holds self.now.words.fixed) seat.now.id seat.now.view block }
@@ -297,6 +344,7 @@ impl<T, R: Rule<T>> Blocks<T, R> {
 
     /// The value of a block that the views of two seats show together, as that of a guard that holds it and that of who it belongs to, for as long as the
     /// memory and both seats are borrowed.
+    #[inline(always)]
     pub fn value_for<'g>(
         &'g self,
         guard: &'g Seat<T, R>,
@@ -307,10 +355,10 @@ impl<T, R: Rule<T>> Blocks<T, R> {
         requires shown { ShownToBoth (R.holds self.now.words.fixed) guard.now.id guard.now.view owner.now.id owner.now.view block }
         ensures { IsValueOfBoth (R.holds self.now.words.fixed) guard.now.id guard.now.view owner.now.id owner.now.view block result.now }
     {
-        let (strip, index) = self.index_of(block);
+        let spot = self.spot_of(guard, owner, block);
         match self
             .words
-            .value(&strip, guard, owner, block, index, self.values.at)
+            .value(&spot.strip, guard, owner, block, spot.index, spot.values)
         {
             Some(value) => value,
             None => unreachable!(),

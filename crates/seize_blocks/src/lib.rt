@@ -4,7 +4,10 @@
 mod blocks;
 mod claim;
 mod home;
+mod numbers;
+mod part;
 mod place;
+mod plot;
 mod row;
 mod rule;
 mod seat;

@@ -1,10 +1,20 @@
-//! Where the values of blocks lie.
+//! Where the values of blocks lie, and where the doors do.
 
 /// The address of the first of the places for values.
 #[derive(Drop)]
 pub(crate) struct Place<T> {
     pub(crate) at: *mut Option<T>,
 }
+
+/// The address of the first of the doors, behind which further strips of numbers lie.
+#[derive(Drop)]
+pub(crate) struct Doors {
+    pub(crate) at: *mut *mut u64,
+}
+
+unsafe impl Send for Doors {}
+
+unsafe impl Sync for Doors {}
 
 unsafe impl<T> Send for Place<T> {}
 

@@ -1,21 +1,28 @@
 //! The words, and what one step of a seat does to them: one atomic operation on a word, or none.
-ghost use Rattle.std.specs.Prelude.{◌≡◌, ℕ, ◌+◌, ◌-◌, ◌*◌, ◌^◌, ◌<◌, ◌≤◌, Some, None, Ok, Err, length, slice_index, slice_index_or};
+ghost use Rattle.std.specs.Prelude.{◌≡◌, ℕ, ◌+◌, ◌-◌, ◌*◌, ◌^◌, ◌<◌, ◌≤◌, Some, None, true, Ok, Err, IfErr, length, slice_index, slice_index_or};
+ghost use denote.RawPtr.{InBlock, Testable, null_ptr};
+ghost use Rattle.core.specs.Mem.Slots.Ownership.{Filled};
 ghost use Rattle.seize_words.specs.Op.{Load, Store, Swap, Add, Or, Exchange, Make, Take, Rewrite, Room, Found, Stored, Exchanged, Made, Taken, Roomed};
 ghost use Rattle.seize_seats.specs.State.{Allows, Owns, Turns, Comes, Meets, Renews, Starts};
 ghost use Rattle.seize_seats.specs.Lines.{whole};
+ghost use Rattle.seize_seats.specs.Doors.{before, block_bytes, words_from, IsFurther, AreBehind};
 ghost use Rattle.seize_seats.specs.Steps.{roomed};
 ghost use Rattle.seize_seats.specs.Lendings.{ShownToBoth, IsValueOfBoth};
-ghost use Rattle.seize_seats.specs.Owned.{BaseId, base_id_coded, core_of, IsFirst, IsLike, words_own, words_share};
+ghost use Rattle.seize_seats.specs.Owned.{BaseId, base_id_coded, core_of, stride, IsFirst, IsLike, words_own, words_share};
 ghost use Rattle.seize_blocks.specs.Placed.{IsItsPlace, IsItsSign, IsItsIndex};
+ghost use Rattle.seize_seats.specs.Plots.{HasFirst};
 
 use crate::claim::Claim;
-use crate::place::Place;
+use crate::place::{Doors, Place};
+use crate::plot::{Alone, Deed};
 use crate::row::Row;
 use crate::rule::{Meeting, Rule, Turn};
 use crate::seat::Seat;
 use crate::strip::Strip;
 use seize_words::At;
+use std::alloc::Global;
 use std::marker::{Brand, Model, PhantomData};
+use std::ptr::null_mut;
 use std::sync::atomic::Ordering::SeqCst;
 use std::sync::atomic::raw;
 
@@ -34,38 +41,59 @@ impl<T, R: Rule<T>> Model for Words<T, R> {
 }
 
 impl<T, R: Rule<T>> Words<T, R> {
-    /// The words, each 0, of so many roots go under the rule, with places for so many values, each of them empty.
+    /// The words, each 0, of so many roots go under the rule, with places for so many values, each of them empty. There are `most` numbers at most.
     pub(crate) fn open(
         row: Row<u64>,
         values: Row<Option<T>>,
+        doors: Row<*mut u64>,
         _roots: u64,
         _count: u64,
+        _most: u64,
         fixed: &R::Fixed,
-    ) -> (Self, Place<T>)
+    ) -> (Self, Place<T>, Doors)
         requires { ((k : ℕ) → slice_index row.items k ≡ 0) × (length row.items ≡ whole _roots _count) × Starts (R.holds fixed.now) _roots
-            × ((k : ℕ) → slice_index_or values.items k None ≡ None) × (length values.items ≡ _count) }
-        ensures { (result.0.words ≡ row.at) × (result.0.id.roots ≡ _roots) × (result.0.id.count ≡ _count) × (result.0.id.values ≡ values.at)
-            × (result.0.id.size ≡ _count) × IsFirst row.at result.0.id × (result.0.fixed ≡ fixed.now) × (result.1.at ≡ values.at) }
+            × ((k : ℕ) → slice_index_or values.items k None ≡ None) × (length values.items ≡ _count)
+            × ((k : ℕ) → slice_index_or doors.items k null_ptr ≡ null_ptr) × (length doors.items ≡ 32)
+            × (_count ≤ _most) × Filled row.filled 0 (length row.items) × Filled values.filled 0 (length values.items)
+            × Filled doors.filled 0 (length doors.items) }
+        ensures { (result.0.words ≡ row.at) × (result.0.id.roots ≡ _roots) × (result.0.id.count ≡ _most) × (result.0.id.values ≡ values.at)
+            × (result.0.id.size ≡ _count) × (result.0.id.least ≡ _count) × (result.0.id.doors ≡ doors.at) × IsFirst row.at result.0.id
+            × (result.0.fixed ≡ fixed.now) × (result.1.at ≡ values.at) × (result.2.at ≡ doors.at) }
     {
         let Row { at } = row;
         let Row { at: places } = values;
+        let Row { at: shut } = doors;
         (
             Words {
                 words: at,
                 marker: PhantomData,
             },
             Place { at: places },
+            Doors { at: shut },
         )
     }
 
-    /// The words and the values come back from under the rule.
-    pub(crate) fn close(self, values: *mut Option<T>) -> (Row<u64>, Row<Option<T>>)
-        requires { (values ≡ self.id.values) × IsFirst self.words self.id }
+    /// The words, the values and the doors come back from under the rule, and all further strips.
+    pub(crate) fn close(
+        self,
+        values: *mut Option<T>,
+        doors: *mut *mut u64,
+    ) -> (Row<u64>, Row<Option<T>>, Row<*mut u64>, Alone<T>)
+        requires { (values ≡ self.id.values) × (doors ≡ self.id.doors) × IsFirst self.words self.id }
         ensures { (result.0.at ≡ self.words) × (length result.0.items ≡ whole self.id.roots self.id.size) × (result.1.at ≡ values)
-            × (length result.1.items ≡ self.id.size) }
+            × (length result.1.items ≡ self.id.size) × (result.2.at ≡ doors) × (length result.2.items ≡ 32)
+            × Filled result.0.filled 0 (length result.0.items) × Filled result.1.filled 0 (length result.1.items)
+            × Filled result.2.filled 0 (length result.2.items) × AreBehind (IsFurther T.row self.id.least) 0 result.3.strips result.2.items }
     {
         let Words { words, marker: _ } = self;
-        (Row { at: words }, Row { at: values })
+        (
+            Row { at: words },
+            Row { at: values },
+            Row { at: doors },
+            Alone {
+                marker: PhantomData,
+            },
+        )
     }
 
     /// A seat more.
@@ -101,7 +129,7 @@ impl<T, R: Rule<T>> Words<T, R> {
 
     /// The strip by which these words are had.
     pub(crate) fn strip(&self) -> Strip<T>
-        ensures { (result.words ≡ self.now.words) × (result.id ≡ self.now.id) }
+        ensures { (result.words ≡ self.now.words) × (result.id ≡ self.now.id) × InBlock result.words }
     {
         Strip {
             words: self.words,
@@ -109,9 +137,91 @@ impl<T, R: Rule<T>> Words<T, R> {
         }
     }
 
+    /// The strip behind a door, or no address where the door is null.
+    pub(crate) fn look(&self, doors: *mut *mut u64, index: u64) -> Strip<T>
+        requires { (doors ≡ self.now.id.doors) × (index < 32) }
+        ensures { (core_of result.id ≡ core_of self.now.id) × (result.id.skip ≡ before T.row result.id.size)
+            × (result.id.values ≡ result.words)
+            × (result.id.first ≡ self.now.id.least * 2 ^ index) × (result.id.size ≡ result.id.first)
+            × (result.id.place ≡ index + 1) × Testable result.words
+            × (InBlock result.words → ((result.id.skip + result.id.size * 5) * 8 < 2 ^ 63) × (result.id.size * stride T.row < 2 ^ 63)) }
+    {
+        let words = unsafe { raw::ptr::load::<u64, Brand>(doors.add(index as usize), SeqCst) };
+        Strip {
+            words,
+            marker: PhantomData,
+        }
+    }
+
+    /// Puts a further strip behind a door that is null. Whoever finds it set has the strip back, which lies there.
+    pub(crate) fn offer(
+        &self,
+        last: &Strip<T>,
+        doors: *mut *mut u64,
+        index: u64,
+        places: Row<Option<T>>,
+        words: Row<u64>,
+        deed: Deed<T, Global>,
+    ) -> (Result<*mut u64, *mut u64>, Place<T>, Alone<T>)
+        requires { (core_of last.now.id ≡ core_of self.now.id) × InBlock last.now.words × (last.now.id.place ≡ index)
+            × (last.now.id.first + last.now.id.size ≡ deed.count) × (deed.count ≡ self.now.id.least * 2 ^ index)
+            × (deed.count + deed.count ≤ self.now.id.count) × (doors ≡ self.now.id.doors) × (index < 32)
+            × (deed.at ≡ places.at) × InBlock places.at × (words.at ≡ words_from T.row deed.count places.at)
+            × (length places.items ≡ deed.count) × (length words.items ≡ deed.count * 5)
+            × Filled places.filled 0 (length places.items) × Filled words.filled 0 (length words.items)
+            × ((k : ℕ) → slice_index_or places.items k None ≡ None) × ((k : ℕ) → slice_index words.items k ≡ 0)
+            × (block_bytes T.row deed.count < 2 ^ 63) }
+        ensures { IfErr result.0 (λ _. HasFirst T.row result.1.at deed.count result.2.strips × (result.2.fresh ≡ true)) }
+    {
+        let Deed { marker: _ } = deed;
+        let Row { at } = places;
+        let Row { at: _ } = words;
+        let found = unsafe {
+            raw::ptr::compare_exchange::<u64, Brand>(
+                doors.add(index as usize),
+                null_mut(),
+                at as *mut u64,
+                SeqCst,
+                SeqCst,
+            )
+        };
+        (
+            found,
+            Place { at },
+            Alone {
+                marker: PhantomData,
+            },
+        )
+    }
+
+    /// The strip behind a door, that of a block which the views of two seats show together. These are the words of the first strip.
+    pub(crate) fn find(
+        &self,
+        guard: &Seat<T, R>,
+        owner: &Seat<T, R>,
+        _block: u64,
+        doors: *mut *mut u64,
+        index: u64,
+    ) -> Strip<T>
+        requires { (guard.now.base ≡ self.now.id.views_name) × (owner.now.base ≡ self.now.id.views_name)
+            × (doors ≡ self.now.id.doors) × (index < 32) × (self.now.id.place ≡ 0) × (self.now.id.size ≡ self.now.id.least)
+            × (self.now.id.least * 2 ^ index ≤ _block - 1)
+            × ShownToBoth (R.holds self.now.fixed) guard.now.id guard.now.view owner.now.id owner.now.view _block }
+        ensures { (core_of result.id ≡ core_of self.now.id) × (result.id.skip ≡ before T.row result.id.size)
+            × (result.id.values ≡ result.words)
+            × (result.id.first ≡ self.now.id.least * 2 ^ index) × (result.id.size ≡ result.id.first) × InBlock result.words
+            × ((result.id.skip + result.id.size * 5) * 8 < 2 ^ 63) × (result.id.size * stride T.row < 2 ^ 63) }
+    {
+        let words = unsafe { raw::ptr::load::<u64, Brand>(doors.add(index as usize), SeqCst) };
+        Strip {
+            words,
+            marker: PhantomData,
+        }
+    }
+
     /// The words of a strip of the same memory, for as long as both are borrowed.
     pub(crate) fn by<'g>(&'g self, strip: &'g Strip<T>) -> &'g Words<T, R>
-        requires { core_of strip.now.id ≡ core_of self.now.id }
+        requires { (core_of strip.now.id ≡ core_of self.now.id) × InBlock strip.now.words }
         ensures { (result.now.words ≡ strip.now.words) × (result.now.id ≡ strip.now.id) × (result.now.fixed ≡ self.now.fixed)
             × (strip.now.id.views_name ≡ self.now.id.views_name) × (strip.now.id.hands_name ≡ self.now.id.hands_name) }
     {
@@ -216,7 +326,7 @@ impl<T, R: Rule<T>> Words<T, R> {
         index: u64,
         values: *mut Option<T>,
     ) -> &'g Option<T>
-        requires { (core_of strip.now.id ≡ core_of self.now.id)
+        requires { (core_of strip.now.id ≡ core_of self.now.id) × InBlock strip.now.words
             × (guard.now.base ≡ self.now.id.views_name) × (owner.now.base ≡ self.now.id.views_name)
             × IsItsIndex strip.now.id _block index × (values ≡ strip.now.id.values)
             × ShownToBoth (R.holds self.now.fixed) guard.now.id guard.now.view owner.now.id owner.now.view _block }

@@ -3,9 +3,10 @@ use Rattle.std.specs.Prelude.{replicate}
 use Rattle.std.proofs.Common.{◌≡◌, ℕ, zero, suc, ◌+◌, ◌*◌, ◌≤◌, List, [], ◌∷◌, ◌++◌, length, take, drop, refl, sym, ap, ◌∙◌, subst, arith, None, length-append}
 use Rattle.std.proofs.lemmas.List.{length-replicate, length-drop, take_all, take-append-le, drop-append-le}
 use seplogic.Ra.Ura.{Ura}
+use base.Share
 use base.Share.{three_quarters}
-use base.Logic.{SProp, ent, sep, upd, upd_i}
-use base.Fml.{Lft, Fml, ftrue}
+use base.Logic.{SProp, ent, sep, wand, upd, apply∗, upd_i}
+use base.Fml.{Lft, Share, Fml, ftrue, fsep}
 use types.Logic.{Logic, sem}
 use types.Kit.{‵, raw, ◌⊛◌, ◌$◌, ◌∵◌, !, qed, move, split, fsplit, fjoin, fjoin3, fpack, suffices, settle, use1, use2, use3, rewrite, done}
 use denote.RattleType.{RattleType}
@@ -14,8 +15,9 @@ use denote.Steps.{nothing}
 use Rattle.seize_seats.specs.Seen.{seen}
 use Rattle.seize_seats.specs.Cells.{Cell, Free, block_in, blocks_in, cell_at}
 use Rattle.seize_seats.specs.Lines.{Parts, memory_of, AreLaid}
-use Rattle.seize_seats.specs.Strips.{Strip, strip_coded, no_strip, AreStrips}
-use Rattle.seize_seats.specs.Owned.{row, ledger, unborn, hand_coded, resting, places, numbers, strips, listing, listed}
+use Rattle.seize_seats.specs.Strips.{Strip, strip_coded, no_strip, further, Book, AreStrips}
+use Rattle.seize_seats.specs.Doors.{stays}
+use Rattle.seize_seats.specs.Owned.{row, ledger, unborn, hand_coded, resting, doors_of, places, numbers, strips, listed}
 use Rattle.seize_seats.proofs.Strips.{strips_up}
 use Rattle.seize_seats.proofs.Ledgers as Ledgers
 use Rattle.seize_seats.proofs.Opening.{fives}
@@ -90,7 +92,7 @@ module _ {M : Type 1} {𝓤 : Ura M} (𝓛 : Logic 𝓤) (R : RattleType) (α : 
       rewrite ! 1 (λ (l : List (Cell R.Denot)). ‵ (Of x l)) (sym first) refl $ move ! (1 ∷ 0 ∷ []) $ fjoin ! $ done !
 
   -- THE STRIP JOINS: its words and places go under the rule, and who has put it there can tell that it is listed
-  module _ (σ : ℕ) (Known : List Strip → Type 0) (ss : List Strip) (cs : List (Cell R.Denot)) (s : Strip) (are : AreStrips 0 ss (length cs))
+  module _ (σ : Book) (Known : List Strip → Type 0) (ss : List Strip) (cs : List (Cell R.Denot)) (s : Strip) (are : AreStrips 0 ss (length cs))
       (first : s.first ≡ length cs) (known : Known (ss ++ s ∷ [])) where
     abbrev Fives : Fml
     Fives = row (block_of s.words) (s.skip * 8 + count_of s.words) (fives s.size)
@@ -101,32 +103,52 @@ module _ {M : Type 1} {𝓤 : Ura M} (𝓛 : Logic 𝓤) (R : RattleType) (α : 
     abbrev Hands : ℕ → Fml
     Hands n = unborn hand_coded.code δ n resting
 
-    abbrev Book : List Strip → Fml
-    Book l = ledger strip_coded.code σ no_strip l
+    abbrev Led : List Strip → Fml
+    Led l = ledger strip_coded.code σ.name no_strip l
 
-    abbrev Sh : Fml
-    Sh = seen strip_coded.code σ three_quarters (length ss) s
+    abbrev Drs : List Strip → Fml
+    Drs l = doors_of R σ l
+
+    abbrev Sh : Share → Fml
+    Sh q = seen strip_coded.code σ.name q (length ss) s
+
+    -- it is listed, and stays so
+    abbrev pub Stays : Fml
+    Stays = stays σ.name (length ss) s
 
     abbrev pub Joined : Fml
     Joined = listed R α δ lent had σ Known (more cs s.size) (ss ++ s ∷ [])
 
-    pub joins : ent 𝓤 (sep 𝓤 (sem 𝓛 (listing R α δ lent had σ ss (length cs))) (sep 𝓤 (sem 𝓛 (All ss cs)) (sep 𝓤 (sem 𝓛 Fives) (sem 𝓛 Nones))))
-        (upd 𝓤 (sep 𝓤 (sem 𝓛 Joined) (sem 𝓛 Sh)))
-    joins = let Z : SProp 𝓤 = sep 𝓤 (sem 𝓛 Joined) (sem 𝓛 Sh) in let us : List Strip = ss ++ s ∷ [] in
+    -- what makes the doors those of all of them, once it is listed
+    abbrev pub Opens : SProp 𝓤
+    Opens = wand 𝓤 (sem 𝓛 Stays) (sem 𝓛 (Drs (further (ss ++ s ∷ []))))
+
+    pub joins : ent 𝓤 (sep 𝓤 (sem 𝓛 (fsep (Led ss) (Hands (length cs)))) (sep 𝓤 (sem 𝓛 (All ss cs)) (sep 𝓤 (sem 𝓛 Fives) (sep 𝓤 (sem 𝓛 Nones) Opens))))
+        (upd 𝓤 (sep 𝓤 (sem 𝓛 Joined) (sem 𝓛 Stays)))
+    joins = let Z : SProp 𝓤 = sep 𝓤 (sem 𝓛 Joined) (sem 𝓛 Stays) in let us : List Strip = ss ++ s ∷ [] in
+        let q₁ : Share = Share.left three_quarters in let q₂ : Share = Share.right three_quarters in
         let long : length (more cs s.size) ≡ length cs + s.size = length-append cs (replicate s.size Free)
         ∙ ap (λ (k : ℕ). length cs + k) (length-replicate {A = Cell R.Denot} s.size Free) in
         let after = are_joined ss 0 (length cs) s are first in
         let still : AreStrips 0 us (length (more cs s.size)) = subst (AreStrips 0 us) (sym long) after in
-        qed 𝓛 (‵ (listing R α δ lent had σ ss (length cs)) ∷ ‵ (All ss cs) ∷ ‵ Fives ∷ ‵ Nones ∷ []) ∵ fsplit ! $
-        -- [the list; the hands; the strips; the words; the places]
-        use1 𝓛 (raw (upd 𝓤 (sep 𝓤 (sem 𝓛 (Book us)) (sem 𝓛 Sh)))) (Ledgers.comes 𝓛 strip_coded σ no_strip ss s) $ settle 𝓛 Z (‵ (Book us) ⊛ ‵ Sh) $ split ! $
-        suffices ! _ (upd_i 𝓤 Z) $
-        -- [the list; the share; the hands; the strips; the words; the places]
+        qed 𝓛 (‵ (fsep (Led ss) (Hands (length cs))) ∷ ‵ (All ss cs) ∷ ‵ Fives ∷ ‵ Nones ∷ raw Opens ∷ []) ∵ fsplit ! $
+        -- [the list; the hands; the strips; the words; the places; what opens]
+        use1 𝓛 (raw (upd 𝓤 (sep 𝓤 (sem 𝓛 (Led us)) (sem 𝓛 (Sh three_quarters))))) (Ledgers.comes 𝓛 strip_coded σ.name no_strip ss s) $
+        settle 𝓛 Z (‵ (Led us) ⊛ ‵ (Sh three_quarters)) $ split ! $ suffices ! _ (upd_i 𝓤 Z) $ move ! (1 ∷ []) $
+        use1 𝓛 (‵ (Sh q₁) ⊛ ‵ (Sh q₂)) ((Ledgers.view_halves 𝓛 strip_coded σ.name (length ss) s).cut three_quarters) $ split ! $
+        fpack ! Share Sh q₁ $ move ! (1 ∷ []) $ fpack ! Share Sh q₂ $
+        -- [it stays; it stays; the list; the hands; the strips; the words; the places; what opens]
+        move ! (0 ∷ 7 ∷ []) $ use2 𝓛 (‵ (Drs (further us))) (apply∗ 𝓤 (sem 𝓛 Stays) (sem 𝓛 (Drs (further us)))) $
+        -- [the doors; it stays; the list; the hands; the strips; the words; the places]
+        move ! (2 ∷ 1 ∷ 3 ∷ 4 ∷ 5 ∷ 6 ∷ 0 ∷ []) $
+        -- [the list; it stays; the hands; the strips; the words; the places; the doors]
         move ! (2 ∷ []) $ rewrite ! 0 (λ (n : ℕ). ‵ (Hands n)) (sym first) refl $ move ! (4 ∷ 5 ∷ 0 ∷ []) $
         use3 𝓛 (‵ (Of s (replicate s.size Free)) ⊛ ‵ (Hands (length (more cs s.size))))
         (Opening.builds 𝓛 R α δ lent had (block_of s.words) (block_of s.values) s.size s.first (length (more cs s.size)) (s.skip * 8 + count_of s.words)
         (count_of s.values) (omega (arith, long, first))) $ split ! $
-        -- [its numbers; the hands; the list; the share; the strips]
-        move ! (2 ∷ 1 ∷ []) $ fjoin ! $ move ! (3 ∷ 1 ∷ []) $ use2 𝓛 (‵ (All us (more cs s.size))) (strips_join ss cs 0 (length cs) s are (omega arith)) $
-        -- [the strips; the list and the hands; the share]
+        -- [its numbers; the hands; the list; it stays; the strips; the doors]
+        move ! (2 ∷ 1 ∷ []) $ fjoin ! $ move ! (0 ∷ 4 ∷ []) $ fjoin ! $
+        -- [the list, the hands and the doors; its numbers; it stays; the strips]
+        move ! (3 ∷ 1 ∷ []) $ use2 𝓛 (‵ (All us (more cs s.size))) (strips_join ss cs 0 (length cs) s are (omega arith)) $
+        -- [the strips; the list, the hands and the doors; it stays]
         nothing ! $ fpack ! (AreStrips 0 us (length (more cs s.size)) × Known us) (λ _. ftrue) (still, known) $ move ! (2 ∷ 0 ∷ 1 ∷ []) $ fjoin3 ! $ done !

@@ -17,7 +17,7 @@ use Rattle.seize_seats.specs.Seen.{seen}
 use Rattle.seize_seats.specs.Cells.{Cell}
 use Rattle.seize_seats.specs.Strips.{Strip, strip_coded, no_strip, AreStrips}
 use Rattle.seize_seats.specs.Stretches.{IsEven, invariant}
-use Rattle.seize_seats.specs.Owned.{ledger, listed, BaseId, Inside, age, core_of, strip_of, IsListed, is_listed, lent_here, had_here, standing, standing_in, inner, everything, told}
+use Rattle.seize_seats.specs.Owned.{ledger, listed, BaseId, Inside, age, core_of, book_of, strip_of, IsListed, is_listed, lent_here, had_here, standing, standing_in, inner, everything, told}
 use Rattle.seize_seats.proofs.Ledgers as Ledgers
 use Rattle.seize_seats.proofs.Stretches as Stretches
 
@@ -69,7 +69,7 @@ module _ {M : Type 1} {𝓤 : Ura M} (𝓛 : Logic 𝓤) (R : RattleType) {V W :
   Sh q = seen strip_coded.code z.strips_name q z.place (strip_of p z)
 
   abbrev Listed : (List Strip → Type 0) → List (Cell R.Denot) → List Strip → Fml
-  Listed = listed R α z.hands_name (lent_here R cv.code holds p z) (had_here R cv.code holds p z) z.strips_name
+  Listed = listed R α z.hands_name (lent_here R cv.code holds p z) (had_here R cv.code holds p z) (book_of z)
 
   abbrev Any : List Strip → Type 0
   Any ss = Unit {0}
@@ -80,9 +80,9 @@ module _ {M : Type 1} {𝓤 : Ura M} (𝓛 : Logic 𝓤) (R : RattleType) {V W :
   pub comes_in : ⟦ E ⟧ ∗ ⟦ L ⟧ ⊢ ⟦ I ⟧
   comes_in = qed 𝓛 (‵ E ∷ ‵ L ∷ []) ∵ fpick ! (λ t. fsplit3 ! $ fsplit ! $ move ! (1 ∷ []) $ fpick ! (λ ss. fsplit3 ! $ move ! (1 ∷ []) $ fpick ! (λ are. drop ! $
       -- [the list; the strips; the words; the views; the facts; the share]
-      move ! (5 ∷ []) $ fpick ! (λ q. move ! (1 ∷ []) $ fsplit ! $ move ! (0 ∷ 2 ∷ []) $
+      move ! (5 ∷ []) $ fpick ! (λ q. move ! (1 ∷ []) $ fsplit ! $ fsplit ! $ move ! (0 ∷ 3 ∷ []) $
       use2 𝓛 (given (IsListed p z ss) (‵ (Book ss) ⊛ ‵ (Sh q))) (Ledgers.sits 𝓛 strip_coded z.strips_name no_strip ss z.place q (strip_of p z)) $
-      learn ! (λ at. split ! $ move ! (1 ∷ []) $ drop ! $ fjoin ! $
+      learn ! (λ at. split ! $ move ! (1 ∷ []) $ drop ! $ fjoin ! $ fjoin ! $
       nothing ! $ fpack ! (Are (IsListed p z) t ss) (λ _. ftrue) (are.0, at) $ move ! (1 ∷ 0 ∷ 2 ∷ []) $ fjoin3 ! $
       fpack ! (List Strip) (Listed (IsListed p z) t.parts.cells) ss $ move ! (1 ∷ 0 ∷ []) $ fjoin ! $ fjoin3 ! $
       fpack ! (Inside R.Denot V W) (standing R cv.code holds p z) t $ done !)))))

@@ -20,7 +20,7 @@ use Rattle.seize_seats.specs.Cells.{Cell, Free, Claimed, Out, Has, Held, block_i
 use Rattle.seize_seats.specs.Lines.{Parts, place_of, memory_of, IsWord, IsNoBlocks, AreLaid}
 use Rattle.seize_seats.specs.Strips.{Strip, AreStrips}
 use Rattle.seize_seats.specs.Laws.{noted}
-use Rattle.seize_seats.specs.Owned.{row, stride, resting, held, hand, under, strips, listing, listed, all_strips, BaseId, age, strip_of, IsListed, IsIts, IsIn, place_in}
+use Rattle.seize_seats.specs.Owned.{row, stride, resting, held, hand, under, strips, listing, listed, all_strips, BaseId, age, book_of, strip_of, IsListed, IsIts, IsIn, place_in}
 use Rattle.seize_seats.proofs.Cells.{block_is, entries_lie, entries_are_apart, get_some}
 use Rattle.seize_seats.proofs.Columns.{words_lie, words_are_apart}
 use Rattle.seize_seats.proofs.Rows.{row_at}
@@ -53,7 +53,7 @@ module _ {M : Type 1} {𝓤 : Ura M} (𝓛 : Logic 𝓤) (R : RattleType) (p : P
 
   -- all words of roots and slots, and what lies under the numbers
   abbrev All : List (Cell R.Denot) → Fml
-  All cs = all_strips R α z.hands_name lent had z.strips_name (IsListed p z) cs
+  All cs = all_strips R α z.hands_name lent had (book_of z) (IsListed p z) cs
 
   abbrev Fixed : List ℕ → Fml
   Fixed ws = row (block_of z.fixed) (count_of z.fixed) ws
@@ -76,7 +76,7 @@ module _ {M : Type 1} {𝓤 : Ura M} (𝓛 : Logic 𝓤) (R : RattleType) (p : P
   there ws cs i of = qed 𝓛 (‵ (Fixed ws) ∷ ‵ (All cs) ∷ []) ∵ move ! (1 ∷ []) $ fpick ! (λ ss. fsplit3 ! $ move ! (1 ∷ []) $ fpick ! (λ are. drop ! $
       let w = strip_within ss 0 (length cs) z.place (strip_of p z) are.0 are.1 in let last = w.1 in let high = of.1 in check ! (omega (arith, last, high)) $
       nothing ! $ fpack ! (Are cs ss) (λ _. ftrue) are $ move ! (1 ∷ 0 ∷ 2 ∷ []) $ fjoin3 ! $
-      fpack ! (List Strip) (listed R α z.hands_name lent had z.strips_name (IsListed p z) cs) ss $ move ! (1 ∷ 0 ∷ []) $ fjoin ! $ done !))
+      fpack ! (List Strip) (listed R α z.hands_name lent had (book_of z) (IsListed p z) cs) ss $ move ! (1 ∷ 0 ∷ []) $ fjoin ! $ done !))
 
   -- one number of the strip
   pub celled : (ws : List ℕ) (cs : List (Cell R.Denot)) (i : ℕ) (c : Cell R.Denot) → IsIts z i → cell_at cs i ≡ c
@@ -92,10 +92,10 @@ module _ {M : Type 1} {𝓤 : Ura M} (𝓛 : Logic 𝓤) (R : RattleType) (p : P
       each ! (Recells ws cs i) (λ d. use1 𝓛 (raw (P d)) (all_e 𝓤 P d) $ assume ! (‵ (cell_of i d)) $
       use2 𝓛 (‵ (Of (set cs (i - 0) d))) (apply∗ 𝓤 ⟦ cell_of i d ⟧ ⟦ Of (set cs (i - 0) d) ⟧) $
       rewrite ! 0 (λ (k : ℕ). ‵ (Of (set cs k d))) same refl $
-      rewrite ! 1 (λ (n : ℕ). ‵ (listing R α z.hands_name lent had z.strips_name ss n)) (sym (length-set cs i d)) refl $
+      rewrite ! 1 (λ (n : ℕ). ‵ (listing R α z.hands_name lent had (book_of z) ss n)) (sym (length-set cs i d)) refl $
       let still : AreStrips 0 ss (length (set cs i d)) = subst (AreStrips 0 ss) (sym (length-set cs i d)) are.0 in
       nothing ! $ fpack ! (Are (set cs i d) ss) (λ _. ftrue) (still, are.1) $ move ! (2 ∷ 0 ∷ 1 ∷ []) $ fjoin3 ! $
-      fpack ! (List Strip) (listed R α z.hands_name lent had z.strips_name (IsListed p z) (set cs i d)) ss $ move ! (1 ∷ 0 ∷ []) $ fjoin ! $ done !)))
+      fpack ! (List Strip) (listed R α z.hands_name lent had (book_of z) (IsListed p z) (set cs i d)) ss $ move ! (1 ∷ 0 ∷ []) $ fjoin ! $ done !)))
 
   -- the word of a name is another one
   abbrev pub Rewritten : Parts R.Denot → At → ℕ → Parts R.Denot → SProp 𝓤

@@ -1,7 +1,7 @@
 -- Words that are 0 and places without a value go under a rule that holds of them, and come back at the end. Assumes `Logic`.
 use Rattle.std.specs.Prelude.{slice_index, slice_get, replicate}
-use Rattle.std.proofs.Common.{◌≡◌, ℕ, zero, suc, ◌+◌, ◌*◌, List, [], ◌∷◌, ◌++◌, length, take, drop, refl, sym, ap, ◌∙◌, subst, inl, arith, Option, None, Some, length-append}
-use Rattle.std.proofs.lemmas.List.{length-replicate, length-take-le, take_all}
+use Rattle.std.proofs.Common.{◌≡◌, ℕ, zero, suc, ◌+◌, ◌*◌, ◌≤◌, false, List, [], ◌∷◌, ◌++◌, length, take, drop, refl, sym, ap, ◌∙◌, subst, inl, arith, Option, None, Some, length-append}
+use Rattle.std.proofs.lemmas.List.{length-replicate, length-take-le, length-drop, take_all}
 use seplogic.Ra.Ura.{Ura}
 use base.Fraction.{full_share}
 use base.Share.{three_quarters}
@@ -14,21 +14,23 @@ use types.Keyed.{entries_take, entries_new}
 use types.Tokens.{lft_new, lft_end, bor_new, lent_back}
 use types.Kit.{‵, raw, ◌⊛◌, some as items, given, later, ◌$◌, ◌∵◌, !, qed, by, move, keep, drop as leave, split, fsplit, fsplit3, fjoin, fjoin3, fpick, fpack, pick, learn, check, show, use0, use1, use2, use3, rewrite, updating, await, now, done}
 use denote.RattleType.{RattleType}
-use denote.RawPtr.{Ptr, block_of, count_of}
+use denote.RawPtr.{Ptr, null_ptr, block_of, count_of}
 use denote.Steps.{nothing}
 use Rattle.core.specs.Sync.RawAtomic.{word}
 use Rattle.seize_words.specs.declared.block.Block.{Block}
 use Rattle.seize_seats.specs.State.{State, Starts}
 use Rattle.seize_seats.specs.Cells.{Cell, Free, Claimed, Out, Has, Held, block_in, cell_at, sign_of}
 use Rattle.seize_seats.specs.Lines.{Parts, column, long, whole, memory_of, AreLaid}
-use Rattle.seize_seats.specs.Strips.{Strip, strip_coded, no_strip, AreStrips}
-use Rattle.seize_seats.specs.Seen.{seen}
-use Rattle.seize_seats.specs.Owned.{row, unborn, ledger, shared_view, hand_coded, resting, zeros, stride, place, places, hand, kept, under, numbers, strips, listed, BaseId, age, core_of, strip_of, IsFirst, Inside, state_of, IsPlaced, standing_in, inner, everything, lent_here, had_here, words_own}
+use Rattle.seize_seats.specs.Strips.{Strip, strip_coded, no_strip, further, AreStrips}
+use Rattle.seize_seats.specs.Doors.{pointers, IsFurther, right_to, AreBehind}
+use Rattle.seize_seats.specs.Seen.{seen, fact}
+use Rattle.seize_seats.specs.Owned.{row, unborn, ledger, shared_view, hand_coded, resting, zeros, stride, place, places, AreOf, stripped, all_alone, hand, kept, under, numbers, strips, doors_of, listed, BaseId, age, core_of, book_of, strip_of, IsFirst, Inside, state_of, IsPlaced, standing_in, inner, everything, lent_here, had_here, words_own}
 use Rattle.seize_seats.specs.Stretches.{IsEven, invariant}
 use Rattle.seize_seats.proofs.Ledgers as Ledgers
 use Rattle.seize_seats.proofs.Stretches as Stretches
 use Rattle.seize_seats.proofs.Lendings as Lendings
-use Rattle.seize_seats.proofs.Strips.{strip_within}
+use Rattle.seize_seats.proofs.Strips.{strips_up, strip_within}
+use Rattle.seize_seats.proofs.Doors as Doors
 use Rattle.seize_seats.proofs.Known as Known
 
 -- each word is 0
@@ -44,7 +46,7 @@ abbrev pub fives : ℕ → List ℕ
 fives zero = []
 fives (suc n) = 0 ∷ 0 ∷ 0 ∷ 0 ∷ 0 ∷ fives n
 
-fives_are : (n : ℕ) (ws : List ℕ) → length ws ≡ n * 5 → AreZeros ws → ws ≡ fives n
+pub fives_are : (n : ℕ) (ws : List ℕ) → length ws ≡ n * 5 → AreZeros ws → ws ≡ fives n
 fives_are zero [] l none = refl
 fives_are zero (a ∷ ws) l none = absurd (omega (arith, l))
 fives_are (suc n) [] l none = absurd (omega (arith, l))
@@ -55,6 +57,10 @@ fives_are (suc n) (a ∷ b ∷ c ∷ d ∷ []) l none = absurd (omega (arith, l)
 fives_are (suc n) (a ∷ b ∷ c ∷ d ∷ e ∷ ws) l none =
     let p : a ≡ 0 = none 0 in let q : b ≡ 0 = none 1 in let r : c ≡ 0 = none 2 in let s : d ≡ 0 = none 3 in let t : e ≡ 0 = none 4 in
     let rest = fives_are n ws (omega (arith, l)) (λ k. none (suc (suc (suc (suc (suc k)))))) in cc (p, q, r, s, t, rest)
+
+pub fives_long : (n : ℕ) → length (fives n) ≡ n * 5
+fives_long zero = refl
+fives_long (suc n) = let r = fives_long n in omega (arith, r)
 
 module _ {M : Type 1} {𝓤 : Ura M} (𝓛 : Logic 𝓤) (b : ℕ) where
   pub row_splits : (xs ys : List ℕ) (o e : ℕ) → e ≡ length xs * 8 + o → ent 𝓤 (sem 𝓛 (row b o (xs ++ ys))) (sep 𝓤 (sem 𝓛 (row b o xs)) (sem 𝓛 (row b e ys)))
@@ -67,6 +73,24 @@ module _ {M : Type 1} {𝓤 : Ura M} (𝓛 : Logic 𝓤) (b : ℕ) where
       rewrite ! 1 (λ (k : ℕ). ‵ (row b k ys)) here refl $ move ! (1 ∷ []) $ keep ! (0 ∷ []) $ done !
   row_joins (x ∷ xs) ys o e is = qed 𝓛 ((‵ (word b o x) ⊛ ‵ (row b (o + 8) xs)) ∷ ‵ (row b e ys) ∷ []) ∵ split ! $ move ! (1 ∷ 2 ∷ []) $
       use2 𝓛 (‵ (row b (o + 8) (xs ++ ys))) (row_joins xs ys (o + 8) e (omega (arith, is))) $ move ! (1 ∷ 0 ∷ []) $ fjoin ! $ done !
+
+-- a block under one of the first numbers, or under one of the others, is there
+module _ {T : Type 0} where
+  taken_cell : (n k : ℕ) (cs : List (Cell T)) (x : Block T) → block_in (cell_at (take n cs) k) ≡ Some x → block_in (cell_at cs k) ≡ Some x
+  taken_cell zero k cs x e = absurd (let none : block_in (cell_at {T = T} [] k) ≡ None = refl in cc (none, e))
+  taken_cell (suc n) k [] x e = e
+  taken_cell (suc n) zero (c ∷ cs) x e = e
+  taken_cell (suc n) (suc k) (c ∷ cs) x e = taken_cell n k cs x e
+
+  dropped_cell : (n k i : ℕ) (cs : List (Cell T)) (x : Block T) → i ≡ n + k → block_in (cell_at (drop n cs) k) ≡ Some x → block_in (cell_at cs i) ≡ Some x
+  dropped_cell zero k i cs x at e = let same : k ≡ i = omega (arith, at) in subst (λ (m : ℕ). block_in (cell_at cs m) ≡ Some x) same e
+  dropped_cell (suc n) k i [] x at e = absurd (let none : block_in (cell_at {T = T} [] k) ≡ None = refl in cc (none, e))
+  dropped_cell (suc n) k zero (c ∷ cs) x at e = absurd (omega (arith, at))
+  dropped_cell (suc n) k (suc i) (c ∷ cs) x at e = dropped_cell n k i cs x (omega (arith, at)) e
+
+  -- each block has four words
+  abbrev pub AreFour : List (Cell T) → Type 0
+  AreFour cs = (k : ℕ) (x : Block T) → block_in (cell_at cs k) ≡ Some x → length x.entry ≡ 4
 
 module _ {M : Type 1} {𝓤 : Ura M} (𝓛 : Logic 𝓤) (R : RattleType) (α : Lft) (δ : ℕ) (lent : ℕ → R.Denot → ℕ → ℕ → Fml) (had : ℕ → ℕ → R.Denot → Fml) where
   abbrev Unborn : ℕ → Fml
@@ -192,6 +216,39 @@ module _ {M : Type 1} {𝓤 : Ura M} (𝓛 : Logic 𝓤) (R : RattleType) (α : 
           move ! (1 ∷ []) $ fsplit3 ! $ move ! (2 ∷ []) $ fsplit ! $ move ! (0 ∷ 5 ∷ []) $ use2 𝓛 (raw (never 𝓤)) (𝓛.lfts.lft-dead α s) $ keep ! (0 ∷ []) $
           by ! (never_e 𝓤 (ex 𝓤 (Torn b b' (suc (length cs)) o o')))
 
+  -- strip by strip
+  abbrev pub all_stripped : List Strip → Fml
+  all_stripped [] = ftrue
+  all_stripped (s ∷ ss) = fsep (stripped R false s) (all_stripped ss)
+
+  tears_all : (ss : List Strip) (cs : List (Cell R.Denot)) (j n : ℕ) → AreStrips j ss n → n ≡ j + length cs → AreFour cs
+      → ent 𝓤 (sep 𝓤 (sem 𝓛 (strips R α δ owned had ss cs)) (sem 𝓛 (fdead α))) (sem 𝓛 (all_stripped ss))
+  tears_all [] cs j n are long fours = qed 𝓛 (‵ ftrue ∷ ‵ (fdead α) ∷ []) ∵ leave ! $ leave ! $ nothing ! $ done !
+  tears_all (s ∷ ss) cs j n are long fours =
+      let b : ℕ = block_of s.words in let o : ℕ = s.skip * 8 + count_of s.words in let b' : ℕ = block_of s.values in let o' : ℕ = count_of s.values in
+      let us : List (Cell R.Denot) = take s.size cs in let up = strips_up ss (j + s.size) n are.1 in let le : s.size ≤ length cs = omega (arith, up, long) in
+      let size : length us ≡ s.size = length-take-le s.size cs le in let rest = length-drop s.size cs in
+      let Parts : List ℕ × List (Option R.Denot) → Fml = λ u. fsep (fact (AreOf R false s u)) (fsep (row b o u.0) (places R b' o' u.1)) in
+      qed 𝓛 ((‵ (numbers R α δ owned had b o b' o' s.first us) ⊛ ‵ (strips R α δ owned had ss (drop s.size cs))) ∷ ‵ (fdead α) ∷ []) ∵ split ! $ move ! (2 ∷ []) $
+      use1 𝓛 (‵ (fdead α) ⊛ ‵ (fdead α)) (𝓛.lfts.dead_dup α) $ split ! $ move ! (3 ∷ 0 ∷ []) $
+      use2 𝓛 (‵ (all_stripped ss))
+      (tears_all ss (drop s.size cs) (j + s.size) n are.1 (omega (arith, long, rest, le)) (λ k x e. fours (s.size + k) x (dropped_cell s.size k (s.size + k) cs x refl e))) $
+      move ! (2 ∷ 1 ∷ []) $ use2 𝓛 (items (torn_item b b' (length us) o o'))
+      (tears b b' us o o' s.first (λ k x e. fours k x (taken_cell s.size k cs x e))) $ pick ! (λ u. learn ! (λ l. split ! $ fjoin ! $
+      let is : (length u.0 ≡ s.size * 5) × (length u.1 ≡ s.size) = subst (λ (m : ℕ). (length u.0 ≡ m * 5) × (length u.1 ≡ m)) size l in
+      nothing ! $ fpack ! (AreOf R false s u) (λ _. ftrue) (is.0, is.1, λ e. absurd (cc e)) $ fjoin ! $ fpack ! (List ℕ × List (Option R.Denot)) Parts u $
+      fjoin ! $ done !))
+
+  -- with the rights to their blocks
+  all_joined : (σ : ℕ) (Is : ℕ → Strip → Type 0) (b n : ℕ) (ss : List Strip)
+      → ent 𝓤 (sep 𝓤 (sem 𝓛 (all_stripped ss)) (sem 𝓛 (Doors.rights 𝓛 σ Is (right_to R) b (take n ss)))) (sem 𝓛 (all_alone R false (take n ss)))
+  all_joined σ Is b zero ss = qed 𝓛 (‵ (all_stripped ss) ∷ ‵ ftrue ∷ []) ∵ leave ! $ done !
+  all_joined σ Is b (suc n) [] = qed 𝓛 (‵ ftrue ∷ ‵ ftrue ∷ []) ∵ leave ! $ done !
+  all_joined σ Is b (suc n) (s ∷ ss) = let Rs : List Strip → Fml = Doors.rights 𝓛 σ Is (right_to R) b in
+      qed 𝓛 ((‵ (stripped R false s) ⊛ ‵ (all_stripped ss)) ∷ (‵ (right_to R s) ⊛ ‵ (Rs (take n ss))) ∷ []) ∵ split ! $ move ! (2 ∷ []) $ split ! $
+      -- [the right; the other rights; the strip; the others]
+      move ! (2 ∷ 0 ∷ []) $ fjoin ! $ move ! (2 ∷ 1 ∷ []) $ use2 𝓛 (‵ (all_alone R false (take n ss))) (all_joined σ Is b n ss) $ move ! (1 ∷ 0 ∷ []) $ fjoin ! $ done !
+
 zeros_of : (n k : ℕ) → slice_index (replicate n 0) k ≡ 0
 zeros_of zero k = refl
 zeros_of (suc n) zero = refl
@@ -207,33 +264,35 @@ zeros_are zero m ws l none = fives_are m ws (omega (arith, l)) none
 zeros_are (suc n) m [] l none = absurd (omega (arith, l))
 zeros_are (suc n) m (a ∷ ws) l none = let first : a ≡ 0 = none 0 in let rest = zeros_are n m ws (omega (arith, l)) (λ k. none (suc k)) in cc (first, rest)
 
-module _ {M : Type 1} {𝓤 : Ura M} (𝓛 : Logic 𝓤) (R : RattleType) {V W : Type 0} (cv : Coded V) (holds : State R.Denot V W → Type 0) (p pv : Ptr) where
+module _ {M : Type 1} {𝓤 : Ura M} (𝓛 : Logic 𝓤) (R : RattleType) {V W : Type 0} (cv : Coded V) (holds : State R.Denot V W → Type 0) (p pv dp : Ptr) where
   open 𝓛 use {H, A}
 
   abbrev ⟦◌⟧ : Fml → SProp 𝓤
   ⟦ P ⟧ = sem 𝓛 P
 
-  -- which words these are, but for names: those of roots and slots, and of the first strip, which has all numbers
-  abbrev pub named : ℕ → ℕ → ℕ → ℕ → ℕ → ℕ → BaseId
-  named a γ δ σ roots count = record {
+  -- which words these are, but for names: those of roots and slots, and of the first strip
+  abbrev pub named : ℕ → ℕ → ℕ → ℕ → ℕ → ℕ → ℕ → BaseId
+  named a γ δ σ roots count most = record {
     atom = a;
     views_name = γ;
     hands_name = δ;
     strips_name = σ;
     roots = roots;
-    count = count;
+    count = most;
     fixed = p;
     place = 0;
     skip = long roots;
     values = pv;
     first = 0;
     size = count;
+    doors = dp;
+    least = count;
   }
 
-  module _ (roots count : ℕ) (blank : V) (ws : List ℕ) (none : AreZeros ws) (all : length ws ≡ whole roots count) (placed : IsPlaced R p (named 0 0 0 0 roots count))
+  module _ (roots count most : ℕ) (within : count ≤ most) (blank : V) (ws : List ℕ) (none : AreZeros ws) (all : length ws ≡ whole roots count) (placed : IsPlaced R p (named 0 0 0 0 roots count most))
       (starts : Starts holds roots) where
     abbrev pub Opened : BaseId → SProp 𝓤
-    Opened z = guard 𝓤 ((z.roots ≡ roots) × (z.count ≡ count) × (z.values ≡ pv) × (z.size ≡ count) × IsFirst p z) ⟦ words_own R cv.code holds p z ⟧
+    Opened z = guard 𝓤 ((z.roots ≡ roots) × (z.count ≡ most) × (z.values ≡ pv) × (z.size ≡ count) × (z.least ≡ count) × (z.doors ≡ dp) × IsFirst p z) ⟦ words_own R cv.code holds p z ⟧
 
     abbrev parts : Parts R.Denot
     parts = record { words = replicate (long roots) 0; slots = 0; cells = replicate count Free; given = 0 }
@@ -241,11 +300,11 @@ module _ {M : Type 1} {𝓤 : Ura M} (𝓛 : Logic 𝓤) (R : RattleType) {V W :
     abbrev first : Inside R.Denot V W
     first = record { parts = parts; blank = blank; views = []; world = starts.0 }
 
-    laid : AreLaid roots count parts
+    laid : AreLaid roots most parts
     laid = record {
       all = length-replicate (long roots) 0;
       slots_are = inl (refl, λ k le. zeros_of (long roots) k);
-      counted = let l = length-replicate {A = Cell R.Denot} count Free in omega (arith, l);
+      counted = let l = length-replicate {A = Cell R.Denot} count Free in omega (arith, l, within);
       within = omega arith;
       rest = λ k le. ap block_in (frees_of count k);
       fours = λ k x e. absurd (let none : block_in (cell_at {T = R.Denot} (replicate count Free) k) ≡ None = ap block_in (frees_of count k) in cc (none, e));
@@ -267,36 +326,40 @@ module _ {M : Type 1} {𝓤 : Ura M} (𝓛 : Logic 𝓤) (R : RattleType) {V W :
     abbrev all_free : List (Cell R.Denot)
     all_free = replicate count Free
 
-    pub opens : ent 𝓤 (sep 𝓤 ⟦ row (block_of p) (count_of p) ws ⟧ ⟦ places R (block_of pv) (count_of pv) (replicate count None) ⟧) (H.⇛ (ex 𝓤 Opened))
+    pub opens : ent 𝓤 (sep 𝓤 ⟦ row (block_of p) (count_of p) ws ⟧ (sep 𝓤 ⟦ places R (block_of pv) (count_of pv) (replicate count None) ⟧
+        ⟦ pointers (block_of dp) (count_of dp) (replicate 32 null_ptr) ⟧)) (H.⇛ (ex 𝓤 Opened))
     opens = let b : ℕ = block_of p in let o : ℕ = count_of p in let b' : ℕ = block_of pv in let o' : ℕ = count_of pv in let f : ℕ = long roots * 8 + o in
         let head : List ℕ = replicate (long roots) 0 in let l = length-replicate {A = ℕ} (long roots) 0 in
         let many = length-replicate {A = Cell R.Denot} count Free in let same : take count all_free ≡ all_free = take_all count all_free (omega (arith, many)) in
-        qed 𝓛 (‵ (row b o ws) ∷ ‵ (places R b' o' (replicate count None)) ∷ []) ∵ updating ! $ lft_new ! tt (λ a. let α : Lft = a ∷ [] in
+        let db : ℕ = block_of dp in let d₀ : ℕ = count_of dp in
+        qed 𝓛 (‵ (row b o ws) ∷ ‵ (places R b' o' (replicate count None)) ∷ ‵ (pointers db d₀ (replicate 32 null_ptr)) ∷ []) ∵ updating ! $ lft_new ! tt (λ a. let α : Lft = a ∷ [] in
         use0 𝓛 (later (items (λ (γ : ℕ). ‵ (ledger cv.code γ blank [])))) (via 𝓤 _ (Ledgers.begins 𝓛 cv 0 blank)
         (basic 𝓛 (ex 𝓤 (λ (γ : ℕ). ⟦ ledger cv.code γ blank [] ⟧)))) $ await ! tt $ pick ! (λ γ.
         use0 𝓛 (later (items (λ (δ : ℕ). ‵ (unborn hand_coded.code δ 0 resting)))) hands_new $ await ! tt $ pick ! (λ δ.
         use0 𝓛 (later (items (λ (σ : ℕ). ‵ (ledger strip_coded.code σ no_strip [])))) (via 𝓤 _ (Ledgers.begins 𝓛 strip_coded 0 no_strip)
         (basic 𝓛 (ex 𝓤 (λ (σ : ℕ). ⟦ ledger strip_coded.code σ no_strip [] ⟧)))) $ await ! tt $ pick ! (λ σ.
-        let z : BaseId = named a γ δ σ roots count in let E : Fml = everything R cv.code holds (core_of z) in let s : Strip = strip_of p z in
+        let z : BaseId = named a γ δ σ roots count most in let E : Fml = everything R cv.code holds (core_of z) in let s : Strip = strip_of p z in
+        let Drs : Fml = doors_of R (book_of z) [] in
         let Book : Fml = ledger strip_coded.code σ no_strip (s ∷ []) in let Sh : Share → Fml = λ q. seen strip_coded.code σ q 0 s in
         let Lt = lent_here R cv.code holds p z in let Hd = had_here R cv.code holds p z in
         let N : List (Cell R.Denot) → Fml = λ cs. numbers R α δ Lt Hd b f b' o' 0 cs in
         use1 𝓛 (later (‵ Book ⊛ ‵ (Sh three_quarters))) (via 𝓤 _ (Ledgers.comes 𝓛 strip_coded σ no_strip [] s) (basic 𝓛 _)) $ await ! tt $ split ! $
         move ! (1 ∷ []) $ fpack ! Share Sh three_quarters $
-        -- [the strip; the list; the hands; the views; the token; the words; the places]
+        -- [the strip; the list; the hands; the views; the token; the words; the places; the doors]
+        move ! (7 ∷ []) $ use1 𝓛 (‵ Drs) (Doors.nulls 𝓛 σ (IsFurther R count) (right_to R) db 32 d₀ 0) $ move ! (1 ∷ 2 ∷ 3 ∷ 4 ∷ 5 ∷ 6 ∷ 7 ∷ 0 ∷ []) $
         move ! (5 ∷ []) $ rewrite ! 0 (λ (us : List ℕ). ‵ (row b o us)) (zeros_are (long roots) count ws all none) refl $
         use1 𝓛 (‵ (row b o head) ⊛ ‵ (row b f (fives count))) (row_splits 𝓛 b head (fives count) o f (omega (arith, l))) $ split ! $
-        -- [the first words; the others; the strip; the list; the hands; the views; the token; the places]
+        -- [the first words; the others; the strip; the list; the hands; the views; the token; the places; the doors]
         move ! (1 ∷ 7 ∷ 4 ∷ []) $ use3 𝓛 (‵ (N all_free) ⊛ ‵ (unborn hand_coded.code δ count resting)) (builds 𝓛 R α δ Lt Hd b b' count 0 count f o' (omega arith)) $ split ! $
         rewrite ! 0 (λ (cs : List (Cell R.Denot)). ‵ (N cs)) (sym same) refl $
         rewrite ! 1 (λ (n : ℕ). ‵ (unborn hand_coded.code δ n resting)) (sym many) refl $
-        -- [the numbers; further hands; the first words; the strip; the list; the views; the token]
-        move ! (4 ∷ 1 ∷ []) $ fjoin ! $ move ! (1 ∷ 2 ∷ 3 ∷ 0 ∷ []) $
-        -- [the numbers; the first words; the strip; the list and the hands; the views; the token]
+        -- [the numbers; further hands; the first words; the strip; the list; the views; the token; the doors]
+        move ! (4 ∷ 1 ∷ []) $ fjoin ! $ move ! (0 ∷ 6 ∷ []) $ fjoin ! $ move ! (1 ∷ 2 ∷ 3 ∷ 0 ∷ []) $
+        -- [the numbers; the first words; the strip; the list, the hands and the doors; the views; the token]
         nothing ! $ move ! (1 ∷ 0 ∷ []) $ fjoin ! $
         nothing ! $ fpack ! (AreStrips 0 (s ∷ []) (length all_free) × Unit {0}) (λ _. ftrue) ((refl, omega (arith, many)), tt) $
         -- [what is so; the numbers; the first words; the strip; the list; the views; the token]
-        move ! (4 ∷ 0 ∷ 1 ∷ []) $ fjoin3 ! $ fpack ! (List Strip) (listed R α δ Lt Hd σ (λ _. Unit {0}) all_free) (s ∷ []) $ move ! (1 ∷ 0 ∷ []) $ fjoin ! $
+        move ! (4 ∷ 0 ∷ 1 ∷ []) $ fjoin3 ! $ fpack ! (List Strip) (listed R α δ Lt Hd (book_of z) (λ _. Unit {0}) all_free) (s ∷ []) $ move ! (1 ∷ 0 ∷ []) $ fjoin ! $
         -- [the memory; the strip; the views; the token]
         nothing ! $ fpack ! (holds (state_of z first) × AreLaid z.roots z.count parts) (λ _. ftrue) (begins, laid) $ move ! (1 ∷ 3 ∷ 0 ∷ []) $ fjoin3 ! $
         fpack ! (Inside R.Denot V W) (standing_in R cv.code holds (core_of z) (λ _. Unit {0})) first $
@@ -304,20 +367,21 @@ module _ {M : Type 1} {𝓤 : Ura M} (𝓛 : Logic 𝓤) (R : RattleType) {V W :
         -- [the invariant; what was lent; the strip; the token]
         move ! (2 ∷ 0 ∷ []) $ fjoin ! $
         nothing ! $ fpack ! (IsPlaced R p z) (λ _. ftrue) placed $ move ! (0 ∷ 1 ∷ []) $ fjoin ! $ move ! (0 ∷ 1 ∷ []) $ fjoin ! $ move ! (1 ∷ 0 ∷ []) $ fjoin ! $
-        now ! $ show ! Opened z $ check ! (refl, refl, refl, refl, (refl, refl, refl, refl)) $ done !))))
-
-  -- other cells of so many are the first ones
-  taken_cell : (n k : ℕ) (cs : List (Cell R.Denot)) (x : Block R.Denot) → block_in (cell_at (take n cs) k) ≡ Some x → block_in (cell_at cs k) ≡ Some x
-  taken_cell zero k cs x e = absurd (let none : block_in (cell_at {T = R.Denot} [] k) ≡ None = refl in cc (none, e))
-  taken_cell (suc n) k [] x e = e
-  taken_cell (suc n) zero (c ∷ cs) x e = e
-  taken_cell (suc n) (suc k) (c ∷ cs) x e = taken_cell n k cs x e
+        now ! $ show ! Opened z $ check ! (refl, refl, refl, refl, refl, refl, (refl, refl, refl, refl)) $ done !))))
 
   module _ (z : BaseId) (is : IsFirst p z) where
-    abbrev pub Closed : List ℕ × List (Option R.Denot) → SProp 𝓤
+    abbrev pub AreClosed : List ℕ × List (Option R.Denot) × List Ptr × List Strip → Type 0
+    AreClosed u =
+        (length u.0 ≡ whole z.roots z.size) × (length u.1 ≡ z.size) × (length u.2 ≡ 32) × IsPlaced R p z × AreBehind (IsFurther R z.least) 0 u.3 u.2
+
+    abbrev pub Closed : List ℕ × List (Option R.Denot) × List Ptr × List Strip → SProp 𝓤
     Closed u =
-        guard 𝓤 ((length u.0 ≡ whole z.roots z.size) × (length u.1 ≡ z.size) × IsPlaced R p z)
-        (sep 𝓤 ⟦ row (block_of p) (count_of p) u.0 ⟧ ⟦ places R (block_of z.values) (count_of z.values) u.1 ⟧)
+        guard 𝓤 (AreClosed u)
+        (sep 𝓤 ⟦ row (block_of p) (count_of p) u.0 ⟧ (sep 𝓤 ⟦ places R (block_of z.values) (count_of z.values) u.1 ⟧
+        (sep 𝓤 ⟦ pointers (block_of z.doors) (count_of z.doors) u.2 ⟧ ⟦ all_alone R false u.3 ⟧)))
+
+    abbrev Drs : List Strip → Fml
+    Drs ss = doors_of R (book_of z) ss
 
     abbrev α : Lft
     α = age z
@@ -337,10 +401,10 @@ module _ {M : Type 1} {𝓤 : Ura M} (𝓛 : Logic 𝓤) (R : RattleType) {V W :
     abbrev Rest : Fml
     Rest = fsep (fdead α) ftrue
 
-    -- the numbers of the first strip
+    -- the first strip, and all others
     gives_back : (t : Inside R.Denot V W) (laid : AreLaid z.roots z.count t.parts) (placed : IsPlaced R p z) (ss : List Strip)
         → AreStrips 0 ss (length t.parts.cells) → slice_get ss 0 ≡ Some (strip_of p z)
-        → ent 𝓤 (sep 𝓤 ⟦ strips R α z.hands_name Owned Hd ss t.parts.cells ⟧ (sep 𝓤 ⟦ fdead α ⟧ ⟦ Fixed t.parts.words ⟧)) (ex 𝓤 Closed)
+        → ent 𝓤 (sep 𝓤 ⟦ strips R α z.hands_name Owned Hd ss t.parts.cells ⟧ (sep 𝓤 ⟦ fdead α ⟧ (sep 𝓤 ⟦ Fixed t.parts.words ⟧ ⟦ Drs (further ss) ⟧))) (ex 𝓤 Closed)
     gives_back t laid placed [] are at = absurd (cc at)
     gives_back t laid placed (s ∷ ss) are at =
         let same : s ≡ strip_of p z = cc at in let up = strip_within (s ∷ ss) 0 (length t.parts.cells) 0 (strip_of p z) are at in let last = up.1 in
@@ -350,16 +414,28 @@ module _ {M : Type 1} {𝓤 : Ura M} (𝓛 : Logic 𝓤) (R : RattleType) {V W :
         let b : ℕ = block_of p in let o : ℕ = count_of p in let b' : ℕ = block_of z.values in let o' : ℕ = count_of z.values in let f : ℕ = z.skip * 8 + o in
         let size : length us ≡ z.size = length-take-le z.size cs (omega (arith, last)) in let skip = is.1 in let head = laid.all in
         let At : Ptr → Fml = λ r. row (block_of r) (count_of r) ws in
-        qed 𝓛 (‵ (fsep (Of s) (strips R α z.hands_name Owned Hd ss (drop s.size cs))) ∷ ‵ (fdead α) ∷ ‵ (Fixed ws) ∷ []) ∵ fsplit ! $ move ! (1 ∷ []) $ leave ! $
+        let σ : ℕ = z.strips_name in let Is : ℕ → Strip → Type 0 = IsFurther R z.least in let db : ℕ = block_of z.doors in let d₀ : ℕ = count_of z.doors in
+        let le : s.size ≤ length cs = let l = strips_up ss (0 + s.size) (length cs) are.1 in omega (arith, l) in let beyond = length-drop s.size cs in
+        let further_long : length cs ≡ 0 + s.size + length (drop s.size cs) = omega (arith, beyond, le) in
+        let Stripped : Fml = all_stripped 𝓛 R α z.hands_name Lt Hd ss in
+        qed 𝓛 (‵ (fsep (Of s) (strips R α z.hands_name Owned Hd ss (drop s.size cs))) ∷ ‵ (fdead α) ∷ ‵ (Fixed ws) ∷ ‵ (Drs ss) ∷ []) ∵ fsplit ! $
+        move ! (2 ∷ []) $ use1 𝓛 (‵ (fdead α) ⊛ ‵ (fdead α)) (𝓛.lfts.dead_dup α) $ split ! $ move ! (3 ∷ 0 ∷ []) $
+        use2 𝓛 (‵ Stripped)
+        (tears_all 𝓛 R α z.hands_name Lt Hd ss (drop s.size cs) (0 + s.size) (length cs) are.1 further_long (λ k x q. laid.fours (s.size + k) x (dropped_cell s.size k (s.size + k) cs x refl q))) $
+        -- [the others; dead; the first numbers; the first words; the doors]
+        move ! (2 ∷ 1 ∷ 3 ∷ []) $
         rewrite ! 0 (λ (r : Strip). ‵ (Of r)) same refl $
         rewrite ! 2 (λ (r : Ptr). ‵ (At r)) is.0 refl $
         use2 𝓛 (items (torn_item 𝓛 R α z.hands_name Lt Hd b b' (length us) f o'))
         (tears 𝓛 R α z.hands_name Lt Hd b b' us f o' z.first (λ k x e. laid.fours k x (taken_cell z.size k cs x e))) $ pick ! (λ u. learn ! (λ l. split ! $
-        -- [the others; the places; the first words]
+        -- [its words; its places; the first words; the others; the doors]
         let l0 = l.0 in let l1 = l.1 in
         let long_is : length (ws ++ u.0) ≡ whole z.roots z.size = length-append ws u.0 ∙ omega (arith, head, l0, size) in
-        move ! (2 ∷ 0 ∷ []) $ use2 𝓛 (‵ (row b o (ws ++ u.0))) (row_joins 𝓛 b ws u.0 o f (omega (arith, head, skip))) $
-        show ! Closed (ws ++ u.0, u.1) $ check ! (long_is, omega (arith, l1, size), placed) $ done !))
+        move ! (2 ∷ 0 ∷ []) $ use2 𝓛 (‵ (row b o (ws ++ u.0))) (row_joins 𝓛 b ws u.0 o f (omega (arith, head, skip))) $ move ! (3 ∷ []) $
+        use1 𝓛 (Doors.plain_item 𝓛 σ Is (right_to R) db d₀ 32 0 ss) (Doors.plain 𝓛 σ Is (right_to R) db 32 d₀ 0 ss) $ pick ! (λ ps. learn ! (λ few. split ! $
+        -- [the doors; the rights; the words; the places; the others]
+        move ! (4 ∷ 1 ∷ []) $ use2 𝓛 (‵ (all_alone R false (take 32 ss))) (all_joined 𝓛 R α z.hands_name Lt Hd σ Is db 32 ss) $
+        show ! Closed (ws ++ u.0, u.1, ps, take 32 ss) $ check ! (long_is, omega (arith, l1, size), few.0, placed, few.1) $ move ! (2 ∷ 3 ∷ 1 ∷ 0 ∷ []) $ done !))))
 
     pub closes : ent 𝓤 ⟦ words_own R cv.code holds p z ⟧ (H.⇛ (ex 𝓤 Closed))
     closes = let E : Fml = everything R cv.code holds (core_of z) in
@@ -371,10 +447,11 @@ module _ {M : Type 1} {𝓤 : Ura M} (𝓛 : Logic 𝓤) (R : RattleType) {V W :
         move ! (0 ∷ 2 ∷ []) $ use2 𝓛 (‵ (inner R cv.code holds p z)) (Known.comes_in 𝓛 R cv holds p z) $
         fpick ! (λ t. fsplit3 ! $ move ! (2 ∷ []) $ fpick ! (λ so. leave ! $
         -- [the memory; the views; dead]
-        fsplit ! $ move ! (1 ∷ []) $ fpick ! (λ ss. fsplit3 ! $ move ! (1 ∷ []) $ fpick ! (λ are. leave ! $ leave ! $
-        -- [the strips; the words; the views; dead]
+        fsplit ! $ move ! (1 ∷ []) $ fpick ! (λ ss. fsplit3 ! $ move ! (1 ∷ []) $ fpick ! (λ are. leave ! $ fsplit ! $ leave ! $
+        -- [the doors; the strips; the words; the views; dead]
         let cs : List (Cell R.Denot) = t.parts.cells in
-        move ! (0 ∷ 3 ∷ []) $
+        move ! (1 ∷ 4 ∷ []) $
         use2 𝓛 (later (‵ (strips R α z.hands_name Owned Hd ss cs) ⊛ ‵ (fdead α)))
         (unlends_strips 𝓛 R α z.hands_name Lt Hd (Lendings.over 𝓛 R α cv z.views_name holds) ss cs) $ await ! tt $ split ! $
-        now ! $ keep ! (0 ∷ 1 ∷ 2 ∷ []) $ by ! (gives_back t so.1 placed ss are.0 (subst (λ (k : ℕ). slice_get ss k ≡ Some (strip_of p z)) is.2 are.1)))))))
+        -- [the strips; dead; the doors; the words; the views]
+        now ! $ keep ! (0 ∷ 1 ∷ 3 ∷ 2 ∷ []) $ by ! (gives_back t so.1 placed ss are.0 (subst (λ (k : ℕ). slice_get ss k ≡ Some (strip_of p z)) is.2 are.1)))))))

@@ -17,7 +17,7 @@ use Rattle.seize_seats.specs.State.{State, Renews}
 use Rattle.seize_seats.specs.Cells.{Cell, Free, Claimed, Out, Has, Held}
 use Rattle.seize_seats.specs.Lines.{AreLaid}
 use Rattle.seize_seats.specs.Strips.{Strip}
-use Rattle.seize_seats.specs.Owned.{ledger, stride, under, numbers, strips, listed, BaseId, IsLike, age, core_of, Inside, state_of, IsPlaced, standing_in, everything, lent_here, had_here, words_own}
+use Rattle.seize_seats.specs.Owned.{ledger, stride, under, numbers, strips, listed, BaseId, IsLike, age, core_of, book_of, Inside, state_of, IsPlaced, standing_in, everything, lent_here, had_here, words_own}
 use Rattle.seize_seats.specs.Stretches.{IsEven, invariant}
 use Rattle.seize_seats.proofs.Ledgers as Ledgers
 use Rattle.seize_seats.proofs.Stretches as Stretches
@@ -139,7 +139,7 @@ module _ {M : Type 1} {𝓤 : Ura M} (𝓛 : Logic 𝓤) (R : RattleType) {V W :
         move ! (3 ∷ 8 ∷ []) $ join ! $ move ! (3 ∷ 0 ∷ []) $
         use2 𝓛 (later (‵ New ⊛ ‵ (fdead α) ⊛ ‵ (flft τ s))) (lends_strips y τ s shares inc ss cs) $ await ! tt $ split ! $
         -- [the strips; dead and the type's token; the views; the token; their list; what is so of it; the words; the strip]
-        move ! (4 ∷ 5 ∷ 0 ∷ []) $ fjoin3 ! $ fpack ! (List Strip) (listed R β δ (Lent y) (Had y) z.strips_name Any cs) ss $
+        move ! (4 ∷ 5 ∷ 0 ∷ []) $ fjoin3 ! $ fpack ! (List Strip) (listed R β δ (Lent y) (Had y) (book_of z) Any cs) ss $
         -- [the numbers; dead and the type's token; the views; the token; the words; the strip]
         move ! (4 ∷ 0 ∷ []) $ fjoin ! $
         nothing ! $ fpack ! (holds (state_of y n) × AreLaid y.roots y.count n.parts) (λ _. ftrue) (r.1, sound.1) $ move ! (1 ∷ 3 ∷ 0 ∷ []) $ fjoin3 ! $
@@ -153,5 +153,5 @@ module _ {M : Type 1} {𝓤 : Ura M} (𝓛 : Logic 𝓤) (R : RattleType) {V W :
         -- [the memory; dead and the type's token]
         move ! (1 ∷ []) $ split ! $ leave ! $ move ! (1 ∷ []) $
         use1 𝓛 (raw (ex 𝓤 Renewed)) (via 𝓤 (Renewed y) (guard_i 𝓤 (IsLike y z) ⟦ words_own R cv.code holds p y ⟧
-        (refl, refl, refl, refl, refl, refl, refl, refl, refl, refl)) (ex_i 𝓤 Renewed y)) $
+        (refl, refl, refl, refl, refl, refl, refl, refl, refl, refl, refl, refl)) (ex_i 𝓤 Renewed y)) $
         now ! $ done !))))))

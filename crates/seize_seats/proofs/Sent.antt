@@ -1,5 +1,5 @@
 -- The words may be shared, and a seat may go to another thread: nothing of them is tied to one. Assumes nothing.
-use Rattle.std.proofs.Common.{ℕ, Bool, true, false, suc, ◌+◌, ◌*◌, List, [], ◌∷◌, length, take, drop, None, Some}
+use Rattle.std.proofs.Common.{ℕ, Bool, true, false, zero, suc, ◌+◌, ◌*◌, List, [], ◌∷◌, length, take, drop, None, Some}
 use base.Fraction.{full_share}
 use base.Stored.{Gv}
 use base.Fml.{Lft, Share, Fml}
@@ -9,9 +9,11 @@ use denote.RattleType.{RattleType}
 use denote.Param.Send.{IsSend, IsSync, part_keyless}
 use types.Keyed.{token, entry_keyless, entries_keyless}
 use Rattle.core.specs.contracts.option.Option.{the_row as OptionOf}
+use Rattle.std.proofs.Crossing.{frees as freed}
 use Rattle.seize_seats.specs.State.{State}
 use Rattle.seize_seats.specs.Cells.{Cell, Free, Claimed, Out, Has, Held}
-use Rattle.seize_seats.specs.Strips.{Strip, strip_coded, no_strip}
+use Rattle.seize_seats.specs.Strips.{Strip, strip_coded, no_strip, further}
+use Rattle.seize_seats.specs.Doors.{block_type, IsFurther, heap, right_to, doors}
 use Rattle.seize_seats.specs.Owned.{shared_view, row, quarters, ledger, zeros, stride, kept, numbers, strips, Core, BaseId, core_of, everything, common, words_own, words_share}
 use Rattle.seize_seats.specs.Lendings.{Phase, Begins, Lasts, Over, in_phase, Holder, Lending, span, told, lendings, lendable, in_hand}
 use Rattle.seize_seats.specs.Stretches.{lasting, seat_owns, seat_shares}
@@ -83,6 +85,15 @@ module _ (R : RattleType) (sent : IsSend (OptionOf R)) (α : Lft) (δ : ℕ) (le
     strips_keyless ss (drop s.size cs),
   )
 
+module _ (σ : ℕ) (Is : ℕ → Strip → Type 0) (right : Strip → Fml) (right_keyless : (s : Strip) → Keyless (right s)) where
+  doors_keyless : (b o n k : ℕ) (ss : List Strip) → Keyless (doors σ Is right b o n k ss)
+  doors_keyless b o zero k ss = tt
+  doors_keyless b o (suc n) k [] = (tt, doors_keyless b (o + 8) n (suc k) [])
+  doors_keyless b o (suc n) k (s ∷ ss) = (
+    (tt, ((λ _. tt), ((λ q. entry_keyless shared_view σ (suc k) _), right_keyless s))),
+    doors_keyless b (o + 8) n (suc k) ss,
+  )
+
 ledger_keyless : {V : Type 0} (c : V → Gv) (γ : ℕ) (d : V) (vs : List V) → Keyless (ledger c γ d vs)
 ledger_keyless c γ d vs = (quarters_keyless c γ 0 vs, entries_keyless shared_view γ (length vs) _)
 
@@ -92,7 +103,10 @@ module _ (R : RattleType) (sent : IsSend (OptionOf R)) (synced : IsSync (OptionO
     (
       row_keyless (block_of k.fixed) (count_of k.fixed) t.parts.words,
       λ ss. (
-        (ledger_keyless strip_coded.code k.strips_name no_strip ss, entries_keyless shared_view k.hands_name (length t.parts.cells) _),
+        (
+          (ledger_keyless strip_coded.code k.strips_name no_strip ss, entries_keyless shared_view k.hands_name (length t.parts.cells) _),
+          doors_keyless k.strips_name (IsFurther R k.least) (right_to R) (λ s. (freed.frees heap (block_type R s.size) s.words, ((tt, tt), tt))) (block_of k.doors) (count_of k.doors) 32 0 (further ss),
+        ),
         (
           (λ _. tt),
           strips_keyless R sent (k.atom ∷ []) k.hands_name (lendable R (k.atom ∷ []) c k.views_name holds) (lendable_keyless R sent synced (k.atom ∷ []) c k.views_name holds)

@@ -1,5 +1,5 @@
 -- What a `&` to the words shows: the invariant, and that the words are lent on. Assumes `Logic`.
-use Rattle.std.proofs.Common.{ℕ, [], ◌∷◌}
+use Rattle.std.proofs.Common.{◌≡◌, ℕ, [], ◌∷◌, refl}
 use seplogic.Ra.Ura.{Ura}
 use base.Fraction.{full_share}
 use base.Stored.{Coded}
@@ -9,7 +9,7 @@ use types.Logic.{Logic, sem}
 use types.Kit.{‵, ◌⊛◌, ◌$◌, ◌∵◌, !, qed, move, drop, split, fsplit, fjoin, fpick, fpack, check, use1, done}
 use base.Logic.{guard}
 use denote.RattleType.{RattleType}
-use denote.RawPtr.{Ptr}
+use denote.RawPtr.{Ptr, block_ptr, null_ptr, InBlock}
 use denote.Sharing.{ShrLaws, one, said, beside}
 use denote.SharingLaws.{beside_shr_laws, one_shr_laws}
 use denote.Steps.{nothing}
@@ -21,7 +21,7 @@ use Rattle.seize_seats.specs.Stretches.{IsOfSeat, seats_part, stretch, stretch_t
 use Rattle.seize_seats.proofs.Stretches as Stretches
 use Rattle.seize_seats.proofs.Known as Known
 use Rattle.seize_seats.proofs.Shares as Shares
-use Rattle.seize_seats.specs.Owned.{BaseId, age, core_of, IsPlaced, everything, told, common, is_listed, strip_told, strip_owns, words_own, words_share}
+use Rattle.seize_seats.specs.Owned.{BaseId, age, core_of, IsPlaced, everything, told, common, is_listed, strip_there, strip_told, strip_owns, words_own, words_share}
 
 module _ (R : RattleType) {V W : Type 0} (cv : Coded V) (holds : State R.Denot V W → Type 0) (p : Ptr) (z : BaseId) where
   abbrev α : Lft
@@ -59,24 +59,30 @@ module _ (R : RattleType) {V W : Type 0} (cv : Coded V) (holds : State R.Denot V
     lends_words = Lends-both 𝓛 (Φ full_share) (fsep C (flent α I)) (one Φ) (said C) l (Shares.cut 𝓛 l Φ full_share) (Shares.told 𝓛 l C (flent α I) (twice 𝓛))
 
 -- what a `&` to a strip shows: that it is one of a memory's
+pub told_there : (R : RattleType) (p : Ptr) (z : BaseId) → InBlock p → strip_told R p z ≡ strip_there R p z
+told_there R null_ptr z there = absurd there
+told_there R (block_ptr b o) z there = refl
+
+strip_twice : (R : RattleType) (p : Ptr) (z : BaseId) {M : Type 1} {𝓤 : Ura M} (𝓛 : Logic 𝓤)
+    → ent 𝓤 (sem 𝓛 (strip_told R p z)) (sep 𝓤 (sem 𝓛 (strip_told R p z)) (sem 𝓛 (strip_told R p z)))
+strip_twice R null_ptr z 𝓛 = qed 𝓛 (‵ ftrue ∷ []) ∵ nothing ! $ done !
+strip_twice R (block_ptr b o) z 𝓛 = let p : Ptr = block_ptr b o in let L : Fml = is_listed p z in
+    qed 𝓛 (‵ (strip_there R p z) ∷ []) ∵ fsplit ! $ fpick ! (λ i. drop ! $ use1 𝓛 (‵ L ⊛ ‵ L) (Known.listed_twice 𝓛 p z) $ split ! $
+    nothing ! $ fpack ! (IsPlaced R p z) (λ _. ftrue) i $ fjoin ! $ move ! (1 ∷ []) $ nothing ! $ fpack ! (IsPlaced R p z) (λ _. ftrue) i $ fjoin ! $ done !)
+
 module _ (R : RattleType) (p : Ptr) (z : BaseId) where
   abbrev B : Fml
   B = strip_told R p z
 
-  strip_twice : {M : Type 1} {𝓤 : Ura M} (𝓛 : Logic 𝓤) → ent 𝓤 (sem 𝓛 B) (sep 𝓤 (sem 𝓛 B) (sem 𝓛 B))
-  strip_twice 𝓛 = let L : Fml = is_listed p z in qed 𝓛 (‵ B ∷ []) ∵ fsplit ! $ fpick ! (λ i. drop ! $
-      use1 𝓛 (‵ L ⊛ ‵ L) (Known.listed_twice 𝓛 p z) $ split ! $
-      nothing ! $ fpack ! (IsPlaced R p z) (λ _. ftrue) i $ fjoin ! $ move ! (1 ∷ []) $ nothing ! $ fpack ! (IsPlaced R p z) (λ _. ftrue) i $ fjoin ! $ done !)
-
   pub strip_laws : ShrLaws (said B)
   strip_laws = record {
-    contraction = λ M 𝓤 𝓛 ν. strip_twice 𝓛;
+    contraction = λ M 𝓤 𝓛 ν. strip_twice R p z 𝓛;
     mono =
         λ M 𝓤 𝓛 μ ν. snd∗ 𝓤 (sem 𝓛 (base.Before.before μ ν)) (sem 𝓛 B);
   }
 
   pub lends_strip : {M : Type 1} {𝓤 : Ura M} (𝓛 : Logic 𝓤) (l : Lft) → Lends 𝓛 (strip_owns R p z) (said B) l
-  lends_strip 𝓛 l = Shares.told 𝓛 l B ftrue (strip_twice 𝓛)
+  lends_strip 𝓛 l = Shares.told 𝓛 l B ftrue (strip_twice R p z 𝓛)
 
 -- what a `&` to a seat shows: that its stretch lasts, its view, and its stretch
 module _ {V : Type 0} (cv : Coded V) (γ id : ℕ) (v : V) (σ θ : ℕ) where

@@ -2,6 +2,8 @@ pub mod Cells
 pub mod State
 pub mod Lines
 pub mod Strips
+pub mod Doors
+pub mod Plots
 pub mod Steps
 pub mod Seen
 pub mod Stretches

@@ -1,7 +1,7 @@
 -- What the words, the places of values and a seat own. The words are lent for a lifetime of their own, whose token stays with whoever owns them, and a `&` to
 -- them shows that it lasts. An invariant has the words, the values, and a quarter of each seat's view; three quarters of it are the seat's. It has the strips
 -- of all numbers; whoever has the words has them by one strip, of which it is known that it is one of them.
-use Rattle.std.specs.Prelude.{◌≡◌, ℕ, zero, suc, ◌+◌, ◌-◌, ◌*◌, ◌^◌, ◌<◌, ◌≤◌, List, [], ◌∷◌, Option, Some, None, length, take, drop, slice_get}
+use Rattle.std.specs.Prelude.{◌≡◌, ℕ, zero, suc, ◌+◌, ◌-◌, ◌*◌, ◌^◌, ◌<◌, ◌≤◌, Bool, true, List, [], ◌∷◌, Option, Some, None, length, replicate, take, drop, slice_get}
 use prog.Memory.{size}
 use base.Fraction.{full_share}
 use base.Share.{quarter, three_quarters}
@@ -10,7 +10,7 @@ use base.Fml.{Lft, Share, Fml, ftrue, fsep, fex, flft, flent, fbor, fshr_bor}
 use types.Keyed.{entries_from}
 use denote.RattleType.{RattleType}
 use denote.Memory.{part_at, lone}
-use denote.RawPtr.{Ptr, block_of, count_of, InBlock, coded_ptr}
+use denote.RawPtr.{Ptr, block_ptr, null_ptr, block_of, count_of, InBlock, coded_ptr}
 use Rattle.core.specs.contracts.option.Option.{the_row as OptionOf}
 use Rattle.core.specs.Sync.RawAtomic.{word}
 pub use Rattle.seize_seats.specs.Seen.{fact, itself, shared_view, seen, number_share_coded}
@@ -19,7 +19,8 @@ use Rattle.seize_seats.specs.State.{State}
 use Rattle.seize_seats.specs.Stretches.{IsEven, invariant}
 use Rattle.seize_seats.specs.Cells.{Cell, Free, Claimed, Out, Has, Held, sign_of}
 use Rattle.seize_seats.specs.Lines.{Parts, long, place_of, memory_of, AreLaid}
-use Rattle.seize_seats.specs.Strips.{Strip, strip_coded, no_strip, AreStrips}
+use Rattle.seize_seats.specs.Strips.{Strip, strip_coded, no_strip, further, Book, AreStrips}
+use Rattle.seize_seats.specs.Doors.{IsFurther, right_to, doors}
 use Rattle.seize_words.specs.declared.at.At.{At}
 use Rattle.seize_words.specs.declared.at.At.TheVariants.{Root, Used, Slot, Entry, Word}
 
@@ -67,6 +68,10 @@ abbrev pub claim_owns : ℕ → ℕ → ℕ → Fml
 claim_owns δ i zero = seen hand_coded.code δ three_quarters i resting
 claim_owns δ i (suc found) = ftrue
 
+-- the doors of all strips but the first one
+abbrev pub doors_of : RattleType → Book → List Strip → Fml
+doors_of R σ ss = doors σ.name (IsFurther R σ.least) (right_to R) (block_of σ.doors) (count_of σ.doors) 32 0 ss
+
 -- how many bytes a place has, which holds a value or none
 abbrev pub stride : RattleType → ℕ
 stride R = size (lone (OptionOf R).mir)
@@ -110,15 +115,15 @@ module _ (R : RattleType) (α : Lft) (δ : ℕ) where
     strips (s ∷ ss) cs =
         fsep (numbers (block_of s.words) (s.skip * 8 + count_of s.words) (block_of s.values) (count_of s.values) s.first (take s.size cs)) (strips ss (drop s.size cs))
 
-    -- the list of the strips, which only grows, and the hands of numbers that do not exist yet; σ: the name of the list
-    abbrev pub listing : ℕ → List Strip → ℕ → Fml
-    listing σ ss n = fsep (ledger strip_coded.code σ no_strip ss) (unborn hand_coded.code δ n resting)
+    -- the list of the strips, which only grows, the hands of numbers that do not exist yet, and the doors
+    abbrev pub listing : Book → List Strip → ℕ → Fml
+    listing σ ss n = fsep (fsep (ledger strip_coded.code σ.name no_strip ss) (unborn hand_coded.code δ n resting)) (doors_of R σ (further ss))
 
     -- with it; Known: what is known of the list
-    abbrev pub listed : ℕ → (List Strip → Type 0) → List (Cell R.Denot) → List Strip → Fml
+    abbrev pub listed : Book → (List Strip → Type 0) → List (Cell R.Denot) → List Strip → Fml
     listed σ Known cs ss = fsep (listing σ ss (length cs)) (fsep (fact (AreStrips 0 ss (length cs) × Known ss)) (strips ss cs))
 
-    abbrev pub all_strips : ℕ → (List Strip → Type 0) → List (Cell R.Denot) → Fml
+    abbrev pub all_strips : Book → (List Strip → Type 0) → List (Cell R.Denot) → Fml
     all_strips σ Known cs = fex (List Strip) (listed σ Known cs)
 
 -- places for values, side by side
@@ -126,8 +131,25 @@ abbrev pub places : (R : RattleType) → ℕ → ℕ → List (Option R.Denot) �
 places R b o [] = ftrue
 places R b o (x ∷ xs) = fsep (part_at (OptionOf R) full_share x b o) (places R b (o + stride R) xs)
 
+-- A further strip that stands under no rule: its words and its places, and with them the right to give its block back. fresh: no place has a value yet.
+module _ (R : RattleType) (fresh : Bool) where
+  abbrev pub AreOf : Strip → List ℕ × List (Option R.Denot) → Type 0
+  AreOf s u = (length u.0 ≡ s.size * 5) × (length u.1 ≡ s.size) × (fresh ≡ true → u.1 ≡ replicate s.size None)
+
+  abbrev pub stripped : Strip → Fml
+  stripped s =
+      fex (List ℕ × List (Option R.Denot)) (λ u. fsep (fact (AreOf s u))
+      (fsep (row (block_of s.words) (s.skip * 8 + count_of s.words) u.0) (places R (block_of s.values) (count_of s.values) u.1)))
+
+  abbrev pub alone : Strip → Fml
+  alone s = fsep (stripped s) (right_to R s)
+
+  abbrev pub all_alone : List Strip → Fml
+  all_alone [] = ftrue
+  all_alone (s ∷ ss) = fsep (alone s) (all_alone ss)
+
 -- Which memory: the atom of its lifetime, the names of the views, of the hands and of the strips, how many roots it has and how many numbers there may be, and
--- where the words of roots and slots lie.
+-- where the words of roots and slots lie; where the doors lie, and how many numbers the first strip has.
 pub record Core : Type 0 where
   pub atom : ℕ
   pub views_name : ℕ
@@ -136,6 +158,8 @@ pub record Core : Type 0 where
   pub roots : ℕ
   pub count : ℕ
   pub fixed : Ptr
+  pub doors : Ptr
+  pub least : ℕ
 
 -- Which words these are: of which memory, and of which of its strips: the place of that in the list, and the strip, but for the address of the words.
 pub record BaseId : Type 0 where
@@ -151,11 +175,13 @@ pub record BaseId : Type 0 where
   pub values : Ptr
   pub first : ℕ
   pub size : ℕ
+  pub doors : Ptr
+  pub least : ℕ
 
 abbrev pub base_id_coded : Coded BaseId
 base_id_coded = coded_via (coded× coded_ℕ (coded× coded_ℕ (coded× coded_ℕ (coded× coded_ℕ (coded× coded_ℕ (coded× coded_ℕ
-    (coded× coded_ptr (coded× coded_ℕ (coded× coded_ℕ (coded× coded_ptr (coded× coded_ℕ coded_ℕ)))))))))))
-    (λ (z : BaseId). (z.atom, (z.views_name, (z.hands_name, (z.strips_name, (z.roots, (z.count, (z.fixed, (z.place, (z.skip, (z.values, (z.first, z.size))))))))))))
+    (coded× coded_ptr (coded× coded_ℕ (coded× coded_ℕ (coded× coded_ptr (coded× coded_ℕ (coded× coded_ℕ (coded× coded_ptr coded_ℕ)))))))))))))
+    (λ (z : BaseId). (z.atom, (z.views_name, (z.hands_name, (z.strips_name, (z.roots, (z.count, (z.fixed, (z.place, (z.skip, (z.values, (z.first, (z.size, (z.doors, z.least))))))))))))))
     (λ x y e i. record {
       atom = (e i).0;
       views_name = (e i).1.0;
@@ -168,7 +194,9 @@ base_id_coded = coded_via (coded× coded_ℕ (coded× coded_ℕ (coded× coded_�
       skip = (e i).1.1.1.1.1.1.1.1.0;
       values = (e i).1.1.1.1.1.1.1.1.1.0;
       first = (e i).1.1.1.1.1.1.1.1.1.1.0;
-      size = (e i).1.1.1.1.1.1.1.1.1.1.1;
+      size = (e i).1.1.1.1.1.1.1.1.1.1.1.0;
+      doors = (e i).1.1.1.1.1.1.1.1.1.1.1.1.0;
+      least = (e i).1.1.1.1.1.1.1.1.1.1.1.1.1;
     })
 
 abbrev pub core_of : BaseId → Core
@@ -180,7 +208,16 @@ core_of z = record {
   roots = z.roots;
   count = z.count;
   fixed = z.fixed;
+  doors = z.doors;
+  least = z.least;
 }
+
+-- what the list of its strips is known by
+abbrev pub book_in : Core → Book
+book_in k = record { name = k.strips_name; doors = k.doors; least = k.least }
+
+abbrev pub book_of : BaseId → Book
+book_of z = book_in (core_of z)
 
 abbrev pub age : BaseId → Lft
 age z = z.atom ∷ []
@@ -196,7 +233,7 @@ IsIts z i = (z.first ≤ i) × (i < z.first + z.size)
 abbrev pub IsLike : BaseId → BaseId → Type 0
 IsLike y z =
     (y.roots ≡ z.roots) × (y.count ≡ z.count) × (y.hands_name ≡ z.hands_name) × (y.strips_name ≡ z.strips_name) × (y.fixed ≡ z.fixed)
-    × (y.place ≡ z.place) × (y.skip ≡ z.skip) × (y.values ≡ z.values) × (y.first ≡ z.first) × (y.size ≡ z.size)
+    × (y.place ≡ z.place) × (y.skip ≡ z.skip) × (y.values ≡ z.values) × (y.first ≡ z.first) × (y.size ≡ z.size) × (y.doors ≡ z.doors) × (y.least ≡ z.least)
 
 -- it is the first strip: its words come behind those of roots and slots
 abbrev pub IsFirst : Ptr → BaseId → Type 0
@@ -228,9 +265,9 @@ pub record Inside (T V W : Type 0) : Type 0 where
 abbrev pub state_of : {T V W : Type 0} → BaseId → Inside T V W → State T V W
 state_of z i = record { memory = memory_of z.roots i.parts; views = i.views; world = i.world }
 
--- they lie in a block each, and are not too many for one
+-- they lie in a block each, as the doors do, and are not too many for one
 abbrev pub IsPlaced : RattleType → Ptr → BaseId → Type 0
-IsPlaced R p z = InBlock p × ((z.skip + z.size * 5) * 8 < 2 ^ 63) × InBlock z.values × (z.size * stride R < 2 ^ 63)
+IsPlaced R p z = InBlock p × ((z.skip + z.size * 5) * 8 < 2 ^ 63) × InBlock z.values × (z.size * stride R < 2 ^ 63) × InBlock z.doors
 
 -- the invariant, where this is known of the list of the strips
 module _ (R : RattleType) {V W : Type 0} (c : V → Gv) (holds : State R.Denot V W → Type 0) (k : Core) (Known : List Strip → Type 0) where
@@ -242,7 +279,7 @@ module _ (R : RattleType) {V W : Type 0} (c : V → Gv) (holds : State R.Denot V
 
   abbrev pub standing_in : Inside R.Denot V W → Fml
   standing_in i =
-      fsep (fsep (row (block_of k.fixed) (count_of k.fixed) i.parts.words) (all_strips R (k.atom ∷ []) k.hands_name lent_in had_in k.strips_name Known i.parts.cells))
+      fsep (fsep (row (block_of k.fixed) (count_of k.fixed) i.parts.words) (all_strips R (k.atom ∷ []) k.hands_name lent_in had_in (book_in k) Known i.parts.cells))
       (fsep (ledger c k.views_name i.blank i.views)
       (fact (holds record { memory = memory_of k.roots i.parts; views = i.views; world = i.world } × AreLaid k.roots k.count i.parts)))
 
@@ -258,8 +295,13 @@ abbrev pub is_listed : Ptr → BaseId → Fml
 is_listed p z = fex Share (λ q. seen strip_coded.code z.strips_name q z.place (strip_of p z))
 
 -- what shows that a strip is one of a memory's
+abbrev pub strip_there : RattleType → Ptr → BaseId → Fml
+strip_there R p z = fsep (fact (IsPlaced R p z)) (is_listed p z)
+
+-- where there is an address
 abbrev pub strip_told : RattleType → Ptr → BaseId → Fml
-strip_told R p z = fsep (fact (IsPlaced R p z)) (is_listed p z)
+strip_told R null_ptr z = ftrue
+strip_told R (block_ptr b o) z = strip_there R (block_ptr b o) z
 
 abbrev pub strip_owns : RattleType → Ptr → BaseId → Fml
 strip_owns R p z = fsep (strip_told R p z) ftrue

@@ -20,6 +20,17 @@ strip_coded = coded_via (coded× coded_ptr (coded× coded_ℕ (coded× coded_ptr
 abbrev pub no_strip : Strip
 no_strip = record { words = null_ptr; skip = 0; values = null_ptr; first = 0; size = 0 }
 
+-- all but the first one
+abbrev pub further : List Strip → List Strip
+further [] = []
+further (s ∷ ss) = ss
+
+-- What the list of the strips is known by: its name, where the doors of all but the first one lie, and how many numbers the first one has.
+pub record Book : Type 0 where
+  pub name : ℕ
+  pub doors : Ptr
+  pub least : ℕ
+
 -- the index is that of one of its numbers
 abbrev pub IsOf : Strip → ℕ → Type 0
 IsOf s i = (s.first ≤ i) × (i < s.first + s.size)

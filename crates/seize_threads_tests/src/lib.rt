@@ -33,3 +33,5 @@ mod retiring;
 mod rewriting;
 #[cfg(test)]
 mod sections;
+#[cfg(test)]
+mod thousand;

@@ -8,7 +8,7 @@ use std::thread;
 
 /// A block with the seat that has it.
 #[derive(Drop)]
-struct Kept<'a> {
+pub(crate) struct Kept<'a> {
     blocks: &'a Blocks<u64, OneEach>,
     seat: Seat<u64, OneEach>,
     number: u64,
@@ -19,7 +19,7 @@ struct Kept<'a> {
 
 impl<'a> Kept<'a> {
     /// A block of this value.
-    fn make(blocks: &'a Blocks<u64, OneEach>, value: u64) -> Option<Self> {
+    pub(crate) fn make(blocks: &'a Blocks<u64, OneEach>, value: u64) -> Option<Self> {
         let mut seat = blocks.seat();
         match blocks.make(&mut seat, value, 0) {
             Ok(number) => Some(Kept {
@@ -33,7 +33,7 @@ impl<'a> Kept<'a> {
     }
 
     /// Looks so many times, and tells whether the value was there each time.
-    fn looks(&self, times: u64) -> bool {
+    pub(crate) fn looks(&self, times: u64) -> bool {
         for _ in 0..times {
             if *self.blocks.value(&self.seat, self.number) != self.value {
                 return false;
@@ -43,7 +43,7 @@ impl<'a> Kept<'a> {
     }
 
     /// Takes the block away.
-    fn take(self) -> u64
+    pub(crate) fn take(self) -> u64
         ensures { result ≡ self.entry.value }
     {
         let Kept {

@@ -4,19 +4,27 @@ use seize_blocks::{Blocks, Home};
 use std::test::Fail;
 use std::thread;
 
-/// Whether a block is made, by a seat of its own that has it from then on.
-fn makes(blocks: &Blocks<u64, OneEach>, value: u64) -> bool {
+/// The number of a block that is made, by a seat of its own that has it from then on.
+fn makes(blocks: &Blocks<u64, OneEach>, value: u64) -> Option<u64> {
     let mut seat = blocks.seat();
-    blocks.make(&mut seat, value, 0).is_ok()
+    blocks.make(&mut seat, value, 0).ok()
 }
 
+// Were one thread served after the other, this would pass as well. Were the blocks gone with their seats, one of their numbers would be given again.
 #[test]
 fn blocks_stay_where_their_seats_have_ended(rt: HostRuntime) -> Result<(), Fail> {
-    let mut home = Home::<u64, OneEach>::open(rt.alloc(), 0, 3, &())?;
-    let (first, second) = thread::join(&rt, || makes(&home.blocks, 1), || makes(&home.blocks, 2));
-    assert!(rt; first && second);
+    let mut home = Home::<u64, OneEach>::open(rt.alloc(), 0, 2, &())?;
+    let (Some(first), Some(second)) = thread::join(
+        &rt,
+        || makes(&home.blocks, 1),
+        || makes(&home.blocks, 2),
+    ) else {
+        return Err(Fail::new("a block was refused"));
+    };
     home.blocks.renew();
-    let (third, fourth) = (makes(&home.blocks, 3), makes(&home.blocks, 4));
-    assert!(rt; third && !fourth);
+    let (Some(third), Some(fourth)) = (makes(&home.blocks, 3), makes(&home.blocks, 4)) else {
+        return Err(Fail::new("a block was refused"));
+    };
+    assert!(rt; third > first && third > second && fourth > first && fourth > second);
     Ok(())
 }

@@ -3,7 +3,7 @@ use Rattle.std.proofs.Common.{◌≡◌, ℕ, List, [], ◌∷◌, sym, refl, ap
 use mir.Syntax.{dcons, dnil, a_type, named}
 use mir.MapTy.{inst_fn}
 use mir.Val.{Val, vptr}
-use base.Logic.{SProp, ent, emp, id⊢}
+use base.Logic.{SProp, emp, id⊢}
 use base.Fml.{Lft, Fml, ftrue, fsep, flft, fhide, fbor, fshr_bor}
 use types.Kit.{‵, raw, ◌⊛◌, at_ret, ◌$◌, ◌∵◌, !, qed, by, move, keep, drop, split, join, fsplit, fsplit3, fjoin, use0, use1, use2, rewrite, feq_i}
 use types.Run.{stop, addr, of_opd, first, blocks, exec, returns, enter}
@@ -13,7 +13,7 @@ use contract.Monad.{fact, fact_i}
 use denote.Exit.{yes}
 use denote.RattleType.{RattleType, owns}
 use denote.Signature.{types_at, plain}
-use denote.RawPtr.{Ptr}
+use denote.RawPtr.{Ptr, InBlock}
 use denote.Ref.{shr_vals, shr_Tells}
 use denote.Steps.{nothing, heard}
 use denote.Opens.{unhide}
@@ -30,6 +30,7 @@ use Rattle.std.specs.contracts.marker.PhantomData as marker
 use Rattle.std.proofs.raw_atomic.Walks.{proved, leaves}
 use Rattle.seize_seats.specs.Stretches.{IsEven, invariant}
 use Rattle.seize_seats.specs.Owned.{Core, BaseId, core_of, everything, strip_told, words_share}
+use Rattle.seize_seats.proofs.Shown.{told_there}
 use Rattle.seize_blocks.specs.contracts.words.Words as words
 use Rattle.seize_blocks.specs.contracts.strip.Strip as strip
 use Rattle.seize_blocks.proofs.Fields.{Data}
@@ -56,7 +57,7 @@ by_spec 𝓤 𝓛 𝓜 𝓡 wired X P U F LX LP LU LF g d _ =
     let cv = R₂.coded in let holds = g.holds t.fixed in
     let t' : Row.Denot = record { words = q; marker = t.marker; id = y; fixed = t.fixed } in
     let others : Fml = fsep (flft κs.1.0 qs.1.0) (fsep (flft κs.1.1.0 qs.1.1.0) (fsep (flft κs.1.1.1.0 qs.1.1.1.0) (fsep (flft κs.1.1.1.1.0 qs.1.1.1.1.0) ftrue))) in
-    let Asked : Type 0 = core_of y ≡ core_of z in let Inv : Core → Fml = λ k. invariant IsEven (fbor (k.atom ∷ []) (everything R₀ cv.code holds k)) in
+    let Asked : Type 0 = (core_of y ≡ core_of z) × InBlock q in let Inv : Core → Fml = λ k. invariant IsEven (fbor (k.atom ∷ []) (everything R₀ cv.code holds k)) in
     let Lasts : Core → Fml = λ k. fshr_bor κ (λ u. flft (k.atom ∷ []) u) in
     let w : (walk_of 𝓛 En hs c).Ghost = ((κs, qs, bounds, a, (vptr b o ∷ [], (vptr b' o' ∷ [], tt))), gh) in
     let Post : Val → SProp 𝓤 = (walk_of 𝓛 En hs c).post w in
@@ -72,10 +73,10 @@ by_spec 𝓤 𝓛 𝓜 𝓡 wired X P U F LX LP LU LF g d _ =
     []))).coded) (words.the_heap R₀ R₁ R₂ R₃ g) (words.the_lent R₀ R₁ R₂ R₃ g) κ t b o) $
     split ! $ drop ! $ unhide ! $ fsplit ! $ move ! (1 ∷ []) $ fsplit ! $ drop ! $ fsplit ! $ drop ! $
     -- [the invariant; its lifetime lasts; the strip; the token; the others]
-    rewrite ! 0 (λ (k : Core). ‵ (Inv k)) (sym asked) refl $ rewrite ! 1 (λ (k : Core). ‵ (Lasts k)) (sym asked) refl $ move ! (2 ∷ []) $
+    rewrite ! 0 (λ (k : Core). ‵ (Inv k)) (sym asked.0) refl $ rewrite ! 1 (λ (k : Core). ‵ (Lasts k)) (sym asked.0) refl $ move ! (2 ∷ []) $
     use1 𝓛 (‵ (hidden_shr Ds κ (q, (tt, tt)) b' o') ⊛ ‵ (fhide (strip_told R₀ q y)))
     (lent_out 𝓛 (strip.struct R₀) (strip.the_codes X.Denot R₀.coded (marker.the_row R₀).coded) (strip.the_heap R₀) (strip.the_lent R₀) κ s b' o') $
-    split ! $ move ! (1 ∷ []) $ unhide ! $ fsplit ! $
+    split ! $ move ! (1 ∷ []) $ unhide ! $ rewrite ! 0 (λ (f : Fml). ‵ f) (told_there R₀ q y asked.1) refl $ fsplit ! $
     -- [it is placed; it is listed; the address; the invariant; its lifetime lasts; the token; the others]
     move ! (1 ∷ 3 ∷ []) $ fjoin ! $ move ! (1 ∷ 0 ∷ []) $ fjoin ! $ move ! (2 ∷ 0 ∷ []) $ fjoin ! $
     -- [what words share; the address; the token; the others]
@@ -88,7 +89,7 @@ by_spec 𝓤 𝓛 𝓜 𝓡 wired X P U F LX LP LU LF g d _ =
     sets ! (of_opd ! (get ! refl)) refl (tt, tt) $
     move ! (1 ∷ 2 ∷ []) $ join ! $ move ! (1 ∷ []) $ feq_i ! (List Val) (vptr b' o' ∷ []) (vptr b' o' ∷ []) refl $ fjoin ! $
     let Told : Type 0 = (q ≡ q) × (y ≡ y) × (t.fixed ≡ t.fixed) × (y.views_name ≡ z.views_name) × (y.hands_name ≡ z.hands_name) in
-    use0 𝓛 (raw (fact 𝓤 Told)) (fact_i 𝓤 Told (emp 𝓤) (refl, refl, refl, ap (λ (k : Core). k.views_name) asked, ap (λ (k : Core). k.hands_name) asked)) $
+    use0 𝓛 (raw (fact 𝓤 Told)) (fact_i 𝓤 Told (emp 𝓤) (refl, refl, refl, ap (λ (k : Core). k.views_name) asked.0, ap (λ (k : Core). k.hands_name) asked.0)) $
     nothing ! $ nothing ! $ fjoin ! $ nothing ! $ fjoin ! $
     returns ! (look_at ! 0 refl) $ free_all ! refl $ keep ! (3 ∷ 0 ∷ 2 ∷ 1 ∷ []) $
     by ! (leaves 𝓛 En hs c w (vptr b' o') (record { ref_ptr = (b', o'); now = t' }) (tt, (tt, tt)) (tt, (tt, tt))))))

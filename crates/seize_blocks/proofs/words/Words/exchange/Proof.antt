@@ -40,7 +40,7 @@ use denote.Param.Shared.{copy_shared}
 use Rattle.std.specs.contracts.marker.PhantomData as marker
 use Rattle.std.proofs.raw_atomic.Walks.{proved, leaves}
 use Rattle.std.proofs.raw_atomic.Calls.{fm, seq_cst}
-use Rattle.seize_blocks.proofs.Exchanged.{Res, answered, exchanges}
+use Rattle.seize_seats.proofs.Exchanged.{Res, answered, exchanges}
 use Rattle.seize_seats.specs.Steps.{exchanged}
 use Rattle.seize_words.specs.Op.{Out, Exchange, Exchanged}
 use Rattle.seize_words.specs.declared.at.At.{At}

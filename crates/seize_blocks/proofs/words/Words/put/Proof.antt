@@ -52,7 +52,7 @@ use Rattle.seize_blocks.specs.contracts.words.Words as words
 use Rattle.seize_blocks.specs.contracts.seat.Seat as seat
 use Rattle.seize_blocks.specs.contracts.claim.Claim as claim
 use Rattle.seize_blocks.proofs.Fields.{Data, claim_of, claim_told}
-use Rattle.seize_blocks.proofs.Values.{uncapped, indexed}
+use Rattle.seize_seats.proofs.Values.{uncapped, indexed}
 use Rattle.seize_blocks.specs.contracts.words.Words.put.{ended, clauses}
 use Rattle.seize_blocks.specs.contracts.words.Words.put.Key.{name as #self}
 use Rattle.seize_blocks.proofs.words.Words.put.Statement.{statement}

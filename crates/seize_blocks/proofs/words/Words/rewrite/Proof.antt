@@ -54,7 +54,7 @@ use Rattle.seize_blocks.specs.Placed.{IsItsIndex}
 use Rattle.seize_blocks.specs.contracts.words.Words as words
 use Rattle.seize_blocks.specs.contracts.seat.Seat as seat
 use Rattle.seize_blocks.proofs.Fields.{Data}
-use Rattle.seize_blocks.proofs.Values.{uncapped, indexed}
+use Rattle.seize_seats.proofs.Values.{uncapped, indexed}
 use Rattle.seize_blocks.specs.contracts.words.Words.rewrite.{ended, clauses}
 use Rattle.seize_blocks.specs.contracts.words.Words.rewrite.Key.{name as #self}
 use Rattle.seize_blocks.proofs.words.Words.rewrite.Statement.{statement}

@@ -56,7 +56,7 @@ use Rattle.seize_blocks.specs.Placed.{IsItsIndex}
 use Rattle.seize_blocks.specs.contracts.words.Words as words
 use Rattle.seize_blocks.specs.contracts.seat.Seat as seat
 use Rattle.seize_blocks.proofs.Fields.{hand_of, Data, told, opened}
-use Rattle.seize_blocks.proofs.Values.{uncapped, indexed, four_of}
+use Rattle.seize_seats.proofs.Values.{uncapped, indexed, four_of}
 use Rattle.seize_blocks.specs.contracts.words.Words.take.{ended, clauses}
 use Rattle.seize_blocks.specs.contracts.words.Words.take.Key.{name as #self}
 use Rattle.seize_blocks.proofs.words.Words.take.Statement.{statement}

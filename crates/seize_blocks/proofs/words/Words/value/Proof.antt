@@ -36,14 +36,14 @@ use Rattle.std.proofs.raw_atomic.Walks.{proved, leaves}
 use Rattle.seize_seats.specs.Lendings.{Holder, ShownToBoth, IsValueOfBoth}
 use Rattle.seize_seats.specs.Owned.{Core, BaseId, core_of, IsPlaced, common, everything, strip_told, stride, words_share}
 use Rattle.seize_seats.specs.Stretches.{IsEven, invariant, seat_shares}
-use Rattle.seize_seats.proofs.Shown.{placed}
+use Rattle.seize_seats.proofs.Shown.{placed, told_there}
 use Rattle.seize_seats.proofs.Lends.{So, lent_to}
 use Rattle.seize_blocks.specs.Placed.{IsItsIndex}
 use Rattle.seize_blocks.specs.contracts.words.Words as words
 use Rattle.seize_blocks.specs.contracts.seat.Seat as seat
 use Rattle.seize_blocks.specs.contracts.strip.Strip as strip
 use Rattle.seize_blocks.proofs.Fields.{Data, Token}
-use Rattle.seize_blocks.proofs.Values.{uncapped, indexed}
+use Rattle.seize_seats.proofs.Values.{uncapped, indexed}
 use Rattle.seize_blocks.specs.contracts.words.Words.value.{ended, clauses}
 use Rattle.seize_blocks.specs.contracts.words.Words.value.Key.{name as #self}
 use Rattle.seize_blocks.proofs.words.Words.value.Statement.{statement}
@@ -74,7 +74,7 @@ value_spec 𝓤 𝓛 𝓜 𝓡 wired X P U F LX LP LU LF g d _ =
     let ho : Holder U.Denot = record { seat = k.id; view = k.view; stretch = k.stretch; mark = k.mark } in let cv = R₂.coded in let holds = g.holds t.fixed in
     let bv : ℕ = block_of pv in let ov : ℕ = count_of pv in let sz : ℕ = stride R₀ in let e : ℕ = j * sz + ov in
     let others : Fml = fsep (flft κs.1.0 qs.1.0) (fsep (flft κs.1.1.0 qs.1.1.0) (fsep (flft κs.1.1.1.0 qs.1.1.1.0) (fsep (flft κs.1.1.1.1.0 qs.1.1.1.1.0) (fsep (flft κs.1.1.1.1.1.0 qs.1.1.1.1.1.0) ftrue)))) in
-    let Asked : Type 0 = (core_of z ≡ core_of z₀) × (h.base ≡ z₀.views_name) × (k.base ≡ z₀.views_name) × IsItsIndex z nr j × (pv ≡ z.values) ×
+    let Asked : Type 0 = (core_of z ≡ core_of z₀) × InBlock p × (h.base ≡ z₀.views_name) × (k.base ≡ z₀.views_name) × IsItsIndex z nr j × (pv ≡ z.values) ×
     ShownToBoth holds h.id h.view k.id k.view nr in
     let Inv : Core → Fml = λ k. invariant IsEven (fbor (k.atom ∷ []) (everything R₀ cv.code holds k)) in
     let Last : Core → Fml = λ k. fshr_bor κ (λ u. flft (k.atom ∷ []) u) in
@@ -83,8 +83,8 @@ value_spec 𝓤 𝓛 𝓜 𝓡 wired X P U F LX LP LU LF g d _ =
     qed 𝓛 (((‵ (flft κs.0 qs.0) ⊛ ‵ others) ⊛ ‵ (owns (types_at En.signature.params κs) a y.0.4)) ∷ raw (fact 𝓤 _) ∷
     raw (fact 𝓤 _) ∷ raw (fact 𝓤 _) ∷ raw (fact 𝓤 _) ∷ raw (fact 𝓤 Asked) ∷ []) ∵
     keep ! (5 ∷ 0 ∷ []) $ heard ! Asked (λ asked.
-    let of_guard : h.base ≡ z.views_name = asked.1 ∙ sym (ap (λ (k : Core). k.views_name) asked.0) in
-    let of_owner : k.base ≡ z.views_name = asked.2 ∙ sym (ap (λ (k : Core). k.views_name) asked.0) in split ! $ split ! $ move ! (2 ∷ []) $ fsplit3 ! $ fsplit ! $ move ! (2 ∷ []) $ fsplit ! $
+    let of_guard : h.base ≡ z.views_name = asked.2 ∙ sym (ap (λ (k : Core). k.views_name) asked.0) in
+    let of_owner : k.base ≡ z.views_name = asked.3 ∙ sym (ap (λ (k : Core). k.views_name) asked.0) in split ! $ split ! $ move ! (2 ∷ []) $ fsplit3 ! $ fsplit ! $ move ! (2 ∷ []) $ fsplit ! $
     move ! (4 ∷ []) $ fsplit3 ! $ fsplit ! $ move ! (2 ∷ []) $ fsplit ! $
     -- [self; the strip; the guard; the owner; the token; the others]
     keep ! (8 ∷ 6 ∷ 3 ∷ 1 ∷ 9 ∷ 10 ∷ []) $
@@ -99,7 +99,8 @@ value_spec 𝓤 𝓛 𝓜 𝓡 wired X P U F LX LP LU LF g d _ =
     rewrite ! 0 (λ (k : Core). ‵ (Inv k)) (sym asked.0) refl $ rewrite ! 1 (λ (k : Core). ‵ (Last k)) (sym asked.0) refl $ move ! (2 ∷ []) $
     use1 𝓛 (‵ (hidden_shr Dst κ₁ (p, (tt, tt)) b₁ o₁) ⊛ ‵ (fhide (strip_told R₀ p z)))
     (lent_out 𝓛 (strip.struct R₀) (strip.the_codes X.Denot R₀.coded (marker.the_row R₀).coded) (strip.the_heap R₀) (strip.the_lent R₀) κ₁ s b₁ o₁) $
-    split ! $ drop ! $ unhide ! $ fsplit ! $ move ! (1 ∷ 2 ∷ []) $ fjoin ! $ move ! (1 ∷ 0 ∷ []) $ fjoin ! $
+    split ! $ drop ! $ unhide ! $ rewrite ! 0 (λ (f : Fml). ‵ f) (told_there R₀ p z asked.1) refl $
+    fsplit ! $ move ! (1 ∷ 2 ∷ []) $ fjoin ! $ move ! (1 ∷ 0 ∷ []) $ fjoin ! $
     use1 𝓛 (given (IsPlaced R₀ p z) (‵ (common R₀ cv.code holds p z))) (placed R₀ cv holds p z 𝓛) $ learn ! (λ there. move ! (1 ∷ 0 ∷ []) $ fjoin ! $
     move ! (1 ∷ []) $
     use1 𝓛 (‵ (hidden_shr Ds κ (tt, tt) b' o') ⊛ ‵ (fhide (seat_shares cv.code h.base h.id h.view h.stretch h.mark κ)))
@@ -113,20 +114,20 @@ value_spec 𝓤 𝓛 𝓜 𝓡 wired X P U F LX LP LU LF g d _ =
     (seat.the_codes X.Denot P.Denot U.Denot F.Denot R₀.coded R₁.coded R₂.coded R₃.coded (marker.the_row (Tuple (R₀ ∷ R₁ ∷
     []))).coded) (seat.the_heap R₀ R₁ R₂ R₃ g) (seat.the_lent R₀ R₁ R₂ R₃ g) κ k b₂ o₂) $
     split ! $ drop ! $ unhide ! $ rewrite ! 0 (λ (u : ℕ). ‵ (seat_shares cv.code u k.id k.view k.stretch k.mark κ)) of_owner refl $
-    let at_v : pv ≡ p' = at_block pv (subst InBlock (sym asked.4) there.2) in
+    let at_v : pv ≡ p' = at_block pv (subst InBlock (sym asked.5) there.2) in
     suffices ! (Run (us p')) (subst (λ (r : Ptr). ent 𝓤 (Run (us p')) (Run (us r))) (sym at_v) (id⊢ 𝓤 (Run (us p')))) $
     enter ! 𝓣.C 𝓣.Λ fn (us p') Post $
     alloc_all ! (λ l. pass_all ! refl ((tt, tt), ((tt, tt), ((tt, tt), ((tt, tt), ((tt, record { fits = are.1.1.1.1.0.1 }), ((tt, record { fits = are.1.1.1.1.1.0.1 }), (Ptr-Good p', tt))))))) $
     let Ev = env fn.locals l in
     -- [the owner; the guard; the words; the token; the others]
     move ! (2 ∷ 1 ∷ 0 ∷ 3 ∷ []) $ group ! 4 $
-    let d : ℕ = nr - 1 - z.first in let here : ℕ = d * sz + count_of z.values in let mine = asked.3.0 in
-    use1 𝓛 (later (items (λ (x : X.Denot). given (So 𝓛 R₀ LO.shr_laws cv holds g.keeps p z hg ho nr asked.5 mine x)
+    let d : ℕ = nr - 1 - z.first in let here : ℕ = d * sz + count_of z.values in let mine = asked.4.0 in
+    use1 𝓛 (later (items (λ (x : X.Denot). given (So 𝓛 R₀ LO.shr_laws cv holds g.keeps p z hg ho nr asked.6 mine x)
     (‵ (shared_of O (Some x) (block_of z.values) here κ))) ⊛ ‵ (flft κ qs.0)))
-    (lent_to 𝓛 R₀ LO.shr_laws cv holds g.keeps p z hg ho nr asked.5 mine κ qs.0) $ await ! tt $ split ! $ pick ! (λ x. learn ! (λ so.
-    let few = so.2 in let low = so.1 in let high = few.1 in let low_is = few.0 in let j_is : j ≡ d = asked.3.1 low few in let room : z.size * sz < 2 ^ 63 = there.3 in
+    (lent_to 𝓛 R₀ LO.shr_laws cv holds g.keeps p z hg ho nr asked.6 mine κ qs.0) $ await ! tt $ split ! $ pick ! (λ x. learn ! (λ so.
+    let few = so.2 in let low = so.1 in let high = few.1 in let low_is = few.0 in let j_is : j ≡ d = asked.4.1 low few in let room : z.size * sz < 2 ^ 63 = there.3 in
     let small : j * sz < 2 ^ 64 = indexed j z.size sz (omega (arith, high, low_is, j_is)) room in
-    rewrite ! 0 (λ (r : Ptr × ℕ). ‵ (shared_of O (Some x) (block_of r.0) (r.1 * sz + count_of r.0) κ)) (λ i. (sym asked.4 i, sym j_is i)) refl $
+    rewrite ! 0 (λ (r : Ptr × ℕ). ‵ (shared_of O (Some x) (block_of r.0) (r.1 * sz + count_of r.0) κ)) (λ i. (sym asked.5 i, sym j_is i)) refl $
     use1 𝓛 (‵ (hidden_shr O κ (Some x) bv e)) (id⊢ 𝓤 _) $
     -- [the value; the token; the others]
     first ! $ blocks ! $

@@ -1,0 +1,18 @@
+-- Which strips of a memory are had, and claims to numbers of them.
+use Rattle.std.specs.Prelude.{◌≡◌, ℕ, ◌+◌, ◌*◌, ◌<◌, ◌^◌}
+use denote.RawPtr.{InBlock}
+use Rattle.seize_seats.specs.Owned.{BaseId, core_of}
+use Rattle.seize_blocks.specs.declared.part.Part.{Part}
+use Rattle.seize_blocks.specs.declared.claim.Claim.{Claim}
+
+-- it is a strip of this memory
+abbrev pub IsHad : {T : Type 0} → BaseId → Part T → Type 0
+IsHad z p = (core_of p.strip.id ≡ core_of z) × InBlock p.strip.words
+
+-- it is that of this place in the list, and so many numbers come before that which follows it
+abbrev pub IsPart : {T : Type 0} → BaseId → Part T → ℕ → Type 0
+IsPart z p place = IsHad z p × (p.strip.id.place ≡ place) × (p.first + p.count ≡ z.least * 2 ^ place)
+
+-- a number of a strip, with its index in it, is claimed
+abbrev pub IsClaimed : {T : Type 0} → BaseId → Part T × ℕ × Claim → Type 0
+IsClaimed z c = IsHad z c.0 × (c.1 < c.0.count) × (c.2.found ≡ 0) × (c.2.base ≡ z.hands_name) × (c.2.index ≡ c.0.first + c.1)

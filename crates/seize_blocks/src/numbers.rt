@@ -1,0 +1,180 @@
+//! Numbers that are free: in the strips that are there, or in one more, which is laid where none is free.
+ghost use Rattle.std.specs.Prelude.{◌≡◌, ◌+◌, ◌*◌, ◌≤◌, ◌<◌, ◌^◌, IfSome};
+ghost use Rattle.seize_seats.specs.Doors.{block_bytes};
+ghost use Rattle.seize_seats.specs.Owned.{stride};
+ghost use Rattle.seize_blocks.specs.Parts.{IsHad, IsPart, IsClaimed};
+
+use crate::blocks::{Blocks, MOST};
+use crate::claim::Claim;
+use crate::part::{Part, places_in};
+use crate::plot::{fits, lay_strip, skip_of, take_back};
+use crate::rule::Rule;
+use std::ptr::NonNull;
+use std::sync::atomic::Ordering::SeqCst;
+
+/// The index itself, or the first one where there are not so many.
+fn within(index: u64, count: u64) -> u64
+    requires { 0 < count }
+    ensures { result < count }
+{
+    if index < count { index } else { 0 }
+}
+
+impl<T, R: Rule<T>> Blocks<T, R> {
+    /// The first strip.
+    fn first_part(&self) -> Part<T>
+        ensures { IsPart self.now.words.id result 0 }
+    {
+        Part {
+            strip: self.words.strip(),
+            values: self.values.at,
+            first: 0,
+            count: self.count,
+            skip: (self.roots + self.roots + 32) * 16,
+        }
+    }
+
+    /// The strip behind a door, if there is one.
+    fn part_behind(&self, door: u64, first: u64) -> Option<Part<T>>
+        requires { (door < 32) × (first ≡ self.now.words.id.least * 2 ^ door) × (first + first ≤ 2 ^ 32) }
+        ensures { IfSome result (λ p. IsPart self.now.words.id p (door + 1)) }
+    {
+        let strip = self.words.look(self.doors.at, door);
+        let place = places_in(&strip);
+        match NonNull::new(place.at) {
+            Some(_) => {
+                let skip = skip_of::<T>(first as usize) as u64;
+                let values = place.at;
+                Some(Part {
+                    strip,
+                    values,
+                    first,
+                    count: first,
+                    skip,
+                })
+            }
+            None => None,
+        }
+    }
+
+    /// The strip that follows a strip. Where it is not there it is laid, if there is memory.
+    fn next_part(&self, last: &Part<T>, door: u64) -> Option<Part<T>>
+        requires { IsPart self.now.words.id last.now door }
+        ensures { IfSome result (λ p. IsPart self.now.words.id p (door + 1)) }
+    {
+        let first = last.first + last.count;
+        if door >= 32 || first > MOST / 2 {
+            return None;
+        }
+        match self.part_behind(door, first) {
+            Some(part) => Some(part),
+            None => {
+                if fits::<T>(first as usize) {
+                    self.lay(last, door, first);
+                    self.part_behind(door, first)
+                } else {
+                    None
+                }
+            }
+        }
+    }
+
+    /// Lays a strip behind a door, if there is memory and the door is null.
+    fn lay(&self, last: &Part<T>, door: u64, first: u64)
+        requires { IsPart self.now.words.id last.now door × (first ≡ last.now.first + last.now.count) × (door < 32) × (first + first ≤ 2 ^ 32)
+            × (block_bytes T.row first < 2 ^ 63) × (first * stride T.row < 2 ^ 63) }
+    {
+        if let Ok((places, words, deed)) = lay_strip::<T>(&self.alloc, first as usize) {
+            let (found, place, left) = self
+                .words
+                .offer(&last.strip, self.doors.at, door, places, words, deed);
+            if let Err(_) = found {
+                take_back(&self.alloc, left, place.at, first as usize);
+            }
+        }
+    }
+
+    /// Claims a number of a strip, if one is free: its index in it. One after the other is tried, from this one on.
+    fn claim_in(&self, part: &Part<T>, from: u64) -> Option<(u64, Claim)>
+        requires { IsHad self.now.words.id part.now }
+        ensures { IfSome result (λ c. (c.0 < part.now.count) × (c.1.found ≡ 0) × (c.1.base ≡ self.now.words.id.hands_name)
+            × (c.1.index ≡ part.now.first + c.0)) }
+    {
+        let mut next = from;
+        for _ in 0..part.count {
+            let index = within(next, part.count);
+            let (found, claim) = self
+                .words
+                .by(&part.strip)
+                .claim(part.first + index, index * 5 + part.skip + 4);
+            if found == 0 {
+                self.next.store(part.first + index + 1, SeqCst);
+                return Some((index, claim));
+            }
+            next = index + 1;
+        }
+        None
+    }
+
+    /// The strip of a number, if it is there.
+    fn part_of(&self, number: u64) -> Option<Part<T>>
+        requires { number < 2 ^ 32 }
+        ensures { IfSome result (λ p. IsHad self.now.words.id p) }
+    {
+        if number < self.count {
+            return Some(self.first_part());
+        }
+        let (door, first) = self.door_of(number);
+        if first > MOST / 2 {
+            return None;
+        }
+        self.part_behind(door, first)
+    }
+
+    /// A number of the strip in which the last one was claimed, if one is free there.
+    fn near(&self) -> Option<(Part<T>, u64, Claim)>
+        ensures { IfSome result (λ c. IsClaimed self.now.words.id c) }
+    {
+        let from = self.next.load(SeqCst);
+        if from >= MOST {
+            return None;
+        }
+        let Some(part) = self.part_of(from) else {
+            return None;
+        };
+        match self.claim_in(&part, from.wrapping_sub(part.first)) {
+            Some((index, claim)) => Some((part, index, claim)),
+            None => None,
+        }
+    }
+
+    /// A number of any strip. Where none is free a strip more is laid.
+    fn anywhere(&self) -> Option<(Part<T>, u64, Claim)>
+        ensures { IfSome result (λ c. IsClaimed self.now.words.id c) }
+    {
+        let mut part = self.first_part();
+        for door in 0..33 {
+            if let Some((index, claim)) = self.claim_in(&part, 0) {
+                return Some((part, index, claim));
+            }
+            match self.next_part(&part, door) {
+                Some(next) => part = next,
+                None => return None,
+            }
+        }
+        None
+    }
+
+    /// A number that was free and is claimed now, with its strip and its index in it, for a block without words of its own.
+    pub(crate) fn number(&self, words: u64) -> Option<(Part<T>, u64, Claim)>
+        ensures { IfSome result (λ c. (words ≡ 0) × IsClaimed self.now.words.id c) }
+    {
+        if words != 0 {
+            return None;
+        }
+        match self.near() {
+            Some(claimed) => Some(claimed),
+            None => self.anywhere(),
+        }
+    }
+}

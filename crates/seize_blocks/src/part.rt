@@ -1,0 +1,35 @@
+//! A strip with what its numbers are found by.
+ghost use Rattle.std.specs.Prelude.{◌≡◌, ◌+◌, ◌*◌, ◌^◌, ◌<◌, ◌≤◌};
+
+use crate::place::Place;
+use crate::strip::Strip;
+
+/// A strip, where its values lie, how many numbers come before its own and how many it has, and how many words come before theirs.
+#[derive(Drop)]
+pub(crate) struct Part<T> {
+    pub(crate) strip: Strip<T>,
+    pub(crate) values: *mut Option<T>,
+    pub(crate) first: u64,
+    pub(crate) count: u64,
+    pub(crate) skip: u64,
+    ghost is: { (strip.id.values ≡ values) × (strip.id.first ≡ first) × (strip.id.size ≡ count) × (strip.id.skip ≡ skip) },
+    ghost fits: { ((skip + count * 5) * 8 < 2 ^ 63) × (first + count ≤ 2 ^ 32) },
+}
+
+/// A block in a strip: where the values of that lie, the index of the block in it, and how many words come before the block's.
+#[derive(Drop)]
+pub(crate) struct Spot<T> {
+    pub(crate) strip: Strip<T>,
+    pub(crate) values: *mut Option<T>,
+    pub(crate) index: u64,
+    pub(crate) first: u64,
+}
+
+/// Where the places of a further strip lie: at its own address, if it has one.
+pub(crate) fn places_in<T>(strip: &Strip<T>) -> Place<T>
+    ensures { result.at ≡ strip.now.words }
+{
+    Place {
+        at: strip.words as *mut Option<T>,
+    }
+}
