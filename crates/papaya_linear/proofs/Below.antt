@@ -2,6 +2,7 @@
 use Rattle.std.specs.Prelude.{◌≡◌, ◌⊎◌, ◌≢◌, ◌<◌, ◌+◌, ℕ, Bool, Option, Some, None, option_map}
 use Rattle.std.proofs.Common.{refl, ap, sym, subst, ◌∙◌, arith, inl, inr}
 use Rattle.std.proofs.lemmas.Bool.{cases_eq}
+use Rattle.seize_acts.specs.Answers.{Grant}
 use Rattle.seize_acts.proofs.Answers.{same_some}
 use Rattle.papaya_scenes.specs.Given.Seize.World.{World, with_at}
 use Rattle.papaya_scenes.specs.Given.Seize.declared.progress.Progress.{Progress}
@@ -22,7 +23,7 @@ use Rattle.papaya_scenes.specs.Making.{making_begun}
 use Rattle.papaya_scenes.specs.Scene.{Scene, slot_of}
 use Rattle.papaya_moments.specs.Numbers.{MapsAreBelow}
 use Rattle.papaya_acts.specs.Acts.{Act, Answer, BeginsCall, StepsCall, TellsCall, AsksCall, StopsCall, BeginsMaking, StepsMaking, BeginsEnding, StepsEnding, BeginsRow, StepsRow}
-use Rattle.papaya_acts.specs.Leads.{EndingCame, Led, MakingCame}
+use Rattle.papaya_acts.specs.Leads.{CallCame, EndingCame, Led, MakingCame}
 
 -- a map that goes on with its setting was there
 there_still : {K : Type 0} (before after : Option (Standing K)) → option_map (λ (st : Standing K). st.setting) after ≡ option_map (λ (st : Standing K). st.setting) before → (st : Standing K) → after ≡ Some st
@@ -52,6 +53,18 @@ module _ {K V : Type 0} (count : ℕ) (s : Scene K V) (here : MapsAreBelow count
       by : (k ≡ m) ⊎ (k ≢ m) → k < count
       by (inl e) = subst (λ (n : ℕ). n < count) (sym e) (its st (sym (at_same s.maps m next k e) ∙ has))
       by (inr ne) = here.standing k st (sym (at_other s.maps m next k ne) ∙ has)
+
+-- where a call has taken a step each map has the setting that it had
+pub called_settings : {K V S : Type 0} (same : K → K → Bool) (by_hasher : S → K → ℕ) (hash : ℕ → K → ℕ) (batch_size roots : ℕ) (s n : Scene K V) (hashes : (m : ℕ) (st : Standing K) → s.maps m ≡ Some st → st.hash ≡ hash m)
+    (i m : ℕ) (g : Grant) (told : Answer K V) (came : CallCame {S = S} same by_hasher batch_size roots slot_of s i m g told n) (k : ℕ)
+    → option_map (λ (st : Standing K). st.setting) (came.did.maps2 k) ≡ option_map (λ (st : Standing K). st.setting) (s.maps k)
+called_settings {K} same by_hasher hash batch_size roots s n hashes i m g told came k = by (cases_eq k m)
+  where
+    by : (k ≡ m) ⊎ (k ≢ m) → option_map (λ (st : Standing K). st.setting) (came.did.maps2 k) ≡ option_map (λ (st : Standing K). st.setting) (s.maps k)
+    by (inl e) =
+        subst (λ (j : ℕ). option_map (λ (st : Standing K). st.setting) (came.did.maps2 j) ≡ option_map (λ (st : Standing K). st.setting) (s.maps j)) (sym e)
+        (moved_map_keeps (hash m) came.standing (s.maps m) (came.did.maps2 m) came.stands (hashes m came.standing came.stands) came.did.its_map).setting
+    by (inr ne) = (same_map_keeps (hash k) (s.maps k) (came.did.maps2 k) (hashes k) (came.did.others k ne)).setting
 
 module _ {K V S : Type 0} (same : K → K → Bool) (by_hasher : S → K → ℕ) (hash : ℕ → K → ℕ) (batch_size roots count : ℕ) (s n : Scene K V) (here : MapsAreBelow count s)
     (hashes : (m : ℕ) (st : Standing K) → s.maps m ≡ Some st → st.hash ≡ hash m) where
@@ -96,16 +109,7 @@ module _ {K V S : Type 0} (same : K → K → Bool) (by_hasher : S → K → ℕ
   -- So it is after each act.
   pub acts_stay_below : (act : Act K V S) → BeginsBelow act → (told : Answer K V) → Led same by_hasher batch_size roots slot_of act s told n → MapsAreBelow count n
   acts_stay_below (BeginsCall i m wanted) below told (standing, stands, none, is) = is_below _ is (record { standing = here.standing; made = here.made })
-  acts_stay_below (StepsCall i m g) below told came = is_below _ came.comes (maps_below count s here came.did.w2 came.did.maps2 kept _ refl refl)
-    where
-      kept : (k : ℕ) → option_map (λ (st : Standing K). st.setting) (came.did.maps2 k) ≡ option_map (λ (st : Standing K). st.setting) (s.maps k)
-      kept k = by (cases_eq k m)
-        where
-          by : (k ≡ m) ⊎ (k ≢ m) → option_map (λ (st : Standing K). st.setting) (came.did.maps2 k) ≡ option_map (λ (st : Standing K). st.setting) (s.maps k)
-          by (inl e) =
-              subst (λ (j : ℕ). option_map (λ (st : Standing K). st.setting) (came.did.maps2 j) ≡ option_map (λ (st : Standing K). st.setting) (s.maps j)) (sym e)
-              (moved_map_keeps (hash m) came.standing (s.maps m) (came.did.maps2 m) came.stands (hashes m came.standing came.stands) came.did.its_map).setting
-          by (inr ne) = (same_map_keeps (hash k) (s.maps k) (came.did.maps2 k) (hashes k) (came.did.others k ne)).setting
+  acts_stay_below (StepsCall i m g) below told came = is_below _ came.comes (maps_below count s here came.did.w2 came.did.maps2 (called_settings same by_hasher hash batch_size roots s n hashes i m g told came) _ refl refl)
   acts_stay_below (TellsCall i m reply) below told (standing, stands, u, next, has, machine_is, told_is, kind, is) = is_below _ is (record { standing = here.standing; made = here.made })
   acts_stay_below (AsksCall i m) below told (u, has, told_is, is) = is_below _ is (record { standing = here.standing; made = here.made })
   acts_stay_below (StopsCall i m) below told (u, has, told_is, is) = is_below _ is (record { standing = here.standing; made = here.made })

@@ -34,9 +34,10 @@ use Rattle.papaya_played.proofs.Noted.{CallsAreNoted}
 use Rattle.papaya_played.proofs.PlayedAs.{PlayedAs}
 use Rattle.papaya_linear.specs.Shown.{ShowsAnswers}
 use Rattle.papaya_linear.proofs.BeginsPlayed.{played_asks, played_asks_are_heard, played_begins, played_begins_are_heard, played_stays, played_stays_heard, played_stops, played_stops_are_heard}
+use Rattle.papaya_linear.proofs.Gone.{nothing_told}
 use Rattle.papaya_linear.proofs.HeardAll.{AreHeard, AreHeardAt}
 use Rattle.papaya_linear.proofs.RepliesPlayed.{played_replies, played_replies_are_heard}
-use Rattle.papaya_linear.proofs.StepsPlayed.{led, played_steps_answer, played_steps_are_heard, played_steps_are_linearizable, there_alike}
+use Rattle.papaya_linear.proofs.StepsPlayed.{led, played_steps_answer, played_steps_are_heard, played_steps_are_linearizable, there_alike, there_is}
 use Rattle.papaya_linear.proofs.Tied.{call_tied}
 
 -- Each entry so far is linearizable; and the moment shows the scene, and what calls are, and what they were told.
@@ -57,10 +58,6 @@ err_is (Err back) e = refl
 resting : (row : Row) → rests row ≡ true → row ≡ Rests
 resting Rests e = refl
 resting _ e = absurd (cc e)
-
-none_mapped : {A B : Type 0} {f : A → B} (o : Option A) → option_map f o ≡ None → o ≡ None
-none_mapped None e = refl
-none_mapped (Some a) e = absurd (cc e)
 
 module _ {K V S : Type 0} (same : K → K → Bool) (by_hasher : S → K → ℕ) (hash : ℕ → K → ℕ) (batch_size roots : ℕ) (aborts : V) (x y : State K V S) (s n : Scene K V) (rows rows2 : ℕ → Row)
     (is : IsOf by_hasher s rows x.now) (is_then : IsOf by_hasher n rows2 y.now) (before : Changed) (at : IsAt same hash (held_in batch_size roots before s) s) (holds : Holds same x s) (noted_then : CallsAreNoted y)
@@ -93,7 +90,8 @@ module _ {K V S : Type 0} (same : K → K → Bool) (by_hasher : S → K → ℕ
       let z : State K V S = call_stepped i m tied.it new.changed x (came.memory, (came.machine, said)) in
       let l : Scene K V = led same hash x s old new at holds.shows holds.noted holds.heard i m tied.it tied.here came.call came.here tied.machine said leads came.memory came.machine in
       let y_is : y ≡ z = tied.comes ∙ ap (λ (p : Progress (Node K V)). call_stepped i m tied.it new.changed x (came.memory, (came.machine, p))) said_is in
-      let n_is : n ≡ l = goes m came.call came.here in
+      let n_is : n ≡ l =
+      goes m came.call (there_is same hash x s old new at holds.shows holds.noted holds.heard i m tied.it tied.here came.call came.here tied.machine said leads came.memory came.machine) in
       comes_so z l y_is n_is
       (record {
         shows = played_steps_answer same hash x s old new at holds.shows holds.noted holds.heard i m tied.it tied.here came.call came.here tied.machine said leads came.memory came.machine;
@@ -203,7 +201,7 @@ module _ {K V S : Type 0} (same : K → K → Bool) (by_hasher : S → K → ℕ
   begins_hold i m wanted (set, there, y_is) may (standing, stands, begins, memory, at2, n_is) =
       let new = then_held (BeginsCall i m wanted) in
       let no_call : (k : ℕ) → s.calls k i ≡ None = λ k. none_is (s.calls k i) (may.0.no_call k) in
-      let none : (k : ℕ) → x.now.calls k i ≡ None = λ k. none_mapped (x.now.calls k i) (is.calls k i ∙ ap (option_map machine_of) (no_call k)) in
+      let none : (k : ℕ) → x.now.calls k i ≡ None = λ k. nothing_told (x.now.calls k i) (is.calls k i ∙ ap (option_map machine_of) (no_call k)) in
       let z : State K V S = call_begun i m by_hasher (call_for wanted) x set in
       let so = played_begins same hash x s old new at holds.shows holds.heard i m by_hasher set standing stands wanted begins no_call none (resting (s.world.row i) may.1) at2 in
       comes_so z (scene_with m i (begun same slot_of standing i wanted) s) y_is n_is

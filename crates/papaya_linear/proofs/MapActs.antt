@@ -2,6 +2,7 @@
 use Rattle.std.specs.Prelude.{◌≡◌, ℕ, Bool, true, false, [], ◌∷◌, Some, None, if◌then◌else◌}
 use Rattle.std.proofs.Common.{refl, ap, sym, subst, ◌∙◌}
 use Rattle.seize_acts.specs.Answers.{Grant}
+use Rattle.papaya_scenes.specs.Given.SeizeWords.Mem.{Mem}
 use Rattle.papaya_scenes.specs.Given.Seize.World.{Row}
 use Rattle.papaya_scenes.specs.Given.Seize.declared.progress.Progress.{Progress}
 use Rattle.papaya_scenes.specs.Given.Seize.declared.progress.Progress.TheVariants as progress
@@ -10,7 +11,7 @@ use Rattle.papaya_scenes.specs.Given.Seize.declared.rows.settle.Settled.TheVaria
 use Rattle.papaya_scenes.specs.Given.Tables.declared.node.Node.{Node}
 use Rattle.papaya_scenes.specs.Given.Tables.declared.setting.Setting.{Setting}
 use Rattle.papaya_scenes.specs.Given.Resize.declared.new_map.NewMap.{NewMap}
-use Rattle.papaya_scenes.specs.Given.Finishes.Endings.{Finishing}
+use Rattle.papaya_scenes.specs.Given.Finishes.Endings.{Finishing, MakingStepsAmong}
 use Rattle.papaya_scenes.specs.Given.Finishes.Makings.{Beginning}
 use Rattle.papaya_scenes.specs.Given.Teller.declared.changed.Changed.{Changed}
 use Rattle.papaya_scenes.proofs.NoCall.{none_is}
@@ -32,7 +33,7 @@ use Rattle.papaya_logged.specs.Ends.{NotedStill, NotesMap}
 use Rattle.papaya_acts.specs.Acts.{Act, Answer, OfEnding, OfMaking}
 use Rattle.papaya_acts.specs.Acts.{BeginsMaking, StepsMaking, BeginsEnding, StepsEnding}
 use Rattle.papaya_acts.specs.AsSteps.{EndedTo, LeadsAs, MadeTo, changed_by, held_in}
-use Rattle.papaya_acts.specs.Leads.{Led, MayBe}
+use Rattle.papaya_acts.specs.Leads.{Led, MakingCame, MayBe, making_steps}
 use Rattle.papaya_deeds.specs.Deeds.{Deed, Ends, Entry, Makes, MapComes, MapFails, MapGoes, caller_of, come, moment, named}
 use Rattle.papaya_deeds.specs.History.{IsLinearizable, past}
 use Rattle.papaya_played.specs.Play.{Ending, State, ending_begun as end_begun, ending_deed, ending_stepped, has_root, is_over, is_refusal, making_begun as made_begun, making_deed, making_outcome, making_stepped, pairs_for, settled_outcome}
@@ -50,7 +51,7 @@ use Rattle.papaya_linear.proofs.Tied.{EndingTied, MakingTied, ending_tied, makin
 
 module _ {K V : Type 0} where
   -- a map comes where its root is taken, and goes where it is given up
-  abbrev deed_by : ℕ → NewMap → Bool → Bool → Deed K V
+  abbrev pub deed_by : ℕ → NewMap → Bool → Bool → Deed K V
   deed_by map after before_has after_has =
       if before_has then (if after_has then Makes map else MapFails map) else (if after_has then MapComes map after.setting.root after.setting.mode (pairs_for after.setting.initial) else Makes map)
 
@@ -96,6 +97,13 @@ module _ {K V S : Type 0} (same : K → K → Bool) (by_hasher : S → K → ℕ
         heard = holds.heard;
         each = holds.each;
       })
+
+  -- this step of a making was taken
+  abbrev pub MakingDid : (i : ℕ) (g : Grant) (b : Beginning K) (m2 : Mem (Node K V)) (machine : NewMap) (progress : Progress Setting) → Type 0
+  MakingDid i g b m2 machine progress =
+      (s.makers i ≡ Some b) × (making_steps {S = S} same by_hasher batch_size roots slot_of s g b ≡ Some (m2, (machine, progress)))
+      × ((did : MakingStepsAmong V same same batch_size roots slot_of s.world s.maps s.calls s.makers s.enders i b m2 (machine, progress))
+      × MakingCame {S = S} same by_hasher batch_size roots slot_of s i b did.step.w2 machine n progress)
 
   -- A step of a making, whose map comes and goes so
   module _ (i : ℕ) (g : Grant) where
@@ -151,7 +159,8 @@ module _ {K V S : Type 0} (same : K → K → Bool) (by_hasher : S → K → ℕ
       )
 
     pub making_steps_hold : PlayedAs same by_hasher batch_size roots aborts x y (StepsMaking i g) → Led same by_hasher batch_size roots slot_of (StepsMaking i g) s told n
-        → LeadsAs same by_hasher hash (StepsMaking i g) s told n old new → IsAt same hash new n → ((said : Progress Setting) (b : Beginning K) (after : NewMap) → s.makers i ≡ Some b → MakesSo said b after) → Holds same y n
+        → LeadsAs same by_hasher hash (StepsMaking i g) s told n old new → IsAt same hash new n
+        → ((b : Beginning K) (m2 : Mem (Node K V)) (machine : NewMap) (progress : Progress Setting) → MakingDid i g b m2 machine progress → MakesSo progress b machine) → Holds same y n
     making_steps_hold played (b, makes, m2, machine, progress, computed, told_is, did, came) (said, answer, leads, goes) at2 so =
         onto same z (made same hash x s old new at holds.shows i said leads b makes (making_outcome said)) y n z_is n_is
         (record {
@@ -168,6 +177,9 @@ module _ {K V S : Type 0} (same : K → K → Bool) (by_hasher : S → K → ℕ
 
         said_is : progress ≡ said
         said_is = let both : OfMaking {K = K} {V = V} progress ≡ OfMaking said = sym told_is ∙ answer in cc both
+
+        its : MakesSo said b machine
+        its = subst (λ (p : Progress Setting). MakesSo p b machine) said_is (so b m2 machine progress (makes, computed, did, came))
 
         z : State K V S
         z = making_stepped i tied.it new.changed x (m2, (machine, said))
@@ -190,7 +202,7 @@ module _ {K V S : Type 0} (same : K → K → Bool) (by_hasher : S → K → ℕ
         both =
             subst (λ (map : ℕ). Then map tied.it.machine) (sym (ap (λ (p : ℕ × ((K → ℕ) × NewMap)). p.0) tied.its))
             (subst (Then b.map) (sym (ap (λ (p : ℕ × ((K → ℕ) × NewMap)). p.1.1) tied.its))
-            (shown_then said leads b makes n_is at2 machine (so said b machine makes), linear_then said leads b makes n_is at2 machine (so said b machine makes)))
+            (shown_then said leads b makes n_is at2 machine its, linear_then said leads b makes n_is at2 machine its))
 
   -- A step of an end, of a map that was noted so
   module _ (i : ℕ) (g : Grant) where

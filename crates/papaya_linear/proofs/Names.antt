@@ -15,14 +15,8 @@ use Rattle.papaya_moments.specs.Given.Scenes.Scene.{Scene}
 use Rattle.papaya_moments.proofs.Numbers.{found_of}
 use Rattle.papaya_deeds.specs.Deeds.{come, named, without_map}
 use Rattle.papaya_played.proofs.Noted.{apart}
+use Rattle.papaya_linear.specs.Coming.{AreNamed, IsNamed}
 use Rattle.papaya_linear.proofs.MapsPlayed.{IsApart}
-
--- it has its number as its name
-abbrev pub IsNamed : MapThere → Type 0
-IsNamed f = f.name ≡ named f.number
-
-abbrev pub AreNamed : {K V : Type 0} → Moment K V → Type 0
-AreNamed m = All IsNamed m.maps
 
 promoted_named : (t : Table) (f : MapThere) → IsNamed f → IsNamed (promoted t f)
 promoted_named t f is = by (f.number == t.map)

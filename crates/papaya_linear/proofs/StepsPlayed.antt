@@ -37,7 +37,7 @@ use Rattle.papaya_played.specs.Play.{Calling, State, call_stepped, going, is_ref
 use Rattle.papaya_played.proofs.Alike.{its_call}
 use Rattle.papaya_played.proofs.Noted.{CallsAreNoted, not_over}
 use Rattle.papaya_linear.specs.Shown.{ShowsAnswers}
-use Rattle.papaya_linear.proofs.CallSteps.{steps_answer, steps_are_linearizable}
+use Rattle.papaya_linear.proofs.CallSteps.{steps_answer, steps_are_linearizable, there_is as call_there}
 use Rattle.papaya_linear.proofs.Comes.{steps_come_so}
 use Rattle.papaya_linear.proofs.Heard.{IsHeard, IsSaid, come_asks, come_said, steps_aside, steps_itself}
 use Rattle.papaya_linear.proofs.HeardAll.{AreHeard, none_other, one_heard}
@@ -95,14 +95,18 @@ module _ {K V S : Type 0} (same : K → K → Bool) (hash : ℕ → K → ℕ) (
   abbrev o : Outcome V
   o = outcome_of known_then (kind_of c.call) c.value said
 
+  on_map : d.map ≡ m
+  on_map = let n = noted m i c here in let one : n.0 ≡ d = same_some n.0 d (sym n.1 ∙ it.is) in ap (λ (z : CallThere K V). z.map) (sym one) ∙ n.2
+
+  -- where it is under way
+  abbrev pub there_is : s.calls m i ≡ Some u
+  there_is = call_there same hash x.history x.known s old new at all m i u under said leads d it.is on_map o
+
   abbrev pub led : Scene K V
-  led = let to = leads m u under in scene_after same s old new m i to.0 u to.1 said to.4
+  led = let to = leads m u there_is in scene_after same s old new m i to.0 u to.1 said to.4
 
   abbrev pub then_at : State K V S
   then_at = call_stepped i m c new.changed x (memory, (machine, said))
-
-  on_map : d.map ≡ m
-  on_map = let n = noted m i c here in let one : n.0 ≡ d = same_some n.0 d (sym n.1 ∙ it.is) in ap (λ (z : CallThere K V). z.map) (sym one) ∙ n.2
 
   keeps_now : KeepsValue d.call d.replies (machine_of u) c.value
   keeps_now = subst (λ (z : Machine K V K). KeepsValue d.call d.replies z c.value) its it.keeps
@@ -152,8 +156,8 @@ module _ {K V S : Type 0} (same : K → K → Bool) (hash : ℕ → K → ℕ) (
             next : (u2 : UnderWay K V K) × (led.calls m i ≡ Some u2) × (d2.machine ≡ machine_of u2)
             next = there_alike (λ (z : Calling K V). z.machine) machine_of (then_at.now.calls m i) (led.calls m i) machines d2 has
 
-            next_is : (leads m u under).4.next ≡ Some next.0
-            next_is = sym (its_call s.calls m i (leads m u under).4.next) ∙ next.1
+            next_is : (leads m u there_is).4.next ≡ Some next.0
+            next_is = sym (its_call s.calls m i (leads m u there_is).4.next) ∙ next.1
 
             value_is : kept_after (kind_of d.call) said c.value ≡ d2.value
             value_is = ap (λ (z : Call K V). kept_after (kind_of z) said c.value) it.called ∙ kept_alike (kind_of c.call) said c.value ∙ ap (λ (z : Calling K V). z.value) one
@@ -162,12 +166,12 @@ module _ {K V S : Type 0} (same : K → K → Bool) (hash : ℕ → K → ℕ) (
             keeps_then =
                 subst (KeepsValue d.call d.replies d2.machine) value_is
                 (subst (λ (z : Machine K V K). KeepsValue d.call d.replies z (kept_after (kind_of d.call) said c.value)) (sym next.2)
-                (values_go_on K V same hash named (moment x.history) x.known s old new at all.whole m i u under said leads d it.is c.value keeps_now next.0 next_is))
+                (values_go_on K V same hash named (moment x.history) x.known s old new at all.whole m i u there_is said leads d it.is c.value keeps_now next.0 next_is))
 
             none_then : ((about : Option ℕ) → said ≡ progress.Asks about → ⊥) → TakesNone d2.machine
             none_then never =
-                subst TakesNone (sym (next.2 ∙ goes_as (leads m u under).1 said (leads m u under).4.next (leads m u under).4.goes_on next.0 next_is))
-                (steps_take_none same (leads m u under).0.hash old new (leads m u under).1 said (machine_of u) (leads m u under).3 never)
+                subst TakesNone (sym (next.2 ∙ goes_as (leads m u there_is).1 said (leads m u there_is).4.next (leads m u there_is).4.goes_on next.0 next_is))
+                (steps_take_none same (leads m u there_is).0.hash old new (leads m u there_is).1 said (machine_of u) (leads m u there_is).3 never)
 
     -- So are all calls then.
     pub played_steps_are_heard : AreHeard then_at
