@@ -32,7 +32,7 @@ there_still {K} None after is st has = absurd (let both : None ≡ Some st.setti
 there_still (Some was) after is st has = (was, refl)
 
 module _ {K V : Type 0} (count : ℕ) (s : Scene K V) (here : MapsAreBelow count s) where
-  maps_below : (w2 : World (Node K V)) (maps2 : ℕ → Option (Standing K)) → ((m : ℕ) → option_map (λ (st : Standing K). st.setting) (maps2 m) ≡ option_map (λ (st : Standing K). st.setting) (s.maps m))
+  pub maps_below : (w2 : World (Node K V)) (maps2 : ℕ → Option (Standing K)) → ((m : ℕ) → option_map (λ (st : Standing K). st.setting) (maps2 m) ≡ option_map (λ (st : Standing K). st.setting) (s.maps m))
       → (n : Scene K V) → n.maps ≡ maps2 → n.makers ≡ s.makers → MapsAreBelow count n
   maps_below w2 maps2 kept n maps_are makers_are = record {
     standing = λ m st has.

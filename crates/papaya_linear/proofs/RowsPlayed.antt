@@ -51,7 +51,7 @@ module _ {K V : Type 0} where
   IsOfRow _ = ⊥
 
   -- leaves calls, pairs, maps and tables as its effects leave them
-  rows_like : (d : Deed K V) → IsOfRow d → (o : Outcome V) (effects : List Effect) (refused : Bool) (m : Moment K V)
+  pub rows_like : (d : Deed K V) → IsOfRow d → (o : Outcome V) (effects : List Effect) (refused : Bool) (m : Moment K V)
       → IsLike (with_effects None None effects m) (after (record { deed = d; outcome = o; effects = effects; refused = refused }) m)
   rows_like (Registers s) is o effects refused m = refl
   rows_like (Opens s) is o effects refused m = refl
@@ -85,7 +85,7 @@ module _ (K V : Type 0) where
       if_row c.frees (Leaves c.slot) (if c.becomes == ACTIVE then Opens c.slot else Leaves c.slot) tt (if_row (c.becomes == ACTIVE) (Opens c.slot) (Leaves c.slot) tt tt)
   leaves_row c _ = tt
 
-  is_of_row : (row : SlotRow) → IsOfRow {K = K} {V = V} (row_deed row)
+  pub is_of_row : (row : SlotRow) → IsOfRow {K = K} {V = V} (row_deed row)
   is_of_row (rows.Registers c) = registers_row c.stands c.slot
   is_of_row (rows.Enters c) = tt
   is_of_row (rows.Leaves c) = leaves_row c c.stands
