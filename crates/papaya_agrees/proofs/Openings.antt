@@ -4,11 +4,12 @@ use Rattle.std.proofs.Common.{◌≡◌, ℕ, ◌+◌, Bool, true, false, [], re
 use Rattle.std.proofs.lemmas.Bool.{eq-eqb}
 use Rattle.papaya_scenes.specs.Given.SeizeWords.Mem.{Mem, value_at}
 use Rattle.papaya_scenes.specs.Given.SeizeWords.Op.{Out, Exchange, Exchanged, Made}
-use Rattle.papaya_scenes.specs.Given.SeizeWords.Plan.{Ends}
+use Rattle.papaya_scenes.specs.Given.SeizeWords.Plan.{Ends as EndsSo}
 use Rattle.papaya_scenes.specs.Given.SeizeWords.declared.at.At.TheVariants.{Used}
 use Rattle.papaya_scenes.specs.Given.SeizeWords.declared.fault.Fault.{Fault}
 use Rattle.papaya_scenes.specs.Given.Seize.declared.progress.Progress.{Progress}
 use Rattle.papaya_scenes.specs.Given.Seize.declared.progress.Progress.TheVariants as progress
+use Rattle.papaya_scenes.specs.Given.Seize.declared.rows.settle.Settled.{Settled}
 use Rattle.papaya_scenes.specs.Given.Tables.declared.node.Node.{Node}
 use Rattle.papaya_scenes.specs.Given.Tables.declared.setting.Setting.{Setting}
 use Rattle.papaya_scenes.specs.Given.Tables.declared.table.Table.{Table}
@@ -27,8 +28,8 @@ use Rattle.papaya_effects.specs.Effects.{effects_of}
 use Rattle.papaya_effects.specs.Known.{Known}
 use Rattle.papaya_effects.specs.declared.acting.Acting.{Acting}
 use Rattle.papaya_logged.proofs.MakingAsks.{told_back}
-use Rattle.papaya_deeds.specs.Deeds.{Deed, MapComes, Makes, MapFails, acted_on}
-use Rattle.papaya_played.specs.Play.{has_root, making_deed, pairs_for}
+use Rattle.papaya_deeds.specs.Deeds.{Deed, MapComes, Makes, MapFails, Ends, MapGoes, acted_on}
+use Rattle.papaya_played.specs.Play.{Ending, ending_deed, has_root, is_over, making_deed, pairs_for}
 use Rattle.papaya_agrees.specs.Fresh.{comes_with}
 use Rattle.papaya_agrees.proofs.Fresh.{BeginsElsewhere}
 
@@ -59,7 +60,7 @@ module _ {K V : Type 0} (c : NewMap) (m n : Mem (Node K V)) (told : Changed) (en
   rootless_quiet openings.Over none steps = absurd (cc none)
 
   -- it is not over before
-  not_done : (out : Out (Node K V)) (setting : Setting) → Ends (value_at n) (taken c out) end → end.1 ≡ progress.Done setting → ⊥
+  not_done : (out : Out (Node K V)) (setting : Setting) → EndsSo (value_at n) (taken c out) end → end.1 ≡ progress.Done setting → ⊥
   not_done (Exchanged (Ok free)) setting ends done = cc (ap (λ (z : NewMap × Progress Setting). z.1) ends, done)
   not_done (Exchanged (Err used)) setting ends done = by (nat_lt c.setting.root (c.roots - 1)) (sym (ap (λ (z : NewMap × Progress Setting). z.1) ends) ∙ done)
     where
@@ -95,7 +96,7 @@ module _ {K V : Type 0} (c : NewMap) (m n : Mem (Node K V)) (told : Changed) (en
   sharded d true none = absurd (cc none)
   sharded d false none = absurd (cc none)
 
-  made_keeps : (out : Out (Node K V)) → c.stands ≡ openings.Shards → Ends (value_at n) (made c out) end → KeepsRoot end
+  made_keeps : (out : Out (Node K V)) → c.stands ≡ openings.Shards → EndsSo (value_at n) (made c out) end → KeepsRoot end
   made_keeps (Made (Ok block)) is ends = by_end _ ends (sharded (record c { setting = record c.setting { counter = block } }) (c.len == 0))
   made_keeps (Made (Err value)) is ends = by_end _ ends (λ none. absurd (cc none))
   made_keeps _ is ends = by_end _ ends (λ none. absurd (cc (ap has_root is, none)))
@@ -113,7 +114,7 @@ module _ {K V : Type 0} (c : NewMap) (m n : Mem (Node K V)) (told : Changed) (en
 module _ {K V : Type 0} (map : ℕ) (before next : NewMap) where
   abbrev deed_by : Bool → Bool → Deed K V
   deed_by b c =
-      if b then (if c then Makes map else MapFails map) else (if c then MapComes map next.setting.root next.setting.mode (pairs_for next.setting.initial) else Makes map)
+      if b then (if c then Makes map else MapFails map) else (if c then MapComes map next.setting.root next.setting.mode (pairs_for next.len) else Makes map)
 
   pub making_acts : (m : Moment K V) → acted_on (making_deed {K = K} {V = V} map before next) m ≡ Some map
   making_acts m = by (has_root before.stands) (has_root next.stands)
@@ -153,3 +154,19 @@ module _ {K V : Type 0} (map : ℕ) (before next : NewMap) where
       by true false = refl
       by false true = other
       by false false = refl
+
+-- and what is as one ends
+module _ {K V T : Type 0} (f : Ending) (said : Settled T) where
+  pub ending_acts : (m : Moment K V) → acted_on (ending_deed {K = K} {V = V} f said) m ≡ Some f.map
+  ending_acts m = by (is_over said)
+    where
+      by : (q : Bool) → acted_on {K = K} {V = V} (if q then MapGoes f.map else Ends f.map) m ≡ Some f.map
+      by true = refl
+      by false = refl
+
+  pub ending_begins_none : (n : ℕ) → BeginsElsewhere n (ending_deed {K = K} {V = V} f said)
+  ending_begins_none n = by (is_over said)
+    where
+      by : (q : Bool) → BeginsElsewhere {K = K} {V = V} n (if q then MapGoes f.map else Ends f.map)
+      by true = tt
+      by false = tt
