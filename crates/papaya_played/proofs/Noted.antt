@@ -132,7 +132,7 @@ module _ {K V : Type 0} where
   making_none on before next = by (has_root before.stands) (has_root next.stands)
     where
       by : (b c : Bool)
-          → OfNoCall (if b then (if c then Makes on else MapFails on) else (if c then MapComes on next.setting.root next.setting.mode (pairs_for next.setting.initial) else Makes on))
+          → OfNoCall (if b then (if c then Makes on else MapFails on) else (if c then MapComes on next.setting.root next.setting.mode (pairs_for next.len) else Makes on))
       by true true = (λ o calls. refl, λ m. refl)
       by true false = (λ o calls. refl, λ m. refl)
       by false true = (λ o calls. refl, λ m. refl)
