@@ -54,6 +54,11 @@ module _ {K V : Type 0} (count : ℕ) (s : Scene K V) (here : MapsAreBelow count
       by (inl e) = subst (λ (n : ℕ). n < count) (sym e) (its st (sym (at_same s.maps m next k e) ∙ has))
       by (inr ne) = here.standing k st (sym (at_other s.maps m next k ne) ∙ has)
 
+-- a making that begins is of a number below the count
+abbrev pub BeginsBelow : {K V S : Type 0} → ℕ → Act K V S → Type 0
+BeginsBelow count (BeginsMaking i map hasher given places) = map < count
+BeginsBelow count act = Unit {0}
+
 -- where a call has taken a step each map has the setting that it had
 pub called_settings : {K V S : Type 0} (same : K → K → Bool) (by_hasher : S → K → ℕ) (hash : ℕ → K → ℕ) (batch_size roots : ℕ) (s n : Scene K V) (hashes : (m : ℕ) (st : Standing K) → s.maps m ≡ Some st → st.hash ≡ hash m)
     (i m : ℕ) (g : Grant) (told : Answer K V) (came : CallCame {S = S} same by_hasher batch_size roots slot_of s i m g told n) (k : ℕ)
@@ -101,13 +106,8 @@ module _ {K V S : Type 0} (same : K → K → Bool) (by_hasher : S → K → ℕ
   ended_on i f w2 deed machine (settled.Gave value) (b, was, taken, is) = is_below _ is (record { standing = here.standing; made = here.made })
   ended_on i f w2 deed machine settled.Done (none, finished, is) = is_below _ is (record { standing = here.standing; made = here.made })
 
-  -- a making that begins is of a number below the count
-  abbrev pub BeginsBelow : Act K V S → Type 0
-  BeginsBelow (BeginsMaking i map hasher given places) = map < count
-  BeginsBelow act = Unit {0}
-
   -- So it is after each act.
-  pub acts_stay_below : (act : Act K V S) → BeginsBelow act → (told : Answer K V) → Led same by_hasher batch_size roots slot_of act s told n → MapsAreBelow count n
+  pub acts_stay_below : (act : Act K V S) → BeginsBelow count act → (told : Answer K V) → Led same by_hasher batch_size roots slot_of act s told n → MapsAreBelow count n
   acts_stay_below (BeginsCall i m wanted) below told (standing, stands, none, is) = is_below _ is (record { standing = here.standing; made = here.made })
   acts_stay_below (StepsCall i m g) below told came = is_below _ came.comes (maps_below count s here came.did.w2 came.did.maps2 (called_settings same by_hasher hash batch_size roots s n hashes i m g told came) _ refl refl)
   acts_stay_below (TellsCall i m reply) below told (standing, stands, u, next, has, machine_is, told_is, kind, is) = is_below _ is (record { standing = here.standing; made = here.made })

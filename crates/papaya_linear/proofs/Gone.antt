@@ -30,6 +30,11 @@ pub nothing_told : {A B : Type 0} {f : A → B} (o : Option A) → option_map f 
 nothing_told None e = refl
 nothing_told (Some a) e = absurd (cc e)
 
+-- a making that begins is of another map
+abbrev pub BeginsOther : {K V S : Type 0} → ℕ → Act K V S → Type 0
+BeginsOther map (BeginsMaking i m hasher given places) = m ≢ map
+BeginsOther map act = Unit {0}
+
 module _ {K V S : Type 0} (same : K → K → Bool) (by_hasher : S → K → ℕ) (hash : ℕ → K → ℕ) (batch_size roots map : ℕ) (s n : Scene K V) (gone : IsGone map s)
     (hashes : (m : ℕ) (st : Standing K) → s.maps m ≡ Some st → st.hash ≡ hash m) where
   is_gone : (x : Scene K V) → n ≡ x → IsGone map x → IsGone map n
@@ -85,13 +90,8 @@ module _ {K V S : Type 0} (same : K → K → Bool) (by_hasher : S → K → ℕ
       by (inl e) = at_same s.maps m None k e
       by (inr ne) = at_other s.maps m None k ne ∙ none
 
-  -- a making that begins is of another map
-  abbrev pub BeginsOther : Act K V S → Type 0
-  BeginsOther (BeginsMaking i m hasher given places) = m ≢ map
-  BeginsOther act = Unit {0}
-
   -- So it is after each act.
-  pub acts_leave_gone : (act : Act K V S) → BeginsOther act → (told : Answer K V) → Led same by_hasher batch_size roots slot_of act s told n → IsGone map n
+  pub acts_leave_gone : (act : Act K V S) → BeginsOther map act → (told : Answer K V) → Led same by_hasher batch_size roots slot_of act s told n → IsGone map n
   acts_leave_gone (BeginsCall i m wanted) other told (standing, stands, none, is) = is_gone _ is (record { not_there = gone.not_there; not_made = gone.not_made })
   acts_leave_gone (StepsCall i m g) other told came =
       is_gone _ came.comes (record { not_there = none_still came.did.maps2 (called_settings same by_hasher hash batch_size roots s n hashes i m g told came map); not_made = gone.not_made })

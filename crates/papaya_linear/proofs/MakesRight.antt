@@ -3,9 +3,9 @@ use Rattle.std.specs.Prelude.{◌≡◌, ◌≢◌, ◌⊎◌, ◌<◌, ℕ, Boo
 use Rattle.std.proofs.Common.{refl, ap, sym, subst, ◌∙◌, inl, inr}
 use Rattle.std.proofs.lemmas.Bool.{cases_eq}
 use Rattle.seize_acts.specs.Answers.{Grant}
-use Rattle.seize_acts.proofs.Answers.{same_some, was_stepped}
+use Rattle.seize_acts.proofs.Answers.{same_some}
 use Rattle.papaya_scenes.specs.Given.SeizeWords.Mem.{Mem}
-use Rattle.papaya_scenes.specs.Given.Seize.World.{with_at}
+use Rattle.papaya_scenes.specs.Given.Seize.World.{World, with_at}
 use Rattle.papaya_scenes.specs.Given.Seize.declared.progress.Progress.{Progress}
 use Rattle.papaya_scenes.specs.Given.Seize.declared.progress.Progress.TheVariants as progress
 use Rattle.papaya_scenes.specs.Given.Teller.declared.changed.Changed.{Changed}
@@ -13,8 +13,12 @@ use Rattle.papaya_scenes.specs.Given.Tables.declared.node.Node.{Node}
 use Rattle.papaya_scenes.specs.Given.Tables.declared.setting.Setting.{Setting}
 use Rattle.papaya_scenes.specs.Given.Resize.NewMap.{at_root, new_map_plan}
 use Rattle.papaya_scenes.specs.Given.Resize.declared.new_map.NewMap.{NewMap}
+use Rattle.papaya_scenes.specs.Given.Resize.declared.new_map.Opening.{Opening}
+use Rattle.papaya_scenes.specs.Given.Resize.declared.new_map.Opening.TheVariants as opens
+use Rattle.papaya_scenes.specs.Given.Teller.Tells.{StepsTold}
+use Rattle.papaya_scenes.specs.Given.Teller.declared.changed.Changed.TheVariants as changed
 use Rattle.papaya_scenes.specs.Given.Finishes.Endings.{MakingStepsAmong}
-use Rattle.papaya_scenes.specs.Given.Finishes.Makings.{Beginning, HasTaken, KeepsIts, MakingFacts}
+use Rattle.papaya_scenes.specs.Given.Finishes.Makings.{Beginning, HasTaken, KeepsIts, MakingFacts, OpeningFacts}
 use Rattle.papaya_scenes.proofs.Given.Callers.Together.At.{at_other, at_same}
 use Rattle.papaya_scenes.specs.Held.{Held, IsAt}
 use Rattle.papaya_scenes.specs.Making.{MakingLeads}
@@ -33,9 +37,11 @@ use Rattle.papaya_moments.specs.Whole.{ShowsWhole}
 use Rattle.papaya_moments.proofs.Given.Others.MakingGoes.{new_maps_stay}
 use Rattle.papaya_logged.specs.Given.Remains.Numbered.{NumbersUpTo}
 use Rattle.papaya_logged.proofs.Given.Remains.Numbered.{makings_keep_count}
-use Rattle.papaya_acts.specs.AsSteps.{held_in}
+use Rattle.papaya_acts.proofs.AsSteps.Told.{was_told}
+use Rattle.papaya_acts.specs.AsSteps.{changed_of, held_in}
 use Rattle.papaya_acts.specs.Leads.{MakingCame, making_steps}
 use Rattle.papaya_agrees.proofs.Elsewhere.{SameOf}
+use Rattle.papaya_agrees.proofs.Openings.{IsRefused, done_rooted, root_kept, rootless_quiet}
 use Rattle.papaya_deeds.specs.Deeds.{Deed, Entry, after, come, named, without_map}
 use Rattle.papaya_played.specs.Play.{Ending, has_root, pairs_for}
 use Rattle.papaya_linear.specs.Coming.{AreNamed, Comes, ComesBy, IsUnknown, MapsComeAndGo}
@@ -44,7 +50,16 @@ use Rattle.papaya_linear.proofs.Counted.{all_found, counted_again, counted_come,
 use Rattle.papaya_linear.proofs.MapActs.{deed_by}
 use Rattle.papaya_linear.proofs.MapsPlayed.{IsApart}
 use Rattle.papaya_linear.proofs.Names.{apart_so, come_named, effects_named, gone_named}
-use Rattle.papaya_linear.proofs.Opened.{TellsIts, has_taken, makings_tell_theirs, rootless_quiet, taken_has}
+
+-- it has taken its root where it has it
+has_taken : {K V : Type 0} (w : World (Node K V)) (roots i : ℕ) (n : NewMap) (p : Opening) → OpeningFacts w roots i n p → has_root p ≡ true → HasTaken p
+has_taken w roots i n opens.Takes facts has = absurd (cc has)
+has_taken w roots i n opens.Shards facts has = tt
+has_taken w roots i n (opens.Tables making) facts has = tt
+has_taken w roots i n (opens.Unmakes fault) facts has = tt
+has_taken w roots i n (opens.Frees fault) facts has = tt
+has_taken w roots i n opens.Over facts has = absurd facts
+has_taken w roots i n (opens.Refused fault) facts has = absurd facts
 
 -- The step of a making has led on so.
 module _ {K V S : Type 0} (same : K → K → Bool) (by_hasher : S → K → ℕ) (hash : ℕ → K → ℕ) (batch_size roots : ℕ) (m : Moment K V) (known : Known) (enders : ℕ → Option Ending) (s n : Scene K V) (before : Changed) (new : Held K V)
@@ -67,8 +82,18 @@ module _ {K V S : Type 0} (same : K → K → Bool) (by_hasher : S → K → ℕ
   facts : MakingFacts s.world same batch_size roots i b
   facts = at.together.makings.facts i b makes
 
-  tells : TellsIts b.machine (machine, said)
-  tells = makings_tell_theirs s.world.memory m2 b.machine (machine, said) (was_stepped s.world.memory g (new_map_plan b.machine) (m2, (machine, said)) computed)
+  abbrev change : Changed
+  change = changed_of s.world.memory g (new_map_plan {K = K} {V = V} b.machine)
+
+  told : StepsTold K V (NewMap × Progress Setting) s.world.memory changed.Nothing (new_map_plan b.machine) m2 change (machine, said)
+  told = was_told s.world.memory g (new_map_plan {K = K} {V = V} b.machine) (m2, (machine, said)) computed
+
+  -- it had its root if its map stands then, and has it still unless it is refused
+  done_had : (setting : Setting) → said ≡ progress.Done setting → had ≡ true
+  done_had setting done = done_rooted b.machine s.world.memory m2 change (machine, said) b.machine.stands setting told done
+
+  kept : had ≡ true → has ≡ false → IsRefused said
+  kept was none = root_kept b.machine s.world.memory m2 change (machine, said) b.machine.stands refl was told none
 
   its : Comes b m
   its = so.coming i b makes
@@ -84,8 +109,7 @@ module _ {K V S : Type 0} (same : K → K → Bool) (by_hasher : S → K → ℕ
 
   -- while it has no root nothing is done
   quiet : had ≡ false → effects ≡ []
-  quiet none =
-      rootless_quiet b.map known old.memory new.memory new.changed s.world roots i b.machine b.machine.stands facts.point none ((leads b makes).0, said) (leads b makes).1
+  quiet none = rootless_quiet b.machine old.memory new.memory new.changed ((leads b makes).0, said) b.machine.stands none (leads b makes).1 (acts.Making b.map) known
 
   -- the moment after its effects
   abbrev w : Moment K V
@@ -101,9 +125,10 @@ module _ {K V S : Type 0} (same : K → K → Bool) (by_hasher : S → K → ℕ
   worked_other k other bare = others_leave m known whole.blocks k bare (acts.Making b.map) other new.changed None (Some b.map) (λ e. other (cc e))
 
   -- What is asked of it: a map that stands then was there as a new one,
-  new_by : (p : Progress Setting) → TellsIts b.machine (machine, p) → KeepsIts V same same batch_size roots slot_of s.world did.step.w2 b.machine (machine, p)
+  new_by : (p : Progress Setting) → said ≡ p → KeepsIts V same same batch_size roots slot_of s.world did.step.w2 b.machine (machine, p)
       → MakingCame {S = S} same by_hasher batch_size roots slot_of s i b did.step.w2 machine n p → WasNew b.map p m
-  new_by (progress.Done setting) (was, is, it) keeps (standing, is_made, led) =
+  new_by (progress.Done setting) done keeps (standing, is_made, led) =
+      let was = done_had setting done in
       let new_one = itself true was in
       record {
         there = new_one.there;
@@ -114,36 +139,35 @@ module _ {K V S : Type 0} (same : K → K → Bool) (by_hasher : S → K → ℕ
         no_pairs = new_one.no_pairs;
         no_tables = new_one.no_tables;
       }
-  new_by progress.Goes tells keeps came = tt
-  new_by progress.Waits tells keeps came = tt
-  new_by (progress.Refused fault) tells keeps came = tt
+  new_by progress.Goes is keeps came = tt
+  new_by progress.Waits is keeps came = tt
+  new_by (progress.Refused fault) is keeps came = tt
 
   pub was_new : WasNew b.map said m
-  was_new = new_by said tells did.step.keeps came
+  was_new = new_by said refl did.step.keeps came
 
   -- one that had no root does not stand then,
-  never : (p : Progress Setting) → TellsIts b.machine (machine, p) → had ≡ false → (v : Moment K V) → WasNew b.map p v
-  never (progress.Done setting) (was, is, it) none v = absurd (cc (was, none))
-  never progress.Goes tells none v = tt
-  never progress.Waits tells none v = tt
-  never (progress.Refused fault) tells none v = tt
+  never : (p : Progress Setting) → said ≡ p → had ≡ false → (v : Moment K V) → WasNew b.map p v
+  never (progress.Done setting) done none v = absurd (let was = done_had setting done in cc (was, none))
+  never progress.Goes is none v = tt
+  never progress.Waits is none v = tt
+  never (progress.Refused fault) is none v = tt
 
   pub not_yet : had ≡ false → (v : Moment K V) → WasNew b.map said v
-  not_yet none v = never said tells none v
+  not_yet none v = never said refl none v
 
   pub unknown_yet : had ≡ false → IsUnknown b.map m
   unknown_yet none = itself false none
 
   -- and one that has left its root was refused.
-  fails_by : (p : Progress Setting) → TellsIts b.machine (machine, p) → KeepsIts V same same batch_size roots slot_of s.world did.step.w2 b.machine (machine, p)
-      → MakingCame {S = S} same by_hasher batch_size roots slot_of s i b did.step.w2 machine n p → had ≡ true → has ≡ false → n.maps b.map ≡ None
-  fails_by progress.Goes tells keeps came was none = absurd (let is : has ≡ true = taken_has machine.stands (keeps.0 (had_taken was)).0 in cc (is, none))
-  fails_by progress.Waits tells keeps came was none = absurd came
-  fails_by (progress.Done setting) (then, is, it) keeps came was none = absurd (cc (is, none))
-  fails_by (progress.Refused fault) tells keeps came was none = ap (λ (z : Scene K V). z.maps b.map) came ∙ at.together.makings.coming i b makes
+  fails_by : (p : Progress Setting) → IsRefused p → MakingCame {S = S} same by_hasher batch_size roots slot_of s i b did.step.w2 machine n p → n.maps b.map ≡ None
+  fails_by (progress.Refused fault) refused came = ap (λ (z : Scene K V). z.maps b.map) came ∙ at.together.makings.coming i b makes
+  fails_by progress.Goes refused came = absurd refused
+  fails_by progress.Waits refused came = absurd refused
+  fails_by (progress.Done setting) refused came = absurd refused
 
   pub fails : had ≡ true → has ≡ false → AreFound w × IsApart b.map w n
-  fails was none = (all_found so.count w w_numbers, apart_so b.map w n w_names (fails_by said tells did.step.keeps came was none))
+  fails was none = (all_found so.count w w_numbers, apart_so b.map w n w_names (fails_by said (kept was none) came))
 
   -- The moment after the entry of this step, by whether it had its root and has it.
   module _ (at2 : IsAt same hash new n) (o : Outcome V) (refused : Bool) where
@@ -157,7 +181,7 @@ module _ {K V S : Type 0} (same : K → K → Bool) (by_hasher : S → K → ℕ
     v = then_at had has effects
 
     abbrev f : MapThere
-    f = record { name = named b.map; number = b.map; root = machine.setting.root; mode = machine.setting.mode; capacity = pairs_for machine.setting.initial; first = 0 }
+    f = record { name = named b.map; number = b.map; root = machine.setting.root; mode = machine.setting.mode; capacity = pairs_for machine.len; first = 0 }
 
     come_numbers : had ≡ false → NumbersUpTo so.count (come f m)
     come_numbers none = counted_come so.count f m (unknown_yet none).none below so.numbers
@@ -210,7 +234,7 @@ module _ {K V S : Type 0} (same : K → K → Bool) (by_hasher : S → K → ℕ
           (new_on b.map (at_root b.given b.machine.setting.root) w (then_at true true effects) (same_of b.map w (then_at true true effects) refl refl refl)
           (new_maps_stay K V same hash named m known s old new at whole.all.shown i (subst (λ (p : Progress Setting). MakingLeads same hash i p s old new) goes leads) b makes (Some b.map)
           (at_root b.given b.machine.setting.root) (itself true was)))
-      itself_by true false was is = absurd (let there : has ≡ true = taken_has machine.stands (taken_on was).0 in cc (there, is))
+      itself_by true false was is = absurd (subst IsRefused goes (kept was is))
       itself_by false true was is =
           subst (λ (l : List Effect). IsNew b.map (at_root b.given machine.setting.root) (then_at false true l)) (sym (quiet was)) (record {
             there = f;

@@ -53,7 +53,7 @@ module _ {K V : Type 0} where
   -- a map comes where its root is taken, and goes where it is given up
   abbrev pub deed_by : ℕ → NewMap → Bool → Bool → Deed K V
   deed_by map after before_has after_has =
-      if before_has then (if after_has then Makes map else MapFails map) else (if after_has then MapComes map after.setting.root after.setting.mode (pairs_for after.setting.initial) else Makes map)
+      if before_has then (if after_has then Makes map else MapFails map) else (if after_has then MapComes map after.setting.root after.setting.mode (pairs_for after.len) else Makes map)
 
   no_caller : (map : ℕ) (after : NewMap) (p q : Bool) → caller_of (deed_by map after p q) ≡ None
   no_caller map after true true = refl
@@ -114,7 +114,7 @@ module _ {K V S : Type 0} (same : K → K → Bool) (by_hasher : S → K → ℕ
     pub record MakesSo (said : Progress Setting) (b : Beginning K) (after : NewMap) : Type 0 where
       pub was_new : WasNew b.map said m
       pub unknown : has_root b.machine.stands ≡ false → has_root after.stands ≡ true → (tables_of b.map m ≡ [])
-          × WasNew b.map said (come (record { name = named b.map; number = b.map; root = after.setting.root; mode = after.setting.mode; capacity = pairs_for after.setting.initial; first = 0 }) m)
+          × WasNew b.map said (come (record { name = named b.map; number = b.map; root = after.setting.root; mode = after.setting.mode; capacity = pairs_for after.len; first = 0 }) m)
       pub fails : has_root b.machine.stands ≡ true → has_root after.stands ≡ false → (let v = with_effects None (Some b.map) (effects_of (acts.Making b.map) x.known new.changed) m in AreFound v × IsApart b.map v n)
 
     -- the scene to which it leads
@@ -141,7 +141,7 @@ module _ {K V S : Type 0} (same : K → K → Bool) (by_hasher : S → K → ℕ
       answers true true had has = makes_answer same hash x s old new at holds.shows i said leads b here (making_outcome said) so.was_new
       answers false false had has = makes_answer same hash x s old new at holds.shows i said leads b here (making_outcome said) so.was_new
       answers false true had has =
-          let it = so.unknown had has in comes_answer same hash x s old new at holds.shows i said leads b here (making_outcome said) after.setting it.0 it.1
+          let it = so.unknown had has in comes_answer same hash x s old new at holds.shows i said leads b here (making_outcome said) after it.0 it.1
       answers true false had has =
           let it = so.fails had has in
           let v = with_effects None (Some b.map) (effects_of (acts.Making b.map) x.known new.changed) m in

@@ -5,6 +5,7 @@ use Rattle.papaya_moments.specs.Given.Seize.declared.progress.Progress.{Progress
 use Rattle.papaya_moments.specs.Given.Seize.declared.rows.settle.Settled.{Settled}
 use Rattle.papaya_moments.specs.Given.Tables.declared.node.Node.{Node}
 use Rattle.papaya_moments.specs.Given.Tables.declared.setting.Setting.{Setting}
+use Rattle.papaya_moments.specs.Given.Resize.declared.new_map.NewMap.{NewMap}
 use Rattle.papaya_moments.specs.Given.Runs.Same.{is_same}
 use Rattle.papaya_moments.specs.Given.Finishes.Endings.{Finishing}
 use Rattle.papaya_moments.specs.Given.Finishes.FactsEnds.{taken_by as taken_of}
@@ -61,8 +62,8 @@ module _ {K V S : Type 0} (same : K → K → Bool) (hash : ℕ → K → ℕ) (
     made = let to = leads b here in making_after same hash s old new i b to.0 to.2.step.w2 said to.3
 
     -- the map that comes
-    abbrev coming : Setting → MapThere
-    coming setting = record { name = named b.map; number = b.map; root = setting.root; mode = setting.mode; capacity = pairs_for setting.initial; first = 0 }
+    abbrev coming : NewMap → MapThere
+    coming next = record { name = named b.map; number = b.map; root = next.setting.root; mode = next.setting.mode; capacity = pairs_for next.len; first = 0 }
 
     abbrev of : Deed K V → Entry K V
     of deed = record { deed = deed; outcome = o; effects = effects; refused = is_refusal new.changed }
@@ -78,14 +79,14 @@ module _ {K V S : Type 0} (same : K → K → Bool) (hash : ℕ → K → ℕ) (
         entry_answers same x.history (of (Makes b.map)) (with_effects None (Some b.map) effects m) known_then made (makings_step K V same hash (past x.history) m x.known s all old new at i said leads b here was_new) refl
 
     -- one by which it comes,
-    pub comes_answer : (setting : Setting) → tables_of b.map m ≡ [] → WasNew b.map said (come (coming setting) m)
-        → (let e = of (MapComes b.map setting.root setting.mode (pairs_for setting.initial)) in ShowsAnswers same (past (e ∷ x.history)) (moment (e ∷ x.history)) known_then made)
-    comes_answer setting no_tables was_new =
-        let e = of (MapComes b.map setting.root setting.mode (pairs_for setting.initial)) in
-        let there = likes_answer same (past x.history) x.known s (with_map (coming setting) m) (come (coming setting) m)
-        (maps_come K V same hash (past x.history) m x.known s all old new at (coming setting) no_tables) refl in
-        entry_answers same x.history e (with_effects None (Some b.map) effects (come (coming setting) m)) known_then made
-        (makings_step K V same hash (past x.history) (come (coming setting) m) x.known s there old new at i said leads b here was_new) refl
+    pub comes_answer : (next : NewMap) → tables_of b.map m ≡ [] → WasNew b.map said (come (coming next) m)
+        → (let e = of (MapComes b.map next.setting.root next.setting.mode (pairs_for next.len)) in ShowsAnswers same (past (e ∷ x.history)) (moment (e ∷ x.history)) known_then made)
+    comes_answer next no_tables was_new =
+        let e = of (MapComes b.map next.setting.root next.setting.mode (pairs_for next.len)) in
+        let there = likes_answer same (past x.history) x.known s (with_map (coming next) m) (come (coming next) m)
+        (maps_come K V same hash (past x.history) m x.known s all old new at (coming next) no_tables) refl in
+        entry_answers same x.history e (with_effects None (Some b.map) effects (come (coming next) m)) known_then made
+        (makings_step K V same hash (past x.history) (come (coming next) m) x.known s there old new at i said leads b here was_new) refl
 
     -- and one by which it is there no more
     pub fails_answer : WasNew b.map said m → AreFound (with_effects None (Some b.map) effects m) → IsApart b.map (with_effects None (Some b.map) effects m) made
