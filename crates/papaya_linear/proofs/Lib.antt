@@ -24,3 +24,15 @@ pub mod MapActs
 pub mod Names
 pub mod Below
 pub mod Counted
+pub mod Lasting
+pub mod Going
+pub mod Gone
+pub mod Coming
+pub mod AsideActs
+pub mod MakesRight
+pub mod EndsRight
+pub mod ComeActs
+pub mod Holding
+pub mod Stays
+pub mod Once
+pub mod Linear

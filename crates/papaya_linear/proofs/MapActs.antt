@@ -101,7 +101,7 @@ module _ {K V S : Type 0} (same : K → K → Bool) (by_hasher : S → K → ℕ
   -- this step of a making was taken
   abbrev pub MakingDid : (i : ℕ) (g : Grant) (b : Beginning K) (m2 : Mem (Node K V)) (machine : NewMap) (progress : Progress Setting) → Type 0
   MakingDid i g b m2 machine progress =
-      (s.makers i ≡ Some b) × (making_steps {S = S} same by_hasher batch_size roots slot_of s g b ≡ Some (m2, (machine, progress)))
+      (s.makers i ≡ Some b) × (making_steps {S = S} same by_hasher batch_size roots slot_of s g b ≡ Some (m2, (machine, progress))) × (told ≡ OfMaking progress)
       × ((did : MakingStepsAmong V same same batch_size roots slot_of s.world s.maps s.calls s.makers s.enders i b m2 (machine, progress))
       × MakingCame {S = S} same by_hasher batch_size roots slot_of s i b did.step.w2 machine n progress)
 
@@ -179,7 +179,7 @@ module _ {K V S : Type 0} (same : K → K → Bool) (by_hasher : S → K → ℕ
         said_is = let both : OfMaking {K = K} {V = V} progress ≡ OfMaking said = sym told_is ∙ answer in cc both
 
         its : MakesSo said b machine
-        its = subst (λ (p : Progress Setting). MakesSo p b machine) said_is (so b m2 machine progress (makes, computed, did, came))
+        its = subst (λ (p : Progress Setting). MakesSo p b machine) said_is (so b m2 machine progress (makes, computed, told_is, did, came))
 
         z : State K V S
         z = making_stepped i tied.it new.changed x (m2, (machine, said))
