@@ -131,4 +131,6 @@ module _ {K S : Type 0} (V : Type 0) (same : K → K → Bool) (by_hasher : S �
           numbers = then_numbers.1;
         });
   }
-  XX
+    where
+      numbers : StaysSo V same by_hasher hash batch_size roots aborts (Anything V same by_hasher hash batch_size roots aborts) (λ p x. CallsAreNoted x × NumbersHold x)
+      numbers = numbers_stay V same by_hasher hash batch_size roots aborts
