@@ -26,12 +26,12 @@ use Rattle.papaya_linear.proofs.RowsPlayed.{IsOfRow, is_of_row}
 
 module _ {K V : Type 0} (n : ℕ) where
   -- with an entry by which none comes
-  come_before : (e : Entry K V) (log : List (Entry K V)) → comes_with n e.deed ≡ false → has_come n (e ∷ log) ≡ true → has_come n log ≡ true
-  come_before e log none has = sym (ap (λ (q : Bool). if q then true else has_come n log) none) ∙ has
+  come_by : (e : Entry K V) (log h : List (Entry K V)) → h ≡ e ∷ log → comes_with n e.deed ≡ false → has_come n h ≡ true → has_come n log ≡ true
+  come_by e log h is none has = sym (ap (λ (q : Bool). if q then true else has_come n log) none) ∙ sym (ap (has_come n) is) ∙ has
 
-  come_if : (b : Bool) (e : Entry K V) (log : List (Entry K V)) → comes_with n e.deed ≡ false → has_come n (if b then e ∷ log else log) ≡ true → has_come n log ≡ true
-  come_if true e log none has = come_before e log none has
-  come_if false e log none has = has
+  come_if : (b : Bool) (e : Entry K V) (log h : List (Entry K V)) → h ≡ (if b then e ∷ log else log) → comes_with n e.deed ≡ false → has_come n h ≡ true → has_come n log ≡ true
+  come_if true e log h is none has = come_by e log h is none has
+  come_if false e log h is none has = sym (ap (has_come n) is) ∙ has
 
   rows_bring_none : (d : Deed K V) → IsOfRow d → comes_with n d ≡ false
   rows_bring_none (Registers s) is = refl
@@ -97,18 +97,18 @@ module _ {K V S : Type 0} where
       where
         by : (q : Bool) → (c.map == n) ≡ q → AllByRecursion (MakesOthers n) doings
         by true same_map = subst (λ (k : ℕ). AllByRecursion (MakesOthers k) doings) (eqb-true c.map n same_map) (none.made i c here)
-        by false other = none.come n (come_before n e x.history (ap (comes_with n) is ∙ no_other_comes c.map c.machine machine n other) has)
+        by false other = none.come n (come_by n e x.history (e ∷ x.history) refl (ap (comes_with n) is ∙ no_other_comes c.map c.machine machine n other) has)
 
     -- So it is after an act,
     act_on : (act : Act K V S) → MakesEachOnce (Does act ∷ doings) → NoneAgain x doings → PlayedAs same by_hasher batch_size roots aborts x y act → NoneAgain y doings
-    act_on (BeginsCall i map wanted) once none (at, there, is) = alike x y doings none (λ n has. come_before n _ x.history refl (sym (ap (λ (z : State K V S). has_come n z.history) is) ∙ has)) (ap (λ (z : State K V S). z.now.makers) is)
+    act_on (BeginsCall i map wanted) once none (at, there, is) = alike x y doings none (λ n has. come_by n _ x.history y.history (ap (λ (z : State K V S). z.history) is) refl has) (ap (λ (z : State K V S). z.now.makers) is)
     act_on (StepsCall i map g) once none (at, stands, (c, here, end, came, is)) =
-        alike x y doings none (λ n has. come_before n _ x.history refl (sym (ap (λ (z : State K V S). has_come n z.history) is) ∙ has)) (ap (λ (z : State K V S). z.now.makers) is)
+        alike x y doings none (λ n has. come_by n _ x.history y.history (ap (λ (z : State K V S). z.history) is) refl has) (ap (λ (z : State K V S). z.now.makers) is)
     act_on (TellsCall i map reply) once none (c, here, is) =
-        alike x y doings none (λ n has. come_if n (is_ok (machine_replied c.machine reply).1) _ x.history refl (sym (ap (λ (z : State K V S). has_come n z.history) is) ∙ has)) (ap (λ (z : State K V S). z.now.makers) is)
+        alike x y doings none (λ n has. come_if n (is_ok (machine_replied c.machine reply).1) _ x.history y.history (ap (λ (z : State K V S). z.history) is) refl has) (ap (λ (z : State K V S). z.now.makers) is)
     act_on (AsksCall i map) once none (c, here, is) = alike x y doings none (λ n has. sym (ap (λ (z : State K V S). has_come n z.history) is) ∙ has) (ap (λ (z : State K V S). z.now.makers) is)
     act_on (StopsCall i map) once none (c, here, is) =
-        alike x y doings none (λ n has. come_if n (machine_asked c.machine).1 _ x.history refl (sym (ap (λ (z : State K V S). has_come n z.history) is) ∙ has)) (ap (λ (z : State K V S). z.now.makers) is)
+        alike x y doings none (λ n has. come_if n (machine_asked c.machine).1 _ x.history y.history (ap (λ (z : State K V S). z.history) is) refl has) (ap (λ (z : State K V S). z.now.makers) is)
     act_on (BeginsMaking i map hasher given places) (apart, once) none is = record {
       come = λ n has. none.come n (sym (ap (λ (z : State K V S). has_come n z.history) is) ∙ has);
       made = λ j b makes.
@@ -123,16 +123,16 @@ module _ {K V S : Type 0} where
     }
     act_on (BeginsEnding i map) once none (set, there, is) = alike x y doings none (λ n has. sym (ap (λ (z : State K V S). has_come n z.history) is) ∙ has) (ap (λ (z : State K V S). z.now.makers) is)
     act_on (StepsEnding i g) once none (f, here, end, came, is) =
-        alike x y doings none (λ n has. come_before n _ x.history (ends_bring_none n f.map (is_over end.1.1)) (sym (ap (λ (z : State K V S). has_come n z.history) is) ∙ has)) (ap (λ (z : State K V S). z.now.makers) is)
+        alike x y doings none (λ n has. come_by n _ x.history y.history (ap (λ (z : State K V S). z.history) is) (ends_bring_none n f.map (is_over end.1.1)) has) (ap (λ (z : State K V S). z.now.makers) is)
     act_on (BeginsRow i request) once none (called, there, is) = alike x y doings none (λ n has. sym (ap (λ (z : State K V S). has_come n z.history) is) ∙ has) (ap (λ (z : State K V S). z.now.makers) is)
     act_on (StepsRow i g) once none (row, here, end, came, is) =
-        alike x y doings none (λ n has. come_before n _ x.history (rows_bring_none n (row_deed row) (is_of_row K V row)) (sym (ap (λ (z : State K V S). has_come n z.history) is) ∙ has))
+        alike x y doings none (λ n has. come_by n _ x.history y.history (ap (λ (z : State K V S). z.history) is) (rows_bring_none n (row_deed row) (is_of_row K V row)) has)
         (ap (λ (z : State K V S). z.now.makers) is)
 
     -- and after a step of who reclaims all.
     step_on : (g : Grant) → NoneAgain x doings → ReclaimedAs same by_hasher batch_size roots aborts x y g → NoneAgain y doings
     step_on g none (c, here, end, came, is) =
-        alike x y doings none (λ n has. come_before n _ x.history refl (sym (ap (λ (z : State K V S). has_come n z.history) is) ∙ has)) (ap (λ (z : State K V S). z.now.makers) is)
+        alike x y doings none (λ n has. come_by n _ x.history y.history (ap (λ (z : State K V S). z.history) is) refl has) (ap (λ (z : State K V S). z.now.makers) is)
 
   once_later : (act : Act K V S) (doings : List (Doing K V S)) → MakesEachOnce (Does act ∷ doings) → MakesEachOnce doings
   once_later (BeginsMaking i map hasher given places) doings once = once.1
