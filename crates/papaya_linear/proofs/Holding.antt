@@ -62,7 +62,7 @@ pub record AllHolds {K V S : Type 0} (same : K → K → Bool) (x : State K V S)
 
 module _ {K V S : Type 0} where
   -- of a number that has not come nothing is known, and no map with it ends
-  new_number : (x : State K V S) → NumbersHold x → (act : Act K V S) → HasNewNumber x act → IsByNewNumber x act
+  pub new_number : (x : State K V S) → NumbersHold x → (act : Act K V S) → HasNewNumber x act → IsByNewNumber x act
   new_number x numbers (BeginsMaking i map hasher given places) none =
       let fresh = numbers.fresh map none in (
         record { none = fresh.no_map; no_pairs = fresh.no_pair; no_tables = fresh.no_table },

@@ -41,7 +41,7 @@ use Rattle.papaya_linear.proofs.Shifts.{rows_shift_none}
 
 module _ {K V : Type 0} where
   -- one of a row, or of who reclaims all
-  abbrev IsOfRow : Deed K V → Type 0
+  abbrev pub IsOfRow : Deed K V → Type 0
   IsOfRow (Registers s) = Unit {0}
   IsOfRow (Opens s) = Unit {0}
   IsOfRow (Shuts s) = Unit {0}
