@@ -97,7 +97,7 @@ module _ {K V S : Type 0} where
       where
         by : (q : Bool) → (c.map == n) ≡ q → AllByRecursion (MakesOthers n) doings
         by true same_map = subst (λ (k : ℕ). AllByRecursion (MakesOthers k) doings) (eqb-true c.map n same_map) (none.made i c here)
-        by false other = none.come n (come_by n e x.history (e ∷ x.history) refl (ap (comes_with n) is ∙ no_other_comes c.map c.machine machine n other) has)
+        by false other = none.come n (come_by n e x.history (e ∷ x.history) refl (ap (comes_with n) is ∙ no_other_comes K V c.map c.machine machine n other) has)
 
     -- So it is after an act,
     act_on : (act : Act K V S) → MakesEachOnce (Does act ∷ doings) → NoneAgain x doings → PlayedAs same by_hasher batch_size roots aborts x y act → NoneAgain y doings
