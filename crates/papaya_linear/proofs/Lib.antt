@@ -34,5 +34,4 @@ pub mod EndsRight
 pub mod ComeActs
 pub mod Holding
 pub mod Stays
-pub mod Once
 pub mod Linear

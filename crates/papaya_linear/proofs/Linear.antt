@@ -6,11 +6,11 @@ use Rattle.papaya_acts.specs.Doings.{Doing, Does, BeginsReclaiming, BeginsCleari
 use Rattle.papaya_acts.specs.Lists.{nothing_done}
 use Rattle.papaya_scenes.specs.Scene.{slot_of}
 use Rattle.papaya_agrees.specs.Fresh.{HasNewNumber}
+use Rattle.papaya_agrees.proofs.Coming.{new_numbers}
 use Rattle.papaya_agrees.proofs.Numbers.{numbers_first}
 use Rattle.papaya_played.specs.Play.{State, first_state}
 use Rattle.papaya_played.proofs.Along.{AreOfTheirOwn, wherever}
 use Rattle.papaya_linear.specs.Linear.{IsOfOwn, ListsAreLinearizable}
-use Rattle.papaya_linear.proofs.Once.{fits_all}
 use Rattle.papaya_linear.proofs.Stays.{Of, all_stay, first_holds}
 
 module _ {K S : Type 0} (V : Type 0) (same : K → K → Bool) (by_hasher : S → K → ℕ) (hash : ℕ → K → ℕ) (batch_size roots : ℕ) where
@@ -26,5 +26,5 @@ module _ {K S : Type 0} (V : Type 0) (same : K → K → Bool) (by_hasher : S �
       let first = nothing_done V same by_hasher batch_size roots slot_of course in
       let to = wherever V same by_hasher hash batch_size roots small aborts HasNewNumber (Of V same by_hasher hash batch_size roots aborts) (all_stay V same by_hasher hash batch_size roots aborts) course doings y led
       (own_so doings own) (first_holds V same by_hasher hash batch_size roots aborts first.0 refl (numbers_first roots))
-      (fits_all V same by_hasher hash batch_size roots aborts doings (first_state roots) once (record { come = λ n has. absurd (cc has); made = λ i b has. absurd (cc has) })) in
+      (new_numbers V same by_hasher hash batch_size roots aborts doings (first_state roots) once (λ n made. record { not_come = refl; not_made = λ i b has. absurd (cc has) })) in
       (to.0, to.1, to.2.holds.each)
