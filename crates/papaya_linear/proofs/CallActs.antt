@@ -36,16 +36,10 @@ use Rattle.papaya_linear.specs.Shown.{ShowsAnswers}
 use Rattle.papaya_linear.proofs.BeginsPlayed.{played_asks, played_asks_are_heard, played_begins, played_begins_are_heard, played_stays, played_stays_heard, played_stops, played_stops_are_heard}
 use Rattle.papaya_linear.proofs.Gone.{nothing_told}
 use Rattle.papaya_linear.proofs.HeardAll.{AreHeard, AreHeardAt}
+use Rattle.papaya_linear.proofs.Holds.{Holds}
 use Rattle.papaya_linear.proofs.RepliesPlayed.{played_replies, played_replies_are_heard}
 use Rattle.papaya_linear.proofs.StepsPlayed.{led, played_steps_answer, played_steps_are_heard, played_steps_are_linearizable, there_alike, there_is}
 use Rattle.papaya_linear.proofs.Tied.{call_tied}
-
--- Each entry so far is linearizable; and the moment shows the scene, and what calls are, and what they were told.
-pub record Holds {K V S : Type 0} (same : K → K → Bool) (x : State K V S) (s : Scene K V) : Type 0 where
-  pub shows : ShowsAnswers same (past x.history) (moment x.history) x.known s
-  pub noted : CallsAreNoted x
-  pub heard : AreHeard x
-  pub each : AtEachEvent (IsLinearizable same) x.history
 
 ok_is : {E : Type 0} (r : Result Unit E) → is_ok r ≡ true → r ≡ Ok tt
 ok_is (Ok done) e = refl

@@ -45,10 +45,11 @@ use Rattle.papaya_played.proofs.PlayedAs.{PlayedAs, played_as, reclaimed_as}
 use Rattle.papaya_linear.specs.Coming.{IsByNewNumber, IsGone, MapsComeAndGo}
 use Rattle.papaya_linear.specs.Shown.{ShowsAnswers}
 use Rattle.papaya_linear.proofs.AsideActs.{reclaiming_aside}
-use Rattle.papaya_linear.proofs.CallActs.{Holds, asks_hold, begins_hold, steps_hold, stops_hold, told_hold}
+use Rattle.papaya_linear.proofs.CallActs.{asks_hold, begins_hold, steps_hold, stops_hold, told_hold}
 use Rattle.papaya_linear.proofs.ComeActs.{end_begins_come, ending_steps_come, making_begins_come, making_steps_come, quiet_come, row_steps_come, steps_come}
 use Rattle.papaya_linear.proofs.EndsRight.{goes_well}
 use Rattle.papaya_linear.proofs.Going.{as_noted, notes_all, notes_still}
+use Rattle.papaya_linear.proofs.Holds.{Holds}
 use Rattle.papaya_linear.proofs.Gone.{BeginsOther, acts_leave_gone}
 use Rattle.papaya_linear.proofs.MakesRight.{fails, not_yet, unknown_yet, was_new}
 use Rattle.papaya_linear.proofs.MapActs.{EndsSo, MakesSo, MakingDid, end_begins_hold, ending_steps_hold, making_begins_hold, making_steps_hold}

@@ -17,6 +17,7 @@ pub mod RepliesPlayed
 pub mod BeginsPlayed
 pub mod Shifts
 pub mod RowsPlayed
+pub mod Holds
 pub mod CallActs
 pub mod RowActs
 pub mod MapsPlayed

@@ -41,12 +41,11 @@ use Rattle.papaya_played.specs.Reached.{IsOf}
 use Rattle.papaya_played.proofs.Noted.{CallsAreNoted, ending_none, made_calls, making_none}
 use Rattle.papaya_played.proofs.PlayedAs.{PlayedAs}
 use Rattle.papaya_linear.specs.Shown.{ShowsAnswers}
-use Rattle.papaya_linear.proofs.CallActs.{Holds}
+use Rattle.papaya_linear.proofs.Holds.{Holds, onto}
 use Rattle.papaya_linear.proofs.Heard.{none_said}
 use Rattle.papaya_linear.proofs.HeardAll.{all_heard}
 use Rattle.papaya_linear.proofs.MapsPlayed.{IsApart, comes_answer, end_of, ended, ends_answer, ends_are_linearizable, fails_answer, goes_answer, made, makes_answer, makings_are_linearizable}
 use Rattle.papaya_linear.proofs.OthersGo.{ends_begin, makings_begin}
-use Rattle.papaya_linear.proofs.RowActs.{onto}
 use Rattle.papaya_linear.proofs.Tied.{EndingTied, MakingTied, ending_tied, making_tied}
 
 module _ {K V : Type 0} where

@@ -20,13 +20,9 @@ use Rattle.papaya_played.specs.Play.{State, all_stepped, row_begun, row_outcome,
 use Rattle.papaya_played.specs.Reached.{IsOf, row_or_rests}
 use Rattle.papaya_played.proofs.Noted.{CallsAreNoted}
 use Rattle.papaya_played.proofs.PlayedAs.{PlayedAs}
-use Rattle.papaya_linear.proofs.CallActs.{Holds}
+use Rattle.papaya_linear.proofs.Holds.{Holds, onto}
 use Rattle.papaya_linear.proofs.OthersGo.{rows_begin}
 use Rattle.papaya_linear.proofs.RowsPlayed.{played_rows_answer, played_rows_are_heard, played_rows_are_linearizable, reclaiming_answers, reclaiming_is_heard, reclaiming_is_linearizable}
-
--- so it is of what this comes to
-pub onto : {K V S : Type 0} (same : K → K → Bool) (x : State K V S) (s : Scene K V) (y : State K V S) (n : Scene K V) → y ≡ x → n ≡ s → Holds same x s → Holds same y n
-onto same x s y n y_is n_is so = subst (λ (q : State K V S). Holds same q n) (sym y_is) (subst (Holds same x) (sym n_is) so)
 
 module _ {K V S : Type 0} (same : K → K → Bool) (by_hasher : S → K → ℕ) (hash : ℕ → K → ℕ) (batch_size roots : ℕ) (aborts : V) (x y : State K V S) (s n : Scene K V)
     (is : IsOf by_hasher s s.world.row x.now) (before : Changed) (at : IsAt same hash (held_in batch_size roots before s) s) (holds : Holds same x s) (noted_then : CallsAreNoted y) (told : Answer K V) where

@@ -37,7 +37,7 @@ use Rattle.papaya_played.proofs.PlayedAs.{ReclaimedAs, played_as, reclaimed_as}
 use Rattle.papaya_linear.specs.Coming.{MapsComeAndGo}
 use Rattle.papaya_linear.specs.Shown.{ShowsAnswers}
 use Rattle.papaya_linear.proofs.AsideActs.{reclaiming_aside}
-use Rattle.papaya_linear.proofs.CallActs.{Holds}
+use Rattle.papaya_linear.proofs.Holds.{Holds}
 use Rattle.papaya_linear.proofs.Holding.{AllHolds, acts_come, acts_hold, new_number}
 use Rattle.papaya_linear.proofs.RowActs.{all_steps_hold}
 
