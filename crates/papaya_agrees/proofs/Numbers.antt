@@ -25,13 +25,10 @@ use Rattle.papaya_scenes.proofs.Given.Callers.Together.At.{at_other, at_same}
 use Rattle.papaya_scenes.specs.Replying.{unless_stopped}
 use Rattle.papaya_scenes.specs.Scene.{row_of, slot_of}
 use Rattle.papaya_runs.specs.Same.{is_same}
-use Rattle.papaya_schedules.specs.Moment.{Moment, UnderWay}
-use Rattle.papaya_schedules.specs.declared.effect.Effect.{Effect}
-use Rattle.papaya_schedules.specs.declared.effect.Table.{Table}
+use Rattle.papaya_schedules.specs.Moment.{UnderWay}
 use Rattle.papaya_schedules.specs.declared.outcome.Outcome.{Outcome}
 use Rattle.papaya_schedules.specs.declared.outcome.Outcome.TheVariants as outcome
-use Rattle.papaya_effects.specs.Effects.{effects_of, known_after, map_of}
-use Rattle.papaya_effects.specs.Known.{Known}
+use Rattle.papaya_effects.specs.Effects.{effects_of, known_after}
 use Rattle.papaya_effects.specs.declared.acting.Acting.{Acting}
 use Rattle.papaya_effects.specs.declared.acting.Acting.TheVariants as acting
 use Rattle.papaya_named.specs.Seen.{kind_of}
@@ -141,9 +138,9 @@ module _ {K V S : Type 0} (x : State K V S) (here : NumbersHold x) where
       let e = entry (acting.Ending f.map) told (ending_deed f said) o in
       let ne = other f.map n (here.ended i f has) (not_come n e x.history not).1 in
       record {
-        begins = ending_begins_none f said n;
+        begins = ending_begins_none K V f said n;
         acts = acts_elsewhere n (acted_on e.deed (at_work e (moment x.history))) (effects_of (acting.Ending f.map) x.known told)
-            (λ is. ne (same_some f.map n (sym (ending_acts f said (at_work e (moment x.history))) ∙ is)));
+            (λ is. ne (same_some f.map n (sym (ending_acts K V f said (at_work e (moment x.history))) ∙ is)));
         links = acting_elsewhere n AnyTable (acting.Ending f.map) ne x.known (λ b u len is. tt) told;
       }
 
@@ -172,7 +169,7 @@ module _ {K V S : Type 0} (x : State K V S) (here : NumbersHold x) where
     acted = acted_on made_entry.deed (at_work made_entry (moment x.history))
 
     making_else : AllElse made_entry
-    making_else n not = record { begins = making_begins_none b.map b.machine end.1.0 n; acts = (by (has_root b.machine.stands) refl).0; links = (by (has_root b.machine.stands) refl).1 }
+    making_else n not = record { begins = making_begins_none K V b.map b.machine end.1.0 n; acts = (by (has_root b.machine.stands) refl).0; links = (by (has_root b.machine.stands) refl).1 }
       where
         by : (q : Bool) → has_root b.machine.stands ≡ q → ActsElsewhere n acted made_entry.effects × AllLinkElsewhere n AnyTable made_entry.effects
         by false e =
@@ -180,7 +177,7 @@ module _ {K V S : Type 0} (x : State K V S) (here : NumbersHold x) where
             (subst (ActsElsewhere n acted) (sym quiet) tt, subst (AllLinkElsewhere n AnyTable) (sym quiet) tt)
         by true e =
             let ne = other b.map n (here.made i b has e) (not_come n made_entry x.history not).1 in (
-              acts_elsewhere n acted made_entry.effects (λ is. ne (same_some b.map n (sym (making_acts b.map b.machine end.1.0 (at_work made_entry (moment x.history))) ∙ is))),
+              acts_elsewhere n acted made_entry.effects (λ is. ne (same_some b.map n (sym (making_acts K V b.map b.machine end.1.0 (at_work made_entry (moment x.history))) ∙ is))),
               acting_elsewhere n AnyTable (acting.Making b.map) ne x.known (λ b u len is. tt) change,
             )
 
@@ -190,7 +187,7 @@ module _ {K V S : Type 0} (x : State K V S) (here : NumbersHold x) where
       where
         by : (q : Bool) → has_root b.machine.stands ≡ q → has_come b.map log_then ≡ true
         by true e = still_come b.map made_entry x.history (here.made i b has e)
-        by false e = now_come b.map made_entry x.history (comes_then b.map b.machine end.1.0 e rooted)
+        by false e = now_come b.map made_entry x.history (comes_then K V b.map b.machine end.1.0 e rooted)
 
     done_then : (setting : Setting) → end.1.1 ≡ progress.Done setting → has_come b.map log_then ≡ true
     done_then setting done =
@@ -325,14 +322,15 @@ module _ {K V S : Type 0} (same : K → K → Bool) (hash : S → K → ℕ) (ba
       (no_map_else x here change (ReclaimsAll (is_over end.1.1)) (settled_outcome end.1.1) (reclaims_all (is_over end.1.1)) (λ n. reclaiming_elsewhere n AnyTable x.known here.none change says)) (maps_kept x here e) (made_kept x here e)
       (ended_kept x here e))
 
+-- so it is, with each call noted
+abbrev pub NumbersStay : {K V S : Type 0} → State K V S → Type 0
+NumbersStay x = CallsAreNoted x × NumbersHold x
+
 -- at first nothing has come
 pub numbers_first : {K V S : Type 0} (roots : ℕ) → NumbersHold {K = K} {V = V} {S = S} (first_state roots)
 numbers_first roots = record { none = refl; fresh = λ n not. fresh_first n; maps = λ m at has. absurd (cc has); made = λ i b has rooted. absurd (cc has); ended = λ i f has. absurd (cc has) }
 
 module _ {K S : Type 0} (V : Type 0) (same : K → K → Bool) (by_hasher : S → K → ℕ) (hash : ℕ → K → ℕ) (batch_size roots : ℕ) (aborts : V) where
-  abbrev pub NumbersStay : State K V S → Type 0
-  NumbersStay x = CallsAreNoted x × NumbersHold x
-
   pub numbers_stay : StaysSo V same by_hasher hash batch_size roots aborts (Anything V same by_hasher hash batch_size roots aborts) (λ p x. NumbersStay x)
   numbers_stay = record {
     acts = λ p n x y act told own fits none none_then is is_then at may led leads at_then played so. (

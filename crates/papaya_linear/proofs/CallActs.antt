@@ -80,7 +80,7 @@ module _ {K V S : Type 0} (same : K → K → Bool) (by_hasher : S → K → ℕ
   steps_hold i m g played came (said, answer, leads, goes) =
       let tied = call_tied same by_hasher batch_size roots aborts s n rows x y is i m g told came played in
       let new = then_held (StepsCall i m g) in
-      let said_is : came.progress ≡ said = (let both : OfCall {K = K} {V = V} came.progress ≡ OfCall said = sym came.tells ∙ answer in cc both) in
+      let said_is : came.progress ≡ said = (let both : ◌≡◌ {A = Answer K V} (OfCall came.progress) (OfCall said) = sym came.tells ∙ answer in cc both) in
       let z : State K V S = call_stepped i m tied.it new.changed x (came.memory, (came.machine, said)) in
       let l : Scene K V = led same hash x s old new at holds.shows holds.noted holds.heard i m tied.it tied.here came.call came.here tied.machine said leads came.memory came.machine in
       let y_is : y ≡ z = tied.comes ∙ ap (λ (p : Progress (Node K V)). call_stepped i m tied.it new.changed x (came.memory, (came.machine, p))) said_is in
@@ -195,7 +195,7 @@ module _ {K V S : Type 0} (same : K → K → Bool) (by_hasher : S → K → ℕ
   begins_hold i m wanted (set, there, y_is) may (standing, stands, begins, memory, at2, n_is) =
       let new = then_held (BeginsCall i m wanted) in
       let no_call : (k : ℕ) → s.calls k i ≡ None = λ k. none_is (s.calls k i) (may.0.no_call k) in
-      let none : (k : ℕ) → x.now.calls k i ≡ None = λ k. nothing_told (x.now.calls k i) (is.calls k i ∙ ap (option_map machine_of) (no_call k)) in
+      let none : (k : ℕ) → x.now.calls k i ≡ None = λ k. nothing_told (λ (c : Calling K V). c.machine) (x.now.calls k i) (is.calls k i ∙ ap (option_map machine_of) (no_call k)) in
       let z : State K V S = call_begun i m by_hasher (call_for wanted) x set in
       let so = played_begins same hash x s old new at holds.shows holds.heard i m by_hasher set standing stands wanted begins no_call none (resting (s.world.row i) may.1) at2 in
       comes_so z (scene_with m i (begun same slot_of standing i wanted) s) y_is n_is

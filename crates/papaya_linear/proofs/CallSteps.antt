@@ -55,7 +55,7 @@ module _ {K V : Type 0} (same : K → K → Bool) (hash : ℕ → K → ℕ) (hi
   abbrev pub known_then : Known
   known_then = known_after (acts.Call i map) new.changed known
 
-  midst : InEvent same named (past history) m map i d [] m known s u
+  pub midst : InEvent same named (past history) m map i d [] m known s u
   midst = events_begin K V same hash named (past history) m (refl, refl) known s old at all.whole all.dues all.as_called map i u here d d_is
 
   -- where it is under way

@@ -199,7 +199,7 @@ module _ {K V S : Type 0} (same : K → K → Bool) (by_hasher : S → K → ℕ
             Then map first = MapsComeAndGo (moment (step map first machine progress ∷ x.history)) (known_after (acts.Making map) new.changed x.known) x.now.enders n
 
             its_leads : MakingLeads same hash i progress s old new
-            its_leads = subst (λ (p : Progress Setting). MakingLeads same hash i p s old new) (let both : OfMaking {K = K} {V = V} said ≡ OfMaking progress = sym answer ∙ told_is in cc both) leads
+            its_leads = subst (λ (p : Progress Setting). MakingLeads same hash i p s old new) (let both : ◌≡◌ {A = Answer K V} (OfMaking said) (OfMaking progress) = sym answer ∙ told_is in cc both) leads
 
             op : Operated old.memory new.memory new.changed
             op = operated old.memory new.memory new.changed (new_map_plan {K = K} {V = V} b.machine) ((its_leads b makes).0, progress) (may_make same hash old s at i b makes) (its_leads b makes).1
@@ -294,7 +294,7 @@ module _ {K V S : Type 0} (same : K → K → Bool) (by_hasher : S → K → ℕ
           tied = ending_tied same by_hasher batch_size roots aborts s n rows x y is i g f ends (m2, (machine, progress)) computed played
 
           said_is : progress ≡ said
-          said_is = let both : OfEnding {K = K} {V = V} progress ≡ OfEnding said = sym told_is ∙ answer in cc both
+          said_is = let both : ◌≡◌ {A = Answer K V} (OfEnding progress) (OfEnding said) = sym told_is ∙ answer in cc both
 
           z_is : y ≡ ending_stepped i tied.it new.changed x (m2, (machine, said))
           z_is = tied.comes ∙ ap (λ (p : Settled (Node K V)). ending_stepped i tied.it new.changed x (m2, (machine, p))) said_is

@@ -66,7 +66,7 @@ module _ {K V : Type 0} (same : K → K → Bool) (hash : ℕ → K → ℕ) (m 
   abbrev taken : List ℕ
   taken = taken_of (leads f ends).2.deed
 
-  its : Goes e.map f known s
+  pub its : Goes e.map f known s
   its = so.going i e ending f ends
 
   abbrev pub first : Known

@@ -26,9 +26,9 @@ use Rattle.papaya_linear.specs.Coming.{IsGone}
 use Rattle.papaya_linear.proofs.Below.{called_settings}
 
 -- what is told of nothing is told of nothing
-pub nothing_told : {A B : Type 0} {f : A → B} (o : Option A) → option_map f o ≡ None → o ≡ None
-nothing_told None e = refl
-nothing_told (Some a) e = absurd (cc e)
+pub nothing_told : {A B : Type 0} (f : A → B) (o : Option A) → option_map f o ≡ None → o ≡ None
+nothing_told f None e = refl
+nothing_told f (Some a) e = absurd (cc e)
 
 -- a making that begins is of another map
 abbrev pub BeginsOther : {K V S : Type 0} → ℕ → Act K V S → Type 0
@@ -42,7 +42,7 @@ module _ {K V S : Type 0} (same : K → K → Bool) (by_hasher : S → K → ℕ
 
   -- each map has the setting that it had
   none_still : (maps2 : ℕ → Option (Standing K)) → option_map (λ (st : Standing K). st.setting) (maps2 map) ≡ option_map (λ (st : Standing K). st.setting) (s.maps map) → maps2 map ≡ None
-  none_still maps2 kept = nothing_told (maps2 map) (kept ∙ ap (option_map (λ (st : Standing K). st.setting)) gone.not_there)
+  none_still maps2 kept = nothing_told (λ (st : Standing K). st.setting) (maps2 map) (kept ∙ ap (option_map (λ (st : Standing K). st.setting)) gone.not_there)
 
   gone_there : (w2 : World (Node K V)) (maps2 : ℕ → Option (Standing K)) → ((m : ℕ) → IsSameMap (s.maps m) (maps2 m)) → n ≡ record s { world = w2; maps = maps2 } → IsGone map n
   gone_there w2 maps2 as_they_were is =

@@ -92,7 +92,7 @@ module _ {K V S : Type 0} (same : K → K → Bool) (by_hasher : S → K → ℕ
   making_so i g (progress, answer, leads, goes) b m2 machine said (makes, computed, told_is, did, came) =
       let new = then_held (StepsMaking i g) in
       let its : MakingLeads same hash i said s old new =
-      subst (λ (p : Progress Setting). MakingLeads same hash i p s old new) (let both : OfMaking {K = K} {V = V} progress ≡ OfMaking said = sym answer ∙ told_is in cc both) leads in
+      subst (λ (p : Progress Setting). MakingLeads same hash i p s old new) (let both : ◌≡◌ {A = Answer K V} (OfMaking progress) (OfMaking said) = sym answer ∙ told_is in cc both) leads in
       record {
         was_new = was_new same by_hasher hash batch_size roots m x.known x.now.enders s n NoChange new at holds.shows.whole maps i g b m2 machine said makes computed did came its;
         unknown = λ none has. (

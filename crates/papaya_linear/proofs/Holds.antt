@@ -19,4 +19,4 @@ pub record Holds {K V S : Type 0} (same : K → K → Bool) (x : State K V S) (s
 
 -- so it is of what this comes to
 pub onto : {K V S : Type 0} (same : K → K → Bool) (x : State K V S) (s : Scene K V) (y : State K V S) (n : Scene K V) → y ≡ x → n ≡ s → Holds same x s → Holds same y n
-onto same x s y n y_is n_is so = subst (λ (q : State K V S). Holds same q n) (sym y_is) (subst (Holds same x) (sym n_is) so)
+onto {K} {V} {S} same x s y n y_is n_is so = subst (λ (q : State K V S). Holds same q n) (sym y_is) (subst (Holds same x) (sym n_is) so)

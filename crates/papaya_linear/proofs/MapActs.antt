@@ -54,11 +54,12 @@ module _ {K V : Type 0} where
   deed_by map after before_has after_has =
       if before_has then (if after_has then Makes map else MapFails map) else (if after_has then MapComes map after.setting.root after.setting.mode (pairs_for after.len) else Makes map)
 
-  no_caller : (map : ℕ) (after : NewMap) (p q : Bool) → caller_of (deed_by map after p q) ≡ None
-  no_caller map after true true = refl
-  no_caller map after true false = refl
-  no_caller map after false true = refl
-  no_caller map after false false = refl
+-- no call takes a step by it
+no_caller : (K V : Type 0) (map : ℕ) (after : NewMap) (p q : Bool) → caller_of {K = K} {V = V} (deed_by map after p q) ≡ None
+no_caller K V map after true true = refl
+no_caller K V map after true false = refl
+no_caller K V map after false true = refl
+no_caller K V map after false false = refl
 
 module _ {K V S : Type 0} (same : K → K → Bool) (by_hasher : S → K → ℕ) (hash : ℕ → K → ℕ) (batch_size roots : ℕ) (aborts : V) (x y : State K V S) (s n : Scene K V) (rows : ℕ → Row)
     (is : IsOf by_hasher s rows x.now) (before : Changed) (at : IsAt same hash (held_in batch_size roots before s) s) (holds : Holds same x s) (noted_then : CallsAreNoted y) (told : Answer K V) where
@@ -153,7 +154,7 @@ module _ {K V S : Type 0} (same : K → K → Bool) (by_hasher : S → K → ℕ
       pub linear_then : AtEachEvent (IsLinearizable same) (entry (making_deed b.map b.machine after) ∷ x.history)
       linear_then = (
         makings_are_linearizable same hash x s old new at holds.shows i said leads b here (making_outcome said) (making_deed b.map b.machine after)
-            (no_caller b.map after (has_root b.machine.stands) (has_root after.stands)),
+            (no_caller K V b.map after (has_root b.machine.stands) (has_root after.stands)),
         holds.each,
       )
 
@@ -166,7 +167,7 @@ module _ {K V S : Type 0} (same : K → K → Bool) (by_hasher : S → K → ℕ
           shows = both.0;
           noted = subst CallsAreNoted z_is noted_then;
           heard = all_heard x holds.heard (moment z.history)
-              (none_said (step tied.it.map tied.it.machine) m (making_none tied.it.map tied.it.machine machine) (no_caller tied.it.map machine (has_root tied.it.machine.stands) (has_root machine.stands))) z.now.calls
+              (none_said (step tied.it.map tied.it.machine) m (making_none tied.it.map tied.it.machine machine) (no_caller K V tied.it.map machine (has_root tied.it.machine.stands) (has_root machine.stands))) z.now.calls
               (made_calls i tied.it machine said (record x.now { memory = m2 }));
           each = both.1;
         })
@@ -175,7 +176,7 @@ module _ {K V S : Type 0} (same : K → K → Bool) (by_hasher : S → K → ℕ
         tied = making_tied same by_hasher batch_size roots aborts s n rows x y is i g b makes (m2, (machine, progress)) computed played
 
         said_is : progress ≡ said
-        said_is = let both : OfMaking {K = K} {V = V} progress ≡ OfMaking said = sym told_is ∙ answer in cc both
+        said_is = let both : ◌≡◌ {A = Answer K V} (OfMaking progress) (OfMaking said) = sym told_is ∙ answer in cc both
 
         its : MakesSo said b machine
         its = subst (λ (p : Progress Setting). MakesSo p b machine) said_is (so b m2 machine progress (makes, computed, told_is, did, came))
@@ -248,7 +249,7 @@ module _ {K V S : Type 0} (same : K → K → Bool) (by_hasher : S → K → ℕ
         its = so tied.it f tied.here ends
 
         said_is : progress ≡ said
-        said_is = let both : OfEnding {K = K} {V = V} progress ≡ OfEnding said = sym told_is ∙ answer in cc both
+        said_is = let both : ◌≡◌ {A = Answer K V} (OfEnding progress) (OfEnding said) = sym told_is ∙ answer in cc both
 
         z : State K V S
         z = ending_stepped i tied.it end_new.changed x (m2, (machine, said))

@@ -81,8 +81,7 @@ module _ (K V : Type 0) where
 
   leaves_row : (c : Leave) (stands : Leaving) → IsOfRow {K = K} {V = V} (leaves_as c stands)
   leaves_row c leaves.Swaps = tt
-  leaves_row c leaves.Over =
-      if_row c.frees (Leaves c.slot) (if c.becomes == ACTIVE then Opens c.slot else Leaves c.slot) tt (if_row (c.becomes == ACTIVE) (Opens c.slot) (Leaves c.slot) tt tt)
+  leaves_row c leaves.Over = if_row (c.becomes == ACTIVE) (Opens c.slot) (Leaves c.slot) tt tt
   leaves_row c _ = tt
 
   pub is_of_row : (row : SlotRow) → IsOfRow {K = K} {V = V} (row_deed row)

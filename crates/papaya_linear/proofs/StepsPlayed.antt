@@ -95,7 +95,7 @@ module _ {K V S : Type 0} (same : K → K → Bool) (hash : ℕ → K → ℕ) (
   abbrev o : Outcome V
   o = outcome_of known_then (kind_of c.call) c.value said
 
-  on_map : d.map ≡ m
+  pub on_map : d.map ≡ m
   on_map = let n = noted m i c here in let one : n.0 ≡ d = same_some n.0 d (sym n.1 ∙ it.is) in ap (λ (z : CallThere K V). z.map) (sym one) ∙ n.2
 
   -- where it is under way
