@@ -64,6 +64,15 @@ module _ {K V : Type 0} where
   abbrev pub AreAlike : Moment K V → Moment K V → Type 0
   AreAlike m v = (v.maps ≡ m.maps) × (v.place ≡ m.place) × (v.tables ≡ m.tables)
 
+  told_alike : (h : List (Entry K V)) (b : Bool) (i : ℕ) (reply : Told V) (aborts : V)
+      → AreAlike (moment h) (moment (if b then record { deed = Replies i (reply_for aborts reply); outcome = outcome.Goes; effects = []; refused = false } ∷ h else h))
+  told_alike h true i reply aborts = (refl, refl, refl)
+  told_alike h false i reply aborts = (refl, refl, refl)
+
+  stopped_alike : (h : List (Entry K V)) (b : Bool) (i : ℕ) → AreAlike (moment h) (moment (if b then record { deed = Stops i; outcome = outcome.Done; effects = []; refused = false } ∷ h else h))
+  stopped_alike h true i = (refl, refl, refl)
+  stopped_alike h false i = (refl, refl, refl)
+
   names_again : (m v : Moment K V) → v.maps ≡ m.maps → AreNamed m → AreNamed v
   names_again m v maps names = subst (λ (fs : List MapThere). All IsNamed fs) (sym maps) names
 
@@ -103,15 +112,6 @@ module _ {K V S : Type 0} where
   -- maps, pairs, tables, what is known, and ends are as they were
   abbrev pub Quiet : State K V S → State K V S → Type 0
   Quiet x y = AreAlike (moment x.history) (moment y.history) × (y.known ≡ x.known) × (y.now.enders ≡ x.now.enders)
-
-  told_alike : (h : List (Entry K V)) (b : Bool) (i : ℕ) (reply : Told V) (aborts : V)
-      → AreAlike (moment h) (moment (if b then record { deed = Replies i (reply_for aborts reply); outcome = outcome.Goes; effects = []; refused = false } ∷ h else h))
-  told_alike h true i reply aborts = (refl, refl, refl)
-  told_alike h false i reply aborts = (refl, refl, refl)
-
-  stopped_alike : (h : List (Entry K V)) (b : Bool) (i : ℕ) → AreAlike (moment h) (moment (if b then record { deed = Stops i; outcome = outcome.Done; effects = []; refused = false } ∷ h else h))
-  stopped_alike h true i = (refl, refl, refl)
-  stopped_alike h false i = (refl, refl, refl)
 
   module _ (same : K → K → Bool) (by_hasher : S → K → ℕ) (batch_size roots : ℕ) (aborts : V) (x y : State K V S) where
     pub quiet_played : (act : Act K V S) → IsQuiet act → PlayedAs same by_hasher batch_size roots aborts x y act → Quiet x y

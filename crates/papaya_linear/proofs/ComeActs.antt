@@ -1,5 +1,5 @@
 -- Maps come and go as before after each act of calls and of rows, and where a making or an end begins and takes its step.
-use Rattle.std.specs.Prelude.{◌≡◌, ◌≢◌, ◌⊎◌, ◌<◌, ◌+◌, ℕ, Bool, List, [], ◌∷◌, Option, Some, None}
+use Rattle.std.specs.Prelude.{◌≡◌, ◌≢◌, ◌⊎◌, ◌<◌, ◌+◌, ℕ, Bool, false, List, [], ◌∷◌, Option, Some, None}
 use Rattle.std.proofs.Common.{refl, ap, sym, subst, ◌∙◌, arith, inl, inr}
 use Rattle.std.proofs.lemmas.Bool.{cases_eq}
 use Rattle.seize_acts.specs.Answers.{Grant}
@@ -171,7 +171,7 @@ module _ {K V S : Type 0} (same : K → K → Bool) (by_hasher : S → K → ℕ
     abbrev new : Held K V
     new = then_held made_act
 
-    step : ℕ → NewMap → NewMap → Progress Setting → Entry K V
+    abbrev step : ℕ → NewMap → NewMap → Progress Setting → Entry K V
     step map first machine said = record { deed = making_deed map first machine; outcome = making_outcome said; effects = effects_of (acts.Making map) x.known new.changed; refused = is_refusal new.changed }
 
     pub making_steps_come : PlayedAs same by_hasher batch_size roots aborts x y (StepsMaking i g) → Leads (StepsMaking i g) → LeadsAs same by_hasher hash (StepsMaking i g) s told n old new → IsAt same hash new n → Here y

@@ -105,6 +105,18 @@ module _ {K V : Type 0} (m : Moment K V) (known : Known) (held : ShowsUnreclaime
   pub rows_leave : (told : Changed) → TellsRow told → SameOf map m (with_effects None None (effects_of acts.Row known told) m)
   rows_leave told tells = effects_elsewhere map None None (λ e. cc e) (effects_of acts.Row known told) m (rows_elsewhere map (λ (t : Table). t.map ≢ map) known told tells)
 
+-- among those that are kept none is found either
+none_kept : (map : ℕ) (keep : MapThere → Bool) (fs : List MapThere) → find (λ f. f.number == map) fs ≡ None → find (λ f. f.number == map) (filter keep fs) ≡ None
+none_kept map keep [] none = refl
+none_kept map keep (f ∷ fs) none = by (f.number == map) refl (keep f) none (none_kept map keep fs)
+  where
+    by : (p : Bool) → (f.number == map) ≡ p → (q : Bool) → cond p (Some f) (find (λ g. g.number == map) fs) ≡ None
+        → (find (λ g. g.number == map) fs ≡ None → find (λ g. g.number == map) (filter keep fs) ≡ None)
+        → find (λ g. g.number == map) (if q then f ∷ filter keep fs else filter keep fs) ≡ None
+    by true e q is later = absurd (cc is)
+    by false e true is later = ap (λ (p : Bool). cond p (Some f) (find (λ g. g.number == map) (filter keep fs))) e ∙ later is
+    by false e false is later = later is
+
 -- So it is where another map comes, or is there no more.
 module _ {K V : Type 0} (map own : ℕ) (other : own ≢ map) where
   pub come_leaves : (f : MapThere) (m : Moment K V) → f.number ≡ own → SameOf map m (come f m)
@@ -119,17 +131,6 @@ module _ {K V : Type 0} (map own : ℕ) (other : own ≢ map) where
       none_more None = refl
       none_more (Some g) = refl
 
-  none_kept : (keep : MapThere → Bool) (fs : List MapThere) → find (λ f. f.number == map) fs ≡ None → find (λ f. f.number == map) (filter keep fs) ≡ None
-  none_kept keep [] none = refl
-  none_kept keep (f ∷ fs) none = by (f.number == map) refl (keep f) none (none_kept keep fs)
-    where
-      by : (p : Bool) → (f.number == map) ≡ p → (q : Bool) → cond p (Some f) (find (λ g. g.number == map) fs) ≡ None
-          → (find (λ g. g.number == map) fs ≡ None → find (λ g. g.number == map) (filter keep fs) ≡ None)
-          → find (λ g. g.number == map) (if q then f ∷ filter keep fs else filter keep fs) ≡ None
-      by true e q is later = absurd (cc is)
-      by false e true is later = ap (λ (p : Bool). cond p (Some f) (find (λ g. g.number == map) (filter keep fs))) e ∙ later is
-      by false e false is later = later is
-
   pub gone_leaves : (m v : Moment K V) → AreNamed m → v.maps ≡ without_map own m.maps → v.place ≡ m.place → v.tables ≡ m.tables → SameOf map m v
   gone_leaves m v names maps place tables = record {
     there = ap (λ (fs : List MapThere). find (λ f. f.number == map) fs) maps ∙ by (map_at map m) refl;
@@ -141,7 +142,7 @@ module _ {K V : Type 0} (map own : ℕ) (other : own ≢ map) where
       keep f = not (is_same f.name (named own))
 
       by : (o : Option MapThere) → map_at map m ≡ o → find (λ f. f.number == map) (filter keep m.maps) ≡ map_at map m
-      by None is = none_kept keep m.maps is ∙ sym is
+      by None is = none_kept map keep m.maps is ∙ sym is
       by (Some there) is =
           let found = found_of IsNamed (λ f. f.number == map) m.maps there names is in
           let name : there.name ≡ named map = found.1 ∙ ap named (eqb-true there.number map found.0) in

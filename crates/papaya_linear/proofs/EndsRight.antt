@@ -135,7 +135,7 @@ module _ {K V : Type 0} (same : K → K → Bool) (hash : ℕ → K → ℕ) (m 
     op : Operated old.memory new.memory new.changed
     op = operated old.memory new.memory new.changed (end_map_plan {K = K} {V = V} f.machine) ((leads f ends).0, said) (may_end same hash old s at i f ends) (leads f ends).1
 
-    Its : Option Ending → Option (Finishing K V) → Type 0
+    abbrev Its : Option Ending → Option (Finishing K V) → Type 0
     Its next_e next_f = (e2 : Ending) → next_e ≡ Some e2 → (f2 : Finishing K V) → next_f ≡ Some f2 → Goes e2.map f2 known_then n
 
     going_by : (next_e : Option Ending) (next_f : Option (Finishing K V)) → n.enders ≡ with_at s.enders i next_f → Its next_e next_f

@@ -89,7 +89,7 @@ module _ {K V S : Type 0} (same : K → K → Bool) (by_hasher : S → K → ℕ
   making_so : (i : ℕ) (g : Grant) → LeadsAs same by_hasher hash (StepsMaking i g) s told n old (then_held (StepsMaking i g)) → (b : Beginning K) (m2 : Mem (Node K V)) (machine : NewMap) (said : Progress Setting)
       → MakingDid same by_hasher hash batch_size roots aborts x y s n s.world.row is NoChange at holds noted_then told i g b m2 machine said
       → MakesSo same by_hasher hash batch_size roots aborts x y s n s.world.row is NoChange at holds noted_then told i g said b machine
-  making_so i g (progress, answer, leads, goes) b m2 machine said (makes, computed, told_is, did, came) =
+  making_so i g (progress, answer, leads, goes) b m2 machine said (makes, computed, told_is, (did, came)) =
       let new = then_held (StepsMaking i g) in
       let its : MakingLeads same hash i said s old new =
       subst (λ (p : Progress Setting). MakingLeads same hash i p s old new) (let both : ◌≡◌ {A = Answer K V} (OfMaking progress) (OfMaking said) = sym answer ∙ told_is in cc both) leads in

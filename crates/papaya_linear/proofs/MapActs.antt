@@ -179,7 +179,7 @@ module _ {K V S : Type 0} (same : K → K → Bool) (by_hasher : S → K → ℕ
         said_is = let both : ◌≡◌ {A = Answer K V} (OfMaking progress) (OfMaking said) = sym told_is ∙ answer in cc both
 
         its : MakesSo said b machine
-        its = subst (λ (p : Progress Setting). MakesSo p b machine) said_is (so b m2 machine progress (makes, computed, told_is, did, came))
+        its = subst (λ (p : Progress Setting). MakesSo p b machine) said_is (so b m2 machine progress (makes, computed, told_is, (did, came)))
 
         z : State K V S
         z = making_stepped i tied.it new.changed x (m2, (machine, said))
@@ -268,7 +268,7 @@ module _ {K V S : Type 0} (same : K → K → Bool) (by_hasher : S → K → ℕ
         none_calls false = refl
 
         answers : (b : Bool) (o : Outcome V)
-            → (let e = record { deed = if b then MapGoes tied.it.map else Ends tied.it.map; outcome = o; effects = effects_of (acts.Ending tied.it.map) x.known end_new.changed; refused = is_refusal end_new.changed } in
+            → (let e : Entry K V = record { deed = if b then MapGoes tied.it.map else Ends tied.it.map; outcome = o; effects = effects_of (acts.Ending tied.it.map) x.known end_new.changed; refused = is_refusal end_new.changed } in
             ShowsAnswers same (past (e ∷ x.history)) (moment (e ∷ x.history)) (known_after (acts.Ending tied.it.map) end_new.changed x.known) led)
         answers true o =
             goes_answer same hash x s old end_new at holds.shows i said leads f ends tied.it.map its.not_there its.number its.first its.notes its.still o its.goes.0
