@@ -43,7 +43,7 @@ use Rattle.papaya_linear.proofs.RowActs.{all_steps_hold}
 
 -- at first
 first_shows : {K V : Type 0} (same : K → K → Bool) (roots : ℕ) → ShowsAnswers {K = K} {V = V} same (past []) (moment []) nothing_known (at_first roots)
-first_shows {K} {V} same roots =
+first_shows {K = K} {V = V} same roots =
     let whole = whole_begins K V same roots named in
     record {
       whole = whole;
@@ -59,7 +59,7 @@ module _ {K S : Type 0} (V : Type 0) (same : K → K → Bool) (by_hasher : S �
 
   pub first_holds : (p : At V same by_hasher hash batch_size roots) → p.0 ≡ at_first roots → NumbersHold {K = K} {V = V} {S = S} (first_state roots) → Of p (first_state roots)
   first_holds p is numbers = subst (AllHolds same (first_state roots)) (sym is) (record {
-    holds = record { shows = first_shows {K} {V} same roots; noted = λ on i c has. absurd (cc has); heard = λ on j d has. absurd (cc has); each = tt };
+    holds = record { shows = first_shows {K = K} {V = V} same roots; noted = λ on i c has. absurd (cc has); heard = λ on j d has. absurd (cc has); each = tt };
     maps = record {
       count = 0;
       numbers = numbers_begin K V;

@@ -23,12 +23,12 @@ use Rattle.papaya_moments.specs.Given.Effects.Known.{Known}
 use Rattle.papaya_moments.specs.Given.Effects.declared.acting.Acting.TheVariants as acts
 use Rattle.papaya_moments.specs.Given.Scenes.Held.{Held, IsAt}
 use Rattle.papaya_moments.specs.Given.Scenes.Scene.{Scene}
+use Rattle.papaya_moments.proofs.Given.Scenes.Goes.{goes_as}
 use Rattle.papaya_moments.specs.Given.Scenes.Stepping.{StepLeads, has_ended, scene_after}
 use Rattle.papaya_named.specs.Seen.{kind_of}
 use Rattle.papaya_named.specs.Telling.{number_by}
 use Rattle.papaya_named.specs.declared.kind.Kind.{Kind}
 use Rattle.papaya_histories.specs.InEvent.{ComesSo}
-use Rattle.papaya_stepping.proofs.StepSays.{goes_as}
 use Rattle.papaya_values.specs.Values.{KeepsValue, kept_after}
 use Rattle.papaya_values.proofs.Values.{values_go_on}
 use Rattle.papaya_deeds.specs.Deeds.{Entry, Steps, acted_on, map_of_call, moment, named}
@@ -159,6 +159,12 @@ module _ {K V S : Type 0} (same : K → K → Bool) (hash : ℕ → K → ℕ) (
             next_is : (leads m u there_is).4.next ≡ Some next.0
             next_is = sym (its_call s.calls m i (leads m u there_is).4.next) ∙ next.1
 
+            went_as : machine_of next.0 ≡ (leads m u there_is).1
+            went_as =
+                same_some (machine_of next.0) (leads m u there_is).1
+                (sym (ap (option_map machine_of) next_is) ∙ goes_as (leads m u there_is).1 said (leads m u there_is).4.next (leads m u there_is).4.goes_on
+                ∙ ap (λ (q : Bool). if q then None else Some (leads m u there_is).1) goes)
+
             value_is : kept_after (kind_of d.call) said c.value ≡ d2.value
             value_is = ap (λ (z : Call K V). kept_after (kind_of z) said c.value) it.called ∙ kept_alike (kind_of c.call) said c.value ∙ ap (λ (z : Calling K V). z.value) one
 
@@ -170,7 +176,7 @@ module _ {K V S : Type 0} (same : K → K → Bool) (hash : ℕ → K → ℕ) (
 
             none_then : ((about : Option ℕ) → said ≡ progress.Asks about → ⊥) → TakesNone d2.machine
             none_then never =
-                subst TakesNone (sym (next.2 ∙ goes_as (leads m u there_is).1 said (leads m u there_is).4.next (leads m u there_is).4.goes_on next.0 next_is))
+                subst TakesNone (sym (next.2 ∙ went_as))
                 (steps_take_none same (leads m u there_is).0.hash old new (leads m u there_is).1 said (machine_of u) (leads m u there_is).3 never)
 
     -- So are all calls then.
