@@ -1,12 +1,10 @@
 -- A sweep stands to take a reply only where its step has said that it asks.
-use Rattle.std.specs.Prelude.{◌≡◌, ℕ, ◌==◌, ◌&&◌, Bool, true, false, Some, Ok, Err, if◌then◌else◌}
+use Rattle.std.specs.Prelude.{◌≡◌, ℕ, ◌==◌, ◌&&◌, Bool, true, false, Ok, Err, if◌then◌else◌}
 use Rattle.std.proofs.Common.{refl, sym, subst}
 use Rattle.papaya_moments.specs.Given.SeizeWords.Op.{Out, Found, Stored, Exchanged, Made, Taken, Roomed}
-use Rattle.papaya_moments.specs.Given.SeizeWords.Plan.{plan_as}
 use Rattle.papaya_moments.specs.Given.SeizeWords.Word.{block_in}
 use Rattle.papaya_moments.specs.Given.Seize.declared.rows.settle.Settled.{Settled}
 use Rattle.papaya_moments.specs.Given.Seize.declared.rows.settle.Settled.TheVariants as settled
-use Rattle.papaya_moments.specs.Given.Tables.Chunks.{is_incremental}
 use Rattle.papaya_moments.specs.Given.Tables.Marks.{has_mark}
 use Rattle.papaya_moments.specs.Given.Tables.Nodes.{table_seen}
 use Rattle.papaya_moments.specs.Given.Tables.declared.marks.TheConstants.{COPYING}
@@ -27,16 +25,7 @@ use Rattle.papaya_moments.specs.Given.Sweeps.declared.sweep.Sweeping.{Sweeping}
 use Rattle.papaya_moments.specs.Given.Sweeps.declared.sweep.Sweeping.TheVariants as at
 use Rattle.papaya_moments.specs.Given.Sweeps.declared.sweep.Swept.{Swept}
 use Rattle.papaya_moments.specs.Given.Sweeps.declared.sweep.Swept.TheVariants as ends
-use Rattle.papaya_moments.specs.Given.Raw.Machine.{swept}
-use Rattle.papaya_moments.specs.Given.Raw.declared.machines.machine.Machine.{Machine}
-use Rattle.papaya_moments.specs.Given.Raw.declared.machines.machine.Machine.TheVariants as kinds
-use Rattle.papaya_moments.specs.Given.Raw.declared.machines.progress.Progress.{Progress}
-use Rattle.papaya_moments.specs.Given.Raw.declared.machines.progress.Progress.TheVariants as progress
 use Rattle.papaya_moments.proofs.Given.Rule.Keys.Always.{Always, AlwaysOf, always_if, always_plan_as}
-use Rattle.papaya_moments.specs.Given.Teller.Tells.{StepsTold}
-use Rattle.papaya_moments.specs.Given.Teller.declared.changed.Changed.TheVariants.{Nothing}
-use Rattle.papaya_histories.proofs.Asking.{always_turned, always_told}
-use Rattle.papaya_moments.specs.Given.Scenes.Held.{Held}
 
 -- it takes no reply there
 abbrev pub TakesNone : Sweeping → Type 0

@@ -1,22 +1,17 @@
 -- Maps come and go as before by what calls and rows do, and by who reclaims all.
-use Rattle.std.specs.Prelude.{◌≡◌, ◌≢◌, ℕ, Bool, true, false, List, [], ◌∷◌, Option, Some, None, is_ok, option_map, if◌then◌else◌}
+use Rattle.std.specs.Prelude.{◌≡◌, ◌≢◌, ℕ, Bool, true, false, List, [], ◌∷◌, Option, Some, None, is_ok, if◌then◌else◌}
 use Rattle.std.specs.List.{All}
 use Rattle.std.proofs.Common.{refl, ap, sym, subst, ◌∙◌}
-use Rattle.seize_acts.specs.Answers.{Grant}
-use Rattle.papaya_scenes.specs.Given.SeizeWords.Mem.{Mem}
-use Rattle.papaya_scenes.specs.Given.Seize.World.{Row, World}
 use Rattle.papaya_scenes.specs.Given.Seize.declared.rows.reclaim_all.ReclaimAll.{ReclaimAll}
 use Rattle.papaya_scenes.specs.Given.Seize.declared.rows.settle.Settled.{Settled}
 use Rattle.papaya_scenes.specs.Given.Tables.declared.node.Node.{Node}
 use Rattle.papaya_scenes.specs.Given.Raw.Machine.{machine_asked, machine_plan, machine_replied}
 use Rattle.papaya_scenes.specs.Given.Raw.declared.machines.asking.Reply.{Reply as Told}
 use Rattle.papaya_scenes.specs.Given.Raw.declared.machines.progress.Progress.{Progress}
-use Rattle.papaya_scenes.specs.Given.Teller.declared.changed.Changed.{Changed}
 use Rattle.papaya_scenes.specs.Given.Callers.Together.{UnderWay}
 use Rattle.papaya_scenes.specs.Given.Finishes.Endings.{Finishing}
 use Rattle.papaya_scenes.specs.Given.Finishes.Machines.{machine_of}
 use Rattle.papaya_scenes.specs.Given.Finishes.Makings.{Beginning}
-use Rattle.papaya_scenes.specs.Given.Finishes.Maps.{Standing}
 use Rattle.papaya_scenes.proofs.Goes.{same_map_keeps}
 use Rattle.papaya_scenes.proofs.May.{may_row, may_step}
 use Rattle.papaya_scenes.specs.Held.{Held, IsAt}
@@ -46,11 +41,10 @@ use Rattle.papaya_logged.proofs.Reclaiming.Numbered.{reclaiming_keeps_count}
 use Rattle.papaya_acts.specs.Acts.{Act, Answer, BeginsCall, TellsCall, AsksCall, StopsCall, BeginsRow}
 use Rattle.papaya_acts.specs.Leads.{Led}
 use Rattle.papaya_agrees.proofs.Elsewhere.{SameOf}
-use Rattle.papaya_deeds.specs.Deeds.{Begins, Deed, Entry, ReclaimsAll, Replies, Steps, Stops, acted_on, after, map_of_call, moment, named}
-use Rattle.papaya_played.specs.Play.{Ending, State, call_asked, call_begun, call_for, call_stopped, call_told, reply_for, row_begun, row_deed}
-use Rattle.papaya_played.proofs.Noted.{IsNoted}
+use Rattle.papaya_deeds.specs.Deeds.{Entry, ReclaimsAll, Replies, Steps, Stops, acted_on, after, moment, named}
+use Rattle.papaya_played.specs.Play.{Ending, State, reply_for, row_deed}
 use Rattle.papaya_played.proofs.PlayedAs.{PlayedAs}
-use Rattle.papaya_linear.specs.Coming.{AreNamed, Comes, Goes, IsGone, IsNamed, MapsComeAndGo}
+use Rattle.papaya_linear.specs.Coming.{AreNamed, Goes, IsGone, IsNamed, MapsComeAndGo}
 use Rattle.papaya_linear.proofs.Below.{maps_below}
 use Rattle.papaya_linear.proofs.Coming.{comes_bare, comes_on, others_leave, rows_leave, same_of, same_then}
 use Rattle.papaya_linear.proofs.Counted.{counted_again}

@@ -1,18 +1,17 @@
 -- Where a call begins, is asked for its next pair, or is given up, as it is played, the entry is linearizable, if there is one, and what the moment shows of calls and of what they were told it shows then.
-use Rattle.std.specs.Prelude.{◌≡◌, ◌≢◌, ◌⊎◌, ℕ, Bool, true, false, List, [], ◌∷◌, Option, Some, None}
+use Rattle.std.specs.Prelude.{◌≡◌, ◌⊎◌, ℕ, Bool, true, false, List, [], ◌∷◌, Option, Some, None}
 use Rattle.std.proofs.Common.{refl, ap, sym, subst, ◌∙◌, inl, inr}
-use Rattle.std.proofs.lemmas.Bool.{cases_eq}
 use Rattle.seize_acts.proofs.Answers.{same_some}
 use Rattle.papaya_moments.specs.Given.Seize.World.{Rests, with_at}
 use Rattle.papaya_moments.specs.Given.Tables.declared.setting.Setting.{Setting}
 use Rattle.papaya_moments.specs.Given.Raw.Machine.{machine_asked}
 use Rattle.papaya_moments.specs.Given.Raw.declared.machines.machine.Machine.{Machine}
 use Rattle.papaya_moments.specs.Given.Raw.declared.machines.machine.Machine.TheVariants as kinds
-use Rattle.papaya_moments.specs.Given.Sweeps.SweepPoints.{after_next, next_at}
+use Rattle.papaya_moments.specs.Given.Sweeps.SweepPoints.{next_at}
 use Rattle.papaya_moments.specs.Given.Sweeps.declared.sweep.Sweep.{Sweep}
 use Rattle.papaya_moments.specs.Given.Sweeps.declared.sweep.Sweeping.{Sweeping}
 use Rattle.papaya_moments.specs.Given.Sweeps.declared.sweep.Sweeping.TheVariants as sweeping
-use Rattle.papaya_moments.specs.Given.Callers.OverAll.{CallOverAll, gone_on}
+use Rattle.papaya_moments.specs.Given.Callers.OverAll.{gone_on}
 use Rattle.papaya_moments.specs.Given.Callers.Together.{UnderWay, OnKey, ForRoom, Counting, OverAll, in_slot}
 use Rattle.papaya_moments.specs.Given.Finishes.Machines.{machine_of}
 use Rattle.papaya_moments.specs.Given.Finishes.Maps.{Standing, with_call}
@@ -30,7 +29,7 @@ use Rattle.papaya_moments.specs.Given.Schedules.Moment.{Asking}
 use Rattle.papaya_moments.specs.Given.Scenes.Beginning.{Begins as BeginsSo}
 use Rattle.papaya_moments.specs.Given.Scenes.Held.{Held, IsAt}
 use Rattle.papaya_moments.specs.Given.Scenes.Replying.{AskLeads, StopLeads, scene_with, unless_stopped}
-use Rattle.papaya_moments.specs.Given.Scenes.Scene.{HasNoCall, Scene, slot_of}
+use Rattle.papaya_moments.specs.Given.Scenes.Scene.{Scene, slot_of}
 use Rattle.papaya_scenes.proofs.Given.SeizeRule.Rows.Leaving.{with_same}
 use Rattle.papaya_values.specs.Values.{KeepsValue}
 use Rattle.papaya_values.proofs.Values.{values_begin}

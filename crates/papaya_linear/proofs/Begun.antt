@@ -1,5 +1,5 @@
 -- A call as an act begins it is what was called: on its key, given its pair, and over the map for its purpose.
-use Rattle.std.specs.Prelude.{◌≡◌, ℕ, Bool, Option, Some, None}
+use Rattle.std.specs.Prelude.{◌≡◌, ℕ, Bool, Some, None}
 use Rattle.std.proofs.Common.{refl, sym, subst}
 use Rattle.papaya_moments.specs.Given.Sweeps.declared.sweep.Purpose.TheVariants as purpose
 use Rattle.papaya_moments.specs.Given.Callers.Together.{UnderWay}

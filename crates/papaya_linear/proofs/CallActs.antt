@@ -1,5 +1,5 @@
 -- What is so of a state that is played, and of the scene to which its acts have led, stays so by each act of a call: each entry so far is linearizable.
-use Rattle.std.specs.Prelude.{◌≡◌, ℕ, Bool, true, false, Option, Some, None, Result, Ok, Err, is_ok, is_err, option_map, if◌then◌else◌}
+use Rattle.std.specs.Prelude.{◌≡◌, ℕ, Bool, true, false, Some, None, Result, Ok, Err, is_ok, is_err, option_map, if◌then◌else◌}
 use Rattle.std.proofs.Common.{refl, ap, sym, subst, ◌∙◌}
 use Rattle.seize_acts.specs.Acts.{rests}
 use Rattle.seize_acts.specs.Answers.{Grant}
@@ -17,8 +17,7 @@ use Rattle.papaya_scenes.specs.Given.Teller.declared.changed.Changed.{Changed}
 use Rattle.papaya_scenes.proofs.NoCall.{none_is}
 use Rattle.papaya_scenes.specs.Held.{Held, IsAt}
 use Rattle.papaya_scenes.specs.Replying.{StopLeads, scene_with, unless_stopped}
-use Rattle.papaya_scenes.specs.Scene.{HasNoCall, Scene, slot_of}
-use Rattle.papaya_moments.specs.Given.Schedules.After.{AtEachEvent}
+use Rattle.papaya_scenes.specs.Scene.{Scene, slot_of}
 use Rattle.papaya_moments.specs.Given.Schedules.declared.outcome.Outcome.TheVariants as outcome
 use Rattle.papaya_named.specs.Machines.{aborted_by}
 use Rattle.papaya_acts.specs.Acts.{Act, Answer, OfAsking, OfCall, OfReply, Wanted, begun}
@@ -27,16 +26,14 @@ use Rattle.papaya_acts.specs.AsSteps.{LeadsAs, changed_by, held_in}
 use Rattle.papaya_acts.specs.Leads.{Led, MayBe, asked_on}
 use Rattle.papaya_acts.proofs.Calls.{refused_same}
 use Rattle.papaya_deeds.specs.Deeds.{Replies, Stops, moment}
-use Rattle.papaya_deeds.specs.History.{IsLinearizable, past}
 use Rattle.papaya_played.specs.Play.{Calling, State, call_asked, call_begun, call_for, call_stepped, did, reply_for, told_call}
 use Rattle.papaya_played.specs.Reached.{IsOf}
 use Rattle.papaya_played.proofs.Noted.{CallsAreNoted}
 use Rattle.papaya_played.proofs.PlayedAs.{PlayedAs}
-use Rattle.papaya_linear.specs.Shown.{ShowsAnswers}
 use Rattle.papaya_linear.proofs.BeginsPlayed.{played_asks, played_asks_are_heard, played_begins, played_begins_are_heard, played_stays, played_stays_heard, played_stops, played_stops_are_heard}
 use Rattle.papaya_linear.proofs.Gone.{nothing_told}
-use Rattle.papaya_linear.proofs.HeardAll.{AreHeard, AreHeardAt}
-use Rattle.papaya_linear.proofs.Holds.{Holds}
+use Rattle.papaya_linear.proofs.HeardAll.{AreHeardAt}
+use Rattle.papaya_linear.proofs.Holds.{Holds, onto}
 use Rattle.papaya_linear.proofs.RepliesPlayed.{played_replies, played_replies_are_heard}
 use Rattle.papaya_linear.proofs.StepsPlayed.{led, played_steps_answer, played_steps_are_heard, played_steps_are_linearizable, there_alike, there_is}
 use Rattle.papaya_linear.proofs.Tied.{call_tied}
@@ -64,7 +61,7 @@ module _ {K V S : Type 0} (same : K → K → Bool) (by_hasher : S → K → ℕ
 
   -- so it is of what this comes to
   comes_so : (z : State K V S) (l : Scene K V) → y ≡ z → n ≡ l → Holds same z l → Holds same y n
-  comes_so z l y_is n_is so = subst (λ (q : State K V S). Holds same q n) (sym y_is) (subst (Holds same z) (sym n_is) so)
+  comes_so z l y_is n_is so = onto same z l y n y_is n_is so
 
   noted_as : (z : State K V S) → y ≡ z → CallsAreNoted z
   noted_as z y_is = subst CallsAreNoted y_is noted_then

@@ -1,5 +1,5 @@
 -- A step of a call is an entry that is linearizable, and the moment after it shows what the next entry asks for.
-use Rattle.std.specs.Prelude.{◌≡◌, ◌+◌, ℕ, suc, Bool, true, false, List, [], ◌∷◌, length, Option, Some, None}
+use Rattle.std.specs.Prelude.{◌≡◌, ℕ, suc, Bool, true, false, List, [], ◌∷◌, length, Option, Some, None}
 use Rattle.std.proofs.Common.{refl, ap, sym, subst, ◌∙◌, inl, inr, arith}
 use Rattle.papaya_moments.specs.Given.Tables.declared.node.Node.{Node}
 use Rattle.papaya_moments.specs.Given.Raw.declared.machines.machine.Machine.{Machine}
@@ -14,7 +14,6 @@ use Rattle.papaya_moments.specs.Given.Schedules.Effects.{with_effects}
 use Rattle.papaya_moments.specs.Given.Schedules.Entry.{IfCall, ends_call}
 use Rattle.papaya_moments.specs.Given.Schedules.Linearizable.{Linearizes}
 use Rattle.papaya_moments.specs.Given.Schedules.Moment.{Moment, UnderWay as CallThere}
-use Rattle.papaya_moments.specs.Given.Schedules.Transition.{Past}
 use Rattle.papaya_moments.specs.Given.Schedules.Views.{call_of}
 use Rattle.papaya_moments.specs.Given.Effects.Effects.{effects_of, known_after}
 use Rattle.papaya_moments.specs.Given.Effects.Known.{Known}

@@ -1,6 +1,6 @@
 -- What a moment shows of calls it shows where one begins, takes a step, comes to something, takes a reply, goes on as a walk, or is given up.
-use Rattle.std.specs.Prelude.{◌≡◌, ℕ, Bool, true, false, List, [], Option, Some, None, Ok}
-use Rattle.std.proofs.Common.{refl, ap, sym, subst, ◌∙◌}
+use Rattle.std.specs.Prelude.{◌≡◌, ℕ, Bool, true, false, List, Option, Some, Ok}
+use Rattle.std.proofs.Common.{refl, ap, sym, ◌∙◌}
 use Rattle.papaya_moments.specs.Given.SeizeWords.declared.fault.Fault.TheVariants.{Memory}
 use Rattle.papaya_moments.specs.Given.Seize.World.{Rests}
 use Rattle.papaya_moments.specs.Given.Sweeps.SweepPoints.{after_next}
@@ -39,7 +39,6 @@ use Rattle.papaya_moments.specs.Given.Follows.Calls.{IsCalled}
 use Rattle.papaya_moments.specs.Given.Hands.Asked.{as_told}
 use Rattle.papaya_moments.specs.Given.Hands.Calling.{AsksJust, IsBegunFor}
 use Rattle.papaya_moments.specs.Given.Others.Walks.{given_up}
-use Rattle.papaya_moments.specs.Whole.{ShowsWhole}
 use Rattle.papaya_moments.proofs.Calls.{calls_begin_whole, calls_come_to_whole, calls_keep_whole, calls_take_whole}
 use Rattle.papaya_moments.proofs.Walks.{walks_go_on_whole, walks_stop_whole}
 use Rattle.papaya_histories.specs.AsCalled.{AsksAsCalled, IsBegunAs}

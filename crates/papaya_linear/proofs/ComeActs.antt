@@ -1,10 +1,9 @@
 -- Maps come and go as before after each act of calls and of rows, and where a making or an end begins and takes its step.
-use Rattle.std.specs.Prelude.{◌≡◌, ◌≢◌, ◌⊎◌, ◌<◌, ◌+◌, ℕ, Bool, false, List, [], ◌∷◌, Option, Some, None}
+use Rattle.std.specs.Prelude.{◌≡◌, ◌≢◌, ◌⊎◌, ◌+◌, ℕ, Bool, false, ◌∷◌, Option, Some, None}
 use Rattle.std.proofs.Common.{refl, ap, sym, subst, ◌∙◌, arith, inl, inr}
 use Rattle.std.proofs.lemmas.Bool.{cases_eq}
 use Rattle.seize_acts.specs.Answers.{Grant}
 use Rattle.seize_acts.proofs.Answers.{same_some}
-use Rattle.papaya_scenes.specs.Given.SeizeWords.Mem.{Mem}
 use Rattle.papaya_scenes.specs.Given.Seize.World.{Row, World, with_at}
 use Rattle.papaya_scenes.specs.Given.Seize.declared.progress.Progress.{Progress}
 use Rattle.papaya_scenes.specs.Given.Seize.declared.progress.Progress.TheVariants as progress
@@ -16,8 +15,7 @@ use Rattle.papaya_scenes.specs.Given.Teller.declared.changed.Changed.{Changed}
 use Rattle.papaya_scenes.specs.Given.Resize.NewMap.{new_map_plan}
 use Rattle.papaya_scenes.specs.Given.Resize.declared.new_map.NewMap.{NewMap}
 use Rattle.papaya_scenes.specs.Given.Raw.EndMap.{ending}
-use Rattle.papaya_scenes.specs.Given.Raw.declared.machines.end_map.EndMap.{EndMap}
-use Rattle.papaya_scenes.specs.Given.Finishes.Endings.{Finishing, MakingStepsAmong, finishing_of}
+use Rattle.papaya_scenes.specs.Given.Finishes.Endings.{Finishing, finishing_of}
 use Rattle.papaya_scenes.specs.Given.Finishes.Makings.{Beginning}
 use Rattle.papaya_scenes.specs.Given.Finishes.Maps.{Standing}
 use Rattle.papaya_scenes.proofs.Given.Callers.Together.At.{at_other, at_same}
@@ -25,7 +23,6 @@ use Rattle.papaya_scenes.proofs.May.{may_make}
 use Rattle.papaya_scenes.specs.Held.{Held, IsAt}
 use Rattle.papaya_scenes.specs.Making.{MakingLeads, making_begun}
 use Rattle.papaya_scenes.specs.Scene.{HasNoCall, IsOnSlot, Scene, row_of, slot_of}
-use Rattle.papaya_moments.specs.Given.Schedules.declared.outcome.Outcome.{Outcome}
 use Rattle.papaya_moments.specs.Given.Schedules.Moment.{Moment}
 use Rattle.papaya_moments.specs.Given.Effects.Effects.{effects_of, known_after}
 use Rattle.papaya_moments.specs.Given.Effects.Known.{Known}
@@ -41,7 +38,7 @@ use Rattle.papaya_acts.specs.Acts.{Act, Answer, OfEnding, OfMaking, StepsCall, B
 use Rattle.papaya_acts.specs.AsSteps.{LeadsAs, changed_by, held_in, row_changed, row_told}
 use Rattle.papaya_acts.specs.Leads.{EndingCame, Led, MakingCame}
 use Rattle.papaya_deeds.specs.Deeds.{Entry, Steps, acted_on, map_of_call, moment, named}
-use Rattle.papaya_played.specs.Play.{Ending, Making, Now, State, call_stepped, ending_begun as end_begun, ending_stepped, is_refusal, made_on, making_begun as made_begun, making_deed, making_outcome, making_stepped, outcome_of, row_outcome, row_stepped, settled_outcome}
+use Rattle.papaya_played.specs.Play.{Ending, Making, Now, State, ending_stepped, is_refusal, made_on, making_deed, making_outcome, outcome_of, row_outcome, row_stepped, settled_outcome}
 use Rattle.papaya_played.specs.Reached.{IsOf, row_or_rests}
 use Rattle.papaya_played.proofs.Noted.{CallsAreNoted}
 use Rattle.papaya_played.proofs.PlayedAs.{PlayedAs}
@@ -53,7 +50,7 @@ use Rattle.papaya_linear.proofs.EndsRight.{ended_coming, ended_going, ended_name
 use Rattle.papaya_linear.proofs.Going.{goes_alike, goes_beside}
 use Rattle.papaya_linear.proofs.Gone.{BeginsOther, acts_leave_gone}
 use Rattle.papaya_linear.proofs.MakesRight.{made_coming, made_names, made_numbers}
-use Rattle.papaya_linear.proofs.Tied.{CallTied, EndingTied, MakingTied, call_tied, ending_tied, making_tied}
+use Rattle.papaya_linear.proofs.Tied.{EndingTied, MakingTied, call_tied, ending_tied, making_tied}
 
 -- What is noted of a map that stands.
 module _ {K V : Type 0} (same : K → K → Bool) (hash : ℕ → K → ℕ) (old : Held K V) (m : Moment K V) (known : Known) (s : Scene K V) (at : IsAt same hash old s) (shown : Shows same named m known s) (map : ℕ) (standing : Standing K)

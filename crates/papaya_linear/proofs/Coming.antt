@@ -10,7 +10,7 @@ use Rattle.papaya_moments.specs.Given.Tables.declared.setting.Setting.{Setting}
 use Rattle.papaya_moments.specs.Given.Finishes.Makings.{Beginning}
 use Rattle.papaya_moments.specs.Given.Schedules.declared.effect.Table.{Table}
 use Rattle.papaya_moments.specs.Given.Schedules.Effects.{with_effects}
-use Rattle.papaya_moments.specs.Given.Schedules.Moment.{InMap, MapThere, Moment, Place, TableThere}
+use Rattle.papaya_moments.specs.Given.Schedules.Moment.{MapThere, Moment, Place, TableThere}
 use Rattle.papaya_moments.specs.Given.Schedules.Things.{same_table}
 use Rattle.papaya_moments.specs.Given.Schedules.Views.{is_there, map_at, tables_of}
 use Rattle.papaya_moments.specs.Given.Teller.declared.changed.Changed.{Changed}

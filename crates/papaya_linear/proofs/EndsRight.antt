@@ -8,7 +8,6 @@ use Rattle.papaya_scenes.specs.Given.Seize.World.{World, times, with_at}
 use Rattle.papaya_scenes.specs.Given.Seize.declared.rows.settle.Settled.{Settled}
 use Rattle.papaya_scenes.specs.Given.Seize.declared.rows.settle.Settled.TheVariants as settled
 use Rattle.papaya_scenes.specs.Given.Tables.declared.node.Node.{Node}
-use Rattle.papaya_scenes.specs.Given.Teller.declared.changed.Changed.{Changed}
 use Rattle.papaya_scenes.specs.Given.Raw.EndMap.{end_map_plan}
 use Rattle.papaya_scenes.specs.Given.Raw.declared.machines.end_map.EndMap.{EndMap}
 use Rattle.papaya_scenes.specs.Given.Finishes.Endings.{Finishing, waiting_by}
@@ -18,7 +17,7 @@ use Rattle.papaya_scenes.proofs.Given.Callers.Together.At.{at_other, at_same}
 use Rattle.papaya_scenes.proofs.May.{may_end}
 use Rattle.papaya_scenes.specs.Ending.{EndingComesTo, EndingLeads}
 use Rattle.papaya_scenes.specs.Held.{Held, IsAt}
-use Rattle.papaya_scenes.specs.Scene.{Scene, slot_of}
+use Rattle.papaya_scenes.specs.Scene.{Scene}
 use Rattle.papaya_moments.specs.Given.Schedules.declared.effect.Effect.{Effect}
 use Rattle.papaya_moments.specs.Given.Schedules.declared.outcome.Outcome.{Outcome}
 use Rattle.papaya_moments.specs.Given.Schedules.Effects.{with_effects}

@@ -1,6 +1,6 @@
 -- What a moment says that a caller's call was told, and whether it asks, while the call keeps its value and may take a reply: after each kind of entry.
-use Rattle.std.specs.Prelude.{◌+◌, cond, not, find, filter, map, Option, Some, None, if◌then◌else◌}
-use Rattle.std.proofs.Common.{◌≡◌, ◌⊎◌, ℕ, Bool, true, false, List, [], ◌∷◌, inl, inr, refl, ap, sym, subst, ◌∙◌}
+use Rattle.std.specs.Prelude.{◌+◌, cond, not, find, map, Option, Some, None, if◌then◌else◌}
+use Rattle.std.proofs.Common.{◌≡◌, ◌⊎◌, ℕ, Bool, true, false, List, [], ◌∷◌, refl, ap, sym, subst, ◌∙◌}
 use Rattle.papaya_moments.specs.Given.Raw.declared.machines.machine.Machine.{Machine}
 use Rattle.papaya_moments.specs.Given.Runs.Same.{is_same}
 use Rattle.papaya_moments.specs.Given.Schedules.declared.call.Call.{Call}
@@ -16,10 +16,10 @@ use Rattle.papaya_moments.specs.Given.Schedules.Moment.{Asking, Moment, Stands, 
 use Rattle.papaya_moments.specs.Given.Schedules.Views.{call_of}
 use Rattle.papaya_moments.proofs.Given.Follows.Calling.{apart_back, come_same, found_kept, found_passes, is_same_is, is_same_refl, replied_same}
 use Rattle.papaya_moments.proofs.Given.Follows.Calls.{IsOfSame, changed, found}
-use Rattle.papaya_moments.proofs.Given.Hands.Replacing.{IsOn, calls_after}
+use Rattle.papaya_moments.proofs.Given.Hands.Replacing.{calls_after}
 use Rattle.papaya_values.specs.Values.{KeepsValue}
-use Rattle.papaya_deeds.specs.Deeds.{Begins, Deed, Entry, Replies, Steps, Stops, acted_on, after, at_work, caller_of, named, worked}
-use Rattle.papaya_played.proofs.Noted.{OfNoCall, apart}
+use Rattle.papaya_deeds.specs.Deeds.{Begins, Entry, Replies, Steps, Stops, acted_on, after, at_work, caller_of, named, worked}
+use Rattle.papaya_played.proofs.Noted.{OfNoCall}
 use Rattle.papaya_linear.proofs.TakesReply.{TakesNone}
 
 module _ {K V : Type 0} where

@@ -1,50 +1,31 @@
 -- What is so at first, and stays so by each kind of act: each entry is linearizable, the moment shows the scene, and maps come and go as they must.
-use Rattle.std.specs.Prelude.{◌≡◌, ◌≢◌, ◌<◌, ◌^◌, ℕ, Bool, true, false, List, [], ◌∷◌, Option, Some, None, option_map}
-use Rattle.std.proofs.Common.{refl, ap, sym, subst, ◌∙◌, arith}
-use Rattle.seize_acts.specs.Answers.{Grant, stepped}
-use Rattle.seize_acts.proofs.Answers.{same_some}
+use Rattle.std.specs.Prelude.{◌≡◌, ℕ, Bool, true, Some}
+use Rattle.std.proofs.Common.{ap, sym, subst, ◌∙◌}
+use Rattle.seize_acts.specs.Answers.{Grant}
 use Rattle.papaya_scenes.specs.Given.SeizeWords.Mem.{Mem}
-use Rattle.papaya_scenes.specs.Given.Seize.ReclaimAll.{reclaim_all_plan}
 use Rattle.papaya_scenes.specs.Given.Seize.World.{Row}
 use Rattle.papaya_scenes.specs.Given.Seize.declared.progress.Progress.{Progress}
-use Rattle.papaya_scenes.specs.Given.Seize.declared.rows.reclaim_all.ReclaimAll.{ReclaimAll}
-use Rattle.papaya_scenes.specs.Given.Seize.declared.rows.settle.Settled.{Settled}
-use Rattle.papaya_scenes.specs.Given.Tables.Nodes.{deferred_word, was_left}
 use Rattle.papaya_scenes.specs.Given.Tables.declared.node.Node.{Node}
 use Rattle.papaya_scenes.specs.Given.Tables.declared.setting.Setting.{Setting}
 use Rattle.papaya_scenes.specs.Given.Resize.declared.new_map.NewMap.{NewMap}
-use Rattle.papaya_scenes.specs.Given.Teller.declared.changed.Changed.{Changed}
 use Rattle.papaya_scenes.specs.Given.Teller.declared.changed.Changed.TheVariants.{Nothing as NoChange}
 use Rattle.papaya_scenes.specs.Given.Finishes.Endings.{Finishing}
 use Rattle.papaya_scenes.specs.Given.Finishes.Makings.{Beginning}
 use Rattle.papaya_scenes.specs.Held.{Held, IsAt}
 use Rattle.papaya_scenes.specs.Making.{MakingLeads}
-use Rattle.papaya_scenes.specs.Reclaiming.{IsReclaiming, ReclaimingLeads}
-use Rattle.papaya_scenes.specs.Scene.{Scene, at_first, slot_of}
-use Rattle.papaya_moments.specs.Given.Schedules.After.{AtEachEvent}
+use Rattle.papaya_scenes.specs.Scene.{Scene, slot_of}
 use Rattle.papaya_moments.specs.Given.Schedules.Moment.{Moment}
-use Rattle.papaya_moments.specs.Given.Effects.Known.{Known, nothing_known}
-use Rattle.papaya_moments.proofs.Calls.{whole_begins}
-use Rattle.papaya_moments.proofs.Numbers.{numbers_begin}
-use Rattle.papaya_histories.proofs.DueOn.{dues_begin}
-use Rattle.papaya_histories.proofs.Questions.{questions_begin}
-use Rattle.papaya_logged.proofs.Given.Kept.Stays.{begins_kept}
 use Rattle.papaya_acts.specs.Acts.{Act, Answer, BeginsCall, StepsCall, TellsCall, AsksCall, StopsCall, BeginsMaking, StepsMaking, BeginsEnding, StepsEnding, BeginsRow, StepsRow, OfMaking}
-use Rattle.papaya_acts.specs.AsSteps.{LeadsAs, changed_by, changed_of, held_in}
-use Rattle.papaya_acts.specs.Doings.{HasStepped, StepsReclaiming}
+use Rattle.papaya_acts.specs.AsSteps.{LeadsAs, changed_by, held_in}
 use Rattle.papaya_acts.specs.Leads.{Led, MayBe}
 use Rattle.papaya_agrees.specs.Fresh.{HasNewNumber, has_come}
-use Rattle.papaya_agrees.proofs.Numbers.{NumbersHold, numbers_first, numbers_stay}
-use Rattle.papaya_deeds.specs.Deeds.{moment, named}
-use Rattle.papaya_deeds.specs.History.{IsLinearizable, past}
-use Rattle.papaya_played.specs.Play.{Ending, State, all_begun, all_stepped, first_state, is_refusal, play, play_act, settled_outcome, is_over}
-use Rattle.papaya_played.specs.Reached.{IsOf, rows_beside}
-use Rattle.papaya_played.proofs.Along.{At, Is, StaysSo, far, held, lists_at}
-use Rattle.papaya_played.proofs.Noted.{Anything, CallsAreNoted}
-use Rattle.papaya_played.proofs.PlayedAs.{PlayedAs, played_as, reclaimed_as}
+use Rattle.papaya_agrees.proofs.Numbers.{NumbersHold}
+use Rattle.papaya_deeds.specs.Deeds.{moment}
+use Rattle.papaya_played.specs.Play.{Ending, State}
+use Rattle.papaya_played.specs.Reached.{IsOf}
+use Rattle.papaya_played.proofs.Noted.{CallsAreNoted}
+use Rattle.papaya_played.proofs.PlayedAs.{PlayedAs}
 use Rattle.papaya_linear.specs.Coming.{IsByNewNumber, IsGone, MapsComeAndGo}
-use Rattle.papaya_linear.specs.Shown.{ShowsAnswers}
-use Rattle.papaya_linear.proofs.AsideActs.{reclaiming_aside}
 use Rattle.papaya_linear.proofs.CallActs.{asks_hold, begins_hold, steps_hold, stops_hold, told_hold}
 use Rattle.papaya_linear.proofs.ComeActs.{end_begins_come, ending_steps_come, making_begins_come, making_steps_come, quiet_come, row_steps_come, steps_come}
 use Rattle.papaya_linear.proofs.EndsRight.{goes_well}
@@ -53,7 +34,7 @@ use Rattle.papaya_linear.proofs.Holds.{Holds}
 use Rattle.papaya_linear.proofs.Gone.{BeginsOther, acts_leave_gone}
 use Rattle.papaya_linear.proofs.MakesRight.{fails, not_yet, unknown_yet, was_new}
 use Rattle.papaya_linear.proofs.MapActs.{EndsSo, MakesSo, MakingDid, end_begins_hold, ending_steps_hold, making_begins_hold, making_steps_hold}
-use Rattle.papaya_linear.proofs.RowActs.{all_steps_hold, row_begins_hold, row_steps_hold}
+use Rattle.papaya_linear.proofs.RowActs.{row_begins_hold, row_steps_hold}
 
 -- So it is of a state and of the scene to which its acts have led.
 pub record AllHolds {K V S : Type 0} (same : K → K → Bool) (x : State K V S) (s : Scene K V) : Type 0 where

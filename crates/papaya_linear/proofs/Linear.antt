@@ -8,7 +8,7 @@ use Rattle.papaya_scenes.specs.Scene.{slot_of}
 use Rattle.papaya_agrees.specs.Fresh.{HasNewNumber}
 use Rattle.papaya_agrees.proofs.Coming.{new_numbers}
 use Rattle.papaya_agrees.proofs.Numbers.{numbers_first}
-use Rattle.papaya_played.specs.Play.{State, first_state}
+use Rattle.papaya_played.specs.Play.{first_state}
 use Rattle.papaya_played.proofs.Along.{AreOfTheirOwn, wherever}
 use Rattle.papaya_linear.specs.Linear.{IsOfOwn, ListsAreLinearizable}
 use Rattle.papaya_linear.proofs.Stays.{Of, all_stay, first_holds}

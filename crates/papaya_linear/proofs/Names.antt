@@ -1,16 +1,14 @@
 -- Each map that is there has its number as its name: so no map that stands has the name of one that does not.
 use Rattle.std.specs.Prelude.{◌≡◌, ◌==◌, ℕ, Bool, true, false, not, List, [], ◌∷◌, Option, Some, None, if◌then◌else◌}
 use Rattle.std.specs.List.{All}
-use Rattle.std.proofs.Common.{refl, ap, sym, subst, ◌∙◌, arith}
+use Rattle.std.proofs.Common.{ap, sym, subst, ◌∙◌, arith}
 use Rattle.std.proofs.lemmas.List.Elements.{All-append, All-cons, All-filter, All-map}
 use Rattle.papaya_moments.specs.Given.Runs.Same.{is_same}
-use Rattle.papaya_moments.specs.Given.Finishes.Maps.{Standing}
 use Rattle.papaya_moments.specs.Given.Schedules.declared.effect.Effect.{Effect}
 use Rattle.papaya_moments.specs.Given.Schedules.declared.effect.Effect.TheVariants.{Promoted}
 use Rattle.papaya_moments.specs.Given.Schedules.declared.effect.Table.{Table}
 use Rattle.papaya_moments.specs.Given.Schedules.Effects.{maps_by, promoted, with_effect, with_effects}
 use Rattle.papaya_moments.specs.Given.Schedules.Moment.{MapThere, Moment}
-use Rattle.papaya_moments.specs.Given.Schedules.Views.{map_at}
 use Rattle.papaya_moments.specs.Given.Scenes.Scene.{Scene}
 use Rattle.papaya_moments.proofs.Numbers.{found_of}
 use Rattle.papaya_deeds.specs.Deeds.{come, named, without_map}

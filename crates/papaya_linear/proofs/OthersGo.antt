@@ -1,14 +1,12 @@
 -- What a moment shows of calls it shows where a row begins on a slot, a map comes or goes, its making or its end begins, after each step of these, and after one by which all is reclaimed.
-use Rattle.std.specs.Prelude.{◌≡◌, ℕ, Bool, false, List, [], Option, Some, None}
-use Rattle.std.proofs.Common.{refl, sym, subst, ◌∙◌}
-use Rattle.std.specs.List.{All}
+use Rattle.std.specs.Prelude.{◌≡◌, ℕ, Bool, false, List, [], Some, None}
+use Rattle.std.proofs.Common.{refl, sym, ◌∙◌}
 use Rattle.papaya_moments.specs.Given.Seize.World.{Begin, Step}
 use Rattle.papaya_moments.specs.Given.Seize.declared.progress.Progress.{Progress as Making}
 use Rattle.papaya_moments.specs.Given.Seize.declared.progress.Progress.TheVariants as progress
 use Rattle.papaya_moments.specs.Given.Seize.declared.rows.reclaim_all.ReclaimAll.{ReclaimAll}
 use Rattle.papaya_moments.specs.Given.Seize.declared.rows.settle.Settled.{Settled}
 use Rattle.papaya_moments.specs.Given.Seize.declared.rows.settle.Settled.TheVariants as settled
-use Rattle.papaya_moments.specs.Given.Seize.World.{with_at}
 use Rattle.papaya_moments.specs.Given.Tables.declared.node.Node.{Node}
 use Rattle.papaya_moments.specs.Given.Tables.declared.setting.Setting.{Setting}
 use Rattle.papaya_moments.specs.Given.Callers.Together.{OnKey, UnderWay}
@@ -16,7 +14,6 @@ use Rattle.papaya_moments.specs.Given.Finishes.Endings.{Finishing}
 use Rattle.papaya_moments.specs.Given.Finishes.Makings.{Beginning, HasMade}
 use Rattle.papaya_moments.specs.Given.Finishes.Maps.{Standing}
 use Rattle.papaya_moments.specs.Given.Runs.Same.{is_same}
-use Rattle.papaya_moments.specs.Given.Schedules.declared.effect.Effect.{Effect}
 use Rattle.papaya_moments.specs.Given.Schedules.Beginning.{with_map}
 use Rattle.papaya_moments.specs.Given.Schedules.Effects.{AtEachEffect, with_effects}
 use Rattle.papaya_moments.specs.Given.Schedules.Moment.{MapThere, Moment, Remains}
@@ -38,11 +35,8 @@ use Rattle.papaya_moments.specs.Given.Scenes.declared.row.SlotRow.{SlotRow}
 use Rattle.papaya_moments.specs.Given.Others.Endings.{ending_after, without_map}
 use Rattle.papaya_moments.specs.Given.Others.Makings.{WasNew, making_after}
 use Rattle.papaya_moments.specs.Given.Others.Rows.{scene_then}
-use Rattle.papaya_moments.specs.Given.Spots.OnSlots.{WaitUnreclaimed}
 use Rattle.papaya_moments.specs.Endings.{IsOfIts}
 use Rattle.papaya_moments.specs.Numbers.{AreFound}
-use Rattle.papaya_moments.specs.OnSlots.{HadRetired}
-use Rattle.papaya_moments.specs.Whole.{ShowsWhole}
 use Rattle.papaya_moments.proofs.Ends.{endings_begin_whole, endings_keep_whole}
 use Rattle.papaya_moments.proofs.MakingSteps.{makings_keep_whole}
 use Rattle.papaya_moments.proofs.MapsCome.{makings_begin_whole, maps_come_whole}

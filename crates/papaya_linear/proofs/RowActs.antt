@@ -1,17 +1,16 @@
 -- What is so of a state that is played stays so where a row begins on a slot, takes its step, and where a caller that reclaims all takes one: each entry so far is linearizable.
 use Rattle.std.specs.Prelude.{◌≡◌, ℕ, Bool, List}
-use Rattle.std.proofs.Common.{refl, ap, sym, subst, ◌∙◌}
+use Rattle.std.proofs.Common.{ap, sym, subst, ◌∙◌}
 use Rattle.seize_acts.specs.Answers.{Grant}
 use Rattle.papaya_scenes.specs.Given.SeizeWords.Mem.{Mem}
-use Rattle.papaya_scenes.specs.Given.Seize.World.{Request, Row, Step}
+use Rattle.papaya_scenes.specs.Given.Seize.World.{Request, Row}
 use Rattle.papaya_scenes.specs.Given.Seize.declared.rows.reclaim_all.ReclaimAll.{ReclaimAll}
 use Rattle.papaya_scenes.specs.Given.Seize.declared.rows.settle.Settled.{Settled}
 use Rattle.papaya_scenes.specs.Given.Tables.declared.node.Node.{Node}
 use Rattle.papaya_scenes.specs.Given.Teller.declared.changed.Changed.{Changed}
 use Rattle.papaya_scenes.specs.Held.{Held, IsAt}
 use Rattle.papaya_scenes.specs.Reclaiming.{IsReclaiming, ReclaimingLeads}
-use Rattle.papaya_scenes.specs.Scene.{HasNoCall, IsOnSlot, Scene, row_of, slot_of}
-use Rattle.papaya_scenes.specs.declared.row.SlotRow.{SlotRow}
+use Rattle.papaya_scenes.specs.Scene.{HasNoCall, IsOnSlot, Scene, row_of}
 use Rattle.papaya_acts.specs.Acts.{Act, Answer, BeginsRow, StepsRow}
 use Rattle.papaya_acts.specs.AsSteps.{LeadsAs, changed_by, held_in, row_changed, row_told}
 use Rattle.papaya_deeds.specs.Deeds.{moment}

@@ -29,7 +29,7 @@ use Rattle.papaya_moments.specs.Given.Scenes.declared.row.SlotRow.TheVariants as
 use Rattle.papaya_logged.proofs.Reclaiming.Rows.{reclaiming_tells}
 use Rattle.papaya_deeds.specs.Deeds.{Deed, Entry, Leaves, Opens, ReclaimsAll, Registers, Shuts, Tends, after, caller_of, moment}
 use Rattle.papaya_deeds.specs.History.{IsLinearizable, past}
-use Rattle.papaya_played.specs.Play.{State, is_over, is_refusal, leaves_as, registers_as, row_deed, row_outcome, settled_outcome}
+use Rattle.papaya_played.specs.Play.{State, is_over, is_refusal, leaves_as, registers_as, row_deed, settled_outcome}
 use Rattle.papaya_played.proofs.Noted.{row_none}
 use Rattle.papaya_linear.specs.Shown.{ShowsAnswers}
 use Rattle.papaya_linear.proofs.CallEntries.{entry_answers, none_is_linearizable}

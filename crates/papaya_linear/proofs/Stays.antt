@@ -1,6 +1,6 @@
 -- So it is wherever a list of acts has led: each entry is linearizable, the moment shows the scene, and maps come and go as they must.
-use Rattle.std.specs.Prelude.{◌≡◌, ◌<◌, ◌^◌, ℕ, Bool, List, [], ◌∷◌, Option, Some, None, option_map}
-use Rattle.std.proofs.Common.{refl, ap, sym, subst, ◌∙◌, arith}
+use Rattle.std.specs.Prelude.{◌≡◌, ℕ, Bool, [], Option, option_map}
+use Rattle.std.proofs.Common.{ap, sym, subst, ◌∙◌, arith}
 use Rattle.seize_acts.specs.Answers.{Grant, stepped}
 use Rattle.seize_acts.proofs.Answers.{same_some}
 use Rattle.papaya_scenes.specs.Given.SeizeWords.Mem.{Mem}
@@ -12,24 +12,21 @@ use Rattle.papaya_scenes.specs.Given.Tables.Nodes.{deferred_word, was_left}
 use Rattle.papaya_scenes.specs.Given.Tables.declared.node.Node.{Node}
 use Rattle.papaya_scenes.specs.Given.Teller.declared.changed.Changed.{Changed}
 use Rattle.papaya_scenes.specs.Given.Teller.declared.changed.Changed.TheVariants.{Nothing as NoChange}
-use Rattle.papaya_scenes.specs.Held.{Held, IsAt}
-use Rattle.papaya_scenes.specs.Reclaiming.{IsReclaiming, ReclaimingLeads}
-use Rattle.papaya_scenes.specs.Scene.{Scene, at_first, slot_of}
+use Rattle.papaya_scenes.specs.Scene.{at_first, slot_of}
 use Rattle.papaya_moments.specs.Given.Effects.Known.{nothing_known}
 use Rattle.papaya_moments.proofs.Calls.{whole_begins}
 use Rattle.papaya_moments.proofs.Numbers.{numbers_begin}
 use Rattle.papaya_histories.proofs.DueOn.{dues_begin}
 use Rattle.papaya_histories.proofs.Questions.{questions_begin}
 use Rattle.papaya_logged.proofs.Given.Kept.Stays.{begins_kept}
-use Rattle.papaya_acts.specs.Acts.{Act, Answer}
-use Rattle.papaya_acts.specs.AsSteps.{IsOwn, LeadsAs, changed_by, changed_of}
-use Rattle.papaya_acts.specs.Doings.{AllAreFree, HasStepped, StepsReclaiming}
-use Rattle.papaya_acts.specs.Leads.{Led, MayBe}
+use Rattle.papaya_acts.specs.Acts.{Answer}
+use Rattle.papaya_acts.specs.AsSteps.{changed_of}
+use Rattle.papaya_acts.specs.Doings.{HasStepped}
 use Rattle.papaya_agrees.specs.Fresh.{HasNewNumber}
 use Rattle.papaya_agrees.proofs.Numbers.{NumbersHold, numbers_stay}
 use Rattle.papaya_deeds.specs.Deeds.{moment, named}
 use Rattle.papaya_deeds.specs.History.{past}
-use Rattle.papaya_played.specs.Play.{State, all_begun, all_stepped, first_state, is_over, is_refusal, play, play_act, settled_outcome}
+use Rattle.papaya_played.specs.Play.{State, all_begun, all_stepped, first_state, is_over, is_refusal, settled_outcome}
 use Rattle.papaya_played.specs.Reached.{IsOf, rows_beside}
 use Rattle.papaya_played.proofs.Along.{At, Is, StaysSo, far, held, lists_at}
 use Rattle.papaya_played.proofs.Noted.{Anything, CallsAreNoted}
@@ -37,7 +34,6 @@ use Rattle.papaya_played.proofs.PlayedAs.{ReclaimedAs, played_as, reclaimed_as}
 use Rattle.papaya_linear.specs.Coming.{MapsComeAndGo}
 use Rattle.papaya_linear.specs.Shown.{ShowsAnswers}
 use Rattle.papaya_linear.proofs.AsideActs.{reclaiming_aside}
-use Rattle.papaya_linear.proofs.Holds.{Holds}
 use Rattle.papaya_linear.proofs.Holding.{AllHolds, acts_come, acts_hold, new_number}
 use Rattle.papaya_linear.proofs.RowActs.{all_steps_hold}
 

@@ -1,5 +1,5 @@
 -- The step of a call, as it is played, is an entry that is linearizable, and what the moment shows of calls and of what they were told it shows then.
-use Rattle.std.specs.Prelude.{◌≡◌, ◌≢◌, ◌⊎◌, ◌+◌, ℕ, Bool, true, false, List, ◌∷◌, Option, Some, None, option_map, if◌then◌else◌}
+use Rattle.std.specs.Prelude.{◌≡◌, ◌⊎◌, ◌+◌, ℕ, Bool, true, false, List, Option, Some, None, option_map, if◌then◌else◌}
 use Rattle.std.proofs.Common.{refl, ap, sym, subst, ◌∙◌, inl, inr}
 use Rattle.seize_acts.proofs.Answers.{same_some}
 use Rattle.papaya_moments.specs.Given.SeizeWords.Mem.{Mem}
@@ -9,14 +9,12 @@ use Rattle.papaya_moments.specs.Given.Raw.declared.machines.progress.Progress.{P
 use Rattle.papaya_moments.specs.Given.Raw.declared.machines.progress.Progress.TheVariants as progress
 use Rattle.papaya_moments.specs.Given.Callers.Together.{UnderWay}
 use Rattle.papaya_moments.specs.Given.Finishes.Machines.{machine_of}
-use Rattle.papaya_moments.specs.Given.Finishes.Maps.{with_call}
 use Rattle.papaya_moments.specs.Given.Schedules.declared.call.Call.{Call}
 use Rattle.papaya_moments.specs.Given.Schedules.declared.call.Reply.{Reply}
-use Rattle.papaya_moments.specs.Given.Schedules.declared.effect.Effect.{Effect}
 use Rattle.papaya_moments.specs.Given.Schedules.declared.outcome.Outcome.{Outcome}
 use Rattle.papaya_moments.specs.Given.Schedules.After.{comes_to}
 use Rattle.papaya_moments.specs.Given.Schedules.Entry.{ends_call}
-use Rattle.papaya_moments.specs.Given.Schedules.Moment.{Asking, Moment, UnderWay as CallThere}
+use Rattle.papaya_moments.specs.Given.Schedules.Moment.{Asking, UnderWay as CallThere}
 use Rattle.papaya_moments.specs.Given.Schedules.Views.{call_of}
 use Rattle.papaya_moments.specs.Given.Effects.Effects.{effects_of, known_after}
 use Rattle.papaya_moments.specs.Given.Effects.Known.{Known}
@@ -31,7 +29,7 @@ use Rattle.papaya_named.specs.declared.kind.Kind.{Kind}
 use Rattle.papaya_histories.specs.InEvent.{ComesSo}
 use Rattle.papaya_values.specs.Values.{KeepsValue, kept_after}
 use Rattle.papaya_values.proofs.Values.{values_go_on}
-use Rattle.papaya_deeds.specs.Deeds.{Entry, Steps, acted_on, map_of_call, moment, named}
+use Rattle.papaya_deeds.specs.Deeds.{Steps, acted_on, map_of_call, moment, named}
 use Rattle.papaya_deeds.specs.History.{IsLinearizable, past}
 use Rattle.papaya_played.specs.Play.{Calling, State, call_stepped, going, is_refusal, keeps, outcome_of}
 use Rattle.papaya_played.proofs.Alike.{its_call}

@@ -1,6 +1,6 @@
 -- A reply that a call on one key takes is one of its kind: a yes or no for `remove_if`, and for `compute` what is not.
-use Rattle.std.specs.Prelude.{◌≡◌, ℕ, Bool, true, false, List, Option, Some, Ok}
-use Rattle.std.proofs.Common.{refl, ap, subst, ◌∙◌, inl, inr}
+use Rattle.std.specs.Prelude.{◌≡◌, ℕ, Bool, true, false, List, Some, Ok}
+use Rattle.std.proofs.Common.{ap, subst, ◌∙◌, inl, inr}
 use Rattle.papaya_moments.specs.Given.Raw.CallAsks.{absent_told, present_told, told_at}
 use Rattle.papaya_moments.specs.Given.Raw.Machine.{machine_replied}
 use Rattle.papaya_moments.specs.Given.Raw.declared.machines.asking.Asking.TheVariants as asking

@@ -1,5 +1,5 @@
 -- A call takes a reply only where the step before has said that it asks: none as it begins, none once it took one, and none as a walk goes on.
-use Rattle.std.specs.Prelude.{◌≡◌, ℕ, ◌==◌, Bool, true, false, nat_lt, ◌&&◌, Option, Some, None, Result, Ok, Err, if◌then◌else◌}
+use Rattle.std.specs.Prelude.{◌≡◌, ℕ, ◌==◌, Bool, true, false, nat_lt, ◌&&◌, Option, Ok, if◌then◌else◌}
 use Rattle.std.proofs.Common.{refl, sym, subst}
 use Rattle.papaya_moments.specs.Given.SeizeWords.Plan.{plan_as}
 use Rattle.papaya_moments.specs.Given.SeizeWords.declared.fault.Fault.TheVariants.{RemoveNothing}
@@ -17,7 +17,7 @@ use Rattle.papaya_moments.specs.Given.Sweeps.declared.sweep.Swept.{Swept}
 use Rattle.papaya_moments.specs.Given.Sweeps.declared.sweep.Swept.TheVariants as swept_as
 use Rattle.papaya_moments.specs.Given.Raw.Call.{plan_at}
 use Rattle.papaya_moments.specs.Given.Raw.CallAsks.{absent_told, present_told, told_at, with_absent, with_present}
-use Rattle.papaya_moments.specs.Given.Raw.CallPoints.{answering, at_gap, burying, ending, going, over, standing}
+use Rattle.papaya_moments.specs.Given.Raw.CallPoints.{at_gap, burying, ending, going, over}
 use Rattle.papaya_moments.specs.Given.Raw.Machine.{called, counted, machine_asked, machine_replied, reserved, swept, sweep_told}
 use Rattle.papaya_moments.specs.Given.Raw.declared.machines.answer.Called.{Called}
 use Rattle.papaya_moments.specs.Given.Raw.declared.machines.answer.Called.TheVariants as says

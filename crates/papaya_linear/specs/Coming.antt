@@ -1,5 +1,5 @@
 -- What is so of maps that come and go as a list of acts is played: of their numbers, of those that are being made, and of those that end.
-use Rattle.std.specs.Prelude.{◌≡◌, ◌≢◌, ◌≤◌, ◌<◌, ◌⊎◌, ℕ, Bool, true, false, Option, Some, None, [], List}
+use Rattle.std.specs.Prelude.{◌≡◌, ◌≢◌, ◌≤◌, ◌<◌, ◌⊎◌, ℕ, Bool, true, false, Option, Some, None, []}
 use Rattle.std.specs.List.{All}
 use Rattle.papaya_moments.specs.Given.Seize.World.{times}
 use Rattle.papaya_moments.specs.Given.Resize.NewMap.{at_root}
