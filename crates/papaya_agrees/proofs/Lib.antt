@@ -8,4 +8,11 @@ pub mod Guards
 pub mod Entries
 pub mod Calls
 pub mod Grants
+pub mod Elsewhere
+pub mod Fresh
+pub mod Known
+pub mod Openings
+pub mod Told
+pub mod Numbers
+pub mod Coming
 pub mod Agree

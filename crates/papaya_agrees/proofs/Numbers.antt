@@ -49,7 +49,7 @@ use Rattle.papaya_agrees.proofs.Fresh.{ActsElsewhere, AnyTable, BeginsElsewhere,
 use Rattle.papaya_agrees.proofs.Known.{MakesSome, NoneAtZero, none_then, step_makes}
 use Rattle.papaya_agrees.proofs.Lists.{found_so}
 use Rattle.papaya_agrees.proofs.Openings.{comes_then, done_rooted, ending_acts, ending_begins_none, making_acts, making_begins_none, rootless_quiet}
-use Rattle.papaya_agrees.proofs.Told.{OfNoMap, all_make, all_say, row_makes, row_of_no_map, row_says}
+use Rattle.papaya_agrees.proofs.Told.{OfNoMap, all_make, all_say, reclaims_all, row_makes, row_of_no_map, row_says}
 
 -- at one number there is this then
 pub with_so : {X : Type 0} (f : ℕ → Option X) (i : ℕ) (next : Option X) (P : ℕ → X → Type 0) → ((x : X) → next ≡ Some x → P i x) → ((j : ℕ) (x : X) → f j ≡ Some x → P j x) → (j : ℕ) (x : X)
@@ -150,9 +150,9 @@ module _ {K V S : Type 0} (x : State K V S) (here : NumbersHold x) where
   -- A step of no map.
   no_map_else : (told : Changed) (d : Deed K V) (o : Outcome V) → OfNoMap d → ((n : ℕ) → AllLinkElsewhere n AnyTable (effects_of acting.Row x.known told)) → AllElse (entry acting.Row told d o)
   no_map_else told d o none links n not = record {
-    begins = none.1 n;
+    begins = none.begins n;
     acts = acts_elsewhere n (acted_on d (at_work (entry acting.Row told d o) (moment x.history))) (effects_of acting.Row x.known told)
-        (λ is. let both : None ≡ Some n = sym (none.0 (at_work (entry acting.Row told d o) (moment x.history))) ∙ is in cc both);
+        (λ is. let both : None ≡ Some n = sym (none.acts (at_work (entry acting.Row told d o) (moment x.history))) ∙ is in cc both);
     links = links n;
   }
 
@@ -322,7 +322,7 @@ module _ {K V S : Type 0} (same : K → K → Bool) (hash : S → K → ℕ) (ba
       let e = entry x here acting.Row change (ReclaimsAll (is_over end.1.1)) (settled_outcome end.1.1) in
       subst NumbersHold (sym is)
       (worked_so x here acting.Row change (ReclaimsAll (is_over end.1.1)) (settled_outcome end.1.1) (OfReclaiming end.1.1) (record x.now { memory = end.0; all = all_on end.1.0 end.1.1 }) (all_make change says)
-      (no_map_else x here change (ReclaimsAll (is_over end.1.1)) (settled_outcome end.1.1) (λ m. refl, λ n. tt) (λ n. reclaiming_elsewhere n AnyTable x.known here.none change says)) (maps_kept x here e) (made_kept x here e)
+      (no_map_else x here change (ReclaimsAll (is_over end.1.1)) (settled_outcome end.1.1) (reclaims_all (is_over end.1.1)) (λ n. reclaiming_elsewhere n AnyTable x.known here.none change says)) (maps_kept x here e) (made_kept x here e)
       (ended_kept x here e))
 
 -- at first nothing has come

@@ -170,3 +170,10 @@ module _ {K V T : Type 0} (f : Ending) (said : Settled T) where
       by : (q : Bool) → BeginsElsewhere {K = K} {V = V} n (if q then MapGoes f.map else Ends f.map)
       by true = tt
       by false = tt
+
+  pub ending_comes_none : (n : ℕ) → comes_with n (ending_deed {K = K} {V = V} f said) ≡ false
+  ending_comes_none n = by (is_over said)
+    where
+      by : (q : Bool) → comes_with {K = K} {V = V} n (if q then MapGoes f.map else Ends f.map) ≡ false
+      by true = refl
+      by false = refl

@@ -33,8 +33,9 @@ use Rattle.papaya_logged.proofs.Reclaiming.Rows.{EmptiesRoot, reclaiming_tells}
 use Rattle.papaya_schedules.specs.Moment.{Moment}
 use Rattle.papaya_acts.specs.AsSteps.{changed_of, row_changed}
 use Rattle.papaya_acts.proofs.AsSteps.Told.{was_told}
-use Rattle.papaya_deeds.specs.Deeds.{Deed, Opens, Leaves, acted_on}
+use Rattle.papaya_deeds.specs.Deeds.{Deed, Leaves, Opens, ReclaimsAll, Registers, Shuts, Tends, acted_on}
 use Rattle.papaya_played.specs.Play.{leaves_as, registers_as, row_deed, slot_row_steps}
+use Rattle.papaya_agrees.specs.Fresh.{comes_with}
 use Rattle.papaya_agrees.proofs.Fresh.{BeginsElsewhere}
 use Rattle.papaya_agrees.proofs.Known.{MakesSome}
 
@@ -83,33 +84,53 @@ all_make told (inl row) = row_makes told row
 all_make (changed.Made kind b) (inr empties) = absurd empties
 all_make _ (inr empties) = tt
 
--- It begins no call, and acts on no map.
+-- It begins no call, acts on no map, and none comes by it.
 module _ {K V : Type 0} where
-  abbrev pub OfNoMap : Deed K V → Type 0
-  OfNoMap d = ((m : Moment K V) → acted_on d m ≡ None) × ((n : ℕ) → BeginsElsewhere n d)
+  pub record OfNoMap (d : Deed K V) : Type 0 where
+    pub acts : (m : Moment K V) → acted_on d m ≡ None
+    pub begins : (n : ℕ) → BeginsElsewhere n d
+    pub comes : (n : ℕ) → comes_with n d ≡ false
+
+  opens : (s : ℕ) → OfNoMap (Opens s)
+  opens s = record { acts = λ m. refl; begins = λ n. tt; comes = λ n. refl }
+
+  shuts : (s : ℕ) → OfNoMap (Shuts s)
+  shuts s = record { acts = λ m. refl; begins = λ n. tt; comes = λ n. refl }
+
+  leaves_slot : (s : ℕ) → OfNoMap (Leaves s)
+  leaves_slot s = record { acts = λ m. refl; begins = λ n. tt; comes = λ n. refl }
+
+  registers_at : (s : ℕ) → OfNoMap (Registers s)
+  registers_at s = record { acts = λ m. refl; begins = λ n. tt; comes = λ n. refl }
+
+  tends : (s : ℕ) → OfNoMap (Tends s)
+  tends s = record { acts = λ m. refl; begins = λ n. tt; comes = λ n. refl }
+
+  pub reclaims_all : (last : Bool) → OfNoMap (ReclaimsAll last)
+  reclaims_all last = record { acts = λ m. refl; begins = λ n. tt; comes = λ n. refl }
 
   registers_none : (stands : Registering) (s : ℕ) → OfNoMap (registers_as stands s)
-  registers_none registers.Begin s = (λ m. refl, λ n. tt)
-  registers_none registers.Look s = (λ m. refl, λ n. tt)
-  registers_none (registers.Widen bucket head) s = (λ m. refl, λ n. tt)
-  registers_none (registers.Take head) s = (λ m. refl, λ n. tt)
-  registers_none registers.Enter s = (λ m. refl, λ n. tt)
-  registers_none registers.Registered s = (λ m. refl, λ n. tt)
-  registers_none (registers.Refused fault) s = (λ m. refl, λ n. tt)
+  registers_none registers.Begin s = registers_at s
+  registers_none registers.Look s = registers_at s
+  registers_none (registers.Widen bucket head) s = registers_at s
+  registers_none (registers.Take head) s = registers_at s
+  registers_none registers.Enter s = opens s
+  registers_none registers.Registered s = registers_at s
+  registers_none (registers.Refused fault) s = registers_at s
 
   opens_or : (q : Bool) (s : ℕ) → OfNoMap (if q then Opens s else Leaves s)
-  opens_or true s = (λ m. refl, λ n. tt)
-  opens_or false s = (λ m. refl, λ n. tt)
+  opens_or true s = opens s
+  opens_or false s = leaves_slot s
 
   leaves_none : (c : Leave) (stands : Leaving) → OfNoMap (leaves_as c stands)
-  leaves_none c leaves.Swaps = (λ m. refl, λ n. tt)
-  leaves_none c (leaves.Settles settle) = (λ m. refl, λ n. tt)
-  leaves_none c leaves.Frees = (λ m. refl, λ n. tt)
+  leaves_none c leaves.Swaps = shuts c.slot
+  leaves_none c (leaves.Settles settle) = leaves_slot c.slot
+  leaves_none c leaves.Frees = leaves_slot c.slot
   leaves_none c leaves.Over = opens_or (c.becomes == ACTIVE) c.slot
 
   pub row_of_no_map : (row : SlotRow) → OfNoMap (row_deed row)
   row_of_no_map (rows.Registers c) = registers_none c.stands c.slot
-  row_of_no_map (rows.Enters c) = (λ m. refl, λ n. tt)
+  row_of_no_map (rows.Enters c) = opens c.slot
   row_of_no_map (rows.Leaves c) = leaves_none c c.stands
-  row_of_no_map (rows.Flushes c) = (λ m. refl, λ n. tt)
-  row_of_no_map (rows.Frees c) = (λ m. refl, λ n. tt)
+  row_of_no_map (rows.Flushes c) = tends c.slot
+  row_of_no_map (rows.Frees c) = tends c.slot

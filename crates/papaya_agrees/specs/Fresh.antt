@@ -4,6 +4,7 @@ use Rattle.std.specs.List.{AllByRecursion}
 use Rattle.papaya_schedules.specs.Moment.{InMap, Moment}
 use Rattle.papaya_schedules.specs.Views.{map_at, tables_of}
 use Rattle.papaya_acts.specs.Acts.{Act, BeginsMaking}
+use Rattle.papaya_acts.specs.Doings.{Doing, Does}
 use Rattle.papaya_deeds.specs.Deeds.{Deed, Entry, MapComes}
 use Rattle.papaya_played.specs.Play.{State}
 
@@ -31,3 +32,18 @@ module _ {K V S : Type 0} where
   abbrev pub HasNewNumber : State K V S → Act K V S → Type 0
   HasNewNumber x (BeginsMaking i map hasher given places) = has_come map x.history ≡ false
   HasNewNumber x act = Unit {0}
+
+  -- the making of a map with this number begins
+  abbrev pub makes_one : ℕ → Doing K V S → Bool
+  makes_one n (Does (BeginsMaking i map hasher given places)) = map == n
+  makes_one n doing = false
+
+  abbrev pub is_made : ℕ → List (Doing K V S) → Bool
+  is_made n [] = false
+  is_made n (doing ∷ doings) = if makes_one n doing then true else is_made n doings
+
+  -- No number is given to two maps that a list of acts makes.
+  abbrev pub MakesOnce : List (Doing K V S) → Type 0
+  MakesOnce [] = Unit {0}
+  MakesOnce (Does (BeginsMaking i map hasher given places) ∷ doings) = (is_made map doings ≡ false) × MakesOnce doings
+  MakesOnce (doing ∷ doings) = MakesOnce doings
