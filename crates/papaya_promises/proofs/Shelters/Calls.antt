@@ -54,7 +54,7 @@ use Rattle.papaya_promises.specs.Sheltered.{AreShelteredOn, GuardsAreOn, HasCome
 use Rattle.papaya_promises.proofs.Shelters.Lasting.{Lasts, of_map, all_last, guards_last}
 use Rattle.papaya_promises.proofs.Lists.{all_append, all_of, passed_all, IsFound, all_found, all_shelter}
 use Rattle.papaya_promises.proofs.Shelters.Outs.{KeepsIn, OutFirst, AreFew, TakesOwn, calm_keep, room_keeps, effects_few, keep_all}
-use Rattle.papaya_promises.proofs.Shelters.Within.{GoOn, Sections, Within, call_goes_on, within_sections}
+use Rattle.papaya_promises.proofs.Shelters.Within.{GoOn, GoOnByRows, Sections, Within, call_goes_on, over_row, within_sections}
 use Rattle.papaya_histories.specs.Given.Scenes.Held.{Held, IsAt}
 use Rattle.papaya_histories.specs.Given.Scenes.Scene.{Scene}
 use Rattle.papaya_histories.specs.Given.Scenes.Stepping.{StepLeads, scene_after}
@@ -96,7 +96,7 @@ takes_own caller map known (changed.Roomed bucket had) keeps = tt
 
 module _ {K V : Type 0} (same : K → K → Bool) (hash : ℕ → K → ℕ) (name : ℕ → List ℕ) (m : Moment K V) (known : Known) (s : Scene K V) (old new : Held K V) (at : IsAt same hash old s)
     (whole : ShowsWhole same name m known s) (map i : ℕ) (u : UnderWay K V K) (here : s.calls map i ≡ Some u) (told : Progress (Node K V)) (leads : StepLeads same hash i told s old new)
-    (On : World (Node K V) → ℕ → Type 0) (sections : Sections On) where
+    (On On2 : World (Node K V) → ℕ → Type 0) (sections : Sections On On2) (rows : GoOnByRows On On2 i) where
   abbrev to : WentTo same hash name m known s old new at whole.all.shown map i u here told leads
   to = went_to same hash name m known s old new at whole.all.shown map i u here told leads
 
@@ -189,8 +189,8 @@ module _ {K V : Type 0} (same : K → K → Bool) (hash : ℕ → K → ℕ) (na
 
   -- what is so after it
   module _ (on : LeadsThere same hash name m known s old new at whole.all.shown map i u here told leads) where
-    goes : GoOn (On w) (On to.4.w2) w to.4.w2
-    goes = call_goes_on same hash name m known s old new at whole.all.shown map i u here told leads On sections
+    goes : GoOn (On w) (On2 to.4.w2) w to.4.w2
+    goes = call_goes_on same hash name m known s old new at whole.all.shown map i u here told leads On On2 sections rows
 
     more : known.stored ≤ known2.stored
     more =
@@ -210,9 +210,9 @@ module _ {K V : Type 0} (same : K → K → Bool) (hash : ℕ → K → ℕ) (na
         let past = k.5 in
         let rooted = map2.map.rule.common.rooted (omega (arith, past)) in
         let used : to.4.w2.hand b ≡ InUse k.1.setting.counter = ap to.4.w2.hand k.6 ∙ map2.tables k.0.chart.past (omega (arith, past, rooted)) (omega (arith, past)) in
-        reached_held t b to.4.w2.log (ap is_somewhere (used_stands deferred_word new.batch_size to.4.w2 reached2 b used)) (sections.opens new.batch_size to.4.w2 reached2 t (goes.inside t inside))
+        reached_held t b to.4.w2.log (ap is_somewhere (used_stands deferred_word new.batch_size to.4.w2 reached2 b used)) (sections.opens_then new.batch_size to.4.w2 reached2 t (goes.inside t inside))
 
-    lasts : Lasts (On w) (On to.4.w2) known known2 w to.4.w2
+    lasts : Lasts (On w) (On2 to.4.w2) known known2 w to.4.w2
     lasts = record {
       inside = goes.inside;
       held = λ t b inside of h. goes.held t b inside h;
@@ -227,17 +227,17 @@ module _ {K V : Type 0} (same : K → K → Bool) (hash : ℕ → K → ℕ) (na
     few = effects_few i map known new.changed (takes_own i map known new.changed on.keeps)
 
     abbrev pub Shelters : Type 0
-    Shelters = GuardsAreOn (On to.4.w2) m.there × AreShelteredOn (On to.4.w2) m.there to.4.w2 known2 v.sheltered × (flat_map thing_back effects ≡ [])
+    Shelters = GuardsAreOn (On2 to.4.w2) m.there × AreShelteredOn (On2 to.4.w2) m.there to.4.w2 known2 v.sheltered × (flat_map thing_back effects ≡ [])
 
     pub shelters : GuardsAreOn (On w) m.there → AreShelteredOn (On w) m.there w known v.sheltered → Shelters
-    shelters inside so = (guards_last (On w) (On to.4.w2) m.there known known2 w to.4.w2 lasts inside, all_last (On w) (On to.4.w2) m.there known known2 w to.4.w2 lasts v.sheltered so, few.1)
+    shelters inside so = (guards_last (On w) (On2 to.4.w2) m.there known known2 w to.4.w2 lasts inside, all_last (On w) (On2 to.4.w2) m.there known known2 w to.4.w2 lasts v.sheltered so, few.1)
 
   -- whether it was a step of a row, or none
   abbrev NoRow : Type 0
   NoRow = OfNoRow same hash name m known s old new at whole.all.shown map i u here told leads u to.4.did
 
   abbrev Then : Type 0
-  Then = GuardsAreOn (On to.4.w2) m.there × AreShelteredOn (On to.4.w2) m.there to.4.w2 known2 v.sheltered × (flat_map thing_back effects ≡ [])
+  Then = GuardsAreOn (On2 to.4.w2) m.there × AreShelteredOn (On2 to.4.w2) m.there to.4.w2 known2 v.sheltered × (flat_map thing_back effects ≡ [])
 
   own_shelters : NoRow → GuardsAreOn (On w) m.there → AreShelteredOn (On w) m.there w known m.sheltered → Then
   own_shelters own inside so =
@@ -286,4 +286,4 @@ module _ {K V : Type 0} (same : K → K → Bool) (hash : ℕ → K → ℕ) (na
 
 module _ (K V : Type 0) (same : K → K → Bool) (hash : ℕ → K → ℕ) where
   pub calls_shelter : CallsShelter K V same hash
-  calls_shelter name m known s old new at whole map i u here told leads inside so = call_shelters same hash name m known s old new at whole map i u here told leads Within within_sections inside so
+  calls_shelter name m known s old new at whole map i u here told leads inside so = call_shelters same hash name m known s old new at whole map i u here told leads Within Within within_sections (over_row i) inside so

@@ -135,17 +135,17 @@ module _ {K V : Type 0} (same : K → K → Bool) (hash : ℕ → K → ℕ) (na
   comes_there (progress.Done setting) comes = refl
   comes_there (progress.Refused fault) comes = refl
 
-  module _ (On : World (Node K V) → ℕ → Type 0) (sections : Sections On) where
-    goes : GoOn (On w) (On w2) w w2
+  module _ (On On2 : World (Node K V) → ℕ → Type 0) (sections : Sections On On2) where
+    goes : GoOn (On w) (On2 w2) w w2
     goes = sections.events old.batch_size w w2 reached did.step.events did.step.users did.step.runs
 
     -- the first table of its map is held at once
     used_held : (x o t : ℕ) → w2.hand x ≡ InUse o → On w t → holds t x w2.log ≡ true
     used_held x o t used inside =
-        reached_held t x w2.log (ap is_somewhere (used_stands deferred_word old.batch_size w2 reached2 x used)) (sections.opens old.batch_size w2 reached2 t (goes.inside t inside))
+        reached_held t x w2.log (ap is_somewhere (used_stands deferred_word old.batch_size w2 reached2 x used)) (sections.opens_then old.batch_size w2 reached2 t (goes.inside t inside))
 
     module _ (s2 : Scene K V) (world : s2.world ≡ w2) (beside : IsBeside m v known known2 s s2) where
-      lasts : Lasts (On w) (On w2) known known2 w w2
+      lasts : Lasts (On w) (On2 w2) known known2 w w2
       lasts = record {
         inside = goes.inside;
         held = λ t x inside is_of h. goes.held t x inside h;
@@ -157,29 +157,29 @@ module _ {K V : Type 0} (same : K → K → Bool) (hash : ℕ → K → ℕ) (na
       }
 
       pub making_shelters : GuardsAreOn (On w) m.there → AreShelteredOn (On w) m.there w known m.sheltered
-          → GuardsAreOn (On w2) m.there × AreShelteredOn (On w2) m.there w2 known2 v.sheltered × (flat_map thing_back effects ≡ [])
+          → GuardsAreOn (On2 w2) m.there × AreShelteredOn (On2 w2) m.there w2 known2 v.sheltered × (flat_map thing_back effects ≡ [])
       making_shelters inside so = (
-        guards_last (On w) (On w2) m.there known known2 w w2 lasts inside,
-        subst (AreShelteredOn (On w2) m.there w2 known2) (sym (keep_all None of effects m take_nothing.0)) (all_last (On w) (On w2) m.there known known2 w w2 lasts m.sheltered so),
+        guards_last (On w) (On2 w2) m.there known known2 w w2 lasts inside,
+        subst (AreShelteredOn (On2 w2) m.there w2 known2) (sym (keep_all None of effects m take_nothing.0)) (all_last (On w) (On2 w2) m.there known known2 w w2 lasts m.sheltered so),
         take_nothing.1,
       )
 
 module _ (K V : Type 0) (same : K → K → Bool) (hash : ℕ → K → ℕ) where
   -- it leaves such sections as they are, and sheltered in them what is so
-  pub makings_shelter_on : (On : World (Node K V) → ℕ → Type 0) → Sections On → (name : ℕ → List ℕ) (m : Moment K V) (known : Known) (s : Scene K V) (old new : Held K V) → IsAt same hash old s
+  pub makings_shelter_on : (On On2 : World (Node K V) → ℕ → Type 0) → Sections On On2 → (name : ℕ → List ℕ) (m : Moment K V) (known : Known) (s : Scene K V) (old new : Held K V) → IsAt same hash old s
       → ShowsWhole same name m known s → (i : ℕ) (told : Progress Setting) (leads : MakingLeads same hash i told s old new) (b : Beginning K) (here : s.makers i ≡ Some b) (of : Option ℕ) → WasNew b.map told m
       → GuardsAreOn (On s.world) m.there → AreShelteredOn (On s.world) m.there s.world known m.sheltered
       → (let to = leads b here in
       let effects = effects_of (acts.Making b.map) known new.changed in
-      GuardsAreOn (On to.2.step.w2) m.there
-      × AreShelteredOn (On to.2.step.w2) m.there to.2.step.w2 (known_after (acts.Making b.map) new.changed known) (with_effects None of effects m).sheltered
+      GuardsAreOn (On2 to.2.step.w2) m.there
+      × AreShelteredOn (On2 to.2.step.w2) m.there to.2.step.w2 (known_after (acts.Making b.map) new.changed known) (with_effects None of effects m).sheltered
       × (flat_map thing_back effects ≡ []))
-  makings_shelter_on On sections name m known s old new at whole i told leads b here of was_new inside so =
+  makings_shelter_on On On2 sections name m known s old new at whole i told leads b here of was_new inside so =
       let to = leads b here in
-      making_shelters same hash name m known s old new at whole i b here to.0 told to.1 to.2 of On sections (making_after same hash s old new i b to.0 to.2.step.w2 told to.3)
+      making_shelters same hash name m known s old new at whole i b here to.0 told to.1 to.2 of On On2 sections (making_after same hash s old new i b to.0 to.2.step.w2 told to.3)
       (comes_there same hash name m known s old new at whole i b here to.0 told to.1 to.2 of told to.3)
       (makings_go_beside K V same hash name m known s old new at whole i told leads b here of was_new) inside so
 
   pub makings_shelter : MakingsShelter K V same hash
   makings_shelter name m known s old new at whole i told leads b here of was_new hold =
-      makings_shelter_on Within within_sections name m known s old new at whole i told leads b here of was_new hold.0 hold.1
+      makings_shelter_on Within Within within_sections name m known s old new at whole i told leads b here of was_new hold.0 hold.1

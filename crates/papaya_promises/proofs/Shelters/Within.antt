@@ -30,11 +30,15 @@ pub record GoOn {K V : Type 0} (On On2 : ℕ → Type 0) (w w2 : World (Node K V
   pub inside : (t : ℕ) → On t → On2 t
   pub held : (t b : ℕ) → On t → holds t b w.log ≡ true → holds t b w2.log ≡ true
 
--- Sections of this kind are open, and go on where users do something, and where a call takes a step of a row.
-pub record Sections {K V : Type 0} (On : World (Node K V) → ℕ → Type 0) : Type 0 where
+-- Sections of these kinds are open, before and after, and go on where users do something.
+pub record Sections {K V : Type 0} (On On2 : World (Node K V) → ℕ → Type 0) : Type 0 where
   pub opens : (size : ℕ) (w : World (Node K V)) → Reached deferred_word size w → (t : ℕ) → On w t → is_open t w.log ≡ true
-  pub events : (size : ℕ) (w w2 : World (Node K V)) → Reached deferred_word size w → (events : List (Event (Node K V))) → AllUsers events → Runs deferred_word size events w w2 → GoOn (On w) (On w2) w w2
-  pub rows : (setting : Setting) (i : ℕ) (w w2 : World (Node K V)) → CameAbout setting.batch_size w → IsOneStep setting i w w2 → GoOn (On w) (On w2) w w2
+  pub opens_then : (size : ℕ) (w : World (Node K V)) → Reached deferred_word size w → (t : ℕ) → On2 w t → is_open t w.log ≡ true
+  pub events : (size : ℕ) (w w2 : World (Node K V)) → Reached deferred_word size w → (events : List (Event (Node K V))) → AllUsers events → Runs deferred_word size events w w2 → GoOn (On w) (On2 w2) w w2
+
+-- and where this caller takes a step of a row within its call
+abbrev pub GoOnByRows : {K V : Type 0} → (World (Node K V) → ℕ → Type 0) → (World (Node K V) → ℕ → Type 0) → ℕ → Type 0
+GoOnByRows {K} {V} On On2 i = (setting : Setting) (w w2 : World (Node K V)) → CameAbout setting.batch_size w → IsOneStep setting i w w2 → GoOn (On w) (On2 w2) w w2
 
 -- who is inside is within such a section
 abbrev pub Within : {K V : Type 0} → World (Node K V) → ℕ → Type 0
@@ -62,30 +66,34 @@ module _ {K V : Type 0} where
   begun_goes setting i w begun (Unregister' s) hands h = absurd hands
   begun_goes setting i w begun (Flush s) hands h = absurd hands
 
-  over_row : (setting : Setting) (i : ℕ) (w w2 : World (Node K V)) → CameAbout setting.batch_size w → IsOneStep setting i w w2 → Goes w w2
-  over_row setting i w w2 came (inl step) =
+  pub over_row : (i : ℕ) → GoOnByRows {K = K} {V = V} Within Within i
+  over_row i setting w w2 came (inl step) =
       let r = came_reached setting.batch_size w came in record {
         inside = λ t inside. inside_kept deferred_word setting.batch_size w r i w2 step t inside;
         held = λ t b inside h. still_held deferred_word setting.batch_size w r i w2 step t b inside h;
       }
-  over_row setting i w w2 came (inr (request, begun, hands, begins, step)) =
+  over_row i setting w w2 came (inr (request, begun, hands, begins, step)) =
       let r = happens_reached deferred_word setting.batch_size (Begin i request) w begun (came_reached setting.batch_size w came) begins in
       let first = begun_goes setting i w begun request hands begins in record {
         inside = λ t inside. inside_kept deferred_word setting.batch_size begun r i w2 step t (first.inside t inside);
         held = λ t b inside h. still_held deferred_word setting.batch_size begun r i w2 step t b (first.inside t inside) (first.held t b inside h);
       }
 
-  pub within_sections : Sections {K = K} {V = V} Within
-  within_sections = record { opens = λ size w r t inside. inside_open deferred_word size w r t inside; events = over_events; rows = over_row }
+  pub within_sections : Sections {K = K} {V = V} Within Within
+  within_sections = record {
+    opens = λ size w r t inside. inside_open deferred_word size w r t inside;
+    opens_then = λ size w r t inside. inside_open deferred_word size w r t inside;
+    events = over_events;
+  }
 
 module _ {K V : Type 0} (same : K → K → Bool) (hash : ℕ → K → ℕ) (name : ℕ → List ℕ) (m : Moment K V) (known : Known) (s : Scene K V) (old new : Held K V) (at : IsAt same hash old s)
     (shown : Shows same name m known s) (map i : ℕ) (u : UnderWay K V K) (here : s.calls map i ≡ Some u) (told : Progress (Node K V)) (leads : StepLeads same hash i told s old new)
-    (On : World (Node K V) → ℕ → Type 0) (sections : Sections On) where
+    (On On2 : World (Node K V) → ℕ → Type 0) (sections : Sections On On2) (rows : GoOnByRows On On2 i) where
   abbrev to : WentTo same hash name m known s old new at shown map i u here told leads
   to = went_to same hash name m known s old new at shown map i u here told leads
 
   abbrev Onward : World (Node K V) → Type 0
-  Onward w2 = GoOn (On s.world) (On w2) s.world w2
+  Onward w2 = GoOn (On s.world) (On2 w2) s.world w2
 
   came : CameAbout to.0.setting.batch_size s.world
   came = (at.together.makings.standing.each map to.0 to.2).ground.came
@@ -95,7 +103,7 @@ module _ {K V : Type 0} (same : K → K → Bool) (hash : ℕ → K → ℕ) (na
       subst Onward (sym is) (sections.events to.0.setting.batch_size s.world w2 (came_reached to.0.setting.batch_size s.world came) events users runs)
 
   by_row : (w2 : World (Node K V)) → to.4.w2 ≡ w2 → IsOneStep to.0.setting i s.world w2 → Onward to.4.w2
-  by_row w2 is step = subst Onward (sym is) (sections.rows to.0.setting i s.world w2 came step)
+  by_row w2 is step = subst Onward (sym is) (rows to.0.setting s.world w2 came step)
 
   pub call_goes_on : Onward to.4.w2
   call_goes_on = by u to.4.did
