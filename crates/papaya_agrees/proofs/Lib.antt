@@ -3,7 +3,7 @@ mod Leads
 mod Lists
 mod Opens
 mod Rows
-mod Slots
+pub mod Slots
 pub mod Guards
 pub mod Entries
 pub mod Calls
