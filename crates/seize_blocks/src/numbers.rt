@@ -10,14 +10,13 @@ use crate::part::{Part, places_in};
 use crate::plot::{fits, lay_strip, skip_of, take_back};
 use crate::rule::Rule;
 use std::ptr::NonNull;
-use std::sync::atomic::Ordering::SeqCst;
 
-/// The index itself, or the first one where there are not so many.
+/// The index itself, or what is left of it round at so many.
 fn within(index: u64, count: u64) -> u64
     requires { 0 < count }
     ensures { result < count }
 {
-    if index < count { index } else { 0 }
+    if index < count { index } else { index % count }
 }
 
 impl<T, R: Rule<T>> Blocks<T, R> {
@@ -108,7 +107,6 @@ impl<T, R: Rule<T>> Blocks<T, R> {
                 .by(&part.strip)
                 .claim(part.first + index, index * 5 + part.skip + 4);
             if found == 0 {
-                self.next.store(part.first + index + 1, SeqCst);
                 return Some((index, claim));
             }
             next = index + 1;
@@ -131,11 +129,10 @@ impl<T, R: Rule<T>> Blocks<T, R> {
         self.part_behind(door, first)
     }
 
-    /// A number of the strip in which the last one was claimed, if one is free there.
-    fn near(&self) -> Option<(Part<T>, u64, Claim)>
+    /// A number of the strip of this one, if one is free there: from this one on.
+    fn near(&self, from: u64) -> Option<(Part<T>, u64, Claim)>
         ensures { IfSome result (λ c. IsClaimed self.now.words.id c) }
     {
-        let from = self.next.load(SeqCst);
         if from >= MOST {
             return None;
         }
@@ -148,13 +145,13 @@ impl<T, R: Rule<T>> Blocks<T, R> {
         }
     }
 
-    /// A number of any strip. Where none is free a strip more is laid.
-    fn anywhere(&self) -> Option<(Part<T>, u64, Claim)>
+    /// A number of any strip, in each from this index on, round at its end. Where none is free a strip more is laid.
+    fn anywhere(&self, from: u64) -> Option<(Part<T>, u64, Claim)>
         ensures { IfSome result (λ c. IsClaimed self.now.words.id c) }
     {
         let mut part = self.first_part();
         for door in 0..33 {
-            if let Some((index, claim)) = self.claim_in(&part, 0) {
+            if let Some((index, claim)) = self.claim_in(&part, from) {
                 return Some((part, index, claim));
             }
             match self.next_part(&part, door) {
@@ -165,16 +162,16 @@ impl<T, R: Rule<T>> Blocks<T, R> {
         None
     }
 
-    /// A number that was free and is claimed now, with its strip and its index in it, for a block without words of its own.
-    pub(crate) fn number(&self, words: u64) -> Option<(Part<T>, u64, Claim)>
+    /// A number that was free and is claimed now, with its strip and its index in it, for a block without words of its own. It is looked for from this one on.
+    pub(crate) fn number(&self, from: u64, words: u64) -> Option<(Part<T>, u64, Claim)>
         ensures { IfSome result (λ c. (words ≡ 0) × IsClaimed self.now.words.id c) }
     {
         if words != 0 {
             return None;
         }
-        match self.near() {
+        match self.near(from) {
             Some(claimed) => Some(claimed),
-            None => self.anywhere(),
+            None => self.anywhere(from),
         }
     }
 }

@@ -1,4 +1,4 @@
-//! The words, and what one step of a seat does to them: one atomic operation on a word, or none.
+//! The words, and what one step of a seat does to them: one atomic operation on a word, or none. And the doors behind which further strips lie.
 ghost use Rattle.std.specs.Prelude.{◌≡◌, ℕ, ◌+◌, ◌-◌, ◌*◌, ◌^◌, ◌<◌, ◌≤◌, Some, None, true, Ok, Err, IfErr, length, slice_index, slice_index_or};
 ghost use denote.RawPtr.{InBlock, Testable, null_ptr};
 ghost use Rattle.core.specs.Mem.Slots.Ownership.{Filled};
@@ -219,7 +219,7 @@ impl<T, R: Rule<T>> Words<T, R> {
         }
     }
 
-    /// The words of a strip of the same memory, for as long as both are borrowed.
+    /// The words of a strip of the same memory, for as long as both are borrowed. A strip is laid out as they are: both are one address.
     pub(crate) fn by<'g>(&'g self, strip: &'g Strip<T>) -> &'g Words<T, R>
         requires { (core_of strip.now.id ≡ core_of self.now.id) × InBlock strip.now.words }
         ensures { (result.now.words ≡ strip.now.words) × (result.now.id ≡ strip.now.id) × (result.now.fixed ≡ self.now.fixed)

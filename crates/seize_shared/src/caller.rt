@@ -5,16 +5,16 @@ ghost use Rattle.seize.specs.World.{HasListWord};
 ghost use Rattle.seize.specs.declared.states.TheConstants.{LAST_SLOT};
 ghost use Rattle.seize.specs.declared.rows.register.Registering.TheVariants.{Take};
 ghost use Rattle.seize_seats.specs.Lendings.{IsValueOf};
-ghost use Rattle.seize_shared.specs.Promises.{IsLooking};
+ghost use Rattle.seize_shared.specs.Promises.{IsLooking, IsTaker};
 ghost use Rattle.seize_shared.specs.Rows.{Holds};
 ghost use Rattle.seize_shared.specs.Seeking.{row_at, seeks};
 ghost use Rattle.seize_shared.specs.Told.{seen_as, cut_as, made_beside};
-ghost use Rattle.seize_shared.specs.declared.view.View.TheVariants.{Rests, Registers, Outside, Owes, Inside};
+ghost use Rattle.seize_shared.specs.declared.view.View.TheVariants.{Rests, Registers, Outside, Owes, Inside, Bears};
 ghost use Rattle.seize_shared.specs.declared.view.Has.{Has};
 ghost use Rattle.seize_shared.specs.declared.view.Has.TheVariants.{Nothing, Made, Seen, Cut};
 
 use crate::rows::OfRows;
-use crate::turns::{Entering, Freeing, Registering};
+use crate::turns::{Entering, Freeing, Handing, Registering};
 use seize::rows::{Defers, needed_bucket};
 use seize::states::{ACTIVE, FREE, HEAD, IDLE, LAST_SLOT, NEVER};
 use seize_blocks::{Blocks, Seat};
@@ -25,6 +25,7 @@ pub struct Caller<'a, T: Defers> {
     pub(crate) blocks: &'a Blocks<T, OfRows>,
     pub(crate) batch_size: u64,
     pub(crate) seat: Seat<T, OfRows>,
+    pub(crate) near: u64,
     ghost own: { seat.base ≡ blocks.now.words.id.views_name },
     ghost sized: { blocks.now.words.fixed.batch_size ≡ batch_size },
 }
@@ -41,6 +42,7 @@ impl<'a, T: Defers> Caller<'a, T> {
             blocks,
             batch_size,
             seat,
+            near: 0,
         }
     }
 
@@ -96,6 +98,7 @@ impl<'a, T: Defers> Caller<'a, T> {
         self.begin()?;
         for slot in 0..LAST_SLOT + 1 {
             if self.tries(slot)? {
+                self.near = self.blocks.beginning(slot);
                 return Ok(slot);
             }
         }
@@ -133,7 +136,9 @@ impl<'a, T: Defers> Caller<'a, T> {
         ensures blocks { self.new.blocks ≡ self.old.blocks }
     {
         match words_for(&value) {
-            Some(words) => self.blocks.make(&mut self.seat, value, words),
+            Some(words) => self
+                .blocks
+                .make(&mut self.seat, &mut self.near, value, words),
             None => Err(value),
         }
     }
@@ -148,7 +153,9 @@ impl<'a, T: Defers> Caller<'a, T> {
         ensures blocks { self.new.blocks ≡ self.old.blocks }
     {
         match words_for(&value) {
-            Some(words) => self.blocks.make(&mut self.seat, value, words),
+            Some(words) => self
+                .blocks
+                .make(&mut self.seat, &mut self.near, value, words),
             None => Err(value),
         }
     }
@@ -235,6 +242,18 @@ impl<'a, T: Defers> Caller<'a, T> {
         named(old)
     }
 
+    /// Takes over a block that another seat has unlinked, which has no slot. What it has seen it doesn't know any more.
+    pub(crate) fn takes_over(&mut self, _slot: u64, seat: &mut Seat<T, OfRows>, _block: u64)
+        requires own { seat.old.base ≡ self.old.blocks.now.words.id.views_name }
+        requires bears { seat.old.view ≡ Bears _block }
+        requires takes { IsTaker self.old.seat.view }
+        ensures outside { self.old.seat.view ≡ Outside _slot → self.new.seat.view ≡ Owes _slot _block }
+        ensures inside { (has : Has T) → IsLooking has → self.old.seat.view ≡ Inside _slot has → self.new.seat.view ≡ Inside _slot (Cut _block) }
+        ensures blocks { self.new.blocks ≡ self.old.blocks }
+    {
+        self.blocks.meet::<Handing>(seat, &mut self.seat);
+    }
+
     /// Sees which block is at a root. Its section holds it from now on. What it has seen before it doesn't know any more.
     pub fn see(&mut self, _slot: u64, root: u64) -> Option<u64>
         requires inside { (has : Has T) × IsLooking has × (self.old.seat.view ≡ Inside _slot has) }
@@ -283,12 +302,13 @@ impl<'a, T: Defers> Drop for Caller<'a, T> {
             blocks: _,
             batch_size: _,
             seat: _,
+            near: _,
         } = self;
     }
 }
 
 /// How many words a block of this value has, if they can be counted.
-fn words_for<T: Defers>(value: &T) -> Option<u64>
+pub(crate) fn words_for<T: Defers>(value: &T) -> Option<u64>
     ensures words { IfSome result (λ words. HasListWord T.defers (T.defers value.now) words) }
 {
     match value.deferred() {
@@ -298,7 +318,7 @@ fn words_for<T: Defers>(value: &T) -> Option<u64>
 }
 
 /// The block that a word of a root names.
-fn named(word: u64) -> Option<u64>
+pub(crate) fn named(word: u64) -> Option<u64>
     ensures some { IfSome result (λ block. (block ≡ block_in word) × (block < 2 ^ 53) × (block ≢ 0)) }
     ensures none { IfNone result (block_in word ≡ 0) }
 {
