@@ -24,7 +24,6 @@ use Rattle.papaya_effects.specs.declared.role.Role.{Role}
 use Rattle.papaya_effects.specs.declared.role.Role.TheVariants as role
 use Rattle.papaya_follows.proofs.OfEach.{OfEach, operation_so, taken_so}
 use Rattle.papaya_others.proofs.RowPlans.{TellsRow}
-use Rattle.papaya_logged.proofs.Reclaiming.Rows.{EmptiesRoot}
 
 -- Tables that are linked are of other maps, and of those that become the root's this is so.
 module _ (n : ℕ) (Promotes : Table → Type 0) where
@@ -168,6 +167,12 @@ module _ {K V : Type 0} (n : ℕ) where
         pairs = λ k is. pairs_other n acted other m.deferred f m.place k (rest.pairs k is);
         tables = λ none. rest.tables (no_tables_by (λ t. t.map ≢ n) caller acted f m all.0 none);
       }
+
+-- a root is emptied, or given up
+abbrev pub EmptiesRoot : Changed → Type 0
+EmptiesRoot (changed.Wrote (Root r) old new) = new ≡ 0
+EmptiesRoot (changed.Wrote (Used r) old new) = Unit {0}
+EmptiesRoot told = ⊥
 
 -- What who acts links is of the map on which it acts.
 module _ (n : ℕ) (Promotes : Table → Type 0) where

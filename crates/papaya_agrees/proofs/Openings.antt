@@ -27,7 +27,7 @@ use Rattle.papaya_schedules.specs.Moment.{Moment}
 use Rattle.papaya_effects.specs.Effects.{effects_of}
 use Rattle.papaya_effects.specs.Known.{Known}
 use Rattle.papaya_effects.specs.declared.acting.Acting.{Acting}
-use Rattle.papaya_logged.proofs.MakingAsks.{told_back}
+use Rattle.papaya_others.proofs.Outcomes.{told_in}
 use Rattle.papaya_deeds.specs.Deeds.{Deed, MapComes, Makes, MapFails, Ends, MapGoes, acted_on}
 use Rattle.papaya_played.specs.Play.{Ending, ending_deed, has_root, is_over, making_deed, pairs_for}
 use Rattle.papaya_agrees.specs.Fresh.{comes_with}
@@ -105,7 +105,7 @@ module _ {K V : Type 0} (c : NewMap) (m n : Mem (Node K V)) (told : Changed) (en
   root_kept openings.Takes is has steps = absurd (cc has)
   root_kept (openings.Refused fault) is has steps = absurd (cc has)
   root_kept openings.Shards is has steps = made_keeps steps.0 is steps.2
-  root_kept (openings.Tables making) is has steps = let x = told_back (opened c) m n changed.Nothing told (new_table_plan making) end steps in by_end (opened c x.0) x.2 (opened_keeps c x.0)
+  root_kept (openings.Tables making) is has steps = let x = told_in m n told (opened c) (new_table_plan making) end steps in by_end (opened c x.0) x.1 (opened_keeps c x.0)
   root_kept (openings.Unmakes fault) is has steps = by_end _ steps.2 (λ none. absurd (cc none))
   root_kept (openings.Frees fault) is has steps = by_end _ steps.2 (λ none. tt)
   root_kept openings.Over is has steps = by_end _ steps.1 (λ none. absurd (cc (ap has_root is, none)))

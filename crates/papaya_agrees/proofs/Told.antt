@@ -1,25 +1,29 @@
 -- What the steps of rows, and of who reclaims all, tell as they are played: of words of slots and entries, room for slots, blocks that are taken away, and roots emptied.
 use Rattle.std.specs.Prelude.{◌==◌, ◌⊎◌, Bool, Option, Some, None, option_map, if◌then◌else◌}
-use Rattle.std.proofs.Common.{◌≡◌, ℕ, true, false, inl, inr, refl, subst}
+use Rattle.std.proofs.Common.{◌≡◌, ℕ, true, false, inl, inr, refl, subst, sym}
 use Rattle.seize_acts.specs.Answers.{Grant, stepped}
 use Rattle.seize_acts.proofs.Answers.{same_some}
 use Rattle.papaya_scenes.specs.Given.SeizeWords.Mem.{Mem}
 use Rattle.papaya_scenes.specs.Given.SeizeWords.declared.at.At.TheVariants.{Root, Used}
 use Rattle.papaya_scenes.specs.Given.Seize.Enter.{enter_plan, unregister_plan}
 use Rattle.papaya_scenes.specs.Given.Seize.Leave.{leave_plan}
-use Rattle.papaya_scenes.specs.Given.Seize.ReclaimAll.{reclaim_all_plan}
+use Rattle.papaya_scenes.specs.Given.Seize.ReclaimAll.{next_batch, next_head, plan_at, reclaim_all_plan, standing, within}
 use Rattle.papaya_scenes.specs.Given.Seize.Register.{register_plan}
 use Rattle.papaya_scenes.specs.Given.Seize.Settle.{settle_plan}
 use Rattle.papaya_scenes.specs.Given.Seize.declared.rows.leave.Leave.{Leave}
 use Rattle.papaya_scenes.specs.Given.Seize.declared.rows.leave.Leaving.{Leaving}
 use Rattle.papaya_scenes.specs.Given.Seize.declared.rows.leave.Leaving.TheVariants as leaves
 use Rattle.papaya_scenes.specs.Given.Seize.declared.rows.reclaim_all.ReclaimAll.{ReclaimAll}
+use Rattle.papaya_scenes.specs.Given.Seize.declared.rows.reclaim_all.Reclaiming.{Reclaiming}
+use Rattle.papaya_scenes.specs.Given.Seize.declared.rows.reclaim_all.Reclaiming.TheVariants as at
 use Rattle.papaya_scenes.specs.Given.Seize.declared.rows.register.Registering.{Registering}
 use Rattle.papaya_scenes.specs.Given.Seize.declared.rows.register.Registering.TheVariants as registers
+use Rattle.papaya_scenes.specs.Given.Seize.declared.rows.settle.Settle.{Settle}
 use Rattle.papaya_scenes.specs.Given.Seize.declared.rows.settle.Settled.{Settled}
 use Rattle.papaya_scenes.specs.Given.Seize.declared.states.TheConstants.{ACTIVE}
 use Rattle.papaya_scenes.specs.Given.Tables.Nodes.{deferred_word, was_left}
 use Rattle.papaya_scenes.specs.Given.Tables.declared.node.Node.{Node}
+use Rattle.papaya_scenes.specs.Given.Teller.Tells.{StepsTold}
 use Rattle.papaya_scenes.specs.Given.Teller.declared.changed.Changed.{Changed}
 use Rattle.papaya_scenes.specs.Given.Teller.declared.changed.Changed.TheVariants as changed
 use Rattle.papaya_scenes.specs.OnSlots.{RowSteps}
@@ -29,13 +33,14 @@ use Rattle.papaya_scenes.specs.declared.row.RowTold.{RowTold}
 use Rattle.papaya_scenes.specs.declared.row.SlotRow.{SlotRow}
 use Rattle.papaya_scenes.specs.declared.row.SlotRow.TheVariants as rows
 use Rattle.papaya_others.proofs.RowPlans.{TellsRow, row_tells}
-use Rattle.papaya_logged.proofs.Reclaiming.Rows.{EmptiesRoot, reclaiming_tells}
+use Rattle.papaya_others.proofs.Outcomes.{told_in}
 use Rattle.papaya_schedules.specs.Moment.{Moment}
 use Rattle.papaya_acts.specs.AsSteps.{changed_of, row_changed}
 use Rattle.papaya_acts.proofs.AsSteps.Told.{was_told}
 use Rattle.papaya_deeds.specs.Deeds.{Deed, Leaves, Opens, ReclaimsAll, Registers, Shuts, Tends, acted_on}
 use Rattle.papaya_played.specs.Play.{leaves_as, registers_as, row_deed, slot_row_steps}
 use Rattle.papaya_agrees.specs.Fresh.{comes_with}
+use Rattle.papaya_agrees.proofs.Elsewhere.{EmptiesRoot}
 use Rattle.papaya_agrees.proofs.Fresh.{BeginsElsewhere}
 use Rattle.papaya_agrees.proofs.Known.{MakesSome}
 
@@ -69,10 +74,32 @@ module _ {K V : Type 0} (g : Grant) (m : Mem (Node K V)) (end : Mem (Node K V) �
   row_says row is = row_tells m end.0 (row_changed (row_of row) g m) end.1 row (row_stepped_so row is)
 
 -- and who reclaims all
+module _ {K V : Type 0} (m n : Mem (Node K V)) (told : Changed) (end : ReclaimAll × Settled (Node K V)) where
+  as_row : (x : Changed) → told ≡ x → TellsRow x → TellsRow told ⊎ EmptiesRoot told
+  as_row x is so = inl (subst TellsRow (sym is) so)
+
+  all_tell : (c : ReclaimAll) (p : Reclaiming) → StepsTold K V (ReclaimAll × Settled (Node K V)) m changed.Nothing (plan_at deferred_word was_left c p) n told end → TellsRow told ⊎ EmptiesRoot told
+  all_tell c (at.Heads slot) s = as_row _ s.1.1 tt
+  all_tell c (at.Retakes slot) s = as_row _ s.1.1 tt
+  all_tell c (at.Leaves slot leave) s =
+      let it = told_in m n told (within (λ (l : Leave). standing c (at.Leaves slot l)) (next_head c slot)) (leave_plan deferred_word leave) end s in
+      inl (row_tells m n told (rows.Leaves it.0.0, of_settling it.0.1) (rows.Leaves leave) (it.0, it.2, refl))
+  all_tell c (at.Batches slot) s = as_row _ s.1.1 tt
+  all_tell c (at.Flushes slot settle) s =
+      let it = told_in m n told (within (λ (l : Settle). standing c (at.Flushes slot l)) (next_batch (record c { again = true }) slot)) (settle_plan deferred_word settle) end s in
+      inl (row_tells m n told (rows.Flushes it.0.0, of_settling it.0.1) (rows.Flushes settle) (it.0, it.2, refl))
+  all_tell c (at.Frees slot) s = as_row _ s.1.1 tt
+  all_tell c (at.Roots root) s = as_row _ s.1.1 tt
+  all_tell c (at.Nexts root block) s = as_row _ s.1.1 tt
+  all_tell c (at.Takes root block next) s = as_row _ s.1.1 tt
+  all_tell c (at.Empties root) s = inr (subst EmptiesRoot (sym s.1.1) refl)
+  all_tell c (at.Unuses root) s = inr (subst EmptiesRoot (sym s.1.1) tt)
+  all_tell c at.Over s = as_row changed.Nothing s.2 tt
+
 pub all_say : {K V : Type 0} (g : Grant) (m : Mem (Node K V)) (c : ReclaimAll) (end : Mem (Node K V) × (ReclaimAll × Settled (Node K V))) → stepped m g (reclaim_all_plan deferred_word was_left c) ≡ Some end
     → (let told = changed_of m g (reclaim_all_plan deferred_word was_left c) in TellsRow told ⊎ EmptiesRoot told)
 all_say g m c end is =
-    let plan = reclaim_all_plan deferred_word was_left c in reclaiming_tells m end.0 (changed_of m g plan) c c.stands end.1 (was_told m g plan end is)
+    let plan = reclaim_all_plan deferred_word was_left c in all_tell m end.0 (changed_of m g plan) end.1 c c.stands (was_told m g plan end is)
 
 -- No row makes a block.
 pub row_makes : (told : Changed) → TellsRow told → MakesSome told

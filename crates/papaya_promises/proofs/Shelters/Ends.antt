@@ -31,7 +31,7 @@ use Rattle.papaya_promises.specs.Sheltered.{AreShelteredOn, GuardsAreOn}
 use Rattle.papaya_promises.proofs.Shelters.Lasting.{Lasts, of_map, all_last, guards_last}
 use Rattle.papaya_promises.proofs.Shelters.Noted.{more_noted}
 use Rattle.papaya_promises.proofs.Shelters.Outs.{TakeNothing, calm_nothing, keep_all}
-use Rattle.papaya_histories.specs.Given.Scenes.Ending.{EndingComesTo, EndingStepsFrom}
+use Rattle.papaya_histories.specs.Given.Scenes.Ending.{EndingLeads, EndingComesTo, EndingStepsFrom}
 use Rattle.papaya_histories.specs.Given.Scenes.Held.{Held, IsAt}
 use Rattle.papaya_histories.specs.Given.Scenes.Scene.{Scene, slot_of}
 

@@ -51,7 +51,7 @@ use Rattle.papaya_promises.proofs.Shelters.Noted.{more_noted}
 use Rattle.papaya_promises.proofs.Shelters.Outs.{TakeNothing, calm_nothing, keep_all}
 use Rattle.papaya_promises.proofs.Shelters.Within.{GoOn, Sections, Within, within_sections}
 use Rattle.papaya_histories.specs.Given.Scenes.Held.{Held, IsAt}
-use Rattle.papaya_histories.specs.Given.Scenes.Making.{MakingComesTo, MakingStepsFrom}
+use Rattle.papaya_histories.specs.Given.Scenes.Making.{MakingComesTo, MakingLeads, MakingStepsFrom}
 use Rattle.papaya_histories.specs.Given.Scenes.Scene.{Scene, slot_of}
 
 module _ {K V : Type 0} (same : K → K → Bool) (hash : ℕ → K → ℕ) (name : ℕ → List ℕ) (m : Moment K V) (known : Known) (s : Scene K V) (old new : Held K V) (at : IsAt same hash old s)
