@@ -97,7 +97,7 @@ module _ {K V S : Type 0} (same : K → K → Bool) (hash : S → K → ℕ) (ba
   acts_leave (BeginsEnding i m) none (at, there, is) = leaves _ is (record { come = λ n not. not; makers = λ j d has. has })
   acts_leave (StepsEnding i g) none (f, has, end, came, is) =
       leaves _ is
-      (record { come = λ n not. ap (λ (q : Bool). if q then true else has_come n x.history) (ending_comes_none {K = K} {V = V} f end.1.1 n) ∙ not; makers = λ j d has. has })
+      (record { come = λ n not. ap (λ (q : Bool). if q then true else has_come n x.history) (ending_comes_none K V f end.1.1 n) ∙ not; makers = λ j d has. has })
   acts_leave (BeginsRow i request) none (called, there, is) = leaves _ is (record { come = λ n not. not; makers = λ j d has. has })
   acts_leave (StepsRow i g) none (row, has, end, came, is) =
       leaves _ is
@@ -112,12 +112,12 @@ module _ {K V S : Type 0} (same : K → K → Bool) (hash : S → K → ℕ) (ba
     others_come_none : (n : ℕ) → b.map ≢ n → has_come n x.history ≡ false → has_come n y.history ≡ false
     others_come_none n other not =
         ap (λ (z : State K V S). has_come n z.history) is
-        ∙ ap (λ (q : Bool). if q then true else has_come n x.history) (no_other_comes {K = K} {V = V} b.map b.machine end.1.0 n (ne_eqb b.map n other)) ∙ not
+        ∙ ap (λ (q : Bool). if q then true else has_come n x.history) (no_other_comes K V b.map b.machine end.1.0 n (ne_eqb b.map n other)) ∙ not
 
     rootless_comes_none : has_root end.1.0.stands ≡ false → (n : ℕ) → has_come n x.history ≡ false → has_come n y.history ≡ false
     rootless_comes_none none n not =
         ap (λ (z : State K V S). has_come n z.history) is
-        ∙ ap (λ (q : Bool). if q then true else has_come n x.history) (none_comes {K = K} {V = V} b.map b.machine end.1.0 none n) ∙ not
+        ∙ ap (λ (q : Bool). if q then true else has_come n x.history) (none_comes K V b.map b.machine end.1.0 none n) ∙ not
 
     -- each maker then is another one, or goes on as its machine does
     makers_then : (P : ℕ → Making S → Type 0) → ((IsRefused end.1.1 → ⊥) → P i (record b { machine = end.1.0 })) → ((j : ℕ) (d : Making S) → x.now.makers j ≡ Some d → (j ≢ i) → P j d) → (j : ℕ) (d : Making S)
@@ -290,9 +290,9 @@ module _ {K S : Type 0} (V : Type 0) (same : K → K → Bool) (by_hasher : S �
   -- no other is made with that number, where a making may begin
   made_alone : (p : At V same by_hasher hash batch_size roots) (x : State K V S) → Is V same by_hasher hash batch_size roots aborts p x → (act : Act K V S) → MayBe same by_hasher batch_size roots slot_of act p.0
       → IsMadeAlone x act
-  made_alone p x is (BeginsMaking i map hasher given places) may j d has e =
-      let it = mapped made_so (p.0.makers j) (makes_so by_hasher d) (sym (is.scene.makers j) ∙ ap (option_map (makes_so by_hasher)) has) in
-      may.2 j it.0 it.1 (e ∙ sym (ap (λ (q : ℕ × ((K → ℕ) × NewMap)). q.0) it.2))
+  made_alone p x is (BeginsMaking i map hasher given places) may = λ j d has e.
+      (let it = mapped made_so (p.0.makers j) (makes_so by_hasher d) (sym (is.scene.makers j) ∙ ap (option_map (makes_so by_hasher)) has) in
+      may.2 j it.0 it.1 (e ∙ sym (ap (λ (q : ℕ × ((K → ℕ) × NewMap)). q.0) it.2)))
   made_alone p x is (BeginsCall i m wanted) may = tt
   made_alone p x is (StepsCall i m g) may = tt
   made_alone p x is (TellsCall i m reply) may = tt

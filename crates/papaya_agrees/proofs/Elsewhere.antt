@@ -70,19 +70,17 @@ module _ (n : ℕ) (t : Table) where
 
   found_other : t.map ≢ n → (fs : List MapThere) → find (λ f. f.number == n) (map (promoted t) fs) ≡ find (λ f. f.number == n) fs
   found_other other [] = refl
-  found_other other (f ∷ fs) = by (f.number == t.map) refl
+  found_other other (f ∷ fs) = by (f.number == t.map) refl (found_other other fs)
     where
       rest : Option MapThere
       rest = find (λ g. g.number == n) (map (promoted t) fs)
 
-      later : rest ≡ find (λ g. g.number == n) fs
-      later = found_other other fs
-
-      by : (q : Bool) → (f.number == t.map) ≡ q → cond ((if q then record f { first = t.turn } else f).number == n) (Some (if q then record f { first = t.turn } else f)) rest ≡ cond (f.number == n) (Some f) (find (λ g. g.number == n) fs)
-      by true e =
+      by : (q : Bool) → (f.number == t.map) ≡ q → rest ≡ find (λ g. g.number == n) fs
+          → cond ((if q then record f { first = t.turn } else f).number == n) (Some (if q then record f { first = t.turn } else f)) rest ≡ cond (f.number == n) (Some f) (find (λ g. g.number == n) fs)
+      by true e later =
           let not : (f.number == n) ≡ false = ne_eqb f.number n (λ is. other (sym (eqb-true f.number t.map e) ∙ is)) in
           ap (λ (q : Bool). cond q (Some (record f { first = t.turn })) rest) not ∙ later ∙ sym (ap (λ (q : Bool). cond q (Some f) (find (λ g. g.number == n) fs)) not)
-      by false e = ap (λ (o : Option MapThere). cond (f.number == n) (Some f) o) later
+      by false e later = ap (λ (o : Option MapThere). cond (f.number == n) (Some f) o) later
 
 -- a map without tables has none at another stage either
 module _ (n : ℕ) (t : Table) (stage : Stage) where

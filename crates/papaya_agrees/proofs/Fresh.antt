@@ -28,6 +28,32 @@ use Rattle.papaya_agrees.proofs.Lists.{all_kept, found_so}
 abbrev pub AnyTable : Table → Type 0
 AnyTable t = Unit {0}
 
+module _ (n : ℕ) where
+  -- no map is there with a number with which none was
+  no_map_by : (f : Effect) (maps : List MapThere) → find (λ g. g.number == n) maps ≡ None → find (λ g. g.number == n) (maps_by f maps) ≡ None
+  no_map_by (effect.Promoted t) maps none = none_promoted n t maps none
+  no_map_by _ maps none = none
+
+  -- among those that are kept none is found either
+  none_kept : (keep : MapThere → Bool) (maps : List MapThere) → find (λ g. g.number == n) maps ≡ None → find (λ g. g.number == n) (filter keep maps) ≡ None
+  none_kept keep [] none = refl
+  none_kept keep (f ∷ maps) none = by (keep f) (f.number == n) refl (none_kept keep maps) none
+    where
+      by : (p q : Bool) → (f.number == n) ≡ q → (find (λ g. g.number == n) maps ≡ None → find (λ g. g.number == n) (filter keep maps) ≡ None)
+          → cond q (Some f) (find (λ g. g.number == n) maps) ≡ None → find (λ g. g.number == n) (if p then f ∷ filter keep maps else filter keep maps) ≡ None
+      by p true e rest is = absurd (cc is)
+      by true false e rest is = ap (λ (z : Bool). cond z (Some f) (find (λ g. g.number == n) (filter keep maps))) e ∙ rest is
+      by false false e rest is = rest is
+
+  -- if there are effects, they are on another map
+  abbrev pub ActsElsewhere : Option ℕ → List Effect → Type 0
+  ActsElsewhere acted [] = Unit {0}
+  ActsElsewhere acted (f ∷ effects) = acted ≢ Some n
+
+  pub acts_elsewhere : (acted : Option ℕ) (effects : List Effect) → acted ≢ Some n → ActsElsewhere acted effects
+  acts_elsewhere acted [] other = tt
+  acts_elsewhere acted (f ∷ effects) other = other
+
 module _ {K V : Type 0} (n : ℕ) where
   abbrev pub OnOther : UnderWay K V → Type 0
   OnOther c = c.map ≢ n
@@ -64,33 +90,20 @@ module _ {K V : Type 0} (n : ℕ) where
   calls_other None f m acted all = all
   calls_other (Some own) f m acted all = changed_other (call_by m f) (changed_same m f) own m.calls all
 
-  no_map_by : (f : Effect) (maps : List MapThere) → find (λ g. g.number == n) maps ≡ None → find (λ g. g.number == n) (maps_by f maps) ≡ None
-  no_map_by (effect.Promoted t) maps none = none_promoted n t maps none
-  no_map_by _ maps none = none
-
   effect_fresh : (caller : Option (List ℕ)) (acted : Option ℕ) → acted ≢ Some n → (f : Effect) (m : Moment K V) → LinksElsewhere n AnyTable f → IsFresh n m → IsFresh n (with_effect caller acted f m)
   effect_fresh caller acted other f m links fresh = record {
-    no_map = no_map_by f m.maps fresh.no_map;
+    no_map = no_map_by n f m.maps fresh.no_map;
     no_table = no_tables_by n AnyTable caller acted f m links fresh.no_table;
     no_pair = λ k is. fresh.no_pair k (pairs_other n acted other m.deferred f m.place k is);
     no_count = λ s. counted_other (acting caller m) f m.shards s (its_other caller m fresh.no_call) (fresh.no_count s);
     no_call = calls_other caller f m acted fresh.no_call;
   }
 
-  -- if there are effects, they are on another map
-  abbrev pub ActsElsewhere : Option ℕ → List Effect → Type 0
-  ActsElsewhere acted [] = Unit {0}
-  ActsElsewhere acted (f ∷ effects) = acted ≢ Some n
-
-  pub acts_elsewhere : (acted : Option ℕ) (effects : List Effect) → acted ≢ Some n → ActsElsewhere acted effects
-  acts_elsewhere acted [] other = tt
-  acts_elsewhere acted (f ∷ effects) other = other
-
-  effects_fresh : (caller : Option (List ℕ)) (acted : Option ℕ) (effects : List Effect) (m : Moment K V) → ActsElsewhere acted effects → AllLinkElsewhere n AnyTable effects → IsFresh n m
+  effects_fresh : (caller : Option (List ℕ)) (acted : Option ℕ) (effects : List Effect) (m : Moment K V) → ActsElsewhere n acted effects → AllLinkElsewhere n AnyTable effects → IsFresh n m
       → IsFresh n (with_effects caller acted effects m)
   effects_fresh caller acted [] m other links fresh = fresh
   effects_fresh caller acted (f ∷ effects) m other links fresh =
-      effects_fresh caller acted effects (with_effect caller acted f m) (acts_elsewhere acted effects other) links.1 (effect_fresh caller acted other f m links.0 fresh)
+      effects_fresh caller acted effects (with_effect caller acted f m) (acts_elsewhere n acted effects other) links.1 (effect_fresh caller acted other f m links.0 fresh)
 
   -- no call begins on it
   abbrev pub BeginsElsewhere : Deed K V → Type 0
@@ -112,20 +125,9 @@ module _ {K V : Type 0} (n : ℕ) where
       it = record { name = named map; number = map; root = root; mode = mode; capacity = capacity; first = 0 }
   begun_fresh _ m comes other fresh = fresh
 
-  -- among those that are kept none is found either
-  none_kept : (keep : MapThere → Bool) (maps : List MapThere) → find (λ g. g.number == n) maps ≡ None → find (λ g. g.number == n) (filter keep maps) ≡ None
-  none_kept keep [] none = refl
-  none_kept keep (f ∷ maps) none = by (keep f) (f.number == n) refl (none_kept keep maps) none
-    where
-      by : (p q : Bool) → (f.number == n) ≡ q → (find (λ g. g.number == n) maps ≡ None → find (λ g. g.number == n) (filter keep maps) ≡ None)
-          → cond q (Some f) (find (λ g. g.number == n) maps) ≡ None → find (λ g. g.number == n) (if p then f ∷ filter keep maps else filter keep maps) ≡ None
-      by p true e rest is = absurd (cc is)
-      by true false e rest is = ap (λ (z : Bool). cond z (Some f) (find (λ g. g.number == n) (filter keep maps))) e ∙ rest is
-      by false false e rest is = rest is
-
   maps_left : (d : Deed K V) (maps : List MapThere) → find (λ g. g.number == n) maps ≡ None → find (λ g. g.number == n) (maps_on d maps) ≡ None
-  maps_left (MapFails map) maps none = none_kept (λ f. not (is_same f.name (named map))) maps none
-  maps_left (MapGoes map) maps none = none_kept (λ f. not (is_same f.name (named map))) maps none
+  maps_left (MapFails map) maps none = none_kept n (λ f. not (is_same f.name (named map))) maps none
+  maps_left (MapGoes map) maps none = none_kept n (λ f. not (is_same f.name (named map))) maps none
   maps_left _ maps none = none
 
   stepped_other : (caller : Option (List ℕ)) (o : Outcome V) (cs : List (UnderWay K V)) → AllByRecursion OnOther cs → AllByRecursion OnOther (stepped caller o 1 cs)
@@ -146,7 +148,7 @@ module _ {K V : Type 0} (n : ℕ) where
   -- An entry of other numbers.
   pub record IsElsewhere (e : Entry K V) (m : Moment K V) : Type 0 where
     pub begins : BeginsElsewhere e.deed
-    pub acts : ActsElsewhere (acted_on e.deed (at_work e m)) e.effects
+    pub acts : ActsElsewhere n (acted_on e.deed (at_work e m)) e.effects
     pub links : AllLinkElsewhere n AnyTable e.effects
 
   pub entry_fresh : (e : Entry K V) (m : Moment K V) → comes_with n e.deed ≡ false → IsElsewhere e m → IsFresh n m → IsFresh n (after e m)
@@ -160,12 +162,12 @@ module _ {K V : Type 0} (n : ℕ) where
         no_call = calls_left e.deed e.outcome (worked e m).calls w.no_call;
       }
 
+if_not : (q : Bool) (b : Bool) → (if q then true else b) ≡ false → (q ≡ false) × (b ≡ false)
+if_not true b is = absurd (cc is)
+if_not false b is = (refl, is)
+
 module _ {K V : Type 0} where
   -- a number that has come has come, and one that has not had not before
-  if_not : (q : Bool) (b : Bool) → (if q then true else b) ≡ false → (q ≡ false) × (b ≡ false)
-  if_not true b is = absurd (cc is)
-  if_not false b is = (refl, is)
-
   pub not_come : (n : ℕ) (e : Entry K V) (log : List (Entry K V)) → has_come n (e ∷ log) ≡ false → (comes_with n e.deed ≡ false) × (has_come n log ≡ false)
   not_come n e log is = if_not (comes_with n e.deed) (has_come n log) is
 

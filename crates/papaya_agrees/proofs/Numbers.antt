@@ -141,9 +141,9 @@ module _ {K V S : Type 0} (x : State K V S) (here : NumbersHold x) where
       let e = entry (acting.Ending f.map) told (ending_deed f said) o in
       let ne = other f.map n (here.ended i f has) (not_come n e x.history not).1 in
       record {
-        begins = ending_begins_none f said n;
+        begins = ending_begins_none K V f said n;
         acts = acts_elsewhere n (acted_on e.deed (at_work e (moment x.history))) (effects_of (acting.Ending f.map) x.known told)
-            (λ is. ne (same_some f.map n (sym (ending_acts f said (at_work e (moment x.history))) ∙ is)));
+            (λ is. ne (same_some f.map n (sym (ending_acts K V f said (at_work e (moment x.history))) ∙ is)));
         links = acting_elsewhere n AnyTable (acting.Ending f.map) ne x.known (λ b u len is. tt) told;
       }
 
@@ -172,7 +172,7 @@ module _ {K V S : Type 0} (x : State K V S) (here : NumbersHold x) where
     acted = acted_on made_entry.deed (at_work made_entry (moment x.history))
 
     making_else : AllElse made_entry
-    making_else n not = record { begins = making_begins_none b.map b.machine end.1.0 n; acts = (by (has_root b.machine.stands) refl).0; links = (by (has_root b.machine.stands) refl).1 }
+    making_else n not = record { begins = making_begins_none K V b.map b.machine end.1.0 n; acts = (by (has_root b.machine.stands) refl).0; links = (by (has_root b.machine.stands) refl).1 }
       where
         by : (q : Bool) → has_root b.machine.stands ≡ q → ActsElsewhere n acted made_entry.effects × AllLinkElsewhere n AnyTable made_entry.effects
         by false e =
@@ -180,7 +180,7 @@ module _ {K V S : Type 0} (x : State K V S) (here : NumbersHold x) where
             (subst (ActsElsewhere n acted) (sym quiet) tt, subst (AllLinkElsewhere n AnyTable) (sym quiet) tt)
         by true e =
             let ne = other b.map n (here.made i b has e) (not_come n made_entry x.history not).1 in (
-              acts_elsewhere n acted made_entry.effects (λ is. ne (same_some b.map n (sym (making_acts b.map b.machine end.1.0 (at_work made_entry (moment x.history))) ∙ is))),
+              acts_elsewhere n acted made_entry.effects (λ is. ne (same_some b.map n (sym (making_acts K V b.map b.machine end.1.0 (at_work made_entry (moment x.history))) ∙ is))),
               acting_elsewhere n AnyTable (acting.Making b.map) ne x.known (λ b u len is. tt) change,
             )
 
@@ -190,7 +190,7 @@ module _ {K V S : Type 0} (x : State K V S) (here : NumbersHold x) where
       where
         by : (q : Bool) → has_root b.machine.stands ≡ q → has_come b.map log_then ≡ true
         by true e = still_come b.map made_entry x.history (here.made i b has e)
-        by false e = now_come b.map made_entry x.history (comes_then b.map b.machine end.1.0 e rooted)
+        by false e = now_come b.map made_entry x.history (comes_then K V b.map b.machine end.1.0 e rooted)
 
     done_then : (setting : Setting) → end.1.1 ≡ progress.Done setting → has_come b.map log_then ≡ true
     done_then setting done =

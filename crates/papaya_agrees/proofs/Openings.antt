@@ -7,14 +7,15 @@ use Rattle.papaya_scenes.specs.Given.SeizeWords.Op.{Out, Exchange, Exchanged, Ma
 use Rattle.papaya_scenes.specs.Given.SeizeWords.Plan.{Ends as EndsSo}
 use Rattle.papaya_scenes.specs.Given.SeizeWords.declared.at.At.TheVariants.{Used}
 use Rattle.papaya_scenes.specs.Given.SeizeWords.declared.fault.Fault.{Fault}
+use Rattle.papaya_scenes.specs.Given.SeizeWords.declared.fault.Fault.TheVariants.{RootsUsedUp}
 use Rattle.papaya_scenes.specs.Given.Seize.declared.progress.Progress.{Progress}
 use Rattle.papaya_scenes.specs.Given.Seize.declared.progress.Progress.TheVariants as progress
 use Rattle.papaya_scenes.specs.Given.Seize.declared.rows.settle.Settled.{Settled}
 use Rattle.papaya_scenes.specs.Given.Tables.declared.node.Node.{Node}
 use Rattle.papaya_scenes.specs.Given.Tables.declared.setting.Setting.{Setting}
 use Rattle.papaya_scenes.specs.Given.Tables.declared.table.Table.{Table}
-use Rattle.papaya_scenes.specs.Given.Resize.NewMap.{made, opened, plan_at, taken}
-use Rattle.papaya_scenes.specs.Given.Resize.NewTable.{new_table_plan}
+use Rattle.papaya_scenes.specs.Given.Resize.NewMap.{at_root, done, goes, made, opened, plan_at, refused, taken}
+use Rattle.papaya_scenes.specs.Given.Resize.NewTable.{first_table, new_table_plan}
 use Rattle.papaya_scenes.specs.Given.Resize.declared.new_map.NewMap.{NewMap}
 use Rattle.papaya_scenes.specs.Given.Resize.declared.new_map.Opening.{Opening}
 use Rattle.papaya_scenes.specs.Given.Resize.declared.new_map.Opening.TheVariants as openings
@@ -64,7 +65,10 @@ module _ {K V : Type 0} (c : NewMap) (m n : Mem (Node K V)) (told : Changed) (en
   not_done (Exchanged (Ok free)) setting ends done = cc (ap (λ (z : NewMap × Progress Setting). z.1) ends, done)
   not_done (Exchanged (Err used)) setting ends done = by (nat_lt c.setting.root (c.roots - 1)) (sym (ap (λ (z : NewMap × Progress Setting). z.1) ends) ∙ done)
     where
-      by : (q : Bool) → (if q then (record c { setting = record c.setting { root = c.setting.root + 1 } }, progress.Goes) else (record c { stands = openings.Refused _ }, progress.Refused _)).1 ≡ progress.Done setting → ⊥
+      next : Bool → NewMap × Progress Setting
+      next q = if q then (record c { setting = at_root c.setting (c.setting.root + 1) }, progress.Goes) else refused c RootsUsedUp
+
+      by : (q : Bool) → (next q).1 ≡ progress.Done setting → ⊥
       by true e = cc e
       by false e = cc e
   not_done _ setting ends done = cc (ap (λ (z : NewMap × Progress Setting). z.1) ends, done)
@@ -92,7 +96,7 @@ module _ {K V : Type 0} (c : NewMap) (m n : Mem (Node K V)) (told : Changed) (en
   by_end : (e : NewMap × Progress Setting) → end ≡ e → KeepsRoot e → KeepsRoot end
   by_end e is keeps = subst KeepsRoot (sym is) keeps
 
-  sharded : (d : NewMap) → (q : Bool) → KeepsRoot (if q then (record d { stands = openings.Over }, progress.Done d.setting) else (record d { stands = openings.Tables _ }, progress.Goes))
+  sharded : (d : NewMap) → (q : Bool) → KeepsRoot (if q then done d else goes d (openings.Tables (first_table d.setting d.len)))
   sharded d true none = absurd (cc none)
   sharded d false none = absurd (cc none)
 
@@ -111,7 +115,7 @@ module _ {K V : Type 0} (c : NewMap) (m n : Mem (Node K V)) (told : Changed) (en
   root_kept openings.Over is has steps = by_end _ steps.1 (λ none. absurd (cc (ap has_root is, none)))
 
 -- What is done as a map is made.
-module _ {K V : Type 0} (map : ℕ) (before next : NewMap) where
+module _ (K V : Type 0) (map : ℕ) (before next : NewMap) where
   abbrev deed_by : Bool → Bool → Deed K V
   deed_by b c =
       if b then (if c then Makes map else MapFails map) else (if c then MapComes map next.setting.root next.setting.mode (pairs_for next.len) else Makes map)
@@ -156,7 +160,7 @@ module _ {K V : Type 0} (map : ℕ) (before next : NewMap) where
       by false false = refl
 
 -- and what is as one ends
-module _ {K V T : Type 0} (f : Ending) (said : Settled T) where
+module _ (K V : Type 0) {T : Type 0} (f : Ending) (said : Settled T) where
   pub ending_acts : (m : Moment K V) → acted_on (ending_deed {K = K} {V = V} f said) m ≡ Some f.map
   ending_acts m = by (is_over said)
     where
