@@ -9,7 +9,7 @@ use Rattle.papaya_schedules.specs.declared.effect.Table.{Table}
 use Rattle.papaya_schedules.specs.declared.effect.Thing.TheVariants.{APair, ATable}
 use Rattle.papaya_schedules.specs.Effects.{all_at, at_stage, in_map, place_by, promoted, with_effect, with_effects}
 use Rattle.papaya_schedules.specs.Lists.{is_among, put}
-use Rattle.papaya_schedules.specs.Moment.{Place, Unborn, InMap, Out, Handed, Behind, Left, GivenBack, Deferral, MapThere, Moment, Stage, IsLinked, IsRetired, IsReclaimed, IsTaken, TableThere}
+use Rattle.papaya_schedules.specs.Moment.{Place, InMap, Out, Handed, Behind, Left, GivenBack, Deferral, MapThere, Moment, Stage, IsLinked, IsRetired, IsReclaimed, IsTaken, TableThere}
 use Rattle.papaya_schedules.specs.Things.{same_table}
 use Rattle.papaya_schedules.specs.Views.{behind, map_at, tables_of}
 use Rattle.papaya_scenes.specs.Given.SeizeWords.Word.{block_in}

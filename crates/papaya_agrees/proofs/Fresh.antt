@@ -2,7 +2,7 @@
 use Rattle.std.specs.Prelude.{◌≢◌, ◌==◌, not, cond, filter, find, map, Option, Some, None, if◌then◌else◌}
 use Rattle.std.specs.List.{AllByRecursion}
 use Rattle.std.specs.Option.{option_or}
-use Rattle.std.proofs.Common.{◌≡◌, ℕ, ◌+◌, Bool, true, false, List, [], ◌∷◌, ◌++◌, refl, ap, sym, ◌∙◌}
+use Rattle.std.proofs.Common.{◌≡◌, ℕ, ◌+◌, Bool, true, false, List, [], ◌∷◌, refl, ap, sym, ◌∙◌}
 use Rattle.std.proofs.lemmas.Bool.{ne_eqb}
 use Rattle.std.proofs.lemmas.List.Folds.{find-append}
 use Rattle.papaya_follows.proofs.Calling.{come_same, replied_same}
@@ -12,14 +12,13 @@ use Rattle.papaya_schedules.specs.After.{comes_to, replied, stepped, without_cal
 use Rattle.papaya_schedules.specs.Effects.{call_by, maps_by, shards_by, with_effect, with_effects, word_with}
 use Rattle.papaya_schedules.specs.Entry.{acting, ends_call}
 use Rattle.papaya_schedules.specs.Lists.{put}
-use Rattle.papaya_schedules.specs.Moment.{InMap, MapThere, Moment, UnderWay}
-use Rattle.papaya_schedules.specs.Views.{map_at}
+use Rattle.papaya_schedules.specs.Moment.{MapThere, Moment, UnderWay}
 use Rattle.papaya_schedules.specs.declared.effect.Effect.{Effect}
 use Rattle.papaya_schedules.specs.declared.effect.Effect.TheVariants as effect
 use Rattle.papaya_schedules.specs.declared.effect.Table.{Table}
 use Rattle.papaya_schedules.specs.declared.outcome.Outcome.{Outcome}
 use Rattle.papaya_schedules.specs.declared.outcome.Outcome.TheVariants as outcome
-use Rattle.papaya_deeds.specs.Deeds.{Deed, Begins, Steps, Replies, Stops, MapComes, MapFails, MapGoes, Entry, acted_on, after, at_work, begun, caller_of, calls_on, maps_on, moment, named, without_map, worked}
+use Rattle.papaya_deeds.specs.Deeds.{Deed, Begins, Steps, Replies, Stops, MapComes, MapFails, MapGoes, Entry, acted_on, after, at_work, begun, caller_of, calls_on, maps_on, moment, named, worked}
 use Rattle.papaya_agrees.specs.Fresh.{IsFresh, comes_with, has_come}
 use Rattle.papaya_agrees.proofs.Elsewhere.{AllLinkElsewhere, LinksElsewhere, no_tables_by, none_promoted, pairs_other}
 use Rattle.papaya_agrees.proofs.Lists.{all_kept, found_so}

@@ -1,27 +1,20 @@
 -- No block has the number 0: whatever an operation has changed, nothing is known there.
-use Rattle.std.specs.Prelude.{◌<◌, ◌≢◌, ◌==◌, ◌&&◌, nat_le, Option, Some, None, Ok, Err, if◌then◌else◌}
+use Rattle.std.specs.Prelude.{◌<◌, ◌≢◌, ◌==◌, nat_le, Ok, Err, if◌then◌else◌}
 use Rattle.std.proofs.Common.{◌≡◌, ℕ, ◌+◌, Bool, true, false, refl, ap, sym, subst, ◌∙◌, arith}
 use Rattle.std.proofs.lemmas.Bool.{ne_eqb}
 use Rattle.papaya_scenes.specs.Given.SeizeWords.Mem.{Mem, Took}
 use Rattle.papaya_scenes.specs.Given.SeizeWords.Op.{Op, Out, Load, Store, Swap, Add, Or, Exchange, Make, Take, Rewrite, Room, Found, Exchanged, Made, Roomed}
 use Rattle.papaya_scenes.specs.Given.SeizeWords.Plan.{Plan, Turn, Do}
 use Rattle.papaya_scenes.specs.Given.SeizeWords.Word.{block_in}
-use Rattle.papaya_scenes.specs.Given.SeizeWords.declared.at.At.{At}
 use Rattle.papaya_scenes.specs.Given.SeizeWords.declared.at.At.TheVariants.{Root, Used, Slot, Entry, Word}
-use Rattle.papaya_scenes.specs.Given.Seize.Enter.{enter_plan, unregister_plan}
-use Rattle.papaya_scenes.specs.Given.Seize.Leave.{leave_plan}
-use Rattle.papaya_scenes.specs.Given.Seize.Register.{register_plan}
-use Rattle.papaya_scenes.specs.Given.Seize.Settle.{settle_plan}
-use Rattle.papaya_scenes.specs.Given.Tables.Nodes.{deferred_word}
 use Rattle.papaya_scenes.specs.Given.Tables.declared.node.Node.{Node}
 use Rattle.papaya_scenes.specs.Given.Tables.declared.table_words.TheConstants.{NEXT}
 use Rattle.papaya_scenes.specs.Given.Tells.Seen.{seen_of}
 use Rattle.papaya_scenes.specs.Given.Teller.Tells.{StepsTold, told_of}
 use Rattle.papaya_scenes.specs.Given.Teller.declared.changed.Changed.{Changed}
 use Rattle.papaya_scenes.specs.Given.Teller.declared.changed.Changed.TheVariants as changed
-use Rattle.papaya_schedules.specs.Lists.{put}
 use Rattle.papaya_effects.specs.Effects.{in_block_on, in_table_on, is_place, known_after, linked_on, made_role, named, names_same, stored_on, table_at}
-use Rattle.papaya_effects.specs.Known.{Known, with_bucket, with_pair, with_role}
+use Rattle.papaya_effects.specs.Known.{Known, with_role}
 use Rattle.papaya_effects.specs.declared.acting.Acting.{Acting}
 use Rattle.papaya_effects.specs.declared.role.Role.{Role}
 use Rattle.papaya_effects.specs.declared.role.Role.TheVariants as role

@@ -25,13 +25,10 @@ use Rattle.papaya_scenes.proofs.Given.Callers.Together.At.{at_other, at_same}
 use Rattle.papaya_scenes.specs.Replying.{unless_stopped}
 use Rattle.papaya_scenes.specs.Scene.{row_of, slot_of}
 use Rattle.papaya_runs.specs.Same.{is_same}
-use Rattle.papaya_schedules.specs.Moment.{Moment, UnderWay}
-use Rattle.papaya_schedules.specs.declared.effect.Effect.{Effect}
-use Rattle.papaya_schedules.specs.declared.effect.Table.{Table}
+use Rattle.papaya_schedules.specs.Moment.{UnderWay}
 use Rattle.papaya_schedules.specs.declared.outcome.Outcome.{Outcome}
 use Rattle.papaya_schedules.specs.declared.outcome.Outcome.TheVariants as outcome
-use Rattle.papaya_effects.specs.Effects.{effects_of, known_after, map_of}
-use Rattle.papaya_effects.specs.Known.{Known}
+use Rattle.papaya_effects.specs.Effects.{effects_of, known_after}
 use Rattle.papaya_effects.specs.declared.acting.Acting.{Acting}
 use Rattle.papaya_effects.specs.declared.acting.Acting.TheVariants as acting
 use Rattle.papaya_named.specs.Seen.{kind_of}
@@ -325,14 +322,15 @@ module _ {K V S : Type 0} (same : K → K → Bool) (hash : S → K → ℕ) (ba
       (no_map_else x here change (ReclaimsAll (is_over end.1.1)) (settled_outcome end.1.1) (reclaims_all (is_over end.1.1)) (λ n. reclaiming_elsewhere n AnyTable x.known here.none change says)) (maps_kept x here e) (made_kept x here e)
       (ended_kept x here e))
 
+-- so it is, with each call noted
+abbrev pub NumbersStay : {K V S : Type 0} → State K V S → Type 0
+NumbersStay x = CallsAreNoted x × NumbersHold x
+
 -- at first nothing has come
 pub numbers_first : {K V S : Type 0} (roots : ℕ) → NumbersHold {K = K} {V = V} {S = S} (first_state roots)
 numbers_first roots = record { none = refl; fresh = λ n not. fresh_first n; maps = λ m at has. absurd (cc has); made = λ i b has rooted. absurd (cc has); ended = λ i f has. absurd (cc has) }
 
 module _ {K S : Type 0} (V : Type 0) (same : K → K → Bool) (by_hasher : S → K → ℕ) (hash : ℕ → K → ℕ) (batch_size roots : ℕ) (aborts : V) where
-  abbrev pub NumbersStay : State K V S → Type 0
-  NumbersStay x = CallsAreNoted x × NumbersHold x
-
   pub numbers_stay : StaysSo V same by_hasher hash batch_size roots aborts (Anything V same by_hasher hash batch_size roots aborts) (λ p x. NumbersStay x)
   numbers_stay = record {
     acts = λ p n x y act told own fits none none_then is is_then at may led leads at_then played so. (

@@ -6,7 +6,6 @@ use Rattle.papaya_scenes.specs.Given.SeizeWords.Mem.{Mem, value_at}
 use Rattle.papaya_scenes.specs.Given.SeizeWords.Op.{Out, Exchange, Exchanged, Made}
 use Rattle.papaya_scenes.specs.Given.SeizeWords.Plan.{Ends as EndsSo}
 use Rattle.papaya_scenes.specs.Given.SeizeWords.declared.at.At.TheVariants.{Used}
-use Rattle.papaya_scenes.specs.Given.SeizeWords.declared.fault.Fault.{Fault}
 use Rattle.papaya_scenes.specs.Given.SeizeWords.declared.fault.Fault.TheVariants.{RootsUsedUp}
 use Rattle.papaya_scenes.specs.Given.Seize.declared.progress.Progress.{Progress}
 use Rattle.papaya_scenes.specs.Given.Seize.declared.progress.Progress.TheVariants as progress

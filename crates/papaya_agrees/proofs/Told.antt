@@ -4,7 +4,6 @@ use Rattle.std.proofs.Common.{◌≡◌, ℕ, true, false, inl, inr, refl, subst
 use Rattle.seize_acts.specs.Answers.{Grant, stepped}
 use Rattle.seize_acts.proofs.Answers.{same_some}
 use Rattle.papaya_scenes.specs.Given.SeizeWords.Mem.{Mem}
-use Rattle.papaya_scenes.specs.Given.SeizeWords.declared.at.At.TheVariants.{Root, Used}
 use Rattle.papaya_scenes.specs.Given.Seize.Enter.{enter_plan, unregister_plan}
 use Rattle.papaya_scenes.specs.Given.Seize.Leave.{leave_plan}
 use Rattle.papaya_scenes.specs.Given.Seize.ReclaimAll.{next_batch, next_head, plan_at, reclaim_all_plan, standing, within}

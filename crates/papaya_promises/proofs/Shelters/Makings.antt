@@ -36,7 +36,7 @@ use Rattle.papaya_histories.specs.Given.Effects.declared.role.Role.TheVariants a
 use Rattle.papaya_histories.specs.Given.Finishes.Endings.{MakingStepsAmong}
 use Rattle.papaya_histories.specs.Given.Finishes.Makings.{Beginning}
 use Rattle.papaya_histories.proofs.Given.Follows.Operations.{LeavesBy}
-use Rattle.papaya_histories.specs.Given.Others.Makings.{making_after}
+use Rattle.papaya_histories.specs.Given.Others.Makings.{WasNew, making_after}
 use Rattle.papaya_histories.proofs.Given.Others.Leads.{word_says}
 use Rattle.papaya_histories.proofs.Given.Others.MakingPlans.{TellsMaking}
 use Rattle.papaya_histories.proofs.Given.Others.Makes.{no_table_word, tells, left}
