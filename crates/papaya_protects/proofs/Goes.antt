@@ -17,14 +17,11 @@ use Rattle.papaya_histories.proofs.Given.Callers.Together.At.{at_same}
 use Rattle.papaya_histories.proofs.Given.Callers.Together.Came.{came_reached}
 use Rattle.papaya_promises.proofs.Shelters.Within.{GoOn, GoOnByRows, Sections}
 use Rattle.papaya_agrees.proofs.Slots.{inside_shared}
+use Rattle.papaya_protects.specs.Shelters.{IsOpen}
 use Rattle.papaya_protects.proofs.Sections.{Keeps, Spares, keeps_by, keeps_same, keeps_then, step_keeps, users_keep}
 
 module _ {K V : Type 0} where
-  -- the section of a slot is open
-  abbrev pub IsOpen : World (Node K V) → ℕ → Type 0
-  IsOpen w t = is_open t w.log ≡ true
-
-  -- and no row of this caller ends it with its next step
+  -- a section is open, and no row of this caller ends it with its next step
   abbrev pub IsSpared : ℕ → World (Node K V) → ℕ → Type 0
   IsSpared i w t = IsOpen w t × Spares t w (w.row i)
 

@@ -1,2 +1,4 @@
 pub mod Sections
 pub mod Goes
+pub mod Guards
+pub mod Kinds

@@ -1,4 +1,2 @@
-//! What a list of acts gives back was in no section that is open: by its history nothing is reclaimed that left its map in a section that goes on.
+//! By its history a list of acts gives nothing back that left its map in a section that goes on.
 #![tactic(auto)]
-
-pub mod law;
