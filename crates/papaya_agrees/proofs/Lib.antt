@@ -2,7 +2,7 @@ pub mod Shards
 mod Leads
 mod Lists
 mod Opens
-mod Rows
+pub mod Rows
 pub mod Slots
 pub mod Guards
 pub mod Entries

@@ -2,3 +2,5 @@ pub mod Sections
 pub mod Goes
 pub mod Guards
 pub mod Kinds
+pub mod After
+pub mod RowSteps
