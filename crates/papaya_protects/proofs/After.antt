@@ -1,8 +1,8 @@
 -- What is sheltered after an entry of a history, by what its effects leave sheltered, and by who comes and goes; and what follows for what is reclaimed.
-use Rattle.std.specs.Prelude.{◌≢◌, ◌⊎◌, not, cond, filter, find, flat_map, Bool, true, false, Option, Some, None}
+use Rattle.std.specs.Prelude.{◌≢◌, not, cond, filter, find, flat_map, Bool, true, false, Option, Some, None}
 use Rattle.std.specs.List.{AllByRecursion}
 use Rattle.std.specs.Option.{option_or}
-use Rattle.std.proofs.Common.{◌≡◌, ℕ, List, [], ◌∷◌, ◌++◌, inl, inr, refl, ap, sym, subst, ◌∙◌}
+use Rattle.std.proofs.Common.{◌≡◌, ℕ, List, [], ◌∷◌, refl, ap, sym, subst, ◌∙◌}
 use Rattle.std.proofs.lemmas.List.Folds.{find-append}
 use Rattle.papaya_histories.specs.Given.Seize.World.{World}
 use Rattle.papaya_histories.specs.Given.Tables.declared.node.Node.{Node}

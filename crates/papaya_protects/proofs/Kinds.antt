@@ -1,6 +1,6 @@
 -- Each kind of step leaves sheltered, in sections that are open, what is so.
-use Rattle.std.specs.Prelude.{◌≡◌, ℕ, Bool, true, List, [], ◌∷◌, Some, None, Option, flat_map}
-use Rattle.std.proofs.Common.{refl, ap, sym, subst, ◌∙◌}
+use Rattle.std.specs.Prelude.{◌≡◌, ℕ, Bool, List, [], Some, None, Option, flat_map}
+use Rattle.std.proofs.Common.{ap, ◌∙◌}
 use Rattle.papaya_histories.specs.Given.Seize.Law.{is_open}
 use Rattle.papaya_histories.specs.Given.Seize.World.{Runs, World}
 use Rattle.papaya_histories.specs.Given.Seize.declared.progress.Progress.{Progress}
@@ -38,7 +38,7 @@ use Rattle.papaya_promises.proofs.Shelters.Makings.{makings_shelter_on}
 use Rattle.papaya_promises.proofs.Shelters.Rows.{row_shelters}
 use Rattle.papaya_protects.specs.Shelters.{IsOpen, SectionsShelter}
 use Rattle.papaya_protects.proofs.Goes.{IsSpared, open_sections, spared_by_rows, spared_sections}
-use Rattle.papaya_protects.proofs.Sections.{Keeps, step_keeps}
+use Rattle.papaya_protects.proofs.Sections.{step_keeps}
 
 module _ {K V : Type 0} (size i t : ℕ) where
   -- no step of an end ends a section

@@ -4,3 +4,4 @@ pub mod Guards
 pub mod Kinds
 pub mod After
 pub mod RowSteps
+pub mod Entries

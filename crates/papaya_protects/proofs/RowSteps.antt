@@ -1,5 +1,5 @@
 -- After the step of a row the open sections of those who are there shelter what they did, and nothing of that was reclaimed.
-use Rattle.std.specs.Prelude.{◌≢◌, ◌==◌, ◌&&◌, nat_lt, Bool, true, false, Option, Some, None, if◌then◌else◌}
+use Rattle.std.specs.Prelude.{◌≢◌, ◌==◌, ◌&&◌, nat_lt, Bool, true, false, if◌then◌else◌}
 use Rattle.std.specs.List.{AllByRecursion}
 use Rattle.std.proofs.Common.{◌≡◌, ℕ, List, [], ◌∷◌, refl, ap, sym, subst, ◌∙◌}
 use Rattle.papaya_histories.specs.Given.SeizeWords.declared.at.At.TheVariants.{Entry as AtEntry, Root, Slot, Used, Word}
@@ -35,7 +35,7 @@ use Rattle.papaya_histories.proofs.Given.SeizeAlone.Histories.Uses.{inside_open}
 use Rattle.papaya_others.proofs.RowPlans.{TellsRow, row_tells}
 use Rattle.papaya_promises.specs.Sheltered.{AreShelteredOn, GuardsAreOn, IsShelteredOn}
 use Rattle.papaya_promises.specs.Shelters.{NoneIsBack}
-use Rattle.papaya_promises.proofs.Lists.{all_found, all_of, IsFound}
+use Rattle.papaya_promises.proofs.Lists.{all_of}
 use Rattle.papaya_promises.proofs.Shelters.Outs.{KeepsIn, keep_all}
 use Rattle.papaya_scenes.specs.Scene.{row_of}
 use Rattle.papaya_scenes.specs.declared.row.SlotRow.{SlotRow}
@@ -48,7 +48,6 @@ use Rattle.papaya_protects.specs.Shelters.{IsOpen, SectionsShelter}
 use Rattle.papaya_protects.proofs.After.{IsCalm, opened_guards, opened_held, shelter_then, shut_guards, shut_held}
 use Rattle.papaya_protects.proofs.Goes.{IsSpared}
 use Rattle.papaya_protects.proofs.Kinds.{row_step_shelters}
-use Rattle.papaya_protects.proofs.Sections.{Spares}
 
 -- a row takes nothing out of a map
 module _ (known : Known) where

@@ -17,7 +17,7 @@ use Rattle.papaya_histories.specs.Given.Seize.declared.rows.settle.Settled.{Sett
 use Rattle.papaya_histories.specs.Given.Seize.declared.rows.settle.Settled.TheVariants as settled
 use Rattle.papaya_histories.specs.Given.Seize.declared.states.TheConstants.{LAST_SLOT}
 use Rattle.papaya_histories.proofs.Given.SeizeMoves.Moves.Blocks.{never_held}
-use Rattle.papaya_histories.proofs.Given.SeizeMoves.State.Held.{NoneLeft, NotLeft, held_beside, held_on, held_through}
+use Rattle.papaya_histories.proofs.Given.SeizeMoves.State.Held.{NoneLeft, NotLeft, held_beside, held_through}
 use Rattle.papaya_histories.proofs.Given.SeizeRule.Points.Aside.{HandFits}
 use Rattle.papaya_histories.proofs.Given.SeizeRule.Rows.Effects.{leave_goes_on, register_goes_on, settle_goes_on}
 use Rattle.papaya_histories.proofs.Given.SeizeAlone.Histories.Reached.{Reached, happens_reached}
