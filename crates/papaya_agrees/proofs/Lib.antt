@@ -1,6 +1,6 @@
 pub mod Shards
-mod Leads
-mod Lists
+pub mod Leads
+pub mod Lists
 mod Opens
 pub mod Rows
 pub mod Slots

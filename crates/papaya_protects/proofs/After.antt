@@ -17,7 +17,7 @@ use Rattle.papaya_histories.specs.Given.Schedules.Things.{same_thing}
 use Rattle.papaya_histories.specs.Given.Schedules.declared.effect.Effect.{Effect}
 use Rattle.papaya_histories.specs.Given.Schedules.declared.effect.Thing.{Thing}
 use Rattle.papaya_histories.specs.Given.Effects.Known.{Known}
-use Rattle.papaya_follows.proofs.Calling.{is_same_is, is_same_refl}
+use Rattle.papaya_histories.proofs.Given.Follows.Calling.{is_same_is, is_same_refl}
 use Rattle.papaya_promises.specs.Sheltered.{AreShelteredOn, GuardsAreOn, IsShelteredOn}
 use Rattle.papaya_promises.specs.Shelters.{NoneIsBack}
 use Rattle.papaya_promises.proofs.Lists.{all_of}

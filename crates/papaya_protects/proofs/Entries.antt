@@ -42,7 +42,7 @@ use Rattle.papaya_agrees.specs.Guards.{GuardsAgree}
 use Rattle.papaya_protects.specs.Shelters.{IsOpen, SectionsShelter}
 use Rattle.papaya_protects.proofs.After.{IsCalm, calm_shelters, none_back, protected_so}
 use Rattle.papaya_protects.proofs.Guards.{all_spared, guards_spared}
-use Rattle.papaya_protects.proofs.Kinds.{call_step_shelters, ending_step_shelters, making_step_shelters}
+use Rattle.papaya_protects.proofs.ByKind.{call_step_shelters, ending_step_shelters, making_step_shelters}
 
 -- deeds by which nobody comes or goes
 module _ (K V : Type 0) where

@@ -46,7 +46,7 @@ IsNoLeave (Leaves c) = ⊥
 IsNoLeave row = Unit {0}
 
 not_leaves : (row : Row) (c : Leave) → row ≡ Leaves c → IsNoLeave row → ⊥
-not_leaves row c is no = subst IsNoLeave is no
+not_leaves row c is other = subst IsNoLeave is other
 
 module _ {K V : Type 0} (i : ℕ) where
   -- The row of a call that begins to hand something over keeps all sections, and ends none.

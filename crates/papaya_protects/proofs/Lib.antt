@@ -1,7 +1,8 @@
 pub mod Sections
 pub mod Goes
 pub mod Guards
-pub mod Kinds
+pub mod ByKind
 pub mod After
 pub mod RowSteps
 pub mod Entries
+pub mod Quiet

@@ -47,7 +47,7 @@ use Rattle.papaya_agrees.proofs.Rows.{InsideBy}
 use Rattle.papaya_protects.specs.Shelters.{IsOpen, SectionsShelter}
 use Rattle.papaya_protects.proofs.After.{IsCalm, opened_guards, opened_held, shelter_then, shut_guards, shut_held}
 use Rattle.papaya_protects.proofs.Goes.{IsSpared}
-use Rattle.papaya_protects.proofs.Kinds.{row_step_shelters}
+use Rattle.papaya_protects.proofs.ByKind.{row_step_shelters}
 
 -- a row takes nothing out of a map
 module _ (known : Known) where

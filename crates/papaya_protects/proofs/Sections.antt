@@ -49,7 +49,7 @@ pub record Keeps {T : Type 0} (s : ℕ) (w v : World T) : Type 0 where
   pub held : (b : ℕ) → holds s b w.log ≡ true → holds s b v.log ≡ true
 
 module _ {T : Type 0} (s : ℕ) (w : World T) where
-  keeps_by : (effects : List Effect) → NoneLeft s effects → (v : World T) → v.log ≡ effects ++ w.log → Keeps s w v
+  pub keeps_by : (effects : List Effect) → NoneLeft s effects → (v : World T) → v.log ≡ effects ++ w.log → Keeps s w v
   keeps_by effects none v is = record {
     stays = λ o. ap (is_open s) is ∙ open_through s effects w.log none o;
     held = λ b h. ap (holds s b) is ∙ held_through s b effects w.log none h;
