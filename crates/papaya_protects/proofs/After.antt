@@ -20,7 +20,7 @@ use Rattle.papaya_histories.specs.Given.Effects.Known.{Known}
 use Rattle.papaya_histories.proofs.Given.Follows.Calling.{is_same_is, is_same_refl}
 use Rattle.papaya_promises.specs.Sheltered.{AreShelteredOn, GuardsAreOn, IsShelteredOn}
 use Rattle.papaya_promises.specs.Shelters.{NoneIsBack}
-use Rattle.papaya_promises.proofs.Lists.{all_of}
+use Rattle.papaya_promises.proofs.Lists.{IsFound, all_of}
 use Rattle.papaya_promises.proofs.Shelters.Events.{events_are_protected}
 use Rattle.papaya_deeds.specs.Deeds.{Deed, Entry, after, moment, named, sheltered_on, there_on, worked}
 use Rattle.papaya_deeds.specs.History.{IsProtected, transition}
@@ -70,7 +70,7 @@ module _ {K V : Type 0} (On : ℕ → Type 0) (there : Present) (w : World (Node
       by : (o : Option Guard) → guard_of own there.guards ≡ o → option_or (guard_of own there.guards) (find (test own) (guard_on t ∷ [])) ≡ Some g → On g.slot
       by (Some h) e is =
           let same : Some h ≡ Some g = sym (ap (λ (o : Option Guard). option_or o (find (test own) (guard_on t ∷ []))) e) ∙ is in
-          subst (λ (k : Guard). On k.slot) (cc same) (guards own h e)
+          let it : h ≡ g = (cc same) in subst (λ (k : Guard). On k.slot) it (guards own h e)
       by None e is = one (is_same (named t) own) (sym (ap (λ (o : Option Guard). option_or o (find (test own) (guard_on t ∷ []))) e) ∙ is)
         where
           one : (q : Bool) → cond q (Some (guard_on t)) None ≡ Some g → On g.slot
@@ -123,3 +123,20 @@ module _ {K V : Type 0} (On : ℕ → Type 0) (there : Present) (w : World (Node
       not_kept h is e kept =
           let its : is_same h.name (named t) ≡ true = ap (λ (k : Guard). is_same k.name (named t)) is ∙ ap (λ (k : ℕ). is_same (named k) (named t)) e ∙ is_same_refl (named t) in
           cc (ap not its, kept)
+
+-- Where each guard that is found is on a slot of such a kind, each guard of the list is, as it has the name of its slot.
+module _ (On : ℕ → Type 0) (there : Present) (guards : GuardsAreOn On there) where
+  one_slot : (s t : ℕ) → named s ≡ named t → s ≡ t
+  one_slot s t e = cc e
+
+  pub all_on : (gs : List Guard) → AllByRecursion (λ (g : Guard). g ≡ guard_on g.slot) gs → AllByRecursion (IsFound there.guards) gs → AllByRecursion (λ (g : Guard). g ≡ guard_on g.slot) there.guards
+      → AllByRecursion (λ (g : Guard). On g.slot) gs
+  all_on [] each found all = tt
+  all_on (g ∷ gs) each found all = (here, all_on gs each.1 found.1 all)
+    where
+      here : On g.slot
+      here =
+          let its = found_so (λ (h : Guard). h ≡ guard_on h.slot) (λ h. is_same h.name g.name) there.guards found.0.0 all found.0.1 in
+          let same : found.0.0.slot ≡ g.slot = one_slot found.0.0.slot g.slot
+          (ap (λ (h : Guard). h.name) (sym its.0) ∙ is_same_is found.0.0.name g.name its.1 ∙ ap (λ (h : Guard). h.name) each.0) in
+          subst On same (guards g.name found.0.0 found.0.1)

@@ -49,7 +49,7 @@ module _ (K V : Type 0) where
   call_calm : (i : ℕ) → IsCalm {K = K} {V = V} (Steps i)
   call_calm i = record { there = λ there. refl; sheltered = λ xs. refl }
 
-  making_calm : (map : ℕ) (before next : NewMap) → IsCalm {K = K} {V = V} (making_deed map before next)
+  pub making_calm : (map : ℕ) (before next : NewMap) → IsCalm {K = K} {V = V} (making_deed map before next)
   making_calm map before next = by (has_root before.stands) (has_root next.stands)
     where
       by : (b c : Bool)

@@ -6,3 +6,4 @@ pub mod After
 pub mod RowSteps
 pub mod Entries
 pub mod Quiet
+pub mod Acts

@@ -133,7 +133,7 @@ module _ (K V : Type 0) where
   row_kind (rows.Frees c) = DoesNeither (record { there = λ there. refl; sheltered = λ xs. refl }) (λ d is at. cc is)
 
 module _ {K V : Type 0} where
-  begun_sheltered : (d : Deed K V) (m : Moment K V) → (begun d m).sheltered ≡ m.sheltered
+  pub begun_sheltered : (d : Deed K V) (m : Moment K V) → (begun d m).sheltered ≡ m.sheltered
   begun_sheltered (Begins i s map call) m = refl
   begun_sheltered (MapComes map root mode capacity) m = refl
   begun_sheltered _ m = refl
@@ -189,12 +189,12 @@ module _ {K V : Type 0} (same : K → K → Bool) (hash : ℕ → K → ℕ) (m 
   reached : Reached deferred_word new.batch_size w2
   reached = came_reached new.batch_size w2 (leads row here).2.4.together.makings.standing.came
 
-  by_kind : RowKind K V row → InsideBy {K = K} {V = V} w.uses w2.uses (row_deed row) → Then
+  by_kind : RowKind K V row → InsideBy w.uses w2.uses (row_deed {K = K} {V = V} row) → Then
   by_kind (DoesNeither calm none) inside =
       let on = on_still none in then_by m.there (calm.there m.there) m.sheltered (calm.sheltered m.sheltered) on.0 on.1 on.2
   by_kind (OpensOne t is none) inside =
       let on = on_still none in
-      let in_it : IsInside (w2.uses t) = (subst (InsideBy {K = K} {V = V} w.uses w2.uses) is inside).1 in
+      let in_it : IsInside (w2.uses t) = (subst (λ (d : Deed K V). InsideBy w.uses w2.uses d) is inside).1 in
       then_by (enters_slot (named t) t m.there) (ap (λ (d : Deed K V). there_on d m.there) is) m.sheltered (ap (λ (d : Deed K V). sheltered_on d m.sheltered) is)
       (opened_guards (IsOpen w2) m.there w2 known2 t (inside_open deferred_word new.batch_size w2 reached t in_it) on.0) (opened_held (IsOpen w2) m.there w2 known2 t m.sheltered on.1) on.2
   by_kind (ShutsOne c is shuts) inside =
@@ -217,5 +217,5 @@ module _ {K V : Type 0} (same : K → K → Bool) (hash : ℕ → K → ℕ) (m 
           one same_row = cc same_row
 
   -- So it is.
-  pub row_entry_shelters : InsideBy {K = K} {V = V} w.uses w2.uses (row_deed row) → Then
+  pub row_entry_shelters : InsideBy w.uses w2.uses (row_deed {K = K} {V = V} row) → Then
   row_entry_shelters inside = by_kind (row_kind K V row) inside
