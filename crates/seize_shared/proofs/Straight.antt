@@ -16,9 +16,13 @@ use Rattle.seize_straight.specs.declared.retiring.Retired.{Retired}
 use Rattle.seize_straight.specs.declared.retiring.Retired.TheVariants as to
 use Rattle.seize_straight.proofs.Reclaimings.{leads_once, may_once}
 use Rattle.seize_straight.proofs.Running.{by_law}
+use Rattle.seize_views.specs.Begun.{IsBegun}
 use Rattle.seize_shared.specs.Made.{shown_of, left_in, CanMake, HasMade, IsSettling}
-use Rattle.seize_shared.specs.declared.view.Why.{Why}
+use Rattle.seize_views.specs.declared.view.Becomes.{Becomes}
+use Rattle.seize_views.specs.declared.view.Why.{Why}
+use Rattle.seize_views.specs.declared.view.Why.TheVariants.{Retiring}
 use Rattle.seize_shared.specs.declared.caller.Caller.{Caller}
+use Rattle.seize_shared.proofs.Calls.{settling_row}
 use Rattle.seize_shared.proofs.Drives.{may_step, has_stepped}
 
 over_is : (p : Settling) → is_over p ≡ true → p ≡ at.Over
@@ -39,13 +43,14 @@ module _ {T : Type 0} (defers : T → Option ℕ) (why : Why) where
 
   -- it has ended where it is over
   ends : (c d : Settle) (m n : Caller T) (told : Settled T) → Steps (HasMade defers) shown_of m (settle_plan defers c) n (d, told) → is_over c.stands ≡ true
-      → (n ≡ m) × ((d, told) ≡ (c, Done))
-  ends c d m n told st e = subst (λ (p : Settling). Steps (HasMade defers) shown_of m (plan_at defers c p) n (d, told)) (over_is c.stands e) st
+      → (n ≡ m) × (told ≡ Done)
+  ends c d m n told st e =
+      let h = subst (λ (p : Settling). Steps (HasMade defers) shown_of m (plan_at defers c p) n (d, told)) (over_is c.stands e) st in
+      (h.0, ap (λ (x : Settle × Settled T). x.1) h.1)
 
   steps_to : (c d : Settle) (m n : Caller T) (told : Settled T) → DropGoes told → Steps (HasMade defers) shown_of m (settle_plan defers c) n (d, told)
       → IsSettling why c m.seat.view → (over : Bool) → is_over c.stands ≡ over → Comes c m d n
-  steps_to c d m n told so st is true e =
-      absurd (subst (λ (t : Settled T). DropGoes t) (ap (λ (x : Settle × Settled T). x.1) (ends c d m n told st e).1) so)
+  steps_to c d m n told so st is true e = absurd (subst (λ (t : Settled T). DropGoes t) (ends c d m n told st e).1 so)
   steps_to c d m n told so st is false e =
       let k = has_stepped defers m c why is (not_over c.stands e) n (d, told) st in (k.0, k.1, k.2, (let falls = k.3 in omega (arith, falls)))
 
@@ -84,3 +89,10 @@ module _ {T : Type 0} (defers : T → Option ℕ) (why : Why) where
   has_stopped slot size block stop m n ne r is =
       led (retiring slot size block) (settle_at slot size block stop) m n
       (leads_once defers (CanMake defers) (HasMade defers) shown_of (retiring slot size block) (settle_at slot size block stop) m n r) is
+
+-- a retirement that has begun is under way
+pub retirement_row : {T : Type 0} (m : Caller T) (slot link : ℕ) (way : Becomes) → IsBegun way (retiring slot m.blocks.now.words.fixed.batch_size link) m.seat.view
+    → IsSettling (Retiring way) (retiring slot m.batch_size link) m.seat.view
+retirement_row m slot link way is =
+    subst (λ (n : ℕ). IsSettling (Retiring way) (retiring slot n link) m.seat.view) m.sized
+    (settling_row way (retiring slot m.blocks.now.words.fixed.batch_size link) m.seat.view is)

@@ -1,18 +1,18 @@
 use Rattle.std.proofs.Common.{◌≡◌, ap, ◌∙◌}
-use Rattle.seize.specs.declared.rows.settle.Settle.{Settle}
 use Rattle.seize.specs.Settle.{retiring}
 use Rattle.seize_words.specs.Word.{link_to}
-use Rattle.seize_shared.specs.Begun.{IsBegun}
-use Rattle.seize_shared.specs.declared.view.Becomes.TheVariants.{Idle}
+use Rattle.seize_views.specs.Begun.{IsBegun}
+use Rattle.seize_views.specs.declared.view.Becomes.TheVariants.{Idle}
 use Rattle.seize_shared.proofs.Calls.{may_retire_idle, retires_idle_told, whole_link}
 use Rattle.seize_shared.proofs.caller.Caller.retire_idle.Given as given
 use Rattle.seize_shared.proofs.caller.Caller.retire_idle.Goals as goal
+use Rattle.seize_shared.proofs.caller.Caller.retire_idle.Goals.{After-to}
 
 pub turn-requires-clause-may : goal.turn-requires-clause-may
 turn-requires-clause-may g c =
     let x = c.args.self.now in may_retire_idle g.T.Defers.defers x.blocks.now.words.fixed x.seat.id x.seat.view c.args.slot c.args.block c.requires.owes
 
-begun : (g : given.Over) (c : goal.After-to g) → IsBegun Idle (retiring c.args.slot c.args.self.now.blocks.now.words.fixed.batch_size c.to.result) c.turn.new.seat.view
+begun : (g : given.Over) (c : After-to g) → IsBegun Idle (retiring c.args.slot c.args.self.now.blocks.now.words.fixed.batch_size c.to.result) c.turn.new.seat.view
 begun g c =
     let x = c.args.self.now in let fixed = x.blocks.now.words.fixed in
     let row : retiring c.args.slot fixed.batch_size c.to.result ≡ retiring c.args.slot fixed.batch_size (link_to c.args.block) =
