@@ -1,8 +1,8 @@
 pub mod Shards
-mod Leads
-mod Lists
+pub mod Leads
+pub mod Lists
 mod Opens
-mod Rows
+pub mod Rows
 pub mod Slots
 pub mod Guards
 pub mod Entries
