@@ -74,7 +74,7 @@ abbrev retaining : List (Entry ℕ ℕ)
 retaining = removes 2 ∷ told 2 false (entry (Begins 1 0 0 Retain) Goes [] ∷ filled)
 
 retains_one : IsSwept nat_eq terms (told 1 true retaining) (entry (Steps 1) (Answered answer.Completed) [])
-retains_one = (refl, refl)
+retains_one = (refl, refl {a = true})
 
 -- Wrong: it keeps one about which the reply was no, or one about which it did not ask.
 retains_no : IsSwept nat_eq terms (told 1 false retaining) (entry (Steps 1) (Answered answer.Completed) []) → ⊥
