@@ -40,7 +40,7 @@ unset (x ∷ xs) zero = refl
 unset (x ∷ xs) (suc i) = unset xs i
 
 -- where a block was taken away there is none
-emptied : {T : Type 0} (m : Mem T) (b : ℕ) → value_at (with_block m b None) b ≡ None
+pub emptied : {T : Type 0} (m : Mem T) (b : ℕ) → value_at (with_block m b None) b ≡ None
 emptied {T} m b = by (cases_eq b 0)
   where
     branch : Bool → Option T
