@@ -4,6 +4,7 @@ pub mod Rows
 pub mod Ledgers
 pub mod Stretches
 pub mod Lendings
+pub mod Plain
 pub mod Visits
 pub mod Beside
 pub mod Strips

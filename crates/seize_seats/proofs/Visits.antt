@@ -1,205 +1,60 @@
 -- What a rule allows a seat it may do where blocks have words of their own, and seats visit them; and a seat may begin a visit.
-use Rattle.std.specs.Prelude.{◌≡◌, ◌≢◌, ◌⊎◌, ℕ, zero, suc, ◌-◌, ◌==◌, Bool, true, false, List, [], ◌∷◌, ◌++◌, length, drop, Option, Some, None, IsSome, Ok, Err, map, replicate, slice_get, slice_set, slice_index_or, if◌then◌else◌, nat_lt}
+use Rattle.std.specs.Prelude.{◌≡◌, ◌≢◌, ◌⊎◌, ℕ, zero, suc, List, [], ◌∷◌, ◌++◌, Option, Some, None, IsSome, Ok, Err, slice_get, slice_set}
 use Rattle.std.proofs.Common.{refl, sym, ap, ◌∙◌, subst, inl, inr}
 use Rattle.core.specs.Option.{option_map}
-use Rattle.std.proofs.Math.ListN.{get_or-map}
-use Rattle.std.proofs.lemmas.Bool.{cases_eq, ne_eqb}
-use Rattle.std.proofs.lemmas.List.{map-set, map-append, length-map}
+use Rattle.std.proofs.lemmas.Bool.{cases_eq}
+use Rattle.std.proofs.lemmas.List.{map-set, map-append}
 use Rattle.std.proofs.lemmas.Option.{slice_get-map}
 use denote.RawPtr.{Ptr, null_ptr}
-use Rattle.seize_words.specs.Mem.{Mem, Can, Gives, Took, after, block_of, value_in, value_at, entry_in, word_in, with_entry, with_word_in, with_value_in, word_at, with_word, with_block, with_value, with_made, fresh, IsFreeNumber}
-use Rattle.seize_words.specs.Op.{Op, Out, Load, Store, Swap, Add, Or, Exchange, Make, Take, Rewrite, Room, Found, Stored, Exchanged, Made, Taken, Roomed}
-use Rattle.seize_words.specs.declared.at.At.{At}
-use Rattle.seize_words.specs.declared.at.At.TheVariants.{Root, Used, Slot, Entry, Word}
-use Rattle.seize_words.specs.declared.block.Block.{Block}
-use Rattle.seize_words.proofs.OneOwner.AfterWrites.{block_of-with_block, block_of-made, value_at-with_word, value_at-with_value}
-use Rattle.seize_seats.specs.State.{State, view_of, Goes, Allows, Owns, Turns}
+use Rattle.seize_words.specs.Mem.{Mem, Can, Took, after, block_of, value_in, value_at, with_block, IsFreeNumber}
+use Rattle.seize_words.specs.Op.{Op, Out, Make, Take, Rewrite, Made}
+use Rattle.seize_seats.specs.State.{State, view_of, Goes, Allows, Owns, Turns, Starts, Comes, Meets, Renews}
 use Rattle.seize_seats.specs.State as State
-use Rattle.seize_seats.specs.Lendings.{Shown, Alone, IsValueOf}
-use Rattle.seize_seats.specs.Visits.{Visit, plain_block, plain_memory, plain_op, plain_out, plain, AreFound, HoldsKept, keeps_kept, then_kept}
+use Rattle.seize_seats.specs.Lendings.{Shown, ShownToBoth, Alone, IsValueOf, IsValueOfBoth}
+use Rattle.seize_seats.specs.Visits.{Visit, plain_memory, plain_op, plain_out, plain, AreFound, HoldsKept, keeps_kept, then_kept}
 use Rattle.seize_seats.proofs.Ledgers.{other_view}
 use Rattle.seize_seats.proofs.Rewrites.{emptied, owns_alone}
 use Rattle.seize_seats.proofs.Steps.{set_same}
+use Rattle.seize_seats.proofs.Plain.{block_at, value_plain, set_plain, value_of_block, after_plain, gives_plain, can_plain, IsOnWord, value_after, made_apart, taken_apart, rewritten_apart}
 
--- ---- what a rule sees of an operation
-module _ {D T : Type 0} (value : D → T) where
-  abbrev block : Option (Block D) → Option (Block T)
-  block = plain_block value
-
-  abbrev memory : Mem D → Mem T
-  memory = plain_memory value
-
-  block_at : (m : Mem D) (b : ℕ) → block_of (memory m) b ≡ block (block_of m b)
-  block_at m b = by (b == 0)
-    where
-      by : (y : Bool) → (if y then None else slice_index_or (map block m.blocks) (b - 1) None) ≡ block (if y then None else slice_index_or m.blocks (b - 1) None)
-      by true = refl
-      by false = get_or-map block m.blocks (b - 1) None
-
-  entry_plain : (x : Option (Block D)) (i : ℕ) → entry_in (block x) i ≡ entry_in x i
-  entry_plain None i = refl
-  entry_plain (Some x) i = refl
-
-  own_plain : (x : Option (Block D)) (i : ℕ) → word_in (block x) i ≡ word_in x i
-  own_plain None i = refl
-  own_plain (Some x) i = refl
-
-  word_plain : (m : Mem D) (at : At) → word_at (memory m) at ≡ word_at m at
-  word_plain m (Root r) = refl
-  word_plain m (Used r) = refl
-  word_plain m (Slot s field) = refl
-  word_plain m (Entry b i) = ap (λ x. entry_in x i) (block_at m b) ∙ entry_plain (block_of m b) i
-  word_plain m (Word b i) = ap (λ x. word_in x i) (block_at m b) ∙ own_plain (block_of m b) i
-
-  value_plain : (x : Option (Block D)) (v : D) → value_in x ≡ Some v → value_in (block x) ≡ Some (value v)
-  value_plain None v e = absurd (cc e)
-  value_plain (Some x) v e = let same : x.value ≡ v = cc e in ap (λ u. Some (value u)) same
-
-  value_there : (x : Option (Block D)) → IsSome (value_in (block x)) → IsSome (value_in x)
-  value_there None some = absurd (cc some)
-  value_there (Some x) some = cc
-
-  -- it is as plain whichever block is set
-  set_plain : (m : Mem D) (b : ℕ) (x : Option (Block D)) → memory (with_block m b x) ≡ with_block (memory m) b (block x)
-  set_plain m b x = ap (λ (l : List (Option (Block T))). record { roots = m.roots; used = m.used; slots = m.slots; blocks = l; choices = m.choices }) (map-set block m.blocks (b - 1) x)
-
-  entry_set : (x : Option (Block D)) (i w : ℕ) → block (with_entry x i w) ≡ with_entry (block x) i w
-  entry_set None i w = refl
-  entry_set (Some x) i w = refl
-
-  own_set : (x : Option (Block D)) (i w : ℕ) → block (with_word_in x i w) ≡ with_word_in (block x) i w
-  own_set None i w = refl
-  own_set (Some x) i w = refl
-
-  value_set : (x : Option (Block D)) (v : D) → block (with_value_in x v) ≡ with_value_in (block x) (value v)
-  value_set None v = refl
-  value_set (Some x) v = refl
-
-  with_plain : (m : Mem D) (at : At) (w : ℕ) → memory (with_word m at w) ≡ with_word (memory m) at w
-  with_plain m (Root r) w = refl
-  with_plain m (Used r) w = refl
-  with_plain m (Slot s field) w = refl
-  with_plain m (Entry b i) w = set_plain m b (with_entry (block_of m b) i w)
-      ∙ ap (with_block (memory m) b) (entry_set (block_of m b) i w ∙ ap (λ x. with_entry x i w) (sym (block_at m b)))
-  with_plain m (Word b i) w = set_plain m b (with_word_in (block_of m b) i w)
-      ∙ ap (with_block (memory m) b) (own_set (block_of m b) i w ∙ ap (λ x. with_word_in x i w) (sym (block_at m b)))
-
-  value_with : (m : Mem D) (b : ℕ) (v : D) → memory (with_value m b v) ≡ with_value (memory m) b (value v)
-  value_with m b v = set_plain m b (with_value_in (block_of m b) v)
-      ∙ ap (with_block (memory m) b) (value_set (block_of m b) v ∙ ap (λ x. with_value_in x (value v)) (sym (block_at m b)))
-
-  nones : (n : ℕ) → map block (replicate n None) ≡ replicate n None
-  nones zero = refl
-  nones (suc n) = ap (λ l. None ∷ l) (nones n)
-
-  made_plain : (xs : List (Option (Block D))) (b : ℕ) (v : D) (k : ℕ) → map block (with_made xs b (fresh v k)) ≡ with_made (map block xs) b (fresh (value v) k)
-  made_plain xs b v k = by (nat_lt (length xs) b) ∙ ap (λ (n : ℕ). made n) (sym (length-map xs block))
-    where
-      made : ℕ → List (Option (Block T))
-      made n = if nat_lt n b then map block xs ++ (replicate (b - 1 - n) None ++ Some (fresh (value v) k) ∷ []) else slice_set (map block xs) (b - 1) (Some (fresh (value v) k))
-
-      n : ℕ
-      n = length xs
-
-      by : (y : Bool) → map block (if y then xs ++ (replicate (b - 1 - n) None ++ Some (fresh v k) ∷ []) else slice_set xs (b - 1) (Some (fresh v k)))
-          ≡ (if y then map block xs ++ (replicate (b - 1 - n) None ++ Some (fresh (value v) k) ∷ []) else slice_set (map block xs) (b - 1) (Some (fresh (value v) k)))
-      by true = map-append block xs (replicate (b - 1 - n) None ++ Some (fresh v k) ∷ [])
-          ∙ ap (λ l. map block xs ++ l) (map-append block (replicate (b - 1 - n) None) (Some (fresh v k) ∷ []) ∙ ap (λ l. l ++ Some (fresh (value v) k) ∷ []) (nones (b - 1 - n)))
-      by false = map-set block xs (b - 1) (Some (fresh v k))
-
-  pub after_plain : (m : Mem D) (op : Op D) (out : Out D) → memory (after m op out) ≡ after (memory m) (plain_op value op) (plain_out value out)
-  after_plain m (Store at new) out = with_plain m at new
-  after_plain m (Swap at new) out = with_plain m at new
-  after_plain m (Add at by) (Found w) = with_plain m at _
-  after_plain m (Or at bits) (Found w) = with_plain m at _
-  after_plain m (Exchange at old new) (Exchanged (Ok w)) = with_plain m at new
-  after_plain m (Make v words) (Made (Ok b)) =
-      ap (λ (l : List (Option (Block T))). record { roots = m.roots; used = m.used; slots = m.slots; blocks = l; choices = drop 1 m.choices }) (made_plain m.blocks b v words)
-  after_plain m (Take b) out = set_plain m b None
-  after_plain m (Rewrite b v) out = value_with m b v
-  after_plain m (Room bucket) (Roomed (Ok made)) = refl
-  after_plain m _ _ = refl
-
-  pub gives_plain : (m : Mem D) (op : Op D) (out : Out D) → Gives m op out → Gives (memory m) (plain_op value op) (plain_out value out)
-  gives_plain m (Load at) (Found w) g = word_plain m at ∙ g
-  gives_plain m (Store at new) Stored g = tt
-  gives_plain m (Swap at new) (Found w) g = word_plain m at ∙ g
-  gives_plain m (Add at by) (Found w) g = word_plain m at ∙ g
-  gives_plain m (Or at bits) (Found w) g = word_plain m at ∙ g
-  gives_plain m (Exchange at old new) (Exchanged (Ok w)) g = (word_plain m at ∙ g.0, g.1)
-  gives_plain m (Exchange at old new) (Exchanged (Err w)) g = (word_plain m at ∙ g.0, g.1)
-  gives_plain m (Make v words) (Made (Ok b)) g = ((block_at m b ∙ ap block g.0.0, g.0.1), g.1)
-  gives_plain m (Make v words) (Made (Err back)) g = ap value g
-  gives_plain m (Take b) (Taken v) g = ap value_in (block_at m b) ∙ value_plain (block_of m b) v g
-  gives_plain m (Rewrite b new) (Taken v) g = ap value_in (block_at m b) ∙ value_plain (block_of m b) v g
-  gives_plain m (Room bucket) (Roomed (Ok made)) g = tt
-  gives_plain m (Room bucket) (Roomed (Err fault)) g = g
-  gives_plain m _ _ g = absurd g
-
-  pub can_plain : (m : Mem D) (op : Op D) → Can (memory m) (plain_op value op) → Can m op
-  can_plain m (Load at) can = subst IsSome (word_plain m at) can
-  can_plain m (Store at w) can = subst IsSome (word_plain m at) can
-  can_plain m (Swap at w) can = subst IsSome (word_plain m at) can
-  can_plain m (Add at w) can = subst IsSome (word_plain m at) can
-  can_plain m (Or at w) can = subst IsSome (word_plain m at) can
-  can_plain m (Exchange at old new) can = subst IsSome (word_plain m at) can
-  can_plain m (Make v words) can = tt
-  can_plain m (Take b) can = value_there (block_of m b) (subst IsSome (ap value_in (block_at m b)) can)
-  can_plain m (Rewrite b new) can = value_there (block_of m b) (subst IsSome (ap value_in (block_at m b)) can)
-  can_plain m (Room bucket) can = can
-
-  value_of_block : (m : Mem D) (b : ℕ) → IsSome (value_at (memory m) b) → IsSome (value_at m b)
-  value_of_block m b some = value_there (block_of m b) (subst IsSome (ap value_in (block_at m b)) some)
-
--- ---- what lies under numbers
-module _ {D : Type 0} where
-  -- the operation is on a word, or asks for room
-  abbrev IsOnWord : Op D → Type 0
-  IsOnWord (Make x words) = ⊥
-  IsOnWord (Take b) = ⊥
-  IsOnWord (Rewrite b x) = ⊥
-  IsOnWord _ = Unit {0}
-
-  value_after : (m : Mem D) (op : Op D) (out : Out D) (b : ℕ) → IsOnWord op → Can m op → value_at (after m op out) b ≡ value_at m b
-  value_after m (Make x words) out b on can = absurd on
-  value_after m (Take k) out b on can = absurd on
-  value_after m (Rewrite k x) out b on can = absurd on
-  value_after m (Store at new) out b on can = value_at-with_word m at new b can
-  value_after m (Swap at new) out b on can = value_at-with_word m at new b can
-  value_after m (Add at by) (Found w) b on can = value_at-with_word m at _ b can
-  value_after m (Or at bits) (Found w) b on can = value_at-with_word m at _ b can
-  value_after m (Exchange at old new) (Exchanged (Ok w)) b on can = value_at-with_word m at new b can
-  value_after m (Room bucket) (Roomed (Ok made)) b on can = refl
-  value_after m _ _ b on can = refl
-
-  block_there : (o : Option (Block D)) → IsSome (value_in o) → (x : Block D) × (o ≡ Some x)
-  block_there None some = absurd (cc some)
-  block_there (Some x) some = (x, refl)
-
-  -- of another number all is as it was
-  made_apart : (m : Mem D) (v : D) (words b k : ℕ) → IsFreeNumber m b → k ≢ b → value_at (after m (Make v words) (Made (Ok b))) k ≡ value_at m k
-  made_apart m v words b k free ne = ap value_in (block_of-made m v words b k free ∙ ap (λ y. if y then Some (fresh v words) else block_of m k) (ne_eqb k b ne))
-
-  taken_apart : (m : Mem D) (b k : ℕ) → IsSome (value_at m b) → k ≢ b → value_at (with_block m b None) k ≡ value_at m k
-  taken_apart m b k some ne = let x = block_there (block_of m b) some in
-      ap value_in (block_of-with_block m b k x.0 None x.1 ∙ ap (λ y. if y then None else block_of m k) (ne_eqb k b ne))
-
-  rewritten_apart : (m : Mem D) (b : ℕ) (v : D) (k : ℕ) → IsSome (value_at m b) → k ≢ b → value_at (with_value m b v) k ≡ value_at m k
-  rewritten_apart m b v k some ne = value_at-with_value m b v k some ∙ ap (λ y. if y then Some v else value_at m k) (ne_eqb k b ne)
-
--- ---- seats
 own_view : {A : Type 0} (xs : List A) (i : ℕ) (x y : A) → slice_get (slice_set xs i x) i ≡ Some y → x ≡ y
 own_view [] i x y e = absurd (cc e)
 own_view (a ∷ xs) zero x y e = cc e
 own_view (a ∷ xs) (suc i) x y e = own_view xs i x y e
 
-visited : Visit → ℕ
+abbrev no_visit : Visit
+no_visit = None
+
+abbrev visit_of : ℕ → Ptr → Visit
+visit_of b p = Some (b, p)
+
+abbrev with_visit : {V : Type 0} → V → Visit → V × Visit
+with_visit v y = (v, y)
+
+abbrev visited : Visit → ℕ
 visited None = 0
 visited (Some u) = u.0
 
-visited_at : Visit → Ptr
+abbrev visited_at : Visit → Ptr
 visited_at None = null_ptr
 visited_at (Some u) = u.1
+
+-- where a seat has another view, without a visit, those who visit a block are others
+others_visit : {V : Type 0} (us : List (V × Visit)) (i id : ℕ) (v' v : V) (b : ℕ) (p : Ptr) → slice_get (slice_set us id (v', None)) i ≡ Some (v, Some (b, p))
+    → (i ≢ id) × (slice_get us i ≡ Some (v, Some (b, p)))
+others_visit us i id v' v b p e = by (cases_eq i id)
+  where
+    by : (i ≡ id) ⊎ (i ≢ id) → (i ≢ id) × (slice_get us i ≡ Some (v, Some (b, p)))
+    by (inl is) = let here : slice_get (slice_set us i (v', None)) i ≡ Some (v, Some (b, p)) = ap (λ (k : ℕ). slice_get (slice_set us k (v', None)) i) is ∙ e in
+        let none : no_visit ≡ visit_of b p = ap (λ (u : V × Visit). u.1) (own_view us i (v', None) (v, Some (b, p)) here) in absurd (cc none)
+    by (inr ne) = (ne, sym (other_view us id i (v', None) ne) ∙ e)
+
+-- a view in a list with one more is in the list, or is that one
+among : {A : Type 0} (xs : List A) (x y : A) (i : ℕ) → slice_get (xs ++ x ∷ []) i ≡ Some y → (slice_get xs i ≡ Some y) ⊎ (x ≡ y)
+among [] x y zero e = inr (cc e)
+among [] x y (suc i) e = absurd (cc e)
+among (a ∷ xs) x y zero e = inl e
+among (a ∷ xs) x y (suc i) e = among xs x y i e
 
 module _ {D T V W : Type 0} (value : D → T) (own : D → Ptr) (holds : State T V W → Type 0) (keeps : V → V → W → ℕ → Type 0) where
   abbrev St : Type 0
@@ -215,24 +70,18 @@ module _ {D T V W : Type 0} (value : D → T) (own : D → Ptr) (holds : State T
   Keep = keeps_kept keeps
 
   view_plain : (s : St) (id : ℕ) (u : V × Visit) → view_of s id ≡ Some u → view_of (flat s) id ≡ Some u.0
-  view_plain s id u e = slice_get-map (λ u. u.0) s.views id ∙ ap (option_map (λ u. u.0)) e
+  view_plain s id u e = slice_get-map (λ (u : V × Visit). u.0) s.views id ∙ ap (option_map (λ (u : V × Visit). u.0)) e
 
   flat_after : (s : St) (n : Mem D) (id : ℕ) (u : V × Visit) (w : W) → flat (State.after s n id u w) ≡ State.after (flat s) (plain_memory value n) id u.0 w
-  flat_after s n id u w = ap (λ vs. record { memory = plain_memory value n; views = vs; world = w }) (map-set (λ u. u.0) s.views id u)
+  flat_after s n id u w = ap (λ (vs : List V). record { memory = plain_memory value n; views = vs; world = w }) (map-set (λ (u : V × Visit). u.0) s.views id u)
 
   -- what other seats can be shown is as it was
   abbrev Untouched : ℕ → St → Mem D → Type 0
   Untouched id s n = (i : ℕ) (v : V) (b : ℕ) → i ≢ id → view_of (flat s) i ≡ Some v → Shown holds i v b → value_at n b ≡ value_at s.memory b
 
   found_after : (s : St) (n : Mem D) (id : ℕ) (v' : V) (w' : W) → AreFound value own holds s → Untouched id s n → AreFound value own holds (State.after s n id (v', None) w')
-  found_after s n id v' w' are same i v b p e = by (cases_eq i id)
-    where
-      by : (i ≡ id) ⊎ (i ≢ id) → Shown holds i v b × ((x : D) → value_at n b ≡ Some x → own x ≡ p)
-      by (inl is) = let here : slice_get (slice_set s.views i (v', None)) i ≡ Some (v, Some (b, p)) = ap (λ k. slice_get (slice_set s.views k (v', None)) i) is ∙ e in
-          let two : (v', None) ≡ (v, Some (b, p)) = own_view s.views i (v', None) (v, Some (b, p)) here in
-          let none : None ≡ Some (b, p) = ap (λ u. u.1) two in absurd (cc none)
-      by (inr ne) = let old : view_of s i ≡ Some (v, Some (b, p)) = sym (other_view s.views id i (v', None) ne) ∙ e in
-          let f = are i v b p old in (f.0, λ x at. f.1 x (sym (same i v b ne (view_plain s i (v, Some (b, p)) old) f.0) ∙ at))
+  found_after s n id v' w' are same i v b p e = let o = others_visit s.views i id v' v b p e in let f = are i v b p o.1 in
+      (f.0, λ x at. f.1 x (sym (same i v b o.0 (view_plain s i (v, Some (b, p)) o.1) f.0) ∙ at))
 
   others_kept : (s : St) (id : ℕ) (w : W) → State.KeepsOthers holds keeps (flat s) id w → State.KeepsOthers Hold Keep s id w
   others_kept s id w kept j k b u o nj nk at_j at_k is = kept j k b u.0 o.0 nj nk (view_plain s j u at_j) (view_plain s k o at_k) is
@@ -262,7 +111,7 @@ module _ {D T V W : Type 0} (value : D → T) (own : D → Ptr) (holds : State T
   -- operations on words
   pub word_allowed : (id : ℕ) (v : V) (y : Visit) (op : Op D) (so : Out T → V → Type 0) → IsOnWord op → Allows holds keeps id v (plain_op value op) so
       → Allows Hold Keep id (v, y) op (then_kept value so)
-  word_allowed id v y op so on = allowed id v y op so (λ s out n h here can took g. λ i u b ne at shown. ap (λ m. value_at m b) took.1 ∙ value_after s.memory op out b on can)
+  word_allowed id v y op so on = allowed id v y op so (λ s out n h here can took g. λ i u b ne at shown. ap (λ (m : Mem D). value_at m b) took.1 ∙ value_after s.memory op out b on can)
 
   there : (s : St) (i : ℕ) (u : V) (b : ℕ) → Hold s → view_of (flat s) i ≡ Some u → Shown holds i u b → IsSome (value_at s.memory b)
   there s i u b h at shown = value_of_block value s.memory b (shown (flat s) h.0 at)
@@ -271,8 +120,8 @@ module _ {D T V W : Type 0} (value : D → T) (own : D → Ptr) (holds : State T
   make_leaves id v x words so s (Made (Ok b)) n h here can took g i u k ne at shown =
       let some = there s i u k h at shown in let free : IsFreeNumber s.memory b = took.0.0 in
       let apart : k ≢ b = λ e. (let none : value_at s.memory k ≡ None = ap value_in (ap (block_of s.memory) e ∙ free.0) in absurd (cc (none, some))) in
-      ap (λ m. value_at m k) took.1 ∙ made_apart s.memory x words b k free apart
-  make_leaves id v x words so s (Made (Err back)) n h here can took g i u k ne at shown = ap (λ m. value_at m k) took.1
+      ap (λ (m : Mem D). value_at m k) took.1 ∙ made_apart s.memory x words b k free apart
+  make_leaves id v x words so s (Made (Err back)) n h here can took g i u k ne at shown = ap (λ (m : Mem D). value_at m k) took.1
   make_leaves id v x words so s _ n h here can took g i u k ne at shown = absurd took.0
 
   pub make_allowed : (id : ℕ) (v : V) (y : Visit) (x : D) (words : ℕ) (so : Out T → V → Type 0) → Allows holds keeps id v (Make (value x) words) so
@@ -282,9 +131,9 @@ module _ {D T V W : Type 0} (value : D → T) (own : D → Ptr) (holds : State T
   take_leaves : (id : ℕ) (v : V) (b : ℕ) (so : Out T → V → Type 0) → Leaves id v None (Take b) so
   take_leaves id v b so s out n h here can took g i u k ne at shown =
       let m : Mem T = with_block (plain_memory value s.memory) b None in let is : plain_memory value n ≡ m = ap (plain_memory value) took.1 ∙ set_plain value s.memory b None in
-      let some : IsSome (value_at m k) = subst (λ l. IsSome (value_at l k)) is (shown (State.after (flat s) (plain_memory value n) id g.0 g.1) g.2 (other_view (flat s).views id i g.0 ne ∙ at)) in
+      let some : IsSome (value_at m k) = subst (λ (l : Mem T). IsSome (value_at l k)) is (shown (State.after (flat s) (plain_memory value n) id g.0 g.1) g.2 (other_view (flat s).views id i g.0 ne ∙ at)) in
       let apart : k ≢ b = λ e. (let none : value_at m k ≡ None = ap (value_at m) e ∙ emptied (plain_memory value s.memory) b in absurd (cc (none, some))) in
-      ap (λ l. value_at l k) took.1 ∙ taken_apart s.memory b k can apart
+      ap (λ (m : Mem D). value_at m k) took.1 ∙ taken_apart s.memory b k can apart
 
   pub take_allowed : (id : ℕ) (v : V) (y : Visit) (b : ℕ) (so : Out T → V → Type 0) → Allows holds keeps id v (Take b) so
       → Allows Hold Keep id (v, y) (Take b) (then_kept value so)
@@ -292,8 +141,8 @@ module _ {D T V W : Type 0} (value : D → T) (own : D → Ptr) (holds : State T
 
   rewrite_leaves : (id : ℕ) (v : V) (b : ℕ) (x : D) (so : Out T → V → Type 0) → Alone holds id v b → Leaves id v None (Rewrite b x) so
   rewrite_leaves id v b x so alone s out n h here can took g i u k ne at shown =
-      let apart : k ≢ b = λ e. (alone (flat s) i u i u h.0 here ne ne at at (λ t ht one other. subst (λ j. IsSome (value_at t.memory j)) e (shown t ht one))) in
-      ap (λ l. value_at l k) took.1 ∙ rewritten_apart s.memory b x k can apart
+      let apart : k ≢ b = λ e. (alone (flat s) i u i u h.0 here ne ne at at (λ t ht one other. subst (λ (j : ℕ). IsSome (value_at t.memory j)) e (shown t ht one))) in
+      ap (λ (m : Mem D). value_at m k) took.1 ∙ rewritten_apart s.memory b x k can apart
 
   pub rewrite_allowed : (id : ℕ) (v : V) (y : Visit) (b : ℕ) (x : D) (so : Out T → V → Type 0) → Owns holds keeps id v b
       → Allows holds keeps id v (Rewrite b (value x)) so → Allows Hold Keep id (v, y) (Rewrite b x) (then_kept value so)
@@ -318,7 +167,7 @@ module _ {D T V W : Type 0} (value : D → T) (own : D → Ptr) (holds : State T
   visits id v y b shown s h at =
       let x = some_value (value_at s.memory b) (shown_kept id v y b shown s h at) in let p : Ptr = own x.0 in let u : V × Visit = (v, Some (b, p)) in
       let here : view_of (flat s) id ≡ Some v = view_plain s id (v, y) at in
-      let same : State.after (flat s) (plain_memory value s.memory) id v s.world ≡ flat s = ap (λ vs. record { memory = plain_memory value s.memory; views = vs; world = s.world }) (set_same (flat s).views id v here) in (
+      let same : State.after (flat s) (plain_memory value s.memory) id v s.world ≡ flat s = ap (λ (vs : List V). record { memory = plain_memory value s.memory; views = vs; world = s.world }) (set_same (flat s).views id v here) in (
         u,
         s.world,
         (subst holds (sym (flat_after s s.memory id u s.world ∙ same)) h.0, found p x.0 x.1 refl),
@@ -330,9 +179,9 @@ module _ {D T V W : Type 0} (value : D → T) (own : D → Ptr) (holds : State T
       found p x is lies i w c q e = by (cases_eq i id)
         where
           by : (i ≡ id) ⊎ (i ≢ id) → Shown holds i w c × ((z : D) → value_at s.memory c ≡ Some z → own z ≡ q)
-          by (inl own_one) = let mine : slice_get (slice_set s.views i (v, Some (b, p))) i ≡ Some (w, Some (c, q)) = ap (λ k. slice_get (slice_set s.views k (v, Some (b, p))) i) own_one ∙ e in
-              let two : (v, Some (b, p)) ≡ (w, Some (c, q)) = own_view s.views i (v, Some (b, p)) (w, Some (c, q)) mine in
-              let views : v ≡ w = ap (λ u. u.0) two in let blocks : b ≡ c = ap (λ u. visited u.1) two in let places : p ≡ q = ap (λ u. visited_at u.1) two in (
+          by (inl own_one) = let mine : slice_get (slice_set s.views i (v, Some (b, p))) i ≡ Some (w, Some (c, q)) = ap (λ (k : ℕ). slice_get (slice_set s.views k (v, Some (b, p))) i) own_one ∙ e in
+              let two : with_visit v (Some (b, p)) ≡ with_visit w (Some (c, q)) = own_view s.views i (v, Some (b, p)) (w, Some (c, q)) mine in
+              let views : v ≡ w = ap (λ (u : V × Visit). u.0) two in let blocks : b ≡ c = ap (λ (u : V × Visit). visited u.1) two in let places : p ≡ q = ap (λ (u : V × Visit). visited_at u.1) two in (
                 subst (λ (k : ℕ). Shown holds k w c) (sym own_one) (subst (λ (k : ℕ). Shown holds id w k) blocks (subst (λ (u : V). Shown holds id u b) views shown)),
                 λ z at_c. (let there_too : value_at s.memory b ≡ Some z = ap (value_at s.memory) blocks ∙ at_c in let one : x ≡ z = cc (is, there_too) in ap own (sym one) ∙ lies ∙ places),
               )
@@ -344,3 +193,61 @@ module _ {D T V W : Type 0} (value : D → T) (own : D → Ptr) (holds : State T
 
   pub value_found : (id : ℕ) (v : V) (b : ℕ) (p : Ptr) (x : D) → IsValueOf Hold id (v, Some (b, p)) b x → own x ≡ p
   value_found id v b p x is = (is.1.1 id v b p is.2).1 x is.3
+
+  -- ---- seats that come, turn and meet, and a memory that begins and is renewed
+  pub starts_kept : (roots : ℕ) → Starts holds roots → Starts Hold roots
+  starts_kept roots s = (s.0, (s.1, λ id v b p e. absurd (cc e)))
+
+  pub renews_kept : Renews holds → Renews Hold
+  renews_kept r s h = let g = r (flat s) h.0 in (g.0, (g.1, λ id v b p e. absurd (cc e)))
+
+  pub turn_kept : (id : ℕ) (v : V) (y : Visit) (so : V → Type 0) → Turns holds keeps id v so → Turns Hold Keep id (v, y) (λ u. so u.0 × (u.1 ≡ None))
+  turn_kept id v y so turns s h at =
+      let g = turns (flat s) h.0 (view_plain s id (v, y) at) in (
+        (g.0, None),
+        g.1,
+        (subst holds (sym (flat_after s s.memory id (g.0, None) g.1)) g.2, found_after s s.memory id g.0 g.1 h.1 (λ i u b ne here shown. refl)),
+        others_kept s id g.1 g.3,
+        (g.4, refl),
+      )
+
+  pub comes_kept : (v : V) → Comes holds keeps v → Comes Hold Keep (v, None)
+  comes_kept v comes s h =
+      let c = comes (flat s) h.0 in
+      let joins : flat (State.joined s (v, None) c.0) ≡ State.joined (flat s) v c.0 =
+      ap (λ (vs : List V). record { memory = plain_memory value s.memory; views = vs; world = c.0 }) (map-append (λ (u : V × Visit). u.0) s.views ((v, None) ∷ [])) in
+      (c.0, (subst holds (sym joins) c.1, found c.0), λ b u o. c.2 b u.0 o.0)
+    where
+      found : (w : W) → AreFound value own holds (State.joined s (v, None) w)
+      found w i u b p e = by (among s.views (v, None) (u, Some (b, p)) i e)
+        where
+          by : (view_of s i ≡ Some (u, Some (b, p))) ⊎ (with_visit v None ≡ with_visit u (Some (b, p))) → Shown holds i u b × ((x : D) → value_at s.memory b ≡ Some x → own x ≡ p)
+          by (inl at) = h.1 i u b p at
+          by (inr one) = let none : no_visit ≡ visit_of b p = ap (λ (u : V × Visit). u.1) one in absurd (cc none)
+
+  pub meets_kept : (i : ℕ) (v : V) (y : Visit) (j : ℕ) (u : V) (x : Visit) (so : V → V → Type 0) → Meets holds i v j u so
+      → Meets Hold i (v, y) j (u, x) (λ v' u'. so v'.0 u'.0 × (v'.1 ≡ None) × (u'.1 ≡ None))
+  meets_kept i v y j u x so meets s h at_i at_j ne =
+      let g = meets (flat s) h.0 (view_plain s i (v, y) at_i) (view_plain s j (u, x) at_j) ne in
+      let is : slice_set (slice_set (flat s).views i g.0) j g.1 ≡ (flat record { memory = s.memory; views = slice_set (slice_set s.views i (g.0, None)) j (g.1, None); world = s.world }).views =
+      sym (map-set (λ (u : V × Visit). u.0) (slice_set s.views i (g.0, None)) j (g.1, None) ∙ ap (λ (vs : List V). slice_set vs j g.1) (map-set (λ (u : V × Visit). u.0) s.views i (g.0, None))) in (
+        (g.0, None),
+        (g.1, None),
+        (
+          subst (λ (vs : List V). holds record { memory = plain_memory value s.memory; views = vs; world = s.world }) is g.2,
+          λ k w b p e.
+              (let one = others_visit (slice_set s.views i (g.0, None)) k j g.1 w b p e in let two = others_visit s.views k i g.0 w b p one.1 in h.1 k w b p two.1),
+        ),
+        (g.3, refl, refl),
+      )
+
+  -- ---- what is shown
+  pub shown_to_both : (i : ℕ) (v : V) (y : Visit) (j : ℕ) (u : V) (x : Visit) (b : ℕ) → ShownToBoth holds i v j u b → ShownToBoth Hold i (v, y) j (u, x) b
+  shown_to_both i v y j u x b shown s h at_i at_j = value_of_block value s.memory b (shown (flat s) h.0 (view_plain s i (v, y) at_i) (view_plain s j (u, x) at_j))
+
+  plain_value : (m : Mem D) (b : ℕ) (d : D) → value_at m b ≡ Some d → value_at (plain_memory value m) b ≡ Some (value d)
+  plain_value m b d is = ap value_in (block_at value m b) ∙ value_plain value (block_of m b) d is
+
+  pub value_of_both : (i : ℕ) (v : V) (y : Visit) (j : ℕ) (u : V) (x : Visit) (b : ℕ) (d : D) → IsValueOfBoth Hold i (v, y) j (u, x) b d
+      → IsValueOfBoth holds i v j u b (value d)
+  value_of_both i v y j u x b d is = (flat is.0, is.1.0, view_plain is.0 i (v, y) is.2, view_plain is.0 j (u, x) is.3, plain_value is.0.memory b d is.4)

@@ -48,7 +48,7 @@ module _ {D T : Type 0} (value : D → T) where
 
   module _ {V W : Type 0} where
     abbrev pub plain : State D (V × Visit) W → State T V W
-    plain s = record { memory = plain_memory s.memory; views = map (λ v. v.0) s.views; world = s.world }
+    plain s = record { memory = plain_memory s.memory; views = map (λ (u : V × Visit). u.0) s.views; world = s.world }
 
     -- own: where the own words of what is kept lie. As long as a seat that visits a block has this view the block is there, and its own words lie where the seat
     -- has seen them.
