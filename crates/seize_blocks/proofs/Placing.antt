@@ -1,33 +1,27 @@
 -- Slots give up their places, and places are slots again: one call each. Assumes `Logic`.
-use Rattle.std.proofs.Common.{◌≡◌, ℕ, zero, suc, ◌+◌, ◌*◌, ◌^◌, ◌<◌, Bool, true, false, T, List, [], ◌∷◌, ◌++◌, length, get_or, refl, sym, ap, ◌∙◌, subst, arith}
-use Rattle.std.specs.Prelude.{Option, None, slice_index_or, replicate}
-use Rattle.std.proofs.lemmas.List.{length-replicate}
+use Rattle.std.proofs.Common.{◌≡◌, ℕ, ◌^◌, ◌<◌, Bool, T, List, [], ◌∷◌, ◌++◌, length, refl, sym, ap, ◌∙◌, subst}
 use seplogic.Ra.Ura.{Ura}
 use mir.Val.{Val, WT, has_ty, vint, vptr, vstruct, of_list}
-use mir.Syntax.{w64, ty_ptr, Callee}
+use mir.Syntax.{w64, Callee}
 use prog.Model.{Model}
 use prog.Wired.{Wired}
-use base.Fraction.{full_share}
-use base.Logic.{SProp, ent, sep, guard, emp, never, via, fst∗, mono∗, id⊢}
+use base.Logic.{SProp, ent, sep, emp, via, fst∗, id⊢}
 use base.Fml.{Lft, Share, Fml, ftrue, fsep, flft}
-use types.Logic.{Logic, sem}
-use types.Kit.{Item, mean, ‵, raw, ◌⊛◌, some as items, given, later, ◌$◌, ◌∵◌, !, qed, move, keep, drop, use0, use1, split, join, pick, rewrite, fsplit, fsplit3, fjoin, fpick, fpack, feq_l, feq_i, flt_i, flt_l, check, show, await, updating, now, done}
+use types.Logic.{Logic}
+use types.Kit.{Item, mean, ‵, raw, ◌⊛◌, some as items, given, later, ◌$◌, ◌∵◌, !, qed, move, keep, drop, use0, use1, split, join, pick, rewrite, fsplit, fsplit3, fjoin, fpick, feq_l, feq_i, flt_i, check, show, await, updating, now, done}
 use contract.BorrowLft.{◌⊑◌}
 use contract.Monad.{fact, fact_i}
 use contract.Running.{Running, MachineTables, tables}
 use denote.RattleType.{RattleType}
-use denote.Builtin.{usize, u64, RawPtr}
+use denote.Builtin.{usize, RawPtr}
 use denote.Param.{layout}
-use denote.Plain.{uint_in, uint_out}
-use denote.RawPtr.{Ptr, block_ptr, null_ptr, ptr_val, block_of, count_of, at_block, InBlock, in_block, in_a_block}
+use denote.RawPtr.{Ptr, block_ptr}
 use denote.Steps.{only, heard, nothing}
-use denote.Memory.{part_at, part_of, cell_at}
 use denote.Struct.Tuple.{Tuple}
 use denote.Triple.Spec.{triple_of}
 use denote.Triple.Statement.{Contract}
-use Rattle.core.specs.Sync.RawAtomic.Pointer.{cell}
-use Rattle.core.specs.Mem.Slots.Ownership.{owned, slots, Filled}
-use Rattle.core.specs.Mem.Slots.{slots_items, slots_filled, slots_ptr, slots_len, slots_counts, IsFull}
+use Rattle.core.specs.Mem.Slots.Ownership.{owned}
+use Rattle.core.specs.Mem.Slots.{slots_items, slots_filled, slots_ptr, slots_len, slots_counts}
 use Rattle.core.specs.contracts.slots.Slots.from_raw_parts as joining
 use Rattle.core.specs.contracts.slots.Slots.from_raw_parts.Key as joining_key
 use Rattle.core.proofs.slots.Slots.from_raw_parts.Symbol as joining_symbol
@@ -39,9 +33,6 @@ use Rattle.core.proofs.slots.Slots.into_raw_parts.Met as parting_met
 use Rattle.core.proofs.mem.Param.{El, R, args, el_x}
 use Rattle.core.proofs.slots.Opens.{Sr, words_val, row_val, row_had, row_made}
 use Rattle.std.proofs.raw_atomic.Calls.{fm}
-use Rattle.core.specs.contracts.option.Option.{the_row as OptionOf}
-use Rattle.seize_seats.specs.Doors.{pointers}
-use Rattle.seize_seats.specs.Owned.{row, stride, places}
 
 -- a place and a number are a value of a type of two words
 pub is_pair : (R : RattleType) (v : Val) (b o n : ℕ) → T (has_ty (layout R) (row_val b o n)) → n < 2 ^ 64 → v ≡ row_val b o n → T (has_ty (layout R) v) × WT v

@@ -1,13 +1,10 @@
--- Where the word of a name is looked for, and places that are all full.
-use Rattle.std.specs.Prelude.{◌≡◌, ℕ, ◌+◌, ◌-◌, ◌*◌, ◌<◌, ◌≤◌, ◌^◌, Bool, true, false, slice_index_or, List, [], ◌∷◌, replicate, Some, IsSome}
-use denote.RattleType.{RattleType}
-use denote.RawPtr.{Ptr, InBlock}
+-- Where the word of a name is looked for, and behind which door the strip of a number is.
+use Rattle.std.specs.Prelude.{◌≡◌, ℕ, ◌+◌, ◌-◌, ◌*◌, ◌<◌, ◌≤◌, ◌^◌, Some, IsSome}
+use denote.RawPtr.{Ptr}
 use Rattle.seize_words.specs.Mem.{word_at}
 use Rattle.seize_words.specs.declared.at.At.{At}
 use Rattle.seize_seats.specs.State.{State, view_of}
 use Rattle.seize_seats.specs.Lines.{IsWord}
-use Rattle.seize_seats.specs.Strips.{Strip}
-use Rattle.seize_seats.specs.Doors.{before}
 use Rattle.seize_seats.specs.Owned.{BaseId, IsIts, IsIn, place_in}
 
 -- the place is that of the name, if there is such a word, and in any case a small number

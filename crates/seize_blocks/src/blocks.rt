@@ -155,7 +155,8 @@ impl<T, R: Rule<T>> Blocks<T, R> {
         requires ends { Renews (R.holds self.old.words.fixed) }
         ensures same { (self.new.words.words ≡ self.old.words.words) × (self.new.words.fixed ≡ self.old.words.fixed) }
         ensures names { (self.new.words.id.roots ≡ self.old.words.id.roots) × (self.new.words.id.count ≡ self.old.words.id.count)
-            × (self.new.words.id.values ≡ self.old.words.id.values) × (self.new.words.id.doors ≡ self.old.words.id.doors) }
+            × (self.new.words.id.values ≡ self.old.words.id.values) × (self.new.words.id.doors ≡ self.old.words.id.doors)
+            × (self.new.words.id.size ≡ self.old.words.id.size) }
     {
         self.words.renew()
     }

@@ -1,6 +1,6 @@
 -- The strip behind a door, at the end: whoever takes the address finds null, or the first of the strips that are left.
 use Rattle.std.specs.Prelude.{slice_index_or}
-use Rattle.std.proofs.Common.{◌≡◌, ℕ, zero, suc, ◌+◌, ◌*◌, ◌^◌, ◌<◌, ◌≤◌, Bool, true, false, List, [], ◌∷◌, length, drop, refl, sym, ap, ◌∙◌, subst, arith, lit<, slice_set, pow-suc, mul_assoc, get_or-set_other}
+use Rattle.std.proofs.Common.{◌≡◌, ℕ, zero, suc, ◌+◌, ◌*◌, ◌^◌, ◌<◌, Bool, false, List, [], ◌∷◌, length, drop, refl, sym, ap, ◌∙◌, subst, arith, lit<, slice_set, pow-suc, mul_assoc, get_or-set_other}
 use denote.RattleType.{RattleType}
 use denote.RawPtr.{Ptr, null_ptr, InBlock, Testable}
 use Rattle.seize_seats.specs.Strips.{Strip, further}

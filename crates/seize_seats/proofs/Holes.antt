@@ -1,13 +1,12 @@
 -- Places that hold nothing are room, and words that are given up are. Assumes `Logic`.
-use Rattle.std.proofs.Common.{◌≡◌, ℕ, zero, suc, ◌+◌, ◌*◌, ◌<◌, Bool, true, false, List, [], ◌∷◌, length, replicate, refl, sym, arith, w64}
+use Rattle.std.proofs.Common.{◌≡◌, ℕ, suc, ◌+◌, Bool, false, List, [], ◌∷◌, length, replicate, refl, arith, w64}
 use seplogic.Ra.Ura.{Ura}
 use mir.Syntax.{Ty, ty_int, ty_array}
-use mir.Raw.{raw as bare}
 use mir.Val.{vint}
 use base.Logic.{ent}
-use base.Fml.{Fml, ftrue, fsep, froom}
+use base.Fml.{Fml, ftrue, froom}
 use types.Logic.{Logic, sem}
-use types.Kit.{‵, ◌⊛◌, ◌$◌, ◌∵◌, !, qed, by, move, keep, drop, split, fsplit, fjoin, use0, use1, use2, rewrite, done}
+use types.Kit.{‵, ◌⊛◌, ◌$◌, ◌∵◌, !, qed, by, move, drop, split, fjoin, use0, use1, rewrite, done}
 use denote.RattleType.{RattleType}
 use denote.Memory.{lone}
 use denote.RawPtr.{block_ptr}

@@ -16,10 +16,10 @@ use denote.RattleType.{RattleType}
 use denote.Memory.{lone}
 use denote.RawPtr.{Ptr, block_ptr, count_of, Testable}
 use contract.Monad.{fact_use}
-use Rattle.libc.specs.Heap.{chunk, chunk_start}
+use Rattle.std.proofs.GlobalToken.{dealloc_token_start}
 use Rattle.core.specs.contracts.option.Option.{the_row as OptionOf}
 use Rattle.core.specs.Allocator.{HasLayout}
-use Rattle.seize_seats.specs.Doors.{places_type, words_type, block_type, before, block_bytes, fits_again, deed}
+use Rattle.seize_seats.specs.Doors.{places_type, words_type, block_type, before, block_bytes, fits_again, deed, frees, heap}
 use Rattle.seize_seats.specs.Owned.{stride}
 
 -- ---- rounded up
@@ -134,8 +134,8 @@ module _ (R : RattleType) (n : ℕ) where
 
 -- whoever may give a block back can compare its address with null
 pub tested : {M : Type 1} {𝓤 : Ura M} (𝓛 : Logic 𝓤) (R : RattleType) (n : ℕ) (p : Ptr)
-    → ent 𝓤 (sem 𝓛 (deed R chunk n p)) (guard 𝓤 (Testable p) (sem 𝓛 (deed R chunk n p)))
-tested {𝓤 = 𝓤} 𝓛 R n p = let D : Fml = chunk (block_type R n) p in
-    qed 𝓛 (‵ (deed R chunk n p) ∷ []) ∵ fsplit ! $
-    use1 𝓛 (given (count_of p ≡ 0) (‵ D)) (fact_use 𝓤 (count_of p ≡ 0) (chunk_start 𝓛 (block_type R n) p) (guard_i 𝓤 (count_of p ≡ 0) (sem 𝓛 D))) $
+    → ent 𝓤 (sem 𝓛 (deed R frees n p)) (guard 𝓤 (Testable p) (sem 𝓛 (deed R frees n p)))
+tested {𝓤 = 𝓤} 𝓛 R n p = let D : Fml = frees (block_type R n) p in
+    qed 𝓛 (‵ (deed R frees n p) ∷ []) ∵ fsplit ! $
+    use1 𝓛 (given (count_of p ≡ 0) (‵ D)) (fact_use 𝓤 (count_of p ≡ 0) (dealloc_token_start 𝓛 heap (block_type R n) p) (guard_i 𝓤 (count_of p ≡ 0) (sem 𝓛 D))) $
     learn ! (λ at. check ! (subst (λ (k : ℕ). k < 2 ^ 63) (sym at) (lit< tt)) $ fjoin ! $ done !)

@@ -1,15 +1,14 @@
 -- The first of some strips that are alone, and what a new block is made of. Assumes `Logic`.
-use Rattle.std.proofs.Common.{◌≡◌, ℕ, ◌+◌, ◌*◌, ◌^◌, ◌<◌, Bool, true, false, List, [], ◌∷◌, length, replicate, refl, sym, ap, ◌∙◌, subst, arith, Option, None}
+use Rattle.std.proofs.Common.{◌≡◌, ℕ, ◌+◌, ◌*◌, ◌^◌, ◌<◌, Bool, false, List, [], ◌∷◌, length, replicate, refl, sym, subst, arith, Option, None}
 use Rattle.std.proofs.lemmas.List.{length-replicate}
 use seplogic.Ra.Ura.{Ura}
 use mir.Raw.{raw as bare}
-use mir.Syntax.{Ty, ty_array}
-use base.Logic.{SProp, ent, sep}
-use base.Fml.{Fml, fsep, froom}
+use mir.Syntax.{Ty}
+use base.Logic.{ent, sep}
+use base.Fml.{Fml, froom}
 use types.Logic.{Logic, sem}
 use types.Kit.{‵, ◌⊛◌, given, learn, ◌$◌, ◌∵◌, !, qed, move, drop, split, fsplit, fjoin, frame, flt_i, use1, use3, rewrite, done}
 use denote.RattleType.{RattleType}
-use denote.Memory.{lone}
 use denote.Builtin.{u64}
 use denote.RawPtr.{Ptr, block_ptr, InBlock}
 use Rattle.core.specs.contracts.option.Option.{the_row as OptionOf}
@@ -18,7 +17,7 @@ use Rattle.seize_seats.specs.Strips.{Strip, further}
 use Rattle.seize_seats.specs.Doors.{places_type, words_type, block_type, before, block_bytes, words_from, fits_again, deed}
 use Rattle.seize_seats.specs.Owned.{stride, row}
 use Rattle.seize_seats.proofs.Plots.{fits, spreads, gathers}
-use Rattle.seize_seats.specs.Plots.{HasFirst, AreEmpty, all_full}
+use Rattle.seize_seats.specs.Plots.{HasFirst, AreEmpty}
 use Rattle.seize_seats.proofs.Holes.{holes_out, holes_in, words_room}
 use Rattle.seize_seats.proofs.Slotted.{Whole, Fits, whole_out}
 

@@ -9,11 +9,11 @@ use denote.RattleType.{RattleType}
 use denote.Param.Send.{IsSend, IsSync, part_keyless}
 use types.Keyed.{token, entry_keyless, entries_keyless}
 use Rattle.core.specs.contracts.option.Option.{the_row as OptionOf}
-use Rattle.libc.specs.Heap.{chunk-Keyless}
+use Rattle.std.proofs.Crossing.{frees as freed}
 use Rattle.seize_seats.specs.State.{State}
 use Rattle.seize_seats.specs.Cells.{Cell, Free, Claimed, Out, Has, Held}
 use Rattle.seize_seats.specs.Strips.{Strip, strip_coded, no_strip, further}
-use Rattle.seize_seats.specs.Doors.{block_type, IsFurther, right_to, doors}
+use Rattle.seize_seats.specs.Doors.{block_type, IsFurther, heap, right_to, doors}
 use Rattle.seize_seats.specs.Owned.{shared_view, row, quarters, ledger, zeros, stride, kept, numbers, strips, Core, BaseId, core_of, everything, common, words_own, words_share}
 use Rattle.seize_seats.specs.Lendings.{Phase, Begins, Lasts, Over, in_phase, Holder, Lending, span, told, lendings, lendable, in_hand}
 use Rattle.seize_seats.specs.Stretches.{lasting, seat_owns, seat_shares}
@@ -105,7 +105,7 @@ module _ (R : RattleType) (sent : IsSend (OptionOf R)) (synced : IsSync (OptionO
       λ ss. (
         (
           (ledger_keyless strip_coded.code k.strips_name no_strip ss, entries_keyless shared_view k.hands_name (length t.parts.cells) _),
-          doors_keyless k.strips_name (IsFurther R k.least) (right_to R) (λ s. (chunk-Keyless (block_type R s.size) s.words, ((tt, tt), tt))) (block_of k.doors) (count_of k.doors) 32 0 (further ss),
+          doors_keyless k.strips_name (IsFurther R k.least) (right_to R) (λ s. (freed.frees heap (block_type R s.size) s.words, ((tt, tt), tt))) (block_of k.doors) (count_of k.doors) 32 0 (further ss),
         ),
         (
           (λ _. tt),

@@ -9,10 +9,18 @@ use denote.RattleType.{RattleType}
 use denote.Memory.{lone}
 use denote.RawPtr.{Ptr, null_ptr, block_ptr, block_of, count_of, InBlock, Testable}
 use Rattle.core.specs.contracts.option.Option.{the_row as OptionOf}
-use Rattle.libc.specs.Heap.{chunk}
+use Rattle.std.specs.declared.alloc.Global.{Global}
+use Rattle.std.specs.contracts.impls.GlobalAllocator.TheImpl.{ghosts}
 use Rattle.core.specs.Sync.RawAtomic.Pointer.{cell}
 use Rattle.seize_seats.specs.Seen.{fact, seen}
 use Rattle.seize_seats.specs.Strips.{Strip, strip_coded}
+
+-- the right to free a block of a type, which lies there
+abbrev pub heap : Global
+heap = record { memory = record { seal = tt } }
+
+abbrev pub frees : Ty → Ptr → Fml
+frees = ghosts.dealloc_token heap
 
 -- so many pointers, side by side
 abbrev pub pointers : ℕ → ℕ → List Ptr → Fml
@@ -61,7 +69,7 @@ module _ (R : RattleType) where
   deed holds n p = fsep (holds (block_type n) p) (fits_again n p)
 
   abbrev pub right_to : Strip → Fml
-  right_to s = deed chunk s.size s.words
+  right_to s = deed frees s.size s.words
 
 -- the strip is the k-th of the list of this name, and stays so
 abbrev pub stays : ℕ → ℕ → Strip → Fml

@@ -1,4 +1,4 @@
-use Rattle.std.proofs.Common.{ℕ, List, refl, sym, ◌∙◌, ◌≡◌, ◌<◌, ◌+◌, length, drop, subst, arith}
+use Rattle.std.proofs.Common.{List, refl, sym, ◌∙◌, ◌≡◌, ◌<◌, ◌+◌, length, drop, subst, arith}
 use denote.Param.{param}
 use denote.RawPtr.{Ptr, InBlock}
 use Rattle.core.specs.Mem.Slots.{slots_items, slots_filled, slots_len, slots_counts}

@@ -1,12 +1,12 @@
 -- `release` puts the parts of a block together and gives it back.
-use Rattle.std.proofs.Common.{◌≡◌, ℕ, ◌+◌, ◌*◌, ◌^◌, ◌<◌, Bool, T, List, [], ◌∷◌, length, sym, refl, ap, ◌∙◌, subst, arith, lit<, w64, Option}
+use Rattle.std.proofs.Common.{◌≡◌, ℕ, ◌*◌, ◌^◌, ◌<◌, Bool, T, List, [], ◌∷◌, length, sym, refl, subst, lit<, w64, Option}
 use mir.Syntax.{Ty, a_type, ty_unit, dcons, dnil, named}
 use mir.MapTy.{inst_fn}
 use mir.Val.{Val, WT, vunit, vint, vptr, has_ty}
 use prog.Wp.{WpFn}
 use base.Logic.{SProp, ent, id⊢, never}
 use base.Fml.{Lft, Share, Fml, ftrue, fsep, flft, froom, Incl-trans}
-use types.Kit.{‵, raw, ◌⊛◌, given, later, at_ret, ◌$◌, ◌∵◌, !, qed, by, move, keep, drop, split, join, fjoin, feq_i, flt_i, flt_l, learn, suffices, await, use1, use3, rewrite, fsplit}
+use types.Kit.{‵, raw, ◌⊛◌, given, later, at_ret, ◌$◌, ◌∵◌, !, qed, by, move, keep, split, join, fjoin, feq_i, flt_i, flt_l, learn, suffices, await, use1, use3, rewrite, fsplit}
 use types.Run.{stop, fld, lit, unit_lit, of_opd, no_more, and_then, first, blocks, exec, returns, enter}
 use types.ByLocal.{alloc_all, pass_all, free_all, look_at, get, get_in, sets, lands_last, env}
 use types.Part.{sub, whole}
@@ -34,7 +34,7 @@ use Rattle.std.proofs.raw_atomic.Walks.{proved, leaves}
 use Rattle.std.proofs.raw_atomic.Calls.{fm}
 use Rattle.seize_seats.specs.Doors.{block_type, block_bytes, words_from, deed}
 use Rattle.seize_seats.proofs.Plots.{laid_out}
-use Rattle.seize_seats.specs.Plots.{AreEmpty, all_full}
+use Rattle.seize_seats.specs.Plots.{AreEmpty}
 use Rattle.seize_blocks.specs.contracts.row.Row as row
 use Rattle.seize_blocks.specs.contracts.plot.Deed as deed_of
 use Rattle.seize_blocks.proofs.Fields.{token, mark_told, one_of, one_good, places_told}

@@ -1,5 +1,5 @@
 -- `reserve` asks the allocator for a block, and makes rows of its room.
-use Rattle.std.proofs.Common.{◌≡◌, ℕ, ◌+◌, ◌*◌, ◌^◌, ◌<◌, true, false, List, [], ◌∷◌, length, replicate, sym, refl, ap, ◌∙◌, subst, arith, lit<, w64, Option, None}
+use Rattle.std.proofs.Common.{◌≡◌, ℕ, ◌+◌, ◌*◌, ◌^◌, ◌<◌, true, false, List, [], ◌∷◌, length, replicate, sym, refl, ap, subst, arith, lit<, w64, Option, None}
 use Rattle.std.proofs.lemmas.List.{length-replicate}
 use mir.Syntax.{Ty, Body, a_type, dcons, dnil, named}
 use mir.MapTy.{inst_fn}
@@ -7,7 +7,7 @@ use mir.Val.{Val, WT, vint, vptr, vstruct, vcons, vnil}
 use prog.Wp.{Wp, after_seq, at_return}
 use base.Logic.{SProp, emp}
 use base.Fml.{Lft, Share, Fml, ftrue, fsep, flft, Incl-trans}
-use types.Kit.{‵, raw, ◌⊛◌, later, at_ret, any_q, ◌$◌, ◌∵◌, !, qed, by, move, keep, split, join, fsplit, fsplit3, fjoin, fjoin3, fpack, feq_i, await, use0, use1, use2, rewrite}
+use types.Kit.{‵, raw, ◌⊛◌, later, at_ret, any_q, ◌$◌, ◌∵◌, !, qed, by, move, keep, split, join, fsplit, fjoin, fjoin3, fpack, feq_i, await, use0, use1, use2, rewrite}
 use types.Match.{live, vrt, in_variant}
 use types.Run.{stop, fld, lit, of_opd, bin, no_more, and_then, first, blocks, switches_on, exec, returns, enter}
 use types.ByLocal.{alloc_all, pass_all, free_all, look_at, get, get_in, get_tag, sets, sets_last, lands_as, env}

@@ -1,4 +1,4 @@
-use Rattle.std.proofs.Common.{◌≡◌, ◌+◌, ◌*◌, ◌^◌, ◌∙◌, subst, arith}
+use Rattle.std.proofs.Common.{◌∙◌, subst, arith}
 use denote.RawPtr.{InBlock}
 use Rattle.seize_seats.proofs.Behind.{doubled}
 use Rattle.seize_blocks.proofs.blocks.Blocks.part_behind.Goals as goal

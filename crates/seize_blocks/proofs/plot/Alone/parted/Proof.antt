@@ -7,9 +7,8 @@ use mir.MapTy.{inst_fn}
 use mir.Val.{Val, vint, vptr, vstruct, vcons, vnil}
 use prog.Wp.{WpFn}
 use base.Logic.{SProp, ent, emp, id⊢}
-use base.Fml.{Fml, fsep}
-use types.Kit.{‵, raw, ◌⊛◌, at_ret, ◌$◌, ◌∵◌, !, qed, by, move, keep, drop, split, fsplit, fsplit3, fjoin, fjoin3, fpick, fpack, feq_i, suffices, use0, use1, rewrite}
-use types.Run.{stop, fld, lit, of_opd, bin, no_more, and_then, first, blocks, exec, returns, enter}
+use types.Kit.{‵, raw, ◌⊛◌, at_ret, ◌$◌, ◌∵◌, !, qed, by, move, keep, drop, split, fsplit, fjoin, fjoin3, fpick, fpack, feq_i, suffices, use0, use1, rewrite}
+use types.Run.{lit, of_opd, bin, no_more, and_then, first, blocks, exec, returns, enter}
 use types.ByLocal.{alloc_all, pass_all, free_all, look_at, get, sets, sets_last, env}
 use types.Part.{agg}
 use contract.Running.{tables}
@@ -35,8 +34,8 @@ use Rattle.std.specs.contracts.alloc.Global as heap
 use Rattle.std.specs.contracts.impls.GlobalAllocator.TheImpl.{ghosts}
 use Rattle.std.proofs.raw_atomic.Walks.{proved, leaves}
 use Rattle.seize_seats.specs.Strips.{Strip, further}
-use Rattle.seize_seats.specs.Doors.{before, block_bytes, words_from, deed}
-use Rattle.seize_seats.specs.Owned.{row, places, stride, stripped, alone, all_alone}
+use Rattle.seize_seats.specs.Doors.{before, block_bytes, words_from}
+use Rattle.seize_seats.specs.Owned.{stride, all_alone}
 use Rattle.seize_seats.proofs.Plots.{fits}
 use Rattle.seize_seats.specs.Plots.{HasFirst, all_full}
 use Rattle.seize_blocks.specs.contracts.row.Row as row_of

@@ -1,5 +1,5 @@
 -- `look` loads a door: what lies behind is told to whoever finds an address there.
-use Rattle.std.proofs.Common.{◌≡◌, ℕ, suc, List, [], ◌∷◌, ◌+◌, ◌*◌, ◌^◌, ◌<◌, sym, refl, ap, ◌∙◌, subst, w64, arith}
+use Rattle.std.proofs.Common.{◌≡◌, ℕ, suc, List, [], ◌∷◌, ◌+◌, ◌*◌, ◌^◌, ◌<◌, sym, refl, ◌∙◌, subst, w64, arith}
 use mir.Syntax.{dcons, dnil, a_type, named}
 use mir.MapTy.{inst_fn}
 use mir.Val.{Val, vint, vptr}

@@ -45,8 +45,8 @@ use Rattle.std.proofs.raw_atomic.Calls.{fm, seq_cst}
 use Rattle.std.proofs.raw_atomic.PtrCalls.{Answer, answer_val, answer_good, answered, hears, exchanges, seq_cst_good}
 use Rattle.seize_seats.specs.Seen.{fact as so, seen}
 use Rattle.seize_seats.specs.Strips.{Strip, strip_coded}
-use Rattle.seize_seats.specs.Doors.{before, block_bytes, words_from, IsFurther, right_to, stays}
-use Rattle.seize_seats.specs.Owned.{BaseId, IsPlaced, AreOf, age, core_of, common, strip_of, strip_told, alone, all_alone, words_share}
+use Rattle.seize_seats.specs.Doors.{before, block_bytes, words_from, IsFurther, right_to}
+use Rattle.seize_seats.specs.Owned.{BaseId, IsPlaced, AreOf, age, core_of, common, strip_of, strip_told, words_share}
 use Rattle.seize_seats.specs.Owned as Owned
 use Rattle.seize_seats.proofs.Shown.{placed, told_there}
 use Rattle.seize_seats.proofs.Opening.{fives, fives_are, fives_long}
