@@ -29,13 +29,13 @@ SOURCE = os.path.join(ROOT, "bench", "maps.rs")
 KINDS = ["hit", "miss", "insert", "replace", "in_turn", "window", "iterate"]
 
 
-def compiled(folder):
-    """The program on Rust's map, or None where there is no compiler."""
+def compiled(source, folder):
+    """A program in Rust, or None where there is no compiler."""
     rustc = shutil.which("rustc")
     if rustc is None:
         return None
-    program = os.path.join(folder, "maps")
-    subprocess.run([rustc, "--edition", "2021", "-C", "opt-level=3", "-C", "target-cpu=x86-64-v2", SOURCE, "-o", program], check=True)
+    program = os.path.join(folder, "in_rust")
+    subprocess.run([rustc, "--edition", "2021", "-C", "opt-level=3", "-C", "target-cpu=x86-64-v2", source, "-o", program], check=True)
     return program
 
 
@@ -105,7 +105,7 @@ def main():
     print("load: " + " ".join(f"{it:.1f}" for it in os.getloadavg()))
     with tempfile.TemporaryDirectory() as folder:
         maps = {"owned": given.program, "std": given.program}
-        rust = compiled(folder)
+        rust = compiled(SOURCE, folder)
         if rust is not None:
             maps["rust"] = rust
         table(maps, given)

@@ -19,7 +19,7 @@ ghost use Rattle.std.specs.Prelude.{None};
 
 use seize::rows::Defers;
 use seize_blocks::Home;
-use seize_shared::{Caller, Fixed, LocalGuard, OfRows, OwnedGuard, Registration};
+use seize_shared::{Caller, Fixed, Guard, LocalGuard, OfRows, OwnedGuard, Registration};
 use std::io;
 use std::thread;
 use std::thread::Threads;

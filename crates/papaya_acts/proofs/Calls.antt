@@ -1,7 +1,8 @@
 -- A call that begins, takes a step, is told something, is asked for a pair, or is given up: all stand together then.
 use Rattle.std.specs.Prelude.{◌≡◌, ℕ, Bool, true, false, [], Some, None}
 use Rattle.std.specs.Option.{is_none}
-use Rattle.std.proofs.Common.{refl, sym, ap, subst, ◌∙◌}
+use Rattle.std.specs.Result.{is_err}
+use Rattle.std.proofs.Common.{refl, sym, ap, subst, ◌∙◌, inr}
 use Rattle.papaya_scenes.specs.Given.Seize.World.{with_at}
 use Rattle.seize_acts.specs.Answers.{Grant, then_on}
 use Rattle.seize_acts.proofs.Answers.{some, same_some, was_stepped}
@@ -10,14 +11,23 @@ use Rattle.papaya_scenes.proofs.Given.SeizeRule.Rows.Leaving.{with_same}
 use Rattle.papaya_scenes.specs.Given.SeizeWords.Mem.{Mem}
 use Rattle.papaya_scenes.specs.Given.Tables.declared.node.Node.{Node}
 use Rattle.papaya_scenes.specs.Given.Tables.declared.node.Node.TheVariants as node
+use Rattle.papaya_scenes.specs.Given.Sweeps.declared.sweep.Sweep.{Sweep}
 use Rattle.papaya_scenes.specs.Given.Sweeps.declared.sweep.Sweeping.{Sweeping}
 use Rattle.papaya_scenes.specs.Given.Sweeps.declared.sweep.Sweeping.TheVariants as sweeping
-use Rattle.papaya_scenes.specs.Given.Raw.CallAsks.{computing, updating, updating_or_inserting, trying_to_insert_with, removing_if}
+use Rattle.papaya_scenes.specs.Given.Raw.CallAsks.{absent_told, present_told, told_at, computing, updating, updating_or_inserting, trying_to_insert_with, removing_if}
 use Rattle.papaya_scenes.specs.Given.Raw.CallPoints.{getting, removing, inserting, trying_to_insert}
-use Rattle.papaya_scenes.specs.Given.Raw.Machine.{machine_plan, machine_replied, machine_asked, is_ready}
+use Rattle.papaya_scenes.specs.Given.Raw.Machine.{machine_plan, machine_replied, machine_asked, is_ready, sweep_told}
+use Rattle.papaya_scenes.specs.Given.Raw.declared.machines.asking.Asking.TheVariants as asking
+use Rattle.papaya_scenes.specs.Given.Raw.declared.machines.asking.Gap.{Gap}
 use Rattle.papaya_scenes.specs.Given.Raw.declared.machines.asking.Reply.{Reply}
+use Rattle.papaya_scenes.specs.Given.Raw.declared.machines.asking.Reply.TheVariants as reply
+use Rattle.papaya_scenes.specs.Given.Raw.declared.machines.asking.Takes.{Takes}
+use Rattle.papaya_scenes.specs.Given.Raw.declared.machines.asking.Takes.TheVariants as takes
+use Rattle.papaya_scenes.specs.Given.Raw.declared.machines.call.Calling.{Calling}
+use Rattle.papaya_scenes.specs.Given.Raw.declared.machines.call.Calling.TheVariants as at
 use Rattle.papaya_scenes.specs.Given.Raw.declared.machines.call.KeyCall.{KeyCall}
 use Rattle.papaya_scenes.specs.Given.Raw.declared.machines.machine.Machine.{Machine}
+use Rattle.papaya_scenes.specs.Given.Raw.declared.machines.machine.Machine.TheVariants as kinds
 use Rattle.papaya_scenes.specs.Given.Raw.declared.machines.progress.Progress.{Progress}
 use Rattle.papaya_scenes.specs.Given.Points.Steps.{AreLawful, told_first}
 use Rattle.papaya_scenes.specs.Given.Callers.Asked.{told_before}
@@ -26,17 +36,17 @@ use Rattle.papaya_scenes.specs.Given.Callers.Pairs.{Given, Begun, IsTold}
 use Rattle.papaya_scenes.specs.Given.Callers.Together.{UnderWay, OnKey, ForRoom, Counting, OverAll, IsBegun}
 use Rattle.papaya_scenes.specs.Given.Callers.Together as begins
 use Rattle.papaya_scenes.specs.Given.Finishes.Endings.{EndingsTogether}
-use Rattle.papaya_scenes.specs.Given.Finishes.Machines.{machine_of, MachineStepsAmong}
+use Rattle.papaya_scenes.specs.Given.Finishes.Machines.{machine_of, MachineStepsAmong, ToldOfKind}
 use Rattle.papaya_scenes.specs.Given.Finishes.Maps.{Standing, with_call}
 use Rattle.papaya_scenes.proofs.Given.Finishes.Among.Calls.{calls_begin_among}
 use Rattle.papaya_scenes.proofs.Given.Finishes.Among.Countings.{countings_begin_among}
 use Rattle.papaya_scenes.proofs.Given.Finishes.Among.Machines.{machines_stand_among}
 use Rattle.papaya_scenes.proofs.Given.Finishes.Among.MachinesTold.{machines_told_among}
 use Rattle.papaya_scenes.proofs.Given.Finishes.Among.Rooms.{rooms_begin_among}
-use Rattle.papaya_scenes.proofs.Given.Finishes.Among.Sweeps.{sweeps_begin_among, walks_stop_among}
+use Rattle.papaya_scenes.proofs.Given.Finishes.Among.Sweeps.{sweeps_begin_among, sweeps_told_among, walks_stop_among}
 use Rattle.seize_acts.specs.Acts.{is_within}
 use Rattle.papaya_acts.specs.Acts.{Wanted, Get, Remove, Insert, TryToInsert, Compute, Update, UpdateOrInsert, TryToInsertWith, RemoveIf, MakeRoom, Count, GoOver, Answer, Nothing, OfCall, OfReply, OfAsking, BeginsCall, StepsCall, TellsCall, AsksCall, StopsCall, UnlessToCount, its, begun}
-use Rattle.papaya_acts.specs.Leads.{MayBe, AllStand, Led, call_at, call_steps}
+use Rattle.papaya_acts.specs.Leads.{MayBe, AllStand, Led, asked_on, call_at, call_steps}
 use Rattle.papaya_acts.proofs.Tests.{some_is, inside_is, its_class}
 use Rattle.papaya_scenes.proofs.NoCall.{none_is}
 use Rattle.papaya_scenes.specs.Replying.{scene_with, unless_stopped}
@@ -46,6 +56,62 @@ use Rattle.papaya_scenes.specs.Scene.{Scene}
 pub ready_is : (stage : Sweeping) → is_ready stage ≡ true → stage ≡ sweeping.Ready
 ready_is sweeping.Ready is = refl
 ready_is _ is = absurd (cc is)
+
+-- what was asked for its next pair has the machine that was asked
+pub asked_machine : {K V : Type 0} (u : UnderWay K V K) → machine_of (asked_on u) ≡ (machine_asked (machine_of u)).0
+asked_machine (OnKey k) = refl
+asked_machine (ForRoom r) = refl
+asked_machine (Counting sum) = refl
+asked_machine (OverAll o) = refl
+
+-- a machine that does not take a reply is as it was
+module _ {K V Q : Type 0} (c : KeyCall K V Q) where
+  absent_refused : (takes : Takes) (gap : Gap) (said : Reply V) → is_err (absent_told takes c gap said).1 ≡ true → (absent_told takes c gap said).0 ≡ c
+  absent_refused takes.Values gap (reply.Insert value) e = absurd (cc e)
+  absent_refused takes.Changes gap (reply.Insert value) e = absurd (cc e)
+  absent_refused takes.Changes gap reply.Remove e = absurd (cc e)
+  absent_refused takes.Changes gap reply.Abort e = absurd (cc e)
+  absent_refused takes.Values gap _ e = refl
+  absent_refused takes.Changes gap _ e = refl
+  absent_refused takes.Choices gap reply e = refl
+  absent_refused takes.Nothing gap reply e = refl
+
+  present_refused : (takes : Takes) (word : ℕ) (reply : Reply V) → is_err (present_told takes c word reply).1 ≡ true → (present_told takes c word reply).0 ≡ c
+  present_refused takes.Values word (reply.Insert value) e = absurd (cc e)
+  present_refused takes.Changes word (reply.Insert value) e = absurd (cc e)
+  present_refused takes.Changes word reply.Remove e = absurd (cc e)
+  present_refused takes.Changes word reply.Abort e = absurd (cc e)
+  present_refused takes.Choices word reply.Yes e = absurd (cc e)
+  present_refused takes.Choices word reply.No e = absurd (cc e)
+  present_refused takes.Values word _ e = refl
+  present_refused takes.Changes word _ e = refl
+  present_refused takes.Choices word _ e = refl
+  present_refused takes.Nothing word reply e = refl
+
+  key_refused : (stands : Calling) (reply : Reply V) → is_err (told_at stands c reply).1 ≡ true → (told_at stands c reply).0 ≡ c
+  key_refused (at.Asks (asking.Absent gap)) reply e = absent_refused c.replies.takes gap reply e
+  key_refused (at.Asks (asking.Present word)) reply e = present_refused c.replies.takes word reply e
+  key_refused _ reply e = refl
+
+sweep_refused : {V : Type 0} (stands : Sweeping) (c : Sweep) (reply : Reply V) → is_err (sweep_told stands c reply).1 ≡ true → (sweep_told stands c reply).0 ≡ c
+sweep_refused (sweeping.Asks word) c reply.Yes e = absurd (cc e)
+sweep_refused (sweeping.Asks word) c reply.No e = absurd (cc e)
+sweep_refused (sweeping.Asks word) c _ e = refl
+sweep_refused _ c reply e = refl
+
+pub refused_same : {K V : Type 0} (machine : Machine K V K) (reply : Reply V) → is_err (machine_replied machine reply).1 ≡ true → (machine_replied machine reply).0 ≡ machine
+refused_same (kinds.Key c) reply e = ap kinds.Key (key_refused c c.stands reply e)
+refused_same (kinds.Sweep c) reply e = ap kinds.Sweep (sweep_refused c.stands c reply e)
+refused_same (kinds.Reserve c) reply e = refl
+refused_same (kinds.Count c) reply e = refl
+
+-- what goes on as it was may have been told anything
+pub told_nothing : {K V : Type 0} (same : K → K → Bool) (batch_size roots : ℕ) (slot : ℕ → ℕ) (standing : Standing K) (i : ℕ) (reply : Reply V) (u : UnderWay K V K)
+    → ToldOfKind V same same batch_size roots slot standing i u reply u
+told_nothing same batch_size roots slot standing i reply (OnKey k) = inr refl
+told_nothing same batch_size roots slot standing i reply (OverAll o) = inr refl
+told_nothing same batch_size roots slot standing i reply (ForRoom r) = refl
+told_nothing same batch_size roots slot standing i reply (Counting sum) = refl
 
 module _ {K V S : Type 0} (same : K → K → Bool) (hash : S → K → ℕ) (batch_size roots : ℕ) (slot : ℕ → ℕ) (s : Scene K V) (all : AllStand same hash batch_size roots slot s) (i m : ℕ) where
   abbrev Stands : Scene K V → Type 0
@@ -143,6 +209,20 @@ module _ {K V S : Type 0} (same : K → K → Bool) (hash : S → K → ℕ) (ba
       let here = both it.0 it.1 in
       came g it.0.0 it.0.1 here.0 here.1 found.0.0 found.0.1.0 found.0.1.1 it.2
 
+  -- what goes on as it was stands as it did
+  pub as_it_was : (u : UnderWay K V K) → s.calls m i ≡ Some u → Stands (scene_with m i u s)
+  as_it_was u has = subst (λ x. EndingsTogether V same same batch_size roots slot s.world s.maps x s.makers s.enders) (sym unchanged) all
+    where
+      unchanged : with_call s.calls m i (Some u) ≡ s.calls
+      unchanged = ap (λ x. with_call s.calls m i x) (sym has) ∙ (ap (λ x. with_at s.calls m x) (with_same (s.calls m) i) ∙ with_same s.calls m)
+
+  -- all stand together once a call was asked
+  pub asked_stands : (standing : Standing K) → s.maps m ≡ Some standing → (u : UnderWay K V K) → s.calls m i ≡ Some u → Stands (scene_with m i (asked_on u) s)
+  asked_stands standing stands (OverAll o) has = (sweeps_told_among V same same batch_size roots slot s.world s.maps s.calls s.makers s.enders all m standing stands i o has).next
+  asked_stands standing stands (OnKey k) has = as_it_was (OnKey k) has
+  asked_stands standing stands (ForRoom r) has = as_it_was (ForRoom r) has
+  asked_stands standing stands (Counting sum) has = as_it_was (Counting sum) has
+
   module _ (may : is_none (call_at s i m) ≡ false) where
     abbrev it : Standing K × UnderWay K V K
     it = (some_is (call_at s i m) may).0
@@ -151,25 +231,29 @@ module _ {K V S : Type 0} (same : K → K → Bool) (hash : S → K → ℕ) (ba
     here = both it (some_is (call_at s i m) may).1
 
     pub call_told : (reply : Reply V) → (told : Answer K V) × (n : Scene K V) × Led same hash batch_size roots slot (TellsCall i m reply) s told n × Stands n
-    call_told reply =
-        let so = (machines_told_among V same same batch_size roots slot s.world s.maps s.calls s.makers s.enders all m it.0 here.0 i it.1 here.1).0 reply in
-        (OfReply (machine_replied (machine_of it.1) reply).1, scene_with m i so.0 s, (it.0, here.0, it.1, so.0, here.1, so.1, refl, so.2, refl), so.3)
+    call_told reply = by (is_err (machine_replied (machine_of it.1) reply).1) refl
+      where
+        by : (q : Bool) → is_err (machine_replied (machine_of it.1) reply).1 ≡ q → (told : Answer K V) × (n : Scene K V) × Led same hash batch_size roots slot (TellsCall i m reply) s told n × Stands n
+        by true refused = (
+          OfReply (machine_replied (machine_of it.1) reply).1,
+          scene_with m i it.1 s,
+          (it.0, here.0, it.1, it.1, here.1, sym (refused_same (machine_of it.1) reply refused), refl, (told_nothing same batch_size roots slot it.0 i reply it.1, λ e. refl), refl),
+          as_it_was it.1 here.1,
+        )
+        by false takes =
+            let so = (machines_told_among V same same batch_size roots slot s.world s.maps s.calls s.makers s.enders all m it.0 here.0 i it.1 here.1).0 reply in (
+              OfReply (machine_replied (machine_of it.1) reply).1,
+              scene_with m i so.0 s,
+              (it.0, here.0, it.1, so.0, here.1, so.1, refl, (so.2, λ refused. absurd (let both : true ≡ false = sym refused ∙ takes in cc both)), refl),
+              so.3,
+            )
 
     pub call_asked : (told : Answer K V) × (n : Scene K V) × Led same hash batch_size roots slot (AsksCall i m) s told n × Stands n
-    call_asked =
-        let so = (machines_told_among V same same batch_size roots slot s.world s.maps s.calls s.makers s.enders all m it.0 here.0 i it.1 here.1).1 in
-        (OfAsking (machine_asked (machine_of it.1)).1, scene_with m i so.0 s, (it.1, so.0, here.1, so.1, refl, refl), so.2)
-
-    -- what is not given up is as it was
-    unchanged : with_call s.calls m i (Some it.1) ≡ s.calls
-    unchanged = ap (λ x. with_call s.calls m i x) (sym here.1) ∙ (ap (λ x. with_at s.calls m x) (with_same (s.calls m) i) ∙ with_same s.calls m)
-
-    goes_on : EndingsTogether V same same batch_size roots slot s.world s.maps (with_call s.calls m i (Some it.1)) s.makers s.enders
-    goes_on = subst (λ x. EndingsTogether V same same batch_size roots slot s.world s.maps x s.makers s.enders) (sym unchanged) all
+    call_asked = (OfAsking (machine_asked (machine_of it.1)).1, scene_with m i (asked_on it.1) s, (it.1, here.1, refl, refl), asked_stands it.0 here.0 it.1 here.1)
 
     stops : (u : UnderWay K V K) → it.1 ≡ u → (ready : Bool) → (machine_asked (machine_of u)).1 ≡ ready
         → EndingsTogether V same same batch_size roots slot s.world s.maps (with_call s.calls m i (unless_stopped ready it.1)) s.makers s.enders
-    stops u is false asked = goes_on
+    stops u is false asked = as_it_was it.1 here.1
     stops (OnKey k) is true asked = absurd (cc asked)
     stops (ForRoom r) is true asked = absurd (cc asked)
     stops (Counting sum) is true asked = absurd (cc asked)

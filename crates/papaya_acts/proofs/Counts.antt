@@ -40,7 +40,8 @@ use Rattle.papaya_acts.specs.Acts.{Act, Answer, OfCall, Wanted, Count, its, begu
 use Rattle.papaya_acts.specs.Acts.{BeginsCall, StepsCall, TellsCall, AsksCall, StopsCall, BeginsMaking, StepsMaking, BeginsEnding, StepsEnding, BeginsRow, StepsRow}
 use Rattle.papaya_acts.specs.Counts.{HasRead, is_its, next_shard, read_on, shard_of_call, read_by, words_on, words_read, CountingsAddUp, CountingsAnswerTheSum}
 use Rattle.papaya_acts.specs.Doings.{Doing, Does, BeginsReclaiming, BeginsClearing, StepsReclaiming, Stage, MayDo, HasDone}
-use Rattle.papaya_acts.specs.Leads.{Led, CallCame, MakingCame, EndingCame}
+use Rattle.papaya_acts.specs.Leads.{Led, CallCame, MakingCame, EndingCame, asked_on}
+use Rattle.papaya_acts.proofs.Calls.{asked_machine}
 use Rattle.papaya_acts.specs.Lists.{Course, Reached, LedOn, LedTo, nothing_done, on_by}
 use Rattle.papaya_acts.proofs.Sums.{Added, adds_on}
 use Rattle.papaya_scenes.specs.Replying.{unless_stopped}
@@ -195,9 +196,9 @@ module _ {K V S : Type 0} (same : K → K → Bool) (hash : S → K → ℕ) (ba
     by_act (TellsCall j k reply) told (standing, stands, u, next, here, machine_is, told_is, kind, is) =
         stays j k (Some next) (ap (λ (x : Scene K V). x.calls) is)
         (λ own. here ∙ ap Some (told_counting u reply c (sym (ap machine_of (same_some next (Counting c) own)) ∙ machine_is)))
-    by_act (AsksCall j k) told (u, next, here, machine_is, told_is, is) =
-        stays j k (Some next) (ap (λ (x : Scene K V). x.calls) is)
-        (λ own. here ∙ ap Some (asked_counting u c (sym (ap machine_of (same_some next (Counting c) own)) ∙ machine_is)))
+    by_act (AsksCall j k) told (u, here, told_is, is) =
+        stays j k (Some (asked_on u)) (ap (λ (x : Scene K V). x.calls) is)
+        (λ own. here ∙ ap Some (asked_counting u c (sym (ap machine_of (same_some (asked_on u) (Counting c) own)) ∙ asked_machine u)))
     by_act (StopsCall j k) told (u, here, told_is, is) =
         stays j k (unless_stopped (machine_asked (machine_of u)).1 u) (ap (λ (x : Scene K V). x.calls) is) (λ own. here ∙ unstopped (machine_asked (machine_of u)).1 own)
       where

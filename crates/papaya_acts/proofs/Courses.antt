@@ -44,8 +44,8 @@ use Rattle.papaya_scenes.specs.Making.{making_begun}
 use Rattle.papaya_acts.specs.Acts.{Act, Answer, OfCall, OfReply, OfAsking, OfMaking, OfEnding, Wanted, Get, Remove, Insert, TryToInsert, Compute, Update, UpdateOrInsert, TryToInsertWith, RemoveIf, MakeRoom, Count, GoOver, begun}
 use Rattle.papaya_acts.specs.Acts.{BeginsCall, StepsCall, TellsCall, AsksCall, StopsCall, BeginsMaking, StepsMaking, BeginsEnding, StepsEnding, BeginsRow, StepsRow}
 use Rattle.papaya_acts.specs.Courses.{set_up, AreAlike}
-use Rattle.papaya_acts.specs.Leads.{MayBe, AllStand, Led, CallCame, MakingCame, EndingCame}
-use Rattle.papaya_acts.proofs.Calls.{ready_is}
+use Rattle.papaya_acts.specs.Leads.{MayBe, AllStand, Led, CallCame, MakingCame, EndingCame, asked_on}
+use Rattle.papaya_acts.proofs.Calls.{asked_machine, ready_is}
 use Rattle.papaya_acts.proofs.Counts.{its_call, other_call}
 use Rattle.papaya_acts.proofs.Lists.{all_may_step}
 use Rattle.papaya_acts.proofs.RowSteps.{row_step_alike, row_begin_alike}
@@ -60,7 +60,7 @@ told_both : {A B : Type 0} (f : A → B) (o p : Option A) → option_map f o ≡
 told_both f o p is a b e g = same_some (f a) (f b) (sym (ap (option_map f) e) ∙ is ∙ ap (option_map f) g)
 
 -- the same is told of both after the same changes in one place
-both_at : {X Y : Type 0} (h : X → Y) (f g : ℕ → X) (k : ℕ) (v w : X) → h v ≡ h w → ((j : ℕ) → h (f j) ≡ h (g j)) → (j : ℕ) → h (with_at f k v j) ≡ h (with_at g k w j)
+pub both_at : {X Y : Type 0} (h : X → Y) (f g : ℕ → X) (k : ℕ) (v w : X) → h v ≡ h w → ((j : ℕ) → h (f j) ≡ h (g j)) → (j : ℕ) → h (with_at f k v j) ≡ h (with_at g k w j)
 both_at h f g k v w here others j = by (cases_eq j k)
   where
     by : (j ≡ k) ⊎ (j ≢ k) → h (with_at f k v j) ≡ h (with_at g k w j)
@@ -94,7 +94,7 @@ stopped_as false u = refl
 
 module _ {K V S : Type 0} (same : K → K → Bool) (hash : S → K → ℕ) (batch_size roots : ℕ) (slot : ℕ → ℕ) where
   -- a walk that is given up has no row under way
-  stop_rests : (s : Scene K V) → AllStand same hash batch_size roots slot s → (m i : ℕ) (u : UnderWay K V K) → s.calls m i ≡ Some u → (ready : Bool) → (machine_asked (machine_of u)).1 ≡ ready
+  pub stop_rests : (s : Scene K V) → AllStand same hash batch_size roots slot s → (m i : ℕ) (u : UnderWay K V K) → s.calls m i ≡ Some u → (ready : Bool) → (machine_asked (machine_of u)).1 ≡ ready
       → unless_stopped ready u ≡ None → s.world.row i ≡ Rests
   stop_rests s all m i u here false asked none = absurd (cc none)
   stop_rests s all m i (OnKey k) here true asked none = absurd (cc asked)
@@ -263,9 +263,9 @@ module _ {K V S : Type 0} (same : K → K → Bool) (hash : S → K → ℕ) (ba
           with_call_alone m i (Some next) (Some next2) (ap Some (machine_is ∙ ap (λ (x : Machine K V K). (machine_replied x reply).0) one ∙ sym machine_is2)) (some_rests next i) is is2,
           told_is ∙ ap (λ (x : Machine K V K). OfReply (machine_replied x reply).1) one ∙ sym told_is2,
         )
-    by_act (AsksCall i m) may told told2 (u, next, here, machine_is, told_is, is) (u2, next2, here2, machine_is2, told_is2, is2) =
+    by_act (AsksCall i m) may told told2 (u, here, told_is, is) (u2, here2, told_is2, is2) =
         let one = machine_both m i u u2 here here2 in (
-          with_call_alone m i (Some next) (Some next2) (ap Some (machine_is ∙ ap (λ (x : Machine K V K). (machine_asked x).0) one ∙ sym machine_is2)) (some_rests next i) is is2,
+          with_call_alone m i (Some (asked_on u)) (Some (asked_on u2)) (ap Some (asked_machine u ∙ ap (λ (x : Machine K V K). (machine_asked x).0) one ∙ sym (asked_machine u2))) (some_rests (asked_on u) i) is is2,
           told_is ∙ ap (λ (x : Machine K V K). OfAsking (machine_asked x).1) one ∙ sym told_is2,
         )
     by_act (StopsCall i m) may told told2 (u, here, told_is, is) (u2, here2, told_is2, is2) =

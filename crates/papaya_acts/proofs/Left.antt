@@ -126,7 +126,7 @@ module _ {K V S : Type 0} (same : K → K → Bool) (hash : S → K → ℕ) (ba
       to _ led.comes (machines_leave_it V same same batch_size roots slot s.world s.maps s.calls s.makers s.enders lists all left m led.standing led.stands i led.call led.here led.memory led.machine led.progress
       led.did)
   by_act (TellsCall i m reply) may told (standing, stands, u, next, here, machine_is, told_is, kind, is) = to _ is left
-  by_act (AsksCall i m) may told (u, next, here, machine_is, told_is, is) = to _ is left
+  by_act (AsksCall i m) may told (u, here, told_is, is) = to _ is left
   by_act (StopsCall i m) may told (u, here, told_is, is) = to _ is left
   by_act (BeginsMaking i map hasher given places) may told (told_is, is) =
       to _ is (makings_begin_and_leave_it V same same batch_size roots slot s.world s.maps s.calls s.makers s.enders lists left i (none_is (s.makers i) may.0.no_making) (making_begun (hash hasher) roots map given places)

@@ -7,9 +7,9 @@ pub mod Lists
 mod Once
 pub mod Further
 mod Sums
-mod Counts
+pub mod Counts
 mod RowSteps
-mod Courses
+pub mod Courses
 mod Agree
 mod Samples
 mod Untrue

@@ -1,5 +1,6 @@
 -- A kind of step is a constructor of what is done: each act leads where a step of its kind does, of what is held before and after it.
-use Rattle.std.specs.Prelude.{◌≡◌, ℕ, Bool, List, Option, Some, None, Result}
+use Rattle.std.specs.Result.{is_err}
+use Rattle.std.specs.Prelude.{◌≡◌, ℕ, Bool, List, Option, Some, None, Result, true, ◌++◌, [], ◌∷◌}
 use Rattle.std.specs.Option.{option_map_or}
 use Rattle.papaya_scenes.specs.Given.SeizeWords.Mem.{Mem}
 use Rattle.papaya_scenes.specs.Given.SeizeWords.Op.{Op, Out}
@@ -9,42 +10,51 @@ use Rattle.papaya_scenes.specs.Given.Seize.Leave.{leave_plan}
 use Rattle.papaya_scenes.specs.Given.Seize.ReclaimAll.{reclaim_all_plan}
 use Rattle.papaya_scenes.specs.Given.Seize.Register.{register_plan}
 use Rattle.papaya_scenes.specs.Given.Seize.Settle.{settle_plan}
-use Rattle.papaya_scenes.specs.Given.Seize.World.{Row, Rests, Registers, Enters, Settles, Leaves, Defers, Frees}
+use Rattle.papaya_scenes.specs.Given.Seize.World.{World, with_at, Row, Rests, Registers, Enters, Settles, Leaves, Defers, Frees}
 use Rattle.papaya_scenes.specs.Given.Seize.declared.progress.Progress.{Progress}
+use Rattle.papaya_scenes.specs.Given.Seize.declared.progress.Progress.TheVariants as progress
 use Rattle.papaya_scenes.specs.Given.Seize.declared.rows.reclaim_all.ReclaimAll.{ReclaimAll}
 use Rattle.papaya_scenes.specs.Given.Seize.declared.rows.settle.Settled.{Settled}
+use Rattle.papaya_scenes.specs.Given.Seize.declared.rows.settle.Settled.TheVariants as settled
 use Rattle.seize_acts.specs.Answers.{Grant, answer, stepped}
 use Rattle.papaya_scenes.specs.Given.Tables.Nodes.{deferred_word, was_left}
 use Rattle.papaya_scenes.specs.Given.Tables.declared.node.Node.{Node}
 use Rattle.papaya_scenes.specs.Given.Tables.declared.setting.Setting.{Setting}
 use Rattle.papaya_scenes.specs.Given.Resize.NewMap.{new_map_plan}
+use Rattle.papaya_scenes.specs.Given.Resize.declared.new_map.NewMap.{NewMap}
 use Rattle.papaya_scenes.specs.Given.Raw.EndMap.{end_map_plan}
 use Rattle.papaya_scenes.specs.Given.Raw.Machine.{machine_plan}
 use Rattle.papaya_scenes.specs.Given.Raw.declared.machines.asking.Reply.{Reply}
+use Rattle.papaya_scenes.specs.Given.Raw.declared.machines.end_map.EndMap.{EndMap}
 use Rattle.papaya_scenes.specs.Given.Raw.declared.machines.progress.Progress.{Progress as CallProgress}
 use Rattle.papaya_scenes.specs.Given.Tells.Seen.{seen_of}
 use Rattle.papaya_scenes.specs.Given.Teller.Tells.{told_of}
 use Rattle.papaya_scenes.specs.Given.Teller.declared.changed.Changed.{Changed}
 use Rattle.papaya_scenes.specs.Given.Teller.declared.changed.Changed.TheVariants.{Nothing as NoChange}
+use Rattle.papaya_scenes.specs.Given.Callers.Together.{UnderWay}
+use Rattle.papaya_scenes.specs.Given.Finishes.Endings.{Finishing}
+use Rattle.papaya_scenes.specs.Given.Finishes.FactsEnds.{Deed}
 use Rattle.papaya_scenes.specs.Given.Finishes.Machines.{machine_of}
-use Rattle.papaya_scenes.specs.Given.Finishes.Maps.{Standing}
+use Rattle.papaya_scenes.specs.Given.Finishes.Makings.{Beginning}
+use Rattle.papaya_scenes.specs.Given.Finishes.Maps.{Standing, with_call}
 use Rattle.papaya_acts.specs.Acts.{Act, Answer, OfCall, OfReply, OfAsking, OfMaking, OfEnding, begun}
 use Rattle.papaya_acts.specs.Acts.{BeginsCall, StepsCall, TellsCall, AsksCall, StopsCall, BeginsMaking, StepsMaking, BeginsEnding, StepsEnding, BeginsRow, StepsRow}
-use Rattle.papaya_acts.specs.Leads.{MayBe, AllStand, Led, call_at}
+use Rattle.papaya_acts.specs.Leads.{MayBe, AllStand, Led, asked_on, call_at}
 use Rattle.papaya_scenes.specs.Beginning.{Begins}
-use Rattle.papaya_scenes.specs.Ending.{EndingBeginsTo, EndingLeads}
+use Rattle.papaya_scenes.specs.Ending.{EndingBeginsTo, EndingComesTo, EndingLeads, ending_begun, ending_goes}
 use Rattle.papaya_scenes.specs.Held.{Held, IsAt}
-use Rattle.papaya_scenes.specs.Making.{MakingLeads, making_begun, scene_making}
+use Rattle.papaya_scenes.specs.Making.{MakingComesTo, MakingLeads, making_begun, scene_making}
 use Rattle.papaya_scenes.specs.OnSlots.{RowBegins, RowLeads}
 use Rattle.papaya_acts.specs.Reclaiming.{ReclaimedOn}
 use Rattle.papaya_scenes.specs.Reclaiming.{IsReclaiming, ReclaimingLeads}
-use Rattle.papaya_scenes.specs.Replying.{ReplyLeads, AskLeads, StopLeads, scene_with}
+use Rattle.papaya_scenes.specs.Replying.{ReplyLeads, AskLeads, StopLeads, scene_with, unless_stopped}
 use Rattle.papaya_scenes.specs.Rows.{request_of, of_registering, of_storing, of_settling}
-use Rattle.papaya_scenes.specs.Scene.{Scene, slot_of}
-use Rattle.papaya_scenes.specs.Stepping.{StepLeads}
+use Rattle.papaya_scenes.specs.Scene.{IsOnSlot, Scene, slot_of}
+use Rattle.papaya_scenes.specs.Stepping.{StepLeads, scene_after}
 use Rattle.papaya_scenes.specs.declared.row.RowTold.{RowTold}
 use Rattle.papaya_scenes.specs.declared.row.RowTold.TheVariants as told
 use Rattle.papaya_scenes.specs.declared.row.SlotCall.{SlotCall}
+use Rattle.papaya_scenes.specs.declared.row.SlotRow.{SlotRow}
 
 module _ {K V : Type 0} where
   -- what an operation has changed, by its answer, if it has one
@@ -97,34 +107,67 @@ module _ {K V S : Type 0} (by_hasher : S → K → ℕ) (hash : ℕ → K → �
   IsOwn (BeginsRow i request) = (called : SlotCall) × (request ≡ request_of (slot_of i) called)
   IsOwn act = Unit {0}
 
+module _ {K V : Type 0} (same : K → K → Bool) (hash : ℕ → K → ℕ) where
+  -- The scene to which a step of the making of a map, or of the end of one, has come, by what it says.
+  abbrev pub MadeTo : (s : Scene K V) (old new : Held K V) (i : ℕ) (b : Beginning K) (opening : NewMap) (w2 : World (Node K V)) (told : Progress Setting)
+      → MakingComesTo same hash s old new i b opening w2 told → Scene K V → Type 0
+  MadeTo s old new i b opening w2 progress.Goes comes n = n ≡ record s { world = w2; makers = with_at s.makers i (Some (record b { machine = opening })) }
+  MadeTo s old new i b opening w2 progress.Waits comes n = ⊥
+  MadeTo s old new i b opening w2 (progress.Done setting) comes n = n ≡ record s { world = w2; maps = with_at s.maps b.map (Some comes.0); makers = with_at s.makers i None }
+  MadeTo s old new i b opening w2 (progress.Refused fault) comes n = n ≡ record s { world = w2; makers = with_at s.makers i None }
+
+  abbrev pub EndedTo : (s : Scene K V) (new : Held K V) (i : ℕ) (f : Finishing K V) (ending : EndMap) (w2 : World (Node K V)) (deed : Deed) (told : Settled (Node K V))
+      → EndingComesTo same hash s new i f ending w2 deed told → Scene K V → Type 0
+  EndedTo s new i f ending w2 deed settled.Goes comes n = n ≡ ending_goes s i f ending w2 deed f.back
+  EndedTo s new i f ending w2 deed settled.Waits comes n = ⊥
+  EndedTo s new i f ending w2 deed (settled.Gave value) comes n = n ≡ ending_goes s i f ending w2 deed (f.back ++ comes.0 ∷ [])
+  EndedTo s new i f ending w2 deed settled.Done comes n = n ≡ record s { world = w2; enders = with_at s.enders i None }
+
 module _ {K V S : Type 0} (same : K → K → Bool) (by_hasher : S → K → ℕ) (hash : ℕ → K → ℕ) where
-  -- where a step of its kind leads from there, that has told this
-  abbrev pub LeadsAs : Act K V S → Scene K V → Answer K V → Held K V → Held K V → Type 0
-  LeadsAs (BeginsCall i m wanted) s answer old new =
+  -- where a step of its kind leads from there, that has told this, and to which scene
+  abbrev pub LeadsAs : Act K V S → Scene K V → Answer K V → Scene K V → Held K V → Held K V → Type 0
+  LeadsAs (BeginsCall i m wanted) s answer n old new =
       (standing : Standing K) × (s.maps m ≡ Some standing) × Begins same standing i (begun same slot_of standing i wanted)
-      × (new.memory ≡ old.memory) × IsAt same hash new (scene_with m i (begun same slot_of standing i wanted) s)
-  LeadsAs (StepsCall i m g) s answer old new = (told : CallProgress (Node K V)) × (answer ≡ OfCall told) × StepLeads same hash i told s old new
-  LeadsAs (TellsCall i m reply) s answer old new = (result : Result Unit (Reply V)) × (answer ≡ OfReply result) × ReplyLeads same hash i reply result s old new
-  LeadsAs (AsksCall i m) s answer old new = (ready : Bool) × (answer ≡ OfAsking ready) × AskLeads same hash i ready s old new
-  LeadsAs (StopsCall i m) s answer old new = (stopped : Bool) × (answer ≡ OfAsking stopped) × StopLeads same hash i stopped s old new
-  LeadsAs (BeginsMaking i map hasher given places) s answer old new =
+      × (new.memory ≡ old.memory) × IsAt same hash new (scene_with m i (begun same slot_of standing i wanted) s) × (n ≡ scene_with m i (begun same slot_of standing i wanted) s)
+  LeadsAs (StepsCall i m g) s answer n old new =
+      (told : CallProgress (Node K V)) × (answer ≡ OfCall told) × (leads : StepLeads same hash i told s old new)
+      × ((map : ℕ) (u : UnderWay K V K) (here : s.calls map i ≡ Some u) → (let to = leads map u here in n ≡ scene_after same s old new map i to.0 u to.1 told to.4))
+  LeadsAs (TellsCall i m reply) s answer n old new =
+      (result : Result Unit (Reply V)) × (answer ≡ OfReply result) × (leads : ReplyLeads same hash i reply result s old new)
+      × ((map : ℕ) (u : UnderWay K V K) (here : s.calls map i ≡ Some u) → (is_err result ≡ true → (leads map u here).1 ≡ u) × (n ≡ scene_with map i (leads map u here).1 s))
+  LeadsAs (AsksCall i m) s answer n old new =
+      (ready : Bool) × (answer ≡ OfAsking ready) × (leads : AskLeads same hash i ready s old new)
+      × ((map : ℕ) (u : UnderWay K V K) (here : s.calls map i ≡ Some u) → ((leads map u here).0 ≡ asked_on u) × (n ≡ scene_with map i (leads map u here).0 s))
+  LeadsAs (StopsCall i m) s answer n old new =
+      (stopped : Bool) × (answer ≡ OfAsking stopped) × StopLeads same hash i stopped s old new
+      × ((map : ℕ) (u : UnderWay K V K) → s.calls map i ≡ Some u → n ≡ record s { calls = with_call s.calls map i (unless_stopped stopped u) })
+  LeadsAs (BeginsMaking i map hasher given places) s answer n old new =
       (new.memory ≡ old.memory) × IsAt same hash new (scene_making i (making_begun (by_hasher hasher) old.roots map given places) s)
-  LeadsAs (StepsMaking i g) s answer old new = (told : Progress Setting) × (answer ≡ OfMaking told) × MakingLeads same hash i told s old new
-  LeadsAs (BeginsEnding i m) s answer old new = EndingBeginsTo same (IsAt same hash new) m i s old new
-  LeadsAs (StepsEnding i g) s answer old new = (told : Settled (Node K V)) × (answer ≡ OfEnding told) × EndingLeads same hash i told s old new
-  LeadsAs (BeginsRow i request) s answer old new = (called : SlotCall) × (request ≡ request_of (slot_of i) called) × RowBegins same hash called i s old new
-  LeadsAs (StepsRow i g) s answer old new = RowLeads same hash i (row_told (s.world.row i) g s.world.memory) s old new
+      × (n ≡ scene_making i (making_begun (by_hasher hasher) old.roots map given places) s)
+  LeadsAs (StepsMaking i g) s answer n old new =
+      (told : Progress Setting) × (answer ≡ OfMaking told) × (leads : MakingLeads same hash i told s old new)
+      × ((b : Beginning K) (here : s.makers i ≡ Some b) → (let to = leads b here in MadeTo same hash s old new i b to.0 to.2.step.w2 told to.3 n))
+  LeadsAs (BeginsEnding i m) s answer n old new = (to : EndingBeginsTo same (IsAt same hash new) m i s old new) × (n ≡ ending_begun m i to.0 s)
+  LeadsAs (StepsEnding i g) s answer n old new =
+      (told : Settled (Node K V)) × (answer ≡ OfEnding told) × (leads : EndingLeads same hash i told s old new)
+      × ((f : Finishing K V) (here : s.enders i ≡ Some f) → (let to = leads f here in EndedTo same hash s new i f to.0 to.2.w2 to.2.deed told to.3 n))
+  LeadsAs (BeginsRow i request) s answer n old new =
+      (called : SlotCall) × (request ≡ request_of (slot_of i) called) × (leads : RowBegins same hash called i s old new) × (n ≡ record s { world = leads.2.0; maps = leads.2.2 })
+  LeadsAs (StepsRow i g) s answer n old new =
+      (leads : RowLeads same hash i (row_told (s.world.row i) g s.world.memory) s old new)
+      × ((row : SlotRow) (here : IsOnSlot s i row) → n ≡ record s { world = (leads row here).2.0; maps = (leads row here).2.2 })
 
 -- The promise: an act of its own leads so, from a scene of what is held to one of what is held then.
 abbrev pub ActsLeadAsSteps : {K S : Type 0} (V : Type 0) (same : K → K → Bool) (by_hasher : S → K → ℕ) (hash : ℕ → K → ℕ) (batch_size roots : ℕ) → Type 0
 ActsLeadAsSteps {K} {S} V same by_hasher hash batch_size roots =
     (s n : Scene K V) (before : Changed) → IsAt same hash (held_in batch_size roots before s) s → AllStand same by_hasher batch_size roots slot_of n
     → (act : Act K V S) → IsOwn by_hasher hash act → MayBe same by_hasher batch_size roots slot_of act s → (told : Answer K V) → Led same by_hasher batch_size roots slot_of act s told n
-    → LeadsAs same by_hasher hash act s told (held_in batch_size roots before s) (held_in batch_size roots (changed_by same act s) n) × IsAt same hash (held_in batch_size roots (changed_by same act s) n) n
+    → LeadsAs same by_hasher hash act s told n (held_in batch_size roots before s) (held_in batch_size roots (changed_by same act s) n) × IsAt same hash (held_in batch_size roots (changed_by same act s) n) n
 
--- And so does a step of a caller that reclaims all.
+-- And so does a step of a caller that reclaims all, and to that scene.
 abbrev pub ReclaimingLeadsAsSteps : {K : Type 0} (V : Type 0) (same : K → K → Bool) (hash : ℕ → K → ℕ) (batch_size roots : ℕ) → Type 0
 ReclaimingLeadsAsSteps {K} V same hash batch_size roots =
     (s n : Scene K V) (before : Changed) (i : ℕ) (lists : ℕ → List ℕ) (c : ReclaimAll) → IsReclaiming same hash (held_in batch_size roots before s) s i lists c
     → (g : Grant) (end : Settled (Node K V)) (lists2 : ℕ → List ℕ) (c2 : ReclaimAll) → ReclaimedOn V same batch_size roots slot_of s i lists c g end n lists2 c2
-    → ReclaimingLeads same hash s i lists (held_in batch_size roots before s) (held_in batch_size roots (changed_of s.world.memory g (reclaim_all_plan deferred_word was_left c)) n) c c2 end
+    → (leads : ReclaimingLeads same hash s i lists (held_in batch_size roots before s) (held_in batch_size roots (changed_of s.world.memory g (reclaim_all_plan deferred_word was_left c)) n) c c2 end)
+    × (n ≡ record s { world = leads.1.w2; maps = leads.1.maps2 })

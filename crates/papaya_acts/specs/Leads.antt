@@ -2,6 +2,7 @@
 use Rattle.std.specs.Prelude.{◌≡◌, ◌≢◌, ◌⊎◌, ℕ, ◌+◌, ◌<◌, ◌≤◌, ◌^◌, max, Bool, true, false, [], ◌∷◌, ◌++◌, Option, Some, None}
 use Rattle.std.specs.Int.{IsPowerOfTwo}
 use Rattle.std.specs.Option.{is_none}
+use Rattle.std.specs.Result.{is_err}
 use Rattle.papaya_scenes.specs.Given.SeizeWords.Mem.{Mem, value_at}
 use Rattle.papaya_scenes.specs.Given.Seize.World.{World, Begin, Step, Happens, with_at}
 use Rattle.papaya_scenes.specs.Given.Seize.declared.progress.Progress.{Progress}
@@ -22,8 +23,10 @@ use Rattle.papaya_scenes.specs.Given.Raw.Machine.{machine_plan, machine_replied,
 use Rattle.papaya_scenes.specs.Given.Raw.declared.machines.end_map.EndMap.{EndMap}
 use Rattle.papaya_scenes.specs.Given.Raw.declared.machines.machine.Machine.{Machine}
 use Rattle.papaya_scenes.specs.Given.Raw.declared.machines.progress.Progress.{Progress as CallProgress}
+use Rattle.papaya_scenes.specs.Given.Sweeps.SweepPoints.{after_next}
 use Rattle.papaya_scenes.specs.Given.Callers.Claims.{AreFew}
-use Rattle.papaya_scenes.specs.Given.Callers.Together.{UnderWay, UnlessCounts, HasCall, IsOfSlots, Closes}
+use Rattle.papaya_scenes.specs.Given.Callers.OverAll.{gone_on}
+use Rattle.papaya_scenes.specs.Given.Callers.Together.{UnderWay, OverAll, UnlessCounts, HasCall, IsOfSlots, Closes}
 use Rattle.papaya_scenes.specs.Given.Finishes.Endings.{Finishing, EndingsTogether, StepsOfEnding, MakingStepsAmong, HasFinished, waiting_by}
 use Rattle.papaya_scenes.specs.Given.Finishes.FactsEnds.{Deed, taken_by}
 use Rattle.papaya_scenes.specs.Given.Finishes.Machines.{machine_of, ToldOfKind, MachineStepsAmong}
@@ -46,6 +49,11 @@ module _ {K V : Type 0} where
   -- with this caller, few have a call on the map, if it is one in blocking mode
   abbrev pub AreFewWith : Scene K V → ℕ → ℕ → Type 0
   AreFewWith s i m = (standing : Standing K) → s.maps m ≡ Some standing → is_incremental standing.setting.mode ≡ false → AreFew (λ j. (j ≡ i) ⊎ HasCall (s.calls m) j)
+
+  -- Once it was asked for its next pair a walk that is ready goes on to that, and any other call is as it was.
+  abbrev pub asked_on : UnderWay K V K → UnderWay K V K
+  asked_on (OverAll o) = OverAll (gone_on o (after_next o.sweep))
+  asked_on u = u
 
   -- a call and its map, if the call is there
   abbrev pub call_at : Scene K V → ℕ → ℕ → Option (Standing K × UnderWay K V K)
@@ -129,10 +137,9 @@ module _ {K V S : Type 0} (same : K → K → Bool) (hash : S → K → ℕ) (ba
   Led (TellsCall i m reply) s told n =
       (standing : Standing K) × (s.maps m ≡ Some standing) × (u next : UnderWay K V K) × (s.calls m i ≡ Some u)
       × (machine_of next ≡ (machine_replied (machine_of u) reply).0) × (told ≡ OfReply (machine_replied (machine_of u) reply).1)
-      × ToldOfKind V same same batch_size roots slot standing i u reply next × (n ≡ scene_with m i next s)
+      × (ToldOfKind V same same batch_size roots slot standing i u reply next × (is_err (machine_replied (machine_of u) reply).1 ≡ true → next ≡ u)) × (n ≡ scene_with m i next s)
   Led (AsksCall i m) s told n =
-      (u next : UnderWay K V K) × (s.calls m i ≡ Some u) × (machine_of next ≡ (machine_asked (machine_of u)).0)
-      × (told ≡ OfAsking (machine_asked (machine_of u)).1) × (n ≡ scene_with m i next s)
+      (u : UnderWay K V K) × (s.calls m i ≡ Some u) × (told ≡ OfAsking (machine_asked (machine_of u)).1) × (n ≡ scene_with m i (asked_on u) s)
   Led (StopsCall i m) s told n =
       (u : UnderWay K V K) × (s.calls m i ≡ Some u) × (told ≡ OfAsking (machine_asked (machine_of u)).1)
       × (n ≡ record s { calls = with_call s.calls m i (unless_stopped (machine_asked (machine_of u)).1 u) })

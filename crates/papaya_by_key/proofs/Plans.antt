@@ -51,17 +51,7 @@ use Rattle.papaya_raw.specs.declared.machines.machine.Machine.TheVariants as kin
 use Rattle.papaya_by_key.specs.ByKey.{by_key, end_by_key, StepsByKey, RepliesByKey}
 use Rattle.papaya_by_key.proofs.Points.{by, on, changed_on, counted_on, ending_on, at_last_on, replied_on, tableless_on, told_on, went_further}
 
--- the same step, with its outcome turned into another by one way and by another
-module _ {T A B C D : Type 0} (f : A → C) (g : B → D) (h : A → B) (k : C → D) (square : (a : A) → k (f a) ≡ g (h a)) where
-  then_square : (rest : Then T A) → then_as k (then_as f rest) ≡ then_as g (then_as h rest)
-  then_square (Now end) = ap Now (square end)
-  then_square (Seeing block rest) = ap (Seeing block) (fun_ext (λ value. then_square (rest value)))
-  then_square (Sure fact rest) = ap (Sure fact) (then_square rest)
-
-  plan_square : (plan : Plan T A) → plan_as k (plan_as f plan) ≡ plan_as g (plan_as h plan)
-  plan_square (Turn rest) = ap Turn (then_square rest)
-  plan_square (Do op rest) = ap (Do op) (fun_ext (λ out. then_square (rest out)))
-
+-- the same step, with its outcome turned into another at once, and by way of a third
 module _ {T A B C : Type 0} (f : A → C) (g : B → C) (h : A → B) (is : (a : A) → f a ≡ g (h a)) where
   then_through : (rest : Then T A) → then_as f rest ≡ then_as g (then_as h rest)
   then_through (Now end) = ap Now (is end)
@@ -246,7 +236,8 @@ module _ {K V Q : Type 0} (eq : K → K → Bool) (stands_for : Q → K) where
   machine_on : (hash : K → ℕ) (machine : Machine K V Q)
       → machine_plan eq eq hash (by_key stands_for machine) ≡ plan_as (end_by_key stands_for) (machine_plan (asked_as eq stands_for) eq hash machine)
   machine_on hash (kinds.Key c) =
-      ap (plan_as called) (at_on hash c c.stands) ∙ plan_square On (end_by_key stands_for) called called (λ end. refl) (call_plan (asked_as eq stands_for) eq hash c)
+      ap (plan_as called) (at_on hash c c.stands) ∙ sym (plan_through (λ end. called (On end)) called On (λ end. refl) (call_plan (asked_as eq stands_for) eq hash c))
+      ∙ plan_through (λ end. called (On end)) (end_by_key stands_for) called (λ end. refl) (call_plan (asked_as eq stands_for) eq hash c)
   machine_on hash (kinds.Reserve c) = plan_through reserved (end_by_key stands_for) reserved (λ end. refl) (reserve_plan hash c)
   machine_on hash (kinds.Sweep c) = plan_through swept (end_by_key stands_for) swept (λ end. refl) (sweep_plan hash c)
   machine_on hash (kinds.Count c) = plan_through sum_counted (end_by_key stands_for) sum_counted (λ end. refl) (sum_plan c)

@@ -23,7 +23,8 @@ use Rattle.papaya_scenes.specs.Given.Finishes.Makings.{Beginning}
 use Rattle.papaya_scenes.specs.Given.Finishes.Maps.{with_call}
 use Rattle.papaya_acts.specs.Acts.{Act, Answer, begun}
 use Rattle.papaya_acts.specs.Acts.{BeginsCall, StepsCall, TellsCall, AsksCall, StopsCall, BeginsMaking, StepsMaking, BeginsEnding, StepsEnding, BeginsRow, StepsRow}
-use Rattle.papaya_acts.specs.Leads.{MayBe, AllStand, Led, MakingCame, EndingCame}
+use Rattle.papaya_acts.specs.Leads.{MayBe, AllStand, Led, MakingCame, EndingCame, asked_on}
+use Rattle.papaya_acts.proofs.Calls.{asked_machine}
 use Rattle.papaya_acts.proofs.Left.{goes_on_by, goes_on_same}
 use Rattle.papaya_scenes.proofs.NoCall.{none_is}
 use Rattle.papaya_carries.specs.Lists.{AreTheirs, ActsKeepTheirs}
@@ -93,8 +94,8 @@ module _ {K V S : Type 0} (same : K → K → Bool) (hash : S → K → ℕ) (ba
       (was_stepped s.world.memory g (machine_plan same same led.standing.hash (machine_of led.call)) (led.memory, (led.machine, led.progress)) led.computed) led.did.did)
   by_act (TellsCall i m reply) may told (standing, stands, u, next, here, machine_is, told_is, kind, is) =
       to _ is (changed m i (Some next) (λ v p there has. (next, refl, told_on p u next reply machine_is (of_call m i u here v p there has))))
-  by_act (AsksCall i m) may told (u, next, here, machine_is, told_is, is) =
-      to _ is (changed m i (Some next) (λ v p there has. (next, refl, next_on p u next machine_is (of_call m i u here v p there has))))
+  by_act (AsksCall i m) may told (u, here, told_is, is) =
+      to _ is (changed m i (Some (asked_on u)) (λ v p there has. (asked_on u, refl, next_on p u (asked_on u) (asked_machine u) (of_call m i u here v p there has))))
   by_act (StopsCall i m) may told (u, here, told_is, is) =
       to _ is (changed m i (unless_stopped (machine_asked (machine_of u)).1 u)
       (λ v p there has. let k = of_call m i u here v p there has in (u, not_stopped p u (machine_asked (machine_of u)).1 refl k, k)))

@@ -1,6 +1,9 @@
 -- A history worked by hand: a pair is stored, removed, and reclaimed once its section has ended. And wrong histories, each refused for its reason.
+mod Maps
+mod Slots
+mod Swept
 use Rattle.std.specs.Prelude.{nat_eq}
-use Rattle.std.proofs.Common.{◌≡◌, ℕ, Bool, true, false, List, [], ◌∷◌, ◌⊎◌, inl, inr, refl, Option, Some, None}
+use Rattle.std.proofs.Common.{◌≡◌, ℕ, true, false, List, [], ◌∷◌, ◌⊎◌, inl, inr, refl, Some, None}
 use Rattle.papaya_raw.specs.Given.Tables.declared.resize_mode.ResizeMode.TheVariants.{Incremental}
 use Rattle.papaya_schedules.specs.declared.call.Answer.{Answer}
 use Rattle.papaya_schedules.specs.declared.call.Answer.TheVariants as answer
@@ -14,19 +17,22 @@ use Rattle.papaya_schedules.specs.declared.effect.Thing.TheVariants.{APair}
 use Rattle.papaya_schedules.specs.declared.outcome.Outcome.{Outcome}
 use Rattle.papaya_schedules.specs.declared.outcome.Outcome.TheVariants.{Done, Goes, Answered}
 use Rattle.papaya_schedules.specs.Sequential.{Meaning, Answers, Leaves, Puts, Takes, Shift, ComesIn}
-use Rattle.papaya_deeds.specs.Deeds.{Deed, Begins, Steps, Opens, Shuts, MapComes, Works, Entry}
+use Rattle.papaya_deeds.specs.Deeds.{Deed, Begins, Steps, Leaves as LeavesSlot, Opens, Shuts, MapComes, Entry}
 use Rattle.papaya_deeds.specs.History.{IsLinearizable, IsProtected, answers_of}
 
 -- neither of two is so
-either : {A B : Type 0} → (A → ⊥) → (B → ⊥) → A ⊎ B → ⊥
+pub either : {A B : Type 0} → (A → ⊥) → (B → ⊥) → A ⊎ B → ⊥
 either f g (inl a) = f a
 either f g (inr b) = g b
 
-never : ⊥ → ⊥
+pub never : ⊥ → ⊥
 never h = h
 
-yes_no : true ≡ false → ⊥
+pub yes_no : true ≡ false → ⊥
 yes_no h = cc
+
+pub one_none : ◌≡◌ {A = ℕ} 1 0 → ⊥
+one_none h = cc
 
 comes_in : (n : ℕ) → ◌≡◌ {A = List Shift} (ComesIn n ∷ []) [] → ⊥
 comes_in n h = cc
@@ -37,10 +43,10 @@ owes_none a h = cc
 absent_found : (n : ℕ) → ◌≡◌ {A = Meaning ℕ} (Answers answer.Absent Leaves) (Answers (answer.Found n) Leaves) → ⊥
 absent_found n h = cc
 
-abbrev entry : Deed ℕ ℕ → Outcome ℕ → List Effect → Entry ℕ ℕ
-entry deed outcome effects = record { deed = deed; outcome = outcome; effects = effects }
+abbrev pub entry : Deed ℕ ℕ → Outcome ℕ → List Effect → Entry ℕ ℕ
+entry deed outcome effects = record { deed = deed; outcome = outcome; effects = effects; refused = false }
 
-abbrev spot : ℕ → Spot
+abbrev pub spot : ℕ → Spot
 spot place = record { turn = 0; place = place }
 
 -- a map comes, and the section of slot 3 begins
@@ -77,11 +83,11 @@ removes_right : IsLinearizable nat_eq removing remove
 removes_right = record { changes = inr (refl, answer.Found 1, Takes, refl, refl); ends = tt; asks = tt }
 
 -- and the pair is reclaimed once the section has ended
-reclaimed_right : IsProtected (entry (Shuts 3) Goes [] ∷ removed) (entry (Works None) Goes (Reclaimed (APair 1) ∷ []))
+reclaimed_right : IsProtected (entry (Shuts 3) Goes [] ∷ removed) (entry (LeavesSlot 3) Goes (Reclaimed (APair 1) ∷ []))
 reclaimed_right = refl
 
 -- Wrong: it is given back while the section is open, in which it left its map.
-given_back : IsProtected removed (entry (Works None) Goes (Reclaimed (APair 1) ∷ [])) → ⊥
+given_back : IsProtected removed (entry (LeavesSlot 3) Goes (Reclaimed (APair 1) ∷ [])) → ⊥
 given_back is = yes_no is
 
 -- One call changes its map twice.

@@ -53,7 +53,6 @@ module _ (table : ℕ → ℕ) (lists : ℕ → List ℕ) (owns : Bool) where
   waits_in t (suc tables) = waits_of owns (lists t) ++ waits_in (suc t) tables
 
 module _ {K : Type 0} (c : Chart K) (blocks : Blocks) (lists : ℕ → List ℕ) where
-
   module _ (owns : Bool) where
     -- what waits from this table on, and what changes in the waiting sets
     abbrev pub waits_from : ℕ → List ℕ

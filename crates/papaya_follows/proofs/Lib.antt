@@ -6,6 +6,7 @@ pub mod Called
 pub mod Lists
 pub mod Nowhere
 pub mod Onward
+pub mod OfEach
 pub mod Finds
 pub mod Gives
 pub mod Kept

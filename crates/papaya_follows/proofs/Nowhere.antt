@@ -1,10 +1,16 @@
--- A step that has left the memory as it was, and has moved nothing.
-use Rattle.std.specs.Prelude.{◌≡◌, ℕ, Bool, []}
-use Rattle.std.proofs.Common.{refl, sym, subst, inl}
-use Rattle.papaya_scenes.specs.Given.SeizeWords.Mem.{Mem}
+-- A step that has left the memory as it was, and has moved nothing: each word names what it named.
+use Rattle.std.specs.Prelude.{◌≡◌, ℕ, Bool, [], Some}
+use Rattle.std.proofs.Common.{refl, sym, ◌∙◌, ap, subst, inl}
+use Rattle.papaya_scenes.specs.Given.SeizeWords.declared.at.At.{At}
+use Rattle.papaya_scenes.specs.Given.SeizeWords.declared.at.At.TheVariants.{Root, Used, Slot, Entry, Word}
+use Rattle.papaya_scenes.specs.Given.SeizeWords.Mem.{Mem, word_at}
+use Rattle.papaya_scenes.specs.Given.SeizeWords.Word.{block_in}
 use Rattle.papaya_scenes.specs.Given.Seize.World.{World}
 use Rattle.papaya_scenes.specs.Given.Tables.declared.node.Node.{Node}
 use Rattle.papaya_scenes.specs.Given.Tables.declared.setting.Setting.{Setting}
+use Rattle.papaya_scenes.specs.Given.Teller.declared.changed.Changed.{Changed}
+use Rattle.papaya_scenes.specs.Given.Teller.declared.changed.Changed.TheVariants as changed
+use Rattle.papaya_scenes.specs.Given.Tells.Tells.{KeepsNames}
 use Rattle.papaya_scenes.specs.Given.Rule.Chart.{Chart}
 use Rattle.papaya_scenes.specs.Given.Rule.Words.{Blocks}
 use Rattle.papaya_scenes.specs.Given.Rule.InWorld.{IsMapIn, IsFramed, Went}
@@ -12,6 +18,7 @@ use Rattle.papaya_scenes.proofs.Given.Rule.World.Footprints.{framed_same}
 use Rattle.papaya_scenes.proofs.Given.Rule.Words.LinksOwn.{outs_same, known_same, links_none}
 use Rattle.papaya_scenes.proofs.Given.Rule.World.MovesKnown.{tables_same}
 use Rattle.papaya_scenes.proofs.Given.Rule.World.OthersSpared.{keeps_same}
+use Rattle.papaya_follows.proofs.Operations.{LeavesBy}
 
 -- it is where it was
 abbrev pub went_nowhere : {K V : Type 0} (same : K → K → Bool) (hash : K → ℕ) (setting : Setting) (caller : ℕ) (w : World (Node K V)) (c : Chart K) (blocks : Blocks)
@@ -34,3 +41,21 @@ went_nowhere same hash setting caller w c blocks map m2 is = record {
   blocks_same = record { tables = λ t made known. (refl, known); pairs = λ n was known. (refl, known); tables_back = λ t made known. known; pairs_back = λ n was known. known };
   told = tt;
 }
+
+-- What it has written was there, so each word names what it named.
+module _ {K V : Type 0} (setting : Setting) (c : Chart K) (blocks : Blocks) (m m2 : Mem (Node K V)) (still : m2 ≡ m) (told : Changed) (left : LeavesBy m m2 told) where
+  same_word : (at : At) (x y : ℕ) → told ≡ changed.Wrote at x y → y ≡ x
+  same_word at x y e =
+      let words = subst (LeavesBy m m2) e left in
+      let now : word_at m at ≡ Some y = ap (λ (n : Mem (Node K V)). word_at n at) (sym still) ∙ words.1 in
+      let was = words.0 in cc (now, was)
+
+  keeps_names : (at : At) (x y : ℕ) → y ≡ x → KeepsNames setting c blocks at x y
+  keeps_names (Root r) x y e = λ is. e
+  keeps_names (Used r) x y e = tt
+  keeps_names (Slot r field) x y e = tt
+  keeps_names (Entry b field) x y e = tt
+  keeps_names (Word b field) x y e = λ t l known is. (λ next. e, λ place l is. ap block_in e)
+
+  pub names_stay : (at : At) (x y : ℕ) → told ≡ changed.Wrote at x y → KeepsNames setting c blocks at x y
+  names_stay at x y e = keeps_names at x y (same_word at x y e)

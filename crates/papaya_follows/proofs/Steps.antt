@@ -3,9 +3,7 @@ use Rattle.std.specs.Prelude.{◌≡◌, ◌≢◌, ℕ, ◌<◌, Bool, List, Op
 use Rattle.std.proofs.Common.{refl, ap, sym, subst, ◌∙◌, arith, inl, inr}
 use Rattle.std.proofs.lemmas.Bool.{cases_eq}
 use Rattle.papaya_scenes.specs.Given.SeizeWords.declared.at.At.{At}
-use Rattle.papaya_scenes.specs.Given.SeizeWords.declared.at.At.TheVariants.{Root, Used, Slot, Entry, Word}
-use Rattle.papaya_scenes.specs.Given.SeizeWords.Mem.{Mem, value_at, word_at}
-use Rattle.papaya_scenes.specs.Given.SeizeWords.Word.{block_in}
+use Rattle.papaya_scenes.specs.Given.SeizeWords.Mem.{Mem, value_at}
 use Rattle.papaya_scenes.specs.Given.Seize.World.{World, IsInside, with_at}
 use Rattle.papaya_scenes.specs.Given.Tables.Chunks.{is_incremental}
 use Rattle.papaya_scenes.specs.Given.Tables.declared.node.Node.{Node}
@@ -21,7 +19,7 @@ use Rattle.papaya_effects.specs.Given.Schedules.Views.{map_at}
 use Rattle.papaya_scenes.specs.Given.Teller.declared.changed.Changed.{Changed}
 use Rattle.papaya_scenes.specs.Given.Teller.declared.changed.Changed.TheVariants as changed
 use Rattle.papaya_scenes.specs.Given.Tells.Seen.{Seen, Unseen, Wrote, seen_of}
-use Rattle.papaya_scenes.specs.Given.Tells.Tells.{KeepsNames, IsTold}
+use Rattle.papaya_scenes.specs.Given.Tells.Tells.{IsTold}
 use Rattle.papaya_scenes.proofs.Given.Tells.Promised.{operations_tell, still_steps_tell}
 use Rattle.papaya_scenes.specs.Given.Rule.Chart.{Chart}
 use Rattle.papaya_scenes.specs.Given.Rule.Lasts.{Lasts}
@@ -59,7 +57,7 @@ use Rattle.papaya_follows.proofs.Gives.{Gives, stores_none}
 use Rattle.papaya_follows.proofs.Going.{StoodOn, ComesToBe, ShowsOn}
 use Rattle.papaya_follows.proofs.Leads.{IsNew, LeadsOn}
 use Rattle.papaya_follows.proofs.Moved.{by_moved}
-use Rattle.papaya_follows.proofs.Nowhere.{went_nowhere}
+use Rattle.papaya_follows.proofs.Nowhere.{names_stay, went_nowhere}
 use Rattle.papaya_follows.proofs.Onward.{IsOfMap, tables_same, pairs_same, blocks_same, blocks_part, map_on}
 use Rattle.papaya_follows.proofs.Operations.{LeavesBy, Operated, operated, operated_leaves, seen_write, told_write}
 use Rattle.papaya_follows.proofs.Told.{IsQuiet, quiet_told}
@@ -285,23 +283,10 @@ module _ {K V : Type 0} (same : K → K → Bool) (hash : ℕ → K → ℕ) (m 
     abbrev stayed : Went same standing.hash setting i w standing.chart standing.blocks m2 (λ w2 c2 blocks2. Unit {0})
     stayed = went_nowhere same standing.hash setting i w standing.chart standing.blocks whole m2 still
 
-    same_word : (at : At) (x y : ℕ) → told ≡ changed.Wrote at x y → y ≡ x
-    same_word at x y e =
-        let words = subst (LeavesBy w.memory m2) e left in
-        let now : word_at w.memory at ≡ Some y = ap (λ (n : Mem (Node K V)). word_at n at) (sym still) ∙ words.1 in
-        let was = words.0 in cc (now, was)
-
-    keeps_names : (at : At) (x y : ℕ) → y ≡ x → KeepsNames setting standing.chart standing.blocks at x y
-    keeps_names (Root r) x y e = λ is. e
-    keeps_names (Used r) x y e = tt
-    keeps_names (Slot r field) x y e = tt
-    keeps_names (Entry b field) x y e = tt
-    keeps_names (Word b field) x y e = λ t l known is. (λ next. e, λ place l is. ap block_in e)
-
     quiet : IsQuiet same standing.hash setting i w standing.chart standing.blocks m2 (λ w2 c2 blocks2. Unit {0}) stayed whole map m.stored known
         shown.blocks.roles shown.blocks.once is_shown.tables.roles effects after
     quiet = quiet_told same standing.hash setting i w standing.chart standing.blocks m2 (λ w2 c2 blocks2. Unit {0}) stayed whole map m.stored known
-        shown.blocks.roles shown.blocks.once is_shown.tables.roles told left (λ at x y e. keeps_names at x y (same_word at x y e))
+        shown.blocks.roles shown.blocks.once is_shown.tables.roles told left (names_stay setting standing.chart standing.blocks w.memory m2 still told left)
 
     -- it stores no pair
     pub stayed_stores : StoreTheirs w.memory told caller map effects m

@@ -25,7 +25,8 @@ use Rattle.papaya_follows.proofs.Given.SeizeRule.World.Good.{Good}
 use Rattle.papaya_follows.proofs.Given.SeizeRule.World.Kept.{IsStill, users_good}
 use Rattle.papaya_follows.proofs.Given.SeizeAlone.Histories.NotTaken.{IsHeld, did, not_taken, still_held}
 use Rattle.papaya_follows.proofs.Given.SeizeAlone.Histories.Reached.{Reached}
-use Rattle.papaya_follows.proofs.Given.SeizeAlone.Histories.UsersTurn.{users_between}
+use Rattle.papaya_follows.proofs.Given.SeizeAlone.Histories.UsersTurn.{AreBetween}
+use Rattle.papaya_follows.proofs.Given.Callers.Together.Slots.{all_between}
 use Rattle.papaya_follows.specs.Given.Tables.Nodes.{deferred_word}
 use Rattle.papaya_follows.specs.Given.Tables.declared.node.Node.{Node}
 use Rattle.papaya_follows.specs.Given.Rule.InWorld.{AllUsers}
@@ -192,12 +193,7 @@ module _ {K V : Type 0} {size : ℕ} (w : World (Node K V)) (r : Reached deferre
     between_in (Clears i c) u h = by_users (Clears i c) tt h
     between_in (Chooses choice) u h = by_users (Chooses choice) tt h
 
-  -- all these are between rows
-  abbrev pub AllBetween : List (Event (Node K V)) → Type 0
-  AllBetween [] = Unit {0}
-  AllBetween (e ∷ events) = IsBetween e × AllBetween events
-
-  pub all_between_in : (events : List (Event (Node K V))) (v v2 : World (Node K V)) → AllBetween events → Runs deferred_word size events v v2 → IsInStill v → IsInStill v2
+  pub all_between_in : (events : List (Event (Node K V))) (v v2 : World (Node K V)) → AreBetween events → Runs deferred_word size events v v2 → IsInStill v → IsInStill v2
   all_between_in [] v v2 u runs was = subst IsInStill (sym runs) was
   all_between_in (e ∷ events) v v2 u runs was = all_between_in events runs.0 v2 u.1 runs.2 (between_in v runs.0 was e u.0 runs.1)
 
@@ -247,12 +243,8 @@ module _ {K V : Type 0} {size : ℕ} (w : World (Node K V)) (r : Reached deferre
       by (Defer' s c t) k = subst Then (sym k.7) (record { block = b; held = held_on slot b (Deferred c t) w.log tt one.held; retired = one.retired; is_first = one.is_first })
 
 module _ {K V : Type 0} {size : ℕ} (slot first : ℕ) (w : World (Node K V)) (r : Reached deferred_word size w) (one : HoldsOne w slot first) where
-  users_between_all : (events : List (Event (Node K V))) → AllUsers events → AllBetween w r slot first one events
-  users_between_all [] u = tt
-  users_between_all (e ∷ events) u = (users_between e u.0, users_between_all events u.1)
-
   -- so it is after all that users do
   pub runs_keep_one : (events : List (Event (Node K V))) (w2 : World (Node K V)) → IsInside (w.uses slot) → AllUsers events → Runs deferred_word size events w w2 → HoldsOne w2 slot first
   runs_keep_one events w2 inside users runs =
-      one_of_still w r slot first one w2 (all_between_in w r slot first one events w w2 (users_between_all events users) runs (in_at_first w r slot first one))
+      one_of_still w r slot first one w2 (all_between_in w r slot first one events w w2 (all_between events users) runs (in_at_first w r slot first one))
       (events_hold size one.block slot events w w2 r inside users runs one.held)

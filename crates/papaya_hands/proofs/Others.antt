@@ -12,12 +12,13 @@ use Rattle.papaya_follows.specs.Given.Callers.Together.{UnderWay}
 use Rattle.papaya_follows.proofs.Given.Callers.Together.Came.{came_reached}
 use Rattle.papaya_follows.proofs.Given.Callers.Together.Fits.{unless_on}
 use Rattle.papaya_follows.proofs.Given.Callers.Together.Users.{events_rows}
-use Rattle.papaya_follows.specs.Given.Finishes.FactsEnds.{Deed, Looks, TakesPair, LeavesTable, JoinsPair, TakesLeft, TakesCounter, WritesRoot, events_of, taken_by}
+use Rattle.papaya_follows.specs.Given.Finishes.FactsEnds.{Deed, events_of, taken_by}
 use Rattle.papaya_follows.specs.Given.Finishes.Maps.{with_call}
 use Rattle.papaya_hands.specs.Others.{RowsBeginAside, RowsGoAside, MakingsGoAside, EndingsBeginAside, EndingsGoAside, CallsGoAside}
 use Rattle.papaya_hands.specs.Rows.{ReclaimsNone, HoldsOne, KeepsOne, ShowsRows}
 use Rattle.papaya_hands.proofs.Asking.{which}
-use Rattle.papaya_hands.proofs.Guarded.{AllBetween, IsInStill, in_at_first, all_between_in, one_of_still, there_still, step_keeps_one, begin_keeps_one, runs_keep_one}
+use Rattle.papaya_follows.proofs.Given.Scenes.Between.{deed_between}
+use Rattle.papaya_hands.proofs.Guarded.{IsInStill, in_at_first, all_between_in, one_of_still, there_still, step_keeps_one, begin_keeps_one, runs_keep_one}
 use Rattle.papaya_hands.proofs.RowsOn.{RowSo, inside_of, kept_within}
 use Rattle.papaya_hands.proofs.SettlingRows.{one_kept}
 use Rattle.papaya_follows.specs.Given.Scenes.Ending.{ending_begun}
@@ -46,22 +47,13 @@ module _ {K V : Type 0} (s : Scene K V) (rows : ShowsRows s) (w2 : World (Node K
           let was = subst (λ (f : ℕ → ℕ → Option (UnderWay K V K)). f n j ≡ Some x) calls is in subst (λ (v : World (Node K V)). RowSo v j) (sym world) (row_so n j x was (each n j x was))
 
 module _ {K V : Type 0} {size : ℕ} (w : World (Node K V)) (r : Reached deferred_word size w) (slot first : ℕ) (one : HoldsOne w slot first) where
-  between_deed : (i : ℕ) (d : Deed) → AllBetween w r slot first one (events_of i d)
-  between_deed i Looks = tt
-  between_deed i (TakesPair b) = (tt, (tt, (tt, tt)))
-  between_deed i (LeavesTable b further) = (tt, (tt, tt))
-  between_deed i (JoinsPair b word) = (tt, tt)
-  between_deed i (TakesLeft b) = (tt, tt)
-  between_deed i (TakesCounter b) = (tt, tt)
-  between_deed i (WritesRoot at word) = (tt, tt)
-
   -- a step of the end of a map, which takes no block that a section holds
   end_keeps_one : (i : ℕ) (d : Deed) (w2 : World (Node K V)) → Runs deferred_word size (events_of i d) w w2 → ((t x : ℕ) → times x (taken_by d) ≡ 0 → holds t x w2.log ≡ holds t x w.log)
       → ((x : ℕ) → 0 < times x (taken_by d) → value_at w2.memory x ≡ None) → HoldsOne w2 slot first
   end_keeps_one i d w2 runs held gone = one_of_still w r slot first one w2 still (held slot one.block (by (times one.block (taken_by d)) refl) ∙ one.held)
     where
       still : IsInStill w r slot first one w2
-      still = all_between_in w r slot first one (events_of i d) w w2 (between_deed i d) runs (in_at_first w r slot first one)
+      still = all_between_in w r slot first one (events_of i d) w w2 (deed_between (Node K V) i d) runs (in_at_first w r slot first one)
 
       by : (k : ℕ) → times one.block (taken_by d) ≡ k → times one.block (taken_by d) ≡ 0
       by zero e = e

@@ -1,33 +1,21 @@
 -- The effects of an operation leave a call replacing nothing: what is replaced gives way to what is stored by the same operation.
-use Rattle.std.specs.Prelude.{◌&&◌, ◌≡◌, ℕ, ◌==◌, nat_lt, Bool, true, false, List, [], ◌∷◌, Option, Some, None, if◌then◌else◌}
+use Rattle.std.specs.Prelude.{◌≡◌, ℕ, Bool, true, false, List, [], ◌∷◌, Option, Some, None, if◌then◌else◌}
 use Rattle.std.proofs.Common.{refl, ap, sym, ◌∙◌}
-use Rattle.papaya_follows.specs.Given.SeizeWords.declared.at.At.{At}
-use Rattle.papaya_follows.specs.Given.SeizeWords.declared.at.At.TheVariants.{Root, Used, Slot, Entry, Word}
-use Rattle.papaya_follows.specs.Given.Seize.declared.states.TheConstants.{FIRST}
-use Rattle.papaya_follows.specs.Given.Tables.declared.table_words.TheConstants.{NEXT, DEFERRED}
 use Rattle.papaya_follows.specs.Given.Runs.Same.{is_same}
 use Rattle.papaya_follows.specs.Given.Schedules.declared.call.Call.{Call}
 use Rattle.papaya_follows.specs.Given.Schedules.declared.call.Call.TheVariants as call
 use Rattle.papaya_follows.specs.Given.Schedules.declared.effect.Effect.{Effect}
 use Rattle.papaya_follows.specs.Given.Schedules.declared.effect.Effect.TheVariants as effect
-use Rattle.papaya_follows.specs.Given.Schedules.declared.effect.Growth.TheVariants.{ABlock, ABucket}
-use Rattle.papaya_follows.specs.Given.Schedules.declared.effect.Spot.{Spot}
-use Rattle.papaya_follows.specs.Given.Schedules.declared.effect.Table.{Table}
-use Rattle.papaya_follows.specs.Given.Schedules.declared.effect.Thing.TheVariants.{APair, ATable}
 use Rattle.papaya_follows.specs.Given.Schedules.Effects.{due_for, call_by, with_effect, with_effects}
 use Rattle.papaya_follows.specs.Given.Schedules.Moment.{UnderWay as CallThere, Moment}
 use Rattle.papaya_follows.specs.Given.Schedules.Views.{call_of}
 use Rattle.papaya_follows.specs.Given.Teller.declared.changed.Changed.{Changed}
-use Rattle.papaya_follows.specs.Given.Teller.declared.changed.Changed.TheVariants as changed
-use Rattle.papaya_follows.specs.Given.Teller.declared.changed.Kind.{Kind}
-use Rattle.papaya_follows.specs.Given.Teller.declared.changed.Kind.TheVariants as kind
-use Rattle.papaya_follows.specs.Given.Effects.Effects.{made_by, taken_by, names_same, followed_by, led_to, carried, placed, spot_at, is_place, in_table, in_block, batched, named, written_by, effects_of}
+use Rattle.papaya_follows.specs.Given.Effects.Effects.{effects_of}
 use Rattle.papaya_follows.specs.Given.Effects.Known.{Known}
 use Rattle.papaya_follows.specs.Given.Effects.declared.acting.Acting.{Acting}
 use Rattle.papaya_follows.specs.Given.Effects.declared.acting.Acting.TheVariants as acts
-use Rattle.papaya_follows.specs.Given.Effects.declared.role.Role.{Role}
-use Rattle.papaya_follows.specs.Given.Effects.declared.role.Role.TheVariants as role
 use Rattle.papaya_follows.proofs.Calls.{changed_same, changed as changed_if, found}
+use Rattle.papaya_follows.proofs.OfEach.{OfEach, each_operation_so}
 
 -- the pair that a call replaces after an effect
 abbrev pub replacing_by : Effect → Option ℕ → Option ℕ
@@ -43,92 +31,29 @@ replacing_after (f ∷ effects) r = replacing_after effects (replacing_by f r)
 abbrev pub Settles : List Effect → Type 0
 Settles effects = replacing_after effects None ≡ None
 
-settle_if : (q : Bool) (a b : List Effect) → Settles a → Settles b → Settles (if q then a else b)
-settle_if true a b h k = h
-settle_if false a b h k = k
-
 module _ (caller map : ℕ) where
   abbrev its : Acting
   its = acts.Call caller map
 
-  followed_settles : (is : Role) → Settles (followed_by its is)
-  followed_settles role.Free = refl
-  followed_settles (role.OwnPair i) = refl
-  followed_settles (role.OwnTable turn shape) = refl
-  followed_settles (role.Pair n) = refl
-  followed_settles (role.Table t len) = refl
-  followed_settles (role.Counter of) = refl
+  each_settles : (known : Known) → OfEach its known Settles
+  each_settles known = record {
+    nothing = refl;
+    linked = λ turn shape. refl;
+    deferred = λ n t. refl;
+    stored = λ s. refl;
+    replaced = λ old s. refl;
+    removed = λ n. refl;
+    copied = λ n s. refl;
+    retired = λ x. refl;
+    asked = refl;
+    pair_made = refl;
+    table_made = λ turn. refl;
+    pair_given_up = refl;
+    table_given_up = λ turn. refl;
+  }
 
-  carried_settles : (t : Table) (is : Role) → Settles (carried t is)
-  carried_settles t role.Free = refl
-  carried_settles t (role.OwnPair i) = refl
-  carried_settles t (role.OwnTable turn shape) = refl
-  carried_settles t (role.Pair n) = refl
-  carried_settles t (role.Table u len) = refl
-  carried_settles t (role.Counter of) = refl
-
-  led_settles : (was is : Role) → Settles (led_to its was is)
-  led_settles _ (role.OwnTable turn shape) = refl
-  led_settles (role.Table t len) (role.Table u other) = refl
-  led_settles _ _ = refl
-
-  placed_settles : (s : Spot) (stored : ℕ) (was is : Role) → Settles (placed s stored was is)
-  placed_settles s stored (role.Pair n) (role.OwnPair i) = refl
-  placed_settles s stored _ (role.OwnPair i) = refl
-  placed_settles s stored (role.Pair n) role.Free = refl
-  placed_settles s stored role.Free (role.Pair n) = refl
-  placed_settles s stored _ _ = refl
-
-  table_settles : (t : Table) (len field stored : ℕ) (was is : Role) → Settles (in_table its t len field stored was is)
-  table_settles t len field stored was is =
-      settle_if (field == NEXT) (followed_by its is) (if field == DEFERRED then carried t is else (if is_place len field then placed (spot_at t field) stored was is else [])) (followed_settles is)
-      (settle_if (field == DEFERRED) (carried t is) (if is_place len field then placed (spot_at t field) stored was is else []) (carried_settles t is)
-      (settle_if (is_place len field) (placed (spot_at t field) stored was is) [] (placed_settles (spot_at t field) stored was is) refl))
-
-  block_settles : (r : Role) (field stored : ℕ) (q : Bool) (was is : Role) → Settles (in_block its r field stored q was is)
-  block_settles role.Free field stored q was is = refl
-  block_settles (role.OwnPair i) field stored q was is = refl
-  block_settles (role.OwnTable turn shape) field stored q was is = refl
-  block_settles (role.Pair n) field stored q was is = refl
-  block_settles (role.Table t len) field stored q was is = settle_if q [] (in_table its t len field stored was is) refl (table_settles t len field stored was is)
-  block_settles (role.Counter of) field stored q was is = refl
-
-  batched_settles : (field : ℕ) (r : Role) → Settles (batched its field r)
-  batched_settles field role.Free = refl
-  batched_settles field (role.OwnPair i) = refl
-  batched_settles field (role.OwnTable turn shape) = refl
-  batched_settles field (role.Pair n) = settle_if (field == FIRST) (effect.Retired (APair n) ∷ []) [] refl refl
-  batched_settles field (role.Table t len) = settle_if (field == FIRST) (effect.Retired (ATable t) ∷ []) [] refl refl
-  batched_settles field (role.Counter of) = refl
-
-  module _ (known : Known) where
-    written_settles : (at : At) (old new : ℕ) → Settles (written_by its known at old new)
-    written_settles (Root r) old new = settle_if (names_same old new) [] (led_to its (named known old) (named known new)) refl (led_settles (named known old) (named known new))
-    written_settles (Used r) old new = refl
-    written_settles (Slot s field) old new = refl
-    written_settles (Entry b field) old new = settle_if (names_same old new) [] (batched its field (known.roles b)) refl (batched_settles field (known.roles b))
-    written_settles (Word b field) old new = block_settles (known.roles b) field known.stored (names_same old new) (named known old) (named known new)
-
-    made_settles : (k : Kind) → Settles (effect.Asked ABlock ∷ made_by its k)
-    made_settles kind.Pair = refl
-    made_settles (kind.Table len limit turn) = refl
-    made_settles kind.Shards = refl
-
-    taken_settles : (r : Role) → Settles (taken_by its r)
-    taken_settles role.Free = refl
-    taken_settles (role.OwnPair i) = refl
-    taken_settles (role.OwnTable turn shape) = refl
-    taken_settles (role.Pair n) = refl
-    taken_settles (role.Table t len) = refl
-    taken_settles (role.Counter of) = refl
-
-    pub all_settle : (told : Changed) → Settles (effects_of its known told)
-    all_settle changed.Nothing = refl
-    all_settle (changed.Wrote at old new) = written_settles at old new
-    all_settle (changed.Made k b) = made_settles k
-    all_settle (changed.Unmade k) = refl
-    all_settle (changed.Took b) = taken_settles (known.roles b)
-    all_settle (changed.Roomed bucket had) = settle_if (had && nat_lt bucket known.buckets) [] (effect.Asked ABucket ∷ []) refl refl
+  pub all_settle : (known : Known) (told : Changed) → Settles (effects_of its known told)
+  all_settle known told = each_operation_so its known Settles (each_settles known) (λ t. refl) (λ field. refl) (λ n. refl) (λ t. refl) refl told
 
 module _ {K V : Type 0} where
   due_replacing : (its : Call K V) (c : CallThere K V) (old : Option ℕ) (new : ℕ)

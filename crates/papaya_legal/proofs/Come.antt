@@ -1,20 +1,13 @@
 -- All that was stored and linked came into maps: effect by effect, over what an operation of a call does, and over an event whose effects find what they must.
-use Rattle.std.specs.Prelude.{◌≡◌, ℕ, ◌+◌, ◌≤◌, ◌==◌, nat_lt, Bool, true, false, ◌&&◌, ◌||◌, List, [], ◌∷◌, ◌++◌, flat_map, length, map, Option, Some, None, if◌then◌else◌}
+use Rattle.std.specs.Prelude.{◌≡◌, ℕ, ◌+◌, ◌≤◌, Bool, true, false, ◌||◌, List, [], ◌∷◌, ◌++◌, flat_map, length, map, Option, Some, None, if◌then◌else◌}
 use Rattle.std.specs.List.{AllByRecursion}
 use Rattle.std.proofs.Common.{refl, ap, sym, subst, ◌∙◌, append_assoc, arith, inl, inr}
 use Rattle.std.proofs.lemmas.Bool.{cases_lt, eq-eqb}
 use Rattle.std.proofs.lemmas.List.{append-nil, length-append}
 use Rattle.std.proofs.lemmas.List.Concat.{flat_map-cons}
-use Rattle.papaya_grows.specs.Given.SeizeWords.declared.at.At.TheVariants as at
-use Rattle.papaya_grows.specs.Given.Seize.declared.states.TheConstants.{FIRST}
-use Rattle.papaya_grows.specs.Given.Tables.declared.table_words.TheConstants.{NEXT, DEFERRED}
 use Rattle.papaya_grows.specs.Given.Teller.declared.changed.Changed.{Changed}
-use Rattle.papaya_grows.specs.Given.Teller.declared.changed.Changed.TheVariants as changed
-use Rattle.papaya_grows.specs.Given.Teller.declared.changed.Kind.{Kind}
-use Rattle.papaya_grows.specs.Given.Teller.declared.changed.Kind.TheVariants as kind
 use Rattle.papaya_grows.specs.Given.Schedules.declared.effect.Effect.{Effect}
 use Rattle.papaya_grows.specs.Given.Schedules.declared.effect.Effect.TheVariants as effect
-use Rattle.papaya_grows.specs.Given.Schedules.declared.effect.Growth.TheVariants.{ABucket, ABlock}
 use Rattle.papaya_grows.specs.Given.Schedules.declared.effect.Spot.{Spot}
 use Rattle.papaya_grows.specs.Given.Schedules.declared.effect.Table.{Table}
 use Rattle.papaya_grows.specs.Given.Schedules.declared.effect.Thing.{Thing}
@@ -39,17 +32,16 @@ use Rattle.papaya_grows.specs.Given.Schedules.Sequential.{Meaning, Answers, Puts
 use Rattle.papaya_grows.specs.Given.Schedules.Terms.{Terms}
 use Rattle.papaya_grows.specs.Given.Schedules.Things.{same_table, same_thing}
 use Rattle.papaya_grows.specs.Given.Schedules.Views.{number_of, reply_to}
-use Rattle.papaya_grows.specs.Given.Effects.Effects.{batched, carried, effects_of, followed_by, in_block, in_table, is_place, led_to, made_by, named, names_same, placed, spot_at, taken_by}
+use Rattle.papaya_grows.specs.Given.Effects.Effects.{effects_of}
 use Rattle.papaya_grows.specs.Given.Effects.Known.{Known}
 use Rattle.papaya_grows.specs.Given.Effects.declared.acting.Acting.{Acting}
 use Rattle.papaya_grows.specs.Given.Effects.declared.acting.Acting.TheVariants.{Call}
-use Rattle.papaya_grows.specs.Given.Effects.declared.role.Role.{Role}
-use Rattle.papaya_grows.specs.Given.Effects.declared.role.Role.TheVariants as role
 use Rattle.papaya_grows.proofs.Given.Spots.Unreclaimed.{or_right, same_itself}
 use Rattle.papaya_grows.proofs.Given.Finds.Lists.{all_so}
 use Rattle.papaya_grows.proofs.Given.Finds.Somewhere.{is_storing, none_stored}
 use Rattle.papaya_models.proofs.Numbers.{still_in}
 use Rattle.papaya_legal.specs.Noted.{HaveCome, CallsBringThings, EventsBringThings, NothingHasCome}
+use Rattle.papaya_grows.proofs.Given.Follows.OfEach.{OfEach, each_operation_so}
 
 -- the n-th pair that is stored has the number n
 abbrev pub IsNumbered : {K V : Type 0} → Moment K V → Effect → Type 0
@@ -152,77 +144,25 @@ module _ {K V : Type 0} (caller : Option (List ℕ)) (acted : Option ℕ) where
     abbrev AllNumbered : List Effect → Type 0
     AllNumbered effects = AtEachEffect IsNumbered caller acted effects m
 
-    numbers_if : (q : Bool) (x y : List Effect) → AllNumbered x → AllNumbered y → AllNumbered (if q then x else y)
-    numbers_if true x y a b = a
-    numbers_if false x y a b = b
-
-    led_numbers : (was is : Role) → AllNumbered (led_to its was is)
-    led_numbers was (role.OwnTable turn shape) = (tt, tt)
-    led_numbers (role.Table t len) (role.Table u other) = (tt, tt)
-    led_numbers _ _ = tt
-
-    batched_numbers : (field : ℕ) (r : Role) → AllNumbered (batched its field r)
-    batched_numbers field role.Free = tt
-    batched_numbers field (role.OwnPair c) = tt
-    batched_numbers field (role.OwnTable turn shape) = tt
-    batched_numbers field (role.Pair n) = numbers_if (field == FIRST) (effect.Retired (APair n) ∷ []) [] (tt, tt) tt
-    batched_numbers field (role.Table t len) = numbers_if (field == FIRST) (effect.Retired (ATable t) ∷ []) [] (tt, tt) tt
-    batched_numbers field (role.Counter of) = tt
-
-    followed_numbers : (is : Role) → AllNumbered (followed_by its is)
-    followed_numbers (role.OwnTable turn shape) = (tt, tt)
-    followed_numbers _ = tt
-
-    carried_numbers : (t : Table) (is : Role) → AllNumbered (carried t is)
-    carried_numbers t (role.Pair n) = (tt, tt)
-    carried_numbers t _ = tt
-
-    placed_numbers : (x : Spot) (was is : Role) → AllNumbered (placed x known.stored was is)
-    placed_numbers x (role.Pair n) (role.OwnPair j) = (
-      tt,
-      (ap (λ (k : ℕ). k + 1) (many ∙ sym (ap length (none_stored (acting caller m) (effect.Replaced n) m.stored refl))), tt),
-    )
-    placed_numbers x _ (role.OwnPair j) = (ap (λ (k : ℕ). k + 1) many, tt)
-    placed_numbers x (role.Pair n) role.Free = (tt, tt)
-    placed_numbers x role.Free (role.Pair n) = (tt, tt)
-    placed_numbers x _ _ = tt
-
-    block_numbers : (r : Role) (field : ℕ) (q : Bool) (was is : Role) → AllNumbered (in_block its r field known.stored q was is)
-    block_numbers role.Free field q was is = tt
-    block_numbers (role.OwnPair c) field q was is = tt
-    block_numbers (role.OwnTable turn shape) field q was is = tt
-    block_numbers (role.Pair n) field q was is = tt
-    block_numbers (role.Counter of) field q was is = (tt, tt)
-    block_numbers (role.Table t len) field q was is =
-        numbers_if q [] (in_table its t len field known.stored was is) tt
-        (numbers_if (field == NEXT) (followed_by its is) (if field == DEFERRED then carried t is else (if is_place len field then placed (spot_at t field) known.stored was is else [])) (followed_numbers is)
-        (numbers_if (field == DEFERRED) (carried t is) (if is_place len field then placed (spot_at t field) known.stored was is else []) (carried_numbers t is)
-        (numbers_if (is_place len field) (placed (spot_at t field) known.stored was is) [] (placed_numbers (spot_at t field) was is) tt)))
-
-    made_numbers : (k : Kind) → AllNumbered (effect.Asked ABlock ∷ made_by its k)
-    made_numbers kind.Pair = (tt, (tt, tt))
-    made_numbers (kind.Table len limit turn) = (tt, (tt, tt))
-    made_numbers kind.Shards = (tt, tt)
-
-    taken_numbers : (r : Role) → AllNumbered (taken_by its r)
-    taken_numbers role.Free = tt
-    taken_numbers (role.OwnPair c) = (tt, tt)
-    taken_numbers (role.OwnTable turn shape) = (tt, tt)
-    taken_numbers (role.Counter of) = tt
-    taken_numbers (role.Pair n) = (tt, tt)
-    taken_numbers (role.Table t len) = (tt, tt)
+    each_numbered : OfEach its known AllNumbered
+    each_numbered = record {
+      nothing = tt;
+      linked = λ turn shape. (tt, tt);
+      deferred = λ n t. (tt, tt);
+      stored = λ s. (ap (λ (k : ℕ). k + 1) many, tt);
+      replaced = λ old s. (tt, (ap (λ (k : ℕ). k + 1) (many ∙ sym (ap length (none_stored (acting caller m) (effect.Replaced old) m.stored refl))), tt));
+      removed = λ n. (tt, tt);
+      copied = λ n s. (tt, tt);
+      retired = λ x. (tt, tt);
+      asked = (tt, tt);
+      pair_made = (tt, (tt, tt));
+      table_made = λ turn. (tt, (tt, tt));
+      pair_given_up = (tt, tt);
+      table_given_up = λ turn. (tt, tt);
+    }
 
     pub numbers_so : (told : Changed) → AllNumbered (effects_of its known told)
-    numbers_so changed.Nothing = tt
-    numbers_so (changed.Wrote (at.Root r) old new) = numbers_if (names_same old new) [] (led_to its (named known old) (named known new)) tt (led_numbers (named known old) (named known new))
-    numbers_so (changed.Wrote (at.Used r) old new) = tt
-    numbers_so (changed.Wrote (at.Slot t field) old new) = tt
-    numbers_so (changed.Wrote (at.Entry b field) old new) = numbers_if (names_same old new) [] (batched its field (known.roles b)) tt (batched_numbers field (known.roles b))
-    numbers_so (changed.Wrote (at.Word b field) old new) = block_numbers (known.roles b) field (names_same old new) (named known old) (named known new)
-    numbers_so (changed.Made k b) = made_numbers k
-    numbers_so (changed.Unmade k) = (tt, tt)
-    numbers_so (changed.Took b) = taken_numbers (known.roles b)
-    numbers_so (changed.Roomed bucket had) = numbers_if (had && nat_lt bucket known.buckets) [] (effect.Asked ABucket ∷ []) tt (tt, tt)
+    numbers_so told = each_operation_so its known AllNumbered each_numbered (λ t. (tt, tt)) (λ field. (tt, tt)) (λ n. (tt, tt)) (λ t. (tt, tt)) (tt, tt) told
 
 module _ (K V : Type 0) where
   pub nothing_has_come : NothingHasCome K V

@@ -84,7 +84,7 @@ module _ {K V S : Type 0} (same : K → K → Bool) (hash : S → K → ℕ) (ba
       to _ led.comes (kind_cut V same same batch_size roots slot s.world s.maps s.calls s.makers s.enders m led.standing i b led.memory led.did.w2 led.did.maps2 led.did.next
       all.makings.standing led.stands led.call led.here led.machine led.progress led.did.did)
   act_cut (TellsCall i m reply) told (standing, stands, u, next, here, machine_is, told_is, kind, is) = to _ is (inl refl)
-  act_cut (AsksCall i m) told (u, next, here, machine_is, told_is, is) = to _ is (inl refl)
+  act_cut (AsksCall i m) told (u, here, told_is, is) = to _ is (inl refl)
   act_cut (StopsCall i m) told (u, here, told_is, is) = to _ is (inl refl)
   act_cut (BeginsMaking i map hasher given places) told (told_is, is) = to _ is (inl refl)
   act_cut (StepsMaking i g) told (d, makes, m2, machine, end, computed, told_is, did, came) = made i d m2 machine end did came

@@ -44,7 +44,9 @@ use Rattle.papaya_lives.proofs.HandedEffects.{IsHanding, NoneHands, deferred_spl
 use Rattle.papaya_lives.proofs.HandedOver.{came_listed, deed_alone, deed_frees, deed_leaves}
 use Rattle.papaya_lives.proofs.LeftOver.{handed_untaken}
 use Rattle.papaya_lives.proofs.Listed.{Listing}
-use Rattle.papaya_lives.proofs.RetiredEnds.{between_rows, deed_between, handed_before}
+use Rattle.papaya_settles.proofs.Given.Callers.Together.Slots.{between_rows}
+use Rattle.papaya_settles.proofs.Given.Scenes.Between.{deed_between}
+use Rattle.papaya_lives.proofs.RetiredEnds.{handed_before}
 use Rattle.papaya_lives.proofs.WaitingEnds.{calm_deferred, none_of}
 use Rattle.papaya_settles.specs.Given.Scenes.Ending.{EndingComesTo, EndingStepsFrom}
 use Rattle.papaya_settles.specs.Given.Scenes.Held.{Held, IsAt}

@@ -5,11 +5,9 @@ use Rattle.papaya_settles.specs.Given.SeizeWords.Mem.{value_at}
 use Rattle.papaya_settles.specs.Given.Seize.declared.rows.settle.Settled.{Settled}
 use Rattle.papaya_settles.specs.Given.Seize.declared.rows.settle.Settled.TheVariants as settled
 use Rattle.papaya_settles.specs.Given.Seize.declared.states.TheConstants.{LAST_SLOT}
-use Rattle.papaya_settles.specs.Given.Seize.Sequence.{IsBetween}
-use Rattle.papaya_settles.specs.Given.Seize.World.{World, Row, Hand, LeftTo, Handed, Event, Runs, times}
+use Rattle.papaya_settles.specs.Given.Seize.World.{World, Row, Hand, LeftTo, Handed, times}
 use Rattle.papaya_settles.proofs.Given.SeizeMoves.State.Ghost.{Life, IsDeferring, IsDeferred, IsPending, IsIn, IsDoomed}
 use Rattle.papaya_settles.proofs.Given.SeizeRule.Points.Aside.{HandFits, is_handed}
-use Rattle.papaya_settles.proofs.Given.SeizeRule.Rows.Others.{users_rows}
 use Rattle.papaya_settles.proofs.Given.SeizeRule.Words.Shows.{lives}
 use Rattle.papaya_settles.proofs.Given.SeizeRule.Words.There.{value_there}
 use Rattle.papaya_settles.proofs.Given.SeizeAlone.Histories.Reached.{Reached, runs_reached}
@@ -27,12 +25,13 @@ use Rattle.papaya_settles.specs.Given.Teller.declared.changed.Changed.{Changed}
 use Rattle.papaya_settles.specs.Given.Teller.declared.changed.Changed.TheVariants as changed
 use Rattle.papaya_settles.specs.Given.Callers.Together.{UnderWay}
 use Rattle.papaya_settles.proofs.Given.Callers.Together.Came.{came_reached}
+use Rattle.papaya_settles.proofs.Given.Callers.Together.Slots.{between_rows}
 use Rattle.papaya_settles.specs.Given.Effects.Effects.{effects_of, known_after}
 use Rattle.papaya_settles.specs.Given.Effects.Known.{Known}
 use Rattle.papaya_settles.specs.Given.Effects.declared.acting.Acting.TheVariants.{Ending}
 use Rattle.papaya_settles.specs.Given.Effects.declared.role.Role.TheVariants as role
 use Rattle.papaya_settles.specs.Given.Finishes.Endings.{Finishing, StepsOfEnding}
-use Rattle.papaya_settles.specs.Given.Finishes.FactsEnds.{Deed, Looks, TakesPair, LeavesTable, JoinsPair, TakesLeft, TakesCounter, WritesRoot, events_of, taken_by as taken_of, left_by}
+use Rattle.papaya_settles.specs.Given.Finishes.FactsEnds.{events_of, taken_by as taken_of, left_by}
 use Rattle.papaya_settles.proofs.Given.Follows.Alike.{is_calm, AllCalm, put_here}
 use Rattle.papaya_settles.proofs.Given.Follows.Onward.{IsOfMap}
 use Rattle.papaya_settles.specs.Given.Others.Endings.{ending_after}
@@ -41,6 +40,7 @@ use Rattle.papaya_settles.proofs.Given.Moments.Ends.{says, end_keeps}
 use Rattle.papaya_settles.proofs.Given.Moments.OnSlots.{none_some}
 use Rattle.papaya_lives.specs.Retired.{IsToRetire, ShowsRetired, EndingsKeepRetired}
 use Rattle.papaya_lives.proofs.Stages.{EndsIt, NoneEnds, still_retired, taken_ends}
+use Rattle.papaya_settles.proofs.Given.Scenes.Between.{deed_between}
 use Rattle.papaya_settles.specs.Given.Scenes.Ending.{EndingComesTo, EndingStepsFrom}
 use Rattle.papaya_settles.specs.Given.Scenes.Held.{Held, IsAt}
 use Rattle.papaya_settles.specs.Given.Scenes.Scene.{HasCall, Scene, slot_of}
@@ -53,24 +53,6 @@ handed_lives (IsPending i) handed = refl
 handed_lives (IsIn x) handed = refl
 handed_lives (IsDoomed i) handed = refl
 handed_lives _ handed = absurd (cc handed)
-
--- what is done as a map ends is none of a row's
-abbrev pub AllBetween : {T : Type 0} → List (Event T) → Type 0
-AllBetween [] = Unit {0}
-AllBetween (e ∷ events) = IsBetween e × AllBetween events
-
-pub deed_between : (T : Type 0) (i : ℕ) (deed : Deed) → AllBetween (events_of {T = T} i deed)
-deed_between T i Looks = tt
-deed_between T i (TakesPair b) = (tt, (tt, (tt, tt)))
-deed_between T i (LeavesTable b further) = (tt, (tt, tt))
-deed_between T i (JoinsPair b word) = (tt, tt)
-deed_between T i (TakesLeft b) = (tt, tt)
-deed_between T i (TakesCounter b) = (tt, tt)
-deed_between T i (WritesRoot at word) = (tt, tt)
-
-pub between_rows : {T : Type 0} (defers : T → Option ℕ) (size : ℕ) (events : List (Event T)) (w v : World T) → AllBetween events → Runs defers size events w v → v.row ≡ w.row
-between_rows defers size [] w v all runs = ap (λ (z : World _). z.row) runs
-between_rows defers size (e ∷ events) w v all runs = between_rows defers size events runs.0 v all.1 runs.2 ∙ users_rows defers size w runs.0 e all.0 runs.1
 
 calm_ends : (t : Table) (f : Effect) → is_calm f ≡ true → EndsIt t f → ⊥
 calm_ends t (Reclaimed (ATable u)) calm ends = absurd (cc calm)

@@ -8,7 +8,7 @@ use Rattle.std.proofs.lemmas.List.{append-nil, map-append}
 use Rattle.std.proofs.lemmas.List.Concat.{flat_map-append, flat_map-cons}
 use Rattle.papaya_histories.specs.Given.SeizeWords.Mem.{value_at}
 use Rattle.papaya_histories.specs.Given.Seize.Law.{Ended as HasEnded}
-use Rattle.papaya_histories.specs.Given.Seize.Sequence.{IsBetween, ended_by}
+use Rattle.papaya_histories.specs.Given.Seize.Sequence.{ended_by}
 use Rattle.papaya_histories.specs.Given.Seize.WaitingSets.{Change, Ends, Further, Sets, is_one_of}
 use Rattle.papaya_histories.specs.Given.Seize.World.{World, LeftTo, Event, Runs, Ends as EndsOwner, times, with_effect}
 use Rattle.papaya_histories.specs.Given.Seize.declared.rows.settle.Settled.{Settled}
@@ -53,6 +53,8 @@ use Rattle.papaya_models.proofs.Turns.{events_follow, all_have_lists}
 use Rattle.papaya_histories.specs.Given.Scenes.Ending.{EndingComesTo, EndingStepsFrom}
 use Rattle.papaya_histories.specs.Given.Scenes.Held.{Held, IsAt}
 use Rattle.papaya_histories.specs.Given.Scenes.Scene.{Scene, slot_of}
+use Rattle.papaya_histories.proofs.Given.SeizeAlone.Histories.UsersTurn.{AreBetween}
+use Rattle.papaya_histories.proofs.Given.Scenes.Between.{deed_between}
 
 -- Where the end begins what others wait behind is noted as a table.
 
@@ -121,19 +123,6 @@ one_of_both b (x ∷ xs) ys is = by (b == x) is (one_of_both b xs ys)
     by false is ih = ih is
 
 module _ {T : Type 0} (defers : T → Option ℕ) (batch_size roots i : ℕ) where
-  abbrev AllBetween : List (Event T) → Type 0
-  AllBetween [] = Unit {0}
-  AllBetween (e ∷ events) = IsBetween e × AllBetween events
-
-  all_between : (deed : Deed) → AllBetween (events_of i deed)
-  all_between Looks = tt
-  all_between (TakesPair b) = (tt, (tt, (tt, tt)))
-  all_between (LeavesTable b further) = (tt, (tt, tt))
-  all_between (JoinsPair b word) = (tt, tt)
-  all_between (TakesLeft b) = (tt, tt)
-  all_between (TakesCounter b) = (tt, tt)
-  all_between (WritesRoot at word) = (tt, tt)
-
   ended_are : (deed : Deed) → flat_map ended_by (events_of {T = T} i deed) ≡ map (λ b. Ends b) (ended_of deed)
   ended_are Looks = refl
   ended_are (TakesPair b) = refl
@@ -144,7 +133,7 @@ module _ {T : Type 0} (defers : T → Option ℕ) (batch_size roots i : ℕ) whe
   ended_are (TakesCounter b) = refl
   ended_are (WritesRoot at word) = refl
 
-  came_all : (events : List (Event T)) → AllBetween events → (w n : World T) (before : List Change) → CameByTurns defers batch_size roots w before
+  came_all : (events : List (Event T)) → AreBetween events → (w n : World T) (before : List Change) → CameByTurns defers batch_size roots w before
       → Runs defers batch_size events w n → CameByTurns defers batch_size roots n (before ++ flat_map ended_by events)
   came_all [] all w n before came runs =
       subst (λ (cs : List Change). CameByTurns defers batch_size roots n cs) (sym (append-nil before)) (subst (λ (u : World T). CameByTurns defers batch_size roots u before) (sym runs) came)
@@ -156,7 +145,7 @@ module _ {T : Type 0} (defers : T → Option ℕ) (batch_size roots i : ℕ) whe
   came_on : (w n : World T) (before : List Change) → CameByTurns defers batch_size roots w before → (deed : Deed) → Runs defers batch_size (events_of i deed) w n
       → CameByTurns defers batch_size roots n (before ++ map (λ b. Ends b) (ended_of deed))
   came_on w n before came deed runs =
-      subst (λ (cs : List Change). CameByTurns defers batch_size roots n (before ++ cs)) (ended_are deed) (came_all (events_of i deed) (all_between deed) w n before came runs)
+      subst (λ (cs : List Change). CameByTurns defers batch_size roots n (before ++ cs)) (ended_are deed) (came_all (events_of i deed) (deed_between T i deed) w n before came runs)
 
 -- What a step of an end tells.
 

@@ -12,7 +12,7 @@ use Rattle.papaya_histories.specs.Given.Seize.declared.states.TheConstants.{FIRS
 use Rattle.papaya_histories.proofs.Given.SeizeRule.Words.Named.{same_at-true, block_there}
 use Rattle.papaya_histories.proofs.Given.SeizeRule.Points.Retire.{of_link}
 use Rattle.papaya_histories.proofs.Given.Hands.Handing.{IsHanding}
-use Rattle.papaya_histories.specs.Given.Tables.declared.table_words.TheConstants.{NEXT, DEFERRED}
+use Rattle.papaya_histories.specs.Given.Tables.declared.table_words.TheConstants.{DEFERRED}
 use Rattle.papaya_histories.specs.Given.Tables.declared.node.Node.{Node}
 use Rattle.papaya_histories.specs.Given.Tells.Seen.{seen_of, word_or}
 use Rattle.papaya_histories.specs.Given.Teller.Tells.{told_of}
@@ -23,17 +23,17 @@ use Rattle.papaya_histories.specs.Given.Teller.declared.changed.Kind.TheVariants
 use Rattle.papaya_histories.specs.Given.Schedules.declared.effect.Effect.{Effect}
 use Rattle.papaya_histories.specs.Given.Schedules.declared.effect.Effect.TheVariants as effect
 use Rattle.papaya_histories.specs.Given.Schedules.declared.effect.Growth.TheVariants.{ABucket, ABlock}
-use Rattle.papaya_histories.specs.Given.Schedules.declared.effect.Spot.{Spot}
 use Rattle.papaya_histories.specs.Given.Schedules.declared.effect.Table.{Table}
 use Rattle.papaya_histories.specs.Given.Schedules.declared.effect.Thing.{Thing}
 use Rattle.papaya_histories.specs.Given.Schedules.declared.effect.Thing.TheVariants.{APair, ATable}
-use Rattle.papaya_histories.specs.Given.Effects.Effects.{names_same, named, led_to, in_block, batched, made_by, taken_by, effects_of, followed_by, carried, placed, spot_at, is_place, in_table, known_after}
+use Rattle.papaya_histories.specs.Given.Effects.Effects.{names_same, named, led_to, in_block, batched, made_by, taken_by, effects_of, known_after}
 use Rattle.papaya_histories.specs.Given.Effects.Known.{Known, with_role}
 use Rattle.papaya_histories.specs.Given.Effects.declared.acting.Acting.{Acting}
 use Rattle.papaya_histories.specs.Given.Effects.declared.acting.Acting.TheVariants.{Call}
 use Rattle.papaya_histories.specs.Given.Effects.declared.role.Role.{Role}
 use Rattle.papaya_histories.specs.Given.Effects.declared.role.Role.TheVariants as role
-use Rattle.papaya_histories.proofs.Given.Follows.Onward.{IsLasting, KeepsRoles}
+use Rattle.papaya_histories.proofs.Given.Follows.OfEach.{OfEach, led_so, operation_so}
+use Rattle.papaya_histories.proofs.Given.Follows.Onward.{IsLasting, IsOfMap, KeepsRoles}
 use Rattle.papaya_histories.proofs.Given.Follows.Operations.{Operated}
 use Rattle.papaya_promises.specs.Sheltered.{IsOfThing}
 use Rattle.papaya_models.specs.Numbers.{NoneBack}
@@ -114,76 +114,38 @@ module _ (i map : ℕ) (known : Known) where
 
   -- A step of a call reclaims nothing that was handed over, where pairs and tables keep their blocks.
 
-  back_if : (q : Bool) (x y : List Effect) → NoneBack x → NoneBack y → NoneBack (if q then x else y)
-  back_if true x y a b = a
-  back_if false x y a b = b
-
-  led_back : (was is : Role) → NoneBack (led_to its was is)
-  led_back was (role.OwnTable turn shape) = (tt, tt)
-  led_back (role.Table t len) (role.Table u other) = (tt, tt)
-  led_back _ _ = tt
-
-  batched_back : (field : ℕ) (r : Role) → NoneBack (batched its field r)
-  batched_back field role.Free = tt
-  batched_back field (role.OwnPair c) = tt
-  batched_back field (role.OwnTable turn shape) = tt
-  batched_back field (role.Pair n) = back_if (field == FIRST) (effect.Retired (APair n) ∷ []) [] (tt, tt) tt
-  batched_back field (role.Table t len) = back_if (field == FIRST) (effect.Retired (ATable t) ∷ []) [] (tt, tt) tt
-  batched_back field (role.Counter of) = tt
-
-  followed_back : (is : Role) → NoneBack (followed_by its is)
-  followed_back (role.OwnTable turn shape) = (tt, tt)
-  followed_back _ = tt
-
-  carried_back : (t : Table) (is : Role) → NoneBack (carried t is)
-  carried_back t (role.Pair n) = (tt, tt)
-  carried_back t _ = tt
-
-  placed_back : (x : Spot) (stored : ℕ) (was is : Role) → NoneBack (placed x stored was is)
-  placed_back x stored (role.Pair n) (role.OwnPair j) = (tt, (tt, tt))
-  placed_back x stored _ (role.OwnPair j) = (tt, tt)
-  placed_back x stored (role.Pair n) role.Free = (tt, tt)
-  placed_back x stored role.Free (role.Pair n) = (tt, tt)
-  placed_back x stored _ _ = tt
-
-  block_back : (r : Role) (field stored : ℕ) (q : Bool) (was is : Role) → NoneBack (in_block its r field stored q was is)
-  block_back role.Free field stored q was is = tt
-  block_back (role.OwnPair c) field stored q was is = tt
-  block_back (role.OwnTable turn shape) field stored q was is = tt
-  block_back (role.Pair n) field stored q was is = tt
-  block_back (role.Counter of) field stored q was is = (tt, tt)
-  block_back (role.Table t len) field stored q was is =
-      back_if q [] (in_table its t len field stored was is) tt
-      (back_if (field == NEXT) (followed_by its is) (if field == DEFERRED then carried t is else (if is_place len field then placed (spot_at t field) stored was is else [])) (followed_back is)
-      (back_if (field == DEFERRED) (carried t is) (if is_place len field then placed (spot_at t field) stored was is else []) (carried_back t is)
-      (back_if (is_place len field) (placed (spot_at t field) stored was is) [] (placed_back (spot_at t field) stored was is) tt)))
-
-  made_back : (k : Kind) → NoneBack (effect.Asked ABlock ∷ made_by its k)
-  made_back kind.Pair = (tt, (tt, tt))
-  made_back (kind.Table len limit turn) = (tt, (tt, tt))
-  made_back kind.Shards = (tt, tt)
-
-  taken_back : (b : ℕ) (r : Role) → known.roles b ≡ r → KeepsRoles known (with_role b role.Free known) → NoneBack (taken_by its r)
-  taken_back b role.Free e keeps = tt
-  taken_back b (role.OwnPair c) e keeps = (tt, tt)
-  taken_back b (role.OwnTable turn shape) e keeps = (tt, tt)
-  taken_back b (role.Counter of) e keeps = tt
-  taken_back b (role.Pair n) e keeps =
-      absurd (let kept = keeps b (subst IsLasting (sym e) tt) in let gone : (with_role b role.Free known).roles b ≡ role.Free = ap (λ (q : Bool). if q then role.Free else known.roles b) (eq-eqb b b refl) in cc (kept, gone, e))
-  taken_back b (role.Table t len) e keeps =
-      absurd (let kept = keeps b (subst IsLasting (sym e) tt) in let gone : (with_role b role.Free known).roles b ≡ role.Free = ap (λ (q : Bool). if q then role.Free else known.roles b) (eq-eqb b b refl) in cc (kept, gone, e))
+  each_back : OfEach its known NoneBack
+  each_back = record {
+    nothing = tt;
+    linked = λ turn shape. (tt, tt);
+    deferred = λ n t. (tt, tt);
+    stored = λ s. (tt, tt);
+    replaced = λ old s. (tt, (tt, tt));
+    removed = λ n. (tt, tt);
+    copied = λ n s. (tt, tt);
+    retired = λ x. (tt, tt);
+    asked = (tt, tt);
+    pair_made = (tt, (tt, tt));
+    table_made = λ turn. (tt, (tt, tt));
+    pair_given_up = (tt, tt);
+    table_given_up = λ turn. (tt, tt);
+  }
 
   pub none_back : (told : Changed) → KeepsRoles known (known_after its told known) → NoneBack (effects_of its known told)
-  none_back changed.Nothing keeps = tt
-  none_back (changed.Wrote (Root r) old new) keeps = back_if (names_same old new) [] (led_to its (named known old) (named known new)) tt (led_back (named known old) (named known new))
-  none_back (changed.Wrote (Used r) old new) keeps = tt
-  none_back (changed.Wrote (Slot t field) old new) keeps = tt
-  none_back (changed.Wrote (Entry b field) old new) keeps = back_if (names_same old new) [] (batched its field (known.roles b)) tt (batched_back field (known.roles b))
-  none_back (changed.Wrote (Word b field) old new) keeps = block_back (known.roles b) field known.stored (names_same old new) (named known old) (named known new)
-  none_back (changed.Made k b) keeps = made_back k
-  none_back (changed.Unmade k) keeps = (tt, tt)
-  none_back (changed.Took b) keeps = taken_back b (known.roles b) refl keeps
-  none_back (changed.Roomed bucket had) keeps = back_if (had && nat_lt bucket known.buckets) [] (effect.Asked ABucket ∷ []) tt (tt, tt)
+  none_back told keeps =
+      operation_so its known NoneBack each_back told (λ r old new e. led_so its known NoneBack each_back (λ t. (tt, tt)) (named known old) (named known new)) (λ b field old new of e is. (tt, tt))
+      (λ b e of_map. absurd (never (known.roles b) of_map (λ lasting. freed b ∙ (subst (λ (c : Changed). KeepsRoles known (known_after its c known)) e keeps b lasting)))) (λ bucket had e. (tt, tt))
+    where
+      freed : (b : ℕ) → role.Free ≡ (with_role b role.Free known).roles b
+      freed b = sym (ap (λ (q : Bool). if q then role.Free else known.roles b) (eq-eqb b b refl))
+
+      never : (r : Role) → IsOfMap r → (IsLasting r → role.Free ≡ r) → ⊥
+      never (role.Pair n) of gone = let e = gone tt in cc e
+      never (role.Table t len) of gone = let e = gone tt in cc e
+      never role.Free of gone = of
+      never (role.OwnPair c) of gone = of
+      never (role.OwnTable turn shape) of gone = of
+      never (role.Counter m) of gone = of
 
   -- where it is written into a thing which batch that is of, the thing is retired
   pub first_retires : (b old new : ℕ) (x : Thing) → IsOfThing x (known.roles b) → names_same old new ≡ false → effects_of its known (changed.Wrote (Entry b FIRST) old new) ≡ effect.Retired x ∷ []

@@ -7,13 +7,10 @@ use Rattle.std.proofs.lemmas.Bool.{eq-eqb, eqb-true, ne_eqb}
 use Rattle.std.proofs.lemmas.List.Elements.{All-append, All-cons, All-filter, All-map}
 use Rattle.std.proofs.lemmas.List.Folds.{find-append}
 use Rattle.papaya_spots.specs.Given.SeizeWords.declared.at.At.TheVariants.{Root, Used, Slot, Entry, Word}
-use Rattle.papaya_spots.specs.Given.Seize.declared.states.TheConstants.{FIRST}
-use Rattle.papaya_spots.specs.Given.Tables.declared.table_words.TheConstants.{NEXT, DEFERRED}
 use Rattle.papaya_spots.specs.Given.Runs.Same.{is_same}
 use Rattle.papaya_spots.specs.Given.Schedules.declared.effect.Effect.{Effect}
 use Rattle.papaya_spots.specs.Given.Schedules.declared.effect.Effect.TheVariants.{Asked, Linked, Promoted, Retired, Reclaimed, Taken}
 use Rattle.papaya_spots.specs.Given.Schedules.declared.effect.Growth.TheVariants.{ABucket}
-use Rattle.papaya_spots.specs.Given.Schedules.declared.effect.Spot.{Spot}
 use Rattle.papaya_spots.specs.Given.Schedules.declared.effect.Table.{Table}
 use Rattle.papaya_spots.specs.Given.Schedules.declared.effect.Thing.TheVariants.{APair, ATable}
 use Rattle.papaya_spots.specs.Given.Schedules.Beginning.{with_map}
@@ -23,9 +20,7 @@ use Rattle.papaya_spots.specs.Given.Schedules.Things.{same_table}
 use Rattle.papaya_spots.specs.Given.Schedules.Views.{map_at}
 use Rattle.papaya_spots.specs.Given.Teller.declared.changed.Changed.{Changed}
 use Rattle.papaya_spots.specs.Given.Teller.declared.changed.Changed.TheVariants as changed
-use Rattle.papaya_spots.specs.Given.Teller.declared.changed.Kind.{Kind}
-use Rattle.papaya_spots.specs.Given.Teller.declared.changed.Kind.TheVariants as kind
-use Rattle.papaya_spots.specs.Given.Effects.Effects.{map_of, names_same, named, made_by, taken_by, followed_by, led_to, carried, placed, spot_at, is_place, in_table, in_block, batched, effects_of}
+use Rattle.papaya_spots.specs.Given.Effects.Effects.{map_of, pair_taken, table_taken, names_same, taken_by, effects_of}
 use Rattle.papaya_spots.specs.Given.Effects.Known.{Known}
 use Rattle.papaya_spots.specs.Given.Effects.declared.acting.Acting.{Acting}
 use Rattle.papaya_spots.specs.Given.Effects.declared.acting.Acting.TheVariants as acts
@@ -34,6 +29,7 @@ use Rattle.papaya_spots.specs.Given.Effects.declared.role.Role.TheVariants as ro
 use Rattle.papaya_spots.proofs.Given.Others.EndBegins.{found_still}
 use Rattle.papaya_spots.proofs.Given.Others.RowPlans.{TellsRow, row_tells}
 use Rattle.papaya_moments.specs.Numbers.{NumbersMaps, NumbersBegin, MapsComeByNumber, MapsGo, StepsKeepNumbers, NumbersAreBelow, RowsKeepNumbers}
+use Rattle.papaya_spots.proofs.Given.Follows.OfEach.{OfEach, each_operation_so}
 
 module _ {X : Type 0} where
   none_listed : (P : X → Type 0) → All P []
@@ -143,92 +139,65 @@ module _ {K V : Type 0} (caller : Option (List ℕ)) (acted : Option ℕ) where
 
 -- what steps link is of their map
 module _ (made : ℕ) where
-  by_test : (q : Bool) (a z : List Effect) → AllLinkMade made a → AllLinkMade made z → AllLinkMade made (if q then a else z)
-  by_test true a z l r = l
-  by_test false a z l r = r
+  pair_links : (acting : Acting) (n : ℕ) → LinksMade made (pair_taken acting n)
+  pair_links (acts.Ending map) n = tt
+  pair_links _ n = tt
 
-  module _ (acting : Acting) where
-    made_links : (k : Kind) → AllLinkMade made (made_by acting k)
-    made_links kind.Pair = (tt, tt)
-    made_links (kind.Table len limit turn) = (tt, tt)
-    made_links kind.Shards = tt
+  table_links : (acting : Acting) (t : Table) → LinksMade made (table_taken acting t)
+  table_links (acts.Ending map) t = tt
+  table_links _ t = tt
 
-    carried_links : (t : Table) (is : Role) → AllLinkMade made (carried t is)
-    carried_links t (role.Pair n) = (tt, tt)
-    carried_links t _ = tt
+  module _ (acting : Acting) (l : map_of acting < made) (known : Known) where
+    each_links : OfEach acting known (AllLinkMade made)
+    each_links = record {
+      nothing = tt;
+      linked = λ turn shape. (l, tt);
+      deferred = λ n t. (tt, tt);
+      stored = λ s. (tt, tt);
+      replaced = λ old s. (tt, (tt, tt));
+      removed = λ n. (tt, tt);
+      copied = λ n s. (tt, tt);
+      retired = λ x. (tt, tt);
+      asked = (tt, tt);
+      pair_made = (tt, (tt, tt));
+      table_made = λ turn. (tt, (tt, tt));
+      pair_given_up = (tt, tt);
+      table_given_up = λ turn. (tt, tt);
+    }
 
-    placed_links : (s : Spot) (stored : ℕ) (was is : Role) → AllLinkMade made (placed s stored was is)
-    placed_links s stored (role.Pair n) (role.OwnPair c) = (tt, (tt, tt))
-    placed_links s stored _ (role.OwnPair c) = (tt, tt)
-    placed_links s stored (role.Pair n) role.Free = (tt, tt)
-    placed_links s stored role.Free (role.Pair n) = (tt, tt)
-    placed_links s stored _ _ = tt
+    acting_links : (told : Changed) → AllLinkMade made (effects_of acting known told)
+    acting_links told =
+        each_operation_so acting known (AllLinkMade made) each_links (λ t. (tt, tt)) (λ field. (tt, tt)) (λ n. (pair_links acting n, tt)) (λ t. (table_links acting t, tt)) (tt, tt) told
 
-    module _ (l : map_of acting < made) where
-      followed_links : (is : Role) → AllLinkMade made (followed_by acting is)
-      followed_links (role.OwnTable turn shape) = (l, tt)
-      followed_links _ = tt
+  -- a row links none
+  row_taken : (r : Role) → AllLinkMade made (taken_by acts.Row r)
+  row_taken (role.OwnPair c) = (tt, tt)
+  row_taken (role.OwnTable turn shape) = (tt, tt)
+  row_taken (role.Pair k) = (tt, tt)
+  row_taken (role.Table t len) = (tt, tt)
+  row_taken _ = tt
 
-      led_links : (was is : Role) → AllLinkMade made (led_to acting was is)
-      led_links was (role.OwnTable turn shape) = (l, tt)
-      led_links (role.Table t len) (role.Table u other) = (tt, tt)
-      led_links _ _ = tt
-
-      block_links : (r : Role) (field stored : ℕ) (q : Bool) (was is : Role) → AllLinkMade made (in_block acting r field stored q was is)
-      block_links (role.Table t len) field stored q was is =
-          by_test q [] (in_table acting t len field stored was is) tt
-          (by_test (field == NEXT) (followed_by acting is) (if field == DEFERRED then carried t is else (if is_place len field then placed (spot_at t field) stored was is else [])) (followed_links is)
-          (by_test (field == DEFERRED) (carried t is) (if is_place len field then placed (spot_at t field) stored was is else []) (carried_links t is)
-          (by_test (is_place len field) (placed (spot_at t field) stored was is) [] (placed_links (spot_at t field) stored was is) tt)))
-      block_links (role.Counter n) field stored q was is = (tt, tt)
-      block_links _ field stored q was is = tt
-
-  taken_links : (acting : Acting) (r : Role) → AllLinkMade made (taken_by acting r)
-  taken_links acting (role.OwnPair c) = (tt, tt)
-  taken_links acting (role.OwnTable turn shape) = (tt, tt)
-  taken_links (acts.Ending n) (role.Pair k) = (tt, tt)
-  taken_links _ (role.Pair k) = (tt, tt)
-  taken_links (acts.Ending n) (role.Table t len) = (tt, tt)
-  taken_links _ (role.Table t len) = (tt, tt)
-  taken_links acting _ = tt
-
-  batched_links : (acting : Acting) (field : ℕ) (r : Role) → AllLinkMade made (batched acting field r)
-  batched_links (acts.Call c n) field (role.Pair k) = by_test (field == FIRST) (Retired (APair k) ∷ []) [] (tt, tt) tt
-  batched_links (acts.Call c n) field (role.Table t len) = by_test (field == FIRST) (Retired (ATable t) ∷ []) [] (tt, tt) tt
-  batched_links _ field r = tt
-
-  acting_links : (acting : Acting) (known : Known) (told : Changed) → map_of acting < made → AllLinkMade made (effects_of acting known told)
-  acting_links acting known changed.Nothing l = tt
-  acting_links acting known (changed.Wrote (Root r) before after) l =
-      by_test (names_same before after) [] (led_to acting (named known before) (named known after)) tt (led_links acting l (named known before) (named known after))
-  acting_links acting known (changed.Wrote (Word x field) before after) l =
-      block_links acting l (known.roles x) field known.stored (names_same before after) (named known before) (named known after)
-  acting_links acting known (changed.Wrote (Entry x field) before after) l =
-      by_test (names_same before after) [] (batched acting field (known.roles x)) tt (batched_links acting field (known.roles x))
-  acting_links acting known (changed.Wrote (Used r) before after) l = tt
-  acting_links acting known (changed.Wrote (Slot t field) before after) l = tt
-  acting_links acting known (changed.Made k x) l = (tt, made_links acting k)
-  acting_links acting known (changed.Unmade k) l = (tt, tt)
-  acting_links acting known (changed.Took x) l = taken_links acting (known.roles x)
-  acting_links acting known (changed.Roomed bucket had) l = by_test (had && nat_lt bucket known.buckets) [] (Asked ABucket ∷ []) tt (tt, tt)
+  row_if : (q : Bool) (a : List Effect) → AllLinkMade made a → AllLinkMade made (if q then [] else a)
+  row_if true a all = tt
+  row_if false a all = all
 
   row_links : (known : Known) (told : Changed) → TellsRow told → AllLinkMade made (effects_of acts.Row known told)
   row_links known changed.Nothing is = tt
   row_links known (changed.Wrote (Slot t field) before after) is = tt
-  row_links known (changed.Wrote (Entry x field) before after) is = by_test (names_same before after) [] (batched acts.Row field (known.roles x)) tt (batched_links acts.Row field (known.roles x))
+  row_links known (changed.Wrote (Entry x field) before after) is = row_if (names_same before after) [] tt
   row_links known (changed.Wrote (Root r) before after) is = absurd is
   row_links known (changed.Wrote (Used r) before after) is = absurd is
   row_links known (changed.Wrote (Word x field) before after) is = absurd is
   row_links known (changed.Made k x) is = absurd is
   row_links known (changed.Unmade k) is = absurd is
-  row_links known (changed.Took x) is = taken_links acts.Row (known.roles x)
-  row_links known (changed.Roomed bucket had) is = by_test (had && nat_lt bucket known.buckets) [] (Asked ABucket ∷ []) tt (tt, tt)
+  row_links known (changed.Took x) is = row_taken (known.roles x)
+  row_links known (changed.Roomed bucket had) is = row_if (had && nat_lt bucket known.buckets) (Asked ABucket ∷ []) (tt, tt)
 
 pub numbers_begin : (K V : Type 0) → NumbersBegin K V
 numbers_begin K V = record { found = λ k d l. absurd (omega (arith, l)); below = λ k d l. absurd (omega (arith, l)); tables = λ k d l. absurd (omega (arith, l)) }
 
 pub steps_keep_numbers : (K V : Type 0) → StepsKeepNumbers K V
-steps_keep_numbers K V m n caller acted acting known told l = all_kept caller acted (effects_of acting known told) m (acting_links m.made acting known told l) n
+steps_keep_numbers K V m n caller acted acting known told l = all_kept caller acted (effects_of acting known told) m (acting_links m.made acting l known told) n
 
 pub numbers_are_below : (K V : Type 0) → NumbersAreBelow K V
 numbers_are_below K V m n number there is =

@@ -5,9 +5,9 @@ use Rattle.std.proofs.lemmas.Bool.{cases_eq}
 use Rattle.papaya_scenes.specs.Given.Seize.World.{Rests, with_at}
 use Rattle.seize_acts.proofs.Answers.{same_some}
 use Rattle.papaya_scenes.proofs.Given.Callers.Together.At.{at_same, at_other}
-use Rattle.papaya_scenes.specs.Given.Finishes.Maps.{Standing, IsSameMap, with_call}
+use Rattle.papaya_scenes.specs.Given.Finishes.Maps.{with_call}
 use Rattle.papaya_scenes.proofs.Rows.{never_rests}
-use Rattle.papaya_acts.specs.Courses.{set_up}
+use Rattle.papaya_acts.proofs.Counts as counts
 use Rattle.papaya_scenes.specs.declared.row.SlotRow.{SlotRow}
 use Rattle.papaya_played.specs.Reached.{row_or_rests}
 
@@ -26,19 +26,10 @@ both_at f g a b k v w here others j = by (cases_eq j k)
 -- the call that has changed, and those of other callers
 module _ {X : Type 0} (calls : ℕ → ℕ → Option X) (m i : ℕ) (it : Option X) where
   pub its_call : with_call calls m i it m i ≡ it
-  its_call = ap (λ (f : ℕ → Option X). f i) (at_same calls m (with_at (calls m) i it) m refl) ∙ at_same (calls m) i it i refl
+  its_call = counts.its_call calls i m i m it refl refl
 
   pub others_call : (k j : ℕ) → j ≢ i → with_call calls m i it k j ≡ calls k j
-  others_call k j ne = by (cases_eq k m)
-    where
-      by : (k ≡ m) ⊎ (k ≢ m) → with_call calls m i it k j ≡ calls k j
-      by (inl e) = ap (λ (f : ℕ → Option X). f j) (at_same calls m (with_at (calls m) i it) k e) ∙ at_other (calls m) i it j ne ∙ ap (λ (l : ℕ). calls l j) (sym e)
-      by (inr ne) = ap (λ (f : ℕ → Option X). f j) (at_other calls m (with_at (calls m) i it) k ne)
-
--- a map that stands as it stood is set up as it was
-pub set_up_so : {K : Type 0} (o p : Option (Standing K)) → IsSameMap o p → option_map set_up o ≡ option_map set_up p
-set_up_so None p is = ap (option_map set_up) (sym is)
-set_up_so (Some s) p (blocks, sights, is, part) = ap (option_map set_up) (sym is)
+  others_call k j ne = counts.other_call calls j k i m it (λ e f. ne (sym e))
 
 -- a row that rests is none
 pub none_rests : (o : Option SlotRow) → row_or_rests o ≡ Rests → o ≡ None

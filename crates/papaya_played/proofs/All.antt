@@ -22,7 +22,7 @@ use Rattle.papaya_acts.specs.Leads.{AllStand, Led, MayBe}
 use Rattle.papaya_acts.specs.Lists.{Course, Reached, LedOn, nothing_done, on_by}
 use Rattle.papaya_played.specs.Play.{State, all_begun, all_on, all_stepped, first_state, play, play_act, play_all, step_all}
 use Rattle.papaya_played.specs.Reached.{AreOnOwn, IsOf, IsOfStage, IsOnOwn, ListsArePlayed, rows_beside}
-use Rattle.papaya_played.proofs.Alike.{set_up_so}
+use Rattle.papaya_acts.proofs.Courses.{same_set_up}
 use Rattle.papaya_played.proofs.Calls.{asks, begins, steps, stops, tells}
 use Rattle.papaya_played.proofs.Makings.{ending_begins, ending_steps_so, making_begins, making_steps_so}
 use Rattle.papaya_played.proofs.Rows.{row_begins, row_steps_so}
@@ -116,7 +116,7 @@ module _ {K V S : Type 0} (same : K → K → Bool) (hash : S → K → ℕ) (ba
       after o rows =
           subst (λ (z : Scene K V). IsOf hash z (rows_beside o z.world.row) y.now) (sym to.did.comes) (record {
             memory = sym to.did.did.memory;
-            maps = λ m. before.maps m ∙ set_up_so (p.0.maps m) (to.did.did.maps2 m) (to.did.did.as_they_were m);
+            maps = λ m. before.maps m ∙ sym (same_set_up (p.0.maps m) (to.did.did.maps2 m) (to.did.did.as_they_were m));
             calls = before.calls;
             makers = before.makers;
             enders = before.enders;

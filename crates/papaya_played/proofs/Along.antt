@@ -22,7 +22,7 @@ use Rattle.papaya_scenes.specs.Scene.{Scene, slot_of}
 use Rattle.papaya_acts.specs.Acts.{Act, Answer, BeginsRow}
 use Rattle.papaya_acts.specs.AsSteps.{IsOwn, LeadsAs, changed_by, changed_of, held_in}
 use Rattle.papaya_acts.specs.Doings.{Doing, Does, BeginsReclaiming, BeginsClearing, StepsReclaiming, AllAreFree, HasDone, HasStepped, MayDo, Stage, behind, reclaiming, still}
-use Rattle.papaya_acts.specs.Leads.{MayBe}
+use Rattle.papaya_acts.specs.Leads.{Led, MayBe}
 use Rattle.papaya_acts.specs.Lists.{Course, Reached, LedOn, nothing_done, on_by}
 use Rattle.papaya_acts.proofs.AsSteps.All.{acts_lead_as_steps}
 use Rattle.papaya_acts.proofs.AsSteps.Reclaiming.{reclaiming_leads_as_steps}
@@ -75,14 +75,15 @@ module _ {K S : Type 0} (V : Type 0) (same : K → K → Bool) (by_hasher : S �
     -- something stays so by each kind of act that fits
     pub record StaysSo (Fits : State K V S → Act K V S → Type 0) (P : At → State K V S → Type 0) : Type 0 where
       pub acts : (p n : At) (x y : State K V S) (act : Act K V S) (told : Answer K V) → IsOwn by_hasher hash act → Fits x act → far p ≡ None → far n ≡ None → Is p x → Is n y
-          → IsAt same hash (held NoChange p) p.0 → MayBe same by_hasher batch_size roots slot_of act p.0
-          → LeadsAs same by_hasher hash act p.0 told (held NoChange p) (held (changed_by same act p.0) n) → IsAt same hash (held (changed_by same act p.0) n) n.0
+          → IsAt same hash (held NoChange p) p.0 → MayBe same by_hasher batch_size roots slot_of act p.0 → Led same by_hasher batch_size roots slot_of act p.0 told n.0
+          → LeadsAs same by_hasher hash act p.0 told n.0 (held NoChange p) (held (changed_by same act p.0) n) → IsAt same hash (held (changed_by same act p.0) n) n.0
           → play_act same by_hasher batch_size roots aborts act x ≡ Some y → P p x → P n y
       pub begins : (p n : At) (x : State K V S) (i : ℕ) (c : ReclaimAll) → far p ≡ None → far n ≡ Some (i, c) → n.0 ≡ p.0 → AllAreFree p.0 → Is p x → Is n (all_begun c x)
           → IsAt same hash (held NoChange p) p.0 → P p x → P n (all_begun c x)
-      pub steps : (p n : At) (x y : State K V S) (i : ℕ) (c c2 : ReclaimAll) (g : Grant) (end : Settled (Node K V)) → far p ≡ Some (i, c) → far n ≡ still end (i, c2) → Is p x → Is n y
-          → IsReclaiming same hash (held NoChange p) p.0 i (lists_at p) c
-          → ReclaimingLeads same hash p.0 i (lists_at p) (held NoChange p) (held (changed_of p.0.world.memory g (reclaim_all_plan deferred_word was_left c)) n) c c2 end
+      pub steps : (p n : At) (x y : State K V S) (told : Answer K V) (g : Grant) (st : HasStepped V same by_hasher batch_size roots slot_of g p told n) → Is p x → Is n y
+          → IsReclaiming same hash (held NoChange p) p.0 st.caller (lists_at p) st.machine
+          → (leads : ReclaimingLeads same hash p.0 st.caller (lists_at p) (held NoChange p) (held (changed_of p.0.world.memory g (reclaim_all_plan deferred_word was_left st.machine)) n) st.machine st.next st.end)
+          → n.0 ≡ record p.0 { world = leads.1.w2; maps = leads.1.maps2 }
           → play same by_hasher batch_size roots aborts (StepsReclaiming g) x ≡ Some y → P p x → P n y
 
   -- it is that of whatever was changed last
@@ -99,7 +100,7 @@ module _ {K S : Type 0} (V : Type 0) (same : K → K → Bool) (by_hasher : S �
   module _ (size : batch_size < 2 ^ 64) (p n : At) where
     by_act : (act : Act K V S) (told : Answer K V) → IsOwn by_hasher hash act → MayDo V same by_hasher batch_size roots slot_of (Does act) p
         → HasDone V same by_hasher batch_size roots slot_of (Does act) p told n → IsAt same hash (held NoChange p) p.0
-        → LeadsAs same by_hasher hash act p.0 told (held NoChange p) (held (changed_by same act p.0) n) × IsAt same hash (held (changed_by same act p.0) n) n.0
+        → LeadsAs same by_hasher hash act p.0 told n.0 (held NoChange p) (held (changed_by same act p.0) n) × IsAt same hash (held (changed_by same act p.0) n) n.0
     by_act act told own may done at = acts_lead_as_steps V same by_hasher hash batch_size roots p.0 n.0 NoChange at n.1 act own may.1 told done.0
 
     begun_by : (i : ℕ) (c : ReclaimAll) → n.0 ≡ p.0 → far n ≡ Some (i, c) → IsAt same hash (held NoChange p) p.0 → StandsBy n (far n)
@@ -147,7 +148,7 @@ module _ {K S : Type 0} (V : Type 0) (same : K → K → Bool) (by_hasher : S �
           to.1,
           to.2,
           subst (StandsBy n) (sym done.1) (at_any (changed_by same act p.0) NoChange n led.1),
-          so.acts p n x to.0 act told own fits none done.1 is to.2 at may.1 led.0 led.1 to.1 here,
+          so.acts p n x to.0 act told own fits none done.1 is to.2 at may.1 done.0 led.0 led.1 to.1 here,
         )
     next_so p n x is stand here (BeginsReclaiming i) own fits (idle, word, free, there) told done =
         let none : far p ≡ None = none_is (far p) idle in
@@ -170,7 +171,7 @@ module _ {K S : Type 0} (V : Type 0) (same : K → K → Bool) (by_hasher : S �
           to.1,
           to.2,
           stepped_by size p n g told done at,
-          so.steps p n x to.0 done.caller done.machine done.next g done.end done.here done.goes_on is to.2 at leads to.1 here,
+          so.steps p n x to.0 told g done is to.2 at leads.0 leads.1 to.1 here,
         )
 
     module _ (course : Course V same by_hasher batch_size roots slot_of) where

@@ -15,10 +15,9 @@ use Rattle.papaya_scenes.specs.Given.Raw.Machine.{machine_plan, machine_replied,
 use Rattle.papaya_scenes.specs.Given.Raw.declared.machines.asking.Reply.{Reply}
 use Rattle.papaya_scenes.specs.Given.Raw.declared.machines.machine.Machine.{Machine}
 use Rattle.papaya_scenes.specs.Given.Raw.declared.machines.progress.Progress.{Progress}
-use Rattle.papaya_scenes.specs.Given.Callers.Together.{UnderWay, OnKey, ForRoom, Counting, OverAll, in_slot}
+use Rattle.papaya_scenes.specs.Given.Callers.Together.{UnderWay, in_slot}
 use Rattle.papaya_scenes.specs.Given.Finishes.Machines.{machine_of}
 use Rattle.papaya_scenes.specs.Given.Finishes.Maps.{Standing, with_call}
-use Rattle.papaya_scenes.proofs.Given.Finishes.Among.Sweeps.{walks_stop_among}
 use Rattle.papaya_scenes.proofs.Goes.{goes_as}
 use Rattle.papaya_scenes.proofs.NoCall.{none_is}
 use Rattle.papaya_scenes.specs.Replying.{unless_stopped}
@@ -28,14 +27,14 @@ use Rattle.papaya_acts.specs.Acts.{Act, Answer, Nothing, OfCall, OfReply, OfAski
 use Rattle.papaya_acts.specs.Acts.{Wanted, Get, Remove, Insert, TryToInsert, Compute, Update, UpdateOrInsert, TryToInsertWith, RemoveIf, MakeRoom, Count, GoOver}
 use Rattle.papaya_acts.specs.AsSteps.{changed_of}
 use Rattle.papaya_acts.specs.Courses.{set_up}
-use Rattle.papaya_acts.specs.Leads.{AllStand, CallCame, Led, MayBe}
-use Rattle.papaya_acts.proofs.Calls.{ready_is}
-use Rattle.papaya_acts.proofs.Lists.{all_may_step}
+use Rattle.papaya_acts.specs.Leads.{AllStand, CallCame, Led, MayBe, asked_on}
+use Rattle.papaya_acts.proofs.Calls.{asked_machine}
+use Rattle.papaya_acts.proofs.Courses.{same_set_up, stop_rests}
 use Rattle.papaya_named.specs.Machines.{machine_for}
 use Rattle.papaya_named.specs.Seen.{kind_of}
 use Rattle.papaya_played.specs.Play.{Calling, Now, State, begun_call, call_asked, call_begun, call_for, call_stepped, call_stopped, call_told, going, keeps, play_act, reply_for, step_call, told_call}
 use Rattle.papaya_played.specs.Reached.{IsOf, row_or_rests, stands_so}
-use Rattle.papaya_played.proofs.Alike.{both_at, its_call, none_rests, others_call, set_up_so, there_too}
+use Rattle.papaya_played.proofs.Alike.{both_at, its_call, none_rests, others_call, there_too}
 
 -- what is wanted begins with the machine of the call that it is
 begins_with : {K V : Type 0} (same : K → K → Bool) (standing : Standing K) (i : ℕ) (wanted : Wanted K V)
@@ -72,17 +71,6 @@ stopped_so true c u e = refl
 stopped_so false c u e = ap Some e
 
 module _ {K V S : Type 0} (same : K → K → Bool) (hash : S → K → ℕ) (batch_size roots : ℕ) (s : Scene K V) where
-  -- a walk that is given up has no row under way
-  stop_rests : AllStand same hash batch_size roots slot_of s → (m i : ℕ) (u : UnderWay K V K) → s.calls m i ≡ Some u → (ready : Bool) → (machine_asked (machine_of u)).1 ≡ ready
-      → unless_stopped ready u ≡ None → s.world.row i ≡ Rests
-  stop_rests all m i u here false asked none = absurd (cc none)
-  stop_rests all m i (OnKey k) here true asked none = absurd (cc asked)
-  stop_rests all m i (ForRoom r) here true asked none = absurd (cc asked)
-  stop_rests all m i (Counting sum) here true asked none = absurd (cc asked)
-  stop_rests all m i (OverAll o) here true asked none =
-      let it = (all_may_step same hash batch_size roots slot_of s all).standing m i (OverAll o) here in
-      (walks_stop_among V same same batch_size roots slot_of s.world s.maps s.calls s.makers s.enders all m it.0 it.1 i o here (ready_is o.sweep.stands asked)).1
-
   module _ (aborts : V) (x : State K V S) (is : IsOf hash s s.world.row x.now) (n : Scene K V) where
     -- played it comes to the scene to which it has led, and its caller is told the same
     abbrev pub Plays : Act K V S → Answer K V → Type 0
@@ -173,7 +161,7 @@ module _ {K V S : Type 0} (same : K → K → Bool) (hash : S → K → ℕ) (ba
           where
             by : (k ≡ m) ⊎ (k ≢ m) → option_map set_up (s.maps k) ≡ option_map set_up (came.did.maps2 k)
             by (inl e) = ap (option_map set_up) (ap s.maps e ∙ came.stands) ∙ sym (ap (option_map set_up) (ap came.did.maps2 e ∙ came.did.its_map.4))
-            by (inr ne) = set_up_so (s.maps k) (came.did.maps2 k) (came.did.others k ne)
+            by (inr ne) = sym (same_set_up (s.maps k) (came.did.maps2 k) (came.did.others k ne))
 
         pub steps : Plays (StepsCall i m g) told
         steps =
@@ -204,12 +192,12 @@ module _ {K V S : Type 0} (same : K → K → Bool) (hash : S → K → ℕ) (ba
           )
 
       pub asks : (told : Answer K V) → Led same hash batch_size roots slot_of (AsksCall i m) s told n → Plays (AsksCall i m) told
-      asks told (u, next, here, machine_is, told_is, comes) =
+      asks told (u, here, told_is, comes) =
           let it = there_too machine_at machine_of (x.now.calls m i) (s.calls m i) (is.calls m i) u here in
           let y = call_asked i m x it.0 in (
             y,
             ap (option_map (call_asked i m x)) it.1,
-            call_alone (Some next) (Some (record it.0 { machine = (machine_asked it.0.machine).0 })) (ap (λ (v : Machine K V K). Some (machine_asked v).0) it.2 ∙ ap Some (sym machine_is)) (λ none. absurd (cc none))
+            call_alone (Some (asked_on u)) (Some (record it.0 { machine = (machine_asked it.0.machine).0 })) (ap (λ (v : Machine K V K). Some (machine_asked v).0) it.2 ∙ ap Some (sym (asked_machine u))) (λ none. absurd (cc none))
                 (is.calling m i u here) comes,
             says (OfAsking (machine_asked it.0.machine).1) told (told_is ∙ ap (λ (v : Machine K V K). OfAsking (machine_asked v).1) (sym it.2)),
             refl,
@@ -224,7 +212,7 @@ module _ {K V S : Type 0} (same : K → K → Bool) (hash : S → K → ℕ) (ba
             ap (option_map (call_stopped i m x)) it.1,
             call_alone (unless_stopped ready u) (unless_stopped (machine_asked it.0.machine).1 it.0)
                 (ap (λ (v : Machine K V K). option_map machine_at (unless_stopped (machine_asked v).1 it.0)) it.2 ∙ stopped_so ready it.0 u it.2)
-                (λ none. stop_rests all m i u here ready refl none) (is.calling m i u here) comes,
+                (λ none. stop_rests same hash batch_size roots slot_of s all m i u here ready refl none) (is.calling m i u here) comes,
             says (OfAsking (machine_asked it.0.machine).1) told (told_is ∙ ap (λ (v : Machine K V K). OfAsking (machine_asked v).1) (sym it.2)),
             refl,
           )

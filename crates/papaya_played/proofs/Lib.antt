@@ -1,7 +1,7 @@
-mod Alike
+pub mod Alike
 mod Calls
 mod Makings
-mod Rows
+pub mod Rows
 mod All
 pub mod Along
 pub mod PlayedAs

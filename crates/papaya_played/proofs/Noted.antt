@@ -31,8 +31,6 @@ use Rattle.seize_acts.specs.Answers.{Grant}
 use Rattle.seize_acts.proofs.Answers.{same_some}
 use Rattle.papaya_scenes.specs.Scene.{row_of, slot_of}
 use Rattle.papaya_scenes.specs.Stepping.{has_ended}
-use Rattle.papaya_scenes.specs.declared.row.RowTold.{RowTold}
-use Rattle.papaya_scenes.specs.declared.row.RowTold.TheVariants as rows_tell
 use Rattle.papaya_scenes.specs.declared.row.SlotRow.{SlotRow}
 use Rattle.papaya_scenes.specs.declared.row.SlotRow.TheVariants as rows
 use Rattle.papaya_runs.specs.Same.{is_same}
@@ -54,7 +52,7 @@ use Rattle.papaya_follows.proofs.Calling.{apart_back, found_kept, found_passes, 
 use Rattle.papaya_follows.proofs.Calls.{IsOfSame, changed, changed_same, found, of_same}
 use Rattle.papaya_named.specs.declared.kind.Kind.{Kind}
 use Rattle.papaya_named.specs.Seen.{kind_of}
-use Rattle.papaya_deeds.specs.Deeds.{Deed, Begins, Steps, Replies, Stops, Opens, MapComes, MapGoes, Works, ReclaimsAll, Entry, acted_on, after, at_work, begun, caller_of, calls_on, moment, named, worked}
+use Rattle.papaya_deeds.specs.Deeds.{Deed, Begins, Steps, Replies, Stops, Registers, Opens, Leaves, MapComes, Makes, MapFails, Ends, MapGoes, ReclaimsAll, Entry, acted_on, after, at_work, begun, caller_of, calls_on, moment, named, worked}
 use Rattle.papaya_acts.specs.Acts.{Act, BeginsCall, StepsCall, TellsCall, AsksCall, StopsCall, BeginsMaking, StepsMaking, BeginsEnding, StepsEnding, BeginsRow, StepsRow}
 use Rattle.papaya_acts.specs.AsSteps.{changed_of, row_changed}
 use Rattle.papaya_acts.specs.Doings.{Doing, Does, BeginsReclaiming, BeginsClearing, StepsReclaiming}
@@ -66,7 +64,7 @@ use Rattle.papaya_played.proofs.PlayedAs.{PlayedAs, ReclaimedAs, played_as, recl
 use Rattle.papaya_played.proofs.Along.{AllFit, AreOfTheirOwn, At, Is, StaysSo, wherever}
 
 -- numbers that differ are names that do
-apart : (i j : ℕ) → j ≢ i → is_same (named i) (named j) ≡ false
+pub apart : (i j : ℕ) → j ≢ i → is_same (named i) (named j) ≡ false
 apart i j ne = by (i == j) refl
   where
     by : (q : Bool) → (i == j) ≡ q → is_same (named i) (named j) ≡ false
@@ -79,7 +77,7 @@ module _ {K V : Type 0} where
   IsNoted m on i call = (u : UnderWay K V) × (call_of (named i) m ≡ Some u) × (u.map ≡ on) × (u.call ≡ call)
 
   -- a caller has one call
-  one_call : (m : Moment K V) (on other i : ℕ) (call called : Call K V) → IsNoted m on i call → IsNoted m other i called → on ≡ other
+  pub one_call : (m : Moment K V) (on other i : ℕ) (call called : Call K V) → IsNoted m on i call → IsNoted m other i called → on ≡ other
   one_call m on other i call called (u, here, map_is, call_is) (v, there, other_is, called_is) =
       let same : u ≡ v = (let both : Some u ≡ Some v = sym here ∙ there in cc both) in sym map_is ∙ ap (λ (w : UnderWay K V). w.map) same ∙ other_is
 
@@ -121,64 +119,57 @@ module _ {K V : Type 0} where
   if_none true d other one two = one
   if_none false d other one two = two
 
-  works : (on : Option ℕ) → OfNoCall (Works on)
-  works on = (λ o calls. refl, λ m. refl)
-
   opens : (s : ℕ) → OfNoCall (Opens s)
   opens s = (λ o calls. refl, λ m. refl)
 
-  making_none : (on : ℕ) (before next : NewMap) → OfNoCall (making_deed on before next)
+  leaves_slot : (s : ℕ) → OfNoCall (Leaves s)
+  leaves_slot s = (λ o calls. refl, λ m. refl)
+
+  registers_at : (s : ℕ) → OfNoCall (Registers s)
+  registers_at s = (λ o calls. refl, λ m. refl)
+
+  pub making_none : (on : ℕ) (before next : NewMap) → OfNoCall (making_deed on before next)
   making_none on before next = by (has_root before.stands) (has_root next.stands)
     where
       by : (b c : Bool)
-          → OfNoCall (if b then (if c then Works (Some on) else MapGoes on before.setting.root) else (if c then MapComes on next.setting.root next.setting.mode (pairs_for next.setting.initial) else Works (Some on)))
-      by true true = works (Some on)
+          → OfNoCall (if b then (if c then Makes on else MapFails on) else (if c then MapComes on next.setting.root next.setting.mode (pairs_for next.setting.initial) else Makes on))
+      by true true = (λ o calls. refl, λ m. refl)
       by true false = (λ o calls. refl, λ m. refl)
       by false true = (λ o calls. refl, λ m. refl)
-      by false false = works (Some on)
+      by false false = (λ o calls. refl, λ m. refl)
 
-  ending_none : {T : Type 0} (f : Ending) (told : Settled T) → OfNoCall (ending_deed f told)
-  ending_none f told = if_none (is_over told) (MapGoes f.map f.machine.setting.root) (Works (Some f.map)) (λ o calls. refl, λ m. refl) (works (Some f.map))
+  pub ending_none : {T : Type 0} (f : Ending) (told : Settled T) → OfNoCall (ending_deed f told)
+  ending_none f told = if_none (is_over told) (MapGoes f.map) (Ends f.map) (λ o calls. refl, λ m. refl) (λ o calls. refl, λ m. refl)
 
   registers_none : (stands : Registering) (s : ℕ) → OfNoCall (registers_as stands s)
-  registers_none registers.Begin s = works None
-  registers_none registers.Look s = works None
-  registers_none (registers.Widen bucket head) s = works None
-  registers_none (registers.Take head) s = works None
+  registers_none registers.Begin s = registers_at s
+  registers_none registers.Look s = registers_at s
+  registers_none (registers.Widen bucket head) s = registers_at s
+  registers_none (registers.Take head) s = registers_at s
   registers_none registers.Enter s = opens s
-  registers_none registers.Registered s = works None
-  registers_none (registers.Refused fault) s = works None
+  registers_none registers.Registered s = registers_at s
+  registers_none (registers.Refused fault) s = registers_at s
 
   leaves_none : (c : Leave) (stands : Leaving) → OfNoCall (leaves_as c stands)
   leaves_none c leaves.Swaps = (λ o calls. refl, λ m. refl)
-  leaves_none c (leaves.Settles settle) = works None
-  leaves_none c leaves.Frees = works None
-  leaves_none c leaves.Over = if_none c.frees (Works None) (if c.becomes == ACTIVE then Opens c.slot else Works None) (works None) (if_none (c.becomes == ACTIVE) (Opens c.slot) (Works None) (opens c.slot) (works None))
+  leaves_none c (leaves.Settles settle) = leaves_slot c.slot
+  leaves_none c leaves.Frees = leaves_slot c.slot
+  leaves_none c leaves.Over = if_none (c.becomes == ACTIVE) (Opens c.slot) (Leaves c.slot) (opens c.slot) (leaves_slot c.slot)
 
-  row_none : {T : Type 0} (row : SlotRow) (told : RowTold T) → OfNoCall (row_deed row told)
-  row_none (rows.Registers c) rows_tell.Goes = works None
-  row_none (rows.Registers c) rows_tell.Waits = works None
-  row_none (rows.Registers c) (rows_tell.Gave value) = works None
-  row_none (rows.Registers c) rows_tell.Done = works None
-  row_none (rows.Registers c) (rows_tell.Registered s) = registers_none c.stands s
-  row_none (rows.Registers c) (rows_tell.Refused fault) = works None
-  row_none (rows.Enters c) rows_tell.Goes = works None
-  row_none (rows.Enters c) rows_tell.Waits = works None
-  row_none (rows.Enters c) (rows_tell.Gave value) = works None
-  row_none (rows.Enters c) rows_tell.Done = opens c.slot
-  row_none (rows.Enters c) (rows_tell.Registered s) = works None
-  row_none (rows.Enters c) (rows_tell.Refused fault) = works None
-  row_none (rows.Leaves c) told = leaves_none c c.stands
-  row_none (rows.Flushes c) told = works None
-  row_none (rows.Frees c) told = works None
+  pub row_none : (row : SlotRow) → OfNoCall (row_deed row)
+  row_none (rows.Registers c) = registers_none c.stands c.slot
+  row_none (rows.Enters c) = opens c.slot
+  row_none (rows.Leaves c) = leaves_none c c.stands
+  row_none (rows.Flushes c) = (λ o calls. refl, λ m. refl)
+  row_none (rows.Frees c) = (λ o calls. refl, λ m. refl)
 
   -- A step of a call, one that it is told, and one that is given up.
   stepped_after : (own : ℕ) (o : Outcome V) (effects : List Effect) (m : Moment K V) (on i : ℕ) (call : Call K V) → (ends_call o ≡ true → is_same (named own) (named i) ≡ false) → IsNoted m on i call
-      → IsNoted (after (record { deed = Steps own; outcome = o; effects = effects }) m) on i call
+      → IsNoted (after (record { deed = Steps own; outcome = o; effects = effects; refused = false }) m) on i call
   stepped_after own o effects m on i call apart noted = by (ends_call o) refl
     where
       w : Moment K V
-      w = worked (record { deed = Steps own; outcome = o; effects = effects }) m
+      w = worked (record { deed = Steps own; outcome = o; effects = effects; refused = false }) m
 
       at : IsNoted w on i call
       at = effects_noted (Some (named own)) (acted_on {K = K} {V = V} (Steps own) m) effects m on i call noted
@@ -191,20 +182,20 @@ module _ {K V : Type 0} where
       by false ends = subst Then (sym ends) (changed_noted (λ c. comes_to o (record c { steps = c.steps + 1 })) (λ c. come_same o (record c { steps = c.steps + 1 })) (named own) w on i call at)
 
   replied_after : (own : ℕ) (reply : Reply V) (m : Moment K V) (on i : ℕ) (call : Call K V) → IsNoted m on i call
-      → IsNoted (after (record { deed = Replies own reply; outcome = outcome.Goes; effects = [] }) m) on i call
+      → IsNoted (after (record { deed = Replies own reply; outcome = outcome.Goes; effects = []; refused = false }) m) on i call
   replied_after own reply m on i call noted = changed_noted (λ c. replied reply c c.stands) (λ c. replied_same reply c c.stands) (named own) m on i call noted
 
   stopped_after : (own : ℕ) (m : Moment K V) (on i : ℕ) (call : Call K V) → is_same (named own) (named i) ≡ false → IsNoted m on i call
-      → IsNoted (after (record { deed = Stops own; outcome = outcome.Done; effects = [] }) m) on i call
+      → IsNoted (after (record { deed = Stops own; outcome = outcome.Done; effects = []; refused = false }) m) on i call
   stopped_after own m on i call apart noted = others_noted m own on i call apart noted
 
   -- one that begins
   others_begin : (own guard to : ℕ) (its : Call K V) (m : Moment K V) (on i : ℕ) (call : Call K V) → is_same (named own) (named i) ≡ false → IsNoted m on i call
-      → IsNoted (after (record { deed = Begins own guard to its; outcome = outcome.Goes; effects = [] }) m) on i call
+      → IsNoted (after (record { deed = Begins own guard to its; outcome = outcome.Goes; effects = []; refused = false }) m) on i call
   others_begin own guard to its m on i call apart (u, here, map_is, call_is) =
       (u, ap (λ z. cond z (Some (fresh_call (named own) (named guard) its to m.events)) (find (λ c. is_same c.caller (named i)) m.calls)) apart ∙ here, map_is, call_is)
 
-  itself_begins : (own guard to : ℕ) (its : Call K V) (m : Moment K V) → IsNoted (after (record { deed = Begins own guard to its; outcome = outcome.Goes; effects = [] }) m) to own its
+  itself_begins : (own guard to : ℕ) (its : Call K V) (m : Moment K V) → IsNoted (after (record { deed = Begins own guard to its; outcome = outcome.Goes; effects = []; refused = false }) m) to own its
   itself_begins own guard to its m = (
     fresh_call (named own) (named guard) its to m.events,
     ap (λ z. cond z (Some (fresh_call (named own) (named guard) its to m.events)) (find (λ c. is_same c.caller (named own)) m.calls)) (is_same_refl (named own)),
@@ -213,7 +204,7 @@ module _ {K V : Type 0} where
   )
 
   -- a step that goes on tells no end
-  not_over : (known : Known) (kind : Kind) (value : Option V) (told : CallProgress (Node K V)) → has_ended told ≡ false → ends_call (outcome_of known kind value told) ≡ false
+  pub not_over : (known : Known) (kind : Kind) (value : Option V) (told : CallProgress (Node K V)) → has_ended told ≡ false → ends_call (outcome_of known kind value told) ≡ false
   not_over known kind value comes.Goes e = refl
   not_over known kind value (comes.Gave back) e = refl
   not_over known kind value (comes.Unstored back) e = refl
@@ -238,10 +229,10 @@ module _ {K V : Type 0} where
       by false e some = (e, ap (λ (v : Calling K V). v.call) (sym (same_some c2 d some)) ∙ is)
 
 module _ {X : Type 0} (calls : ℕ → ℕ → Option X) (m i : ℕ) (it : Option X) (on j : ℕ) where
-  at_it : on ≡ m → j ≡ i → with_call calls m i it on j ≡ it
+  pub at_it : on ≡ m → j ≡ i → with_call calls m i it on j ≡ it
   at_it e f = ap (λ (k : ℕ). with_call calls m i it k j) e ∙ ap (λ (k : ℕ). with_call calls m i it m k) f ∙ its_call calls m i it
 
-  at_other_map : on ≢ m → with_call calls m i it on j ≡ calls on j
+  pub at_other_map : on ≢ m → with_call calls m i it on j ≡ calls on j
   at_other_map ne = ap (λ (f : ℕ → Option X). f j) (at_other calls m (with_at (calls m) i it) on ne)
 
 module _ {K V S : Type 0} where
@@ -256,17 +247,17 @@ module _ {K V S : Type 0} where
   module _ (x : State K V S) (noted : CallsAreNoted x) where
     -- an entry of no call
     worked_noted : (calls : ℕ → ℕ → Option (Calling K V)) (d : Deed K V) (o : Outcome V) (effects : List Effect) → OfNoCall d → ((on i : ℕ) → calls on i ≡ x.now.calls on i)
-        → (on i : ℕ) (c : Calling K V) → calls on i ≡ Some c → IsNoted (after (record { deed = d; outcome = o; effects = effects }) (moment x.history)) on i c.call
+        → (on i : ℕ) (c : Calling K V) → calls on i ≡ Some c → IsNoted (after (record { deed = d; outcome = o; effects = effects; refused = false }) (moment x.history)) on i c.call
     worked_noted calls d o effects none as_before on i c has =
-        of_none (record { deed = d; outcome = o; effects = effects }) (moment x.history) none on i c.call (noted on i c (sym (as_before on i) ∙ has))
+        of_none (record { deed = d; outcome = o; effects = effects; refused = false }) (moment x.history) none on i c.call (noted on i c (sym (as_before on i) ∙ has))
 
     module _ (i m : ℕ) where
       begins_noted : (call : Call K V) (c : Calling K V) → c.call ≡ call → ((k : ℕ) → x.now.calls k i ≡ None) → (on j : ℕ) (d : Calling K V) → with_call x.now.calls m i (Some c) on j ≡ Some d
-          → IsNoted (after (record { deed = Begins i (slot_of i) m call; outcome = outcome.Goes; effects = [] }) (moment x.history)) on j d.call
+          → IsNoted (after (record { deed = Begins i (slot_of i) m call; outcome = outcome.Goes; effects = []; refused = false }) (moment x.history)) on j d.call
       begins_noted call c is free on j d has = by (cases_eq j i) (cases_eq on m)
         where
           Goal : Type 0
-          Goal = IsNoted (after (record { deed = Begins i (slot_of i) m call; outcome = outcome.Goes; effects = [] }) (moment x.history)) on j d.call
+          Goal = IsNoted (after (record { deed = Begins i (slot_of i) m call; outcome = outcome.Goes; effects = []; refused = false }) (moment x.history)) on j d.call
 
           by : (j ≡ i) ⊎ (j ≢ i) → (on ≡ m) ⊎ (on ≢ m) → Goal
           by (inr ne) at =
@@ -274,7 +265,7 @@ module _ {K V S : Type 0} where
           by (inl e) (inr ne) = absurd (let both : None ≡ Some d = sym (ap (x.now.calls on) e ∙ free on) ∙ sym (at_other_map x.now.calls m i (Some c) on j ne) ∙ has in cc both)
           by (inl e) (inl f) =
               let same : c ≡ d = same_some c d (sym (at_it x.now.calls m i (Some c) on j f e) ∙ has) in
-              moved (after (record { deed = Begins i (slot_of i) m call; outcome = outcome.Goes; effects = [] }) (moment x.history)) on m j i d.call call f e
+              moved (after (record { deed = Begins i (slot_of i) m call; outcome = outcome.Goes; effects = []; refused = false }) (moment x.history)) on m j i d.call call f e
               (ap (λ (v : Calling K V). v.call) (sym same) ∙ is) (itself_begins i (slot_of i) m call (moment x.history))
 
       module _ (c : Calling K V) (here : x.now.calls m i ≡ Some c) where
@@ -296,7 +287,7 @@ module _ {K V S : Type 0} where
 
         steps_noted : (known : Known) (told : CallProgress (Node K V)) (effects : List Effect) (c2 : Calling K V) → c2.call ≡ c.call → (on j : ℕ) (d : Calling K V)
             → with_call x.now.calls m i (if has_ended told then None else Some c2) on j ≡ Some d
-            → IsNoted (after (record { deed = Steps i; outcome = outcome_of known (kind_of c.call) c.value told; effects = effects }) (moment x.history)) on j d.call
+            → IsNoted (after (record { deed = Steps i; outcome = outcome_of known (kind_of c.call) c.value told; effects = effects; refused = false }) (moment x.history)) on j d.call
         steps_noted known told effects c2 is on j d has = by (cases_eq j i) (cases_eq on m)
           where
             o : Outcome V
@@ -305,32 +296,32 @@ module _ {K V S : Type 0} where
             next : Option (Calling K V)
             next = if has_ended told then None else Some c2
 
-            by : (j ≡ i) ⊎ (j ≢ i) → (on ≡ m) ⊎ (on ≢ m) → IsNoted (after (record { deed = Steps i; outcome = o; effects = effects }) (moment x.history)) on j d.call
+            by : (j ≡ i) ⊎ (j ≢ i) → (on ≡ m) ⊎ (on ≢ m) → IsNoted (after (record { deed = Steps i; outcome = o; effects = effects; refused = false }) (moment x.history)) on j d.call
             by (inr ne) at = stepped_after i o effects (moment x.history) on j d.call (λ ends. apart i j ne) (noted on j d (sym (others_call x.now.calls m i next on j ne) ∙ has))
             by (inl e) (inr ne) = absurd (no_other on j d e ne (sym (at_other_map x.now.calls m i next on j ne) ∙ has))
             by (inl e) (inl f) =
                 let on_so = went_on c c2 d told is (sym (at_it x.now.calls m i next on j f e) ∙ has) in
-                moved (after (record { deed = Steps i; outcome = o; effects = effects }) (moment x.history)) on m j i d.call c.call f e on_so.1
+                moved (after (record { deed = Steps i; outcome = o; effects = effects; refused = false }) (moment x.history)) on m j i d.call c.call f e on_so.1
                 (stepped_after i o effects (moment x.history) m i c.call
                 (λ ends. absurd (let both : true ≡ false = sym ends ∙ not_over known (kind_of c.call) c.value told on_so.0 in cc both)) (noted m i c here))
 
         tells_noted : (taken : Bool) (reply : Reply V) (c2 : Calling K V) → c2.call ≡ c.call → (on j : ℕ) (d : Calling K V) → with_call x.now.calls m i (Some c2) on j ≡ Some d
-            → IsNoted (moment (if taken then record { deed = Replies i reply; outcome = outcome.Goes; effects = [] } ∷ x.history else x.history)) on j d.call
+            → IsNoted (moment (if taken then record { deed = Replies i reply; outcome = outcome.Goes; effects = []; refused = false } ∷ x.history else x.history)) on j d.call
         tells_noted true reply c2 is on j d has = replied_after i reply (moment x.history) on j d.call (same_call c2 is on j d has)
         tells_noted false reply c2 is on j d has = same_call c2 is on j d has
 
         stops_noted : (ready : Bool) (on j : ℕ) (d : Calling K V) → with_call x.now.calls m i (unless_stopped ready c) on j ≡ Some d
-            → IsNoted (moment (if ready then record { deed = Stops i; outcome = outcome.Done; effects = [] } ∷ x.history else x.history)) on j d.call
+            → IsNoted (moment (if ready then record { deed = Stops i; outcome = outcome.Done; effects = []; refused = false } ∷ x.history else x.history)) on j d.call
         stops_noted false on j d has = same_call c refl on j d has
         stops_noted true on j d has = by (cases_eq j i) (cases_eq on m)
           where
-            by : (j ≡ i) ⊎ (j ≢ i) → (on ≡ m) ⊎ (on ≢ m) → IsNoted (after (record { deed = Stops i; outcome = outcome.Done; effects = [] }) (moment x.history)) on j d.call
+            by : (j ≡ i) ⊎ (j ≢ i) → (on ≡ m) ⊎ (on ≢ m) → IsNoted (after (record { deed = Stops i; outcome = outcome.Done; effects = []; refused = false }) (moment x.history)) on j d.call
             by (inr ne) at = stopped_after i (moment x.history) on j d.call (apart i j ne) (noted on j d (sym (others_call x.now.calls m i None on j ne) ∙ has))
             by (inl e) (inr ne) = absurd (no_other on j d e ne (sym (at_other_map x.now.calls m i None on j ne) ∙ has))
             by (inl e) (inl f) = absurd (let both : None ≡ Some d = sym (at_it x.now.calls m i None on j f e) ∙ has in cc both)
 
   -- a making that goes on leaves calls as they are
-  made_calls : (i : ℕ) (b : Making S) (machine : NewMap) (told : Progress Setting) (now : Now K V S) (on j : ℕ) → (made_on i b machine told now).calls on j ≡ now.calls on j
+  pub made_calls : (i : ℕ) (b : Making S) (machine : NewMap) (told : Progress Setting) (now : Now K V S) (on j : ℕ) → (made_on i b machine told now).calls on j ≡ now.calls on j
   made_calls i b machine progress.Goes now on j = refl
   made_calls i b machine progress.Waits now on j = refl
   made_calls i b machine (progress.Done setting) now on j = refl
@@ -365,7 +356,7 @@ module _ {K V S : Type 0} (same : K → K → Bool) (hash : S → K → ℕ) (ba
   acts_note (BeginsRow i request) (called, there, is) free = subst CallsAreNoted (sym is) noted
   acts_note (StepsRow i g) (row, here, end, came, is) free =
       subst CallsAreNoted (sym is)
-      (worked_noted x noted x.now.calls (row_deed row end.1.1) (row_outcome end.1.1) (effects_of acting.Row x.known (row_changed (row_of row) g x.now.memory)) (row_none row end.1.1) (λ on j. refl))
+      (worked_noted x noted x.now.calls (row_deed row) (row_outcome end.1.1) (effects_of acting.Row x.known (row_changed (row_of row) g x.now.memory)) (row_none row) (λ on j. refl))
 
   pub reclaiming_notes : (g : Grant) → ReclaimedAs same hash batch_size roots aborts x y g → CallsAreNoted y
   reclaiming_notes g (c, here, end, came, is) =
@@ -390,10 +381,10 @@ module _ {K S : Type 0} (V : Type 0) (same : K → K → Bool) (by_hasher : S �
 
   notes_stay : StaysSo V same by_hasher hash batch_size roots aborts Anything (λ p x. CallsAreNoted x)
   notes_stay = record {
-    acts = λ p n x y act told own fits none none_then is is_then at may leads at_then played noted.
+    acts = λ p n x y act told own fits none none_then is is_then at may led leads at_then played noted.
         acts_note same by_hasher batch_size roots aborts x y noted act (played_as same by_hasher batch_size roots aborts x y act played) (free p x is act may);
     begins = λ p n x i c none begun same_scene all_free is is_then at noted. noted;
-    steps = λ p n x y i c c2 g end here goes_on is is_then at leads played noted.
+    steps = λ p n x y told g st is is_then at leads comes played noted.
         reclaiming_notes same by_hasher batch_size roots aborts x y noted g (reclaimed_as same by_hasher batch_size roots aborts x y g played);
   }
 

@@ -46,10 +46,10 @@ use Rattle.papaya_acts.specs.AsSteps.{row_changed}
 use Rattle.papaya_acts.specs.Leads.{Led, MayBe}
 use Rattle.papaya_played.specs.Play.{State, play_act, row_begun, row_on, row_stepped, slot_call_of, slot_row_steps, step_row}
 use Rattle.papaya_played.specs.Reached.{IsOf, row_or_rests}
-use Rattle.papaya_played.proofs.Alike.{set_up_so}
+use Rattle.papaya_acts.proofs.Courses.{same_set_up}
 
 -- the row that is asked for on a slot
-called_is : (slot : ℕ) (called : SlotCall) → slot_call_of (request_of slot called) ≡ Some called
+pub called_is : (slot : ℕ) (called : SlotCall) → slot_call_of (request_of slot called) ≡ Some called
 called_is slot (call.Register enters) = refl
 called_is slot call.Enter = refl
 called_is slot call.Leave = refl
@@ -141,7 +141,7 @@ module _ {K V S : Type 0} (same : K → K → Bool) (hash : S → K → ℕ) (ba
       → IsOf hash n n.world.row (record x.now { memory = m2; rows = with_at x.now.rows i row })
   row_then none w2 maps2 m2 row memory maps its others e = subst (λ (z : Scene K V). IsOf hash z z.world.row (record x.now { memory = m2; rows = with_at x.now.rows i row })) (sym e) (record {
     memory = memory;
-    maps = λ m. is.maps m ∙ set_up_so (s.maps m) (maps2 m) (maps m);
+    maps = λ m. is.maps m ∙ sym (same_set_up (s.maps m) (maps2 m) (maps m));
     calls = is.calls;
     makers = is.makers;
     enders = is.enders;

@@ -2,7 +2,7 @@
 mod Removal
 mod Ending
 use Rattle.std.specs.Prelude.{nat_eq}
-use Rattle.std.proofs.Common.{◌≡◌, ℕ, true, List, [], ◌∷◌, refl, Option, Some, None}
+use Rattle.std.proofs.Common.{◌≡◌, ℕ, true, false, List, [], ◌∷◌, refl, Option, Some, None}
 use Rattle.std.specs.Prelude.{◌++◌, option_map}
 use Rattle.papaya_scenes.specs.Given.Seize.World.{Register'}
 use Rattle.papaya_scenes.specs.Given.Tables.declared.resize_mode.ResizeMode.TheVariants as mode
@@ -19,7 +19,7 @@ use Rattle.papaya_schedules.specs.declared.outcome.Outcome.{Outcome}
 use Rattle.papaya_schedules.specs.declared.outcome.Outcome.TheVariants.{Done, Goes, Slot, Answered}
 use Rattle.papaya_acts.specs.Acts.{Act, Get, Insert, BeginsCall, StepsCall, BeginsMaking, StepsMaking, BeginsRow, StepsRow}
 use Rattle.papaya_acts.specs.Doings.{Doing, Does}
-use Rattle.papaya_deeds.specs.Deeds.{Deed, Begins, Steps, Opens, MapComes, Works, Entry}
+use Rattle.papaya_deeds.specs.Deeds.{Deed, Begins, Steps, Registers, Opens, MapComes, Makes, Entry}
 use Rattle.papaya_played.specs.Play.{State, first_state, pairs_for, play_all}
 
 abbrev pub Doings : Type 0
@@ -33,7 +33,7 @@ abbrev pub history_of : Doings → Option (List (Entry ℕ ℕ))
 history_of doings = option_map (λ s. s.history) (plays doings)
 
 abbrev pub entry : Deed ℕ ℕ → Outcome ℕ → List Effect → Entry ℕ ℕ
-entry deed outcome effects = record { deed = deed; outcome = outcome; effects = effects }
+entry deed outcome effects = record { deed = deed; outcome = outcome; effects = effects; refused = false }
 
 abbrev pub does : Act ℕ ℕ ℕ → Doing ℕ ℕ ℕ
 does act = Does act
@@ -57,10 +57,10 @@ makes = does (BeginsMaking 0 0 7 given 8) ∷ does (StepsMaking 0 None) ∷ does
 
 abbrev made : List (Entry ℕ ℕ)
 made =
-    entry (Works (Some 0)) Done (Linked first (record { len = 8; limit = 7 }) ∷ [])
-    ∷ entry (Works (Some 0)) Goes []
-    ∷ entry (Works (Some 0)) Goes (Asked ABlock ∷ TableMade first ∷ [])
-    ∷ entry (Works (Some 0)) Goes (Asked ABlock ∷ [])
+    entry (Makes 0) Done (Linked first (record { len = 8; limit = 7 }) ∷ [])
+    ∷ entry (Makes 0) Goes []
+    ∷ entry (Makes 0) Goes (Asked ABlock ∷ TableMade first ∷ [])
+    ∷ entry (Makes 0) Goes (Asked ABlock ∷ [])
     ∷ entry (MapComes 0 0 (mode.Incremental 64) 6) Goes []
     ∷ []
 
@@ -75,9 +75,9 @@ enters = makes ++ does (BeginsRow 0 (Register' true)) ∷ does (StepsRow 0 (Some
 abbrev entered : List (Entry ℕ ℕ)
 entered =
     entry (Opens 0) (Slot 0) []
-    ∷ entry (Works None) Goes []
-    ∷ entry (Works None) Goes []
-    ∷ entry (Works None) Goes (Asked ABucket ∷ [])
+    ∷ entry (Registers 0) Goes []
+    ∷ entry (Registers 0) Goes []
+    ∷ entry (Registers 0) Goes (Asked ABucket ∷ [])
     ∷ made
 
 entering_is : history_of enters ≡ Some entered

@@ -1,5 +1,5 @@
 -- A list of acts is played: from memory and machines each act computes the next ones, and the entry of the history that it is.
-use Rattle.std.specs.Prelude.{ℕ, ◌+◌, ◌*◌, ◌/◌, ◌==◌, Bool, true, false, List, [], ◌∷◌, ◌++◌, Option, Some, None, option_map, Result, is_ok, if◌then◌else◌}
+use Rattle.std.specs.Prelude.{ℕ, ◌+◌, ◌*◌, ◌/◌, ◌==◌, Bool, true, false, not, List, [], ◌∷◌, ◌++◌, Option, Some, None, option_map, Result, is_ok, if◌then◌else◌}
 use Rattle.papaya_acts.specs.Acts.{Act, Answer, Nothing, OfCall, OfReply, OfAsking, OfMaking, OfEnding, OfReclaiming, BeginsCall, StepsCall, TellsCall, AsksCall, StopsCall, BeginsMaking, StepsMaking, BeginsEnding, StepsEnding, BeginsRow, StepsRow}
 use Rattle.papaya_acts.specs.Acts.{Wanted, Get, Remove, Insert, TryToInsert, Compute, Update, UpdateOrInsert, TryToInsertWith, RemoveIf, MakeRoom, Count, GoOver}
 use Rattle.papaya_acts.specs.AsSteps.{changed_of, row_changed}
@@ -40,6 +40,7 @@ use Rattle.papaya_scenes.specs.Given.Raw.declared.machines.machine.Machine.{Mach
 use Rattle.papaya_scenes.specs.Given.Raw.declared.machines.progress.Progress.{Progress as CallProgress}
 use Rattle.papaya_scenes.specs.Given.Raw.declared.machines.progress.Progress.TheVariants as comes
 use Rattle.papaya_scenes.specs.Given.Teller.declared.changed.Changed.{Changed}
+use Rattle.papaya_scenes.specs.Given.Teller.declared.changed.Changed.TheVariants as changes
 use Rattle.papaya_scenes.specs.Given.Callers.Together.{in_slot}
 use Rattle.papaya_scenes.specs.Given.Finishes.Maps.{with_call}
 use Rattle.papaya_scenes.specs.Replying.{unless_stopped}
@@ -67,7 +68,7 @@ use Rattle.papaya_named.specs.Machines.{aborted_by, machine_for}
 use Rattle.papaya_named.specs.Seen.{kind_of}
 use Rattle.papaya_named.specs.Telling.{answer_of, kept, number_by}
 use Rattle.papaya_named.specs.declared.kind.Kind.{Kind}
-use Rattle.papaya_deeds.specs.Deeds.{Deed, Begins, Steps, Replies, Stops, Opens, Shuts, MapComes, MapGoes, Works, ReclaimsAll, Entry}
+use Rattle.papaya_deeds.specs.Deeds.{Deed, Begins, Steps, Replies, Stops, Registers, Opens, Shuts, Leaves, Tends, MapComes, Makes, MapFails, Ends, MapGoes, ReclaimsAll, Entry}
 
 -- what is wanted of a map, as the call that it is in the words of a run
 abbrev pub call_for : {K V : Type 0} → Wanted K V → Call K V
@@ -144,6 +145,12 @@ first_now {K} {V} roots = record {
 abbrev pub first_state : {K V S : Type 0} → ℕ → State K V S
 first_state roots = record { now = first_now roots; known = nothing_known; history = []; told = [] }
 
+-- it was asked for a growth, and refused it
+abbrev pub is_refusal : Changed → Bool
+is_refusal (changes.Unmade kind) = true
+is_refusal (changes.Roomed bucket had) = not had
+is_refusal changed = false
+
 module _ {K V S : Type 0} where
   -- something has begun, and there is no entry of it
   abbrev pub began : Now K V S → State K V S → State K V S
@@ -152,7 +159,7 @@ module _ {K V S : Type 0} where
   -- this was done with no operation, if it was
   abbrev pub did : Bool → Deed K V → Outcome V → Answer K V → Now K V S → State K V S → State K V S
   did done deed outcome answer now s =
-      record s { now = now; history = if done then record { deed = deed; outcome = outcome; effects = [] } ∷ s.history else s.history; told = s.told ++ answer ∷ [] }
+      record s { now = now; history = if done then record { deed = deed; outcome = outcome; effects = []; refused = false } ∷ s.history else s.history; told = s.told ++ answer ∷ [] }
 
   -- and this with one, made by whoever acts so, that has changed this
   abbrev pub worked : Acting → Changed → Deed K V → Outcome V → Answer K V → Now K V S → State K V S → State K V S
@@ -160,7 +167,7 @@ module _ {K V S : Type 0} where
       record {
         now = now;
         known = known_after who changed s.known;
-        history = record { deed = deed; outcome = outcome; effects = effects_of who s.known changed } ∷ s.history;
+        history = record { deed = deed; outcome = outcome; effects = effects_of who s.known changed; refused = is_refusal changed } ∷ s.history;
         told = s.told ++ answer ∷ [];
       }
 
@@ -214,7 +221,7 @@ module _ {K V S : Type 0} (i m : ℕ) where
   abbrev pub call_asked : State K V S → Calling K V → State K V S
   call_asked s c =
       let to = machine_asked c.machine in
-      did false (Works None) outcome.Goes (OfAsking to.1) (record s.now { calls = with_call s.now.calls m i (Some (record c { machine = to.0 })) }) s
+      did false (Steps i) outcome.Goes (OfAsking to.1) (record s.now { calls = with_call s.now.calls m i (Some (record c { machine = to.0 })) }) s
 
   -- and given up it is under way no more
   abbrev pub call_stopped : State K V S → Calling K V → State K V S
@@ -234,11 +241,11 @@ has_root _ = true
 abbrev pub pairs_for : ℕ → ℕ
 pairs_for places = (places * 3 + 3) / 4
 
--- A map comes as its root is taken, and goes where the making gives the root up.
+-- A map comes as its root is taken, and there is none where the making gives the root up.
 abbrev pub making_deed : {K V : Type 0} → ℕ → NewMap → NewMap → Deed K V
 making_deed map before after =
-    if has_root before.stands then (if has_root after.stands then Works (Some map) else MapGoes map before.setting.root)
-    else (if has_root after.stands then MapComes map after.setting.root after.setting.mode (pairs_for after.setting.initial) else Works (Some map))
+    if has_root before.stands then (if has_root after.stands then Makes map else MapFails map)
+    else (if has_root after.stands then MapComes map after.setting.root after.setting.mode (pairs_for after.setting.initial) else Makes map)
 
 abbrev pub making_outcome : {V : Type 0} → Progress Setting → Outcome V
 making_outcome progress.Goes = outcome.Goes
@@ -260,7 +267,7 @@ abbrev pub ended_on : {T : Type 0} → Ending → EndMap → Settled T → Optio
 ended_on f machine told = if is_over told then None else Some (record f { machine = machine })
 
 abbrev pub ending_deed : {K V T : Type 0} → Ending → Settled T → Deed K V
-ending_deed f told = if is_over told then MapGoes f.map f.machine.setting.root else Works (Some f.map)
+ending_deed f told = if is_over told then MapGoes f.map else Ends f.map
 
 module _ {K V S : Type 0} (i : ℕ) where
   abbrev pub making_begun : ℕ → ℕ → S → Setting → ℕ → State K V S → State K V S
@@ -291,18 +298,19 @@ module _ {K V S : Type 0} (i : ℕ) where
 -- A section begins by the last step of an entering, of a registering that enters, and of a refreshing; and ends by the first step of a leaving or a refreshing.
 abbrev pub registers_as : {K V : Type 0} → Registering → ℕ → Deed K V
 registers_as registers.Enter s = Opens s
-registers_as _ s = Works None
+registers_as _ s = Registers s
 
 abbrev pub leaves_as : {K V : Type 0} → Leave → Leaving → Deed K V
 leaves_as c leaves.Swaps = Shuts c.slot
-leaves_as c leaves.Over = if c.frees then Works None else (if c.becomes == ACTIVE then Opens c.slot else Works None)
-leaves_as c _ = Works None
+leaves_as c leaves.Over = if c.becomes == ACTIVE then Opens c.slot else Leaves c.slot
+leaves_as c _ = Leaves c.slot
 
-abbrev pub row_deed : {K V T : Type 0} → SlotRow → RowTold T → Deed K V
-row_deed (rows.Registers c) (rows_tell.Registered s) = registers_as c.stands s
-row_deed (rows.Enters c) rows_tell.Done = Opens c.slot
-row_deed (rows.Leaves c) told = leaves_as c c.stands
-row_deed _ told = Works None
+abbrev pub row_deed : {K V : Type 0} → SlotRow → Deed K V
+row_deed (rows.Registers c) = registers_as c.stands c.slot
+row_deed (rows.Enters c) = Opens c.slot
+row_deed (rows.Leaves c) = leaves_as c c.stands
+row_deed (rows.Flushes c) = Tends c.slot
+row_deed (rows.Frees c) = Tends c.slot
 
 abbrev pub row_outcome : {T V : Type 0} → RowTold T → Outcome V
 row_outcome rows_tell.Goes = outcome.Goes
@@ -348,7 +356,7 @@ module _ {K V S : Type 0} where
 
   abbrev pub row_stepped : ℕ → SlotRow → Changed → State K V S → Mem (Node K V) × (SlotRow × RowTold (Node K V)) → State K V S
   row_stepped i row changed s p =
-      worked acting.Row changed (row_deed row p.1.1) (row_outcome p.1.1) Nothing (record s.now { memory = p.0; rows = with_at s.now.rows i (row_on p.1.0 p.1.1) }) s
+      worked acting.Row changed (row_deed row) (row_outcome p.1.1) Nothing (record s.now { memory = p.0; rows = with_at s.now.rows i (row_on p.1.0 p.1.1) }) s
 
   -- who reclaims all begins, and takes a step
 

@@ -78,11 +78,24 @@ fn elements_are_walked_twice(set: &HashSet<u64>) -> Result<bool, AllocError> {
     Ok(element.is_some() && element == again.next())
 }
 
-fn walks_are_cloned(alloc: Global) -> Result<bool, Fault> {
-    let map = HashMap::<u64, u64>::from_array(alloc, &[(1, 10), (2, 20), (3, 30)])?;
-    let set = HashSet::<u64>::from_array(alloc, &[1, 2])?;
-    let so = pairs_are_walked_twice(&map)? && columns_are_walked_twice(&map)?;
-    Ok(so && elements_are_walked_twice(&set)?)
+/// A map of three pairs.
+fn three_pairs(alloc: Global) -> Result<HashMap<u64, u64>, Fault> {
+    HashMap::from_array(alloc, &[(1, 10), (2, 20), (3, 30)])
+}
+
+/// A set of two elements.
+fn two_elements(alloc: Global) -> Result<HashSet<u64>, Fault> {
+    HashSet::from_array(alloc, &[1, 2])
+}
+
+fn map_walks_are_cloned(alloc: Global) -> Result<bool, Fault> {
+    let map = three_pairs(alloc)?;
+    Ok(pairs_are_walked_twice(&map)? && columns_are_walked_twice(&map)?)
+}
+
+fn set_walks_are_cloned(alloc: Global) -> Result<bool, Fault> {
+    let set = two_elements(alloc)?;
+    Ok(elements_are_walked_twice(&set)?)
 }
 
 /// Whether texts stand in the order of their bytes.
@@ -101,7 +114,8 @@ fn too_much_is_refused(alloc: Global) -> Result<bool, Fault> {
 
 #[test]
 fn walks_are_cloned_texts_ordered_and_values_need_no_text(rt: HostRuntime) {
-    assert!(rt; walks_are_cloned(rt.alloc()) == Ok(true));
+    assert!(rt; map_walks_are_cloned(rt.alloc()) == Ok(true));
+    assert!(rt; set_walks_are_cloned(rt.alloc()) == Ok(true));
     assert!(rt; texts_are_ordered(rt.alloc()) == Ok(true));
     assert!(rt; too_much_is_refused(rt.alloc()) == Ok(true));
     assert!(rt; prices_are_read(rt.alloc()) == Ok(true));

@@ -1,7 +1,7 @@
 //! Worked examples of the JSON of maps, of sets, and of lists of elements that have no hash.
 
 use papaya_forms::{Listed, array_of, elements_of};
-use papaya_seq::{FromJson, HashMap, HashSet, JsonFault, ToJson};
+use papaya_seq::{Fault, FromJson, HashMap, HashSet, JsonFault, ToJson};
 use serde_json::Value;
 use std::alloc::Global;
 use std::hash::{BuildHasherDefault, DefaultHasher};
@@ -10,38 +10,44 @@ type Map = HashMap<u8, u8, BuildHasherDefault<DefaultHasher>>;
 
 type Set = HashSet<u8, BuildHasherDefault<DefaultHasher>>;
 
-/// Whether a map is the worked one: 0 to 4, 1 to 3, 2 to 2, 3 to 1, 4 to 0.
-fn is_worked_map(map: &Map) -> bool {
-    for key in 0..5 {
-        if map.get(&key) != Some(&(4 - key)) {
-            return false;
-        }
+/// The worked map.
+fn worked_map(alloc: Global) -> Result<Map, Fault> {
+    Map::from_array(alloc, &[(0, 4), (1, 3), (2, 2), (3, 1), (4, 0)])
+}
+
+/// Whether a map is the worked one.
+fn is_worked_map(alloc: Global, map: &Map) -> bool {
+    match worked_map(alloc) {
+        Ok(worked) => *map == worked,
+        Err(_) => false,
     }
-    map.len() == 5
 }
 
 /// Whether the worked map is read of the value of a text, and written as it; or why none is read.
 fn map_of(alloc: Global, value: &Value, text: &str) -> Result<bool, JsonFault> {
     let map = Map::from_value(alloc, value)?;
     let written = map.to_value(alloc)?.to_string(alloc)?;
-    Ok(is_worked_map(&map) && written.as_str() == text)
+    Ok(is_worked_map(alloc, &map) && written.as_str() == text)
 }
 
-/// Whether a set is the worked one: 0 to 4.
-fn is_worked_set(set: &Set) -> bool {
-    for element in 0..5 {
-        if !set.contains(&element) {
-            return false;
-        }
+/// The worked set.
+fn worked_set(alloc: Global) -> Result<Set, Fault> {
+    Set::from_array(alloc, &[0, 1, 2, 3, 4])
+}
+
+/// Whether a set is the worked one.
+fn is_worked_set(alloc: Global, set: &Set) -> bool {
+    match worked_set(alloc) {
+        Ok(worked) => *set == worked,
+        Err(_) => false,
     }
-    set.len() == 5
 }
 
 /// So of the worked set.
 fn set_of(alloc: Global, value: &Value, text: &str) -> Result<bool, JsonFault> {
     let set = Set::from_value(alloc, value)?;
     let written = set.to_value(alloc)?.to_string(alloc)?;
-    Ok(is_worked_set(&set) && written.as_str() == text)
+    Ok(is_worked_set(alloc, &set) && written.as_str() == text)
 }
 
 /// Whether the elements that are read of a value are written as it.

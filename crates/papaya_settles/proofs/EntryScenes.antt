@@ -8,11 +8,9 @@ use Rattle.papaya_histories.specs.Given.SeizeWords.declared.at.At.TheVariants.{E
 use Rattle.papaya_histories.specs.Given.Seize.declared.states.TheConstants.{NEXT, FIRST}
 use Rattle.papaya_histories.specs.Given.Seize.declared.rows.settle.Settling.{Settling}
 use Rattle.papaya_histories.specs.Given.Seize.declared.rows.settle.Settling.TheVariants as at
-use Rattle.papaya_histories.specs.Given.Seize.Sequence.{IsBetween}
 use Rattle.papaya_histories.specs.Given.Seize.World.{World, Row, Rests, Settles, Request, Register', Enter', Leave', LeaveOwned, Refresh, Unregister', Retire, Flush, Defer', Event, Begin, Happens, Runs, Steps'}
 use Rattle.papaya_histories.proofs.Given.SeizeRule.Words.Named.{or_zero, words_of}
 use Rattle.papaya_histories.proofs.Given.SeizeAlone.Histories.Reached.{Reached, happens_reached}
-use Rattle.papaya_histories.proofs.Given.SeizeAlone.Histories.UsersTurn.{users_between}
 use Rattle.papaya_histories.specs.Given.Tables.Nodes.{deferred_word}
 use Rattle.papaya_histories.specs.Given.Tables.declared.node.Node.{Node}
 use Rattle.papaya_histories.specs.Given.Tables.declared.setting.Setting.{Setting}
@@ -22,7 +20,7 @@ use Rattle.papaya_histories.specs.Given.Schedules.Moment.{Moment}
 use Rattle.papaya_histories.specs.Given.Callers.Together.{UnderWay, OnKey, ForRoom, Counting, OverAll, HandsOver, IsOneStep}
 use Rattle.papaya_histories.proofs.Given.Callers.Together.Came.{came_reached}
 use Rattle.papaya_histories.specs.Given.Effects.Known.{Known}
-use Rattle.papaya_histories.specs.Given.Finishes.FactsEnds.{Deed, Looks, TakesPair, LeavesTable, JoinsPair, TakesLeft, TakesCounter, WritesRoot, events_of}
+use Rattle.papaya_histories.specs.Given.Finishes.FactsEnds.{events_of}
 use Rattle.papaya_histories.specs.Given.Finishes.Maps.{with_call}
 use Rattle.papaya_histories.specs.Given.Follows.Shows.{Shows}
 use Rattle.papaya_histories.proofs.Given.Follows.Steps.{WentTo, went_to, DidSo}
@@ -36,6 +34,9 @@ use Rattle.papaya_histories.specs.Given.Scenes.Rows.{request_of}
 use Rattle.papaya_histories.proofs.Given.Scenes.NoCall.{no_call}
 use Rattle.papaya_histories.specs.Given.Scenes.Scene.{Scene, slot_of}
 use Rattle.papaya_histories.specs.Given.Scenes.Stepping.{StepLeads, scene_after}
+use Rattle.papaya_histories.proofs.Given.SeizeAlone.Histories.UsersTurn.{AreBetween}
+use Rattle.papaya_histories.proofs.Given.Callers.Together.Slots.{all_between}
+use Rattle.papaya_histories.proofs.Given.Scenes.Between.{deed_between}
 
 -- a blank entry has zeros, and the other way round
 module _ {T : Type 0} (m : Mem T) where
@@ -70,19 +71,11 @@ module _ {T : Type 0} (defers : T → Option ℕ) (size : ℕ) (Who : ℕ → Ty
   abbrev pub Holds : World T → Type 0
   Holds w = AllZero w × ((j : ℕ) → Who j → RetiresOne (IsZero w.memory) (w.row j))
 
-  abbrev AllBetween : List (Event T) → Type 0
-  AllBetween [] = Unit {0}
-  AllBetween (e ∷ events) = IsBetween e × AllBetween events
-
-  runs_hold : (events : List (Event T)) (w v : World T) → Reached defers size w → AllBetween events → Runs defers size events w v → Holds w → Holds v
+  runs_hold : (events : List (Event T)) (w v : World T) → Reached defers size w → AreBetween events → Runs defers size events w v → Holds w → Holds v
   runs_hold [] w v r u runs holds = subst Holds (sym runs) holds
   runs_hold (e ∷ events) w v r u runs holds =
       runs_hold events runs.0 v (happens_reached defers size e w runs.0 r runs.1) u.1 runs.2
       (event_zeros defers w runs.0 r holds.0 e u.0 runs.1, λ j its. event_one defers w r runs.0 e u.0 runs.1 j (holds.1 j its))
-
-  users_all : (events : List (Event T)) → AllUsers events → AllBetween events
-  users_all [] u = tt
-  users_all (e ∷ events) u = (users_between e u.0, users_all events u.1)
 
   -- a step of a row, which reclaims nothing if it is of one who is meant
   step_holds : (w v : World T) → Reached defers size w → (i : ℕ) → (Who i → ReclaimsNone (w.row i)) → Steps' defers i (w.row i) w v → Holds w → Holds v
@@ -161,7 +154,7 @@ module _ {K V : Type 0} (same : K → K → Bool) (hash : ℕ → K → ℕ) (na
   by_events : (w2 : World (Node K V)) → to.4.w2 ≡ w2 → (events : List (Event (Node K V))) → AllUsers events → Runs deferred_word size events s.world w2 → HoldsIn s size to.4.w2
   by_events w2 is events users runs =
       subst (HoldsIn s size) (sym is)
-      (runs_hold deferred_word size (HasCall s) events s.world w2 reached_here (users_all deferred_word size (HasCall s) events users) runs (holds_of size s shows))
+      (runs_hold deferred_word size (HasCall s) events s.world w2 reached_here (all_between events users) runs (holds_of size s shows))
 
   by_row : (w2 : World (Node K V)) → to.4.w2 ≡ w2 → IsOneStep to.0.setting i s.world w2 → HoldsIn s size to.4.w2
   by_row w2 is step =
@@ -228,23 +221,14 @@ module _ (K V : Type 0) (same : K → K → Bool) (hash : ℕ → K → ℕ) whe
   makings_keep_entries s old new at_old shows i told leads b here =
       let step = (leads b here).2.step in
       shows_of old.batch_size s (record s { world = step.w2 }) (λ j its. its)
-      (runs_hold deferred_word old.batch_size (HasCall s) step.events s.world step.w2 (reached s old at_old) (users_all deferred_word old.batch_size (HasCall s) step.events step.users) step.runs
+      (runs_hold deferred_word old.batch_size (HasCall s) step.events s.world step.w2 (reached s old at_old) (all_between step.events step.users) step.runs
       (holds_of old.batch_size s shows))
-
-  between_deed : (s : Scene K V) (n i : ℕ) (d : Deed) → AllBetween (deferred_word {K = K} {V = V}) n (HasCall s) (events_of i d)
-  between_deed s n i Looks = tt
-  between_deed s n i (TakesPair b) = (tt, (tt, (tt, tt)))
-  between_deed s n i (LeavesTable b further) = (tt, (tt, tt))
-  between_deed s n i (JoinsPair b word) = (tt, tt)
-  between_deed s n i (TakesLeft b) = (tt, tt)
-  between_deed s n i (TakesCounter b) = (tt, tt)
-  between_deed s n i (WritesRoot at word) = (tt, tt)
 
   pub endings_keep_entries : EndingsKeepEntries K V same hash
   endings_keep_entries s old new at_old shows i told leads f here =
       let ended = (leads f here).2 in
       shows_of old.batch_size s (record s { world = ended.w2 }) (λ j its. its)
-      (runs_hold deferred_word old.batch_size (HasCall s) (events_of i ended.deed) s.world ended.w2 (reached s old at_old) (between_deed s old.batch_size i ended.deed) ended.runs (holds_of old.batch_size s shows))
+      (runs_hold deferred_word old.batch_size (HasCall s) (events_of i ended.deed) s.world ended.w2 (reached s old at_old) (deed_between (Node K V) i ended.deed) ended.runs (holds_of old.batch_size s shows))
 
 pub endings_begin_entries : (K V : Type 0) → EndingsBeginEntries K V
 endings_begin_entries K V s shows map i standing = record { blank = shows.blank; one = shows.one }

@@ -30,7 +30,6 @@ module _ {K : Type 0} (same : K → K → Bool) (spot : ℕ → K → ℕ → �
       by (inr l) = absurd (nothing_there t i n e (common.outside t i (there_made t i n e) l))
 
 module _ {K : Type 0} (same : K → K → Bool) (spot : ℕ → K → ℕ → ℕ) (classes : IsEquivalence same) (c : Chart K) where
-
   module _ (common : Common same spot true c) (mode : Incremental same spot true c) (none : NoneMoves true c) where
     at_place : (n t i k : ℕ) → c.first ≤ t → t ≡ c.first + k → pair_there true (c.place t i) ≡ Some n → times (suc n) (numbers_from true c (c.past - c.first)) ≡ 1
     at_place n t i k linked is e =

@@ -10,7 +10,6 @@ use Rattle.papaya_tables.specs.declared.table_words.TheConstants.{NEXT}
 use Rattle.papaya_shown.specs.Chain.{word_or_none, places_of, behind, pairs_at, pairs_on, pairs_left, HasTables, CanBeRead, one_count}
 
 module _ {K V : Type 0} (m : Mem (Node K V)) (link : ℕ) (some : link ≢ 0) where
-
   module _ (next : ℕ) (is : word_at m (Word (block_in link) NEXT) ≡ Some next) where
     is_behind : behind m link ≡ next
     is_behind = ap word_or_none is

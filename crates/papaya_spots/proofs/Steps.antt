@@ -3,9 +3,7 @@ use Rattle.std.specs.Prelude.{◌≡◌, ◌≢◌, ℕ, ◌<◌, Bool, true, fa
 use Rattle.std.proofs.Common.{refl, ap, sym, subst, ◌∙◌, arith, inl, inr}
 use Rattle.std.proofs.lemmas.Bool.{ne_eqb, cases_eq}
 use Rattle.papaya_others.specs.Given.SeizeWords.declared.at.At.{At}
-use Rattle.papaya_others.specs.Given.SeizeWords.declared.at.At.TheVariants.{Root, Used, Slot, Entry, Word}
-use Rattle.papaya_others.specs.Given.SeizeWords.Mem.{Mem, word_at}
-use Rattle.papaya_others.specs.Given.SeizeWords.Word.{block_in}
+use Rattle.papaya_others.specs.Given.SeizeWords.Mem.{Mem}
 use Rattle.papaya_others.specs.Given.Seize.World.{World, IsInside, with_at}
 use Rattle.papaya_others.specs.Given.Tables.declared.node.Node.{Node}
 use Rattle.papaya_others.specs.Given.Tables.declared.setting.Setting.{Setting}
@@ -19,7 +17,7 @@ use Rattle.papaya_others.specs.Given.Schedules.Views.{is_in_map}
 use Rattle.papaya_others.specs.Given.Teller.declared.changed.Changed.{Changed}
 use Rattle.papaya_others.specs.Given.Teller.declared.changed.Changed.TheVariants as changed
 use Rattle.papaya_others.specs.Given.Tells.Seen.{Seen, Unseen, Wrote, seen_of}
-use Rattle.papaya_others.specs.Given.Tells.Tells.{KeepsNames, IsTold}
+use Rattle.papaya_others.specs.Given.Tells.Tells.{IsTold}
 use Rattle.papaya_others.proofs.Given.Tells.Promised.{operations_tell, still_steps_tell}
 use Rattle.papaya_others.specs.Given.Rule.Chart.{Chart}
 use Rattle.papaya_others.specs.Given.Rule.Words.{Blocks}
@@ -41,7 +39,7 @@ use Rattle.papaya_others.specs.Given.Effects.declared.acting.Acting.TheVariants.
 use Rattle.papaya_others.specs.Given.Follows.Maps.{ShowsMap}
 use Rattle.papaya_others.specs.Given.Follows.Shows.{Shows}
 use Rattle.papaya_others.specs.Given.Follows.Steps.{TakesNone, Did, IsOfNoRow}
-use Rattle.papaya_others.proofs.Given.Follows.Nowhere.{went_nowhere}
+use Rattle.papaya_others.proofs.Given.Follows.Nowhere.{names_stay, went_nowhere}
 use Rattle.papaya_others.proofs.Given.Follows.Onward.{IsOfMap}
 use Rattle.papaya_others.proofs.Given.Follows.Operations.{LeavesBy, Operated, operated, operated_leaves, seen_write, told_write}
 use Rattle.papaya_others.proofs.Given.Follows.Rows.{one_step_leaves}
@@ -235,22 +233,9 @@ module _ {K V : Type 0} (same : K → K → Bool) (hash : ℕ → K → ℕ) (m 
     abbrev stayed : Went same standing.hash setting i w standing.chart standing.blocks m2 (λ w2 c2 blocks2. Unit {0})
     stayed = went_nowhere same standing.hash setting i w standing.chart standing.blocks whole m2 still
 
-    same_word : (at : At) (x y : ℕ) → told ≡ changed.Wrote at x y → y ≡ x
-    same_word at x y e =
-        let words = subst (LeavesBy w.memory m2) e left in
-        let now : word_at w.memory at ≡ Some y = ap (λ (n : Mem (Node K V)). word_at n at) (sym still) ∙ words.1 in
-        let was = words.0 in cc (now, was)
-
-    keeps_names : (at : At) (x y : ℕ) → y ≡ x → KeepsNames setting standing.chart standing.blocks at x y
-    keeps_names (Root r) x y e = λ is. e
-    keeps_names (Used r) x y e = tt
-    keeps_names (Slot r field) x y e = tt
-    keeps_names (Entry b field) x y e = tt
-    keeps_names (Word b field) x y e = λ t l known is. (λ next. e, λ place l is. ap block_in e)
-
     pub stayed_calm : IsCalm known effects known2
     stayed_calm = calm_done same standing.hash setting i w standing.chart standing.blocks m2 (λ w2 c2 blocks2. Unit {0}) stayed whole map m.stored known
-        shown.blocks.roles shown.blocks.once is_shown.tables.roles told left (λ at x y e. keeps_names at x y (same_word at x y e))
+        shown.blocks.roles shown.blocks.once is_shown.tables.roles told left (names_stay setting standing.chart standing.blocks w.memory m2 still told left)
 
     pub stayed_places : (lying : ShowsPlaces m known s.maps) (maps2 : ℕ → Option (Standing K)) → ((n : ℕ) → IsSameMap (s.maps n) (maps2 n)) → ShowsPlaces v known2 maps2
     stayed_places lying maps2 maps_same =

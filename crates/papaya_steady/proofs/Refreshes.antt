@@ -7,12 +7,10 @@ use Rattle.papaya_sifts.specs.Given.SeizeWords.declared.fault.Fault.{Fault}
 use Rattle.papaya_sifts.specs.Given.Seize.Leave.{leave_plan, leaving}
 use Rattle.papaya_sifts.specs.Given.Seize.World.{World, Row, Leaves, Steps', left_row, leaves_on}
 use Rattle.papaya_sifts.specs.Given.Seize.declared.progress.Progress.{Progress}
-use Rattle.papaya_sifts.specs.Given.Seize.declared.progress.Progress.TheVariants as progress
 use Rattle.papaya_sifts.specs.Given.Seize.declared.rows.leave.Leave.{Leave}
 use Rattle.papaya_sifts.specs.Given.Seize.declared.rows.settle.Settled.{Settled}
 use Rattle.papaya_sifts.specs.Given.Seize.declared.rows.settle.Settled.TheVariants as settling
 use Rattle.papaya_sifts.specs.Given.Seize.declared.states.TheConstants.{ACTIVE}
-use Rattle.papaya_sifts.proofs.Given.SeizeRule.Rows.Leaving.{steps_back}
 use Rattle.papaya_sifts.proofs.Given.SeizeRule.Rows.Others.{with_here}
 use Rattle.papaya_sifts.specs.Given.Tables.Nodes.{deferred_word}
 use Rattle.papaya_sifts.specs.Given.Tables.declared.node.Node.{Node}
@@ -22,11 +20,12 @@ use Rattle.papaya_sifts.specs.Given.Callers.Sights.{Sight}
 use Rattle.papaya_sifts.specs.Given.Callers.Together.{Together, AllStand}
 use Rattle.papaya_sifts.proofs.Given.Callers.Together.Guards.{guards_stand_together}
 use Rattle.papaya_sifts.proofs.Given.Callers.Together.Rows.{map2}
-use Rattle.papaya_sifts.specs.Given.Owned.Ending.{GoesOn, RunsTo, stops, goes}
+use Rattle.papaya_sifts.specs.Given.Owned.Ending.{RunsTo}
 use Rattle.papaya_sifts.specs.Given.Owned.Machines.{refreshes_plan, refreshes_after, refreshes_settled}
 use Rattle.papaya_sifts.specs.Given.Owned.Owned.{Holds}
 use Rattle.papaya_sifts.specs.Given.Owned.declared.machines.Refreshes.{Refreshes}
 use Rattle.papaya_sifts.proofs.Given.Owned.Owned.Refreshes.{begins_refreshing}
+use Rattle.papaya_sifts.proofs.Given.Owned.Runs.Comes.{NextOf, next_turned, run_comes}
 use Rattle.papaya_steady.proofs.Ends.{EndsAt, ends_at, ends_on, shows_one}
 use Rattle.papaya_steady.specs.Steady.{HasOneTable, RefreshesKeepOneTable}
 
@@ -72,11 +71,13 @@ module _ {K V : Type 0} (same : K → K → Bool) (hash : K → ℕ) (setting : 
       linked = linked_then;
     }
 
+  -- what it comes to
+  abbrev Comes : ℕ → Refreshes → Mem (Node K V) → Result Unit Fault → Type 0
+  Comes link x m result = EndsAt setting link m
+
   -- where a step leads
   abbrev Next : ℕ → Refreshes → Mem (Node K V) → Progress Unit → Type 0
-  Next link x m progress.Goes = Under link x m
-  Next link x m progress.Waits = ⊥
-  Next link x m _ = EndsAt setting link m
+  Next link = NextOf (Under link) (Comes link)
 
   next_by : (link : ℕ) (r : Refreshes) (m : Mem (Node K V)) (here : Under link r m) (m2 : Mem (Node K V)) (d : Leave) (told : Settled (Node K V)) → Steps Took value_at m (leave_plan deferred_word r.leave) m2 (d, told)
       → Next link (refreshes_settled (record { leave = d }) told).0 m2 (refreshes_settled {T = Node K V} (record { leave = d }) told).1
@@ -85,26 +86,8 @@ module _ {K V : Type 0} (same : K → K → Bool) (hash : K → ℕ) (setting : 
   next_by link r m here m2 d (settling.Gave value) s = under_then link r m here m2 d (settling.Gave value) s refl
   next_by link r m here m2 d settling.Done s = linked_then link r m here m2 d settling.Done s
 
-  next_of : (link : ℕ) (r : Refreshes) (m : Mem (Node K V)) → Under link r m → (m2 : Mem (Node K V)) (x : Refreshes) (told : Progress Unit) → Steps Took value_at m (refreshes_plan deferred_word r) m2 (x, told) → Next link x m2 told
-  next_of link r m here m2 x told s =
-      let k = steps_back (refreshes_after r) m m2 (leave_plan deferred_word r.leave) (x, told) s in
-      subst (λ (y : Refreshes × Progress Unit). Next link y.0 m2 y.1) (sym k.2) (next_by link r m here m2 k.0.0 k.0.1 k.1)
-
-  links_kept : (link : ℕ) (x : Refreshes) (m : Mem (Node K V)) (told : Progress Unit) → Next link x m told → EndsAt setting link m
-  links_kept link x m progress.Goes under = subst (EndsAt setting link) under.memory under.linked
-  links_kept link x m progress.Waits next = absurd next
-  links_kept link x m (progress.Done end) linked = linked
-  links_kept link x m (progress.Refused fault) linked = linked
-
-  goes_on : (link : ℕ) (x : Refreshes) (m : Mem (Node K V)) (told : Progress Unit) → GoesOn told → Next link x m told → Under link x m
-  goes_on link x m progress.Goes on next = next
-  goes_on link x m progress.Waits on next = absurd next
-  goes_on link x m (progress.Done end) on next = absurd on
-  goes_on link x m (progress.Refused fault) on next = absurd on
-
-  kept : (link : ℕ) (r : Refreshes) (m : Mem (Node K V)) → Under link r m → (x : Refreshes) (m2 : Mem (Node K V)) (result : Result Unit Fault) → RunsTo (refreshes_plan deferred_word) r m x m2 result → EndsAt setting link m2
-  kept link r m here x m2 result (stops _ _ _ _ told _ s tells) = links_kept link x m2 told (next_of link r m here m2 x told s)
-  kept link r m here x m2 result (goes _ _ x1 m1 told on s _ _ _ runs) = kept link x1 m1 (goes_on link x1 m1 told on (next_of link r m here m1 x1 told s)) x m2 result runs
+  step_of : (link : ℕ) (r : Refreshes) (m : Mem (Node K V)) → Under link r m → (m2 : Mem (Node K V)) (end : Refreshes × Progress Unit) → Steps Took value_at m (refreshes_plan deferred_word r) m2 end → Next link end.0 m2 end.1
+  step_of link r m here m2 end s = next_turned (Under link) (Comes link) (refreshes_after r) m m2 (leave_plan deferred_word r.leave) (λ k. next_by link r m here m2 k.0 k.1) end s
 
   -- from the map that rests
   keeps_one : HasOneTable setting m0 → (x : Refreshes) (m : Mem (Node K V)) (result : Result Unit Fault)
@@ -112,7 +95,7 @@ module _ {K V : Type 0} (same : K → K → Bool) (hash : K → ℕ) (setting : 
   keeps_one one x m result runs =
       let b = begins_refreshing same hash setting m0 xs h in
       let link = root_word hash h.chart b.blocks in
-      shows_one setting link m (kept link _ m0 (record {
+      shows_one setting link m (run_comes (Under link) (Comes link) (refreshes_plan deferred_word) (step_of link) _ m0 (record {
         w = b.w;
         blocks = b.blocks;
         sights = b.sights;

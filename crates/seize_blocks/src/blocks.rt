@@ -40,6 +40,7 @@ pub struct Blocks<T, R: Rule<T>> {
 
 impl<T, R: Rule<T>> Blocks<T, R> {
     /// Where the word of a name lies: in which strip, and at which place. Whatever the state is, if the seat has this view then there is such a word.
+    #[inline(always)]
     fn place_of(&self, seat: &Seat<T, R>, at: At) -> (Strip<T>, u64)
         requires own { seat.now.base ≡ self.now.words.id.views_name }
         requires there { HasWord (R.holds self.now.words.fixed) seat.now.id seat.now.view at }
@@ -64,6 +65,7 @@ impl<T, R: Rule<T>> Blocks<T, R> {
     }
 
     /// Where the words of a number of the first strip lie: the first of them.
+    #[inline(always)]
     fn first_of(&self, index: u64) -> u64
         requires { index ≤ 2 ^ 32 }
         ensures { result ≡ index * 5 + long self.now.words.id.roots }
@@ -87,6 +89,7 @@ impl<T, R: Rule<T>> Blocks<T, R> {
     }
 
     /// Where a block is: in which strip, its index there, and where the first of its words lies. The views of two seats show the block.
+    #[inline(always)]
     fn spot_of(&self, guard: &Seat<T, R>, owner: &Seat<T, R>, block: u64) -> Spot<T>
         requires own { (guard.now.base ≡ self.now.words.id.views_name) × (owner.now.base ≡ self.now.words.id.views_name) }
         requires shown { ShownToBoth (R.holds self.now.words.fixed) guard.now.id guard.now.view owner.now.id owner.now.view block }
@@ -107,6 +110,18 @@ impl<T, R: Rule<T>> Blocks<T, R> {
                 first: self.first_of(index),
             };
         }
+        self.far_spot_of(guard, owner, block)
+    }
+
+    /// The same, of a block whose number lies behind a door.
+    fn far_spot_of(&self, guard: &Seat<T, R>, owner: &Seat<T, R>, block: u64) -> Spot<T>
+        requires far { (self.now.words.id.least < block) × (block ≤ 2 ^ 32) }
+        requires own { (guard.now.base ≡ self.now.words.id.views_name) × (owner.now.base ≡ self.now.words.id.views_name) }
+        requires shown { ShownToBoth (R.holds self.now.words.fixed) guard.now.id guard.now.view owner.now.id owner.now.view block }
+        ensures strip { (core_of result.strip.id ≡ core_of self.now.words.id) × InBlock result.strip.words × (result.values ≡ result.strip.id.values) }
+        ensures index { IsItsIndex result.strip.id block result.index × (result.index < 2 ^ 32) }
+        ensures words { (result.first ≡ result.index * 5 + result.strip.id.skip) × (result.first + 4 < 2 ^ 60) }
+    {
         let (door, first) = self.door_of(block - 1);
         let strip = self.words.find(guard, owner, block, self.doors.at, door);
         let place = places_in(&strip);
@@ -178,6 +193,7 @@ impl<T, R: Rule<T>> Blocks<T, R> {
     }
 
     /// The word of a name.
+    #[inline(always)]
     pub fn load(&self, seat: &mut Seat<T, R>, at: At) -> u64
         requires own { seat.old.base ≡ self.now.words.id.views_name }
         requires may { Allows (R.holds self.now.words.fixed) R.keeps seat.old.id seat.old.view (Load at) (R.then seat.old.view (Load at)) }
@@ -189,6 +205,7 @@ impl<T, R: Rule<T>> Blocks<T, R> {
     }
 
     /// Writes the word of a name.
+    #[inline(always)]
     pub fn store(&self, seat: &mut Seat<T, R>, at: At, word: u64)
         requires own { seat.old.base ≡ self.now.words.id.views_name }
         requires may { Allows (R.holds self.now.words.fixed) R.keeps seat.old.id seat.old.view (Store at word) (R.then seat.old.view (Store at word)) }
@@ -200,6 +217,7 @@ impl<T, R: Rule<T>> Blocks<T, R> {
     }
 
     /// Writes the word of a name, and answers the one before.
+    #[inline(always)]
     pub fn swap(&self, seat: &mut Seat<T, R>, at: At, word: u64) -> u64
         requires own { seat.old.base ≡ self.now.words.id.views_name }
         requires may { Allows (R.holds self.now.words.fixed) R.keeps seat.old.id seat.old.view (Swap at word) (R.then seat.old.view (Swap at word)) }
@@ -211,6 +229,7 @@ impl<T, R: Rule<T>> Blocks<T, R> {
     }
 
     /// Adds to the word of a name, round at 2^64, and answers the one before.
+    #[inline(always)]
     pub fn add(&self, seat: &mut Seat<T, R>, at: At, by: u64) -> u64
         requires own { seat.old.base ≡ self.now.words.id.views_name }
         requires may { Allows (R.holds self.now.words.fixed) R.keeps seat.old.id seat.old.view (Add at by) (R.then seat.old.view (Add at by)) }
@@ -222,6 +241,7 @@ impl<T, R: Rule<T>> Blocks<T, R> {
     }
 
     /// Sets bits of the word of a name, and answers the one before.
+    #[inline(always)]
     pub fn or(&self, seat: &mut Seat<T, R>, at: At, bits: u64) -> u64
         requires own { seat.old.base ≡ self.now.words.id.views_name }
         requires may { Allows (R.holds self.now.words.fixed) R.keeps seat.old.id seat.old.view (Or at bits) (R.then seat.old.view (Or at bits)) }
@@ -233,6 +253,7 @@ impl<T, R: Rule<T>> Blocks<T, R> {
     }
 
     /// Writes a new word where the old one, the whole word, is found, and answers the word found: `Ok` where it was written.
+    #[inline(always)]
     pub fn exchange(&self, seat: &mut Seat<T, R>, at: At, old: u64, new: u64) -> Result<u64, u64>
         requires own { seat.old.base ≡ self.now.words.id.views_name }
         requires may { Allows (R.holds self.now.words.fixed) R.keeps seat.old.id seat.old.view (Exchange at old new) (R.then seat.old.view (Exchange at old new)) }
@@ -266,6 +287,7 @@ impl<T, R: Rule<T>> Blocks<T, R> {
     }
 
     /// Takes a block away, and answers its value. Its number is free from then on.
+    #[inline(always)]
     pub fn take(&self, seat: &mut Seat<T, R>, block: u64) -> T
         requires own { seat.old.base ≡ self.now.words.id.views_name }
         requires may { Allows (R.holds self.now.words.fixed) R.keeps seat.old.id seat.old.view (Take block) (R.then seat.old.view (Take block)) }
@@ -311,6 +333,7 @@ impl<T, R: Rule<T>> Blocks<T, R> {
     }
 
     /// The value of a block that the seat's view shows, for as long as the memory and the seat are borrowed.
+    #[inline(always)]
     pub fn value<'g>(&'g self, seat: &'g Seat<T, R>, block: u64) -> &'g T
         requires own { seat.now.base ≡ self.now.words.id.views_name }
         requires shown { Shown (R.holds self.now.words.fixed) seat.now.id seat.now.view block }
@@ -321,6 +344,7 @@ impl<T, R: Rule<T>> Blocks<T, R> {
 
     /// The value of a block that the views of two seats show together, as that of a guard that holds it and that of who it belongs to, for as long as the
     /// memory and both seats are borrowed.
+    #[inline(always)]
     pub fn value_for<'g>(
         &'g self,
         guard: &'g Seat<T, R>,

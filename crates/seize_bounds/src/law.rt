@@ -1,5 +1,5 @@
 //! What is promised of rows that settle while others run.
-ghost use Rattle.seize_bounds.specs.Bounds.{ListsAreCounted, BatchesAreTried};
+ghost use Rattle.seize_bounds.specs.Bounds.{ListsAreCounted, ListsAreSettled, BatchesAreTried};
 
 use seize::rows::Defers;
 
@@ -9,8 +9,14 @@ pub fn lists_are_counted<T: Defers>()
     ensures counted { ListsAreCounted T.defers }
 {}
 
-/// A block is retired, and a batch tried, within a number of steps of its row, whatever the others do meanwhile, as long as no value keeps a list and
-/// nobody else settles on the slot.
+/// A list that was taken from a slot is counted down, and what values kept that are reclaimed by it is retired, within a number of steps of its row, whatever
+/// the others do meanwhile, as long as nobody else settles on the slot.
+pub fn lists_are_settled<T: Defers>()
+    ensures settled { ListsAreSettled T.defers }
+{}
+
+/// A block is retired, and a batch tried, and what values kept that are reclaimed by it is retired, within a number of steps of its row, whatever the others
+/// do meanwhile, as long as nobody else settles on the slot.
 pub fn batches_are_tried<T: Defers>()
     ensures tried { BatchesAreTried T.defers }
 {}

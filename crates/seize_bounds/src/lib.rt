@@ -3,4 +3,4 @@
 
 mod law;
 
-pub use law::{batches_are_tried, lists_are_counted};
+pub use law::{batches_are_tried, lists_are_counted, lists_are_settled};

@@ -1,6 +1,6 @@
 -- No two rows settle on one slot, since no two seats have one.
 use Rattle.std.specs.Prelude.{Option, Some, None}
-use Rattle.std.proofs.Common.{◌≡◌, ℕ, refl, subst, ap}
+use Rattle.std.proofs.Common.{◌≡◌, ℕ, refl, subst, ap, ◌∙◌}
 use Rattle.seize.specs.World.{World, Row, Use}
 use Rattle.seize.specs.World as world
 use Rattle.seize_acts.specs.Waits.{SettlesOn}
@@ -34,6 +34,13 @@ module _ {T : Type 0} (w : World T) (view : ℕ → Option (View T)) (rows : (j 
       by : (o : Option (View T)) → view j ≡ o → (v : View T) × (a : Use) × (view j ≡ Some v) × (use_of v ≡ Some (s, a))
       by None e = absurd (subst (λ (r : Row). SettlesOn s r) (unborn j e) on)
       by (Some v) e = let k = settles_used v s (subst (λ (r : Row). SettlesOn s r) (rows j v e) on) in (v, k.0, e, k.1)
+
+  -- nor where the row of one goes on, on its slot
+  pub alone_after : (id t : ℕ) (a : Use) (v : View T) → view id ≡ Some v → use_of v ≡ Some (t, a) → (n : World T)
+      → ((s : ℕ) → SettlesOn s (n.row id) → t ≡ s) → ((j : ℕ) → (j ≡ id → ⊥) → n.row j ≡ w.row j) → IsAloneOnSlot id n
+  alone_after id t a v at mine n on same i s ne its other =
+      let b = has_it i s (subst (λ (r : Row). SettlesOn s r) (same i ne) other) in
+      ne (apart i id s b.1 a b.0 v b.2 at b.3 (mine ∙ ap (λ (k : ℕ). Some (k, a)) (on s its)))
 
   pub alone_on_slot : (j : ℕ) → IsAloneOnSlot j w
   alone_on_slot j i s ne mine its =

@@ -1,8 +1,8 @@
 -- Rows begin and end, the rule starts, and seats come.
-use Rattle.std.specs.Prelude.{◌≢◌, ◌==◌, ◌-◌, Option, Some, None, replicate, slice_get, slice_index_or, if◌then◌else◌}
-use Rattle.std.proofs.Common.{◌≡◌, ℕ, zero, suc, Bool, true, false, [], ◌⊎◌, inl, inr, refl, sym, subst, ap, ◌∙◌}
+use Rattle.std.specs.Prelude.{◌≢◌, Option, Some, None, replicate, slice_get}
+use Rattle.std.proofs.Common.{◌≡◌, ℕ, zero, suc, false, [], ◌⊎◌, inl, inr, refl, sym, subst, ap, ◌∙◌}
 use Rattle.std.proofs.lemmas.List.{length-replicate}
-use Rattle.seize_words.specs.Mem.{Mem, Can, Took, value_in, value_at}
+use Rattle.seize_words.specs.Mem.{Mem, Can, Took, value_at}
 use Rattle.seize_words.specs.Plan.{Steps}
 use Rattle.seize_words.specs.Word.{block_in, link_to}
 use Rattle.seize_words.proofs.Plans.{steps_as}
@@ -25,7 +25,7 @@ use Rattle.seize_acts.proofs.Answers.{same_some}
 use Rattle.seize_seats.specs.State.{State, view_of, Turns, Comes, Starts}
 use Rattle.seize_acts.specs.Waits.{SettlesOn}
 use Rattle.seize_shared.specs.Begun.{IsBegun, left_with}
-use Rattle.seize_bounds.specs.Bounds.{IsToTry, IsAloneOnSlot, ArePlain, TriesWithin}
+use Rattle.seize_bounds.specs.Bounds.{IsToTry, IsAloneOnSlot, TriesWithin}
 use Rattle.seize_shared.specs.Rows.{row_of, use_of, used_for, leave_of, counting, IsShort, IsUsed, IsKnown, Fits, Came, IsBounded, Holds, Keeps}
 use Rattle.seize_shared.specs.Promises.{IsNext, IsFree, RulesStart, SeatsCome, RowsTurn, SettlingsBegin}
 use Rattle.seize_shared.specs.declared.view.View.{View}
@@ -37,11 +37,12 @@ use Rattle.seize_shared.specs.declared.view.Has.TheVariants.{Nothing, Made, Seen
 use Rattle.seize_shared.specs.declared.view.Why.TheVariants.{Retiring, Ending}
 use Rattle.seize_shared.specs.declared.view.Fixed.{Fixed}
 use Rattle.seize_shared.proofs.Lists.{with_last, none_before}
-use Rattle.seize_shared.proofs.Aside.{has_it}
+use Rattle.seize_shared.proofs.Aside.{alone_after}
 use Rattle.seize_shared.proofs.Moved.{moved, used_so}
-use Rattle.seize_shared.proofs.Steps.{alone, begun, came_then, stepped, world_plain}
+use Rattle.seize_shared.proofs.Came.{came_then}
+use Rattle.seize_shared.proofs.Steps.{alone, begun, stepped}
 use Rattle.seize_shared.proofs.Operations.{used_as, slot_of, same_slot}
-use Rattle.seize_bounds.proofs.Tries.Within.{batches_are_tried}
+use Rattle.seize_bounds.proofs.Settles.Within.{batches_are_tried}
 
 not_making_cutting : (j i : ℕ) → world.Making j ≡ world.Cutting i → ⊥
 not_making_cutting j i e = cc e
@@ -118,7 +119,7 @@ module _ {T : Type 0} (defers : T → Option ℕ) (fixed : Fixed) where
       (λ s h. begun_fits id t (Frees t) (world.Frees record { slot = t }) s refl refl tt (λ w. tt)) (λ w. tt)
 
   -- the section ends, or the next one begins at once
-  leaves : (id t : ℕ) (has : Has) (way : Becomes) → Turns H Keeps id (Inside t has) (λ x. x ≡ Leaves t fixed.batch_size way)
+  leaves : (id t : ℕ) (has : Has T) (way : Becomes) → Turns H Keeps id (Inside t has) (λ x. x ≡ Leaves t fixed.batch_size way)
   leaves id t has Idle =
       let c : Leave = leave_of t fixed.batch_size Idle in
       begins_on id t (Inside t has) (Leaves t fixed.batch_size Idle) (world.Inside 0) (world.Leaves c) (Leave' t) refl refl refl refl (λ s e. (e, refl))
@@ -131,15 +132,13 @@ module _ {T : Type 0} (defers : T → Option ℕ) (fixed : Fixed) where
   -- a settling that begins on the slot of a seat takes so many steps
   settles_within : (s : State T (View T) (World T)) → H s → (id t : ℕ) (v : View T) (a : Use) → view_of s id ≡ Some v → use_of v ≡ used_as t a
       → (c : Settle) (n : World T) → c.slot ≡ t → IsToTry fixed.batch_size c → Came defers fixed n → n.row id ≡ world.Settles c
-      → ((j : ℕ) → j ≢ id → n.row j ≡ s.world.row j) → ArePlain defers n.memory → (k : ℕ) × TriesWithin defers fixed.batch_size id k n
-  settles_within s h id t v a at_id mine c n on to came row rows plain =
-      batches_are_tried defers fixed.batch_size fixed.roots came.0 n came.1 plain id c alone to row
+      → ((j : ℕ) → j ≢ id → n.row j ≡ s.world.row j) → (k : ℕ) × TriesWithin defers fixed.batch_size id k n
+  settles_within s h id t v a at_id mine c n on to came row rows =
+      batches_are_tried defers fixed.batch_size fixed.roots came.0 n came.1 id c alone to row
     where
       alone : IsAloneOnSlot id n
-      alone i slot ne its other =
-          let p : c.slot ≡ slot = subst (λ (r : Row). SettlesOn slot r) row its in
-          let b = has_it s.world (view_of s) (λ j x e. (h.seats j x e).row) h.unborn h.apart i slot (subst (λ (r : Row). SettlesOn slot r) (rows i ne) other) in
-          ne (h.apart i id slot b.1 a b.0 v b.2 at_id b.3 (mine ∙ ap (λ (k : ℕ). used_as k a) (sym on ∙ p)))
+      alone = alone_after s.world (view_of s) (λ j x e. (h.seats j x e).row) h.unborn h.apart id t a v at_id mine n
+          (λ slot its. sym on ∙ subst (λ (r : Row). SettlesOn slot r) row its) rows
 
   -- how a slot is used on which no row works
   abbrev resting : Becomes → Use
@@ -167,7 +166,7 @@ module _ {T : Type 0} (defers : T → Option ℕ) (fixed : Fixed) where
       (f.row ∙ rests, (subst (λ (a : Use). IsTaken a) (sym slot) (resting_taken way), (id, cut), refl)) in
       let k = settles_within s h id t v (resting way) at_id mine c n refl (inl (t, link_to b, refl))
       (came_then defers fixed s.world n (Begin id (Retire t b)) h.came happens) (with_here s.world.row id (world.Settles c))
-      (λ j ne. with_other s.world.row id j (world.Settles c) ne) (world_plain defers fixed s id v h at_id) in
+      (λ j ne. with_other s.world.row id j (world.Settles c) ne) in
       let u : View T = Settles c (Retiring way) None k.0 in
       moved defers fixed s id v u s.memory n (IsBegun way c) h at_id
       (begun defers fixed s id v h at_id (Retire t b) u n happens refl refl
@@ -200,7 +199,7 @@ module _ {T : Type 0} (defers : T → Option ℕ) (fixed : Fixed) where
       (f.row ∙ rests, (subst (λ (a : Use). IsTaken a) (sym slot) (resting_taken way), refl)) in
       let k = settles_within s h id t v (resting way) at_id mine c n refl (inr (t, refl))
       (came_then defers fixed s.world n (Begin id (Flush t)) h.came happens) (with_here s.world.row id (world.Settles c))
-      (λ j ne. with_other s.world.row id j (world.Settles c) ne) (world_plain defers fixed s id v h at_id) in
+      (λ j ne. with_other s.world.row id j (world.Settles c) ne) in
       let u : View T = Settles c (Retiring way) None k.0 in
       moved defers fixed s id v u s.memory n (IsBegun way c) h at_id
       (begun defers fixed s id v h at_id (Flush t) u n happens refl refl
@@ -217,7 +216,7 @@ module _ {T : Type 0} (defers : T → Option ℕ) (fixed : Fixed) where
       (λ x a e. (resting way, mine ∙ ap (λ (k : ℕ). used_as k (resting way)) (slot_of (t, used_for (Retiring way)) (x, a) e))) k.1)
       (k.0, refl)
 
-  goes_free : (id t : ℕ) (has : Has) (u : View T) → IsFree fixed t u → Turns H Keeps id (Inside t has) (λ x. x ≡ u)
+  goes_free : (id t : ℕ) (has : Has T) (u : View T) → IsFree fixed t u → Turns H Keeps id (Inside t has) (λ x. x ≡ u)
   goes_free id t has u is = subst (λ (y : View T). Turns H Keeps id (Inside t has) (λ x. x ≡ y)) (sym is.1) (leaves id t has is.0)
 
   -- a slot is looked for
@@ -316,8 +315,8 @@ module _ {T : Type 0} (defers : T → Option ℕ) (fixed : Fixed) where
   turns id (Inside t Nothing) u is = goes_free id t Nothing u is
   turns id (Inside t (Seen b)) u is = goes_free id t (Seen b) u is
   turns id (Inside t (Cut b)) u is = absurd is
-  turns id (Inside t (Made b)) u is = absurd is
-  turns id (Inside t (Both b a)) u is = absurd is
+  turns id (Inside t (Made b x)) u is = absurd is
+  turns id (Inside t (Both b x a)) u is = absurd is
   turns id (Owes t b) u is = absurd is
   turns id (Settles c (Retiring way) seen left) u is = settled_ends id c way seen left u is.0 is.1
   turns id (Settles c (Ending size way) seen left) u is =
@@ -338,7 +337,6 @@ module _ {T : Type 0} (defers : T → Option ℕ) (fixed : Fixed) where
       apart = λ j k t a b x y e f p q. two j k t a b x y p q (with_last s.views j Rests x e) (with_last s.views k Rests y f);
       roots = h.roots;
       rooted = h.rooted;
-      plain = h.plain;
       bounded = λ j x e. bound j x (with_last s.views j Rests x e);
     },
     λ b u o keeps. keeps,
@@ -373,14 +371,9 @@ module _ {T : Type 0} (defers : T → Option ℕ) (fixed : Fixed) where
       apart = λ j k t a b v u e f p q. absurd (cc e);
       roots = λ r word e. inl (ap block_in (sym (zeros fixed.roots r word e)));
       rooted = length-replicate fixed.roots 0;
-      plain = λ b x e. nothing (b == 0) b x e;
       bounded = λ j v e. absurd (cc e);
     },
   )
-    where
-      nothing : (y : Bool) (b : ℕ) (x : T) → value_in (if y then None else slice_index_or [] (b - 1) None) ≡ Some x → defers x ≡ None
-      nothing true b x e = absurd (cc e)
-      nothing false b x e = absurd (cc e)
 
 module _ (T : Type 0) (defers : T → Option ℕ) where
   pub rules_start : RulesStart T defers
@@ -411,8 +404,8 @@ module _ (T : Type 0) (defers : T → Option ℕ) where
   settlings_begin fixed id (Inside t (Cut b)) Idle c is = absurd is
   settlings_begin fixed id (Inside t Nothing) Idle c is = absurd is
   settlings_begin fixed id (Inside t (Seen b)) Idle c is = absurd is
-  settlings_begin fixed id (Inside t (Made b)) way c is = absurd is
-  settlings_begin fixed id (Inside t (Both b a)) way c is = absurd is
+  settlings_begin fixed id (Inside t (Made b x)) way c is = absurd is
+  settlings_begin fixed id (Inside t (Both b x a)) way c is = absurd is
   settlings_begin fixed id (Owes t b) Active c is = absurd is
   settlings_begin fixed id (Outside t) Active c is = absurd is
   settlings_begin fixed id Rests way c is = absurd is

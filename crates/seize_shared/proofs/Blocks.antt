@@ -1,6 +1,6 @@
 -- Within a section a block is made, looked at, and taken away.
 use Rattle.std.specs.Prelude.{◌≢◌, ◌<◌, ◌^◌, Option, Some, None, IsSome, Ok, Err, length}
-use Rattle.std.proofs.Common.{◌≡◌, ℕ, Bool, true, false, cond, eqb, ◌⊎◌, inl, inr, refl, sym, subst, ap, ◌∙◌}
+use Rattle.std.proofs.Common.{◌≡◌, ℕ, true, ◌⊎◌, inl, inr, refl, sym, subst, ap, ◌∙◌}
 use Rattle.std.proofs.lemmas.Bool.{cases_eq}
 use Rattle.seize_words.specs.Mem.{Mem, Took, value_at}
 use Rattle.seize_words.specs.Op.{Op, Out, Make, Take, Found, Stored, Exchanged, Made as OutMade, Taken, Roomed}
@@ -14,10 +14,8 @@ use Rattle.seize_rule.proofs.World.Values.{taken_value, made_value}
 use Rattle.seize_alone.specs.Alone.{IsOfUsers}
 use Rattle.seize_alone.proofs.Histories.Reached.{Reached}
 use Rattle.seize_alone.proofs.Histories.NotTaken.{IsHad, IsHeld, kept_there}
-use Rattle.seize_acts.proofs.Answers.{same_some}
 use Rattle.seize_seats.specs.State.{State, view_of, Goes}
-use Rattle.seize_bounds.specs.Bounds.{ArePlain}
-use Rattle.seize_shared.specs.Rows.{IsInHand, Fits, Holds, Keeps}
+use Rattle.seize_shared.specs.Rows.{IsMade, IsInHand, Fits, Holds, Keeps}
 use Rattle.seize_shared.specs.Told.{told}
 use Rattle.seize_shared.specs.Promises.{Names, BlocksAreMade, MadeAreTaken, KnownAreShown}
 use Rattle.seize.specs.Law.{holds}
@@ -26,7 +24,8 @@ use Rattle.seize_shared.specs.declared.view.View.TheVariants.{Inside}
 use Rattle.seize_shared.specs.declared.view.Has.{Has}
 use Rattle.seize_shared.specs.declared.view.Has.TheVariants.{Nothing, Made, Seen, Both, Cut}
 use Rattle.seize_shared.specs.declared.view.Fixed.{Fixed}
-use Rattle.seize_shared.proofs.Steps.{came_then, of_users, reached, roots_kept, world_roots, world_rooted, world_plain}
+use Rattle.seize_shared.proofs.Came.{of_users, reached, came_then}
+use Rattle.seize_shared.proofs.Steps.{roots_kept, world_roots, world_rooted}
 use Rattle.seize_shared.proofs.Users.{apart_making, cutting_making, use_making, beside, same_hand, world_took, making_not_held, passes_one, users}
 
 module _ {T : Type 0} (defers : T → Option ℕ) where
@@ -42,7 +41,7 @@ module _ {T : Type 0} (defers : T → Option ℕ) where
       let none = taken_none m b x m2 took in let there = subst (λ (a : ℕ). IsSome (value_at m2 a)) e some in absurd (cc (there, none))
   value_left m b c x m2 took some (inr ne) = taken_value defers m c b (Taken x) m2 took ne
 
-module _ {T : Type 0} (defers : T → Option ℕ) (fixed : Fixed) (s : State T (View T) (World T)) (id t : ℕ) (had : Has) (h : Holds defers fixed s)
+module _ {T : Type 0} (defers : T → Option ℕ) (fixed : Fixed) (s : State T (View T) (World T)) (id t : ℕ) (had : Has T) (h : Holds defers fixed s)
     (at : view_of s id ≡ Some (Inside t had)) where
   abbrev w : World T
   w = s.world
@@ -61,27 +60,15 @@ module _ {T : Type 0} (defers : T → Option ℕ) (fixed : Fixed) (s : State T (
   free_hand b k of none e =
       let some = kept_there defers fixed.batch_size w r b (IsHad (of_users w.hand b k of (sym e))) in cc (some, none)
 
-  -- no value keeps a list: where the memory is the same, a value comes that keeps none, or one goes
-
-  plain_same : (m : Mem T) → m ≡ w.memory → ArePlain defers m
-  plain_same m is = subst (λ (x : Mem T). ArePlain defers x) (sym is) (world_plain defers fixed s id (Inside t had) h at)
-
-  plain_made : (b : ℕ) (value : T) (words : ℕ) (m : Mem T) → defers value ≡ None → Took w.memory (Make value words) (OutMade (Ok b)) m → ArePlain defers m
-  plain_made b value words m list took c x e =
-      by (eqb c b) (sym (ap (λ (k : Mem T). value_at k c) took.1 ∙ ap (λ (f : ℕ → Option T). f c) (made_one w.memory value words b took.0.0).values) ∙ e)
-    where
-      by : (y : Bool) → cond y (Some value) (value_at w.memory c) ≡ Some x → defers x ≡ None
-      by true is = ap defers (sym (same_some value x is)) ∙ list
-      by false is = world_plain defers fixed s id (Inside t had) h at c x is
-
-  plain_left : (b : ℕ) (value : T) (m : Mem T) → Took w.memory (Take b) (Taken value) m → ArePlain defers m
-  plain_left b value m took c x e =
-      world_plain defers fixed s id (Inside t had) h at c x (sym (value_left defers w.memory b c value m took (subst IsSome (sym e) refl) (cases_eq c b)) ∙ e)
-
   -- a block is made, beside what the seat knew
 
-  makes : (value : T) (words : ℕ) → defers value ≡ None → (after : ℕ → Has)
-      → ((b : ℕ) (n : World T) → n.hand b ≡ world.Making id → ((c : ℕ) → holds t c w.log ≡ true → holds t c n.log ≡ true) → IsInHand n id t (after b))
+  made_value_of : (value : T) (words b : ℕ) (m : Mem T) → Took w.memory (Make value words) (OutMade (Ok b)) m → value_at m b ≡ Some value
+  made_value_of value words b m took =
+      ap (λ (k : Mem T). value_at k b) took.1 ∙ ap (λ (f : ℕ → Option T). f b) (made_one w.memory value words b took.0.0).values
+      ∙ with_here (value_at w.memory) b (Some value)
+
+  makes : (value : T) (words : ℕ) → HasListWord defers (defers value) words → (after : ℕ → Has T)
+      → ((b : ℕ) (n : World T) → IsMade n id b value → ((c : ℕ) → holds t c w.log ≡ true → holds t c n.log ≡ true) → IsInHand n id t (after b))
       → (so : Out T → View T → Type 0) → ((b : ℕ) → b < 2 ^ 53 → so (OutMade (Ok b)) (Inside t (after b)))
       → ((back : T) → back ≡ value → so (OutMade (Err back)) (Inside t had)) → (out : Out T) (m : Mem T) → Took s.memory (Make value words) out m
       → Goes H Keeps s m id (so out)
@@ -93,11 +80,11 @@ module _ {T : Type 0} (defers : T → Option ℕ) (fixed : Fixed) (s : State T (
       users defers fixed s id t h had at m n (after b) (record {
         came =
             came_then defers fixed w n (Makes id value words) h.came
-            (out, m, subst (λ (o : Option ℕ). HasListWord defers o words) (sym list) tt, here, refl);
+            (out, m, list, here, refl);
         memory = refl;
         row = refl;
         uses = refl;
-        in_hand = hand b n (with_here w.hand b (world.Making id)) (λ c held. held);
+        in_hand = hand b n (with_here w.hand b (world.Making id), made_value_of value words b m here) (λ c held. held);
         hands = λ j c ne. (
           λ is. beside w b c (world.Making id) (world.Making j) (λ e. free_hand b (world.Making j) tt free e) is,
           λ is. beside w b c (world.Making id) (world.Cutting j) (λ e. free_hand b (world.Cutting j) tt free e) is,
@@ -109,9 +96,8 @@ module _ {T : Type 0} (defers : T → Option ℕ) (fixed : Fixed) (s : State T (
             (λ c a is. beside w b c (world.Making id) (world.InUse a) (λ e. free_hand b (world.InUse a) tt free e) is)
             (world_roots defers fixed s id (Inside t had) h at);
         rooted = ap (λ (x : Mem T). length x.roots) here.1 ∙ world_rooted defers fixed s id (Inside t had) h at;
-        plain = plain_made b value words m list here;
         passes = passes_one defers fixed s id t (Makes id value words) n (λ j. tt)
-            (out, m, subst (λ (o : Option ℕ). HasListWord defers o words) (sym list) tt, here, refl) (plain_made b value words m list here);
+            (out, m, list, here, refl);
       }) (so out) (tells b took.0.1)
   makes value words list after hand so tells refused (OutMade (Err back)) m took =
       let op : Op T = Make value words in let out : Out T = OutMade (Err back) in
@@ -120,20 +106,19 @@ module _ {T : Type 0} (defers : T → Option ℕ) (fixed : Fixed) (s : State T (
       users defers fixed s id t h had at m n had (record {
         came =
             came_then defers fixed w n (Makes id value words) h.came
-            (out, m, subst (λ (o : Option ℕ). HasListWord defers o words) (sym list) tt, here, refl);
+            (out, m, list, here, refl);
         memory = refl;
         row = refl;
         uses = refl;
-        in_hand = same_hand w n id t refl (λ c held. held) had fit.known;
+        in_hand = same_hand w n id t refl here.1 (λ c held. held) had fit.known;
         hands = λ j c ne. (λ is. is, λ is. is);
         values = λ c some some2. made_value defers w.memory c value words out m some here;
         held = λ a c held. held;
         over = λ a c held. refl;
         roots = roots_kept w.memory m w.hand n.hand (ap (λ (x : Mem T). x.roots) here.1) (λ c a is. is) (world_roots defers fixed s id (Inside t had) h at);
         rooted = ap (λ (x : Mem T). length x.roots) here.1 ∙ world_rooted defers fixed s id (Inside t had) h at;
-        plain = plain_same m here.1;
         passes = passes_one defers fixed s id t (Makes id value words) n (λ j. tt)
-            (out, m, subst (λ (o : Option ℕ). HasListWord defers o words) (sym list) tt, here, refl) (plain_same m here.1);
+            (out, m, list, here, refl);
       }) (so out) (refused back took.0)
   makes value words list after hand so tells refused (Found x) m took = absurd took.0
   makes value words list after hand so tells refused Stored m took = absurd took.0
@@ -143,14 +128,14 @@ module _ {T : Type 0} (defers : T → Option ℕ) (fixed : Fixed) (s : State T (
 
   -- the block that is known is there
 
-  known_there : (has : Has) (b : ℕ) → IsInHand w id t has → Names has b → IsSome (value_at w.memory b)
+  known_there : (has : Has T) (b : ℕ) → IsInHand w id t has → Names has b → IsSome (value_at w.memory b)
   known_there Nothing b is names = absurd names
-  known_there (Made c) b is names =
-      subst (λ (a : ℕ). IsSome (value_at w.memory a)) names (kept_there defers fixed.batch_size w r c (IsHad (of_users w.hand c (world.Making id) tt is)))
+  known_there (Made c x) b is names =
+      subst (λ (a : ℕ). IsSome (value_at w.memory a)) names (kept_there defers fixed.batch_size w r c (IsHad (of_users w.hand c (world.Making id) tt is.0)))
   known_there (Seen c) b is names = subst (λ (a : ℕ). IsSome (value_at w.memory a)) names (kept_there defers fixed.batch_size w r c (IsHeld t is))
-  known_there (Both c a) b is (inl names) =
-      subst (λ (k : ℕ). IsSome (value_at w.memory k)) names (kept_there defers fixed.batch_size w r c (IsHad (of_users w.hand c (world.Making id) tt is.0)))
-  known_there (Both c a) b is (inr names) = subst (λ (k : ℕ). IsSome (value_at w.memory k)) names (kept_there defers fixed.batch_size w r a (IsHeld t is.1))
+  known_there (Both c x a) b is (inl names) =
+      subst (λ (k : ℕ). IsSome (value_at w.memory k)) names (kept_there defers fixed.batch_size w r c (IsHad (of_users w.hand c (world.Making id) tt is.0.0)))
+  known_there (Both c x a) b is (inr names) = subst (λ (k : ℕ). IsSome (value_at w.memory k)) names (kept_there defers fixed.batch_size w r a (IsHeld t is.1))
   known_there (Cut c) b is names =
       subst (λ (a : ℕ). IsSome (value_at w.memory a)) names (kept_there defers fixed.batch_size w r c (IsHad (of_users w.hand c (world.Cutting id) tt is)))
 
@@ -159,11 +144,13 @@ module _ {T : Type 0} (defers : T → Option ℕ) (fixed : Fixed) (s : State T (
 
   -- the block that was made is taken away, and the seat knows what it knew beside
 
-  takes : (b : ℕ) → w.hand b ≡ world.Making id → (after : Has)
+  takes : (b : ℕ) (x : T) → IsMade w id b x → (after : Has T)
       → ((n : World T) → ((c : ℕ) → holds t c w.log ≡ true → holds t c n.log ≡ true) → IsInHand n id t after)
-      → (so : Out T → View T → Type 0) → ((value : T) → so (Taken value) (Inside t after)) → (out : Out T) (m : Mem T) → Took s.memory (Take b) out m
+      → (so : Out T → View T → Type 0) → ((value : T) → value ≡ x → so (Taken value) (Inside t after)) → (out : Out T) (m : Mem T)
+      → Took s.memory (Take b) out m
       → Goes H Keeps s m id (so out)
-  takes b mine after hand so tells (Taken value) m took =
+  takes b x made after hand so tells (Taken value) m took =
+      let mine = made.0 in
       let op : Op T = Take b in let out : Out T = Taken value in
       let n : World T = with_effect (with_hand (record w { memory = m }) b world.NoBlock) (Dropped b) in
       let here = world_took s h.memory op out m took in
@@ -183,43 +170,43 @@ module _ {T : Type 0} (defers : T → Option ℕ) (fixed : Fixed) (s : State T (
         roots = roots_kept w.memory m w.hand n.hand (ap (λ (x : Mem T). x.roots) here.1)
             (λ c a had. beside w b c world.NoBlock (world.InUse a) (λ e. use_making a id (e ∙ mine)) had) (world_roots defers fixed s id (Inside t had) h at);
         rooted = ap (λ (x : Mem T). length x.roots) here.1 ∙ world_rooted defers fixed s id (Inside t had) h at;
-        plain = plain_left b value m here;
-        passes = passes_one defers fixed s id t (Drops id b) n (λ j. tt) (out, m, (id, mine), here, refl) (plain_left b value m here);
-      }) (so out) (tells value)
-  takes b mine after hand so tells (Found x) m took = absurd took.0
-  takes b mine after hand so tells Stored m took = absurd took.0
-  takes b mine after hand so tells (Exchanged x) m took = absurd took.0
-  takes b mine after hand so tells (OutMade x) m took = absurd took.0
-  takes b mine after hand so tells (Roomed x) m took = absurd took.0
+        passes = passes_one defers fixed s id t (Drops id b) n (λ j. tt) (out, m, (id, mine), here, refl);
+      }) (so out) (tells value (same_some value x (sym here.0 ∙ made.1)))
+  takes b x made after hand so tells (Found y) m took = absurd took.0
+  takes b x made after hand so tells Stored m took = absurd took.0
+  takes b x made after hand so tells (Exchanged y) m took = absurd took.0
+  takes b x made after hand so tells (OutMade y) m took = absurd took.0
+  takes b x made after hand so tells (Roomed y) m took = absurd took.0
 
 module _ (T : Type 0) (defers : T → Option ℕ) where
   pub blocks_are_made : BlocksAreMade T defers
   blocks_are_made Nothing value words looks list fixed id t s h at = (
     tt,
-    makes defers fixed s id t Nothing h at value words list Made (λ b n mine held. mine) (told defers (Inside t Nothing) (Make value words))
-        (λ b lt. (Made b, (lt, refl), refl)) (λ back same. (Nothing, (same, refl), refl)),
+    makes defers fixed s id t Nothing h at value words list (λ b. Made b value) (λ b n made held. made) (told defers (Inside t Nothing) (Make value words))
+        (λ b lt. (Made b value, (lt, refl), refl)) (λ back same. (Nothing, (same, refl), refl)),
   )
   blocks_are_made (Seen a) value words looks list fixed id t s h at = (
     tt,
-    makes defers fixed s id t (Seen a) h at value words list (λ b. Both b a) (λ b n mine held. (mine, held a (h.seats id (Inside t (Seen a)) at).known))
-        (told defers (Inside t (Seen a)) (Make value words)) (λ b lt. (Both b a, (lt, refl), refl)) (λ back same. (Seen a, (same, refl), refl)),
+    makes defers fixed s id t (Seen a) h at value words list (λ b. Both b value a) (λ b n made held. (made, held a (h.seats id (Inside t (Seen a)) at).known))
+        (told defers (Inside t (Seen a)) (Make value words)) (λ b lt. (Both b value a, (lt, refl), refl)) (λ back same. (Seen a, (same, refl), refl)),
   )
-  blocks_are_made (Made b) value words looks list fixed id t s h at = absurd looks
-  blocks_are_made (Both b a) value words looks list fixed id t s h at = absurd looks
+  blocks_are_made (Made b x) value words looks list fixed id t s h at = absurd looks
+  blocks_are_made (Both b x a) value words looks list fixed id t s h at = absurd looks
   blocks_are_made (Cut b) value words looks list fixed id t s h at = absurd looks
 
   pub made_are_taken : MadeAreTaken T defers
-  made_are_taken (Made c) b is fixed id t s h at =
-      let mine = subst (λ (k : ℕ). s.world.hand k ≡ world.Making id) is (h.seats id (Inside t (Made c)) at).known in (
-        shown defers fixed s id t (Made c) h at b is,
-        takes defers fixed s id t (Made c) h at b mine Nothing (λ n held. tt) (told defers (Inside t (Made c)) (Take b)) (λ value. (Nothing, refl, refl)),
+  made_are_taken (Made c x) b is fixed id t s h at =
+      let made = subst (λ (k : ℕ). IsMade s.world id k x) is (h.seats id (Inside t (Made c x)) at).known in (
+        shown defers fixed s id t (Made c x) h at b is,
+        takes defers fixed s id t (Made c x) h at b x made Nothing (λ n held. tt) (told defers (Inside t (Made c x)) (Take b))
+            (λ value same. (Nothing, (same, refl), refl)),
       )
-  made_are_taken (Both c a) b is fixed id t s h at =
-      let known = (h.seats id (Inside t (Both c a)) at).known in
-      let mine = subst (λ (k : ℕ). s.world.hand k ≡ world.Making id) is known.0 in (
-        shown defers fixed s id t (Both c a) h at b (inl is),
-        takes defers fixed s id t (Both c a) h at b mine (Seen a) (λ n held. held a known.1) (told defers (Inside t (Both c a)) (Take b))
-            (λ value. (Seen a, refl, refl)),
+  made_are_taken (Both c x a) b is fixed id t s h at =
+      let known = (h.seats id (Inside t (Both c x a)) at).known in
+      let made = subst (λ (k : ℕ). IsMade s.world id k x) is known.0 in (
+        shown defers fixed s id t (Both c x a) h at b (inl is),
+        takes defers fixed s id t (Both c x a) h at b x made (Seen a) (λ n held. held a known.1) (told defers (Inside t (Both c x a)) (Take b))
+            (λ value same. (Seen a, (same, refl), refl)),
       )
   made_are_taken Nothing b is fixed id t s h at = absurd is
   made_are_taken (Seen a) b is fixed id t s h at = absurd is

@@ -8,6 +8,7 @@ use Rattle.seize_words.specs.declared.at.At.TheVariants.{Root, Slot}
 use Rattle.seize.specs.declared.states.TheConstants.{HEAD, ACTIVE}
 use Rattle.seize.specs.declared.rows.settle.Settle.{Settle}
 use Rattle.seize.specs.Settle.{retiring, flushing, counting_down}
+use Rattle.seize.specs.World.{HasListWord}
 use Rattle.seize_seats.specs.Lendings.{Shown}
 use Rattle.seize_seats.specs.State.{Allows, Turns}
 use Rattle.seize_shared.specs.Begun.{leaving, refreshes, IsBegun, Retires, Flushes, Makes}
@@ -55,14 +56,14 @@ module _ {T : Type 0} (defers : T → Option ℕ) (fixed : Fixed) (id : ℕ) (v 
       subst (λ (x : View T). Turns (Holds defers fixed) Keeps id x (Retires fixed x)) (sym is)
       (settlings_begin T defers fixed id (Owes slot b) Idle (retiring slot fixed.batch_size (link_to b)) refl)
 
-  flushes_by : (has : Has) → IsLooking has → Turns (Holds defers fixed) Keeps id (Inside slot has) (Flushes fixed (Inside slot has))
+  flushes_by : (has : Has T) → IsLooking has → Turns (Holds defers fixed) Keeps id (Inside slot has) (Flushes fixed (Inside slot has))
   flushes_by Nothing looks = settlings_begin T defers fixed id (Inside slot Nothing) Active (flushing slot fixed.batch_size) refl
   flushes_by (Seen b) looks = settlings_begin T defers fixed id (Inside slot (Seen b)) Active (flushing slot fixed.batch_size) refl
-  flushes_by (Made b) looks = absurd looks
-  flushes_by (Both b a) looks = absurd looks
+  flushes_by (Made b x) looks = absurd looks
+  flushes_by (Both b x a) looks = absurd looks
   flushes_by (Cut b) looks = absurd looks
 
-  pub may_flush : (has : Has) → IsLooking has → v ≡ Inside slot has → Turns (Holds defers fixed) Keeps id v (Flushes fixed v)
+  pub may_flush : (has : Has T) → IsLooking has → v ≡ Inside slot has → Turns (Holds defers fixed) Keeps id v (Flushes fixed v)
   may_flush has looks is = subst (λ (x : View T). Turns (Holds defers fixed) Keeps id x (Flushes fixed x)) (sym is) (flushes_by has looks)
 
   pub may_flush_idle : v ≡ Outside slot → Turns (Holds defers fixed) Keeps id v (Flushes fixed v)
@@ -85,14 +86,14 @@ module _ {T : Type 0} (fixed : Fixed) (v u : View T) (slot : ℕ) where
   retires_idle_told b row is so same =
       begun_by Idle (retiring slot fixed.batch_size (link_to b)) row (subst (λ (x : View T). Retires fixed x u) is so) same
 
-  flushes_so : (has : Has) → IsLooking has → Flushes fixed (Inside slot has) u → IsBegun Active (flushing slot fixed.batch_size) u
+  flushes_so : (has : Has T) → IsLooking has → Flushes fixed (Inside slot has) u → IsBegun Active (flushing slot fixed.batch_size) u
   flushes_so Nothing looks so = so
   flushes_so (Seen b) looks so = so
-  flushes_so (Made b) looks so = absurd looks
-  flushes_so (Both b a) looks so = absurd looks
+  flushes_so (Made b x) looks so = absurd looks
+  flushes_so (Both b x a) looks so = absurd looks
   flushes_so (Cut b) looks so = absurd looks
 
-  pub flushes_told : (has : Has) (row : Settle) → IsLooking has → v ≡ Inside slot has → Flushes fixed v u → row ≡ flushing slot fixed.batch_size
+  pub flushes_told : (has : Has T) (row : Settle) → IsLooking has → v ≡ Inside slot has → Flushes fixed v u → row ≡ flushing slot fixed.batch_size
       → IsBegun Active row u
   flushes_told has row looks is so same =
       begun_by Active (flushing slot fixed.batch_size) row (flushes_so has looks (subst (λ (x : View T). Flushes fixed x u) is so)) same
@@ -111,41 +112,42 @@ module _ {T : Type 0} (defers : T → Option ℕ) (fixed : Fixed) (id : ℕ) (v 
   by_view : (w : View T) (op : Op T) → v ≡ w → Allows (Holds defers fixed) Keeps id w op (told defers w op) → MayMake op
   by_view w op is may = subst (λ (x : View T). Allows (Holds defers fixed) Keeps id x op (told defers x op)) (sym is) may
 
-  pub may_make : v ≡ Inside slot Nothing → (value : T) → defers value ≡ None → MayMake (Make value 0)
-  may_make is value list = by_view (Inside slot Nothing) (Make value 0) is (blocks_are_made T defers Nothing value 0 tt list fixed id slot)
+  pub may_make : v ≡ Inside slot Nothing → (value : T) (words : ℕ) → HasListWord defers (defers value) words → MayMake (Make value words)
+  may_make is value words list = by_view (Inside slot Nothing) (Make value words) is (blocks_are_made T defers Nothing value words tt list fixed id slot)
 
-  pub may_take : (b : ℕ) → v ≡ Inside slot (Made b) → MayMake (Take b)
-  may_take b is = by_view (Inside slot (Made b)) (Take b) is (made_are_taken T defers (Made b) b refl fixed id slot)
+  pub may_take : (b : ℕ) (x : T) → v ≡ Inside slot (Made b x) → MayMake (Take b)
+  may_take b x is = by_view (Inside slot (Made b x)) (Take b) is (made_are_taken T defers (Made b x) b refl fixed id slot)
 
   -- beside a block that was seen, or none
 
-  is_looking : (a : ℕ) (y : Bool) → IsLooking (if y then Nothing else Seen a)
+  is_looking : (a : ℕ) (y : Bool) → IsLooking {T = T} (if y then Nothing else Seen a)
   is_looking a true = tt
   is_looking a false = tt
 
-  pub may_make_beside : (a : ℕ) → v ≡ Inside slot (seen_as a) → (value : T) → defers value ≡ None → MayMake (Make value 0)
-  may_make_beside a is value list =
-      by_view (Inside slot (seen_as a)) (Make value 0) is (blocks_are_made T defers (seen_as a) value 0 (is_looking a (a == 0)) list fixed id slot)
+  pub may_make_beside : (a : ℕ) → v ≡ Inside slot (seen_as a) → (value : T) (words : ℕ) → HasListWord defers (defers value) words → MayMake (Make value words)
+  may_make_beside a is value words list =
+      by_view (Inside slot (seen_as a)) (Make value words) is (blocks_are_made T defers (seen_as a) value words (is_looking a (a == 0)) list fixed id slot)
 
-  has_made : (b a : ℕ) (y : Bool) → HasMade (if y then Made b else Both b a) b
-  has_made b a true = refl
-  has_made b a false = refl
+  has_made : (b : ℕ) (x : T) (a : ℕ) (y : Bool) → HasMade (if y then Made b x else Both b x a) b
+  has_made b x a true = refl
+  has_made b x a false = refl
 
-  pub may_take_beside : (b a : ℕ) → v ≡ Inside slot (made_beside b a) → MayMake (Take b)
-  may_take_beside b a is =
-      by_view (Inside slot (made_beside b a)) (Take b) is (made_are_taken T defers (made_beside b a) b (has_made b a (a == 0)) fixed id slot)
+  pub may_take_beside : (b : ℕ) (x : T) (a : ℕ) → v ≡ Inside slot (made_beside b x a) → MayMake (Take b)
+  may_take_beside b x a is =
+      by_view (Inside slot (made_beside b x a)) (Take b) is (made_are_taken T defers (made_beside b x a) b (has_made b x a (a == 0)) fixed id slot)
 
-  pub may_exchange : (b a r old word : ℕ) → v ≡ Inside slot (made_beside b a) → r < fixed.roots → b < 2 ^ 53 → word ≡ link_to b % 2 ^ 64
+  pub may_exchange : (b : ℕ) (x : T) (a r old word : ℕ) → v ≡ Inside slot (made_beside b x a) → r < fixed.roots → b < 2 ^ 53 → word ≡ link_to b % 2 ^ 64
       → MayMake (Exchange (Root r) old word)
-  may_exchange b a r old word is lt fits link =
+  may_exchange b x a r old word is lt fits link =
       subst (λ (w : ℕ). MayMake (Exchange (Root r) old w)) (sym (link ∙ whole_link b fits))
-      (by_view (Inside slot (made_beside b a)) (Exchange (Root r) old (link_to b)) is
-      (made_are_exchanged T defers (made_beside b a) b r old fixed id slot (has_made b a (a == 0)) lt))
+      (by_view (Inside slot (made_beside b x a)) (Exchange (Root r) old (link_to b)) is
+      (made_are_exchanged T defers (made_beside b x a) b r old fixed id slot (has_made b x a (a == 0)) lt))
 
-  pub may_link : (b r word : ℕ) → v ≡ Inside slot (Made b) → r < fixed.roots → b < 2 ^ 53 → word ≡ link_to b % 2 ^ 64 → MayMake (Swap (Root r) word)
-  may_link b r word is lt fits link =
+  pub may_link : (b : ℕ) (x : T) (r word : ℕ) → v ≡ Inside slot (Made b x) → r < fixed.roots → b < 2 ^ 53 → word ≡ link_to b % 2 ^ 64
+      → MayMake (Swap (Root r) word)
+  may_link b x r word is lt fits link =
       subst (λ (w : ℕ). MayMake (Swap (Root r) w)) (sym (link ∙ whole_link b fits))
-      (by_view (Inside slot (Made b)) (Swap (Root r) (link_to b)) is (made_are_linked T defers b r fixed id slot lt))
+      (by_view (Inside slot (Made b x)) (Swap (Root r) (link_to b)) is (made_are_linked T defers b x r fixed id slot lt))
 
   pub may_clear : (r : ℕ) → v ≡ Inside slot Nothing → r < fixed.roots → MayMake (Swap (Root r) 0)
   may_clear r is lt = by_view (Inside slot Nothing) (Swap (Root r) 0) is (roots_are_cleared T defers r fixed id slot lt)
@@ -153,41 +155,41 @@ module _ {T : Type 0} (defers : T → Option ℕ) (fixed : Fixed) (id : ℕ) (v 
   pub may_withdraw : (r : ℕ) → v ≡ Outside slot → r < fixed.roots → MayMake (Swap (Root r) 0)
   may_withdraw r is lt = by_view (Outside slot) (Swap (Root r) 0) is (roots_are_withdrawn T defers r fixed id slot lt)
 
-  pub may_see : (has : Has) (r : ℕ) → IsLooking has → v ≡ Inside slot has → r < fixed.roots → MayMake (Load (Root r))
+  pub may_see : (has : Has T) (r : ℕ) → IsLooking has → v ≡ Inside slot has → r < fixed.roots → MayMake (Load (Root r))
   may_see has r looks is lt = by_view (Inside slot has) (Load (Root r)) is (roots_are_seen T defers has r fixed id slot looks lt)
 
-  pub is_shown : (has : Has) (b : ℕ) → v ≡ Inside slot has → Names has b → Shown (Holds defers fixed) id v b
+  pub is_shown : (has : Has T) (b : ℕ) → v ≡ Inside slot has → Names has b → Shown (Holds defers fixed) id v b
   is_shown has b is names = subst (λ (x : View T). Shown (Holds defers fixed) id x b) (sym is) (known_are_shown T defers has b fixed id slot names)
 
 module _ (T : Type 0) (fixed : Fixed) (slot : ℕ) where
   -- leaving is next where a block was seen, or none is known
-  pub leaves_next : (has : Has) → IsLooking has → IsNext {T = T} fixed (Inside slot has) (leaving fixed (Inside slot has))
+  pub leaves_next : (has : Has T) → IsLooking has → IsNext {T = T} fixed (Inside slot has) (leaving fixed (Inside slot has))
   leaves_next Nothing looks = (Idle, refl)
   leaves_next (Seen b) looks = (Idle, refl)
-  leaves_next (Made b) looks = absurd looks
-  leaves_next (Both b a) looks = absurd looks
+  leaves_next (Made b x) looks = absurd looks
+  leaves_next (Both b x a) looks = absurd looks
   leaves_next (Cut b) looks = absurd looks
 
-  pub leaves_so : (has : Has) → IsLooking has → leaving {T = T} fixed (Inside slot has) ≡ Leaves slot fixed.batch_size Idle
+  pub leaves_so : (has : Has T) → IsLooking has → leaving {T = T} fixed (Inside slot has) ≡ Leaves slot fixed.batch_size Idle
   leaves_so Nothing looks = refl
   leaves_so (Seen b) looks = refl
-  leaves_so (Made b) looks = absurd looks
-  leaves_so (Both b a) looks = absurd looks
+  leaves_so (Made b x) looks = absurd looks
+  leaves_so (Both b x a) looks = absurd looks
   leaves_so (Cut b) looks = absurd looks
 
   -- and so is refreshing
-  pub refreshes_next : (has : Has) → IsLooking has → IsNext {T = T} fixed (Inside slot has) (refreshes fixed (Inside slot has))
+  pub refreshes_next : (has : Has T) → IsLooking has → IsNext {T = T} fixed (Inside slot has) (refreshes fixed (Inside slot has))
   refreshes_next Nothing looks = (Active, refl)
   refreshes_next (Seen b) looks = (Active, refl)
-  refreshes_next (Made b) looks = absurd looks
-  refreshes_next (Both b a) looks = absurd looks
+  refreshes_next (Made b x) looks = absurd looks
+  refreshes_next (Both b x a) looks = absurd looks
   refreshes_next (Cut b) looks = absurd looks
 
-  pub refreshes_so : (has : Has) → IsLooking has → refreshes {T = T} fixed (Inside slot has) ≡ Leaves slot fixed.batch_size Active
+  pub refreshes_so : (has : Has T) → IsLooking has → refreshes {T = T} fixed (Inside slot has) ≡ Leaves slot fixed.batch_size Active
   refreshes_so Nothing looks = refl
   refreshes_so (Seen b) looks = refl
-  refreshes_so (Made b) looks = absurd looks
-  refreshes_so (Both b a) looks = absurd looks
+  refreshes_so (Made b x) looks = absurd looks
+  refreshes_so (Both b x a) looks = absurd looks
   refreshes_so (Cut b) looks = absurd looks
 
 -- a list with entries is counted down, and an empty one is settled
@@ -205,17 +207,17 @@ pub list_empty : (T : Type 0) (slot size : ℕ) (way : Becomes) (head left : ℕ
 list_empty T slot size way head left le = rw (is_not_above head le) refl
 
 -- what a word of a root tells that was taken from there, or seen
-pub cut_some : (word b : ℕ) → b ≡ block_in word → (b ≡ 0 → ⊥) → cut_in word ≡ Cut b
-cut_some word b is ne = ap (λ (y : Bool). if y then Nothing else Cut (block_in word)) (ne_eqb (block_in word) 0 (λ e. ne (is ∙ e))) ∙ ap Cut (sym is)
+pub cut_some : (T : Type 0) (word b : ℕ) → b ≡ block_in word → (b ≡ 0 → ⊥) → cut_in {T = T} word ≡ Cut b
+cut_some T word b is ne = ap (λ (y : Bool). if y then Nothing else Cut (block_in word)) (ne_eqb (block_in word) 0 (λ e. ne (is ∙ e))) ∙ ap Cut (sym is)
 
-pub cut_none : (word : ℕ) → block_in word ≡ 0 → cut_in word ≡ Nothing
-cut_none word e = ap (λ (y : Bool). if y then Nothing else Cut (block_in word)) (eq-eqb (block_in word) 0 e)
+pub cut_none : (T : Type 0) (word : ℕ) → block_in word ≡ 0 → cut_in {T = T} word ≡ Nothing
+cut_none T word e = ap (λ (y : Bool). if y then Nothing else Cut (block_in word)) (eq-eqb (block_in word) 0 e)
 
-pub seen_some : (word b : ℕ) → b ≡ block_in word → (b ≡ 0 → ⊥) → seen_in word ≡ Seen b
-seen_some word b is ne = ap (λ (y : Bool). if y then Nothing else Seen (block_in word)) (ne_eqb (block_in word) 0 (λ e. ne (is ∙ e))) ∙ ap Seen (sym is)
+pub seen_some : (T : Type 0) (word b : ℕ) → b ≡ block_in word → (b ≡ 0 → ⊥) → seen_in {T = T} word ≡ Seen b
+seen_some T word b is ne = ap (λ (y : Bool). if y then Nothing else Seen (block_in word)) (ne_eqb (block_in word) 0 (λ e. ne (is ∙ e))) ∙ ap Seen (sym is)
 
-pub seen_none : (word : ℕ) → block_in word ≡ 0 → seen_in word ≡ Nothing
-seen_none word e = ap (λ (y : Bool). if y then Nothing else Seen (block_in word)) (eq-eqb (block_in word) 0 e)
+pub seen_none : (T : Type 0) (word : ℕ) → block_in word ≡ 0 → seen_in {T = T} word ≡ Nothing
+seen_none T word e = ap (λ (y : Bool). if y then Nothing else Seen (block_in word)) (eq-eqb (block_in word) 0 e)
 
 pub owes_some : (T : Type 0) (slot word b : ℕ) → b ≡ block_in word → (b ≡ 0 → ⊥) → owes_in {T = T} slot word ≡ Owes slot b
 owes_some T slot word b is ne =
@@ -228,80 +230,84 @@ module _ {T : Type 0} (defers : T → Option ℕ) (v w : View T) (slot : ℕ) wh
   pub withdrawn_told : (r word old : ℕ) → v ≡ Outside slot → told defers v (Swap (Root r) word) (Found old) w → w ≡ owes_in slot old
   withdrawn_told r word old is so = subst (λ (x : View T). told defers x (Swap (Root r) word) (Found old) w) is so
 
-  pub cut_told : (b r word old : ℕ) → v ≡ Inside slot (Made b) → told defers v (Swap (Root r) word) (Found old) w → w ≡ Inside slot (cut_in old)
-  cut_told b r word old is so =
+  pub cut_told : (b : ℕ) (x : T) (r word old : ℕ) → v ≡ Inside slot (Made b x) → told defers v (Swap (Root r) word) (Found old) w
+      → w ≡ Inside slot (cut_in old)
+  cut_told b x r word old is so =
       let k = subst (λ (x : View T). told defers x (Swap (Root r) word) (Found old) w) is so in k.2 ∙ ap (Inside slot) k.1
 
   pub removed_told : (r word old : ℕ) → v ≡ Inside slot Nothing → told defers v (Swap (Root r) word) (Found old) w → w ≡ Inside slot (cut_in old)
   removed_told r word old is so =
       let k = subst (λ (x : View T). told defers x (Swap (Root r) word) (Found old) w) is so in k.2 ∙ ap (Inside slot) k.1
 
-  pub seen_told : (has : Has) (r word : ℕ) → IsLooking has → v ≡ Inside slot has → told defers v (Load (Root r)) (Found word) w → w ≡ Inside slot (seen_in word)
+  pub seen_told : (has : Has T) (r word : ℕ) → IsLooking has → v ≡ Inside slot has → told defers v (Load (Root r)) (Found word) w → w ≡ Inside slot (seen_in word)
   seen_told Nothing r word looks is so = let k = subst (λ (x : View T). told defers x (Load (Root r)) (Found word) w) is so in k.2 ∙ ap (Inside slot) k.1
   seen_told (Seen b) r word looks is so = let k = subst (λ (x : View T). told defers x (Load (Root r)) (Found word) w) is so in k.2 ∙ ap (Inside slot) k.1
-  seen_told (Made b) r word looks is so = absurd looks
-  seen_told (Both b a) r word looks is so = absurd looks
+  seen_told (Made b x) r word looks is so = absurd looks
+  seen_told (Both b x a) r word looks is so = absurd looks
   seen_told (Cut b) r word looks is so = absurd looks
 
   -- what a making tells beside a block that was seen, a taking away, and an exchange
 
-  made_told : (a b : ℕ) (value : T) (y : Bool) → v ≡ Inside slot (if y then Nothing else Seen a) → told defers v (Make value 0) (OutMade (Ok b)) w
-      → w ≡ Inside slot (if y then Made b else Both b a)
-  made_told a b value true is so =
-      let k = subst (λ (x : View T). told defers x (Make value 0) (OutMade (Ok b)) w) is so in k.2 ∙ ap (Inside slot) k.1.1
-  made_told a b value false is so =
-      let k = subst (λ (x : View T). told defers x (Make value 0) (OutMade (Ok b)) w) is so in k.2 ∙ ap (Inside slot) k.1.1
+  made_told : {words : ℕ} (a b : ℕ) (value : T) (y : Bool) → v ≡ Inside slot (if y then Nothing else Seen a) → told defers v (Make value words) (OutMade (Ok b)) w
+      → w ≡ Inside slot (if y then Made b value else Both b value a)
+  made_told {words} a b value true is so =
+      let k = subst (λ (x : View T). told defers x (Make value words) (OutMade (Ok b)) w) is so in k.2 ∙ ap (Inside slot) k.1.1
+  made_told {words} a b value false is so =
+      let k = subst (λ (x : View T). told defers x (Make value words) (OutMade (Ok b)) w) is so in k.2 ∙ ap (Inside slot) k.1.1
 
-  fits_told : (a b : ℕ) (value : T) (y : Bool) → v ≡ Inside slot (if y then Nothing else Seen a) → told defers v (Make value 0) (OutMade (Ok b)) w → b < 2 ^ 53
-  fits_told a b value true is so = let k = subst (λ (x : View T). told defers x (Make value 0) (OutMade (Ok b)) w) is so in k.1.0
-  fits_told a b value false is so = let k = subst (λ (x : View T). told defers x (Make value 0) (OutMade (Ok b)) w) is so in k.1.0
+  fits_told : {words : ℕ} (a b : ℕ) (value : T) (y : Bool) → v ≡ Inside slot (if y then Nothing else Seen a) → told defers v (Make value words) (OutMade (Ok b)) w → b < 2 ^ 53
+  fits_told {words} a b value true is so = let k = subst (λ (x : View T). told defers x (Make value words) (OutMade (Ok b)) w) is so in k.1.0
+  fits_told {words} a b value false is so = let k = subst (λ (x : View T). told defers x (Make value words) (OutMade (Ok b)) w) is so in k.1.0
 
-  pub made_beside_told : (a b : ℕ) (value : T) → v ≡ Inside slot (seen_as a) → told defers v (Make value 0) (OutMade (Ok b)) w
-      → (w ≡ Inside slot (made_beside b a)) × (b < 2 ^ 53)
-  made_beside_told a b value is so = (made_told a b value (a == 0) is so, fits_told a b value (a == 0) is so)
+  pub made_beside_told : {words : ℕ} (a b : ℕ) (value : T) → v ≡ Inside slot (seen_as a) → told defers v (Make value words) (OutMade (Ok b)) w
+      → (w ≡ Inside slot (made_beside b value a)) × (b < 2 ^ 53)
+  made_beside_told {words} a b value is so = (made_told a b value (a == 0) is so, fits_told a b value (a == 0) is so)
 
-  refused_told : (a : ℕ) (value back : T) (y : Bool) → v ≡ Inside slot (if y then Nothing else Seen a)
-      → told defers v (Make value 0) (OutMade (Err back)) w → w ≡ Inside slot (if y then Nothing else Seen a)
-  refused_told a value back true is so =
-      let k = subst (λ (x : View T). told defers x (Make value 0) (OutMade (Err back)) w) is so in k.2 ∙ ap (Inside slot) k.1.1
-  refused_told a value back false is so =
-      let k = subst (λ (x : View T). told defers x (Make value 0) (OutMade (Err back)) w) is so in k.2 ∙ ap (Inside slot) k.1.1
+  refused_told : {words : ℕ} (a : ℕ) (value back : T) (y : Bool) → v ≡ Inside slot (if y then Nothing else Seen a)
+      → told defers v (Make value words) (OutMade (Err back)) w → (w ≡ Inside slot (if y then Nothing else Seen a)) × (back ≡ value)
+  refused_told {words} a value back true is so =
+      let k = subst (λ (x : View T). told defers x (Make value words) (OutMade (Err back)) w) is so in (k.2 ∙ ap (Inside slot) k.1.1, k.1.0)
+  refused_told {words} a value back false is so =
+      let k = subst (λ (x : View T). told defers x (Make value words) (OutMade (Err back)) w) is so in (k.2 ∙ ap (Inside slot) k.1.1, k.1.0)
 
-  pub not_made_told : (a : ℕ) (value back : T) → v ≡ Inside slot (seen_as a) → told defers v (Make value 0) (OutMade (Err back)) w
-      → w ≡ Inside slot (seen_as a)
-  not_made_told a value back is so = refused_told a value back (a == 0) is so
+  pub not_made_told : {words : ℕ} (a : ℕ) (value back : T) → v ≡ Inside slot (seen_as a) → told defers v (Make value words) (OutMade (Err back)) w
+      → (w ≡ Inside slot (seen_as a)) × (back ≡ value)
+  not_made_told {words} a value back is so = refused_told a value back (a == 0) is so
 
-  taken_so : (a b : ℕ) (value : T) (y : Bool) → v ≡ Inside slot (if y then Made b else Both b a) → told defers v (Take b) (Taken value) w
-      → w ≡ Inside slot (if y then Nothing else Seen a)
-  taken_so a b value true is so = let k = subst (λ (x : View T). told defers x (Take b) (Taken value) w) is so in k.2 ∙ ap (Inside slot) k.1
-  taken_so a b value false is so = let k = subst (λ (x : View T). told defers x (Take b) (Taken value) w) is so in k.2 ∙ ap (Inside slot) k.1
+  taken_so : (a b : ℕ) (x value : T) (y : Bool) → v ≡ Inside slot (if y then Made b x else Both b x a) → told defers v (Take b) (Taken value) w
+      → (w ≡ Inside slot (if y then Nothing else Seen a)) × (value ≡ x)
+  taken_so a b x value true is so =
+      let k = subst (λ (y : View T). told defers y (Take b) (Taken value) w) is so in (k.2 ∙ ap (Inside slot) k.1.1, k.1.0)
+  taken_so a b x value false is so =
+      let k = subst (λ (y : View T). told defers y (Take b) (Taken value) w) is so in (k.2 ∙ ap (Inside slot) k.1.1, k.1.0)
 
-  pub taken_told : (a b : ℕ) (value : T) → v ≡ Inside slot (made_beside b a) → told defers v (Take b) (Taken value) w → w ≡ Inside slot (seen_as a)
-  taken_told a b value is so = taken_so a b value (a == 0) is so
+  pub taken_told : (a b : ℕ) (x value : T) → v ≡ Inside slot (made_beside b x a) → told defers v (Take b) (Taken value) w
+      → (w ≡ Inside slot (seen_as a)) × (value ≡ x)
+  taken_told a b x value is so = taken_so a b x value (a == 0) is so
 
   module _ (r old word : ℕ) where
-    exchanged : (a b was : ℕ) (y : Bool) → v ≡ Inside slot (if y then Made b else Both b a) → told defers v (Exchange (Root r) old word) (Exchanged (Ok was)) w
-        → w ≡ Inside slot (cut_in old)
-    exchanged a b was true is so =
-        let k = subst (λ (x : View T). told defers x (Exchange (Root r) old word) (Exchanged (Ok was)) w) is so in k.2 ∙ ap (Inside slot) k.1
-    exchanged a b was false is so =
-        let k = subst (λ (x : View T). told defers x (Exchange (Root r) old word) (Exchanged (Ok was)) w) is so in k.2 ∙ ap (Inside slot) k.1
+    exchanged : (a b was : ℕ) (x : T) (y : Bool) → v ≡ Inside slot (if y then Made b x else Both b x a)
+        → told defers v (Exchange (Root r) old word) (Exchanged (Ok was)) w → w ≡ Inside slot (cut_in old)
+    exchanged a b was x true is so =
+        let k = subst (λ (y : View T). told defers y (Exchange (Root r) old word) (Exchanged (Ok was)) w) is so in k.2 ∙ ap (Inside slot) k.1
+    exchanged a b was x false is so =
+        let k = subst (λ (y : View T). told defers y (Exchange (Root r) old word) (Exchanged (Ok was)) w) is so in k.2 ∙ ap (Inside slot) k.1
 
-    pub exchanged_told : (a b was : ℕ) → v ≡ Inside slot (made_beside b a) → a < 2 ^ 53 → old ≡ link_to a % 2 ^ 64
+    pub exchanged_told : (a b was : ℕ) (x : T) → v ≡ Inside slot (made_beside b x a) → a < 2 ^ 53 → old ≡ link_to a % 2 ^ 64
         → told defers v (Exchange (Root r) old word) (Exchanged (Ok was)) w → w ≡ Inside slot (cut_as a)
-    exchanged_told a b was is fits link so =
-        exchanged a b was (a == 0) is so ∙ ap (λ (k : ℕ). Inside slot (cut_as k)) (ap block_in (link ∙ whole_link a fits) ∙ block_of_link a)
+    exchanged_told a b was x is fits link so =
+        exchanged a b was x (a == 0) is so ∙ ap (λ (k : ℕ). Inside slot (cut_as k)) (ap block_in (link ∙ whole_link a fits) ∙ block_of_link a)
 
-    lost : (a b now : ℕ) (y : Bool) → v ≡ Inside slot (if y then Made b else Both b a) → told defers v (Exchange (Root r) old word) (Exchanged (Err now)) w
-        → w ≡ Inside slot (made_beside b (block_in now))
-    lost a b now true is so =
-        let k = subst (λ (x : View T). told defers x (Exchange (Root r) old word) (Exchanged (Err now)) w) is so in k.2 ∙ ap (Inside slot) k.1
-    lost a b now false is so =
-        let k = subst (λ (x : View T). told defers x (Exchange (Root r) old word) (Exchanged (Err now)) w) is so in k.2 ∙ ap (Inside slot) k.1
+    lost : (a b now : ℕ) (x : T) (y : Bool) → v ≡ Inside slot (if y then Made b x else Both b x a)
+        → told defers v (Exchange (Root r) old word) (Exchanged (Err now)) w → w ≡ Inside slot (made_beside b x (block_in now))
+    lost a b now x true is so =
+        let k = subst (λ (y : View T). told defers y (Exchange (Root r) old word) (Exchanged (Err now)) w) is so in k.2 ∙ ap (Inside slot) k.1
+    lost a b now x false is so =
+        let k = subst (λ (y : View T). told defers y (Exchange (Root r) old word) (Exchanged (Err now)) w) is so in k.2 ∙ ap (Inside slot) k.1
 
-    pub other_told : (a b now : ℕ) → v ≡ Inside slot (made_beside b a) → told defers v (Exchange (Root r) old word) (Exchanged (Err now)) w
-        → w ≡ Inside slot (made_beside b (block_in now))
-    other_told a b now is so = lost a b now (a == 0) is so
+    pub other_told : (a b now : ℕ) (x : T) → v ≡ Inside slot (made_beside b x a) → told defers v (Exchange (Root r) old word) (Exchanged (Err now)) w
+        → w ≡ Inside slot (made_beside b x (block_in now))
+    other_told a b now x is so = lost a b now x (a == 0) is so
 
   -- what the taking of a list tells
   pub list_told : (size : ℕ) (way : Becomes) (word head : ℕ) → v ≡ Leaves slot size way → told defers v (Swap (Slot slot HEAD) word) (Found head) w

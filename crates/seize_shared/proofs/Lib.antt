@@ -1,6 +1,7 @@
 pub mod Aside
 pub mod Lists
 pub mod Reclaims
+pub mod Came
 pub mod Moved
 pub mod Steps
 pub mod Operations

@@ -7,10 +7,11 @@ use Rattle.seize.specs.Law.{holds, is_over}
 use Rattle.seize.specs.World.{World, Row, Use, Vacant, Event, MayStep, IsInside}
 use Rattle.seize.specs.World as world
 use Rattle.seize_rule.proofs.World.Kept.{rows_may}
+use Rattle.seize_alone.proofs.Histories.NotTaken.{IsHad, kept_there}
 use Rattle.seize_acts.proofs.Answers.{same_some}
 use Rattle.seize_seats.specs.State.{State, view_of, Goes}
-use Rattle.seize_bounds.specs.Bounds.{HasCounted, HasTried, IsAloneOnSlot, IsAny, ArePlain, Meanwhile}
-use Rattle.seize_shared.specs.Rows.{use_of, row_of, settles_for, IsUsed, IsKnown, RootsNameLinked, Fits, Came, IsBounded, Holds, Keeps}
+use Rattle.seize_bounds.specs.Bounds.{HasCounted, HasTried, IsAloneOnSlot, Meanwhile}
+use Rattle.seize_shared.specs.Rows.{use_of, row_of, settles_for, IsUsed, IsMade, IsKnown, RootsNameLinked, Fits, Came, IsBounded, Holds, Keeps}
 use Rattle.seize_shared.specs.declared.view.View.{View}
 use Rattle.seize_shared.specs.declared.view.View.TheVariants.{Rests, Registers, Outside, Owes, Enters, Inside, Settles, Leaves, Left, Frees}
 use Rattle.seize_shared.specs.declared.view.Has.{Has}
@@ -19,7 +20,8 @@ use Rattle.seize_shared.specs.declared.view.Why.TheVariants.{Retiring, Ending}
 use Rattle.seize_shared.specs.declared.view.Becomes.TheVariants.{Idle, Active}
 use Rattle.seize_shared.specs.declared.view.Fixed.{Fixed}
 use Rattle.seize_shared.proofs.Aside.{alone_on_slot}
-use Rattle.seize_bounds.proofs.Bounds.Passing.{any, still_within}
+use Rattle.seize_shared.proofs.Came.{of_users, reached}
+use Rattle.seize_bounds.proofs.Bounds.Passing.{still_within}
 use Rattle.seize_shared.proofs.Lists.{there, elsewhere}
 use Rattle.seize_shared.proofs.Reclaims.{reclaiming_there}
 
@@ -53,7 +55,7 @@ module _ {T : Type 0} where
   still_used w n (Some slot) is same = same slot.0 slot.1 refl ∙ is
 
   -- a seat is within the section of its slot
-  pub inside_of : (w : World T) (t : ℕ) (has : Has) → IsUsed w (use_of {T = T} (Inside t has)) → IsInside (w.uses t)
+  pub inside_of : (w : World T) (t : ℕ) (has : Has T) → IsUsed w (use_of {T = T} (Inside t has)) → IsInside (w.uses t)
   inside_of w t has is = subst (λ (a : Use). IsInside a) (sym is) tt
 
 module _ {T : Type 0} (defers : T → Option ℕ) (fixed : Fixed) (s : State T (View T) (World T)) (id : ℕ) where
@@ -81,16 +83,22 @@ module _ {T : Type 0} (defers : T → Option ℕ) (fixed : Fixed) (s : State T (
     pub over : (t b : ℕ) → holds t b s.world.log ≡ true → is_over b n.log ≡ is_over b s.world.log
     pub roots : RootsNameLinked m n.hand
     pub rooted : length m.roots ≡ fixed.roots
-    pub plain : ArePlain defers n.memory
     pub passes : Passes n
     pub bounded : IsBounded defers fixed n id u
 
   module _ (v u : View T) (m : Mem T) (n : World T) (so : View T → Type 0) (h : Holds defers fixed s) (at : view_of s id ≡ Some v) (mo : Moved u m n) where
+    -- a block that it has made is there, with its value
+    made : (j b : ℕ) (x : T) → j ≢ id → IsMade s.world j b x → IsMade n j b x
+    made j b x ne is =
+        let mine : n.hand b ≡ world.Making j = (mo.hands j b ne).0 is.0 in
+        let there = kept_there defers fixed.batch_size n (reached defers fixed n mo.came) b (IsHad (of_users n.hand b (world.Making j) tt mine)) in
+        (mine, mo.values b (subst IsSome (sym is.1) refl) there ∙ is.1)
+
     known : (j : ℕ) (x : View T) → j ≢ id → n.row j ≡ row_of x → Fits s.world j x → IsKnown n j x
     known j (Inside t Nothing) ne row f = tt
-    known j (Inside t (Made b)) ne row f = (mo.hands j b ne).0 f.known
+    known j (Inside t (Made b x)) ne row f = made j b x ne f.known
     known j (Inside t (Seen b)) ne row f = mo.held t b (inside_of s.world t (Seen b) f.slot) f.known
-    known j (Inside t (Both b a)) ne row f = ((mo.hands j b ne).0 f.known.0, mo.held t a (inside_of s.world t (Both b a) f.slot) f.known.1)
+    known j (Inside t (Both b x a)) ne row f = (made j b x ne f.known.0, mo.held t a (inside_of s.world t (Both b x a) f.slot) f.known.1)
     known j (Inside t (Cut b)) ne row f = (mo.hands j b ne).1 f.known
     known j (Settles c why None left) ne row f = tt
     known j (Settles c why (Some seen) left) ne row f =
@@ -114,7 +122,7 @@ module _ {T : Type 0} (defers : T → Option ℕ) (fixed : Fixed) (s : State T (
         still_within defers (IsAloneOnSlot j) HasTried fixed.batch_size j left s.world n p.0 p.1 b
     bound j (Settles c (Ending size way) seen left) ne after b =
         let p = mo.passes j ne (alone_on_slot s.world (view_of s) (λ i y e. (h.seats i y e).row) h.unborn h.apart j) after in
-        still_within defers IsAny HasCounted fixed.batch_size j left s.world n p.0 (any defers (IsAloneOnSlot j) fixed.batch_size j p.0 s.world n p.1) b
+        still_within defers (IsAloneOnSlot j) HasCounted fixed.batch_size j left s.world n p.0 p.1 b
     bound j Rests ne after b = tt
     bound j (Registers c) ne after b = tt
     bound j (Outside t) ne after b = tt
@@ -137,7 +145,6 @@ module _ {T : Type 0} (defers : T → Option ℕ) (fixed : Fixed) (s : State T (
         apart = λ j k t a b x y e f p q. two j k t a b x y e f p q (cases_eq j id) (cases_eq k id);
         roots = mo.roots;
         rooted = mo.rooted;
-        plain = subst (λ (x : Mem T). ArePlain defers x) (sym mo.memory) mo.plain;
         bounded = λ j x e. bound_at j x e (cases_eq j id);
       },
       (λ j k b x o ne ne2 e f keeps. still j b x o ne e keeps),

@@ -12,11 +12,10 @@ use Rattle.seize.specs.declared.rows.settle.Settled.TheVariants as settled
 use Rattle.seize.specs.Settle.{counting_down}
 use Rattle.seize.specs.Leave.{standing}
 use Rattle.seize.specs.Law.{Entered}
-use Rattle.seize.specs.World.{World, Row, Use, Steps', MayStep, after_step, with_use, leaves_on}
+use Rattle.seize.specs.World.{World, Row, Use, Step, Steps', MayStep, after_step, with_use, leaves_on}
 use Rattle.seize.specs.World as world
 use Rattle.seize_rule.proofs.World.Kept.{rows_may}
-use Rattle.seize_rule.proofs.Rows.Others.{with_here}
-use Rattle.seize_alone.proofs.Histories.Reached.{steps_reached}
+use Rattle.seize_rule.proofs.Rows.Others.{with_here, with_other}
 use Rattle.seize_seats.specs.State.{State, view_of, Goes, Allows}
 use Rattle.seize_shared.specs.Rows.{row_of, leave_of, Holds, Keeps, head_of}
 use Rattle.seize_shared.specs.Told.{list_taken, told}
@@ -26,9 +25,13 @@ use Rattle.seize_shared.specs.declared.view.View.TheVariants.{Rests, Enters, Ins
 use Rattle.seize_shared.specs.declared.view.Has.TheVariants.{Nothing}
 use Rattle.seize_shared.specs.declared.view.Why.TheVariants.{Ending}
 use Rattle.seize_shared.specs.declared.view.Fixed.{Fixed}
-use Rattle.seize_bounds.proofs.Bounds.Within.{counted_within}
+use Rattle.seize_acts.specs.Waits.{SettlesOn}
+use Rattle.seize_bounds.specs.Bounds.{IsAloneOnSlot}
+use Rattle.seize_bounds.proofs.Settles.Within.{lists_are_settled}
+use Rattle.seize_shared.proofs.Aside.{alone_after}
 use Rattle.seize_shared.proofs.Moved.{moved}
-use Rattle.seize_shared.proofs.Steps.{alone, reached, step_of, step_plain, stepped}
+use Rattle.seize_shared.proofs.Came.{came_then}
+use Rattle.seize_shared.proofs.Steps.{alone, step_of, stepped}
 
 -- the slot of one is that of the other
 pub slot_of : (p q : ℕ × Use) → Some p ≡ Some q → p.0 ≡ q.0
@@ -97,6 +100,14 @@ module _ {T : Type 0} (defers : T → Option ℕ) (fixed : Fixed) where
       slot : (d : Leave) (m : Mem T) → (leaves_on s.world id (leave_of t size way) m (d, settled.Goes)).uses t ≡ world.Changing
       slot d m = with_here s.world.uses t (s.world.uses t) ∙ (h.seats id (Leaves t size way) at).slot
 
+      -- nobody else settles on its slot
+      lone : (d : Leave) (m : Mem T) → d.slot ≡ t → IsAloneOnSlot id (leaves_on s.world id (leave_of t size way) m (d, settled.Goes))
+      lone d m same =
+          alone_after s.world (view_of s) (λ j x e. (h.seats j x e).row) h.unborn h.apart id t world.Changing (Leaves t size way) at refl
+          (leaves_on s.world id (leave_of t size way) m (d, settled.Goes))
+          (λ slot its. sym same ∙ subst (λ (r : Row). SettlesOn slot r) (with_here s.world.row id (world.Leaves d)) its)
+          (λ j ne. with_other s.world.row id j (world.Leaves d) ne)
+
       goes : (head : ℕ) (m : Mem T) → Took s.memory (Swap (Slot t HEAD) (head_of way)) (Found head) m → (b : Bool) → nat_lt ACTIVE head ≡ b
           → Goes H Keeps s m id (λ u. (left : ℕ) × (u ≡ list_taken t size way head left))
       goes head m took true e =
@@ -106,8 +117,8 @@ module _ {T : Type 0} (defers : T → Option ℕ) (fixed : Fixed) where
           (m, (d, settled.Goes), (Found head, took_here head m took, rw e refl), refl) in
           let row : n.row id ≡ world.Leaves d = with_here s.world.row id (world.Leaves d) in
           let step = step_of defers fixed s id (Leaves t size way) h at n taken in
-          let r = steps_reached defers fixed.batch_size id s.world n (reached defers fixed s.world h.came) step in
-          let k = counted_within defers fixed.batch_size id n r (leave_of t size way) head row (step_plain defers fixed s id (Leaves t size way) h at n step) in
+          let came = came_then defers fixed s.world n (Step id) h.came step in
+          let k = lists_are_settled defers fixed.batch_size fixed.roots came.0 n came.1 id head (leave_of t size way) (lone d m refl) row in
           let u : View T = Settles (counting_down t size head) (Ending size way) None k.0 in
           moved defers fixed s id (Leaves t size way) u m n (λ x. (left : ℕ) × (x ≡ list_taken t size way head left)) h at
           (stepped defers fixed s id (Leaves t size way) h at u m n taken refl

@@ -30,7 +30,8 @@ use Rattle.seize_shared.specs.declared.view.View.{View}
 use Rattle.seize_shared.specs.declared.view.View.TheVariants.{Registers}
 use Rattle.seize_shared.specs.declared.view.Fixed.{Fixed}
 use Rattle.seize_shared.proofs.Moved.{moved, not_vacant, used_so}
-use Rattle.seize_shared.proofs.Steps.{reached, stepped}
+use Rattle.seize_shared.proofs.Came.{reached}
+use Rattle.seize_shared.proofs.Steps.{stepped}
 use Rattle.seize_shared.proofs.Operations.{may, slot_of}
 
 -- registering that has come so far goes on without entering, or the slot that it has taken was nobody's

@@ -1,28 +1,25 @@
 -- Within a section a block is put at a root, whatever is there or in place of what was seen, seen there, and taken from there.
-use Rattle.std.specs.Prelude.{◌≢◌, ◌<◌, ◌==◌, Option, Some, IsSome, Ok, Err, length, slice_get, slice_set, if◌then◌else◌}
-use Rattle.std.proofs.Common.{◌≡◌, ℕ, zero, suc, List, [], ◌∷◌, Bool, true, false, cond, ◌⊎◌, inl, inr, refl, sym, subst, ap, ◌∙◌, arith}
+use Rattle.std.specs.Prelude.{◌≢◌, ◌==◌, Option, Some, Ok, Err, length, if◌then◌else◌}
+use Rattle.std.proofs.Common.{◌≡◌, ℕ, List, [], Bool, true, false, cond, ◌⊎◌, inl, inr, refl, sym, subst, ap, ◌∙◌}
 use Rattle.std.proofs.lemmas.Bool.{cases_eq, eq-eqb, ne_eqb}
-use Rattle.seize_words.specs.Mem.{Mem, Took, value_at, word_at, with_word}
+use Rattle.seize_words.specs.Mem.{Mem, Took, word_at}
 use Rattle.seize_words.specs.Word.{block_in, link_to}
-use Rattle.seize_words.specs.Op.{Op, Out, Load, Swap, Exchange, Found, Stored, Exchanged, Made as OutMade, Taken, Roomed}
+use Rattle.seize_words.specs.Op.{Out, Load, Swap, Exchange, Found, Stored, Exchanged, Made as OutMade, Taken, Roomed}
 use Rattle.seize_words.specs.declared.at.At.TheVariants.{Root}
-use Rattle.seize.specs.Law.{Effect, Linked, Unlinked, holds, is_over, is_open, reachable, is_somewhere}
+use Rattle.seize.specs.Law.{Effect, Linked, holds, is_over, is_open, reachable, is_somewhere}
 use Rattle.seize.specs.World.{World, Use, Hand, Operates, Links, Unlinks, MayCut, IsOwnOp, with_at, with_hand, with_effect}
 use Rattle.seize.specs.World as world
 use Rattle.seize_alone.proofs.Given.SeizeMoves.State.Ghost.{Life, IsLinked, emptied, place_of}
 use Rattle.seize_rule.proofs.Points.Aside.{HandFits}
 use Rattle.seize_alone.proofs.Given.SeizeMoves.State.Held.{held_on}
 use Rattle.seize_alone.proofs.Given.SeizeMoves.State.Logs.{reached_held}
-use Rattle.seize_rule.proofs.Rows.Others.{with_here, with_other}
+use Rattle.seize_rule.proofs.Rows.Others.{with_here}
 use Rattle.seize_rule.proofs.Rows.Teams.{UseFits}
-use Rattle.seize_rule.proofs.World.Values.{own_op_value}
 use Rattle.seize_alone.proofs.Histories.Reached.{Reached}
-use Rattle.seize_acts.proofs.Answers.{same_some}
 use Rattle.seize_seats.specs.State.{State, view_of, Goes}
-use Rattle.seize_bounds.specs.Bounds.{ArePlain}
-use Rattle.seize_shared.specs.Rows.{IsInHand, RootsNameLinked, Fits, Came, Holds, Keeps}
+use Rattle.seize_shared.specs.Rows.{IsMade, IsInHand, RootsNameLinked, Fits, Came, Holds, Keeps}
 use Rattle.seize_shared.specs.Told.{seen_in, cut_in, made_beside, told}
-use Rattle.seize_shared.specs.Promises.{HasMade, MadeAreLinked, MadeAreExchanged, RootsAreSeen, RootsAreCleared, RootsAreWithdrawn}
+use Rattle.seize_shared.specs.Promises.{MadeAreLinked, MadeAreExchanged, RootsAreSeen, RootsAreCleared, RootsAreWithdrawn}
 use Rattle.seize_shared.specs.declared.view.View.{View}
 use Rattle.seize_shared.specs.declared.view.View.TheVariants.{Outside, Owes, Inside}
 use Rattle.seize_shared.specs.declared.view.Has.{Has}
@@ -30,12 +27,12 @@ use Rattle.seize_shared.specs.declared.view.Has.TheVariants.{Nothing, Made, Seen
 use Rattle.seize_shared.specs.declared.view.Fixed.{Fixed}
 use Rattle.seize_shared.proofs.Lists.{there, elsewhere}
 use Rattle.seize_shared.proofs.Moved.{Passes}
-use Rattle.seize_shared.proofs.Steps.{came_then, reached, world_plain}
+use Rattle.seize_shared.proofs.Came.{reached, came_then}
 use Rattle.seize_shared.proofs.Users.{apart_making, cutting_making, use_making, making_use, cutting_use, same_use}
 use Rattle.seize_shared.proofs.Users.{beside, making_not_held, passes_then, users, users_outside, users_owe}
 use Rattle.seize_shared.proofs.Written.{Wrote, Cuts, block_of_link, wrote, rooted_still, roots_now, fresh, root_can, unlinked, clears}
 
-module _ {T : Type 0} (defers : T → Option ℕ) (fixed : Fixed) (s : State T (View T) (World T)) (id t : ℕ) (had : Has) (h : Holds defers fixed s)
+module _ {T : Type 0} (defers : T → Option ℕ) (fixed : Fixed) (s : State T (View T) (World T)) (id t : ℕ) (had : Has T) (h : Holds defers fixed s)
     (at : view_of s id ≡ Some (Inside t had)) where
   abbrev w : World T
   w = s.world
@@ -80,13 +77,13 @@ module _ {T : Type 0} (defers : T → Option ℕ) (fixed : Fixed) (s : State T (
   seen_known a word e false is = root_held a word e is
 
   -- and is known beside a block that was made
-  beside_known : (b a word : ℕ) → w.hand b ≡ world.Making id → word_at s.memory (Root a) ≡ Some word → (y : Bool) → (block_in word == 0) ≡ y
-      → IsInHand w id t (if y then Made b else Both b (block_in word))
-  beside_known b a word mine e true is = mine
-  beside_known b a word mine e false is = (mine, root_held a word e is)
+  beside_known : (b : ℕ) (x : T) (a word : ℕ) → IsMade w id b x → word_at s.memory (Root a) ≡ Some word → (y : Bool) → (block_in word == 0) ≡ y
+      → IsInHand w id t (if y then Made b x else Both b x (block_in word))
+  beside_known b x a word made e true is = made
+  beside_known b x a word made e false is = (made, root_held a word e is)
 
   -- what is known of blocks changes, and nothing else
-  looks : (m : Mem T) (has : Has) → m ≡ s.memory → IsInHand w id t has → (so : View T → Type 0) → so (Inside t has) → Goes H Keeps s m id so
+  looks : (m : Mem T) (has : Has T) → m ≡ s.memory → IsInHand w id t has → (so : View T → Type 0) → so (Inside t has) → Goes H Keeps s m id so
   looks m has same known so is =
       users defers fixed s id t h had at m w has (record {
         came = h.came;
@@ -100,7 +97,6 @@ module _ {T : Type 0} (defers : T → Option ℕ) (fixed : Fixed) (s : State T (
         over = λ a c held. refl;
         roots = subst (λ (x : Mem T). RootsNameLinked x w.hand) (sym same) h.roots;
         rooted = ap (λ (x : Mem T). length x.roots) same ∙ h.rooted;
-        plain = world_plain defers fixed s id (Inside t had) h at;
         passes = λ j ne was now. ([], refl);
       }) so is
 
@@ -149,8 +145,7 @@ module _ {T : Type 0} (defers : T → Option ℕ) (fixed : Fixed) (s : State T (
         over = λ e c held. ap (λ (y : Bool). cond y false (is_over c w.log)) (ne_eqb c b (making_not_held defers fixed.batch_size w r id e b c held mine));
         roots = named;
         rooted = rooted_still defers fixed s id (Inside t had) h at a word old m wrote;
-        plain = wrote.plain;
-        passes = passes_then defers fixed s id t (record w { memory = m }) n (Links id b a) tt (λ j. tt) wrote.passes ((id, mine), refl) wrote.plain;
+        passes = passes_then defers fixed s id t (record w { memory = m }) n (Links id b a) tt (λ j. tt) wrote.passes ((id, mine), refl);
       }) named (λ c f. other c (world.InUse a) (use_making a id) f) was (fresh defers fixed s id (Inside t had) h at a word old m wrote was is_new)
     where
       new_block : (b a old : ℕ) → w.hand b ≡ world.Making id → (block_in old ≡ 0) ⊎ (w.hand (block_in old) ≡ world.InUse a) → (b ≡ 0) ⊎ (b ≢ 0)
@@ -161,22 +156,22 @@ module _ {T : Type 0} (defers : T → Option ℕ) (fixed : Fixed) (s : State T (
           inr (λ e. making_use id a (sym mine ∙ ap w.hand (sym (block_of_link b) ∙ e) ∙ linked))
 
   -- the block that was made is put at a root in place of this word, or what is there is seen
-  exchanges : (b a old : ℕ) → w.hand b ≡ world.Making id → (so : Out T → View T → Type 0) → so (Exchanged (Ok old)) (Inside t (cut_in old))
-      → ((word : ℕ) → so (Exchanged (Err word)) (Inside t (made_beside b (block_in word)))) → (out : Out T) (m : Mem T)
+  exchanges : (b : ℕ) (x : T) (a old : ℕ) → IsMade w id b x → (so : Out T → View T → Type 0) → so (Exchanged (Ok old)) (Inside t (cut_in old))
+      → ((word : ℕ) → so (Exchanged (Err word)) (Inside t (made_beside b x (block_in word)))) → (out : Out T) (m : Mem T)
       → Took s.memory (Exchange (Root a) old (link_to b)) out m → Goes H Keeps s m id (so out)
-  exchanges b a old mine so cut other (Exchanged (Ok word)) m took =
+  exchanges b x a old made so cut other (Exchanged (Ok word)) m took =
       subst (λ (k : ℕ). Goes H Keeps s m id (so (Exchanged (Ok k)))) (sym took.0.1)
-      (links b a mine old m
+      (links b a made.0 old m
       (wrote defers fixed s id (Inside t had) h at a (link_to b) old m (Exchange (Root a) old (link_to b)) (Exchanged (Ok word)) tt took
       (took.0.0 ∙ ap Some took.0.1) took.1)
       (so (Exchanged (Ok old))) cut)
-  exchanges b a old mine so cut other (Exchanged (Err word)) m took =
-      looks m (made_beside b (block_in word)) took.1 (beside_known b a word mine took.0.0 (block_in word == 0) refl) (so (Exchanged (Err word))) (other word)
-  exchanges b a old mine so cut other (Found x) m took = absurd took.0
-  exchanges b a old mine so cut other Stored m took = absurd took.0
-  exchanges b a old mine so cut other (OutMade x) m took = absurd took.0
-  exchanges b a old mine so cut other (Taken x) m took = absurd took.0
-  exchanges b a old mine so cut other (Roomed x) m took = absurd took.0
+  exchanges b x a old made so cut other (Exchanged (Err word)) m took =
+      looks m (made_beside b x (block_in word)) took.1 (beside_known b x a word made took.0.0 (block_in word == 0) refl) (so (Exchanged (Err word))) (other word)
+  exchanges b x a old made so cut other (Found y) m took = absurd took.0
+  exchanges b x a old made so cut other Stored m took = absurd took.0
+  exchanges b x a old made so cut other (OutMade y) m took = absurd took.0
+  exchanges b x a old made so cut other (Taken y) m took = absurd took.0
+  exchanges b x a old made so cut other (Roomed y) m took = absurd took.0
 
 module _ (T : Type 0) (defers : T → Option ℕ) where
   pub roots_are_seen : RootsAreSeen T defers
@@ -190,37 +185,37 @@ module _ (T : Type 0) (defers : T → Option ℕ) where
     λ out m took. sees defers fixed s id t (Seen b) h at a out m took (told defers (Inside t (Seen b)) (Load (Root a)) out)
         (λ word e. subst (λ (o : Out T). told defers (Inside t (Seen b)) (Load (Root a)) o (Inside t (seen_in word))) (sym e) (seen_in word, refl, refl)),
   )
-  roots_are_seen (Made b) a fixed id t looks lt s h at = absurd looks
-  roots_are_seen (Both b c) a fixed id t looks lt s h at = absurd looks
+  roots_are_seen (Made b x) a fixed id t looks lt s h at = absurd looks
+  roots_are_seen (Both b x c) a fixed id t looks lt s h at = absurd looks
   roots_are_seen (Cut b) a fixed id t looks lt s h at = absurd looks
 
   pub made_are_linked : MadeAreLinked T defers
-  made_are_linked b a fixed id t lt s h at = (root_can defers fixed s id (Inside t (Made b)) h at a lt, λ out m took. by out m took)
+  made_are_linked b x a fixed id t lt s h at = (root_can defers fixed s id (Inside t (Made b x)) h at a lt, λ out m took. by out m took)
     where
       by : (out : Out T) (m : Mem T) → Took s.memory (Swap (Root a) (link_to b)) out m
-          → Goes (Holds defers fixed) Keeps s m id (told defers (Inside t (Made b)) (Swap (Root a) (link_to b)) out)
+          → Goes (Holds defers fixed) Keeps s m id (told defers (Inside t (Made b x)) (Swap (Root a) (link_to b)) out)
       by (Found old) m took =
-          links defers fixed s id t (Made b) h at b a (h.seats id (Inside t (Made b)) at).known old m
-          (wrote defers fixed s id (Inside t (Made b)) h at a (link_to b) old m (Swap (Root a) (link_to b)) (Found old) tt took took.0 took.1)
-          (told defers (Inside t (Made b)) (Swap (Root a) (link_to b)) (Found old)) (cut_in old, refl, refl)
+          links defers fixed s id t (Made b x) h at b a (h.seats id (Inside t (Made b x)) at).known.0 old m
+          (wrote defers fixed s id (Inside t (Made b x)) h at a (link_to b) old m (Swap (Root a) (link_to b)) (Found old) tt took took.0 took.1)
+          (told defers (Inside t (Made b x)) (Swap (Root a) (link_to b)) (Found old)) (cut_in old, refl, refl)
       by Stored m took = absurd took.0
-      by (Exchanged x) m took = absurd took.0
-      by (OutMade x) m took = absurd took.0
-      by (Taken x) m took = absurd took.0
-      by (Roomed x) m took = absurd took.0
+      by (Exchanged y) m took = absurd took.0
+      by (OutMade y) m took = absurd took.0
+      by (Taken y) m took = absurd took.0
+      by (Roomed y) m took = absurd took.0
 
   pub made_are_exchanged : MadeAreExchanged T defers
-  made_are_exchanged (Made c) b a old fixed id t is lt s h at = (
-    root_can defers fixed s id (Inside t (Made c)) h at a lt,
-    exchanges defers fixed s id t (Made c) h at b a old (subst (λ (k : ℕ). s.world.hand k ≡ world.Making id) is (h.seats id (Inside t (Made c)) at).known)
-        (told defers (Inside t (Made c)) (Exchange (Root a) old (link_to b))) (cut_in old, refl, refl)
-        (λ word. (made_beside b (block_in word), ap (λ (k : ℕ). made_beside k (block_in word)) (sym is), refl)),
+  made_are_exchanged (Made c x) b a old fixed id t is lt s h at = (
+    root_can defers fixed s id (Inside t (Made c x)) h at a lt,
+    exchanges defers fixed s id t (Made c x) h at b x a old (subst (λ (k : ℕ). IsMade s.world id k x) is (h.seats id (Inside t (Made c x)) at).known)
+        (told defers (Inside t (Made c x)) (Exchange (Root a) old (link_to b))) (cut_in old, refl, refl)
+        (λ word. (made_beside b x (block_in word), ap (λ (k : ℕ). made_beside k x (block_in word)) (sym is), refl)),
   )
-  made_are_exchanged (Both c d) b a old fixed id t is lt s h at = (
-    root_can defers fixed s id (Inside t (Both c d)) h at a lt,
-    exchanges defers fixed s id t (Both c d) h at b a old (subst (λ (k : ℕ). s.world.hand k ≡ world.Making id) is (h.seats id (Inside t (Both c d)) at).known.0)
-        (told defers (Inside t (Both c d)) (Exchange (Root a) old (link_to b))) (cut_in old, refl, refl)
-        (λ word. (made_beside b (block_in word), ap (λ (k : ℕ). made_beside k (block_in word)) (sym is), refl)),
+  made_are_exchanged (Both c x d) b a old fixed id t is lt s h at = (
+    root_can defers fixed s id (Inside t (Both c x d)) h at a lt,
+    exchanges defers fixed s id t (Both c x d) h at b x a old (subst (λ (k : ℕ). IsMade s.world id k x) is (h.seats id (Inside t (Both c x d)) at).known.0)
+        (told defers (Inside t (Both c x d)) (Exchange (Root a) old (link_to b))) (cut_in old, refl, refl)
+        (λ word. (made_beside b x (block_in word), ap (λ (k : ℕ). made_beside k x (block_in word)) (sym is), refl)),
   )
   made_are_exchanged Nothing b a old fixed id t is lt s h at = absurd is
   made_are_exchanged (Seen c) b a old fixed id t is lt s h at = absurd is

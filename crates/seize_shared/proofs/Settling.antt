@@ -29,7 +29,7 @@ use Rattle.seize_acts.proofs.Answers.{same_some, ended}
 use Rattle.seize_acts.proofs.Steps.{sees_end}
 use Rattle.seize_ends.proofs.Batches.Rows.{settles_memory}
 use Rattle.seize_seats.specs.State.{State, view_of, Goes as GoesOnBy}
-use Rattle.seize_bounds.specs.Bounds.{HasCounted, HasTried, IsAloneOnSlot, IsAny, ArePlain, CountsWithin, TriesWithin}
+use Rattle.seize_bounds.specs.Bounds.{HasCounted, HasTried, IsAloneOnSlot, SettlesWithin, TriesWithin}
 use Rattle.seize_shared.specs.Rows.{settles_for, used_for, leave_of, counting, IsLooked, IsBounded, Holds, Keeps}
 use Rattle.seize_shared.specs.Told.{shown_by, FollowsBy, told}
 use Rattle.seize_shared.specs.Promises.{op_in}
@@ -41,7 +41,8 @@ use Rattle.seize_shared.specs.declared.view.Why.TheVariants.{Retiring, Ending}
 use Rattle.seize_shared.specs.declared.view.Fixed.{Fixed}
 use Rattle.seize_bounds.proofs.Bounds.Passing.{steps_within}
 use Rattle.seize_shared.proofs.Moved.{moved}
-use Rattle.seize_shared.proofs.Steps.{reached, alone, step_of, step_plain, stepped}
+use Rattle.seize_shared.proofs.Came.{reached}
+use Rattle.seize_shared.proofs.Steps.{alone, step_of, stepped}
 use Rattle.seize_shared.proofs.Operations.{may, used_as, slot_of}
 use Rattle.seize_shared.proofs.Reclaims.{may_settle}
 use Rattle.seize_shared.proofs.Looks.{rest_of, looked}
@@ -144,11 +145,11 @@ module _ {T : Type 0} (defers : T → Option ℕ) (fixed : Fixed) (s : State T (
     pub falls : now < left
     pub bounded : (d : Settle) (look : Option (ℕ × T)) → IsBounded defers fixed n id (Settles d y look now)
 
-  next : (y : Why) → why ≡ y → (n : World T) → Steps' defers id (w.row id) w n → ArePlain defers n.memory → is_over c.stands ≡ false → Next y n
-  next (Retiring x) e n step plain on =
+  next : (y : Why) → why ≡ y → (n : World T) → Steps' defers id (w.row id) w n → is_over c.stands ≡ false → Next y n
+  next (Retiring x) e n step on =
       let had : TriesWithin defers fixed.batch_size id left w =
       subst (λ (y : Why). IsBounded defers fixed w id (Settles c y seen left)) e (h.bounded id v at_id) in
-      let k = steps_within defers (IsAloneOnSlot id) HasTried fixed.batch_size id left w n had not_tried step plain in
+      let k = steps_within defers (IsAloneOnSlot id) HasTried fixed.batch_size id left w n had not_tried step in
       record { now = k.0; falls = k.1; bounded = λ d look. k.2 }
     where
       tried : HasTried (settles_for (Retiring x) c) → c.stands ≡ at.Over
@@ -157,10 +158,10 @@ module _ {T : Type 0} (defers : T → Option ℕ) (fixed : Fixed) (s : State T (
       not_tried : HasTried (w.row id) → ⊥
       not_tried is =
           let over = tried (subst HasTried ((h.seats id v at_id).row ∙ ap (λ (y : Why). settles_for y c) e) is) in absurd (cc (on, ap is_over over))
-  next (Ending size way) e n step plain on =
-      let had : CountsWithin defers fixed.batch_size id left w =
+  next (Ending size way) e n step on =
+      let had : SettlesWithin defers fixed.batch_size id left w =
       subst (λ (y : Why). IsBounded defers fixed w id (Settles c y seen left)) e (h.bounded id v at_id) in
-      let k = steps_within defers IsAny HasCounted fixed.batch_size id left w n had not_counted step plain in
+      let k = steps_within defers (IsAloneOnSlot id) HasCounted fixed.batch_size id left w n had not_counted step in
       record { now = k.0; falls = k.1; bounded = λ d look. k.2 }
     where
       counted : HasCounted (settles_for (Ending size way) c) → c.stands ≡ at.Over
@@ -180,7 +181,7 @@ module _ {T : Type 0} (defers : T → Option ℕ) (fixed : Fixed) (s : State T (
       let look = looked defers c c.stands out m end ends in
       let n : World T = after why m end in
       let step = step_of defers fixed s id v h at_id n (steps why m end st) in
-      let k = next why refl n step (step_plain defers fixed s id v h at_id n step) (not_over defers c c.stands op makes (is_over c.stands) refl) in
+      let k = next why refl n step (not_over defers c c.stands op makes (is_over c.stands) refl) in
       let u : View T = Settles end.0 why look.0 k.now in
       moved defers fixed s id v u m n (told defers v op out) h at_id
       (stepped defers fixed s id v h at_id u m n (steps why m end st) (memory why m end)

@@ -1,7 +1,7 @@
 -- What a seat knows that stands so.
 use Rattle.std.specs.Prelude.{Some, None, ◌==◌, if◌then◌else◌}
 use Rattle.std.proofs.Common.{◌≡◌, ℕ, Bool, true, false, inl, inr, refl, ap, sym, subst, ◌∙◌}
-use Rattle.std.proofs.lemmas.Bool.{eqb-false, ne_eqb, eq-eqb, cases_eq}
+use Rattle.std.proofs.lemmas.Bool.{eqb-false, ne_eqb, cases_eq}
 use Rattle.seize_acts.proofs.Answers.{same_some}
 use Rattle.seize_shared.specs.Standing.{standing}
 use Rattle.seize_shared.specs.Told.{seen_as}
@@ -23,30 +23,30 @@ same t s k b x y e =
     let p = same_some (stands s x b) (stands t y k) e in (ap (λ (q : Standing). q.0) p, ap (λ (q : Standing). q.1) p, ap (λ (q : Standing). q.2) p)
 
 -- which block a seat has seen, 0 for none
-abbrev Knows : Has → ℕ → Type 0
+abbrev Knows : {T : Type 0} → Has T → ℕ → Type 0
 Knows Nothing k = k ≡ 0
 Knows (Seen b) k = (b ≡ k) × (b ≡ 0 → ⊥)
 Knows _ k = ⊥
 
-looking : (has : Has) (k : ℕ) → Knows has k → IsLooking has
+looking : {T : Type 0} (has : Has T) (k : ℕ) → Knows has k → IsLooking has
 looking Nothing k knows = tt
 looking (Seen b) k knows = tt
-looking (Made b) k knows = knows
-looking (Both b a) k knows = knows
+looking (Made b x) k knows = knows
+looking (Both b x a) k knows = knows
 looking (Cut b) k knows = knows
 
-none_seen : (has : Has) → Knows has 0 → has ≡ Nothing
+none_seen : {T : Type 0} (has : Has T) → Knows has 0 → has ≡ Nothing
 none_seen Nothing knows = refl
 none_seen (Seen b) knows = absurd (knows.1 knows.0)
-none_seen (Made b) knows = absurd knows
-none_seen (Both b a) knows = absurd knows
+none_seen (Made b x) knows = absurd knows
+none_seen (Both b x a) knows = absurd knows
 none_seen (Cut b) knows = absurd knows
 
-some_seen : (has : Has) (k : ℕ) → Knows has k → (k ≡ 0 → ⊥) → has ≡ Seen k
+some_seen : {T : Type 0} (has : Has T) (k : ℕ) → Knows has k → (k ≡ 0 → ⊥) → has ≡ Seen k
 some_seen Nothing k knows ne = absurd (ne knows)
 some_seen (Seen b) k knows ne = ap Seen knows.0
-some_seen (Made b) k knows ne = absurd knows
-some_seen (Both b a) k knows ne = absurd knows
+some_seen (Made b x) k knows ne = absurd knows
+some_seen (Both b x a) k knows ne = absurd knows
 some_seen (Cut b) k knows ne = absurd knows
 
 -- one that has seen a block stands so
@@ -62,8 +62,8 @@ module _ {T : Type 0} (t : ℕ) where
       by : (y : Bool) → (if y then None else Some (stands s true b)) ≡ Some (stands t false k) → ⊥
       by true f = cc f
       by false f = let p = (same t s k b true false f).1 in cc p
-  is_outside k (Inside s (Made b)) e = absurd (cc e)
-  is_outside k (Inside s (Both b a)) e = absurd (cc e)
+  is_outside k (Inside s (Made b x)) e = absurd (cc e)
+  is_outside k (Inside s (Both b x a)) e = absurd (cc e)
   is_outside k (Inside s (Cut b)) e = absurd (cc e)
   is_outside k (Owes s b) e = absurd (cc e)
   is_outside k Rests e = absurd (cc e)
@@ -74,17 +74,17 @@ module _ {T : Type 0} (t : ℕ) where
   is_outside k (Left s size way) e = absurd (cc e)
   is_outside k (Frees s) e = absurd (cc e)
 
-  inside : (k : ℕ) (v : View T) → standing v ≡ Some (stands t true k) → (has : Has) × Knows has k × (v ≡ Inside t has)
+  inside : (k : ℕ) (v : View T) → standing v ≡ Some (stands t true k) → (has : Has T) × Knows has k × (v ≡ Inside t has)
   inside k (Inside s Nothing) e = let p = same t s k 0 true true e in (Nothing, sym p.2, ap (λ (n : ℕ). Inside n Nothing) p.0)
   inside k (Inside s (Seen b)) e = by (Inside s (Seen b)) refl (b == 0) refl e
     where
       by : (v : View T) → v ≡ Inside s (Seen b) → (y : Bool) → (b == 0) ≡ y → (if y then None else Some (stands s true b)) ≡ Some (stands t true k)
-          → (has : Has) × Knows has k × (v ≡ Inside t has)
+          → (has : Has T) × Knows has k × (v ≡ Inside t has)
       by v at true is f = absurd (cc f)
       by v at false is f = let p = same t s k b true true f in (Seen b, (p.2, eqb-false b 0 is), at ∙ ap (λ (n : ℕ). Inside n (Seen b)) p.0)
   inside k (Outside s) e = absurd (let p = (same t s k 0 false true e).1 in cc p)
-  inside k (Inside s (Made b)) e = absurd (cc e)
-  inside k (Inside s (Both b a)) e = absurd (cc e)
+  inside k (Inside s (Made b x)) e = absurd (cc e)
+  inside k (Inside s (Both b x a)) e = absurd (cc e)
   inside k (Inside s (Cut b)) e = absurd (cc e)
   inside k (Owes s b) e = absurd (cc e)
   inside k Rests e = absurd (cc e)
@@ -95,7 +95,7 @@ module _ {T : Type 0} (t : ℕ) where
   inside k (Left s size way) e = absurd (cc e)
   inside k (Frees s) e = absurd (cc e)
 
-  pub is_inside : (k : ℕ) (v : View T) → standing v ≡ Some (stands t true k) → (has : Has) × IsLooking has × (v ≡ Inside t has)
+  pub is_inside : (k : ℕ) (v : View T) → standing v ≡ Some (stands t true k) → (has : Has T) × IsLooking has × (v ≡ Inside t has)
   is_inside k v e = let i = inside k v e in (i.0, looking i.0 k i.1, i.2)
 
   pub has_nothing : (v : View T) → standing v ≡ Some (stands t true 0) → v ≡ Inside t Nothing

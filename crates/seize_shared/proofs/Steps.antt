@@ -1,31 +1,29 @@
 -- A row that begins, and a step of one, as what a seat has done.
-use Rattle.std.specs.Prelude.{◌≢◌, ◌++◌, Option, Some, None, IsSome, length, slice_get}
+use Rattle.std.specs.Prelude.{◌≢◌, ◌++◌, Option, Some, IsSome, length, slice_get}
 use Rattle.std.proofs.Common.{◌≡◌, ℕ, ◌+◌, List, [], ◌∷◌, ◌⊎◌, inl, inr, refl, sym, subst, ap, ◌∙◌, arith}
 use Rattle.std.proofs.lemmas.Bool.{cases_eq}
 use Rattle.seize_words.specs.Mem.{Mem, value_at}
 use Rattle.seize_words.specs.Word.{block_in}
-use Rattle.seize.specs.declared.states.TheConstants.{LAST_SLOT}
 use Rattle.seize.specs.declared.rows.register.Registering.{Registering}
 use Rattle.seize.specs.declared.rows.register.Registering.TheVariants as at
 use Rattle.seize.specs.Sequence.{taken_in}
 use Rattle.seize.specs.Law.{Effect, Entered, Left as LeftSlot, Made, Linked, Unlinked, Deferred, Retired, Taken, Dropped, Ended, LeftOver, holds, is_over}
-use Rattle.seize.specs.World.{World, Row, Use, Hand, Vacant, Event, Begin, Step, Request, Steps', Happens, Runs, at_start, times}
+use Rattle.seize.specs.World.{World, Row, Use, Hand, Vacant, Event, Begin, Step, Request, Steps', Happens, times}
 use Rattle.seize.specs.World as world
-use Rattle.seize_rule.proofs.World.Start.{start_good}
 use Rattle.seize_rule.proofs.Rows.Effects.{IsOneStep}
 use Rattle.seize_rule.proofs.Rows.Known.{works_on, registering_on}
 use Rattle.seize_alone.specs.Alone.{IsOfUsers}
 use Rattle.seize_alone.proofs.Spared.Rows.{RowStepped}
-use Rattle.seize_alone.proofs.Histories.Reached.{Reached, runs_reached}
+use Rattle.seize_alone.proofs.Histories.Reached.{Reached}
 use Rattle.seize_alone.proofs.Histories.NotTaken.{IsHad, still_held, kept_hand, taken_gone, did}
 use Rattle.seize_alone.proofs.Histories.Uses.{uses_kept}
 use Rattle.seize_seats.specs.State.{State, view_of}
-use Rattle.seize_bounds.specs.Bounds.{ArePlain}
-use Rattle.seize_shared.specs.Rows.{row_of, use_of, used_for, IsSeeking, IsShort, IsUsed, RootsNameLinked, Fits, Came, IsBounded, Holds}
+use Rattle.seize_shared.specs.Rows.{row_of, use_of, used_for, IsSeeking, IsShort, IsUsed, RootsNameLinked, Fits, IsBounded, Holds}
 use Rattle.seize_shared.specs.declared.view.View.{View}
 use Rattle.seize_shared.specs.declared.view.View.TheVariants.{Rests, Registers, Outside, Owes, Enters, Inside, Settles, Leaves, Left, Frees}
 use Rattle.seize_shared.specs.declared.view.Why.TheVariants.{Retiring, Ending}
 use Rattle.seize_shared.specs.declared.view.Fixed.{Fixed}
+use Rattle.seize_shared.proofs.Came.{of_users, reached, came_then}
 use Rattle.seize_shared.proofs.Moved.{Moved, not_vacant, used_so, still_used}
 
 -- one step of a row ends no block's owner
@@ -67,10 +65,6 @@ works_on_own (Leaves s size way) short t e = (world.Changing, ap (λ (k : ℕ). 
 works_on_own (Left s size way) short t e = (world.Changing, ap (λ (k : ℕ). Some (k, world.Changing)) (omega (arith, e)))
 works_on_own (Frees s) short t e = (world.Changing, ap (λ (k : ℕ). Some (k, world.Changing)) (omega (arith, e)))
 
--- what is in a seat's hand is some caller's
-pub of_users : (hand : ℕ → Hand) (b : ℕ) (k : Hand) → IsOfUsers k → hand b ≡ k → IsOfUsers (hand b)
-of_users hand b k is e = subst IsOfUsers (sym e) is
-
 module _ {T : Type 0} where
   -- the roots are as they were, and what was linked at them is
   pub roots_kept : (m m2 : Mem T) (hand hand2 : ℕ → Hand) → m2.roots ≡ m.roots → ((b r : ℕ) → hand b ≡ world.InUse r → hand2 b ≡ world.InUse r)
@@ -80,24 +74,6 @@ module _ {T : Type 0} where
         | inl none ↦ inl none
         | inr is ↦ inr (linked (block_in word) r is)
       ]
-
-module _ {T : Type 0} (defers : T → Option ℕ) (fixed : Fixed) where
-  abbrev size : ℕ
-  size = fixed.batch_size
-
-  start_reached : Reached defers size (at_start defers fixed.roots)
-  start_reached = record { good = start_good defers (LAST_SLOT + 1) size fixed.roots; sized = λ i. tt }
-
-  pub reached : (w : World T) → Came defers fixed w → Reached defers size w
-  reached w came = runs_reached defers size came.0 (at_start defers fixed.roots) w start_reached came.1
-
-  runs_then : (events : List (Event T)) (w v n : World T) (e : Event T) → Runs defers size events w v → Happens defers size e v n
-      → Runs defers size (events ++ e ∷ []) w n
-  runs_then [] w v n e h step = (n, subst (λ (u : World T). Happens defers size e u n) h step, refl)
-  runs_then (a ∷ events) w v n e h step = (h.0, h.1, runs_then events h.0 v n e h.2 step)
-
-  pub came_then : (w n : World T) (e : Event T) → Came defers fixed w → Happens defers size e w n → Came defers fixed n
-  came_then w n e came step = (came.0 ++ e ∷ [], runs_then came.0 (at_start defers fixed.roots) w n e came.1 step)
 
 module _ {T : Type 0} (defers : T → Option ℕ) (fixed : Fixed) (s : State T (View T) (World T)) (id : ℕ) (v : View T) (h : Holds defers fixed s)
     (at_id : view_of s id ≡ Some v) where
@@ -124,26 +100,9 @@ module _ {T : Type 0} (defers : T → Option ℕ) (fixed : Fixed) (s : State T (
   pub world_rooted : length w.memory.roots ≡ fixed.roots
   world_rooted = subst (λ (m : Mem T). length m.roots ≡ fixed.roots) h.memory h.rooted
 
-  -- and no value keeps a list
-  pub world_plain : ArePlain defers w.memory
-  world_plain = subst (λ (m : Mem T). ArePlain defers m) h.memory h.plain
-
-  -- a step of its row, after which none does
+  -- a step of its row
   pub step_of : (n : World T) → Steps' defers id (row_of v) w n → Steps' defers id (w.row id) w n
   step_of n taken = subst (λ (row : Row). Steps' defers id row w n) (sym (h.seats id v at_id).row) taken
-
-  pub step_plain : (n : World T) → Steps' defers id (w.row id) w n → ArePlain defers n.memory
-  step_plain n step b x there = by (cases_eq (times b (taken_in d.effects)) 0)
-    where
-      r : Reached defers fixed.batch_size w
-      r = reached defers fixed w h.came
-
-      d : RowStepped defers id w n
-      d = did defers fixed.batch_size w r id n step
-
-      by : (times b (taken_in d.effects) ≡ 0) ⊎ (times b (taken_in d.effects) ≢ 0) → defers x ≡ None
-      by (inl e) = world_plain b x (sym (d.frames.values b e) ∙ there)
-      by (inr ne) = let none = taken_gone defers fixed.batch_size w r id n step b ne in absurd (cc (there, none))
 
   pub begun : (request : Request) (u : View T) (n : World T) → Happens defers fixed.batch_size (Begin id request) w n → n.memory ≡ w.memory → n.log ≡ w.log
       → ((j b : ℕ) → j ≢ id → (w.hand b ≡ world.Making j → n.hand b ≡ world.Making j) × (w.hand b ≡ world.Cutting j → n.hand b ≡ world.Cutting j))
@@ -164,13 +123,9 @@ module _ {T : Type 0} (defers : T → Option ℕ) (fixed : Fixed) (s : State T (
     over = λ t b held. ap (is_over b) log;
     roots = roots_kept s.memory s.memory w.hand n.hand refl linked h.roots;
     rooted = h.rooted;
-    plain = plain;
-    passes = λ j ne was now. (Begin id request ∷ [], (n, (λ e. ne (sym e)), happens, plain, now, refl));
+    passes = λ j ne was now. (Begin id request ∷ [], (n, (λ e. ne (sym e)), happens, now, refl));
     bounded = bounded;
   }
-    where
-      plain : ArePlain defers n.memory
-      plain = subst (λ (m : Mem T). ArePlain defers m) (sym memory) world_plain
 
   pub stepped : (u : View T) (m : Mem T) (n : World T) → Steps' defers id (row_of v) w n → m ≡ n.memory → Fits n id u
       → ((j t : ℕ) (x : View T) (a b : Use) → j ≢ id → view_of s j ≡ Some x → use_of x ≡ Some (t, a) → use_of u ≡ Some (t, b) → ⊥)
@@ -189,8 +144,7 @@ module _ {T : Type 0} (defers : T → Option ℕ) (fixed : Fixed) (s : State T (
     over = λ t b held. ap (is_over b) d.logged ∙ not_over b d.effects w.log d.one;
     roots = roots_kept w.memory m w.hand n.hand same_roots (λ b r is. kept b (world.InUse r) tt is) world_roots;
     rooted = ap length same_roots ∙ world_rooted;
-    plain = step_plain n step;
-    passes = λ j ne was now. (Step id ∷ [], (n, (λ e. ne (sym e)), step, step_plain n step, now, refl));
+    passes = λ j ne was now. (Step id ∷ [], (n, (λ e. ne (sym e)), step, now, refl));
     bounded = bounded;
   }
     where

@@ -14,8 +14,8 @@ use Rattle.seize_rule.proofs.Points.Aside.{HandFits}
 use Rattle.seize_rule.proofs.Rows.Others.{with_other, users_rows}
 use Rattle.seize_alone.proofs.Histories.Reached.{Reached}
 use Rattle.seize_seats.specs.State.{State, view_of, Goes}
-use Rattle.seize_bounds.specs.Bounds.{IsOfOthers, IsAloneOnSlot, ArePlain}
-use Rattle.seize_shared.specs.Rows.{row_of, use_of, IsShort, IsUsed, IsKnown, IsBounded, IsInHand, RootsNameLinked, Fits, Came, Holds, Keeps}
+use Rattle.seize_bounds.specs.Bounds.{IsOfOthers, IsAloneOnSlot}
+use Rattle.seize_shared.specs.Rows.{row_of, use_of, IsShort, IsUsed, IsKnown, IsBounded, IsMade, IsInHand, RootsNameLinked, Fits, Came, Holds, Keeps}
 use Rattle.seize_shared.specs.declared.view.View.{View}
 use Rattle.seize_shared.specs.declared.view.View.TheVariants.{Outside, Owes, Inside}
 use Rattle.seize_shared.specs.declared.view.Has.{Has}
@@ -55,14 +55,17 @@ module _ {T : Type 0} where
       → Took s.world.memory op out m
   world_took s is op out m took = subst (λ (x : Mem T). Took x op out m) is took
 
-  -- what is known of a block stays known where hands are as they were, and what the section holds is held
-  pub same_hand : (w n : World T) (j t : ℕ) → n.hand ≡ w.hand → ((b : ℕ) → holds t b w.log ≡ true → holds t b n.log ≡ true) → (has : Has) → IsInHand w j t has
-      → IsInHand n j t has
-  same_hand w n j t hand held Nothing is = tt
-  same_hand w n j t hand held (Made b) is = ap (λ (f : ℕ → Hand). f b) hand ∙ is
-  same_hand w n j t hand held (Seen b) is = held b is
-  same_hand w n j t hand held (Both b a) is = (ap (λ (f : ℕ → Hand). f b) hand ∙ is.0, held a is.1)
-  same_hand w n j t hand held (Cut b) is = ap (λ (f : ℕ → Hand). f b) hand ∙ is
+  same_made : (w n : World T) (j b : ℕ) (x : T) → n.hand ≡ w.hand → n.memory ≡ w.memory → IsMade w j b x → IsMade n j b x
+  same_made w n j b x hand memory is = (ap (λ (f : ℕ → Hand). f b) hand ∙ is.0, ap (λ (m : Mem T). value_at m b) memory ∙ is.1)
+
+  -- what is known of a block stays known where hands and memory are as they were, and what the section holds is held
+  pub same_hand : (w n : World T) (j t : ℕ) → n.hand ≡ w.hand → n.memory ≡ w.memory → ((b : ℕ) → holds t b w.log ≡ true → holds t b n.log ≡ true)
+      → (has : Has T) → IsInHand w j t has → IsInHand n j t has
+  same_hand w n j t hand memory held Nothing is = tt
+  same_hand w n j t hand memory held (Made b x) is = same_made w n j b x hand memory is
+  same_hand w n j t hand memory held (Seen b) is = held b is
+  same_hand w n j t hand memory held (Both b x a) is = (same_made w n j b x hand memory is.0, held a is.1)
+  same_hand w n j t hand memory held (Cut b) is = ap (λ (f : ℕ → Hand). f b) hand ∙ is
 
   -- a block that its maker has no section holds
   pub making_not_held : (defers : T → Option ℕ) (size : ℕ) (w : World T) (r : Reached defers size w) (id a b c : ℕ) → holds a c w.log ≡ true
@@ -77,7 +80,7 @@ module _ {T : Type 0} (defers : T → Option ℕ) (fixed : Fixed) (s : State T (
   w = s.world
 
   -- what events of a seat within a section have left that are no steps of rows
-  pub record Users (m : Mem T) (n : World T) (has : Has) : Type 0 where
+  pub record Users (m : Mem T) (n : World T) (has : Has T) : Type 0 where
     pub came : Came defers fixed n
     pub memory : m ≡ n.memory
     pub row : n.row ≡ w.row
@@ -89,21 +92,19 @@ module _ {T : Type 0} (defers : T → Option ℕ) (fixed : Fixed) (s : State T (
     pub over : (a b : ℕ) → holds a b w.log ≡ true → is_over b n.log ≡ is_over b w.log
     pub roots : RootsNameLinked m n.hand
     pub rooted : length m.roots ≡ fixed.roots
-    pub plain : ArePlain defers n.memory
     pub passes : Passes defers fixed s id n
 
   -- one event of a user, and one more
-  pub passes_one : (e : Event T) (n : World T) → ((j : ℕ) → IsOfOthers j e) → Happens defers fixed.batch_size e w n → ArePlain defers n.memory
-      → Passes defers fixed s id n
-  passes_one e n is happens plain j ne was now = (e ∷ [], (n, is j, happens, plain, now, refl))
+  pub passes_one : (e : Event T) (n : World T) → ((j : ℕ) → IsOfOthers j e) → Happens defers fixed.batch_size e w n → Passes defers fixed s id n
+  passes_one e n is happens j ne was now = (e ∷ [], (n, is j, happens, now, refl))
 
   pub passes_then : (n v : World T) (e : Event T) → IsBetween e → ((j : ℕ) → IsOfOthers j e) → Passes defers fixed s id n
-      → Happens defers fixed.batch_size e n v → ArePlain defers v.memory → Passes defers fixed s id v
-  passes_then n v e between is before happens plain j ne was now =
+      → Happens defers fixed.batch_size e n v → Passes defers fixed s id v
+  passes_then n v e between is before happens j ne was now =
       let mid : IsAloneOnSlot j n =
       subst (λ (rows : ℕ → Row). IsAloneOnSlot j (record v { row = rows })) (users_rows defers fixed.batch_size n v e between happens) now in
       let p = before j ne was mid in
-      (p.0 ++ e ∷ [], both defers (IsAloneOnSlot j) fixed.batch_size j p.0 (e ∷ []) w n v p.1 (v, is j, happens, plain, now, refl))
+      (p.0 ++ e ∷ [], both defers (IsAloneOnSlot j) fixed.batch_size j p.0 (e ∷ []) w n v p.1 (v, is j, happens, now, refl))
 
 module _ {T : Type 0} (defers : T → Option ℕ) (fixed : Fixed) (s : State T (View T) (World T)) (id t : ℕ) (v x : View T) (h : Holds defers fixed s)
     (at : view_of s id ≡ Some v) (rests : row_of v ≡ world.Rests) (still : row_of x ≡ world.Rests) (same : use_of x ≡ use_of v) (short : IsShort x) where
@@ -111,7 +112,7 @@ module _ {T : Type 0} (defers : T → Option ℕ) (fixed : Fixed) (s : State T (
   fit = h.seats id v at
 
   -- the seat goes on from one view to another, of the same slot
-  pub users_on : (m : Mem T) (n : World T) (has : Has) → Users defers fixed s id t m n has → IsKnown n id x → IsBounded defers fixed n id x
+  pub users_on : (m : Mem T) (n : World T) (has : Has T) → Users defers fixed s id t m n has → IsKnown n id x → IsBounded defers fixed n id x
       → (so : View T → Type 0) → so x → Goes (Holds defers fixed) Keeps s m id so
   users_on m n has u known bounded so is =
       moved defers fixed s id v x m n so h at (record {
@@ -133,14 +134,13 @@ module _ {T : Type 0} (defers : T → Option ℕ) (fixed : Fixed) (s : State T (
         over = u.over;
         roots = u.roots;
         rooted = u.rooted;
-        plain = u.plain;
         passes = u.passes;
         bounded = bounded;
       }) is
 
 module _ {T : Type 0} (defers : T → Option ℕ) (fixed : Fixed) (s : State T (View T) (World T)) (id t : ℕ) (h : Holds defers fixed s) where
   -- within its section
-  pub users : (had : Has) → view_of s id ≡ Some (Inside t had) → (m : Mem T) (n : World T) (has : Has) → Users defers fixed s id t m n has
+  pub users : (had : Has T) → view_of s id ≡ Some (Inside t had) → (m : Mem T) (n : World T) (has : Has T) → Users defers fixed s id t m n has
       → (so : View T → Type 0) → so (Inside t has) → Goes (Holds defers fixed) Keeps s m id so
   users had at m n has u so is = users_on defers fixed s id t (Inside t had) (Inside t has) h at refl refl refl tt m n has u u.in_hand tt so is
 

@@ -1,36 +1,26 @@
 -- A word is written at a root, and what was there is unlinked.
-use Rattle.std.specs.Prelude.{◌≢◌, ◌<◌, ◌==◌, Option, Some, IsSome, Ok, Err, length, slice_get, slice_set, if◌then◌else◌}
-use Rattle.std.proofs.Common.{◌≡◌, ℕ, zero, suc, List, [], ◌∷◌, Bool, true, false, cond, ◌⊎◌, inl, inr, refl, sym, subst, ap, ◌∙◌, arith}
-use Rattle.std.proofs.lemmas.Bool.{cases_eq, eq-eqb, ne_eqb}
+use Rattle.std.specs.Prelude.{◌≢◌, ◌<◌, ◌==◌, Option, Some, IsSome, length, slice_get, slice_set}
+use Rattle.std.proofs.Common.{◌≡◌, ℕ, zero, suc, List, [], ◌∷◌, Bool, true, false, ◌⊎◌, inl, inr, refl, sym, subst, ap, ◌∙◌, arith}
+use Rattle.std.proofs.lemmas.Bool.{cases_eq, eq-eqb}
 use Rattle.seize_words.specs.Mem.{Mem, Took, value_at, word_at, with_word}
 use Rattle.seize_words.specs.Word.{block_in, link_to}
-use Rattle.seize_words.specs.Op.{Op, Out, Load, Swap, Exchange, Found, Stored, Exchanged, Made as OutMade, Taken, Roomed}
+use Rattle.seize_words.specs.Op.{Op, Out}
 use Rattle.seize_words.specs.declared.at.At.TheVariants.{Root}
-use Rattle.seize.specs.Law.{Effect, Linked, Unlinked, holds, is_over, is_open, reachable, is_somewhere}
+use Rattle.seize.specs.Law.{Unlinked}
 use Rattle.seize.specs.World.{World, Use, Hand, Operates, Links, Unlinks, MayCut, IsOwnOp, with_at, with_hand, with_effect}
 use Rattle.seize.specs.World as world
-use Rattle.seize_alone.proofs.Given.SeizeMoves.State.Ghost.{Life, IsLinked, emptied, place_of}
-use Rattle.seize_rule.proofs.Points.Aside.{HandFits}
 use Rattle.seize_alone.proofs.Given.SeizeMoves.State.Held.{held_on}
-use Rattle.seize_alone.proofs.Given.SeizeMoves.State.Logs.{reached_held}
 use Rattle.seize_rule.proofs.Rows.Others.{with_here, with_other}
-use Rattle.seize_rule.proofs.Rows.Teams.{UseFits}
 use Rattle.seize_rule.proofs.World.Values.{own_op_value}
-use Rattle.seize_alone.proofs.Histories.Reached.{Reached}
 use Rattle.seize_acts.proofs.Answers.{same_some}
 use Rattle.seize_seats.specs.State.{State, view_of, Goes}
-use Rattle.seize_bounds.specs.Bounds.{ArePlain}
-use Rattle.seize_shared.specs.Rows.{IsInHand, RootsNameLinked, Fits, Came, Holds, Keeps}
-use Rattle.seize_shared.specs.Told.{seen_in, cut_in, made_beside, told}
-use Rattle.seize_shared.specs.Promises.{HasMade, MadeAreLinked, MadeAreExchanged, RootsAreSeen, RootsAreCleared}
+use Rattle.seize_shared.specs.Rows.{RootsNameLinked, Came, Holds, Keeps}
 use Rattle.seize_shared.specs.declared.view.View.{View}
-use Rattle.seize_shared.specs.declared.view.View.TheVariants.{Inside}
-use Rattle.seize_shared.specs.declared.view.Has.{Has}
-use Rattle.seize_shared.specs.declared.view.Has.TheVariants.{Nothing, Made, Seen, Both, Cut}
+use Rattle.seize_shared.specs.declared.view.Has.TheVariants.{Nothing, Cut}
 use Rattle.seize_shared.specs.declared.view.Fixed.{Fixed}
 use Rattle.seize_shared.proofs.Lists.{there, elsewhere}
 use Rattle.seize_shared.proofs.Moved.{Passes}
-use Rattle.seize_shared.proofs.Steps.{came_then, reached, world_plain}
+use Rattle.seize_shared.proofs.Came.{reached, came_then}
 use Rattle.seize_shared.proofs.Users.{apart_making, cutting_making, use_making, making_use, cutting_use, same_use}
 use Rattle.seize_shared.proofs.Users.{beside, world_took, making_not_held, passes_one, passes_then, Users, users}
 
@@ -56,7 +46,6 @@ module _ {T : Type 0} (defers : T → Option ℕ) (fixed : Fixed) (s : State T (
     pub roots : m.roots ≡ slice_set s.memory.roots a word
     pub came : Came defers fixed (record s.world { memory = m })
     pub values : (b : ℕ) → value_at m b ≡ value_at s.world.memory b
-    pub plain : ArePlain defers m
     pub passes : Passes defers fixed s id (record s.world { memory = m })
 
   -- the seat goes on where no block was at the root, and where one was, which is in its hand then
@@ -78,14 +67,12 @@ module _ {T : Type 0} (defers : T → Option ℕ) (fixed : Fixed) (s : State T (
       let here : Took w.memory op out m = world_took s h.memory op out m took in
       let values : (b : ℕ) → value_at m b ≡ value_at w.memory b =
       (λ b. ap (λ (x : Mem T). value_at x b) here.1 ∙ own_op_value defers w.memory b op out own) in
-      let plain : ArePlain defers m = (λ b x e. world_plain defers fixed s id v h at b x (sym (values b) ∙ e)) in
       record {
         there = found;
         roots = ap (λ (x : Mem T). x.roots) is;
         came = came_then defers fixed w (record w { memory = m }) (Operates op) h.came (out, m, own, here, refl);
         values = values;
-        plain = plain;
-        passes = passes_one defers fixed s id 0 (Operates op) (record w { memory = m }) (λ j. tt) (out, m, own, here, refl) plain;
+        passes = passes_one defers fixed s id 0 (Operates op) (record w { memory = m }) (λ j. tt) (out, m, own, here, refl);
       }
 
   pub rooted_still : (a word old : ℕ) (m : Mem T) → Wrote defers fixed s id a word old m → length m.roots ≡ fixed.roots
@@ -172,9 +159,8 @@ module _ {T : Type 0} (defers : T → Option ℕ) (fixed : Fixed) (s : State T (
               | inr ne ↦ other c found (named c found e) ne
             ];
             rooted = u.rooted;
-            plain = u.plain;
             passes = passes_then defers fixed s id t n x (Unlinks id (block_in old)) tt (λ j. tt) u.passes
-                (subst (λ (k : Hand). MayCut id k) (sym mine) tt, refl) u.plain;
+                (subst (λ (k : Hand). MayCut id k) (sym mine) tt, refl);
           })
         where
           other : (c found : ℕ) → (block_in found ≡ 0) ⊎ (n.hand (block_in found) ≡ world.InUse c) → block_in found ≢ (block_in old)
@@ -201,6 +187,5 @@ module _ {T : Type 0} (defers : T → Option ℕ) (fixed : Fixed) (s : State T (
         over = λ e c held. refl;
         roots = named;
         rooted = rooted_still a 0 old m wrote;
-        plain = wrote.plain;
         passes = wrote.passes;
       }) named (λ c f. f) was (fresh a 0 old m wrote was (inl refl))

@@ -11,6 +11,7 @@ use Rattle.seize.specs.declared.rows.settle.Settling.TheVariants as settling_at
 use Rattle.seize.specs.declared.rows.settle.Settle.{Settle}
 use Rattle.seize.specs.Register.{register_plan}
 use Rattle.seize.specs.Settle.{retiring, flushing, settle_plan}
+use Rattle.seize.specs.World.{HasListWord}
 use Rattle.seize_seats.specs.Lendings.{Shown, IsValueOf}
 use Rattle.seize_seats.specs.State.{Starts, Comes, Allows, Turns}
 use Rattle.seize_shared.specs.Begun.{IsBegun, left_with}
@@ -66,21 +67,21 @@ IsToSettle fixed (Outside t) Idle c = c ≡ flushing t fixed.batch_size
 IsToSettle fixed _ way c = ⊥
 
 -- the block that is known, or one of both
-abbrev pub Names : Has → ℕ → Type 0
+abbrev pub Names : {T : Type 0} → Has T → ℕ → Type 0
 Names Nothing b = ⊥
-Names (Made c) b = c ≡ b
+Names (Made c x) b = c ≡ b
 Names (Seen c) b = c ≡ b
-Names (Both c a) b = (c ≡ b) ⊎ (a ≡ b)
+Names (Both c x a) b = (c ≡ b) ⊎ (a ≡ b)
 Names (Cut c) b = c ≡ b
 
 -- the block that was made
-abbrev pub HasMade : Has → ℕ → Type 0
-HasMade (Made c) b = c ≡ b
-HasMade (Both c a) b = c ≡ b
+abbrev pub HasMade : {T : Type 0} → Has T → ℕ → Type 0
+HasMade (Made c x) b = c ≡ b
+HasMade (Both c x a) b = c ≡ b
 HasMade _ b = ⊥
 
 -- a block was seen, or none is known
-abbrev pub IsLooking : Has → Type 0
+abbrev pub IsLooking : {T : Type 0} → Has T → Type 0
 IsLooking Nothing = Unit {0}
 IsLooking (Seen b) = Unit {0}
 IsLooking _ = ⊥
@@ -108,32 +109,32 @@ module _ (T : Type 0) (defers : T → Option ℕ) where
       (fixed : Fixed) (id : ℕ) (v : View T) (way : Becomes) (c : Settle) → IsToSettle fixed v way c → Turns (Holds defers fixed) Keeps id v (IsBegun way c)
 
   -- within a section of a slot this operation may be made by a seat that knows of this block
-  abbrev pub MayInside : Has → Op T → Type 0
+  abbrev pub MayInside : Has T → Op T → Type 0
   MayInside has op = (fixed : Fixed) (id t : ℕ) → Allows (Holds defers fixed) Keeps id (Inside t has) op (told defers (Inside t has) op)
 
-  -- a block of a value that keeps no list may be made by whoever has none in its hand, and taken away by whoever has made it
+  -- a block with the words that its value asks for may be made by whoever has none in its hand, and taken away by whoever has made it
   abbrev pub BlocksAreMade : Type 0
-  BlocksAreMade = (has : Has) (value : T) (words : ℕ) → IsLooking has → defers value ≡ None → MayInside has (Make value words)
+  BlocksAreMade = (has : Has T) (value : T) (words : ℕ) → IsLooking has → HasListWord defers (defers value) words → MayInside has (Make value words)
 
   abbrev pub MadeAreTaken : Type 0
-  MadeAreTaken = (has : Has) (b : ℕ) → HasMade has b → MayInside has (Take b)
+  MadeAreTaken = (has : Has T) (b : ℕ) → HasMade has b → MayInside has (Take b)
 
   -- it may be put at a root in place of what is there, or only in place of this word
   abbrev pub MadeAreLinked : Type 0
   MadeAreLinked =
-      (b r : ℕ) (fixed : Fixed) (id t : ℕ) → r < fixed.roots
-      → Allows (Holds defers fixed) Keeps id (Inside t (Made b)) (Swap (Root r) (link_to b)) (told defers (Inside t (Made b)) (Swap (Root r) (link_to b)))
+      (b : ℕ) (x : T) (r : ℕ) (fixed : Fixed) (id t : ℕ) → r < fixed.roots
+      → Allows (Holds defers fixed) Keeps id (Inside t (Made b x)) (Swap (Root r) (link_to b)) (told defers (Inside t (Made b x)) (Swap (Root r) (link_to b)))
 
   abbrev pub MadeAreExchanged : Type 0
   MadeAreExchanged =
-      (has : Has) (b r old : ℕ) (fixed : Fixed) (id t : ℕ) → HasMade has b → r < fixed.roots
+      (has : Has T) (b r old : ℕ) (fixed : Fixed) (id t : ℕ) → HasMade has b → r < fixed.roots
       → Allows (Holds defers fixed) Keeps id (Inside t has) (Exchange (Root r) old (link_to b))
       (told defers (Inside t has) (Exchange (Root r) old (link_to b)))
 
   -- what a root names may be seen, and taken from there
   abbrev pub RootsAreSeen : Type 0
   RootsAreSeen =
-      (has : Has) (r : ℕ) (fixed : Fixed) (id t : ℕ) → IsLooking has → r < fixed.roots
+      (has : Has T) (r : ℕ) (fixed : Fixed) (id t : ℕ) → IsLooking has → r < fixed.roots
       → Allows (Holds defers fixed) Keeps id (Inside t has) (Load (Root r)) (told defers (Inside t has) (Load (Root r)))
 
   abbrev pub RootsAreCleared : Type 0
@@ -149,7 +150,7 @@ module _ (T : Type 0) (defers : T → Option ℕ) where
 
   -- and the block that a seat knows of is there
   abbrev pub KnownAreShown : Type 0
-  KnownAreShown = (has : Has) (b : ℕ) (fixed : Fixed) (id t : ℕ) → Names has b → Shown (Holds defers fixed) id (Inside t has) b
+  KnownAreShown = (has : Has T) (b : ℕ) (fixed : Fixed) (id t : ℕ) → Names has b → Shown (Holds defers fixed) id (Inside t has) b
 
   -- as is the one that a settling is to look at, with the value that was told
   abbrev pub LookedAreShown : Type 0

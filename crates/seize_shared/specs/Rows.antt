@@ -17,7 +17,7 @@ use Rattle.seize.specs.Law.{holds, is_over}
 use Rattle.seize.specs.World.{World, Row, Hand, Event, Use, Runs, at_start}
 use Rattle.seize.specs.World as world
 use Rattle.seize_seats.specs.State.{State, view_of}
-use Rattle.seize_bounds.specs.Bounds.{ArePlain, CountsWithin, TriesWithin}
+use Rattle.seize_bounds.specs.Bounds.{SettlesWithin, TriesWithin}
 use Rattle.seize_shared.specs.declared.view.View.{View}
 use Rattle.seize_shared.specs.declared.view.Becomes.{Becomes}
 use Rattle.seize_shared.specs.declared.view.Becomes.TheVariants.{Idle, Active}
@@ -102,12 +102,16 @@ module _ {T : Type 0} where
   IsUsed w None = Unit {0}
   IsUsed w (Some slot) = w.uses slot.0 ≡ slot.1
 
+  -- this seat has made the block, of this value
+  abbrev pub IsMade : World T → ℕ → ℕ → T → Type 0
+  IsMade w j b x = (w.hand b ≡ world.Making j) × (value_at w.memory b ≡ Some x)
+
   -- what a seat within a section of this slot knows of a block
-  abbrev pub IsInHand : World T → ℕ → ℕ → Has → Type 0
+  abbrev pub IsInHand : World T → ℕ → ℕ → Has T → Type 0
   IsInHand w j t Nothing = Unit {0}
-  IsInHand w j t (Made b) = w.hand b ≡ world.Making j
+  IsInHand w j t (Made b x) = IsMade w j b x
   IsInHand w j t (Seen b) = holds t b w.log ≡ true
-  IsInHand w j t (Both b a) = (w.hand b ≡ world.Making j) × (holds t a w.log ≡ true)
+  IsInHand w j t (Both b x a) = IsMade w j b x × (holds t a w.log ≡ true)
   IsInHand w j t (Cut b) = w.hand b ≡ world.Cutting j
 
   -- the block that a settling is to look at is the one that it is about to reclaim, and has this value
@@ -136,7 +140,7 @@ module _ {T : Type 0} (defers : T → Option ℕ) (fixed : Fixed) where
   -- What a seat settles it has settled within so many steps: where its section has ended, its list is counted down; else its block is retired, or its batch
   -- tried.
   abbrev pub IsBounded : World T → ℕ → View T → Type 0
-  IsBounded w j (Settles c (Ending size way) seen left) = CountsWithin defers fixed.batch_size j left w
+  IsBounded w j (Settles c (Ending size way) seen left) = SettlesWithin defers fixed.batch_size j left w
   IsBounded w j (Settles c (Retiring way) seen left) = TriesWithin defers fixed.batch_size j left w
   IsBounded w j _ = Unit {0}
 
@@ -152,10 +156,9 @@ module _ {T : Type 0} (defers : T → Option ℕ) (fixed : Fixed) where
     pub apart : (j k t : ℕ) (a b : Use) (v u : View T) → view_of s j ≡ Some v → view_of s k ≡ Some u → use_of v ≡ Some (t, a) → use_of u ≡ Some (t, b) → j ≡ k
     pub roots : RootsNameLinked s.memory s.world.hand
     pub rooted : length s.memory.roots ≡ fixed.roots
-    pub plain : ArePlain defers s.memory
     pub bounded : (j : ℕ) (v : View T) → view_of s j ≡ Some v → IsBounded s.world j v
 
 module _ {T : Type 0} where
   -- the section of a seat holds the block, which is not over
   abbrev pub Keeps : View T → View T → World T → ℕ → Type 0
-  Keeps u o w b = (t : ℕ) × (has : Has) × (u ≡ Inside t has) × (holds t b w.log ≡ true) × (is_over b w.log ≡ false)
+  Keeps u o w b = (t : ℕ) × (has : Has T) × (u ≡ Inside t has) × (holds t b w.log ≡ true) × (is_over b w.log ≡ false)

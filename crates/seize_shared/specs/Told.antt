@@ -22,38 +22,38 @@ use Rattle.seize_shared.specs.declared.view.Has.TheVariants.{Nothing, Made, Seen
 use Rattle.seize_shared.specs.declared.view.Why.{Why}
 use Rattle.seize_shared.specs.declared.view.Why.TheVariants.{Ending}
 
--- what a seat within a section knows that has seen this block, or unlinked it, or made the first one and seen the second one; 0 is none
-abbrev pub seen_as : ℕ → Has
+-- what a seat within a section knows that has seen this block, or unlinked it, or made the first one, of this value, and seen the second one; 0 is none
+abbrev pub seen_as : {T : Type 0} → ℕ → Has T
 seen_as b = if b == 0 then Nothing else Seen b
 
-abbrev pub cut_as : ℕ → Has
+abbrev pub cut_as : {T : Type 0} → ℕ → Has T
 cut_as b = if b == 0 then Nothing else Cut b
 
-abbrev pub made_beside : ℕ → ℕ → Has
-made_beside b a = if a == 0 then Made b else Both b a
+abbrev pub made_beside : {T : Type 0} → ℕ → T → ℕ → Has T
+made_beside b x a = if a == 0 then Made b x else Both b x a
 
 -- the block that a word of a root names, if it names one, as it was seen, or unlinked
-abbrev pub seen_in : ℕ → Has
+abbrev pub seen_in : {T : Type 0} → ℕ → Has T
 seen_in word = seen_as (block_in word)
 
-abbrev pub cut_in : ℕ → Has
+abbrev pub cut_in : {T : Type 0} → ℕ → Has T
 cut_in word = cut_as (block_in word)
 
 -- what a seat within a section comes to know: it makes a block, takes it away again, or puts it at a root, whatever is there or only in place of this word;
 -- sees what a root names, or takes it from there
-abbrev pub has_told : {T : Type 0} → Has → Op T → Out T → Has → Type 0
-has_told Nothing (Make value words) (OutMade (Ok b)) after = (b < 2 ^ 53) × (after ≡ Made b)
+abbrev pub has_told : {T : Type 0} → Has T → Op T → Out T → Has T → Type 0
+has_told Nothing (Make value words) (OutMade (Ok b)) after = (b < 2 ^ 53) × (after ≡ Made b value)
 has_told Nothing (Make value words) (OutMade (Err back)) after = (back ≡ value) × (after ≡ Nothing)
-has_told (Seen a) (Make value words) (OutMade (Ok b)) after = (b < 2 ^ 53) × (after ≡ Both b a)
+has_told (Seen a) (Make value words) (OutMade (Ok b)) after = (b < 2 ^ 53) × (after ≡ Both b value a)
 has_told (Seen a) (Make value words) (OutMade (Err back)) after = (back ≡ value) × (after ≡ Seen a)
-has_told (Made b) (Take c) (Taken value) after = after ≡ Nothing
-has_told (Both b a) (Take c) (Taken value) after = after ≡ Seen a
-has_told (Made b) (Swap (Root r) word) (Found old) after = after ≡ cut_in old
+has_told (Made b x) (Take c) (Taken value) after = (value ≡ x) × (after ≡ Nothing)
+has_told (Both b x a) (Take c) (Taken value) after = (value ≡ x) × (after ≡ Seen a)
+has_told (Made b x) (Swap (Root r) word) (Found old) after = after ≡ cut_in old
 has_told Nothing (Swap (Root r) word) (Found old) after = after ≡ cut_in old
-has_told (Made b) (Exchange (Root r) old new) (Exchanged (Ok was)) after = after ≡ cut_in old
-has_told (Made b) (Exchange (Root r) old new) (Exchanged (Err word)) after = after ≡ made_beside b (block_in word)
-has_told (Both b a) (Exchange (Root r) old new) (Exchanged (Ok was)) after = after ≡ cut_in old
-has_told (Both b a) (Exchange (Root r) old new) (Exchanged (Err word)) after = after ≡ made_beside b (block_in word)
+has_told (Made b x) (Exchange (Root r) old new) (Exchanged (Ok was)) after = after ≡ cut_in old
+has_told (Made b x) (Exchange (Root r) old new) (Exchanged (Err word)) after = after ≡ made_beside b x (block_in word)
+has_told (Both b x a) (Exchange (Root r) old new) (Exchanged (Ok was)) after = after ≡ cut_in old
+has_told (Both b x a) (Exchange (Root r) old new) (Exchanged (Err word)) after = after ≡ made_beside b x (block_in word)
 has_told Nothing (Load (Root r)) (Found word) after = after ≡ seen_in word
 has_told (Seen b) (Load (Root r)) (Found word) after = after ≡ seen_in word
 has_told _ op out after = ⊥
@@ -103,7 +103,7 @@ module _ {T : Type 0} (defers : T → Option ℕ) where
   told (Registers c) op out w = (end : Register × Progress ℕ) × ComesTo (register_plan {T = T} c) out end × (w ≡ left_by end) × IsShort w
   told (Outside t) (Swap (Root r) word) (Found old) w = w ≡ owes_in t old
   told (Enters t) op out w = w ≡ Inside t Nothing
-  told (Inside t has) op out w = (after : Has) × has_told has op out after × (w ≡ Inside t after)
+  told (Inside t has) op out w = (after : Has T) × has_told has op out after × (w ≡ Inside t after)
   told (Settles c why seen left) op out w = GoesOn c why left out w
   told (Leaves t size way) op (Found head) w = (left : ℕ) × (w ≡ list_taken t size way head left)
   told (Frees t) op out w = w ≡ Rests

@@ -1,6 +1,7 @@
 //! One of those who share the memory.
 ghost use Rattle.std.specs.Prelude.{◌≡◌, ◌≢◌, ◌<◌, ◌+◌, ◌^◌, None, true, false, IfOk, IfErr, IfSome, IfNone};
 ghost use Rattle.seize_words.specs.Word.{block_in};
+ghost use Rattle.seize.specs.World.{HasListWord};
 ghost use Rattle.seize.specs.declared.states.TheConstants.{LAST_SLOT};
 ghost use Rattle.seize.specs.declared.rows.register.Registering.TheVariants.{Take};
 ghost use Rattle.seize_seats.specs.Lendings.{IsValueOf};
@@ -19,8 +20,7 @@ use seize::states::{ACTIVE, FREE, HEAD, IDLE, LAST_SLOT, NEVER};
 use seize_blocks::{Blocks, Seat};
 use seize_words::{At, Fault, Link};
 
-/// One of those who share the memory: a seat of it, with the memory. It is a memory for the rows that it has under way.
-#[derive(Drop)]
+/// One of those who share the memory: a seat of it, with the memory. It is a memory for the rows that it has under way. It may be let go where it holds no slot.
 pub struct Caller<'a, T: Defers> {
     pub(crate) blocks: &'a Blocks<T, OfRows>,
     pub(crate) batch_size: u64,
@@ -124,42 +124,50 @@ impl<'a, T: Defers> Caller<'a, T> {
             .store(&mut self.seat, At::Slot(slot, HEAD), FREE);
     }
 
-    /// Makes a block within the section of its slot, of a value that keeps no list. Where no number is free the value comes back.
+    /// Makes a block within the section of its slot, with the words that its value asks for. Where there are none, or memory is refused, the value comes back.
     pub fn make(&mut self, _slot: u64, value: T) -> Result<u64, T>
         requires inside { self.old.seat.view ≡ Inside _slot Nothing }
-        requires plain { T.defers value ≡ None }
-        ensures made { IfOk result (λ block. (self.new.seat.view ≡ Inside _slot (Made block)) × (block < 2 ^ 53)) }
+        ensures made { IfOk result (λ block. (self.new.seat.view ≡ Inside _slot (Made block value)) × (block < 2 ^ 53)) }
         ensures refused { IfErr result (λ back. self.new.seat.view ≡ Inside _slot Nothing) }
         ensures back { IfErr result (λ back. back ≡ value) }
         ensures blocks { self.new.blocks ≡ self.old.blocks }
     {
-        self.blocks.make(&mut self.seat, value, 0)
+        match words_for(&value) {
+            Some(words) => self.blocks.make(&mut self.seat, value, words),
+            None => Err(value),
+        }
     }
 
-    /// Makes a block of a value that keeps no list, beside the one that it has seen, or none, which is 0. Where no number is free the value comes back.
+    /// Makes a block beside the one that it has seen, or none, which is 0, with the words that its value asks for. Where there are none, or memory is refused,
+    /// the value comes back.
     pub fn make_beside(&mut self, _slot: u64, _seen: u64, value: T) -> Result<u64, T>
         requires inside { self.old.seat.view ≡ Inside _slot (seen_as _seen) }
-        requires plain { T.defers value ≡ None }
-        ensures made { IfOk result (λ block. (self.new.seat.view ≡ Inside _slot (made_beside block _seen)) × (block < 2 ^ 53)) }
+        ensures made { IfOk result (λ block. (self.new.seat.view ≡ Inside _slot (made_beside block value _seen)) × (block < 2 ^ 53)) }
         ensures refused { IfErr result (λ back. self.new.seat.view ≡ Inside _slot (seen_as _seen)) }
+        ensures back { IfErr result (λ back. back ≡ value) }
         ensures blocks { self.new.blocks ≡ self.old.blocks }
     {
-        self.blocks.make(&mut self.seat, value, 0)
+        match words_for(&value) {
+            Some(words) => self.blocks.make(&mut self.seat, value, words),
+            None => Err(value),
+        }
     }
 
-    /// Takes the block away that it has made beside the one that it has seen.
+    /// Takes the block away that it has made beside the one that it has seen, and answers its value.
     pub fn take_beside(&mut self, _slot: u64, _seen: u64, block: u64) -> T
-        requires has { self.old.seat.view ≡ Inside _slot (made_beside block _seen) }
+        requires has { (value : T) × (self.old.seat.view ≡ Inside _slot (made_beside block value _seen)) }
         ensures taken { self.new.seat.view ≡ Inside _slot (seen_as _seen) }
+        ensures back { (value : T) → self.old.seat.view ≡ Inside _slot (made_beside block value _seen) → result ≡ value }
         ensures blocks { self.new.blocks ≡ self.old.blocks }
     {
         self.blocks.take(&mut self.seat, block)
     }
 
-    /// Takes the block away that it has made.
+    /// Takes the block away that it has made, and answers its value.
     pub fn take(&mut self, _slot: u64, block: u64) -> T
-        requires has { self.old.seat.view ≡ Inside _slot (Made block) }
+        requires has { (value : T) × (self.old.seat.view ≡ Inside _slot (Made block value)) }
         ensures taken { self.new.seat.view ≡ Inside _slot Nothing }
+        ensures back { (value : T) → self.old.seat.view ≡ Inside _slot (Made block value) → result ≡ value }
         ensures blocks { self.new.blocks ≡ self.old.blocks }
     {
         self.blocks.take(&mut self.seat, block)
@@ -167,7 +175,7 @@ impl<'a, T: Defers> Caller<'a, T> {
 
     /// Puts the block that it has made at a root, and answers which one was there, and is to be retired.
     pub fn publish(&mut self, _slot: u64, root: u64, block: u64) -> Option<u64>
-        requires has { self.old.seat.view ≡ Inside _slot (Made block) }
+        requires has { (value : T) × (self.old.seat.view ≡ Inside _slot (Made block value)) }
         requires root { root < self.old.blocks.now.words.fixed.roots }
         requires fits { block < 2 ^ 53 }
         ensures cut { IfSome result (λ old. (self.new.seat.view ≡ Inside _slot (Cut old)) × (old < 2 ^ 53)) }
@@ -183,11 +191,13 @@ impl<'a, T: Defers> Caller<'a, T> {
     /// Puts the block that it has made at a root if the one that it has seen is there, or none where that is 0, which is then to be retired. Else it answers
     /// which one is there, 0 for none, and has seen that one.
     pub fn exchange(&mut self, _slot: u64, root: u64, seen: u64, block: u64) -> Result<(), u64>
-        requires has { self.old.seat.view ≡ Inside _slot (made_beside block seen) }
+        requires has { (value : T) × (self.old.seat.view ≡ Inside _slot (made_beside block value seen)) }
         requires root { root < self.old.blocks.now.words.fixed.roots }
         requires fits { (block < 2 ^ 53) × (seen < 2 ^ 53) }
         ensures cut { IfOk result (λ _. self.new.seat.view ≡ Inside _slot (cut_as seen)) }
-        ensures other { IfErr result (λ now. (self.new.seat.view ≡ Inside _slot (made_beside block now)) × (now < 2 ^ 53)) }
+        ensures other { IfErr result (λ now. (value : T) → self.old.seat.view ≡ Inside _slot (made_beside block value seen)
+            → self.new.seat.view ≡ Inside _slot (made_beside block value now)) }
+        ensures small { IfErr result (λ now. now < 2 ^ 53) }
         ensures blocks { self.new.blocks ≡ self.old.blocks }
     {
         let there = Link::to(seen);
@@ -227,7 +237,7 @@ impl<'a, T: Defers> Caller<'a, T> {
 
     /// Sees which block is at a root. Its section holds it from now on. What it has seen before it doesn't know any more.
     pub fn see(&mut self, _slot: u64, root: u64) -> Option<u64>
-        requires inside { (has : Has) × IsLooking has × (self.old.seat.view ≡ Inside _slot has) }
+        requires inside { (has : Has T) × IsLooking has × (self.old.seat.view ≡ Inside _slot has) }
         requires root { root < self.old.blocks.now.words.fixed.roots }
         ensures seen { IfSome result (λ block. self.new.seat.view ≡ Inside _slot (Seen block)) }
         ensures some { IfSome result (λ block. (block ≢ 0) × (block < 2 ^ 53)) }
@@ -248,7 +258,7 @@ impl<'a, T: Defers> Caller<'a, T> {
 
     /// The value of the block that it has made, for as long as it is borrowed.
     pub fn own(&self, _slot: u64, block: u64) -> &T
-        requires made { self.now.seat.view ≡ Inside _slot (Made block) }
+        requires made { (value : T) × (self.now.seat.view ≡ Inside _slot (Made block value)) }
         ensures { IsValueOf (Holds T.defers self.now.blocks.now.words.fixed) self.now.seat.id self.now.seat.view block result.now }
     {
         let seat = &self.seat;
@@ -262,6 +272,28 @@ impl<'a, T: Defers> Caller<'a, T> {
     {
         let seat = &self.seat;
         self.blocks.value(seat, block)
+    }
+}
+
+impl<'a, T: Defers> Drop for Caller<'a, T> {
+    fn drop(self)
+        requires rests { self.seat.view ≡ Rests }
+    {
+        let Caller {
+            blocks: _,
+            batch_size: _,
+            seat: _,
+        } = self;
+    }
+}
+
+/// How many words a block of this value has, if they can be counted.
+fn words_for<T: Defers>(value: &T) -> Option<u64>
+    ensures words { IfSome result (λ words. HasListWord T.defers (T.defers value.now) words) }
+{
+    match value.deferred() {
+        Some(field) => field.checked_add(1),
+        None => Some(0),
     }
 }
 

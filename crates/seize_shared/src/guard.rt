@@ -1,6 +1,5 @@
-//! Guards of sections: one of a slot that stays on its thread, and one with a slot of its own that may be sent.
-ghost use Rattle.std.specs.Prelude.{◌≡◌, ◌≢◌, None, IfOk, IfErr, IfNone, IfSome, true, false};
-ghost use Rattle.seize_shared.specs.Lent.{IsLent};
+//! Guards of sections: what they have in common, one of a slot that stays on its thread, and one with a slot of its own that may be sent.
+ghost use Rattle.std.specs.Prelude.{◌≡◌, ◌≢◌, ℕ, Bool, None, IfOk, IfErr, IfNone, IfSome, true, false};
 
 use crate::rows::OfRows;
 use crate::stay::Stay;
@@ -58,82 +57,114 @@ impl<'a, T: Defers + Drop> Registration<'a, T> {
     }
 }
 
+/// What guards of sections have in common, so that a call can take any of them.
+pub trait Guard<T: Defers> {
+    /// The slot of its section.
+    ghost slot: { Self → ℕ };
+
+    /// Whether that section is open, which it is from its beginning on.
+    ghost inside: { Self → Bool };
+
+    /// The block that it has seen last, 0 for none.
+    ghost seen: { Self → ℕ };
+
+    /// This is the value of that block, as it is while nothing else was seen.
+    ghost lends: { Self → ℕ → T → Type 0 };
+
+    /// The number of its slot.
+    fn thread_id(&self) -> u64
+        ensures { result ≡ slot self.now };
+
+    /// Ends the section and begins the next one. A value that is reclaimed is dropped.
+    fn refresh(&mut self)
+        ensures slot { slot self.new ≡ slot self.old }
+        ensures inside { inside self.new ≡ true }
+        ensures fresh { seen self.new ≡ 0 };
+
+    /// Looks which value is at a root, and tells whether one is.
+    fn see(&mut self, root: u64) -> bool
+        ensures slot { slot self.new ≡ slot self.old }
+        ensures inside { inside self.new ≡ inside self.old }
+        ensures seen { result ≡ true → seen self.new ≢ 0 };
+
+    /// The value that it has seen, if it has seen one since it began, or was refreshed.
+    fn value(&self) -> Option<&T>
+        ensures lent { IfSome result (λ value. lends self.now (seen self.now) value.now) }
+        ensures some { IfSome result (λ value. seen self.now ≢ 0) }
+        ensures none { IfNone result (seen self.now ≡ 0) };
+
+    /// Puts a value at a root, and retires the one that was there. It comes back where there is no such root, or no block can be made of it. The section is begun anew.
+    fn put(&mut self, root: u64, value: T) -> Result<(), T>
+        ensures slot { slot self.new ≡ slot self.old }
+        ensures inside { inside self.new ≡ true }
+        ensures fresh { seen self.new ≡ 0 }
+        ensures back { IfErr result (λ back. back ≡ value) };
+
+    /// Puts a value at a root if what it has seen last is there, or nothing where it has seen nothing, and retires that. Else the value comes back, and it has
+    /// seen what is there. It comes back, too, where there is no such root, or no block can be made of it.
+    fn exchange(&mut self, root: u64, value: T) -> Result<(), T>
+        ensures slot { slot self.new ≡ slot self.old }
+        ensures inside { inside self.new ≡ inside self.old }
+        ensures back { IfErr result (λ back. back ≡ value) };
+
+    /// Takes the value from a root, and retires it; tells whether there was one. The section is begun anew.
+    fn clear(&mut self, root: u64) -> bool
+        ensures slot { slot self.new ≡ slot self.old }
+        ensures inside { inside self.new ≡ true }
+        ensures fresh { seen self.new ≡ 0 };
+
+    /// Tries the slot's batch, whatever its length. A value that is reclaimed is dropped. What it has seen it doesn't know any more.
+    fn flush(&mut self)
+        ensures slot { slot self.new ≡ slot self.old }
+        ensures inside { inside self.new ≡ inside self.old }
+        ensures fresh { seen self.new ≡ 0 };
+}
+
 /// A section that is open as long as this lives. What it has seen is there until its next step. It stays on its thread.
 pub struct LocalGuard<'r, 'a, T: Defers + Drop> {
     registration: &'r mut Registration<'a, T>,
 }
 
-impl<'r, 'a, T: Defers + Drop> LocalGuard<'r, 'a, T> {
-    /// The number of its slot.
-    pub fn thread_id(&self) -> u64
-        ensures { result ≡ self.now.registration.now.stay.slot }
-    {
+impl<'r, 'a, T: Defers + Drop> Guard<T> for LocalGuard<'r, 'a, T> {
+    ghost use Rattle.seize_shared.specs.Lent.{IsLent};
+
+    ghost slot = { λ g. g.registration.now.stay.slot };
+
+    ghost inside = { λ g. g.registration.now.stay.inside };
+
+    ghost seen = { λ g. g.registration.now.stay.seen };
+
+    ghost lends = { λ g. IsLent T.defers g.registration.now.stay.caller };
+
+    fn thread_id(&self) -> u64 {
         self.registration.stay.slot
     }
 
-    /// Ends the section and begins the next one. A value that is reclaimed is dropped.
-    pub fn refresh(&mut self)
-        ensures slot { self.new.registration.now.stay.slot ≡ self.old.registration.now.stay.slot }
-        ensures inside { self.new.registration.now.stay.inside ≡ true }
-        ensures fresh { self.new.registration.now.stay.seen ≡ 0 }
-    {
+    fn refresh(&mut self) {
         self.registration.stay.refreshes();
     }
 
-    /// Looks which value is at a root, and tells whether one is.
-    pub fn see(&mut self, root: u64) -> bool
-        ensures slot { self.new.registration.now.stay.slot ≡ self.old.registration.now.stay.slot }
-        ensures inside { self.new.registration.now.stay.inside ≡ self.old.registration.now.stay.inside }
-        ensures seen { result ≡ true → self.new.registration.now.stay.seen ≢ 0 }
-    {
+    fn see(&mut self, root: u64) -> bool {
         self.registration.stay.sees(root)
     }
 
-    /// The value that it has seen, if it has seen one since it began, or was refreshed.
-    pub fn value(&self) -> Option<&T>
-        ensures lent { IfSome result (λ value. IsLent T.defers self.now.registration.now.stay.caller self.now.registration.now.stay.seen value.now) }
-        ensures some { IfSome result (λ value. self.now.registration.now.stay.seen ≢ 0) }
-        ensures none { IfNone result (self.now.registration.now.stay.seen ≡ 0) }
-    {
+    fn value(&self) -> Option<&T> {
         self.registration.stay.value()
     }
 
-    /// Puts a value at a root, and retires the one that was there. It comes back where there is no such root, or memory is refused. The section is begun anew.
-    pub fn put(&mut self, root: u64, value: T) -> Result<(), T>
-        requires plain { T.defers value ≡ None }
-        ensures slot { self.new.registration.now.stay.slot ≡ self.old.registration.now.stay.slot }
-        ensures inside { self.new.registration.now.stay.inside ≡ true }
-        ensures fresh { self.new.registration.now.stay.seen ≡ 0 }
-        ensures back { IfErr result (λ back. back ≡ value) }
-    {
+    fn put(&mut self, root: u64, value: T) -> Result<(), T> {
         self.registration.stay.puts(root, value)
     }
 
-    /// Puts a value at a root if what it has seen last is there, or nothing where it has seen nothing, and retires that. Else the value comes back, and it has
-    /// seen what is there. It comes back, too, where there is no such root, or memory is refused.
-    pub fn exchange(&mut self, root: u64, value: T) -> Result<(), T>
-        requires plain { T.defers value ≡ None }
-        ensures slot { self.new.registration.now.stay.slot ≡ self.old.registration.now.stay.slot }
-        ensures inside { self.new.registration.now.stay.inside ≡ self.old.registration.now.stay.inside }
-    {
+    fn exchange(&mut self, root: u64, value: T) -> Result<(), T> {
         self.registration.stay.exchanges(root, value)
     }
 
-    /// Takes the value from a root, and retires it; tells whether there was one. The section is begun anew.
-    pub fn clear(&mut self, root: u64) -> bool
-        ensures slot { self.new.registration.now.stay.slot ≡ self.old.registration.now.stay.slot }
-        ensures inside { self.new.registration.now.stay.inside ≡ true }
-        ensures fresh { self.new.registration.now.stay.seen ≡ 0 }
-    {
+    fn clear(&mut self, root: u64) -> bool {
         self.registration.stay.clears(root)
     }
 
-    /// Tries the slot's batch, whatever its length. A value that is reclaimed is dropped. What it has seen it doesn't know any more.
-    pub fn flush(&mut self)
-        ensures slot { self.new.registration.now.stay.slot ≡ self.old.registration.now.stay.slot }
-        ensures inside { self.new.registration.now.stay.inside ≡ self.old.registration.now.stay.inside }
-        ensures fresh { self.new.registration.now.stay.seen ≡ 0 }
-    {
+    fn flush(&mut self) {
         self.registration.stay.flushes();
     }
 }
@@ -165,71 +196,48 @@ impl<'a, T: Defers + Drop> OwnedGuard<'a, T> {
         stay.refreshes();
         Ok(OwnedGuard { stay })
     }
+}
 
-    /// The number of its slot.
-    pub fn thread_id(&self) -> u64
-        ensures { result ≡ self.now.stay.slot }
-    {
+impl<'a, T: Defers + Drop> Guard<T> for OwnedGuard<'a, T> {
+    ghost use Rattle.seize_shared.specs.Lent.{IsLent};
+
+    ghost slot = { λ g. g.stay.slot };
+
+    ghost inside = { λ g. g.stay.inside };
+
+    ghost seen = { λ g. g.stay.seen };
+
+    ghost lends = { λ g. IsLent T.defers g.stay.caller };
+
+    fn thread_id(&self) -> u64 {
         self.stay.slot
     }
 
-    /// Ends the section and begins the next one. A value that is reclaimed is dropped.
-    pub fn refresh(&mut self)
-        ensures slot { self.new.stay.slot ≡ self.old.stay.slot }
-        ensures fresh { self.new.stay.seen ≡ 0 }
-    {
+    fn refresh(&mut self) {
         self.stay.refreshes();
     }
 
-    /// Looks which value is at a root, and tells whether one is.
-    pub fn see(&mut self, root: u64) -> bool
-        ensures slot { self.new.stay.slot ≡ self.old.stay.slot }
-        ensures seen { result ≡ true → self.new.stay.seen ≢ 0 }
-    {
+    fn see(&mut self, root: u64) -> bool {
         self.stay.sees(root)
     }
 
-    /// The value that it has seen, if it has seen one since it began, or was refreshed.
-    pub fn value(&self) -> Option<&T>
-        ensures lent { IfSome result (λ value. IsLent T.defers self.now.stay.caller self.now.stay.seen value.now) }
-        ensures some { IfSome result (λ value. self.now.stay.seen ≢ 0) }
-        ensures none { IfNone result (self.now.stay.seen ≡ 0) }
-    {
+    fn value(&self) -> Option<&T> {
         self.stay.value()
     }
 
-    /// Puts a value at a root, and retires the one that was there. It comes back where there is no such root, or memory is refused. The section is begun anew.
-    pub fn put(&mut self, root: u64, value: T) -> Result<(), T>
-        requires plain { T.defers value ≡ None }
-        ensures slot { self.new.stay.slot ≡ self.old.stay.slot }
-        ensures fresh { self.new.stay.seen ≡ 0 }
-        ensures back { IfErr result (λ back. back ≡ value) }
-    {
+    fn put(&mut self, root: u64, value: T) -> Result<(), T> {
         self.stay.puts(root, value)
     }
 
-    /// Puts a value at a root if what it has seen last is there, or nothing where it has seen nothing, and retires that. Else the value comes back, and it has
-    /// seen what is there. It comes back, too, where there is no such root, or memory is refused.
-    pub fn exchange(&mut self, root: u64, value: T) -> Result<(), T>
-        requires plain { T.defers value ≡ None }
-        ensures slot { self.new.stay.slot ≡ self.old.stay.slot }
-    {
+    fn exchange(&mut self, root: u64, value: T) -> Result<(), T> {
         self.stay.exchanges(root, value)
     }
 
-    /// Takes the value from a root, and retires it; tells whether there was one. The section is begun anew.
-    pub fn clear(&mut self, root: u64) -> bool
-        ensures slot { self.new.stay.slot ≡ self.old.stay.slot }
-        ensures fresh { self.new.stay.seen ≡ 0 }
-    {
+    fn clear(&mut self, root: u64) -> bool {
         self.stay.clears(root)
     }
 
-    /// Tries the slot's batch, whatever its length. A value that is reclaimed is dropped. What it has seen it doesn't know any more.
-    pub fn flush(&mut self)
-        ensures slot { self.new.stay.slot ≡ self.old.stay.slot }
-        ensures fresh { self.new.stay.seen ≡ 0 }
-    {
+    fn flush(&mut self) {
         self.stay.flushes();
     }
 }

@@ -12,7 +12,7 @@ mod turns;
 mod view;
 
 pub use caller::Caller;
-pub use guard::{LocalGuard, OwnedGuard, Registration};
+pub use guard::{Guard, LocalGuard, OwnedGuard, Registration};
 pub use law::{rows_go_on, sections_go_on};
 pub use rows::OfRows;
 pub use view::{Becomes, Fixed, Has, View, Why};

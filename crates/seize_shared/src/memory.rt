@@ -85,7 +85,7 @@ impl<'a, T: Defers + Drop> Caller<'a, T> {
 
     /// Ends the section: what its slot's list owes is settled. A value that is reclaimed is dropped.
     pub fn leave(&mut self, slot: u64)
-        requires inside { (has : Has) × IsLooking has × (self.old.seat.view ≡ Inside slot has) }
+        requires inside { (has : Has T) × IsLooking has × (self.old.seat.view ≡ Inside slot has) }
         ensures outside { self.new.seat.view ≡ Outside slot }
         ensures blocks { self.new.blocks ≡ self.old.blocks }
     {
@@ -97,7 +97,7 @@ impl<'a, T: Defers + Drop> Caller<'a, T> {
 
     /// Ends the section and begins the next one, by one step. What it has seen it doesn't know any more. A value that is reclaimed is dropped.
     pub fn refresh(&mut self, slot: u64)
-        requires inside { (has : Has) × IsLooking has × (self.old.seat.view ≡ Inside slot has) }
+        requires inside { (has : Has T) × IsLooking has × (self.old.seat.view ≡ Inside slot has) }
         ensures inside { self.new.seat.view ≡ Inside slot Nothing }
         ensures blocks { self.new.blocks ≡ self.old.blocks }
     {
@@ -111,7 +111,7 @@ impl<'a, T: Defers + Drop> Caller<'a, T> {
 
     /// Tries its batch, whatever its length. A value that is reclaimed is dropped. What it has seen it doesn't know any more.
     pub fn flush(&mut self, slot: u64)
-        requires inside { (has : Has) × IsLooking has × (self.old.seat.view ≡ Inside slot has) }
+        requires inside { (has : Has T) × IsLooking has × (self.old.seat.view ≡ Inside slot has) }
         ensures inside { self.new.seat.view ≡ Inside slot Nothing }
         ensures blocks { self.new.blocks ≡ self.old.blocks }
     {

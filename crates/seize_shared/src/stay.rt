@@ -100,9 +100,8 @@ impl<'a, T: Defers + Drop> Stay<'a, T> {
         }
     }
 
-    /// Puts a value at a root, and retires the one that was there. It comes back where there is no such root, or no number is free.
+    /// Puts a value at a root, and retires the one that was there. It comes back where there is no such root, or no block can be made of it.
     pub(crate) fn puts(&mut self, root: u64, value: T) -> Result<(), T>
-        requires plain { T.defers value ≡ None }
         ensures slot { self.new.slot ≡ self.old.slot }
         ensures inside { self.new.inside ≡ true }
         ensures fresh { self.new.seen ≡ 0 }
@@ -123,11 +122,11 @@ impl<'a, T: Defers + Drop> Stay<'a, T> {
     }
 
     /// Puts a value at a root if what was seen is there, or nothing where nothing was seen, and retires that. Else the value comes back, and what is there
-    /// was seen. It comes back, too, where there is no such root, no number is free, or no section is open.
+    /// was seen. It comes back, too, where there is no such root, no block can be made of it, or no section is open.
     pub(crate) fn exchanges(&mut self, root: u64, value: T) -> Result<(), T>
-        requires plain { T.defers value ≡ None }
         ensures slot { self.new.slot ≡ self.old.slot }
         ensures inside { self.new.inside ≡ self.old.inside }
+        ensures back { IfErr result (λ back. back ≡ value) }
     {
         if !self.inside || root >= self.roots {
             return Err(value);

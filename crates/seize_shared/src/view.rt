@@ -14,7 +14,7 @@ pub enum View<T> {
     /// It is about to open a section of it.
     Enters(u64),
     /// It holds this slot, and its section is open; and it knows of a block, or of none.
-    Inside(u64, Has),
+    Inside(u64, Has<T>),
     /// It settles what its slot has to settle, and why; this block, with its value, it is about to look at; and it has done so within
     /// so many further steps.
     Settles(Settle, Why, Option<(u64, T)>, u64),
@@ -27,15 +27,15 @@ pub enum View<T> {
 }
 
 /// Which block a seat within a section knows of.
-pub enum Has {
+pub enum Has<T> {
     /// None.
     Nothing,
-    /// It has made this one, which nobody else can reach.
-    Made(u64),
+    /// It has made this one, of this value, which nobody else can reach.
+    Made(u64, T),
     /// It has seen this one, which its section holds.
     Seen(u64),
-    /// It has made the first one, which nobody else can reach, and seen the second one, which its section holds.
-    Both(u64, u64),
+    /// It has made the first one, of this value, which nobody else can reach, and seen the second one, which its section holds.
+    Both(u64, T, u64),
     /// It has unlinked this one, and is to retire it.
     Cut(u64),
 }

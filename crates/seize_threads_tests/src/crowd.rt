@@ -15,7 +15,9 @@ const TIMES: usize = 20_000;
 /// saw had been dropped.
 fn goes(ground: &Ground<'_, Counted>, drops: &Table, from: usize) -> Option<u64> {
     let mut caller = Caller::new(ground.blocks, SIZE);
-    let slot = caller.register().ok()?;
+    let Ok(slot) = caller.register() else {
+        return None;
+    };
     let mut put = 0;
     let mut stale = false;
     for turn in 0..TIMES {

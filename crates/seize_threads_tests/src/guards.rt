@@ -1,10 +1,10 @@
 //! Guards that end where their scope does: two threads have a slot each, and open a section of it again and again.
-ghost use Rattle.std.specs.Prelude.{◌≡◌};
+ghost use Rattle.std.specs.Prelude.{◌≡◌, IfSome};
 
 use crate::ground::SIZE;
 use crate::retiring::{Counted, Table, all_are, dropped, table};
 use seize_blocks::{Blocks, Home};
-use seize_shared::{Fixed, LocalGuard, OfRows, OwnedGuard, Registration};
+use seize_shared::{Fixed, Guard, LocalGuard, OfRows, OwnedGuard, Registration};
 use std::alloc::{AllocError, Global};
 use std::test::Fail;
 use std::thread::Threads;
@@ -214,5 +214,38 @@ fn a_guard_sees_what_it_has_put_and_drops_what_it_has_taken(rt: HostRuntime) -> 
     let home = Home::<Counted, OfRows>::open(rt.alloc(), 1, 64, &CHOSEN)?;
     assert_eq!(rt; calls(&home.blocks, &drops), Some(true));
     assert!(rt; all_are(&drops, 2, 1));
+    Ok(())
+}
+
+/// Puts the value of a place at the root, by any guard, and sees it there; answers the number of its slot.
+fn puts_by<G: Guard<Counted>>(guard: &mut G, drops: &Table, place: usize) -> Option<u64>
+    ensures { IfSome result (λ slot. slot ≡ G.slot guard.old) }
+{
+    guard.put(0, Counted::of(drops, place)?).ok()?;
+    if guard.see(0) && guard.value()?.place == place {
+        Some(guard.thread_id())
+    } else {
+        None
+    }
+}
+
+/// The slots of a guard that stays on its thread and of one that may be sent, which put a value one after the other.
+fn puts_by_both(blocks: &Blocks<Counted, OfRows>, drops: &Table) -> Option<(u64, u64)>
+    requires { blocks.now.words.fixed ≡ record { batch_size = 5; roots = 1 } }
+{
+    let mut registration = Registration::new(blocks, &CHOSEN).ok()?;
+    let mut owned = OwnedGuard::enter(blocks, &CHOSEN).ok()?;
+    let first = puts_by(&mut registration.enter(), drops, 0)?;
+    let second = puts_by(&mut owned, drops, 1)?;
+    owned.flush();
+    Some((first, second))
+}
+
+#[test]
+fn a_helper_takes_any_guard(rt: HostRuntime) -> Result<(), Fail> {
+    let drops = table(rt.alloc(), 2)?;
+    let home = Home::<Counted, OfRows>::open(rt.alloc(), 1, 8, &CHOSEN)?;
+    assert_eq!(rt; puts_by_both(&home.blocks, &drops), Some((0, 1)));
+    assert_eq!(rt; dropped(&drops, 0), 1);
     Ok(())
 }

@@ -26,7 +26,9 @@ impl Defers for Number {
 /// had put in.
 fn make_and_take(ground: &Ground<'_, Number>, from: u64, times: u64) -> Option<u64> {
     let mut caller = Caller::new(ground.blocks, SIZE);
-    let slot = caller.register().ok()?;
+    let Ok(slot) = caller.register() else {
+        return None;
+    };
     let mut found = 0;
     for turn in 0..times {
         let number = from.wrapping_add(turn);

@@ -4,10 +4,11 @@ ghost use Rattle.seize_shared.specs.declared.view.Has.TheVariants.{Nothing};
 ghost use Rattle.seize_shared.specs.declared.view.View.TheVariants.{Inside};
 
 use crate::ground::{Ground, SIZE};
+use crate::guards::CHOSEN;
 use crate::retiring::{Table, table};
 use seize::rows::Defers;
-use seize_blocks::Home;
-use seize_shared::{Caller, Fixed, OfRows};
+use seize_blocks::{Blocks, Home};
+use seize_shared::{Caller, Fixed, OfRows, OwnedGuard};
 use std::alloc::{AllocError, Global};
 use std::sync::Arc;
 use std::sync::atomic::Ordering::SeqCst;
@@ -73,18 +74,19 @@ fn puts(caller: &mut Caller<'_, Numbered>, slot: u64, numbers: &Table, place: us
 /// Within one section puts a value at the root for each place from 1 on, and one more, with a flush after each; answers how many came back before it left.
 fn retires(ground: &Ground<'_, Numbered>, numbers: &Table) -> Option<u64> {
     let mut caller = Caller::new(ground.blocks, SIZE);
-    let slot = caller.register().ok()?;
+    let Ok(slot) = caller.register() else {
+        return None;
+    };
     caller.enter(slot);
+    let mut there = true;
     for turn in 0..MANY + 1 {
-        if !puts(&mut caller, slot, numbers, turn + 1) {
-            return None;
-        }
+        there = puts(&mut caller, slot, numbers, turn + 1) && there;
         caller.flush(slot);
     }
     let early = at(numbers, 0);
     caller.leave(slot);
     caller.unregister(slot);
-    Some(early)
+    if there { Some(early) } else { None }
 }
 
 /// Takes the value from the root, if there is one, and retires it.
@@ -102,54 +104,48 @@ fn clears(caller: &mut Caller<'_, Numbered>, slot: u64)
 /// Within one section retires as many values as a batch has, without a flush; answers how many came back by its end.
 fn fills(ground: &Ground<'_, Numbered>, numbers: &Table) -> Option<u64> {
     let mut caller = Caller::new(ground.blocks, SIZE);
-    let slot = caller.register().ok()?;
+    let Ok(slot) = caller.register() else {
+        return None;
+    };
     caller.enter(slot);
+    let mut there = true;
     for turn in 0..SIZE as usize {
-        if !puts(&mut caller, slot, numbers, turn + 1) {
-            return None;
-        }
+        there = puts(&mut caller, slot, numbers, turn + 1) && there;
     }
     clears(&mut caller, slot);
     caller.leave(slot);
     caller.unregister(slot);
-    Some(at(numbers, 0))
+    if there { Some(at(numbers, 0)) } else { None }
 }
 
-/// Ends the section of a caller that was made elsewhere.
-fn leaves(caller: Caller<'_, Numbered>, slot: u64)
-    requires { caller.seat.view ≡ Inside slot Nothing }
-{
-    let mut caller = caller;
-    caller.leave(slot);
-    caller.unregister(slot);
-}
-
-/// Is within a section while another one retires a batch, and is then sent to another thread, where it leaves; answers how many came back by the other
-/// one's end, and by its own.
+/// Has a guard open while another one retires a batch, which is then sent to another thread, where it ends; answers how many came back by the other one's
+/// end, and by its own.
 fn sends<R: Threads + Sync>(
     rt: &R,
-    ground: &Ground<'_, Numbered>,
+    blocks: &Blocks<Numbered, OfRows>,
     numbers: &Table,
-) -> Option<(u64, u64)> {
-    let mut caller = Caller::new(ground.blocks, SIZE);
-    let slot = caller.register().ok()?;
-    caller.enter(slot);
-    let early = fills(ground, numbers)?;
-    thread::join(rt, move || leaves(caller, slot), || ());
-    Some((early, at(numbers, 0)))
+) -> Option<(u64, u64)>
+    requires { blocks.now.words.fixed ≡ record { batch_size = 5; roots = 1 } }
+{
+    let guard = OwnedGuard::enter(blocks, &CHOSEN).ok()?;
+    let early = fills(&Ground { blocks }, numbers);
+    thread::join(rt, move || drop(guard), || ());
+    Some((early?, at(numbers, 0)))
 }
 
 /// Is within a section while another one retires a batch, and refreshes it then; answers how many came back by the other one's end, and by the refresh.
 fn refreshes(ground: &Ground<'_, Numbered>, numbers: &Table) -> Option<(u64, u64)> {
     let mut caller = Caller::new(ground.blocks, SIZE);
-    let slot = caller.register().ok()?;
+    let Ok(slot) = caller.register() else {
+        return None;
+    };
     caller.enter(slot);
-    let early = fills(ground, numbers)?;
+    let early = fills(ground, numbers);
     caller.refresh(slot);
     let then = at(numbers, 0);
     caller.leave(slot);
     caller.unregister(slot);
-    Some((early, then))
+    Some((early?, then))
 }
 
 /// A memory of such values.
@@ -179,17 +175,14 @@ fn retires_alone(alloc: Global, numbers: &Table) -> Result<Option<(u64, u64)>, A
     Ok(Some((early, at(numbers, 0))))
 }
 
-/// A batch over one memory, with a caller that is sent; answers how many came back by the end of the one who retired it, and of the other one.
+/// A batch over one memory, with a guard that is sent; answers how many came back by the end of the one who retired it, and of the other one.
 fn sends_one<R: Threads + Sync>(
     rt: &R,
     alloc: Global,
     numbers: &Table,
 ) -> Result<Option<(u64, u64)>, AllocError> {
     let home = ground_of(alloc)?;
-    let ground = Ground {
-        blocks: &home.blocks,
-    };
-    Ok(sends(rt, &ground, numbers))
+    Ok(sends(rt, &home.blocks, numbers))
 }
 
 /// A batch over one memory, with a caller that refreshes; answers how many came back by the end of the one who retired it, and by the refresh.

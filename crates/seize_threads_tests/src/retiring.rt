@@ -100,7 +100,9 @@ pub(crate) fn clears(caller: &mut Caller<'_, Counted>, slot: u64)
 /// Puts so many values at the root, each within a section, and takes the last one away; answers how many it has put there.
 fn writes(ground: &Ground<'_, Counted>, drops: &Table, times: usize) -> Option<u64> {
     let mut caller = Caller::new(ground.blocks, SIZE);
-    let slot = caller.register().ok()?;
+    let Ok(slot) = caller.register() else {
+        return None;
+    };
     let mut put = 0;
     for place in 0..times {
         caller.enter(slot);
@@ -141,7 +143,9 @@ pub(crate) fn looks(caller: &mut Caller<'_, Counted>, slot: u64) -> Option<bool>
 /// Looks at the root so many times, and tells how often it has seen a value, or none where one of them had been dropped.
 fn reads(ground: &Ground<'_, Counted>, times: usize) -> Option<u64> {
     let mut caller = Caller::new(ground.blocks, SIZE);
-    let slot = caller.register().ok()?;
+    let Ok(slot) = caller.register() else {
+        return None;
+    };
     let mut seen = 0;
     let mut stale = false;
     for _ in 0..times {
@@ -218,7 +222,9 @@ fn replaces(
     drops: &Table,
 ) -> Option<u64> {
     let mut caller = Caller::new(ground.blocks, SIZE);
-    let slot = caller.register().ok()?;
+    let Ok(slot) = caller.register() else {
+        return None;
+    };
     caller.enter(slot);
     let mut there = puts(&mut caller, slot, drops, 0);
     caller.leave(slot);
@@ -245,9 +251,15 @@ fn stays(ground: &Ground<'_, Counted>, bell: &Blocks<u64, OneRoot>, drops: &Tabl
         return None;
     }
     let mut caller = Caller::new(ground.blocks, SIZE);
-    let slot = caller.register().ok()?;
+    let Ok(slot) = caller.register() else {
+        return None;
+    };
     caller.enter(slot);
-    let block = caller.see(slot, 0)?;
+    let Some(block) = caller.see(slot, 0) else {
+        caller.leave(slot);
+        caller.unregister(slot);
+        return None;
+    };
     let replaced = add(bell, 1) == 2 && sees(bell, 3);
     let value = caller.value(slot, block);
     let kept = value.place == 0 && all_are(&value.drops, 5, 0);

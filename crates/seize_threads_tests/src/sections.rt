@@ -24,7 +24,9 @@ impl Defers for Plain {
 /// Takes a slot, enters and leaves so many times, and gives it up; answers which it was.
 fn visit(ground: &Ground<'_, Plain>, times: u64) -> Option<u64> {
     let mut caller = Caller::new(ground.blocks, SIZE);
-    let slot = caller.register().ok()?;
+    let Ok(slot) = caller.register() else {
+        return None;
+    };
     for _ in 0..times {
         caller.enter(slot);
         caller.leave(slot);
@@ -36,7 +38,9 @@ fn visit(ground: &Ground<'_, Plain>, times: u64) -> Option<u64> {
 /// Is within a section until the other one has been there; answers the slot.
 fn stay(ground: &Ground<'_, Plain>, bell: &Blocks<u64, OneRoot>) -> Option<u64> {
     let mut caller = Caller::new(ground.blocks, SIZE);
-    let slot = caller.register().ok()?;
+    let Ok(slot) = caller.register() else {
+        return None;
+    };
     caller.enter(slot);
     let met = add(bell, 1) == 1 && sees(bell, 2);
     caller.leave(slot);

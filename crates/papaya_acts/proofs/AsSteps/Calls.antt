@@ -1,6 +1,7 @@
 -- What callers do with calls leads where a step of its kind does.
 use Rattle.std.specs.Prelude.{◌≢◌, Option, Some, Result}
-use Rattle.std.proofs.Common.{◌≡◌, ◌⊎◌, ℕ, Bool, inl, inr, refl, sym, ap, subst, ◌∙◌}
+use Rattle.std.specs.Result.{is_err}
+use Rattle.std.proofs.Common.{◌≡◌, ◌⊎◌, ℕ, Bool, true, inl, inr, refl, sym, ap, subst, ◌∙◌}
 use Rattle.std.proofs.lemmas.Bool.{cases_eq}
 use Rattle.papaya_scenes.specs.Given.SeizeWords.Plan.{Plan}
 use Rattle.seize_acts.specs.Answers.{Grant, then_on}
@@ -20,7 +21,8 @@ use Rattle.papaya_scenes.specs.Given.Finishes.Maps.{Standing, with_call}
 use Rattle.papaya_acts.specs.Acts.{Answer, Wanted, Get, Remove, Insert, TryToInsert, Compute, Update, UpdateOrInsert, TryToInsertWith, RemoveIf, MakeRoom, Count, GoOver, begun}
 use Rattle.papaya_acts.specs.Acts.{Act, BeginsCall, StepsCall, TellsCall, AsksCall, StopsCall}
 use Rattle.papaya_acts.specs.AsSteps.{LeadsAs, changed_by, changed_of, held_in}
-use Rattle.papaya_acts.specs.Leads.{AllStand, CallCame, Led, call_at}
+use Rattle.papaya_acts.specs.Leads.{AllStand, CallCame, Led, asked_on, call_at}
+use Rattle.papaya_acts.proofs.Calls.{asked_machine}
 use Rattle.papaya_acts.proofs.AsSteps.There.{Hashed, Stand, calls_there, held_as, one_on_slot}
 use Rattle.papaya_acts.proofs.AsSteps.Told.{of_some, was_told}
 use Rattle.papaya_acts.proofs.Tests.{its_class}
@@ -57,7 +59,7 @@ module _ {K V S : Type 0} (same : K → K → Bool) (by_hasher : S → K → ℕ
   -- where an act leads that has changed this
   abbrev Leads : Act K V S → Answer K V → Changed → Scene K V → Type 0
   Leads act told changed x =
-      LeadsAs same by_hasher hash act s told old (held_in batch_size roots changed x) × IsAt same hash (held_in batch_size roots changed x) x
+      LeadsAs same by_hasher hash act s told x old (held_in batch_size roots changed x) × IsAt same hash (held_in batch_size roots changed x) x
 
   -- it is so of the scene that is named so
   onto : (act : Act K V S) (told : Answer K V) (changed : Changed) (x : Scene K V) → n ≡ x → (Stands x → Leads act told changed x) → Leads act told changed n
@@ -73,7 +75,7 @@ module _ {K V S : Type 0} (same : K → K → Bool) (by_hasher : S → K → ℕ
   begins_as wanted told (standing, stands, none, is) =
       onto (BeginsCall i m wanted) told NoChange (scene_with m i (begun same slot_of standing i wanted) s) is
       (λ stand. let there = calls_there same hash batch_size roots s before at (with_call s.calls m i (Some (begun same slot_of standing i wanted))) NoChange stand in
-      ((standing, stands, begins_so same standing (at.together.makings.standing.fit m standing stands).0 i wanted, refl, there), there))
+      ((standing, stands, begins_so same standing (at.together.makings.standing.fit m standing stands).0 i wanted, refl, there, refl), there))
 
   module _ (g : Grant) (told : Answer K V) (came : CallCame same by_hasher batch_size roots slot_of s i m g told n) where
     abbrev plan : Plan (Node K V) (Machine K V K × Progress (Node K V))
@@ -115,16 +117,21 @@ module _ {K V S : Type 0} (same : K → K → Bool) (by_hasher : S → K → ℕ
         × (did : MachineStepsAmong V same same batch_size roots slot_of s.world s.maps s.calls s.makers s.enders k standing i came.memory u machine came.progress)
         × IsAt same hash new (scene_after same s old new k i standing u machine came.progress did)
 
+    -- there the scene is this
+    abbrev GoesTo : ℕ → UnderWay K V K → Type 0
+    GoesTo k u = (so : Goes k u) × (after ≡ scene_after same s old new k i so.0 u so.1 came.progress so.4)
+
     goes : Stands after → Goes m came.call
     goes stand = (came.standing, came.machine, came.stands, was_told s.world.memory g plan (came.memory, (came.machine, came.progress)) came.computed, came.did, there stand)
 
     pub steps_as : Leads (StepsCall i m g) told (changed_by {S = S} same (StepsCall i m g) s) n
+    unfolding goes
     steps_as =
         onto (StepsCall i m g) told (changed_by {S = S} same (StepsCall i m g) s) after came.comes
-        (λ stand. subst (λ (h : Held K V). LeadsAs same by_hasher hash (StepsCall i m g) s told old h × IsAt same hash h after)
+        (λ stand. subst (λ (h : Held K V). LeadsAs same by_hasher hash (StepsCall i m g) s told after old h × IsAt same hash h after)
         (sym (held_as batch_size roots came.did.w2.memory came.memory (changed_by {S = S} same (StepsCall i m g) s) new.changed came.did.memory
         (of_some (λ it. changed_of s.world.memory g (machine_plan same same it.0.hash (machine_of it.1))) NoChange (call_at s i m) (came.standing, came.call) its_call)))
-        ((came.progress, came.tells, one_call came.call came.here Goes (goes stand)), there stand))
+        (let so = one_call came.call came.here GoesTo (goes stand, refl) in ((came.progress, came.tells, λ k u has. (so k u has).0, λ k u has. (so k u has).1), there stand)))
 
   -- what a call is told, and asked for, and that it is given up
   abbrev Replied : Reply V → Result Unit (Reply V) → ℕ → UnderWay K V K → Type 0
@@ -133,30 +140,43 @@ module _ {K V S : Type 0} (same : K → K → Bool) (by_hasher : S → K → ℕ
       × (result ≡ (machine_replied (machine_of u) reply).1) × ToldOfKind V same same batch_size roots slot_of standing i u reply next
       × (s.world.memory ≡ s.world.memory) × IsAt same hash (held_in batch_size roots NoChange s) (scene_with k i next s)
 
+  abbrev RepliedTo : UnderWay K V K → Reply V → Result Unit (Reply V) → ℕ → UnderWay K V K → Type 0
+  RepliedTo next reply result k u = (so : Replied reply result k u) × (is_err result ≡ true → so.1 ≡ u) × (scene_with m i next s ≡ scene_with k i so.1 s)
+
   pub told_as : (reply : Reply V) (told : Answer K V) → Led same by_hasher batch_size roots slot_of (TellsCall i m reply) s told n → Leads (TellsCall i m reply) told NoChange n
   told_as reply told (standing, stands, u, next, here, machine_is, told_is, kind, is) =
       onto (TellsCall i m reply) told NoChange (scene_with m i next s) is
       (λ stand. let there = calls_there same hash batch_size roots s before at (with_call s.calls m i (Some next)) NoChange stand in
-      (((machine_replied (machine_of u) reply).1, told_is, one_call u here (Replied reply (machine_replied (machine_of u) reply).1) (standing, next, stands, machine_is, refl, kind, refl, there)), there))
+      let so = one_call u here (RepliedTo next reply (machine_replied (machine_of u) reply).1) ((standing, next, stands, machine_is, refl, kind.0, refl, there), kind.1, refl) in
+      (((machine_replied (machine_of u) reply).1, told_is, λ k v has. (so k v has).0, λ k v has. ((so k v has).1, (so k v has).2)), there))
 
   abbrev Asked : Bool → ℕ → UnderWay K V K → Type 0
   Asked ready k u =
       (next : UnderWay K V K) × (machine_of next ≡ (machine_asked (machine_of u)).0) × (ready ≡ (machine_asked (machine_of u)).1)
       × (s.world.memory ≡ s.world.memory) × IsAt same hash (held_in batch_size roots NoChange s) (scene_with k i next s)
 
+  abbrev AskedOn : UnderWay K V K → Bool → ℕ → UnderWay K V K → Type 0
+  AskedOn next ready k u = (so : Asked ready k u) × (so.0 ≡ asked_on u) × (scene_with m i next s ≡ scene_with k i so.0 s)
+
   pub asked_as : (told : Answer K V) → Led same by_hasher batch_size roots slot_of (AsksCall i m) s told n → Leads (AsksCall i m) told NoChange n
-  asked_as told (u, next, here, machine_is, told_is, is) =
-      onto (AsksCall i m) told NoChange (scene_with m i next s) is
-      (λ stand. let there = calls_there same hash batch_size roots s before at (with_call s.calls m i (Some next)) NoChange stand in
-      (((machine_asked (machine_of u)).1, told_is, one_call u here (Asked (machine_asked (machine_of u)).1) (next, machine_is, refl, refl, there)), there))
+  asked_as told (u, here, told_is, is) =
+      onto (AsksCall i m) told NoChange (scene_with m i (asked_on u) s) is
+      (λ stand. let there = calls_there same hash batch_size roots s before at (with_call s.calls m i (Some (asked_on u))) NoChange stand in
+      let so = one_call u here (AskedOn (asked_on u) (machine_asked (machine_of u)).1) ((asked_on u, asked_machine u, refl, refl, there), refl, refl) in
+      (((machine_asked (machine_of u)).1, told_is, λ k v has. (so k v has).0, λ k v has. ((so k v has).1, (so k v has).2)), there))
 
   abbrev Stopped : Bool → ℕ → UnderWay K V K → Type 0
   Stopped stopped k u =
       (stopped ≡ (machine_asked (machine_of u)).1) × (s.world.memory ≡ s.world.memory)
       × IsAt same hash (held_in batch_size roots NoChange s) (record s { calls = with_call s.calls k i (unless_stopped stopped u) })
 
+  abbrev StoppedTo : UnderWay K V K → Bool → ℕ → UnderWay K V K → Type 0
+  StoppedTo it stopped k u =
+      Stopped stopped k u × (record s { calls = with_call s.calls m i (unless_stopped stopped it) } ≡ record s { calls = with_call s.calls k i (unless_stopped stopped u) })
+
   pub stopped_as : (told : Answer K V) → Led same by_hasher batch_size roots slot_of (StopsCall i m) s told n → Leads (StopsCall i m) told NoChange n
   stopped_as told (u, here, told_is, is) =
       onto (StopsCall i m) told NoChange (record s { calls = with_call s.calls m i (unless_stopped (machine_asked (machine_of u)).1 u) }) is
       (λ stand. let there = calls_there same hash batch_size roots s before at (with_call s.calls m i (unless_stopped (machine_asked (machine_of u)).1 u)) NoChange stand in
-      (((machine_asked (machine_of u)).1, told_is, one_call u here (Stopped (machine_asked (machine_of u)).1) (refl, refl, there)), there))
+      let so = one_call u here (StoppedTo u (machine_asked (machine_of u)).1) ((refl, refl, there), refl) in
+      (((machine_asked (machine_of u)).1, told_is, λ k v has. (so k v has).0, λ k v has. (so k v has).1), there))

@@ -32,7 +32,7 @@ use Rattle.papaya_scenes.specs.Given.Finishes.Makings.{Beginning}
 use Rattle.papaya_scenes.specs.Given.Finishes.Maps.{Standing}
 use Rattle.papaya_scenes.proofs.Given.Finishes.Among.Begins.{endings_begin}
 use Rattle.papaya_acts.specs.Acts.{Act, Answer, OfMaking, OfEnding, BeginsMaking, StepsMaking, BeginsEnding, StepsEnding}
-use Rattle.papaya_acts.specs.AsSteps.{LeadsAs, changed_by, changed_of, held_in}
+use Rattle.papaya_acts.specs.AsSteps.{EndedTo, LeadsAs, MadeTo, changed_by, changed_of, held_in}
 use Rattle.papaya_acts.specs.Leads.{AllStand, Led, MakingCame, EndingCame, MayBe, making_steps, ending_steps}
 use Rattle.papaya_acts.proofs.AsSteps.There.{OnSlots, Stand, held_as, one_made}
 use Rattle.papaya_acts.proofs.AsSteps.Told.{of_some, was_told}
@@ -53,7 +53,7 @@ module _ {K V S : Type 0} (same : K → K → Bool) (by_hasher : S → K → ℕ
 
   abbrev Leads : Act K V S → Answer K V → Changed → Scene K V → Type 0
   Leads act told changed x =
-      LeadsAs same by_hasher hash act s told old (held_in batch_size roots changed x) × IsAt same hash (held_in batch_size roots changed x) x
+      LeadsAs same by_hasher hash act s told x old (held_in batch_size roots changed x) × IsAt same hash (held_in batch_size roots changed x) x
 
   onto : (P : Scene K V → Type 0) (x : Scene K V) → n ≡ x → (Stands x → P x) → P n
   onto P x is so = subst P (sym is) (so (subst Stands is all))
@@ -76,7 +76,7 @@ module _ {K V S : Type 0} (same : K → K → Bool) (by_hasher : S → K → ℕ
     pub making_begins_as : by_hasher hasher ≡ hash map → (told : Answer K V)
         → Led same by_hasher batch_size roots slot_of (BeginsMaking i map hasher given places) s told n → Leads (BeginsMaking i map hasher given places) told NoChange n
     making_begins_as own told (none, is) =
-        onto (Leads (BeginsMaking i map hasher given places) told NoChange) (scene_making i first s) is (λ stand. let there = begun_there own stand in ((refl, there), there))
+        onto (Leads (BeginsMaking i map hasher given places) told NoChange) (scene_making i first s) is (λ stand. let there = begun_there own stand in ((refl, there, refl), there))
 
   -- it takes a step
   module _ (b : Beginning K) (makes : s.makers i ≡ Some b) (g : Grant) (m2 : Mem (Node K V)) (machine : NewMap) where
@@ -106,19 +106,21 @@ module _ {K V S : Type 0} (same : K → K → Bool) (by_hasher : S → K → ℕ
 
     -- where it has come
     abbrev Made : (told : Progress Setting) → MakingStepsAmong V same same batch_size roots slot_of s.world s.maps s.calls s.makers s.enders i b m2 (machine, told) → Scene K V → Type 0
-    Made told did x = (x.world.memory ≡ m2) × MakingComesToThere same (IsAt same hash new) s old i b machine did.step.w2 told × IsAt same hash new x
+    Made told did x =
+        (x.world.memory ≡ m2) × ((comes : MakingComesToThere same (IsAt same hash new) s old i b machine did.step.w2 told) × MadeTo same hash s old new i b machine did.step.w2 told comes x)
+        × IsAt same hash new x
 
     made : (told : Progress Setting) (did : MakingStepsAmong V same same batch_size roots slot_of s.world s.maps s.calls s.makers s.enders i b m2 (machine, told))
         → MakingCame same by_hasher batch_size roots slot_of s i b did.step.w2 machine n told → Made told did n
     made progress.Goes did is =
         onto (Made progress.Goes did) (record s { world = did.step.w2; makers = with_at s.makers i (Some (record b { machine = machine })) }) is
         (λ stand. let there = made_there progress.Goes did s.maps (Some (record b { machine = machine })) at.hashes (λ c is. subst (λ (d : Beginning K). d.hash ≡ hash d.map)
-        (same_some (record b { machine = machine }) c is) (at.hashes_made i b makes)) stand in (did.step.memory, there, there))
+        (same_some (record b { machine = machine }) c is) (at.hashes_made i b makes)) stand in (did.step.memory, (there, refl), there))
     made progress.Waits did never = absurd never
     made (progress.Done setting) did (standing, is_made, is) =
         onto (Made (progress.Done setting) did) (record s { world = did.step.w2; maps = with_at s.maps b.map (Some standing); makers = with_at s.makers i None }) is
         (λ stand. let there = made_there (progress.Done setting) did (with_at s.maps b.map (Some standing)) None hashed (λ c is. absurd (cc is)) stand in
-        (did.step.memory, (standing, is_made, there), there))
+        (did.step.memory, ((standing, is_made, there), refl), there))
       where
         hashed : (m : ℕ) (it : Standing K) → with_at s.maps b.map (Some standing) m ≡ Some it → it.hash ≡ hash m
         hashed m it has = by (cases_eq m b.map)
@@ -129,7 +131,7 @@ module _ {K V S : Type 0} (same : K → K → Bool) (by_hasher : S → K → ℕ
             by (inr ne) = at.hashes m it (sym (at_other s.maps b.map (Some standing) m ne) ∙ has)
     made (progress.Refused fault) did is =
         onto (Made (progress.Refused fault) did) (record s { world = did.step.w2; makers = with_at s.makers i None }) is
-        (λ stand. let there = made_there (progress.Refused fault) did s.maps None at.hashes (λ c is. absurd (cc is)) stand in (did.step.memory, there, there))
+        (λ stand. let there = made_there (progress.Refused fault) did s.maps None at.hashes (λ c is. absurd (cc is)) stand in (did.step.memory, (there, refl), there))
 
     module _ (told : Progress Setting) (computed : making_steps same by_hasher batch_size roots slot_of s g b ≡ Some (m2, (machine, told)))
         (did : MakingStepsAmong V same same batch_size roots slot_of s.world s.maps s.calls s.makers s.enders i b m2 (machine, told))
@@ -140,20 +142,25 @@ module _ {K V S : Type 0} (same : K → K → Bool) (by_hasher : S → K → ℕ
           × (did : MakingStepsAmong V same same batch_size roots slot_of s.world s.maps s.calls s.makers s.enders i c m2 (opening, told))
           × MakingComesToThere same (IsAt same hash new) s old i c opening did.step.w2 told
 
+      abbrev GoesTo : Beginning K → Type 0
+      GoesTo c = (so : Goes c) × MadeTo same hash s old new i c so.0 so.2.step.w2 told so.3 n
+
       pub making_steps_as : (answer : Answer K V) → answer ≡ OfMaking told → Leads (StepsMaking i g) answer (changed_by {S = S} same (StepsMaking i g) s) n
       making_steps_as answer told_is =
           let to = made told did came in
-          subst (λ (h : Held K V). LeadsAs same by_hasher hash (StepsMaking i g) s answer old h × IsAt same hash h n)
+          let so = λ (c : Beginning K) (here : s.makers i ≡ Some c).
+          subst GoesTo (same_some b c (sym makes ∙ here)) ((machine, was_told s.world.memory g making (m2, (machine, told)) computed, did, to.1.0), to.1.1) in
+          subst (λ (h : Held K V). LeadsAs same by_hasher hash (StepsMaking i g) s answer n old h × IsAt same hash h n)
           (sym (held_as batch_size roots n.world.memory m2 (changed_by {S = S} same (StepsMaking i g) s) new.changed to.0
           (of_some (λ b. changed_of s.world.memory g (new_map_plan b.machine)) NoChange (s.makers i) b makes)))
-          ((told, told_is, λ c here. subst Goes (same_some b c (sym makes ∙ here)) (machine, was_told s.world.memory g making (m2, (machine, told)) computed, did, to.1)), to.2)
+          ((told, told_is, λ c here. (so c here).0, λ c here. (so c here).1), to.2)
 
   -- an end begins
   pub ending_begins_as : (m : ℕ) → MayBe same by_hasher batch_size roots slot_of (BeginsEnding i m) s → (told : Answer K V)
       → Led same by_hasher batch_size roots slot_of (BeginsEnding i m) s told n → Leads (BeginsEnding i m) told NoChange n
   ending_begins_as m (free, some, no_calls) told (standing, stands, none, is) =
       onto (Leads (BeginsEnding i m) told NoChange) (ending_begun m i standing s) is
-      (λ stand. ((standing, stands, once, refl, there stand), there stand))
+      (λ stand. (((standing, stands, once, refl, there stand), refl), there stand))
     where
       once : AllPairsOnce (is_incremental standing.setting.mode) standing.chart
       once = (endings_begin {Q = K} V same same batch_size roots slot_of s.world s.maps s.calls s.makers s.enders at.together i (none_is (s.enders i) free.no_ending) (none_is (s.makers i) free.no_making)
@@ -190,22 +197,24 @@ module _ {K V S : Type 0} (same : K → K → Bool) (by_hasher : S → K → ℕ
       }
 
     abbrev Gone : (told : Settled (Node K V)) → StepsOfEnding V same same batch_size roots slot_of s.world s.maps s.calls s.makers s.enders i f m2 (machine, told) → Scene K V → Type 0
-    Gone told did x = (x.world.memory ≡ m2) × EndingComesToThere same (IsAt same hash newer) s i f machine did.w2 did.deed told × IsAt same hash newer x
+    Gone told did x =
+        (x.world.memory ≡ m2) × ((comes : EndingComesToThere same (IsAt same hash newer) s i f machine did.w2 did.deed told) × EndedTo same hash s newer i f machine did.w2 did.deed told comes x)
+        × IsAt same hash newer x
 
     gone : (told : Settled (Node K V)) (did : StepsOfEnding V same same batch_size roots slot_of s.world s.maps s.calls s.makers s.enders i f m2 (machine, told))
         → EndingCame same by_hasher batch_size roots slot_of s i f did.w2 did.deed machine n told → Gone told did n
     gone settled.Goes did (none, is) =
         onto (Gone settled.Goes did) (record s { world = did.w2; enders = with_at s.enders i (Some (record f { machine = machine; waits = f.waits ++ waiting_by did.deed })) }) is
-        (λ stand. let there = ended_there settled.Goes did (Some (record f { machine = machine; waits = f.waits ++ waiting_by did.deed })) stand in (did.memory, (none, there), there))
+        (λ stand. let there = ended_there settled.Goes did (Some (record f { machine = machine; waits = f.waits ++ waiting_by did.deed })) stand in (did.memory, ((none, there), refl), there))
     gone settled.Waits did never = absurd never
     gone (settled.Gave value) did (b, was, taken, is) =
         onto (Gone (settled.Gave value) did)
         (record s { world = did.w2; enders = with_at s.enders i (Some (record f { machine = machine; back = f.back ++ b ∷ []; waits = f.waits ++ waiting_by did.deed })) }) is
         (λ stand. let there = ended_there (settled.Gave value) did (Some (record f { machine = machine; back = f.back ++ b ∷ []; waits = f.waits ++ waiting_by did.deed })) stand in
-        (did.memory, (b, was, taken, there), there))
+        (did.memory, ((b, was, taken, there), refl), there))
     gone settled.Done did (none, finished, is) =
         onto (Gone settled.Done did) (record s { world = did.w2; enders = with_at s.enders i None }) is
-        (λ stand. let there = ended_there settled.Done did None stand in (did.memory, (none, finished, there), there))
+        (λ stand. let there = ended_there settled.Done did None stand in (did.memory, ((none, finished, there), refl), there))
 
     module _ (told : Settled (Node K V)) (computed : ending_steps same by_hasher batch_size roots slot_of s g f ≡ Some (m2, (machine, told)))
         (did : StepsOfEnding V same same batch_size roots slot_of s.world s.maps s.calls s.makers s.enders i f m2 (machine, told))
@@ -216,10 +225,15 @@ module _ {K V S : Type 0} (same : K → K → Bool) (by_hasher : S → K → ℕ
           × (did : StepsOfEnding V same same batch_size roots slot_of s.world s.maps s.calls s.makers s.enders i c m2 (ending, told))
           × EndingComesToThere same (IsAt same hash newer) s i c ending did.w2 did.deed told
 
+      abbrev EndsTo : Finishing K V → Type 0
+      EndsTo c = (so : Ends c) × EndedTo same hash s newer i c so.0 so.2.w2 so.2.deed told so.3 n
+
       pub ending_steps_as : (answer : Answer K V) → answer ≡ OfEnding told → Leads (StepsEnding i g) answer (changed_by {S = S} same (StepsEnding i g) s) n
       ending_steps_as answer told_is =
           let to = gone told did came in
-          subst (λ (h : Held K V). LeadsAs same by_hasher hash (StepsEnding i g) s answer old h × IsAt same hash h n)
+          let so = λ (c : Finishing K V) (here : s.enders i ≡ Some c).
+          subst EndsTo (same_some f c (sym ends ∙ here)) ((machine, was_told s.world.memory g ending (m2, (machine, told)) computed, did, to.1.0), to.1.1) in
+          subst (λ (h : Held K V). LeadsAs same by_hasher hash (StepsEnding i g) s answer n old h × IsAt same hash h n)
           (sym (held_as batch_size roots n.world.memory m2 (changed_by {S = S} same (StepsEnding i g) s) newer.changed to.0
           (of_some (λ f. changed_of s.world.memory g (end_map_plan f.machine)) NoChange (s.enders i) f ends)))
-          ((told, told_is, λ c here. subst Ends (same_some f c (sym ends ∙ here)) (machine, was_told s.world.memory g ending (m2, (machine, told)) computed, did, to.1)), to.2)
+          ((told, told_is, λ c here. (so c here).0, λ c here. (so c here).1), to.2)

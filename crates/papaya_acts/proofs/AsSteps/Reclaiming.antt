@@ -1,5 +1,5 @@
 -- A step of a caller that reclaims all leads where a step of its kind does.
-use Rattle.std.specs.Prelude.{Option, Some}
+use Rattle.std.specs.Prelude.{Some}
 use Rattle.std.proofs.Common.{◌≡◌, ℕ, Bool, List, refl, sym, ap, subst, ◌∙◌}
 use Rattle.papaya_scenes.specs.Given.SeizeWords.Plan.{Plan}
 use Rattle.papaya_scenes.specs.Given.Seize.ReclaimAll.{reclaim_all_plan}
@@ -58,11 +58,14 @@ module _ {K V : Type 0} (same : K → K → Bool) (hash : ℕ → K → ℕ) (ba
   memory_is : n.world.memory ≡ on.memory
   memory_is = ap (λ (x : Scene K V). x.world.memory) on.comes ∙ on.did.memory
 
-  pub reclaiming_as : ReclaimingLeads same hash s i lists (held_in batch_size roots before s) (held_in batch_size roots (changed_of s.world.memory g plan) n) c c2 end
+  -- where it leads, and to which scene
+  abbrev pub Leads : Held K V → Type 0
+  Leads h = (leads : ReclaimingLeads same hash s i lists (held_in batch_size roots before s) h c c2 end) × (n ≡ record s { world = leads.1.w2; maps = leads.1.maps2 })
+
+  pub reclaiming_as : Leads (held_in batch_size roots (changed_of s.world.memory g plan) n)
   reclaiming_as =
-      subst (λ (h : Held K V). ReclaimingLeads same hash s i lists (held_in batch_size roots before s) h c c2 end)
-      (sym (held_as batch_size roots n.world.memory on.memory (changed_of s.world.memory g plan) (changed_of s.world.memory g plan) memory_is refl))
-      (was_told s.world.memory g plan (on.memory, (c2, end)) on.computed, on.did, comes end refl)
+      subst Leads (sym (held_as batch_size roots n.world.memory on.memory (changed_of s.world.memory g plan) (changed_of s.world.memory g plan) memory_is refl))
+      ((was_told s.world.memory g plan (on.memory, (c2, end)) on.computed, on.did, comes end refl), on.comes)
 
 pub reclaiming_leads_as_steps : {K : Type 0} (V : Type 0) (same : K → K → Bool) (hash : ℕ → K → ℕ) (batch_size roots : ℕ) → ReclaimingLeadsAsSteps V same hash batch_size roots
 reclaiming_leads_as_steps V same hash batch_size roots s n before i lists c at g end lists2 c2 on = reclaiming_as same hash batch_size roots s n before i lists c at g end lists2 c2 on

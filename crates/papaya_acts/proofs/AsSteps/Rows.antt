@@ -43,9 +43,9 @@ use Rattle.papaya_acts.proofs.AsSteps.Told.{of_some, was_told}
 use Rattle.papaya_scenes.proofs.OnSlots.{its_row, left_at}
 use Rattle.papaya_scenes.proofs.Rows.{begun_there}
 use Rattle.papaya_scenes.specs.Held.{Held, IsAt}
-use Rattle.papaya_scenes.specs.OnSlots.{HappensTo, RowLeads, RowSteps, row_then}
+use Rattle.papaya_scenes.specs.OnSlots.{HappensTo, RowSteps, row_then}
 use Rattle.papaya_scenes.specs.Rows.{request_of, of_registering, of_storing, of_settling}
-use Rattle.papaya_scenes.specs.Scene.{Scene, row_of, slot_of}
+use Rattle.papaya_scenes.specs.Scene.{IsOnSlot, Scene, row_of, slot_of}
 use Rattle.papaya_scenes.specs.declared.row.RowTold.{RowTold}
 use Rattle.papaya_scenes.specs.declared.row.RowTold.TheVariants as told
 use Rattle.papaya_scenes.specs.declared.row.SlotCall.{SlotCall}
@@ -218,7 +218,7 @@ module _ {K V S : Type 0} (same : K → K → Bool) (by_hasher : S → K → ℕ
 
   abbrev Leads : Act K V S → Answer K V → Changed → Scene K V → Type 0
   Leads act told changed x =
-      LeadsAs same by_hasher hash act s told old (held_in batch_size roots changed x) × IsAt same hash (held_in batch_size roots changed x) x
+      LeadsAs same by_hasher hash act s told x old (held_in batch_size roots changed x) × IsAt same hash (held_in batch_size roots changed x) x
 
   onto : (P : Scene K V → Type 0) (x : Scene K V) → n ≡ x → (Stands x → P x) → P n
   onto P x is so = subst P (sym is) (so (subst Stands is all))
@@ -241,7 +241,7 @@ module _ {K V S : Type 0} (same : K → K → Bool) (by_hasher : S → K → ℕ
   row_begins_as request called own may told (w2, happens, maps2, as_they_were, none, is) =
       onto (Leads (BeginsRow i request) told NoChange) (record s { world = w2; maps = maps2 }) is
       (λ stand. let at2 = there w2 maps2 as_they_were its (λ j ne. begins_others deferred_word batch_size s.world w2 i j ne request happens.1) NoChange stand in
-      ((called, own, (begins_memory deferred_word batch_size i request s.world w2 happens.1, may.0, (w2, it, maps2, as_they_were, at2))), at2))
+      ((called, own, (begins_memory deferred_word batch_size i request s.world w2 happens.1, may.0, (w2, it, maps2, as_they_were, at2)), refl), at2))
     where
       it : Happens deferred_word batch_size (Begin i (request_of (slot_of i) called)) s.world w2
       it = subst (λ (r : Request). Happens deferred_word batch_size (Begin i r) s.world w2) own happens
@@ -249,9 +249,21 @@ module _ {K V S : Type 0} (same : K → K → Bool) (by_hasher : S → K → ℕ
       its : IsRowOn (slot_of i) (w2.row i)
       its = subst (IsRowOn (slot_of i)) (sym (begun_there deferred_word batch_size i s.world w2 (slot_of i) called it.1)) (its_row (slot_of i) batch_size called)
 
+  module _ (g : Grant) (w2 : World (Node K V)) (maps2 : ℕ → Option (Standing K)) where
+    abbrev held_then : Held K V
+    held_then = held_in batch_size roots (row_changed (s.world.row i) g s.world.memory) (record s { world = w2; maps = maps2 })
+
+    -- where a row leads, and to which scene
+    abbrev RowGoes : SlotRow → Row → Type 0
+    RowGoes row r =
+        (so : (after : SlotRow) × RowSteps K V row s.world.memory w2.memory (row_changed r g s.world.memory) (after, row_told r g s.world.memory)
+        × (did : HappensTo (IsAt same hash held_then) (Step i) s old) × (did.0.row i ≡ row_then after (row_told r g s.world.memory)))
+        × (record s { world = w2; maps = maps2 } ≡ record s { world = so.2.0; maps = so.2.2 })
+
   pub row_steps_as : (g : Grant) → (told : Answer K V) → Led same by_hasher batch_size roots slot_of (StepsRow i g) s told n → Leads (StepsRow i g) told (changed_by {S = S} same (StepsRow i g) s) n
   row_steps_as g told (w2, computed, happens, maps2, as_they_were, none, is) =
-      onto (Leads (StepsRow i g) told (row_changed (s.world.row i) g s.world.memory)) (record s { world = w2; maps = maps2 }) is (λ stand. (leads stand, at2 stand))
+      onto (Leads (StepsRow i g) told (row_changed (s.world.row i) g s.world.memory)) (record s { world = w2; maps = maps2 }) is
+      (λ stand. ((λ row on. (leads stand row on).0, λ row on. (leads stand row on).1), at2 stand))
     where
       came : CameAbout batch_size s.world
       came = at.together.makings.standing.came
@@ -262,11 +274,7 @@ module _ {K V S : Type 0} (same : K → K → Bool) (by_hasher : S → K → ℕ
           there w2 maps2 as_they_were (keeps_slot s.world i g batch_size came w2 (slot_of i) happens (s.world.row i) refl computed (at.on_slots i))
           (λ j ne. steps_others deferred_word batch_size s.world w2 i j ne (s.world.row i) happens) (row_changed (s.world.row i) g s.world.memory) stand
 
-      leads : Stands (record s { world = w2; maps = maps2 })
-          → RowLeads same hash i (row_told (s.world.row i) g s.world.memory) s old (held_in batch_size roots (row_changed (s.world.row i) g s.world.memory) (record s { world = w2; maps = maps2 }))
+      leads : Stands (record s { world = w2; maps = maps2 }) → (row : SlotRow) → IsOnSlot s i row → RowGoes g w2 maps2 row (s.world.row i)
       leads stand row on =
           let k = goes s.world i g batch_size came w2 row on.1 (subst (λ (r : Row). row_steps deferred_word i r g s.world ≡ Some w2) on.1 computed) in
-          subst (λ (r : Row). (after : SlotRow) × RowSteps K V row s.world.memory w2.memory (row_changed r g s.world.memory) (after, row_told r g s.world.memory)
-          × (did : HappensTo (IsAt same hash (held_in batch_size roots (row_changed (s.world.row i) g s.world.memory) (record s { world = w2; maps = maps2 }))) (Step i) s old)
-          × (did.0.row i ≡ row_then after (row_told r g s.world.memory))) (sym on.1)
-          (k.after, k.steps, (w2, happens, maps2, as_they_were, at2 stand), k.row_is)
+          subst (RowGoes g w2 maps2 row) (sym on.1) ((k.after, k.steps, (w2, happens, maps2, as_they_were, at2 stand), k.row_is), refl)

@@ -45,6 +45,7 @@ use Rattle.papaya_owned.specs.Machines.{on_key_after, on_key_plan}
 use Rattle.papaya_owned.specs.Owned.{found_by}
 use Rattle.papaya_owned.specs.declared.machines.OnKey.{OnKey}
 use Rattle.papaya_owned.specs.declared.machines.Stop.{Stop}
+use Rattle.papaya_owned.proofs.Runs.Comes.{NextOf, run_comes}
 use Rattle.papaya_asks.proofs.Asks.Finishes.{c, for as asked_for, s, call_is, stands_is, takes_is, told_so, undisturbed2}
 use Rattle.papaya_asks.proofs.Asks.Replied.{known_by, value_by, seeks_by}
 use Rattle.papaya_asks.proofs.Asks.Steps.{stays_undisturbed}
@@ -127,9 +128,7 @@ module _ {K V Q S : Type 0} (asks : Q → K → Bool) (same : K → K → Bool) 
     IsStill m x = Undisturbed its None None false m x.call × IsToAnswer x.call.stands
 
     abbrev IsNext : Mem (Node K V) → OnKey K V Q S → Progress Stop → Type 0
-    IsNext m x (progress.Done end) = Unit {0}
-    IsNext m x (progress.Refused fault) = ⊥
-    IsNext m x _ = IsStill m x
+    IsNext m x = NextOf (λ y n. IsStill n y) (λ y n result. IfErr result (λ fault. ⊥)) x m
 
     next_by : (x : OnKey K V Q S) (p2 : KeyCall K V Q) (m2 : Mem (Node K V)) (told : Called (Node K V)) → StaysSo its None None false m2 (p2, told) → AnswersOn (p2, told)
         → IsNext m2 (on_key_after x (p2, told)).0 (on_key_after x (p2, told)).1
@@ -141,29 +140,15 @@ module _ {K V Q S : Type 0} (asks : Q → K → Bool) (same : K → K → Bool) 
     next_by x p2 m2 (called.Done answer) h yet = tt
     next_by x p2 m2 (called.Refused fault) h yet = absurd yet
 
-    on_step : (x : OnKey K V Q S) (m m2 : Mem (Node K V)) → IsStill m x → (end : OnKey K V Q S × Progress Stop) → Steps Took value_at m (the_plan x) m2 end → IsNext m2 end.0 end.1
-    on_step x m m2 h end s =
+    on_step : (x : OnKey K V Q S) (m : Mem (Node K V)) → IsStill m x → (m2 : Mem (Node K V)) (end : OnKey K V Q S × Progress Stop) → Steps Took value_at m (the_plan x) m2 end → IsNext m2 end.0 end.1
+    on_step x m h m2 end s =
         let k = step_of x m m2 end s in
         subst (λ (y : OnKey K V Q S × Progress Stop). IsNext m2 y.0 y.1) (sym k.2)
         (next_by x k.0.0 m2 k.0.1 (stays_undisturbed its None None false (λ v e. absurd (cc e)) asks same (hashes x.hasher.now) x.call m m2 h.0 k.0 k.1)
         (on_point x.call m m2 k.0 asks same (hashes x.hasher.now) its x.call.stands h.0.point h.1 k.1))
 
-    stopped : (x2 : OnKey K V Q S) (m2 : Mem (Node K V)) (told : Progress Stop) (result : Result Stop Fault) → IsNext m2 x2 told → Tells told result → IfErr result (λ fault. ⊥)
-    stopped x2 m2 told (Ok end) next tells = tt
-    stopped x2 m2 (progress.Done end) (Err f) next tells = tells
-    stopped x2 m2 (progress.Refused fault) (Err f) next tells = next
-    stopped x2 m2 progress.Goes (Err f) next tells = tells
-    stopped x2 m2 progress.Waits (Err f) next tells = tells
-
-    still : (x2 : OnKey K V Q S) (m2 : Mem (Node K V)) (told : Progress Stop) → GoesOn told → IsNext m2 x2 told → IsStill m2 x2
-    still x2 m2 progress.Goes on next = next
-    still x2 m2 progress.Waits on next = next
-    still x2 m2 (progress.Done end) on next = absurd on
-    still x2 m2 (progress.Refused fault) on next = absurd on
-
     never_refused : (x : OnKey K V Q S) (m : Mem (Node K V)) (x2 : OnKey K V Q S) (m2 : Mem (Node K V)) (result : Result Stop Fault) → RunsTo the_plan x m x2 m2 result → IsStill m x → IfErr result (λ fault. ⊥)
-    never_refused x m x2 m2 result (stops _ _ _ _ told _ s tells) h = stopped x2 m2 told result (on_step x m m2 h (x2, told) s) tells
-    never_refused x m x2 m2 result (goes _ _ x1 m1 told on s _ _ _ runs) h = never_refused x1 m1 x2 m2 result runs (still x1 m1 told on (on_step x m m1 h (x1, told) s))
+    never_refused x m x2 m2 result runs h = run_comes (λ y n. IsStill n y) (λ y n r. IfErr r (λ fault. ⊥)) the_plan on_step x m h x2 m2 result runs
 
   -- One that is over tells its fault at once.
   module _ (fault : Fault) where

@@ -1,25 +1,24 @@
 -- A run of a call that asks, for one owner: it comes to a question, to an answer, or is refused, and its key is in hand then, or handed out with the value.
 use Rattle.std.specs.Prelude.{ℕ, Bool, Option, Some, None, Result, Ok, Err, ◌⊎◌}
-use Rattle.std.proofs.Common.{◌≡◌, sym, ap, subst, inl, inr}
+use Rattle.std.proofs.Common.{◌≡◌, ap, inl, inr}
 use Rattle.seize_words.specs.Mem.{Mem, Took, value_at}
 use Rattle.seize_words.specs.Plan.{Plan, Steps}
 use Rattle.seize_words.specs.declared.fault.Fault.{Fault}
 use Rattle.papaya_owned.specs.Given.Seize.declared.progress.Progress.{Progress}
-use Rattle.papaya_owned.specs.Given.Seize.declared.progress.Progress.TheVariants as progress
-use Rattle.papaya_owned.proofs.Given.SeizeRule.Rows.Leaving.{steps_back}
 use Rattle.papaya_tables.specs.declared.node.Node.{Node}
 use Rattle.papaya_tables.specs.declared.node.Node.TheVariants as node
 use Rattle.papaya_raw.specs.Call.{call_plan}
 use Rattle.papaya_raw.specs.declared.machines.answer.Called.{Called}
 use Rattle.papaya_raw.specs.declared.machines.answer.Called.TheVariants as called
 use Rattle.papaya_raw.specs.declared.machines.call.KeyCall.{KeyCall}
-use Rattle.papaya_owned.specs.Ending.{GoesOn, Tells, RunsTo, stops, goes}
+use Rattle.papaya_owned.specs.Ending.{RunsTo}
 use Rattle.papaya_owned.specs.Machines.{on_key_after, on_key_plan}
 use Rattle.papaya_owned.specs.declared.machines.OnKey.{OnKey}
 use Rattle.papaya_owned.specs.declared.machines.Stop.{Stop}
 use Rattle.papaya_owned.specs.declared.machines.Stop.TheVariants as stop
 use Rattle.papaya_owned.proofs.Owned.HandsBack.{IsOver}
 use Rattle.papaya_owned.proofs.Owned.ComesBack.{TellsEnd, over_tells}
+use Rattle.papaya_owned.proofs.Runs.Comes.{NextOf, next_turned, run_comes}
 use Rattle.papaya_asks.proofs.Asks.Undisturbed.{AsksFor, IsBare, Undisturbed, StaysSo}
 use Rattle.papaya_asks.proofs.Asks.Steps.{stays_undisturbed}
 
@@ -47,9 +46,7 @@ module _ {K V Q S : Type 0} (its : Option K) (known value : Option V) (seeks : B
 
   -- where a step leads, by what the machine tells
   abbrev IsNextSo : Mem (Node K V) → OnKey K V Q S → Progress Stop → Type 0
-  IsNextSo m x (progress.Done s) = HasCome m x (Ok s)
-  IsNextSo m x (progress.Refused fault) = HandedOut x ⊎ InHand x
-  IsNextSo m x _ = IsStillSo m x
+  IsNextSo m x = NextOf (λ y n. IsStillSo n y) (λ y n result. HasCome n y result) x m
 
   next_by : (x : OnKey K V Q S) (p2 : KeyCall K V Q) (m2 : Mem (Node K V)) (told : Called (Node K V)) → x.unstored ≡ None → StaysSo its known value seeks m2 (p2, told)
       → IsNextSo m2 (on_key_after x (p2, told)).0 (on_key_after x (p2, told)).1
@@ -80,28 +77,10 @@ module _ {K V Q S : Type 0} (its : Option K) (known value : Option V) (seeks : B
     on_step x m m2 (inl (over, out)) e s = out_by x e.0 m2 e.1 (over_tells asks same (hashes x.hasher.now) x.call m m2 e x.call.stands over s) out
     on_step x m m2 (inr (none, h)) e s = next_by x e.0 m2 e.1 none (stays_undisturbed its known value seeks has_key asks same (hashes x.hasher.now) x.call m m2 h e s)
 
-    on_machine : (x : OnKey K V Q S) (m m2 : Mem (Node K V)) → IsStillSo m x → (end : OnKey K V Q S × Progress Stop) → Steps Took value_at m (the_plan x) m2 end → IsNextSo m2 end.0 end.1
-    on_machine x m m2 h end s =
-        let k = steps_back (on_key_after x) m m2 (call_plan asks same (hashes x.hasher.now) x.call) end s in
-        subst (λ (y : OnKey K V Q S × Progress Stop). IsNextSo m2 y.0 y.1) (sym k.2) (on_step x m m2 h k.0 k.1)
-
-    stopped : (x2 : OnKey K V Q S) (m2 : Mem (Node K V)) (told : Progress Stop) (result : Result Stop Fault) → IsNextSo m2 x2 told → Tells told result → HasCome m2 x2 result
-    stopped x2 m2 (progress.Done a) (Ok s) next tells = subst (λ z. HasCome m2 x2 (Ok z)) (sym tells) next
-    stopped x2 m2 (progress.Refused f) (Err g) next tells = next
-    stopped x2 m2 (progress.Refused f) (Ok s) next tells = absurd tells
-    stopped x2 m2 (progress.Done a) (Err g) next tells = absurd tells
-    stopped x2 m2 progress.Goes (Ok s) next tells = absurd tells
-    stopped x2 m2 progress.Goes (Err g) next tells = absurd tells
-    stopped x2 m2 progress.Waits (Ok s) next tells = absurd tells
-    stopped x2 m2 progress.Waits (Err g) next tells = absurd tells
-
-    still : (x2 : OnKey K V Q S) (m2 : Mem (Node K V)) (told : Progress Stop) → GoesOn told → IsNextSo m2 x2 told → IsStillSo m2 x2
-    still x2 m2 progress.Goes on next = next
-    still x2 m2 progress.Waits on next = next
-    still x2 m2 (progress.Done a) on next = absurd on
-    still x2 m2 (progress.Refused f) on next = absurd on
+    on_machine : (x : OnKey K V Q S) (m : Mem (Node K V)) → IsStillSo m x → (m2 : Mem (Node K V)) (end : OnKey K V Q S × Progress Stop) → Steps Took value_at m (the_plan x) m2 end → IsNextSo m2 end.0 end.1
+    on_machine x m h m2 end s =
+        next_turned (λ y n. IsStillSo n y) (λ y n result. HasCome n y result) (on_key_after x) m m2 (call_plan asks same (hashes x.hasher.now) x.call) (on_step x m m2 h) end s
 
     -- what a run comes to
     pub has_come : (x : OnKey K V Q S) (m : Mem (Node K V)) (x2 : OnKey K V Q S) (m2 : Mem (Node K V)) (result : Result Stop Fault) → RunsTo the_plan x m x2 m2 result → IsStillSo m x → HasCome m2 x2 result
-    has_come x m x2 m2 result (stops _ _ _ _ told _ s tells) h = stopped x2 m2 told result (on_machine x m m2 h (x2, told) s) tells
-    has_come x m x2 m2 result (goes _ _ x1 m1 told on s _ _ _ runs) h = has_come x1 m1 x2 m2 result runs (still x1 m1 told on (on_machine x m m1 h (x1, told) s))
+    has_come x m x2 m2 result runs h = run_comes (λ y n. IsStillSo n y) (λ y n r. HasCome n y r) the_plan on_machine x m h x2 m2 result runs

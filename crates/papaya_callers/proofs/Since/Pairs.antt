@@ -93,7 +93,6 @@ module _ {K V Q : Type 0} (same : K → K → Bool) (hash : K → ℕ) (setting 
   stored_on (Removed o) h = h
 
   module _ (p2 : KeyCall K V Q) (change2 : Change) where
-
     abbrev Keeps2 : Calling → Type 0
     Keeps2 stands = KeepsIt w2.memory c2 blocks2 pair change2 p2 stands
 

@@ -192,7 +192,6 @@ module _ {K V Q : Type 0} (same : K → K → Bool) (hash : K → ℕ) (asks : Q
 
   -- it stands at the row, and begins it
   module _ (rests : w.row i ≡ Rests) where
-
     pub record Begun (x : Reserving) : Type 0 where
       pub row : RowBegun same hash asks setting slot lawful w c blocks sights calls s i inside rests (row_of_room x)
       pub knows : KnowsOf row.v (reserves.standing r.reserve (past_room x))

@@ -56,7 +56,6 @@ module _ {K V Q : Type 0} (same : K → K → Bool) (hash : K → ℕ) (asks : Q
 
   -- the retirement of a table
   module _ (p : Copier) (settle : Settle) (rest : ℕ) where
-
     abbrev CopiesIn : Copier → World (Node K V) → Type 0
     CopiesIn q v = CopiesTable same hash v i (in_slot setting (slot i)) c (seen_by blocks (sights (slot i))) o.began q
 

@@ -105,7 +105,7 @@ module _ {K V : Type 0} (by : Known) (value : Option V) (replies : List (Option 
   told one a = answer_on by (kind_on one) value a
 
   -- the value that it tells back is the one that was given: by `try_insert` its own, and by `compute` the one with which it was told to abort
-  abbrev Tells : OneKey K V → KeyAnswer → Type 0
+  abbrev pub Tells : OneKey K V → KeyAnswer → Type 0
   Tells (TryInsert k v) (says.Found word) = value ≡ Some v
   Tells (Compute k) it = (about : Option ℕ) (w : V) → reply_to about replies ≡ Some (Aborts w) → value ≡ Some w
   Tells one it = Unit {0}

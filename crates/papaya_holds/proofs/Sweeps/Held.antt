@@ -1,38 +1,30 @@
 -- A sweep over one owner's map, from question to question: each pair that the map had as it began stands still in its block.
-use Rattle.std.specs.Prelude.{◌≡◌, ℕ, ◌<◌, ◌≤◌, Bool, true, List, Result, Ok, Err}
-use Rattle.std.proofs.Common.{refl, sym, ◌∙◌, ap, subst, arith}
+use Rattle.std.specs.Prelude.{◌≡◌, ℕ, ◌<◌, ◌≤◌, Bool, true, List, Result}
+use Rattle.std.proofs.Common.{refl, sym, ◌∙◌, ap, arith}
 use denote.Ref.{Bor}
-use Rattle.papaya_sifts.specs.Given.SeizeWords.Mem.{Mem, Can, Took, value_at}
-use Rattle.papaya_sifts.specs.Given.SeizeWords.Plan.{May, Steps}
+use Rattle.papaya_sifts.specs.Given.SeizeWords.Mem.{Mem, Took, value_at}
+use Rattle.papaya_sifts.specs.Given.SeizeWords.Plan.{Steps}
 use Rattle.papaya_sifts.specs.Given.SeizeWords.declared.fault.Fault.{Fault}
 use Rattle.papaya_sifts.specs.Given.Seize.World.{World}
-use Rattle.papaya_sifts.specs.Given.Seize.declared.progress.Progress.{Progress}
-use Rattle.papaya_sifts.specs.Given.Seize.declared.progress.Progress.TheVariants as progress
-use Rattle.papaya_sifts.proofs.Given.SeizeRule.Rows.Leaving.{steps_back}
 use Rattle.papaya_sifts.specs.Given.Tables.declared.node.Node.{Node}
 use Rattle.papaya_sifts.specs.Given.Tables.declared.setting.Setting.{Setting}
 use Rattle.papaya_sifts.specs.Given.Sweeps.Sweep.{sweep_plan}
-use Rattle.papaya_sifts.specs.Given.Sweeps.SweepPoints.{sweeping, after_reply}
 use Rattle.papaya_sifts.specs.Given.Sweeps.declared.sweep.Purpose.{Purpose}
 use Rattle.papaya_sifts.specs.Given.Sweeps.declared.sweep.Sweep.{Sweep}
-use Rattle.papaya_sifts.specs.Given.Sweeps.declared.sweep.Sweeping.TheVariants as at
 use Rattle.papaya_sifts.specs.Given.Sweeps.declared.sweep.Swept.{Swept}
-use Rattle.papaya_sifts.specs.Given.Sweeps.declared.sweep.Swept.TheVariants as swept
 use Rattle.papaya_sifts.specs.Given.Rule.Chart.{Chart}
 use Rattle.papaya_sifts.specs.Given.Rule.Words.{Blocks}
-use Rattle.papaya_sifts.specs.Given.Callers.OverAll.{CallOverAll, begun_over_all, told_of}
+use Rattle.papaya_sifts.specs.Given.Callers.OverAll.{CallOverAll, begun_over_all}
 use Rattle.papaya_sifts.specs.Given.Callers.Sights.{Sight}
 use Rattle.papaya_sifts.specs.Given.Callers.Together.{OverAll, in_slot}
-use Rattle.papaya_sifts.proofs.Given.Whole.Sweeps.Begins.{sweeps_begin_alone}
 use Rattle.papaya_sifts.proofs.Given.Whole.Sweeps.Leads.{sweeps_go_on_alone}
-use Rattle.papaya_sifts.proofs.Given.Whole.Sweeps.ToldOn.{sweeps_told_alone}
 use Rattle.papaya_sifts.specs.Given.Whole.Owner.{IsAlone}
-use Rattle.papaya_sifts.specs.Given.Owned.Ending.{GoesOn, Tells, RunsTo, stops, goes}
+use Rattle.papaya_sifts.specs.Given.Owned.Ending.{RunsTo}
 use Rattle.papaya_sifts.specs.Given.Owned.Owned.{Holds}
-use Rattle.papaya_sifts.specs.Sweeping.{IsSweeping, begun, asked, over_pairs_after, over_pairs_plan, over_pairs_settled}
+use Rattle.papaya_sifts.specs.Sweeping.{IsSweeping, over_pairs_plan}
 use Rattle.papaya_sifts.specs.declared.sweeping.OverPairs.{OverPairs}
 use Rattle.papaya_sifts.specs.declared.sweeping.Pause.{Pause}
-use Rattle.papaya_sifts.specs.declared.sweeping.Pause.TheVariants as pause
+use Rattle.papaya_sifts.proofs.Along.Sweeps.{StepsKeep, RepliesKeep, stopped_along}
 use Rattle.papaya_holds.proofs.Runs.Machines.{sweep_puts}
 use Rattle.papaya_holds.proofs.Runs.Puts.{puts_none}
 use Rattle.papaya_holds.proofs.Stood.{StandsStill, still_first, stood}
@@ -47,9 +39,6 @@ module _ {K V S : Type 0} (same : K → K → Bool) (hashes : S → K → ℕ) (
   abbrev slot_of : ℕ → ℕ
   slot_of i = setting.slot
 
-  abbrev it : Sweep → OverPairs S
-  it p = record { sweep = p; hasher = b }
-
   abbrev AloneIn : World (Node K V) → Chart K → Blocks → (ℕ → Sight) → CallOverAll → Type 0
   AloneIn w c blocks sights o = IsAlone {Q = K} same hash same setting slot_of w c blocks sights (OverAll o)
 
@@ -57,175 +46,69 @@ module _ {K V S : Type 0} (same : K → K → Bool) (hashes : S → K → ℕ) (
   abbrev IsHeld : Mem (Node K V) → Type 0
   IsHeld m = NoneCame m0 m × StandsStill same hash setting m0 xs h m
 
-  -- it is under way, and alone
-  record Course (o : CallOverAll) (m : Mem (Node K V)) : Type 0 where
-    pub w : World (Node K V)
-    pub c : Chart K
-    pub blocks : Blocks
-    pub sights : ℕ → Sight
-    pub alone : AloneIn w c blocks sights o
-    pub memory : w.memory ≡ m
+  -- what is so of the memory and of its map
+  record Keeps (o : CallOverAll) (m : Mem (Node K V)) (c : Chart K) (blocks : Blocks) : Type 0 where
     pub stored : h.chart.stored ≤ c.stored
     pub looks : (n : ℕ) → n < h.chart.stored → h.blocks.pair_known n ≡ true → (blocks.pair_known n ≡ true) × (blocks.pair n ≡ h.blocks.pair n)
     pub held : IsHeld m
 
-  record Under (x : OverPairs S) (m : Mem (Node K V)) : Type 0 where
-    pub o : CallOverAll
-    pub is : x ≡ it o.sweep
-    pub course : Course o m
+  -- it may be refused
+  abbrev Refuses : Mem (Node K V) → Fault → Type 0
+  Refuses m fault = Unit {0}
 
-  -- where a step of its machine leads
-  abbrev Next : OverPairs S → Mem (Node K V) → Progress Pause → Type 0
-  Next x m progress.Goes = Under x m
-  Next x m progress.Waits = ⊥
-  Next x m (progress.Done (pause.Asks word)) = Under x m × (x.sweep.stands ≡ at.Asks word)
-  Next x m (progress.Done _) = IsHeld m
-  Next x m (progress.Refused fault) = IsHeld m
-
-  module _ (o : CallOverAll) (m : Mem (Node K V)) (here : Course o m) (m2 : Mem (Node K V)) (p2 : Sweep) (end : Swept (Node K V)) (s : Steps Took value_at m (sweep_plan hash o.sweep) m2 (p2, end)) where
-    led : Led {Q = K} same hash same setting slot_of h.lawful here.w here.c here.blocks here.sights o here.alone m2 p2 end
-        (subst (λ (y : Mem (Node K V)). Steps Took value_at y (sweep_plan hash o.sweep) m2 (p2, end)) (sym here.memory) s)
-    led =
-        led_on {Q = K} same hash same setting slot_of h.lawful here.w here.c here.blocks here.sights o here.alone m2 p2 end
-        (subst (λ (y : Mem (Node K V)). Steps Took value_at y (sweep_plan hash o.sweep) m2 (p2, end)) (sym here.memory) s) h.initial
+  module _ (w : World (Node K V)) (c : Chart K) (blocks : Blocks) (sights : ℕ → Sight) (o : CallOverAll) (alone : AloneIn w c blocks sights o) (here : Keeps o w.memory c blocks)
+      (m2 : Mem (Node K V)) (p2 : Sweep) (end : Swept (Node K V)) (s : Steps Took value_at w.memory (sweep_plan hash o.sweep) m2 (p2, end)) where
+    led : Led {Q = K} same hash same setting slot_of h.lawful w c blocks sights o alone m2 p2 end s
+    led = led_on {Q = K} same hash same setting slot_of h.lawful w c blocks sights o alone m2 p2 end s h.initial
 
     still_then : StandsStill same hash setting m0 xs h m2
     still_then n low known =
         let l = here.looks n low known in
-        let low2 : n < here.c.stored = (let more = here.stored in omega (arith, low, more)) in
-        ap (value_at m2) (sym l.1) ∙ (led.looks n low2 l.0).2 ∙ ap (value_at here.w.memory) l.1 ∙ ap (λ (y : Mem (Node K V)). value_at y (h.blocks.pair n)) here.memory ∙ here.held.1 n low known
-
-    may : May Can Took value_at m (sweep_plan hash o.sweep)
-    may =
-        subst (λ (y : Mem (Node K V)). May Can Took value_at y (sweep_plan hash o.sweep)) here.memory
-        (sweeps_go_on_alone {Q = K} same hash same setting slot_of h.lawful h.initial here.w here.c here.blocks here.sights o here.alone).0
+        let low2 : n < c.stored = (let more = here.stored in omega (arith, low, more)) in
+        ap (value_at m2) (sym l.1) ∙ (led.looks n low2 l.0).2 ∙ ap (value_at w.memory) l.1 ∙ here.held.1 n low known
 
     held_then : IsHeld m2
-    held_then = (λ n y there. here.held.0 n y (puts_none m m2 (sweep_plan hash o.sweep) (p2, end) (sweep_puts K V hash o.sweep) may s n y there), still_then)
+    held_then =
+        let may = (sweeps_go_on_alone {Q = K} same hash same setting slot_of h.lawful h.initial w c blocks sights o alone).0 in
+        (λ n y there. here.held.0 n y (puts_none w.memory m2 (sweep_plan hash o.sweep) (p2, end) (sweep_puts K V hash o.sweep) may s n y there), still_then)
 
-    course_of : AloneIn led.w2 led.c2 led.blocks2 led.sights2 led.o2 → Course led.o2 m2
-    course_of alone = record {
-      w = led.w2;
-      c = led.c2;
-      blocks = led.blocks2;
-      sights = led.sights2;
-      alone = alone;
-      memory = led.memory;
-      stored = let more = here.stored in let less = led.stored in omega (arith, more, less);
-      looks = λ n low known.
-          let l = here.looks n low known in
-          let k = led.looks n (let more = here.stored in omega (arith, low, more)) l.0 in (k.0, k.1 ∙ l.1);
-      held = held_then;
-    }
-
-    under_of : AloneIn led.w2 led.c2 led.blocks2 led.sights2 led.o2 → Under (it p2) m2
-    under_of alone = record { o = led.o2; is = ap it (sym led.sweep); course = course_of alone }
-
-  next_by : (o : CallOverAll) (m : Mem (Node K V)) (here : Course o m) (m2 : Mem (Node K V)) (p2 : Sweep) (end : Swept (Node K V)) (s : Steps Took value_at m (sweep_plan hash o.sweep) m2 (p2, end))
-      → Next (over_pairs_settled (it p2) end).0 m2 (over_pairs_settled (it p2) end).1
-  next_by o m here m2 p2 swept.Goes s = under_of o m here m2 p2 swept.Goes s (led o m here m2 p2 swept.Goes s).leads
-  next_by o m here m2 p2 swept.Waits s = absurd ((led o m here m2 p2 swept.Waits s).leads)
-  next_by o m here m2 p2 (swept.Gave value) s = under_of o m here m2 p2 (swept.Gave value) s (led o m here m2 p2 (swept.Gave value) s).leads.0
-  next_by o m here m2 p2 swept.Ready s = held_then o m here m2 p2 swept.Ready s
-  next_by o m here m2 p2 (swept.Pair word) s = held_then o m here m2 p2 (swept.Pair word) s
-  next_by o m here m2 p2 (swept.Asks word) s =
-      let l = led o m here m2 p2 (swept.Asks word) s in (under_of o m here m2 p2 (swept.Asks word) s l.leads.0, ap (λ (q : Sweep). q.stands) (sym l.sweep) ∙ l.leads.1)
-  next_by o m here m2 p2 swept.Done s = held_then o m here m2 p2 swept.Done s
-  next_by o m here m2 p2 (swept.Refused fault) s = held_then o m here m2 p2 (swept.Refused fault) s
-
-  next_of : (x : OverPairs S) (m : Mem (Node K V)) (u : Under x m) (m2 : Mem (Node K V)) (x2 : OverPairs S) (told : Progress Pause) → Steps Took value_at m (over_pairs_plan {K = K} {V = V} hashes x) m2 (x2, told) → Next x2 m2 told
-  next_of x m u m2 x2 told s =
-      let d = steps_back (over_pairs_after (it u.o.sweep)) m m2 (sweep_plan hash u.o.sweep) (x2, told)
-      (subst (λ (y : OverPairs S). Steps Took value_at m (over_pairs_plan {K = K} {V = V} hashes y) m2 (x2, told)) u.is s) in
-      subst (λ (e : OverPairs S × Progress Pause). Next e.0 m2 e.1) (sym d.2) (next_by u.o m u.course m2 d.0.0 d.0.1 d.1)
-
-  -- where it stops
-  abbrev StopsAt : OverPairs S → Mem (Node K V) → Result Pause Fault → Type 0
-  StopsAt x m (Ok (pause.Asks word)) = Under x m × (x.sweep.stands ≡ at.Asks word)
-  StopsAt x m _ = IsHeld m
-
-  stopped : (x : OverPairs S) (m : Mem (Node K V)) (told : Progress Pause) (result : Result Pause Fault) → Next x m told → Tells told result → StopsAt x m result
-  stopped x m (progress.Done a) (Ok e) next tells = subst (λ (z : Pause). StopsAt x m (Ok z)) (sym tells) (by a next)
-    where
-      by : (a : Pause) → Next x m (progress.Done a) → StopsAt x m (Ok a)
-      by (pause.Asks word) next = next
-      by pause.Ended next = next
-      by pause.Ready next = next
-      by (pause.Shows word) next = next
-  stopped x m (progress.Refused f) (Err g) next tells = next
-  stopped x m (progress.Refused f) (Ok e) next tells = absurd tells
-  stopped x m (progress.Done a) (Err g) next tells = absurd tells
-  stopped x m progress.Goes (Ok e) next tells = absurd tells
-  stopped x m progress.Goes (Err g) next tells = absurd tells
-  stopped x m progress.Waits result next tells = absurd next
-
-  goes_on : (x : OverPairs S) (m : Mem (Node K V)) (told : Progress Pause) → GoesOn told → Next x m told → Under x m
-  goes_on x m progress.Goes on next = next
-  goes_on x m progress.Waits on next = absurd next
-  goes_on x m (progress.Done a) on next = absurd on
-  goes_on x m (progress.Refused f) on next = absurd on
-
-  stops_at : (x : OverPairs S) (m : Mem (Node K V)) → Under x m → (x2 : OverPairs S) (m2 : Mem (Node K V)) (result : Result Pause Fault) → RunsTo (over_pairs_plan {K = K} {V = V} hashes) x m x2 m2 result → StopsAt x2 m2 result
-  stops_at x m u x2 m2 result (stops _ _ _ _ told _ s tells) = stopped x2 m2 told result (next_of x m u m2 x2 told s) tells
-  stops_at x m u x2 m2 result (goes _ _ x1 m1 told on s _ _ _ runs) = stops_at x1 m1 (goes_on x1 m1 told on (next_of x m u m1 x1 told s)) x2 m2 result runs
-
-  begins : (purpose : Purpose) → Under (it (sweeping (in_slot setting setting.slot) purpose)) m0
-  begins purpose = record {
-    o = begun_over_all h.chart.now (in_slot setting setting.slot) purpose;
-    is = refl;
-    course = record {
-      w = h.world;
-      c = h.chart;
-      blocks = h.blocks;
-      sights = h.sights;
-      alone = sweeps_begin_alone same hash same setting slot_of h.world h.chart h.blocks h.sights h.rests purpose;
-      memory = h.memory;
-      stored = omega arith;
-      looks = λ n low known. (known, refl);
-      held = ((λ n y there. there), still_first same hash setting m0 xs h);
-    };
-  }
-
-  -- told about the pair that it asks about, it is under way again
-  told_on : (x : OverPairs S) (m : Mem (Node K V)) (u : Under x m) (word : ℕ) → x.sweep.stands ≡ at.Asks word → (keeps : Bool) → Under (record x { sweep = after_reply x.sweep keeps }) m
-  told_on x m u word asks keeps =
-      let c = u.course in
-      let t = sweeps_told_alone same hash same setting slot_of h.lawful c.w c.c c.blocks c.sights u.o c.alone in
-      let here : u.o.sweep.stands ≡ at.Asks word = ap (λ (y : OverPairs S). y.sweep.stands) (sym u.is) ∙ asks in
-      let about = t.asks_about word here in
+  steps : StepsKeep same hashes b setting m0 xs h Keeps Refuses
+  steps w c blocks sights o alone here m2 p2 end s =
+      let l = led w c blocks sights o alone here m2 p2 end s in
       record {
-        o = told_of u.o about.0 keeps;
-        is = ap (λ (y : OverPairs S). record y { sweep = after_reply y.sweep keeps }) u.is;
-        course = record {
-          w = c.w;
-          c = c.c;
-          blocks = c.blocks;
-          sights = c.sights;
-          alone = (t.replied word about.0 about.1 about.2 here about.3.0 keeps).0;
-          memory = c.memory;
-          stored = c.stored;
-          looks = c.looks;
-          held = c.held;
+        w2 = l.w2;
+        c2 = l.c2;
+        blocks2 = l.blocks2;
+        sights2 = l.sights2;
+        o2 = l.o2;
+        sweep = l.sweep;
+        memory = l.memory;
+        leads = l.leads;
+        kept = record {
+          stored = let more = here.stored in let less = l.stored in omega (arith, more, less);
+          looks = λ n low known.
+              let k = here.looks n low known in
+              let j = l.looks n (let more = here.stored in omega (arith, low, more)) k.0 in (j.0, j.1 ∙ k.1);
+          held = held_then w c blocks sights o alone here m2 p2 end s;
         };
+        refuses = λ fault is. tt;
       }
 
-  under_way : (purpose : Purpose) (x : OverPairs S) (m : Mem (Node K V)) → IsSweeping hashes b setting purpose m0 x m → Under x m
-  under_way purpose _ _ begun = begins purpose
-  under_way purpose _ _ (asked x m before x2 m2 word runs keeps) =
-      let k = stops_at x m (under_way purpose x m before) x2 m2 (Ok (pause.Asks word)) runs in told_on x2 m2 k.0 word k.1 keeps
-
-  -- wherever it stops
-  at_stop : (x : OverPairs S) (m : Mem (Node K V)) (result : Result Pause Fault) → StopsAt x m result → IsHeld m
-  at_stop x m (Ok (pause.Asks word)) s = s.0.course.held
-  at_stop x m (Ok pause.Ended) s = s
-  at_stop x m (Ok pause.Ready) s = s
-  at_stop x m (Ok (pause.Shows word)) s = s
-  at_stop x m (Err fault) s = s
+  replies : RepliesKeep same hashes b setting m0 xs h Keeps Refuses
+  replies m c blocks o here n keeps = record { stored = here.stored; looks = here.looks; held = here.held }
 
   pub take_none_away : (purpose : Purpose) (x : OverPairs S) (m : Mem (Node K V)) → IsSweeping hashes b setting purpose m0 x m → (x2 : OverPairs S) (m2 : Mem (Node K V)) (result : Result Pause Fault)
       → RunsTo (over_pairs_plan {K = K} {V = V} hashes) x m x2 m2 result → NoneCame m0 m2 × StayInPlace m0 m2 xs
   take_none_away purpose x m is x2 m2 result runs =
-      let at_end = at_stop x2 m2 result (stops_at x m (under_way purpose x m is) x2 m2 result runs) in (at_end.0, stood same hash setting m0 xs h m2 at_end.1)
+      let at_end = stopped_along same hashes b setting m0 xs h Keeps Refuses steps replies purpose first x m is x2 m2 result runs in
+      let held = at_end.0.3.held in (held.0, stood same hash setting m0 xs h m2 held.1)
+    where
+      first : Keeps (begun_over_all h.chart.now (in_slot setting setting.slot) purpose) m0 h.chart h.blocks
+      first = record {
+        stored = omega arith;
+        looks = λ n low known. (known, refl);
+        held = ((λ n y there. there), still_first same hash setting m0 xs h);
+      }
 
 pub sweeps_take_none_away : (K V S : Type 0) → SweepsTakeNoneAway K V S
 sweeps_take_none_away K V S same hashes b setting m0 xs h purpose x m is x2 m2 result runs = take_none_away same hashes b setting m0 xs h purpose x m is x2 m2 result runs

@@ -57,7 +57,6 @@ late_copier_idle same hash w caller setting c blocks began p _ h = absurd h
 module _ {K V : Type 0} (same : K → K → Bool) (hash : K → ℕ) (setting : Setting) (blocking : is_incremental setting.mode ≡ false) (caller : ℕ) (w w2 : World (Node K V)) (c c2 : Chart K)
     (blocks blocks2 : Blocks) (map : IsMapIn same hash setting w c blocks) (moments : Moments (is_incremental setting.mode) c) (others : OthersStep same hash setting caller w c blocks w2 c2 blocks2)
     (began : ℕ) (since : began ≤ c.now) where
-
   rule : Rule same (spot_of hash) false c
   rule = subst (λ (x : Bool). Rule same (spot_of hash) x c) blocking map.map.rule
 

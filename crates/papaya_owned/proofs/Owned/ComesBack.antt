@@ -1,5 +1,5 @@
 -- The pair that a call on one key was begun with comes back by its run, unless it is in the map then.
-use Rattle.std.specs.Prelude.{◌≡◌, ℕ, Bool, Option, Some, Result, Ok, Err, ◌⊎◌}
+use Rattle.std.specs.Prelude.{◌≡◌, ℕ, Bool, Option, Some, Result, ◌⊎◌}
 use Rattle.std.specs.Int.{IsPowerOfTwo}
 use Rattle.std.proofs.Common.{refl, sym, subst, inl, inr}
 use denote.Ref.{Bor}
@@ -7,7 +7,6 @@ use Rattle.seize_words.specs.Mem.{Mem, Took, value_at}
 use Rattle.seize_words.specs.Plan.{Plan, Steps}
 use Rattle.seize_words.specs.declared.fault.Fault.{Fault}
 use Rattle.seize.specs.declared.progress.Progress.{Progress}
-use Rattle.seize.specs.declared.progress.Progress.TheVariants as progress
 use Rattle.papaya_tables.specs.Chunks.{is_incremental}
 use Rattle.papaya_tables.specs.declared.node.Node.{Node}
 use Rattle.papaya_tables.specs.declared.setting.Setting.{Setting}
@@ -27,14 +26,14 @@ use Rattle.papaya_whole.specs.Given.Rule.Words.{Blocks}
 use Rattle.papaya_whole.specs.Given.Points.Steps.{AreLawful}
 use Rattle.papaya_whole.specs.Given.Callers.Kind.{Kind}
 use Rattle.papaya_whole.specs.Given.Callers.Pairs.{Begun}
-use Rattle.papaya_owned.specs.Ending.{GoesOn, Tells, RunsTo, stops, goes}
+use Rattle.papaya_owned.specs.Ending.{RunsTo}
 use Rattle.papaya_owned.specs.Machines.{on_key_settled, on_key_plan}
-use Rattle.papaya_owned.specs.Owned.{PutsIt, ComesBack}
+use Rattle.papaya_owned.specs.Owned.{ComesBack}
 use Rattle.papaya_owned.specs.declared.machines.OnKey.{OnKey}
 use Rattle.papaya_owned.specs.declared.machines.Stop.{Stop}
-use Rattle.papaya_owned.specs.declared.machines.Stop.TheVariants as stop
 use Rattle.papaya_owned.proofs.Owned.HandsBack.{HasPair, KeepsPair, IsOver, pair_kept}
-use Rattle.papaya_owned.proofs.Owned.Keys.{Under, Course, leading, under_back, under_step, on_under}
+use Rattle.papaya_owned.proofs.Owned.Keys.{Under, Course, StopsAt, leading, under_back, under_step}
+use Rattle.papaya_owned.proofs.Runs.Comes.{NextOf, next_both, run_comes}
 
 -- it tells how it has ended
 abbrev pub TellsEnd : {T : Type 0} → Called T → Type 0
@@ -72,6 +71,9 @@ module _ {K V Q S : Type 0} (same : K → K → Bool) (asks : Q → K → Bool) 
   abbrev UnderIt : OnKey K V Q S → Mem (Node K V) → Type 0
   UnderIt = Under {Q = Q} same asks hashes b setting lawful initial m0 c0 blocks0 rule0 keys (Begun kind pair)
 
+  abbrev StopsIt : OnKey K V Q S → Mem (Node K V) → Result Stop Fault → Type 0
+  StopsIt = StopsAt {Q = Q} same asks hashes b setting lawful initial m0 c0 blocks0 rule0 keys (Begun kind pair)
+
   abbrev CourseOf : KeyCall K V Q → Mem (Node K V) → Type 0
   CourseOf = Course {Q = Q} {S = S} same asks hashes b setting lawful initial m0 c0 blocks0 rule0 keys (Begun kind pair)
 
@@ -82,74 +84,52 @@ module _ {K V Q S : Type 0} (same : K → K → Bool) (asks : Q → K → Bool) 
   abbrev HasStill : OnKey K V Q S → Type 0
   HasStill x = ((x.unstored ≡ pair) × IsOver x.call.stands) ⊎ HasPair x.call
 
+  abbrev ComesSo : OnKey K V Q S → Result Stop Fault → Type 0
+  ComesSo x result = ComesBack pair result x.unstored
+
   -- where a step leads, by what the machine tells
-  abbrev HasNext : OnKey K V Q S → Progress Stop → Type 0
-  HasNext x (progress.Done (stop.Answered answer)) = PutsIt answer ⊎ (x.unstored ≡ pair)
-  HasNext x (progress.Done (stop.Asks asked)) = x.unstored ≡ pair
-  HasNext x (progress.Refused fault) = x.unstored ≡ pair
-  HasNext x _ = HasStill x
+  abbrev HasNext : OnKey K V Q S → Mem (Node K V) → Progress Stop → Type 0
+  HasNext = NextOf (λ x m. HasStill x) (λ x m result. ComesSo x result)
 
   -- it has the pair, and this is what it tells
-  has_by : (p2 : KeyCall K V Q) (o : Option (Node K V)) (told : Called (Node K V)) → KeepsPair (p2, told) → ((value : Node K V) → told ≡ called.Unstored value → pair ≡ Some value)
-      → HasNext (on_key_settled (it p2 o) told).0 (on_key_settled (it p2 o) told).1
-  has_by p2 o called.Goes keeps hands = inr keeps
-  has_by p2 o called.Waits keeps hands = inr keeps
-  has_by p2 o (called.Gave value) keeps hands = inr keeps
-  has_by p2 o (called.Unstored value) keeps hands = inl (sym (hands value refl), keeps)
-  has_by p2 o (called.Asks asked) keeps hands = absurd keeps
-  has_by p2 o (called.Done answer) keeps hands = inl keeps
-  has_by p2 o (called.Refused fault) keeps hands = absurd keeps
+  has_by : (p2 : KeyCall K V Q) (o : Option (Node K V)) (m2 : Mem (Node K V)) (told : Called (Node K V)) → KeepsPair (p2, told) → ((value : Node K V) → told ≡ called.Unstored value → pair ≡ Some value)
+      → HasNext (on_key_settled (it p2 o) told).0 m2 (on_key_settled (it p2 o) told).1
+  has_by p2 o m2 called.Goes keeps hands = inr keeps
+  has_by p2 o m2 called.Waits keeps hands = inr keeps
+  has_by p2 o m2 (called.Gave value) keeps hands = inr keeps
+  has_by p2 o m2 (called.Unstored value) keeps hands = inl (sym (hands value refl), keeps)
+  has_by p2 o m2 (called.Asks asked) keeps hands = absurd keeps
+  has_by p2 o m2 (called.Done answer) keeps hands = inl keeps
+  has_by p2 o m2 (called.Refused fault) keeps hands = absurd keeps
 
   -- its pair came back, and it tells how it has ended
-  back_by : (p2 : KeyCall K V Q) (o : Option (Node K V)) (told : Called (Node K V)) → TellsEnd told → o ≡ pair → HasNext (on_key_settled (it p2 o) told).0 (on_key_settled (it p2 o) told).1
-  back_by p2 o called.Goes end back = absurd end
-  back_by p2 o called.Waits end back = absurd end
-  back_by p2 o (called.Gave value) end back = absurd end
-  back_by p2 o (called.Unstored value) end back = absurd end
-  back_by p2 o (called.Asks asked) end back = absurd end
-  back_by p2 o (called.Done answer) end back = inr back
-  back_by p2 o (called.Refused fault) end back = back
+  back_by : (p2 : KeyCall K V Q) (o : Option (Node K V)) (m2 : Mem (Node K V)) (told : Called (Node K V)) → TellsEnd told → o ≡ pair → HasNext (on_key_settled (it p2 o) told).0 m2 (on_key_settled (it p2 o) told).1
+  back_by p2 o m2 called.Goes end back = absurd end
+  back_by p2 o m2 called.Waits end back = absurd end
+  back_by p2 o m2 (called.Gave value) end back = absurd end
+  back_by p2 o m2 (called.Unstored value) end back = absurd end
+  back_by p2 o m2 (called.Asks asked) end back = absurd end
+  back_by p2 o m2 (called.Done answer) end back = inr back
+  back_by p2 o m2 (called.Refused fault) end back = back
 
   has_step : (p : KeyCall K V Q) (o : Option (Node K V)) (m m2 : Mem (Node K V)) (course : CourseOf p m) (e : KeyCall K V Q × Called (Node K V)) → Steps Took value_at m (call_plan asks same hash p) m2 e
-      → HasStill (it p o) → HasNext (on_key_settled (it e.0 o) e.1).0 (on_key_settled (it e.0 o) e.1).1
-  has_step p o m m2 course e s (inl (back, over)) = back_by e.0 o e.1 (over_tells asks same hash p m m2 e p.stands over s) back
+      → HasStill (it p o) → HasNext (on_key_settled (it e.0 o) e.1).0 m2 (on_key_settled (it e.0 o) e.1).1
+  has_step p o m m2 course e s (inl (back, over)) = back_by e.0 o m2 e.1 (over_tells asks same hash p m m2 e p.stands over s) back
   has_step p o m m2 course e s (inr h) =
-      has_by e.0 o e.1 (pair_kept asks same hash p h m m2 e s)
+      has_by e.0 o m2 e.1 (pair_kept asks same hash p h m m2 e s)
       (leading {Q = Q} {S = S} same asks hashes b setting lawful initial m0 c0 blocks0 rule0 keys (Begun kind pair) p m course m2 e.0 e.1 s).hands
 
   abbrev the_plan : OnKey K V Q S → Plan (Node K V) (OnKey K V Q S × Progress Stop)
   the_plan = on_key_plan asks same hashes
 
-  has_next : (x : OnKey K V Q S) (m : Mem (Node K V)) → UnderIt x m → HasStill x → (m2 : Mem (Node K V)) (end : OnKey K V Q S × Progress Stop) → Steps Took value_at m (the_plan x) m2 end → HasNext end.0 end.1
+  has_next : (x : OnKey K V Q S) (m : Mem (Node K V)) → UnderIt x m → HasStill x → (m2 : Mem (Node K V)) (end : OnKey K V Q S × Progress Stop) → Steps Took value_at m (the_plan x) m2 end → HasNext end.0 m2 end.1
   has_next x m u has m2 end s =
       let k = under_back {Q = Q} same asks hashes b setting lawful initial m0 c0 blocks0 rule0 keys (Begun kind pair) x m u m2 end s in
-      subst (λ (y : OnKey K V Q S × Progress Stop). HasNext y.0 y.1) (sym k.2) (has_step u.p u.unstored m m2 u.course k.0 k.1 (subst HasStill u.is has))
-
-  stopped : (x2 : OnKey K V Q S) (told : Progress Stop) (result : Result Stop Fault) → HasNext x2 told → Tells told result → ComesBack pair result x2.unstored
-  stopped x2 (progress.Done a) (Ok s) next tells = subst (λ z. ComesBack pair (Ok z) x2.unstored) (sym tells) (by a next)
-    where
-      by : (a : Stop) → HasNext x2 (progress.Done a) → ComesBack pair (Ok a) x2.unstored
-      by (stop.Answered answer) next = next
-      by (stop.Asks asked) next = next
-  stopped x2 (progress.Refused f) (Err g) next tells = next
-  stopped x2 (progress.Refused f) (Ok s) next tells = absurd tells
-  stopped x2 (progress.Done a) (Err g) next tells = absurd tells
-  stopped x2 progress.Goes (Ok s) next tells = absurd tells
-  stopped x2 progress.Goes (Err g) next tells = absurd tells
-  stopped x2 progress.Waits (Ok s) next tells = absurd tells
-  stopped x2 progress.Waits (Err g) next tells = absurd tells
-
-  still : (x2 : OnKey K V Q S) (told : Progress Stop) → GoesOn told → HasNext x2 told → HasStill x2
-  still x2 progress.Goes on next = next
-  still x2 progress.Waits on next = next
-  still x2 (progress.Done a) on next = absurd on
-  still x2 (progress.Refused f) on next = absurd on
+      subst (λ (y : OnKey K V Q S × Progress Stop). HasNext y.0 m2 y.1) (sym k.2) (has_step u.p u.unstored m m2 u.course k.0 k.1 (subst HasStill u.is has))
 
   pub comes_back : (x : OnKey K V Q S) (m : Mem (Node K V)) (x2 : OnKey K V Q S) (m2 : Mem (Node K V)) (result : Result Stop Fault) → RunsTo the_plan x m x2 m2 result → UnderIt x m → HasStill x
       → ComesBack pair result x2.unstored
-  comes_back x m x2 m2 result (stops _ _ _ _ told _ s tells) u has = stopped x2 told result (has_next x m u has m2 (x2, told) s) tells
-  comes_back x m x2 m2 result (goes _ _ x1 m1 told on s _ _ _ runs) u has =
-      comes_back x1 m1 x2 m2 result runs
-      (on_under {Q = Q} same asks hashes b setting lawful initial m0 c0 blocks0 rule0 keys (Begun kind pair) x1 m1 told on
-      (under_step {Q = Q} same asks hashes b setting lawful initial m0 c0 blocks0 rule0 keys (Begun kind pair) x m u m1 (x1, told) s))
-      (still x1 told on (has_next x m u has m1 (x1, told) s))
+  comes_back x m x2 m2 result runs u has =
+      (run_comes (λ y n. UnderIt y n × HasStill y) (λ y n r. StopsIt y n r × ComesSo y r) the_plan
+      (λ y n h n2 end s. next_both UnderIt (λ z k. HasStill z) StopsIt (λ z k r. ComesSo z r) end.0 n2 end.1
+      (under_step {Q = Q} same asks hashes b setting lawful initial m0 c0 blocks0 rule0 keys (Begun kind pair) y n h.0 n2 end s) (has_next y n h.0 h.1 n2 end s)) x m (u, has) x2 m2 result runs).1

@@ -10,7 +10,6 @@ use Rattle.seize_words.specs.declared.fault.Fault.{Fault}
 use Rattle.seize_words.specs.declared.fault.Fault.TheVariants.{RemoveNothing}
 use Rattle.seize.specs.World.{World}
 use Rattle.seize.specs.declared.progress.Progress.{Progress}
-use Rattle.seize.specs.declared.progress.Progress.TheVariants as progress
 use Rattle.papaya_whole.proofs.Given.SeizeRule.Rows.Leaving.{steps_back}
 use Rattle.papaya_tables.specs.Chunks.{is_incremental}
 use Rattle.papaya_tables.specs.declared.node.Node.{Node}
@@ -43,11 +42,12 @@ use Rattle.papaya_whole.specs.Owner.{AtRest, IsAlone}
 use Rattle.papaya_whole.specs.Whole.{GoesOn as CallGoesOn, StepsOn, StepLeads}
 use Rattle.papaya_whole.proofs.Keys.Whole.{calls_go_on_alone}
 use Rattle.papaya_whole.proofs.Keys.Ends.{calls_come_to_an_end}
-use Rattle.papaya_owned.specs.Ending.{GoesOn, Tells, Ends, all_end, RunsTo, stops, goes}
+use Rattle.papaya_owned.specs.Ending.{GoesOn, Ends, all_end, RunsTo}
 use Rattle.papaya_owned.specs.Machines.{on_key_settled, on_key_after, on_key_plan}
 use Rattle.papaya_owned.specs.declared.machines.OnKey.{OnKey}
 use Rattle.papaya_owned.specs.declared.machines.Stop.{Stop}
 use Rattle.papaya_owned.specs.declared.machines.Stop.TheVariants as stop
+use Rattle.papaya_owned.proofs.Runs.Comes.{NextOf, run_comes}
 
 -- a step whose outcome is turned into another may be taken where the step may
 module _ {T A B M : Type 0} (f : A → B) (can : M → Op T → Type 0) (took : M → Op T → Out T → M → Type 0) (shown : M → ℕ → Option T) where
@@ -245,13 +245,15 @@ module _ {K V Q S : Type 0} (same : K → K → Bool) (asks : Q → K → Bool) 
     pub asks_at : Asking
     pub stands : under.p.stands ≡ points.Asks asks_at
 
+  -- what it comes to
+  abbrev pub StopsAt : OnKey K V Q S → Mem (Node K V) → Result Stop Fault → Type 0
+  StopsAt x m (Ok (stop.Answered answer)) = Answered m answer
+  StopsAt x m (Ok (stop.Asks asked)) = AsksAt x m asked
+  StopsAt x m (Err fault) = IsRefused m fault × RefusalFits fault
+
   -- where a step of that machine leads, by what it tells
   abbrev pub Next : OnKey K V Q S → Mem (Node K V) → Progress Stop → Type 0
-  Next x m progress.Goes = Under x m
-  Next x m progress.Waits = ⊥
-  Next x m (progress.Done (stop.Answered answer)) = Answered m answer
-  Next x m (progress.Done (stop.Asks asked)) = AsksAt x m asked
-  Next x m (progress.Refused fault) = IsRefused m fault × RefusalFits fault
+  Next = NextOf Under StopsAt
 
   next_by : (p : KeyCall K V Q) (o : Option (Node K V)) (m : Mem (Node K V)) (told : Called (Node K V)) → CourseTo p m told → Next (on_key_settled (it p o) told).0 m (on_key_settled (it p o) told).1
   next_by p o m called.Goes c = record { p = p; unstored = o; is = refl; course = c }
@@ -308,39 +310,14 @@ module _ {K V Q S : Type 0} (same : K → K → Bool) (asks : Q → K → Bool) 
   pub under_ends : (x : OnKey K V Q S) (m : Mem (Node K V)) → Under x m → Ends the_plan x m
   under_ends x m u = ends_from (u.p, m) (course_ends u.p m u.course) x u refl
 
-  -- what it comes to
-  abbrev pub StopsAt : OnKey K V Q S → Mem (Node K V) → Result Stop Fault → Type 0
-  StopsAt x m (Ok (stop.Answered answer)) = Answered m answer
-  StopsAt x m (Ok (stop.Asks asked)) = AsksAt x m asked
-  StopsAt x m (Err fault) = IsRefused m fault × RefusalFits fault
-
+  -- what it comes to, but for the machine
   abbrev pub ComesTo : Mem (Node K V) → Result Stop Fault → Type 0
   ComesTo m (Ok (stop.Answered answer)) = Answered m answer
   ComesTo m (Ok (stop.Asks asked)) = TellsFit (kind_of given).present (kind_of given).absent (kind_of given).takes {T = Node K V} (called.Asks asked)
   ComesTo m (Err fault) = IsRefused m fault × FaultFits (kind_of given).present (kind_of given).absent (kind_of given).takes fault
 
-  stopped : (x2 : OnKey K V Q S) (m2 : Mem (Node K V)) (told : Progress Stop) (result : Result Stop Fault) → Next x2 m2 told → Tells told result → StopsAt x2 m2 result
-  stopped x2 m2 (progress.Done a) (Ok b) next tells = subst (λ z. StopsAt x2 m2 (Ok z)) (sym tells) (done a next)
-    where
-      done : (a : Stop) → Next x2 m2 (progress.Done a) → StopsAt x2 m2 (Ok a)
-      done (stop.Answered answer) next = next
-      done (stop.Asks asked) next = next
-  stopped x2 m2 (progress.Refused f) (Err g) next tells = subst (λ z. StopsAt x2 m2 (Err z)) (sym tells) next
-  stopped x2 m2 (progress.Refused f) (Ok b) next tells = absurd tells
-  stopped x2 m2 (progress.Done a) (Err g) next tells = absurd tells
-  stopped x2 m2 progress.Goes (Ok b) next tells = absurd tells
-  stopped x2 m2 progress.Goes (Err g) next tells = absurd tells
-  stopped x2 m2 progress.Waits result next tells = absurd next
-
-  pub on_under : (x2 : OnKey K V Q S) (m2 : Mem (Node K V)) (told : Progress Stop) → GoesOn told → Next x2 m2 told → Under x2 m2
-  on_under x2 m2 progress.Goes on next = next
-  on_under x2 m2 progress.Waits on next = absurd next
-  on_under x2 m2 (progress.Done a) on next = absurd on
-  on_under x2 m2 (progress.Refused f) on next = absurd on
-
   pub stops_at : (x : OnKey K V Q S) (m : Mem (Node K V)) (x2 : OnKey K V Q S) (m2 : Mem (Node K V)) (result : Result Stop Fault) → RunsTo the_plan x m x2 m2 result → Under x m → StopsAt x2 m2 result
-  stops_at x m x2 m2 result (stops _ _ _ _ told _ s tells) u = stopped x2 m2 told result (under_step x m u m2 (x2, told) s) tells
-  stops_at x m x2 m2 result (goes _ _ x1 m1 told on s _ _ _ runs) u = stops_at x1 m1 x2 m2 result runs (on_under x1 m1 told on (under_step x m u m1 (x1, told) s))
+  stops_at x m x2 m2 result runs u = run_comes Under StopsAt the_plan under_step x m u x2 m2 result runs
 
   comes_by : (x2 : OnKey K V Q S) (m2 : Mem (Node K V)) (result : Result Stop Fault) → StopsAt x2 m2 result → ComesTo m2 result
   comes_by x2 m2 (Ok (stop.Answered answer)) s = s

@@ -10,7 +10,6 @@ use Rattle.papaya_whole.specs.Given.Points.Steps.{AreLawful}
 use Rattle.papaya_owned.specs.Owned.{hashed_by}
 
 module _ {K S H : Type 0} (eq : K → K → Bool) (finish : H → ℕ) (write : H → List ℕ → H) (build : S → H) (input : K → List (List ℕ)) (hasher : S) where
-
   pub are_lawful : IsEquivalence eq → ((x y : K) → eq x y ≡ true → input x ≡ input y) → AreLawful eq (hashed_by finish write build input hasher)
   are_lawful classes respects = record {
     lawful = record {

@@ -1,5 +1,5 @@
 -- The owner's section is refreshed: the map rests then, with the same pairs.
-use Rattle.std.specs.Prelude.{◌≡◌, ◌≢◌, ℕ, zero, suc, ◌+◌, ◌%◌, ◌^◌, ◌<◌, ◌==◌, Bool, true, false, List, [], ◌∷◌, length, Option, None, Result, Ok, Err, if◌then◌else◌, nat_lt}
+use Rattle.std.specs.Prelude.{◌≡◌, ◌≢◌, ℕ, zero, suc, ◌+◌, ◌%◌, ◌^◌, ◌<◌, ◌==◌, Bool, true, false, List, [], ◌∷◌, length, Option, None, Result, if◌then◌else◌, nat_lt}
 use Rattle.std.proofs.Common.{refl, sym, ◌∙◌, ap, subst, arith, inl, inr, eqb}
 use Rattle.std.specs.Prelude.{cond}
 use Rattle.std.proofs.lemmas.Bool.{eqb-true, eqb-false, eq-eqb, false_from_ne_true}
@@ -13,7 +13,6 @@ use Rattle.seize.specs.Leave.{leave_plan, plan_at as leave_plan_at, list_taken, 
 use Rattle.seize.specs.Settle.{settle_plan, counting_down}
 use Rattle.seize.specs.World.{World, Row, Rests, Leaves, Refresh, Steps', MayStep, IsInside, Vacant, Outside, Inside, Changing, Use, leaves_on, left_as, left_row, with_row, with_use, at_start}
 use Rattle.seize.specs.declared.progress.Progress.{Progress}
-use Rattle.seize.specs.declared.progress.Progress.TheVariants as progress
 use Rattle.seize.specs.declared.rows.leave.Leave.{Leave}
 use Rattle.seize.specs.declared.rows.leave.Leaving.{Leaving}
 use Rattle.seize.specs.declared.rows.leave.Leaving.TheVariants as leaving
@@ -49,13 +48,14 @@ use Rattle.papaya_whole.proofs.Given.Callers.Together.Guards.{guards_stand_toget
 use Rattle.papaya_whole.proofs.Given.Callers.Together.Rows.{map2}
 use Rattle.papaya_whole.proofs.Contents.Below.{below_stays}
 use Rattle.papaya_whole.proofs.Rows.Shards.{row_shards}
-use Rattle.papaya_owned.specs.Ending.{GoesOn, Tells, Ends, all_end, RunsTo, stops, goes}
+use Rattle.papaya_owned.specs.Ending.{Ends, all_end, RunsTo}
 use Rattle.papaya_owned.specs.Machines.{refreshes_plan, refreshes_after, refreshes_settled}
 use Rattle.papaya_owned.specs.Owned.{Holds}
 use Rattle.papaya_owned.specs.declared.machines.Refreshes.{Refreshes}
 use Rattle.papaya_owned.proofs.Owned.Blocks.{pair_same}
 use Rattle.papaya_owned.proofs.Owned.Rests.{together_as}
 use Rattle.papaya_owned.proofs.Owned.Keys.{may_turned}
+use Rattle.papaya_owned.proofs.Runs.Comes.{NextOf, goes_on, next_as, next_turned, run_comes}
 
 -- a step of a leaving keeps its slot and what becomes of it, and ends where it is over
 module _ {T : Type 0} (defers : T → Option ℕ) (c : Leave) where
@@ -253,12 +253,17 @@ module _ {K V : Type 0} (same : K → K → Bool) (hash : K → ℕ) (setting : 
         same_count : HasAdded setting h.world.memory 0 m2 → IsCounted setting h.world.memory h.chart → IsCounted setting m2 h.chart
         same_count had counted = had ∙ no_more _ ∙ counted
 
+  -- it is under way, and has less to do than one that stood so
+  abbrev Nearer : Mem (Node K V) → Refreshes → Refreshes → Mem (Node K V) → Type 0
+  Nearer m r x m2 = Refreshing x m2 × (leave_to_go deferred_word m2 x.leave < leave_to_go deferred_word m r.leave)
+
+  -- what it comes to
+  abbrev Comes : Refreshes → Mem (Node K V) → Result Unit Fault → Type 0
+  Comes x m result = Holds same hash setting m xs
+
   -- where a step of the machine leads, by what it tells
   abbrev Next : Refreshes → Mem (Node K V) → Mem (Node K V) → Refreshes → Progress Unit → Type 0
-  Next x m m2 r progress.Goes = Refreshing x m2 × (leave_to_go deferred_word m2 x.leave < leave_to_go deferred_word m r.leave)
-  Next x m m2 r progress.Waits = ⊥
-  Next x m m2 r (progress.Done end) = Holds same hash setting m2 xs
-  Next x m m2 r (progress.Refused fault) = ⊥
+  Next x m m2 r told = NextOf (Nearer m r) Comes x m2 told
 
   next_by : (r : Refreshes) (m : Mem (Node K V)) → Refreshing r m → (m2 : Mem (Node K V)) (d : Leave) (o : Settled (Node K V)) → Steps Took value_at m (leave_plan deferred_word r.leave) m2 (d, o)
       → Next (refreshes_settled (record { leave = d }) o).0 m m2 r (refreshes_settled {T = Node K V} (record { leave = d }) o).1
@@ -272,34 +277,20 @@ module _ {K V : Type 0} (same : K → K → Bool) (hash : K → ℕ) (setting : 
 
   step_to : (r : Refreshes) (m : Mem (Node K V)) → Refreshing r m → (m2 : Mem (Node K V)) (x : Refreshes) (told : Progress Unit) → Steps Took value_at m (the_plan r) m2 (x, told) → Next x m m2 r told
   step_to r m at m2 x told s =
-      let k = steps_back (refreshes_after r) m m2 (leave_plan deferred_word r.leave) (x, told) s in
-      subst (λ (y : Refreshes × Progress Unit). Next y.0 m m2 r y.1) (sym k.2) (next_by r m at m2 k.0.0 k.0.1 k.1)
-
-  on_to : (x : Refreshes) (m m2 : Mem (Node K V)) (r : Refreshes) (told : Progress Unit) → GoesOn told → Next x m m2 r told → Refreshing x m2 × (leave_to_go deferred_word m2 x.leave < leave_to_go deferred_word m r.leave)
-  on_to x m m2 r progress.Goes on next = next
-  on_to x m m2 r progress.Waits on next = absurd next
-  on_to x m m2 r (progress.Done end) on next = absurd on
-  on_to x m m2 r (progress.Refused fault) on next = absurd on
+      next_turned (Nearer m r) Comes (refreshes_after r) m m2 (leave_plan deferred_word r.leave) (λ k. next_by r m at m2 k.0 k.1) (x, told) s
 
   ends_below : (k : ℕ) (r : Refreshes) (m : Mem (Node K V)) → Refreshing r m → leave_to_go deferred_word m r.leave < k → Ends the_plan r m
   ends_below zero r m at l = absurd (omega (arith, l))
   ends_below (suc k) r m at l =
       all_end r m (may_turned (refreshes_after r) Can Took value_at m (leave_plan deferred_word r.leave) (refresh_may r m at)) (λ m2 x told on s.
-      let g = on_to x m m2 r told on (step_to r m at m2 x told s) in ends_below k x m2 g.0 (let less = g.1 in omega (arith, l, less)))
+      let g = goes_on (Nearer m r) Comes x m2 told on (step_to r m at m2 x told s) in ends_below k x m2 g.0 (let less = g.1 in omega (arith, l, less)))
 
   pub refreshing_ends : (r : Refreshes) (m : Mem (Node K V)) → Refreshing r m → Ends the_plan r m
   refreshing_ends r m at = ends_below (suc (leave_to_go deferred_word m r.leave)) r m at (omega arith)
 
-  holds_then : (x : Refreshes) (m m2 : Mem (Node K V)) (r : Refreshes) (told : Progress Unit) (result : Result Unit Fault) → Next x m m2 r told → Tells told result → Holds same hash setting m2 xs
-  holds_then x m m2 r (progress.Done end) result next tells = next
-  holds_then x m m2 r progress.Goes (Ok e) next tells = absurd tells
-  holds_then x m m2 r progress.Goes (Err e) next tells = absurd tells
-  holds_then x m m2 r progress.Waits result next tells = absurd next
-  holds_then x m m2 r (progress.Refused fault) result next tells = absurd next
-
   pub refreshed : (r : Refreshes) (m : Mem (Node K V)) (x : Refreshes) (m2 : Mem (Node K V)) (result : Result Unit Fault) → RunsTo the_plan r m x m2 result → Refreshing r m → Holds same hash setting m2 xs
-  refreshed r m x m2 result (stops _ _ _ _ told _ s tells) at = holds_then x m m2 r told result (step_to r m at m2 x told s) tells
-  refreshed r m x m2 result (goes _ _ x1 m1 told on s _ _ _ runs) at = refreshed x1 m1 x m2 result runs (on_to x1 m m1 r told on (step_to r m at m1 x1 told s)).0
+  refreshed r m x m2 result runs at =
+      run_comes Refreshing Comes the_plan (λ y n under n2 end s. next_as (Nearer n y) Refreshing Comes Comes end.0 n2 end.1 (λ nearer. nearer.0) (λ told holds. holds) (step_to y n under n2 end.0 end.1 s)) r m at x m2 result runs
 
   -- it begins
   abbrev first_leave : Leave

@@ -10,7 +10,6 @@ use Rattle.seize_words.specs.declared.at.At.TheVariants.{Root}
 use Rattle.seize_words.specs.declared.fault.Fault.{Fault}
 use Rattle.seize.specs.World.{World}
 use Rattle.seize.specs.declared.progress.Progress.{Progress}
-use Rattle.seize.specs.declared.progress.Progress.TheVariants as progress
 use Rattle.papaya_whole.proofs.Given.SeizeRule.Rows.Leaving.{steps_back}
 use Rattle.papaya_tables.specs.Counts.{count_in}
 use Rattle.papaya_tables.specs.declared.node.Node.{Node}
@@ -43,13 +42,14 @@ use Rattle.papaya_whole.proofs.Contents.Length.{countings_come_to}
 use Rattle.papaya_whole.proofs.Contents.Runs.{runs_begin}
 use Rattle.papaya_whole.proofs.Keys.AtEnds.{counts_where_unchanged}
 use Rattle.papaya_whole.proofs.Rooms.Whole.{rooms_begin_alone, rooms_go_on_alone, rooms_come_to_an_end}
-use Rattle.papaya_owned.specs.Ending.{GoesOn, Tells, Ends, all_end, RunsTo, stops, goes}
+use Rattle.papaya_owned.specs.Ending.{GoesOn, Ends, all_end, RunsTo}
 use Rattle.papaya_owned.specs.Machines.{for_room_settled, for_room_after, for_room_plan}
 use Rattle.papaya_owned.specs.Owned.{Holds}
 use Rattle.papaya_owned.specs.Rooms.{CannotMakeRoom, HasRoomFor, NeedTooMany, RoomBy}
 use Rattle.papaya_owned.specs.declared.machines.ForRoom.{ForRoom}
 use Rattle.papaya_owned.proofs.Owned.Keys.{may_turned}
 use Rattle.papaya_owned.proofs.Owned.Lasts.{last_shown}
+use Rattle.papaya_owned.proofs.Runs.Comes.{NextOf, run_comes}
 
 -- from what the map held
 module _ {K V S : Type 0} (same : K → K → Bool) (hashes : S → K → ℕ) (b : Bor S) (setting : Setting) (m0 : Mem (Node K V)) (xs : List (K × V)) (h : Holds same (hashes b.now) setting m0 xs) (additional : ℕ) where
@@ -222,12 +222,14 @@ module _ {K V S : Type 0} (same : K → K → Bool) (hashes : S → K → ℕ) (
     pub is : x ≡ it p
     pub course : Course p m
 
+  -- what it comes to
+  abbrev pub ComesTo : ForRoom S → Mem (Node K V) → Result Unit Fault → Type 0
+  ComesTo x m (Ok end) = HasMadeRoom m
+  ComesTo x m (Err fault) = IsRefused m fault
+
   -- where a step of that machine leads, by what it tells
   abbrev pub Next : ForRoom S → Mem (Node K V) → Progress Unit → Type 0
-  Next x m progress.Goes = Under x m
-  Next x m progress.Waits = ⊥
-  Next x m (progress.Done end) = HasMadeRoom m
-  Next x m (progress.Refused fault) = IsRefused m fault
+  Next = NextOf Under ComesTo
 
   next_by : (p : Reserve) (m : Mem (Node K V)) (told : Outcome (Node K V) Unit) → CourseTo p m told → Next (for_room_settled (it p) told).0 m (for_room_settled (it p) told).1
   next_by p m outcome.Goes c = record { p = p; is = refl; course = c }
@@ -279,30 +281,6 @@ module _ {K V S : Type 0} (same : K → K → Bool) (hashes : S → K → ℕ) (
   -- it comes to its end
   under_ends : (x : ForRoom S) (m : Mem (Node K V)) → Under x m → Ends the_plan x m
   under_ends x m u = ends_from (u.p, m) (course_ends u.p m u.course) x u refl
-
-  -- what it comes to
-  abbrev pub ComesTo : Mem (Node K V) → Result Unit Fault → Type 0
-  ComesTo m (Ok end) = HasMadeRoom m
-  ComesTo m (Err fault) = IsRefused m fault
-
-  stopped : (x2 : ForRoom S) (m2 : Mem (Node K V)) (told : Progress Unit) (result : Result Unit Fault) → Next x2 m2 told → Tells told result → ComesTo m2 result
-  stopped x2 m2 (progress.Done a) (Ok d) next tells = next
-  stopped x2 m2 (progress.Refused f) (Err g) next tells = subst (λ (z : Fault). IsRefused m2 z) (sym tells) next
-  stopped x2 m2 (progress.Refused f) (Ok d) next tells = absurd tells
-  stopped x2 m2 (progress.Done a) (Err g) next tells = absurd tells
-  stopped x2 m2 progress.Goes (Ok d) next tells = absurd tells
-  stopped x2 m2 progress.Goes (Err g) next tells = absurd tells
-  stopped x2 m2 progress.Waits result next tells = absurd next
-
-  on_under : (x2 : ForRoom S) (m2 : Mem (Node K V)) (told : Progress Unit) → GoesOn told → Next x2 m2 told → Under x2 m2
-  on_under x2 m2 progress.Goes on next = next
-  on_under x2 m2 progress.Waits on next = absurd next
-  on_under x2 m2 (progress.Done a) on next = absurd on
-  on_under x2 m2 (progress.Refused f) on next = absurd on
-
-  comes_to : (x : ForRoom S) (m : Mem (Node K V)) (x2 : ForRoom S) (m2 : Mem (Node K V)) (result : Result Unit Fault) → RunsTo the_plan x m x2 m2 result → Under x m → ComesTo m2 result
-  comes_to x m x2 m2 result (stops _ _ _ _ told _ s tells) u = stopped x2 m2 told result (under_step x m u m2 (x2, told) s) tells
-  comes_to x m x2 m2 result (goes _ _ x1 m1 told on s _ _ _ runs) u = comes_to x1 m1 x2 m2 result runs (on_under x1 m1 told on (under_step x m u m1 (x1, told) s))
 
   nothing_added : (s : ℕ) → s % 2 ^ 64 ≡ (s + 0) % 2 ^ 64
   nothing_added s = ap (λ x. x % 2 ^ 64) (omega arith)
@@ -388,9 +366,9 @@ module _ {K V S : Type 0} (same : K → K → Bool) (hashes : S → K → ℕ) (
   why_not m e (inl last) = inl (last_shown same hash h.lawful setting e.w e.c e.blocks e.rests.together.ground.map m e.memory last)
   why_not m e (inr many) = inr many
 
-  by_result : (m : Mem (Node K V)) (result : Result Unit Fault) → ComesTo m result → RoomBy same hash setting additional m xs result
-  by_result m (Ok end) c = (holds_then m c.0, room_then m c.0 c.1)
-  by_result m (Err fault) c = (holds_then m c.0, c.1, λ long. why_not m c.0 (c.2 long))
+  by_result : (x : ForRoom S) (m : Mem (Node K V)) (result : Result Unit Fault) → ComesTo x m result → RoomBy same hash setting additional m xs result
+  by_result x m (Ok end) c = (holds_then m c.0, room_then m c.0 c.1)
+  by_result x m (Err fault) c = (holds_then m c.0, c.1, λ long. why_not m c.0 (c.2 long))
 
   module _ (p : Reserve) (is : p ≡ reserving setting additional) where
     pub begun : Under (it p) m0
@@ -401,4 +379,4 @@ module _ {K V S : Type 0} (same : K → K → Bool) (hashes : S → K → ℕ) (
 
     pub making_room_by : (x : ForRoom S) (m : Mem (Node K V)) (result : Result Unit Fault) → RunsTo (for_room_plan {V = V} hashes) (record { reserve = p; hasher = b }) m0 x m result
         → RoomBy same hash setting additional m xs result
-    making_room_by x m result runs = by_result m result (comes_to (it p) m0 x m result runs begun)
+    making_room_by x m result runs = by_result x m result (run_comes Under ComesTo the_plan under_step (it p) m0 begun x m result runs)

@@ -46,12 +46,13 @@ use Rattle.papaya_whole.proofs.Given.Maps.Reserves.Sums.{Ahead, sum_ahead}
 use Rattle.papaya_whole.specs.Contents.{ContentsBelow}
 use Rattle.papaya_whole.proofs.Contents.Below.{below_stays}
 use Rattle.papaya_whole.proofs.Rooms.Own.{knows_here}
-use Rattle.papaya_owned.specs.Ending.{GoesOn, Tells, RunsTo, stops, goes}
+use Rattle.papaya_owned.specs.Ending.{RunsTo}
 use Rattle.papaya_owned.specs.Machines.{for_room_plan, for_room_settled}
 use Rattle.papaya_owned.specs.Owned.{Holds}
 use Rattle.papaya_owned.specs.Rooms.{NeedTooMany}
 use Rattle.papaya_owned.specs.declared.machines.ForRoom.{ForRoom}
 use Rattle.papaya_owned.proofs.Owned.Rooms.{Course, CourseTo, Under, begun, course_step, said_still, slot_of, under_back}
+use Rattle.papaya_owned.proofs.Runs.Comes.{NextOf, run_comes}
 
 -- the length that they need, by whether that is one of a table
 abbrev len_by : ℕ → ℕ → Bool → Result ℕ Fault
@@ -250,9 +251,7 @@ module _ {K V S : Type 0} (same : K → K → Bool) (hashes : S → K → ℕ) (
 
   -- where a step of its machine leads, by what that tells
   abbrev NextNone : ForRoom S → Mem (Node K V) → Progress Unit → Type 0
-  NextNone x m progress.Goes = HasNone x m
-  NextNone x m (progress.Refused fault) = fault ≡ Capacity
-  NextNone x m _ = ⊥
+  NextNone = NextOf HasNone (λ x m result. result ≡ Err Capacity)
 
   next_none : (q : Reserve) (m : Mem (Node K V)) (told : Outcome (Node K V) Unit) → LeadsTo q m told → ComesToNone (q, told)
       → NextNone (for_room_settled (record { reserve = q; hasher = b }) told).0 m (for_room_settled (record { reserve = q; hasher = b }) told).1
@@ -260,7 +259,7 @@ module _ {K V S : Type 0} (same : K → K → Bool) (hashes : S → K → ℕ) (
   next_none q m outcome.Waits course none = absurd course
   next_none q m (outcome.Gave value) course none = (record { p = q; is = refl; course = course }, none)
   next_none q m (outcome.Done end) course none = absurd none
-  next_none q m (outcome.Refused fault) course none = none
+  next_none q m (outcome.Refused fault) course none = ap (λ (z : Fault). Err z) none
 
   under_none : (x : ForRoom S) (m : Mem (Node K V)) → HasNone x m → (m2 : Mem (Node K V)) (end : ForRoom S × Progress Unit) → Steps Took value_at m (for_room_plan {V = V} hashes x) m2 end → NextNone end.0 m2 end.1
   under_none x m n m2 end s =
@@ -268,23 +267,8 @@ module _ {K V S : Type 0} (same : K → K → Bool) (hashes : S → K → ℕ) (
       let to = course_step same hashes b setting m0 xs h additional n.0.p m n.0.course m2 k.0.0 k.0.1 k.1 in
       subst (λ (y : ForRoom S × Progress Unit). NextNone y.0 m2 y.1) (sym k.2) (next_none k.0.0 m2 k.0.1 to (step_so n.0.p m n.0.course n.1 m2 k.0.0 k.0.1 to k.1))
 
-  stopped_none : (x : ForRoom S) (m : Mem (Node K V)) (told : Progress Unit) (result : Result Unit Fault) → NextNone x m told → Tells told result → result ≡ Err Capacity
-  stopped_none x m (progress.Refused f) (Err g) next tells = ap (λ (z : Fault). Err z) (tells ∙ next)
-  stopped_none x m (progress.Refused f) (Ok done) next tells = absurd tells
-  stopped_none x m (progress.Done a) result next tells = absurd next
-  stopped_none x m progress.Goes (Ok done) next tells = absurd tells
-  stopped_none x m progress.Goes (Err g) next tells = absurd tells
-  stopped_none x m progress.Waits result next tells = absurd next
-
-  on_none : (x : ForRoom S) (m : Mem (Node K V)) (told : Progress Unit) → GoesOn told → NextNone x m told → HasNone x m
-  on_none x m progress.Goes on next = next
-  on_none x m progress.Waits on next = absurd next
-  on_none x m (progress.Done a) on next = absurd on
-  on_none x m (progress.Refused f) on next = absurd on
-
   runs_none : (x : ForRoom S) (m : Mem (Node K V)) (x2 : ForRoom S) (m2 : Mem (Node K V)) (result : Result Unit Fault) → RunsTo (for_room_plan {V = V} hashes) x m x2 m2 result → HasNone x m → result ≡ Err Capacity
-  runs_none x m x2 m2 result (stops _ _ _ _ told _ s tells) n = stopped_none x2 m2 told result (under_none x m n m2 (x2, told) s) tells
-  runs_none x m x2 m2 result (goes _ _ x1 m1 told on s _ _ _ runs) n = runs_none x1 m1 x2 m2 result runs (on_none x1 m1 told on (under_none x m n m1 (x1, told) s))
+  runs_none x m x2 m2 result runs none = run_comes HasNone (λ y n r. r ≡ Err Capacity) (for_room_plan {V = V} hashes) under_none x m none x2 m2 result runs
 
 -- A reservation that needs more places than a table can have is refused for the length.
 module _ {K V S : Type 0} (same : K → K → Bool) (hashes : S → K → ℕ) (b : Bor S) (setting : Setting) (m0 : Mem (Node K V)) (xs : List (K × V)) (h : Holds same (hashes b.now) setting m0 xs) (additional : ℕ) where

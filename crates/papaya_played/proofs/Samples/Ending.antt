@@ -1,6 +1,6 @@
 -- A short list of acts, played: a map ends with its pair; and one is refused as it is made.
 use Rattle.std.specs.Prelude.{◌++◌, replicate}
-use Rattle.std.proofs.Common.{◌≡◌, ℕ, List, [], ◌∷◌, refl, Some, None}
+use Rattle.std.proofs.Common.{◌≡◌, ℕ, true, List, [], ◌∷◌, refl, Some, None}
 use Rattle.papaya_scenes.specs.Given.SeizeWords.declared.fault.Fault.TheVariants.{Memory}
 use Rattle.papaya_scenes.specs.Given.Seize.World.{Leave'}
 use Rattle.papaya_scenes.specs.Given.Tables.declared.resize_mode.ResizeMode.TheVariants as mode
@@ -9,12 +9,12 @@ use Rattle.papaya_schedules.specs.declared.effect.Growth.TheVariants.{ABlock}
 use Rattle.papaya_schedules.specs.declared.outcome.Outcome.TheVariants.{Done, Goes, Refused}
 use Rattle.papaya_schedules.specs.Views.{size_of}
 use Rattle.papaya_acts.specs.Acts.{BeginsMaking, StepsMaking, BeginsEnding, StepsEnding, BeginsRow, StepsRow}
-use Rattle.papaya_deeds.specs.Deeds.{Shuts, MapComes, MapGoes, Works, Entry, moment}
+use Rattle.papaya_deeds.specs.Deeds.{Shuts, Leaves, MapComes, Makes, MapFails, Ends, MapGoes, Entry, moment}
 use Rattle.papaya_played.proofs.Samples.{Doings, does, entry, finds, first, found, given, history_of}
 
 -- a step that has no effect
 abbrev quiet : Entry ℕ ℕ
-quiet = entry (Works (Some 0)) Goes []
+quiet = entry (Ends 0) Goes []
 
 -- Caller 0 leaves, and ends the map: its eight places are read, of which one has the pair, then the table and the counter go, and the root is given up.
 abbrev ends : Doings
@@ -22,14 +22,14 @@ ends = finds ++ does (BeginsRow 0 (Leave' 0)) ∷ does (StepsRow 0 None) ∷ doe
 
 abbrev ended : List (Entry ℕ ℕ)
 ended =
-    entry (MapGoes 0 0) Done []
+    entry (MapGoes 0) Done []
     ∷ quiet
     ∷ quiet
-    ∷ entry (Works (Some 0)) Goes (Taken first ∷ [])
+    ∷ entry (Ends 0) Goes (Taken first ∷ [])
     ∷ replicate 5 quiet
-    ++ entry (Works (Some 0)) Goes (Ended 1 ∷ [])
+    ++ entry (Ends 0) Goes (Ended 1 ∷ [])
     ∷ replicate 7 quiet
-    ++ entry (Works None) Done []
+    ++ entry (Leaves 0) Done []
     ∷ entry (Shuts 0) Goes []
     ∷ found
 
@@ -53,8 +53,8 @@ is_refused = does (BeginsMaking 0 0 7 given 8) ∷ replicate 3 (does (StepsMakin
 
 abbrev refused : List (Entry ℕ ℕ)
 refused =
-    entry (MapGoes 0 0) (Refused Memory) []
-    ∷ entry (Works (Some 0)) Goes (Asked ABlock ∷ [])
+    entry (MapFails 0) (Refused Memory) []
+    ∷ record { deed = Makes 0; outcome = Goes; effects = Asked ABlock ∷ []; refused = true }
     ∷ entry (MapComes 0 0 (mode.Incremental 64) 6) Goes []
     ∷ []
 

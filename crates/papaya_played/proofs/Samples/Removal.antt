@@ -11,7 +11,7 @@ use Rattle.papaya_schedules.specs.declared.outcome.Outcome.TheVariants.{Done, Go
 use Rattle.papaya_schedules.specs.Moment.{Handed, GivenBack}
 use Rattle.papaya_acts.specs.Acts.{Remove, BeginsCall, StepsCall, BeginsRow, StepsRow}
 use Rattle.papaya_acts.specs.Doings.{BeginsReclaiming, StepsReclaiming}
-use Rattle.papaya_deeds.specs.Deeds.{Begins, Steps, Shuts, Works, ReclaimsAll, Entry, moment, named}
+use Rattle.papaya_deeds.specs.Deeds.{Begins, Steps, Shuts, Leaves, ReclaimsAll, Entry, moment, named}
 use Rattle.papaya_played.proofs.Samples.{Doings, does, entry, finds, found, history_of}
 
 -- a step that has no effect
@@ -19,7 +19,7 @@ abbrev quiet : Entry ℕ ℕ
 quiet = entry (Steps 0) Goes []
 
 abbrev quiet_row : Entry ℕ ℕ
-quiet_row = entry (Works None) Goes []
+quiet_row = entry (Leaves 0) Goes []
 
 abbrev quiet_all : Entry ℕ ℕ
 quiet_all = entry (ReclaimsAll false) Goes []
@@ -51,9 +51,9 @@ leaves = removes ++ does (BeginsRow 0 (Leave' 0)) ∷ replicate 8 (does (StepsRo
 
 abbrev left : List (Entry ℕ ℕ)
 left =
-    entry (Works None) Done []
+    entry (Leaves 0) Done []
     ∷ quiet_row
-    ∷ entry (Works None) Goes (Reclaimed (APair 1) ∷ [])
+    ∷ entry (Leaves 0) Goes (Reclaimed (APair 1) ∷ [])
     ∷ replicate 4 quiet_row
     ++ entry (Shuts 0) Goes []
     ∷ removed

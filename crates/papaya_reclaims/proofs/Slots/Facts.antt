@@ -48,7 +48,6 @@ no_length [] e = refl
 no_length (b ∷ l) e = absurd (omega (arith, e))
 
 module _ {K V : Type 0} (size : ℕ) where
-
   runs_run : (i steps : ℕ) (w n : World (Node K V)) → RunsOn deferred_word steps i w n
       → (events : List (Event (Node K V))) × AreItsRows i events × Runs deferred_word size events w n
   runs_run i zero w n h = ([], tt, h.1)

@@ -8,7 +8,6 @@ use Rattle.seize_words.specs.declared.fault.Fault.{Fault}
 use Rattle.seize_words.specs.declared.fault.Fault.TheVariants.{Capacity}
 use Rattle.seize.specs.World.{World}
 use Rattle.seize.specs.declared.progress.Progress.{Progress}
-use Rattle.seize.specs.declared.progress.Progress.TheVariants as progress
 use Rattle.papaya_owned.proofs.Given.SeizeRule.Rows.Leaving.{steps_back}
 use Rattle.papaya_tables.specs.Chunks.{is_incremental}
 use Rattle.papaya_tables.specs.declared.node.Node.{Node}
@@ -48,7 +47,7 @@ use Rattle.papaya_owned.proofs.Given.Whole.Sweeps.Counting.{swept_pairs_counted}
 use Rattle.papaya_owned.proofs.Given.Whole.Sweeps.Ends.{sweeps_come_to_an_end}
 use Rattle.papaya_owned.proofs.Given.Whole.Sweeps.Leads.{sweeps_go_on_alone}
 use Rattle.papaya_owned.proofs.Given.Whole.Sweeps.Own as own
-use Rattle.papaya_owned.specs.Ending.{GoesOn, Tells, Ends, all_end, RunsTo, stops, goes}
+use Rattle.papaya_owned.specs.Ending.{GoesOn, Ends, all_end, RunsTo}
 use Rattle.papaya_owned.specs.Owned.{Holds}
 use Rattle.papaya_sifts.specs.Sweeping.{over_pairs_plan, over_pairs_after, over_pairs_settled}
 use Rattle.papaya_sifts.specs.declared.sweeping.OverPairs.{OverPairs}
@@ -56,6 +55,7 @@ use Rattle.papaya_sifts.specs.declared.sweeping.Pause.{Pause}
 use Rattle.papaya_sifts.specs.declared.sweeping.Pause.TheVariants as pause
 use Rattle.papaya_owned.proofs.Owned.Keys.{may_turned}
 use Rattle.papaya_owned.proofs.Owned.Lasts.{last_shown}
+use Rattle.papaya_owned.proofs.Runs.Comes.{NextOf, run_comes}
 
 -- only a walk is ready for the next pair, and only a retaining asks
 module _ {K V Q : Type 0} (same : K → K → Bool) (hash : K → ℕ) (asks : Q → K → Bool) (setting : Setting) (slot : ℕ → ℕ) (lawful : AreLawful same hash)
@@ -257,13 +257,16 @@ module _ {K V S : Type 0} (same : K → K → Bool) (hashes : S → K → ℕ) (
     pub is : x ≡ it o.sweep
     pub asking : IsAsking said o m word
 
+  -- what it comes to
+  abbrev pub ComesTo : Said → OverPairs S → Mem (Node K V) → Result Pause Fault → Type 0
+  ComesTo said x m (Ok pause.Ended) = (o : CallOverAll) × IsDone said o m
+  ComesTo said x m (Ok (pause.Asks word)) = UnderAsking said x m word
+  ComesTo said x m (Ok _) = ⊥
+  ComesTo said x m (Err fault) = (o : CallOverAll) × IsRefused said o m fault
+
   -- where a step of that machine leads, by what it tells
   abbrev pub Next : Said → OverPairs S → Mem (Node K V) → Progress Pause → Type 0
-  Next said x m progress.Goes = Under said x m
-  Next said x m (progress.Done pause.Ended) = (o : CallOverAll) × IsDone said o m
-  Next said x m (progress.Done (pause.Asks word)) = UnderAsking said x m word
-  Next said x m (progress.Refused fault) = (o : CallOverAll) × IsRefused said o m fault
-  Next said x m _ = ⊥
+  Next said = NextOf (Under said) (ComesTo said)
 
   next_by : (said : Said) (o : CallOverAll) (m : Mem (Node K V)) (told : Swept (Node K V)) → CourseTo said o m told → Next said (over_pairs_settled (it o.sweep) told).0 m (over_pairs_settled (it o.sweep) told).1
   next_by said o m swept.Goes c = record { o = o; is = refl; course = c }
@@ -325,37 +328,8 @@ module _ {K V S : Type 0} (same : K → K → Bool) (hashes : S → K → ℕ) (
   pub under_ends : (said : Said) (x : OverPairs S) (m : Mem (Node K V)) → Under said x m → Ends the_plan x m
   under_ends said x m u = ends_from said (u.o.sweep, m) (course_ends said u.o m u.course) x u refl
 
-  -- what it comes to
-  abbrev pub ComesTo : Said → OverPairs S → Mem (Node K V) → Result Pause Fault → Type 0
-  ComesTo said x m (Ok pause.Ended) = (o : CallOverAll) × IsDone said o m
-  ComesTo said x m (Ok (pause.Asks word)) = UnderAsking said x m word
-  ComesTo said x m (Ok _) = ⊥
-  ComesTo said x m (Err fault) = (o : CallOverAll) × IsRefused said o m fault
-
-  stopped : (said : Said) (x2 : OverPairs S) (m2 : Mem (Node K V)) (told : Progress Pause) (result : Result Pause Fault) → Next said x2 m2 told → Tells told result → ComesTo said x2 m2 result
-  stopped said x2 m2 (progress.Done a) (Ok d) next tells = subst (λ z. ComesTo said x2 m2 (Ok z)) (sym tells) (done a next)
-    where
-      done : (a : Pause) → Next said x2 m2 (progress.Done a) → ComesTo said x2 m2 (Ok a)
-      done pause.Ended next = next
-      done (pause.Asks word) next = next
-      done pause.Ready next = next
-      done (pause.Shows word) next = next
-  stopped said x2 m2 (progress.Refused f) (Err g) next tells = subst (λ z. ComesTo said x2 m2 (Err z)) (sym tells) next
-  stopped said x2 m2 (progress.Refused f) (Ok d) next tells = absurd tells
-  stopped said x2 m2 (progress.Done a) (Err g) next tells = absurd tells
-  stopped said x2 m2 progress.Goes (Ok d) next tells = absurd tells
-  stopped said x2 m2 progress.Goes (Err g) next tells = absurd tells
-  stopped said x2 m2 progress.Waits result next tells = absurd next
-
-  on_under : (said : Said) (x2 : OverPairs S) (m2 : Mem (Node K V)) (told : Progress Pause) → GoesOn told → Next said x2 m2 told → Under said x2 m2
-  on_under said x2 m2 progress.Goes on next = next
-  on_under said x2 m2 progress.Waits on next = absurd next
-  on_under said x2 m2 (progress.Done a) on next = absurd on
-  on_under said x2 m2 (progress.Refused f) on next = absurd on
-
   pub comes_to : (said : Said) (x : OverPairs S) (m : Mem (Node K V)) (x2 : OverPairs S) (m2 : Mem (Node K V)) (result : Result Pause Fault) → RunsTo the_plan x m x2 m2 result → Under said x m → ComesTo said x2 m2 result
-  comes_to said x m x2 m2 result (stops _ _ _ _ told _ s tells) u = stopped said x2 m2 told result (under_step said x m u m2 (x2, told) s) tells
-  comes_to said x m x2 m2 result (goes _ _ x1 m1 told on s _ _ _ runs) u = comes_to said x1 m1 x2 m2 result runs (on_under said x1 m1 told on (under_step said x m u m1 (x1, told) s))
+  comes_to said x m x2 m2 result runs u = run_comes (Under said) (ComesTo said) the_plan (under_step said) x m u x2 m2 result runs
 
   -- it begins
   pub begins_under : Under nothing (it (sweeping (in_slot setting setting.slot) purpose)) m0

@@ -44,10 +44,10 @@ SameEntries field hand m m2 = (c : ℕ) → hand c ≡ Handed → entry_of field
 other_entry : (c b field : ℕ) → (c ≡ b → ⊥) → same_at (Entry c field) (Entry b NEXT) ≡ false
 other_entry c b field ne = ap (λ (t : Bool). t && eqb field NEXT) (ne_eqb c b ne)
 
-apart_made : (hand : ℕ → Hand) (b c i : ℕ) → hand b ≡ Making i → hand c ≡ Handed → c ≡ b → ⊥
+pub apart_made : (hand : ℕ → Hand) (b c i : ℕ) → hand b ≡ Making i → hand c ≡ Handed → c ≡ b → ⊥
 apart_made hand b c i a h e = let k = ap hand e in cc (a, h, k)
 
-apart_left : (hand : ℕ → Hand) (b c i : ℕ) → hand b ≡ LeftTo i → hand c ≡ Handed → c ≡ b → ⊥
+pub apart_left : (hand : ℕ → Hand) (b c i : ℕ) → hand b ≡ LeftTo i → hand c ≡ Handed → c ≡ b → ⊥
 apart_left hand b c i a h e = let k = ap hand e in cc (a, h, k)
 
 module _ {T : Type 0} (field : ℕ) (hand : ℕ → Hand) (m : Mem T) where

@@ -5,19 +5,14 @@ use Rattle.seize.specs.World.{World, Row, Event, Begin, Step, Makes, Drops, Link
 use Rattle.seize.specs.World.{Chooses, Happens, Steps'}
 use Rattle.seize.specs.Sequence.{IsBetween}
 use Rattle.seize_rule.proofs.Rows.Others.{begins_others, steps_others, users_rows}
-use Rattle.seize_bounds.specs.Bounds.{IsOfOthers, IsAny, ArePlain, Meanwhile, Within}
+use Rattle.seize_bounds.specs.Bounds.{IsOfOthers, Meanwhile, Within}
 
 module _ {T : Type 0} (defers : T → Option ℕ) (so : World T → Type 0) (size j : ℕ) where
   -- one after another
   pub both : (a b : List (Event T)) (w v n : World T) → Meanwhile defers so size j a w v → Meanwhile defers so size j b v n
       → Meanwhile defers so size j (a ++ b) w n
   both [] b w v n h k = subst (λ (x : World T). Meanwhile defers so size j b x n) h k
-  both (e ∷ a) b w v n h k = (h.0, h.1, h.2, h.3, h.4, both a b h.0 v n h.5 k)
-
-  -- whatever the worlds are
-  pub any : (events : List (Event T)) (w n : World T) → Meanwhile defers so size j events w n → Meanwhile defers IsAny size j events w n
-  any [] w n h = h
-  any (e ∷ events) w n h = (h.0, h.1, h.2, h.3, tt, any events h.0 n h.5)
+  both (e ∷ a) b w v n h k = (h.0, h.1, h.2, h.3, both a b h.0 v n h.4 k)
 
 module _ {T : Type 0} (defers : T → Option ℕ) (size j : ℕ) where
   -- the row is as it was
@@ -44,18 +39,17 @@ module _ {T : Type 0} (defers : T → Option ℕ) (size j : ℕ) where
 module _ {T : Type 0} (defers : T → Option ℕ) (so : World T → Type 0) (done : Row → Type 0) (size j : ℕ) where
   row_kept : (events : List (Event T)) (w n : World T) → Meanwhile defers so size j events w n → n.row j ≡ w.row j
   row_kept [] w n h = ap (λ (x : World T). x.row j) h
-  row_kept (e ∷ events) w n h = row_kept events h.0 n h.5 ∙ event_row defers size j e w h.0 h.1 h.2
+  row_kept (e ∷ events) w n h = row_kept events h.0 n h.4 ∙ event_row defers size j e w h.0 h.1 h.2
 
   pub still_within : (k : ℕ) (w n : World T) (events : List (Event T)) → Meanwhile defers so size j events w n → Within defers so done size j k w
       → Within defers so done size j k n
   still_within zero w n events h c = subst done (sym (row_kept events w n h)) c
   still_within (suc k) w n events h (inl c) = inl (subst done (sym (row_kept events w n h)) c)
-  still_within (suc k) w n events h (inr f) = inr (λ more v m g step plain. f (events ++ more) v m (both defers so size j events more w n v h g) step plain)
+  still_within (suc k) w n events h (inr f) = inr (λ more v m g step. f (events ++ more) v m (both defers so size j events more w n v h g) step)
 
   -- a step of its own
   pub steps_within : (k : ℕ) (w n : World T) → Within defers so done size j k w → (done (w.row j) → ⊥) → Steps' defers j (w.row j) w n
-      → ArePlain defers n.memory
       → (l : ℕ) × (l < k) × Within defers so done size j l n
-  steps_within zero w n c ne step plain = absurd (ne c)
-  steps_within (suc k) w n (inl c) ne step plain = absurd (ne c)
-  steps_within (suc k) w n (inr f) ne step plain = (k, omega arith, f [] w n refl step plain)
+  steps_within zero w n c ne step = absurd (ne c)
+  steps_within (suc k) w n (inl c) ne step = absurd (ne c)
+  steps_within (suc k) w n (inr f) ne step = (k, omega arith, f [] w n refl step)

@@ -1,5 +1,5 @@
 -- A step of a settling that only counts: it goes on only counting, and has less to do, unless it was over.
-use Rattle.std.specs.Prelude.{if◌then◌else◌, ◌==◌, ◌/◌, ◌%◌, ◌^◌, ◌-◌, IsSome, Option, Some}
+use Rattle.std.specs.Prelude.{if◌then◌else◌, ◌==◌, ◌/◌, ◌%◌, ◌^◌, ◌-◌, IsSome, Option, Some, None}
 use Rattle.std.proofs.Common.{◌≡◌, ℕ, ◌+◌, ◌<◌, ◌≤◌, Bool, true, false, length, refl, arith, ap, sym, subst, ◌∙◌}
 use Rattle.seize_words.specs.declared.at.At.TheVariants.{Entry}
 use Rattle.seize_words.specs.Mem.{Mem, Took, value_at, word_at, with_word}
@@ -22,14 +22,37 @@ use Rattle.seize_rule.proofs.Words.Shows.{Extra, Shows}
 use Rattle.seize_rule.proofs.Points.Told.{Plain, Pushing, Draining, part, part_at, Told}
 use Rattle.seize_rule.proofs.Points.Known.{FitsAt, Fits, Downs, bare, list_word}
 use Rattle.seize_rule.proofs.Points.Down.{word_of_list}
-use Rattle.seize_bounds.specs.Bounds.{ArePlain}
 use Rattle.seize_bounds.proofs.Bounds.Machine.{IsCounting, OnlyCounts, onward_counts, without_counts, point, weight, less_loose, no_more, taken_less}
 use Rattle.seize_bounds.proofs.Bounds.Hands.{chains_agree}
 use Rattle.seize_bounds.proofs.Bounds.Knows.{known_at}
 
+-- an entry less is to be counted, where the row goes on with the word of the next one
+pub entry_less : {T : Type 0} (defers : T → Option ℕ) (n j : ℕ) (mem mem2 : Mem T) (m : State) (x : Extra) (c : Settle) (end : Settle × Settled T) (m2 : State)
+    (x2 : Extra)
+    → Shows n (view defers mem) m x → Shows n (view defers mem2) m2 x2 → Fits n j (view defers mem2) m2 x2 end.0 → (next batch : ℕ)
+    → Downs n j (view defers mem) m x (bare c) next batch → (k : ℕ) → IsSome (word_at mem (Entry (batch / 2048) COUNT))
+    → mem2 ≡ with_word mem (Entry (batch / 2048) COUNT) k → end.0.list ≡ next → length (m2.loose j) + 1 ≡ length (m.loose j)
+entry_less {T} defers n j mem mem2 m x c end m2 x2 v v2 fits2 next batch r k there is list =
+    let hand = (known_at n j (view defers mem2) m2 x2 end.0 end.0.stands fits2).common.hand ∙ ap list_word list in
+    let links : (view defers mem2).links ≡ (view defers mem).links =
+    ap (λ (q : Mem T). (view defers q).links) is
+    ∙ ap (λ (g : View). g.links)
+    (view_count defers mem (batch / 2048) k (with_word mem (Entry (batch / 2048) COUNT) k) (wrote mem (Entry (batch / 2048) COUNT) k there)) in
+    let was : Chain 3 (view defers mem).links next (blocks_of r.owns.es) = rw (r.owns.next_is) at ((rw (r.owns.loose) at (v.entries.loosed j)).2) in
+    let word = word_of_list (view defers mem).links next (blocks_of r.owns.es) was in
+    let now : Chain 3 (view defers mem2).links next (blocks_of (m2.loose j)) =
+    subst (λ (u : ℕ). Chain 3 (view defers mem2).links u (blocks_of (m2.loose j))) (hand ∙ word) (v2.entries.loosed j) in
+    let same = ap (length) (chains_agree 3 (omega arith) (view defers mem).links (view defers mem2).links next (blocks_of r.owns.es) (blocks_of (m2.loose j))
+    (λ b p. ap (λ (f : ℕ → ℕ). f b) links) was now) in
+    let a = blocks_long (m2.loose j) in
+    let b = blocks_long r.owns.es in
+    let z = ap (length) r.owns.loose in
+    omega (arith, same, a, b, z)
+
 module _ {T : Type 0} (defers : T → Option ℕ) (n most j : ℕ) (mem mem2 : Mem T) (m : State) (x : Extra) (c : Settle) (end : Settle × Settled T) (m2 : State)
     (x2 : Extra)
-    (v : Shows n (view defers mem) m x) (v2 : Shows n (view defers mem2) m2 x2) (few : length (m2.left j) ≤ most) (plain : ArePlain defers mem)
+    (v : Shows n (view defers mem) m x) (v2 : Shows n (view defers mem2) m2 x2) (few : length (m2.left j) ≤ most)
+    (plain : (b : ℕ) (value : T) → value_at mem b ≡ Some value → defers value ≡ None)
     (counts : OnlyCounts c)
     (fits2 : Fits n j (view defers mem2) m2 x2 end.0) where
   -- it goes on so, from this point
@@ -81,26 +104,6 @@ module _ {T : Type 0} (defers : T → Option ℕ) (n most j : ℕ) (mem mem2 : M
 
   -- an entry is counted
   module _ (next batch : ℕ) (r : Downs n j (view defers mem) m x (bare c) next batch) (st : Steps Took value_at mem (plans.downs c next batch) mem2 end) where
-    one_less : (k : ℕ) → IsSome (word_at mem (Entry (batch / 2048) COUNT)) → mem2 ≡ with_word mem (Entry (batch / 2048) COUNT) k → end.0.list ≡ next
-        → OnlyCounts end.0
-        → length (m2.loose j) + 1 ≡ length (m.loose j)
-    one_less k there is list after =
-        let hand = (known_at n j (view defers mem2) m2 x2 end.0 end.0.stands fits2).common.hand ∙ ap list_word list in
-        let links : (view defers mem2).links ≡ (view defers mem).links =
-        ap (λ (q : Mem T). (view defers q).links) is
-        ∙ ap (λ (g : View). g.links)
-        (view_count defers mem (batch / 2048) k (with_word mem (Entry (batch / 2048) COUNT) k) (wrote mem (Entry (batch / 2048) COUNT) k there)) in
-        let was : Chain 3 (view defers mem).links next (blocks_of r.owns.es) = rw (r.owns.next_is) at ((rw (r.owns.loose) at (v.entries.loosed j)).2) in
-        let word = word_of_list (view defers mem).links next (blocks_of r.owns.es) was in
-        let now : Chain 3 (view defers mem2).links next (blocks_of (m2.loose j)) =
-        subst (λ (u : ℕ). Chain 3 (view defers mem2).links u (blocks_of (m2.loose j))) (hand ∙ word) (v2.entries.loosed j) in
-        let same = chains_agree 3 (omega arith) (view defers mem).links (view defers mem2).links next (blocks_of r.owns.es) (blocks_of (m2.loose j))
-        (λ b p. ap (λ (f : ℕ → ℕ). f b) links) was now in
-        let a = blocks_long (m2.loose j) in
-        let b = blocks_long r.owns.es in
-        let z = ap (length) r.owns.loose in
-        omega (arith, same, a, b, z)
-
     downs_less : Less (at.Downs next batch)
     downs_less =
         let d = added mem (plans.counted_down c next batch) (Entry (batch / 2048) COUNT) (2 ^ 64 - 1) mem2 end st in
@@ -113,8 +116,8 @@ module _ {T : Type 0} (defers : T → Option ℕ) (n most j : ℕ) (mem mem2 : M
         by k there is b list pending flushing held put e =
             let o = onward_counts b pending flushing held put in
             let near = o.near in
-            let after = subst (λ (q : Settle × Settled T). OnlyCounts q.0) (sym e) o.counts in
-            let a = less_loose n most j m m2 few (one_less k there is (ap (λ (q : Settle × Settled T). q.0.list) e ∙ o.list ∙ list) after) in
+            let a = less_loose n most j m m2 few
+            (entry_less defers n j mem mem2 m x c end m2 x2 v v2 fits2 next batch r k there is (ap (λ (q : Settle × Settled T). q.0.list) e ∙ o.list ∙ list)) in
             less (at.Downs next batch) (plans.onward b) Goes e o.counts (omega (arith, a, near))
 
         one : (k : ℕ) (t : Bool) → IsSome (word_at mem (Entry (batch / 2048) COUNT)) → mem2 ≡ with_word mem (Entry (batch / 2048) COUNT) k

@@ -135,7 +135,6 @@ module _ {K Q : Type 0} (V : Type 0) (same : K → K → Bool) (asks : Q → K �
 
   -- Its map stands, and it is over.
   module _ (answer : Setting) (made : MakesMap V same asks batch_size roots slot w i b w2 answer) where
-
     setting_fit : AreLawful same made.s.hash × IsPowerOfTwo made.s.setting.initial × (made.s.setting.batch_size ≡ batch_size)
     setting_fit =
         let f = all.facts i b makes in

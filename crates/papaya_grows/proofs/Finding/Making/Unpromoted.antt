@@ -1,16 +1,11 @@
 -- What writes no root promotes no table; and a map of which no table is promoted has a second table still.
-use Rattle.std.specs.Prelude.{◌≡◌, ℕ, ◌<◌, ◌≤◌, ◌==◌, ◌&&◌, nat_le, nat_lt, Bool, true, false, ◌++◌, List, [], ◌∷◌, filter, find, length, map as list_map, Option, if◌then◌else◌}
+use Rattle.std.specs.Prelude.{◌≡◌, ℕ, ◌<◌, ◌≤◌, ◌==◌, nat_le, Bool, true, false, ◌++◌, List, [], ◌∷◌, filter, find, length, map as list_map, Option, if◌then◌else◌}
 use Rattle.std.specs.List.{AllByRecursion}
 use Rattle.std.proofs.Common.{refl, ap, sym, subst, ◌∙◌, arith, length-append}
 use Rattle.std.proofs.lemmas.List.Elements.{filter-append}
-use Rattle.papaya_purposes.specs.Given.SeizeWords.declared.at.At.{At}
-use Rattle.papaya_purposes.specs.Given.SeizeWords.declared.at.At.TheVariants.{Entry, Root, Slot, Used, Word}
-use Rattle.papaya_purposes.specs.Given.Seize.declared.states.TheConstants.{FIRST}
-use Rattle.papaya_purposes.specs.Given.Tables.declared.table_words.TheConstants.{DEFERRED, NEXT}
+use Rattle.papaya_purposes.specs.Given.SeizeWords.declared.at.At.TheVariants.{Root}
 use Rattle.papaya_purposes.specs.Given.Schedules.declared.effect.Effect.{Effect}
 use Rattle.papaya_purposes.specs.Given.Schedules.declared.effect.Effect.TheVariants as effect
-use Rattle.papaya_purposes.specs.Given.Schedules.declared.effect.Growth.TheVariants.{ABucket}
-use Rattle.papaya_purposes.specs.Given.Schedules.declared.effect.Spot.{Spot}
 use Rattle.papaya_purposes.specs.Given.Schedules.declared.effect.Table.{Table}
 use Rattle.papaya_purposes.specs.Given.Schedules.declared.effect.Thing.TheVariants.{APair, ATable}
 use Rattle.papaya_purposes.specs.Given.Schedules.Effects.{at_stage, with_effect, with_effects}
@@ -20,14 +15,11 @@ use Rattle.papaya_purposes.specs.Given.Schedules.Things.{same_table}
 use Rattle.papaya_purposes.specs.Given.Schedules.Views.{first_of, first_or}
 use Rattle.papaya_purposes.specs.Given.Teller.declared.changed.Changed.{Changed}
 use Rattle.papaya_purposes.specs.Given.Teller.declared.changed.Changed.TheVariants as changed
-use Rattle.papaya_purposes.specs.Given.Teller.declared.changed.Kind.{Kind}
-use Rattle.papaya_purposes.specs.Given.Teller.declared.changed.Kind.TheVariants as kind
-use Rattle.papaya_purposes.specs.Given.Effects.Effects.{batched, carried, effects_of, followed_by, in_block, in_table, is_place, made_by, named, names_same, placed, spot_at, taken_by, written_by}
+use Rattle.papaya_purposes.specs.Given.Effects.Effects.{effects_of}
 use Rattle.papaya_purposes.specs.Given.Effects.Known.{Known}
 use Rattle.papaya_purposes.specs.Given.Effects.declared.acting.Acting.{Acting}
 use Rattle.papaya_purposes.specs.Given.Effects.declared.acting.Acting.TheVariants as acts
-use Rattle.papaya_purposes.specs.Given.Effects.declared.role.Role.{Role}
-use Rattle.papaya_purposes.specs.Given.Effects.declared.role.Role.TheVariants as role
+use Rattle.papaya_purposes.proofs.Given.Follows.OfEach.{OfEach, taken_so, operation_so}
 use Rattle.papaya_purposes.proofs.Given.Finds.Grown.{linked_as}
 
 -- what was told is no writing of a root
@@ -42,87 +34,31 @@ IsNoPromotion _ = Unit {0}
 abbrev pub NonePromoted : List Effect → Type 0
 NonePromoted effects = AllByRecursion IsNoPromotion effects
 
-none_if : (q : Bool) (a b : List Effect) → NonePromoted a → NonePromoted b → NonePromoted (if q then a else b)
-none_if true a b h k = h
-none_if false a b h k = k
-
-module _ (caller map : ℕ) where
+module _ (caller map : ℕ) (known : Known) where
   abbrev its : Acting
   its = acts.Call caller map
 
-  followed_none : (is : Role) → NonePromoted (followed_by its is)
-  followed_none role.Free = tt
-  followed_none (role.OwnPair i) = tt
-  followed_none (role.OwnTable turn shape) = (tt, tt)
-  followed_none (role.Pair n) = tt
-  followed_none (role.Table t len) = tt
-  followed_none (role.Counter of) = tt
+  each_none : OfEach its known NonePromoted
+  each_none = record {
+    nothing = tt;
+    linked = λ turn shape. (tt, tt);
+    deferred = λ n t. (tt, tt);
+    stored = λ s. (tt, tt);
+    replaced = λ old s. (tt, (tt, tt));
+    removed = λ n. (tt, tt);
+    copied = λ n s. (tt, tt);
+    retired = λ x. (tt, tt);
+    asked = (tt, tt);
+    pair_made = (tt, (tt, tt));
+    table_made = λ turn. (tt, (tt, tt));
+    pair_given_up = (tt, tt);
+    table_given_up = λ turn. (tt, tt);
+  }
 
-  carried_none : (t : Table) (is : Role) → NonePromoted (carried t is)
-  carried_none t role.Free = tt
-  carried_none t (role.OwnPair i) = tt
-  carried_none t (role.OwnTable turn shape) = tt
-  carried_none t (role.Pair n) = (tt, tt)
-  carried_none t (role.Table u len) = tt
-  carried_none t (role.Counter of) = tt
-
-  placed_none : (s : Spot) (stored : ℕ) (was is : Role) → NonePromoted (placed s stored was is)
-  placed_none s stored (role.Pair n) (role.OwnPair i) = (tt, (tt, tt))
-  placed_none s stored _ (role.OwnPair i) = (tt, tt)
-  placed_none s stored (role.Pair n) role.Free = (tt, tt)
-  placed_none s stored role.Free (role.Pair n) = (tt, tt)
-  placed_none s stored _ _ = tt
-
-  table_none : (t : Table) (len field stored : ℕ) (was is : Role) → NonePromoted (in_table its t len field stored was is)
-  table_none t len field stored was is =
-      none_if (field == NEXT) (followed_by its is) (if field == DEFERRED then carried t is else (if is_place len field then placed (spot_at t field) stored was is else [])) (followed_none is)
-      (none_if (field == DEFERRED) (carried t is) (if is_place len field then placed (spot_at t field) stored was is else []) (carried_none t is)
-      (none_if (is_place len field) (placed (spot_at t field) stored was is) [] (placed_none (spot_at t field) stored was is) tt))
-
-  block_none : (r : Role) (field stored : ℕ) (q : Bool) (was is : Role) → NonePromoted (in_block its r field stored q was is)
-  block_none role.Free field stored q was is = tt
-  block_none (role.OwnPair i) field stored q was is = tt
-  block_none (role.OwnTable turn shape) field stored q was is = tt
-  block_none (role.Pair n) field stored q was is = tt
-  block_none (role.Table t len) field stored q was is = none_if q [] (in_table its t len field stored was is) tt (table_none t len field stored was is)
-  block_none (role.Counter of) field stored q was is = (tt, tt)
-
-  batched_none : (field : ℕ) (r : Role) → NonePromoted (batched its field r)
-  batched_none field role.Free = tt
-  batched_none field (role.OwnPair i) = tt
-  batched_none field (role.OwnTable turn shape) = tt
-  batched_none field (role.Pair n) = none_if (field == FIRST) (effect.Retired (APair n) ∷ []) [] (tt, tt) tt
-  batched_none field (role.Table t len) = none_if (field == FIRST) (effect.Retired (ATable t) ∷ []) [] (tt, tt) tt
-  batched_none field (role.Counter of) = tt
-
-  made_none : (k : Kind) → NonePromoted (made_by its k)
-  made_none kind.Pair = (tt, tt)
-  made_none (kind.Table len limit turn) = (tt, tt)
-  made_none kind.Shards = tt
-
-  taken_none : (r : Role) → NonePromoted (taken_by its r)
-  taken_none role.Free = tt
-  taken_none (role.OwnPair i) = (tt, tt)
-  taken_none (role.OwnTable turn shape) = (tt, tt)
-  taken_none (role.Pair n) = (tt, tt)
-  taken_none (role.Table t len) = (tt, tt)
-  taken_none (role.Counter of) = tt
-
-  module _ (known : Known) where
-    written_none : (at : At) (old new : ℕ) → OffRoot (changed.Wrote at old new) → NonePromoted (written_by its known at old new)
-    written_none (Root r) old new off = absurd off
-    written_none (Used r) old new off = tt
-    written_none (Slot s field) old new off = tt
-    written_none (Entry b field) old new off = none_if (names_same old new) [] (batched its field (known.roles b)) tt (batched_none field (known.roles b))
-    written_none (Word b field) old new off = block_none (known.roles b) field known.stored (names_same old new) (named known old) (named known new)
-
-    pub off_promotes_none : (told : Changed) → OffRoot told → NonePromoted (effects_of its known told)
-    off_promotes_none changed.Nothing off = tt
-    off_promotes_none (changed.Wrote at old new) off = written_none at old new off
-    off_promotes_none (changed.Made k b) off = (tt, made_none k)
-    off_promotes_none (changed.Unmade k) off = (tt, tt)
-    off_promotes_none (changed.Took b) off = taken_none (known.roles b)
-    off_promotes_none (changed.Roomed bucket had) off = none_if (had && nat_lt bucket known.buckets) [] (effect.Asked ABucket ∷ []) tt (tt, tt)
+  pub off_promotes_none : (told : Changed) → OffRoot told → NonePromoted (effects_of its known told)
+  off_promotes_none told off =
+      operation_so its known NonePromoted each_none told (λ r old new e. absurd (subst OffRoot e off)) (λ b field old new of e is. (tt, tt))
+      (λ b e of_map. taken_so its known NonePromoted each_none (λ n. (tt, tt)) (λ t. (tt, tt)) (known.roles b) of_map) (λ bucket had e. (tt, tt))
 
 -- Of the tables of a map from a turn on there are no fewer after an effect.
 

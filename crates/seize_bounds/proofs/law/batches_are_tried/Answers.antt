@@ -1,4 +1,4 @@
-use Rattle.seize_bounds.proofs.Tries.Within.{batches_are_tried}
+use Rattle.seize_bounds.proofs.Settles.Within.{batches_are_tried}
 use Rattle.seize_bounds.proofs.law.batches_are_tried.Goals as goal
 
 pub returns : goal.returns

@@ -1,5 +1,4 @@
-use Rattle.std.proofs.Common.{◌≡◌, refl, ap, ◌∙◌}
-use Rattle.seize.specs.declared.rows.settle.Settle.{Settle}
+use Rattle.std.proofs.Common.{refl, ap, ◌∙◌}
 use Rattle.seize_shared.specs.Begun.{ended, left_with}
 use Rattle.seize_shared.specs.declared.view.View.TheVariants.{Settles}
 use Rattle.seize_shared.specs.declared.view.Why.TheVariants.{Retiring}

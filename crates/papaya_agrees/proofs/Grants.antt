@@ -1,0 +1,24 @@
+-- Wherever a list has led, each entry of its history that was refused a growth has asked for it, and made nothing.
+use Rattle.std.specs.Prelude.{true, false}
+use Rattle.std.proofs.Common.{refl}
+use Rattle.papaya_scenes.specs.Given.Teller.declared.changed.Changed.{Changed}
+use Rattle.papaya_scenes.specs.Given.Teller.declared.changed.Changed.TheVariants as changes
+use Rattle.papaya_effects.specs.Effects.{effects_of}
+use Rattle.papaya_effects.specs.Known.{Known}
+use Rattle.papaya_effects.specs.declared.acting.Acting.{Acting}
+use Rattle.papaya_deeds.specs.History.{Refuses}
+use Rattle.papaya_played.specs.Play.{is_refusal}
+use Rattle.papaya_agrees.specs.Grants.{EachRefuses}
+use Rattle.papaya_agrees.proofs.Entries.{Grows}
+
+refusals_so : (who : Acting) (known : Known) (changed : Changed) → Refuses (is_refusal changed) (effects_of who known changed)
+refusals_so who known changes.Nothing = tt
+refusals_so who known (changes.Wrote at old new) = tt
+refusals_so who known (changes.Made kind b) = tt
+refusals_so who known (changes.Unmade kind) = (refl, refl)
+refusals_so who known (changes.Took b) = tt
+refusals_so who known (changes.Roomed bucket true) = tt
+refusals_so who known (changes.Roomed bucket false) = (refl, refl)
+
+pub each_refuses : (K V : Type 0) → Grows K V EachRefuses
+each_refuses K V = record { quiet = λ log d o its so. (tt, so); works = λ log who known changed d o its so. (refusals_so who known changed, so) }

@@ -1,0 +1,34 @@
+-- That a history agrees with what is so where a list of acts has led.
+use Rattle.std.specs.Prelude.{◌≡◌, ◌<◌, ◌^◌, ℕ, Bool, List, Some}
+use Rattle.std.specs.List.{AllByRecursion}
+use Rattle.papaya_scenes.specs.Scene.{slot_of}
+use Rattle.papaya_acts.specs.AsSteps.{IsOwn}
+use Rattle.papaya_acts.specs.Doings.{Doing, Does, Stage, reclaiming}
+use Rattle.papaya_acts.specs.Lists.{Course, LedTo, Reached}
+use Rattle.papaya_deeds.specs.Deeds.{moment}
+use Rattle.papaya_played.specs.Play.{State, first_state, play_all}
+use Rattle.papaya_agrees.specs.Grants.{EachRefuses}
+use Rattle.papaya_agrees.specs.Guards.{CallsHaveGuards, GuardsAgree, UnlessReclaimed}
+use Rattle.papaya_agrees.specs.Shards.{AsksShards, ShardsAre}
+
+-- Keys have a hash by each hasher, and each map has one by its number, and so many shards.
+module _ {K S : Type 0} (V : Type 0) (same : K → K → Bool) (by_hasher : S → K → ℕ) (hash : ℕ → K → ℕ) (batch_size roots shards : ℕ) where
+  -- an act is of its own, and a making is asked for with so many
+  abbrev pub Asks : Doing K V S → Type 0
+  Asks (Does act) = IsOwn by_hasher hash act × AsksShards shards act
+  Asks doing = Unit {0}
+
+  -- Each map has so many shards. The guards of the history are the slots within sections, unless somebody reclaims all; each call under way there has the guard of its
+  -- caller's slot; and each entry that was refused a growth has asked for it, and made nothing.
+  pub record Agrees (p : Stage V same by_hasher batch_size roots slot_of) (x : State K V S) : Type 0 where
+    pub shards_are : ShardsAre shards p.0
+    pub guards : UnlessReclaimed (reclaiming V same by_hasher batch_size roots slot_of p) (GuardsAgree x p.0.world.uses)
+    pub calls : CallsHaveGuards (moment x.history)
+    pub refuses : EachRefuses x.history
+
+  -- The promise: so it is wherever a list has led, whatever the values are with which closures abort.
+  abbrev pub ListsAgree : Type 0
+  ListsAgree =
+      batch_size < 2 ^ 64 → (aborts : V) (course : Course V same by_hasher batch_size roots slot_of) (doings : List (Doing K V S)) (y : Reached V same by_hasher batch_size roots slot_of)
+      → LedTo V same by_hasher batch_size roots slot_of course doings y → AllByRecursion Asks doings
+      → (after : State K V S) × (play_all same by_hasher batch_size roots aborts doings (first_state roots) ≡ Some after) × Agrees y.0 after

@@ -1,0 +1,4 @@
+pub mod Shards
+pub mod Guards
+pub mod Grants
+pub mod Agree

@@ -1,0 +1,3 @@
+-- What is so of one owner's call or sweep all the while, from question to question.
+pub mod Calls
+pub mod Sweeps
