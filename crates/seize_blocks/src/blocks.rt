@@ -17,7 +17,6 @@ use crate::strip::Strip;
 use crate::words::Words;
 use seize_words::{At, Fault};
 use std::alloc::Global;
-use std::sync::atomic::AtomicU64;
 
 /// The most numbers that a memory has.
 pub(crate) const MOST: u64 = 4294967296;
@@ -31,7 +30,6 @@ pub struct Blocks<T, R: Rule<T>> {
     pub(crate) count: u64,
     pub(crate) values: Place<T>,
     pub(crate) doors: Doors,
-    pub(crate) next: AtomicU64,
     ghost counted: { (words.id.roots ≡ roots) × (words.id.count ≡ 2 ^ 32) × (words.id.least ≡ count) },
     ghost lies: { (words.id.values ≡ values.at) × (words.id.doors ≡ doors.at) },
     ghost strip: { IsFirst words.words words.id × (words.id.size ≡ count) },
@@ -264,16 +262,29 @@ impl<T, R: Rule<T>> Blocks<T, R> {
         self.words.by(&strip).exchange(seat, &at, place, old, new)
     }
 
+    /// Where somebody who has this slot begins to look for numbers, so that those of different slots are apart.
+    pub fn beginning(&self, slot: u64) -> u64 {
+        (self.count / 32).wrapping_mul(slot)
+    }
+
     /// Makes a block of a value and as many words, each 0, and answers its number. There are no blocks with words of their own yet. Where such
-    /// a block is asked for, or no number is free and there is no memory for more, the value comes back.
-    pub fn make(&self, seat: &mut Seat<T, R>, value: T, words: u64) -> Result<u64, T>
+    /// a block is asked for, or no number is free and there is no memory for more, the value comes back. A number is looked for from `near` on, which is then
+    /// where to look for the next one: with one of their own, those who make blocks don't meet.
+    pub fn make(
+        &self,
+        seat: &mut Seat<T, R>,
+        near: &mut u64,
+        value: T,
+        words: u64,
+    ) -> Result<u64, T>
         requires own { seat.old.base ≡ self.now.words.id.views_name }
         requires may { Allows (R.holds self.now.words.fixed) R.keeps seat.old.id seat.old.view (Make value words) (R.then seat.old.view (Make value words)) }
         ensures same { (seat.new.base ≡ seat.old.base) × (seat.new.id ≡ seat.old.id) }
         ensures goes { R.then seat.old.view (Make value words) (Made result) seat.new.view }
     {
-        match self.number(words) {
+        match self.number(*near, words) {
             Some((part, index, claim)) => {
+                *near = part.first + index + 1;
                 self.words
                     .by(&part.strip)
                     .put(seat, claim, index, part.values, value, words);

@@ -17,7 +17,6 @@ use crate::words::Words;
 use core::slots::{Lease, Slots, release, reserve};
 use std::alloc::{AllocError, Global};
 use std::ptr::{NonNull, null_mut};
-use std::sync::atomic::AtomicU64;
 
 /// A memory with the right to give its words and places back. It stays with the thread that made it, and lends the memory to others.
 pub struct Home<T: Drop, R: Rule<T>> {
@@ -193,7 +192,6 @@ impl<T: Drop, R: Rule<T>> Home<T, R> {
                 let (words, values, doors) = Words::open(
                     row, empty, nulls, roots, count, MOST, fixed,
                 );
-                let next = AtomicU64::new(0);
                 let blocks = Blocks {
                     alloc,
                     words,
@@ -201,7 +199,6 @@ impl<T: Drop, R: Rule<T>> Home<T, R> {
                     count,
                     values,
                     doors,
-                    next,
                 };
                 Ok(Home {
                     blocks,
@@ -236,7 +233,6 @@ impl<T: Drop, R: Rule<T>> Drop for Home<T, R> {
             count,
             values,
             doors,
-            next: _,
         } = blocks;
         let Place { at } = values;
         let Doors { at: nulls } = doors;

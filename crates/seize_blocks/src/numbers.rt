@@ -10,7 +10,6 @@ use crate::part::{Part, places_in};
 use crate::plot::{fits, lay_strip, skip_of, take_back};
 use crate::rule::Rule;
 use std::ptr::NonNull;
-use std::sync::atomic::Ordering::SeqCst;
 
 /// The index itself, or the first one where there are not so many.
 fn within(index: u64, count: u64) -> u64
@@ -108,7 +107,6 @@ impl<T, R: Rule<T>> Blocks<T, R> {
                 .by(&part.strip)
                 .claim(part.first + index, index * 5 + part.skip + 4);
             if found == 0 {
-                self.next.store(part.first + index + 1, SeqCst);
                 return Some((index, claim));
             }
             next = index + 1;
@@ -131,11 +129,10 @@ impl<T, R: Rule<T>> Blocks<T, R> {
         self.part_behind(door, first)
     }
 
-    /// A number of the strip in which the last one was claimed, if one is free there.
-    fn near(&self) -> Option<(Part<T>, u64, Claim)>
+    /// A number of the strip of this one, if one is free there: from this one on.
+    fn near(&self, from: u64) -> Option<(Part<T>, u64, Claim)>
         ensures { IfSome result (λ c. IsClaimed self.now.words.id c) }
     {
-        let from = self.next.load(SeqCst);
         if from >= MOST {
             return None;
         }
@@ -165,14 +162,14 @@ impl<T, R: Rule<T>> Blocks<T, R> {
         None
     }
 
-    /// A number that was free and is claimed now, with its strip and its index in it, for a block without words of its own.
-    pub(crate) fn number(&self, words: u64) -> Option<(Part<T>, u64, Claim)>
+    /// A number that was free and is claimed now, with its strip and its index in it, for a block without words of its own. It is looked for from this one on.
+    pub(crate) fn number(&self, from: u64, words: u64) -> Option<(Part<T>, u64, Claim)>
         ensures { IfSome result (λ c. (words ≡ 0) × IsClaimed self.now.words.id c) }
     {
         if words != 0 {
             return None;
         }
-        match self.near() {
+        match self.near(from) {
             Some(claimed) => Some(claimed),
             None => self.anywhere(),
         }

@@ -25,6 +25,7 @@ pub struct Caller<'a, T: Defers> {
     pub(crate) blocks: &'a Blocks<T, OfRows>,
     pub(crate) batch_size: u64,
     pub(crate) seat: Seat<T, OfRows>,
+    pub(crate) near: u64,
     ghost own: { seat.base ≡ blocks.now.words.id.views_name },
     ghost sized: { blocks.now.words.fixed.batch_size ≡ batch_size },
 }
@@ -41,6 +42,7 @@ impl<'a, T: Defers> Caller<'a, T> {
             blocks,
             batch_size,
             seat,
+            near: 0,
         }
     }
 
@@ -96,6 +98,7 @@ impl<'a, T: Defers> Caller<'a, T> {
         self.begin()?;
         for slot in 0..LAST_SLOT + 1 {
             if self.tries(slot)? {
+                self.near = self.blocks.beginning(slot);
                 return Ok(slot);
             }
         }
@@ -133,7 +136,9 @@ impl<'a, T: Defers> Caller<'a, T> {
         ensures blocks { self.new.blocks ≡ self.old.blocks }
     {
         match words_for(&value) {
-            Some(words) => self.blocks.make(&mut self.seat, value, words),
+            Some(words) => self
+                .blocks
+                .make(&mut self.seat, &mut self.near, value, words),
             None => Err(value),
         }
     }
@@ -148,7 +153,9 @@ impl<'a, T: Defers> Caller<'a, T> {
         ensures blocks { self.new.blocks ≡ self.old.blocks }
     {
         match words_for(&value) {
-            Some(words) => self.blocks.make(&mut self.seat, value, words),
+            Some(words) => self
+                .blocks
+                .make(&mut self.seat, &mut self.near, value, words),
             None => Err(value),
         }
     }
@@ -283,6 +290,7 @@ impl<'a, T: Defers> Drop for Caller<'a, T> {
             blocks: _,
             batch_size: _,
             seat: _,
+            near: _,
         } = self;
     }
 }

@@ -161,48 +161,60 @@ impl<'a, T: Defers> Look<T> for Caller<'a, T> {
 
     ghost shown = { shown_of };
 
+    #[inline(always)]
     fn load(&mut self, at: At) -> u64 {
         self.blocks.load(&mut self.seat, at)
     }
 
+    #[inline(always)]
     fn value(&self, block: u64) -> &T {
         self.blocks.value(&self.seat, block)
     }
 }
 
 impl<'a, T: Defers> Memory<T> for Caller<'a, T> {
+    #[inline(always)]
     fn store(&mut self, at: At, word: u64) {
         self.blocks.store(&mut self.seat, at, word);
     }
 
+    #[inline(always)]
     fn swap(&mut self, at: At, word: u64) -> u64 {
         self.blocks.swap(&mut self.seat, at, word)
     }
 
+    #[inline(always)]
     fn add(&mut self, at: At, by: u64) -> u64 {
         self.blocks.add(&mut self.seat, at, by)
     }
 
+    #[inline(always)]
     fn or(&mut self, at: At, bits: u64) -> u64 {
         self.blocks.or(&mut self.seat, at, bits)
     }
 
+    #[inline(always)]
     fn exchange(&mut self, at: At, old: u64, new: u64) -> Result<u64, u64> {
         self.blocks.exchange(&mut self.seat, at, old, new)
     }
 
+    #[inline(always)]
     fn make(&mut self, value: T, words: u64) -> Result<u64, T> {
-        self.blocks.make(&mut self.seat, value, words)
+        self.blocks
+            .make(&mut self.seat, &mut self.near, value, words)
     }
 
+    #[inline(always)]
     fn take(&mut self, block: u64) -> T {
         self.blocks.take(&mut self.seat, block)
     }
 
+    #[inline(always)]
     fn rewrite(&mut self, block: u64, value: T) -> T {
         self.blocks.rewrite(&mut self.seat, block, value)
     }
 
+    #[inline(always)]
     fn room(&mut self, bucket: u64) -> Result<(), Fault> {
         self.blocks.room(&mut self.seat, bucket)
     }

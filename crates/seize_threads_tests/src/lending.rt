@@ -9,10 +9,11 @@ use std::thread;
 fn make_and_lend(blocks: &Blocks<u64, OneEach>, from: u64, times: u64) -> Option<u64> {
     let mut owner = blocks.seat();
     let guard = blocks.seat();
+    let mut near = 0;
     let mut made = 0;
     for turn in 0..times {
         let value = from.wrapping_add(turn);
-        if let Ok(number) = blocks.make(&mut owner, value, 0) {
+        if let Ok(number) = blocks.make(&mut owner, &mut near, value, 0) {
             made += 1;
             let seen = blocks.value_for(&guard, &owner, number);
             if *seen != value || blocks.take(&mut owner, number) != value {

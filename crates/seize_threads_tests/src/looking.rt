@@ -21,7 +21,8 @@ impl<'a> Kept<'a> {
     /// A block of this value.
     pub(crate) fn make(blocks: &'a Blocks<u64, OneEach>, value: u64) -> Option<Self> {
         let mut seat = blocks.seat();
-        match blocks.make(&mut seat, value, 0) {
+        let mut near = 0;
+        match blocks.make(&mut seat, &mut near, value, 0) {
             Ok(number) => Some(Kept {
                 blocks,
                 seat,

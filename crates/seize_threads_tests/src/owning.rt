@@ -29,10 +29,11 @@ impl Rule<u64> for OneEach {
 /// none where another value was seen or came back than was put in.
 fn make_and_take(blocks: &Blocks<u64, OneEach>, from: u64, times: u64) -> Option<u64> {
     let mut seat = blocks.seat();
+    let mut near = 0;
     let mut made = 0;
     for turn in 0..times {
         let value = from.wrapping_add(turn);
-        if let Ok(number) = blocks.make(&mut seat, value, 0) {
+        if let Ok(number) = blocks.make(&mut seat, &mut near, value, 0) {
             made += 1;
             let once = blocks.value(&seat, number);
             let again = blocks.value(&seat, number);

@@ -7,7 +7,8 @@ use std::thread;
 /// The number of a block that is made, by a seat of its own that has it from then on.
 fn makes(blocks: &Blocks<u64, OneEach>, value: u64) -> Option<u64> {
     let mut seat = blocks.seat();
-    blocks.make(&mut seat, value, 0).ok()
+    let mut near = 0;
+    blocks.make(&mut seat, &mut near, value, 0).ok()
 }
 
 // Were one thread served after the other, this would pass as well. Were the blocks gone with their seats, one of their numbers would be given again.

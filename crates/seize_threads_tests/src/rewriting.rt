@@ -8,11 +8,12 @@ use std::thread;
 /// another value came back or was seen than was put in last.
 fn make_and_rewrite(blocks: &Blocks<u64, OneEach>, from: u64, times: u64) -> Option<u64> {
     let mut seat = blocks.seat();
+    let mut near = 0;
     let mut made = 0;
     for turn in 0..times {
         let value = from.wrapping_add(turn);
         let other = value.wrapping_add(500_000);
-        if let Ok(number) = blocks.make(&mut seat, value, 0) {
+        if let Ok(number) = blocks.make(&mut seat, &mut near, value, 0) {
             made += 1;
             if blocks.rewrite(&mut seat, number, other) != value {
                 return None;
