@@ -14,6 +14,7 @@ use Rattle.seize_rule.proofs.World.Values.{taken_value, made_value}
 use Rattle.seize_alone.specs.Alone.{IsOfUsers}
 use Rattle.seize_alone.proofs.Histories.Reached.{Reached}
 use Rattle.seize_alone.proofs.Histories.NotTaken.{IsHad, IsHeld, kept_there}
+use Rattle.seize_acts.proofs.Answers.{same_some}
 use Rattle.seize_seats.specs.State.{State, view_of, Goes}
 use Rattle.seize_shared.specs.Rows.{IsMade, IsInHand, Fits, Holds, Keeps}
 use Rattle.seize_shared.specs.Told.{told}

@@ -17,7 +17,7 @@ use Rattle.seize_rule.proofs.Rows.Others.{with_here}
 use Rattle.seize_rule.proofs.Rows.Teams.{UseFits}
 use Rattle.seize_alone.proofs.Histories.Reached.{Reached}
 use Rattle.seize_seats.specs.State.{State, view_of, Goes}
-use Rattle.seize_shared.specs.Rows.{IsMade, IsInHand, RootsNameLinked, Fits, Came, Holds, Keeps}
+use Rattle.seize_shared.specs.Rows.{IsMade, IsInHand, RootsNameLinked, Fits, Holds, Keeps}
 use Rattle.seize_shared.specs.Told.{seen_in, cut_in, made_beside, told}
 use Rattle.seize_shared.specs.Promises.{MadeAreLinked, MadeAreExchanged, RootsAreSeen, RootsAreCleared, RootsAreWithdrawn}
 use Rattle.seize_shared.specs.declared.view.View.{View}
@@ -25,10 +25,8 @@ use Rattle.seize_shared.specs.declared.view.View.TheVariants.{Outside, Owes, Ins
 use Rattle.seize_shared.specs.declared.view.Has.{Has}
 use Rattle.seize_shared.specs.declared.view.Has.TheVariants.{Nothing, Made, Seen, Both, Cut}
 use Rattle.seize_shared.specs.declared.view.Fixed.{Fixed}
-use Rattle.seize_shared.proofs.Lists.{there, elsewhere}
-use Rattle.seize_shared.proofs.Moved.{Passes}
 use Rattle.seize_shared.proofs.Came.{reached, came_then}
-use Rattle.seize_shared.proofs.Users.{apart_making, cutting_making, use_making, making_use, cutting_use, same_use}
+use Rattle.seize_shared.proofs.Users.{apart_making, cutting_making, use_making, making_use}
 use Rattle.seize_shared.proofs.Users.{beside, making_not_held, passes_then, users, users_outside, users_owe}
 use Rattle.seize_shared.proofs.Written.{Wrote, Cuts, block_of_link, wrote, rooted_still, roots_now, fresh, root_can, unlinked, clears}
 

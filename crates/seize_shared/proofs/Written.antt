@@ -20,9 +20,9 @@ use Rattle.seize_shared.specs.declared.view.Has.TheVariants.{Nothing, Cut}
 use Rattle.seize_shared.specs.declared.view.Fixed.{Fixed}
 use Rattle.seize_shared.proofs.Lists.{there, elsewhere}
 use Rattle.seize_shared.proofs.Moved.{Passes}
-use Rattle.seize_shared.proofs.Came.{reached, came_then}
-use Rattle.seize_shared.proofs.Users.{apart_making, cutting_making, use_making, making_use, cutting_use, same_use}
-use Rattle.seize_shared.proofs.Users.{beside, world_took, making_not_held, passes_one, passes_then, Users, users}
+use Rattle.seize_shared.proofs.Came.{came_then}
+use Rattle.seize_shared.proofs.Users.{making_use, cutting_use, same_use}
+use Rattle.seize_shared.proofs.Users.{world_took, passes_one, passes_then, Users}
 
 -- a root is there
 root_there : (l : List ℕ) (r : ℕ) → r < length l → IsSome (slice_get l r)

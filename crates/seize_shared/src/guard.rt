@@ -93,7 +93,8 @@ pub trait Guard<T: Defers> {
         ensures some { IfSome result (λ value. seen self.now ≢ 0) }
         ensures none { IfNone result (seen self.now ≡ 0) };
 
-    /// Puts a value at a root, and retires the one that was there. It comes back where there is no such root, or no block can be made of it. The section is begun anew.
+    /// Puts a value at a root, and retires the one that was there. It comes back where there is no such root, or no block can be made of it. The section is
+    /// begun anew.
     fn put(&mut self, root: u64, value: T) -> Result<(), T>
         ensures slot { slot self.new ≡ slot self.old }
         ensures inside { inside self.new ≡ true }
