@@ -42,7 +42,7 @@ visited_at (Some u) = u.1
 -- where a seat has another view, without a visit, those who visit a block are others
 others_visit : {V : Type 0} (us : List (V × Visit)) (i id : ℕ) (v' v : V) (b : ℕ) (p : Ptr) → slice_get (slice_set us id (v', None)) i ≡ Some (v, Some (b, p))
     → (i ≢ id) × (slice_get us i ≡ Some (v, Some (b, p)))
-others_visit us i id v' v b p e = by (cases_eq i id)
+others_visit {V} us i id v' v b p e = by (cases_eq i id)
   where
     by : (i ≡ id) ⊎ (i ≢ id) → (i ≢ id) × (slice_get us i ≡ Some (v, Some (b, p)))
     by (inl is) = let here : slice_get (slice_set us i (v', None)) i ≡ Some (v, Some (b, p)) = ap (λ (k : ℕ). slice_get (slice_set us k (v', None)) i) is ∙ e in
@@ -67,7 +67,7 @@ module _ {D T V W : Type 0} (value : D → T) (own : D → Ptr) (holds : State T
   Hold = HoldsKept value own holds
 
   abbrev Keep : V × Visit → V × Visit → W → ℕ → Type 0
-  Keep = keeps_kept keeps
+  Keep = keeps_kept value keeps
 
   view_plain : (s : St) (id : ℕ) (u : V × Visit) → view_of s id ≡ Some u → view_of (flat s) id ≡ Some u.0
   view_plain s id u e = slice_get-map (λ (u : V × Visit). u.0) s.views id ∙ ap (option_map (λ (u : V × Visit). u.0)) e
