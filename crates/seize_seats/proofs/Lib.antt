@@ -10,9 +10,11 @@ pub mod Beside
 pub mod Strips
 pub mod Known
 pub mod Numbers
+pub mod Pieces
 pub mod Moves
 pub mod Hands
 pub mod Makings
+pub mod OwnWords
 pub mod Regains
 pub mod Rewrites
 pub mod Lends
