@@ -11,7 +11,8 @@ ghost use Rattle.seize_blocks.specs.Placed.{IsItsPlace, IsItsIndex, IsBehind, Ha
 use crate::part::{Spot, places_in};
 use crate::place::{Doors, Place};
 use crate::plot::skip_of;
-use crate::rule::{Meeting, Rule, Turn};
+use crate::keeping::Keeping;
+use crate::rule::{Meeting, Turn};
 use crate::seat::Seat;
 use crate::strip::Strip;
 use crate::words::Words;
@@ -23,7 +24,7 @@ pub(crate) const MOST: u64 = 4294967296;
 
 /// A memory that threads share under a rule. It has words of roots and of the slots of the first bucket, and numbers for blocks, which have no words of
 /// their own yet: so many in the first strip, and as many again with each further one, which is laid where it is needed.
-pub struct Blocks<T, R: Rule<T>> {
+pub struct Blocks<T, R: Keeping<T>> {
     pub(crate) alloc: Global,
     pub words: Words<T, R>,
     pub(crate) roots: u64,
@@ -36,7 +37,7 @@ pub struct Blocks<T, R: Rule<T>> {
     ghost few: { (roots ≤ 65536) × (0 < count) × (count ≤ 2 ^ 32) },
 }
 
-impl<T, R: Rule<T>> Blocks<T, R> {
+impl<T, R: Keeping<T>> Blocks<T, R> {
     /// Where the word of a name lies: in which strip, and at which place. Whatever the state is, if the seat has this view then there is such a word.
     #[inline(always)]
     fn place_of(&self, seat: &Seat<T, R>, at: At) -> (Strip<T>, u64)

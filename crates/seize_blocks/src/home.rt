@@ -12,14 +12,14 @@ use crate::blocks::{Blocks, MOST};
 use crate::place::{Doors, Place};
 use crate::plot::{Alone, give_up};
 use crate::row::Row;
-use crate::rule::Rule;
+use crate::keeping::Keeping;
 use crate::words::Words;
 use core::slots::{Lease, Slots, release, reserve};
 use std::alloc::{AllocError, Global};
 use std::ptr::{NonNull, null_mut};
 
 /// A memory with the right to give its words and places back. It stays with the thread that made it, and lends the memory to others.
-pub struct Home<T: Drop, R: Rule<T>> {
+pub struct Home<T: Drop, R: Keeping<T>> {
     pub blocks: Blocks<T, R>,
     ground: Ground<u64>,
     places: Ground<Option<T>>,
@@ -170,7 +170,7 @@ fn clear<T: Drop>(alloc: &Global, strips: Alone<T>, doors: &mut Slots<*mut u64>,
     }
 }
 
-impl<T: Drop, R: Rule<T>> Home<T, R> {
+impl<T: Drop, R: Keeping<T>> Home<T, R> {
     /// A memory of so many roots, with no seat yet, and numbers for so many blocks at first, at least one. The slots have no words yet.
     pub fn open(alloc: Global, roots: u64, count: u64, fixed: &R::Fixed) -> Result<Self, AllocError>
         requires few { (roots ≤ 65536) × (count ≤ 2 ^ 32) }
@@ -218,7 +218,7 @@ impl<T: Drop, R: Rule<T>> Home<T, R> {
     }
 }
 
-impl<T: Drop, R: Rule<T>> Drop for Home<T, R> {
+impl<T: Drop, R: Keeping<T>> Drop for Home<T, R> {
     fn drop(self) {
         let Home {
             blocks,

@@ -4,6 +4,7 @@
 mod blocks;
 mod claim;
 mod home;
+mod keeping;
 mod numbers;
 mod part;
 mod place;
@@ -16,6 +17,7 @@ mod words;
 
 pub use blocks::Blocks;
 pub use home::Home;
+pub use keeping::Keeping;
 pub use rule::{Meeting, Rule, Turn};
 pub use seat::Seat;
 pub use words::Words;

@@ -8,7 +8,7 @@ use crate::blocks::{Blocks, MOST};
 use crate::claim::Claim;
 use crate::part::{Part, places_in};
 use crate::plot::{fits, lay_strip, skip_of, take_back};
-use crate::rule::Rule;
+use crate::keeping::Keeping;
 use std::ptr::NonNull;
 
 /// The index itself, or the first one where there are not so many.
@@ -19,7 +19,7 @@ fn within(index: u64, count: u64) -> u64
     if index < count { index } else { 0 }
 }
 
-impl<T, R: Rule<T>> Blocks<T, R> {
+impl<T, R: Keeping<T>> Blocks<T, R> {
     /// The first strip.
     fn first_part(&self) -> Part<T>
         ensures { IsPart self.now.words.id result 0 }

@@ -8,7 +8,7 @@ ghost use Rattle.seize_seats.specs.Lines.{whole};
 ghost use Rattle.seize_seats.specs.Doors.{before, block_bytes, words_from, IsFurther, AreBehind};
 ghost use Rattle.seize_seats.specs.Steps.{roomed};
 ghost use Rattle.seize_seats.specs.Lendings.{ShownToBoth, IsValueOfBoth};
-ghost use Rattle.seize_seats.specs.Owned.{BaseId, base_id_coded, core_of, stride, IsFirst, IsLike, words_own, words_share};
+ghost use Rattle.seize_seats.specs.Owned.{BaseId, base_id_coded, core_of, stride, IsFirst, IsLike, pieces_at, words_own, words_share};
 ghost use Rattle.seize_blocks.specs.Placed.{IsItsPlace, IsItsSign, IsItsIndex};
 ghost use Rattle.seize_seats.specs.Plots.{HasFirst};
 
@@ -16,7 +16,8 @@ use crate::claim::Claim;
 use crate::place::{Doors, Place};
 use crate::plot::{Alone, Deed};
 use crate::row::Row;
-use crate::rule::{Meeting, Rule, Turn};
+use crate::keeping::Keeping;
+use crate::rule::{Meeting, Turn};
 use crate::seat::Seat;
 use crate::strip::Strip;
 use seize_words::At;
@@ -27,20 +28,20 @@ use std::sync::atomic::Ordering::SeqCst;
 use std::sync::atomic::raw;
 
 /// Words, and places for values, by one strip of the numbers of a memory.
-pub struct Words<T, R: Rule<T>> {
+pub struct Words<T, R: Keeping<T>> {
     pub(crate) words: *mut u64,
     marker: PhantomData<(T, R)>,
     pub ghost id: { BaseId } by { base_id_coded },
     pub ghost fixed: { R.Fixed } by { R.Fixed.code },
 }
 
-impl<T, R: Rule<T>> Model for Words<T, R> {
-    ghost also_owns = { λ s. words_own T.row R.View.row.coded.code (R.holds s.fixed) s.words s.id };
+impl<T, R: Keeping<T>> Model for Words<T, R> {
+    ghost also_owns = { λ s. words_own T.row (pieces_at R.at R.count) R.View.row.coded.code (R.holds s.fixed) s.words s.id };
 
-    ghost also_shares = { λ s _ κ. words_share T.row R.View.row.coded.code (R.holds s.fixed) s.words s.id κ };
+    ghost also_shares = { λ s _ κ. words_share T.row (pieces_at R.at R.count) R.View.row.coded.code (R.holds s.fixed) s.words s.id κ };
 }
 
-impl<T, R: Rule<T>> Words<T, R> {
+impl<T, R: Keeping<T>> Words<T, R> {
     /// The words, each 0, of so many roots go under the rule, with places for so many values, each of them empty. There are `most` numbers at most.
     pub(crate) fn open(
         row: Row<u64>,
@@ -422,6 +423,6 @@ impl<T, R: Rule<T>> Words<T, R> {
     }
 }
 
-unsafe impl<T: Send + Sync, R: Rule<T>> Send for Words<T, R> {}
+unsafe impl<T: Send + Sync, R: Keeping<T>> Send for Words<T, R> {}
 
-unsafe impl<T: Send + Sync, R: Rule<T>> Sync for Words<T, R> {}
+unsafe impl<T: Send + Sync, R: Keeping<T>> Sync for Words<T, R> {}

@@ -1,6 +1,6 @@
 -- One number of a strip opened at a time, and the words of roots, slots and entries by their names. Assumes `Logic`.
 use Rattle.std.specs.Prelude.{slice_get, slice_set}
-use Rattle.std.proofs.Common.{◌≡◌, ℕ, zero, suc, ◌+◌, ◌-◌, ◌*◌, ◌<◌, List, [], ◌∷◌, length, length-set, set, get_or, sym, refl, ap, ◌∙◌, subst, arith, Option, Some}
+use Rattle.std.proofs.Common.{◌≡◌, ℕ, zero, suc, ◌+◌, ◌-◌, ◌*◌, ◌<◌, List, [], ◌∷◌, length, length-set, set, get_or, sym, refl, ap, ◌∙◌, subst, arith, Some}
 use seplogic.Ra.Ura.{Ura}
 use base.Fraction.{full_share}
 use base.Share.{quarter}
@@ -12,10 +12,9 @@ use denote.RattleType.{RattleType}
 use denote.RawPtr.{Ptr, block_of, count_of}
 use denote.Steps.{nothing}
 use Rattle.core.specs.Sync.RawAtomic.{word}
-use Rattle.seize_words.specs.Mem.{entry_in, word_at, word_in, with_word}
+use Rattle.seize_words.specs.Mem.{entry_in, word_at, with_word}
 use Rattle.seize_words.specs.declared.at.At.{At}
 use Rattle.seize_words.specs.declared.at.At.TheVariants.{Root, Used, Slot, Entry, Word}
-use Rattle.seize_words.specs.declared.block.Block.{Block}
 use Rattle.seize_seats.specs.Cells.{Body, Cell, Free, Claimed, Out, Has, Held, block_in, cell_at, noted_in}
 use Rattle.seize_seats.specs.Lines.{Parts, place_of, memory_of, IsWord, IsNoBlocks, AreLaid}
 use Rattle.seize_seats.specs.Strips.{Strip, AreStrips}

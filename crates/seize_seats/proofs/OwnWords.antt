@@ -1,12 +1,12 @@
 -- One step on a word of a block's own, by a seat that knows where they lie. Assumes `Logic`.
 use Rattle.std.specs.Prelude.{slice_get}
-use Rattle.std.proofs.Common.{◌≡◌, ℕ, ◌+◌, ◌-◌, ◌*◌, [], ◌∷◌, sym, ◌∙◌, refl, Some}
+use Rattle.std.proofs.Common.{◌≡◌, ℕ, ◌+◌, ◌*◌, [], ◌∷◌, sym, ◌∙◌, refl, Some}
 use seplogic.Ra.Ura.{Ura}
 use base.Stored.{Coded}
-use base.Logic.{SProp, ent, sep, ex, all, upd, apply∗, all_e, upd_i}
+use base.Logic.{SProp, ent, sep, ex, all, apply∗, all_e, upd_i}
 use base.Fml.{Lft, Share, Fml, fsep, flft}
 use types.Logic.{Logic, sem}
-use types.Kit.{‵, raw, ◌⊛◌, some as items, given, ◌$◌, ◌∵◌, !, qed, by, move, split, split3, pick, learn, show, frame, each, assume, suffices, use1, use2, done}
+use types.Kit.{‵, raw, ◌⊛◌, some as items, given, ◌$◌, ◌∵◌, !, qed, by, move, split, split3, pick, learn, show, frame, each, assume, suffices, use1, use2}
 use denote.RattleType.{RattleType}
 use denote.RawPtr.{Ptr, block_ptr, block_of, count_of}
 use Rattle.core.specs.Sync.RawAtomic.{word, asks, always}
@@ -17,7 +17,7 @@ use Rattle.seize_words.specs.declared.at.At.TheVariants.{Word}
 use Rattle.seize_seats.specs.State.{State, Goes, Allows}
 use Rattle.seize_seats.specs.Lines.{Parts, memory_of, AreLaid}
 use Rattle.seize_seats.specs.Steps.{IsWordStep}
-use Rattle.seize_seats.specs.Owned.{Pieces, BaseId, age, IsIts, Inside, state_of, inner}
+use Rattle.seize_seats.specs.Owned.{Pieces, BaseId, age, Inside, state_of, inner}
 use Rattle.seize_seats.proofs.Cells.{own_lies}
 use Rattle.seize_seats.proofs.Numbers as Numbers
 use Rattle.seize_seats.proofs.Pieces as Pieces

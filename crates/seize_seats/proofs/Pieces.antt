@@ -1,6 +1,6 @@
 -- The own words of a block: one of them by its name, for whoever knows where they lie, and places that have none. Assumes `Logic`.
 use Rattle.std.specs.Prelude.{slice_get, slice_set, replicate}
-use Rattle.std.proofs.Common.{◌≡◌, ℕ, zero, suc, ◌+◌, ◌-◌, ◌*◌, ◌^◌, ◌<◌, List, [], ◌∷◌, length, length-set, set, get_or, sym, refl, ap, ◌∙◌, arith, Option, Some, None}
+use Rattle.std.proofs.Common.{◌≡◌, ℕ, zero, suc, ◌+◌, ◌-◌, ◌*◌, ◌^◌, ◌<◌, List, [], ◌∷◌, length, length-set, set, get_or, sym, refl, ap, ◌∙◌, Some, None}
 use seplogic.Ra.Ura.{Ura}
 use base.Fraction.{full_share}
 use base.Share.{quarter}
@@ -23,7 +23,7 @@ use Rattle.seize_seats.specs.Seen.{fact}
 use Rattle.seize_seats.specs.Cells.{Cell, Free, Claimed, Out, Has, Held, block_in, cell_at, own_noted_in}
 use Rattle.seize_seats.specs.Lendings.{lendable, in_hand}
 use Rattle.seize_seats.specs.Lines.{Parts, memory_of, AreLaid}
-use Rattle.seize_seats.specs.Owned.{Pieces, IsPiece, piece, pieces, row, stride, resting, held, hand, BaseId, age, IsIts, lent_here, had_here}
+use Rattle.seize_seats.specs.Owned.{Pieces, IsPiece, words_right, piece, pieces, row, stride, resting, held, hand, BaseId, age, IsIts, lent_here, had_here}
 use Rattle.seize_seats.proofs.Cells.{block_is, own_noted, own_lies, own_are_apart, get_some}
 use Rattle.seize_seats.proofs.Numbers as Numbers
 use Rattle.seize_seats.proofs.Lendings as Lendings
@@ -111,13 +111,13 @@ module _ {M : Type 1} {𝓤 : Ura M} (𝓛 : Logic 𝓤) (R : RattleType) (own :
         let Q = Rows.Puts 𝓛 k o us i e in
         qed 𝓛 (‵ (Ws s.words s.cells) ∷ []) ∵
         use1 𝓛 (‵ (cell_of j (D us)) ⊛ raw (all 𝓤 P)) (Numbers.celled 𝓛 R p z lent had s.words s.cells j (D us) of here) $ split ! $
-        use1 𝓛 (‵ (fsep (piece own (x, us)) K)) (to us) $ fsplit ! $ fsplit ! $ fpick ! (λ fits. drop ! $
-        -- [the own words; what lies beside them; the others]
+        use1 𝓛 (‵ (fsep (piece own (x, us)) K)) (to us) $ fsplit ! $ fsplit ! $ fpick ! (λ fits. drop ! $ fsplit ! $
+        -- [the own words; the right; what lies beside them; the others]
         use1 𝓛 (‵ (word k e (get_or us i 0)) ⊛ raw (all 𝓤 Q)) (row_at 𝓛 k us o i e at (get_some us i w is)) $ split ! $
         rewrite ! 0 (λ (t : Ptr × ℕ). ‵ (word (block_of t.0) e t.1)) (λ l. (lies l, read us i w is l)) refl $ frame ! $
         each ! (Renotes s n i (block_of q) e) (λ y. use1 𝓛 (raw (Q y)) (all_e 𝓤 Q y) $ assume ! (‵ (word (block_of q) e y)) $
         rewrite ! 0 (λ (r : Ptr). ‵ (word (block_of r) e y)) (sym lies) refl $
-        use2 𝓛 (‵ (row k o (set us i y))) (apply∗ 𝓤 ⟦ word k e y ⟧ ⟦ row k o (set us i y) ⟧) $
+        use2 𝓛 (‵ (row k o (set us i y))) (apply∗ 𝓤 ⟦ word k e y ⟧ ⟦ row k o (set us i y) ⟧) $ fjoin ! $
         nothing ! $ fpack ! (IsPiece own (x, set us i y)) (λ _. ftrue) (length-set us i y ∙ fits.0, fits.1) $ fjoin ! $ fjoin ! $
         let c : Cell R.Denot = D (set us i y) in
         use1 𝓛 (‵ (cell_of j c)) (from (set us i y)) $ move ! (1 ∷ []) $
@@ -176,5 +176,5 @@ no_pieces 𝓛 own (suc n) = qed 𝓛 (‵ ftrue ∷ []) ∵ use1 𝓛 (‵ (pie
 pub alike : {M : Type 1} {𝓤 : Ura M} (𝓛 : Logic 𝓤) {D : Type 0} (own : Pieces D) (x y : D) (us : List ℕ) → own.at x ≡ own.at y → own.count x ≡ own.count y
     → ent 𝓤 (sem 𝓛 (piece own (x, us))) (sem 𝓛 (piece own (y, us)))
 alike 𝓛 own x y us there many =
-    let P : Ptr × ℕ → Fml = λ t. fsep (fact ((length us ≡ t.1) × (0 < t.1 → InBlock t.0 × (t.1 * 8 < 2 ^ 63)))) (row (block_of t.0) (count_of t.0) us) in
+    let P : Ptr × ℕ → Fml = λ t. fsep (fact ((length us ≡ t.1) × (0 < t.1 → InBlock t.0 × (t.1 * 8 < 2 ^ 63)))) (fsep (row (block_of t.0) (count_of t.0) us) (words_right t.1 t.0)) in
     qed 𝓛 (‵ (piece own (x, us)) ∷ []) ∵ rewrite ! 0 (λ (t : Ptr × ℕ). ‵ (P t)) (λ i. (there i, many i)) refl $ done !

@@ -1,5 +1,6 @@
 -- The words may be shared, and a seat may go to another thread: nothing of them is tied to one. Assumes nothing.
 use Rattle.std.proofs.Common.{ℕ, Bool, true, false, zero, suc, ◌+◌, ◌*◌, List, [], ◌∷◌, length, take, drop, None, Some}
+use mir.Syntax.{w64, ty_int, ty_array}
 use base.Fraction.{full_share}
 use base.Stored.{Gv}
 use base.Fml.{Lft, Share, Fml}
@@ -14,7 +15,7 @@ use Rattle.seize_seats.specs.State.{State}
 use Rattle.seize_seats.specs.Cells.{Body, Cell, Free, Claimed, Out, Has, Held}
 use Rattle.seize_seats.specs.Strips.{Strip, strip_coded, no_strip, further}
 use Rattle.seize_seats.specs.Doors.{block_type, IsFurther, heap, right_to, doors}
-use Rattle.seize_seats.specs.Owned.{Pieces, shared_view, row, piece, lent_in, had_in, quarters, ledger, zeros, stride, kept, numbers, strips, Core, BaseId, core_of, everything, common, words_own, words_share}
+use Rattle.seize_seats.specs.Owned.{words_right, Pieces, shared_view, row, piece, lent_in, had_in, quarters, ledger, zeros, stride, kept, numbers, strips, Core, BaseId, core_of, everything, common, words_own, words_share}
 use Rattle.seize_seats.specs.Lendings.{Phase, Begins, Lasts, Over, in_phase, Holder, Lending, span, told, lendings, lendable, in_hand}
 use Rattle.seize_seats.specs.Stretches.{lasting, seat_owns, seat_shares}
 
@@ -99,8 +100,12 @@ ledger_keyless c γ d vs = (quarters_keyless c γ 0 vs, entries_keyless shared_v
 
 module _ (R : RattleType) (own : Pieces R.Denot) (sent : IsSend (OptionOf R)) (synced : IsSync (OptionOf R)) {V W : Type 0} (c : V → Gv)
     (holds : State R.Denot V W → Type 0) where
+  right_keyless : (n : ℕ) (p : Ptr) → Keyless (words_right n p)
+  right_keyless zero p = tt
+  right_keyless (suc n) p = freed.frees heap (ty_array (ty_int w64) (suc n)) p
+
   piece_keyless : (x : Body R.Denot) → Keyless (piece own x)
-  piece_keyless x = ((λ _. tt), row_keyless (block_of (own.at x.0)) (count_of (own.at x.0)) x.1)
+  piece_keyless x = ((λ _. tt), (row_keyless (block_of (own.at x.0)) (count_of (own.at x.0)) x.1, right_keyless (own.count x.0) (own.at x.0)))
 
   everything_keyless : (k : Core) → Keyless (everything R own c holds k)
   everything_keyless k = λ t. (

@@ -6,7 +6,7 @@ use Rattle.std.proofs.lemmas.Bool.{cases_eq}
 use Rattle.std.proofs.lemmas.List.{map-set, map-append}
 use Rattle.std.proofs.lemmas.Option.{slice_get-map}
 use denote.RawPtr.{Ptr, null_ptr}
-use Rattle.seize_words.specs.Mem.{Mem, Can, Took, after, block_of, value_in, value_at, with_block, IsFreeNumber}
+use Rattle.seize_words.specs.Mem.{Mem, Can, Took, block_of, value_in, value_at, with_block, IsFreeNumber}
 use Rattle.seize_words.specs.Op.{Op, Out, Make, Take, Rewrite, Made}
 use Rattle.seize_seats.specs.State.{State, view_of, Goes, Allows, Owns, Turns, Starts, Comes, Meets, Renews}
 use Rattle.seize_seats.specs.State as State

@@ -2,6 +2,7 @@
 -- them shows that it lasts. An invariant has the words, the values, and a quarter of each seat's view; three quarters of it are the seat's. It has the strips
 -- of all numbers; whoever has the words has them by one strip, of which it is known that it is one of them.
 use Rattle.std.specs.Prelude.{◌≡◌, ℕ, zero, suc, ◌+◌, ◌-◌, ◌*◌, ◌^◌, ◌<◌, ◌≤◌, Bool, true, List, [], ◌∷◌, Option, Some, None, length, replicate, take, drop, slice_get}
+use mir.Syntax.{w64, ty_int, ty_array}
 use prog.Memory.{size}
 use base.Fraction.{full_share}
 use base.Share.{quarter, three_quarters}
@@ -20,7 +21,7 @@ use Rattle.seize_seats.specs.Stretches.{IsEven, invariant}
 use Rattle.seize_seats.specs.Cells.{Body, Cell, Free, Claimed, Out, Has, Held, sign_of}
 use Rattle.seize_seats.specs.Lines.{Parts, long, place_of, memory_of, AreLaid}
 use Rattle.seize_seats.specs.Strips.{Strip, strip_coded, no_strip, further, Book, AreStrips}
-use Rattle.seize_seats.specs.Doors.{IsFurther, right_to, doors}
+use Rattle.seize_seats.specs.Doors.{IsFurther, frees, right_to, doors}
 use Rattle.seize_words.specs.declared.at.At.{At}
 use Rattle.seize_words.specs.declared.at.At.TheVariants.{Root, Used, Slot, Entry, Word}
 
@@ -34,13 +35,22 @@ pub record Pieces (D : Type 0) : Type 0 where
   pub at : D → Ptr
   pub count : D → ℕ
 
+abbrev pub pieces_at : {D : Type 0} → (D → Ptr) → (D → ℕ) → Pieces D
+pieces_at at count = record { at = at; count = count }
+
 -- As many words are there as is kept, and where there are any they lie in a block of memory.
 abbrev pub IsPiece : {D : Type 0} → Pieces D → Body D → Type 0
 IsPiece own x = (length x.1 ≡ own.count x.0) × (0 < own.count x.0 → InBlock (own.at x.0) × (own.count x.0 * 8 < 2 ^ 63))
 
--- the own words of a block
+-- the right to give the memory of so many words back, which lie there
+abbrev pub words_right : ℕ → Ptr → Fml
+words_right zero p = ftrue
+words_right (suc n) p = frees (ty_array (ty_int w64) (suc n)) p
+
+-- the own words of a block, with the right to give their memory back
 abbrev pub piece : {D : Type 0} → Pieces D → Body D → Fml
-piece own x = fsep (fact (IsPiece own x)) (row (block_of (own.at x.0)) (count_of (own.at x.0)) x.1)
+piece own x =
+    fsep (fact (IsPiece own x)) (fsep (row (block_of (own.at x.0)) (count_of (own.at x.0)) x.1) (words_right (own.count x.0) (own.at x.0)))
 
 module _ {V : Type 0} (c : V → Gv) (γ : ℕ) where
   -- the views of the seats from this number on, of which none is there

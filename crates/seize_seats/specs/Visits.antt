@@ -1,6 +1,6 @@
 -- Words of a block's own lie beside it, and where they lie is kept with its value. A seat that wants to reach one *visits* the block: it has seen where they lie, and
 -- as long as it knows what it knows they lie there. Rules speak of values alone, and know of no visits.
-use Rattle.std.specs.Prelude.{◌≡◌, ℕ, List, Option, Some, None, Result, Ok, Err, map}
+use Rattle.std.specs.Prelude.{◌≡◌, ℕ, Option, Some, None, Result, Ok, Err, map}
 use denote.RawPtr.{Ptr}
 use Rattle.seize_words.specs.Mem.{Mem, value_at}
 use Rattle.seize_words.specs.Op.{Op, Out, Load, Store, Swap, Add, Or, Exchange, Make, Take, Rewrite, Room, Found, Stored, Exchanged, Made, Taken, Roomed}

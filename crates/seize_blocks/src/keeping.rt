@@ -1,0 +1,35 @@
+//! What a rule over a shared memory says where more is kept of each block than its value.
+ghost use Rattle.std.specs.Prelude.{ℕ};
+ghost use denote.RawPtr.{Ptr};
+ghost use Rattle.seize_words.specs.Op.{Op, Out};
+ghost use Rattle.seize_seats.specs.State.{State};
+
+/// What holds of a memory that seats share between any two steps, whoever takes them. `T` is what is kept of a block: its value, and where its own words lie.
+pub trait Keeping<T> {
+    /// What a seat knows. No value of it is made: it is plain data of the proofs.
+    type View;
+
+    /// What is chosen as the memory is opened, and stays.
+    type Fixed;
+
+    /// What the rule keeps beside the memory and the views.
+    ghost World: { Type 0 };
+
+    /// What holds between any two steps.
+    ghost holds: { Self.Fixed → State T Self.View World → Type 0 };
+
+    /// The view of one seat, as long as what another owns lasts, keeps the block of a number in this world.
+    ghost keeps: { Self.View → Self.View → World → ℕ → Type 0 };
+
+    /// What an operation tells its seat: its view before it, the operation, the answer, and its view after it.
+    ghost then: { Self.View → Op T → Out T → Self.View → Type 0 };
+
+    /// What a seat knows that has just come.
+    ghost newcomer: { Self.Fixed → Self.View };
+
+    /// Where the own words of a block lie of which this is kept.
+    ghost at: { T → Ptr };
+
+    /// How many they are.
+    ghost count: { T → ℕ };
+}
