@@ -278,6 +278,7 @@ impl<T, R: Keeping<T>> Blocks<T, R> {
         value: T,
         words: u64,
     ) -> Result<u64, T>
+        requires bare { R.count value ≡ 0 }
         requires own { seat.old.base ≡ self.now.words.id.views_name }
         requires may { Allows (R.holds self.now.words.fixed) R.keeps seat.old.id seat.old.view (Make value words) (R.then seat.old.view (Make value words)) }
         ensures same { (seat.new.base ≡ seat.old.base) × (seat.new.id ≡ seat.old.id) }
@@ -327,6 +328,7 @@ impl<T, R: Keeping<T>> Blocks<T, R> {
 
     /// Replaces the value of a block that the seat has to itself, and answers the one before.
     pub fn rewrite(&self, seat: &mut Seat<T, R>, block: u64, value: T) -> T
+        requires alike { (x : T) → IsValueOf (R.holds self.now.words.fixed) seat.old.id seat.old.view block x → (R.at x ≡ R.at value) × (R.count x ≡ R.count value) }
         requires own { seat.old.base ≡ self.now.words.id.views_name }
         requires alone { Owns (R.holds self.now.words.fixed) R.keeps seat.old.id seat.old.view block }
         requires may { Allows (R.holds self.now.words.fixed) R.keeps seat.old.id seat.old.view (Rewrite block value) (R.then seat.old.view (Rewrite block value)) }

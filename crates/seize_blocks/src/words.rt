@@ -7,7 +7,7 @@ ghost use Rattle.seize_seats.specs.State.{Allows, Owns, Turns, Comes, Meets, Ren
 ghost use Rattle.seize_seats.specs.Lines.{whole};
 ghost use Rattle.seize_seats.specs.Doors.{before, block_bytes, words_from, IsFurther, AreBehind};
 ghost use Rattle.seize_seats.specs.Steps.{roomed};
-ghost use Rattle.seize_seats.specs.Lendings.{ShownToBoth, IsValueOfBoth};
+ghost use Rattle.seize_seats.specs.Lendings.{ShownToBoth, IsValueOf, IsValueOfBoth};
 ghost use Rattle.seize_seats.specs.Owned.{BaseId, base_id_coded, core_of, stride, IsFirst, IsLike, pieces_at, words_own, words_share};
 ghost use Rattle.seize_blocks.specs.Placed.{IsItsPlace, IsItsSign, IsItsIndex};
 ghost use Rattle.seize_seats.specs.Plots.{HasFirst};
@@ -79,7 +79,7 @@ impl<T, R: Keeping<T>> Words<T, R> {
         self,
         values: *mut Option<T>,
         doors: *mut *mut u64,
-    ) -> (Row<u64>, Row<Option<T>>, Row<*mut u64>, Alone<T>)
+    ) -> (Row<u64>, Row<Option<T>>, Row<*mut u64>, Alone<T, R>)
         requires { (values ≡ self.id.values) × (doors ≡ self.id.doors) × IsFirst self.words self.id }
         ensures { (result.0.at ≡ self.words) × (length result.0.items ≡ whole self.id.roots self.id.size) × (result.1.at ≡ values)
             × (length result.1.items ≡ self.id.size) × (result.2.at ≡ doors) × (length result.2.items ≡ 32)
@@ -163,7 +163,7 @@ impl<T, R: Keeping<T>> Words<T, R> {
         places: Row<Option<T>>,
         words: Row<u64>,
         deed: Deed<T, Global>,
-    ) -> (Result<*mut u64, *mut u64>, Place<T>, Alone<T>)
+    ) -> (Result<*mut u64, *mut u64>, Place<T>, Alone<T, R>)
         requires { (core_of last.now.id ≡ core_of self.now.id) × InBlock last.now.words × (last.now.id.place ≡ index)
             × (last.now.id.first + last.now.id.size ≡ deed.count) × (deed.count ≡ self.now.id.least * 2 ^ index)
             × (deed.count + deed.count ≤ self.now.id.count) × (doors ≡ self.now.id.doors) × (index < 32)
@@ -250,7 +250,7 @@ impl<T, R: Keeping<T>> Words<T, R> {
     )
         requires { (seat.old.base ≡ self.now.id.views_name) × (claim.base ≡ self.now.id.hands_name) × (claim.found ≡ 0) × (claim.index ≡ self.now.id.first + index)
             × (index < self.now.id.size) × (self.now.id.first + index + 1 < 2 ^ 53) × (values ≡ self.now.id.values)
-            × (_words ≡ 0)
+            × (_words ≡ 0) × (R.count value ≡ 0)
             × Allows (R.holds self.now.fixed) R.keeps seat.old.id seat.old.view (Make value _words) (R.then seat.old.view (Make value _words)) }
         ensures { (seat.new.base ≡ seat.old.base) × (seat.new.id ≡ seat.old.id)
             × R.then seat.old.view (Make value _words) (Made (Ok (self.now.id.first + index + 1))) seat.new.view }
@@ -293,7 +293,7 @@ impl<T, R: Keeping<T>> Words<T, R> {
         }
     }
 
-    /// Replaces the value of a block that the seat has to itself, and answers the one before. The index is that of its number, if there is such a block.
+    /// Replaces the value of a block that the seat has to itself by one that has the same own words, and answers the one before. The index is that of its number, if there is such a block.
     pub(crate) fn rewrite(
         &self,
         seat: &mut Seat<T, R>,
@@ -305,6 +305,7 @@ impl<T, R: Keeping<T>> Words<T, R> {
         requires { (seat.old.base ≡ self.now.id.views_name) × IsItsIndex self.now.id block index
             × (values ≡ self.now.id.values)
             × Owns (R.holds self.now.fixed) R.keeps seat.old.id seat.old.view block
+            × ((x : T) → IsValueOf (R.holds self.now.fixed) seat.old.id seat.old.view block x → (R.at x ≡ R.at value) × (R.count x ≡ R.count value))
             × Allows (R.holds self.now.fixed) R.keeps seat.old.id seat.old.view (Rewrite block value) (R.then seat.old.view (Rewrite block value)) }
         ensures { (seat.new.base ≡ seat.old.base) × (seat.new.id ≡ seat.old.id)
             × ((x : T) × (result ≡ Some x) × R.then seat.old.view (Rewrite block value) (Taken x) seat.new.view) }

@@ -1,14 +1,14 @@
 -- The own words of a block: one of them by its name, for whoever knows where they lie, and places that have none. Assumes `Logic`.
 use Rattle.std.specs.Prelude.{slice_get, slice_set, replicate}
-use Rattle.std.proofs.Common.{◌≡◌, ℕ, zero, suc, ◌+◌, ◌-◌, ◌*◌, ◌^◌, ◌<◌, List, [], ◌∷◌, length, length-set, set, get_or, sym, refl, ap, ◌∙◌, Some, None}
+use Rattle.std.proofs.Common.{◌≡◌, ℕ, zero, suc, ◌+◌, ◌-◌, ◌*◌, ◌^◌, ◌<◌, List, [], ◌∷◌, length, length-set, set, get_or, sym, refl, ap, ◌∙◌, Some, None, arith, subst}
 use seplogic.Ra.Ura.{Ura}
 use base.Fraction.{full_share}
 use base.Share.{quarter}
 use base.Stored.{Coded}
-use base.Logic.{SProp, ent, sep, wand, ex, all, apply∗, all_e}
+use base.Logic.{SProp, ent, sep, wand, ex, all, emp, apply∗, all_e}
 use base.Fml.{Lft, Share, Fml, Incl, ftrue, fsep, flft, fdead}
 use types.Logic.{Logic, sem}
-use types.Kit.{‵, raw, ◌⊛◌, later, ◌$◌, ◌∵◌, !, qed, move, drop, split, frame, each, assume, fsplit, fsplit3, fjoin, fpick, fpack, show, check, use1, use2, rewrite, updating, await, now, done}
+use types.Kit.{‵, raw, ◌⊛◌, later, ◌$◌, ◌∵◌, !, qed, move, drop, split, frame, each, assume, fsplit, fsplit3, fjoin, fpick, fpack, show, check, use0, use1, use2, rewrite, updating, await, now, done}
 use denote.RattleType.{RattleType}
 use denote.Memory.{part_at}
 use denote.Shares.{Shares}
@@ -94,7 +94,8 @@ module _ {M : Type 1} {𝓤 : Ura M} (𝓛 : Logic 𝓤) (R : RattleType) (own :
       -- [the entry; the sign; the hand; the share; who has it; the own words]
       move ! (5 ∷ 4 ∷ []) $ fjoin ! $ move ! (4 ∷ 0 ∷ []) $ fjoin ! $ move ! (1 ∷ 0 ∷ []) $ fjoin ! $ move ! (2 ∷ 0 ∷ []) $ fjoin ! $ move ! (1 ∷ 0 ∷ []) $ fjoin ! $ done !
 
-  module _ (s : Parts R.Denot) (laid : AreLaid z.roots z.count s) (n i e w : ℕ) (q : Ptr) (at_e : e ≡ i * 8 + count_of q) (low : 0 < n) (of : IsIts z (n - 1)) where
+  module _ (s : Parts R.Denot) (laid : AreLaid z.roots z.count s) (n i e w : ℕ) (r q : Ptr)
+      (lands : InBlock r → i * 8 < 2 ^ 63 → (r ≡ q) × (e ≡ i * 8 + count_of q)) (low : 0 < n) (of : IsIts z (n - 1)) where
     abbrev j : ℕ
     j = n - 1
 
@@ -102,18 +103,20 @@ module _ {M : Type 1} {𝓤 : Ura M} (𝓛 : Logic 𝓤) (R : RattleType) (own :
     Opens = ent 𝓤 ⟦ Ws s.words s.cells ⟧ (sep 𝓤 ⟦ word (block_of q) e w ⟧ (all 𝓤 (Renotes s n i (block_of q) e)))
 
     -- whatever lies beside the own words in the cell
-    noting : (x : R.Denot) (us : List ℕ) (D : List ℕ → Cell R.Denot) (K : Fml) → cell_at s.cells j ≡ D us → own.at x ≡ q → slice_get us i ≡ Some w
+    noting : (x : R.Denot) (us : List ℕ) (D : List ℕ → Cell R.Denot) (K : Fml) → cell_at s.cells j ≡ D us → own.at x ≡ r → slice_get us i ≡ Some w
         → ((vs : List ℕ) → ent 𝓤 ⟦ cell_of j (D vs) ⟧ ⟦ fsep (piece own (x, vs)) K ⟧) → ((vs : List ℕ) → ent 𝓤 ⟦ fsep (piece own (x, vs)) K ⟧ ⟦ cell_of j (D vs) ⟧)
         → ((y : ℕ) → own_noted_in (D us) i y ≡ D (set us i y)) → Opens
-    noting x us D K here lies is to from same =
+    noting x us D K here kept is to from same =
         let P = Numbers.Recells 𝓛 R p z lent had s.words s.cells j in let k : ℕ = block_of (own.at x) in let o : ℕ = count_of (own.at x) in
-        let at : e ≡ i * 8 + o = at_e ∙ ap (λ (r : Ptr). i * 8 + count_of r) (sym lies) in
         let Q = Rows.Puts 𝓛 k o us i e in
         qed 𝓛 (‵ (Ws s.words s.cells) ∷ []) ∵
         use1 𝓛 (‵ (cell_of j (D us)) ⊛ raw (all 𝓤 P)) (Numbers.celled 𝓛 R p z lent had s.words s.cells j (D us) of here) $ split ! $
         use1 𝓛 (‵ (fsep (piece own (x, us)) K)) (to us) $ fsplit ! $ fsplit ! $ fpick ! (λ fits. drop ! $ fsplit ! $
+        let long = fits.0 in let in_it = get_some us i w is in let room = fits.1 (omega (arith, long, in_it)) in let few = room.1 in
+        let there = lands (subst InBlock kept room.0) (omega (arith, few, long, in_it)) in let lies : own.at x ≡ q = kept ∙ there.0 in
+        let at : e ≡ i * 8 + o = there.1 ∙ ap (λ (t : Ptr). i * 8 + count_of t) (sym lies) in
         -- [the own words; the right; what lies beside them; the others]
-        use1 𝓛 (‵ (word k e (get_or us i 0)) ⊛ raw (all 𝓤 Q)) (row_at 𝓛 k us o i e at (get_some us i w is)) $ split ! $
+        use1 𝓛 (‵ (word k e (get_or us i 0)) ⊛ raw (all 𝓤 Q)) (row_at 𝓛 k us o i e at in_it) $ split ! $
         rewrite ! 0 (λ (t : Ptr × ℕ). ‵ (word (block_of t.0) e t.1)) (λ l. (lies l, read us i w is l)) refl $ frame ! $
         each ! (Renotes s n i (block_of q) e) (λ y. use1 𝓛 (raw (Q y)) (all_e 𝓤 Q y) $ assume ! (‵ (word (block_of q) e y)) $
         rewrite ! 0 (λ (r : Ptr). ‵ (word (block_of r) e y)) (sym lies) refl $
@@ -133,19 +136,19 @@ module _ {M : Type 1} {𝓤 : Ura M} (𝓛 : Logic 𝓤) (R : RattleType) (own :
         read (v ∷ ws) (suc i) w e = read ws i w e
 
     -- ONE OF THE OWN WORDS, and what takes another one in its place: they lie where what is kept of the block says
-    pub own_opens : (x : R.Denot) → value_at (memory_of z.roots s) n ≡ Some x → own.at x ≡ q → word_at (memory_of z.roots s) (Word n i) ≡ Some w → Opens
-    own_opens x value lies is = let l = own_lies z.roots z.count s n i w laid is in
+    pub own_opens : (x : R.Denot) → value_at (memory_of z.roots s) n ≡ Some x → own.at x ≡ r → word_at (memory_of z.roots s) (Word n i) ≡ Some w → Opens
+    own_opens x value kept is = let l = own_lies z.roots z.count s n i w laid is in
         by (cell_at s.cells j) refl l.2 (ap value_in (sym (block_is z.roots z.count s laid n low)) ∙ value)
       where
         by : (c : Cell R.Denot) → cell_at s.cells j ≡ c → word_in (block_in c) i ≡ Some w → value_in (block_in c) ≡ Some x → Opens
         by Free here got has = absurd (cc got)
         by Claimed here got has = absurd (cc got)
-        by (Out r) here got has = absurd (cc got)
+        by (Out u) here got has = absurd (cc got)
         by (Has y es) here got has = let same : y.0 ≡ x = cc has in
-            noting y.0 y.1 (λ vs. Has (y.0, vs) es) (rest j y.0 es) here (ap own.at same ∙ lies) got (λ vs. parted j y.0 vs es) (λ vs. joined j y.0 vs es) (λ u. refl)
-        by (Held ρ r y es) here got has = let same : y.0 ≡ x = cc has in
-            noting y.0 y.1 (λ vs. Held ρ r (y.0, vs) es) (rest_held j ρ r y.0 es) here (ap own.at same ∙ lies) got (λ vs. parted_held j ρ r y.0 vs es)
-            (λ vs. joined_held j ρ r y.0 vs es) (λ u. refl)
+            noting y.0 y.1 (λ vs. Has (y.0, vs) es) (rest j y.0 es) here (ap own.at same ∙ kept) got (λ vs. parted j y.0 vs es) (λ vs. joined j y.0 vs es) (λ u. refl)
+        by (Held ρ u y es) here got has = let same : y.0 ≡ x = cc has in
+            noting y.0 y.1 (λ vs. Held ρ u (y.0, vs) es) (rest_held j ρ u y.0 es) here (ap own.at same ∙ kept) got (λ vs. parted_held j ρ u y.0 vs es)
+            (λ vs. joined_held j ρ u y.0 vs es) (λ v. refl)
 
   -- ---- with the value of the block
   abbrev owned : R.Denot × List ℕ → ℕ → ℕ → Fml
@@ -168,9 +171,14 @@ module _ {M : Type 1} {𝓤 : Ura M} (𝓛 : Logic 𝓤) (R : RattleType) (own :
       move ! (2 ∷ 0 ∷ []) $ fjoin ! $ now ! $ done !
 
 -- places without a value have none
-pub no_pieces : {M : Type 1} {𝓤 : Ura M} (𝓛 : Logic 𝓤) {D : Type 0} (own : Pieces D) (n : ℕ) → ent 𝓤 (sem 𝓛 ftrue) (sem 𝓛 (pieces own (replicate n None)))
-no_pieces 𝓛 own zero = qed 𝓛 (‵ ftrue ∷ []) ∵ done !
-no_pieces 𝓛 own (suc n) = qed 𝓛 (‵ ftrue ∷ []) ∵ use1 𝓛 (‵ (pieces own (replicate n None))) (no_pieces 𝓛 own n) $ nothing ! $ fjoin ! $ done !
+pub no_pieces : {M : Type 1} {𝓤 : Ura M} (𝓛 : Logic 𝓤) {D : Type 0} (own : Pieces D) (n : ℕ) → ent 𝓤 (emp 𝓤) (sem 𝓛 (pieces own (replicate n None)))
+no_pieces 𝓛 own zero = qed 𝓛 [] ∵ nothing ! $ done !
+no_pieces 𝓛 own (suc n) = qed 𝓛 [] ∵ use0 𝓛 (‵ (pieces own (replicate n None))) (no_pieces 𝓛 own n) $ nothing ! $ fjoin ! $ done !
+
+-- nor has a block without own words
+pub no_words : {M : Type 1} {𝓤 : Ura M} (𝓛 : Logic 𝓤) {D : Type 0} (own : Pieces D) (x : D) → own.count x ≡ 0 → ent 𝓤 (emp 𝓤) (sem 𝓛 (piece own (x, [])))
+no_words 𝓛 own x none = qed 𝓛 [] ∵ nothing ! $ rewrite ! 0 (λ (k : ℕ). ‵ (words_right k (own.at x))) (sym none) refl $ nothing ! $ fjoin ! $
+    nothing ! $ fpack ! (IsPiece own (x, [])) (λ _. ftrue) (sym none, λ low. absurd (omega (arith, low, none))) $ fjoin ! $ done !
 
 -- they are those of another value that has them where the one had them
 pub alike : {M : Type 1} {𝓤 : Ura M} (𝓛 : Logic 𝓤) {D : Type 0} (own : Pieces D) (x y : D) (us : List ℕ) → own.at x ≡ own.at y → own.count x ≡ own.count y

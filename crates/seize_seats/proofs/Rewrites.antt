@@ -24,7 +24,7 @@ use Rattle.seize_seats.specs.State.{State, Goes, Allows, Owns}
 use Rattle.seize_seats.specs.State as State
 use Rattle.seize_seats.specs.Cells.{Body, Cell, Free, Claimed, Out, Has, Held, block_in, blocks_in, cell_at}
 use Rattle.seize_seats.specs.Lines.{Parts, memory_of, AreLaid}
-use Rattle.seize_seats.specs.Lendings.{Alone, note, lendable}
+use Rattle.seize_seats.specs.Lendings.{Alone, IsValueOf, note, lendable}
 use Rattle.seize_seats.specs.Seen.{itself, shared_view, seen}
 use Rattle.seize_seats.specs.Owned.{piece, Pieces, fact, Hand, hand_coded, resting, held, row, stride, had_here, BaseId, age, IsIts, Inside, state_of, inner}
 use Rattle.seize_seats.proofs.Cells.{recelled, laid_with, block_is, blocks_set, was_given}
@@ -152,7 +152,7 @@ module _ {M : Type 1} {𝓤 : Ura M} (𝓛 : Logic 𝓤) (R : RattleType) (own :
     module _ (owns : Owns holds keeps id v n) where
       abbrev pub Holding : ℕ × R.Denot → Fml
       Holding u =
-          fsep (fact ((0 < n) × IsIts z (n - 1)))
+          fsep (fact ((0 < n) × IsIts z (n - 1) × IsValueOf holds id v n u.1))
           (fsep (Note u.0 three_quarters u.1 id v) (fsep (hands three_quarters (n - 1) (held u.0 e)) (value (n - 1) u.1)))
 
       abbrev TakenUp : Pr
@@ -164,7 +164,8 @@ module _ {M : Type 1} {𝓤 : Ura M} (𝓛 : Logic 𝓤) (R : RattleType) (own :
       has : (t : In) (g : Stands id v t) → Makings.HasBlock 𝓛 R own cv holds keeps p z n t → Asked t ⊢ upd 𝓤 TakenUp
       has t g th = let y : Body R.Denot = th.0 in let x : R.Denot = y.0 in let ws : List ℕ = th.1 in let c : Cell R.Denot = Has y ws in let cs : List (Cell R.Denot) = t.parts.cells in
           let low = th.3 in let of = Makings.is_mine 𝓛 R own cv holds keeps p z n t c mine g.1 th.2 (λ q. absurd (cc q)) low in
-          let facts : (0 < n) × IsIts z (n - 1) = (low, of) in
+          let value_is = ap value_in (block_is z.roots z.count t.parts g.1 n low ∙ ap block_in th.2) in
+          let facts : (0 < n) × IsIts z (n - 1) × IsValueOf holds id v n x = (low, of, (state_of z t, g.0, g.2, value_is)) in
           let one : n ≡ suc i = omega (arith, low) in
           let alone : Alone holds id v (suc i) = subst (λ (k : ℕ). Alone holds id v k) one (owns_alone holds keeps id v n owns) in
           qed 𝓛 (‵ (Ws t.parts) ∷ ‵ (Led t) ∷ ‵ (seat id v) ∷ ‵ (flft α e) ∷ []) ∵
@@ -195,7 +196,7 @@ module _ {M : Type 1} {𝓤 : Ura M} (𝓛 : Logic 𝓤) (R : RattleType) (own :
           move ! (0 ∷ 4 ∷ 5 ∷ []) $ use3 𝓛 (‵ I) (Makings.recell 𝓛 R own cv holds keeps p z t (g.0, g.1) i d (sym (ap block_in th.2))) $ frame ! $
           -- [three quarters of the hand; the value; three of the note]
           fjoin ! $ move ! (1 ∷ 0 ∷ []) $ fjoin ! $
-          nothing ! $ fpack ! ((0 < n) × IsIts z (n - 1)) (λ _. ftrue) facts $ fjoin ! $ fpack ! (ℕ × R.Denot) Holding (ρ, x) $ done !)
+          nothing ! $ fpack ! ((0 < n) × IsIts z (n - 1) × IsValueOf holds id v n x) (λ _. ftrue) facts $ fjoin ! $ fpack ! (ℕ × R.Denot) Holding (ρ, x) $ done !)
 
       any : (t : In) (g : Stands id v t) → Makings.HasBlock 𝓛 R own cv holds keeps p z n t ⊎ Makings.HeldBlock 𝓛 R own cv holds keeps p z n t → Asked t ⊢ upd 𝓤 TakenUp
       any t g (inl th) = has t g th

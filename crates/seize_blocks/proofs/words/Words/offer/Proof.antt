@@ -46,7 +46,7 @@ use Rattle.std.proofs.raw_atomic.PtrCalls.{Answer, answer_val, answer_good, answ
 use Rattle.seize_seats.specs.Seen.{fact as so, seen}
 use Rattle.seize_seats.specs.Strips.{Strip, strip_coded}
 use Rattle.seize_seats.specs.Doors.{before, block_bytes, words_from, IsFurther, right_to}
-use Rattle.seize_seats.specs.Owned.{Pieces, pieces_at, BaseId, IsPlaced, AreOf, age, core_of, common, strip_of, strip_told, words_share}
+use Rattle.seize_seats.specs.Owned.{Pieces, pieces, pieces_at, BaseId, IsPlaced, AreOf, age, core_of, common, strip_of, strip_told, words_share}
 use Rattle.seize_seats.specs.Owned as Owned
 use Rattle.seize_seats.proofs.Shown.{placed, told_there}
 use Rattle.seize_seats.proofs.Opening.{fives, fives_are, fives_long}
@@ -65,6 +65,7 @@ use Rattle.seize_seats.proofs.Plotted.{plot}
 use Rattle.seize_blocks.specs.contracts.words.Words.offer.{ended, clauses}
 use Rattle.seize_blocks.specs.contracts.words.Words.offer.Key.{name as #self}
 use Rattle.seize_blocks.proofs.words.Words.offer.Statement.{statement}
+use Rattle.seize_seats.proofs.Pieces.{no_pieces}
 use Rattle.seize_blocks.proofs.words.Words.offer.Code as code
 
 pub offer_spec : {M : Type 1} → statement M
@@ -77,7 +78,7 @@ offer_spec 𝓤 𝓛 𝓜 𝓡 wired X P U F LX LP LU LF g d _ =
     let Row : RattleType = words.the_row R₀ R₁ R₂ R₃ g in let St : RattleType = strip.the_row R₀ in let D : RattleType = Data R₀ R₁ R₂ R₃ g in
     let Ds : RattleType = Struct (shape (strip.the_type R₀)) in let O : RattleType = OptionOf R₀ in let Gl : RattleType = heap.the_row in
     let Rv : RattleType = row.the_row O in let Rw : RattleType = row.the_row u64 in let Dd : RattleType = deed_of.the_row R₀ Gl ghosts in
-    let Lo : RattleType = alone_of.the_row R₀ in let Pl : RattleType = place.the_row R₀ in
+    let Lo : RattleType = alone_of.the_row R₀ R₁ R₂ R₃ g in let Pl : RattleType = place.the_row R₀ in
     let self = RefOf (0 ∷ []) tt (plain (λ _. Row)) (λ _. tt) in let other = RefOf (1 ∷ []) tt (plain (λ _. St)) (λ _. tt) in
     let addr = plain (λ _. RawPtr) in let num = plain (λ _. u64) in let kept = plain (λ _. Rv) in let sixty = plain (λ _. Rw) in let right = plain (λ _. Dd) in
     let hs : Stays En.signature.params En.kept = (
@@ -222,8 +223,8 @@ offer_spec 𝓤 𝓛 𝓜 𝓡 wired X P U F LX LP LU LF g d _ =
     -- [the right; the words; the places; the two tokens; the others]
     let r₂ : Lo.Denot = record { marker = record {}; fresh = true; strips = s ∷ [] } in let Told : Type 0 = HasFirst R₀ p' n (s ∷ []) × (true ≡ true) in
     let u₁ : List ℕ × List (Option X.Denot) = (fives n, replicate n None) in
-    let Parts : List ℕ × List (Option X.Denot) → Fml = λ f. fsep (so (AreOf R₀ true s f)) (fsep (Owned.row pb (before R₀ n * 8 + po) f.0) (Owned.places R₀ pb po f.1)) in
-    move ! (1 ∷ 2 ∷ []) $ fjoin ! $ nothing ! $ fpack ! (AreOf R₀ true s u₁) (λ _. ftrue) (fives_long n, length-replicate n None, λ _. refl) $ fjoin ! $
+    let Parts : List ℕ × List (Option X.Denot) → Fml = λ f. fsep (so (AreOf R₀ own true s f)) (fsep (Owned.row pb (before R₀ n * 8 + po) f.0) (fsep (Owned.places R₀ pb po f.1) (pieces own f.1))) in
+    use0 𝓛 (‵ (pieces own (replicate n None))) (no_pieces 𝓛 own n) $ move ! (3 ∷ 0 ∷ []) $ fjoin ! $ move ! (2 ∷ 0 ∷ []) $ fjoin ! $ nothing ! $ fpack ! (AreOf R₀ own true s u₁) (λ _. ftrue) (fives_long n, length-replicate n None, λ _. refl) $ fjoin ! $
     fpack ! (List ℕ × List (Option X.Denot)) Parts u₁ $ fjoin ! $ nothing ! $ move ! (1 ∷ 0 ∷ []) $ fjoin ! $
     -- [all that come back; the two tokens; the others]
     use0 𝓛 (‵ ((Mark R₀).own_val (record {}, tt) (token ∷ []))) (mark_made R₀ 𝓛) $ fjoin ! $

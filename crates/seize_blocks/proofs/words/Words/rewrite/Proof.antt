@@ -65,6 +65,7 @@ use Rattle.seize_seats.proofs.Known.{twice}
 use Rattle.seize_seats.proofs.Lendings.{offers}
 use contract.BorrowLft.{◌⊑◌}
 use Rattle.core.proofs.once.Steps.{option_lives}
+use Rattle.seize_seats.specs.Lendings.{IsValueOf}
 
 pub rewrite_spec : {M : Type 1} → statement M
 rewrite_spec 𝓤 𝓛 𝓜 𝓡 wired X P U F LX LP LU LF g d _ =
@@ -110,6 +111,7 @@ rewrite_spec 𝓤 𝓛 𝓜 𝓡 wired X P U F LX LP LU LF g d _ =
     let others : Fml = fsep (flft κs.1.1.0 qs.1.1.0) (fsep (flft κs.1.1.1.0 qs.1.1.1.0) (fsep (flft κs.1.1.1.1.0 qs.1.1.1.1.0)
     (fsep (flft κs.1.1.1.1.1.0 qs.1.1.1.1.1.0) ftrue))) in
     let Asked : Type 0 = (h.base ≡ z.views_name) × IsItsIndex z nr j × (pv ≡ z.values) × Owns holds g.keeps id v nr ×
+    ((x : X.Denot) → IsValueOf holds id v nr x → (g.at x ≡ g.at new) × (g.count x ≡ g.count new)) ×
     Allows holds g.keeps id v (Rewrite nr new) (g.then v (Rewrite nr new)) in
     let got = one (layout X) vss.1.1.1.1.1.0 (LX₀.typed new vss.1.1.1.1.1.0 are.1.1.1.1.1.0) in let vy : Val = got.0 in
     let sv : Val = live 1 (of_list (vy ∷ [])) in
@@ -120,7 +122,7 @@ rewrite_spec 𝓤 𝓛 𝓜 𝓡 wired X P U F LX LP LU LF g d _ =
     keep ! (4 ∷ 6 ∷ 1 ∷ 2 ∷ 7 ∷ 8 ∷ 5 ∷ []) $ move ! (6 ∷ []) $ fsplit3 ! $ move ! (2 ∷ []) $ fsplit3 ! $ keep ! (1 ∷ 5 ∷ 6 ∷ 7 ∷ 8 ∷ 9 ∷ 10 ∷ []) $
     -- [the value; self; its token; the seat, by two; its token; the others]
     rewrite ! 0 (λ (ws : List Val). ‵ (R₀.own_val new ws)) got.1 refl $
-    let so : Out X.Denot → U.Denot → Type 0 = g.then v (Rewrite nr new) in let own = asked.3 in let allowed = asked.4 in let mine = asked.1.0 in let d : ℕ = nr - 1 - z.first in
+    let so : Out X.Denot → U.Denot → Type 0 = g.then v (Rewrite nr new) in let owns_it = asked.3 in let alike = asked.4 in let allowed = asked.5 in let mine = asked.1.0 in let d : ℕ = nr - 1 - z.first in
     let p' : Ptr = block_ptr bv ov in let us : List Val = vptr b o ∷ vptr b' o' ∷ vint w64 nr ∷ vint w64 j ∷ ptr_val p' ∷ vy ∷ [] in
     let Run : List Val → SProp 𝓤 = λ ws. WpFn 𝓤 H 𝓣.C 𝓣.Λ fn ws Post in
     move ! (1 ∷ []) $
@@ -148,10 +150,10 @@ rewrite_spec 𝓤 𝓛 𝓜 𝓡 wired X P U F LX LP LU LF g d _ =
     use1 𝓛 (later (‵ (seat_of 𝓛 R₀ own cv holds g.keeps p z id v))) (ends 𝓛 cv z.views_name id v h.stretch h.mark) $ await ! tt $ move ! (1 ∷ 0 ∷ []) $
     -- [the seat's fields; the seat; four of it; the token, by two; open; the invariant, twice; the value; the others]
     move ! (1 ∷ 7 ∷ []) $ join ! $ move ! (8 ∷ 6 ∷ 0 ∷ []) $
-    let Held : ℕ × X.Denot → Fml = Holding 𝓛 R₀ own cv holds g.keeps p z id v nr q₂ mine own in
+    let Held : ℕ × X.Denot → Fml = Holding 𝓛 R₀ own cv holds g.keeps p z id v nr q₂ mine owns_it in
     use3 𝓛 (later (‵ (fex (ℕ × X.Denot) Held) ⊛ ‵ (flft α q₁)))
     (reach 𝓛 R₀ own cv holds g.keeps p z q₁ (sep 𝓤 (sem 𝓛 (seat_of 𝓛 R₀ own cv holds g.keeps p z id v)) (sem 𝓛 (flft α q₂)))
-    (sem 𝓛 (fex (ℕ × X.Denot) Held)) (takes_up 𝓛 R₀ own cv holds g.keeps p z id v nr q₂ mine own)) $ await ! tt $ split ! $
+    (sem 𝓛 (fex (ℕ × X.Denot) Held)) (takes_up 𝓛 R₀ own cv holds g.keeps p z id v nr q₂ mine owns_it)) $ await ! tt $ split ! $
     fpick ! (λ u. fsplit ! $ fpick ! (λ facts. drop ! $ fsplit3 ! $
     let few = facts.1 in let high = few.1 in let low_is = few.0 in let j_is : j ≡ d = asked.1.1 facts.0 few in let room : z.size * sz < 2 ^ 63 = there.3 in
     let small : j * sz < 2 ^ 64 = indexed j z.size sz (omega (arith, high, low_is, j_is)) room in let ρ : ℕ = u.0 in let x : X.Denot = u.1 in
@@ -197,7 +199,7 @@ rewrite_spec 𝓤 𝓛 𝓜 𝓡 wired X P U F LX LP LU LF g d _ =
     (reach 𝓛 R₀ own cv holds g.keeps p z q₁
     (sep 𝓤 (sem 𝓛 Hd) (sep 𝓤 (sem 𝓛 (Note 𝓛 R₀ own cv holds g.keeps p z ρ three_quarters x id v)) (sem 𝓛 Value)))
     (sep 𝓤 (sem 𝓛 (gone_on 𝓛 R₀ own cv holds g.keeps p z id (so (Taken x)))) (sem 𝓛 (flft α q₂)))
-    (puts_back 𝓛 R₀ own cv holds g.keeps p z id v nr q₂ mine ρ x new so allowed facts.0 few)) $ await ! tt $ split ! $ split ! $
+    (puts_back 𝓛 R₀ own cv holds g.keeps p z id v nr q₂ mine ρ x new (alike x facts.2).0 (alike x facts.2).1 so allowed facts.0 few)) $ await ! tt $ split ! $ split ! $
     -- [the seat; the token, by two; the others; what it held; the fields; four; open]
     move ! (2 ∷ 1 ∷ []) $ use2 𝓛 (‵ (flft α s)) (𝓛.lfts.lft_join α s) $ move ! (9 ∷ 0 ∷ []) $ obor_close ! tt $ drop ! $
     move ! (1 ∷ []) $ fpick ! (λ v'. fsplit ! $ fpick ! (λ such. drop ! $
