@@ -8,10 +8,10 @@ ghost use Rattle.seize_seats.specs.Owned.{core_of, IsFirst};
 ghost use Rattle.seize_seats.specs.Lendings.{Shown, ShownToBoth, IsValueOf, IsValueOfBoth};
 ghost use Rattle.seize_blocks.specs.Placed.{IsItsPlace, IsItsIndex, IsBehind, HasWord};
 
+use crate::keeping::Keeping;
 use crate::part::{Spot, places_in};
 use crate::place::{Doors, Place};
 use crate::plot::skip_of;
-use crate::keeping::Keeping;
 use crate::rule::{Meeting, Turn};
 use crate::seat::Seat;
 use crate::strip::Strip;

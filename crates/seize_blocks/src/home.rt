@@ -9,10 +9,10 @@ ghost use Rattle.seize_seats.specs.Doors.{IsFurther, AreBehind};
 ghost use Rattle.seize_seats.specs.Plots.{AreEmpty};
 
 use crate::blocks::{Blocks, MOST};
+use crate::keeping::Keeping;
 use crate::place::{Doors, Place};
 use crate::plot::{Alone, give_up};
 use crate::row::Row;
-use crate::keeping::Keeping;
 use crate::words::Words;
 use core::slots::{Lease, Slots, release, reserve};
 use std::alloc::{AllocError, Global};
@@ -153,7 +153,12 @@ fn give_back<E>(ground: Ground<E>, slots: Slots<E>)
 }
 
 /// Gives back all further strips: the doors from the first on have the addresses of as many, each of as many numbers as come before it.
-fn clear<T: Drop, R: Keeping<T>>(alloc: &Global, strips: Alone<T, R>, doors: &mut Slots<*mut u64>, least: u64)
+fn clear<T: Drop, R: Keeping<T>>(
+    alloc: &Global,
+    strips: Alone<T, R>,
+    doors: &mut Slots<*mut u64>,
+    least: u64,
+)
     requires { IsFull doors.old × (slots_len doors.old ≡ 32) × AreBehind (IsFurther T.row least) 0 strips.strips (slots_items doors.old) }
     ensures { (slots_ptr doors.new ≡ slots_ptr doors.old) × (slots_len doors.new ≡ slots_len doors.old) }
 {

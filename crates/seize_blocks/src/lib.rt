@@ -6,6 +6,7 @@ mod claim;
 mod home;
 mod keeping;
 mod numbers;
+mod own;
 mod part;
 mod place;
 mod plot;

@@ -6,9 +6,9 @@ ghost use Rattle.seize_blocks.specs.Parts.{IsHad, IsPart, IsClaimed};
 
 use crate::blocks::{Blocks, MOST};
 use crate::claim::Claim;
+use crate::keeping::Keeping;
 use crate::part::{Part, places_in};
 use crate::plot::{fits, lay_strip, skip_of, take_back};
-use crate::keeping::Keeping;
 use std::ptr::NonNull;
 
 /// The index itself, or the first one where there are not so many.

@@ -13,10 +13,10 @@ ghost use Rattle.seize_blocks.specs.Placed.{IsItsPlace, IsItsSign, IsItsIndex};
 ghost use Rattle.seize_seats.specs.Plots.{HasFirst};
 
 use crate::claim::Claim;
+use crate::keeping::Keeping;
 use crate::place::{Doors, Place};
 use crate::plot::{Alone, Deed};
 use crate::row::Row;
-use crate::keeping::Keeping;
 use crate::rule::{Meeting, Turn};
 use crate::seat::Seat;
 use crate::strip::Strip;
