@@ -1,12 +1,14 @@
-//! Steps on words of a block's own, from the address at which they were seen to lie. The index is that of the block's number, if there is such a block.
+//! Steps on words of a block's own, from the address at which they were seen to lie, and a step by which a seat sees it. The index is that of the block's
+//! number, if there is such a block.
 ghost use Rattle.std.specs.Prelude.{◌≡◌};
 ghost use Rattle.seize_words.specs.Op.{Load, Store, Swap, Add, Or, Exchange, Found, Stored, Exchanged};
 ghost use Rattle.seize_words.specs.declared.at.At.TheVariants.{Word};
-ghost use Rattle.seize_seats.specs.State.{Allows};
+ghost use Rattle.seize_seats.specs.State.{Allows, Turns};
 ghost use Rattle.seize_seats.specs.Visits.{IsOwnPlace};
 ghost use Rattle.seize_blocks.specs.Placed.{IsItsIndex};
 
 use crate::keeping::Keeping;
+use crate::rule::TurnAbout;
 use crate::seat::Seat;
 use crate::words::Words;
 use std::marker::Brand;
@@ -14,6 +16,17 @@ use std::sync::atomic::Ordering::SeqCst;
 use std::sync::atomic::raw;
 
 impl<T, R: Keeping<T>> Words<T, R> {
+    /// A step without an operation, which is about a number.
+    pub(crate) fn turn_about<M: TurnAbout<R::Fixed, R::View>>(
+        &self,
+        seat: &mut Seat<T, R>,
+        _number: u64,
+    )
+        requires { (seat.old.base ≡ self.now.id.views_name)
+            × Turns (R.holds self.now.fixed) R.keeps seat.old.id seat.old.view (M.to self.now.fixed seat.old.view _number) }
+        ensures { (seat.new.base ≡ seat.old.base) × (seat.new.id ≡ seat.old.id) × M.to self.now.fixed seat.old.view _number seat.new.view }
+    {}
+
     /// Reads a word of a block's own.
     pub(crate) fn own_load(
         &self,
