@@ -7,7 +7,7 @@ use Rattle.seize_words.specs.Mem.{block_of, entry_in, value_in}
 use Rattle.seize_words.specs.declared.at.At.TheVariants.{Entry}
 use Rattle.seize_words.specs.declared.block.Block.{Block}
 use Rattle.seize_seats.specs.State.{State, Allows, Owns}
-use Rattle.seize_seats.specs.Lendings.{ShownToBoth, IsValueOf}
+use Rattle.seize_seats.specs.Lendings.{ShownToBoth}
 use Rattle.seize_seats.specs.Owned.{BaseId}
 use Rattle.seize_blocks.specs.Placed.{IsItsPlace, IsItsSign, IsItsIndex, HasWord}
 use Rattle.seize_blocks.specs.declared.claim.Claim.{Claim}
@@ -33,28 +33,21 @@ module _ {T V W F : Type 0} (holds : F → State T V W → Type 0) (keeps : V �
       × (first + 2 ≡ first + 2) × (first + 3 ≡ first + 3) × (first + 4 ≡ first + 4) × (first + 4 < 2 ^ 60) × Allows (holds u.1) keeps id v (Take block) so)
       (λ i. (sym e.1 i, sym e.2 i)) (own ∙ sym e.3, lies, values, is, refl, refl, refl, refl, few, may)
 
-  -- any value that the block has under this view has the same own words as another one
-  abbrev pub Alike : (T → Ptr) → (T → ℕ) → F → ℕ → V → ℕ → T → Type 0
-  Alike lies many f id v block value = (x : T) → IsValueOf (holds f) id v block x → (lies x ≡ lies value) × (many x ≡ many value)
-
-  pub on_rewrite : (base id block index : ℕ) (v : V) (value : T) (lies : T → Ptr) (many : T → ℕ) (at p q : Ptr) (y z x : BaseId) (f h : F) (so : Out T → V → Type 0) → Same p q y z x f h
-      → base ≡ x.views_name → IsItsIndex z block index → at ≡ z.values → Owns (holds h) keeps id v block → Alike lies many h id v block value
-      → Allows (holds h) keeps id v (Rewrite block value) so
-      → (base ≡ y.views_name) × IsItsIndex y block index × (at ≡ y.values) × Owns (holds f) keeps id v block × Alike lies many f id v block value × Allows (holds f) keeps id v (Rewrite block value) so
-  on_rewrite base id block index v value lies many at p q y z x f h so e own its values alone alike may =
+  pub on_rewrite : (base id block index : ℕ) (v : V) (value : T) (at p q : Ptr) (y z x : BaseId) (f h : F) (so : Out T → V → Type 0) → Same p q y z x f h
+      → base ≡ x.views_name → IsItsIndex z block index → at ≡ z.values → Owns (holds h) keeps id v block → Allows (holds h) keeps id v (Rewrite block value) so
+      → (base ≡ y.views_name) × IsItsIndex y block index × (at ≡ y.values) × Owns (holds f) keeps id v block × Allows (holds f) keeps id v (Rewrite block value) so
+  on_rewrite base id block index v value at p q y z x f h so e own lies values alone may =
       subst (λ (u : BaseId × F). (base ≡ u.0.views_name) × IsItsIndex u.0 block index × (at ≡ u.0.values) × Owns (holds u.1) keeps id v block
-      × Alike lies many u.1 id v block value × Allows (holds u.1) keeps id v (Rewrite block value) so) (λ i. (sym e.1 i, sym e.2 i))
-      (own ∙ sym e.3, its, values, alone, alike, may)
+      × Allows (holds u.1) keeps id v (Rewrite block value) so) (λ i. (sym e.1 i, sym e.2 i)) (own ∙ sym e.3, lies, values, alone, may)
 
-  pub on_put : (base id index first count words many : ℕ) (v : V) (value : T) (at p q : Ptr) (y z x : BaseId) (f h : F) (claim : Claim) (so : Out T → V → Type 0)
+  pub on_put : (base id index first count words : ℕ) (v : V) (value : T) (at p q : Ptr) (y z x : BaseId) (f h : F) (claim : Claim) (so : Out T → V → Type 0)
       → Same p q y z x f h → base ≡ x.views_name → (claim.found ≡ 0) × (claim.base ≡ x.hands_name) × (claim.index ≡ first + index)
-      → z.values ≡ at → z.first ≡ first → z.size ≡ count → index < count → first + count ≤ 2 ^ 32 → words ≡ 0 → many ≡ 0
-      → Allows (holds h) keeps id v (Make value words) so
+      → z.values ≡ at → z.first ≡ first → z.size ≡ count → index < count → first + count ≤ 2 ^ 32 → words ≡ 0 → Allows (holds h) keeps id v (Make value words) so
       → (base ≡ y.views_name) × (claim.base ≡ y.hands_name) × (claim.found ≡ 0) × (claim.index ≡ y.first + index) × (index < y.size) × (y.first + index + 1 < 2 ^ 53)
-      × (at ≡ y.values) × (words ≡ 0) × (many ≡ 0) × Allows (holds f) keeps id v (Make value words) so
-  on_put base id index first count words many v value at p q y z x f h claim so e own had values begins size lt few none bare may =
+      × (at ≡ y.values) × (words ≡ 0) × Allows (holds f) keeps id v (Make value words) so
+  on_put base id index first count words v value at p q y z x f h claim so e own had values begins size lt few none may =
       subst (λ (u : BaseId × F). (base ≡ u.0.views_name) × (claim.base ≡ u.0.hands_name) × (claim.found ≡ 0) × (claim.index ≡ u.0.first + index) × (index < u.0.size)
-      × (u.0.first + index + 1 < 2 ^ 53) × (at ≡ u.0.values) × (words ≡ 0) × (many ≡ 0) × Allows (holds u.1) keeps id v (Make value words) so)
+      × (u.0.first + index + 1 < 2 ^ 53) × (at ≡ u.0.values) × (words ≡ 0) × Allows (holds u.1) keeps id v (Make value words) so)
       (λ i. (sym e.1 i, sym e.2 i)) (
         own ∙ sym e.3,
         had.1 ∙ sym e.4,
@@ -64,7 +57,6 @@ module _ {T V W F : Type 0} (holds : F → State T V W → Type 0) (keeps : V �
         omega (arith, begins, lt, few),
         sym values,
         none,
-        bare,
         may,
       )
 

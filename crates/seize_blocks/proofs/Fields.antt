@@ -27,7 +27,7 @@ use denote.Struct.Owning.{shape}
 use denote.Struct.Tuple.{Tuple}
 use Rattle.core.proofs.atomic.Steps.{Ptr-Good}
 use Rattle.std.specs.contracts.marker.PhantomData as marker
-use Rattle.seize_blocks.specs.declared.keeping.Keeping.{Ghosts}
+use Rattle.seize_blocks.specs.declared.rule.Rule.{Ghosts}
 use Rattle.seize_blocks.specs.contracts.words.Words as words
 use Rattle.seize_blocks.specs.contracts.seat.Seat as seat
 use Rattle.seize_blocks.specs.contracts.row.Row as row

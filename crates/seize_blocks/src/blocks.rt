@@ -8,11 +8,10 @@ ghost use Rattle.seize_seats.specs.Owned.{core_of, IsFirst};
 ghost use Rattle.seize_seats.specs.Lendings.{Shown, ShownToBoth, IsValueOf, IsValueOfBoth};
 ghost use Rattle.seize_blocks.specs.Placed.{IsItsPlace, IsItsIndex, IsBehind, HasWord};
 
-use crate::keeping::Keeping;
 use crate::part::{Spot, places_in};
 use crate::place::{Doors, Place};
 use crate::plot::skip_of;
-use crate::rule::{Meeting, Turn};
+use crate::rule::{Meeting, Rule, Turn};
 use crate::seat::Seat;
 use crate::strip::Strip;
 use crate::words::Words;
@@ -24,7 +23,7 @@ pub(crate) const MOST: u64 = 4294967296;
 
 /// A memory that threads share under a rule. It has words of roots and of the slots of the first bucket, and numbers for blocks, which have no words of
 /// their own yet: so many in the first strip, and as many again with each further one, which is laid where it is needed.
-pub struct Blocks<T, R: Keeping<T>> {
+pub struct Blocks<T, R: Rule<T>> {
     pub(crate) alloc: Global,
     pub words: Words<T, R>,
     pub(crate) roots: u64,
@@ -37,7 +36,7 @@ pub struct Blocks<T, R: Keeping<T>> {
     ghost few: { (roots ≤ 65536) × (0 < count) × (count ≤ 2 ^ 32) },
 }
 
-impl<T, R: Keeping<T>> Blocks<T, R> {
+impl<T, R: Rule<T>> Blocks<T, R> {
     /// Where the word of a name lies: in which strip, and at which place. Whatever the state is, if the seat has this view then there is such a word.
     #[inline(always)]
     fn place_of(&self, seat: &Seat<T, R>, at: At) -> (Strip<T>, u64)
@@ -269,7 +268,7 @@ impl<T, R: Keeping<T>> Blocks<T, R> {
     }
 
     /// Makes a block of a value and as many words, each 0, and answers its number. There are no blocks with words of their own yet. Where such
-    /// a block is asked for, or no number is free and there is no memory for more, the value comes back. A number is looked for from `near` on, which is then
+    /// a block is asked for, or no number is free and no further strip can be laid, the value comes back. A number is looked for from `near` on, which is then
     /// where to look for the next one: with one of their own, those who make blocks don't meet.
     pub fn make(
         &self,
@@ -278,7 +277,6 @@ impl<T, R: Keeping<T>> Blocks<T, R> {
         value: T,
         words: u64,
     ) -> Result<u64, T>
-        requires bare { R.count value ≡ 0 }
         requires own { seat.old.base ≡ self.now.words.id.views_name }
         requires may { Allows (R.holds self.now.words.fixed) R.keeps seat.old.id seat.old.view (Make value words) (R.then seat.old.view (Make value words)) }
         ensures same { (seat.new.base ≡ seat.old.base) × (seat.new.id ≡ seat.old.id) }
@@ -328,7 +326,6 @@ impl<T, R: Keeping<T>> Blocks<T, R> {
 
     /// Replaces the value of a block that the seat has to itself, and answers the one before.
     pub fn rewrite(&self, seat: &mut Seat<T, R>, block: u64, value: T) -> T
-        requires alike { (x : T) → IsValueOf (R.holds self.now.words.fixed) seat.old.id seat.old.view block x → (R.at x ≡ R.at value) × (R.count x ≡ R.count value) }
         requires own { seat.old.base ≡ self.now.words.id.views_name }
         requires alone { Owns (R.holds self.now.words.fixed) R.keeps seat.old.id seat.old.view block }
         requires may { Allows (R.holds self.now.words.fixed) R.keeps seat.old.id seat.old.view (Rewrite block value) (R.then seat.old.view (Rewrite block value)) }

@@ -9,17 +9,17 @@ ghost use Rattle.seize_seats.specs.Doors.{IsFurther, AreBehind};
 ghost use Rattle.seize_seats.specs.Plots.{AreEmpty};
 
 use crate::blocks::{Blocks, MOST};
-use crate::keeping::Keeping;
 use crate::place::{Doors, Place};
 use crate::plot::{Alone, give_up};
 use crate::row::Row;
+use crate::rule::Rule;
 use crate::words::Words;
 use core::slots::{Lease, Slots, release, reserve};
 use std::alloc::{AllocError, Global};
 use std::ptr::{NonNull, null_mut};
 
 /// A memory with the right to give its words and places back. It stays with the thread that made it, and lends the memory to others.
-pub struct Home<T: Drop, R: Keeping<T>> {
+pub struct Home<T: Drop, R: Rule<T>> {
     pub blocks: Blocks<T, R>,
     ground: Ground<u64>,
     places: Ground<Option<T>>,
@@ -153,12 +153,7 @@ fn give_back<E>(ground: Ground<E>, slots: Slots<E>)
 }
 
 /// Gives back all further strips: the doors from the first on have the addresses of as many, each of as many numbers as come before it.
-fn clear<T: Drop, R: Keeping<T>>(
-    alloc: &Global,
-    strips: Alone<T, R>,
-    doors: &mut Slots<*mut u64>,
-    least: u64,
-)
+fn clear<T: Drop>(alloc: &Global, strips: Alone<T>, doors: &mut Slots<*mut u64>, least: u64)
     requires { IsFull doors.old × (slots_len doors.old ≡ 32) × AreBehind (IsFurther T.row least) 0 strips.strips (slots_items doors.old) }
     ensures { (slots_ptr doors.new ≡ slots_ptr doors.old) × (slots_len doors.new ≡ slots_len doors.old) }
 {
@@ -175,7 +170,7 @@ fn clear<T: Drop, R: Keeping<T>>(
     }
 }
 
-impl<T: Drop, R: Keeping<T>> Home<T, R> {
+impl<T: Drop, R: Rule<T>> Home<T, R> {
     /// A memory of so many roots, with no seat yet, and numbers for so many blocks at first, at least one. The slots have no words yet.
     pub fn open(alloc: Global, roots: u64, count: u64, fixed: &R::Fixed) -> Result<Self, AllocError>
         requires few { (roots ≤ 65536) × (count ≤ 2 ^ 32) }
@@ -223,7 +218,7 @@ impl<T: Drop, R: Keeping<T>> Home<T, R> {
     }
 }
 
-impl<T: Drop, R: Keeping<T>> Drop for Home<T, R> {
+impl<T: Drop, R: Rule<T>> Drop for Home<T, R> {
     fn drop(self) {
         let Home {
             blocks,

@@ -4,9 +4,7 @@
 mod blocks;
 mod claim;
 mod home;
-mod keeping;
 mod numbers;
-mod own;
 mod part;
 mod place;
 mod plot;
@@ -18,7 +16,6 @@ mod words;
 
 pub use blocks::Blocks;
 pub use home::Home;
-pub use keeping::Keeping;
 pub use rule::{Meeting, Rule, Turn};
 pub use seat::Seat;
 pub use words::Words;

@@ -6,20 +6,20 @@ ghost use Rattle.seize_blocks.specs.Parts.{IsHad, IsPart, IsClaimed};
 
 use crate::blocks::{Blocks, MOST};
 use crate::claim::Claim;
-use crate::keeping::Keeping;
 use crate::part::{Part, places_in};
 use crate::plot::{fits, lay_strip, skip_of, take_back};
+use crate::rule::Rule;
 use std::ptr::NonNull;
 
-/// The index itself, or the first one where there are not so many.
+/// The index itself, or what is left of it round at so many.
 fn within(index: u64, count: u64) -> u64
     requires { 0 < count }
     ensures { result < count }
 {
-    if index < count { index } else { 0 }
+    if index < count { index } else { index % count }
 }
 
-impl<T, R: Keeping<T>> Blocks<T, R> {
+impl<T, R: Rule<T>> Blocks<T, R> {
     /// The first strip.
     fn first_part(&self) -> Part<T>
         ensures { IsPart self.now.words.id result 0 }
@@ -145,13 +145,13 @@ impl<T, R: Keeping<T>> Blocks<T, R> {
         }
     }
 
-    /// A number of any strip. Where none is free a strip more is laid.
-    fn anywhere(&self) -> Option<(Part<T>, u64, Claim)>
+    /// A number of any strip, in each from this index on, round at its end. Where none is free a strip more is laid.
+    fn anywhere(&self, from: u64) -> Option<(Part<T>, u64, Claim)>
         ensures { IfSome result (λ c. IsClaimed self.now.words.id c) }
     {
         let mut part = self.first_part();
         for door in 0..33 {
-            if let Some((index, claim)) = self.claim_in(&part, 0) {
+            if let Some((index, claim)) = self.claim_in(&part, from) {
                 return Some((part, index, claim));
             }
             match self.next_part(&part, door) {
@@ -171,7 +171,7 @@ impl<T, R: Keeping<T>> Blocks<T, R> {
         }
         match self.near(from) {
             Some(claimed) => Some(claimed),
-            None => self.anywhere(),
+            None => self.anywhere(from),
         }
     }
 }

@@ -8,11 +8,10 @@ ghost use Rattle.core.specs.Mem.Slots.{slots_items, slots_filled, slots_ptr, slo
 ghost use Rattle.core.specs.Mem.Slots.Ownership.{Filled};
 ghost use Rattle.seize_seats.specs.Strips.{Strip, strip_coded, further};
 ghost use Rattle.seize_seats.specs.Doors.{before, block_bytes, words_from, deed};
-ghost use Rattle.seize_seats.specs.Owned.{stride, pieces_at, all_alone};
+ghost use Rattle.seize_seats.specs.Owned.{stride, all_alone};
 ghost use Rattle.seize_seats.specs.Plots.{AreEmpty, HasFirst};
 
 use crate::home::{drain, empty, fill};
-use crate::keeping::Keeping;
 use crate::row::Row;
 use core::slots::Slots;
 use std::alloc::{AllocError, Allocator, Global};
@@ -31,16 +30,16 @@ impl<T, A: Allocator> Model for Deed<T, A> {
     ghost also_owns = { λ s. deed T.row (A.dealloc_token s.heap) s.count s.at };
 }
 
-/// Further strips with their blocks' own words, and with the rights to give their memory back: fresh ones, that have no value yet, or others. It has no bytes.
+/// Further strips, with the rights to give their blocks back: fresh ones, that have no value yet, or others. It has no bytes.
 #[derive(Drop)]
-pub(crate) struct Alone<T, R: Keeping<T>> {
-    pub(crate) marker: PhantomData<(T, R)>,
+pub(crate) struct Alone<T> {
+    pub(crate) marker: PhantomData<T>,
     pub(crate) ghost fresh: { Bool },
     pub(crate) ghost strips: { List Strip } by { coded_list strip_coded },
 }
 
-impl<T, R: Keeping<T>> Model for Alone<T, R> {
-    ghost also_owns = { λ s. all_alone T.row (pieces_at R.at R.count) s.fresh s.strips };
+impl<T> Model for Alone<T> {
+    ghost also_owns = { λ s. all_alone T.row s.fresh s.strips };
 }
 
 /// How many bytes a place has.
@@ -121,7 +120,7 @@ fn release<T, A: Allocator>(
     }
 }
 
-impl<T, R: Keeping<T>> Alone<T, R> {
+impl<T> Alone<T> {
     /// The first of the strips, of so many numbers, and the others.
     fn parted(
         self,
@@ -129,7 +128,7 @@ impl<T, R: Keeping<T>> Alone<T, R> {
         at: *mut Option<T>,
         _count: usize,
         skip: usize,
-    ) -> (Row<Option<T>>, Row<u64>, Deed<T, Global>, Alone<T, R>)
+    ) -> (Row<Option<T>>, Row<u64>, Deed<T, Global>, Alone<T>)
         requires { HasFirst T.row at _count self.strips × (skip ≡ before T.row _count) × (block_bytes T.row _count < 2 ^ 63) }
         ensures { (result.0.at ≡ at) × (result.1.at ≡ words_from T.row _count at) × (length result.0.items ≡ _count) × (length result.1.items ≡ _count * 5)
             × Filled result.0.filled 0 (length result.0.items) × Filled result.1.filled 0 (length result.1.items)
@@ -192,12 +191,7 @@ fn vacate<T>(slots: &mut Slots<Option<T>>, count: usize)
 }
 
 /// Gives the block of a fresh strip back.
-pub(crate) fn take_back<T, R: Keeping<T>>(
-    alloc: &Global,
-    strips: Alone<T, R>,
-    at: *mut Option<T>,
-    count: usize,
-)
+pub(crate) fn take_back<T>(alloc: &Global, strips: Alone<T>, at: *mut Option<T>, count: usize)
     requires { HasFirst T.row at count strips.strips × (strips.fresh ≡ true) × (block_bytes T.row count < 2 ^ 63) × (count * stride T.row < 2 ^ 63) }
 {
     let skip = skip_of::<T>(count);
@@ -214,12 +208,12 @@ pub(crate) fn take_back<T, R: Keeping<T>>(
 }
 
 /// Drops what the first of the strips holds, and gives its block back. The others stay.
-pub(crate) fn give_up<T: Drop, R: Keeping<T>>(
+pub(crate) fn give_up<T: Drop>(
     alloc: &Global,
-    strips: Alone<T, R>,
+    strips: Alone<T>,
     at: *mut Option<T>,
     count: usize,
-) -> Alone<T, R>
+) -> Alone<T>
     requires { HasFirst T.row at count strips.strips × (block_bytes T.row count < 2 ^ 63) × (count * stride T.row < 2 ^ 63) }
     ensures { result.strips ≡ further strips.strips }
 {

@@ -32,11 +32,6 @@ pub trait Turn<F, V> {
     ghost to: { F → V → V → Type 0 };
 }
 
-/// The same of a step that is about a number.
-pub(crate) trait TurnAbout<F, V> {
-    ghost to: { F → V → ℕ → V → Type 0 };
-}
-
 /// What a meeting of two seats makes of both views: what was chosen, the one view and the other before it, and after it.
 pub trait Meeting<F, V> {
     ghost to: { F → V → V → V → V → Type 0 };

@@ -2,11 +2,11 @@
 ghost use Rattle.std.specs.Prelude.{ℕ};
 ghost use Rattle.seize_seats.specs.Stretches.{seat_owns, seat_shares};
 
-use crate::keeping::Keeping;
+use crate::rule::Rule;
 use std::marker::{Model, PhantomData};
 
 /// The right to take steps, with what is known by those taken so far. It has no bytes.
-pub struct Seat<T, R: Keeping<T>> {
+pub struct Seat<T, R: Rule<T>> {
     pub(crate) marker: PhantomData<(T, R)>,
     pub ghost base: { ℕ },
     pub ghost id: { ℕ },
@@ -15,18 +15,18 @@ pub struct Seat<T, R: Keeping<T>> {
     pub(crate) ghost mark: { ℕ },
 }
 
-impl<T, R: Keeping<T>> Model for Seat<T, R> {
+impl<T, R: Rule<T>> Model for Seat<T, R> {
     ghost also_owns = { λ s. seat_owns R.View.row.coded.code s.base s.id s.view s.stretch s.mark };
 
     ghost also_shares = { λ s _ κ. seat_shares R.View.row.coded.code s.base s.id s.view s.stretch s.mark κ };
 }
 
-impl<T, R: Keeping<T>> Drop for Seat<T, R> {
+impl<T, R: Rule<T>> Drop for Seat<T, R> {
     fn drop(self) {
         let Self { marker: _ } = self;
     }
 }
 
-unsafe impl<T, R: Keeping<T>> Send for Seat<T, R> {}
+unsafe impl<T, R: Rule<T>> Send for Seat<T, R> {}
 
-unsafe impl<T, R: Keeping<T>> Sync for Seat<T, R> {}
+unsafe impl<T, R: Rule<T>> Sync for Seat<T, R> {}

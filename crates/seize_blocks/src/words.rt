@@ -1,4 +1,4 @@
-//! The words, and what one step of a seat does to them: one atomic operation on a word, or none.
+//! The words, and what one step of a seat does to them: one atomic operation on a word, or none. And the doors behind which further strips lie.
 ghost use Rattle.std.specs.Prelude.{◌≡◌, ℕ, ◌+◌, ◌-◌, ◌*◌, ◌^◌, ◌<◌, ◌≤◌, Some, None, true, Ok, Err, IfErr, length, slice_index, slice_index_or};
 ghost use denote.RawPtr.{InBlock, Testable, null_ptr};
 ghost use Rattle.core.specs.Mem.Slots.Ownership.{Filled};
@@ -7,17 +7,16 @@ ghost use Rattle.seize_seats.specs.State.{Allows, Owns, Turns, Comes, Meets, Ren
 ghost use Rattle.seize_seats.specs.Lines.{whole};
 ghost use Rattle.seize_seats.specs.Doors.{before, block_bytes, words_from, IsFurther, AreBehind};
 ghost use Rattle.seize_seats.specs.Steps.{roomed};
-ghost use Rattle.seize_seats.specs.Lendings.{ShownToBoth, IsValueOf, IsValueOfBoth};
-ghost use Rattle.seize_seats.specs.Owned.{BaseId, base_id_coded, core_of, stride, IsFirst, IsLike, pieces_at, words_own, words_share};
+ghost use Rattle.seize_seats.specs.Lendings.{ShownToBoth, IsValueOfBoth};
+ghost use Rattle.seize_seats.specs.Owned.{BaseId, base_id_coded, core_of, stride, IsFirst, IsLike, words_own, words_share};
 ghost use Rattle.seize_blocks.specs.Placed.{IsItsPlace, IsItsSign, IsItsIndex};
 ghost use Rattle.seize_seats.specs.Plots.{HasFirst};
 
 use crate::claim::Claim;
-use crate::keeping::Keeping;
 use crate::place::{Doors, Place};
 use crate::plot::{Alone, Deed};
 use crate::row::Row;
-use crate::rule::{Meeting, Turn};
+use crate::rule::{Meeting, Rule, Turn};
 use crate::seat::Seat;
 use crate::strip::Strip;
 use seize_words::At;
@@ -28,20 +27,20 @@ use std::sync::atomic::Ordering::SeqCst;
 use std::sync::atomic::raw;
 
 /// Words, and places for values, by one strip of the numbers of a memory.
-pub struct Words<T, R: Keeping<T>> {
+pub struct Words<T, R: Rule<T>> {
     pub(crate) words: *mut u64,
     marker: PhantomData<(T, R)>,
     pub ghost id: { BaseId } by { base_id_coded },
     pub ghost fixed: { R.Fixed } by { R.Fixed.code },
 }
 
-impl<T, R: Keeping<T>> Model for Words<T, R> {
-    ghost also_owns = { λ s. words_own T.row (pieces_at R.at R.count) R.View.row.coded.code (R.holds s.fixed) s.words s.id };
+impl<T, R: Rule<T>> Model for Words<T, R> {
+    ghost also_owns = { λ s. words_own T.row R.View.row.coded.code (R.holds s.fixed) s.words s.id };
 
-    ghost also_shares = { λ s _ κ. words_share T.row (pieces_at R.at R.count) R.View.row.coded.code (R.holds s.fixed) s.words s.id κ };
+    ghost also_shares = { λ s _ κ. words_share T.row R.View.row.coded.code (R.holds s.fixed) s.words s.id κ };
 }
 
-impl<T, R: Keeping<T>> Words<T, R> {
+impl<T, R: Rule<T>> Words<T, R> {
     /// The words, each 0, of so many roots go under the rule, with places for so many values, each of them empty. There are `most` numbers at most.
     pub(crate) fn open(
         row: Row<u64>,
@@ -79,7 +78,7 @@ impl<T, R: Keeping<T>> Words<T, R> {
         self,
         values: *mut Option<T>,
         doors: *mut *mut u64,
-    ) -> (Row<u64>, Row<Option<T>>, Row<*mut u64>, Alone<T, R>)
+    ) -> (Row<u64>, Row<Option<T>>, Row<*mut u64>, Alone<T>)
         requires { (values ≡ self.id.values) × (doors ≡ self.id.doors) × IsFirst self.words self.id }
         ensures { (result.0.at ≡ self.words) × (length result.0.items ≡ whole self.id.roots self.id.size) × (result.1.at ≡ values)
             × (length result.1.items ≡ self.id.size) × (result.2.at ≡ doors) × (length result.2.items ≡ 32)
@@ -163,7 +162,7 @@ impl<T, R: Keeping<T>> Words<T, R> {
         places: Row<Option<T>>,
         words: Row<u64>,
         deed: Deed<T, Global>,
-    ) -> (Result<*mut u64, *mut u64>, Place<T>, Alone<T, R>)
+    ) -> (Result<*mut u64, *mut u64>, Place<T>, Alone<T>)
         requires { (core_of last.now.id ≡ core_of self.now.id) × InBlock last.now.words × (last.now.id.place ≡ index)
             × (last.now.id.first + last.now.id.size ≡ deed.count) × (deed.count ≡ self.now.id.least * 2 ^ index)
             × (deed.count + deed.count ≤ self.now.id.count) × (doors ≡ self.now.id.doors) × (index < 32)
@@ -220,7 +219,7 @@ impl<T, R: Keeping<T>> Words<T, R> {
         }
     }
 
-    /// The words of a strip of the same memory, for as long as both are borrowed.
+    /// The words of a strip of the same memory, for as long as both are borrowed. A strip is laid out as they are: both are one address.
     pub(crate) fn by<'g>(&'g self, strip: &'g Strip<T>) -> &'g Words<T, R>
         requires { (core_of strip.now.id ≡ core_of self.now.id) × InBlock strip.now.words }
         ensures { (result.now.words ≡ strip.now.words) × (result.now.id ≡ strip.now.id) × (result.now.fixed ≡ self.now.fixed)
@@ -250,7 +249,7 @@ impl<T, R: Keeping<T>> Words<T, R> {
     )
         requires { (seat.old.base ≡ self.now.id.views_name) × (claim.base ≡ self.now.id.hands_name) × (claim.found ≡ 0) × (claim.index ≡ self.now.id.first + index)
             × (index < self.now.id.size) × (self.now.id.first + index + 1 < 2 ^ 53) × (values ≡ self.now.id.values)
-            × (_words ≡ 0) × (R.count value ≡ 0)
+            × (_words ≡ 0)
             × Allows (R.holds self.now.fixed) R.keeps seat.old.id seat.old.view (Make value _words) (R.then seat.old.view (Make value _words)) }
         ensures { (seat.new.base ≡ seat.old.base) × (seat.new.id ≡ seat.old.id)
             × R.then seat.old.view (Make value _words) (Made (Ok (self.now.id.first + index + 1))) seat.new.view }
@@ -293,7 +292,7 @@ impl<T, R: Keeping<T>> Words<T, R> {
         }
     }
 
-    /// Replaces the value of a block that the seat has to itself by one that has the same own words, and answers the one before. The index is that of its number, if there is such a block.
+    /// Replaces the value of a block that the seat has to itself, and answers the one before. The index is that of its number, if there is such a block.
     pub(crate) fn rewrite(
         &self,
         seat: &mut Seat<T, R>,
@@ -305,7 +304,6 @@ impl<T, R: Keeping<T>> Words<T, R> {
         requires { (seat.old.base ≡ self.now.id.views_name) × IsItsIndex self.now.id block index
             × (values ≡ self.now.id.values)
             × Owns (R.holds self.now.fixed) R.keeps seat.old.id seat.old.view block
-            × ((x : T) → IsValueOf (R.holds self.now.fixed) seat.old.id seat.old.view block x → (R.at x ≡ R.at value) × (R.count x ≡ R.count value))
             × Allows (R.holds self.now.fixed) R.keeps seat.old.id seat.old.view (Rewrite block value) (R.then seat.old.view (Rewrite block value)) }
         ensures { (seat.new.base ≡ seat.old.base) × (seat.new.id ≡ seat.old.id)
             × ((x : T) × (result ≡ Some x) × R.then seat.old.view (Rewrite block value) (Taken x) seat.new.view) }
@@ -424,6 +422,6 @@ impl<T, R: Keeping<T>> Words<T, R> {
     }
 }
 
-unsafe impl<T: Send + Sync, R: Keeping<T>> Send for Words<T, R> {}
+unsafe impl<T: Send + Sync, R: Rule<T>> Send for Words<T, R> {}
 
-unsafe impl<T: Send + Sync, R: Keeping<T>> Sync for Words<T, R> {}
+unsafe impl<T: Send + Sync, R: Rule<T>> Sync for Words<T, R> {}

@@ -2,7 +2,7 @@
 use Rattle.std.specs.Prelude.{slice_index_or}
 use Rattle.std.proofs.Common.{◌≡◌, ℕ, ◌+◌, ◌*◌, ◌^◌, ◌<◌, Bool, true, None, List, [], ◌∷◌, length, sym, refl, ap, ◌∙◌, subst, w64, arith, Option}
 use Rattle.std.proofs.lemmas.List.{length-replicate}
-use mir.Syntax.{dcons, dnil, a_type, named}
+use mir.Syntax.{a_type, named}
 use mir.MapTy.{inst_fn}
 use mir.Val.{Val, vint, vptr, vstruct, vcons, vnil}
 use prog.Wp.{WpFn}
@@ -17,11 +17,11 @@ use denote.Exit.{yes, no}
 use denote.RattleType.{RattleType, Valss, owns}
 use denote.Struct.Struct.{within}
 use denote.Struct.Declared as declared
-use denote.Struct.Tuple.{Tuple, tuple_type}
+use denote.Struct.Tuple.{tuple_type}
 use denote.Signature.{types_at, plain}
 use denote.RawPtr.{Ptr, block_ptr, block_of, count_of, at_block, ptr_val, rawptr_vals, rawptr_Tells}
 use denote.Steps.{nothing, heard}
-use denote.Param.{param, bounded}
+use denote.Param.{param, layouts}
 use denote.Builtin.{RefOf, RawPtr, u64, usize}
 use denote.Plain.{uint_vals, uint_Tells}
 use denote.Ref.{shr_vals, shr_Tells}
@@ -35,7 +35,7 @@ use Rattle.std.specs.contracts.impls.GlobalAllocator.TheImpl.{ghosts}
 use Rattle.std.proofs.raw_atomic.Walks.{proved, leaves}
 use Rattle.seize_seats.specs.Strips.{Strip, further}
 use Rattle.seize_seats.specs.Doors.{before, block_bytes, words_from}
-use Rattle.seize_seats.specs.Owned.{Pieces, pieces_at, stride, all_alone}
+use Rattle.seize_seats.specs.Owned.{stride, all_alone}
 use Rattle.seize_seats.proofs.Plots.{fits}
 use Rattle.seize_seats.specs.Plots.{HasFirst, all_full}
 use Rattle.seize_blocks.specs.contracts.row.Row as row_of
@@ -50,25 +50,23 @@ use Rattle.seize_blocks.proofs.plot.Alone.parted.Statement.{statement}
 use Rattle.seize_blocks.proofs.plot.Alone.parted.Code as code
 
 pub parted_spec : {M : Type 1} → statement M
-parted_spec 𝓤 𝓛 𝓜 𝓡 wired T P U F L LP LU LF g d _ =
-    let H = 𝓛.H in let 𝓣 = tables 𝓤 H 𝓜 𝓡 𝓡.env in let R : RattleType = param 0 T in let R₁ : RattleType = param 1 P in
-    let R₂ : RattleType = param 2 U in let R₃ : RattleType = param 3 F in let own : Pieces T.Denot = pieces_at g.at g.count in let O : RattleType = OptionOf R in let Gl : RattleType = heap.the_row in
+parted_spec 𝓤 𝓛 𝓜 𝓡 wired T L =
+    let H = 𝓛.H in let 𝓣 = tables 𝓤 H 𝓜 𝓡 𝓡.env in let R : RattleType = param 0 T in let O : RattleType = OptionOf R in let Gl : RattleType = heap.the_row in
     let Rv : RattleType = row_of.the_row O in let Rw : RattleType = row_of.the_row u64 in let Dd : RattleType = deed_of.the_row R Gl ghosts in
-    let Lo : RattleType = alone_of.the_row R R₁ R₂ R₃ g in
-    let En = ended T P U F g d in let c = clauses T P U F g d 𝓛 𝓜.mem 𝓡.returns in
-    let inst = bounded (a_type ∷ a_type ∷ a_type ∷ a_type ∷ []) (T, (P, (U, (F, tt)))) (dcons d dnil) in let fn = inst_fn inst code.function in
+    let Lo : RattleType = alone_of.the_row R in
+    let En = ended T in let c = clauses T 𝓛 𝓜.mem 𝓡.returns in let inst = layouts (a_type ∷ []) (T, tt) in let fn = inst_fn inst code.function in
     let self = plain (λ _. Lo) in let handle = RefOf (0 ∷ []) tt (plain (λ _. Gl)) (λ _. tt) in let addr = plain (λ _. RawPtr) in let num = plain (λ _. usize) in
     let hs : Stays En.signature.params En.kept =
     (stay_dropped self no, (stay_dropped handle yes, (stay_dropped addr yes, (stay_dropped num yes, (stay_dropped num yes, tt))))) in
     proved 𝓛 En hs c 𝓜 𝓡 (
-      Goes-dropped 𝓛 5 self no (λ κs x f. refl),
+      Goes-dropped 𝓛 2 self no (λ κs x f. refl),
       (
-        Goes-dropped 𝓛 5 handle yes (λ κs x f. refl),
-        (Goes-dropped 𝓛 5 addr yes (λ κs x f. refl), (Goes-dropped 𝓛 5 num yes (λ κs x f. refl), (Goes-dropped 𝓛 5 num yes (λ κs x f. refl), tt))),
+        Goes-dropped 𝓛 2 handle yes (λ κs x f. refl),
+        (Goes-dropped 𝓛 2 addr yes (λ κs x f. refl), (Goes-dropped 𝓛 2 num yes (λ κs x f. refl), (Goes-dropped 𝓛 2 num yes (λ κs x f. refl), tt))),
       ),
-    ) (#self inst) fn (code.unfolded 𝓤 H 𝓜 𝓡 wired (T, (P, (U, (F, tt)))) d)
+    ) (#self inst) fn (code.unfolded 𝓤 H 𝓜 𝓡 wired (T, tt))
     (λ κs. ((λ _. token ∷ []), (shr_vals, (rawptr_vals, (uint_vals w64, (uint_vals w64, tt))))))
-    (λ κs. ((λ x vs so. mark_told (Tuple (R ∷ R₁ ∷ [])) vs so.0), (shr_Tells (named 0) κs.0 Gl, (rawptr_Tells, (uint_Tells w64, (uint_Tells w64, tt)))))) (λ κs qs bounds a gh are.
+    (λ κs. ((λ x vs so. mark_told R vs so.0), (shr_Tells (named 0) κs.0 Gl, (rawptr_Tells, (uint_Tells w64, (uint_Tells w64, tt)))))) (λ κs qs bounds a gh are.
     let l : List Strip = a.0.strips in let fr : Bool = a.0.fresh in let gb : ℕ = a.1.0.ref_ptr.0 in let go : ℕ = a.1.0.ref_ptr.1 in let p : Ptr = a.1.1.0 in let n : ℕ = a.1.1.1.0 in
     let k : ℕ = a.1.1.1.1.0 in
     let Asked : Type 0 = HasFirst R p n l × (k ≡ before R n) × (block_bytes R n < 2 ^ 63) in
@@ -76,16 +74,14 @@ parted_spec 𝓤 𝓛 𝓜 𝓡 wired T P U F L LP LU LF g d _ =
     let us : Ptr → List Val = λ r. token ∷ vptr gb go ∷ ptr_val r ∷ vint w64 n ∷ vint w64 k ∷ [] in
     let y : (walk_of 𝓛 En hs c).Ghost = ((κs, qs, bounds, a, (token ∷ [], (vptr gb go ∷ [], (ptr_val p ∷ [], (vint w64 n ∷ [], (vint w64 k ∷ [], tt)))))), gh) in
     let Post : Val → SProp 𝓤 = (walk_of 𝓛 En hs c).post y in let Run : List Val → SProp 𝓤 = λ ws. WpFn 𝓤 H 𝓣.C 𝓣.Λ fn ws Post in
-    qed 𝓛 ((raw (alive 𝓛 En.signature κs qs) ⊛ ‵ (owns (types_at En.signature.params κs) a y.0.4)) ∷ raw (fact 𝓤 _) ∷ raw (fact 𝓤 _) ∷ raw (fact 𝓤 _) ∷
-    raw (fact 𝓤 _) ∷ raw (fact 𝓤 Asked) ∷ []) ∵
-    keep ! (5 ∷ 0 ∷ []) $ heard ! Asked (λ asked. split ! $ move ! (1 ∷ []) $ fsplit ! $ fsplit ! $ keep ! (1 ∷ 3 ∷ []) $
+    qed 𝓛 ((raw (alive 𝓛 En.signature κs qs) ⊛ ‵ (owns (types_at En.signature.params κs) a y.0.4)) ∷ raw (fact 𝓤 _) ∷ raw (fact 𝓤 Asked) ∷ []) ∵
+    keep ! (2 ∷ 0 ∷ []) $ heard ! Asked (λ asked. split ! $ move ! (1 ∷ []) $ fsplit ! $ fsplit ! $ keep ! (1 ∷ 3 ∷ []) $
     let has = first_is R p n l asked.0 in let f : ℕ = has.0 in let ss : List Strip = has.1 in let s : Strip = plot R p n f in
     let fit = fits R n asked.2 in let words_fit = fit.0 in let k_is = asked.1 in
     let at_p : p ≡ p' = at_block p has.4 in let small : k * 8 < 2 ^ 64 = omega (arith, k_is, words_fit) in
     let w' : Ptr = block_ptr b (k * 8 + o) in let at_w : w' ≡ w = (λ i. block_ptr b (k_is i * 8 + o)) in
     -- [the strips; alive]
-    rewrite ! 0 (λ (q : List Strip). ‵ (all_alone R own fr q)) has.2 refl $ fsplit ! $ fsplit ! $ fpick ! (λ u. fsplit ! $ fpick ! (λ long. drop ! $ fsplit ! $ move ! (1 ∷ []) $ fsplit ! $ move ! (1 ∷ []) $ drop ! $
-    move ! (1 ∷ 0 ∷ []) $
+    rewrite ! 0 (λ (q : List Strip). ‵ (all_alone R fr q)) has.2 refl $ fsplit ! $ fsplit ! $ fpick ! (λ u. fsplit ! $ fpick ! (λ long. drop ! $ fsplit ! $
     let ws : List ℕ = u.0 in let xs : List (Option T.Denot) = u.1 in let many = long.1 in let more = long.0 in
     -- [the words; the places; the right; the others; alive]
     use1 𝓛 (‵ (Whole 𝓛 w ws)) (whole_in 𝓛 w ws (tt, omega (arith, more, words_fit))) $ move ! (1 ∷ []) $

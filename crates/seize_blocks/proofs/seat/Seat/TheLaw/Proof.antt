@@ -8,7 +8,7 @@ use denote.Struct.Laws.{field_copy}
 use denote.Struct.Lending.{of_Lends}
 use Rattle.std.specs.contracts.marker.PhantomData as marker
 use Rattle.seize_seats.proofs.Shown.{seat_laws, lends_seat}
-use Rattle.seize_blocks.specs.declared.keeping.Keeping.{Ghosts}
+use Rattle.seize_blocks.specs.declared.rule.Rule.{Ghosts}
 use Rattle.seize_blocks.specs.contracts.seat.Seat as seat
 use Rattle.seize_blocks.proofs.seat.Seat.TheLaw.Statement.{statement}
 

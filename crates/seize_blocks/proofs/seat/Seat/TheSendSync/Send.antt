@@ -2,7 +2,7 @@
 use denote.RattleType.{RattleType}
 use denote.Param.Send.{IsSend}
 use Rattle.seize_seats.proofs.Sent.{seat_keyless}
-use Rattle.seize_blocks.specs.declared.keeping.Keeping.{Ghosts}
+use Rattle.seize_blocks.specs.declared.rule.Rule.{Ghosts}
 use Rattle.seize_blocks.specs.contracts.seat.Seat.{the_row}
 
 pub send : (T R V F : RattleType) (g : Ghosts R.Denot T.Denot V.Denot F.Denot) → IsSend (the_row T R V F g)

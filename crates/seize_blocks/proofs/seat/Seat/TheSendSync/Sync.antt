@@ -4,7 +4,7 @@ use denote.Param.Send.{IsSync, sendable}
 use denote.Struct.Struct.{Struct}
 use denote.Struct.Owning.{shape}
 use Rattle.seize_seats.proofs.Sent.{seat_shares_keyless}
-use Rattle.seize_blocks.specs.declared.keeping.Keeping.{Ghosts}
+use Rattle.seize_blocks.specs.declared.rule.Rule.{Ghosts}
 use Rattle.seize_blocks.specs.contracts.seat.Seat.{the_row, the_type}
 
 pub sync : (T R V F : RattleType) (g : Ghosts R.Denot T.Denot V.Denot F.Denot) → IsSync (the_row T R V F g)

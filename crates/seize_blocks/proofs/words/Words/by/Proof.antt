@@ -29,7 +29,7 @@ use Rattle.core.proofs.atomic.Steps.{tail}
 use Rattle.std.specs.contracts.marker.PhantomData as marker
 use Rattle.std.proofs.raw_atomic.Walks.{proved, leaves}
 use Rattle.seize_seats.specs.Stretches.{IsEven, invariant}
-use Rattle.seize_seats.specs.Owned.{Pieces, pieces_at, Core, BaseId, core_of, everything, strip_told, words_share}
+use Rattle.seize_seats.specs.Owned.{Core, BaseId, core_of, everything, strip_told, words_share}
 use Rattle.seize_seats.proofs.Shown.{told_there}
 use Rattle.seize_blocks.specs.contracts.words.Words as words
 use Rattle.seize_blocks.specs.contracts.strip.Strip as strip
@@ -43,7 +43,6 @@ pub by_spec : {M : Type 1} → statement M
 by_spec 𝓤 𝓛 𝓜 𝓡 wired X P U F LX LP LU LF g d _ =
     let H = 𝓛.H in let 𝓣 = tables 𝓤 H 𝓜 𝓡 𝓡.env in let R₀ : RattleType = param 0 X in let R₁ : RattleType = param 1 P in let R₂ : RattleType = param 2 U in
     let R₃ : RattleType = param 3 F in
-    let own : Pieces X.Denot = pieces_at g.at g.count in
     let En = ended X P U F g d in let c = clauses X P U F g d 𝓛 𝓜.mem 𝓡.returns in
     let inst = bounded (a_type ∷ a_type ∷ a_type ∷ a_type ∷ []) (X, (P, (U, (F, tt)))) (dcons d dnil) in let fn = inst_fn inst code.function in
     let Row : RattleType = words.the_row R₀ R₁ R₂ R₃ g in let St : RattleType = strip.the_row R₀ in let D : RattleType = Data R₀ R₁ R₂ R₃ g in
@@ -58,7 +57,7 @@ by_spec 𝓤 𝓛 𝓜 𝓡 wired X P U F LX LP LU LF g d _ =
     let cv = R₂.coded in let holds = g.holds t.fixed in
     let t' : Row.Denot = record { words = q; marker = t.marker; id = y; fixed = t.fixed } in
     let others : Fml = fsep (flft κs.1.0 qs.1.0) (fsep (flft κs.1.1.0 qs.1.1.0) (fsep (flft κs.1.1.1.0 qs.1.1.1.0) (fsep (flft κs.1.1.1.1.0 qs.1.1.1.1.0) ftrue))) in
-    let Asked : Type 0 = (core_of y ≡ core_of z) × InBlock q in let Inv : Core → Fml = λ k. invariant IsEven (fbor (k.atom ∷ []) (everything R₀ own cv.code holds k)) in
+    let Asked : Type 0 = (core_of y ≡ core_of z) × InBlock q in let Inv : Core → Fml = λ k. invariant IsEven (fbor (k.atom ∷ []) (everything R₀ cv.code holds k)) in
     let Lasts : Core → Fml = λ k. fshr_bor κ (λ u. flft (k.atom ∷ []) u) in
     let w : (walk_of 𝓛 En hs c).Ghost = ((κs, qs, bounds, a, (vptr b o ∷ [], (vptr b' o' ∷ [], tt))), gh) in
     let Post : Val → SProp 𝓤 = (walk_of 𝓛 En hs c).post w in
@@ -68,7 +67,7 @@ by_spec 𝓤 𝓛 𝓜 𝓡 wired X P U F LX LP LU LF g d _ =
     -- [self; the strip; the token; the others]
     keep ! (3 ∷ 1 ∷ 5 ∷ 6 ∷ []) $
     enter ! 𝓣.C 𝓣.Λ fn (vptr b o ∷ vptr b' o' ∷ []) Post $ alloc_all ! (λ l. pass_all ! refl ((tt, tt), ((tt, tt), tt)) $ let Ev = env fn.locals l in
-    use1 𝓛 (‵ (hidden_shr D κ (p, (tt, tt)) b o) ⊛ ‵ (fhide (words_share R₀ own cv.code holds p z κ)))
+    use1 𝓛 (‵ (hidden_shr D κ (p, (tt, tt)) b o) ⊛ ‵ (fhide (words_share R₀ cv.code holds p z κ)))
     (lent_out 𝓛 (words.struct R₀ R₁ R₂ R₃ g)
     (words.the_codes X.Denot P.Denot U.Denot F.Denot R₀.coded R₁.coded R₂.coded R₃.coded (marker.the_row (Tuple (R₀ ∷ R₁ ∷
     []))).coded) (words.the_heap R₀ R₁ R₂ R₃ g) (words.the_lent R₀ R₁ R₂ R₃ g) κ t b o) $
@@ -81,7 +80,7 @@ by_spec 𝓤 𝓛 𝓜 𝓡 wired X P U F LX LP LU LF g d _ =
     -- [it is placed; it is listed; the address; the invariant; its lifetime lasts; the token; the others]
     move ! (1 ∷ 3 ∷ []) $ fjoin ! $ move ! (1 ∷ 0 ∷ []) $ fjoin ! $ move ! (2 ∷ 0 ∷ []) $ fjoin ! $
     -- [what words share; the address; the token; the others]
-    use1 𝓛 (‵ (fhide (words_share R₀ own cv.code holds q y κ))) (id⊢ 𝓤 _) $ move ! (1 ∷ 0 ∷ []) $
+    use1 𝓛 (‵ (fhide (words_share R₀ cv.code holds q y κ))) (id⊢ 𝓤 _) $ move ! (1 ∷ 0 ∷ []) $
     use2 𝓛 (‵ (hidden_shr Row κ t' b' o')) (id⊢ 𝓤 _) $
     first ! $ blocks ! $
     sets ! (addr ! (through ! refl (stop !))) refl (tt, tt) $

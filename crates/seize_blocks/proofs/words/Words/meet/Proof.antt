@@ -26,7 +26,7 @@ use denote.Triple.Walked.{Stays, stay_dropped, stay_ref, walk_of, Goes-dropped, 
 use Rattle.std.specs.contracts.marker.PhantomData as marker
 use Rattle.std.proofs.raw_atomic.Walks.{proved, leaves}
 use Rattle.seize_seats.specs.State.{Meets}
-use Rattle.seize_seats.specs.Owned.{Pieces, pieces_at, BaseId, words_share}
+use Rattle.seize_seats.specs.Owned.{BaseId, words_share}
 use Rattle.seize_seats.proofs.Moves.{seat as seat_of}
 use Rattle.seize_seats.proofs.Meetings.{meets, met}
 use Rattle.seize_blocks.specs.contracts.words.Words as words
@@ -43,7 +43,6 @@ pub meet_spec : {M : Type 1} → statement M
 meet_spec 𝓤 𝓛 𝓜 𝓡 wired X P U F N LX LP LU LF LN g d g' d' _ _ =
     let H = 𝓛.H in let 𝓣 = tables 𝓤 H 𝓜 𝓡 𝓡.env in let R₀ : RattleType = param 0 X in let R₁ : RattleType = param 1 P in let R₂ : RattleType = param 2 U in
     let R₃ : RattleType = param 3 F in
-    let own : Pieces X.Denot = pieces_at g.at g.count in
     let En = ended X P U F N g d g' d' in let c = clauses X P U F N g d g' d' 𝓛 𝓜.mem 𝓡.returns in
     let inst = bounded (a_type ∷ a_type ∷ a_type ∷ a_type ∷ a_type ∷ []) (X, (P, (U, (F, (N, tt))))) (dcons d (dcons d' dnil)) in
     let fn = inst_fn inst code.function in
@@ -72,20 +71,20 @@ meet_spec 𝓤 𝓛 𝓜 𝓡 wired X P U F N LX LP LU LF LN g d g' d' _ _ =
     keep ! (1 ∷ 11 ∷ 3 ∷ 4 ∷ 12 ∷ 6 ∷ 7 ∷ 9 ∷ 10 ∷ []) $
     enter ! 𝓣.C 𝓣.Λ fn (vptr b o ∷ vptr b' o' ∷ vptr b₂ o₂ ∷ []) Post $ alloc_all ! (λ l. pass_all ! refl ((tt, tt), ((tt, tt), ((tt, tt), tt))) $
     let Ev = env fn.locals l in
-    use1 𝓛 (‵ (hidden_shr D κ (p, (tt, tt)) b o) ⊛ ‵ (fhide (words_share R₀ own cv.code holds p z κ)))
+    use1 𝓛 (‵ (hidden_shr D κ (p, (tt, tt)) b o) ⊛ ‵ (fhide (words_share R₀ cv.code holds p z κ)))
     (lent_out 𝓛 (words.struct R₀ R₁ R₂ R₃ g)
     (words.the_codes X.Denot P.Denot U.Denot F.Denot R₀.coded R₁.coded R₂.coded R₃.coded (marker.the_row (Tuple (R₀ ∷ R₁ ∷
     []))).coded) (words.the_heap R₀ R₁ R₂ R₃ g) (words.the_lent R₀ R₁ R₂ R₃ g) κ t b o) $
     split ! $ drop ! $ unhide ! $ move ! (2 ∷ 3 ∷ 4 ∷ []) $ opens ! tt Sr b' o' (λ ts. move ! (1 ∷ []) $ fsplit ! $
     rewrite ! 1 (λ (w : ℕ). ‵ (seat_owns cv.code w i v h.stretch h.mark)) asked.0 refl $ move ! (1 ∷ []) $
-    use1 𝓛 (later (‵ (seat_of 𝓛 R₀ own cv holds g.keeps p z i v))) (ends 𝓛 cv z.views_name i v h.stretch h.mark) $ await ! tt $
+    use1 𝓛 (later (‵ (seat_of 𝓛 R₀ cv holds g.keeps p z i v))) (ends 𝓛 cv z.views_name i v h.stretch h.mark) $ await ! tt $
     -- [the one; its fields; four of it; what the words share; the token; the other, by two; its token; the others]
     move ! (8 ∷ 9 ∷ 10 ∷ []) $ opens ! tt Sr b₂ o₂ (λ us. move ! (1 ∷ []) $ fsplit ! $
     rewrite ! 1 (λ (w : ℕ). ‵ (seat_owns cv.code w j u k.stretch k.mark)) asked.1 refl $ move ! (1 ∷ []) $
-    use1 𝓛 (later (‵ (seat_of 𝓛 R₀ own cv holds g.keeps p z j u))) (ends 𝓛 cv z.views_name j u k.stretch k.mark) $ await ! tt $
+    use1 𝓛 (later (‵ (seat_of 𝓛 R₀ cv holds g.keeps p z j u))) (ends 𝓛 cv z.views_name j u k.stretch k.mark) $ await ! tt $
     -- [the other; its fields; four of it; the one; its fields; four of it; what the words share; the token; the others]
     move ! (6 ∷ 0 ∷ []) $ join ! $ move ! (11 ∷ 12 ∷ 0 ∷ []) $
-    use3 𝓛 (later (‵ (met 𝓛 R₀ own cv holds g.keeps p z i v j u so asked.2) ⊛ ‵ (flft κ qs.0))) (meets 𝓛 R₀ own cv holds g.keeps p z i v j u so asked.2 κ qs.0) $
+    use3 𝓛 (later (‵ (met 𝓛 R₀ cv holds g.keeps p z i v j u so asked.2) ⊛ ‵ (flft κ qs.0))) (meets 𝓛 R₀ cv holds g.keeps p z i v j u so asked.2 κ qs.0) $
     await ! tt $ split ! $ fpick ! (λ w. fsplit ! $ fpick ! (λ such. drop ! $ fsplit ! $
     use1 𝓛 (later (items (λ (st : ℕ × ℕ). ‵ (seat_owns cv.code z.views_name i w.0 st.0 st.1)))) (begins 𝓛 cv z.views_name i w.0) $ await ! tt $
     pick ! (λ st. move ! (1 ∷ []) $

@@ -29,7 +29,7 @@ use Rattle.core.proofs.atomic.Steps.{Ptr-Good}
 use Rattle.std.proofs.raw_atomic.Walks.{proved, leaves}
 use Rattle.seize_seats.specs.Lines.{whole as all_words}
 use Rattle.core.specs.contracts.option.Option.{the_row as OptionOf}
-use Rattle.seize_seats.specs.Owned.{Pieces, pieces_at, BaseId, IsFirst, words_own, stride, places}
+use Rattle.seize_seats.specs.Owned.{BaseId, IsFirst, words_own, stride, places}
 use Rattle.seize_seats.specs.Owned as Owned
 use Rattle.seize_seats.specs.Doors.{pointers}
 use Rattle.seize_blocks.specs.contracts.words.Words as words
@@ -50,7 +50,6 @@ pub open_spec : {M : Type 1} → statement M
 open_spec 𝓤 𝓛 𝓜 𝓡 wired X P U F LX LP LU LF g d _ =
     let H = 𝓛.H in let 𝓣 = tables 𝓤 H 𝓜 𝓡 𝓡.env in let R₀ : RattleType = param 0 X in let R₁ : RattleType = param 1 P in let R₂ : RattleType = param 2 U in
     let R₃ : RattleType = param 3 F in
-    let own : Pieces X.Denot = pieces_at g.at g.count in
     let En = ended X P U F g d in let c = clauses X P U F g d 𝓛 𝓜.mem 𝓡.returns in
     let inst = bounded (a_type ∷ a_type ∷ a_type ∷ a_type ∷ []) (X, (P, (U, (F, tt)))) (dcons d dnil) in let fn = inst_fn inst code.function in
     let Row : RattleType = words.the_row R₀ R₁ R₂ R₃ g in let Rw : RattleType = row.the_row u64 in let Ro : RattleType = row.the_row (OptionOf R₀) in
@@ -141,8 +140,8 @@ open_spec 𝓤 𝓛 𝓜 𝓡 wired X P U F LX LP LU LF g d _ =
     let small : all_words roots count * 8 < 2 ^ 63 = subst (λ (n : ℕ). n * 8 < 2 ^ 63) asked.1 fits.1 in
     let room : count * stride R₀ < 2 ^ 63 = subst (λ (n : ℕ). n * stride R₀ < 2 ^ 63) asked.4 roomy.1 in
     use3 𝓛 (later (items (λ (z : BaseId). given ((z.roots ≡ roots) × (z.count ≡ most) × (z.values ≡ pv) × (z.size ≡ count) × (z.least ≡ count) × (z.doors ≡ dp)
-    × IsFirst p z) (‵ (words_own R₀ own cv.code holds p z)))))
-    (opens 𝓛 R₀ own cv holds p pv dp roots count most asked.7 (g.newcomer about_is) ws asked.0 asked.1 (fits.0, small, roomy.0, room, shut) asked.2) $
+    × IsFirst p z) (‵ (words_own R₀ cv.code holds p z)))))
+    (opens 𝓛 R₀ cv holds p pv dp roots count most asked.7 (g.newcomer about_is) ws asked.0 asked.1 (fits.0, small, roomy.0, room, shut) asked.2) $
     await ! tt $ pick ! (λ z. learn ! (λ is.
     sets ! (of_opd ! (get_in ! (fld ! refl (stop !)) (sub ! 0 refl (whole !)))) refl (Ptr-Good p) $
     sets ! (of_opd ! (get_in ! (fld ! refl (stop !)) (sub ! 0 refl (whole !)))) refl (Ptr-Good pv) $

@@ -20,7 +20,7 @@ use denote.Ref.{mut_vals, mut_Tells}
 use denote.Triple.Walked.{Stays, stay_ref, walk_of, Goes-ref}
 use Rattle.std.proofs.raw_atomic.Walks.{proved, leaves}
 use Rattle.seize_seats.specs.State.{Renews}
-use Rattle.seize_seats.specs.Owned.{Pieces, pieces_at, BaseId, IsLike, words_own}
+use Rattle.seize_seats.specs.Owned.{BaseId, IsLike, words_own}
 use Rattle.seize_seats.proofs.Renewal.{renews}
 use Rattle.seize_blocks.specs.contracts.words.Words as words
 use Rattle.seize_blocks.specs.contracts.words.Words.renew.{ended, clauses}
@@ -36,7 +36,6 @@ pub renew_spec : {M : Type 1} → statement M
 renew_spec 𝓤 𝓛 𝓜 𝓡 wired X P U F LX LP LU LF g d _ =
     let H = 𝓛.H in let 𝓣 = tables 𝓤 H 𝓜 𝓡 𝓡.env in let R₀ : RattleType = param 0 X in let R₁ : RattleType = param 1 P in let R₂ : RattleType = param 2 U in
     let R₃ : RattleType = param 3 F in
-    let own : Pieces X.Denot = pieces_at g.at g.count in
     let En = ended X P U F g d in let c = clauses X P U F g d 𝓛 𝓜.mem 𝓡.returns in
     let inst = bounded (a_type ∷ a_type ∷ a_type ∷ a_type ∷ []) (X, (P, (U, (F, tt)))) (dcons d dnil) in let fn = inst_fn inst code.function in
     let Row : RattleType = words.the_row R₀ R₁ R₂ R₃ g in let O : RattleType = OptionOf R₀ in let LO : Laws O = option_laws R₀ (param_laws 0 X LX) in
@@ -59,8 +58,8 @@ renew_spec 𝓤 𝓛 𝓜 𝓡 wired X P U F LX LP LU LF g d _ =
     opens ! tt Row b o (λ ts. move ! (1 ∷ []) $ fsplit ! $
     -- [the fields; the memory; four of self; the others]
     move ! (6 ∷ []) $ fsplit ! $ move ! (3 ∷ 0 ∷ []) $
-    use2 𝓛 (later (items (λ (u : BaseId). given (IsLike u z) (‵ (words_own R₀ own cv.code holds p u))) ⊛ ‵ (flft κs.1.0 qs.1.0)))
-    (renews 𝓛 R₀ own cv holds p z asked κs.1.0 qs.1.0 (LO.shares 𝓛) (Incl-trans inc (option_lives R₀))) $ await ! tt $ split ! $ pick ! (λ u. learn ! (λ like.
+    use2 𝓛 (later (items (λ (u : BaseId). given (IsLike u z) (‵ (words_own R₀ cv.code holds p u))) ⊛ ‵ (flft κs.1.0 qs.1.0)))
+    (renews 𝓛 R₀ cv holds p z asked κs.1.0 qs.1.0 (LO.shares 𝓛) (Incl-trans inc (option_lives R₀))) $ await ! tt $ split ! $ pick ! (λ u. learn ! (λ like.
     -- [the memory; the type's token; the rest; the fields; four of self]
     let t' : Row.Denot = record { words = p; marker = t.marker; id = u; fixed = t.fixed } in
     let Told : Type 0 = (p ≡ p) × (t.fixed ≡ t.fixed) × IsLike u z in

@@ -34,7 +34,7 @@ use Rattle.core.specs.contracts.option.Option.{the_row as OptionOf}
 use Rattle.std.specs.contracts.marker.PhantomData as marker
 use Rattle.std.proofs.raw_atomic.Walks.{proved, leaves}
 use Rattle.seize_seats.specs.Lendings.{Holder, ShownToBoth, IsValueOfBoth}
-use Rattle.seize_seats.specs.Owned.{Pieces, pieces_at, Core, BaseId, core_of, IsPlaced, common, everything, strip_told, stride, words_share}
+use Rattle.seize_seats.specs.Owned.{Core, BaseId, core_of, IsPlaced, common, everything, strip_told, stride, words_share}
 use Rattle.seize_seats.specs.Stretches.{IsEven, invariant, seat_shares}
 use Rattle.seize_seats.proofs.Shown.{placed, told_there}
 use Rattle.seize_seats.proofs.Lends.{So, lent_to}
@@ -53,7 +53,6 @@ pub value_spec : {M : Type 1} → statement M
 value_spec 𝓤 𝓛 𝓜 𝓡 wired X P U F LX LP LU LF g d _ =
     let H = 𝓛.H in let 𝓣 = tables 𝓤 H 𝓜 𝓡 𝓡.env in let R₀ : RattleType = param 0 X in let R₁ : RattleType = param 1 P in let R₂ : RattleType = param 2 U in
     let R₃ : RattleType = param 3 F in
-    let own : Pieces X.Denot = pieces_at g.at g.count in
     let En = ended X P U F g d in let c = clauses X P U F g d 𝓛 𝓜.mem 𝓡.returns in
     let inst = bounded (a_type ∷ a_type ∷ a_type ∷ a_type ∷ []) (X, (P, (U, (F, tt)))) (dcons d dnil) in let fn = inst_fn inst code.function in
     let Row : RattleType = words.the_row R₀ R₁ R₂ R₃ g in let Sr : RattleType = seat.the_row R₀ R₁ R₂ R₃ g in let D : RattleType = Data R₀ R₁ R₂ R₃ g in
@@ -77,7 +76,7 @@ value_spec 𝓤 𝓛 𝓜 𝓡 wired X P U F LX LP LU LF g d _ =
     let others : Fml = fsep (flft κs.1.0 qs.1.0) (fsep (flft κs.1.1.0 qs.1.1.0) (fsep (flft κs.1.1.1.0 qs.1.1.1.0) (fsep (flft κs.1.1.1.1.0 qs.1.1.1.1.0) (fsep (flft κs.1.1.1.1.1.0 qs.1.1.1.1.1.0) ftrue)))) in
     let Asked : Type 0 = (core_of z ≡ core_of z₀) × InBlock p × (h.base ≡ z₀.views_name) × (k.base ≡ z₀.views_name) × IsItsIndex z nr j × (pv ≡ z.values) ×
     ShownToBoth holds h.id h.view k.id k.view nr in
-    let Inv : Core → Fml = λ k. invariant IsEven (fbor (k.atom ∷ []) (everything R₀ own cv.code holds k)) in
+    let Inv : Core → Fml = λ k. invariant IsEven (fbor (k.atom ∷ []) (everything R₀ cv.code holds k)) in
     let Last : Core → Fml = λ k. fshr_bor κ (λ u. flft (k.atom ∷ []) u) in
     let y : (walk_of 𝓛 En hs c).Ghost = ((κs, qs, bounds, a, (vptr b o ∷ [], (vptr b₁ o₁ ∷ [], (vptr b' o' ∷ [], (vptr b₂ o₂ ∷ [], (vint w64 nr ∷ [], (vint w64 j ∷ [], (ptr_val pv ∷ [], tt)))))))), gh) in
     let Post : Val → SProp 𝓤 = (walk_of 𝓛 En hs c).post y in
@@ -91,7 +90,7 @@ value_spec 𝓤 𝓛 𝓜 𝓡 wired X P U F LX LP LU LF g d _ =
     keep ! (8 ∷ 6 ∷ 3 ∷ 1 ∷ 9 ∷ 10 ∷ []) $
     let p' : Ptr = block_ptr bv ov in let us : Ptr → List Val = λ r. vptr b o ∷ vptr b₁ o₁ ∷ vptr b' o' ∷ vptr b₂ o₂ ∷ vint w64 nr ∷ vint w64 j ∷ ptr_val r ∷ [] in
     let Run : List Val → SProp 𝓤 = λ ws. WpFn 𝓤 H 𝓣.C 𝓣.Λ fn ws Post in
-    use1 𝓛 (‵ (hidden_shr D κ (p₀, (tt, tt)) b o) ⊛ ‵ (fhide (words_share R₀ own cv.code holds p₀ z₀ κ)))
+    use1 𝓛 (‵ (hidden_shr D κ (p₀, (tt, tt)) b o) ⊛ ‵ (fhide (words_share R₀ cv.code holds p₀ z₀ κ)))
     (lent_out 𝓛 (words.struct R₀ R₁ R₂ R₃ g)
     (words.the_codes X.Denot P.Denot U.Denot F.Denot R₀.coded R₁.coded R₂.coded R₃.coded (marker.the_row (Tuple (R₀ ∷ R₁ ∷
     []))).coded) (words.the_heap R₀ R₁ R₂ R₃ g) (words.the_lent R₀ R₁ R₂ R₃ g) κ t b o) $
@@ -102,7 +101,7 @@ value_spec 𝓤 𝓛 𝓜 𝓡 wired X P U F LX LP LU LF g d _ =
     (lent_out 𝓛 (strip.struct R₀) (strip.the_codes X.Denot R₀.coded (marker.the_row R₀).coded) (strip.the_heap R₀) (strip.the_lent R₀) κ₁ s b₁ o₁) $
     split ! $ drop ! $ unhide ! $ rewrite ! 0 (λ (f : Fml). ‵ f) (told_there R₀ p z asked.1) refl $
     fsplit ! $ move ! (1 ∷ 2 ∷ []) $ fjoin ! $ move ! (1 ∷ 0 ∷ []) $ fjoin ! $
-    use1 𝓛 (given (IsPlaced R₀ p z) (‵ (common R₀ own cv.code holds p z))) (placed R₀ own cv holds p z 𝓛) $ learn ! (λ there. move ! (1 ∷ 0 ∷ []) $ fjoin ! $
+    use1 𝓛 (given (IsPlaced R₀ p z) (‵ (common R₀ cv.code holds p z))) (placed R₀ cv holds p z 𝓛) $ learn ! (λ there. move ! (1 ∷ 0 ∷ []) $ fjoin ! $
     move ! (1 ∷ []) $
     use1 𝓛 (‵ (hidden_shr Ds κ (tt, tt) b' o') ⊛ ‵ (fhide (seat_shares cv.code h.base h.id h.view h.stretch h.mark κ)))
     (lent_out 𝓛 (seat.struct R₀ R₁ R₂ R₃ g)
@@ -123,9 +122,9 @@ value_spec 𝓤 𝓛 𝓜 𝓡 wired X P U F LX LP LU LF g d _ =
     -- [the owner; the guard; the words; the token; the others]
     move ! (2 ∷ 1 ∷ 0 ∷ 3 ∷ []) $ group ! 4 $
     let d : ℕ = nr - 1 - z.first in let here : ℕ = d * sz + count_of z.values in let mine = asked.4.0 in
-    use1 𝓛 (later (items (λ (x : X.Denot). given (So 𝓛 R₀ LO.shr_laws own cv holds g.keeps p z hg ho nr asked.6 mine x)
+    use1 𝓛 (later (items (λ (x : X.Denot). given (So 𝓛 R₀ LO.shr_laws cv holds g.keeps p z hg ho nr asked.6 mine x)
     (‵ (shared_of O (Some x) (block_of z.values) here κ))) ⊛ ‵ (flft κ qs.0)))
-    (lent_to 𝓛 R₀ LO.shr_laws own cv holds g.keeps p z hg ho nr asked.6 mine κ qs.0) $ await ! tt $ split ! $ pick ! (λ x. learn ! (λ so.
+    (lent_to 𝓛 R₀ LO.shr_laws cv holds g.keeps p z hg ho nr asked.6 mine κ qs.0) $ await ! tt $ split ! $ pick ! (λ x. learn ! (λ so.
     let few = so.2 in let low = so.1 in let high = few.1 in let low_is = few.0 in let j_is : j ≡ d = asked.4.1 low few in let room : z.size * sz < 2 ^ 63 = there.3 in
     let small : j * sz < 2 ^ 64 = indexed j z.size sz (omega (arith, high, low_is, j_is)) room in
     rewrite ! 0 (λ (r : Ptr × ℕ). ‵ (shared_of O (Some x) (block_of r.0) (r.1 * sz + count_of r.0) κ)) (λ i. (sym asked.5 i, sym j_is i)) refl $
