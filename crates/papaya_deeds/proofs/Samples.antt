@@ -76,7 +76,7 @@ removing = entry (Begins 2 3 0 (On (Remove 1))) Goes [] ∷ stored
 abbrev remove : Entry ℕ ℕ
 remove = entry (Steps 2) Goes (Removed 1 ∷ [])
 
-abbrev removed : List (Entry ℕ ℕ)
+abbrev pub removed : List (Entry ℕ ℕ)
 removed = entry (Steps 2) (Answered (answer.Found 1)) (Retired (APair 1) ∷ []) ∷ remove ∷ removing
 
 removes_right : IsLinearizable nat_eq removing remove

@@ -25,7 +25,7 @@ use Rattle.papaya_schedules.specs.Terms.{Terms}
 use Rattle.papaya_schedules.specs.Things.{is_before, same_table}
 use Rattle.papaya_schedules.specs.Transition.{Past, Transition, call_left, worked_by}
 use Rattle.papaya_schedules.specs.Views.{capacity_or, chain_of, is_in_map, is_linked, map_at, size_of, tables_of}
-use Rattle.papaya_deeds.specs.Deeds.{Deed, Entry, Ends, Leaves, Makes, MapFails, MapGoes, ReclaimsAll, Registers, Steps, acted_on, after, at_work, caller_of, moment}
+use Rattle.papaya_deeds.specs.Deeds.{Deed, Entry, Ends, Leaves, Makes, MapFails, MapGoes, ReclaimsAll, Registers, Steps, Tends, acted_on, after, at_work, caller_of, moment}
 
 module _ {K V : Type 0} where
   -- the moments since so many entries had come, the newest first
@@ -76,11 +76,12 @@ Refuses true effects = (has_grown effects ≡ true) × (list_any is_made effects
 Refuses false effects = Unit {0}
 
 module _ {K V : Type 0} where
-  -- Whether a deed may have an effect: a step of a call, of who registers or leaves, and of a making or an end in its midst.
+  -- Whether a deed may have an effect: a step of a call, of who registers, leaves, or flushes a batch, and of a making or an end in its midst.
   abbrev pub may_do : Deed K V → Effect → Bool
   may_do (Steps i) f = is_call_effect f
   may_do (Registers s) f = asks_for_bucket f
   may_do (Leaves s) f = is_reclaiming f
+  may_do (Tends s) f = is_reclaiming f
   may_do (Makes map) f = is_first_making f
   may_do (Ends map) f = is_ending f
   may_do (ReclaimsAll last) f = is_reclaiming f

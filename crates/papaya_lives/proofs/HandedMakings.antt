@@ -1,21 +1,28 @@
 -- The making of a map hands nothing over, and leaves what was handed over as it was.
-use Rattle.std.specs.Prelude.{◌≡◌, ℕ, Bool, List, Option, Some, None}
+use Rattle.std.specs.Prelude.{◌≡◌, ℕ, ◌==◌, Bool, true, false, List, [], ◌∷◌, Option, Some, None, if◌then◌else◌}
 use Rattle.std.proofs.Common.{refl, ap, sym, subst, ◌∙◌, inl, inr}
+use Rattle.papaya_settles.specs.Given.SeizeWords.declared.at.At.TheVariants.{Root, Used, Slot, Entry, Word}
 use Rattle.papaya_settles.specs.Given.Seize.declared.progress.Progress.{Progress}
 use Rattle.papaya_settles.specs.Given.Seize.World.{World, Row}
 use Rattle.papaya_settles.specs.Given.Tables.Nodes.{deferred_word}
 use Rattle.papaya_settles.specs.Given.Tables.declared.node.Node.{Node}
 use Rattle.papaya_settles.specs.Given.Tables.declared.setting.Setting.{Setting}
+use Rattle.papaya_settles.specs.Given.Tables.declared.table_words.TheConstants.{NEXT, DEFERRED}
 use Rattle.papaya_settles.specs.Given.Schedules.declared.effect.Effect.{Effect}
 use Rattle.papaya_settles.specs.Given.Schedules.declared.effect.Table.{Table}
 use Rattle.papaya_settles.specs.Given.Schedules.Effects.{with_effects}
 use Rattle.papaya_settles.specs.Given.Schedules.Moment.{Place, Moment}
 use Rattle.papaya_settles.specs.Given.Schedules.Reclaims.{is_handed}
+use Rattle.papaya_settles.specs.Given.Schedules.declared.effect.Spot.{Spot}
+use Rattle.papaya_settles.specs.Given.Schedules.declared.effect.Effect.TheVariants.{Asked}
+use Rattle.papaya_settles.specs.Given.Schedules.declared.effect.Growth.TheVariants.{ABlock, ABucket}
 use Rattle.papaya_settles.specs.Given.Teller.declared.changed.Changed.{Changed}
 use Rattle.papaya_settles.specs.Given.Teller.declared.changed.Changed.TheVariants as changed
+use Rattle.papaya_settles.specs.Given.Teller.declared.changed.Kind.{Kind}
+use Rattle.papaya_settles.specs.Given.Teller.declared.changed.Kind.TheVariants as kind
 use Rattle.papaya_settles.proofs.Given.Callers.Together.Came.{came_reached}
 use Rattle.papaya_settles.proofs.Given.Callers.Together.Users.{events_rows}
-use Rattle.papaya_settles.specs.Given.Effects.Effects.{named, effects_of, known_after}
+use Rattle.papaya_settles.specs.Given.Effects.Effects.{names_same, named, made_by, taken_by, led_to, followed_by, carried, placed, spot_at, is_place, in_block, effects_of, known_after}
 use Rattle.papaya_settles.specs.Given.Effects.Known.{Known}
 use Rattle.papaya_settles.specs.Given.Effects.declared.acting.Acting.TheVariants.{Making}
 use Rattle.papaya_settles.specs.Given.Effects.declared.role.Role.{Role}
@@ -30,7 +37,6 @@ use Rattle.papaya_settles.proofs.Given.Moments.MakingSteps.{makings_go_beside}
 use Rattle.papaya_lives.specs.Handed.{IsToHand, HasGone, is_deferred, ShowsHanded, MakingsKeepHanded}
 use Rattle.papaya_lives.proofs.HandedEffects.{NoneHands, retired_back}
 use Rattle.papaya_lives.proofs.HandedOver.{came_listed, users_over}
-use Rattle.papaya_settles.proofs.Given.Follows.OfEach.{OfEach, led_so, operation_so}
 use Rattle.papaya_lives.proofs.Makings.{apart, role_kept}
 use Rattle.papaya_lives.proofs.RetiredCalls.{users_handed}
 use Rattle.papaya_settles.specs.Given.Scenes.Held.{Held, IsAt}
@@ -39,27 +45,83 @@ use Rattle.papaya_settles.specs.Given.Scenes.Scene.{Scene}
 
 -- the effects of what makes a map
 module _ (map : ℕ) (known : Known) where
-  each_none : OfEach (Making map) known NoneHands
-  each_none = record {
-    nothing = tt;
-    linked = λ turn shape. (λ z. z, tt);
-    deferred = λ n t. (λ z. z, tt);
-    stored = λ s. (λ z. z, tt);
-    replaced = λ old s. (λ z. z, (λ z. z, tt));
-    removed = λ n. (λ z. z, tt);
-    copied = λ n s. (λ z. z, tt);
-    retired = λ x. (λ z. z, tt);
-    asked = (λ z. z, tt);
-    pair_made = (λ z. z, (λ z. z, tt));
-    table_made = λ turn. (λ z. z, (λ z. z, tt));
-    pair_given_up = (λ z. z, tt);
-    table_given_up = λ turn. (λ z. z, tt);
-  }
+  either : (q : Bool) (a b : List Effect) → NoneHands a → NoneHands b → NoneHands (if q then a else b)
+  either true a b first second = first
+  either false a b first second = second
+
+  made_none : (k : Kind) → NoneHands (Asked ABlock ∷ made_by (Making map) k)
+  made_none kind.Pair = (λ z. z, (λ z. z, tt))
+  made_none (kind.Table len limit turn) = (λ z. z, (λ z. z, tt))
+  made_none kind.Shards = (λ z. z, tt)
+
+  taken_none : (r : Role) → (IsOfMap r → ⊥) → NoneHands (taken_by (Making map) r)
+  taken_none role.Free none = tt
+  taken_none (role.OwnPair i) none = (λ z. z, tt)
+  taken_none (role.OwnTable turn shape) none = (λ z. z, tt)
+  taken_none (role.Pair n) none = absurd (none tt)
+  taken_none (role.Table t len) none = absurd (none tt)
+  taken_none (role.Counter c) none = tt
+
+  led_none : (was is : Role) → NoneHands (led_to (Making map) was is)
+  led_none was (role.OwnTable turn shape) = (λ z. z, tt)
+  led_none (role.Table t len) (role.Table u other) = (λ z. z, tt)
+  led_none role.Free (role.Table u other) = tt
+  led_none (role.OwnPair i) (role.Table u other) = tt
+  led_none (role.OwnTable turn shape) (role.Table u other) = tt
+  led_none (role.Pair n) (role.Table u other) = tt
+  led_none (role.Counter c) (role.Table u other) = tt
+  led_none (role.Table t len) role.Free = tt
+  led_none (role.Table t len) (role.OwnPair i) = tt
+  led_none (role.Table t len) (role.Pair n) = tt
+  led_none (role.Table t len) (role.Counter c) = tt
+  led_none role.Free _ = tt
+  led_none (role.OwnPair i) _ = tt
+  led_none (role.OwnTable turn shape) _ = tt
+  led_none (role.Pair n) _ = tt
+  led_none (role.Counter c) _ = tt
+
+  followed_none : (r : Role) → NoneHands (followed_by (Making map) r)
+  followed_none (role.OwnTable turn shape) = (λ z. z, tt)
+  followed_none _ = tt
+
+  carried_none : (t : Table) (r : Role) → NoneHands (carried t r)
+  carried_none t (role.Pair n) = (λ z. z, tt)
+  carried_none t _ = tt
+
+  placed_none : (s : Spot) (stored : ℕ) (was is : Role) → NoneHands (placed s stored was is)
+  placed_none s stored (role.Pair n) (role.OwnPair c) = (λ z. z, (λ z. z, tt))
+  placed_none s stored role.Free (role.OwnPair c) = (λ z. z, tt)
+  placed_none s stored (role.OwnPair i) (role.OwnPair c) = (λ z. z, tt)
+  placed_none s stored (role.OwnTable turn shape) (role.OwnPair c) = (λ z. z, tt)
+  placed_none s stored (role.Table t len) (role.OwnPair c) = (λ z. z, tt)
+  placed_none s stored (role.Counter of) (role.OwnPair c) = (λ z. z, tt)
+  placed_none s stored (role.Pair n) role.Free = (λ z. z, tt)
+  placed_none s stored role.Free (role.Pair n) = (λ z. z, tt)
+  placed_none s stored _ _ = tt
+
+  block_none : (r : Role) (field : ℕ) (same : Bool) (was is : Role) → NoneHands (in_block (Making map) r field known.stored same was is)
+  block_none (role.Table t len) field same was is =
+      either same [] _ tt
+      (either (field == NEXT) (followed_by (Making map) is) _ (followed_none is)
+      (either (field == DEFERRED) (carried t is) _ (carried_none t is)
+      (either (is_place len field) (placed (spot_at t field) known.stored was is) [] (placed_none (spot_at t field) known.stored was is) tt)))
+  block_none (role.Counter c) field same was is = (λ z. z, tt)
+  block_none role.Free field same was is = tt
+  block_none (role.OwnPair i) field same was is = tt
+  block_none (role.OwnTable turn shape) field same was is = tt
+  block_none (role.Pair n) field same was is = tt
 
   making_none : (told : Changed) → ((x : ℕ) → told ≡ changed.Took x → IsOfMap (known.roles x) → ⊥) → NoneHands (effects_of (Making map) known told)
-  making_none told spares =
-      operation_so (Making map) known NoneHands each_none told (λ r old new e. led_so (Making map) known NoneHands each_none (λ t. (λ z. z, tt)) (named known old) (named known new))
-      (λ b field old new of e is. (λ z. z, tt)) (λ b e of_map. absurd (spares b e of_map)) (λ bucket had e. (λ z. z, tt))
+  making_none changed.Nothing spares = tt
+  making_none (changed.Wrote (Root r) old new) spares = either (names_same old new) [] _ tt (led_none (named known old) (named known new))
+  making_none (changed.Wrote (Used r) old new) spares = tt
+  making_none (changed.Wrote (Slot t field) old new) spares = tt
+  making_none (changed.Wrote (Entry x field) old new) spares = either (names_same old new) [] _ tt tt
+  making_none (changed.Wrote (Word x field) old new) spares = block_none (known.roles x) field (names_same old new) (named known old) (named known new)
+  making_none (changed.Made k x) spares = made_none k
+  making_none (changed.Unmade k) spares = (λ z. z, tt)
+  making_none (changed.Took x) spares = taken_none (known.roles x) (spares x refl)
+  making_none (changed.Roomed bucket had) spares = either _ [] (Asked ABucket ∷ []) tt (λ z. z, tt)
 
 module _ {K V : Type 0} (same : K → K → Bool) (hash : ℕ → K → ℕ) (name : ℕ → List ℕ) (m : Moment K V) (known : Known) (s : Scene K V) (old new : Held K V) (at : IsAt same hash old s)
     (whole : ShowsWhole same name m known s) (shows : ShowsHanded m known s) (i : ℕ) (said : Progress Setting) (leads : MakingLeads same hash i said s old new) (b : Beginning K)

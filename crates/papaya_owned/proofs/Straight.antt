@@ -28,10 +28,11 @@ use Rattle.papaya_raw.specs.declared.machines.answer.Called.{Called}
 use Rattle.papaya_raw.specs.declared.machines.answer.Called.TheVariants as called
 use Rattle.papaya_raw.specs.declared.machines.answer.KeyAnswer.{KeyAnswer}
 use Rattle.papaya_raw.specs.declared.machines.call.KeyCall.{KeyCall}
-use Rattle.papaya_straight.specs.Going.{CallGoes, CopyGoes, DropGoes, DropLeads, MayDrop}
-use Rattle.papaya_straight.specs.Runs as Straight
-use Rattle.papaya_straight.specs.Runs.{MayRun}
-use Rattle.papaya_straight.proofs.Running.{by_law}
+use Rattle.seize_straight.specs.Going.{DropGoes, DropLeads, MayDrop}
+use Rattle.papaya_straight.specs.Going.{CallGoes, CopyGoes}
+use Rattle.seize_straight.specs.Runs as Straight
+use Rattle.seize_straight.specs.Runs.{MayRun}
+use Rattle.seize_straight.proofs.Running.{by_law}
 use Rattle.papaya_owned.specs.Ending.{Ends, Leads, RunsTo, none_taken, one_more, stops}
 use Rattle.papaya_owned.specs.Inside.{has_ended, helping, retiring, takes_more}
 use Rattle.papaya_owned.specs.Machines.{on_call, on_key_after, on_key_plan, refreshes_after, refreshes_plan}

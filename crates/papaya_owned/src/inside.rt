@@ -20,10 +20,11 @@ ghost use Rattle.papaya_owned.specs.declared.machines.Stop.TheVariants as stop;
 use crate::machines::{OnKey, Stop};
 use papaya_raw::Outcome;
 use papaya_raw::machines::{Calling, Copier, Dispose, Disposing, End, KeyAnswer};
-use papaya_straight::{copy_places, reclaims};
+use papaya_straight::copy_places;
 use papaya_tables::{Equivalent, Hashes, Node, Table};
 use seize::rows::{Settle, Settled};
 use seize::{Machine, Progress};
+use seize_straight::reclaims;
 use seize_words::Plain;
 use std::hash::Hash;
 

@@ -4,9 +4,9 @@ ghost use Rattle.papaya_owned.specs.Machines.{refreshes_plan};
 
 use crate::machines::Refreshes;
 use crate::skims::Skims;
-use papaya_straight::reclaims;
 use seize::rows::{Defers, Leaving};
 use seize::{Machine, Progress};
+use seize_straight::reclaims;
 use seize_words::Plain;
 
 impl Refreshes {

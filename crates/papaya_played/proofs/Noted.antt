@@ -132,7 +132,7 @@ module _ {K V : Type 0} where
   making_none on before next = by (has_root before.stands) (has_root next.stands)
     where
       by : (b c : Bool)
-          → OfNoCall (if b then (if c then Makes on else MapFails on) else (if c then MapComes on next.setting.root next.setting.mode (pairs_for next.setting.initial) else Makes on))
+          → OfNoCall (if b then (if c then Makes on else MapFails on) else (if c then MapComes on next.setting.root next.setting.mode (pairs_for next.len) else Makes on))
       by true true = (λ o calls. refl, λ m. refl)
       by true false = (λ o calls. refl, λ m. refl)
       by false true = (λ o calls. refl, λ m. refl)
@@ -379,7 +379,7 @@ module _ {K S : Type 0} (V : Type 0) (same : K → K → Bool) (by_hasher : S �
       λ k. none_mapped (x.now.calls k i) (is.scene.calls k i ∙ ap (option_map machine_of) (none_is (p.0.calls k i) (may.0.no_call k)))
   free p x is act may = tt
 
-  notes_stay : StaysSo V same by_hasher hash batch_size roots aborts Anything (λ p x. CallsAreNoted x)
+  pub notes_stay : StaysSo V same by_hasher hash batch_size roots aborts Anything (λ p x. CallsAreNoted x)
   notes_stay = record {
     acts = λ p n x y act told own fits none none_then is is_then at may led leads at_then played noted.
         acts_note same by_hasher batch_size roots aborts x y noted act (played_as same by_hasher batch_size roots aborts x y act played) (free p x is act may);

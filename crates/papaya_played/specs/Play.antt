@@ -237,7 +237,7 @@ has_root openings.Takes = false
 has_root (openings.Refused fault) = false
 has_root _ = true
 
--- for so many pairs a map is made that begins with so many places
+-- for so many pairs a map is made that begins with so many places, or with no table
 abbrev pub pairs_for : ℕ → ℕ
 pairs_for places = (places * 3 + 3) / 4
 
@@ -245,7 +245,7 @@ pairs_for places = (places * 3 + 3) / 4
 abbrev pub making_deed : {K V : Type 0} → ℕ → NewMap → NewMap → Deed K V
 making_deed map before after =
     if has_root before.stands then (if has_root after.stands then Makes map else MapFails map)
-    else (if has_root after.stands then MapComes map after.setting.root after.setting.mode (pairs_for after.setting.initial) else Makes map)
+    else (if has_root after.stands then MapComes map after.setting.root after.setting.mode (pairs_for after.len) else Makes map)
 
 abbrev pub making_outcome : {V : Type 0} → Progress Setting → Outcome V
 making_outcome progress.Goes = outcome.Goes

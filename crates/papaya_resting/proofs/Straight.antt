@@ -26,7 +26,7 @@ use Rattle.papaya_raw.specs.declared.machines.call.Calling.{Calling}
 use Rattle.papaya_raw.specs.declared.machines.call.Calling.TheVariants as at
 use Rattle.papaya_raw.specs.declared.machines.call.KeyCall.{KeyCall}
 use Rattle.papaya_straight.specs.Going.{CallGoes}
-use Rattle.papaya_straight.specs.Runs.{Leads, Tells}
+use Rattle.seize_straight.specs.Runs.{Leads, Tells}
 use Rattle.papaya_owned.specs.Ending.{Ends, stops, goes}
 use Rattle.papaya_owned.specs.Machines.{on_call, on_key_plan}
 use Rattle.papaya_resting.specs.Storing.{StoresTo, storing, with_own}

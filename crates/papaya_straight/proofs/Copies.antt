@@ -23,10 +23,10 @@ use Rattle.papaya_resize.specs.declared.copier.Copying.TheVariants as at
 use Rattle.papaya_resize.specs.declared.outcome.Outcome.TheVariants as outcome
 use Rattle.papaya_straight.specs.Copying.{IsMidst, further, missed, moved, one_more_done, placing}
 use Rattle.papaya_straight.specs.Going.{CopyGoes, CopyLeads, MayCopy}
-use Rattle.papaya_straight.specs.Runs.{none_taken, one_more}
+use Rattle.seize_straight.specs.Runs.{none_taken, one_more}
 use Rattle.papaya_straight.specs.declared.copying.Placed.{Placed}
 use Rattle.papaya_straight.specs.declared.copying.Placed.TheVariants as placed
-use Rattle.papaya_straight.proofs.Running.{leads_on, may_step, runs_along}
+use Rattle.seize_straight.proofs.Running.{leads_on, may_step, runs_along}
 
 module _ {K V M : Type 0} (hash : K → ℕ) (can : M → Op (Node K V) → Type 0) (took : M → Op (Node K V) → Out (Node K V) → M → Type 0) (shown : M → ℕ → Option (Node K V)) where
   goes : (c d : Copier) (m n : M) → Steps took shown m (copier_plan hash c) n (d, outcome.Goes) → CopyLeads hash took shown c m d n

@@ -25,15 +25,16 @@ use Rattle.papaya_raw.specs.declared.machines.answer.KeyAnswer.{KeyAnswer}
 use Rattle.papaya_raw.specs.declared.machines.call.Calling.TheVariants as at
 use Rattle.papaya_raw.specs.declared.machines.call.KeyCall.{KeyCall}
 use Rattle.papaya_straight.specs.Disposing.{dispose_at, disposed as disposed_to, is_borrowed, settling as settling_at}
-use Rattle.papaya_straight.specs.Going.{CallGoes, CallLeads, DisposeLeads, DisposeReaches, MayCall, MayDispose, MaySettle, SettleGoes, SettleReaches}
-use Rattle.papaya_straight.specs.Retiring.{retired}
-use Rattle.papaya_straight.specs.Runs.{Tells}
+use Rattle.seize_straight.specs.Going.{MaySettle, SettleGoes, SettleReaches}
+use Rattle.papaya_straight.specs.Going.{CallGoes, CallLeads, DisposeLeads, DisposeReaches, MayCall, MayDispose}
+use Rattle.seize_straight.specs.Retiring.{retired}
+use Rattle.seize_straight.specs.Runs.{Tells}
 use Rattle.papaya_straight.specs.declared.disposing.Disposed.{Disposed}
 use Rattle.papaya_straight.specs.declared.disposing.Disposed.TheVariants as to
-use Rattle.papaya_straight.specs.declared.retiring.Retired.{Retired}
-use Rattle.papaya_straight.specs.declared.retiring.Retired.TheVariants as retire
+use Rattle.seize_straight.specs.declared.retiring.Retired.{Retired}
+use Rattle.seize_straight.specs.declared.retiring.Retired.TheVariants as retire
 use Rattle.papaya_straight.proofs.Inside.{leads_in, may_in, tells_in}
-use Rattle.papaya_straight.proofs.Running.{Led, begins, steps_to}
+use Rattle.seize_straight.proofs.Running.{Led, begins, steps_to}
 
 module _ {K V M : Type 0} (can : M → Op (Node K V) → Type 0) (took : M → Op (Node K V) → Out (Node K V) → M → Type 0) (shown : M → ℕ → Option (Node K V)) where
   module _ (setting : Setting) (word : ℕ) (table : Table) where

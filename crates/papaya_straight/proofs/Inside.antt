@@ -4,8 +4,8 @@ use Rattle.std.proofs.Common.{sym, subst}
 use Rattle.seize_words.specs.Op.{Op, Out}
 use Rattle.seize_words.specs.Plan.{Plan, May, Steps, plan_as}
 use Rattle.seize_words.proofs.Plans.{may_as, steps_as}
-use Rattle.papaya_straight.specs.Runs.{MayRun, Leads, none_taken, one_more, Tells}
-use Rattle.papaya_straight.proofs.Running.{by_law, may_step, runs_on}
+use Rattle.seize_straight.specs.Runs.{MayRun, Leads, none_taken, one_more, Tells}
+use Rattle.seize_straight.proofs.Running.{by_law, may_step, runs_on}
 
 -- `put` is the outer machine with the inner one at a point, and `into` what it makes of a step of that one
 module _ {T X P Y Q M : Type 0} (on : P → Type 0) (goes : Q → Type 0) (can : M → Op T → Type 0) (took : M → Op T → Out T → M → Type 0) (shown : M → ℕ → Option T)

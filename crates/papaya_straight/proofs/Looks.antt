@@ -15,8 +15,8 @@ use Rattle.papaya_resize.specs.Lookup.{looking, lookup_plan}
 use Rattle.papaya_resize.specs.declared.lookup.Looking.TheVariants as at
 use Rattle.papaya_straight.specs.Going.{LookGoes, MayLook}
 use Rattle.papaya_straight.specs.Looking.{looks}
-use Rattle.papaya_straight.specs.Runs.{Tells}
-use Rattle.papaya_straight.proofs.Running.{Led, begins, next, steps_to, tells_at}
+use Rattle.seize_straight.specs.Runs.{Tells}
+use Rattle.seize_straight.proofs.Running.{Led, begins, next, steps_to, tells_at}
 
 module _ {K V M : Type 0} (keys : K → Bool) {can : M → Op (Node K V) → Type 0} {took : M → Op (Node K V) → Out (Node K V) → M → Type 0} {shown : M → ℕ → Option (Node K V)}
     (root : ℕ) (mode : ResizeMode) (hash : ℕ) {m n : M} {link : ℕ} (h : MayLook keys took shown can (looking root mode hash) m)

@@ -26,16 +26,16 @@ use Rattle.papaya_raw.specs.declared.machines.call.Calling.TheVariants as at
 use Rattle.papaya_raw.specs.declared.machines.call.KeyCall.{KeyCall}
 use Rattle.papaya_straight.specs.Disposing.{disposed, dispose_at}
 use Rattle.papaya_straight.specs.Going.{CallGoes, CallLeads, CallReaches, DisposeReaches, MayCall, MayDispose}
-use Rattle.papaya_straight.specs.Runs.{Tells}
+use Rattle.seize_straight.specs.Runs.{Tells}
 use Rattle.papaya_straight.specs.Storing.{HasRead, call_at, replaced_by, stored_at, storing, try_at}
 use Rattle.papaya_straight.specs.declared.disposing.Disposed.{Disposed}
 use Rattle.papaya_straight.specs.declared.disposing.Disposed.TheVariants as to
-use Rattle.papaya_straight.specs.declared.retiring.Retired.TheVariants as retire
+use Rattle.seize_straight.specs.declared.retiring.Retired.TheVariants as retire
 use Rattle.papaya_straight.specs.declared.storing.Spot.TheVariants as spot
 use Rattle.papaya_straight.specs.declared.storing.Stored.{Stored}
 use Rattle.papaya_straight.specs.declared.storing.Tried.{Tried}
 use Rattle.papaya_straight.proofs.Disposals.{disposes_on, disposes_over, may_dispose}
-use Rattle.papaya_straight.proofs.Running.{Led, begins, next, on_from, reaches_to, steps_to, tells_at}
+use Rattle.seize_straight.proofs.Running.{Led, begins, next, on_from, reaches_to, steps_to, tells_at}
 
 module _ {K V Q M : Type 0} (asks : Q → K → Bool) (eq : K → K → Bool) (hashes : K → ℕ)
     (can : M → Op (Node K V) → Type 0) (took : M → Op (Node K V) → Out (Node K V) → M → Type 0) (shown : M → ℕ → Option (Node K V))

@@ -12,11 +12,11 @@ use Rattle.papaya_tables.specs.declared.table.Table.{Table}
 use Rattle.papaya_resize.specs.Dispose.{disposing}
 use Rattle.papaya_resize.specs.declared.dispose.Dispose.{Dispose}
 use Rattle.papaya_resize.specs.declared.dispose.Disposing.TheVariants as at
-use Rattle.papaya_straight.specs.Reaches.{Reached, At, Told}
-use Rattle.papaya_straight.specs.Retiring.{settle_at}
+use Rattle.seize_straight.specs.Reaches.{Reached, At, Told}
+use Rattle.seize_straight.specs.Retiring.{settle_at}
 use Rattle.papaya_straight.specs.declared.disposing.Disposed.{Disposed}
 use Rattle.papaya_straight.specs.declared.disposing.Disposed.TheVariants as to
-use Rattle.papaya_straight.specs.declared.retiring.Retired.TheVariants as retire
+use Rattle.seize_straight.specs.declared.retiring.Retired.TheVariants as retire
 
 -- an older table may name the pair of a word, too
 abbrev pub is_borrowed : ResizeMode → ℕ → Bool

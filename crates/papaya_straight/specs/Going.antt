@@ -1,12 +1,9 @@
 -- Which outcomes of each machine go on, and so what may be run of it, and where that leads.
 use Rattle.std.specs.Prelude.{ℕ, Bool, Option}
 use Rattle.seize_words.specs.Op.{Op, Out}
-use Rattle.seize.specs.Settle.{settle_plan}
 use Rattle.seize.specs.declared.progress.Progress.{Progress}
 use Rattle.seize.specs.declared.progress.Progress.TheVariants as progress
-use Rattle.seize.specs.declared.rows.settle.Settle.{Settle}
 use Rattle.seize.specs.declared.rows.settle.Settled.{Settled}
-use Rattle.seize.specs.declared.rows.settle.Settled.TheVariants as settled
 use Rattle.papaya_tables.specs.declared.node.Node.{Node}
 use Rattle.papaya_resize.specs.Copier.{copier_plan}
 use Rattle.papaya_resize.specs.declared.copier.Copier.{Copier}
@@ -20,21 +17,11 @@ use Rattle.papaya_raw.specs.Call.{call_plan}
 use Rattle.papaya_raw.specs.declared.machines.answer.Called.{Called}
 use Rattle.papaya_raw.specs.declared.machines.answer.Called.TheVariants as called
 use Rattle.papaya_raw.specs.declared.machines.call.KeyCall.{KeyCall}
-use Rattle.papaya_straight.specs.Reaches.{Reached, Reaches}
-use Rattle.papaya_straight.specs.Runs.{Leads, MayRun}
+use Rattle.seize_straight.specs.Going.{SettleGoes}
+use Rattle.seize_straight.specs.Reaches.{Reached, Reaches}
+use Rattle.seize_straight.specs.Runs.{Leads, MayRun}
 
--- a settling that tells this takes a further step, and has given nothing back
-abbrev pub SettleGoes : {T : Type 0} → Settled T → Type 0
-SettleGoes settled.Goes = Unit {0}
-SettleGoes settled.Waits = Unit {0}
-SettleGoes _ = ⊥
-
--- it takes a further step where what it gives back is dropped
-abbrev pub DropGoes : {T : Type 0} → Settled T → Type 0
-DropGoes settled.Done = ⊥
-DropGoes _ = Unit {0}
-
--- so does a call on a key
+-- a call on a key that tells this takes a further step
 abbrev pub CallGoes : {T : Type 0} → Called T → Type 0
 CallGoes called.Goes = Unit {0}
 CallGoes called.Waits = Unit {0}
@@ -59,26 +46,6 @@ module _ {K V Q M : Type 0} (asks : Q → K → Bool) (eq : K → K → Bool) (h
   -- it has come to a point, or to what it told
   abbrev pub CallReaches : KeyCall K V Q → M → M → Reached (KeyCall K V Q) (Called (Node K V)) → Type 0
   CallReaches = Reaches (CallGoes {T = Node K V}) took shown (call_plan asks eq hash)
-
-module _ {T M : Type 0} (defers : T → Option ℕ) (took : M → Op T → Out T → M → Type 0) (shown : M → ℕ → Option T) where
-  -- a settling may be run from this point on
-  abbrev pub MaySettle : (M → Op T → Type 0) → Settle → M → Type 0
-  MaySettle = MayRun (SettleGoes {T = T}) took shown (settle_plan defers)
-
-  -- steps of it lead from the one point to the other
-  abbrev pub SettleLeads : Settle → M → Settle → M → Type 0
-  SettleLeads = Leads (SettleGoes {T = T}) took shown (settle_plan defers)
-
-  -- it has come to a point, or to what it told
-  abbrev pub SettleReaches : Settle → M → M → Reached Settle (Settled T) → Type 0
-  SettleReaches = Reaches (SettleGoes {T = T}) took shown (settle_plan defers)
-
-  -- the same, where what it gives back is dropped
-  abbrev pub MayDrop : (M → Op T → Type 0) → Settle → M → Type 0
-  MayDrop = MayRun (DropGoes {T = T}) took shown (settle_plan defers)
-
-  abbrev pub DropLeads : Settle → M → Settle → M → Type 0
-  DropLeads = Leads (DropGoes {T = T}) took shown (settle_plan defers)
 
 module _ {K V M : Type 0} (took : M → Op (Node K V) → Out (Node K V) → M → Type 0) (shown : M → ℕ → Option (Node K V)) where
   -- a disposal may be run from this point on

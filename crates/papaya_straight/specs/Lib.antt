@@ -1,11 +1,6 @@
 pub mod Copying
 pub mod Disposing
 pub mod Going
-pub mod Leaving
 pub mod Looking
-pub mod Reaches
-pub mod Reclaiming
 pub mod Removing
-pub mod Retiring
-pub mod Runs
 pub mod Storing

@@ -12,7 +12,7 @@ use Rattle.papaya_resize.specs.declared.lookup.Lookup.{Lookup}
 use Rattle.papaya_resize.specs.declared.lookup.Looking.{Looking}
 use Rattle.papaya_resize.specs.declared.lookup.Looking.TheVariants as at
 use Rattle.papaya_straight.specs.Going.{LookGoes}
-use Rattle.papaya_straight.specs.Reaches.{ComesTo, Reached, At, Told}
+use Rattle.seize_straight.specs.Reaches.{ComesTo, Reached, At, Told}
 use Rattle.papaya_straight.specs.declared.looking.Glance.{Glance}
 use Rattle.papaya_straight.specs.declared.looking.Glance.TheVariants as glance
 use Rattle.papaya_straight.specs.declared.looking.Sight.{Sight}

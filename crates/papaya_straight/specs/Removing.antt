@@ -16,10 +16,10 @@ use Rattle.papaya_raw.specs.declared.machines.call.Calling.TheVariants as at
 use Rattle.papaya_raw.specs.declared.machines.call.KeyCall.{KeyCall}
 use Rattle.papaya_straight.specs.Disposing.{dispose_at}
 use Rattle.papaya_straight.specs.Going.{CallGoes}
-use Rattle.papaya_straight.specs.Reaches.{ComesTo, Reached, At, Told}
+use Rattle.seize_straight.specs.Reaches.{ComesTo, Reached, At, Told}
 use Rattle.papaya_straight.specs.declared.disposing.Disposed.{Disposed}
 use Rattle.papaya_straight.specs.declared.disposing.Disposed.TheVariants as to
-use Rattle.papaya_straight.specs.declared.retiring.Retired.TheVariants as retire
+use Rattle.seize_straight.specs.declared.retiring.Retired.TheVariants as retire
 use Rattle.papaya_straight.specs.declared.removing.Removal.{Removal}
 use Rattle.papaya_straight.specs.declared.removing.Removal.TheVariants as removal
 use Rattle.papaya_straight.specs.declared.removing.Removed.{Removed}

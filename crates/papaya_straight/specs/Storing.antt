@@ -20,10 +20,10 @@ use Rattle.papaya_raw.specs.declared.machines.call.Calling.TheVariants as at
 use Rattle.papaya_raw.specs.declared.machines.call.KeyCall.{KeyCall}
 use Rattle.papaya_straight.specs.Disposing.{dispose_at}
 use Rattle.papaya_straight.specs.Going.{CallGoes}
-use Rattle.papaya_straight.specs.Reaches.{Reached, At, Told}
+use Rattle.seize_straight.specs.Reaches.{Reached, At, Told}
 use Rattle.papaya_straight.specs.declared.disposing.Disposed.{Disposed}
 use Rattle.papaya_straight.specs.declared.disposing.Disposed.TheVariants as to
-use Rattle.papaya_straight.specs.declared.retiring.Retired.TheVariants as retire
+use Rattle.seize_straight.specs.declared.retiring.Retired.TheVariants as retire
 use Rattle.papaya_straight.specs.declared.storing.Spot.{Spot}
 use Rattle.papaya_straight.specs.declared.storing.Spot.TheVariants as spot
 use Rattle.papaya_straight.specs.declared.storing.Stored.{Stored}

@@ -6,10 +6,10 @@ ghost use Rattle.papaya_resize.specs.Dispose.{disposing};
 ghost use Rattle.papaya_straight.specs.Disposing.{dispose_at, disposed, is_borrowed, settling};
 ghost use Rattle.papaya_straight.specs.Going.{DisposeReaches, MayDispose};
 
-use crate::retiring::{Retired, retire, settle_of};
 use papaya_resize::{Dispose, Disposing};
 use papaya_tables::marks::{BORROWED, has, link_of};
 use papaya_tables::{Node, ResizeMode, Setting, Table};
+use seize_straight::{Retired, retire, settle_of};
 use seize_words::{At, Link, Look, Memory};
 
 /// Where the disposal of a pair has come to.

@@ -4,18 +4,12 @@
 
 mod copying;
 mod disposing;
-mod leaving;
 mod looking;
-mod reclaiming;
 mod removing;
-mod retiring;
 mod storing;
 
 pub use copying::{Placed, copy_places};
 pub use disposing::{Disposed, dispose, dispose_of};
-pub use leaving::{Left, leave, leave_of};
 pub use looking::{Glance, Sight, look_up};
-pub use reclaiming::{reclaim, reclaims};
 pub use removing::{Removal, Removed, Sought, removal_of, remove};
-pub use retiring::{Retired, retire, settle_of};
 pub use storing::{Spot, Stored, Tried, call_of, store};

@@ -5,7 +5,7 @@ ghost use Rattle.papaya_resize.specs.Lookup.{looking, told, told_of, word_read};
 ghost use Rattle.papaya_resize.specs.declared.lookup.Looking.TheVariants as at;
 ghost use Rattle.papaya_straight.specs.Going.{LookGoes, LookReaches, MayLook};
 ghost use Rattle.papaya_straight.specs.Looking.{HasGlanced, glance_at, looks, past_tries, sight_at};
-ghost use Rattle.papaya_straight.specs.Reaches.{ComesTo};
+ghost use Rattle.seize_straight.specs.Reaches.{ComesTo};
 
 use papaya_raw::machines::Looking;
 use papaya_resize::asks_for;

@@ -7,15 +7,15 @@ ghost use Rattle.papaya_raw.specs.CallPoints.{told, told_of, untried};
 ghost use Rattle.papaya_raw.specs.declared.machines.call.Calling.{Calling as Point};
 ghost use Rattle.papaya_raw.specs.declared.machines.call.Calling.TheVariants as at;
 ghost use Rattle.papaya_straight.specs.Going.{CallGoes, CallReaches, MayCall};
-ghost use Rattle.papaya_straight.specs.Reaches.{ComesTo};
+ghost use Rattle.seize_straight.specs.Reaches.{ComesTo};
 ghost use Rattle.papaya_straight.specs.Removing.{HasSought, past_all, removed_at, removed_by, removing_at, seeking, sought_at};
 
 use crate::disposing::{Disposed, dispose, dispose_of};
-use crate::retiring::Retired;
 use papaya_raw::machines::{Calling, KeyAnswer, KeyCall};
 use papaya_resize::{asks_for, count};
 use papaya_tables::marks::TOMBSTONE;
 use papaya_tables::{Aim, Equivalent, Finding, Hashes, Node, Setting, Table, Trial, may_be, seen};
+use seize_straight::Retired;
 use seize_words::{At, Link, Look, Memory};
 use std::hash::Hash;
 

@@ -10,7 +10,6 @@ ghost use Rattle.papaya_straight.specs.Going.{CallLeads, CallReaches, MayCall};
 ghost use Rattle.papaya_straight.specs.Storing.{HasRead, HasTried, call_at, calling_at, is_plain, replaced_by, stored_at, storing, try_at};
 
 use crate::disposing::{Disposed, dispose, dispose_of};
-use crate::retiring::Retired;
 use papaya_raw::machines::{
     Calling, End, KeyAnswer, KeyCall, Missing, Replies, Takes, There, Told, is_same_key,
 };
@@ -20,6 +19,7 @@ use papaya_tables::marks::TOMBSTONE;
 use papaya_tables::{
     Aim, Equivalent, Finding, Hashes, Node, Probe, Setting, Table, Trial, may_be, seen,
 };
+use seize_straight::Retired;
 use seize_words::{At, Link, Look, Memory};
 use std::hash::Hash;
 

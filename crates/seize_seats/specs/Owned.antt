@@ -338,6 +338,7 @@ abbrev pub strip_told : RattleType → Ptr → BaseId → Fml
 strip_told R null_ptr z = ftrue
 strip_told R (block_ptr b o) z = strip_there R (block_ptr b o) z
 
+-- what is told to all, and nothing that it keeps for itself
 abbrev pub strip_owns : RattleType → Ptr → BaseId → Fml
 strip_owns R p z = fsep (strip_told R p z) ftrue
 

@@ -17,7 +17,7 @@ use Rattle.seize.specs.declared.rows.settle.Settled.{Settled}
 use Rattle.seize.specs.declared.rows.settle.Settled.TheVariants as settled
 use Rattle.seize.specs.Leave.{standing, settled as leave_settled}
 use Rattle.seize.specs.Settle.{retiring, flushing, settle_plan, plan_at}
-use Rattle.seize.specs.World.{World, Row, Use, Hand, Event, Begin, Happens, Request, Register', Enter', Leave', Refresh, Unregister', Retire}
+use Rattle.seize.specs.World.{World, Row, Use, Hand, Begin, Happens, Request, Register', Enter', Leave', Refresh, Unregister', Retire}
 use Rattle.seize.specs.World.{Flush, IsTaken, one_more, one_less, with_at, with_row, with_use, with_hand, settles_on, leaves_on, at_start}
 use Rattle.seize.specs.World as world
 use Rattle.seize_rule.proofs.Rows.Others.{with_here, with_other}
@@ -26,12 +26,12 @@ use Rattle.seize_seats.specs.State.{State, view_of, Turns, Comes, Starts}
 use Rattle.seize_acts.specs.Waits.{SettlesOn}
 use Rattle.seize_shared.specs.Begun.{IsBegun, left_with}
 use Rattle.seize_bounds.specs.Bounds.{IsToTry, IsAloneOnSlot, TriesWithin}
-use Rattle.seize_shared.specs.Rows.{row_of, use_of, used_for, leave_of, counting, IsShort, IsUsed, IsKnown, Fits, Came, IsBounded, Holds, Keeps}
+use Rattle.seize_shared.specs.Rows.{row_of, use_of, used_for, hand_of, leave_of, counting, IsCut, IsShort, IsUsed, IsKnown, Fits, Came, IsBounded, Holds, Keeps}
 use Rattle.seize_shared.specs.Promises.{IsNext, IsFree, RulesStart, SeatsCome, RowsTurn, SettlingsBegin}
 use Rattle.seize_shared.specs.declared.view.View.{View}
 use Rattle.seize_shared.specs.declared.view.Becomes.{Becomes}
 use Rattle.seize_shared.specs.declared.view.Becomes.TheVariants.{Idle, Active}
-use Rattle.seize_shared.specs.declared.view.View.TheVariants.{Rests, Registers, Outside, Owes, Enters, Inside, Settles, Leaves, Left, Frees}
+use Rattle.seize_shared.specs.declared.view.View.TheVariants.{Rests, Registers, Outside, Owes, Enters, Inside, Settles, Leaves, Left, Frees, Brings, Bears}
 use Rattle.seize_shared.specs.declared.view.Has.{Has}
 use Rattle.seize_shared.specs.declared.view.Has.TheVariants.{Nothing, Made, Seen, Both, Cut}
 use Rattle.seize_shared.specs.declared.view.Why.TheVariants.{Retiring, Ending}
@@ -43,12 +43,6 @@ use Rattle.seize_shared.proofs.Came.{came_then}
 use Rattle.seize_shared.proofs.Steps.{alone, begun, stepped}
 use Rattle.seize_shared.proofs.Operations.{used_as, slot_of, same_slot}
 use Rattle.seize_bounds.proofs.Settles.Within.{batches_are_tried}
-
-not_making_cutting : (j i : ℕ) → world.Making j ≡ world.Cutting i → ⊥
-not_making_cutting j i e = cc e
-
-same_cutting : (j i : ℕ) → world.Cutting j ≡ world.Cutting i → j ≡ i
-same_cutting j i e = cc e
 
 not_use_cutting : (r i : ℕ) → world.InUse r ≡ world.Cutting i → ⊥
 not_use_cutting r i e = cc e
@@ -78,13 +72,13 @@ module _ {T : Type 0} (defers : T → Option ℕ) (fixed : Fixed) where
       → row_of v ≡ world.Rests → row_of u ≡ row
       → ((s : State T (View T) (World T)) → s.world.uses t ≡ a
       → world.Begins defers fixed.batch_size id request s.world (with_use (with_row s.world id row) t world.Changing))
-      → ((s : State T (View T) (World T)) → H s → Fits (with_use (with_row s.world id row) t world.Changing) id u)
+      → ((s : State T (View T) (World T)) → H s → Fits (with_use (with_row s.world id row) t world.Changing) id u) → hand_of u ≡ None
       → ((w : World T) → IsBounded defers fixed w id u) → Turns H Keeps id v (λ x. x ≡ u)
-  begins_on id t v u a row request mine its rests is happens own bounded s h at_id =
+  begins_on id t v u a row request mine its rests is happens own none bounded s h at_id =
       let n : World T = with_use (with_row s.world id row) t world.Changing in
       moved defers fixed s id v u s.memory n (λ x. x ≡ u) h at_id
       (begun defers fixed s id v h at_id request u n
-      ((h.seats id v at_id).row ∙ rests, happens s (used (h.seats id v at_id).slot)) refl refl (λ j b ne. (λ is. is, λ is. is)) (λ b r is. is)
+      ((h.seats id v at_id).row ∙ rests, happens s (used (h.seats id v at_id).slot)) refl refl (λ j b x ne e q. refl) none (λ b r is. is)
       (λ j ne. with_other s.world.row id j row ne)
       (λ x apart. with_other s.world.uses t x world.Changing (λ e. apart a (mine ∙ ap (λ (k : ℕ). used_as k a) (sym e))))
       (own s h)
@@ -100,7 +94,7 @@ module _ {T : Type 0} (defers : T → Option ℕ) (fixed : Fixed) where
   -- the row of a seat fits that has begun
   begun_fits : (id t : ℕ) (u : View T) (row : Row) (s : State T (View T) (World T)) → use_of u ≡ used_as t world.Changing → row_of u ≡ row
       → IsShort u
-      → ((w : World T) → IsKnown w id u) → Fits (with_use (with_row s.world id row) t world.Changing) id u
+      → ((w : World T) → IsKnown w u) → Fits (with_use (with_row s.world id row) t world.Changing) id u
   begun_fits id t u row s its is short known =
       let n : World T = with_use (with_row s.world id row) t world.Changing in
       record {
@@ -112,22 +106,22 @@ module _ {T : Type 0} (defers : T → Option ℕ) (fixed : Fixed) where
 
   enters : (id t : ℕ) → Turns H Keeps id (Outside t) (λ x. x ≡ Enters t)
   enters id t = begins_on id t (Outside t) (Enters t) (world.Outside 0) (world.Enters record { slot = t }) (Enter' t) refl refl refl refl (λ s e. (e, refl))
-      (λ s h. begun_fits id t (Enters t) (world.Enters record { slot = t }) s refl refl tt (λ w. tt)) (λ w. tt)
+      (λ s h. begun_fits id t (Enters t) (world.Enters record { slot = t }) s refl refl tt (λ w. tt)) refl (λ w. tt)
 
   frees : (id t : ℕ) → Turns H Keeps id (Outside t) (λ x. x ≡ Frees t)
   frees id t = begins_on id t (Outside t) (Frees t) (world.Outside 0) (world.Frees record { slot = t }) (Unregister' t) refl refl refl refl (λ s e. (e, refl))
-      (λ s h. begun_fits id t (Frees t) (world.Frees record { slot = t }) s refl refl tt (λ w. tt)) (λ w. tt)
+      (λ s h. begun_fits id t (Frees t) (world.Frees record { slot = t }) s refl refl tt (λ w. tt)) refl (λ w. tt)
 
   -- the section ends, or the next one begins at once
   leaves : (id t : ℕ) (has : Has T) (way : Becomes) → Turns H Keeps id (Inside t has) (λ x. x ≡ Leaves t fixed.batch_size way)
   leaves id t has Idle =
       let c : Leave = leave_of t fixed.batch_size Idle in
       begins_on id t (Inside t has) (Leaves t fixed.batch_size Idle) (world.Inside 0) (world.Leaves c) (Leave' t) refl refl refl refl (λ s e. (e, refl))
-      (λ s h. begun_fits id t (Leaves t fixed.batch_size Idle) (world.Leaves c) s refl refl tt (λ w. tt)) (λ w. tt)
+      (λ s h. begun_fits id t (Leaves t fixed.batch_size Idle) (world.Leaves c) s refl refl tt (λ w. tt)) refl (λ w. tt)
   leaves id t has Active =
       let c : Leave = leave_of t fixed.batch_size Active in
       begins_on id t (Inside t has) (Leaves t fixed.batch_size Active) (world.Inside 0) (world.Leaves c) (Refresh t) refl refl refl refl (λ s e. (e, refl))
-      (λ s h. begun_fits id t (Leaves t fixed.batch_size Active) (world.Leaves c) s refl refl tt (λ w. tt)) (λ w. tt)
+      (λ s h. begun_fits id t (Leaves t fixed.batch_size Active) (world.Leaves c) s refl refl tt (λ w. tt)) refl (λ w. tt)
 
   -- a settling that begins on the slot of a seat takes so many steps
   settles_within : (s : State T (View T) (World T)) → H s → (id t : ℕ) (v : View T) (a : Use) → view_of s id ≡ Some v → use_of v ≡ used_as t a
@@ -155,26 +149,23 @@ module _ {T : Type 0} (defers : T → Option ℕ) (fixed : Fixed) where
 
   -- a block is retired that the seat has unlinked
   retires : (id t b : ℕ) (way : Becomes) (v : View T) → use_of v ≡ used_as t (resting way) → row_of v ≡ world.Rests
-      → ((w : World T) → IsKnown w id v → w.hand b ≡ world.Cutting id) → Turns H Keeps id v (IsBegun way (retiring t fixed.batch_size (link_to b)))
-  retires id t b way v mine rests cuts s h at_id =
+      → hand_of v ≡ Some b → ((w : World T) → IsKnown w v → IsCut w b) → Turns H Keeps id v (IsBegun way (retiring t fixed.batch_size (link_to b)))
+  retires id t b way v mine rests has cuts s h at_id =
       let c : Settle = retiring t fixed.batch_size (link_to b) in
       let f = h.seats id v at_id in
       let slot : s.world.uses t ≡ resting way = used_so s.world (use_of v) t (resting way) f.slot mine in
-      let cut : s.world.hand b ≡ world.Cutting id = cuts s.world f.known in
+      let cut : IsCut s.world b = cuts s.world f.known in
       let n : World T = with_hand (with_use (with_row s.world id (world.Settles c)) t (one_more (s.world.uses t))) b world.Handed in
       let happens : Happens defers fixed.batch_size (Begin id (Retire t b)) s.world n =
-      (f.row ∙ rests, (subst (λ (a : Use). IsTaken a) (sym slot) (resting_taken way), (id, cut), refl)) in
+      (f.row ∙ rests, (subst (λ (a : Use). IsTaken a) (sym slot) (resting_taken way), cut, refl)) in
       let k = settles_within s h id t v (resting way) at_id mine c n refl (inl (t, link_to b, refl))
       (came_then defers fixed s.world n (Begin id (Retire t b)) h.came happens) (with_here s.world.row id (world.Settles c))
       (λ j ne. with_other s.world.row id j (world.Settles c) ne) in
       let u : View T = Settles c (Retiring way) None k.0 in
       moved defers fixed s id v u s.memory n (IsBegun way c) h at_id
       (begun defers fixed s id v h at_id (Retire t b) u n happens refl refl
-      (λ j c ne. (
-        λ is. beside s.world.hand b c (world.Making j) (λ e. not_making_cutting j id (sym is ∙ ap s.world.hand e ∙ cut)) is,
-        λ is. beside s.world.hand b c (world.Cutting j) (λ e. ne (same_cutting j id (sym is ∙ ap s.world.hand e ∙ cut))) is,
-      ))
-      (λ c r is. beside s.world.hand b c (world.InUse r) (λ e. not_use_cutting r id (sym is ∙ ap s.world.hand e ∙ cut)) is)
+      (λ j c x ne e q. with_other s.world.hand b c world.Handed (λ k. ne (h.sole j id b x v e at_id (q ∙ ap Some k) has))) refl
+      (λ c r is. beside s.world.hand b c (world.InUse r) (λ e. not_use_cutting r cut.0 (sym is ∙ ap s.world.hand e ∙ cut.1)) is)
       (λ j ne. with_other s.world.row id j (world.Settles c) ne)
       (λ x apart. with_other s.world.uses t x (one_more (s.world.uses t))
       (λ e. apart (resting way) (mine ∙ ap (λ (k : ℕ). used_as k (resting way)) (sym e))))
@@ -203,7 +194,7 @@ module _ {T : Type 0} (defers : T → Option ℕ) (fixed : Fixed) where
       let u : View T = Settles c (Retiring way) None k.0 in
       moved defers fixed s id v u s.memory n (IsBegun way c) h at_id
       (begun defers fixed s id v h at_id (Flush t) u n happens refl refl
-      (λ j c ne. (λ is. is, λ is. is)) (λ c r is. is)
+      (λ j b x ne e q. refl) refl (λ c r is. is)
       (λ j ne. with_other s.world.row id j (world.Settles c) ne)
       (λ x apart. with_other s.world.uses t x (one_more (s.world.uses t))
       (λ e. apart (resting way) (mine ∙ ap (λ (k : ℕ). used_as k (resting way)) (sym e))))
@@ -228,7 +219,7 @@ module _ {T : Type 0} (defers : T → Option ℕ) (fixed : Fixed) where
       let n : World T = with_row s.world id (world.Registers First) in
       moved defers fixed s id Rests (Registers First) s.memory n (λ x. x ≡ Registers First) h at_id
       (begun defers fixed s id Rests h at_id (Register' false) (Registers First) n ((h.seats id Rests at_id).row, refl) refl refl
-      (λ j b ne. (λ is. is, λ is. is)) (λ b r is. is)
+      (λ j b x ne e q. refl) refl (λ b r is. is)
       (λ j ne. with_other s.world.row id j (world.Registers First) ne) (λ t apart. refl)
       (record { row = with_here s.world.row id (world.Registers First); slot = tt; short = (refl, tt); known = tt })
       (λ t b e. absurd (cc e)) tt)
@@ -245,6 +236,10 @@ module _ {T : Type 0} (defers : T → Option ℕ) (fixed : Fixed) where
   ended_use Idle t x b e = same_slot t x (world.Outside 0) b (world.Outside 1) e
   ended_use Active t x b e = same_slot t x (world.Inside 0) b (world.Inside 1) e
 
+  ended_hand : (way : Becomes) (t : ℕ) → hand_of {T = T} (left_with way t) ≡ None
+  ended_hand Idle t = refl
+  ended_hand Active t = refl
+
   ended_bound : (way : Becomes) (w : World T) (id t : ℕ) → IsBounded defers fixed w id (left_with way t)
   ended_bound Idle w id t = tt
   ended_bound Active w id t = tt
@@ -259,7 +254,7 @@ module _ {T : Type 0} (defers : T → Option ℕ) (fixed : Fixed) where
       (s.world.memory, (c, settled.Done), over_step defers c s.world.memory (c, settled.Done) over (refl, refl), refl) h.memory
       (ended_slot way s.world n id c.slot (with_here s.world.uses c.slot (one_less (s.world.uses c.slot))) (h.seats id v at_id).slot
       (with_here s.world.row id world.Rests))
-      (alone defers fixed s id v h at_id x (λ t b e. ended_use way c.slot t b e)) (ended_bound way n id c.slot))
+      (alone defers fixed s id v h at_id x (λ t b e. ended_use way c.slot t b e)) (ended_hand way c.slot) (ended_bound way n id c.slot))
       (sym is)
 
   counted_ends : (id : ℕ) (c : Settle) (size : ℕ) (way : Becomes) (seen : Option (ℕ × T)) (left : ℕ) → c.stands ≡ settling_at.Over
@@ -282,7 +277,7 @@ module _ {T : Type 0} (defers : T → Option ℕ) (fixed : Fixed) where
         short = tt;
         known = tt;
       })
-      (alone defers fixed s id v h at_id u (λ x b q. same_slot c.slot x world.Changing b world.Changing q)) tt)
+      (alone defers fixed s id v h at_id u (λ x b q. same_slot c.slot x world.Changing b world.Changing q)) refl tt)
       refl
 
   -- the row of a seat that has left ends
@@ -294,7 +289,7 @@ module _ {T : Type 0} (defers : T → Option ℕ) (fixed : Fixed) where
       moved defers fixed s id v (Outside t) s.memory n (λ x. x ≡ u) h at_id
       (stepped defers fixed s id v h at_id (Outside t) s.memory n (s.world.memory, (d, settled.Done), (refl, refl), refl) h.memory
       (record { row = with_here s.world.row id world.Rests; slot = with_here s.world.uses t (world.Outside 0); short = tt; known = tt })
-      (alone defers fixed s id v h at_id (Outside t) (λ x b e. same_slot t x (world.Outside 0) b world.Changing e)) tt)
+      (alone defers fixed s id v h at_id (Outside t) (λ x b e. same_slot t x (world.Outside 0) b world.Changing e)) refl tt)
       (sym is)
   ends id t size Active u is s h at_id =
       let v : View T = Left t size Active in
@@ -303,7 +298,7 @@ module _ {T : Type 0} (defers : T → Option ℕ) (fixed : Fixed) where
       moved defers fixed s id v (Inside t Nothing) s.memory n (λ x. x ≡ u) h at_id
       (stepped defers fixed s id v h at_id (Inside t Nothing) s.memory n (s.world.memory, (d, settled.Done), (refl, refl), refl) h.memory
       (record { row = with_here s.world.row id world.Rests; slot = with_here s.world.uses t (world.Inside 0); short = tt; known = tt })
-      (alone defers fixed s id v h at_id (Inside t Nothing) (λ x b e. same_slot t x (world.Inside 0) b world.Changing e)) tt)
+      (alone defers fixed s id v h at_id (Inside t Nothing) (λ x b e. same_slot t x (world.Inside 0) b world.Changing e)) refl tt)
       (sym is)
 
   turns : (id : ℕ) (v u : View T) → IsNext fixed v u → Turns H Keeps id v (λ x. x ≡ u)
@@ -324,6 +319,8 @@ module _ {T : Type 0} (defers : T → Option ℕ) (fixed : Fixed) where
   turns id (Leaves t size way) u is = absurd is
   turns id (Left t size way) u is = ends id t size way u is
   turns id (Frees t) u is = absurd is
+  turns id (Brings b x) u is = absurd is
+  turns id (Bears b) u is = absurd is
 
   -- a seat comes, and knows nothing
   comes : Comes H Keeps Rests
@@ -335,6 +332,7 @@ module _ {T : Type 0} (defers : T → Option ℕ) (fixed : Fixed) where
       seats = λ j x e. fit j x (with_last s.views j Rests x e);
       unborn = λ j e. h.unborn j (none_before s.views j Rests e);
       apart = λ j k t a b x y e f p q. two j k t a b x y p q (with_last s.views j Rests x e) (with_last s.views k Rests y f);
+      sole = λ j k b x y e f p q. one j k b x y p q (with_last s.views j Rests x e) (with_last s.views k Rests y f);
       roots = h.roots;
       rooted = h.rooted;
       bounded = λ j x e. bound j x (with_last s.views j Rests x e);
@@ -360,6 +358,16 @@ module _ {T : Type 0} (defers : T → Option ℕ) (fixed : Fixed) where
       two j k t a b x y p q (inl e) (inr f) = absurd (no_slot y t b f.1 q)
       two j k t a b x y p q (inr e) f = absurd (no_slot x t a e.1 p)
 
+      no_hand : (x : View T) (b : ℕ) → Rests ≡ x → hand_of x ≡ Some b → ⊥
+      no_hand x b e p = cc (ap hand_of e, p)
+
+      one : (j k b : ℕ) (x y : View T) → hand_of x ≡ Some b → hand_of y ≡ Some b
+          → (view_of s j ≡ Some x) ⊎ ((view_of s j ≡ None) × (Rests ≡ x))
+          → (view_of s k ≡ Some y) ⊎ ((view_of s k ≡ None) × (Rests ≡ y)) → j ≡ k
+      one j k b x y p q (inl e) (inl f) = h.sole j k b x y e f p q
+      one j k b x y p q (inl e) (inr f) = absurd (no_hand y b f.1 q)
+      one j k b x y p q (inr e) f = absurd (no_hand x b e.1 p)
+
   starts : Starts H fixed.roots
   starts = (
     at_start defers fixed.roots,
@@ -369,6 +377,7 @@ module _ {T : Type 0} (defers : T → Option ℕ) (fixed : Fixed) where
       seats = λ j v e. absurd (cc e);
       unborn = λ j e. refl;
       apart = λ j k t a b v u e f p q. absurd (cc e);
+      sole = λ j k b v u e f p q. absurd (cc e);
       roots = λ r word e. inl (ap block_in (sym (zeros fixed.roots r word e)));
       rooted = length-replicate fixed.roots 0;
       bounded = λ j v e. absurd (cc e);
@@ -388,7 +397,7 @@ module _ (T : Type 0) (defers : T → Option ℕ) where
   pub settlings_begin : SettlingsBegin T defers
   settlings_begin fixed id (Inside t (Cut b)) Active c is =
       subst (λ (d : Settle). Turns (Holds defers fixed) Keeps id (Inside t (Cut b)) (IsBegun Active d)) (sym is)
-      (retires defers fixed id t b Active (Inside t (Cut b)) refl refl (λ w known. known))
+      (retires defers fixed id t b Active (Inside t (Cut b)) refl refl refl (λ w known. known))
   settlings_begin fixed id (Inside t Nothing) Active c is =
       subst (λ (d : Settle). Turns (Holds defers fixed) Keeps id (Inside t Nothing) (IsBegun Active d)) (sym is)
       (flushes defers fixed id t Active (Inside t Nothing) refl refl)
@@ -397,7 +406,7 @@ module _ (T : Type 0) (defers : T → Option ℕ) where
       (flushes defers fixed id t Active (Inside t (Seen b)) refl refl)
   settlings_begin fixed id (Owes t b) Idle c is =
       subst (λ (d : Settle). Turns (Holds defers fixed) Keeps id (Owes t b) (IsBegun Idle d)) (sym is)
-      (retires defers fixed id t b Idle (Owes t b) refl refl (λ w known. known))
+      (retires defers fixed id t b Idle (Owes t b) refl refl refl (λ w known. known))
   settlings_begin fixed id (Outside t) Idle c is =
       subst (λ (d : Settle). Turns (Holds defers fixed) Keeps id (Outside t) (IsBegun Idle d)) (sym is)
       (flushes defers fixed id t Idle (Outside t) refl refl)
@@ -415,3 +424,5 @@ module _ (T : Type 0) (defers : T → Option ℕ) where
   settlings_begin fixed id (Leaves t size x) way c is = absurd is
   settlings_begin fixed id (Left t size x) way c is = absurd is
   settlings_begin fixed id (Frees t) way c is = absurd is
+  settlings_begin fixed id (Brings b x) way c is = absurd is
+  settlings_begin fixed id (Bears b) way c is = absurd is

@@ -248,29 +248,29 @@ module _ {T : Type 0} (defers : T → Option ℕ) (v w : View T) (slot : ℕ) wh
 
   -- what a making tells beside a block that was seen, a taking away, and an exchange
 
-  made_told : (words : ℕ) (a b : ℕ) (value : T) (y : Bool) → v ≡ Inside slot (if y then Nothing else Seen a) → told defers v (Make value words) (OutMade (Ok b)) w
+  made_told : (words a b : ℕ) (value : T) (y : Bool) → v ≡ Inside slot (if y then Nothing else Seen a) → told defers v (Make value words) (OutMade (Ok b)) w
       → w ≡ Inside slot (if y then Made b value else Both b value a)
   made_told words a b value true is so =
       let k = subst (λ (x : View T). told defers x (Make value words) (OutMade (Ok b)) w) is so in k.2 ∙ ap (Inside slot) k.1.1
   made_told words a b value false is so =
       let k = subst (λ (x : View T). told defers x (Make value words) (OutMade (Ok b)) w) is so in k.2 ∙ ap (Inside slot) k.1.1
 
-  fits_told : (words : ℕ) (a b : ℕ) (value : T) (y : Bool) → v ≡ Inside slot (if y then Nothing else Seen a) → told defers v (Make value words) (OutMade (Ok b)) w → b < 2 ^ 53
+  fits_told : (words a b : ℕ) (value : T) (y : Bool) → v ≡ Inside slot (if y then Nothing else Seen a) → told defers v (Make value words) (OutMade (Ok b)) w → b < 2 ^ 53
   fits_told words a b value true is so = let k = subst (λ (x : View T). told defers x (Make value words) (OutMade (Ok b)) w) is so in k.1.0
   fits_told words a b value false is so = let k = subst (λ (x : View T). told defers x (Make value words) (OutMade (Ok b)) w) is so in k.1.0
 
-  pub made_beside_told : (words : ℕ) (a b : ℕ) (value : T) → v ≡ Inside slot (seen_as a) → told defers v (Make value words) (OutMade (Ok b)) w
+  pub made_beside_told : (words a b : ℕ) (value : T) → v ≡ Inside slot (seen_as a) → told defers v (Make value words) (OutMade (Ok b)) w
       → (w ≡ Inside slot (made_beside b value a)) × (b < 2 ^ 53)
   made_beside_told words a b value is so = (made_told words a b value (a == 0) is so, fits_told words a b value (a == 0) is so)
 
-  refused_told : (words : ℕ) (a : ℕ) (value back : T) (y : Bool) → v ≡ Inside slot (if y then Nothing else Seen a)
+  refused_told : (words a : ℕ) (value back : T) (y : Bool) → v ≡ Inside slot (if y then Nothing else Seen a)
       → told defers v (Make value words) (OutMade (Err back)) w → (w ≡ Inside slot (if y then Nothing else Seen a)) × (back ≡ value)
   refused_told words a value back true is so =
       let k = subst (λ (x : View T). told defers x (Make value words) (OutMade (Err back)) w) is so in (k.2 ∙ ap (Inside slot) k.1.1, k.1.0)
   refused_told words a value back false is so =
       let k = subst (λ (x : View T). told defers x (Make value words) (OutMade (Err back)) w) is so in (k.2 ∙ ap (Inside slot) k.1.1, k.1.0)
 
-  pub not_made_told : (words : ℕ) (a : ℕ) (value back : T) → v ≡ Inside slot (seen_as a) → told defers v (Make value words) (OutMade (Err back)) w
+  pub not_made_told : (words a : ℕ) (value back : T) → v ≡ Inside slot (seen_as a) → told defers v (Make value words) (OutMade (Err back)) w
       → (w ≡ Inside slot (seen_as a)) × (back ≡ value)
   not_made_told words a value back is so = refused_told words a value back (a == 0) is so
 

@@ -15,6 +15,7 @@ use Rattle.seize.specs.declared.rows.settle.Settled.{Settled}
 use Rattle.seize.specs.Register as register
 use Rattle.seize.specs.Settle.{settle_plan, plan_at}
 use Rattle.seize_acts.proofs.Answers.{same_some}
+use Rattle.seize_straight.specs.Going.{DropGoes}
 use Rattle.seize_seats.specs.State.{State, view_of}
 use Rattle.seize_seats.specs.Lendings.{Shown, IsValueOf}
 use Rattle.seize_shared.specs.Rows.{Holds}
@@ -22,7 +23,7 @@ use Rattle.seize_shared.specs.Told.{shown_by, FollowsBy, GoesOn, told}
 use Rattle.seize_shared.specs.Promises.{op_in, op_of, LookedAreShown}
 use Rattle.seize_shared.specs.Made.{shown_in, shown_of, left_in, CanMake, HasAlone, HasMade, IsSettling}
 use Rattle.seize_shared.specs.declared.view.View.{View}
-use Rattle.seize_shared.specs.declared.view.View.TheVariants.{Rests, Registers, Outside, Owes, Enters, Inside, Settles, Leaves, Left, Frees}
+use Rattle.seize_shared.specs.declared.view.View.TheVariants.{Rests, Registers, Outside, Owes, Enters, Inside, Settles, Leaves, Left, Frees, Brings, Bears}
 use Rattle.seize_shared.specs.declared.view.Why.{Why}
 use Rattle.seize_shared.specs.declared.view.Fixed.{Fixed}
 use Rattle.seize_shared.specs.declared.caller.Caller.{Caller}
@@ -79,6 +80,8 @@ module _ {T : Type 0} (defers : T → Option ℕ) where
   none_rewrites (Leaves t size way) = tt
   none_rewrites (Left t size way) = tt
   none_rewrites (Frees t) = tt
+  none_rewrites (Brings b x) = tt
+  none_rewrites (Bears b) = tt
 
   -- so it needs no block to itself
   has_alone : (caller : Caller T) (op : Op T) → IsNoRewrite (Some op) → HasAlone defers caller op
@@ -107,6 +110,7 @@ module _ {T : Type 0} (defers : T → Option ℕ) where
 
     pub has_stepped : (n : Caller T) (end : Settle × Settled T) → Steps (HasMade defers) shown_of caller (settle_plan defers c) n end
         → IsSettling why end.0 n.seat.view × (end.0.slot ≡ c.slot) × (n.blocks ≡ caller.blocks) × (left_in n.seat.view < left_in caller.seat.view)
+        × DropGoes end.1
     has_stepped n end st =
         let k = was_made (CanMake defers) (HasMade defers) shown_of caller (settle_plan defers c) n end (is_do c c.stands ne) st in
         let g = goes_on k.0 k.1 n k.2 in
@@ -116,6 +120,7 @@ module _ {T : Type 0} (defers : T → Option ℕ) where
           ap (λ (x : Settle × Settled T). x.0.slot) same ∙ g.slot,
           k.2.blocks,
           (let before = ap left_in is.2 in let after = ap left_in g.view in let falls = g.falls in omega (arith, before, after, falls)),
+          subst (λ (x : Settle × Settled T). DropGoes x.1) (sym same) g.further,
         )
 
 module _ (T : Type 0) (defers : T → Option ℕ) where
@@ -153,3 +158,5 @@ module _ {T : Type 0} (defers : T → Option ℕ) (fixed : Fixed) (id : ℕ) whe
   is_looked (Leaves t size way) b is = absurd (cc is)
   is_looked (Left t size way) b is = absurd (cc is)
   is_looked (Frees t) b is = absurd (cc is)
+  is_looked (Brings c x) b is = absurd (cc is)
+  is_looked (Bears c) b is = absurd (cc is)

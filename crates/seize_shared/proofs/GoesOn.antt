@@ -9,7 +9,7 @@ use Rattle.seize_seats.specs.State.{Allows}
 use Rattle.seize_shared.specs.Rows.{Holds, Keeps, head_of}
 use Rattle.seize_shared.specs.Told.{told}
 use Rattle.seize_shared.specs.Promises.{RowsGoOn}
-use Rattle.seize_shared.specs.declared.view.View.TheVariants.{Rests, Registers, Outside, Owes, Enters, Inside, Settles, Leaves, Left, Frees}
+use Rattle.seize_shared.specs.declared.view.View.TheVariants.{Rests, Registers, Outside, Owes, Enters, Inside, Settles, Leaves, Left, Frees, Brings, Bears}
 use Rattle.seize_shared.proofs.Operations.{enters, leaves, frees}
 use Rattle.seize_shared.proofs.Registers.{registers}
 use Rattle.seize_shared.proofs.Settling.{settles}
@@ -19,6 +19,8 @@ module _ (T : Type 0) (defers : T → Option ℕ) where
   rows_go_on fixed id Rests op e s h at_id = absurd (cc e)
   rows_go_on fixed id (Registers c) op e s h at_id = registers defers fixed s id c h at_id op e
   rows_go_on fixed id (Outside t) op e s h at_id = absurd (cc e)
+  rows_go_on fixed id (Brings b x) op e s h at_id = absurd (cc e)
+  rows_go_on fixed id (Bears b) op e s h at_id = absurd (cc e)
   rows_go_on fixed id (Owes t b) op e s h at_id = absurd (cc e)
   rows_go_on fixed id (Enters t) op e s h at_id =
       subst (λ (o : Op T). Allows (Holds defers fixed) Keeps id (Enters t) o (told defers (Enters t) o)) (same_some (Store (Slot t HEAD) ACTIVE) op e)

@@ -14,7 +14,10 @@ pub mod Users
 pub mod Blocks
 pub mod Written
 pub mod Roots
+pub mod Handing
+pub mod Owning
 pub mod Calls
 pub mod Drives
 pub mod Seen
 pub mod Standing
+pub mod Straight

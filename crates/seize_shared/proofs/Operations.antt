@@ -66,7 +66,7 @@ module _ {T : Type 0} (defers : T → Option ℕ) (fixed : Fixed) where
           (stepped defers fixed s id (Enters t) h at (Inside t Nothing) m n
           (m, (record { slot = t }, Done tt), (out, subst (λ (x : Mem T). Took x (Store (Slot t HEAD) ACTIVE) out m) h.memory took, refl), refl) refl
           (record { row = with_here s.world.row id world.Rests; slot = with_here s.world.uses t (world.Inside 0); short = tt; known = tt })
-          (alone defers fixed s id (Enters t) h at (Inside t Nothing) (λ x b e. same_slot t x (world.Inside 0) b world.Changing e)) tt)
+          (alone defers fixed s id (Enters t) h at (Inside t Nothing) (λ x b e. same_slot t x (world.Inside 0) b world.Changing e)) refl tt)
           refl
 
   pub frees : (id t : ℕ) → Allows H Keeps id (Frees t) (Store (Slot t HEAD) FREE) (told defers (Frees t) (Store (Slot t HEAD) FREE))
@@ -83,7 +83,7 @@ module _ {T : Type 0} (defers : T → Option ℕ) (fixed : Fixed) where
           (stepped defers fixed s id (Frees t) h at Rests m n
           (m, (record { slot = t }, Done tt), (out, subst (λ (x : Mem T). Took x (Store (Slot t HEAD) FREE) out m) h.memory took, refl), refl) refl
           (record { row = with_here s.world.row id world.Rests; slot = tt; short = tt; known = tt })
-          (alone defers fixed s id (Frees t) h at Rests (λ x b e. absurd (cc e))) tt)
+          (alone defers fixed s id (Frees t) h at Rests (λ x b e. absurd (cc e))) refl tt)
           refl
 
   pub leaves : (id t size : ℕ) (way : Becomes)
@@ -123,7 +123,7 @@ module _ {T : Type 0} (defers : T → Option ℕ) (fixed : Fixed) where
           moved defers fixed s id (Leaves t size way) u m n (λ x. (left : ℕ) × (x ≡ list_taken t size way head left)) h at
           (stepped defers fixed s id (Leaves t size way) h at u m n taken refl
           (record { row = row; slot = slot d m; short = tt; known = tt })
-          (alone defers fixed s id (Leaves t size way) h at u (λ x b q. same_slot t x world.Changing b world.Changing q)) k.1)
+          (alone defers fixed s id (Leaves t size way) h at u (λ x b q. same_slot t x world.Changing b world.Changing q)) refl k.1)
           (k.0, rw e refl)
       goes head m took false e =
           let u : View T = Left t size way in
@@ -132,7 +132,7 @@ module _ {T : Type 0} (defers : T → Option ℕ) (fixed : Fixed) where
           moved defers fixed s id (Leaves t size way) u m n (λ x. (left : ℕ) × (x ≡ list_taken t size way head left)) h at
           (stepped defers fixed s id (Leaves t size way) h at u m n (m, (d, settled.Goes), (Found head, took_here head m took, rw e refl), refl) refl
           (record { row = with_here s.world.row id (world.Leaves d); slot = slot d m; short = tt; known = tt })
-          (alone defers fixed s id (Leaves t size way) h at u (λ x b q. same_slot t x world.Changing b world.Changing q)) tt)
+          (alone defers fixed s id (Leaves t size way) h at u (λ x b q. same_slot t x world.Changing b world.Changing q)) refl tt)
           (0, rw e refl)
 
       by : (out : Out T) (m : Mem T) → Took s.memory (Swap (Slot t HEAD) (head_of way)) out m

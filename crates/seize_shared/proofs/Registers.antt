@@ -23,7 +23,7 @@ use Rattle.seize_rule.proofs.Rows.Register.{taken_use}
 use Rattle.seize_alone.proofs.Histories.Reached.{Reached}
 use Rattle.seize_acts.proofs.Answers.{same_some}
 use Rattle.seize_seats.specs.State.{State, view_of, Goes}
-use Rattle.seize_shared.specs.Rows.{use_of, IsSeeking, IsShort, Fits, IsBounded, Holds, Keeps}
+use Rattle.seize_shared.specs.Rows.{hand_of, use_of, IsSeeking, IsShort, Fits, IsBounded, Holds, Keeps}
 use Rattle.seize_shared.specs.Told.{left_by, ComesTo, told}
 use Rattle.seize_shared.specs.Promises.{op_in}
 use Rattle.seize_shared.specs.declared.view.View.{View}
@@ -89,6 +89,12 @@ module _ {T : Type 0} (defers : T → Option ℕ) (fixed : Fixed) (s : State T (
       not_vacant x t a p (sym (used_so w (use_of x) t a (h.seats j x e).slot p) ∙ ap w.uses (sym (slot_of (k, world.Outside 0) (t, b) q)) ∙ well)
   lone d (progress.Refused fault) well j t x a b ne e p q = cc q
 
+  no_hand : (d : Register) (o : Progress ℕ) → hand_of {T = T} (left_by (d, o)) ≡ None
+  no_hand d progress.Goes = refl
+  no_hand d progress.Waits = refl
+  no_hand d (progress.Done k) = refl
+  no_hand d (progress.Refused fault) = refl
+
   bound : (n : World T) (d : Register) (o : Progress ℕ) → IsBounded defers fixed n id (left_by (d, o))
   bound n d progress.Goes = tt
   bound n d progress.Waits = tt
@@ -102,7 +108,7 @@ module _ {T : Type 0} (defers : T → Option ℕ) (fixed : Fixed) (s : State T (
       moved defers fixed s id (Registers c) (left_by end) m (registers_on w id c m end) (told defers (Registers c) op out) h at_id
       (stepped defers fixed s id (Registers c) h at_id (left_by end) m (registers_on w id c m end) (m, end, steps, refl) (sym
       (registers_memory w id m c end.0 end.1))
-      (own m end.0 end.1 well) (lone end.0 end.1 well) (bound (registers_on w id c m end) end.0 end.1))
+      (own m end.0 end.1 well) (lone end.0 end.1 well) (no_hand end.0 end.1) (bound (registers_on w id c m end) end.0 end.1))
       (end, comes, refl, (own m end.0 end.1 well).short)
 
   module _ (p : Registering) (stands : c.stands ≡ p) where

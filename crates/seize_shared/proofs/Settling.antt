@@ -24,6 +24,7 @@ use Rattle.seize_rule.proofs.Points.Known.{Fits as FitsSettle}
 use Rattle.seize_rule.proofs.Points.Stepped.{IsGoing}
 use Rattle.seize_rule.proofs.Points.Settle.{is_over, settle_steps}
 use Rattle.seize_rule.proofs.World.Start.{words_good}
+use Rattle.seize_straight.specs.Going.{DropGoes}
 use Rattle.seize_alone.proofs.Histories.Reached.{Reached}
 use Rattle.seize_acts.proofs.Answers.{same_some, ended}
 use Rattle.seize_acts.proofs.Steps.{sees_end}
@@ -65,6 +66,13 @@ module _ {T R : Type 0} where
       → FollowsBy shown plan out end
   follows shown (Turn rest) op out end e ends = absurd (cc e)
   follows shown (Do o rest) op out end e ends = ends
+
+module _ {T : Type 0} where
+  further : (told : Settled T) → IsGoing told → DropGoes told
+  further Goes going = tt
+  further Waits going = tt
+  further (Gave value) going = tt
+  further Done going = absurd going
 
 module _ {T : Type 0} (defers : T → Option ℕ) where
   over_is : (p : Settling) → is_over p ≡ true → p ≡ at.Over
@@ -192,12 +200,13 @@ module _ {T : Type 0} (defers : T → Option ℕ) (fixed : Fixed) (s : State T (
         known = subst (λ (x : Mem T). IsLooked x end.0 look.0) (memory why m end) look.2;
       })
       (alone defers fixed s id v h at_id u
-      (λ t b e. (used_for why, ap (λ (k : ℕ). used_as k (used_for why)) (sym slot ∙ slot_of (end.0.slot, used_for why) (t, b) e)))) (k.bounded end.0 look.0))
+      (λ t b e. (used_for why, ap (λ (k : ℕ). used_as k (used_for why)) (sym slot ∙ slot_of (end.0.slot, used_for why) (t, b) e)))) refl (k.bounded end.0 look.0))
       (record {
         end = end;
         seen = look.0;
         now = k.now;
         follows = follows (shown_by look.0) (settle_plan defers c) op out end makes look.1;
+        further = further end.1 went.1;
         slot = slot;
         falls = k.falls;
         view = refl;

@@ -5,9 +5,9 @@ use Rattle.std.proofs.lemmas.Bool.{eqb-false, ne_eqb, cases_eq}
 use Rattle.seize_acts.proofs.Answers.{same_some}
 use Rattle.seize_shared.specs.Standing.{standing}
 use Rattle.seize_shared.specs.Told.{seen_as}
-use Rattle.seize_shared.specs.Promises.{IsLooking}
+use Rattle.seize_shared.specs.Promises.{IsLooking, IsTaker}
 use Rattle.seize_shared.specs.declared.view.View.{View}
-use Rattle.seize_shared.specs.declared.view.View.TheVariants.{Rests, Registers, Outside, Owes, Enters, Inside, Settles, Leaves, Left, Frees}
+use Rattle.seize_shared.specs.declared.view.View.TheVariants.{Rests, Registers, Outside, Owes, Enters, Inside, Settles, Leaves, Left, Frees, Brings, Bears}
 use Rattle.seize_shared.specs.declared.view.Has.{Has}
 use Rattle.seize_shared.specs.declared.view.Has.TheVariants.{Nothing, Made, Seen, Both, Cut}
 
@@ -73,6 +73,8 @@ module _ {T : Type 0} (t : ℕ) where
   is_outside k (Leaves s size way) e = absurd (cc e)
   is_outside k (Left s size way) e = absurd (cc e)
   is_outside k (Frees s) e = absurd (cc e)
+  is_outside k (Brings b x) e = absurd (cc e)
+  is_outside k (Bears b) e = absurd (cc e)
 
   inside : (k : ℕ) (v : View T) → standing v ≡ Some (stands t true k) → (has : Has T) × Knows has k × (v ≡ Inside t has)
   inside k (Inside s Nothing) e = let p = same t s k 0 true true e in (Nothing, sym p.2, ap (λ (n : ℕ). Inside n Nothing) p.0)
@@ -94,9 +96,20 @@ module _ {T : Type 0} (t : ℕ) where
   inside k (Leaves s size way) e = absurd (cc e)
   inside k (Left s size way) e = absurd (cc e)
   inside k (Frees s) e = absurd (cc e)
+  inside k (Brings b x) e = absurd (cc e)
+  inside k (Bears b) e = absurd (cc e)
 
   pub is_inside : (k : ℕ) (v : View T) → standing v ≡ Some (stands t true k) → (has : Has T) × IsLooking has × (v ≡ Inside t has)
   is_inside k v e = let i = inside k v e in (i.0, looking i.0 k i.1, i.2)
+
+  pub is_taker : (open_so : Bool) (k : ℕ) (v : View T) → standing v ≡ Some (stands t open_so k) → IsTaker v
+  is_taker true k v e = let i = is_inside k v e in subst IsTaker (sym i.2) i.1
+  is_taker false k v e = subst IsTaker (sym (is_outside k v e)) tt
+
+  -- and what is said of who is within a section, or is not, is so of who stands so
+
+  pub takes_inside : (k : ℕ) (v : View T) (X : Type 0) → standing v ≡ Some (stands t true k) → ((has : Has T) → IsLooking has → v ≡ Inside t has → X) → X
+  takes_inside k v X e so = let i = is_inside k v e in so i.0 i.1 i.2
 
   pub has_nothing : (v : View T) → standing v ≡ Some (stands t true 0) → v ≡ Inside t Nothing
   has_nothing v e = let i = inside 0 v e in i.2 ∙ ap (Inside t) (none_seen i.0 i.1)

@@ -1,5 +1,5 @@
 -- A row that begins, and a step of one, as what a seat has done.
-use Rattle.std.specs.Prelude.{◌≢◌, ◌++◌, Option, Some, IsSome, length, slice_get}
+use Rattle.std.specs.Prelude.{◌≢◌, ◌++◌, Option, Some, IsSome, length, slice_get, None}
 use Rattle.std.proofs.Common.{◌≡◌, ℕ, ◌+◌, List, [], ◌∷◌, ◌⊎◌, inl, inr, refl, sym, subst, ap, ◌∙◌, arith}
 use Rattle.std.proofs.lemmas.Bool.{cases_eq}
 use Rattle.seize_words.specs.Mem.{Mem, value_at}
@@ -8,7 +8,7 @@ use Rattle.seize.specs.declared.rows.register.Registering.{Registering}
 use Rattle.seize.specs.declared.rows.register.Registering.TheVariants as at
 use Rattle.seize.specs.Sequence.{taken_in}
 use Rattle.seize.specs.Law.{Effect, Entered, Left as LeftSlot, Made, Linked, Unlinked, Deferred, Retired, Taken, Dropped, Ended, LeftOver, holds, is_over}
-use Rattle.seize.specs.World.{World, Row, Use, Hand, Vacant, Event, Begin, Step, Request, Steps', Happens, times}
+use Rattle.seize.specs.World.{World, Row, Use, Hand, Vacant, Begin, Step, Request, Steps', Happens, times}
 use Rattle.seize.specs.World as world
 use Rattle.seize_rule.proofs.Rows.Effects.{IsOneStep}
 use Rattle.seize_rule.proofs.Rows.Known.{works_on, registering_on}
@@ -18,13 +18,13 @@ use Rattle.seize_alone.proofs.Histories.Reached.{Reached}
 use Rattle.seize_alone.proofs.Histories.NotTaken.{IsHad, still_held, kept_hand, taken_gone, did}
 use Rattle.seize_alone.proofs.Histories.Uses.{uses_kept}
 use Rattle.seize_seats.specs.State.{State, view_of}
-use Rattle.seize_shared.specs.Rows.{row_of, use_of, used_for, IsSeeking, IsShort, IsUsed, RootsNameLinked, Fits, IsBounded, Holds}
+use Rattle.seize_shared.specs.Rows.{row_of, use_of, hand_of, used_for, IsSeeking, IsShort, IsUsed, RootsNameLinked, Fits, IsBounded, Holds}
 use Rattle.seize_shared.specs.declared.view.View.{View}
-use Rattle.seize_shared.specs.declared.view.View.TheVariants.{Rests, Registers, Outside, Owes, Enters, Inside, Settles, Leaves, Left, Frees}
+use Rattle.seize_shared.specs.declared.view.View.TheVariants.{Rests, Registers, Outside, Owes, Enters, Inside, Settles, Leaves, Left, Frees, Brings, Bears}
 use Rattle.seize_shared.specs.declared.view.Why.TheVariants.{Retiring, Ending}
 use Rattle.seize_shared.specs.declared.view.Fixed.{Fixed}
 use Rattle.seize_shared.proofs.Came.{of_users, reached, came_then}
-use Rattle.seize_shared.proofs.Moved.{Moved, not_vacant, used_so, still_used}
+use Rattle.seize_shared.proofs.Moved.{Moved, hand_users, not_vacant, used_so, still_used}
 
 -- one step of a row ends no block's owner
 not_over : (b : ℕ) (effects log : List Effect) → IsOneStep effects → is_over b (effects ++ log) ≡ is_over b log
@@ -64,6 +64,8 @@ works_on_own (Settles c (Ending size way) seen left) short t e = (world.Changing
 works_on_own (Leaves s size way) short t e = (world.Changing, ap (λ (k : ℕ). Some (k, world.Changing)) (omega (arith, e)))
 works_on_own (Left s size way) short t e = (world.Changing, ap (λ (k : ℕ). Some (k, world.Changing)) (omega (arith, e)))
 works_on_own (Frees s) short t e = (world.Changing, ap (λ (k : ℕ). Some (k, world.Changing)) (omega (arith, e)))
+works_on_own (Brings b x) short t e = absurd (omega (arith, e))
+works_on_own (Bears b) short t e = absurd (omega (arith, e))
 
 module _ {T : Type 0} where
   -- the roots are as they were, and what was linked at them is
@@ -105,12 +107,12 @@ module _ {T : Type 0} (defers : T → Option ℕ) (fixed : Fixed) (s : State T (
   step_of n taken = subst (λ (row : Row). Steps' defers id row w n) (sym (h.seats id v at_id).row) taken
 
   pub begun : (request : Request) (u : View T) (n : World T) → Happens defers fixed.batch_size (Begin id request) w n → n.memory ≡ w.memory → n.log ≡ w.log
-      → ((j b : ℕ) → j ≢ id → (w.hand b ≡ world.Making j → n.hand b ≡ world.Making j) × (w.hand b ≡ world.Cutting j → n.hand b ≡ world.Cutting j))
+      → ((j b : ℕ) (x : View T) → j ≢ id → view_of s j ≡ Some x → hand_of x ≡ Some b → n.hand b ≡ w.hand b) → hand_of u ≡ None
       → ((b r : ℕ) → w.hand b ≡ world.InUse r → n.hand b ≡ world.InUse r)
       → ((j : ℕ) → j ≢ id → n.row j ≡ w.row j) → ((t : ℕ) → ((a : Use) → use_of v ≡ Some (t, a) → ⊥) → n.uses t ≡ w.uses t) → Fits n id u
       → ((t : ℕ) (b : Use) → use_of u ≡ Some (t, b) → (a : Use) × (use_of v ≡ Some (t, a))) → IsBounded defers fixed n id u
       → Moved defers fixed s id u s.memory n
-  begun request u n happens memory log hands linked rows uses own stays bounded = record {
+  begun request u n happens memory log hands none linked rows uses own stays bounded = record {
     came = came_then defers fixed w n (Begin id request) h.came happens;
     memory = h.memory ∙ sym memory;
     rows = rows;
@@ -118,6 +120,7 @@ module _ {T : Type 0} (defers : T → Option ℕ) (fixed : Fixed) (s : State T (
     others = others n (λ t used. uses t);
     alone = alone u stays;
     hands = hands;
+    sole = λ j b x ne e p q. cc (none, q);
     values = λ b some some2. ap (λ (m : Mem T). value_at m b) memory;
     held = λ t b inside held. ap (holds t b) log ∙ held;
     over = λ t b held. ap (is_over b) log;
@@ -129,8 +132,8 @@ module _ {T : Type 0} (defers : T → Option ℕ) (fixed : Fixed) (s : State T (
 
   pub stepped : (u : View T) (m : Mem T) (n : World T) → Steps' defers id (row_of v) w n → m ≡ n.memory → Fits n id u
       → ((j t : ℕ) (x : View T) (a b : Use) → j ≢ id → view_of s j ≡ Some x → use_of x ≡ Some (t, a) → use_of u ≡ Some (t, b) → ⊥)
-      → IsBounded defers fixed n id u → Moved defers fixed s id u m n
-  stepped u m n taken memory own lone bounded = record {
+      → hand_of u ≡ None → IsBounded defers fixed n id u → Moved defers fixed s id u m n
+  stepped u m n taken memory own lone none bounded = record {
     came = came_then defers fixed w n (Step id) h.came step;
     memory = memory;
     rows = d.rows;
@@ -138,7 +141,8 @@ module _ {T : Type 0} (defers : T → Option ℕ) (fixed : Fixed) (s : State T (
     others = others n (λ t used apart. uses_kept defers fixed.batch_size w r id n step t used
         (λ on. let k = works_on_own v fit.short t (sym (ap works_on fit.row) ∙ on) in apart k.0 k.1));
     alone = lone;
-    hands = λ j b ne. (λ is. kept b (world.Making j) tt is, λ is. kept b (world.Cutting j) tt is);
+    hands = λ j b x ne e q. kept_hand defers fixed.batch_size w r id n step b (IsHad (hand_users w x b (h.seats j x e).known q).0);
+    sole = λ j b x ne e p q. cc (none, q);
     values = λ b some some2. value b some2 (cases_eq (times b (taken_in d.effects)) 0);
     held = λ t b inside held. still_held defers fixed.batch_size w r id n step t b inside held;
     over = λ t b held. ap (is_over b) d.logged ∙ not_over b d.effects w.log d.one;

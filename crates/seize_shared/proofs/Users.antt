@@ -1,5 +1,5 @@
 -- What a seat does within its section that is no step of a row, and that it goes on from there.
-use Rattle.std.specs.Prelude.{◌≢◌, ◌++◌, Option, Some, IsSome, length}
+use Rattle.std.specs.Prelude.{◌++◌, Option, Some, None, IsSome, length}
 use Rattle.std.proofs.Common.{◌≡◌, ℕ, ◌+◌, List, [], ◌∷◌, true, false, refl, sym, subst, ap, ◌∙◌}
 use Rattle.seize_words.specs.Mem.{Mem, Took, value_at}
 use Rattle.seize_words.specs.Op.{Op, Out}
@@ -15,32 +15,24 @@ use Rattle.seize_rule.proofs.Rows.Others.{with_other, users_rows}
 use Rattle.seize_alone.proofs.Histories.Reached.{Reached}
 use Rattle.seize_seats.specs.State.{State, view_of, Goes}
 use Rattle.seize_bounds.specs.Bounds.{IsOfOthers, IsAloneOnSlot}
-use Rattle.seize_shared.specs.Rows.{row_of, use_of, IsShort, IsUsed, IsKnown, IsBounded, IsMade, IsInHand, RootsNameLinked, Fits, Came, Holds, Keeps}
+use Rattle.seize_shared.specs.Rows.{row_of, use_of, hand_of, had_in, IsShort, IsUsed, IsKnown, IsBounded, IsMade, IsInHand, RootsNameLinked, Fits, Came, Holds, Keeps}
+use Rattle.seize_shared.specs.Told.{alone_with}
 use Rattle.seize_shared.specs.declared.view.View.{View}
 use Rattle.seize_shared.specs.declared.view.View.TheVariants.{Outside, Owes, Inside}
 use Rattle.seize_shared.specs.declared.view.Has.{Has}
 use Rattle.seize_shared.specs.declared.view.Has.TheVariants.{Nothing, Made, Seen, Both, Cut}
 use Rattle.seize_shared.specs.declared.view.Fixed.{Fixed}
 use Rattle.seize_bounds.proofs.Bounds.Passing.{both}
-use Rattle.seize_shared.proofs.Moved.{StillHas, Passes, moved, still_used}
+use Rattle.seize_shared.proofs.Moved.{StillHave, IsSole, Passes, moved, still_used}
 use Rattle.seize_shared.proofs.Steps.{alone}
 
 -- hands of different kinds, and of different holders
-
-pub apart_making : (j i : ℕ) → world.Making j ≡ world.Making i → j ≡ i
-apart_making j i e = cc e
-
-pub cutting_making : (j i : ℕ) → world.Cutting j ≡ world.Making i → ⊥
-cutting_making j i e = cc e
 
 pub use_making : (r i : ℕ) → world.InUse r ≡ world.Making i → ⊥
 use_making r i e = cc e
 
 pub making_use : (j r : ℕ) → world.Making j ≡ world.InUse r → ⊥
 making_use j r e = cc e
-
-pub cutting_use : (j r : ℕ) → world.Cutting j ≡ world.InUse r → ⊥
-cutting_use j r e = cc e
 
 pub same_use : (a r : ℕ) → world.InUse a ≡ world.InUse r → a ≡ r
 same_use a r e = cc e
@@ -55,17 +47,17 @@ module _ {T : Type 0} where
       → Took s.world.memory op out m
   world_took s is op out m took = subst (λ (x : Mem T). Took x op out m) is took
 
-  same_made : (w n : World T) (j b : ℕ) (x : T) → n.hand ≡ w.hand → n.memory ≡ w.memory → IsMade w j b x → IsMade n j b x
-  same_made w n j b x hand memory is = (ap (λ (f : ℕ → Hand). f b) hand ∙ is.0, ap (λ (m : Mem T). value_at m b) memory ∙ is.1)
+  same_made : (w n : World T) (b : ℕ) (x : T) → n.hand ≡ w.hand → n.memory ≡ w.memory → IsMade w b x → IsMade n b x
+  same_made w n b x hand memory is = ((is.0.0, ap (λ (f : ℕ → Hand). f b) hand ∙ is.0.1), ap (λ (m : Mem T). value_at m b) memory ∙ is.1)
 
   -- what is known of a block stays known where hands and memory are as they were, and what the section holds is held
-  pub same_hand : (w n : World T) (j t : ℕ) → n.hand ≡ w.hand → n.memory ≡ w.memory → ((b : ℕ) → holds t b w.log ≡ true → holds t b n.log ≡ true)
-      → (has : Has T) → IsInHand w j t has → IsInHand n j t has
-  same_hand w n j t hand memory held Nothing is = tt
-  same_hand w n j t hand memory held (Made b x) is = same_made w n j b x hand memory is
-  same_hand w n j t hand memory held (Seen b) is = held b is
-  same_hand w n j t hand memory held (Both b x a) is = (same_made w n j b x hand memory is.0, held a is.1)
-  same_hand w n j t hand memory held (Cut b) is = ap (λ (f : ℕ → Hand). f b) hand ∙ is
+  pub same_hand : (w n : World T) (t : ℕ) → n.hand ≡ w.hand → n.memory ≡ w.memory → ((b : ℕ) → holds t b w.log ≡ true → holds t b n.log ≡ true)
+      → (has : Has T) → IsInHand w t has → IsInHand n t has
+  same_hand w n t hand memory held Nothing is = tt
+  same_hand w n t hand memory held (Made b x) is = same_made w n b x hand memory is
+  same_hand w n t hand memory held (Seen b) is = held b is
+  same_hand w n t hand memory held (Both b x a) is = (same_made w n b x hand memory is.0, held a is.1)
+  same_hand w n t hand memory held (Cut b) is = (is.0, ap (λ (f : ℕ → Hand). f b) hand ∙ is.1)
 
   -- a block that its maker has no section holds
   pub making_not_held : (defers : T → Option ℕ) (size : ℕ) (w : World T) (r : Reached defers size w) (id a b c : ℕ) → holds a c w.log ≡ true
@@ -85,8 +77,9 @@ module _ {T : Type 0} (defers : T → Option ℕ) (fixed : Fixed) (s : State T (
     pub memory : m ≡ n.memory
     pub row : n.row ≡ w.row
     pub uses : n.uses ≡ w.uses
-    pub in_hand : IsInHand n id t has
-    pub hands : (j b : ℕ) → j ≢ id → StillHas defers fixed s id n j b
+    pub in_hand : IsInHand n t has
+    pub hands : StillHave defers fixed s id n
+    pub sole : IsSole defers fixed s id (had_in has)
     pub values : (b : ℕ) → IsSome (value_at w.memory b) → IsSome (value_at n.memory b) → value_at n.memory b ≡ value_at w.memory b
     pub held : (a b : ℕ) → holds a b w.log ≡ true → holds a b n.log ≡ true
     pub over : (a b : ℕ) → holds a b w.log ≡ true → is_over b n.log ≡ is_over b w.log
@@ -112,9 +105,9 @@ module _ {T : Type 0} (defers : T → Option ℕ) (fixed : Fixed) (s : State T (
   fit = h.seats id v at
 
   -- the seat goes on from one view to another, of the same slot
-  pub users_on : (m : Mem T) (n : World T) (has : Has T) → Users defers fixed s id t m n has → IsKnown n id x → IsBounded defers fixed n id x
+  pub users_on : (m : Mem T) (n : World T) (has : Has T) → Users defers fixed s id t m n has → hand_of x ≡ had_in has → IsKnown n x → IsBounded defers fixed n id x
       → (so : View T → Type 0) → so x → Goes (Holds defers fixed) Keeps s m id so
-  users_on m n has u known bounded so is =
+  users_on m n has u hand known bounded so is =
       moved defers fixed s id v x m n so h at (record {
         came = u.came;
         memory = u.memory;
@@ -129,6 +122,7 @@ module _ {T : Type 0} (defers : T → Option ℕ) (fixed : Fixed) (s : State T (
         others = λ j y ne e. still_used s.world n (use_of y) (h.seats j y e).slot (λ a b q. ap (λ (f : ℕ → Use). f a) u.uses);
         alone = alone defers fixed s id v h at x (λ a b q. (b, sym same ∙ q));
         hands = u.hands;
+        sole = λ j b y ne e p q. u.sole j b y ne e p (sym hand ∙ q);
         values = u.values;
         held = λ a b inside held. u.held a b held;
         over = u.over;
@@ -138,17 +132,86 @@ module _ {T : Type 0} (defers : T → Option ℕ) (fixed : Fixed) (s : State T (
         bounded = bounded;
       }) is
 
+module _ {T : Type 0} where
+  -- a view for each thing that is known of a block, of a seat that stays where it is, and has no row under way
+  pub record Carries (t : ℕ) (place : Has T → View T) : Type 0 where
+    pub rests : (has : Has T) → row_of (place has) ≡ world.Rests
+    pub stays : (has other : Has T) → use_of (place has) ≡ use_of (place other)
+    pub short : (has : Has T) → IsShort (place has)
+    pub hand : (has : Has T) → hand_of (place has) ≡ had_in has
+    pub known : (w : World T) (has : Has T) → IsInHand w t has → IsKnown w (place has)
+    pub bounded : (defers : T → Option ℕ) (fixed : Fixed) (w : World T) (j : ℕ) (has : Has T) → IsBounded defers fixed w j (place has)
+
+  -- as one within a section of this slot does, or one without a slot
+
+  pub within : (t : ℕ) → Carries t (Inside t)
+  within t = record {
+    rests = λ has. refl;
+    stays = λ has other. refl;
+    short = λ has. tt;
+    hand = λ has. refl;
+    known = λ w has is. is;
+    bounded = λ defers fixed w j has. tt;
+  }
+
+  pub alone_carries : Carries 0 alone_with
+  alone_carries = record { rests = rests; stays = λ has other. none has ∙ sym (none other); short = short; hand = hand; known = known; bounded = bounded }
+    where
+      rests : (has : Has T) → row_of (alone_with has) ≡ world.Rests
+      rests Nothing = refl
+      rests (Made b x) = refl
+      rests (Seen b) = refl
+      rests (Both b x a) = refl
+      rests (Cut b) = refl
+
+      none : (has : Has T) → use_of (alone_with has) ≡ None
+      none Nothing = refl
+      none (Made b x) = refl
+      none (Seen b) = refl
+      none (Both b x a) = refl
+      none (Cut b) = refl
+
+      short : (has : Has T) → IsShort (alone_with has)
+      short Nothing = tt
+      short (Made b x) = tt
+      short (Seen b) = tt
+      short (Both b x a) = tt
+      short (Cut b) = tt
+
+      hand : (has : Has T) → hand_of (alone_with has) ≡ had_in has
+      hand Nothing = refl
+      hand (Made b x) = refl
+      hand (Seen b) = refl
+      hand (Both b x a) = refl
+      hand (Cut b) = refl
+
+      known : (w : World T) (has : Has T) → IsInHand w 0 has → IsKnown w (alone_with has)
+      known w Nothing is = tt
+      known w (Made b x) is = is
+      known w (Seen b) is = tt
+      known w (Both b x a) is = is.0
+      known w (Cut b) is = is
+
+      bounded : (defers : T → Option ℕ) (fixed : Fixed) (w : World T) (j : ℕ) (has : Has T) → IsBounded defers fixed w j (alone_with has)
+      bounded defers fixed w j Nothing = tt
+      bounded defers fixed w j (Made b x) = tt
+      bounded defers fixed w j (Seen b) = tt
+      bounded defers fixed w j (Both b x a) = tt
+      bounded defers fixed w j (Cut b) = tt
+
 module _ {T : Type 0} (defers : T → Option ℕ) (fixed : Fixed) (s : State T (View T) (World T)) (id t : ℕ) (h : Holds defers fixed s) where
-  -- within its section
-  pub users : (had : Has T) → view_of s id ≡ Some (Inside t had) → (m : Mem T) (n : World T) (has : Has T) → Users defers fixed s id t m n has
-      → (so : View T → Type 0) → so (Inside t has) → Goes (Holds defers fixed) Keeps s m id so
-  users had at m n has u so is = users_on defers fixed s id t (Inside t had) (Inside t has) h at refl refl refl tt m n has u u.in_hand tt so is
+  -- where it is, it knows something else of a block
+  pub users : (place : Has T → View T) → Carries t place → (had : Has T) → view_of s id ≡ Some (place had) → (m : Mem T) (n : World T) (has : Has T)
+      → Users defers fixed s id t m n has → (so : View T → Type 0) → so (place has) → Goes (Holds defers fixed) Keeps s m id so
+  users place c had at m n has u so is =
+      users_on defers fixed s id t (place had) (place has) h at (c.rests had) (c.rests has) (c.stays has had) (c.short has) m n has u (c.hand has)
+      (c.known n has u.in_hand) (c.bounded defers fixed n id has) so is
 
   -- or outside of one, where it knows of no block, or of one that it has unlinked
   pub users_outside : view_of s id ≡ Some (Outside t) → (m : Mem T) (n : World T) → Users defers fixed s id t m n Nothing → (so : View T → Type 0)
       → so (Outside t) → Goes (Holds defers fixed) Keeps s m id so
-  users_outside at m n u so is = users_on defers fixed s id t (Outside t) (Outside t) h at refl refl refl tt m n Nothing u tt tt so is
+  users_outside at m n u so is = users_on defers fixed s id t (Outside t) (Outside t) h at refl refl refl tt m n Nothing u refl tt tt so is
 
   pub users_owe : view_of s id ≡ Some (Outside t) → (m : Mem T) (n : World T) (b : ℕ) → Users defers fixed s id t m n (Cut b) → (so : View T → Type 0)
       → so (Owes t b) → Goes (Holds defers fixed) Keeps s m id so
-  users_owe at m n b u so is = users_on defers fixed s id t (Outside t) (Owes t b) h at refl refl refl tt m n (Cut b) u u.in_hand tt so is
+  users_owe at m n b u so is = users_on defers fixed s id t (Outside t) (Owes t b) h at refl refl refl tt m n (Cut b) u refl u.in_hand tt so is

@@ -7,7 +7,7 @@ use Rattle.seize_words.specs.Word.{block_in, link_to}
 use Rattle.seize_words.specs.Op.{Op, Out}
 use Rattle.seize_words.specs.declared.at.At.TheVariants.{Root}
 use Rattle.seize.specs.Law.{Unlinked}
-use Rattle.seize.specs.World.{World, Use, Hand, Operates, Links, Unlinks, MayCut, IsOwnOp, with_at, with_hand, with_effect}
+use Rattle.seize.specs.World.{World, Hand, Operates, Unlinks, MayCut, IsOwnOp, with_at, with_hand, with_effect}
 use Rattle.seize.specs.World as world
 use Rattle.seize_alone.proofs.Given.SeizeMoves.State.Held.{held_on}
 use Rattle.seize_rule.proofs.Rows.Others.{with_here, with_other}
@@ -19,9 +19,9 @@ use Rattle.seize_shared.specs.declared.view.View.{View}
 use Rattle.seize_shared.specs.declared.view.Has.TheVariants.{Nothing, Cut}
 use Rattle.seize_shared.specs.declared.view.Fixed.{Fixed}
 use Rattle.seize_shared.proofs.Lists.{there, elsewhere}
-use Rattle.seize_shared.proofs.Moved.{Passes}
+use Rattle.seize_shared.proofs.Moved.{hand_users, Passes}
 use Rattle.seize_shared.proofs.Came.{came_then}
-use Rattle.seize_shared.proofs.Users.{making_use, cutting_use, same_use}
+use Rattle.seize_shared.proofs.Users.{same_use}
 use Rattle.seize_shared.proofs.Users.{world_took, passes_one, passes_then, Users}
 
 -- a root is there
@@ -139,18 +139,15 @@ module _ {T : Type 0} (defers : T → Option ℕ) (fixed : Fixed) (s : State T (
       by false e (inr linked) =
           let mine : n.hand (block_in old) ≡ world.InUse a = still (block_in old) linked in
           let x : World T = with_effect (with_hand n (block_in old) (world.Cutting id)) (Unlinked (block_in old)) in
-          let keep : (b : ℕ) (k : Hand) → (k ≡ world.InUse a → ⊥) → n.hand b ≡ k → x.hand b ≡ k =
-          (λ b k ne f. with_other n.hand (block_in old) b (world.Cutting id) (λ q. ne (sym f ∙ ap n.hand q ∙ mine)) ∙ f) in
           goes.cut e x (record {
             came = came_then defers fixed n x (Unlinks id (block_in old)) u.came (subst (λ (k : Hand). MayCut id k) (sym mine) tt, refl);
             memory = u.memory;
             row = u.row;
             uses = u.uses;
-            in_hand = with_here n.hand (block_in old) (world.Cutting id);
-            hands = λ j b ne. (
-              λ f. keep b (world.Making j) (making_use j a) ((u.hands j b ne).0 f),
-              λ f. keep b (world.Cutting j) (cutting_use j a) ((u.hands j b ne).1 f),
-            );
+            in_hand = (id, with_here n.hand (block_in old) (world.Cutting id));
+            hands = λ j b y ne e q. with_other n.hand (block_in old) b (world.Cutting id)
+                (λ k. (hand_users w y b (h.seats j y e).known q).1 a (ap w.hand k ∙ linked)) ∙ u.hands j b y ne e q;
+            sole = λ j b y ne e q p. (hand_users w y b (h.seats j y e).known q).1 a (ap w.hand (sym (same_some (block_in old) b p)) ∙ linked);
             values = u.values;
             held = λ c b held. held_on c b (Unlinked (block_in old)) n.log tt (u.held c b held);
             over = u.over;
@@ -181,7 +178,8 @@ module _ {T : Type 0} (defers : T → Option ℕ) (fixed : Fixed) (s : State T (
         row = refl;
         uses = refl;
         in_hand = tt;
-        hands = λ j c ne. (λ f. f, λ f. f);
+        hands = λ j c y ne e q. refl;
+        sole = λ j c y ne e q p. cc p;
         values = λ c some some2. wrote.values c;
         held = λ e c held. held;
         over = λ e c held. refl;

@@ -7,7 +7,7 @@ use Rattle.seize.specs.Settle.{retiring, flushing}
 use Rattle.seize_shared.specs.declared.view.View.{View}
 use Rattle.seize_shared.specs.declared.view.Becomes.{Becomes}
 use Rattle.seize_shared.specs.declared.view.Becomes.TheVariants.{Idle, Active}
-use Rattle.seize_shared.specs.declared.view.View.TheVariants.{Rests, Registers, Outside, Owes, Enters, Inside, Settles, Leaves, Left, Frees}
+use Rattle.seize_shared.specs.declared.view.View.TheVariants.{Rests, Registers, Outside, Owes, Enters, Inside, Settles, Leaves, Left, Frees, Bears}
 use Rattle.seize_shared.specs.declared.view.Has.TheVariants.{Nothing, Seen, Cut}
 use Rattle.seize_shared.specs.declared.view.Why.TheVariants.{Retiring, Ending}
 use Rattle.seize_shared.specs.declared.view.Fixed.{Fixed}
@@ -62,6 +62,13 @@ Flushes fixed (Outside t) u = IsBegun Idle (flushing t fixed.batch_size) u
 Flushes fixed (Inside t Nothing) u = IsBegun Active (flushing t fixed.batch_size) u
 Flushes fixed (Inside t (Seen b)) u = IsBegun Active (flushing t fixed.batch_size) u
 Flushes fixed v u = u ≡ v
+
+-- who has no slot hands on the block that it has unlinked, to who has one, and no block in its hand
+abbrev pub Hands : {T : Type 0} → Fixed → View T → View T → View T → View T → Type 0
+Hands fixed (Bears b) (Outside t) v u = (v ≡ Rests) × (u ≡ Owes t b)
+Hands fixed (Bears b) (Inside t Nothing) v u = (v ≡ Rests) × (u ≡ Inside t (Cut b))
+Hands fixed (Bears b) (Inside t (Seen a)) v u = (v ≡ Rests) × (u ≡ Inside t (Cut b))
+Hands fixed v u v' u' = (v' ≡ v) × (u' ≡ u)
 
 -- a turn that makes this of a view
 abbrev pub Makes : {T : Type 0} → (Fixed → View T → View T) → Fixed → View T → View T → Type 0

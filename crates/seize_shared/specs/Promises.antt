@@ -13,14 +13,14 @@ use Rattle.seize.specs.Register.{register_plan}
 use Rattle.seize.specs.Settle.{retiring, flushing, settle_plan}
 use Rattle.seize.specs.World.{HasListWord}
 use Rattle.seize_seats.specs.Lendings.{Shown, IsValueOf}
-use Rattle.seize_seats.specs.State.{Starts, Comes, Allows, Turns}
-use Rattle.seize_shared.specs.Begun.{IsBegun, left_with}
+use Rattle.seize_seats.specs.State.{Starts, Comes, Allows, Turns, Meets}
+use Rattle.seize_shared.specs.Begun.{IsBegun, Hands, left_with}
 use Rattle.seize_shared.specs.Rows.{head_of, Holds, Keeps}
-use Rattle.seize_shared.specs.Told.{told}
+use Rattle.seize_shared.specs.Told.{alone_with, told}
 use Rattle.seize_shared.specs.declared.view.View.{View}
 use Rattle.seize_shared.specs.declared.view.Becomes.{Becomes}
 use Rattle.seize_shared.specs.declared.view.Becomes.TheVariants.{Idle, Active}
-use Rattle.seize_shared.specs.declared.view.View.TheVariants.{Rests, Registers, Outside, Owes, Enters, Inside, Settles, Leaves, Left, Frees}
+use Rattle.seize_shared.specs.declared.view.View.TheVariants.{Rests, Registers, Outside, Owes, Enters, Inside, Settles, Leaves, Left, Frees, Brings, Bears}
 use Rattle.seize_shared.specs.declared.view.Has.{Has}
 use Rattle.seize_shared.specs.declared.view.Has.TheVariants.{Nothing, Made, Seen, Both, Cut}
 use Rattle.seize_shared.specs.declared.view.Why.{Why}
@@ -86,6 +86,12 @@ IsLooking Nothing = Unit {0}
 IsLooking (Seen b) = Unit {0}
 IsLooking _ = ⊥
 
+-- a seat has a slot, and no block in its hand
+abbrev pub IsTaker : {T : Type 0} → View T → Type 0
+IsTaker (Outside t) = Unit {0}
+IsTaker (Inside t has) = IsLooking has
+IsTaker _ = ⊥
+
 module _ (T : Type 0) (defers : T → Option ℕ) where
   -- The promise: the rule may start, whatever is chosen.
   abbrev pub RulesStart : Type 0
@@ -147,6 +153,40 @@ module _ (T : Type 0) (defers : T → Option ℕ) where
   RootsAreWithdrawn =
       (r : ℕ) (fixed : Fixed) (id t : ℕ) → r < fixed.roots
       → Allows (Holds defers fixed) Keeps id (Outside t) (Swap (Root r) 0) (told defers (Outside t) (Swap (Root r) 0))
+
+  -- Without a slot a seat may make a block with the words that its value asks for, take it away, or put it at a root, in place of what is there, or only in
+  -- place of this word.
+  abbrev pub MayAlone : Has T → Op T → Type 0
+  MayAlone has op = (fixed : Fixed) (id : ℕ) → Allows (Holds defers fixed) Keeps id (alone_with has) op (told defers (alone_with has) op)
+
+  abbrev pub OwnAreMade : Type 0
+  OwnAreMade = (value : T) (words : ℕ) → HasListWord defers (defers value) words → MayAlone Nothing (Make value words)
+
+  abbrev pub OwnAreTaken : Type 0
+  OwnAreTaken = (b : ℕ) (x : T) → MayAlone (Made b x) (Take b)
+
+  abbrev pub OwnAreLinked : Type 0
+  OwnAreLinked =
+      (b : ℕ) (x : T) (r : ℕ) (fixed : Fixed) (id : ℕ) → r < fixed.roots
+      → Allows (Holds defers fixed) Keeps id (Brings b x) (Swap (Root r) (link_to b)) (told defers (Brings b x) (Swap (Root r) (link_to b)))
+
+  abbrev pub OwnAreExchanged : Type 0
+  OwnAreExchanged =
+      (b : ℕ) (x : T) (r old : ℕ) (fixed : Fixed) (id : ℕ) → r < fixed.roots
+      → Allows (Holds defers fixed) Keeps id (Brings b x) (Exchange (Root r) old (link_to b)) (told defers (Brings b x) (Exchange (Root r) old (link_to b)))
+
+  -- the block that it has is there, with the value that it was made of; or it was unlinked, and is there, too
+  abbrev pub OwnAreShown : Type 0
+  OwnAreShown =
+      (fixed : Fixed) (id b : ℕ) (x : T) → Shown (Holds defers fixed) id (Brings b x) b
+      × ((y : T) → IsValueOf (Holds defers fixed) id (Brings b x) b y → y ≡ x)
+
+  abbrev pub BorneAreShown : Type 0
+  BorneAreShown = (fixed : Fixed) (id b : ℕ) → Shown (Holds defers fixed) id (Bears b) b
+
+  -- which it may hand on, to a seat that has a slot, and no block in its hand
+  abbrev pub BorneAreHandedOn : Type 0
+  BorneAreHandedOn = (fixed : Fixed) (i j b : ℕ) (u : View T) → IsTaker u → Meets (Holds defers fixed) i (Bears b) j u (Hands fixed (Bears b) u)
 
   -- and the block that a seat knows of is there
   abbrev pub KnownAreShown : Type 0

@@ -21,7 +21,7 @@ use Rattle.seize_bounds.specs.Bounds.{SettlesWithin, TriesWithin}
 use Rattle.seize_shared.specs.declared.view.View.{View}
 use Rattle.seize_shared.specs.declared.view.Becomes.{Becomes}
 use Rattle.seize_shared.specs.declared.view.Becomes.TheVariants.{Idle, Active}
-use Rattle.seize_shared.specs.declared.view.View.TheVariants.{Rests, Registers, Outside, Owes, Enters, Inside, Settles, Leaves, Left, Frees}
+use Rattle.seize_shared.specs.declared.view.View.TheVariants.{Rests, Registers, Outside, Owes, Enters, Inside, Settles, Leaves, Left, Frees, Brings, Bears}
 use Rattle.seize_shared.specs.declared.view.Has.{Has}
 use Rattle.seize_shared.specs.declared.view.Has.TheVariants.{Nothing, Made, Seen, Both, Cut}
 use Rattle.seize_shared.specs.declared.view.Why.{Why}
@@ -63,6 +63,8 @@ row_of (Settles c why seen left) = settles_for why c
 row_of (Leaves t size way) = world.Leaves (leave_of t size way)
 row_of (Left t size way) = world.Leaves (standing (leave_of t size way) leaving_at.Over)
 row_of (Frees t) = world.Frees record { slot = t }
+row_of (Brings b x) = world.Rests
+row_of (Bears b) = world.Rests
 
 -- the slot that it holds, if it holds one, and how that is used
 abbrev pub use_of : {T : Type 0} → View T → Option (ℕ × Use)
@@ -76,6 +78,23 @@ use_of (Settles c why seen left) = Some (c.slot, used_for why)
 use_of (Leaves t size way) = Some (t, world.Changing)
 use_of (Left t size way) = Some (t, world.Changing)
 use_of (Frees t) = Some (t, world.Changing)
+use_of (Brings b x) = None
+use_of (Bears b) = None
+
+-- the block that is in its hand, if one is
+abbrev pub had_in : {T : Type 0} → Has T → Option ℕ
+had_in Nothing = None
+had_in (Made b x) = Some b
+had_in (Seen b) = None
+had_in (Both b x a) = Some b
+had_in (Cut b) = Some b
+
+abbrev pub hand_of : {T : Type 0} → View T → Option ℕ
+hand_of (Owes t b) = Some b
+hand_of (Inside t has) = had_in has
+hand_of (Brings b x) = Some b
+hand_of (Bears b) = Some b
+hand_of _ = None
 
 -- registering seeks a slot, and has none yet
 abbrev pub IsSeeking : Registering → Type 0
@@ -102,28 +121,34 @@ module _ {T : Type 0} where
   IsUsed w None = Unit {0}
   IsUsed w (Some slot) = w.uses slot.0 ≡ slot.1
 
-  -- this seat has made the block, of this value
-  abbrev pub IsMade : World T → ℕ → ℕ → T → Type 0
-  IsMade w j b x = (w.hand b ≡ world.Making j) × (value_at w.memory b ≡ Some x)
+  -- the block was made by some seat, of this value, and was not linked
+  abbrev pub IsMade : World T → ℕ → T → Type 0
+  IsMade w b x = ((h : ℕ) × (w.hand b ≡ world.Making h)) × (value_at w.memory b ≡ Some x)
 
-  -- what a seat within a section of this slot knows of a block
-  abbrev pub IsInHand : World T → ℕ → ℕ → Has T → Type 0
-  IsInHand w j t Nothing = Unit {0}
-  IsInHand w j t (Made b x) = IsMade w j b x
-  IsInHand w j t (Seen b) = holds t b w.log ≡ true
-  IsInHand w j t (Both b x a) = IsMade w j b x × (holds t a w.log ≡ true)
-  IsInHand w j t (Cut b) = w.hand b ≡ world.Cutting j
+  -- it was unlinked by some seat, and was not retired
+  abbrev pub IsCut : World T → ℕ → Type 0
+  IsCut w b = (h : ℕ) × (w.hand b ≡ world.Cutting h)
+
+  -- what a seat knows of a block, within a section of this slot where it has seen one
+  abbrev pub IsInHand : World T → ℕ → Has T → Type 0
+  IsInHand w t Nothing = Unit {0}
+  IsInHand w t (Made b x) = IsMade w b x
+  IsInHand w t (Seen b) = holds t b w.log ≡ true
+  IsInHand w t (Both b x a) = IsMade w b x × (holds t a w.log ≡ true)
+  IsInHand w t (Cut b) = IsCut w b
 
   -- the block that a settling is to look at is the one that it is about to reclaim, and has this value
   abbrev pub IsLooked : Mem T → Settle → Option (ℕ × T) → Type 0
   IsLooked m c None = Unit {0}
   IsLooked m c (Some seen) = IsReclaiming c.stands × (seen.0 ≡ block_in c.reclaiming) × (value_at m seen.0 ≡ Some seen.1)
 
-  abbrev pub IsKnown : World T → ℕ → View T → Type 0
-  IsKnown w j (Owes t b) = w.hand b ≡ world.Cutting j
-  IsKnown w j (Inside t has) = IsInHand w j t has
-  IsKnown w j (Settles c why seen left) = IsLooked w.memory c seen
-  IsKnown w j _ = Unit {0}
+  abbrev pub IsKnown : World T → View T → Type 0
+  IsKnown w (Owes t b) = IsCut w b
+  IsKnown w (Inside t has) = IsInHand w t has
+  IsKnown w (Brings b x) = IsMade w b x
+  IsKnown w (Bears b) = IsCut w b
+  IsKnown w (Settles c why seen left) = IsLooked w.memory c seen
+  IsKnown w _ = Unit {0}
 
   -- a root names no block, or one that is linked there
   abbrev pub RootsNameLinked : Mem T → (ℕ → Hand) → Type 0
@@ -134,7 +159,7 @@ module _ {T : Type 0} where
     pub row : w.row j ≡ row_of v
     pub slot : IsUsed w (use_of v)
     pub short : IsShort v
-    pub known : IsKnown w j v
+    pub known : IsKnown w v
 
 module _ {T : Type 0} (defers : T → Option ℕ) (fixed : Fixed) where
   -- What a seat settles it has settled within so many steps: where its section has ended, its list is counted down; else its block is retired, or its batch
@@ -154,6 +179,7 @@ module _ {T : Type 0} (defers : T → Option ℕ) (fixed : Fixed) where
     pub seats : (j : ℕ) (v : View T) → view_of s j ≡ Some v → Fits s.world j v
     pub unborn : (j : ℕ) → view_of s j ≡ None → s.world.row j ≡ world.Rests
     pub apart : (j k t : ℕ) (a b : Use) (v u : View T) → view_of s j ≡ Some v → view_of s k ≡ Some u → use_of v ≡ Some (t, a) → use_of u ≡ Some (t, b) → j ≡ k
+    pub sole : (j k b : ℕ) (v u : View T) → view_of s j ≡ Some v → view_of s k ≡ Some u → hand_of v ≡ Some b → hand_of u ≡ Some b → j ≡ k
     pub roots : RootsNameLinked s.memory s.world.hand
     pub rooted : length s.memory.roots ≡ fixed.roots
     pub bounded : (j : ℕ) (v : View T) → view_of s j ≡ Some v → IsBounded s.world j v

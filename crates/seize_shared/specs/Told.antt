@@ -13,10 +13,11 @@ use Rattle.seize.specs.declared.rows.settle.Settle.{Settle}
 use Rattle.seize.specs.declared.rows.settle.Settled.{Settled}
 use Rattle.seize.specs.Register.{register_plan}
 use Rattle.seize.specs.Settle.{counting_down, settle_plan}
+use Rattle.seize_straight.specs.Going.{DropGoes}
 use Rattle.seize_shared.specs.Rows.{IsShort}
 use Rattle.seize_shared.specs.declared.view.View.{View}
 use Rattle.seize_shared.specs.declared.view.Becomes.{Becomes}
-use Rattle.seize_shared.specs.declared.view.View.TheVariants.{Rests, Registers, Outside, Owes, Enters, Inside, Settles, Leaves, Left, Frees}
+use Rattle.seize_shared.specs.declared.view.View.TheVariants.{Rests, Registers, Outside, Owes, Enters, Inside, Settles, Leaves, Left, Frees, Brings, Bears}
 use Rattle.seize_shared.specs.declared.view.Has.{Has}
 use Rattle.seize_shared.specs.declared.view.Has.TheVariants.{Nothing, Made, Seen, Both, Cut}
 use Rattle.seize_shared.specs.declared.view.Why.{Why}
@@ -58,6 +59,14 @@ has_told Nothing (Load (Root r)) (Found word) after = after ≡ seen_in word
 has_told (Seen b) (Load (Root r)) (Found word) after = after ≡ seen_in word
 has_told _ op out after = ⊥
 
+-- how a seat stands that has no slot, and knows so of a block
+abbrev pub alone_with : {T : Type 0} → Has T → View T
+alone_with Nothing = Rests
+alone_with (Made b x) = Brings b x
+alone_with (Seen b) = Rests
+alone_with (Both b x a) = Brings b x
+alone_with (Cut b) = Bears b
+
 -- and what one outside of a section knows that has taken from a root what this word names
 abbrev pub owes_in : {T : Type 0} → ℕ → ℕ → View T
 owes_in t word = if block_in word == 0 then Outside t else Owes t (block_in word)
@@ -89,12 +98,13 @@ abbrev pub list_taken : {T : Type 0} → ℕ → ℕ → Becomes → ℕ → ℕ
 list_taken t size way head left = if nat_lt ACTIVE head then Settles (counting_down t size head) (Ending size way) None left else Left t size way
 
 module _ {T : Type 0} (defers : T → Option ℕ) where
-  -- a settling goes on, with the same slot, and fewer steps are left
+  -- a settling goes on, further steps are needed, with the same slot, and fewer are left
   pub record GoesOn (c : Settle) (why : Why) (left : ℕ) (out : Out T) (w : View T) : Type 0 where
     pub end : Settle × Settled T
     pub seen : Option (ℕ × T)
     pub now : ℕ
     pub follows : FollowsBy (shown_by seen) (settle_plan defers c) out end
+    pub further : DropGoes end.1
     pub slot : end.0.slot ≡ c.slot
     pub falls : now < left
     pub view : w ≡ Settles end.0 why seen now
@@ -103,6 +113,8 @@ module _ {T : Type 0} (defers : T → Option ℕ) where
   told (Registers c) op out w = (end : Register × Progress ℕ) × ComesTo (register_plan {T = T} c) out end × (w ≡ left_by end) × IsShort w
   told (Outside t) (Swap (Root r) word) (Found old) w = w ≡ owes_in t old
   told (Enters t) op out w = w ≡ Inside t Nothing
+  told Rests op out w = (after : Has T) × has_told Nothing op out after × (w ≡ alone_with after)
+  told (Brings b x) op out w = (after : Has T) × has_told (Made b x) op out after × (w ≡ alone_with after)
   told (Inside t has) op out w = (after : Has T) × has_told has op out after × (w ≡ Inside t after)
   told (Settles c why seen left) op out w = GoesOn c why left out w
   told (Leaves t size way) op (Found head) w = (left : ℕ) × (w ≡ list_taken t size way head left)

@@ -5,16 +5,16 @@ ghost use Rattle.seize.specs.World.{HasListWord};
 ghost use Rattle.seize.specs.declared.states.TheConstants.{LAST_SLOT};
 ghost use Rattle.seize.specs.declared.rows.register.Registering.TheVariants.{Take};
 ghost use Rattle.seize_seats.specs.Lendings.{IsValueOf};
-ghost use Rattle.seize_shared.specs.Promises.{IsLooking};
+ghost use Rattle.seize_shared.specs.Promises.{IsLooking, IsTaker};
 ghost use Rattle.seize_shared.specs.Rows.{Holds};
 ghost use Rattle.seize_shared.specs.Seeking.{row_at, seeks};
 ghost use Rattle.seize_shared.specs.Told.{seen_as, cut_as, made_beside};
-ghost use Rattle.seize_shared.specs.declared.view.View.TheVariants.{Rests, Registers, Outside, Owes, Inside};
+ghost use Rattle.seize_shared.specs.declared.view.View.TheVariants.{Rests, Registers, Outside, Owes, Inside, Bears};
 ghost use Rattle.seize_shared.specs.declared.view.Has.{Has};
 ghost use Rattle.seize_shared.specs.declared.view.Has.TheVariants.{Nothing, Made, Seen, Cut};
 
 use crate::rows::OfRows;
-use crate::turns::{Entering, Freeing, Registering};
+use crate::turns::{Entering, Freeing, Handing, Registering};
 use seize::rows::{Defers, needed_bucket};
 use seize::states::{ACTIVE, FREE, HEAD, IDLE, LAST_SLOT, NEVER};
 use seize_blocks::{Blocks, Seat};
@@ -242,6 +242,18 @@ impl<'a, T: Defers> Caller<'a, T> {
         named(old)
     }
 
+    /// Takes over a block that another seat has unlinked, which has no slot. What it has seen it doesn't know any more.
+    pub(crate) fn takes_over(&mut self, _slot: u64, seat: &mut Seat<T, OfRows>, _block: u64)
+        requires own { seat.old.base ≡ self.old.blocks.now.words.id.views_name }
+        requires bears { seat.old.view ≡ Bears _block }
+        requires takes { IsTaker self.old.seat.view }
+        ensures outside { self.old.seat.view ≡ Outside _slot → self.new.seat.view ≡ Owes _slot _block }
+        ensures inside { (has : Has T) → IsLooking has → self.old.seat.view ≡ Inside _slot has → self.new.seat.view ≡ Inside _slot (Cut _block) }
+        ensures blocks { self.new.blocks ≡ self.old.blocks }
+    {
+        self.blocks.meet::<Handing>(seat, &mut self.seat);
+    }
+
     /// Sees which block is at a root. Its section holds it from now on. What it has seen before it doesn't know any more.
     pub fn see(&mut self, _slot: u64, root: u64) -> Option<u64>
         requires inside { (has : Has T) × IsLooking has × (self.old.seat.view ≡ Inside _slot has) }
@@ -296,7 +308,7 @@ impl<'a, T: Defers> Drop for Caller<'a, T> {
 }
 
 /// How many words a block of this value has, if they can be counted.
-fn words_for<T: Defers>(value: &T) -> Option<u64>
+pub(crate) fn words_for<T: Defers>(value: &T) -> Option<u64>
     ensures words { IfSome result (λ words. HasListWord T.defers (T.defers value.now) words) }
 {
     match value.deferred() {
@@ -306,7 +318,7 @@ fn words_for<T: Defers>(value: &T) -> Option<u64>
 }
 
 /// The block that a word of a root names.
-fn named(word: u64) -> Option<u64>
+pub(crate) fn named(word: u64) -> Option<u64>
     ensures some { IfSome result (λ block. (block ≡ block_in word) × (block < 2 ^ 53) × (block ≢ 0)) }
     ensures none { IfNone result (block_in word ≡ 0) }
 {

@@ -1,11 +1,13 @@
 //! Guards of sections: what they have in common, one of a slot that stays on its thread, and one with a slot of its own that may be sent.
-ghost use Rattle.std.specs.Prelude.{◌≡◌, ◌≢◌, ℕ, Bool, None, IfOk, IfErr, IfNone, IfSome, true, false};
+ghost use Rattle.std.specs.Prelude.{◌≡◌, ◌≢◌, ◌<◌, ◌^◌, ℕ, Bool, None, IfOk, IfErr, IfNone, IfSome, true, false};
+ghost use Rattle.seize_shared.specs.declared.view.View.TheVariants.{Bears};
 
+use crate::owned::Unlinked;
 use crate::rows::OfRows;
 use crate::stay::Stay;
 use crate::view::Fixed;
 use seize::rows::Defers;
-use seize_blocks::Blocks;
+use seize_blocks::{Blocks, Seat};
 use seize_words::Fault;
 use std::marker::PhantomData;
 
@@ -20,6 +22,7 @@ impl<'a, T: Defers + Drop> Registration<'a, T> {
     /// Takes the first slot that can be taken. What was chosen as the memory was opened is handed in.
     pub fn new(blocks: &'a Blocks<T, OfRows>, fixed: &Fixed) -> Result<Self, Fault>
         requires fixed { blocks.now.words.fixed ≡ fixed.now }
+        ensures home { IfOk result (λ registration. registration.stay.caller.blocks.now ≡ blocks.now) }
     {
         let stay = Stay::new(blocks, fixed)?;
         Ok(Registration {
@@ -30,15 +33,26 @@ impl<'a, T: Defers + Drop> Registration<'a, T> {
 
     /// Takes the value from a root, and retires it, without a section; tells whether there was one. Where a guard was forgotten its section ends first.
     pub fn clear(&mut self, root: u64) -> bool
+        ensures home { self.new.stay.caller.blocks ≡ self.old.stay.caller.blocks }
         ensures slot { self.new.stay.slot ≡ self.old.stay.slot }
         ensures closed { self.new.stay.inside ≡ false }
     {
         self.stay.withdraws(root)
     }
 
+    /// Retires a block that was taken from a root of the same memory, without a section. Where a guard was forgotten its section stays open.
+    pub fn retire<'u>(&mut self, old: Unlinked<'u, T>)
+        requires home { old.blocks.now.words.id.views_name ≡ self.old.stay.caller.blocks.now.words.id.views_name }
+        ensures home { self.new.stay.caller.blocks ≡ self.old.stay.caller.blocks }
+        ensures slot { self.new.stay.slot ≡ self.old.stay.slot }
+    {
+        self.stay.retires(old)
+    }
+
     /// Tries the slot's batch, whatever its length, without a section. A value that is reclaimed is dropped. Where a guard was forgotten its section ends
     /// first.
     pub fn flush(&mut self)
+        ensures home { self.new.stay.caller.blocks ≡ self.old.stay.caller.blocks }
         ensures slot { self.new.stay.slot ≡ self.old.stay.slot }
         ensures closed { self.new.stay.inside ≡ false }
     {
@@ -49,6 +63,7 @@ impl<'a, T: Defers + Drop> Registration<'a, T> {
     /// Opens a section of the slot. Where a guard was forgotten its section ends first.
     pub fn enter<'r>(&'r mut self) -> LocalGuard<'r, 'a, T>
         ensures inside { result.registration.now.stay.inside ≡ true }
+        ensures home { result.registration.now.stay.caller.blocks ≡ self.old.stay.caller.blocks }
         ensures slot { result.registration.now.stay.slot ≡ self.old.stay.slot }
         ensures fresh { result.registration.now.stay.seen ≡ 0 }
     {
@@ -59,6 +74,9 @@ impl<'a, T: Defers + Drop> Registration<'a, T> {
 
 /// What guards of sections have in common, so that a call can take any of them.
 pub trait Guard<T: Defers> {
+    /// The memory that it is of.
+    ghost home: { Self → ℕ };
+
     /// The slot of its section.
     ghost slot: { Self → ℕ };
 
@@ -77,12 +95,14 @@ pub trait Guard<T: Defers> {
 
     /// Ends the section and begins the next one. A value that is reclaimed is dropped.
     fn refresh(&mut self)
+        ensures home { home self.new ≡ home self.old }
         ensures slot { slot self.new ≡ slot self.old }
         ensures inside { inside self.new ≡ true }
         ensures fresh { seen self.new ≡ 0 };
 
     /// Looks which value is at a root, and tells whether one is.
     fn see(&mut self, root: u64) -> bool
+        ensures home { home self.new ≡ home self.old }
         ensures slot { slot self.new ≡ slot self.old }
         ensures inside { inside self.new ≡ inside self.old }
         ensures seen { result ≡ true → seen self.new ≢ 0 };
@@ -96,6 +116,7 @@ pub trait Guard<T: Defers> {
     /// Puts a value at a root, and retires the one that was there. It comes back where there is no such root, or no block can be made of it. The section is
     /// begun anew.
     fn put(&mut self, root: u64, value: T) -> Result<(), T>
+        ensures home { home self.new ≡ home self.old }
         ensures slot { slot self.new ≡ slot self.old }
         ensures inside { inside self.new ≡ true }
         ensures fresh { seen self.new ≡ 0 }
@@ -104,18 +125,31 @@ pub trait Guard<T: Defers> {
     /// Puts a value at a root if what it has seen last is there, or nothing where it has seen nothing, and retires that. Else the value comes back, and it has
     /// seen what is there. It comes back, too, where there is no such root, or no block can be made of it.
     fn exchange(&mut self, root: u64, value: T) -> Result<(), T>
+        ensures home { home self.new ≡ home self.old }
         ensures slot { slot self.new ≡ slot self.old }
         ensures inside { inside self.new ≡ inside self.old }
         ensures back { IfErr result (λ back. back ≡ value) };
 
     /// Takes the value from a root, and retires it; tells whether there was one. The section is begun anew.
     fn clear(&mut self, root: u64) -> bool
+        ensures home { home self.new ≡ home self.old }
         ensures slot { slot self.new ≡ slot self.old }
         ensures inside { inside self.new ≡ true }
         ensures fresh { seen self.new ≡ 0 };
 
+    /// Retires a block that a seat without a slot has unlinked, of the same memory (`Unlinked` does so by it). What it has seen it doesn't know any more.
+    fn takes_over(&mut self, seat: &mut Seat<T, OfRows>, block: u64)
+        requires own { seat.old.base ≡ home self.old }
+        requires bears { seat.old.view ≡ Bears block }
+        requires fits { block < 2 ^ 53 }
+        ensures home { home self.new ≡ home self.old }
+        ensures slot { slot self.new ≡ slot self.old }
+        ensures inside { inside self.new ≡ inside self.old }
+        ensures fresh { seen self.new ≡ 0 };
+
     /// Tries the slot's batch, whatever its length. A value that is reclaimed is dropped. What it has seen it doesn't know any more.
     fn flush(&mut self)
+        ensures home { home self.new ≡ home self.old }
         ensures slot { slot self.new ≡ slot self.old }
         ensures inside { inside self.new ≡ inside self.old }
         ensures fresh { seen self.new ≡ 0 };
@@ -128,6 +162,8 @@ pub struct LocalGuard<'r, 'a, T: Defers + Drop> {
 
 impl<'r, 'a, T: Defers + Drop> Guard<T> for LocalGuard<'r, 'a, T> {
     ghost use Rattle.seize_shared.specs.Lent.{IsLent};
+
+    ghost home = { λ g. g.registration.now.stay.caller.blocks.now.words.id.views_name };
 
     ghost slot = { λ g. g.registration.now.stay.slot };
 
@@ -165,6 +201,10 @@ impl<'r, 'a, T: Defers + Drop> Guard<T> for LocalGuard<'r, 'a, T> {
         self.registration.stay.clears(root)
     }
 
+    fn takes_over(&mut self, seat: &mut Seat<T, OfRows>, block: u64) {
+        self.registration.stay.takes_over(seat, block);
+    }
+
     fn flush(&mut self) {
         self.registration.stay.flushes();
     }
@@ -191,6 +231,7 @@ impl<'a, T: Defers + Drop> OwnedGuard<'a, T> {
     /// Takes the first slot that can be taken, and opens a section of it. What was chosen as the memory was opened is handed in.
     pub fn enter(blocks: &'a Blocks<T, OfRows>, fixed: &Fixed) -> Result<Self, Fault>
         requires fixed { blocks.now.words.fixed ≡ fixed.now }
+        ensures home { IfOk result (λ guard. guard.stay.caller.blocks.now ≡ blocks.now) }
         ensures fresh { IfOk result (λ guard. guard.stay.seen ≡ 0) }
     {
         let mut stay = Stay::new(blocks, fixed)?;
@@ -201,6 +242,8 @@ impl<'a, T: Defers + Drop> OwnedGuard<'a, T> {
 
 impl<'a, T: Defers + Drop> Guard<T> for OwnedGuard<'a, T> {
     ghost use Rattle.seize_shared.specs.Lent.{IsLent};
+
+    ghost home = { λ g. g.stay.caller.blocks.now.words.id.views_name };
 
     ghost slot = { λ g. g.stay.slot };
 
@@ -236,6 +279,10 @@ impl<'a, T: Defers + Drop> Guard<T> for OwnedGuard<'a, T> {
 
     fn clear(&mut self, root: u64) -> bool {
         self.stay.clears(root)
+    }
+
+    fn takes_over(&mut self, seat: &mut Seat<T, OfRows>, block: u64) {
+        self.stay.takes_over(seat, block);
     }
 
     fn flush(&mut self) {

@@ -2,6 +2,7 @@
 ghost use Rattle.seize_shared.specs.Promises.{RulesStart, SeatsCome, RowsGoOn, RowsTurn, SettlingsBegin, LookedAreShown};
 ghost use Rattle.seize_shared.specs.Promises.{BlocksAreMade, MadeAreTaken, MadeAreLinked, MadeAreExchanged, KnownAreShown};
 ghost use Rattle.seize_shared.specs.Promises.{RootsAreSeen, RootsAreCleared, RootsAreWithdrawn};
+ghost use Rattle.seize_shared.specs.Promises.{OwnAreMade, OwnAreTaken, OwnAreLinked, OwnAreExchanged, OwnAreShown, BorneAreShown, BorneAreHandedOn};
 
 use seize::rows::Defers;
 
@@ -26,4 +27,16 @@ pub fn sections_go_on<T: Defers>()
     ensures cleared { RootsAreCleared T T.defers }
     ensures withdrawn { RootsAreWithdrawn T T.defers }
     ensures known { KnownAreShown T T.defers }
+{}
+
+/// Without a slot a block may be made, looked at, taken away by its maker, and put at a root, whatever is there or only in place of a word; and one that is
+/// taken from there so may be looked at, and handed on to who has a slot.
+pub fn blocks_have_seats<T: Defers>()
+    ensures made { OwnAreMade T T.defers }
+    ensures taken { OwnAreTaken T T.defers }
+    ensures linked { OwnAreLinked T T.defers }
+    ensures exchanged { OwnAreExchanged T T.defers }
+    ensures shown { OwnAreShown T T.defers }
+    ensures borne { BorneAreShown T T.defers }
+    ensures handed { BorneAreHandedOn T T.defers }
 {}

@@ -6,6 +6,7 @@ mod caller;
 mod guard;
 mod law;
 mod memory;
+mod owned;
 mod rows;
 mod stay;
 mod turns;
@@ -13,6 +14,7 @@ mod view;
 
 pub use caller::Caller;
 pub use guard::{Guard, LocalGuard, OwnedGuard, Registration};
-pub use law::{rows_go_on, sections_go_on};
+pub use law::{blocks_have_seats, rows_go_on, sections_go_on};
+pub use owned::{Owned, Unlinked};
 pub use rows::OfRows;
 pub use view::{Becomes, Fixed, Has, View, Why};

@@ -1,6 +1,7 @@
 //! A caller as the memory of the rows that it has under way: it retires blocks, and leaves.
 ghost use Rattle.std.specs.Prelude.{◌≡◌, ◌≢◌, ◌<◌, ◌^◌, ℕ, true, false};
 ghost use Rattle.seize.specs.declared.rows.settle.Settling.TheVariants.{Over};
+ghost use Rattle.seize.specs.Settle.{retiring};
 ghost use Rattle.seize_shared.specs.Begun.{IsBegun, left_with};
 ghost use Rattle.seize_shared.specs.Made.{IsSettling, left_in};
 ghost use Rattle.seize_shared.specs.Promises.{IsLooking};
@@ -10,12 +11,14 @@ ghost use Rattle.seize_shared.specs.declared.view.Has.{Has};
 ghost use Rattle.seize_shared.specs.declared.view.Has.TheVariants.{Nothing, Cut};
 ghost use Rattle.seize_shared.specs.declared.view.View.TheVariants.{Outside, Owes, Inside, Left};
 ghost use Rattle.seize_shared.specs.declared.view.Why.{Why};
+ghost use Rattle.seize_shared.specs.declared.view.Why.TheVariants as reason;
 
 use crate::caller::Caller;
 use crate::turns::{Ending, Flushing, Leaving, Refreshing, Retiring};
 use seize::Machine;
 use seize::rows::{Defers, Settle, Settled, Settling};
 use seize::states::{ACTIVE, HEAD, IDLE};
+use seize_straight::{Retired, reclaims, retire, settle_of};
 use seize_words::{At, Fault, Link, Look, Memory};
 
 /// Whether a settling has ended.
@@ -54,18 +57,34 @@ impl<'a, T: Defers + Drop> Caller<'a, T> {
     {
         while !is_over(row) {
             drop(self.steps(row));
+            reclaims(row, self);
         }
     }
 
-    /// Takes a settling to its end that has begun as a block is retired, or a batch tried.
+    /// Takes a settling to its end by which a block is retired, or a batch tried.
     fn ends(&mut self, row: Settle)
-        requires begun { (way : Becomes) × IsBegun way row self.old.seat.view }
-        ensures rests { (way : Becomes) → IsBegun way row self.old.seat.view → self.new.seat.view ≡ left_with way row.slot }
+        requires settling { (way : Becomes) × IsSettling (reason.Retiring way) row self.old.seat.view }
+        ensures rests { (way : Becomes) → IsSettling (reason.Retiring way) row self.old.seat.view → self.new.seat.view ≡ left_with way row.slot }
         ensures blocks { self.new.blocks ≡ self.old.blocks }
     {
         let mut row = row;
         self.settles(&mut row);
         self.blocks.turn::<Ending>(&mut self.seat);
+    }
+
+    /// Retires the block of this link, whose retirement has begun.
+    fn retires(&mut self, slot: u64, link: u64)
+        requires begun { (way : Becomes) × IsBegun way (retiring slot self.old.blocks.now.words.fixed.batch_size link) self.old.seat.view }
+        ensures rests { (way : Becomes) → IsBegun way (retiring slot self.old.blocks.now.words.fixed.batch_size link) self.old.seat.view
+            → self.new.seat.view ≡ left_with way slot }
+        ensures blocks { self.new.blocks ≡ self.old.blocks }
+    {
+        let size = self.batch_size;
+        let retired = retire(self, slot, size, link);
+        match retired {
+            Retired::Ended => self.blocks.turn::<Ending>(&mut self.seat),
+            _ => self.ends(settle_of(slot, size, link, retired)),
+        }
     }
 
     /// Counts a list down that was taken from its slot.
@@ -137,7 +156,7 @@ impl<'a, T: Defers + Drop> Caller<'a, T> {
         ensures blocks { self.new.blocks ≡ self.old.blocks }
     {
         self.blocks.turn::<Retiring>(&mut self.seat);
-        self.ends(Settle::retire(slot, self.batch_size, Link::to(block)));
+        self.retires(slot, Link::to(block));
     }
 
     /// Retires the block that it has taken from a root while no section of its slot was open, nor is. A value that is reclaimed is dropped.
@@ -148,7 +167,7 @@ impl<'a, T: Defers + Drop> Caller<'a, T> {
         ensures blocks { self.new.blocks ≡ self.old.blocks }
     {
         self.blocks.turn::<Retiring>(&mut self.seat);
-        self.ends(Settle::retire(slot, self.batch_size, Link::to(block)));
+        self.retires(slot, Link::to(block));
     }
 }
 

@@ -1,13 +1,15 @@
 //! A slot that is held, and its section, which is open or not.
-ghost use Rattle.std.specs.Prelude.{◌≡◌, ◌≢◌, ◌<◌, ◌^◌, None, Some, IfErr, IfNone, IfSome, true, false};
+ghost use Rattle.std.specs.Prelude.{◌≡◌, ◌≢◌, ◌<◌, ◌^◌, None, Some, IfOk, IfErr, IfNone, IfSome, true, false};
 ghost use Rattle.seize_shared.specs.Lent.{IsLent};
 ghost use Rattle.seize_shared.specs.Standing.{standing};
+ghost use Rattle.seize_shared.specs.declared.view.View.TheVariants.{Bears};
 
 use crate::caller::Caller;
+use crate::owned::Unlinked;
 use crate::rows::OfRows;
 use crate::view::Fixed;
 use seize::rows::Defers;
-use seize_blocks::Blocks;
+use seize_blocks::{Blocks, Seat};
 use seize_words::Fault;
 
 /// A caller who holds a slot: whether its section is open, and which block was seen there, 0 for none. The slot is given up as this ends.
@@ -26,6 +28,7 @@ impl<'a, T: Defers + Drop> Stay<'a, T> {
     /// Takes the first slot that can be taken. What was chosen as the memory was opened is handed in.
     pub(crate) fn new(blocks: &'a Blocks<T, OfRows>, fixed: &Fixed) -> Result<Self, Fault>
         requires fixed { blocks.now.words.fixed ≡ fixed.now }
+        ensures home { IfOk result (λ stay. stay.caller.blocks.now ≡ blocks.now) }
     {
         let mut caller = Caller::new(blocks, fixed.batch_size);
         let slot = caller.register()?;
@@ -40,6 +43,7 @@ impl<'a, T: Defers + Drop> Stay<'a, T> {
 
     /// Begins a section anew, or opens one.
     pub(crate) fn refreshes(&mut self)
+        ensures home { self.new.caller.blocks ≡ self.old.caller.blocks }
         ensures slot { self.new.slot ≡ self.old.slot }
         ensures inside { self.new.inside ≡ true }
         ensures fresh { self.new.seen ≡ 0 }
@@ -55,6 +59,7 @@ impl<'a, T: Defers + Drop> Stay<'a, T> {
 
     /// Ends the section that is open, if one is.
     pub(crate) fn closes(&mut self)
+        ensures home { self.new.caller.blocks ≡ self.old.caller.blocks }
         ensures slot { self.new.slot ≡ self.old.slot }
         ensures closed { self.new.inside ≡ false }
     {
@@ -68,6 +73,7 @@ impl<'a, T: Defers + Drop> Stay<'a, T> {
     /// Looks which block is at a root, and tells whether one is, where its section is open. What was seen before is not known any more, if there is such a
     /// root.
     pub(crate) fn sees(&mut self, root: u64) -> bool
+        ensures home { self.new.caller.blocks ≡ self.old.caller.blocks }
         ensures slot { self.new.slot ≡ self.old.slot }
         ensures inside { self.new.inside ≡ self.old.inside }
         ensures seen { result ≡ true → self.new.seen ≢ 0 }
@@ -102,6 +108,7 @@ impl<'a, T: Defers + Drop> Stay<'a, T> {
 
     /// Puts a value at a root, and retires the one that was there. It comes back where there is no such root, or no block can be made of it.
     pub(crate) fn puts(&mut self, root: u64, value: T) -> Result<(), T>
+        ensures home { self.new.caller.blocks ≡ self.old.caller.blocks }
         ensures slot { self.new.slot ≡ self.old.slot }
         ensures inside { self.new.inside ≡ true }
         ensures fresh { self.new.seen ≡ 0 }
@@ -124,6 +131,7 @@ impl<'a, T: Defers + Drop> Stay<'a, T> {
     /// Puts a value at a root if what was seen is there, or nothing where nothing was seen, and retires that. Else the value comes back, and what is there
     /// was seen. It comes back, too, where there is no such root, no block can be made of it, or no section is open.
     pub(crate) fn exchanges(&mut self, root: u64, value: T) -> Result<(), T>
+        ensures home { self.new.caller.blocks ≡ self.old.caller.blocks }
         ensures slot { self.new.slot ≡ self.old.slot }
         ensures inside { self.new.inside ≡ self.old.inside }
         ensures back { IfErr result (λ back. back ≡ value) }
@@ -153,6 +161,7 @@ impl<'a, T: Defers + Drop> Stay<'a, T> {
 
     /// Takes the value from a root, and retires it, while no section is open; tells whether there was one.
     pub(crate) fn withdraws(&mut self, root: u64) -> bool
+        ensures home { self.new.caller.blocks ≡ self.old.caller.blocks }
         ensures slot { self.new.slot ≡ self.old.slot }
         ensures closed { self.new.inside ≡ false }
     {
@@ -171,6 +180,7 @@ impl<'a, T: Defers + Drop> Stay<'a, T> {
 
     /// Takes the value from a root, and retires it; tells whether there was one.
     pub(crate) fn clears(&mut self, root: u64) -> bool
+        ensures home { self.new.caller.blocks ≡ self.old.caller.blocks }
         ensures slot { self.new.slot ≡ self.old.slot }
         ensures inside { self.new.inside ≡ true }
         ensures fresh { self.new.seen ≡ 0 }
@@ -188,8 +198,45 @@ impl<'a, T: Defers + Drop> Stay<'a, T> {
         }
     }
 
+    /// Retires a block that another seat has unlinked, which has no slot, whether a section is open or not. What was seen before is not known any more.
+    pub(crate) fn takes_over(&mut self, seat: &mut Seat<T, OfRows>, block: u64)
+        requires own { seat.old.base ≡ self.old.caller.blocks.now.words.id.views_name }
+        requires bears { seat.old.view ≡ Bears block }
+        requires fits { block < 2 ^ 53 }
+        ensures home { self.new.caller.blocks ≡ self.old.caller.blocks }
+        ensures slot { self.new.slot ≡ self.old.slot }
+        ensures inside { self.new.inside ≡ self.old.inside }
+        ensures fresh { self.new.seen ≡ 0 }
+    {
+        self.caller.takes_over(self.slot, seat, block);
+        if self.inside {
+            self.caller.retire(self.slot, block);
+        } else {
+            self.caller.retire_idle(self.slot, block);
+        }
+        self.seen = 0;
+    }
+
+    /// Retires a block that has a seat of its own.
+    pub(crate) fn retires<'u>(&mut self, old: Unlinked<'u, T>)
+        requires home { old.blocks.now.words.id.views_name ≡ self.old.caller.blocks.now.words.id.views_name }
+        ensures home { self.new.caller.blocks ≡ self.old.caller.blocks }
+        ensures slot { self.new.slot ≡ self.old.slot }
+        ensures inside { self.new.inside ≡ self.old.inside }
+        ensures fresh { self.new.seen ≡ 0 }
+    {
+        let Unlinked {
+            blocks: _,
+            seat,
+            block,
+        } = old;
+        let mut seat = seat;
+        self.takes_over(&mut seat, block);
+    }
+
     /// Tries the slot's batch, whatever its length, where its section is open.
     pub(crate) fn flushes(&mut self)
+        ensures home { self.new.caller.blocks ≡ self.old.caller.blocks }
         ensures slot { self.new.slot ≡ self.old.slot }
         ensures inside { self.new.inside ≡ self.old.inside }
         ensures fresh { self.new.seen ≡ 0 }

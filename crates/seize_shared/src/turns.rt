@@ -1,6 +1,6 @@
-//! The steps of a seat that make no operation.
+//! The steps of a seat, or of two, that make no operation.
 use crate::view::{Fixed, View};
-use seize_blocks::Turn;
+use seize_blocks::{Meeting, Turn};
 
 /// Registering begins.
 pub(crate) struct Registering;
@@ -25,6 +25,9 @@ pub(crate) struct Ending;
 
 /// Giving up begins.
 pub(crate) struct Freeing;
+
+/// A block that was unlinked is handed on.
+pub(crate) struct Handing;
 
 impl<T> Turn<Fixed, View<T>> for Registering {
     ghost use Rattle.seize_shared.specs.Begun.{registering, Makes};
@@ -72,4 +75,10 @@ impl<T> Turn<Fixed, View<T>> for Freeing {
     ghost use Rattle.seize_shared.specs.Begun.{freeing, Makes};
 
     ghost to = { Makes freeing };
+}
+
+impl<T> Meeting<Fixed, View<T>> for Handing {
+    ghost use Rattle.seize_shared.specs.Begun.{Hands};
+
+    ghost to = { Hands };
 }

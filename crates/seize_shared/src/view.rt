@@ -24,6 +24,10 @@ pub enum View<T> {
     Left(u64, u64, Becomes),
     /// It is about to give this slot up.
     Frees(u64),
+    /// It holds no slot, and has made this block, of this value, which nobody else can reach.
+    Brings(u64, T),
+    /// It holds no slot, and is to hand on this block, which it has unlinked.
+    Bears(u64),
 }
 
 /// Which block a seat within a section knows of.

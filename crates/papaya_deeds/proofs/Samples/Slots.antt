@@ -5,9 +5,9 @@ use Rattle.papaya_schedules.specs.declared.effect.Effect.TheVariants.{Asked, Rec
 use Rattle.papaya_schedules.specs.declared.effect.Growth.TheVariants.{ABucket}
 use Rattle.papaya_schedules.specs.declared.effect.Thing.TheVariants.{APair}
 use Rattle.papaya_schedules.specs.declared.outcome.Outcome.TheVariants.{Goes}
-use Rattle.papaya_deeds.specs.Deeds.{Entry, Leaves, Registers, Shuts}
+use Rattle.papaya_deeds.specs.Deeds.{Entry, Leaves, Registers, Shuts, Tends}
 use Rattle.papaya_deeds.specs.History.{MovesOn}
-use Rattle.papaya_deeds.proofs.Samples.{either, entry, one_none, yes_no}
+use Rattle.papaya_deeds.proofs.Samples.{either, entry, one_none, removed, yes_no}
 use Rattle.papaya_deeds.proofs.Samples.Maps.{terms}
 
 abbrev asks : Bool → ℕ → Entry ℕ ℕ
@@ -37,15 +37,23 @@ asks_twice is = either (λ e. one_none e.1) none_some is.finds.0
 asks_early : MovesOn terms (asks false 0 ∷ []) (asks false 1) → ⊥
 asks_early is = either (λ e. one_none e.0) none_some is.finds.0
 
--- Wrong: who registers reclaims, who leaves asks for a bucket, and the step by which a section ends reclaims.
+-- A batch is flushed in whose slot no section is open: what it holds may be given back.
 abbrev back : List Effect
 back = Reclaimed (APair 1) ∷ []
+
+flushes : MovesOn terms (entry (Shuts 3) Goes [] ∷ removed) (entry (Tends 3) Goes back)
+flushes = record { finds = (tt, tt); may = refl; granted = refl; refuses = tt; whole = tt; leaves = tt }
+
+-- Wrong: who registers reclaims, who leaves or flushes asks for a bucket, and the step by which a section ends reclaims.
 
 registers_reclaims : MovesOn terms [] (entry (Registers 0) Goes back) → ⊥
 registers_reclaims is = yes_no (sym is.may)
 
 leaves_asks : MovesOn terms [] (entry (Leaves 0) Goes (Asked ABucket ∷ [])) → ⊥
 leaves_asks is = yes_no (sym is.may)
+
+flushes_asks : MovesOn terms [] (entry (Tends 0) Goes (Asked ABucket ∷ [])) → ⊥
+flushes_asks is = yes_no (sym is.may)
 
 shuts_reclaims : MovesOn terms [] (entry (Shuts 0) Goes back) → ⊥
 shuts_reclaims is = yes_no (sym is.may)

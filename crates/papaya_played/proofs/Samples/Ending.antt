@@ -1,13 +1,14 @@
--- A short list of acts, played: a map ends with its pair; and one is refused as it is made.
+-- A short list of acts, played: a map ends with its pair; one is refused as it is made, and one is made without a table.
 use Rattle.std.specs.Prelude.{◌++◌, replicate}
 use Rattle.std.proofs.Common.{◌≡◌, ℕ, true, List, [], ◌∷◌, refl, Some, None}
 use Rattle.papaya_scenes.specs.Given.SeizeWords.declared.fault.Fault.TheVariants.{Memory}
 use Rattle.papaya_scenes.specs.Given.Seize.World.{Leave'}
 use Rattle.papaya_scenes.specs.Given.Tables.declared.resize_mode.ResizeMode.TheVariants as mode
+use Rattle.papaya_scenes.specs.Given.Tables.declared.setting.Setting.{Setting}
 use Rattle.papaya_schedules.specs.declared.effect.Effect.TheVariants.{Asked, Ended, Taken}
 use Rattle.papaya_schedules.specs.declared.effect.Growth.TheVariants.{ABlock}
 use Rattle.papaya_schedules.specs.declared.outcome.Outcome.TheVariants.{Done, Goes, Refused}
-use Rattle.papaya_schedules.specs.Views.{size_of}
+use Rattle.papaya_schedules.specs.Views.{size_of, tables_of}
 use Rattle.papaya_acts.specs.Acts.{BeginsMaking, StepsMaking, BeginsEnding, StepsEnding, BeginsRow, StepsRow}
 use Rattle.papaya_deeds.specs.Deeds.{Shuts, Leaves, MapComes, Makes, MapFails, Ends, MapGoes, Entry, moment}
 use Rattle.papaya_played.proofs.Samples.{Doings, does, entry, finds, first, found, given, history_of}
@@ -60,3 +61,19 @@ refused =
 
 refusal_is : history_of is_refused ≡ Some refused
 refusal_is = refl
+
+-- A map that begins without a table is made for no pairs.
+abbrev bare : Setting
+bare = record given { initial = 1 }
+
+abbrev makes_bare : Doings
+makes_bare = does (BeginsMaking 0 0 7 bare 0) ∷ does (StepsMaking 0 None) ∷ does (StepsMaking 0 (Some 1)) ∷ []
+
+abbrev made_bare : List (Entry ℕ ℕ)
+made_bare = entry (Makes 0) Done (Asked ABlock ∷ []) ∷ entry (MapComes 0 0 (mode.Incremental 64) 0) Goes [] ∷ []
+
+making_bare_is : history_of makes_bare ≡ Some made_bare
+making_bare_is = refl
+
+has_no_table : tables_of 0 (moment made_bare) ≡ []
+has_no_table = refl

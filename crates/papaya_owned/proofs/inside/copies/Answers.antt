@@ -7,7 +7,7 @@ use Rattle.papaya_resize.specs.Copier.{copier_plan}
 use Rattle.papaya_owned.specs.Ending.{none_taken, one_more}
 use Rattle.papaya_owned.proofs.Inner.{copier_may, helps_on}
 use Rattle.papaya_straight.specs.Going.{CopyGoes}
-use Rattle.papaya_straight.specs.Runs.{MayRun}
+use Rattle.seize_straight.specs.Runs.{MayRun}
 use Rattle.papaya_owned.proofs.Runs.Leading.{ends_along, leads_on}
 use Rattle.papaya_owned.proofs.Straight.{copies_run, places_on}
 use Rattle.papaya_owned.proofs.inside.copies.Goals as goal

@@ -5,7 +5,7 @@ use Rattle.std.proofs.Common.{sym, ◌∙◌, subst}
 use Rattle.seize_words.specs.Op.{Or, Store, Found, Stored}
 use Rattle.seize_words.specs.declared.at.At.{At}
 use Rattle.papaya_tables.specs.declared.marks.TheConstants.{COPIED, COPYING}
-use Rattle.papaya_straight.specs.Runs.{none_taken}
+use Rattle.seize_straight.specs.Runs.{none_taken}
 use Rattle.papaya_straight.specs.declared.copying.Placed.TheVariants as placed
 use Rattle.papaya_straight.proofs.Copies as by
 use Rattle.papaya_straight.proofs.copying.copy_place.Given as given

@@ -1,6 +1,6 @@
 -- Each place leads on.
-use Rattle.papaya_straight.specs.Runs.{none_taken}
-use Rattle.papaya_straight.proofs.Running.{leads_on, runs_along}
+use Rattle.seize_straight.specs.Runs.{none_taken}
+use Rattle.seize_straight.proofs.Running.{leads_on, runs_along}
 use Rattle.papaya_straight.proofs.copying.copy_places.Goals as goal
 
 pub loop-init : goal.loop-init

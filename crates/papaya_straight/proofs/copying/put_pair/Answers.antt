@@ -6,8 +6,8 @@ use Rattle.papaya_resize.specs.CopierMarks.{probing}
 use Rattle.papaya_resize.specs.CopierStates.{standing}
 use Rattle.papaya_resize.specs.declared.copier.Copying.TheVariants as at
 use Rattle.papaya_straight.specs.Going.{CopyLeads}
-use Rattle.papaya_straight.specs.Runs.{none_taken}
-use Rattle.papaya_straight.proofs.Running.{leads_on, runs_along}
+use Rattle.seize_straight.specs.Runs.{none_taken}
+use Rattle.seize_straight.proofs.Running.{leads_on, runs_along}
 use Rattle.papaya_straight.proofs.copying.put_pair.Goals as goal
 
 pub loop-init : goal.loop-init

@@ -3,7 +3,7 @@ use Rattle.std.proofs.Common.{sym, ◌∙◌, ap, subst}
 use Rattle.std.specs.Prelude.{◌≡◌, IsSome, Some}
 use Rattle.papaya_tables.specs.declared.table.Table.{Table}
 use Rattle.papaya_straight.proofs.Disposals as by
-use Rattle.papaya_straight.proofs.Running.{next, on_from, reaches_to}
+use Rattle.seize_straight.proofs.Running.{next, on_from, reaches_to}
 use Rattle.papaya_straight.proofs.disposing.dispose.Given as given
 use Rattle.papaya_straight.proofs.disposing.dispose.Goals as goal
 use Rattle.papaya_straight.proofs.disposing.dispose.Goals.{After-value}

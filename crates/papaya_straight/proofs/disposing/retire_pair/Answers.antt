@@ -2,8 +2,8 @@
 use Rattle.std.proofs.Common.{sym, subst}
 use Rattle.seize.specs.Settle.{retiring}
 use Rattle.papaya_tables.specs.Nodes.{deferred_word}
-use Rattle.papaya_straight.specs.Going.{MaySettle, SettleReaches}
-use Rattle.papaya_straight.specs.Retiring.{retired}
+use Rattle.seize_straight.specs.Going.{MaySettle, SettleReaches}
+use Rattle.seize_straight.specs.Retiring.{retired}
 use Rattle.papaya_straight.proofs.Disposals.{may_retire, pair_retired}
 use Rattle.papaya_straight.proofs.disposing.retire_pair.Goals as goal
 

@@ -7,8 +7,8 @@ use Rattle.papaya_resize.specs.Lookup.{lookup_plan, told, told_of, word_read}
 use Rattle.papaya_resize.specs.declared.lookup.Looking.TheVariants as at
 use Rattle.papaya_straight.specs.Going.{LookGoes}
 use Rattle.papaya_straight.specs.Looking.{glance_at, looks}
-use Rattle.papaya_straight.specs.Reaches.{ComesTo}
-use Rattle.papaya_straight.proofs.Running.{begins, comes_to, next}
+use Rattle.seize_straight.specs.Reaches.{ComesTo}
+use Rattle.seize_straight.proofs.Running.{begins, comes_to, next}
 use Rattle.papaya_straight.proofs.looking.look_at.Goals as goal
 
 pub load-word-requires : goal.load-word-requires

@@ -2,8 +2,8 @@
 use Rattle.papaya_resize.specs.Lookup.{lookup_plan}
 use Rattle.papaya_straight.specs.Going.{LookGoes}
 use Rattle.papaya_straight.specs.Looking.{sight_at}
-use Rattle.papaya_straight.specs.Runs.{none_taken}
-use Rattle.papaya_straight.proofs.Running.{leads_on, reaches_on, runs_along}
+use Rattle.seize_straight.specs.Runs.{none_taken}
+use Rattle.seize_straight.proofs.Running.{leads_on, reaches_on, runs_along}
 use Rattle.papaya_straight.proofs.looking.look_on.Goals as goal
 
 pub loop-init : goal.loop-init

@@ -4,7 +4,7 @@ use Rattle.std.proofs.Common.{sym, ◌∙◌, ap, subst}
 use Rattle.papaya_tables.specs.Trials.{first_trial}
 use Rattle.papaya_straight.specs.Looking.{sight_at}
 use Rattle.papaya_straight.proofs.Looks as by
-use Rattle.papaya_straight.proofs.Running.{begins, next, on_from, reaches_to}
+use Rattle.seize_straight.proofs.Running.{begins, next, on_from, reaches_to}
 use Rattle.papaya_straight.proofs.looking.look_up.Goals as goal
 
 pub load-link-requires : goal.load-link-requires

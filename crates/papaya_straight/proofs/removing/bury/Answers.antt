@@ -9,7 +9,7 @@ use Rattle.papaya_straight.specs.Going.{CallReaches}
 use Rattle.papaya_straight.specs.Removing.{seeking, sought_at}
 use Rattle.papaya_straight.specs.declared.removing.Sought.{Sought}
 use Rattle.papaya_straight.proofs.Removals as by
-use Rattle.papaya_straight.proofs.Running.{begins, next}
+use Rattle.seize_straight.proofs.Running.{begins, next}
 use Rattle.papaya_straight.proofs.removing.bury.Given as given
 use Rattle.papaya_straight.proofs.removing.bury.Goals as goal
 use Rattle.papaya_straight.proofs.removing.bury.Goals.{After-count, After-reread, In-Ok}

@@ -10,7 +10,7 @@ use Rattle.papaya_straight.specs.Removing.{removed_at, seeking}
 use Rattle.papaya_straight.specs.declared.removing.Removal.{Removal}
 use Rattle.papaya_straight.specs.declared.removing.Removed.TheVariants as removed
 use Rattle.papaya_straight.proofs.Removals as by
-use Rattle.papaya_straight.proofs.Running.{begins, led_to, next, on_from, reaches_to}
+use Rattle.seize_straight.proofs.Running.{begins, led_to, next, on_from, reaches_to}
 use Rattle.papaya_straight.proofs.removing.remove.Given as given
 use Rattle.papaya_straight.proofs.removing.remove.Goals as goal
 use Rattle.papaya_straight.proofs.removing.remove.Goals.{After-first-first, In-Stands-default-Tries}

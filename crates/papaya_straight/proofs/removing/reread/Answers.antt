@@ -3,7 +3,7 @@ use Rattle.std.proofs.Common.{subst}
 use Rattle.papaya_tables.specs.declared.finding.Finding.{Finding}
 use Rattle.papaya_raw.specs.CallPoints.{told, told_of}
 use Rattle.papaya_straight.specs.Going.{CallGoes}
-use Rattle.papaya_straight.specs.Reaches.{ComesTo}
+use Rattle.seize_straight.specs.Reaches.{ComesTo}
 use Rattle.papaya_straight.specs.Removing.{seeking, sought_at}
 use Rattle.papaya_straight.proofs.removing.reread.Goals as goal
 

@@ -5,7 +5,7 @@ use Rattle.seize_words.specs.Op.{Load, Found}
 use Rattle.seize_words.specs.declared.at.At.{At}
 use Rattle.papaya_raw.specs.declared.machines.call.Calling.TheVariants as at
 use Rattle.papaya_straight.proofs.Removals as by
-use Rattle.papaya_straight.proofs.Running.{begins, next}
+use Rattle.seize_straight.proofs.Running.{begins, next}
 use Rattle.papaya_straight.proofs.removing.seek.Goals as goal
 
 pub load-word-requires : goal.load-word-requires

@@ -2,8 +2,8 @@
 use Rattle.papaya_raw.specs.Call.{call_plan}
 use Rattle.papaya_straight.specs.Going.{CallGoes}
 use Rattle.papaya_straight.specs.Removing.{removed_at}
-use Rattle.papaya_straight.specs.Runs.{none_taken}
-use Rattle.papaya_straight.proofs.Running.{leads_on, reaches_on, runs_along}
+use Rattle.seize_straight.specs.Runs.{none_taken}
+use Rattle.seize_straight.proofs.Running.{leads_on, reaches_on, runs_along}
 use Rattle.papaya_straight.proofs.removing.seek_on.Goals as goal
 
 pub loop-init : goal.loop-init

@@ -7,7 +7,7 @@ use Rattle.papaya_raw.specs.declared.machines.call.Calling.TheVariants as at
 use Rattle.papaya_straight.specs.Going.{CallLeads}
 use Rattle.papaya_straight.specs.Storing.{storing, try_at}
 use Rattle.papaya_straight.specs.declared.storing.Tried.{Tried}
-use Rattle.papaya_straight.proofs.Running.{begins, next}
+use Rattle.seize_straight.proofs.Running.{begins, next}
 use Rattle.papaya_straight.proofs.Stores as by
 use Rattle.papaya_straight.proofs.storing.put.Given as given
 use Rattle.papaya_straight.proofs.storing.put.Goals as goal

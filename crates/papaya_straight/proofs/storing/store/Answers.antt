@@ -6,11 +6,11 @@ use Rattle.papaya_tables.specs.declared.trial.Trial.{Trial}
 use Rattle.papaya_raw.specs.CallPoints.{untried}
 use Rattle.papaya_raw.specs.declared.machines.call.Calling.TheVariants as at
 use Rattle.papaya_straight.specs.Going.{CallLeads}
-use Rattle.papaya_straight.specs.Runs.{none_taken}
+use Rattle.seize_straight.specs.Runs.{none_taken}
 use Rattle.papaya_straight.specs.Storing.{call_at, storing}
 use Rattle.papaya_straight.specs.declared.storing.Spot.{Spot}
 use Rattle.papaya_straight.specs.declared.storing.Spot.TheVariants as spot
-use Rattle.papaya_straight.proofs.Running.{begins, led_to, next, on_from, reaches_to}
+use Rattle.seize_straight.proofs.Running.{begins, led_to, next, on_from, reaches_to}
 use Rattle.papaya_straight.proofs.Stores as by
 use Rattle.papaya_straight.proofs.storing.store.Given as given
 use Rattle.papaya_straight.proofs.storing.store.Goals as goal

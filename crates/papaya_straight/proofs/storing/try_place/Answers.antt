@@ -4,7 +4,7 @@ use Rattle.std.specs.Prelude.{true}
 use Rattle.seize_words.specs.Op.{Load, Found}
 use Rattle.seize_words.specs.declared.at.At.{At}
 use Rattle.papaya_raw.specs.declared.machines.call.Calling.TheVariants as at
-use Rattle.papaya_straight.proofs.Running.{begins, next}
+use Rattle.seize_straight.proofs.Running.{begins, next}
 use Rattle.papaya_straight.proofs.Stores as by
 use Rattle.papaya_straight.proofs.storing.try_place.Goals as goal
 

@@ -2,21 +2,19 @@ use Rattle.std.proofs.Common.{refl, ap, ◌∙◌}
 use Rattle.seize_shared.specs.Begun.{ended, left_with}
 use Rattle.seize_shared.specs.declared.view.View.TheVariants.{Settles}
 use Rattle.seize_shared.specs.declared.view.Why.TheVariants.{Retiring}
-use Rattle.seize_shared.proofs.Calls.{may_turn, settling_row}
+use Rattle.seize_shared.proofs.Calls.{may_turn}
 use Rattle.seize_shared.proofs.caller.Caller.ends.Goals as goal
 
 pub settles-requires : goal.settles-requires
-settles-requires g c =
-    let b = c.requires.begun in record { settling = (Retiring b.0, settling_row b.0 c.args.row c.args.self.now.seat.view b.1) }
+settles-requires g c = let b = c.requires.settling in record { settling = (Retiring b.0, b.1) }
 
 pub turn-requires-clause-may : goal.turn-requires-clause-may
 turn-requires-clause-may g c =
-    let b = c.requires.begun in let n = c.settles.new.self in
-    let k = c.settles.ensures.settling (Retiring b.0) (settling_row b.0 c.args.row c.args.self.now.seat.view b.1) in
+    let b = c.requires.settling in let n = c.settles.new.self in let k = c.settles.ensures.settling (Retiring b.0) b.1 in
     may_turn g.T.Defers.defers n.blocks.now.words.fixed n.seat.id n.seat.view (Settles c.settles.new.row (Retiring b.0) k.0 k.1) k.2 ended
     (c.settles.ensures.over, refl)
 
 pub returns-clause-rests : goal.returns-clause-rests
-returns-clause-rests g c = λ way begun.
-    let k = c.settles.ensures.settling (Retiring way) (settling_row way c.args.row c.args.self.now.seat.view begun) in
+returns-clause-rests g c = λ way is.
+    let k = c.settles.ensures.settling (Retiring way) is in
     c.turn.ensures.goes ∙ ap (ended c.settles.new.self.blocks.now.words.fixed) k.2 ∙ ap (left_with way) c.settles.ensures.slot

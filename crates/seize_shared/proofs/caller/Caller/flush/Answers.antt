@@ -3,7 +3,7 @@ use Rattle.seize.specs.declared.rows.settle.Settle.{Settle}
 use Rattle.seize.specs.Settle.{flushing}
 use Rattle.seize_shared.specs.Begun.{left_with}
 use Rattle.seize_shared.specs.declared.view.Becomes.TheVariants.{Active}
-use Rattle.seize_shared.proofs.Calls.{may_flush, flushes_told}
+use Rattle.seize_shared.proofs.Calls.{may_flush, flushes_told, settling_row}
 use Rattle.seize_shared.proofs.caller.Caller.flush.Goals as goal
 
 pub turn-requires-clause-may : goal.turn-requires-clause-may
@@ -15,12 +15,12 @@ pub ends-requires : goal.ends-requires
 ends-requires g c =
     let x = c.args.self.now in let fixed = x.blocks.now.words.fixed in let i = c.requires.inside in
     let row : c.flush.result ≡ flushing c.args.slot fixed.batch_size = c.flush.ensures ∙ ap (flushing c.args.slot) (sym x.sized) in
-    record { begun = (Active, flushes_told fixed x.seat.view c.turn.new.seat.view c.args.slot i.0 c.flush.result i.1 i.2 c.turn.ensures.goes row) }
+    record { settling = (Active, settling_row Active c.flush.result c.turn.new.seat.view (flushes_told fixed x.seat.view c.turn.new.seat.view c.args.slot i.0 c.flush.result i.1 i.2 c.turn.ensures.goes row)) }
 
 pub returns-clause-inside : goal.returns-clause-inside
 returns-clause-inside g c =
     let x = c.args.self.now in let fixed = x.blocks.now.words.fixed in let i = c.requires.inside in
     let row : c.flush.result ≡ flushing c.args.slot fixed.batch_size = c.flush.ensures ∙ ap (flushing c.args.slot) (sym x.sized) in
     c.ends.ensures.rests Active
-    (flushes_told fixed x.seat.view c.turn.new.seat.view c.args.slot i.0 c.flush.result i.1 i.2 c.turn.ensures.goes row)
+    (settling_row Active c.flush.result c.turn.new.seat.view (flushes_told fixed x.seat.view c.turn.new.seat.view c.args.slot i.0 c.flush.result i.1 i.2 c.turn.ensures.goes row))
     ∙ ap (λ (r : Settle). left_with Active r.slot) row

@@ -3,7 +3,7 @@ use Rattle.seize.specs.declared.rows.settle.Settle.{Settle}
 use Rattle.seize.specs.Settle.{flushing}
 use Rattle.seize_shared.specs.Begun.{left_with}
 use Rattle.seize_shared.specs.declared.view.Becomes.TheVariants.{Idle}
-use Rattle.seize_shared.proofs.Calls.{may_flush_idle, flushes_idle_told}
+use Rattle.seize_shared.proofs.Calls.{may_flush_idle, flushes_idle_told, settling_row}
 use Rattle.seize_shared.proofs.caller.Caller.flush_idle.Goals as goal
 
 pub turn-requires-clause-may : goal.turn-requires-clause-may
@@ -15,12 +15,12 @@ pub ends-requires : goal.ends-requires
 ends-requires g c =
     let x = c.args.self.now in let fixed = x.blocks.now.words.fixed in let i = c.requires.outside in
     let row : c.flush.result ≡ flushing c.args.slot fixed.batch_size = c.flush.ensures ∙ ap (flushing c.args.slot) (sym x.sized) in
-    record { begun = (Idle, flushes_idle_told fixed x.seat.view c.turn.new.seat.view c.args.slot c.flush.result i c.turn.ensures.goes row) }
+    record { settling = (Idle, settling_row Idle c.flush.result c.turn.new.seat.view (flushes_idle_told fixed x.seat.view c.turn.new.seat.view c.args.slot c.flush.result i c.turn.ensures.goes row)) }
 
 pub returns-clause-outside : goal.returns-clause-outside
 returns-clause-outside g c =
     let x = c.args.self.now in let fixed = x.blocks.now.words.fixed in let i = c.requires.outside in
     let row : c.flush.result ≡ flushing c.args.slot fixed.batch_size = c.flush.ensures ∙ ap (flushing c.args.slot) (sym x.sized) in
     c.ends.ensures.rests Idle
-    (flushes_idle_told fixed x.seat.view c.turn.new.seat.view c.args.slot c.flush.result i c.turn.ensures.goes row)
+    (settling_row Idle c.flush.result c.turn.new.seat.view (flushes_idle_told fixed x.seat.view c.turn.new.seat.view c.args.slot c.flush.result i c.turn.ensures.goes row))
     ∙ ap (λ (r : Settle). left_with Idle r.slot) row

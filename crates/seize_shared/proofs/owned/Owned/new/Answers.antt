@@ -1,0 +1,16 @@
+use Rattle.std.proofs.Common.{subst}
+use Rattle.std.specs.Prelude.{ℕ, Option, IfSome}
+use Rattle.seize.specs.World.{HasListWord}
+use Rattle.seize_shared.proofs.Beginnings.{seats_come}
+use Rattle.seize_shared.proofs.Owning.{may_make_own}
+use Rattle.seize_shared.proofs.owned.Owned.new.Goals as goal
+
+pub seat-seat-requires : goal.seat-seat-requires
+seat-seat-requires g c = seats_come g.row.T.Denot g.T.Defers.defers c.args.blocks.now.words.fixed
+
+pub make-requires-clause-may : goal.make-requires-clause-may
+make-requires-clause-may g c =
+    let x = c.seat-seat.result in
+    let defers = g.T.Defers.defers in
+    may_make_own defers c.args.blocks.now.words.fixed x.id x.view c.seat-seat.ensures.1 c.args.value c.before.before.before.in-Some.words
+    (subst (λ (o : Option ℕ). IfSome o (λ words. HasListWord defers (defers c.args.value) words)) c.before.before.before.in-Some.is c.words_for.ensures.words)
