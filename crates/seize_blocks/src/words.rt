@@ -9,6 +9,7 @@ ghost use Rattle.seize_seats.specs.Doors.{before, block_bytes, words_from, IsFur
 ghost use Rattle.seize_seats.specs.Steps.{roomed};
 ghost use Rattle.seize_seats.specs.Lendings.{ShownToBoth, IsValueOfBoth};
 ghost use Rattle.seize_seats.specs.Owned.{BaseId, base_id_coded, core_of, stride, IsFirst, IsLike, words_own, words_share};
+ghost use Rattle.seize_blocks.specs.Bare.{bare};
 ghost use Rattle.seize_blocks.specs.Placed.{IsItsPlace, IsItsSign, IsItsIndex};
 ghost use Rattle.seize_seats.specs.Plots.{HasFirst};
 
@@ -35,9 +36,9 @@ pub struct Words<T, R: Rule<T>> {
 }
 
 impl<T, R: Rule<T>> Model for Words<T, R> {
-    ghost also_owns = { λ s. words_own T.row R.View.row.coded.code (R.holds s.fixed) s.words s.id };
+    ghost also_owns = { λ s. words_own T.row bare R.View.row.coded.code (R.holds s.fixed) s.words s.id };
 
-    ghost also_shares = { λ s _ κ. words_share T.row R.View.row.coded.code (R.holds s.fixed) s.words s.id κ };
+    ghost also_shares = { λ s _ κ. words_share T.row bare R.View.row.coded.code (R.holds s.fixed) s.words s.id κ };
 }
 
 impl<T, R: Rule<T>> Words<T, R> {

@@ -50,6 +50,7 @@ use Rattle.seize_blocks.proofs.words.Words.load.Statement.{statement}
 use Rattle.seize_blocks.proofs.words.Words.load.Code as code
 use Rattle.seize_seats.specs.Stretches.{seat_owns}
 use Rattle.seize_seats.proofs.Stretches.{ends, begins}
+use Rattle.seize_blocks.specs.Bare.{bare}
 
 pub load_spec : {M : Type 1} → statement M
 load_spec 𝓤 𝓛 𝓜 𝓡 wired X P U F LX LP LU LF g d _ =
@@ -97,12 +98,12 @@ load_spec 𝓤 𝓛 𝓜 𝓡 wired X P U F LX LP LU LF g d _ =
     keep ! (4 ∷ 6 ∷ 1 ∷ 2 ∷ 7 ∷ 8 ∷ []) $
     enter ! 𝓣.C 𝓣.Λ fn vals Post $ alloc_all ! (λ l. pass_all ! refl ((tt, tt), ((tt, tt), ((tt, tt), ((tt, record { fits = are.1.1.1.0.1 }), tt)))) $
     let Ev = env fn.locals l in
-    use1 𝓛 (‵ (hidden_shr D κ (p, (tt, tt)) b o) ⊛ ‵ (fhide (words_share R₀ cv.code holds p z κ)))
+    use1 𝓛 (‵ (hidden_shr D κ (p, (tt, tt)) b o) ⊛ ‵ (fhide (words_share R₀ bare cv.code holds p z κ)))
     (lent_out 𝓛 (words.struct R₀ R₁ R₂ R₃ g)
     (words.the_codes X.Denot P.Denot U.Denot F.Denot R₀.coded R₁.coded R₂.coded R₃.coded (marker.the_row (Tuple (R₀ ∷ R₁ ∷
     []))).coded) (words.the_heap R₀ R₁ R₂ R₃ g) (words.the_lent R₀ R₁ R₂ R₃ g) κ t b o) $
     split ! $ move ! (1 ∷ []) $ unhide ! $ fsplit ! $ move ! (1 ∷ []) $
-    use1 𝓛 (given (IsPlaced R₀ p z) (‵ (common R₀ cv.code holds p z))) (placed R₀ cv holds p z 𝓛) $ learn ! (λ there. fsplit ! $ drop ! $
+    use1 𝓛 (given (IsPlaced R₀ p z) (‵ (common R₀ bare cv.code holds p z))) (placed R₀ bare cv holds p z 𝓛) $ learn ! (λ there. fsplit ! $ drop ! $
     let at_p : p ≡ block_ptr pb po = at_block p there.0 in let small : i * 8 < 2 ^ 64 = let low = asked.1.1 in omega (arith, low) in
     -- [the invariant; its lifetime lasts; the fields; the token; the seat, by two; its token; the others]
     move ! (2 ∷ 3 ∷ []) $ looks ! tt D (opened R₀ R₁ R₂ R₃ g 𝓛) (p, (tt, tt)) b o (λ q vs. move ! (1 ∷ []) $
@@ -117,12 +118,12 @@ load_spec 𝓤 𝓛 𝓜 𝓡 wired X P U F LX LP LU LF g d _ =
     move ! (3 ∷ 0 ∷ []) $
     let e : ℕ = i * 8 + po in
     shr_bor-open ! tt (tokens_halve 𝓛 α) (λ s. let out : ℕ
-    → Fml = λ n. fsep (flft α s) (told_by 𝓛 R₀ cv holds g.keeps p z id v nm i (Load nm) f Found so n) in
+    → Fml = λ n. fsep (flft α s) (told_by 𝓛 R₀ bare cv holds g.keeps p z id v nm i (Load nm) f Found so n) in
     move ! (4 ∷ 5 ∷ 6 ∷ []) $ opens ! tt Sr b' o' (λ ts. move ! (1 ∷ []) $ fsplit ! $
     rewrite ! 1 (λ (u : ℕ). ‵ (seat_owns cv.code u id v h.stretch h.mark)) asked.0 refl $ move ! (1 ∷ []) $
-    use1 𝓛 (later (‵ (seat_of 𝓛 R₀ cv holds g.keeps p z id v))) (ends 𝓛 cv z.views_name id v h.stretch h.mark) $ await ! tt $ move ! (1 ∷ 0 ∷ []) $ move ! (9 ∷ 7 ∷ 1 ∷ []) $
+    use1 𝓛 (later (‵ (seat_of 𝓛 R₀ bare cv holds g.keeps p z id v))) (ends 𝓛 cv z.views_name id v h.stretch h.mark) $ await ! tt $ move ! (1 ∷ 0 ∷ []) $ move ! (9 ∷ 7 ∷ 1 ∷ []) $
     use3 𝓛 (raw (𝓣.C _ (vptr pb e ∷ seq_cst ∷ []) (λ u. mean 𝓛 (found out u))))
-    (via 𝓤 _ (steps 𝓛 R₀ cv holds g.keeps p z id v nm i (Load nm) f Found so (Steps.loads X.Denot p z nm i asked.1.0) asked.2 s)
+    (via 𝓤 _ (steps 𝓛 R₀ bare cv holds g.keeps p z id v nm i (Load nm) f Found so (Steps.loads X.Denot p z nm i asked.1.0) asked.2 s)
     (loads 𝓛 𝓜 𝓡 (code.calls-core::raw_atomic::load 𝓡.env wired) (block_ptr pb e) out)) $
     sets ! (agg ! (and_then ! (lit ! tt) (no_more !))) refl (tt, (record { fits = lit< tt }, tt)) $
     Calls-last ! (fm 𝓛 𝓜 𝓡) (found out) (and_then ! (get ! refl) (and_then ! (get ! refl) (no_more !))) (λ u. finds ! out (λ n fits.
