@@ -3,6 +3,7 @@ use Rattle.std.specs.Prelude.{◌≡◌, ℕ, ◌+◌, ◌-◌, ◌*◌, ◌<◌
 use denote.RawPtr.{Ptr}
 use Rattle.seize_words.specs.Mem.{word_at}
 use Rattle.seize_words.specs.declared.at.At.{At}
+use Rattle.seize_words.specs.declared.at.At.TheVariants.{Word}
 use Rattle.seize_seats.specs.State.{State, view_of}
 use Rattle.seize_seats.specs.Lines.{IsWord}
 use Rattle.seize_seats.specs.Owned.{BaseId, IsIts, IsIn, place_in}
@@ -10,6 +11,11 @@ use Rattle.seize_seats.specs.Owned.{BaseId, IsIts, IsIn, place_in}
 -- the place is that of the name, if there is such a word, and in any case a small number
 abbrev pub IsItsPlace : Ptr → BaseId → At → ℕ → Type 0
 IsItsPlace p z at place = (IsWord z.roots z.count at → IsIn p z at × (place ≡ place_in z at)) × (place < 2 ^ 60)
+
+-- it is no word of a block's own
+abbrev pub IsOfStrip : At → Type 0
+IsOfStrip (Word b i) = ⊥
+IsOfStrip _ = Unit {0}
 
 -- there is such a number, and its sign lies at the place
 abbrev pub IsItsSign : BaseId → ℕ → ℕ → Type 0

@@ -6,7 +6,7 @@ ghost use Rattle.seize_seats.specs.State.{Allows, Owns, Turns, Comes, Meets, Ren
 ghost use Rattle.seize_seats.specs.Lines.{long};
 ghost use Rattle.seize_seats.specs.Owned.{core_of, IsFirst};
 ghost use Rattle.seize_seats.specs.Lendings.{Shown, ShownToBoth, IsValueOf, IsValueOfBoth};
-ghost use Rattle.seize_blocks.specs.Placed.{IsItsPlace, IsItsIndex, IsBehind, HasWord};
+ghost use Rattle.seize_blocks.specs.Placed.{IsItsPlace, IsItsIndex, IsOfStrip, IsBehind, HasWord};
 
 use crate::part::{Spot, places_in};
 use crate::place::{Doors, Place};
@@ -40,6 +40,7 @@ impl<T, R: Rule<T>> Blocks<T, R> {
     /// Where the word of a name lies: in which strip, and at which place. Whatever the state is, if the seat has this view then there is such a word.
     #[inline(always)]
     fn place_of(&self, seat: &Seat<T, R>, at: At) -> (Strip<T>, u64)
+        requires strips { IsOfStrip at }
         requires own { seat.now.base ≡ self.now.words.id.views_name }
         requires there { HasWord (R.holds self.now.words.fixed) seat.now.id seat.now.view at }
         ensures { (core_of result.0.id ≡ core_of self.now.words.id) × InBlock result.0.words × IsItsPlace result.0.words result.0.id at result.1 }
@@ -88,7 +89,7 @@ impl<T, R: Rule<T>> Blocks<T, R> {
 
     /// Where a block is: in which strip, its index there, and where the first of its words lies. The views of two seats show the block.
     #[inline(always)]
-    fn spot_of(&self, guard: &Seat<T, R>, owner: &Seat<T, R>, block: u64) -> Spot<T>
+    pub(crate) fn spot_of(&self, guard: &Seat<T, R>, owner: &Seat<T, R>, block: u64) -> Spot<T>
         requires own { (guard.now.base ≡ self.now.words.id.views_name) × (owner.now.base ≡ self.now.words.id.views_name) }
         requires shown { ShownToBoth (R.holds self.now.words.fixed) guard.now.id guard.now.view owner.now.id owner.now.view block }
         ensures strip { (core_of result.strip.id ≡ core_of self.now.words.id) × InBlock result.strip.words × (result.values ≡ result.strip.id.values) }
@@ -198,8 +199,13 @@ impl<T, R: Rule<T>> Blocks<T, R> {
         ensures same { (seat.new.base ≡ seat.old.base) × (seat.new.id ≡ seat.old.id) }
         ensures goes { R.then seat.old.view (Load at) (Found result) seat.new.view }
     {
-        let (strip, place) = self.place_of(seat, at);
-        self.words.by(&strip).load(seat, &at, place)
+        match at {
+            At::Word(block, own) => self.own_load(seat, block, own),
+            _ => {
+                let (strip, place) = self.place_of(seat, at);
+                self.words.by(&strip).load(seat, &at, place)
+            }
+        }
     }
 
     /// Writes the word of a name.
@@ -210,8 +216,13 @@ impl<T, R: Rule<T>> Blocks<T, R> {
         ensures same { (seat.new.base ≡ seat.old.base) × (seat.new.id ≡ seat.old.id) }
         ensures goes { R.then seat.old.view (Store at word) Stored seat.new.view }
     {
-        let (strip, place) = self.place_of(seat, at);
-        self.words.by(&strip).store(seat, &at, place, word)
+        match at {
+            At::Word(block, own) => self.own_store(seat, block, own, word),
+            _ => {
+                let (strip, place) = self.place_of(seat, at);
+                self.words.by(&strip).store(seat, &at, place, word)
+            }
+        }
     }
 
     /// Writes the word of a name, and answers the one before.
@@ -222,8 +233,13 @@ impl<T, R: Rule<T>> Blocks<T, R> {
         ensures same { (seat.new.base ≡ seat.old.base) × (seat.new.id ≡ seat.old.id) }
         ensures goes { R.then seat.old.view (Swap at word) (Found result) seat.new.view }
     {
-        let (strip, place) = self.place_of(seat, at);
-        self.words.by(&strip).swap(seat, &at, place, word)
+        match at {
+            At::Word(block, own) => self.own_swap(seat, block, own, word),
+            _ => {
+                let (strip, place) = self.place_of(seat, at);
+                self.words.by(&strip).swap(seat, &at, place, word)
+            }
+        }
     }
 
     /// Adds to the word of a name, round at 2^64, and answers the one before.
@@ -234,8 +250,13 @@ impl<T, R: Rule<T>> Blocks<T, R> {
         ensures same { (seat.new.base ≡ seat.old.base) × (seat.new.id ≡ seat.old.id) }
         ensures goes { R.then seat.old.view (Add at by) (Found result) seat.new.view }
     {
-        let (strip, place) = self.place_of(seat, at);
-        self.words.by(&strip).add(seat, &at, place, by)
+        match at {
+            At::Word(block, own) => self.own_add(seat, block, own, by),
+            _ => {
+                let (strip, place) = self.place_of(seat, at);
+                self.words.by(&strip).add(seat, &at, place, by)
+            }
+        }
     }
 
     /// Sets bits of the word of a name, and answers the one before.
@@ -246,8 +267,13 @@ impl<T, R: Rule<T>> Blocks<T, R> {
         ensures same { (seat.new.base ≡ seat.old.base) × (seat.new.id ≡ seat.old.id) }
         ensures goes { R.then seat.old.view (Or at bits) (Found result) seat.new.view }
     {
-        let (strip, place) = self.place_of(seat, at);
-        self.words.by(&strip).or(seat, &at, place, bits)
+        match at {
+            At::Word(block, own) => self.own_or(seat, block, own, bits),
+            _ => {
+                let (strip, place) = self.place_of(seat, at);
+                self.words.by(&strip).or(seat, &at, place, bits)
+            }
+        }
     }
 
     /// Writes a new word where the old one, the whole word, is found, and answers the word found: `Ok` where it was written.
@@ -258,8 +284,13 @@ impl<T, R: Rule<T>> Blocks<T, R> {
         ensures same { (seat.new.base ≡ seat.old.base) × (seat.new.id ≡ seat.old.id) }
         ensures goes { R.then seat.old.view (Exchange at old new) (Exchanged result) seat.new.view }
     {
-        let (strip, place) = self.place_of(seat, at);
-        self.words.by(&strip).exchange(seat, &at, place, old, new)
+        match at {
+            At::Word(block, own) => self.own_exchange(seat, block, own, old, new),
+            _ => {
+                let (strip, place) = self.place_of(seat, at);
+                self.words.by(&strip).exchange(seat, &at, place, old, new)
+            }
+        }
     }
 
     /// Where somebody who has this slot begins to look for numbers, so that those of different slots are apart.

@@ -5,6 +5,7 @@ mod blocks;
 mod claim;
 mod home;
 mod numbers;
+mod own;
 mod part;
 mod place;
 mod plot;
