@@ -8,7 +8,8 @@ spot_of-spot-requires-clause-shown g c = let seat = c.args.seat.now in
     shows_own (g.R.Rule.holds c.args.self.now.words.fixed) seat.id seat.view c.args.block c.args.word (λ t so is. (c.requires.may t so is).0)
 
 pub own_load-requires : goal.own_load-requires
-own_load-requires g c = let s = c.spot_of-spot in let seat = c.args.seat.now in let op = Load (Word c.args.block c.args.word) in
-    on_own g.R.Rule.holds g.R.Rule.keeps seat.base seat.id c.args.block s.result.index c.args.word seat.view op (g.R.Rule.then seat.view op)
+own_load-requires g c = let s = c.spot_of-spot in let seat = c.args.seat.now in
+    on_own g.R.Rule.holds g.R.Rule.keeps seat.base seat.id c.args.block s.result.index c.args.word seat.view (Load (Word c.args.block c.args.word))
+    (g.R.Rule.then seat.view (Load (Word c.args.block c.args.word)))
     c.somewhere-at.result _ _ _ _ c.args.self.now.words.id _ _ c.by.ensures c.requires.own s.ensures.index.0 c.somewhere-at.ensures
     (λ t so is. (c.requires.may t so is).0) c.requires.may

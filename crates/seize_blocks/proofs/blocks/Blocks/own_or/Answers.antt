@@ -8,7 +8,8 @@ spot_of-spot-requires-clause-shown g c = let seat = c.args.seat.now in
     shows_own (g.R.Rule.holds c.args.self.now.words.fixed) seat.id seat.view c.args.block c.args.word (λ t so is. (c.requires.may t so is).0)
 
 pub own_or-requires : goal.own_or-requires
-own_or-requires g c = let s = c.spot_of-spot in let seat = c.args.seat.now in let op = Or (Word c.args.block c.args.word) c.args.bits in
-    on_own g.R.Rule.holds g.R.Rule.keeps seat.base seat.id c.args.block s.result.index c.args.word seat.view op (g.R.Rule.then seat.view op)
+own_or-requires g c = let s = c.spot_of-spot in let seat = c.args.seat.now in
+    on_own g.R.Rule.holds g.R.Rule.keeps seat.base seat.id c.args.block s.result.index c.args.word seat.view (Or (Word c.args.block c.args.word) c.args.bits)
+    (g.R.Rule.then seat.view (Or (Word c.args.block c.args.word) c.args.bits))
     c.somewhere-at.result _ _ _ _ c.args.self.now.words.id _ _ c.by.ensures c.requires.own s.ensures.index.0 c.somewhere-at.ensures
     (λ t so is. (c.requires.may t so is).0) c.requires.may
