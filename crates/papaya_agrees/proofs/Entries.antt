@@ -49,9 +49,9 @@ module _ (K V : Type 0) where
   making_its : (on : ℕ) (before next : NewMap) → BeginsOnIts {K = K} {V = V} (making_deed on before next)
   making_its on before next =
       if_its (has_root before.stands) (if has_root next.stands then Makes on else MapFails on)
-      (if has_root next.stands then MapComes on next.setting.root next.setting.mode (pairs_for next.setting.initial) else Makes on)
+      (if has_root next.stands then MapComes on next.setting.root next.setting.mode (pairs_for next.len) else Makes on)
       (if_its (has_root next.stands) (Makes on) (MapFails on) tt tt)
-      (if_its (has_root next.stands) (MapComes on next.setting.root next.setting.mode (pairs_for next.setting.initial)) (Makes on) tt tt)
+      (if_its (has_root next.stands) (MapComes on next.setting.root next.setting.mode (pairs_for next.len)) (Makes on) tt tt)
 
   ending_its : {T : Type 0} (f : Ending) (told : Settled T) → BeginsOnIts {K = K} {V = V} (ending_deed f told)
   ending_its f told = if_its (is_over told) (MapGoes f.map) (Ends f.map) tt tt

@@ -37,7 +37,7 @@ module _ (K V : Type 0) where
   making_leaves map before next there = by (has_root before.stands) (has_root next.stands)
     where
       by : (b c : Bool)
-          → there_on {K = K} {V = V} (if b then (if c then Makes map else MapFails map) else (if c then MapComes map next.setting.root next.setting.mode (pairs_for next.setting.initial) else Makes map)) there ≡ there
+          → there_on {K = K} {V = V} (if b then (if c then Makes map else MapFails map) else (if c then MapComes map next.setting.root next.setting.mode (pairs_for next.len) else Makes map)) there ≡ there
       by true true = refl
       by true false = refl
       by false true = refl

@@ -1,11 +1,18 @@
 pub mod Shards
-mod Leads
-mod Lists
+pub mod Leads
+pub mod Lists
 mod Opens
-mod Rows
-mod Slots
+pub mod Rows
+pub mod Slots
 pub mod Guards
 pub mod Entries
 pub mod Calls
 pub mod Grants
+pub mod Elsewhere
+pub mod Fresh
+pub mod Known
+pub mod Openings
+pub mod Told
+pub mod Numbers
+pub mod Coming
 pub mod Agree

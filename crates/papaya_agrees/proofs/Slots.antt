@@ -59,7 +59,7 @@ inside_more (Outside n) in_it = in_it
 inside_more (Inside n) in_it = tt
 inside_more Changing in_it = in_it
 
-inside_shared : (u : Use) → IsInside u → is_shared u ≡ true
+pub inside_shared : (u : Use) → IsInside u → is_shared u ≡ true
 inside_shared Vacant in_it = absurd in_it
 inside_shared (Outside n) in_it = absurd in_it
 inside_shared (Inside n) in_it = refl

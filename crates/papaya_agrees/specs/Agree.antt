@@ -1,5 +1,5 @@
 -- That a history agrees with what is so where a list of acts has led.
-use Rattle.std.specs.Prelude.{◌≡◌, ◌<◌, ◌^◌, ℕ, Bool, List, Some}
+use Rattle.std.specs.Prelude.{◌≡◌, ◌<◌, ◌^◌, ℕ, Bool, false, List, Some}
 use Rattle.std.specs.List.{AllByRecursion}
 use Rattle.papaya_scenes.specs.Scene.{slot_of}
 use Rattle.papaya_acts.specs.AsSteps.{IsOwn}
@@ -7,6 +7,7 @@ use Rattle.papaya_acts.specs.Doings.{Doing, Does, Stage, reclaiming}
 use Rattle.papaya_acts.specs.Lists.{Course, LedTo, Reached}
 use Rattle.papaya_deeds.specs.Deeds.{moment}
 use Rattle.papaya_played.specs.Play.{State, first_state, play_all}
+use Rattle.papaya_agrees.specs.Fresh.{IsFresh, has_come}
 use Rattle.papaya_agrees.specs.Grants.{EachRefuses}
 use Rattle.papaya_agrees.specs.Guards.{CallsHaveGuards, GuardsAgree, UnlessReclaimed}
 use Rattle.papaya_agrees.specs.Shards.{AsksShards, ShardsAre}
@@ -19,12 +20,13 @@ module _ {K S : Type 0} (V : Type 0) (same : K → K → Bool) (by_hasher : S �
   Asks doing = Unit {0}
 
   -- Each map has so many shards. The guards of the history are the slots within sections, unless somebody reclaims all; each call under way there has the guard of its
-  -- caller's slot; and each entry that was refused a growth has asked for it, and made nothing.
+  -- caller's slot; each entry that was refused a growth has asked for it, and made nothing; and nothing is there of a number with which no map has come.
   pub record Agrees (p : Stage V same by_hasher batch_size roots slot_of) (x : State K V S) : Type 0 where
     pub shards_are : ShardsAre shards p.0
     pub guards : UnlessReclaimed (reclaiming V same by_hasher batch_size roots slot_of p) (GuardsAgree x p.0.world.uses)
     pub calls : CallsHaveGuards (moment x.history)
     pub refuses : EachRefuses x.history
+    pub fresh : (n : ℕ) → has_come n x.history ≡ false → IsFresh n (moment x.history)
 
   -- The promise: so it is wherever a list has led, whatever the values are with which closures abort.
   abbrev pub ListsAgree : Type 0

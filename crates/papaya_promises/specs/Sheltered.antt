@@ -23,16 +23,28 @@ abbrev pub HasCome : Known → Thing → Type 0
 HasCome known (APair n) = n ≤ known.stored
 HasCome known (ATable t) = Unit {0}
 
+-- each guard that is there is on a slot of such a kind
+abbrev pub GuardsAreOn : (ℕ → Type 0) → Present → Type 0
+GuardsAreOn IsOn there = (own : List ℕ) (g : Guard) → guard_of own there.guards ≡ Some g → IsOn g.slot
+
+module _ {K V : Type 0} (IsOn : ℕ → Type 0) (there : Present) (w : World (Node K V)) where
+  -- The guard is there, on such a slot, and the section of that holds each block that is the thing.
+  abbrev pub IsShelteredOn : Known → Sheltered → Type 0
+  IsShelteredOn known x =
+      HasCome known x.thing × (g : Guard) × (guard_of x.guard there.guards ≡ Some g) × IsOn g.slot
+      × ((b : ℕ) → IsOfThing x.thing (known.roles b) → holds g.slot b w.log ≡ true)
+
+  abbrev pub AreShelteredOn : Known → List Sheltered → Type 0
+  AreShelteredOn known sheltered = AllByRecursion (IsShelteredOn known) sheltered
+
 module _ {K V : Type 0} (there : Present) (w : World (Node K V)) where
   -- each guard that is there is within a critical section
   abbrev pub GuardsAreInside : Type 0
-  GuardsAreInside = (own : List ℕ) (g : Guard) → guard_of own there.guards ≡ Some g → IsInside (w.uses g.slot)
+  GuardsAreInside = GuardsAreOn (λ s. IsInside (w.uses s)) there
 
-  -- The guard is there, within its section, and that holds each block that is the thing.
+  -- the guard is there, within its section, and that holds each block that is the thing
   abbrev pub IsSheltered : Known → Sheltered → Type 0
-  IsSheltered known x =
-      HasCome known x.thing × (g : Guard) × (guard_of x.guard there.guards ≡ Some g) × IsInside (w.uses g.slot)
-      × ((b : ℕ) → IsOfThing x.thing (known.roles b) → holds g.slot b w.log ≡ true)
+  IsSheltered known x = IsShelteredOn (λ s. IsInside (w.uses s)) there w known x
 
   abbrev pub AreSheltered : Known → List Sheltered → Type 0
   AreSheltered known sheltered = AllByRecursion (IsSheltered known) sheltered

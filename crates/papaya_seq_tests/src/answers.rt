@@ -185,17 +185,25 @@ fn none_is_left(alloc: Global) -> Result<bool, Fault> {
     Ok(empties_and_takes_out(&mut map, 7) == None && map.is_empty())
 }
 
-/// Whether the pair of 7 and that of 8 are taken out once, and then no more, of a map with no pair at first.
+/// Whether the value of 7 is taken out once, and then no more.
+fn takes_value_once(map: &mut Map) -> Result<bool, Fault> {
+    let so = map.remove(&7)?.copied() == Some(1) && map.remove(&7)? == None;
+    Ok(so && map.len() == 1)
+}
+
+/// Whether the pair of 8 is taken out once, and then no more.
+fn takes_pair_once(map: &mut Map) -> Result<bool, Fault> {
+    let so = match map.remove_entry(&8)? {
+        Some((key, value)) => *key == 8 && *value == 2,
+        None => false,
+    };
+    Ok(so && map.remove_entry(&8)?.is_none() && map.is_empty())
+}
+
+/// Both in turn, from a map with no pair on.
 fn takes_once(map: &mut Map) -> Result<bool, Fault> {
     map.extend([(7, 1), (8, 2)])?;
-    let mut so = map.remove(&7)?.copied() == Some(1) && map.remove(&7)? == None;
-    so = so && map.len() == 1;
-    if let Some((key, value)) = map.remove_entry(&8)? {
-        so = so && *key == 8 && *value == 2;
-    } else {
-        so = false;
-    }
-    Ok(so && map.remove_entry(&8)?.is_none() && map.is_empty())
+    Ok(takes_value_once(map)? && takes_pair_once(map)?)
 }
 
 fn pairs_are_taken_once(alloc: Global) -> Result<bool, Fault> {

@@ -32,8 +32,12 @@ impl BuildHasher for Always {
     }
 }
 
+type Map = HashMap<i32, i32, Always>;
+
+type Set = HashSet<i32, Always>;
+
 /// Stores each of the keys from 0 to 99 in both, and tells whether that was done.
-fn fills(map: &mut HashMap<i32, i32, Always>, set: &mut HashSet<i32, Always>) -> bool {
+fn fills(map: &mut Map, set: &mut Set) -> bool {
     for key in 0..100 {
         if map.insert(key, key).is_err() || set.insert(key).is_err() {
             return false;
@@ -42,15 +46,26 @@ fn fills(map: &mut HashMap<i32, i32, Always>, set: &mut HashSet<i32, Always>) ->
     true
 }
 
+/// Whether both have this key.
+fn both_have(map: &Map, set: &Set, key: i32) -> bool {
+    map.get(&key) == Some(&key) && set.get(&key) == Some(&key)
+}
+
+/// Whether one of them has this key.
+fn one_has(map: &Map, set: &Set, key: i32) -> bool {
+    let (in_map, in_set) = (map.contains_key(&key), set.contains(&key));
+    in_map || in_set
+}
+
 /// Whether both have each of these keys, and none of four others.
-fn has_them(map: &HashMap<i32, i32, Always>, set: &HashSet<i32, Always>) -> bool {
+fn has_them(map: &Map, set: &Set) -> bool {
     for key in 0..100 {
-        if map.get(&key) != Some(&key) || set.get(&key) != Some(&key) {
+        if !both_have(map, set, key) {
             return false;
         }
     }
     for key in [i32::MIN, -1, 100, i32::MAX] {
-        if map.contains_key(&key) || set.contains(&key) {
+        if one_has(map, set, key) {
             return false;
         }
     }

@@ -11,24 +11,24 @@ use Rattle.seize.specs.Settle.{retiring, flushing, counting_down}
 use Rattle.seize.specs.World.{HasListWord}
 use Rattle.seize_seats.specs.Lendings.{Shown}
 use Rattle.seize_seats.specs.State.{Allows, Turns}
-use Rattle.seize_shared.specs.Begun.{leaving, refreshes, IsBegun, Retires, Flushes, Makes}
+use Rattle.seize_views.specs.Begun.{leaving, refreshes, IsBegun, Retires, Flushes, Makes}
 use Rattle.seize_shared.specs.Made.{IsSettling}
-use Rattle.seize_shared.specs.Promises.{Names, HasMade, IsLooking, IsNext, op_of}
-use Rattle.seize_shared.specs.Rows.{Holds, Keeps}
-use Rattle.seize_shared.specs.Told.{list_taken, owes_in, cut_in, seen_in, seen_as, cut_as, made_beside, told}
-use Rattle.seize_shared.specs.declared.view.View.{View}
-use Rattle.seize_shared.specs.declared.view.Becomes.{Becomes}
-use Rattle.seize_shared.specs.declared.view.Becomes.TheVariants.{Idle, Active}
-use Rattle.seize_shared.specs.declared.view.View.TheVariants.{Outside, Owes, Inside, Settles, Leaves, Left}
-use Rattle.seize_shared.specs.declared.view.Has.{Has}
-use Rattle.seize_shared.specs.declared.view.Has.TheVariants.{Nothing, Made, Seen, Both, Cut}
-use Rattle.seize_shared.specs.declared.view.Why.TheVariants.{Retiring, Ending}
-use Rattle.seize_shared.specs.declared.view.Fixed.{Fixed}
-use Rattle.seize_shared.proofs.Beginnings.{rows_turn, settlings_begin}
-use Rattle.seize_shared.proofs.GoesOn.{rows_go_on}
-use Rattle.seize_shared.proofs.Blocks.{blocks_are_made, made_are_taken, known_are_shown}
-use Rattle.seize_shared.proofs.Roots.{made_are_linked, made_are_exchanged, roots_are_cleared, roots_are_seen, roots_are_withdrawn}
-use Rattle.seize_shared.proofs.Written.{block_of_link}
+use Rattle.seize_views.specs.Promises.{Names, HasMade, IsLooking, IsNext, op_of}
+use Rattle.seize_views.specs.Rows.{Holds, Keeps}
+use Rattle.seize_views.specs.Told.{list_taken, owes_in, cut_in, seen_in, seen_as, cut_as, made_beside, told}
+use Rattle.seize_views.specs.declared.view.View.{View}
+use Rattle.seize_views.specs.declared.view.Becomes.{Becomes}
+use Rattle.seize_views.specs.declared.view.Becomes.TheVariants.{Idle, Active}
+use Rattle.seize_views.specs.declared.view.View.TheVariants.{Outside, Owes, Inside, Settles, Leaves, Left}
+use Rattle.seize_views.specs.declared.view.Has.{Has}
+use Rattle.seize_views.specs.declared.view.Has.TheVariants.{Nothing, Made, Seen, Both, Cut}
+use Rattle.seize_views.specs.declared.view.Why.TheVariants.{Retiring, Ending}
+use Rattle.seize_views.specs.declared.view.Fixed.{Fixed}
+use Rattle.seize_views.proofs.Beginnings.{rows_turn, settlings_begin}
+use Rattle.seize_views.proofs.GoesOn.{rows_go_on}
+use Rattle.seize_views.proofs.Blocks.{blocks_are_made, made_are_taken, known_are_shown}
+use Rattle.seize_views.proofs.Roots.{made_are_linked, made_are_exchanged, roots_are_cleared, roots_are_seen, roots_are_withdrawn}
+use Rattle.seize_views.proofs.Written.{block_of_link}
 
 -- the word that links to a block whose number is small enough
 pub whole_link : (b : ℕ) → b < 2 ^ 53 → link_to b % 2 ^ 64 ≡ link_to b

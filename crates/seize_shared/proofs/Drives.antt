@@ -1,8 +1,6 @@
 -- A settling as the row of a caller: it may take its next step, and is the one that its seat knows again.
 use Rattle.std.specs.Prelude.{◌==◌, Option, Some, None, IsSome, if◌then◌else◌}
 use Rattle.std.proofs.Common.{◌≡◌, ℕ, ◌<◌, Bool, true, false, refl, sym, subst, ap, ◌∙◌, eqb-true, arith}
-use Rattle.seize_words.specs.Mem.{Mem, value_at}
-use Rattle.seize.specs.World.{World}
 use Rattle.seize_words.specs.Op.{Op, Out, Rewrite}
 use Rattle.seize_words.specs.Plan.{Plan, Turn, Do, May, Steps}
 use Rattle.seize.specs.declared.rows.register.Registering.{Registering}
@@ -14,21 +12,19 @@ use Rattle.seize.specs.declared.rows.settle.Settling.TheVariants as at
 use Rattle.seize.specs.declared.rows.settle.Settled.{Settled}
 use Rattle.seize.specs.Register as register
 use Rattle.seize.specs.Settle.{settle_plan, plan_at}
-use Rattle.seize_acts.proofs.Answers.{same_some}
 use Rattle.seize_straight.specs.Going.{DropGoes}
-use Rattle.seize_seats.specs.State.{State, view_of}
 use Rattle.seize_seats.specs.Lendings.{Shown, IsValueOf}
-use Rattle.seize_shared.specs.Rows.{Holds}
-use Rattle.seize_shared.specs.Told.{shown_by, FollowsBy, GoesOn, told}
-use Rattle.seize_shared.specs.Promises.{op_in, op_of, LookedAreShown}
+use Rattle.seize_views.specs.Rows.{Holds}
+use Rattle.seize_views.specs.Told.{shown_by, FollowsBy, GoesOn, told}
+use Rattle.seize_views.specs.Promises.{op_in, op_of}
 use Rattle.seize_shared.specs.Made.{shown_in, shown_of, left_in, CanMake, HasAlone, HasMade, IsSettling}
-use Rattle.seize_shared.specs.declared.view.View.{View}
-use Rattle.seize_shared.specs.declared.view.View.TheVariants.{Rests, Registers, Outside, Owes, Enters, Inside, Settles, Leaves, Left, Frees, Brings, Bears}
-use Rattle.seize_shared.specs.declared.view.Why.{Why}
-use Rattle.seize_shared.specs.declared.view.Fixed.{Fixed}
+use Rattle.seize_views.specs.declared.view.View.{View}
+use Rattle.seize_views.specs.declared.view.View.TheVariants.{Rests, Registers, Outside, Owes, Enters, Inside, Settles, Leaves, Left, Frees, Brings, Bears}
+use Rattle.seize_views.specs.declared.view.Why.{Why}
+use Rattle.seize_views.specs.declared.view.Fixed.{Fixed}
 use Rattle.seize_shared.specs.declared.caller.Caller.{Caller}
 use Rattle.seize_shared.proofs.Calls.{may_go_on}
-use Rattle.seize_shared.proofs.Looks.{rest_of, LooksOnce, once, ends_may, ends_same}
+use Rattle.seize_views.proofs.Looks.{rest_of, LooksOnce, once, ends_may, ends_same, looked_are_shown}
 
 -- it makes an operation
 abbrev pub IsDo : {T R : Type 0} → Plan T R → Type 0
@@ -122,17 +118,6 @@ module _ {T : Type 0} (defers : T → Option ℕ) where
           (let before = ap left_in is.2 in let after = ap left_in g.view in let falls = g.falls in omega (arith, before, after, falls)),
           subst (λ (x : Settle × Settled T). DropGoes x.1) (sym same) g.further,
         )
-
-module _ (T : Type 0) (defers : T → Option ℕ) where
-  -- what a settling is to look at is there
-  pub looked_are_shown : LookedAreShown T defers
-  looked_are_shown fixed id c why b left x = (there, λ y of. same_some y x (sym of.3 ∙ here of.0 of.1 of.2))
-    where
-      here : (t : State T (View T) (World T)) → Holds defers fixed t → view_of t id ≡ Some (Settles c why (Some (b, x)) left) → value_at t.memory b ≡ Some x
-      here t h at = ap (λ (m : Mem T). value_at m b) h.memory ∙ (h.seats id (Settles c why (Some (b, x)) left) at).known.2
-
-      there : Shown (Holds defers fixed) id (Settles c why (Some (b, x)) left) b
-      there t h at = subst IsSome (sym (here t h at)) refl
 
 module _ {T : Type 0} (defers : T → Option ℕ) (fixed : Fixed) (id : ℕ) where
   some_same : (y : Bool) (o : Option T) → IsSome (if y then o else None) → y ≡ true

@@ -9,20 +9,20 @@ use Rattle.seize.specs.World.{HasListWord}
 use Rattle.seize_acts.proofs.Answers.{same_some}
 use Rattle.seize_seats.specs.Lendings.{Shown, IsValueOf}
 use Rattle.seize_seats.specs.State.{Allows, Meets}
-use Rattle.seize_shared.specs.Begun.{Hands}
-use Rattle.seize_shared.specs.Promises.{IsLooking, IsTaker}
-use Rattle.seize_shared.specs.Rows.{Holds, Keeps}
+use Rattle.seize_views.specs.Begun.{Hands}
+use Rattle.seize_views.specs.Promises.{IsLooking, IsTaker}
+use Rattle.seize_views.specs.Rows.{Holds, Keeps}
 use Rattle.seize_shared.specs.Standing.{brought_by, borne_by}
-use Rattle.seize_shared.specs.Told.{alone_with, cut_in, told}
-use Rattle.seize_shared.specs.declared.view.View.{View}
-use Rattle.seize_shared.specs.declared.view.View.TheVariants.{Rests, Registers, Outside, Owes, Enters, Inside, Settles, Leaves, Left, Frees, Brings, Bears}
-use Rattle.seize_shared.specs.declared.view.Has.{Has}
-use Rattle.seize_shared.specs.declared.view.Has.TheVariants.{Nothing, Made, Seen, Both, Cut}
-use Rattle.seize_shared.specs.declared.view.Fixed.{Fixed}
-use Rattle.seize_shared.proofs.Blocks.{own_are_made, own_are_taken, own_are_shown, borne_are_shown}
+use Rattle.seize_views.specs.Told.{alone_with, cut_in, told}
+use Rattle.seize_views.specs.declared.view.View.{View}
+use Rattle.seize_views.specs.declared.view.View.TheVariants.{Rests, Registers, Outside, Owes, Enters, Inside, Settles, Leaves, Left, Frees, Brings, Bears}
+use Rattle.seize_views.specs.declared.view.Has.{Has}
+use Rattle.seize_views.specs.declared.view.Has.TheVariants.{Nothing, Made, Seen, Both, Cut}
+use Rattle.seize_views.specs.declared.view.Fixed.{Fixed}
+use Rattle.seize_views.proofs.Blocks.{own_are_made, own_are_taken, own_are_shown, borne_are_shown}
 use Rattle.seize_shared.proofs.Calls.{whole_link}
-use Rattle.seize_shared.proofs.Handing.{borne_are_handed_on}
-use Rattle.seize_shared.proofs.Roots.{beside_alone, own_are_linked, own_are_exchanged}
+use Rattle.seize_views.proofs.Handing.{borne_are_handed_on}
+use Rattle.seize_views.proofs.Roots.{beside_alone, own_are_linked, own_are_exchanged}
 
 module _ {T : Type 0} where
   -- which view it has

@@ -7,10 +7,10 @@ use Rattle.seize.specs.declared.states.TheConstants.{HEAD, NEVER, FREE, LAST_SLO
 use Rattle.seize.specs.declared.rows.register.Register.{Register}
 use Rattle.seize.specs.declared.rows.register.Registering.TheVariants as at
 use Rattle.seize.specs.Register.{further, taking, can_be_taken, bucket_needed}
-use Rattle.seize_shared.specs.Told.{left_by, told}
+use Rattle.seize_views.specs.Told.{left_by, told}
 use Rattle.seize_shared.specs.Seeking.{row_at, seeks}
-use Rattle.seize_shared.specs.declared.view.View.{View}
-use Rattle.seize_shared.specs.declared.view.View.TheVariants.{Registers}
+use Rattle.seize_views.specs.declared.view.View.{View}
+use Rattle.seize_views.specs.declared.view.View.TheVariants.{Registers}
 
 -- a head that says that its slot can be taken
 pub free_head : (seen : ℕ) → ((seen ≡ NEVER → ⊥) × (seen ≡ FREE)) ⊎ (seen ≡ NEVER) → can_be_taken seen ≡ true

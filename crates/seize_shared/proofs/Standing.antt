@@ -4,12 +4,12 @@ use Rattle.std.proofs.Common.{◌≡◌, ℕ, Bool, true, false, inl, inr, refl,
 use Rattle.std.proofs.lemmas.Bool.{eqb-false, ne_eqb, cases_eq}
 use Rattle.seize_acts.proofs.Answers.{same_some}
 use Rattle.seize_shared.specs.Standing.{standing}
-use Rattle.seize_shared.specs.Told.{seen_as}
-use Rattle.seize_shared.specs.Promises.{IsLooking, IsTaker}
-use Rattle.seize_shared.specs.declared.view.View.{View}
-use Rattle.seize_shared.specs.declared.view.View.TheVariants.{Rests, Registers, Outside, Owes, Enters, Inside, Settles, Leaves, Left, Frees, Brings, Bears}
-use Rattle.seize_shared.specs.declared.view.Has.{Has}
-use Rattle.seize_shared.specs.declared.view.Has.TheVariants.{Nothing, Made, Seen, Both, Cut}
+use Rattle.seize_views.specs.Told.{seen_as}
+use Rattle.seize_views.specs.Promises.{IsLooking, IsTaker}
+use Rattle.seize_views.specs.declared.view.View.{View}
+use Rattle.seize_views.specs.declared.view.View.TheVariants.{Rests, Registers, Outside, Owes, Enters, Inside, Settles, Leaves, Left, Frees, Brings, Bears}
+use Rattle.seize_views.specs.declared.view.Has.{Has}
+use Rattle.seize_views.specs.declared.view.Has.TheVariants.{Nothing, Made, Seen, Both, Cut}
 
 abbrev Standing : Type 0
 Standing = ℕ × Bool × ℕ

@@ -16,11 +16,11 @@ use Rattle.seize_straight.specs.declared.retiring.Retired.{Retired}
 use Rattle.seize_straight.specs.declared.retiring.Retired.TheVariants as to
 use Rattle.seize_straight.proofs.Reclaimings.{leads_once, may_once}
 use Rattle.seize_straight.proofs.Running.{by_law}
-use Rattle.seize_shared.specs.Begun.{IsBegun}
+use Rattle.seize_views.specs.Begun.{IsBegun}
 use Rattle.seize_shared.specs.Made.{shown_of, left_in, CanMake, HasMade, IsSettling}
-use Rattle.seize_shared.specs.declared.view.Becomes.{Becomes}
-use Rattle.seize_shared.specs.declared.view.Why.{Why}
-use Rattle.seize_shared.specs.declared.view.Why.TheVariants.{Retiring}
+use Rattle.seize_views.specs.declared.view.Becomes.{Becomes}
+use Rattle.seize_views.specs.declared.view.Why.{Why}
+use Rattle.seize_views.specs.declared.view.Why.TheVariants.{Retiring}
 use Rattle.seize_shared.specs.declared.caller.Caller.{Caller}
 use Rattle.seize_shared.proofs.Calls.{settling_row}
 use Rattle.seize_shared.proofs.Drives.{may_step, has_stepped}

@@ -1,7 +1,7 @@
 -- What a caller is lent.
 use Rattle.std.specs.Prelude.{ℕ, Option}
 use Rattle.seize_seats.specs.Lendings.{IsValueOf}
-use Rattle.seize_shared.specs.Rows.{Holds}
+use Rattle.seize_views.specs.Rows.{Holds}
 use Rattle.seize_shared.specs.declared.caller.Caller.{Caller}
 
 -- the value of this block, as it is while the caller knows what it knows

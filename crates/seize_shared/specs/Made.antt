@@ -3,11 +3,11 @@ use Rattle.std.specs.Prelude.{◌≡◌, ℕ, Option, None}
 use Rattle.seize_words.specs.Op.{Op, Out, Rewrite}
 use Rattle.seize.specs.declared.rows.settle.Settle.{Settle}
 use Rattle.seize_seats.specs.State.{Allows, Owns}
-use Rattle.seize_shared.specs.Rows.{Holds, Keeps}
-use Rattle.seize_shared.specs.Told.{shown_by, told as has_been_told}
-use Rattle.seize_shared.specs.declared.view.View.{View}
-use Rattle.seize_shared.specs.declared.view.View.TheVariants.{Settles}
-use Rattle.seize_shared.specs.declared.view.Why.{Why}
+use Rattle.seize_views.specs.Rows.{Holds, Keeps}
+use Rattle.seize_views.specs.Told.{shown_by, told as has_been_told}
+use Rattle.seize_views.specs.declared.view.View.{View}
+use Rattle.seize_views.specs.declared.view.View.TheVariants.{Settles}
+use Rattle.seize_views.specs.declared.view.Why.{Why}
 use Rattle.seize_shared.specs.declared.caller.Caller.{Caller}
 
 module _ {T : Type 0} where

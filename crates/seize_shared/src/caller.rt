@@ -5,19 +5,19 @@ ghost use Rattle.seize.specs.World.{HasListWord};
 ghost use Rattle.seize.specs.declared.states.TheConstants.{LAST_SLOT};
 ghost use Rattle.seize.specs.declared.rows.register.Registering.TheVariants.{Take};
 ghost use Rattle.seize_seats.specs.Lendings.{IsValueOf};
-ghost use Rattle.seize_shared.specs.Promises.{IsLooking, IsTaker};
-ghost use Rattle.seize_shared.specs.Rows.{Holds};
+ghost use Rattle.seize_views.specs.Promises.{IsLooking, IsTaker};
+ghost use Rattle.seize_views.specs.Rows.{Holds};
 ghost use Rattle.seize_shared.specs.Seeking.{row_at, seeks};
-ghost use Rattle.seize_shared.specs.Told.{seen_as, cut_as, made_beside};
-ghost use Rattle.seize_shared.specs.declared.view.View.TheVariants.{Rests, Registers, Outside, Owes, Inside, Bears};
-ghost use Rattle.seize_shared.specs.declared.view.Has.{Has};
-ghost use Rattle.seize_shared.specs.declared.view.Has.TheVariants.{Nothing, Made, Seen, Cut};
+ghost use Rattle.seize_views.specs.Told.{seen_as, cut_as, made_beside};
+ghost use Rattle.seize_views.specs.declared.view.View.TheVariants.{Rests, Registers, Outside, Owes, Inside, Bears};
+ghost use Rattle.seize_views.specs.declared.view.Has.{Has};
+ghost use Rattle.seize_views.specs.declared.view.Has.TheVariants.{Nothing, Made, Seen, Cut};
 
-use crate::rows::OfRows;
 use crate::turns::{Entering, Freeing, Handing, Registering};
 use seize::rows::{Defers, needed_bucket};
 use seize::states::{ACTIVE, FREE, HEAD, IDLE, LAST_SLOT, NEVER};
 use seize_blocks::{Blocks, Seat};
+use seize_views::OfRows;
 use seize_words::{At, Fault, Link};
 
 /// One of those who share the memory: a seat of it, with the memory. It is a memory for the rows that it has under way. It may be let go where it holds no slot.

@@ -1,13 +1,12 @@
 //! Guards of sections: what they have in common, one of a slot that stays on its thread, and one with a slot of its own that may be sent.
 ghost use Rattle.std.specs.Prelude.{◌≡◌, ◌≢◌, ◌<◌, ◌^◌, ℕ, Bool, None, IfOk, IfErr, IfNone, IfSome, true, false};
-ghost use Rattle.seize_shared.specs.declared.view.View.TheVariants.{Bears};
+ghost use Rattle.seize_views.specs.declared.view.View.TheVariants.{Bears};
 
 use crate::owned::Unlinked;
-use crate::rows::OfRows;
 use crate::stay::Stay;
-use crate::view::Fixed;
 use seize::rows::Defers;
 use seize_blocks::{Blocks, Seat};
+use seize_views::{Fixed, OfRows};
 use seize_words::Fault;
 use std::marker::PhantomData;
 

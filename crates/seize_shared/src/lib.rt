@@ -4,17 +4,12 @@
 
 mod caller;
 mod guard;
-mod law;
 mod memory;
 mod owned;
-mod rows;
 mod stay;
 mod turns;
-mod view;
 
 pub use caller::Caller;
 pub use guard::{Guard, LocalGuard, OwnedGuard, Registration};
-pub use law::{blocks_have_seats, rows_go_on, sections_go_on};
 pub use owned::{Owned, Unlinked};
-pub use rows::OfRows;
-pub use view::{Becomes, Fixed, Has, View, Why};
+pub use seize_views::{Becomes, Fixed, Has, OfRows, View, Why};

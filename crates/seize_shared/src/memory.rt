@@ -2,16 +2,16 @@
 ghost use Rattle.std.specs.Prelude.{◌≡◌, ◌≢◌, ◌<◌, ◌^◌, ℕ, true, false};
 ghost use Rattle.seize.specs.declared.rows.settle.Settling.TheVariants.{Over};
 ghost use Rattle.seize.specs.Settle.{retiring};
-ghost use Rattle.seize_shared.specs.Begun.{IsBegun, left_with};
+ghost use Rattle.seize_views.specs.Begun.{IsBegun, left_with};
 ghost use Rattle.seize_shared.specs.Made.{IsSettling, left_in};
-ghost use Rattle.seize_shared.specs.Promises.{IsLooking};
-ghost use Rattle.seize_shared.specs.Told.{list_taken};
-ghost use Rattle.seize_shared.specs.declared.view.Becomes.{Becomes};
-ghost use Rattle.seize_shared.specs.declared.view.Has.{Has};
-ghost use Rattle.seize_shared.specs.declared.view.Has.TheVariants.{Nothing, Cut};
-ghost use Rattle.seize_shared.specs.declared.view.View.TheVariants.{Outside, Owes, Inside, Left};
-ghost use Rattle.seize_shared.specs.declared.view.Why.{Why};
-ghost use Rattle.seize_shared.specs.declared.view.Why.TheVariants as reason;
+ghost use Rattle.seize_views.specs.Promises.{IsLooking};
+ghost use Rattle.seize_views.specs.Told.{list_taken};
+ghost use Rattle.seize_views.specs.declared.view.Becomes.{Becomes};
+ghost use Rattle.seize_views.specs.declared.view.Has.{Has};
+ghost use Rattle.seize_views.specs.declared.view.Has.TheVariants.{Nothing, Cut};
+ghost use Rattle.seize_views.specs.declared.view.View.TheVariants.{Outside, Owes, Inside, Left};
+ghost use Rattle.seize_views.specs.declared.view.Why.{Why};
+ghost use Rattle.seize_views.specs.declared.view.Why.TheVariants as reason;
 
 use crate::caller::Caller;
 use crate::turns::{Ending, Flushing, Leaving, Refreshing, Retiring};

@@ -1,16 +1,15 @@
 //! Blocks that have seats of their own, and so need no slot: one that was made, and one that was unlinked.
 ghost use Rattle.std.specs.Prelude.{◌≡◌, ◌<◌, ◌^◌, None, Some, IfOk, IfErr, IfSome};
 ghost use Rattle.seize_seats.specs.Lendings.{IsValueOf};
-ghost use Rattle.seize_shared.specs.Rows.{Holds};
+ghost use Rattle.seize_views.specs.Rows.{Holds};
 ghost use Rattle.seize_shared.specs.Standing.{brought_by, borne_by};
-ghost use Rattle.seize_shared.specs.declared.view.View.TheVariants.{Brings};
+ghost use Rattle.seize_views.specs.declared.view.View.TheVariants.{Brings};
 
 use crate::caller::{named, words_for};
 use crate::guard::Guard;
-use crate::rows::OfRows;
-use crate::view::Fixed;
 use seize::rows::Defers;
 use seize_blocks::{Blocks, Seat};
+use seize_views::{Fixed, OfRows};
 use seize_words::{At, Link};
 
 /// A block that was made, of its holder's alone: nobody else can reach it. It is spent, by taking it away, or by putting it at a root.

@@ -2,14 +2,13 @@
 ghost use Rattle.std.specs.Prelude.{◌≡◌, ◌≢◌, ◌<◌, ◌^◌, None, Some, IfOk, IfErr, IfNone, IfSome, true, false};
 ghost use Rattle.seize_shared.specs.Lent.{IsLent};
 ghost use Rattle.seize_shared.specs.Standing.{standing};
-ghost use Rattle.seize_shared.specs.declared.view.View.TheVariants.{Bears};
+ghost use Rattle.seize_views.specs.declared.view.View.TheVariants.{Bears};
 
 use crate::caller::Caller;
 use crate::owned::Unlinked;
-use crate::rows::OfRows;
-use crate::view::Fixed;
 use seize::rows::Defers;
 use seize_blocks::{Blocks, Seat};
+use seize_views::{Fixed, OfRows};
 use seize_words::Fault;
 
 /// A caller who holds a slot: whether its section is open, and which block was seen there, 0 for none. The slot is given up as this ends.

@@ -1,6 +1,6 @@
 //! The steps of a seat, or of two, that make no operation.
-use crate::view::{Fixed, View};
 use seize_blocks::{Meeting, Turn};
+use seize_views::{Fixed, View};
 
 /// Registering begins.
 pub(crate) struct Registering;
@@ -30,55 +30,55 @@ pub(crate) struct Freeing;
 pub(crate) struct Handing;
 
 impl<T> Turn<Fixed, View<T>> for Registering {
-    ghost use Rattle.seize_shared.specs.Begun.{registering, Makes};
+    ghost use Rattle.seize_views.specs.Begun.{registering, Makes};
 
     ghost to = { Makes registering };
 }
 
 impl<T> Turn<Fixed, View<T>> for Entering {
-    ghost use Rattle.seize_shared.specs.Begun.{entering, Makes};
+    ghost use Rattle.seize_views.specs.Begun.{entering, Makes};
 
     ghost to = { Makes entering };
 }
 
 impl<T> Turn<Fixed, View<T>> for Retiring {
-    ghost use Rattle.seize_shared.specs.Begun.{Retires};
+    ghost use Rattle.seize_views.specs.Begun.{Retires};
 
     ghost to = { Retires };
 }
 
 impl<T> Turn<Fixed, View<T>> for Flushing {
-    ghost use Rattle.seize_shared.specs.Begun.{Flushes};
+    ghost use Rattle.seize_views.specs.Begun.{Flushes};
 
     ghost to = { Flushes };
 }
 
 impl<T> Turn<Fixed, View<T>> for Leaving {
-    ghost use Rattle.seize_shared.specs.Begun.{leaving, Makes};
+    ghost use Rattle.seize_views.specs.Begun.{leaving, Makes};
 
     ghost to = { Makes leaving };
 }
 
 impl<T> Turn<Fixed, View<T>> for Refreshing {
-    ghost use Rattle.seize_shared.specs.Begun.{refreshes, Makes};
+    ghost use Rattle.seize_views.specs.Begun.{refreshes, Makes};
 
     ghost to = { Makes refreshes };
 }
 
 impl<T> Turn<Fixed, View<T>> for Ending {
-    ghost use Rattle.seize_shared.specs.Begun.{ended, Makes};
+    ghost use Rattle.seize_views.specs.Begun.{ended, Makes};
 
     ghost to = { Makes ended };
 }
 
 impl<T> Turn<Fixed, View<T>> for Freeing {
-    ghost use Rattle.seize_shared.specs.Begun.{freeing, Makes};
+    ghost use Rattle.seize_views.specs.Begun.{freeing, Makes};
 
     ghost to = { Makes freeing };
 }
 
 impl<T> Meeting<Fixed, View<T>> for Handing {
-    ghost use Rattle.seize_shared.specs.Begun.{Hands};
+    ghost use Rattle.seize_views.specs.Begun.{Hands};
 
     ghost to = { Hands };
 }

@@ -1,7 +1,7 @@
 //! In which order values come back: the drop of each stores the next number of a count.
 ghost use Rattle.std.specs.Prelude.{◌≡◌, ◌<◌, None, IfOk};
-ghost use Rattle.seize_shared.specs.declared.view.Has.TheVariants.{Nothing};
-ghost use Rattle.seize_shared.specs.declared.view.View.TheVariants.{Inside};
+ghost use Rattle.seize_views.specs.declared.view.Has.TheVariants.{Nothing};
+ghost use Rattle.seize_views.specs.declared.view.View.TheVariants.{Inside};
 
 use crate::ground::{Ground, SIZE};
 use crate::guards::CHOSEN;

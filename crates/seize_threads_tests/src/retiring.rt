@@ -2,8 +2,8 @@
 //! Each value names a place of a table that counts how often it was dropped, so a value that is looked at after its drop shows itself, and so does one that
 //! is dropped twice, or never.
 ghost use Rattle.std.specs.Prelude.{◌≡◌, ◌<◌, None};
-ghost use Rattle.seize_shared.specs.declared.view.Has.TheVariants.{Nothing};
-ghost use Rattle.seize_shared.specs.declared.view.View.TheVariants.{Outside, Inside};
+ghost use Rattle.seize_views.specs.declared.view.Has.TheVariants.{Nothing};
+ghost use Rattle.seize_views.specs.declared.view.View.TheVariants.{Outside, Inside};
 
 use crate::counting::{OneRoot, add, sees};
 use crate::ground::{Ground, SIZE};

@@ -5,10 +5,9 @@ use Rattle.std.proofs.Common.{refl, sym, subst, ap, ◌∙◌, arith, inl, inr}
 use Rattle.std.proofs.lemmas.Bool.{eq-eqb}
 use Rattle.papaya_histories.specs.Given.SeizeWords.Mem.{Mem}
 use Rattle.papaya_histories.specs.Given.Seize.Law.{holds, is_somewhere}
-use Rattle.papaya_histories.specs.Given.Seize.World.{World, IsInside, InUse}
+use Rattle.papaya_histories.specs.Given.Seize.World.{World, InUse}
 use Rattle.papaya_histories.proofs.Given.SeizeMoves.State.Logs.{reached_held}
 use Rattle.papaya_histories.proofs.Given.SeizeAlone.Histories.Reached.{Reached}
-use Rattle.papaya_histories.proofs.Given.SeizeAlone.Histories.Uses.{inside_open}
 use Rattle.papaya_histories.specs.Given.Tables.Nodes.{deferred_word}
 use Rattle.papaya_histories.specs.Given.Tables.declared.node.Node.{Node}
 use Rattle.papaya_histories.specs.Given.Raw.declared.machines.progress.Progress.{Progress}
@@ -51,11 +50,11 @@ use Rattle.papaya_histories.proofs.Given.Spots.Elsewhere.{stored_grows}
 use Rattle.papaya_histories.specs.Given.Moments.Whole.{ShowsWhole}
 use Rattle.papaya_histories.proofs.Given.Moments.Calls.{of_row}
 use Rattle.papaya_promises.specs.Shelters.{CallsShelter}
-use Rattle.papaya_promises.specs.Sheltered.{IsOfThing, HasCome, GuardsAreInside, IsSheltered, AreSheltered}
+use Rattle.papaya_promises.specs.Sheltered.{AreShelteredOn, GuardsAreOn, HasCome, IsOfThing, IsShelteredOn}
 use Rattle.papaya_promises.proofs.Shelters.Lasting.{Lasts, of_map, all_last, guards_last}
 use Rattle.papaya_promises.proofs.Lists.{all_append, all_of, passed_all, IsFound, all_found, all_shelter}
 use Rattle.papaya_promises.proofs.Shelters.Outs.{KeepsIn, OutFirst, AreFew, TakesOwn, calm_keep, room_keeps, effects_few, keep_all}
-use Rattle.papaya_promises.proofs.Shelters.Within.{GoOn, call_goes_on}
+use Rattle.papaya_promises.proofs.Shelters.Within.{GoOn, GoOnByRows, Sections, Within, call_goes_on, over_row, within_sections}
 use Rattle.papaya_histories.specs.Given.Scenes.Held.{Held, IsAt}
 use Rattle.papaya_histories.specs.Given.Scenes.Scene.{Scene}
 use Rattle.papaya_histories.specs.Given.Scenes.Stepping.{StepLeads, scene_after}
@@ -96,7 +95,8 @@ takes_own caller map known (changed.Took b) keeps =
 takes_own caller map known (changed.Roomed bucket had) keeps = tt
 
 module _ {K V : Type 0} (same : K → K → Bool) (hash : ℕ → K → ℕ) (name : ℕ → List ℕ) (m : Moment K V) (known : Known) (s : Scene K V) (old new : Held K V) (at : IsAt same hash old s)
-    (whole : ShowsWhole same name m known s) (map i : ℕ) (u : UnderWay K V K) (here : s.calls map i ≡ Some u) (told : Progress (Node K V)) (leads : StepLeads same hash i told s old new) where
+    (whole : ShowsWhole same name m known s) (map i : ℕ) (u : UnderWay K V K) (here : s.calls map i ≡ Some u) (told : Progress (Node K V)) (leads : StepLeads same hash i told s old new)
+    (On On2 : World (Node K V) → ℕ → Type 0) (sections : Sections On On2) (rows : GoOnByRows On On2 i) where
   abbrev to : WentTo same hash name m known s old new at whole.all.shown map i u here told leads
   to = went_to same hash name m known s old new at whole.all.shown map i u here told leads
 
@@ -125,13 +125,12 @@ module _ {K V : Type 0} (same : K → K → Bool) (hash : ℕ → K → ℕ) (na
   is_map = (at.together.makings.standing.each map st to.2).ground.map
 
   -- each section that is open holds what is in use
-  used_held : (b o t : ℕ) → w.hand b ≡ InUse o → IsInside (w.uses t) → holds t b w.log ≡ true
-  used_held b o t used inside =
-      reached_held t b w.log (ap is_somewhere (used_stands deferred_word old.batch_size w reached b used)) (inside_open deferred_word old.batch_size w reached t inside)
+  used_held : (b o t : ℕ) → w.hand b ≡ InUse o → On w t → holds t b w.log ≡ true
+  used_held b o t used inside = reached_held t b w.log (ap is_somewhere (used_stands deferred_word old.batch_size w reached b used)) (sections.opens old.batch_size w reached t inside)
 
   -- it has come, and each section that is open holds its block
   abbrev IsOut : Thing → Type 0
-  IsOut x = HasCome known x × ((t b : ℕ) → IsInside (w.uses t) → IsOfThing x (known.roles b) → holds t b w.log ≡ true)
+  IsOut x = HasCome known x × ((t b : ℕ) → On w t → IsOfThing x (known.roles b) → holds t b w.log ≡ true)
 
   abbrev pairs : ShowsPairs map (whole.all.shown.number map) st m known
   pairs = (whole.all.shown.maps map st to.2).pairs
@@ -166,9 +165,9 @@ module _ {K V : Type 0} (same : K → K → Bool) (hash : ℕ → K → ℕ) (na
       (λ k from less. subst (λ (o : ℕ). IsOut (ATable (record { map = o; turn = k }))) (sym finds.0) (table_out k (subst (λ (o : ℕ). first_of o m ≤ k) finds.0 from)))
   outs _ finds = tt
 
-  module _ (inside : GuardsAreInside m.there w) (sheltered : AreSheltered m.there w known m.sheltered) where
-    guards_shelter : AllByRecursion (λ (g : Guard). (x : Thing) → IsOut x → IsSheltered m.there w known (record { guard = g.name; thing = x })) m.there.guards
-    guards_shelter = all_of (IsFound m.there.guards) (λ (g : Guard). (x : Thing) → IsOut x → IsSheltered m.there w known (record { guard = g.name; thing = x })) m.there.guards
+  module _ (inside : GuardsAreOn (On w) m.there) (sheltered : AreShelteredOn (On w) m.there w known m.sheltered) where
+    guards_shelter : AllByRecursion (λ (g : Guard). (x : Thing) → IsOut x → IsShelteredOn (On w) m.there w known (record { guard = g.name; thing = x })) m.there.guards
+    guards_shelter = all_of (IsFound m.there.guards) (λ (g : Guard). (x : Thing) → IsOut x → IsShelteredOn (On w) m.there w known (record { guard = g.name; thing = x })) m.there.guards
         (λ g found x out. (
           out.0,
           found.0,
@@ -177,21 +176,21 @@ module _ {K V : Type 0} (same : K → K → Bool) (hash : ℕ → K → ℕ) (na
           λ b of. out.1 found.0.slot b (inside g.name found.0 found.1) of,
         )) (all_found m.there.guards)
 
-    first_shelters : (f : Effect) → FindsMap map m f → AreSheltered m.there w known (with_effect (Some (name i)) (Some map) f m).sheltered
+    first_shelters : (f : Effect) → FindsMap map m f → AreShelteredOn (On w) m.there w known (with_effect (Some (name i)) (Some map) f m).sheltered
     first_shelters f finds =
-        all_append (IsSheltered m.there w known) (shelter (out_by m f) m) m.sheltered
-        (all_shelter (IsSheltered m.there w known) IsOut (out_by m f) (outs f finds) m.there.guards guards_shelter) sheltered
+        all_append (IsShelteredOn (On w) m.there w known) (shelter (out_by m f) m) m.sheltered
+        (all_shelter (IsShelteredOn (On w) m.there w known) IsOut (out_by m f) (outs f finds) m.there.guards guards_shelter) sheltered
 
     all_shelter_so : (fs : List Effect) → OutFirst fs → AtEachEffect (FindsMap map) (Some (name i)) (Some map) fs m
-        → AreSheltered m.there w known (with_effects (Some (name i)) (Some map) fs m).sheltered
+        → AreShelteredOn (On w) m.there w known (with_effects (Some (name i)) (Some map) fs m).sheltered
     all_shelter_so [] few finds = sheltered
     all_shelter_so (f ∷ fs) few finds =
-        subst (AreSheltered m.there w known) (sym (keep_all (Some (name i)) (Some map) fs (with_effect (Some (name i)) (Some map) f m) few)) (first_shelters f finds.0)
+        subst (AreShelteredOn (On w) m.there w known) (sym (keep_all (Some (name i)) (Some map) fs (with_effect (Some (name i)) (Some map) f m) few)) (first_shelters f finds.0)
 
   -- what is so after it
   module _ (on : LeadsThere same hash name m known s old new at whole.all.shown map i u here told leads) where
-    goes : GoOn w to.4.w2
-    goes = call_goes_on same hash name m known s old new at whole.all.shown map i u here told leads
+    goes : GoOn (On w) (On2 to.4.w2) w to.4.w2
+    goes = call_goes_on same hash name m known s old new at whole.all.shown map i u here told leads On On2 sections rows
 
     more : known.stored ≤ known2.stored
     more =
@@ -203,7 +202,7 @@ module _ {K V : Type 0} (same : K → K → Bool) (hash : ℕ → K → ℕ) (na
     reached2 : Reached deferred_word new.batch_size to.4.w2
     reached2 = came_reached new.batch_size to.4.w2 to.5.together.makings.standing.came
 
-    becomes : (x : Thing) (b : ℕ) → HasCome known x → IsOfThing x (known2.roles b) → ComesToBe known s led b (known2.roles b) → (t : ℕ) → IsInside (w.uses t) → holds t b to.4.w2.log ≡ true
+    becomes : (x : Thing) (b : ℕ) → HasCome known x → IsOfThing x (known2.roles b) → ComesToBe known s led b (known2.roles b) → (t : ℕ) → On w t → holds t b to.4.w2.log ≡ true
     becomes (APair n) b come is new_one t inside = absurd (let next = subst (ComesToBe known s led b) is new_one in omega (arith, next, come))
     becomes (ATable table) b come is new_one t inside =
         let k = subst (ComesToBe known s led b) is.1 new_one in
@@ -211,14 +210,14 @@ module _ {K V : Type 0} (same : K → K → Bool) (hash : ℕ → K → ℕ) (na
         let past = k.5 in
         let rooted = map2.map.rule.common.rooted (omega (arith, past)) in
         let used : to.4.w2.hand b ≡ InUse k.1.setting.counter = ap to.4.w2.hand k.6 ∙ map2.tables k.0.chart.past (omega (arith, past, rooted)) (omega (arith, past)) in
-        reached_held t b to.4.w2.log (ap is_somewhere (used_stands deferred_word new.batch_size to.4.w2 reached2 b used)) (inside_open deferred_word new.batch_size to.4.w2 reached2 t (goes.inside t inside))
+        reached_held t b to.4.w2.log (ap is_somewhere (used_stands deferred_word new.batch_size to.4.w2 reached2 b used)) (sections.opens_then new.batch_size to.4.w2 reached2 t (goes.inside t inside))
 
-    lasts : Lasts known known2 w to.4.w2
+    lasts : Lasts (On w) (On2 to.4.w2) known known2 w to.4.w2
     lasts = record {
       inside = goes.inside;
       held = λ t b inside of h. goes.held t b inside h;
       more = more;
-      back = λ x b come of. elim (on.back b (of_map x (known2.roles b) of)) as (λ _. (known.roles b ≡ known2.roles b) ⊎ ((t : ℕ) → IsInside (w.uses t) → holds t b to.4.w2.log ≡ true)) [
+      back = λ x b come of. elim (on.back b (of_map x (known2.roles b) of)) as (λ _. (known.roles b ≡ known2.roles b) ⊎ ((t : ℕ) → On w t → holds t b to.4.w2.log ≡ true)) [
         | inl was ↦ inl was
         | inr new_one ↦ inr (becomes x b come of new_one)
       ];
@@ -228,19 +227,19 @@ module _ {K V : Type 0} (same : K → K → Bool) (hash : ℕ → K → ℕ) (na
     few = effects_few i map known new.changed (takes_own i map known new.changed on.keeps)
 
     abbrev pub Shelters : Type 0
-    Shelters = GuardsAreInside m.there to.4.w2 × AreSheltered m.there to.4.w2 known2 v.sheltered × (flat_map thing_back effects ≡ [])
+    Shelters = GuardsAreOn (On2 to.4.w2) m.there × AreShelteredOn (On2 to.4.w2) m.there to.4.w2 known2 v.sheltered × (flat_map thing_back effects ≡ [])
 
-    pub shelters : GuardsAreInside m.there w → AreSheltered m.there w known v.sheltered → Shelters
-    shelters inside so = (guards_last m.there known known2 w to.4.w2 lasts inside, all_last m.there known known2 w to.4.w2 lasts v.sheltered so, few.1)
+    pub shelters : GuardsAreOn (On w) m.there → AreShelteredOn (On w) m.there w known v.sheltered → Shelters
+    shelters inside so = (guards_last (On w) (On2 to.4.w2) m.there known known2 w to.4.w2 lasts inside, all_last (On w) (On2 to.4.w2) m.there known known2 w to.4.w2 lasts v.sheltered so, few.1)
 
   -- whether it was a step of a row, or none
   abbrev NoRow : Type 0
   NoRow = OfNoRow same hash name m known s old new at whole.all.shown map i u here told leads u to.4.did
 
   abbrev Then : Type 0
-  Then = GuardsAreInside m.there to.4.w2 × AreSheltered m.there to.4.w2 known2 v.sheltered × (flat_map thing_back effects ≡ [])
+  Then = GuardsAreOn (On2 to.4.w2) m.there × AreShelteredOn (On2 to.4.w2) m.there to.4.w2 known2 v.sheltered × (flat_map thing_back effects ≡ [])
 
-  own_shelters : NoRow → GuardsAreInside m.there w → AreSheltered m.there w known m.sheltered → Then
+  own_shelters : NoRow → GuardsAreOn (On w) m.there → AreShelteredOn (On w) m.there w known m.sheltered → Then
   own_shelters own inside so =
       let stores = (calls_store_theirs K V same hash name m known s old new at whole.all map i u here told leads own).0 in
       let step = step_shown same hash name m known s old new at whole.all.shown map i u here told leads own stores in
@@ -273,13 +272,13 @@ module _ {K V : Type 0} (same : K → K → Bool) (hash : ℕ → K → ℕ) (na
       by (OverAll x) (p2, end, machine_is, told_is, inl step) not_own = absurd (not_own tt)
       by (OverAll x) (p2, end, machine_is, told_is, inr (row, stayed)) not_own = so row.step.w2 row.step.memory row.step.happened
 
-  row_shelters : (NoRow → ⊥) → GuardsAreInside m.there w → AreSheltered m.there w known m.sheltered → Then
+  row_shelters : (NoRow → ⊥) → GuardsAreOn (On w) m.there → AreShelteredOn (On w) m.there w known m.sheltered → Then
   row_shelters other inside so =
       let theirs = rows_hand_theirs K V same hash name m known s old new at whole.all map i u here told leads other in
       let on = row_step_shown same hash name m known s old new at whole.all.shown map i u here told leads other theirs.1 theirs.0 in
-      shelters on inside (subst (AreSheltered m.there w known) (sym (keep_all (Some (name i)) (Some map) effects m (row_left other))) so)
+      shelters on inside (subst (AreShelteredOn (On w) m.there w known) (sym (keep_all (Some (name i)) (Some map) effects m (row_left other))) so)
 
-  pub call_shelters : GuardsAreInside m.there w → AreSheltered m.there w known m.sheltered → Then
+  pub call_shelters : GuardsAreOn (On w) m.there → AreShelteredOn (On w) m.there w known m.sheltered → Then
   call_shelters inside so = elim (of_row same hash name m known s old new at whole map i u here told leads u to.4.did) as (λ _. Then) [
     | inl own ↦ own_shelters own inside so
     | inr other ↦ row_shelters other inside so
@@ -287,4 +286,4 @@ module _ {K V : Type 0} (same : K → K → Bool) (hash : ℕ → K → ℕ) (na
 
 module _ (K V : Type 0) (same : K → K → Bool) (hash : ℕ → K → ℕ) where
   pub calls_shelter : CallsShelter K V same hash
-  calls_shelter name m known s old new at whole map i u here told leads inside so = call_shelters same hash name m known s old new at whole map i u here told leads inside so
+  calls_shelter name m known s old new at whole map i u here told leads inside so = call_shelters same hash name m known s old new at whole map i u here told leads Within Within within_sections (over_row i) inside so

@@ -27,11 +27,11 @@ use Rattle.papaya_histories.proofs.Given.Others.Ends.{left, one_taken}
 use Rattle.papaya_histories.specs.Given.Moments.Whole.{ShowsWhole}
 use Rattle.papaya_histories.proofs.Given.Moments.Ends.{says, end_keeps}
 use Rattle.papaya_promises.specs.Others.{EndingsShelter}
-use Rattle.papaya_promises.specs.Sheltered.{GuardsAreInside, AreSheltered, SectionsHold}
+use Rattle.papaya_promises.specs.Sheltered.{AreShelteredOn, GuardsAreOn}
 use Rattle.papaya_promises.proofs.Shelters.Lasting.{Lasts, of_map, all_last, guards_last}
 use Rattle.papaya_promises.proofs.Shelters.Noted.{more_noted}
 use Rattle.papaya_promises.proofs.Shelters.Outs.{TakeNothing, calm_nothing, keep_all}
-use Rattle.papaya_histories.specs.Given.Scenes.Ending.{EndingComesTo, EndingStepsFrom}
+use Rattle.papaya_histories.specs.Given.Scenes.Ending.{EndingLeads, EndingComesTo, EndingStepsFrom}
 use Rattle.papaya_histories.specs.Given.Scenes.Held.{Held, IsAt}
 use Rattle.papaya_histories.specs.Given.Scenes.Scene.{Scene, slot_of}
 
@@ -102,22 +102,38 @@ module _ {K V : Type 0} (same : K → K → Bool) (hash : ℕ → K → ℕ) (na
       by zero e = did.spares.held t x e ∙ h
       by (suc n) e = absurd (not_gone x of (did.spares.gone x (omega (arith, e))))
 
-  lasts : Lasts known known2 w w2
-  lasts = record {
-    inside = λ t inside. subst (λ (f : ℕ → Use). IsInside (f t)) (sym did.spares.uses) inside;
-    held = λ t x inside of h. held t x of h;
-    more = more_noted its known told;
-    back = λ y x come of. inl (sym (was x (of_map y (known2.roles x) of)));
-  }
+  module _ (On On2 : ℕ → Type 0) (on : (t : ℕ) → On t → On2 t) where
+    lasts : Lasts On On2 known known2 w w2
+    lasts = record {
+      inside = on;
+      held = λ t x inside of h. held t x of h;
+      more = more_noted its known told;
+      back = λ y x come of. inl (sym (was x (of_map y (known2.roles x) of)));
+    }
 
-  pub ending_shelters : SectionsHold m known w → GuardsAreInside m.there w2 × AreSheltered m.there w2 known2 v.sheltered × (flat_map thing_back effects ≡ [])
-  ending_shelters hold = (
-    guards_last m.there known known2 w w2 lasts hold.0,
-    subst (AreSheltered m.there w2 known2) (sym (keep_all None (Some map) effects m take_nothing.0)) (all_last m.there known known2 w w2 lasts m.sheltered hold.1),
-    take_nothing.1,
-  )
+    pub ending_shelters : GuardsAreOn On m.there → AreShelteredOn On m.there w known m.sheltered
+        → GuardsAreOn On2 m.there × AreShelteredOn On2 m.there w2 known2 v.sheltered × (flat_map thing_back effects ≡ [])
+    ending_shelters inside so = (
+      guards_last On On2 m.there known known2 w w2 lasts inside,
+      subst (AreShelteredOn On2 m.there w2 known2) (sym (keep_all None (Some map) effects m take_nothing.0)) (all_last On On2 m.there known known2 w w2 lasts m.sheltered so),
+      take_nothing.1,
+    )
 
 module _ (K V : Type 0) (same : K → K → Bool) (hash : ℕ → K → ℕ) where
+  -- it leaves sheltered in all sections what is so
+  pub endings_shelter_on : (On On2 : ℕ → Type 0) (name : ℕ → List ℕ) (m : Moment K V) (known : Known) (s : Scene K V) (old new : Held K V) → IsAt same hash old s → ShowsWhole same name m known s
+      → (i : ℕ) (told : Settled (Node K V)) (leads : EndingLeads same hash i told s old new) (f : Finishing K V) (here : s.enders i ≡ Some f) (map : ℕ) → s.maps map ≡ None → ((t : ℕ) → On t → On2 t)
+      → GuardsAreOn On m.there → AreShelteredOn On m.there s.world known m.sheltered
+      → (let to = leads f here in
+      let effects = effects_of (acts.Ending map) known new.changed in
+      GuardsAreOn On2 m.there
+      × AreShelteredOn On2 m.there to.2.w2 (known_after (acts.Ending map) new.changed known) (with_effects None (Some map) effects m).sheltered
+      × (flat_map thing_back effects ≡ []))
+  endings_shelter_on On On2 name m known s old new at whole i told leads f here map not_there on inside so =
+      let to = leads f here in ending_shelters same hash name m known s old new at whole i f here to.0 told to.1 to.2 map not_there to.3 On On2 on inside so
+
   pub endings_shelter : EndingsShelter K V same hash
-  endings_shelter name m known s old new at whole i told leads f here map not_there =
-      let to = leads f here in ending_shelters same hash name m known s old new at whole i f here to.0 told to.1 to.2 map not_there to.3
+  endings_shelter name m known s old new at whole i told leads f here map not_there hold =
+      let to = leads f here in
+      endings_shelter_on (λ t. IsInside (s.world.uses t)) (λ t. IsInside (to.2.w2.uses t)) name m known s old new at whole i told leads f here map not_there
+      (λ t inside. subst (λ (f : ℕ → Use). IsInside (f t)) (sym to.2.spares.uses) inside) hold.0 hold.1

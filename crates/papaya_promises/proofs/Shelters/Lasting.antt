@@ -2,7 +2,7 @@
 use Rattle.std.specs.Prelude.{◌≡◌, ℕ, ◌≤◌, true, List, ◌⊎◌}
 use Rattle.std.proofs.Common.{subst, sym, arith, inl, inr}
 use Rattle.papaya_histories.specs.Given.Seize.Law.{holds}
-use Rattle.papaya_histories.specs.Given.Seize.World.{World, IsInside}
+use Rattle.papaya_histories.specs.Given.Seize.World.{World}
 use Rattle.papaya_histories.specs.Given.Tables.declared.node.Node.{Node}
 use Rattle.papaya_histories.specs.Given.Runs.Present.{Present}
 use Rattle.papaya_histories.specs.Given.Schedules.declared.effect.Thing.{Thing}
@@ -11,7 +11,7 @@ use Rattle.papaya_histories.specs.Given.Schedules.Moment.{Sheltered}
 use Rattle.papaya_histories.specs.Given.Effects.Known.{Known}
 use Rattle.papaya_histories.specs.Given.Effects.declared.role.Role.{Role}
 use Rattle.papaya_histories.proofs.Given.Follows.Onward.{IsOfMap}
-use Rattle.papaya_promises.specs.Sheltered.{IsOfThing, HasCome, GuardsAreInside, IsSheltered, AreSheltered}
+use Rattle.papaya_promises.specs.Sheltered.{AreShelteredOn, GuardsAreOn, HasCome, IsOfThing, IsShelteredOn}
 use Rattle.papaya_promises.proofs.Lists.{all_of}
 
 pub of_map : (x : Thing) (r : Role) → IsOfThing x r → IsOfMap r
@@ -23,14 +23,14 @@ come_on known known2 more (APair n) come = omega (arith, more, come)
 come_on known known2 more (ATable t) come = tt
 
 -- Sections go on and hold what they held, and a block that is such a thing then was it before, or is held at once.
-pub record Lasts {K V : Type 0} (known known2 : Known) (w w2 : World (Node K V)) : Type 0 where
-  pub inside : (s : ℕ) → IsInside (w.uses s) → IsInside (w2.uses s)
-  pub held : (s b : ℕ) → IsInside (w.uses s) → IsOfMap (known2.roles b) → holds s b w.log ≡ true → holds s b w2.log ≡ true
+pub record Lasts {K V : Type 0} (On On2 : ℕ → Type 0) (known known2 : Known) (w w2 : World (Node K V)) : Type 0 where
+  pub inside : (s : ℕ) → On s → On2 s
+  pub held : (s b : ℕ) → On s → IsOfMap (known2.roles b) → holds s b w.log ≡ true → holds s b w2.log ≡ true
   pub more : known.stored ≤ known2.stored
-  pub back : (x : Thing) (b : ℕ) → HasCome known x → IsOfThing x (known2.roles b) → (known.roles b ≡ known2.roles b) ⊎ ((s : ℕ) → IsInside (w.uses s) → holds s b w2.log ≡ true)
+  pub back : (x : Thing) (b : ℕ) → HasCome known x → IsOfThing x (known2.roles b) → (known.roles b ≡ known2.roles b) ⊎ ((s : ℕ) → On s → holds s b w2.log ≡ true)
 
-module _ {K V : Type 0} (there : Present) (known known2 : Known) (w w2 : World (Node K V)) (lasts : Lasts known known2 w w2) where
-  one_lasts : (x : Sheltered) → IsSheltered there w known x → IsSheltered there w2 known2 x
+module _ {K V : Type 0} (On On2 : ℕ → Type 0) (there : Present) (known known2 : Known) (w w2 : World (Node K V)) (lasts : Lasts On On2 known known2 w w2) where
+  one_lasts : (x : Sheltered) → IsShelteredOn On there w known x → IsShelteredOn On2 there w2 known2 x
   one_lasts x (come, g, is, inside, each) = (
     come_on known known2 lasts.more x.thing come,
     g,
@@ -42,8 +42,8 @@ module _ {K V : Type 0} (there : Present) (known known2 : Known) (w w2 : World (
     ],
   )
 
-  pub all_last : (xs : List Sheltered) → AreSheltered there w known xs → AreSheltered there w2 known2 xs
-  all_last xs all = all_of (IsSheltered there w known) (IsSheltered there w2 known2) xs one_lasts all
+  pub all_last : (xs : List Sheltered) → AreShelteredOn On there w known xs → AreShelteredOn On2 there w2 known2 xs
+  all_last xs all = all_of (IsShelteredOn On there w known) (IsShelteredOn On2 there w2 known2) xs one_lasts all
 
-  pub guards_last : GuardsAreInside there w → GuardsAreInside there w2
+  pub guards_last : GuardsAreOn On there → GuardsAreOn On2 there
   guards_last inside own g is = lasts.inside g.slot (inside own g is)

@@ -36,7 +36,7 @@ use Rattle.papaya_histories.specs.Given.Effects.declared.role.Role.TheVariants a
 use Rattle.papaya_histories.specs.Given.Finishes.Endings.{MakingStepsAmong}
 use Rattle.papaya_histories.specs.Given.Finishes.Makings.{Beginning}
 use Rattle.papaya_histories.proofs.Given.Follows.Operations.{LeavesBy}
-use Rattle.papaya_histories.specs.Given.Others.Makings.{making_after}
+use Rattle.papaya_histories.specs.Given.Others.Makings.{WasNew, making_after}
 use Rattle.papaya_histories.proofs.Given.Others.Leads.{word_says}
 use Rattle.papaya_histories.proofs.Given.Others.MakingPlans.{TellsMaking}
 use Rattle.papaya_histories.proofs.Given.Others.Makes.{no_table_word, tells, left}
@@ -45,13 +45,13 @@ use Rattle.papaya_histories.proofs.Given.Moments.Beside.{IsBeside}
 use Rattle.papaya_histories.proofs.Given.Moments.Makings.{not_of_map, before_free}
 use Rattle.papaya_histories.proofs.Given.Moments.MakingSteps.{makings_go_beside}
 use Rattle.papaya_promises.specs.Others.{MakingsShelter}
-use Rattle.papaya_promises.specs.Sheltered.{GuardsAreInside, AreSheltered, SectionsHold}
+use Rattle.papaya_promises.specs.Sheltered.{AreShelteredOn, GuardsAreOn}
 use Rattle.papaya_promises.proofs.Shelters.Lasting.{Lasts, of_map, all_last, guards_last}
 use Rattle.papaya_promises.proofs.Shelters.Noted.{more_noted}
 use Rattle.papaya_promises.proofs.Shelters.Outs.{TakeNothing, calm_nothing, keep_all}
-use Rattle.papaya_promises.proofs.Shelters.Within.{GoOn, over_events}
+use Rattle.papaya_promises.proofs.Shelters.Within.{GoOn, Sections, Within, within_sections}
 use Rattle.papaya_histories.specs.Given.Scenes.Held.{Held, IsAt}
-use Rattle.papaya_histories.specs.Given.Scenes.Making.{MakingComesTo, MakingStepsFrom}
+use Rattle.papaya_histories.specs.Given.Scenes.Making.{MakingComesTo, MakingLeads, MakingStepsFrom}
 use Rattle.papaya_histories.specs.Given.Scenes.Scene.{Scene, slot_of}
 
 module _ {K V : Type 0} (same : K → K → Bool) (hash : ℕ → K → ℕ) (name : ℕ → List ℕ) (m : Moment K V) (known : Known) (s : Scene K V) (old new : Held K V) (at : IsAt same hash old s)
@@ -123,40 +123,11 @@ module _ {K V : Type 0} (same : K → K → Bool) (hash : ℕ → K → ℕ) (na
   take_nothing : TakeNothing effects
   take_nothing = takes told (tells same hash name m known s old new at whole.all.shown i b here end said steps did of) (left same hash name m known s old new at whole.all.shown i b here end said steps did of)
 
-  -- sections go on
-
   reached : Reached deferred_word old.batch_size w
   reached = came_reached old.batch_size w at.together.makings.standing.came
 
   reached2 : Reached deferred_word old.batch_size w2
   reached2 = runs_reached deferred_word old.batch_size did.step.events w w2 reached did.step.runs
-
-  goes : GoOn w w2
-  goes = over_events old.batch_size w w2 reached did.step.events did.step.users did.step.runs
-
-  -- the first table of its map is held at once
-  used_held : (x o t : ℕ) → w2.hand x ≡ InUse o → IsInside (w.uses t) → holds t x w2.log ≡ true
-  used_held x o t used inside =
-      reached_held t x w2.log (ap is_somewhere (used_stands deferred_word old.batch_size w2 reached2 x used)) (inside_open deferred_word old.batch_size w2 reached2 t (goes.inside t inside))
-
-  module _ (s2 : Scene K V) (world : s2.world ≡ w2) (beside : IsBeside m v known known2 s s2) where
-    lasts : Lasts known known2 w w2
-    lasts = record {
-      inside = goes.inside;
-      held = λ t x inside is_of h. goes.held t x inside h;
-      more = more_noted its known told;
-      back = λ x y come is_of. elim (beside.back y (of_map x (known2.roles y) is_of)) as (λ _. (known.roles y ≡ known2.roles y) ⊎ ((t : ℕ) → IsInside (w.uses t) → holds t y w2.log ≡ true)) [
-        | inl was ↦ inl (sym was)
-        | inr came ↦ inr (λ t inside. used_held y came.used.0 t (subst (λ (u : World (Node K V)). u.hand y ≡ InUse came.used.0) world came.used.1) inside)
-      ];
-    }
-
-    pub making_shelters : SectionsHold m known w → GuardsAreInside m.there w2 × AreSheltered m.there w2 known2 v.sheltered × (flat_map thing_back effects ≡ [])
-    making_shelters hold = (
-      guards_last m.there known known2 w w2 lasts hold.0,
-      subst (AreSheltered m.there w2 known2) (sym (keep_all None of effects m take_nothing.0)) (all_last m.there known known2 w w2 lasts m.sheltered hold.1),
-      take_nothing.1,
-    )
 
   pub comes_there : (t : Progress Setting) (comes : MakingComesTo same hash s old new i b end w2 t) → (making_after same hash s old new i b end w2 t comes).world ≡ w2
   comes_there progress.Goes comes = refl
@@ -164,10 +135,51 @@ module _ {K V : Type 0} (same : K → K → Bool) (hash : ℕ → K → ℕ) (na
   comes_there (progress.Done setting) comes = refl
   comes_there (progress.Refused fault) comes = refl
 
+  module _ (On On2 : World (Node K V) → ℕ → Type 0) (sections : Sections On On2) where
+    goes : GoOn (On w) (On2 w2) w w2
+    goes = sections.events old.batch_size w w2 reached did.step.events did.step.users did.step.runs
+
+    -- the first table of its map is held at once
+    used_held : (x o t : ℕ) → w2.hand x ≡ InUse o → On w t → holds t x w2.log ≡ true
+    used_held x o t used inside =
+        reached_held t x w2.log (ap is_somewhere (used_stands deferred_word old.batch_size w2 reached2 x used)) (sections.opens_then old.batch_size w2 reached2 t (goes.inside t inside))
+
+    module _ (s2 : Scene K V) (world : s2.world ≡ w2) (beside : IsBeside m v known known2 s s2) where
+      lasts : Lasts (On w) (On2 w2) known known2 w w2
+      lasts = record {
+        inside = goes.inside;
+        held = λ t x inside is_of h. goes.held t x inside h;
+        more = more_noted its known told;
+        back = λ x y come is_of. elim (beside.back y (of_map x (known2.roles y) is_of)) as (λ _. (known.roles y ≡ known2.roles y) ⊎ ((t : ℕ) → On w t → holds t y w2.log ≡ true)) [
+          | inl was ↦ inl (sym was)
+          | inr came ↦ inr (λ t inside. used_held y came.used.0 t (subst (λ (u : World (Node K V)). u.hand y ≡ InUse came.used.0) world came.used.1) inside)
+        ];
+      }
+
+      pub making_shelters : GuardsAreOn (On w) m.there → AreShelteredOn (On w) m.there w known m.sheltered
+          → GuardsAreOn (On2 w2) m.there × AreShelteredOn (On2 w2) m.there w2 known2 v.sheltered × (flat_map thing_back effects ≡ [])
+      making_shelters inside so = (
+        guards_last (On w) (On2 w2) m.there known known2 w w2 lasts inside,
+        subst (AreShelteredOn (On2 w2) m.there w2 known2) (sym (keep_all None of effects m take_nothing.0)) (all_last (On w) (On2 w2) m.there known known2 w w2 lasts m.sheltered so),
+        take_nothing.1,
+      )
+
 module _ (K V : Type 0) (same : K → K → Bool) (hash : ℕ → K → ℕ) where
-  pub makings_shelter : MakingsShelter K V same hash
-  makings_shelter name m known s old new at whole i told leads b here of was_new =
+  -- it leaves such sections as they are, and sheltered in them what is so
+  pub makings_shelter_on : (On On2 : World (Node K V) → ℕ → Type 0) → Sections On On2 → (name : ℕ → List ℕ) (m : Moment K V) (known : Known) (s : Scene K V) (old new : Held K V) → IsAt same hash old s
+      → ShowsWhole same name m known s → (i : ℕ) (told : Progress Setting) (leads : MakingLeads same hash i told s old new) (b : Beginning K) (here : s.makers i ≡ Some b) (of : Option ℕ) → WasNew b.map told m
+      → GuardsAreOn (On s.world) m.there → AreShelteredOn (On s.world) m.there s.world known m.sheltered
+      → (let to = leads b here in
+      let effects = effects_of (acts.Making b.map) known new.changed in
+      GuardsAreOn (On2 to.2.step.w2) m.there
+      × AreShelteredOn (On2 to.2.step.w2) m.there to.2.step.w2 (known_after (acts.Making b.map) new.changed known) (with_effects None of effects m).sheltered
+      × (flat_map thing_back effects ≡ []))
+  makings_shelter_on On On2 sections name m known s old new at whole i told leads b here of was_new inside so =
       let to = leads b here in
-      making_shelters same hash name m known s old new at whole i b here to.0 told to.1 to.2 of (making_after same hash s old new i b to.0 to.2.step.w2 told to.3)
+      making_shelters same hash name m known s old new at whole i b here to.0 told to.1 to.2 of On On2 sections (making_after same hash s old new i b to.0 to.2.step.w2 told to.3)
       (comes_there same hash name m known s old new at whole i b here to.0 told to.1 to.2 of told to.3)
-      (makings_go_beside K V same hash name m known s old new at whole i told leads b here of was_new)
+      (makings_go_beside K V same hash name m known s old new at whole i told leads b here of was_new) inside so
+
+  pub makings_shelter : MakingsShelter K V same hash
+  makings_shelter name m known s old new at whole i told leads b here of was_new hold =
+      makings_shelter_on Within Within within_sections name m known s old new at whole i told leads b here of was_new hold.0 hold.1

@@ -36,8 +36,9 @@ use Rattle.papaya_histories.proofs.Given.Others.RowPlans.{TellsRow, row_tells, r
 use Rattle.papaya_histories.proofs.Given.Spots.Calm.{put_back}
 use Rattle.papaya_histories.proofs.Given.Moments.OnSlots.{none_some}
 use Rattle.papaya_promises.specs.Shelters.{RowsShelter, NoneIsBack}
-use Rattle.papaya_promises.specs.Sheltered.{IsOfThing, GuardsAreInside, IsSheltered, AreSheltered}
+use Rattle.papaya_promises.specs.Sheltered.{AreSheltered, AreShelteredOn, GuardsAreInside, GuardsAreOn, IsOfThing, IsShelteredOn}
 use Rattle.papaya_promises.proofs.Shelters.Lasting.{Lasts, of_map, all_last, guards_last}
+use Rattle.papaya_promises.proofs.Shelters.Within.{GoOn, Within}
 use Rattle.papaya_promises.proofs.Lists.{all_of}
 use Rattle.papaya_histories.proofs.Given.Scenes.May.{may_row}
 use Rattle.papaya_histories.specs.Given.Scenes.Held.{Held, IsAt}
@@ -126,33 +127,34 @@ module _ {K V : Type 0} (same : K → K → Bool) (hash : ℕ → K → ℕ) (m 
   was_so (changed.Took c) is b of = put_back known.roles c role.Free (λ none. none) b of
   was_so (changed.Roomed bucket had) is b of = ap (λ (f : ℕ → Role). f b) (roomed_as_many Row known bucket had).0
 
-  lasts : Lasts known known2 w w2
-  lasts = record {
-    inside = λ t inside. inside_kept deferred_word old.batch_size w reached i w2 happened.1 t inside;
-    held = λ t b inside of h. still_held deferred_word old.batch_size w reached i w2 happened.1 t b inside h;
-    more = (let e = as_many new.changed tells in omega (arith, e));
-    back = λ x b come of. inl (sym (was_so new.changed tells b (of_map x (known2.roles b) of)));
-  }
-
   -- a block that a section holds is not taken away
   not_gone : (t b : ℕ) → new.changed ≡ changed.Took b → holds t b w.log ≡ true → ⊥
   not_gone t b took held =
       let it = subst (LeavesBy w.memory w2.memory) took left in
       none_some (value_at w.memory b) it.0 (sym (kept_value deferred_word old.batch_size w reached i w2 happened.1 b (IsHeld t held)) ∙ it.1)
 
-  module _ (there : Present) where
-    not_it : (b : ℕ) → new.changed ≡ changed.Took b → (y : Thing) → IsOfThing y (known.roles b) → (x : Sheltered) → IsSheltered there w known x → x.thing ≡ y → ⊥
+  -- whichever sections go on, and hold what they held
+  module _ (On On2 : ℕ → Type 0) (goes : GoOn On On2 w w2) (there : Present) where
+    lasts : Lasts On On2 known known2 w w2
+    lasts = record {
+      inside = goes.inside;
+      held = λ t b inside of h. goes.held t b inside h;
+      more = (let e = as_many new.changed tells in omega (arith, e));
+      back = λ x b come of. inl (sym (was_so new.changed tells b (of_map x (known2.roles b) of)));
+    }
+
+    not_it : (b : ℕ) → new.changed ≡ changed.Took b → (y : Thing) → IsOfThing y (known.roles b) → (x : Sheltered) → IsShelteredOn On there w known x → x.thing ≡ y → ⊥
     not_it b took y of x (come, g, is, inside, each) e = not_gone g.slot b took (each b (subst (λ (z : Thing). IsOfThing z (known.roles b)) (sym e) of))
 
-    taken_back : (b : ℕ) → new.changed ≡ changed.Took b → (r : Role) → known.roles b ≡ r → (xs : List Sheltered) → AreSheltered there w known xs → NoneIsBack (taken_by Row r) xs
+    taken_back : (b : ℕ) → new.changed ≡ changed.Took b → (r : Role) → known.roles b ≡ r → (xs : List Sheltered) → AreShelteredOn On there w known xs → NoneIsBack (taken_by Row r) xs
     taken_back b took role.Free is xs all = none_back xs
     taken_back b took (role.OwnPair c) is xs all = none_back xs
     taken_back b took (role.OwnTable turn shape) is xs all = none_back xs
     taken_back b took (role.Counter of) is xs all = none_back xs
     taken_back b took (role.Pair n) is xs all =
-        all_of (IsSheltered there w known) (λ (x : Sheltered). is_in same_thing x.thing (APair n ∷ []) ≡ false) xs (λ x so. not_only x.thing (APair n) (not_it b took (APair n) is x so)) all
+        all_of (IsShelteredOn On there w known) (λ (x : Sheltered). is_in same_thing x.thing (APair n ∷ []) ≡ false) xs (λ x so. not_only x.thing (APair n) (not_it b took (APair n) is x so)) all
     taken_back b took (role.Table t len) is xs all =
-        all_of (IsSheltered there w known) (λ (x : Sheltered). is_in same_thing x.thing (ATable t ∷ []) ≡ false) xs (λ x so. not_only x.thing (ATable t) (not_it b took (ATable t) (len, is) x so)) all
+        all_of (IsShelteredOn On there w known) (λ (x : Sheltered). is_in same_thing x.thing (ATable t ∷ []) ≡ false) xs (λ x so. not_only x.thing (ATable t) (not_it b took (ATable t) (len, is) x so)) all
 
     nothing_back : (q : Bool) (xs : List Sheltered) → NoneIsBack (if q then [] else []) xs
     nothing_back true xs = none_back xs
@@ -162,7 +164,7 @@ module _ {K V : Type 0} (same : K → K → Bool) (hash : ℕ → K → ℕ) (m 
     roomed_back true xs = none_back xs
     roomed_back false xs = none_back xs
 
-    told_back : (told : Changed) → new.changed ≡ told → TellsRow told → (xs : List Sheltered) → AreSheltered there w known xs → NoneIsBack (effects_of Row known told) xs
+    told_back : (told : Changed) → new.changed ≡ told → TellsRow told → (xs : List Sheltered) → AreShelteredOn On there w known xs → NoneIsBack (effects_of Row known told) xs
     told_back changed.Nothing is tells_so xs all = none_back xs
     told_back (changed.Wrote (Slot t field) before now) is tells_so xs all = none_back xs
     told_back (changed.Wrote (Entry b field) before now) is tells_so xs all = nothing_back (names_same before now) xs
@@ -174,12 +176,22 @@ module _ {K V : Type 0} (same : K → K → Bool) (hash : ℕ → K → ℕ) (m 
     told_back (changed.Took b) is tells_so xs all = taken_back b is (known.roles b) refl xs all
     told_back (changed.Roomed bucket had) is tells_so xs all = roomed_back (had && nat_lt bucket known.buckets) xs
 
-    pub row_shelters : (xs : List Sheltered) → AreSheltered there w known xs
-        → (GuardsAreInside there w → GuardsAreInside there w2) × AreSheltered there w2 known2 xs × NoneIsBack (effects_of Row known new.changed) xs
-    row_shelters xs all = (guards_last there known known2 w w2 lasts, all_last there known known2 w w2 lasts xs all, told_back new.changed refl tells xs all)
+    pub row_shelters : (xs : List Sheltered) → AreShelteredOn On there w known xs
+        → (GuardsAreOn On there → GuardsAreOn On2 there) × AreShelteredOn On2 there w2 known2 xs × NoneIsBack (effects_of Row known new.changed) xs
+    row_shelters xs all = (guards_last On On2 there known known2 w w2 lasts, all_last On On2 there known known2 w w2 lasts xs all, told_back new.changed refl tells xs all)
+
+  -- who is inside stays so, and its section holds what it held
+  inside_goes : GoOn (Within w) (Within w2) w w2
+  inside_goes = record {
+    inside = λ t inside. inside_kept deferred_word old.batch_size w reached i w2 happened.1 t inside;
+    held = λ t b inside h. still_held deferred_word old.batch_size w reached i w2 happened.1 t b inside h;
+  }
+
+  pub inside_shelters : (there : Present) (xs : List Sheltered) → AreSheltered there w known xs
+      → (GuardsAreInside there w → GuardsAreInside there w2) × AreSheltered there w2 known2 xs × NoneIsBack (effects_of Row known new.changed) xs
+  inside_shelters there xs all = row_shelters (Within w) (Within w2) inside_goes there xs all
 
 module _ (K V : Type 0) (same : K → K → Bool) (hash : ℕ → K → ℕ) where
   pub rows_shelter : RowsShelter K V same hash
   rows_shelter name m known s old new at whole i told leads row here there xs all =
-      let to = leads row here in
-      row_shelters same hash m known s old new at i row here (to.0, told) to.1 to.2 there xs all
+      let to = leads row here in inside_shelters same hash m known s old new at i row here (to.0, told) to.1 to.2 there xs all

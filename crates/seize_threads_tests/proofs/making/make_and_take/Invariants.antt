@@ -1,5 +1,5 @@
 use Rattle.std.proofs.Common.{◌≡◌, ◌≤◌}
-use Rattle.seize_shared.specs.declared.view.View.TheVariants.{Outside}
+use Rattle.seize_views.specs.declared.view.View.TheVariants.{Outside}
 use Rattle.seize_threads_tests.proofs.making.make_and_take.Given as goal
 
 -- between two turns it is outside, and has found no more than it has made

@@ -1,6 +1,6 @@
 use Rattle.std.proofs.Common.{◌≡◌}
-use Rattle.seize_shared.specs.declared.view.Has.TheVariants.{Nothing}
-use Rattle.seize_shared.specs.declared.view.View.TheVariants.{Inside}
+use Rattle.seize_views.specs.declared.view.Has.TheVariants.{Nothing}
+use Rattle.seize_views.specs.declared.view.View.TheVariants.{Inside}
 use Rattle.seize_threads_tests.proofs.order.retires.Given as goal
 
 -- between two turns it is within its section

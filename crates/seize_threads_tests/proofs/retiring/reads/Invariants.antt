@@ -1,5 +1,5 @@
 use Rattle.std.proofs.Common.{◌≡◌}
-use Rattle.seize_shared.specs.declared.view.View.TheVariants.{Outside}
+use Rattle.seize_views.specs.declared.view.View.TheVariants.{Outside}
 use Rattle.seize_threads_tests.proofs.retiring.reads.Given as goal
 
 -- between two looks it is outside

@@ -1,9 +1,9 @@
 use Rattle.std.proofs.Common.{refl, ap, ◌∙◌}
 use Rattle.seize_words.specs.Op.{Room}
 use Rattle.seize.specs.declared.rows.register.Registering.TheVariants as at
-use Rattle.seize_shared.specs.Begun.{registering}
+use Rattle.seize_views.specs.Begun.{registering}
 use Rattle.seize_shared.specs.Seeking.{row_at}
-use Rattle.seize_shared.specs.declared.view.View.TheVariants.{Rests, Registers}
+use Rattle.seize_views.specs.declared.view.View.TheVariants.{Rests, Registers}
 use Rattle.seize_shared.proofs.Calls.{may_turn, may_go_on}
 use Rattle.seize_shared.proofs.caller.Caller.begin.Goals as goal
 

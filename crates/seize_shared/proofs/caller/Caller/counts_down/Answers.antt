@@ -3,9 +3,9 @@ use Rattle.std.proofs.Common.{◌≡◌, ℕ, refl, ap, sym, ◌∙◌, arith}
 use Rattle.seize.specs.declared.rows.settle.Settle.{Settle}
 use Rattle.seize.specs.declared.states.TheConstants.{ACTIVE}
 use Rattle.seize.specs.Settle.{counting_down}
-use Rattle.seize_shared.specs.Begun.{ended}
-use Rattle.seize_shared.specs.declared.view.View.TheVariants.{Settles, Left}
-use Rattle.seize_shared.specs.declared.view.Why.TheVariants.{Ending}
+use Rattle.seize_views.specs.Begun.{ended}
+use Rattle.seize_views.specs.declared.view.View.TheVariants.{Settles, Left}
+use Rattle.seize_views.specs.declared.view.Why.TheVariants.{Ending}
 use Rattle.seize_shared.proofs.Calls.{may_turn, row_told}
 use Rattle.seize_shared.proofs.caller.Caller.counts_down.Goals as goal
 

@@ -1,7 +1,7 @@
 use Rattle.std.proofs.Common.{refl, ap, ◌∙◌}
-use Rattle.seize_shared.specs.Begun.{ended, left_with}
-use Rattle.seize_shared.specs.declared.view.View.TheVariants.{Settles}
-use Rattle.seize_shared.specs.declared.view.Why.TheVariants.{Retiring}
+use Rattle.seize_views.specs.Begun.{ended, left_with}
+use Rattle.seize_views.specs.declared.view.View.TheVariants.{Settles}
+use Rattle.seize_views.specs.declared.view.Why.TheVariants.{Retiring}
 use Rattle.seize_shared.proofs.Calls.{may_turn}
 use Rattle.seize_shared.proofs.caller.Caller.ends.Goals as goal
 

@@ -2,8 +2,8 @@ use Rattle.std.proofs.Common.{inl, refl, ap, ◌∙◌}
 use Rattle.seize_words.specs.Op.{Store}
 use Rattle.seize_words.specs.declared.at.At.TheVariants.{Slot}
 use Rattle.seize.specs.declared.states.TheConstants.{HEAD, ACTIVE}
-use Rattle.seize_shared.specs.Begun.{entering}
-use Rattle.seize_shared.specs.declared.view.View.TheVariants.{Outside, Enters}
+use Rattle.seize_views.specs.Begun.{entering}
+use Rattle.seize_views.specs.declared.view.View.TheVariants.{Outside, Enters}
 use Rattle.seize_shared.proofs.Calls.{may_turn, may_go_on}
 use Rattle.seize_shared.proofs.caller.Caller.enter.Goals as goal
 

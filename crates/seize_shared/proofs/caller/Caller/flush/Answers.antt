@@ -1,8 +1,8 @@
 use Rattle.std.proofs.Common.{◌≡◌, ap, sym, ◌∙◌}
 use Rattle.seize.specs.declared.rows.settle.Settle.{Settle}
 use Rattle.seize.specs.Settle.{flushing}
-use Rattle.seize_shared.specs.Begun.{left_with}
-use Rattle.seize_shared.specs.declared.view.Becomes.TheVariants.{Active}
+use Rattle.seize_views.specs.Begun.{left_with}
+use Rattle.seize_views.specs.declared.view.Becomes.TheVariants.{Active}
 use Rattle.seize_shared.proofs.Calls.{may_flush, flushes_told, settling_row}
 use Rattle.seize_shared.proofs.caller.Caller.flush.Goals as goal
 

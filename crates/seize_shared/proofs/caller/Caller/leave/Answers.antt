@@ -2,9 +2,9 @@ use Rattle.std.proofs.Common.{refl, ap, ◌∙◌}
 use Rattle.seize_words.specs.Op.{Swap}
 use Rattle.seize_words.specs.declared.at.At.TheVariants.{Slot}
 use Rattle.seize.specs.declared.states.TheConstants.{HEAD, IDLE}
-use Rattle.seize_shared.specs.Begun.{leaving, ended}
-use Rattle.seize_shared.specs.declared.view.Becomes.TheVariants.{Idle}
-use Rattle.seize_shared.specs.declared.view.View.TheVariants.{Inside, Leaves, Left}
+use Rattle.seize_views.specs.Begun.{leaving, ended}
+use Rattle.seize_views.specs.declared.view.Becomes.TheVariants.{Idle}
+use Rattle.seize_views.specs.declared.view.View.TheVariants.{Inside, Leaves, Left}
 use Rattle.seize_shared.proofs.Calls.{may_turn, may_go_on, leaves_next, leaves_so, list_told}
 use Rattle.seize_shared.proofs.caller.Caller.leave.Goals as goal
 

@@ -1,4 +1,4 @@
-use Rattle.seize_shared.proofs.Beginnings.{seats_come}
+use Rattle.seize_views.proofs.Beginnings.{seats_come}
 use Rattle.seize_shared.proofs.caller.Caller.new.Goals as goal
 
 pub seat-seat-requires : goal.seat-seat-requires

@@ -2,9 +2,9 @@ use Rattle.std.proofs.Common.{refl, ap, ◌∙◌}
 use Rattle.seize_words.specs.Op.{Swap}
 use Rattle.seize_words.specs.declared.at.At.TheVariants.{Slot}
 use Rattle.seize.specs.declared.states.TheConstants.{HEAD, ACTIVE}
-use Rattle.seize_shared.specs.Begun.{refreshes, ended}
-use Rattle.seize_shared.specs.declared.view.Becomes.TheVariants.{Active}
-use Rattle.seize_shared.specs.declared.view.View.TheVariants.{Inside, Leaves, Left}
+use Rattle.seize_views.specs.Begun.{refreshes, ended}
+use Rattle.seize_views.specs.declared.view.Becomes.TheVariants.{Active}
+use Rattle.seize_views.specs.declared.view.View.TheVariants.{Inside, Leaves, Left}
 use Rattle.seize_shared.proofs.Calls.{may_turn, may_go_on, refreshes_next, refreshes_so, list_told}
 use Rattle.seize_shared.proofs.caller.Caller.refresh.Goals as goal
 

@@ -1,8 +1,8 @@
 use Rattle.std.proofs.Common.{◌≡◌, ap, ◌∙◌}
 use Rattle.seize.specs.Settle.{retiring}
 use Rattle.seize_words.specs.Word.{link_to}
-use Rattle.seize_shared.specs.Begun.{IsBegun}
-use Rattle.seize_shared.specs.declared.view.Becomes.TheVariants.{Idle}
+use Rattle.seize_views.specs.Begun.{IsBegun}
+use Rattle.seize_views.specs.declared.view.Becomes.TheVariants.{Idle}
 use Rattle.seize_shared.proofs.Calls.{may_retire_idle, retires_idle_told, whole_link}
 use Rattle.seize_shared.proofs.caller.Caller.retire_idle.Given as given
 use Rattle.seize_shared.proofs.caller.Caller.retire_idle.Goals as goal

@@ -3,10 +3,10 @@ use Rattle.std.proofs.Common.{◌≡◌, refl, sym, subst, ap, ◌∙◌}
 use Rattle.seize.specs.declared.rows.settle.Settle.{Settle}
 use Rattle.seize.specs.declared.rows.settle.Settling.TheVariants.{Over}
 use Rattle.seize.specs.Settle.{retiring}
-use Rattle.seize_shared.specs.Begun.{IsBegun, ended, left_with}
-use Rattle.seize_shared.specs.declared.view.Becomes.{Becomes}
-use Rattle.seize_shared.specs.declared.view.View.TheVariants.{Settles}
-use Rattle.seize_shared.specs.declared.view.Why.TheVariants.{Retiring}
+use Rattle.seize_views.specs.Begun.{IsBegun, ended, left_with}
+use Rattle.seize_views.specs.declared.view.Becomes.{Becomes}
+use Rattle.seize_views.specs.declared.view.View.TheVariants.{Settles}
+use Rattle.seize_views.specs.declared.view.Why.TheVariants.{Retiring}
 use Rattle.seize_shared.proofs.Calls.{may_turn}
 use Rattle.seize_shared.proofs.Straight.{Comes, has_ended, has_stopped, may_run, retirement_row}
 use Rattle.seize_shared.proofs.caller.Caller.retires.Given as given

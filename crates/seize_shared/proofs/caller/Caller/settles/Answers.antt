@@ -1,7 +1,7 @@
 -- Straight code reclaims what it can after each step.
 use Rattle.std.proofs.Common.{◌∙◌, arith}
 use Rattle.seize_shared.specs.Made.{IsSettling}
-use Rattle.seize_shared.specs.declared.view.Why.{Why}
+use Rattle.seize_views.specs.declared.view.Why.{Why}
 use Rattle.seize_shared.proofs.Straight.{Comes, led, may_drop}
 use Rattle.seize_shared.proofs.caller.Caller.settles.Given as given
 use Rattle.seize_shared.proofs.caller.Caller.settles.Goals as goal

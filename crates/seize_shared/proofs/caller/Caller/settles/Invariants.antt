@@ -1,6 +1,6 @@
 use Rattle.std.proofs.Common.{◌≡◌}
 use Rattle.seize_shared.specs.Made.{IsSettling, left_in}
-use Rattle.seize_shared.specs.declared.view.Why.{Why}
+use Rattle.seize_views.specs.declared.view.Why.{Why}
 use Rattle.seize_shared.proofs.caller.Caller.settles.Given as goal
 
 -- the settling goes on, for what it is for

@@ -5,7 +5,7 @@ use Rattle.seize_words.specs.declared.at.At.TheVariants.{Slot}
 use Rattle.seize.specs.declared.states.TheConstants.{HEAD}
 use Rattle.seize.specs.declared.rows.register.Registering.TheVariants as at
 use Rattle.seize_shared.specs.Seeking.{row_at}
-use Rattle.seize_shared.specs.declared.view.View.TheVariants.{Registers}
+use Rattle.seize_views.specs.declared.view.View.TheVariants.{Registers}
 use Rattle.seize_shared.proofs.Calls.{may_go_on}
 use Rattle.seize_shared.proofs.Seen.{seeks_here, seen_free, free_head}
 use Rattle.seize_shared.proofs.caller.Caller.tries.Goals as goal

@@ -1,5 +1,5 @@
 use Rattle.std.proofs.Common.{refl}
-use Rattle.seize_shared.specs.declared.view.Has.TheVariants.{Cut}
+use Rattle.seize_views.specs.declared.view.Has.TheVariants.{Cut}
 use Rattle.seize_shared.proofs.Calls.{is_shown}
 use Rattle.seize_shared.proofs.caller.Caller.unlinked.Goals as goal
 

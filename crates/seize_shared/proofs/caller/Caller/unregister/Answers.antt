@@ -2,8 +2,8 @@ use Rattle.std.proofs.Common.{inr, refl, ap, ◌∙◌}
 use Rattle.seize_words.specs.Op.{Store}
 use Rattle.seize_words.specs.declared.at.At.TheVariants.{Slot}
 use Rattle.seize.specs.declared.states.TheConstants.{HEAD, FREE}
-use Rattle.seize_shared.specs.Begun.{freeing}
-use Rattle.seize_shared.specs.declared.view.View.TheVariants.{Outside, Frees}
+use Rattle.seize_views.specs.Begun.{freeing}
+use Rattle.seize_views.specs.declared.view.View.TheVariants.{Outside, Frees}
 use Rattle.seize_shared.proofs.Calls.{may_turn, may_go_on}
 use Rattle.seize_shared.proofs.caller.Caller.unregister.Goals as goal
 

@@ -1,7 +1,7 @@
 use Rattle.std.proofs.Common.{subst}
 use Rattle.std.specs.Prelude.{ℕ, Option, IfSome}
 use Rattle.seize.specs.World.{HasListWord}
-use Rattle.seize_shared.proofs.Beginnings.{seats_come}
+use Rattle.seize_views.proofs.Beginnings.{seats_come}
 use Rattle.seize_shared.proofs.Owning.{may_make_own}
 use Rattle.seize_shared.proofs.owned.Owned.new.Goals as goal
 

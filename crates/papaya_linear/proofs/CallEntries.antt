@@ -1,0 +1,83 @@
+-- The entries of a call that begins, takes a reply, or is given up: each is linearizable, and the moment after it shows what the next entry asks for.
+use Rattle.std.specs.Prelude.{◌≡◌, ℕ, Bool, true, false, List, [], ◌∷◌, flat_map, Option, Some, None, Ok}
+use Rattle.std.proofs.Common.{refl, arith}
+use Rattle.papaya_moments.specs.Given.Seize.World.{Rests}
+use Rattle.papaya_moments.specs.Given.Raw.Machine.{machine_replied}
+use Rattle.papaya_moments.specs.Given.Callers.Together.{UnderWay}
+use Rattle.papaya_moments.specs.Given.Finishes.Machines.{ToldOfKind, machine_of}
+use Rattle.papaya_moments.specs.Given.Finishes.Maps.{Standing, with_call as with_call_of}
+use Rattle.papaya_moments.specs.Given.Schedules.declared.call.Call.{Call}
+use Rattle.papaya_moments.specs.Given.Schedules.declared.call.Call.TheVariants.{On}
+use Rattle.papaya_moments.specs.Given.Schedules.declared.call.OneKey.{OneKey}
+use Rattle.papaya_moments.specs.Given.Schedules.declared.call.Reply.{Reply}
+use Rattle.papaya_moments.specs.Given.Schedules.declared.outcome.Outcome.TheVariants as outcome
+use Rattle.papaya_moments.specs.Given.Schedules.Beginning.{with_call}
+use Rattle.papaya_moments.specs.Given.Schedules.Linearizable.{shift_of}
+use Rattle.papaya_moments.specs.Given.Schedules.Moment.{Asking, Moment, UnderWay as CallThere}
+use Rattle.papaya_moments.specs.Given.Schedules.Views.{call_of}
+use Rattle.papaya_moments.specs.Given.Effects.Known.{Known}
+use Rattle.papaya_moments.specs.Given.Scenes.Beginning.{Begins as BeginsSo}
+use Rattle.papaya_moments.specs.Given.Scenes.Held.{Held, IsAt}
+use Rattle.papaya_moments.specs.Given.Scenes.Replying.{StopLeads, scene_with, unless_stopped}
+use Rattle.papaya_moments.specs.Given.Scenes.Scene.{Scene, slot_of}
+use Rattle.papaya_moments.specs.Given.Follows.Calling.{NoneNamed, told}
+use Rattle.papaya_moments.specs.Given.Follows.Calls.{IsCalled}
+use Rattle.papaya_moments.specs.Given.Hands.Asked.{as_told}
+use Rattle.papaya_moments.specs.Given.Hands.Calling.{IsBegunFor}
+use Rattle.papaya_moments.specs.Given.Others.Walks.{given_up}
+use Rattle.papaya_histories.specs.AsCalled.{IsBegunAs}
+use Rattle.papaya_histories.specs.Changes.{IsTaken}
+use Rattle.papaya_histories.proofs.OtherCalls.{no_calls_are_linearizable}
+use Rattle.papaya_deeds.specs.Deeds.{Begins, Deed, Entry, Replies, Stops, after, caller_of, moment, named}
+use Rattle.papaya_deeds.specs.History.{IsLinearizable, past, transition}
+use Rattle.papaya_linear.specs.Shown.{ShowsAnswers}
+use Rattle.papaya_linear.proofs.CallsGo.{calls_begin, calls_take, walks_stop}
+use Rattle.papaya_linear.proofs.Like.{IsLike, entries_are_over}
+
+-- An entry of no call by which no pair comes or goes is linearizable.
+pub none_is_linearizable : {K V : Type 0} (same : K → K → Bool) (history : List (Entry K V)) (e : Entry K V) → caller_of e.deed ≡ None → flat_map shift_of e.effects ≡ [] → IsLinearizable same history e
+none_is_linearizable {K} {V} same history e none shifts = no_calls_are_linearizable K V same (past history) (transition history e) none shifts
+
+-- The moment after an entry is that of the history.
+pub entry_answers : {K V : Type 0} (same : K → K → Bool) (history : List (Entry K V)) (e : Entry K V) (m : Moment K V) (known : Known) (s : Scene K V) → ShowsAnswers same (past history) m known s
+    → IsLike m (after e (moment history)) → ShowsAnswers same (past (e ∷ history)) (moment (e ∷ history)) known s
+entry_answers same history e m known s all like =
+    entries_are_over same (past history) known s m (after e (moment history)) all like (let before = all.dues.history.past.counted in omega (arith, before))
+
+module _ {K V : Type 0} (same : K → K → Bool) (hash : ℕ → K → ℕ) (history : List (Entry K V)) (known : Known) (s : Scene K V) (old new : Held K V) (at : IsAt same hash old s)
+    (all : ShowsAnswers same (past history) (moment history) known s) (map i : ℕ) where
+  -- a deed by itself
+  abbrev pub alone : Deed K V → Entry K V
+  alone deed = record { deed = deed; outcome = outcome.Goes; effects = []; refused = false }
+
+  pub begins_answer : (standing : Standing K) → s.maps map ≡ Some standing → (u : UnderWay K V K) (call : Call K V) → BeginsSo same standing i u → IsCalled same u call → IsBegunFor u call → IsBegunAs u call
+      → NoneNamed named (named i) s → s.world.row i ≡ Rests → IsAt same hash new (scene_with map i u s)
+      → (let e = alone (Begins i (slot_of i) map call) in
+      IsLinearizable same history e × ShowsAnswers same (past (e ∷ history)) (moment (e ∷ history)) known (scene_with map i u s))
+  begins_answer standing there u call begins called given swept none rests at2 = (
+    none_is_linearizable same history (alone (Begins i (slot_of i) map call)) refl refl,
+    entry_answers same history (alone (Begins i (slot_of i) map call)) (with_call (named i) (named (slot_of i)) call (Some map) (moment history)) known (scene_with map i u s)
+        (calls_begin K V same hash (past history) known s old at all map i new standing there u call (named (slot_of i)) begins called given swept none rests at2) refl,
+  )
+
+  pub replies_answer : (u : UnderWay K V K) → s.calls map i ≡ Some u → (c : CallThere K V) → call_of (named i) (moment history) ≡ Some c → (question : Option ℕ) → c.stands ≡ Asking question
+      → (standing : Standing K) → s.maps map ≡ Some standing → (reply : Reply V) (next : UnderWay K V K)
+      → machine_of next ≡ (machine_replied (machine_of u) (as_told reply)).0 → (machine_replied (machine_of u) (as_told reply)).1 ≡ Ok tt
+      → ToldOfKind V same same old.batch_size old.roots slot_of standing i u (as_told reply) next → ((one : OneKey K V) → c.call ≡ On one → IsTaken one reply) → IsAt same hash new (scene_with map i next s)
+      → (let e = alone (Replies i reply) in
+      IsLinearizable same history e × ShowsAnswers same (past (e ∷ history)) (moment (e ∷ history)) known (scene_with map i next s))
+  replies_answer u here c c_is question asks standing there reply next next_is takes kind taken at2 = (
+    none_is_linearizable same history (alone (Replies i reply)) refl refl,
+    entry_answers same history (alone (Replies i reply)) (told (named i) reply (moment history)) known (scene_with map i next s)
+        (calls_take K V same hash (past history) known s old at (moment history) all new map i u here c c_is question asks standing there reply next next_is takes kind taken at2) refl,
+  )
+
+  pub stops_answer : StopLeads same hash i true s old new → (u : UnderWay K V K) → s.calls map i ≡ Some u
+      → (let then_at = record s { calls = with_call_of s.calls map i (unless_stopped true u) } in
+      let e : Entry K V = record { deed = Stops i; outcome = outcome.Done; effects = []; refused = false } in
+      NoneNamed named (named i) then_at → IsLinearizable same history e × ShowsAnswers same (past (e ∷ history)) (moment (e ∷ history)) known then_at)
+  stops_answer leads u here none = (
+    none_is_linearizable same history (record { deed = Stops i; outcome = outcome.Done; effects = []; refused = false }) refl refl,
+    entry_answers same history (record { deed = Stops i; outcome = outcome.Done; effects = []; refused = false }) (given_up (named i) true (moment history)) known
+        (record s { calls = with_call_of s.calls map i (unless_stopped true u) }) (walks_stop K V same hash (past history) known s old at (moment history) all new i true leads map u here (λ e. none)) refl,
+  )

@@ -1,0 +1,76 @@
+-- What a step of a call comes to, as it is played, is what its caller is told: the call means it, while its caller keeps the value that it is to tell back.
+use Rattle.std.specs.Prelude.{◌≡◌, ℕ, Bool, List, [], Option, Some}
+use Rattle.std.proofs.Common.{refl, subst}
+use Rattle.papaya_moments.specs.Given.Tables.declared.node.Node.{Node}
+use Rattle.papaya_moments.specs.Given.Raw.declared.machines.answer.KeyAnswer.{KeyAnswer}
+use Rattle.papaya_moments.specs.Given.Raw.declared.machines.answer.KeyAnswer.TheVariants as says
+use Rattle.papaya_moments.specs.Given.Raw.declared.machines.progress.Answer.TheVariants as answers
+use Rattle.papaya_moments.specs.Given.Raw.declared.machines.progress.Progress.{Progress}
+use Rattle.papaya_moments.specs.Given.Raw.declared.machines.progress.Progress.TheVariants as progress
+use Rattle.papaya_moments.specs.Given.Callers.Together.{UnderWay, OnKey, ForRoom, Counting, OverAll}
+use Rattle.papaya_moments.specs.Given.Finishes.Machines.{machine_of}
+use Rattle.papaya_moments.specs.Given.Schedules.declared.call.Call.{Call}
+use Rattle.papaya_moments.specs.Given.Schedules.declared.call.Call.TheVariants.{On}
+use Rattle.papaya_moments.specs.Given.Schedules.declared.call.OneKey.{OneKey}
+use Rattle.papaya_moments.specs.Given.Schedules.declared.call.OneKey.TheVariants.{Compute, TryInsert}
+use Rattle.papaya_moments.specs.Given.Schedules.declared.call.Reply.TheVariants.{Aborts}
+use Rattle.papaya_moments.specs.Given.Schedules.Moment.{UnderWay as CallThere}
+use Rattle.papaya_moments.specs.Given.Schedules.Views.{call_of, reply_to}
+use Rattle.papaya_moments.specs.Given.Effects.Effects.{known_after}
+use Rattle.papaya_moments.specs.Given.Effects.Known.{Known}
+use Rattle.papaya_moments.specs.Given.Effects.declared.acting.Acting.TheVariants as acts
+use Rattle.papaya_moments.specs.Given.Scenes.Held.{Held, IsAt}
+use Rattle.papaya_moments.specs.Given.Scenes.Scene.{Scene}
+use Rattle.papaya_moments.specs.Given.Scenes.Stepping.{StepLeads}
+use Rattle.papaya_named.specs.Seen.{kind_of}
+use Rattle.papaya_histories.specs.InEvent.{ComesSo, InEvent}
+use Rattle.papaya_histories.specs.OtherCalls.{IsOnNoKey}
+use Rattle.papaya_histories.proofs.AnyCall.InEvent.{events_begin, events_have_words}
+use Rattle.papaya_stepping.specs.Stepping.{outcome_of as outcome_as}
+use Rattle.papaya_values.specs.Values.{KeepsValue}
+use Rattle.papaya_values.proofs.Values.{inserts_tell_theirs}
+use Rattle.papaya_events.proofs.OfCalls.Answers.{Tells, comes_so}
+use Rattle.papaya_deeds.specs.Deeds.{Entry, moment, named}
+use Rattle.papaya_deeds.specs.History.{past}
+use Rattle.papaya_played.specs.Play.{outcome_of}
+use Rattle.papaya_linear.specs.Shown.{ShowsAnswers}
+
+-- what a step comes to, as it is played, is what it comes to in an event
+same_outcome : {K V : Type 0} (known : Known) (call : Call K V) (value : Option V) (said : Progress (Node K V)) → outcome_as known (kind_of call) value said ≡ outcome_of known (kind_of call) value said
+same_outcome known call value progress.Goes = refl
+same_outcome known call value (progress.Gave node) = refl
+same_outcome known call value (progress.Unstored node) = refl
+same_outcome known call value progress.Waits = refl
+same_outcome known call value (progress.Asks word) = refl
+same_outcome known call value progress.Ready = refl
+same_outcome known call value (progress.Pair word) = refl
+same_outcome known call value (progress.Done said) = refl
+same_outcome known call value (progress.Refused fault) = refl
+
+module _ {K V : Type 0} (same : K → K → Bool) (hash : ℕ → K → ℕ) (history : List (Entry K V)) (known : Known) (s : Scene K V) (old new : Held K V) (at : IsAt same hash old s)
+    (all : ShowsAnswers same (past history) (moment history) known s) (map i : ℕ) (u : UnderWay K V K) (here : s.calls map i ≡ Some u) (said : Progress (Node K V)) (leads : StepLeads same hash i said s old new)
+    (d : CallThere K V) (d_is : call_of (named i) (moment history) ≡ Some d) (value : Option V) (keeps : KeepsValue d.call d.replies (machine_of u) value) where
+  abbrev known_then : Known
+  known_then = known_after (acts.Call i map) new.changed known
+
+  midst : InEvent same named (past history) (moment history) map i d [] (moment history) known s u
+  midst = events_begin K V same hash named (past history) (moment history) (refl, refl) known s old at all.whole all.dues all.as_called map i u here d d_is
+
+  -- `compute` that was told to abort is one on a key, and its caller keeps the value
+  aborts_with : (x : UnderWay K V K) → InEvent same named (past history) (moment history) map i d [] (moment history) known s x → (k : K) → d.call ≡ On (Compute k)
+      → KeepsValue d.call d.replies (machine_of x) value → (about : Option ℕ) (w : V) → reply_to about d.replies ≡ Some (Aborts w) → value ≡ Some w
+  aborts_with (OnKey x) there k is keep about w replied = (subst (λ (call : Call K V). KeepsValue call d.replies (machine_of (OnKey x)) value) is keep about w replied).1
+  aborts_with (ForRoom x) there k is keep about w replied = absurd (subst IsOnNoKey is there.other)
+  aborts_with (Counting x) there k is keep about w replied = absurd (subst IsOnNoKey is there.other)
+  aborts_with (OverAll x) there k is keep about w replied = absurd (subst IsOnNoKey is there.other)
+
+  tells : (one : OneKey K V) → d.call ≡ On one → (it : KeyAnswer) → said ≡ progress.Done (answers.Key it) → Tells known_then value d.replies one it
+  tells (TryInsert k v) is (says.Found word) done_so =
+      inserts_tell_theirs K V same hash named (moment history) known s old new at all.whole map i u here word (subst (λ (x : Progress (Node K V)). StepLeads same hash i x s old new) done_so leads) d d_is k v is value keeps
+  tells (Compute k) is it done_so = λ about w replied. aborts_with u midst k is keeps about w replied
+  tells _ is it done_so = tt
+
+  pub steps_come_so : ComesSo known_then d.call d.replies said (outcome_of known_then (kind_of d.call) value said)
+  steps_come_so =
+      let words = events_have_words K V same hash named (past history) (moment history) map i d [] (moment history) known s u midst old new at said leads in
+      subst (ComesSo known_then d.call d.replies said) (same_outcome known_then d.call value said) (comes_so known_then value d.replies d.call said words.0 words.1 tells)

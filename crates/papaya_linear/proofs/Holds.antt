@@ -1,0 +1,22 @@
+-- What is so of a state that is played, and of the scene to which its acts have led.
+use Rattle.std.specs.Prelude.{◌≡◌, Bool}
+use Rattle.std.proofs.Common.{sym, subst}
+use Rattle.papaya_moments.specs.Given.Schedules.After.{AtEachEvent}
+use Rattle.papaya_scenes.specs.Scene.{Scene}
+use Rattle.papaya_deeds.specs.Deeds.{moment}
+use Rattle.papaya_deeds.specs.History.{IsLinearizable, past}
+use Rattle.papaya_played.specs.Play.{State}
+use Rattle.papaya_played.proofs.Noted.{CallsAreNoted}
+use Rattle.papaya_linear.specs.Shown.{ShowsAnswers}
+use Rattle.papaya_linear.proofs.HeardAll.{AreHeard}
+
+-- Each entry so far is linearizable; and the moment shows the scene, and what calls are, and what they were told.
+pub record Holds {K V S : Type 0} (same : K → K → Bool) (x : State K V S) (s : Scene K V) : Type 0 where
+  pub shows : ShowsAnswers same (past x.history) (moment x.history) x.known s
+  pub noted : CallsAreNoted x
+  pub heard : AreHeard x
+  pub each : AtEachEvent (IsLinearizable same) x.history
+
+-- so it is of what this comes to
+pub onto : {K V S : Type 0} (same : K → K → Bool) (x : State K V S) (s : Scene K V) (y : State K V S) (n : Scene K V) → y ≡ x → n ≡ s → Holds same x s → Holds same y n
+onto {K} {V} {S} same x s y n y_is n_is so = subst (λ (q : State K V S). Holds same q n) (sym y_is) (subst (Holds same x) (sym n_is) so)

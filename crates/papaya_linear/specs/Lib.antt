@@ -1,0 +1,3 @@
+pub mod Shown
+pub mod Coming
+pub mod Linear

@@ -1,0 +1,4 @@
+//! Histories of lists of acts are linearizable.
+#![tactic(auto)]
+
+pub mod law;

@@ -1,0 +1,17 @@
+pub mod Aside
+pub mod Lists
+pub mod Reclaims
+pub mod Came
+pub mod Moved
+pub mod Steps
+pub mod Operations
+pub mod Beginnings
+pub mod Registers
+pub mod Looks
+pub mod Settling
+pub mod GoesOn
+pub mod Users
+pub mod Blocks
+pub mod Written
+pub mod Roots
+pub mod Handing

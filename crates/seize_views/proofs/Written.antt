@@ -1,0 +1,189 @@
+-- A word is written at a root, and what was there is unlinked.
+use Rattle.std.specs.Prelude.{◌≢◌, ◌<◌, ◌==◌, Option, Some, IsSome, length, slice_get, slice_set}
+use Rattle.std.proofs.Common.{◌≡◌, ℕ, zero, suc, List, [], ◌∷◌, Bool, true, false, ◌⊎◌, inl, inr, refl, sym, subst, ap, ◌∙◌, arith}
+use Rattle.std.proofs.lemmas.Bool.{cases_eq, eq-eqb}
+use Rattle.seize_words.specs.Mem.{Mem, Took, value_at, word_at, with_word}
+use Rattle.seize_words.specs.Word.{block_in, link_to}
+use Rattle.seize_words.specs.Op.{Op, Out}
+use Rattle.seize_words.specs.declared.at.At.TheVariants.{Root}
+use Rattle.seize.specs.Law.{Unlinked}
+use Rattle.seize.specs.World.{World, Hand, Operates, Unlinks, MayCut, IsOwnOp, with_at, with_hand, with_effect}
+use Rattle.seize.specs.World as world
+use Rattle.seize_alone.proofs.Given.SeizeMoves.State.Held.{held_on}
+use Rattle.seize_rule.proofs.Rows.Others.{with_here, with_other}
+use Rattle.seize_rule.proofs.World.Values.{own_op_value}
+use Rattle.seize_acts.proofs.Answers.{same_some}
+use Rattle.seize_seats.specs.State.{State, view_of, Goes}
+use Rattle.seize_views.specs.Rows.{RootsNameLinked, Came, Holds, Keeps}
+use Rattle.seize_views.specs.declared.view.View.{View}
+use Rattle.seize_views.specs.declared.view.Has.TheVariants.{Nothing, Cut}
+use Rattle.seize_views.specs.declared.view.Fixed.{Fixed}
+use Rattle.seize_views.proofs.Lists.{there, elsewhere}
+use Rattle.seize_views.proofs.Moved.{hand_users, Passes}
+use Rattle.seize_views.proofs.Came.{came_then}
+use Rattle.seize_views.proofs.Users.{same_use}
+use Rattle.seize_views.proofs.Users.{world_took, passes_one, passes_then, Users}
+
+-- a root is there
+root_there : (l : List ℕ) (r : ℕ) → r < length l → IsSome (slice_get l r)
+root_there [] r lt = absurd (omega (arith, lt))
+root_there (x ∷ l) zero lt = refl
+root_there (x ∷ l) (suc r) lt = root_there l r (omega (arith, lt))
+
+length_set : (l : List ℕ) (r x : ℕ) → length (slice_set l r x) ≡ length l
+length_set [] r x = refl
+length_set (y ∷ l) zero x = refl
+length_set (y ∷ l) (suc r) x = ap suc (length_set l r x)
+
+-- a link names its block
+pub block_of_link : (b : ℕ) → block_in (link_to b) ≡ b
+block_of_link b = omega arith
+
+module _ {T : Type 0} (defers : T → Option ℕ) (fixed : Fixed) (s : State T (View T) (World T)) (id : ℕ) where
+  -- a word is written at a root, in place of this one
+  pub record Wrote (a word old : ℕ) (m : Mem T) : Type 0 where
+    pub there : word_at s.memory (Root a) ≡ Some old
+    pub roots : m.roots ≡ slice_set s.memory.roots a word
+    pub came : Came defers fixed (record s.world { memory = m })
+    pub values : (b : ℕ) → value_at m b ≡ value_at s.world.memory b
+    pub passes : Passes defers fixed s id (record s.world { memory = m })
+
+  -- the seat goes on where no block was at the root, and where one was, which is in its hand then
+  pub record Cuts (t : ℕ) (m : Mem T) (old : ℕ) (so : View T → Type 0) : Type 0 where
+    pub none : (block_in old == 0) ≡ true → (n : World T) → Users defers fixed s id t m n Nothing → Goes (Holds defers fixed) Keeps s m id so
+    pub cut : (block_in old == 0) ≡ false → (n : World T) → Users defers fixed s id t m n (Cut (block_in old)) → Goes (Holds defers fixed) Keeps s m id so
+
+module _ {T : Type 0} (defers : T → Option ℕ) (fixed : Fixed) (s : State T (View T) (World T)) (id : ℕ) (v : View T) (h : Holds defers fixed s)
+    (at : view_of s id ≡ Some v) where
+  abbrev w : World T
+  w = s.world
+
+  abbrev H : State T (View T) (World T) → Type 0
+  H = Holds defers fixed
+
+  pub wrote : (a word old : ℕ) (m : Mem T) (op : Op T) (out : Out T) → IsOwnOp defers w.memory op → Took s.memory op out m
+      → word_at s.memory (Root a) ≡ Some old → m ≡ with_word s.memory (Root a) word → Wrote defers fixed s id a word old m
+  wrote a word old m op out own took found is =
+      let here : Took w.memory op out m = world_took s h.memory op out m took in
+      let values : (b : ℕ) → value_at m b ≡ value_at w.memory b =
+      (λ b. ap (λ (x : Mem T). value_at x b) here.1 ∙ own_op_value defers w.memory b op out own) in
+      record {
+        there = found;
+        roots = ap (λ (x : Mem T). x.roots) is;
+        came = came_then defers fixed w (record w { memory = m }) (Operates op) h.came (out, m, own, here, refl);
+        values = values;
+        passes = passes_one defers fixed s id 0 (Operates op) (record w { memory = m }) (λ j. tt) (out, m, own, here, refl);
+      }
+
+  pub rooted_still : (a word old : ℕ) (m : Mem T) → Wrote defers fixed s id a word old m → length m.roots ≡ fixed.roots
+  rooted_still a word old m wrote = ap length wrote.roots ∙ length_set s.memory.roots a word ∙ h.rooted
+
+  -- where a root names a block from now on, each other root is as it was
+  pub roots_now : (a word old : ℕ) (m : Mem T) (hand : ℕ → Hand) → Wrote defers fixed s id a word old m
+      → (block_in word ≡ 0) ⊎ (hand (block_in word) ≡ world.InUse a) → ((b c : ℕ) → c ≢ a → w.hand b ≡ world.InUse c → hand b ≡ world.InUse c) → RootsNameLinked m hand
+  roots_now a word old m hand wrote named others c found e =
+      by (cases_eq c a) (subst (λ (l : List ℕ). slice_get l c ≡ Some found) wrote.roots e)
+    where
+      by : (c ≡ a) ⊎ (c ≢ a) → slice_get (slice_set s.memory.roots a word) c ≡ Some found → (block_in found ≡ 0) ⊎ (hand (block_in found) ≡ world.InUse c)
+      by (inl is) q =
+          let set = subst (λ (k : ℕ). slice_get (slice_set s.memory.roots a word) k ≡ Some found) is q in
+          let same : word ≡ found = same_some word found (sym (there s.memory.roots a word old wrote.there) ∙ set) in
+          subst (λ (k : ℕ). (block_in found ≡ 0) ⊎ (hand (block_in found) ≡ world.InUse k)) (sym is)
+          (subst (λ (k : ℕ). (block_in k ≡ 0) ⊎ (hand (block_in k) ≡ world.InUse a)) same named)
+      by (inr ne) q =
+          let was = h.roots c found (sym (elsewhere s.memory.roots a c word ne) ∙ q) in
+          elim was as (λ _. (block_in found ≡ 0) ⊎ (hand (block_in found) ≡ world.InUse c)) [
+            | inl none ↦ inl none
+            | inr is ↦ inr (others (block_in found) c ne is)
+          ]
+
+  -- no root names the block that was taken from one
+  pub fresh : (a word old : ℕ) (m : Mem T) → Wrote defers fixed s id a word old m → (block_in old ≡ 0) ⊎ (w.hand (block_in old) ≡ world.InUse a)
+      → (block_in word ≡ 0) ⊎ (block_in word ≢ block_in old)
+      → (c found : ℕ) → word_at m (Root c) ≡ Some found → (block_in found ≡ 0) ⊎ (block_in found ≢ block_in old)
+  fresh a word old m wrote was new c found e = by (cases_eq c a) (subst (λ (l : List ℕ). slice_get l c ≡ Some found) wrote.roots e)
+    where
+      was_linked : c ≢ a → w.hand (block_in found) ≡ world.InUse c → (block_in old ≡ 0) ⊎ (w.hand (block_in old) ≡ world.InUse a)
+          → (block_in found ≡ 0) ⊎ (block_in found ≢ block_in old)
+      was_linked ne is (inr linked) = inr (λ q. ne (same_use c a (sym is ∙ ap w.hand q ∙ linked)))
+      was_linked ne is (inl none) = elim (cases_eq (block_in found) 0) as (λ _. (block_in found ≡ 0) ⊎ (block_in found ≢ block_in old)) [
+        | inl z ↦ inl z
+        | inr nz ↦ inr (λ q. nz (q ∙ none))
+      ]
+
+      by : (c ≡ a) ⊎ (c ≢ a) → slice_get (slice_set s.memory.roots a word) c ≡ Some found → (block_in found ≡ 0) ⊎ (block_in found ≢ block_in old)
+      by (inl is) q =
+          let set = subst (λ (k : ℕ). slice_get (slice_set s.memory.roots a word) k ≡ Some found) is q in
+          let same : word ≡ found = same_some word found (sym (there s.memory.roots a word old wrote.there) ∙ set) in
+          subst (λ (k : ℕ). (block_in k ≡ 0) ⊎ (block_in k ≢ block_in old)) same new
+      by (inr ne) q = elim (h.roots c found (sym (elsewhere s.memory.roots a c word ne) ∙ q)) as (λ _. (block_in found ≡ 0) ⊎ (block_in found ≢ block_in old)) [
+        | inl none ↦ inl none
+        | inr is ↦ was_linked ne is was
+      ]
+
+  pub root_can : (a : ℕ) → a < fixed.roots → IsSome (word_at s.memory (Root a))
+  root_can a lt = root_there s.memory.roots a (subst (λ (k : ℕ). a < k) (sym h.rooted) lt)
+
+  -- the block that was at the root, if there was one, is unlinked; `n` is the world before that, in which it is linked there
+  pub unlinked : (t a old : ℕ) (m : Mem T) (n : World T) (so : View T → Type 0) → Cuts defers fixed s id t m old so → Users defers fixed s id t m n Nothing
+      → RootsNameLinked m n.hand
+      → ((b : ℕ) → w.hand b ≡ world.InUse a → n.hand b ≡ world.InUse a)
+      → (block_in old ≡ 0) ⊎ (w.hand (block_in old) ≡ world.InUse a)
+      → ((c found : ℕ) → word_at m (Root c) ≡ Some found → (block_in found ≡ 0) ⊎ (block_in found ≢ block_in old))
+      → Goes H Keeps s m id so
+  unlinked t a old m n so goes u named still was fresh = by (block_in old == 0) refl was
+    where
+      by : (y : Bool) → (block_in old == 0) ≡ y → (block_in old ≡ 0) ⊎ (w.hand (block_in old) ≡ world.InUse a) → Goes H Keeps s m id so
+      by true e was = goes.none e n u
+      by false e (inl none) = absurd (let k = eq-eqb (block_in old) 0 none in cc (k, e))
+      by false e (inr linked) =
+          let mine : n.hand (block_in old) ≡ world.InUse a = still (block_in old) linked in
+          let x : World T = with_effect (with_hand n (block_in old) (world.Cutting id)) (Unlinked (block_in old)) in
+          goes.cut e x (record {
+            came = came_then defers fixed n x (Unlinks id (block_in old)) u.came (subst (λ (k : Hand). MayCut id k) (sym mine) tt, refl);
+            memory = u.memory;
+            row = u.row;
+            uses = u.uses;
+            in_hand = (id, with_here n.hand (block_in old) (world.Cutting id));
+            hands = λ j b y ne e q. with_other n.hand (block_in old) b (world.Cutting id)
+                (λ k. (hand_users w y b (h.seats j y e).known q).1 a (ap w.hand k ∙ linked)) ∙ u.hands j b y ne e q;
+            sole = λ j b y ne e q p. (hand_users w y b (h.seats j y e).known q).1 a (ap w.hand (sym (same_some (block_in old) b p)) ∙ linked);
+            values = u.values;
+            held = λ c b held. held_on c b (Unlinked (block_in old)) n.log tt (u.held c b held);
+            over = u.over;
+            roots = λ c found e. elim (fresh c found e) as (λ _. (block_in found ≡ 0) ⊎ (x.hand (block_in found) ≡ world.InUse c)) [
+              | inl none ↦ inl none
+              | inr ne ↦ other c found (named c found e) ne
+            ];
+            rooted = u.rooted;
+            passes = passes_then defers fixed s id t n x (Unlinks id (block_in old)) tt (λ j. tt) u.passes
+                (subst (λ (k : Hand). MayCut id k) (sym mine) tt, refl);
+          })
+        where
+          other : (c found : ℕ) → (block_in found ≡ 0) ⊎ (n.hand (block_in found) ≡ world.InUse c) → block_in found ≢ (block_in old)
+              → (block_in found ≡ 0) ⊎ (with_at n.hand (block_in old) (world.Cutting id) (block_in found) ≡ world.InUse c)
+          other c found (inl none) ne = inl none
+          other c found (inr f) ne = inr (with_other n.hand (block_in old) (block_in found) (world.Cutting id) ne ∙ f)
+
+  -- a root is cleared
+  pub clears : (t a old : ℕ) (m : Mem T) → Wrote defers fixed s id a 0 old m → (so : View T → Type 0) → Cuts defers fixed s id t m old so
+      → Goes H Keeps s m id so
+  clears t a old m wrote so goes =
+      let n : World T = record w { memory = m } in
+      let was = h.roots a old wrote.there in
+      let named : RootsNameLinked m n.hand = roots_now a 0 old m n.hand wrote (inl refl) (λ c e ne f. f) in
+      unlinked t a old m n so goes (record {
+        came = wrote.came;
+        memory = refl;
+        row = refl;
+        uses = refl;
+        in_hand = tt;
+        hands = λ j c y ne e q. refl;
+        sole = λ j c y ne e q p. cc p;
+        values = λ c some some2. wrote.values c;
+        held = λ e c held. held;
+        over = λ e c held. refl;
+        roots = named;
+        rooted = rooted_still a 0 old m wrote;
+        passes = wrote.passes;
+      }) named (λ c f. f) was (fresh a 0 old m wrote was (inl refl))

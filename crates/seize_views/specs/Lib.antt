@@ -1,0 +1,4 @@
+pub mod Rows
+pub mod Told
+pub mod Promises
+pub mod Begun

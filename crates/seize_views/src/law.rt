@@ -1,0 +1,42 @@
+//! What is promised of the rule of the collector's rows.
+ghost use Rattle.seize_views.specs.Promises.{RulesStart, SeatsCome, RowsGoOn, RowsTurn, SettlingsBegin, LookedAreShown};
+ghost use Rattle.seize_views.specs.Promises.{BlocksAreMade, MadeAreTaken, MadeAreLinked, MadeAreExchanged, KnownAreShown};
+ghost use Rattle.seize_views.specs.Promises.{RootsAreSeen, RootsAreCleared, RootsAreWithdrawn};
+ghost use Rattle.seize_views.specs.Promises.{OwnAreMade, OwnAreTaken, OwnAreLinked, OwnAreExchanged, OwnAreShown, BorneAreShown, BorneAreHandedOn};
+
+use seize::rows::Defers;
+
+/// The rule may start, and seats may come. Each row of a seat may begin, go on and end at any moment, whatever the other seats do.
+pub fn rows_go_on<T: Defers>()
+    ensures starts { RulesStart T T.defers }
+    ensures come { SeatsCome T T.defers }
+    ensures on { RowsGoOn T T.defers }
+    ensures turn { RowsTurn T T.defers }
+    ensures settle { SettlingsBegin T T.defers }
+    ensures looked { LookedAreShown T T.defers }
+{}
+
+/// Within a section a block may be made, taken away by its maker, put at a root, whatever is there or only in place of what was seen, seen there, and taken
+/// from there, which may be done outside of a section, too; and a block that is known may be looked at.
+pub fn sections_go_on<T: Defers>()
+    ensures made { BlocksAreMade T T.defers }
+    ensures taken { MadeAreTaken T T.defers }
+    ensures linked { MadeAreLinked T T.defers }
+    ensures exchanged { MadeAreExchanged T T.defers }
+    ensures seen { RootsAreSeen T T.defers }
+    ensures cleared { RootsAreCleared T T.defers }
+    ensures withdrawn { RootsAreWithdrawn T T.defers }
+    ensures known { KnownAreShown T T.defers }
+{}
+
+/// Without a slot a block may be made, looked at, taken away by its maker, and put at a root, whatever is there or only in place of a word; and one that is
+/// taken from there so may be looked at, and handed on to who has a slot.
+pub fn blocks_have_seats<T: Defers>()
+    ensures made { OwnAreMade T T.defers }
+    ensures taken { OwnAreTaken T T.defers }
+    ensures linked { OwnAreLinked T T.defers }
+    ensures exchanged { OwnAreExchanged T T.defers }
+    ensures shown { OwnAreShown T T.defers }
+    ensures borne { BorneAreShown T T.defers }
+    ensures handed { BorneAreHandedOn T T.defers }
+{}
