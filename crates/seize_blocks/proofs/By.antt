@@ -8,39 +8,24 @@ use Rattle.seize_words.specs.declared.at.At.TheVariants.{Entry, Word}
 use Rattle.seize_words.specs.declared.block.Block.{Block}
 use Rattle.seize_seats.specs.State.{State, Allows, Owns}
 use Rattle.seize_seats.specs.Lendings.{ShownToBoth}
-use Rattle.seize_seats.specs.Visits.{AreSeenAt, IsOwnPlace}
+use Rattle.seize_seats.specs.Visits.{AreSeenAt}
+use Rattle.seize_seats.specs.Reached.{IsAt}
 use Rattle.seize_blocks.specs.Bare.{nowhere}
 use Rattle.seize_seats.specs.Owned.{BaseId}
 use Rattle.seize_blocks.specs.Placed.{IsItsPlace, IsItsSign, IsItsIndex, HasWord}
 use Rattle.seize_blocks.specs.declared.claim.Claim.{Claim}
-
--- a word of its own is one of a block
-value_of : {T : Type 0} (x : Option (Block T)) (i : ℕ) → IsSome (word_in x i) → (y : T) × (value_in x ≡ Some y)
-value_of None i some = absurd (cc some)
-value_of (Some x) i some = (x.value, refl)
 
 module _ {T V W F : Type 0} (holds : F → State T V W → Type 0) (keeps : V → V → W → ℕ → Type 0) where
   -- what `by` ensures
   abbrev Same : Ptr → Ptr → BaseId → BaseId → BaseId → F → F → Type 0
   Same p q y z x f h = (p ≡ q) × (y ≡ z) × (f ≡ h) × (z.views_name ≡ x.views_name) × (z.hands_name ≡ x.hands_name)
 
-  pub on_word : (base id place : ℕ) (v : V) (at : At) (op : Op T) (so : Out T → V → Type 0) (p q : Ptr) (y z x : BaseId) (f h : F) → Same p q y z x f h
-      → base ≡ x.views_name → IsItsPlace q z at place → Allows (holds h) keeps id v op so
-      → (base ≡ y.views_name) × IsItsPlace p y at place × Allows (holds f) keeps id v op so
-  on_word base id place v at op so p q y z x f h e own lies may =
-      subst (λ (u : Ptr × BaseId × F). (base ≡ u.1.views_name) × IsItsPlace u.0 u.1 at place × Allows (holds u.2) keeps id v op so)
+  pub on_word : (base id : ℕ) (address : Ptr) (place : ℕ) (v : V) (at : At) (op : Op T) (so : Out T → V → Type 0) (p q : Ptr) (y z x : BaseId) (f h : F) → Same p q y z x f h
+      → base ≡ x.views_name → IsItsPlace (holds h) id v q z at address place → Allows (holds h) keeps id v op so
+      → (base ≡ y.views_name) × IsItsPlace (holds f) id v p y at address place × Allows (holds f) keeps id v op so
+  on_word base id address place v at op so p q y z x f h e own lies may =
+      subst (λ (u : Ptr × BaseId × F). (base ≡ u.1.views_name) × IsItsPlace (holds u.2) id v u.0 u.1 at address place × Allows (holds u.2) keeps id v op so)
       (λ i. (sym e.0 i, sym e.1 i, sym e.2 i)) (own ∙ sym e.3, lies, may)
-
-  -- no block has words of its own: nobody can ask for one of them, wherever it is looked for
-  pub on_own : (base id block index i : ℕ) (v : V) (op : Op T) (so : Out T → V → Type 0) (at p q : Ptr) (y z x : BaseId) (f h : F) → Same p q y z x f h
-      → base ≡ x.views_name → IsItsIndex z block index → InBlock at → HasWord (holds h) id v (Word block i) → Allows (holds h) keeps id v op so
-      → (base ≡ y.views_name) × IsItsIndex y block index × IsOwnPlace nowhere (holds f) id v block i at 0 × Allows (holds f) keeps id v op so
-  on_own base id block index i v op so at p q y z x f h e own lies there has may =
-      subst (λ (u : BaseId × F). (base ≡ u.0.views_name) × IsItsIndex u.0 block index × IsOwnPlace nowhere (holds u.1) id v block i at 0 × Allows (holds u.1) keeps id v op so)
-      (λ j. (sym e.1 j, sym e.2 j)) (own ∙ sym e.3, lies, (there, lit< tt, (null_ptr, seen, λ no few. absurd no)), may)
-    where
-      seen : AreSeenAt nowhere (holds h) id v block null_ptr
-      seen t ok is = let s = value_of (block_of t.memory block) i (has t ok is) in (s.0, s.1, refl)
 
   pub on_take : (base id block index first : ℕ) (v : V) (at p q : Ptr) (y z x : BaseId) (f h : F) (so : Out T → V → Type 0) → Same p q y z x f h → base ≡ x.views_name
       → IsItsIndex z block index → at ≡ z.values → first ≡ index * 5 + z.skip → first + 4 < 2 ^ 60 → Allows (holds h) keeps id v (Take block) so
@@ -93,6 +78,20 @@ entry_some (Some x) i some = refl
 pub shows_block : {T V W : Type 0} (holds : State T V W → Type 0) (id : ℕ) (v : V) (b i : ℕ) → HasWord holds id v (Entry b i) → ShownToBoth holds id v id v b
 shows_block holds id v b i has = λ t h at at'. entry_some (block_of t.memory b) i (has t h at)
 
+-- a word of its own is one of a block
+value_of : {T : Type 0} (x : Option (Block T)) (i : ℕ) → IsSome (word_in x i) → (y : T) × (value_in x ≡ Some y)
+value_of None i some = absurd (cc some)
+value_of (Some x) i some = (x.value, refl)
+
 -- and so where there is a word of its own
 pub shows_own : {T V W : Type 0} (holds : State T V W → Type 0) (id : ℕ) (v : V) (b i : ℕ) → HasWord holds id v (Word b i) → ShownToBoth holds id v id v b
 shows_own {T} holds id v b i has t h at at' = let s = value_of (block_of t.memory b) i (has t h at) in subst (λ (y : Option T). IsSome y) (sym s.1) refl
+
+-- No block has words of its own: nobody can ask for one of them, wherever it is looked for.
+pub no_own : {T V W : Type 0} (holds : State T V W → Type 0) (id : ℕ) (v : V) (b i : ℕ) (p address : Ptr) (z : BaseId) (index : ℕ) → IsItsIndex z b index
+    → HasWord holds id v (Word b i)
+    → IsAt nowhere holds id v p z (Word b i) address 0
+no_own holds id v b i p address z index is has = (is.0, (null_ptr, seen, λ no few. absurd no))
+  where
+    seen : AreSeenAt nowhere holds id v b null_ptr
+    seen t ok at = let s = value_of (block_of t.memory b) i (has t ok at) in (s.0, s.1, refl)

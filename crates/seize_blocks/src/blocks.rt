@@ -6,7 +6,8 @@ ghost use Rattle.seize_seats.specs.State.{Allows, Owns, Turns, Comes, Meets, Ren
 ghost use Rattle.seize_seats.specs.Lines.{long};
 ghost use Rattle.seize_seats.specs.Owned.{core_of, IsFirst};
 ghost use Rattle.seize_seats.specs.Lendings.{Shown, ShownToBoth, IsValueOf, IsValueOfBoth};
-ghost use Rattle.seize_blocks.specs.Placed.{IsItsPlace, IsItsIndex, IsOfStrip, IsBehind, HasWord};
+ghost use Rattle.seize_words.specs.declared.at.At.TheVariants.{Word};
+ghost use Rattle.seize_blocks.specs.Placed.{IsItsPlace, IsItsIndex, IsBehind, HasWord};
 
 use crate::part::{Spot, places_in};
 use crate::place::{Doors, Place};
@@ -37,30 +38,53 @@ pub struct Blocks<T, R: Rule<T>> {
 }
 
 impl<T, R: Rule<T>> Blocks<T, R> {
-    /// Where the word of a name lies: in which strip, and at which place. Whatever the state is, if the seat has this view then there is such a word.
+    /// From where an operation on the word of a name is made: by which strip, from which address, and how many words on. Whatever the state is, if the seat
+    /// has this view then there is such a word.
     #[inline(always)]
-    fn place_of(&self, seat: &Seat<T, R>, at: At) -> (Strip<T>, u64)
-        requires strips { IsOfStrip at }
+    fn place_of(&self, seat: &Seat<T, R>, at: At) -> (Strip<T>, *mut u64, u64)
         requires own { seat.now.base ≡ self.now.words.id.views_name }
         requires there { HasWord (R.holds self.now.words.fixed) seat.now.id seat.now.view at }
-        ensures { (core_of result.0.id ≡ core_of self.now.words.id) × InBlock result.0.words × IsItsPlace result.0.words result.0.id at result.1 }
+        ensures { (core_of result.0.id ≡ core_of self.now.words.id) × InBlock result.0.words
+            × IsItsPlace (R.holds self.now.words.fixed) seat.now.id seat.now.view result.0.words result.0.id at result.1 result.2 }
     {
         match at {
-            At::Root(root) if root < self.roots => (self.words.strip(), root * 16),
-            At::Used(root) if root < self.roots => (self.words.strip(), (self.roots + root) * 16),
+            At::Root(root) if root < self.roots => self.first_place(root * 16),
+            At::Used(root) if root < self.roots => self.first_place((self.roots + root) * 16),
             At::Slot(slot, field) if slot < 32 && field < 2 => {
-                (
-                    self.words.strip(),
-                    (self.roots + self.roots + slot) * 16 + field,
-                )
+                self.first_place((self.roots + self.roots + slot) * 16 + field)
             }
             At::Entry(block, word) if word < 4 => {
                 let spot = self.spot_of(seat, seat, block);
+                let address = spot.strip.words;
                 let first = spot.first;
-                (spot.strip, first + word)
+                (spot.strip, address, first + word)
             }
-            _ => (self.words.strip(), 0),
+            At::Word(block, own) => self.own_place(seat, block, own),
+            _ => self.first_place(0),
         }
+    }
+
+    /// The place of a word of the first strip.
+    #[inline(always)]
+    fn first_place(&self, place: u64) -> (Strip<T>, *mut u64, u64)
+        ensures { (result.0.id ≡ self.now.words.id) × (result.0.words ≡ self.now.words.words) × InBlock result.0.words × (result.1 ≡ result.0.words)
+            × (result.2 ≡ place) }
+    {
+        let strip = self.words.strip();
+        let address = strip.words;
+        (strip, address, place)
+    }
+
+    /// The place of a word of a block's own. No block has any yet, so nobody may ask for one.
+    fn own_place(&self, seat: &Seat<T, R>, block: u64, own: u64) -> (Strip<T>, *mut u64, u64)
+        requires own { seat.now.base ≡ self.now.words.id.views_name }
+        requires there { HasWord (R.holds self.now.words.fixed) seat.now.id seat.now.view (Word block own) }
+        ensures { (core_of result.0.id ≡ core_of self.now.words.id) × InBlock result.0.words
+            × IsItsPlace (R.holds self.now.words.fixed) seat.now.id seat.now.view result.0.words result.0.id (Word block own) result.1 result.2 }
+    {
+        let spot = self.spot_of(seat, seat, block);
+        let address = spot.strip.words;
+        (spot.strip, address, 0)
     }
 
     /// Where the words of a number of the first strip lie: the first of them.
@@ -89,7 +113,7 @@ impl<T, R: Rule<T>> Blocks<T, R> {
 
     /// Where a block is: in which strip, its index there, and where the first of its words lies. The views of two seats show the block.
     #[inline(always)]
-    pub(crate) fn spot_of(&self, guard: &Seat<T, R>, owner: &Seat<T, R>, block: u64) -> Spot<T>
+    fn spot_of(&self, guard: &Seat<T, R>, owner: &Seat<T, R>, block: u64) -> Spot<T>
         requires own { (guard.now.base ≡ self.now.words.id.views_name) × (owner.now.base ≡ self.now.words.id.views_name) }
         requires shown { ShownToBoth (R.holds self.now.words.fixed) guard.now.id guard.now.view owner.now.id owner.now.view block }
         ensures strip { (core_of result.strip.id ≡ core_of self.now.words.id) × InBlock result.strip.words × (result.values ≡ result.strip.id.values) }
@@ -199,13 +223,8 @@ impl<T, R: Rule<T>> Blocks<T, R> {
         ensures same { (seat.new.base ≡ seat.old.base) × (seat.new.id ≡ seat.old.id) }
         ensures goes { R.then seat.old.view (Load at) (Found result) seat.new.view }
     {
-        match at {
-            At::Word(block, own) => self.own_load(seat, block, own),
-            _ => {
-                let (strip, place) = self.place_of(seat, at);
-                self.words.by(&strip).load(seat, &at, place)
-            }
-        }
+        let (strip, address, place) = self.place_of(seat, at);
+        self.words.by(&strip).load(seat, &at, address, place)
     }
 
     /// Writes the word of a name.
@@ -216,13 +235,8 @@ impl<T, R: Rule<T>> Blocks<T, R> {
         ensures same { (seat.new.base ≡ seat.old.base) × (seat.new.id ≡ seat.old.id) }
         ensures goes { R.then seat.old.view (Store at word) Stored seat.new.view }
     {
-        match at {
-            At::Word(block, own) => self.own_store(seat, block, own, word),
-            _ => {
-                let (strip, place) = self.place_of(seat, at);
-                self.words.by(&strip).store(seat, &at, place, word)
-            }
-        }
+        let (strip, address, place) = self.place_of(seat, at);
+        self.words.by(&strip).store(seat, &at, address, place, word)
     }
 
     /// Writes the word of a name, and answers the one before.
@@ -233,13 +247,8 @@ impl<T, R: Rule<T>> Blocks<T, R> {
         ensures same { (seat.new.base ≡ seat.old.base) × (seat.new.id ≡ seat.old.id) }
         ensures goes { R.then seat.old.view (Swap at word) (Found result) seat.new.view }
     {
-        match at {
-            At::Word(block, own) => self.own_swap(seat, block, own, word),
-            _ => {
-                let (strip, place) = self.place_of(seat, at);
-                self.words.by(&strip).swap(seat, &at, place, word)
-            }
-        }
+        let (strip, address, place) = self.place_of(seat, at);
+        self.words.by(&strip).swap(seat, &at, address, place, word)
     }
 
     /// Adds to the word of a name, round at 2^64, and answers the one before.
@@ -250,13 +259,8 @@ impl<T, R: Rule<T>> Blocks<T, R> {
         ensures same { (seat.new.base ≡ seat.old.base) × (seat.new.id ≡ seat.old.id) }
         ensures goes { R.then seat.old.view (Add at by) (Found result) seat.new.view }
     {
-        match at {
-            At::Word(block, own) => self.own_add(seat, block, own, by),
-            _ => {
-                let (strip, place) = self.place_of(seat, at);
-                self.words.by(&strip).add(seat, &at, place, by)
-            }
-        }
+        let (strip, address, place) = self.place_of(seat, at);
+        self.words.by(&strip).add(seat, &at, address, place, by)
     }
 
     /// Sets bits of the word of a name, and answers the one before.
@@ -267,13 +271,8 @@ impl<T, R: Rule<T>> Blocks<T, R> {
         ensures same { (seat.new.base ≡ seat.old.base) × (seat.new.id ≡ seat.old.id) }
         ensures goes { R.then seat.old.view (Or at bits) (Found result) seat.new.view }
     {
-        match at {
-            At::Word(block, own) => self.own_or(seat, block, own, bits),
-            _ => {
-                let (strip, place) = self.place_of(seat, at);
-                self.words.by(&strip).or(seat, &at, place, bits)
-            }
-        }
+        let (strip, address, place) = self.place_of(seat, at);
+        self.words.by(&strip).or(seat, &at, address, place, bits)
     }
 
     /// Writes a new word where the old one, the whole word, is found, and answers the word found: `Ok` where it was written.
@@ -284,13 +283,10 @@ impl<T, R: Rule<T>> Blocks<T, R> {
         ensures same { (seat.new.base ≡ seat.old.base) × (seat.new.id ≡ seat.old.id) }
         ensures goes { R.then seat.old.view (Exchange at old new) (Exchanged result) seat.new.view }
     {
-        match at {
-            At::Word(block, own) => self.own_exchange(seat, block, own, old, new),
-            _ => {
-                let (strip, place) = self.place_of(seat, at);
-                self.words.by(&strip).exchange(seat, &at, place, old, new)
-            }
-        }
+        let (strip, address, place) = self.place_of(seat, at);
+        self.words
+            .by(&strip)
+            .exchange(seat, &at, address, place, old, new)
     }
 
     /// Where somebody who has this slot begins to look for numbers, so that those of different slots are apart.

@@ -5,7 +5,6 @@ mod blocks;
 mod claim;
 mod home;
 mod numbers;
-mod own;
 mod part;
 mod place;
 mod plot;

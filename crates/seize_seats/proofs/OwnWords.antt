@@ -1,5 +1,5 @@
--- One step on a word of a block's own, by a seat that knows where they lie. Assumes `Logic`.
-use Rattle.std.proofs.Common.{◌≡◌, ℕ, ◌+◌, ◌*◌, [], ◌∷◌, sym, ◌∙◌, Some, ap, ◌^◌, ◌<◌}
+-- One step on a word of a block's own, by a seat that knows where they lie; and on any word. Assumes `Logic`.
+use Rattle.std.proofs.Common.{◌≡◌, ℕ, ◌+◌, ◌*◌, [], ◌∷◌, sym, ◌∙◌, Some, ap, subst, ◌^◌, ◌<◌}
 use seplogic.Ra.Ura.{Ura}
 use base.Stored.{Coded}
 use base.Logic.{SProp, ent, sep, ex, all, apply∗, all_e, upd_i}
@@ -12,18 +12,21 @@ use Rattle.core.specs.Sync.RawAtomic.{word, asks, always}
 use Rattle.core.proofs.raw_atomic.Asked.{Lies, Again}
 use Rattle.seize_words.specs.Mem.{word_at, with_word}
 use Rattle.seize_words.specs.Op.{Op, Out}
-use Rattle.seize_words.specs.declared.at.At.TheVariants.{Word}
+use Rattle.seize_words.specs.declared.at.At.{At}
+use Rattle.seize_words.specs.declared.at.At.TheVariants.{Root, Used, Slot, Entry, Word}
 use Rattle.seize_seats.specs.State.{State, Goes, Allows}
-use Rattle.seize_seats.specs.Lines.{Parts, memory_of, AreLaid}
+use Rattle.seize_seats.specs.Lines.{Parts, IsWord, memory_of, AreLaid}
 use Rattle.seize_seats.specs.Steps.{IsWordStep}
 use Rattle.seize_seats.specs.Visits.{AreSeenAt}
-use Rattle.seize_seats.specs.Owned.{Pieces, BaseId, age, Inside, state_of, inner}
+use Rattle.seize_seats.specs.Owned.{Pieces, BaseId, age, Inside, state_of, inner, IsIn, place_in}
+use Rattle.seize_seats.specs.Reached.{IsAt}
 use Rattle.seize_seats.proofs.Cells.{own_lies}
 use Rattle.seize_seats.proofs.Numbers as Numbers
 use Rattle.seize_seats.proofs.Pieces as Pieces
 use Rattle.seize_seats.proofs.Moves as Moves
 use Rattle.seize_seats.proofs.Makings as Makings
 use Rattle.seize_seats.proofs.Known as Known
+use Rattle.seize_seats.proofs.Steps.{lying}
 
 module _ {M : Type 1} {𝓤 : Ura M} (𝓛 : Logic 𝓤) (R : RattleType) (own : Pieces R.Denot) {V W : Type 0} (cv : Coded V) (holds : State R.Denot V W → Type 0) (keeps : V → V → W → ℕ
     → Type 0) (p : Ptr) (z : BaseId) where
@@ -97,3 +100,22 @@ module _ {M : Type 1} {𝓤 : Ura M} (𝓛 : Logic 𝓤) (R : RattleType) (own :
           (ex 𝓤 (Numbers.Rewritten 𝓛 R p z (Moves.lent 𝓛 R own cv holds keeps p z) (Moves.had 𝓛 R own cv holds keeps p z) t.parts (Word n i) (f w)))) $
           pick ! (λ m. learn ! (λ so_is.
           by ! (Moves.back 𝓛 R own cv holds keeps p z id v t m (so (out w)) so_is.0 g.2 (goes t g w found.1 m so_is.1))))))))
+
+  -- one step on the word of a name, whichever it is
+  module _ (id : ℕ) (v : V) (op : Op R.Denot) (f : ℕ → ℕ) (out : ℕ → Out R.Denot) (so : Out R.Denot → V → Type 0) (law : Allows holds keeps id v op so) where
+    abbrev Reached : Ptr → ℕ → Share → Type 1
+    Reached q place s =
+        ⟦ Moves.Inv 𝓛 R own cv holds keeps p z ⟧ ∗ (A.lft α s ∗ ⟦ seat id v ⟧)
+        ⊢ asks 𝓛 (block_ptr (block_of q) (place * 8 + count_of q)) f always (λ m. fsep (flft α s) (Moves.gone_on 𝓛 R own cv holds keeps p z id (so (out m))))
+
+    of_strip : (at : At) (q : Ptr) (place : ℕ) → IsWordStep R.Denot at op f out → q ≡ p → (IsWord z.roots z.count at → IsIn p z at × (place ≡ place_in z at))
+        → (s : Share) → Reached q place s
+    of_strip at q place is same lies s =
+        subst (λ (r : Ptr). Reached r place s) (sym same) (Moves.steps 𝓛 R own cv holds keeps p z id v at place op f out so (lying p z at place op f out is lies) law s)
+
+    pub reached : (at : At) (q : Ptr) (place : ℕ) → IsWordStep R.Denot at op f out → IsAt own.at holds id v p z at q place → (s : Share) → Reached q place s
+    reached (Root r) q place is at s = of_strip (Root r) q place is at.0 at.1 s
+    reached (Used r) q place is at s = of_strip (Used r) q place is at.0 at.1 s
+    reached (Slot n i) q place is at s = of_strip (Slot n i) q place is at.0 at.1 s
+    reached (Entry b i) q place is at s = of_strip (Entry b i) q place is at.0 at.1 s
+    reached (Word b i) q place is at s = steps id v b i place at.1.0 q op f out so is law at.1.1 at.1.2 at.0 s

@@ -81,23 +81,23 @@ module _ {T : Type 0} where
 
 -- on the word of a name, wherever it lies
 module _ (T : Type 0) (at : At) where
-  pub loads_word : IsWordStep T at (Load at) (λ n. n) Found
-  loads_word = record { needs = λ m is. some_word (word_at m at) is; makes = λ m w e. (e, sym (word_same m at w e)) }
+  pub loads : IsWordStep T at (Load at) (λ n. n) Found
+  loads = record { needs = λ m is. some_word (word_at m at) is; makes = λ m w e. (e, sym (word_same m at w e)) }
 
-  pub stores_word : (new : ℕ) → IsWordStep T at (Store at new) (λ _. new) (λ _. Stored)
-  stores_word new = record { needs = λ m is. some_word (word_at m at) is; makes = λ m w e. (tt, refl) }
+  pub stores : (new : ℕ) → IsWordStep T at (Store at new) (λ _. new) (λ _. Stored)
+  stores new = record { needs = λ m is. some_word (word_at m at) is; makes = λ m w e. (tt, refl) }
 
-  pub swaps_word : (new : ℕ) → IsWordStep T at (Swap at new) (λ _. new) Found
-  swaps_word new = record { needs = λ m is. some_word (word_at m at) is; makes = λ m w e. (e, refl) }
+  pub swaps : (new : ℕ) → IsWordStep T at (Swap at new) (λ _. new) Found
+  swaps new = record { needs = λ m is. some_word (word_at m at) is; makes = λ m w e. (e, refl) }
 
-  pub adds_word : (by : ℕ) → IsWordStep T at (Add at by) (λ n. (n + by) % 2 ^ 64) Found
-  adds_word by = record { needs = λ m is. some_word (word_at m at) is; makes = λ m w e. (e, refl) }
+  pub adds : (by : ℕ) → IsWordStep T at (Add at by) (λ n. (n + by) % 2 ^ 64) Found
+  adds by = record { needs = λ m is. some_word (word_at m at) is; makes = λ m w e. (e, refl) }
 
-  pub sets_word : (bits : ℕ) → IsWordStep T at (Or at bits) (λ n. bit_or n bits) Found
-  sets_word bits = record { needs = λ m is. some_word (word_at m at) is; makes = λ m w e. (e, refl) }
+  pub sets : (bits : ℕ) → IsWordStep T at (Or at bits) (λ n. bit_or n bits) Found
+  sets bits = record { needs = λ m is. some_word (word_at m at) is; makes = λ m w e. (e, refl) }
 
-  pub exchanges_word : (old new : ℕ) → IsWordStep T at (Exchange at old new) (λ n. either (n == old) new n) (λ n. Exchanged (exchanged old n))
-  exchanges_word old new = record { needs = λ m is. some_word (word_at m at) is; makes = λ m w e. by m w e (cases_eq w old) }
+  pub exchanges : (old new : ℕ) → IsWordStep T at (Exchange at old new) (λ n. either (n == old) new n) (λ n. Exchanged (exchanged old n))
+  exchanges old new = record { needs = λ m is. some_word (word_at m at) is; makes = λ m w e. by m w e (cases_eq w old) }
     where
       by : (m : Mem T) (w : ℕ) → word_at m at ≡ Some w → (w ≡ old) ⊎ (w ≢ old) → Gives m (Exchange at old new) (Exchanged (exchanged old w))
           × (after m (Exchange at old new) (Exchanged (exchanged old w)) ≡ with_word m at (either (w == old) new w))
@@ -110,24 +110,6 @@ module _ (T : Type 0) (at : At) where
           ((e, ne), sym (word_same m at w e))
 
 -- on one of a strip's words
-module _ (T : Type 0) (p : Ptr) (z : BaseId) (at : At) (i : ℕ) (lies : IsWord z.roots z.count at → IsIn p z at × (i ≡ place_in z at)) where
-  abbrev lying : (op : Op T) (f : ℕ → ℕ) (out : ℕ → Out T) → IsWordStep T at op f out → IsStepOf T p z at i op f out
-  lying op f out w = record { needs = w.needs; makes = w.makes; lies = lies }
-
-  pub loads : IsStepOf T p z at i (Load at) (λ n. n) Found
-  loads = lying (Load at) (λ n. n) Found (loads_word T at)
-
-  pub stores : (new : ℕ) → IsStepOf T p z at i (Store at new) (λ _. new) (λ _. Stored)
-  stores new = lying (Store at new) (λ _. new) (λ _. Stored) (stores_word T at new)
-
-  pub swaps : (new : ℕ) → IsStepOf T p z at i (Swap at new) (λ _. new) Found
-  swaps new = lying (Swap at new) (λ _. new) Found (swaps_word T at new)
-
-  pub adds : (by : ℕ) → IsStepOf T p z at i (Add at by) (λ n. (n + by) % 2 ^ 64) Found
-  adds by = lying (Add at by) (λ n. (n + by) % 2 ^ 64) Found (adds_word T at by)
-
-  pub sets : (bits : ℕ) → IsStepOf T p z at i (Or at bits) (λ n. bit_or n bits) Found
-  sets bits = lying (Or at bits) (λ n. bit_or n bits) Found (sets_word T at bits)
-
-  pub exchanges : (old new : ℕ) → IsStepOf T p z at i (Exchange at old new) (λ n. either (n == old) new n) (λ n. Exchanged (exchanged old n))
-  exchanges old new = lying (Exchange at old new) (λ n. either (n == old) new n) (λ n. Exchanged (exchanged old n)) (exchanges_word T at old new)
+pub lying : {T : Type 0} (p : Ptr) (z : BaseId) (at : At) (i : ℕ) (op : Op T) (f : ℕ → ℕ) (out : ℕ → Out T) → IsWordStep T at op f out
+    → (IsWord z.roots z.count at → IsIn p z at × (i ≡ place_in z at)) → IsStepOf T p z at i op f out
+lying p z at i op f out is lies = record { needs = is.needs; makes = is.makes; lies = lies }

@@ -10,4 +10,5 @@ pub mod Stretches
 pub mod Lendings
 pub mod Visits
 pub mod Owned
+pub mod Reached
 pub mod Laws

@@ -1,7 +1,7 @@
 -- Words of a block's own lie beside it, and where they lie is kept with its value. A seat that wants to reach one *visits* the block: it has seen where they lie, and
 -- as long as it knows what it knows they lie there. Rules speak of values alone, and know of no visits.
-use Rattle.std.specs.Prelude.{◌≡◌, ℕ, Option, Some, None, Result, Ok, Err, map, ◌*◌, ◌^◌, ◌<◌}
-use denote.RawPtr.{Ptr, InBlock}
+use Rattle.std.specs.Prelude.{◌≡◌, ℕ, Option, Some, None, Result, Ok, Err, map}
+use denote.RawPtr.{Ptr}
 use Rattle.seize_words.specs.Mem.{Mem, value_at}
 use Rattle.seize_words.specs.Op.{Op, Out, Load, Store, Swap, Add, Or, Exchange, Make, Take, Rewrite, Room, Found, Stored, Exchanged, Made, Taken, Roomed}
 use Rattle.seize_words.specs.declared.block.Block.{Block}
@@ -72,8 +72,3 @@ module _ {D T : Type 0} (value : D → T) where
 -- the own words of the block lie there, as long as the seat has this view
 abbrev pub AreSeenAt : {D V W : Type 0} → (D → Ptr) → (State D V W → Type 0) → ℕ → V → ℕ → Ptr → Type 0
 AreSeenAt {D} {V} {W} own holds id v b r = (t : State D V W) → holds t → view_of t id ≡ Some v → (x : D) × (value_at t.memory b ≡ Some x) × (own x ≡ r)
-
--- The word is the one so many words on from this address, if it is one of the block's own.
-abbrev pub IsOwnPlace : {D V W : Type 0} → (D → Ptr) → (State D V W → Type 0) → ℕ → V → ℕ → ℕ → Ptr → ℕ → Type 0
-IsOwnPlace own holds id v b i at place =
-    InBlock at × (place < 2 ^ 60) × ((r : Ptr) × AreSeenAt own holds id v b r × (InBlock r → i * 8 < 2 ^ 63 → (r ≡ at) × (place ≡ i)))
