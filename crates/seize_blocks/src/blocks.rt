@@ -9,7 +9,7 @@ ghost use Rattle.seize_seats.specs.Lendings.{Shown, ShownToBoth, IsValueOf, IsVa
 ghost use Rattle.seize_words.specs.declared.at.At.TheVariants.{Word};
 ghost use Rattle.seize_blocks.specs.Placed.{IsItsPlace, IsItsIndex, IsBehind, HasWord};
 
-use crate::part::{Spot, places_in};
+use crate::part::{Reached, Spot, places_in, words_in};
 use crate::place::{Doors, Place};
 use crate::plot::skip_of;
 use crate::rule::{Meeting, Rule, Turn};
@@ -41,11 +41,11 @@ impl<T, R: Rule<T>> Blocks<T, R> {
     /// From where an operation on the word of a name is made: by which strip, from which address, and how many words on. Whatever the state is, if the seat
     /// has this view then there is such a word.
     #[inline(always)]
-    fn place_of(&self, seat: &Seat<T, R>, at: At) -> (Strip<T>, *mut u64, u64)
+    fn place_of(&self, seat: &Seat<T, R>, at: At) -> Reached<T>
         requires own { seat.now.base ≡ self.now.words.id.views_name }
         requires there { HasWord (R.holds self.now.words.fixed) seat.now.id seat.now.view at }
-        ensures { (core_of result.0.id ≡ core_of self.now.words.id) × InBlock result.0.words
-            × IsItsPlace (R.holds self.now.words.fixed) seat.now.id seat.now.view result.0.words result.0.id at result.1 result.2 }
+        ensures { (core_of result.strip.id ≡ core_of self.now.words.id) × InBlock result.strip.words
+            × IsItsPlace (R.holds self.now.words.fixed) seat.now.id seat.now.view result.strip.words result.strip.id at result.address result.place }
     {
         match at {
             At::Root(root) if root < self.roots => self.first_place(root * 16),
@@ -55,9 +55,12 @@ impl<T, R: Rule<T>> Blocks<T, R> {
             }
             At::Entry(block, word) if word < 4 => {
                 let spot = self.spot_of(seat, seat, block);
-                let address = spot.strip.words;
-                let first = spot.first;
-                (spot.strip, address, first + word)
+                let words = words_in(&spot.strip);
+                Reached {
+                    address: words.at,
+                    place: spot.first + word,
+                    strip: spot.strip,
+                }
             }
             At::Word(block, own) => self.own_place(seat, block, own),
             _ => self.first_place(0),
@@ -66,25 +69,33 @@ impl<T, R: Rule<T>> Blocks<T, R> {
 
     /// The place of a word of the first strip.
     #[inline(always)]
-    fn first_place(&self, place: u64) -> (Strip<T>, *mut u64, u64)
-        ensures { (result.0.id ≡ self.now.words.id) × (result.0.words ≡ self.now.words.words) × InBlock result.0.words × (result.1 ≡ result.0.words)
-            × (result.2 ≡ place) }
+    fn first_place(&self, place: u64) -> Reached<T>
+        ensures { (result.strip.id ≡ self.now.words.id) × (result.strip.words ≡ self.now.words.words) × InBlock result.strip.words
+            × (result.address ≡ result.strip.words) × (result.place ≡ place) }
     {
         let strip = self.words.strip();
-        let address = strip.words;
-        (strip, address, place)
+        let words = words_in(&strip);
+        Reached {
+            strip,
+            address: words.at,
+            place,
+        }
     }
 
     /// The place of a word of a block's own. No block has any yet, so nobody may ask for one.
-    fn own_place(&self, seat: &Seat<T, R>, block: u64, own: u64) -> (Strip<T>, *mut u64, u64)
+    fn own_place(&self, seat: &Seat<T, R>, block: u64, own: u64) -> Reached<T>
         requires own { seat.now.base ≡ self.now.words.id.views_name }
         requires there { HasWord (R.holds self.now.words.fixed) seat.now.id seat.now.view (Word block own) }
-        ensures { (core_of result.0.id ≡ core_of self.now.words.id) × InBlock result.0.words
-            × IsItsPlace (R.holds self.now.words.fixed) seat.now.id seat.now.view result.0.words result.0.id (Word block own) result.1 result.2 }
+        ensures { (core_of result.strip.id ≡ core_of self.now.words.id) × InBlock result.strip.words
+            × IsItsPlace (R.holds self.now.words.fixed) seat.now.id seat.now.view result.strip.words result.strip.id (Word block own) result.address result.place }
     {
         let spot = self.spot_of(seat, seat, block);
-        let address = spot.strip.words;
-        (spot.strip, address, 0)
+        let words = words_in(&spot.strip);
+        Reached {
+            strip: spot.strip,
+            address: words.at,
+            place: 0,
+        }
     }
 
     /// Where the words of a number of the first strip lie: the first of them.
@@ -223,8 +234,10 @@ impl<T, R: Rule<T>> Blocks<T, R> {
         ensures same { (seat.new.base ≡ seat.old.base) × (seat.new.id ≡ seat.old.id) }
         ensures goes { R.then seat.old.view (Load at) (Found result) seat.new.view }
     {
-        let (strip, address, place) = self.place_of(seat, at);
-        self.words.by(&strip).load(seat, &at, address, place)
+        let reached = self.place_of(seat, at);
+        self.words
+            .by(&reached.strip)
+            .load(seat, &at, reached.address, reached.place)
     }
 
     /// Writes the word of a name.
@@ -235,8 +248,10 @@ impl<T, R: Rule<T>> Blocks<T, R> {
         ensures same { (seat.new.base ≡ seat.old.base) × (seat.new.id ≡ seat.old.id) }
         ensures goes { R.then seat.old.view (Store at word) Stored seat.new.view }
     {
-        let (strip, address, place) = self.place_of(seat, at);
-        self.words.by(&strip).store(seat, &at, address, place, word)
+        let reached = self.place_of(seat, at);
+        self.words
+            .by(&reached.strip)
+            .store(seat, &at, reached.address, reached.place, word)
     }
 
     /// Writes the word of a name, and answers the one before.
@@ -247,8 +262,10 @@ impl<T, R: Rule<T>> Blocks<T, R> {
         ensures same { (seat.new.base ≡ seat.old.base) × (seat.new.id ≡ seat.old.id) }
         ensures goes { R.then seat.old.view (Swap at word) (Found result) seat.new.view }
     {
-        let (strip, address, place) = self.place_of(seat, at);
-        self.words.by(&strip).swap(seat, &at, address, place, word)
+        let reached = self.place_of(seat, at);
+        self.words
+            .by(&reached.strip)
+            .swap(seat, &at, reached.address, reached.place, word)
     }
 
     /// Adds to the word of a name, round at 2^64, and answers the one before.
@@ -259,8 +276,10 @@ impl<T, R: Rule<T>> Blocks<T, R> {
         ensures same { (seat.new.base ≡ seat.old.base) × (seat.new.id ≡ seat.old.id) }
         ensures goes { R.then seat.old.view (Add at by) (Found result) seat.new.view }
     {
-        let (strip, address, place) = self.place_of(seat, at);
-        self.words.by(&strip).add(seat, &at, address, place, by)
+        let reached = self.place_of(seat, at);
+        self.words
+            .by(&reached.strip)
+            .add(seat, &at, reached.address, reached.place, by)
     }
 
     /// Sets bits of the word of a name, and answers the one before.
@@ -271,8 +290,10 @@ impl<T, R: Rule<T>> Blocks<T, R> {
         ensures same { (seat.new.base ≡ seat.old.base) × (seat.new.id ≡ seat.old.id) }
         ensures goes { R.then seat.old.view (Or at bits) (Found result) seat.new.view }
     {
-        let (strip, address, place) = self.place_of(seat, at);
-        self.words.by(&strip).or(seat, &at, address, place, bits)
+        let reached = self.place_of(seat, at);
+        self.words
+            .by(&reached.strip)
+            .or(seat, &at, reached.address, reached.place, bits)
     }
 
     /// Writes a new word where the old one, the whole word, is found, and answers the word found: `Ok` where it was written.
@@ -283,10 +304,10 @@ impl<T, R: Rule<T>> Blocks<T, R> {
         ensures same { (seat.new.base ≡ seat.old.base) × (seat.new.id ≡ seat.old.id) }
         ensures goes { R.then seat.old.view (Exchange at old new) (Exchanged result) seat.new.view }
     {
-        let (strip, address, place) = self.place_of(seat, at);
+        let reached = self.place_of(seat, at);
         self.words
-            .by(&strip)
-            .exchange(seat, &at, address, place, old, new)
+            .by(&reached.strip)
+            .exchange(seat, &at, reached.address, reached.place, old, new)
     }
 
     /// Where somebody who has this slot begins to look for numbers, so that those of different slots are apart.

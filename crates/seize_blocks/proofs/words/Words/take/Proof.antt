@@ -2,7 +2,7 @@
 use Rattle.std.proofs.Common.{◌≡◌, ℕ, List, [], ◌∷◌, ◌+◌, ◌-◌, ◌*◌, ◌^◌, ◌<◌, sym, refl, ap, ◌∙◌, subst, lit<, w64, arith, None, Some}
 use mir.Syntax.{Ty, dcons, dnil, a_type, named, ty_int}
 use mir.MapTy.{inst_fn}
-use mir.Raw.{raw as bare}
+use mir.Raw.{raw as unnamed}
 use mir.Val.{Val, vint, vptr, of_list}
 use prog.Wp.{WpFn}
 use base.Fraction.{full_share}
@@ -156,13 +156,13 @@ take_spec 𝓤 𝓛 𝓜 𝓡 wired X P U F LX LP LU LF g d _ =
     (uncapped j sz small))) refl (tt, record { fits = small }) $
     sets ! (bin ! (get ! refl) (get ! refl) tt) refl (tt, tt) $
     sets ! (of_opd ! (load ! (through ! refl (stop !)) (look_raw ! 0 refl))) refl good $
-    use1 𝓛 (‵ (froom (bare (lone O.mir)) bv e)) (𝓛.laws.at_room (bare (lone O.mir)) bv e w) $
+    use1 𝓛 (‵ (froom (unnamed (lone O.mir)) bv e)) (𝓛.laws.at_room (unnamed (lone O.mir)) bv e w) $
     use1 𝓛 (‵ (froom (lone O.mir) bv e)) (𝓛.laws.raw-room (lone O.mir) bv e) $
     use0 𝓛 (‵ (O.own_val None (nv ∷ []))) (none_of 𝓛 R₀) $
     peeks ! O (Is O) (shows 𝓛 O) None (nv ∷ []) (λ none_so. let fine = (LR.typed None (nv ∷ []) none_so).0 in move ! (1 ∷ []) $
     sets ! (agg ! (and_then ! (lit ! tt) (no_more !))) refl fine $
     assigns ! (of_opd ! (get ! refl)) (through ! refl (stop !)) (init ! 0 refl fine) $
-    use1 𝓛 (‵ (fat full_share (bare (lone O.mir)) bv e nv)) (𝓛.laws.at_raw full_share (lone O.mir) bv e nv) $ gather m ! None nv bv e $
+    use1 𝓛 (‵ (fat full_share (unnamed (lone O.mir)) bv e nv)) (𝓛.laws.at_raw full_share (lone O.mir) bv e nv) $ gather m ! None nv bv e $
     rewrite ! 0 (λ (r : Ptr × ℕ). ‵ (place R₀ α z.hands_name (block_of r.0) (r.1 * sz + count_of r.0) None)) (λ i. (asked.2 i, j_is i)) refl $
     -- [the place; the value; the entry; the seat; the hand; its token; the fields; four; the invariant; open; the others]
     move ! (2 ∷ []) $ rewrite ! 0 (λ (ws : List ℕ). ‵ (row pb f ws)) four.4 refl $
