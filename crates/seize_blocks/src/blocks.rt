@@ -56,8 +56,9 @@ impl<T, R: Rule<T>> Blocks<T, R> {
             At::Entry(block, word) if word < 4 => {
                 let spot = self.spot_of(seat, seat, block);
                 let words = words_in(&spot.strip);
+                let address = words.at;
                 Reached {
-                    address: words.at,
+                    address,
                     place: spot.first + word,
                     strip: spot.strip,
                 }
@@ -75,9 +76,10 @@ impl<T, R: Rule<T>> Blocks<T, R> {
     {
         let strip = self.words.strip();
         let words = words_in(&strip);
+        let address = words.at;
         Reached {
             strip,
-            address: words.at,
+            address,
             place,
         }
     }
@@ -91,9 +93,10 @@ impl<T, R: Rule<T>> Blocks<T, R> {
     {
         let spot = self.spot_of(seat, seat, block);
         let words = words_in(&spot.strip);
+        let address = words.at;
         Reached {
             strip: spot.strip,
-            address: words.at,
+            address,
             place: 0,
         }
     }
@@ -235,9 +238,10 @@ impl<T, R: Rule<T>> Blocks<T, R> {
         ensures goes { R.then seat.old.view (Load at) (Found result) seat.new.view }
     {
         let reached = self.place_of(seat, at);
+        let address = reached.address;
         self.words
             .by(&reached.strip)
-            .load(seat, &at, reached.address, reached.place)
+            .load(seat, &at, address, reached.place)
     }
 
     /// Writes the word of a name.
@@ -249,9 +253,10 @@ impl<T, R: Rule<T>> Blocks<T, R> {
         ensures goes { R.then seat.old.view (Store at word) Stored seat.new.view }
     {
         let reached = self.place_of(seat, at);
+        let address = reached.address;
         self.words
             .by(&reached.strip)
-            .store(seat, &at, reached.address, reached.place, word)
+            .store(seat, &at, address, reached.place, word)
     }
 
     /// Writes the word of a name, and answers the one before.
@@ -263,9 +268,10 @@ impl<T, R: Rule<T>> Blocks<T, R> {
         ensures goes { R.then seat.old.view (Swap at word) (Found result) seat.new.view }
     {
         let reached = self.place_of(seat, at);
+        let address = reached.address;
         self.words
             .by(&reached.strip)
-            .swap(seat, &at, reached.address, reached.place, word)
+            .swap(seat, &at, address, reached.place, word)
     }
 
     /// Adds to the word of a name, round at 2^64, and answers the one before.
@@ -277,9 +283,10 @@ impl<T, R: Rule<T>> Blocks<T, R> {
         ensures goes { R.then seat.old.view (Add at by) (Found result) seat.new.view }
     {
         let reached = self.place_of(seat, at);
+        let address = reached.address;
         self.words
             .by(&reached.strip)
-            .add(seat, &at, reached.address, reached.place, by)
+            .add(seat, &at, address, reached.place, by)
     }
 
     /// Sets bits of the word of a name, and answers the one before.
@@ -291,9 +298,10 @@ impl<T, R: Rule<T>> Blocks<T, R> {
         ensures goes { R.then seat.old.view (Or at bits) (Found result) seat.new.view }
     {
         let reached = self.place_of(seat, at);
+        let address = reached.address;
         self.words
             .by(&reached.strip)
-            .or(seat, &at, reached.address, reached.place, bits)
+            .or(seat, &at, address, reached.place, bits)
     }
 
     /// Writes a new word where the old one, the whole word, is found, and answers the word found: `Ok` where it was written.
@@ -305,9 +313,10 @@ impl<T, R: Rule<T>> Blocks<T, R> {
         ensures goes { R.then seat.old.view (Exchange at old new) (Exchanged result) seat.new.view }
     {
         let reached = self.place_of(seat, at);
+        let address = reached.address;
         self.words
             .by(&reached.strip)
-            .exchange(seat, &at, reached.address, reached.place, old, new)
+            .exchange(seat, &at, address, reached.place, old, new)
     }
 
     /// Where somebody who has this slot begins to look for numbers, so that those of different slots are apart.
