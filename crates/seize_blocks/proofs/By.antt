@@ -1,6 +1,6 @@
 -- What is asked of the words of a strip is what is known of the strip.
-use Rattle.std.proofs.Common.{lit<, ◌≡◌, ℕ, Option, None, Some, IsSome, refl, sym, ap, ◌∙◌, subst, arith, ◌*◌, ◌+◌, ◌<◌, ◌≤◌, ◌^◌}
-use denote.RawPtr.{Ptr, InBlock, null_ptr}
+use Rattle.std.proofs.Common.{◌≡◌, ℕ, Option, None, Some, IsSome, refl, sym, ap, ◌∙◌, subst, arith, ◌*◌, ◌+◌, ◌<◌, ◌≤◌, ◌^◌}
+use denote.RawPtr.{Ptr, null_ptr}
 use Rattle.seize_words.specs.Op.{Op, Out, Make, Take, Rewrite}
 use Rattle.seize_words.specs.declared.at.At.{At}
 use Rattle.seize_words.specs.Mem.{block_of, entry_in, word_in, value_in}

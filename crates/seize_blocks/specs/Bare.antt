@@ -1,5 +1,4 @@
 -- Blocks have no words of their own yet.
-use Rattle.std.specs.Prelude.{ℕ}
 use denote.RawPtr.{Ptr, null_ptr}
 use Rattle.seize_seats.specs.Owned.{Pieces}
 

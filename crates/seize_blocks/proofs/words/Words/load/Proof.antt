@@ -1,5 +1,5 @@
 -- `load` is one step on the word, and the seat goes with it.
-use Rattle.std.proofs.Common.{◌≡◌, ℕ, List, [], ◌∷◌, ◌+◌, ◌*◌, ◌^◌, ◌<◌, sym, refl, ap, ◌∙◌, lit<, w64, arith, subst}
+use Rattle.std.proofs.Common.{◌≡◌, ℕ, List, [], ◌∷◌, ◌+◌, ◌*◌, ◌^◌, ◌<◌, sym, refl, lit<, w64, arith, subst}
 use mir.Syntax.{dcons, dnil, a_type, named}
 use mir.MapTy.{inst_fn}
 use mir.Val.{Val, vint, vptr}
@@ -7,9 +7,9 @@ use prog.Wp.{WpFn}
 use base.Logic.{SProp, ent, emp, id⊢, via}
 use base.Fml.{Lft, Fml, ftrue, fsep, flft, fhide}
 use types.Kit.{‵, raw, ◌⊛◌, given, mean, at_ret, ◌$◌, ◌∵◌, !, qed, by, move, keep, drop, split, split3, join, fsplit, fsplit3, fjoin, fjoin3, fpick, learn, use0, use1, use3, rewrite, feq_i, flt_i, some as items, later, pick, await, suffices}
-use types.Run.{stop, fld, load, lit, of_opd, bin, no_more, and_then, first, blocks, exec, Calls-last, returns, enter}
-use types.ByLocal.{alloc_all, pass_all, free_all, look_at, get, through, sets, env, lands_last}
-use types.Part.{agg, sub, whole, look_in}
+use types.Run.{lit, of_opd, bin, no_more, and_then, first, blocks, exec, Calls-last, returns, enter}
+use types.ByLocal.{alloc_all, pass_all, free_all, look_at, get, sets, env, lands_last}
+use types.Part.{agg}
 use types.Tokens.{shr_bor-open, obor_close}
 use types.Within.{tokens_halve}
 use contract.Running.{tables}
@@ -17,11 +17,10 @@ use contract.Monad.{fact, fact_i}
 use denote.Exit.{yes}
 use denote.RattleType.{RattleType, owns}
 use denote.Signature.{types_at, plain}
-use denote.RawPtr.{Ptr, InBlock, block_ptr, block_of, count_of, at_block, ptr_val, rawptr_vals, rawptr_Tells}
-use denote.Steps.{nothing, peeks, heard, looks, shuts, opens, closes}
+use denote.RawPtr.{Ptr, block_ptr, block_of, count_of, at_block, ptr_val, rawptr_vals, rawptr_Tells}
+use denote.Steps.{nothing, heard, opens, closes}
 use denote.Opens.{unhide}
-use denote.Laws.{Is, shows}
-use denote.Memory.{cell_at, hidden_shr}
+use denote.Memory.{hidden_shr}
 use denote.Param.{param, bounded}
 use denote.Builtin.{RefOf, RawPtr, u64}
 use denote.Plain.{uint_vals, uint_Tells}
@@ -45,7 +44,7 @@ use Rattle.seize_seats.proofs.OwnWords.{reached}
 use Rattle.seize_blocks.specs.Placed.{IsItsPlace}
 use Rattle.seize_blocks.specs.contracts.words.Words as words
 use Rattle.seize_blocks.specs.contracts.seat.Seat as seat
-use Rattle.seize_blocks.proofs.Fields.{hand_of, Data, told, opened}
+use Rattle.seize_blocks.proofs.Fields.{Data}
 use Rattle.seize_blocks.specs.contracts.words.Words.load.{ended, clauses}
 use Rattle.seize_blocks.specs.contracts.words.Words.load.Key.{name as #self}
 use Rattle.seize_blocks.proofs.words.Words.load.Statement.{statement}
