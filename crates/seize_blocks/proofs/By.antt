@@ -1,13 +1,16 @@
 -- What is asked of the words of a strip is what is known of the strip.
 use Rattle.std.proofs.Common.{◌≡◌, ℕ, Option, None, Some, IsSome, refl, sym, ap, ◌∙◌, subst, arith, ◌*◌, ◌+◌, ◌<◌, ◌≤◌, ◌^◌}
-use denote.RawPtr.{Ptr}
+use denote.RawPtr.{Ptr, null_ptr}
 use Rattle.seize_words.specs.Op.{Op, Out, Make, Take, Rewrite}
 use Rattle.seize_words.specs.declared.at.At.{At}
-use Rattle.seize_words.specs.Mem.{block_of, entry_in, value_in}
-use Rattle.seize_words.specs.declared.at.At.TheVariants.{Entry}
+use Rattle.seize_words.specs.Mem.{block_of, entry_in, word_in, value_in}
+use Rattle.seize_words.specs.declared.at.At.TheVariants.{Entry, Word}
 use Rattle.seize_words.specs.declared.block.Block.{Block}
 use Rattle.seize_seats.specs.State.{State, Allows, Owns}
 use Rattle.seize_seats.specs.Lendings.{ShownToBoth}
+use Rattle.seize_seats.specs.Visits.{AreSeenAt}
+use Rattle.seize_seats.specs.Reached.{IsAt}
+use Rattle.seize_blocks.specs.Bare.{nowhere}
 use Rattle.seize_seats.specs.Owned.{BaseId}
 use Rattle.seize_blocks.specs.Placed.{IsItsPlace, IsItsSign, IsItsIndex, HasWord}
 use Rattle.seize_blocks.specs.declared.claim.Claim.{Claim}
@@ -17,11 +20,11 @@ module _ {T V W F : Type 0} (holds : F → State T V W → Type 0) (keeps : V �
   abbrev Same : Ptr → Ptr → BaseId → BaseId → BaseId → F → F → Type 0
   Same p q y z x f h = (p ≡ q) × (y ≡ z) × (f ≡ h) × (z.views_name ≡ x.views_name) × (z.hands_name ≡ x.hands_name)
 
-  pub on_word : (base id place : ℕ) (v : V) (at : At) (op : Op T) (so : Out T → V → Type 0) (p q : Ptr) (y z x : BaseId) (f h : F) → Same p q y z x f h
-      → base ≡ x.views_name → IsItsPlace q z at place → Allows (holds h) keeps id v op so
-      → (base ≡ y.views_name) × IsItsPlace p y at place × Allows (holds f) keeps id v op so
-  on_word base id place v at op so p q y z x f h e own lies may =
-      subst (λ (u : Ptr × BaseId × F). (base ≡ u.1.views_name) × IsItsPlace u.0 u.1 at place × Allows (holds u.2) keeps id v op so)
+  pub on_word : (base id : ℕ) (address : Ptr) (place : ℕ) (v : V) (at : At) (op : Op T) (so : Out T → V → Type 0) (p q : Ptr) (y z x : BaseId) (f h : F) → Same p q y z x f h
+      → base ≡ x.views_name → IsItsPlace (holds h) id v q z at address place → Allows (holds h) keeps id v op so
+      → (base ≡ y.views_name) × IsItsPlace (holds f) id v p y at address place × Allows (holds f) keeps id v op so
+  on_word base id address place v at op so p q y z x f h e own lies may =
+      subst (λ (u : Ptr × BaseId × F). (base ≡ u.1.views_name) × IsItsPlace (holds u.2) id v u.0 u.1 at address place × Allows (holds u.2) keeps id v op so)
       (λ i. (sym e.0 i, sym e.1 i, sym e.2 i)) (own ∙ sym e.3, lies, may)
 
   pub on_take : (base id block index first : ℕ) (v : V) (at p q : Ptr) (y z x : BaseId) (f h : F) (so : Out T → V → Type 0) → Same p q y z x f h → base ≡ x.views_name
@@ -74,3 +77,21 @@ entry_some (Some x) i some = refl
 -- where there is such a word, the view shows its block
 pub shows_block : {T V W : Type 0} (holds : State T V W → Type 0) (id : ℕ) (v : V) (b i : ℕ) → HasWord holds id v (Entry b i) → ShownToBoth holds id v id v b
 shows_block holds id v b i has = λ t h at at'. entry_some (block_of t.memory b) i (has t h at)
+
+-- a word of its own is one of a block
+value_of : {T : Type 0} (x : Option (Block T)) (i : ℕ) → IsSome (word_in x i) → (y : T) × (value_in x ≡ Some y)
+value_of None i some = absurd (cc some)
+value_of (Some x) i some = (x.value, refl)
+
+-- and so where there is a word of its own
+pub shows_own : {T V W : Type 0} (holds : State T V W → Type 0) (id : ℕ) (v : V) (b i : ℕ) → HasWord holds id v (Word b i) → ShownToBoth holds id v id v b
+shows_own {T} holds id v b i has t h at at' = let s = value_of (block_of t.memory b) i (has t h at) in subst (λ (y : Option T). IsSome y) (sym s.1) refl
+
+-- No block has words of its own: nobody can ask for one of them, wherever it is looked for.
+pub no_own : {T V W : Type 0} (holds : State T V W → Type 0) (id : ℕ) (v : V) (b i : ℕ) (p address : Ptr) (z : BaseId) (index : ℕ) → IsItsIndex z b index
+    → HasWord holds id v (Word b i)
+    → IsAt nowhere holds id v p z (Word b i) address 0
+no_own holds id v b i p address z index is has = (is.0, (null_ptr, seen, λ no few. absurd no))
+  where
+    seen : AreSeenAt nowhere holds id v b null_ptr
+    seen t ok at = let s = value_of (block_of t.memory b) i (has t ok at) in (s.0, s.1, refl)

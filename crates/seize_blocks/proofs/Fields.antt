@@ -35,6 +35,7 @@ use Rattle.seize_blocks.specs.contracts.claim.Claim as claim
 use Rattle.seize_blocks.specs.contracts.strip.Strip as strip
 use Rattle.seize_blocks.specs.contracts.place.Place as place
 use Rattle.seize_blocks.specs.contracts.place.Doors as doors
+use Rattle.seize_blocks.specs.contracts.place.Address as address
 
 pub word_laws : Laws u64
 word_laws = of_field u64-field u64-laws refl (copy_shared u64-field u64-copy)
@@ -205,6 +206,9 @@ opened_good p q r = (opened_typed p q r, ((hand_good p).1, ((one_good q).1, ((on
 
 pub doors_made : {M : Type 1} {𝓤 : Ura M} (𝓛 : Logic 𝓤) (p : Ptr) → ent 𝓤 (emp 𝓤) (sem 𝓛 (doors.the_row.own_val record { at = p } (one_of p ∷ [])))
 doors_made 𝓛 p = makes_shadow 𝓛 (doors.the_row.own_val record { at = p } (one_of p ∷ [])) (λ vss. (tt, (tt, tt))) ((ptr_val p ∷ [], tt), (refl, (refl, tt)))
+
+pub address_made : {M : Type 1} {𝓤 : Ura M} (𝓛 : Logic 𝓤) (p : Ptr) → ent 𝓤 (emp 𝓤) (sem 𝓛 (address.the_row.own_val record { at = p } (one_of p ∷ [])))
+address_made 𝓛 p = makes_shadow 𝓛 (address.the_row.own_val record { at = p } (one_of p ∷ [])) (λ vss. (tt, (tt, tt))) ((ptr_val p ∷ [], tt), (refl, (refl, tt)))
 
 -- what an attempt to claim a number found
 abbrev pub claim_of : ℕ → Val

@@ -1,15 +1,16 @@
 -- Where the word of a name is looked for, and behind which door the strip of a number is.
 use Rattle.std.specs.Prelude.{◌≡◌, ℕ, ◌+◌, ◌-◌, ◌*◌, ◌<◌, ◌≤◌, ◌^◌, Some, IsSome}
-use denote.RawPtr.{Ptr}
+use denote.RawPtr.{Ptr, InBlock}
 use Rattle.seize_words.specs.Mem.{word_at}
 use Rattle.seize_words.specs.declared.at.At.{At}
 use Rattle.seize_seats.specs.State.{State, view_of}
-use Rattle.seize_seats.specs.Lines.{IsWord}
-use Rattle.seize_seats.specs.Owned.{BaseId, IsIts, IsIn, place_in}
+use Rattle.seize_seats.specs.Owned.{BaseId, IsIts}
+use Rattle.seize_seats.specs.Reached.{IsAt}
+use Rattle.seize_blocks.specs.Bare.{nowhere}
 
--- the place is that of the name, if there is such a word, and in any case a small number
-abbrev pub IsItsPlace : Ptr → BaseId → At → ℕ → Type 0
-IsItsPlace p z at place = (IsWord z.roots z.count at → IsIn p z at × (place ≡ place_in z at)) × (place < 2 ^ 60)
+-- the word of the name lies so many words on from this address, if there is such a word; in any case the address is one in a block, and the number small
+abbrev pub IsItsPlace : {T V W : Type 0} → (State T V W → Type 0) → ℕ → V → Ptr → BaseId → At → Ptr → ℕ → Type 0
+IsItsPlace holds id v p z at address place = InBlock address × (place < 2 ^ 60) × IsAt nowhere holds id v p z at address place
 
 -- there is such a number, and its sign lies at the place
 abbrev pub IsItsSign : BaseId → ℕ → ℕ → Type 0

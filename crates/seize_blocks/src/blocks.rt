@@ -6,9 +6,10 @@ ghost use Rattle.seize_seats.specs.State.{Allows, Owns, Turns, Comes, Meets, Ren
 ghost use Rattle.seize_seats.specs.Lines.{long};
 ghost use Rattle.seize_seats.specs.Owned.{core_of, IsFirst};
 ghost use Rattle.seize_seats.specs.Lendings.{Shown, ShownToBoth, IsValueOf, IsValueOfBoth};
+ghost use Rattle.seize_words.specs.declared.at.At.TheVariants.{Word};
 ghost use Rattle.seize_blocks.specs.Placed.{IsItsPlace, IsItsIndex, IsBehind, HasWord};
 
-use crate::part::{Spot, places_in};
+use crate::part::{Reached, Spot, places_in, words_in};
 use crate::place::{Doors, Place};
 use crate::plot::skip_of;
 use crate::rule::{Meeting, Rule, Turn};
@@ -37,28 +38,66 @@ pub struct Blocks<T, R: Rule<T>> {
 }
 
 impl<T, R: Rule<T>> Blocks<T, R> {
-    /// Where the word of a name lies: in which strip, and at which place. Whatever the state is, if the seat has this view then there is such a word.
+    /// From where an operation on the word of a name is made: by which strip, from which address, and how many words on. Whatever the state is, if the seat
+    /// has this view then there is such a word.
     #[inline(always)]
-    fn place_of(&self, seat: &Seat<T, R>, at: At) -> (Strip<T>, u64)
+    fn place_of(&self, seat: &Seat<T, R>, at: At) -> Reached<T>
         requires own { seat.now.base ≡ self.now.words.id.views_name }
         requires there { HasWord (R.holds self.now.words.fixed) seat.now.id seat.now.view at }
-        ensures { (core_of result.0.id ≡ core_of self.now.words.id) × InBlock result.0.words × IsItsPlace result.0.words result.0.id at result.1 }
+        ensures { (core_of result.strip.id ≡ core_of self.now.words.id) × InBlock result.strip.words
+            × IsItsPlace (R.holds self.now.words.fixed) seat.now.id seat.now.view result.strip.words result.strip.id at result.address result.place }
     {
         match at {
-            At::Root(root) if root < self.roots => (self.words.strip(), root * 16),
-            At::Used(root) if root < self.roots => (self.words.strip(), (self.roots + root) * 16),
+            At::Root(root) if root < self.roots => self.first_place(root * 16),
+            At::Used(root) if root < self.roots => self.first_place((self.roots + root) * 16),
             At::Slot(slot, field) if slot < 32 && field < 2 => {
-                (
-                    self.words.strip(),
-                    (self.roots + self.roots + slot) * 16 + field,
-                )
+                self.first_place((self.roots + self.roots + slot) * 16 + field)
             }
             At::Entry(block, word) if word < 4 => {
                 let spot = self.spot_of(seat, seat, block);
-                let first = spot.first;
-                (spot.strip, first + word)
+                let words = words_in(&spot.strip);
+                let address = words.at;
+                Reached {
+                    address,
+                    place: spot.first + word,
+                    strip: spot.strip,
+                }
             }
-            _ => (self.words.strip(), 0),
+            At::Word(block, own) => self.own_place(seat, block, own),
+            _ => self.first_place(0),
+        }
+    }
+
+    /// The place of a word of the first strip.
+    #[inline(always)]
+    fn first_place(&self, place: u64) -> Reached<T>
+        ensures { (result.strip.id ≡ self.now.words.id) × (result.strip.words ≡ self.now.words.words) × InBlock result.strip.words
+            × (result.address ≡ result.strip.words) × (result.place ≡ place) }
+    {
+        let strip = self.words.strip();
+        let words = words_in(&strip);
+        let address = words.at;
+        Reached {
+            strip,
+            address,
+            place,
+        }
+    }
+
+    /// The place of a word of a block's own. No block has any yet, so nobody may ask for one.
+    fn own_place(&self, seat: &Seat<T, R>, block: u64, own: u64) -> Reached<T>
+        requires own { seat.now.base ≡ self.now.words.id.views_name }
+        requires there { HasWord (R.holds self.now.words.fixed) seat.now.id seat.now.view (Word block own) }
+        ensures { (core_of result.strip.id ≡ core_of self.now.words.id) × InBlock result.strip.words
+            × IsItsPlace (R.holds self.now.words.fixed) seat.now.id seat.now.view result.strip.words result.strip.id (Word block own) result.address result.place }
+    {
+        let spot = self.spot_of(seat, seat, block);
+        let words = words_in(&spot.strip);
+        let address = words.at;
+        Reached {
+            strip: spot.strip,
+            address,
+            place: 0,
         }
     }
 
@@ -198,8 +237,11 @@ impl<T, R: Rule<T>> Blocks<T, R> {
         ensures same { (seat.new.base ≡ seat.old.base) × (seat.new.id ≡ seat.old.id) }
         ensures goes { R.then seat.old.view (Load at) (Found result) seat.new.view }
     {
-        let (strip, place) = self.place_of(seat, at);
-        self.words.by(&strip).load(seat, &at, place)
+        let reached = self.place_of(seat, at);
+        let address = reached.address;
+        self.words
+            .by(&reached.strip)
+            .load(seat, &at, address, reached.place)
     }
 
     /// Writes the word of a name.
@@ -210,8 +252,11 @@ impl<T, R: Rule<T>> Blocks<T, R> {
         ensures same { (seat.new.base ≡ seat.old.base) × (seat.new.id ≡ seat.old.id) }
         ensures goes { R.then seat.old.view (Store at word) Stored seat.new.view }
     {
-        let (strip, place) = self.place_of(seat, at);
-        self.words.by(&strip).store(seat, &at, place, word)
+        let reached = self.place_of(seat, at);
+        let address = reached.address;
+        self.words
+            .by(&reached.strip)
+            .store(seat, &at, address, reached.place, word)
     }
 
     /// Writes the word of a name, and answers the one before.
@@ -222,8 +267,11 @@ impl<T, R: Rule<T>> Blocks<T, R> {
         ensures same { (seat.new.base ≡ seat.old.base) × (seat.new.id ≡ seat.old.id) }
         ensures goes { R.then seat.old.view (Swap at word) (Found result) seat.new.view }
     {
-        let (strip, place) = self.place_of(seat, at);
-        self.words.by(&strip).swap(seat, &at, place, word)
+        let reached = self.place_of(seat, at);
+        let address = reached.address;
+        self.words
+            .by(&reached.strip)
+            .swap(seat, &at, address, reached.place, word)
     }
 
     /// Adds to the word of a name, round at 2^64, and answers the one before.
@@ -234,8 +282,11 @@ impl<T, R: Rule<T>> Blocks<T, R> {
         ensures same { (seat.new.base ≡ seat.old.base) × (seat.new.id ≡ seat.old.id) }
         ensures goes { R.then seat.old.view (Add at by) (Found result) seat.new.view }
     {
-        let (strip, place) = self.place_of(seat, at);
-        self.words.by(&strip).add(seat, &at, place, by)
+        let reached = self.place_of(seat, at);
+        let address = reached.address;
+        self.words
+            .by(&reached.strip)
+            .add(seat, &at, address, reached.place, by)
     }
 
     /// Sets bits of the word of a name, and answers the one before.
@@ -246,8 +297,11 @@ impl<T, R: Rule<T>> Blocks<T, R> {
         ensures same { (seat.new.base ≡ seat.old.base) × (seat.new.id ≡ seat.old.id) }
         ensures goes { R.then seat.old.view (Or at bits) (Found result) seat.new.view }
     {
-        let (strip, place) = self.place_of(seat, at);
-        self.words.by(&strip).or(seat, &at, place, bits)
+        let reached = self.place_of(seat, at);
+        let address = reached.address;
+        self.words
+            .by(&reached.strip)
+            .or(seat, &at, address, reached.place, bits)
     }
 
     /// Writes a new word where the old one, the whole word, is found, and answers the word found: `Ok` where it was written.
@@ -258,8 +312,11 @@ impl<T, R: Rule<T>> Blocks<T, R> {
         ensures same { (seat.new.base ≡ seat.old.base) × (seat.new.id ≡ seat.old.id) }
         ensures goes { R.then seat.old.view (Exchange at old new) (Exchanged result) seat.new.view }
     {
-        let (strip, place) = self.place_of(seat, at);
-        self.words.by(&strip).exchange(seat, &at, place, old, new)
+        let reached = self.place_of(seat, at);
+        let address = reached.address;
+        self.words
+            .by(&reached.strip)
+            .exchange(seat, &at, address, reached.place, old, new)
     }
 
     /// Where somebody who has this slot begins to look for numbers, so that those of different slots are apart.

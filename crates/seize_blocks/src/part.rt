@@ -1,7 +1,7 @@
 //! A strip with what its numbers are found by.
 ghost use Rattle.std.specs.Prelude.{◌≡◌, ◌+◌, ◌*◌, ◌^◌, ◌<◌, ◌≤◌};
 
-use crate::place::Place;
+use crate::place::{Address, Place};
 use crate::strip::Strip;
 
 /// A strip, where its values lie, how many numbers come before its own and how many it has, and how many words come before theirs.
@@ -25,6 +25,14 @@ pub(crate) struct Spot<T> {
     pub(crate) first: u64,
 }
 
+/// From where an operation on a word is made: by which strip, from which address, and how many words on from there.
+#[derive(Drop)]
+pub(crate) struct Reached<T> {
+    pub(crate) strip: Strip<T>,
+    pub(crate) address: *mut u64,
+    pub(crate) place: u64,
+}
+
 /// Where the places of a further strip lie: at its own address, if it has one.
 pub(crate) fn places_in<T>(strip: &Strip<T>) -> Place<T>
     ensures { result.at ≡ strip.now.words }
@@ -32,4 +40,12 @@ pub(crate) fn places_in<T>(strip: &Strip<T>) -> Place<T>
     Place {
         at: strip.words as *mut Option<T>,
     }
+}
+
+/// Where the words of a strip lie, if it has an address.
+#[inline(always)]
+pub(crate) fn words_in<T>(strip: &Strip<T>) -> Address
+    ensures { result.at ≡ strip.now.words }
+{
+    Address { at: strip.words }
 }

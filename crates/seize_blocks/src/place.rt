@@ -12,6 +12,12 @@ pub(crate) struct Doors {
     pub(crate) at: *mut *mut u64,
 }
 
+/// The address of words.
+#[derive(Drop)]
+pub(crate) struct Address {
+    pub(crate) at: *mut u64,
+}
+
 unsafe impl Send for Doors {}
 
 unsafe impl Sync for Doors {}

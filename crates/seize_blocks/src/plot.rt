@@ -10,6 +10,7 @@ ghost use Rattle.seize_seats.specs.Strips.{Strip, strip_coded, further};
 ghost use Rattle.seize_seats.specs.Doors.{before, block_bytes, words_from, deed};
 ghost use Rattle.seize_seats.specs.Owned.{stride, all_alone};
 ghost use Rattle.seize_seats.specs.Plots.{AreEmpty, HasFirst};
+ghost use Rattle.seize_blocks.specs.Bare.{bare};
 
 use crate::home::{drain, empty, fill};
 use crate::row::Row;
@@ -39,7 +40,7 @@ pub(crate) struct Alone<T> {
 }
 
 impl<T> Model for Alone<T> {
-    ghost also_owns = { λ s. all_alone T.row s.fresh s.strips };
+    ghost also_owns = { λ s. all_alone T.row bare s.fresh s.strips };
 }
 
 /// How many bytes a place has.

@@ -9,6 +9,7 @@ ghost use Rattle.seize_seats.specs.Doors.{before, block_bytes, words_from, IsFur
 ghost use Rattle.seize_seats.specs.Steps.{roomed};
 ghost use Rattle.seize_seats.specs.Lendings.{ShownToBoth, IsValueOfBoth};
 ghost use Rattle.seize_seats.specs.Owned.{BaseId, base_id_coded, core_of, stride, IsFirst, IsLike, words_own, words_share};
+ghost use Rattle.seize_blocks.specs.Bare.{bare};
 ghost use Rattle.seize_blocks.specs.Placed.{IsItsPlace, IsItsSign, IsItsIndex};
 ghost use Rattle.seize_seats.specs.Plots.{HasFirst};
 
@@ -35,9 +36,9 @@ pub struct Words<T, R: Rule<T>> {
 }
 
 impl<T, R: Rule<T>> Model for Words<T, R> {
-    ghost also_owns = { λ s. words_own T.row R.View.row.coded.code (R.holds s.fixed) s.words s.id };
+    ghost also_owns = { λ s. words_own T.row bare R.View.row.coded.code (R.holds s.fixed) s.words s.id };
 
-    ghost also_shares = { λ s _ κ. words_share T.row R.View.row.coded.code (R.holds s.fixed) s.words s.id κ };
+    ghost also_shares = { λ s _ κ. words_share T.row bare R.View.row.coded.code (R.holds s.fixed) s.words s.id κ };
 }
 
 impl<T, R: Rule<T>> Words<T, R> {
@@ -352,72 +353,101 @@ impl<T, R: Rule<T>> Words<T, R> {
             × R.then seat.old.view (Room bucket) (Roomed (roomed bucket)) seat.new.view }
     {}
 
-    /// Reads the word of a name, which lies at this place.
-    pub fn load(&self, seat: &mut Seat<T, R>, at: &At, place: u64) -> u64
-        requires { (seat.old.base ≡ self.now.id.views_name) × IsItsPlace self.now.words self.now.id at.now place
+    /// Reads the word of a name, which lies so many words on from this address.
+    pub(crate) fn load(&self, seat: &mut Seat<T, R>, at: &At, address: *mut u64, place: u64) -> u64
+        requires { (seat.old.base ≡ self.now.id.views_name) × IsItsPlace (R.holds self.now.fixed) seat.old.id seat.old.view self.now.words self.now.id at.now address place
             × Allows (R.holds self.now.fixed) R.keeps seat.old.id seat.old.view (Load at.now) (R.then seat.old.view (Load at.now)) }
         ensures { (seat.new.base ≡ seat.old.base) × (seat.new.id ≡ seat.old.id)
             × R.then seat.old.view (Load at.now) (Found result) seat.new.view }
     {
-        unsafe { raw::load::<Brand>(self.words.add(place as usize), SeqCst) }
+        unsafe { raw::load::<Brand>(address.add(place as usize), SeqCst) }
     }
 
     /// Writes the word of a name.
-    pub fn store(&self, seat: &mut Seat<T, R>, at: &At, place: u64, word: u64)
-        requires { (seat.old.base ≡ self.now.id.views_name) × IsItsPlace self.now.words self.now.id at.now place
+    pub(crate) fn store(
+        &self,
+        seat: &mut Seat<T, R>,
+        at: &At,
+        address: *mut u64,
+        place: u64,
+        word: u64,
+    )
+        requires { (seat.old.base ≡ self.now.id.views_name) × IsItsPlace (R.holds self.now.fixed) seat.old.id seat.old.view self.now.words self.now.id at.now address place
             × Allows (R.holds self.now.fixed) R.keeps seat.old.id seat.old.view (Store at.now word) (R.then seat.old.view (Store at.now word)) }
         ensures { (seat.new.base ≡ seat.old.base) × (seat.new.id ≡ seat.old.id)
             × R.then seat.old.view (Store at.now word) Stored seat.new.view }
     {
-        unsafe { raw::store::<Brand>(self.words.add(place as usize), word, SeqCst) }
+        unsafe { raw::store::<Brand>(address.add(place as usize), word, SeqCst) }
     }
 
     /// Writes the word of a name, and answers the one before.
-    pub fn swap(&self, seat: &mut Seat<T, R>, at: &At, place: u64, word: u64) -> u64
-        requires { (seat.old.base ≡ self.now.id.views_name) × IsItsPlace self.now.words self.now.id at.now place
+    pub(crate) fn swap(
+        &self,
+        seat: &mut Seat<T, R>,
+        at: &At,
+        address: *mut u64,
+        place: u64,
+        word: u64,
+    ) -> u64
+        requires { (seat.old.base ≡ self.now.id.views_name) × IsItsPlace (R.holds self.now.fixed) seat.old.id seat.old.view self.now.words self.now.id at.now address place
             × Allows (R.holds self.now.fixed) R.keeps seat.old.id seat.old.view (Swap at.now word) (R.then seat.old.view (Swap at.now word)) }
         ensures { (seat.new.base ≡ seat.old.base) × (seat.new.id ≡ seat.old.id)
             × R.then seat.old.view (Swap at.now word) (Found result) seat.new.view }
     {
-        unsafe { raw::swap::<Brand>(self.words.add(place as usize), word, SeqCst) }
+        unsafe { raw::swap::<Brand>(address.add(place as usize), word, SeqCst) }
     }
 
     /// Adds to the word of a name, round at 2^64, and answers the one before.
-    pub fn add(&self, seat: &mut Seat<T, R>, at: &At, place: u64, by: u64) -> u64
-        requires { (seat.old.base ≡ self.now.id.views_name) × IsItsPlace self.now.words self.now.id at.now place
+    pub(crate) fn add(
+        &self,
+        seat: &mut Seat<T, R>,
+        at: &At,
+        address: *mut u64,
+        place: u64,
+        by: u64,
+    ) -> u64
+        requires { (seat.old.base ≡ self.now.id.views_name) × IsItsPlace (R.holds self.now.fixed) seat.old.id seat.old.view self.now.words self.now.id at.now address place
             × Allows (R.holds self.now.fixed) R.keeps seat.old.id seat.old.view (Add at.now by) (R.then seat.old.view (Add at.now by)) }
         ensures { (seat.new.base ≡ seat.old.base) × (seat.new.id ≡ seat.old.id)
             × R.then seat.old.view (Add at.now by) (Found result) seat.new.view }
     {
-        unsafe { raw::fetch_add::<Brand>(self.words.add(place as usize), by, SeqCst) }
+        unsafe { raw::fetch_add::<Brand>(address.add(place as usize), by, SeqCst) }
     }
 
     /// Sets bits of the word of a name, and answers the one before.
-    pub fn or(&self, seat: &mut Seat<T, R>, at: &At, place: u64, bits: u64) -> u64
-        requires { (seat.old.base ≡ self.now.id.views_name) × IsItsPlace self.now.words self.now.id at.now place
+    pub(crate) fn or(
+        &self,
+        seat: &mut Seat<T, R>,
+        at: &At,
+        address: *mut u64,
+        place: u64,
+        bits: u64,
+    ) -> u64
+        requires { (seat.old.base ≡ self.now.id.views_name) × IsItsPlace (R.holds self.now.fixed) seat.old.id seat.old.view self.now.words self.now.id at.now address place
             × Allows (R.holds self.now.fixed) R.keeps seat.old.id seat.old.view (Or at.now bits) (R.then seat.old.view (Or at.now bits)) }
         ensures { (seat.new.base ≡ seat.old.base) × (seat.new.id ≡ seat.old.id)
             × R.then seat.old.view (Or at.now bits) (Found result) seat.new.view }
     {
-        unsafe { raw::fetch_or::<Brand>(self.words.add(place as usize), bits, SeqCst) }
+        unsafe { raw::fetch_or::<Brand>(address.add(place as usize), bits, SeqCst) }
     }
 
     /// Writes a new word where the old one, the whole word, is found, and answers the word found: `Ok` where it was written.
-    pub fn exchange(
+    pub(crate) fn exchange(
         &self,
         seat: &mut Seat<T, R>,
         at: &At,
+        address: *mut u64,
         place: u64,
         old: u64,
         new: u64,
     ) -> Result<u64, u64>
-        requires { (seat.old.base ≡ self.now.id.views_name) × IsItsPlace self.now.words self.now.id at.now place
+        requires { (seat.old.base ≡ self.now.id.views_name) × IsItsPlace (R.holds self.now.fixed) seat.old.id seat.old.view self.now.words self.now.id at.now address place
             × Allows (R.holds self.now.fixed) R.keeps seat.old.id seat.old.view (Exchange at.now old new) (R.then seat.old.view (Exchange at.now old new)) }
         ensures { (seat.new.base ≡ seat.old.base) × (seat.new.id ≡ seat.old.id)
             × R.then seat.old.view (Exchange at.now old new) (Exchanged result) seat.new.view }
     {
         unsafe {
-            raw::compare_exchange::<Brand>(self.words.add(place as usize), old, new, SeqCst, SeqCst)
+            raw::compare_exchange::<Brand>(address.add(place as usize), old, new, SeqCst, SeqCst)
         }
     }
 }

@@ -6,10 +6,10 @@ use base.Fml.{Lft, Fml}
 use types.Logic.{Logic, sem}
 use types.Kit.{‵, raw, ◌⊛◌, ◌$◌, ◌∵◌, !, qed, move, split, frame, each, assume, use1, use2, rewrite, done}
 use denote.RattleType.{RattleType}
-use Rattle.seize_seats.specs.Cells.{Cell, cell_at}
+use Rattle.seize_seats.specs.Cells.{Body, Cell, cell_at}
 use Rattle.seize_seats.specs.Owned.{stride, under, numbers}
 
-module _ {M : Type 1} {𝓤 : Ura M} (𝓛 : Logic 𝓤) (R : RattleType) (α : Lft) (δ : ℕ) (lent : ℕ → R.Denot → ℕ → ℕ → Fml) (had : ℕ → ℕ → R.Denot → Fml) (b b' : ℕ) where
+module _ {M : Type 1} {𝓤 : Ura M} (𝓛 : Logic 𝓤) (R : RattleType) (α : Lft) (δ : ℕ) (lent : ℕ → Body R.Denot → ℕ → ℕ → Fml) (had : ℕ → ℕ → Body R.Denot → Fml) (b b' : ℕ) where
   abbrev Under : ℕ → ℕ → ℕ → Cell R.Denot → Fml
   Under o o' i c = under R α δ lent had b o b' o' i c
 

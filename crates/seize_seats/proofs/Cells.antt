@@ -3,10 +3,10 @@ use Rattle.std.specs.Prelude.{◌≡◌, ℕ, zero, suc, ◌+◌, ◌-◌, ◌<�
 use Rattle.std.proofs.Common.{refl, sym, ap, ◌∙◌, arith, inl, inr, ◌⊎◌, length-set}
 use Rattle.std.proofs.lemmas.Bool.{cases_eq, cases_lt, le-ltb, lt-ltb, ne_eqb}
 use Rattle.std.proofs.lemmas.List.{get_or-set_same, get_or-set_other, get_or_past}
-use Rattle.seize_words.specs.Mem.{block_of, entry_in, with_entry, with_made, word_at}
+use Rattle.seize_words.specs.Mem.{block_of, entry_in, word_in, with_entry, with_word_in, with_block, with_made, with_word, word_at}
 use Rattle.seize_words.specs.declared.block.Block.{Block}
-use Rattle.seize_words.specs.declared.at.At.TheVariants.{Entry}
-use Rattle.seize_seats.specs.Cells.{Cell, Free, Claimed, Out, Has, Held, block_in, blocks_in, cell_at, noted_in}
+use Rattle.seize_words.specs.declared.at.At.TheVariants.{Entry, Word}
+use Rattle.seize_seats.specs.Cells.{Cell, Free, Claimed, Out, Has, Held, block_in, blocks_in, cell_at, noted_in, own_noted_in}
 use Rattle.seize_seats.specs.Lines.{Parts, memory_of, AreLaid}
 use Rattle.seize_seats.specs.Laws.{EntriesLie, EntriesAreApart}
 
@@ -202,22 +202,72 @@ noted_is (Out e) i w = refl
 noted_is (Has x ws) i w = refl
 noted_is (Held ρ e x ws) i w = refl
 
+-- the cell of a number with another block: what there is not stays so, and entries are as long
+module _ {T : Type 0} (roots count : ℕ) (s : Parts T) (laid : AreLaid roots count s) (b : ℕ) (low : 0 < b) (d : Cell T)
+    (to : Option (Block T) → Option (Block T)) (is : block_in d ≡ to (block_in (cell_at s.cells (b - 1)))) (none : to None ≡ None)
+    (long : (y x : Block T) → to (Some y) ≡ Some x → length x.entry ≡ length y.entry) where
+  pub laid_changed : AreLaid roots count (recelled roots count s laid (b - 1) d s.given)
+  laid_changed = laid_with roots count s laid (b - 1) d s.given (omega arith) laid.within (free (cases_lt (b - 1) s.given))
+      (λ x e. four (block_in (cell_at s.cells (b - 1))) refl x (sym is ∙ e))
+    where
+      free : (b - 1 < s.given) ⊎ (s.given ≤ b - 1) → (block_in d ≡ None) ⊎ (b - 1 < s.given)
+      free (inl h) = inr h
+      free (inr h) = inl (is ∙ ap to (laid.rest (b - 1) h) ∙ none)
+
+      four : (y : Option (Block T)) → block_in (cell_at s.cells (b - 1)) ≡ y → (x : Block T) → to y ≡ Some x → length x.entry ≡ 4
+      four None here x e = absurd (cc (none, e))
+      four (Some y) here x e = long y x e ∙ laid.fours (b - 1) y here
+
+  pub blocks_changed : memory_of roots (recelled roots count s laid (b - 1) d s.given) ≡ with_block (memory_of roots s) b (to (block_of (memory_of roots s) b))
+  blocks_changed = ap (λ (l : List (Option (Block T))). record (memory_of roots s) { blocks = l })
+      (blocks_set s.given s.cells (b - 1) d ∙ ap (slice_set (blocks_in s.given s.cells) (b - 1)) (is ∙ ap to (sym (block_is roots count s laid b low))))
+
 pub entries_are_apart : (T : Type 0) → EntriesAreApart T
 entries_are_apart T roots count s b i new laid low =
-    let j : ℕ = b - 1 in let c : Cell T = cell_at s.cells j in let d : Cell T = noted_in c i new in (
-      laid_with roots count s laid j d s.given (omega arith) laid.within (free c (cases_lt j s.given))
-          (λ x e. long (block_in c) (λ y is. laid.fours j y is) x (sym (noted_is c i new) ∙ e)),
-      ap (λ (l : List (Option (Block T))). record (memory_of roots s) { blocks = l }) (blocks_set s.given s.cells j d
-          ∙ ap (slice_set (blocks_in s.given s.cells) j) (noted_is c i new ∙ ap (λ (y : Option (Block T)). with_entry y i new) (sym (block_is roots count s laid b low)))),
+    let c : Cell T = cell_at s.cells (b - 1) in let d : Cell T = noted_in c i new in let to : Option (Block T) → Option (Block T) = λ x. with_entry x i new in (
+      laid_changed roots count s laid b low d to (noted_is c i new) refl long,
+      blocks_changed roots count s laid b low d to (noted_is c i new) refl long,
     )
   where
-    free : (c : Cell T) → (b - 1 < s.given) ⊎ (s.given ≤ b - 1)
-        → (block_in (noted_in (cell_at s.cells (b - 1)) i new) ≡ None) ⊎ (b - 1 < s.given)
-    free c (inl h) = inr h
-    free c (inr h) = inl (noted_is (cell_at s.cells (b - 1)) i new ∙ ap (λ (y : Option (Block T)). with_entry y i new) (laid.rest (b - 1) h))
+    long : (y x : Block T) → with_entry (Some y) i new ≡ Some x → length x.entry ≡ length y.entry
+    long y x e = let same : record { value = y.value; entry = slice_set y.entry i new; words = y.words } ≡ x = cc e in
+        sym (ap (λ (z : Block T). length z.entry) same) ∙ length-set y.entry i new
 
-    long : (y : Option (Block T)) → ((x : Block T) → y ≡ Some x → length x.entry ≡ 4) → (x : Block T) → with_entry y i new ≡ Some x → length x.entry ≡ 4
-    long None four x e = absurd (cc e)
-    long (Some y) four x e =
-        let same : record { value = y.value; entry = slice_set y.entry i new; words = y.words } ≡ x = cc e in
-        sym (ap (λ (z : Block T). length z.entry) same) ∙ length-set y.entry i new ∙ four y refl
+-- another one of the own words is one of the block
+pub own_noted_is : {T : Type 0} (c : Cell T) (i w : ℕ) → block_in (own_noted_in c i w) ≡ with_word_in (block_in c) i w
+own_noted_is Free i w = refl
+own_noted_is Claimed i w = refl
+own_noted_is (Out e) i w = refl
+own_noted_is (Has x ws) i w = refl
+own_noted_is (Held ρ e x ws) i w = refl
+
+-- a word of a block's own lies in the cell of its number
+pub own_lies : {T : Type 0} (roots count : ℕ) (s : Parts T) (b i w : ℕ) → AreLaid roots count s → word_at (memory_of roots s) (Word b i) ≡ Some w
+    → (0 < b) × (b ≤ count) × (word_in (block_in (cell_at s.cells (b - 1))) i ≡ Some w)
+own_lies {T} roots count s b i w laid e = let low = numbered b e in
+    let here : word_in (block_in (cell_at s.cells (b - 1))) i ≡ Some w = ap (λ (x : Option (Block T)). word_in x i) (sym (block_is roots count s laid b low)) ∙ e in
+    (low, few low (block_in (cell_at s.cells (b - 1))) refl here, here)
+  where
+    numbered : (b : ℕ) → word_at (memory_of roots s) (Word b i) ≡ Some w → 0 < b
+    numbered zero e = absurd (cc e)
+    numbered (suc b) e = omega arith
+
+    few : 0 < b → (x : Option (Block T)) → block_in (cell_at s.cells (b - 1)) ≡ x → word_in x i ≡ Some w → b ≤ count
+    few low None is e = absurd (cc e)
+    few low (Some x) is e = let lt = was_given roots count s laid (b - 1) x is in let within = laid.within in let few = laid.counted in omega (arith, lt, within, few, low)
+
+-- another one there is another word of its name, and nothing else
+abbrev pub own_noted : {T : Type 0} → Parts T → ℕ → ℕ → ℕ → Parts T
+own_noted s b i new =
+    record { words = s.words; slots = s.slots; cells = slice_set s.cells (b - 1) (own_noted_in (cell_at s.cells (b - 1)) i new); given = s.given }
+
+pub own_are_apart : {T : Type 0} (roots count : ℕ) (s : Parts T) (b i new : ℕ) → AreLaid roots count s → 0 < b
+    → AreLaid roots count (own_noted s b i new) × (memory_of roots (own_noted s b i new) ≡ with_word (memory_of roots s) (Word b i) new)
+own_are_apart {T} roots count s b i new laid low =
+    let c : Cell T = cell_at s.cells (b - 1) in let d : Cell T = own_noted_in c i new in let to : Option (Block T) → Option (Block T) = λ x. with_word_in x i new in (
+      laid_changed roots count s laid b low d to (own_noted_is c i new) refl long,
+      blocks_changed roots count s laid b low d to (own_noted_is c i new) refl long,
+    )
+  where
+    long : (y x : Block T) → with_word_in (Some y) i new ≡ Some x → length x.entry ≡ length y.entry
+    long y x e = let same : record { value = y.value; entry = y.entry; words = slice_set y.words i new } ≡ x = cc e in sym (ap (λ (z : Block T). length z.entry) same)

@@ -21,7 +21,7 @@ use Rattle.seize_seats.specs.Strips.{Strip, strip_coded, no_strip, further, AreS
 use Rattle.seize_seats.specs.Doors.{IsFurther, right_to, stays, behind, door}
 use Rattle.seize_seats.specs.Stretches.{IsEven}
 use Rattle.seize_seats.specs.Lendings.{ShownToBoth}
-use Rattle.seize_seats.specs.Owned.{row, ledger, unborn, hand_coded, resting, strips, doors_of, BaseId, Inside, age, core_of, book_of, strip_of, is_listed, state_of, lent_here, had_here, everything, told}
+use Rattle.seize_seats.specs.Owned.{Pieces, row, ledger, unborn, hand_coded, resting, strips, doors_of, BaseId, Inside, age, core_of, book_of, strip_of, is_listed, state_of, lent_here, had_here, everything, told}
 use Rattle.seize_seats.proofs.Stretches as Stretches
 use Rattle.seize_seats.proofs.Ledgers as Ledgers
 use Rattle.seize_seats.proofs.Hands as Hands
@@ -47,7 +47,7 @@ is_there [] i some = absurd (some refl)
 is_there (c ∷ cs) zero some = omega arith
 is_there (c ∷ cs) (suc i) some = let r = is_there cs i some in omega (arith, r)
 
-module _ {M : Type 1} {𝓤 : Ura M} (𝓛 : Logic 𝓤) (R : RattleType) {V W : Type 0} (cv : Coded V) (holds : State R.Denot V W → Type 0) (keeps : V → V → W → ℕ
+module _ {M : Type 1} {𝓤 : Ura M} (𝓛 : Logic 𝓤) (R : RattleType) (own : Pieces R.Denot) {V W : Type 0} (cv : Coded V) (holds : State R.Denot V W → Type 0) (keeps : V → V → W → ℕ
     → Type 0) (p : Ptr) (z : BaseId) where
   open 𝓛 use {H, A}
 
@@ -69,10 +69,10 @@ module _ {M : Type 1} {𝓤 : Ura M} (𝓛 : Logic 𝓤) (R : RattleType) {V W :
   α = age z
 
   abbrev E : Fml
-  E = everything R cv.code holds (core_of z)
+  E = everything R own cv.code holds (core_of z)
 
   abbrev Inv : Fml
-  Inv = told R cv.code holds p z
+  Inv = told R own cv.code holds p z
 
   abbrev b : ℕ
   b = block_of z.doors
@@ -96,7 +96,7 @@ module _ {M : Type 1} {𝓤 : Ura M} (𝓛 : Logic 𝓤) (R : RattleType) {V W :
   LH ss n = fsep (ledger strip_coded.code σ no_strip ss) (unborn hand_coded.code z.hands_name n resting)
 
   abbrev All : List Strip → List (Cell R.Denot) → Fml
-  All ss cs = strips R α z.hands_name (lent_here R cv.code holds p z) (had_here R cv.code holds p z) ss cs
+  All ss cs = strips R α z.hands_name (lent_here R own cv.code holds p z) (had_here R own cv.code holds p z) ss cs
 
   abbrev Fixed : List ℕ → Fml
   Fixed ws = row (block_of z.fixed) (count_of z.fixed) ws
@@ -111,10 +111,10 @@ module _ {M : Type 1} {𝓤 : Ura M} (𝓛 : Logic 𝓤) (R : RattleType) {V W :
   module _ (first : z.place ≡ 0) (whole : z.size ≡ z.least) (q : Share) (j e : ℕ) (few : j < 32) (at : e ≡ j * 8 + o) (i : ℕ) (v : V) (k : ℕ) (u : V) (n : ℕ)
       (shown : ShownToBoth holds i v k u n) (low : z.least * 2 ^ j ≤ n - 1) (f f' : Share) where
     abbrev pub Sn : Fml
-    Sn = Hands.two 𝓛 R cv holds p z i v k u f f'
+    Sn = Hands.two 𝓛 R own cv holds p z i v k u f f'
 
     abbrev glimpse : Ptr → Fml
-    glimpse = Looks.glimpse 𝓛 R cv holds p z q j e few at
+    glimpse = Looks.glimpse 𝓛 R own cv holds p z q j e few at
 
     abbrev pub met : Ptr → Fml
     met r = fsep (fact (InBlock r)) (fsep (glimpse r) Sn)
@@ -131,7 +131,7 @@ module _ {M : Type 1} {𝓤 : Ura M} (𝓛 : Logic 𝓤) (R : RattleType) {V W :
     abbrev Has-cell : In → Type 0
     Has-cell t = cell_at t.parts.cells (n - 1) ≡ Free → ⊥
 
-    has_cell : (t : In) → Makings.HasBlock 𝓛 R cv holds keeps p z n t ⊎ Makings.HeldBlock 𝓛 R cv holds keeps p z n t → Has-cell t
+    has_cell : (t : In) → Makings.HasBlock 𝓛 R own cv holds keeps p z n t ⊎ Makings.HeldBlock 𝓛 R own cv holds keeps p z n t → Has-cell t
     has_cell t (inl th) free = absurd (let c = th.2 in cc (c, free))
     has_cell t (inr th) free = absurd (let c = th.4 in cc (c, free))
 
@@ -160,8 +160,8 @@ module _ {M : Type 1} {𝓤 : Ura M} (𝓛 : Logic 𝓤) (R : RattleType) {V W :
         rewrite ! 0 (λ (r : Ptr). ‵ (cell b e r)) here refl $ show ! F w $ frame ! $ nothing ! $ frame ! $ assume ! (‵ (cell b e w)) $
         rewrite ! 0 (λ (r : Ptr). ‵ (cell b e r)) (sym here) refl $ fjoin ! $ move ! (0 ∷ 2 ∷ []) $ use2 𝓛 (‵ (Drs ss)) (apply∗ 𝓤 ⟦ Dr s ⟧ ⟦ Drs ss ⟧) $
         move ! (0 ∷ 2 ∷ []) $ use2 𝓛 (‵ E) (apply∗ 𝓤 ⟦ Drs ss ⟧ ⟦ E ⟧) $ suffices ! _ (upd_i 𝓤 Z) $ frame ! $
-        nothing ! $ fpack ! (Looks.Found 𝓛 R cv holds p z q j e few at w s) (λ _. ftrue) (here, is) $ fjoin ! $
-        fpack ! Strip (Looks.shown 𝓛 R cv holds p z q j e few at w) s $ fjoin ! $ nothing ! $ fpack ! (InBlock w) (λ _. ftrue) tt $ fjoin ! $ done !)
+        nothing ! $ fpack ! (Looks.Found 𝓛 R own cv holds p z q j e few at w s) (λ _. ftrue) (here, is) $ fjoin ! $
+        fpack ! Strip (Looks.shown 𝓛 R own cv holds p z q j e few at w) s $ fjoin ! $ nothing ! $ fpack ! (InBlock w) (λ _. ftrue) tt $ fjoin ! $ done !)
 
     -- the list shows the first strip
     abbrev Sh : Share → Fml
@@ -170,13 +170,13 @@ module _ {M : Type 1} {𝓤 : Ura M} (𝓛 : Logic 𝓤) (R : RattleType) {V W :
     found : ⟦ E ⟧ ∗ ⟦ is_listed p z ⟧ ∗ ⟦ Sn ⟧ ⊢ ex 𝓤 F
     found = qed 𝓛 (‵ E ∷ ‵ (is_listed p z) ∷ ‵ Sn ∷ []) ∵ fpick ! (λ t. fsplit3 ! $ move ! (2 ∷ []) $ fpick ! (λ sound. drop ! $
         -- [the memory; the views; it is listed; the seats' views]
-        move ! (1 ∷ 3 ∷ []) $ use2 𝓛 (given (Hands.Sit 𝓛 R cv holds p z i v k u t) (‵ (Views t) ⊛ ‵ Sn)) (Hands.two_show 𝓛 R cv holds p z i v k u f f' t) $
+        move ! (1 ∷ 3 ∷ []) $ use2 𝓛 (given (Hands.Sit 𝓛 R own cv holds p z i v k u t) (‵ (Views t) ⊛ ‵ Sn)) (Hands.two_show 𝓛 R own cv holds p z i v k u f f' t) $
         learn ! (λ sit. split ! $ move ! (2 ∷ []) $ fsplit ! $ move ! (1 ∷ []) $ fpick ! (λ ss. fsplit3 ! $ move ! (1 ∷ []) $ fpick ! (λ are. drop ! $ fsplit ! $ fsplit ! $
         -- [the list; the hands; the doors; the strips; the words; the views; the seats' views; it is listed]
         move ! (7 ∷ []) $ fpick ! (λ r. move ! (1 ∷ 0 ∷ []) $
         use2 𝓛 (given (slice_get ss z.place ≡ Some (strip_of p z)) (‵ (ledger strip_coded.code σ no_strip ss) ⊛ ‵ (Sh r)))
         (Ledgers.sits 𝓛 strip_coded σ no_strip ss z.place r (strip_of p z)) $ learn ! (λ has. split ! $ move ! (1 ∷ []) $ drop ! $ fjoin ! $
-        let some : Has-cell t = has_cell t (Makings.has_block 𝓛 R cv holds keeps p z n t sound.1 (shown (state_of z t) sound.0 sit.0 sit.1)) in
+        let some : Has-cell t = has_cell t (Makings.has_block 𝓛 R own cv holds keeps p z n t sound.1 (shown (state_of z t) sound.0 sit.0 sit.1)) in
         -- [the list and the hands; the doors; the strips; the words; the views; the seats' views]
         by ! (cases t ss sound are.0 (subst (λ (m : ℕ). slice_get ss m ≡ Some (strip_of p z)) first has) some (Looks.at_or_not (further ss) j)))))))))
       where
@@ -185,7 +185,7 @@ module _ {M : Type 1} {𝓤 : Ura M} (𝓛 : Logic 𝓤) (R : RattleType) {V W :
             → ⟦ LH ss (length t.parts.cells) ⟧ ∗ ⟦ Drs ss ⟧ ∗ ⟦ All ss t.parts.cells ⟧ ∗ ⟦ Fixed t.parts.words ⟧ ∗ ⟦ Views t ⟧ ∗ ⟦ Sn ⟧ ⊢ ex 𝓤 F
         cases t ss sound are has some (inl got) =
             qed 𝓛 (‵ (LH ss (length t.parts.cells)) ∷ ‵ (Drs ss) ∷ ‵ (All ss t.parts.cells) ∷ ‵ (Fixed t.parts.words) ∷ ‵ (Views t) ∷ ‵ Sn ∷ []) ∵
-            move ! (0 ∷ 2 ∷ 3 ∷ 4 ∷ []) $ group ! 4 $ use1 𝓛 (raw (wand 𝓤 ⟦ Drs ss ⟧ ⟦ E ⟧)) (Offers.shuts 𝓛 R cv holds p z t ss sound are) $
+            move ! (0 ∷ 2 ∷ 3 ∷ 4 ∷ []) $ group ! 4 $ use1 𝓛 (raw (wand 𝓤 ⟦ Drs ss ⟧ ⟦ E ⟧)) (Offers.shuts 𝓛 R own cv holds p z t ss sound are) $
             move ! (1 ∷ 0 ∷ []) $ by ! (there ss got.0 got.1)
         cases t ss sound are has some (inr past) =
             qed 𝓛 (‵ (LH ss (length t.parts.cells)) ∷ ‵ (Drs ss) ∷ ‵ (All ss t.parts.cells) ∷ ‵ (Fixed t.parts.words) ∷ ‵ (Views t) ∷ ‵ Sn ∷ []) ∵ move ! (1 ∷ []) $

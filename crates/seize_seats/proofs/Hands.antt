@@ -16,10 +16,11 @@ use Rattle.seize_seats.specs.State.{State}
 use Rattle.seize_seats.specs.Seen.{seen}
 use Rattle.seize_seats.specs.Lines.{AreLaid}
 use Rattle.seize_seats.specs.Lendings.{Alone, ShownToBoth}
-use Rattle.seize_seats.specs.Owned.{ledger, had_here, BaseId, Inside, state_of}
+use Rattle.seize_seats.specs.Owned.{Pieces, ledger, had_here, BaseId, Inside, state_of}
 use Rattle.seize_seats.proofs.Ledgers as Ledgers
+use Rattle.seize_seats.specs.Cells.{Body}
 
-module _ {M : Type 1} {𝓤 : Ura M} (𝓛 : Logic 𝓤) (R : RattleType) {V W : Type 0} (cv : Coded V) (holds : State R.Denot V W → Type 0) (p : Ptr) (z : BaseId) where
+module _ {M : Type 1} {𝓤 : Ura M} (𝓛 : Logic 𝓤) (R : RattleType) (own : Pieces R.Denot) {V W : Type 0} (cv : Coded V) (holds : State R.Denot V W → Type 0) (p : Ptr) (z : BaseId) where
   abbrev Pr : Type 2
   Pr = SProp 𝓤
 
@@ -91,7 +92,7 @@ module _ {M : Type 1} {𝓤 : Ura M} (𝓛 : Logic 𝓤) (R : RattleType) {V W :
 
     -- where a value is in the hand of a call, S is not there if both seats' views show the block
     module _ (S : Fml) (shows : Shows S) (crowds : Crowds S) (t : In) (sound : holds (state_of z t) × AreLaid z.roots z.count t.parts) (i ρ : ℕ)
-        (x : R.Denot) (Z : Pr)
+        (x : Body R.Denot) (Z : Pr)
         (shown : ShownToBoth holds j v k u (suc i)) where
       by_seat : (w : ℕ × V) → Alone holds w.0 w.1 (suc i) → Sit t → (j ≡ w.0) ⊎ (j ≢ w.0) → (k ≡ w.0) ⊎ (k ≢ w.0)
           → ⟦ Led t ⟧ ∗ ⟦ Sn three_quarters w.0 w.1 ⟧ ∗ ⟦ S ⟧ ⊢ Z
@@ -102,8 +103,9 @@ module _ {M : Type 1} {𝓤 : Ura M} (𝓛 : Logic 𝓤) (R : RattleType) {V W :
           (Ledgers.sits 𝓛 cv z.views_name t.blank t.views w.0 three_quarters w.1) $
           learn ! (λ sits. absurd (alone (state_of z t) j v k u sound.0 sits ne nf at.0 at.1 shown))
 
-      pub excludes : ⟦ Led t ⟧ ∗ ⟦ had_here R cv.code holds p z ρ i x ⟧ ∗ ⟦ S ⟧ ⊢ Z
-      excludes = qed 𝓛 (‵ (Led t) ∷ ‵ (had_here R cv.code holds p z ρ i x) ∷ ‵ S ∷ []) ∵ move ! (1 ∷ []) $ fpick ! (λ w. fsplit3 ! $ drop ! $
+      pub excludes : ⟦ Led t ⟧ ∗ ⟦ had_here R own cv.code holds p z ρ i x ⟧ ∗ ⟦ S ⟧ ⊢ Z
+      excludes = qed 𝓛 (‵ (Led t) ∷ ‵ (had_here R own cv.code holds p z ρ i x) ∷ ‵ S ∷ []) ∵ move ! (1 ∷ []) $ fsplit ! $ drop ! $
+          fpick ! (λ w. fsplit3 ! $ drop ! $
           move ! (1 ∷ []) $ fpick ! (λ alone. drop ! $
           -- [three quarters; the views; the seats']
           move ! (1 ∷ 2 ∷ []) $ use2 𝓛 (given (Sit t) (‵ (Led t) ⊛ ‵ S)) (shows t) $

@@ -13,7 +13,7 @@ use denote.RattleType.{RattleType}
 use denote.RawPtr.{block_of, count_of}
 use denote.Steps.{nothing}
 use Rattle.seize_seats.specs.Seen.{seen}
-use Rattle.seize_seats.specs.Cells.{Cell, Free, block_in, blocks_in, cell_at}
+use Rattle.seize_seats.specs.Cells.{Body, Cell, Free, block_in, blocks_in, cell_at}
 use Rattle.seize_seats.specs.Lines.{Parts, memory_of, AreLaid}
 use Rattle.seize_seats.specs.Strips.{Strip, strip_coded, no_strip, further, Book, AreStrips}
 use Rattle.seize_seats.specs.Doors.{stays}
@@ -66,7 +66,7 @@ pub are_joined : (ss : List Strip) (j n : ℕ) (s : Strip) → AreStrips j ss n 
 are_joined [] j n s are first = (first ∙ are, omega (arith, are))
 are_joined (x ∷ ss) j n s are first = (are.0, are_joined ss (j + x.size) n s are.1 first)
 
-module _ {M : Type 1} {𝓤 : Ura M} (𝓛 : Logic 𝓤) (R : RattleType) (α : Lft) (δ : ℕ) (lent : ℕ → R.Denot → ℕ → ℕ → Fml) (had : ℕ → ℕ → R.Denot → Fml) where
+module _ {M : Type 1} {𝓤 : Ura M} (𝓛 : Logic 𝓤) (R : RattleType) (α : Lft) (δ : ℕ) (lent : ℕ → Body R.Denot → ℕ → ℕ → Fml) (had : ℕ → ℕ → Body R.Denot → Fml) where
   abbrev All : List Strip → List (Cell R.Denot) → Fml
   All ss cs = strips R α δ lent had ss cs
 

@@ -17,7 +17,7 @@ use Rattle.seize_seats.specs.Seen.{seen}
 use Rattle.seize_seats.specs.Cells.{Cell}
 use Rattle.seize_seats.specs.Strips.{Strip, strip_coded, no_strip, AreStrips}
 use Rattle.seize_seats.specs.Stretches.{IsEven, invariant}
-use Rattle.seize_seats.specs.Owned.{ledger, listed, BaseId, Inside, age, core_of, book_of, strip_of, IsListed, is_listed, lent_here, had_here, standing, standing_in, inner, everything, told}
+use Rattle.seize_seats.specs.Owned.{Pieces, ledger, listed, BaseId, Inside, age, core_of, book_of, strip_of, IsListed, is_listed, lent_here, had_here, standing, standing_in, inner, everything, told}
 use Rattle.seize_seats.proofs.Ledgers as Ledgers
 use Rattle.seize_seats.proofs.Stretches as Stretches
 
@@ -29,7 +29,7 @@ listed_twice 𝓛 p z = let Sh : Share → Fml = λ q. seen strip_coded.code z.s
     use1 𝓛 (‵ (Sh q₁) ⊛ ‵ (Sh q₂)) ((Ledgers.view_halves 𝓛 strip_coded z.strips_name z.place (strip_of p z)).cut q) $ split ! $
     fpack ! Share Sh q₁ $ move ! (1 ∷ []) $ fpack ! Share Sh q₂ $ done !)
 
-module _ {M : Type 1} {𝓤 : Ura M} (𝓛 : Logic 𝓤) (R : RattleType) {V W : Type 0} (cv : Coded V) (holds : State R.Denot V W → Type 0) (p : Ptr) (z : BaseId) where
+module _ {M : Type 1} {𝓤 : Ura M} (𝓛 : Logic 𝓤) (R : RattleType) (own : Pieces R.Denot) {V W : Type 0} (cv : Coded V) (holds : State R.Denot V W → Type 0) (p : Ptr) (z : BaseId) where
   open 𝓛 use {H, A}
 
   abbrev Pr : Type 2
@@ -51,16 +51,16 @@ module _ {M : Type 1} {𝓤 : Ura M} (𝓛 : Logic 𝓤) (R : RattleType) {V W :
 
   -- the invariant itself, and as it is seen by who knows of the strip
   abbrev E : Fml
-  E = everything R cv.code holds (core_of z)
+  E = everything R own cv.code holds (core_of z)
 
   abbrev I : Fml
-  I = inner R cv.code holds p z
+  I = inner R own cv.code holds p z
 
   abbrev L : Fml
   L = is_listed p z
 
   abbrev Inv : Fml
-  Inv = told R cv.code holds p z
+  Inv = told R own cv.code holds p z
 
   abbrev Book : List Strip → Fml
   Book ss = ledger strip_coded.code z.strips_name no_strip ss
@@ -69,7 +69,7 @@ module _ {M : Type 1} {𝓤 : Ura M} (𝓛 : Logic 𝓤) (R : RattleType) {V W :
   Sh q = seen strip_coded.code z.strips_name q z.place (strip_of p z)
 
   abbrev Listed : (List Strip → Type 0) → List (Cell R.Denot) → List Strip → Fml
-  Listed = listed R α z.hands_name (lent_here R cv.code holds p z) (had_here R cv.code holds p z) (book_of z)
+  Listed = listed R α z.hands_name (lent_here R own cv.code holds p z) (had_here R own cv.code holds p z) (book_of z)
 
   abbrev Any : List Strip → Type 0
   Any ss = Unit {0}
@@ -85,13 +85,13 @@ module _ {M : Type 1} {𝓤 : Ura M} (𝓛 : Logic 𝓤) (R : RattleType) {V W :
       learn ! (λ at. split ! $ move ! (1 ∷ []) $ drop ! $ fjoin ! $ fjoin ! $
       nothing ! $ fpack ! (Are (IsListed p z) t ss) (λ _. ftrue) (are.0, at) $ move ! (1 ∷ 0 ∷ 2 ∷ []) $ fjoin3 ! $
       fpack ! (List Strip) (Listed (IsListed p z) t.parts.cells) ss $ move ! (1 ∷ 0 ∷ []) $ fjoin ! $ fjoin3 ! $
-      fpack ! (Inside R.Denot V W) (standing R cv.code holds p z) t $ done !)))))
+      fpack ! (Inside R.Denot V W) (standing R own cv.code holds p z) t $ done !)))))
 
   pub goes_out : ⟦ I ⟧ ⊢ ⟦ E ⟧
   goes_out = qed 𝓛 (‵ I ∷ []) ∵ fpick ! (λ t. fsplit3 ! $ fsplit ! $ move ! (1 ∷ []) $ fpick ! (λ ss. fsplit3 ! $ move ! (1 ∷ []) $ fpick ! (λ are. drop ! $
       nothing ! $ fpack ! (Are Any t ss) (λ _. ftrue) (are.0, tt) $ move ! (1 ∷ 0 ∷ 2 ∷ []) $ fjoin3 ! $
       fpack ! (List Strip) (Listed Any t.parts.cells) ss $ move ! (1 ∷ 0 ∷ []) $ fjoin ! $ fjoin3 ! $
-      fpack ! (Inside R.Denot V W) (standing_in R cv.code holds (core_of z) Any) t $ done !)))
+      fpack ! (Inside R.Denot V W) (standing_in R own cv.code holds (core_of z) Any) t $ done !)))
 
   -- it may be told again
   pub twice : ⟦ Inv ⟧ ⊢ ⟦ Inv ⟧ ∗ ⟦ Inv ⟧

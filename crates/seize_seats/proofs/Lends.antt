@@ -26,11 +26,11 @@ use denote.Steps.{nothing}
 use Rattle.core.specs.contracts.option.Option.{the_row as OptionOf}
 use Rattle.seize_words.specs.Mem.{value_in}
 use Rattle.seize_seats.specs.State.{State}
-use Rattle.seize_seats.specs.Cells.{Cell, Has, block_in}
+use Rattle.seize_seats.specs.Cells.{Body, Cell, Has, block_in}
 use Rattle.seize_seats.specs.Seen.{shared_view, number_share_coded}
 use Rattle.seize_seats.specs.Stretches.{stretch_told, seat_shares}
 use Rattle.seize_seats.specs.Lendings.{Phase, Begins, Lasts, Over as Ended, part, due, in_phase, account, Holder, Lending, Loan, Left, span, ShownToBoth, AreShown, IsValueOfBoth, loan}
-use Rattle.seize_seats.specs.Owned.{stride, BaseId, age, IsIts, Inside, state_of, inner, words_share}
+use Rattle.seize_seats.specs.Owned.{Pieces, stride, BaseId, age, IsIts, Inside, state_of, inner, words_share}
 use Rattle.seize_seats.proofs.Cells.{block_is}
 use Rattle.seize_seats.proofs.Ledgers as Ledgers
 use Rattle.seize_seats.proofs.Numbers as Numbers
@@ -81,9 +81,9 @@ module _ {M : Type 1} {𝓤 : Ura M} (𝓛 : Logic 𝓤) where
     lasts = via 𝓤 _ (qed 𝓛 (‵ (finv Ac) ∷ ‵ Pt ∷ ‵ Due ∷ []) ∵ frame ! $ assume ! (‵ Ac) $ fpick ! (λ ph. by ! (by_phase ph)))
         (𝓛.invs.inv_acc Ac (A.lft μ s))
 
-  module _ (R : RattleType) (L : RowLaws (OptionOf R)) {V W : Type 0} (cv : Coded V) (holds : State R.Denot V W → Type 0) (keeps : V → V → W → ℕ
+  module _ (R : RattleType) (L : RowLaws (OptionOf R)) (own : Pieces R.Denot) {V W : Type 0} (cv : Coded V) (holds : State R.Denot V W → Type 0) (keeps : V → V → W → ℕ
       → Type 0) (p : Ptr) (z : BaseId) (g o : Holder V) (n : ℕ) (shown : ShownToBoth holds g.seat g.view o.seat o.view n)
-      (mine : Makings.Mine 𝓛 R cv holds keeps p z n) where
+      (mine : Makings.Mine 𝓛 R own cv holds keeps p z n) where
     abbrev α : Lft
     α = age z
 
@@ -91,10 +91,10 @@ module _ {M : Type 1} {𝓤 : Ura M} (𝓛 : Logic 𝓤) where
     O = OptionOf R
 
     abbrev I : Fml
-    I = inner R cv.code holds p z
+    I = inner R own cv.code holds p z
 
     abbrev Inv : Fml
-    Inv = Moves.Inv 𝓛 R cv holds keeps p z
+    Inv = Moves.Inv 𝓛 R own cv holds keeps p z
 
     abbrev In : Type 0
     In = Inside R.Denot V W
@@ -113,7 +113,7 @@ module _ {M : Type 1} {𝓤 : Ura M} (𝓛 : Logic 𝓤) where
 
     -- shares of both views, and both stretches
     abbrev Sn : Share → Share → Fml
-    Sn q q' = Hands.two 𝓛 R cv holds p z g.seat g.view o.seat o.view q q'
+    Sn q q' = Hands.two 𝓛 R own cv holds p z g.seat g.view o.seat o.view q q'
 
     abbrev Told : Fml
     Told = fsep (stretch_told cv.code z.views_name g.seat g.view g.stretch g.mark) (stretch_told cv.code z.views_name o.seat o.view o.stretch o.mark)
@@ -126,7 +126,7 @@ module _ {M : Type 1} {𝓤 : Ura M} (𝓛 : Logic 𝓤) where
     So x = IsValueOfBoth holds g.seat g.view o.seat o.view n x × (0 < n) × IsIts z i
 
     abbrev Sit : In → Type 0
-    Sit = Hands.Sit 𝓛 R cv holds p z g.seat g.view o.seat o.view
+    Sit = Hands.Sit 𝓛 R own cv holds p z g.seat g.view o.seat o.view
 
     abbrev Are : Type 0
     Are = AreShown R α cv.code z.views_name holds i g o
@@ -165,17 +165,17 @@ module _ {M : Type 1} {𝓤 : Ura M} (𝓛 : Logic 𝓤) where
       gives = qed 𝓛 (‵ I ∷ (‵ (Sn t t') ⊛ ‵ (part ν full_share (0, s)) ⊛ ‵ (finv Acc) ⊛ ‵ Told) ∷ []) ∵ fpick ! (λ st. fsplit3 ! $ move ! (2 ∷ []) $
           fpick ! (λ sound. drop ! $ move ! (2 ∷ []) $ split ! $ move ! (3 ∷ 0 ∷ []) $
           -- [the views; the seat's; the others; the memory]
-          use2 𝓛 (given (Sit st) (‵ (Makings.Led 𝓛 R cv holds keeps p z st) ⊛ ‵ (Sn t t')))
-          (Hands.two_show 𝓛 R cv holds p z g.seat g.view o.seat o.view t t' st) $ learn ! (λ at. split ! $ move ! (2 ∷ []) $ split3 ! $ move ! (5 ∷ []) $
+          use2 𝓛 (given (Sit st) (‵ (Makings.Led 𝓛 R own cv holds keeps p z st) ⊛ ‵ (Sn t t')))
+          (Hands.two_show 𝓛 R own cv holds p z g.seat g.view o.seat o.view t t' st) $ learn ! (λ at. split ! $ move ! (2 ∷ []) $ split3 ! $ move ! (5 ∷ []) $
           -- [the memory; the part; the account; the stretch; the views; the seat's]
-          by ! (of_any st sound at (Makings.has_block 𝓛 R cv holds keeps p z n st sound.1 (shown (state_of z st) sound.0 at.0 at.1))))))
+          by ! (of_any st sound at (Makings.has_block 𝓛 R own cv holds keeps p z n st sound.1 (shown (state_of z st) sound.0 at.0 at.1))))))
         where
-          of_cell : (st : In) (sound : Makings.Sound 𝓛 R cv holds keeps p z st) → Sit st → Makings.HasBlock 𝓛 R cv holds keeps p z n st
-              → ⟦ Moves.Ws 𝓛 R cv holds keeps p z st.parts ⟧ ∗ ⟦ part ν full_share (0, s) ⟧ ∗ ⟦ finv Acc ⟧ ∗ ⟦ Told ⟧ ∗
-              ⟦ Makings.Led 𝓛 R cv holds keeps p z st ⟧ ∗ ⟦ Sn t t' ⟧ ⊢ upd 𝓤 Gives
+          of_cell : (st : In) (sound : Makings.Sound 𝓛 R own cv holds keeps p z st) → Sit st → Makings.HasBlock 𝓛 R own cv holds keeps p z n st
+              → ⟦ Moves.Ws 𝓛 R own cv holds keeps p z st.parts ⟧ ∗ ⟦ part ν full_share (0, s) ⟧ ∗ ⟦ finv Acc ⟧ ∗ ⟦ Told ⟧ ∗
+              ⟦ Makings.Led 𝓛 R own cv holds keeps p z st ⟧ ∗ ⟦ Sn t t' ⟧ ⊢ upd 𝓤 Gives
           of_cell st sound at th =
-              let x : R.Denot = th.0 in let ws : List ℕ = th.1 in let c : Cell R.Denot = Has x ws in let cs : List (Cell R.Denot) = st.parts.cells in
-              let low = th.3 in let of = Makings.is_mine 𝓛 R cv holds keeps p z n st c mine sound.1 th.2 (λ e. absurd (cc e)) low in
+              let y : Body R.Denot = th.0 in let x : R.Denot = y.0 in let ws : List ℕ = th.1 in let c : Cell R.Denot = Has y ws in let cs : List (Cell R.Denot) = st.parts.cells in
+              let low = th.3 in let of = Makings.is_mine 𝓛 R own cv holds keeps p z n st c mine sound.1 th.2 (λ e. absurd (cc e)) low in
               let is = ap value_in (block_is z.roots z.count st.parts sound.1 n low ∙ ap block_in th.2) in
               let so : So x = ((state_of z st, sound.0, at.0, at.1, is), low, of) in
               let one : suc i ≡ n = omega (arith, low) in
@@ -184,11 +184,13 @@ module _ {M : Type 1} {𝓤 : Ura M} (𝓛 : Logic 𝓤) where
                     (sym one) shown,
                 two_or_one st at (cases_eq g.seat o.seat),
               ) in
-              qed 𝓛 (‵ (Moves.Ws 𝓛 R cv holds keeps p z st.parts) ∷ ‵ (part ν full_share (0, s)) ∷ ‵ (finv Acc) ∷ ‵ Told ∷
-              ‵ (Makings.Led 𝓛 R cv holds keeps p z st) ∷ ‵ (Sn t t') ∷ []) ∵
-              use1 𝓛 (‵ (Makings.cell_of 𝓛 R cv holds keeps p z i c) ⊛ raw (all 𝓤 (Makings.Recells 𝓛 R cv holds keeps p z st i)))
-              (Numbers.celled 𝓛 R p z (Moves.lent 𝓛 R cv holds keeps p z) (Moves.had 𝓛 R cv holds keeps p z) st.parts.words cs i c of th.2) $ split ! $
-              fsplit ! $ move ! (1 ∷ []) $ fsplit ! $ move ! (1 ∷ []) $ fsplit ! $ move ! (1 ∷ []) $ fpick ! (λ l. let a : ℕ = l.atom in
+              qed 𝓛 (‵ (Moves.Ws 𝓛 R own cv holds keeps p z st.parts) ∷ ‵ (part ν full_share (0, s)) ∷ ‵ (finv Acc) ∷ ‵ Told ∷
+              ‵ (Makings.Led 𝓛 R own cv holds keeps p z st) ∷ ‵ (Sn t t') ∷ []) ∵
+              use1 𝓛 (‵ (Makings.cell_of 𝓛 R own cv holds keeps p z i c) ⊛ raw (all 𝓤 (Makings.Recells 𝓛 R own cv holds keeps p z st i)))
+              (Numbers.celled 𝓛 R p z (Moves.lent 𝓛 R own cv holds keeps p z) (Moves.had 𝓛 R own cv holds keeps p z) st.parts.words cs i c of th.2) $ split ! $
+              fsplit ! $ move ! (1 ∷ []) $ fsplit ! $ move ! (1 ∷ []) $ fsplit ! $ move ! (1 ∷ []) $ fsplit ! $
+              -- the own words behind all else
+              move ! (1 ∷ 2 ∷ 3 ∷ 4 ∷ 5 ∷ 6 ∷ 7 ∷ 8 ∷ 9 ∷ 10 ∷ 0 ∷ []) $ fpick ! (λ l. let a : ℕ = l.atom in
               let e : Share = Share.left l.rest in let r : Share = Share.right l.rest in
               fsplit3 ! $ move ! (2 ∷ []) $ fsplit3 ! $ move ! (1 ∷ []) $ fpick ! (λ left. drop ! $
               -- [the token; the lendings; it is shared; what is due; the entry; the hand; the sign; the others; the part; the account; the stretch; the
@@ -210,21 +212,21 @@ module _ {M : Type 1} {𝓤 : Ura M} (𝓛 : Logic 𝓤) where
               use1 𝓛 (‵ (Sh x (a ∷ [])) ⊛ ‵ (Sh x (a ∷ []))) ((L (Some x) b e₀).contraction M 𝓤 𝓛 (a ∷ [])) $ split ! $ move ! (0 ∷ 2 ∷ []) $ fjoin ! $
               fpack ! (Loan V) (loan R α cv.code z.views_name holds i x b e₀) (new_loan l) $
               -- [the value; it is shared; three; e; the entry; the hand; the sign; the others; the views; the seat's]
-              move ! (4 ∷ 0 ∷ []) $ fjoin ! $ move ! (4 ∷ 0 ∷ []) $ fjoin ! $ move ! (4 ∷ 0 ∷ []) $ fjoin ! $
+              move ! (10 ∷ 0 ∷ []) $ fjoin ! $ move ! (4 ∷ 0 ∷ []) $ fjoin ! $ move ! (4 ∷ 0 ∷ []) $ fjoin ! $ move ! (4 ∷ 0 ∷ []) $ fjoin ! $
               -- [the cell; it is shared; three; e; the others; the views; the seat's]
-              move ! (0 ∷ 4 ∷ 5 ∷ []) $ use3 𝓛 (‵ I) (Makings.recell 𝓛 R cv holds keeps p z st sound i c (sym (ap block_in th.2))) $
+              move ! (0 ∷ 4 ∷ 5 ∷ []) $ use3 𝓛 (‵ I) (Makings.recell 𝓛 R own cv holds keeps p z st sound i c (sym (ap block_in th.2))) $
               frame ! $ show ! Given (x, a, e) $ check ! so $ move ! (0 ∷ 2 ∷ 1 ∷ 3 ∷ []) $ done !))
 
-          of_any : (st : In) (sound : Makings.Sound 𝓛 R cv holds keeps p z st) → Sit st
-              → Makings.HasBlock 𝓛 R cv holds keeps p z n st ⊎ Makings.HeldBlock 𝓛 R cv holds keeps p z n st
-              → ⟦ Moves.Ws 𝓛 R cv holds keeps p z st.parts ⟧ ∗ ⟦ part ν full_share (0, s) ⟧ ∗ ⟦ finv Acc ⟧ ∗ ⟦ Told ⟧ ∗
-              ⟦ Makings.Led 𝓛 R cv holds keeps p z st ⟧ ∗ ⟦ Sn t t' ⟧ ⊢ upd 𝓤 Gives
+          of_any : (st : In) (sound : Makings.Sound 𝓛 R own cv holds keeps p z st) → Sit st
+              → Makings.HasBlock 𝓛 R own cv holds keeps p z n st ⊎ Makings.HeldBlock 𝓛 R own cv holds keeps p z n st
+              → ⟦ Moves.Ws 𝓛 R own cv holds keeps p z st.parts ⟧ ∗ ⟦ part ν full_share (0, s) ⟧ ∗ ⟦ finv Acc ⟧ ∗ ⟦ Told ⟧ ∗
+              ⟦ Makings.Led 𝓛 R own cv holds keeps p z st ⟧ ∗ ⟦ Sn t t' ⟧ ⊢ upd 𝓤 Gives
           of_any st sound at (inl th) = of_cell st sound at th
-          of_any st sound at (inr h) = qed 𝓛 (‵ (Moves.Ws 𝓛 R cv holds keeps p z st.parts) ∷ ‵ (part ν full_share (0, s)) ∷ ‵ (finv Acc) ∷ ‵ Told ∷
-              ‵ (Makings.Led 𝓛 R cv holds keeps p z st) ∷ ‵ (Sn t t') ∷ []) ∵ keep ! (0 ∷ 4 ∷ 5 ∷ []) $
-              by ! (Makings.held_away 𝓛 R cv holds keeps p z n st mine sound h g.seat g.view o.seat o.view (Sn t t')
-              (Hands.two_show 𝓛 R cv holds p z g.seat g.view o.seat o.view t t')
-              (Hands.two_crowd 𝓛 R cv holds p z g.seat g.view o.seat o.view t t') (upd 𝓤 Gives) shown)
+          of_any st sound at (inr h) = qed 𝓛 (‵ (Moves.Ws 𝓛 R own cv holds keeps p z st.parts) ∷ ‵ (part ν full_share (0, s)) ∷ ‵ (finv Acc) ∷ ‵ Told ∷
+              ‵ (Makings.Led 𝓛 R own cv holds keeps p z st) ∷ ‵ (Sn t t') ∷ []) ∵ keep ! (0 ∷ 4 ∷ 5 ∷ []) $
+              by ! (Makings.held_away 𝓛 R own cv holds keeps p z n st mine sound h g.seat g.view o.seat o.view (Sn t t')
+              (Hands.two_show 𝓛 R own cv holds p z g.seat g.view o.seat o.view t t')
+              (Hands.two_crowd 𝓛 R own cv holds p z g.seat g.view o.seat o.view t t') (upd 𝓤 Gives) shown)
 
     -- ---- what is shared for the value's lifetime is shared for as long as both are borrowed
     module _ (κ : Lft) where
@@ -259,11 +261,11 @@ module _ {M : Type 1} {𝓤 : Ura M} (𝓛 : Logic 𝓤) where
       shares_of h = seat_shares cv.code z.views_name h.seat h.view h.stretch h.mark κ
 
       -- THE VALUE IS LENT
-      pub lent_to : (q : Share) → ⟦ words_share R cv.code holds p z κ ⟧ ∗ ⟦ shares_of g ⟧ ∗ ⟦ shares_of o ⟧ ∗ A.lft κ q ⊢ H.⇛ (ex 𝓤 Lent ∗ A.lft κ q)
+      pub lent_to : (q : Share) → ⟦ words_share R own cv.code holds p z κ ⟧ ∗ ⟦ shares_of g ⟧ ∗ ⟦ shares_of o ⟧ ∗ A.lft κ q ⊢ H.⇛ (ex 𝓤 Lent ∗ A.lft κ q)
       lent_to q = let q₁ : Share = Share.left q in let q₂ : Share = Share.right q in let q₃ : Share = Share.left q₂ in let q₄ : Share = Share.right q₂ in
           let q₅ : Share = Share.left q₄ in let q₆ : Share = Share.right q₄ in let q₇ : Share = Share.left q₆ in let q₈ : Share = Share.right q₆ in
           let σ : Lft = g.stretch ∷ [] in let ρ : Lft = o.stretch ∷ [] in
-          qed 𝓛 (‵ (words_share R cv.code holds p z κ) ∷ ‵ (shares_of g) ∷ ‵ (shares_of o) ∷ ‵ (flft κ q) ∷ []) ∵ updating ! $ fsplit ! $
+          qed 𝓛 (‵ (words_share R own cv.code holds p z κ) ∷ ‵ (shares_of g) ∷ ‵ (shares_of o) ∷ ‵ (flft κ q) ∷ []) ∵ updating ! $ fsplit ! $
           shr_bor_dup ! $ move ! (2 ∷ []) $ fsplit ! $ fpick ! (λ placed. drop ! $ move ! (3 ∷ []) $ fsplit3 ! $ shr_bor_dup ! $
           move ! (7 ∷ []) $ fsplit3 ! $ shr_bor_dup ! $
           -- [ρ, twice; its view; its stretch; σ, twice; its view; its stretch; the invariant; α, twice; the token]
@@ -294,7 +296,7 @@ module _ {M : Type 1} {𝓤 : Ura M} (𝓛 : Logic 𝓤) where
           -- [the account, twice; the part; the two ways back; α's token; ρ's view is open; the view; σ's view is open; the view; ρ is open; σ is open; α is
           -- open; ρ; its stretch; σ; its stretch; the invariant; α]
           move ! (9 ∷ 7 ∷ []) $ fjoin ! $ move ! (15 ∷ 13 ∷ []) $ fjoin ! $ move ! (1 ∷ 4 ∷ 2 ∷ 0 ∷ []) $ group ! 4 $ move ! (12 ∷ 4 ∷ 0 ∷ []) $
-          use3 𝓛 (later (items (given_item ν c t t') ⊛ ‵ (flft α r₁))) (Moves.reach 𝓛 R cv holds keeps p z r₁ (Asks ν c t t') (ex 𝓤 (Given ν c t t'))
+          use3 𝓛 (later (items (given_item ν c t t') ⊛ ‵ (flft α r₁))) (Moves.reach 𝓛 R own cv holds keeps p z r₁ (Asks ν c t t') (ex 𝓤 (Given ν c t t'))
           (gives ν c t t')) $
           await ! tt $ split ! $ pick ! (λ u. learn ! (λ so. let x : R.Denot = u.0 in let a : ℕ = u.1 in let e : Share = u.2 in split3 ! $ move ! (2 ∷ []) $
           split ! $

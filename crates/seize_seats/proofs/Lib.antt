@@ -4,13 +4,17 @@ pub mod Rows
 pub mod Ledgers
 pub mod Stretches
 pub mod Lendings
+pub mod Plain
+pub mod Visits
 pub mod Beside
 pub mod Strips
 pub mod Known
 pub mod Numbers
+pub mod Pieces
 pub mod Moves
 pub mod Hands
 pub mod Makings
+pub mod OwnWords
 pub mod Regains
 pub mod Rewrites
 pub mod Lends

@@ -18,7 +18,7 @@ use Rattle.seize_seats.specs.Cells.{Cell}
 use Rattle.seize_seats.specs.Strips.{Strip, strip_coded, further}
 use Rattle.seize_seats.specs.Doors.{before, block_bytes, IsFurther, right_to, stays, behind, door}
 use Rattle.seize_seats.specs.Stretches.{IsEven}
-use Rattle.seize_seats.specs.Owned.{doors_of, listed, BaseId, Inside, age, core_of, book_of, strip_of, strip_told, IsPlaced, stride, lent_here, had_here, standing_in, everything, told}
+use Rattle.seize_seats.specs.Owned.{Pieces, doors_of, listed, BaseId, Inside, age, core_of, book_of, strip_of, strip_told, IsPlaced, stride, lent_here, had_here, standing_in, everything, told}
 use Rattle.seize_seats.proofs.Stretches as Stretches
 use Rattle.seize_seats.proofs.Doors as Doors
 use Rattle.seize_seats.proofs.Plots as Plots
@@ -33,7 +33,7 @@ at_or_not (s ∷ ss) (suc i) = up (at_or_not ss i)
     up (inl has) = inl has
     up (inr few) = inr (omega (arith, few))
 
-module _ {M : Type 1} {𝓤 : Ura M} (𝓛 : Logic 𝓤) (R : RattleType) {V W : Type 0} (cv : Coded V) (holds : State R.Denot V W → Type 0) (p : Ptr) (z : BaseId) where
+module _ {M : Type 1} {𝓤 : Ura M} (𝓛 : Logic 𝓤) (R : RattleType) (own : Pieces R.Denot) {V W : Type 0} (cv : Coded V) (holds : State R.Denot V W → Type 0) (p : Ptr) (z : BaseId) where
   open 𝓛 use {H, A}
 
   abbrev Pr : Type 2
@@ -54,10 +54,10 @@ module _ {M : Type 1} {𝓤 : Ura M} (𝓛 : Logic 𝓤) (R : RattleType) {V W :
   α = age z
 
   abbrev E : Fml
-  E = everything R cv.code holds (core_of z)
+  E = everything R own cv.code holds (core_of z)
 
   abbrev Inv : Fml
-  Inv = told R cv.code holds p z
+  Inv = told R own cv.code holds p z
 
   abbrev b : ℕ
   b = block_of z.doors
@@ -75,7 +75,7 @@ module _ {M : Type 1} {𝓤 : Ura M} (𝓛 : Logic 𝓤) (R : RattleType) {V W :
   Any ss = Unit {0}
 
   abbrev Listed : List (Cell R.Denot) → List Strip → Fml
-  Listed = listed R α z.hands_name (lent_here R cv.code holds p z) (had_here R cv.code holds p z) (book_of z) Any
+  Listed = listed R α z.hands_name (lent_here R own cv.code holds p z) (had_here R own cv.code holds p z) (book_of z) Any
 
   -- all but the doors
   abbrev Rest : List Strip → Pr
@@ -89,7 +89,7 @@ module _ {M : Type 1} {𝓤 : Ura M} (𝓛 : Logic 𝓤) (R : RattleType) {V W :
       -- [the doors; the list and the hands; the strips; the words; the views; the facts]
       show ! Apart ss $ frame ! $ assume ! (‵ (Drs ss)) $ move ! (1 ∷ 0 ∷ []) $ fjoin ! $ fjoin ! $
       fpack ! (List Strip) (Listed t.parts.cells) ss $ move ! (1 ∷ 0 ∷ []) $ fjoin ! $ fjoin3 ! $
-      fpack ! (Inside R.Denot V W) (standing_in R cv.code holds (core_of z) Any) t $ done !))
+      fpack ! (Inside R.Denot V W) (standing_in R own cv.code holds (core_of z) Any) t $ done !))
 
   -- one door
   module _ (q : Share) (j e : ℕ) (few : j < 32) (at : e ≡ j * 8 + o) where

@@ -1,7 +1,7 @@
 -- How a block comes and goes: a number is claimed, its place taken out, a block published, taken away, and its number is free again. Assumes `Logic`.
 use Rattle.std.specs.Prelude.{slice_get, slice_set}
 use Rattle.std.proofs.Common.{◌≡◌, ◌⊎◌, ℕ, zero, suc, ◌+◌, ◌-◌, ◌*◌, ◌^◌, ◌<◌, ◌≤◌, List, [], ◌∷◌, length, refl, sym, ap, ◌∙◌, subst, arith, inl, inr, Option, Some, None, Ok}
-use Rattle.std.specs.Prelude.{bit_or, IsSome}
+use Rattle.std.specs.Prelude.{bit_or, IsSome, replicate}
 use seplogic.Ra.Ura.{Ura}
 use base.Fraction.{full_share}
 use base.Share.{quarter, three_quarters}
@@ -21,9 +21,9 @@ use Rattle.seize_words.specs.Op as Op
 use Rattle.seize_words.specs.declared.block.Block.{Block}
 use Rattle.seize_seats.specs.State.{State, Goes, Allows}
 use Rattle.seize_seats.specs.Lendings.{ShownToBoth}
-use Rattle.seize_seats.specs.Cells.{Cell, Free, Claimed, Out, Has, Held, block_in, blocks_in, cell_at, sign_of}
+use Rattle.seize_seats.specs.Cells.{Body, Cell, Free, Claimed, Out, Has, Held, block_in, blocks_in, cell_at, sign_of}
 use Rattle.seize_seats.specs.Lines.{Parts, memory_of, AreLaid}
-use Rattle.seize_seats.specs.Owned.{fact, ledger, claim_owns, Hand, hand_coded, resting, busy, held, zeros, row, stride, hand, inside, offered, lent_here, BaseId, age, IsIts, Inside, state_of, standing, inner}
+use Rattle.seize_seats.specs.Owned.{Pieces, fact, ledger, claim_owns, Hand, hand_coded, resting, busy, held, zeros, row, stride, hand, inside, offered, lent_here, BaseId, age, IsIts, Inside, state_of, standing, inner}
 use Rattle.seize_seats.proofs.Cells.{recelled, laid_same, laid_with, block_is, blocks_made, blocks_set, cell_beyond}
 use Rattle.seize_seats.proofs.Numbers as Numbers
 use Rattle.seize_seats.proofs.Ledgers as Ledgers
@@ -31,7 +31,7 @@ use Rattle.seize_seats.proofs.Moves as Moves
 use Rattle.seize_seats.proofs.Hands as Hands
 use Rattle.seize_seats.proofs.Known as Known
 
-module _ {M : Type 1} {𝓤 : Ura M} (𝓛 : Logic 𝓤) (R : RattleType) {V W : Type 0} (cv : Coded V) (holds : State R.Denot V W → Type 0) (keeps : V → V → W → ℕ
+module _ {M : Type 1} {𝓤 : Ura M} (𝓛 : Logic 𝓤) (R : RattleType) (own : Pieces R.Denot) {V W : Type 0} (cv : Coded V) (holds : State R.Denot V W → Type 0) (keeps : V → V → W → ℕ
     → Type 0) (p : Ptr) (z : BaseId) where
   open 𝓛 use {H, A}
 
@@ -53,10 +53,10 @@ module _ {M : Type 1} {𝓤 : Ura M} (𝓛 : Logic 𝓤) (R : RattleType) {V W :
   α = age z
 
   abbrev I : Fml
-  I = inner R cv.code holds p z
+  I = inner R own cv.code holds p z
 
   abbrev Inv : Fml
-  Inv = Moves.Inv 𝓛 R cv holds keeps p z
+  Inv = Moves.Inv 𝓛 R own cv holds keeps p z
 
   abbrev In : Type 0
   In = Inside R.Denot V W
@@ -75,16 +75,16 @@ module _ {M : Type 1} {𝓤 : Ura M} (𝓛 : Logic 𝓤) (R : RattleType) {V W :
   Led t = ledger cv.code z.views_name t.blank t.views
 
   abbrev seat : ℕ → V → Fml
-  seat = Moves.seat 𝓛 R cv holds keeps p z
+  seat = Moves.seat 𝓛 R own cv holds keeps p z
 
   abbrev gone_on : ℕ → (V → Type 0) → Fml
-  gone_on = Moves.gone_on 𝓛 R cv holds keeps p z
+  gone_on = Moves.gone_on 𝓛 R own cv holds keeps p z
 
-  abbrev pub lent : ℕ → R.Denot → ℕ → ℕ → Fml
-  lent = lent_here R cv.code holds p z
+  abbrev pub lent : ℕ → Body R.Denot → ℕ → ℕ → Fml
+  lent = lent_here R own cv.code holds p z
 
-  abbrev had : ℕ → ℕ → R.Denot → Fml
-  had = Moves.had 𝓛 R cv holds keeps p z
+  abbrev had : ℕ → ℕ → Body R.Denot → Fml
+  had = Moves.had 𝓛 R own cv holds keeps p z
 
   abbrev Ws : List ℕ → List (Cell R.Denot) → Fml
   Ws = Numbers.Ws 𝓛 R p z lent had
@@ -103,14 +103,14 @@ module _ {M : Type 1} {𝓤 : Ura M} (𝓛 : Logic 𝓤) (R : RattleType) {V W :
   contents i ws x = inside R α z.hands_name b (nth i * 40 + o) (block_of z.values) (nth i * stride R + count_of z.values) ws x
 
   -- the same of a block, whose value can be lent
-  abbrev pub offers : ℕ → List ℕ → R.Denot → Fml
+  abbrev pub offers : ℕ → List ℕ → Body R.Denot → Fml
   offers i ws x = offered R α z.hands_name lent had b (nth i * 40 + o) (block_of z.values) (nth i * stride R + count_of z.values) i ws x
 
   abbrev pub Sound : In → Type 0
   Sound t = holds (state_of z t) × AreLaid z.roots z.count t.parts
 
   abbrev At_inside : In → Fml
-  At_inside = standing R cv.code holds p z
+  At_inside = standing R own cv.code holds p z
 
   module _ (t : In) (sound : Sound t) where
     -- another cell with the same block
@@ -180,7 +180,7 @@ module _ {M : Type 1} {𝓤 : Ura M} (𝓛 : Logic 𝓤) (R : RattleType) {V W :
         use3 𝓛 (‵ I) (recell t sound i Claimed (sym (ap block_in is))) $ keep ! (0 ∷ 1 ∷ []) $ done !)
 
     pub claims : ⟦ Inv ⟧ ∗ (A.lft α q ∗ emp 𝓤) ⊢ asks 𝓛 (block_ptr b e) f always (λ n. fsep (flft α q) (claim_owns z.hands_name i n))
-    claims = Known.stepped 𝓛 R cv holds p z q b e f (claimed i) (emp 𝓤) (opens (emp 𝓤) (upd 𝓤 (ex 𝓤 Li)) i lt grants)
+    claims = Known.stepped 𝓛 R own cv holds p z q b e f (claimed i) (emp 𝓤) (opens (emp 𝓤) (upd 𝓤 (ex 𝓤 Li)) i lt grants)
 
   pub same_hand : (i : ℕ) (h w : Hand) → ⟦ hands quarter i w ⟧ ∗ ⟦ hands three_quarters i h ⟧
       ⊢ guard 𝓤 (w ≡ h) (⟦ hands quarter i w ⟧ ∗ ⟦ hands three_quarters i h ⟧)
@@ -299,53 +299,56 @@ module _ {M : Type 1} {𝓤 : Ura M} (𝓛 : Logic 𝓤) (R : RattleType) {V W :
     returns t sound (Held ρ s x ws) is = none_of_theirs t i (busy e) (Held ρ s x ws) ⟦ contents i zeros None ⟧ (upd 𝓤 (ex 𝓤 Lf)) (held_is_not_busy ρ s e)
 
     pub frees : ⟦ Inv ⟧ ∗ (A.lft α q ∗ Returning) ⊢ asks 𝓛 (block_ptr b k) g always (λ n. fsep (flft α q) (due n))
-    frees = Known.stepped 𝓛 R cv holds p z q b k g due Returning (opens Returning (upd 𝓤 (ex 𝓤 Lf)) i lt returns)
+    frees = Known.stepped 𝓛 R own cv holds p z q b k g due Returning (opens Returning (upd 𝓤 (ex 𝓤 Lf)) i lt returns)
 
   abbrev back : (id : ℕ) (v : V) (t : In) (s : Parts R.Denot) (so : V → Type 0) → AreLaid z.roots z.count s → slice_get t.views id ≡ Some v
       → Goes holds keeps (state_of z t) (memory_of z.roots s) id so → ⟦ Ws s.words s.cells ⟧ ∗ ⟦ Led t ⟧ ∗ ⟦ seat id v ⟧ ⊢ upd 𝓤 (⟦ I ⟧ ∗ ⟦ gone_on id so ⟧)
-  back = Moves.back 𝓛 R cv holds keeps p z
+  back = Moves.back 𝓛 R own cv holds keeps p z
 
   abbrev Stands : ℕ → V → In → Type 0
-  Stands = Moves.Stands 𝓛 R cv holds keeps p z
+  Stands = Moves.Stands 𝓛 R own cv holds keeps p z
 
   -- the cell of a number, as a seat sees it
   pub opens_seated : (id : ℕ) (v : V) (X Z : Pr)
       → ((t : In) (g : Stands id v t) → ⟦ Ws t.parts.words t.parts.cells ⟧ ∗ ⟦ Led t ⟧ ∗ ⟦ seat id v ⟧ ∗ X ⊢ Z) → ⟦ I ⟧ ∗ (⟦ seat id v ⟧ ∗ X) ⊢ Z
   opens_seated id v X Z then = qed 𝓛 (‵ I ∷ (‵ (seat id v) ⊛ raw X) ∷ []) ∵ move ! (1 ∷ []) $ split ! $ move ! (2 ∷ 0 ∷ []) $
-      use2 𝓛 (Moves.opening 𝓛 R cv holds keeps p z id v) (Moves.opened 𝓛 R cv holds keeps p z id v) $ pick ! (λ t. learn ! (λ g. split3 ! $ by ! (then t g)))
+      use2 𝓛 (Moves.opening 𝓛 R own cv holds keeps p z id v) (Moves.opened 𝓛 R own cv holds keeps p z id v) $ pick ! (λ t. learn ! (λ g. split3 ! $ by ! (then t g)))
 
   -- ---- A BLOCK IS MADE of a value in its place
-  module _ (id : ℕ) (v : V) (i : ℕ) (e : Share) (x : R.Denot) (so : Op.Out R.Denot → V
-      → Type 0) (lt : IsIts z i) (small : i + 1 < 2 ^ 53) (law : Allows holds keeps id v (Make x 0) so) where
+  module _ (id : ℕ) (v : V) (i : ℕ) (e : Share) (x : R.Denot) (words : ℕ) (so : Op.Out R.Denot → V
+      → Type 0) (lt : IsIts z i) (small : i + 1 < 2 ^ 53) (law : Allows holds keeps id v (Make x words) so) where
+    abbrev pub body : Body R.Denot
+    body = (x, replicate words 0)
+
     abbrev d : Cell R.Denot
-    d = Has x zeros
+    d = Has body zeros
 
     abbrev Published : Pr
     Published = ⟦ I ⟧ ∗ (⟦ gone_on id (so (Made (Ok (i + 1)))) ⟧ ∗ ⟦ flft α e ⟧)
 
     abbrev Ready : Pr
-    Ready = ⟦ hands three_quarters i (busy e) ⟧ ∗ ⟦ offers i zeros x ⟧
+    Ready = ⟦ hands three_quarters i (busy e) ⟧ ∗ ⟦ offers i zeros body ⟧
 
     made : (t : In) (g : Stands id v t) → i < length t.parts.cells → block_in (cell_at t.parts.cells i) ≡ None
         → (n : ℕ) × AreLaid z.roots z.count (recelled z.roots z.count t.parts g.1 i d n)
         × Goes holds keeps (state_of z t) (memory_of z.roots (recelled z.roots z.count t.parts g.1 i d n)) id (so (Made (Ok (i + 1))))
     made t g has none = let laid = g.1 in let cs : List (Cell R.Denot) = t.parts.cells in let same : i + 1 - 1 ≡ i = omega arith in
-        let m = blocks_made t.parts.given (i + 1) cs (fresh x 0) d refl laid.within (omega arith) (omega (arith, has)) laid.rest in
+        let m = blocks_made t.parts.given (i + 1) cs (fresh x words) d refl laid.within (omega arith) (omega (arith, has)) laid.rest in
         let mo : Mem R.Denot = memory_of z.roots t.parts in
         let free : IsFreeNumber mo (i + 1) =
         (block_is z.roots z.count t.parts laid (i + 1) (omega arith) ∙ ap (λ (k : ℕ). block_in (cell_at cs k)) same ∙ none, omega arith) in
-        let is : memory_of z.roots (recelled z.roots z.count t.parts laid i d m.0) ≡ after mo (Make x 0) (Made (Ok (i + 1))) =
+        let is : memory_of z.roots (recelled z.roots z.count t.parts laid i d m.0) ≡ after mo (Make x words) (Made (Ok (i + 1))) =
         ap (λ (l : List (Option (Block R.Denot))). record mo { blocks = l }) (ap (λ (k : ℕ). blocks_in m.0 (slice_set cs k d)) (sym same) ∙ m.4) in (
           m.0,
           laid_with z.roots z.count t.parts laid i d m.0 m.1 m.3 (inr (let h = m.2 in omega (arith, h))) (λ y q.
-              let same : fresh x 0 ≡ y = cc q in sym (ap (λ (l : Block R.Denot). length l.entry) same)),
+              let same : fresh x words ≡ y = cc q in sym (ap (λ (l : Block R.Denot). length l.entry) same)),
           (law (state_of z t) g.0 g.2).1 (Made (Ok (i + 1))) (memory_of z.roots (recelled z.roots z.count t.parts laid i d m.0)) ((free, small), is),
         )
 
     another : (t : In) (c : Cell R.Denot) → IsAnothers (busy e) c
         → ⟦ cell_of i c ⟧ ∗ all 𝓤 (Recells t i) ∗ ⟦ Led t ⟧ ∗ ⟦ seat id v ⟧ ∗ Ready ⊢ upd 𝓤 Published
     another t c ne = let Z : Pr = upd 𝓤 Published in
-        qed 𝓛 (‵ (cell_of i c) ∷ raw (all 𝓤 (Recells t i)) ∷ ‵ (Led t) ∷ ‵ (seat id v) ∷ (‵ (hands three_quarters i (busy e)) ⊛ ‵ (offers i zeros x)) ∷ []) ∵
+        qed 𝓛 (‵ (cell_of i c) ∷ raw (all 𝓤 (Recells t i)) ∷ ‵ (Led t) ∷ ‵ (seat id v) ∷ (‵ (hands three_quarters i (busy e)) ⊛ ‵ (offers i zeros body)) ∷ []) ∵
         move ! (4 ∷ []) $ split ! $ move ! (2 ∷ 0 ∷ []) $ use2 𝓛 (raw Z) (not_theirs i (busy e) c Z ne) $ keep ! (0 ∷ []) $ done !
 
     puts : (t : In) (g : Stands id v t) (c : Cell R.Denot) → i < length t.parts.cells → cell_at t.parts.cells i ≡ c
@@ -355,7 +358,7 @@ module _ {M : Type 1} {𝓤 : Ura M} (𝓛 : Logic 𝓤) (R : RattleType) {V W :
     puts t g Claimed in_it is = another t Claimed (λ same. busy_is_not e (sym same))
     puts t g (Out s) in_it is = let r = made t g in_it (ap block_in is) in let cs : List (Cell R.Denot) = slice_set t.parts.cells i d in let ws : List ℕ = t.parts.words in
         qed 𝓛 (‵ (cell_of i (Out s)) ∷ raw (all 𝓤 (Recells t i)) ∷ ‵ (Led t) ∷ ‵ (seat id v) ∷
-        (‵ (hands three_quarters i (busy e)) ⊛ ‵ (offers i zeros x)) ∷ []) ∵
+        (‵ (hands three_quarters i (busy e)) ⊛ ‵ (offers i zeros body)) ∷ []) ∵
         move ! (4 ∷ []) $ split ! $ move ! (2 ∷ []) $ fsplit ! $ move ! (1 ∷ []) $ fsplit ! $ move ! (0 ∷ 3 ∷ []) $
         -- [the hand, by two; the share; the sign; the contents; the others; the views; the seat]
         use2 𝓛 (given (busy s ≡ busy e) (‵ (hands quarter i (busy s)) ⊛ ‵ (hands three_quarters i (busy e)))) (same_hand i (busy e) (busy s)) $
@@ -383,11 +386,11 @@ module _ {M : Type 1} {𝓤 : Ura M} (𝓛 : Logic 𝓤) (R : RattleType) {V W :
 
   -- a block that has a value is there
   abbrev pub HasBlock : ℕ → In → Type 0
-  HasBlock n t = (x : R.Denot) × (ws : List ℕ) × (cell_at t.parts.cells (n - 1) ≡ Has x ws) × (0 < n)
+  HasBlock n t = (x : Body R.Denot) × (ws : List ℕ) × (cell_at t.parts.cells (n - 1) ≡ Has x ws) × (0 < n)
 
   -- or a call has its value in its hand
   abbrev pub HeldBlock : ℕ → In → Type 0
-  HeldBlock n t = (ρ : ℕ) × (s : Share) × (x : R.Denot) × (ws : List ℕ) × (cell_at t.parts.cells (n - 1) ≡ Held ρ s x ws) × (0 < n)
+  HeldBlock n t = (ρ : ℕ) × (s : Share) × (x : Body R.Denot) × (ws : List ℕ) × (cell_at t.parts.cells (n - 1) ≡ Held ρ s x ws) × (0 < n)
 
   pub has_block : (n : ℕ) (t : In) → AreLaid z.roots z.count t.parts → IsSome (value_at (memory_of z.roots t.parts) n) → HasBlock n t ⊎ HeldBlock n t
   has_block n t laid can = let low = numbered n can in
@@ -413,28 +416,28 @@ module _ {M : Type 1} {𝓤 : Ura M} (𝓛 : Logic 𝓤) (R : RattleType) {V W :
   is_mine n t c mine laid is ne low = let lt = cell_beyond t.parts.cells (n - 1) c is ne in let few = laid.counted in mine low (omega (arith, lt, few, low))
 
   -- that is of no block which the views of other seats show
-  pub held_away : (n : ℕ) (t : In) → Mine n → Sound t → HeldBlock n t → (j : ℕ) (v : V) (k : ℕ) (u : V) (S : Fml) → Hands.Shows 𝓛 R cv holds p z j v k u S
-      → Hands.Crowds 𝓛 R cv holds p z j v k u S → (Z : Pr) → ShownToBoth holds j v k u n
+  pub held_away : (n : ℕ) (t : In) → Mine n → Sound t → HeldBlock n t → (j : ℕ) (v : V) (k : ℕ) (u : V) (S : Fml) → Hands.Shows 𝓛 R own cv holds p z j v k u S
+      → Hands.Crowds 𝓛 R own cv holds p z j v k u S → (Z : Pr) → ShownToBoth holds j v k u n
       → ⟦ Ws t.parts.words t.parts.cells ⟧ ∗ ⟦ Led t ⟧ ∗ ⟦ S ⟧ ⊢ Z
   held_away n t mine sound h j v k u S shows crowds Z shown =
-      let i : ℕ = n - 1 in let ρ : ℕ = h.0 in let x : R.Denot = h.2 in let ws : List ℕ = h.3 in let c : Cell R.Denot = Held ρ h.1 x ws in let low = h.5 in
+      let i : ℕ = n - 1 in let ρ : ℕ = h.0 in let x : Body R.Denot = h.2 in let ws : List ℕ = h.3 in let c : Cell R.Denot = Held ρ h.1 x ws in let low = h.5 in
       let cs : List (Cell R.Denot) = t.parts.cells in let of = is_mine n t c mine sound.1 h.4 (λ e. absurd (cc e)) low in
       let one : n ≡ suc i = omega (arith, low) in let here : ShownToBoth holds j v k u (suc i) = subst (λ (m : ℕ). ShownToBoth holds j v k u m) one shown in
       qed 𝓛 (‵ (Ws t.parts.words cs) ∷ ‵ (Led t) ∷ ‵ S ∷ []) ∵
       use1 𝓛 (‵ (cell_of i c) ⊛ raw (all 𝓤 (Recells t i))) (Numbers.celled 𝓛 R p z lent had t.parts.words cs i c of h.4) $ split ! $
       fsplit ! $ move ! (1 ∷ []) $ fsplit3 ! $ move ! (2 ∷ []) $ fsplit ! $
       -- [the share; who has it; the hand; the entry; the sign; the others; the views; the seats']
-      keep ! (6 ∷ 1 ∷ 7 ∷ []) $ by ! (Hands.excludes 𝓛 R cv holds p z j v k u S shows crowds t sound i ρ x Z here)
+      keep ! (6 ∷ 1 ∷ 7 ∷ []) $ by ! (Hands.excludes 𝓛 R own cv holds p z j v k u S shows crowds t sound i ρ x Z here)
 
   -- ---- A BLOCK IS TAKEN AWAY, and its place is taken out for a share of the lifetime
   module _ (id : ℕ) (v : V) (n : ℕ) (e : Share) (so : Op.Out R.Denot → V → Type 0) (law : Allows holds keeps id v (Take n) so) (mine : Mine n) where
-    abbrev pub Taking : R.Denot × List ℕ → Fml
+    abbrev pub Taking : Body R.Denot × List ℕ → Fml
     Taking u =
         fsep (fact ((0 < n) × IsIts z (n - 1) × (length u.1 ≡ 4)))
-        (fsep (gone_on id (so (Taken u.0))) (fsep (hands three_quarters (n - 1) (busy e)) (offers (n - 1) u.1 u.0)))
+        (fsep (gone_on id (so (Taken u.0.0))) (fsep (hands three_quarters (n - 1) (busy e)) (offers (n - 1) u.1 u.0)))
 
     abbrev TakenOut : Pr
-    TakenOut = ⟦ I ⟧ ∗ ⟦ fex (R.Denot × List ℕ) Taking ⟧
+    TakenOut = ⟦ I ⟧ ∗ ⟦ fex (Body R.Denot × List ℕ) Taking ⟧
 
     -- the block is there
     abbrev There : In → Type 0
@@ -444,11 +447,11 @@ module _ {M : Type 1} {𝓤 : Ura M} (𝓛 : Logic 𝓤) (R : RattleType) {V W :
     left t g = recelled z.roots z.count t.parts g.1 (n - 1) (Out e) t.parts.given
 
     taken : (t : In) (g : Stands id v t) (th : There t) → AreLaid z.roots z.count (left t g)
-        × Goes holds keeps (state_of z t) (memory_of z.roots (left t g)) id (so (Taken th.0))
+        × Goes holds keeps (state_of z t) (memory_of z.roots (left t g)) id (so (Taken th.0.0))
     taken t g th = let mo : Mem R.Denot = memory_of z.roots t.parts in
-        let has : value_at mo n ≡ Some th.0 = ap value_in (block_is z.roots z.count t.parts g.1 n th.3 ∙ ap block_in th.2) in (
+        let has : value_at mo n ≡ Some th.0.0 = ap value_in (block_is z.roots z.count t.parts g.1 n th.3 ∙ ap block_in th.2) in (
           laid_with z.roots z.count t.parts g.1 (n - 1) (Out e) t.parts.given (omega arith) g.1.within (inl refl) (λ x q. absurd (cc q)),
-          (law (state_of z t) g.0 g.2).1 (Taken th.0) (memory_of z.roots (left t g))
+          (law (state_of z t) g.0 g.2).1 (Taken th.0.0) (memory_of z.roots (left t g))
               (has, ap (λ (l : List (Option (Block R.Denot))). record mo { blocks = l }) (blocks_set t.parts.given t.parts.cells (n - 1) (Out e))),
         )
 
@@ -456,7 +459,7 @@ module _ {M : Type 1} {𝓤 : Ura M} (𝓛 : Logic 𝓤) (R : RattleType) {V W :
     goes t g th = let cs : List (Cell R.Denot) = t.parts.cells in let i : ℕ = n - 1 in
         let d : Cell R.Denot = Out e in let ds : List (Cell R.Denot) = slice_set cs i d in let ws : List ℕ = t.parts.words in
         let r = taken t g th in
-        let told : V → Type 0 = so (Taken th.0) in
+        let told : V → Type 0 = so (Taken th.0.0) in
         let of = is_mine n t (Has th.0 th.1) mine g.1 th.2 (λ q. absurd (cc q)) th.3 in
         let facts : (0 < n) × IsIts z i × (length th.1 ≡ 4) = (th.3, of, g.1.fours i _ (ap block_in th.2)) in
         qed 𝓛 (‵ (Ws ws cs) ∷ ‵ (Led t) ∷ ‵ (seat id v) ∷ ‵ (flft α e) ∷ []) ∵
@@ -474,7 +477,7 @@ module _ {M : Type 1} {𝓤 : Ura M} (𝓛 : Logic 𝓤) (R : RattleType) {V W :
         settle 𝓛 TakenOut (‵ I ⊛ ‵ (gone_on id told)) $ split ! $ suffices ! _ (upd_i 𝓤 TakenOut) $ frame ! $
         -- [the seat; three quarters; the contents]
         move ! (1 ∷ 2 ∷ []) $ fjoin ! $ move ! (1 ∷ 0 ∷ []) $ fjoin ! $
-        nothing ! $ fpack ! ((0 < n) × IsIts z i × (length th.1 ≡ 4)) (λ _. ftrue) facts $ fjoin ! $ fpack ! (R.Denot × List ℕ) Taking (th.0, th.1) $
+        nothing ! $ fpack ! ((0 < n) × IsIts z i × (length th.1 ≡ 4)) (λ _. ftrue) facts $ fjoin ! $ fpack ! (Body R.Denot × List ℕ) Taking (th.0, th.1) $
         done !
 
     -- The block is there, or somebody has its value in the hand: then no other seat's view shows it.
@@ -486,5 +489,5 @@ module _ {M : Type 1} {𝓤 : Ura M} (𝓛 : Logic 𝓤) (R : RattleType) {V W :
         by t g (inl th) = goes t g th
         by t g (inr h) = let Z : Pr = upd 𝓤 TakenOut in
             qed 𝓛 (‵ (Ws t.parts.words t.parts.cells) ∷ ‵ (Led t) ∷ ‵ (seat id v) ∷ ‵ (flft α e) ∷ []) ∵ keep ! (0 ∷ 1 ∷ 2 ∷ []) $
-            types.Kit.by ! (held_away n t mine (g.0, g.1) h id v id v (seat id v) (Hands.one_shows 𝓛 R cv holds p z id v id v three_quarters refl refl)
-            (Hands.one_crowds 𝓛 R cv holds p z id v id v three_quarters refl) Z (λ s so at _. (law s so at).0))
+            types.Kit.by ! (held_away n t mine (g.0, g.1) h id v id v (seat id v) (Hands.one_shows 𝓛 R own cv holds p z id v id v three_quarters refl refl)
+            (Hands.one_crowds 𝓛 R own cv holds p z id v id v three_quarters refl) Z (λ s so at _. (law s so at).0))

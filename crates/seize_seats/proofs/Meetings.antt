@@ -14,11 +14,11 @@ use denote.RawPtr.{Ptr}
 use denote.Steps.{nothing}
 use Rattle.seize_seats.specs.State.{State, Meets}
 use Rattle.seize_seats.specs.Lines.{AreLaid}
-use Rattle.seize_seats.specs.Owned.{fact, ledger, BaseId, Inside, state_of, standing, inner, words_share}
+use Rattle.seize_seats.specs.Owned.{Pieces, fact, ledger, BaseId, Inside, state_of, standing, inner, words_share}
 use Rattle.seize_seats.proofs.Ledgers as Ledgers
 use Rattle.seize_seats.proofs.Moves as Moves
 
-module _ {M : Type 1} {𝓤 : Ura M} (𝓛 : Logic 𝓤) (R : RattleType) {V W : Type 0} (cv : Coded V) (holds : State R.Denot V W → Type 0) (keeps : V → V → W → ℕ
+module _ {M : Type 1} {𝓤 : Ura M} (𝓛 : Logic 𝓤) (R : RattleType) (own : Pieces R.Denot) {V W : Type 0} (cv : Coded V) (holds : State R.Denot V W → Type 0) (keeps : V → V → W → ℕ
     → Type 0) (p : Ptr) (z : BaseId) (i : ℕ) (v : V) (j : ℕ) (u : V) (so : V → V → Type 0) (law : Meets holds i v j u so) where
   open 𝓛 use {H, A}
 
@@ -37,16 +37,16 @@ module _ {M : Type 1} {𝓤 : Ura M} (𝓛 : Logic 𝓤) (R : RattleType) {V W :
   infix 26 ◌⊢◌
   infixr 35 ◌∗◌
   abbrev I : Fml
-  I = inner R cv.code holds p z
+  I = inner R own cv.code holds p z
 
   abbrev In : Type 0
   In = Inside R.Denot V W
 
   abbrev seat : ℕ → V → Fml
-  seat = Moves.seat 𝓛 R cv holds keeps p z
+  seat = Moves.seat 𝓛 R own cv holds keeps p z
 
   abbrev Ws : In → Fml
-  Ws t = Moves.Ws 𝓛 R cv holds keeps p z t.parts
+  Ws t = Moves.Ws 𝓛 R own cv holds keeps p z t.parts
 
   abbrev Led : V → List V → Fml
   Led = ledger cv.code z.views_name
@@ -69,7 +69,7 @@ module _ {M : Type 1} {𝓤 : Ura M} (𝓛 : Logic 𝓤) (R : RattleType) {V W :
   apart (inl same) = qed 𝓛 (‵ I ∷ (‵ (seat i v) ⊛ ‵ (seat j u)) ∷ []) ∵ move ! (1 ∷ []) $ split ! $ rewrite ! 1 (λ (k : ℕ). ‵ (seat k u)) (sym same) refl $
       use2 𝓛 (given ⊥ (‵ (seat i v) ⊛ ‵ (seat i u))) (Ledgers.once 𝓛 cv z.views_name i v u) $ learn ! (λ no. absurd no)
   apart (inr ne) = qed 𝓛 (‵ I ∷ (‵ (seat i v) ⊛ ‵ (seat j u)) ∷ []) ∵ move ! (1 ∷ []) $ split ! $ move ! (2 ∷ 0 ∷ []) $
-      use2 𝓛 (Moves.opening 𝓛 R cv holds keeps p z i v) (Moves.opened 𝓛 R cv holds keeps p z i v) $ pick ! (λ t. learn ! (λ g. split3 ! $ move ! (1 ∷ 3 ∷ []) $
+      use2 𝓛 (Moves.opening 𝓛 R own cv holds keeps p z i v) (Moves.opened 𝓛 R own cv holds keeps p z i v) $ pick ! (λ t. learn ! (λ g. split3 ! $ move ! (1 ∷ 3 ∷ []) $
       use2 𝓛 (given (slice_get t.views j ≡ Some u) (‵ (Led t.blank t.views) ⊛ ‵ (seat j u)))
       (Ledgers.sits 𝓛 cv z.views_name t.blank t.views j three_quarters u) $
       learn ! (λ at. split ! $
@@ -84,8 +84,8 @@ module _ {M : Type 1} {𝓤 : Ura M} (𝓛 : Logic 𝓤) (R : RattleType) {V W :
       settle 𝓛 Met (‵ (Led t.blank ws) ⊛ ‵ (seat j u')) $ split ! $ suffices ! _ (upd_i 𝓤 Met) $
       -- [the views; the other; the one; the memory]
       nothing ! $ fpack ! (holds (state_of z n) × AreLaid z.roots z.count n.parts) (λ _. ftrue) (l.2, g.1) $ move ! (4 ∷ 1 ∷ 0 ∷ []) $ fjoin3 ! $
-      fpack ! In (standing R cv.code holds p z) n $ frame ! $
+      fpack ! In (standing R own cv.code holds p z) n $ frame ! $
       move ! (1 ∷ 0 ∷ []) $ fjoin ! $ nothing ! $ fpack ! (so v' u') (λ _. ftrue) l.3 $ fjoin ! $ fpack ! (V × V) both (v', u') $ done !)))
 
-  pub meets : (κ : Lft) (q : Share) → ⟦ words_share R cv.code holds p z κ ⟧ ∗ A.lft κ q ∗ Two ⊢ H.⇛ (⟦ met ⟧ ∗ A.lft κ q)
-  meets κ q = Moves.reaches 𝓛 R cv holds keeps p z κ q Two ⟦ met ⟧ (apart (cases_eq i j))
+  pub meets : (κ : Lft) (q : Share) → ⟦ words_share R own cv.code holds p z κ ⟧ ∗ A.lft κ q ∗ Two ⊢ H.⇛ (⟦ met ⟧ ∗ A.lft κ q)
+  meets κ q = Moves.reaches 𝓛 R own cv holds keeps p z κ q Two ⟦ met ⟧ (apart (cases_eq i j))

@@ -22,14 +22,15 @@ use Rattle.seize_words.specs.declared.at.At.{At}
 use Rattle.seize_seats.specs.State.{State, Goes, Allows, Turns, Comes}
 use Rattle.seize_seats.specs.Lines.{Parts, memory_of, AreLaid}
 use Rattle.seize_seats.specs.Steps.{IsStepOf, roomed}
-use Rattle.seize_seats.specs.Owned.{fact, ledger, BaseId, age, core_of, place_in, IsIn, Inside, state_of, standing, inner, everything, is_listed, words_share, lent_here, had_here, seen}
+use Rattle.seize_seats.specs.Owned.{Pieces, fact, ledger, BaseId, age, core_of, place_in, IsIn, Inside, state_of, standing, inner, everything, is_listed, words_share, lent_here, had_here, seen}
 use Rattle.seize_seats.specs.Owned as Owned
 use Rattle.seize_seats.proofs.Numbers as Numbers
 use Rattle.seize_seats.proofs.Ledgers as Ledgers
 use Rattle.seize_seats.proofs.Known as Known
 use Rattle.seize_seats.proofs.Rooms as Rooms
+use Rattle.seize_seats.specs.Cells.{Body}
 
-module _ {M : Type 1} {𝓤 : Ura M} (𝓛 : Logic 𝓤) (R : RattleType) {V W : Type 0} (cv : Coded V) (holds : State R.Denot V W → Type 0) (keeps : V → V → W → ℕ
+module _ {M : Type 1} {𝓤 : Ura M} (𝓛 : Logic 𝓤) (R : RattleType) (own : Pieces R.Denot) {V W : Type 0} (cv : Coded V) (holds : State R.Denot V W → Type 0) (keeps : V → V → W → ℕ
     → Type 0) (p : Ptr) (z : BaseId) where
   open 𝓛 use {H, A}
 
@@ -51,10 +52,10 @@ module _ {M : Type 1} {𝓤 : Ura M} (𝓛 : Logic 𝓤) (R : RattleType) {V W :
   α = age z
 
   abbrev I : Fml
-  I = inner R cv.code holds p z
+  I = inner R own cv.code holds p z
 
   abbrev pub Inv : Fml
-  Inv = Owned.told R cv.code holds p z
+  Inv = Owned.told R own cv.code holds p z
 
   abbrev b : ℕ
   b = block_of p
@@ -62,11 +63,11 @@ module _ {M : Type 1} {𝓤 : Ura M} (𝓛 : Logic 𝓤) (R : RattleType) {V W :
   abbrev o : ℕ
   o = count_of p
 
-  abbrev pub lent : ℕ → R.Denot → ℕ → ℕ → Fml
-  lent = lent_here R cv.code holds p z
+  abbrev pub lent : ℕ → Body R.Denot → ℕ → ℕ → Fml
+  lent = lent_here R own cv.code holds p z
 
-  abbrev pub had : ℕ → ℕ → R.Denot → Fml
-  had = had_here R cv.code holds p z
+  abbrev pub had : ℕ → ℕ → Body R.Denot → Fml
+  had = had_here R own cv.code holds p z
 
   -- the words, and what lies under the numbers
   abbrev pub Ws : Parts R.Denot → Fml
@@ -79,7 +80,7 @@ module _ {M : Type 1} {𝓤 : Ura M} (𝓛 : Logic 𝓤) (R : RattleType) {V W :
   seat id v = seen cv.code z.views_name three_quarters id v
 
   abbrev At_inside : Inside R.Denot V W → Fml
-  At_inside = standing R cv.code holds p z
+  At_inside = standing R own cv.code holds p z
 
   -- the seat, at a view of which this is so
   abbrev pub next : ℕ → (V → Type 0) → V → Fml
@@ -132,7 +133,7 @@ module _ {M : Type 1} {𝓤 : Ura M} (𝓛 : Logic 𝓤) (R : RattleType) {V W :
       move ! (0 ∷ 2 ∷ []) $ by ! (named n)))
     where
       E : Fml
-      E = everything R cv.code holds (core_of z)
+      E = everything R own cv.code holds (core_of z)
 
       K' : Pr
       K' = ⟦ is_listed p z ⟧ ∗ K
@@ -140,14 +141,14 @@ module _ {M : Type 1} {𝓤 : Ura M} (𝓛 : Logic 𝓤) (R : RattleType) {V W :
       named : (n : ℕ) → A.named n (fbor α E) ∗ A.lft α q ∗ K' ⊢ H.⇛ (Q ∗ A.lft α q)
       named n = let Z : Pr = ⟦ E ⟧ ∗ emp 𝓤 ∗ Q in via 𝓤 _ (qed 𝓛 (‵ (fnamed n (fbor α E)) ∷ ‵ (flft α q) ∷ raw K' ∷ []) ∵ use0 𝓛 (‵ ftrue) (id⊢ 𝓤 (emp 𝓤)) $
           move ! (1 ∷ 0 ∷ []) $ fjoin ! $ frame ! $ frame ! $
-          assume ! (‵ E ⊛ ‵ ftrue) $ split ! $ move ! (0 ∷ 2 ∷ []) $ use2 𝓛 (raw (upd 𝓤 (⟦ E ⟧ ∗ Q))) (Known.within 𝓛 R cv holds p z K Q go) $
+          assume ! (‵ E ⊛ ‵ ftrue) $ split ! $ move ! (0 ∷ 2 ∷ []) $ use2 𝓛 (raw (upd 𝓤 (⟦ E ⟧ ∗ Q))) (Known.within 𝓛 R own cv holds p z K Q go) $
           settle 𝓛 Z (‵ E ⊛ raw Q) $ split ! $ suffices ! _ (upd_i 𝓤 Z) $ frame ! $ move ! (1 ∷ 0 ∷ []) $ done !)
           (𝓛.invs.invs_bor_acc n α q E [] Q ((λ m. not-mem-nil m), tt))
 
   -- the same by what a `&` to the words has
   module _ (κ : Lft) (q : Share) (K Q : Pr) (go : ⟦ I ⟧ ∗ K ⊢ upd 𝓤 (⟦ I ⟧ ∗ Q)) where
-    pub reaches : ⟦ words_share R cv.code holds p z κ ⟧ ∗ A.lft κ q ∗ K ⊢ H.⇛ (Q ∗ A.lft κ q)
-    reaches = qed 𝓛 (‵ (words_share R cv.code holds p z κ) ∷ ‵ (flft κ q) ∷ raw K ∷ []) ∵ updating ! $ fsplit ! $ move ! (1 ∷ []) $ fsplit ! $ drop ! $
+    pub reaches : ⟦ words_share R own cv.code holds p z κ ⟧ ∗ A.lft κ q ∗ K ⊢ H.⇛ (Q ∗ A.lft κ q)
+    reaches = qed 𝓛 (‵ (words_share R own cv.code holds p z κ) ∷ ‵ (flft κ q) ∷ raw K ∷ []) ∵ updating ! $ fsplit ! $ move ! (1 ∷ []) $ fsplit ! $ drop ! $
         -- [the invariant; its lifetime lasts; the token; K]
         move ! (1 ∷ 2 ∷ []) $ shr_bor-open ! tt (tokens_halve 𝓛 α) (λ s. move ! (2 ∷ 1 ∷ 3 ∷ []) $
         use3 𝓛 (later (raw Q ⊛ ‵ (flft α s))) (reach s K Q go) $ await ! tt $ split ! $ move ! (2 ∷ 1 ∷ []) $ obor_close ! tt $ drop ! $ now ! $
@@ -155,19 +156,19 @@ module _ {M : Type 1} {𝓤 : Ura M} (𝓛 : Logic 𝓤) (R : RattleType) {V W :
 
   -- a step without an operation
   pub turns : (κ : Lft) (q : Share) (id : ℕ) (v : V) (so : V → Type 0) → Turns holds keeps id v so
-      → ⟦ words_share R cv.code holds p z κ ⟧ ∗ A.lft κ q ∗ ⟦ seat id v ⟧ ⊢ H.⇛ (⟦ gone_on id so ⟧ ∗ A.lft κ q)
+      → ⟦ words_share R own cv.code holds p z κ ⟧ ∗ A.lft κ q ∗ ⟦ seat id v ⟧ ⊢ H.⇛ (⟦ gone_on id so ⟧ ∗ A.lft κ q)
   turns κ q id v so law = reaches κ q ⟦ seat id v ⟧ ⟦ gone_on id so ⟧ (moves id v so (λ t f. (t.parts.slots, f.1, law (state_of z t) f.0 f.2)))
 
   -- room is asked for
   pub rooms : (κ : Lft) (q : Share) (id : ℕ) (v : V) (bucket : ℕ) (so : Out R.Denot → V → Type 0) → Allows holds keeps id v (Room bucket) so
-      → ⟦ words_share R cv.code holds p z κ ⟧ ∗ A.lft κ q ∗ ⟦ seat id v ⟧ ⊢ H.⇛ (⟦ gone_on id (so (Roomed (roomed bucket))) ⟧ ∗ A.lft κ q)
+      → ⟦ words_share R own cv.code holds p z κ ⟧ ∗ A.lft κ q ∗ ⟦ seat id v ⟧ ⊢ H.⇛ (⟦ gone_on id (so (Roomed (roomed bucket))) ⟧ ∗ A.lft κ q)
   rooms κ q id v bucket so law = reaches κ q ⟦ seat id v ⟧ ⟦ gone_on id (so (Roomed (roomed bucket))) ⟧ (moves id v (so (Roomed (roomed bucket))) (λ t f.
       let a = law (state_of z t) f.0 f.2 in let r = Rooms.rooms z.roots z.count t.parts bucket f.1 a.0 in
       (r.0, r.1, a.1 (Roomed (roomed bucket)) (memory_of z.roots (Rooms.with_slots z.roots z.count t.parts bucket r.0)) r.2)))
 
   -- a block is refused, and its value stays with its maker
   pub refuses : (κ : Lft) (q : Share) (id : ℕ) (v : V) (x : R.Denot) (words : ℕ) (so : Out R.Denot → V → Type 0) → Allows holds keeps id v (Make x words) so
-      → ⟦ words_share R cv.code holds p z κ ⟧ ∗ A.lft κ q ∗ ⟦ seat id v ⟧ ⊢ H.⇛ (⟦ gone_on id (so (Made (Err x))) ⟧ ∗ A.lft κ q)
+      → ⟦ words_share R own cv.code holds p z κ ⟧ ∗ A.lft κ q ∗ ⟦ seat id v ⟧ ⊢ H.⇛ (⟦ gone_on id (so (Made (Err x))) ⟧ ∗ A.lft κ q)
   refuses κ q id v x words so law = reaches κ q ⟦ seat id v ⟧ ⟦ gone_on id (so (Made (Err x))) ⟧ (moves id v (so (Made (Err x))) (λ t f.
       (t.parts.slots, f.1, (law (state_of z t) f.0 f.2).1 (Made (Err x)) (memory_of z.roots t.parts) (refl, refl))))
 
@@ -175,7 +176,7 @@ module _ {M : Type 1} {𝓤 : Ura M} (𝓛 : Logic 𝓤) (R : RattleType) {V W :
   abbrev pub newcomer : V → Fml
   newcomer v = fex ℕ (λ id. seat id v)
 
-  pub comes : (κ : Lft) (q : Share) (v : V) → Comes holds keeps v → ⟦ words_share R cv.code holds p z κ ⟧ ∗ A.lft κ q ∗ emp 𝓤 ⊢ H.⇛ (⟦ newcomer v ⟧ ∗ A.lft κ q)
+  pub comes : (κ : Lft) (q : Share) (v : V) → Comes holds keeps v → ⟦ words_share R own cv.code holds p z κ ⟧ ∗ A.lft κ q ∗ emp 𝓤 ⊢ H.⇛ (⟦ newcomer v ⟧ ∗ A.lft κ q)
   comes κ q v law = reaches κ q (emp 𝓤) ⟦ newcomer v ⟧ grows
     where
       grows : ⟦ I ⟧ ∗ emp 𝓤 ⊢ upd 𝓤 (⟦ I ⟧ ∗ ⟦ newcomer v ⟧)
@@ -210,7 +211,7 @@ module _ {M : Type 1} {𝓤 : Ura M} (𝓛 : Logic 𝓤) (R : RattleType) {V W :
           a.1 (out w) (memory_of z.roots s) (made.0, same ∙ sym made.1)
 
       pub steps : (q : Share) → ⟦ Inv ⟧ ∗ (A.lft α q ∗ ⟦ seat id v ⟧) ⊢ asks 𝓛 (block_ptr b e) f always (λ n. fsep (flft α q) (told n))
-      steps q = let G : Pr = ex 𝓤 (Lies 𝓛 α q I b e f always told) in Known.stepped 𝓛 R cv holds p z q b e f told ⟦ seat id v ⟧
+      steps q = let G : Pr = ex 𝓤 (Lies 𝓛 α q I b e f always told) in Known.stepped 𝓛 R own cv holds p z q b e f told ⟦ seat id v ⟧
           (qed 𝓛 (‵ I ∷ ‵ (seat id v) ∷ []) ∵ suffices ! _ (upd_i 𝓤 G) $ use2 𝓛 (opening id v) (opened id v) $ pick ! (λ t. learn ! (λ g. split3 ! $
           let found = is.needs (memory_of z.roots t.parts) (law (state_of z t) g.0 g.2).0 in let w : ℕ = found.0 in
           let P = Numbers.Rewrites 𝓛 R p z lent had t.parts at e in let l = lies t g w found.1 in

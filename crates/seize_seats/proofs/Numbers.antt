@@ -1,6 +1,6 @@
 -- One number of a strip opened at a time, and the words of roots, slots and entries by their names. Assumes `Logic`.
 use Rattle.std.specs.Prelude.{slice_get, slice_set}
-use Rattle.std.proofs.Common.{◌≡◌, ℕ, zero, suc, ◌+◌, ◌-◌, ◌*◌, ◌<◌, List, [], ◌∷◌, length, length-set, set, get_or, sym, refl, ap, ◌∙◌, subst, arith, Option, Some}
+use Rattle.std.proofs.Common.{◌≡◌, ℕ, zero, suc, ◌+◌, ◌-◌, ◌*◌, ◌<◌, List, [], ◌∷◌, length, length-set, set, get_or, sym, refl, ap, ◌∙◌, subst, arith, Some}
 use seplogic.Ra.Ura.{Ura}
 use base.Fraction.{full_share}
 use base.Share.{quarter}
@@ -12,23 +12,22 @@ use denote.RattleType.{RattleType}
 use denote.RawPtr.{Ptr, block_of, count_of}
 use denote.Steps.{nothing}
 use Rattle.core.specs.Sync.RawAtomic.{word}
-use Rattle.seize_words.specs.Mem.{entry_in, word_at, word_in, with_word}
+use Rattle.seize_words.specs.Mem.{entry_in, word_at, with_word}
 use Rattle.seize_words.specs.declared.at.At.{At}
 use Rattle.seize_words.specs.declared.at.At.TheVariants.{Root, Used, Slot, Entry, Word}
-use Rattle.seize_words.specs.declared.block.Block.{Block}
-use Rattle.seize_seats.specs.Cells.{Cell, Free, Claimed, Out, Has, Held, block_in, cell_at, noted_in}
+use Rattle.seize_seats.specs.Cells.{Body, Cell, Free, Claimed, Out, Has, Held, block_in, cell_at, noted_in}
 use Rattle.seize_seats.specs.Lines.{Parts, place_of, memory_of, IsWord, IsNoBlocks, AreLaid}
 use Rattle.seize_seats.specs.Strips.{Strip, AreStrips}
 use Rattle.seize_seats.specs.Laws.{noted}
 use Rattle.seize_seats.specs.Owned.{row, stride, resting, held, hand, under, strips, listing, listed, all_strips, BaseId, age, book_of, strip_of, IsListed, IsIts, IsIn, place_in}
-use Rattle.seize_seats.proofs.Cells.{block_is, entries_lie, entries_are_apart, get_some}
+use Rattle.seize_seats.proofs.Cells.{entries_lie, entries_are_apart, own_lies, get_some}
 use Rattle.seize_seats.proofs.Columns.{words_lie, words_are_apart}
 use Rattle.seize_seats.proofs.Rows.{row_at}
 use Rattle.seize_seats.proofs.Rows as Rows
 use Rattle.seize_seats.proofs.Strips.{strip_within}
 use Rattle.seize_seats.proofs.Strips as Strips
 
-module _ {M : Type 1} {𝓤 : Ura M} (𝓛 : Logic 𝓤) (R : RattleType) (p : Ptr) (z : BaseId) (lent : ℕ → R.Denot → ℕ → ℕ → Fml) (had : ℕ → ℕ → R.Denot → Fml) where
+module _ {M : Type 1} {𝓤 : Ura M} (𝓛 : Logic 𝓤) (R : RattleType) (p : Ptr) (z : BaseId) (lent : ℕ → Body R.Denot → ℕ → ℕ → Fml) (had : ℕ → ℕ → Body R.Denot → Fml) where
   abbrev ⟦◌⟧ : Fml → SProp 𝓤
   ⟦ P ⟧ = sem 𝓛 P
 
@@ -165,30 +164,17 @@ module _ {M : Type 1} {𝓤 : Ura M} (𝓛 : Logic 𝓤) (R : RattleType) (p : P
             noting n i e w es (Held ρ q x) (hand R α z.hands_name quarter j (held ρ q)) (fsep (flft α q) (had ρ j x)) here of low got
             (λ us. id⊢ 𝓤 ⟦ cell_of j (Held ρ q x us) ⟧) (λ us. id⊢ 𝓤 ⟦ cell_of j (Held ρ q x us) ⟧) (λ y. refl) at_e
 
-    -- no block has words of its own
-    bare : (c : Cell R.Denot) (i w : ℕ) → word_in (block_in c) i ≡ Some w → ⊥
-    bare Free i w e = absurd (cc e)
-    bare Claimed i w e = absurd (cc e)
-    bare (Out q) i w e = absurd (cc e)
-    bare (Has x ws) i w e = absurd (cc e)
-    bare (Held ρ q x ws) i w e = absurd (cc e)
-
-    none : (n i w : ℕ) → word_at (memory_of z.roots s) (Word n i) ≡ Some w → ⊥
-    none zero i w e = absurd (cc e)
-    none (suc n) i w e = bare (cell_at s.cells (suc n - 1)) i w (ap (λ (x : Option (Block R.Denot)). word_in x i)
-        (sym (block_is z.roots z.count s laid (suc n) (omega arith))) ∙ e)
-
     -- THE WORD OF A NAME, and what takes another one in its place
     pub word_opens : (at : At) (e w : ℕ) → IsIn p z at → word_at (memory_of z.roots s) at ≡ Some w → e ≡ place_in z at * 8 + o → Opens at e w
     word_opens (Root r) e w of is at_e = fixed (Root r) e w tt of is at_e
     word_opens (Used r) e w of is at_e = fixed (Used r) e w tt of is at_e
     word_opens (Slot n g) e w of is at_e = fixed (Slot n g) e w tt of is at_e
     word_opens (Entry n i) e w of is at_e = entry n i e w of is at_e
-    word_opens (Word n i) e w of is at_e = absurd (none n i w is)
+    word_opens (Word n i) e w of is at_e = absurd of
 
     pub is_word : (at : At) (w : ℕ) → word_at (memory_of z.roots s) at ≡ Some w → IsWord z.roots z.count at
     is_word (Root r) w is = (words_lie R.Denot z.roots z.count s (Root r) w laid tt is).0
     is_word (Used r) w is = (words_lie R.Denot z.roots z.count s (Used r) w laid tt is).0
     is_word (Slot n g) w is = (words_lie R.Denot z.roots z.count s (Slot n g) w laid tt is).0
     is_word (Entry n i) w is = (entries_lie R.Denot z.roots z.count s n i w laid is).0
-    is_word (Word n i) w is = absurd (none n i w is)
+    is_word (Word n i) w is = let l = own_lies z.roots z.count s n i w laid is in (l.0, l.1)

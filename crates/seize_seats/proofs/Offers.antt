@@ -15,12 +15,12 @@ use Rattle.core.proofs.raw_atomic.Asked.{borrowed_compares, Compared, alike_null
 use Rattle.seize_words.specs.Mem.{Mem}
 use Rattle.seize_seats.specs.State.{State}
 use Rattle.seize_seats.specs.Seen.{seen}
-use Rattle.seize_seats.specs.Cells.{Cell}
+use Rattle.seize_seats.specs.Cells.{Body, Cell}
 use Rattle.seize_seats.specs.Lines.{memory_of, AreLaid}
 use Rattle.seize_seats.specs.Strips.{Strip, strip_coded, no_strip, further, AreStrips}
 use Rattle.seize_seats.specs.Doors.{IsFurther, right_to, stays, behind, door}
 use Rattle.seize_seats.specs.Stretches.{IsEven}
-use Rattle.seize_seats.specs.Owned.{row, ledger, unborn, hand_coded, resting, places, strips, doors_of, listed, BaseId, Inside, age, core_of, book_of, lent_here, had_here, standing_in, everything, told}
+use Rattle.seize_seats.specs.Owned.{Pieces, row, ledger, unborn, hand_coded, resting, places, strips, doors_of, listed, BaseId, Inside, age, core_of, book_of, lent_here, had_here, standing_in, everything, told}
 use Rattle.seize_seats.proofs.Stretches as Stretches
 use Rattle.seize_seats.proofs.Ledgers as Ledgers
 use Rattle.seize_seats.proofs.Doors as Doors
@@ -49,7 +49,7 @@ further_more : (ss : List Strip) (s : Strip) (j : ℕ) → length ss ≡ suc j �
 further_more [] s j long = absurd (omega (arith, long))
 further_more (x ∷ ss) s j long = refl
 
-module _ {M : Type 1} {𝓤 : Ura M} (𝓛 : Logic 𝓤) (R : RattleType) {V W : Type 0} (cv : Coded V) (holds : State R.Denot V W → Type 0) (p : Ptr) (z : BaseId) where
+module _ {M : Type 1} {𝓤 : Ura M} (𝓛 : Logic 𝓤) (R : RattleType) (own : Pieces R.Denot) {V W : Type 0} (cv : Coded V) (holds : State R.Denot V W → Type 0) (p : Ptr) (z : BaseId) where
   open 𝓛 use {H, A}
 
   abbrev Pr : Type 2
@@ -70,10 +70,10 @@ module _ {M : Type 1} {𝓤 : Ura M} (𝓛 : Logic 𝓤) (R : RattleType) {V W :
   α = age z
 
   abbrev E : Fml
-  E = everything R cv.code holds (core_of z)
+  E = everything R own cv.code holds (core_of z)
 
   abbrev Inv : Fml
-  Inv = told R cv.code holds p z
+  Inv = told R own cv.code holds p z
 
   abbrev b : ℕ
   b = block_of z.doors
@@ -90,11 +90,11 @@ module _ {M : Type 1} {𝓤 : Ura M} (𝓛 : Logic 𝓤) (R : RattleType) {V W :
   abbrev Drs : List Strip → Fml
   Drs us = doors_of R (book_of z) us
 
-  abbrev Lt : ℕ → R.Denot → ℕ → ℕ → Fml
-  Lt = lent_here R cv.code holds p z
+  abbrev Lt : ℕ → Body R.Denot → ℕ → ℕ → Fml
+  Lt = lent_here R own cv.code holds p z
 
-  abbrev Hd : ℕ → ℕ → R.Denot → Fml
-  Hd = had_here R cv.code holds p z
+  abbrev Hd : ℕ → ℕ → Body R.Denot → Fml
+  Hd = had_here R own cv.code holds p z
 
   abbrev Any : List Strip → Type 0
   Any ss = Unit {0}
@@ -124,7 +124,7 @@ module _ {M : Type 1} {𝓤 : Ura M} (𝓛 : Logic 𝓤) (R : RattleType) {V W :
       nothing ! $ fpack ! (AreStrips 0 ss (length t.parts.cells) × Unit {0}) (λ _. ftrue) (are, tt) $ move ! (1 ∷ 0 ∷ 2 ∷ []) $ fjoin3 ! $
       fpack ! (List Strip) (listed R α z.hands_name Lt Hd (book_of z) Any t.parts.cells) ss $ move ! (1 ∷ 0 ∷ []) $ fjoin ! $
       nothing ! $ fpack ! (holds record { memory = memory_of z.roots t.parts; views = t.views; world = t.world } × AreLaid z.roots z.count t.parts) (λ _. ftrue) sound $
-      move ! (1 ∷ 2 ∷ 0 ∷ []) $ fjoin3 ! $ fpack ! (Inside R.Denot V W) (standing_in R cv.code holds (core_of z) Any) t $ done !
+      move ! (1 ∷ 2 ∷ 0 ∷ []) $ fjoin3 ! $ fpack ! (Inside R.Denot V W) (standing_in R own cv.code holds (core_of z) Any) t $ done !
 
   -- A strip s is offered at the j-th door. The one before it is there, and its numbers end where those of s begin.
   module _ (q : Share) (j e : ℕ) (few : j < 32) (at : e ≡ j * 8 + o) (s : Strip) (is : Is j s) (before : Strip)
@@ -146,7 +146,7 @@ module _ {M : Type 1} {𝓤 : Ura M} (𝓛 : Logic 𝓤) (R : RattleType) {V W :
     won r = Stays
 
     abbrev glimpse : Ptr → Fml
-    glimpse = Looks.glimpse 𝓛 R cv holds p z q j e few at
+    glimpse = Looks.glimpse 𝓛 R own cv holds p z q j e few at
 
     abbrev pub lost : Ptr → Fml
     lost r = fsep Own (glimpse r)
@@ -176,8 +176,8 @@ module _ {M : Type 1} {𝓤 : Ura M} (𝓛 : Logic 𝓤) (R : RattleType) {V W :
         use0 𝓛 (‵ (alike w null_ptr false)) (alike_null 𝓛 w test) $ frame ! $ assume ! (‵ (cell b e w)) $
         rewrite ! 0 (λ (v : Ptr). ‵ (cell b e v)) (sym here) refl $ fjoin ! $ move ! (0 ∷ 2 ∷ []) $ use2 𝓛 (‵ Ds) (apply∗ 𝓤 ⟦ Dr r ⟧ ⟦ Ds ⟧) $
         move ! (0 ∷ 2 ∷ []) $ use2 𝓛 (‵ E) (apply∗ 𝓤 ⟦ Ds ⟧ ⟦ E ⟧) $ suffices ! _ (upd_i 𝓤 Z) $ frame ! $
-        nothing ! $ fpack ! (Looks.Found 𝓛 R cv holds p z q j e few at w r) (λ _. ftrue) (here, so) $ fjoin ! $
-        fpack ! Strip (Looks.shown 𝓛 R cv holds p z q j e few at w) r $ move ! (1 ∷ 0 ∷ []) $ fjoin ! $ done !)
+        nothing ! $ fpack ! (Looks.Found 𝓛 R own cv holds p z q j e few at w r) (λ _. ftrue) (here, so) $ fjoin ! $
+        fpack ! Strip (Looks.shown 𝓛 R own cv holds p z q j e few at w) r $ move ! (1 ∷ 0 ∷ []) $ fjoin ! $ done !)
 
     -- it is null: whoever sets it has the strip join
     module _ (t : Inside R.Denot V W) (ss : List Strip) (sound : holds record { memory = memory_of z.roots t.parts; views = t.views; world = t.world } × AreLaid z.roots z.count t.parts)
@@ -238,7 +238,7 @@ module _ {M : Type 1} {𝓤 : Ura M} (𝓛 : Logic 𝓤) (R : RattleType) {V W :
           -- [the strips; it stays; the first words; the views]
           fpack ! (List Strip) (listed R α z.hands_name Lt Hd (book_of z) Any grown.parts.cells) us $ move ! (2 ∷ 0 ∷ []) $ fjoin ! $
           nothing ! $ fpack ! (holds record { memory = memory_of z.roots grown.parts; views = t.views; world = t.world } × AreLaid z.roots z.count grown.parts) (λ _. ftrue) (still, laid.0) $
-          move ! (1 ∷ 3 ∷ 0 ∷ []) $ fjoin3 ! $ fpack ! (Inside R.Denot V W) (standing_in R cv.code holds (core_of z) Any) grown $ frame ! $
+          move ! (1 ∷ 3 ∷ 0 ∷ []) $ fjoin3 ! $ fpack ! (Inside R.Denot V W) (standing_in R own cv.code holds (core_of z) Any) grown $ frame ! $
           rewrite ! 0 (λ (k : ℕ). ‵ (stays σ k s)) long refl $ done !
 
     -- the list shows the one before

@@ -12,23 +12,23 @@ use types.Logic.{Logic, sem}
 use types.Owned.{basic}
 use types.Keyed.{entries_take, entries_new}
 use types.Tokens.{lft_new, lft_end, bor_new, lent_back}
-use types.Kit.{‵, raw, ◌⊛◌, some as items, given, later, ◌$◌, ◌∵◌, !, qed, by, move, keep, drop as leave, split, fsplit, fsplit3, fjoin, fjoin3, fpick, fpack, pick, learn, check, show, use0, use1, use2, use3, rewrite, updating, await, now, done}
+use types.Kit.{‵, raw, ◌⊛◌, some as items, given, later, ◌$◌, ◌∵◌, !, qed, by, move, keep, drop as leave, split, split3, fsplit, fsplit3, fjoin, fjoin3, fpick, fpack, pick, learn, check, show, use0, use1, use2, use3, rewrite, updating, await, now, done}
 use denote.RattleType.{RattleType}
 use denote.RawPtr.{Ptr, null_ptr, block_of, count_of}
 use denote.Steps.{nothing}
 use Rattle.core.specs.Sync.RawAtomic.{word}
 use Rattle.seize_words.specs.declared.block.Block.{Block}
 use Rattle.seize_seats.specs.State.{State, Starts}
-use Rattle.seize_seats.specs.Cells.{Cell, Free, Claimed, Out, Has, Held, block_in, cell_at, sign_of}
+use Rattle.seize_seats.specs.Cells.{Body, Cell, Free, Claimed, Out, Has, Held, block_in, cell_at, sign_of}
 use Rattle.seize_seats.specs.Lines.{Parts, column, long, whole, memory_of, AreLaid}
 use Rattle.seize_seats.specs.Strips.{Strip, strip_coded, no_strip, further, AreStrips}
 use Rattle.seize_seats.specs.Doors.{pointers, IsFurther, right_to, AreBehind}
 use Rattle.seize_seats.specs.Seen.{seen, fact}
-use Rattle.seize_seats.specs.Owned.{row, unborn, ledger, shared_view, hand_coded, resting, zeros, stride, place, places, AreOf, stripped, all_alone, hand, kept, under, numbers, strips, doors_of, listed, BaseId, age, core_of, book_of, strip_of, IsFirst, Inside, state_of, IsPlaced, standing_in, inner, everything, lent_here, had_here, words_own}
+use Rattle.seize_seats.specs.Owned.{piece_in, pieces, piece, Pieces, row, unborn, ledger, shared_view, hand_coded, resting, zeros, stride, place, places, AreOf, stripped, all_alone, hand, kept, under, numbers, strips, doors_of, listed, BaseId, age, core_of, book_of, strip_of, IsFirst, Inside, state_of, IsPlaced, standing_in, inner, everything, lent_here, had_here, words_own}
 use Rattle.seize_seats.specs.Stretches.{IsEven, invariant}
 use Rattle.seize_seats.proofs.Ledgers as Ledgers
 use Rattle.seize_seats.proofs.Stretches as Stretches
-use Rattle.seize_seats.proofs.Lendings as Lendings
+use Rattle.seize_seats.proofs.Pieces as Pieces
 use Rattle.seize_seats.proofs.Strips.{strips_up, strip_within}
 use Rattle.seize_seats.proofs.Doors as Doors
 use Rattle.seize_seats.proofs.Known as Known
@@ -92,7 +92,7 @@ module _ {T : Type 0} where
   abbrev pub AreFour : List (Cell T) → Type 0
   AreFour cs = (k : ℕ) (x : Block T) → block_in (cell_at cs k) ≡ Some x → length x.entry ≡ 4
 
-module _ {M : Type 1} {𝓤 : Ura M} (𝓛 : Logic 𝓤) (R : RattleType) (α : Lft) (δ : ℕ) (lent : ℕ → R.Denot → ℕ → ℕ → Fml) (had : ℕ → ℕ → R.Denot → Fml) where
+module _ {M : Type 1} {𝓤 : Ura M} (𝓛 : Logic 𝓤) (R : RattleType) (α : Lft) (δ : ℕ) (lent : ℕ → Body R.Denot → ℕ → ℕ → Fml) (had : ℕ → ℕ → Body R.Denot → Fml) where
   abbrev Unborn : ℕ → Fml
   Unborn i = unborn hand_coded.code δ i resting
 
@@ -123,131 +123,140 @@ module _ {M : Type 1} {𝓤 : Ura M} (𝓛 : Logic 𝓤) (R : RattleType) (α : 
       -- [the entry; numbers; hand; place; sign; hands]
       move ! (0 ∷ 3 ∷ []) $ fjoin ! $ move ! (2 ∷ 0 ∷ []) $ fjoin ! $ move ! (2 ∷ 0 ∷ []) $ fjoin ! $ fjoin ! $ done !
 
-  -- values that are owned, and not lent
-  abbrev pub owned : ℕ → R.Denot → ℕ → ℕ → Fml
-  owned i x c u = place R α δ c u (Some x)
+  module _ (own : Pieces R.Denot) where
+    -- values that are owned, and not lent
+    abbrev pub owned : ℕ → Body R.Denot → ℕ → ℕ → Fml
+    owned i x c u = fsep (piece own x) (place R α δ c u (Some x.0))
 
-  -- what was lent comes back
-  module _ (back : (i : ℕ) (x : R.Denot) (c u : ℕ) → ent 𝓤 (sep 𝓤 (sem 𝓛 (fdead α)) (sem 𝓛 (lent i x c u))) (𝓛.H.⇛ (sep 𝓤 (sem 𝓛 (fdead α)) (sem 𝓛 (owned i x c u))))) where
-    unlends_one : (b b' o o' i : ℕ) (c : Cell R.Denot) → ent 𝓤 (sep 𝓤 (sem 𝓛 (under R α δ lent had b o b' o' i c)) (sem 𝓛 (fdead α)))
-        (𝓛.H.⇛ (sep 𝓤 (sem 𝓛 (under R α δ owned had b o b' o' i c)) (sem 𝓛 (fdead α))))
-    unlends_one b b' o o' i Free = qed 𝓛 (‵ (under R α δ owned had b o b' o' i Free) ∷ ‵ (fdead α) ∷ []) ∵ updating ! $ now ! $ done !
-    unlends_one b b' o o' i Claimed = qed 𝓛 (‵ (under R α δ owned had b o b' o' i Claimed) ∷ ‵ (fdead α) ∷ []) ∵ updating ! $ now ! $ done !
-    unlends_one b b' o o' i (Out e) = qed 𝓛 (‵ (under R α δ owned had b o b' o' i (Out e)) ∷ ‵ (fdead α) ∷ []) ∵ updating ! $ now ! $ done !
-    unlends_one b b' o o' i (Held ρ e x ws) = qed 𝓛 (‵ (under R α δ owned had b o b' o' i (Held ρ e x ws)) ∷ ‵ (fdead α) ∷ []) ∵ updating ! $ now ! $ done !
-    unlends_one b b' o o' i (Has x ws) = qed 𝓛 (‵ (under R α δ lent had b o b' o' i (Has x ws)) ∷ ‵ (fdead α) ∷ []) ∵ updating ! $ fsplit ! $ move ! (1 ∷ []) $ fsplit ! $
-        move ! (1 ∷ []) $ fsplit ! $
-        -- [the entry; the value; the hand; the sign; dead]
-        move ! (4 ∷ 1 ∷ []) $ use2 𝓛 (later (‵ (fdead α) ⊛ ‵ (owned i x b' o'))) (back i x b' o') $ await ! tt $ split ! $ move ! (2 ∷ 1 ∷ []) $ fjoin ! $
-        move ! (2 ∷ 0 ∷ []) $ fjoin ! $ move ! (2 ∷ 0 ∷ []) $ fjoin ! $ now ! $ done !
+    -- what was lent comes back
+    module _ (back : (i : ℕ) (x : Body R.Denot) (c u : ℕ) → ent 𝓤 (sep 𝓤 (sem 𝓛 (fdead α)) (sem 𝓛 (lent i x c u))) (𝓛.H.⇛ (sep 𝓤 (sem 𝓛 (fdead α)) (sem 𝓛 (owned i x c u))))) where
+      unlends_one : (b b' o o' i : ℕ) (c : Cell R.Denot) → ent 𝓤 (sep 𝓤 (sem 𝓛 (under R α δ lent had b o b' o' i c)) (sem 𝓛 (fdead α)))
+          (𝓛.H.⇛ (sep 𝓤 (sem 𝓛 (under R α δ owned had b o b' o' i c)) (sem 𝓛 (fdead α))))
+      unlends_one b b' o o' i Free = qed 𝓛 (‵ (under R α δ owned had b o b' o' i Free) ∷ ‵ (fdead α) ∷ []) ∵ updating ! $ now ! $ done !
+      unlends_one b b' o o' i Claimed = qed 𝓛 (‵ (under R α δ owned had b o b' o' i Claimed) ∷ ‵ (fdead α) ∷ []) ∵ updating ! $ now ! $ done !
+      unlends_one b b' o o' i (Out e) = qed 𝓛 (‵ (under R α δ owned had b o b' o' i (Out e)) ∷ ‵ (fdead α) ∷ []) ∵ updating ! $ now ! $ done !
+      unlends_one b b' o o' i (Held ρ e x ws) = qed 𝓛 (‵ (under R α δ owned had b o b' o' i (Held ρ e x ws)) ∷ ‵ (fdead α) ∷ []) ∵ updating ! $ now ! $ done !
+      unlends_one b b' o o' i (Has x ws) = qed 𝓛 (‵ (under R α δ lent had b o b' o' i (Has x ws)) ∷ ‵ (fdead α) ∷ []) ∵ updating ! $ fsplit ! $ move ! (1 ∷ []) $ fsplit ! $
+          move ! (1 ∷ []) $ fsplit ! $
+          -- [the entry; the value; the hand; the sign; dead]
+          move ! (4 ∷ 1 ∷ []) $ use2 𝓛 (later (‵ (fdead α) ⊛ ‵ (owned i x b' o'))) (back i x b' o') $ await ! tt $ split ! $ move ! (2 ∷ 1 ∷ []) $ fjoin ! $
+          move ! (2 ∷ 0 ∷ []) $ fjoin ! $ move ! (2 ∷ 0 ∷ []) $ fjoin ! $ now ! $ done !
 
-    unlends : (b b' : ℕ) (cs : List (Cell R.Denot)) (o o' i : ℕ) → ent 𝓤 (sep 𝓤 (sem 𝓛 (numbers R α δ lent had b o b' o' i cs)) (sem 𝓛 (fdead α)))
-        (𝓛.H.⇛ (sep 𝓤 (sem 𝓛 (numbers R α δ owned had b o b' o' i cs)) (sem 𝓛 (fdead α))))
-    unlends b b' [] o o' i = qed 𝓛 (‵ ftrue ∷ ‵ (fdead α) ∷ []) ∵ updating ! $ now ! $ done !
-    unlends b b' (c ∷ cs) o o' i = let Rest : (ℕ → R.Denot → ℕ → ℕ → Fml) → Fml = λ l. numbers R α δ l had b (o + 40) b' (o' + stride R) (suc i) cs in
-        qed 𝓛 ((‵ (under R α δ lent had b o b' o' i c) ⊛ ‵ (Rest lent)) ∷ ‵ (fdead α) ∷ []) ∵ updating ! $ split ! $ move ! (1 ∷ 2 ∷ []) $
-        use2 𝓛 (later (‵ (Rest owned) ⊛ ‵ (fdead α))) (unlends b b' cs (o + 40) (o' + stride R) (suc i)) $ await ! tt $ split ! $ move ! (2 ∷ 1 ∷ []) $
-        use2 𝓛 (later (‵ (under R α δ owned had b o b' o' i c) ⊛ ‵ (fdead α))) (unlends_one b b' o o' i c) $ await ! tt $ split ! $ move ! (0 ∷ 2 ∷ []) $ fjoin ! $
-        now ! $ done !
+      unlends : (b b' : ℕ) (cs : List (Cell R.Denot)) (o o' i : ℕ) → ent 𝓤 (sep 𝓤 (sem 𝓛 (numbers R α δ lent had b o b' o' i cs)) (sem 𝓛 (fdead α)))
+          (𝓛.H.⇛ (sep 𝓤 (sem 𝓛 (numbers R α δ owned had b o b' o' i cs)) (sem 𝓛 (fdead α))))
+      unlends b b' [] o o' i = qed 𝓛 (‵ ftrue ∷ ‵ (fdead α) ∷ []) ∵ updating ! $ now ! $ done !
+      unlends b b' (c ∷ cs) o o' i = let Rest : (ℕ → Body R.Denot → ℕ → ℕ → Fml) → Fml = λ l. numbers R α δ l had b (o + 40) b' (o' + stride R) (suc i) cs in
+          qed 𝓛 ((‵ (under R α δ lent had b o b' o' i c) ⊛ ‵ (Rest lent)) ∷ ‵ (fdead α) ∷ []) ∵ updating ! $ split ! $ move ! (1 ∷ 2 ∷ []) $
+          use2 𝓛 (later (‵ (Rest owned) ⊛ ‵ (fdead α))) (unlends b b' cs (o + 40) (o' + stride R) (suc i)) $ await ! tt $ split ! $ move ! (2 ∷ 1 ∷ []) $
+          use2 𝓛 (later (‵ (under R α δ owned had b o b' o' i c) ⊛ ‵ (fdead α))) (unlends_one b b' o o' i c) $ await ! tt $ split ! $ move ! (0 ∷ 2 ∷ []) $ fjoin ! $
+          now ! $ done !
 
-    pub unlends_strips : (ss : List Strip) (cs : List (Cell R.Denot)) → ent 𝓤 (sep 𝓤 (sem 𝓛 (strips R α δ lent had ss cs)) (sem 𝓛 (fdead α)))
-        (𝓛.H.⇛ (sep 𝓤 (sem 𝓛 (strips R α δ owned had ss cs)) (sem 𝓛 (fdead α))))
-    unlends_strips [] cs = qed 𝓛 (‵ ftrue ∷ ‵ (fdead α) ∷ []) ∵ updating ! $ now ! $ done !
-    unlends_strips (s ∷ ss) cs =
-        let Here : (ℕ → R.Denot → ℕ → ℕ → Fml) → Fml = λ l. numbers R α δ l had (block_of s.words) (s.skip * 8 + count_of s.words) (block_of s.values)
-        (count_of s.values) s.first (take s.size cs) in
-        let Rest : (ℕ → R.Denot → ℕ → ℕ → Fml) → Fml = λ l. strips R α δ l had ss (drop s.size cs) in
-        qed 𝓛 ((‵ (Here lent) ⊛ ‵ (Rest lent)) ∷ ‵ (fdead α) ∷ []) ∵ updating ! $ split ! $ move ! (1 ∷ 2 ∷ []) $
-        use2 𝓛 (later (‵ (Rest owned) ⊛ ‵ (fdead α))) (unlends_strips ss (drop s.size cs)) $ await ! tt $ split ! $ move ! (2 ∷ 1 ∷ []) $
-        use2 𝓛 (later (‵ (Here owned) ⊛ ‵ (fdead α)))
-        (unlends (block_of s.words) (block_of s.values) (take s.size cs) (s.skip * 8 + count_of s.words) (count_of s.values) s.first) $ await ! tt $ split ! $
-        move ! (0 ∷ 2 ∷ []) $ fjoin ! $ now ! $ done !
+      pub unlends_strips : (ss : List Strip) (cs : List (Cell R.Denot)) → ent 𝓤 (sep 𝓤 (sem 𝓛 (strips R α δ lent had ss cs)) (sem 𝓛 (fdead α)))
+          (𝓛.H.⇛ (sep 𝓤 (sem 𝓛 (strips R α δ owned had ss cs)) (sem 𝓛 (fdead α))))
+      unlends_strips [] cs = qed 𝓛 (‵ ftrue ∷ ‵ (fdead α) ∷ []) ∵ updating ! $ now ! $ done !
+      unlends_strips (s ∷ ss) cs =
+          let Here : (ℕ → Body R.Denot → ℕ → ℕ → Fml) → Fml = λ l. numbers R α δ l had (block_of s.words) (s.skip * 8 + count_of s.words) (block_of s.values)
+          (count_of s.values) s.first (take s.size cs) in
+          let Rest : (ℕ → Body R.Denot → ℕ → ℕ → Fml) → Fml = λ l. strips R α δ l had ss (drop s.size cs) in
+          qed 𝓛 ((‵ (Here lent) ⊛ ‵ (Rest lent)) ∷ ‵ (fdead α) ∷ []) ∵ updating ! $ split ! $ move ! (1 ∷ 2 ∷ []) $
+          use2 𝓛 (later (‵ (Rest owned) ⊛ ‵ (fdead α))) (unlends_strips ss (drop s.size cs)) $ await ! tt $ split ! $ move ! (2 ∷ 1 ∷ []) $
+          use2 𝓛 (later (‵ (Here owned) ⊛ ‵ (fdead α)))
+          (unlends (block_of s.words) (block_of s.values) (take s.size cs) (s.skip * 8 + count_of s.words) (count_of s.values) s.first) $ await ! tt $ split ! $
+          move ! (0 ∷ 2 ∷ []) $ fjoin ! $ now ! $ done !
 
-  -- what comes back of so many numbers
-  abbrev Torn : ℕ → ℕ → ℕ → ℕ → ℕ → List ℕ × List (Option R.Denot) → SProp 𝓤
-  Torn b b' n o o' u = guard 𝓤 ((length u.0 ≡ n * 5) × (length u.1 ≡ n)) (sep 𝓤 (sem 𝓛 (row b o u.0)) (sem 𝓛 (places R b' o' u.1)))
+    -- what comes back of so many numbers
+    abbrev Torn : ℕ → ℕ → ℕ → ℕ → ℕ → List ℕ × List (Option R.Denot) → SProp 𝓤
+    Torn b b' n o o' u = guard 𝓤 ((length u.0 ≡ n * 5) × (length u.1 ≡ n))
+        (sep 𝓤 (sem 𝓛 (row b o u.0)) (sep 𝓤 (sem 𝓛 (places R b' o' u.1)) (sem 𝓛 (pieces own u.1))))
 
-  abbrev torn_item : ℕ → ℕ → ℕ → ℕ → ℕ → List ℕ × List (Option R.Denot) → types.Kit.Item 𝓤
-  torn_item b b' n o o' u = given ((length u.0 ≡ n * 5) × (length u.1 ≡ n)) (‵ (row b o u.0) ⊛ ‵ (places R b' o' u.1))
+    abbrev torn_item : ℕ → ℕ → ℕ → ℕ → ℕ → List ℕ × List (Option R.Denot) → types.Kit.Item 𝓤
+    torn_item b b' n o o' u = given ((length u.0 ≡ n * 5) × (length u.1 ≡ n)) (‵ (row b o u.0) ⊛ ‵ (places R b' o' u.1) ⊛ ‵ (pieces own u.1))
 
-  -- four words, a sign and the place, before those of further numbers
-  stacks : (b b' n o o' s : ℕ) (ws : List ℕ) (x : Option R.Denot) → length ws ≡ 4 → (u : List ℕ × List (Option R.Denot)) → (length u.0 ≡ n * 5) × (length u.1 ≡ n)
-      → ent 𝓤 (sep 𝓤 (sem 𝓛 (word b (o + 32) s)) (sep 𝓤 (sem 𝓛 (fsep (row b o ws) (place R α δ b' o' x))) (sep 𝓤 (sem 𝓛 (row b (o + 40) u.0)) (sem 𝓛 (places R b' (o' + stride R) u.1)))))
-      (ex 𝓤 (Torn b b' (suc n) o o'))
-  stacks b b' n o o' s ws x four u long_are =
-      let on : o + 40 ≡ o + 32 + 8 = omega arith in let l = long_are.0 in let m = long_are.1 in
-      let all : length (ws ++ s ∷ u.0) ≡ suc n * 5 = length-append ws (s ∷ u.0) ∙ omega (arith, four, l) in
-      qed 𝓛 (‵ (word b (o + 32) s) ∷ ‵ (fsep (row b o ws) (place R α δ b' o' x)) ∷ ‵ (row b (o + 40) u.0) ∷ ‵ (places R b' (o' + stride R) u.1) ∷ []) ∵
-      move ! (2 ∷ []) $ rewrite ! 0 (λ (k : ℕ). ‵ (row b k u.0)) on refl $ move ! (1 ∷ 0 ∷ []) $ fjoin ! $ move ! (1 ∷ []) $ fsplit ! $
-      -- [the entry; the place; the sign and the rest; places]
-      move ! (0 ∷ 2 ∷ []) $ use2 𝓛 (‵ (row b o (ws ++ s ∷ u.0))) (row_joins 𝓛 b ws (s ∷ u.0) o (o + 32) (omega (arith, four))) $ move ! (1 ∷ 2 ∷ []) $ fjoin ! $
-      show ! (Torn b b' (suc n) o o') (ws ++ s ∷ u.0, x ∷ u.1) $ check ! (all, omega (arith, m)) $ move ! (1 ∷ 0 ∷ []) $ done !
+    -- four words, a sign, the place and its own words, before those of further numbers
+    stacks : (b b' n o o' s : ℕ) (ws : List ℕ) (x : Option R.Denot) → length ws ≡ 4 → (u : List ℕ × List (Option R.Denot)) → (length u.0 ≡ n * 5) × (length u.1 ≡ n)
+        → ent 𝓤 (sep 𝓤 (sem 𝓛 (word b (o + 32) s)) (sep 𝓤 (sem 𝓛 (fsep (row b o ws) (fsep (piece_in own x) (place R α δ b' o' x))))
+        (sep 𝓤 (sem 𝓛 (row b (o + 40) u.0)) (sep 𝓤 (sem 𝓛 (places R b' (o' + stride R) u.1)) (sem 𝓛 (pieces own u.1))))))
+        (ex 𝓤 (Torn b b' (suc n) o o'))
+    stacks b b' n o o' s ws x four u long_are =
+        let on : o + 40 ≡ o + 32 + 8 = omega arith in let l = long_are.0 in let m = long_are.1 in
+        let all : length (ws ++ s ∷ u.0) ≡ suc n * 5 = length-append ws (s ∷ u.0) ∙ omega (arith, four, l) in
+        qed 𝓛 (‵ (word b (o + 32) s) ∷ ‵ (fsep (row b o ws) (fsep (piece_in own x) (place R α δ b' o' x))) ∷ ‵ (row b (o + 40) u.0) ∷
+        ‵ (places R b' (o' + stride R) u.1) ∷ ‵ (pieces own u.1) ∷ []) ∵
+        move ! (2 ∷ []) $ rewrite ! 0 (λ (k : ℕ). ‵ (row b k u.0)) on refl $ move ! (1 ∷ 0 ∷ []) $ fjoin ! $ move ! (1 ∷ []) $ fsplit ! $
+        -- [the entry; the place with its own words; the sign and the rest; places; their own words]
+        move ! (0 ∷ 2 ∷ []) $ use2 𝓛 (‵ (row b o (ws ++ s ∷ u.0))) (row_joins 𝓛 b ws (s ∷ u.0) o (o + 32) (omega (arith, four))) $ move ! (1 ∷ []) $ fsplit ! $
+        -- [the own words; the place; the row; places; their own words]
+        move ! (0 ∷ 4 ∷ []) $ fjoin ! $ move ! (1 ∷ 3 ∷ []) $ fjoin ! $
+        show ! (Torn b b' (suc n) o o') (ws ++ s ∷ u.0, x ∷ u.1) $ check ! (all, omega (arith, m)) $ move ! (2 ∷ 0 ∷ 1 ∷ []) $ done !
 
-  tears : (b b' : ℕ) (cs : List (Cell R.Denot)) (o o' i : ℕ) → ((k : ℕ) (x : Block R.Denot) → block_in (cell_at cs k) ≡ Some x → length x.entry ≡ 4)
-      → ent 𝓤 (sep 𝓤 (sem 𝓛 (numbers R α δ owned had b o b' o' i cs)) (sem 𝓛 (fdead α))) (ex 𝓤 (Torn b b' (length cs) o o'))
-  tears b b' [] o o' i fours = qed 𝓛 (‵ ftrue ∷ ‵ (fdead α) ∷ []) ∵ show ! (Torn b b' 0 o o') ([], []) $ check ! (refl, refl) $ leave ! $ leave ! $ nothing ! $ nothing ! $ done !
-  tears b b' (c ∷ cs) o o' i fours =
-      qed 𝓛 ((‵ (under R α δ owned had b o b' o' i c) ⊛ ‵ (numbers R α δ owned had b (o + 40) b' (o' + stride R) (suc i) cs)) ∷ ‵ (fdead α) ∷ []) ∵ split ! $ move ! (2 ∷ []) $
-      use1 𝓛 (‵ (fdead α) ⊛ ‵ (fdead α)) (𝓛.lfts.dead_dup α) $ split ! $ move ! (3 ∷ 0 ∷ []) $
-      use2 𝓛 (items (torn_item b b' (length cs) (o + 40) (o' + stride R))) (tears b b' cs (o + 40) (o' + stride R) (suc i) (λ k. fours (suc k))) $
-      pick ! (λ u. learn ! (λ l. split ! $ move ! (3 ∷ 2 ∷ []) $ fsplit ! $ by ! (parts c (λ x e. fours 0 x e) u l)))
-    where
-      parts : (c : Cell R.Denot) → ((x : Block R.Denot) → block_in c ≡ Some x → length x.entry ≡ 4) → (u : List ℕ × List (Option R.Denot))
-          → (length u.0 ≡ length cs * 5) × (length u.1 ≡ length cs)
-          → ent 𝓤 (sep 𝓤 (sem 𝓛 (word b (o + 32) (sign_of c))) (sep 𝓤 (sem 𝓛 (kept R α δ owned had b o b' o' i c)) (sep 𝓤 (sem 𝓛 (fdead α))
-          (sep 𝓤 (sem 𝓛 (row b (o + 40) u.0)) (sem 𝓛 (places R b' (o' + stride R) u.1)))))) (ex 𝓤 (Torn b b' (suc (length cs)) o o'))
-      parts Free four u l =
-          qed 𝓛 (‵ (word b (o + 32) 0) ∷ ‵ (kept R α δ owned had b o b' o' i Free) ∷ ‵ (fdead α) ∷ ‵ (row b (o + 40) u.0) ∷ ‵ (places R b' (o' + stride R) u.1) ∷ []) ∵
-          move ! (1 ∷ []) $ fsplit ! $ keep ! (2 ∷ 1 ∷ 4 ∷ 5 ∷ []) $ by ! (stacks b b' (length cs) o o' 0 zeros None refl u l)
-      parts Claimed four u l =
-          qed 𝓛 (‵ (word b (o + 32) 1) ∷ ‵ (kept R α δ owned had b o b' o' i Claimed) ∷ ‵ (fdead α) ∷ ‵ (row b (o + 40) u.0) ∷ ‵ (places R b' (o' + stride R) u.1) ∷ []) ∵
-          move ! (1 ∷ []) $ fsplit ! $ keep ! (2 ∷ 1 ∷ 4 ∷ 5 ∷ []) $ by ! (stacks b b' (length cs) o o' 1 zeros None refl u l)
-      parts (Has x ws) four u l =
-          qed 𝓛 (‵ (word b (o + 32) 1) ∷ ‵ (kept R α δ owned had b o b' o' i (Has x ws)) ∷ ‵ (fdead α) ∷ ‵ (row b (o + 40) u.0) ∷ ‵ (places R b' (o' + stride R) u.1) ∷
-          []) ∵
-          move ! (1 ∷ []) $ fsplit ! $ keep ! (2 ∷ 1 ∷ 4 ∷ 5 ∷ []) $ by ! (stacks b b' (length cs) o o' 1 ws (Some x) (four _ refl) u l)
-      parts (Out s) four u l =
-          qed 𝓛 (‵ (word b (o + 32) 1) ∷ ‵ (kept R α δ owned had b o b' o' i (Out s)) ∷ ‵ (fdead α) ∷ ‵ (row b (o + 40) u.0) ∷ ‵ (places R b' (o' + stride R) u.1) ∷ []) ∵
-          move ! (1 ∷ []) $ fsplit ! $ move ! (1 ∷ 3 ∷ []) $ use2 𝓛 (raw (never 𝓤)) (𝓛.lfts.lft-dead α s) $ keep ! (0 ∷ []) $
-          by ! (never_e 𝓤 (ex 𝓤 (Torn b b' (suc (length cs)) o o')))
-      parts (Held ρ s x ws) four u l =
-          qed 𝓛 (‵ (word b (o + 32) 1) ∷ ‵ (kept R α δ owned had b o b' o' i (Held ρ s x ws)) ∷ ‵ (fdead α) ∷ ‵ (row b (o + 40) u.0) ∷ ‵ (places R b' (o' + stride R) u.1) ∷
-          []) ∵
-          move ! (1 ∷ []) $ fsplit3 ! $ move ! (2 ∷ []) $ fsplit ! $ move ! (0 ∷ 5 ∷ []) $ use2 𝓛 (raw (never 𝓤)) (𝓛.lfts.lft-dead α s) $ keep ! (0 ∷ []) $
-          by ! (never_e 𝓤 (ex 𝓤 (Torn b b' (suc (length cs)) o o')))
+    -- what lies under a number, before what has come back of further ones
+    abbrev all_of : (b b' o o' i : ℕ) → Cell R.Denot → List ℕ × List (Option R.Denot) → List (types.Kit.Item 𝓤)
+    all_of b b' o o' i c u = ‵ (word b (o + 32) (sign_of c)) ∷ ‵ (kept R α δ owned had b o b' o' i c) ∷ ‵ (fdead α) ∷ ‵ (row b (o + 40) u.0) ∷
+        ‵ (places R b' (o' + stride R) u.1) ∷ ‵ (pieces own u.1) ∷ []
 
-  -- strip by strip
-  abbrev pub all_stripped : List Strip → Fml
-  all_stripped [] = ftrue
-  all_stripped (s ∷ ss) = fsep (stripped R false s) (all_stripped ss)
+    tears : (b b' : ℕ) (cs : List (Cell R.Denot)) (o o' i : ℕ) → ((k : ℕ) (x : Block R.Denot) → block_in (cell_at cs k) ≡ Some x → length x.entry ≡ 4)
+        → ent 𝓤 (sep 𝓤 (sem 𝓛 (numbers R α δ owned had b o b' o' i cs)) (sem 𝓛 (fdead α))) (ex 𝓤 (Torn b b' (length cs) o o'))
+    tears b b' [] o o' i fours = qed 𝓛 (‵ ftrue ∷ ‵ (fdead α) ∷ []) ∵ show ! (Torn b b' 0 o o') ([], []) $ check ! (refl, refl) $ leave ! $ leave ! $ nothing ! $ nothing ! $ nothing ! $ done !
+    tears b b' (c ∷ cs) o o' i fours =
+        qed 𝓛 ((‵ (under R α δ owned had b o b' o' i c) ⊛ ‵ (numbers R α δ owned had b (o + 40) b' (o' + stride R) (suc i) cs)) ∷ ‵ (fdead α) ∷ []) ∵ split ! $ move ! (2 ∷ []) $
+        use1 𝓛 (‵ (fdead α) ⊛ ‵ (fdead α)) (𝓛.lfts.dead_dup α) $ split ! $ move ! (3 ∷ 0 ∷ []) $
+        use2 𝓛 (items (torn_item b b' (length cs) (o + 40) (o' + stride R))) (tears b b' cs (o + 40) (o' + stride R) (suc i) (λ k. fours (suc k))) $
+        pick ! (λ u. learn ! (λ l. split3 ! $ move ! (4 ∷ 3 ∷ []) $ fsplit ! $ by ! (parts c (λ x e. fours 0 x e) u l)))
+      where
+        parts : (c : Cell R.Denot) → ((x : Block R.Denot) → block_in c ≡ Some x → length x.entry ≡ 4) → (u : List ℕ × List (Option R.Denot))
+            → (length u.0 ≡ length cs * 5) × (length u.1 ≡ length cs)
+            → ent 𝓤 (sep 𝓤 (sem 𝓛 (word b (o + 32) (sign_of c))) (sep 𝓤 (sem 𝓛 (kept R α δ owned had b o b' o' i c)) (sep 𝓤 (sem 𝓛 (fdead α))
+            (sep 𝓤 (sem 𝓛 (row b (o + 40) u.0)) (sep 𝓤 (sem 𝓛 (places R b' (o' + stride R) u.1)) (sem 𝓛 (pieces own u.1))))))) (ex 𝓤 (Torn b b' (suc (length cs)) o o'))
+        parts Free four u l = qed 𝓛 (all_of b b' o o' i Free u) ∵ move ! (1 ∷ []) $ fsplit ! $ move ! (1 ∷ []) $ fsplit ! $
+            -- [the entry; the place; the hand; the sign; dead; the rest; places; their own words]
+            nothing ! $ move ! (0 ∷ 2 ∷ []) $ fjoin ! $ move ! (1 ∷ 0 ∷ []) $ fjoin ! $ keep ! (2 ∷ 0 ∷ 4 ∷ 5 ∷ 6 ∷ []) $
+            by ! (stacks b b' (length cs) o o' 0 zeros None refl u l)
+        parts Claimed four u l = qed 𝓛 (all_of b b' o o' i Claimed u) ∵ move ! (1 ∷ []) $ fsplit ! $ move ! (1 ∷ []) $ fsplit ! $
+            nothing ! $ move ! (0 ∷ 2 ∷ []) $ fjoin ! $ move ! (1 ∷ 0 ∷ []) $ fjoin ! $ keep ! (2 ∷ 0 ∷ 4 ∷ 5 ∷ 6 ∷ []) $
+            by ! (stacks b b' (length cs) o o' 1 zeros None refl u l)
+        parts (Has x ws) four u l = qed 𝓛 (all_of b b' o o' i (Has x ws) u) ∵ move ! (1 ∷ []) $ fsplit ! $ move ! (1 ∷ []) $ fsplit ! $ move ! (1 ∷ []) $ fsplit ! $
+            -- [the own words; the place; the entry; the hand; the sign; dead; the rest; places; their own words]
+            fpack ! (List ℕ) (λ us. piece own (x.0, us)) x.1 $ fjoin ! $ move ! (1 ∷ 0 ∷ []) $ fjoin ! $ keep ! (2 ∷ 0 ∷ 4 ∷ 5 ∷ 6 ∷ []) $
+            by ! (stacks b b' (length cs) o o' 1 ws (Some x.0) (four _ refl) u l)
+        parts (Out s) four u l = qed 𝓛 (all_of b b' o o' i (Out s) u) ∵
+            move ! (1 ∷ []) $ fsplit ! $ move ! (1 ∷ 3 ∷ []) $ use2 𝓛 (raw (never 𝓤)) (𝓛.lfts.lft-dead α s) $ keep ! (0 ∷ []) $
+            by ! (never_e 𝓤 (ex 𝓤 (Torn b b' (suc (length cs)) o o')))
+        parts (Held ρ s x ws) four u l = qed 𝓛 (all_of b b' o o' i (Held ρ s x ws) u) ∵
+            move ! (1 ∷ []) $ fsplit3 ! $ move ! (2 ∷ []) $ fsplit ! $ move ! (0 ∷ 5 ∷ []) $ use2 𝓛 (raw (never 𝓤)) (𝓛.lfts.lft-dead α s) $ keep ! (0 ∷ []) $
+            by ! (never_e 𝓤 (ex 𝓤 (Torn b b' (suc (length cs)) o o')))
 
-  tears_all : (ss : List Strip) (cs : List (Cell R.Denot)) (j n : ℕ) → AreStrips j ss n → n ≡ j + length cs → AreFour cs
-      → ent 𝓤 (sep 𝓤 (sem 𝓛 (strips R α δ owned had ss cs)) (sem 𝓛 (fdead α))) (sem 𝓛 (all_stripped ss))
-  tears_all [] cs j n are long fours = qed 𝓛 (‵ ftrue ∷ ‵ (fdead α) ∷ []) ∵ leave ! $ leave ! $ nothing ! $ done !
-  tears_all (s ∷ ss) cs j n are long fours =
-      let b : ℕ = block_of s.words in let o : ℕ = s.skip * 8 + count_of s.words in let b' : ℕ = block_of s.values in let o' : ℕ = count_of s.values in
-      let us : List (Cell R.Denot) = take s.size cs in let up = strips_up ss (j + s.size) n are.1 in let le : s.size ≤ length cs = omega (arith, up, long) in
-      let size : length us ≡ s.size = length-take-le s.size cs le in let rest = length-drop s.size cs in
-      let Parts : List ℕ × List (Option R.Denot) → Fml = λ u. fsep (fact (AreOf R false s u)) (fsep (row b o u.0) (places R b' o' u.1)) in
-      qed 𝓛 ((‵ (numbers R α δ owned had b o b' o' s.first us) ⊛ ‵ (strips R α δ owned had ss (drop s.size cs))) ∷ ‵ (fdead α) ∷ []) ∵ split ! $ move ! (2 ∷ []) $
-      use1 𝓛 (‵ (fdead α) ⊛ ‵ (fdead α)) (𝓛.lfts.dead_dup α) $ split ! $ move ! (3 ∷ 0 ∷ []) $
-      use2 𝓛 (‵ (all_stripped ss))
-      (tears_all ss (drop s.size cs) (j + s.size) n are.1 (omega (arith, long, rest, le)) (λ k x e. fours (s.size + k) x (dropped_cell s.size k (s.size + k) cs x refl e))) $
-      move ! (2 ∷ 1 ∷ []) $ use2 𝓛 (items (torn_item b b' (length us) o o'))
-      (tears b b' us o o' s.first (λ k x e. fours k x (taken_cell s.size k cs x e))) $ pick ! (λ u. learn ! (λ l. split ! $ fjoin ! $
-      let is : (length u.0 ≡ s.size * 5) × (length u.1 ≡ s.size) = subst (λ (m : ℕ). (length u.0 ≡ m * 5) × (length u.1 ≡ m)) size l in
-      nothing ! $ fpack ! (AreOf R false s u) (λ _. ftrue) (is.0, is.1, λ e. absurd (cc e)) $ fjoin ! $ fpack ! (List ℕ × List (Option R.Denot)) Parts u $
-      fjoin ! $ done !))
+    -- strip by strip
+    abbrev pub all_stripped : List Strip → Fml
+    all_stripped [] = ftrue
+    all_stripped (s ∷ ss) = fsep (stripped R own false s) (all_stripped ss)
 
-  -- with the rights to their blocks
-  all_joined : (σ : ℕ) (Is : ℕ → Strip → Type 0) (b n : ℕ) (ss : List Strip)
-      → ent 𝓤 (sep 𝓤 (sem 𝓛 (all_stripped ss)) (sem 𝓛 (Doors.rights 𝓛 σ Is (right_to R) b (take n ss)))) (sem 𝓛 (all_alone R false (take n ss)))
-  all_joined σ Is b zero ss = qed 𝓛 (‵ (all_stripped ss) ∷ ‵ ftrue ∷ []) ∵ leave ! $ done !
-  all_joined σ Is b (suc n) [] = qed 𝓛 (‵ ftrue ∷ ‵ ftrue ∷ []) ∵ leave ! $ done !
-  all_joined σ Is b (suc n) (s ∷ ss) = let Rs : List Strip → Fml = Doors.rights 𝓛 σ Is (right_to R) b in
-      qed 𝓛 ((‵ (stripped R false s) ⊛ ‵ (all_stripped ss)) ∷ (‵ (right_to R s) ⊛ ‵ (Rs (take n ss))) ∷ []) ∵ split ! $ move ! (2 ∷ []) $ split ! $
-      -- [the right; the other rights; the strip; the others]
-      move ! (2 ∷ 0 ∷ []) $ fjoin ! $ move ! (2 ∷ 1 ∷ []) $ use2 𝓛 (‵ (all_alone R false (take n ss))) (all_joined σ Is b n ss) $ move ! (1 ∷ 0 ∷ []) $ fjoin ! $ done !
+    tears_all : (ss : List Strip) (cs : List (Cell R.Denot)) (j n : ℕ) → AreStrips j ss n → n ≡ j + length cs → AreFour cs
+        → ent 𝓤 (sep 𝓤 (sem 𝓛 (strips R α δ owned had ss cs)) (sem 𝓛 (fdead α))) (sem 𝓛 (all_stripped ss))
+    tears_all [] cs j n are long fours = qed 𝓛 (‵ ftrue ∷ ‵ (fdead α) ∷ []) ∵ leave ! $ leave ! $ nothing ! $ done !
+    tears_all (s ∷ ss) cs j n are long fours =
+        let b : ℕ = block_of s.words in let o : ℕ = s.skip * 8 + count_of s.words in let b' : ℕ = block_of s.values in let o' : ℕ = count_of s.values in
+        let us : List (Cell R.Denot) = take s.size cs in let up = strips_up ss (j + s.size) n are.1 in let le : s.size ≤ length cs = omega (arith, up, long) in
+        let size : length us ≡ s.size = length-take-le s.size cs le in let rest = length-drop s.size cs in
+        let Parts : List ℕ × List (Option R.Denot) → Fml = λ u. fsep (fact (AreOf R own false s u)) (fsep (row b o u.0) (fsep (places R b' o' u.1) (pieces own u.1))) in
+        qed 𝓛 ((‵ (numbers R α δ owned had b o b' o' s.first us) ⊛ ‵ (strips R α δ owned had ss (drop s.size cs))) ∷ ‵ (fdead α) ∷ []) ∵ split ! $ move ! (2 ∷ []) $
+        use1 𝓛 (‵ (fdead α) ⊛ ‵ (fdead α)) (𝓛.lfts.dead_dup α) $ split ! $ move ! (3 ∷ 0 ∷ []) $
+        use2 𝓛 (‵ (all_stripped ss))
+        (tears_all ss (drop s.size cs) (j + s.size) n are.1 (omega (arith, long, rest, le)) (λ k x e. fours (s.size + k) x (dropped_cell s.size k (s.size + k) cs x refl e))) $
+        move ! (2 ∷ 1 ∷ []) $ use2 𝓛 (items (torn_item b b' (length us) o o'))
+        (tears b b' us o o' s.first (λ k x e. fours k x (taken_cell s.size k cs x e))) $ pick ! (λ u. learn ! (λ l. split3 ! $ move ! (1 ∷ 2 ∷ []) $ fjoin ! $ move ! (1 ∷ 0 ∷ []) $ fjoin ! $
+        let is : (length u.0 ≡ s.size * 5) × (length u.1 ≡ s.size) = subst (λ (m : ℕ). (length u.0 ≡ m * 5) × (length u.1 ≡ m)) size l in
+        nothing ! $ fpack ! (AreOf R own false s u) (λ _. ftrue) (is.0, is.1, λ e. absurd (cc e)) $ fjoin ! $ fpack ! (List ℕ × List (Option R.Denot)) Parts u $
+        fjoin ! $ done !))
+
+    -- with the rights to their blocks
+    all_joined : (σ : ℕ) (Is : ℕ → Strip → Type 0) (b n : ℕ) (ss : List Strip)
+        → ent 𝓤 (sep 𝓤 (sem 𝓛 (all_stripped ss)) (sem 𝓛 (Doors.rights 𝓛 σ Is (right_to R) b (take n ss)))) (sem 𝓛 (all_alone R own false (take n ss)))
+    all_joined σ Is b zero ss = qed 𝓛 (‵ (all_stripped ss) ∷ ‵ ftrue ∷ []) ∵ leave ! $ done !
+    all_joined σ Is b (suc n) [] = qed 𝓛 (‵ ftrue ∷ ‵ ftrue ∷ []) ∵ leave ! $ done !
+    all_joined σ Is b (suc n) (s ∷ ss) = let Rs : List Strip → Fml = Doors.rights 𝓛 σ Is (right_to R) b in
+        qed 𝓛 ((‵ (stripped R own false s) ⊛ ‵ (all_stripped ss)) ∷ (‵ (right_to R s) ⊛ ‵ (Rs (take n ss))) ∷ []) ∵ split ! $ move ! (2 ∷ []) $ split ! $
+        -- [the right; the other rights; the strip; the others]
+        move ! (2 ∷ 0 ∷ []) $ fjoin ! $ move ! (2 ∷ 1 ∷ []) $ use2 𝓛 (‵ (all_alone R own false (take n ss))) (all_joined σ Is b n ss) $ move ! (1 ∷ 0 ∷ []) $ fjoin ! $ done !
 
 zeros_of : (n k : ℕ) → slice_index (replicate n 0) k ≡ 0
 zeros_of zero k = refl
@@ -264,7 +273,7 @@ zeros_are zero m ws l none = fives_are m ws (omega (arith, l)) none
 zeros_are (suc n) m [] l none = absurd (omega (arith, l))
 zeros_are (suc n) m (a ∷ ws) l none = let first : a ≡ 0 = none 0 in let rest = zeros_are n m ws (omega (arith, l)) (λ k. none (suc k)) in cc (first, rest)
 
-module _ {M : Type 1} {𝓤 : Ura M} (𝓛 : Logic 𝓤) (R : RattleType) {V W : Type 0} (cv : Coded V) (holds : State R.Denot V W → Type 0) (p pv dp : Ptr) where
+module _ {M : Type 1} {𝓤 : Ura M} (𝓛 : Logic 𝓤) (R : RattleType) (own : Pieces R.Denot) {V W : Type 0} (cv : Coded V) (holds : State R.Denot V W → Type 0) (p pv dp : Ptr) where
   open 𝓛 use {H, A}
 
   abbrev ⟦◌⟧ : Fml → SProp 𝓤
@@ -292,7 +301,7 @@ module _ {M : Type 1} {𝓤 : Ura M} (𝓛 : Logic 𝓤) (R : RattleType) {V W :
   module _ (roots count most : ℕ) (within : count ≤ most) (blank : V) (ws : List ℕ) (none : AreZeros ws) (all : length ws ≡ whole roots count) (placed : IsPlaced R p (named 0 0 0 0 roots count most))
       (starts : Starts holds roots) where
     abbrev pub Opened : BaseId → SProp 𝓤
-    Opened z = guard 𝓤 ((z.roots ≡ roots) × (z.count ≡ most) × (z.values ≡ pv) × (z.size ≡ count) × (z.least ≡ count) × (z.doors ≡ dp) × IsFirst p z) ⟦ words_own R cv.code holds p z ⟧
+    Opened z = guard 𝓤 ((z.roots ≡ roots) × (z.count ≡ most) × (z.values ≡ pv) × (z.size ≡ count) × (z.least ≡ count) × (z.doors ≡ dp) × IsFirst p z) ⟦ words_own R own cv.code holds p z ⟧
 
     abbrev parts : Parts R.Denot
     parts = record { words = replicate (long roots) 0; slots = 0; cells = replicate count Free; given = 0 }
@@ -338,10 +347,10 @@ module _ {M : Type 1} {𝓤 : Ura M} (𝓛 : Logic 𝓤) (R : RattleType) {V W :
         use0 𝓛 (later (items (λ (δ : ℕ). ‵ (unborn hand_coded.code δ 0 resting)))) hands_new $ await ! tt $ pick ! (λ δ.
         use0 𝓛 (later (items (λ (σ : ℕ). ‵ (ledger strip_coded.code σ no_strip [])))) (via 𝓤 _ (Ledgers.begins 𝓛 strip_coded 0 no_strip)
         (basic 𝓛 (ex 𝓤 (λ (σ : ℕ). ⟦ ledger strip_coded.code σ no_strip [] ⟧)))) $ await ! tt $ pick ! (λ σ.
-        let z : BaseId = named a γ δ σ roots count most in let E : Fml = everything R cv.code holds (core_of z) in let s : Strip = strip_of p z in
+        let z : BaseId = named a γ δ σ roots count most in let E : Fml = everything R own cv.code holds (core_of z) in let s : Strip = strip_of p z in
         let Drs : Fml = doors_of R (book_of z) [] in
         let Book : Fml = ledger strip_coded.code σ no_strip (s ∷ []) in let Sh : Share → Fml = λ q. seen strip_coded.code σ q 0 s in
-        let Lt = lent_here R cv.code holds p z in let Hd = had_here R cv.code holds p z in
+        let Lt = lent_here R own cv.code holds p z in let Hd = had_here R own cv.code holds p z in
         let N : List (Cell R.Denot) → Fml = λ cs. numbers R α δ Lt Hd b f b' o' 0 cs in
         use1 𝓛 (later (‵ Book ⊛ ‵ (Sh three_quarters))) (via 𝓤 _ (Ledgers.comes 𝓛 strip_coded σ no_strip [] s) (basic 𝓛 _)) $ await ! tt $ split ! $
         move ! (1 ∷ []) $ fpack ! Share Sh three_quarters $
@@ -362,7 +371,7 @@ module _ {M : Type 1} {𝓤 : Ura M} (𝓛 : Logic 𝓤) (R : RattleType) {V W :
         move ! (4 ∷ 0 ∷ 1 ∷ []) $ fjoin3 ! $ fpack ! (List Strip) (listed R α δ Lt Hd (book_of z) (λ _. Unit {0}) all_free) (s ∷ []) $ move ! (1 ∷ 0 ∷ []) $ fjoin ! $
         -- [the memory; the strip; the views; the token]
         nothing ! $ fpack ! (holds (state_of z first) × AreLaid z.roots z.count parts) (λ _. ftrue) (begins, laid) $ move ! (1 ∷ 3 ∷ 0 ∷ []) $ fjoin3 ! $
-        fpack ! (Inside R.Denot V W) (standing_in R cv.code holds (core_of z) (λ _. Unit {0})) first $
+        fpack ! (Inside R.Denot V W) (standing_in R own cv.code holds (core_of z) (λ _. Unit {0})) first $
         bor_new ! tt α $ use1 𝓛 (later (‵ (invariant IsEven (fbor α E)))) (Stretches.made 𝓛 IsEven (fbor α E) Stretches.evens) $ await ! tt $
         -- [the invariant; what was lent; the strip; the token]
         move ! (2 ∷ 0 ∷ []) $ fjoin ! $
@@ -378,7 +387,7 @@ module _ {M : Type 1} {𝓤 : Ura M} (𝓛 : Logic 𝓤) (R : RattleType) {V W :
     Closed u =
         guard 𝓤 (AreClosed u)
         (sep 𝓤 ⟦ row (block_of p) (count_of p) u.0 ⟧ (sep 𝓤 ⟦ places R (block_of z.values) (count_of z.values) u.1 ⟧
-        (sep 𝓤 ⟦ pointers (block_of z.doors) (count_of z.doors) u.2 ⟧ ⟦ all_alone R false u.3 ⟧)))
+        (sep 𝓤 ⟦ pointers (block_of z.doors) (count_of z.doors) u.2 ⟧ (sep 𝓤 ⟦ all_alone R own false u.3 ⟧ ⟦ pieces own u.1 ⟧))))
 
     abbrev Drs : List Strip → Fml
     Drs ss = doors_of R (book_of z) ss
@@ -386,14 +395,14 @@ module _ {M : Type 1} {𝓤 : Ura M} (𝓛 : Logic 𝓤) (R : RattleType) {V W :
     abbrev α : Lft
     α = age z
 
-    abbrev Lt : ℕ → R.Denot → ℕ → ℕ → Fml
-    Lt = lent_here R cv.code holds p z
+    abbrev Lt : ℕ → Body R.Denot → ℕ → ℕ → Fml
+    Lt = lent_here R own cv.code holds p z
 
-    abbrev Hd : ℕ → ℕ → R.Denot → Fml
-    Hd = had_here R cv.code holds p z
+    abbrev Hd : ℕ → ℕ → Body R.Denot → Fml
+    Hd = had_here R own cv.code holds p z
 
-    abbrev Owned : ℕ → R.Denot → ℕ → ℕ → Fml
-    Owned = owned 𝓛 R α z.hands_name Lt Hd
+    abbrev Owned : ℕ → Body R.Denot → ℕ → ℕ → Fml
+    Owned = owned 𝓛 R α z.hands_name Lt Hd own
 
     abbrev Fixed : List ℕ → Fml
     Fixed ws = row (block_of z.fixed) (count_of z.fixed) ws
@@ -417,34 +426,34 @@ module _ {M : Type 1} {𝓤 : Ura M} (𝓛 : Logic 𝓤) (R : RattleType) {V W :
         let σ : ℕ = z.strips_name in let Is : ℕ → Strip → Type 0 = IsFurther R z.least in let db : ℕ = block_of z.doors in let d₀ : ℕ = count_of z.doors in
         let le : s.size ≤ length cs = let l = strips_up ss (0 + s.size) (length cs) are.1 in omega (arith, l) in let beyond = length-drop s.size cs in
         let further_long : length cs ≡ 0 + s.size + length (drop s.size cs) = omega (arith, beyond, le) in
-        let Stripped : Fml = all_stripped 𝓛 R α z.hands_name Lt Hd ss in
+        let Stripped : Fml = all_stripped 𝓛 R α z.hands_name Lt Hd own ss in
         qed 𝓛 (‵ (fsep (Of s) (strips R α z.hands_name Owned Hd ss (drop s.size cs))) ∷ ‵ (fdead α) ∷ ‵ (Fixed ws) ∷ ‵ (Drs ss) ∷ []) ∵ fsplit ! $
         move ! (2 ∷ []) $ use1 𝓛 (‵ (fdead α) ⊛ ‵ (fdead α)) (𝓛.lfts.dead_dup α) $ split ! $ move ! (3 ∷ 0 ∷ []) $
         use2 𝓛 (‵ Stripped)
-        (tears_all 𝓛 R α z.hands_name Lt Hd ss (drop s.size cs) (0 + s.size) (length cs) are.1 further_long (λ k x q. laid.fours (s.size + k) x (dropped_cell s.size k (s.size + k) cs x refl q))) $
+        (tears_all 𝓛 R α z.hands_name Lt Hd own ss (drop s.size cs) (0 + s.size) (length cs) are.1 further_long (λ k x q. laid.fours (s.size + k) x (dropped_cell s.size k (s.size + k) cs x refl q))) $
         -- [the others; dead; the first numbers; the first words; the doors]
         move ! (2 ∷ 1 ∷ 3 ∷ []) $
         rewrite ! 0 (λ (r : Strip). ‵ (Of r)) same refl $
         rewrite ! 2 (λ (r : Ptr). ‵ (At r)) is.0 refl $
-        use2 𝓛 (items (torn_item 𝓛 R α z.hands_name Lt Hd b b' (length us) f o'))
-        (tears 𝓛 R α z.hands_name Lt Hd b b' us f o' z.first (λ k x e. laid.fours k x (taken_cell z.size k cs x e))) $ pick ! (λ u. learn ! (λ l. split ! $
-        -- [its words; its places; the first words; the others; the doors]
+        use2 𝓛 (items (torn_item 𝓛 R α z.hands_name Lt Hd own b b' (length us) f o'))
+        (tears 𝓛 R α z.hands_name Lt Hd own b b' us f o' z.first (λ k x e. laid.fours k x (taken_cell z.size k cs x e))) $ pick ! (λ u. learn ! (λ l. split3 ! $
+        -- [its words; its places; their own words; the first words; the others; the doors]
         let l0 = l.0 in let l1 = l.1 in
         let long_is : length (ws ++ u.0) ≡ whole z.roots z.size = length-append ws u.0 ∙ omega (arith, head, l0, size) in
-        move ! (2 ∷ 0 ∷ []) $ use2 𝓛 (‵ (row b o (ws ++ u.0))) (row_joins 𝓛 b ws u.0 o f (omega (arith, head, skip))) $ move ! (3 ∷ []) $
+        move ! (3 ∷ 0 ∷ []) $ use2 𝓛 (‵ (row b o (ws ++ u.0))) (row_joins 𝓛 b ws u.0 o f (omega (arith, head, skip))) $ move ! (4 ∷ []) $
         use1 𝓛 (Doors.plain_item 𝓛 σ Is (right_to R) db d₀ 32 0 ss) (Doors.plain 𝓛 σ Is (right_to R) db 32 d₀ 0 ss) $ pick ! (λ ps. learn ! (λ few. split ! $
-        -- [the doors; the rights; the words; the places; the others]
-        move ! (4 ∷ 1 ∷ []) $ use2 𝓛 (‵ (all_alone R false (take 32 ss))) (all_joined 𝓛 R α z.hands_name Lt Hd σ Is db 32 ss) $
-        show ! Closed (ws ++ u.0, u.1, ps, take 32 ss) $ check ! (long_is, omega (arith, l1, size), few.0, placed, few.1) $ move ! (2 ∷ 3 ∷ 1 ∷ 0 ∷ []) $ done !))))
+        -- [the doors; the rights; the words; the places; their own words; the others]
+        move ! (5 ∷ 1 ∷ []) $ use2 𝓛 (‵ (all_alone R own false (take 32 ss))) (all_joined 𝓛 R α z.hands_name Lt Hd own σ Is db 32 ss) $
+        show ! Closed (ws ++ u.0, u.1, ps, take 32 ss) $ check ! (long_is, omega (arith, l1, size), few.0, placed, few.1) $ move ! (2 ∷ 3 ∷ 1 ∷ 0 ∷ 4 ∷ []) $ done !))))
 
-    pub closes : ent 𝓤 ⟦ words_own R cv.code holds p z ⟧ (H.⇛ (ex 𝓤 Closed))
-    closes = let E : Fml = everything R cv.code holds (core_of z) in
-        qed 𝓛 (‵ (words_own R cv.code holds p z) ∷ []) ∵ updating ! $ fsplit3 ! $ move ! (1 ∷ []) $ fsplit ! $ fpick ! (λ placed. leave ! $ fsplit ! $
+    pub closes : ent 𝓤 ⟦ words_own R own cv.code holds p z ⟧ (H.⇛ (ex 𝓤 Closed))
+    closes = let E : Fml = everything R own cv.code holds (core_of z) in
+        qed 𝓛 (‵ (words_own R own cv.code holds p z) ∷ []) ∵ updating ! $ fsplit3 ! $ move ! (1 ∷ []) $ fsplit ! $ fpick ! (λ placed. leave ! $ fsplit ! $
         -- [the strip; the invariant; the token; what was lent]
         move ! (1 ∷ []) $ leave ! $ move ! (1 ∷ []) $
         lft_end ! tt $ use1 𝓛 (‵ (fdead α) ⊛ ‵ (fdead α)) (𝓛.lfts.dead_dup α) $ split ! $ move ! (0 ∷ 3 ∷ []) $ lent_back ! tt $
         -- [all of it; dead; the strip]
-        move ! (0 ∷ 2 ∷ []) $ use2 𝓛 (‵ (inner R cv.code holds p z)) (Known.comes_in 𝓛 R cv holds p z) $
+        move ! (0 ∷ 2 ∷ []) $ use2 𝓛 (‵ (inner R own cv.code holds p z)) (Known.comes_in 𝓛 R own cv holds p z) $
         fpick ! (λ t. fsplit3 ! $ move ! (2 ∷ []) $ fpick ! (λ so. leave ! $
         -- [the memory; the views; dead]
         fsplit ! $ move ! (1 ∷ []) $ fpick ! (λ ss. fsplit3 ! $ move ! (1 ∷ []) $ fpick ! (λ are. leave ! $ fsplit ! $ leave ! $
@@ -452,6 +461,6 @@ module _ {M : Type 1} {𝓤 : Ura M} (𝓛 : Logic 𝓤) (R : RattleType) {V W :
         let cs : List (Cell R.Denot) = t.parts.cells in
         move ! (1 ∷ 4 ∷ []) $
         use2 𝓛 (later (‵ (strips R α z.hands_name Owned Hd ss cs) ⊛ ‵ (fdead α)))
-        (unlends_strips 𝓛 R α z.hands_name Lt Hd (Lendings.over 𝓛 R α cv z.views_name holds) ss cs) $ await ! tt $ split ! $
+        (unlends_strips 𝓛 R α z.hands_name Lt Hd own (Pieces.over 𝓛 R own cv holds p z) ss cs) $ await ! tt $ split ! $
         -- [the strips; dead; the doors; the words; the views]
         now ! $ keep ! (0 ∷ 1 ∷ 3 ∷ 2 ∷ []) $ by ! (gives_back t so.1 placed ss are.0 (subst (λ (k : ℕ). slice_get ss k ≡ Some (strip_of p z)) is.2 are.1)))))))

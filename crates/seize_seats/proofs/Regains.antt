@@ -23,7 +23,7 @@ use Rattle.seize_seats.specs.Cells.{Cell, Free, Claimed, Out, Has, Held, block_i
 use Rattle.seize_seats.specs.Seen.{seen}
 use Rattle.seize_seats.specs.Stretches.{IsEven, IsOfSeat, stretch_part, lasting, stretch, stretch_told}
 use Rattle.seize_seats.specs.Lendings.{Holder, Lending, ShownToBoth, AreShown, span, lending}
-use Rattle.seize_seats.specs.Owned.{Hand, busy, held, BaseId, age, core_of, IsIts, is_listed, Inside, state_of, inner, everything}
+use Rattle.seize_seats.specs.Owned.{Pieces, Hand, busy, held, BaseId, age, core_of, IsIts, is_listed, Inside, state_of, inner, everything}
 use Rattle.seize_seats.proofs.Cells.{block_is}
 use Rattle.seize_seats.proofs.Stretches.{one_seat}
 use Rattle.seize_seats.proofs.Stretches as Stretches
@@ -51,7 +51,7 @@ three i j n m k P Q S ne e o u =
       ((λ in_it. Or.elim ⊥_prop ((mem-cons {a = m} {b = k} {l = []}).0 in_it) other (λ x. not-mem-nil x)), ((λ x. not-mem-nil x), tt)),
     )
 
-module _ {M : Type 1} {𝓤 : Ura M} (𝓛 : Logic 𝓤) (R : RattleType) {V W : Type 0} (cv : Coded V) (holds : State R.Denot V W → Type 0) (keeps : V → V → W → ℕ
+module _ {M : Type 1} {𝓤 : Ura M} (𝓛 : Logic 𝓤) (R : RattleType) (own : Pieces R.Denot) {V W : Type 0} (cv : Coded V) (holds : State R.Denot V W → Type 0) (keeps : V → V → W → ℕ
     → Type 0) (p : Ptr) (z : BaseId) (i : ℕ) where
   open 𝓛 use {H, A}
 
@@ -73,47 +73,47 @@ module _ {M : Type 1} {𝓤 : Ura M} (𝓛 : Logic 𝓤) (R : RattleType) {V W :
   α = age z
 
   abbrev I : Fml
-  I = inner R cv.code holds p z
+  I = inner R own cv.code holds p z
 
   -- the invariant itself, and what is known of the strip
   abbrev E : Fml
-  E = everything R cv.code holds (core_of z)
+  E = everything R own cv.code holds (core_of z)
 
   abbrev L : Fml
   L = is_listed p z
 
   abbrev Inv : Fml
-  Inv = Moves.Inv 𝓛 R cv holds keeps p z
+  Inv = Moves.Inv 𝓛 R own cv holds keeps p z
 
   abbrev In : Type 0
   In = Inside R.Denot V W
 
   abbrev cell_of : Cell R.Denot → Fml
-  cell_of = Makings.cell_of 𝓛 R cv holds keeps p z i
+  cell_of = Makings.cell_of 𝓛 R own cv holds keeps p z i
 
   abbrev Recells : In → Cell R.Denot → Pr
-  Recells t = Makings.Recells 𝓛 R cv holds keeps p z t i
+  Recells t = Makings.Recells 𝓛 R own cv holds keeps p z t i
 
   abbrev hands : Share → Hand → Fml
-  hands q h = Makings.hands 𝓛 R cv holds keeps p z q i h
+  hands q h = Makings.hands 𝓛 R own cv holds keeps p z q i h
 
   abbrev IsAnothers : Hand → Cell R.Denot → Type 0
-  IsAnothers = Makings.IsAnothers 𝓛 R cv holds keeps p z
+  IsAnothers = Makings.IsAnothers 𝓛 R own cv holds keeps p z
 
   abbrev Led : In → Fml
-  Led = Makings.Led 𝓛 R cv holds keeps p z
+  Led = Makings.Led 𝓛 R own cv holds keeps p z
 
   abbrev Sound : In → Type 0
-  Sound = Makings.Sound 𝓛 R cv holds keeps p z
+  Sound = Makings.Sound 𝓛 R own cv holds keeps p z
 
   abbrev Sn : Holder V → Fml
   Sn h = seen cv.code z.views_name stretch_part h.seat h.view
 
   abbrev Shows : Holder V → Holder V → Fml → Type 1
-  Shows g o S = Hands.Shows 𝓛 R cv holds p z g.seat g.view o.seat o.view S
+  Shows g o S = Hands.Shows 𝓛 R own cv holds p z g.seat g.view o.seat o.view S
 
   abbrev Crowds : Holder V → Holder V → Fml → Type 2
-  Crowds g o S = Hands.Crowds 𝓛 R cv holds p z g.seat g.view o.seat o.view S
+  Crowds g o S = Hands.Crowds 𝓛 R own cv holds p z g.seat g.view o.seat o.view S
 
   abbrev Shown : Holder V → Holder V → Type 0
   Shown g o = ShownToBoth holds g.seat g.view o.seat o.view (suc i)
@@ -122,7 +122,7 @@ module _ {M : Type 1} {𝓤 : Ura M} (𝓛 : Logic 𝓤) (R : RattleType) {V W :
   another : (h : Hand) (c : Cell R.Denot) → IsAnothers h c → (S : Fml) (Z : Pr) (t : In)
       → ⟦ cell_of c ⟧ ∗ all 𝓤 (Recells t) ∗ ⟦ Led t ⟧ ∗ ⟦ S ⟧ ∗ ⟦ hands three_quarters h ⟧ ⊢ Z
   another h c ne S Z t = qed 𝓛 (‵ (cell_of c) ∷ raw (all 𝓤 (Recells t)) ∷ ‵ (Led t) ∷ (‵ S ⊛ ‵ (hands three_quarters h)) ∷ []) ∵ move ! (3 ∷ []) $ split ! $
-      move ! (2 ∷ 1 ∷ []) $ use2 𝓛 (raw Z) (Makings.not_theirs 𝓛 R cv holds keeps p z i h c Z ne) $ keep ! (0 ∷ []) $ done !
+      move ! (2 ∷ 1 ∷ []) $ use2 𝓛 (raw Z) (Makings.not_theirs 𝓛 R own cv holds keeps p z i h c Z ne) $ keep ! (0 ∷ []) $ done !
 
   -- The place is in the hand of a call, and no seats whose views show the block have those views now.
   module _ (Hd : Fml) (none : (g o : Holder V) (S : Fml) → Shows g o S → Crowds g o S → Shown g o → (Z : Pr) → ⟦ I ⟧ ∗ (⟦ S ⟧ ∗ ⟦ Hd ⟧) ⊢ Z) where
@@ -156,8 +156,8 @@ module _ {M : Type 1} {𝓤 : Ura M} (𝓛 : Logic 𝓤) (R : RattleType) {V W :
         finds : (m : ℕ) (y : Bool) → ⟦ Lasts g y ⟧ ∗ ⟦ I ⟧ ∗ ⟦ Hd ⟧ ⊢ upd 𝓤 (⟦ I ⟧ ∗ ⟦ bodies ((m, St g) ∷ []) ⟧ ∗ Q)
         finds m true = let Z : Pr = ⟦ I ⟧ ∗ ⟦ bodies ((m, St g) ∷ []) ⟧ ∗ Q in
             qed 𝓛 (‵ (Sn g) ∷ ‵ I ∷ ‵ Hd ∷ []) ∵ move ! (0 ∷ 2 ∷ []) $ join ! $ move ! (1 ∷ 0 ∷ []) $
-            by ! (none g o (Sn g) (Hands.one_shows 𝓛 R cv holds p z g.seat g.view o.seat o.view stretch_part same view)
-            (Hands.one_crowds 𝓛 R cv holds p z g.seat g.view o.seat o.view stretch_part same) shown (upd 𝓤 Z))
+            by ! (none g o (Sn g) (Hands.one_shows 𝓛 R own cv holds p z g.seat g.view o.seat o.view stretch_part same view)
+            (Hands.one_crowds 𝓛 R own cv holds p z g.seat g.view o.seat o.view stretch_part same) shown (upd 𝓤 Z))
         finds m false = let Z : Pr = ⟦ I ⟧ ∗ ⟦ bodies ((m, St g) ∷ []) ⟧ ∗ Q in
             qed 𝓛 (‵ (Lasts g false) ∷ ‵ I ∷ ‵ Hd ∷ []) ∵ suffices ! _ (upd_i 𝓤 Z) $ fsplit ! $
             use1 𝓛 (‵ (fdead (g.stretch ∷ [])) ⊛ ‵ (fdead (g.stretch ∷ []))) (𝓛.lfts.dead_dup (g.stretch ∷ [])) $ split ! $ move ! (1 ∷ 2 ∷ []) $ fjoin ! $
@@ -169,10 +169,10 @@ module _ {M : Type 1} {𝓤 : Ura M} (𝓛 : Logic 𝓤) (R : RattleType) {V W :
         both n m e u = let Z : Pr = ⟦ E ⟧ ∗ ⟦ bodies ((m, St g) ∷ []) ⟧ ∗ Q in
             via 𝓤 _ (qed 𝓛 (‵ (fnamed m (St g)) ∷ ‵ (fnamed n (fbor α E)) ∷ ‵ (flft α q) ∷ ‵ L ∷ ‵ Hd ∷ []) ∵ use0 𝓛 (‵ ftrue) (id⊢ 𝓤 (emp 𝓤)) $
             move ! (1 ∷ 0 ∷ []) $ fjoin ! $ move ! (1 ∷ 0 ∷ []) $ fjoin ! $ frame ! $ frame ! $ assume ! (‵ E ⊛ ‵ (bodies ((m, St g) ∷ []))) $ split ! $
-            move ! (0 ∷ 2 ∷ []) $ use2 𝓛 (‵ I) (Known.comes_in 𝓛 R cv holds p z) $
+            move ! (0 ∷ 2 ∷ []) $ use2 𝓛 (‵ I) (Known.comes_in 𝓛 R own cv holds p z) $
             move ! (1 ∷ []) $ fsplit ! $ move ! (1 ∷ []) $ drop ! $ fpick ! (λ y.
             use3 𝓛 (raw (upd 𝓤 (⟦ I ⟧ ∗ ⟦ bodies ((m, St g) ∷ []) ⟧ ∗ Q))) (finds m y) $ settle 𝓛 Z (‵ I ⊛ ‵ (bodies ((m, St g) ∷ [])) ⊛ raw Q) $
-            split3 ! $ suffices ! _ (upd_i 𝓤 Z) $ use1 𝓛 (‵ E) (Known.goes_out 𝓛 R cv holds p z) $ done !))
+            split3 ! $ suffices ! _ (upd_i 𝓤 Z) $ use1 𝓛 (‵ E) (Known.goes_out 𝓛 R own cv holds p z) $ done !))
             (𝓛.invs.invs_bor_acc n α q E ((m, St g) ∷ []) Q (two g.seat n m (fbor α E) (St g) e u))
 
         ended : ⟦ Inv ⟧ ∗ A.lft α q ∗ ⟦ Told g ⟧ ∗ ⟦ Hd ⟧ ⊢ H.⇛ (Q ∗ A.lft α q)
@@ -188,8 +188,8 @@ module _ {M : Type 1} {𝓤 : Ura M} (𝓛 : Logic 𝓤) (R : RattleType) {V W :
         finds_two : (m k : ℕ) (y y' : Bool) → ⟦ Lasts g y ⟧ ∗ ⟦ Lasts o y' ⟧ ∗ ⟦ I ⟧ ∗ ⟦ Hd ⟧ ⊢ upd 𝓤 (⟦ I ⟧ ∗ ⟦ All m k ⟧ ∗ Q)
         finds_two m k true true = let Z : Pr = ⟦ I ⟧ ∗ ⟦ All m k ⟧ ∗ Q in let S : Fml = fsep (Sn g) (Sn o) in
             qed 𝓛 (‵ (Sn g) ∷ ‵ (Sn o) ∷ ‵ I ∷ ‵ Hd ∷ []) ∵ fjoin ! $ move ! (0 ∷ 2 ∷ []) $ join ! $ move ! (1 ∷ 0 ∷ []) $
-            by ! (none g o S (Hands.two_show 𝓛 R cv holds p z g.seat g.view o.seat o.view stretch_part stretch_part)
-            (Hands.two_crowd 𝓛 R cv holds p z g.seat g.view o.seat o.view stretch_part stretch_part) shown (upd 𝓤 Z))
+            by ! (none g o S (Hands.two_show 𝓛 R own cv holds p z g.seat g.view o.seat o.view stretch_part stretch_part)
+            (Hands.two_crowd 𝓛 R own cv holds p z g.seat g.view o.seat o.view stretch_part stretch_part) shown (upd 𝓤 Z))
         finds_two m k false y' = let Z : Pr = ⟦ I ⟧ ∗ ⟦ All m k ⟧ ∗ Q in
             qed 𝓛 (‵ (Lasts g false) ∷ ‵ (Lasts o y') ∷ ‵ I ∷ ‵ Hd ∷ []) ∵ suffices ! _ (upd_i 𝓤 Z) $ fsplit ! $
             use1 𝓛 (‵ (fdead (g.stretch ∷ [])) ⊛ ‵ (fdead (g.stretch ∷ []))) (𝓛.lfts.dead_dup (g.stretch ∷ [])) $ split ! $ move ! (1 ∷ 2 ∷ []) $ fjoin ! $
@@ -211,10 +211,10 @@ module _ {M : Type 1} {𝓤 : Ura M} (𝓛 : Logic 𝓤) (R : RattleType) {V W :
             via 𝓤 _ (qed 𝓛 (‵ (fnamed m (St g)) ∷ ‵ (fnamed k (St o)) ∷ ‵ (fnamed n (fbor α E)) ∷ ‵ (flft α q) ∷ ‵ L ∷ ‵ Hd ∷ []) ∵
             use0 𝓛 (‵ ftrue) (id⊢ 𝓤 (emp 𝓤)) $
             move ! (2 ∷ 0 ∷ []) $ fjoin ! $ move ! (1 ∷ 0 ∷ []) $ fjoin ! $ move ! (1 ∷ 0 ∷ []) $ fjoin ! $ frame ! $ frame ! $
-            assume ! (‵ E ⊛ ‵ (All m k)) $ split ! $ move ! (0 ∷ 2 ∷ []) $ use2 𝓛 (‵ I) (Known.comes_in 𝓛 R cv holds p z) $
+            assume ! (‵ E ⊛ ‵ (All m k)) $ split ! $ move ! (0 ∷ 2 ∷ []) $ use2 𝓛 (‵ I) (Known.comes_in 𝓛 R own cv holds p z) $
             move ! (1 ∷ []) $ fsplit3 ! $ move ! (2 ∷ []) $ drop ! $ fpick ! (λ y. move ! (1 ∷ []) $ fpick ! (λ y'. move ! (1 ∷ 0 ∷ 2 ∷ 3 ∷ []) $
             group ! 4 $ use1 𝓛 (raw (upd 𝓤 (⟦ I ⟧ ∗ ⟦ All m k ⟧ ∗ Q))) (finds_two m k y y') $ settle 𝓛 Z (‵ I ⊛ ‵ (All m k) ⊛ raw Q) $
-            split3 ! $ suffices ! _ (upd_i 𝓤 Z) $ use1 𝓛 (‵ E) (Known.goes_out 𝓛 R cv holds p z) $ done !)))
+            split3 ! $ suffices ! _ (upd_i 𝓤 Z) $ use1 𝓛 (‵ E) (Known.goes_out 𝓛 R own cv holds p z) $ done !)))
             (𝓛.invs.invs_bor_acc n α q E ((m, St g) ∷ (k, St o) ∷ []) Q (three g.seat o.seat n m k (fbor α E) (St g) (St o) ne e u w))
 
         ended_two : ⟦ Inv ⟧ ∗ A.lft α q ∗ ⟦ Told g ⟧ ∗ ⟦ Told o ⟧ ∗ ⟦ Hd ⟧ ⊢ H.⇛ (Q ∗ A.lft α q)
@@ -248,7 +248,7 @@ module _ {M : Type 1} {𝓤 : Ura M} (𝓛 : Logic 𝓤) (R : RattleType) {V W :
           -- [the owner's, twice; the guard's, twice; what is shown; the part; the account; the invariant; the lifetime; the hand]
           move ! (4 ∷ []) $ fpick ! (λ are. fpack ! Are (λ _. ftrue) are $
           -- [what is shown; the owner's, twice; the guard's, twice; the part; the account; the invariant; the lifetime; the hand]
-          move ! (7 ∷ []) $ use1 𝓛 (‵ Inv ⊛ ‵ Inv) (Known.twice 𝓛 R cv holds p z) $ split ! $
+          move ! (7 ∷ []) $ use1 𝓛 (‵ Inv ⊛ ‵ Inv) (Known.twice 𝓛 R own cv holds p z) $ split ! $
           -- [the invariant, twice; what is shown; the owner's, twice; the guard's, twice; the part; the account; the lifetime; the hand]
           move ! (0 ∷ 9 ∷ 5 ∷ 3 ∷ 10 ∷ []) $ group ! 5 $
           use1 𝓛 (later ((‵ (fdead Over) ⊛ ‵ Hd) ⊛ ‵ (flft α q))) (ends g o are.0 q are.1) $ await ! tt $ split ! $ split ! $
@@ -270,7 +270,7 @@ module _ {M : Type 1} {𝓤 : Ura M} (𝓛 : Logic 𝓤) (R : RattleType) {V W :
     Hd = hands three_quarters (busy e)
 
     gone : (g o : Holder V) (shown : Shown g o) (t : In) (sound : Sound t) (s : Share) → cell_at t.parts.cells i ≡ Out s
-        → Hands.Sit 𝓛 R cv holds p z g.seat g.view o.seat o.view t → ⊥
+        → Hands.Sit 𝓛 R own cv holds p z g.seat g.view o.seat o.view t → ⊥
     gone g o shown t sound s is at =
         let some = shown (state_of z t) sound.0 at.0 at.1 in let one : suc i - 1 ≡ i = omega arith in
         let b = block_is z.roots z.count t.parts sound.1 (suc i) (omega arith) ∙ ap (λ (k : ℕ). block_in (cell_at t.parts.cells k)) one ∙ ap block_in is in
@@ -281,17 +281,17 @@ module _ {M : Type 1} {𝓤 : Ura M} (𝓛 : Logic 𝓤) (R : RattleType) {V W :
     by_cell g o S shows crowds shown Z t sound Free is = another (busy e) Free tt S Z t
     by_cell g o S shows crowds shown Z t sound (Has x ws) is = another (busy e) (Has x ws) tt S Z t
     by_cell g o S shows crowds shown Z t sound Claimed is =
-        another (busy e) Claimed (λ same. Makings.busy_is_not 𝓛 R cv holds keeps p z e (sym same)) S Z t
+        another (busy e) Claimed (λ same. Makings.busy_is_not 𝓛 R own cv holds keeps p z e (sym same)) S Z t
     by_cell g o S shows crowds shown Z t sound (Out s) is = qed 𝓛 (‵ (cell_of (Out s)) ∷ raw (all 𝓤 (Recells t)) ∷ ‵ (Led t) ∷ (‵ S ⊛ ‵ Hd) ∷ []) ∵
         move ! (3 ∷ []) $ split ! $ move ! (4 ∷ 0 ∷ []) $
-        use2 𝓛 (given (Hands.Sit 𝓛 R cv holds p z g.seat g.view o.seat o.view t) (‵ (Led t) ⊛ ‵ S)) (shows t) $
+        use2 𝓛 (given (Hands.Sit 𝓛 R own cv holds p z g.seat g.view o.seat o.view t) (‵ (Led t) ⊛ ‵ S)) (shows t) $
         learn ! (λ at. absurd (gone g o shown t sound s is at))
     by_cell g o S shows crowds shown Z t sound (Held ρ s x ws) is =
-        another (busy e) (Held ρ s x ws) (Makings.held_is_not_busy 𝓛 R cv holds keeps p z ρ s e) S Z t
+        another (busy e) (Held ρ s x ws) (Makings.held_is_not_busy 𝓛 R own cv holds keeps p z ρ s e) S Z t
 
     -- no seat has that view
     pub none_taken : (g o : Holder V) (S : Fml) → Shows g o S → Crowds g o S → Shown g o → (Z : Pr) → ⟦ I ⟧ ∗ (⟦ S ⟧ ∗ ⟦ Hd ⟧) ⊢ Z
-    none_taken g o S shows crowds shown Z = Makings.opens 𝓛 R cv holds keeps p z (⟦ S ⟧ ∗ ⟦ Hd ⟧) Z i lt (by_cell g o S shows crowds shown Z)
+    none_taken g o S shows crowds shown Z = Makings.opens 𝓛 R own cv holds keeps p z (⟦ S ⟧ ∗ ⟦ Hd ⟧) Z i lt (by_cell g o S shows crowds shown Z)
 
     pub regains : (q : Share) (x : R.Denot) (b o : ℕ) → Having Hd none_taken q ∗ ⟦ Lendings.Lent 𝓛 R α cv z.views_name holds i x b o ⟧
         ⊢ H.⇛ (Having Hd none_taken q ∗ ⟦ Lendings.Own 𝓛 R α cv z.views_name holds x b o ⟧)
@@ -307,17 +307,17 @@ module _ {M : Type 1} {𝓤 : Ura M} (𝓛 : Logic 𝓤) (R : RattleType) {V W :
     by_hand g o S shows crowds shown Z t sound Free is = another (held ρ e) Free tt S Z t
     by_hand g o S shows crowds shown Z t sound (Has x ws) is = another (held ρ e) (Has x ws) tt S Z t
     by_hand g o S shows crowds shown Z t sound Claimed is =
-        another (held ρ e) Claimed (λ same. Makings.held_is_not 𝓛 R cv holds keeps p z ρ e (sym same)) S Z t
+        another (held ρ e) Claimed (λ same. Makings.held_is_not 𝓛 R own cv holds keeps p z ρ e (sym same)) S Z t
     by_hand g o S shows crowds shown Z t sound (Out s) is =
-        another (held ρ e) (Out s) (λ same. Makings.held_is_not_busy 𝓛 R cv holds keeps p z ρ e s (sym same)) S Z t
+        another (held ρ e) (Out s) (λ same. Makings.held_is_not_busy 𝓛 R own cv holds keeps p z ρ e s (sym same)) S Z t
     by_hand g o S shows crowds shown Z t sound (Held ρ' s x ws) is =
         qed 𝓛 (‵ (cell_of (Held ρ' s x ws)) ∷ raw (all 𝓤 (Recells t)) ∷ ‵ (Led t) ∷ (‵ S ⊛ ‵ Hh) ∷ []) ∵
         move ! (3 ∷ []) $ split ! $ move ! (2 ∷ []) $ fsplit ! $ move ! (1 ∷ []) $ fsplit3 ! $ move ! (2 ∷ []) $ fsplit ! $
         -- [the share; who has it; the hand; the entry; the sign; the seat's; three quarters; the others; the views]
-        keep ! (8 ∷ 1 ∷ 5 ∷ []) $ by ! (Hands.excludes 𝓛 R cv holds p z g.seat g.view o.seat o.view S shows crowds t sound i ρ' x Z shown)
+        keep ! (8 ∷ 1 ∷ 5 ∷ []) $ by ! (Hands.excludes 𝓛 R own cv holds p z g.seat g.view o.seat o.view S shows crowds t sound i ρ' x Z shown)
 
     pub none_held : (g o : Holder V) (S : Fml) → Shows g o S → Crowds g o S → Shown g o → (Z : Pr) → ⟦ I ⟧ ∗ (⟦ S ⟧ ∗ ⟦ Hh ⟧) ⊢ Z
-    none_held g o S shows crowds shown Z = Makings.opens 𝓛 R cv holds keeps p z (⟦ S ⟧ ∗ ⟦ Hh ⟧) Z i lt (by_hand g o S shows crowds shown Z)
+    none_held g o S shows crowds shown Z = Makings.opens 𝓛 R own cv holds keeps p z (⟦ S ⟧ ∗ ⟦ Hh ⟧) Z i lt (by_hand g o S shows crowds shown Z)
 
     pub regains_held : (q : Share) (x : R.Denot) (b o : ℕ) → Having Hh none_held q ∗ ⟦ Lendings.Lent 𝓛 R α cv z.views_name holds i x b o ⟧
         ⊢ H.⇛ (Having Hh none_held q ∗ ⟦ Lendings.Own 𝓛 R α cv z.views_name holds x b o ⟧)

@@ -14,17 +14,17 @@ use denote.Shares.{Shares}
 use denote.Steps.{nothing}
 use Rattle.core.specs.contracts.option.Option.{the_row as OptionOf}
 use Rattle.seize_seats.specs.State.{State, Renews}
-use Rattle.seize_seats.specs.Cells.{Cell, Free, Claimed, Out, Has, Held}
+use Rattle.seize_seats.specs.Cells.{Body, Cell, Free, Claimed, Out, Has, Held}
 use Rattle.seize_seats.specs.Lines.{AreLaid}
 use Rattle.seize_seats.specs.Strips.{Strip}
-use Rattle.seize_seats.specs.Owned.{ledger, stride, under, numbers, strips, listed, BaseId, IsLike, age, core_of, book_of, Inside, state_of, IsPlaced, standing_in, everything, lent_here, had_here, words_own}
+use Rattle.seize_seats.specs.Owned.{Pieces, ledger, stride, under, numbers, strips, listed, BaseId, IsLike, age, core_of, book_of, Inside, state_of, IsPlaced, standing_in, everything, lent_here, had_here, words_own}
 use Rattle.seize_seats.specs.Stretches.{IsEven, invariant}
 use Rattle.seize_seats.proofs.Ledgers as Ledgers
 use Rattle.seize_seats.proofs.Stretches as Stretches
-use Rattle.seize_seats.proofs.Lendings as Lendings
+use Rattle.seize_seats.proofs.Pieces as Pieces
 use Rattle.seize_seats.proofs.Opening as Opening
 
-module _ {M : Type 1} {𝓤 : Ura M} (𝓛 : Logic 𝓤) (R : RattleType) {V W : Type 0} (cv : Coded V) (holds : State R.Denot V W → Type 0) (p : Ptr) (z : BaseId) where
+module _ {M : Type 1} {𝓤 : Ura M} (𝓛 : Logic 𝓤) (R : RattleType) (own : Pieces R.Denot) {V W : Type 0} (cv : Coded V) (holds : State R.Denot V W → Type 0) (p : Ptr) (z : BaseId) where
   open 𝓛 use {H, A}
 
   abbrev Pr : Type 2
@@ -47,15 +47,15 @@ module _ {M : Type 1} {𝓤 : Ura M} (𝓛 : Logic 𝓤) (R : RattleType) {V W :
   abbrev δ : ℕ
   δ = z.hands_name
 
-  abbrev Lent : BaseId → ℕ → R.Denot → ℕ → ℕ → Fml
-  Lent y = lent_here R cv.code holds p y
+  abbrev Lent : BaseId → ℕ → Body R.Denot → ℕ → ℕ → Fml
+  Lent y = lent_here R own cv.code holds p y
 
-  abbrev Had : BaseId → ℕ → ℕ → R.Denot → Fml
-  Had y = had_here R cv.code holds p y
+  abbrev Had : BaseId → ℕ → ℕ → Body R.Denot → Fml
+  Had y = had_here R own cv.code holds p y
 
   -- values that are owned, and not lent
-  abbrev Owned : ℕ → R.Denot → ℕ → ℕ → Fml
-  Owned = Opening.owned 𝓛 R α δ (Lent z) (Had z)
+  abbrev Owned : ℕ → Body R.Denot → ℕ → ℕ → Fml
+  Owned = Opening.owned 𝓛 R α δ (Lent z) (Had z) own
 
   module _ (y : BaseId) (τ : Lft) (s : Share) (shares : Shares 𝓛 (OptionOf R) (OptionOf R).lives) (inc : Incl τ (OptionOf R).lives) where
     -- the old lifetime is over, and the type's own lasts
@@ -79,7 +79,7 @@ module _ {M : Type 1} {𝓤 : Ura M} (𝓛 : Logic 𝓤) (R : RattleType) {V W :
         move ! (1 ∷ []) $ fsplit ! $ move ! (1 ∷ []) $ fsplit ! $ move ! (4 ∷ []) $ split ! $
         -- [dead; the type's token; the entry; the value; the hand; the sign]
         move ! (3 ∷ 1 ∷ []) $ use2 𝓛 (later (‵ (Lent y i x b' o') ⊛ ‵ (flft τ s)))
-        (Lendings.offers 𝓛 R (age y) cv y.views_name holds shares i x b' o' τ s inc) $ await ! tt $ split ! $
+        (Pieces.offers 𝓛 R own cv holds p y shares i x b' o' τ s inc) $ await ! tt $ split ! $
         -- [the value; the type's token; dead; the entry; the hand; the sign]
         move ! (3 ∷ 0 ∷ []) $ fjoin ! $ move ! (3 ∷ 0 ∷ []) $ fjoin ! $ move ! (3 ∷ 0 ∷ []) $ fjoin ! $ now ! $ move ! (0 ∷ 2 ∷ 1 ∷ []) $ done !
 
@@ -93,7 +93,7 @@ module _ {M : Type 1} {𝓤 : Ura M} (𝓛 : Logic 𝓤) (R : RattleType) {V W :
         move ! (2 ∷ 1 ∷ []) $ use2 𝓛 (later (‵ (under R (age y) δ (Lent y) (Had y) b o b' o' i c) ⊛ raw Know)) (lends_one b b' o o' i c) $ await ! tt $ split ! $
         move ! (0 ∷ 2 ∷ []) $ fjoin ! $ now ! $ done !
 
-    abbrev Of : Lft → (ℕ → R.Denot → ℕ → ℕ → Fml) → (ℕ → ℕ → R.Denot → Fml) → Strip → List (Cell R.Denot) → Fml
+    abbrev Of : Lft → (ℕ → Body R.Denot → ℕ → ℕ → Fml) → (ℕ → ℕ → Body R.Denot → Fml) → Strip → List (Cell R.Denot) → Fml
     Of β lent had s cs =
         numbers R β δ lent had (block_of s.words) (s.skip * 8 + count_of s.words) (block_of s.values) (count_of s.values) s.first cs
 
@@ -110,15 +110,15 @@ module _ {M : Type 1} {𝓤 : Ura M} (𝓛 : Logic 𝓤) (R : RattleType) {V W :
   anew a γ = record z { atom = a; views_name = γ }
 
   abbrev pub Renewed : BaseId → Pr
-  Renewed y = guard 𝓤 (IsLike y z) ⟦ words_own R cv.code holds p y ⟧
+  Renewed y = guard 𝓤 (IsLike y z) ⟦ words_own R own cv.code holds p y ⟧
 
   abbrev Any : List Strip → Type 0
   Any ss = Unit {0}
 
   -- THE MEMORY GOES INTO ANOTHER LIFETIME
   module _ (law : Renews holds) (τ : Lft) (s : Share) (shares : Shares 𝓛 (OptionOf R) (OptionOf R).lives) (inc : Incl τ (OptionOf R).lives) where
-    pub renews : ⟦ words_own R cv.code holds p z ⟧ ∗ A.lft τ s ⊢ H.⇛ (ex 𝓤 Renewed ∗ A.lft τ s)
-    renews = qed 𝓛 (‵ (words_own R cv.code holds p z) ∷ ‵ (flft τ s) ∷ []) ∵ updating ! $ fsplit3 ! $ move ! (1 ∷ []) $ fsplit ! $ fpick ! (λ placed. leave ! $
+    pub renews : ⟦ words_own R own cv.code holds p z ⟧ ∗ A.lft τ s ⊢ H.⇛ (ex 𝓤 Renewed ∗ A.lft τ s)
+    renews = qed 𝓛 (‵ (words_own R own cv.code holds p z) ∷ ‵ (flft τ s) ∷ []) ∵ updating ! $ fsplit3 ! $ move ! (1 ∷ []) $ fsplit ! $ fpick ! (λ placed. leave ! $
         fsplit ! $
         -- [the strip; the invariant; the token; what was lent; the type's token]
         move ! (1 ∷ []) $ leave ! $ move ! (1 ∷ []) $
@@ -128,12 +128,12 @@ module _ {M : Type 1} {𝓤 : Ura M} (𝓛 : Logic 𝓤) (R : RattleType) {V W :
         let ws : List ℕ = t.parts.words in let cs : List (Cell R.Denot) = t.parts.cells in fsplit ! $ move ! (1 ∷ []) $ fpick ! (λ ss. fsplit3 ! $ move ! (2 ∷ 5 ∷ []) $
         -- [the strips; dead; their list; what is so of it; the words; the views; the strip; the type's token]
         use2 𝓛 (later (‵ (strips R α δ Owned (Had z) ss cs) ⊛ ‵ (fdead α)))
-        (Opening.unlends_strips 𝓛 R α δ (Lent z) (Had z) (Lendings.over 𝓛 R α cv z.views_name holds) ss cs) $ await ! tt $ split ! $
+        (Opening.unlends_strips 𝓛 R α δ (Lent z) (Had z) own (Pieces.over 𝓛 R own cv holds p z) ss cs) $ await ! tt $ split ! $
         move ! (5 ∷ []) $ leave ! $ lft_new ! tt (λ a.
         use0 𝓛 (later (items (λ (γ : ℕ). ‵ (ledger cv.code γ t.blank [])))) (via 𝓤 _ (Ledgers.begins 𝓛 cv 0 t.blank)
         (basic 𝓛 (ex 𝓤 (λ (γ : ℕ). ⟦ ledger cv.code γ t.blank [] ⟧)))) $ await ! tt $ pick ! (λ γ.
         -- [the views; the token; the strips; dead; their list; what is so of it; the words; the strip; the type's token]
-        let y : BaseId = anew a γ in let E : Fml = everything R cv.code holds (core_of y) in let β : Lft = age y in
+        let y : BaseId = anew a γ in let E : Fml = everything R own cv.code holds (core_of y) in let β : Lft = age y in
         let r = law (state_of z t) sound.0 in let n : Inside R.Denot V W = record { parts = t.parts; blank = t.blank; views = []; world = r.0 } in
         let New : Fml = strips R β δ (Lent y) (Had y) ss cs in
         move ! (3 ∷ 8 ∷ []) $ join ! $ move ! (3 ∷ 0 ∷ []) $
@@ -143,7 +143,7 @@ module _ {M : Type 1} {𝓤 : Ura M} (𝓛 : Logic 𝓤) (R : RattleType) {V W :
         -- [the numbers; dead and the type's token; the views; the token; the words; the strip]
         move ! (4 ∷ 0 ∷ []) $ fjoin ! $
         nothing ! $ fpack ! (holds (state_of y n) × AreLaid y.roots y.count n.parts) (λ _. ftrue) (r.1, sound.1) $ move ! (1 ∷ 3 ∷ 0 ∷ []) $ fjoin3 ! $
-        fpack ! (Inside R.Denot V W) (standing_in R cv.code holds (core_of y) Any) n $
+        fpack ! (Inside R.Denot V W) (standing_in R own cv.code holds (core_of y) Any) n $
         -- [all of it; dead and the type's token; the token; the strip]
         bor_new ! tt β $ use1 𝓛 (later (‵ (invariant IsEven (fbor β E)))) (Stretches.made 𝓛 IsEven (fbor β E) Stretches.evens) $ await ! tt $
         -- [the invariant; what was lent; dead and the type's token; the token; the strip]
@@ -152,6 +152,6 @@ module _ {M : Type 1} {𝓤 : Ura M} (𝓛 : Logic 𝓤) (R : RattleType) {V W :
         fjoin ! $
         -- [the memory; dead and the type's token]
         move ! (1 ∷ []) $ split ! $ leave ! $ move ! (1 ∷ []) $
-        use1 𝓛 (raw (ex 𝓤 Renewed)) (via 𝓤 (Renewed y) (guard_i 𝓤 (IsLike y z) ⟦ words_own R cv.code holds p y ⟧
+        use1 𝓛 (raw (ex 𝓤 Renewed)) (via 𝓤 (Renewed y) (guard_i 𝓤 (IsLike y z) ⟦ words_own R own cv.code holds p y ⟧
         (refl, refl, refl, refl, refl, refl, refl, refl, refl, refl, refl, refl)) (ex_i 𝓤 Renewed y)) $
         now ! $ done !))))))

@@ -1,5 +1,6 @@
 -- The words may be shared, and a seat may go to another thread: nothing of them is tied to one. Assumes nothing.
 use Rattle.std.proofs.Common.{ℕ, Bool, true, false, zero, suc, ◌+◌, ◌*◌, List, [], ◌∷◌, length, take, drop, None, Some}
+use mir.Syntax.{w64, ty_int, ty_array}
 use base.Fraction.{full_share}
 use base.Stored.{Gv}
 use base.Fml.{Lft, Share, Fml}
@@ -11,10 +12,10 @@ use types.Keyed.{token, entry_keyless, entries_keyless}
 use Rattle.core.specs.contracts.option.Option.{the_row as OptionOf}
 use Rattle.std.proofs.Crossing.{frees as freed}
 use Rattle.seize_seats.specs.State.{State}
-use Rattle.seize_seats.specs.Cells.{Cell, Free, Claimed, Out, Has, Held}
+use Rattle.seize_seats.specs.Cells.{Body, Cell, Free, Claimed, Out, Has, Held}
 use Rattle.seize_seats.specs.Strips.{Strip, strip_coded, no_strip, further}
 use Rattle.seize_seats.specs.Doors.{block_type, IsFurther, heap, right_to, doors}
-use Rattle.seize_seats.specs.Owned.{shared_view, row, quarters, ledger, zeros, stride, kept, numbers, strips, Core, BaseId, core_of, everything, common, words_own, words_share}
+use Rattle.seize_seats.specs.Owned.{words_right, Pieces, shared_view, row, piece, lent_in, had_in, quarters, ledger, zeros, stride, kept, numbers, strips, Core, BaseId, core_of, everything, common, words_own, words_share}
 use Rattle.seize_seats.specs.Lendings.{Phase, Begins, Lasts, Over, in_phase, Holder, Lending, span, told, lendings, lendable, in_hand}
 use Rattle.seize_seats.specs.Stretches.{lasting, seat_owns, seat_shares}
 
@@ -65,8 +66,8 @@ module _ (R : RattleType) (sent : IsSend (OptionOf R)) (synced : IsSync (OptionO
   in_hand_keyless : (ρ i : ℕ) (x : R.Denot) → Keyless (in_hand R α c γ holds ρ i x)
   in_hand_keyless ρ i x = λ u. (entry_keyless shared_view ρ 0 _, (entry_keyless shared_view γ u.0 _, λ _. tt))
 
-module _ (R : RattleType) (sent : IsSend (OptionOf R)) (α : Lft) (δ : ℕ) (lent : ℕ → R.Denot → ℕ → ℕ → Fml) (lent_keyless : (i : ℕ) (x : R.Denot) (b o : ℕ)
-    → Keyless (lent i x b o)) (had : ℕ → ℕ → R.Denot → Fml) (had_keyless : (ρ i : ℕ) (x : R.Denot) → Keyless (had ρ i x)) where
+module _ (R : RattleType) (sent : IsSend (OptionOf R)) (α : Lft) (δ : ℕ) (lent : ℕ → Body R.Denot → ℕ → ℕ → Fml) (lent_keyless : (i : ℕ) (x : Body R.Denot) (b o : ℕ)
+    → Keyless (lent i x b o)) (had : ℕ → ℕ → Body R.Denot → Fml) (had_keyless : (ρ i : ℕ) (x : Body R.Denot) → Keyless (had ρ i x)) where
   kept_keyless : (b b' o o' i : ℕ) (c : Cell R.Denot) → Keyless (kept R α δ lent had b o b' o' i c)
   kept_keyless b b' o o' i Free = (entry_keyless shared_view δ i _, (row_keyless b o zeros, part_keyless (OptionOf R) sent full_share None b' o'))
   kept_keyless b b' o o' i Claimed = (entry_keyless shared_view δ i _, (row_keyless b o zeros, part_keyless (OptionOf R) sent full_share None b' o'))
@@ -97,8 +98,16 @@ module _ (σ : ℕ) (Is : ℕ → Strip → Type 0) (right : Strip → Fml) (rig
 ledger_keyless : {V : Type 0} (c : V → Gv) (γ : ℕ) (d : V) (vs : List V) → Keyless (ledger c γ d vs)
 ledger_keyless c γ d vs = (quarters_keyless c γ 0 vs, entries_keyless shared_view γ (length vs) _)
 
-module _ (R : RattleType) (sent : IsSend (OptionOf R)) (synced : IsSync (OptionOf R)) {V W : Type 0} (c : V → Gv) (holds : State R.Denot V W → Type 0) where
-  everything_keyless : (k : Core) → Keyless (everything R c holds k)
+module _ (R : RattleType) (own : Pieces R.Denot) (sent : IsSend (OptionOf R)) (synced : IsSync (OptionOf R)) {V W : Type 0} (c : V → Gv)
+    (holds : State R.Denot V W → Type 0) where
+  right_keyless : (n : ℕ) (p : Ptr) → Keyless (words_right n p)
+  right_keyless zero p = tt
+  right_keyless (suc n) p = freed.frees heap (ty_array (ty_int w64) (suc n)) p
+
+  piece_keyless : (x : Body R.Denot) → Keyless (piece own x)
+  piece_keyless x = ((λ _. tt), (row_keyless (block_of (own.at x.0)) (count_of (own.at x.0)) x.1, right_keyless (own.count x.0) (own.at x.0)))
+
+  everything_keyless : (k : Core) → Keyless (everything R own c holds k)
   everything_keyless k = λ t. (
     (
       row_keyless (block_of k.fixed) (count_of k.fixed) t.parts.words,
@@ -109,8 +118,9 @@ module _ (R : RattleType) (sent : IsSend (OptionOf R)) (synced : IsSync (OptionO
         ),
         (
           (λ _. tt),
-          strips_keyless R sent (k.atom ∷ []) k.hands_name (lendable R (k.atom ∷ []) c k.views_name holds) (lendable_keyless R sent synced (k.atom ∷ []) c k.views_name holds)
-              (in_hand R (k.atom ∷ []) c k.views_name holds) (in_hand_keyless R sent synced (k.atom ∷ []) c k.views_name holds) ss t.parts.cells,
+          strips_keyless R sent (k.atom ∷ []) k.hands_name (lent_in R own c holds k (λ _. Unit {0}))
+              (λ i x b o. (piece_keyless x, lendable_keyless R sent synced (k.atom ∷ []) c k.views_name holds i x.0 b o))
+              (had_in R own c holds k (λ _. Unit {0})) (λ ρ i x. (piece_keyless x, in_hand_keyless R sent synced (k.atom ∷ []) c k.views_name holds ρ i x.0)) ss t.parts.cells,
         ),
       ),
     ),
@@ -118,11 +128,11 @@ module _ (R : RattleType) (sent : IsSend (OptionOf R)) (synced : IsSync (OptionO
   )
 
   module _ (p : Ptr) (z : BaseId) where
-    told_in_keyless : Keyless (common R c holds p z)
+    told_in_keyless : Keyless (common R own c holds p z)
     told_in_keyless = ((λ _. tt), ((λ q. entry_keyless shared_view z.strips_name z.place _), λ n. ((λ _. tt), everything_keyless (core_of z))))
 
-    pub owns_keyless : Keyless (words_own R c holds p z)
+    pub owns_keyless : Keyless (words_own R own c holds p z)
     owns_keyless = (tt, (told_in_keyless, everything_keyless (core_of z)))
 
-    pub shares_keyless : (ν : Lft) → Keyless (words_share R c holds p z ν)
+    pub shares_keyless : (ν : Lft) → Keyless (words_share R own c holds p z ν)
     shares_keyless ν = ((λ _. tt), told_in_keyless)

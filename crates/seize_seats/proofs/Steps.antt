@@ -7,14 +7,14 @@ use Rattle.core.specs.Result.{MatchResult}
 use Rattle.core.specs.Sync.RawAtomic.{word_found}
 use Rattle.seize_words.specs.Mem.{Mem, Gives, block_of, entry_in, word_in, with_entry, with_word_in, word_at, with_word, after}
 use Rattle.seize_words.specs.SlotWords.{slot_word, with_slot_word}
-use Rattle.seize_words.specs.Op.{Load, Store, Swap, Add, Or, Exchange, Found, Stored, Exchanged}
+use Rattle.seize_words.specs.Op.{Op, Out, Load, Store, Swap, Add, Or, Exchange, Found, Stored, Exchanged}
 use Rattle.seize_words.specs.declared.at.At.{At}
 use Rattle.seize_words.specs.declared.at.At.TheVariants.{Root, Used, Slot, Entry, Word}
 use Rattle.seize_words.specs.declared.block.Block.{Block}
 use denote.RawPtr.{Ptr}
 use Rattle.seize_seats.specs.Lines.{IsWord}
 use Rattle.seize_seats.specs.Owned.{BaseId, place_in, IsIn}
-use Rattle.seize_seats.specs.Steps.{IsStepOf, exchanged}
+use Rattle.seize_seats.specs.Steps.{IsWordStep, IsStepOf, exchanged}
 
 pub answered : (old : ℕ) (r : Result ℕ ℕ) → MatchResult r (λ n. n ≡ old) (λ n. n ≢ old) → exchanged old (word_found r) ≡ r
 answered old (Ok n) is = ap (λ (y : Bool). if y then Ok n else Err n) (eq-eqb n old is)
@@ -79,24 +79,25 @@ module _ {T : Type 0} where
       let x : Option (Block T) = block_of m b in
       ap (λ (l : List (Option (Block T))). record m { blocks = l }) (ap (slice_set m.blocks (b - 1)) (own_same x i w e) ∙ block_back m b x refl (some_own x i w e))
 
-module _ (T : Type 0) (p : Ptr) (z : BaseId) (at : At) (i : ℕ) (lies : IsWord z.roots z.count at → IsIn p z at × (i ≡ place_in z at)) where
-  pub loads : IsStepOf T p z at i (Load at) (λ n. n) Found
-  loads = record { needs = λ m is. some_word (word_at m at) is; makes = λ m w e. (e, sym (word_same m at w e)); lies = lies }
+-- on the word of a name, wherever it lies
+module _ (T : Type 0) (at : At) where
+  pub loads : IsWordStep T at (Load at) (λ n. n) Found
+  loads = record { needs = λ m is. some_word (word_at m at) is; makes = λ m w e. (e, sym (word_same m at w e)) }
 
-  pub stores : (new : ℕ) → IsStepOf T p z at i (Store at new) (λ _. new) (λ _. Stored)
-  stores new = record { needs = λ m is. some_word (word_at m at) is; makes = λ m w e. (tt, refl); lies = lies }
+  pub stores : (new : ℕ) → IsWordStep T at (Store at new) (λ _. new) (λ _. Stored)
+  stores new = record { needs = λ m is. some_word (word_at m at) is; makes = λ m w e. (tt, refl) }
 
-  pub swaps : (new : ℕ) → IsStepOf T p z at i (Swap at new) (λ _. new) Found
-  swaps new = record { needs = λ m is. some_word (word_at m at) is; makes = λ m w e. (e, refl); lies = lies }
+  pub swaps : (new : ℕ) → IsWordStep T at (Swap at new) (λ _. new) Found
+  swaps new = record { needs = λ m is. some_word (word_at m at) is; makes = λ m w e. (e, refl) }
 
-  pub adds : (by : ℕ) → IsStepOf T p z at i (Add at by) (λ n. (n + by) % 2 ^ 64) Found
-  adds by = record { needs = λ m is. some_word (word_at m at) is; makes = λ m w e. (e, refl); lies = lies }
+  pub adds : (by : ℕ) → IsWordStep T at (Add at by) (λ n. (n + by) % 2 ^ 64) Found
+  adds by = record { needs = λ m is. some_word (word_at m at) is; makes = λ m w e. (e, refl) }
 
-  pub sets : (bits : ℕ) → IsStepOf T p z at i (Or at bits) (λ n. bit_or n bits) Found
-  sets bits = record { needs = λ m is. some_word (word_at m at) is; makes = λ m w e. (e, refl); lies = lies }
+  pub sets : (bits : ℕ) → IsWordStep T at (Or at bits) (λ n. bit_or n bits) Found
+  sets bits = record { needs = λ m is. some_word (word_at m at) is; makes = λ m w e. (e, refl) }
 
-  pub exchanges : (old new : ℕ) → IsStepOf T p z at i (Exchange at old new) (λ n. either (n == old) new n) (λ n. Exchanged (exchanged old n))
-  exchanges old new = record { needs = λ m is. some_word (word_at m at) is; makes = λ m w e. by m w e (cases_eq w old); lies = lies }
+  pub exchanges : (old new : ℕ) → IsWordStep T at (Exchange at old new) (λ n. either (n == old) new n) (λ n. Exchanged (exchanged old n))
+  exchanges old new = record { needs = λ m is. some_word (word_at m at) is; makes = λ m w e. by m w e (cases_eq w old) }
     where
       by : (m : Mem T) (w : ℕ) → word_at m at ≡ Some w → (w ≡ old) ⊎ (w ≢ old) → Gives m (Exchange at old new) (Exchanged (exchanged old w))
           × (after m (Exchange at old new) (Exchanged (exchanged old w)) ≡ with_word m at (either (w == old) new w))
@@ -107,3 +108,8 @@ module _ (T : Type 0) (p : Ptr) (z : BaseId) (at : At) (i : ℕ) (lies : IsWord 
           subst (λ (y : Bool). Gives m (Exchange at old new) (Exchanged (if y then Ok w else Err w))
           × (after m (Exchange at old new) (Exchanged (if y then Ok w else Err w)) ≡ with_word m at (either y new w))) (sym (ne_eqb w old ne))
           ((e, ne), sym (word_same m at w e))
+
+-- on one of a strip's words
+pub lying : {T : Type 0} (p : Ptr) (z : BaseId) (at : At) (i : ℕ) (op : Op T) (f : ℕ → ℕ) (out : ℕ → Out T) → IsWordStep T at op f out
+    → (IsWord z.roots z.count at → IsIn p z at × (i ≡ place_in z at)) → IsStepOf T p z at i op f out
+lying p z at i op f out is lies = record { needs = is.needs; makes = is.makes; lies = lies }

@@ -9,7 +9,7 @@ use types.Logic.{Logic, sem}
 use types.Kit.{‵, raw, ◌⊛◌, ◌$◌, ◌∵◌, !, qed, move, split, frame, each, assume, use1, use2, rewrite, done}
 use denote.RattleType.{RattleType}
 use denote.RawPtr.{block_of, count_of}
-use Rattle.seize_seats.specs.Cells.{Cell, Free, cell_at}
+use Rattle.seize_seats.specs.Cells.{Body, Cell, Free, cell_at}
 use Rattle.seize_seats.specs.Strips.{Strip, IsOf, AreStrips}
 use Rattle.seize_seats.specs.Owned.{stride, under, numbers, strips}
 use Rattle.seize_seats.proofs.Beside as Beside
@@ -31,7 +31,7 @@ strip_within (x ∷ ss) i n zero s e at = let same : x ≡ s = cc at in let up =
     subst (λ (y : Strip). (i ≤ y.first) × (y.first + y.size ≤ n)) same (omega (arith, first), omega (arith, first, up))
 strip_within (x ∷ ss) i n (suc k) s e at = let r = strip_within ss (i + x.size) n k s e.1 at in let low = r.0 in (omega (arith, low), r.1)
 
-module _ {M : Type 1} {𝓤 : Ura M} (𝓛 : Logic 𝓤) (R : RattleType) (α : Lft) (δ : ℕ) (lent : ℕ → R.Denot → ℕ → ℕ → Fml) (had : ℕ → ℕ → R.Denot → Fml) where
+module _ {M : Type 1} {𝓤 : Ura M} (𝓛 : Logic 𝓤) (R : RattleType) (α : Lft) (δ : ℕ) (lent : ℕ → Body R.Denot → ℕ → ℕ → Fml) (had : ℕ → ℕ → Body R.Denot → Fml) where
   abbrev Under : Strip → ℕ → Cell R.Denot → Fml
   Under s i c =
       under R α δ lent had (block_of s.words) ((i - s.first) * 40 + (s.skip * 8 + count_of s.words)) (block_of s.values)

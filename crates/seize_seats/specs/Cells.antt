@@ -3,15 +3,19 @@ use Rattle.std.specs.Prelude.{ℕ, zero, suc, List, [], ◌∷◌, Option, Some,
 use base.Fml.{Share}
 use Rattle.seize_words.specs.declared.block.Block.{Block}
 
+-- the body of a block: its value, and its own words; beside it is its entry
+abbrev pub Body : Type 0 → Type 0
+Body T = T × List ℕ
+
 -- `Claimed` is of a number that somebody has, and `Out` of one whose place a call has in its hand: it has left that share of the memory's lifetime for it.
 -- `Has` is of a block, with the words of its entry. `Held` is of one whose value a call has in its hand: the name under which it is noted whose call it is,
--- the share of the lifetime that it has left, the value that is there as long as the call has not ended, and the words.
+-- the share of the lifetime that it has left, the body that is there as long as the call has not ended, and the words of the entry.
 pub data Cell (T : Type 0) : Type 0 where
   Free : Cell T
   Claimed : Cell T
   Out : Share → Cell T
-  Has : T → List ℕ → Cell T
-  Held : ℕ → Share → T → List ℕ → Cell T
+  Has : Body T → List ℕ → Cell T
+  Held : ℕ → Share → Body T → List ℕ → Cell T
 
 module _ {T : Type 0} where
   -- the block that is there
@@ -19,8 +23,8 @@ module _ {T : Type 0} where
   block_in Free = None
   block_in Claimed = None
   block_in (Out e) = None
-  block_in (Has x ws) = Some record { value = x; entry = ws; words = [] }
-  block_in (Held ρ e x ws) = Some record { value = x; entry = ws; words = [] }
+  block_in (Has x ws) = Some record { value = x.0; entry = ws; words = x.1 }
+  block_in (Held ρ e x ws) = Some record { value = x.0; entry = ws; words = x.1 }
 
   -- the same with another word of the entry
   abbrev pub noted_in : Cell T → ℕ → ℕ → Cell T
@@ -29,6 +33,14 @@ module _ {T : Type 0} where
   noted_in (Out e) i w = Out e
   noted_in (Has x ws) i w = Has x (slice_set ws i w)
   noted_in (Held ρ e x ws) i w = Held ρ e x (slice_set ws i w)
+
+  -- the same with another one of its own words
+  abbrev pub own_noted_in : Cell T → ℕ → ℕ → Cell T
+  own_noted_in Free i w = Free
+  own_noted_in Claimed i w = Claimed
+  own_noted_in (Out e) i w = Out e
+  own_noted_in (Has x ws) i w = Has (x.0, slice_set x.1 i w) ws
+  own_noted_in (Held ρ e x ws) i w = Held ρ e (x.0, slice_set x.1 i w) ws
 
   -- the blocks of so many numbers, from the first one on
   abbrev pub blocks_in : ℕ → List (Cell T) → List (Option (Block T))

@@ -8,5 +8,7 @@ pub mod Steps
 pub mod Seen
 pub mod Stretches
 pub mod Lendings
+pub mod Visits
 pub mod Owned
+pub mod Reached
 pub mod Laws

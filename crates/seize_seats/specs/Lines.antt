@@ -33,13 +33,13 @@ place_of roots (Slot s field) = (roots + roots + s) * 16 + field
 place_of roots (Entry b i) = 0
 place_of roots (Word b i) = 0
 
--- there is such a word, once the slots of the first bucket have theirs, and a block of the number is there
+-- there is such a word, once the slots of the first bucket have theirs, and a block of the number is there that has as many words
 abbrev pub IsWord : ℕ → ℕ → At → Type 0
 IsWord roots count (Root r) = r < roots
 IsWord roots count (Used r) = r < roots
 IsWord roots count (Slot s field) = (s < 32) × (field < 2)
 IsWord roots count (Entry b i) = (0 < b) × (b ≤ count) × (i < 4)
-IsWord roots count (Word b i) = ⊥
+IsWord roots count (Word b i) = (0 < b) × (b ≤ count)
 
 -- it is no block's
 abbrev pub IsNoBlocks : At → Type 0

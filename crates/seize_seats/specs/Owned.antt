@@ -2,6 +2,7 @@
 -- them shows that it lasts. An invariant has the words, the values, and a quarter of each seat's view; three quarters of it are the seat's. It has the strips
 -- of all numbers; whoever has the words has them by one strip, of which it is known that it is one of them.
 use Rattle.std.specs.Prelude.{◌≡◌, ℕ, zero, suc, ◌+◌, ◌-◌, ◌*◌, ◌^◌, ◌<◌, ◌≤◌, Bool, true, List, [], ◌∷◌, Option, Some, None, length, replicate, take, drop, slice_get}
+use mir.Syntax.{w64, ty_int, ty_array}
 use prog.Memory.{size}
 use base.Fraction.{full_share}
 use base.Share.{quarter, three_quarters}
@@ -17,10 +18,10 @@ pub use Rattle.seize_seats.specs.Seen.{fact, itself, shared_view, seen, number_s
 use Rattle.seize_seats.specs.Lendings.{lendable, in_hand}
 use Rattle.seize_seats.specs.State.{State}
 use Rattle.seize_seats.specs.Stretches.{IsEven, invariant}
-use Rattle.seize_seats.specs.Cells.{Cell, Free, Claimed, Out, Has, Held, sign_of}
+use Rattle.seize_seats.specs.Cells.{Body, Cell, Free, Claimed, Out, Has, Held, sign_of}
 use Rattle.seize_seats.specs.Lines.{Parts, long, place_of, memory_of, AreLaid}
 use Rattle.seize_seats.specs.Strips.{Strip, strip_coded, no_strip, further, Book, AreStrips}
-use Rattle.seize_seats.specs.Doors.{IsFurther, right_to, doors}
+use Rattle.seize_seats.specs.Doors.{IsFurther, frees, right_to, doors}
 use Rattle.seize_words.specs.declared.at.At.{At}
 use Rattle.seize_words.specs.declared.at.At.TheVariants.{Root, Used, Slot, Entry, Word}
 
@@ -28,6 +29,28 @@ use Rattle.seize_words.specs.declared.at.At.TheVariants.{Root, Used, Slot, Entry
 abbrev pub row : ℕ → ℕ → List ℕ → Fml
 row b o [] = ftrue
 row b o (n ∷ ns) = fsep (word b o n) (row b (o + 8) ns)
+
+-- where the own words of blocks lie, and how many they are: with its value D there is kept for each where they are
+pub record Pieces (D : Type 0) : Type 0 where
+  pub at : D → Ptr
+  pub count : D → ℕ
+
+abbrev pub pieces_at : {D : Type 0} → (D → Ptr) → (D → ℕ) → Pieces D
+pieces_at at count = record { at = at; count = count }
+
+-- As many words are there as is kept, and where there are any they lie in a block of memory.
+abbrev pub IsPiece : {D : Type 0} → Pieces D → Body D → Type 0
+IsPiece own x = (length x.1 ≡ own.count x.0) × (0 < own.count x.0 → InBlock (own.at x.0) × (own.count x.0 * 8 < 2 ^ 63))
+
+-- the right to give the memory of so many words back, which lie there
+abbrev pub words_right : ℕ → Ptr → Fml
+words_right zero p = ftrue
+words_right (suc n) p = frees (ty_array (ty_int w64) (suc n)) p
+
+-- the own words of a block, with the right to give their memory back
+abbrev pub piece : {D : Type 0} → Pieces D → Body D → Fml
+piece own x =
+    fsep (fact (IsPiece own x)) (fsep (row (block_of (own.at x.0)) (count_of (own.at x.0)) x.1) (words_right (own.count x.0) (own.at x.0)))
 
 module _ {V : Type 0} (c : V → Gv) (γ : ℕ) where
   -- the views of the seats from this number on, of which none is there
@@ -76,8 +99,9 @@ doors_of R σ ss = doors σ.name (IsFurther R σ.least) (right_to R) (block_of �
 abbrev pub stride : RattleType → ℕ
 stride R = size (lone (OptionOf R).mir)
 
--- Under each number lie five words and a place for a value. α: the lifetime of the memory; δ: the name of the hands; lent: what stands for the value of a
--- block, which can be lent, under a number, at a place; had: what stands for one that a call has in its hand, by the name under which that is noted.
+-- Under each number lie five words and a place for a value. α: the lifetime of the memory; δ: the name of the hands; lent: what stands for the body of a
+-- block, whose value can be lent, under a number, at a place; had: what stands for one whose value a call has in its hand, by the name under which that is
+-- noted.
 module _ (R : RattleType) (α : Lft) (δ : ℕ) where
   abbrev pub hand : Share → ℕ → Hand → Fml
   hand q i h = seen hand_coded.code δ q i h
@@ -89,9 +113,9 @@ module _ (R : RattleType) (α : Lft) (δ : ℕ) where
   abbrev pub inside : ℕ → ℕ → ℕ → ℕ → List ℕ → Option R.Denot → Fml
   inside b o b' o' ws x = fsep (row b o ws) (place b' o' x)
 
-  module _ (lent : ℕ → R.Denot → ℕ → ℕ → Fml) (had : ℕ → ℕ → R.Denot → Fml) where
-    -- the entry's words, and a value that can be lent
-    abbrev pub offered : ℕ → ℕ → ℕ → ℕ → ℕ → List ℕ → R.Denot → Fml
+  module _ (lent : ℕ → Body R.Denot → ℕ → ℕ → Fml) (had : ℕ → ℕ → Body R.Denot → Fml) where
+    -- the entry's words, and a body whose value can be lent
+    abbrev pub offered : ℕ → ℕ → ℕ → ℕ → ℕ → List ℕ → Body R.Denot → Fml
     offered b o b' o' i ws x = fsep (row b o ws) (lent i x b' o')
 
     abbrev pub kept : ℕ → ℕ → ℕ → ℕ → ℕ → Cell R.Denot → Fml
@@ -131,15 +155,25 @@ abbrev pub places : (R : RattleType) → ℕ → ℕ → List (Option R.Denot) �
 places R b o [] = ftrue
 places R b o (x ∷ xs) = fsep (part_at (OptionOf R) full_share x b o) (places R b (o + stride R) xs)
 
+-- the own words of the block whose value is in a place
+abbrev pub piece_in : {D : Type 0} → Pieces D → Option D → Fml
+piece_in own None = ftrue
+piece_in own (Some x) = fex (List ℕ) (λ ws. piece own (x, ws))
+
+abbrev pub pieces : {D : Type 0} → Pieces D → List (Option D) → Fml
+pieces own [] = ftrue
+pieces own (x ∷ xs) = fsep (piece_in own x) (pieces own xs)
+
 -- A further strip that stands under no rule: its words and its places, and with them the right to give its block back. fresh: no place has a value yet.
-module _ (R : RattleType) (fresh : Bool) where
+module _ (R : RattleType) (own : Pieces R.Denot) (fresh : Bool) where
   abbrev pub AreOf : Strip → List ℕ × List (Option R.Denot) → Type 0
   AreOf s u = (length u.0 ≡ s.size * 5) × (length u.1 ≡ s.size) × (fresh ≡ true → u.1 ≡ replicate s.size None)
 
   abbrev pub stripped : Strip → Fml
   stripped s =
       fex (List ℕ × List (Option R.Denot)) (λ u. fsep (fact (AreOf s u))
-      (fsep (row (block_of s.words) (s.skip * 8 + count_of s.words) u.0) (places R (block_of s.values) (count_of s.values) u.1)))
+      (fsep (row (block_of s.words) (s.skip * 8 + count_of s.words) u.0)
+      (fsep (places R (block_of s.values) (count_of s.values) u.1) (pieces own u.1))))
 
   abbrev pub alone : Strip → Fml
   alone s = fsep (stripped s) (right_to R s)
@@ -270,12 +304,13 @@ abbrev pub IsPlaced : RattleType → Ptr → BaseId → Type 0
 IsPlaced R p z = InBlock p × ((z.skip + z.size * 5) * 8 < 2 ^ 63) × InBlock z.values × (z.size * stride R < 2 ^ 63) × InBlock z.doors
 
 -- the invariant, where this is known of the list of the strips
-module _ (R : RattleType) {V W : Type 0} (c : V → Gv) (holds : State R.Denot V W → Type 0) (k : Core) (Known : List Strip → Type 0) where
-  abbrev pub lent_in : ℕ → R.Denot → ℕ → ℕ → Fml
-  lent_in = lendable R (k.atom ∷ []) c k.views_name holds
+module _ (R : RattleType) (own : Pieces R.Denot) {V W : Type 0} (c : V → Gv) (holds : State R.Denot V W → Type 0) (k : Core) (Known : List Strip → Type 0) where
+  -- the own words of a block, and its value, at a place
+  abbrev pub lent_in : ℕ → Body R.Denot → ℕ → ℕ → Fml
+  lent_in i x b o = fsep (piece own x) (lendable R (k.atom ∷ []) c k.views_name holds i x.0 b o)
 
-  abbrev pub had_in : ℕ → ℕ → R.Denot → Fml
-  had_in = in_hand R (k.atom ∷ []) c k.views_name holds
+  abbrev pub had_in : ℕ → ℕ → Body R.Denot → Fml
+  had_in ρ i x = fsep (piece own x) (in_hand R (k.atom ∷ []) c k.views_name holds ρ i x.0)
 
   abbrev pub standing_in : Inside R.Denot V W → Fml
   standing_in i =
@@ -307,26 +342,26 @@ strip_told R (block_ptr b o) z = strip_there R (block_ptr b o) z
 abbrev pub strip_owns : RattleType → Ptr → BaseId → Fml
 strip_owns R p z = fsep (strip_told R p z) ftrue
 
-module _ (R : RattleType) {V W : Type 0} (c : V → Gv) (holds : State R.Denot V W → Type 0) where
+module _ (R : RattleType) (own : Pieces R.Denot) {V W : Type 0} (c : V → Gv) (holds : State R.Denot V W → Type 0) where
   -- the invariant itself
   abbrev pub everything : Core → Fml
-  everything k = inner_in R c holds k (λ _. Unit {0})
+  everything k = inner_in R own c holds k (λ _. Unit {0})
 
   module _ (p : Ptr) (z : BaseId) where
-    -- what stands for the value of a block
-    abbrev pub lent_here : ℕ → R.Denot → ℕ → ℕ → Fml
-    lent_here = lendable R (age z) c z.views_name holds
+    -- what stands for the body of a block
+    abbrev pub lent_here : ℕ → Body R.Denot → ℕ → ℕ → Fml
+    lent_here i x b o = fsep (piece own x) (lendable R (age z) c z.views_name holds i x.0 b o)
 
-    -- what stands for one that a call has in its hand
-    abbrev pub had_here : ℕ → ℕ → R.Denot → Fml
-    had_here = in_hand R (age z) c z.views_name holds
+    -- what stands for one whose value a call has in its hand
+    abbrev pub had_here : ℕ → ℕ → Body R.Denot → Fml
+    had_here ρ i x = fsep (piece own x) (in_hand R (age z) c z.views_name holds ρ i x.0)
 
     -- the invariant, as it is seen by who knows of the strip
     abbrev pub standing : Inside R.Denot V W → Fml
-    standing = standing_in R c holds (core_of z) (IsListed p z)
+    standing = standing_in R own c holds (core_of z) (IsListed p z)
 
     abbrev pub inner : Fml
-    inner = inner_in R c holds (core_of z) (IsListed p z)
+    inner = inner_in R own c holds (core_of z) (IsListed p z)
 
     -- what is told to all: the invariant, and the strip
     abbrev pub told : Fml

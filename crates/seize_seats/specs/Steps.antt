@@ -9,6 +9,11 @@ use denote.RawPtr.{Ptr}
 use Rattle.seize_seats.specs.Lines.{IsWord}
 use Rattle.seize_seats.specs.Owned.{BaseId, place_in, IsIn}
 
+-- The operation, on the word of this name, takes it to f of what it was, and `out` of that is the answer.
+pub record IsWordStep (T : Type 0) (at : At) (op : Op T) (f : ℕ → ℕ) (out : ℕ → Out T) : Type 0 where
+  pub needs : (m : Mem T) → Can m op → (w : ℕ) × (word_at m at ≡ Some w)
+  pub makes : (m : Mem T) (w : ℕ) → word_at m at ≡ Some w → Gives m op (out w) × (after m op (out w) ≡ with_word m at (f w))
+
 -- The operation, on the word of this name, is one step on the word at a place: it becomes f of what it was, and `out` of that is the answer.
 pub record IsStepOf (T : Type 0) (p : Ptr) (z : BaseId) (at : At) (place : ℕ) (op : Op T) (f : ℕ → ℕ) (out : ℕ → Out T) : Type 0 where
   pub needs : (m : Mem T) → Can m op → (w : ℕ) × (word_at m at ≡ Some w)

@@ -35,6 +35,7 @@ use Rattle.std.specs.contracts.impls.GlobalAllocator.TheImpl.{ghosts}
 use Rattle.std.proofs.raw_atomic.Walks.{proved, leaves}
 use Rattle.seize_seats.specs.Strips.{Strip, further}
 use Rattle.seize_seats.specs.Doors.{before, block_bytes, words_from}
+use Rattle.seize_blocks.specs.Bare.{bare}
 use Rattle.seize_seats.specs.Owned.{stride, all_alone}
 use Rattle.seize_seats.proofs.Plots.{fits}
 use Rattle.seize_seats.specs.Plots.{HasFirst, all_full}
@@ -81,7 +82,8 @@ parted_spec 𝓤 𝓛 𝓜 𝓡 wired T L =
     let at_p : p ≡ p' = at_block p has.4 in let small : k * 8 < 2 ^ 64 = omega (arith, k_is, words_fit) in
     let w' : Ptr = block_ptr b (k * 8 + o) in let at_w : w' ≡ w = (λ i. block_ptr b (k_is i * 8 + o)) in
     -- [the strips; alive]
-    rewrite ! 0 (λ (q : List Strip). ‵ (all_alone R fr q)) has.2 refl $ fsplit ! $ fsplit ! $ fpick ! (λ u. fsplit ! $ fpick ! (λ long. drop ! $ fsplit ! $
+    rewrite ! 0 (λ (q : List Strip). ‵ (all_alone R bare fr q)) has.2 refl $ fsplit ! $ fsplit ! $ fpick ! (λ u. fsplit ! $ fpick ! (λ long. drop ! $ fsplit ! $ move ! (1 ∷ []) $ fsplit ! $ move ! (1 ∷ []) $ drop ! $
+    move ! (1 ∷ 0 ∷ []) $
     let ws : List ℕ = u.0 in let xs : List (Option T.Denot) = u.1 in let many = long.1 in let more = long.0 in
     -- [the words; the places; the right; the others; alive]
     use1 𝓛 (‵ (Whole 𝓛 w ws)) (whole_in 𝓛 w ws (tt, omega (arith, more, words_fit))) $ move ! (1 ∷ []) $

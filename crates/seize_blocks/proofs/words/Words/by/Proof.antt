@@ -38,6 +38,7 @@ use Rattle.seize_blocks.specs.contracts.words.Words.by.{ended, clauses}
 use Rattle.seize_blocks.specs.contracts.words.Words.by.Key.{name as #self}
 use Rattle.seize_blocks.proofs.words.Words.by.Statement.{statement}
 use Rattle.seize_blocks.proofs.words.Words.by.Code as code
+use Rattle.seize_blocks.specs.Bare.{bare}
 
 pub by_spec : {M : Type 1} → statement M
 by_spec 𝓤 𝓛 𝓜 𝓡 wired X P U F LX LP LU LF g d _ =
@@ -57,7 +58,7 @@ by_spec 𝓤 𝓛 𝓜 𝓡 wired X P U F LX LP LU LF g d _ =
     let cv = R₂.coded in let holds = g.holds t.fixed in
     let t' : Row.Denot = record { words = q; marker = t.marker; id = y; fixed = t.fixed } in
     let others : Fml = fsep (flft κs.1.0 qs.1.0) (fsep (flft κs.1.1.0 qs.1.1.0) (fsep (flft κs.1.1.1.0 qs.1.1.1.0) (fsep (flft κs.1.1.1.1.0 qs.1.1.1.1.0) ftrue))) in
-    let Asked : Type 0 = (core_of y ≡ core_of z) × InBlock q in let Inv : Core → Fml = λ k. invariant IsEven (fbor (k.atom ∷ []) (everything R₀ cv.code holds k)) in
+    let Asked : Type 0 = (core_of y ≡ core_of z) × InBlock q in let Inv : Core → Fml = λ k. invariant IsEven (fbor (k.atom ∷ []) (everything R₀ bare cv.code holds k)) in
     let Lasts : Core → Fml = λ k. fshr_bor κ (λ u. flft (k.atom ∷ []) u) in
     let w : (walk_of 𝓛 En hs c).Ghost = ((κs, qs, bounds, a, (vptr b o ∷ [], (vptr b' o' ∷ [], tt))), gh) in
     let Post : Val → SProp 𝓤 = (walk_of 𝓛 En hs c).post w in
@@ -67,7 +68,7 @@ by_spec 𝓤 𝓛 𝓜 𝓡 wired X P U F LX LP LU LF g d _ =
     -- [self; the strip; the token; the others]
     keep ! (3 ∷ 1 ∷ 5 ∷ 6 ∷ []) $
     enter ! 𝓣.C 𝓣.Λ fn (vptr b o ∷ vptr b' o' ∷ []) Post $ alloc_all ! (λ l. pass_all ! refl ((tt, tt), ((tt, tt), tt)) $ let Ev = env fn.locals l in
-    use1 𝓛 (‵ (hidden_shr D κ (p, (tt, tt)) b o) ⊛ ‵ (fhide (words_share R₀ cv.code holds p z κ)))
+    use1 𝓛 (‵ (hidden_shr D κ (p, (tt, tt)) b o) ⊛ ‵ (fhide (words_share R₀ bare cv.code holds p z κ)))
     (lent_out 𝓛 (words.struct R₀ R₁ R₂ R₃ g)
     (words.the_codes X.Denot P.Denot U.Denot F.Denot R₀.coded R₁.coded R₂.coded R₃.coded (marker.the_row (Tuple (R₀ ∷ R₁ ∷
     []))).coded) (words.the_heap R₀ R₁ R₂ R₃ g) (words.the_lent R₀ R₁ R₂ R₃ g) κ t b o) $
@@ -80,7 +81,7 @@ by_spec 𝓤 𝓛 𝓜 𝓡 wired X P U F LX LP LU LF g d _ =
     -- [it is placed; it is listed; the address; the invariant; its lifetime lasts; the token; the others]
     move ! (1 ∷ 3 ∷ []) $ fjoin ! $ move ! (1 ∷ 0 ∷ []) $ fjoin ! $ move ! (2 ∷ 0 ∷ []) $ fjoin ! $
     -- [what words share; the address; the token; the others]
-    use1 𝓛 (‵ (fhide (words_share R₀ cv.code holds q y κ))) (id⊢ 𝓤 _) $ move ! (1 ∷ 0 ∷ []) $
+    use1 𝓛 (‵ (fhide (words_share R₀ bare cv.code holds q y κ))) (id⊢ 𝓤 _) $ move ! (1 ∷ 0 ∷ []) $
     use2 𝓛 (‵ (hidden_shr Row κ t' b' o')) (id⊢ 𝓤 _) $
     first ! $ blocks ! $
     sets ! (addr ! (through ! refl (stop !))) refl (tt, tt) $

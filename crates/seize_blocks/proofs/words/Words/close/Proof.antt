@@ -4,7 +4,7 @@ use mir.Syntax.{dcons, dnil, a_type}
 use mir.MapTy.{inst_fn}
 use mir.Val.{Val, vstruct, vcons, vnil}
 use base.Logic.{SProp, emp}
-use types.Kit.{‵, raw, ◌⊛◌, some as items, given, later, ◌$◌, ◌∵◌, !, qed, by, move, keep, split3, split, fsplit, fjoin, fjoin3, fpack, feq_i, pick, learn, use0, use1, rewrite, await}
+use types.Kit.{‵, raw, ◌⊛◌, some as items, given, later, ◌$◌, ◌∵◌, !, qed, by, move, keep, drop, split3, split, fsplit, fjoin, fjoin3, fpack, feq_i, pick, learn, use0, use1, rewrite, await}
 use types.Run.{stop, fld, of_opd, no_more, and_then, returns, enter}
 use types.ByLocal.{alloc_all, pass_all, free_all, look_at, get, get_in, sets}
 use types.Part.{agg, sub, whole}
@@ -29,7 +29,7 @@ use Rattle.core.specs.contracts.option.Option.{the_row as OptionOf}
 use Rattle.core.specs.Mem.Slots.Ownership.{Filled}
 use Rattle.std.proofs.lemmas.List.{length-replicate}
 use Rattle.seize_seats.specs.Strips.{Strip}
-use Rattle.seize_seats.specs.Owned.{BaseId, IsFirst, stride, places, all_alone}
+use Rattle.seize_seats.specs.Owned.{pieces, BaseId, IsFirst, stride, places, all_alone}
 use Rattle.seize_seats.specs.Plots.{all_full}
 use Rattle.seize_seats.specs.Owned as Owned
 use Rattle.seize_seats.specs.Doors.{pointers, IsFurther, AreBehind}
@@ -44,6 +44,7 @@ use Rattle.seize_blocks.specs.contracts.words.Words.close.{ended, clauses}
 use Rattle.seize_blocks.specs.contracts.words.Words.close.Key.{name as #self}
 use Rattle.seize_blocks.proofs.words.Words.close.Statement.{statement}
 use Rattle.seize_blocks.proofs.words.Words.close.Code as code
+use Rattle.seize_blocks.specs.Bare.{bare}
 
 pub close_spec : {M : Type 1} → statement M
 close_spec 𝓤 𝓛 𝓜 𝓡 wired X P U F LX LP LU LF g d _ =
@@ -73,16 +74,16 @@ close_spec 𝓤 𝓛 𝓜 𝓡 wired X P U F LX LP LU LF g d _ =
     keep ! (5 ∷ 0 ∷ []) $ heard ! Asked (λ asked. split ! $ move ! (1 ∷ []) $ fsplit ! $ fsplit ! $ keep ! (1 ∷ 3 ∷ []) $
     let is_first : IsFirst p z = asked.2 in
     enter ! 𝓣.C 𝓣.Λ fn (hand_of p ∷ ptr_val pv ∷ ptr_val dp ∷ []) Post $ alloc_all ! (λ l. pass_all ! refl (hand_good p, (Ptr-Good pv, (Ptr-Good dp, tt))) $
-    use1 𝓛 (later (items (λ (u : List ℕ × List (Option X.Denot) × List Ptr × List Strip). given (AreClosed 𝓛 R₀ cv holds p z.values z.doors z is_first u)
+    use1 𝓛 (later (items (λ (u : List ℕ × List (Option X.Denot) × List Ptr × List Strip). given (AreClosed 𝓛 R₀ bare cv holds p z.values z.doors z is_first u)
     (‵ (Owned.row (block_of p) (count_of p) u.0) ⊛ ‵ (places R₀ (block_of z.values) (count_of z.values) u.1) ⊛
-    ‵ (pointers (block_of z.doors) (count_of z.doors) u.2) ⊛ ‵ (all_alone R₀ false u.3)))))
-    (closes 𝓛 R₀ cv holds p z.values z.doors z is_first) $ await ! tt $ pick ! (λ u. learn ! (λ is. split3 ! $
+    ‵ (pointers (block_of z.doors) (count_of z.doors) u.2) ⊛ ‵ (all_alone R₀ bare false u.3) ⊛ ‵ (pieces bare u.1)))))
+    (closes 𝓛 R₀ bare cv holds p z.values z.doors z is_first) $ await ! tt $ pick ! (λ u. learn ! (λ is. split3 ! $
     let ws : List ℕ = u.0 in let xs : List (Option X.Denot) = u.1 in let ds : List Ptr = u.2 in let placed = is.3 in
     use1 𝓛 (‵ (Placing.Whole 𝓛 p ws)) (whole_in 𝓛 p ws (placed.0, subst (λ (n : ℕ). n * 8 < 2 ^ 63) (sym (is.0 ∙ ap (λ (k : ℕ). k + z.size * 5) (sym is_first.1))) placed.1)) $ move ! (1 ∷ []) $
     use1 𝓛 (‵ (Values 𝓛 R₀ z.values xs)) (values_in 𝓛 R₀ z.values xs (placed.2, subst (λ (n : ℕ). n * stride R₀ < 2 ^ 63) (sym is.1) placed.3)) $
-    rewrite ! 0 (λ (r : Ptr). ‵ (Values 𝓛 R₀ r xs)) (sym asked.0) refl $ move ! (2 ∷ []) $ split ! $
+    rewrite ! 0 (λ (r : Ptr). ‵ (Values 𝓛 R₀ r xs)) (sym asked.0) refl $ move ! (2 ∷ []) $ split3 ! $
     use1 𝓛 (‵ (Placing.Doorway 𝓛 z.doors ds)) (doorway_in 𝓛 z.doors ds placed.4 (subst (λ (n : ℕ). n * 8 < 2 ^ 63) (sym is.2) (lit< tt))) $
-    rewrite ! 0 (λ (r : Ptr). ‵ (Placing.Doorway 𝓛 r ds)) (sym asked.1) refl $ move ! (2 ∷ 3 ∷ 0 ∷ 1 ∷ []) $
+    rewrite ! 0 (λ (r : Ptr). ‵ (Placing.Doorway 𝓛 r ds)) (sym asked.1) refl $ move ! (2 ∷ []) $ drop ! $ move ! (2 ∷ 3 ∷ 0 ∷ 1 ∷ []) $
     -- [the values; the words; the doors; the other strips; alive]
     let ss : List Strip = u.3 in
     let r₁ : Rw.Denot = record { at = p; items = ws; filled = all_full (length ws); even = length-replicate (length ws) true } in

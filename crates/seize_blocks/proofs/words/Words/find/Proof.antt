@@ -49,6 +49,7 @@ use Rattle.seize_blocks.specs.contracts.words.Words.find.{ended, clauses}
 use Rattle.seize_blocks.specs.contracts.words.Words.find.Key.{name as #self}
 use Rattle.seize_blocks.proofs.words.Words.find.Statement.{statement}
 use Rattle.seize_blocks.proofs.words.Words.find.Code as code
+use Rattle.seize_blocks.specs.Bare.{bare}
 
 pub find_spec : {M : Type 1} → statement M
 find_spec 𝓤 𝓛 𝓜 𝓡 wired X P U F LX LP LU LF g d _ =
@@ -93,12 +94,12 @@ find_spec 𝓤 𝓛 𝓜 𝓡 wired X P U F LX LP LU LF g d _ =
     fsplit3 ! $ fsplit ! $ move ! (2 ∷ []) $ fsplit ! $ move ! (4 ∷ []) $ fsplit ! $ fsplit ! $
     -- [self; the guard; the owner; the three tokens; the others]
     keep ! (6 ∷ 4 ∷ 1 ∷ 7 ∷ 8 ∷ 9 ∷ 10 ∷ []) $
-    use1 𝓛 (‵ (hidden_shr D κ (p, (tt, tt)) b o) ⊛ ‵ (fhide (words_share R₀ cv.code holds p z κ)))
+    use1 𝓛 (‵ (hidden_shr D κ (p, (tt, tt)) b o) ⊛ ‵ (fhide (words_share R₀ bare cv.code holds p z κ)))
     (lent_out 𝓛 (words.struct R₀ R₁ R₂ R₃ g)
     (words.the_codes X.Denot P.Denot U.Denot F.Denot R₀.coded R₁.coded R₂.coded R₃.coded (marker.the_row (Tuple (R₀ ∷ R₁ ∷
     []))).coded) (words.the_heap R₀ R₁ R₂ R₃ g) (words.the_lent R₀ R₁ R₂ R₃ g) κ t b o) $
     split ! $ drop ! $ unhide ! $ fsplit ! $ move ! (1 ∷ []) $
-    use1 𝓛 (given (IsPlaced R₀ p z) (‵ (common R₀ cv.code holds p z))) (placed R₀ cv holds p z 𝓛) $ learn ! (λ there. fsplit ! $ drop ! $
+    use1 𝓛 (given (IsPlaced R₀ p z) (‵ (common R₀ bare cv.code holds p z))) (placed R₀ bare cv holds p z 𝓛) $ learn ! (λ there. fsplit ! $ drop ! $
     -- [the invariant; its lifetime lasts; the guard; the owner; the three tokens; the others]
     move ! (2 ∷ []) $ use1 𝓛 (‵ (hidden_shr Ds κ₁ (tt, tt) b₁ o₁) ⊛ ‵ (fhide (seat_shares cv.code h.base h.id h.view h.stretch h.mark κ₁)))
     (lent_out 𝓛 (seat.struct R₀ R₁ R₂ R₃ g)
@@ -119,14 +120,14 @@ find_spec 𝓤 𝓛 𝓜 𝓡 wired X P U F LX LP LU LF g d _ =
     let Ev = env fn.locals l in
     move ! (1 ∷ 5 ∷ []) $ shr_bor-open ! tt (view_halves 𝓛 cv z.views_name h.id h.view) (λ f. move ! (2 ∷ 6 ∷ []) $
     shr_bor-open ! tt (view_halves 𝓛 cv z.views_name k.id k.view) (λ f'. move ! (5 ∷ 6 ∷ []) $ shr_bor-open ! tt (tokens_halve 𝓛 α) (λ s.
-    let out : Ptr → Fml = λ r. fsep (flft α s) (met 𝓛 R₀ cv holds g.keeps p z asked.4 asked.5 s j e asked.3 refl h.id h.view k.id k.view nr asked.7 asked.6 f f' r) in
+    let out : Ptr → Fml = λ r. fsep (flft α s) (met 𝓛 R₀ bare cv holds g.keeps p z asked.4 asked.5 s j e asked.3 refl h.id h.view k.id k.view nr asked.7 asked.6 f f' r) in
     -- [open; the token; the owner's, open; its view; the guard's, open; its view; the invariant; the others]
     move ! (5 ∷ 3 ∷ []) $ fjoin ! $ move ! (5 ∷ 2 ∷ 0 ∷ []) $
     first ! $ blocks ! $ sets ! (of_opd ! (get ! refl)) refl (tt, record { fits = are.1.1.1.1.1.0.1 }) $
     sets ! (bin ! (get ! refl) (lit ! tt) (record { fits = small })) refl (tt, record { fits = small }) $
     sets ! (bin ! (get ! refl) (get ! refl) tt) refl (tt, tt) $
     use3 𝓛 (raw (𝓣.C _ (vptr db e ∷ seq_cst ∷ []) (λ u. mean 𝓛 (found 𝓛 out u))))
-    (via 𝓤 _ (finds_strip 𝓛 R₀ cv holds g.keeps p z asked.4 asked.5 s j e asked.3 refl h.id h.view k.id k.view nr asked.7 asked.6 f f')
+    (via 𝓤 _ (finds_strip 𝓛 R₀ bare cv holds g.keeps p z asked.4 asked.5 s j e asked.3 refl h.id h.view k.id k.view nr asked.7 asked.6 f f')
     (loads 𝓛 𝓜 𝓡 (code.calls-core::raw_atomic::ptr::load 𝓡.env wired) u64 word_laws (block_ptr db e) out)) $
     sets ! (agg ! (and_then ! (lit ! tt) (no_more !))) refl seq_cst_good $
     Calls-last ! (fm 𝓛 𝓜 𝓡) (found 𝓛 out) (and_then ! (get ! refl) (and_then ! (get ! refl) (no_more !))) (λ u. finds ! out (λ w.
@@ -136,12 +137,12 @@ find_spec 𝓤 𝓛 𝓜 𝓡 wired X P U F LX LP LU LF g d _ =
     fsplit ! $ move ! (2 ∷ 0 ∷ []) $ obor_close ! tt $ drop ! $ move ! (1 ∷ []) $ fsplit ! $ fpick ! (λ found_one. drop ! $ fsplit ! $ move ! (1 ∷ []) $ fsplit ! $
     -- [the guard's view; the owner's; what is told; the token; the owner's, open; the guard's, open; the others]
     move ! (5 ∷ 0 ∷ []) $ obor_close ! tt $ drop ! $ move ! (4 ∷ 1 ∷ []) $ obor_close ! tt $ drop ! $ move ! (2 ∷ []) $
-    let y' : BaseId = at_door 𝓛 R₀ cv holds p z s j e asked.3 refl w in let r : St.Denot = record { words = w; marker = record {}; id = y' } in
+    let y' : BaseId = at_door 𝓛 R₀ bare cv holds p z s j e asked.3 refl w in let r : St.Denot = record { words = w; marker = record {}; id = y' } in
     let n : ℕ = z.least * 2 ^ j in
     let Told : Type 0 = (core_of y' ≡ core_of z) × (before R₀ n ≡ before R₀ n) × (w ≡ w)
     × (n ≡ n) × (n ≡ n) × InBlock w × ((before R₀ n + n * 5) * 8 < 2 ^ 63) × (n * stride R₀ < 2 ^ 63) in
     -- [what is told; the three tokens, last first; the others]
-    use1 𝓛 (‵ (strip_told R₀ w y')) (tells_strip 𝓛 R₀ cv holds p z s j e asked.3 refl there.4 w) $
+    use1 𝓛 (‵ (strip_told R₀ w y')) (tells_strip 𝓛 R₀ bare cv holds p z s j e asked.3 refl there.4 w) $
     rewrite ! 0 (λ (f₁ : Fml). ‵ f₁) (told_there R₀ w y' found_one) refl $ fsplit ! $ fpick ! (λ lies. drop ! $
     nothing ! $ fpack ! (IsPlaced R₀ w y') (λ _. ftrue) lies $ fjoin ! $ rewrite ! 0 (λ (f₁ : Fml). ‵ f₁) (sym (told_there R₀ w y' found_one)) refl $
     nothing ! $ move ! (1 ∷ 0 ∷ []) $ fjoin ! $ use0 𝓛 (‵ ((StripData R₀).own_val (w, (tt, tt)) (hand_of w ∷ []))) (strip_made 𝓛 R₀ w) $ fjoin ! $

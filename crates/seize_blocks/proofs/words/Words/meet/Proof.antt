@@ -38,6 +38,7 @@ use Rattle.seize_blocks.proofs.words.Words.meet.Statement.{statement}
 use Rattle.seize_blocks.proofs.words.Words.meet.Code as code
 use Rattle.seize_seats.specs.Stretches.{seat_owns}
 use Rattle.seize_seats.proofs.Stretches.{ends, begins}
+use Rattle.seize_blocks.specs.Bare.{bare}
 
 pub meet_spec : {M : Type 1} → statement M
 meet_spec 𝓤 𝓛 𝓜 𝓡 wired X P U F N LX LP LU LF LN g d g' d' _ _ =
@@ -71,20 +72,20 @@ meet_spec 𝓤 𝓛 𝓜 𝓡 wired X P U F N LX LP LU LF LN g d g' d' _ _ =
     keep ! (1 ∷ 11 ∷ 3 ∷ 4 ∷ 12 ∷ 6 ∷ 7 ∷ 9 ∷ 10 ∷ []) $
     enter ! 𝓣.C 𝓣.Λ fn (vptr b o ∷ vptr b' o' ∷ vptr b₂ o₂ ∷ []) Post $ alloc_all ! (λ l. pass_all ! refl ((tt, tt), ((tt, tt), ((tt, tt), tt))) $
     let Ev = env fn.locals l in
-    use1 𝓛 (‵ (hidden_shr D κ (p, (tt, tt)) b o) ⊛ ‵ (fhide (words_share R₀ cv.code holds p z κ)))
+    use1 𝓛 (‵ (hidden_shr D κ (p, (tt, tt)) b o) ⊛ ‵ (fhide (words_share R₀ bare cv.code holds p z κ)))
     (lent_out 𝓛 (words.struct R₀ R₁ R₂ R₃ g)
     (words.the_codes X.Denot P.Denot U.Denot F.Denot R₀.coded R₁.coded R₂.coded R₃.coded (marker.the_row (Tuple (R₀ ∷ R₁ ∷
     []))).coded) (words.the_heap R₀ R₁ R₂ R₃ g) (words.the_lent R₀ R₁ R₂ R₃ g) κ t b o) $
     split ! $ drop ! $ unhide ! $ move ! (2 ∷ 3 ∷ 4 ∷ []) $ opens ! tt Sr b' o' (λ ts. move ! (1 ∷ []) $ fsplit ! $
     rewrite ! 1 (λ (w : ℕ). ‵ (seat_owns cv.code w i v h.stretch h.mark)) asked.0 refl $ move ! (1 ∷ []) $
-    use1 𝓛 (later (‵ (seat_of 𝓛 R₀ cv holds g.keeps p z i v))) (ends 𝓛 cv z.views_name i v h.stretch h.mark) $ await ! tt $
+    use1 𝓛 (later (‵ (seat_of 𝓛 R₀ bare cv holds g.keeps p z i v))) (ends 𝓛 cv z.views_name i v h.stretch h.mark) $ await ! tt $
     -- [the one; its fields; four of it; what the words share; the token; the other, by two; its token; the others]
     move ! (8 ∷ 9 ∷ 10 ∷ []) $ opens ! tt Sr b₂ o₂ (λ us. move ! (1 ∷ []) $ fsplit ! $
     rewrite ! 1 (λ (w : ℕ). ‵ (seat_owns cv.code w j u k.stretch k.mark)) asked.1 refl $ move ! (1 ∷ []) $
-    use1 𝓛 (later (‵ (seat_of 𝓛 R₀ cv holds g.keeps p z j u))) (ends 𝓛 cv z.views_name j u k.stretch k.mark) $ await ! tt $
+    use1 𝓛 (later (‵ (seat_of 𝓛 R₀ bare cv holds g.keeps p z j u))) (ends 𝓛 cv z.views_name j u k.stretch k.mark) $ await ! tt $
     -- [the other; its fields; four of it; the one; its fields; four of it; what the words share; the token; the others]
     move ! (6 ∷ 0 ∷ []) $ join ! $ move ! (11 ∷ 12 ∷ 0 ∷ []) $
-    use3 𝓛 (later (‵ (met 𝓛 R₀ cv holds g.keeps p z i v j u so asked.2) ⊛ ‵ (flft κ qs.0))) (meets 𝓛 R₀ cv holds g.keeps p z i v j u so asked.2 κ qs.0) $
+    use3 𝓛 (later (‵ (met 𝓛 R₀ bare cv holds g.keeps p z i v j u so asked.2) ⊛ ‵ (flft κ qs.0))) (meets 𝓛 R₀ bare cv holds g.keeps p z i v j u so asked.2 κ qs.0) $
     await ! tt $ split ! $ fpick ! (λ w. fsplit ! $ fpick ! (λ such. drop ! $ fsplit ! $
     use1 𝓛 (later (items (λ (st : ℕ × ℕ). ‵ (seat_owns cv.code z.views_name i w.0 st.0 st.1)))) (begins 𝓛 cv z.views_name i w.0) $ await ! tt $
     pick ! (λ st. move ! (1 ∷ []) $

@@ -46,7 +46,7 @@ use Rattle.std.proofs.raw_atomic.PtrCalls.{Answer, answer_val, answer_good, answ
 use Rattle.seize_seats.specs.Seen.{fact as so, seen}
 use Rattle.seize_seats.specs.Strips.{Strip, strip_coded}
 use Rattle.seize_seats.specs.Doors.{before, block_bytes, words_from, IsFurther, right_to}
-use Rattle.seize_seats.specs.Owned.{BaseId, IsPlaced, AreOf, age, core_of, common, strip_of, strip_told, words_share}
+use Rattle.seize_seats.specs.Owned.{pieces, BaseId, IsPlaced, AreOf, age, core_of, common, strip_of, strip_told, words_share}
 use Rattle.seize_seats.specs.Owned as Owned
 use Rattle.seize_seats.proofs.Shown.{placed, told_there}
 use Rattle.seize_seats.proofs.Opening.{fives, fives_are, fives_long}
@@ -65,7 +65,9 @@ use Rattle.seize_seats.proofs.Plotted.{plot}
 use Rattle.seize_blocks.specs.contracts.words.Words.offer.{ended, clauses}
 use Rattle.seize_blocks.specs.contracts.words.Words.offer.Key.{name as #self}
 use Rattle.seize_blocks.proofs.words.Words.offer.Statement.{statement}
+use Rattle.seize_seats.proofs.Pieces.{no_pieces}
 use Rattle.seize_blocks.proofs.words.Words.offer.Code as code
+use Rattle.seize_blocks.specs.Bare.{bare}
 
 pub offer_spec : {M : Type 1} → statement M
 offer_spec 𝓤 𝓛 𝓜 𝓡 wired X P U F LX LP LU LF g d _ =
@@ -141,12 +143,12 @@ offer_spec 𝓤 𝓛 𝓜 𝓡 wired X P U F LX LP LU LF g d _ =
     move ! (4 ∷ []) $ fsplit ! $ fsplit ! $
     -- [self; the strip before; the places; the words; the deed; the two tokens; the others]
     keep ! (12 ∷ 10 ∷ 6 ∷ 4 ∷ 1 ∷ 13 ∷ 14 ∷ 15 ∷ []) $
-    use1 𝓛 (‵ (hidden_shr D κ (t.words, (tt, tt)) b o) ⊛ ‵ (fhide (words_share R₀ cv.code holds t.words z κ)))
+    use1 𝓛 (‵ (hidden_shr D κ (t.words, (tt, tt)) b o) ⊛ ‵ (fhide (words_share R₀ bare cv.code holds t.words z κ)))
     (lent_out 𝓛 (words.struct R₀ R₁ R₂ R₃ g)
     (words.the_codes X.Denot P.Denot U.Denot F.Denot R₀.coded R₁.coded R₂.coded R₃.coded (marker.the_row (Tuple (R₀ ∷ R₁ ∷
     []))).coded) (words.the_heap R₀ R₁ R₂ R₃ g) (words.the_lent R₀ R₁ R₂ R₃ g) κ t b o) $
     split ! $ drop ! $ unhide ! $ fsplit ! $ move ! (1 ∷ []) $
-    use1 𝓛 (given (IsPlaced R₀ t.words z) (‵ (common R₀ cv.code holds t.words z))) (placed R₀ cv holds t.words z 𝓛) $ learn ! (λ there. fsplit ! $ drop ! $
+    use1 𝓛 (given (IsPlaced R₀ t.words z) (‵ (common R₀ bare cv.code holds t.words z))) (placed R₀ bare cv holds t.words z 𝓛) $ learn ! (λ there. fsplit ! $ drop ! $
     -- [the invariant; its lifetime lasts; the strip before; the places; ..]
     move ! (2 ∷ []) $
     use1 𝓛 (‵ (hidden_shr Ds κ₁ (q, (tt, tt)) b₁ o₁) ⊛ ‵ (fhide (strip_told R₀ q y)))
@@ -178,8 +180,8 @@ offer_spec 𝓤 𝓛 𝓜 𝓡 wired X P U F LX LP LU LF g d _ =
     let Ev = env fn.locals l in
     sets ! (of_opd ! (get_in ! (fld ! refl (stop !)) (sub ! 0 refl (whole !)))) refl (tt, tt) $
     move ! (3 ∷ 4 ∷ []) $ shr_bor-open ! tt (tokens_halve 𝓛 α) (λ u.
-    let won : Ptr → Fml = λ r. fsep (flft α u) (Offers.won 𝓛 R₀ cv holds t.words z u j e few refl s is prior asked.3 asked.5 r) in
-    let lost : Ptr → Fml = λ r. fsep (flft α u) (Offers.lost 𝓛 R₀ cv holds t.words z u j e few refl s is prior asked.3 asked.5 r) in
+    let won : Ptr → Fml = λ r. fsep (flft α u) (Offers.won 𝓛 R₀ bare cv holds t.words z u j e few refl s is prior asked.3 asked.5 r) in
+    let lost : Ptr → Fml = λ r. fsep (flft α u) (Offers.lost 𝓛 R₀ bare cv holds t.words z u j e few refl s is prior asked.3 asked.5 r) in
     -- [open; its token; the strip; the strip before; the invariant; the other token; the others]
     first ! $ blocks ! $ sets ! (of_opd ! (get ! refl)) refl (tt, record { fits = are.1.1.1.0.1 }) $
     sets ! (bin ! (get ! refl) (lit ! tt) (record { fits = small })) refl (tt, record { fits = small }) $
@@ -187,7 +189,7 @@ offer_spec 𝓤 𝓛 𝓜 𝓡 wired X P U F LX LP LU LF g d _ =
     sets ! (of_opd ! (get ! refl)) refl (tt, tt) $
     move ! (4 ∷ 1 ∷ 3 ∷ 2 ∷ []) $ group ! 4 $
     use1 𝓛 (raw (𝓣.C _ (vptr db e ∷ vnull ∷ vptr pb po ∷ seq_cst ∷ seq_cst ∷ []) (λ v. mean 𝓛 (answered 𝓛 won lost v))))
-    (via 𝓤 _ (Offers.offers 𝓛 R₀ cv holds t.words z u j e few refl s is prior asked.3 asked.5)
+    (via 𝓤 _ (Offers.offers 𝓛 R₀ bare cv holds t.words z u j e few refl s is prior asked.3 asked.5)
     (exchanges 𝓛 𝓜 𝓡 (code.calls-core::raw_atomic::ptr::compare_exchange 𝓡.env wired) u64 word_laws (block_ptr db e) null_ptr p' won lost)) $
     sets ! (agg ! (and_then ! (lit ! tt) (no_more !))) refl seq_cst_good $ sets ! (agg ! (and_then ! (lit ! tt) (no_more !))) refl seq_cst_good $
     Calls-last ! (fm 𝓛 𝓜 𝓡) (answered 𝓛 won lost) (and_then ! (get ! refl) (and_then ! (lit ! tt) (and_then ! (get ! refl) (and_then ! (get ! refl)
@@ -221,8 +223,8 @@ offer_spec 𝓤 𝓛 𝓜 𝓡 wired X P U F LX LP LU LF g d _ =
     -- [the right; the words; the places; the two tokens; the others]
     let r₂ : Lo.Denot = record { marker = record {}; fresh = true; strips = s ∷ [] } in let Told : Type 0 = HasFirst R₀ p' n (s ∷ []) × (true ≡ true) in
     let u₁ : List ℕ × List (Option X.Denot) = (fives n, replicate n None) in
-    let Parts : List ℕ × List (Option X.Denot) → Fml = λ f. fsep (so (AreOf R₀ true s f)) (fsep (Owned.row pb (before R₀ n * 8 + po) f.0) (Owned.places R₀ pb po f.1)) in
-    move ! (1 ∷ 2 ∷ []) $ fjoin ! $ nothing ! $ fpack ! (AreOf R₀ true s u₁) (λ _. ftrue) (fives_long n, length-replicate n None, λ _. refl) $ fjoin ! $
+    let Parts : List ℕ × List (Option X.Denot) → Fml = λ f. fsep (so (AreOf R₀ bare true s f)) (fsep (Owned.row pb (before R₀ n * 8 + po) f.0) (fsep (Owned.places R₀ pb po f.1) (pieces bare f.1))) in
+    use0 𝓛 (‵ (pieces bare (replicate n None))) (no_pieces 𝓛 bare n) $ move ! (3 ∷ 0 ∷ []) $ fjoin ! $ move ! (2 ∷ 0 ∷ []) $ fjoin ! $ nothing ! $ fpack ! (AreOf R₀ bare true s u₁) (λ _. ftrue) (fives_long n, length-replicate n None, λ _. refl) $ fjoin ! $
     fpack ! (List ℕ × List (Option X.Denot)) Parts u₁ $ fjoin ! $ nothing ! $ move ! (1 ∷ 0 ∷ []) $ fjoin ! $
     -- [all that come back; the two tokens; the others]
     use0 𝓛 (‵ ((Mark R₀).own_val (record {}, tt) (token ∷ []))) (mark_made R₀ 𝓛) $ fjoin ! $

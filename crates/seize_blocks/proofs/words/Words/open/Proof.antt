@@ -45,6 +45,7 @@ use Rattle.seize_blocks.specs.contracts.words.Words.open.{ended, clauses}
 use Rattle.seize_blocks.specs.contracts.words.Words.open.Key.{name as #self}
 use Rattle.seize_blocks.proofs.words.Words.open.Statement.{statement}
 use Rattle.seize_blocks.proofs.words.Words.open.Code as code
+use Rattle.seize_blocks.specs.Bare.{bare}
 
 pub open_spec : {M : Type 1} → statement M
 open_spec 𝓤 𝓛 𝓜 𝓡 wired X P U F LX LP LU LF g d _ =
@@ -140,8 +141,8 @@ open_spec 𝓤 𝓛 𝓜 𝓡 wired X P U F LX LP LU LF g d _ =
     let small : all_words roots count * 8 < 2 ^ 63 = subst (λ (n : ℕ). n * 8 < 2 ^ 63) asked.1 fits.1 in
     let room : count * stride R₀ < 2 ^ 63 = subst (λ (n : ℕ). n * stride R₀ < 2 ^ 63) asked.4 roomy.1 in
     use3 𝓛 (later (items (λ (z : BaseId). given ((z.roots ≡ roots) × (z.count ≡ most) × (z.values ≡ pv) × (z.size ≡ count) × (z.least ≡ count) × (z.doors ≡ dp)
-    × IsFirst p z) (‵ (words_own R₀ cv.code holds p z)))))
-    (opens 𝓛 R₀ cv holds p pv dp roots count most asked.7 (g.newcomer about_is) ws asked.0 asked.1 (fits.0, small, roomy.0, room, shut) asked.2) $
+    × IsFirst p z) (‵ (words_own R₀ bare cv.code holds p z)))))
+    (opens 𝓛 R₀ bare cv holds p pv dp roots count most asked.7 (g.newcomer about_is) ws asked.0 asked.1 (fits.0, small, roomy.0, room, shut) asked.2) $
     await ! tt $ pick ! (λ z. learn ! (λ is.
     sets ! (of_opd ! (get_in ! (fld ! refl (stop !)) (sub ! 0 refl (whole !)))) refl (Ptr-Good p) $
     sets ! (of_opd ! (get_in ! (fld ! refl (stop !)) (sub ! 0 refl (whole !)))) refl (Ptr-Good pv) $

@@ -2,7 +2,7 @@
 use Rattle.std.proofs.Common.{◌≡◌, ℕ, List, [], ◌∷◌, ◌++◌, ◌+◌, ◌-◌, ◌*◌, ◌^◌, ◌<◌, sym, refl, ap, ◌∙◌, subst, arith, w64, Option, None, Some, Ok}
 use mir.Syntax.{dcons, dnil, a_type}
 use mir.MapTy.{inst_fn}
-use mir.Raw.{raw as bare}
+use mir.Raw.{raw as unnamed}
 use mir.Val.{Val, vint, vptr, vunit, of_list}
 use prog.Wp.{WpFn}
 use base.Fraction.{full_share}
@@ -44,10 +44,10 @@ use Rattle.std.specs.contracts.marker.PhantomData as marker
 use Rattle.std.proofs.raw_atomic.Walks.{proved_at, leaves}
 use Rattle.seize_words.specs.Op.{Out, Make, Made}
 use Rattle.seize_seats.specs.State.{Allows}
-use Rattle.seize_seats.specs.Owned.{BaseId, IsPlaced, Hand, age, common, told as told_to_all, IsIts, claim_owns, resting, busy, zeros, place, stride, words_share}
+use Rattle.seize_seats.specs.Owned.{piece, BaseId, IsPlaced, Hand, age, common, told as told_to_all, IsIts, claim_owns, resting, busy, zeros, place, stride, words_share}
 use Rattle.seize_seats.proofs.Shown.{placed}
 use Rattle.seize_seats.proofs.Moves.{reach, seat as seat_of, gone_on}
-use Rattle.seize_seats.proofs.Makings.{hands, contents, withdraws, publishes, offers as offered_at, lent}
+use Rattle.seize_seats.proofs.Makings.{hands, contents, withdraws, publishes, offers as offered_at}
 use Rattle.seize_blocks.specs.contracts.words.Words as words
 use Rattle.seize_blocks.specs.contracts.seat.Seat as seat
 use Rattle.seize_blocks.specs.contracts.claim.Claim as claim
@@ -60,9 +60,12 @@ use Rattle.seize_blocks.proofs.words.Words.put.Code as code
 use Rattle.seize_seats.specs.Stretches.{seat_owns}
 use Rattle.seize_seats.proofs.Stretches.{ends, begins}
 use Rattle.seize_seats.proofs.Known.{twice}
+use Rattle.seize_seats.proofs.Pieces.{no_words}
+use Rattle.seize_seats.specs.Lendings.{lendable}
 use Rattle.seize_seats.proofs.Lendings.{offers}
 use contract.BorrowLft.{◌⊑◌}
 use Rattle.core.proofs.once.Steps.{option_lives}
+use Rattle.seize_blocks.specs.Bare.{bare}
 
 pub put_spec : {M : Type 1} → statement M
 put_spec 𝓤 𝓛 𝓜 𝓡 wired X P U F LX LP LU LF g d _ =
@@ -128,12 +131,12 @@ put_spec 𝓤 𝓛 𝓜 𝓡 wired X P U F LX LP LU LF g d _ =
     let p' : Ptr = block_ptr bv ov in let us : List Val = vptr b o ∷ vptr b' o' ∷ claim_of cl.found ∷ vint w64 j ∷ ptr_val p' ∷ vy ∷ vint w64 count ∷ [] in
     let Run : List Val → SProp 𝓤 = λ ws. WpFn 𝓤 H 𝓣.C 𝓣.Λ fn ws Post in
     move ! (2 ∷ []) $
-    use1 𝓛 (‵ (hidden_shr D κ (p, (tt, tt)) b o) ⊛ ‵ (fhide (words_share R₀ cv.code holds p z κ)))
+    use1 𝓛 (‵ (hidden_shr D κ (p, (tt, tt)) b o) ⊛ ‵ (fhide (words_share R₀ bare cv.code holds p z κ)))
     (lent_out 𝓛 (words.struct R₀ R₁ R₂ R₃ g)
     (words.the_codes X.Denot P.Denot U.Denot F.Denot R₀.coded R₁.coded R₂.coded R₃.coded (marker.the_row (Tuple (R₀ ∷ R₁ ∷
     []))).coded) (words.the_heap R₀ R₁ R₂ R₃ g) (words.the_lent R₀ R₁ R₂ R₃ g) κ t b o) $
     split ! $ drop ! $ unhide ! $ fsplit ! $ move ! (1 ∷ []) $
-    use1 𝓛 (given (IsPlaced R₀ p z) (‵ (common R₀ cv.code holds p z))) (placed R₀ cv holds p z 𝓛) $ learn ! (λ there. fsplit ! $ drop ! $
+    use1 𝓛 (given (IsPlaced R₀ p z) (‵ (common R₀ bare cv.code holds p z))) (placed R₀ bare cv holds p z 𝓛) $ learn ! (λ there. fsplit ! $ drop ! $
     let room : z.size * sz < 2 ^ 63 = there.3 in let small : j * sz < 2 ^ 64 = indexed j z.size sz asked.4 room in
     let lt = asked.4 in let of : IsIts z n = (omega arith, omega (arith, lt)) in
     let at_v : pv ≡ p' = at_block pv (subst InBlock (sym asked.6) there.2) in
@@ -149,21 +152,21 @@ put_spec 𝓤 𝓛 𝓜 𝓡 wired X P U F LX LP LU LF g d _ =
           ((tt, record { fits = are.1.1.1.0.1 }), (Ptr-Good p', (got.2, ((tt, record { fits = are.1.1.1.1.1.1.0.1 }), tt)))),
         ),
       ),
-    ) $ let Ev = env fn.locals l in let Inv : Fml = told_to_all R₀ cv.code holds p z in
+    ) $ let Ev = env fn.locals l in let Inv : Fml = told_to_all R₀ bare cv.code holds p z in
     -- [the invariant; its lifetime lasts; the claim; the value; the token; the seat, by two; its token; the others]
-    use1 𝓛 (‵ Inv ⊛ ‵ Inv) (twice 𝓛 R₀ cv holds p z) $ split ! $ move ! (2 ∷ 5 ∷ []) $
+    use1 𝓛 (‵ Inv ⊛ ‵ Inv) (twice 𝓛 R₀ bare cv holds p z) $ split ! $ move ! (2 ∷ 5 ∷ []) $
     shr_bor-open ! tt (tokens_halve 𝓛 α) (λ s. let q₁ : Share = Share.left s in let q₂ : Share = Share.right s in move ! (1 ∷ []) $
     use1 𝓛 (‵ (flft α q₁) ⊛ ‵ (flft α q₂)) (𝓛.lfts.lft_split α s) $ split ! $
-    let Hs : Hand → Fml = λ u. hands 𝓛 R₀ cv holds g.keeps p z three_quarters n u in
-    let Cs : Option X.Denot → Fml = λ u. contents 𝓛 R₀ cv holds g.keeps p z n zeros u in let Os : Fml = offered_at 𝓛 R₀ cv holds g.keeps p z n zeros new in
+    let Hs : Hand → Fml = λ u. hands 𝓛 R₀ bare cv holds g.keeps p z three_quarters n u in
+    let Cs : Option X.Denot → Fml = λ u. contents 𝓛 R₀ bare cv holds g.keeps p z n zeros u in let Os : Fml = offered_at 𝓛 R₀ bare cv holds g.keeps p z n zeros (new, []) in
     -- [its token, by two; open; the invariant, twice; the claim; the value; the seat, by two; its token; the others]
     move ! (5 ∷ 1 ∷ []) $ join ! $ move ! (3 ∷ 1 ∷ 0 ∷ []) $
     use3 𝓛 (later ((‵ (Hs (busy q₂)) ⊛ ‵ (Cs None)) ⊛ ‵ (flft α q₁)))
-    (reach 𝓛 R₀ cv holds g.keeps p z q₁ (sep 𝓤 (sem 𝓛 (Hs resting)) (sem 𝓛 (flft α q₂))) (sep 𝓤 (sem 𝓛 (Hs (busy q₂))) (sem 𝓛 (Cs None))) (withdraws 𝓛 R₀ cv holds g.keeps p z n q₂ of)) $ await ! tt $ split ! $ split ! $ move ! (1 ∷ []) $ fsplit ! $
+    (reach 𝓛 R₀ bare cv holds g.keeps p z q₁ (sep 𝓤 (sem 𝓛 (Hs resting)) (sem 𝓛 (flft α q₂))) (sep 𝓤 (sem 𝓛 (Hs (busy q₂))) (sem 𝓛 (Cs None))) (withdraws 𝓛 R₀ bare cv holds g.keeps p z n q₂ of)) $ await ! tt $ split ! $ split ! $ move ! (1 ∷ []) $ fsplit ! $
     -- [the entry; the place; the hand; its token; open; the invariant; the value; the seat, by two; its token; the others]
     move ! (1 ∷ []) $ rewrite ! 0 (λ (r : Ptr × ℕ). ‵ (place R₀ α z.hands_name (block_of r.0) (r.1 * sz + count_of r.0) None)) (λ i. (sym asked.6 i, nth_is i)) refl $
     spread m ! LR None bv e (λ w good.
-    use1 𝓛 (‵ (froom (bare (lone O.mir)) bv e)) (𝓛.laws.at_room (bare (lone O.mir)) bv e w) $
+    use1 𝓛 (‵ (froom (unnamed (lone O.mir)) bv e)) (𝓛.laws.at_room (unnamed (lone O.mir)) bv e w) $
     use1 𝓛 (‵ (froom (lone O.mir) bv e)) (𝓛.laws.raw-room (lone O.mir) bv e) $ first ! $ blocks ! $
     sets ! (of_opd ! (get ! refl)) refl (tt, record { fits = are.1.1.1.0.1 }) $
     sets ! (is ! (bin ! (get ! refl) (size_word !) (record { fits = subst (λ (k : ℕ). k < 2 ^ 64) (sym (uncapped j sz small)) small })) (ap (vint w64)
@@ -175,27 +178,28 @@ put_spec 𝓤 𝓛 𝓜 𝓡 wired X P U F LX LP LU LF g d _ =
     sets ! (of_opd ! (get ! refl)) refl got.2 $ sets ! (agg ! (and_then ! (lit ! tt) (and_then ! (get ! refl) (no_more !)))) refl fine $
     assigns_last ! (of_opd ! (get ! refl)) (through ! refl (stop !)) (init ! 0 refl fine) $
     exec ! 𝓣.C 𝓣.Λ Ev (tail fn.body) (at_ret Ev Post) $ sets ! (of_opd ! (unit_lit !)) refl (tt, tt) $
-    use1 𝓛 (‵ (fat full_share (bare (lone O.mir)) bv e sv)) (𝓛.laws.at_raw full_share (lone O.mir) bv e sv) $
+    use1 𝓛 (‵ (fat full_share (unnamed (lone O.mir)) bv e sv)) (𝓛.laws.at_raw full_share (lone O.mir) bv e sv) $
     gather m ! (Some new) sv bv e $
     rewrite ! 0 (λ (r : Ptr × ℕ). ‵ (place R₀ α z.hands_name (block_of r.0) (r.1 * sz + count_of r.0) (Some new))) (λ i. (asked.6 i, sym nth_is i)) refl $
     -- [the place; what it held; the entry; the hand; its token; open; the invariant; the seat, by two; its token; the others]
-    let Value : Fml = lent 𝓛 R₀ cv holds g.keeps p z n new (block_of z.values) (d * sz + count_of z.values) in
+    let Value : Fml = lendable R₀ α cv.code z.views_name holds n new (block_of z.values) (d * sz + count_of z.values) in
     move ! (10 ∷ []) $ fsplit ! $ move ! (2 ∷ 0 ∷ []) $
     use2 𝓛 (later (‵ Value ⊛ ‵ (flft κs.1.1.0 qs.1.1.0)))
     (offers 𝓛 R₀ α cv z.views_name holds (LO.shares 𝓛) n new (block_of z.values) (d * sz + count_of z.values) κs.1.1.0 qs.1.1.0
     (Incl-trans inc (option_lives R₀))) $ await ! tt $ split ! $ move ! (1 ∷ 2 ∷ []) $ fjoin ! $
     move ! (1 ∷ 2 ∷ 3 ∷ 4 ∷ 5 ∷ 6 ∷ 7 ∷ 8 ∷ 9 ∷ 10 ∷ []) $
+    use0 𝓛 (‵ (piece bare (new, []))) (no_words 𝓛 bare new refl) $ fjoin ! $
     move ! (2 ∷ 0 ∷ []) $ fjoin ! $ move ! (2 ∷ 0 ∷ []) $ join ! $
     -- [hand and contents; what it held; its token; open; the invariant; the seat, by two; its token; the others]
     move ! (5 ∷ 6 ∷ 7 ∷ []) $ opens ! tt Sr b' o' (λ ts. move ! (1 ∷ []) $ fsplit ! $
     rewrite ! 1 (λ (u : ℕ). ‵ (seat_owns cv.code u id v h.stretch h.mark)) asked.0 refl $ move ! (1 ∷ []) $
-    use1 𝓛 (later (‵ (seat_of 𝓛 R₀ cv holds g.keeps p z id v))) (ends 𝓛 cv z.views_name id v h.stretch h.mark) $ await ! tt $ move ! (1 ∷ 0 ∷ []) $
+    use1 𝓛 (later (‵ (seat_of 𝓛 R₀ bare cv holds g.keeps p z id v))) (ends 𝓛 cv z.views_name id v h.stretch h.mark) $ await ! tt $ move ! (1 ∷ 0 ∷ []) $
     -- [the seat's fields; the seat; four of it; hand and contents; what it held; its token; open; the invariant; ..]
     move ! (1 ∷ 6 ∷ []) $ join ! $ move ! (9 ∷ 7 ∷ 0 ∷ []) $
-    use3 𝓛 (later ((‵ (gone_on 𝓛 R₀ cv holds g.keeps p z id (so (Made (Ok (n + 1))))) ⊛ ‵ (flft α q₂)) ⊛ ‵ (flft α q₁)))
-    (reach 𝓛 R₀ cv holds g.keeps p z q₁
-    (sep 𝓤 (sem 𝓛 (seat_of 𝓛 R₀ cv holds g.keeps p z id v)) (sep 𝓤 (sem 𝓛 (Hs (busy q₂))) (sem 𝓛 Os)))
-    (sep 𝓤 (sem 𝓛 (gone_on 𝓛 R₀ cv holds g.keeps p z id (so (Made (Ok (n + 1)))))) (sem 𝓛 (flft α q₂))) (publishes 𝓛 R₀ cv holds g.keeps p z id v n q₂ new so of asked.5 allowed)) $ await ! tt $ split ! $ split ! $
+    use3 𝓛 (later ((‵ (gone_on 𝓛 R₀ bare cv holds g.keeps p z id (so (Made (Ok (n + 1))))) ⊛ ‵ (flft α q₂)) ⊛ ‵ (flft α q₁)))
+    (reach 𝓛 R₀ bare cv holds g.keeps p z q₁
+    (sep 𝓤 (sem 𝓛 (seat_of 𝓛 R₀ bare cv holds g.keeps p z id v)) (sep 𝓤 (sem 𝓛 (Hs (busy q₂))) (sem 𝓛 Os)))
+    (sep 𝓤 (sem 𝓛 (gone_on 𝓛 R₀ bare cv holds g.keeps p z id (so (Made (Ok (n + 1)))))) (sem 𝓛 (flft α q₂))) (publishes 𝓛 R₀ bare cv holds g.keeps p z id v n q₂ new 0 so of asked.5 allowed)) $ await ! tt $ split ! $ split ! $
     -- [the seat; the two parts of the token; the fields; four; what it held; open; its token; the others]
     move ! (2 ∷ 1 ∷ []) $ use2 𝓛 (‵ (flft α s)) (𝓛.lfts.lft_join α s) $ move ! (8 ∷ 0 ∷ []) $ obor_close ! tt $ drop ! $
     move ! (1 ∷ []) $ fpick ! (λ v'. fsplit ! $ fpick ! (λ such. drop ! $

@@ -40,6 +40,7 @@ use Rattle.seize_blocks.proofs.words.Words.refuse.Statement.{statement}
 use Rattle.seize_blocks.proofs.words.Words.refuse.Code as code
 use Rattle.seize_seats.specs.Stretches.{seat_owns}
 use Rattle.seize_seats.proofs.Stretches.{ends, begins}
+use Rattle.seize_blocks.specs.Bare.{bare}
 
 pub refuse_spec : {M : Type 1} → statement M
 refuse_spec 𝓤 𝓛 𝓜 𝓡 wired X P U F LX LP LU LF g d _ =
@@ -92,16 +93,16 @@ refuse_spec 𝓤 𝓛 𝓜 𝓡 wired X P U F LX LP LU LF g d _ =
     keep ! (4 ∷ 6 ∷ 1 ∷ 2 ∷ 7 ∷ 8 ∷ []) $
     enter ! 𝓣.C 𝓣.Λ fn (vptr b o ∷ vptr b' o' ∷ vptr b₂ o₂ ∷ vint w64 count ∷ []) Post $
     alloc_all ! (λ l. pass_all ! refl ((tt, tt), ((tt, tt), ((tt, tt), ((tt, record { fits = are.1.1.1.0.1 }), tt)))) $ let Ev = env fn.locals l in
-    use1 𝓛 (‵ (hidden_shr D κ (p, (tt, tt)) b o) ⊛ ‵ (fhide (words_share R₀ cv.code holds p z κ)))
+    use1 𝓛 (‵ (hidden_shr D κ (p, (tt, tt)) b o) ⊛ ‵ (fhide (words_share R₀ bare cv.code holds p z κ)))
     (lent_out 𝓛 (words.struct R₀ R₁ R₂ R₃ g)
     (words.the_codes X.Denot P.Denot U.Denot F.Denot R₀.coded R₁.coded R₂.coded R₃.coded (marker.the_row (Tuple (R₀ ∷ R₁ ∷
     []))).coded) (words.the_heap R₀ R₁ R₂ R₃ g) (words.the_lent R₀ R₁ R₂ R₃ g) κ t b o) $
     split ! $ drop ! $ unhide ! $ move ! (2 ∷ 3 ∷ 4 ∷ []) $ opens ! tt Sr b' o' (λ ts. move ! (1 ∷ []) $ fsplit ! $
     rewrite ! 1 (λ (u : ℕ). ‵ (seat_owns cv.code u id v h.stretch h.mark)) asked.0 refl $ move ! (1 ∷ []) $
-    use1 𝓛 (later (‵ (seat_of 𝓛 R₀ cv holds g.keeps p z id v))) (ends 𝓛 cv z.views_name id v h.stretch h.mark) $ await ! tt $ move ! (1 ∷ 0 ∷ []) $
+    use1 𝓛 (later (‵ (seat_of 𝓛 R₀ bare cv holds g.keeps p z id v))) (ends 𝓛 cv z.views_name id v h.stretch h.mark) $ await ! tt $ move ! (1 ∷ 0 ∷ []) $
     -- [the seat's fields; the seat; four of it; what the words share; the token; the others]
-    move ! (6 ∷ 7 ∷ 1 ∷ []) $ use3 𝓛 (later (‵ (gone_on 𝓛 R₀ cv holds g.keeps p z id (so out)) ⊛
-    ‵ (flft κ qs.0))) (refuses 𝓛 R₀ cv holds g.keeps p z κ qs.0 id v x count so asked.1) $
+    move ! (6 ∷ 7 ∷ 1 ∷ []) $ use3 𝓛 (later (‵ (gone_on 𝓛 R₀ bare cv holds g.keeps p z id (so out)) ⊛
+    ‵ (flft κ qs.0))) (refuses 𝓛 R₀ bare cv holds g.keeps p z κ qs.0 id v x count so asked.1) $
     await ! tt $ split ! $ fpick ! (λ v'. fsplit ! $ fpick ! (λ such. drop ! $
     use1 𝓛 (later (items (λ (st : ℕ × ℕ). ‵ (seat_owns cv.code z.views_name id v' st.0 st.1)))) (begins 𝓛 cv z.views_name id v') $ await ! tt $
     pick ! (λ st.

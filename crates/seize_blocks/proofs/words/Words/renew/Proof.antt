@@ -31,6 +31,7 @@ use contract.BorrowLft.{◌⊑◌}
 use Rattle.core.proofs.once.Steps.{option_lives}
 use Rattle.core.proofs.option.Option.TheLaws.{the_row_laws as option_laws}
 use Rattle.core.specs.contracts.option.Option.{the_row as OptionOf}
+use Rattle.seize_blocks.specs.Bare.{bare}
 
 pub renew_spec : {M : Type 1} → statement M
 renew_spec 𝓤 𝓛 𝓜 𝓡 wired X P U F LX LP LU LF g d _ =
@@ -58,8 +59,8 @@ renew_spec 𝓤 𝓛 𝓜 𝓡 wired X P U F LX LP LU LF g d _ =
     opens ! tt Row b o (λ ts. move ! (1 ∷ []) $ fsplit ! $
     -- [the fields; the memory; four of self; the others]
     move ! (6 ∷ []) $ fsplit ! $ move ! (3 ∷ 0 ∷ []) $
-    use2 𝓛 (later (items (λ (u : BaseId). given (IsLike u z) (‵ (words_own R₀ cv.code holds p u))) ⊛ ‵ (flft κs.1.0 qs.1.0)))
-    (renews 𝓛 R₀ cv holds p z asked κs.1.0 qs.1.0 (LO.shares 𝓛) (Incl-trans inc (option_lives R₀))) $ await ! tt $ split ! $ pick ! (λ u. learn ! (λ like.
+    use2 𝓛 (later (items (λ (u : BaseId). given (IsLike u z) (‵ (words_own R₀ bare cv.code holds p u))) ⊛ ‵ (flft κs.1.0 qs.1.0)))
+    (renews 𝓛 R₀ bare cv holds p z asked κs.1.0 qs.1.0 (LO.shares 𝓛) (Incl-trans inc (option_lives R₀))) $ await ! tt $ split ! $ pick ! (λ u. learn ! (λ like.
     -- [the memory; the type's token; the rest; the fields; four of self]
     let t' : Row.Denot = record { words = p; marker = t.marker; id = u; fixed = t.fixed } in
     let Told : Type 0 = (p ≡ p) × (t.fixed ≡ t.fixed) × IsLike u z in

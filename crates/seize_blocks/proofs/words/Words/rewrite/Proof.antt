@@ -2,7 +2,7 @@
 use Rattle.std.proofs.Common.{◌≡◌, ℕ, List, [], ◌∷◌, ◌++◌, ◌+◌, ◌-◌, ◌*◌, ◌^◌, ◌<◌, sym, refl, ap, ◌∙◌, subst, w64, arith, Some}
 use mir.Syntax.{dcons, dnil, a_type}
 use mir.MapTy.{inst_fn}
-use mir.Raw.{raw as bare}
+use mir.Raw.{raw as unnamed}
 use mir.Val.{Val, vint, vptr, of_list}
 use prog.Wp.{WpFn}
 use base.Fraction.{full_share}
@@ -65,6 +65,7 @@ use Rattle.seize_seats.proofs.Known.{twice}
 use Rattle.seize_seats.proofs.Lendings.{offers}
 use contract.BorrowLft.{◌⊑◌}
 use Rattle.core.proofs.once.Steps.{option_lives}
+use Rattle.seize_blocks.specs.Bare.{bare}
 
 pub rewrite_spec : {M : Type 1} → statement M
 rewrite_spec 𝓤 𝓛 𝓜 𝓡 wired X P U F LX LP LU LF g d _ =
@@ -123,12 +124,12 @@ rewrite_spec 𝓤 𝓛 𝓜 𝓡 wired X P U F LX LP LU LF g d _ =
     let p' : Ptr = block_ptr bv ov in let us : List Val = vptr b o ∷ vptr b' o' ∷ vint w64 nr ∷ vint w64 j ∷ ptr_val p' ∷ vy ∷ [] in
     let Run : List Val → SProp 𝓤 = λ ws. WpFn 𝓤 H 𝓣.C 𝓣.Λ fn ws Post in
     move ! (1 ∷ []) $
-    use1 𝓛 (‵ (hidden_shr D κ (p, (tt, tt)) b o) ⊛ ‵ (fhide (words_share R₀ cv.code holds p z κ)))
+    use1 𝓛 (‵ (hidden_shr D κ (p, (tt, tt)) b o) ⊛ ‵ (fhide (words_share R₀ bare cv.code holds p z κ)))
     (lent_out 𝓛 (words.struct R₀ R₁ R₂ R₃ g)
     (words.the_codes X.Denot P.Denot U.Denot F.Denot R₀.coded R₁.coded R₂.coded R₃.coded (marker.the_row (Tuple (R₀ ∷ R₁ ∷
     []))).coded) (words.the_heap R₀ R₁ R₂ R₃ g) (words.the_lent R₀ R₁ R₂ R₃ g) κ t b o) $
     split ! $ drop ! $ unhide ! $ fsplit ! $ move ! (1 ∷ []) $
-    use1 𝓛 (given (IsPlaced R₀ p z) (‵ (common R₀ cv.code holds p z))) (placed R₀ cv holds p z 𝓛) $ learn ! (λ there. fsplit ! $ drop ! $
+    use1 𝓛 (given (IsPlaced R₀ p z) (‵ (common R₀ bare cv.code holds p z))) (placed R₀ bare cv holds p z 𝓛) $ learn ! (λ there. fsplit ! $ drop ! $
     let at_v : pv ≡ p' = at_block pv (subst InBlock (sym asked.2) there.2) in
     let linked : vss.1.1.1.1.0 ≡ ptr_val p' ∷ [] = are.1.1.1.1.0 ∙ ap (λ (u : Ptr). ptr_val u ∷ []) at_v in
     suffices ! (Run us) (subst (λ (ws : List Val). ent 𝓤 (Run us) (Run ws))
@@ -136,30 +137,30 @@ rewrite_spec 𝓤 𝓛 𝓜 𝓡 wired X P U F LX LP LU LF g d _ =
     enter ! 𝓣.C 𝓣.Λ fn us Post $ alloc_all ! (λ l. pass_all ! refl (
       (tt, tt),
       ((tt, tt), ((tt, record { fits = are.1.1.0.1 }), ((tt, record { fits = are.1.1.1.0.1 }), (Ptr-Good p', (got.2, tt))))),
-    ) $ let Ev = env fn.locals l in let Inv : Fml = told_to_all R₀ cv.code holds p z in
+    ) $ let Ev = env fn.locals l in let Inv : Fml = told_to_all R₀ bare cv.code holds p z in
     -- [the invariant; its lifetime lasts; the value; the token; the seat, by two; its token; the others]
-    use1 𝓛 (‵ Inv ⊛ ‵ Inv) (twice 𝓛 R₀ cv holds p z) $ split ! $ move ! (2 ∷ 4 ∷ []) $
+    use1 𝓛 (‵ Inv ⊛ ‵ Inv) (twice 𝓛 R₀ bare cv holds p z) $ split ! $ move ! (2 ∷ 4 ∷ []) $
     shr_bor-open ! tt (tokens_halve 𝓛 α) (λ s. let q₁ : Share = Share.left s in let q₂ : Share = Share.right s in move ! (1 ∷ []) $
     use1 𝓛 (‵ (flft α q₁) ⊛ ‵ (flft α q₂)) (𝓛.lfts.lft_split α s) $ split ! $
     -- [its token, by two; open; the invariant, twice; the value; the seat, by two; its token; the others]
     move ! (6 ∷ 7 ∷ 8 ∷ []) $ opens ! tt Sr b' o' (λ ts. move ! (1 ∷ []) $ fsplit ! $
     rewrite ! 1 (λ (u : ℕ). ‵ (seat_owns cv.code u id v h.stretch h.mark)) asked.0 refl $ move ! (1 ∷ []) $
-    use1 𝓛 (later (‵ (seat_of 𝓛 R₀ cv holds g.keeps p z id v))) (ends 𝓛 cv z.views_name id v h.stretch h.mark) $ await ! tt $ move ! (1 ∷ 0 ∷ []) $
+    use1 𝓛 (later (‵ (seat_of 𝓛 R₀ bare cv holds g.keeps p z id v))) (ends 𝓛 cv z.views_name id v h.stretch h.mark) $ await ! tt $ move ! (1 ∷ 0 ∷ []) $
     -- [the seat's fields; the seat; four of it; the token, by two; open; the invariant, twice; the value; the others]
     move ! (1 ∷ 7 ∷ []) $ join ! $ move ! (8 ∷ 6 ∷ 0 ∷ []) $
-    let Held : ℕ × X.Denot → Fml = Holding 𝓛 R₀ cv holds g.keeps p z id v nr q₂ mine own in
+    let Held : ℕ × X.Denot → Fml = Holding 𝓛 R₀ bare cv holds g.keeps p z id v nr q₂ mine own in
     use3 𝓛 (later (‵ (fex (ℕ × X.Denot) Held) ⊛ ‵ (flft α q₁)))
-    (reach 𝓛 R₀ cv holds g.keeps p z q₁ (sep 𝓤 (sem 𝓛 (seat_of 𝓛 R₀ cv holds g.keeps p z id v)) (sem 𝓛 (flft α q₂)))
-    (sem 𝓛 (fex (ℕ × X.Denot) Held)) (takes_up 𝓛 R₀ cv holds g.keeps p z id v nr q₂ mine own)) $ await ! tt $ split ! $
+    (reach 𝓛 R₀ bare cv holds g.keeps p z q₁ (sep 𝓤 (sem 𝓛 (seat_of 𝓛 R₀ bare cv holds g.keeps p z id v)) (sem 𝓛 (flft α q₂)))
+    (sem 𝓛 (fex (ℕ × X.Denot) Held)) (takes_up 𝓛 R₀ bare cv holds g.keeps p z id v nr q₂ mine own)) $ await ! tt $ split ! $
     fpick ! (λ u. fsplit ! $ fpick ! (λ facts. drop ! $ fsplit3 ! $
     let few = facts.1 in let high = few.1 in let low_is = few.0 in let j_is : j ≡ d = asked.1.1 facts.0 few in let room : z.size * sz < 2 ^ 63 = there.3 in
     let small : j * sz < 2 ^ 64 = indexed j z.size sz (omega (arith, high, low_is, j_is)) room in let ρ : ℕ = u.0 in let x : X.Denot = u.1 in
     -- [the note; the hand; the value that is there; the token; the fields; four; open; the invariant; the new value; the others]
     let Here : Fml = place R₀ α z.hands_name (block_of z.values) (d * sz + count_of z.values) (Some x) in
-    let Hd : Fml = hands 𝓛 R₀ cv holds g.keeps p z three_quarters (nr - 1) (held ρ q₂) in
+    let Hd : Fml = hands 𝓛 R₀ bare cv holds g.keeps p z three_quarters (nr - 1) (held ρ q₂) in
     move ! (10 ∷ 3 ∷ 1 ∷ []) $ group ! 3 $ move ! (0 ∷ 2 ∷ []) $
     use2 𝓛 (later ((‵ Inv ⊛ ‵ (flft α q₁) ⊛ ‵ Hd) ⊛ ‵ Here))
-    (regains_held 𝓛 R₀ cv holds g.keeps p z (nr - 1) ρ q₂ few q₁ x (block_of z.values) (d * sz + count_of z.values)) $ await ! tt $ split ! $ split3 ! $
+    (regains_held 𝓛 R₀ bare cv holds g.keeps p z (nr - 1) ρ q₂ few q₁ x (block_of z.values) (d * sz + count_of z.values)) $ await ! tt $ split ! $ split3 ! $
     -- [the invariant; the token; the hand; the place; the note; the fields; four; open; the new value; the others]
     move ! (3 ∷ []) $
     rewrite ! 0 (λ (r : Ptr × ℕ). ‵ (place R₀ α z.hands_name (block_of r.0) (r.1 * sz + count_of r.0) (Some x))) (λ i. (sym asked.2 i, sym j_is i)) refl $
@@ -169,7 +170,7 @@ rewrite_spec 𝓤 𝓛 𝓜 𝓡 wired X P U F LX LP LU LF g d _ =
     (uncapped j sz small))) refl (tt, record { fits = small }) $
     sets ! (bin ! (get ! refl) (get ! refl) tt) refl (tt, tt) $
     sets ! (of_opd ! (load ! (through ! refl (stop !)) (look_raw ! 0 refl))) refl good $
-    use1 𝓛 (‵ (froom (bare (lone O.mir)) bv e)) (𝓛.laws.at_room (bare (lone O.mir)) bv e w) $
+    use1 𝓛 (‵ (froom (unnamed (lone O.mir)) bv e)) (𝓛.laws.at_room (unnamed (lone O.mir)) bv e w) $
     use1 𝓛 (‵ (froom (lone O.mir) bv e)) (𝓛.laws.raw-room (lone O.mir) bv e) $
     sets ! (of_opd ! (get ! refl)) refl (tt, record { fits = are.1.1.1.0.1 }) $
     sets ! (is ! (bin ! (get ! refl) (size_word !) (record { fits = subst (λ (k : ℕ). k < 2 ^ 64) (sym (uncapped j sz small)) small })) (ap (vint w64)
@@ -180,23 +181,23 @@ rewrite_spec 𝓤 𝓛 𝓜 𝓡 wired X P U F LX LP LU LF g d _ =
     peeks ! O (Is O) (shows 𝓛 O) (Some new) (sv ∷ []) (λ is_so. let fine = (LR.typed (Some new) (sv ∷ []) is_so).0 in move ! (1 ∷ []) $
     sets ! (of_opd ! (get ! refl)) refl got.2 $ sets ! (agg ! (and_then ! (lit ! tt) (and_then ! (get ! refl) (no_more !)))) refl fine $
     assigns ! (of_opd ! (get ! refl)) (through ! refl (stop !)) (init ! 0 refl fine) $
-    use1 𝓛 (‵ (fat full_share (bare (lone O.mir)) bv e sv)) (𝓛.laws.at_raw full_share (lone O.mir) bv e sv) $
+    use1 𝓛 (‵ (fat full_share (unnamed (lone O.mir)) bv e sv)) (𝓛.laws.at_raw full_share (lone O.mir) bv e sv) $
     gather m ! (Some new) sv bv e $
     rewrite ! 0 (λ (r : Ptr × ℕ). ‵ (place R₀ α z.hands_name (block_of r.0) (r.1 * sz + count_of r.0) (Some new))) (λ i. (asked.2 i, j_is i)) refl $
     -- [the place; what it held; the invariant; the token; the hand; the note; the fields; four; open; the others]
     sets_last ! (of_opd ! (get ! refl)) refl good $ exec ! 𝓣.C 𝓣.Λ Ev (tail fn.body) (at_ret Ev Post) $ sets ! (of_opd ! (get ! refl)) refl good $
-    let Value : Fml = value_at 𝓛 R₀ cv holds g.keeps p z (nr - 1) new in
+    let Value : Fml = value_at 𝓛 R₀ bare cv holds g.keeps p z (nr - 1) new in
     move ! (12 ∷ []) $ fsplit ! $ move ! (2 ∷ 0 ∷ []) $
     use2 𝓛 (later (‵ Value ⊛ ‵ (flft κs.1.1.0 qs.1.1.0)))
     (offers 𝓛 R₀ α cv z.views_name holds (LO.shares 𝓛) (nr - 1) new (block_of z.values) (d * sz + count_of z.values) κs.1.1.0 qs.1.1.0
     (Incl-trans inc (option_lives R₀))) $ await ! tt $ split ! $ move ! (1 ∷ 2 ∷ []) $ fjoin ! $
     -- [the others; the value; what it held; the invariant; the token; the hand; the note; the fields; four; open]
     move ! (5 ∷ 6 ∷ 1 ∷ []) $ group ! 3 $ move ! (3 ∷ 4 ∷ 0 ∷ []) $
-    use3 𝓛 (later ((‵ (gone_on 𝓛 R₀ cv holds g.keeps p z id (so (Taken x))) ⊛ ‵ (flft α q₂)) ⊛ ‵ (flft α q₁)))
-    (reach 𝓛 R₀ cv holds g.keeps p z q₁
-    (sep 𝓤 (sem 𝓛 Hd) (sep 𝓤 (sem 𝓛 (Note 𝓛 R₀ cv holds g.keeps p z ρ three_quarters x id v)) (sem 𝓛 Value)))
-    (sep 𝓤 (sem 𝓛 (gone_on 𝓛 R₀ cv holds g.keeps p z id (so (Taken x)))) (sem 𝓛 (flft α q₂)))
-    (puts_back 𝓛 R₀ cv holds g.keeps p z id v nr q₂ mine ρ x new so allowed facts.0 few)) $ await ! tt $ split ! $ split ! $
+    use3 𝓛 (later ((‵ (gone_on 𝓛 R₀ bare cv holds g.keeps p z id (so (Taken x))) ⊛ ‵ (flft α q₂)) ⊛ ‵ (flft α q₁)))
+    (reach 𝓛 R₀ bare cv holds g.keeps p z q₁
+    (sep 𝓤 (sem 𝓛 Hd) (sep 𝓤 (sem 𝓛 (Note 𝓛 R₀ bare cv holds g.keeps p z ρ three_quarters x id v)) (sem 𝓛 Value)))
+    (sep 𝓤 (sem 𝓛 (gone_on 𝓛 R₀ bare cv holds g.keeps p z id (so (Taken x)))) (sem 𝓛 (flft α q₂)))
+    (puts_back 𝓛 R₀ bare cv holds g.keeps p z id v nr q₂ mine ρ x new refl refl so allowed facts.0 few)) $ await ! tt $ split ! $ split ! $
     -- [the seat; the token, by two; the others; what it held; the fields; four; open]
     move ! (2 ∷ 1 ∷ []) $ use2 𝓛 (‵ (flft α s)) (𝓛.lfts.lft_join α s) $ move ! (9 ∷ 0 ∷ []) $ obor_close ! tt $ drop ! $
     move ! (1 ∷ []) $ fpick ! (λ v'. fsplit ! $ fpick ! (λ such. drop ! $

@@ -38,6 +38,7 @@ use Rattle.seize_blocks.proofs.words.Words.seat.Statement.{statement}
 use Rattle.seize_blocks.proofs.words.Words.seat.Code as code
 use Rattle.seize_seats.specs.Stretches.{seat_owns}
 use Rattle.seize_seats.proofs.Stretches.{begins}
+use Rattle.seize_blocks.specs.Bare.{bare}
 
 pub seat_spec : {M : Type 1} → statement M
 seat_spec 𝓤 𝓛 𝓜 𝓡 wired X P U F LX LP LU LF g d _ =
@@ -62,14 +63,14 @@ seat_spec 𝓤 𝓛 𝓜 𝓡 wired X P U F LX LP LU LF g d _ =
     raw (fact 𝓤 _) ∷ raw (fact 𝓤 Asked) ∷ []) ∵
     keep ! (5 ∷ 0 ∷ []) $ heard ! Asked (λ asked. split ! $ split ! $ move ! (2 ∷ []) $ fsplit ! $ fsplit ! $ keep ! (1 ∷ 3 ∷ 4 ∷ []) $
     enter ! 𝓣.C 𝓣.Λ fn (vptr b o ∷ []) Post $ alloc_all ! (λ l. pass_all ! refl ((tt, tt), tt) $ let Ev = env fn.locals l in
-    use1 𝓛 (‵ (hidden_shr D κ (p, (tt, tt)) b o) ⊛ ‵ (fhide (words_share R₀ cv.code holds p z κ)))
+    use1 𝓛 (‵ (hidden_shr D κ (p, (tt, tt)) b o) ⊛ ‵ (fhide (words_share R₀ bare cv.code holds p z κ)))
     (lent_out 𝓛 (words.struct R₀ R₁ R₂ R₃ g)
     (words.the_codes X.Denot P.Denot U.Denot F.Denot R₀.coded R₁.coded R₂.coded R₃.coded (marker.the_row (Tuple (R₀ ∷ R₁ ∷
     []))).coded) (words.the_heap R₀ R₁ R₂ R₃ g) (words.the_lent R₀ R₁ R₂ R₃ g) κ t b o) $
     split ! $ drop ! $ unhide ! $
     -- [what the words share; the token; the others]
     nothing ! $ move ! (1 ∷ 2 ∷ 0 ∷ []) $
-    use3 𝓛 (later (‵ (newcomer 𝓛 R₀ cv holds g.keeps p z v) ⊛ ‵ (flft κ qs.0))) (comes 𝓛 R₀ cv holds g.keeps p z κ qs.0 v asked) $
+    use3 𝓛 (later (‵ (newcomer 𝓛 R₀ bare cv holds g.keeps p z v) ⊛ ‵ (flft κ qs.0))) (comes 𝓛 R₀ bare cv holds g.keeps p z κ qs.0 v asked) $
     await ! tt $ split ! $ fpick ! (λ id.
     use1 𝓛 (later (items (λ (st : ℕ × ℕ). ‵ (seat_owns cv.code z.views_name id v st.0 st.1)))) (begins 𝓛 cv z.views_name id v) $ await ! tt $ pick ! (λ st.
     sets ! (agg ! (no_more !)) refl (tt, tt) $ sets ! (agg ! (and_then ! (get ! refl) (no_more !))) refl (tt, (tt, tt)) $

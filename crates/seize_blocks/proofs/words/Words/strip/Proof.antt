@@ -37,6 +37,7 @@ use Rattle.seize_blocks.specs.contracts.words.Words.strip.{ended, clauses}
 use Rattle.seize_blocks.specs.contracts.words.Words.strip.Key.{name as #self}
 use Rattle.seize_blocks.proofs.words.Words.strip.Statement.{statement}
 use Rattle.seize_blocks.proofs.words.Words.strip.Code as code
+use Rattle.seize_blocks.specs.Bare.{bare}
 
 pub strip_spec : {M : Type 1} → statement M
 strip_spec 𝓤 𝓛 𝓜 𝓡 wired X P U F LX LP LU LF g d _ =
@@ -59,12 +60,12 @@ strip_spec 𝓤 𝓛 𝓜 𝓡 wired X P U F LX LP LU LF g d _ =
     raw (fact 𝓤 _) ∷ raw (emp 𝓤) ∷ []) ∵
     keep ! (0 ∷ []) $ split ! $ split ! $ move ! (2 ∷ []) $ fsplit ! $ fsplit ! $ keep ! (1 ∷ 3 ∷ 4 ∷ []) $
     enter ! 𝓣.C 𝓣.Λ fn (vptr b o ∷ []) Post $ alloc_all ! (λ l. pass_all ! refl ((tt, tt), tt) $ let Ev = env fn.locals l in
-    use1 𝓛 (‵ (hidden_shr D κ (p, (tt, tt)) b o) ⊛ ‵ (fhide (words_share R₀ cv.code holds p z κ)))
+    use1 𝓛 (‵ (hidden_shr D κ (p, (tt, tt)) b o) ⊛ ‵ (fhide (words_share R₀ bare cv.code holds p z κ)))
     (lent_out 𝓛 (words.struct R₀ R₁ R₂ R₃ g)
     (words.the_codes X.Denot P.Denot U.Denot F.Denot R₀.coded R₁.coded R₂.coded R₃.coded (marker.the_row (Tuple (R₀ ∷ R₁ ∷
     []))).coded) (words.the_heap R₀ R₁ R₂ R₃ g) (words.the_lent R₀ R₁ R₂ R₃ g) κ t b o) $
     split ! $ move ! (1 ∷ []) $ unhide ! $ fsplit ! $ drop ! $
-    use1 𝓛 (given (IsPlaced R₀ p z) (‵ (common R₀ cv.code holds p z))) (placed R₀ cv holds p z 𝓛) $ learn ! (λ there. fsplit ! $ move ! (1 ∷ []) $ fsplit ! $
+    use1 𝓛 (given (IsPlaced R₀ p z) (‵ (common R₀ bare cv.code holds p z))) (placed R₀ bare cv holds p z 𝓛) $ learn ! (λ there. fsplit ! $ move ! (1 ∷ []) $ fsplit ! $
     -- [it is listed; the invariant; it is placed; the fields; the token; the others]
     move ! (2 ∷ 0 ∷ []) $ fjoin ! $ rewrite ! 0 (λ (f : Fml). ‵ f) (sym (told_there R₀ p z there.0)) refl $ move ! (2 ∷ 3 ∷ []) $ looks ! tt D (opened R₀ R₁ R₂ R₃ g 𝓛) (p, (tt, tt)) b o (λ q vs. move ! (1 ∷ []) $
     peeks ! D (Is D) (shows 𝓛 D) (p, (tt, tt)) vs (λ is_so.

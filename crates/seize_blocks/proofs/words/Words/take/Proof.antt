@@ -2,7 +2,7 @@
 use Rattle.std.proofs.Common.{◌≡◌, ℕ, List, [], ◌∷◌, ◌+◌, ◌-◌, ◌*◌, ◌^◌, ◌<◌, sym, refl, ap, ◌∙◌, subst, lit<, w64, arith, None, Some}
 use mir.Syntax.{Ty, dcons, dnil, a_type, named, ty_int}
 use mir.MapTy.{inst_fn}
-use mir.Raw.{raw as bare}
+use mir.Raw.{raw as unnamed}
 use mir.Val.{Val, vint, vptr, of_list}
 use prog.Wp.{WpFn}
 use base.Fraction.{full_share}
@@ -64,7 +64,9 @@ use Rattle.seize_blocks.proofs.words.Words.take.Code as code
 use Rattle.seize_seats.specs.Stretches.{seat_owns}
 use Rattle.seize_seats.proofs.Stretches.{ends, begins}
 use Rattle.seize_seats.proofs.Known.{twice}
+use Rattle.seize_seats.specs.Cells.{Body}
 use Rattle.seize_seats.proofs.Regains.{regains}
+use Rattle.seize_blocks.specs.Bare.{bare}
 
 pub take_spec : {M : Type 1} → statement M
 take_spec 𝓤 𝓛 𝓜 𝓡 wired X P U F LX LP LU LF g d _ =
@@ -105,17 +107,17 @@ take_spec 𝓤 𝓛 𝓜 𝓡 wired X P U F LX LP LU LF g d _ =
     let p' : Ptr = block_ptr bv ov in let us : Ptr
     → List Val = λ r. vptr b o ∷ vptr b' o' ∷ vint w64 nr ∷ vint w64 j ∷ ptr_val r ∷ vint w64 i₀ ∷ vint w64 i₁ ∷ vint w64 i₂ ∷ vint w64 i₃ ∷ vint w64 i₄ ∷ [] in
     let Run : List Val → SProp 𝓤 = λ ws. WpFn 𝓤 H 𝓣.C 𝓣.Λ fn ws Post in
-    use1 𝓛 (‵ (hidden_shr D κ (p, (tt, tt)) b o) ⊛ ‵ (fhide (words_share R₀ cv.code holds p z κ)))
+    use1 𝓛 (‵ (hidden_shr D κ (p, (tt, tt)) b o) ⊛ ‵ (fhide (words_share R₀ bare cv.code holds p z κ)))
     (lent_out 𝓛 (words.struct R₀ R₁ R₂ R₃ g)
     (words.the_codes X.Denot P.Denot U.Denot F.Denot R₀.coded R₁.coded R₂.coded R₃.coded (marker.the_row (Tuple (R₀ ∷ R₁ ∷
     []))).coded) (words.the_heap R₀ R₁ R₂ R₃ g) (words.the_lent R₀ R₁ R₂ R₃ g) κ t b o) $
     split ! $ move ! (1 ∷ []) $ unhide ! $ fsplit ! $ move ! (1 ∷ []) $
-    use1 𝓛 (given (IsPlaced R₀ p z) (‵ (common R₀ cv.code holds p z))) (placed R₀ cv holds p z 𝓛) $ learn ! (λ there. fsplit ! $ drop ! $
+    use1 𝓛 (given (IsPlaced R₀ p z) (‵ (common R₀ bare cv.code holds p z))) (placed R₀ bare cv holds p z 𝓛) $ learn ! (λ there. fsplit ! $ drop ! $
     let at_v : pv ≡ p' = at_block pv (subst InBlock (sym asked.2) there.2) in let at_p : p ≡ block_ptr pb po = at_block p there.0 in
     suffices ! (Run (us p')) (subst (λ (r : Ptr). ent 𝓤 (Run (us p')) (Run (us r))) (sym at_v) (id⊢ 𝓤 (Run (us p')))) $
     enter ! 𝓣.C 𝓣.Λ fn (us p') Post $
     alloc_all ! (λ l. pass_all ! refl ((tt, tt), ((tt, tt), ((tt, record { fits = are.1.1.0.1 }), ((tt, record { fits = are.1.1.1.0.1 }), (Ptr-Good p', ((tt, record { fits = are.1.1.1.1.1.0.1 }), ((tt, record { fits = are.1.1.1.1.1.1.0.1 }), ((tt, record { fits = are.1.1.1.1.1.1.1.0.1 }), ((tt, record { fits = are.1.1.1.1.1.1.1.1.0.1 }), ((tt, record { fits = are.1.1.1.1.1.1.1.1.1.0.1 }), tt)))))))))) $
-    let Ev = env fn.locals l in let Inv : Fml = told_to_all R₀ cv.code holds p z in
+    let Ev = env fn.locals l in let Inv : Fml = told_to_all R₀ bare cv.code holds p z in
     let low = asked.8 in let at₀ = asked.3 in let a₁ = asked.4 in let a₂ = asked.5 in let a₃ = asked.6 in let a₄ = asked.7 in
     -- [the invariant; its lifetime lasts; the fields; the token; the seat, by two; its token; the others]
     move ! (2 ∷ 3 ∷ []) $ looks ! tt D (opened R₀ R₁ R₂ R₃ g 𝓛) (p, (tt, tt)) b o (λ q vs. move ! (1 ∷ []) $
@@ -126,41 +128,41 @@ take_spec 𝓤 𝓛 𝓜 𝓡 wired X P U F LX LP LU LF g d _ =
     rewrite ! 1 (λ (ws : List Val). ‵ (cell_at q D.mir ws b o)) (sym ev) refl $ move ! (1 ∷ 0 ∷ 2 ∷ []) $ shuts ! tt D q (p, (tt, tt)) vs b o $
     move ! (3 ∷ 0 ∷ []) $ shr_bor-open ! tt (tokens_halve 𝓛 α) (λ s. let q₁ : Share = Share.left s in let q₂ : Share = Share.right s in
     move ! (2 ∷ []) $ drop ! $ move ! (1 ∷ []) $ use1 𝓛 (‵ (flft α q₁) ⊛ ‵ (flft α q₂)) (𝓛.lfts.lft_split α s) $ split ! $ move ! (3 ∷ []) $
-    use1 𝓛 (‵ Inv ⊛ ‵ Inv) (twice 𝓛 R₀ cv holds p z) $ split ! $
+    use1 𝓛 (‵ Inv ⊛ ‵ Inv) (twice 𝓛 R₀ bare cv holds p z) $ split ! $
     -- [the invariant, twice; its token, by two; open; the seat, by two; its token; the others]
     move ! (5 ∷ 6 ∷ 7 ∷ []) $ opens ! tt Sr b' o' (λ ts. move ! (1 ∷ []) $ fsplit ! $
     rewrite ! 1 (λ (u : ℕ). ‵ (seat_owns cv.code u id v h.stretch h.mark)) asked.0 refl $ move ! (1 ∷ []) $
-    use1 𝓛 (later (‵ (seat_of 𝓛 R₀ cv holds g.keeps p z id v))) (ends 𝓛 cv z.views_name id v h.stretch h.mark) $ await ! tt $ move ! (1 ∷ 0 ∷ []) $ move ! (1 ∷ 9 ∷ []) $ join ! $ move ! (6 ∷ 8 ∷ 0 ∷ []) $
-    use3 𝓛 (later (‵ (fex (X.Denot × List ℕ) (Taking 𝓛 R₀ cv holds g.keeps p z id v nr q₂ so allowed mine)) ⊛ ‵ (flft α q₁)))
-    (reach 𝓛 R₀ cv holds g.keeps p z q₁ (sep 𝓤 (sem 𝓛 (seat_of 𝓛 R₀ cv holds g.keeps p z id v)) (sem 𝓛 (flft α q₂)))
-    (sem 𝓛 (fex (X.Denot × List ℕ) (Taking 𝓛 R₀ cv holds g.keeps p z id v nr q₂ so allowed mine))) (goes_out 𝓛 R₀ cv holds g.keeps p z id v nr q₂ so allowed mine)) $
+    use1 𝓛 (later (‵ (seat_of 𝓛 R₀ bare cv holds g.keeps p z id v))) (ends 𝓛 cv z.views_name id v h.stretch h.mark) $ await ! tt $ move ! (1 ∷ 0 ∷ []) $ move ! (1 ∷ 9 ∷ []) $ join ! $ move ! (6 ∷ 8 ∷ 0 ∷ []) $
+    use3 𝓛 (later (‵ (fex (Body X.Denot × List ℕ) (Taking 𝓛 R₀ bare cv holds g.keeps p z id v nr q₂ so allowed mine)) ⊛ ‵ (flft α q₁)))
+    (reach 𝓛 R₀ bare cv holds g.keeps p z q₁ (sep 𝓤 (sem 𝓛 (seat_of 𝓛 R₀ bare cv holds g.keeps p z id v)) (sem 𝓛 (flft α q₂)))
+    (sem 𝓛 (fex (Body X.Denot × List ℕ) (Taking 𝓛 R₀ bare cv holds g.keeps p z id v nr q₂ so allowed mine))) (goes_out 𝓛 R₀ bare cv holds g.keeps p z id v nr q₂ so allowed mine)) $
     await ! tt $ split ! $
-    fpick ! (λ u. fsplit ! $ fpick ! (λ facts. drop ! $ fsplit3 ! $ move ! (2 ∷ []) $ fsplit ! $ move ! (1 ∷ []) $
+    fpick ! (λ u. fsplit ! $ fpick ! (λ facts. drop ! $ fsplit3 ! $ move ! (2 ∷ []) $ fsplit ! $ move ! (1 ∷ []) $ fsplit ! $ drop ! $
     let few = facts.1 in let high = few.1 in let low_is = few.0 in let j_is : j ≡ d = asked.1.1 facts.0 few in let room : z.size * sz < 2 ^ 63 = there.3 in
     let small : j * sz < 2 ^ 64 = indexed j z.size sz (omega (arith, high, low_is, j_is)) room in let nv : Val = live 0 (of_list []) in
     let four = four_of u.1 facts.2 in let w₀ : ℕ = four.0 in let w₁ : ℕ = four.1 in let w₂ : ℕ = four.2 in let w₃ : ℕ = four.3 in
     -- [the value; the entry; the seat; the hand; its token; the fields; four; the invariant; open; the others]
-    let Here : Fml = place R₀ α z.hands_name (block_of z.values) (d * sz + count_of z.values) (Some u.0) in
-    let Hd : Fml = hands 𝓛 R₀ cv holds g.keeps p z three_quarters (nr - 1) (busy q₂) in
+    let Here : Fml = place R₀ α z.hands_name (block_of z.values) (d * sz + count_of z.values) (Some u.0.0) in
+    let Hd : Fml = hands 𝓛 R₀ bare cv holds g.keeps p z three_quarters (nr - 1) (busy q₂) in
     move ! (10 ∷ 4 ∷ 3 ∷ []) $ group ! 3 $ move ! (0 ∷ 1 ∷ []) $
     use2 𝓛 (later ((‵ Inv ⊛ ‵ (flft α q₁) ⊛ ‵ Hd) ⊛ ‵ Here))
-    (regains 𝓛 R₀ cv holds g.keeps p z (nr - 1) q₂ few q₁ u.0 (block_of z.values) (d * sz + count_of z.values)) $ await ! tt $ split ! $ split3 ! $
+    (regains 𝓛 R₀ bare cv holds g.keeps p z (nr - 1) q₂ few q₁ u.0.0 (block_of z.values) (d * sz + count_of z.values)) $ await ! tt $ split ! $ split3 ! $
     move ! (3 ∷ 4 ∷ 5 ∷ 2 ∷ 1 ∷ 6 ∷ 7 ∷ 8 ∷ 9 ∷ 10 ∷ 0 ∷ []) $
-    rewrite ! 0 (λ (r : Ptr × ℕ). ‵ (place R₀ α z.hands_name (block_of r.0) (r.1 * sz + count_of r.0) (Some u.0))) (λ i. (sym asked.2 i, sym j_is i)) refl $
-    spread m ! LR (Some u.0) bv e (λ w good.
+    rewrite ! 0 (λ (r : Ptr × ℕ). ‵ (place R₀ α z.hands_name (block_of r.0) (r.1 * sz + count_of r.0) (Some u.0.0))) (λ i. (sym asked.2 i, sym j_is i)) refl $
+    spread m ! LR (Some u.0.0) bv e (λ w good.
     -- [the place; what it holds; the entry; the seat; the hand; its token; the fields; four; the invariant; open; what is written; the others]
     sets ! (of_opd ! (get ! refl)) refl (tt, record { fits = are.1.1.1.0.1 }) $
     sets ! (is ! (bin ! (get ! refl) (size_word !) (record { fits = subst (λ (k : ℕ). k < 2 ^ 64) (sym (uncapped j sz small)) small })) (ap (vint w64)
     (uncapped j sz small))) refl (tt, record { fits = small }) $
     sets ! (bin ! (get ! refl) (get ! refl) tt) refl (tt, tt) $
     sets ! (of_opd ! (load ! (through ! refl (stop !)) (look_raw ! 0 refl))) refl good $
-    use1 𝓛 (‵ (froom (bare (lone O.mir)) bv e)) (𝓛.laws.at_room (bare (lone O.mir)) bv e w) $
+    use1 𝓛 (‵ (froom (unnamed (lone O.mir)) bv e)) (𝓛.laws.at_room (unnamed (lone O.mir)) bv e w) $
     use1 𝓛 (‵ (froom (lone O.mir) bv e)) (𝓛.laws.raw-room (lone O.mir) bv e) $
     use0 𝓛 (‵ (O.own_val None (nv ∷ []))) (none_of 𝓛 R₀) $
     peeks ! O (Is O) (shows 𝓛 O) None (nv ∷ []) (λ none_so. let fine = (LR.typed None (nv ∷ []) none_so).0 in move ! (1 ∷ []) $
     sets ! (agg ! (and_then ! (lit ! tt) (no_more !))) refl fine $
     assigns ! (of_opd ! (get ! refl)) (through ! refl (stop !)) (init ! 0 refl fine) $
-    use1 𝓛 (‵ (fat full_share (bare (lone O.mir)) bv e nv)) (𝓛.laws.at_raw full_share (lone O.mir) bv e nv) $ gather m ! None nv bv e $
+    use1 𝓛 (‵ (fat full_share (unnamed (lone O.mir)) bv e nv)) (𝓛.laws.at_raw full_share (lone O.mir) bv e nv) $ gather m ! None nv bv e $
     rewrite ! 0 (λ (r : Ptr × ℕ). ‵ (place R₀ α z.hands_name (block_of r.0) (r.1 * sz + count_of r.0) None)) (λ i. (asked.2 i, j_is i)) refl $
     -- [the place; the value; the entry; the seat; the hand; its token; the fields; four; the invariant; open; the others]
     move ! (2 ∷ []) $ rewrite ! 0 (λ (ws : List ℕ). ‵ (row pb f ws)) four.4 refl $
@@ -205,7 +207,7 @@ take_spec 𝓤 𝓛 𝓜 𝓡 wired X P U F LX LP LU LF g d _ =
     sets ! (bin ! (get ! refl) (get ! refl) tt) refl (tt, tt) $ let out : Fml = fsep (flft α q₁) (flft α q₂) in
     move ! (9 ∷ 3 ∷ 0 ∷ []) $
     use3 𝓛 (raw (𝓣.C _ (vptr pb e₄ ∷ vint w64 0 ∷ seq_cst ∷ []) (λ u. mean 𝓛 (stored out u))))
-    (via 𝓤 _ (frees 𝓛 R₀ cv holds g.keeps p z q₁ (nr - 1) q₂ e₄ few at)
+    (via 𝓤 _ (frees 𝓛 R₀ bare cv holds g.keeps p z q₁ (nr - 1) q₂ e₄ few at)
     (stores 𝓛 𝓜 𝓡 (code.calls-core::raw_atomic::store 𝓡.env wired) (block_ptr pb e₄) 0 (lit< tt) out)) $
     sets ! (agg ! (and_then ! (lit ! tt) (no_more !))) refl (tt, (record { fits = lit< tt }, tt)) $
     calls ! (fm 𝓛 𝓜 𝓡) (stored out) (and_then ! (get ! refl) (and_then ! (lit ! tt) (and_then ! (get ! refl) (no_more !)))) (λ r. await ! tt $
@@ -217,13 +219,13 @@ take_spec 𝓤 𝓛 𝓜 𝓡 wired X P U F LX LP LU LF g d _ =
     use1 𝓛 (later (items (λ (st : ℕ × ℕ). ‵ (seat_owns cv.code z.views_name id v' st.0 st.1)))) (begins 𝓛 cv z.views_name id v') $ await ! tt $
     pick ! (λ st.
     let h' : Sr.Denot = record { marker = h.marker; base = z.views_name; id = id; view = v'; stretch = st.0; mark = st.1 } in
-    let Told : Type 0 = (z.views_name ≡ h.base) × (id ≡ id) × ((x : X.Denot) × (Some u.0 ≡ Some x) × so (Taken x) v') in
+    let Told : Type 0 = (z.views_name ≡ h.base) × (id ≡ id) × ((x : X.Denot) × (Some u.0.0 ≡ Some x) × so (Taken x) v') in
     -- [the seat; the token; the value; the fields; four; its token; the others]
     move ! (3 ∷ 0 ∷ []) $ fjoin ! $ move ! (3 ∷ 0 ∷ 4 ∷ 5 ∷ 6 ∷ []) $ closes ! tt Sr h' ts b' o' $
     feq_i ! (List Val) (vptr b' o' ∷ []) (vptr b' o' ∷ []) refl $ fjoin3 ! $
     nothing ! $ nothing ! $ fjoin ! $ nothing ! $ fjoin ! $ nothing ! $ fjoin ! $ nothing ! $ fjoin ! $ nothing ! $ fjoin ! $ nothing ! $ fjoin ! $
     nothing ! $ fjoin ! $ nothing ! $ fjoin ! $ move ! (1 ∷ 0 ∷ []) $ fjoin ! $ nothing ! $ fjoin ! $
     move ! (1 ∷ 4 ∷ []) $ join ! $ move ! (2 ∷ 0 ∷ []) $ join ! $
-    use0 𝓛 (raw (fact 𝓤 Told)) (fact_i 𝓤 Told (emp 𝓤) (sym asked.0, refl, (u.0, refl, such))) $
+    use0 𝓛 (raw (fact 𝓤 Told)) (fact_i 𝓤 Told (emp 𝓤) (sym asked.0, refl, (u.0.0, refl, such))) $
     returns ! (look_at ! 0 refl) $ free_all ! refl $ keep ! (1 ∷ 2 ∷ 3 ∷ 0 ∷ []) $
-    by ! (leaves 𝓛 En hs c y w (Some u.0) (tt, (h', (tt, (tt, (tt, (tt, (tt, (tt, (tt, (tt, tt)))))))))) (tt, (tt, (tt, (tt, (tt, (tt, (tt, (tt, (tt, (tt, tt))))))))))))))))))))))))))))
+    by ! (leaves 𝓛 En hs c y w (Some u.0.0) (tt, (h', (tt, (tt, (tt, (tt, (tt, (tt, (tt, (tt, tt)))))))))) (tt, (tt, (tt, (tt, (tt, (tt, (tt, (tt, (tt, (tt, tt))))))))))))))))))))))))))))

@@ -48,6 +48,7 @@ use Rattle.seize_blocks.specs.contracts.words.Words.value.{ended, clauses}
 use Rattle.seize_blocks.specs.contracts.words.Words.value.Key.{name as #self}
 use Rattle.seize_blocks.proofs.words.Words.value.Statement.{statement}
 use Rattle.seize_blocks.proofs.words.Words.value.Code as code
+use Rattle.seize_blocks.specs.Bare.{bare}
 
 pub value_spec : {M : Type 1} → statement M
 value_spec 𝓤 𝓛 𝓜 𝓡 wired X P U F LX LP LU LF g d _ =
@@ -76,7 +77,7 @@ value_spec 𝓤 𝓛 𝓜 𝓡 wired X P U F LX LP LU LF g d _ =
     let others : Fml = fsep (flft κs.1.0 qs.1.0) (fsep (flft κs.1.1.0 qs.1.1.0) (fsep (flft κs.1.1.1.0 qs.1.1.1.0) (fsep (flft κs.1.1.1.1.0 qs.1.1.1.1.0) (fsep (flft κs.1.1.1.1.1.0 qs.1.1.1.1.1.0) ftrue)))) in
     let Asked : Type 0 = (core_of z ≡ core_of z₀) × InBlock p × (h.base ≡ z₀.views_name) × (k.base ≡ z₀.views_name) × IsItsIndex z nr j × (pv ≡ z.values) ×
     ShownToBoth holds h.id h.view k.id k.view nr in
-    let Inv : Core → Fml = λ k. invariant IsEven (fbor (k.atom ∷ []) (everything R₀ cv.code holds k)) in
+    let Inv : Core → Fml = λ k. invariant IsEven (fbor (k.atom ∷ []) (everything R₀ bare cv.code holds k)) in
     let Last : Core → Fml = λ k. fshr_bor κ (λ u. flft (k.atom ∷ []) u) in
     let y : (walk_of 𝓛 En hs c).Ghost = ((κs, qs, bounds, a, (vptr b o ∷ [], (vptr b₁ o₁ ∷ [], (vptr b' o' ∷ [], (vptr b₂ o₂ ∷ [], (vint w64 nr ∷ [], (vint w64 j ∷ [], (ptr_val pv ∷ [], tt)))))))), gh) in
     let Post : Val → SProp 𝓤 = (walk_of 𝓛 En hs c).post y in
@@ -90,7 +91,7 @@ value_spec 𝓤 𝓛 𝓜 𝓡 wired X P U F LX LP LU LF g d _ =
     keep ! (8 ∷ 6 ∷ 3 ∷ 1 ∷ 9 ∷ 10 ∷ []) $
     let p' : Ptr = block_ptr bv ov in let us : Ptr → List Val = λ r. vptr b o ∷ vptr b₁ o₁ ∷ vptr b' o' ∷ vptr b₂ o₂ ∷ vint w64 nr ∷ vint w64 j ∷ ptr_val r ∷ [] in
     let Run : List Val → SProp 𝓤 = λ ws. WpFn 𝓤 H 𝓣.C 𝓣.Λ fn ws Post in
-    use1 𝓛 (‵ (hidden_shr D κ (p₀, (tt, tt)) b o) ⊛ ‵ (fhide (words_share R₀ cv.code holds p₀ z₀ κ)))
+    use1 𝓛 (‵ (hidden_shr D κ (p₀, (tt, tt)) b o) ⊛ ‵ (fhide (words_share R₀ bare cv.code holds p₀ z₀ κ)))
     (lent_out 𝓛 (words.struct R₀ R₁ R₂ R₃ g)
     (words.the_codes X.Denot P.Denot U.Denot F.Denot R₀.coded R₁.coded R₂.coded R₃.coded (marker.the_row (Tuple (R₀ ∷ R₁ ∷
     []))).coded) (words.the_heap R₀ R₁ R₂ R₃ g) (words.the_lent R₀ R₁ R₂ R₃ g) κ t b o) $
@@ -101,7 +102,7 @@ value_spec 𝓤 𝓛 𝓜 𝓡 wired X P U F LX LP LU LF g d _ =
     (lent_out 𝓛 (strip.struct R₀) (strip.the_codes X.Denot R₀.coded (marker.the_row R₀).coded) (strip.the_heap R₀) (strip.the_lent R₀) κ₁ s b₁ o₁) $
     split ! $ drop ! $ unhide ! $ rewrite ! 0 (λ (f : Fml). ‵ f) (told_there R₀ p z asked.1) refl $
     fsplit ! $ move ! (1 ∷ 2 ∷ []) $ fjoin ! $ move ! (1 ∷ 0 ∷ []) $ fjoin ! $
-    use1 𝓛 (given (IsPlaced R₀ p z) (‵ (common R₀ cv.code holds p z))) (placed R₀ cv holds p z 𝓛) $ learn ! (λ there. move ! (1 ∷ 0 ∷ []) $ fjoin ! $
+    use1 𝓛 (given (IsPlaced R₀ p z) (‵ (common R₀ bare cv.code holds p z))) (placed R₀ bare cv holds p z 𝓛) $ learn ! (λ there. move ! (1 ∷ 0 ∷ []) $ fjoin ! $
     move ! (1 ∷ []) $
     use1 𝓛 (‵ (hidden_shr Ds κ (tt, tt) b' o') ⊛ ‵ (fhide (seat_shares cv.code h.base h.id h.view h.stretch h.mark κ)))
     (lent_out 𝓛 (seat.struct R₀ R₁ R₂ R₃ g)
@@ -122,9 +123,9 @@ value_spec 𝓤 𝓛 𝓜 𝓡 wired X P U F LX LP LU LF g d _ =
     -- [the owner; the guard; the words; the token; the others]
     move ! (2 ∷ 1 ∷ 0 ∷ 3 ∷ []) $ group ! 4 $
     let d : ℕ = nr - 1 - z.first in let here : ℕ = d * sz + count_of z.values in let mine = asked.4.0 in
-    use1 𝓛 (later (items (λ (x : X.Denot). given (So 𝓛 R₀ LO.shr_laws cv holds g.keeps p z hg ho nr asked.6 mine x)
+    use1 𝓛 (later (items (λ (x : X.Denot). given (So 𝓛 R₀ LO.shr_laws bare cv holds g.keeps p z hg ho nr asked.6 mine x)
     (‵ (shared_of O (Some x) (block_of z.values) here κ))) ⊛ ‵ (flft κ qs.0)))
-    (lent_to 𝓛 R₀ LO.shr_laws cv holds g.keeps p z hg ho nr asked.6 mine κ qs.0) $ await ! tt $ split ! $ pick ! (λ x. learn ! (λ so.
+    (lent_to 𝓛 R₀ LO.shr_laws bare cv holds g.keeps p z hg ho nr asked.6 mine κ qs.0) $ await ! tt $ split ! $ pick ! (λ x. learn ! (λ so.
     let few = so.2 in let low = so.1 in let high = few.1 in let low_is = few.0 in let j_is : j ≡ d = asked.4.1 low few in let room : z.size * sz < 2 ^ 63 = there.3 in
     let small : j * sz < 2 ^ 64 = indexed j z.size sz (omega (arith, high, low_is, j_is)) room in
     rewrite ! 0 (λ (r : Ptr × ℕ). ‵ (shared_of O (Some x) (block_of r.0) (r.1 * sz + count_of r.0) κ)) (λ i. (sym asked.5 i, sym j_is i)) refl $
