@@ -139,7 +139,7 @@ pub trait Guard<T: Defers> {
     /// Retires a block that a seat without a slot has unlinked, of the same memory (`Unlinked` does so by it). What it has seen it doesn't know any more.
     fn takes_over(&mut self, seat: &mut Seat<T, OfRows>, block: u64)
         requires own { seat.old.base ≡ home self.old }
-        requires bears { seat.old.view ≡ Bears block }
+        requires bears { seat.old.view.knows ≡ Bears block }
         requires fits { block < 2 ^ 53 }
         ensures home { home self.new ≡ home self.old }
         ensures slot { slot self.new ≡ slot self.old }

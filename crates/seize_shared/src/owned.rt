@@ -1,7 +1,7 @@
 //! Blocks that have seats of their own, and so need no slot: one that was made, and one that was unlinked.
 ghost use Rattle.std.specs.Prelude.{◌≡◌, ◌<◌, ◌^◌, None, Some, IfOk, IfErr, IfSome};
 ghost use Rattle.seize_seats.specs.Lendings.{IsValueOf};
-ghost use Rattle.seize_views.specs.Rows.{Holds};
+ghost use Rattle.seize_views.specs.Notes.{NotedHolds};
 ghost use Rattle.seize_shared.specs.Standing.{brought_by, borne_by};
 ghost use Rattle.seize_views.specs.declared.view.View.TheVariants.{Brings};
 
@@ -20,7 +20,7 @@ pub struct Owned<'a, T: Defers> {
     block: u64,
     ghost own: { seat.base ≡ blocks.now.words.id.views_name },
     ghost rooted: { blocks.now.words.fixed.roots ≡ roots },
-    ghost brings: { brought_by seat.view ≡ Some block },
+    ghost brings: { brought_by seat.view.knows.knows ≡ Some block },
     ghost fits: { block < 2 ^ 53 },
 }
 
@@ -30,7 +30,7 @@ pub struct Unlinked<'a, T: Defers> {
     pub(crate) seat: Seat<T, OfRows>,
     pub(crate) block: u64,
     ghost own: { seat.base ≡ blocks.now.words.id.views_name },
-    ghost bears: { borne_by seat.view ≡ Some block },
+    ghost bears: { borne_by seat.view.knows.knows ≡ Some block },
     ghost fits: { block < 2 ^ 53 },
 }
 
@@ -44,7 +44,7 @@ impl<'a, T: Defers> Owned<'a, T> {
         value: T,
     ) -> Result<Self, T>
         requires fixed { blocks.now.words.fixed ≡ fixed.now }
-        ensures made { IfOk result (λ owned. owned.seat.view ≡ Brings owned.block value) }
+        ensures made { IfOk result (λ owned. owned.seat.view.knows ≡ Brings owned.block value) }
         ensures home { IfOk result (λ owned. owned.blocks.now ≡ blocks.now) }
         ensures back { IfErr result (λ back. back ≡ value) }
     {
@@ -65,14 +65,14 @@ impl<'a, T: Defers> Owned<'a, T> {
 
     /// Its value, for as long as it is borrowed.
     pub fn value(&self) -> &T
-        ensures same { (value : T) → self.now.seat.view ≡ Brings self.now.block value → result.now ≡ value }
+        ensures same { (value : T) → self.now.seat.view.knows ≡ Brings self.now.block value → result.now ≡ value }
     {
         self.blocks.value(&self.seat, self.block)
     }
 
     /// Takes the block away, and answers its value.
     pub fn into_value(self) -> T
-        ensures back { (value : T) → self.entry.seat.view ≡ Brings self.entry.block value → result ≡ value }
+        ensures back { (value : T) → self.entry.seat.view.knows ≡ Brings self.entry.block value → result ≡ value }
     {
         let Owned {
             blocks,
@@ -114,7 +114,7 @@ impl<'a, T: Defers> Owned<'a, T> {
     pub fn place(self, root: u64) -> Result<(), Self>
         ensures home { IfErr result (λ back. back.blocks.now ≡ self.entry.blocks.now) }
         ensures block { IfErr result (λ back. back.block ≡ self.entry.block) }
-        ensures back { IfErr result (λ back. (value : T) → self.entry.seat.view ≡ Brings self.entry.block value → back.seat.view ≡ Brings back.block value) }
+        ensures back { IfErr result (λ back. (value : T) → self.entry.seat.view.knows ≡ Brings self.entry.block value → back.seat.view.knows ≡ Brings back.block value) }
     {
         if root >= self.roots {
             return Err(self);
@@ -141,7 +141,7 @@ impl<'a, T: Defers> Owned<'a, T> {
 impl<'a, T: Defers> Unlinked<'a, T> {
     /// Its value, for as long as it is borrowed: others may look at it still, so it is only lent.
     pub fn value(&self) -> &T
-        ensures { IsValueOf (Holds T.defers self.now.blocks.now.words.fixed) self.now.seat.id self.now.seat.view self.now.block result.now }
+        ensures { IsValueOf (NotedHolds T.defers self.now.blocks.now.words.fixed) self.now.seat.id self.now.seat.view self.now.block result.now }
     {
         self.blocks.value(&self.seat, self.block)
     }

@@ -18,7 +18,7 @@ pub(crate) struct Stay<'a, T: Defers + Drop> {
     roots: u64,
     pub(crate) inside: bool,
     seen: u64,
-    ghost stands: { standing caller.seat.view ≡ Some (slot, inside, seen) },
+    ghost stands: { standing caller.seat.view.knows.knows ≡ Some (slot, inside, seen) },
     ghost rooted: { caller.blocks.now.words.fixed.roots ≡ roots },
     ghost fits: { seen < 2 ^ 53 },
 }
@@ -200,7 +200,7 @@ impl<'a, T: Defers + Drop> Stay<'a, T> {
     /// Retires a block that another seat has unlinked, which has no slot, whether a section is open or not. What was seen before is not known any more.
     pub(crate) fn takes_over(&mut self, seat: &mut Seat<T, OfRows>, block: u64)
         requires own { seat.old.base ≡ self.old.caller.blocks.now.words.id.views_name }
-        requires bears { seat.old.view ≡ Bears block }
+        requires bears { seat.old.view.knows ≡ Bears block }
         requires fits { block < 2 ^ 53 }
         ensures home { self.new.caller.blocks ≡ self.old.caller.blocks }
         ensures slot { self.new.slot ≡ self.old.slot }
