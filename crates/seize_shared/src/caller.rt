@@ -231,7 +231,7 @@ impl<'a, T: Defers> Caller<'a, T> {
     pub fn remove(&mut self, _slot: u64, root: u64) -> Option<u64>
         requires inside { self.old.seat.view.knows ≡ Inside _slot Nothing }
         requires root { root < self.old.blocks.now.words.fixed.roots }
-        ensures cut { IfSome result (λ old. (self.new.seat.view.knows ≡ Inside _slot (Cut old)) × (old < 2 ^ 53)) }
+        ensures cut { IfSome result (λ old. (self.new.seat.view.knows ≡ Inside _slot (Cut old)) × (old < 2 ^ 53) × (old ≢ 0)) }
         ensures none { IfNone result (self.new.seat.view.knows ≡ Inside _slot Nothing) }
         ensures took { self.new.seat.view.did ≡ Wrote root None (unwrap_or result 0) }
         ensures blocks { self.new.blocks ≡ self.old.blocks }
@@ -244,7 +244,7 @@ impl<'a, T: Defers> Caller<'a, T> {
     pub fn withdraw(&mut self, _slot: u64, root: u64) -> Option<u64>
         requires outside { self.old.seat.view.knows ≡ Outside _slot }
         requires root { root < self.old.blocks.now.words.fixed.roots }
-        ensures owes { IfSome result (λ old. (self.new.seat.view.knows ≡ Owes _slot old) × (old < 2 ^ 53)) }
+        ensures owes { IfSome result (λ old. (self.new.seat.view.knows ≡ Owes _slot old) × (old < 2 ^ 53) × (old ≢ 0)) }
         ensures none { IfNone result (self.new.seat.view.knows ≡ Outside _slot) }
         ensures took { self.new.seat.view.did ≡ Wrote root None (unwrap_or result 0) }
         ensures blocks { self.new.blocks ≡ self.old.blocks }
@@ -259,7 +259,8 @@ impl<'a, T: Defers> Caller<'a, T> {
         requires bears { seat.old.view.knows ≡ Bears _block }
         requires takes { IsTaker self.old.seat.view.knows }
         ensures outside { self.old.seat.view.knows ≡ Outside _slot → self.new.seat.view.knows ≡ Owes _slot _block }
-        ensures inside { (has : Has T) → IsLooking has → self.old.seat.view.knows ≡ Inside _slot has → self.new.seat.view.knows ≡ Inside _slot (Cut _block) }
+        ensures inside { (has : Has T) → IsLooking has → self.old.seat.view.knows ≡ Inside _slot has
+            → self.new.seat.view.knows ≡ Inside _slot (Cut _block) }
         ensures blocks { self.new.blocks ≡ self.old.blocks }
     {
         self.blocks.meet::<Handing>(seat, &mut self.seat);

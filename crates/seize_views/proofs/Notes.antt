@@ -1,12 +1,12 @@
 -- What holds of a state holds by what the seats know, whatever they note.
-use Rattle.std.specs.Prelude.{◌≢◌, ◌++◌, Option, Some, option_map, map, slice_get, slice_set}
+use Rattle.std.specs.Prelude.{Option, Some, option_map, map, slice_get, slice_set}
 use Rattle.std.proofs.Common.{◌≡◌, ℕ, zero, suc, List, [], ◌∷◌, refl, sym, subst, ap, ◌∙◌}
 use Rattle.std.proofs.lemmas.List.{map-append}
 use Rattle.std.proofs.lemmas.Option.{slice_get-map}
-use Rattle.seize_words.specs.Mem.{Mem, Took}
-use Rattle.seize_words.specs.Op.{Op, Out}
+use Rattle.seize_words.specs.Mem.{Mem}
+use Rattle.seize_words.specs.Op.{Op}
 use Rattle.seize.specs.World.{World}
-use Rattle.seize_seats.specs.State.{State, view_of, Starts, Comes, Allows, Turns, Meets, Goes}
+use Rattle.seize_seats.specs.State.{State, view_of, Comes, Allows, Turns, Meets, Goes}
 use Rattle.seize_seats.specs.Lendings.{Shown, IsValueOf}
 use Rattle.seize_views.specs.Notes.{noted, newcomer, known_by, as_known, deed, SameNotes, NotedHolds, NotedKeeps, noted_told}
 use Rattle.seize_views.specs.Notes.{StartsAreNoted, ComingsAreNoted, StepsAreNoted, TurnsAreNoted, SettlingsAreNoted, MeetingsAreNoted, LooksAreNoted}
