@@ -15,3 +15,8 @@ returns-in_default g c =
       slot = k.1;
       blocks = k.2;
     }
+
+pub returns-in-Gave-clause-settling : goal.returns-in-Gave-clause-settling
+returns-in-Gave-clause-settling g c = λ task is.
+    let x = c.args.self.now in let row = c.args.row.now in let n = c.step.new.memory in
+    (has_stepped g.T.Defers.defers x row task is c.requires.not n (c.step.new.self, c.step.result) c.step.ensures).0
