@@ -1,6 +1,6 @@
 -- What a seat has noted of an operation at a root, by what it knew.
 use Rattle.std.specs.Prelude.{◌==◌, Option, Some, None, Ok, Err, if◌then◌else◌}
-use Rattle.std.proofs.Common.{◌≡◌, ℕ, ◌<◌, ◌^◌, ◌%◌, Bool, true, false, refl, sym, ap, ◌∙◌}
+use Rattle.std.proofs.Common.{◌≡◌, ℕ, ◌<◌, ◌^◌, ◌%◌, Bool, true, false, refl, ap, ◌∙◌}
 use Rattle.seize_words.specs.Op.{Load, Swap, Exchange, Found, Exchanged}
 use Rattle.seize_words.specs.Word.{block_in, link_to}
 use Rattle.seize_words.specs.declared.at.At.TheVariants.{Root}
