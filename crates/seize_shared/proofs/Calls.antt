@@ -1,6 +1,6 @@
 -- What a call of the shared memory asks for: by what the seat knows, its turn or operation is next.
 use Rattle.std.specs.Prelude.{◌<◌, ◌≤◌, ◌==◌, Option, Some, None, Ok, Err, nat_lt, if◌then◌else◌}
-use Rattle.std.proofs.Common.{◌≡◌, ℕ, ◌^◌, ◌%◌, Bool, true, false, refl, sym, subst, ap, ◌∙◌, arith}
+use Rattle.std.proofs.Common.{◌≡◌, ℕ, ◌^◌, ◌%◌, Bool, true, false, inl, inr, refl, sym, subst, ap, ◌∙◌, arith}
 use Rattle.std.proofs.lemmas.Bool.{eq-eqb, ne_eqb}
 use Rattle.seize_words.specs.Op.{Op, Load, Swap, Exchange, Make, Take, Found, Exchanged, Made as OutMade, Taken}
 use Rattle.seize_words.specs.Word.{block_in, link_to}
@@ -11,11 +11,14 @@ use Rattle.seize.specs.Settle.{retiring, flushing, counting_down}
 use Rattle.seize.specs.World.{HasListWord}
 use Rattle.seize_seats.specs.Lendings.{Shown}
 use Rattle.seize_seats.specs.State.{Allows, Turns}
-use Rattle.seize_views.specs.Begun.{leaving, refreshes, IsBegun, Retires, Flushes, Makes}
-use Rattle.seize_shared.specs.Made.{IsSettling}
+use Rattle.seize_views.specs.Begun.{leaving, refreshes, forgetting, IsBegun, Retires, Flushes, Makes}
+use Rattle.seize_shared.specs.Made.{IsSettling, Task, task_of}
+use Rattle.seize_views.specs.Notes.{noted, Notes, NotedHolds, NotedKeeps, noted_told}
 use Rattle.seize_views.specs.Promises.{Names, HasMade, IsLooking, IsNext, op_of}
 use Rattle.seize_views.specs.Rows.{Holds, Keeps}
 use Rattle.seize_views.specs.Told.{list_taken, owes_in, cut_in, seen_in, seen_as, cut_as, made_beside, told}
+use Rattle.seize_views.specs.declared.view.Noted.{Noted}
+use Rattle.seize_views.specs.declared.view.Began.{Began}
 use Rattle.seize_views.specs.declared.view.View.{View}
 use Rattle.seize_views.specs.declared.view.Becomes.{Becomes}
 use Rattle.seize_views.specs.declared.view.Becomes.TheVariants.{Idle, Active}
@@ -29,31 +32,46 @@ use Rattle.seize_views.proofs.GoesOn.{rows_go_on}
 use Rattle.seize_views.proofs.Blocks.{blocks_are_made, made_are_taken, known_are_shown}
 use Rattle.seize_views.proofs.Roots.{made_are_linked, made_are_exchanged, roots_are_cleared, roots_are_seen, roots_are_withdrawn}
 use Rattle.seize_views.proofs.Written.{block_of_link}
+use Rattle.seize_views.proofs.Notes.{turns, allows, looks_are_noted}
 
 -- the word that links to a block whose number is small enough
 pub whole_link : (b : ℕ) → b < 2 ^ 53 → link_to b % 2 ^ 64 ≡ link_to b
 whole_link b lt = omega (arith, lt)
 
-module _ {T : Type 0} (defers : T → Option ℕ) (fixed : Fixed) (id : ℕ) (v w : View T) (is : v ≡ w) where
-  pub may_turn : (f : Fixed → View T → View T) → IsNext fixed w (f fixed w) → Turns (Holds defers fixed) Keeps id v (Makes f fixed v)
-  may_turn f next =
-      subst (λ (x : View T). Turns (Holds defers fixed) Keeps id x (Makes f fixed x)) (sym is) (rows_turn T defers fixed id w (f fixed w) next)
+module _ {T : Type 0} (defers : T → Option ℕ) (fixed : Fixed) (id : ℕ) (v : Noted T) where
+  abbrev MayTurn : (Noted T → Type 0) → Type 0
+  MayTurn so = Turns (NotedHolds defers fixed) NotedKeeps id v so
 
-  pub may_go_on : (op : Op T) → op_of defers w ≡ Some op → Allows (Holds defers fixed) Keeps id v op (told defers v op)
-  may_go_on op next =
-      subst (λ (x : View T). Allows (Holds defers fixed) Keeps id x op (told defers x op)) (sym is) (rows_go_on T defers fixed id w op next)
+  -- what may be done by what the seat knows, it may do, and notes it
 
-module _ {T : Type 0} (defers : T → Option ℕ) (fixed : Fixed) (id : ℕ) (v : View T) (slot : ℕ) where
+  noted_turn : (so : Fixed → View T → View T → Type 0) (began : Began → Began) (w : View T) → v.knows ≡ w → Turns (Holds defers fixed) Keeps id w (so fixed w)
+      → MayTurn (Notes so began fixed v)
+  noted_turn so began w is may =
+      turns defers fixed id v (so fixed v.knows) v.did (began v.began) (subst (λ (x : View T). Turns (Holds defers fixed) Keeps id x (so fixed x)) (sym is) may)
+
+  pub by_view : (w : View T) (op : Op T) → v.knows ≡ w → Allows (Holds defers fixed) Keeps id w op (told defers w op)
+      → Allows (NotedHolds defers fixed) NotedKeeps id v op (noted_told defers v op)
+  by_view w op is may =
+      allows defers fixed id v op (subst (λ (x : View T). Allows (Holds defers fixed) Keeps id x op (told defers x op)) (sym is) may)
+
+  module _ (w : View T) (is : v.knows ≡ w) where
+    pub may_turn : (f : Fixed → View T → View T) (began : Began → Began) → IsNext fixed w (f fixed w) → MayTurn (Notes (Makes f) began fixed v)
+    may_turn f began next = noted_turn (Makes f) began w is (rows_turn T defers fixed id w (f fixed w) next)
+
+    pub may_go_on : (op : Op T) → op_of defers w ≡ Some op → Allows (NotedHolds defers fixed) NotedKeeps id v op (noted_told defers v op)
+    may_go_on op next = by_view w op is (rows_go_on T defers fixed id w op next)
+
+module _ {T : Type 0} (defers : T → Option ℕ) (fixed : Fixed) (id : ℕ) (v : Noted T) (slot : ℕ) (began : Began → Began) where
   -- a settling is next where a block was unlinked, or none is known
 
-  pub may_retire : (b : ℕ) → v ≡ Inside slot (Cut b) → Turns (Holds defers fixed) Keeps id v (Retires fixed v)
+  pub may_retire : (b : ℕ) → v.knows ≡ Inside slot (Cut b) → MayTurn defers fixed id v (Notes Retires began fixed v)
   may_retire b is =
-      subst (λ (x : View T). Turns (Holds defers fixed) Keeps id x (Retires fixed x)) (sym is)
+      noted_turn defers fixed id v Retires began (Inside slot (Cut b)) is
       (settlings_begin T defers fixed id (Inside slot (Cut b)) Active (retiring slot fixed.batch_size (link_to b)) refl)
 
-  pub may_retire_idle : (b : ℕ) → v ≡ Owes slot b → Turns (Holds defers fixed) Keeps id v (Retires fixed v)
+  pub may_retire_idle : (b : ℕ) → v.knows ≡ Owes slot b → MayTurn defers fixed id v (Notes Retires began fixed v)
   may_retire_idle b is =
-      subst (λ (x : View T). Turns (Holds defers fixed) Keeps id x (Retires fixed x)) (sym is)
+      noted_turn defers fixed id v Retires began (Owes slot b) is
       (settlings_begin T defers fixed id (Owes slot b) Idle (retiring slot fixed.batch_size (link_to b)) refl)
 
   flushes_by : (has : Has T) → IsLooking has → Turns (Holds defers fixed) Keeps id (Inside slot has) (Flushes fixed (Inside slot has))
@@ -63,12 +81,12 @@ module _ {T : Type 0} (defers : T → Option ℕ) (fixed : Fixed) (id : ℕ) (v 
   flushes_by (Both b x a) looks = absurd looks
   flushes_by (Cut b) looks = absurd looks
 
-  pub may_flush : (has : Has T) → IsLooking has → v ≡ Inside slot has → Turns (Holds defers fixed) Keeps id v (Flushes fixed v)
-  may_flush has looks is = subst (λ (x : View T). Turns (Holds defers fixed) Keeps id x (Flushes fixed x)) (sym is) (flushes_by has looks)
+  pub may_flush : (has : Has T) → IsLooking has → v.knows ≡ Inside slot has → MayTurn defers fixed id v (Notes Flushes began fixed v)
+  may_flush has looks is = noted_turn defers fixed id v Flushes began (Inside slot has) is (flushes_by has looks)
 
-  pub may_flush_idle : v ≡ Outside slot → Turns (Holds defers fixed) Keeps id v (Flushes fixed v)
+  pub may_flush_idle : v.knows ≡ Outside slot → MayTurn defers fixed id v (Notes Flushes began fixed v)
   may_flush_idle is =
-      subst (λ (x : View T). Turns (Holds defers fixed) Keeps id x (Flushes fixed x)) (sym is)
+      noted_turn defers fixed id v Flushes began (Outside slot) is
       (settlings_begin T defers fixed id (Outside slot) Idle (flushing slot fixed.batch_size) refl)
 
 module _ {T : Type 0} (fixed : Fixed) (v u : View T) (slot : ℕ) where
@@ -102,21 +120,22 @@ module _ {T : Type 0} (fixed : Fixed) (v u : View T) (slot : ℕ) where
   flushes_idle_told row is so same = begun_by Idle (flushing slot fixed.batch_size) row (subst (λ (x : View T). Flushes fixed x u) is so) same
 
 -- a settling that has begun is under way
-pub settling_row : {T : Type 0} (way : Becomes) (row : Settle) (u : View T) → IsBegun way row u → IsSettling (Retiring way) row u
-settling_row way row u is = (None, is.0, is.1)
+pub settling_row : {T : Type 0} (way : Becomes) (row : Settle) (u : Noted T) → IsBegun way row u.knows → IsSettling (task_of (Retiring way) u) row u
+settling_row way row u is = (None, is.0, ap (λ (x : View _). noted x u.did u.began) is.1)
 
-module _ {T : Type 0} (defers : T → Option ℕ) (fixed : Fixed) (id : ℕ) (v : View T) (slot : ℕ) where
+-- whatever a seat has noted, it has noted what it has
+pub own_task : {T : Type 0} (task : Task T) (c : Settle) (v : Noted T) → IsSettling task c v → IsSettling (task_of task.why v) c v
+own_task task c v is = (is.0, is.1, ap (λ (u : Noted _). noted u.knows v.did v.began) is.2)
+
+module _ {T : Type 0} (defers : T → Option ℕ) (fixed : Fixed) (id : ℕ) (v : Noted T) (slot : ℕ) where
   abbrev MayMake : Op T → Type 0
-  MayMake op = Allows (Holds defers fixed) Keeps id v op (told defers v op)
+  MayMake op = Allows (NotedHolds defers fixed) NotedKeeps id v op (noted_told defers v op)
 
-  by_view : (w : View T) (op : Op T) → v ≡ w → Allows (Holds defers fixed) Keeps id w op (told defers w op) → MayMake op
-  by_view w op is may = subst (λ (x : View T). Allows (Holds defers fixed) Keeps id x op (told defers x op)) (sym is) may
+  pub may_make : v.knows ≡ Inside slot Nothing → (value : T) (words : ℕ) → HasListWord defers (defers value) words → MayMake (Make value words)
+  may_make is value words list = by_view defers fixed id v (Inside slot Nothing) (Make value words) is (blocks_are_made T defers Nothing value words tt list fixed id slot)
 
-  pub may_make : v ≡ Inside slot Nothing → (value : T) (words : ℕ) → HasListWord defers (defers value) words → MayMake (Make value words)
-  may_make is value words list = by_view (Inside slot Nothing) (Make value words) is (blocks_are_made T defers Nothing value words tt list fixed id slot)
-
-  pub may_take : (b : ℕ) (x : T) → v ≡ Inside slot (Made b x) → MayMake (Take b)
-  may_take b x is = by_view (Inside slot (Made b x)) (Take b) is (made_are_taken T defers (Made b x) b refl fixed id slot)
+  pub may_take : (b : ℕ) (x : T) → v.knows ≡ Inside slot (Made b x) → MayMake (Take b)
+  may_take b x is = by_view defers fixed id v (Inside slot (Made b x)) (Take b) is (made_are_taken T defers (Made b x) b refl fixed id slot)
 
   -- beside a block that was seen, or none
 
@@ -124,48 +143,50 @@ module _ {T : Type 0} (defers : T → Option ℕ) (fixed : Fixed) (id : ℕ) (v 
   is_looking a true = tt
   is_looking a false = tt
 
-  pub may_make_beside : (a : ℕ) → v ≡ Inside slot (seen_as a) → (value : T) (words : ℕ) → HasListWord defers (defers value) words → MayMake (Make value words)
+  pub may_make_beside : (a : ℕ) → v.knows ≡ Inside slot (seen_as a) → (value : T) (words : ℕ) → HasListWord defers (defers value) words → MayMake (Make value words)
   may_make_beside a is value words list =
-      by_view (Inside slot (seen_as a)) (Make value words) is (blocks_are_made T defers (seen_as a) value words (is_looking a (a == 0)) list fixed id slot)
+      by_view defers fixed id v (Inside slot (seen_as a)) (Make value words) is (blocks_are_made T defers (seen_as a) value words (is_looking a (a == 0)) list fixed id slot)
 
   has_made : (b : ℕ) (x : T) (a : ℕ) (y : Bool) → HasMade (if y then Made b x else Both b x a) b
   has_made b x a true = refl
   has_made b x a false = refl
 
-  pub may_take_beside : (b : ℕ) (x : T) (a : ℕ) → v ≡ Inside slot (made_beside b x a) → MayMake (Take b)
+  pub may_take_beside : (b : ℕ) (x : T) (a : ℕ) → v.knows ≡ Inside slot (made_beside b x a) → MayMake (Take b)
   may_take_beside b x a is =
-      by_view (Inside slot (made_beside b x a)) (Take b) is (made_are_taken T defers (made_beside b x a) b (has_made b x a (a == 0)) fixed id slot)
+      by_view defers fixed id v (Inside slot (made_beside b x a)) (Take b) is (made_are_taken T defers (made_beside b x a) b (has_made b x a (a == 0)) fixed id slot)
 
-  pub may_exchange : (b : ℕ) (x : T) (a r old word : ℕ) → v ≡ Inside slot (made_beside b x a) → r < fixed.roots → b < 2 ^ 53 → word ≡ link_to b % 2 ^ 64
+  pub may_exchange : (b : ℕ) (x : T) (a r old word : ℕ) → v.knows ≡ Inside slot (made_beside b x a) → r < fixed.roots → b < 2 ^ 53 → word ≡ link_to b % 2 ^ 64
       → MayMake (Exchange (Root r) old word)
   may_exchange b x a r old word is lt fits link =
       subst (λ (w : ℕ). MayMake (Exchange (Root r) old w)) (sym (link ∙ whole_link b fits))
-      (by_view (Inside slot (made_beside b x a)) (Exchange (Root r) old (link_to b)) is
+      (by_view defers fixed id v (Inside slot (made_beside b x a)) (Exchange (Root r) old (link_to b)) is
       (made_are_exchanged T defers (made_beside b x a) b r old fixed id slot (has_made b x a (a == 0)) lt))
 
-  pub may_link : (b : ℕ) (x : T) (r word : ℕ) → v ≡ Inside slot (Made b x) → r < fixed.roots → b < 2 ^ 53 → word ≡ link_to b % 2 ^ 64
+  pub may_link : (b : ℕ) (x : T) (r word : ℕ) → v.knows ≡ Inside slot (Made b x) → r < fixed.roots → b < 2 ^ 53 → word ≡ link_to b % 2 ^ 64
       → MayMake (Swap (Root r) word)
   may_link b x r word is lt fits link =
       subst (λ (w : ℕ). MayMake (Swap (Root r) w)) (sym (link ∙ whole_link b fits))
-      (by_view (Inside slot (Made b x)) (Swap (Root r) (link_to b)) is (made_are_linked T defers b x r fixed id slot lt))
+      (by_view defers fixed id v (Inside slot (Made b x)) (Swap (Root r) (link_to b)) is (made_are_linked T defers b x r fixed id slot lt))
 
-  pub may_clear : (r : ℕ) → v ≡ Inside slot Nothing → r < fixed.roots → MayMake (Swap (Root r) 0)
-  may_clear r is lt = by_view (Inside slot Nothing) (Swap (Root r) 0) is (roots_are_cleared T defers r fixed id slot lt)
+  pub may_clear : (r : ℕ) → v.knows ≡ Inside slot Nothing → r < fixed.roots → MayMake (Swap (Root r) 0)
+  may_clear r is lt = by_view defers fixed id v (Inside slot Nothing) (Swap (Root r) 0) is (roots_are_cleared T defers r fixed id slot lt)
 
-  pub may_withdraw : (r : ℕ) → v ≡ Outside slot → r < fixed.roots → MayMake (Swap (Root r) 0)
-  may_withdraw r is lt = by_view (Outside slot) (Swap (Root r) 0) is (roots_are_withdrawn T defers r fixed id slot lt)
+  pub may_withdraw : (r : ℕ) → v.knows ≡ Outside slot → r < fixed.roots → MayMake (Swap (Root r) 0)
+  may_withdraw r is lt = by_view defers fixed id v (Outside slot) (Swap (Root r) 0) is (roots_are_withdrawn T defers r fixed id slot lt)
 
-  pub may_see : (has : Has T) (r : ℕ) → IsLooking has → v ≡ Inside slot has → r < fixed.roots → MayMake (Load (Root r))
-  may_see has r looks is lt = by_view (Inside slot has) (Load (Root r)) is (roots_are_seen T defers has r fixed id slot looks lt)
+  pub may_see : (has : Has T) (r : ℕ) → IsLooking has → v.knows ≡ Inside slot has → r < fixed.roots → MayMake (Load (Root r))
+  may_see has r looks is lt = by_view defers fixed id v (Inside slot has) (Load (Root r)) is (roots_are_seen T defers has r fixed id slot looks lt)
 
-  pub is_shown : (has : Has T) (b : ℕ) → v ≡ Inside slot has → Names has b → Shown (Holds defers fixed) id v b
-  is_shown has b is names = subst (λ (x : View T). Shown (Holds defers fixed) id x b) (sym is) (known_are_shown T defers has b fixed id slot names)
+  pub is_shown : (has : Has T) (b : ℕ) → v.knows ≡ Inside slot has → Names has b → Shown (NotedHolds defers fixed) id v b
+  is_shown has b is names =
+      (looks_are_noted T defers fixed id v b).0
+      (subst (λ (x : View T). Shown (Holds defers fixed) id x b) (sym is) (known_are_shown T defers has b fixed id slot names))
 
 module _ (T : Type 0) (fixed : Fixed) (slot : ℕ) where
   -- leaving is next where a block was seen, or none is known
   pub leaves_next : (has : Has T) → IsLooking has → IsNext {T = T} fixed (Inside slot has) (leaving fixed (Inside slot has))
-  leaves_next Nothing looks = (Idle, refl)
-  leaves_next (Seen b) looks = (Idle, refl)
+  leaves_next Nothing looks = inl (Idle, refl)
+  leaves_next (Seen b) looks = inl (Idle, refl)
   leaves_next (Made b x) looks = absurd looks
   leaves_next (Both b x a) looks = absurd looks
   leaves_next (Cut b) looks = absurd looks
@@ -179,8 +200,8 @@ module _ (T : Type 0) (fixed : Fixed) (slot : ℕ) where
 
   -- and so is refreshing
   pub refreshes_next : (has : Has T) → IsLooking has → IsNext {T = T} fixed (Inside slot has) (refreshes fixed (Inside slot has))
-  refreshes_next Nothing looks = (Active, refl)
-  refreshes_next (Seen b) looks = (Active, refl)
+  refreshes_next Nothing looks = inl (Active, refl)
+  refreshes_next (Seen b) looks = inl (Active, refl)
   refreshes_next (Made b x) looks = absurd looks
   refreshes_next (Both b x a) looks = absurd looks
   refreshes_next (Cut b) looks = absurd looks
@@ -191,6 +212,21 @@ module _ (T : Type 0) (fixed : Fixed) (slot : ℕ) where
   refreshes_so (Made b x) looks = absurd looks
   refreshes_so (Both b x a) looks = absurd looks
   refreshes_so (Cut b) looks = absurd looks
+
+  -- and what was seen is let go
+  pub forgets_next : (has : Has T) → IsLooking has → IsNext {T = T} fixed (Inside slot has) (forgetting fixed (Inside slot has))
+  forgets_next Nothing looks = inr refl
+  forgets_next (Seen b) looks = inr refl
+  forgets_next (Made b x) looks = absurd looks
+  forgets_next (Both b x a) looks = absurd looks
+  forgets_next (Cut b) looks = absurd looks
+
+  pub forgets_so : (has : Has T) → IsLooking has → forgetting {T = T} fixed (Inside slot has) ≡ Inside slot Nothing
+  forgets_so Nothing looks = refl
+  forgets_so (Seen b) looks = refl
+  forgets_so (Made b x) looks = absurd looks
+  forgets_so (Both b x a) looks = absurd looks
+  forgets_so (Cut b) looks = absurd looks
 
 -- a list with entries is counted down, and an empty one is settled
 is_above : (head : ℕ) → ACTIVE < head → nat_lt ACTIVE head ≡ true

@@ -17,13 +17,16 @@ use Rattle.seize_seats.specs.Lendings.{Shown, IsValueOf}
 use Rattle.seize_views.specs.Rows.{Holds}
 use Rattle.seize_views.specs.Told.{shown_by, FollowsBy, GoesOn, told}
 use Rattle.seize_views.specs.Promises.{op_in, op_of}
-use Rattle.seize_shared.specs.Made.{shown_in, shown_of, left_in, CanMake, HasAlone, HasMade, IsSettling}
+use Rattle.seize_shared.specs.Made.{shown_in, shown_of, left_of, left_in, CanMake, HasAlone, HasMade, IsSettling, Task}
+use Rattle.seize_views.specs.Notes.{noted, known_by, deed, NotedHolds}
+use Rattle.seize_views.specs.declared.view.Noted.{Noted}
+use Rattle.seize_views.specs.declared.view.Deed.{Deed}
 use Rattle.seize_views.specs.declared.view.View.{View}
 use Rattle.seize_views.specs.declared.view.View.TheVariants.{Rests, Registers, Outside, Owes, Enters, Inside, Settles, Leaves, Left, Frees, Brings, Bears}
-use Rattle.seize_views.specs.declared.view.Why.{Why}
 use Rattle.seize_views.specs.declared.view.Fixed.{Fixed}
 use Rattle.seize_shared.specs.declared.caller.Caller.{Caller}
 use Rattle.seize_shared.proofs.Calls.{may_go_on}
+use Rattle.seize_views.proofs.Notes.{looks_are_noted}
 use Rattle.seize_views.proofs.Looks.{rest_of, LooksOnce, once, ends_may, ends_same, looked_are_shown}
 
 -- it makes an operation
@@ -84,20 +87,28 @@ module _ {T : Type 0} (defers : T → Option ℕ) where
   has_alone caller (Rewrite b x) is = absurd is
   has_alone caller _ is = tt
 
-  module _ (caller : Caller T) (c : Settle) (why : Why) (is : IsSettling why c caller.seat.view) (ne : c.stands ≡ at.Over → ⊥) where
+  module _ (caller : Caller T) (c : Settle) (task : Task T) (is : IsSettling task c caller.seat.view) (ne : c.stands ≡ at.Over → ⊥) where
     -- what is told of a settling's operation
-    goes_on : (op : Op T) (out : Out T) (n : Caller T) → HasMade defers caller op out n → GoesOn defers c why is.1 out n.seat.view
-    goes_on op out n made = subst (λ (v : View T). told defers v op out n.seat.view) is.2 made.told
+    goes_on : (op : Op T) (out : Out T) (n : Caller T) → HasMade defers caller op out n → GoesOn defers c task.why is.1 out n.seat.view.knows
+    goes_on op out n made = subst (λ (v : View T). told defers v op out n.seat.view.knows) (ap known_by is.2) made.told.0
 
-    shows : (n : Caller T) (d : Settle) (seen : Option (ℕ × T)) (left : ℕ) → n.seat.view ≡ Settles d why seen left → shown_of n ≡ shown_by seen
+    -- and what was noted stays
+    stays_noted : (op : Op T) (out : Out T) (n : Caller T) (v : View T) → HasMade defers caller op out n → n.seat.view.knows ≡ v
+        → n.seat.view ≡ noted v task.did task.began
+    stays_noted op out n v made e =
+        ap (λ (x : View T). noted x n.seat.view.did n.seat.view.began) e
+        ∙ ap (λ (x : Deed T). noted v x n.seat.view.began) (made.told.1 ∙ ap (λ (x : Noted T). deed x.knows x.did op out) is.2)
+        ∙ ap (noted v task.did) (made.told.2 ∙ ap (λ (x : Noted T). x.began) is.2)
+
+    shows : (n : Caller T) (d : Settle) (seen : Option (ℕ × T)) (left : ℕ) → n.seat.view.knows ≡ Settles d task.why seen left → shown_of n ≡ shown_by seen
     shows n d seen left e = ap (λ (v : View T). shown_in v) e
 
     pub may_step : May (CanMake defers) (HasMade defers) shown_of caller (settle_plan defers c)
     may_step =
         may_by (CanMake defers) (HasMade defers) shown_of caller (settle_plan defers c) (is_do c c.stands ne)
         (λ op e. record {
-          alone = has_alone caller op (subst IsNoRewrite (ap (op_of defers) is.2 ∙ e) (none_rewrites caller.seat.view));
-          may = may_go_on defers caller.blocks.now.words.fixed caller.seat.id caller.seat.view (Settles c why is.0 is.1) is.2 op e;
+          alone = has_alone caller op (subst IsNoRewrite (ap (op_of defers) (ap known_by is.2) ∙ e) (none_rewrites caller.seat.view.knows));
+          may = may_go_on defers caller.blocks.now.words.fixed caller.seat.id caller.seat.view (Settles c task.why is.0 is.1) (ap known_by is.2) op e;
         })
         (λ op out n e made.
         let g = goes_on op out n made in
@@ -105,17 +116,22 @@ module _ {T : Type 0} (defers : T → Option ℕ) where
         (λ out. once defers c c.stands out)
 
     pub has_stepped : (n : Caller T) (end : Settle × Settled T) → Steps (HasMade defers) shown_of caller (settle_plan defers c) n end
-        → IsSettling why end.0 n.seat.view × (end.0.slot ≡ c.slot) × (n.blocks ≡ caller.blocks) × (left_in n.seat.view < left_in caller.seat.view)
+        → IsSettling task end.0 n.seat.view × (end.0.slot ≡ c.slot) × (n.blocks ≡ caller.blocks) × (left_in n.seat.view < left_in caller.seat.view)
         × DropGoes end.1
     has_stepped n end st =
         let k = was_made (CanMake defers) (HasMade defers) shown_of caller (settle_plan defers c) n end (is_do c c.stands ne) st in
         let g = goes_on k.0 k.1 n k.2 in
         let same : end ≡ g.end = k.3 g.end
         (subst (λ (f : ℕ → Option T). FollowsBy f (settle_plan defers c) k.1 g.end) (sym (shows n g.end.0 g.seen g.now g.view)) g.follows) in (
-          (g.seen, g.now, g.view ∙ ap (λ (x : Settle × Settled T). Settles x.0 why g.seen g.now) (sym same)),
+          (
+            g.seen,
+            g.now,
+            stays_noted k.0 k.1 n (Settles end.0 task.why g.seen g.now) k.2
+                (g.view ∙ ap (λ (x : Settle × Settled T). Settles x.0 task.why g.seen g.now) (sym same)),
+          ),
           ap (λ (x : Settle × Settled T). x.0.slot) same ∙ g.slot,
           k.2.blocks,
-          (let before = ap left_in is.2 in let after = ap left_in g.view in let falls = g.falls in omega (arith, before, after, falls)),
+          (let before = ap left_in is.2 in let after = ap left_of g.view in let falls = g.falls in omega (arith, before, after, falls)),
           subst (λ (x : Settle × Settled T). DropGoes x.1) (sym same) g.further,
         )
 
@@ -124,24 +140,29 @@ module _ {T : Type 0} (defers : T → Option ℕ) (fixed : Fixed) (id : ℕ) whe
   some_same true o is = refl
   some_same false o is = absurd (cc is)
 
-  pub is_looked : (v : View T) (b : ℕ) → IsSome (shown_in v b)
+  known_looked : (v : View T) (b : ℕ) → IsSome (shown_in v b)
       → Shown (Holds defers fixed) id v b × ((y : T) → IsValueOf (Holds defers fixed) id v b y → shown_in v b ≡ Some y)
-  is_looked (Settles c why (Some (a, x)) left) b is =
+  known_looked (Settles c why (Some (a, x)) left) b is =
       let e : b ≡ a = eqb-true b a (some_same (b == a) (Some x) is) in
       let k = looked_are_shown T defers fixed id c why a left x in (
         subst (λ (n : ℕ). Shown (Holds defers fixed) id (Settles c why (Some (a, x)) left) n) (sym e) k.0,
         λ y of. ap (λ (z : Bool). if z then Some x else None) (some_same (b == a) (Some x) is)
             ∙ ap Some (sym (k.1 y (subst (λ (n : ℕ). IsValueOf (Holds defers fixed) id (Settles c why (Some (a, x)) left) n y) e of))),
       )
-  is_looked (Settles c why None left) b is = absurd (cc is)
-  is_looked Rests b is = absurd (cc is)
-  is_looked (Registers c) b is = absurd (cc is)
-  is_looked (Outside t) b is = absurd (cc is)
-  is_looked (Owes t d) b is = absurd (cc is)
-  is_looked (Enters t) b is = absurd (cc is)
-  is_looked (Inside t has) b is = absurd (cc is)
-  is_looked (Leaves t size way) b is = absurd (cc is)
-  is_looked (Left t size way) b is = absurd (cc is)
-  is_looked (Frees t) b is = absurd (cc is)
-  is_looked (Brings c x) b is = absurd (cc is)
-  is_looked (Bears c) b is = absurd (cc is)
+  known_looked (Settles c why None left) b is = absurd (cc is)
+  known_looked Rests b is = absurd (cc is)
+  known_looked (Registers c) b is = absurd (cc is)
+  known_looked (Outside t) b is = absurd (cc is)
+  known_looked (Owes t d) b is = absurd (cc is)
+  known_looked (Enters t) b is = absurd (cc is)
+  known_looked (Inside t has) b is = absurd (cc is)
+  known_looked (Leaves t size way) b is = absurd (cc is)
+  known_looked (Left t size way) b is = absurd (cc is)
+  known_looked (Frees t) b is = absurd (cc is)
+  known_looked (Brings c x) b is = absurd (cc is)
+  known_looked (Bears c) b is = absurd (cc is)
+
+  pub is_looked : (v : Noted T) (b : ℕ) → IsSome (shown_in v.knows b)
+      → Shown (NotedHolds defers fixed) id v b × ((y : T) → IsValueOf (NotedHolds defers fixed) id v b y → shown_in v.knows b ≡ Some y)
+  is_looked v b is =
+      let k = known_looked v.knows b is in let n = looks_are_noted T defers fixed id v b in (n.0 k.0, λ y of. k.1 y (n.1 y of))

@@ -11,16 +11,19 @@ use Rattle.seize_seats.specs.Lendings.{Shown, IsValueOf}
 use Rattle.seize_seats.specs.State.{Allows, Meets}
 use Rattle.seize_views.specs.Begun.{Hands}
 use Rattle.seize_views.specs.Promises.{IsLooking, IsTaker}
-use Rattle.seize_views.specs.Rows.{Holds, Keeps}
+use Rattle.seize_views.specs.Rows.{Holds}
+use Rattle.seize_views.specs.Notes.{NotedHolds, NotedKeeps, NotedHands, noted_told}
 use Rattle.seize_shared.specs.Standing.{brought_by, borne_by}
 use Rattle.seize_views.specs.Told.{alone_with, cut_in, told}
+use Rattle.seize_views.specs.declared.view.Noted.{Noted}
 use Rattle.seize_views.specs.declared.view.View.{View}
 use Rattle.seize_views.specs.declared.view.View.TheVariants.{Rests, Registers, Outside, Owes, Enters, Inside, Settles, Leaves, Left, Frees, Brings, Bears}
 use Rattle.seize_views.specs.declared.view.Has.{Has}
 use Rattle.seize_views.specs.declared.view.Has.TheVariants.{Nothing, Made, Seen, Both, Cut}
 use Rattle.seize_views.specs.declared.view.Fixed.{Fixed}
 use Rattle.seize_views.proofs.Blocks.{own_are_made, own_are_taken, own_are_shown, borne_are_shown}
-use Rattle.seize_shared.proofs.Calls.{whole_link}
+use Rattle.seize_shared.proofs.Calls.{by_view, whole_link}
+use Rattle.seize_views.proofs.Notes.{looks_are_noted, meetings_are_noted}
 use Rattle.seize_views.proofs.Handing.{borne_are_handed_on}
 use Rattle.seize_views.proofs.Roots.{beside_alone, own_are_linked, own_are_exchanged}
 
@@ -54,45 +57,49 @@ module _ {T : Type 0} where
   bears b (Frees t) e = absurd (cc e)
   bears b (Brings c x) e = absurd (cc e)
 
-module _ {T : Type 0} (defers : T → Option ℕ) (fixed : Fixed) (id : ℕ) (v : View T) where
+module _ {T : Type 0} (defers : T → Option ℕ) (fixed : Fixed) (id : ℕ) (v : Noted T) where
   abbrev MayMake : Op T → Type 0
-  MayMake op = Allows (Holds defers fixed) Keeps id v op (told defers v op)
+  MayMake op = Allows (NotedHolds defers fixed) NotedKeeps id v op (noted_told defers v op)
 
-  by_view : (w : View T) (op : Op T) → v ≡ w → Allows (Holds defers fixed) Keeps id w op (told defers w op) → MayMake op
-  by_view w op is may = subst (λ (x : View T). Allows (Holds defers fixed) Keeps id x op (told defers x op)) (sym is) may
+  pub may_make_own : v.knows ≡ Rests → (value : T) (words : ℕ) → HasListWord defers (defers value) words → MayMake (Make value words)
+  may_make_own is value words list = by_view defers fixed id v Rests (Make value words) is (own_are_made T defers value words list fixed id)
 
-  pub may_make_own : v ≡ Rests → (value : T) (words : ℕ) → HasListWord defers (defers value) words → MayMake (Make value words)
-  may_make_own is value words list = by_view Rests (Make value words) is (own_are_made T defers value words list fixed id)
+  pub may_take_own : (b : ℕ) → brought_by v.knows ≡ Some b → MayMake (Take b)
+  may_take_own b e = let k = brings b v.knows e in by_view defers fixed id v (Brings b k.0) (Take b) k.1 (own_are_taken T defers b k.0 fixed id)
 
-  pub may_take_own : (b : ℕ) → brought_by v ≡ Some b → MayMake (Take b)
-  may_take_own b e = let k = brings b v e in by_view (Brings b k.0) (Take b) k.1 (own_are_taken T defers b k.0 fixed id)
-
-  pub may_link_own : (b r word : ℕ) → brought_by v ≡ Some b → r < fixed.roots → b < 2 ^ 53 → word ≡ link_to b % 2 ^ 64 → MayMake (Swap (Root r) word)
+  pub may_link_own : (b r word : ℕ) → brought_by v.knows ≡ Some b → r < fixed.roots → b < 2 ^ 53 → word ≡ link_to b % 2 ^ 64 → MayMake (Swap (Root r) word)
   may_link_own b r word e lt fits link =
-      let k = brings b v e in
+      let k = brings b v.knows e in
       subst (λ (w : ℕ). MayMake (Swap (Root r) w)) (sym (link ∙ whole_link b fits))
-      (by_view (Brings b k.0) (Swap (Root r) (link_to b)) k.1 (own_are_linked T defers b k.0 r fixed id lt))
+      (by_view defers fixed id v (Brings b k.0) (Swap (Root r) (link_to b)) k.1 (own_are_linked T defers b k.0 r fixed id lt))
 
-  pub may_place : (b r word : ℕ) → brought_by v ≡ Some b → r < fixed.roots → b < 2 ^ 53 → word ≡ link_to b % 2 ^ 64 → MayMake (Exchange (Root r) 0 word)
+  pub may_place : (b r word : ℕ) → brought_by v.knows ≡ Some b → r < fixed.roots → b < 2 ^ 53 → word ≡ link_to b % 2 ^ 64 → MayMake (Exchange (Root r) 0 word)
   may_place b r word e lt fits link =
-      let k = brings b v e in
+      let k = brings b v.knows e in
       subst (λ (w : ℕ). MayMake (Exchange (Root r) 0 w)) (sym (link ∙ whole_link b fits))
-      (by_view (Brings b k.0) (Exchange (Root r) 0 (link_to b)) k.1 (own_are_exchanged T defers b k.0 r 0 fixed id lt))
+      (by_view defers fixed id v (Brings b k.0) (Exchange (Root r) 0 (link_to b)) k.1 (own_are_exchanged T defers b k.0 r 0 fixed id lt))
 
-  pub is_brought : (b : ℕ) → brought_by v ≡ Some b → Shown (Holds defers fixed) id v b
+  pub is_brought : (b : ℕ) → brought_by v.knows ≡ Some b → Shown (NotedHolds defers fixed) id v b
   is_brought b e =
-      let k = brings b v e in subst (λ (x : View T). Shown (Holds defers fixed) id x b) (sym k.1) (own_are_shown T defers fixed id b k.0).0
+      let k = brings b v.knows e in
+      (looks_are_noted T defers fixed id v b).0
+      (subst (λ (x : View T). Shown (Holds defers fixed) id x b) (sym k.1) (own_are_shown T defers fixed id b k.0).0)
 
-  pub brought_value : (b : ℕ) (x y : T) → v ≡ Brings b x → IsValueOf (Holds defers fixed) id v b y → y ≡ x
+  pub brought_value : (b : ℕ) (x y : T) → v.knows ≡ Brings b x → IsValueOf (NotedHolds defers fixed) id v b y → y ≡ x
   brought_value b x y is of =
-      (own_are_shown T defers fixed id b x).1 y (subst (λ (u : View T). IsValueOf (Holds defers fixed) id u b y) is of)
+      (own_are_shown T defers fixed id b x).1 y
+      (subst (λ (u : View T). IsValueOf (Holds defers fixed) id u b y) is ((looks_are_noted T defers fixed id v b).1 y of))
 
-  pub is_borne : (b : ℕ) → borne_by v ≡ Some b → Shown (Holds defers fixed) id v b
-  is_borne b e = subst (λ (x : View T). Shown (Holds defers fixed) id x b) (sym (bears b v e)) (borne_are_shown T defers fixed id b)
+  pub is_borne : (b : ℕ) → borne_by v.knows ≡ Some b → Shown (NotedHolds defers fixed) id v b
+  is_borne b e =
+      (looks_are_noted T defers fixed id v b).0
+      (subst (λ (x : View T). Shown (Holds defers fixed) id x b) (sym (bears b v.knows e)) (borne_are_shown T defers fixed id b))
 
-  pub may_hand_on : (j b : ℕ) (u : View T) → v ≡ Bears b → IsTaker u → Meets (Holds defers fixed) id v j u (Hands fixed v u)
+  pub may_hand_on : (j b : ℕ) (u : Noted T) → v.knows ≡ Bears b → IsTaker u.knows → Meets (NotedHolds defers fixed) id v j u (NotedHands fixed v u)
   may_hand_on j b u is takes =
-      subst (λ (x : View T). Meets (Holds defers fixed) id x j u (Hands fixed x u)) (sym is) (borne_are_handed_on T defers fixed id j b u takes)
+      meetings_are_noted T defers fixed id j v u
+      (subst (λ (x : View T). Meets (Holds defers fixed) id x j u.knows (Hands fixed x u.knows)) (sym is)
+      (borne_are_handed_on T defers fixed id j b u.knows takes))
 
 module _ {T : Type 0} (defers : T → Option ℕ) (v w : View T) where
   pub own_made_told : (words b : ℕ) (value : T) → v ≡ Rests → told defers v (Make value words) (OutMade (Ok b)) w → (w ≡ Brings b value) × (b < 2 ^ 53)

@@ -17,9 +17,8 @@ use Rattle.seize_straight.specs.declared.retiring.Retired.TheVariants as to
 use Rattle.seize_straight.proofs.Reclaimings.{leads_once, may_once}
 use Rattle.seize_straight.proofs.Running.{by_law}
 use Rattle.seize_views.specs.Begun.{IsBegun}
-use Rattle.seize_shared.specs.Made.{shown_of, left_in, CanMake, HasMade, IsSettling}
+use Rattle.seize_shared.specs.Made.{shown_of, left_in, CanMake, HasMade, IsSettling, Task, task_of}
 use Rattle.seize_views.specs.declared.view.Becomes.{Becomes}
-use Rattle.seize_views.specs.declared.view.Why.{Why}
 use Rattle.seize_views.specs.declared.view.Why.TheVariants.{Retiring}
 use Rattle.seize_shared.specs.declared.caller.Caller.{Caller}
 use Rattle.seize_shared.proofs.Calls.{settling_row}
@@ -31,15 +30,15 @@ over_is p e = grind arith
 not_over : (p : Settling) → is_over p ≡ false → p ≡ at.Over → ⊥
 not_over p e is = let over = ap is_over is in cc (e, over)
 
-module _ {T : Type 0} (defers : T → Option ℕ) (why : Why) where
+module _ {T : Type 0} (defers : T → Option ℕ) (task : Task T) where
   -- what was under way has come to this, in no more steps than were left
   abbrev pub Comes : Settle → Caller T → Settle → Caller T → Type 0
-  Comes c m d n = IsSettling why d n.seat.view × (d.slot ≡ c.slot) × (n.blocks ≡ m.blocks) × (left_in n.seat.view ≤ left_in m.seat.view)
+  Comes c m d n = IsSettling task d n.seat.view × (d.slot ≡ c.slot) × (n.blocks ≡ m.blocks) × (left_in n.seat.view ≤ left_in m.seat.view)
 
-  may_at : (c : Settle) (m : Caller T) → IsSettling why c m.seat.view → (over : Bool) → is_over c.stands ≡ over
+  may_at : (c : Settle) (m : Caller T) → IsSettling task c m.seat.view → (over : Bool) → is_over c.stands ≡ over
       → May (CanMake defers) (HasMade defers) shown_of m (settle_plan defers c)
   may_at c m is true e = subst (λ (p : Settling). May (CanMake defers) (HasMade defers) shown_of m (plan_at defers c p)) (sym (over_is c.stands e)) tt
-  may_at c m is false e = may_step defers m c why is (not_over c.stands e)
+  may_at c m is false e = may_step defers m c task is (not_over c.stands e)
 
   -- it has ended where it is over
   ends : (c d : Settle) (m n : Caller T) (told : Settled T) → Steps (HasMade defers) shown_of m (settle_plan defers c) n (d, told) → is_over c.stands ≡ true
@@ -49,50 +48,51 @@ module _ {T : Type 0} (defers : T → Option ℕ) (why : Why) where
       (h.0, ap (λ (x : Settle × Settled T). x.1) h.1)
 
   steps_to : (c d : Settle) (m n : Caller T) (told : Settled T) → DropGoes told → Steps (HasMade defers) shown_of m (settle_plan defers c) n (d, told)
-      → IsSettling why c m.seat.view → (over : Bool) → is_over c.stands ≡ over → Comes c m d n
+      → IsSettling task c m.seat.view → (over : Bool) → is_over c.stands ≡ over → Comes c m d n
   steps_to c d m n told so st is true e = absurd (subst (λ (t : Settled T). DropGoes t) (ends c d m n told st e).1 so)
   steps_to c d m n told so st is false e =
-      let k = has_stepped defers m c why is (not_over c.stands e) n (d, told) st in (k.0, k.1, k.2, (let falls = k.3 in omega (arith, falls)))
+      let k = has_stepped defers m c task is (not_over c.stands e) n (d, told) st in (k.0, k.1, k.2, (let falls = k.3 in omega (arith, falls)))
 
   -- it may be run, where what it gives back is dropped
-  pub may_drop : (c : Settle) (m : Caller T) → IsSettling why c m.seat.view → MayDrop defers (HasMade defers) shown_of (CanMake defers) c m
+  pub may_drop : (c : Settle) (m : Caller T) → IsSettling task c m.seat.view → MayDrop defers (HasMade defers) shown_of (CanMake defers) c m
   may_drop =
-      by_law DropGoes (HasMade defers) shown_of (settle_plan defers) (CanMake defers) (λ c m. IsSettling why c m.seat.view)
+      by_law DropGoes (HasMade defers) shown_of (settle_plan defers) (CanMake defers) (λ c m. IsSettling task c m.seat.view)
       (λ c m is. may_at c m is (is_over c.stands) refl)
       (λ c m is n d told so st. (steps_to c d m n told so st is (is_over c.stands) refl).0)
 
   -- and as far as it gives nothing back
-  pub may_run : (c : Settle) (m : Caller T) → IsSettling why c m.seat.view → MaySettle defers (HasMade defers) shown_of (CanMake defers) c m
+  pub may_run : (c : Settle) (m : Caller T) → IsSettling task c m.seat.view → MaySettle defers (HasMade defers) shown_of (CanMake defers) c m
   may_run c m is = may_once defers (CanMake defers) (HasMade defers) shown_of c m (may_drop c m is)
 
-  pub led : (c d : Settle) (m n : Caller T) → DropLeads defers (HasMade defers) shown_of c m d n → IsSettling why c m.seat.view → Comes c m d n
+  pub led : (c d : Settle) (m n : Caller T) → DropLeads defers (HasMade defers) shown_of c m d n → IsSettling task c m.seat.view → Comes c m d n
   led c d m n (none_taken _ _) is = (is, refl, refl, omega arith)
   led c d m n (one_more _ _ x k l told so _ _ st) is =
       let a = led c x m k l is in let b = steps_to x d k n told so st a.0 (is_over x.stands) refl in
       (b.0, b.1 ∙ a.1, b.2 ∙ a.2, (let before = a.3 in let after = b.3 in omega (arith, before, after)))
 
   -- what has told that it has ended is over
-  pub has_ended : (c : Settle) (m n : Caller T) → Tells (SettleGoes {T = T}) (HasMade defers) shown_of (settle_plan defers) c m n Done → IsSettling why c m.seat.view
+  pub has_ended : (c : Settle) (m n : Caller T) → Tells (SettleGoes {T = T}) (HasMade defers) shown_of (settle_plan defers) c m n Done → IsSettling task c m.seat.view
       → (d : Settle) × (d.stands ≡ at.Over) × Comes c m d n
   has_ended c m n (x, k, z, l, st, not) is =
       let a = led c x m k (leads_once defers (CanMake defers) (HasMade defers) shown_of c x m k l) is in over a (is_over x.stands) refl
     where
       over : Comes c m x k → (t : Bool) → is_over x.stands ≡ t → (d : Settle) × (d.stands ≡ at.Over) × Comes c m d n
       over a true e = (x, over_is x.stands e, subst (λ (o : Caller T). Comes c m x o) (sym (ends x z k n Done st e).0) a)
-      over a false e = absurd ((has_stepped defers k x why a.0 (not_over x.stands e) n (z, Done) st).4)
+      over a false e = absurd ((has_stepped defers k x task a.0 (not_over x.stands e) n (z, Done) st).4)
 
   -- a retirement that has stopped is the settling of that point
   pub has_stopped : (slot size block : ℕ) (stop : Retired) (m n : Caller T) → (stop ≡ to.Ended → ⊥)
       → SettleReaches defers (HasMade defers) shown_of (retiring slot size block) m n (retired slot size block stop)
-      → IsSettling why (retiring slot size block) m.seat.view → Comes (retiring slot size block) m (settle_at slot size block stop) n
+      → IsSettling task (retiring slot size block) m.seat.view → Comes (retiring slot size block) m (settle_at slot size block stop) n
   has_stopped slot size block to.Ended m n ne r is = absurd (ne refl)
   has_stopped slot size block stop m n ne r is =
       led (retiring slot size block) (settle_at slot size block stop) m n
       (leads_once defers (CanMake defers) (HasMade defers) shown_of (retiring slot size block) (settle_at slot size block stop) m n r) is
 
 -- a retirement that has begun is under way
-pub retirement_row : {T : Type 0} (m : Caller T) (slot link : ℕ) (way : Becomes) → IsBegun way (retiring slot m.blocks.now.words.fixed.batch_size link) m.seat.view
-    → IsSettling (Retiring way) (retiring slot m.batch_size link) m.seat.view
+pub retirement_row : {T : Type 0} (m : Caller T) (slot link : ℕ) (way : Becomes)
+    → IsBegun way (retiring slot m.blocks.now.words.fixed.batch_size link) m.seat.view.knows
+    → IsSettling (task_of (Retiring way) m.seat.view) (retiring slot m.batch_size link) m.seat.view
 retirement_row m slot link way is =
-    subst (λ (n : ℕ). IsSettling (Retiring way) (retiring slot n link) m.seat.view) m.sized
+    subst (λ (n : ℕ). IsSettling (task_of (Retiring way) m.seat.view) (retiring slot n link) m.seat.view) m.sized
     (settling_row way (retiring slot m.blocks.now.words.fixed.batch_size link) m.seat.view is)

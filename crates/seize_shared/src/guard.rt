@@ -1,5 +1,10 @@
 //! Guards of sections: what they have in common, one of a slot that stays on its thread, and one with a slot of its own that may be sent.
-ghost use Rattle.std.specs.Prelude.{◌≡◌, ◌≢◌, ◌<◌, ◌^◌, ℕ, Bool, None, IfOk, IfErr, IfNone, IfSome, true, false};
+ghost use Rattle.std.specs.Prelude.{◌≡◌, ◌≢◌, ◌<◌, ◌^◌, ◌⊎◌, ℕ, Bool, None, Some, IfOk, IfErr, IfNone, IfSome, true, false};
+ghost use Rattle.seize_shared.specs.Deeds.{has_put, has_taken};
+ghost use Rattle.seize_views.specs.declared.view.Began.{Began};
+ghost use Rattle.seize_views.specs.declared.view.Began.TheVariants.{Retirement, Section, Trial};
+ghost use Rattle.seize_views.specs.declared.view.Deed.{Deed};
+ghost use Rattle.seize_views.specs.declared.view.Deed.TheVariants.{Looked, Wrote};
 ghost use Rattle.seize_views.specs.declared.view.View.TheVariants.{Bears};
 
 use crate::owned::Unlinked;
@@ -35,6 +40,9 @@ impl<'a, T: Defers + Drop> Registration<'a, T> {
         ensures home { self.new.stay.caller.blocks ≡ self.old.stay.caller.blocks }
         ensures slot { self.new.stay.slot ≡ self.old.stay.slot }
         ensures closed { self.new.stay.inside ≡ false }
+        ensures taken { result ≡ true → has_taken self.new.stay.caller.seat.view.did ≡ Some root }
+        ensures none { result ≡ false → root < self.old.stay.caller.blocks.now.words.fixed.roots
+            → self.new.stay.caller.seat.view.did ≡ Wrote root None 0 }
     {
         self.stay.withdraws(root)
     }
@@ -44,6 +52,7 @@ impl<'a, T: Defers + Drop> Registration<'a, T> {
         requires home { old.blocks.now.words.id.views_name ≡ self.old.stay.caller.blocks.now.words.id.views_name }
         ensures home { self.new.stay.caller.blocks ≡ self.old.stay.caller.blocks }
         ensures slot { self.new.stay.slot ≡ self.old.stay.slot }
+        ensures began { self.new.stay.caller.seat.view.began ≡ Retirement }
     {
         self.stay.retires(old)
     }
@@ -54,6 +63,7 @@ impl<'a, T: Defers + Drop> Registration<'a, T> {
         ensures home { self.new.stay.caller.blocks ≡ self.old.stay.caller.blocks }
         ensures slot { self.new.stay.slot ≡ self.old.stay.slot }
         ensures closed { self.new.stay.inside ≡ false }
+        ensures began { self.new.stay.caller.seat.view.began ≡ Trial }
     {
         self.stay.closes();
         self.stay.flushes();
@@ -73,8 +83,8 @@ impl<'a, T: Defers + Drop> Registration<'a, T> {
 
 /// What guards of sections have in common, so that a call can take any of them.
 pub trait Guard<T: Defers> {
-    /// The memory that it is of.
-    ghost home: { Self → ℕ };
+    /// The memory that it is of, and how many roots that has.
+    ghost home: { Self → ℕ × ℕ };
 
     /// The slot of its section.
     ghost slot: { Self → ℕ };
@@ -88,6 +98,12 @@ pub trait Guard<T: Defers> {
     /// This is the value of that block, as it is while nothing else was seen.
     ghost lends: { Self → ℕ → T → Type 0 };
 
+    /// What it has done last at a root.
+    ghost did: { Self → Deed T };
+
+    /// What it has begun last on its slot.
+    ghost began: { Self → Began };
+
     /// The number of its slot.
     fn thread_id(&self) -> u64
         ensures { result ≡ slot self.now };
@@ -97,14 +113,18 @@ pub trait Guard<T: Defers> {
         ensures home { home self.new ≡ home self.old }
         ensures slot { slot self.new ≡ slot self.old }
         ensures inside { inside self.new ≡ true }
-        ensures fresh { seen self.new ≡ 0 };
+        ensures fresh { seen self.new ≡ 0 }
+        ensures began { began self.new ≡ Section };
 
-    /// Looks which value is at a root, and tells whether one is.
+    /// Looks which value is at a root, and tells whether one is. What it has seen before it doesn't know any more.
     fn see(&mut self, root: u64) -> bool
         ensures home { home self.new ≡ home self.old }
         ensures slot { slot self.new ≡ slot self.old }
         ensures inside { inside self.new ≡ inside self.old }
-        ensures seen { result ≡ true → seen self.new ≢ 0 };
+        ensures seen { result ≡ true → seen self.new ≢ 0 }
+        ensures looked { result ≡ true → did self.new ≡ Looked root (seen self.new) }
+        ensures none { result ≡ false → seen self.new ≡ 0 }
+        ensures empty { result ≡ false → inside self.old ≡ true → root < (home self.old).1 → did self.new ≡ Looked root 0 };
 
     /// The value that it has seen, if it has seen one since it began, or was refreshed.
     fn value(&self) -> Option<&T>
@@ -119,7 +139,8 @@ pub trait Guard<T: Defers> {
         ensures slot { slot self.new ≡ slot self.old }
         ensures inside { inside self.new ≡ true }
         ensures fresh { seen self.new ≡ 0 }
-        ensures back { IfErr result (λ back. back ≡ value) };
+        ensures back { IfErr result (λ back. back ≡ value) }
+        ensures put { IfOk result (λ _. has_put (did self.new) ≡ Some (root, value)) };
 
     /// Puts a value at a root if what it has seen last is there, or nothing where it has seen nothing, and retires that. Else the value comes back, and it has
     /// seen what is there. It comes back, too, where there is no such root, or no block can be made of it.
@@ -127,31 +148,38 @@ pub trait Guard<T: Defers> {
         ensures home { home self.new ≡ home self.old }
         ensures slot { slot self.new ≡ slot self.old }
         ensures inside { inside self.new ≡ inside self.old }
-        ensures back { IfErr result (λ back. back ≡ value) };
+        ensures back { IfErr result (λ back. back ≡ value) }
+        ensures put { IfOk result (λ _. did self.new ≡ Wrote root (Some value) (seen self.old)) }
+        ensures spent { IfOk result (λ _. seen self.new ≡ 0) }
+        ensures other { IfErr result (λ _. (did self.new ≡ Looked root (seen self.new)) ⊎ (seen self.new ≡ seen self.old)) };
 
     /// Takes the value from a root, and retires it; tells whether there was one. The section is begun anew.
     fn clear(&mut self, root: u64) -> bool
         ensures home { home self.new ≡ home self.old }
         ensures slot { slot self.new ≡ slot self.old }
         ensures inside { inside self.new ≡ true }
-        ensures fresh { seen self.new ≡ 0 };
+        ensures fresh { seen self.new ≡ 0 }
+        ensures taken { result ≡ true → has_taken (did self.new) ≡ Some root }
+        ensures none { result ≡ false → root < (home self.old).1 → did self.new ≡ Wrote root None 0 };
 
     /// Retires a block that a seat without a slot has unlinked, of the same memory (`Unlinked` does so by it). What it has seen it doesn't know any more.
     fn takes_over(&mut self, seat: &mut Seat<T, OfRows>, block: u64)
-        requires own { seat.old.base ≡ home self.old }
-        requires bears { seat.old.view ≡ Bears block }
+        requires own { seat.old.base ≡ (home self.old).0 }
+        requires bears { seat.old.view.knows ≡ Bears block }
         requires fits { block < 2 ^ 53 }
         ensures home { home self.new ≡ home self.old }
         ensures slot { slot self.new ≡ slot self.old }
         ensures inside { inside self.new ≡ inside self.old }
-        ensures fresh { seen self.new ≡ 0 };
+        ensures fresh { seen self.new ≡ 0 }
+        ensures began { began self.new ≡ Retirement };
 
     /// Tries the slot's batch, whatever its length. A value that is reclaimed is dropped. What it has seen it doesn't know any more.
     fn flush(&mut self)
         ensures home { home self.new ≡ home self.old }
         ensures slot { slot self.new ≡ slot self.old }
         ensures inside { inside self.new ≡ inside self.old }
-        ensures fresh { seen self.new ≡ 0 };
+        ensures fresh { seen self.new ≡ 0 }
+        ensures began { began self.new ≡ Trial };
 }
 
 /// A section that is open as long as this lives. What it has seen is there until its next step. It stays on its thread.
@@ -162,7 +190,7 @@ pub struct LocalGuard<'r, 'a, T: Defers + Drop> {
 impl<'r, 'a, T: Defers + Drop> Guard<T> for LocalGuard<'r, 'a, T> {
     ghost use Rattle.seize_shared.specs.Lent.{IsLent};
 
-    ghost home = { λ g. g.registration.now.stay.caller.blocks.now.words.id.views_name };
+    ghost home = { λ g. (g.registration.now.stay.caller.blocks.now.words.id.views_name, g.registration.now.stay.caller.blocks.now.words.fixed.roots) };
 
     ghost slot = { λ g. g.registration.now.stay.slot };
 
@@ -171,6 +199,10 @@ impl<'r, 'a, T: Defers + Drop> Guard<T> for LocalGuard<'r, 'a, T> {
     ghost seen = { λ g. g.registration.now.stay.seen };
 
     ghost lends = { λ g. IsLent T.defers g.registration.now.stay.caller };
+
+    ghost did = { λ g. g.registration.now.stay.caller.seat.view.did };
+
+    ghost began = { λ g. g.registration.now.stay.caller.seat.view.began };
 
     fn thread_id(&self) -> u64 {
         self.registration.stay.slot
@@ -242,7 +274,7 @@ impl<'a, T: Defers + Drop> OwnedGuard<'a, T> {
 impl<'a, T: Defers + Drop> Guard<T> for OwnedGuard<'a, T> {
     ghost use Rattle.seize_shared.specs.Lent.{IsLent};
 
-    ghost home = { λ g. g.stay.caller.blocks.now.words.id.views_name };
+    ghost home = { λ g. (g.stay.caller.blocks.now.words.id.views_name, g.stay.caller.blocks.now.words.fixed.roots) };
 
     ghost slot = { λ g. g.stay.slot };
 
@@ -251,6 +283,10 @@ impl<'a, T: Defers + Drop> Guard<T> for OwnedGuard<'a, T> {
     ghost seen = { λ g. g.stay.seen };
 
     ghost lends = { λ g. IsLent T.defers g.stay.caller };
+
+    ghost did = { λ g. g.stay.caller.seat.view.did };
+
+    ghost began = { λ g. g.stay.caller.seat.view.began };
 
     fn thread_id(&self) -> u64 {
         self.stay.slot

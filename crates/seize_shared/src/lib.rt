@@ -12,4 +12,4 @@ mod turns;
 pub use caller::Caller;
 pub use guard::{Guard, LocalGuard, OwnedGuard, Registration};
 pub use owned::{Owned, Unlinked};
-pub use seize_views::{Becomes, Fixed, Has, OfRows, View, Why};
+pub use seize_views::{Becomes, Began, Deed, Fixed, Has, Noted, OfRows, View, Why};

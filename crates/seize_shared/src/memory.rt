@@ -3,14 +3,15 @@ ghost use Rattle.std.specs.Prelude.{◌≡◌, ◌≢◌, ◌<◌, ◌^◌, ℕ,
 ghost use Rattle.seize.specs.declared.rows.settle.Settling.TheVariants.{Over};
 ghost use Rattle.seize.specs.Settle.{retiring};
 ghost use Rattle.seize_views.specs.Begun.{IsBegun, left_with};
-ghost use Rattle.seize_shared.specs.Made.{IsSettling, left_in};
+ghost use Rattle.seize_shared.specs.Made.{IsSettling, Task, left_in, task_of};
+ghost use Rattle.seize_views.specs.Notes.{SameNotes};
+ghost use Rattle.seize_views.specs.declared.view.Began.TheVariants.{Retirement, Section, Trial};
 ghost use Rattle.seize_views.specs.Promises.{IsLooking};
 ghost use Rattle.seize_views.specs.Told.{list_taken};
 ghost use Rattle.seize_views.specs.declared.view.Becomes.{Becomes};
 ghost use Rattle.seize_views.specs.declared.view.Has.{Has};
 ghost use Rattle.seize_views.specs.declared.view.Has.TheVariants.{Nothing, Cut};
 ghost use Rattle.seize_views.specs.declared.view.View.TheVariants.{Outside, Owes, Inside, Left};
-ghost use Rattle.seize_views.specs.declared.view.Why.{Why};
 ghost use Rattle.seize_views.specs.declared.view.Why.TheVariants as reason;
 
 use crate::caller::Caller;
@@ -32,9 +33,9 @@ fn is_over(row: &Settle) -> bool
 impl<'a, T: Defers> Caller<'a, T> {
     /// Takes the next step of a settling that is not over, and answers the value that it has reclaimed, if it has.
     fn steps(&mut self, row: &mut Settle) -> Option<T>
-        requires settling { (why : Why) × IsSettling why row.old self.old.seat.view }
+        requires settling { (task : Task T) × IsSettling task row.old self.old.seat.view }
         requires not { row.old.stands ≢ Over }
-        ensures settling { (why : Why) → IsSettling why row.old self.old.seat.view → IsSettling why row.new self.new.seat.view }
+        ensures settling { (task : Task T) → IsSettling task row.old self.old.seat.view → IsSettling task row.new self.new.seat.view }
         ensures falls { left_in self.new.seat.view < left_in self.old.seat.view }
         ensures slot { row.new.slot ≡ row.old.slot }
         ensures blocks { self.new.blocks ≡ self.old.blocks }
@@ -49,8 +50,8 @@ impl<'a, T: Defers> Caller<'a, T> {
 impl<'a, T: Defers + Drop> Caller<'a, T> {
     /// Takes a settling to its end: others can't make it longer. A value that is reclaimed is dropped.
     fn settles(&mut self, row: &mut Settle)
-        requires settling { (why : Why) × IsSettling why row.old self.old.seat.view }
-        ensures settling { (why : Why) → IsSettling why row.old self.old.seat.view → IsSettling why row.new self.new.seat.view }
+        requires settling { (task : Task T) × IsSettling task row.old self.old.seat.view }
+        ensures settling { (task : Task T) → IsSettling task row.old self.old.seat.view → IsSettling task row.new self.new.seat.view }
         ensures over { row.new.stands ≡ Over }
         ensures slot { row.new.slot ≡ row.old.slot }
         ensures blocks { self.new.blocks ≡ self.old.blocks }
@@ -63,8 +64,10 @@ impl<'a, T: Defers + Drop> Caller<'a, T> {
 
     /// Takes a settling to its end by which a block is retired, or a batch tried.
     fn ends(&mut self, row: Settle)
-        requires settling { (way : Becomes) × IsSettling (reason.Retiring way) row self.old.seat.view }
-        ensures rests { (way : Becomes) → IsSettling (reason.Retiring way) row self.old.seat.view → self.new.seat.view ≡ left_with way row.slot }
+        requires settling { (way : Becomes) × IsSettling (task_of (reason.Retiring way) self.old.seat.view) row self.old.seat.view }
+        ensures rests { (way : Becomes) → IsSettling (task_of (reason.Retiring way) self.old.seat.view) row self.old.seat.view
+            → self.new.seat.view.knows ≡ left_with way row.slot }
+        ensures notes { SameNotes self.old.seat.view self.new.seat.view }
         ensures blocks { self.new.blocks ≡ self.old.blocks }
     {
         let mut row = row;
@@ -74,9 +77,10 @@ impl<'a, T: Defers + Drop> Caller<'a, T> {
 
     /// Retires the block of this link, whose retirement has begun.
     fn retires(&mut self, slot: u64, link: u64)
-        requires begun { (way : Becomes) × IsBegun way (retiring slot self.old.blocks.now.words.fixed.batch_size link) self.old.seat.view }
-        ensures rests { (way : Becomes) → IsBegun way (retiring slot self.old.blocks.now.words.fixed.batch_size link) self.old.seat.view
-            → self.new.seat.view ≡ left_with way slot }
+        requires begun { (way : Becomes) × IsBegun way (retiring slot self.old.blocks.now.words.fixed.batch_size link) self.old.seat.view.knows }
+        ensures rests { (way : Becomes) → IsBegun way (retiring slot self.old.blocks.now.words.fixed.batch_size link) self.old.seat.view.knows
+            → self.new.seat.view.knows ≡ left_with way slot }
+        ensures notes { SameNotes self.old.seat.view self.new.seat.view }
         ensures blocks { self.new.blocks ≡ self.old.blocks }
     {
         let size = self.batch_size;
@@ -89,9 +93,10 @@ impl<'a, T: Defers + Drop> Caller<'a, T> {
 
     /// Counts a list down that was taken from its slot.
     fn counts_down(&mut self, slot: u64, head: u64)
-        requires taken { (way : Becomes) × (left : ℕ) × (self.old.seat.view ≡ list_taken slot self.old.blocks.now.words.fixed.batch_size way head left) }
-        ensures left { (way : Becomes) (left : ℕ) → self.old.seat.view ≡ list_taken slot self.old.blocks.now.words.fixed.batch_size way head left
-            → self.new.seat.view ≡ Left slot self.old.blocks.now.words.fixed.batch_size way }
+        requires taken { (way : Becomes) × (left : ℕ) × (self.old.seat.view.knows ≡ list_taken slot self.old.blocks.now.words.fixed.batch_size way head left) }
+        ensures left { (way : Becomes) (left : ℕ) → self.old.seat.view.knows ≡ list_taken slot self.old.blocks.now.words.fixed.batch_size way head left
+            → self.new.seat.view.knows ≡ Left slot self.old.blocks.now.words.fixed.batch_size way }
+        ensures notes { SameNotes self.old.seat.view self.new.seat.view }
         ensures blocks { self.new.blocks ≡ self.old.blocks }
     {
         if head <= ACTIVE {
@@ -104,8 +109,8 @@ impl<'a, T: Defers + Drop> Caller<'a, T> {
 
     /// Ends the section: what its slot's list owes is settled. A value that is reclaimed is dropped.
     pub fn leave(&mut self, slot: u64)
-        requires inside { (has : Has T) × IsLooking has × (self.old.seat.view ≡ Inside slot has) }
-        ensures outside { self.new.seat.view ≡ Outside slot }
+        requires inside { (has : Has T) × IsLooking has × (self.old.seat.view.knows ≡ Inside slot has) }
+        ensures outside { self.new.seat.view.knows ≡ Outside slot }
         ensures blocks { self.new.blocks ≡ self.old.blocks }
     {
         self.blocks.turn::<Leaving>(&mut self.seat);
@@ -116,8 +121,9 @@ impl<'a, T: Defers + Drop> Caller<'a, T> {
 
     /// Ends the section and begins the next one, by one step. What it has seen it doesn't know any more. A value that is reclaimed is dropped.
     pub fn refresh(&mut self, slot: u64)
-        requires inside { (has : Has T) × IsLooking has × (self.old.seat.view ≡ Inside slot has) }
-        ensures inside { self.new.seat.view ≡ Inside slot Nothing }
+        requires inside { (has : Has T) × IsLooking has × (self.old.seat.view.knows ≡ Inside slot has) }
+        ensures inside { self.new.seat.view.knows ≡ Inside slot Nothing }
+        ensures began { self.new.seat.view.began ≡ Section }
         ensures blocks { self.new.blocks ≡ self.old.blocks }
     {
         self.blocks.turn::<Refreshing>(&mut self.seat);
@@ -130,8 +136,9 @@ impl<'a, T: Defers + Drop> Caller<'a, T> {
 
     /// Tries its batch, whatever its length. A value that is reclaimed is dropped. What it has seen it doesn't know any more.
     pub fn flush(&mut self, slot: u64)
-        requires inside { (has : Has T) × IsLooking has × (self.old.seat.view ≡ Inside slot has) }
-        ensures inside { self.new.seat.view ≡ Inside slot Nothing }
+        requires inside { (has : Has T) × IsLooking has × (self.old.seat.view.knows ≡ Inside slot has) }
+        ensures inside { self.new.seat.view.knows ≡ Inside slot Nothing }
+        ensures began { self.new.seat.view.began ≡ Trial }
         ensures blocks { self.new.blocks ≡ self.old.blocks }
     {
         self.blocks.turn::<Flushing>(&mut self.seat);
@@ -140,8 +147,9 @@ impl<'a, T: Defers + Drop> Caller<'a, T> {
 
     /// Tries its batch, whatever its length, while no section of its slot is open. A value that is reclaimed is dropped.
     pub fn flush_idle(&mut self, slot: u64)
-        requires outside { self.old.seat.view ≡ Outside slot }
-        ensures outside { self.new.seat.view ≡ Outside slot }
+        requires outside { self.old.seat.view.knows ≡ Outside slot }
+        ensures outside { self.new.seat.view.knows ≡ Outside slot }
+        ensures began { self.new.seat.view.began ≡ Trial }
         ensures blocks { self.new.blocks ≡ self.old.blocks }
     {
         self.blocks.turn::<Flushing>(&mut self.seat);
@@ -150,9 +158,11 @@ impl<'a, T: Defers + Drop> Caller<'a, T> {
 
     /// Retires the block that it has taken from a root. A value that is reclaimed is dropped.
     pub fn retire(&mut self, slot: u64, block: u64)
-        requires cut { self.old.seat.view ≡ Inside slot (Cut block) }
+        requires cut { self.old.seat.view.knows ≡ Inside slot (Cut block) }
         requires fits { block < 2 ^ 53 }
-        ensures inside { self.new.seat.view ≡ Inside slot Nothing }
+        ensures inside { self.new.seat.view.knows ≡ Inside slot Nothing }
+        ensures began { self.new.seat.view.began ≡ Retirement }
+        ensures did { self.new.seat.view.did ≡ self.old.seat.view.did }
         ensures blocks { self.new.blocks ≡ self.old.blocks }
     {
         self.blocks.turn::<Retiring>(&mut self.seat);
@@ -161,9 +171,11 @@ impl<'a, T: Defers + Drop> Caller<'a, T> {
 
     /// Retires the block that it has taken from a root while no section of its slot was open, nor is. A value that is reclaimed is dropped.
     pub fn retire_idle(&mut self, slot: u64, block: u64)
-        requires owes { self.old.seat.view ≡ Owes slot block }
+        requires owes { self.old.seat.view.knows ≡ Owes slot block }
         requires fits { block < 2 ^ 53 }
-        ensures outside { self.new.seat.view ≡ Outside slot }
+        ensures outside { self.new.seat.view.knows ≡ Outside slot }
+        ensures began { self.new.seat.view.began ≡ Retirement }
+        ensures did { self.new.seat.view.did ≡ self.old.seat.view.did }
         ensures blocks { self.new.blocks ≡ self.old.blocks }
     {
         self.blocks.turn::<Retiring>(&mut self.seat);

@@ -1,8 +1,10 @@
 //! Blocks that have seats of their own, and so need no slot: one that was made, and one that was unlinked.
 ghost use Rattle.std.specs.Prelude.{◌≡◌, ◌<◌, ◌^◌, None, Some, IfOk, IfErr, IfSome};
 ghost use Rattle.seize_seats.specs.Lendings.{IsValueOf};
-ghost use Rattle.seize_views.specs.Rows.{Holds};
+ghost use Rattle.seize_views.specs.Notes.{NotedHolds};
 ghost use Rattle.seize_shared.specs.Standing.{brought_by, borne_by};
+ghost use Rattle.seize_views.specs.declared.view.Began.TheVariants.{Retirement};
+ghost use Rattle.seize_views.specs.declared.view.Deed.TheVariants.{Wrote};
 ghost use Rattle.seize_views.specs.declared.view.View.TheVariants.{Brings};
 
 use crate::caller::{named, words_for};
@@ -20,7 +22,7 @@ pub struct Owned<'a, T: Defers> {
     block: u64,
     ghost own: { seat.base ≡ blocks.now.words.id.views_name },
     ghost rooted: { blocks.now.words.fixed.roots ≡ roots },
-    ghost brings: { brought_by seat.view ≡ Some block },
+    ghost brings: { brought_by seat.view.knows ≡ Some block },
     ghost fits: { block < 2 ^ 53 },
 }
 
@@ -30,7 +32,7 @@ pub struct Unlinked<'a, T: Defers> {
     pub(crate) seat: Seat<T, OfRows>,
     pub(crate) block: u64,
     ghost own: { seat.base ≡ blocks.now.words.id.views_name },
-    ghost bears: { borne_by seat.view ≡ Some block },
+    ghost bears: { borne_by seat.view.knows ≡ Some block },
     ghost fits: { block < 2 ^ 53 },
 }
 
@@ -44,7 +46,7 @@ impl<'a, T: Defers> Owned<'a, T> {
         value: T,
     ) -> Result<Self, T>
         requires fixed { blocks.now.words.fixed ≡ fixed.now }
-        ensures made { IfOk result (λ owned. owned.seat.view ≡ Brings owned.block value) }
+        ensures made { IfOk result (λ owned. owned.seat.view.knows ≡ Brings owned.block value) }
         ensures home { IfOk result (λ owned. owned.blocks.now ≡ blocks.now) }
         ensures back { IfErr result (λ back. back ≡ value) }
     {
@@ -65,14 +67,14 @@ impl<'a, T: Defers> Owned<'a, T> {
 
     /// Its value, for as long as it is borrowed.
     pub fn value(&self) -> &T
-        ensures same { (value : T) → self.now.seat.view ≡ Brings self.now.block value → result.now ≡ value }
+        ensures same { (value : T) → self.now.seat.view.knows ≡ Brings self.now.block value → result.now ≡ value }
     {
         self.blocks.value(&self.seat, self.block)
     }
 
     /// Takes the block away, and answers its value.
     pub fn into_value(self) -> T
-        ensures back { (value : T) → self.entry.seat.view ≡ Brings self.entry.block value → result ≡ value }
+        ensures back { (value : T) → self.entry.seat.view.knows ≡ Brings self.entry.block value → result ≡ value }
     {
         let Owned {
             blocks,
@@ -88,6 +90,8 @@ impl<'a, T: Defers> Owned<'a, T> {
     pub fn publish(self, root: u64) -> Result<Option<Unlinked<'a, T>>, Self>
         ensures home { IfOk result (λ was. IfSome was (λ old. old.blocks.now ≡ self.entry.blocks.now)) }
         ensures back { IfErr result (λ back. back ≡ self.entry) }
+        ensures put { IfOk result (λ was. IfSome was (λ old. (value : T) → self.entry.seat.view.knows ≡ Brings self.entry.block value
+            → old.seat.view.did ≡ Wrote root (Some value) old.block)) }
     {
         if root >= self.roots {
             return Err(self);
@@ -114,7 +118,8 @@ impl<'a, T: Defers> Owned<'a, T> {
     pub fn place(self, root: u64) -> Result<(), Self>
         ensures home { IfErr result (λ back. back.blocks.now ≡ self.entry.blocks.now) }
         ensures block { IfErr result (λ back. back.block ≡ self.entry.block) }
-        ensures back { IfErr result (λ back. (value : T) → self.entry.seat.view ≡ Brings self.entry.block value → back.seat.view ≡ Brings back.block value) }
+        ensures back { IfErr result (λ back. (value : T) → self.entry.seat.view.knows ≡ Brings self.entry.block value
+            → back.seat.view.knows ≡ Brings back.block value) }
     {
         if root >= self.roots {
             return Err(self);
@@ -141,18 +146,19 @@ impl<'a, T: Defers> Owned<'a, T> {
 impl<'a, T: Defers> Unlinked<'a, T> {
     /// Its value, for as long as it is borrowed: others may look at it still, so it is only lent.
     pub fn value(&self) -> &T
-        ensures { IsValueOf (Holds T.defers self.now.blocks.now.words.fixed) self.now.seat.id self.now.seat.view self.now.block result.now }
+        ensures { IsValueOf (NotedHolds T.defers self.now.blocks.now.words.fixed) self.now.seat.id self.now.seat.view self.now.block result.now }
     {
         self.blocks.value(&self.seat, self.block)
     }
 
     /// Retires it under a guard of the same memory. What the guard has seen it doesn't know any more.
     pub fn retire<G: Guard<T>>(self, guard: &mut G)
-        requires home { self.blocks.now.words.id.views_name ≡ G.home guard.old }
+        requires home { self.blocks.now.words.id.views_name ≡ (G.home guard.old).0 }
         ensures home { G.home guard.new ≡ G.home guard.old }
         ensures slot { G.slot guard.new ≡ G.slot guard.old }
         ensures inside { G.inside guard.new ≡ G.inside guard.old }
         ensures fresh { G.seen guard.new ≡ 0 }
+        ensures began { G.began guard.new ≡ Retirement }
     {
         let Unlinked {
             blocks: _,

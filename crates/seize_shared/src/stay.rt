@@ -1,7 +1,10 @@
 //! A slot that is held, and its section, which is open or not.
-ghost use Rattle.std.specs.Prelude.{◌≡◌, ◌≢◌, ◌<◌, ◌^◌, None, Some, IfOk, IfErr, IfNone, IfSome, true, false};
+ghost use Rattle.std.specs.Prelude.{◌≡◌, ◌≢◌, ◌<◌, ◌^◌, ◌⊎◌, None, Some, IfOk, IfErr, IfNone, IfSome, true, false};
+ghost use Rattle.seize_shared.specs.Deeds.{has_put, has_taken};
 ghost use Rattle.seize_shared.specs.Lent.{IsLent};
 ghost use Rattle.seize_shared.specs.Standing.{standing};
+ghost use Rattle.seize_views.specs.declared.view.Began.TheVariants.{Retirement, Section, Trial};
+ghost use Rattle.seize_views.specs.declared.view.Deed.TheVariants.{Looked, Wrote};
 ghost use Rattle.seize_views.specs.declared.view.View.TheVariants.{Bears};
 
 use crate::caller::Caller;
@@ -18,7 +21,7 @@ pub(crate) struct Stay<'a, T: Defers + Drop> {
     roots: u64,
     pub(crate) inside: bool,
     seen: u64,
-    ghost stands: { standing caller.seat.view ≡ Some (slot, inside, seen) },
+    ghost stands: { standing caller.seat.view.knows ≡ Some (slot, inside, seen) },
     ghost rooted: { caller.blocks.now.words.fixed.roots ≡ roots },
     ghost fits: { seen < 2 ^ 53 },
 }
@@ -46,6 +49,7 @@ impl<'a, T: Defers + Drop> Stay<'a, T> {
         ensures slot { self.new.slot ≡ self.old.slot }
         ensures inside { self.new.inside ≡ true }
         ensures fresh { self.new.seen ≡ 0 }
+        ensures began { self.new.caller.seat.view.began ≡ Section }
     {
         if self.inside {
             self.caller.refresh(self.slot);
@@ -69,15 +73,32 @@ impl<'a, T: Defers + Drop> Stay<'a, T> {
         self.seen = 0;
     }
 
-    /// Looks which block is at a root, and tells whether one is, where its section is open. What was seen before is not known any more, if there is such a
-    /// root.
+    /// Lets go of what was seen.
+    fn forgets(&mut self)
+        ensures home { self.new.caller.blocks ≡ self.old.caller.blocks }
+        ensures slot { self.new.slot ≡ self.old.slot }
+        ensures inside { self.new.inside ≡ self.old.inside }
+        ensures fresh { self.new.seen ≡ 0 }
+    {
+        if self.inside {
+            self.caller.forgets(self.slot);
+        }
+        self.seen = 0;
+    }
+
+    /// Looks which block is at a root, and tells whether one is, where its section is open. What was seen before is not known any more.
     pub(crate) fn sees(&mut self, root: u64) -> bool
         ensures home { self.new.caller.blocks ≡ self.old.caller.blocks }
         ensures slot { self.new.slot ≡ self.old.slot }
         ensures inside { self.new.inside ≡ self.old.inside }
         ensures seen { result ≡ true → self.new.seen ≢ 0 }
+        ensures looked { result ≡ true → self.new.caller.seat.view.did ≡ Looked root self.new.seen }
+        ensures none { result ≡ false → self.new.seen ≡ 0 }
+        ensures empty { result ≡ false → self.old.inside ≡ true → root < self.old.caller.blocks.now.words.fixed.roots
+            → self.new.caller.seat.view.did ≡ Looked root 0 }
     {
         if !self.inside || root >= self.roots {
+            self.forgets();
             return false;
         }
         match self.caller.see(self.slot, root) {
@@ -112,6 +133,7 @@ impl<'a, T: Defers + Drop> Stay<'a, T> {
         ensures inside { self.new.inside ≡ true }
         ensures fresh { self.new.seen ≡ 0 }
         ensures back { IfErr result (λ back. back ≡ value) }
+        ensures put { IfOk result (λ _. has_put self.new.caller.seat.view.did ≡ Some (root, value)) }
     {
         self.refreshes();
         if root >= self.roots {
@@ -134,6 +156,9 @@ impl<'a, T: Defers + Drop> Stay<'a, T> {
         ensures slot { self.new.slot ≡ self.old.slot }
         ensures inside { self.new.inside ≡ self.old.inside }
         ensures back { IfErr result (λ back. back ≡ value) }
+        ensures put { IfOk result (λ _. self.new.caller.seat.view.did ≡ Wrote root (Some value) self.old.seen) }
+        ensures spent { IfOk result (λ _. self.new.seen ≡ 0) }
+        ensures other { IfErr result (λ _. (self.new.caller.seat.view.did ≡ Looked root self.new.seen) ⊎ (self.new.seen ≡ self.old.seen)) }
     {
         if !self.inside || root >= self.roots {
             return Err(value);
@@ -163,6 +188,9 @@ impl<'a, T: Defers + Drop> Stay<'a, T> {
         ensures home { self.new.caller.blocks ≡ self.old.caller.blocks }
         ensures slot { self.new.slot ≡ self.old.slot }
         ensures closed { self.new.inside ≡ false }
+        ensures taken { result ≡ true → has_taken self.new.caller.seat.view.did ≡ Some root }
+        ensures none { result ≡ false → root < self.old.caller.blocks.now.words.fixed.roots
+            → self.new.caller.seat.view.did ≡ Wrote root None 0 }
     {
         self.closes();
         if root >= self.roots {
@@ -183,6 +211,9 @@ impl<'a, T: Defers + Drop> Stay<'a, T> {
         ensures slot { self.new.slot ≡ self.old.slot }
         ensures inside { self.new.inside ≡ true }
         ensures fresh { self.new.seen ≡ 0 }
+        ensures taken { result ≡ true → has_taken self.new.caller.seat.view.did ≡ Some root }
+        ensures none { result ≡ false → root < self.old.caller.blocks.now.words.fixed.roots
+            → self.new.caller.seat.view.did ≡ Wrote root None 0 }
     {
         self.refreshes();
         if root >= self.roots {
@@ -200,12 +231,13 @@ impl<'a, T: Defers + Drop> Stay<'a, T> {
     /// Retires a block that another seat has unlinked, which has no slot, whether a section is open or not. What was seen before is not known any more.
     pub(crate) fn takes_over(&mut self, seat: &mut Seat<T, OfRows>, block: u64)
         requires own { seat.old.base ≡ self.old.caller.blocks.now.words.id.views_name }
-        requires bears { seat.old.view ≡ Bears block }
+        requires bears { seat.old.view.knows ≡ Bears block }
         requires fits { block < 2 ^ 53 }
         ensures home { self.new.caller.blocks ≡ self.old.caller.blocks }
         ensures slot { self.new.slot ≡ self.old.slot }
         ensures inside { self.new.inside ≡ self.old.inside }
         ensures fresh { self.new.seen ≡ 0 }
+        ensures began { self.new.caller.seat.view.began ≡ Retirement }
     {
         self.caller.takes_over(self.slot, seat, block);
         if self.inside {
@@ -223,6 +255,7 @@ impl<'a, T: Defers + Drop> Stay<'a, T> {
         ensures slot { self.new.slot ≡ self.old.slot }
         ensures inside { self.new.inside ≡ self.old.inside }
         ensures fresh { self.new.seen ≡ 0 }
+        ensures began { self.new.caller.seat.view.began ≡ Retirement }
     {
         let Unlinked {
             blocks: _,
@@ -239,6 +272,7 @@ impl<'a, T: Defers + Drop> Stay<'a, T> {
         ensures slot { self.new.slot ≡ self.old.slot }
         ensures inside { self.new.inside ≡ self.old.inside }
         ensures fresh { self.new.seen ≡ 0 }
+        ensures began { self.new.caller.seat.view.began ≡ Trial }
     {
         if self.inside {
             self.caller.flush(self.slot);

@@ -1,6 +1,6 @@
 //! The steps of a seat, or of two, that make no operation.
 use seize_blocks::{Meeting, Turn};
-use seize_views::{Fixed, View};
+use seize_views::{Fixed, Noted};
 
 /// Registering begins.
 pub(crate) struct Registering;
@@ -20,6 +20,9 @@ pub(crate) struct Leaving;
 /// Refreshing begins.
 pub(crate) struct Refreshing;
 
+/// What was seen is let go.
+pub(crate) struct Forgetting;
+
 /// What was begun ends.
 pub(crate) struct Ending;
 
@@ -29,56 +32,75 @@ pub(crate) struct Freeing;
 /// A block that was unlinked is handed on.
 pub(crate) struct Handing;
 
-impl<T> Turn<Fixed, View<T>> for Registering {
+impl<T> Turn<Fixed, Noted<T>> for Registering {
     ghost use Rattle.seize_views.specs.Begun.{registering, Makes};
+    ghost use Rattle.seize_views.specs.Notes.{Notes, still};
 
-    ghost to = { Makes registering };
+    ghost to = { Notes (Makes registering) still };
 }
 
-impl<T> Turn<Fixed, View<T>> for Entering {
+impl<T> Turn<Fixed, Noted<T>> for Entering {
     ghost use Rattle.seize_views.specs.Begun.{entering, Makes};
+    ghost use Rattle.seize_views.specs.Notes.{Notes};
+    ghost use Rattle.seize_views.specs.declared.view.Began.TheVariants.{Section};
 
-    ghost to = { Makes entering };
+    ghost to = { Notes (Makes entering) (λ _. Section) };
 }
 
-impl<T> Turn<Fixed, View<T>> for Retiring {
+impl<T> Turn<Fixed, Noted<T>> for Retiring {
     ghost use Rattle.seize_views.specs.Begun.{Retires};
+    ghost use Rattle.seize_views.specs.Notes.{Notes};
+    ghost use Rattle.seize_views.specs.declared.view.Began.TheVariants.{Retirement};
 
-    ghost to = { Retires };
+    ghost to = { Notes Retires (λ _. Retirement) };
 }
 
-impl<T> Turn<Fixed, View<T>> for Flushing {
+impl<T> Turn<Fixed, Noted<T>> for Flushing {
     ghost use Rattle.seize_views.specs.Begun.{Flushes};
+    ghost use Rattle.seize_views.specs.Notes.{Notes};
+    ghost use Rattle.seize_views.specs.declared.view.Began.TheVariants.{Trial};
 
-    ghost to = { Flushes };
+    ghost to = { Notes Flushes (λ _. Trial) };
 }
 
-impl<T> Turn<Fixed, View<T>> for Leaving {
+impl<T> Turn<Fixed, Noted<T>> for Leaving {
     ghost use Rattle.seize_views.specs.Begun.{leaving, Makes};
+    ghost use Rattle.seize_views.specs.Notes.{Notes, still};
 
-    ghost to = { Makes leaving };
+    ghost to = { Notes (Makes leaving) still };
 }
 
-impl<T> Turn<Fixed, View<T>> for Refreshing {
+impl<T> Turn<Fixed, Noted<T>> for Refreshing {
     ghost use Rattle.seize_views.specs.Begun.{refreshes, Makes};
+    ghost use Rattle.seize_views.specs.Notes.{Notes};
+    ghost use Rattle.seize_views.specs.declared.view.Began.TheVariants.{Section};
 
-    ghost to = { Makes refreshes };
+    ghost to = { Notes (Makes refreshes) (λ _. Section) };
 }
 
-impl<T> Turn<Fixed, View<T>> for Ending {
+impl<T> Turn<Fixed, Noted<T>> for Forgetting {
+    ghost use Rattle.seize_views.specs.Begun.{forgetting, Makes};
+    ghost use Rattle.seize_views.specs.Notes.{Notes, still};
+
+    ghost to = { Notes (Makes forgetting) still };
+}
+
+impl<T> Turn<Fixed, Noted<T>> for Ending {
     ghost use Rattle.seize_views.specs.Begun.{ended, Makes};
+    ghost use Rattle.seize_views.specs.Notes.{Notes, still};
 
-    ghost to = { Makes ended };
+    ghost to = { Notes (Makes ended) still };
 }
 
-impl<T> Turn<Fixed, View<T>> for Freeing {
+impl<T> Turn<Fixed, Noted<T>> for Freeing {
     ghost use Rattle.seize_views.specs.Begun.{freeing, Makes};
+    ghost use Rattle.seize_views.specs.Notes.{Notes, still};
 
-    ghost to = { Makes freeing };
+    ghost to = { Notes (Makes freeing) still };
 }
 
-impl<T> Meeting<Fixed, View<T>> for Handing {
-    ghost use Rattle.seize_views.specs.Begun.{Hands};
+impl<T> Meeting<Fixed, Noted<T>> for Handing {
+    ghost use Rattle.seize_views.specs.Notes.{NotedHands};
 
-    ghost to = { Hands };
+    ghost to = { NotedHands };
 }

@@ -1,7 +1,7 @@
 -- A word that only grows: steps of seats keep what is said of it, and two seats may meet.
 use Rattle.std.specs.Prelude.{◌≡◌, ◌≤◌, ◌<◌, ◌⊎◌, ℕ, zero, suc, List, [], ◌∷◌, ◌++◌, Some, Ok, Err, is_some, slice_get, slice_set}
 use Rattle.std.proofs.Common.{ap, refl, sym, ◌∙◌, inl, inr, arith}
-use Rattle.std.proofs.lemmas.Bool.{cases_eq, cases_lt}
+use Rattle.std.proofs.lemmas.Bool.{cases_lt}
 use Rattle.seize_words.specs.Mem.{Mem, Took, word_at}
 use Rattle.seize_words.specs.Op.{Out, Load, Exchange, Found, Stored, Exchanged, Made, Taken, Roomed}
 use Rattle.seize_words.specs.declared.at.At.TheVariants.{Root}

@@ -57,7 +57,7 @@ fn brings_all(blocks: &Blocks<Counted, OfRows>, drops: &Table, from: usize) -> O
     Some(put)
 }
 
-/// One who brings values, and one who sees and puts some under guards, over one memory, which ends then; tells whether both put some, and none of those that were seen had
+/// One who brings values, and one who sees and puts some under guards, over one memory, which ends then; tells whether both put theirs, and none of those that were seen had
 /// been dropped.
 fn both<R: Threads + Sync>(rt: &R, alloc: Global, drops: &Table) -> Result<bool, AllocError> {
     let home = Home::<Counted, OfRows>::open(alloc, 1, 4096, &CHOSEN)?;
@@ -68,7 +68,7 @@ fn both<R: Threads + Sync>(rt: &R, alloc: Global, drops: &Table) -> Result<bool,
         || goes(blocks, drops, 0),
     );
     match put {
-        Some(put) => Ok(put > 0 && went(met)),
+        Some(put) => Ok(put == TIMES as u64 && went(met)),
         None => Ok(false),
     }
 }

@@ -54,15 +54,15 @@ pub(crate) fn goes(
     if fresh { Some((seen, put)) } else { None }
 }
 
-/// Whether one of them has seen values, and has put some.
+/// Whether one of them has seen values, and has put each of its own.
 pub(crate) fn went(met: Option<(u64, u64)>) -> bool {
     match met {
-        Some((seen, put)) => seen > 0 && put > 0,
+        Some((seen, put)) => seen > 0 && put == TIMES as u64,
         None => false,
     }
 }
 
-/// Two of them over one memory, which ends then; tells whether both saw values and put some, and none of those that they saw had been dropped.
+/// Two of them over one memory, which ends then; tells whether both saw values and put theirs, and none of those that they saw had been dropped.
 fn both<R: Threads + Sync>(rt: &R, alloc: Global, drops: &Table) -> Result<bool, AllocError> {
     let home = Home::<Counted, OfRows>::open(alloc, 1, 4096, &CHOSEN)?;
     let blocks = &home.blocks;
@@ -174,45 +174,83 @@ fn seen(guard: &LocalGuard<'_, '_, Counted>) -> Option<usize> {
     }
 }
 
-/// Looks at the root, where nothing is, puts a value there and sees it, begins the section anew, and puts one at a root that is not there; tells whether each
-/// call answers so.
-fn puts_and_sees(guard: &mut LocalGuard<'_, '_, Counted>, drops: &Table) -> Option<bool> {
-    let empty = !guard.see(0) && seen(guard).is_none();
-    let put = guard.put(0, Counted::of(drops, 0)?).is_ok() && seen(guard).is_none();
-    let sees = guard.see(0) && seen(guard) == Some(0);
-    guard.refresh();
-    let forgets = seen(guard).is_none();
-    let back = match guard.put(1, Counted::of(drops, 1)?) {
-        Ok(()) => false,
-        Err(value) => value.place == 1,
-    };
-    Some(empty && put && sees && forgets && back)
+/// The place of a value that has come back.
+fn back(came: Result<(), Counted>) -> Option<usize> {
+    match came {
+        Ok(()) => None,
+        Err(value) => Some(value.place),
+    }
 }
 
-/// Takes the value from the root, once, tries the batch, and begins the section anew; tells whether the value was dropped just then.
-fn takes(guard: &mut LocalGuard<'_, '_, Counted>, drops: &Table) -> bool {
-    let taken = guard.clear(0) && !guard.clear(0);
+/// What a guard answers, and the place that it has seen then, as it looks at the root.
+fn looks(guard: &mut LocalGuard<'_, '_, Counted>) -> (bool, Option<usize>) {
+    let is = guard.see(0);
+    (is, seen(guard))
+}
+
+/// Puts a value at the root and looks at it, begins the section anew, and puts one at a root that is not there; answers what was seen once it had put, as it
+/// looked, and once the section had begun, and the place that came back.
+fn puts_and_sees(
+    guard: &mut LocalGuard<'_, '_, Counted>,
+    first: Counted,
+    second: Counted,
+) -> (
+    Option<usize>,
+    (bool, Option<usize>),
+    Option<usize>,
+    Option<usize>,
+) {
+    drop(guard.put(0, first));
+    let put = seen(guard);
+    let sees = looks(guard);
+    guard.refresh();
+    let fresh = seen(guard);
+    (put, sees, fresh, back(guard.put(1, second)))
+}
+
+/// Looks at a root that is not there once it has seen a value; answers what it was told, and what it has seen then.
+fn looks_aside(guard: &mut LocalGuard<'_, '_, Counted>) -> (bool, bool, Option<usize>) {
+    let is = guard.see(0);
+    let aside = guard.see(1);
+    (is, aside, seen(guard))
+}
+
+/// Takes the value from the root, twice, tries the batch, and begins the section anew; answers what the calls did, and how often the value was dropped before
+/// the section began anew, and then.
+fn takes(guard: &mut LocalGuard<'_, '_, Counted>, drops: &Table) -> (bool, bool, u64, u64) {
+    let first = guard.clear(0);
+    let second = guard.clear(0);
     guard.flush();
-    let kept = dropped(drops, 0) == 0;
+    let before = dropped(drops, 0);
     guard.refresh();
-    taken && kept && dropped(drops, 0) == 1
+    (first, second, before, dropped(drops, 0))
 }
 
-/// One after the other, under one guard.
-fn calls(blocks: &Blocks<Counted, OfRows>, drops: &Table) -> Option<bool>
+/// One after the other, under one guard; whether each call answers as it should.
+fn calls(guard: &mut LocalGuard<'_, '_, Counted>, drops: &Table) -> Option<bool> {
+    let first = Counted::of(drops, 0)?;
+    let second = Counted::of(drops, 1)?;
+    let empty = looks(guard) == (false, None);
+    let put = puts_and_sees(guard, first, second) == (None, (true, Some(0)), None, Some(1));
+    let aside = looks_aside(guard) == (true, false, None);
+    let taken = takes(guard, drops) == (true, false, 0, 1);
+    Some(empty && put && aside && taken)
+}
+
+/// The same over a memory.
+fn calls_in(blocks: &Blocks<Counted, OfRows>, drops: &Table) -> Option<bool>
     requires { blocks.now.words.fixed ≡ record { batch_size = 5; roots = 1 } }
 {
     let mut registration = Registration::new(blocks, &CHOSEN).ok()?;
     let mut guard = registration.enter();
-    let put = puts_and_sees(&mut guard, drops)?;
-    Some(takes(&mut guard, drops) && put)
+    calls(&mut guard, drops)
 }
 
 #[test]
 fn a_guard_sees_what_it_has_put_and_drops_what_it_has_taken(rt: HostRuntime) -> Result<(), Fail> {
     let drops = table(rt.alloc(), 2)?;
     let home = Home::<Counted, OfRows>::open(rt.alloc(), 1, 64, &CHOSEN)?;
-    assert_eq!(rt; calls(&home.blocks, &drops), Some(true));
+    assert_eq!(rt; calls_in(&home.blocks, &drops), Some(true));
     assert!(rt; all_are(&drops, 2, 1));
     Ok(())
 }
@@ -222,11 +260,12 @@ fn puts_by<G: Guard<Counted>>(guard: &mut G, drops: &Table, place: usize) -> Opt
     ensures { IfSome result (λ slot. slot ≡ G.slot guard.old) }
 {
     guard.put(0, Counted::of(drops, place)?).ok()?;
-    if guard.see(0) && guard.value()?.place == place {
-        Some(guard.thread_id())
-    } else {
-        None
-    }
+    guard.see(0);
+    let there = match guard.value() {
+        Some(value) => value.place == place,
+        None => false,
+    };
+    if there { Some(guard.thread_id()) } else { None }
 }
 
 /// The slots of a guard that stays on its thread and of one that may be sent, which put a value one after the other.

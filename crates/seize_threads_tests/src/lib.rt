@@ -18,6 +18,8 @@ mod idle;
 #[cfg(test)]
 mod lending;
 #[cfg(test)]
+mod lists;
+#[cfg(test)]
 mod looking;
 #[cfg(test)]
 mod making;

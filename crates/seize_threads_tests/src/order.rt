@@ -52,9 +52,9 @@ impl Defers for Numbered {
 
 /// Puts the value of a place at the root, and retires the one that was there; tells whether it is there.
 fn puts(caller: &mut Caller<'_, Numbered>, slot: u64, numbers: &Table, place: usize) -> bool
-    requires inside { caller.old.seat.view ≡ Inside slot Nothing }
+    requires inside { caller.old.seat.view.knows ≡ Inside slot Nothing }
     requires root { 0 < caller.old.blocks.now.words.fixed.roots }
-    ensures inside { caller.new.seat.view ≡ Inside slot Nothing }
+    ensures inside { caller.new.seat.view.knows ≡ Inside slot Nothing }
     ensures blocks { caller.new.blocks ≡ caller.old.blocks }
 {
     let Ok(numbers) = Arc::try_clone(numbers) else {
@@ -91,9 +91,9 @@ fn retires(ground: &Ground<'_, Numbered>, numbers: &Table) -> Option<u64> {
 
 /// Takes the value from the root, if there is one, and retires it.
 fn clears(caller: &mut Caller<'_, Numbered>, slot: u64)
-    requires inside { caller.old.seat.view ≡ Inside slot Nothing }
+    requires inside { caller.old.seat.view.knows ≡ Inside slot Nothing }
     requires root { 0 < caller.old.blocks.now.words.fixed.roots }
-    ensures inside { caller.new.seat.view ≡ Inside slot Nothing }
+    ensures inside { caller.new.seat.view.knows ≡ Inside slot Nothing }
     ensures blocks { caller.new.blocks ≡ caller.old.blocks }
 {
     if let Some(old) = caller.remove(slot, 0) {

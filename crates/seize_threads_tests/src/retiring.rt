@@ -63,9 +63,9 @@ impl Defers for Counted {
 /// Puts the value of a place at the root, and retires the one that was there; tells whether it is there, and the other one had not been dropped. Where no
 /// number is free it is dropped.
 pub(crate) fn puts(caller: &mut Caller<'_, Counted>, slot: u64, drops: &Table, place: usize) -> bool
-    requires inside { caller.old.seat.view ≡ Inside slot Nothing }
+    requires inside { caller.old.seat.view.knows ≡ Inside slot Nothing }
     requires root { 0 < caller.old.blocks.now.words.fixed.roots }
-    ensures inside { caller.new.seat.view ≡ Inside slot Nothing }
+    ensures inside { caller.new.seat.view.knows ≡ Inside slot Nothing }
     ensures blocks { caller.new.blocks ≡ caller.old.blocks }
 {
     let Some(value) = Counted::of(drops, place) else {
@@ -87,9 +87,9 @@ pub(crate) fn puts(caller: &mut Caller<'_, Counted>, slot: u64, drops: &Table, p
 
 /// Takes the value from the root, if there is one, and retires it.
 pub(crate) fn clears(caller: &mut Caller<'_, Counted>, slot: u64)
-    requires inside { caller.old.seat.view ≡ Inside slot Nothing }
+    requires inside { caller.old.seat.view.knows ≡ Inside slot Nothing }
     requires root { 0 < caller.old.blocks.now.words.fixed.roots }
-    ensures inside { caller.new.seat.view ≡ Inside slot Nothing }
+    ensures inside { caller.new.seat.view.knows ≡ Inside slot Nothing }
     ensures blocks { caller.new.blocks ≡ caller.old.blocks }
 {
     if let Some(old) = caller.remove(slot, 0) {
@@ -120,9 +120,9 @@ fn writes(ground: &Ground<'_, Counted>, drops: &Table, times: usize) -> Option<u
 
 /// Looks at the root within a section, and tells whether the value that it has seen there had been dropped, if there was one.
 pub(crate) fn looks(caller: &mut Caller<'_, Counted>, slot: u64) -> Option<bool>
-    requires outside { caller.old.seat.view ≡ Outside slot }
+    requires outside { caller.old.seat.view.knows ≡ Outside slot }
     requires root { 0 < caller.old.blocks.now.words.fixed.roots }
-    ensures outside { caller.new.seat.view ≡ Outside slot }
+    ensures outside { caller.new.seat.view.knows ≡ Outside slot }
     ensures blocks { caller.new.blocks ≡ caller.old.blocks }
 {
     caller.enter(slot);

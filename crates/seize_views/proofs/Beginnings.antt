@@ -26,7 +26,7 @@ use Rattle.seize_seats.specs.State.{State, view_of, Turns, Comes, Starts}
 use Rattle.seize_acts.specs.Waits.{SettlesOn}
 use Rattle.seize_views.specs.Begun.{IsBegun, left_with}
 use Rattle.seize_bounds.specs.Bounds.{IsToTry, IsAloneOnSlot, TriesWithin}
-use Rattle.seize_views.specs.Rows.{row_of, use_of, used_for, hand_of, leave_of, counting, IsCut, IsShort, IsUsed, IsKnown, Fits, Came, IsBounded, Holds, Keeps}
+use Rattle.seize_views.specs.Rows.{row_of, use_of, used_for, hand_of, had_in, leave_of, counting, IsCut, IsShort, IsUsed, IsKnown, Fits, Came, IsBounded, Holds, Keeps}
 use Rattle.seize_views.specs.Promises.{IsNext, IsFree, RulesStart, SeatsCome, RowsTurn, SettlingsBegin}
 use Rattle.seize_views.specs.declared.view.View.{View}
 use Rattle.seize_views.specs.declared.view.Becomes.{Becomes}
@@ -42,6 +42,7 @@ use Rattle.seize_views.proofs.Moved.{moved, used_so}
 use Rattle.seize_views.proofs.Came.{came_then}
 use Rattle.seize_views.proofs.Steps.{alone, begun, stepped}
 use Rattle.seize_views.proofs.Operations.{used_as, slot_of, same_slot}
+use Rattle.seize_views.proofs.Roots.{forgets}
 use Rattle.seize_bounds.proofs.Settles.Within.{batches_are_tried}
 
 not_use_cutting : (r i : ℕ) → world.InUse r ≡ world.Cutting i → ⊥
@@ -207,8 +208,9 @@ module _ {T : Type 0} (defers : T → Option ℕ) (fixed : Fixed) where
       (λ x a e. (resting way, mine ∙ ap (λ (k : ℕ). used_as k (resting way)) (slot_of (t, used_for (Retiring way)) (x, a) e))) k.1)
       (k.0, refl)
 
-  goes_free : (id t : ℕ) (has : Has T) (u : View T) → IsFree fixed t u → Turns H Keeps id (Inside t has) (λ x. x ≡ u)
-  goes_free id t has u is = subst (λ (y : View T). Turns H Keeps id (Inside t has) (λ x. x ≡ y)) (sym is.1) (leaves id t has is.0)
+  goes_free : (id t : ℕ) (has : Has T) (u : View T) → had_in has ≡ None → IsFree fixed t u → Turns H Keeps id (Inside t has) (λ x. x ≡ u)
+  goes_free id t has u none (inl is) = subst (λ (y : View T). Turns H Keeps id (Inside t has) (λ x. x ≡ y)) (sym is.1) (leaves id t has is.0)
+  goes_free id t has u none (inr is) = subst (λ (y : View T). Turns H Keeps id (Inside t has) (λ x. x ≡ y)) (sym is) (forgets defers fixed id t has none)
 
   -- a slot is looked for
   abbrev First : Register
@@ -307,8 +309,8 @@ module _ {T : Type 0} (defers : T → Option ℕ) (fixed : Fixed) where
   turns id (Outside t) u (inl is) = subst (λ (y : View T). Turns H Keeps id (Outside t) (λ x. x ≡ y)) (sym is) (enters id t)
   turns id (Outside t) u (inr is) = subst (λ (y : View T). Turns H Keeps id (Outside t) (λ x. x ≡ y)) (sym is) (frees id t)
   turns id (Enters t) u is = absurd is
-  turns id (Inside t Nothing) u is = goes_free id t Nothing u is
-  turns id (Inside t (Seen b)) u is = goes_free id t (Seen b) u is
+  turns id (Inside t Nothing) u is = goes_free id t Nothing u refl is
+  turns id (Inside t (Seen b)) u is = goes_free id t (Seen b) u refl is
   turns id (Inside t (Cut b)) u is = absurd is
   turns id (Inside t (Made b x)) u is = absurd is
   turns id (Inside t (Both b x a)) u is = absurd is

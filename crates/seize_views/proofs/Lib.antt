@@ -15,3 +15,4 @@ pub mod Blocks
 pub mod Written
 pub mod Roots
 pub mod Handing
+pub mod Notes

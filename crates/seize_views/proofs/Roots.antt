@@ -16,7 +16,7 @@ use Rattle.seize_alone.proofs.Given.SeizeMoves.State.Logs.{reached_held}
 use Rattle.seize_rule.proofs.Rows.Others.{with_here, with_other}
 use Rattle.seize_rule.proofs.Rows.Teams.{UseFits}
 use Rattle.seize_alone.proofs.Histories.Reached.{Reached}
-use Rattle.seize_seats.specs.State.{State, view_of, Goes}
+use Rattle.seize_seats.specs.State.{State, view_of, Goes, Turns}
 use Rattle.seize_views.specs.Rows.{had_in, IsMade, IsInHand, RootsNameLinked, Holds, Keeps}
 use Rattle.seize_views.specs.Told.{seen_in, cut_in, made_beside, alone_with, told}
 use Rattle.seize_views.specs.Promises.{MadeAreLinked, MadeAreExchanged, OwnAreLinked, OwnAreExchanged, RootsAreSeen, RootsAreCleared, RootsAreWithdrawn}
@@ -211,6 +211,12 @@ module _ {T : Type 0} (defers : T → Option ℕ) (fixed : Fixed) (s : State T (
   sees a (OutMade x) m took so is = absurd took.0
   sees a (Taken x) m took so is = absurd took.0
   sees a (Roomed x) m took so is = absurd took.0
+
+-- within a section what was seen is let go, without an operation
+pub forgets : {T : Type 0} (defers : T → Option ℕ) (fixed : Fixed) (id t : ℕ) (had : Has T) → had_in had ≡ None
+    → Turns (Holds defers fixed) Keeps id (Inside t had) (λ x. x ≡ Inside t Nothing)
+forgets {T} defers fixed id t had none s h at =
+    looks defers fixed s id t (Inside t) (within t) had h at s.memory Nothing refl tt (sym none) (λ x. x ≡ Inside t Nothing) refl
 
 module _ (T : Type 0) (defers : T → Option ℕ) where
   pub roots_are_seen : RootsAreSeen T defers

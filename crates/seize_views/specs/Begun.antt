@@ -36,6 +36,11 @@ module _ {T : Type 0} (fixed : Fixed) where
   refreshes (Inside t (Seen b)) = Leaves t fixed.batch_size Active
   refreshes v = v
 
+  -- what was seen is let go
+  abbrev pub forgetting : View T → View T
+  forgetting (Inside t (Seen b)) = Inside t Nothing
+  forgetting v = v
+
   abbrev pub ended : View T → View T
   ended (Settles c (Retiring way) seen left) = left_with way c.slot
   ended (Settles c (Ending size way) seen left) = Left c.slot size way

@@ -42,9 +42,9 @@ module _ {T : Type 0} (defers : T → Option ℕ) where
   op_of (Frees t) = Some (Store (Slot t HEAD) FREE)
   op_of _ = None
 
--- within a section of this slot a seat that has no block in its hand may begin to leave, or to refresh
+-- within a section of this slot a seat that has no block in its hand may begin to leave, or to refresh, and let go of what it has seen
 abbrev pub IsFree : {T : Type 0} → Fixed → ℕ → View T → Type 0
-IsFree fixed t u = (way : Becomes) × (u ≡ Leaves t fixed.batch_size way)
+IsFree fixed t u = ((way : Becomes) × (u ≡ Leaves t fixed.batch_size way)) ⊎ (u ≡ Inside t Nothing)
 
 -- what a seat may come to know without an operation: a row begins, or ends
 abbrev pub IsNext : {T : Type 0} → Fixed → View T → View T → Type 0

@@ -2,6 +2,7 @@
 ghost use Rattle.seize_views.specs.Promises.{RulesStart, SeatsCome, RowsGoOn, RowsTurn, SettlingsBegin, LookedAreShown};
 ghost use Rattle.seize_views.specs.Promises.{BlocksAreMade, MadeAreTaken, MadeAreLinked, MadeAreExchanged, KnownAreShown};
 ghost use Rattle.seize_views.specs.Promises.{RootsAreSeen, RootsAreCleared, RootsAreWithdrawn};
+ghost use Rattle.seize_views.specs.Notes.{StartsAreNoted, ComingsAreNoted, StepsAreNoted, TurnsAreNoted, SettlingsAreNoted, MeetingsAreNoted, LooksAreNoted};
 ghost use Rattle.seize_views.specs.Promises.{OwnAreMade, OwnAreTaken, OwnAreLinked, OwnAreExchanged, OwnAreShown, BorneAreShown, BorneAreHandedOn};
 
 use seize::rows::Defers;
@@ -39,4 +40,15 @@ pub fn blocks_have_seats<T: Defers>()
     ensures shown { OwnAreShown T T.defers }
     ensures borne { BorneAreShown T T.defers }
     ensures handed { BorneAreHandedOn T T.defers }
+{}
+
+/// A seat notes what it does, and may do whatever it may do by what it knows.
+pub fn deeds_are_noted<T: Defers>()
+    ensures starts { StartsAreNoted T T.defers }
+    ensures come { ComingsAreNoted T T.defers }
+    ensures steps { StepsAreNoted T T.defers }
+    ensures turns { TurnsAreNoted T T.defers }
+    ensures settlings { SettlingsAreNoted T T.defers }
+    ensures meetings { MeetingsAreNoted T T.defers }
+    ensures looks { LooksAreNoted T T.defers }
 {}

@@ -1,28 +1,26 @@
 //! The rule of the collector's rows.
-use crate::view::{Fixed, View};
+use crate::view::{Fixed, Noted};
 use seize::rows::Defers;
 use seize_blocks::Rule;
 
-/// The memory is that of a world of the collector, and each seat knows the row that it has under way there.
+/// The memory is that of a world of the collector, and each seat knows the row that it has under way there, and notes what it does.
 pub struct OfRows;
 
 impl<T: Defers> Rule<T> for OfRows {
     ghost use Rattle.seize.specs.World.{World};
-    ghost use Rattle.seize_views.specs.Rows.{Holds, Keeps};
-    ghost use Rattle.seize_views.specs.Told.{told};
-    ghost use Rattle.seize_views.specs.declared.view.View.TheVariants.{Rests};
+    ghost use Rattle.seize_views.specs.Notes.{NotedHolds, NotedKeeps, noted_told, newcomer};
 
-    type View = View<T>;
+    type View = Noted<T>;
 
     type Fixed = Fixed;
 
     ghost World = { World T };
 
-    ghost holds = { Holds T.defers };
+    ghost holds = { NotedHolds T.defers };
 
-    ghost keeps = { Keeps };
+    ghost keeps = { NotedKeeps };
 
-    ghost then = { told T.defers };
+    ghost then = { noted_told T.defers };
 
-    ghost newcomer = { λ _. Rests };
+    ghost newcomer = { λ _. newcomer };
 }

@@ -1,6 +1,38 @@
 //! What those know that share the memory of a collector.
 use seize::rows::{Register, Settle};
 
+/// What a seat knows, and what it has done last.
+pub struct Noted<T> {
+    /// What it knows.
+    pub knows: View<T>,
+    /// What it has done last at a root.
+    pub did: Deed<T>,
+    /// What it has begun last on a slot.
+    pub began: Began,
+}
+
+/// What a seat has done last at a root.
+pub enum Deed<T> {
+    /// Nothing yet.
+    NoneYet,
+    /// It has looked at this root, which named this block, 0 for none.
+    Looked(u64, u64),
+    /// It has put a block of this value at this root, or none, in place of this block, 0 for none.
+    Wrote(u64, Option<T>, u64),
+}
+
+/// What a seat has begun last on a slot.
+pub enum Began {
+    /// Nothing yet.
+    NotYet,
+    /// A section.
+    Section,
+    /// The retirement of a block.
+    Retirement,
+    /// The trying of its batch.
+    Trial,
+}
+
 /// What a seat knows: whether it holds a slot, and which row it has under way.
 pub enum View<T> {
     /// It holds no slot.

@@ -1,3 +1,4 @@
+use Rattle.seize_views.specs.declared.view.Began.TheVariants.{Trial}
 use Rattle.std.proofs.Common.{◌≡◌, ap, sym, ◌∙◌}
 use Rattle.seize.specs.declared.rows.settle.Settle.{Settle}
 use Rattle.seize.specs.Settle.{flushing}
@@ -9,18 +10,21 @@ use Rattle.seize_shared.proofs.caller.Caller.flush_idle.Goals as goal
 pub turn-requires-clause-may : goal.turn-requires-clause-may
 turn-requires-clause-may g c =
     let x = c.args.self.now in let i = c.requires.outside in
-    may_flush_idle g.T.Defers.defers x.blocks.now.words.fixed x.seat.id x.seat.view c.args.slot i
+    may_flush_idle g.T.Defers.defers x.blocks.now.words.fixed x.seat.id x.seat.view c.args.slot (λ _. Trial) i
 
 pub ends-requires : goal.ends-requires
 ends-requires g c =
     let x = c.args.self.now in let fixed = x.blocks.now.words.fixed in let i = c.requires.outside in
     let row : c.flush.result ≡ flushing c.args.slot fixed.batch_size = c.flush.ensures ∙ ap (flushing c.args.slot) (sym x.sized) in
-    record { settling = (Idle, settling_row Idle c.flush.result c.turn.new.seat.view (flushes_idle_told fixed x.seat.view c.turn.new.seat.view c.args.slot c.flush.result i c.turn.ensures.goes row)) }
+    record { settling = (Idle, settling_row Idle c.flush.result c.turn.new.seat.view (flushes_idle_told fixed x.seat.view.knows c.turn.new.seat.view.knows c.args.slot c.flush.result i c.turn.ensures.goes.0 row)) }
 
 pub returns-clause-outside : goal.returns-clause-outside
 returns-clause-outside g c =
     let x = c.args.self.now in let fixed = x.blocks.now.words.fixed in let i = c.requires.outside in
     let row : c.flush.result ≡ flushing c.args.slot fixed.batch_size = c.flush.ensures ∙ ap (flushing c.args.slot) (sym x.sized) in
     c.ends.ensures.rests Idle
-    (settling_row Idle c.flush.result c.turn.new.seat.view (flushes_idle_told fixed x.seat.view c.turn.new.seat.view c.args.slot c.flush.result i c.turn.ensures.goes row))
+    (settling_row Idle c.flush.result c.turn.new.seat.view (flushes_idle_told fixed x.seat.view.knows c.turn.new.seat.view.knows c.args.slot c.flush.result i c.turn.ensures.goes.0 row))
     ∙ ap (λ (r : Settle). left_with Idle r.slot) row
+
+pub returns-clause-began : goal.returns-clause-began
+returns-clause-began g c = c.ends.ensures.notes.1 ∙ c.turn.ensures.goes.2

@@ -1,3 +1,4 @@
+use Rattle.seize_views.specs.Notes.{still}
 use Rattle.std.proofs.Common.{refl, ap, ◌∙◌}
 use Rattle.seize_words.specs.Op.{Swap}
 use Rattle.seize_words.specs.declared.at.At.TheVariants.{Slot}
@@ -11,43 +12,43 @@ use Rattle.seize_shared.proofs.caller.Caller.leave.Goals as goal
 pub turn-requires-clause-may : goal.turn-requires-clause-may
 turn-requires-clause-may g c =
     let x = c.args.self.now in let has = c.requires.inside.0 in
-    may_turn g.T.Defers.defers x.blocks.now.words.fixed x.seat.id x.seat.view (Inside c.args.slot has) c.requires.inside.2 leaving
+    may_turn g.T.Defers.defers x.blocks.now.words.fixed x.seat.id x.seat.view (Inside c.args.slot has) c.requires.inside.2 leaving still
     (leaves_next g.row.T.Denot x.blocks.now.words.fixed c.args.slot has c.requires.inside.1)
 
 pub swap-head-requires-clause-may : goal.swap-head-requires-clause-may
 swap-head-requires-clause-may g c =
     let fixed = c.args.self.now.blocks.now.words.fixed in
     may_go_on g.T.Defers.defers fixed c.turn.new.seat.id c.turn.new.seat.view (Leaves c.args.slot fixed.batch_size Idle)
-    (c.turn.ensures.goes ∙ ap (leaving fixed) c.requires.inside.2 ∙ leaves_so g.row.T.Denot fixed c.args.slot c.requires.inside.0 c.requires.inside.1)
+    (c.turn.ensures.goes.0 ∙ ap (leaving fixed) c.requires.inside.2 ∙ leaves_so g.row.T.Denot fixed c.args.slot c.requires.inside.0 c.requires.inside.1)
     (Swap (Slot c.args.slot HEAD) IDLE) refl
 
 pub counts_down-requires : goal.counts_down-requires
 counts_down-requires g c =
     let fixed = c.args.self.now.blocks.now.words.fixed in
     let leaves =
-    c.turn.ensures.goes ∙ ap (leaving fixed) c.requires.inside.2 ∙ leaves_so g.row.T.Denot fixed c.args.slot c.requires.inside.0 c.requires.inside.1 in
+    c.turn.ensures.goes.0 ∙ ap (leaving fixed) c.requires.inside.2 ∙ leaves_so g.row.T.Denot fixed c.args.slot c.requires.inside.0 c.requires.inside.1 in
     let told =
-    list_told g.T.Defers.defers c.turn.new.seat.view c.swap-head.new.seat.view c.args.slot fixed.batch_size Idle IDLE c.swap-head.result leaves
-    c.swap-head.ensures.goes in
+    list_told g.T.Defers.defers c.turn.new.seat.view.knows c.swap-head.new.seat.view.knows c.args.slot fixed.batch_size Idle IDLE c.swap-head.result leaves
+    c.swap-head.ensures.goes.0 in
     record { taken = (Idle, told.0, told.1) }
 
 pub turn-requires-2-clause-may : goal.turn-requires-2-clause-may
 turn-requires-2-clause-may g c =
     let fixed = c.args.self.now.blocks.now.words.fixed in let x = c.counts_down.new.self in
     let leaves =
-    c.turn.ensures.goes ∙ ap (leaving fixed) c.requires.inside.2 ∙ leaves_so g.row.T.Denot fixed c.args.slot c.requires.inside.0 c.requires.inside.1 in
+    c.turn.ensures.goes.0 ∙ ap (leaving fixed) c.requires.inside.2 ∙ leaves_so g.row.T.Denot fixed c.args.slot c.requires.inside.0 c.requires.inside.1 in
     let told =
-    list_told g.T.Defers.defers c.turn.new.seat.view c.swap-head.new.seat.view c.args.slot fixed.batch_size Idle IDLE c.swap-head.result leaves
-    c.swap-head.ensures.goes in
+    list_told g.T.Defers.defers c.turn.new.seat.view.knows c.swap-head.new.seat.view.knows c.args.slot fixed.batch_size Idle IDLE c.swap-head.result leaves
+    c.swap-head.ensures.goes.0 in
     may_turn g.T.Defers.defers x.blocks.now.words.fixed x.seat.id x.seat.view (Left c.args.slot fixed.batch_size Idle)
-    (c.counts_down.ensures.left Idle told.0 told.1) ended refl
+    (c.counts_down.ensures.left Idle told.0 told.1) ended still refl
 
 pub returns-clause-outside : goal.returns-clause-outside
 returns-clause-outside g c =
     let fixed = c.args.self.now.blocks.now.words.fixed in
     let leaves =
-    c.turn.ensures.goes ∙ ap (leaving fixed) c.requires.inside.2 ∙ leaves_so g.row.T.Denot fixed c.args.slot c.requires.inside.0 c.requires.inside.1 in
+    c.turn.ensures.goes.0 ∙ ap (leaving fixed) c.requires.inside.2 ∙ leaves_so g.row.T.Denot fixed c.args.slot c.requires.inside.0 c.requires.inside.1 in
     let told =
-    list_told g.T.Defers.defers c.turn.new.seat.view c.swap-head.new.seat.view c.args.slot fixed.batch_size Idle IDLE c.swap-head.result leaves
-    c.swap-head.ensures.goes in
-    c.turn-2.ensures.goes ∙ ap (ended c.counts_down.new.self.blocks.now.words.fixed) (c.counts_down.ensures.left Idle told.0 told.1)
+    list_told g.T.Defers.defers c.turn.new.seat.view.knows c.swap-head.new.seat.view.knows c.args.slot fixed.batch_size Idle IDLE c.swap-head.result leaves
+    c.swap-head.ensures.goes.0 in
+    c.turn-2.ensures.goes.0 ∙ ap (ended c.counts_down.new.self.blocks.now.words.fixed) (c.counts_down.ensures.left Idle told.0 told.1)

@@ -1,3 +1,4 @@
+use Rattle.seize_views.specs.declared.view.Began.TheVariants.{Retirement}
 use Rattle.std.proofs.Common.{◌≡◌, ap, ◌∙◌}
 use Rattle.seize.specs.Settle.{retiring}
 use Rattle.seize_words.specs.Word.{link_to}
@@ -10,17 +11,23 @@ use Rattle.seize_shared.proofs.caller.Caller.retire.Goals.{After-to}
 
 pub turn-requires-clause-may : goal.turn-requires-clause-may
 turn-requires-clause-may g c =
-    let x = c.args.self.now in may_retire g.T.Defers.defers x.blocks.now.words.fixed x.seat.id x.seat.view c.args.slot c.args.block c.requires.cut
+    let x = c.args.self.now in may_retire g.T.Defers.defers x.blocks.now.words.fixed x.seat.id x.seat.view c.args.slot (λ _. Retirement) c.args.block c.requires.cut
 
-begun : (g : given.Over) (c : After-to g) → IsBegun Active (retiring c.args.slot c.args.self.now.blocks.now.words.fixed.batch_size c.to.result) c.turn.new.seat.view
+begun : (g : given.Over) (c : After-to g) → IsBegun Active (retiring c.args.slot c.args.self.now.blocks.now.words.fixed.batch_size c.to.result) c.turn.new.seat.view.knows
 begun g c =
     let x = c.args.self.now in let fixed = x.blocks.now.words.fixed in
     let row : retiring c.args.slot fixed.batch_size c.to.result ≡ retiring c.args.slot fixed.batch_size (link_to c.args.block) =
     ap (retiring c.args.slot fixed.batch_size) (c.to.ensures ∙ whole_link c.args.block c.requires.fits) in
-    retires_told fixed x.seat.view c.turn.new.seat.view c.args.slot c.args.block (retiring c.args.slot fixed.batch_size c.to.result) c.requires.cut c.turn.ensures.goes row
+    retires_told fixed x.seat.view.knows c.turn.new.seat.view.knows c.args.slot c.args.block (retiring c.args.slot fixed.batch_size c.to.result) c.requires.cut c.turn.ensures.goes.0 row
 
 pub retires-requires : goal.retires-requires
 retires-requires g c = record { begun = (Active, begun g (goal.at.retires-requires g c).After-to) }
 
 pub returns-clause-inside : goal.returns-clause-inside
 returns-clause-inside g c = c.retires.ensures.rests Active (begun g (goal.at.returns-clause-inside g c).After-to)
+
+pub returns-clause-began : goal.returns-clause-began
+returns-clause-began g c = c.retires.ensures.notes.1 ∙ c.turn.ensures.goes.2
+
+pub returns-clause-did : goal.returns-clause-did
+returns-clause-did g c = c.retires.ensures.notes.0 ∙ c.turn.ensures.goes.1

@@ -7,7 +7,9 @@ use Rattle.seize_views.specs.Begun.{IsBegun, ended, left_with}
 use Rattle.seize_views.specs.declared.view.Becomes.{Becomes}
 use Rattle.seize_views.specs.declared.view.View.TheVariants.{Settles}
 use Rattle.seize_views.specs.declared.view.Why.TheVariants.{Retiring}
-use Rattle.seize_shared.proofs.Calls.{may_turn}
+use Rattle.seize_views.specs.Notes.{still, known_by}
+use Rattle.seize_shared.specs.Made.{task_of}
+use Rattle.seize_shared.proofs.Calls.{may_turn, own_task}
 use Rattle.seize_shared.proofs.Straight.{Comes, has_ended, has_stopped, may_run, retirement_row}
 use Rattle.seize_shared.proofs.caller.Caller.retires.Given as given
 use Rattle.seize_shared.proofs.caller.Caller.retires.Goals as goal
@@ -16,49 +18,60 @@ use Rattle.seize_shared.proofs.caller.Caller.retires.Goals.{In-Ended, After-sett
 pub retire-retired-requires : goal.retire-retired-requires
 retire-retired-requires g c =
     let x = c.args.self.now in let b = c.requires.begun in
-    may_run g.T.Defers.defers (Retiring b.0) (retiring c.args.slot x.batch_size c.args.link) x (retirement_row x c.args.slot c.args.link b.0 b.1)
+    may_run g.T.Defers.defers (task_of (Retiring b.0) x.seat.view) (retiring c.args.slot x.batch_size c.args.link) x (retirement_row x c.args.slot c.args.link b.0 b.1)
 
 -- it is over
 over : (g : given.Over) (c : In-Ended g) (way : Becomes)
-    → IsBegun way (retiring c.args.slot c.args.self.now.blocks.now.words.fixed.batch_size c.args.link) c.args.self.now.seat.view
+    → IsBegun way (retiring c.args.slot c.args.self.now.blocks.now.words.fixed.batch_size c.args.link) c.args.self.now.seat.view.knows
     → (d : Settle) × (d.stands ≡ Over)
-    × Comes g.T.Defers.defers (Retiring way) (retiring c.args.slot c.args.self.now.batch_size c.args.link) c.args.self.now d c.retire-retired.new.memory
+    × Comes g.T.Defers.defers (task_of (Retiring way) c.args.self.now.seat.view) (retiring c.args.slot c.args.self.now.batch_size c.args.link) c.args.self.now d c.retire-retired.new.memory
 over g c way is =
     let x = c.args.self.now in
-    has_ended g.T.Defers.defers (Retiring way) (retiring c.args.slot x.batch_size c.args.link) x c.retire-retired.new.memory c.in-Ended.ensures
+    has_ended g.T.Defers.defers (task_of (Retiring way) x.seat.view) (retiring c.args.slot x.batch_size c.args.link) x c.retire-retired.new.memory c.in-Ended.ensures
     (retirement_row x c.args.slot c.args.link way is)
 
 pub turn-requires-clause-may : goal.turn-requires-clause-may
 turn-requires-clause-may g c =
     let b = c.requires.begun in let n = c.retire-retired.new.memory in let d = over g (goal.at.turn-requires-clause-may g c).In-Ended b.0 b.1 in
-    may_turn g.T.Defers.defers n.blocks.now.words.fixed n.seat.id n.seat.view (Settles d.0 (Retiring b.0) d.2.0.0 d.2.0.1) d.2.0.2 ended (d.1, refl)
+    may_turn g.T.Defers.defers n.blocks.now.words.fixed n.seat.id n.seat.view (Settles d.0 (Retiring b.0) d.2.0.0 d.2.0.1) (ap known_by d.2.0.2) ended still
+    (d.1, refl)
 
 pub returns-in-Ended-clause-rests : goal.returns-in-Ended-clause-rests
 returns-in-Ended-clause-rests g c = λ way is.
     let d = over g (goal.at.returns-in-Ended-clause-rests g c).In-Ended way is in
-    c.turn.ensures.goes ∙ ap (ended c.retire-retired.new.memory.blocks.now.words.fixed) d.2.0.2 ∙ ap (left_with way) d.2.1
+    c.turn.ensures.goes.0 ∙ ap (ended c.retire-retired.new.memory.blocks.now.words.fixed) (ap known_by d.2.0.2) ∙ ap (left_with way) d.2.1
 
 pub returns-in-Ended-clause-blocks : goal.returns-in-Ended-clause-blocks
 returns-in-Ended-clause-blocks g c =
     let b = c.requires.begun in (over g (goal.at.returns-in-Ended-clause-blocks g c).In-Ended b.0 b.1).2.2
 
+pub returns-in-Ended-clause-notes : goal.returns-in-Ended-clause-notes
+returns-in-Ended-clause-notes g c =
+    let b = c.requires.begun in let d = over g (goal.at.returns-in-Ended-clause-notes g c).In-Ended b.0 b.1 in
+    (c.turn.ensures.goes.1 ∙ ap (λ v. v.did) d.2.0.2, c.turn.ensures.goes.2 ∙ ap (λ v. v.began) d.2.0.2)
+
 -- it is the settling of the point where it has stopped
 stopped : (g : given.Over) (c : After-settle_of g) (way : Becomes)
-    → IsBegun way (retiring c.args.slot c.args.self.now.blocks.now.words.fixed.batch_size c.args.link) c.args.self.now.seat.view
-    → Comes g.T.Defers.defers (Retiring way) (retiring c.args.slot c.args.self.now.batch_size c.args.link) c.args.self.now c.settle_of.result c.retire-retired.new.memory
+    → IsBegun way (retiring c.args.slot c.args.self.now.blocks.now.words.fixed.batch_size c.args.link) c.args.self.now.seat.view.knows
+    → Comes g.T.Defers.defers (task_of (Retiring way) c.args.self.now.seat.view) (retiring c.args.slot c.args.self.now.batch_size c.args.link) c.args.self.now
+    c.settle_of.result c.retire-retired.new.memory
 stopped g c way is =
     let x = c.args.self.now in let n = c.retire-retired.new.memory in
-    subst (λ (row : Settle). Comes g.T.Defers.defers (Retiring way) (retiring c.args.slot x.batch_size c.args.link) x row n) (sym c.settle_of.ensures)
-    (has_stopped g.T.Defers.defers (Retiring way) c.args.slot x.batch_size c.args.link c.retire-retired.result x n c.in_default.not-Ended c.retire-retired.ensures
+    subst (λ (row : Settle). Comes g.T.Defers.defers (task_of (Retiring way) x.seat.view) (retiring c.args.slot x.batch_size c.args.link) x row n) (sym c.settle_of.ensures)
+    (has_stopped g.T.Defers.defers (task_of (Retiring way) x.seat.view) c.args.slot x.batch_size c.args.link c.retire-retired.result x n c.in_default.not-Ended c.retire-retired.ensures
     (retirement_row x c.args.slot c.args.link way is))
 
 pub ends-requires : goal.ends-requires
 ends-requires g c =
-    let b = c.requires.begun in record { settling = (b.0, (stopped g (goal.at.ends-requires g c).After-settle_of b.0 b.1).0) }
+    let b = c.requires.begun in record { settling = (b.0, own_task (task_of (Retiring b.0) c.args.self.now.seat.view) c.settle_of.result c.retire-retired.new.memory.seat.view (stopped g (goal.at.ends-requires g c).After-settle_of b.0 b.1).0) }
 
 pub returns-in_default : goal.returns-in_default
 returns-in_default g c =
-    let b = c.requires.begun in let at = (goal.at.returns-in_default g c).After-settle_of in record {
-      rests = λ way is. let k = stopped g at way is in c.ends.ensures.rests way k.0 ∙ ap (left_with way) k.1;
-      blocks = c.ends.ensures.blocks ∙ (stopped g at b.0 b.1).2;
+    let b = c.requires.begun in let at = (goal.at.returns-in_default g c).After-settle_of in let x = c.args.self.now in let n = c.retire-retired.new.memory in
+    let s = stopped g at b.0 b.1 in record {
+      rests = λ way is.
+          let k = stopped g at way is in
+          c.ends.ensures.rests way (own_task (task_of (Retiring way) x.seat.view) c.settle_of.result n.seat.view k.0) ∙ ap (left_with way) k.1;
+      notes = (c.ends.ensures.notes.0 ∙ ap (λ v. v.did) s.0.2, c.ends.ensures.notes.1 ∙ ap (λ v. v.began) s.0.2);
+      blocks = c.ends.ensures.blocks ∙ s.2;
     }

@@ -1,7 +1,6 @@
 -- Straight code reclaims what it can after each step.
 use Rattle.std.proofs.Common.{◌∙◌, arith}
-use Rattle.seize_shared.specs.Made.{IsSettling}
-use Rattle.seize_views.specs.declared.view.Why.{Why}
+use Rattle.seize_shared.specs.Made.{IsSettling, Task}
 use Rattle.seize_shared.proofs.Straight.{Comes, led, may_drop}
 use Rattle.seize_shared.proofs.caller.Caller.settles.Given as given
 use Rattle.seize_shared.proofs.caller.Caller.settles.Goals as goal
@@ -12,16 +11,16 @@ reclaims-requires g c =
     let i = c.loop-self.invariant.0 in
     may_drop g.T.Defers.defers i.0 c.steps.new.row c.steps.new.self (c.steps.ensures.settling i.0 i.1)
 
-reclaimed : (g : given.Over) (c : After-reclaims g) (why : Why) → IsSettling why c.loop-self.row c.loop-self.self.seat.view
-    → Comes g.T.Defers.defers why c.steps.new.row c.steps.new.self c.reclaims.new.settle c.reclaims.new.memory
-reclaimed g c why is =
-    led g.T.Defers.defers why c.steps.new.row c.reclaims.new.settle c.steps.new.self c.reclaims.new.memory c.reclaims.ensures (c.steps.ensures.settling why is)
+reclaimed : (g : given.Over) (c : After-reclaims g) (task : Task _) → IsSettling task c.loop-self.row c.loop-self.self.seat.view
+    → Comes g.T.Defers.defers task c.steps.new.row c.steps.new.self c.reclaims.new.settle c.reclaims.new.memory
+reclaimed g c task is =
+    led g.T.Defers.defers task c.steps.new.row c.reclaims.new.settle c.steps.new.self c.reclaims.new.memory c.reclaims.ensures (c.steps.ensures.settling task is)
 
 pub loop-self-preserved : goal.loop-self-preserved
 loop-self-preserved g c =
     let i = c.loop-self.invariant in let l = reclaimed g (goal.at.loop-self-preserved g c).After-reclaims in let k = l i.0.0 i.0.1 in (
       (i.0.0, k.0),
-      λ why is. (l why (i.1 why is)).0,
+      λ task is. (l task (i.1 task is)).0,
       k.1 ∙ c.steps.ensures.slot ∙ i.2,
       k.2 ∙ c.steps.ensures.blocks ∙ i.3,
     )

@@ -9,11 +9,11 @@ meet-requires-clause-may g c =
 pub returns-clause-outside : goal.returns-clause-outside
 returns-clause-outside g c =
     let x = c.args.self.now in let seat = c.args.seat.now in
-    λ on. owes_told x.blocks.now.words.fixed seat.view x.seat.view c.meet.new.one.view c.meet.new.other.view c.args._slot c.args._block
-    c.requires.bears on c.meet.ensures.goes
+    λ on. owes_told x.blocks.now.words.fixed seat.view.knows x.seat.view.knows c.meet.new.one.view.knows c.meet.new.other.view.knows c.args._slot c.args._block
+    c.requires.bears on c.meet.ensures.goes.0
 
 pub returns-clause-inside : goal.returns-clause-inside
 returns-clause-inside g c =
     let x = c.args.self.now in let seat = c.args.seat.now in
-    λ has looks on. cuts_told x.blocks.now.words.fixed seat.view x.seat.view c.meet.new.one.view c.meet.new.other.view c.args._slot c.args._block
-    has looks c.requires.bears on c.meet.ensures.goes
+    λ has looks on. cuts_told x.blocks.now.words.fixed seat.view.knows x.seat.view.knows c.meet.new.one.view.knows c.meet.new.other.view.knows c.args._slot c.args._block
+    has looks c.requires.bears on c.meet.ensures.goes.0

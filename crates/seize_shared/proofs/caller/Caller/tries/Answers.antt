@@ -19,8 +19,8 @@ pub room-requires-clause-may : goal.room-requires-clause-may
 room-requires-clause-may g c =
     may_go_on g.T.Defers.defers c.args.self.now.blocks.now.words.fixed c.load-seen.new.seat.id c.load-seen.new.seat.view
     (Registers (row_at c.args.slot (at.Widen c.in-Some.bucket c.load-seen.result)))
-    (seen_free g.row.T.Denot g.T.Defers.defers c.args.self.now.seat.view c.load-seen.new.seat.view c.args.slot c.load-seen.result (Some c.in-Some.bucket)
+    (seen_free g.row.T.Denot g.T.Defers.defers c.args.self.now.seat.view.knows c.load-seen.new.seat.view.knows c.args.slot c.load-seen.result (Some c.in-Some.bucket)
     (sym c.in-Some.is ∙ c.needed_bucket.ensures) (free_head c.load-seen.result c.else-seen-ne-NEVER.either) (c.requires.seeks
     ∙ seeks_here c.args.slot c.requires.slot)
-    c.load-seen.ensures.goes)
+    c.load-seen.ensures.goes.0)
     (Room c.in-Some.bucket) refl

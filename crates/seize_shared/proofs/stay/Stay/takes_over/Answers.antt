@@ -7,4 +7,4 @@ use Rattle.seize_shared.proofs.stay.Stay.takes_over.Goals as goal
 pub retire-requires-clause-cut : goal.retire-requires-clause-cut
 retire-requires-clause-cut g c =
     let x = c.args.self.now in
-    takes_inside x.slot x.seen x.caller.seat.view _ (x.stands ∙ ap (λ (y : Bool). Some (x.slot, y, x.seen)) c.if-self.true) c.takes_over.ensures.inside
+    takes_inside x.slot x.seen x.caller.seat.view.knows _ (x.stands ∙ ap (λ (y : Bool). Some (x.slot, y, x.seen)) c.if-self.true) c.takes_over.ensures.inside

@@ -1,0 +1,121 @@
+-- The rule with what each seat has done last: it is noted as it is done, and whatever a seat may do by what it knows it may do.
+use Rattle.std.specs.Prelude.{◌≡◌, ℕ, Option, Some, None, Ok, Err, map}
+use Rattle.seize_words.specs.Word.{block_in}
+use Rattle.seize_words.specs.Op.{Op, Out, Load, Swap, Exchange, Found, Exchanged}
+use Rattle.seize_words.specs.declared.at.At.TheVariants.{Root}
+use Rattle.seize.specs.declared.rows.settle.Settle.{Settle}
+use Rattle.seize.specs.World.{World}
+use Rattle.seize_seats.specs.State.{State, Starts, Comes, Allows, Turns, Meets}
+use Rattle.seize_seats.specs.Lendings.{Shown, IsValueOf}
+use Rattle.seize_views.specs.Begun.{IsBegun, Hands}
+use Rattle.seize_views.specs.Rows.{Holds, Keeps}
+use Rattle.seize_views.specs.Told.{told}
+use Rattle.seize_views.specs.declared.view.Noted.{Noted}
+use Rattle.seize_views.specs.declared.view.Deed.{Deed}
+use Rattle.seize_views.specs.declared.view.Deed.TheVariants.{NoneYet, Looked, Wrote}
+use Rattle.seize_views.specs.declared.view.Began.{Began}
+use Rattle.seize_views.specs.declared.view.Began.TheVariants.{NotYet}
+use Rattle.seize_views.specs.declared.view.View.{View}
+use Rattle.seize_views.specs.declared.view.View.TheVariants.{Rests, Outside, Inside, Brings}
+use Rattle.seize_views.specs.declared.view.Has.{Has}
+use Rattle.seize_views.specs.declared.view.Has.TheVariants.{Made, Both}
+use Rattle.seize_views.specs.declared.view.Becomes.{Becomes}
+use Rattle.seize_views.specs.declared.view.Fixed.{Fixed}
+
+-- nothing has begun
+abbrev pub still : Began → Began
+still began = began
+
+module _ {T : Type 0} where
+  abbrev pub noted : View T → Deed T → Began → Noted T
+  noted v did began = record { knows = v; did = did; began = began }
+
+  -- who has just come knows nothing, and has done nothing
+  abbrev pub newcomer : Noted T
+  newcomer = noted Rests NoneYet NotYet
+
+  abbrev pub known_by : Noted T → View T
+  known_by v = v.knows
+
+  -- the state by what the seats know alone
+  abbrev pub as_known : State T (Noted T) (World T) → State T (View T) (World T)
+  as_known s = record { memory = s.memory; views = map known_by s.views; world = s.world }
+
+  -- the value of the block that was made, if one was
+  abbrev pub made_in : Has T → Option T
+  made_in (Made b x) = Some x
+  made_in (Both b x a) = Some x
+  made_in _ = None
+
+  -- what was done at a root, by who has made a block of this value, or none
+  abbrev pub deed_at : Option T → Deed T → Op T → Out T → Deed T
+  deed_at made did (Load (Root r)) (Found word) = Looked r (block_in word)
+  deed_at made did (Swap (Root r) word) (Found old) = Wrote r made (block_in old)
+  deed_at made did (Exchange (Root r) old new) (Exchanged (Ok was)) = Wrote r made (block_in old)
+  deed_at made did (Exchange (Root r) old new) (Exchanged (Err now)) = Looked r (block_in now)
+  deed_at made did op out = did
+
+  abbrev pub deed : View T → Deed T → Op T → Out T → Deed T
+  deed (Outside t) did op out = deed_at None did op out
+  deed (Inside t has) did op out = deed_at (made_in has) did op out
+  deed (Brings b x) did op out = deed_at (Some x) did op out
+  deed v did op out = did
+
+  -- two views have the same notes
+  abbrev pub SameNotes : Noted T → Noted T → Type 0
+  SameNotes v u = (u.did ≡ v.did) × (u.began ≡ v.began)
+
+  -- a turn comes to know so, and notes that this has begun
+  abbrev pub Notes : (Fixed → View T → View T → Type 0) → (Began → Began) → Fixed → Noted T → Noted T → Type 0
+  Notes so began fixed v u = so fixed v.knows u.knows × (u.did ≡ v.did) × (u.began ≡ began v.began)
+
+  -- a block is handed on, and nothing has begun
+  abbrev pub NotedHands : Fixed → Noted T → Noted T → Noted T → Noted T → Type 0
+  NotedHands fixed v u p q = Hands fixed v.knows u.knows p.knows q.knows × SameNotes v p × SameNotes u q
+
+  abbrev pub NotedKeeps : Noted T → Noted T → World T → ℕ → Type 0
+  NotedKeeps u o w b = Keeps u.knows o.knows w b
+
+module _ {T : Type 0} (defers : T → Option ℕ) where
+  abbrev pub NotedHolds : Fixed → State T (Noted T) (World T) → Type 0
+  NotedHolds fixed s = Holds defers fixed (as_known s)
+
+  abbrev pub noted_told : Noted T → Op T → Out T → Noted T → Type 0
+  noted_told v op out w = told defers v.knows op out w.knows × (w.did ≡ deed v.knows v.did op out) × (w.began ≡ v.began)
+
+module _ (T : Type 0) (defers : T → Option ℕ) where
+  -- The promise: what starts, comes, and may be done by what is known does so with notes.
+  abbrev pub StartsAreNoted : Type 0
+  StartsAreNoted = (fixed : Fixed) → Starts (Holds defers fixed) fixed.roots → Starts (NotedHolds defers fixed) fixed.roots
+
+  abbrev pub ComingsAreNoted : Type 0
+  ComingsAreNoted = (fixed : Fixed) → Comes (Holds defers fixed) Keeps Rests → Comes (NotedHolds defers fixed) NotedKeeps newcomer
+
+  abbrev pub StepsAreNoted : Type 0
+  StepsAreNoted =
+      (fixed : Fixed) (id : ℕ) (v : Noted T) (op : Op T) → Allows (Holds defers fixed) Keeps id v.knows op (told defers v.knows op)
+      → Allows (NotedHolds defers fixed) NotedKeeps id v op (noted_told defers v op)
+
+  -- a turn may note anything
+  abbrev pub TurnsAreNoted : Type 0
+  TurnsAreNoted =
+      (fixed : Fixed) (id : ℕ) (v : Noted T) (u : View T) (did : Deed T) (began : Began) → Turns (Holds defers fixed) Keeps id v.knows (λ x. x ≡ u)
+      → Turns (NotedHolds defers fixed) NotedKeeps id v (λ x. (x.knows ≡ u) × (x.did ≡ did) × (x.began ≡ began))
+
+  abbrev pub SettlingsAreNoted : Type 0
+  SettlingsAreNoted =
+      (fixed : Fixed) (id : ℕ) (v : Noted T) (way : Becomes) (c : Settle) (did : Deed T) (began : Began)
+      → Turns (Holds defers fixed) Keeps id v.knows (IsBegun way c)
+      → Turns (NotedHolds defers fixed) NotedKeeps id v (λ x. IsBegun way c x.knows × (x.did ≡ did) × (x.began ≡ began))
+
+  -- and so may a meeting
+  abbrev pub MeetingsAreNoted : Type 0
+  MeetingsAreNoted =
+      (fixed : Fixed) (i j : ℕ) (v u : Noted T) → Meets (Holds defers fixed) i v.knows j u.knows (Hands fixed v.knows u.knows)
+      → Meets (NotedHolds defers fixed) i v j u (NotedHands fixed v u)
+
+  -- and a block that is shown by what is known is shown, with a value that is its value by that
+  abbrev pub LooksAreNoted : Type 0
+  LooksAreNoted =
+      (fixed : Fixed) (id : ℕ) (v : Noted T) (b : ℕ) → (Shown (Holds defers fixed) id v.knows b → Shown (NotedHolds defers fixed) id v b)
+      × ((x : T) → IsValueOf (NotedHolds defers fixed) id v b x → IsValueOf (Holds defers fixed) id v.knows b x)
