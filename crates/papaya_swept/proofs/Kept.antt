@@ -17,10 +17,12 @@ use Rattle.papaya_moments.specs.Given.Finishes.Machines.{ToldOfKind, machine_of}
 use Rattle.papaya_moments.specs.Given.Finishes.Makings.{Beginning, HasMade}
 use Rattle.papaya_moments.specs.Given.Finishes.Maps.{Standing, with_call}
 use Rattle.papaya_moments.specs.Given.Schedules.declared.effect.Effect.{Effect}
+use Rattle.papaya_moments.specs.Given.Schedules.declared.call.Call.{Call}
 use Rattle.papaya_moments.specs.Given.Schedules.declared.call.Reply.{Reply}
 use Rattle.papaya_moments.specs.Given.Schedules.declared.outcome.Outcome.{Outcome}
 use Rattle.papaya_moments.specs.Given.Schedules.declared.outcome.Outcome.TheVariants as outcome
 use Rattle.papaya_moments.specs.Given.Schedules.Effects.{AtEachEffect, with_effects}
+use Rattle.papaya_moments.specs.Given.Schedules.Entry.{ends_call}
 use Rattle.papaya_moments.specs.Given.Schedules.Moment.{Asking, MapThere, Moment, UnderWay as CallThere}
 use Rattle.papaya_moments.specs.Given.Schedules.Views.{call_of, tables_of}
 use Rattle.papaya_moments.specs.Given.Effects.Effects.{effects_of, known_after}
@@ -56,16 +58,16 @@ use Rattle.papaya_played.specs.Play.{call_for, is_over, is_refusal, making_outco
 use Rattle.papaya_linear.specs.Shown.{ShowsAnswers}
 use Rattle.papaya_linear.proofs.MapsPlayed.{IsApart}
 
+-- the map that comes of a making
+abbrev pub coming : {K : Type 0} → Beginning K → NewMap → MapThere
+coming b next = record { name = named b.map; number = b.map; root = next.setting.root; mode = next.setting.mode; capacity = pairs_for next.len; first = 0 }
+
 module _ {K V : Type 0} where
   -- an entry without effects
   abbrev pub alone : Deed K V → Outcome V → Entry K V
   alone deed o = record { deed = deed; outcome = o; effects = []; refused = false }
 
-  -- the map that comes of a making
-  abbrev pub coming : Beginning K → NewMap → MapThere
-  coming b next = record { name = named b.map; number = b.map; root = next.setting.root; mode = next.setting.mode; capacity = pairs_for next.len; first = 0 }
-
-  -- the deed by which it does
+  -- the deed by which a map comes
   abbrev pub comes_by : Beginning K → NewMap → Deed K V
   comes_by b next = MapComes b.map next.setting.root next.setting.mode (pairs_for next.len)
 
@@ -83,11 +85,13 @@ module _ {K V : Type 0} (same : K → K → Bool) (hash : ℕ → K → ℕ) (R 
         BeginsSo same standing i u → NoneNamed named (named i) s → s.world.row i ≡ Rests → IsAt same hash new (scene_with map i u s)
         → P (alone (Begins i (slot_of i) map (call_for wanted)) outcome.Goes ∷ history) known (scene_with map i u s)))
     pub calls_step : From (λ history known s old new. (map i : ℕ) (u : UnderWay K V K) (here : s.calls map i ≡ Some u) (said : Progress (Node K V)) (leads : StepLeads same hash i said s old new)
-        → (d : CallThere K V) → call_of (named i) (moment history) ≡ Some d → (value : Option V) → KeepsValue d.call d.replies (machine_of u) value
+        → (d : CallThere K V) → call_of (named i) (moment history) ≡ Some d → (called : Call K V) → d.call ≡ called → (value : Option V) → KeepsValue d.call d.replies (machine_of u) value
         → (let known2 = known_after (acts.Call i map) new.changed known in
         let to = leads map u here in
-        let e : Entry K V = record { deed = Steps i; outcome = outcome_of known2 (kind_of d.call) value said; effects = effects_of (acts.Call i map) known new.changed; refused = is_refusal new.changed } in
-        P (e ∷ history) known2 (scene_after same s old new map i to.0 u to.1 said to.4)))
+        let s2 = scene_after same s old new map i to.0 u to.1 said to.4 in
+        let o = outcome_of known2 (kind_of called) value said in
+        let e : Entry K V = record { deed = Steps i; outcome = o; effects = effects_of (acts.Call i map) known new.changed; refused = is_refusal new.changed } in
+        (ends_call o ≡ true → NoneNamed named (named i) s2) → P (e ∷ history) known2 s2))
     pub calls_take : From (λ history known s old new. (map i : ℕ) (u : UnderWay K V K) → s.calls map i ≡ Some u
         → (d : CallThere K V) → call_of (named i) (moment history) ≡ Some d → (question : Option ℕ) → d.stands ≡ Asking question
         → (standing : Standing K) → s.maps map ≡ Some standing → (reply : Reply V) (next : UnderWay K V K)
