@@ -5,3 +5,6 @@ pub mod KeptByAll
 pub mod Tabled
 pub mod SweptBy
 pub mod Calls
+pub mod Others
+pub mod Instance
+pub mod Swept
