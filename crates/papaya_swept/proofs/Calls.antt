@@ -1,6 +1,6 @@
 -- What a moment shows of sweeps and counts it shows where a call begins, takes a step, takes a reply, goes on as a walk, or is given up.
 use Rattle.std.specs.Prelude.{◌≡◌, ℕ, nat_lt, Bool, true, false, Option, Some, None, Ok, if◌then◌else◌}
-use Rattle.std.proofs.Common.{refl, ap, sym, subst, ◌∙◌, arith}
+use Rattle.std.proofs.Common.{refl, ap, sym, subst, ◌∙◌, arith, inl, inr}
 use Rattle.seize_acts.proofs.Answers.{same_some}
 use Rattle.papaya_moments.specs.Given.Sweeps.SweepPoints.{after_next, next_at}
 use Rattle.papaya_moments.specs.Given.Sweeps.declared.sweep.Purpose.TheVariants as purpose
@@ -159,8 +159,12 @@ module _ {K V : Type 0} (same : K → K → Bool) (hash : ℕ → K → ℕ) (lo
     purposes = calls_take_purposes K V same hash named log m known s old at all.whole sweeps.purposes map i u here c c_is question asks about standing there reply next takes kind;
     counters = calls_take_counters K V same named m known s all.whole sweeps.counters map i u here (as_told reply) next next_is reply;
     tabled = tabled_stays m (told (named i) reply m) s (scene_with map i next s) sweeps.tabled (λ of. omega arith) refl
-        (counts_were s map i (Some next) (λ x e counts. (u, here, sym (told_same (machine_of u) (as_told reply)) ∙ ap is_to_count (sym next_is)
-        ∙ ap (λ (y : UnderWay K V K). is_to_count (machine_of y)) (same_some next x e) ∙ counts)));
+        (counts_were s map i (Some next) (λ x e counts. (
+          u,
+          here,
+          sym (told_same (machine_of u) (as_told reply)) ∙ ap is_to_count (sym next_is)
+              ∙ ap (λ (y : UnderWay K V K). is_to_count (machine_of y)) (same_some next x e) ∙ counts,
+        )));
   }
     where
       about : AsksAboutIt known u question

@@ -1,6 +1,7 @@
 -- Each entry of a history has done what its call is for, and the moment shows sweeps and counts: so it stays by each kind of step.
-use Rattle.std.specs.Prelude.{◌≡◌, ◌+◌, ℕ, suc, Bool, List, [], ◌∷◌, Option, Some, None}
+use Rattle.std.specs.Prelude.{◌≡◌, ◌+◌, ℕ, suc, Bool, true, List, [], ◌∷◌, Option, Some, None}
 use Rattle.std.proofs.Common.{refl, ap, sym, subst, ◌∙◌, arith}
+use Rattle.seize_acts.proofs.Answers.{same_some}
 use Rattle.papaya_moments.specs.Given.Tables.declared.node.Node.{Node}
 use Rattle.papaya_moments.specs.Given.Seize.declared.progress.Progress.{Progress as Making}
 use Rattle.papaya_moments.specs.Given.Seize.declared.rows.settle.Settled.{Settled}
@@ -30,7 +31,7 @@ use Rattle.papaya_moments.specs.Given.Others.Walks.{given_up}
 use Rattle.papaya_purposes.proofs.Nothing.{no_calls_are_swept}
 use Rattle.papaya_agrees.specs.Shards.{ShardsAre}
 use Rattle.papaya_deeds.specs.Deeds.{Begins, Deed, Ends, Entry, Makes, MapFails, MapGoes, ReclaimsAll, Replies, Steps, Stops, acted_on, after, caller_of, come, map_of_call, moment, named, worked}
-use Rattle.papaya_deeds.specs.History.{IsSwept, past, transition}
+use Rattle.papaya_deeds.specs.History.{IsSwept, is_of_kind, past, transition}
 use Rattle.papaya_named.specs.Seen.{kind_of}
 use Rattle.papaya_played.specs.Play.{call_for, is_over, is_refusal, making_outcome, outcome_of, row_deed, settled_outcome}
 use Rattle.papaya_linear.specs.Shown.{ShowsAnswers}
@@ -48,7 +49,7 @@ module _ {K V : Type 0} (same : K → K → Bool) (terms : Terms) where
   -- an entry of no call is swept
   none_swept : (history : List (Entry K V)) (e : Entry K V) → caller_of e.deed ≡ None → IsSwept same terms history e
   none_swept history e none = (
-    subst (λ (o : Option (List ℕ)). IfCall (λ (c : CallThere K V). _) (acting o (worked_by (transition history e)))) (sym none) tt,
+    subst (λ (o : Option (List ℕ)). IfCall (λ (c : CallThere K V). is_of_kind c.call e.outcome ≡ true) (acting o (worked_by (transition history e)))) (sym none) tt,
     no_calls_are_swept K V same terms (past history) (transition history e) none,
   )
 
@@ -67,10 +68,7 @@ module _ {K V : Type 0} (same : K → K → Bool) (hash : ℕ → K → ℕ) (te
   abbrev pub P : List (Entry K V) → Known → Scene K V → Type 0
   P history known s = HasSwept same terms history known s
 
-  abbrev Whole : Type 0
-  Whole = IsKept {K = K} {V = V} same hash Shards P
-
-  pub sweeps_are_kept : Whole
+  pub sweeps_are_kept : IsKept same hash Shards P
   sweeps_are_kept = record {
     calls_begin = λ history known s old new at all shards has map i standing there wanted begins none rests at2.
         one_more same terms history known known s _ all has (alone (Begins i (slot_of i) map (call_for wanted)) outcome.Goes)
@@ -82,7 +80,7 @@ module _ {K V : Type 0} (same : K → K → Bool) (hash : ℕ → K → ℕ) (te
         let o : Outcome V = outcome_of known2 (kind_of called) value said in
         let e : Entry K V = record { deed = Steps i; outcome = o; effects = effects; refused = is_refusal new.changed } in
         let shown = all.whole.all.shown.calls map i u here in
-        let on_map : d.map ≡ map = ap (λ (c : CallThere K V). c.map) (let both : Some d ≡ Some shown.0 = sym d_is ∙ shown.1 in cc both) ∙ shown.2 in
+        let on_map : d.map ≡ map = ap (λ (c : CallThere K V). c.map) (same_some d shown.0 (sym d_is ∙ shown.1)) ∙ shown.2.0 in
         let acted : acted_on {K = K} {V = V} (Steps i) (moment history) ≡ Some map = ap map_of_call d_is ∙ ap Some on_map in
         let v : Moment K V = with_effects (Some (named i)) (Some map) effects (moment history) in
         let worked_is : worked e (moment history) ≡ v = ap (λ (a : Option ℕ). with_effects (Some (named i)) a effects (moment history)) acted in

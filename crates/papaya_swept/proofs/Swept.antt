@@ -1,15 +1,13 @@
 -- By the history of each list of acts calls on whole maps do what they are for.
-use Rattle.std.specs.Prelude.{◌≡◌, ◌==◌, ℕ, Bool, true, false, List, [], ◌∷◌, Some, if◌then◌else◌}
+use Rattle.std.specs.Prelude.{ℕ, Bool, List, [], ◌∷◌}
 use Rattle.std.specs.List.{AllByRecursion}
 use Rattle.std.proofs.Common.{refl}
-use Rattle.papaya_moments.specs.Given.Schedules.Moment.{Moment, start}
-use Rattle.papaya_moments.specs.Given.Runs.Log.{pair_at}
 use Rattle.papaya_moments.specs.Given.Schedules.Terms.{Terms, shards_of}
 use Rattle.papaya_moments.specs.Given.Effects.Known.{nothing_known}
 use Rattle.papaya_scenes.specs.Scene.{at_first, slot_of}
 use Rattle.papaya_moments.proofs.Calls.{whole_begins}
 use Rattle.papaya_histories.proofs.DueOn.{dues_begin}
-use Rattle.papaya_purposes.specs.Purposes.{NumbersLast}
+use Rattle.papaya_purposes.proofs.Stored.{first_lasts}
 use Rattle.papaya_acts.specs.Acts.{Act}
 use Rattle.papaya_acts.specs.Doings.{Doing, Does, BeginsReclaiming, BeginsClearing, StepsReclaiming}
 use Rattle.papaya_acts.specs.Lists.{nothing_done}
@@ -37,22 +35,15 @@ first_swept {K} {V} same terms roots = record { shows = first_shows; each = tt }
     first_shows = record {
       purposes = record {
         past = (dues_begin K V same roots named).history.past;
-        lasts = lasts_first;
+        lasts = first_lasts K V;
         shown = (whole_begins K V same roots named).all.shown;
         begun = λ of i u is c found. absurd (cc is);
         is_for = λ of i u is c found. absurd (cc is);
         come = λ of i u is st there c found. absurd (cc is);
       };
-      counters = record { shards = λ of st is. absurd (cc is); makes = λ i b is. absurd (cc is); adds = λ of i u is. absurd (cc is) };
-      tabled = record { maps = λ of none shard. refl; counts = λ of i u is. absurd (cc is) };
+      counters = record { shards = λ of st is shard few. absurd (cc is); makes = λ i b is. absurd (cc is); adds = λ of i u is removed adds c found. absurd (cc is) };
+      tabled = record { maps = λ of none shard. refl; counts = λ of i u is counts. absurd (cc is) };
     }
-      where
-        lasts_first : NumbersLast {K = K} {V = V} (past []) (moment [])
-        lasts_first begun = by (begun == 0)
-          where
-            by : (q : Bool) → AllByRecursion (λ (v : Moment K V). (n : ℕ) (pair : K × V) → pair_at v.stored n ≡ Some pair → pair_at (moment {K = K} {V = V} []).stored n ≡ Some pair) (if q then start ∷ [] else [])
-            by true = (λ n pair is. is, tt)
-            by false = tt
 
 module _ {K S : Type 0} (V : Type 0) (same : K → K → Bool) (by_hasher : S → K → ℕ) (hash : ℕ → K → ℕ) (batch_size roots : ℕ) (terms : Terms) where
   own_so : (doings : List (Doing K V S)) → AllByRecursion (Asks V same by_hasher hash batch_size roots (shards_of terms)) doings → AreOfTheirOwn V same by_hasher hash batch_size roots doings

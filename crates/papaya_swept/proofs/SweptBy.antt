@@ -169,16 +169,16 @@ module _ {K V : Type 0} (same : K → K → Bool) (hash : ℕ → K → ℕ) (te
   quiet called o nothing kind is = (other_outcomes_are_swept K V same terms log t (subst SaysNothing (sym is) nothing), ap (is_of_kind called) is ∙ kind)
 
   on_key : (one : OneKey K V) → d.call ≡ call.On one → (end : Called (Node K V)) → said ≡ of_called end → Comes (call.On one) said → Right (call.On one)
-  on_key one called end is comes = (calls_on_keys_are_swept K V same terms log t left.0 one left.1 (left.2 ∙ called), by end (comes_as (call.On one) (of_called end) is comes))
+  on_key one asked end is comes = (calls_on_keys_are_swept K V same terms log t left.0 one left.1 (left.2 ∙ asked), by end (comes_as (call.On one) (of_called end) is comes))
     where
       by : (x : Called (Node K V)) → Comes (call.On one) (of_called x) → is_of_kind (call.On one) t.outcome ≡ true
-      by called.Goes e = ap (is_of_kind (call.On one)) e
-      by called.Waits e = ap (is_of_kind (call.On one)) e
-      by (called.Gave node) e = ap (is_of_kind (call.On one)) e
-      by (called.Unstored node) e = ap (is_of_kind (call.On one)) e
-      by (called.Asks about) e = ap (is_of_kind (call.On one)) e
-      by (called.Done its) e = ap (is_of_kind (call.On one)) e
-      by (called.Refused fault) e = ap (is_of_kind (call.On one)) e
+      by called.Goes e = ap (is_of_kind {K = K} (call.On one)) e
+      by called.Waits e = ap (is_of_kind {K = K} (call.On one)) e
+      by (called.Gave node) e = ap (is_of_kind {K = K} (call.On one)) e
+      by (called.Unstored node) e = ap (is_of_kind {K = K} (call.On one)) e
+      by (called.Asks about) e = ap (is_of_kind {K = K} (call.On one)) e
+      by (called.Done its) e = ap (is_of_kind {K = K} (call.On one)) e
+      by (called.Refused fault) e = ap (is_of_kind {K = K} (call.On one)) e
 
   abbrev Told : Outcome V → Progress (Node K V) → Type 0
   Told o p = IsToldSo known2 p o
@@ -190,7 +190,7 @@ module _ {K V : Type 0} (same : K → K → Bool) (hash : ℕ → K → ℕ) (te
       let o = comes_as call.Len (progress.Done (answers.Count n)) is comes in (
         countings_are_swept K V same hash n named log log.now known s old new at whole purposes map i u here said leads d d_is called reads (subst (Told (outcome.Answered (answer.Counted n))) (sym is) refl) terms shards t
             caller worked o,
-        ap (is_of_kind call.Len) o,
+        ap (is_of_kind {K = K} call.Len) o,
       )
   counts called (counted.Refused fault) is comes = quiet call.Len (outcome.Refused fault) tt refl (comes_as call.Len (progress.Refused fault) is comes)
 
@@ -202,7 +202,7 @@ module _ {K V : Type 0} (same : K → K → Bool) (hash : ℕ → K → ℕ) (te
       let o = comes_as (call.Reserve more) (progress.Done answers.Reserved) is comes in (
         reservations_are_swept K V same hash more named log log.now known s old new at whole purposes map i u here said leads d d_is called reads (subst (Told (outcome.Answered answer.Completed)) (sym is) tt) terms shards t
             caller worked o,
-        ap (is_of_kind (call.Reserve more)) o,
+        ap (is_of_kind {K = K} (call.Reserve more)) o,
       )
   reserves more called (room.Refused fault) is comes = quiet (call.Reserve more) (outcome.Refused fault) tt refl (comes_as (call.Reserve more) (progress.Refused fault) is comes)
 
@@ -218,7 +218,7 @@ module _ {K V : Type 0} (same : K → K → Bool) (hash : ℕ → K → ℕ) (te
       let o = comes_as call.Clear (progress.Done answers.Swept) is comes in (
         clearings_are_swept K V same hash named log log.now known s old new at whole purposes map i u here said leads d d_is called changes (subst (Told (outcome.Answered answer.Completed)) (sym is) tt) terms shards t caller
             worked o,
-        ap (is_of_kind call.Clear) o,
+        ap (is_of_kind {K = K} call.Clear) o,
       )
   clears called none (swept.Refused fault) is comes = quiet call.Clear (outcome.Refused fault) tt refl (comes_as call.Clear (progress.Refused fault) is comes)
 
@@ -233,7 +233,7 @@ module _ {K V : Type 0} (same : K → K → Bool) (hash : ℕ → K → ℕ) (te
       let o = comes_as call.Retain (progress.Done answers.Swept) is comes in (
         retainings_are_swept K V same hash named log log.now known s old new at whole purposes map i u here said leads d d_is called changes (subst (Told (outcome.Answered answer.Completed)) (sym is) tt) terms shards t caller
             worked o,
-        ap (is_of_kind call.Retain) o,
+        ap (is_of_kind {K = K} call.Retain) o,
       )
   retains called none (swept.Refused fault) is comes = quiet call.Retain (outcome.Refused fault) tt refl (comes_as call.Retain (progress.Refused fault) is comes)
 
@@ -249,14 +249,14 @@ module _ {K V : Type 0} (same : K → K → Bool) (hash : ℕ → K → ℕ) (te
       let o = comes_as call.Walk (progress.Pair word) is comes in (
         walks_show K V same hash (number_by known2 word) named log log.now known s old new at whole purposes map i u here said leads d d_is called (changes, none)
             (subst (Told (outcome.Shows (number_by known2 word))) (sym is) names) terms shards t caller worked o,
-        ap (is_of_kind call.Walk) o,
+        ap (is_of_kind {K = K} call.Walk) o,
       )
   walks called none (swept.Asks word) is comes = quiet call.Walk (outcome.Asks (Some (number_by known2 word))) tt refl (comes_as call.Walk (progress.Asks (Some word)) is comes)
   walks called none swept.Done is comes =
       let o = comes_as call.Walk (progress.Done answers.Swept) is comes in (
         walks_show_all K V same hash named log log.now known s old new at whole purposes map i u here (subst (λ (p : Progress (Node K V)). StepLeads same hash i p s old new) is leads) d d_is called (λ k has. has) terms t
             caller worked o,
-        ap (is_of_kind call.Walk) o,
+        ap (is_of_kind {K = K} call.Walk) o,
       )
   walks called none (swept.Refused fault) is comes = quiet call.Walk (outcome.Refused fault) tt refl (comes_as call.Walk (progress.Refused fault) is comes)
 
@@ -281,10 +281,10 @@ module _ {K V : Type 0} (same : K → K → Bool) (hash : ℕ → K → ℕ) (te
 
 -- who shows a pair is a sweep
 no_pair : {K V : Type 0} (x : UnderWay K V K) (said : Progress (Node K V)) → SaidBy x said → (word : ℕ) → said ≡ progress.Pair word → (o : CallOverAll) × (x ≡ OverAll o)
-no_pair (OverAll o) said told word is = (o, refl)
-no_pair (OnKey x) said (end, e) word is = absurd (by end (sym is ∙ e))
+no_pair {K} {V} (OverAll o) said told word is = (o, refl)
+no_pair {K} {V} (OnKey x) said (end, e) word is = absurd (by end (sym is ∙ e))
   where
-    by : (y : Called (Node _)) → progress.Pair word ≡ of_called y → ⊥
+    by : (y : Called (Node K V)) → progress.Pair word ≡ of_called y → ⊥
     by called.Goes e = cc e
     by called.Waits e = cc e
     by (called.Gave node) e = cc e
@@ -292,17 +292,17 @@ no_pair (OnKey x) said (end, e) word is = absurd (by end (sym is ∙ e))
     by (called.Asks about) e = cc e
     by (called.Done its) e = cc e
     by (called.Refused fault) e = cc e
-no_pair (ForRoom r) said (end, e) word is = absurd (by end (sym is ∙ e))
+no_pair {K} {V} (ForRoom r) said (end, e) word is = absurd (by end (sym is ∙ e))
   where
-    by : (y : Room (Node _) Unit) → progress.Pair word ≡ of_outcome y → ⊥
+    by : (y : Room (Node K V) Unit) → progress.Pair word ≡ of_outcome y → ⊥
     by room.Goes e = cc e
     by room.Waits e = cc e
     by (room.Gave node) e = cc e
     by (room.Done made) e = cc e
     by (room.Refused fault) e = cc e
-no_pair (Counting sum) said (end, e) word is = absurd (by end (sym is ∙ e))
+no_pair {K} {V} (Counting sum) said (end, e) word is = absurd (by end (sym is ∙ e))
   where
-    by : (y : Counted ℕ) → progress.Pair word ≡ of_counting y → ⊥
+    by : (y : Counted ℕ) → ◌≡◌ {A = Progress (Node K V)} (progress.Pair word) (of_counting y) → ⊥
     by counted.Goes e = cc e
     by counted.Waits e = cc e
     by (counted.Done n) e = cc e
@@ -358,9 +358,9 @@ module _ {K V : Type 0} (same : K → K → Bool) (hash : ℕ → K → ℕ) (hi
         | inl e ↦ found_there same map m own.0.0 n (sym e ∙ own.2)
         | inr e ↦ absurd (let found = own.2 in cc (e, found))
       ]
-  walk_brings_none (OnKey x) is for = absurd for
-  walk_brings_none (ForRoom r) is for = absurd for
-  walk_brings_none (Counting sum) is for = absurd for
+  walk_brings_none (OnKey x) is for n v_in = absurd for
+  walk_brings_none (ForRoom r) is for n v_in = absurd for
+  walk_brings_none (Counting sum) is for n v_in = absurd for
 
   pub walks_bring_none : d.call ≡ call.Walk → NoneCame (past history) then_moment map
   walks_bring_none called = walk_brings_none u refl (subst (IsFor u) called (purposes.is_for map i u here d d_is))
