@@ -24,6 +24,7 @@ use Rattle.papaya_moments.specs.Given.Effects.declared.acting.Acting.TheVariants
 use Rattle.papaya_moments.specs.Given.Scenes.Ending.{ending_begun}
 use Rattle.papaya_moments.specs.Given.Scenes.Making.{scene_making}
 use Rattle.papaya_moments.specs.Given.Scenes.Scene.{Scene, slot_of}
+use Rattle.papaya_moments.specs.Given.Scenes.Stepping.{scene_after}
 use Rattle.papaya_moments.specs.Given.Follows.Calling.{come_to, told}
 use Rattle.papaya_moments.specs.Given.Others.Endings.{ending_after, without_map}
 use Rattle.papaya_moments.specs.Given.Others.Makings.{making_after}
@@ -80,7 +81,7 @@ module _ {K V : Type 0} (same : K → K → Bool) (hash : ℕ → K → ℕ) (te
         let o : Outcome V = outcome_of known2 (kind_of called) value said in
         let e : Entry K V = record { deed = Steps i; outcome = o; effects = effects; refused = is_refusal new.changed } in
         let shown = all.whole.all.shown.calls map i u here in
-        let on_map : d.map ≡ map = ap (λ (c : CallThere K V). c.map) (same_some d shown.0 (sym d_is ∙ shown.1)) ∙ shown.2.0 in
+        let on_map : d.map ≡ map = ap (λ (c : CallThere K V). c.map) (same_some d shown.0 (sym d_is ∙ shown.1)) ∙ shown.2 in
         let acted : acted_on {K = K} {V = V} (Steps i) (moment history) ≡ Some map = ap map_of_call d_is ∙ ap Some on_map in
         let v : Moment K V = with_effects (Some (named i)) (Some map) effects (moment history) in
         let worked_is : worked e (moment history) ≡ v = ap (λ (a : Option ℕ). with_effects (Some (named i)) a effects (moment history)) acted in
@@ -93,7 +94,7 @@ module _ {K V : Type 0} (same : K → K → Bool) (hash : ℕ → K → ℕ) (te
         let sweeps = sweeps_step same hash (past history) known s old new at all has.shows map i u here said leads called value (pair_words same hash history known s old new at all has.shows.purposes map i u here said leads d d_is)
         ended in
         one_more same terms history known known2 s _ all has e swept (come_to (named i) o 1 (worked e (moment history)))
-        (subst (λ (x : Moment K V). ShowsSweeps same (past history) (come_to (named i) o 1 x) known2 _) (sym worked_is) sweeps) refl);
+        (subst (λ (x : Moment K V). ShowsSweeps same (past history) (come_to (named i) o 1 x) known2 (let to = leads map u here in scene_after same s old new map i to.0 u to.1 said to.4)) (sym worked_is) sweeps) refl);
     calls_take = λ history known s old new at all shards has map i u here d d_is question asks standing there reply next next_is takes kind at2.
         one_more same terms history known known s _ all has (alone (Replies i reply) outcome.Goes) (none_swept same terms history (alone (Replies i reply) outcome.Goes) refl) (told (named i) reply (moment history))
         (sweeps_take same hash (past history) known s old new at all has.shows map i u here d d_is question asks standing there reply next next_is takes kind) refl;
