@@ -40,7 +40,7 @@ use Rattle.papaya_moments.specs.Given.Others.Walks.{given_up}
 use Rattle.papaya_moments.proofs.Given.Hands.Asking.{which}
 use Rattle.papaya_moments.proofs.Calls.{calls_keep_whole}
 use Rattle.papaya_histories.specs.Answers.{NamesPair}
-use Rattle.papaya_histories.specs.AsCalled.{IsAsCalled, IsSweptAs, SweepAsks}
+use Rattle.papaya_histories.specs.AsCalled.{IsAsCalled, IsSweptAs}
 use Rattle.papaya_histories.specs.Asking.{IsToldQuestion}
 use Rattle.papaya_histories.proofs.Calling.{first_steps_change_first}
 use Rattle.papaya_logged.proofs.Given.Kept.Between.{uncounted_at_first}

@@ -1,12 +1,7 @@
 -- Each entry of a history has done what its call is for, and the moment shows sweeps and counts: so it stays by each kind of step.
-use Rattle.std.specs.Prelude.{◌≡◌, ◌+◌, ℕ, suc, Bool, true, List, [], ◌∷◌, Option, Some, None}
+use Rattle.std.specs.Prelude.{◌≡◌, ℕ, suc, Bool, true, List, ◌∷◌, Option, Some, None}
 use Rattle.std.proofs.Common.{refl, ap, sym, subst, ◌∙◌, arith}
 use Rattle.seize_acts.proofs.Answers.{same_some}
-use Rattle.papaya_moments.specs.Given.Tables.declared.node.Node.{Node}
-use Rattle.papaya_moments.specs.Given.Seize.declared.progress.Progress.{Progress as Making}
-use Rattle.papaya_moments.specs.Given.Seize.declared.rows.settle.Settled.{Settled}
-use Rattle.papaya_moments.specs.Given.Tables.declared.setting.Setting.{Setting}
-use Rattle.papaya_moments.specs.Given.Resize.declared.new_map.NewMap.{NewMap}
 use Rattle.papaya_moments.specs.Given.Finishes.Maps.{Standing}
 use Rattle.papaya_moments.specs.Given.Schedules.declared.effect.Effect.{Effect}
 use Rattle.papaya_moments.specs.Given.Schedules.declared.outcome.Outcome.{Outcome}
@@ -16,22 +11,18 @@ use Rattle.papaya_moments.specs.Given.Schedules.Effects.{with_effects}
 use Rattle.papaya_moments.specs.Given.Schedules.Entry.{IfCall, acting}
 use Rattle.papaya_moments.specs.Given.Schedules.Moment.{Moment, UnderWay as CallThere}
 use Rattle.papaya_moments.specs.Given.Schedules.Terms.{Terms, shards_of}
-use Rattle.papaya_moments.specs.Given.Schedules.Views.{call_of}
 use Rattle.papaya_moments.specs.Given.Schedules.Transition.{worked_by}
 use Rattle.papaya_moments.specs.Given.Effects.Effects.{effects_of, known_after}
 use Rattle.papaya_moments.specs.Given.Effects.Known.{Known}
 use Rattle.papaya_moments.specs.Given.Effects.declared.acting.Acting.TheVariants as acts
-use Rattle.papaya_moments.specs.Given.Scenes.Ending.{ending_begun}
-use Rattle.papaya_moments.specs.Given.Scenes.Making.{scene_making}
 use Rattle.papaya_moments.specs.Given.Scenes.Scene.{Scene, slot_of}
 use Rattle.papaya_moments.specs.Given.Scenes.Stepping.{scene_after}
 use Rattle.papaya_moments.specs.Given.Follows.Calling.{come_to, told}
-use Rattle.papaya_moments.specs.Given.Others.Endings.{ending_after, without_map}
-use Rattle.papaya_moments.specs.Given.Others.Makings.{making_after}
+use Rattle.papaya_moments.specs.Given.Others.Endings.{without_map}
 use Rattle.papaya_moments.specs.Given.Others.Walks.{given_up}
 use Rattle.papaya_purposes.proofs.Nothing.{no_calls_are_swept}
 use Rattle.papaya_agrees.specs.Shards.{ShardsAre}
-use Rattle.papaya_deeds.specs.Deeds.{Begins, Deed, Ends, Entry, Makes, MapFails, MapGoes, ReclaimsAll, Replies, Steps, Stops, acted_on, after, caller_of, come, map_of_call, moment, named, worked}
+use Rattle.papaya_deeds.specs.Deeds.{Begins, Ends, Entry, Makes, MapFails, MapGoes, ReclaimsAll, Replies, Steps, Stops, acted_on, after, caller_of, come, map_of_call, moment, named, worked}
 use Rattle.papaya_deeds.specs.History.{IsSwept, is_of_kind, past, transition}
 use Rattle.papaya_named.specs.Seen.{kind_of}
 use Rattle.papaya_played.specs.Play.{call_for, is_over, is_refusal, making_outcome, outcome_of, row_deed, settled_outcome}

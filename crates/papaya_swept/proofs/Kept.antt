@@ -16,14 +16,13 @@ use Rattle.papaya_moments.specs.Given.Finishes.Endings.{Finishing}
 use Rattle.papaya_moments.specs.Given.Finishes.Machines.{ToldOfKind, machine_of}
 use Rattle.papaya_moments.specs.Given.Finishes.Makings.{Beginning, HasMade}
 use Rattle.papaya_moments.specs.Given.Finishes.Maps.{Standing, with_call}
-use Rattle.papaya_moments.specs.Given.Schedules.declared.effect.Effect.{Effect}
 use Rattle.papaya_moments.specs.Given.Schedules.declared.call.Call.{Call}
 use Rattle.papaya_moments.specs.Given.Schedules.declared.call.Reply.{Reply}
 use Rattle.papaya_moments.specs.Given.Schedules.declared.outcome.Outcome.{Outcome}
 use Rattle.papaya_moments.specs.Given.Schedules.declared.outcome.Outcome.TheVariants as outcome
 use Rattle.papaya_moments.specs.Given.Schedules.Effects.{AtEachEffect, with_effects}
 use Rattle.papaya_moments.specs.Given.Schedules.Entry.{ends_call}
-use Rattle.papaya_moments.specs.Given.Schedules.Moment.{Asking, MapThere, Moment, UnderWay as CallThere}
+use Rattle.papaya_moments.specs.Given.Schedules.Moment.{Asking, MapThere, UnderWay as CallThere}
 use Rattle.papaya_moments.specs.Given.Schedules.Views.{call_of, tables_of}
 use Rattle.papaya_moments.specs.Given.Effects.Effects.{effects_of, known_after}
 use Rattle.papaya_moments.specs.Given.Effects.Known.{Known}

@@ -1,6 +1,6 @@
 -- What stays so by each kind of step stays so by each act, as it is played, and where a caller that reclaims all takes a step; so it is wherever a list of acts has led.
-use Rattle.std.specs.Prelude.{◌≡◌, ℕ, Bool, List, ◌∷◌, Option, Some, None}
-use Rattle.std.proofs.Common.{refl, ap, sym, subst, ◌∙◌}
+use Rattle.std.specs.Prelude.{◌≡◌, ℕ, Bool, List, Option}
+use Rattle.std.proofs.Common.{ap, sym, subst, ◌∙◌}
 use Rattle.seize_acts.specs.Answers.{Grant}
 use Rattle.papaya_scenes.specs.Given.Seize.World.{Request, Row}
 use Rattle.papaya_scenes.specs.Given.Seize.declared.rows.reclaim_all.ReclaimAll.{ReclaimAll}
@@ -12,16 +12,13 @@ use Rattle.papaya_acts.specs.Acts.{Act, Answer, BeginsCall, StepsCall, TellsCall
 use Rattle.papaya_acts.specs.AsSteps.{LeadsAs, changed_by, held_in, row_changed, row_told}
 use Rattle.papaya_acts.specs.Leads.{Led, MayBe}
 use Rattle.papaya_agrees.specs.Fresh.{HasNewNumber}
-use Rattle.papaya_agrees.proofs.Numbers.{NumbersHold}
-use Rattle.papaya_deeds.specs.Deeds.{Entry, moment}
-use Rattle.papaya_played.specs.Play.{State, all_begun, all_stepped, row_begun, row_outcome, row_stepped}
+use Rattle.papaya_deeds.specs.Deeds.{Entry}
+use Rattle.papaya_played.specs.Play.{State, all_stepped, row_outcome, row_stepped}
 use Rattle.papaya_played.specs.Reached.{IsOf, row_or_rests, rows_beside}
 use Rattle.papaya_played.proofs.Along.{At, StaysSo, far, held, lists_at}
 use Rattle.papaya_played.proofs.Noted.{CallsAreNoted}
 use Rattle.papaya_played.proofs.PlayedAs.{PlayedAs, played_as, reclaimed_as}
-use Rattle.papaya_linear.specs.Coming.{MapsComeAndGo}
 use Rattle.papaya_linear.proofs.Holding.{AllHolds, ending_so, making_so}
-use Rattle.papaya_linear.proofs.Holds.{Holds}
 use Rattle.papaya_linear.proofs.Stays.{Of, all_stay, all_tied, change, end}
 use Rattle.papaya_swept.proofs.Kept.{IsKept}
 use Rattle.papaya_swept.proofs.KeptByCalls.{asks_kept, begins_kept, steps_kept, stops_kept, told_kept}

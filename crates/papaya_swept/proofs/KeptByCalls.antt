@@ -1,5 +1,5 @@
 -- What stays so by each kind of step stays so by each act of a call, as it is played.
-use Rattle.std.specs.Prelude.{◌≡◌, ◌⊎◌, ℕ, Bool, true, false, List, [], ◌∷◌, Option, Some, None, Ok, is_ok, is_err, option_map, if◌then◌else◌}
+use Rattle.std.specs.Prelude.{◌≡◌, ◌⊎◌, ℕ, Bool, true, false, List, Option, Some, None, Ok, is_ok, is_err, option_map}
 use Rattle.std.proofs.Common.{refl, ap, sym, subst, ◌∙◌, inl, inr}
 use Rattle.seize_acts.specs.Answers.{Grant}
 use Rattle.papaya_scenes.specs.Given.Raw.Machine.{machine_asked, machine_replied}

@@ -39,7 +39,6 @@ use Rattle.papaya_moments.specs.Given.Scenes.Scene.{IsOnSlot, Scene, slot_of}
 use Rattle.papaya_moments.specs.Given.Scenes.declared.row.RowTold.{RowTold}
 use Rattle.papaya_moments.specs.Given.Scenes.declared.row.SlotCall.{SlotCall}
 use Rattle.papaya_moments.specs.Given.Scenes.declared.row.SlotRow.{SlotRow}
-use Rattle.papaya_moments.specs.Given.Others.Elsewhere.{HasSame}
 use Rattle.papaya_moments.specs.Given.Others.Endings.{ending_after, without_map}
 use Rattle.papaya_moments.specs.Given.Others.Makings.{WasNew, making_after}
 use Rattle.papaya_moments.specs.Given.Others.Rows.{scene_then}
@@ -51,11 +50,10 @@ use Rattle.papaya_logged.proofs.Given.Kept.Others.{rows_find_kept}
 use Rattle.papaya_logged.proofs.Reclaiming.Rest.{reclaiming_found}
 use Rattle.papaya_logged.proofs.Reclaiming.Rows.{EmptiesRoot, reclaiming_tells}
 use Rattle.papaya_logged.proofs.Reclaiming.Steps.{reclaiming_whole}
-use Rattle.papaya_finds.specs.Within.{many_of}
 use Rattle.papaya_finds.proofs.Grows.Steps.{tables_have_been}
 use Rattle.papaya_settles.specs.Counts.{is_to_count}
 use Rattle.papaya_settles.proofs.Uncounted.{CountsNowhere}
-use Rattle.papaya_shards.specs.ShardWords.{IsUncounted, ShowsCounters, ShowsShards}
+use Rattle.papaya_shards.specs.ShardWords.{IsUncounted, ShowsShards}
 use Rattle.papaya_shards.proofs.ShardBetween.{counters_stay}
 use Rattle.papaya_shards.proofs.ShardKept.{none_shards, same_setting, word_kept}
 use Rattle.papaya_shards.proofs.ShardMakes.{makings_keep_counters}

@@ -1,5 +1,5 @@
 -- On a map that has had no table nothing was counted, and no call is about to count: so it stays by each kind of step.
-use Rattle.std.specs.Prelude.{◌≡◌, ◌≢◌, ◌⊎◌, ◌<◌, ◌≤◌, ◌==◌, ◌&&◌, ◌||◌, nat_lt, cond, ℕ, Bool, true, false, List, [], ◌∷◌, filter, length, Option, Some, None}
+use Rattle.std.specs.Prelude.{◌≡◌, ◌⊎◌, ◌<◌, ◌≤◌, ◌==◌, ◌&&◌, ◌||◌, nat_lt, cond, ℕ, Bool, true, false, List, [], ◌∷◌, filter, length, Option, Some, None}
 use Rattle.std.specs.List.{list_any}
 use Rattle.std.proofs.Common.{refl, ap, sym, subst, ◌∙◌, arith, inl, inr}
 use Rattle.std.proofs.lemmas.Bool.{cases_eq, cases_lt, eq-eqb}
@@ -9,7 +9,6 @@ use Rattle.papaya_moments.specs.Given.Callers.Together.{UnderWay, OnKey, ForRoom
 use Rattle.papaya_moments.specs.Given.Finishes.Machines.{machine_of}
 use Rattle.papaya_moments.specs.Given.Finishes.Maps.{Standing}
 use Rattle.papaya_moments.specs.Given.Schedules.declared.effect.Effect.{Effect}
-use Rattle.papaya_moments.specs.Given.Schedules.declared.effect.Effect.TheVariants as effect
 use Rattle.papaya_moments.specs.Given.Schedules.declared.effect.Spot.{Spot}
 use Rattle.papaya_moments.specs.Given.Schedules.Effects.{AtEachEffect, with_effects}
 use Rattle.papaya_moments.specs.Given.Schedules.Moment.{InMap, Moment, TableThere}
@@ -27,7 +26,7 @@ use Rattle.papaya_moments.proofs.Given.Follows.Finds.{tables_many}
 use Rattle.papaya_moments.proofs.Given.Hands.Asking.{which}
 use Rattle.papaya_settles.specs.Counts.{ShowsCounts, is_to_count}
 use Rattle.papaya_settles.proofs.Calls.{goes_as_one}
-use Rattle.papaya_settles.proofs.Uncounted.{CountsNowhere, none_counts}
+use Rattle.papaya_settles.proofs.Uncounted.{none_counts}
 use Rattle.papaya_shards.specs.Adds.{adds_of}
 use Rattle.papaya_shards.specs.ShardWords.{ShowsCounters}
 use Rattle.papaya_shards.proofs.Adds.{AddsIts, AddsNone, Brings, StepAdds, machine_adds, machine_not_adds}
