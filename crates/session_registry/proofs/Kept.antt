@@ -41,6 +41,10 @@ pub where_ok : {T E : Type 0} (r : Result T E) {P Q : Type 0} → (P → Q) → 
 where_ok (Ok x) follows p = follows p
 where_ok (Err e) follows p = tt
 
+-- what is so where a call was done, once it was
+pub on_ok : {T E : Type 0} (P : Type 0) (r : Result T E) (x : T) → r ≡ Ok x → OnOk r P → P
+on_ok {T} {E} P r x is = subst (λ (q : Result T E). OnOk q P) is
+
 -- and what is so where it was done
 pub ok_of : {T E : Type 0} (P : T → Type 0) (Q : E → Type 0) (r : Result T E) (x : T) → r ≡ Ok x → MatchResult r P Q → P x
 ok_of {T} {E} P Q r x is m = subst (λ (q : Result T E). MatchResult q P Q) is m

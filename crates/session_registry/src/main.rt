@@ -1,11 +1,8 @@
-//! Keeps sessions by their tokens: each line of the input opens one, ends one, ends all that have lasted long enough, or tells whose one is. Last comes a
-//! snapshot of who has which, as JSON.
+//! Keeps sessions by their tokens: lines of the input open one, end one, end all that have lasted long enough, or ask whose one is. Last comes all, as JSON.
 #![tactic(auto)]
 
-ghost use Rattle.std.specs.Prelude.{◌≡◌, IfOk, None, OnOk};
-ghost use Rattle.std.specs.Str.{bytes_eq};
-ghost use Rattle.papaya_seq.specs.Pairs.{found_by};
-ghost use Rattle.session_registry.specs.Sessions.{AllLast};
+ghost use Rattle.std.specs.Prelude.{IfOk};
+ghost use Rattle.session_registry.specs.Sessions.{AllLast, IsGone};
 
 use papaya_seq::{Fault, HashMap, Text, ToJson};
 use std::alloc::Global;
@@ -29,25 +26,26 @@ fn open(sessions: &mut Sessions, token: Text, owner: Text, until: u64) -> Result
 
 /// Ends the session with this token, and tells whether there was one.
 fn end(sessions: &mut Sessions, token: &str) -> Result<bool, Fault>
-    ensures gone { IfOk result (λ _. found_by (bytes_eq token.now) sessions.new.pairs ≡ None) }
+    ensures gone { IfOk result (λ _. IsGone token.now sessions.new.pairs) }
 {
     Ok(sessions.remove(&token)?.is_some())
 }
 
-/// Ends all sessions that don't last past this moment.
-fn expire(sessions: &mut Sessions, now: u64) -> Result<(), Fault>
-    ensures last { OnOk result (AllLast now sessions.new.pairs) }
+/// Ends all sessions that don't last past this moment, and tells how many are left.
+fn expire(sessions: &mut Sessions, now: u64) -> Result<u64, Fault>
+    ensures last { IfOk result (λ _. AllLast now sessions.new.pairs) }
 {
-    sessions.retain(|_, session| session.until > now)
+    sessions.retain(|_, session| session.until > now)?;
+    Ok(sessions.len())
 }
 
-/// Who has which session.
-fn snapshot(sessions: &Sessions, alloc: Global) -> Result<HashMap<Text, Text>, Fault> {
+/// Who has which session, as JSON.
+fn snapshot(sessions: &Sessions, alloc: Global) -> Result<String, Fault> {
     let mut owners = HashMap::<Text, Text>::new(alloc)?;
     for (token, session) in sessions {
         owners.insert(token.clone()?, session.owner.clone()?)?;
     }
-    Ok(owners)
+    Ok(owners.to_value(alloc)?.to_string(alloc)?)
 }
 
 /// The moment that a word says.
@@ -56,24 +54,26 @@ fn moment(word: &str) -> io::Result<u64> {
         .map_err(|_| io::Error::other("a moment is a number"))
 }
 
+/// Prints whose the session with this token is.
+fn tell<R: Print>(rt: &R, sessions: &Sessions, token: &str) -> io::Result<()> {
+    match sessions.get(&token) {
+        Some(session) => println!(rt; "{token} is of {}", session.owner),
+        None => println!(rt; "{token} is nobody's"),
+    }
+}
+
 /// Does what a line says, and prints what it came to.
 fn obey<R: Print>(rt: &R, alloc: Global, sessions: &mut Sessions, line: &str) -> io::Result<()> {
-    let mut words = line.split_whitespace();
-    match (words.next(), words.next(), words.next(), words.next()) {
-        (Some("open"), Some(token), Some(owner), Some(until)) => {
+    let words: Vec<&str> = line.split_whitespace().collect(alloc)?;
+    match *words {
+        ["open", token, owner, until] => {
             let (key, whose) = (Text::new(alloc, token)?, Text::new(alloc, owner)?);
             open(sessions, key, whose, moment(until)?)?;
             println!(rt; "{owner} has {token}")
         }
-        (Some("end"), Some(token), None, None) => println!(rt; "ended: {}", end(sessions, token)?),
-        (Some("expire"), Some(now), None, None) => {
-            expire(sessions, moment(now)?)?;
-            println!(rt; "{} are left", sessions.len())
-        }
-        (Some("whose"), Some(token), None, None) => match sessions.get(&token) {
-            Some(session) => println!(rt; "{token} is of {}", session.owner),
-            None => println!(rt; "{token} is nobody's"),
-        },
+        ["end", token] => println!(rt; "ended: {}", end(sessions, token)?),
+        ["expire", now] => println!(rt; "{} are left", expire(sessions, moment(now)?)?),
+        ["whose", token] => tell(rt, sessions, token),
         _ => Err(io::Error::other("open TOKEN OWNER UNTIL, end TOKEN, expire NOW, whose TOKEN")),
     }
 }
@@ -83,6 +83,5 @@ fn main(rt: HostRuntime) -> io::Result<()> {
     for line in rt.lines(rt.alloc()) {
         obey(&rt, rt.alloc(), &mut sessions, line?.as_str())?;
     }
-    let owners = snapshot(&sessions, rt.alloc())?;
-    println!(rt; "{}", owners.to_value(rt.alloc())?.to_string(rt.alloc())?)
+    println!(rt; "{}", snapshot(&sessions, rt.alloc())?)
 }
