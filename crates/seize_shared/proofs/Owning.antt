@@ -1,7 +1,7 @@
 -- What a seat without a slot may do with the block that it has, and what it knows then.
 use Rattle.std.specs.Prelude.{◌<◌, ◌==◌, Option, Some, Ok, Err, if◌then◌else◌}
 use Rattle.std.proofs.Common.{◌≡◌, ℕ, ◌^◌, ◌%◌, Bool, sym, subst, ap, ◌∙◌}
-use Rattle.std.proofs.lemmas.Bool.{ne_eqb}
+use Rattle.std.proofs.lemmas.Bool.{ne_eqb, eq-eqb}
 use Rattle.seize_words.specs.Op.{Op, Swap, Exchange, Make, Take, Found, Exchanged, Made as OutMade, Taken}
 use Rattle.seize_words.specs.Word.{block_in, link_to}
 use Rattle.seize_words.specs.declared.at.At.TheVariants.{Root}
@@ -112,6 +112,17 @@ module _ {T : Type 0} (defers : T → Option ℕ) (v w : View T) where
   pub own_taken_told : (b : ℕ) (x value : T) → v ≡ Brings b x → told defers v (Take b) (Taken value) w → value ≡ x
   own_taken_told b x value is so = (subst (λ (y : View T). told defers y (Take b) (Taken value) w) is so).1.0
 
+  -- what was put where nothing was, taken back, or put, leaves a seat that rests
+
+  pub own_rests_told : (b : ℕ) (value : T) → brought_by v ≡ Some b → told defers v (Take b) (Taken value) w → w ≡ Rests
+  own_rests_told b value e so =
+      let k = brings b v e in let t = subst (λ (x : View T). told defers x (Take b) (Taken value) w) k.1 so in t.2 ∙ ap alone_with t.1.1
+
+  pub own_placed_told : (b r word was : ℕ) → brought_by v ≡ Some b → told defers v (Exchange (Root r) 0 word) (Exchanged (Ok was)) w → w ≡ Rests
+  own_placed_told b r word was e so =
+      let k = brings b v e in
+      let t = subst (λ (x : View T). told defers x (Exchange (Root r) 0 word) (Exchanged (Ok was)) w) k.1 so in t.2 ∙ ap alone_with t.1
+
   own_linked_told : (b r word old : ℕ) → brought_by v ≡ Some b → told defers v (Swap (Root r) word) (Found old) w → w ≡ alone_with (cut_in old)
   own_linked_told b r word old e so =
       let k = brings b v e in
@@ -134,6 +145,17 @@ borne_block T word b is ne =
 
 module _ {T : Type 0} (defers : T → Option ℕ) (v w : View T) where
   -- and its seat bears it
+  pub linked_is : (b r word old c : ℕ) → brought_by v ≡ Some b → told defers v (Swap (Root r) word) (Found old) w → c ≡ block_in old → (c ≡ 0 → ⊥)
+      → w ≡ Bears c
+  linked_is b r word old c e so is ne =
+      own_linked_told defers v w b r word old e so
+      ∙ ap (λ (y : Bool). alone_with (if y then Nothing else Cut (block_in old))) (ne_eqb (block_in old) 0 (λ z. ne (is ∙ z))) ∙ ap Bears (sym is)
+
+  pub linked_rests : (b r word old : ℕ) → brought_by v ≡ Some b → told defers v (Swap (Root r) word) (Found old) w → block_in old ≡ 0 → w ≡ Rests
+  linked_rests b r word old e so is =
+      own_linked_told defers v w b r word old e so
+      ∙ ap (λ (y : Bool). alone_with (if y then Nothing else Cut (block_in old))) (eq-eqb (block_in old) 0 is)
+
   pub linked_bears : (b r word old c : ℕ) → brought_by v ≡ Some b → told defers v (Swap (Root r) word) (Found old) w → c ≡ block_in old → (c ≡ 0 → ⊥)
       → borne_by w ≡ Some c
   linked_bears b r word old c e so is ne = ap borne_by (own_linked_told defers v w b r word old e so) ∙ borne_block T old c is ne
@@ -155,3 +177,26 @@ module _ {T : Type 0} (fixed : Fixed) (v u v2 u2 : View T) (slot b : ℕ) where
   pub cuts_told : (has : Has T) → IsLooking has → v ≡ Bears b → u ≡ Inside slot has → Hands fixed v u v2 u2 → u2 ≡ Inside slot (Cut b)
   cuts_told has looks is on so =
       cut_so has looks (subst (λ (x : View T). Hands fixed (Bears b) x v2 u2) on (subst (λ (x : View T). Hands fixed x u v2 u2) is so))
+
+  -- and who handed it on rests
+
+  rests_so : (x : View T) → IsTaker x → Hands fixed (Bears b) x v2 u2 → v2 ≡ Rests
+  rests_so (Outside t) takes so = so.0
+  rests_so (Inside t Nothing) takes so = so.0
+  rests_so (Inside t (Seen a)) takes so = so.0
+  rests_so (Inside t (Made c x)) takes so = absurd takes
+  rests_so (Inside t (Both c x a)) takes so = absurd takes
+  rests_so (Inside t (Cut c)) takes so = absurd takes
+  rests_so Rests takes so = absurd takes
+  rests_so (Registers c) takes so = absurd takes
+  rests_so (Owes t c) takes so = absurd takes
+  rests_so (Enters t) takes so = absurd takes
+  rests_so (Settles c why seen left) takes so = absurd takes
+  rests_so (Leaves t size way) takes so = absurd takes
+  rests_so (Left t size way) takes so = absurd takes
+  rests_so (Frees t) takes so = absurd takes
+  rests_so (Brings c x) takes so = absurd takes
+  rests_so (Bears c) takes so = absurd takes
+
+  pub rests_told : IsTaker u → v ≡ Bears b → Hands fixed v u v2 u2 → v2 ≡ Rests
+  rests_told takes is so = rests_so u takes (subst (λ (x : View T). Hands fixed x u v2 u2) is so)

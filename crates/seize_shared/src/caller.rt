@@ -15,6 +15,9 @@ ghost use Rattle.seize_views.specs.declared.view.View.TheVariants.{Rests, Regist
 ghost use Rattle.seize_views.specs.declared.view.Has.{Has};
 ghost use Rattle.seize_views.specs.declared.view.Has.TheVariants.{Nothing, Made, Seen, Cut};
 
+mod alone;
+mod memory;
+
 use crate::turns::{Entering, Forgetting, Freeing, Handing, Registering};
 use seize::rows::{Defers, needed_bucket};
 use seize::states::{ACTIVE, FREE, HEAD, IDLE, LAST_SLOT, NEVER};
@@ -24,10 +27,10 @@ use seize_words::{At, Fault, Link};
 
 /// One of those who share the memory: a seat of it, with the memory. It is a memory for the rows that it has under way. It may be let go where it holds no slot.
 pub struct Caller<'a, T: Defers> {
-    pub(crate) blocks: &'a Blocks<T, OfRows>,
-    pub(crate) batch_size: u64,
-    pub(crate) seat: Seat<T, OfRows>,
-    pub(crate) near: u64,
+    blocks: &'a Blocks<T, OfRows>,
+    batch_size: u64,
+    seat: Seat<T, OfRows>,
+    near: u64,
     ghost own: { seat.base ≡ blocks.now.words.id.views_name },
     ghost sized: { blocks.now.words.fixed.batch_size ≡ batch_size },
 }
@@ -261,6 +264,9 @@ impl<'a, T: Defers> Caller<'a, T> {
         ensures outside { self.old.seat.view.knows ≡ Outside _slot → self.new.seat.view.knows ≡ Owes _slot _block }
         ensures inside { (has : Has T) → IsLooking has → self.old.seat.view.knows ≡ Inside _slot has
             → self.new.seat.view.knows ≡ Inside _slot (Cut _block) }
+        ensures did { self.new.seat.view.did ≡ self.old.seat.view.did }
+        ensures rests { seat.new.view.knows ≡ Rests }
+        ensures base { seat.new.base ≡ seat.old.base }
         ensures blocks { self.new.blocks ≡ self.old.blocks }
     {
         self.blocks.meet::<Handing>(seat, &mut self.seat);

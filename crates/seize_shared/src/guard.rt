@@ -5,7 +5,7 @@ ghost use Rattle.seize_views.specs.declared.view.Began.{Began};
 ghost use Rattle.seize_views.specs.declared.view.Began.TheVariants.{Retirement, Section, Trial};
 ghost use Rattle.seize_views.specs.declared.view.Deed.{Deed};
 ghost use Rattle.seize_views.specs.declared.view.Deed.TheVariants.{Looked, Wrote};
-ghost use Rattle.seize_views.specs.declared.view.View.TheVariants.{Bears};
+ghost use Rattle.seize_views.specs.declared.view.View.TheVariants.{Bears, Rests};
 
 use crate::owned::Unlinked;
 use crate::stay::Stay;
@@ -49,7 +49,7 @@ impl<'a, T: Defers + Drop> Registration<'a, T> {
 
     /// Retires a block that was taken from a root of the same memory, without a section. Where a guard was forgotten its section stays open.
     pub fn retire<'u>(&mut self, old: Unlinked<'u, T>)
-        requires home { old.blocks.now.words.id.views_name ≡ self.old.stay.caller.blocks.now.words.id.views_name }
+        requires home { old.caller.blocks.now.words.id.views_name ≡ self.old.stay.caller.blocks.now.words.id.views_name }
         ensures home { self.new.stay.caller.blocks ≡ self.old.stay.caller.blocks }
         ensures slot { self.new.stay.slot ≡ self.old.stay.slot }
         ensures began { self.new.stay.caller.seat.view.began ≡ Retirement }
@@ -171,7 +171,10 @@ pub trait Guard<T: Defers> {
         ensures slot { slot self.new ≡ slot self.old }
         ensures inside { inside self.new ≡ inside self.old }
         ensures fresh { seen self.new ≡ 0 }
-        ensures began { began self.new ≡ Retirement };
+        ensures began { began self.new ≡ Retirement }
+        ensures did { did self.new ≡ did self.old }
+        ensures rests { seat.new.view.knows ≡ Rests }
+        ensures base { seat.new.base ≡ seat.old.base };
 
     /// Tries the slot's batch, whatever its length. A value that is reclaimed is dropped. What it has seen it doesn't know any more.
     fn flush(&mut self)

@@ -4,7 +4,6 @@
 
 mod caller;
 mod guard;
-mod memory;
 mod owned;
 mod stay;
 mod turns;

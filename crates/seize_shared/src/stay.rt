@@ -5,7 +5,7 @@ ghost use Rattle.seize_shared.specs.Lent.{IsLent};
 ghost use Rattle.seize_shared.specs.Standing.{standing};
 ghost use Rattle.seize_views.specs.declared.view.Began.TheVariants.{Retirement, Section, Trial};
 ghost use Rattle.seize_views.specs.declared.view.Deed.TheVariants.{Looked, Wrote};
-ghost use Rattle.seize_views.specs.declared.view.View.TheVariants.{Bears};
+ghost use Rattle.seize_views.specs.declared.view.View.TheVariants.{Bears, Rests};
 
 use crate::caller::Caller;
 use crate::owned::Unlinked;
@@ -238,6 +238,9 @@ impl<'a, T: Defers + Drop> Stay<'a, T> {
         ensures inside { self.new.inside ≡ self.old.inside }
         ensures fresh { self.new.seen ≡ 0 }
         ensures began { self.new.caller.seat.view.began ≡ Retirement }
+        ensures did { self.new.caller.seat.view.did ≡ self.old.caller.seat.view.did }
+        ensures rests { seat.new.view.knows ≡ Rests }
+        ensures base { seat.new.base ≡ seat.old.base }
     {
         self.caller.takes_over(self.slot, seat, block);
         if self.inside {
@@ -250,20 +253,16 @@ impl<'a, T: Defers + Drop> Stay<'a, T> {
 
     /// Retires a block that has a seat of its own.
     pub(crate) fn retires<'u>(&mut self, old: Unlinked<'u, T>)
-        requires home { old.blocks.now.words.id.views_name ≡ self.old.caller.blocks.now.words.id.views_name }
+        requires home { old.caller.blocks.now.words.id.views_name ≡ self.old.caller.blocks.now.words.id.views_name }
         ensures home { self.new.caller.blocks ≡ self.old.caller.blocks }
         ensures slot { self.new.slot ≡ self.old.slot }
         ensures inside { self.new.inside ≡ self.old.inside }
         ensures fresh { self.new.seen ≡ 0 }
         ensures began { self.new.caller.seat.view.began ≡ Retirement }
     {
-        let Unlinked {
-            blocks: _,
-            seat,
-            block,
-        } = old;
-        let mut seat = seat;
-        self.takes_over(&mut seat, block);
+        let Unlinked { caller, block } = old;
+        let mut caller = caller;
+        caller.hands_over(self, block);
     }
 
     /// Tries the slot's batch, whatever its length, where its section is open.

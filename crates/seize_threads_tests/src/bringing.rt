@@ -67,10 +67,8 @@ fn both<R: Threads + Sync>(rt: &R, alloc: Global, drops: &Table) -> Result<bool,
         || brings_all(blocks, drops, TIMES),
         || goes(blocks, drops, 0),
     );
-    match put {
-        Some(put) => Ok(put == TIMES as u64 && went(met)),
-        None => Ok(false),
-    }
+    let met = went(met);
+    Ok(put == Some(TIMES as u64) && met)
 }
 
 #[test]
@@ -99,14 +97,24 @@ fn places(blocks: &Blocks<Counted, OfRows>, drops: &Table, place: usize) -> Opti
     }
 }
 
+/// Whether one of them has put its value, and the other one has not.
+fn differ(first: Option<bool>, second: Option<bool>) -> bool {
+    match (first, second) {
+        (Some(first), Some(second)) => first != second,
+        _ => false,
+    }
+}
+
 /// Two of them over one memory; tells whether one of them alone has put its value, and the other one's came back.
 fn one_places<R: Threads + Sync>(rt: &R, alloc: Global, drops: &Table) -> Result<bool, AllocError> {
     let home = Home::<Counted, OfRows>::open(alloc, 1, 8, &CHOSEN)?;
     let blocks = &home.blocks;
-    match thread::join(rt, || places(blocks, drops, 0), || places(blocks, drops, 1)) {
-        (Some(first), Some(second)) => Ok(first != second),
-        _ => Ok(false),
-    }
+    let (first, second) = thread::join(
+        rt,
+        || places(blocks, drops, 0),
+        || places(blocks, drops, 1),
+    );
+    Ok(differ(first, second))
 }
 
 #[test]

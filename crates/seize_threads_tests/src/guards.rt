@@ -1,5 +1,5 @@
 //! Guards that end where their scope does: two threads have a slot each, and open a section of it again and again.
-ghost use Rattle.std.specs.Prelude.{◌≡◌, IfSome};
+ghost use Rattle.std.specs.Prelude.{◌≡◌};
 
 use crate::ground::SIZE;
 use crate::retiring::{Counted, Table, all_are, dropped, table};
@@ -71,7 +71,9 @@ fn both<R: Threads + Sync>(rt: &R, alloc: Global, drops: &Table) -> Result<bool,
         || goes(blocks, drops, 0),
         || goes(blocks, drops, TIMES),
     );
-    Ok(went(first) && went(second))
+    let one = went(first);
+    let other = went(second);
+    Ok(one && other)
 }
 
 #[test]
@@ -255,36 +257,53 @@ fn a_guard_sees_what_it_has_put_and_drops_what_it_has_taken(rt: HostRuntime) -> 
     Ok(())
 }
 
-/// Puts the value of a place at the root, by any guard, and sees it there; answers the number of its slot.
-fn puts_by<G: Guard<Counted>>(guard: &mut G, drops: &Table, place: usize) -> Option<u64>
-    ensures { IfSome result (λ slot. slot ≡ G.slot guard.old) }
+/// Puts a value at the root, by any guard, and looks there; answers the place that it has seen, and the number of its slot.
+fn puts_by<G: Guard<Counted>>(guard: &mut G, value: Counted) -> (Option<usize>, u64)
+    ensures { result.1 ≡ G.slot guard.old }
 {
-    guard.put(0, Counted::of(drops, place)?).ok()?;
+    drop(guard.put(0, value));
     guard.see(0);
-    let there = match guard.value() {
-        Some(value) => value.place == place,
-        None => false,
+    let place = match guard.value() {
+        Some(value) => Some(value.place),
+        None => None,
     };
-    if there { Some(guard.thread_id()) } else { None }
+    (place, guard.thread_id())
 }
 
-/// The slots of a guard that stays on its thread and of one that may be sent, which put a value one after the other.
-fn puts_by_both(blocks: &Blocks<Counted, OfRows>, drops: &Table) -> Option<(u64, u64)>
+/// What a guard that stays on its thread and one that may be sent come to, which put a value one after the other.
+fn puts_by_both(
+    blocks: &Blocks<Counted, OfRows>,
+    first: Counted,
+    second: Counted,
+) -> Option<((Option<usize>, u64), (Option<usize>, u64))>
     requires { blocks.now.words.fixed ≡ record { batch_size = 5; roots = 1 } }
 {
     let mut registration = Registration::new(blocks, &CHOSEN).ok()?;
     let mut owned = OwnedGuard::enter(blocks, &CHOSEN).ok()?;
-    let first = puts_by(&mut registration.enter(), drops, 0)?;
-    let second = puts_by(&mut owned, drops, 1)?;
+    let one = puts_by(&mut registration.enter(), first);
+    let other = puts_by(&mut owned, second);
     owned.flush();
-    Some((first, second))
+    Some((one, other))
+}
+
+/// The same over one memory.
+fn puts_by_each(alloc: Global, first: Counted, second: Counted) -> Result<bool, AllocError> {
+    let home = Home::<Counted, OfRows>::open(alloc, 1, 8, &CHOSEN)?;
+    Ok(puts_by_both(&home.blocks, first, second) == Some(((Some(0), 0), (Some(1), 1))))
+}
+
+/// Two values, as two guards of one memory put them.
+fn puts_two(alloc: Global, drops: &Table) -> Result<Option<bool>, AllocError> {
+    match (Counted::of(drops, 0), Counted::of(drops, 1)) {
+        (Some(first), Some(second)) => Ok(Some(puts_by_each(alloc, first, second)?)),
+        _ => Ok(None),
+    }
 }
 
 #[test]
 fn a_helper_takes_any_guard(rt: HostRuntime) -> Result<(), Fail> {
     let drops = table(rt.alloc(), 2)?;
-    let home = Home::<Counted, OfRows>::open(rt.alloc(), 1, 8, &CHOSEN)?;
-    assert_eq!(rt; puts_by_both(&home.blocks, &drops), Some((0, 1)));
-    assert_eq!(rt; dropped(&drops, 0), 1);
+    assert_eq!(rt; puts_two(rt.alloc(), &drops)?, Some(true));
+    assert!(rt; all_are(&drops, 2, 1));
     Ok(())
 }

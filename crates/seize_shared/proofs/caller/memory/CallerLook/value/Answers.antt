@@ -1,5 +1,5 @@
 use Rattle.seize_shared.proofs.Drives.{is_looked}
-use Rattle.seize_shared.proofs.memory.CallerLook.value.Goals as goal
+use Rattle.seize_shared.proofs.caller.memory.CallerLook.value.Goals as goal
 
 pub value-requires-clause-shown : goal.value-requires-clause-shown
 value-requires-clause-shown g c =

@@ -1,0 +1,126 @@
+//! A caller without a slot, and a block of its own.
+ghost use Rattle.std.specs.Prelude.{◌≡◌, ◌<◌, ◌^◌, Some, true, false, IfOk, IfErr, IfSome, IfNone, unwrap_or};
+ghost use Rattle.seize_seats.specs.Lendings.{IsValueOf};
+ghost use Rattle.seize_views.specs.Notes.{NotedHolds};
+ghost use Rattle.seize_shared.specs.Standing.{borne_by, brought_by};
+ghost use Rattle.seize_views.specs.declared.view.Began.TheVariants.{Retirement};
+ghost use Rattle.seize_views.specs.declared.view.Deed.TheVariants.{Wrote};
+ghost use Rattle.seize_views.specs.declared.view.View.TheVariants.{Bears, Brings, Rests};
+
+use crate::caller::{Caller, named, words_for};
+use crate::guard::Guard;
+use crate::stay::Stay;
+use seize::rows::Defers;
+use seize_words::{At, Link};
+
+impl<'a, T: Defers> Caller<'a, T> {
+    /// Makes a block of its own, with the words that its value asks for. From where on a number is looked for is handed in, and then where to look for the
+    /// next one. Where there are no such words, or memory is refused, the value comes back.
+    pub(crate) fn brings(&mut self, near: &mut u64, value: T) -> Result<u64, T>
+        requires rests { self.old.seat.view.knows ≡ Rests }
+        ensures made { IfOk result (λ block. (self.new.seat.view.knows ≡ Brings block value) × (block < 2 ^ 53)) }
+        ensures refused { IfErr result (λ back. self.new.seat.view.knows ≡ Rests) }
+        ensures back { IfErr result (λ back. back ≡ value) }
+        ensures blocks { self.new.blocks ≡ self.old.blocks }
+    {
+        match words_for(&value) {
+            Some(words) => self.blocks.make(&mut self.seat, near, value, words),
+            None => Err(value),
+        }
+    }
+
+    /// The value of its own block, for as long as it is borrowed.
+    pub(crate) fn brought(&self, block: u64) -> &T
+        requires brings { brought_by self.now.seat.view.knows ≡ Some block }
+        ensures same { (value : T) → self.now.seat.view.knows ≡ Brings block value → result.now ≡ value }
+    {
+        let seat = &self.seat;
+        self.blocks.value(seat, block)
+    }
+
+    /// Takes its own block away, and answers its value.
+    pub(crate) fn takes_back(&mut self, block: u64) -> T
+        requires brings { brought_by self.old.seat.view.knows ≡ Some block }
+        ensures rests { self.new.seat.view.knows ≡ Rests }
+        ensures back { (value : T) → self.old.seat.view.knows ≡ Brings block value → result ≡ value }
+        ensures blocks { self.new.blocks ≡ self.old.blocks }
+    {
+        self.blocks.take(&mut self.seat, block)
+    }
+
+    /// Puts its own block at a root, and answers which one was there, and is to be handed on.
+    pub(crate) fn links(&mut self, root: u64, block: u64) -> Option<u64>
+        requires brings { brought_by self.old.seat.view.knows ≡ Some block }
+        requires root { root < self.old.blocks.now.words.fixed.roots }
+        requires fits { block < 2 ^ 53 }
+        ensures bears { IfSome result (λ old. (self.new.seat.view.knows ≡ Bears old) × (old < 2 ^ 53)) }
+        ensures none { IfNone result (self.new.seat.view.knows ≡ Rests) }
+        ensures put { (value : T) → self.old.seat.view.knows ≡ Brings block value
+            → self.new.seat.view.did ≡ Wrote root (Some value) (unwrap_or result 0) }
+        ensures blocks { self.new.blocks ≡ self.old.blocks }
+    {
+        let old = self
+            .blocks
+            .swap(&mut self.seat, At::Root(root), Link::to(block));
+        named(old)
+    }
+
+    /// Puts its own block at a root where none is, and tells whether it has.
+    pub(crate) fn places(&mut self, root: u64, block: u64) -> bool
+        requires brings { brought_by self.old.seat.view.knows ≡ Some block }
+        requires root { root < self.old.blocks.now.words.fixed.roots }
+        requires fits { block < 2 ^ 53 }
+        ensures put { result ≡ true → self.new.seat.view.knows ≡ Rests }
+        ensures still { result ≡ false → brought_by self.new.seat.view.knows ≡ Some block }
+        ensures same { (value : T) → result ≡ false → self.old.seat.view.knows ≡ Brings block value → self.new.seat.view.knows ≡ Brings block value }
+        ensures blocks { self.new.blocks ≡ self.old.blocks }
+    {
+        self.blocks
+            .exchange(&mut self.seat, At::Root(root), 0, Link::to(block))
+            .is_ok()
+    }
+
+    /// The value of the block that it has unlinked, for as long as it is borrowed.
+    pub(crate) fn borne(&self, block: u64) -> &T
+        requires bears { borne_by self.now.seat.view.knows ≡ Some block }
+        ensures { IsValueOf (NotedHolds T.defers self.now.blocks.now.words.fixed) self.now.seat.id self.now.seat.view block result.now }
+    {
+        let seat = &self.seat;
+        self.blocks.value(seat, block)
+    }
+
+    /// Hands the block that it has unlinked on to a guard of the same memory, which retires it.
+    pub(crate) fn hands_to<G: Guard<T>>(&mut self, guard: &mut G, block: u64)
+        requires bears { borne_by self.old.seat.view.knows ≡ Some block }
+        requires fits { block < 2 ^ 53 }
+        requires home { self.old.blocks.now.words.id.views_name ≡ (G.home guard.old).0 }
+        ensures rests { self.new.seat.view.knows ≡ Rests }
+        ensures blocks { self.new.blocks ≡ self.old.blocks }
+        ensures home { G.home guard.new ≡ G.home guard.old }
+        ensures slot { G.slot guard.new ≡ G.slot guard.old }
+        ensures inside { G.inside guard.new ≡ G.inside guard.old }
+        ensures fresh { G.seen guard.new ≡ 0 }
+        ensures began { G.began guard.new ≡ Retirement }
+        ensures did { G.did guard.new ≡ G.did guard.old }
+    {
+        guard.takes_over(&mut self.seat, block);
+    }
+}
+
+impl<'a, T: Defers + Drop> Caller<'a, T> {
+    /// Hands it on to one who holds a slot.
+    pub(crate) fn hands_over<'s>(&mut self, stay: &mut Stay<'s, T>, block: u64)
+        requires bears { borne_by self.old.seat.view.knows ≡ Some block }
+        requires fits { block < 2 ^ 53 }
+        requires home { self.old.blocks.now.words.id.views_name ≡ stay.old.caller.blocks.now.words.id.views_name }
+        ensures rests { self.new.seat.view.knows ≡ Rests }
+        ensures blocks { self.new.blocks ≡ self.old.blocks }
+        ensures home { stay.new.caller.blocks ≡ stay.old.caller.blocks }
+        ensures slot { stay.new.slot ≡ stay.old.slot }
+        ensures inside { stay.new.inside ≡ stay.old.inside }
+        ensures fresh { stay.new.seen ≡ 0 }
+        ensures began { stay.new.caller.seat.view.began ≡ Retirement }
+    {
+        stay.takes_over(&mut self.seat, block);
+    }
+}
