@@ -69,9 +69,9 @@ module _ {K S : Type 0} (V : Type 0) (same : K → K → Bool) (by_hasher : S �
   pub lists_are_swept : ListsAreSwept V same by_hasher hash batch_size roots terms
   lists_are_swept small aborts course doings y led asks once =
       let first = nothing_done V same by_hasher batch_size roots slot_of course in
+      let new = new_numbers V same by_hasher hash batch_size roots aborts doings (first_state roots) once (λ n made. record { not_come = refl; not_made = λ i b has. absurd (cc has) }) in
       let R = Shards same hash terms in
       let kept = sweeps_are_kept same hash terms in
-      let new = new_numbers V same by_hasher hash batch_size roots aborts doings (first_state roots) once (λ n made. record { not_come = refl; not_made = λ i b has. absurd (cc has) }) in
       let to = wherever V same by_hasher hash batch_size roots small aborts (Fit V same by_hasher hash batch_size roots aborts R (P same hash terms) kept More)
       (With V same by_hasher hash batch_size roots aborts R (P same hash terms) kept More)
       (all_kept V same by_hasher hash batch_size roots aborts R (P same hash terms) kept More (shards_stay V same by_hasher hash batch_size roots (shards_of terms) aborts)) course doings y led (own_so doings asks) (
