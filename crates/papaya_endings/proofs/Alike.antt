@@ -89,7 +89,7 @@ module _ {K V : Type 0} (map : ℕ) where
   one_alike m v alike stored _ never = absurd never
 
   -- the pairs of it stay those that were stored
-  one_stored : (m : Moment K V) → AreStored map m → (f : Effect) → EndFinds map m f → AreStored map (ended f m)
+  pub one_stored : (m : Moment K V) → AreStored map m → (f : Effect) → EndFinds map m f → AreStored map (ended f m)
   one_stored m stored (effect.Ended n) finds k = by (k == n)
     where
       by : (q : Bool) → is_in_map map (if q then GivenBack else m.place k) ≡ true → (1 ≤ k) × (k ≤ length m.stored)

@@ -1,3 +1,4 @@
 pub mod Places
 pub mod Left
 pub mod Alike
+pub mod Begins
