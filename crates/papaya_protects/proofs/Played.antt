@@ -49,7 +49,7 @@ use Rattle.papaya_agrees.proofs.Rows.{rows_by}
 use Rattle.papaya_promises.proofs.Lists.{all_found, all_of}
 use Rattle.papaya_linear.proofs.Holding.{AllHolds}
 use Rattle.papaya_linear.proofs.MakesRight.{was_new}
-use Rattle.papaya_linear.proofs.Tied.{call_tied, ending_tied, making_tied}
+use Rattle.papaya_linear.proofs.Tied.{MakingTied, call_tied, ending_tied, making_tied}
 use Rattle.papaya_protects.specs.Shelters.{IsOpen, SectionsShelter}
 use Rattle.papaya_protects.proofs.Acts.{Protected, begun_keeps, none_more, one_more}
 use Rattle.papaya_protects.proofs.After.{IsCalm, all_on, protected_so}
@@ -113,7 +113,9 @@ module _ {K V S : Type 0} (same : K → K → Bool) (by_hasher : S → K → ℕ
       new = then_held (StepsMaking i g)
 
       one : told2 ≡ said
-      one = let both : OfMaking {K = K} {V = V} told2 ≡ OfMaking said = sym answer ∙ told_is in cc both
+      one = let both : ◌≡◌ {A = Answer K V} (OfMaking told2) (OfMaking said) = sym answer ∙ told_is in cc both
+
+      tied : MakingTied same by_hasher batch_size roots aborts s n s.world.row x y is i g b (m2, (machine, said))
       tied = making_tied same by_hasher batch_size roots aborts s n s.world.row x y is i g b makes (m2, (machine, said)) computed played
 
       map_is : tied.it.map ≡ b.map
@@ -174,7 +176,7 @@ module _ {K V S : Type 0} (same : K → K → Bool) (by_hasher : S → K → ℕ
       → LeadsAs same by_hasher hash (StepsEnding i g) s told n old (then_held (StepsEnding i g)) → Protected y n
   ending_protects i g played (f, ends, m2, machine, said, computed, told_is, did, came) (told2, answer, leads, goes) =
       let new = then_held (StepsEnding i g) in
-      let one : told2 ≡ said = (let both : OfEnding {K = K} {V = V} told2 ≡ OfEnding said = sym answer ∙ told_is in cc both) in
+      let one : told2 ≡ said = (let both : ◌≡◌ {A = Answer K V} (OfEnding told2) (OfEnding said) = sym answer ∙ told_is in cc both) in
       let tied = ending_tied same by_hasher batch_size roots aborts s n s.world.row x y is i g f ends (m2, (machine, said)) computed played in
       let effects = effects_of (acts.Ending tied.it.map) x.known new.changed in
       one_more x y s n so (record { deed = ending_deed tied.it told2; outcome = settled_outcome said; effects = effects; refused = is_refusal new.changed }) (known_after (acts.Ending tied.it.map) new.changed x.known) (leads f ends).2.w2

@@ -83,19 +83,21 @@ module _ {K S : Type 0} (V : Type 0) (same : K → K → Bool) (by_hasher : S �
   all_protect = record {
     acts = λ p n x y act told own fits none none_then is is_then at may led leads at_then played here. (
       linear.acts p n x y act told own fits none none_then is is_then at may led leads at_then played here.0,
-      guards.acts p n x y act told own tt none none_then is is_then at may led leads at_then played here.1.0,
-      acts_shelter p n x y act told none is at may led leads played here,
+      (guards.acts p n x y act told own tt none none_then is is_then at may led leads at_then played here.1.0, acts_shelter p n x y act told none is at may led leads played here),
     );
     begins = λ p n x i c none begun same_scene all_free is is_then at here. (
       linear.begins p n x i c none begun same_scene all_free is is_then at here.0,
-      guards.begins p n x i c none begun same_scene all_free is is_then at here.1.0,
-      unless (SectionsShelter (moment x.history) x.known n.0.world) (who n) (λ nobody_does. absurd (let both : None ≡ Some (i, c) = sym nobody_does ∙ begun in cc both)),
-      here.1.1.1,
+      (
+        guards.begins p n x i c none begun same_scene all_free is is_then at here.1.0,
+        (unless (SectionsShelter (moment x.history) x.known n.0.world) (who n) (λ nobody_does. absurd (let both : None ≡ Some (i, c) = sym nobody_does ∙ begun in cc both)), here.1.1.1),
+      ),
     );
     steps = λ p n x y told g st is is_then at leads scene played here. (
       linear.steps p n x y told g st is is_then at leads scene played here.0,
-      guards.steps p n x y told g st is is_then at leads scene played here.1.0,
-      reclaiming_shelters p n x y g is_then (reclaimed_as same by_hasher batch_size roots aborts x y g played) here,
+      (
+        guards.steps p n x y told g st is is_then at leads scene played here.1.0,
+        reclaiming_shelters p n x y g is_then (reclaimed_as same by_hasher batch_size roots aborts x y g played) here,
+      ),
     );
   }
     where
