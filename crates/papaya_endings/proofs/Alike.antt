@@ -100,7 +100,7 @@ module _ {K V : Type 0} (map : ℕ) where
       by : (q : Bool) → is_in_map map (if q then Left else m.place k) ≡ true → (1 ≤ k) × (k ≤ length m.stored)
       by true e = absurd (cc e)
       by false e = stored k e
-  one_stored m stored _ never = absurd never
+  one_stored m stored _ never k = absurd never
 
   -- So it goes on to end.
   pub ends_alike : (effects : List Effect) (m v : Moment K V) → AlikeOf map m v → AreStored map m → EndsWell map effects m → EndsWell map effects v
