@@ -56,6 +56,7 @@ module _ {K V : Type 0} (map : ℕ) where
       pairs = λ k. pairs k (k == n);
       spots = λ k. spots k (k == n);
       left = alike.left;
+      there = alike.there;
       stored = alike.stored;
     }
       where
@@ -73,6 +74,7 @@ module _ {K V : Type 0} (map : ℕ) where
       pairs = λ k. out v k (alike.pairs k ∙ none k) (is_among k (behind t v.deferred)) ∙ sym (out m k (none k) (is_among k (behind t m.deferred)));
       spots = λ k e. absurd (let gone = out m k (none k) (is_among k (behind t m.deferred)) in cc (gone, e));
       left = taken v ∙ ap (filter (λ u. not (same_table u.table t))) alike.left ∙ sym (taken m);
+      there = alike.there;
       stored = alike.stored;
     }
       where
@@ -113,3 +115,16 @@ module _ {K V : Type 0} (map : ℕ) where
   -- by what has ended, too
   pub ends_next : (f : Effect) (effects : List Effect) (m : Moment K V) → AreStored map m → EndsWell map (f ∷ effects) m → AreStored map (ended f m) × EndsWell map effects (ended f m)
   ends_next f effects m stored well = (one_stored m stored f well.finds.0, record { finds = well.finds.1; no_pair = well.no_pair; no_table = well.no_table })
+
+  -- all of it is alike along three moments
+  pub alike_then : (m v u : Moment K V) → AlikeOf map m v → AlikeOf map v u → AlikeOf map m u
+  alike_then m v u one two = record {
+    pairs = λ k. two.pairs k ∙ one.pairs k;
+    spots = λ k is. two.spots k (one.pairs k ∙ is) ∙ one.spots k is;
+    left = two.left ∙ one.left;
+    there = two.there ∙ one.there;
+    stored = let a = one.stored in let b = two.stored in omega (arith, a, b);
+  }
+
+  pub alike_itself : (m : Moment K V) → AlikeOf map m m
+  alike_itself m = record { pairs = λ k. refl; spots = λ k is. refl; left = refl; there = refl; stored = omega arith }

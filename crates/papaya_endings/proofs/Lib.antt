@@ -2,3 +2,4 @@ pub mod Places
 pub mod Left
 pub mod Alike
 pub mod Begins
+pub mod Spares

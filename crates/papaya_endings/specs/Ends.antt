@@ -1,9 +1,15 @@
 -- What is left of a map that ends: all of it is next, one after another, and then nothing of the map is there.
-use Rattle.std.specs.Prelude.{◌≡◌, ℕ, ◌≤◌, true, List, [], length, None, Some}
+use Rattle.std.specs.Prelude.{◌≡◌, ◌≢◌, ℕ, ◌≤◌, ◌<◌, true, false, List, [], length, None, Some}
+use Rattle.std.specs.List.{AllByRecursion}
 use Rattle.papaya_moments.specs.Given.Schedules.declared.effect.Effect.{Effect}
+use Rattle.papaya_moments.specs.Given.Schedules.declared.effect.Effect.TheVariants.{Copied, Deferred, Ended, Linked, Promoted, Reclaimed, Removed, Replaced, Retired, Stored, Taken}
+use Rattle.papaya_moments.specs.Given.Schedules.declared.effect.Table.{Table}
+use Rattle.papaya_moments.specs.Given.Schedules.declared.effect.Thing.TheVariants.{APair, ATable}
 use Rattle.papaya_moments.specs.Given.Schedules.Effects.{AtEachEffect, with_effects}
+use Rattle.papaya_moments.specs.Given.Schedules.Lists.{is_among}
 use Rattle.papaya_moments.specs.Given.Schedules.Moment.{Moment}
-use Rattle.papaya_moments.specs.Given.Schedules.Views.{is_in_map, size_of}
+use Rattle.papaya_moments.specs.Given.Schedules.Things.{same_table}
+use Rattle.papaya_moments.specs.Given.Schedules.Views.{behind, is_in_map, map_at, size_of}
 use Rattle.papaya_deeds.specs.History.{EndFinds, left_tables}
 
 module _ {K V : Type 0} (map : ℕ) where
@@ -17,9 +23,36 @@ module _ {K V : Type 0} (map : ℕ) where
   abbrev pub AreStored : Moment K V → Type 0
   AreStored m = (k : ℕ) → is_in_map map (m.place k) ≡ true → (1 ≤ k) × (k ≤ length m.stored)
 
-  -- Of this map all is in another moment as in this one: its pairs, where they lie, and the tables that it has from the root on.
+  -- Of this map all is in another moment as in this one: its pairs, where they lie, the tables that it has from the root on, and what is told of it.
   pub record AlikeOf (m v : Moment K V) : Type 0 where
     pub pairs : (k : ℕ) → is_in_map map (v.place k) ≡ is_in_map map (m.place k)
     pub spots : (k : ℕ) → is_in_map map (m.place k) ≡ true → v.spot k ≡ m.spot k
     pub left : left_tables map v ≡ left_tables map m
+    pub there : map_at map v ≡ map_at map m
     pub stored : length m.stored ≤ length v.stored
+
+  -- the pair is not in the map
+  abbrev pub IsOut : Moment K V → ℕ → Type 0
+  IsOut m n = is_in_map map (m.place n) ≡ false
+
+  -- nor is what waits behind this table, which is none of those that the map has from the root on
+  pub record IsOther (m : Moment K V) (t : Table) : Type 0 where
+    pub apart : AllByRecursion (λ u. same_table u.table t ≡ false) (left_tables map m)
+    pub behind_it : (k : ℕ) → is_among k (behind t m.deferred) ≡ true → IsOut m k
+
+  -- What an effect finds that leaves all of the map as it was.
+  abbrev pub Spares : Moment K V → Effect → Type 0
+  Spares m (Stored n s) = length m.stored < n
+  Spares m (Replaced n) = IsOut m n
+  Spares m (Removed n) = IsOut m n
+  Spares m (Copied n s) = IsOut m n
+  Spares m (Deferred n t) = IsOut m n
+  Spares m (Retired (APair n)) = IsOut m n
+  Spares m (Retired (ATable t)) = AllByRecursion (λ u. same_table u.table t ≡ false) (left_tables map m)
+  Spares m (Reclaimed (APair n)) = IsOut m n
+  Spares m (Reclaimed (ATable t)) = IsOther m t
+  Spares m (Ended n) = IsOut m n
+  Spares m (Taken t) = IsOther m t
+  Spares m (Linked t shape) = t.map ≢ map
+  Spares m (Promoted t) = t.map ≢ map
+  Spares m _ = Unit {0}
