@@ -3,3 +3,8 @@ pub mod Left
 pub mod Alike
 pub mod Begins
 pub mod Spares
+pub mod Calls
+pub mod Noted
+pub mod Going
+pub mod Others
+pub mod EndSteps

@@ -51,8 +51,8 @@ module _ {K V : Type 0} (map : ℕ) (m : Moment K V) (stored : AreStored map m) 
   spot_put : (n : ℕ) (s : Spot) → IsOut map m n → (k : ℕ) → is_in_map map (m.place k) ≡ true → put n s m.spot k ≡ m.spot k
   spot_put n s out k is = put_elsewhere n s m.spot k (other_pair n k out is)
 
-  copied_spots : (q : Bool) (n : ℕ) (s : Spot) → IsOut map m n → (k : ℕ) → is_in_map map (m.place k) ≡ true → spot_by q m.place m.copy (effect.Copied n s) m.spot k ≡ m.spot k
-  copied_spots true n s out k is = put_elsewhere n _ m.spot k (other_pair n k out is)
+  copied_spots : (q : Bool) (n : ℕ) (s : Spot) → (q ≡ true → IsOut map m n) → (k : ℕ) → is_in_map map (m.place k) ≡ true → spot_by q m.place m.copy (effect.Copied n s) m.spot k ≡ m.spot k
+  copied_spots true n s out k is = put_elsewhere n _ m.spot k (other_pair n k (out refl) is)
   copied_spots false n s out k is = refl
 
   promoted_spots : (q : Bool) (t : Table) → t.map ≢ map → (k : ℕ) → is_in_map map (m.place k) ≡ true → spot_by q m.place m.copy (effect.Promoted t) m.spot k ≡ m.spot k
@@ -79,7 +79,7 @@ module _ {K V : Type 0} (map : ℕ) (m : Moment K V) (stored : AreStored map m) 
     kept : (f : Effect) → length m.stored ≤ length (led f).stored
     kept f = stored_kept (acting caller m) f m.stored
 
-    one_spared : (f : Effect) → Spares map m f → AlikeOf map m (led f)
+    pub one_spared : (f : Effect) → Spares map acted m f → AlikeOf map m (led f)
     one_spared (effect.Stored n s) new =
         record {
           pairs = put_out n (in_map acted) (not_stored n new) (born_out acted other);
@@ -139,7 +139,7 @@ module _ {K V : Type 0} (map : ℕ) (m : Moment K V) (stored : AreStored map m) 
 
 -- So it is of all that somebody does at once.
 module _ {K V : Type 0} (map : ℕ) (caller : Option (List ℕ)) (acted : Option ℕ) (other : acted ≢ Some map) where
-  pub all_spared : (effects : List Effect) (m : Moment K V) → AreStored map m → AtEachEffect (Spares map) caller acted effects m → AlikeOf map m (with_effects caller acted effects m)
+  pub all_spared : (effects : List Effect) (m : Moment K V) → AreStored map m → AtEachEffect (Spares map acted) caller acted effects m → AlikeOf map m (with_effects caller acted effects m)
   all_spared [] m stored spares = alike_itself map m
   all_spared (f ∷ effects) m stored spares =
       let one = one_spared map m stored caller acted other f spares.0 in

@@ -1,11 +1,11 @@
 -- What is left of a map that ends: all of it is next, one after another, and then nothing of the map is there.
-use Rattle.std.specs.Prelude.{◌≡◌, ◌≢◌, ℕ, ◌≤◌, ◌<◌, true, false, List, [], length, None, Some}
+use Rattle.std.specs.Prelude.{◌≡◌, ◌≢◌, ℕ, ◌≤◌, ◌<◌, true, false, List, [], length, Option, None, Some}
 use Rattle.std.specs.List.{AllByRecursion}
 use Rattle.papaya_moments.specs.Given.Schedules.declared.effect.Effect.{Effect}
 use Rattle.papaya_moments.specs.Given.Schedules.declared.effect.Effect.TheVariants.{Copied, Deferred, Ended, Linked, Promoted, Reclaimed, Removed, Replaced, Retired, Stored, Taken}
 use Rattle.papaya_moments.specs.Given.Schedules.declared.effect.Table.{Table}
 use Rattle.papaya_moments.specs.Given.Schedules.declared.effect.Thing.TheVariants.{APair, ATable}
-use Rattle.papaya_moments.specs.Given.Schedules.Effects.{AtEachEffect, with_effects}
+use Rattle.papaya_moments.specs.Given.Schedules.Effects.{AtEachEffect, is_chunked, with_effects}
 use Rattle.papaya_moments.specs.Given.Schedules.Lists.{is_among}
 use Rattle.papaya_moments.specs.Given.Schedules.Moment.{Moment}
 use Rattle.papaya_moments.specs.Given.Schedules.Things.{same_table}
@@ -40,19 +40,19 @@ module _ {K V : Type 0} (map : ℕ) where
     pub apart : AllByRecursion (λ u. same_table u.table t ≡ false) (left_tables map m)
     pub behind_it : (k : ℕ) → is_among k (behind t m.deferred) ≡ true → IsOut m k
 
-  -- What an effect finds that leaves all of the map as it was.
-  abbrev pub Spares : Moment K V → Effect → Type 0
-  Spares m (Stored n s) = length m.stored < n
-  Spares m (Replaced n) = IsOut m n
-  Spares m (Removed n) = IsOut m n
-  Spares m (Copied n s) = IsOut m n
-  Spares m (Deferred n t) = IsOut m n
-  Spares m (Retired (APair n)) = IsOut m n
-  Spares m (Retired (ATable t)) = AllByRecursion (λ u. same_table u.table t ≡ false) (left_tables map m)
-  Spares m (Reclaimed (APair n)) = IsOut m n
-  Spares m (Reclaimed (ATable t)) = IsOther m t
-  Spares m (Ended n) = IsOut m n
-  Spares m (Taken t) = IsOther m t
-  Spares m (Linked t shape) = t.map ≢ map
-  Spares m (Promoted t) = t.map ≢ map
-  Spares m _ = Unit {0}
+  -- What an effect on another map, or on none, finds that leaves all of this one as it was.
+  abbrev pub Spares : Option ℕ → Moment K V → Effect → Type 0
+  Spares acted m (Stored n s) = length m.stored < n
+  Spares acted m (Replaced n) = IsOut m n
+  Spares acted m (Removed n) = IsOut m n
+  Spares acted m (Copied n s) = is_chunked acted m ≡ true → IsOut m n
+  Spares acted m (Deferred n t) = IsOut m n
+  Spares acted m (Retired (APair n)) = IsOut m n
+  Spares acted m (Retired (ATable t)) = AllByRecursion (λ u. same_table u.table t ≡ false) (left_tables map m)
+  Spares acted m (Reclaimed (APair n)) = IsOut m n
+  Spares acted m (Reclaimed (ATable t)) = IsOther m t
+  Spares acted m (Ended n) = IsOut m n
+  Spares acted m (Taken t) = IsOther m t
+  Spares acted m (Linked t shape) = t.map ≢ map
+  Spares acted m (Promoted t) = t.map ≢ map
+  Spares acted m _ = Unit {0}
