@@ -1,5 +1,5 @@
 -- Where all of a map is as it was, it goes on to end as it did.
-use Rattle.std.specs.Prelude.{◌≡◌, ◌≤◌, ◌<◌, ◌+◌, ◌==◌, ◌&&◌, ℕ, Bool, true, false, not, List, [], ◌∷◌, filter, length, Some, None, if◌then◌else◌}
+use Rattle.std.specs.Prelude.{◌≡◌, ◌≤◌, ◌<◌, ◌+◌, ◌==◌, ◌&&◌, ℕ, Bool, true, false, not, nat_le, List, [], ◌∷◌, filter, find, length, Option, Some, None, if◌then◌else◌}
 use Rattle.std.specs.List.{list_all}
 use Rattle.std.proofs.Common.{refl, ap, sym, ◌∙◌, arith}
 use Rattle.std.proofs.lemmas.Bool.{eq-eqb}
@@ -9,9 +9,9 @@ use Rattle.papaya_moments.specs.Given.Schedules.declared.effect.Spot.{Spot}
 use Rattle.papaya_moments.specs.Given.Schedules.declared.effect.Table.{Table}
 use Rattle.papaya_moments.specs.Given.Schedules.Effects.{with_effect, with_effects}
 use Rattle.papaya_moments.specs.Given.Schedules.Lists.{is_among}
-use Rattle.papaya_moments.specs.Given.Schedules.Moment.{GivenBack, InMap, IsTaken, Left, Moment}
+use Rattle.papaya_moments.specs.Given.Schedules.Moment.{GivenBack, InMap, IsTaken, Left, MapThere, Moment, Place, TableThere}
 use Rattle.papaya_moments.specs.Given.Schedules.Things.{is_before, same_table}
-use Rattle.papaya_moments.specs.Given.Schedules.Views.{behind, first_of, is_in_map}
+use Rattle.papaya_moments.specs.Given.Schedules.Views.{behind, first_of, first_or, is_in_map, is_linked, map_at}
 use Rattle.papaya_moments.proofs.Given.Others.Outside.{in_map_of}
 use Rattle.papaya_finds.proofs.Lists.{number_passes, numbers_pass}
 use Rattle.papaya_deeds.specs.History.{EndFinds, is_first_of, is_next_pair, left_tables}
@@ -128,3 +128,18 @@ module _ {K V : Type 0} (map : ℕ) where
 
   pub alike_itself : (m : Moment K V) → AlikeOf map m m
   alike_itself m = record { pairs = λ k. refl; spots = λ k is. refl; left = refl; there = refl; stored = omega arith }
+
+  -- where maps come, and are there no more, of which it is none
+  pub alike_maps : (m v : Moment K V) → map_at map v ≡ map_at map m → v.place ≡ m.place → v.tables ≡ m.tables → v.spot ≡ m.spot → v.stored ≡ m.stored → AlikeOf map m v
+  alike_maps m v there place tables spot stored = record {
+    pairs = λ k. ap (λ (f : ℕ → Place). is_in_map map (f k)) place;
+    spots = λ k is. ap (λ (f : ℕ → Spot). f k) spot;
+    left = ap (λ (o : Option MapThere). filter (λ u. is_linked u.stage) (filter (λ u. nat_le (first_or o) u.table.turn) (filter (λ u. u.table.map == map) v.tables))) there
+        ∙ ap (λ (us : List TableThere). filter (λ u. is_linked u.stage) (filter (λ u. nat_le (first_of map m) u.table.turn) (filter (λ u. u.table.map == map) us))) tables;
+    there = there;
+    stored = let e = ap length stored in omega (arith, e);
+  }
+
+  -- in moments that have the same of all maps
+  pub alike_all : (m v : Moment K V) → v.maps ≡ m.maps → v.place ≡ m.place → v.tables ≡ m.tables → v.spot ≡ m.spot → v.stored ≡ m.stored → AlikeOf map m v
+  alike_all m v maps place tables spot stored = alike_maps m v (ap (find (λ f. f.number == map)) maps) place tables spot stored

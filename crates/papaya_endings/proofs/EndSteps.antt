@@ -1,6 +1,6 @@
 -- A step of the end of a map: the block that it reclaims is next, and what was left to end but for that is left then.
 use Rattle.std.specs.Prelude.{◌≡◌, ◌≢◌, ◌<◌, ◌≤◌, ◌⊎◌, ◌++◌, ℕ, Bool, false, List, [], ◌∷◌, Option, Some, None}
-use Rattle.std.proofs.Common.{refl, ap, sym, subst, ◌∙◌, arith}
+use Rattle.std.proofs.Common.{refl, ap, sym, subst, ◌∙◌, arith, inl, inr}
 use Rattle.std.proofs.lemmas.List.{append-nil, append_assoc}
 use Rattle.papaya_moments.specs.Given.Seize.World.{World, times}
 use Rattle.papaya_moments.specs.Given.Seize.declared.rows.settle.Settled.{Settled}
@@ -93,11 +93,21 @@ module _ {K V : Type 0} (same : K → K → Bool) (hash : ℕ → K → ℕ) (m 
       noted_on same hash named m known s old new at whole i f here e said (leads f here).1 did map goes.gone.not_there (leads f here).3 goes.number (as_noted map f known s goes) (notes_all map f known s goes)
       (notes_still map f known s goes) b (ap (λ (l : List ℕ). times b (f.back ++ l)) none ∙ ap (times b) (append-nil f.back) ∙ fresh) ∙ sym (notes_still map f known s goes b fresh)
 
+  -- it does nothing, or takes a block away
+  pub does : (effects ≡ []) ⊎ ((b : ℕ) × (new.changed ≡ changed.Took b))
+  does = by said (leads f here).3 tells
+    where
+      by : (t : Settled (Node K V)) (c : EndingComesTo same hash s new i f e did.w2 did.deed t) → TellsNext same hash s new i f e did.w2 did.deed t c new.changed → (effects ≡ []) ⊎ ((b : ℕ) × (new.changed ≡ changed.Took b))
+      by settled.Goes c none = inl (none_done c.0)
+      by settled.Waits c never = absurd c
+      by (settled.Gave value) c took = inr (c.0, took)
+      by settled.Done c none = inl (none_done c.0)
+
   -- So it goes on after a step by which it is not over, with what that has reclaimed.
-  abbrev Then : List ℕ → Type 0
+  abbrev pub Then : List ℕ → Type 0
   Then gone = AtEachEffect (EndFinds map) None (Some map) effects m × ((machine : EndMap) (waits : List ℕ) → GoesOnToEnd map (record f { machine = machine; back = f.back ++ gone; waits = waits }) known_then v)
 
-  none_then : taken_of did.deed ≡ [] → Then []
+  pub none_then : taken_of did.deed ≡ [] → Then []
   none_then none = (
     subst (λ (l : List Effect). AtEachEffect (EndFinds map) None (Some map) l m) (sym (none_done none)) tt,
     λ machine waits. record {
@@ -146,7 +156,7 @@ module _ {K V : Type 0} (same : K → K → Bool) (hash : ℕ → K → ℕ) (m 
         (sym effects_are)
         (ends_on map (taken_by (acts.Ending map) (known.roles c.0)) (ended_as map known later.0) m so.stored (subst (λ (l : List ℕ). EndsWell map (ended_as map known l) m) later.1 so.well))
 
-    one_then : map_at map v ≡ map_at map m → Then (c.0 ∷ [])
+    pub one_then : map_at map v ≡ map_at map m → Then (c.0 ∷ [])
     one_then same_there = (
       split_ends.0,
       λ machine waits. record {

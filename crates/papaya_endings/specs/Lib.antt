@@ -1,2 +1,3 @@
 pub mod Ends
 pub mod Going
+pub mod GoingOn
