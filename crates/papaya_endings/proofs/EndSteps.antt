@@ -42,7 +42,7 @@ use Rattle.papaya_endings.specs.Going.{GoesOnToEnd}
 use Rattle.papaya_endings.proofs.Going.{NotedAlike, ended_alike, ends_on}
 
 -- what comes behind the same is the same
-behind_same : (xs ys zs : List ℕ) → xs ++ ys ≡ xs ++ zs → ys ≡ zs
+pub behind_same : (xs ys zs : List ℕ) → xs ++ ys ≡ xs ++ zs → ys ≡ zs
 behind_same [] ys zs e = e
 behind_same (x ∷ xs) ys zs e = let later : xs ++ ys ≡ xs ++ zs = (cc e) in behind_same xs ys zs later
 
@@ -78,11 +78,11 @@ module _ {K V : Type 0} (same : K → K → Bool) (hash : ℕ → K → ℕ) (m 
   facts : FinishingFacts same old.batch_size s.world i f
   facts = at.together.facts i f here
 
-  tells : TellsNext same hash s new i f e did.w2 did.deed said (leads f here).3 new.changed
+  pub tells : TellsNext same hash s new i f e did.w2 did.deed said (leads f here).3 new.changed
   tells = tells_next same hash named m known s old new at whole.all.shown i f here e said (leads f here).1 did map goes.gone.not_there said (leads f here).3
 
   -- by a step that reclaims nothing nothing is done, and what is left is noted as it was
-  none_done : taken_of did.deed ≡ [] → effects ≡ []
+  pub none_done : taken_of did.deed ≡ [] → effects ≡ []
   none_done none =
       did_end same hash named m known s old new at whole i f here e said (leads f here).1 did map goes.gone.not_there (leads f here).3 goes.number (as_noted map f known s goes) (notes_all map f known s goes)
       (notes_still map f known s goes) ∙ ap (ended_as map (as_noted map f known s goes)) none

@@ -12,3 +12,4 @@ pub mod Played
 pub mod MakingGoes
 pub mod EndingGoes
 pub mod EndStepGoes
+pub mod Stays
