@@ -52,7 +52,7 @@ use Rattle.papaya_endings.proofs.EndSteps.{Then, behind_same, does, none_done, n
 use Rattle.papaya_endings.proofs.EndingGoes.{maps_kept}
 use Rattle.papaya_endings.proofs.Going.{NotedAlike, going_alike}
 use Rattle.papaya_endings.proofs.Others.{taken_spares}
-use Rattle.papaya_endings.proofs.Played.{goes_of, gone_on, noted_on}
+use Rattle.papaya_endings.proofs.Played.{goes_of, noted_on}
 use Rattle.papaya_endings.proofs.Spares.{all_spared}
 
 module _ {K V S : Type 0} (same : K → K → Bool) (by_hasher : S → K → ℕ) (hash : ℕ → K → ℕ) (batch_size roots : ℕ) (aborts : V) (x y : State K V S) (s n : Scene K V)
@@ -118,8 +118,7 @@ module _ {K V S : Type 0} (same : K → K → Bool) (by_hasher : S → K → ℕ
 
       still : NotedAlike go.rest x.known known_then
       still =
-          noted_on same by_hasher hash batch_size roots aborts x y s n is at all so told new at2 op (acts.Ending map) j e ending f2 ends2 ends_then
-          (gone_on same by_hasher hash batch_size roots aborts x y s n is at all so told act (λ k. tt) led e.map (goes_of same by_hasher hash batch_size roots aborts x y s n is at all so told j e ending f2 ends2).gone) go
+          noted_on same by_hasher hash batch_size roots aborts x y s n is at all so told new at2 op (acts.Ending map) j e ending f2 ends2 ends_then go
 
       other : ◌≡◌ {A = Option ℕ} (Some map) (Some e.map) → ⊥
       other both = ne (cc both)

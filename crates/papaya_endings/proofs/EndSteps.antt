@@ -125,7 +125,7 @@ module _ {K V : Type 0} (same : K → K → Bool) (hash : ℕ → K → ℕ) (m 
 
   -- one that reclaims a block
   module _ (value : Node K V) (c : EndingComesTo same hash s new i f e did.w2 did.deed (settled.Gave value)) (took : new.changed ≡ changed.Took c.0) where
-    f2 : Finishing K V
+    abbrev f2 : Finishing K V
     f2 = record f { machine = e; back = f.back ++ c.0 ∷ []; waits = f.waits ++ waiting_by did.deed }
 
     facts2 : FinishingFacts same new.batch_size did.w2 i f2

@@ -63,7 +63,7 @@ use Rattle.papaya_endings.proofs.Begins.{are_stored, would_end}
 use Rattle.papaya_endings.proofs.EndSteps.{Then, does, none_then, one_then, tells}
 use Rattle.papaya_endings.proofs.Going.{NotedAlike, going_alike}
 use Rattle.papaya_endings.proofs.Others.{taken_spares}
-use Rattle.papaya_endings.proofs.Played.{goes_of, gone_on, noted_on}
+use Rattle.papaya_endings.proofs.Played.{goes_of, noted_on}
 use Rattle.papaya_endings.proofs.Spares.{all_spared}
 
 -- Where the end of a map begins it goes on to end.

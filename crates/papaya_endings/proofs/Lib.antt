@@ -8,6 +8,7 @@ pub mod Noted
 pub mod Going
 pub mod Others
 pub mod EndSteps
+pub mod Beside
 pub mod Played
 pub mod MakingGoes
 pub mod EndingGoes

@@ -49,7 +49,7 @@ use Rattle.papaya_endings.proofs.Alike.{alike_all, alike_maps, alike_then}
 use Rattle.papaya_endings.proofs.Going.{NotedAlike}
 use Rattle.papaya_endings.proofs.Others.{firsts_spare}
 use Rattle.papaya_endings.proofs.Places.{stored_alike}
-use Rattle.papaya_endings.proofs.Played.{ends_stay, goes_of, gone_on, noted_on}
+use Rattle.papaya_endings.proofs.Played.{ends_stay, goes_of, noted_on}
 use Rattle.papaya_endings.proofs.Spares.{all_spared}
 
 -- After each step of the making of another map all of this one is as it was.
@@ -160,6 +160,5 @@ module _ {K V S : Type 0} (same : K → K → Bool) (by_hasher : S → K → ℕ
           let ne : b.map ≢ e.map = its.gone.not_made i b makes in (
             making_alike e.map b.map ne m go.stored all.maps.names effects firsts (acting_elsewhere e.map AnyTable (acts.Making b.map) ne x.known (λ c u len role_is. tt) new.changed) (making_outcome said)
                 (is_refusal new.changed) machine.setting.root machine.setting.mode (pairs_for machine.len) (has_root tied.it.machine.stands) (has_root machine.stands),
-            noted_on same by_hasher hash batch_size roots aborts x y s n is at all so told new at2 op (acts.Making b.map) j e ending f ends (ap (λ (h : ℕ → Option (Finishing K V)). h j) ends_are ∙ ends)
-                (gone_on same by_hasher hash batch_size roots aborts x y s n is at all so told act (λ k. tt) (b, makes, m2, machine, said, computed, told_is, did, came) e.map its.gone) go,
+            noted_on same by_hasher hash batch_size roots aborts x y s n is at all so told new at2 op (acts.Making b.map) j e ending f ends (ap (λ (h : ℕ → Option (Finishing K V)). h j) ends_are ∙ ends) go,
           )

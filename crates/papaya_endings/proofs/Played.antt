@@ -5,7 +5,7 @@ use Rattle.seize_acts.specs.Answers.{Grant}
 use Rattle.papaya_moments.specs.Given.Seize.World.{Row, World, times}
 use Rattle.papaya_moments.specs.Given.Tables.declared.node.Node.{Node}
 use Rattle.papaya_moments.specs.Given.Raw.Machine.{machine_asked, machine_plan, machine_replied}
-use Rattle.papaya_moments.specs.Given.Raw.declared.machines.answer.Told.{Told}
+use Rattle.papaya_moments.specs.Given.Raw.declared.machines.asking.Reply.{Reply as Told}
 use Rattle.papaya_moments.specs.Given.Finishes.Endings.{Finishing, FinishingFacts}
 use Rattle.papaya_moments.specs.Given.Finishes.Machines.{machine_of}
 use Rattle.papaya_moments.proofs.Given.Finishes.Ends.CountedBlocks.{some_last}
@@ -36,10 +36,8 @@ use Rattle.papaya_named.specs.Seen.{kind_of}
 use Rattle.papaya_played.specs.Play.{Ending, State, is_refusal, outcome_of, reply_for, row_deed, row_outcome, row_stepped}
 use Rattle.papaya_played.specs.Reached.{IsOf, row_or_rests}
 use Rattle.papaya_played.proofs.PlayedAs.{PlayedAs}
-use Rattle.papaya_linear.specs.Coming.{Goes, IsGone, IsItsBlock}
+use Rattle.papaya_linear.specs.Coming.{Goes}
 use Rattle.papaya_linear.proofs.AsideActs.{IsQuiet, quiet_led, quiet_played}
-use Rattle.papaya_linear.proofs.Going.{goes_beside}
-use Rattle.papaya_linear.proofs.Gone.{BeginsOther, acts_leave_gone}
 use Rattle.papaya_linear.proofs.Holding.{AllHolds}
 use Rattle.papaya_linear.proofs.Like.{IsLike}
 use Rattle.papaya_linear.proofs.RowsPlayed.{is_of_row, rows_like}
@@ -48,6 +46,7 @@ use Rattle.papaya_endings.specs.Ends.{AlikeOf}
 use Rattle.papaya_endings.specs.Going.{GoesOnToEnd}
 use Rattle.papaya_endings.specs.GoingOn.{EndsGoOn}
 use Rattle.papaya_endings.proofs.Alike.{alike_all, alike_then}
+use Rattle.papaya_endings.proofs.Beside.{noted_beside}
 use Rattle.papaya_endings.proofs.Calls.{call_spares}
 use Rattle.papaya_endings.proofs.EndSteps.{rest_new}
 use Rattle.papaya_endings.proofs.Going.{NotedAlike, going_alike}
@@ -108,23 +107,15 @@ module _ {K V S : Type 0} (same : K → K → Bool) (by_hasher : S → K → ℕ
 
   -- What an end has still to reclaim is noted as it was, whoever else acts.
   module _ (new : Held K V) (at2 : IsAt same hash new n) (op : Operated old.memory new.memory new.changed) (its : Acting) (j : ℕ) (e : Ending) (ending : x.now.enders j ≡ Some e) (f : Finishing K V) (ends : s.enders j ≡ Some f)
-      (ends2 : n.enders j ≡ Some f) (gone : IsGone e.map n) (g : GoesOnToEnd e.map f x.known m) where
+      (ends2 : n.enders j ≡ Some f) (g : GoesOnToEnd e.map f x.known m) where
     facts : FinishingFacts same old.batch_size s.world j f
     facts = at.together.facts j f ends
 
-    its_block : (b : ℕ) → 0 < times b g.rest → IsItsBlock f b
-    its_block b some =
-        one_of same f.hash facts.lawful f.setting f.chart f.blocks f.began (plain_order f.setting f.chart f.blocks same f.hash f.began facts.stood.map facts.stood.counter) b
-        (subst (λ (l : List ℕ). 0 < times b l) (sym g.back_is) (some_last b f.back g.rest some))
-
     pub noted_on : NotedAlike g.rest x.known (known_after its new.changed x.known)
     noted_on b some =
-        let go = goes_of j e ending f ends in
-        let fresh = rest_new same old.batch_size s.world j f facts g.rest g.back_is b some in
-        (goes_beside e.map f x.known s go same hash m n old new at at2 all.holds.shows.whole.all.shown.blocks op its j ends ends2 gone).still b (its_block b some) fresh ∙ sym (go.still b (its_block b some) fresh)
-
-  pub gone_on : (act : Act K V S) → ((map : ℕ) → BeginsOther map act) → Led same by_hasher batch_size roots slot_of act s told n → (map : ℕ) → IsGone map s → IsGone map n
-  gone_on act begins led map was = acts_leave_gone same by_hasher hash batch_size roots map s n was at.hashes act (begins map) told led
+        noted_beside e.map f x.known s (goes_of j e ending f ends) same hash m n old new at at2 all.holds.shows.whole.all.shown.blocks op its j ends ends2 b
+        (one_of same f.hash facts.lawful f.setting f.chart f.blocks f.began (plain_order f.setting f.chart f.blocks same f.hash f.began facts.stood.map facts.stood.counter) b
+        (subst (λ (l : List ℕ). 0 < times b l) (sym g.back_is) (some_last b f.back g.rest some))) (rest_new same old.batch_size s.world j f facts g.rest g.back_is b some)
 
   -- Acts of which there is no step,
   pub quiet_go : (act : Act K V S) → IsQuiet act → PlayedAs same by_hasher batch_size roots aborts x y act → Led same by_hasher batch_size roots slot_of act s told n → EndsGoOn y n
@@ -171,7 +162,7 @@ module _ {K V S : Type 0} (same : K → K → Bool) (by_hasher : S → K → ℕ
             (all_spared e.map (Some (named i)) (Some map) (λ both. other (sym (one_number both))) effects m go.stored
             (call_spares same hash named m x.known s old new at all.holds.shows.whole map i led.call led.here said leads e.map other go.stored go.there go.there_is)))
             (alike_all e.map w (after entry m) refl refl refl refl refl),
-        noted_on new at2 op (acts.Call i map) j e ending f ends (ap (λ (z : Scene K V). z.enders j) led.comes ∙ ends) (gone_on act (λ k. tt) led e.map (goes_of j e ending f ends).gone) go,
+        noted_on new at2 op (acts.Call i map) j e ending f ends (ap (λ (z : Scene K V). z.enders j) led.comes ∙ ends) go,
       )
         where
           w : Moment K V
@@ -226,7 +217,7 @@ module _ {K V S : Type 0} (same : K → K → Bool) (by_hasher : S → K → ℕ
       each : (j : ℕ) (e : Ending) → x.now.enders j ≡ Some e → (f : Finishing K V) → s.enders j ≡ Some f → (go : GoesOnToEnd e.map f x.known m)
           → AlikeOf e.map m (after entry m) × NotedAlike go.rest x.known (known_after acts.Row new.changed x.known)
       each j e ending f ends go =
-          let still = noted_on new at2 op acts.Row j e ending f ends (ap (λ (z : Scene K V). z.enders j) (goes row here) ∙ ends) (gone_on act (λ k. tt) led e.map (goes_of j e ending f ends).gone) go in (
+          let still = noted_on new at2 op acts.Row j e ending f ends (ap (λ (z : Scene K V). z.enders j) (goes row here) ∙ ends) go in (
             alike_then e.map m w (after entry m)
                 (all_spared e.map None None (λ both. cc both) effects m go.stored
                 (row_spares same named e.map f x.known m s all.holds.shows.whole go new.changed
