@@ -120,7 +120,7 @@ module _ {K V S : Type 0} (same : K → K → Bool) (by_hasher : S → K → ℕ
 
   pub making_goes : PlayedAs same by_hasher batch_size roots aborts x y (StepsMaking i g) → Led same by_hasher batch_size roots slot_of (StepsMaking i g) s told n
       → LeadsAs same by_hasher hash (StepsMaking i g) s told n old new → IsAt same hash new n → EndsGoOn y n
-  making_goes played (b, makes, m2, machine, said, computed, told_is, did, came) (told2, answer, leads, goes) at2 =
+  making_goes played (b, makes, m2, machine, said, computed, told_is, did, _) (told2, answer, leads, goes) at2 =
       ends_stay same by_hasher hash batch_size roots aborts x y s n is at all so told (known_after (acts.Making b.map) new.changed x.known) (after entry m) known_is (ap (λ (log : List (Entry K V)). moment log) history)
       (ap (λ (z : State K V S). z.now.enders) tied.comes ∙ ends_same tied.it i machine said (record x.now { memory = m2 })) ends_are each
     where
