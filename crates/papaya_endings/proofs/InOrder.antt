@@ -1,6 +1,6 @@
 -- By the history of each list of acts maps end in order.
-use Rattle.std.specs.Prelude.{◌≡◌, ◌==◌, ℕ, Bool, true, false, List, [], ◌∷◌, Option, Some, None, is_ok, if◌then◌else◌}
-use Rattle.std.proofs.Common.{refl, ap, sym, subst, ◌∙◌}
+use Rattle.std.specs.Prelude.{◌≡◌, ◌==◌, ℕ, Bool, true, false, List, ◌∷◌, Option, is_ok, if◌then◌else◌}
+use Rattle.std.proofs.Common.{refl, ap, sym, subst}
 use Rattle.papaya_moments.specs.Given.Seize.declared.rows.leave.Leave.{Leave}
 use Rattle.papaya_moments.specs.Given.Seize.declared.rows.leave.Leaving.{Leaving}
 use Rattle.papaya_moments.specs.Given.Seize.declared.rows.leave.Leaving.TheVariants as leaving
@@ -14,7 +14,7 @@ use Rattle.papaya_moments.specs.Given.Schedules.After.{AtEachEvent}
 use Rattle.papaya_moments.specs.Given.Schedules.declared.effect.Effect.{Effect}
 use Rattle.papaya_moments.specs.Given.Schedules.Moment.{Moment}
 use Rattle.papaya_moments.specs.Given.Scenes.Held.{IsAt}
-use Rattle.papaya_moments.specs.Given.Scenes.Scene.{Scene, at_first, slot_of}
+use Rattle.papaya_moments.specs.Given.Scenes.Scene.{Scene, slot_of}
 use Rattle.papaya_moments.specs.Given.Scenes.declared.row.SlotRow.{SlotRow}
 use Rattle.papaya_moments.specs.Given.Scenes.declared.row.SlotRow.TheVariants as rows
 use Rattle.papaya_moments.specs.Given.Teller.declared.changed.Changed.TheVariants.{Nothing as NoChange}
@@ -24,10 +24,10 @@ use Rattle.papaya_acts.specs.Leads.{Led}
 use Rattle.papaya_acts.specs.Lists.{nothing_done}
 use Rattle.papaya_agrees.specs.Fresh.{HasNewNumber}
 use Rattle.papaya_agrees.proofs.Numbers.{numbers_first}
-use Rattle.papaya_deeds.specs.Deeds.{Deed, Entry, Leaves, MapComes, MapFails, Makes, Opens, Registers}
-use Rattle.papaya_played.specs.Play.{State, first_state, has_root, leaves_as, making_deed, pairs_for, registers_as, row_deed}
+use Rattle.papaya_deeds.specs.Deeds.{Deed, Entry, Leaves, MapComes, MapFails, Makes, Opens}
+use Rattle.papaya_played.specs.Play.{State, has_root, leaves_as, making_deed, pairs_for, registers_as, row_deed}
 use Rattle.papaya_played.specs.Reached.{IsOf, rows_beside}
-use Rattle.papaya_played.proofs.Along.{At, StaysSo, far}
+use Rattle.papaya_played.proofs.Along.{At, StaysSo}
 use Rattle.papaya_played.proofs.PlayedAs.{PlayedAs, played_as, reclaimed_as}
 use Rattle.papaya_linear.proofs.Holding.{AllHolds}
 use Rattle.papaya_linear.proofs.Linear.{wherever_led}

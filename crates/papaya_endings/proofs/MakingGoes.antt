@@ -1,9 +1,8 @@
 -- Each map that ends goes on to end by each step of the making of another one.
-use Rattle.std.specs.Prelude.{◌≡◌, ◌≢◌, ℕ, Bool, true, false, List, [], ◌∷◌, Option, Some, None, if◌then◌else◌}
+use Rattle.std.specs.Prelude.{◌≡◌, ◌≢◌, ℕ, Bool, true, false, List, ◌∷◌, Option, Some, None, if◌then◌else◌}
 use Rattle.std.specs.List.{list_all}
-use Rattle.std.proofs.Common.{refl, ap, sym, subst, ◌∙◌}
+use Rattle.std.proofs.Common.{refl, ap, ◌∙◌}
 use Rattle.seize_acts.specs.Answers.{Grant}
-use Rattle.papaya_moments.specs.Given.SeizeWords.Mem.{Mem}
 use Rattle.papaya_moments.specs.Given.Seize.World.{World}
 use Rattle.papaya_moments.specs.Given.Seize.declared.progress.Progress.{Progress}
 use Rattle.papaya_moments.specs.Given.Seize.declared.progress.Progress.TheVariants as progress
@@ -23,12 +22,12 @@ use Rattle.papaya_moments.specs.Given.Effects.Effects.{effects_of, known_after}
 use Rattle.papaya_moments.specs.Given.Effects.declared.acting.Acting.TheVariants as acts
 use Rattle.papaya_moments.specs.Given.Teller.declared.changed.Changed.TheVariants.{Nothing as NoChange}
 use Rattle.papaya_moments.specs.Given.Scenes.Held.{Held, IsAt}
-use Rattle.papaya_moments.specs.Given.Scenes.Making.{MakingComesTo, MakingLeads}
+use Rattle.papaya_moments.specs.Given.Scenes.Making.{MakingComesTo}
 use Rattle.papaya_moments.specs.Given.Scenes.Scene.{Scene, slot_of}
 use Rattle.papaya_moments.proofs.Given.Follows.Operations.{Operated, operated}
 use Rattle.papaya_moments.proofs.Given.Scenes.May.{may_make}
 use Rattle.papaya_works.proofs.Makings.{makings_do_theirs}
-use Rattle.papaya_acts.specs.Acts.{Act, Answer, OfMaking, StepsMaking}
+use Rattle.papaya_acts.specs.Acts.{Act, Answer, StepsMaking}
 use Rattle.papaya_acts.specs.AsSteps.{LeadsAs, MadeTo, changed_by, held_in}
 use Rattle.papaya_acts.specs.Leads.{Led}
 use Rattle.papaya_agrees.proofs.Elsewhere.{AllLinkElsewhere, acting_elsewhere}
