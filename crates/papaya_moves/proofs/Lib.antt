@@ -1,0 +1,5 @@
+pub mod Parts
+pub mod Leaves
+pub mod CallMoves
+pub mod RowKinds
+pub mod RowMoves
