@@ -2,6 +2,7 @@
 use Rattle.std.specs.Prelude.{Bool, true, false, Option, Some, None, option_map, is_ok, if◌then◌else◌}
 use Rattle.std.proofs.Common.{◌≡◌, ℕ, List, [], ◌∷◌, refl, ap, sym, subst, ◌∙◌}
 use Rattle.seize_acts.specs.Acts.{row_steps}
+use Rattle.seize_acts.specs.Answers.{Grant}
 use Rattle.seize_acts.proofs.Answers.{same_some}
 use Rattle.papaya_scenes.specs.Given.Seize.World.{World, Row, Rests, Begins as BeginsSo, IsInside, Request, with_at}
 use Rattle.papaya_scenes.specs.Given.Seize.ReclaimAll.{reclaim_all_plan}
@@ -42,9 +43,9 @@ use Rattle.papaya_acts.specs.Leads.{EndingCame, Led, MakingCame, MayBe}
 use Rattle.papaya_deeds.specs.Deeds.{Begins, Entry, ReclaimsAll, Replies, Steps, Stops, moment}
 use Rattle.papaya_played.specs.Play.{Making, Now, State, all_begun, call_for, ending_deed, first_state, is_over, is_refusal, made_on, making_deed, making_outcome, outcome_of, reply_for, row_deed, row_on, row_outcome, settled_outcome, slot_call_of}
 use Rattle.papaya_played.specs.Reached.{IsOf, row_or_rests, rows_beside}
-use Rattle.papaya_played.proofs.Along.{At, StaysSo, far}
+use Rattle.papaya_played.proofs.Along.{At, Is, StaysSo, far}
 use Rattle.papaya_played.proofs.Noted.{Anything}
-use Rattle.papaya_played.proofs.PlayedAs.{PlayedAs, played_as, reclaimed_as}
+use Rattle.papaya_played.proofs.PlayedAs.{PlayedAs, ReclaimedAs, played_as, reclaimed_as}
 use Rattle.papaya_played.proofs.Rows.{called_is}
 use Rattle.papaya_agrees.specs.Guards.{GuardsAgree, GuardsAre, UnlessReclaimed}
 use Rattle.papaya_agrees.proofs.Leads.{LeavesThere, ending_leaves, making_leaves, there_after, there_as_before}
@@ -187,38 +188,38 @@ all_over c told e = by (is_over told) e
     by true e = refl
     by false e = absurd (cc e)
 
+-- what is so if nobody reclaims all
+pub unless : {X : Type 0} (P : Type 0) (o : Option X) → (o ≡ None → P) → UnlessReclaimed o P
+unless P None so = so refl
+unless P (Some x) so = tt
+
 module _ {K S : Type 0} (V : Type 0) (same : K → K → Bool) (by_hasher : S → K → ℕ) (hash : ℕ → K → ℕ) (batch_size roots : ℕ) (aborts : V) where
   -- while somebody reclaims all, sections end one after another, and in the end nobody is there
   abbrev pub GuardsHold : At V same by_hasher hash batch_size roots → State K V S → Type 0
   GuardsHold p x = UnlessReclaimed (far V same by_hasher hash batch_size roots p) (GuardsAgree x p.0.world.uses)
 
-  unless : (p : At V same by_hasher hash batch_size roots) (x : State K V S) (o : Option (ℕ × ReclaimAll)) → far V same by_hasher hash batch_size roots p ≡ o
-      → (o ≡ None → GuardsAgree x p.0.world.uses) → GuardsHold p x
-  unless p x o e so = subst (λ (z : Option (ℕ × ReclaimAll)). UnlessReclaimed z (GuardsAgree x p.0.world.uses)) (sym e) (by o so)
-    where
-      by : (z : Option (ℕ × ReclaimAll)) → (z ≡ None → GuardsAgree x p.0.world.uses) → UnlessReclaimed z (GuardsAgree x p.0.world.uses)
-      by None at = at refl
-      by (Some it) at = tt
+  pub nobody_then : (n : At V same by_hasher hash batch_size roots) (x y : State K V S) (g : Grant) → Is V same by_hasher hash batch_size roots aborts n y → far V same by_hasher hash batch_size roots n ≡ None
+      → ReclaimedAs same by_hasher batch_size roots aborts x y g → (moment y.history).there ≡ nobody
+  nobody_then n x y g is_then none it =
+      let last = all_over it.2.1.0 it.2.1.1 (ap (λ (v : State K V S). v.now.all) (sym it.4) ∙ is_then.all ∙ ap (option_map (λ (o : ℕ × ReclaimAll). o.1)) none) in
+      let change = changed_of x.now.memory g (reclaim_all_plan deferred_word was_left it.0) in
+      let entry : Entry K V = record { deed = ReclaimsAll (is_over it.2.1.1); outcome = settled_outcome it.2.1.1; effects = effects_of acting.Row x.known change; refused = is_refusal change } in
+      ap (λ (v : State K V S). (moment v.history).there) it.4 ∙ there_after entry (moment x.history) ∙ ap (λ (q : Bool). if q then nobody else (moment x.history).there) last
 
   pub guards_stay : StaysSo V same by_hasher hash batch_size roots aborts (Anything V same by_hasher hash batch_size roots aborts) GuardsHold
   guards_stay = record {
     acts = λ p n x y act told own fits none none_then is is_then at may led leads at_then played here.
-        unless n y None none_then
-        (λ nobody. acts_agree same by_hasher hash batch_size roots aborts p.0 n.0 x y
+        unless (GuardsAgree y n.0.world.uses) (far V same by_hasher hash batch_size roots n)
+        (λ nobody_does. acts_agree same by_hasher hash batch_size roots aborts p.0 n.0 x y
         (subst (λ (o : Option (ℕ × ReclaimAll)). IsOf by_hasher p.0 (rows_beside o p.0.world.row) x.now) none is.scene) at.together.makings.standing.came
         (subst (λ (o : Option (ℕ × ReclaimAll)). UnlessReclaimed o (GuardsAgree x p.0.world.uses)) none here) act own (played_as same by_hasher batch_size roots aborts x y act played) may told led);
-    begins = λ p n x i c none begun same_scene all_free is is_then at here. unless n (all_begun c x) (Some (i, c)) begun (λ e. absurd (cc e));
+    begins = λ p n x i c none begun same_scene all_free is is_then at here.
+        unless (GuardsAgree (all_begun c x) n.0.world.uses) (far V same by_hasher hash batch_size roots n) (λ nobody_does. absurd (let both : None ≡ Some (i, c) = sym nobody_does ∙ begun in cc both));
     steps = λ p n x y told g st is is_then at leads scene played here.
-        unless n y (far V same by_hasher hash batch_size roots n) refl
+        unless (GuardsAgree y n.0.world.uses) (far V same by_hasher hash batch_size roots n)
         (λ none.
-        let it = reclaimed_as same by_hasher batch_size roots aborts x y g played in
         let done : st.end ≡ settled.Done = over_is st.end (st.caller, st.next) (sym st.goes_on ∙ none) in
-        let last = all_over it.2.1.0 it.2.1.1 (ap (λ (v : State K V S). v.now.all) (sym it.4) ∙ is_then.all ∙ ap (option_map (λ (o : ℕ × ReclaimAll). o.1)) none) in
-        let change = changed_of x.now.memory g (reclaim_all_plan deferred_word was_left it.0) in
-        let entry : Entry K V = record { deed = ReclaimsAll (is_over it.2.1.1); outcome = settled_outcome it.2.1.1; effects = effects_of acting.Row x.known change; refused = is_refusal change } in
-        let nobody_there : (moment y.history).there ≡ nobody =
-        ap (λ (v : State K V S). (moment v.history).there) it.4 ∙ there_after entry (moment x.history) ∙ ap (λ (q : Bool). if q then nobody else (moment x.history).there) last in
-        subst (λ (there : Present). GuardsAre y.now.rows n.0.world.uses there.guards) (sym nobody_there)
+        subst (λ (there : Present). GuardsAre y.now.rows n.0.world.uses there.guards) (sym (nobody_then n x y g is_then none (reclaimed_as same by_hasher batch_size roots aborts x y g played)))
         (record {
           each = tt;
           inside = λ t in_it. absurd (subst IsInside ((st.did.did.over done).nothing.2 t) (subst (λ (v : Scene K V). IsInside (v.world.uses t)) st.did.comes in_it));

@@ -3,14 +3,17 @@ use Rattle.std.specs.Prelude.{◌≡◌, ◌⊎◌, ℕ, ◌+◌, ◌==◌, ◌&
 use Rattle.std.specs.List.{list_all, list_any}
 use Rattle.papaya_raw.specs.Given.Seize.Register.{bucket_needed}
 use Rattle.papaya_schedules.specs.declared.call.Answer.{Answer}
+use Rattle.papaya_schedules.specs.declared.call.Answer.TheVariants.{Absent}
 use Rattle.papaya_schedules.specs.declared.call.Call.{Call}
+use Rattle.papaya_schedules.specs.declared.call.Call.TheVariants.{Walk}
 use Rattle.papaya_schedules.specs.declared.outcome.Outcome.{Outcome}
-use Rattle.papaya_schedules.specs.declared.outcome.Outcome.TheVariants.{Answered, Done, Refused}
+use Rattle.papaya_schedules.specs.declared.outcome.Outcome.TheVariants.{Answered, Done, Refused, Shows}
 use Rattle.papaya_schedules.specs.declared.effect.Effect.{Effect}
 use Rattle.papaya_schedules.specs.declared.effect.Effect.TheVariants.{Asked, Ended, Taken}
 use Rattle.papaya_schedules.specs.declared.effect.Growth.TheVariants.{ABucket}
 use Rattle.papaya_schedules.specs.declared.effect.Table.{Table}
 use Rattle.papaya_schedules.specs.After.{moments_by}
+use Rattle.papaya_schedules.specs.Coming.{is_answer, is_walk}
 use Rattle.papaya_schedules.specs.Effects.{AtEachEffect}
 use Rattle.papaya_schedules.specs.Entry.{IfCall, acting}
 use Rattle.papaya_schedules.specs.Handing.{LeavesOf, asks_for_bucket, comes_clear, is_call_effect, is_ending, is_first_making, is_granted, is_made, is_reclaiming, is_table_made, moments_since}
@@ -52,14 +55,24 @@ module _ {K V : Type 0} where
   abbrev pub IsProtected : List (Entry K V) → Entry K V → Type 0
   IsProtected log e = Protects (transition log e)
 
+  -- What a call is told is of its kind: a walk alone shows pairs, and answers that there is no further one.
+  abbrev pub is_of_kind : Call K V → Outcome V → Bool
+  is_of_kind call (Shows n) = is_walk call
+  is_of_kind Walk (Answered Absent) = true
+  is_of_kind call (Answered a) = is_answer call a
+  is_of_kind call outcome = true
+
+  abbrev pub TellsItsKind : List (Entry K V) → Entry K V → Type 0
+  TellsItsKind log e = IfCall (λ c. is_of_kind c.call e.outcome ≡ true) (call_left (transition log e))
+
 module _ {K V : Type 0} (eq : K → K → Bool) where
   -- it changes maps, answers and asks as the finite map says; one that is no step of a call changes none
   abbrev pub IsLinearizable : List (Entry K V) → Entry K V → Type 0
   IsLinearizable log e = Linearizes eq (past log) (transition log e)
 
-  -- what a sweep has shown, removed and left is right at its end
+  -- A call tells what one of its kind may, and what a sweep has shown, removed and left is right at its end.
   abbrev pub IsSwept : Terms → List (Entry K V) → Entry K V → Type 0
-  IsSwept terms log e = SweepsRight eq terms (past log) (transition log e)
+  IsSwept terms log e = TellsItsKind log e × SweepsRight eq terms (past log) (transition log e)
 
 -- Who registers needs a bucket next: the first one, or before it takes a slot the one of the slot behind that, and it is not there yet.
 abbrev pub NeedsBucket : ℕ → ℕ → Type 0

@@ -121,7 +121,7 @@ module _ {K V S : Type 0} (same : K → K → Bool) (by_hasher : S → K → ℕ
           by None e = refl
           by (Some u) e = absurd (let none = is.calling map j u e in cc (none, has))
 
-  reached : Reached deferred_word old.batch_size w
+  pub reached : Reached deferred_word old.batch_size w
   reached = came_reached old.batch_size w at.together.makings.standing.came
 
   -- A step of a call,

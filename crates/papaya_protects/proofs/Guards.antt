@@ -1,7 +1,7 @@
 -- The guards of a history whose sections are open are spared by whoever has no row beside them.
 use Rattle.std.specs.Prelude.{Option, Some, None}
 use Rattle.std.proofs.Common.{◌≡◌, ℕ, List, inl, inr, ap, sym, ◌∙◌}
-use Rattle.papaya_histories.specs.Given.Seize.World.{Leaves, World}
+use Rattle.papaya_histories.specs.Given.Seize.World.{World}
 use Rattle.papaya_histories.proofs.Given.SeizeAlone.Histories.Reached.{Reached}
 use Rattle.papaya_histories.specs.Given.Tables.Nodes.{deferred_word}
 use Rattle.papaya_histories.specs.Given.Tables.declared.node.Node.{Node}

@@ -7,3 +7,6 @@ pub mod RowSteps
 pub mod Entries
 pub mod Quiet
 pub mod Acts
+mod Played
+mod Stays
+mod Protected

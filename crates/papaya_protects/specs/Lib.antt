@@ -1,1 +1,2 @@
 pub mod Shelters
+pub mod Protected

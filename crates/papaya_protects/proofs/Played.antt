@@ -1,10 +1,8 @@
 -- Each act that is played leaves it so: nothing is reclaimed that is sheltered, and what is is sheltered still.
-use Rattle.std.specs.Prelude.{Bool, true, false, Option, Some, None, is_ok, if◌then◌else◌}
-use Rattle.std.specs.List.{AllByRecursion}
-use Rattle.std.proofs.Common.{◌≡◌, ℕ, List, [], ◌∷◌, refl, ap, sym, subst, ◌∙◌}
+use Rattle.std.specs.Prelude.{Bool, true, false, Some, is_ok, if◌then◌else◌}
+use Rattle.std.proofs.Common.{◌≡◌, ℕ, [], ◌∷◌, refl, ap, sym, subst, ◌∙◌}
 use Rattle.seize_acts.specs.Acts.{row_steps}
 use Rattle.seize_acts.specs.Answers.{Grant}
-use Rattle.papaya_histories.specs.Given.SeizeWords.Mem.{Mem}
 use Rattle.papaya_histories.specs.Given.Seize.Law.{Ended}
 use Rattle.papaya_histories.specs.Given.Seize.World.{Row, World}
 use Rattle.papaya_histories.specs.Given.Seize.declared.progress.Progress.{Progress}
@@ -24,21 +22,19 @@ use Rattle.papaya_histories.specs.Given.Schedules.declared.outcome.Outcome.TheVa
 use Rattle.papaya_histories.specs.Given.Teller.declared.changed.Changed.{Changed}
 use Rattle.papaya_histories.specs.Given.Teller.declared.changed.Changed.TheVariants.{Nothing as NoChange}
 use Rattle.papaya_histories.specs.Given.Effects.Effects.{effects_of, known_after}
-use Rattle.papaya_histories.specs.Given.Effects.Known.{Known}
 use Rattle.papaya_histories.specs.Given.Effects.declared.acting.Acting.TheVariants as acts
 use Rattle.papaya_histories.specs.Given.Finishes.Endings.{Finishing}
 use Rattle.papaya_histories.specs.Given.Finishes.FactsEnds.{Deed as EndDeed}
 use Rattle.papaya_histories.specs.Given.Finishes.Makings.{Beginning}
 use Rattle.papaya_histories.specs.Given.Others.Makings.{WasNew}
-use Rattle.papaya_scenes.specs.Ending.{EndingComesTo, EndingLeads}
+use Rattle.papaya_scenes.specs.Ending.{EndingComesTo}
 use Rattle.papaya_scenes.specs.Held.{Held, IsAt}
 use Rattle.papaya_scenes.specs.Making.{MakingComesTo, MakingLeads}
 use Rattle.papaya_scenes.specs.Scene.{HasNoCall, IsOnSlot, Scene, row_of, slot_of}
-use Rattle.papaya_scenes.specs.declared.row.SlotRow.{SlotRow}
 use Rattle.papaya_acts.specs.Acts.{Act, Answer, AsksCall, BeginsCall, BeginsEnding, BeginsMaking, BeginsRow, OfEnding, OfMaking, StepsCall, StepsEnding, StepsMaking, StepsRow, StopsCall, TellsCall}
 use Rattle.papaya_acts.specs.AsSteps.{EndedTo, LeadsAs, MadeTo, changed_by, held_in, row_changed, row_told}
 use Rattle.papaya_acts.specs.Leads.{Led, MayBe}
-use Rattle.papaya_deeds.specs.Deeds.{Begins, Entry, Replies, Steps, Stops, begun, moment, named}
+use Rattle.papaya_deeds.specs.Deeds.{Begins, Entry, Replies, Steps, Stops, begun, moment}
 use Rattle.papaya_named.specs.Seen.{kind_of}
 use Rattle.papaya_played.specs.Play.{State, call_for, ending_deed, has_root, is_refusal, making_deed, making_outcome, outcome_of, reply_for, row_deed, row_outcome, row_stepped, settled_outcome}
 use Rattle.papaya_played.specs.Reached.{IsOf, row_or_rests}
@@ -49,8 +45,8 @@ use Rattle.papaya_agrees.proofs.Rows.{rows_by}
 use Rattle.papaya_promises.proofs.Lists.{all_found, all_of}
 use Rattle.papaya_linear.proofs.Holding.{AllHolds}
 use Rattle.papaya_linear.proofs.MakesRight.{was_new}
-use Rattle.papaya_linear.proofs.Tied.{call_tied, ending_tied, making_tied}
-use Rattle.papaya_protects.specs.Shelters.{IsOpen, SectionsShelter}
+use Rattle.papaya_linear.proofs.Tied.{MakingTied, call_tied, ending_tied, making_tied}
+use Rattle.papaya_protects.specs.Shelters.{IsOpen}
 use Rattle.papaya_protects.proofs.Acts.{Protected, begun_keeps, none_more, one_more}
 use Rattle.papaya_protects.proofs.After.{IsCalm, all_on, protected_so}
 use Rattle.papaya_protects.proofs.Entries.{call_entry, ending_entry, making_calm, making_entry, quiet_entry, reached}
@@ -113,7 +109,9 @@ module _ {K V S : Type 0} (same : K → K → Bool) (by_hasher : S → K → ℕ
       new = then_held (StepsMaking i g)
 
       one : told2 ≡ said
-      one = let both : OfMaking {K = K} {V = V} told2 ≡ OfMaking said = sym answer ∙ told_is in cc both
+      one = let both : ◌≡◌ {A = Answer K V} (OfMaking told2) (OfMaking said) = sym answer ∙ told_is in cc both
+
+      tied : MakingTied same by_hasher batch_size roots aborts s n s.world.row x y is i g b (m2, (machine, said))
       tied = making_tied same by_hasher batch_size roots aborts s n s.world.row x y is i g b makes (m2, (machine, said)) computed played
 
       map_is : tied.it.map ≡ b.map
@@ -174,7 +172,7 @@ module _ {K V S : Type 0} (same : K → K → Bool) (by_hasher : S → K → ℕ
       → LeadsAs same by_hasher hash (StepsEnding i g) s told n old (then_held (StepsEnding i g)) → Protected y n
   ending_protects i g played (f, ends, m2, machine, said, computed, told_is, did, came) (told2, answer, leads, goes) =
       let new = then_held (StepsEnding i g) in
-      let one : told2 ≡ said = (let both : OfEnding {K = K} {V = V} told2 ≡ OfEnding said = sym answer ∙ told_is in cc both) in
+      let one : told2 ≡ said = (let both : ◌≡◌ {A = Answer K V} (OfEnding told2) (OfEnding said) = sym answer ∙ told_is in cc both) in
       let tied = ending_tied same by_hasher batch_size roots aborts s n s.world.row x y is i g f ends (m2, (machine, said)) computed played in
       let effects = effects_of (acts.Ending tied.it.map) x.known new.changed in
       one_more x y s n so (record { deed = ending_deed tied.it told2; outcome = settled_outcome said; effects = effects; refused = is_refusal new.changed }) (known_after (acts.Ending tied.it.map) new.changed x.known) (leads f ends).2.w2
