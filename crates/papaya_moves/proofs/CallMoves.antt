@@ -1,5 +1,5 @@
 -- The step of a call, as it is played, does what a call may do, and leaves nothing behind once it is over.
-use Rattle.std.specs.Prelude.{◌≡◌, ◌⊎◌, ℕ, Bool, true, Option, Some, None}
+use Rattle.std.specs.Prelude.{◌≡◌, ◌⊎◌, ℕ, Bool, true, List, Option, Some, None}
 use Rattle.std.proofs.Common.{refl, ap, sym, subst, ◌∙◌, inl, inr}
 use Rattle.papaya_legal.specs.Given.SeizeWords.declared.fault.Fault.TheVariants.{Memory}
 use Rattle.papaya_legal.specs.Given.Tables.declared.node.Node.{Node}
@@ -61,7 +61,7 @@ module _ {K V S : Type 0} (same : K → K → Bool) (hash : ℕ → K → ℕ) (
 
   pub steps_move : MovesBut x.history entry
   steps_move = record {
-    may = all_also is_call_effect (may_do (Steps {K = K} {V = V} i)) (λ f is. is) entry.effects
+    may = all_also is_call_effect (may_do {K = K} {V = V} (Steps i)) (λ f is. is) entry.effects
         (steps_do_theirs K V same hash named (moment x.history) x.known s old new at all.whole m i u under said leads);
     granted = granted_so (acts.Call i m) x.known new.changed;
     refuses = refuses_so (acts.Call i m) x.known new.changed;

@@ -40,9 +40,17 @@ rootless_has_none (openings.Refused fault) none = refl
 rootless_has_none _ none = absurd (cc none)
 
 -- for no places a map is made for no pairs, and else for some
-pub places_as_pairs : (places : ℕ) → (if pairs_for places == 0 then 0 else 1) ≡ (if places == 0 then 0 else 1)
+pub places_as_pairs : (places : ℕ) → ◌≡◌ {A = ℕ} (if pairs_for places == 0 then 0 else 1) (if places == 0 then 0 else 1)
 places_as_pairs zero = refl
 places_as_pairs (suc n) = ap (λ (q : Bool). if q then 0 else 1) (ne_eqb (pairs_for (suc n)) 0 (λ none. omega (arith, none)))
+
+module _ (K V : Type 0) where
+  -- its own making makes as many as the effects say, and another one none
+  pub own_made : (n : ℕ) (fs : List Effect) → made_by {K = K} {V = V} n (Makes n) fs ≡ length (filter is_table_made fs)
+  own_made n fs = ap (λ (q : Bool). if q then length (filter is_table_made fs) else 0) (eq-eqb n n refl)
+
+  pub other_made : (n on : ℕ) (fs : List Effect) → n ≢ on → made_by {K = K} {V = V} n (Makes on) fs ≡ 0
+  other_made n on fs ne = ap (λ (q : Bool). if q then length (filter is_table_made fs) else 0) (ne_eqb n on ne)
 
 module _ {K V : Type 0} where
   -- by a deed that makes no map no table is made
@@ -54,12 +62,6 @@ module _ {K V : Type 0} where
   none_made n (Makes map) none fs = absurd none
   none_made n _ none fs = refl
 
-  pub own_made : (n : ℕ) (fs : List Effect) → made_by {K = K} {V = V} n (Makes n) fs ≡ length (filter is_table_made fs)
-  own_made n fs = ap (λ (q : Bool). if q then length (filter is_table_made fs) else 0) (eq-eqb n n refl)
-
-  pub other_made : (n on : ℕ) (fs : List Effect) → n ≢ on → made_by {K = K} {V = V} n (Makes on) fs ≡ 0
-  other_made n on fs ne = ap (λ (q : Bool). if q then length (filter is_table_made fs) else 0) (ne_eqb n on ne)
-
   -- where nothing is done no table is made
   pub nothing_made : (n : ℕ) (d : Deed K V) (fs : List Effect) → fs ≡ [] → made_by n d fs ≡ 0
   nothing_made n d fs none = ap (made_by n d) none ∙ by d
@@ -67,7 +69,7 @@ module _ {K V : Type 0} where
       by : (d : Deed K V) → made_by n d [] ≡ 0
       by (Makes on) = none_at (n == on)
         where
-          none_at : (q : Bool) → (if q then 0 else 0) ≡ 0
+          none_at : (q : Bool) → ◌≡◌ {A = ℕ} (if q then 0 else 0) 0
           none_at true = refl
           none_at false = refl
       by _ = refl

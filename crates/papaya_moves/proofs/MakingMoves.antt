@@ -4,7 +4,6 @@ use Rattle.std.specs.List.{list_all}
 use Rattle.std.proofs.Common.{refl, ap, sym, subst, ◌∙◌, arith, inl, inr, length-append}
 use Rattle.std.proofs.lemmas.Bool.{ne_eqb}
 use Rattle.std.proofs.lemmas.List.Elements.{filter-append}
-use Rattle.seize_acts.specs.Answers.{Grant}
 use Rattle.papaya_legal.specs.Given.SeizeWords.Mem.{Mem}
 use Rattle.papaya_legal.specs.Given.Seize.World.{World, with_at}
 use Rattle.papaya_legal.specs.Given.Seize.declared.progress.Progress.{Progress}
@@ -144,7 +143,7 @@ module _ {K V S : Type 0} (same : K → K → Bool) (hash : ℕ → K → ℕ) (
   done_well : (setting : Setting) → said ≡ progress.Done setting → had ≡ true
       → (length (tables_of b.map w) ≡ made_by {K = K} {V = V} b.map (Makes b.map) effects + made_for b.map x.history) × (length (tables_of b.map w) ≡ (if capacity_or (map_at b.map w) == 0 then 0 else 1))
   done_well setting done was = (
-    (let none = ap (λ (p : Progress Setting). in_hand (table_left (leads b makes).0 p)) done in let own = own_made {K = K} {V = V} b.map effects in omega (arith, counts, none, own)),
+    (let none = ap (λ (p : Progress Setting). in_hand (table_left (leads b makes).0 p)) done in let own = own_made K V b.map effects in omega (arith, counts, none, own)),
     stands_with said (leads b makes).3 shown_then setting done ∙ ap (λ (n : ℕ). if n == 0 then 0 else 1) (sym facts.len_is) ∙ sym (places_as_pairs b.machine.len)
         ∙ ap (λ (n : ℕ). if n == 0 then 0 else 1) (sym (effects_keep_capacities K V None (Some b.map) effects m b.map ∙ capacity was)),
   )

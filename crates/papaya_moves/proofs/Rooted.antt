@@ -5,7 +5,7 @@ use Rattle.papaya_legal.specs.Given.SeizeWords.Mem.{Mem, value_at}
 use Rattle.papaya_legal.specs.Given.SeizeWords.Op.{Out, Exchanged, Made}
 use Rattle.papaya_legal.specs.Given.SeizeWords.Plan.{Ends as EndsSo}
 use Rattle.papaya_legal.specs.Given.SeizeWords.declared.fault.Fault.{Fault}
-use Rattle.papaya_legal.specs.Given.SeizeWords.declared.fault.Fault.TheVariants.{RootsUsedUp}
+use Rattle.papaya_legal.specs.Given.SeizeWords.declared.fault.Fault.TheVariants.{Memory, RootsUsedUp}
 use Rattle.papaya_legal.specs.Given.Seize.declared.progress.Progress.{Progress}
 use Rattle.papaya_legal.specs.Given.Seize.declared.progress.Progress.TheVariants as progress
 use Rattle.papaya_legal.specs.Given.Tables.declared.node.Node.{Node}
@@ -70,7 +70,7 @@ module _ {K V : Type 0} (c : NewMap) (m n : Mem (Node K V)) (told : Changed) (en
 
   made_rooted : c.stands ≡ openings.Shards → (out : Out (Node K V)) → EndsSo (value_at n) (made c out) end → Rooted openings.Shards end
   made_rooted is (Made (Ok block)) ends = by_end openings.Shards _ ends (sharded c openings.Shards (record c { setting = record c.setting { counter = block } }) (c.len == 0))
-  made_rooted is (Made (Err value)) ends = by_end openings.Shards _ ends (at_root_still openings.Shards _ refl (λ fault no. cc no))
+  made_rooted is (Made (Err value)) ends = by_end openings.Shards (goes c (openings.Frees Memory)) ends (at_root_still openings.Shards (goes c (openings.Frees Memory)) refl (λ fault no. cc no))
   made_rooted is _ ends = by_end openings.Shards (c, progress.Goes) ends (at_root_still openings.Shards (c, progress.Goes) (ap has_root is) (λ fault no. cc no))
 
   pub step_rooted : (stands : Opening) → c.stands ≡ stands → StepsTold K V (NewMap × Progress Setting) m changed.Nothing (plan_at c stands) n told end → Rooted stands end
@@ -78,8 +78,8 @@ module _ {K V : Type 0} (c : NewMap) (m n : Mem (Node K V)) (told : Changed) (en
   step_rooted openings.Shards is s = made_rooted is s.0 s.2
   step_rooted (openings.Tables making) is s =
       let x = told_in m n told (opened c) (new_table_plan making) end s in by_end (openings.Tables making) (opened c x.0) x.1 (opened_rooted c (openings.Tables making) x.0)
-  step_rooted (openings.Unmakes fault) is s = by_end (openings.Unmakes fault) _ s.2 (at_root_still (openings.Unmakes fault) _ refl (λ fault2 no. cc no))
-  step_rooted (openings.Frees fault) is s = by_end (openings.Frees fault) _ s.2 (λ had gone. tt, λ fault2 no. refl, λ setting no. absurd (cc no))
+  step_rooted (openings.Unmakes fault) is s = by_end (openings.Unmakes fault) (goes c (openings.Frees fault)) s.2 (at_root_still (openings.Unmakes fault) (goes c (openings.Frees fault)) refl (λ fault2 no. cc no))
+  step_rooted (openings.Frees fault) is s = by_end (openings.Frees fault) (refused c fault) s.2 (λ had gone. tt, λ fault2 no. refl, λ setting no. absurd (cc no))
   step_rooted openings.Over is s = by_end openings.Over (c, progress.Done c.setting) s.1 (at_root_still openings.Over (c, progress.Done c.setting) (ap has_root is) (λ fault no. cc no))
   step_rooted (openings.Refused fault) is s =
       by_end (openings.Refused fault) (c, progress.Refused fault) s.1 (λ had gone. absurd (cc had), λ fault2 no. ap has_root is, λ setting no. absurd (cc no))

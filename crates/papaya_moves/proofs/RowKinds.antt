@@ -69,7 +69,7 @@ module _ {K V : Type 0} (m m2 : Mem (Node K V)) (told : Changed) (after : SlotRo
   registers_may c s p is = by p is (all_also asks_for_bucket (may_do {K = K} {V = V} (Registers c.slot)) (λ f is. is) effects (asks_alone known told (registers_tell m m2 told after c s)))
     where
       by : (p : Registering) → c.stands ≡ p → list_all (may_do {K = K} {V = V} (Registers c.slot)) effects ≡ true → list_all (may_do {K = K} {V = V} (registers_as p c.slot)) effects ≡ true
-      by registering.Enter is may = none_may (Opens c.slot) effects (enters_quietly c s is)
+      by registering.Enter is may = none_may {K = K} {V = V} (Opens c.slot) effects (enters_quietly c s is)
       by _ is may = may
 
   -- and what is taken away was no one's own: it is reclaimed.
@@ -79,8 +79,8 @@ module _ {K V : Type 0} (m m2 : Mem (Node K V)) (told : Changed) (after : SlotRo
         by p is (all_also is_reclaiming (may_do {K = K} {V = V} (Leaves c.slot)) (λ f is. is) effects (reclaims_alone known told (leaves_tell m m2 told after c s) own))
       where
         by : (p : Leaving) → c.stands ≡ p → list_all (may_do {K = K} {V = V} (Leaves c.slot)) effects ≡ true → list_all (may_do {K = K} {V = V} (leaves_as c p)) effects ≡ true
-        by leaving.Swaps is may = none_may (Shuts c.slot) effects (ends_quietly c s is)
-        by leaving.Over is may = none_may (if c.becomes == ACTIVE then Opens c.slot else Leaves c.slot) effects (left_quietly c s is)
+        by leaving.Swaps is may = none_may {K = K} {V = V} (Shuts c.slot) effects (ends_quietly c s is)
+        by leaving.Over is may = none_may {K = K} {V = V} (if c.becomes == ACTIVE then Opens c.slot else Leaves c.slot) effects (left_quietly c s is)
         by _ is may = may
 
     flushes_reclaim : (c : Settle) → RowSteps K V (rows.Flushes c) m m2 told after → (p : Settling) → c.stands ≡ p → list_all is_reclaiming effects ≡ true
@@ -91,7 +91,7 @@ module _ {K V : Type 0} (m m2 : Mem (Node K V)) (told : Changed) (after : SlotRo
 
     pub row_may : (row : SlotRow) → RowSteps K V row m m2 told after → list_all (may_do {K = K} {V = V} (row_deed row)) effects ≡ true
     row_may (rows.Registers c) s = registers_may c s c.stands refl
-    row_may (rows.Enters c) s = none_may (Opens c.slot) effects (does_nothing known told (enters_tell m m2 told after c s))
+    row_may (rows.Enters c) s = none_may {K = K} {V = V} (Opens c.slot) effects (does_nothing known told (enters_tell m m2 told after c s))
     row_may (rows.Leaves c) s = leaves_may c s c.stands refl
     row_may (rows.Flushes c) s = all_also is_reclaiming (may_do {K = K} {V = V} (Tends c.slot)) (λ f is. is) effects (flushes_reclaim c s c.stands refl)
-    row_may (rows.Frees c) s = none_may (Tends c.slot) effects (does_nothing known told (frees_tell m m2 told after c s))
+    row_may (rows.Frees c) s = none_may {K = K} {V = V} (Tends c.slot) effects (does_nothing known told (frees_tell m m2 told after c s))
