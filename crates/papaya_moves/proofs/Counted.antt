@@ -40,9 +40,12 @@ rootless_has_none (openings.Refused fault) none = refl
 rootless_has_none _ none = absurd (cc none)
 
 -- for no places a map is made for no pairs, and else for some
+none_at_none : (n : ℕ) → n ≢ 0 → ◌≡◌ {A = ℕ} (if n == 0 then 0 else 1) 1
+none_at_none n some = ap (λ (q : Bool). if q then 0 else 1) (ne_eqb n 0 some)
+
 pub places_as_pairs : (places : ℕ) → ◌≡◌ {A = ℕ} (if pairs_for places == 0 then 0 else 1) (if places == 0 then 0 else 1)
 places_as_pairs zero = refl
-places_as_pairs (suc n) = ap (λ (q : Bool). if q then 0 else 1) (ne_eqb (pairs_for (suc n)) 0 (λ none. omega (arith, none)))
+places_as_pairs (suc n) = none_at_none (pairs_for (suc n)) (λ none. omega (arith, none)) ∙ sym (none_at_none (suc n) (λ none. omega (arith, none)))
 
 module _ (K V : Type 0) where
   -- its own making makes as many as the effects say, and another one none

@@ -106,7 +106,7 @@ module _ {K V S : Type 0} (same : K → K → Bool) (hash : ℕ → K → ℕ) (
   pub counts : length (filter is_table_made effects) + made_for b.map x.history ≡ length (tables_of b.map w) + in_hand (table_left (leads b makes).0 said)
   counts =
       let before : CountsTables b.map (so_many (made_for b.map x.history)) m (table_left b.machine progress.Goes) =
-      are_so_many (made_for b.map x.history) ∙ made ∙ sym (ap (λ (ts : List _). length ts + in_hand (table_left b.machine progress.Goes)) bare) in
+      (let many = are_so_many (made_for b.map x.history) in let none = ap length bare in omega (arith, many, made, none)) in
       let then_so = makings_count_tables K V same hash named m x.known s old new at all.whole.all.shown all.kept.tables i said leads b makes (all.whole.counters i b makes) (Some b.map)
       (so_many (made_for b.map x.history)) before shown_then in
       let parts = ap length (filter-append is_table_made (so_many (made_for b.map x.history)) effects)
