@@ -6,3 +6,4 @@ pub mod RowMoves
 pub mod Rooted
 pub mod Counted
 pub mod MakingMoves
+pub mod MadeHolds
