@@ -50,7 +50,7 @@ module _ {K V : Type 0} (m m2 : Mem (Node K V)) (told : Changed) (after : SlotRo
   swaps_quietly slot field word (Found before) = refl
   swaps_quietly slot field word _ = refl
 
-  enters_quietly : (c : Register) → RowSteps K V (rows.Registers c) m m2 told after → c.stands ≡ registering.Enter → effects ≡ []
+  pub enters_quietly : (c : Register) → RowSteps K V (rows.Registers c) m m2 told after → c.stands ≡ registering.Enter → effects ≡ []
   enters_quietly c s is =
       let it = subst (λ (p : Registering). StepsTold K V (Register × Progress ℕ) m changed.Nothing (register.plan_at c p) m2 told s.0) is s.1 in ap (effects_of acts.Row known) it.1.1
 
@@ -58,10 +58,10 @@ module _ {K V : Type 0} (m m2 : Mem (Node K V)) (told : Changed) (after : SlotRo
       → StepsTold K V (Leave × Settled (Node K V)) m changed.Nothing (leave.plan_at deferred_word c p) m2 told s.0
   leaves_at c s p is = subst (λ (q : Leaving). StepsTold K V (Leave × Settled (Node K V)) m changed.Nothing (leave.plan_at deferred_word c q) m2 told s.0) is s.1
 
-  ends_quietly : (c : Leave) → RowSteps K V (rows.Leaves c) m m2 told after → c.stands ≡ leaving.Swaps → effects ≡ []
+  pub ends_quietly : (c : Leave) → RowSteps K V (rows.Leaves c) m m2 told after → c.stands ≡ leaving.Swaps → effects ≡ []
   ends_quietly c s is = let it = leaves_at c s leaving.Swaps is in ap (effects_of acts.Row known) it.1.1 ∙ swaps_quietly c.slot _ c.becomes it.0
 
-  left_quietly : (c : Leave) → RowSteps K V (rows.Leaves c) m m2 told after → c.stands ≡ leaving.Over → effects ≡ []
+  pub left_quietly : (c : Leave) → RowSteps K V (rows.Leaves c) m m2 told after → c.stands ≡ leaving.Over → effects ≡ []
   left_quietly c s is = ap (effects_of acts.Row known) (leaves_at c s leaving.Over is).2
 
   -- who registers asks for buckets,
@@ -74,16 +74,19 @@ module _ {K V : Type 0} (m m2 : Mem (Node K V)) (told : Changed) (after : SlotRo
 
   -- and what is taken away was no one's own: it is reclaimed.
   module _ (own : (b : ℕ) → told ≡ changed.Took b → IsNoOwn (known.roles b)) where
+    pub leaves_reclaim : (c : Leave) → RowSteps K V (rows.Leaves c) m m2 told after → list_all is_reclaiming effects ≡ true
+    leaves_reclaim c s = reclaims_alone known told (leaves_tell m m2 told after c s) own
+
     leaves_may : (c : Leave) → RowSteps K V (rows.Leaves c) m m2 told after → (p : Leaving) → c.stands ≡ p → list_all (may_do {K = K} {V = V} (leaves_as c p)) effects ≡ true
     leaves_may c s p is =
-        by p is (all_also is_reclaiming (may_do {K = K} {V = V} (Leaves c.slot)) (λ f is. is) effects (reclaims_alone known told (leaves_tell m m2 told after c s) own))
+        by p is (all_also is_reclaiming (may_do {K = K} {V = V} (Leaves c.slot)) (λ f is. is) effects (leaves_reclaim c s))
       where
         by : (p : Leaving) → c.stands ≡ p → list_all (may_do {K = K} {V = V} (Leaves c.slot)) effects ≡ true → list_all (may_do {K = K} {V = V} (leaves_as c p)) effects ≡ true
         by leaving.Swaps is may = none_may {K = K} {V = V} (Shuts c.slot) effects (ends_quietly c s is)
         by leaving.Over is may = none_may {K = K} {V = V} (if c.becomes == ACTIVE then Opens c.slot else Leaves c.slot) effects (left_quietly c s is)
         by _ is may = may
 
-    flushes_reclaim : (c : Settle) → RowSteps K V (rows.Flushes c) m m2 told after → (p : Settling) → c.stands ≡ p → list_all is_reclaiming effects ≡ true
+    pub flushes_reclaim : (c : Settle) → RowSteps K V (rows.Flushes c) m m2 told after → (p : Settling) → c.stands ≡ p → list_all is_reclaiming effects ≡ true
     flushes_reclaim c s (settling.Takes next) is =
         let it = subst (λ (q : Settling). StepsTold K V (Settle × Settled (Node K V)) m changed.Nothing (settle.plan_at deferred_word c q) m2 told s.0) is s.1 in
         reclaims_alone known told (subst (Tells true false) (sym it.1.1) refl) own
