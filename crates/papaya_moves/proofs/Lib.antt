@@ -8,3 +8,4 @@ pub mod Rooted
 pub mod Counted
 pub mod MakingMoves
 pub mod MadeHolds
+pub mod MadeStep
