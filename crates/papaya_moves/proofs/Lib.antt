@@ -9,3 +9,4 @@ pub mod Counted
 pub mod MakingMoves
 pub mod MadeHolds
 pub mod MadeStep
+pub mod Acts

@@ -5,6 +5,7 @@ use Rattle.seize_acts.specs.Answers.{Grant}
 use Rattle.seize_acts.proofs.Answers.{same_some}
 use Rattle.papaya_legal.specs.Given.Seize.declared.progress.Progress.TheVariants as progress
 use Rattle.papaya_legal.specs.Given.Seize.declared.rows.settle.Settled.{Settled}
+use Rattle.papaya_legal.specs.Given.Raw.EndMap.{end_map_plan}
 use Rattle.papaya_legal.specs.Given.Raw.Machine.{machine_asked, machine_replied}
 use Rattle.papaya_legal.specs.Given.Resize.NewMap.{opening}
 use Rattle.papaya_legal.specs.Given.Schedules.declared.outcome.Outcome.{Outcome}
@@ -12,15 +13,18 @@ use Rattle.papaya_legal.specs.Given.Schedules.declared.outcome.Outcome.TheVarian
 use Rattle.papaya_legal.specs.Given.Schedules.Effects.{with_effects}
 use Rattle.papaya_legal.specs.Given.Schedules.Moment.{Moment}
 use Rattle.papaya_legal.specs.Given.Schedules.Views.{capacity_or, map_at}
+use Rattle.papaya_legal.specs.Given.Effects.Effects.{effects_of}
 use Rattle.papaya_legal.specs.Given.Effects.Known.{Known}
+use Rattle.papaya_legal.specs.Given.Effects.declared.acting.Acting.TheVariants as acts
 use Rattle.papaya_legal.proofs.Given.Finds.Capacities.{effects_keep_capacities}
 use Rattle.papaya_acts.specs.Acts.{Act, Answer, BeginsCall, StepsCall, TellsCall, AsksCall, StopsCall, BeginsMaking, StepsMaking, BeginsEnding, StepsEnding, BeginsRow, StepsRow}
+use Rattle.papaya_acts.specs.AsSteps.{changed_of}
 use Rattle.papaya_agrees.specs.Fresh.{HasNewNumber, has_come}
 use Rattle.papaya_agrees.proofs.Fresh.{not_come}
 use Rattle.papaya_agrees.proofs.Numbers.{with_so}
 use Rattle.papaya_deeds.specs.Deeds.{Begins, Deed, Ends, Entry, Leaves, MapGoes, Opens, ReclaimsAll, Registers, Replies, Shuts, Steps, Stops, Tends, after, moment}
 use Rattle.papaya_deeds.specs.History.{made_for}
-use Rattle.papaya_played.specs.Play.{Ending, Making, Now, State, call_for, did, ending_deed, has_root, is_over, pairs_for, reply_for, row_deed}
+use Rattle.papaya_played.specs.Play.{Ending, Making, Now, State, call_for, did, ending_deed, has_root, is_over, is_refusal, pairs_for, reply_for, row_deed, settled_outcome}
 use Rattle.papaya_played.proofs.PlayedAs.{PlayedAs, ReclaimedAs}
 use Rattle.papaya_works.specs.Makings.{in_hand, table_left}
 use Rattle.papaya_linear.specs.Coming.{AreNamed}
@@ -137,7 +141,10 @@ module _ {K V S : Type 0} (same : K → K → Bool) (hash : S → K → ℕ) (ba
   acts_keep_made (StepsMaking i g) leaves new played = absurd leaves
   acts_keep_made (BeginsEnding i m) leaves new (at, there, is) = subst MadeHolds (sym is) (as_it_was x here _ _ refl)
   acts_keep_made (StepsEnding i g) (names, apart) new (f, has, end, came, is) =
-      subst MadeHolds (sym is) (grown x here _ (ends_make_none x here f end.1.1) (end_keeps x here f end.1.1 names (apart f has) _ refl) _ _ _ refl)
+      let change = changed_of x.now.memory g (end_map_plan {K = K} {V = V} f.machine) in
+      let e : Entry K V =
+      record { deed = ending_deed f end.1.1; outcome = settled_outcome end.1.1; effects = effects_of (acts.Ending f.map) x.known change; refused = is_refusal change } in
+      subst MadeHolds (sym is) (grown x here e (ends_make_none x here f end.1.1) (end_keeps x here f end.1.1 names (apart f has) e refl) _ _ _ refl)
   acts_keep_made (BeginsRow i request) leaves new (called, there, is) = subst MadeHolds (sym is) (as_it_was x here _ _ refl)
   acts_keep_made (StepsRow i g) leaves new (row, has, end, came, is) =
       subst MadeHolds (sym is) (still_grown x here _ (rows_make_none (row_deed row) (is_of_row K V row)) (rows_still (row_deed row) (is_of_row K V row)) _ _ _ refl)
