@@ -55,6 +55,7 @@ module _ {K V S : Type 0} where
   abbrev pub AllMove : State K V S → Type 0
   AllMove x = AtEachEvent MovesBut x.history
 
+module _ {K V : Type 0} where
   -- what is done with no operation, if it is done
   did_move : (log : List (Entry K V)) → AtEachEvent MovesBut log → (taken : Bool) (d : Deed K V) → IsQuiet d → (o : Outcome V)
       → AtEachEvent MovesBut (if taken then record { deed = d; outcome = o; effects = []; refused = false } ∷ log else log)
@@ -115,18 +116,18 @@ module _ {K V S : Type 0} (same : K → K → Bool) (by_hasher : S → K → ℕ
     step map first machine said = record { deed = making_deed map first machine; outcome = making_outcome said; effects = effects_of (acts.Making map) x.known new.changed; refused = is_refusal new.changed }
 
     pub making_steps_move : Leads (StepsMaking i g) → AllMove y
-    making_steps_move (b, makes, m2, machine, progress, computed, told_is, did, came) =
+    making_steps_move (b, makes, m2, machine, end, computed, told_is, did, came) =
         subst AllMove (sym tied.comes) (
-          subst (λ (map : ℕ). MovesBut x.history (step map tied.it.machine machine progress)) (sym map_is)
-              (subst (λ (first : NewMap). MovesBut x.history (step b.map first machine progress)) (sym machine_is)
-              (makings_move same hash x s old new at holds.shows i b makes machine progress its_leads rooted
-              (was_new same by_hasher hash batch_size roots (moment x.history) x.known x.now.enders s n NoChange new at holds.shows.whole maps i g b m2 machine progress makes computed did came its_leads)
+          subst (λ (map : ℕ). MovesBut x.history (step map tied.it.machine machine end)) (sym map_is)
+              (subst (λ (first : NewMap). MovesBut x.history (step b.map first machine end)) (sym machine_is)
+              (makings_move same hash x s old new at holds.shows i b makes machine end its_leads rooted
+              (was_new same by_hasher hash batch_size roots (moment x.history) x.known x.now.enders s n NoChange new at holds.shows.whole maps i g b m2 machine end makes computed did came its_leads)
               (comes_bare b (moment x.history) (maps.coming i b makes)) counted.0 counted.1)),
           so,
         )
       where
-        tied : MakingTied same by_hasher batch_size roots aborts s n s.world.row x y is i g b (m2, (machine, progress))
-        tied = making_tied same by_hasher batch_size roots aborts s n s.world.row x y is i g b makes (m2, (machine, progress)) computed played
+        tied : MakingTied same by_hasher batch_size roots aborts s n s.world.row x y is i g b (m2, (machine, end))
+        tied = making_tied same by_hasher batch_size roots aborts s n s.world.row x y is i g b makes (m2, (machine, end)) computed played
 
         map_is : tied.it.map ≡ b.map
         map_is = ap (λ (p : ℕ × ((K → ℕ) × NewMap)). p.0) tied.its
@@ -134,13 +135,13 @@ module _ {K V S : Type 0} (same : K → K → Bool) (by_hasher : S → K → ℕ
         machine_is : tied.it.machine ≡ b.machine
         machine_is = ap (λ (p : ℕ × ((K → ℕ) × NewMap)). p.1.1) tied.its
 
-        its_leads : MakingLeads same hash i progress s old new
-        its_leads = subst (λ (p : Progress Setting). MakingLeads same hash i p s old new) (let both : ◌≡◌ {A = Answer K V} (OfMaking leads.0) (OfMaking progress) = sym leads.1 ∙ told_is in cc both) leads.2
+        its_leads : MakingLeads same hash i end s old new
+        its_leads = subst (λ (p : Progress Setting). MakingLeads same hash i p s old new) (let both : ◌≡◌ {A = Answer K V} (OfMaking leads.0) (OfMaking end) = sym leads.1 ∙ told_is in cc both) leads.2
 
-        rooted : Rooted b.machine.stands (machine, progress)
+        rooted : Rooted b.machine.stands (machine, end)
         rooted =
-            step_rooted b.machine s.world.memory m2 (changed_of s.world.memory g (new_map_plan {K = K} {V = V} b.machine)) (machine, progress) b.machine.stands refl
-            (was_told s.world.memory g (new_map_plan {K = K} {V = V} b.machine) (m2, (machine, progress)) computed)
+            step_rooted b.machine s.world.memory m2 (changed_of s.world.memory g (new_map_plan {K = K} {V = V} b.machine)) (machine, end) b.machine.stands refl
+            (was_told s.world.memory g (new_map_plan {K = K} {V = V} b.machine) (m2, (machine, end)) computed)
 
         Counted : ℕ → NewMap → Type 0
         Counted map first = (made_for map x.history ≡ in_hand (table_left first progress.Goes)) × (has_root first.stands ≡ true → capacity_or (map_at map (moment x.history)) ≡ pairs_for first.len)

@@ -9,4 +9,6 @@ pub mod Counted
 pub mod MakingMoves
 pub mod MadeHolds
 pub mod MadeStep
+pub mod MakingActs
+pub mod EndMoves
 pub mod Acts

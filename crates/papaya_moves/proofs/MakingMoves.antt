@@ -54,7 +54,7 @@ use Rattle.papaya_moves.proofs.Parts.{all_also, granted_so, none_may, refuses_so
 use Rattle.papaya_moves.proofs.Rooted.{IsFreeing, Rooted}
 
 -- where it frees its root nothing else is done
-frees_quietly : {K V : Type 0} (c : NewMap) (m n : Mem (Node K V)) (told : Changed) (end : NewMap × Progress Setting) (stands : Opening) → IsFreeing stands
+pub frees_quietly : {K V : Type 0} (c : NewMap) (m n : Mem (Node K V)) (told : Changed) (end : NewMap × Progress Setting) (stands : Opening) → IsFreeing stands
     → StepsTold K V (NewMap × Progress Setting) m changed.Nothing (plan_at c stands) n told end → (map : ℕ) (known : Known) → effects_of (acts.Making map) known told ≡ []
 frees_quietly c m n told end (openings.Frees fault) is s map known = ap (effects_of (acts.Making map) known) s.1.1
 frees_quietly c m n told end _ is s map known = absurd is
