@@ -110,7 +110,7 @@ module _ {K V S : Type 0} (x : State K V S) (here : MadeHolds x) (numbers : Numb
           λ rooted. beside d.map (λ e. other (sym e)) had has ∙ so.1 rooted,
         )
 
-    own_then : length (filter is_table_made effects) + made_for b.map x.history ≡ length (tables_of b.map w) + in_hand (table_left machine progress.Goes) → tables_of b.map w ≡ [] → machine.len ≡ b.machine.len
+    pub own_then : length (filter is_table_made effects) + made_for b.map x.history ≡ length (tables_of b.map w) + in_hand (table_left machine progress.Goes) → tables_of b.map w ≡ [] → machine.len ≡ b.machine.len
         → (had ≡ false → map_at b.map m ≡ None) → IsComing log (record b { machine = machine })
     own_then counts bare len_same unknown = (
       (let now = own_adds had has refl refl in let none = ap length bare in omega (arith, now, none, counts)),

@@ -57,7 +57,7 @@ module _ {K V S : Type 0} (same : K → K → Bool) (by_hasher : S → K → ℕ
   old = held_in batch_size roots NoChange s
 
   abbrev new : Held K V
-  new = held_in batch_size roots (changed_by same (StepsMaking i g) s) n
+  new = held_in batch_size roots (changed_by {S = S} same (StepsMaking i g) s) n
 
   abbrev m : Moment K V
   m = moment x.history
