@@ -1,0 +1,173 @@
+-- Each map that ends goes on to end where the end of one begins, and by each step of it: of its own end, and of another one's.
+use Rattle.std.specs.Prelude.{map as mapped, ◌≡◌, ◌≢◌, ◌<◌, ◌⊎◌, ◌++◌, ℕ, Bool, true, false, List, [], ◌∷◌, Option, Some, None, option_map, if◌then◌else◌}
+use Rattle.std.proofs.Common.{refl, ap, sym, subst, ◌∙◌, inl, inr}
+use Rattle.std.proofs.lemmas.Bool.{cases_eq}
+use Rattle.std.proofs.lemmas.List.{append-nil}
+use Rattle.seize_acts.specs.Answers.{Grant}
+use Rattle.seize_acts.proofs.Answers.{same_some}
+use Rattle.papaya_moments.specs.Given.Seize.World.{World, with_at}
+use Rattle.papaya_moments.specs.Given.Seize.declared.rows.settle.Settled.{Settled}
+use Rattle.papaya_moments.specs.Given.Seize.declared.rows.settle.Settled.TheVariants as settled
+use Rattle.papaya_moments.specs.Given.Tables.Chunks.{is_incremental}
+use Rattle.papaya_moments.specs.Given.Tables.declared.node.Node.{Node}
+use Rattle.papaya_moments.specs.Given.Raw.EndMap.{end_map_plan, ending}
+use Rattle.papaya_moments.specs.Given.Raw.declared.machines.end_map.EndMap.{EndMap}
+use Rattle.papaya_moments.proofs.Given.Callers.Together.At.{at_other, at_same}
+use Rattle.papaya_moments.specs.Given.Finishes.Endings.{AllPairsOnce, Finishing, finishing_of, waiting_by}
+use Rattle.papaya_moments.specs.Given.Finishes.FactsEnds.{Deed as FactsDeed, back_of, taken_by as taken_of}
+use Rattle.papaya_moments.specs.Given.Finishes.Maps.{Standing}
+use Rattle.papaya_moments.specs.Given.Finishes.Orders.{pairs_of}
+use Rattle.papaya_moments.specs.Given.Rule.InWorld.{IsMapIn}
+use Rattle.papaya_moments.specs.Given.Schedules.declared.effect.Effect.{Effect}
+use Rattle.papaya_moments.specs.Given.Schedules.declared.outcome.Outcome.{Outcome}
+use Rattle.papaya_moments.specs.Given.Schedules.Effects.{with_effects}
+use Rattle.papaya_moments.specs.Given.Schedules.Handing.{in_order}
+use Rattle.papaya_moments.specs.Given.Schedules.Moment.{MapThere, Moment}
+use Rattle.papaya_moments.specs.Given.Schedules.Views.{map_at}
+use Rattle.papaya_moments.specs.Given.Effects.Effects.{effects_of, known_after, taken_by}
+use Rattle.papaya_moments.specs.Given.Effects.Known.{Known}
+use Rattle.papaya_moments.specs.Given.Effects.declared.acting.Acting.TheVariants as acts
+use Rattle.papaya_moments.specs.Given.Effects.declared.role.Role.{Role}
+use Rattle.papaya_moments.specs.Given.Effects.declared.role.Role.TheVariants as role
+use Rattle.papaya_moments.specs.Given.Follows.Maps.{ShowsMap}
+use Rattle.papaya_moments.specs.Given.Teller.declared.changed.Changed.{Changed}
+use Rattle.papaya_moments.specs.Given.Teller.declared.changed.Changed.TheVariants as changed
+use Rattle.papaya_moments.specs.Given.Teller.declared.changed.Changed.TheVariants.{Nothing as NoChange}
+use Rattle.papaya_moments.specs.Given.Scenes.Ending.{EndingComesTo, EndingLeads}
+use Rattle.papaya_moments.specs.Given.Scenes.Held.{Held, IsAt}
+use Rattle.papaya_moments.specs.Given.Scenes.Scene.{Scene, slot_of}
+use Rattle.papaya_moments.specs.Whole.{ShowsWhole}
+use Rattle.papaya_moments.proofs.Given.Follows.Operations.{Operated, operated}
+use Rattle.papaya_moments.proofs.Given.Scenes.May.{may_end}
+use Rattle.papaya_moments.proofs.Given.Rule.Laws.{current_is_known}
+use Rattle.papaya_logged.specs.Ends.{NotesMap, ended_as}
+use Rattle.papaya_logged.proofs.EndAll.{all_end}
+use Rattle.papaya_logged.proofs.EndOrder.{pairs_ordered}
+use Rattle.papaya_acts.specs.Acts.{Act, Answer, BeginsEnding, OfEnding, StepsEnding}
+use Rattle.papaya_acts.specs.AsSteps.{EndedTo, LeadsAs, changed_by, held_in}
+use Rattle.papaya_acts.specs.Leads.{Led}
+use Rattle.papaya_deeds.specs.Deeds.{Ends, Entry, MapGoes, after, moment, named}
+use Rattle.papaya_played.specs.Play.{Ending, State, ended_on, ending_deed, ending_stepped, is_over, is_refusal, settled_outcome}
+use Rattle.papaya_played.specs.Reached.{IsOf}
+use Rattle.papaya_played.proofs.PlayedAs.{PlayedAs}
+use Rattle.papaya_linear.specs.Coming.{AreNamed, Goes}
+use Rattle.papaya_linear.proofs.Coming.{gone_leaves}
+use Rattle.papaya_linear.proofs.Holding.{AllHolds}
+use Rattle.papaya_linear.proofs.Names.{effects_named}
+use Rattle.papaya_linear.proofs.Tied.{EndingTied, ending_tied}
+use Rattle.papaya_endings.specs.Ends.{AlikeOf, AreStored, EndsWell}
+use Rattle.papaya_endings.specs.Going.{GoesOnToEnd}
+use Rattle.papaya_endings.specs.GoingOn.{EndsGoOn}
+use Rattle.papaya_endings.proofs.Alike.{alike_all, alike_itself, alike_maps, alike_then}
+use Rattle.papaya_endings.proofs.Begins.{are_stored, would_end}
+use Rattle.papaya_endings.proofs.EndSteps.{Then, does, none_then, one_then, tells}
+use Rattle.papaya_endings.proofs.Going.{NotedAlike, going_alike}
+use Rattle.papaya_endings.proofs.Others.{taken_spares}
+use Rattle.papaya_endings.proofs.Played.{goes_of, noted_on}
+use Rattle.papaya_endings.proofs.Spares.{all_spared}
+
+-- Where the end of a map begins it goes on to end.
+module _ {K V : Type 0} (same : K → K → Bool) (hash : ℕ → K → ℕ) (old : Held K V) (m : Moment K V) (known : Known) (s : Scene K V) (at : IsAt same hash old s) (whole : ShowsWhole same named m known s) (map : ℕ)
+    (standing : Standing K) (there : s.maps map ≡ Some standing) (each_once : AllPairsOnce (is_incremental standing.setting.mode) standing.chart) where
+  abbrev number : ℕ → ℕ
+  number = whole.all.shown.number map
+
+  abbrev chunks : Bool
+  chunks = is_incremental standing.setting.mode
+
+  shows : ShowsMap map number standing m known
+  shows = whole.all.shown.maps map standing there
+
+  in_it : IsMapIn same standing.hash standing.setting s.world standing.chart standing.blocks
+  in_it = (at.together.makings.standing.each map standing there).ground.map
+
+  notes : NotesMap map number known standing.setting standing.chart standing.blocks
+  notes = record {
+    pairs = λ k current. (let it = current_is_known same standing.hash standing.setting s.world.memory standing.chart standing.blocks in_it.map.rule in_it.map.shows k current in shows.pairs.roles k it.0 it.1);
+    tables = λ t from made. shows.tables.roles t made (in_it.map.shows.linked t from made);
+    counter = shows.counter;
+  }
+
+  ordered : in_order m (mapped number (pairs_of chunks standing.chart)) ≡ true
+  ordered =
+      pairs_ordered same standing.hash (at.together.makings.standing.fit map standing there).0 standing.chart m number chunks in_it.map.rule
+      (λ k current. let it = current_is_known same standing.hash standing.setting s.world.memory standing.chart standing.blocks in_it.map.rule in_it.map.shows k current in
+      (whole.places.each map standing there).lies k (number k) (it.0, it.1, notes.pairs k current) current)
+
+  stored : (k : ℕ) → standing.chart.current k ≡ true → k < standing.chart.stored
+  stored k current = (current_is_known same standing.hash standing.setting s.world.memory standing.chart standing.blocks in_it.map.rule in_it.map.shows k current).0
+
+  pub begun_goes : GoesOnToEnd map (finishing_of standing s.world) known m
+  begun_goes = record {
+    rest = back_of standing.setting standing.chart standing.blocks (λ t. []) false;
+    back_is = refl;
+    there = shows.there.there;
+    there_is = shows.there.is;
+    stored = are_stored m known map number standing shows each_once stored ordered;
+    well = subst (λ (l : List Effect). EndsWell map l m) (sym (all_end map number known standing.setting standing.chart standing.blocks notes each_once)) (would_end m known map number standing shows each_once stored ordered);
+  }
+
+-- What ends with a map leaves all maps as they are told.
+maps_kept : {K V : Type 0} (map : ℕ) (r : Role) (m : Moment K V) → (with_effects None (Some map) (taken_by (acts.Ending map) r) m).maps ≡ m.maps
+maps_kept map role.Free m = refl
+maps_kept map (role.OwnPair i) m = refl
+maps_kept map (role.OwnTable turn shape) m = refl
+maps_kept map (role.Pair n) m = refl
+maps_kept map (role.Table t len) m = refl
+maps_kept map (role.Counter of) m = refl
+
+module _ {K V S : Type 0} (same : K → K → Bool) (by_hasher : S → K → ℕ) (hash : ℕ → K → ℕ) (batch_size roots : ℕ) (aborts : V) (x y : State K V S) (s n : Scene K V)
+    (is : IsOf by_hasher s s.world.row x.now) (at : IsAt same hash (held_in batch_size roots NoChange s) s) (all : AllHolds same x s) (so : EndsGoOn x s) (told : Answer K V) (i : ℕ) where
+  abbrev old : Held K V
+  old = held_in batch_size roots NoChange s
+
+  abbrev m : Moment K V
+  m = moment x.history
+
+  -- the end of a map begins
+  pub begins_going : (map : ℕ) → PlayedAs same by_hasher batch_size roots aborts x y (BeginsEnding i map) → Led same by_hasher batch_size roots slot_of (BeginsEnding i map) s told n
+      → IsAt same hash (held_in batch_size roots (changed_by same (BeginsEnding {K = K} {V = V} {S = S} i map) s) n) n → EndsGoOn y n
+  begins_going map (set, there, y_is) (standing, stands, none, n_is) at2 =
+      subst (λ (z : State K V S). EndsGoOn z n) (sym y_is) (record { each = λ j e ends f is_f. each j e f (cases_eq j i) ends (sym (ap (λ (z : Scene K V). z.enders j) n_is) ∙ is_f); apart = apart_so })
+    where
+      its : Ending
+      its = record { map = map; machine = ending set.0 false }
+
+      f2 : Finishing K V
+      f2 = finishing_of standing s.world
+
+      itself : GoesOnToEnd map f2 x.known m
+      itself =
+          begun_goes same hash old m x.known s at all.holds.shows.whole map standing stands
+          (at2.together.facts i f2 (ap (λ (z : Scene K V). z.enders i) n_is ∙ at_same s.enders i (Some f2) i refl)).each
+
+      each : (j : ℕ) (e : Ending) (f : Finishing K V) → (j ≡ i) ⊎ (j ≢ i) → with_at x.now.enders i (Some its) j ≡ Some e → with_at s.enders i (Some f2) j ≡ Some f → GoesOnToEnd e.map f x.known m
+      each j e f (inl at_it) ends is_f =
+          subst (λ (z : Ending). GoesOnToEnd z.map f x.known m) (same_some its e (sym (at_same x.now.enders i (Some its) j at_it) ∙ ends))
+          (subst (λ (z : Finishing K V). GoesOnToEnd map z x.known m) (same_some f2 f (sym (at_same s.enders i (Some f2) j at_it) ∙ is_f)) itself)
+      each j e f (inr ne) ends is_f = so.each j e (sym (at_other x.now.enders i (Some its) j ne) ∙ ends) f (sym (at_other s.enders i (Some f2) j ne) ∙ is_f)
+
+      -- a map of which an end is under way does not stand
+      fresh : (j : ℕ) (e : Ending) → x.now.enders j ≡ Some e → e.map ≢ map
+      fresh j e ends same_map =
+          by (s.enders j) refl
+        where
+          by : (o : Option (Finishing K V)) → s.enders j ≡ o → ⊥
+          by None e_is =
+              let both : ◌≡◌ {A = Option EndMap} (Some e.machine) None = sym (ap (option_map (λ (z : Ending). z.machine)) ends) ∙ is.enders j ∙ ap (option_map (λ (z : Finishing K V). z.machine)) e_is in cc both
+          by (Some f) e_is = let gone = (goes_of same by_hasher hash batch_size roots aborts x y s n is at all so told j e ends f e_is).gone.not_there in let some = ap s.maps same_map ∙ stands in cc (gone, some)
+
+      apart_so : (j k : ℕ) (e g : Ending) → j ≢ k → with_at x.now.enders i (Some its) j ≡ Some e → with_at x.now.enders i (Some its) k ≡ Some g → e.map ≢ g.map
+      apart_so j k e g ne one two = by (cases_eq j i) (cases_eq k i)
+        where
+          map_of : (l : ℕ) (z : Ending) → l ≡ i → with_at x.now.enders i (Some its) l ≡ Some z → z.map ≡ map
+          map_of l z at_it is_z = sym (ap (λ (z : Ending). z.map) (same_some its z (sym (at_same x.now.enders i (Some its) l at_it) ∙ is_z)))
+
+          was : (l : ℕ) (z : Ending) → l ≢ i → with_at x.now.enders i (Some its) l ≡ Some z → x.now.enders l ≡ Some z
+          was l z other is_z = sym (at_other x.now.enders i (Some its) l other) ∙ is_z
+
+          by : (j ≡ i) ⊎ (j ≢ i) → (k ≡ i) ⊎ (k ≢ i) → e.map ≢ g.map
+          by (inl a) (inl b) same_map = ne (a ∙ sym b)
+          by (inl a) (inr b) same_map = fresh k g (was k g b two) (sym same_map ∙ map_of j e a one)
+          by (inr a) (inl b) same_map = fresh j e (was j e a one) (same_map ∙ map_of k g b two)
+          by (inr a) (inr b) same_map = so.apart j k e g ne (was j e a one) (was k g b two) same_map

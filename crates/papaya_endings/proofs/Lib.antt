@@ -1,0 +1,16 @@
+pub mod Places
+pub mod Left
+pub mod Alike
+pub mod Begins
+pub mod Spares
+pub mod Calls
+pub mod Noted
+pub mod Going
+pub mod Others
+pub mod EndSteps
+pub mod Beside
+pub mod Played
+pub mod MakingGoes
+pub mod EndingGoes
+pub mod EndStepGoes
+pub mod Stays
