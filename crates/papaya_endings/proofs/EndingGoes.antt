@@ -108,7 +108,7 @@ module _ {K V : Type 0} (same : K → K → Bool) (hash : ℕ → K → ℕ) (ol
   }
 
 -- What ends with a map leaves all maps as they are told.
-maps_kept : {K V : Type 0} (map : ℕ) (r : Role) (m : Moment K V) → (with_effects None (Some map) (taken_by (acts.Ending map) r) m).maps ≡ m.maps
+pub maps_kept : {K V : Type 0} (map : ℕ) (r : Role) (m : Moment K V) → (with_effects None (Some map) (taken_by (acts.Ending map) r) m).maps ≡ m.maps
 maps_kept map role.Free m = refl
 maps_kept map (role.OwnPair i) m = refl
 maps_kept map (role.OwnTable turn shape) m = refl
@@ -124,9 +124,12 @@ module _ {K V S : Type 0} (same : K → K → Bool) (by_hasher : S → K → ℕ
   abbrev m : Moment K V
   m = moment x.history
 
+  abbrev begins : ℕ → Act K V S
+  begins map = BeginsEnding i map
+
   -- the end of a map begins
   pub begins_going : (map : ℕ) → PlayedAs same by_hasher batch_size roots aborts x y (BeginsEnding i map) → Led same by_hasher batch_size roots slot_of (BeginsEnding i map) s told n
-      → IsAt same hash (held_in batch_size roots (changed_by same (BeginsEnding {K = K} {V = V} {S = S} i map) s) n) n → EndsGoOn y n
+      → IsAt same hash (held_in batch_size roots (changed_by same (begins map) s) n) n → EndsGoOn y n
   begins_going map (set, there, y_is) (standing, stands, none, n_is) at2 =
       subst (λ (z : State K V S). EndsGoOn z n) (sym y_is) (record { each = λ j e ends f is_f. each j e f (cases_eq j i) ends (sym (ap (λ (z : Scene K V). z.enders j) n_is) ∙ is_f); apart = apart_so })
     where

@@ -57,7 +57,7 @@ use Rattle.papaya_endings.proofs.Spares.{all_spared}
 abbrev pub AllTheSame : {K V : Type 0} → Moment K V → Moment K V → Type 0
 AllTheSame m v = (v.maps ≡ m.maps) × (v.place ≡ m.place) × (v.tables ≡ m.tables) × (v.spot ≡ m.spot) × (v.stored ≡ m.stored)
 
-module _ {K V S : Type 0} where
+module _ {K V : Type 0} where
   told_same : (h : List (Entry K V)) (b : Bool) (i : ℕ) (reply : Told V) (aborts : V)
       → AllTheSame (moment h) (moment (if b then record { deed = Replies i (reply_for aborts reply); outcome = outcome.Goes; effects = []; refused = false } ∷ h else h))
   told_same h true i reply aborts = (refl, refl, refl, refl, refl)
@@ -67,6 +67,7 @@ module _ {K V S : Type 0} where
   stopped_same h true i = (refl, refl, refl, refl, refl)
   stopped_same h false i = (refl, refl, refl, refl, refl)
 
+module _ {K V S : Type 0} where
   module _ (same : K → K → Bool) (by_hasher : S → K → ℕ) (batch_size roots : ℕ) (aborts : V) (x y : State K V S) where
     quiet_same : (act : Act K V S) → IsQuiet act → PlayedAs same by_hasher batch_size roots aborts x y act → AllTheSame (moment x.history) (moment y.history)
     quiet_same (BeginsCall i m wanted) quiet (at, there, is) = subst (λ (z : State K V S). AllTheSame (moment x.history) (moment z.history)) (sym is) (refl, refl, refl, refl, refl)
