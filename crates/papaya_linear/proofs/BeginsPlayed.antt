@@ -7,11 +7,11 @@ use Rattle.papaya_moments.specs.Given.Tables.declared.setting.Setting.{Setting}
 use Rattle.papaya_moments.specs.Given.Raw.Machine.{machine_asked}
 use Rattle.papaya_moments.specs.Given.Raw.declared.machines.machine.Machine.{Machine}
 use Rattle.papaya_moments.specs.Given.Raw.declared.machines.machine.Machine.TheVariants as kinds
-use Rattle.papaya_moments.specs.Given.Sweeps.SweepPoints.{next_at}
+use Rattle.papaya_moments.specs.Given.Sweeps.SweepPoints.{after_next, next_at}
 use Rattle.papaya_moments.specs.Given.Sweeps.declared.sweep.Sweep.{Sweep}
 use Rattle.papaya_moments.specs.Given.Sweeps.declared.sweep.Sweeping.{Sweeping}
 use Rattle.papaya_moments.specs.Given.Sweeps.declared.sweep.Sweeping.TheVariants as sweeping
-use Rattle.papaya_moments.specs.Given.Callers.OverAll.{gone_on}
+use Rattle.papaya_moments.specs.Given.Callers.OverAll.{CallOverAll, gone_on}
 use Rattle.papaya_moments.specs.Given.Callers.Together.{UnderWay, OnKey, ForRoom, Counting, OverAll, in_slot}
 use Rattle.papaya_moments.specs.Given.Finishes.Machines.{machine_of}
 use Rattle.papaya_moments.specs.Given.Finishes.Maps.{Standing, with_call}
@@ -62,7 +62,7 @@ next_same _ c never = refl
 
 module _ {K V : Type 0} where
   -- what is put where it was is as it was
-  same_calls : (s : Scene K V) (m i : ℕ) (u : UnderWay K V K) → s.calls m i ≡ Some u → scene_with m i u s ≡ s
+  pub same_calls : (s : Scene K V) (m i : ℕ) (u : UnderWay K V K) → s.calls m i ≡ Some u → scene_with m i u s ≡ s
   same_calls s m i u has =
       ap (λ (calls : ℕ → ℕ → Option (UnderWay K V K)). record s { calls = calls })
       (ap (λ (o : Option (UnderWay K V K)). with_call s.calls m i o) (sym has) ∙ (ap (λ (f : ℕ → Option (UnderWay K V K)). with_at s.calls m f) (with_same (s.calls m) i) ∙ with_same s.calls m))
@@ -87,7 +87,7 @@ module _ {K V S : Type 0} (same : K → K → Bool) (hash : ℕ → K → ℕ) (
     abbrev entry : Entry K V
     entry = record { deed = Begins i (slot_of i) m call; outcome = outcome.Goes; effects = []; refused = false }
 
-    none_named : NoneNamed named (named i) s
+    pub none_named : NoneNamed named (named i) s
     none_named map j u is = not_named i j (λ e. let both : None ≡ Some u = sym (no_call map) ∙ sym (ap (s.calls map) e) ∙ is in cc both)
 
     pub played_begins : IsLinearizable same x.history entry × ShowsAnswers same (past (entry ∷ x.history)) (moment (entry ∷ x.history)) x.known (scene_with m i (begun same slot_of standing i wanted) s)
@@ -128,20 +128,25 @@ module _ {K V S : Type 0} (same : K → K → Bool) (hash : ℕ → K → ℕ) (
     not_ready (ForRoom r) e = refl
     not_ready (Counting sum) e = refl
 
-    -- and one that is ready is a walk
-    shows_asked : (w : UnderWay K V K) (w_is : s.calls m i ≡ Some w) (ready : Bool) → ready ≡ (machine_asked (machine_of w)).1 → (leads : AskLeads same hash i ready s old new) → (leads m w w_is).0 ≡ asked_on w
-        → ShowsAnswers same (past x.history) (moment x.history) x.known (scene_with m i (asked_on w) s)
-    shows_asked w w_is false ready leads is =
-        subst (ShowsAnswers same (past x.history) (moment x.history) x.known) (sym (ap (λ (z : UnderWay K V K). scene_with m i z s) (not_ready w (sym ready)) ∙ same_calls s m i w w_is)) all
-    shows_asked (OverAll o) w_is true ready leads is =
-        subst (λ (z : UnderWay K V K). ShowsAnswers same (past x.history) (moment x.history) x.known (scene_with m i z s)) is
-        (walks_go_on K V same hash (past x.history) x.known s old at (moment x.history) all new i leads m o w_is is)
-    shows_asked (OnKey k) w_is true ready leads is = absurd (cc ready)
-    shows_asked (ForRoom r) w_is true ready leads is = absurd (cc ready)
-    shows_asked (Counting sum) w_is true ready leads is = absurd (cc ready)
+    -- and one that is ready is a walk: what is so where a walk goes on is so where a call is asked
+    module _ (Q : Scene K V → Type 0) (so : Q s)
+        (goes : (o : CallOverAll) (here : s.calls m i ≡ Some (OverAll o)) (leads : AskLeads same hash i true s old new) → (leads m (OverAll o) here).0 ≡ OverAll (gone_on o (after_next o.sweep))
+        → Q (scene_with m i (leads m (OverAll o) here).0 s)) where
+      so_asked : (w : UnderWay K V K) (w_is : s.calls m i ≡ Some w) (ready : Bool) → ready ≡ (machine_asked (machine_of w)).1 → (leads : AskLeads same hash i ready s old new) → (leads m w w_is).0 ≡ asked_on w
+          → Q (scene_with m i (asked_on w) s)
+      so_asked w w_is false ready leads is = subst Q (sym (ap (λ (z : UnderWay K V K). scene_with m i z s) (not_ready w (sym ready)) ∙ same_calls s m i w w_is)) so
+      so_asked (OverAll o) w_is true ready leads is = subst (λ (z : UnderWay K V K). Q (scene_with m i z s)) is (goes o w_is leads is)
+      so_asked (OnKey k) w_is true ready leads is = absurd (cc ready)
+      so_asked (ForRoom r) w_is true ready leads is = absurd (cc ready)
+      so_asked (Counting sum) w_is true ready leads is = absurd (cc ready)
+
+      pub asked_so : (ready : Bool) (leads : AskLeads same hash i ready s old new) → (leads m u under).0 ≡ asked_on u → Q (scene_with m i (asked_on u) s)
+      asked_so ready leads is = so_asked u under ready (leads m u under).2 leads is
 
     pub played_asks : (ready : Bool) (leads : AskLeads same hash i ready s old new) → (leads m u under).0 ≡ asked_on u → ShowsAnswers same (past x.history) (moment x.history) x.known (scene_with m i (asked_on u) s)
-    played_asks ready leads is = shows_asked u under ready (leads m u under).2 leads is
+    played_asks ready leads is =
+        asked_so (ShowsAnswers same (past x.history) (moment x.history) x.known) all
+        (λ o o_is walks goes. walks_go_on K V same hash (past x.history) x.known s old at (moment x.history) all new i walks m o o_is goes) ready leads is
 
     asked_then : IsHeard (moment x.history) i c.call (machine_asked c.machine).0 c.value
     asked_then = record {
@@ -172,7 +177,7 @@ module _ {K V S : Type 0} (same : K → K → Bool) (hash : ℕ → K → ℕ) (
     abbrev given_up : Entry K V
     given_up = record { deed = Stops i; outcome = outcome.Done; effects = []; refused = false }
 
-    none_then : NoneNamed named (named i) (record s { calls = with_call s.calls m i (unless_stopped true u) })
+    pub none_then : NoneNamed named (named i) (record s { calls = with_call s.calls m i (unless_stopped true u) })
     none_then n j w there = not_named i j never
       where
         never : j ≡ i → ⊥

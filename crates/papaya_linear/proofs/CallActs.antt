@@ -38,15 +38,15 @@ use Rattle.papaya_linear.proofs.RepliesPlayed.{played_replies, played_replies_ar
 use Rattle.papaya_linear.proofs.StepsPlayed.{led, played_steps_answer, played_steps_are_heard, played_steps_are_linearizable, there_alike, there_is}
 use Rattle.papaya_linear.proofs.Tied.{call_tied}
 
-ok_is : {E : Type 0} (r : Result Unit E) → is_ok r ≡ true → r ≡ Ok tt
+pub ok_is : {E : Type 0} (r : Result Unit E) → is_ok r ≡ true → r ≡ Ok tt
 ok_is (Ok done) e = refl
 ok_is (Err back) e = absurd (cc e)
 
-err_is : {T E : Type 0} (r : Result T E) → is_ok r ≡ false → is_err r ≡ true
+pub err_is : {T E : Type 0} (r : Result T E) → is_ok r ≡ false → is_err r ≡ true
 err_is (Ok done) e = absurd (cc e)
 err_is (Err back) e = refl
 
-resting : (row : Row) → rests row ≡ true → row ≡ Rests
+pub resting : (row : Row) → rests row ≡ true → row ≡ Rests
 resting Rests e = refl
 resting _ e = absurd (cc e)
 
@@ -66,7 +66,7 @@ module _ {K V S : Type 0} (same : K → K → Bool) (by_hasher : S → K → ℕ
   noted_as : (z : State K V S) → y ≡ z → CallsAreNoted z
   noted_as z y_is = subst CallsAreNoted y_is noted_then
 
-  its_machine : (m i : ℕ) (c : Calling K V) → x.now.calls m i ≡ Some c → (u : UnderWay K V K) → s.calls m i ≡ Some u → c.machine ≡ machine_of u
+  pub its_machine : (m i : ℕ) (c : Calling K V) → x.now.calls m i ≡ Some c → (u : UnderWay K V K) → s.calls m i ≡ Some u → c.machine ≡ machine_of u
   its_machine m i c here u under =
       let there = there_alike (λ (z : Calling K V). z.machine) machine_of (x.now.calls m i) (s.calls m i) (is.calls m i) c here in
       there.2 ∙ ap machine_of (same_some there.0 u (sym there.1 ∙ under))

@@ -80,7 +80,7 @@ module _ {K V : Type 0} (same : K → K → Bool) (hash : ℕ → K → ℕ) (hi
 
     module _ (over : ends_call o ≡ true → has_ended said ≡ true) where
       -- none that is under way then has its name, if it has ended
-      ended : ends_call o ≡ true → NoneNamed named (named i) led
+      pub ended : ends_call o ≡ true → NoneNamed named (named i) led
       ended is n j x there = elim (which s.calls map i (leads map u there_is).4.next n j x there) as (λ _. is_same (named i) (named j) ≡ false) [
         | inl goes ↦ absurd (let gone = gone_then (leads map u there_is).1 said (leads map u there_is).4.next (over is) (leads map u there_is).4.goes_on in let next = goes.2 in cc (gone, next))
         | inr was ↦ by (is_same (named i) (named j)) refl (λ its. was.0 (all.whole.all.asked.apart n j map i x u was.1 here (ap (λ (q : ℕ). is_same (named q) (named i)) (its_number its) ∙ is_same_refl (named i))).0

@@ -67,7 +67,7 @@ module _ {K V S : Type 0} (same : K → K → Bool) (by_hasher : S → K → ℕ
   gone : (act : Act K V S) → ((map : ℕ) → BeginsOther map act) → Led same by_hasher batch_size roots slot_of act s told n → (map : ℕ) → IsGone map s → IsGone map n
   gone act begins led map was = acts_leave_gone same by_hasher hash batch_size roots map s n was at.hashes act (begins map) told led
 
-  making_so : (i : ℕ) (g : Grant) → LeadsAs same by_hasher hash (StepsMaking i g) s told n old (then_held (StepsMaking i g)) → (b : Beginning K) (m2 : Mem (Node K V)) (machine : NewMap) (said : Progress Setting)
+  pub making_so : (i : ℕ) (g : Grant) → LeadsAs same by_hasher hash (StepsMaking i g) s told n old (then_held (StepsMaking i g)) → (b : Beginning K) (m2 : Mem (Node K V)) (machine : NewMap) (said : Progress Setting)
       → MakingDid same by_hasher hash batch_size roots aborts x y s n s.world.row is NoChange at holds noted_then told i g b m2 machine said
       → MakesSo same by_hasher hash batch_size roots aborts x y s n s.world.row is NoChange at holds noted_then told i g said b machine
   making_so i g (progress, answer, leads, goes) b m2 machine said (makes, computed, told_is, (did, came)) =
@@ -83,7 +83,7 @@ module _ {K V S : Type 0} (same : K → K → Bool) (by_hasher : S → K → ℕ
         fails = λ had none. fails same by_hasher hash batch_size roots m x.known x.now.enders s n NoChange new at holds.shows.whole maps i g b m2 machine said makes computed did came its had none;
       }
 
-  ending_so : (i : ℕ) (g : Grant) → Led same by_hasher batch_size roots slot_of (StepsEnding i g) s told n → LeadsAs same by_hasher hash (StepsEnding i g) s told n old (then_held (StepsEnding i g))
+  pub ending_so : (i : ℕ) (g : Grant) → Led same by_hasher batch_size roots slot_of (StepsEnding i g) s told n → LeadsAs same by_hasher hash (StepsEnding i g) s told n old (then_held (StepsEnding i g))
       → (e : Ending) (f : Finishing K V) → x.now.enders i ≡ Some e → s.enders i ≡ Some f → EndsSo same by_hasher hash batch_size roots aborts x y s n s.world.row is NoChange at holds noted_then told i g e.map f
   ending_so i g led (said, answer, leads, goes) e f ending ends =
       let its = maps.going i e ending f ends in

@@ -118,7 +118,7 @@ module _ {K V S : Type 0} (same : K → K → Bool) (by_hasher : S → K → ℕ
       pub fails : has_root b.machine.stands ≡ true → has_root after.stands ≡ false → (let v = with_effects None (Some b.map) (effects_of (acts.Making b.map) x.known new.changed) m in AreFound v × IsApart b.map v n)
 
     -- the scene to which it leads
-    made_is : (said : Progress Setting) (leads : MakingLeads same hash i said s old new) (b : Beginning K) (here : s.makers i ≡ Some b)
+    pub made_is : (said : Progress Setting) (leads : MakingLeads same hash i said s old new) (b : Beginning K) (here : s.makers i ≡ Some b)
         → (let to = leads b here in MadeTo same hash s old new i b to.0 to.2.step.w2 said to.3 n) → n ≡ made same hash x s old new at holds.shows i said leads b here (making_outcome said)
     made_is progress.Goes leads b here is_it = is_it
     made_is progress.Waits leads b here is_it = absurd is_it
@@ -218,7 +218,7 @@ module _ {K V S : Type 0} (same : K → K → Bool) (by_hasher : S → K → ℕ
       pub still : NotedStill first x.known f.back
       pub goes : let v = with_effects None (Some map) (effects_of (acts.Ending map) x.known end_new.changed) m in AreFound v × IsApart map v n
 
-    ended_is : (said : Settled (Node K V)) (leads : EndingLeads same hash i said s old end_new) (f : Finishing K V) (here : s.enders i ≡ Some f) (map : ℕ) (so : EndsSo map f)
+    pub ended_is : (said : Settled (Node K V)) (leads : EndingLeads same hash i said s old end_new) (f : Finishing K V) (here : s.enders i ≡ Some f) (map : ℕ) (so : EndsSo map f)
         → (let to = leads f here in EndedTo same hash s end_new i f to.0 to.2.w2 to.2.deed said to.3 n)
         → n ≡ ended same hash x s old end_new at holds.shows i said leads f here map so.not_there so.number so.first so.notes so.still (settled_outcome said)
     ended_is settled.Goes leads f here map so is_it = is_it

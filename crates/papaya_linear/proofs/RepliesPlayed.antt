@@ -35,7 +35,7 @@ use Rattle.papaya_linear.proofs.Taken.{replies_are_taken}
 use Rattle.papaya_linear.proofs.TakesReply.{TakesNone, refuses, took_none}
 
 -- what is told so is told by that reply
-told_back : {V : Type 0} (aborts : V) (told_it : MachineReply V) → as_told (reply_for aborts told_it) ≡ told_it
+pub told_back : {V : Type 0} (aborts : V) (told_it : MachineReply V) → as_told (reply_for aborts told_it) ≡ told_it
 told_back aborts (told.Insert v) = refl
 told_back aborts told.Remove = refl
 told_back aborts told.Abort = refl

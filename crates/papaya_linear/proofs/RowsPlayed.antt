@@ -61,7 +61,7 @@ module _ {K V : Type 0} where
   rows_like (ReclaimsAll last) is o effects refused m = refl
   rows_like _ is o effects refused m = absurd is
 
-  no_caller : (d : Deed K V) → IsOfRow d → caller_of d ≡ None
+  pub no_caller : (d : Deed K V) → IsOfRow d → caller_of d ≡ None
   no_caller (Registers s) is = refl
   no_caller (Opens s) is = refl
   no_caller (Shuts s) is = refl

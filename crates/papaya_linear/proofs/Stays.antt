@@ -73,13 +73,13 @@ module _ {K S : Type 0} (V : Type 0) (same : K → K → Bool) (by_hasher : S �
     abbrev plan_of : ReclaimAll → Plan (Node K V) (ReclaimAll × Settled (Node K V))
     plan_of c = reclaim_all_plan deferred_word was_left c
 
-    abbrev change : Changed
+    abbrev pub change : Changed
     change = changed_of p.0.world.memory g (plan_of st.machine)
 
-    abbrev end : Mem (Node K V) × (ReclaimAll × Settled (Node K V))
+    abbrev pub end : Mem (Node K V) × (ReclaimAll × Settled (Node K V))
     end = (st.did.memory, (st.next, st.end))
 
-    all_tied : ReclaimedAs same by_hasher batch_size roots aborts x y g → y ≡ all_stepped change x end
+    pub all_tied : ReclaimedAs same by_hasher batch_size roots aborts x y g → y ≡ all_stepped change x end
     all_tied (c, there, e, came, y_is) =
         y_is ∙ ap (λ (z : ReclaimAll). all_stepped (changed_of x.now.memory g (plan_of z)) x e) one ∙ ap (λ (v : Mem (Node K V)). all_stepped (changed_of v g (plan_of st.machine)) x e) is.scene.memory
         ∙ ap (λ (q : Mem (Node K V) × (ReclaimAll × Settled (Node K V))). all_stepped change x q) one_end

@@ -16,6 +16,7 @@ use Rattle.papaya_moments.specs.Given.Schedules.After.{comes_to}
 use Rattle.papaya_moments.specs.Given.Schedules.Entry.{ends_call}
 use Rattle.papaya_moments.specs.Given.Schedules.Moment.{Asking, UnderWay as CallThere}
 use Rattle.papaya_moments.specs.Given.Schedules.Views.{call_of}
+use Rattle.papaya_moments.specs.Given.Follows.Calling.{NoneNamed}
 use Rattle.papaya_moments.specs.Given.Effects.Effects.{effects_of, known_after}
 use Rattle.papaya_moments.specs.Given.Effects.Known.{Known}
 use Rattle.papaya_moments.specs.Given.Effects.declared.acting.Acting.TheVariants as acts
@@ -35,7 +36,7 @@ use Rattle.papaya_played.specs.Play.{Calling, State, call_stepped, going, is_ref
 use Rattle.papaya_played.proofs.Alike.{its_call}
 use Rattle.papaya_played.proofs.Noted.{CallsAreNoted, not_over}
 use Rattle.papaya_linear.specs.Shown.{ShowsAnswers}
-use Rattle.papaya_linear.proofs.CallSteps.{steps_answer, steps_are_linearizable, there_is as call_there}
+use Rattle.papaya_linear.proofs.CallSteps.{ended, steps_answer, steps_are_linearizable, there_is as call_there}
 use Rattle.papaya_linear.proofs.Comes.{steps_come_so}
 use Rattle.papaya_linear.proofs.Heard.{IsHeard, IsSaid, come_asks, come_said, steps_aside, steps_itself}
 use Rattle.papaya_linear.proofs.HeardAll.{AreHeard, none_other, one_heard}
@@ -120,6 +121,11 @@ module _ {K V S : Type 0} (same : K → K → Bool) (hash : ℕ → K → ℕ) (
   pub played_steps_answer : ShowsAnswers same (past then_at.history) (moment then_at.history) then_at.known led
   played_steps_answer =
       steps_answer same hash x.history x.known s old new at all m i u under said leads d it.is on_map o comes_so_then (is_refusal new.changed) (over_so known_then (kind_of c.call) c.value said)
+
+  -- none that is under way then has its name, if it has ended
+  pub played_ended : ends_call o ≡ true → NoneNamed named (named i) led
+  played_ended =
+      ended same hash x.history x.known s old new at all m i u under said leads d it.is on_map o comes_so_then (is_refusal new.changed) (over_so known_then (kind_of c.call) c.value said)
 
   acted : acted_on {K = K} {V = V} (Steps i) (moment x.history) ≡ Some m
   acted = ap map_of_call it.is ∙ ap Some on_map

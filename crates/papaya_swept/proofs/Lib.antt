@@ -1,0 +1,10 @@
+pub mod Kept
+pub mod KeptByCalls
+pub mod KeptByMaps
+pub mod KeptByAll
+pub mod Tabled
+pub mod SweptBy
+pub mod Calls
+pub mod Others
+pub mod Instance
+pub mod Swept

@@ -1,0 +1,32 @@
+-- What the moment of a history shows of calls on whole maps, in the scene to which a list of acts has led, by which its next entry does what its call is for.
+use Rattle.std.specs.Prelude.{◌≡◌, ◌<◌, ℕ, Bool, true, List, Some}
+use Rattle.papaya_moments.specs.Given.Callers.Together.{UnderWay}
+use Rattle.papaya_moments.specs.Given.Finishes.Machines.{machine_of}
+use Rattle.papaya_moments.specs.Given.Schedules.After.{AtEachEvent}
+use Rattle.papaya_moments.specs.Given.Schedules.Moment.{Moment}
+use Rattle.papaya_moments.specs.Given.Schedules.Terms.{Terms}
+use Rattle.papaya_moments.specs.Given.Schedules.Transition.{Past}
+use Rattle.papaya_moments.specs.Given.Effects.Known.{Known}
+use Rattle.papaya_moments.specs.Given.Scenes.Scene.{Scene}
+use Rattle.papaya_finds.specs.Within.{many_of}
+use Rattle.papaya_settles.specs.Counts.{is_to_count}
+use Rattle.papaya_shards.specs.ShardWords.{ShowsCounters}
+use Rattle.papaya_purposes.specs.Purposes.{ShowsPurposes}
+use Rattle.papaya_deeds.specs.Deeds.{Entry, moment, named}
+use Rattle.papaya_deeds.specs.History.{IsSwept, past}
+
+-- On a map that has had no table nothing was counted, and no call is about to count.
+pub record IsTabled {K V : Type 0} (m : Moment K V) (s : Scene K V) : Type 0 where
+  pub maps : (of : ℕ) → many_of of m ≡ 0 → (shard : ℕ) → m.shards of shard ≡ 0
+  pub counts : (of i : ℕ) (u : UnderWay K V K) → s.calls of i ≡ Some u → is_to_count (machine_of u) ≡ true → 0 < many_of of m
+
+-- What calls on whole maps have come to, and are for; and the words of maps' counts.
+pub record ShowsSweeps {K V : Type 0} (same : K → K → Bool) (log : Past K V) (m : Moment K V) (known : Known) (s : Scene K V) : Type 0 where
+  pub purposes : ShowsPurposes same named log m known s
+  pub counters : ShowsCounters named m s
+  pub tabled : IsTabled m s
+
+-- So it is after a history, each entry of which has done what its call is for.
+pub record HasSwept {K V : Type 0} (same : K → K → Bool) (terms : Terms) (history : List (Entry K V)) (known : Known) (s : Scene K V) : Type 0 where
+  pub shows : ShowsSweeps same (past history) (moment history) known s
+  pub each : AtEachEvent (IsSwept same terms) history

@@ -1,0 +1,4 @@
+//! By the histories of lists of acts calls on whole maps do what they are for.
+#![tactic(auto)]
+
+pub mod law;
