@@ -12,3 +12,4 @@ pub mod MadeStep
 pub mod MakingActs
 pub mod EndMoves
 pub mod Acts
+pub mod Stays
