@@ -43,7 +43,7 @@ use Rattle.papaya_linear.proofs.Coming.{comes_bare}
 use Rattle.papaya_linear.proofs.Holds.{Holds}
 use Rattle.papaya_linear.proofs.MakesRight.{was_new}
 use Rattle.papaya_linear.proofs.Tied.{MakingTied, call_tied, making_tied}
-use Rattle.papaya_moves.specs.Parts.{MovesBut}
+use Rattle.papaya_moves.specs.Parts.{DoesIts}
 use Rattle.papaya_moves.proofs.CallMoves.{steps_move}
 use Rattle.papaya_moves.proofs.MadeHolds.{IsComing, MadeHolds}
 use Rattle.papaya_moves.proofs.MakingMoves.{makings_move}
@@ -53,12 +53,12 @@ use Rattle.papaya_moves.proofs.RowMoves.{rows_move}
 
 module _ {K V S : Type 0} where
   abbrev pub AllMove : State K V S → Type 0
-  AllMove x = AtEachEvent MovesBut x.history
+  AllMove x = AtEachEvent DoesIts x.history
 
 module _ {K V : Type 0} where
   -- what is done with no operation, if it is done
-  did_move : (log : List (Entry K V)) → AtEachEvent MovesBut log → (taken : Bool) (d : Deed K V) → IsQuiet d → (o : Outcome V)
-      → AtEachEvent MovesBut (if taken then record { deed = d; outcome = o; effects = []; refused = false } ∷ log else log)
+  did_move : (log : List (Entry K V)) → AtEachEvent DoesIts log → (taken : Bool) (d : Deed K V) → IsQuiet d → (o : Outcome V)
+      → AtEachEvent DoesIts (if taken then record { deed = d; outcome = o; effects = []; refused = false } ∷ log else log)
   did_move log so true d is o = (quiet_moves log d is o, so)
   did_move log so false d is o = so
 
@@ -118,8 +118,8 @@ module _ {K V S : Type 0} (same : K → K → Bool) (by_hasher : S → K → ℕ
     pub making_steps_move : Leads (StepsMaking i g) → AllMove y
     making_steps_move (b, makes, m2, machine, end, computed, told_is, did, came) =
         subst AllMove (sym tied.comes) (
-          subst (λ (map : ℕ). MovesBut x.history (step map tied.it.machine machine end)) (sym map_is)
-              (subst (λ (first : NewMap). MovesBut x.history (step b.map first machine end)) (sym machine_is)
+          subst (λ (map : ℕ). DoesIts x.history (step map tied.it.machine machine end)) (sym map_is)
+              (subst (λ (first : NewMap). DoesIts x.history (step b.map first machine end)) (sym machine_is)
               (makings_move same hash x s old new at holds.shows i b makes machine end its_leads rooted
               (was_new same by_hasher hash batch_size roots (moment x.history) x.known x.now.enders s n NoChange new at holds.shows.whole maps i g b m2 machine end makes computed did came its_leads)
               (comes_bare b (moment x.history) (maps.coming i b makes)) counted.0 counted.1)),

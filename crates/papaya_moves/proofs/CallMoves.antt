@@ -26,7 +26,7 @@ use Rattle.papaya_deeds.specs.History.{may_do, past}
 use Rattle.papaya_played.specs.Play.{Calling, State, is_refusal, outcome_of}
 use Rattle.papaya_played.proofs.Noted.{CallsAreNoted}
 use Rattle.papaya_linear.specs.Shown.{ShowsAnswers}
-use Rattle.papaya_moves.specs.Parts.{MovesBut}
+use Rattle.papaya_moves.specs.Parts.{DoesIts}
 use Rattle.papaya_moves.proofs.Leaves.{leaves_nothing}
 use Rattle.papaya_moves.proofs.Parts.{all_also, granted_so, refuses_so}
 
@@ -59,7 +59,7 @@ module _ {K V S : Type 0} (same : K → K → Bool) (hash : ℕ → K → ℕ) (
   pub acted : acted_on {K = K} {V = V} (Steps i) (moment x.history) ≡ Some m
   acted = let its = noted m i c here in ap map_of_call its.1 ∙ ap Some its.2
 
-  pub steps_move : MovesBut x.history entry
+  pub steps_move : DoesIts x.history entry
   steps_move = record {
     may = all_also is_call_effect (may_do {K = K} {V = V} (Steps i)) (λ f is. is) entry.effects
         (steps_do_theirs K V same hash named (moment x.history) x.known s old new at all.whole m i u under said leads);

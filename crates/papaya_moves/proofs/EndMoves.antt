@@ -16,7 +16,7 @@ use Rattle.papaya_legal.specs.Given.Effects.declared.acting.Acting.TheVariants a
 use Rattle.papaya_deeds.specs.Deeds.{Ends, Entry, MapGoes, moment}
 use Rattle.papaya_deeds.specs.History.{EndFinds, left_tables, may_do}
 use Rattle.papaya_played.specs.Play.{is_refusal}
-use Rattle.papaya_moves.specs.Parts.{MovesBut}
+use Rattle.papaya_moves.specs.Parts.{DoesIts}
 use Rattle.papaya_moves.proofs.Parts.{all_also, granted_so, none_may, refuses_so}
 
 module _ {K V : Type 0} (map : ℕ) where
@@ -34,7 +34,7 @@ module _ {K V : Type 0} (log : List (Entry K V)) (map : ℕ) (o : Outcome V) (kn
   abbrev effects : List Effect
   effects = effects_of (acts.Ending map) known changed
 
-  pub ends_move : AtEachEffect (EndFinds map) None (Some map) effects (moment log) → MovesBut log (record { deed = Ends map; outcome = o; effects = effects; refused = is_refusal changed })
+  pub ends_move : AtEachEffect (EndFinds map) None (Some map) effects (moment log) → DoesIts log (record { deed = Ends map; outcome = o; effects = effects; refused = is_refusal changed })
   ends_move finds = record {
     may = all_also is_ending (may_do {K = K} {V = V} (Ends map)) (λ f is. is) effects (all_end map (Some map) effects (moment log) finds);
     granted = granted_so (acts.Ending map) known changed;
@@ -44,7 +44,7 @@ module _ {K V : Type 0} (log : List (Entry K V)) (map : ℕ) (o : Outcome V) (kn
   }
 
   pub goes_move : effects ≡ [] → (let w = with_effects None (Some map) effects (moment log) in (size_of map w ≡ 0) × (left_tables map w ≡ []))
-      → MovesBut log (record { deed = MapGoes map; outcome = o; effects = effects; refused = is_refusal changed })
+      → DoesIts log (record { deed = MapGoes map; outcome = o; effects = effects; refused = is_refusal changed })
   goes_move none whole = record {
     may = none_may {K = K} {V = V} (MapGoes map) effects none;
     granted = granted_so (acts.Ending map) known changed;

@@ -13,3 +13,4 @@ pub mod MakingActs
 pub mod EndMoves
 pub mod Acts
 pub mod Stays
+mod Theirs

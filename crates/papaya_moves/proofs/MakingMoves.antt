@@ -48,7 +48,7 @@ use Rattle.papaya_works.specs.Makings.{CountsTables, in_hand, table_left}
 use Rattle.papaya_linear.specs.Shown.{ShowsAnswers}
 use Rattle.papaya_linear.proofs.MapActs.{deed_by}
 use Rattle.papaya_linear.proofs.OthersGo.{makings_step}
-use Rattle.papaya_moves.specs.Parts.{MovesBut}
+use Rattle.papaya_moves.specs.Parts.{DoesIts}
 use Rattle.papaya_moves.proofs.Counted.{are_so_many, freeing_has_none, own_made, places_as_pairs, so_many}
 use Rattle.papaya_moves.proofs.Parts.{all_also, granted_so, none_may, refuses_so}
 use Rattle.papaya_moves.proofs.Rooted.{IsFreeing, Rooted}
@@ -172,11 +172,11 @@ module _ {K V S : Type 0} (same : K → K → Bool) (hash : ℕ → K → ℕ) (
   whole_by true false was is = failed was is
   whole_by false true was is = tt
 
-  moves_by : (p q : Bool) → had ≡ p → has ≡ q → MovesBut x.history (entry_by p q)
+  moves_by : (p q : Bool) → had ≡ p → has ≡ q → DoesIts x.history (entry_by p q)
   moves_by true true was is = record { may = may_by true true was is; granted = granted_then; refuses = refuses_then; whole = whole_by true true was is; leaves = tt }
   moves_by false false was is = record { may = may_by false false was is; granted = granted_then; refuses = refuses_then; whole = whole_by false false was is; leaves = tt }
   moves_by true false was is = record { may = may_by true false was is; granted = granted_then; refuses = refuses_then; whole = whole_by true false was is; leaves = tt }
   moves_by false true was is = record { may = may_by false true was is; granted = granted_then; refuses = refuses_then; whole = tt; leaves = tt }
 
-  pub makings_move : MovesBut x.history (entry_by had has)
+  pub makings_move : DoesIts x.history (entry_by had has)
   makings_move = moves_by had has refl refl

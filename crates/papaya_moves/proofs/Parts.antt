@@ -16,7 +16,7 @@ use Rattle.papaya_deeds.specs.Deeds.{Begins, Deed, Entry, ReclaimsAll, Replies, 
 use Rattle.papaya_deeds.specs.History.{Refuses, may_do}
 use Rattle.papaya_played.specs.Play.{is_refusal}
 use Rattle.papaya_agrees.proofs.Grants.{each_refuses}
-use Rattle.papaya_moves.specs.Parts.{MovesBut}
+use Rattle.papaya_moves.specs.Parts.{DoesIts}
 
 -- what all pass that pass another test
 pub all_also : (p q : Effect → Bool) → ((f : Effect) → p f ≡ true → q f ≡ true) → (fs : List Effect) → list_all p fs ≡ true → list_all q fs ≡ true
@@ -42,7 +42,7 @@ module _ {K V : Type 0} where
   IsQuiet (Stops i) = Unit {0}
   IsQuiet _ = ⊥
 
-  pub quiet_moves : (log : List (Entry K V)) (d : Deed K V) → IsQuiet d → (o : Outcome V) → MovesBut log (record { deed = d; outcome = o; effects = []; refused = false })
+  pub quiet_moves : (log : List (Entry K V)) (d : Deed K V) → IsQuiet d → (o : Outcome V) → DoesIts log (record { deed = d; outcome = o; effects = []; refused = false })
   quiet_moves log (Begins i s map call) is o = record { may = refl; granted = refl; refuses = tt; whole = tt; leaves = tt }
   quiet_moves log (Replies i reply) is o = record { may = refl; granted = refl; refuses = tt; whole = tt; leaves = tt }
   quiet_moves log (Stops i) is o = record { may = refl; granted = refl; refuses = tt; whole = tt; leaves = tt }

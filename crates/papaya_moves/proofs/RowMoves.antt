@@ -27,7 +27,7 @@ use Rattle.papaya_deeds.specs.History.{may_do, past}
 use Rattle.papaya_played.specs.Play.{State, is_over, is_refusal, row_deed, settled_outcome}
 use Rattle.papaya_linear.specs.Shown.{ShowsAnswers}
 use Rattle.papaya_linear.proofs.RowsPlayed.{IsOfRow, is_of_row}
-use Rattle.papaya_moves.specs.Parts.{MovesBut}
+use Rattle.papaya_moves.specs.Parts.{DoesIts}
 use Rattle.papaya_moves.proofs.Parts.{all_also, granted_so, refuses_so}
 use Rattle.papaya_moves.proofs.RowKinds.{row_may}
 
@@ -36,7 +36,7 @@ module _ {K V : Type 0} (log : List (Entry K V)) (o : Outcome V) (known : Known)
   of d = record { deed = d; outcome = o; effects = effects_of acts.Row known changed; refused = is_refusal changed }
 
   -- what is done on a slot, or to reclaim all, moves on if it may be done
-  pub of_row : (d : Deed K V) → IsOfRow d → list_all (may_do d) (effects_of acts.Row known changed) ≡ true → MovesBut log (of d)
+  pub of_row : (d : Deed K V) → IsOfRow d → list_all (may_do d) (effects_of acts.Row known changed) ≡ true → DoesIts log (of d)
   of_row (Registers s) is may = record { may = may; granted = granted_so acts.Row known changed; refuses = refuses_so acts.Row known changed; whole = tt; leaves = tt }
   of_row (Opens s) is may = record { may = may; granted = granted_so acts.Row known changed; refuses = refuses_so acts.Row known changed; whole = tt; leaves = tt }
   of_row (Shuts s) is may = record { may = may; granted = granted_so acts.Row known changed; refuses = refuses_so acts.Row known changed; whole = tt; leaves = tt }
@@ -51,7 +51,7 @@ all_reclaim (y ∷ ys) = all_reclaim ys
 
 module _ {K V S : Type 0} (same : K → K → Bool) (hash : ℕ → K → ℕ) (x : State K V S) (s : Scene K V) (old new : Held K V) (all : ShowsAnswers same (past x.history) (moment x.history) x.known s) where
   pub rows_move : IsAt same hash old s → (i : ℕ) (row : SlotRow) (here : IsOnSlot s i row) (said : RowTold (Node K V)) → RowLeads same hash i said s old new → (o : Outcome V)
-      → MovesBut x.history (record { deed = row_deed row; outcome = o; effects = effects_of acts.Row x.known new.changed; refused = is_refusal new.changed })
+      → DoesIts x.history (record { deed = row_deed row; outcome = o; effects = effects_of acts.Row x.known new.changed; refused = is_refusal new.changed })
   rows_move at i row here said leads o =
       let to = leads row here in
       of_row x.history o x.known new.changed (row_deed row) (is_of_row K V row)
@@ -60,7 +60,7 @@ module _ {K V S : Type 0} (same : K → K → Bool) (hash : ℕ → K → ℕ) (
 
   pub reclaiming_moves : (i : ℕ) (lists : ℕ → List ℕ) (before next : ReclaimAll) (told : Settled (Node K V)) → IsReclaiming same hash old s i lists before
       → ReclaimingLeads same hash s i lists old new before next told
-      → MovesBut x.history (record { deed = ReclaimsAll (is_over told); outcome = settled_outcome told; effects = effects_of acts.Row x.known new.changed; refused = is_refusal new.changed })
+      → DoesIts x.history (record { deed = ReclaimsAll (is_over told); outcome = settled_outcome told; effects = effects_of acts.Row x.known new.changed; refused = is_refusal new.changed })
   reclaiming_moves i lists before next told at leads =
       let deed : Deed K V = ReclaimsAll (is_over told) in
       of_row x.history (settled_outcome told) x.known new.changed deed tt

@@ -39,7 +39,7 @@ use Rattle.papaya_endings.specs.GoingOn.{EndsGoOn}
 use Rattle.papaya_endings.proofs.EndStepGoes.{over_whole, step_finds}
 use Rattle.papaya_endings.proofs.EndSteps.{none_done}
 use Rattle.papaya_endings.proofs.Stays.{AllGo, ends_go_on}
-use Rattle.papaya_moves.specs.Parts.{MovesBut}
+use Rattle.papaya_moves.specs.Parts.{DoesIts}
 use Rattle.papaya_moves.proofs.Acts.{AllMove, asks_move, begins_move, call_steps_move, making_steps_move, row_steps_move, stops_move, told_move}
 use Rattle.papaya_moves.proofs.EndMoves.{ends_move, goes_move}
 use Rattle.papaya_moves.proofs.MadeHolds.{LeavesMaking, MadeHolds, acts_keep_made, as_it_was, reclaiming_keeps_made}
@@ -99,19 +99,19 @@ module _ {K V S : Type 0} (same : K → K → Bool) (by_hasher : S → K → ℕ
         entry : Bool → Entry K V
         entry q = record { deed = if q then MapGoes tied.it.map else Ends tied.it.map; outcome = settled_outcome said; effects = effects; refused = is_refusal end_new.changed }
 
-        moving : MovesBut x.history (record { deed = Ends tied.it.map; outcome = settled_outcome said; effects = effects; refused = is_refusal end_new.changed })
+        moving : DoesIts x.history (record { deed = Ends tied.it.map; outcome = settled_outcome said; effects = effects; refused = is_refusal end_new.changed })
         moving =
             ends_move x.history tied.it.map (settled_outcome said) x.known end_new.changed
             (step_finds same by_hasher hash batch_size roots aborts x y s n is at all go told i g tied.it tied.here f ends said leads at2 (f, ends, m2, machine, end, computed, told_is, did, came))
 
-        by : (p : Settled (Node K V)) → said ≡ p → EndingComesTo same hash s end_new i f (leads f ends).0 (leads f ends).2.w2 (leads f ends).2.deed p → MovesBut x.history (entry (is_over said))
-        by settled.Goes e c = subst (λ (q : Bool). MovesBut x.history (entry q)) (sym (ap is_over e)) moving
+        by : (p : Settled (Node K V)) → said ≡ p → EndingComesTo same hash s end_new i f (leads f ends).0 (leads f ends).2.w2 (leads f ends).2.deed p → DoesIts x.history (entry (is_over said))
+        by settled.Goes e c = subst (λ (q : Bool). DoesIts x.history (entry q)) (sym (ap is_over e)) moving
         by settled.Waits e c = absurd c
-        by (settled.Gave value) e c = subst (λ (q : Bool). MovesBut x.history (entry q)) (sym (ap is_over e)) moving
+        by (settled.Gave value) e c = subst (λ (q : Bool). DoesIts x.history (entry q)) (sym (ap is_over e)) moving
         by settled.Done e c =
-            subst (λ (q : Bool). MovesBut x.history (entry q)) (sym (ap is_over e))
+            subst (λ (q : Bool). DoesIts x.history (entry q)) (sym (ap is_over e))
             (goes_move x.history tied.it.map (settled_outcome said) x.known end_new.changed
-            (none_done same hash (moment x.history) x.known s old end_new at all.holds.shows.whole i f ends said leads tied.it.map (go.each i tied.it tied.here f ends) c.0)
+            (none_done same hash (moment x.history) x.known s old end_new at all.holds.shows.whole i f ends said leads tied.it.map (all.maps.going i tied.it tied.here f ends) (go.each i tied.it tied.here f ends) c.0)
             (over_whole same by_hasher hash batch_size roots aborts x y s n is at all go told i g tied.it tied.here f ends said leads at2 (f, ends, m2, machine, end, computed, told_is, did, came) (ap is_over e)))
 
   -- the step of a making
@@ -141,27 +141,27 @@ module _ {K V S : Type 0} (same : K → K → Bool) (by_hasher : S → K → ℕ
         its = subst To (let both : ◌≡◌ {A = Answer K V} (OfMaking said) (OfMaking end) = sym answer ∙ told_is in cc both) (leads, goes)
 
   pub act_moves : (act : Act K V S) → HasNewNumber x act → Played act → MayBe same by_hasher batch_size roots slot_of act s → Leads act → Goes act → IsAt same hash (then_held act) n → MadeHolds y × AllMove y
-  act_moves (BeginsCall i m wanted) new played may led leads at2 =
-      (keeps (BeginsCall i m wanted) tt new played, begins_move same by_hasher hash batch_size roots aborts x y s n is at all.holds all.maps made so told i m wanted played)
-  act_moves (StepsCall i m g) new played may led leads at2 =
-      (keeps (StepsCall i m g) tt new played, call_steps_move same by_hasher hash batch_size roots aborts x y s n is at all.holds all.maps made so told i m g played led leads)
-  act_moves (TellsCall i m reply) new played may led leads at2 =
-      (keeps (TellsCall i m reply) tt new played, told_move same by_hasher hash batch_size roots aborts x y s n is at all.holds all.maps made so told i m reply played)
-  act_moves (AsksCall i m) new played may led leads at2 =
-      (keeps (AsksCall i m) tt new played, asks_move same by_hasher hash batch_size roots aborts x y s n is at all.holds all.maps made so told i m played)
-  act_moves (StopsCall i m) new played may led leads at2 =
-      (keeps (StopsCall i m) tt new played, stops_move same by_hasher hash batch_size roots aborts x y s n is at all.holds all.maps made so told i m played)
-  act_moves (BeginsMaking i map hasher given places) new played may led leads at2 =
-      (keeps (BeginsMaking i map hasher given places) tt new played, subst AllMove (sym played) so)
-  act_moves (StepsMaking i g) new played may led leads at2 = (
+  act_moves (BeginsCall i m wanted) fits played may led leads at2 =
+      (keeps (BeginsCall i m wanted) tt fits played, begins_move same by_hasher hash batch_size roots aborts x y s n is at all.holds all.maps made so told i m wanted played)
+  act_moves (StepsCall i m g) fits played may led leads at2 =
+      (keeps (StepsCall i m g) tt fits played, call_steps_move same by_hasher hash batch_size roots aborts x y s n is at all.holds all.maps made so told i m g played led leads)
+  act_moves (TellsCall i m reply) fits played may led leads at2 =
+      (keeps (TellsCall i m reply) tt fits played, told_move same by_hasher hash batch_size roots aborts x y s n is at all.holds all.maps made so told i m reply played)
+  act_moves (AsksCall i m) fits played may led leads at2 =
+      (keeps (AsksCall i m) tt fits played, asks_move same by_hasher hash batch_size roots aborts x y s n is at all.holds all.maps made so told i m played)
+  act_moves (StopsCall i m) fits played may led leads at2 =
+      (keeps (StopsCall i m) tt fits played, stops_move same by_hasher hash batch_size roots aborts x y s n is at all.holds all.maps made so told i m played)
+  act_moves (BeginsMaking i map hasher given places) fits played may led leads at2 =
+      (keeps (BeginsMaking i map hasher given places) tt fits played, subst AllMove (sym played) so)
+  act_moves (StepsMaking i g) fits played may led leads at2 = (
     making_made i g at2 played led leads,
     making_steps_move same by_hasher hash batch_size roots aborts x y s n is at all.holds all.maps made so told i g played leads led,
   )
-  act_moves (BeginsEnding i m) new played may led leads at2 = (keeps (BeginsEnding i m) tt new played, subst AllMove (sym played.2) so)
-  act_moves (StepsEnding i g) new played may led leads at2 = (keeps (StepsEnding i g) (all.maps.names, apart i) new played, ending_moves i g at2 played led leads)
-  act_moves (BeginsRow i request) new played may led leads at2 = (keeps (BeginsRow i request) tt new played, subst AllMove (sym played.2) so)
-  act_moves (StepsRow i g) new played may led leads at2 =
-      (keeps (StepsRow i g) tt new played, row_steps_move same by_hasher hash batch_size roots aborts x y s n is at all.holds all.maps made so told i g may played leads)
+  act_moves (BeginsEnding i m) fits played may led leads at2 = (keeps (BeginsEnding i m) tt fits played, subst AllMove (sym played.2) so)
+  act_moves (StepsEnding i g) fits played may led leads at2 = (keeps (StepsEnding i g) (all.maps.names, apart i) fits played, ending_moves i g at2 played led leads)
+  act_moves (BeginsRow i request) fits played may led leads at2 = (keeps (BeginsRow i request) tt fits played, subst AllMove (sym played.2) so)
+  act_moves (StepsRow i g) fits played may led leads at2 =
+      (keeps (StepsRow i g) tt fits played, row_steps_move same by_hasher hash batch_size roots aborts x y s n is at all.holds all.maps made so told i g may played leads)
 
 module _ {K S : Type 0} (V : Type 0) (same : K → K → Bool) (by_hasher : S → K → ℕ) (hash : ℕ → K → ℕ) (batch_size roots : ℕ) (aborts : V) where
   abbrev pub Moves : At V same by_hasher hash batch_size roots → State K V S → Type 0

@@ -1,4 +1,4 @@
--- What is promised of the life of pairs, tables and blocks by an entry of a history, beside what its effects find.
+-- What is promised of an entry of a history beside what its effects find: it does what is its own, and all of that.
 use Rattle.std.specs.Prelude.{◌≡◌, true, false, List}
 use Rattle.std.specs.List.{list_all}
 use Rattle.papaya_legal.specs.Given.Schedules.Entry.{IfCall}
@@ -8,7 +8,7 @@ use Rattle.papaya_deeds.specs.Deeds.{Entry}
 use Rattle.papaya_deeds.specs.History.{IsWhole, Refuses, may_do, transition}
 
 -- The deed may have each effect, what is made was asked for, a refusal makes nothing, what must come of the deed does, and a call that is over leaves nothing behind.
-pub record MovesBut {K V : Type 0} (log : List (Entry K V)) (e : Entry K V) : Type 0 where
+pub record DoesIts {K V : Type 0} (log : List (Entry K V)) (e : Entry K V) : Type 0 where
   pub may : list_all (may_do e.deed) e.effects ≡ true
   pub granted : is_granted false e.effects ≡ true
   pub refuses : Refuses e.refused e.effects

@@ -1,2 +1,4 @@
-//! Entries of histories of lists of acts move pairs, tables and blocks forward.
+//! Entries of histories of lists of acts do what is their own.
 #![tactic(auto)]
+
+pub mod law;
