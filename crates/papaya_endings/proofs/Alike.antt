@@ -1,13 +1,12 @@
 -- Where all of a map is as it was, it goes on to end as it did.
-use Rattle.std.specs.Prelude.{◌≡◌, ◌≤◌, ◌<◌, ◌+◌, ◌==◌, ◌&&◌, ℕ, Bool, true, false, not, nat_le, List, [], ◌∷◌, filter, find, length, Option, Some, None, if◌then◌else◌}
-use Rattle.std.specs.List.{list_all}
+use Rattle.std.specs.Prelude.{◌≡◌, ◌≤◌, ◌==◌, ◌&&◌, ℕ, Bool, true, false, not, nat_le, List, [], ◌∷◌, filter, find, length, Option, Some, None, if◌then◌else◌}
 use Rattle.std.proofs.Common.{refl, ap, sym, ◌∙◌, arith}
 use Rattle.std.proofs.lemmas.Bool.{eq-eqb}
 use Rattle.papaya_moments.specs.Given.Schedules.declared.effect.Effect.{Effect}
 use Rattle.papaya_moments.specs.Given.Schedules.declared.effect.Effect.TheVariants as effect
 use Rattle.papaya_moments.specs.Given.Schedules.declared.effect.Spot.{Spot}
 use Rattle.papaya_moments.specs.Given.Schedules.declared.effect.Table.{Table}
-use Rattle.papaya_moments.specs.Given.Schedules.Effects.{with_effect, with_effects}
+use Rattle.papaya_moments.specs.Given.Schedules.Effects.{with_effect}
 use Rattle.papaya_moments.specs.Given.Schedules.Lists.{is_among}
 use Rattle.papaya_moments.specs.Given.Schedules.Moment.{GivenBack, InMap, IsTaken, Left, MapThere, Moment, Place, TableThere}
 use Rattle.papaya_moments.specs.Given.Schedules.Things.{is_before, same_table}
@@ -17,7 +16,7 @@ use Rattle.papaya_finds.proofs.Lists.{number_passes, numbers_pass}
 use Rattle.papaya_deeds.specs.History.{EndFinds, is_first_of, is_next_pair, left_tables}
 use Rattle.papaya_endings.specs.Ends.{AlikeOf, AreStored, EndsWell}
 use Rattle.papaya_endings.proofs.Left.{left_by}
-use Rattle.papaya_endings.proofs.Places.{none_alike, none_in, stored_alike}
+use Rattle.papaya_endings.proofs.Places.{none_alike, none_in}
 
 module _ {K V : Type 0} (map : ℕ) where
   -- after one more of what ends with it

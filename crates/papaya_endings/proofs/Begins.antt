@@ -1,7 +1,6 @@
 -- A map that stands would end well: its pairs, in the order in which they lie, and then its tables, from the root's on.
-use Rattle.std.specs.Prelude.{◌≡◌, ◌<◌, ◌≤◌, ◌+◌, ◌-◌, ◌==◌, ◌&&◌, ◌||◌, ◌⊎◌, nat_le, nat_lt, ℕ, zero, suc, Bool, true, false, not, cond, List, [], ◌∷◌, ◌++◌, filter, find, flat_map, map, length, Option, Some, None, if◌then◌else◌}
-use Rattle.std.specs.List.{AllByRecursion}
-use Rattle.std.proofs.Common.{refl, ap, sym, subst, ◌∙◌, arith, inl, inr, eqb-true}
+use Rattle.std.specs.Prelude.{◌≡◌, ◌<◌, ◌≤◌, ◌-◌, ◌==◌, ◌&&◌, ◌||◌, ◌⊎◌, nat_le, nat_lt, ℕ, zero, suc, Bool, true, false, not, cond, List, [], ◌∷◌, ◌++◌, filter, find, flat_map, map, length, Option, if◌then◌else◌}
+use Rattle.std.proofs.Common.{refl, ap, sym, subst, ◌∙◌, arith, inl, inr}
 use Rattle.std.proofs.lemmas.Bool.{and_parts, cases_order, eq-eqb, leb-true}
 use Rattle.std.proofs.lemmas.List.Elements.{filter-append}
 use Rattle.papaya_moments.specs.Given.Seize.World.{times}
@@ -15,11 +14,11 @@ use Rattle.papaya_moments.specs.Given.Schedules.declared.effect.Effect.{Effect}
 use Rattle.papaya_moments.specs.Given.Schedules.declared.effect.Effect.TheVariants.{Ended, Taken}
 use Rattle.papaya_moments.specs.Given.Schedules.declared.effect.Table.{Table}
 use Rattle.papaya_moments.specs.Given.Schedules.After.{tables_taken}
-use Rattle.papaya_moments.specs.Given.Schedules.Handing.{in_order, tables_in}
+use Rattle.papaya_moments.specs.Given.Schedules.Handing.{in_order}
 use Rattle.papaya_moments.specs.Given.Schedules.Moment.{GivenBack, InMap, IsLinked, IsTaken, Left, MapThere, Moment, Stage, TableThere}
 use Rattle.papaya_moments.specs.Given.Schedules.Lists.{is_among}
 use Rattle.papaya_moments.specs.Given.Schedules.Things.{is_before, same_table}
-use Rattle.papaya_moments.specs.Given.Schedules.Views.{behind, chain_of, first_of, first_or, is_in_map, is_linked, map_at, size_of, tables_of}
+use Rattle.papaya_moments.specs.Given.Schedules.Views.{behind, chain_of, first_of, first_or, is_in_map, is_linked, tables_of}
 use Rattle.papaya_moments.specs.Given.Effects.Known.{Known}
 use Rattle.papaya_moments.specs.Given.Follows.Maps.{ShowsMap, shape_at, table_of, tables_to}
 use Rattle.papaya_moments.proofs.Given.Follows.Alike.{put_elsewhere}
@@ -31,7 +30,7 @@ use Rattle.papaya_moments.proofs.WholeEnds.{whole_ends_take_all}
 use Rattle.papaya_finds.proofs.Lists.{numbers_pass}
 use Rattle.papaya_deeds.specs.History.{EndFinds, is_first_of, is_next_pair, left_tables}
 use Rattle.papaya_endings.specs.Ends.{AreStored, EndsWell}
-use Rattle.papaya_endings.proofs.Alike.{ended, one_stored}
+use Rattle.papaya_endings.proofs.Alike.{ended}
 use Rattle.papaya_endings.proofs.Left.{left_by}
 use Rattle.papaya_endings.proofs.Places.{none_then}
 

@@ -1,5 +1,5 @@
 -- What a map that ends has not reclaimed is noted as it was, whoever else acts.
-use Rattle.std.specs.Prelude.{◌≡◌, ◌⊎◌, ℕ, Bool, Some, None}
+use Rattle.std.specs.Prelude.{◌≡◌, ℕ, Bool, Some, None}
 use Rattle.std.proofs.Common.{ap, sym, subst, ◌∙◌, inl, inr}
 use Rattle.papaya_moments.specs.Given.SeizeWords.Mem.{Mem, value_at}
 use Rattle.papaya_moments.specs.Given.Seize.World.{times}

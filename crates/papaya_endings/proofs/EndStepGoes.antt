@@ -1,5 +1,5 @@
 -- Each map that ends goes on to end by each step of an end, which finds what it must; and one that is over has left nothing of its map.
-use Rattle.std.specs.Prelude.{◌≡◌, ◌≢◌, ◌<◌, ◌⊎◌, ◌++◌, ℕ, Bool, true, false, List, [], ◌∷◌, Option, Some, None, if◌then◌else◌}
+use Rattle.std.specs.Prelude.{◌≡◌, ◌≢◌, ◌⊎◌, ◌++◌, ℕ, Bool, true, false, List, [], ◌∷◌, Option, Some, None, if◌then◌else◌}
 use Rattle.std.proofs.Common.{refl, ap, sym, subst, ◌∙◌, inl, inr}
 use Rattle.std.proofs.lemmas.Bool.{cases_eq}
 use Rattle.std.proofs.lemmas.List.{append-nil}
@@ -47,6 +47,7 @@ use Rattle.papaya_linear.proofs.Tied.{EndingTied, ending_tied}
 use Rattle.papaya_endings.specs.Ends.{AlikeOf, EndsWell}
 use Rattle.papaya_endings.specs.Going.{GoesOnToEnd}
 use Rattle.papaya_endings.specs.GoingOn.{EndsGoOn}
+use Rattle.papaya_endings.specs.InOrder.{EndsInOrder}
 use Rattle.papaya_endings.proofs.Alike.{alike_all, alike_itself, alike_maps, alike_then}
 use Rattle.papaya_endings.proofs.EndSteps.{Then, behind_same, does, none_done, none_then, one_then, tells}
 use Rattle.papaya_endings.proofs.EndingGoes.{maps_kept}
@@ -270,3 +271,31 @@ module _ {K V S : Type 0} (same : K → K → Bool) (by_hasher : S → K → ℕ
 
       z_is : y ≡ ending_stepped i tied.it new.changed x (m2, (machine, said))
       z_is = tied.comes ∙ ap (λ (p : Settled (Node K V)). ending_stepped i tied.it new.changed x (m2, (machine, p))) said_is
+
+  -- And its entry ends its map in order.
+  pub end_step_in_order : PlayedAs same by_hasher batch_size roots aborts x y (StepsEnding i g) → Led same by_hasher batch_size roots slot_of act s told n → LeadsAs same by_hasher hash act s told n old new → IsAt same hash new n
+      → (e : Entry K V) × (y.history ≡ e ∷ x.history) × EndsInOrder x.history e
+  end_step_in_order played (f, ends, m2, machine, progress, computed, told_is, did, came) (said, answer, leads, goes) at2 = (
+    record { deed = ending_deed tied.it said; outcome = settled_outcome said; effects = effects_of (acts.Ending tied.it.map) x.known new.changed; refused = is_refusal new.changed },
+    ap (λ (z : State K V S). z.history) z_is,
+    by (is_over said) refl,
+  )
+    where
+      tied : EndingTied same by_hasher batch_size roots aborts s n s.world.row x y is i g f (m2, (machine, progress))
+      tied = ending_tied same by_hasher batch_size roots aborts s n s.world.row x y is i g f ends (m2, (machine, progress)) computed played
+
+      said_is : progress ≡ said
+      said_is = let both : ◌≡◌ {A = Answer K V} (OfEnding progress) (OfEnding said) = sym told_is ∙ answer in cc both
+
+      z_is : y ≡ ending_stepped i tied.it new.changed x (m2, (machine, said))
+      z_is = tied.comes ∙ ap (λ (p : Settled (Node K V)). ending_stepped i tied.it new.changed x (m2, (machine, p))) said_is
+
+      finds : AtEachEffect (EndFinds tied.it.map) None (Some tied.it.map) (effects_of (acts.Ending tied.it.map) x.known new.changed) m
+      finds = step_finds tied.it tied.here f ends said leads at2 (f, ends, m2, machine, progress, computed, told_is, did, came)
+
+      its_effects : List Effect
+      its_effects = effects_of (acts.Ending tied.it.map) x.known new.changed
+
+      by : (q : Bool) → is_over said ≡ q → EndsInOrder x.history (record { deed = if q then MapGoes tied.it.map else Ends tied.it.map; outcome = settled_outcome said; effects = its_effects; refused = is_refusal new.changed })
+      by true over = let whole = over_whole tied.it tied.here f ends said leads at2 (f, ends, m2, machine, progress, computed, told_is, did, came) over in (finds, whole.0, whole.1)
+      by false over = finds

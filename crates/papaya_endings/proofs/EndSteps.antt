@@ -1,5 +1,5 @@
 -- A step of the end of a map: the block that it reclaims is next, and what was left to end but for that is left then.
-use Rattle.std.specs.Prelude.{◌≡◌, ◌≢◌, ◌<◌, ◌≤◌, ◌⊎◌, ◌++◌, ℕ, Bool, false, List, [], ◌∷◌, Option, Some, None}
+use Rattle.std.specs.Prelude.{◌≡◌, ◌≢◌, ◌<◌, ◌≤◌, ◌⊎◌, ◌++◌, ℕ, Bool, false, List, [], ◌∷◌, Some, None}
 use Rattle.std.proofs.Common.{refl, ap, sym, subst, ◌∙◌, arith, inl, inr}
 use Rattle.std.proofs.lemmas.List.{append-nil, append_assoc}
 use Rattle.papaya_moments.specs.Given.Seize.World.{World, times}
@@ -10,19 +10,19 @@ use Rattle.papaya_moments.specs.Given.Raw.declared.machines.end_map.EndMap.{EndM
 use Rattle.papaya_moments.specs.Given.Finishes.Endings.{Finishing, FinishingFacts, StepsOfEnding, waiting_by}
 use Rattle.papaya_moments.specs.Given.Finishes.FactsEnds.{back_of, taken_by as taken_of}
 use Rattle.papaya_moments.proofs.Given.Callers.Together.At.{at_same}
-use Rattle.papaya_moments.proofs.Given.Finishes.Ends.CountedBlocks.{later_apart, next_apart, some_here, some_last, times-append}
+use Rattle.papaya_moments.proofs.Given.Finishes.Ends.CountedBlocks.{later_apart, next_apart}
 use Rattle.papaya_moments.proofs.Given.Finishes.Ends.OrdersOn.{back_same}
-use Rattle.papaya_moments.proofs.Given.Finishes.Ends.OrdersOnce.{HasOrder, plain_order}
+use Rattle.papaya_moments.proofs.Given.Finishes.Ends.OrdersOnce.{plain_order}
 use Rattle.papaya_moments.specs.Given.Schedules.declared.effect.Effect.{Effect}
 use Rattle.papaya_moments.specs.Given.Schedules.Effects.{AtEachEffect, with_effects}
 use Rattle.papaya_moments.specs.Given.Schedules.Moment.{Moment}
-use Rattle.papaya_moments.specs.Given.Schedules.Views.{map_at, size_of}
+use Rattle.papaya_moments.specs.Given.Schedules.Views.{map_at}
 use Rattle.papaya_moments.specs.Given.Effects.Effects.{effects_of, known_after, taken_by}
 use Rattle.papaya_moments.specs.Given.Effects.Known.{Known}
 use Rattle.papaya_moments.specs.Given.Effects.declared.acting.Acting.TheVariants as acts
 use Rattle.papaya_moments.specs.Given.Effects.declared.role.Role.TheVariants as role
 use Rattle.papaya_moments.specs.Given.Others.Endings.{TellsNext}
-use Rattle.papaya_moments.specs.Given.Scenes.Ending.{EndingComesTo, EndingLeads, EndingStepsFrom}
+use Rattle.papaya_moments.specs.Given.Scenes.Ending.{EndingComesTo, EndingLeads}
 use Rattle.papaya_moments.specs.Given.Scenes.Held.{Held, IsAt}
 use Rattle.papaya_moments.specs.Given.Scenes.Scene.{Scene, slot_of}
 use Rattle.papaya_moments.specs.Given.Teller.declared.changed.Changed.{Changed}
@@ -34,7 +34,7 @@ use Rattle.papaya_logged.specs.Ends.{ended_as}
 use Rattle.papaya_logged.proofs.EndLists.{back_first, once}
 use Rattle.papaya_logged.proofs.EndTold.{did_end, noted_on}
 use Rattle.papaya_deeds.specs.Deeds.{named}
-use Rattle.papaya_deeds.specs.History.{EndFinds, left_tables}
+use Rattle.papaya_deeds.specs.History.{EndFinds}
 use Rattle.papaya_linear.specs.Coming.{Goes}
 use Rattle.papaya_linear.proofs.Going.{as_noted, notes_all, notes_still}
 use Rattle.papaya_endings.specs.Ends.{AreStored, EndsWell}

@@ -1,70 +1,49 @@
 -- Each map that ends goes on to end where the end of one begins, and by each step of it: of its own end, and of another one's.
-use Rattle.std.specs.Prelude.{map as mapped, ◌≡◌, ◌≢◌, ◌<◌, ◌⊎◌, ◌++◌, ℕ, Bool, true, false, List, [], ◌∷◌, Option, Some, None, option_map, if◌then◌else◌}
+use Rattle.std.specs.Prelude.{map as mapped, ◌≡◌, ◌≢◌, ◌<◌, ◌⊎◌, ℕ, Bool, true, false, List, [], Option, Some, None, option_map}
 use Rattle.std.proofs.Common.{refl, ap, sym, subst, ◌∙◌, inl, inr}
 use Rattle.std.proofs.lemmas.Bool.{cases_eq}
-use Rattle.std.proofs.lemmas.List.{append-nil}
-use Rattle.seize_acts.specs.Answers.{Grant}
 use Rattle.seize_acts.proofs.Answers.{same_some}
-use Rattle.papaya_moments.specs.Given.Seize.World.{World, with_at}
-use Rattle.papaya_moments.specs.Given.Seize.declared.rows.settle.Settled.{Settled}
-use Rattle.papaya_moments.specs.Given.Seize.declared.rows.settle.Settled.TheVariants as settled
+use Rattle.papaya_moments.specs.Given.Seize.World.{with_at}
 use Rattle.papaya_moments.specs.Given.Tables.Chunks.{is_incremental}
-use Rattle.papaya_moments.specs.Given.Tables.declared.node.Node.{Node}
-use Rattle.papaya_moments.specs.Given.Raw.EndMap.{end_map_plan, ending}
+use Rattle.papaya_moments.specs.Given.Raw.EndMap.{ending}
 use Rattle.papaya_moments.specs.Given.Raw.declared.machines.end_map.EndMap.{EndMap}
 use Rattle.papaya_moments.proofs.Given.Callers.Together.At.{at_other, at_same}
-use Rattle.papaya_moments.specs.Given.Finishes.Endings.{AllPairsOnce, Finishing, finishing_of, waiting_by}
-use Rattle.papaya_moments.specs.Given.Finishes.FactsEnds.{Deed as FactsDeed, back_of, taken_by as taken_of}
+use Rattle.papaya_moments.specs.Given.Finishes.Endings.{AllPairsOnce, Finishing, finishing_of}
+use Rattle.papaya_moments.specs.Given.Finishes.FactsEnds.{back_of}
 use Rattle.papaya_moments.specs.Given.Finishes.Maps.{Standing}
 use Rattle.papaya_moments.specs.Given.Finishes.Orders.{pairs_of}
 use Rattle.papaya_moments.specs.Given.Rule.InWorld.{IsMapIn}
 use Rattle.papaya_moments.specs.Given.Schedules.declared.effect.Effect.{Effect}
-use Rattle.papaya_moments.specs.Given.Schedules.declared.outcome.Outcome.{Outcome}
 use Rattle.papaya_moments.specs.Given.Schedules.Effects.{with_effects}
 use Rattle.papaya_moments.specs.Given.Schedules.Handing.{in_order}
-use Rattle.papaya_moments.specs.Given.Schedules.Moment.{MapThere, Moment}
-use Rattle.papaya_moments.specs.Given.Schedules.Views.{map_at}
-use Rattle.papaya_moments.specs.Given.Effects.Effects.{effects_of, known_after, taken_by}
+use Rattle.papaya_moments.specs.Given.Schedules.Moment.{Moment}
+use Rattle.papaya_moments.specs.Given.Effects.Effects.{taken_by}
 use Rattle.papaya_moments.specs.Given.Effects.Known.{Known}
 use Rattle.papaya_moments.specs.Given.Effects.declared.acting.Acting.TheVariants as acts
 use Rattle.papaya_moments.specs.Given.Effects.declared.role.Role.{Role}
 use Rattle.papaya_moments.specs.Given.Effects.declared.role.Role.TheVariants as role
 use Rattle.papaya_moments.specs.Given.Follows.Maps.{ShowsMap}
-use Rattle.papaya_moments.specs.Given.Teller.declared.changed.Changed.{Changed}
-use Rattle.papaya_moments.specs.Given.Teller.declared.changed.Changed.TheVariants as changed
 use Rattle.papaya_moments.specs.Given.Teller.declared.changed.Changed.TheVariants.{Nothing as NoChange}
-use Rattle.papaya_moments.specs.Given.Scenes.Ending.{EndingComesTo, EndingLeads}
 use Rattle.papaya_moments.specs.Given.Scenes.Held.{Held, IsAt}
 use Rattle.papaya_moments.specs.Given.Scenes.Scene.{Scene, slot_of}
 use Rattle.papaya_moments.specs.Whole.{ShowsWhole}
-use Rattle.papaya_moments.proofs.Given.Follows.Operations.{Operated, operated}
-use Rattle.papaya_moments.proofs.Given.Scenes.May.{may_end}
 use Rattle.papaya_moments.proofs.Given.Rule.Laws.{current_is_known}
-use Rattle.papaya_logged.specs.Ends.{NotesMap, ended_as}
+use Rattle.papaya_logged.specs.Ends.{NotesMap}
 use Rattle.papaya_logged.proofs.EndAll.{all_end}
 use Rattle.papaya_logged.proofs.EndOrder.{pairs_ordered}
-use Rattle.papaya_acts.specs.Acts.{Act, Answer, BeginsEnding, OfEnding, StepsEnding}
-use Rattle.papaya_acts.specs.AsSteps.{EndedTo, LeadsAs, changed_by, held_in}
+use Rattle.papaya_acts.specs.Acts.{Act, Answer, BeginsEnding}
+use Rattle.papaya_acts.specs.AsSteps.{changed_by, held_in}
 use Rattle.papaya_acts.specs.Leads.{Led}
-use Rattle.papaya_deeds.specs.Deeds.{Ends, Entry, MapGoes, after, moment, named}
-use Rattle.papaya_played.specs.Play.{Ending, State, ended_on, ending_deed, ending_stepped, is_over, is_refusal, settled_outcome}
+use Rattle.papaya_deeds.specs.Deeds.{moment, named}
+use Rattle.papaya_played.specs.Play.{Ending, State}
 use Rattle.papaya_played.specs.Reached.{IsOf}
 use Rattle.papaya_played.proofs.PlayedAs.{PlayedAs}
-use Rattle.papaya_linear.specs.Coming.{AreNamed, Goes}
-use Rattle.papaya_linear.proofs.Coming.{gone_leaves}
 use Rattle.papaya_linear.proofs.Holding.{AllHolds}
-use Rattle.papaya_linear.proofs.Names.{effects_named}
-use Rattle.papaya_linear.proofs.Tied.{EndingTied, ending_tied}
-use Rattle.papaya_endings.specs.Ends.{AlikeOf, AreStored, EndsWell}
+use Rattle.papaya_endings.specs.Ends.{EndsWell}
 use Rattle.papaya_endings.specs.Going.{GoesOnToEnd}
 use Rattle.papaya_endings.specs.GoingOn.{EndsGoOn}
-use Rattle.papaya_endings.proofs.Alike.{alike_all, alike_itself, alike_maps, alike_then}
 use Rattle.papaya_endings.proofs.Begins.{are_stored, would_end}
-use Rattle.papaya_endings.proofs.EndSteps.{Then, does, none_then, one_then, tells}
-use Rattle.papaya_endings.proofs.Going.{NotedAlike, going_alike}
-use Rattle.papaya_endings.proofs.Others.{taken_spares}
-use Rattle.papaya_endings.proofs.Played.{goes_of, noted_on}
-use Rattle.papaya_endings.proofs.Spares.{all_spared}
+use Rattle.papaya_endings.proofs.Played.{goes_of}
 
 -- Where the end of a map begins it goes on to end.
 module _ {K V : Type 0} (same : K → K → Bool) (hash : ℕ → K → ℕ) (old : Held K V) (m : Moment K V) (known : Known) (s : Scene K V) (at : IsAt same hash old s) (whole : ShowsWhole same named m known s) (map : ℕ)

@@ -1,36 +1,31 @@
 -- A map that ends goes on to end where all of it is as it was, and the blocks that it has still to reclaim are noted as they were.
-use Rattle.std.specs.Prelude.{◌≡◌, ◌≢◌, ◌<◌, ◌⊎◌, ◌==◌, ◌++◌, ℕ, Bool, true, false, List, [], ◌∷◌, Option, Some, None}
+use Rattle.std.specs.Prelude.{◌≡◌, ◌<◌, ◌++◌, ℕ, Bool, true, false, List, [], ◌∷◌, Some, None}
 use Rattle.std.specs.List.{AllByRecursion}
-use Rattle.std.proofs.Common.{refl, ap, sym, subst, ◌∙◌, inl, inr}
-use Rattle.std.proofs.lemmas.List.{append-nil}
+use Rattle.std.proofs.Common.{refl, ap, sym, subst, ◌∙◌}
 use Rattle.papaya_moments.specs.Given.Seize.World.{times}
 use Rattle.papaya_moments.proofs.Given.Finishes.Ends.CountedBlocks.{some_here, some_last}
 use Rattle.papaya_moments.specs.Given.Finishes.Endings.{Finishing}
 use Rattle.papaya_moments.specs.Given.Schedules.declared.effect.Effect.{Effect}
 use Rattle.papaya_moments.specs.Given.Schedules.declared.effect.Table.{Table}
-use Rattle.papaya_moments.specs.Given.Schedules.Effects.{AtEachEffect, with_effect, with_effects}
+use Rattle.papaya_moments.specs.Given.Schedules.Effects.{AtEachEffect, with_effects}
 use Rattle.papaya_moments.specs.Given.Schedules.Moment.{Moment, TableThere}
 use Rattle.papaya_moments.specs.Given.Schedules.Things.{same_table}
 use Rattle.papaya_moments.specs.Given.Schedules.Views.{is_in_map}
-use Rattle.papaya_moments.specs.Given.Effects.Effects.{effects_of, known_after, taken_by}
+use Rattle.papaya_moments.specs.Given.Effects.Effects.{known_after, taken_by}
 use Rattle.papaya_moments.specs.Given.Effects.Known.{Known}
 use Rattle.papaya_moments.specs.Given.Effects.declared.acting.Acting.{Acting}
 use Rattle.papaya_moments.specs.Given.Effects.declared.acting.Acting.TheVariants as acts
 use Rattle.papaya_moments.specs.Given.Effects.declared.role.Role.{Role}
 use Rattle.papaya_moments.specs.Given.Effects.declared.role.Role.TheVariants as role
-use Rattle.papaya_moments.specs.Given.Follows.Blocks.{ShowsBlocks}
-use Rattle.papaya_moments.specs.Given.Spots.Unreclaimed.{ShowsUnreclaimed}
 use Rattle.papaya_moments.specs.Given.Spots.Deferred.{WaitOutside}
 use Rattle.papaya_moments.proofs.Given.Spots.Deferred.{each_waits_outside}
 use Rattle.papaya_moments.proofs.Given.Spots.Unreclaimed.{table_is}
 use Rattle.papaya_moments.proofs.Given.Follows.Alike.{put_here}
 use Rattle.papaya_moments.proofs.Given.Follows.Handed.{not_in}
-use Rattle.papaya_moments.specs.Given.Teller.declared.changed.Changed.{Changed}
 use Rattle.papaya_moments.specs.Given.Teller.declared.changed.Changed.TheVariants as changed
-use Rattle.papaya_moments.specs.Whole.{ShowsWhole}
 use Rattle.papaya_logged.specs.Ends.{ended_as}
 use Rattle.papaya_deeds.specs.History.{EndFinds, left_tables}
-use Rattle.papaya_endings.specs.Ends.{AlikeOf, AreStored, EndsWell, IsOther, IsOut, Spares}
+use Rattle.papaya_endings.specs.Ends.{AlikeOf, AreStored, EndsWell, IsOther, IsOut}
 use Rattle.papaya_endings.specs.Going.{GoesOnToEnd}
 use Rattle.papaya_endings.proofs.Alike.{ended, ends_alike, ends_next}
 use Rattle.papaya_endings.proofs.Noted.{Takes, pair_ends, pair_noted, table_ends, table_noted}

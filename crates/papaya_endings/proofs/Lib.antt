@@ -1,16 +1,17 @@
-pub mod Places
-pub mod Left
-pub mod Alike
-pub mod Begins
-pub mod Spares
-pub mod Calls
-pub mod Noted
-pub mod Going
-pub mod Others
+mod Places
+mod Left
+mod Alike
+mod Begins
+mod Spares
+mod Calls
+mod Noted
+mod Going
+mod Others
 pub mod EndSteps
-pub mod Beside
-pub mod Played
-pub mod MakingGoes
-pub mod EndingGoes
+mod Beside
+mod Played
+mod MakingGoes
+mod EndingGoes
 pub mod EndStepGoes
 pub mod Stays
+pub mod InOrder

@@ -1,9 +1,8 @@
 -- Each map that ends goes on to end by each step of the making of another one.
-use Rattle.std.specs.Prelude.{◌≡◌, ◌≢◌, ℕ, Bool, true, false, List, [], ◌∷◌, Option, Some, None, if◌then◌else◌}
+use Rattle.std.specs.Prelude.{◌≡◌, ◌≢◌, ℕ, Bool, true, false, List, ◌∷◌, Option, Some, None, if◌then◌else◌}
 use Rattle.std.specs.List.{list_all}
-use Rattle.std.proofs.Common.{refl, ap, sym, subst, ◌∙◌}
+use Rattle.std.proofs.Common.{refl, ap, ◌∙◌}
 use Rattle.seize_acts.specs.Answers.{Grant}
-use Rattle.papaya_moments.specs.Given.SeizeWords.Mem.{Mem}
 use Rattle.papaya_moments.specs.Given.Seize.World.{World}
 use Rattle.papaya_moments.specs.Given.Seize.declared.progress.Progress.{Progress}
 use Rattle.papaya_moments.specs.Given.Seize.declared.progress.Progress.TheVariants as progress
@@ -23,12 +22,12 @@ use Rattle.papaya_moments.specs.Given.Effects.Effects.{effects_of, known_after}
 use Rattle.papaya_moments.specs.Given.Effects.declared.acting.Acting.TheVariants as acts
 use Rattle.papaya_moments.specs.Given.Teller.declared.changed.Changed.TheVariants.{Nothing as NoChange}
 use Rattle.papaya_moments.specs.Given.Scenes.Held.{Held, IsAt}
-use Rattle.papaya_moments.specs.Given.Scenes.Making.{MakingComesTo, MakingLeads}
+use Rattle.papaya_moments.specs.Given.Scenes.Making.{MakingComesTo}
 use Rattle.papaya_moments.specs.Given.Scenes.Scene.{Scene, slot_of}
 use Rattle.papaya_moments.proofs.Given.Follows.Operations.{Operated, operated}
 use Rattle.papaya_moments.proofs.Given.Scenes.May.{may_make}
 use Rattle.papaya_works.proofs.Makings.{makings_do_theirs}
-use Rattle.papaya_acts.specs.Acts.{Act, Answer, OfMaking, StepsMaking}
+use Rattle.papaya_acts.specs.Acts.{Act, Answer, StepsMaking}
 use Rattle.papaya_acts.specs.AsSteps.{LeadsAs, MadeTo, changed_by, held_in}
 use Rattle.papaya_acts.specs.Leads.{Led}
 use Rattle.papaya_agrees.proofs.Elsewhere.{AllLinkElsewhere, acting_elsewhere}
@@ -120,7 +119,7 @@ module _ {K V S : Type 0} (same : K → K → Bool) (by_hasher : S → K → ℕ
 
   pub making_goes : PlayedAs same by_hasher batch_size roots aborts x y (StepsMaking i g) → Led same by_hasher batch_size roots slot_of (StepsMaking i g) s told n
       → LeadsAs same by_hasher hash (StepsMaking i g) s told n old new → IsAt same hash new n → EndsGoOn y n
-  making_goes played (b, makes, m2, machine, said, computed, told_is, did, came) (told2, answer, leads, goes) at2 =
+  making_goes played (b, makes, m2, machine, said, computed, told_is, did, _) (told2, answer, leads, goes) at2 =
       ends_stay same by_hasher hash batch_size roots aborts x y s n is at all so told (known_after (acts.Making b.map) new.changed x.known) (after entry m) known_is (ap (λ (log : List (Entry K V)). moment log) history)
       (ap (λ (z : State K V S). z.now.enders) tied.comes ∙ ends_same tied.it i machine said (record x.now { memory = m2 })) ends_are each
     where

@@ -1,14 +1,14 @@
 -- What is left to end is noted so: each pair that is in the map, and each table that it has from the root on, has a block that is still to be reclaimed.
-use Rattle.std.specs.Prelude.{◌≡◌, ◌<◌, ◌⊎◌, ◌==◌, ◌++◌, ℕ, Bool, true, false, not, cond, List, [], ◌∷◌, filter, flat_map, if◌then◌else◌}
+use Rattle.std.specs.Prelude.{◌≡◌, ◌<◌, ◌⊎◌, ◌==◌, ◌++◌, ℕ, Bool, true, false, not, cond, List, [], ◌∷◌, filter, if◌then◌else◌}
 use Rattle.std.specs.List.{AllByRecursion}
-use Rattle.std.proofs.Common.{refl, ap, sym, subst, ◌∙◌, inl, inr, eqb-true}
+use Rattle.std.proofs.Common.{refl, ap, sym, subst, inl, inr, eqb-true}
 use Rattle.papaya_moments.specs.Given.Seize.World.{times}
 use Rattle.papaya_moments.proofs.Given.Finishes.Ends.CountedBlocks.{some_here, some_last}
 use Rattle.papaya_moments.specs.Given.Schedules.declared.effect.Effect.{Effect}
 use Rattle.papaya_moments.specs.Given.Schedules.declared.effect.Effect.TheVariants.{Ended, Taken}
 use Rattle.papaya_moments.specs.Given.Schedules.declared.effect.Table.{Table}
 use Rattle.papaya_moments.specs.Given.Schedules.Lists.{OneOf}
-use Rattle.papaya_moments.specs.Given.Schedules.Moment.{GivenBack, IsTaken, Moment, TableThere}
+use Rattle.papaya_moments.specs.Given.Schedules.Moment.{GivenBack, IsTaken, Moment}
 use Rattle.papaya_moments.specs.Given.Schedules.Things.{same_table}
 use Rattle.papaya_moments.specs.Given.Schedules.Views.{first_of, is_in_map}
 use Rattle.papaya_moments.specs.Given.Effects.Effects.{taken_by}

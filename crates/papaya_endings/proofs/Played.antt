@@ -1,9 +1,8 @@
 -- Each map that ends goes on to end by each act that is played of calls and of rows.
-use Rattle.std.specs.Prelude.{◌≡◌, ◌≢◌, ◌<◌, ◌++◌, ℕ, Bool, true, false, List, [], ◌∷◌, Option, Some, None, is_ok, if◌then◌else◌}
+use Rattle.std.specs.Prelude.{◌≡◌, ◌≢◌, ◌<◌, ℕ, Bool, true, false, List, [], ◌∷◌, Option, Some, None, is_ok, if◌then◌else◌}
 use Rattle.std.proofs.Common.{refl, ap, sym, subst, ◌∙◌}
 use Rattle.seize_acts.specs.Answers.{Grant}
-use Rattle.papaya_moments.specs.Given.Seize.World.{Row, World, times}
-use Rattle.papaya_moments.specs.Given.Tables.declared.node.Node.{Node}
+use Rattle.papaya_moments.specs.Given.Seize.World.{Row, times}
 use Rattle.papaya_moments.specs.Given.Raw.Machine.{machine_asked, machine_plan, machine_replied}
 use Rattle.papaya_moments.specs.Given.Raw.declared.machines.asking.Reply.{Reply as Told}
 use Rattle.papaya_moments.specs.Given.Finishes.Endings.{Finishing, FinishingFacts}
@@ -11,7 +10,6 @@ use Rattle.papaya_moments.specs.Given.Finishes.Machines.{machine_of}
 use Rattle.papaya_moments.proofs.Given.Finishes.Ends.CountedBlocks.{some_last}
 use Rattle.papaya_moments.proofs.Given.Finishes.Ends.OrdersOnce.{plain_order}
 use Rattle.papaya_moments.specs.Given.Schedules.declared.effect.Effect.{Effect}
-use Rattle.papaya_moments.specs.Given.Schedules.declared.outcome.Outcome.{Outcome}
 use Rattle.papaya_moments.specs.Given.Schedules.declared.outcome.Outcome.TheVariants as outcome
 use Rattle.papaya_moments.specs.Given.Schedules.Effects.{with_effects}
 use Rattle.papaya_moments.specs.Given.Schedules.Moment.{Moment}
@@ -23,7 +21,6 @@ use Rattle.papaya_moments.specs.Given.Teller.declared.changed.Changed.{Changed}
 use Rattle.papaya_moments.specs.Given.Teller.declared.changed.Changed.TheVariants.{Nothing as NoChange}
 use Rattle.papaya_moments.specs.Given.Scenes.Held.{Held, IsAt}
 use Rattle.papaya_moments.specs.Given.Scenes.Scene.{HasNoCall, IsOnSlot, Scene, row_of, slot_of}
-use Rattle.papaya_moments.specs.Given.Scenes.declared.row.SlotRow.{SlotRow}
 use Rattle.papaya_moments.proofs.Given.Follows.Operations.{Operated, operated}
 use Rattle.papaya_moments.proofs.Given.Others.RowPlans.{row_operated, row_tells}
 use Rattle.papaya_moments.proofs.Given.Scenes.May.{may_row, may_step}

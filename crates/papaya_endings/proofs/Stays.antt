@@ -1,5 +1,5 @@
 -- Wherever a list of acts has led each map that ends goes on to end, and no two ends have one map.
-use Rattle.std.specs.Prelude.{◌≡◌, ℕ, Bool, [], Option, Some, None}
+use Rattle.std.specs.Prelude.{◌≡◌, ℕ, Bool, Option, Some, None}
 use Rattle.std.proofs.Common.{ap, sym, subst, ◌∙◌}
 use Rattle.papaya_moments.specs.Given.Seize.declared.rows.reclaim_all.ReclaimAll.{ReclaimAll}
 use Rattle.papaya_moments.specs.Given.Tables.declared.setting.Setting.{Setting}
@@ -11,19 +11,17 @@ use Rattle.papaya_acts.specs.Acts.{Act, Answer, AsksCall, BeginsCall, BeginsEndi
 use Rattle.papaya_acts.specs.AsSteps.{LeadsAs, changed_by, held_in}
 use Rattle.papaya_acts.specs.Leads.{Led, MayBe}
 use Rattle.papaya_agrees.specs.Fresh.{HasNewNumber}
-use Rattle.papaya_deeds.specs.Deeds.{moment}
-use Rattle.papaya_played.specs.Play.{Ending, State, all_begun, all_stepped, first_state}
+use Rattle.papaya_played.specs.Play.{Ending, State, all_begun, first_state}
 use Rattle.papaya_played.specs.Reached.{IsOf, rows_beside}
-use Rattle.papaya_played.proofs.Along.{At, StaysSo, far}
+use Rattle.papaya_played.proofs.Along.{At, StaysSo}
 use Rattle.papaya_played.proofs.PlayedAs.{PlayedAs, played_as, reclaimed_as}
 use Rattle.papaya_linear.proofs.Holding.{AllHolds}
 use Rattle.papaya_linear.proofs.Stays.{Of, all_stay}
-use Rattle.papaya_endings.specs.Going.{GoesOnToEnd}
 use Rattle.papaya_endings.specs.GoingOn.{EndsGoOn}
 use Rattle.papaya_endings.proofs.EndStepGoes.{end_step_goes}
 use Rattle.papaya_endings.proofs.EndingGoes.{begins_going}
 use Rattle.papaya_endings.proofs.MakingGoes.{making_goes}
-use Rattle.papaya_endings.proofs.Played.{ends_stay, quiet_go, row_goes, step_goes}
+use Rattle.papaya_endings.proofs.Played.{quiet_go, row_goes, step_goes}
 
 module _ {K V S : Type 0} (same : K → K → Bool) (by_hasher : S → K → ℕ) (hash : ℕ → K → ℕ) (batch_size roots : ℕ) (aborts : V) (x y : State K V S) (s n : Scene K V)
     (is : IsOf by_hasher s s.world.row x.now) (at : IsAt same hash (held_in batch_size roots NoChange s) s) (all : AllHolds same x s) (so : EndsGoOn x s) (told : Answer K V) where

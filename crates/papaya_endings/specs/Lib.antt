@@ -1,3 +1,4 @@
 pub mod Ends
 pub mod Going
 pub mod GoingOn
+pub mod InOrder
