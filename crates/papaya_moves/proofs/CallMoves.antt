@@ -1,0 +1,73 @@
+-- The step of a call, as it is played, does what a call may do, and leaves nothing behind once it is over.
+use Rattle.std.specs.Prelude.{◌≡◌, ◌⊎◌, ℕ, Bool, true, List, Option, Some, None}
+use Rattle.std.proofs.Common.{refl, ap, sym, subst, ◌∙◌, inl, inr}
+use Rattle.papaya_legal.specs.Given.SeizeWords.declared.fault.Fault.TheVariants.{Memory}
+use Rattle.papaya_legal.specs.Given.Tables.declared.node.Node.{Node}
+use Rattle.papaya_legal.specs.Given.Raw.declared.machines.progress.Progress.{Progress}
+use Rattle.papaya_legal.specs.Given.Raw.declared.machines.progress.Progress.TheVariants as progress
+use Rattle.papaya_legal.specs.Given.Schedules.declared.outcome.Outcome.{Outcome}
+use Rattle.papaya_legal.specs.Given.Schedules.declared.outcome.Outcome.TheVariants as outcome
+use Rattle.papaya_legal.specs.Given.Schedules.Effects.{with_effects}
+use Rattle.papaya_legal.specs.Given.Schedules.Entry.{IfCall}
+use Rattle.papaya_legal.specs.Given.Schedules.Handing.{LeavesOf, comes_clear, is_call_effect}
+use Rattle.papaya_legal.specs.Given.Schedules.Views.{call_of}
+use Rattle.papaya_legal.specs.Given.Callers.Together.{UnderWay}
+use Rattle.papaya_legal.specs.Given.Effects.Effects.{effects_of, known_after}
+use Rattle.papaya_legal.specs.Given.Effects.Known.{Known}
+use Rattle.papaya_legal.specs.Given.Effects.declared.acting.Acting.TheVariants as acts
+use Rattle.papaya_legal.specs.Given.Scenes.Held.{Held, IsAt}
+use Rattle.papaya_legal.specs.Given.Scenes.Scene.{Scene}
+use Rattle.papaya_legal.specs.Given.Scenes.Stepping.{StepLeads, has_ended}
+use Rattle.papaya_legal.specs.Given.Named.Seen.{kind_of}
+use Rattle.papaya_legal.specs.Given.Named.declared.kind.Kind.{Kind}
+use Rattle.papaya_legal.proofs.Given.Finds.Steps.{steps_do_theirs}
+use Rattle.papaya_deeds.specs.Deeds.{Entry, Steps, acted_on, map_of_call, moment, named}
+use Rattle.papaya_deeds.specs.History.{may_do, past}
+use Rattle.papaya_played.specs.Play.{Calling, State, is_refusal, outcome_of}
+use Rattle.papaya_played.proofs.Noted.{CallsAreNoted}
+use Rattle.papaya_linear.specs.Shown.{ShowsAnswers}
+use Rattle.papaya_moves.specs.Parts.{DoesIts}
+use Rattle.papaya_moves.proofs.Leaves.{leaves_nothing}
+use Rattle.papaya_moves.proofs.Parts.{all_also, granted_so, refuses_so}
+
+module _ {K V : Type 0} (known : Known) (kind : Kind) (value : Option V) where
+  -- a call is over, or ready, where its step says so
+  clear_so : (said : Progress (Node K V)) → comes_clear (outcome_of known kind value said) ≡ true → (has_ended said ≡ true) ⊎ (said ≡ progress.Ready)
+  clear_so (progress.Done answer) e = inl refl
+  clear_so (progress.Refused fault) e = inl refl
+  clear_so progress.Ready e = inr refl
+  clear_so progress.Goes e = absurd (cc e)
+  clear_so (progress.Gave node) e = absurd (cc e)
+  clear_so (progress.Unstored node) e = absurd (cc e)
+  clear_so progress.Waits e = absurd (cc e)
+  clear_so (progress.Asks word) e = absurd (cc e)
+  clear_so (progress.Pair word) e = absurd (cc e)
+
+  refused_so : (said : Progress (Node K V)) → said ≡ progress.Refused Memory → outcome_of known kind value said ≡ outcome.Refused Memory
+  refused_so said is = ap (outcome_of known kind value) is
+
+module _ {K V S : Type 0} (same : K → K → Bool) (hash : ℕ → K → ℕ) (x : State K V S) (s : Scene K V) (old new : Held K V) (at : IsAt same hash old s)
+    (all : ShowsAnswers same (past x.history) (moment x.history) x.known s) (noted : CallsAreNoted x) (i m : ℕ) (c : Calling K V) (here : x.now.calls m i ≡ Some c) (u : UnderWay K V K)
+    (under : s.calls m i ≡ Some u) (said : Progress (Node K V)) (leads : StepLeads same hash i said s old new) where
+  abbrev o : Outcome V
+  o = outcome_of (known_after (acts.Call i m) new.changed x.known) (kind_of c.call) c.value said
+
+  abbrev entry : Entry K V
+  entry = record { deed = Steps i; outcome = o; effects = effects_of (acts.Call i m) x.known new.changed; refused = is_refusal new.changed }
+
+  -- it acts on its map
+  pub acted : acted_on {K = K} {V = V} (Steps i) (moment x.history) ≡ Some m
+  acted = let its = noted m i c here in ap map_of_call its.1 ∙ ap Some its.2
+
+  pub steps_move : DoesIts x.history entry
+  steps_move = record {
+    may = all_also is_call_effect (may_do {K = K} {V = V} (Steps i)) (λ f is. is) entry.effects
+        (steps_do_theirs K V same hash named (moment x.history) x.known s old new at all.whole m i u under said leads);
+    granted = granted_so (acts.Call i m) x.known new.changed;
+    refuses = refuses_so (acts.Call i m) x.known new.changed;
+    whole = tt;
+    leaves = subst (λ (on : Option ℕ). IfCall (LeavesOf (comes_clear o) o) (call_of (named i) (with_effects (Some (named i)) on entry.effects (moment x.history)))) (sym acted)
+        (leaves_nothing same hash named (moment x.history) x.known s old new at all.whole all.kept m i u under said leads o
+        (refused_so (known_after (acts.Call i m) new.changed x.known) (kind_of c.call) c.value said)
+        (clear_so (known_after (acts.Call i m) new.changed x.known) (kind_of c.call) c.value said));
+  }

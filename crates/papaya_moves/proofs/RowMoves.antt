@@ -1,0 +1,69 @@
+-- The step of a row on a slot, and one by which all is reclaimed, as they are played: they do what they may.
+use Rattle.std.specs.Prelude.{◌≡◌, ℕ, Bool, true, List, [], ◌∷◌, map}
+use Rattle.std.specs.List.{list_all}
+use Rattle.std.proofs.Common.{refl, sym, subst}
+use Rattle.papaya_legal.specs.Given.Seize.declared.rows.reclaim_all.ReclaimAll.{ReclaimAll}
+use Rattle.papaya_legal.specs.Given.Seize.declared.rows.settle.Settled.{Settled}
+use Rattle.papaya_legal.specs.Given.Tables.declared.node.Node.{Node}
+use Rattle.papaya_legal.specs.Given.Schedules.declared.effect.Effect.{Effect}
+use Rattle.papaya_legal.specs.Given.Schedules.declared.effect.Effect.TheVariants.{Reclaimed}
+use Rattle.papaya_legal.specs.Given.Schedules.declared.effect.Thing.{Thing}
+use Rattle.papaya_legal.specs.Given.Schedules.declared.outcome.Outcome.{Outcome}
+use Rattle.papaya_legal.specs.Given.Schedules.Handing.{is_reclaiming}
+use Rattle.papaya_legal.specs.Given.Teller.declared.changed.Changed.{Changed}
+use Rattle.papaya_legal.specs.Given.Effects.Effects.{effects_of}
+use Rattle.papaya_legal.specs.Given.Effects.Known.{Known}
+use Rattle.papaya_legal.specs.Given.Effects.declared.acting.Acting.TheVariants as acts
+use Rattle.papaya_legal.specs.Given.Scenes.Held.{Held, IsAt}
+use Rattle.papaya_legal.specs.Given.Scenes.OnSlots.{RowLeads}
+use Rattle.papaya_legal.specs.Given.Scenes.Reclaiming.{IsReclaiming, ReclaimingLeads}
+use Rattle.papaya_legal.specs.Given.Scenes.Scene.{IsOnSlot, Scene}
+use Rattle.papaya_legal.specs.Given.Scenes.declared.row.RowTold.{RowTold}
+use Rattle.papaya_legal.specs.Given.Scenes.declared.row.SlotRow.{SlotRow}
+use Rattle.papaya_legal.proofs.OfAll.Tells.{gone_by, it_reclaims}
+use Rattle.papaya_works.proofs.Steps.{takes_no_own}
+use Rattle.papaya_deeds.specs.Deeds.{Deed, Entry, Leaves, Opens, ReclaimsAll, Registers, Shuts, Tends, moment, named}
+use Rattle.papaya_deeds.specs.History.{may_do, past}
+use Rattle.papaya_played.specs.Play.{State, is_over, is_refusal, row_deed, settled_outcome}
+use Rattle.papaya_linear.specs.Shown.{ShowsAnswers}
+use Rattle.papaya_linear.proofs.RowsPlayed.{IsOfRow, is_of_row}
+use Rattle.papaya_moves.specs.Parts.{DoesIts}
+use Rattle.papaya_moves.proofs.Parts.{all_also, granted_so, refuses_so}
+use Rattle.papaya_moves.proofs.RowKinds.{row_may}
+
+module _ {K V : Type 0} (log : List (Entry K V)) (o : Outcome V) (known : Known) (changed : Changed) where
+  abbrev of : Deed K V → Entry K V
+  of d = record { deed = d; outcome = o; effects = effects_of acts.Row known changed; refused = is_refusal changed }
+
+  -- what is done on a slot, or to reclaim all, moves on if it may be done
+  pub of_row : (d : Deed K V) → IsOfRow d → list_all (may_do d) (effects_of acts.Row known changed) ≡ true → DoesIts log (of d)
+  of_row (Registers s) is may = record { may = may; granted = granted_so acts.Row known changed; refuses = refuses_so acts.Row known changed; whole = tt; leaves = tt }
+  of_row (Opens s) is may = record { may = may; granted = granted_so acts.Row known changed; refuses = refuses_so acts.Row known changed; whole = tt; leaves = tt }
+  of_row (Shuts s) is may = record { may = may; granted = granted_so acts.Row known changed; refuses = refuses_so acts.Row known changed; whole = tt; leaves = tt }
+  of_row (Leaves s) is may = record { may = may; granted = granted_so acts.Row known changed; refuses = refuses_so acts.Row known changed; whole = tt; leaves = tt }
+  of_row (Tends s) is may = record { may = may; granted = granted_so acts.Row known changed; refuses = refuses_so acts.Row known changed; whole = tt; leaves = tt }
+  of_row (ReclaimsAll last) is may = record { may = may; granted = granted_so acts.Row known changed; refuses = refuses_so acts.Row known changed; whole = tt; leaves = tt }
+  of_row _ is may = absurd is
+
+all_reclaim : (things : List Thing) → list_all is_reclaiming (map Reclaimed things) ≡ true
+all_reclaim [] = refl
+all_reclaim (y ∷ ys) = all_reclaim ys
+
+module _ {K V S : Type 0} (same : K → K → Bool) (hash : ℕ → K → ℕ) (x : State K V S) (s : Scene K V) (old new : Held K V) (all : ShowsAnswers same (past x.history) (moment x.history) x.known s) where
+  pub rows_move : IsAt same hash old s → (i : ℕ) (row : SlotRow) (here : IsOnSlot s i row) (said : RowTold (Node K V)) → RowLeads same hash i said s old new → (o : Outcome V)
+      → DoesIts x.history (record { deed = row_deed row; outcome = o; effects = effects_of acts.Row x.known new.changed; refused = is_refusal new.changed })
+  rows_move at i row here said leads o =
+      let to = leads row here in
+      of_row x.history o x.known new.changed (row_deed row) (is_of_row K V row)
+      (row_may old.memory new.memory new.changed (to.0, said) x.known
+      (λ b took. takes_no_own same hash named (moment x.history) x.known s old new at all.whole.all.shown all.kept.made all.kept.tables i row here (to.0, said) to.1 to.2 b took) row to.1)
+
+  pub reclaiming_moves : (i : ℕ) (lists : ℕ → List ℕ) (before next : ReclaimAll) (told : Settled (Node K V)) → IsReclaiming same hash old s i lists before
+      → ReclaimingLeads same hash s i lists old new before next told
+      → DoesIts x.history (record { deed = ReclaimsAll (is_over told); outcome = settled_outcome told; effects = effects_of acts.Row x.known new.changed; refused = is_refusal new.changed })
+  reclaiming_moves i lists before next told at leads =
+      let deed : Deed K V = ReclaimsAll (is_over told) in
+      of_row x.history (settled_outcome told) x.known new.changed deed tt
+      (all_also is_reclaiming (may_do deed) (λ f is. is) (effects_of acts.Row x.known new.changed)
+      (subst (λ (fs : List Effect). list_all is_reclaiming fs ≡ true)
+      (sym (it_reclaims same hash named (moment x.history) x.known s all.whole all.kept old new i lists before next told at leads)) (all_reclaim (gone_by x.known new.changed))))

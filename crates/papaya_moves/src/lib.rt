@@ -1,0 +1,4 @@
+//! Entries of histories of lists of acts do what is their own.
+#![tactic(auto)]
+
+pub mod law;
