@@ -3,7 +3,6 @@ pub mod Leaves
 pub mod CallMoves
 pub mod RowKinds
 pub mod RowMoves
-pub mod RowFinds
 pub mod Rooted
 pub mod Counted
 pub mod MakingMoves
