@@ -1,10 +1,8 @@
 -- By each act but the step of an end the entry that it makes moves on, but for what its effects find; and what was made for maps under way stays counted.
-use Rattle.std.specs.Prelude.{◌≡◌, ◌≢◌, ℕ, Bool, true, false, List, [], ◌∷◌, Option, Some, None, is_ok, if◌then◌else◌}
+use Rattle.std.specs.Prelude.{◌≡◌, ℕ, Bool, true, false, List, [], ◌∷◌, is_ok, if◌then◌else◌}
 use Rattle.std.proofs.Common.{refl, ap, sym, subst, ◌∙◌}
 use Rattle.seize_acts.specs.Answers.{Grant}
-use Rattle.seize_acts.proofs.Answers.{same_some}
-use Rattle.papaya_legal.specs.Given.SeizeWords.Mem.{Mem}
-use Rattle.papaya_legal.specs.Given.Seize.World.{Row, World}
+use Rattle.papaya_legal.specs.Given.Seize.World.{Row}
 use Rattle.papaya_legal.specs.Given.Seize.declared.progress.Progress.{Progress}
 use Rattle.papaya_legal.specs.Given.Seize.declared.progress.Progress.TheVariants as progress
 use Rattle.papaya_legal.specs.Given.Tables.declared.node.Node.{Node}
@@ -17,24 +15,21 @@ use Rattle.papaya_legal.specs.Given.Raw.declared.machines.progress.Progress.{Pro
 use Rattle.papaya_legal.specs.Given.Schedules.After.{AtEachEvent}
 use Rattle.papaya_legal.specs.Given.Schedules.declared.outcome.Outcome.{Outcome}
 use Rattle.papaya_legal.specs.Given.Schedules.declared.outcome.Outcome.TheVariants as outcome
-use Rattle.papaya_legal.specs.Given.Schedules.Moment.{Moment}
-use Rattle.papaya_legal.specs.Given.Schedules.Views.{capacity_or, map_at, tables_of}
-use Rattle.papaya_legal.specs.Given.Teller.Tells.{StepsTold}
+use Rattle.papaya_legal.specs.Given.Schedules.Views.{capacity_or, map_at}
 use Rattle.papaya_legal.specs.Given.Teller.declared.changed.Changed.{Changed}
 use Rattle.papaya_legal.specs.Given.Teller.declared.changed.Changed.TheVariants.{Nothing as NoChange}
 use Rattle.papaya_legal.specs.Given.Effects.Effects.{effects_of}
 use Rattle.papaya_legal.specs.Given.Effects.declared.acting.Acting.TheVariants as acts
-use Rattle.papaya_legal.specs.Given.Finishes.Makings.{Beginning}
 use Rattle.papaya_legal.specs.Given.Scenes.Held.{Held, IsAt}
 use Rattle.papaya_legal.specs.Given.Scenes.Making.{MakingLeads}
 use Rattle.papaya_legal.specs.Given.Scenes.Scene.{IsOnSlot, Scene, row_of, slot_of}
-use Rattle.papaya_acts.specs.Acts.{Act, Answer, BeginsCall, StepsCall, TellsCall, AsksCall, StopsCall, BeginsMaking, StepsMaking, BeginsEnding, BeginsRow, StepsRow, OfCall, OfMaking, Wanted}
+use Rattle.papaya_acts.specs.Acts.{Act, Answer, BeginsCall, StepsCall, TellsCall, AsksCall, StopsCall, StepsMaking, StepsRow, OfCall, OfMaking, Wanted}
 use Rattle.papaya_acts.specs.AsSteps.{LeadsAs, changed_by, changed_of, held_in, row_changed, row_told}
 use Rattle.papaya_acts.specs.Leads.{Led, MayBe}
 use Rattle.papaya_acts.proofs.AsSteps.Told.{was_told}
 use Rattle.papaya_deeds.specs.Deeds.{Begins, Deed, Entry, Replies, Stops, moment}
 use Rattle.papaya_deeds.specs.History.{made_for}
-use Rattle.papaya_played.specs.Play.{Calling, Making, State, call_begun, call_for, call_stepped, has_root, is_refusal, making_deed, making_outcome, making_stepped, pairs_for, reply_for, row_outcome, row_stepped}
+use Rattle.papaya_played.specs.Play.{State, call_for, call_stepped, has_root, is_refusal, making_deed, making_outcome, pairs_for, reply_for, row_outcome, row_stepped}
 use Rattle.papaya_played.specs.Reached.{IsOf, row_or_rests}
 use Rattle.papaya_played.proofs.PlayedAs.{PlayedAs}
 use Rattle.papaya_works.specs.Makings.{in_hand, table_left}
@@ -45,7 +40,7 @@ use Rattle.papaya_linear.proofs.MakesRight.{was_new}
 use Rattle.papaya_linear.proofs.Tied.{MakingTied, call_tied, making_tied}
 use Rattle.papaya_moves.specs.Parts.{DoesIts}
 use Rattle.papaya_moves.proofs.CallMoves.{steps_move}
-use Rattle.papaya_moves.proofs.MadeHolds.{IsComing, MadeHolds}
+use Rattle.papaya_moves.proofs.MadeHolds.{MadeHolds}
 use Rattle.papaya_moves.proofs.MakingMoves.{makings_move}
 use Rattle.papaya_moves.proofs.Parts.{IsQuiet, quiet_moves}
 use Rattle.papaya_moves.proofs.Rooted.{Rooted, step_rooted}

@@ -1,12 +1,11 @@
 -- How many tables were made for a map, as its making goes on: so many as it has in hand; and the map has the capacity for the places that it is to have.
-use Rattle.std.specs.Prelude.{◌≡◌, ◌≢◌, ◌==◌, ◌+◌, ◌*◌, ◌/◌, ℕ, zero, suc, Bool, true, false, List, [], ◌∷◌, length, filter, Option, Some, None, if◌then◌else◌}
-use Rattle.std.proofs.Common.{refl, ap, sym, ◌∙◌, arith, eqb-true}
+use Rattle.std.specs.Prelude.{◌≡◌, ◌≢◌, ◌==◌, ℕ, zero, suc, Bool, true, false, List, [], ◌∷◌, length, filter, if◌then◌else◌}
+use Rattle.std.proofs.Common.{refl, ap, sym, ◌∙◌, arith}
 use Rattle.std.proofs.lemmas.Bool.{eq-eqb, ne_eqb}
 use Rattle.papaya_legal.specs.Given.Resize.declared.new_map.Opening.{Opening}
 use Rattle.papaya_legal.specs.Given.Resize.declared.new_map.Opening.TheVariants as openings
 use Rattle.papaya_legal.specs.Given.Schedules.declared.effect.Effect.{Effect}
 use Rattle.papaya_legal.specs.Given.Schedules.declared.effect.Effect.TheVariants.{TableMade}
-use Rattle.papaya_legal.specs.Given.Schedules.Effects.{with_effects}
 use Rattle.papaya_legal.specs.Given.Schedules.Handing.{is_table_made}
 use Rattle.papaya_legal.specs.Given.Schedules.Moment.{Moment}
 use Rattle.papaya_legal.specs.Given.Schedules.Views.{capacity_or, map_at}

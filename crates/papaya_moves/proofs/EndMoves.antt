@@ -1,5 +1,5 @@
 -- The step of the end of a map does what it may, where what it reclaims is next, and nothing is left once it is over.
-use Rattle.std.specs.Prelude.{◌≡◌, ◌&&◌, ℕ, Bool, true, false, List, [], ◌∷◌, Option, Some, None}
+use Rattle.std.specs.Prelude.{◌≡◌, ◌&&◌, ℕ, Bool, true, List, [], ◌∷◌, Option, Some, None}
 use Rattle.std.specs.List.{list_all}
 use Rattle.std.proofs.Common.{refl, ap, ◌∙◌}
 use Rattle.papaya_legal.specs.Given.Schedules.declared.effect.Effect.{Effect}

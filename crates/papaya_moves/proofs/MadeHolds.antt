@@ -1,5 +1,5 @@
 -- Of each map whose making is under way so many tables were made as it has in hand, and it has the capacity for its places; for a number with which no map has come none was made.
-use Rattle.std.specs.Prelude.{◌≡◌, ◌≢◌, ◌+◌, ℕ, Bool, true, false, List, [], ◌∷◌, ◌++◌, Option, Some, None, if◌then◌else◌, is_ok}
+use Rattle.std.specs.Prelude.{◌≡◌, ◌≢◌, ℕ, Bool, true, false, List, [], ◌∷◌, ◌++◌, Option, Some, None, if◌then◌else◌, is_ok}
 use Rattle.std.proofs.Common.{refl, ap, sym, subst, ◌∙◌, arith}
 use Rattle.seize_acts.specs.Answers.{Grant}
 use Rattle.seize_acts.proofs.Answers.{same_some}
@@ -22,9 +22,9 @@ use Rattle.papaya_acts.specs.AsSteps.{changed_of}
 use Rattle.papaya_agrees.specs.Fresh.{HasNewNumber, has_come}
 use Rattle.papaya_agrees.proofs.Fresh.{not_come}
 use Rattle.papaya_agrees.proofs.Numbers.{with_so}
-use Rattle.papaya_deeds.specs.Deeds.{Begins, Deed, Ends, Entry, Leaves, MapGoes, Opens, ReclaimsAll, Registers, Replies, Shuts, Steps, Stops, Tends, after, moment}
+use Rattle.papaya_deeds.specs.Deeds.{Deed, Ends, Entry, Leaves, MapGoes, Opens, ReclaimsAll, Registers, Replies, Shuts, Steps, Stops, Tends, after, moment}
 use Rattle.papaya_deeds.specs.History.{made_for}
-use Rattle.papaya_played.specs.Play.{Ending, Making, Now, State, call_for, did, ending_deed, has_root, is_over, is_refusal, pairs_for, reply_for, row_deed, settled_outcome}
+use Rattle.papaya_played.specs.Play.{Ending, Making, Now, State, did, ending_deed, has_root, is_over, is_refusal, pairs_for, reply_for, row_deed, settled_outcome}
 use Rattle.papaya_played.proofs.PlayedAs.{PlayedAs, ReclaimedAs}
 use Rattle.papaya_works.specs.Makings.{in_hand, table_left}
 use Rattle.papaya_linear.specs.Coming.{AreNamed}

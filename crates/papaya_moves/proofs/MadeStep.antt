@@ -1,8 +1,7 @@
 -- What was made for maps under way stays counted by the step of a making, too.
 use Rattle.std.specs.Prelude.{◌≡◌, ◌≢◌, ◌⊎◌, ◌+◌, ℕ, Bool, true, false, List, [], ◌∷◌, length, filter, Option, Some, None}
-use Rattle.std.proofs.Common.{refl, ap, sym, subst, ◌∙◌, arith, inl, inr}
+use Rattle.std.proofs.Common.{refl, ap, sym, ◌∙◌, arith, inl, inr}
 use Rattle.std.proofs.lemmas.Bool.{cases_eq}
-use Rattle.seize_acts.proofs.Answers.{same_some}
 use Rattle.papaya_legal.specs.Given.Seize.World.{with_at}
 use Rattle.papaya_legal.specs.Given.Seize.declared.progress.Progress.{Progress}
 use Rattle.papaya_legal.specs.Given.Seize.declared.progress.Progress.TheVariants as progress
@@ -24,9 +23,9 @@ use Rattle.papaya_acts.specs.Acts.{Answer}
 use Rattle.papaya_agrees.specs.Fresh.{has_come}
 use Rattle.papaya_agrees.proofs.Fresh.{not_come}
 use Rattle.papaya_agrees.proofs.Numbers.{NumbersHold}
-use Rattle.papaya_deeds.specs.Deeds.{Deed, Entry, Makes, MapComes, MapFails, after, come, moment, named}
+use Rattle.papaya_deeds.specs.Deeds.{Deed, Entry, after, come, moment, named}
 use Rattle.papaya_deeds.specs.History.{made_by, made_for}
-use Rattle.papaya_played.specs.Play.{Making, Now, State, has_root, is_refusal, made_on, making_outcome, pairs_for}
+use Rattle.papaya_played.specs.Play.{Making, Now, State, has_root, is_refusal, making_outcome, pairs_for}
 use Rattle.papaya_works.specs.Makings.{in_hand, table_left}
 use Rattle.papaya_linear.specs.Coming.{AreNamed}
 use Rattle.papaya_linear.proofs.Coming.{come_leaves, come_there, gone_leaves}

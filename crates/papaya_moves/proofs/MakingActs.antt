@@ -1,10 +1,10 @@
 -- By the step of a making, too, what was made for maps under way stays counted.
-use Rattle.std.specs.Prelude.{◌≡◌, ◌≢◌, ◌+◌, ℕ, Bool, true, false, List, [], ◌∷◌, ◌++◌, length, filter, Option, Some, None}
+use Rattle.std.specs.Prelude.{◌≡◌, ◌≢◌, ◌+◌, ℕ, Bool, true, false, List, [], ◌∷◌, length, filter, Option, Some, None}
 use Rattle.std.proofs.Common.{refl, ap, sym, subst, ◌∙◌}
 use Rattle.seize_acts.specs.Answers.{Grant}
 use Rattle.seize_acts.proofs.Answers.{same_some}
 use Rattle.papaya_legal.specs.Given.SeizeWords.Mem.{Mem}
-use Rattle.papaya_legal.specs.Given.Seize.World.{Row, World, with_at}
+use Rattle.papaya_legal.specs.Given.Seize.World.{World, with_at}
 use Rattle.papaya_legal.specs.Given.Seize.declared.progress.Progress.{Progress}
 use Rattle.papaya_legal.specs.Given.Seize.declared.progress.Progress.TheVariants as progress
 use Rattle.papaya_legal.specs.Given.Tables.declared.node.Node.{Node}
@@ -21,15 +21,14 @@ use Rattle.papaya_legal.specs.Given.Effects.Effects.{effects_of, known_after}
 use Rattle.papaya_legal.specs.Given.Effects.declared.acting.Acting.TheVariants as acts
 use Rattle.papaya_legal.specs.Given.Finishes.Endings.{MakingStepsAmong}
 use Rattle.papaya_legal.specs.Given.Finishes.Makings.{Beginning}
-use Rattle.papaya_legal.specs.Given.Others.Makings.{IsNew}
 use Rattle.papaya_legal.specs.Given.Scenes.Held.{Held, IsAt}
 use Rattle.papaya_legal.specs.Given.Scenes.Making.{MakingComesTo, MakingLeads}
 use Rattle.papaya_legal.specs.Given.Scenes.Scene.{Scene, slot_of}
 use Rattle.papaya_legal.proofs.Given.Callers.Together.At.{at_same}
 use Rattle.papaya_legal.proofs.Given.Others.MakingGoes.{new_maps_stay}
-use Rattle.papaya_acts.specs.Acts.{Act, Answer, StepsMaking, OfMaking}
-use Rattle.papaya_acts.specs.AsSteps.{LeadsAs, MadeTo, changed_by, changed_of, held_in}
-use Rattle.papaya_acts.specs.Leads.{Led, MakingCame, making_steps}
+use Rattle.papaya_acts.specs.Acts.{Answer, StepsMaking}
+use Rattle.papaya_acts.specs.AsSteps.{MadeTo, changed_by, changed_of, held_in}
+use Rattle.papaya_acts.specs.Leads.{MakingCame, making_steps}
 use Rattle.papaya_acts.proofs.AsSteps.Told.{was_told}
 use Rattle.papaya_agrees.proofs.Numbers.{NumbersHold}
 use Rattle.papaya_agrees.proofs.Openings.{rootless_quiet}
@@ -37,14 +36,12 @@ use Rattle.papaya_deeds.specs.Deeds.{Entry, moment, named}
 use Rattle.papaya_deeds.specs.History.{made_for}
 use Rattle.papaya_played.specs.Play.{Making, Now, State, has_root, is_refusal, made_on, making_deed, making_outcome, pairs_for}
 use Rattle.papaya_played.specs.Reached.{IsOf, made_so, makes_so}
-use Rattle.papaya_played.proofs.PlayedAs.{PlayedAs}
 use Rattle.papaya_works.specs.Makings.{in_hand, table_left}
 use Rattle.papaya_linear.specs.Coming.{Comes, ComesBy, MapsComeAndGo}
 use Rattle.papaya_linear.proofs.Coming.{comes_bare}
 use Rattle.papaya_linear.proofs.Holds.{Holds}
 use Rattle.papaya_linear.proofs.MakesRight.{was_new}
 use Rattle.papaya_linear.proofs.StepsPlayed.{there_alike}
-use Rattle.papaya_linear.proofs.Tied.{MakingTied, making_tied}
 use Rattle.papaya_moves.proofs.MadeHolds.{IsComing, MadeHolds}
 use Rattle.papaya_moves.proofs.MadeStep.{own_then, then_made}
 use Rattle.papaya_moves.proofs.MakingMoves.{counts as counts_made, frees_quietly}

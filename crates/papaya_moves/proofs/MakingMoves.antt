@@ -1,16 +1,15 @@
 -- The step of the making of a map, as it is played, does what it may: the map has just the table that was made for it where it has a capacity, and where it is refused none was made.
-use Rattle.std.specs.Prelude.{◌≡◌, ◌≢◌, ◌==◌, ◌+◌, ℕ, suc, Bool, true, false, List, [], ◌∷◌, ◌++◌, length, filter, Some, None, if◌then◌else◌}
+use Rattle.std.specs.Prelude.{◌≡◌, ◌==◌, ◌+◌, ℕ, Bool, true, false, List, [], length, filter, Some, None, if◌then◌else◌}
 use Rattle.std.specs.List.{list_all}
-use Rattle.std.proofs.Common.{refl, ap, sym, subst, ◌∙◌, arith, inl, inr, length-append}
+use Rattle.std.proofs.Common.{refl, ap, sym, ◌∙◌, arith, inl, inr, length-append}
 use Rattle.std.proofs.lemmas.Bool.{ne_eqb}
 use Rattle.std.proofs.lemmas.List.Elements.{filter-append}
 use Rattle.papaya_legal.specs.Given.SeizeWords.Mem.{Mem}
-use Rattle.papaya_legal.specs.Given.Seize.World.{World, with_at}
 use Rattle.papaya_legal.specs.Given.Seize.declared.progress.Progress.{Progress}
 use Rattle.papaya_legal.specs.Given.Seize.declared.progress.Progress.TheVariants as progress
 use Rattle.papaya_legal.specs.Given.Tables.declared.node.Node.{Node}
 use Rattle.papaya_legal.specs.Given.Tables.declared.setting.Setting.{Setting}
-use Rattle.papaya_legal.specs.Given.Resize.NewMap.{new_map_plan, plan_at}
+use Rattle.papaya_legal.specs.Given.Resize.NewMap.{plan_at}
 use Rattle.papaya_legal.specs.Given.Resize.declared.new_map.NewMap.{NewMap}
 use Rattle.papaya_legal.specs.Given.Resize.declared.new_map.Opening.{Opening}
 use Rattle.papaya_legal.specs.Given.Resize.declared.new_map.Opening.TheVariants as openings
@@ -19,7 +18,6 @@ use Rattle.papaya_legal.specs.Given.Teller.Tells.{StepsTold}
 use Rattle.papaya_legal.specs.Given.Teller.declared.changed.Changed.{Changed}
 use Rattle.papaya_legal.specs.Given.Teller.declared.changed.Changed.TheVariants as changed
 use Rattle.papaya_legal.specs.Given.Schedules.declared.effect.Effect.{Effect}
-use Rattle.papaya_legal.specs.Given.Schedules.declared.outcome.Outcome.{Outcome}
 use Rattle.papaya_legal.specs.Given.Schedules.Effects.{with_effects}
 use Rattle.papaya_legal.specs.Given.Schedules.Handing.{is_first_making, is_granted, is_table_made}
 use Rattle.papaya_legal.specs.Given.Schedules.Moment.{Moment}
@@ -29,7 +27,6 @@ use Rattle.papaya_legal.specs.Given.Effects.Effects.{effects_of, known_after}
 use Rattle.papaya_legal.specs.Given.Effects.Known.{Known}
 use Rattle.papaya_legal.specs.Given.Effects.declared.acting.Acting.TheVariants as acts
 use Rattle.papaya_legal.specs.Given.Finishes.Makings.{Beginning, IsNewChart, MakingFacts}
-use Rattle.papaya_legal.specs.Given.Finishes.Maps.{Standing}
 use Rattle.papaya_legal.specs.Given.Follows.Shows.{Shows}
 use Rattle.papaya_legal.specs.Given.Others.Makings.{WasNew, making_after}
 use Rattle.papaya_legal.specs.Given.Scenes.Held.{Held, IsAt}
@@ -39,7 +36,7 @@ use Rattle.papaya_legal.proofs.Given.Callers.Together.At.{at_same}
 use Rattle.papaya_legal.proofs.Given.Finds.Capacities.{effects_keep_capacities}
 use Rattle.papaya_legal.proofs.Given.Follows.Finds.{tables_many}
 use Rattle.papaya_agrees.proofs.Openings.{rootless_quiet}
-use Rattle.papaya_deeds.specs.Deeds.{Deed, Entry, Makes, MapComes, MapFails, at_work, moment, named}
+use Rattle.papaya_deeds.specs.Deeds.{Entry, Makes, MapComes, MapFails, moment, named}
 use Rattle.papaya_deeds.specs.History.{IsWhole, Refuses, made_by, made_for, may_do, past, transition}
 use Rattle.papaya_played.specs.Play.{State, has_root, is_refusal, making_outcome, pairs_for}
 use Rattle.papaya_works.proofs.Makings.{makings_do_theirs}

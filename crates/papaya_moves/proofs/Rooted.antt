@@ -1,6 +1,6 @@
 -- How a step of the making of a map leaves its root: one that has it gives it up where it frees it alone; one that is refused has none then; and one that is done has it.
-use Rattle.std.specs.Prelude.{◌==◌, ◌-◌, nat_lt, Ok, Err, Some, if◌then◌else◌}
-use Rattle.std.proofs.Common.{◌≡◌, ℕ, ◌+◌, Bool, true, false, [], refl, ap, sym, subst, ◌∙◌}
+use Rattle.std.specs.Prelude.{◌==◌, ◌-◌, nat_lt, Ok, Err, if◌then◌else◌}
+use Rattle.std.proofs.Common.{◌≡◌, ◌+◌, Bool, true, false, refl, ap, sym, subst}
 use Rattle.papaya_legal.specs.Given.SeizeWords.Mem.{Mem, value_at}
 use Rattle.papaya_legal.specs.Given.SeizeWords.Op.{Out, Exchanged, Made}
 use Rattle.papaya_legal.specs.Given.SeizeWords.Plan.{Ends as EndsSo}

@@ -36,7 +36,7 @@ use Rattle.papaya_legal.specs.Given.Scenes.declared.row.RowTold.{RowTold}
 use Rattle.papaya_legal.specs.Given.Scenes.declared.row.SlotRow.{SlotRow}
 use Rattle.papaya_legal.specs.Given.Scenes.declared.row.SlotRow.TheVariants as rows
 use Rattle.papaya_works.proofs.Steps.{IsNoOwn, IsTaking, Tells, asks_alone, does_nothing, enters_tell, flushes_tell, frees_tell, leaves_tell, reclaims_alone, registers_tell}
-use Rattle.papaya_deeds.specs.Deeds.{Deed, Leaves, Opens, Registers, Shuts, Tends}
+use Rattle.papaya_deeds.specs.Deeds.{Leaves, Opens, Registers, Shuts, Tends}
 use Rattle.papaya_deeds.specs.History.{may_do}
 use Rattle.papaya_played.specs.Play.{leaves_as, registers_as, row_deed}
 use Rattle.papaya_moves.proofs.Parts.{all_also, none_may}

@@ -1,8 +1,7 @@
 -- Wherever a list of acts has led each entry of its history moves on, but for what its effects find.
-use Rattle.std.specs.Prelude.{◌≡◌, ◌≢◌, ◌<◌, ◌^◌, ◌++◌, ℕ, Bool, true, false, List, [], ◌∷◌, Option, Some, None, if◌then◌else◌}
+use Rattle.std.specs.Prelude.{◌≡◌, ◌≢◌, ◌++◌, ℕ, Bool, List, [], ◌∷◌, Option, Some, if◌then◌else◌}
 use Rattle.std.proofs.Common.{refl, ap, sym, subst, ◌∙◌}
 use Rattle.seize_acts.specs.Answers.{Grant}
-use Rattle.papaya_legal.specs.Given.SeizeWords.Mem.{Mem}
 use Rattle.papaya_legal.specs.Given.Seize.declared.progress.Progress.{Progress}
 use Rattle.papaya_legal.specs.Given.Seize.declared.rows.reclaim_all.ReclaimAll.{ReclaimAll}
 use Rattle.papaya_legal.specs.Given.Seize.declared.rows.settle.Settled.{Settled}
@@ -10,15 +9,13 @@ use Rattle.papaya_legal.specs.Given.Seize.declared.rows.settle.Settled.TheVarian
 use Rattle.papaya_legal.specs.Given.Tables.declared.node.Node.{Node}
 use Rattle.papaya_legal.specs.Given.Tables.declared.setting.Setting.{Setting}
 use Rattle.papaya_legal.specs.Given.Resize.declared.new_map.NewMap.{NewMap}
-use Rattle.papaya_legal.specs.Given.Raw.declared.machines.end_map.EndMap.{EndMap}
 use Rattle.papaya_legal.specs.Given.Schedules.declared.effect.Effect.{Effect}
-use Rattle.papaya_legal.specs.Given.Schedules.Moment.{Moment}
 use Rattle.papaya_legal.specs.Given.Teller.declared.changed.Changed.TheVariants.{Nothing as NoChange}
 use Rattle.papaya_legal.specs.Given.Effects.Effects.{effects_of}
 use Rattle.papaya_legal.specs.Given.Effects.declared.acting.Acting.TheVariants as acts
 use Rattle.papaya_legal.specs.Given.Finishes.Endings.{Finishing}
 use Rattle.papaya_legal.specs.Given.Finishes.Makings.{Beginning}
-use Rattle.papaya_legal.specs.Given.Scenes.Ending.{EndingComesTo, EndingLeads}
+use Rattle.papaya_legal.specs.Given.Scenes.Ending.{EndingComesTo}
 use Rattle.papaya_legal.specs.Given.Scenes.Held.{Held, IsAt}
 use Rattle.papaya_legal.specs.Given.Scenes.Making.{MakingLeads}
 use Rattle.papaya_legal.specs.Given.Scenes.Scene.{Scene, slot_of}
@@ -27,7 +24,7 @@ use Rattle.papaya_acts.specs.AsSteps.{LeadsAs, MadeTo, changed_by, held_in}
 use Rattle.papaya_acts.specs.Leads.{Led, MayBe}
 use Rattle.papaya_agrees.specs.Fresh.{HasNewNumber}
 use Rattle.papaya_deeds.specs.Deeds.{Ends, Entry, MapGoes, moment}
-use Rattle.papaya_played.specs.Play.{Ending, Making, State, all_begun, ending_deed, ending_stepped, is_over, is_refusal, settled_outcome}
+use Rattle.papaya_played.specs.Play.{Ending, Making, State, all_begun, ending_stepped, is_over, is_refusal, settled_outcome}
 use Rattle.papaya_played.specs.Reached.{IsOf, made_so, makes_so, rows_beside}
 use Rattle.papaya_played.proofs.Along.{At, StaysSo, held}
 use Rattle.papaya_played.proofs.PlayedAs.{PlayedAs, played_as, reclaimed_as}
