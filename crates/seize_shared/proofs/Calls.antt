@@ -16,7 +16,7 @@ use Rattle.seize_views.specs.Begun.{leaving, refreshes, forgetting, IsBegun, Ret
 use Rattle.seize_shared.specs.Made.{IsSettling, Task, task_of}
 use Rattle.seize_views.specs.Notes.{noted, Notes, NotedHolds, NotedKeeps, noted_told}
 use Rattle.seize_views.specs.Promises.{Names, HasMade, IsLooking, IsNext, op_of}
-use Rattle.seize_views.specs.Rows.{Holds, Keeps}
+use Rattle.seize_views.specs.Rows.{Holds}
 use Rattle.seize_views.specs.Told.{list_taken, owes_in, cut_in, seen_in, seen_as, cut_as, made_beside, told}
 use Rattle.seize_views.specs.declared.view.Noted.{Noted}
 use Rattle.seize_views.specs.declared.view.Began.{Began}

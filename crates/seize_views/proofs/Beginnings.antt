@@ -22,7 +22,7 @@ use Rattle.seize.specs.World.{Flush, IsTaken, one_more, one_less, with_at, with_
 use Rattle.seize.specs.World as world
 use Rattle.seize_rule.proofs.Rows.Others.{with_here, with_other}
 use Rattle.seize_acts.proofs.Answers.{same_some}
-use Rattle.seize_seats.specs.State.{State, view_of, Turns, Comes, Starts}
+use Rattle.seize_seats.specs.State.{State, view_of, Comes, Starts}
 use Rattle.seize_acts.specs.Waits.{SettlesOn}
 use Rattle.seize_views.specs.Rows.{TurnsTo}
 use Rattle.seize_views.specs.Begun.{IsBegun, left_with}

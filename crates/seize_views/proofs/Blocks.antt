@@ -15,9 +15,9 @@ use Rattle.seize_alone.specs.Alone.{IsOfUsers}
 use Rattle.seize_alone.proofs.Histories.Reached.{Reached}
 use Rattle.seize_alone.proofs.Histories.NotTaken.{IsHad, IsHeld, kept_there}
 use Rattle.seize_acts.proofs.Answers.{same_some}
-use Rattle.seize_seats.specs.State.{State, view_of, Goes}
+use Rattle.seize_seats.specs.State.{State, view_of}
 use Rattle.seize_views.specs.Rows.{Leads}
-use Rattle.seize_views.specs.Rows.{had_in, hand_of, IsMade, IsInHand, Holds, Keeps}
+use Rattle.seize_views.specs.Rows.{had_in, hand_of, IsMade, IsInHand, Holds}
 use Rattle.seize_views.specs.Told.{alone_with, told}
 use Rattle.seize_views.specs.Promises.{Names, BlocksAreMade, MadeAreTaken, OwnAreMade, OwnAreTaken, OwnAreShown, BorneAreShown, KnownAreShown}
 use Rattle.seize.specs.Law.{holds}

@@ -5,9 +5,8 @@ use Rattle.seize_words.specs.Op.{Op, Store, Swap}
 use Rattle.seize_words.specs.declared.at.At.TheVariants.{Slot}
 use Rattle.seize.specs.declared.states.TheConstants.{HEAD, FREE, ACTIVE}
 use Rattle.seize_acts.proofs.Answers.{same_some}
-use Rattle.seize_seats.specs.State.{Allows}
 use Rattle.seize_views.specs.Rows.{Permits}
-use Rattle.seize_views.specs.Rows.{Holds, Keeps, head_of}
+use Rattle.seize_views.specs.Rows.{head_of}
 use Rattle.seize_views.specs.Told.{told}
 use Rattle.seize_views.specs.Promises.{RowsGoOn}
 use Rattle.seize_views.specs.declared.view.View.TheVariants.{Rests, Registers, Outside, Owes, Enters, Inside, Settles, Leaves, Left, Frees, Brings, Bears}

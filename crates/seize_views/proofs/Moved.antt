@@ -10,7 +10,7 @@ use Rattle.seize_rule.proofs.World.Kept.{rows_may}
 use Rattle.seize_alone.specs.Alone.{IsOfUsers}
 use Rattle.seize_alone.proofs.Histories.NotTaken.{IsHad, kept_there}
 use Rattle.seize_acts.proofs.Answers.{same_some}
-use Rattle.seize_seats.specs.State.{State, view_of, Goes}
+use Rattle.seize_seats.specs.State.{State, view_of}
 use Rattle.seize_bounds.specs.Bounds.{HasCounted, HasTried, IsAloneOnSlot, Meanwhile}
 use Rattle.seize_views.specs.Rows.{Leads}
 use Rattle.seize_views.specs.Rows.{use_of, row_of, hand_of, had_in, settles_for, IsUsed, IsMade, IsInHand, IsKnown, RootsNameLinked, Fits, Came, IsBounded, Holds, Keeps}

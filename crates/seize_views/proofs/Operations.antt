@@ -16,9 +16,9 @@ use Rattle.seize.specs.World.{World, Row, Use, Step, Steps', MayStep, after_step
 use Rattle.seize.specs.World as world
 use Rattle.seize_rule.proofs.World.Kept.{rows_may}
 use Rattle.seize_rule.proofs.Rows.Others.{with_here, with_other}
-use Rattle.seize_seats.specs.State.{State, view_of, Goes, Allows}
+use Rattle.seize_seats.specs.State.{State, view_of}
 use Rattle.seize_views.specs.Rows.{Leads, Permits}
-use Rattle.seize_views.specs.Rows.{row_of, leave_of, Holds, Keeps, head_of}
+use Rattle.seize_views.specs.Rows.{row_of, leave_of, Holds, head_of}
 use Rattle.seize_views.specs.Told.{list_taken, told}
 use Rattle.seize_views.specs.declared.view.View.{View}
 use Rattle.seize_views.specs.declared.view.Becomes.{Becomes}

@@ -22,9 +22,9 @@ use Rattle.seize_rule.proofs.Rows.Known.{FitsRow, FitsRegister}
 use Rattle.seize_rule.proofs.Rows.Register.{taken_use}
 use Rattle.seize_alone.proofs.Histories.Reached.{Reached}
 use Rattle.seize_acts.proofs.Answers.{same_some}
-use Rattle.seize_seats.specs.State.{State, view_of, Goes}
+use Rattle.seize_seats.specs.State.{State, view_of}
 use Rattle.seize_views.specs.Rows.{Leads}
-use Rattle.seize_views.specs.Rows.{hand_of, use_of, IsSeeking, IsShort, Fits, IsBounded, Holds, Keeps}
+use Rattle.seize_views.specs.Rows.{hand_of, use_of, IsSeeking, IsShort, Fits, IsBounded, Holds}
 use Rattle.seize_views.specs.Told.{left_by, ComesTo, told}
 use Rattle.seize_views.specs.Promises.{op_in}
 use Rattle.seize_views.specs.declared.view.View.{View}

@@ -16,9 +16,9 @@ use Rattle.seize_alone.proofs.Given.SeizeMoves.State.Logs.{reached_held}
 use Rattle.seize_rule.proofs.Rows.Others.{with_here, with_other}
 use Rattle.seize_rule.proofs.Rows.Teams.{UseFits}
 use Rattle.seize_alone.proofs.Histories.Reached.{Reached}
-use Rattle.seize_seats.specs.State.{State, view_of, Goes, Turns}
+use Rattle.seize_seats.specs.State.{State, view_of}
 use Rattle.seize_views.specs.Rows.{Leads, TurnsTo}
-use Rattle.seize_views.specs.Rows.{had_in, IsMade, IsInHand, RootsNameLinked, Holds, Keeps}
+use Rattle.seize_views.specs.Rows.{had_in, IsMade, IsInHand, RootsNameLinked, Holds}
 use Rattle.seize_views.specs.Told.{seen_in, cut_in, made_beside, alone_with, told}
 use Rattle.seize_views.specs.Promises.{MadeAreLinked, MadeAreExchanged, OwnAreLinked, OwnAreExchanged, RootsAreSeen, RootsAreCleared, RootsAreWithdrawn}
 use Rattle.seize_views.specs.declared.view.View.{View}

@@ -32,7 +32,7 @@ use Rattle.seize_ends.proofs.Batches.Rows.{settles_memory}
 use Rattle.seize_seats.specs.State.{State, view_of}
 use Rattle.seize_bounds.specs.Bounds.{HasCounted, HasTried, IsAloneOnSlot, SettlesWithin, TriesWithin}
 use Rattle.seize_views.specs.Rows.{Leads}
-use Rattle.seize_views.specs.Rows.{settles_for, used_for, leave_of, counting, IsLooked, IsBounded, Holds, Keeps}
+use Rattle.seize_views.specs.Rows.{settles_for, used_for, leave_of, counting, IsLooked, IsBounded, Holds}
 use Rattle.seize_views.specs.Told.{shown_by, FollowsBy, told}
 use Rattle.seize_views.specs.Promises.{op_in}
 use Rattle.seize_views.specs.declared.view.View.{View}

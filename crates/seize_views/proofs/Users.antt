@@ -13,10 +13,10 @@ use Rattle.seize_alone.proofs.Given.SeizeMoves.Moves.Blocks.{never_held}
 use Rattle.seize_rule.proofs.Points.Aside.{HandFits}
 use Rattle.seize_rule.proofs.Rows.Others.{with_other, users_rows}
 use Rattle.seize_alone.proofs.Histories.Reached.{Reached}
-use Rattle.seize_seats.specs.State.{State, view_of, Goes}
+use Rattle.seize_seats.specs.State.{State, view_of}
 use Rattle.seize_bounds.specs.Bounds.{IsOfOthers, IsAloneOnSlot}
 use Rattle.seize_views.specs.Rows.{Leads}
-use Rattle.seize_views.specs.Rows.{row_of, use_of, hand_of, had_in, IsShort, IsUsed, IsKnown, IsBounded, IsMade, IsInHand, RootsNameLinked, Fits, Came, Holds, Keeps}
+use Rattle.seize_views.specs.Rows.{row_of, use_of, hand_of, had_in, IsShort, IsUsed, IsKnown, IsBounded, IsMade, IsInHand, RootsNameLinked, Fits, Came, Holds}
 use Rattle.seize_views.specs.Told.{alone_with}
 use Rattle.seize_views.specs.declared.view.View.{View}
 use Rattle.seize_views.specs.declared.view.View.TheVariants.{Outside, Owes, Inside}

@@ -13,7 +13,7 @@ use Rattle.seize.specs.Register.{register_plan}
 use Rattle.seize.specs.Settle.{retiring, flushing, settle_plan}
 use Rattle.seize.specs.World.{HasListWord}
 use Rattle.seize_seats.specs.Lendings.{Shown, IsValueOf}
-use Rattle.seize_seats.specs.State.{Starts, Comes, Allows, Turns, Meets}
+use Rattle.seize_seats.specs.State.{Starts, Comes, Meets}
 use Rattle.seize_views.specs.Rows.{TurnsTo, Permits}
 use Rattle.seize_views.specs.Begun.{IsBegun, Hands, left_with}
 use Rattle.seize_views.specs.Rows.{head_of, Holds, Keeps}
