@@ -11,11 +11,12 @@ use Rattle.seize.specs.Settle.{retiring, flushing, counting_down}
 use Rattle.seize.specs.World.{HasListWord}
 use Rattle.seize_seats.specs.Lendings.{Shown}
 use Rattle.seize_seats.specs.State.{Allows, Turns}
+use Rattle.seize_views.specs.Rows.{TurnsTo, Permits}
 use Rattle.seize_views.specs.Begun.{leaving, refreshes, forgetting, IsBegun, Retires, Flushes, Makes}
 use Rattle.seize_shared.specs.Made.{IsSettling, Task, task_of}
 use Rattle.seize_views.specs.Notes.{noted, Notes, NotedHolds, NotedKeeps, noted_told}
 use Rattle.seize_views.specs.Promises.{Names, HasMade, IsLooking, IsNext, op_of}
-use Rattle.seize_views.specs.Rows.{Holds, Keeps}
+use Rattle.seize_views.specs.Rows.{Holds}
 use Rattle.seize_views.specs.Told.{list_taken, owes_in, cut_in, seen_in, seen_as, cut_as, made_beside, told}
 use Rattle.seize_views.specs.declared.view.Noted.{Noted}
 use Rattle.seize_views.specs.declared.view.Began.{Began}
@@ -44,15 +45,15 @@ module _ {T : Type 0} (defers : T → Option ℕ) (fixed : Fixed) (id : ℕ) (v 
 
   -- what may be done by what the seat knows, it may do, and notes it
 
-  noted_turn : (so : Fixed → View T → View T → Type 0) (began : Began → Began) (w : View T) → v.knows ≡ w → Turns (Holds defers fixed) Keeps id w (so fixed w)
+  noted_turn : (so : Fixed → View T → View T → Type 0) (began : Began → Began) (w : View T) → v.knows ≡ w → TurnsTo defers fixed id w (so fixed w)
       → MayTurn (Notes so began fixed v)
   noted_turn so began w is may =
-      turns defers fixed id v (so fixed v.knows) v.did (began v.began) (subst (λ (x : View T). Turns (Holds defers fixed) Keeps id x (so fixed x)) (sym is) may)
+      turns defers fixed id v (so fixed v.knows) v.did (began v.began) (subst (λ (x : View T). TurnsTo defers fixed id x (so fixed x)) (sym is) may)
 
-  pub by_view : (w : View T) (op : Op T) → v.knows ≡ w → Allows (Holds defers fixed) Keeps id w op (told defers w op)
+  pub by_view : (w : View T) (op : Op T) → v.knows ≡ w → Permits defers fixed id w op (told defers w op)
       → Allows (NotedHolds defers fixed) NotedKeeps id v op (noted_told defers v op)
   by_view w op is may =
-      allows defers fixed id v op (subst (λ (x : View T). Allows (Holds defers fixed) Keeps id x op (told defers x op)) (sym is) may)
+      allows defers fixed id v op (subst (λ (x : View T). Permits defers fixed id x op (told defers x op)) (sym is) may)
 
   module _ (w : View T) (is : v.knows ≡ w) where
     pub may_turn : (f : Fixed → View T → View T) (began : Began → Began) → IsNext fixed w (f fixed w) → MayTurn (Notes (Makes f) began fixed v)
@@ -74,7 +75,7 @@ module _ {T : Type 0} (defers : T → Option ℕ) (fixed : Fixed) (id : ℕ) (v 
       noted_turn defers fixed id v Retires began (Owes slot b) is
       (settlings_begin T defers fixed id (Owes slot b) Idle (retiring slot fixed.batch_size (link_to b)) refl)
 
-  flushes_by : (has : Has T) → IsLooking has → Turns (Holds defers fixed) Keeps id (Inside slot has) (Flushes fixed (Inside slot has))
+  flushes_by : (has : Has T) → IsLooking has → TurnsTo defers fixed id (Inside slot has) (Flushes fixed (Inside slot has))
   flushes_by Nothing looks = settlings_begin T defers fixed id (Inside slot Nothing) Active (flushing slot fixed.batch_size) refl
   flushes_by (Seen b) looks = settlings_begin T defers fixed id (Inside slot (Seen b)) Active (flushing slot fixed.batch_size) refl
   flushes_by (Made b x) looks = absurd looks

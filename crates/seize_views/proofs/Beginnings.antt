@@ -22,8 +22,9 @@ use Rattle.seize.specs.World.{Flush, IsTaken, one_more, one_less, with_at, with_
 use Rattle.seize.specs.World as world
 use Rattle.seize_rule.proofs.Rows.Others.{with_here, with_other}
 use Rattle.seize_acts.proofs.Answers.{same_some}
-use Rattle.seize_seats.specs.State.{State, view_of, Turns, Comes, Starts}
+use Rattle.seize_seats.specs.State.{State, view_of, Comes, Starts}
 use Rattle.seize_acts.specs.Waits.{SettlesOn}
+use Rattle.seize_views.specs.Rows.{TurnsTo}
 use Rattle.seize_views.specs.Begun.{IsBegun, left_with}
 use Rattle.seize_bounds.specs.Bounds.{IsToTry, IsAloneOnSlot, TriesWithin}
 use Rattle.seize_views.specs.Rows.{row_of, use_of, used_for, hand_of, had_in, leave_of, counting, IsCut, IsShort, IsUsed, IsKnown, Fits, Came, IsBounded, Holds, Keeps}
@@ -74,7 +75,7 @@ module _ {T : Type 0} (defers : T → Option ℕ) (fixed : Fixed) where
       → ((s : State T (View T) (World T)) → s.world.uses t ≡ a
       → world.Begins defers fixed.batch_size id request s.world (with_use (with_row s.world id row) t world.Changing))
       → ((s : State T (View T) (World T)) → H s → Fits (with_use (with_row s.world id row) t world.Changing) id u) → hand_of u ≡ None
-      → ((w : World T) → IsBounded defers fixed w id u) → Turns H Keeps id v (λ x. x ≡ u)
+      → ((w : World T) → IsBounded defers fixed w id u) → TurnsTo defers fixed id v (λ x. x ≡ u)
   begins_on id t v u a row request mine its rests is happens own none bounded s h at_id =
       let n : World T = with_use (with_row s.world id row) t world.Changing in
       moved defers fixed s id v u s.memory n (λ x. x ≡ u) h at_id
@@ -105,16 +106,16 @@ module _ {T : Type 0} (defers : T → Option ℕ) (fixed : Fixed) where
         known = known n;
       }
 
-  enters : (id t : ℕ) → Turns H Keeps id (Outside t) (λ x. x ≡ Enters t)
+  enters : (id t : ℕ) → TurnsTo defers fixed id (Outside t) (λ x. x ≡ Enters t)
   enters id t = begins_on id t (Outside t) (Enters t) (world.Outside 0) (world.Enters record { slot = t }) (Enter' t) refl refl refl refl (λ s e. (e, refl))
       (λ s h. begun_fits id t (Enters t) (world.Enters record { slot = t }) s refl refl tt (λ w. tt)) refl (λ w. tt)
 
-  frees : (id t : ℕ) → Turns H Keeps id (Outside t) (λ x. x ≡ Frees t)
+  frees : (id t : ℕ) → TurnsTo defers fixed id (Outside t) (λ x. x ≡ Frees t)
   frees id t = begins_on id t (Outside t) (Frees t) (world.Outside 0) (world.Frees record { slot = t }) (Unregister' t) refl refl refl refl (λ s e. (e, refl))
       (λ s h. begun_fits id t (Frees t) (world.Frees record { slot = t }) s refl refl tt (λ w. tt)) refl (λ w. tt)
 
   -- the section ends, or the next one begins at once
-  leaves : (id t : ℕ) (has : Has T) (way : Becomes) → Turns H Keeps id (Inside t has) (λ x. x ≡ Leaves t fixed.batch_size way)
+  leaves : (id t : ℕ) (has : Has T) (way : Becomes) → TurnsTo defers fixed id (Inside t has) (λ x. x ≡ Leaves t fixed.batch_size way)
   leaves id t has Idle =
       let c : Leave = leave_of t fixed.batch_size Idle in
       begins_on id t (Inside t has) (Leaves t fixed.batch_size Idle) (world.Inside 0) (world.Leaves c) (Leave' t) refl refl refl refl (λ s e. (e, refl))
@@ -150,7 +151,7 @@ module _ {T : Type 0} (defers : T → Option ℕ) (fixed : Fixed) where
 
   -- a block is retired that the seat has unlinked
   retires : (id t b : ℕ) (way : Becomes) (v : View T) → use_of v ≡ used_as t (resting way) → row_of v ≡ world.Rests
-      → hand_of v ≡ Some b → ((w : World T) → IsKnown w v → IsCut w b) → Turns H Keeps id v (IsBegun way (retiring t fixed.batch_size (link_to b)))
+      → hand_of v ≡ Some b → ((w : World T) → IsKnown w v → IsCut w b) → TurnsTo defers fixed id v (IsBegun way (retiring t fixed.batch_size (link_to b)))
   retires id t b way v mine rests has cuts s h at_id =
       let c : Settle = retiring t fixed.batch_size (link_to b) in
       let f = h.seats id v at_id in
@@ -181,7 +182,7 @@ module _ {T : Type 0} (defers : T → Option ℕ) (fixed : Fixed) where
 
   -- the batch is tried
   flushes : (id t : ℕ) (way : Becomes) (v : View T) → use_of v ≡ used_as t (resting way) → row_of v ≡ world.Rests
-      → Turns H Keeps id v (IsBegun way (flushing t fixed.batch_size))
+      → TurnsTo defers fixed id v (IsBegun way (flushing t fixed.batch_size))
   flushes id t way v mine rests s h at_id =
       let c : Settle = flushing t fixed.batch_size in
       let f = h.seats id v at_id in
@@ -208,15 +209,15 @@ module _ {T : Type 0} (defers : T → Option ℕ) (fixed : Fixed) where
       (λ x a e. (resting way, mine ∙ ap (λ (k : ℕ). used_as k (resting way)) (slot_of (t, used_for (Retiring way)) (x, a) e))) k.1)
       (k.0, refl)
 
-  goes_free : (id t : ℕ) (has : Has T) (u : View T) → had_in has ≡ None → IsFree fixed t u → Turns H Keeps id (Inside t has) (λ x. x ≡ u)
-  goes_free id t has u none (inl is) = subst (λ (y : View T). Turns H Keeps id (Inside t has) (λ x. x ≡ y)) (sym is.1) (leaves id t has is.0)
-  goes_free id t has u none (inr is) = subst (λ (y : View T). Turns H Keeps id (Inside t has) (λ x. x ≡ y)) (sym is) (forgets defers fixed id t has none)
+  goes_free : (id t : ℕ) (has : Has T) (u : View T) → had_in has ≡ None → IsFree fixed t u → TurnsTo defers fixed id (Inside t has) (λ x. x ≡ u)
+  goes_free id t has u none (inl is) = subst (λ (y : View T). TurnsTo defers fixed id (Inside t has) (λ x. x ≡ y)) (sym is.1) (leaves id t has is.0)
+  goes_free id t has u none (inr is) = subst (λ (y : View T). TurnsTo defers fixed id (Inside t has) (λ x. x ≡ y)) (sym is) (forgets defers fixed id t has none)
 
   -- a slot is looked for
   abbrev First : Register
   First = record { slot = 0; enters = false; stands = at.Begin }
 
-  registers : (id : ℕ) → Turns H Keeps id Rests (λ x. x ≡ Registers First)
+  registers : (id : ℕ) → TurnsTo defers fixed id Rests (λ x. x ≡ Registers First)
   registers id s h at_id =
       let n : World T = with_row s.world id (world.Registers First) in
       moved defers fixed s id Rests (Registers First) s.memory n (λ x. x ≡ Registers First) h at_id
@@ -247,7 +248,7 @@ module _ {T : Type 0} (defers : T → Option ℕ) (fixed : Fixed) where
   ended_bound Active w id t = tt
 
   settled_ends : (id : ℕ) (c : Settle) (way : Becomes) (seen : Option (ℕ × T)) (left : ℕ) (u : View T) → c.stands ≡ settling_at.Over → u ≡ left_with way c.slot
-      → Turns H Keeps id (Settles c (Retiring way) seen left) (λ x. x ≡ u)
+      → TurnsTo defers fixed id (Settles c (Retiring way) seen left) (λ x. x ≡ u)
   settled_ends id c way seen left u over is s h at_id =
       let v : View T = Settles c (Retiring way) seen left in let x : View T = left_with way c.slot in
       let n : World T = settles_on s.world id c s.world.memory (c, settled.Done) in
@@ -260,7 +261,7 @@ module _ {T : Type 0} (defers : T → Option ℕ) (fixed : Fixed) where
       (sym is)
 
   counted_ends : (id : ℕ) (c : Settle) (size : ℕ) (way : Becomes) (seen : Option (ℕ × T)) (left : ℕ) → c.stands ≡ settling_at.Over
-      → Turns H Keeps id (Settles c (Ending size way) seen left) (λ x. x ≡ Left c.slot size way)
+      → TurnsTo defers fixed id (Settles c (Ending size way) seen left) (λ x. x ≡ Left c.slot size way)
   counted_ends id c size way seen left over s h at_id =
       let v : View T = Settles c (Ending size way) seen left in let u : View T = Left c.slot size way in
       let d : Leave = counting size way c in let e : Leave = standing (leave_of c.slot size way) leaving_at.Over in
@@ -283,7 +284,7 @@ module _ {T : Type 0} (defers : T → Option ℕ) (fixed : Fixed) where
       refl
 
   -- the row of a seat that has left ends
-  ends : (id t size : ℕ) (way : Becomes) (u : View T) → u ≡ left_with way t → Turns H Keeps id (Left t size way) (λ x. x ≡ u)
+  ends : (id t size : ℕ) (way : Becomes) (u : View T) → u ≡ left_with way t → TurnsTo defers fixed id (Left t size way) (λ x. x ≡ u)
   ends id t size Idle u is s h at_id =
       let v : View T = Left t size Idle in
       let d : Leave = standing (leave_of t size Idle) leaving_at.Over in
@@ -303,11 +304,11 @@ module _ {T : Type 0} (defers : T → Option ℕ) (fixed : Fixed) where
       (alone defers fixed s id v h at_id (Inside t Nothing) (λ x b e. same_slot t x (world.Inside 0) b world.Changing e)) refl tt)
       (sym is)
 
-  turns : (id : ℕ) (v u : View T) → IsNext fixed v u → Turns H Keeps id v (λ x. x ≡ u)
-  turns id Rests u is = subst (λ (y : View T). Turns H Keeps id Rests (λ x. x ≡ y)) (sym is) (registers id)
+  turns : (id : ℕ) (v u : View T) → IsNext fixed v u → TurnsTo defers fixed id v (λ x. x ≡ u)
+  turns id Rests u is = subst (λ (y : View T). TurnsTo defers fixed id Rests (λ x. x ≡ y)) (sym is) (registers id)
   turns id (Registers c) u is = absurd is
-  turns id (Outside t) u (inl is) = subst (λ (y : View T). Turns H Keeps id (Outside t) (λ x. x ≡ y)) (sym is) (enters id t)
-  turns id (Outside t) u (inr is) = subst (λ (y : View T). Turns H Keeps id (Outside t) (λ x. x ≡ y)) (sym is) (frees id t)
+  turns id (Outside t) u (inl is) = subst (λ (y : View T). TurnsTo defers fixed id (Outside t) (λ x. x ≡ y)) (sym is) (enters id t)
+  turns id (Outside t) u (inr is) = subst (λ (y : View T). TurnsTo defers fixed id (Outside t) (λ x. x ≡ y)) (sym is) (frees id t)
   turns id (Enters t) u is = absurd is
   turns id (Inside t Nothing) u is = goes_free id t Nothing u refl is
   turns id (Inside t (Seen b)) u is = goes_free id t (Seen b) u refl is
@@ -317,7 +318,7 @@ module _ {T : Type 0} (defers : T → Option ℕ) (fixed : Fixed) where
   turns id (Owes t b) u is = absurd is
   turns id (Settles c (Retiring way) seen left) u is = settled_ends id c way seen left u is.0 is.1
   turns id (Settles c (Ending size way) seen left) u is =
-      subst (λ (y : View T). Turns H Keeps id (Settles c (Ending size way) seen left) (λ x. x ≡ y)) (sym is.1) (counted_ends id c size way seen left is.0)
+      subst (λ (y : View T). TurnsTo defers fixed id (Settles c (Ending size way) seen left) (λ x. x ≡ y)) (sym is.1) (counted_ends id c size way seen left is.0)
   turns id (Leaves t size way) u is = absurd is
   turns id (Left t size way) u is = ends id t size way u is
   turns id (Frees t) u is = absurd is
@@ -398,19 +399,19 @@ module _ (T : Type 0) (defers : T → Option ℕ) where
 
   pub settlings_begin : SettlingsBegin T defers
   settlings_begin fixed id (Inside t (Cut b)) Active c is =
-      subst (λ (d : Settle). Turns (Holds defers fixed) Keeps id (Inside t (Cut b)) (IsBegun Active d)) (sym is)
+      subst (λ (d : Settle). TurnsTo defers fixed id (Inside t (Cut b)) (IsBegun Active d)) (sym is)
       (retires defers fixed id t b Active (Inside t (Cut b)) refl refl refl (λ w known. known))
   settlings_begin fixed id (Inside t Nothing) Active c is =
-      subst (λ (d : Settle). Turns (Holds defers fixed) Keeps id (Inside t Nothing) (IsBegun Active d)) (sym is)
+      subst (λ (d : Settle). TurnsTo defers fixed id (Inside t Nothing) (IsBegun Active d)) (sym is)
       (flushes defers fixed id t Active (Inside t Nothing) refl refl)
   settlings_begin fixed id (Inside t (Seen b)) Active c is =
-      subst (λ (d : Settle). Turns (Holds defers fixed) Keeps id (Inside t (Seen b)) (IsBegun Active d)) (sym is)
+      subst (λ (d : Settle). TurnsTo defers fixed id (Inside t (Seen b)) (IsBegun Active d)) (sym is)
       (flushes defers fixed id t Active (Inside t (Seen b)) refl refl)
   settlings_begin fixed id (Owes t b) Idle c is =
-      subst (λ (d : Settle). Turns (Holds defers fixed) Keeps id (Owes t b) (IsBegun Idle d)) (sym is)
+      subst (λ (d : Settle). TurnsTo defers fixed id (Owes t b) (IsBegun Idle d)) (sym is)
       (retires defers fixed id t b Idle (Owes t b) refl refl refl (λ w known. known))
   settlings_begin fixed id (Outside t) Idle c is =
-      subst (λ (d : Settle). Turns (Holds defers fixed) Keeps id (Outside t) (IsBegun Idle d)) (sym is)
+      subst (λ (d : Settle). TurnsTo defers fixed id (Outside t) (IsBegun Idle d)) (sym is)
       (flushes defers fixed id t Idle (Outside t) refl refl)
   settlings_begin fixed id (Inside t (Cut b)) Idle c is = absurd is
   settlings_begin fixed id (Inside t Nothing) Idle c is = absurd is

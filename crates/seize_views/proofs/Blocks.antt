@@ -15,8 +15,9 @@ use Rattle.seize_alone.specs.Alone.{IsOfUsers}
 use Rattle.seize_alone.proofs.Histories.Reached.{Reached}
 use Rattle.seize_alone.proofs.Histories.NotTaken.{IsHad, IsHeld, kept_there}
 use Rattle.seize_acts.proofs.Answers.{same_some}
-use Rattle.seize_seats.specs.State.{State, view_of, Goes}
-use Rattle.seize_views.specs.Rows.{had_in, hand_of, IsMade, IsInHand, Holds, Keeps}
+use Rattle.seize_seats.specs.State.{State, view_of}
+use Rattle.seize_views.specs.Rows.{Leads}
+use Rattle.seize_views.specs.Rows.{had_in, hand_of, IsMade, IsInHand, Holds}
 use Rattle.seize_views.specs.Told.{alone_with, told}
 use Rattle.seize_views.specs.Promises.{Names, BlocksAreMade, MadeAreTaken, OwnAreMade, OwnAreTaken, OwnAreShown, BorneAreShown, KnownAreShown}
 use Rattle.seize.specs.Law.{holds}
@@ -75,7 +76,7 @@ module _ {T : Type 0} (defers : T → Option ℕ) (fixed : Fixed) (s : State T (
       → ((b : ℕ) (n : World T) → IsMade n b value → ((c : ℕ) → holds t c w.log ≡ true → holds t c n.log ≡ true) → IsInHand n t (after b))
       → (so : Out T → View T → Type 0) → ((b : ℕ) → b < 2 ^ 53 → so (OutMade (Ok b)) (place (after b)))
       → ((back : T) → back ≡ value → so (OutMade (Err back)) (place had)) → (out : Out T) (m : Mem T) → Took s.memory (Make value words) out m
-      → Goes H Keeps s m id (so out)
+      → Leads defers fixed s m id (so out)
   makes value words list after made_hand hand so tells refused (OutMade (Ok b)) m took =
       let op : Op T = Make value words in let out : Out T = OutMade (Ok b) in
       let n : World T = made_by defers w id m out in
@@ -151,7 +152,7 @@ module _ {T : Type 0} (defers : T → Option ℕ) (fixed : Fixed) (s : State T (
       → ((n : World T) → ((c : ℕ) → holds t c w.log ≡ true → holds t c n.log ≡ true) → IsInHand n t after)
       → (so : Out T → View T → Type 0) → ((value : T) → value ≡ x → so (Taken value) (place after)) → (out : Out T) (m : Mem T)
       → Took s.memory (Take b) out m
-      → Goes H Keeps s m id (so out)
+      → Leads defers fixed s m id (so out)
   takes b x made had_it after gone hand so tells (Taken value) m took =
       let op : Op T = Take b in let out : Out T = Taken value in
       let n : World T = with_effect (with_hand (record w { memory = m }) b world.NoBlock) (Dropped b) in

@@ -10,8 +10,9 @@ use Rattle.seize_rule.proofs.World.Kept.{rows_may}
 use Rattle.seize_alone.specs.Alone.{IsOfUsers}
 use Rattle.seize_alone.proofs.Histories.NotTaken.{IsHad, kept_there}
 use Rattle.seize_acts.proofs.Answers.{same_some}
-use Rattle.seize_seats.specs.State.{State, view_of, Goes}
+use Rattle.seize_seats.specs.State.{State, view_of}
 use Rattle.seize_bounds.specs.Bounds.{HasCounted, HasTried, IsAloneOnSlot, Meanwhile}
+use Rattle.seize_views.specs.Rows.{Leads}
 use Rattle.seize_views.specs.Rows.{use_of, row_of, hand_of, had_in, settles_for, IsUsed, IsMade, IsInHand, IsKnown, RootsNameLinked, Fits, Came, IsBounded, Holds, Keeps}
 use Rattle.seize_views.specs.declared.view.View.{View}
 use Rattle.seize_views.specs.declared.view.View.TheVariants.{Rests, Registers, Outside, Owes, Enters, Inside, Settles, Leaves, Left, Frees, Brings, Bears}
@@ -173,7 +174,7 @@ module _ {T : Type 0} (defers : T → Option ℕ) (fixed : Fixed) (s : State T (
     bound j (Brings d x) ne after b = tt
     bound j (Bears d) ne after b = tt
 
-    pub moved : so u → Goes (Holds defers fixed) Keeps s m id so
+    pub moved : so u → Leads defers fixed s m id so
     moved is = (
       u,
       n,
@@ -189,6 +190,7 @@ module _ {T : Type 0} (defers : T → Option ℕ) (fixed : Fixed) (s : State T (
         bounded = λ j x e. bound_at j x e (cases_eq j id);
       },
       (λ j k b x o ne ne2 e f keeps. still j b x o ne e keeps),
+      mo.held,
       is,
     )
       where

@@ -8,6 +8,7 @@ use Rattle.seize_words.specs.Op.{Op}
 use Rattle.seize.specs.World.{World}
 use Rattle.seize_seats.specs.State.{State, view_of, Comes, Allows, Turns, Meets, Goes}
 use Rattle.seize_seats.specs.Lendings.{Shown, IsValueOf}
+use Rattle.seize_views.specs.Rows.{Leads, TurnsTo, Permits}
 use Rattle.seize_views.specs.Notes.{noted, newcomer, known_by, as_known, deed, SameNotes, NotedHolds, NotedKeeps, noted_told}
 use Rattle.seize_views.specs.Notes.{StartsAreNoted, ComingsAreNoted, StepsAreNoted, TurnsAreNoted, SettlingsAreNoted, MeetingsAreNoted, LooksAreNoted}
 use Rattle.seize_views.specs.Begun.{IsBegun, Hands}
@@ -44,7 +45,7 @@ module _ {T : Type 0} (defers : T → Option ℕ) (fixed : Fixed) where
   with_views m w views = record { memory = m; views = views; world = w }
 
   -- the seat goes on as it may by what it knows, and notes this
-  goes : (s : State T (Noted T) (World T)) (m : Mem T) (id : ℕ) (so : View T → Type 0) (did : Deed T) (began : Began) → Goes H Keeps (as_known s) m id so
+  goes : (s : State T (Noted T) (World T)) (m : Mem T) (id : ℕ) (so : View T → Type 0) (did : Deed T) (began : Began) → Leads defers fixed (as_known s) m id so
       → Goes N NotedKeeps s m id (λ u. so u.knows × (u.did ≡ did) × (u.began ≡ began))
   goes s m id so did began g =
       let u : Noted T = noted g.0 did began in (
@@ -52,15 +53,15 @@ module _ {T : Type 0} (defers : T → Option ℕ) (fixed : Fixed) where
         g.1,
         subst (λ (views : List (View T)). H (with_views m g.1 views)) (sym (set_known known_by s.views id u)) g.2,
         (λ j k b a o ne ne2 e f keeps. g.3 j k b a.knows o.knows ne ne2 (seen_at s j a e) (seen_at s k o f) keeps),
-        (g.4, refl, refl),
+        (g.5, refl, refl),
       )
 
-  pub allows : (id : ℕ) (v : Noted T) (op : Op T) → Allows H Keeps id v.knows op (told defers v.knows op) → Allows N NotedKeeps id v op (noted_told defers v op)
+  pub allows : (id : ℕ) (v : Noted T) (op : Op T) → Permits defers fixed id v.knows op (told defers v.knows op) → Allows N NotedKeeps id v op (noted_told defers v op)
   allows id v op may s h at =
       let k = may (as_known s) h (seen_at s id v at) in
       (k.0, λ out m took. goes s m id (told defers v.knows op out) (deed v.knows v.did op out) v.began (k.1 out m took))
 
-  pub turns : (id : ℕ) (v : Noted T) (so : View T → Type 0) (did : Deed T) (began : Began) → Turns H Keeps id v.knows so
+  pub turns : (id : ℕ) (v : Noted T) (so : View T → Type 0) (did : Deed T) (began : Began) → TurnsTo defers fixed id v.knows so
       → Turns N NotedKeeps id v (λ u. so u.knows × (u.did ≡ did) × (u.began ≡ began))
   turns id v so did began may s h at = goes s s.memory id so did began (may (as_known s) h (seen_at s id v at))
 

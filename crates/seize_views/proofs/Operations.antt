@@ -16,8 +16,9 @@ use Rattle.seize.specs.World.{World, Row, Use, Step, Steps', MayStep, after_step
 use Rattle.seize.specs.World as world
 use Rattle.seize_rule.proofs.World.Kept.{rows_may}
 use Rattle.seize_rule.proofs.Rows.Others.{with_here, with_other}
-use Rattle.seize_seats.specs.State.{State, view_of, Goes, Allows}
-use Rattle.seize_views.specs.Rows.{row_of, leave_of, Holds, Keeps, head_of}
+use Rattle.seize_seats.specs.State.{State, view_of}
+use Rattle.seize_views.specs.Rows.{Leads, Permits}
+use Rattle.seize_views.specs.Rows.{row_of, leave_of, Holds, head_of}
 use Rattle.seize_views.specs.Told.{list_taken, told}
 use Rattle.seize_views.specs.declared.view.View.{View}
 use Rattle.seize_views.specs.declared.view.Becomes.{Becomes}
@@ -52,14 +53,14 @@ module _ {T : Type 0} (defers : T → Option ℕ) (fixed : Fixed) where
   may s id v h at =
       subst (λ (row : Row). MayStep defers row s.world.memory) (h.seats id v at).row (rows_may defers fixed.batch_size fixed.roots h.came.0 s.world h.came.1 id)
 
-  pub enters : (id t : ℕ) → Allows H Keeps id (Enters t) (Store (Slot t HEAD) ACTIVE) (told defers (Enters t) (Store (Slot t HEAD) ACTIVE))
+  pub enters : (id t : ℕ) → Permits defers fixed id (Enters t) (Store (Slot t HEAD) ACTIVE) (told defers (Enters t) (Store (Slot t HEAD) ACTIVE))
   enters id t s h at = (can, λ out m took. goes out m took)
     where
       can : Can s.memory (Store (Slot t HEAD) ACTIVE)
       can = subst (λ (m : Mem T). Can m (Store (Slot t HEAD) ACTIVE)) (sym h.memory) (may s id (Enters t) h at).0
 
       goes : (out : Out T) (m : Mem T) → Took s.memory (Store (Slot t HEAD) ACTIVE) out m
-          → Goes H Keeps s m id (told defers (Enters t) (Store (Slot t HEAD) ACTIVE) out)
+          → Leads defers fixed s m id (told defers (Enters t) (Store (Slot t HEAD) ACTIVE) out)
       goes out m took =
           let n : World T = with_use (after_step s.world id m world.Rests (Entered t ∷ [])) t (world.Inside 0) in
           moved defers fixed s id (Enters t) (Inside t Nothing) m n (told defers (Enters t) (Store (Slot t HEAD) ACTIVE) out) h at
@@ -69,14 +70,14 @@ module _ {T : Type 0} (defers : T → Option ℕ) (fixed : Fixed) where
           (alone defers fixed s id (Enters t) h at (Inside t Nothing) (λ x b e. same_slot t x (world.Inside 0) b world.Changing e)) refl tt)
           refl
 
-  pub frees : (id t : ℕ) → Allows H Keeps id (Frees t) (Store (Slot t HEAD) FREE) (told defers (Frees t) (Store (Slot t HEAD) FREE))
+  pub frees : (id t : ℕ) → Permits defers fixed id (Frees t) (Store (Slot t HEAD) FREE) (told defers (Frees t) (Store (Slot t HEAD) FREE))
   frees id t s h at = (can, λ out m took. goes out m took)
     where
       can : Can s.memory (Store (Slot t HEAD) FREE)
       can = subst (λ (m : Mem T). Can m (Store (Slot t HEAD) FREE)) (sym h.memory) (may s id (Frees t) h at).0
 
       goes : (out : Out T) (m : Mem T) → Took s.memory (Store (Slot t HEAD) FREE) out m
-          → Goes H Keeps s m id (told defers (Frees t) (Store (Slot t HEAD) FREE) out)
+          → Leads defers fixed s m id (told defers (Frees t) (Store (Slot t HEAD) FREE) out)
       goes out m took =
           let n : World T = with_use (after_step s.world id m world.Rests []) t world.Vacant in
           moved defers fixed s id (Frees t) Rests m n (told defers (Frees t) (Store (Slot t HEAD) FREE) out) h at
@@ -87,7 +88,7 @@ module _ {T : Type 0} (defers : T → Option ℕ) (fixed : Fixed) where
           refl
 
   pub leaves : (id t size : ℕ) (way : Becomes)
-      → Allows H Keeps id (Leaves t size way) (Swap (Slot t HEAD) (head_of way)) (told defers (Leaves t size way) (Swap (Slot t HEAD) (head_of way)))
+      → Permits defers fixed id (Leaves t size way) (Swap (Slot t HEAD) (head_of way)) (told defers (Leaves t size way) (Swap (Slot t HEAD) (head_of way)))
   leaves id t size way s h at = (can, λ out m took. by out m took)
     where
       can : Can s.memory (Swap (Slot t HEAD) (head_of way))
@@ -109,7 +110,7 @@ module _ {T : Type 0} (defers : T → Option ℕ) (fixed : Fixed) where
           (λ j ne. with_other s.world.row id j (world.Leaves d) ne)
 
       goes : (head : ℕ) (m : Mem T) → Took s.memory (Swap (Slot t HEAD) (head_of way)) (Found head) m → (b : Bool) → nat_lt ACTIVE head ≡ b
-          → Goes H Keeps s m id (λ u. (left : ℕ) × (u ≡ list_taken t size way head left))
+          → Leads defers fixed s m id (λ u. (left : ℕ) × (u ≡ list_taken t size way head left))
       goes head m took true e =
           let d : Leave = standing (leave_of t size way) (leaving_at.Settles (counting_down t size head)) in
           let n : World T = leaves_on s.world id (leave_of t size way) m (d, settled.Goes) in
@@ -136,7 +137,7 @@ module _ {T : Type 0} (defers : T → Option ℕ) (fixed : Fixed) where
           (0, rw e refl)
 
       by : (out : Out T) (m : Mem T) → Took s.memory (Swap (Slot t HEAD) (head_of way)) out m
-          → Goes H Keeps s m id (told defers (Leaves t size way) (Swap (Slot t HEAD) (head_of way)) out)
+          → Leads defers fixed s m id (told defers (Leaves t size way) (Swap (Slot t HEAD) (head_of way)) out)
       by (Found head) m took = goes head m took (nat_lt ACTIVE head) refl
       by Stored m took = absurd took.0
       by (Exchanged r) m took = absurd took.0

@@ -22,8 +22,9 @@ use Rattle.seize_rule.proofs.Rows.Known.{FitsRow, FitsRegister}
 use Rattle.seize_rule.proofs.Rows.Register.{taken_use}
 use Rattle.seize_alone.proofs.Histories.Reached.{Reached}
 use Rattle.seize_acts.proofs.Answers.{same_some}
-use Rattle.seize_seats.specs.State.{State, view_of, Goes}
-use Rattle.seize_views.specs.Rows.{hand_of, use_of, IsSeeking, IsShort, Fits, IsBounded, Holds, Keeps}
+use Rattle.seize_seats.specs.State.{State, view_of}
+use Rattle.seize_views.specs.Rows.{Leads}
+use Rattle.seize_views.specs.Rows.{hand_of, use_of, IsSeeking, IsShort, Fits, IsBounded, Holds}
 use Rattle.seize_views.specs.Told.{left_by, ComesTo, told}
 use Rattle.seize_views.specs.Promises.{op_in}
 use Rattle.seize_views.specs.declared.view.View.{View}
@@ -103,7 +104,7 @@ module _ {T : Type 0} (defers : T → Option ℕ) (fixed : Fixed) (s : State T (
 
   -- a step of its plan that ends so
   goes : (op : Op T) (out : Out T) (m : Mem T) (end : Register × Progress ℕ) → Steps Took value_at w.memory (register_plan c) m end
-      → ComesTo (register_plan {T = T} c) out end → IsWell w.uses end → Goes (Holds defers fixed) Keeps s m id (told defers (Registers c) op out)
+      → ComesTo (register_plan {T = T} c) out end → IsWell w.uses end → Leads defers fixed s m id (told defers (Registers c) op out)
   goes op out m end steps comes well =
       moved defers fixed s id (Registers c) (left_by end) m (registers_on w id c m end) (told defers (Registers c) op out) h at_id
       (stepped defers fixed s id (Registers c) h at_id (left_by end) m (registers_on w id c m end) (m, end, steps, refl) (sym
@@ -122,7 +123,7 @@ module _ {T : Type 0} (defers : T → Option ℕ) (fixed : Fixed) (s : State T (
     goes_at : (op : Op T) (rest : Out T → Then T (Register × Progress ℕ)) (out : Out T) (m : Mem T) (end : Register × Progress ℕ) → P ≡ Do op rest
         → Took s.memory op out m
         → ((shown : ℕ → Option T) → Ends shown (rest out) end) → IsWell w.uses end
-        → Goes (Holds defers fixed) Keeps s m id (told defers (Registers c) op out)
+        → Leads defers fixed s m id (told defers (Registers c) op out)
     goes_at op rest out m end is took ends well =
         goes op out m end
         (subst (λ (q : Plan T (Register × Progress ℕ)). Steps Took value_at w.memory q m end) (sym plan_is)
@@ -151,7 +152,7 @@ module _ {T : Type 0} (defers : T → Option ℕ) (fixed : Fixed) (s : State T (
       free = fits.sees.free
 
   abbrev Gone : Op T → Out T → Mem T → Type 0
-  Gone op out m = Took s.memory op out m → Goes (Holds defers fixed) Keeps s m id (told defers (Registers c) op out)
+  Gone op out m = Took s.memory op out m → Leads defers fixed s m id (told defers (Registers c) op out)
 
   begins : c.stands ≡ at.Begin → (out : Out T) (m : Mem T) → Gone (Room 0) out m
   begins e (Roomed (Ok made)) m took =

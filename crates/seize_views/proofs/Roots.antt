@@ -16,8 +16,9 @@ use Rattle.seize_alone.proofs.Given.SeizeMoves.State.Logs.{reached_held}
 use Rattle.seize_rule.proofs.Rows.Others.{with_here, with_other}
 use Rattle.seize_rule.proofs.Rows.Teams.{UseFits}
 use Rattle.seize_alone.proofs.Histories.Reached.{Reached}
-use Rattle.seize_seats.specs.State.{State, view_of, Goes, Turns}
-use Rattle.seize_views.specs.Rows.{had_in, IsMade, IsInHand, RootsNameLinked, Holds, Keeps}
+use Rattle.seize_seats.specs.State.{State, view_of}
+use Rattle.seize_views.specs.Rows.{Leads, TurnsTo}
+use Rattle.seize_views.specs.Rows.{had_in, IsMade, IsInHand, RootsNameLinked, Holds}
 use Rattle.seize_views.specs.Told.{seen_in, cut_in, made_beside, alone_with, told}
 use Rattle.seize_views.specs.Promises.{MadeAreLinked, MadeAreExchanged, OwnAreLinked, OwnAreExchanged, RootsAreSeen, RootsAreCleared, RootsAreWithdrawn}
 use Rattle.seize_views.specs.declared.view.View.{View}
@@ -87,7 +88,7 @@ module _ {T : Type 0} (defers : T → Option ℕ) (fixed : Fixed) (s : State T (
 
   -- what is known of blocks changes, and nothing else
   looks : (m : Mem T) (has : Has T) → m ≡ s.memory → IsInHand w t has → had_in has ≡ had_in had → (so : View T → Type 0) → so (place has)
-      → Goes H Keeps s m id so
+      → Leads defers fixed s m id so
   looks m has same known still so is =
       users defers fixed s id t h place carries had at m w has (record {
         came = h.came;
@@ -117,7 +118,7 @@ module _ {T : Type 0} (defers : T → Option ℕ) (fixed : Fixed) (s : State T (
 
   -- the block that was made is put at a root
   links : (b a i : ℕ) → w.hand b ≡ world.Making i → had_in had ≡ Some b → (old : ℕ) (m : Mem T) → Wrote defers fixed s id a (link_to b) old m
-      → (so : View T → Type 0) → so (place (cut_in old)) → Goes H Keeps s m id so
+      → (so : View T → Type 0) → so (place (cut_in old)) → Leads defers fixed s m id so
   links b a i mine had_it old m wrote so tells =
       let word : ℕ = link_to b in
       let n : World T = with_effect (with_hand (record w { memory = m }) b (world.InUse a)) (Linked b a) in
@@ -157,9 +158,9 @@ module _ {T : Type 0} (defers : T → Option ℕ) (fixed : Fixed) (s : State T (
       → so (Exchanged (Ok old)) (place (cut_in old))
       → ((word : ℕ) → word_at s.memory (Root a) ≡ Some word → (has : Has T) × IsInHand w t has × (had_in has ≡ had_in had) × so (Exchanged (Err word)) (place has))
       → (out : Out T) (m : Mem T)
-      → Took s.memory (Exchange (Root a) old (link_to b)) out m → Goes H Keeps s m id (so out)
+      → Took s.memory (Exchange (Root a) old (link_to b)) out m → Leads defers fixed s m id (so out)
   exchanges b x a old made had_it so cut other (Exchanged (Ok word)) m took =
-      subst (λ (k : ℕ). Goes H Keeps s m id (so (Exchanged (Ok k)))) (sym took.0.1)
+      subst (λ (k : ℕ). Leads defers fixed s m id (so (Exchanged (Ok k)))) (sym took.0.1)
       (links b a made.0.0 made.0.1 had_it old m
       (wrote defers fixed s id (place had) h at a (link_to b) old m (Exchange (Root a) old (link_to b)) (Exchanged (Ok word)) tt took
       (took.0.0 ∙ ap Some took.0.1) took.1)
@@ -174,7 +175,7 @@ module _ {T : Type 0} (defers : T → Option ℕ) (fixed : Fixed) (s : State T (
 
   -- or whatever is there
   swaps : (b : ℕ) (x : T) (a : ℕ) → IsMade w b x → had_in had ≡ Some b → (so : Out T → View T → Type 0) → ((old : ℕ) → so (Found old) (place (cut_in old)))
-      → (out : Out T) (m : Mem T) → Took s.memory (Swap (Root a) (link_to b)) out m → Goes H Keeps s m id (so out)
+      → (out : Out T) (m : Mem T) → Took s.memory (Swap (Root a) (link_to b)) out m → Leads defers fixed s m id (so out)
   swaps b x a made had_it so tells (Found old) m took =
       links b a made.0.0 made.0.1 had_it old m
       (wrote defers fixed s id (place had) h at a (link_to b) old m (Swap (Root a) (link_to b)) (Found old) tt took took.0 took.1) (so (Found old)) (tells old)
@@ -201,7 +202,7 @@ beside_alone b x a false = refl
 module _ {T : Type 0} (defers : T → Option ℕ) (fixed : Fixed) (s : State T (View T) (World T)) (id t : ℕ) (had : Has T) (none : had_in had ≡ None)
     (h : Holds defers fixed s) (at : view_of s id ≡ Some (Inside t had)) where
   sees : (a : ℕ) (out : Out T) (m : Mem T) → Took s.memory (Load (Root a)) out m → (so : View T → Type 0)
-      → ((word : ℕ) → out ≡ Found word → so (Inside t (seen_in word))) → Goes (Holds defers fixed) Keeps s m id so
+      → ((word : ℕ) → out ≡ Found word → so (Inside t (seen_in word))) → Leads defers fixed s m id so
   sees a (Found word) m took so is =
       looks defers fixed s id t (Inside t) (within t) had h at m (seen_in word) took.1
       (seen_known defers fixed s t h (h.seats id (Inside t had) at).slot a word took.0 (block_in word == 0) refl)
@@ -214,7 +215,7 @@ module _ {T : Type 0} (defers : T → Option ℕ) (fixed : Fixed) (s : State T (
 
 -- within a section what was seen is let go, without an operation
 pub forgets : {T : Type 0} (defers : T → Option ℕ) (fixed : Fixed) (id t : ℕ) (had : Has T) → had_in had ≡ None
-    → Turns (Holds defers fixed) Keeps id (Inside t had) (λ x. x ≡ Inside t Nothing)
+    → TurnsTo defers fixed id (Inside t had) (λ x. x ≡ Inside t Nothing)
 forgets {T} defers fixed id t had none s h at =
     looks defers fixed s id t (Inside t) (within t) had h at s.memory Nothing refl tt (sym none) (λ x. x ≡ Inside t Nothing) refl
 
@@ -253,7 +254,7 @@ module _ (T : Type 0) (defers : T → Option ℕ) where
   exchanged_there : (b c : ℕ) (x : T) (a old : ℕ) (fixed : Fixed) (id t : ℕ) (had : Has T) → had_in had ≡ Some c → c ≡ b → (s : State T (View T) (World T))
       → (h : Holds defers fixed s) → view_of s id ≡ Some (Inside t had) → IsMade s.world c x → (so : Out T → View T → Type 0)
       → so (Exchanged (Ok old)) (Inside t (cut_in old)) → ((word : ℕ) → so (Exchanged (Err word)) (Inside t (made_beside b x (block_in word)))) → (out : Out T)
-      → (m : Mem T) → Took s.memory (Exchange (Root a) old (link_to b)) out m → Goes (Holds defers fixed) Keeps s m id (so out)
+      → (m : Mem T) → Took s.memory (Exchange (Root a) old (link_to b)) out m → Leads defers fixed s m id (so out)
   exchanged_there b c x a old fixed id t had has is s h at made so cut other =
       let made_so = subst (λ (k : ℕ). IsMade s.world k x) is made in
       exchanges defers fixed s id t (Inside t) (within t) had h at b x a old made_so (has ∙ ap Some is) so cut
@@ -298,7 +299,7 @@ module _ (T : Type 0) (defers : T → Option ℕ) where
   roots_are_cleared a fixed id t lt s h at = (root_can defers fixed s id (Inside t Nothing) h at a lt, λ out m took. by out m took)
     where
       by : (out : Out T) (m : Mem T) → Took s.memory (Swap (Root a) 0) out m
-          → Goes (Holds defers fixed) Keeps s m id (told defers (Inside t Nothing) (Swap (Root a) 0) out)
+          → Leads defers fixed s m id (told defers (Inside t Nothing) (Swap (Root a) 0) out)
       by (Found old) m took =
           clears defers fixed s id (Inside t Nothing) h at t a old m
           (wrote defers fixed s id (Inside t Nothing) h at a 0 old m (Swap (Root a) 0) (Found old) tt took took.0 took.1)
@@ -325,7 +326,7 @@ module _ (T : Type 0) (defers : T → Option ℕ) where
           at_view y e = subst (λ (z : Bool). told defers (Outside t) (Swap (Root a) 0) (Found old) (if z then Outside t else Owes t (block_in old))) e refl
 
       by : (out : Out T) (m : Mem T) → Took s.memory (Swap (Root a) 0) out m
-          → Goes (Holds defers fixed) Keeps s m id (told defers (Outside t) (Swap (Root a) 0) out)
+          → Leads defers fixed s m id (told defers (Outside t) (Swap (Root a) 0) out)
       by (Found old) m took =
           clears defers fixed s id (Outside t) h at t a old m
           (wrote defers fixed s id (Outside t) h at a 0 old m (Swap (Root a) 0) (Found old) tt took took.0 took.1)

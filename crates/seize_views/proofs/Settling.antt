@@ -29,9 +29,10 @@ use Rattle.seize_alone.proofs.Histories.Reached.{Reached}
 use Rattle.seize_acts.proofs.Answers.{same_some, ended}
 use Rattle.seize_acts.proofs.Steps.{sees_end}
 use Rattle.seize_ends.proofs.Batches.Rows.{settles_memory}
-use Rattle.seize_seats.specs.State.{State, view_of, Goes as GoesOnBy}
+use Rattle.seize_seats.specs.State.{State, view_of}
 use Rattle.seize_bounds.specs.Bounds.{HasCounted, HasTried, IsAloneOnSlot, SettlesWithin, TriesWithin}
-use Rattle.seize_views.specs.Rows.{settles_for, used_for, leave_of, counting, IsLooked, IsBounded, Holds, Keeps}
+use Rattle.seize_views.specs.Rows.{Leads}
+use Rattle.seize_views.specs.Rows.{settles_for, used_for, leave_of, counting, IsLooked, IsBounded, Holds}
 use Rattle.seize_views.specs.Told.{shown_by, FollowsBy, told}
 use Rattle.seize_views.specs.Promises.{op_in}
 use Rattle.seize_views.specs.declared.view.View.{View}
@@ -181,7 +182,7 @@ module _ {T : Type 0} (defers : T → Option ℕ) (fixed : Fixed) (s : State T (
 
   goes : (op : Op T) (out : Out T) (m : Mem T) (end : Settle × Settled T) → op_in (settle_plan defers c) ≡ Some op
       → Steps Took value_at w.memory (settle_plan defers c) m end → Ends (value_at m) (rest_of (settle_plan defers c) out) end
-      → GoesOnBy (Holds defers fixed) Keeps s m id (told defers v op out)
+      → Leads defers fixed s m id (told defers v op out)
   goes op out m end makes st ends =
       let went = settle_steps defers (LAST_SLOT + 1) id w.memory m r.good.state r.good.extra c end refl (words_good defers (LAST_SLOT + 1) w r.good)
       r.good.inv r.good.shows c.stands refl (not_over defers c c.stands op makes (is_over c.stands) refl) fits st in
@@ -213,7 +214,7 @@ module _ {T : Type 0} (defers : T → Option ℕ) (fixed : Fixed) (s : State T (
       })
 
   pub settles : (op : Op T) → op_in (settle_plan defers c) ≡ Some op
-      → Can s.memory op × ((out : Out T) (m : Mem T) → Took s.memory op out m → GoesOnBy (Holds defers fixed) Keeps s m id (told defers v op out))
+      → Can s.memory op × ((out : Out T) (m : Mem T) → Took s.memory op out m → Leads defers fixed s m id (told defers v op out))
   settles op makes =
       let k = may_op w.memory (settle_plan defers c) op makes (may_settle defers c why w.memory (may defers fixed s id v h at_id)) in (
         subst (λ (m : Mem T). Can m op) (sym h.memory) k.0,

@@ -13,9 +13,10 @@ use Rattle.seize_alone.proofs.Given.SeizeMoves.Moves.Blocks.{never_held}
 use Rattle.seize_rule.proofs.Points.Aside.{HandFits}
 use Rattle.seize_rule.proofs.Rows.Others.{with_other, users_rows}
 use Rattle.seize_alone.proofs.Histories.Reached.{Reached}
-use Rattle.seize_seats.specs.State.{State, view_of, Goes}
+use Rattle.seize_seats.specs.State.{State, view_of}
 use Rattle.seize_bounds.specs.Bounds.{IsOfOthers, IsAloneOnSlot}
-use Rattle.seize_views.specs.Rows.{row_of, use_of, hand_of, had_in, IsShort, IsUsed, IsKnown, IsBounded, IsMade, IsInHand, RootsNameLinked, Fits, Came, Holds, Keeps}
+use Rattle.seize_views.specs.Rows.{Leads}
+use Rattle.seize_views.specs.Rows.{row_of, use_of, hand_of, had_in, IsShort, IsUsed, IsKnown, IsBounded, IsMade, IsInHand, RootsNameLinked, Fits, Came, Holds}
 use Rattle.seize_views.specs.Told.{alone_with}
 use Rattle.seize_views.specs.declared.view.View.{View}
 use Rattle.seize_views.specs.declared.view.View.TheVariants.{Outside, Owes, Inside}
@@ -106,7 +107,7 @@ module _ {T : Type 0} (defers : T → Option ℕ) (fixed : Fixed) (s : State T (
 
   -- the seat goes on from one view to another, of the same slot
   pub users_on : (m : Mem T) (n : World T) (has : Has T) → Users defers fixed s id t m n has → hand_of x ≡ had_in has → IsKnown n x → IsBounded defers fixed n id x
-      → (so : View T → Type 0) → so x → Goes (Holds defers fixed) Keeps s m id so
+      → (so : View T → Type 0) → so x → Leads defers fixed s m id so
   users_on m n has u hand known bounded so is =
       moved defers fixed s id v x m n so h at (record {
         came = u.came;
@@ -202,16 +203,16 @@ module _ {T : Type 0} where
 module _ {T : Type 0} (defers : T → Option ℕ) (fixed : Fixed) (s : State T (View T) (World T)) (id t : ℕ) (h : Holds defers fixed s) where
   -- where it is, it knows something else of a block
   pub users : (place : Has T → View T) → Carries t place → (had : Has T) → view_of s id ≡ Some (place had) → (m : Mem T) (n : World T) (has : Has T)
-      → Users defers fixed s id t m n has → (so : View T → Type 0) → so (place has) → Goes (Holds defers fixed) Keeps s m id so
+      → Users defers fixed s id t m n has → (so : View T → Type 0) → so (place has) → Leads defers fixed s m id so
   users place c had at m n has u so is =
       users_on defers fixed s id t (place had) (place has) h at (c.rests had) (c.rests has) (c.stays has had) (c.short has) m n has u (c.hand has)
       (c.known n has u.in_hand) (c.bounded defers fixed n id has) so is
 
   -- or outside of one, where it knows of no block, or of one that it has unlinked
   pub users_outside : view_of s id ≡ Some (Outside t) → (m : Mem T) (n : World T) → Users defers fixed s id t m n Nothing → (so : View T → Type 0)
-      → so (Outside t) → Goes (Holds defers fixed) Keeps s m id so
+      → so (Outside t) → Leads defers fixed s m id so
   users_outside at m n u so is = users_on defers fixed s id t (Outside t) (Outside t) h at refl refl refl tt m n Nothing u refl tt tt so is
 
   pub users_owe : view_of s id ≡ Some (Outside t) → (m : Mem T) (n : World T) (b : ℕ) → Users defers fixed s id t m n (Cut b) → (so : View T → Type 0)
-      → so (Owes t b) → Goes (Holds defers fixed) Keeps s m id so
+      → so (Owes t b) → Leads defers fixed s m id so
   users_owe at m n b u so is = users_on defers fixed s id t (Outside t) (Owes t b) h at refl refl refl tt m n (Cut b) u refl u.in_hand tt so is

@@ -13,8 +13,9 @@ use Rattle.seize_alone.proofs.Given.SeizeMoves.State.Held.{held_on}
 use Rattle.seize_rule.proofs.Rows.Others.{with_here, with_other}
 use Rattle.seize_rule.proofs.World.Values.{own_op_value}
 use Rattle.seize_acts.proofs.Answers.{same_some}
-use Rattle.seize_seats.specs.State.{State, view_of, Goes}
-use Rattle.seize_views.specs.Rows.{RootsNameLinked, Came, Holds, Keeps}
+use Rattle.seize_seats.specs.State.{State, view_of}
+use Rattle.seize_views.specs.Rows.{Leads}
+use Rattle.seize_views.specs.Rows.{RootsNameLinked, Came, Holds}
 use Rattle.seize_views.specs.declared.view.View.{View}
 use Rattle.seize_views.specs.declared.view.Has.TheVariants.{Nothing, Cut}
 use Rattle.seize_views.specs.declared.view.Fixed.{Fixed}
@@ -50,8 +51,8 @@ module _ {T : Type 0} (defers : T → Option ℕ) (fixed : Fixed) (s : State T (
 
   -- the seat goes on where no block was at the root, and where one was, which is in its hand then
   pub record Cuts (t : ℕ) (m : Mem T) (old : ℕ) (so : View T → Type 0) : Type 0 where
-    pub none : (block_in old == 0) ≡ true → (n : World T) → Users defers fixed s id t m n Nothing → Goes (Holds defers fixed) Keeps s m id so
-    pub cut : (block_in old == 0) ≡ false → (n : World T) → Users defers fixed s id t m n (Cut (block_in old)) → Goes (Holds defers fixed) Keeps s m id so
+    pub none : (block_in old == 0) ≡ true → (n : World T) → Users defers fixed s id t m n Nothing → Leads defers fixed s m id so
+    pub cut : (block_in old == 0) ≡ false → (n : World T) → Users defers fixed s id t m n (Cut (block_in old)) → Leads defers fixed s m id so
 
 module _ {T : Type 0} (defers : T → Option ℕ) (fixed : Fixed) (s : State T (View T) (World T)) (id : ℕ) (v : View T) (h : Holds defers fixed s)
     (at : view_of s id ≡ Some v) where
@@ -130,10 +131,10 @@ module _ {T : Type 0} (defers : T → Option ℕ) (fixed : Fixed) (s : State T (
       → ((b : ℕ) → w.hand b ≡ world.InUse a → n.hand b ≡ world.InUse a)
       → (block_in old ≡ 0) ⊎ (w.hand (block_in old) ≡ world.InUse a)
       → ((c found : ℕ) → word_at m (Root c) ≡ Some found → (block_in found ≡ 0) ⊎ (block_in found ≢ block_in old))
-      → Goes H Keeps s m id so
+      → Leads defers fixed s m id so
   unlinked t a old m n so goes u named still was fresh = by (block_in old == 0) refl was
     where
-      by : (y : Bool) → (block_in old == 0) ≡ y → (block_in old ≡ 0) ⊎ (w.hand (block_in old) ≡ world.InUse a) → Goes H Keeps s m id so
+      by : (y : Bool) → (block_in old == 0) ≡ y → (block_in old ≡ 0) ⊎ (w.hand (block_in old) ≡ world.InUse a) → Leads defers fixed s m id so
       by true e was = goes.none e n u
       by false e (inl none) = absurd (let k = eq-eqb (block_in old) 0 none in cc (k, e))
       by false e (inr linked) =
@@ -167,7 +168,7 @@ module _ {T : Type 0} (defers : T → Option ℕ) (fixed : Fixed) (s : State T (
 
   -- a root is cleared
   pub clears : (t a old : ℕ) (m : Mem T) → Wrote defers fixed s id a 0 old m → (so : View T → Type 0) → Cuts defers fixed s id t m old so
-      → Goes H Keeps s m id so
+      → Leads defers fixed s m id so
   clears t a old m wrote so goes =
       let n : World T = record w { memory = m } in
       let was = h.roots a old wrote.there in

@@ -7,6 +7,7 @@ use Rattle.seize.specs.declared.rows.settle.Settle.{Settle}
 use Rattle.seize.specs.World.{World}
 use Rattle.seize_seats.specs.State.{State, Starts, Comes, Allows, Turns, Meets}
 use Rattle.seize_seats.specs.Lendings.{Shown, IsValueOf}
+use Rattle.seize_views.specs.Rows.{TurnsTo, Permits}
 use Rattle.seize_views.specs.Begun.{IsBegun, Hands}
 use Rattle.seize_views.specs.Rows.{Holds, Keeps}
 use Rattle.seize_views.specs.Told.{told}
@@ -93,19 +94,19 @@ module _ (T : Type 0) (defers : T → Option ℕ) where
 
   abbrev pub StepsAreNoted : Type 0
   StepsAreNoted =
-      (fixed : Fixed) (id : ℕ) (v : Noted T) (op : Op T) → Allows (Holds defers fixed) Keeps id v.knows op (told defers v.knows op)
+      (fixed : Fixed) (id : ℕ) (v : Noted T) (op : Op T) → Permits defers fixed id v.knows op (told defers v.knows op)
       → Allows (NotedHolds defers fixed) NotedKeeps id v op (noted_told defers v op)
 
   -- a turn may note anything
   abbrev pub TurnsAreNoted : Type 0
   TurnsAreNoted =
-      (fixed : Fixed) (id : ℕ) (v : Noted T) (u : View T) (did : Deed T) (began : Began) → Turns (Holds defers fixed) Keeps id v.knows (λ x. x ≡ u)
+      (fixed : Fixed) (id : ℕ) (v : Noted T) (u : View T) (did : Deed T) (began : Began) → TurnsTo defers fixed id v.knows (λ x. x ≡ u)
       → Turns (NotedHolds defers fixed) NotedKeeps id v (λ x. (x.knows ≡ u) × (x.did ≡ did) × (x.began ≡ began))
 
   abbrev pub SettlingsAreNoted : Type 0
   SettlingsAreNoted =
       (fixed : Fixed) (id : ℕ) (v : Noted T) (way : Becomes) (c : Settle) (did : Deed T) (began : Began)
-      → Turns (Holds defers fixed) Keeps id v.knows (IsBegun way c)
+      → TurnsTo defers fixed id v.knows (IsBegun way c)
       → Turns (NotedHolds defers fixed) NotedKeeps id v (λ x. IsBegun way c x.knows × (x.did ≡ did) × (x.began ≡ began))
 
   -- and so may a meeting

@@ -13,7 +13,8 @@ use Rattle.seize.specs.Register.{register_plan}
 use Rattle.seize.specs.Settle.{retiring, flushing, settle_plan}
 use Rattle.seize.specs.World.{HasListWord}
 use Rattle.seize_seats.specs.Lendings.{Shown, IsValueOf}
-use Rattle.seize_seats.specs.State.{Starts, Comes, Allows, Turns, Meets}
+use Rattle.seize_seats.specs.State.{Starts, Comes, Meets}
+use Rattle.seize_views.specs.Rows.{TurnsTo, Permits}
 use Rattle.seize_views.specs.Begun.{IsBegun, Hands, left_with}
 use Rattle.seize_views.specs.Rows.{head_of, Holds, Keeps}
 use Rattle.seize_views.specs.Told.{alone_with, told}
@@ -103,20 +104,20 @@ module _ (T : Type 0) (defers : T → Option ℕ) where
 
   -- the next operation of the row of a seat may be made at any moment
   abbrev pub RowsGoOn : Type 0
-  RowsGoOn = (fixed : Fixed) (id : ℕ) (v : View T) (op : Op T) → op_of defers v ≡ Some op → Allows (Holds defers fixed) Keeps id v op (told defers v op)
+  RowsGoOn = (fixed : Fixed) (id : ℕ) (v : View T) (op : Op T) → op_of defers v ≡ Some op → Permits defers fixed id v op (told defers v op)
 
   -- and rows begin and end
   abbrev pub RowsTurn : Type 0
-  RowsTurn = (fixed : Fixed) (id : ℕ) (v u : View T) → IsNext fixed v u → Turns (Holds defers fixed) Keeps id v (λ x. x ≡ u)
+  RowsTurn = (fixed : Fixed) (id : ℕ) (v u : View T) → IsNext fixed v u → TurnsTo defers fixed id v (λ x. x ≡ u)
 
   -- a settling begins, with as many steps left as it takes at most
   abbrev pub SettlingsBegin : Type 0
   SettlingsBegin =
-      (fixed : Fixed) (id : ℕ) (v : View T) (way : Becomes) (c : Settle) → IsToSettle fixed v way c → Turns (Holds defers fixed) Keeps id v (IsBegun way c)
+      (fixed : Fixed) (id : ℕ) (v : View T) (way : Becomes) (c : Settle) → IsToSettle fixed v way c → TurnsTo defers fixed id v (IsBegun way c)
 
   -- within a section of a slot this operation may be made by a seat that knows of this block
   abbrev pub MayInside : Has T → Op T → Type 0
-  MayInside has op = (fixed : Fixed) (id t : ℕ) → Allows (Holds defers fixed) Keeps id (Inside t has) op (told defers (Inside t has) op)
+  MayInside has op = (fixed : Fixed) (id t : ℕ) → Permits defers fixed id (Inside t has) op (told defers (Inside t has) op)
 
   -- a block with the words that its value asks for may be made by whoever has none in its hand, and taken away by whoever has made it
   abbrev pub BlocksAreMade : Type 0
@@ -129,35 +130,35 @@ module _ (T : Type 0) (defers : T → Option ℕ) where
   abbrev pub MadeAreLinked : Type 0
   MadeAreLinked =
       (b : ℕ) (x : T) (r : ℕ) (fixed : Fixed) (id t : ℕ) → r < fixed.roots
-      → Allows (Holds defers fixed) Keeps id (Inside t (Made b x)) (Swap (Root r) (link_to b)) (told defers (Inside t (Made b x)) (Swap (Root r) (link_to b)))
+      → Permits defers fixed id (Inside t (Made b x)) (Swap (Root r) (link_to b)) (told defers (Inside t (Made b x)) (Swap (Root r) (link_to b)))
 
   abbrev pub MadeAreExchanged : Type 0
   MadeAreExchanged =
       (has : Has T) (b r old : ℕ) (fixed : Fixed) (id t : ℕ) → HasMade has b → r < fixed.roots
-      → Allows (Holds defers fixed) Keeps id (Inside t has) (Exchange (Root r) old (link_to b))
+      → Permits defers fixed id (Inside t has) (Exchange (Root r) old (link_to b))
       (told defers (Inside t has) (Exchange (Root r) old (link_to b)))
 
   -- what a root names may be seen, and taken from there
   abbrev pub RootsAreSeen : Type 0
   RootsAreSeen =
       (has : Has T) (r : ℕ) (fixed : Fixed) (id t : ℕ) → IsLooking has → r < fixed.roots
-      → Allows (Holds defers fixed) Keeps id (Inside t has) (Load (Root r)) (told defers (Inside t has) (Load (Root r)))
+      → Permits defers fixed id (Inside t has) (Load (Root r)) (told defers (Inside t has) (Load (Root r)))
 
   abbrev pub RootsAreCleared : Type 0
   RootsAreCleared =
       (r : ℕ) (fixed : Fixed) (id t : ℕ) → r < fixed.roots
-      → Allows (Holds defers fixed) Keeps id (Inside t Nothing) (Swap (Root r) 0) (told defers (Inside t Nothing) (Swap (Root r) 0))
+      → Permits defers fixed id (Inside t Nothing) (Swap (Root r) 0) (told defers (Inside t Nothing) (Swap (Root r) 0))
 
   -- outside of a section, too
   abbrev pub RootsAreWithdrawn : Type 0
   RootsAreWithdrawn =
       (r : ℕ) (fixed : Fixed) (id t : ℕ) → r < fixed.roots
-      → Allows (Holds defers fixed) Keeps id (Outside t) (Swap (Root r) 0) (told defers (Outside t) (Swap (Root r) 0))
+      → Permits defers fixed id (Outside t) (Swap (Root r) 0) (told defers (Outside t) (Swap (Root r) 0))
 
   -- Without a slot a seat may make a block with the words that its value asks for, take it away, or put it at a root, in place of what is there, or only in
   -- place of this word.
   abbrev pub MayAlone : Has T → Op T → Type 0
-  MayAlone has op = (fixed : Fixed) (id : ℕ) → Allows (Holds defers fixed) Keeps id (alone_with has) op (told defers (alone_with has) op)
+  MayAlone has op = (fixed : Fixed) (id : ℕ) → Permits defers fixed id (alone_with has) op (told defers (alone_with has) op)
 
   abbrev pub OwnAreMade : Type 0
   OwnAreMade = (value : T) (words : ℕ) → HasListWord defers (defers value) words → MayAlone Nothing (Make value words)
@@ -168,12 +169,12 @@ module _ (T : Type 0) (defers : T → Option ℕ) where
   abbrev pub OwnAreLinked : Type 0
   OwnAreLinked =
       (b : ℕ) (x : T) (r : ℕ) (fixed : Fixed) (id : ℕ) → r < fixed.roots
-      → Allows (Holds defers fixed) Keeps id (Brings b x) (Swap (Root r) (link_to b)) (told defers (Brings b x) (Swap (Root r) (link_to b)))
+      → Permits defers fixed id (Brings b x) (Swap (Root r) (link_to b)) (told defers (Brings b x) (Swap (Root r) (link_to b)))
 
   abbrev pub OwnAreExchanged : Type 0
   OwnAreExchanged =
       (b : ℕ) (x : T) (r old : ℕ) (fixed : Fixed) (id : ℕ) → r < fixed.roots
-      → Allows (Holds defers fixed) Keeps id (Brings b x) (Exchange (Root r) old (link_to b)) (told defers (Brings b x) (Exchange (Root r) old (link_to b)))
+      → Permits defers fixed id (Brings b x) (Exchange (Root r) old (link_to b)) (told defers (Brings b x) (Exchange (Root r) old (link_to b)))
 
   -- the block that it has is there, with the value that it was made of; or it was unlinked, and is there, too
   abbrev pub OwnAreShown : Type 0

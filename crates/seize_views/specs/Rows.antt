@@ -1,7 +1,7 @@
 -- The rule of the collector's rows: there is a world that came about, of which the memory is that of the state; each seat knows its row there, its slot, and a
 -- block; and what a root names is there.
 use Rattle.std.specs.Prelude.{◌≡◌, ℕ, true, false, List, Option, Some, None, length, ◌⊎◌}
-use Rattle.seize_words.specs.Mem.{Mem, value_at, word_at}
+use Rattle.seize_words.specs.Mem.{Mem, Can, Took, value_at, word_at}
 use Rattle.seize_words.specs.Word.{block_in}
 use Rattle.seize_words.specs.declared.at.At.TheVariants.{Root}
 use Rattle.seize.specs.declared.states.TheConstants.{IDLE, ACTIVE}
@@ -14,9 +14,10 @@ use Rattle.seize.specs.declared.rows.leave.Leave.{Leave}
 use Rattle.seize.specs.declared.rows.leave.Leaving.TheVariants as leaving_at
 use Rattle.seize.specs.Leave.{leaving, standing}
 use Rattle.seize.specs.Law.{holds, is_over}
-use Rattle.seize.specs.World.{World, Row, Hand, Event, Use, Runs, at_start}
+use Rattle.seize.specs.World.{World, Row, Hand, Event, Use, Runs, IsInside, at_start}
 use Rattle.seize.specs.World as world
-use Rattle.seize_seats.specs.State.{State, view_of}
+use Rattle.seize_seats.specs.State.{State, view_of, after, KeepsOthers}
+use Rattle.seize_words.specs.Op.{Op, Out}
 use Rattle.seize_bounds.specs.Bounds.{SettlesWithin, TriesWithin}
 use Rattle.seize_views.specs.declared.view.View.{View}
 use Rattle.seize_views.specs.declared.view.Becomes.{Becomes}
@@ -188,3 +189,24 @@ module _ {T : Type 0} where
   -- the section of a seat holds the block, which is not over
   abbrev pub Keeps : View T → View T → World T → ℕ → Type 0
   Keeps u o w b = (t : ℕ) × (has : Has T) × (u ≡ Inside t has) × (holds t b w.log ≡ true) × (is_over b w.log ≡ false)
+
+  -- what a section that is open holds it holds still
+  abbrev pub HeldStay : World T → World T → Type 0
+  HeldStay w n = (t b : ℕ) → IsInside (w.uses t) → holds t b w.log ≡ true → holds t b n.log ≡ true
+
+module _ {T : Type 0} (defers : T → Option ℕ) (fixed : Fixed) where
+  -- A step of a seat leads to this memory: the seat has a view, and there is a world, by which the rule holds again; what others keep stays kept, and what
+  -- open sections hold, its own too, they hold still.
+  abbrev pub Leads : State T (View T) (World T) → Mem T → ℕ → (View T → Type 0) → Type 0
+  Leads s m id so =
+      (v : View T) × (w : World T) × Holds defers fixed (after s m id v w) × KeepsOthers (Holds defers fixed) Keeps s id w × HeldStay s.world w × so v
+
+  -- the seat may make the operation, in each state in which it knows this, and whatever it answers
+  abbrev pub Permits : ℕ → View T → Op T → (Out T → View T → Type 0) → Type 0
+  Permits id v op so =
+      (s : State T (View T) (World T)) → Holds defers fixed s → view_of s id ≡ Some v
+      → Can s.memory op × ((out : Out T) (m : Mem T) → Took s.memory op out m → Leads s m id (so out))
+
+  -- or take a step without one
+  abbrev pub TurnsTo : ℕ → View T → (View T → Type 0) → Type 0
+  TurnsTo id v so = (s : State T (View T) (World T)) → Holds defers fixed s → view_of s id ≡ Some v → Leads s s.memory id so
