@@ -18,11 +18,11 @@ ghost use Rattle.seize_views.specs.declared.view.Has.TheVariants.{Nothing, Made,
 mod alone;
 mod memory;
 
-use crate::turns::{Entering, Forgetting, Freeing, Handing, Registering};
 use seize::rows::{Defers, needed_bucket};
 use seize::states::{ACTIVE, FREE, HEAD, IDLE, LAST_SLOT, NEVER};
 use seize_blocks::{Blocks, Seat};
 use seize_views::OfRows;
+use seize_views::turns::{Entering, Forgetting, Freeing, Handing, Registering};
 use seize_words::{At, Fault, Link};
 
 /// One of those who share the memory: a seat of it, with the memory. It is a memory for the rows that it has under way. It may be let go where it holds no slot.
