@@ -31,7 +31,7 @@ pub struct Unlinked<'a, T: Defers> {
 }
 
 impl<'a, T: Defers> Owned<'a, T> {
-    /// Makes a block; a number is looked for from `near` on, which says then where to look next. Where there are no words for it, or memory, the value comes back.
+    /// Makes a block; a number is looked for from `near` on, which says then where to look next. Without words for it, or memory, the value comes back.
     pub fn new(
         blocks: &'a Blocks<T, OfRows>,
         fixed: &Fixed,

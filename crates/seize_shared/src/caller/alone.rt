@@ -14,7 +14,7 @@ use seize::rows::Defers;
 use seize_words::{At, Link};
 
 impl<'a, T: Defers> Caller<'a, T> {
-    /// Makes a block of its own; a number is looked for from `near` on, which says then where to look next. Without words for it, or memory, the value comes back.
+    /// Makes its own block; a number is looked for from `near` on, which says then where to look next. Without words for it, or memory, the value comes back.
     pub(crate) fn brings(&mut self, near: &mut u64, value: T) -> Result<u64, T>
         requires rests { self.old.seat.view.knows ≡ Rests }
         ensures made { IfOk result (λ block. (self.new.seat.view.knows ≡ Brings block value) × (block < 2 ^ 53)) }
