@@ -18,11 +18,11 @@ ghost use Rattle.seize_views.specs.declared.view.Has.TheVariants.{Nothing, Made,
 mod alone;
 mod memory;
 
-use crate::turns::{Entering, Forgetting, Freeing, Handing, Registering};
 use seize::rows::{Defers, needed_bucket};
 use seize::states::{ACTIVE, FREE, HEAD, IDLE, LAST_SLOT, NEVER};
 use seize_blocks::{Blocks, Seat};
 use seize_views::OfRows;
+use seize_views::turns::{Entering, Forgetting, Freeing, Handing, Registering};
 use seize_words::{At, Fault, Link};
 
 /// One of those who share the memory: a seat of it, with the memory. It is a memory for the rows that it has under way. It may be let go where it holds no slot.
@@ -141,16 +141,10 @@ impl<'a, T: Defers> Caller<'a, T> {
         ensures back { IfErr result (λ back. back ≡ value) }
         ensures blocks { self.new.blocks ≡ self.old.blocks }
     {
-        match words_for(&value) {
-            Some(words) => self
-                .blocks
-                .make(&mut self.seat, &mut self.near, value, words),
-            None => Err(value),
-        }
+        self.make_beside(_slot, 0, value)
     }
 
-    /// Makes a block beside the one that it has seen, or none, which is 0, with the words that its value asks for. Where there are none, or memory is refused,
-    /// the value comes back.
+    /// Makes a block beside the one that it has seen, or none, which is 0. Where there are no words for it, or memory is refused, the value comes back.
     pub fn make_beside(&mut self, _slot: u64, _seen: u64, value: T) -> Result<u64, T>
         requires inside { self.old.seat.view.knows ≡ Inside _slot (seen_as _seen) }
         ensures made { IfOk result (λ block. (self.new.seat.view.knows ≡ Inside _slot (made_beside block value _seen)) × (block < 2 ^ 53)) }
@@ -184,7 +178,7 @@ impl<'a, T: Defers> Caller<'a, T> {
         ensures back { (value : T) → self.old.seat.view.knows ≡ Inside _slot (Made block value) → result ≡ value }
         ensures blocks { self.new.blocks ≡ self.old.blocks }
     {
-        self.blocks.take(&mut self.seat, block)
+        self.take_beside(_slot, 0, block)
     }
 
     /// Puts the block that it has made at a root, and answers which one was there, and is to be retired.

@@ -54,11 +54,12 @@ impl<'a, T: Defers + Drop> Registration<'a, T> {
         ensures slot { self.new.stay.slot ≡ self.old.stay.slot }
         ensures began { self.new.stay.caller.seat.view.began ≡ Retirement }
     {
-        self.stay.retires(old)
+        let Unlinked { caller, block } = old;
+        let mut caller = caller;
+        caller.hands_over(&mut self.stay, block);
     }
 
-    /// Tries the slot's batch, whatever its length, without a section. A value that is reclaimed is dropped. Where a guard was forgotten its section ends
-    /// first.
+    /// Tries the slot's batch without a section. A value that is reclaimed is dropped. Where a guard was forgotten its section ends first.
     pub fn flush(&mut self)
         ensures home { self.new.stay.caller.blocks ≡ self.old.stay.caller.blocks }
         ensures slot { self.new.stay.slot ≡ self.old.stay.slot }
@@ -132,8 +133,7 @@ pub trait Guard<T: Defers> {
         ensures some { IfSome result (λ value. seen self.now ≢ 0) }
         ensures none { IfNone result (seen self.now ≡ 0) };
 
-    /// Puts a value at a root, and retires the one that was there. It comes back where there is no such root, or no block can be made of it. The section is
-    /// begun anew.
+    /// Puts a value at a root, and retires the one that was there. Without such a root, or a block for it, it comes back. The section is begun anew.
     fn put(&mut self, root: u64, value: T) -> Result<(), T>
         ensures home { home self.new ≡ home self.old }
         ensures slot { slot self.new ≡ slot self.old }

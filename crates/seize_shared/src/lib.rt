@@ -6,7 +6,6 @@ mod caller;
 mod guard;
 mod owned;
 mod stay;
-mod turns;
 
 pub use caller::Caller;
 pub use guard::{Guard, LocalGuard, OwnedGuard, Registration};

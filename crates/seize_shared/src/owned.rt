@@ -31,8 +31,7 @@ pub struct Unlinked<'a, T: Defers> {
 }
 
 impl<'a, T: Defers> Owned<'a, T> {
-    /// Makes a block, with the words that its value asks for. What was chosen as the memory was opened is handed in, and from where on a number is looked for,
-    /// which is then where to look for the next one. Where there are no such words, or memory is refused, the value comes back.
+    /// Makes a block; a number is looked for from `near` on, which says then where to look next. Without words for it, or memory, the value comes back.
     pub fn new(
         blocks: &'a Blocks<T, OfRows>,
         fixed: &Fixed,

@@ -8,7 +8,6 @@ ghost use Rattle.seize_views.specs.declared.view.Deed.TheVariants.{Looked, Wrote
 ghost use Rattle.seize_views.specs.declared.view.View.TheVariants.{Bears, Rests};
 
 use crate::caller::Caller;
-use crate::owned::Unlinked;
 use seize::rows::Defers;
 use seize_blocks::{Blocks, Seat};
 use seize_views::{Fixed, OfRows};
@@ -249,20 +248,6 @@ impl<'a, T: Defers + Drop> Stay<'a, T> {
             self.caller.retire_idle(self.slot, block);
         }
         self.seen = 0;
-    }
-
-    /// Retires a block that has a seat of its own.
-    pub(crate) fn retires<'u>(&mut self, old: Unlinked<'u, T>)
-        requires home { old.caller.blocks.now.words.id.views_name ≡ self.old.caller.blocks.now.words.id.views_name }
-        ensures home { self.new.caller.blocks ≡ self.old.caller.blocks }
-        ensures slot { self.new.slot ≡ self.old.slot }
-        ensures inside { self.new.inside ≡ self.old.inside }
-        ensures fresh { self.new.seen ≡ 0 }
-        ensures began { self.new.caller.seat.view.began ≡ Retirement }
-    {
-        let Unlinked { caller, block } = old;
-        let mut caller = caller;
-        caller.hands_over(self, block);
     }
 
     /// Tries the slot's batch, whatever its length, where its section is open.

@@ -4,6 +4,7 @@
 
 mod law;
 mod rows;
+pub mod turns;
 mod view;
 
 pub use law::{blocks_have_seats, deeds_are_noted, rows_go_on, sections_go_on};

@@ -14,8 +14,7 @@ use seize::rows::Defers;
 use seize_words::{At, Link};
 
 impl<'a, T: Defers> Caller<'a, T> {
-    /// Makes a block of its own, with the words that its value asks for. From where on a number is looked for is handed in, and then where to look for the
-    /// next one. Where there are no such words, or memory is refused, the value comes back.
+    /// Makes its own block; a number is looked for from `near` on, which says then where to look next. Without words for it, or memory, the value comes back.
     pub(crate) fn brings(&mut self, near: &mut u64, value: T) -> Result<u64, T>
         requires rests { self.old.seat.view.knows ≡ Rests }
         ensures made { IfOk result (λ block. (self.new.seat.view.knows ≡ Brings block value) × (block < 2 ^ 53)) }
@@ -34,8 +33,7 @@ impl<'a, T: Defers> Caller<'a, T> {
         requires brings { brought_by self.now.seat.view.knows ≡ Some block }
         ensures same { (value : T) → self.now.seat.view.knows ≡ Brings block value → result.now ≡ value }
     {
-        let seat = &self.seat;
-        self.blocks.value(seat, block)
+        self.blocks.value(&self.seat, block)
     }
 
     /// Takes its own block away, and answers its value.
@@ -85,8 +83,7 @@ impl<'a, T: Defers> Caller<'a, T> {
         requires bears { borne_by self.now.seat.view.knows ≡ Some block }
         ensures { IsValueOf (NotedHolds T.defers self.now.blocks.now.words.fixed) self.now.seat.id self.now.seat.view block result.now }
     {
-        let seat = &self.seat;
-        self.blocks.value(seat, block)
+        self.blocks.value(&self.seat, block)
     }
 
     /// Hands the block that it has unlinked on to a guard of the same memory, which retires it.

@@ -15,11 +15,11 @@ ghost use Rattle.seize_views.specs.declared.view.View.TheVariants.{Outside, Owes
 ghost use Rattle.seize_views.specs.declared.view.Why.TheVariants as reason;
 
 use crate::caller::Caller;
-use crate::turns::{Ending, Flushing, Leaving, Refreshing, Retiring};
 use seize::Machine;
 use seize::rows::{Defers, Settle, Settled, Settling};
 use seize::states::{ACTIVE, HEAD, IDLE};
 use seize_straight::{Retired, reclaims, retire, settle_of};
+use seize_views::turns::{Ending, Flushing, Leaving, Refreshing, Retiring};
 use seize_words::{At, Fault, Link, Look, Memory};
 
 /// Whether a settling has ended.

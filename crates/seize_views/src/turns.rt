@@ -1,36 +1,36 @@
 //! The steps of a seat, or of two, that make no operation.
+use crate::view::{Fixed, Noted};
 use seize_blocks::{Meeting, Turn};
-use seize_views::{Fixed, Noted};
 
 /// Registering begins.
-pub(crate) struct Registering;
+pub struct Registering;
 
 /// Entering begins.
-pub(crate) struct Entering;
+pub struct Entering;
 
 /// A retirement begins.
-pub(crate) struct Retiring;
+pub struct Retiring;
 
 /// The trying of a batch begins.
-pub(crate) struct Flushing;
+pub struct Flushing;
 
 /// Leaving begins.
-pub(crate) struct Leaving;
+pub struct Leaving;
 
 /// Refreshing begins.
-pub(crate) struct Refreshing;
+pub struct Refreshing;
 
 /// What was seen is let go.
-pub(crate) struct Forgetting;
+pub struct Forgetting;
 
 /// What was begun ends.
-pub(crate) struct Ending;
+pub struct Ending;
 
 /// Giving up begins.
-pub(crate) struct Freeing;
+pub struct Freeing;
 
 /// A block that was unlinked is handed on.
-pub(crate) struct Handing;
+pub struct Handing;
 
 impl<T> Turn<Fixed, Noted<T>> for Registering {
     ghost use Rattle.seize_views.specs.Begun.{registering, Makes};
