@@ -168,7 +168,7 @@ module _ {T : Type 0} (defers : T → Option ℕ) (left_over : T → Bool) (size
               none = λ e t b. absurd (cc e);
             })
 
-        flush_by : (e : Settle × Settled T) → Steps Took value_at w.memory (settle_plan defers l) m2 e → Leads (at.Flushes s l) m2 (within flushing_at behind e)
+        abbrev pub flush_by : (e : Settle × Settled T) → Steps Took value_at w.memory (settle_plan defers l) m2 e → Leads (at.Flushes s l) m2 (within flushing_at behind e)
         flush_by (d, settled.Goes) st = record {
           w2 = settles_on w i l m2 (d, settled.Goes);
           events = Step i ∷ [];

@@ -47,7 +47,7 @@ module _ {T : Type 0} (defers : T → Option ℕ) (left_over : T → Bool) (size
     LedTo point m2 end = Led defers size i roots w point m2 end.0 end.1
 
     -- where no row is under way, none is within any point
-    no_row : (c : ReclaimAll) → w.row i ≡ Rests → (p : Reclaiming) → StageAt defers size i c w p → BeginsAt defers size i w w p
+    pub no_row : (c : ReclaimAll) → w.row i ≡ Rests → (p : Reclaiming) → StageAt defers size i c w p → BeginsAt defers size i w w p
     no_row c rests (at.Leaves s l) (none, lt, h) = absurd (let row = h.row_is in cc (rests, row))
     no_row c rests (at.Flushes s l) (lt, h) = absurd (let row = h.row_is in cc (rests, row))
     no_row c rests _ h = refl
