@@ -1,0 +1,83 @@
+-- Those who come wait; what is looked at is there; and where the machine is over nothing is left that waits, and the rule of all holds again.
+use Rattle.std.specs.Prelude.{Option, Some, None, IsSome}
+use Rattle.std.proofs.Common.{◌≡◌, ℕ, ◌<◌, ◌^◌, Bool, [], ◌∷◌, ◌⊎◌, inl, inr, refl, sym, subst, ap, ◌∙◌}
+use Rattle.seize_words.specs.Mem.{Mem, value_at}
+use Rattle.seize.specs.declared.rows.reclaim_all.ReclaimAll.{ReclaimAll}
+use Rattle.seize.specs.declared.rows.reclaim_all.Reclaiming.{Reclaiming}
+use Rattle.seize.specs.declared.rows.reclaim_all.Reclaiming.TheVariants as at
+use Rattle.seize.specs.World.{World}
+use Rattle.seize_acts.proofs.Answers.{same_some}
+use Rattle.seize_seats.specs.State.{State, view_of}
+use Rattle.seize_seats.specs.Lendings.{Shown}
+use Rattle.seize_quiet.specs.Slots.{IsQuiet, StageAt}
+use Rattle.seize_quiet.proofs.Promised.{nothing_waits}
+use Rattle.seize_views.specs.declared.view.Fixed.{Fixed}
+use Rattle.seize_views.proofs.Lists.{with_last}
+use Rattle.seize_renews.specs.Rule.{Acts, Stands, HoldsAlone}
+use Rattle.seize_renews.specs.Promises.{WaitersCome, LookedIsShown, OverIsQuiet, OverRenews}
+use Rattle.seize_renews.specs.declared.alone.Alone.{Alone}
+use Rattle.seize_renews.specs.declared.alone.Alone.TheVariants.{Waits, Registers, Reclaims}
+use Rattle.seize_renews.proofs.Roots.{came_quiet}
+
+module _ {T : Type 0} (defers : T → Option ℕ) (left_over : T → Bool) where
+  pub waiters_come : WaitersCome defers left_over
+  waiters_come fixed s h = (
+    s.world,
+    record {
+      came = h.came;
+      memory = h.memory;
+      seats = λ j v e. (elim (with_last s.views j Waits v e) as (λ _. Stands defers left_over fixed s.world j v) [
+        | inl was ↦ h.seats j v was
+        | inr (none, is) ↦ subst (λ (x : Alone T). Stands defers left_over fixed s.world j x) is tt
+      ]);
+      one = λ j k v u e f p q. by j k v u (with_last s.views j Waits v e) (with_last s.views k Waits u f) p q;
+      roots = h.roots;
+      rooted = h.rooted;
+    },
+    λ b u o keeps. keeps,
+  )
+    where
+      no : (v : Alone T) → Waits ≡ v → Acts v → ⊥
+      no v is acts = subst (λ (x : Alone T). Acts x) (sym is) acts
+
+      by : (j k : ℕ) (v u : Alone T) → (view_of s j ≡ Some v) ⊎ ((view_of s j ≡ None) × (Waits ≡ v)) → (view_of s k ≡ Some u) ⊎ ((view_of s k ≡ None) × (Waits ≡ u))
+          → Acts v → Acts u → j ≡ k
+      by j k v u (inl a) (inl b) p q = h.one j k v u a b p q
+      by j k v u (inl a) (inr b) p q = absurd (no u b.1 q)
+      by j k v u (inr a) b p q = absurd (no v a.1 p)
+
+  pub looked_is_shown : LookedIsShown defers left_over
+  looked_is_shown fixed id c b left x = (there, λ y of. same_some y x (sym of.3 ∙ here of.0 of.1 of.2))
+    where
+      here : (t : State T (Alone T) (World T)) → HoldsAlone defers left_over fixed t → view_of t id ≡ Some (Reclaims c (Some (b, x)) left) → value_at t.memory b ≡ Some x
+      here t h at_id = ap (λ (m : Mem T). value_at m b) h.memory ∙ (h.seats id (Reclaims c (Some (b, x)) left) at_id).2
+
+      there : Shown (HoldsAlone defers left_over fixed) id (Reclaims c (Some (b, x)) left) b
+      there t h at_id = subst IsSome (sym (here t h at_id)) refl
+
+  quiet_at : (fixed : Fixed) (id : ℕ) (c : ReclaimAll) (seen : Option (ℕ × T)) (left : ℕ) → c.stands ≡ at.Over
+      → (s : State T (Alone T) (World T)) → HoldsAlone defers left_over fixed s → view_of s id ≡ Some (Reclaims c seen left) → IsQuiet s.world
+  quiet_at fixed id c seen left over s h at_id =
+      let st = (h.seats id (Reclaims c seen left) at_id).0 in
+      (subst (λ (p : Reclaiming). StageAt defers fixed.batch_size id c s.world p) over st.here).1
+
+  pub over_is_quiet : OverIsQuiet defers left_over
+  over_is_quiet fixed id c seen left word over s h at_id =
+      let quiet = quiet_at fixed id c seen left over s h at_id in
+      (quiet, nothing_waits defers fixed.batch_size s.world word (came_quiet defers fixed s.world h.came) quiet)
+
+  pub over_renews : OverRenews defers left_over
+  over_renews fixed id c seen left over s h at_id = (
+    s.world,
+    record {
+      came = h.came;
+      memory = h.memory;
+      seats = λ j v e. absurd (cc e);
+      unborn = λ j e. (quiet_at fixed id c seen left over s h at_id).rests j;
+      apart = λ j k t a b v u e f p q. absurd (cc e);
+      sole = λ j k b v u e f p q. absurd (cc e);
+      roots = h.roots;
+      rooted = h.rooted;
+      bounded = λ j v e. absurd (cc e);
+    },
+  )

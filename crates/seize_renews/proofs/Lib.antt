@@ -1,0 +1,4 @@
+pub mod Looks
+pub mod Roots
+pub mod Steps
+pub mod Ends

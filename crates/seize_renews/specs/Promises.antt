@@ -1,0 +1,60 @@
+-- What is promised while one seat alone acts: others may come, who wait; each of its steps may be taken; and where it is over nothing is left that waits, and
+-- the rule of all holds again.
+use Rattle.std.specs.Prelude.{◌≡◌, ℕ, ◌<◌, ◌^◌, Bool, Option, Some, None, []}
+use Rattle.seize_words.specs.Op.{Op}
+use Rattle.seize_words.specs.Plan.{Turn, Now}
+use Rattle.seize.specs.declared.rows.reclaim_all.ReclaimAll.{ReclaimAll}
+use Rattle.seize.specs.declared.rows.reclaim_all.Reclaiming.TheVariants as at
+use Rattle.seize.specs.declared.rows.settle.Settled.{Settled}
+use Rattle.seize.specs.ReclaimAll.{reclaim_all_plan}
+use Rattle.seize.specs.World.{World}
+use Rattle.seize_seats.specs.Lendings.{Shown, IsValueOf}
+use Rattle.seize_seats.specs.State.{State, view_of, Allows, Turns, Comes}
+use Rattle.seize_acts.specs.Reclaimed.{HasNothingLeft}
+use Rattle.seize_quiet.specs.Slots.{IsQuiet}
+use Rattle.seize_quiet.specs.Promises.{IsOnSlots}
+use Rattle.seize_views.specs.Promises.{op_in}
+use Rattle.seize_views.specs.Rows.{Holds}
+use Rattle.seize_views.specs.declared.view.Fixed.{Fixed}
+use Rattle.seize_renews.specs.Rule.{told, HoldsAlone, KeepsNone}
+use Rattle.seize_renews.specs.declared.alone.Alone.{Alone}
+use Rattle.seize_renews.specs.declared.alone.Alone.TheVariants.{Waits, Reclaims}
+
+module _ {T : Type 0} (defers : T → Option ℕ) (left_over : T → Bool) where
+  -- further seats may come, who wait
+  abbrev pub WaitersCome : Type 0
+  WaitersCome = (fixed : Fixed) → Comes (HoldsAlone defers left_over fixed) KeepsNone Waits
+
+  -- the next operation on slots may be made
+  abbrev pub ReclaimingGoesOn : Type 0
+  ReclaimingGoesOn =
+      (fixed : Fixed) (id : ℕ) (c : ReclaimAll) (seen : Option (ℕ × T)) (left : ℕ) (op : Op T) → fixed.batch_size < 2 ^ 64 → IsOnSlots c.stands
+      → op_in (reclaim_all_plan defers left_over c) ≡ Some op
+      → Allows (HoldsAlone defers left_over fixed) KeepsNone id (Reclaims c seen left) op (told defers left_over (Reclaims c seen left) op)
+
+  -- and a step that makes none is a turn
+  abbrev pub ReclaimingTurns : Type 0
+  ReclaimingTurns =
+      (fixed : Fixed) (id : ℕ) (c c2 : ReclaimAll) (progress : Settled T) (seen : Option (ℕ × T)) (left : ℕ) → fixed.batch_size < 2 ^ 64 → IsOnSlots c.stands
+      → reclaim_all_plan defers left_over c ≡ Turn (Now (c2, progress))
+      → Turns (HoldsAlone defers left_over fixed) KeepsNone id (Reclaims c seen left) (λ w. (now : ℕ) × (now < left) × (w ≡ Reclaims c2 None now))
+
+  -- what it is about to look at is there, with the value that was told
+  abbrev pub LookedIsShown : Type 0
+  LookedIsShown =
+      (fixed : Fixed) (id : ℕ) (c : ReclaimAll) (b left : ℕ) (x : T) → Shown (HoldsAlone defers left_over fixed) id (Reclaims c (Some (b, x)) left) b
+      × ((y : T) → IsValueOf (HoldsAlone defers left_over fixed) id (Reclaims c (Some (b, x)) left) b y → y ≡ x)
+
+  -- Where its machine is over nothing is left: no row is under way, no block is retired, no slot is in use, and none has a batch.
+  abbrev pub OverIsQuiet : Type 0
+  OverIsQuiet =
+      (fixed : Fixed) (id : ℕ) (c : ReclaimAll) (seen : Option (ℕ × T)) (left : ℕ) → fixed.batch_size < 2 ^ 64 → c.stands ≡ at.Over
+      → (s : State T (Alone T) (World T)) → HoldsAlone defers left_over fixed s → view_of s id ≡ Some (Reclaims c seen left)
+      → IsQuiet s.world × HasNothingLeft defers s.world
+
+  -- and the rule of all holds again, with no seat
+  abbrev pub OverRenews : Type 0
+  OverRenews =
+      (fixed : Fixed) (id : ℕ) (c : ReclaimAll) (seen : Option (ℕ × T)) (left : ℕ) → c.stands ≡ at.Over
+      → (s : State T (Alone T) (World T)) → HoldsAlone defers left_over fixed s → view_of s id ≡ Some (Reclaims c seen left)
+      → (w : World T) × Holds defers fixed record { memory = s.memory; views = []; world = w }
