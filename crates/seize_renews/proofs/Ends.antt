@@ -1,25 +1,63 @@
 -- Those who come wait; what is looked at is there; and where the machine is over nothing is left that waits, and the rule of all holds again.
-use Rattle.std.specs.Prelude.{Option, Some, None, IsSome}
-use Rattle.std.proofs.Common.{◌≡◌, ℕ, ◌<◌, ◌^◌, Bool, [], ◌∷◌, ◌⊎◌, inl, inr, refl, sym, subst, ap, ◌∙◌}
+use Rattle.std.specs.Prelude.{Option, Some, None, IsSome, slice_get}
+use Rattle.std.proofs.Common.{◌≡◌, ℕ, zero, suc, ◌<◌, ◌^◌, Bool, false, [], ◌∷◌, ◌⊎◌, inl, inr, refl, sym, subst, ap, ◌∙◌}
 use Rattle.seize_words.specs.Mem.{Mem, value_at}
 use Rattle.seize.specs.declared.rows.reclaim_all.ReclaimAll.{ReclaimAll}
 use Rattle.seize.specs.declared.rows.reclaim_all.Reclaiming.{Reclaiming}
 use Rattle.seize.specs.declared.rows.reclaim_all.Reclaiming.TheVariants as at
-use Rattle.seize.specs.World.{World}
+use Rattle.seize.specs.declared.rows.register.Registering.TheVariants as register_at
+use Rattle.seize.specs.World.{World, Begin, Register', with_row}
+use Rattle.seize.specs.World as world
+use Rattle.seize_rule.proofs.Rows.Others.{with_here, with_other}
 use Rattle.seize_acts.proofs.Answers.{same_some}
 use Rattle.seize_seats.specs.State.{State, view_of}
 use Rattle.seize_seats.specs.Lendings.{Shown}
 use Rattle.seize_quiet.specs.Slots.{IsQuiet, StageAt}
 use Rattle.seize_quiet.proofs.Promised.{nothing_waits}
+use Rattle.seize_views.specs.declared.view.View.{View}
 use Rattle.seize_views.specs.declared.view.Fixed.{Fixed}
+use Rattle.seize_views.proofs.Came.{came_then}
 use Rattle.seize_views.proofs.Lists.{with_last}
 use Rattle.seize_renews.specs.Rule.{Acts, Stands, HoldsAlone}
-use Rattle.seize_renews.specs.Promises.{WaitersCome, LookedIsShown, OverIsQuiet, OverRenews}
+use Rattle.seize_renews.specs.Promises.{first_of, IdleRenew, WaitersCome, LookedIsShown, OverIsQuiet, OverRenews}
 use Rattle.seize_renews.specs.declared.alone.Alone.{Alone}
 use Rattle.seize_renews.specs.declared.alone.Alone.TheVariants.{Waits, Registers, Reclaims}
 use Rattle.seize_renews.proofs.Roots.{came_quiet}
 
 module _ {T : Type 0} (defers : T → Option ℕ) (left_over : T → Bool) where
+  pub idle_renew : IdleRenew defers left_over
+  idle_renew fixed s h idle = (
+    n,
+    record {
+      came = came_then defers fixed s.world n (Begin 0 (Register' false)) h.came (rests 0, refl);
+      memory = h.memory;
+      seats = seats_there;
+      one = λ j k v u e f p q. first j v e ∙ sym (first k u f);
+      roots = h.roots;
+      rooted = h.rooted;
+    },
+  )
+    where
+      rests : (j : ℕ) → s.world.row j ≡ world.Rests
+      rests j = by (view_of s j) refl
+        where
+          by : (o : Option (View T)) → view_of s j ≡ o → s.world.row j ≡ world.Rests
+          by None e = h.unborn j e
+          by (Some v) e = (h.seats j v e).row ∙ idle j v e
+
+      n : World T
+      n = with_row s.world 0 (world.Registers (record { slot = 0; enters = false; stands = register_at.Begin }))
+
+      first : (j : ℕ) (v : Alone T) → slice_get (first_of fixed ∷ []) j ≡ Some v → j ≡ 0
+      first zero v e = refl
+      first (suc j) v e = absurd (cc e)
+
+      seats_there : (j : ℕ) (v : Alone T) → slice_get (first_of fixed ∷ []) j ≡ Some v → Stands defers left_over fixed n j v
+      seats_there zero v e =
+          subst (λ (x : Alone T). Stands defers left_over fixed n 0 x) (same_some (first_of fixed) v e)
+          (refl, with_here s.world.row 0 _, (λ k ne. with_other s.world.row 0 k _ ne ∙ rests k), refl, tt, refl)
+      seats_there (suc j) v e = absurd (cc e)
+
   pub waiters_come : WaitersCome defers left_over
   waiters_come fixed s h = (
     s.world,

@@ -33,7 +33,7 @@ module _ {T : Type 0} (defers : T → Option ℕ) (fixed : Fixed) where
   begun_stays i (world.Retire s b) is w n h = absurd is
   begun_stays i (world.Defer' s b t) is w n h = absurd is
 
-  step_stays : (i : ℕ) (w n : World T) → Came defers fixed w → Happens defers fixed.batch_size (Step i) w n → RootsStay w n
+  pub step_stays : (i : ℕ) (w n : World T) → Came defers fixed w → Happens defers fixed.batch_size (Step i) w n → RootsStay w n
   step_stays i w n came step =
       let r = reached defers fixed w came in (
         (did defers fixed.batch_size w r i n step).frames.roots,

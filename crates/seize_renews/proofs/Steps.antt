@@ -1,7 +1,6 @@
 -- A step on slots of the seat that reclaims all: it may be taken, and the rule holds after it.
-use Rattle.std.specs.Prelude.{◌≢◌, Option, Some, None, IsSome, length, slice_get, slice_set}
-use Rattle.std.proofs.Common.{◌≡◌, ℕ, zero, suc, ◌+◌, ◌<◌, ◌^◌, Bool, List, ◌⊎◌, inl, inr, refl, sym, subst, ap, ◌∙◌, arith}
-use Rattle.std.proofs.lemmas.Bool.{cases_eq}
+use Rattle.std.specs.Prelude.{Option, Some, None}
+use Rattle.std.proofs.Common.{◌≡◌, ℕ, zero, suc, ◌+◌, ◌<◌, ◌^◌, Bool, refl, sym, subst, ap, arith}
 use Rattle.seize_words.specs.Mem.{Mem, Can, Took, value_at}
 use Rattle.seize_words.specs.Op.{Op, Out}
 use Rattle.seize_words.specs.Plan.{Plan, Then, Turn, Do, Now, Ends, May, Steps}
@@ -11,21 +10,22 @@ use Rattle.seize.specs.declared.rows.settle.Settled.TheVariants as settled
 use Rattle.seize.specs.ReclaimAll.{reclaim_all_plan}
 use Rattle.seize.specs.World.{World}
 use Rattle.seize_acts.proofs.Answers.{same_some}
-use Rattle.seize_seats.specs.State.{State, view_of, Goes, Allows, Turns}
+use Rattle.seize_seats.specs.State.{State, view_of, Goes}
 use Rattle.seize_quiet.specs.Slots.{Led, SlotsTold}
 use Rattle.seize_quiet.specs.Promises.{IsOnSlots, DoneWithin}
 use Rattle.seize_quiet.proofs.Promised.{slots_lead}
 use Rattle.seize_views.specs.Promises.{op_in}
+use Rattle.seize_views.specs.Rows.{Came}
 use Rattle.seize_views.specs.Told.{FollowsBy, shown_by}
 use Rattle.seize_views.specs.declared.view.Fixed.{Fixed}
-use Rattle.seize_views.proofs.Lists.{there, elsewhere}
 use Rattle.seize_views.proofs.Looks.{rest_of}
-use Rattle.seize_renews.specs.Rule.{Acts, IsShown, HasGone, ReclaimsOn, told, Stands, HoldsAlone, KeepsNone}
+use Rattle.seize_renews.specs.Rule.{IsShown, HasGone, told, Stands, HoldsAlone, KeepsNone}
 use Rattle.seize_renews.specs.Promises.{ReclaimingGoesOn, ReclaimingTurns}
 use Rattle.seize_renews.specs.declared.alone.Alone.{Alone}
-use Rattle.seize_renews.specs.declared.alone.Alone.TheVariants.{Waits, Registers, Reclaims}
+use Rattle.seize_renews.specs.declared.alone.Alone.TheVariants.{Reclaims}
 use Rattle.seize_renews.proofs.Looks.{may_end, reclaim_looked}
-use Rattle.seize_renews.proofs.Roots.{came_quiet, rows_stay, roots_still}
+use Rattle.seize_renews.proofs.Moved.{moved}
+use Rattle.seize_renews.proofs.Roots.{came_quiet, rows_stay, RootsStay}
 
 -- what one that works on slots tells
 goes_on : {T : Type 0} (w w2 : World T) (o : Settled T) → SlotsTold w w2 o → HasGone o
@@ -67,60 +67,16 @@ module _ {T : Type 0} (defers : T → Option ℕ) (left_over : T → Bool) (fixe
     less : (now : ℕ) × (now < left) × DoneWithin defers left_over now m2 c2
     less = fewer left stands.1 m2 c2 o st
 
-    stay : _
+    stay : Came defers fixed led.w2 × RootsStay defers fixed w led.w2
     stay = rows_stay defers fixed id led.events led.own w led.w2 h.came led.runs
 
     abbrev u : Alone T
     u = Reclaims c2 seen2 less.0
 
-    abbrev views2 : List (Alone T)
-    views2 = slice_set s.views id u
-
-    who : (j : ℕ) (x : Alone T) → slice_get views2 j ≡ Some x → ((j ≡ id) × (x ≡ u)) ⊎ ((j ≢ id) × (view_of s j ≡ Some x))
-    who j x e = elim (cases_eq j id) as (λ _. ((j ≡ id) × (x ≡ u)) ⊎ ((j ≢ id) × (view_of s j ≡ Some x))) [
-      | inl same ↦ inl (same, same_some x u (sym e ∙ ap (slice_get views2) same ∙ there s.views id (Reclaims c seen left) u at_id))
-      | inr ne ↦ inr (ne, sym (elsewhere s.views id j u ne) ∙ e)
-    ]
-
-    stands_there : (j : ℕ) (x : Alone T) → slice_get views2 j ≡ Some x → Stands defers left_over fixed led.w2 j x
-    stands_there j x e = elim (who j x e) as (λ _. Stands defers left_over fixed led.w2 j x) [
-      | inl (same, is) ↦
-          subst (λ (k : ℕ). Stands defers left_over fixed led.w2 k x) (sym same) (subst (λ (v : Alone T). Stands defers left_over fixed led.w2 id v) (sym is)
-          (led.stage, subst (λ (m : Mem T). DoneWithin defers left_over less.0 m c2) (sym led.memory) less.2, subst (λ (m : Mem T). IsShown m seen2) (sym led.memory) shows))
-      | inr (ne, was) ↦ others x (λ acts. ne (h.one j id x (Reclaims c seen left) was at_id acts tt))
-    ]
-      where
-        others : (x : Alone T) → (Acts x → ⊥) → Stands defers left_over fixed led.w2 j x
-        others Waits none = tt
-        others (Registers d size) none = absurd (none tt)
-        others (Reclaims d seen3 left3) none = absurd (none tt)
-
-    one_there : (j k : ℕ) (x y : Alone T) → slice_get views2 j ≡ Some x → slice_get views2 k ≡ Some y → Acts x → Acts y → j ≡ k
-    one_there j k x y e f p q = by (who j x e) (who k y f)
-      where
-        mine : (n : ℕ) (z : Alone T) → view_of s n ≡ Some z → Acts z → n ≡ id
-        mine n z was acts = h.one n id z (Reclaims c seen left) was at_id acts tt
-
-        by : ((j ≡ id) × (x ≡ u)) ⊎ ((j ≢ id) × (view_of s j ≡ Some x)) → ((k ≡ id) × (y ≡ u)) ⊎ ((k ≢ id) × (view_of s k ≡ Some y)) → j ≡ k
-        by (inl a) (inl b) = a.0 ∙ sym b.0
-        by (inl a) (inr b) = absurd (b.0 (mine k y b.1 q))
-        by (inr a) b = absurd (a.0 (mine j x a.1 p))
-
-    pub goes : (so : Alone T → Type 0) → so u → Goes (HoldsAlone defers left_over fixed) KeepsNone s m2 id so
-    goes so is = (
-      u,
-      led.w2,
-      record {
-        came = stay.0;
-        memory = sym led.memory;
-        seats = stands_there;
-        one = one_there;
-        roots = subst (λ (m : Mem T). _) led.memory (roots_still defers fixed w led.w2 stay.1 (subst (λ (m : Mem T). _) h.memory h.roots));
-        rooted = ap (λ (m : Mem T). length m.roots) (sym led.memory) ∙ ap length stay.1.0 ∙ ap (λ (m : Mem T). length m.roots) (sym h.memory) ∙ h.rooted;
-      },
-      (λ j k b x y p q e f keeps. keeps),
-      is,
-    )
+    goes : (so : Alone T → Type 0) → so u → Goes (HoldsAlone defers left_over fixed) KeepsNone s m2 id so
+    goes so is =
+        moved defers left_over fixed s id (Reclaims c seen left) u tt h at_id m2 led.w2 stay.0 led.memory stay.1
+        (led.stage, subst (λ (m : Mem T). DoneWithin defers left_over less.0 m c2) (sym led.memory) less.2, subst (λ (m : Mem T). IsShown m seen2) (sym led.memory) shows) so is
 
   -- after an operation
   pub after_op : (op : Op T) → op_in P ≡ Some op

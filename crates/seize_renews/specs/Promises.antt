@@ -1,26 +1,49 @@
 -- What is promised while one seat alone acts: others may come, who wait; each of its steps may be taken; and where it is over nothing is left that waits, and
 -- the rule of all holds again.
-use Rattle.std.specs.Prelude.{◌≡◌, ℕ, ◌<◌, ◌^◌, Bool, Option, Some, None, []}
+use Rattle.std.specs.Prelude.{◌≡◌, ℕ, ◌<◌, ◌^◌, Bool, false, Option, Some, None, [], ◌∷◌}
 use Rattle.seize_words.specs.Op.{Op}
 use Rattle.seize_words.specs.Plan.{Turn, Now}
+use Rattle.seize.specs.declared.rows.register.Register.{Register}
+use Rattle.seize.specs.declared.rows.register.Registering.TheVariants as register_at
 use Rattle.seize.specs.declared.rows.reclaim_all.ReclaimAll.{ReclaimAll}
 use Rattle.seize.specs.declared.rows.reclaim_all.Reclaiming.TheVariants as at
 use Rattle.seize.specs.declared.rows.settle.Settled.{Settled}
+use Rattle.seize.specs.Register.{register_plan}
 use Rattle.seize.specs.ReclaimAll.{reclaim_all_plan}
 use Rattle.seize.specs.World.{World}
+use Rattle.seize.specs.World as world
 use Rattle.seize_seats.specs.Lendings.{Shown, IsValueOf}
 use Rattle.seize_seats.specs.State.{State, view_of, Allows, Turns, Comes}
 use Rattle.seize_acts.specs.Reclaimed.{HasNothingLeft}
 use Rattle.seize_quiet.specs.Slots.{IsQuiet}
 use Rattle.seize_quiet.specs.Promises.{IsOnSlots}
 use Rattle.seize_views.specs.Promises.{op_in}
-use Rattle.seize_views.specs.Rows.{Holds}
+use Rattle.seize_views.specs.Rows.{row_of, Holds}
+use Rattle.seize_views.specs.declared.view.View.{View}
 use Rattle.seize_views.specs.declared.view.Fixed.{Fixed}
 use Rattle.seize_renews.specs.Rule.{told, HoldsAlone, KeepsNone}
 use Rattle.seize_renews.specs.declared.alone.Alone.{Alone}
-use Rattle.seize_renews.specs.declared.alone.Alone.TheVariants.{Waits, Reclaims}
+use Rattle.seize_renews.specs.declared.alone.Alone.TheVariants.{Waits, Registers, Reclaims}
 
 module _ {T : Type 0} (defers : T → Option ℕ) (left_over : T → Bool) where
+  -- Where each seat is at rest, one may act alone: it is the only one then, and begins to take a slot.
+  abbrev pub AreIdle : State T (View T) (World T) → Type 0
+  AreIdle s = (j : ℕ) (v : View T) → view_of s j ≡ Some v → row_of v ≡ world.Rests
+
+  abbrev pub first_of : Fixed → Alone T
+  first_of fixed = Registers record { slot = 0; enters = false; stands = register_at.Begin } fixed.batch_size
+
+  abbrev pub IdleRenew : Type 0
+  IdleRenew =
+      (fixed : Fixed) (s : State T (View T) (World T)) → Holds defers fixed s → AreIdle s
+      → (w : World T) × HoldsAlone defers left_over fixed record { memory = s.memory; views = first_of fixed ∷ []; world = w }
+
+  -- it may make its next operation
+  abbrev pub RegisteringGoesOn : Type 0
+  RegisteringGoesOn =
+      (fixed : Fixed) (id : ℕ) (c : Register) (size : ℕ) (op : Op T) → fixed.batch_size < 2 ^ 64 → op_in (register_plan {T = T} c) ≡ Some op
+      → Allows (HoldsAlone defers left_over fixed) KeepsNone id (Registers c size) op (told defers left_over (Registers c size) op)
+
   -- further seats may come, who wait
   abbrev pub WaitersCome : Type 0
   WaitersCome = (fixed : Fixed) → Comes (HoldsAlone defers left_over fixed) KeepsNone Waits

@@ -1,10 +1,8 @@
 -- The rule while one seat alone acts: there is a world that came about, of which the memory is that of the state; the one that acts takes a slot, or reclaims
 -- all, and knows where it stands; all others wait, and know nothing.
-use Rattle.std.specs.Prelude.{◌≡◌, ◌≢◌, ℕ, ◌<◌, ◌==◌, Bool, false, Option, Some, None, IsSome, if◌then◌else◌, length}
-use Rattle.seize_words.specs.Mem.{Mem, value_at, word_at}
+use Rattle.std.specs.Prelude.{◌≡◌, ◌≢◌, ℕ, ◌<◌, ◌==◌, Bool, false, Option, Some, None, if◌then◌else◌, length}
+use Rattle.seize_words.specs.Mem.{Mem, value_at}
 use Rattle.seize_words.specs.Op.{Op, Out}
-use Rattle.seize_words.specs.declared.at.At.TheVariants.{Slot}
-use Rattle.seize.specs.declared.states.TheConstants.{HEAD}
 use Rattle.seize.specs.declared.progress.Progress.{Progress}
 use Rattle.seize.specs.declared.progress.Progress.TheVariants as progress
 use Rattle.seize.specs.declared.rows.register.Register.{Register}
@@ -33,10 +31,10 @@ Acts Waits = ⊥
 Acts _ = Unit {0}
 
 -- what is so while a slot is sought: it begins at the first one, and from its second step on slots have words
-abbrev pub SeeksAt : {T : Type 0} → World T → Register → Registering → Type 0
-SeeksAt w c register_at.Begin = c.slot ≡ 0
-SeeksAt w c (register_at.Widen bucket seen) = (c.slot ≢ 0) × IsSome (word_at w.memory (Slot 0 HEAD))
-SeeksAt w c _ = IsSome (word_at w.memory (Slot 0 HEAD))
+abbrev pub SeeksAt : {T : Type 0} → Mem T → Register → Registering → Type 0
+SeeksAt m c register_at.Begin = c.slot ≡ 0
+SeeksAt m c (register_at.Widen bucket seen) = (c.slot ≢ 0) × (0 < length m.slots)
+SeeksAt m c _ = 0 < length m.slots
 
 -- the block that is looked at is there, with this value
 abbrev pub IsShown : {T : Type 0} → Mem T → Option (ℕ × T) → Type 0
@@ -87,7 +85,7 @@ module _ {T : Type 0} (defers : T → Option ℕ) (left_over : T → Bool) where
     Stands w j Waits = Unit {0}
     Stands w j (Registers c size) =
         (size ≡ fixed.batch_size) × (w.row j ≡ world.Registers c) × ((k : ℕ) → k ≢ j → w.row k ≡ world.Rests)
-        × (c.enters ≡ false) × IsSeeking c.stands × SeeksAt w c c.stands
+        × (c.enters ≡ false) × IsSeeking c.stands × SeeksAt w.memory c c.stands
     Stands w j (Reclaims c seen left) = Stage defers fixed.batch_size j 0 c w × DoneWithin defers left_over left w.memory c × IsShown w.memory seen
 
     pub record HoldsAlone (s : State T (Alone T) (World T)) : Type 0 where

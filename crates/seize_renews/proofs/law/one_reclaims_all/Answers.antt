@@ -1,4 +1,5 @@
-use Rattle.seize_renews.proofs.Ends.{waiters_come, looked_is_shown, over_is_quiet, over_renews}
+use Rattle.seize_renews.proofs.Ends.{idle_renew, waiters_come, looked_is_shown, over_is_quiet, over_renews}
+use Rattle.seize_renews.proofs.Registering.{registering_goes_on}
 use Rattle.seize_renews.proofs.Steps.{reclaiming_goes_on, reclaiming_turns}
 use Rattle.seize_renews.proofs.law.one_reclaims_all.Goals as goal
 
@@ -19,3 +20,9 @@ returns-clause-over g c defers left_over = over_is_quiet defers left_over
 
 pub returns-clause-renews : goal.returns-clause-renews
 returns-clause-renews g c defers left_over = over_renews defers left_over
+
+pub returns-clause-idle : goal.returns-clause-idle
+returns-clause-idle g c defers left_over = idle_renew defers left_over
+
+pub returns-clause-seeks : goal.returns-clause-seeks
+returns-clause-seeks g c defers left_over = registering_goes_on defers left_over
