@@ -48,13 +48,13 @@ module _ {T : Type 0} (defers : T → Option ℕ) (left_over : T → Bool) where
       n : World T
       n = with_row s.world 0 (world.Registers (record { slot = 0; enters = false; stands = register_at.Begin }))
 
-      first : (j : ℕ) (v : Alone T) → slice_get (first_of fixed ∷ []) j ≡ Some v → j ≡ 0
+      first : (j : ℕ) (v : Alone T) → slice_get (first_of defers left_over fixed ∷ []) j ≡ Some v → j ≡ 0
       first zero v e = refl
       first (suc j) v e = absurd (cc e)
 
-      seats_there : (j : ℕ) (v : Alone T) → slice_get (first_of fixed ∷ []) j ≡ Some v → Stands defers left_over fixed n j v
+      seats_there : (j : ℕ) (v : Alone T) → slice_get (first_of defers left_over fixed ∷ []) j ≡ Some v → Stands defers left_over fixed n j v
       seats_there zero v e =
-          subst (λ (x : Alone T). Stands defers left_over fixed n 0 x) (same_some (first_of fixed) v e)
+          subst (λ (x : Alone T). Stands defers left_over fixed n 0 x) (same_some (first_of defers left_over fixed) v e)
           (refl, with_here s.world.row 0 _, (λ k ne. with_other s.world.row 0 k _ ne ∙ rests k), refl, tt, refl)
       seats_there (suc j) v e = absurd (cc e)
 

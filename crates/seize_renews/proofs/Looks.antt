@@ -92,8 +92,8 @@ module _ {T : Type 0} (defers : T → Option ℕ) (left_over : T → Bool) (m : 
   leave_looked : (c : Leave) (p : Leaving) (end : Leave × Settled T) → Ends (value_at m) (rest_of (leave.plan_at defers c p) out) end → Looked m (rest_of (leave.plan_at defers c p) out) end
   leave_looked c leaving_at.Swaps end e = none_looked m (leave.list_taken c out) end (list_now c out) e
   leave_looked c (leaving_at.Settles settle) end e = looked_as m (leave.settled c) (settle_plan defers settle) out end (settle_looked settle) e
-  leave_looked c leaving_at.Frees end e = none_looked m _ end tt e
-  leave_looked c leaving_at.Over end e = none_looked m _ end tt e
+  leave_looked c leaving_at.Frees end e = none_looked m (rest_of (leave.plan_at defers c leaving_at.Frees) out) end tt e
+  leave_looked c leaving_at.Over end e = none_looked m (rest_of (leave.plan_at defers c leaving_at.Over) out) end tt e
 
   head_now : (c : ReclaimAll) (s : ℕ) (o : Out T) → IsNow (head_read c s o)
   head_now c s (Found head) = either (head == NEVER) _ _ tt (either (head == FREE) _ _ tt (either (nat_lt head ACTIVE) _ _ tt tt))
@@ -114,13 +114,13 @@ module _ {T : Type 0} (defers : T → Option ℕ) (left_over : T → Bool) (m : 
   pub reclaim_looked : (c : ReclaimAll) (p : Reclaiming) → IsOnSlots p → (end : ReclaimAll × Settled T) → Ends (value_at m) (rest_of (plan_at defers left_over c p) out) end
       → Looked m (rest_of (plan_at defers left_over c p) out) end
   reclaim_looked c (at.Heads s) on end e = none_looked m (head_read c s out) end (head_now c s out) e
-  reclaim_looked c (at.Retakes s) on end e = none_looked m _ end tt e
+  reclaim_looked c (at.Retakes s) on end e = none_looked m (rest_of (plan_at defers left_over c (at.Retakes s)) out) end tt e
   reclaim_looked c (at.Leaves s l) on end e =
       looked_as m (within (λ (d : Leave). standing c (at.Leaves s d)) (next_head c s)) (leave.leave_plan defers l) out end (leave_looked l l.stands) e
   reclaim_looked c (at.Batches s) on end e = none_looked m (batch_read c s out) end (batch_now c s out) e
   reclaim_looked c (at.Flushes s l) on end e =
       looked_as m (within (λ (d : Settle). standing c (at.Flushes s d)) (next_batch (record c { again = true }) s)) (settle_plan defers l) out end (settle_looked l) e
-  reclaim_looked c (at.Frees s) on end e = none_looked m _ end tt e
+  reclaim_looked c (at.Frees s) on end e = none_looked m (rest_of (plan_at defers left_over c (at.Frees s)) out) end tt e
   reclaim_looked c (at.Roots root) on end e = absurd on
   reclaim_looked c (at.Nexts root block) on end e = absurd on
   reclaim_looked c (at.Takes root block next) on end e = absurd on

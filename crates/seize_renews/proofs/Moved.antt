@@ -25,7 +25,7 @@ module _ {T : Type 0} (defers : T → Option ℕ) (left_over : T → Bool) (fixe
 
   who : (j : ℕ) (x : Alone T) → slice_get views2 j ≡ Some x → Who j x
   who j x e = elim (cases_eq j id) as (λ _. Who j x) [
-    | inl same ↦ inl (same, same_some x u (sym e ∙ ap (slice_get views2) same ∙ there s.views id v u at_id))
+    | inl same ↦ inl (same, same_some x u (sym e ∙ ap (slice_get views2) same ∙ there s.views id u v at_id))
     | inr ne ↦ inr (ne, sym (elsewhere s.views id j u ne) ∙ e)
   ]
 

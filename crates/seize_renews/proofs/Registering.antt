@@ -1,8 +1,10 @@
 -- The seat that acts takes a slot first: each of its operations may be made, and where that has ended it begins to reclaim all.
 use Rattle.std.specs.Prelude.{◌≢◌, Option, Some, None, IsSome, Ok, Err, nat_lt, ◌==◌, if◌then◌else◌, length}
-use Rattle.std.proofs.Common.{◌≡◌, ℕ, ◌+◌, ◌<◌, ◌≤◌, ◌^◌, Bool, true, false, ◌⊎◌, inl, inr, refl, sym, subst, ap, ◌∙◌, arith, eqb-true}
+use Rattle.std.proofs.Common.{◌≡◌, ℕ, ◌+◌, ◌*◌, ◌<◌, ◌≤◌, ◌^◌, Bool, true, false, List, [], ◌∷◌, ◌⊎◌, inl, inr, refl, sym, subst, ap, ◌∙◌, arith, eqb-true}
 use Rattle.std.proofs.lemmas.Bool.{cases_eq, eqb-false}
-use Rattle.seize_words.specs.Mem.{Mem, Can, Took, value_at, word_at, with_room}
+use Rattle.seize_words.specs.Mem.{Mem, Can, Took, value_at, word_at}
+use Rattle.seize_words.specs.SlotWords.{slot_word}
+use Rattle.seize_words.specs.declared.fault.Fault.TheVariants.{SlotsUsedUp}
 use Rattle.seize_words.specs.Op.{Op, Out, Load, Exchange, Room, Found, Stored, Exchanged, Made, Taken, Roomed}
 use Rattle.seize_words.specs.Plan.{Plan, Then, Do, Ends, Steps, May}
 use Rattle.seize_words.specs.declared.at.At.TheVariants.{Slot}
@@ -39,6 +41,11 @@ use Rattle.seize_renews.specs.declared.alone.Alone.TheVariants.{Registers, Recla
 use Rattle.seize_renews.proofs.Moved.{moved}
 use Rattle.seize_renews.proofs.Roots.{came_quiet, step_stays, RootsStay}
 
+-- where there are no slots, none has a word
+no_word : (slots : List (List ℕ)) → length slots ≡ 0 → slot_word slots 0 HEAD ≡ None
+no_word [] none = refl
+no_word (x ∷ slots) none = absurd (omega (arith, none))
+
 -- taking a slot has come so far, in this memory
 abbrev IsWell : {T : Type 0} → Mem T → Register × Progress ℕ → Type 0
 IsWell m (d, progress.Done t) = Unit {0}
@@ -53,7 +60,7 @@ module _ {T : Type 0} (m : Mem T) where
   well_further : (c : Register) → c.enters ≡ false → 0 < length m.slots → IsWell m (further c)
   well_further c short there = by (nat_lt c.slot LAST_SLOT) refl
     where
-      by : (b : Bool) → nat_lt c.slot LAST_SLOT ≡ b → IsWell m (if b then going (record c { slot = c.slot + 1 }) at.Look else refused c _)
+      by : (b : Bool) → nat_lt c.slot LAST_SLOT ≡ b → IsWell m (if b then going (record c { slot = c.slot + 1 }) at.Look else refused c SlotsUsedUp)
       by true e = (short, tt, there)
       by false e = inr ((λ z. let k : LAST_SLOT ≤ c.slot = grind (arith, e) in omega (arith, k, z)), there)
 
@@ -174,15 +181,15 @@ module _ {T : Type 0} (defers : T → Option ℕ) (left_over : T → Bool) (fixe
           ((d, progress.Refused fault), comes, (b.0, ap (λ (x : ReclaimAll). Reclaims x None b.0) is))
 
       none_at : length m.slots ≡ 0 → word_at m (Slot 0 HEAD) ≡ None
-      none_at zero = grind (arith, zero)
+      none_at none = no_word m.slots none
 
       by : (b : Bool) → (b ≡ true → d.slot ≡ 0) → (b ≡ false → d.slot ≡ 0 → ⊥) → d.slot == 0 ≡ b
           → Goes (HoldsAlone defers left_over fixed) KeepsNone s m id (told defers left_over (Registers c size) op out)
-      by true z ne e = behind (over_of size) (ap (λ (b : Bool). if b then over_of size else all_of size) (sym e)) (elim well as (λ _. _) [
-        | inl (first, none) ↦ over_may m d (progress.Refused fault) steps well (rests_refused m d fault) (quiet_if m d (progress.Refused fault) steps well (rests_refused m d fault) (none_at none))
+      by true z ne e = behind (over_of size) (ap (λ (b : Bool). if b then over_of size else all_of size) (sym e)) (elim well as (λ _. (left : ℕ) × Stands defers left_over fixed (registers_on w id c m (d, progress.Refused fault)) id (Reclaims (over_of size) None left)) [
+        | inl (first, none) ↦ over_may m d (progress.Refused fault) steps well (rests_refused m d fault) (quiet_if m d (progress.Refused fault) steps well (rests_refused m d fault) (ap (λ (x : Mem T). word_at x (Slot 0 HEAD)) (registers_memory w id m c d (progress.Refused fault)) ∙ none_at none))
         | inr (other, some) ↦ absurd (other (z refl))
       ])
-      by false z ne e = behind (all_of size) (ap (λ (b : Bool). if b then over_of size else all_of size) (sym e)) (elim well as (λ _. _) [
+      by false z ne e = behind (all_of size) (ap (λ (b : Bool). if b then over_of size else all_of size) (sym e)) (elim well as (λ _. (left : ℕ) × Stands defers left_over fixed (registers_on w id c m (d, progress.Refused fault)) id (Reclaims (all_of size) None left)) [
         | inl (first, none) ↦ absurd (ne refl first)
         | inr (other, some) ↦ all_may m d (progress.Refused fault) steps well (rests_refused m d fault) (words_there m d (progress.Refused fault) steps well (rests_refused m d fault) some)
       ])
