@@ -1,6 +1,6 @@
 -- The promises of the work on slots but that it ends.
 use Rattle.std.specs.Prelude.{Option}
-use Rattle.std.proofs.Common.{◌≡◌, ℕ, ◌+◌, ◌<◌, ◌^◌, Bool, refl, arith}
+use Rattle.std.proofs.Common.{◌≡◌, ℕ, ◌<◌, ◌^◌, Bool, refl, arith}
 use Rattle.seize_alone.specs.Given.SeizeWords.Mem.{Mem, Can, Took, value_at}
 use Rattle.seize_alone.specs.Given.SeizeWords.Plan.{May, Steps}
 use Rattle.seize_alone.specs.Given.Seize.declared.rows.settle.Settled.{Settled}
@@ -9,7 +9,7 @@ use Rattle.seize_alone.specs.Given.Seize.declared.rows.reclaim_all.Reclaiming.{R
 use Rattle.seize_alone.specs.Given.Seize.declared.rows.reclaim_all.Reclaiming.TheVariants as at
 use Rattle.seize_alone.specs.Given.Seize.ReclaimAll.{plan_at}
 use Rattle.seize_alone.specs.Given.Seize.World.{World}
-use Rattle.seize_quiet.specs.Slots.{Came, StageAt, Stage, Led}
+use Rattle.seize_quiet.specs.Slots.{Came, StageAt, Led}
 use Rattle.seize_quiet.specs.Promises.{IsOnSlots, SlotsBegin, SlotsLead, NothingWaits}
 use Rattle.seize_quiet.proofs.Slots.Facts.{nothing_left as none_left}
 use Rattle.seize_quiet.proofs.Slots.Flushes.{batch_may, batch_led, flush_may, flush_led, free_may, free_led}

@@ -189,9 +189,11 @@ module _ {T : Type 0} (defers : T → Option ℕ) (left_over : T → Bool) (size
       back.step x is (λ m2 c2 told st.
       let led = leads defers left_over size roots i word x is m2 c2 told st in
       let y = next_point defers left_over size roots i word x m2 c2 told led in
-      let f = head_falls x m2 c2 told x.c.stands on x.stage.here st in
-      (led, others_end y (λ still. below (y, still)
-      (subst (λ (m : Mem T). (weight c2 < weight x.c) ⊎ ((weight c2 ≤ weight x.c) × (row_to_go defers m c2.stands < row_to_go defers x.w.memory x.c.stands))) (sym led.memory) f))))
+      let f = head_falls x m2 c2 told x.c.stands on x.stage.here st in (
+        led,
+        others_end y (λ still. below (y, still)
+            (subst (λ (m : Mem T). (weight c2 < weight x.c) ⊎ ((weight c2 ≤ weight x.c) × (row_to_go defers m c2.stands < row_to_go defers x.w.memory x.c.stands))) (sym led.memory) f)),
+      ))
 
   pub all_end : (x : At) → Sure x
   all_end x = others_end x (λ on. by_two points_at row_at (λ (y : AtHeads). Sure y.0) heads_step (x, on))

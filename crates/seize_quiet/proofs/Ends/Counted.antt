@@ -1,10 +1,9 @@
 -- The work on slots ends within a number of steps: each step is the only one that can be taken.
 use Rattle.std.specs.Prelude.{Option, Some, None}
-use Rattle.std.proofs.Common.{◌≡◌, ℕ, zero, suc, ◌<◌, ◌^◌, Bool, true, refl, ap, sym, subst, ◌∙◌}
+use Rattle.std.proofs.Common.{◌≡◌, ℕ, suc, ◌<◌, ◌^◌, Bool, true, refl, sym, subst, ◌∙◌}
 use Rattle.seize_alone.specs.Given.SeizeWords.Op.{Op, Make, Room}
-use Rattle.seize_alone.specs.Given.SeizeWords.Mem.{Mem, Can, Took, value_at}
-use Rattle.seize_alone.specs.Given.SeizeWords.Plan.{Plan, Turn, Do, May, Steps, plan_as}
-use Rattle.seize_alone.specs.Given.Seize.declared.rows.enter.Unregister.{Unregister}
+use Rattle.seize_alone.specs.Given.SeizeWords.Mem.{Mem}
+use Rattle.seize_alone.specs.Given.SeizeWords.Plan.{Plan, Turn, Do, plan_as}
 use Rattle.seize_alone.specs.Given.Seize.declared.rows.leave.Leave.{Leave}
 use Rattle.seize_alone.specs.Given.Seize.declared.rows.leave.Leaving.{Leaving}
 use Rattle.seize_alone.specs.Given.Seize.declared.rows.leave.Leaving.TheVariants as leaving_at
@@ -22,7 +21,6 @@ use Rattle.seize_alone.specs.Given.Seize.World.{World}
 use Rattle.seize_acts.specs.Answers.{Grant, stepped}
 use Rattle.seize_acts.proofs.Answers.{was_stepped}
 use Rattle.seize_acts.proofs.Steps.{steps_so}
-use Rattle.seize_quiet.specs.Slots.{Led}
 use Rattle.seize_quiet.specs.Promises.{IsOnSlots, DoneWithin, SlotsEnd}
 use Rattle.seize_quiet.proofs.Promised.{slots_lead}
 use Rattle.seize_quiet.proofs.Ends.All.{all_end}

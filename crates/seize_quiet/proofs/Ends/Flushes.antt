@@ -1,6 +1,6 @@
 -- From within a flush: what is so of whatever comes behind it is so there.
 use Rattle.std.specs.Prelude.{Option, nat_lt, if◌then◌else◌}
-use Rattle.std.proofs.Common.{◌≡◌, ℕ, ◌+◌, ◌-◌, ◌<◌, ◌≤◌, ◌^◌, Bool, true, false, [], ◌∷◌, ◌⊎◌, inl, inr, refl, arith, sym, subst}
+use Rattle.std.proofs.Common.{◌≡◌, ℕ, ◌+◌, ◌-◌, ◌<◌, ◌≤◌, ◌^◌, Bool, true, false, ◌⊎◌, inl, inr, refl, arith, sym, subst}
 use Rattle.seize_alone.specs.Given.SeizeWords.Mem.{Mem, Took, value_at}
 use Rattle.seize_alone.specs.Given.SeizeWords.Plan.{Steps}
 use Rattle.seize_alone.specs.Given.Seize.declared.states.TheConstants.{LAST_SLOT}

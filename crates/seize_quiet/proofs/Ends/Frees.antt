@@ -122,11 +122,13 @@ module _ {T : Type 0} (defers : T → Option ℕ) (left_over : T → Bool) where
           back.step x is (λ m2 c2 told st.
           let led = leads x is m2 c2 told st in
           let y = next_point x m2 c2 told led in
-          let f = free_falls x.c x.c.stands x.w.memory m2 c2 told on st in
-          (led, elim f.1 as (λ _. Q led.w2 c2) [
-            | inl still ↦ below (y, still) (inl f.0)
-            | inr past ↦ back.past y past
-          ]))
+          let f = free_falls x.c x.c.stands x.w.memory m2 c2 told on st in (
+            led,
+            elim f.1 as (λ _. Q led.w2 c2) [
+              | inl still ↦ below (y, still) (inl f.0)
+              | inr past ↦ back.past y past
+            ],
+          ))
 
       pub frees_end : (x : Point) → IsFreeing x.c x.c.stands → Q x.w x.c
       frees_end x on = by_two left_at (λ (y : AtFrees). 0) (λ (y : AtFrees). Q y.0.w y.0.c) frees_step (x, on)

@@ -6,7 +6,6 @@ use Rattle.seize_alone.specs.Given.SeizeWords.declared.at.At.TheVariants as name
 use Rattle.seize_alone.specs.Given.SeizeWords.Mem.{word_at}
 use Rattle.seize_alone.specs.Given.Seize.declared.states.TheConstants.{HEAD, LAST_SLOT}
 use Rattle.seize_alone.specs.Given.Seize.declared.rows.reclaim_all.ReclaimAll.{ReclaimAll}
-use Rattle.seize_alone.specs.Given.Seize.declared.rows.reclaim_all.Reclaiming.{Reclaiming}
 use Rattle.seize_alone.specs.Given.Seize.declared.rows.reclaim_all.Reclaiming.TheVariants as at
 use Rattle.seize_alone.specs.Given.Seize.ReclaimAll.{standing, first_root, first_batch, next_head, next_batch, next_free}
 use Rattle.seize_alone.specs.Given.Seize.World.{World, Vacant, SlotsTaken}

@@ -1,6 +1,6 @@
 -- Each step of the work on slots: it may be taken, and leads on by beginnings and steps of rows.
 use Rattle.std.specs.Prelude.{Option, Some, IsSome, nat_lt, ◌==◌, if◌then◌else◌}
-use Rattle.std.proofs.Common.{◌≡◌, ℕ, suc, ◌+◌, ◌<◌, ◌≤◌, ◌^◌, Bool, true, false, List, [], ◌∷◌, inl, inr, refl, arith, subst, sym, ap, ◌∙◌, eqb-true}
+use Rattle.std.proofs.Common.{◌≡◌, ℕ, suc, ◌+◌, ◌<◌, ◌≤◌, ◌^◌, Bool, true, false, [], ◌∷◌, inl, inr, refl, arith, subst, sym, ap, ◌∙◌, eqb-true}
 use Rattle.std.proofs.lemmas.Bool.{cases_eq}
 use Rattle.seize_alone.specs.Given.SeizeWords.declared.at.At.TheVariants as name
 use Rattle.seize_alone.specs.Given.SeizeWords.Mem.{Mem, Can, Took, value_at, word_at}
@@ -18,7 +18,7 @@ use Rattle.seize_alone.specs.Given.Seize.declared.rows.reclaim_all.Reclaiming.Th
 use Rattle.seize_alone.specs.Given.Seize.Leave.{leave_plan, leaving}
 use Rattle.seize_alone.specs.Given.Seize.ReclaimAll.{standing, first_batch, next_head, to, within, head_read, heads, plan_at}
 use Rattle.seize_alone.specs.Given.Seize.Sequence.{taken_in}
-use Rattle.seize_alone.specs.Given.Seize.World.{World, Row, Rests, Leaves, Outside, Changing, Request, Register', Leave', Event, Begin, Step, Steps', Runs, Begins, leave_effects, leaves_on, with_row, with_use}
+use Rattle.seize_alone.specs.Given.Seize.World.{World, Row, Rests, Leaves, Outside, Changing, Request, Register', Leave', Begin, Step, Steps', Begins, leave_effects, leaves_on, with_row, with_use}
 use Rattle.seize_alone.proofs.Given.SeizeRule.Rows.Effects.{leave_one}
 use Rattle.seize_alone.proofs.Given.SeizeRule.Rows.Leaving.{steps_back}
 use Rattle.seize_alone.proofs.Given.SeizeRule.Rows.LeavesTold.{leave_tells}
@@ -30,7 +30,7 @@ use Rattle.seize_alone.proofs.Given.SeizeSets.Slots.Kept.{leave_idles}
 use Rattle.seize_alone.proofs.Given.SeizeSets.Slots.Retaken.{retaken, retaken_idle}
 use Rattle.seize_alone.proofs.Given.SeizeSets.Turns.Heads.{word_says, outside_by, inside_by}
 use Rattle.seize_quiet.proofs.Slots.Came.{came_reached, came_on, came_next}
-use Rattle.seize_quiet.specs.Slots.{AreItsRows, Came, Settling, Within, StageAt, Stage, BeginsAt, DoesAt, Led, SlotsTold}
+use Rattle.seize_quiet.specs.Slots.{AreItsRows, Came, Settling, Within, StageAt, Stage, BeginsAt, DoesAt, Led}
 use Rattle.seize_quiet.proofs.Slots.Facts.{rested_by, calls_run}
 use Rattle.seize_quiet.proofs.Slots.Rows.{goes_told, gave_told, lone_in, more_in, ends_in, leave_waits_not}
 use Rattle.seize_quiet.proofs.Slots.Stages.{next_slot, stops_here}
