@@ -88,14 +88,15 @@ module _ {T : Type 0} (defers : T → Option ℕ) (left_over : T → Bool) where
         × (c.enters ≡ false) × IsSeeking c.stands × SeeksAt w.memory c c.stands
     Stands w j (Reclaims c seen left) = Stage defers fixed.batch_size j 0 c w × DoneWithin defers left_over left w.memory c × IsShown w.memory seen
 
-    pub record HoldsAlone (s : State T (Alone T) (World T)) : Type 0 where
+    -- The views of the rule have those of this phase among them.
+    pub record HoldsAlone {V : Type 0} (of : Alone T → V) (s : State T V (World T)) : Type 0 where
       pub came : Came defers fixed s.world
       pub memory : s.memory ≡ s.world.memory
-      pub seats : (j : ℕ) (v : Alone T) → view_of s j ≡ Some v → Stands s.world j v
-      pub one : (j k : ℕ) (v u : Alone T) → view_of s j ≡ Some v → view_of s k ≡ Some u → Acts v → Acts u → j ≡ k
+      pub seats : (j : ℕ) (v : V) → view_of s j ≡ Some v → (a : Alone T) × (v ≡ of a) × Stands s.world j a
+      pub one : (j k : ℕ) (a b : Alone T) → view_of s j ≡ Some (of a) → view_of s k ≡ Some (of b) → Acts a → Acts b → j ≡ k
       pub roots : RootsNameLinked s.memory s.world.hand
       pub rooted : length s.memory.roots ≡ fixed.roots
 
 -- nobody looks at what another one may take
-abbrev pub KeepsNone : {T : Type 0} → Alone T → Alone T → World T → ℕ → Type 0
+abbrev pub KeepsNone : {T V : Type 0} → V → V → World T → ℕ → Type 0
 KeepsNone u o w b = ⊥
