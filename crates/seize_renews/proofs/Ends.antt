@@ -1,6 +1,6 @@
 -- Those who come wait; what is looked at is there; and where the machine is over nothing is left that waits, and the rule of all holds again.
 use Rattle.std.specs.Prelude.{Option, Some, None, IsSome, slice_get}
-use Rattle.std.proofs.Common.{◌≡◌, ℕ, zero, suc, ◌<◌, ◌^◌, Bool, false, [], ◌∷◌, ◌⊎◌, inl, inr, refl, sym, subst, ap, ◌∙◌}
+use Rattle.std.proofs.Common.{◌≡◌, ℕ, zero, suc, Bool, false, [], ◌∷◌, ◌⊎◌, inl, inr, refl, sym, subst, ap, ◌∙◌}
 use Rattle.seize_words.specs.Mem.{Mem, value_at}
 use Rattle.seize.specs.declared.rows.reclaim_all.ReclaimAll.{ReclaimAll}
 use Rattle.seize.specs.declared.rows.reclaim_all.Reclaiming.{Reclaiming}
@@ -21,7 +21,7 @@ use Rattle.seize_views.proofs.Lists.{with_last}
 use Rattle.seize_renews.specs.Rule.{Acts, Stands, HoldsAlone}
 use Rattle.seize_renews.specs.Promises.{AreApart, first_of, IdleRenew, WaitersCome, LookedIsShown, OverIsQuiet, OverRenews}
 use Rattle.seize_renews.specs.declared.alone.Alone.{Alone}
-use Rattle.seize_renews.specs.declared.alone.Alone.TheVariants.{Waits, Registers, Reclaims}
+use Rattle.seize_renews.specs.declared.alone.Alone.TheVariants.{Waits, Reclaims}
 use Rattle.seize_renews.proofs.Roots.{came_quiet}
 
 module _ {T V : Type 0} (of : Alone T → V) (defers : T → Option ℕ) (left_over : T → Bool) where

@@ -22,11 +22,9 @@ use Rattle.seize_ends.proofs.Batches.Rows.{registers_memory}
 use Rattle.seize_rule.proofs.Rows.Others.{with_here, with_other}
 use Rattle.seize_rule.proofs.Words.Room.{first_there, slots_grow, slot_there}
 use Rattle.seize_rule.proofs.World.Kept.{row_may}
-use Rattle.seize_alone.proofs.Histories.Reached.{Reached}
 use Rattle.seize_acts.proofs.Answers.{same_some}
 use Rattle.seize_seats.specs.State.{State, view_of, Goes}
 use Rattle.seize_quiet.specs.Slots.{IsQuiet, Stage}
-use Rattle.seize_quiet.specs.Promises.{DoneWithin}
 use Rattle.seize_quiet.proofs.Ends.Counted.{slots_end}
 use Rattle.seize_quiet.proofs.Promised.{slots_begin}
 use Rattle.seize_views.specs.Promises.{op_in}
@@ -34,12 +32,12 @@ use Rattle.seize_views.specs.Rows.{IsSeeking, Came}
 use Rattle.seize_views.specs.Told.{ComesTo}
 use Rattle.seize_views.specs.declared.view.Fixed.{Fixed}
 use Rattle.seize_views.proofs.Came.{reached, came_then}
-use Rattle.seize_renews.specs.Rule.{SeeksAt, all_of, over_of, begun_by, Stands, HoldsAlone, KeepsNone}
+use Rattle.seize_renews.specs.Rule.{SeeksAt, all_of, over_of, Stands, HoldsAlone, KeepsNone}
 use Rattle.seize_renews.specs.Promises.{AreApart, tells, RegisteringGoesOn}
 use Rattle.seize_renews.specs.declared.alone.Alone.{Alone}
 use Rattle.seize_renews.specs.declared.alone.Alone.TheVariants.{Registers, Reclaims}
 use Rattle.seize_renews.proofs.Moved.{moved}
-use Rattle.seize_renews.proofs.Roots.{came_quiet, step_stays, RootsStay}
+use Rattle.seize_renews.proofs.Roots.{came_quiet, step_stays}
 
 -- where there are no slots, none has a word
 no_word : (slots : List (List ℕ)) → length slots ≡ 0 → slot_word slots 0 HEAD ≡ None

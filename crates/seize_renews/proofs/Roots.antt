@@ -1,10 +1,8 @@
 -- Rows on slots leave what is linked at the roots, and the world that they come to came about from the start.
-use Rattle.std.specs.Prelude.{◌++◌, Option, Some, length, slice_get}
-use Rattle.std.proofs.Common.{◌≡◌, ℕ, List, [], ◌∷◌, ◌⊎◌, refl, sym, subst, ap, ◌∙◌}
-use Rattle.seize_words.specs.Mem.{Mem}
+use Rattle.std.specs.Prelude.{Option}
+use Rattle.std.proofs.Common.{◌≡◌, ℕ, List, [], ◌∷◌, refl, sym, subst, ap, ◌∙◌}
 use Rattle.seize.specs.World.{World, Hand, Event, Begin, Step, Happens, Runs, Register', Leave', Flush, Unregister', Request, at_start}
 use Rattle.seize.specs.World as world
-use Rattle.seize_alone.proofs.Histories.Reached.{Reached}
 use Rattle.seize_alone.proofs.Histories.NotTaken.{IsHad, kept_hand, did}
 use Rattle.seize_quiet.specs.Slots.{AreItsRows, IsForSlots}
 use Rattle.seize_quiet.specs.Slots as quiet

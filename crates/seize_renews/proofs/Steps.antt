@@ -1,6 +1,6 @@
 -- A step on slots of the seat that reclaims all: it may be taken, and the rule holds after it.
 use Rattle.std.specs.Prelude.{Option, Some, None}
-use Rattle.std.proofs.Common.{◌≡◌, ℕ, zero, suc, ◌+◌, ◌<◌, ◌^◌, Bool, refl, sym, subst, ap, arith}
+use Rattle.std.proofs.Common.{◌≡◌, ℕ, zero, suc, ◌<◌, ◌^◌, Bool, refl, sym, subst, ap, arith}
 use Rattle.seize_words.specs.Mem.{Mem, Can, Took, value_at}
 use Rattle.seize_words.specs.Op.{Op, Out}
 use Rattle.seize_words.specs.Plan.{Plan, Then, Turn, Do, Now, Ends, May, Steps}
