@@ -1,13 +1,11 @@
 -- From each point on roots, reclaiming all comes to its end.
-use Rattle.std.specs.Prelude.{Option, nat_lt, ◌==◌, if◌then◌else◌}
-use Rattle.std.proofs.Common.{◌≡◌, ℕ, ◌+◌, ◌-◌, ◌<◌, ◌≤◌, ◌^◌, Bool, true, false, List, ◌⊎◌, inl, inr, refl, arith, ap, sym, subst}
+use Rattle.std.specs.Prelude.{Option}
+use Rattle.std.proofs.Common.{◌≡◌, ℕ, ◌<◌, ◌≤◌, ◌^◌, Bool, List, ◌⊎◌, refl, sym, subst}
 use Rattle.papaya_finishes.specs.Given.SeizeWords.Mem.{Mem, Took, value_at}
 use Rattle.papaya_finishes.specs.Given.SeizeWords.Plan.{Steps}
 use Rattle.papaya_finishes.specs.Given.Seize.declared.rows.settle.Settled.{Settled}
 use Rattle.papaya_finishes.specs.Given.Seize.declared.rows.reclaim_all.ReclaimAll.{ReclaimAll}
-use Rattle.papaya_finishes.specs.Given.Seize.declared.rows.reclaim_all.Reclaiming.{Reclaiming}
-use Rattle.papaya_finishes.specs.Given.Seize.declared.rows.reclaim_all.Reclaiming.TheVariants as at
-use Rattle.papaya_finishes.specs.Given.Seize.ReclaimAll.{standing, first_root, next_free, reclaim_all_plan, plan_at}
+use Rattle.papaya_finishes.specs.Given.Seize.ReclaimAll.{reclaim_all_plan}
 use Rattle.papaya_finishes.specs.Given.Seize.World.{World}
 use Rattle.papaya_finishes.specs.Given.SeizeAlone.Alone.{blocks_in}
 use Rattle.seize_reclaims.proofs.AllReclaimed.Weights.{weight}
