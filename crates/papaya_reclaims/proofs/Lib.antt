@@ -1,4 +1,3 @@
-pub mod Slots
 pub mod Behind
 pub mod Left
 pub mod Promised

@@ -16,15 +16,15 @@ use Rattle.papaya_finishes.specs.Given.Tables.declared.node.Node.{Node}
 use Rattle.papaya_finishes.specs.Given.Callers.Together.{UnderWay, CameAbout}
 use Rattle.papaya_finishes.specs.Endings.{Finishing}
 use Rattle.papaya_finishes.specs.Makings.{Beginning}
-use Rattle.papaya_finishes.specs.Maps.{Standing}
+use Rattle.papaya_finishes.specs.Maps.{Standing, IsSameMap}
 use Rattle.papaya_reclaims.specs.Reclaims.{LeftBehind, ReclaimingAt, ReclaimingTold, AllStandIdle, ReclaimingTogether, ReclaimingBegins, StepsOfReclaiming, ReclaimingStands}
-use Rattle.papaya_reclaims.specs.Slots.{IsQuiet, SlotsTold}
+use Rattle.papaya_reclaims.specs.Slots.{IsQuiet}
 use Rattle.papaya_reclaims.proofs.Behind.Changes.{take_may, take_led, empty_may, empty_led, free_may, free_led}
 use Rattle.papaya_reclaims.proofs.Behind.Kept.{rows_stand, left_on}
 use Rattle.papaya_reclaims.proofs.Behind.Points.{root_may, root_led, next_may, next_led, over_led}
-use Rattle.papaya_reclaims.proofs.Slots.Flushes.{batch_may, batch_led, flush_may, flush_led, free_may as give_may, free_led as give_led}
-use Rattle.papaya_reclaims.proofs.Slots.Stages.{StageAt, Stage, never_taken}
-use Rattle.papaya_reclaims.proofs.Slots.Steps.{Led, head_may, head_led, retake_may, retake_led, leave_may, leave_led}
+use Rattle.seize_quiet.specs.Slots.{StageAt, Stage, Led, SlotsTold}
+use Rattle.seize_quiet.specs.Promises.{IsOnSlots}
+use Rattle.seize_quiet.proofs.Promised.{slots_begin, slots_lead}
 
 module _ {K Q : Type 0} (V : Type 0) (same : K → K → Bool) (asks : Q → K → Bool) (batch_size roots : ℕ) (slot : ℕ → ℕ)
     (maps : ℕ → Option (Standing K)) (calls : ℕ → ℕ → Option (UnderWay K V Q)) (makers : ℕ → Option (Beginning K)) (enders : ℕ → Option (Finishing K V))
@@ -40,7 +40,7 @@ module _ {K Q : Type 0} (V : Type 0) (same : K → K → Bool) (asks : Q → K �
 
   -- where the work on slots has led
   module _ (maps2 : ℕ → Option (Standing K)) (v : World (Node K V)) (lists : ℕ → List ℕ) (c : ReclaimAll) (idle : Idle maps2 v) (left : LeftBehind roots v maps2 lists) where
-    at_stage : (p : Reclaiming) → c.batch_size ≡ batch_size → c.roots ≡ roots → StageAt batch_size roots i c v p → ReclaimingAt batch_size roots i c v maps2 lists p
+    at_stage : (p : Reclaiming) → c.batch_size ≡ batch_size → c.roots ≡ roots → StageAt deferred_word batch_size i c v p → ReclaimingAt batch_size roots i c v maps2 lists p
     at_stage (at.Heads s) ss rs h = (ss, left, h)
     at_stage (at.Retakes s) ss rs h = (ss, left, h)
     at_stage (at.Leaves s l) ss rs h = (ss, left, h)
@@ -54,7 +54,7 @@ module _ {K Q : Type 0} (V : Type 0) (same : K → K → Bool) (asks : Q → K �
     at_stage (at.Unuses root) ss rs h = absurd h
     at_stage at.Over ss rs (none, quiet) = (quiet, left, λ r lt. absurd (omega (arith, lt, none, rs)))
 
-    pub staged : Stage batch_size roots i c v → Together' maps2 v lists c
+    pub staged : Stage deferred_word batch_size i roots c v → Together' maps2 v lists c
     staged st = record { stand = idle; roots_are = st.roots_are; point = at_stage c.stands st.size_is st.roots_are st.here }
 
   module _ (word : batch_size < 2 ^ 64) (lists : ℕ → List ℕ) (idle : Idle maps w) (left : LeftBehind roots w maps lists) where
@@ -74,9 +74,16 @@ module _ {K Q : Type 0} (V : Type 0) (same : K → K → Bool) (asks : Q → K �
     not_over v (settled.Gave value) h e = cc e
     not_over v settled.Done h e = h
 
-    on_slots : (point : Reclaiming) (m2 : Mem (Node K V)) (end : ReclaimAll × Settled (Node K V)) → Led batch_size roots i word w point m2 end.0 end.1 → LedTo lists point m2 end
-    on_slots point m2 end led =
+    -- where a step on slots has led all stand together
+    pub slots_stand : (point : Reclaiming) (m2 : Mem (Node K V)) (end : ReclaimAll × Settled (Node K V)) → (led : Led deferred_word batch_size i roots w point m2 end.0 end.1)
+        → (maps2 : ℕ → Option (Standing K)) × ((m : ℕ) → IsSameMap (maps m) (maps2 m)) × Together' maps2 led.w2 lists end.0
+    slots_stand point m2 end led =
         let on = rows_stand V same asks batch_size roots slot calls makers enders i led.events led.own maps w led.w2 idle led.runs in
+        (on.0, on.1, staged on.0 led.w2 lists end.0 on.2 (left_on roots w led.w2 on.3 maps on.0 on.1 lists roots left) led.stage)
+
+    on_slots : (point : Reclaiming) (m2 : Mem (Node K V)) (end : ReclaimAll × Settled (Node K V)) → Led deferred_word batch_size i roots w point m2 end.0 end.1 → LedTo lists point m2 end
+    on_slots point m2 end led =
+        let k = slots_stand point m2 end led in
         record {
           w2 = led.w2;
           events = led.events;
@@ -84,11 +91,11 @@ module _ {K Q : Type 0} (V : Type 0) (same : K → K → Bool) (asks : Q → K �
           runs = led.runs;
           does = led.does;
           memory = led.memory;
-          maps2 = on.0;
-          as_they_were = on.1;
+          maps2 = k.0;
+          as_they_were = k.1;
           lists2 = lists;
           told = told_so led.w2 end.1 led.told;
-          next = staged on.0 led.w2 lists end.0 on.2 (left_on roots w led.w2 on.3 maps on.0 on.1 lists roots left) led.stage;
+          next = k.2;
           over = λ e. absurd (not_over led.w2 end.1 led.told e);
         }
 
@@ -103,31 +110,19 @@ module _ {K Q : Type 0} (V : Type 0) (same : K → K → Bool) (asks : Q → K �
     here : CameAbout batch_size w
     here = idle.together.makings.standing.came
 
+    -- a point on slots
+    slots_at : (p : Reclaiming) → IsOnSlots p → batch ≡ batch_size → LeftBehind roots w maps lists → StageAt deferred_word batch_size i (machine p) w p → Goes p
+    slots_at p on ss left h =
+        let k = slots_lead deferred_word was_left batch_size roots i (machine p) w word here (record { size_is = ss; roots_are = rs; here = h }) on in
+        (k.0, λ m2 end st. on_slots word lists idle left p m2 end (k.1 m2 end.0 end.1 st))
+
     step_at : (p : Reclaiming) → ReclaimingAt batch_size roots i (machine p) w maps lists p → Goes p
-    step_at (at.Heads s) (ss, left, (none, lt, st, there)) = (
-      head_may batch_size roots i word w here batch slots all again ss rs s none lt st there,
-      λ m2 end k. on_slots word lists idle left (at.Heads s) m2 end (head_led batch_size roots i word w here batch slots all again ss rs s none lt st m2 end k),
-    )
-    step_at (at.Retakes s) (ss, left, (none, lt, st, free)) = (
-      retake_may batch_size roots i word w here batch slots all again ss rs s none lt st free,
-      λ m2 end k. on_slots word lists idle left (at.Retakes s) m2 end (retake_led batch_size roots i word w here batch slots all again ss rs s none lt st free m2 end k),
-    )
-    step_at (at.Leaves s l) (ss, left, (none, lt, h)) = (
-      leave_may batch_size roots i word w here batch slots all again ss rs s l none lt h,
-      λ m2 end k. on_slots word lists idle left (at.Leaves s l) m2 end (leave_led batch_size roots i word w here batch slots all again ss rs s l none lt h m2 end k),
-    )
-    step_at (at.Batches s) (ss, left, (lt, f)) = (
-      batch_may batch_size roots i word w here batch slots all again ss rs s lt f,
-      λ m2 end k. on_slots word lists idle left (at.Batches s) m2 end (batch_led batch_size roots i word w here batch slots all again ss rs s lt f m2 end k),
-    )
-    step_at (at.Flushes s l) (ss, left, (lt, h)) = (
-      flush_may batch_size roots i word w here batch slots all again ss rs s l lt h,
-      λ m2 end k. on_slots word lists idle left (at.Flushes s l) m2 end (flush_led batch_size roots i word w here batch slots all again ss rs s l lt h m2 end k),
-    )
-    step_at (at.Frees s) (ss, left, (lt, f)) = (
-      give_may batch_size roots i word w here batch slots all again ss rs s lt f,
-      λ m2 end k. on_slots word lists idle left (at.Frees s) m2 end (give_led batch_size roots i word w here batch slots all again ss rs s lt f m2 end k),
-    )
+    step_at (at.Heads s) (ss, left, h) = slots_at (at.Heads s) tt ss left h
+    step_at (at.Retakes s) (ss, left, h) = slots_at (at.Retakes s) tt ss left h
+    step_at (at.Leaves s l) (ss, left, h) = slots_at (at.Leaves s l) tt ss left h
+    step_at (at.Batches s) (ss, left, h) = slots_at (at.Batches s) tt ss left h
+    step_at (at.Flushes s l) (ss, left, h) = slots_at (at.Flushes s l) tt ss left h
+    step_at (at.Frees s) (ss, left, h) = slots_at (at.Frees s) tt ss left h
     step_at (at.Roots root) (quiet, left, lt, before) = (
       root_may V same asks batch_size roots slot maps calls makers enders w i lists word idle quiet (machine (at.Roots root)) rs root left lt before,
       root_led V same asks batch_size roots slot maps calls makers enders w i lists word idle quiet (machine (at.Roots root)) rs root left lt before,
@@ -165,7 +160,7 @@ module _ {K Q : Type 0} (V : Type 0) (same : K → K → Bool) (asks : Q → K �
       point = (refl, left, (refl, omega arith, record { rests = rests; idle = λ t l. absurd (omega (arith, l)) }, there));
     },
     λ quiet. with_roots quiet (roots == 0) (eqb-true roots 0) (eqb-false roots 0),
-    never_taken batch_size roots i w idle.together.makings.standing.came rests,
+    (slots_begin deferred_word batch_size roots i w word idle.together.makings.standing.came rests).1,
   )
     where
       with_roots : IsQuiet w → (b : Bool) → (b ≡ true → roots ≡ 0) → (b ≡ false → roots ≡ 0 → ⊥)

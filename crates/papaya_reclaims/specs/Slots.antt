@@ -1,118 +1,18 @@
--- A caller reclaims all, after whatever others did before it, step by step: its work on slots is one row after another, which leaves nothing that waits.
-use Rattle.std.specs.Prelude.{◌≡◌, ℕ, ◌+◌, ◌<◌, ◌≤◌, Bool, true, false, List, [], ◌∷◌, ◌++◌, Some, None, IsSome}
-use Rattle.std.specs.List.{AllByRecursion}
-use Rattle.papaya_finishes.specs.Given.SeizeWords.declared.at.At.TheVariants.{Slot}
-use Rattle.papaya_finishes.specs.Given.SeizeWords.Mem.{value_at, word_at}
-use Rattle.papaya_finishes.specs.Given.Seize.declared.states.TheConstants.{HEAD, BATCH, FREE, LAST_SLOT}
-use Rattle.papaya_finishes.specs.Given.Seize.declared.rows.settle.Settled.{Settled}
-use Rattle.papaya_finishes.specs.Given.Seize.declared.rows.settle.Settled.TheVariants as settled
+-- A caller reclaims all among maps: what is so of its work on slots, whatever values are, of pairs and tables.
+use Rattle.std.specs.Prelude.{ℕ, List}
 use Rattle.papaya_finishes.specs.Given.Seize.declared.rows.reclaim_all.ReclaimAll.{ReclaimAll}
 use Rattle.papaya_finishes.specs.Given.Seize.declared.rows.reclaim_all.Reclaiming.{Reclaiming}
-use Rattle.papaya_finishes.specs.Given.Seize.declared.rows.reclaim_all.Reclaiming.TheVariants as at
-use Rattle.papaya_finishes.specs.Given.Seize.Law.{is_retired}
-use Rattle.papaya_finishes.specs.Given.Seize.Sequence.{Calls, IsBetween, taken_in}
-use Rattle.papaya_finishes.specs.Given.Seize.World.{World, Row, Rests, Settles, Leaves, Vacant, Outside, Request, Register', Leave', Flush, Unregister', Event, Begin, Step, Begins, Steps'}
-use Rattle.papaya_finishes.specs.Given.SeizeAlone.Alone.{TakesSteps}
+use Rattle.papaya_finishes.specs.Given.Seize.World.{World, Event}
 use Rattle.papaya_finishes.specs.Given.Tables.Nodes.{deferred_word}
 use Rattle.papaya_finishes.specs.Given.Tables.declared.node.Node.{Node}
-use Rattle.papaya_finishes.specs.Given.Callers.Together.{CameAbout}
+use Rattle.seize_quiet.specs.Slots as quiet
+pub use Rattle.seize_quiet.specs.Slots.{IsForSlots, AreItsRows, AllRest, HasNoBatch, IsQuiet}
 
--- a row that takes a slot again, leaves one, flushes it or gives it up
-abbrev pub IsForSlots : Request → Type 0
-IsForSlots (Register' enters) = enters ≡ false
-IsForSlots (Leave' s) = Unit {0}
-IsForSlots (Flush s) = Unit {0}
-IsForSlots (Unregister' s) = Unit {0}
-IsForSlots _ = ⊥
+module _ {K V : Type 0} (batch_size i : ℕ) where
+  -- what is so at each point of it
+  abbrev pub OnSlotsAt : ReclaimAll → World (Node K V) → Reclaiming → Type 0
+  OnSlotsAt c w p = quiet.OnSlotsAt deferred_word batch_size i c w p
 
--- this caller begins such rows, and takes steps of them
-abbrev pub AreItsRows : {T : Type 0} → ℕ → List (Event T) → Type 0
-AreItsRows i [] = Unit {0}
-AreItsRows i (Begin j request ∷ events) = (j ≡ i) × IsForSlots request × AreItsRows i events
-AreItsRows i (Step j ∷ events) = (j ≡ i) × AreItsRows i events
-AreItsRows i (_ ∷ events) = ⊥
-
-module _ {K V : Type 0} where
-  -- no row is under way
-  abbrev pub AllRest : World (Node K V) → Type 0
-  AllRest w = (j : ℕ) → w.row j ≡ Rests
-
-  -- the slot has no batch
-  abbrev pub HasNoBatch : World (Node K V) → ℕ → Type 0
-  HasNoBatch w s = (word : ℕ) → word_at w.memory (Slot s BATCH) ≡ Some word → word ≡ 0
-
-  -- Nothing is left of what slots had: no row is under way, no slot is in use, and none has a batch.
-  pub record IsQuiet (w : World (Node K V)) : Type 0 where
-    pub rests : AllRest w
-    pub vacant : (s : ℕ) → w.uses s ≡ Vacant
-    pub none : (s : ℕ) → s ≤ LAST_SLOT → HasNoBatch w s
-
-  -- The slots below this one were taken, and none of them is active.
-  pub record Settling (s : ℕ) (w : World (Node K V)) : Type 0 where
-    pub rests : AllRest w
-    pub idle : (t : ℕ) → t < s → w.uses t ≡ Outside 0
-
-  -- No slot is active, and only the first ones, so many, were ever taken. If the round has found no batch yet, those below this one have none.
-  pub record Flushing (slots s : ℕ) (again : Bool) (w : World (Node K V)) : Type 0 where
-    pub rests : AllRest w
-    pub few : slots ≤ LAST_SLOT + 1
-    pub idle : (t : ℕ) → t < slots → w.uses t ≡ Outside 0
-    pub vacant : (t : ℕ) → slots ≤ t → w.uses t ≡ Vacant
-    pub others : (t : ℕ) → slots ≤ t → t ≤ LAST_SLOT → HasNoBatch w t
-    pub none : again ≡ false → (t : ℕ) → t < s → HasNoBatch w t
-
-  -- No slot has a batch, and those below this one are given up.
-  pub record Freeing (slots s : ℕ) (w : World (Node K V)) : Type 0 where
-    pub rests : AllRest w
-    pub few : slots ≤ LAST_SLOT + 1
-    pub idle : (t : ℕ) → s ≤ t → t < slots → w.uses t ≡ Outside 0
-    pub freed : (t : ℕ) → t < s → w.uses t ≡ Vacant
-    pub vacant : (t : ℕ) → slots ≤ t → w.uses t ≡ Vacant
-    pub none : (t : ℕ) → t ≤ LAST_SLOT → HasNoBatch w t
-
-  module _ (batch_size i : ℕ) where
-    -- Caller i has begun this row in a world in which so much was so, and has taken some steps of it.
-    pub record Within (request : Request) (So : World (Node K V) → Type 0) (row : Row) (w : World (Node K V)) : Type 0 where
-      pub before : World (Node K V)
-      pub so : So before
-      pub came : CameAbout batch_size before
-      pub begun : World (Node K V)
-      pub begins : Begins deferred_word batch_size i request before begun
-      pub steps : ℕ
-      pub takes : TakesSteps deferred_word steps i begun w
-      pub row_is : w.row i ≡ row
-
-    -- what is so at each point of its work on slots
-    abbrev pub OnSlotsAt : ReclaimAll → World (Node K V) → Reclaiming → Type 0
-    OnSlotsAt c w (at.Heads s) = (c.again ≡ false) × (s ≤ LAST_SLOT) × Settling s w × IsSome (word_at w.memory (Slot s HEAD))
-    OnSlotsAt c w (at.Retakes s) = (c.again ≡ false) × (s ≤ LAST_SLOT) × Settling s w × (word_at w.memory (Slot s HEAD) ≡ Some FREE)
-    OnSlotsAt c w (at.Leaves s leave) = (c.again ≡ false) × (s ≤ LAST_SLOT) × Within (Leave' s) (Settling s) (Leaves leave) w
-    OnSlotsAt c w (at.Batches s) = (s < c.slots) × Flushing c.slots s c.again w
-    OnSlotsAt c w (at.Flushes s settle) = (s < c.slots) × Within (Flush s) (Flushing c.slots s c.again) (Settles settle) w
-    OnSlotsAt c w (at.Frees s) = (s < c.slots) × Freeing c.slots s w
-    OnSlotsAt c w _ = ⊥
-
-    -- the row begins that is under way at this point, or nothing happens where none is
-    abbrev pub BeginsAt : World (Node K V) → World (Node K V) → Reclaiming → Type 0
-    BeginsAt w w2 (at.Leaves s leave) = Begins deferred_word batch_size i (Leave' s) w w2
-    BeginsAt w w2 (at.Flushes s settle) = Begins deferred_word batch_size i (Flush s) w w2
-    BeginsAt w w2 _ = w2 ≡ w
-
-    -- What a step does, from this point to that one. Where it looks at a slot, the row begins that is under way there then; within a row it is a step of that; and a slot is taken again, or given up,
-    -- by a whole row. Once it has done with slots, it is nothing of a row.
-    abbrev pub DoesAt : List (Event (Node K V)) → World (Node K V) → World (Node K V) → Reclaiming → Reclaiming → Type 0
-    DoesAt events w w2 (at.Heads s) to = BeginsAt w w2 to
-    DoesAt events w w2 (at.Retakes s) to = Calls deferred_word batch_size i (Register' false) w w2
-    DoesAt events w w2 (at.Leaves s leave) to = Steps' deferred_word i (w.row i) w w2
-    DoesAt events w w2 (at.Batches s) to = BeginsAt w w2 to
-    DoesAt events w w2 (at.Flushes s settle) to = Steps' deferred_word i (w.row i) w w2
-    DoesAt events w w2 (at.Frees s) to = Calls deferred_word batch_size i (Unregister' s) w w2
-    DoesAt events w w2 _ to = AllByRecursion IsBetween events
-
-  -- A step has taken no block away; or it has taken one that was retired, whose value it hands out. It never waits.
-  abbrev pub SlotsTold : World (Node K V) → World (Node K V) → Settled (Node K V) → Type 0
-  SlotsTold w w2 settled.Goes = taken_in w2.log ≡ taken_in w.log
-  SlotsTold w w2 settled.Waits = ⊥
-  SlotsTold w w2 (settled.Gave value) =
-      (b : ℕ) × (value_at w.memory b ≡ Some value) × (is_retired b w.log ≡ true) × (value_at w2.memory b ≡ None) × (taken_in w2.log ≡ taken_in w.log ++ b ∷ [])
-  SlotsTold w w2 settled.Done = ⊥
+  -- what a step does, from this point to that one
+  abbrev pub DoesAt : List (Event (Node K V)) → World (Node K V) → World (Node K V) → Reclaiming → Reclaiming → Type 0
+  DoesAt events w w2 p to = quiet.DoesAt deferred_word batch_size i events w w2 p to

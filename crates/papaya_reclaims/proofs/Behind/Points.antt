@@ -18,7 +18,7 @@ use Rattle.papaya_finishes.specs.Given.Seize.Further.{ListFrom}
 use Rattle.papaya_finishes.specs.Given.Seize.ReclaimAll.{standing, next_root, to, left_there, root_read, roots as roots_plan, next_read, nexts}
 use Rattle.papaya_finishes.specs.Given.Seize.World.{World}
 use Rattle.papaya_finishes.proofs.Given.SeizeRule.Words.Named.{link-block}
-use Rattle.papaya_finishes.specs.Given.Tables.Nodes.{was_left}
+use Rattle.papaya_finishes.specs.Given.Tables.Nodes.{deferred_word, was_left}
 use Rattle.papaya_finishes.specs.Given.Tables.declared.node.Node.{Node}
 use Rattle.papaya_finishes.specs.Given.Tables.declared.node.Node.TheVariants as node
 use Rattle.papaya_finishes.specs.Given.Tables.declared.setting.Setting.{Setting}
@@ -33,7 +33,7 @@ use Rattle.papaya_reclaims.specs.Reclaims.{IsRootOf, RootLeads, LeftBehind, Open
 use Rattle.papaya_reclaims.specs.Slots.{IsQuiet, DoesAt}
 use Rattle.papaya_reclaims.proofs.Behind.Deferred.{tables_carry}
 use Rattle.papaya_reclaims.proofs.Behind.Kept.{same_still}
-use Rattle.papaya_reclaims.proofs.Slots.Facts.{nothing_left}
+use Rattle.seize_quiet.proofs.Promised.{nothing_waits}
 
 same_some : {X : Type 0} (a b : X) → ◌≡◌ {A = Option X} (Some a) (Some b) → a ≡ b
 same_some a b e = cc e
@@ -233,7 +233,7 @@ module _ {K Q : Type 0} (V : Type 0) (same : K → K → Bool) (asks : Q → K �
         told = (refl, refl);
         next = record { stand = idle; roots_are = rs; point = subst (λ p. ReclaimingAt batch_size roots i c w maps lists p) (sym at_over) (quiet, left, none) };
         over = λ e. record {
-          nothing = nothing_left batch_size word w came quiet;
+          nothing = nothing_waits deferred_word batch_size w word came quiet;
           free = λ r lt. (elim (left.others r lt (λ e. omega (arith, e, lt))) as (λ _. IsRootOf maps r ⊎ IsFreeRoot w r) [
             | inl of ↦ inl of
             | inr leads ↦ inr (subst (λ (l : List ℕ). RootLeads w r l) (none r lt) leads)

@@ -2,26 +2,22 @@
 use Rattle.std.specs.Prelude.{Option, Some, None, nat_lt, ◌==◌, if◌then◌else◌}
 use Rattle.std.proofs.Common.{◌≡◌, ℕ, suc, ◌+◌, ◌-◌, ◌<◌, ◌≤◌, Bool, true, false, inl, inr, refl, arith, subst, sym, ◌∙◌, eqb-true}
 use Rattle.std.proofs.lemmas.Bool.{cases_lt, eqb-false}
-use Rattle.papaya_finishes.specs.Given.SeizeWords.declared.at.At.TheVariants as name
-use Rattle.papaya_finishes.specs.Given.SeizeWords.Mem.{word_at}
-use Rattle.papaya_finishes.specs.Given.Seize.declared.states.TheConstants.{HEAD, LAST_SLOT}
-use Rattle.papaya_finishes.specs.Given.Seize.declared.rows.reclaim_all.ReclaimAll.{ReclaimAll}
-use Rattle.papaya_finishes.specs.Given.Seize.declared.rows.reclaim_all.Reclaiming.{Reclaiming}
-use Rattle.papaya_finishes.specs.Given.Seize.declared.rows.reclaim_all.Reclaiming.TheVariants as at
-use Rattle.papaya_finishes.specs.Given.Seize.ReclaimAll.{standing, first_root, first_batch, next_head, next_batch, next_free}
-use Rattle.papaya_finishes.specs.Given.Seize.World.{World, Vacant, SlotsTaken}
-use Rattle.papaya_finishes.proofs.Given.SeizeMoves.State.Ghost.{is_never}
-use Rattle.papaya_finishes.proofs.Given.SeizeRule.Words.Named.{words_of, word_found}
-use Rattle.papaya_finishes.proofs.Given.SeizeRule.World.Good.{Good}
-use Rattle.papaya_finishes.proofs.Given.SeizeRule.Words.View.{view}
-use Rattle.papaya_finishes.proofs.Given.SeizeSets.Reclaims.Ends.{untaken_vacant}
-use Rattle.papaya_finishes.proofs.Given.SeizeSets.Turns.Heads.{head_word, vacant_by, none_past, never_behind, taken_so, zero_never}
+use Rattle.seize_alone.specs.Given.SeizeWords.declared.at.At.TheVariants as name
+use Rattle.seize_alone.specs.Given.SeizeWords.Mem.{word_at}
+use Rattle.seize_alone.specs.Given.Seize.declared.states.TheConstants.{HEAD, LAST_SLOT}
+use Rattle.seize_alone.specs.Given.Seize.declared.rows.reclaim_all.ReclaimAll.{ReclaimAll}
+use Rattle.seize_alone.specs.Given.Seize.declared.rows.reclaim_all.Reclaiming.TheVariants as at
+use Rattle.seize_alone.specs.Given.Seize.ReclaimAll.{standing, first_root, first_batch, next_head, next_batch, next_free}
+use Rattle.seize_alone.specs.Given.Seize.World.{World, Vacant, SlotsTaken}
+use Rattle.seize_alone.proofs.Given.SeizeMoves.State.Ghost.{is_never}
+use Rattle.seize_alone.proofs.Given.SeizeRule.Words.Named.{words_of, word_found}
+use Rattle.seize_alone.proofs.Given.SeizeRule.World.Good.{Good}
+use Rattle.seize_alone.proofs.Given.SeizeRule.Words.View.{view}
+use Rattle.seize_alone.proofs.Given.SeizeSets.Reclaims.Ends.{untaken_vacant}
+use Rattle.seize_alone.proofs.Given.SeizeSets.Turns.Heads.{head_word, vacant_by, none_past, never_behind, taken_so, zero_never}
 use Rattle.seize_acts.proofs.Slots.{head_none}
-use Rattle.papaya_finishes.specs.Given.Tables.Nodes.{deferred_word}
-use Rattle.papaya_finishes.specs.Given.Tables.declared.node.Node.{Node}
-use Rattle.papaya_finishes.specs.Given.Callers.Together.{CameAbout}
-use Rattle.papaya_reclaims.specs.Slots.{AllRest, HasNoBatch, IsQuiet, Settling, Flushing, Freeing, OnSlotsAt}
-use Rattle.papaya_reclaims.proofs.Slots.Facts.{outside_at, rested_by, word_behind, never_none}
+use Rattle.seize_quiet.specs.Slots.{AllRest, HasNoBatch, IsQuiet, Settling, Flushing, Freeing, Came, Stage as StageOf}
+use Rattle.seize_quiet.proofs.Slots.Facts.{outside_at, rested_by, word_behind, never_none}
 
 lt_of : (a b : ℕ) → nat_lt a b ≡ true → a < b
 lt_of a b l = grind (arith, l)
@@ -29,19 +25,11 @@ lt_of a b l = grind (arith, l)
 le_of : (a b : ℕ) → nat_lt a b ≡ false → b ≤ a
 le_of a b l = grind (arith, l)
 
-module _ {K V : Type 0} (size roots i : ℕ) where
-  -- it works on slots, or comes to the first root
-  abbrev pub StageAt : ReclaimAll → World (Node K V) → Reclaiming → Type 0
-  StageAt c w (at.Roots root) = (root ≡ 0) × (0 < c.roots) × IsQuiet w
-  StageAt c w at.Over = (c.roots ≡ 0) × IsQuiet w
-  StageAt c w p = OnSlotsAt size i c w p
+module _ {T : Type 0} (defers : T → Option ℕ) (size roots i : ℕ) where
+  abbrev Stage : ReclaimAll → World T → Type 0
+  Stage c w = StageOf defers size i roots c w
 
-  pub record Stage (c : ReclaimAll) (w : World (Node K V)) : Type 0 where
-    pub size_is : c.batch_size ≡ size
-    pub roots_are : c.roots ≡ roots
-    pub here : StageAt c w c.stands
-
-  module _ (c : ReclaimAll) (ss : c.batch_size ≡ size) (rs : c.roots ≡ roots) (w : World (Node K V)) where
+  module _ (c : ReclaimAll) (ss : c.batch_size ≡ size) (rs : c.roots ≡ roots) (w : World T) where
     past : (c2 : ReclaimAll) → c2.batch_size ≡ size → c2.roots ≡ roots → IsQuiet w → Stage (first_root c2) w
     past c2 ss2 rs2 quiet = by (c2.roots == 0) (eqb-true c2.roots 0) (eqb-false c2.roots 0)
       where
@@ -50,16 +38,16 @@ module _ {K V : Type 0} (size roots i : ℕ) where
         by false e f = let ne = f refl in record { size_is = ss2; roots_are = rs2; here = (refl, omega (arith, ne), quiet) }
 
     -- all slots have settled
-    module _ (came : CameAbout size w) where
+    module _ (came : Came defers size w) where
       pub first_flush : (slots : ℕ) → slots ≤ LAST_SLOT + 1 → c.again ≡ false → Settling slots w → ((t v : ℕ) → slots ≤ t → word_at w.memory (name.Slot t HEAD) ≡ Some v → v ≡ 0)
           → Stage (first_batch (record c { slots = slots })) w
       first_flush slots few not_again st none_taken = by (slots == 0) (eqb-true slots 0) (eqb-false slots 0)
         where
           taken : SlotsTaken w.memory slots
-          taken = taken_so deferred_word (LAST_SLOT + 1) size refl w (rested_by size w came st.rests) slots few st.idle none_taken
+          taken = taken_so defers (LAST_SLOT + 1) size refl w (rested_by defers size w came st.rests) slots few st.idle none_taken
 
           vacant : (t : ℕ) → slots ≤ t → w.uses t ≡ Vacant
-          vacant t le = untaken_vacant deferred_word (LAST_SLOT + 1) size refl w (rested_by size w came st.rests) slots taken t le
+          vacant t le = untaken_vacant defers (LAST_SLOT + 1) size refl w (rested_by defers size w came st.rests) slots taken t le
 
           zero_word : (t : ℕ) → slots ≤ t → (o : Option ℕ) → word_at w.memory (name.Slot t HEAD) ≡ o → words_of w.memory (name.Slot t HEAD) ≡ 0
           zero_word t le None e = grind (arith, e)
@@ -67,9 +55,9 @@ module _ {K V : Type 0} (size roots i : ℕ) where
 
           none : (t : ℕ) → slots ≤ t → t ≤ LAST_SLOT → HasNoBatch w t
           none t le l =
-              let g = (rested_by size w came st.rests).good in
-              never_none size w came st.rests (outside_at slots w.uses st.idle vacant) t l
-              (zero_never (view deferred_word w.memory).links (words_of w.memory (name.Slot t HEAD)) (g.state.head t) (g.shows.entries.headed t) (zero_word t le (word_at w.memory (name.Slot t HEAD)) refl))
+              let g = (rested_by defers size w came st.rests).good in
+              never_none defers size w came st.rests (outside_at slots w.uses st.idle vacant) t l
+              (zero_never (view defers w.memory).links (words_of w.memory (name.Slot t HEAD)) (g.state.head t) (g.shows.entries.headed t) (zero_word t le (word_at w.memory (name.Slot t HEAD)) refl))
 
           by : (b : Bool) → (b ≡ true → slots ≡ 0) → (b ≡ false → slots ≡ 0 → ⊥)
               → Stage (if b then first_root (record c { slots = slots }) else standing (record c { slots = slots }) (at.Batches 0)) w
@@ -93,18 +81,18 @@ module _ {K V : Type 0} (size roots i : ℕ) where
               record {
                 size_is = ss;
                 roots_are = rs;
-                here = (not_again, omega (arith, l), st1 (s + 1) (omega arith), word_behind size w came st.rests s HEAD (st.idle s (omega arith)) (omega (arith, l)) (omega arith));
+                here = (not_again, omega (arith, l), st1 (s + 1) (omega arith), word_behind defers size w came st.rests s HEAD (st.idle s (omega arith)) (omega (arith, l)) (omega arith));
               }
           by false e =
               let l = le_of s LAST_SLOT e in
               let st2 = st1 (LAST_SLOT + 1) (omega (arith, l, lt)) in
               first_flush (LAST_SLOT + 1) (omega arith) not_again st2
-              (λ t v q z. none_past deferred_word (LAST_SLOT + 1) size refl w (rested_by size w came st.rests) t v q z)
+              (λ t v q z. none_past defers (LAST_SLOT + 1) size refl w (rested_by defers size w came st.rests) t v q z)
 
       -- a slot that was never taken has none behind it that was
       pub stops_here : (s : ℕ) → s ≤ LAST_SLOT → c.again ≡ false → Settling s w → word_at w.memory (name.Slot s HEAD) ≡ Some 0 → Stage (first_batch (record c { slots = s })) w
       stops_here s lt not_again st word =
-          first_flush s (omega (arith, lt)) not_again st (λ t v le f. never_behind deferred_word (LAST_SLOT + 1) size refl w (rested_by size w came st.rests) s t v word le f)
+          first_flush s (omega (arith, lt)) not_again st (λ t v le f. never_behind defers (LAST_SLOT + 1) size refl w (rested_by defers size w came st.rests) s t v word le f)
 
     -- the next slot, or the next round, or all are given up
     pub round_on : (s : ℕ) → s < c.slots → Flushing c.slots (suc s) c.again w → Stage (next_batch c s) w
@@ -163,15 +151,15 @@ module _ {K V : Type 0} (size roots i : ℕ) where
             })
 
   -- where none was ever taken, nothing is left of what slots had
-  pub never_taken : (w : World (Node K V)) → CameAbout size w → AllRest w → word_at w.memory (name.Slot 0 HEAD) ≡ None → IsQuiet w
+  pub never_taken : (w : World T) → Came defers size w → AllRest w → word_at w.memory (name.Slot 0 HEAD) ≡ None → IsQuiet w
   never_taken w came rests none = record {
     rests = rests;
     vacant = vacant;
-    none = λ t le. never_none size w came rests (outside_at 0 w.uses (λ t l. absurd (omega (arith, l))) (λ t l. vacant t)) t le (never t);
+    none = λ t le. never_none defers size w came rests (outside_at 0 w.uses (λ t l. absurd (omega (arith, l))) (λ t l. vacant t)) t le (never t);
   }
     where
-      g : Good deferred_word (LAST_SLOT + 1) size w
-      g = (rested_by size w came rests).good
+      g : Good defers (LAST_SLOT + 1) size w
+      g = (rested_by defers size w came rests).good
 
       zero_word : words_of w.memory (name.Slot 0 HEAD) ≡ 0
       zero_word = grind (arith, none)
@@ -179,9 +167,9 @@ module _ {K V : Type 0} (size roots i : ℕ) where
       never : (t : ℕ) → is_never (g.state.head t) ≡ true
       never t =
           g.inv.slots.prefix 0 t (omega arith)
-          (zero_never (view deferred_word w.memory).links (words_of w.memory (name.Slot 0 HEAD)) (g.state.head 0) (g.shows.entries.headed 0) zero_word)
+          (zero_never (view defers w.memory).links (words_of w.memory (name.Slot 0 HEAD)) (g.state.head 0) (g.shows.entries.headed 0) zero_word)
 
       vacant : (t : ℕ) → w.uses t ≡ Vacant
       vacant t =
-          let z = head_none (view deferred_word w.memory).links (words_of w.memory (name.Slot t HEAD)) (g.state.head t) (g.shows.entries.headed t) (never t) in
-          vacant_by (w.uses t) (words_of w.memory (name.Slot t HEAD)) (head_word deferred_word (LAST_SLOT + 1) size refl w (rested_by size w came rests) t) (omega (arith, z))
+          let z = head_none (view defers w.memory).links (words_of w.memory (name.Slot t HEAD)) (g.state.head t) (g.shows.entries.headed t) (never t) in
+          vacant_by (w.uses t) (words_of w.memory (name.Slot t HEAD)) (head_word defers (LAST_SLOT + 1) size refl w (rested_by defers size w came rests) t) (omega (arith, z))

@@ -2,33 +2,30 @@
 use Rattle.std.specs.Prelude.{Option, Some, None, IsSome}
 use Rattle.std.proofs.Common.{◌≡◌, ℕ, zero, suc, ◌+◌, ◌<◌, ◌≤◌, ◌^◌, true, false, List, [], ◌∷◌, length, inl, inr, refl, arith, ap, sym, subst, ◌∙◌}
 use Rattle.std.proofs.lemmas.Bool.{cases_lt}
-use Rattle.papaya_finishes.specs.Given.SeizeWords.declared.at.At.TheVariants as name
-use Rattle.papaya_finishes.specs.Given.SeizeWords.Mem.{word_at}
-use Rattle.papaya_finishes.specs.Given.Seize.declared.states.TheConstants.{HEAD, BATCH, LAST_SLOT}
-use Rattle.papaya_finishes.specs.Given.Seize.Law.{is_retired}
-use Rattle.papaya_finishes.specs.Given.Seize.Sequence.{RunsOn, Calls}
-use Rattle.papaya_finishes.specs.Given.Seize.WaitingSets.{Sets}
-use Rattle.papaya_finishes.specs.Given.Seize.World.{World, Use, Vacant, Outside, Request, Event, Begin, Step, Runs, IsOutside, at_start}
-use Rattle.papaya_finishes.proofs.Given.SeizeMoves.State.Ghost.{is_never}
-use Rattle.papaya_finishes.proofs.Given.SeizeRule.Rows.Short.{tries_on}
-use Rattle.papaya_finishes.proofs.Given.SeizeRule.Words.Named.{words_of, word_found}
-use Rattle.papaya_finishes.proofs.Given.SeizeRule.Words.Room.{slot_there}
-use Rattle.papaya_finishes.proofs.Given.SeizeRule.World.Rested.{Rested}
-use Rattle.papaya_finishes.proofs.Given.SeizeRule.World.Start.{start_good}
-use Rattle.papaya_finishes.proofs.Given.SeizeEnds.Batches.Rows.{HeldByRows, runs_held, start_held}
-use Rattle.papaya_finishes.proofs.Given.SeizeSets.Reclaims.Ends.{none_retired}
-use Rattle.papaya_finishes.proofs.Given.SeizeSets.Reclaims.Sets.{open_none}
-use Rattle.papaya_finishes.proofs.Given.SeizeSets.Turns.Begins.{Shown}
-use Rattle.papaya_finishes.proofs.Given.SeizeSets.Turns.Heads.{has_words, has_word, idle_word}
+use Rattle.seize_alone.specs.Given.SeizeWords.declared.at.At.TheVariants as name
+use Rattle.seize_alone.specs.Given.SeizeWords.Mem.{word_at}
+use Rattle.seize_alone.specs.Given.Seize.declared.states.TheConstants.{HEAD, BATCH, LAST_SLOT}
+use Rattle.seize_alone.specs.Given.Seize.Law.{is_retired}
+use Rattle.seize_alone.specs.Given.Seize.Sequence.{RunsOn, Calls}
+use Rattle.seize_alone.specs.Given.Seize.WaitingSets.{Sets}
+use Rattle.seize_alone.specs.Given.Seize.World.{World, Use, Vacant, Outside, Request, Event, Begin, Step, Runs, IsOutside, at_start}
+use Rattle.seize_alone.proofs.Given.SeizeMoves.State.Ghost.{is_never}
+use Rattle.seize_alone.proofs.Given.SeizeRule.Rows.Short.{tries_on}
+use Rattle.seize_alone.proofs.Given.SeizeRule.Words.Named.{words_of, word_found}
+use Rattle.seize_alone.proofs.Given.SeizeRule.Words.Room.{slot_there}
+use Rattle.seize_alone.proofs.Given.SeizeRule.World.Rested.{Rested}
+use Rattle.seize_alone.proofs.Given.SeizeRule.World.Start.{start_good}
+use Rattle.seize_alone.proofs.Given.SeizeEnds.Batches.Rows.{HeldByRows, runs_held, start_held}
+use Rattle.seize_alone.proofs.Given.SeizeSets.Reclaims.Ends.{none_retired}
+use Rattle.seize_alone.proofs.Given.SeizeSets.Reclaims.Sets.{open_none}
+use Rattle.seize_alone.proofs.Given.SeizeSets.Turns.Begins.{Shown}
+use Rattle.seize_alone.proofs.Given.SeizeSets.Turns.Heads.{has_words, has_word, idle_word}
 use Rattle.seize_acts.specs.Reclaimed.{HasNothingLeft}
 use Rattle.seize_acts.proofs.Lost.{behind_others}
 use Rattle.seize_acts.proofs.Reclaimed.Flushed.{batch_zero}
 use Rattle.seize_acts.proofs.Reclaimed.Quiet.{quiet_sets, quiet_shown, opened_below, opened_past}
-use Rattle.papaya_finishes.specs.Given.Tables.Nodes.{deferred_word}
-use Rattle.papaya_finishes.specs.Given.Tables.declared.node.Node.{Node}
-use Rattle.papaya_finishes.specs.Given.Callers.Together.{CameAbout}
-use Rattle.papaya_finishes.proofs.Given.Callers.Together.Came.{came_reached}
-use Rattle.papaya_reclaims.specs.Slots.{IsForSlots, AreItsRows, AllRest, HasNoBatch, IsQuiet}
+use Rattle.seize_quiet.proofs.Slots.Came.{came_reached}
+use Rattle.seize_quiet.specs.Slots.{Came, IsForSlots, AreItsRows, AllRest, HasNoBatch, IsQuiet}
 
 idle_outside : (u : Use) → u ≡ Outside 0 → IsOutside u
 idle_outside u e = subst (λ (x : Use). IsOutside x) (sym e) tt
@@ -47,52 +44,52 @@ no_length : (l : List ℕ) → length l ≡ 0 → l ≡ []
 no_length [] e = refl
 no_length (b ∷ l) e = absurd (omega (arith, e))
 
-module _ {K V : Type 0} (size : ℕ) where
-  runs_run : (i steps : ℕ) (w n : World (Node K V)) → RunsOn deferred_word steps i w n
-      → (events : List (Event (Node K V))) × AreItsRows i events × Runs deferred_word size events w n
+module _ {T : Type 0} (defers : T → Option ℕ) (size : ℕ) where
+  runs_run : (i steps : ℕ) (w n : World T) → RunsOn defers steps i w n
+      → (events : List (Event T)) × AreItsRows i events × Runs defers size events w n
   runs_run i zero w n h = ([], tt, h.1)
   runs_run i (suc steps) w n h = let k = runs_run i steps h.0 n h.2 in (Step i ∷ k.0, (refl, k.1), (h.0, h.1, k.2))
 
   -- and a whole row
-  pub calls_run : (i : ℕ) (request : Request) → IsForSlots request → (w n : World (Node K V)) → Calls deferred_word size i request w n
-      → (events : List (Event (Node K V))) × AreItsRows i events × Runs deferred_word size events w n
+  pub calls_run : (i : ℕ) (request : Request) → IsForSlots request → (w n : World T) → Calls defers size i request w n
+      → (events : List (Event T)) × AreItsRows i events × Runs defers size events w n
   calls_run i request is w n h = let k = runs_run i h.1 h.0 n h.4 in (Begin i request ∷ k.0, (refl, is, k.1), (h.0, (h.2, h.3), k.2))
 
   -- where no row is under way
 
-  pub rested_by : (w : World (Node K V)) → CameAbout size w → AllRest w → Rested deferred_word (LAST_SLOT + 1) size w
-  rested_by w came rests = record { good = (came_reached size w came).good; rests = rests }
+  pub rested_by : (w : World T) → Came defers size w → AllRest w → Rested defers (LAST_SLOT + 1) size w
+  rested_by w came rests = record { good = (came_reached defers size w came).good; rests = rests }
 
-  pub held_by : (w : World (Node K V)) → CameAbout size w → HeldByRows w
+  pub held_by : (w : World T) → Came defers size w → HeldByRows w
   held_by w (roots, events, runs) =
-      runs_held deferred_word size events (at_start deferred_word roots) w (start_good deferred_word (LAST_SLOT + 1) size roots) (λ j. tt) runs (start_held (deferred_word {K = K} {V = V}) size roots)
+      runs_held defers size events (at_start defers roots) w (start_good defers (LAST_SLOT + 1) size roots) (λ j. tt) runs (start_held defers size roots)
 
-  module _ (w : World (Node K V)) (came : CameAbout size w) (rests : AllRest w) where
-    abbrev rested : Rested deferred_word (LAST_SLOT + 1) size w
+  module _ (w : World T) (came : Came defers size w) (rests : AllRest w) where
+    abbrev rested : Rested defers (LAST_SLOT + 1) size w
     rested = rested_by w came rests
 
     taken_once : (t : ℕ) → w.uses t ≡ Outside 0 → t < LAST_SLOT + 1 → words_of w.memory (name.Slot t HEAD) ≡ 0 → ⊥
     taken_once t out lt none =
-        let k = word_found w.memory (name.Slot t HEAD) 2 (idle_word deferred_word (LAST_SLOT + 1) size refl w rested t out lt) in
+        let k = word_found w.memory (name.Slot t HEAD) 2 (idle_word defers (LAST_SLOT + 1) size refl w rested t out lt) in
         absurd (cc (k, none))
 
     -- a slot that is registered has its words, and so has the one behind it
     pub word_here : (t field : ℕ) → w.uses t ≡ Outside 0 → t < LAST_SLOT + 1 → field < 2 → IsSome (word_at w.memory (name.Slot t field))
     word_here t field out lt f =
-        slot_there w.memory t field rested.good.room.bucketed (has_word deferred_word (LAST_SLOT + 1) size refl w rested t (taken_once t out lt) lt) f
+        slot_there w.memory t field rested.good.room.bucketed (has_word defers (LAST_SLOT + 1) size refl w rested t (taken_once t out lt) lt) f
 
     pub word_behind : (t field : ℕ) → w.uses t ≡ Outside 0 → t + 1 < LAST_SLOT + 1 → field < 2 → IsSome (word_at w.memory (name.Slot (t + 1) field))
     word_behind t field out lt f =
         slot_there w.memory (t + 1) field rested.good.room.bucketed
-        (has_words deferred_word (LAST_SLOT + 1) size refl w rested t (taken_once t out (omega (arith, lt))) lt) f
+        (has_words defers (LAST_SLOT + 1) size refl w rested t (taken_once t out (omega (arith, lt))) lt) f
 
     -- where no slot is active, batches are those that the words say
     module _ (outside : (t : ℕ) → IsOutside (w.uses t)) where
       abbrev pub sets_now : Sets
       sets_now = quiet_sets (LAST_SLOT + 1) (length w.memory.blocks + 1) rested.good.state
 
-      pub shown_now : Shown deferred_word (LAST_SLOT + 1) size w sets_now
-      shown_now = quiet_shown deferred_word size w rested outside
+      pub shown_now : Shown defers (LAST_SLOT + 1) size w sets_now
+      shown_now = quiet_shown defers size w rested outside
 
       pub no_word : (t : ℕ) → HasNoBatch w t → words_of w.memory (name.Slot t BATCH) ≡ 0
       no_word t none = by (word_at w.memory (name.Slot t BATCH)) refl
@@ -102,18 +99,18 @@ module _ {K V : Type 0} (size : ℕ) where
           by (Some a) e = word_found w.memory (name.Slot t BATCH) a e ∙ none a e
 
       pub open_none_now : size < 2 ^ 64 → (t : ℕ) → t ≤ LAST_SLOT → HasNoBatch w t → sets_now.open_batch t ≡ []
-      open_none_now word t le none = open_none deferred_word (LAST_SLOT + 1) size refl word 0 t w sets_now shown_now (omega (arith, le)) (no_word t none)
+      open_none_now word t le none = open_none defers (LAST_SLOT + 1) size refl word 0 t w sets_now shown_now (omega (arith, le)) (no_word t none)
 
       -- a slot that was never taken has none
       pub never_none : (t : ℕ) → t ≤ LAST_SLOT → is_never (rested.good.state.head t) ≡ true → HasNoBatch w t
       never_none t le never x is =
-          batch_zero deferred_word size w sets_now shown_now (held_by w came) t (omega (arith, le))
+          batch_zero defers size w sets_now shown_now (held_by w came) t (omega (arith, le))
           (opened_below t (LAST_SLOT + 1) (rested.good.state.blocks (rested.good.state.open_batch t)) (omega (arith, le))
           ∙ no_length (rested.good.state.blocks (rested.good.state.open_batch t)) ((rested.good.short t (omega (arith, le)) (λ j. ap (λ r. tries_on r t) (rests j))).untaken never)) x is
 
   -- where no slot is in use, and none has a batch, nothing is left
-  pub nothing_left : size < 2 ^ 64 → (w : World (Node K V)) → CameAbout size w → IsQuiet w → HasNothingLeft deferred_word w
-  nothing_left word w came quiet = (quiet.rests, retired, quiet.vacant, (λ s x le is. quiet.none s le x is), behind_others deferred_word w (rested_by w came quiet.rests).good quiet.rests retired)
+  pub nothing_left : size < 2 ^ 64 → (w : World T) → Came defers size w → IsQuiet w → HasNothingLeft defers w
+  nothing_left word w came quiet = (quiet.rests, retired, quiet.vacant, (λ s x le is. quiet.none s le x is), behind_others defers w (rested_by w came quiet.rests).good quiet.rests retired)
     where
       outside : (t : ℕ) → IsOutside (w.uses t)
       outside t = vacant_outside (w.uses t) (quiet.vacant t)
@@ -125,4 +122,4 @@ module _ {K V : Type 0} (size : ℕ) where
       ]
 
       retired : (b : ℕ) → is_retired b w.log ≡ false
-      retired b = none_retired deferred_word (LAST_SLOT + 1) size refl w (sets_now w came quiet.rests outside) (shown_now w came quiet.rests outside) quiet.vacant none_open b
+      retired b = none_retired defers (LAST_SLOT + 1) size refl w (sets_now w came quiet.rests outside) (shown_now w came quiet.rests outside) quiet.vacant none_open b

@@ -1,0 +1,6 @@
+pub mod Looks
+pub mod Roots
+pub mod Moved
+pub mod Registering
+pub mod Steps
+pub mod Ends
