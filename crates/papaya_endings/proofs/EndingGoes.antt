@@ -38,6 +38,7 @@ use Rattle.papaya_deeds.specs.Deeds.{moment, named}
 use Rattle.papaya_played.specs.Play.{Ending, State}
 use Rattle.papaya_played.specs.Reached.{IsOf}
 use Rattle.papaya_played.proofs.PlayedAs.{PlayedAs}
+use Rattle.papaya_linear.proofs.ComeActs.{notes_map}
 use Rattle.papaya_linear.proofs.Holding.{AllHolds}
 use Rattle.papaya_endings.specs.Ends.{EndsWell}
 use Rattle.papaya_endings.specs.Going.{GoesOnToEnd}
@@ -61,11 +62,7 @@ module _ {K V : Type 0} (same : K → K → Bool) (hash : ℕ → K → ℕ) (ol
   in_it = (at.together.makings.standing.each map standing there).ground.map
 
   notes : NotesMap map number known standing.setting standing.chart standing.blocks
-  notes = record {
-    pairs = λ k current. (let it = current_is_known same standing.hash standing.setting s.world.memory standing.chart standing.blocks in_it.map.rule in_it.map.shows k current in shows.pairs.roles k it.0 it.1);
-    tables = λ t from made. shows.tables.roles t made (in_it.map.shows.linked t from made);
-    counter = shows.counter;
-  }
+  notes = notes_map same hash old m known s at whole.all.shown map standing there
 
   ordered : in_order m (mapped number (pairs_of chunks standing.chart)) ≡ true
   ordered =

@@ -8,7 +8,6 @@ mod Noted
 mod Going
 mod Others
 pub mod EndSteps
-mod Beside
 mod Played
 mod MakingGoes
 mod EndingGoes

@@ -33,10 +33,11 @@ use Rattle.papaya_acts.specs.Leads.{Led}
 use Rattle.papaya_agrees.proofs.Elsewhere.{AllLinkElsewhere, acting_elsewhere}
 use Rattle.papaya_agrees.proofs.Fresh.{AnyTable}
 use Rattle.papaya_deeds.specs.Deeds.{Deed, Entry, Makes, MapComes, MapFails, after, come, moment, named}
-use Rattle.papaya_played.specs.Play.{Ending, Making, Now, State, has_root, is_refusal, made_on, making_deed, making_outcome, pairs_for}
+use Rattle.papaya_played.specs.Play.{Ending, State, has_root, is_refusal, making_deed, making_outcome, pairs_for}
 use Rattle.papaya_played.specs.Reached.{IsOf}
 use Rattle.papaya_played.proofs.PlayedAs.{PlayedAs}
 use Rattle.papaya_linear.specs.Coming.{AreNamed}
+use Rattle.papaya_linear.proofs.ComeActs.{made_enders}
 use Rattle.papaya_linear.proofs.Coming.{come_leaves, gone_leaves}
 use Rattle.papaya_linear.proofs.Holding.{AllHolds}
 use Rattle.papaya_linear.proofs.Names.{effects_named}
@@ -89,14 +90,6 @@ module _ {K V : Type 0} (map own : ℕ) (ne : own ≢ map) (m : Moment K V) (sto
       (alike_then map b v (then_at false true) (all_spared map None (Some own) other effects b (stored_alike map m b came stored) (firsts_spare map None (Some own) effects b firsts links))
       (alike_all map v (then_at false true) refl refl refl refl refl))
 
-module _ {K V S : Type 0} where
-  -- a making that goes on leaves ends as they are
-  ends_same : (b : Making S) (i : ℕ) (machine : NewMap) (told : Progress Setting) (now : Now K V S) → (made_on i b machine told now).enders ≡ now.enders
-  ends_same b i machine progress.Goes now = refl
-  ends_same b i machine progress.Waits now = refl
-  ends_same b i machine (progress.Done setting) now = refl
-  ends_same b i machine (progress.Refused fault) now = refl
-
 module _ {K V S : Type 0} (same : K → K → Bool) (by_hasher : S → K → ℕ) (hash : ℕ → K → ℕ) (batch_size roots : ℕ) (aborts : V) (x y : State K V S) (s n : Scene K V)
     (is : IsOf by_hasher s s.world.row x.now) (at : IsAt same hash (held_in batch_size roots NoChange s) s) (all : AllHolds same x s) (so : EndsGoOn x s) (told : Answer K V) (i : ℕ) (g : Grant) where
   abbrev act : Act K V S
@@ -121,7 +114,7 @@ module _ {K V S : Type 0} (same : K → K → Bool) (by_hasher : S → K → ℕ
       → LeadsAs same by_hasher hash (StepsMaking i g) s told n old new → IsAt same hash new n → EndsGoOn y n
   making_goes played (b, makes, m2, machine, said, computed, told_is, did, _) (told2, answer, leads, goes) at2 =
       ends_stay same by_hasher hash batch_size roots aborts x y s n is at all so told (known_after (acts.Making b.map) new.changed x.known) (after entry m) known_is (ap (λ (log : List (Entry K V)). moment log) history)
-      (ap (λ (z : State K V S). z.now.enders) tied.comes ∙ ends_same tied.it i machine said (record x.now { memory = m2 })) ends_are each
+      (ap (λ (z : State K V S). z.now.enders) tied.comes ∙ made_enders tied.it i machine said (record x.now { memory = m2 })) ends_are each
     where
       tied : MakingTied same by_hasher batch_size roots aborts s n s.world.row x y is i g b (m2, (machine, said))
       tied = making_tied same by_hasher batch_size roots aborts s n s.world.row x y is i g b makes (m2, (machine, said)) computed played

@@ -35,6 +35,7 @@ use Rattle.papaya_played.specs.Reached.{IsOf, row_or_rests}
 use Rattle.papaya_played.proofs.PlayedAs.{PlayedAs}
 use Rattle.papaya_linear.specs.Coming.{Goes}
 use Rattle.papaya_linear.proofs.AsideActs.{IsQuiet, quiet_led, quiet_played}
+use Rattle.papaya_linear.proofs.Going.{noted_beside}
 use Rattle.papaya_linear.proofs.Holding.{AllHolds}
 use Rattle.papaya_linear.proofs.Like.{IsLike}
 use Rattle.papaya_linear.proofs.RowsPlayed.{is_of_row, rows_like}
@@ -43,7 +44,6 @@ use Rattle.papaya_endings.specs.Ends.{AlikeOf}
 use Rattle.papaya_endings.specs.Going.{GoesOnToEnd}
 use Rattle.papaya_endings.specs.GoingOn.{EndsGoOn}
 use Rattle.papaya_endings.proofs.Alike.{alike_all, alike_then}
-use Rattle.papaya_endings.proofs.Beside.{noted_beside}
 use Rattle.papaya_endings.proofs.Calls.{call_spares}
 use Rattle.papaya_endings.proofs.EndSteps.{rest_new}
 use Rattle.papaya_endings.proofs.Going.{NotedAlike, going_alike}

@@ -55,7 +55,7 @@ use Rattle.papaya_linear.proofs.Tied.{EndingTied, MakingTied, call_tied, ending_
 -- What is noted of a map that stands.
 module _ {K V : Type 0} (same : K → K → Bool) (hash : ℕ → K → ℕ) (old : Held K V) (m : Moment K V) (known : Known) (s : Scene K V) (at : IsAt same hash old s) (shown : Shows same named m known s) (map : ℕ) (standing : Standing K)
     (there : s.maps map ≡ Some standing) where
-  notes_map : NotesMap map (shown.number map) known standing.setting standing.chart standing.blocks
+  pub notes_map : NotesMap map (shown.number map) known standing.setting standing.chart standing.blocks
   notes_map =
       let in_it = (at.together.makings.standing.each map standing there).ground.map in
       let it = shown.maps map standing there in
@@ -67,7 +67,7 @@ module _ {K V : Type 0} (same : K → K → Bool) (hash : ℕ → K → ℕ) (ol
 
 module _ {K V S : Type 0} where
   -- a making that goes on leaves ends as they are
-  made_enders : (b : Making S) (i : ℕ) (machine : NewMap) (told : Progress Setting) (now : Now K V S) → (made_on i b machine told now).enders ≡ now.enders
+  pub made_enders : (b : Making S) (i : ℕ) (machine : NewMap) (told : Progress Setting) (now : Now K V S) → (made_on i b machine told now).enders ≡ now.enders
   made_enders b i machine progress.Goes now = refl
   made_enders b i machine progress.Waits now = refl
   made_enders b i machine (progress.Done setting) now = refl

@@ -83,14 +83,12 @@ module _ {K V : Type 0} (map : ℕ) (f : Finishing K V) (known : Known) (s : Sce
         subst (λ (x : ℕ). value_at n.world.memory x ≡ value_at s.world.memory x) (sym is)
         ((then_facts.facts.since.counter here).0 ∙ sym (before.facts.since.counter here).0)
 
+    -- so it is noted as it was
+    pub noted_beside : (b : ℕ) → IsItsBlock f b → times b f.back ≡ 0 → (known_after its new.changed known).roles b ≡ known.roles b
+    noted_beside b is none =
+        let lasting = its_lasts b is none in
+        let there : value_at s.world.memory b ≡ None → ⊥ = lasting_there s.world m b (known.roles b) (shown.roles b) lasting in
+        lasts known its b lasting s.world.memory n.world.memory there (λ gone_now. there (sym (value_same b is none) ∙ gone_now)) new.changed left
+
     pub goes_beside : IsGone map n → Goes map f (known_after its new.changed known) n
-    goes_beside gone = record {
-      gone = gone;
-      number = so.number;
-      first = so.first;
-      notes = so.notes;
-      still = λ b is none.
-          (let lasting = its_lasts b is none in
-          let there : value_at s.world.memory b ≡ None → ⊥ = lasting_there s.world m b (known.roles b) (shown.roles b) lasting in
-          lasts known its b lasting s.world.memory n.world.memory there (λ gone_now. there (sym (value_same b is none) ∙ gone_now)) new.changed left ∙ so.still b is none);
-    }
+    goes_beside gone = record { gone = gone; number = so.number; first = so.first; notes = so.notes; still = λ b is none. noted_beside b is none ∙ so.still b is none }
