@@ -3,9 +3,11 @@ pub mod Leaves
 pub mod CallMoves
 pub mod RowKinds
 pub mod RowMoves
+pub mod RowFinds
 pub mod Rooted
 pub mod Counted
 pub mod MakingMoves
+pub mod MakingFinds
 pub mod MadeHolds
 pub mod MadeStep
 pub mod MakingActs
