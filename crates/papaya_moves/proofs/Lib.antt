@@ -4,6 +4,7 @@ pub mod CallMoves
 pub mod RowKinds
 pub mod RowMoves
 pub mod RowFinds
+pub mod AllFinds
 pub mod Rooted
 pub mod Counted
 pub mod MakingMoves
