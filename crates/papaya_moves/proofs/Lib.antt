@@ -9,6 +9,7 @@ pub mod Rooted
 pub mod Counted
 pub mod MakingMoves
 pub mod MakingFinds
+pub mod Opens
 pub mod MadeHolds
 pub mod MadeStep
 pub mod MakingActs
