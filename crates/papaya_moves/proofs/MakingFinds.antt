@@ -1,17 +1,17 @@
 -- The effects of the step of a making, as it is played, find what they must: its table is the first one of the map, and has the shape that the map's capacity asks.
-use Rattle.std.specs.Prelude.{◌≡◌, ℕ, Bool, true, false, List, [], ◌∷◌, Option, Some, None}
-use Rattle.std.proofs.Common.{refl, ap, sym, subst, ◌∙◌}
+use Rattle.std.specs.Prelude.{◌≡◌, ℕ, Bool, true, false, List, [], Some, None}
+use Rattle.std.proofs.Common.{refl, sym, subst}
 use Rattle.papaya_legal.specs.Given.Seize.declared.progress.Progress.{Progress}
 use Rattle.papaya_legal.specs.Given.Tables.declared.setting.Setting.{Setting}
 use Rattle.papaya_legal.specs.Given.Resize.declared.new_map.NewMap.{NewMap}
 use Rattle.papaya_legal.specs.Given.Runs.Runs.{map_fault}
 use Rattle.papaya_legal.specs.Given.Schedules.declared.effect.Effect.{Effect}
-use Rattle.papaya_legal.specs.Given.Schedules.Effects.{AtEachEffect, with_effects}
+use Rattle.papaya_legal.specs.Given.Schedules.Effects.{AtEachEffect}
 use Rattle.papaya_legal.specs.Given.Schedules.Lives.{EventFinds}
 use Rattle.papaya_legal.specs.Given.Schedules.Moment.{MapThere, Moment}
 use Rattle.papaya_legal.specs.Given.Schedules.Terms.{Terms}
 use Rattle.papaya_legal.specs.Given.Schedules.Views.{map_at, tables_of}
-use Rattle.papaya_legal.specs.Given.Effects.Effects.{effects_of, known_after}
+use Rattle.papaya_legal.specs.Given.Effects.Effects.{effects_of}
 use Rattle.papaya_legal.specs.Given.Effects.declared.acting.Acting.TheVariants as acts
 use Rattle.papaya_legal.specs.Given.Finishes.Makings.{Beginning}
 use Rattle.papaya_legal.specs.Given.Named.Places.{first_places}
@@ -20,7 +20,7 @@ use Rattle.papaya_legal.specs.Given.Scenes.Held.{Held, IsAt}
 use Rattle.papaya_legal.specs.Given.Scenes.Making.{MakingLeads}
 use Rattle.papaya_legal.specs.Given.Scenes.Scene.{Scene}
 use Rattle.papaya_legal.proofs.Given.Finds.Life.{each_so}
-use Rattle.papaya_deeds.specs.Deeds.{Deed, Entry, Makes, MapComes, MapFails, moment, named}
+use Rattle.papaya_deeds.specs.Deeds.{Deed, Entry, Makes, MapFails, moment, named}
 use Rattle.papaya_deeds.specs.History.{FindsBy, past, transition}
 use Rattle.papaya_played.specs.Play.{State, has_root, is_refusal, making_outcome}
 use Rattle.papaya_works.specs.Firsts.{ShowsOpenings}
