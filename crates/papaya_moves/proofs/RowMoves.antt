@@ -45,7 +45,7 @@ module _ {K V : Type 0} (log : List (Entry K V)) (o : Outcome V) (known : Known)
   of_row (ReclaimsAll last) is may = record { may = may; granted = granted_so acts.Row known changed; refuses = refuses_so acts.Row known changed; whole = tt; leaves = tt }
   of_row _ is may = absurd is
 
-all_reclaim : (things : List Thing) → list_all is_reclaiming (map Reclaimed things) ≡ true
+pub all_reclaim : (things : List Thing) → list_all is_reclaiming (map Reclaimed things) ≡ true
 all_reclaim [] = refl
 all_reclaim (y ∷ ys) = all_reclaim ys
 

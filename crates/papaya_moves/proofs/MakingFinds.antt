@@ -1,0 +1,73 @@
+-- The effects of the step of a making, as it is played, find what they must: its table is the first one of the map, and has the shape that the map's capacity asks.
+use Rattle.std.specs.Prelude.{◌≡◌, ℕ, Bool, true, false, List, [], Some, None}
+use Rattle.std.proofs.Common.{refl, sym, subst}
+use Rattle.papaya_legal.specs.Given.Seize.declared.progress.Progress.{Progress}
+use Rattle.papaya_legal.specs.Given.Tables.declared.setting.Setting.{Setting}
+use Rattle.papaya_legal.specs.Given.Resize.declared.new_map.NewMap.{NewMap}
+use Rattle.papaya_legal.specs.Given.Runs.Runs.{map_fault}
+use Rattle.papaya_legal.specs.Given.Schedules.declared.effect.Effect.{Effect}
+use Rattle.papaya_legal.specs.Given.Schedules.Effects.{AtEachEffect}
+use Rattle.papaya_legal.specs.Given.Schedules.Lives.{EventFinds}
+use Rattle.papaya_legal.specs.Given.Schedules.Moment.{MapThere, Moment}
+use Rattle.papaya_legal.specs.Given.Schedules.Terms.{Terms}
+use Rattle.papaya_legal.specs.Given.Schedules.Views.{map_at, tables_of}
+use Rattle.papaya_legal.specs.Given.Effects.Effects.{effects_of}
+use Rattle.papaya_legal.specs.Given.Effects.declared.acting.Acting.TheVariants as acts
+use Rattle.papaya_legal.specs.Given.Finishes.Makings.{Beginning}
+use Rattle.papaya_legal.specs.Given.Named.Places.{first_places}
+use Rattle.papaya_legal.specs.Given.Others.Makings.{WasNew}
+use Rattle.papaya_legal.specs.Given.Scenes.Held.{Held, IsAt}
+use Rattle.papaya_legal.specs.Given.Scenes.Making.{MakingLeads}
+use Rattle.papaya_legal.specs.Given.Scenes.Scene.{Scene}
+use Rattle.papaya_legal.proofs.Given.Finds.Life.{each_so}
+use Rattle.papaya_deeds.specs.Deeds.{Deed, Entry, Makes, MapFails, moment, named}
+use Rattle.papaya_deeds.specs.History.{FindsBy, past, transition}
+use Rattle.papaya_played.specs.Play.{State, has_root, is_refusal, making_outcome}
+use Rattle.papaya_works.specs.Firsts.{ShowsOpenings}
+use Rattle.papaya_works.proofs.Makings.{makings_find_theirs}
+use Rattle.papaya_linear.specs.Shown.{ShowsAnswers}
+use Rattle.papaya_linear.proofs.MapActs.{deed_by}
+use Rattle.papaya_linear.proofs.OthersGo.{makings_step}
+
+module _ {K V S : Type 0} (same : K → K → Bool) (hash : ℕ → K → ℕ) (x : State K V S) (s : Scene K V) (old new : Held K V) (at : IsAt same hash old s)
+    (all : ShowsAnswers same (past x.history) (moment x.history) x.known s) (openings : ShowsOpenings s) (i : ℕ) (b : Beginning K) (makes : s.makers i ≡ Some b) (machine : NewMap) (said : Progress Setting)
+    (leads : MakingLeads same hash i said s old new) (was_new : WasNew b.map said (moment x.history)) (bare : tables_of b.map (moment x.history) ≡ []) (terms : Terms) where
+  abbrev m : Moment K V
+  m = moment x.history
+
+  abbrev effects : List Effect
+  effects = effects_of (acts.Making b.map) x.known new.changed
+
+  abbrev had : Bool
+  had = has_root b.machine.stands
+
+  abbrev has : Bool
+  has = has_root machine.stands
+
+  abbrev entry : Deed K V → Entry K V
+  entry d = record { deed = d; outcome = making_outcome said; effects = effects; refused = is_refusal new.changed }
+
+  abbrev Finds : Deed K V → Moment K V → Type 0
+  Finds d v = AtEachEffect (FindsBy terms x.history d (transition x.history (entry d))) None (Some b.map) effects v
+
+  none_find : (d : Deed K V) (v : Moment K V) → effects ≡ [] → Finds d v
+  none_find d v none = subst (λ (fs : List Effect). AtEachEffect (FindsBy terms x.history d (transition x.history (entry d))) None (Some b.map) fs v) (sym none) tt
+
+  -- a map that is there, without a table, and has the capacity for its places
+  makes_find : (f : MapThere) → map_at b.map m ≡ Some f → map_fault f.mode f.capacity ≡ None → b.places ≡ first_places f.capacity → Finds (Makes b.map) m
+  makes_find f there faultless places =
+      each_so (EventFinds (Some b.map) false) (FindsBy terms x.history (Makes b.map) (transition x.history (entry (Makes b.map)))) (λ v e its. its) None (Some b.map) effects m
+      (makings_find_theirs K V same hash named m x.known s old new at all.whole.all.shown all.kept.tables openings i said leads b makes (all.whole.counters i b makes) (Some b.map) f there bare faultless places
+      (makings_step K V same hash (past x.history) m x.known s all old new at i said leads b makes was_new).whole.all.shown)
+
+  -- So it is by whichever deed, if a map that has its root is there so, and nothing is done where it comes or goes.
+  pub makings_find : (rootless : had ≡ false → effects ≡ []) → (freed : had ≡ true → has ≡ false → effects ≡ [])
+      → (had ≡ true → (f : MapThere) × (map_at b.map m ≡ Some f) × (map_fault f.mode f.capacity ≡ None) × (b.places ≡ first_places f.capacity)) → (v : Moment K V) → (had ≡ true → v ≡ m)
+      → Finds (deed_by b.map machine had has) v
+  makings_find rootless freed there v same_moment = by had has refl refl
+    where
+      by : (p q : Bool) → had ≡ p → has ≡ q → Finds (deed_by b.map machine p q) v
+      by true true was is = subst (Finds (Makes b.map)) (sym (same_moment was)) (let its = there was in makes_find its.0 its.1 its.2 its.3)
+      by true false was is = none_find (MapFails b.map) v (freed was is)
+      by false true was is = none_find (deed_by b.map machine false true) v (rootless was)
+      by false false was is = none_find (Makes b.map) v (rootless was)
