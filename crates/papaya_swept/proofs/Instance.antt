@@ -54,8 +54,8 @@ module _ {K V : Type 0} (same : K → K → Bool) (terms : Terms) where
   }
 
 module _ {K V : Type 0} (same : K → K → Bool) (hash : ℕ → K → ℕ) (terms : Terms) where
-  abbrev pub Shards : Scene K V → Type 0
-  Shards s = ShardsAre (shards_of terms) s
+  abbrev pub Shards : List (Entry K V) → Known → Scene K V → Type 0
+  Shards history known s = ShardsAre (shards_of terms) s
 
   abbrev pub P : List (Entry K V) → Known → Scene K V → Type 0
   P history known s = HasSwept same terms history known s
@@ -100,7 +100,7 @@ module _ {K V : Type 0} (same : K → K → Bool) (hash : ℕ → K → ℕ) (te
         one_more same terms history known (known_after acts.Row new.changed known) s _ all has e (none_swept same terms history e (no_caller (row_deed row) (is_of_row K V row)))
         (with_effects None None e.effects (moment history)) (sweeps_by_row K V same hash (past history) (moment history) known s all has.shows old new at i said leads row here)
         (rows_like (row_deed row) (is_of_row K V row) o e.effects e.refused (moment history)));
-    all_step = λ history known s old new all shards has i lists before next told at leads.
+    all_step = λ history known s old new all has i lists before next told at leads.
         (let e : Entry K V = record { deed = ReclaimsAll (is_over told); outcome = settled_outcome told; effects = effects_of acts.Row known new.changed; refused = is_refusal new.changed } in
         one_more same terms history known (known_after acts.Row new.changed known) s _ all has e (none_swept same terms history e refl) (with_effects None None e.effects (moment history))
         (sweeps_by_reclaiming K V same hash (past history) (moment history) known s all has.shows old new i lists before next told at leads)
@@ -111,7 +111,7 @@ module _ {K V : Type 0} (same : K → K → Bool) (hash : ℕ → K → ℕ) (te
         (let e : Entry K V = record { deed = Makes b.map; outcome = making_outcome said; effects = effects_of (acts.Making b.map) known new.changed; refused = is_refusal new.changed } in
         one_more same terms history known (known_after (acts.Making b.map) new.changed known) s _ all has e (none_swept same terms history e refl) (with_effects None (Some b.map) e.effects (moment history))
         (sweeps_by_making K V same hash (past history) (moment history) known s all has.shows old new at i said leads b here was_new) refl);
-    maps_come = λ history known s old new at all shards has i said leads b here next no_tables was_new.
+    maps_come = λ history known s old new at all shards has i said leads b here next long no_tables was_new.
         (let e : Entry K V = record { deed = comes_by b next; outcome = making_outcome said; effects = effects_of (acts.Making b.map) known new.changed; refused = is_refusal new.changed } in
         let m = moment history in
         let then_all = likes_answer same (past history) known s (with_map (coming b next) m) (come (coming b next) m) (maps_come K V same hash (past history) m known s all old new at (coming b next) no_tables) refl in

@@ -1,4 +1,4 @@
--- What is so of a history, of what is known, and of the scene to which acts have led, and stays so by each kind of step: its entry, if there is one, is on the history then.
+-- What is so of a history, of what is known, and of the scene to which acts have led, and stays so by each kind of step, beside what else is so of them: its entry, if there is one, is on the history then.
 use Rattle.std.specs.Prelude.{◌≡◌, ℕ, Bool, true, false, List, [], ◌∷◌, Option, Some, None, Ok}
 use Rattle.papaya_moments.specs.Given.Seize.World.{Begin, Rests, Step}
 use Rattle.papaya_moments.specs.Given.Seize.declared.progress.Progress.{Progress as Making}
@@ -70,11 +70,11 @@ module _ {K V : Type 0} where
   abbrev pub comes_by : Beginning K → NewMap → Deed K V
   comes_by b next = MapComes b.map next.setting.root next.setting.mode (pairs_for next.len)
 
-module _ {K V : Type 0} (same : K → K → Bool) (hash : ℕ → K → ℕ) (R : Scene K V → Type 0) (P : List (Entry K V) → Known → Scene K V → Type 0) where
-  -- from a history whose moment shows what its next entry asks for, in a scene of which something else is so
+module _ {K V : Type 0} (same : K → K → Bool) (hash : ℕ → K → ℕ) (R P : List (Entry K V) → Known → Scene K V → Type 0) where
+  -- from a history whose moment shows what its next entry asks for, of which something else is so
   abbrev pub From : (List (Entry K V) → Known → Scene K V → Held K V → Held K V → Type 0) → Type 0
   From Then =
-      (history : List (Entry K V)) (known : Known) (s : Scene K V) (old new : Held K V) → IsAt same hash old s → ShowsAnswers same (past history) (moment history) known s → R s → P history known s
+      (history : List (Entry K V)) (known : Known) (s : Scene K V) (old new : Held K V) → IsAt same hash old s → ShowsAnswers same (past history) (moment history) known s → R history known s → P history known s
       → Then history known s old new
 
   pub record IsKept : Type 0 where
@@ -108,7 +108,7 @@ module _ {K V : Type 0} (same : K → K → Bool) (hash : ℕ → K → ℕ) (R 
     pub rows_step : From (λ history known s old new. (i : ℕ) (said : RowTold (Node K V)) (leads : RowLeads same hash i said s old new) (row : SlotRow) (here : IsOnSlot s i row) (o : Outcome V)
         → (let e : Entry K V = record { deed = row_deed row; outcome = o; effects = effects_of acts.Row known new.changed; refused = is_refusal new.changed } in
         P (e ∷ history) (known_after acts.Row new.changed known) (scene_then same hash (Step i) s old new (leads row here).2)))
-    pub all_step : (history : List (Entry K V)) (known : Known) (s : Scene K V) (old new : Held K V) → ShowsAnswers same (past history) (moment history) known s → R s → P history known s
+    pub all_step : (history : List (Entry K V)) (known : Known) (s : Scene K V) (old new : Held K V) → ShowsAnswers same (past history) (moment history) known s → P history known s
         → (i : ℕ) (lists : ℕ → List ℕ) (before next : ReclaimAll) (told : Settled (Node K V)) → IsReclaiming same hash old s i lists before
         → (leads : ReclaimingLeads same hash s i lists old new before next told)
         → (let e : Entry K V = record { deed = ReclaimsAll (is_over told); outcome = settled_outcome told; effects = effects_of acts.Row known new.changed; refused = is_refusal new.changed } in
@@ -122,7 +122,7 @@ module _ {K V : Type 0} (same : K → K → Bool) (hash : ℕ → K → ℕ) (R 
         let e : Entry K V = record { deed = Makes b.map; outcome = making_outcome said; effects = effects_of (acts.Making b.map) known new.changed; refused = is_refusal new.changed } in
         P (e ∷ history) (known_after (acts.Making b.map) new.changed known) (making_after same hash s old new i b to.0 to.2.step.w2 said to.3)))
     pub maps_come : From (λ history known s old new. (i : ℕ) (said : Making Setting) (leads : MakingLeads same hash i said s old new) (b : Beginning K) (here : s.makers i ≡ Some b) (next : NewMap)
-        → tables_of b.map (moment history) ≡ [] → WasNew b.map said (come (coming b next) (moment history))
+        → next.len ≡ b.machine.len → tables_of b.map (moment history) ≡ [] → WasNew b.map said (come (coming b next) (moment history))
         → (let to = leads b here in
         let e : Entry K V = record { deed = comes_by b next; outcome = making_outcome said; effects = effects_of (acts.Making b.map) known new.changed; refused = is_refusal new.changed } in
         P (e ∷ history) (known_after (acts.Making b.map) new.changed known) (making_after same hash s old new i b to.0 to.2.step.w2 said to.3)))

@@ -1,5 +1,5 @@
 -- What stays so by each kind of step stays so by each act, as it is played, and where a caller that reclaims all takes a step; so it is wherever a list of acts has led.
-use Rattle.std.specs.Prelude.{◌≡◌, ℕ, Bool, List, Option}
+use Rattle.std.specs.Prelude.{◌≡◌, ℕ, Bool, List, Option, None}
 use Rattle.std.proofs.Common.{ap, sym, subst, ◌∙◌}
 use Rattle.seize_acts.specs.Answers.{Grant}
 use Rattle.papaya_scenes.specs.Given.Seize.World.{Request, Row}
@@ -24,10 +24,10 @@ use Rattle.papaya_swept.proofs.Kept.{IsKept}
 use Rattle.papaya_swept.proofs.KeptByCalls.{asks_kept, begins_kept, steps_kept, stops_kept, told_kept}
 use Rattle.papaya_swept.proofs.KeptByMaps.{end_begins_kept, ending_steps_kept, making_begins_kept, making_steps_kept}
 
-module _ {K V S : Type 0} (same : K → K → Bool) (by_hasher : S → K → ℕ) (hash : ℕ → K → ℕ) (batch_size roots : ℕ) (aborts : V) (R : Scene K V → Type 0) (P : List (Entry K V) → Known → Scene K V → Type 0)
+module _ {K V S : Type 0} (same : K → K → Bool) (by_hasher : S → K → ℕ) (hash : ℕ → K → ℕ) (batch_size roots : ℕ) (aborts : V) (R P : List (Entry K V) → Known → Scene K V → Type 0)
     (kept : IsKept same hash R P) (x y : State K V S) (s n : Scene K V)
     (is : IsOf by_hasher s s.world.row x.now) (rows2 : ℕ → Row) (is_then : IsOf by_hasher n rows2 y.now) (at : IsAt same hash (held_in batch_size roots NoChange s) s) (all : AllHolds same x s) (noted_then : CallsAreNoted y)
-    (other : R s) (so : P x.history x.known s) (told : Answer K V) where
+    (other : R x.history x.known s) (so : P x.history x.known s) (told : Answer K V) where
   abbrev old : Held K V
   old = held_in batch_size roots NoChange s
 
@@ -78,20 +78,25 @@ module _ {K V S : Type 0} (same : K → K → Bool) (by_hasher : S → K → ℕ
   acts_kept (BeginsRow i request) fits played may led leads at2 = row_begins_kept i request played leads
   acts_kept (StepsRow i g) fits played may led leads at2 = row_steps_kept i g may.0 played leads
 
--- So it stays wherever a list leads, beside what is asked of a scene, if that stays so where more is asked of acts.
-module _ {K S : Type 0} (V : Type 0) (same : K → K → Bool) (by_hasher : S → K → ℕ) (hash : ℕ → K → ℕ) (batch_size roots : ℕ) (aborts : V) (R : Scene K V → Type 0)
-    (P : List (Entry K V) → Known → Scene K V → Type 0) (kept : IsKept same hash R P) (More : State K V S → Act K V S → Type 0) where
+-- So it stays wherever a list leads, if more is asked of acts by which something stays so, too, that gives what else is to be so where nobody reclaims all.
+module _ {K S : Type 0} (V : Type 0) (same : K → K → Bool) (by_hasher : S → K → ℕ) (hash : ℕ → K → ℕ) (batch_size roots : ℕ) (aborts : V) (R P : List (Entry K V) → Known → Scene K V → Type 0)
+    (kept : IsKept same hash R P) (More : State K V S → Act K V S → Type 0) (Q : At V same by_hasher hash batch_size roots → State K V S → Type 0) where
   abbrev Stays : (State K V S → Act K V S → Type 0) → (At V same by_hasher hash batch_size roots → State K V S → Type 0) → Type 0
-  Stays Fits Q = StaysSo V same by_hasher hash batch_size roots aborts Fits Q
+  Stays Fits So = StaysSo V same by_hasher hash batch_size roots aborts Fits So
 
   abbrev pub Fit : State K V S → Act K V S → Type 0
   Fit x act = HasNewNumber x act × More x act
 
   abbrev pub With : At V same by_hasher hash batch_size roots → State K V S → Type 0
-  With p x = AllHolds same x p.0 × (R p.0 × P x.history x.known p.0)
+  With p x = AllHolds same x p.0 × (Q p x × P x.history x.known p.0)
 
-  pub all_kept : Stays More (λ p x. R p.0) → Stays Fit With
-  all_kept rest = record {
+  abbrev pub Gives : Type 0
+  Gives =
+      (p : At V same by_hasher hash batch_size roots) (x : State K V S) → far V same by_hasher hash batch_size roots p ≡ None → IsAt same hash (held V same by_hasher hash batch_size roots NoChange p) p.0
+      → AllHolds same x p.0 → Q p x → R x.history x.known p.0
+
+  pub all_kept : Stays More Q → Gives → Stays Fit With
+  all_kept rest gives = record {
     acts = λ p n x y act told own fits none none_then is is_then at may led leads at_then played here.
         (let then_all = linear.acts p n x y act told own fits.0 none none_then is is_then at may led leads at_then played here.0 in
         let of : IsOf by_hasher p.0 p.0.world.row x.now =
@@ -99,8 +104,8 @@ module _ {K S : Type 0} (V : Type 0) (same : K → K → Bool) (by_hasher : S �
           then_all,
           (
             rest.acts p n x y act told own fits.1 none none_then is is_then at may led leads at_then played here.1.0,
-            acts_kept same by_hasher hash batch_size roots aborts R P kept x y p.0 n.0 of (rows_beside (far V same by_hasher hash batch_size roots n) n.0.world.row) is_then.scene at here.0 then_all.holds.noted here.1.0 here.1.1 told act
-                fits.0 (played_as same by_hasher batch_size roots aborts x y act played) may led leads at_then,
+            acts_kept same by_hasher hash batch_size roots aborts R P kept x y p.0 n.0 of (rows_beside (far V same by_hasher hash batch_size roots n) n.0.world.row) is_then.scene at here.0 then_all.holds.noted
+                (gives p x none at here.0 here.1.0) here.1.1 told act fits.0 (played_as same by_hasher batch_size roots aborts x y act played) may led leads at_then,
           ),
         ));
     begins = λ p n x i c none begun same_scene all_free is is_then at here. (
@@ -118,7 +123,7 @@ module _ {K S : Type 0} (V : Type 0) (same : K → K → Bool) (by_hasher : S �
             rest.steps p n x y told g st is is_then at leads scene played here.1.0,
             subst (λ (q : State K V S). P q.history q.known n.0) (sym y_is)
                 (subst (P z.history z.known) (sym scene)
-                (kept.all_step x.history x.known p.0 old new here.0.holds.shows here.1.0 here.1.1 st.caller (lists_at V same by_hasher hash batch_size roots p) st.machine st.next st.end at leads)),
+                (kept.all_step x.history x.known p.0 old new here.0.holds.shows here.1.1 st.caller (lists_at V same by_hasher hash batch_size roots p) st.machine st.next st.end at leads)),
           ),
         ));
   }

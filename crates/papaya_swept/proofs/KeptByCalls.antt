@@ -40,9 +40,9 @@ use Rattle.papaya_linear.proofs.StepsPlayed.{led, played_ended, there_is}
 use Rattle.papaya_linear.proofs.Tied.{call_tied}
 use Rattle.papaya_swept.proofs.Kept.{IsKept}
 
-module _ {K V S : Type 0} (same : K → K → Bool) (by_hasher : S → K → ℕ) (hash : ℕ → K → ℕ) (batch_size roots : ℕ) (aborts : V) (R : Scene K V → Type 0) (P : List (Entry K V) → Known → Scene K V → Type 0)
+module _ {K V S : Type 0} (same : K → K → Bool) (by_hasher : S → K → ℕ) (hash : ℕ → K → ℕ) (batch_size roots : ℕ) (aborts : V) (R P : List (Entry K V) → Known → Scene K V → Type 0)
     (kept : IsKept same hash R P) (x y : State K V S) (s n : Scene K V) (rows : ℕ → Row)
-    (is : IsOf by_hasher s rows x.now) (before : Changed) (at : IsAt same hash (held_in batch_size roots before s) s) (holds : Holds same x s) (other : R s) (so : P x.history x.known s)
+    (is : IsOf by_hasher s rows x.now) (before : Changed) (at : IsAt same hash (held_in batch_size roots before s) s) (holds : Holds same x s) (other : R x.history x.known s) (so : P x.history x.known s)
     (told : Answer K V) where
   abbrev old : Held K V
   old = held_in batch_size roots before s

@@ -8,6 +8,7 @@ use Rattle.papaya_scenes.specs.Given.Seize.declared.progress.Progress.{Progress}
 use Rattle.papaya_scenes.specs.Given.Seize.declared.rows.settle.Settled.{Settled}
 use Rattle.papaya_scenes.specs.Given.Tables.declared.node.Node.{Node}
 use Rattle.papaya_scenes.specs.Given.Tables.declared.setting.Setting.{Setting}
+use Rattle.papaya_scenes.specs.Given.Resize.NewMap.{new_map_plan}
 use Rattle.papaya_scenes.specs.Given.Resize.declared.new_map.NewMap.{NewMap}
 use Rattle.papaya_scenes.specs.Given.Finishes.Endings.{Finishing}
 use Rattle.papaya_scenes.specs.Given.Finishes.Makings.{Beginning}
@@ -26,8 +27,9 @@ use Rattle.papaya_moments.specs.Endings.{IsOfIts}
 use Rattle.papaya_logged.proofs.EndTold.{ends_alone}
 use Rattle.papaya_acts.specs.Acts.{Act, Answer, OfEnding, OfMaking}
 use Rattle.papaya_acts.specs.Acts.{BeginsMaking, StepsMaking, BeginsEnding, StepsEnding}
-use Rattle.papaya_acts.specs.AsSteps.{LeadsAs, changed_by, held_in}
+use Rattle.papaya_acts.specs.AsSteps.{LeadsAs, changed_by, changed_of, held_in}
 use Rattle.papaya_acts.specs.Leads.{Led, MayBe}
+use Rattle.papaya_acts.proofs.AsSteps.Told.{was_told}
 use Rattle.papaya_agrees.specs.Fresh.{IsFresh}
 use Rattle.papaya_deeds.specs.Deeds.{Deed, Ends, Entry, MapGoes, moment, named}
 use Rattle.papaya_played.specs.Play.{Ending, State, ending_begun as end_begun, ending_stepped, has_root, is_over, is_refusal, making_begun as made_begun, making_deed, making_outcome, making_stepped, settled_outcome}
@@ -39,10 +41,11 @@ use Rattle.papaya_linear.proofs.MapActs.{EndsSo, MakesSo, MakingDid, deed_by, en
 use Rattle.papaya_linear.proofs.MapsPlayed.{IsApart, ended, made}
 use Rattle.papaya_linear.proofs.Tied.{EndingTied, MakingTied, ending_tied, making_tied}
 use Rattle.papaya_swept.proofs.Kept.{IsKept}
+use Rattle.papaya_swept.proofs.Lengths.{length_stays}
 
-module _ {K V S : Type 0} (same : K → K → Bool) (by_hasher : S → K → ℕ) (hash : ℕ → K → ℕ) (batch_size roots : ℕ) (aborts : V) (R : Scene K V → Type 0) (P : List (Entry K V) → Known → Scene K V → Type 0)
+module _ {K V S : Type 0} (same : K → K → Bool) (by_hasher : S → K → ℕ) (hash : ℕ → K → ℕ) (batch_size roots : ℕ) (aborts : V) (R P : List (Entry K V) → Known → Scene K V → Type 0)
     (kept : IsKept same hash R P) (x y : State K V S) (s n : Scene K V) (rows : ℕ → Row)
-    (is : IsOf by_hasher s rows x.now) (before : Changed) (at : IsAt same hash (held_in batch_size roots before s) s) (holds : Holds same x s) (noted_then : CallsAreNoted y) (other : R s) (so : P x.history x.known s)
+    (is : IsOf by_hasher s rows x.now) (before : Changed) (at : IsAt same hash (held_in batch_size roots before s) s) (holds : Holds same x s) (noted_then : CallsAreNoted y) (other : R x.history x.known s) (so : P x.history x.known s)
     (told : Answer K V) where
   abbrev old : Held K V
   old = held_in batch_size roots before s
@@ -84,7 +87,7 @@ module _ {K V S : Type 0} (same : K → K → Bool) (by_hasher : S → K → ℕ
     Makes said b after = MakesSo same by_hasher hash batch_size roots aborts x y s n rows is before at holds noted_then told i g said b after
 
     module _ (said : Progress Setting) (leads : MakingLeads same hash i said s old new) (b : Beginning K) (here : s.makers i ≡ Some b) (n_is : n ≡ made same hash x s old new at holds.shows i said leads b here (making_outcome said))
-        (at2 : IsAt same hash new n) (after : NewMap) (makes : Makes said b after) where
+        (at2 : IsAt same hash new n) (after : NewMap) (makes : Makes said b after) (long : after.len ≡ b.machine.len) where
       abbrev entry : Deed K V → Entry K V
       entry d = record { deed = d; outcome = making_outcome said; effects = effects_of (acts.Making b.map) x.known new.changed; refused = is_refusal new.changed }
 
@@ -94,7 +97,7 @@ module _ {K V S : Type 0} (same : K → K → Bool) (by_hasher : S → K → ℕ
       by_roots : (p q : Bool) → has_root b.machine.stands ≡ p → has_root after.stands ≡ q → P (entry (deed_by b.map after p q) ∷ x.history) (known_after (acts.Making b.map) new.changed x.known) led
       by_roots true true had has = kept.makings_step x.history x.known s old new at holds.shows other so i said leads b here makes.was_new
       by_roots false false had has = kept.makings_step x.history x.known s old new at holds.shows other so i said leads b here makes.was_new
-      by_roots false true had has = let it = makes.unknown had has in kept.maps_come x.history x.known s old new at holds.shows other so i said leads b here after it.0 it.1
+      by_roots false true had has = let it = makes.unknown had has in kept.maps_come x.history x.known s old new at holds.shows other so i said leads b here after long it.0 it.1
       by_roots true false had has =
           let it = makes.fails had has in
           let v = with_effects None (Some b.map) (effects_of (acts.Making b.map) x.known new.changed) m in
@@ -119,6 +122,11 @@ module _ {K V S : Type 0} (same : K → K → Bool) (by_hasher : S → K → ℕ
         its : Makes said b machine
         its = subst (λ (p : Progress Setting). Makes p b machine) said_is (right b m2 machine progress (makes, computed, told_is, (did, came)))
 
+        long : machine.len ≡ b.machine.len
+        long =
+            length_stays b.machine s.world.memory m2 (changed_of s.world.memory g (new_map_plan {K = K} {V = V} b.machine)) (machine, progress) b.machine.stands
+            (was_told s.world.memory g (new_map_plan {K = K} {V = V} b.machine) (m2, (machine, progress)) computed)
+
         z : State K V S
         z = making_stepped i tied.it new.changed x (m2, (machine, said))
 
@@ -136,7 +144,7 @@ module _ {K V S : Type 0} (same : K → K → Bool) (by_hasher : S → K → ℕ
         then_so : To tied.it.map tied.it.machine
         then_so =
             subst (λ (map : ℕ). To map tied.it.machine) (sym (ap (λ (p : ℕ × ((K → ℕ) × NewMap)). p.0) tied.its))
-            (subst (To b.map) (sym (ap (λ (p : ℕ × ((K → ℕ) × NewMap)). p.1.1) tied.its)) (made_then said leads b makes n_is at2 machine its))
+            (subst (To b.map) (sym (ap (λ (p : ℕ × ((K → ℕ) × NewMap)). p.1.1) tied.its)) (made_then said leads b makes n_is at2 machine its long))
 
   -- A step of an end, of a map that was noted so
   module _ (i : ℕ) (g : Grant) where

@@ -1,4 +1,5 @@
 pub mod Kept
+pub mod Lengths
 pub mod KeptByCalls
 pub mod KeptByMaps
 pub mod KeptByAll
