@@ -20,7 +20,7 @@ use Rattle.papaya_played.proofs.Noted.{CallsAreNoted}
 use Rattle.papaya_played.proofs.PlayedAs.{PlayedAs, played_as, reclaimed_as}
 use Rattle.papaya_linear.proofs.Holding.{AllHolds, ending_so, making_so}
 use Rattle.papaya_linear.proofs.Stays.{Of, all_stay, all_tied, change, end}
-use Rattle.papaya_swept.proofs.Kept.{IsKept}
+use Rattle.papaya_swept.proofs.Kept.{IsKept, Now}
 use Rattle.papaya_swept.proofs.KeptByCalls.{asks_kept, begins_kept, steps_kept, stops_kept, told_kept}
 use Rattle.papaya_swept.proofs.KeptByMaps.{end_begins_kept, ending_steps_kept, making_begins_kept, making_steps_kept}
 
@@ -35,13 +35,13 @@ module _ {K V S : Type 0} (same : K → K → Bool) (by_hasher : S → K → ℕ
   then_held act = held_in batch_size roots (changed_by same act s) n
 
   abbrev Then : Type 0
-  Then = P y.history y.known n
+  Then = Now same hash R P y.history y.known n
 
   row_begins_kept : (i : ℕ) (request : Request) → PlayedAs same by_hasher batch_size roots aborts x y (BeginsRow i request)
       → LeadsAs same by_hasher hash (BeginsRow i request) s told n old (then_held (BeginsRow i request)) → Then
   row_begins_kept i request (its, there, y_is) (called, request_is, leads, n_is) =
       let then_so = kept.rows_begin x.history x.known s old (then_held (BeginsRow i request)) at all.holds.shows other so called i leads in
-      subst (λ (q : State K V S). P q.history q.known n) (sym y_is) (subst (P x.history x.known) (sym n_is) then_so)
+      subst (λ (q : State K V S). Now same hash R P q.history q.known n) (sym y_is) (subst (Now same hash R P x.history x.known) (sym n_is) then_so)
 
   row_steps_kept : (i : ℕ) (g : Grant) → HasNoCall s i → PlayedAs same by_hasher batch_size roots aborts x y (StepsRow i g)
       → LeadsAs same by_hasher hash (StepsRow i g) s told n old (then_held (StepsRow i g)) → Then
@@ -53,8 +53,8 @@ module _ {K V S : Type 0} (same : K → K → Bool) (by_hasher : S → K → ℕ
       let change : row_changed (row_of row) g x.now.memory ≡ new.changed = ap (row_changed (row_of row) g) is.memory ∙ ap (λ (r : Row). row_changed r g s.world.memory) (sym there) in
       let z : State K V S = row_stepped i row new.changed x end in
       let z_is : y ≡ z = y_is ∙ ap (λ c. row_stepped i row c x end) change in
-      subst (λ (q : State K V S). P q.history q.known n) (sym z_is)
-      (subst (P z.history z.known) (sym (goes row here)) (kept.rows_step x.history x.known s old new at all.holds.shows other so i said leads row here (row_outcome end.1.1)))
+      subst (λ (q : State K V S). Now same hash R P q.history q.known n) (sym z_is)
+      (subst (Now same hash R P z.history z.known) (sym (goes row here)) (kept.rows_step x.history x.known s old new at all.holds.shows other so i said leads row here (row_outcome end.1.1)))
 
   pub acts_kept : (act : Act K V S) → HasNewNumber x act → PlayedAs same by_hasher batch_size roots aborts x y act → MayBe same by_hasher batch_size roots slot_of act s
       → Led same by_hasher batch_size roots slot_of act s told n → LeadsAs same by_hasher hash act s told n old (then_held act) → IsAt same hash (then_held act) n → Then
@@ -105,7 +105,7 @@ module _ {K S : Type 0} (V : Type 0) (same : K → K → Bool) (by_hasher : S �
           (
             rest.acts p n x y act told own fits.1 none none_then is is_then at may led leads at_then played here.1.0,
             acts_kept same by_hasher hash batch_size roots aborts R P kept x y p.0 n.0 of (rows_beside (far V same by_hasher hash batch_size roots n) n.0.world.row) is_then.scene at here.0 then_all.holds.noted
-                (gives p x none at here.0 here.1.0) here.1.1 told act fits.0 (played_as same by_hasher batch_size roots aborts x y act played) may led leads at_then,
+                (gives p x none at here.0 here.1.0) here.1.1 told act fits.0 (played_as same by_hasher batch_size roots aborts x y act played) may led leads at_then then_all.holds.shows,
           ),
         ));
     begins = λ p n x i c none begun same_scene all_free is is_then at here. (
@@ -117,13 +117,14 @@ module _ {K S : Type 0} (V : Type 0) (same : K → K → Bool) (by_hasher : S �
         let old = held V same by_hasher hash batch_size roots NoChange p in
         let new = held V same by_hasher hash batch_size roots (change V same by_hasher hash batch_size roots aborts p n x y told g st is) n in
         let z : State K V S = all_stepped new.changed x (end V same by_hasher hash batch_size roots aborts p n x y told g st is) in
-        let y_is : y ≡ z = all_tied V same by_hasher hash batch_size roots aborts p n x y told g st is as_played in (
-          linear.steps p n x y told g st is is_then at leads scene played here.0,
+        let y_is : y ≡ z = all_tied V same by_hasher hash batch_size roots aborts p n x y told g st is as_played in
+        let then_all = linear.steps p n x y told g st is is_then at leads scene played here.0 in (
+          then_all,
           (
             rest.steps p n x y told g st is is_then at leads scene played here.1.0,
-            subst (λ (q : State K V S). P q.history q.known n.0) (sym y_is)
-                (subst (P z.history z.known) (sym scene)
-                (kept.all_step x.history x.known p.0 old new here.0.holds.shows here.1.1 st.caller (lists_at V same by_hasher hash batch_size roots p) st.machine st.next st.end at leads)),
+            subst (λ (q : State K V S). Now same hash R P q.history q.known n.0) (sym y_is)
+                (subst (Now same hash R P z.history z.known) (sym scene)
+                (kept.all_step x.history x.known p.0 old new here.0.holds.shows here.1.1 st.caller (lists_at V same by_hasher hash batch_size roots p) st.machine st.next st.end at leads)) then_all.holds.shows,
           ),
         ));
   }

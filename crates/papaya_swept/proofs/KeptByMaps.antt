@@ -40,7 +40,7 @@ use Rattle.papaya_linear.proofs.Holds.{Holds}
 use Rattle.papaya_linear.proofs.MapActs.{EndsSo, MakesSo, MakingDid, deed_by, ended_is, made_is}
 use Rattle.papaya_linear.proofs.MapsPlayed.{IsApart, ended, made}
 use Rattle.papaya_linear.proofs.Tied.{EndingTied, MakingTied, ending_tied, making_tied}
-use Rattle.papaya_swept.proofs.Kept.{IsKept}
+use Rattle.papaya_swept.proofs.Kept.{IsKept, Now}
 use Rattle.papaya_swept.proofs.Lengths.{length_stays}
 
 module _ {K V S : Type 0} (same : K → K → Bool) (by_hasher : S → K → ℕ) (hash : ℕ → K → ℕ) (batch_size roots : ℕ) (aborts : V) (R P : List (Entry K V) → Known → Scene K V → Type 0)
@@ -57,10 +57,10 @@ module _ {K V S : Type 0} (same : K → K → Bool) (by_hasher : S → K → ℕ
   m = moment x.history
 
   abbrev Then : Type 0
-  Then = P y.history y.known n
+  Then = Now same hash R P y.history y.known n
 
-  comes_so : (z : State K V S) (l : Scene K V) → y ≡ z → n ≡ l → P z.history z.known l → Then
-  comes_so z l y_is n_is then_so = subst (λ (q : State K V S). P q.history q.known n) (sym y_is) (subst (P z.history z.known) (sym n_is) then_so)
+  comes_so : (z : State K V S) (l : Scene K V) → y ≡ z → n ≡ l → Now same hash R P z.history z.known l → Then
+  comes_so z l y_is n_is then_so = subst (λ (q : State K V S). Now same hash R P q.history q.known n) (sym y_is) (subst (Now same hash R P z.history z.known) (sym n_is) then_so)
 
   -- A making begins, which has made nothing, with a number of which nothing is there,
   pub making_begins_kept : (i map : ℕ) (hasher : S) (given : Setting) (places : ℕ) → IsFresh map m → MayBe same by_hasher batch_size roots slot_of (BeginsMaking i map hasher given places) s
@@ -94,16 +94,19 @@ module _ {K V S : Type 0} (same : K → K → Bool) (by_hasher : S → K → ℕ
       abbrev led : Scene K V
       led = made same hash x s old new at holds.shows i said leads b here (making_outcome said)
 
-      by_roots : (p q : Bool) → has_root b.machine.stands ≡ p → has_root after.stands ≡ q → P (entry (deed_by b.map after p q) ∷ x.history) (known_after (acts.Making b.map) new.changed x.known) led
-      by_roots true true had has = kept.makings_step x.history x.known s old new at holds.shows other so i said leads b here makes.was_new
-      by_roots false false had has = kept.makings_step x.history x.known s old new at holds.shows other so i said leads b here makes.was_new
-      by_roots false true had has = let it = makes.unknown had has in kept.maps_come x.history x.known s old new at holds.shows other so i said leads b here after long it.0 it.1
+      at_led : IsAt same hash new led
+      at_led = subst (IsAt same hash new) n_is at2
+
+      by_roots : (p q : Bool) → has_root b.machine.stands ≡ p → has_root after.stands ≡ q → Now same hash R P (entry (deed_by b.map after p q) ∷ x.history) (known_after (acts.Making b.map) new.changed x.known) led
+      by_roots true true had has = kept.makings_step x.history x.known s old new at holds.shows other so i said leads b here makes.was_new at_led
+      by_roots false false had has = kept.makings_step x.history x.known s old new at holds.shows other so i said leads b here makes.was_new at_led
+      by_roots false true had has = let it = makes.unknown had has in kept.maps_come x.history x.known s old new at holds.shows other so i said leads b here after long it.0 it.1 at_led
       by_roots true false had has =
           let it = makes.fails had has in
           let v = with_effects None (Some b.map) (effects_of (acts.Making b.map) x.known new.changed) m in
-          kept.maps_fail x.history x.known s old new at holds.shows other so i said leads b here makes.was_new it.0 (subst (IsApart b.map v) n_is it.1) (subst (IsAt same hash new) n_is at2)
+          kept.maps_fail x.history x.known s old new at holds.shows other so i said leads b here makes.was_new it.0 (subst (IsApart b.map v) n_is it.1) at_led
 
-      pub made_then : P (entry (making_deed b.map b.machine after) ∷ x.history) (known_after (acts.Making b.map) new.changed x.known) led
+      pub made_then : Now same hash R P (entry (making_deed b.map b.machine after) ∷ x.history) (known_after (acts.Making b.map) new.changed x.known) led
       made_then = by_roots (has_root b.machine.stands) (has_root after.stands) refl refl
 
     pub making_steps_kept : PlayedAs same by_hasher batch_size roots aborts x y (StepsMaking i g) → Led same by_hasher batch_size roots slot_of (StepsMaking i g) s told n
@@ -138,7 +141,7 @@ module _ {K V S : Type 0} (same : K → K → Bool) (by_hasher : S → K → ℕ
 
         To : ℕ → NewMap → Type 0
         To map first =
-            P (record { deed = making_deed map first machine; outcome = making_outcome said; effects = effects_of (acts.Making map) x.known new.changed; refused = is_refusal new.changed } ∷ x.history)
+            Now same hash R P (record { deed = making_deed map first machine; outcome = making_outcome said; effects = effects_of (acts.Making map) x.known new.changed; refused = is_refusal new.changed } ∷ x.history)
             (known_after (acts.Making map) new.changed x.known) (made same hash x s old new at holds.shows i said leads b makes (making_outcome said))
 
         then_so : To tied.it.map tied.it.machine
@@ -188,9 +191,9 @@ module _ {K V S : Type 0} (same : K → K → Bool) (by_hasher : S → K → ℕ
         v = with_effects None (Some tied.it.map) (effects_of (acts.Ending tied.it.map) x.known end_new.changed) m
 
         by : (b : Bool)
-            → P (record { deed = if b then MapGoes tied.it.map else Ends tied.it.map; outcome = settled_outcome said; effects = effects_of (acts.Ending tied.it.map) x.known end_new.changed; refused = is_refusal end_new.changed } ∷ x.history)
+            → Now same hash R P (record { deed = if b then MapGoes tied.it.map else Ends tied.it.map; outcome = settled_outcome said; effects = effects_of (acts.Ending tied.it.map) x.known end_new.changed; refused = is_refusal end_new.changed } ∷ x.history)
             (known_after (acts.Ending tied.it.map) end_new.changed x.known) led
         by true =
             kept.maps_go x.history x.known s old end_new at holds.shows other so i said leads f ends tied.it.map its.not_there effects_alone its.goes.0 (subst (IsApart tied.it.map v) n_is its.goes.1)
             (subst (IsAt same hash end_new) n_is at2)
-        by false = kept.ends_step x.history x.known s old end_new at holds.shows other so i said leads f ends tied.it.map its.not_there effects_alone
+        by false = kept.ends_step x.history x.known s old end_new at holds.shows other so i said leads f ends tied.it.map its.not_there effects_alone (subst (IsAt same hash end_new) n_is at2)
