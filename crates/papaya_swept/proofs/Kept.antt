@@ -2,6 +2,7 @@
 use Rattle.std.specs.Prelude.{◌≡◌, ℕ, Bool, true, false, List, [], ◌∷◌, Option, Some, None, Ok}
 use Rattle.papaya_moments.specs.Given.Seize.World.{Begin, Rests, Step}
 use Rattle.papaya_moments.specs.Given.Seize.declared.progress.Progress.{Progress as Making}
+use Rattle.papaya_moments.specs.Given.Seize.declared.progress.Progress.TheVariants as progress
 use Rattle.papaya_moments.specs.Given.Seize.declared.rows.reclaim_all.ReclaimAll.{ReclaimAll}
 use Rattle.papaya_moments.specs.Given.Seize.declared.rows.settle.Settled.{Settled}
 use Rattle.papaya_moments.specs.Given.Sweeps.SweepPoints.{after_next}
@@ -127,7 +128,7 @@ module _ {K V : Type 0} (same : K → K → Bool) (hash : ℕ → K → ℕ) (R 
         let e : Entry K V = record { deed = Makes b.map; outcome = making_outcome said; effects = effects_of (acts.Making b.map) known new.changed; refused = is_refusal new.changed } in
         IsAt same hash new made → Now (e ∷ history) (known_after (acts.Making b.map) new.changed known) made))
     pub maps_come : From (λ history known s old new. (i : ℕ) (said : Making Setting) (leads : MakingLeads same hash i said s old new) (b : Beginning K) (here : s.makers i ≡ Some b) (next : NewMap)
-        → next.len ≡ b.machine.len → tables_of b.map (moment history) ≡ [] → WasNew b.map said (come (coming b next) (moment history))
+        → said ≡ progress.Goes → tables_of b.map (moment history) ≡ [] → WasNew b.map said (come (coming b next) (moment history))
         → (let to = leads b here in
         let made = making_after same hash s old new i b to.0 to.2.step.w2 said to.3 in
         let e : Entry K V = record { deed = comes_by b next; outcome = making_outcome said; effects = effects_of (acts.Making b.map) known new.changed; refused = is_refusal new.changed } in

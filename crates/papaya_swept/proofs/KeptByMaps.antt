@@ -5,6 +5,7 @@ use Rattle.seize_acts.specs.Answers.{Grant}
 use Rattle.papaya_scenes.specs.Given.SeizeWords.Mem.{Mem}
 use Rattle.papaya_scenes.specs.Given.Seize.World.{Row}
 use Rattle.papaya_scenes.specs.Given.Seize.declared.progress.Progress.{Progress}
+use Rattle.papaya_scenes.specs.Given.Seize.declared.progress.Progress.TheVariants as progress
 use Rattle.papaya_scenes.specs.Given.Seize.declared.rows.settle.Settled.{Settled}
 use Rattle.papaya_scenes.specs.Given.Tables.declared.node.Node.{Node}
 use Rattle.papaya_scenes.specs.Given.Tables.declared.setting.Setting.{Setting}
@@ -41,7 +42,7 @@ use Rattle.papaya_linear.proofs.MapActs.{EndsSo, MakesSo, MakingDid, deed_by, en
 use Rattle.papaya_linear.proofs.MapsPlayed.{IsApart, ended, made}
 use Rattle.papaya_linear.proofs.Tied.{EndingTied, MakingTied, ending_tied, making_tied}
 use Rattle.papaya_swept.proofs.Kept.{IsKept, Now}
-use Rattle.papaya_swept.proofs.Lengths.{length_stays}
+use Rattle.papaya_swept.proofs.Rooting.{comes_going}
 
 module _ {K V S : Type 0} (same : K → K → Bool) (by_hasher : S → K → ℕ) (hash : ℕ → K → ℕ) (batch_size roots : ℕ) (aborts : V) (R P : List (Entry K V) → Known → Scene K V → Type 0)
     (kept : IsKept same hash R P) (x y : State K V S) (s n : Scene K V) (rows : ℕ → Row)
@@ -87,7 +88,8 @@ module _ {K V S : Type 0} (same : K → K → Bool) (by_hasher : S → K → ℕ
     Makes said b after = MakesSo same by_hasher hash batch_size roots aborts x y s n rows is before at holds noted_then told i g said b after
 
     module _ (said : Progress Setting) (leads : MakingLeads same hash i said s old new) (b : Beginning K) (here : s.makers i ≡ Some b) (n_is : n ≡ made same hash x s old new at holds.shows i said leads b here (making_outcome said))
-        (at2 : IsAt same hash new n) (after : NewMap) (makes : Makes said b after) (long : after.len ≡ b.machine.len) where
+        (at2 : IsAt same hash new n) (after : NewMap) (makes : Makes said b after)
+        (on : has_root b.machine.stands ≡ false → has_root after.stands ≡ true → said ≡ progress.Goes) where
       abbrev entry : Deed K V → Entry K V
       entry d = record { deed = d; outcome = making_outcome said; effects = effects_of (acts.Making b.map) x.known new.changed; refused = is_refusal new.changed }
 
@@ -100,7 +102,7 @@ module _ {K V S : Type 0} (same : K → K → Bool) (by_hasher : S → K → ℕ
       by_roots : (p q : Bool) → has_root b.machine.stands ≡ p → has_root after.stands ≡ q → Now same hash R P (entry (deed_by b.map after p q) ∷ x.history) (known_after (acts.Making b.map) new.changed x.known) led
       by_roots true true had has = kept.makings_step x.history x.known s old new at holds.shows other so i said leads b here makes.was_new at_led
       by_roots false false had has = kept.makings_step x.history x.known s old new at holds.shows other so i said leads b here makes.was_new at_led
-      by_roots false true had has = let it = makes.unknown had has in kept.maps_come x.history x.known s old new at holds.shows other so i said leads b here after long it.0 it.1 at_led
+      by_roots false true had has = let it = makes.unknown had has in kept.maps_come x.history x.known s old new at holds.shows other so i said leads b here after (on had has) it.0 it.1 at_led
       by_roots true false had has =
           let it = makes.fails had has in
           let v = with_effects None (Some b.map) (effects_of (acts.Making b.map) x.known new.changed) m in
@@ -125,10 +127,11 @@ module _ {K V S : Type 0} (same : K → K → Bool) (by_hasher : S → K → ℕ
         its : Makes said b machine
         its = subst (λ (p : Progress Setting). Makes p b machine) said_is (right b m2 machine progress (makes, computed, told_is, (did, came)))
 
-        long : machine.len ≡ b.machine.len
-        long =
-            length_stays b.machine s.world.memory m2 (changed_of s.world.memory g (new_map_plan {K = K} {V = V} b.machine)) (machine, progress) b.machine.stands
-            (was_told s.world.memory g (new_map_plan {K = K} {V = V} b.machine) (m2, (machine, progress)) computed)
+        on : has_root b.machine.stands ≡ false → has_root machine.stands ≡ true → said ≡ progress.Goes
+        on had has =
+            sym said_is
+            ∙ comes_going b.machine s.world.memory m2 (changed_of s.world.memory g (new_map_plan {K = K} {V = V} b.machine)) (machine, progress) b.machine.stands refl
+            (was_told s.world.memory g (new_map_plan {K = K} {V = V} b.machine) (m2, (machine, progress)) computed) had has
 
         z : State K V S
         z = making_stepped i tied.it new.changed x (m2, (machine, said))
@@ -147,7 +150,7 @@ module _ {K V S : Type 0} (same : K → K → Bool) (by_hasher : S → K → ℕ
         then_so : To tied.it.map tied.it.machine
         then_so =
             subst (λ (map : ℕ). To map tied.it.machine) (sym (ap (λ (p : ℕ × ((K → ℕ) × NewMap)). p.0) tied.its))
-            (subst (To b.map) (sym (ap (λ (p : ℕ × ((K → ℕ) × NewMap)). p.1.1) tied.its)) (made_then said leads b makes n_is at2 machine its long))
+            (subst (To b.map) (sym (ap (λ (p : ℕ × ((K → ℕ) × NewMap)). p.1.1) tied.its)) (made_then said leads b makes n_is at2 machine its on))
 
   -- A step of an end, of a map that was noted so
   module _ (i : ℕ) (g : Grant) where
