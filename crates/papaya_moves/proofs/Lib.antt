@@ -17,3 +17,10 @@ pub mod EndMoves
 pub mod Acts
 pub mod Stays
 mod Theirs
+pub mod TablesLast
+pub mod StepsOver
+pub mod StepsByCalls
+pub mod StepsByOthers
+pub mod StepsByMakings
+pub mod StepsFind
+pub mod StepsKept

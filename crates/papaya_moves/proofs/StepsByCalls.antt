@@ -26,7 +26,7 @@ use Rattle.papaya_legal.specs.Given.Follows.Calling.{NoneNamed, come_to, told}
 use Rattle.papaya_legal.specs.Given.Follows.Calls.{IsCalled}
 use Rattle.papaya_legal.specs.Given.Hands.Asked.{as_told}
 use Rattle.papaya_legal.specs.Given.Others.Walks.{given_up}
-use Rattle.papaya_legal.specs.Given.Settles.Hand.{in_hand}
+use Rattle.papaya_legal.specs.Given.Settles.Hand.{ShowsOwed, in_hand}
 use Rattle.papaya_legal.specs.Given.Purposes.Purposes.{ShowsPurposes}
 use Rattle.papaya_legal.specs.Given.Grows.Finding.{ShowsFinding}
 use Rattle.papaya_legal.specs.Given.Grows.Nexts.{ShowsNexts}
@@ -106,14 +106,14 @@ module _ {K V : Type 0} (same : K → K → Bool) (hash : ℕ → K → ℕ) (lo
 
   -- takes a reply,
   pub steps_take : (u : UnderWay K V K) → s.calls map i ≡ Some u → (reply : Reply V) (next : UnderWay K V K) → machine_of next ≡ (machine_replied (machine_of u) (as_told reply)).0
-      → ShowsAnswers same log (told (named i) reply m) known (scene_with map i next s) → ShowsBut log (told (named i) reply m) known (scene_with map i next s)
-  steps_take u here reply next next_is then_all = record {
+      → ShowsOwed named (told (named i) reply m) known (scene_with map i next s) → ShowsBut log (told (named i) reply m) known (scene_with map i next s)
+  steps_take u here reply next next_is owed = record {
     finding = record {
       growing = calls_take_growing K V m s steps.finding.growing map i u here (as_told reply) next next_is;
       further = calls_take_further m s steps.finding.further map i u here next (as_told reply) next_is;
       capacities = steps.finding.capacities;
-      waits = waits_on K V same named m (told (named i) reply m) known s map i u here next all.whole.all.shown.calls all.kept.owed then_all.kept.owed stays goes (λ n j x is k waits held. held) steps.finding.waits;
-      puts = puts_on K V same named m (told (named i) reply m) known s map i u here next all.whole.all.shown.calls all.kept.owed then_all.kept.owed stays goes steps.finding.puts;
+      waits = waits_on K V same named m (told (named i) reply m) known s map i u here next all.whole.all.shown.calls all.kept.owed owed stays goes (λ n j x is k waits held. held) steps.finding.waits;
+      puts = puts_on K V same named m (told (named i) reply m) known s map i u here next all.whole.all.shown.calls all.kept.owed owed stays goes steps.finding.puts;
     };
     nexts = calls_take_nexts same named log m s steps.nexts map i u here all.whole.all.shown.calls next reply (as_told reply) next_is;
     tries = calls_take_tries same named log m s steps.tries map i u here all.whole.all.shown.calls next reply (as_told reply) next_is;
@@ -152,11 +152,11 @@ module _ {K V : Type 0} (same : K → K → Bool) (hash : ℕ → K → ℕ) (lo
   -- or is given up.
   pub steps_stop : (u : UnderWay K V K) → s.calls map i ≡ Some u
       → (let after = record s { calls = with_call_of s.calls map i (unless_stopped true u) } in
-      NoneNamed named (named i) after → ShowsAnswers same log (given_up (named i) true m) known after → ShowsBut log (given_up (named i) true m) known after)
-  steps_stop u here none then_all =
+      NoneNamed named (named i) after → ShowsOwed named (given_up (named i) true m) known after → ShowsBut log (given_up (named i) true m) known after)
+  steps_stop u here none owed =
       let after = record s { calls = with_call_of s.calls map i (unless_stopped true u) } in
       record {
-        finding = finding_fewer K V same named m (given_up (named i) true m) known s after all.whole.all.shown.calls all.kept.owed then_all.kept.owed (fewer_calls s map i u here true) (stood_as s after refl)
+        finding = finding_fewer K V same named m (given_up (named i) true m) known s after all.whole.all.shown.calls all.kept.owed owed (fewer_calls s map i u here true) (stood_as s after refl)
             refl refl refl refl refl refl steps.finding;
         nexts = walks_stop_nexts same named log m s steps.nexts map i u here all.whole.all.shown.calls u true (λ e. none);
         tries = walks_stop_tries same named log m s steps.tries map i u here all.whole.all.shown.calls u true (λ e. none);
