@@ -35,8 +35,8 @@ use Rattle.papaya_legal.proofs.Given.Grows.Tries.Others.{makings_keep_tries}
 use Rattle.papaya_legal.proofs.Given.Grows.Tries.Shows.{tries_where}
 use Rattle.papaya_legal.proofs.Maps.{unmade_maps}
 use Rattle.papaya_legal.proofs.Sourced.{making_sources, so_aside, sources_so}
-use Rattle.papaya_grows.specs.Given.Sources.Sources.{ShowsSources}
-use Rattle.papaya_grows.specs.Given.Sources.Stays.{NoneBorn}
+use Rattle.papaya_legal.specs.Given.Grows.Given.Sources.Sources.{ShowsSources}
+use Rattle.papaya_legal.specs.Given.Grows.Given.Sources.Stays.{NoneBorn}
 use Rattle.papaya_deeds.specs.Deeds.{come, named}
 use Rattle.papaya_linear.specs.Shown.{ShowsAnswers}
 use Rattle.papaya_moves.specs.Steps.{ShowsSteps}

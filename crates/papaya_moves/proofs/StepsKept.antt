@@ -36,8 +36,8 @@ use Rattle.papaya_legal.specs.Given.Scenes.Scene.{Scene, slot_of}
 use Rattle.papaya_legal.specs.Given.Scenes.Stepping.{scene_after}
 use Rattle.papaya_legal.specs.MapEvents.{HasNotMade}
 use Rattle.papaya_legal.proofs.Sourced.{sources_so}
-use Rattle.papaya_grows.specs.Given.Sources.Stays.{NoneBorn}
-use Rattle.papaya_grows.proofs.Given.Sources.Steps.{calls_keep_sources}
+use Rattle.papaya_legal.specs.Given.Grows.Given.Sources.Stays.{NoneBorn}
+use Rattle.papaya_legal.proofs.Given.Grows.Given.Sources.Steps.{calls_keep_sources}
 use Rattle.papaya_acts.specs.Acts.{begun}
 use Rattle.papaya_deeds.specs.Deeds.{Begins, Deed, Ends, Entry, Leaves, Makes, MapFails, MapGoes, Opens, ReclaimsAll, Registers, Replies, Shuts, Steps, Stops, Tends, acted_on, after, come, map_of_call, moment, named, worked}
 use Rattle.papaya_deeds.specs.History.{past}

@@ -14,7 +14,7 @@ use Rattle.papaya_legal.specs.Given.Scenes.Scene.{Scene}
 use Rattle.papaya_legal.proofs.Given.Grows.Finding.Nexts.{nexts_grow}
 use Rattle.papaya_legal.proofs.Given.Grows.Tries.Shows.{tries_grow}
 use Rattle.papaya_legal.proofs.Sourced.{sources_so}
-use Rattle.papaya_grows.specs.Given.Sources.Sources.{ShowsSources}
+use Rattle.papaya_legal.specs.Given.Grows.Given.Sources.Sources.{ShowsSources}
 use Rattle.papaya_deeds.specs.Deeds.{named}
 use Rattle.papaya_linear.proofs.Like.{IsLike}
 use Rattle.papaya_moves.specs.Steps.{ShowsSteps}

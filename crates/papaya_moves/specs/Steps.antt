@@ -18,7 +18,7 @@ use Rattle.papaya_legal.specs.Given.Grows.Finding.{ShowsFinding}
 use Rattle.papaya_legal.specs.Given.Grows.Nexts.{ShowsNexts}
 use Rattle.papaya_legal.specs.Given.Grows.Tries.{ShowsTries}
 use Rattle.papaya_legal.specs.Given.Scenes.Scene.{Scene, slot_of}
-use Rattle.papaya_grows.specs.Given.Sources.Sources.{ShowsSources}
+use Rattle.papaya_legal.specs.Given.Grows.Given.Sources.Sources.{ShowsSources}
 use Rattle.papaya_agrees.specs.Guards.{CallsHaveGuards, guard_on}
 use Rattle.papaya_agrees.specs.Shards.{ShardsAre}
 use Rattle.papaya_deeds.specs.Deeds.{Deed, Entry, Steps, moment, named}
