@@ -24,3 +24,6 @@ pub mod StepsByOthers
 pub mod StepsByMakings
 pub mod StepsFind
 pub mod StepsKept
+pub mod OrderEffects
+pub mod OrderCalls
+pub mod OrderMaps

@@ -53,10 +53,10 @@ module _ {K V : Type 0} where
 
   -- What the end of a map finds is what must be found: a table that stands first is linked.
 
-  linked_one : TableThere → TableThere → Bool
+  pub linked_one : TableThere → TableThere → Bool
   linked_one u v = not (is_linked u.stage) || (same_table v.table u.table && is_linked v.stage)
 
-  itself : (u : TableThere) → linked_one u u ≡ true
+  pub itself : (u : TableThere) → linked_one u u ≡ true
   itself u = by (is_linked u.stage) refl
     where
       by : (q : Bool) → is_linked u.stage ≡ q → (not (is_linked u.stage) || (same_table u.table u.table && is_linked u.stage)) ≡ true

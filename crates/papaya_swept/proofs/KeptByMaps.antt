@@ -5,7 +5,7 @@ use Rattle.seize_acts.specs.Answers.{Grant}
 use Rattle.papaya_scenes.specs.Given.SeizeWords.Mem.{Mem}
 use Rattle.papaya_scenes.specs.Given.Seize.World.{Row}
 use Rattle.papaya_scenes.specs.Given.Seize.declared.progress.Progress.{Progress}
-use Rattle.papaya_scenes.specs.Given.Seize.declared.progress.Progress.TheVariants as progress
+use Rattle.papaya_scenes.specs.Given.Seize.declared.progress.Progress.TheVariants as making
 use Rattle.papaya_scenes.specs.Given.Seize.declared.rows.settle.Settled.{Settled}
 use Rattle.papaya_scenes.specs.Given.Tables.declared.node.Node.{Node}
 use Rattle.papaya_scenes.specs.Given.Tables.declared.setting.Setting.{Setting}
@@ -89,7 +89,7 @@ module _ {K V S : Type 0} (same : K → K → Bool) (by_hasher : S → K → ℕ
 
     module _ (said : Progress Setting) (leads : MakingLeads same hash i said s old new) (b : Beginning K) (here : s.makers i ≡ Some b) (n_is : n ≡ made same hash x s old new at holds.shows i said leads b here (making_outcome said))
         (at2 : IsAt same hash new n) (after : NewMap) (makes : Makes said b after)
-        (on : has_root b.machine.stands ≡ false → has_root after.stands ≡ true → said ≡ progress.Goes) where
+        (on : has_root b.machine.stands ≡ false → has_root after.stands ≡ true → said ≡ making.Goes) where
       abbrev entry : Deed K V → Entry K V
       entry d = record { deed = d; outcome = making_outcome said; effects = effects_of (acts.Making b.map) x.known new.changed; refused = is_refusal new.changed }
 
@@ -127,7 +127,7 @@ module _ {K V S : Type 0} (same : K → K → Bool) (by_hasher : S → K → ℕ
         its : Makes said b machine
         its = subst (λ (p : Progress Setting). Makes p b machine) said_is (right b m2 machine progress (makes, computed, told_is, (did, came)))
 
-        on : has_root b.machine.stands ≡ false → has_root machine.stands ≡ true → said ≡ progress.Goes
+        on : has_root b.machine.stands ≡ false → has_root machine.stands ≡ true → said ≡ making.Goes
         on had has =
             sym said_is
             ∙ comes_going b.machine s.world.memory m2 (changed_of s.world.memory g (new_map_plan {K = K} {V = V} b.machine)) (machine, progress) b.machine.stands refl

@@ -12,7 +12,7 @@ use Rattle.papaya_acts.specs.Acts.{Act}
 use Rattle.papaya_acts.specs.Doings.{Doing, Does, BeginsReclaiming, BeginsClearing, StepsReclaiming}
 use Rattle.papaya_acts.specs.Lists.{nothing_done}
 use Rattle.papaya_agrees.specs.Agree.{Asks}
-use Rattle.papaya_agrees.specs.Shards.{AsksShards}
+use Rattle.papaya_agrees.specs.Shards.{AsksShards, ShardsAre}
 use Rattle.papaya_agrees.proofs.Coming.{new_numbers}
 use Rattle.papaya_agrees.specs.Fresh.{HasNewNumber}
 use Rattle.papaya_agrees.proofs.Numbers.{numbers_first}
@@ -20,7 +20,7 @@ use Rattle.papaya_agrees.proofs.Shards.{shards_stay}
 use Rattle.papaya_deeds.specs.Deeds.{moment, named}
 use Rattle.papaya_deeds.specs.History.{past}
 use Rattle.papaya_played.specs.Play.{State, first_state}
-use Rattle.papaya_played.proofs.Along.{AllFit, AreOfTheirOwn, wherever}
+use Rattle.papaya_played.proofs.Along.{AllFit, AreOfTheirOwn, At, wherever}
 use Rattle.papaya_linear.proofs.Stays.{first_holds}
 use Rattle.papaya_swept.specs.Shown.{HasSwept, ShowsSweeps}
 use Rattle.papaya_swept.specs.Swept.{ListsAreSwept}
