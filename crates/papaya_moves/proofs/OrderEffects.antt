@@ -27,6 +27,28 @@ use Rattle.papaya_legal.proofs.Given.Finds.Runs.{life_keeps_order}
 use Rattle.papaya_deeds.specs.History.{EndFinds, is_first_of, left_tables}
 use Rattle.papaya_linear.proofs.Like.{IsLike}
 
+-- who asks for buckets alone asks for growths alone
+all_growths : (effects : List Effect) → list_all asks_for_bucket effects ≡ true → list_all is_growth effects ≡ true
+all_growths [] all = refl
+all_growths (effect.Asked growth ∷ effects) all = all_growths effects (and_parts _ (list_all asks_for_bucket effects) all).1
+all_growths (_ ∷ effects) all = absurd (cc all)
+
+-- a table that is linked stands among those that are
+
+abbrev pub linked_one : TableThere → TableThere → Bool
+linked_one u v = not (is_linked u.stage) || (same_table v.table u.table && is_linked v.stage)
+
+pub itself : (u : TableThere) → linked_one u u ≡ true
+itself u = by (is_linked u.stage) refl
+  where
+    by : (q : Bool) → is_linked u.stage ≡ q → (not (is_linked u.stage) || (same_table u.table u.table && is_linked u.stage)) ≡ true
+    by true is = ap (λ (q : Bool). not q || (same_table u.table u.table && q)) is ∙ and_from (same_table u.table u.table) true (same_itself u.table) refl
+    by false is = ap (λ (q : Bool). not q || (same_table u.table u.table && q)) is
+
+first_of_them : (P : TableThere → Type 0) (t : Table) (us : List TableThere) → AllByRecursion P us → is_first_of t us ≡ true → (u : TableThere) × (same_table u.table t ≡ true) × P u
+first_of_them P t [] all e = absurd (cc e)
+first_of_them P t (u ∷ us) all e = (u, e, all.0)
+
 module _ {K V : Type 0} where
   -- who is no call stores no pair
   stores_none : (acted : Option ℕ) (everything : Bool) (v : Moment K V) (f : Effect) → EventFinds acted everything v f → StoresOne None v f
@@ -42,31 +64,10 @@ module _ {K V : Type 0} where
       (each_so (EventFinds acted everything) (λ v f. EventFinds acted everything v f × StoresOne None v f) (λ v f its. (its, stores_none acted everything v f its)) None acted effects m finds)
       (λ own c none c_is. absurd (cc none)) order
 
-  -- where buckets alone are asked for all is as it was
-  all_growths : (effects : List Effect) → list_all asks_for_bucket effects ≡ true → list_all is_growth effects ≡ true
-  all_growths [] all = refl
-  all_growths (effect.Asked growth ∷ effects) all = all_growths effects (and_parts _ (list_all asks_for_bucket effects) all).1
-  all_growths (_ ∷ effects) all = absurd (cc all)
-
   pub buckets_in_order : (effects : List Effect) (m : Moment K V) → list_all asks_for_bucket effects ≡ true → AllIsInOrder m → AllIsInOrder (with_effects None None effects m)
   buckets_in_order effects m all order = subst AllIsInOrder (sym (growths_leave None effects m (all_growths effects all))) order
 
   -- What the end of a map finds is what must be found: a table that stands first is linked.
-
-  pub linked_one : TableThere → TableThere → Bool
-  linked_one u v = not (is_linked u.stage) || (same_table v.table u.table && is_linked v.stage)
-
-  pub itself : (u : TableThere) → linked_one u u ≡ true
-  itself u = by (is_linked u.stage) refl
-    where
-      by : (q : Bool) → is_linked u.stage ≡ q → (not (is_linked u.stage) || (same_table u.table u.table && is_linked u.stage)) ≡ true
-      by true is = ap (λ (q : Bool). not q || (same_table u.table u.table && q)) is ∙ and_from (same_table u.table u.table) true (same_itself u.table) refl
-      by false is = ap (λ (q : Bool). not q || (same_table u.table u.table && q)) is
-
-  first_of_them : (P : TableThere → Type 0) (t : Table) (us : List TableThere) → AllByRecursion P us → is_first_of t us ≡ true → (u : TableThere) × (same_table u.table t ≡ true) × P u
-  first_of_them P t [] all e = absurd (cc e)
-  first_of_them P t (u ∷ us) all e = (u, e, all.0)
-
   first_is_linked : (map : ℕ) (m : Moment K V) (t : Table) → is_first_of t (left_tables map m) ≡ true → (t.map ≡ map) × (is_stage is_linked t m ≡ true)
   first_is_linked map m t e = (
     sym parts.0 ∙ number_is it.0.table.map map it.2.0.0.1,

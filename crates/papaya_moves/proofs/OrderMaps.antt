@@ -10,6 +10,9 @@ use Rattle.papaya_legal.specs.Given.Schedules.Moment.{InMap, MapThere, Moment, P
 use Rattle.papaya_legal.specs.Given.Schedules.Reclaims.{is_kept}
 use Rattle.papaya_legal.specs.Given.Schedules.Things.{same_table}
 use Rattle.papaya_legal.specs.Given.Schedules.Views.{first_of, first_or, is_linked, map_at, map_of, tables_of}
+use Rattle.papaya_legal.specs.Given.Schedules.Beginning.{with_map}
+use Rattle.papaya_legal.specs.Given.Finds.Tables.{TablesAreInOrder}
+use Rattle.papaya_legal.specs.Given.Finds.Waiting.{PairsArePlaced}
 use Rattle.papaya_legal.specs.Given.Finds.Within.{AllIsInOrder, HasItsMap, many_of}
 use Rattle.papaya_legal.proofs.Given.Follows.Calling.{is_same_is, is_same_refl}
 use Rattle.papaya_legal.proofs.Given.Others.Leads.{same_parts}
@@ -72,7 +75,9 @@ module _ {K V : Type 0} (m : Moment K V) (order : AllIsInOrder m) (names : AreNa
     };
   }
     where
+      placed : PairsArePlaced (with_map f m)
       placed = (beginnings_keep_placed K V m order.waits.placed).1 f
+      tables : TablesAreInOrder (with_map f m)
       tables = (beginnings_keep_tables K V m order.waits.tables).1 f
 
       more : (map : ℕ) → list_any (λ (g : MapThere). g.number == map) m.maps ≡ true → list_any (λ (g : MapThere). g.number == map) (m.maps ++ f ∷ []) ≡ true
@@ -81,7 +86,7 @@ module _ {K V : Type 0} (m : Moment K V) (order : AllIsInOrder m) (names : AreNa
           ∙ or_left (list_any (λ (g : MapThere). g.number == map) m.maps) (list_any (λ (g : MapThere). g.number == map) (f ∷ [])) e
 
   module _ (map : ℕ) (no_pair : (n : ℕ) → 1 ≤ n → m.place n ≡ InMap map → ⊥) (no_table : left_tables map m ≡ []) (no_call : AllByRecursion (λ (c : CallThere K V). c.map ≢ map) m.calls) where
-    keep : MapThere → Bool
+    abbrev keep : MapThere → Bool
     keep f = not (is_same f.name (named map))
 
     abbrev then_at : Moment K V

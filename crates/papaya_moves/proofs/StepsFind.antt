@@ -131,7 +131,7 @@ module _ {K V : Type 0} (same : K → K → Bool) (hash : ℕ → K → ℕ) (te
         looks_find (counting_looks same sum d.call (subst (λ (w : UnderWay K V K). IsCalled same w d.call) is called)) effects
         (calls_keep_looking K V same hash named m known s old new at all.whole all.kept.looking map i u here said leads).0
 
-    Found : Option ℕ → Option (CallThere K V) → Type 0
+    abbrev Found : Option ℕ → Option (CallThere K V) → Type 0
     Found acted c = AtEachEffect (Finds terms (Some (named i)) acted false (moments_since terms (past history) c)) (Some (named i)) acted effects m
 
     pub step_finds : (o : Outcome V) (refused : Bool) → EffectsFind terms history (record { deed = Steps i; outcome = o; effects = effects; refused = refused })
