@@ -27,3 +27,8 @@ pub mod StepsKept
 pub mod OrderEffects
 pub mod OrderCalls
 pub mod OrderMaps
+pub mod UnderWay
+pub mod NotBusy
+pub mod RoomKept
+pub mod OrderStays
+pub mod OrderKept

@@ -77,6 +77,7 @@ module _ {K V : Type 0} (m : Moment K V) (order : AllIsInOrder m) (names : AreNa
     where
       placed : PairsArePlaced (with_map f m)
       placed = (beginnings_keep_placed K V m order.waits.placed).1 f
+
       tables : TablesAreInOrder (with_map f m)
       tables = (beginnings_keep_tables K V m order.waits.tables).1 f
 

@@ -245,7 +245,7 @@ module _ {K V : Type 0} (same : K → K → Bool) (hash : ℕ → K → ℕ) (te
               (makings_step K V same hash (past history) m known s all old new at i said leads b here was_new) (made_or b m (may.capacities i b here) (order_now history order.1) said was_new)) refl shows.whole.all.shown;
           each = (tt, has.each);
         });
-    maps_come = λ history known s old new at all may has i said leads b here next on no_tables was_new at2 shows.
+    maps_come = λ history known s old new at all may has i said leads b here next had on no_tables was_new at2 shows.
         (let known2 = known_after (acts.Making b.map) new.changed known in
         let effects : List Effect = effects_of (acts.Making b.map) known new.changed in
         let t : Scene K V = (let to = leads b here in making_after same hash s old new i b to.0 to.2.step.w2 said to.3) in
@@ -257,7 +257,7 @@ module _ {K V : Type 0} (same : K → K → Bool) (hash : ℕ → K → ℕ) (te
         sweeps_like same (past history) known s (with_map (coming b next) m) v (sweeps_by_map_come K V same hash (past history) m known s all has.swept.shows old new at (coming b next) no_tables) refl in
         let sweeps = sweeps_by_making K V same hash (past history) v known s then_all then_sweeps old new at i said leads b here was_new in
         record {
-          swept = (sweeps_are_kept same hash terms).maps_come history known s old new at all may.shards has.swept i said leads b here next on no_tables was_new at2 shows;
+          swept = (sweeps_are_kept same hash terms).maps_come history known s old new at all may.shards has.swept i said leads b here next had on no_tables was_new at2 shows;
           shows = λ order.
               steps_come same (past history) known2 t (with_effects None (Some b.map) effects v) (after e m) sweeps.purposes.begun
               (steps_by_making same hash (past history) v known s then_all

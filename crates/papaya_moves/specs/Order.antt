@@ -5,8 +5,10 @@ use Rattle.papaya_legal.specs.Given.Schedules.After.{AtEachEvent}
 use Rattle.papaya_legal.specs.Given.Schedules.Moment.{Moment, UnderWay as CallThere}
 use Rattle.papaya_legal.specs.Given.Schedules.Terms.{Terms}
 use Rattle.papaya_legal.specs.Given.Callers.Together.{UnderWay}
+use Rattle.papaya_legal.specs.Given.Finishes.Machines.{machine_of}
 use Rattle.papaya_legal.specs.Given.Finishes.Makings.{Beginning}
 use Rattle.papaya_legal.specs.Given.Finds.Within.{AllIsInOrder}
+use Rattle.papaya_legal.specs.Given.Named.Machines.{RefusedForRoom}
 use Rattle.papaya_legal.specs.Given.Scenes.Scene.{Scene}
 use Rattle.papaya_deeds.specs.Deeds.{Entry, moment, named}
 use Rattle.papaya_linear.specs.Coming.{AreNamed, Comes}
@@ -25,9 +27,10 @@ module _ {K V : Type 0} where
   abbrev pub OrderStays : Terms → List (Entry K V) → Entry K V → Type 0
   OrderStays terms log e = AllIsInOrder (moment log) → EffectsFind terms log e → OfStep e.deed (EachStoresOne log e) → DoesIts log e → AllIsInOrder (moment (e ∷ log))
 
-  -- So it is of each entry, and by what the moment shows it will be of the next one.
+  -- So it is of each entry, and by this it will be of the next one: each call of the moment is under way, and one on no key is refused for want of room alone.
   pub record KeepsOrder (terms : Terms) (history : List (Entry K V)) (s : Scene K V) : Type 0 where
     pub under_way : AreUnderWay (moment history) s
+    pub room : (map i : ℕ) (u : UnderWay K V K) → s.calls map i ≡ Some u → RefusedForRoom (machine_of u)
     pub each : AtEachEvent (OrderStays terms) history
 
   -- if maps have their numbers as names, and each that is made comes as a new one

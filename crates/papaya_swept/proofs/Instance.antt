@@ -111,7 +111,7 @@ module _ {K V : Type 0} (same : K → K → Bool) (hash : ℕ → K → ℕ) (te
         (let e : Entry K V = record { deed = Makes b.map; outcome = making_outcome said; effects = effects_of (acts.Making b.map) known new.changed; refused = is_refusal new.changed } in
         one_more same terms history known (known_after (acts.Making b.map) new.changed known) s _ all has e (none_swept same terms history e refl) (with_effects None (Some b.map) e.effects (moment history))
         (sweeps_by_making K V same hash (past history) (moment history) known s all has.shows old new at i said leads b here was_new) refl);
-    maps_come = λ history known s old new at all shards has i said leads b here next on no_tables was_new at2 shows.
+    maps_come = λ history known s old new at all shards has i said leads b here next had on no_tables was_new at2 shows.
         (let e : Entry K V = record { deed = comes_by b next; outcome = making_outcome said; effects = effects_of (acts.Making b.map) known new.changed; refused = is_refusal new.changed } in
         let m = moment history in
         let then_all = likes_answer same (past history) known s (with_map (coming b next) m) (come (coming b next) m) (maps_come K V same hash (past history) m known s all old new at (coming b next) no_tables) refl in

@@ -54,7 +54,7 @@ use Rattle.papaya_acts.specs.Acts.{Wanted, begun}
 use Rattle.papaya_agrees.specs.Fresh.{IsFresh}
 use Rattle.papaya_deeds.specs.Deeds.{Begins, Deed, Ends, Entry, Makes, MapComes, MapFails, MapGoes, ReclaimsAll, Replies, Steps, Stops, come, moment, named}
 use Rattle.papaya_deeds.specs.History.{past}
-use Rattle.papaya_played.specs.Play.{call_for, is_over, is_refusal, making_outcome, outcome_of, pairs_for, row_deed, settled_outcome}
+use Rattle.papaya_played.specs.Play.{call_for, has_root, is_over, is_refusal, making_outcome, outcome_of, pairs_for, row_deed, settled_outcome}
 use Rattle.papaya_linear.specs.Shown.{ShowsAnswers}
 use Rattle.papaya_linear.proofs.MapsPlayed.{IsApart}
 
@@ -128,7 +128,7 @@ module _ {K V : Type 0} (same : K → K → Bool) (hash : ℕ → K → ℕ) (R 
         let e : Entry K V = record { deed = Makes b.map; outcome = making_outcome said; effects = effects_of (acts.Making b.map) known new.changed; refused = is_refusal new.changed } in
         IsAt same hash new made → Now (e ∷ history) (known_after (acts.Making b.map) new.changed known) made))
     pub maps_come : From (λ history known s old new. (i : ℕ) (said : Making Setting) (leads : MakingLeads same hash i said s old new) (b : Beginning K) (here : s.makers i ≡ Some b) (next : NewMap)
-        → said ≡ progress.Goes → tables_of b.map (moment history) ≡ [] → WasNew b.map said (come (coming b next) (moment history))
+        → has_root b.machine.stands ≡ false → said ≡ progress.Goes → tables_of b.map (moment history) ≡ [] → WasNew b.map said (come (coming b next) (moment history))
         → (let to = leads b here in
         let made = making_after same hash s old new i b to.0 to.2.step.w2 said to.3 in
         let e : Entry K V = record { deed = comes_by b next; outcome = making_outcome said; effects = effects_of (acts.Making b.map) known new.changed; refused = is_refusal new.changed } in

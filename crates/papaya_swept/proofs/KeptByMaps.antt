@@ -102,7 +102,7 @@ module _ {K V S : Type 0} (same : K → K → Bool) (by_hasher : S → K → ℕ
       by_roots : (p q : Bool) → has_root b.machine.stands ≡ p → has_root after.stands ≡ q → Now same hash R P (entry (deed_by b.map after p q) ∷ x.history) (known_after (acts.Making b.map) new.changed x.known) led
       by_roots true true had has = kept.makings_step x.history x.known s old new at holds.shows other so i said leads b here makes.was_new at_led
       by_roots false false had has = kept.makings_step x.history x.known s old new at holds.shows other so i said leads b here makes.was_new at_led
-      by_roots false true had has = let it = makes.unknown had has in kept.maps_come x.history x.known s old new at holds.shows other so i said leads b here after (on had has) it.0 it.1 at_led
+      by_roots false true had has = let it = makes.unknown had has in kept.maps_come x.history x.known s old new at holds.shows other so i said leads b here after had (on had has) it.0 it.1 at_led
       by_roots true false had has =
           let it = makes.fails had has in
           let v = with_effects None (Some b.map) (effects_of (acts.Making b.map) x.known new.changed) m in
