@@ -32,3 +32,4 @@ pub mod NotBusy
 pub mod RoomKept
 pub mod OrderStays
 pub mod OrderKept
+pub mod StepsStay

@@ -15,7 +15,7 @@ use Rattle.papaya_agrees.specs.Fresh.{HasNewNumber}
 use Rattle.papaya_deeds.specs.Deeds.{Entry}
 use Rattle.papaya_played.specs.Play.{State, all_stepped, row_outcome, row_stepped}
 use Rattle.papaya_played.specs.Reached.{IsOf, row_or_rests, rows_beside}
-use Rattle.papaya_played.proofs.Along.{At, StaysSo, far, held, lists_at}
+use Rattle.papaya_played.proofs.Along.{At, Is, StaysSo, far, held, lists_at}
 use Rattle.papaya_played.proofs.Noted.{CallsAreNoted}
 use Rattle.papaya_played.proofs.PlayedAs.{PlayedAs, played_as, reclaimed_as}
 use Rattle.papaya_linear.proofs.Holding.{AllHolds, ending_so, making_so}
@@ -92,7 +92,7 @@ module _ {K S : Type 0} (V : Type 0) (same : K → K → Bool) (by_hasher : S �
 
   abbrev pub Gives : Type 0
   Gives =
-      (p : At V same by_hasher hash batch_size roots) (x : State K V S) → far V same by_hasher hash batch_size roots p ≡ None → IsAt same hash (held V same by_hasher hash batch_size roots NoChange p) p.0
+      (p : At V same by_hasher hash batch_size roots) (x : State K V S) → far V same by_hasher hash batch_size roots p ≡ None → Is V same by_hasher hash batch_size roots aborts p x → IsAt same hash (held V same by_hasher hash batch_size roots NoChange p) p.0
       → AllHolds same x p.0 → Q p x → R x.history x.known p.0
 
   pub all_kept : Stays More Q → Gives → Stays Fit With
@@ -105,7 +105,7 @@ module _ {K S : Type 0} (V : Type 0) (same : K → K → Bool) (by_hasher : S �
           (
             rest.acts p n x y act told own fits.1 none none_then is is_then at may led leads at_then played here.1.0,
             acts_kept same by_hasher hash batch_size roots aborts R P kept x y p.0 n.0 of (rows_beside (far V same by_hasher hash batch_size roots n) n.0.world.row) is_then.scene at here.0 then_all.holds.noted
-                (gives p x none at here.0 here.1.0) here.1.1 told act fits.0 (played_as same by_hasher batch_size roots aborts x y act played) may led leads at_then then_all.holds.shows,
+                (gives p x none is at here.0 here.1.0) here.1.1 told act fits.0 (played_as same by_hasher batch_size roots aborts x y act played) may led leads at_then then_all.holds.shows,
           ),
         ));
     begins = λ p n x i c none begun same_scene all_free is is_then at here. (

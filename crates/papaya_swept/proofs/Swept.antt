@@ -77,7 +77,7 @@ module _ {K S : Type 0} (V : Type 0) (same : K → K → Bool) (by_hasher : S �
       let kept = sweeps_are_kept same hash terms in
       let to = wherever V same by_hasher hash batch_size roots small aborts (Fit V same by_hasher hash batch_size roots aborts R (P same hash terms) kept More So)
       (With V same by_hasher hash batch_size roots aborts R (P same hash terms) kept More So)
-      (all_kept V same by_hasher hash batch_size roots aborts R (P same hash terms) kept More So (shards_stay V same by_hasher hash batch_size roots (shards_of terms) aborts) (λ p x none at all so. so)) course doings y
+      (all_kept V same by_hasher hash batch_size roots aborts R (P same hash terms) kept More So (shards_stay V same by_hasher hash batch_size roots (shards_of terms) aborts) (λ p x none is at all so. so)) course doings y
       led (own_so doings asks) (
         first_holds V same by_hasher hash batch_size roots aborts first.0 refl (numbers_first roots),
         (record { standing = λ m st has. absurd (cc has); made = λ i b makes. absurd (cc makes) }, first_swept same terms roots),
