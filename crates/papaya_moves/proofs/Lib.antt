@@ -33,3 +33,4 @@ pub mod RoomKept
 pub mod OrderStays
 pub mod OrderKept
 pub mod StepsStay
+pub mod MoveOn

@@ -50,7 +50,8 @@ use Rattle.papaya_agrees.specs.Guards.{HasItsGuard, guard_on}
 use Rattle.papaya_deeds.specs.Deeds.{Entry, Steps, map_of_call, moment, named}
 use Rattle.papaya_deeds.specs.History.{past}
 use Rattle.papaya_linear.specs.Shown.{ShowsAnswers}
-use Rattle.papaya_moves.specs.Steps.{EachStoresOne, EffectsFind, ShowsSteps, StepsMay}
+use Rattle.papaya_moves.specs.Finds.{FindsIts}
+use Rattle.papaya_moves.specs.Steps.{EachStoresOne, ShowsSteps, StepsMay}
 use Rattle.papaya_moves.proofs.TablesLast.{tables_last}
 
 -- a counting only looks
@@ -134,7 +135,7 @@ module _ {K V : Type 0} (same : K → K → Bool) (hash : ℕ → K → ℕ) (te
     abbrev Found : Option ℕ → Option (CallThere K V) → Type 0
     Found acted c = AtEachEffect (Finds terms (Some (named i)) acted false (moments_since terms (past history) c)) (Some (named i)) acted effects m
 
-    pub step_finds : (o : Outcome V) (refused : Bool) → EffectsFind terms history (record { deed = Steps i; outcome = o; effects = effects; refused = refused })
+    pub step_finds : (o : Outcome V) (refused : Bool) → FindsIts terms history (record { deed = Steps i; outcome = o; effects = effects; refused = refused })
     step_finds o refused =
         subst (λ (c : Option (CallThere K V)). Found (map_of_call c) c) (sym d_is) (subst (λ (a : Option ℕ). Found a (Some d)) (sym (ap Some on_map)) (by_kind u refl))
 

@@ -13,7 +13,8 @@ use Rattle.papaya_legal.specs.Given.Scenes.Scene.{Scene}
 use Rattle.papaya_deeds.specs.Deeds.{Entry, moment, named}
 use Rattle.papaya_linear.specs.Coming.{AreNamed, Comes}
 use Rattle.papaya_moves.specs.Parts.{DoesIts}
-use Rattle.papaya_moves.specs.Steps.{EachStoresOne, EffectsFind, OfStep}
+use Rattle.papaya_moves.specs.Finds.{FindsIts}
+use Rattle.papaya_moves.specs.Steps.{EachStoresOne, OfStep}
 
 module _ {K V : Type 0} where
   -- a call of the moment is under way in the scene, by the number that is its caller's name
@@ -25,7 +26,7 @@ module _ {K V : Type 0} where
 
   -- all stays in order by an entry that does what is its own, whose effects find what they must
   abbrev pub OrderStays : Terms → List (Entry K V) → Entry K V → Type 0
-  OrderStays terms log e = AllIsInOrder (moment log) → EffectsFind terms log e → OfStep e.deed (EachStoresOne log e) → DoesIts log e → AllIsInOrder (moment (e ∷ log))
+  OrderStays terms log e = AllIsInOrder (moment log) → FindsIts terms log e → OfStep e.deed (EachStoresOne log e) → DoesIts log e → AllIsInOrder (moment (e ∷ log))
 
   -- So it is of each entry, and by this it will be of the next one: each call of the moment is under way, and one on no key is refused for want of room alone.
   pub record KeepsOrder (terms : Terms) (history : List (Entry K V)) (s : Scene K V) : Type 0 where

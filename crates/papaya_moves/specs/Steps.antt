@@ -22,8 +22,9 @@ use Rattle.papaya_legal.specs.Given.Grows.Given.Sources.Sources.{ShowsSources}
 use Rattle.papaya_agrees.specs.Guards.{CallsHaveGuards, guard_on}
 use Rattle.papaya_agrees.specs.Shards.{ShardsAre}
 use Rattle.papaya_deeds.specs.Deeds.{Deed, Entry, Steps, moment, named}
-use Rattle.papaya_deeds.specs.History.{FindsBy, past, transition}
+use Rattle.papaya_deeds.specs.History.{past, transition}
 use Rattle.papaya_swept.specs.Shown.{HasSwept}
+use Rattle.papaya_moves.specs.Finds.{FindsIts}
 
 -- For what calls make tables, for which capacities maps were made, and where the pairs lie that calls have in hand; that the map of a copier that makes a table
 -- has a second one, or had one; what calls have met at tries; and from where pairs were copied.
@@ -49,13 +50,9 @@ module _ {K V : Type 0} where
   EachStoresOne log e = let t = transition log e in AtEachEffect (StoresOne t.caller) t.caller t.map e.effects t.found
 
 module _ {K V : Type 0} (terms : Terms) where
-  -- the effects of an entry find what they must
-  abbrev pub EffectsFind : List (Entry K V) → Entry K V → Type 0
-  EffectsFind log e = let t = transition log e in AtEachEffect (FindsBy terms log e.deed t) t.caller t.map e.effects t.found
-
-  -- so do those of a step of a call where all has been in order so far, and each that stores a pair stores one
+  -- The effects of a step of a call find what they must where all has been in order so far, and each that stores a pair stores one.
   abbrev pub StepFinds : List (Entry K V) → Entry K V → Type 0
-  StepFinds log e = OfStep e.deed ((InOrderSoFar log → EffectsFind log e) × EachStoresOne log e)
+  StepFinds log e = OfStep e.deed ((InOrderSoFar log → FindsIts terms log e) × EachStoresOne log e)
 
 -- By which that stays so: each map has as many shards as the terms say; one that is made, once it is there, has the capacity for which its making was asked; and a call, but for a counting, has the
 -- guard of its caller's slot.
