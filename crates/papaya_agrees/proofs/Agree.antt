@@ -19,7 +19,7 @@ use Rattle.papaya_agrees.proofs.Guards.{GuardsHold, guards_at_first, guards_stay
 use Rattle.papaya_agrees.proofs.Numbers.{NumbersStay, numbers_first, numbers_stay}
 use Rattle.papaya_agrees.proofs.Shards.{shards_stay}
 
-module _ {K S : Type 0} (V : Type 0) (same : K → K → Bool) (by_hasher : S → K → ℕ) (hash : ℕ → K → ℕ) (batch_size roots : ℕ) (aborts : V) where
+module _ {K S : Type 0} (V : Type 0) (same : K → K → Bool) (by_hasher : S → K → ℕ) (hash : ℕ → K → ℕ) (batch_size roots : ℕ) (aborts : ℕ → V) where
   abbrev Stays : (State K V S → Act K V S → Type 0) → (At V same by_hasher hash batch_size roots → State K V S → Type 0) → Type 0
   Stays Fits P = StaysSo V same by_hasher hash batch_size roots aborts Fits P
 

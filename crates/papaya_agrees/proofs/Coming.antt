@@ -1,5 +1,5 @@
 -- Where no number is given to two maps, a map comes with a number with which none has come, and of which no other one is made.
-use Rattle.std.specs.Prelude.{◌≢◌, ◌⊎◌, ◌==◌, Option, Some, None, is_ok, option_map, if◌then◌else◌}
+use Rattle.std.specs.Prelude.{◌≢◌, ◌⊎◌, ◌==◌, Option, Some, None, is_ok, length, option_map, if◌then◌else◌}
 use Rattle.std.proofs.Common.{◌≡◌, ℕ, Bool, true, false, List, [], ◌∷◌, inl, inr, refl, ap, sym, subst, ◌∙◌}
 use Rattle.std.proofs.lemmas.Bool.{cases_eq, eq-eqb, ne_eqb}
 use Rattle.seize_acts.specs.Answers.{Grant}
@@ -69,7 +69,7 @@ module _ {K V S : Type 0} where
     pub come : (n : ℕ) → has_come n x.history ≡ false → has_come n y.history ≡ false
     pub makers : (i : ℕ) (b : Making S) → y.now.makers i ≡ Some b → x.now.makers i ≡ Some b
 
-module _ {K V S : Type 0} (same : K → K → Bool) (hash : S → K → ℕ) (batch_size roots : ℕ) (aborts : V) (x y : State K V S) where
+module _ {K V S : Type 0} (same : K → K → Bool) (hash : S → K → ℕ) (batch_size roots : ℕ) (aborts : ℕ → V) (x y : State K V S) where
   leaves : (z : State K V S) → y ≡ z → LeavesMakings x z → LeavesMakings x y
   leaves z is so = subst (LeavesMakings x) (sym is) so
 
@@ -79,7 +79,7 @@ module _ {K V S : Type 0} (same : K → K → Bool) (hash : S → K → ℕ) (ba
   acts_leave (TellsCall i m reply) none (c, has, is) =
       leaves _ is
       (record {
-        come = λ n not. perhaps_not (is_ok (machine_replied c.machine reply).1) n (record { deed = Replies i (reply_for aborts reply); outcome = outcome.Goes; effects = []; refused = false }) x.history refl not;
+        come = λ n not. perhaps_not (is_ok (machine_replied c.machine reply).1) n (record { deed = Replies i (reply_for (aborts (length x.told)) reply); outcome = outcome.Goes; effects = []; refused = false }) x.history refl not;
         makers = λ j d has. has;
       })
   acts_leave (AsksCall i m) none (c, has, is) = leaves _ is (record { come = λ n not. not; makers = λ j d has. has })
@@ -239,7 +239,7 @@ module _ {K V S : Type 0} (same : K → K → Bool) (hash : S → K → ℕ) (ba
     acts_come (BeginsRow i request) new alone by = left_coming (acts_leave (BeginsRow i request) tt by)
     acts_come (StepsRow i g) new alone by = left_coming (acts_leave (StepsRow i g) tt by)
 
-module _ {K S : Type 0} (V : Type 0) (same : K → K → Bool) (by_hasher : S → K → ℕ) (hash : ℕ → K → ℕ) (batch_size roots : ℕ) (aborts : V) where
+module _ {K S : Type 0} (V : Type 0) (same : K → K → Bool) (by_hasher : S → K → ℕ) (hash : ℕ → K → ℕ) (batch_size roots : ℕ) (aborts : ℕ → V) where
   -- A list of acts by which no number is made twice makes each map with a new number, where its numbers are free.
   abbrev AreFree : List (Doing K V S) → State K V S → Type 0
   AreFree doings x = (n : ℕ) → is_made n doings ≡ true → IsFree n x

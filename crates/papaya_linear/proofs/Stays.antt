@@ -49,7 +49,7 @@ first_shows {K = K} {V = V} same roots =
       questions = questions_begin K V;
     }
 
-module _ {K S : Type 0} (V : Type 0) (same : K → K → Bool) (by_hasher : S → K → ℕ) (hash : ℕ → K → ℕ) (batch_size roots : ℕ) (aborts : V) where
+module _ {K S : Type 0} (V : Type 0) (same : K → K → Bool) (by_hasher : S → K → ℕ) (hash : ℕ → K → ℕ) (batch_size roots : ℕ) (aborts : ℕ → V) where
   abbrev pub Of : At V same by_hasher hash batch_size roots → State K V S → Type 0
   Of p x = AllHolds same x p.0
 
