@@ -1,2 +1,5 @@
 mod Begins
+mod Told
+mod Wherever
+mod May
 mod Executors

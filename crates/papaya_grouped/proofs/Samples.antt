@@ -72,7 +72,7 @@ registered = (
   [],
   refl,
   refl,
-  record { effects = refl; steps = refl; outcome = refl; deeds = (tt, tt, tt, tt) },
+  record { effects = refl; steps = refl; outcome = refl; deeds = (tt, (tt, (tt, tt))) },
   none_yet,
 )
 
@@ -94,7 +94,7 @@ called = (
     [],
     refl,
     refl,
-    record { effects = refl; steps = refl; outcome = refl; deeds = (refl, refl, (refl, refl, refl), tt) },
+    record { effects = refl; steps = refl; outcome = refl; deeds = (refl, (refl, ((refl, refl, refl), tt))) },
     entered,
   ),
 )
@@ -106,7 +106,7 @@ is_grouping = (
   names,
   refl,
   refl,
-  record { effects = refl; steps = refl; outcome = refl; deeds = (refl, refl, tt) },
+  record { effects = refl; steps = refl; outcome = refl; deeds = (refl, (refl, tt)) },
   called,
 )
 

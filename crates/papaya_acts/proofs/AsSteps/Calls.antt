@@ -34,7 +34,7 @@ use Rattle.papaya_scenes.specs.Scene.{Scene, slot_of}
 use Rattle.papaya_scenes.specs.Stepping.{StepsFrom, scene_after}
 
 -- what is wanted of a map begins so
-begins_so : {K V : Type 0} (same : K → K → Bool) (s : Standing K) → AreLawful same s.hash → (i : ℕ) (wanted : Wanted K V) → Begins same s i (begun same slot_of s i wanted)
+pub begins_so : {K V : Type 0} (same : K → K → Bool) (s : Standing K) → AreLawful same s.hash → (i : ℕ) (wanted : Wanted K V) → Begins same s i (begun same slot_of s i wanted)
 begins_so same s lawful i (Get key) = (begins.Gets key (s.hash key) (lawful.fits key) (its_class same s.hash lawful key), refl)
 begins_so same s lawful i (Remove key) = (begins.Removes key (s.hash key) (lawful.fits key) (its_class same s.hash lawful key), refl)
 begins_so same s lawful i (Insert key value) = (begins.Inserts key value, refl)
