@@ -131,4 +131,5 @@ module _ {K S : Type 0} (V : Type 0) (same : K → K → Bool) (by_hasher : S �
     begins = λ p n x i c none begun same_scene all_free is is_then at so. so;
     steps = λ p n x y told g st is is_then at leads scene played so.
         reclaiming_so same by_hasher batch_size roots aborts P grows x y g (reclaimed_as same by_hasher batch_size roots aborts x y g played) so;
+    chooses = λ p n x choice none none_then scene is is_then at so. so;
   }

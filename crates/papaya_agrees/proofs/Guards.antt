@@ -40,7 +40,7 @@ use Rattle.papaya_acts.specs.AsSteps.{IsOwn, changed_of, row_changed}
 use Rattle.papaya_acts.specs.Doings.{still as goes_still}
 use Rattle.papaya_acts.specs.Leads.{EndingCame, Led, MakingCame, MayBe}
 use Rattle.papaya_deeds.specs.Deeds.{Begins, Entry, ReclaimsAll, Replies, Steps, Stops, moment}
-use Rattle.papaya_played.specs.Play.{Making, Now, State, all_begun, call_for, ending_deed, first_state, is_over, is_refusal, made_on, making_deed, making_outcome, outcome_of, reply_for, row_deed, row_on, row_outcome, settled_outcome, slot_call_of}
+use Rattle.papaya_played.specs.Play.{Making, Now, State, all_begun, choice_come, call_for, ending_deed, first_state, is_over, is_refusal, made_on, making_deed, making_outcome, outcome_of, reply_for, row_deed, row_on, row_outcome, settled_outcome, slot_call_of}
 use Rattle.papaya_played.specs.Reached.{IsOf, row_or_rests, rows_beside}
 use Rattle.papaya_played.proofs.Along.{At, StaysSo, far}
 use Rattle.papaya_played.proofs.Noted.{Anything}
@@ -223,6 +223,10 @@ module _ {K S : Type 0} (V : Type 0) (same : K → K → Bool) (by_hasher : S �
           each = tt;
           inside = λ t in_it. absurd (subst IsInside ((st.did.did.over done).nothing.2 t) (subst (λ (v : Scene K V). IsInside (v.world.uses t)) st.did.comes in_it));
         }));
+    chooses = λ p n x choice none none_then scene is is_then at here.
+        unless n (choice_come choice x) None none_then
+        (λ nobody. subst (λ (v : Scene K V). GuardsAgree (choice_come choice x) v.world.uses) (sym scene)
+        (subst (λ (o : Option (ℕ × ReclaimAll)). UnlessReclaimed o (GuardsAgree x p.0.world.uses)) none here));
   }
 
   -- So it is where nothing was done yet.

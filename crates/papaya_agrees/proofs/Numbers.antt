@@ -342,6 +342,7 @@ module _ {K S : Type 0} (V : Type 0) (same : K → K → Bool) (by_hasher : S �
       notes.steps p n x y told g st is is_then at leads comes played so.0,
       reclaiming_numbers same by_hasher batch_size roots aborts x y so.1 g (reclaimed_as same by_hasher batch_size roots aborts x y g played),
     );
+    chooses = λ p n x choice none none_then scene is is_then at so. (so.0, record { none = so.1.none; fresh = so.1.fresh; maps = so.1.maps; made = so.1.made; ended = so.1.ended });
   }
     where
       notes : StaysSo V same by_hasher hash batch_size roots aborts (Anything V same by_hasher hash batch_size roots aborts) (λ p x. CallsAreNoted x)

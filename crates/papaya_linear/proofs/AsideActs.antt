@@ -58,8 +58,8 @@ module _ {K V : Type 0} where
   abbrev pub AreAlike : Moment K V → Moment K V → Type 0
   AreAlike m v = (v.maps ≡ m.maps) × (v.place ≡ m.place) × (v.tables ≡ m.tables)
 
-  told_alike : (h : List (Entry K V)) (b : Bool) (i : ℕ) (reply : Told V) (aborts : ℕ → V)
-      → AreAlike (moment h) (moment (if b then record { deed = Replies i (reply_for (aborts (length x.told)) reply); outcome = outcome.Goes; effects = []; refused = false } ∷ h else h))
+  told_alike : (h : List (Entry K V)) (b : Bool) (i : ℕ) (reply : Told V) (aborts : V)
+      → AreAlike (moment h) (moment (if b then record { deed = Replies i (reply_for aborts reply); outcome = outcome.Goes; effects = []; refused = false } ∷ h else h))
   told_alike h true i reply aborts = (refl, refl, refl)
   told_alike h false i reply aborts = (refl, refl, refl)
 
@@ -110,7 +110,7 @@ module _ {K V S : Type 0} where
   module _ (same : K → K → Bool) (by_hasher : S → K → ℕ) (batch_size roots : ℕ) (aborts : ℕ → V) (x y : State K V S) where
     pub quiet_played : (act : Act K V S) → IsQuiet act → PlayedAs same by_hasher batch_size roots aborts x y act → Quiet x y
     quiet_played (BeginsCall i m wanted) quiet (at, there, is) = subst (Quiet x) (sym is) ((refl, refl, refl), refl, refl)
-    quiet_played (TellsCall i m reply) quiet (c, here, is) = subst (Quiet x) (sym is) (told_alike x.history (is_ok (machine_replied c.machine reply).1) i reply aborts, refl, refl)
+    quiet_played (TellsCall i m reply) quiet (c, here, is) = subst (Quiet x) (sym is) (told_alike x.history (is_ok (machine_replied c.machine reply).1) i reply (aborts (length x.told)), refl, refl)
     quiet_played (AsksCall i m) quiet (c, here, is) = subst (Quiet x) (sym is) ((refl, refl, refl), refl, refl)
     quiet_played (StopsCall i m) quiet (c, here, is) = subst (Quiet x) (sym is) (stopped_alike x.history (machine_asked c.machine).1 i, refl, refl)
     quiet_played (BeginsRow i request) quiet (called, there, is) = subst (Quiet x) (sym is) ((refl, refl, refl), refl, refl)

@@ -114,12 +114,12 @@ module _ {K V S : Type 0} (same : K → K → Bool) (by_hasher : S → K → ℕ
       by : (b : Bool) → is_ok (machine_replied c.machine reply).1 ≡ b → Holds same y n
       by true ok =
           let taken = ok_is (machine_replied c.machine reply).1 ok in
-          let so = played_replies same hash aborts x s old new at holds.shows holds.noted holds.heard i m c here u under its reply taken standing stands next next_is kind.0 (subst (IsAt same hash new) n_is at2) in
+          let so = played_replies same hash (aborts (length x.told)) x s old new at holds.shows holds.noted holds.heard i m c here u under its reply taken standing stands next next_is kind.0 (subst (IsAt same hash new) n_is at2) in
           comes_so (z true) (scene_with m i next s) (y_is ∙ ap z ok) n_is
           (record {
             shows = so.1;
             noted = noted_as (z true) (y_is ∙ ap z ok);
-            heard = played_replies_are_heard same hash aborts x s old new at holds.shows holds.noted holds.heard i m c here u under its reply taken standing stands next next_is kind.0
+            heard = played_replies_are_heard same hash (aborts (length x.told)) x s old new at holds.shows holds.noted holds.heard i m c here u under its reply taken standing stands next next_is kind.0
                 (subst (IsAt same hash new) n_is at2);
             each = (so.0, holds.each);
           })

@@ -2,7 +2,7 @@
 use Rattle.std.specs.Prelude.{Bool}
 use Rattle.std.specs.List.{AllByRecursion}
 use Rattle.std.proofs.Common.{ℕ, List, [], ◌∷◌, refl}
-use Rattle.papaya_acts.specs.Doings.{Doing, Does, BeginsReclaiming, BeginsClearing, StepsReclaiming}
+use Rattle.papaya_acts.specs.Doings.{Doing, Does, BeginsReclaiming, BeginsClearing, StepsReclaiming, Chooses}
 use Rattle.papaya_acts.specs.Lists.{nothing_done}
 use Rattle.papaya_scenes.specs.Scene.{slot_of}
 use Rattle.papaya_agrees.specs.Fresh.{HasNewNumber}
@@ -20,6 +20,7 @@ module _ {K S : Type 0} (V : Type 0) (same : K → K → Bool) (by_hasher : S �
   own_so (BeginsReclaiming i ∷ doings) own = (tt, own_so doings own.1)
   own_so (BeginsClearing i ∷ doings) own = (tt, own_so doings own.1)
   own_so (StepsReclaiming g ∷ doings) own = (tt, own_so doings own.1)
+  own_so (Chooses choice ∷ doings) own = (tt, own_so doings own.1)
 
   pub lists_are_linearizable : ListsAreLinearizable V same by_hasher hash batch_size roots
   lists_are_linearizable small aborts course doings y led own once =
