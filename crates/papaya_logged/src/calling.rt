@@ -2,13 +2,11 @@
 ghost use Rattle.std.specs.Prelude.{◌≡◌, ◌<◌, ◌+◌, ◌*◌, ℕ, Bool, List, length, IfOk, IfErr};
 ghost use Rattle.papaya_schedules.specs.Moment.{Moment};
 ghost use Rattle.papaya_scenes.specs.declared.callers.TheConstants.{SLOTS};
-ghost use Rattle.papaya_logged.specs.Calling.{CallBegins, CallGoesOn, CallTakes, MakesNoMore, WalkGoesOn, WalkStops};
-ghost use Rattle.papaya_logged.specs.Goes.{IsNotedAs, far};
+ghost use Rattle.papaya_logged.specs.Calling.{CallBegins, CallGoesOn, CallSteps, CallTakes, MakesNoMore, WalkGoesOn, WalkStops};
 ghost use Rattle.papaya_logged.specs.Shown.{IsShown};
 ghost use Rattle.papaya_executor.specs.Beginning.{BeginsThere, IsRefused};
 ghost use Rattle.papaya_executor.specs.IsThere.{IsThere, KeepsGiven};
 ghost use Rattle.papaya_executor.specs.Replying.{AsksThere, RepliesThere, StopsThere};
-ghost use Rattle.papaya_executor.specs.Stepping.{StepsThere};
 ghost use Rattle.papaya_scenes.specs.Scene.{HasCall, Scene};
 
 use crate::logged::Logged;
@@ -91,9 +89,7 @@ impl<K: Eq + Hash + Drop, V: Drop, S: Hashes<K>> Logged<K, V, S> {
         requires { (s : Scene K V) × IsThere K.eq (S.hash self.old.executor.hasher) self.old.executor s × HasCall s caller }
         ensures leads { IfOk result (λ progress. (name : ℕ → List ℕ) (m : Moment K V) (s : Scene K V) → IsShown K.eq (S.hash self.old.executor.hasher) name m self.old s
             → CallGoesOn K.eq (S.hash self.old.executor.hasher) name m s caller map progress effects.old.items effects.new.items self.old self.new) }
-        ensures steps { IfOk result (λ progress. (s : Scene K V) → IsThere K.eq (S.hash self.old.executor.hasher) self.old.executor s
-            → StepsThere K.eq (S.hash self.old.executor.hasher) caller progress s self.old.executor self.new.executor) }
-        ensures noted { IfOk result (λ progress. IsNotedAs (Acting.Call caller map) (far effects.old.items self.old) (far effects.new.items self.new)) }
+        ensures steps { IfOk result (λ progress. CallSteps K.eq (S.hash self.old.executor.hasher) caller map progress effects.old.items effects.new.items self.old self.new) }
         ensures refused { IfOk result (λ progress. MakesNoMore refuse effects.old.items effects.new.items) }
         ensures given { KeepsGiven self.old.executor self.new.executor }
     {

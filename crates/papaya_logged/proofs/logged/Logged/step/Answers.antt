@@ -22,13 +22,13 @@ pub returns-clause-given : goal.returns-clause-given
 returns-clause-given g c = given_noted c.args.self.now.executor c.step-progress.new.self c.note.new.self.executor c.step-progress.ensures.given c.note.ensures.executor
 
 pub returns-clause-steps : goal.returns-clause-steps
-returns-clause-steps g c = λ s at.
-    subst (λ (e : Executor _ _ _). StepsThere _ _ c.args.caller c.step-progress.result s c.args.self.now.executor e) (sym c.note.ensures.executor) (c.step-progress.ensures.leads s at)
-
-pub returns-clause-noted : goal.returns-clause-noted
-returns-clause-noted g c = record {
-  did = c.in_ok-note.ensures.did
-      ∙ ap (λ (e : Executor _ _ _). c.args.effects.now.items ++ effects_of (acts.Call c.args.caller c.args.map) (known c.args.self.now.notes) e.memory.changed) (sym c.note.ensures.executor);
-  noted = c.in_ok-note.ensures.known ∙ ap (λ (e : Executor _ _ _). known_after (acts.Call c.args.caller c.args.map) e.memory.changed (known c.args.self.now.notes)) (sym c.note.ensures.executor);
-  given = given_noted c.args.self.now.executor c.step-progress.new.self c.note.new.self.executor c.step-progress.ensures.given c.note.ensures.executor;
+returns-clause-steps g c = record {
+  leads = λ s at.
+      subst (λ (e : Executor _ _ _). StepsThere _ _ c.args.caller c.step-progress.result s c.args.self.now.executor e) (sym c.note.ensures.executor) (c.step-progress.ensures.leads s at);
+  is_noted = record {
+    did = c.in_ok-note.ensures.did
+        ∙ ap (λ (e : Executor _ _ _). c.args.effects.now.items ++ effects_of (acts.Call c.args.caller c.args.map) (known c.args.self.now.notes) e.memory.changed) (sym c.note.ensures.executor);
+    noted = c.in_ok-note.ensures.known ∙ ap (λ (e : Executor _ _ _). known_after (acts.Call c.args.caller c.args.map) e.memory.changed (known c.args.self.now.notes)) (sym c.note.ensures.executor);
+    given = given_noted c.args.self.now.executor c.step-progress.new.self c.note.new.self.executor c.step-progress.ensures.given c.note.ensures.executor;
+  };
 }
