@@ -1,1 +1,3 @@
+pub mod Aborts
+pub mod OneMore
 mod Samples

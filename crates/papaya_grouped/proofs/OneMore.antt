@@ -1,0 +1,98 @@
+-- Where an executor is by acts, and does what is one act more, it is by acts.
+use Rattle.std.specs.Prelude.{◌++◌, Option, Some, None}
+use Rattle.std.specs.Option.{is_none}
+use Rattle.std.specs.List.{AllByRecursion}
+use Rattle.std.proofs.Common.{◌≡◌, ℕ, Bool, List, [], ◌∷◌, refl, sym, ap, subst, ◌∙◌}
+use Rattle.seize_acts.proofs.Answers.{same_some}
+use Rattle.papaya_scenes.specs.Scene.{Scene, slot_of}
+use Rattle.papaya_scheduler.specs.Given.Effects.Known.{Known}
+use Rattle.papaya_scheduler.specs.Given.Executor.IsThere.{IsThere, StaysGiven}
+use Rattle.papaya_scheduler.specs.Given.Executor.declared.executor.Executor.{Executor}
+use Rattle.papaya_acts.specs.Acts.{Act, Answer, BeginsRow}
+use Rattle.papaya_acts.specs.Doings.{Doing, Does, MayDo, Stage, reclaiming}
+use Rattle.papaya_acts.specs.Lists.{Course, LedTo, Reached, nothing_done, on_by}
+use Rattle.papaya_acts.proofs.Further.{led_further}
+use Rattle.papaya_agrees.specs.Agree.{Asks}
+use Rattle.papaya_agrees.specs.Fresh.{HasNewNumber}
+use Rattle.papaya_drives.specs.Executors.{IsAct}
+use Rattle.papaya_played.specs.Play.{State, first_state, play_act, play_all}
+use Rattle.papaya_played.specs.Reached.{AreOnOwn, IsOfStage, IsOnOwn}
+use Rattle.papaya_played.proofs.All.{lists_are_played}
+use Rattle.papaya_grouped.specs.Reach.{PlaysTo, Reach}
+use Rattle.papaya_grouped.proofs.Aborts.{new_one, plays_one}
+
+-- what all of these are, all of those are, and the last one, too
+pub all_and_last : {X : Type 0} (P : X → Type 0) (xs : List X) (x : X) → AllByRecursion P xs → P x → AllByRecursion P (xs ++ x ∷ [])
+all_and_last P [] x all last = (last, tt)
+all_and_last P (y ∷ xs) x all last = (all.0, all_and_last P xs x all.1 last)
+
+module _ {K V S : Type 0} (same : K → K → Bool) (by_hasher : S → K → ℕ) (shards : ℕ) (e e2 : Executor K V S) (given : StaysGiven e e2)
+    (any : Course V same by_hasher e.batch_size e.roots slot_of) (noted noted2 : Known) (P Q : (ℕ → V) → State K V S → Type 0) where
+  abbrev At : (P : (ℕ → V) → State K V S → Type 0) → Executor K V S → Known → Type 0
+  At P x known = Reach same by_hasher e.hasher e.batch_size e.roots shards P x known
+
+  abbrev Its : Doing K V S → Type 0
+  Its doing = Asks V same by_hasher (λ map. by_hasher e.hasher) e.batch_size e.roots shards doing
+
+  on_own : (doing : Doing K V S) → Its doing → IsOnOwn doing
+  on_own (Does (BeginsRow i request)) asks = asks.0
+  on_own doing asks = tt
+
+  all_on_own : (doings : List (Doing K V S)) → AllByRecursion Its doings → AreOnOwn doings
+  all_on_own [] all = tt
+  all_on_own (doing ∷ doings) all = (on_own doing all.0, all_on_own doings all.1)
+
+  module _ (act : Act K V S) (told : Answer K V) (asks : Its (Does act)) (is : (s : Scene K V) → IsThere same (by_hasher e.hasher) e s → IsAct same by_hasher e e2 s act told)
+      (new : (aborts : ℕ → V) (x : State K V S) → P aborts x → HasNewNumber x act)
+      (next : (aborts : ℕ → V) (x y : State K V S) (p : Stage V same by_hasher e.batch_size e.roots slot_of) → IsOfStage by_hasher same e.batch_size e.roots p x.now
+      → IsThere same (by_hasher e.hasher) e p.0 → play_act same by_hasher e.batch_size e.roots aborts act x ≡ Some y → x.known ≡ noted → P aborts x → (y.known ≡ noted2) × Q aborts y) where
+    -- where one course leads by it
+    module _ (course : Course V same by_hasher e.batch_size e.roots slot_of) (doings : List (Doing K V S)) (y : Reached V same by_hasher e.batch_size e.roots slot_of)
+        (led : LedTo V same by_hasher e.batch_size e.roots slot_of course doings y) (idle : reclaiming V same by_hasher e.batch_size e.roots slot_of y.0 ≡ None)
+        (there : IsThere same (by_hasher e.hasher) e y.0.0) where
+      it : IsAct same by_hasher e e2 y.0.0 act told
+      it = is y.0.0 there
+
+      may : MayDo V same by_hasher e.batch_size e.roots slot_of (Does act) y.0
+      may = (ap is_none idle, it.may)
+
+      abbrev y2 : Reached V same by_hasher e.batch_size e.roots slot_of
+      y2 = on_by V same by_hasher e.batch_size e.roots slot_of course y (Does act) may
+
+      goes_on : LedTo V same by_hasher e.batch_size e.roots slot_of course (doings ++ Does act ∷ []) y2
+      goes_on = led_further V same by_hasher e.batch_size e.roots slot_of course doings (Does act ∷ []) (nothing_done V same by_hasher e.batch_size e.roots slot_of course) y y2 led (may, refl)
+
+      leads_there : (z : Reached V same by_hasher e.batch_size e.roots slot_of) × LedTo V same by_hasher e.batch_size e.roots slot_of course (doings ++ Does act ∷ []) z
+          × (reclaiming V same by_hasher e.batch_size e.roots slot_of z.0 ≡ None) × IsThere same (by_hasher e.hasher) e2 z.0.0
+      leads_there =
+          let done = course.leads y.0 (Does act) may in
+          (y2, goes_on, done.1, (it.wherever (course.next y.0 (Does act) may).0 (course.told y.0 (Does act) may) (course.next y.0 (Does act) may).1 done.0).1)
+
+    pub one_act : At P e noted → At Q e2 noted2
+    one_act at = record {
+      hasher_is = given.0;
+      size = given.1;
+      roots_are = given.2;
+      doings = at.doings ++ Does act ∷ [];
+      asks = all_and_last Its at.doings (Does act) at.asks asks;
+      leads = λ course. (let to = at.leads course in leads_there course at.doings to.0 to.1 to.2 to.3);
+      played = λ value.
+          (let was = at.played value in
+          let to = at.leads any in
+          let before = lists_are_played V same by_hasher e.batch_size e.roots was.aborts any at.doings to.0 to.1 (all_on_own at.doings at.asks) in
+          let all = all_and_last Its at.doings (Does act) at.asks asks in
+          let then = lists_are_played V same by_hasher e.batch_size e.roots was.aborts any (at.doings ++ Does act ∷ []) (y2 any at.doings to.0 to.1 to.2 to.3)
+          (goes_on any at.doings to.0 to.1 to.2 to.3) (all_on_own (at.doings ++ Does act ∷ []) all) in
+          let one : before.0 ≡ was.after = same_some before.0 was.after (sym before.1 ∙ was.plays) in
+          let stage = subst (λ (x : State K V S). IsOfStage by_hasher same e.batch_size e.roots to.0.0 x.now) one before.2 in
+          let step = sym (plays_one same by_hasher e.batch_size e.roots was.aborts (Does act) at.doings (first_state e.roots) was.after was.plays) ∙ then.1 in
+          let so = next was.aborts was.after then.0 to.0.0 stage to.3 step was.knows was.so in
+          record {
+            aborts = was.aborts;
+            after = then.0;
+            plays = then.1;
+            new = new_one same by_hasher e.batch_size e.roots was.aborts (Does act) at.doings (first_state e.roots) was.after was.plays was.new (new was.aborts was.after was.so);
+            knows = so.0;
+            so = so.1;
+          });
+    }
