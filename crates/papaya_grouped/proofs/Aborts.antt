@@ -52,6 +52,16 @@ module _ {K V S : Type 0} (same : K → K → Bool) (by_hasher : S → K → ℕ
     told_more (StepsReclaiming g) e = let p = reclaimed_as same by_hasher batch_size roots aborts x y g e in more _ _ p.4 refl
     told_more (Chooses choice) e = more _ _ (sym (same_some _ y e)) refl
 
+  -- so many were told by a list
+  pub told_all : (aborts : ℕ → V) (doings : List (Doing K V S)) (x y : State K V S) → play_all same by_hasher batch_size roots aborts doings x ≡ Some y → length y.told ≡ length x.told + length doings
+  told_all aborts [] x y is = ap (λ (s : State K V S). length s.told) (sym (same_some x y is)) ∙ omega arith
+  told_all aborts (doing ∷ doings) x y is = by (play same by_hasher batch_size roots aborts doing x) refl is
+    where
+      by : (o : Option (State K V S)) → play same by_hasher batch_size roots aborts doing x ≡ o → then_on o (play_all same by_hasher batch_size roots aborts doings) ≡ Some y
+          → length y.told ≡ length x.told + length (doing ∷ doings)
+      by None e never = absurd (cc never)
+      by (Some z) e is = omega (arith, told_all aborts doings z y is, told_more aborts x z doing e)
+
   -- What was played before an act is so whatever closures abort with from that act on.
   module _ (aborts other : ℕ → V) where
     abbrev AreSame : List (Doing K V S) → State K V S → Type 0

@@ -1,3 +1,4 @@
 pub mod Aborts
 pub mod OneMore
+pub mod Quiet
 mod Samples

@@ -1,8 +1,9 @@
 -- Where an executor is by acts, and does what is one act more, it is by acts.
-use Rattle.std.specs.Prelude.{◌++◌, Option, Some, None}
+use Rattle.std.specs.Prelude.{◌<◌, ◌+◌, ◌++◌, ◌==◌, Option, Some, None, length, if◌then◌else◌}
 use Rattle.std.specs.Option.{is_none}
 use Rattle.std.specs.List.{AllByRecursion}
-use Rattle.std.proofs.Common.{◌≡◌, ℕ, Bool, List, [], ◌∷◌, refl, sym, ap, subst, ◌∙◌}
+use Rattle.std.proofs.Common.{◌≡◌, ℕ, Bool, List, [], ◌∷◌, refl, sym, ap, subst, arith, ◌∙◌}
+use Rattle.std.proofs.lemmas.Bool.{eq-eqb, ne_eqb}
 use Rattle.seize_acts.proofs.Answers.{same_some}
 use Rattle.papaya_scenes.specs.Scene.{Scene, slot_of}
 use Rattle.papaya_scheduler.specs.Given.Effects.Known.{Known}
@@ -19,7 +20,8 @@ use Rattle.papaya_played.specs.Play.{State, first_state, play_act, play_all}
 use Rattle.papaya_played.specs.Reached.{AreOnOwn, IsOfStage, IsOnOwn}
 use Rattle.papaya_played.proofs.All.{lists_are_played}
 use Rattle.papaya_grouped.specs.Reach.{PlaysTo, Reach}
-use Rattle.papaya_grouped.proofs.Aborts.{new_one, plays_one}
+use Rattle.papaya_schedules.specs.Lists.{put}
+use Rattle.papaya_grouped.proofs.Aborts.{new_one, new_same, plays_one, plays_same, told_all}
 
 -- what all of these are, all of those are, and the last one, too
 pub all_and_last : {X : Type 0} (P : X → Type 0) (xs : List X) (x : X) → AllByRecursion P xs → P x → AllByRecursion P (xs ++ x ∷ [])
@@ -27,8 +29,8 @@ all_and_last P [] x all last = (last, tt)
 all_and_last P (y ∷ xs) x all last = (all.0, all_and_last P xs x all.1 last)
 
 module _ {K V S : Type 0} (same : K → K → Bool) (by_hasher : S → K → ℕ) (shards : ℕ) (e e2 : Executor K V S) (given : StaysGiven e e2)
-    (any : Course V same by_hasher e.batch_size e.roots slot_of) (noted noted2 : Known) (P Q : (ℕ → V) → State K V S → Type 0) where
-  abbrev At : (P : (ℕ → V) → State K V S → Type 0) → Executor K V S → Known → Type 0
+    (any : Course V same by_hasher e.batch_size e.roots slot_of) (noted noted2 : Known) (P Q : State K V S → Type 0) where
+  abbrev At : (P : State K V S → Type 0) → Executor K V S → Known → Type 0
   At P x known = Reach same by_hasher e.hasher e.batch_size e.roots shards P x known
 
   abbrev Its : Doing K V S → Type 0
@@ -43,9 +45,10 @@ module _ {K V S : Type 0} (same : K → K → Bool) (by_hasher : S → K → ℕ
   all_on_own (doing ∷ doings) all = (on_own doing all.0, all_on_own doings all.1)
 
   module _ (act : Act K V S) (told : Answer K V) (asks : Its (Does act)) (is : (s : Scene K V) → IsThere same (by_hasher e.hasher) e s → IsAct same by_hasher e e2 s act told)
-      (new : (aborts : ℕ → V) (x : State K V S) → P aborts x → HasNewNumber x act)
-      (next : (aborts : ℕ → V) (x y : State K V S) (p : Stage V same by_hasher e.batch_size e.roots slot_of) → IsOfStage by_hasher same e.batch_size e.roots p x.now
-      → IsThere same (by_hasher e.hasher) e p.0 → play_act same by_hasher e.batch_size e.roots aborts act x ≡ Some y → x.known ≡ noted → P aborts x → (y.known ≡ noted2) × Q aborts y) where
+      (new : (x : State K V S) → P x → HasNewNumber x act) (abort : V → V)
+      (next : (value : V) (aborts : ℕ → V) (x y : State K V S) (p : Stage V same by_hasher e.batch_size e.roots slot_of) → IsOfStage by_hasher same e.batch_size e.roots p x.now
+      → IsThere same (by_hasher e.hasher) e p.0 → aborts (length x.told) ≡ abort value → play_act same by_hasher e.batch_size e.roots aborts act x ≡ Some y → x.known ≡ noted → P x
+      → (y.known ≡ noted2) × Q y) where
     -- where one course leads by it
     module _ (course : Course V same by_hasher e.batch_size e.roots slot_of) (doings : List (Doing K V S)) (y : Reached V same by_hasher e.batch_size e.roots slot_of)
         (led : LedTo V same by_hasher e.batch_size e.roots slot_of course doings y) (idle : reclaiming V same by_hasher e.batch_size e.roots slot_of y.0 ≡ None)
@@ -76,23 +79,45 @@ module _ {K V S : Type 0} (same : K → K → Bool) (by_hasher : S → K → ℕ
       doings = at.doings ++ Does act ∷ [];
       asks = all_and_last Its at.doings (Does act) at.asks asks;
       leads = λ course. (let to = at.leads course in leads_there course at.doings to.0 to.1 to.2 to.3);
-      played = λ value.
-          (let was = at.played value in
-          let to = at.leads any in
-          let before = lists_are_played V same by_hasher e.batch_size e.roots was.aborts any at.doings to.0 to.1 (all_on_own at.doings at.asks) in
-          let all = all_and_last Its at.doings (Does act) at.asks asks in
-          let then = lists_are_played V same by_hasher e.batch_size e.roots was.aborts any (at.doings ++ Does act ∷ []) (y2 any at.doings to.0 to.1 to.2 to.3)
-          (goes_on any at.doings to.0 to.1 to.2 to.3) (all_on_own (at.doings ++ Does act ∷ []) all) in
-          let one : before.0 ≡ was.after = same_some before.0 was.after (sym before.1 ∙ was.plays) in
-          let stage = subst (λ (x : State K V S). IsOfStage by_hasher same e.batch_size e.roots to.0.0 x.now) one before.2 in
-          let step = sym (plays_one same by_hasher e.batch_size e.roots was.aborts (Does act) at.doings (first_state e.roots) was.after was.plays) ∙ then.1 in
-          let so = next was.aborts was.after then.0 to.0.0 stage to.3 step was.knows was.so in
-          record {
-            aborts = was.aborts;
-            after = then.0;
-            plays = then.1;
-            new = new_one same by_hasher e.batch_size e.roots was.aborts (Does act) at.doings (first_state e.roots) was.after was.plays was.new (new was.aborts was.after was.so);
-            knows = so.0;
-            so = so.1;
-          });
+      played = λ value. plays_then at value;
     }
+      where
+        module _ (at : At P e noted) (value : V) where
+          was : PlaysTo same by_hasher e.hasher e.batch_size e.roots shards P at.doings noted
+          was = at.played value
+
+          -- the closure that is told to by this act aborts with this value
+          abbrev aborts : ℕ → V
+          aborts = put (length was.after.told) (abort value) was.aborts
+
+          alike : (n : ℕ) → n < length (first_state {K = K} {V = V} {S = S} e.roots).told + length at.doings → was.aborts n ≡ aborts n
+          alike n l =
+              let count = told_all same by_hasher e.batch_size e.roots was.aborts at.doings (first_state e.roots) was.after was.plays in
+              sym (ap (λ (b : Bool). if b then abort value else was.aborts n) (ne_eqb n (length was.after.told) (λ is. absurd (omega (arith, is, l, count)))))
+
+          plays : play_all same by_hasher e.batch_size e.roots aborts at.doings (first_state e.roots) ≡ Some was.after
+          plays = sym (plays_same same by_hasher e.batch_size e.roots was.aborts aborts at.doings (first_state e.roots) alike) ∙ was.plays
+
+          its : aborts (length was.after.told) ≡ abort value
+          its = ap (λ (b : Bool). if b then abort value else was.aborts (length was.after.told)) (eq-eqb (length was.after.told) (length was.after.told) refl)
+
+          plays_then : PlaysTo same by_hasher e.hasher e.batch_size e.roots shards Q (at.doings ++ Does act ∷ []) noted2
+          plays_then =
+              let to = at.leads any in
+              let before = lists_are_played V same by_hasher e.batch_size e.roots aborts any at.doings to.0 to.1 (all_on_own at.doings at.asks) in
+              let all = all_and_last Its at.doings (Does act) at.asks asks in
+              let then = lists_are_played V same by_hasher e.batch_size e.roots aborts any (at.doings ++ Does act ∷ []) (y2 any at.doings to.0 to.1 to.2 to.3)
+              (goes_on any at.doings to.0 to.1 to.2 to.3) (all_on_own (at.doings ++ Does act ∷ []) all) in
+              let one : before.0 ≡ was.after = same_some before.0 was.after (sym before.1 ∙ plays) in
+              let stage = subst (λ (x : State K V S). IsOfStage by_hasher same e.batch_size e.roots to.0.0 x.now) one before.2 in
+              let step = sym (plays_one same by_hasher e.batch_size e.roots aborts (Does act) at.doings (first_state e.roots) was.after plays) ∙ then.1 in
+              let so = next value aborts was.after then.0 to.0.0 stage to.3 its step was.knows was.so in
+              record {
+                aborts = aborts;
+                after = then.0;
+                plays = then.1;
+                new = new_one same by_hasher e.batch_size e.roots aborts (Does act) at.doings (first_state e.roots) was.after plays
+                    (new_same same by_hasher e.batch_size e.roots was.aborts aborts at.doings (first_state e.roots) alike was.new) (new was.after was.so);
+                knows = so.0;
+                so = so.1;
+              }

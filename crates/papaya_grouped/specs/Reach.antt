@@ -12,17 +12,17 @@ use Rattle.papaya_played.specs.Play.{State, first_state, play_all}
 use Rattle.papaya_grouped.specs.ByActs.{MakesNew}
 
 module _ {K V S : Type 0} (same : K → K → Bool) (by_hasher : S → K → ℕ) (hasher : S) (batch_size roots shards : ℕ) where
-  -- Played so far, with what is known of the blocks, this is so of the state, by what closures abort with.
-  pub record PlaysTo (P : (ℕ → V) → State K V S → Type 0) (doings : List (Doing K V S)) (noted : Known) : Type 0 where
+  -- Played so far, with what closures abort with, and with what is known of the blocks, this is so of the state.
+  pub record PlaysTo (P : State K V S → Type 0) (doings : List (Doing K V S)) (noted : Known) : Type 0 where
     pub aborts : ℕ → V
     pub after : State K V S
     pub plays : play_all same by_hasher batch_size roots aborts doings (first_state roots) ≡ Some after
     pub new : MakesNew same by_hasher batch_size roots aborts doings (first_state roots)
     pub knows : after.known ≡ noted
-    pub so : P aborts after
+    pub so : P after
 
   -- The executor is where a list of acts leads by every course, while nobody reclaims all; and whatever value there is at all, the list is played to what is so.
-  pub record Reach (P : (ℕ → V) → State K V S → Type 0) (e : Executor K V S) (noted : Known) : Type 0 where
+  pub record Reach (P : State K V S → Type 0) (e : Executor K V S) (noted : Known) : Type 0 where
     pub hasher_is : e.hasher ≡ hasher
     pub size : e.batch_size ≡ batch_size
     pub roots_are : e.roots ≡ roots
