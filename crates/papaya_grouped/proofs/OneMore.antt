@@ -71,6 +71,46 @@ module _ {K V S : Type 0} (same : K → K → Bool) (by_hasher : S → K → ℕ
           let done = course.leads y.0 (Does act) may in
           (y2, goes_on, done.1, (it.wherever (course.next y.0 (Does act) may).0 (course.told y.0 (Does act) may) (course.next y.0 (Does act) may).1 done.0).1)
 
+    module _ (at : At P e noted) (value : V) where
+      was : PlaysTo same by_hasher e.hasher e.batch_size e.roots shards P at.doings noted
+      was = at.played value
+
+      -- the closure that is told to by this act aborts with this value
+      abbrev aborts : ℕ → V
+      aborts = put (length was.after.told) (abort value) was.aborts
+
+      alike : (n : ℕ) → n < length (first_state {K = K} {V = V} {S = S} e.roots).told + length at.doings → was.aborts n ≡ aborts n
+      alike n l =
+          let count = told_all same by_hasher e.batch_size e.roots was.aborts at.doings (first_state e.roots) was.after was.plays in
+          sym (ap (λ (b : Bool). if b then abort value else was.aborts n) (ne_eqb n (length was.after.told) (λ is. absurd (omega (arith, is, l, count)))))
+
+      plays : play_all same by_hasher e.batch_size e.roots aborts at.doings (first_state e.roots) ≡ Some was.after
+      plays = sym (plays_same same by_hasher e.batch_size e.roots was.aborts aborts at.doings (first_state e.roots) alike) ∙ was.plays
+
+      its : aborts (length was.after.told) ≡ abort value
+      its = ap (λ (b : Bool). if b then abort value else was.aborts (length was.after.told)) (eq-eqb (length was.after.told) (length was.after.told) refl)
+
+      plays_then : PlaysTo same by_hasher e.hasher e.batch_size e.roots shards Q (at.doings ++ Does act ∷ []) noted2
+      plays_then =
+          let to = at.leads any in
+          let before = lists_are_played V same by_hasher e.batch_size e.roots aborts any at.doings to.0 to.1 (all_on_own at.doings at.asks) in
+          let all = all_and_last Its at.doings (Does act) at.asks asks in
+          let then = lists_are_played V same by_hasher e.batch_size e.roots aborts any (at.doings ++ Does act ∷ []) (y2 any at.doings to.0 to.1 to.2 to.3)
+          (goes_on any at.doings to.0 to.1 to.2 to.3) (all_on_own (at.doings ++ Does act ∷ []) all) in
+          let one : before.0 ≡ was.after = same_some before.0 was.after (sym before.1 ∙ plays) in
+          let stage = subst (λ (x : State K V S). IsOfStage by_hasher same e.batch_size e.roots to.0.0 x.now) one before.2 in
+          let step = sym (plays_one same by_hasher e.batch_size e.roots aborts (Does act) at.doings (first_state e.roots) was.after plays) ∙ then.1 in
+          let so = next value aborts was.after then.0 to.0.0 stage to.3 its step was.knows was.so in
+          record {
+            aborts = aborts;
+            after = then.0;
+            plays = then.1;
+            new = new_one same by_hasher e.batch_size e.roots aborts (Does act) at.doings (first_state e.roots) was.after plays
+                (new_same same by_hasher e.batch_size e.roots was.aborts aborts at.doings (first_state e.roots) alike was.new) (new was.after was.so);
+            knows = so.0;
+            so = so.1;
+          }
+
     pub one_act : At P e noted → At Q e2 noted2
     one_act at = record {
       hasher_is = given.0;
@@ -81,43 +121,3 @@ module _ {K V S : Type 0} (same : K → K → Bool) (by_hasher : S → K → ℕ
       leads = λ course. (let to = at.leads course in leads_there course at.doings to.0 to.1 to.2 to.3);
       played = λ value. plays_then at value;
     }
-      where
-        module _ (at : At P e noted) (value : V) where
-          was : PlaysTo same by_hasher e.hasher e.batch_size e.roots shards P at.doings noted
-          was = at.played value
-
-          -- the closure that is told to by this act aborts with this value
-          abbrev aborts : ℕ → V
-          aborts = put (length was.after.told) (abort value) was.aborts
-
-          alike : (n : ℕ) → n < length (first_state {K = K} {V = V} {S = S} e.roots).told + length at.doings → was.aborts n ≡ aborts n
-          alike n l =
-              let count = told_all same by_hasher e.batch_size e.roots was.aborts at.doings (first_state e.roots) was.after was.plays in
-              sym (ap (λ (b : Bool). if b then abort value else was.aborts n) (ne_eqb n (length was.after.told) (λ is. absurd (omega (arith, is, l, count)))))
-
-          plays : play_all same by_hasher e.batch_size e.roots aborts at.doings (first_state e.roots) ≡ Some was.after
-          plays = sym (plays_same same by_hasher e.batch_size e.roots was.aborts aborts at.doings (first_state e.roots) alike) ∙ was.plays
-
-          its : aborts (length was.after.told) ≡ abort value
-          its = ap (λ (b : Bool). if b then abort value else was.aborts (length was.after.told)) (eq-eqb (length was.after.told) (length was.after.told) refl)
-
-          plays_then : PlaysTo same by_hasher e.hasher e.batch_size e.roots shards Q (at.doings ++ Does act ∷ []) noted2
-          plays_then =
-              let to = at.leads any in
-              let before = lists_are_played V same by_hasher e.batch_size e.roots aborts any at.doings to.0 to.1 (all_on_own at.doings at.asks) in
-              let all = all_and_last Its at.doings (Does act) at.asks asks in
-              let then = lists_are_played V same by_hasher e.batch_size e.roots aborts any (at.doings ++ Does act ∷ []) (y2 any at.doings to.0 to.1 to.2 to.3)
-              (goes_on any at.doings to.0 to.1 to.2 to.3) (all_on_own (at.doings ++ Does act ∷ []) all) in
-              let one : before.0 ≡ was.after = same_some before.0 was.after (sym before.1 ∙ plays) in
-              let stage = subst (λ (x : State K V S). IsOfStage by_hasher same e.batch_size e.roots to.0.0 x.now) one before.2 in
-              let step = sym (plays_one same by_hasher e.batch_size e.roots aborts (Does act) at.doings (first_state e.roots) was.after plays) ∙ then.1 in
-              let so = next value aborts was.after then.0 to.0.0 stage to.3 its step was.knows was.so in
-              record {
-                aborts = aborts;
-                after = then.0;
-                plays = then.1;
-                new = new_one same by_hasher e.batch_size e.roots aborts (Does act) at.doings (first_state e.roots) was.after plays
-                    (new_same same by_hasher e.batch_size e.roots was.aborts aborts at.doings (first_state e.roots) alike was.new) (new was.after was.so);
-                knows = so.0;
-                so = so.1;
-              }
