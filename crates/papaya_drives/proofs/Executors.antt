@@ -20,6 +20,7 @@ use Rattle.papaya_scenes.specs.Given.Seize.declared.progress.Progress.TheVariant
 use Rattle.papaya_scenes.specs.Given.Seize.declared.rows.settle.Settled.{Settled}
 use Rattle.papaya_scenes.specs.Given.Seize.declared.rows.settle.Settled.TheVariants as settled
 use Rattle.seize_acts.specs.Acts.{row_steps}
+use Rattle.seize_acts.proofs.Answers.{was_stepped}
 use Rattle.seize_acts.specs.Answers.{Grant, stepped, then_on}
 use Rattle.papaya_scenes.proofs.Given.SeizeRule.World.Kept.{rows_may}
 use Rattle.papaya_scenes.specs.Given.Tables.Nodes.{deferred_word}
@@ -42,7 +43,7 @@ use Rattle.papaya_scenes.specs.Given.Finishes.Maps.{Standing, with_call}
 use Rattle.papaya_executor.specs.declared.executor.Executor.{Executor}
 use Rattle.papaya_acts.specs.Acts.{Act, Answer, Nothing, OfCall, OfReply, OfAsking, OfMaking, OfEnding, BeginsCall, StepsCall, TellsCall, AsksCall, StopsCall, BeginsMaking, StepsMaking, BeginsEnding, StepsEnding, BeginsRow, StepsRow, begun}
 use Rattle.papaya_acts.specs.AsSteps.{IsOwn, changed_of, row_changed}
-use Rattle.papaya_drives.specs.Executors.{IsAct, IsStep, CallsAreActs, OthersAreActs, ExecutorsAct}
+use Rattle.papaya_drives.specs.Executors.{IsAct, IsStep, AreSteps, IsComputed, RowIsComputed, CallsAreActs, OthersAreActs, ExecutorsAct}
 use Rattle.papaya_acts.specs.Leads.{AllStand, EndingCame, Led, MakingCame, MayBe, asked_on, call_at, call_steps, ending_steps, making_steps}
 use Rattle.papaya_acts.specs.Lists.{AllMayStep}
 use Rattle.papaya_drives.proofs.Begins.{wants}
@@ -110,13 +111,17 @@ module _ {K V S : Type 0} (same : K → K → Bool) (hash : S → K → ℕ) (e 
       → Led same hash e.batch_size e.roots slot_of act s told to → IsThere same (hash e.hasher) e2 to → IsAct same hash e e2 s act told
   acts act own is told to led there = record { may = is; to = to; led = led; there = there; wherever = wherever same hash e e2 s at stays act own is told to led there }
 
-  -- a step that is told, in the memory of the executor, is computed from the one of its scene, and so is what it has changed
+  -- a step that is told is computed, with some choice
   computed : {R : Type 0} (plan : Plan (Node K V) R) (end : R) → May Can Took value_at s.world.memory plan
-      → StepsTold K V R e.memory.memory NoChange plan e2.memory.memory e2.memory.changed end
-      → (g : Grant) × (stepped s.world.memory g plan ≡ Some (e2.memory.memory, end)) × (changed_of s.world.memory g plan ≡ e2.memory.changed)
-  computed {R} plan end can st =
-      told_so s.world.memory plan e2.memory.memory e2.memory.changed end can
-      (subst (λ (m : Mem (Node K V)). StepsTold K V R m NoChange plan e2.memory.memory e2.memory.changed end) (sym at.held.memory) st)
+      → StepsTold K V R e.memory.memory NoChange plan e2.memory.memory e2.memory.changed end → (g : Grant) × IsComputed e e2 plan end g
+  computed plan end can st =
+      told_so e.memory.memory plan e2.memory.memory e2.memory.changed end (subst (λ (m : Mem (Node K V)). May Can Took value_at m plan) at.held.memory can) st
+
+  -- and so it is in the memory of the scene, which is that of the executor
+  in_scene : {R : Type 0} (plan : Plan (Node K V) R) (end : R) (g : Grant) → IsComputed e e2 plan end g
+      → (stepped s.world.memory g plan ≡ Some (e2.memory.memory, end)) × (changed_of s.world.memory g plan ≡ e2.memory.changed)
+  in_scene plan end g is =
+      subst (λ (m : Mem (Node K V)). (stepped m g plan ≡ Some (e2.memory.memory, end)) × (changed_of m g plan ≡ e2.memory.changed)) (sym at.held.memory) is
 
   -- what is there may step
   steps_there : {X Y : Type 0} (o : Option X) (f : X → Option Y) (x : X) (y : Y) → o ≡ Some x → f x ≡ Some y → is_none (then_on o f) ≡ false
@@ -127,28 +132,35 @@ module _ {K V S : Type 0} (same : K → K → Bool) (hash : S → K → ℕ) (e 
       ap (λ (o : Option (Standing K)). then_on o (λ it. then_on (s.calls m i) (λ v. Some (it, v)))) stands ∙ ap (λ (o : Option (UnderWay K V K)). then_on o (λ v. Some (standing, v))) here
 
   step : (told : CallProgress (Node K V)) → StepsThere same (hash e.hasher) i told s e e2 → (m : ℕ) (u : UnderWay K V K) → s.calls m i ≡ Some u
-      → (g : Grant) × IsStep same hash e e2 s (StepsCall i m g) (OfCall told)
+      → (machine : Machine K V K) × AreSteps same hash e e2 s (IsComputed e e2 (machine_plan same same (hash e.hasher) (machine_of u)) (machine, told)) (StepsCall i m) (OfCall told)
   step told leads m u here =
       let to = leads m u here in
-      let so = computed (machine_plan same same to.0.hash (machine_of u)) (to.1, told) (may.calls m i to.0 u to.2 here) to.3 in
+      let hashed : to.0.hash ≡ hash e.hasher = at.held.hashes m to.0 to.2 in
+      let plan = machine_plan same same (hash e.hasher) (machine_of u) in
+      let can = subst (λ (h : K → ℕ). May Can Took value_at s.world.memory (machine_plan same same h (machine_of u))) hashed (may.calls m i to.0 u to.2 here) in
+      let st = subst (λ (h : K → ℕ). StepsTold K V (Machine K V K × CallProgress (Node K V)) e.memory.memory NoChange (machine_plan same same h (machine_of u)) e2.memory.memory e2.memory.changed (to.1, told)) hashed
+      to.3 in
       let at_it = call_there m to.0 u to.2 here in (
-        so.0,
-        (
-          acts (StepsCall i m so.0) tt (steps_there (call_at s i m) (call_steps same hash e.batch_size e.roots slot_of s so.0) (to.0, u) (e2.memory.memory, (to.1, told)) at_it so.1) (OfCall told) _ (record {
-            standing = to.0;
-            stands = to.2;
-            call = u;
-            here = here;
-            memory = e2.memory.memory;
-            machine = to.1;
-            progress = told;
-            computed = so.1;
-            tells = refl;
-            did = to.4;
-            comes = refl;
-          }) to.5,
-          ap (λ (o : Option (Standing K × UnderWay K V K)). option_map_or (λ it. changed_of s.world.memory so.0 (machine_plan same same it.0.hash (machine_of it.1))) o NoChange) at_it ∙ so.2,
-        ),
+        to.1,
+        computed plan (to.1, told) can st,
+        λ g is.
+            (let so = subst (λ (h : K → ℕ). (stepped s.world.memory g (machine_plan same same h (machine_of u)) ≡ Some (e2.memory.memory, (to.1, told)))
+            × (changed_of s.world.memory g (machine_plan same same h (machine_of u)) ≡ e2.memory.changed)) (sym hashed) (in_scene plan (to.1, told) g is) in (
+              acts (StepsCall i m g) tt (steps_there (call_at s i m) (call_steps same hash e.batch_size e.roots slot_of s g) (to.0, u) (e2.memory.memory, (to.1, told)) at_it so.0) (OfCall told) _ (record {
+                standing = to.0;
+                stands = to.2;
+                call = u;
+                here = here;
+                memory = e2.memory.memory;
+                machine = to.1;
+                progress = told;
+                computed = so.0;
+                tells = refl;
+                did = to.4;
+                comes = refl;
+              }) to.5,
+              ap (λ (o : Option (Standing K × UnderWay K V K)). option_map_or (λ it. changed_of s.world.memory g (machine_plan same same it.0.hash (machine_of it.1))) o NoChange) at_it ∙ so.1,
+            )),
       )
 
   -- A call that goes on as the same machine is there with what else it knows, too: what is said of calls alone is so by what was there before, and all else by what is there then.
@@ -269,17 +281,19 @@ module _ {K V S : Type 0} (same : K → K → Bool) (hash : S → K → ℕ) (e 
   making_comes b machine (progress.Done setting) did (standing, made, is) = (_, (standing, made, refl), is)
   making_comes b machine (progress.Refused fault) did is = (_, refl, is)
 
-  making : (told : Progress Setting) → MakesThere same (hash e.hasher) i told s e e2 → (b : Beginning K) → s.makers i ≡ Some b → (g : Grant) × IsStep same hash e e2 s (StepsMaking i g) (OfMaking told)
+  making : (told : Progress Setting) → MakesThere same (hash e.hasher) i told s e e2 → (b : Beginning K) → s.makers i ≡ Some b
+      → (machine : NewMap) × AreSteps same hash e e2 s (IsComputed e e2 (new_map_plan {K = K} {V = V} b.machine) (machine, told)) (StepsMaking i) (OfMaking told)
   making told leads b makes =
       let to = leads b makes in
-      let so = computed (new_map_plan b.machine) (to.0, told) (may.makings i b makes) to.1 in
       let comes = making_comes b to.0 told to.2 to.3 in (
-        so.0,
-        (
-          acts (StepsMaking i so.0) tt (steps_there (s.makers i) (making_steps same hash e.batch_size e.roots slot_of s so.0) b (e2.memory.memory, (to.0, told)) makes so.1) (OfMaking told) comes.0
-              (b, makes, e2.memory.memory, to.0, told, so.1, refl, to.2, comes.1) comes.2,
-          ap (λ (o : Option (Beginning K)). option_map_or (λ x. changed_of s.world.memory so.0 (new_map_plan {K = K} {V = V} x.machine)) o NoChange) makes ∙ so.2,
-        ),
+        to.0,
+        computed (new_map_plan b.machine) (to.0, told) (may.makings i b makes) to.1,
+        λ g is.
+            (let so = in_scene (new_map_plan b.machine) (to.0, told) g is in (
+              acts (StepsMaking i g) tt (steps_there (s.makers i) (making_steps same hash e.batch_size e.roots slot_of s g) b (e2.memory.memory, (to.0, told)) makes so.0) (OfMaking told) comes.0
+                  (b, makes, e2.memory.memory, to.0, told, so.0, refl, to.2, comes.1) comes.2,
+              ap (λ (o : Option (Beginning K)). option_map_or (λ x. changed_of s.world.memory g (new_map_plan {K = K} {V = V} x.machine)) o NoChange) makes ∙ so.1,
+            )),
       )
 
   ending_comes : (f : Finishing K V) (machine : EndMap) (told : Settled (Node K V)) (did : StepsOfEnding V same same e.batch_size e.roots slot_of s.world s.maps s.calls s.makers s.enders i f e2.memory.memory (machine, told))
@@ -290,72 +304,86 @@ module _ {K V S : Type 0} (same : K → K → Bool) (hash : S → K → ℕ) (e 
   ending_comes f machine (settled.Gave value) did (b, there, taken, is) = (_, (b, there, taken, refl), is)
   ending_comes f machine settled.Done did (none, finished, is) = (_, (none, finished, refl), is)
 
-  ending : (told : Settled (Node K V)) → EndsThere same (hash e.hasher) i told s e e2 → (f : Finishing K V) → s.enders i ≡ Some f → (g : Grant) × IsStep same hash e e2 s (StepsEnding i g) (OfEnding told)
+  ending : (told : Settled (Node K V)) → EndsThere same (hash e.hasher) i told s e e2 → (f : Finishing K V) → s.enders i ≡ Some f
+      → (machine : EndMap) × AreSteps same hash e e2 s (IsComputed e e2 (end_map_plan {K = K} {V = V} f.machine) (machine, told)) (StepsEnding i) (OfEnding told)
   ending told leads f ends =
       let to = leads f ends in
-      let so = computed (end_map_plan f.machine) (to.0, told) (may.endings i f ends) to.1 in
       let comes = ending_comes f to.0 told to.2 to.3 in (
-        so.0,
-        (
-          acts (StepsEnding i so.0) tt (steps_there (s.enders i) (ending_steps same hash e.batch_size e.roots slot_of s so.0) f (e2.memory.memory, (to.0, told)) ends so.1) (OfEnding told) comes.0
-              (f, ends, e2.memory.memory, to.0, told, so.1, refl, to.2, comes.1) comes.2,
-          ap (λ (o : Option (Finishing K V)). option_map_or (λ x. changed_of s.world.memory so.0 (end_map_plan {K = K} {V = V} x.machine)) o NoChange) ends ∙ so.2,
-        ),
+        to.0,
+        computed (end_map_plan f.machine) (to.0, told) (may.endings i f ends) to.1,
+        λ g is.
+            (let so = in_scene (end_map_plan f.machine) (to.0, told) g is in (
+              acts (StepsEnding i g) tt (steps_there (s.enders i) (ending_steps same hash e.batch_size e.roots slot_of s g) f (e2.memory.memory, (to.0, told)) ends so.0) (OfEnding told) comes.0
+                  (f, ends, e2.memory.memory, to.0, told, so.0, refl, to.2, comes.1) comes.2,
+              ap (λ (o : Option (Finishing K V)). option_map_or (λ x. changed_of s.world.memory g (end_map_plan {K = K} {V = V} x.machine)) o NoChange) ends ∙ so.1,
+            )),
       )
 
   row_may : MayStep deferred_word (s.world.row i) s.world.memory
   row_may = let came = at.held.together.makings.standing.came in rows_may deferred_word e.batch_size came.0 came.1 s.world came.2 i
 
-  -- A step of a row: it was seen to be one of its plan, and is computed so.
-  row_by : {R : Type 0} (plan : Plan (Node K V) R) (made : Mem (Node K V) × R → World (Node K V)) (end other : R) (w2 : World (Node K V)) (m2 : Mem (Node K V)) → May Can Took value_at s.world.memory plan
-      → StepsTold K V R e.memory.memory NoChange plan e2.memory.memory e2.memory.changed end → Steps Took value_at s.world.memory plan m2 other → w2 ≡ made (m2, other) → m2 ≡ e2.memory.memory
-      → (g : Grant) × (then_on (stepped s.world.memory g plan) (λ p. Some (made p)) ≡ Some w2) × (changed_of s.world.memory g plan ≡ e2.memory.changed)
-  row_by {R} plan made end other w2 m2 can st seen is memory =
-      let so = computed plan end can st in
-      let one : end ≡ other = steps_once s.world.memory e2.memory.memory plan end other can
-      (subst (λ (m : Mem (Node K V)). Steps Took value_at m plan e2.memory.memory end) (sym at.held.memory) (as_step e.memory.memory NoChange plan e2.memory.memory e2.memory.changed end st))
+  -- A step of a row that was seen to be one of its plan is what is computed so.
+  row_by : {R : Type 0} (plan : Plan (Node K V) R) (made : Mem (Node K V) × R → World (Node K V)) (end other : R) (w2 : World (Node K V)) (m2 : Mem (Node K V)) (g : Grant) → May Can Took value_at s.world.memory plan
+      → IsComputed e e2 plan end g → Steps Took value_at s.world.memory plan m2 other → w2 ≡ made (m2, other) → m2 ≡ e2.memory.memory
+      → (then_on (stepped s.world.memory g plan) (λ p. Some (made p)) ≡ Some w2) × (changed_of s.world.memory g plan ≡ e2.memory.changed)
+  row_by {R} plan made end other w2 m2 g can is seen made_is memory =
+      let so = in_scene plan end g is in
+      let one : end ≡ other = steps_once s.world.memory e2.memory.memory plan end other can (was_stepped s.world.memory g plan (e2.memory.memory, end) so.0)
       (subst (λ (m : Mem (Node K V)). Steps Took value_at s.world.memory plan m other) memory seen) in (
-        so.0,
-        ap (λ (o : Option (Mem (Node K V) × R)). then_on o (λ p. Some (made p))) so.1 ∙ ap (λ (p : Mem (Node K V) × R). Some (made p)) (ap (λ (x : R). (e2.memory.memory, x)) one ∙ ap (λ (m : Mem (Node K V)). (m, other)) (sym memory))
-            ∙ ap Some (sym is),
-        so.2,
+        ap (λ (o : Option (Mem (Node K V) × R)). then_on o (λ p. Some (made p))) so.0 ∙ ap (λ (p : Mem (Node K V) × R). Some (made p)) (ap (λ (x : R). (e2.memory.memory, x)) one ∙ ap (λ (m : Mem (Node K V)). (m, other)) (sym memory))
+            ∙ ap Some (sym made_is),
+        so.1,
       )
 
   -- whichever row it is
-  row_world : (it : SlotRow) → s.world.row i ≡ row_of it → (after : SlotRow) (told : RowTold (Node K V)) → RowSteps K V it e.memory.memory e2.memory.memory e2.memory.changed (after, told)
-      → (w2 : World (Node K V)) → Steps' deferred_word i (s.world.row i) s.world w2 → w2.memory ≡ e2.memory.memory
-      → (g : Grant) × (row_steps deferred_word i (s.world.row i) g s.world ≡ Some w2) × (row_changed (s.world.row i) g s.world.memory ≡ e2.memory.changed)
-  row_world it is after told steps w2 happens memory =
-      subst (λ (r : Row). MayStep deferred_word r s.world.memory → Steps' deferred_word i r s.world w2
-      → (g : Grant) × (row_steps deferred_word i r g s.world ≡ Some w2) × (row_changed r g s.world.memory ≡ e2.memory.changed)) (sym is) (by it steps) row_may happens
+  row_world : (it : SlotRow) → s.world.row i ≡ row_of it → (g : Grant) → RowIsComputed e e2 it g → (w2 : World (Node K V)) → Steps' deferred_word i (s.world.row i) s.world w2 → w2.memory ≡ e2.memory.memory
+      → (row_steps deferred_word i (s.world.row i) g s.world ≡ Some w2) × (row_changed (s.world.row i) g s.world.memory ≡ e2.memory.changed)
+  row_world it is g computed_so w2 happens memory = by_row is row_may happens
     where
       w : World (Node K V)
       w = s.world
 
-      by : (it : SlotRow) → RowSteps K V it e.memory.memory e2.memory.memory e2.memory.changed (after, told) → MayStep deferred_word (row_of it) w.memory → Steps' deferred_word i (row_of it) w w2
-          → (g : Grant) × (row_steps deferred_word i (row_of it) g w ≡ Some w2) × (row_changed (row_of it) g w.memory ≡ e2.memory.changed)
-      by (rows.Registers c) (end, st, ends) can (m2, other, seen, made) =
-          row_by (register_plan c) (λ p. world.registers_on w i c p.0 p.1) end other w2 m2 can st seen made (sym (registers_memory w i c m2 other) ∙ ap (λ (x : World (Node K V)). x.memory) (sym made) ∙ memory)
-      by (rows.Enters c) (end, st, ends) can (m2, other, seen, made) =
-          row_by (enter_plan c) (λ p. world.with_use (world.after_step w i p.0 Rests (Entered c.slot ∷ [])) c.slot (world.Inside 0)) end other w2 m2 can st seen made
+      by : (it : SlotRow) → RowIsComputed e e2 it g → MayStep deferred_word (row_of it) w.memory → Steps' deferred_word i (row_of it) w w2
+          → (row_steps deferred_word i (row_of it) g w ≡ Some w2) × (row_changed (row_of it) g w.memory ≡ e2.memory.changed)
+      by (rows.Registers c) (end, is) can (m2, other, seen, made) =
+          row_by (register_plan c) (λ p. world.registers_on w i c p.0 p.1) end other w2 m2 g can is seen made (sym (registers_memory w i c m2 other) ∙ ap (λ (x : World (Node K V)). x.memory) (sym made) ∙ memory)
+      by (rows.Enters c) (end, is) can (m2, other, seen, made) =
+          row_by (enter_plan c) (λ p. world.with_use (world.after_step w i p.0 Rests (Entered c.slot ∷ [])) c.slot (world.Inside 0)) end other w2 m2 g can is seen made
           (ap (λ (x : World (Node K V)). x.memory) (sym made) ∙ memory)
-      by (rows.Leaves c) (end, st, ends) can (m2, other, seen, made) =
-          row_by (leave_plan deferred_word c) (λ p. world.leaves_on w i c p.0 p.1) end other w2 m2 can st seen made (sym (leaves_memory w i c m2 other) ∙ ap (λ (x : World (Node K V)). x.memory) (sym made) ∙ memory)
-      by (rows.Flushes c) (end, st, ends) can (m2, other, seen, made) =
-          row_by (settle_plan deferred_word c) (λ p. world.settles_on w i c p.0 p.1) end other w2 m2 can st seen made (sym (settles_memory w i c m2 other) ∙ ap (λ (x : World (Node K V)). x.memory) (sym made) ∙ memory)
-      by (rows.Frees c) (end, st, ends) can (m2, other, seen, made) =
-          row_by (unregister_plan c) (λ p. world.with_use (world.after_step w i p.0 Rests []) c.slot world.Vacant) end other w2 m2 can st seen made (ap (λ (x : World (Node K V)). x.memory) (sym made) ∙ memory)
+      by (rows.Leaves c) (end, is) can (m2, other, seen, made) =
+          row_by (leave_plan deferred_word c) (λ p. world.leaves_on w i c p.0 p.1) end other w2 m2 g can is seen made (sym (leaves_memory w i c m2 other) ∙ ap (λ (x : World (Node K V)). x.memory) (sym made) ∙ memory)
+      by (rows.Flushes c) (end, is) can (m2, other, seen, made) =
+          row_by (settle_plan deferred_word c) (λ p. world.settles_on w i c p.0 p.1) end other w2 m2 g can is seen made (sym (settles_memory w i c m2 other) ∙ ap (λ (x : World (Node K V)). x.memory) (sym made) ∙ memory)
+      by (rows.Frees c) (end, is) can (m2, other, seen, made) =
+          row_by (unregister_plan c) (λ p. world.with_use (world.after_step w i p.0 Rests []) c.slot world.Vacant) end other w2 m2 g can is seen made (ap (λ (x : World (Node K V)). x.memory) (sym made) ∙ memory)
 
-  row : (told : RowTold (Node K V)) → RowStepsThere same (hash e.hasher) i told s e e2 → (it : SlotRow) → work_of e i ≡ Some (work.OnSlot it) → (g : Grant) × IsStep same hash e e2 s (StepsRow i g) Nothing
+      by_row : s.world.row i ≡ row_of it → MayStep deferred_word (s.world.row i) w.memory → Steps' deferred_word i (s.world.row i) w w2
+          → (row_steps deferred_word i (s.world.row i) g w ≡ Some w2) × (row_changed (s.world.row i) g w.memory ≡ e2.memory.changed)
+      by_row same_row =
+          subst (λ (r : Row). MayStep deferred_word r w.memory → Steps' deferred_word i r w w2 → (row_steps deferred_word i r g w ≡ Some w2) × (row_changed r g w.memory ≡ e2.memory.changed))
+          (sym same_row) (by it computed_so)
+
+  -- and it is computed with some choice
+  row_found : (it : SlotRow) → s.world.row i ≡ row_of it → (after : SlotRow) (told : RowTold (Node K V)) → RowSteps K V it e.memory.memory e2.memory.memory e2.memory.changed (after, told)
+      → (g : Grant) × RowIsComputed e e2 it g
+  row_found it is after told steps = by it steps (subst (λ (r : Row). MayStep deferred_word r s.world.memory) is row_may)
+    where
+      by : (it : SlotRow) → RowSteps K V it e.memory.memory e2.memory.memory e2.memory.changed (after, told) → MayStep deferred_word (row_of it) s.world.memory → (g : Grant) × RowIsComputed e e2 it g
+      by (rows.Registers c) (end, st, ends) can = let so = computed (register_plan c) end can st in (so.0, (end, so.1))
+      by (rows.Enters c) (end, st, ends) can = let so = computed (enter_plan c) end can st in (so.0, (end, so.1))
+      by (rows.Leaves c) (end, st, ends) can = let so = computed (leave_plan deferred_word c) end can st in (so.0, (end, so.1))
+      by (rows.Flushes c) (end, st, ends) can = let so = computed (settle_plan deferred_word c) end can st in (so.0, (end, so.1))
+      by (rows.Frees c) (end, st, ends) can = let so = computed (unregister_plan c) end can st in (so.0, (end, so.1))
+
+  row : (told : RowTold (Node K V)) → RowStepsThere same (hash e.hasher) i told s e e2 → (it : SlotRow) → work_of e i ≡ Some (work.OnSlot it)
+      → AreSteps same hash e e2 s (RowIsComputed e e2 it) (StepsRow i) Nothing
   row told leads it has =
       let comes = leads it has in
-      let to = comes.5 in
-      let so = row_world it comes.0.1 comes.1 told comes.2 to.0 to.1 to.4.held.memory in (
-        so.0,
-        (
-          acts (StepsRow i so.0) tt (comes.0.0, ap is_none so.1) Nothing _ (to.0, so.1, to.1, to.2, to.3, refl, refl) to.4,
-          so.2,
-        ),
+      let to = comes.5 in (
+        row_found it comes.0.1 comes.1 told comes.2,
+        λ g is.
+            (let so = row_world it comes.0.1 g is to.0 to.1 to.4.held.memory in
+            (acts (StepsRow i g) tt (comes.0.0, ap is_none so.0) Nothing _ (to.0, so.0, to.1, to.2, to.3, refl, refl) to.4, so.1)),
       )
 
   -- nobody's section is ended in which a call is under way

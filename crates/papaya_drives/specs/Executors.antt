@@ -3,7 +3,23 @@ use Rattle.std.specs.Prelude.{◌≡◌, ℕ, ◌+◌, ◌<◌, ◌≤◌, ◌^�
 use Rattle.std.specs.Int.{IsPowerOfTwo}
 use Rattle.papaya_scenes.specs.Given.Seize.declared.progress.Progress.{Progress}
 use Rattle.papaya_scenes.specs.Given.Seize.declared.rows.settle.Settled.{Settled}
-use Rattle.seize_acts.specs.Answers.{Grant}
+use Rattle.seize_acts.specs.Answers.{Grant, stepped}
+use Rattle.papaya_scenes.specs.Given.SeizeWords.Plan.{Plan}
+use Rattle.papaya_scenes.specs.Given.Seize.Enter.{enter_plan, unregister_plan}
+use Rattle.papaya_scenes.specs.Given.Seize.Leave.{leave_plan}
+use Rattle.papaya_scenes.specs.Given.Seize.Register.{register_plan}
+use Rattle.papaya_scenes.specs.Given.Seize.Settle.{settle_plan}
+use Rattle.papaya_scenes.specs.Given.Seize.declared.rows.enter.Enter.{Enter}
+use Rattle.papaya_scenes.specs.Given.Seize.declared.rows.enter.Unregister.{Unregister}
+use Rattle.papaya_scenes.specs.Given.Seize.declared.rows.leave.Leave.{Leave}
+use Rattle.papaya_scenes.specs.Given.Seize.declared.rows.register.Register.{Register}
+use Rattle.papaya_scenes.specs.Given.Seize.declared.rows.settle.Settle.{Settle}
+use Rattle.papaya_scenes.specs.Given.Tables.Nodes.{deferred_word}
+use Rattle.papaya_scenes.specs.Given.Resize.NewMap.{new_map_plan}
+use Rattle.papaya_scenes.specs.Given.Resize.declared.new_map.NewMap.{NewMap}
+use Rattle.papaya_scenes.specs.Given.Raw.EndMap.{end_map_plan}
+use Rattle.papaya_scenes.specs.Given.Raw.Machine.{machine_plan}
+use Rattle.papaya_scenes.specs.Given.Raw.declared.machines.end_map.EndMap.{EndMap}
 use Rattle.papaya_scenes.specs.Given.Tables.Lengths.{IsTableLen}
 use Rattle.papaya_scenes.specs.Given.Tables.declared.node.Node.{Node}
 use Rattle.papaya_scenes.specs.Given.Tables.declared.setting.Setting.{Setting}
@@ -20,11 +36,12 @@ use Rattle.papaya_executor.specs.declared.executor.Executor.{Executor}
 use Rattle.papaya_scenes.specs.declared.row.RowTold.{RowTold}
 use Rattle.papaya_scenes.specs.declared.row.SlotCall.{SlotCall}
 use Rattle.papaya_scenes.specs.declared.row.SlotRow.{SlotRow}
+use Rattle.papaya_scenes.specs.declared.row.SlotRow.TheVariants as rows
 use Rattle.papaya_scenes.specs.declared.row.SlotUse.TheVariants as used
 use Rattle.papaya_executor.specs.declared.worker.Work.TheVariants as work
 use Rattle.papaya_acts.specs.Acts.{Act, Answer, Nothing, OfCall, OfReply, OfAsking, OfMaking, OfEnding, Wanted, begun}
 use Rattle.papaya_acts.specs.Acts.{BeginsCall, StepsCall, TellsCall, AsksCall, StopsCall, BeginsMaking, StepsMaking, BeginsEnding, StepsEnding, BeginsRow, StepsRow}
-use Rattle.papaya_acts.specs.AsSteps.{changed_by}
+use Rattle.papaya_acts.specs.AsSteps.{changed_by, changed_of}
 use Rattle.papaya_acts.specs.Leads.{AllStand, Led, MayBe}
 use Rattle.papaya_executor.specs.Beginning.{BeginsThere}
 use Rattle.papaya_executor.specs.Ending.{EndingBegins, EndsThere, NoCallOn}
@@ -37,6 +54,19 @@ use Rattle.papaya_executor.specs.Stepping.{StepsThere}
 use Rattle.papaya_scenes.specs.Beginning.{Begins}
 use Rattle.papaya_scenes.specs.Rows.{request_of}
 use Rattle.papaya_scenes.specs.Scene.{Scene, slot_of}
+
+module _ {K V S : Type 0} (e e2 : Executor K V S) where
+  -- a step of this plan, in the memory of the first executor, is computed to this outcome, in that of the second, with this choice, and so is what it has changed
+  abbrev pub IsComputed : {R : Type 0} → Plan (Node K V) R → R → Grant → Type 0
+  IsComputed plan end g = (stepped e.memory.memory g plan ≡ Some (e2.memory.memory, end)) × (changed_of e.memory.memory g plan ≡ e2.memory.changed)
+
+  -- of a row, whichever it is
+  abbrev pub RowIsComputed : SlotRow → Grant → Type 0
+  RowIsComputed (rows.Registers c) g = (end : Register × Progress ℕ) × IsComputed (register_plan c) end g
+  RowIsComputed (rows.Enters c) g = (end : Enter × Progress Unit) × IsComputed (enter_plan c) end g
+  RowIsComputed (rows.Leaves c) g = (end : Leave × Settled (Node K V)) × IsComputed (leave_plan deferred_word c) end g
+  RowIsComputed (rows.Flushes c) g = (end : Settle × Settled (Node K V)) × IsComputed (settle_plan deferred_word c) end g
+  RowIsComputed (rows.Frees c) g = (end : Unregister × Progress Unit) × IsComputed (unregister_plan c) end g
 
 module _ {K V S : Type 0} (same : K → K → Bool) (hash : S → K → ℕ) (e e2 : Executor K V S) (s : Scene K V) where
   -- In this scene, in which the first executor is, the act may be made, and tells this: it leads to one in which the second is; and so is each one to which it leads,
@@ -53,12 +83,17 @@ module _ {K V S : Type 0} (same : K → K → Bool) (hash : S → K → ℕ) (e 
   abbrev pub IsStep : Act K V S → Answer K V → Type 0
   IsStep act told = IsAct act told × (changed_by same act s ≡ e2.memory.changed)
 
+  -- So it is of a step that is computed with whichever choice of the memory; and there is one.
+  abbrev pub AreSteps : (Grant → Type 0) → (Grant → Act K V S) → Answer K V → Type 0
+  AreSteps Computed act told = ((g : Grant) × Computed g) × ((g : Grant) → Computed g → IsStep (act g) told)
+
   -- The promise of what callers do with calls: they begin, and take steps, they are told something, asked for a pair, or given up.
   pub record CallsAreActs (i : ℕ) : Type 0 where
     pub begin : (m : ℕ) (machine : Machine K V K) → BeginsThere same (hash e.hasher) m machine i s e e2 → work_of e i ≡ None → (standing : Standing K) → s.maps m ≡ Some standing
         → use_at e (slot_of i) ≡ used.Inside → (wanted : Wanted K V) → machine_of (begun same slot_of standing i wanted) ≡ machine → IsAct (BeginsCall i m wanted) Nothing
     pub begun_so : (m : ℕ) (standing : Standing K) → s.maps m ≡ Some standing → (u : UnderWay K V K) → Begins same standing i u → (wanted : Wanted K V) × (begun same slot_of standing i wanted ≡ u)
-    pub step : (told : CallProgress (Node K V)) → StepsThere same (hash e.hasher) i told s e e2 → (m : ℕ) (u : UnderWay K V K) → s.calls m i ≡ Some u → (g : Grant) × IsStep (StepsCall i m g) (OfCall told)
+    pub step : (told : CallProgress (Node K V)) → StepsThere same (hash e.hasher) i told s e e2 → (m : ℕ) (u : UnderWay K V K) → s.calls m i ≡ Some u
+        → (machine : Machine K V K) × AreSteps (IsComputed e e2 (machine_plan same same (hash e.hasher) (machine_of u)) (machine, told)) (StepsCall i m) (OfCall told)
     pub reply : (told : Reply V) (result : Result Unit (Reply V)) → RepliesThere same (hash e.hasher) i told result s e e2 → (m : ℕ) (u : UnderWay K V K) → s.calls m i ≡ Some u → IsAct (TellsCall i m told) (OfReply result)
     pub ask : (ready : Bool) → AsksThere same (hash e.hasher) i ready s e e2 → (m : ℕ) (u : UnderWay K V K) → s.calls m i ≡ Some u → IsAct (AsksCall i m) (OfAsking ready)
     pub stop : (stopped : Bool) → StopsThere same (hash e.hasher) i stopped s e e2 → (m : ℕ) (u : UnderWay K V K) → s.calls m i ≡ Some u → IsAct (StopsCall i m) (OfAsking stopped)
@@ -68,11 +103,13 @@ module _ {K V S : Type 0} (same : K → K → Bool) (hash : S → K → ℕ) (e 
     pub making_begins : (given : Setting) (places : ℕ) → MakingBegins same (hash e.hasher) given places i s e e2 → work_of e i ≡ None → AreLawful same (hash e.hasher) → IsPowerOfTwo given.initial
         → given.batch_size ≡ e.batch_size → given.mask + 1 < 2 ^ 64 → 0 < e.roots → (max places 8 ≤ 2 ^ 48 → IsTableLen (max places 8))
         → IsAct (BeginsMaking i (length e.maps.items) e.hasher given places) Nothing
-    pub making : (told : Progress Setting) → MakesThere same (hash e.hasher) i told s e e2 → (b : Beginning K) → s.makers i ≡ Some b → (g : Grant) × IsStep (StepsMaking i g) (OfMaking told)
+    pub making : (told : Progress Setting) → MakesThere same (hash e.hasher) i told s e e2 → (b : Beginning K) → s.makers i ≡ Some b
+        → (machine : NewMap) × AreSteps (IsComputed e e2 (new_map_plan {K = K} {V = V} b.machine) (machine, told)) (StepsMaking i) (OfMaking told)
     pub ending_begins : (m : ℕ) → EndingBegins same (hash e.hasher) m i s e e2 → work_of e i ≡ None → NoCallOn e m → IsAct (BeginsEnding i m) Nothing
-    pub ending : (told : Settled (Node K V)) → EndsThere same (hash e.hasher) i told s e e2 → (f : Finishing K V) → s.enders i ≡ Some f → (g : Grant) × IsStep (StepsEnding i g) (OfEnding told)
+    pub ending : (told : Settled (Node K V)) → EndsThere same (hash e.hasher) i told s e e2 → (f : Finishing K V) → s.enders i ≡ Some f
+        → (machine : EndMap) × AreSteps (IsComputed e e2 (end_map_plan {K = K} {V = V} f.machine) (machine, told)) (StepsEnding i) (OfEnding told)
     pub row_begins : (call : SlotCall) → RowBeginsThere same (hash e.hasher) call i s e e2 → work_of e i ≡ None → MayBegin e (slot_of i) call → IsAct (BeginsRow i (request_of (slot_of i) call)) Nothing
-    pub row : (told : RowTold (Node K V)) → RowStepsThere same (hash e.hasher) i told s e e2 → (it : SlotRow) → work_of e i ≡ Some (work.OnSlot it) → (g : Grant) × IsStep (StepsRow i g) Nothing
+    pub row : (told : RowTold (Node K V)) → RowStepsThere same (hash e.hasher) i told s e e2 → (it : SlotRow) → work_of e i ≡ Some (work.OnSlot it) → AreSteps (RowIsComputed e e2 it) (StepsRow i) Nothing
 
 -- So it is wherever an executor is, that keeps what it was given.
 abbrev pub ExecutorsAct : {K S : Type 0} → (V : Type 0) → (K → K → Bool) → (S → K → ℕ) → Type 0
