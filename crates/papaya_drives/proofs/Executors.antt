@@ -47,7 +47,7 @@ use Rattle.papaya_drives.specs.Executors.{IsAct, IsStep, AreSteps, IsComputed, R
 use Rattle.papaya_acts.specs.Leads.{AllStand, EndingCame, Led, MakingCame, MayBe, asked_on, call_at, call_steps, ending_steps, making_steps}
 use Rattle.papaya_acts.specs.Lists.{AllMayStep}
 use Rattle.papaya_drives.proofs.Begins.{wants}
-use Rattle.papaya_drives.proofs.May.{at_rest, begun_there, few_with, is_free, is_inside, no_map_yet, none_makes_it, slots_alone, unless_to_count}
+use Rattle.papaya_drives.proofs.May.{at_rest, begun_there, few_with, is_entered, is_free, no_map_yet, none_makes_it, slots_alone, unless_to_count}
 use Rattle.papaya_drives.proofs.Told.{steps_once, told_so}
 use Rattle.papaya_drives.proofs.Wherever.{wherever}
 use Rattle.papaya_acts.proofs.AsSteps.Calls.{begins_so}
@@ -260,7 +260,7 @@ module _ {K V S : Type 0} (same : K → K → Bool) (hash : S → K → ℕ) (e 
         acts (BeginsCall i m wanted) tt (
           is_free same (hash e.hasher) e s at i fresh,
           at_rest same (hash e.hasher) e s at i fresh,
-          unless_to_count wanted (is_inside same (hash e.hasher) e s at i inside),
+          unless_to_count wanted (is_entered same (hash e.hasher) e s at i inside),
           ap is_none stands,
           few_with same hash e.batch_size e.roots s m i u (all_given (scene_with m i u s) to.1),
         ) Nothing (scene_with m i u s) (standing, stands, refl, refl) to.1);

@@ -6,7 +6,8 @@ use Rattle.std.proofs.Common.{◌≡◌, ℕ, Bool, true, false, List, inl, inr,
 use Rattle.std.proofs.lemmas.Bool.{cases_eq}
 use Rattle.std.proofs.lemmas.List.{get_or_past}
 use Rattle.papaya_scenes.specs.Given.Seize.World.{Begins, Request, Register', Enter', Leave', LeaveOwned, Refresh, Unregister', Flush, Row, Rests, Use, Vacant, Outside, Inside, Changing, IsTaken, World, with_at}
-use Rattle.seize_acts.specs.Acts.{begun as row_begun, is_taken, is_within, rests}
+use Rattle.seize_acts.specs.Acts.{begun as row_begun, is_inside, is_outside, is_taken, is_within, rests}
+use Rattle.seize_acts.specs.Answers.{given}
 use Rattle.papaya_scenes.specs.Given.Tables.Nodes.{deferred_word}
 use Rattle.papaya_scenes.specs.Given.Tables.declared.node.Node.{Node}
 use Rattle.papaya_scenes.specs.Given.Tables.declared.resize_mode.ResizeMode.TheVariants as mode
@@ -72,15 +73,19 @@ slots_alone slot call.Refresh = tt
 slots_alone slot call.Flush = tt
 slots_alone slot call.Unregister = tt
 
+given_there : {X : Type 0} (b : Bool) (x : X) → b ≡ true → is_none (given b x) ≡ false
+given_there true x e = refl
+given_there false x e = absurd (cc e)
+
 module _ {T : Type 0} (defers : T → Option ℕ) (size i slot : ℕ) (w w2 : World T) where
   pub begun_there : (called : SlotCall) → Begins defers size i (request_of slot called) w w2 → is_none (row_begun defers size i (request_of slot called) w) ≡ false
   begun_there (call.Register enters) h = refl
-  begun_there call.Enter h = ap (λ (u : Use). is_none (row_begun defers size i (Enter' slot) (record w { uses = with_at w.uses slot u }))) h.0
-  begun_there call.Leave h = grind (arith, h.0)
-  begun_there call.LeaveOwned h = grind (arith, h.0)
-  begun_there call.Refresh h = grind (arith, h.0)
-  begun_there call.Unregister h = grind (arith, h.0)
-  begun_there call.Flush h = grind (arith, taken_so (w.uses slot) h.0)
+  begun_there call.Enter h = given_there (is_outside (w.uses slot)) _ (ap is_outside h.0)
+  begun_there call.Leave h = given_there (is_inside (w.uses slot)) _ (ap is_inside h.0)
+  begun_there call.LeaveOwned h = given_there (is_inside (w.uses slot)) _ (ap is_inside h.0)
+  begun_there call.Refresh h = given_there (is_inside (w.uses slot)) _ (ap is_inside h.0)
+  begun_there call.Unregister h = given_there (is_outside (w.uses slot)) _ (ap is_outside h.0)
+  begun_there call.Flush h = given_there (is_taken (w.uses slot)) _ (taken_so (w.uses slot) h.0)
 
 module _ {K V S : Type 0} (same : K → K → Bool) (hash : K → ℕ) (e : Executor K V S) (s : Scene K V) (at : IsThere same hash e s) (i : ℕ) where
   module _ (fresh : work_of e i ≡ None) where
@@ -97,8 +102,8 @@ module _ {K V S : Type 0} (same : K → K → Bool) (hash : K → ℕ) (e : Exec
     pub at_rest : rests (s.world.row i) ≡ true
     at_rest = ap rests (subst (λ (x : Option (Work K V)). HasRow x (s.world.row i)) fresh (at.rows i))
 
-  pub is_inside : use_at e (slot_of i) ≡ used.Inside → is_within (s.world.uses (slot_of i)) ≡ true
-  is_inside inside = within_so (s.world.uses (slot_of i)) (subst (λ (v : SlotUse). IsUsedAs v (s.world.uses (slot_of i))) inside (at.uses (slot_of i)))
+  pub is_entered : use_at e (slot_of i) ≡ used.Inside → is_within (s.world.uses (slot_of i)) ≡ true
+  is_entered inside = within_so (s.world.uses (slot_of i)) (subst (λ (v : SlotUse). IsUsedAs v (s.world.uses (slot_of i))) inside (at.uses (slot_of i)))
 
   -- a map with the number that comes next is neither there nor made
   pub no_map_yet : is_none (s.maps (length e.maps.items)) ≡ true
@@ -109,9 +114,6 @@ module _ {K V S : Type 0} (same : K → K → Bool) (hash : K → ℕ) (e : Exec
 
 -- where the call of one more stands together with all others, few have calls with it
 module _ {K V S : Type 0} (same : K → K → Bool) (hash : S → K → ℕ) (batch_size roots : ℕ) (s : Scene K V) (m i : ℕ) (u : UnderWay K V K) (all : AllStand same hash batch_size roots slot_of (scene_with m i u s)) where
-  calls_on : ℕ → Option (UnderWay K V K)
-  calls_on j = with_call s.calls m i (Some u) m j
-
   has_one : (j : ℕ) → (j ≡ i) ⊎ HasCall (s.calls m) j → HasCall (with_call s.calls m i (Some u) m) j
   has_one j has none = by (cases_eq j i) has
     where

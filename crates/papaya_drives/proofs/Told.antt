@@ -1,15 +1,16 @@
 -- A step of which is told what it has changed is computed, from what the memory was seen to choose: and so is what it has changed. What an operation has
 -- answered is told by the memory before it and after it.
-use Rattle.std.specs.Prelude.{◌≢◌, ◌⊎◌, ◌<◌, ◌+◌, ◌*◌, ◌^◌, ◌==◌, ◌++◌, Option, Some, None, Ok, Err, length, replicate, if◌then◌else◌}
+use Rattle.std.specs.Prelude.{◌≢◌, ◌⊎◌, ◌<◌, ◌+◌, ◌*◌, ◌^◌, ◌==◌, ◌++◌, Option, Some, None, Result, Ok, Err, length, replicate, if◌then◌else◌}
 use Rattle.std.proofs.Common.{◌≡◌, ℕ, Bool, true, false, List, inl, inr, refl, sym, ap, subst, arith, ◌∙◌}
-use Rattle.std.proofs.lemmas.Bool.{cases_eq, ne_eqb}
+use Rattle.std.proofs.lemmas.Bool.{cases_eq, eq-eqb, ne_eqb}
 use Rattle.std.proofs.lemmas.List.{length-append, length-replicate}
 use Rattle.papaya_scenes.specs.Given.SeizeWords.Mem.{Mem, Can, Gives, Took, after, block_of, fresh, value_at}
 use Rattle.papaya_scenes.specs.Given.SeizeWords.Op.{Op, Out, Load, Store, Swap, Add, Or, Exchange, Make, Take, Rewrite, Room, Found, Stored, Exchanged, Made, Taken, Roomed}
 use Rattle.papaya_scenes.specs.Given.SeizeWords.Place.{capacity}
 use Rattle.papaya_scenes.specs.Given.SeizeWords.Plan.{Plan, Then, Turn, Do, Now, Seeing, Sure, Ends, May, Steps}
 use Rattle.papaya_scenes.specs.Given.SeizeWords.SlotWords.{with_bucket}
-use Rattle.papaya_scenes.specs.Given.SeizeWords.declared.block.Block.{Block}
+use Rattle.papaya_scenes.specs.Given.SeizeWords.declared.fault.Fault.{Fault}
+use Rattle.papaya_scenes.specs.Given.SeizeWords.declared.slots.TheConstants.{SLOT_WORDS}
 use Rattle.papaya_scenes.proofs.Given.SeizeWords.OneOwner.AfterWrites.{block_of-made}
 use Rattle.seize_acts.specs.Answers.{Grant, answer, ends, stepped, then_on}
 use Rattle.seize_acts.proofs.Answers.{same_some, some}
@@ -48,7 +49,7 @@ module _ {T : Type 0} where
           one_none h = cc h
 
           found : (k : ℕ) → (if k == k then Some (fresh value words) else block_of m k) ≡ Some (fresh value words)
-          found k = grind arith
+          found k = ap (λ (t : Bool). if t then Some (fresh value words) else block_of m k) (eq-eqb k k refl)
 
   is_there : (m : Mem T) (value : T) (words b : ℕ) → Gives m (Make value words) (Made (Ok b)) → after m (Make value words) (Made (Ok b)) ≡ m → ⊥
   is_there m value words b is same = one_none (sym found ∙ sym (block_of-made m value words b b is.0) ∙ ap (λ (x : Mem T). block_of x b) same ∙ is.0.0)
@@ -57,14 +58,46 @@ module _ {T : Type 0} where
       one_none h = cc h
 
       found : (if b == b then Some (fresh value words) else block_of m b) ≡ Some (fresh value words)
-      found = grind arith
+      found = ap (λ (t : Bool). if t then Some (fresh value words) else block_of m b) (eq-eqb b b refl)
 
   -- a bucket that was made is there
   is_longer : (slots : List (List ℕ)) (bucket : ℕ) → length slots + 32 ≡ capacity bucket → with_bucket slots bucket ≡ slots → ⊥
   is_longer slots bucket next same =
-      let more : with_bucket slots bucket ≡ slots ++ replicate (capacity bucket) _ = grind (arith, next) in
-      let long : length (slots ++ replicate (capacity bucket) _) ≡ length slots + capacity bucket = length-append slots (replicate (capacity bucket) _) ∙ ap (λ (x : ℕ). length slots + x) (length-replicate (capacity bucket) _) in
-      omega (arith, ap length (sym more ∙ same), long, next)
+      let more : with_bucket slots bucket ≡ slots ++ replicate (capacity bucket) (replicate SLOT_WORDS 0) =
+      ap (λ (b : Bool). if b then slots ++ replicate (capacity bucket) (replicate SLOT_WORDS 0) else slots) (eq-eqb (length slots + 32) (capacity bucket) next) in
+      let long : length (slots ++ replicate (capacity bucket) (replicate SLOT_WORDS 0)) ≡ length slots + length (replicate (capacity bucket) (replicate SLOT_WORDS 0)) =
+      length-append slots (replicate (capacity bucket) (replicate SLOT_WORDS 0)) in
+      let count : length (replicate (capacity bucket) (replicate SLOT_WORDS 0)) ≡ capacity bucket = length-replicate (capacity bucket) (replicate SLOT_WORDS 0) in
+      omega (arith, ap length (sym more ∙ same), long, count, next)
+
+  -- what a make answers, and what one answers that asks for room
+  made_is : (m : Mem T) (value : T) (words : ℕ) (out : Out T) → Gives m (Make value words) out → (r : Result ℕ T) × (out ≡ Made r)
+  made_is m value words (Made r) gives = (r, refl)
+  made_is m value words (Found w) gives = absurd gives
+  made_is m value words Stored gives = absurd gives
+  made_is m value words (Exchanged w) gives = absurd gives
+  made_is m value words (Taken v) gives = absurd gives
+  made_is m value words (Roomed r) gives = absurd gives
+
+  roomed_is : (m : Mem T) (bucket : ℕ) (out : Out T) → Gives m (Room bucket) out → (r : Result Unit Fault) × (out ≡ Roomed r)
+  roomed_is m bucket (Roomed r) gives = (r, refl)
+  roomed_is m bucket (Found w) gives = absurd gives
+  roomed_is m bucket Stored gives = absurd gives
+  roomed_is m bucket (Exchanged w) gives = absurd gives
+  roomed_is m bucket (Taken v) gives = absurd gives
+  roomed_is m bucket (Made r) gives = absurd gives
+
+  one_made : (m n : Mem T) (value : T) (words : ℕ) (r q : Result ℕ T) → Took m (Make value words) (Made r) n → Took m (Make value words) (Made q) n → r ≡ q
+  one_made m n value words (Ok b) (Ok c) h k = ap (λ (x : ℕ). Ok x) (one_number m value words b c h.0 k.0 (sym h.1 ∙ k.1))
+  one_made m n value words (Ok b) (Err back) h k = absurd (is_there m value words b h.0 (sym h.1 ∙ k.1))
+  one_made m n value words (Err back) (Ok c) h k = absurd (is_there m value words c k.0 (sym k.1 ∙ h.1))
+  one_made m n value words (Err back) (Err again) h k = ap (λ (x : T). Err x) (h.0 ∙ sym k.0)
+
+  one_roomed : (m n : Mem T) (bucket : ℕ) (r q : Result Unit Fault) → Took m (Room bucket) (Roomed r) n → Took m (Room bucket) (Roomed q) n → r ≡ q
+  one_roomed m n bucket (Ok made) (Ok again) h k = refl
+  one_roomed m n bucket (Ok made) (Err fault) h k = absurd (is_longer m.slots bucket k.0.1 (ap (λ (x : Mem T). x.slots) (sym h.1 ∙ k.1)))
+  one_roomed m n bucket (Err fault) (Ok made) h k = absurd (is_longer m.slots bucket h.0.1 (ap (λ (x : Mem T). x.slots) (sym k.1 ∙ h.1)))
+  one_roomed m n bucket (Err fault) (Err again) h k = ap (λ (x : Fault). Err x) (h.0.0 ∙ sym k.0.0)
 
   -- So an operation that leads from one memory to another one has answered one thing.
   pub took_once : (m n : Mem T) (op : Op T) (out other : Out T) → Can m op → Took m op out n → Took m op other n → out ≡ other
@@ -77,14 +110,14 @@ module _ {T : Type 0} where
       same_by (answer m None (Exchange at old new)) out other (answered_so m (Exchange at old new) out can h.0).1 (answered_so m (Exchange at old new) other can k.0).1
   took_once m n (Take b) out other can h k = same_by (answer m None (Take b)) out other (answered_so m (Take b) out can h.0).1 (answered_so m (Take b) other can k.0).1
   took_once m n (Rewrite b value) out other can h k = same_by (answer m None (Rewrite b value)) out other (answered_so m (Rewrite b value) out can h.0).1 (answered_so m (Rewrite b value) other can k.0).1
-  took_once m n (Make value words) (Made (Ok b)) (Made (Ok c)) can h k = ap (λ (x : ℕ). Made (Ok x)) (one_number m value words b c h.0 k.0 (sym h.1 ∙ k.1))
-  took_once m n (Make value words) (Made (Ok b)) (Made (Err back)) can h k = absurd (is_there m value words b h.0 (sym h.1 ∙ k.1))
-  took_once m n (Make value words) (Made (Err back)) (Made (Ok c)) can h k = absurd (is_there m value words c k.0 (sym k.1 ∙ h.1))
-  took_once m n (Make value words) (Made (Err back)) (Made (Err again)) can h k = ap (λ (x : T). Made (Err x)) (h.0 ∙ sym k.0)
-  took_once m n (Room bucket) (Roomed (Ok made)) (Roomed (Ok again)) can h k = refl
-  took_once m n (Room bucket) (Roomed (Ok made)) (Roomed (Err fault)) can h k = absurd (is_longer m.slots bucket k.0.1 (ap (λ (x : Mem T). x.slots) (sym h.1 ∙ k.1)))
-  took_once m n (Room bucket) (Roomed (Err fault)) (Roomed (Ok made)) can h k = absurd (is_longer m.slots bucket h.0.1 (ap (λ (x : Mem T). x.slots) (sym k.1 ∙ h.1)))
-  took_once m n (Room bucket) (Roomed (Err fault)) (Roomed (Err again)) can h k = ap (λ x. Roomed (Err x)) (h.0.0 ∙ sym k.0.0)
+  took_once m n (Make value words) out other can h k =
+      let r = made_is m value words out h.0 in
+      let q = made_is m value words other k.0 in
+      r.1 ∙ ap Made (one_made m n value words r.0 q.0 (subst (λ (o : Out T). Took m (Make value words) o n) r.1 h) (subst (λ (o : Out T). Took m (Make value words) o n) q.1 k)) ∙ sym q.1
+  took_once m n (Room bucket) out other can h k =
+      let r = roomed_is m bucket out h.0 in
+      let q = roomed_is m bucket other k.0 in
+      r.1 ∙ ap Roomed (one_roomed m n bucket r.0 q.0 (subst (λ (o : Out T). Took m (Room bucket) o n) r.1 h) (subst (λ (o : Out T). Took m (Room bucket) o n) q.1 k)) ∙ sym q.1
 
   -- and has come to one outcome
   pub ends_once : {R : Type 0} (shown : ℕ → Option T) (rest : Then T R) (end other : R) → Ends shown rest end → Ends shown rest other → end ≡ other

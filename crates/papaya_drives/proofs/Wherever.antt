@@ -36,7 +36,7 @@ use Rattle.papaya_executor.specs.IsThere.{HasRow, IsThere, IsUsedAs, StaysGiven,
 use Rattle.papaya_acts.specs.Acts.{Act, Answer, BeginsCall, StepsCall, TellsCall, AsksCall, StopsCall, BeginsMaking, StepsMaking, BeginsEnding, StepsEnding, BeginsRow, StepsRow}
 use Rattle.papaya_acts.specs.AsSteps.{IsOwn, changed_by, held_in}
 use Rattle.papaya_acts.specs.Courses.{AreAlike, set_up}
-use Rattle.papaya_acts.specs.Leads.{AllStand, EndingCame, Led, MakingCame, MayBe}
+use Rattle.papaya_acts.specs.Leads.{AllStand, EndingCame, Led, MakingCame, MayBe, ending_steps, making_steps}
 use Rattle.papaya_acts.proofs.AsSteps.All.{acts_lead_as_steps}
 use Rattle.papaya_acts.proofs.Courses.{by_act}
 
@@ -108,7 +108,7 @@ module _ {K V S : Type 0} (same : K → K → Bool) (hash : S → K → ℕ) (ba
   uses_both (StepsMaking i g) may told said (b, makes, m2, machine, end, computed, told_is, did, came) (b2, makes2, m3, machine2, end2, computed2, told_is2, did2, came2) so =
       let one : b ≡ b2 = same_some b b2 (sym makes ∙ makes2) in
       let step : ◌≡◌ {A = Mem (Node K V) × (NewMap × Progress Setting)} (m2, (machine, end)) (m3, (machine2, end2)) = same_some (m2, (machine, end)) (m3, (machine2, end2))
-      (subst (λ (x : Beginning K). _ ≡ Some (m2, (machine, end))) one (sym computed) ∙ computed2) in
+      (sym computed ∙ ap (λ (x : Beginning K). making_steps same hash batch_size roots slot_of s g x) one ∙ computed2) in
       made_uses i b did.step.w2 did2.step.w2 machine machine2 (events_uses batch_size did.step.events s.world did.step.w2 did.step.users did.step.runs)
       (events_uses batch_size did2.step.events s.world did2.step.w2 did2.step.users did2.step.runs) end came
       (subst (λ (x : Mem (Node K V) × (NewMap × Progress Setting)). MakingCame same hash batch_size roots slot_of s i b did2.step.w2 machine2 n x.1.1) (sym step)
@@ -117,7 +117,7 @@ module _ {K V S : Type 0} (same : K → K → Bool) (hash : S → K → ℕ) (ba
   uses_both (StepsEnding i g) may told said (f, ends, m2, machine, end, computed, told_is, did, came) (f2, ends2, m3, machine2, end2, computed2, told_is2, did2, came2) so =
       let one : f ≡ f2 = same_some f f2 (sym ends ∙ ends2) in
       let step : ◌≡◌ {A = Mem (Node K V) × (EndMap × Settled (Node K V))} (m2, (machine, end)) (m3, (machine2, end2)) = same_some (m2, (machine, end)) (m3, (machine2, end2))
-      (sym computed ∙ subst (λ (x : Finishing K V). _ ≡ Some (m3, (machine2, end2))) (sym one) computed2) in
+      (sym computed ∙ ap (λ (x : Finishing K V). ending_steps same hash batch_size roots slot_of s g x) one ∙ computed2) in
       ended_uses i f did.w2 did2.w2 did.deed did2.deed machine machine2 did.spares.uses did2.spares.uses end came
       (subst (λ (x : Mem (Node K V) × (EndMap × Settled (Node K V))). EndingCame same hash batch_size roots slot_of s i f did2.w2 did2.deed machine2 n x.1.1) (sym step)
       (subst (λ (x : Finishing K V). EndingCame same hash batch_size roots slot_of s i x did2.w2 did2.deed machine2 n end2) (sym one) came2)) so
