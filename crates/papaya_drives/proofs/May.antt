@@ -10,9 +10,7 @@ use Rattle.seize_acts.specs.Acts.{begun as row_begun, is_inside, is_outside, is_
 use Rattle.seize_acts.specs.Answers.{given}
 use Rattle.papaya_scenes.specs.Given.Tables.Nodes.{deferred_word}
 use Rattle.papaya_scenes.specs.Given.Tables.declared.node.Node.{Node}
-use Rattle.papaya_scenes.specs.Given.Tables.declared.resize_mode.ResizeMode.TheVariants as mode
 use Rattle.papaya_scenes.specs.Given.Tables.declared.setting.Setting.{Setting}
-use Rattle.papaya_scenes.specs.Given.Resize.Modes.{is_incremental}
 use Rattle.papaya_scenes.specs.Given.Callers.Claims.{AreFew}
 use Rattle.papaya_scenes.specs.Given.Callers.Together.{HasCall, IsOfSlots, UnderWay}
 use Rattle.papaya_scenes.proofs.Given.Callers.Together.At.{at_other, at_same}

@@ -21,6 +21,16 @@ use Rattle.papaya_scenes.specs.Given.Teller.declared.changed.Changed.{Changed}
 use Rattle.papaya_scenes.specs.Given.Teller.declared.changed.Changed.TheVariants.{Nothing as NoChange}
 use Rattle.papaya_acts.specs.AsSteps.{changed_as, changed_of}
 
+-- a bucket that was made is there
+is_longer : (slots : List (List ℕ)) (bucket : ℕ) → length slots + 32 ≡ capacity bucket → with_bucket slots bucket ≡ slots → ⊥
+is_longer slots bucket next same =
+    let more : with_bucket slots bucket ≡ slots ++ replicate (capacity bucket) (replicate SLOT_WORDS 0) =
+    ap (λ (b : Bool). if b then slots ++ replicate (capacity bucket) (replicate SLOT_WORDS 0) else slots) (eq-eqb (length slots + 32) (capacity bucket) next) in
+    let long : length (slots ++ replicate (capacity bucket) (replicate SLOT_WORDS 0)) ≡ length slots + length (replicate (capacity bucket) (replicate SLOT_WORDS 0)) =
+    length-append slots (replicate (capacity bucket) (replicate SLOT_WORDS 0)) in
+    let count : length (replicate (capacity bucket) (replicate SLOT_WORDS 0)) ≡ capacity bucket = length-replicate (capacity bucket) (replicate SLOT_WORDS 0) in
+    omega (arith, ap length (sym more ∙ same), long, count, next)
+
 module _ {T : Type 0} where
   -- what was seen to be answered is computed so, with some choice
   pub answered_so : (m : Mem T) (op : Op T) (out : Out T) → Can m op → Gives m op out → (g : Grant) × (answer m g op ≡ Some out)
@@ -59,16 +69,6 @@ module _ {T : Type 0} where
 
       found : (if b == b then Some (fresh value words) else block_of m b) ≡ Some (fresh value words)
       found = ap (λ (t : Bool). if t then Some (fresh value words) else block_of m b) (eq-eqb b b refl)
-
-  -- a bucket that was made is there
-  is_longer : (slots : List (List ℕ)) (bucket : ℕ) → length slots + 32 ≡ capacity bucket → with_bucket slots bucket ≡ slots → ⊥
-  is_longer slots bucket next same =
-      let more : with_bucket slots bucket ≡ slots ++ replicate (capacity bucket) (replicate SLOT_WORDS 0) =
-      ap (λ (b : Bool). if b then slots ++ replicate (capacity bucket) (replicate SLOT_WORDS 0) else slots) (eq-eqb (length slots + 32) (capacity bucket) next) in
-      let long : length (slots ++ replicate (capacity bucket) (replicate SLOT_WORDS 0)) ≡ length slots + length (replicate (capacity bucket) (replicate SLOT_WORDS 0)) =
-      length-append slots (replicate (capacity bucket) (replicate SLOT_WORDS 0)) in
-      let count : length (replicate (capacity bucket) (replicate SLOT_WORDS 0)) ≡ capacity bucket = length-replicate (capacity bucket) (replicate SLOT_WORDS 0) in
-      omega (arith, ap length (sym more ∙ same), long, count, next)
 
   -- what a make answers, and what one answers that asks for room
   made_is : (m : Mem T) (value : T) (words : ℕ) (out : Out T) → Gives m (Make value words) out → (r : Result ℕ T) × (out ≡ Made r)

@@ -11,7 +11,7 @@ use Rattle.papaya_named.specs.declared.caller.Caller.{Caller}
 use Rattle.papaya_deeds.specs.Deeds.{Entry as Act}
 use Rattle.papaya_played.specs.Play.{State}
 use Rattle.papaya_grouped.specs.Grouping.{ComesTo, IsGroupingOf, MayHave, Names, effects_in, is_step, names_after, names_on, steps_in}
-use Rattle.papaya_grouped.specs.SoFar.{IsCalledAs, PlaysSo}
+use Rattle.papaya_grouped.specs.SoFar.{CallersAre, PlaysSo}
 
 -- The event has done this so far, by so many steps of a call, and the last one came to this; callers are as they were played.
 pub record InEvent {K V S : Type 0} (log : List (Entry K V)) (event : Event K V) (did : List Effect) (steps : ℕ) (outcome : Outcome V) (calls : List (Caller V)) (x : State K V S) : Type 0 where
@@ -24,7 +24,7 @@ pub record InEvent {K V S : Type 0} (log : List (Entry K V)) (event : Event K V)
   pub counts : steps ≡ steps_in piece
   pub comes : ComesTo piece outcome
   pub deeds : AllByRecursion (λ a. MayHave (names_after event piece known) (moment log) event a.deed) piece
-  pub callers : AllByRecursion (IsCalledAs (names_after event piece known) x) calls
+  pub callers : CallersAre (names_after event piece known) calls x
 
 module _ {K V S : Type 0} (log : List (Entry K V)) (event : Event K V) where
   -- it begins with nothing done
@@ -47,7 +47,7 @@ module _ {K V S : Type 0} (log : List (Entry K V)) (event : Event K V) where
     names = names_after event so.piece so.known
 
     -- it goes on by a step of a call
-    pub event_steps : is_step entry.deed ≡ true → names_on event entry.deed names ≡ names → MayHave names (moment log) event entry.deed → AllByRecursion (IsCalledAs names y) calls2
+    pub event_steps : is_step entry.deed ≡ true → names_on event entry.deed names ≡ names → MayHave names (moment log) event entry.deed → CallersAre names calls2 y
         → InEvent log event (did ++ entry.effects) (1 + steps) entry.outcome calls2 y
     event_steps is same_names may callers = record {
       known = so.known;
@@ -59,11 +59,11 @@ module _ {K V S : Type 0} (log : List (Entry K V)) (event : Event K V) where
       counts = ap (λ (n : ℕ). 1 + n) so.counts ∙ sym (grind (arith, is));
       comes = refl;
       deeds = subst (λ (n : Names). AllByRecursion (λ a. MayHave n (moment log) event a.deed) (entry ∷ so.piece)) (sym same_names) (may, so.deeds);
-      callers = subst (λ (n : Names). AllByRecursion (IsCalledAs n y) calls2) (sym same_names) callers;
+      callers = subst (λ (n : Names). CallersAre n calls2 y) (sym same_names) callers;
     }
 
     -- or by what is none
-    pub event_goes_on : is_step entry.deed ≡ false → names_on event entry.deed names ≡ names → MayHave names (moment log) event entry.deed → AllByRecursion (IsCalledAs names y) calls2
+    pub event_goes_on : is_step entry.deed ≡ false → names_on event entry.deed names ≡ names → MayHave names (moment log) event entry.deed → CallersAre names calls2 y
         → InEvent log event (did ++ entry.effects) steps entry.outcome calls2 y
     event_goes_on is same_names may callers = record {
       known = so.known;
@@ -75,5 +75,5 @@ module _ {K V S : Type 0} (log : List (Entry K V)) (event : Event K V) where
       counts = so.counts ∙ sym (grind (arith, is));
       comes = refl;
       deeds = subst (λ (n : Names). AllByRecursion (λ a. MayHave n (moment log) event a.deed) (entry ∷ so.piece)) (sym same_names) (may, so.deeds);
-      callers = subst (λ (n : Names). AllByRecursion (IsCalledAs n y) calls2) (sym same_names) callers;
+      callers = subst (λ (n : Names). CallersAre n calls2 y) (sym same_names) callers;
     }

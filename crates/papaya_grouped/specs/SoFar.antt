@@ -1,6 +1,5 @@
 -- That a scheduler stands where a list of acts has led, of which the log so far is the grouping; and what is promised of an event then.
-use Rattle.std.specs.Prelude.{◌≡◌, ◌<◌, ◌^◌, ℕ, Bool, false, List, ◌∷◌, Some}
-use Rattle.std.specs.List.{AllByRecursion}
+use Rattle.std.specs.Prelude.{◌≡◌, ℕ, Bool, false, List, ◌∷◌, Option, Some, slice_get}
 use Rattle.papaya_schedules.specs.declared.event.Event.{Event}
 use Rattle.papaya_schedules.specs.After.{moment}
 use Rattle.papaya_schedules.specs.Entry.{Entry}
@@ -25,11 +24,16 @@ module _ {K V S : Type 0} where
     pub kind : kind_of call.call ≡ d.kind
     pub value : call.value ≡ d.value
 
+  -- so is each caller, and each has a number of its own
+  pub record CallersAre (names : Names) (calls : List (Caller V)) (x : State K V S) : Type 0 where
+    pub each : (place : ℕ) (d : Caller V) → slice_get calls place ≡ Some d → IsCalledAs names x d
+    pub apart : (place other : ℕ) (d c : Caller V) → slice_get calls place ≡ Some d → slice_get calls other ≡ Some c → d.number ≡ c.number → place ≡ other
+
   -- The log is the grouping of the history that was played, and callers are as they were played.
   pub record PlaysSo (log : List (Entry K V)) (calls : List (Caller V)) (x : State K V S) : Type 0 where
     pub names : Names
     pub grouping : IsGroupingOf log x.history names
-    pub callers : AllByRecursion (IsCalledAs names x) calls
+    pub callers : CallersAre names calls x
 
   module _ (same : K → K → Bool) (by_hasher : S → K → ℕ) (terms : Terms) where
     -- A list of acts has led where the executor is, and played, it has a history of which the log is the grouping.
