@@ -32,6 +32,7 @@ use Rattle.papaya_scenes.specs.Given.Raw.EndMap.{end_map_plan}
 use Rattle.papaya_scenes.specs.Given.Raw.Machine.{machine_asked, machine_plan, machine_replied}
 use Rattle.papaya_scenes.specs.Given.Raw.declared.machines.asking.Reply.{Reply}
 use Rattle.papaya_scenes.specs.Given.Raw.declared.machines.end_map.EndMap.{EndMap}
+use Rattle.papaya_scenes.specs.Given.Raw.declared.machines.machine.Machine.{Machine}
 use Rattle.papaya_scenes.specs.Given.Raw.declared.machines.progress.Progress.{Progress as CallProgress}
 use Rattle.papaya_scenes.specs.Given.Teller.Tells.{StepsTold}
 use Rattle.papaya_scenes.specs.Given.Teller.declared.changed.Changed.TheVariants.{Nothing as NoChange}
@@ -115,7 +116,8 @@ module _ {K V S : Type 0} (same : K → K → Bool) (hash : S → K → ℕ) (e 
   computed : {R : Type 0} (plan : Plan (Node K V) R) (end : R) → May Can Took value_at s.world.memory plan
       → StepsTold K V R e.memory.memory NoChange plan e2.memory.memory e2.memory.changed end → (g : Grant) × IsComputed e e2 plan end g
   computed plan end can st =
-      told_so e.memory.memory plan e2.memory.memory e2.memory.changed end (subst (λ (m : Mem (Node K V)). May Can Took value_at m plan) at.held.memory can) st
+      let so = told_so e.memory.memory plan e2.memory.memory e2.memory.changed end (subst (λ (m : Mem (Node K V)). May Can Took value_at m plan) at.held.memory can) st in
+      (so.0, (so.1, so.2))
 
   -- and so it is in the memory of the scene, which is that of the executor
   in_scene : {R : Type 0} (plan : Plan (Node K V) R) (end : R) (g : Grant) → IsComputed e e2 plan end g
@@ -131,6 +133,9 @@ module _ {K V S : Type 0} (same : K → K → Bool) (hash : S → K → ℕ) (e 
   call_there m standing u stands here =
       ap (λ (o : Option (Standing K)). then_on o (λ it. then_on (s.calls m i) (λ v. Some (it, v)))) stands ∙ ap (λ (o : Option (UnderWay K V K)). then_on o (λ v. Some (standing, v))) here
 
+  there_call : (m : ℕ) (u : UnderWay K V K) → s.calls m i ≡ Some u → is_none (call_at s i m) ≡ false
+  there_call m u here = let it = may.standing m i u here in ap is_none (call_there m it.0 u it.1 here)
+
   step : (told : CallProgress (Node K V)) → StepsThere same (hash e.hasher) i told s e e2 → (m : ℕ) (u : UnderWay K V K) → s.calls m i ≡ Some u
       → (machine : Machine K V K) × AreSteps same hash e e2 s (IsComputed e e2 (machine_plan same same (hash e.hasher) (machine_of u)) (machine, told)) (StepsCall i m) (OfCall told)
   step told leads m u here =
@@ -142,25 +147,27 @@ module _ {K V S : Type 0} (same : K → K → Bool) (hash : S → K → ℕ) (e 
       to.3 in
       let at_it = call_there m to.0 u to.2 here in (
         to.1,
-        computed plan (to.1, told) can st,
-        λ g is.
-            (let so = subst (λ (h : K → ℕ). (stepped s.world.memory g (machine_plan same same h (machine_of u)) ≡ Some (e2.memory.memory, (to.1, told)))
-            × (changed_of s.world.memory g (machine_plan same same h (machine_of u)) ≡ e2.memory.changed)) (sym hashed) (in_scene plan (to.1, told) g is) in (
-              acts (StepsCall i m g) tt (steps_there (call_at s i m) (call_steps same hash e.batch_size e.roots slot_of s g) (to.0, u) (e2.memory.memory, (to.1, told)) at_it so.0) (OfCall told) _ (record {
-                standing = to.0;
-                stands = to.2;
-                call = u;
-                here = here;
-                memory = e2.memory.memory;
-                machine = to.1;
-                progress = told;
-                computed = so.0;
-                tells = refl;
-                did = to.4;
-                comes = refl;
-              }) to.5,
-              ap (λ (o : Option (Standing K × UnderWay K V K)). option_map_or (λ it. changed_of s.world.memory g (machine_plan same same it.0.hash (machine_of it.1))) o NoChange) at_it ∙ so.1,
-            )),
+        (
+          computed plan (to.1, told) can st,
+          λ g is.
+              (let so = subst (λ (h : K → ℕ). (stepped s.world.memory g (machine_plan same same h (machine_of u)) ≡ Some (e2.memory.memory, (to.1, told)))
+              × (changed_of s.world.memory g (machine_plan same same h (machine_of u)) ≡ e2.memory.changed)) (sym hashed) (in_scene plan (to.1, told) g is) in (
+                acts (StepsCall i m g) tt (steps_there (call_at s i m) (call_steps same hash e.batch_size e.roots slot_of s g) (to.0, u) (e2.memory.memory, (to.1, told)) at_it so.0) (OfCall told) _ (record {
+                  standing = to.0;
+                  stands = to.2;
+                  call = u;
+                  here = here;
+                  memory = e2.memory.memory;
+                  machine = to.1;
+                  progress = told;
+                  computed = so.0;
+                  tells = refl;
+                  did = to.4;
+                  comes = refl;
+                }) to.5,
+                ap (λ (o : Option (Standing K × UnderWay K V K)). option_map_or (λ it. changed_of s.world.memory g (machine_plan same same it.0.hash (machine_of it.1))) o NoChange) at_it ∙ so.1,
+              )),
+        ),
       )
 
   -- A call that goes on as the same machine is there with what else it knows, too: what is said of calls alone is so by what was there before, and all else by what is there then.
@@ -248,9 +255,6 @@ module _ {K V S : Type 0} (same : K → K → Bool) (hash : S → K → ℕ) (e 
       subst (λ (x : ℕ). EndingsTogether V same same x e.roots slot_of n.world n.maps n.calls n.makers n.enders) stays.1
       (subst (λ (x : ℕ). EndingsTogether V same same e2.batch_size x slot_of n.world n.maps n.calls n.makers n.enders) stays.2 there.held.together)
 
-  there_call : (m : ℕ) (u : UnderWay K V K) → s.calls m i ≡ Some u → is_none (call_at s i m) ≡ false
-  there_call m u here = let it = may.standing m i u here in ap is_none (call_there m it.0 u it.1 here)
-
   pub calls_are_acts : CallsAreActs same hash e e2 s i
   calls_are_acts = record {
     begin = λ m machine leads fresh standing stands inside wanted as_machine.
@@ -287,13 +291,15 @@ module _ {K V S : Type 0} (same : K → K → Bool) (hash : S → K → ℕ) (e 
       let to = leads b makes in
       let comes = making_comes b to.0 told to.2 to.3 in (
         to.0,
-        computed (new_map_plan b.machine) (to.0, told) (may.makings i b makes) to.1,
-        λ g is.
-            (let so = in_scene (new_map_plan b.machine) (to.0, told) g is in (
-              acts (StepsMaking i g) tt (steps_there (s.makers i) (making_steps same hash e.batch_size e.roots slot_of s g) b (e2.memory.memory, (to.0, told)) makes so.0) (OfMaking told) comes.0
-                  (b, makes, e2.memory.memory, to.0, told, so.0, refl, to.2, comes.1) comes.2,
-              ap (λ (o : Option (Beginning K)). option_map_or (λ x. changed_of s.world.memory g (new_map_plan {K = K} {V = V} x.machine)) o NoChange) makes ∙ so.1,
-            )),
+        (
+          computed (new_map_plan b.machine) (to.0, told) (may.makings i b makes) to.1,
+          λ g is.
+              (let so = in_scene (new_map_plan b.machine) (to.0, told) g is in (
+                acts (StepsMaking i g) tt (steps_there (s.makers i) (making_steps same hash e.batch_size e.roots slot_of s g) b (e2.memory.memory, (to.0, told)) makes so.0) (OfMaking told) comes.0
+                    (b, makes, e2.memory.memory, to.0, told, so.0, refl, to.2, comes.1) comes.2,
+                ap (λ (o : Option (Beginning K)). option_map_or (λ x. changed_of s.world.memory g (new_map_plan {K = K} {V = V} x.machine)) o NoChange) makes ∙ so.1,
+              )),
+        ),
       )
 
   ending_comes : (f : Finishing K V) (machine : EndMap) (told : Settled (Node K V)) (did : StepsOfEnding V same same e.batch_size e.roots slot_of s.world s.maps s.calls s.makers s.enders i f e2.memory.memory (machine, told))
@@ -310,13 +316,15 @@ module _ {K V S : Type 0} (same : K → K → Bool) (hash : S → K → ℕ) (e 
       let to = leads f ends in
       let comes = ending_comes f to.0 told to.2 to.3 in (
         to.0,
-        computed (end_map_plan f.machine) (to.0, told) (may.endings i f ends) to.1,
-        λ g is.
-            (let so = in_scene (end_map_plan f.machine) (to.0, told) g is in (
-              acts (StepsEnding i g) tt (steps_there (s.enders i) (ending_steps same hash e.batch_size e.roots slot_of s g) f (e2.memory.memory, (to.0, told)) ends so.0) (OfEnding told) comes.0
-                  (f, ends, e2.memory.memory, to.0, told, so.0, refl, to.2, comes.1) comes.2,
-              ap (λ (o : Option (Finishing K V)). option_map_or (λ x. changed_of s.world.memory g (end_map_plan {K = K} {V = V} x.machine)) o NoChange) ends ∙ so.1,
-            )),
+        (
+          computed (end_map_plan f.machine) (to.0, told) (may.endings i f ends) to.1,
+          λ g is.
+              (let so = in_scene (end_map_plan f.machine) (to.0, told) g is in (
+                acts (StepsEnding i g) tt (steps_there (s.enders i) (ending_steps same hash e.batch_size e.roots slot_of s g) f (e2.memory.memory, (to.0, told)) ends so.0) (OfEnding told) comes.0
+                    (f, ends, e2.memory.memory, to.0, told, so.0, refl, to.2, comes.1) comes.2,
+                ap (λ (o : Option (Finishing K V)). option_map_or (λ x. changed_of s.world.memory g (end_map_plan {K = K} {V = V} x.machine)) o NoChange) ends ∙ so.1,
+              )),
+        ),
       )
 
   row_may : MayStep deferred_word (s.world.row i) s.world.memory
@@ -395,13 +403,13 @@ module _ {K V S : Type 0} (same : K → K → Bool) (hash : S → K → ℕ) (e 
           let both : Some (machine_of u) ≡ None = sym (ap (option_map machine_of) here) ∙ at.calls m j ∙ ap (λ (x : Option (Work K V)). call_in x m) (nobody j is) in cc both
 
       by : (it : SlotCall) → MayBegin e (slot_of i) it → Closes (request_of (slot_of i) it) (slot_of j) → ⊥
-      by (call.Register enters) may closes = closes
-      by call.Enter may closes = closes
-      by call.Leave may closes = somebody may.1 closes
-      by call.LeaveOwned may closes = somebody may.1 closes
-      by call.Refresh may closes = somebody may.1 closes
-      by call.Flush may closes = closes
-      by call.Unregister may closes = closes
+      by (call.Register enters) so closes = closes
+      by call.Enter so closes = closes
+      by call.Leave so closes = somebody so.1 closes
+      by call.LeaveOwned so closes = somebody so.1 closes
+      by call.Refresh so closes = somebody so.1 closes
+      by call.Flush so closes = closes
+      by call.Unregister so closes = closes
 
   pub others_are_acts : OthersAreActs same hash e e2 s i
   others_are_acts = record {

@@ -22,14 +22,20 @@ use Rattle.papaya_scenes.specs.Given.Teller.declared.changed.Changed.TheVariants
 use Rattle.papaya_acts.specs.AsSteps.{changed_as, changed_of}
 
 -- a bucket that was made is there
+empty_slot : List ℕ
+empty_slot = replicate SLOT_WORDS 0
+
+no_longer : (slots more : List (List ℕ)) (bucket : ℕ) → length more ≡ capacity bucket → length slots + 32 ≡ capacity bucket → slots ++ more ≡ slots → ⊥
+no_longer slots more bucket count next same =
+    let long : length (slots ++ more) ≡ length slots + length more = length-append slots more in
+    let is : length (slots ++ more) ≡ length slots = ap length same in
+    omega (arith, is, long, count, next)
+
 is_longer : (slots : List (List ℕ)) (bucket : ℕ) → length slots + 32 ≡ capacity bucket → with_bucket slots bucket ≡ slots → ⊥
 is_longer slots bucket next same =
-    let more : with_bucket slots bucket ≡ slots ++ replicate (capacity bucket) (replicate SLOT_WORDS 0) =
-    ap (λ (b : Bool). if b then slots ++ replicate (capacity bucket) (replicate SLOT_WORDS 0) else slots) (eq-eqb (length slots + 32) (capacity bucket) next) in
-    let long : length (slots ++ replicate (capacity bucket) (replicate SLOT_WORDS 0)) ≡ length slots + length (replicate (capacity bucket) (replicate SLOT_WORDS 0)) =
-    length-append slots (replicate (capacity bucket) (replicate SLOT_WORDS 0)) in
-    let count : length (replicate (capacity bucket) (replicate SLOT_WORDS 0)) ≡ capacity bucket = length-replicate (capacity bucket) (replicate SLOT_WORDS 0) in
-    omega (arith, ap length (sym more ∙ same), long, count, next)
+    let more : with_bucket slots bucket ≡ slots ++ replicate (capacity bucket) empty_slot =
+    ap (λ (b : Bool). if b then slots ++ replicate (capacity bucket) empty_slot else slots) (eq-eqb (length slots + 32) (capacity bucket) next) in
+    no_longer slots (replicate (capacity bucket) empty_slot) bucket (length-replicate (capacity bucket) empty_slot) next (sym more ∙ same)
 
 module _ {T : Type 0} where
   -- what was seen to be answered is computed so, with some choice
