@@ -44,7 +44,7 @@ use Rattle.papaya_scenes.specs.Given.Finishes.Maps.{Standing, with_call}
 use Rattle.papaya_executor.specs.declared.executor.Executor.{Executor}
 use Rattle.papaya_acts.specs.Acts.{Act, Answer, Nothing, OfCall, OfReply, OfAsking, OfMaking, OfEnding, BeginsCall, StepsCall, TellsCall, AsksCall, StopsCall, BeginsMaking, StepsMaking, BeginsEnding, StepsEnding, BeginsRow, StepsRow, begun}
 use Rattle.papaya_acts.specs.AsSteps.{IsOwn, changed_of, row_changed}
-use Rattle.papaya_drives.specs.Executors.{IsAct, IsStep, AreSteps, IsComputed, RowIsComputed, CallsAreActs, OthersAreActs, ExecutorsAct}
+use Rattle.papaya_drives.specs.Executors.{IsAct, IsStep, AreSteps, Computes, IsComputed, RowIsComputed, CallsAreActs, OthersAreActs, ExecutorsAct}
 use Rattle.papaya_acts.specs.Leads.{AllStand, EndingCame, Led, MakingCame, MayBe, asked_on, call_at, call_steps, ending_steps, making_steps}
 use Rattle.papaya_acts.specs.Lists.{AllMayStep}
 use Rattle.papaya_drives.proofs.Begins.{wants}
@@ -125,6 +125,22 @@ module _ {K V S : Type 0} (same : K → K → Bool) (hash : S → K → ℕ) (e 
   in_scene plan end g is =
       subst (λ (m : Mem (Node K V)). (stepped m g plan ≡ Some (e2.memory.memory, end)) × (changed_of m g plan ≡ e2.memory.changed)) (sym at.held.memory) is
 
+  -- whichever choices compute a step, it comes to one end
+  one_end : {R : Type 0} (plan : Plan (Node K V) R) (end other : R) (g h : Grant) → May Can Took value_at s.world.memory plan → IsComputed e e2 plan end g → IsComputed e e2 plan other h → end ≡ other
+  one_end plan end other g h can is also =
+      steps_once s.world.memory e2.memory.memory plan end other can (was_stepped s.world.memory g plan (e2.memory.memory, end) (in_scene plan end g is).0)
+      (was_stepped s.world.memory h plan (e2.memory.memory, other) (in_scene plan other h also).0)
+
+  -- so it is of a machine, of which one step was told
+  computed_to : {M P : Type 0} (plan : Plan (Node K V) (M × P)) (machine : M) (told : P) → May Can Took value_at s.world.memory plan
+      → StepsTold K V (M × P) e.memory.memory NoChange plan e2.memory.memory e2.memory.changed (machine, told)
+      → ((g : Grant) × Computes e e2 plan told g) × ((g : Grant) → Computes e e2 plan told g → IsComputed e e2 plan (machine, told) g)
+  computed_to {M} {P} plan machine told can st =
+      let so = computed plan (machine, told) can st in (
+        (so.0, (machine, so.1)),
+        λ g it. subst (λ (x : M × P). IsComputed e e2 plan x g) (one_end plan (it.0, told) (machine, told) g so.0 can it.1 so.1) it.1,
+      )
+
   -- what is there may step
   steps_there : {X Y : Type 0} (o : Option X) (f : X → Option Y) (x : X) (y : Y) → o ≡ Some x → f x ≡ Some y → is_none (then_on o f) ≡ false
   steps_there o f x y is so = ap (λ (p : Option _). is_none (then_on p f)) is ∙ ap is_none so
@@ -137,7 +153,7 @@ module _ {K V S : Type 0} (same : K → K → Bool) (hash : S → K → ℕ) (e 
   there_call m u here = let it = may.standing m i u here in ap is_none (call_there m it.0 u it.1 here)
 
   step : (told : CallProgress (Node K V)) → StepsThere same (hash e.hasher) i told s e e2 → (m : ℕ) (u : UnderWay K V K) → s.calls m i ≡ Some u
-      → (machine : Machine K V K) × AreSteps same hash e e2 s (IsComputed e e2 (machine_plan same same (hash e.hasher) (machine_of u)) (machine, told)) (StepsCall i m) (OfCall told)
+      → AreSteps same hash e e2 s (Computes e e2 (machine_plan same same (hash e.hasher) (machine_of u)) told) (StepsCall i m) (OfCall told)
   step told leads m u here =
       let to = leads m u here in
       let hashed : to.0.hash ≡ hash e.hasher = at.held.hashes m to.0 to.2 in
@@ -145,29 +161,27 @@ module _ {K V S : Type 0} (same : K → K → Bool) (hash : S → K → ℕ) (e 
       let can = subst (λ (h : K → ℕ). May Can Took value_at s.world.memory (machine_plan same same h (machine_of u))) hashed (may.calls m i to.0 u to.2 here) in
       let st = subst (λ (h : K → ℕ). StepsTold K V (Machine K V K × CallProgress (Node K V)) e.memory.memory NoChange (machine_plan same same h (machine_of u)) e2.memory.memory e2.memory.changed (to.1, told)) hashed
       to.3 in
+      let all = computed_to plan to.1 told can st in
       let at_it = call_there m to.0 u to.2 here in (
-        to.1,
-        (
-          computed plan (to.1, told) can st,
-          λ g is.
-              (let so = subst (λ (h : K → ℕ). (stepped s.world.memory g (machine_plan same same h (machine_of u)) ≡ Some (e2.memory.memory, (to.1, told)))
-              × (changed_of s.world.memory g (machine_plan same same h (machine_of u)) ≡ e2.memory.changed)) (sym hashed) (in_scene plan (to.1, told) g is) in (
-                acts (StepsCall i m g) tt (steps_there (call_at s i m) (call_steps same hash e.batch_size e.roots slot_of s g) (to.0, u) (e2.memory.memory, (to.1, told)) at_it so.0) (OfCall told) _ (record {
-                  standing = to.0;
-                  stands = to.2;
-                  call = u;
-                  here = here;
-                  memory = e2.memory.memory;
-                  machine = to.1;
-                  progress = told;
-                  computed = so.0;
-                  tells = refl;
-                  did = to.4;
-                  comes = refl;
-                }) to.5,
-                ap (λ (o : Option (Standing K × UnderWay K V K)). option_map_or (λ it. changed_of s.world.memory g (machine_plan same same it.0.hash (machine_of it.1))) o NoChange) at_it ∙ so.1,
-              )),
-        ),
+        all.0,
+        λ g it.
+            (let so = subst (λ (h : K → ℕ). (stepped s.world.memory g (machine_plan same same h (machine_of u)) ≡ Some (e2.memory.memory, (to.1, told)))
+            × (changed_of s.world.memory g (machine_plan same same h (machine_of u)) ≡ e2.memory.changed)) (sym hashed) (in_scene plan (to.1, told) g (all.1 g it)) in (
+              acts (StepsCall i m g) tt (steps_there (call_at s i m) (call_steps same hash e.batch_size e.roots slot_of s g) (to.0, u) (e2.memory.memory, (to.1, told)) at_it so.0) (OfCall told) _ (record {
+                standing = to.0;
+                stands = to.2;
+                call = u;
+                here = here;
+                memory = e2.memory.memory;
+                machine = to.1;
+                progress = told;
+                computed = so.0;
+                tells = refl;
+                did = to.4;
+                comes = refl;
+              }) to.5,
+              ap (λ (o : Option (Standing K × UnderWay K V K)). option_map_or (λ it. changed_of s.world.memory g (machine_plan same same it.0.hash (machine_of it.1))) o NoChange) at_it ∙ so.1,
+            )),
       )
 
   -- A call that goes on as the same machine is there with what else it knows, too: what is said of calls alone is so by what was there before, and all else by what is there then.
@@ -286,20 +300,18 @@ module _ {K V S : Type 0} (same : K → K → Bool) (hash : S → K → ℕ) (e 
   making_comes b machine (progress.Refused fault) did is = (_, refl, is)
 
   making : (told : Progress Setting) → MakesThere same (hash e.hasher) i told s e e2 → (b : Beginning K) → s.makers i ≡ Some b
-      → (machine : NewMap) × AreSteps same hash e e2 s (IsComputed e e2 (new_map_plan {K = K} {V = V} b.machine) (machine, told)) (StepsMaking i) (OfMaking told)
+      → AreSteps same hash e e2 s (Computes e e2 (new_map_plan {K = K} {V = V} b.machine) told) (StepsMaking i) (OfMaking told)
   making told leads b makes =
       let to = leads b makes in
-      let comes = making_comes b to.0 told to.2 to.3 in (
-        to.0,
-        (
-          computed (new_map_plan b.machine) (to.0, told) (may.makings i b makes) to.1,
-          λ g is.
-              (let so = in_scene (new_map_plan b.machine) (to.0, told) g is in (
-                acts (StepsMaking i g) tt (steps_there (s.makers i) (making_steps same hash e.batch_size e.roots slot_of s g) b (e2.memory.memory, (to.0, told)) makes so.0) (OfMaking told) comes.0
-                    (b, makes, e2.memory.memory, to.0, told, so.0, refl, to.2, comes.1) comes.2,
-                ap (λ (o : Option (Beginning K)). option_map_or (λ x. changed_of s.world.memory g (new_map_plan {K = K} {V = V} x.machine)) o NoChange) makes ∙ so.1,
-              )),
-        ),
+      let comes = making_comes b to.0 told to.2 to.3 in
+      let all = computed_to (new_map_plan b.machine) to.0 told (may.makings i b makes) to.1 in (
+        all.0,
+        λ g it.
+            (let so = in_scene (new_map_plan b.machine) (to.0, told) g (all.1 g it) in (
+              acts (StepsMaking i g) tt (steps_there (s.makers i) (making_steps same hash e.batch_size e.roots slot_of s g) b (e2.memory.memory, (to.0, told)) makes so.0) (OfMaking told) comes.0
+                  (b, makes, e2.memory.memory, to.0, told, so.0, refl, to.2, comes.1) comes.2,
+              ap (λ (o : Option (Beginning K)). option_map_or (λ x. changed_of s.world.memory g (new_map_plan {K = K} {V = V} x.machine)) o NoChange) makes ∙ so.1,
+            )),
       )
 
   ending_comes : (f : Finishing K V) (machine : EndMap) (told : Settled (Node K V)) (did : StepsOfEnding V same same e.batch_size e.roots slot_of s.world s.maps s.calls s.makers s.enders i f e2.memory.memory (machine, told))
@@ -311,20 +323,18 @@ module _ {K V S : Type 0} (same : K → K → Bool) (hash : S → K → ℕ) (e 
   ending_comes f machine settled.Done did (none, finished, is) = (_, (none, finished, refl), is)
 
   ending : (told : Settled (Node K V)) → EndsThere same (hash e.hasher) i told s e e2 → (f : Finishing K V) → s.enders i ≡ Some f
-      → (machine : EndMap) × AreSteps same hash e e2 s (IsComputed e e2 (end_map_plan {K = K} {V = V} f.machine) (machine, told)) (StepsEnding i) (OfEnding told)
+      → AreSteps same hash e e2 s (Computes e e2 (end_map_plan {K = K} {V = V} f.machine) told) (StepsEnding i) (OfEnding told)
   ending told leads f ends =
       let to = leads f ends in
-      let comes = ending_comes f to.0 told to.2 to.3 in (
-        to.0,
-        (
-          computed (end_map_plan f.machine) (to.0, told) (may.endings i f ends) to.1,
-          λ g is.
-              (let so = in_scene (end_map_plan f.machine) (to.0, told) g is in (
-                acts (StepsEnding i g) tt (steps_there (s.enders i) (ending_steps same hash e.batch_size e.roots slot_of s g) f (e2.memory.memory, (to.0, told)) ends so.0) (OfEnding told) comes.0
-                    (f, ends, e2.memory.memory, to.0, told, so.0, refl, to.2, comes.1) comes.2,
-                ap (λ (o : Option (Finishing K V)). option_map_or (λ x. changed_of s.world.memory g (end_map_plan {K = K} {V = V} x.machine)) o NoChange) ends ∙ so.1,
-              )),
-        ),
+      let comes = ending_comes f to.0 told to.2 to.3 in
+      let all = computed_to (end_map_plan f.machine) to.0 told (may.endings i f ends) to.1 in (
+        all.0,
+        λ g it.
+            (let so = in_scene (end_map_plan f.machine) (to.0, told) g (all.1 g it) in (
+              acts (StepsEnding i g) tt (steps_there (s.enders i) (ending_steps same hash e.batch_size e.roots slot_of s g) f (e2.memory.memory, (to.0, told)) ends so.0) (OfEnding told) comes.0
+                  (f, ends, e2.memory.memory, to.0, told, so.0, refl, to.2, comes.1) comes.2,
+              ap (λ (o : Option (Finishing K V)). option_map_or (λ x. changed_of s.world.memory g (end_map_plan {K = K} {V = V} x.machine)) o NoChange) ends ∙ so.1,
+            )),
       )
 
   row_may : MayStep deferred_word (s.world.row i) s.world.memory

@@ -22,7 +22,7 @@ use Rattle.papaya_scenes.specs.Given.Teller.declared.changed.Changed.TheVariants
 use Rattle.papaya_acts.specs.AsSteps.{changed_as, changed_of}
 
 -- a bucket that was made is there
-empty_slot : List ℕ
+abbrev empty_slot : List ℕ
 empty_slot = replicate SLOT_WORDS 0
 
 no_longer : (slots more : List (List ℕ)) (bucket : ℕ) → length more ≡ capacity bucket → length slots + 32 ≡ capacity bucket → slots ++ more ≡ slots → ⊥

@@ -60,7 +60,11 @@ module _ {K V S : Type 0} (e e2 : Executor K V S) where
   abbrev pub IsComputed : {R : Type 0} → Plan (Node K V) R → R → Grant → Type 0
   IsComputed plan end g = (stepped e.memory.memory g plan ≡ Some (e2.memory.memory, end)) × (changed_of e.memory.memory g plan ≡ e2.memory.changed)
 
-  -- of a row, whichever it is
+  -- so it is of a machine that tells this
+  abbrev pub Computes : {M P : Type 0} → Plan (Node K V) (M × P) → P → Grant → Type 0
+  Computes {M} plan told g = (machine : M) × IsComputed plan (machine, told) g
+
+  -- and of a row, whichever it is
   abbrev pub RowIsComputed : SlotRow → Grant → Type 0
   RowIsComputed (rows.Registers c) g = (end : Register × Progress ℕ) × IsComputed (register_plan c) end g
   RowIsComputed (rows.Enters c) g = (end : Enter × Progress Unit) × IsComputed (enter_plan c) end g
@@ -93,7 +97,7 @@ module _ {K V S : Type 0} (same : K → K → Bool) (hash : S → K → ℕ) (e 
         → use_at e (slot_of i) ≡ used.Inside → (wanted : Wanted K V) → machine_of (begun same slot_of standing i wanted) ≡ machine → IsAct (BeginsCall i m wanted) Nothing
     pub begun_so : (m : ℕ) (standing : Standing K) → s.maps m ≡ Some standing → (u : UnderWay K V K) → Begins same standing i u → (wanted : Wanted K V) × (begun same slot_of standing i wanted ≡ u)
     pub step : (told : CallProgress (Node K V)) → StepsThere same (hash e.hasher) i told s e e2 → (m : ℕ) (u : UnderWay K V K) → s.calls m i ≡ Some u
-        → (machine : Machine K V K) × AreSteps (IsComputed e e2 (machine_plan same same (hash e.hasher) (machine_of u)) (machine, told)) (StepsCall i m) (OfCall told)
+        → AreSteps (Computes e e2 (machine_plan same same (hash e.hasher) (machine_of u)) told) (StepsCall i m) (OfCall told)
     pub reply : (told : Reply V) (result : Result Unit (Reply V)) → RepliesThere same (hash e.hasher) i told result s e e2 → (m : ℕ) (u : UnderWay K V K) → s.calls m i ≡ Some u → IsAct (TellsCall i m told) (OfReply result)
     pub ask : (ready : Bool) → AsksThere same (hash e.hasher) i ready s e e2 → (m : ℕ) (u : UnderWay K V K) → s.calls m i ≡ Some u → IsAct (AsksCall i m) (OfAsking ready)
     pub stop : (stopped : Bool) → StopsThere same (hash e.hasher) i stopped s e e2 → (m : ℕ) (u : UnderWay K V K) → s.calls m i ≡ Some u → IsAct (StopsCall i m) (OfAsking stopped)
@@ -104,10 +108,10 @@ module _ {K V S : Type 0} (same : K → K → Bool) (hash : S → K → ℕ) (e 
         → given.batch_size ≡ e.batch_size → given.mask + 1 < 2 ^ 64 → 0 < e.roots → (max places 8 ≤ 2 ^ 48 → IsTableLen (max places 8))
         → IsAct (BeginsMaking i (length e.maps.items) e.hasher given places) Nothing
     pub making : (told : Progress Setting) → MakesThere same (hash e.hasher) i told s e e2 → (b : Beginning K) → s.makers i ≡ Some b
-        → (machine : NewMap) × AreSteps (IsComputed e e2 (new_map_plan {K = K} {V = V} b.machine) (machine, told)) (StepsMaking i) (OfMaking told)
+        → AreSteps (Computes e e2 (new_map_plan {K = K} {V = V} b.machine) told) (StepsMaking i) (OfMaking told)
     pub ending_begins : (m : ℕ) → EndingBegins same (hash e.hasher) m i s e e2 → work_of e i ≡ None → NoCallOn e m → IsAct (BeginsEnding i m) Nothing
     pub ending : (told : Settled (Node K V)) → EndsThere same (hash e.hasher) i told s e e2 → (f : Finishing K V) → s.enders i ≡ Some f
-        → (machine : EndMap) × AreSteps (IsComputed e e2 (end_map_plan {K = K} {V = V} f.machine) (machine, told)) (StepsEnding i) (OfEnding told)
+        → AreSteps (Computes e e2 (end_map_plan {K = K} {V = V} f.machine) told) (StepsEnding i) (OfEnding told)
     pub row_begins : (call : SlotCall) → RowBeginsThere same (hash e.hasher) call i s e e2 → work_of e i ≡ None → MayBegin e (slot_of i) call → IsAct (BeginsRow i (request_of (slot_of i) call)) Nothing
     pub row : (told : RowTold (Node K V)) → RowStepsThere same (hash e.hasher) i told s e e2 → (it : SlotRow) → work_of e i ≡ Some (work.OnSlot it) → AreSteps (RowIsComputed e e2 it) (StepsRow i) Nothing
 

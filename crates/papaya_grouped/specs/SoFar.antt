@@ -1,5 +1,6 @@
 -- That a scheduler stands where a list of acts has led, of which the log so far is the grouping; and what is promised of an event then.
-use Rattle.std.specs.Prelude.{◌≡◌, ℕ, Bool, false, List, ◌∷◌, Option, Some, slice_get}
+use Rattle.std.specs.Prelude.{◌≡◌, ◌≤◌, ◌==◌, ℕ, Bool, false, List, ◌∷◌, Option, Some, filter, length}
+use Rattle.std.specs.List.{AllByRecursion}
 use Rattle.papaya_schedules.specs.declared.event.Event.{Event}
 use Rattle.papaya_schedules.specs.After.{moment}
 use Rattle.papaya_schedules.specs.Entry.{Entry}
@@ -26,8 +27,8 @@ module _ {K V S : Type 0} where
 
   -- so is each caller, and each has a number of its own
   pub record CallersAre (names : Names) (calls : List (Caller V)) (x : State K V S) : Type 0 where
-    pub each : (place : ℕ) (d : Caller V) → slice_get calls place ≡ Some d → IsCalledAs names x d
-    pub apart : (place other : ℕ) (d c : Caller V) → slice_get calls place ≡ Some d → slice_get calls other ≡ Some c → d.number ≡ c.number → place ≡ other
+    pub each : AllByRecursion (λ d. IsCalledAs names x d) calls
+    pub once : (i : ℕ) → length (filter (λ d. d.number == i) calls) ≤ 1
 
   -- The log is the grouping of the history that was played, and callers are as they were played.
   pub record PlaysSo (log : List (Entry K V)) (calls : List (Caller V)) (x : State K V S) : Type 0 where
