@@ -2,4 +2,4 @@ mod Begins
 mod Told
 mod Wherever
 mod May
-mod Executors
+pub mod Executors

@@ -3,4 +3,8 @@ pub mod OneMore
 pub mod Quiet
 pub mod Wanted
 pub mod Midst
+pub mod Callers
+pub mod CallsOn
+pub mod StepCall
+pub mod StepsCall
 mod Samples
