@@ -1,6 +1,6 @@
 -- One of several is another one, or goes, and what is so of each of them.
-use Rattle.std.specs.Prelude.{◌≤◌, ◌||◌, zero, suc, length, filter, Option, Some, None, option_map, cond, slice_set, slice_get}
-use Rattle.std.specs.List.{AllByRecursion, list_any, remove}
+use Rattle.std.specs.Prelude.{◌≤◌, ◌+◌, ◌||◌, zero, suc, not, length, filter, Option, Some, None, option_map, cond, nat_lt, position, slice_set, slice_get}
+use Rattle.std.specs.List.{AllByRecursion, list_any, position_or_len, remove}
 use Rattle.std.proofs.Common.{◌≡◌, ℕ, Bool, true, false, List, [], ◌∷◌, refl, sym, ap, subst, arith, ◌∙◌}
 use Rattle.seize_acts.proofs.Answers.{same_some}
 
@@ -108,3 +108,29 @@ module _ {X : Type 0} where
   set_there [] k old new is = absurd (cc is)
   set_there (x ∷ xs) zero old new is = refl
   set_there (x ∷ xs) (suc k) old new is = set_there xs k old new is
+
+-- At the place of one that passes a test stands one that passes it.
+pub placed_at : {X : Type 0} (p : X → Bool) (xs : List X) (place : ℕ) → Some place ≡ position p xs → (x : X) × (slice_get xs place ≡ Some x) × (p x ≡ true)
+placed_at {X} p xs place is = by (nat_lt (position_or_len p xs) (length xs)) refl is
+  where
+    first : (ys : List X) → nat_lt (position_or_len p ys) (length ys) ≡ true → (x : X) × (slice_get ys (position_or_len p ys) ≡ Some x) × (p x ≡ true)
+    first [] there = absurd (cc there)
+    first (y ∷ ys) there = one (p y) refl there (first ys)
+      where
+        further : (a b : ℕ) → nat_lt (1 + a) (suc b) ≡ nat_lt a b
+        further a b = grind arith
+
+        one_more : (n : ℕ) → suc n ≡ 1 + n
+        one_more n = omega arith
+
+        one : (b : Bool) → p y ≡ b → nat_lt (cond (not b) (1 + position_or_len p ys) 0) (length (y ∷ ys)) ≡ true
+            → (nat_lt (position_or_len p ys) (length ys) ≡ true → (x : X) × (slice_get ys (position_or_len p ys) ≡ Some x) × (p x ≡ true))
+            → (x : X) × (slice_get (y ∷ ys) (cond (not b) (1 + position_or_len p ys) 0) ≡ Some x) × (p x ≡ true)
+        one true e l ih = (y, refl, e)
+        one false e l ih =
+            let it = ih (sym (further (position_or_len p ys) (length ys)) ∙ l) in
+            (it.0, ap (slice_get (y ∷ ys)) (sym (one_more (position_or_len p ys))) ∙ it.1, it.2)
+
+    by : (b : Bool) → nat_lt (position_or_len p xs) (length xs) ≡ b → Some place ≡ cond b (Some (position_or_len p xs)) None → (x : X) × (slice_get xs place ≡ Some x) × (p x ≡ true)
+    by true there e = let at : place ≡ position_or_len p xs = cc e in let it = first xs there in (it.0, ap (slice_get xs) at ∙ it.1, it.2)
+    by false there e = absurd (cc e)

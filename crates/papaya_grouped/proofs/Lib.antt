@@ -7,4 +7,6 @@ pub mod Callers
 pub mod CallsOn
 pub mod StepCall
 pub mod StepsCall
+pub mod Reached
+pub mod Taken
 mod Samples
