@@ -11,7 +11,7 @@ use Rattle.papaya_named.specs.declared.caller.Caller.{Caller}
 use Rattle.papaya_deeds.specs.Deeds.{Entry as Act}
 use Rattle.papaya_played.specs.Play.{State}
 use Rattle.papaya_grouped.specs.Grouping.{ComesTo, IsGroupingOf, MayHave, Names, effects_in, is_step, names_after, names_on, steps_in}
-use Rattle.papaya_grouped.specs.SoFar.{CallersAre, PlaysSo}
+use Rattle.papaya_grouped.specs.Called.{CallersAre, PlaysSo}
 
 -- The event has done this so far, by so many steps of a call, and the last one came to this; callers are as they were played.
 pub record InEvent {K V S : Type 0} (log : List (Entry K V)) (event : Event K V) (did : List Effect) (steps : ℕ) (outcome : Outcome V) (calls : List (Caller V)) (x : State K V S) : Type 0 where

@@ -6,9 +6,9 @@ use Rattle.std.proofs.Common.{◌≡◌, ℕ, Bool, List, [], ◌∷◌, refl, s
 use Rattle.std.proofs.lemmas.Bool.{eq-eqb, ne_eqb}
 use Rattle.seize_acts.proofs.Answers.{same_some}
 use Rattle.papaya_scenes.specs.Scene.{Scene, slot_of}
-use Rattle.papaya_scheduler.specs.Given.Effects.Known.{Known}
-use Rattle.papaya_scheduler.specs.Given.Executor.IsThere.{IsThere, StaysGiven}
-use Rattle.papaya_scheduler.specs.Given.Executor.declared.executor.Executor.{Executor}
+use Rattle.papaya_effects.specs.Known.{Known}
+use Rattle.papaya_executor.specs.IsThere.{IsThere, StaysGiven}
+use Rattle.papaya_executor.specs.declared.executor.Executor.{Executor}
 use Rattle.papaya_acts.specs.Acts.{Act, Answer, BeginsRow}
 use Rattle.papaya_acts.specs.Doings.{Doing, Does, MayDo, Stage, reclaiming}
 use Rattle.papaya_acts.specs.Lists.{Course, LedTo, Reached, nothing_done, on_by}

@@ -1,7 +1,7 @@
 -- What is so of a state wherever other facts are, is so of where a list of acts leads.
 use Rattle.std.proofs.Common.{◌≡◌, ℕ, Bool}
-use Rattle.papaya_scheduler.specs.Given.Effects.Known.{Known}
-use Rattle.papaya_scheduler.specs.Given.Executor.declared.executor.Executor.{Executor}
+use Rattle.papaya_effects.specs.Known.{Known}
+use Rattle.papaya_executor.specs.declared.executor.Executor.{Executor}
 use Rattle.papaya_played.specs.Play.{State}
 use Rattle.papaya_grouped.specs.Reach.{PlaysTo, Reach}
 

@@ -1,7 +1,7 @@
 -- A log of a run and the history of which it is the grouping, by hand. And wrong ones, each refused for its reason.
 use Rattle.std.proofs.Common.{◌≡◌, ℕ, true, false, List, [], ◌∷◌, refl, Some, None}
 use Rattle.std.specs.Prelude.{Option}
-use Rattle.papaya_raw.specs.Given.Tables.declared.resize_mode.ResizeMode.TheVariants.{Incremental}
+use Rattle.papaya_scenes.specs.Given.Tables.declared.resize_mode.ResizeMode.TheVariants.{Incremental}
 use Rattle.papaya_schedules.specs.declared.call.Answer.TheVariants.{Absent, Stored as Stores}
 use Rattle.papaya_schedules.specs.declared.call.Call.TheVariants.{On}
 use Rattle.papaya_schedules.specs.declared.call.OneKey.TheVariants.{Get, Insert}

@@ -1,41 +1,19 @@
 -- That a scheduler stands where a list of acts has led, of which the log so far is the grouping; and what is promised of an event then.
-use Rattle.std.specs.Prelude.{◌≡◌, ◌≤◌, ◌==◌, ℕ, Bool, false, List, ◌∷◌, Option, Some, filter, length}
-use Rattle.std.specs.List.{AllByRecursion}
+use Rattle.std.specs.Prelude.{◌≡◌, ℕ, Bool, false, List, ◌∷◌}
 use Rattle.papaya_schedules.specs.declared.event.Event.{Event}
 use Rattle.papaya_schedules.specs.After.{moment}
 use Rattle.papaya_schedules.specs.Entry.{Entry}
 use Rattle.papaya_schedules.specs.Terms.{Terms, shards_of}
-use Rattle.papaya_named.specs.Seen.{kind_of}
 use Rattle.papaya_named.specs.declared.caller.Caller.{Caller}
-use Rattle.papaya_played.specs.Play.{Calling, State}
 use Rattle.papaya_scheduler.specs.Given.Effects.Known.{known}
 use Rattle.papaya_scheduler.specs.Given.Logged.declared.logged.Logged.{Logged}
 use Rattle.papaya_scheduler.specs.Played.{IsPlayed, entry_of}
 use Rattle.papaya_scheduler.specs.declared.played.Played.{Played}
 use Rattle.papaya_scheduler.specs.declared.scheduler.Scheduler.{Scheduler}
-use Rattle.papaya_grouped.specs.Grouping.{IsGroupingOf, Names, number_called}
+use Rattle.papaya_grouped.specs.Called.{PlaysSo}
 use Rattle.papaya_grouped.specs.Reach.{Reach}
 
 module _ {K V S : Type 0} where
-  -- a caller goes by its number, and its call is played, as one of its kind that keeps the value that it is to tell back
-  pub record IsCalledAs (names : Names) (x : State K V S) (d : Caller V) : Type 0 where
-    pub name : number_called d.name names ≡ Some d.number
-    pub call : Calling K V
-    pub here : x.now.calls d.map d.number ≡ Some call
-    pub kind : kind_of call.call ≡ d.kind
-    pub value : call.value ≡ d.value
-
-  -- so is each caller, and each has a number of its own
-  pub record CallersAre (names : Names) (calls : List (Caller V)) (x : State K V S) : Type 0 where
-    pub each : AllByRecursion (λ d. IsCalledAs names x d) calls
-    pub once : (i : ℕ) → length (filter (λ d. d.number == i) calls) ≤ 1
-
-  -- The log is the grouping of the history that was played, and callers are as they were played.
-  pub record PlaysSo (log : List (Entry K V)) (calls : List (Caller V)) (x : State K V S) : Type 0 where
-    pub names : Names
-    pub grouping : IsGroupingOf log x.history names
-    pub callers : CallersAre names calls x
-
   module _ (same : K → K → Bool) (by_hasher : S → K → ℕ) (terms : Terms) where
     -- A list of acts has led where the executor is, and played, it has a history of which the log is the grouping.
     abbrev pub ActsSoFar : List (Entry K V) → Logged K V S → List (Caller V) → Type 0

@@ -26,7 +26,7 @@ use Rattle.papaya_played.specs.Play as play
 use Rattle.papaya_stepping.specs.Stepping.{caller_then, callers_then}
 use Rattle.papaya_stepping.specs.Stepping as stepping
 use Rattle.papaya_grouped.specs.Grouping.{Names}
-use Rattle.papaya_grouped.specs.SoFar.{CallersAre, IsCalledAs}
+use Rattle.papaya_grouped.specs.Called.{CallersAre, IsCalledAs}
 use Rattle.papaya_grouped.proofs.Callers.{remove_one, removed_count, set_count, set_one}
 
 -- what a step says is the same outcome in both words

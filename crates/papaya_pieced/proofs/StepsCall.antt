@@ -24,9 +24,9 @@ use Rattle.papaya_stepping.specs.Stepping.{GoneBy, GoneFor, IsStepped, caller_th
 use Rattle.papaya_grouped.specs.Grouping.{MayHave, Names, number_called}
 use Rattle.papaya_grouped.specs.Reach.{Reach}
 use Rattle.papaya_grouped.proofs.Callers.{set_there}
-use Rattle.papaya_grouped.proofs.CallsOn.{then_as}
+use Rattle.papaya_pieced.proofs.CallsOn.{then_as}
 use Rattle.papaya_grouped.proofs.Midst.{InEvent}
-use Rattle.papaya_grouped.proofs.StepCall.{HasCallIn, step_goes}
+use Rattle.papaya_pieced.proofs.StepCall.{HasCallIn, step_goes}
 
 -- a step after which a call goes on by itself is none by which it has ended
 still : {K V : Type 0} (by : Known) (its : Kind) (value : Option V) (said : Progress (Node K V)) → goes_on (outcome_of by its value said) ≡ true → has_ended said ≡ false

@@ -26,13 +26,14 @@ use Rattle.papaya_deeds.specs.Deeds.{Steps}
 use Rattle.papaya_stepping.specs.Stepping.{SaysAgain, TakenBy, TookSteps}
 use Rattle.papaya_grouped.specs.Grouping.{MayHave, Names, number_called}
 use Rattle.papaya_grouped.specs.Reach.{Reach}
-use Rattle.papaya_grouped.specs.SoFar.{ActsSoFar, GoesOnByActs, PlaysSo}
+use Rattle.papaya_grouped.specs.Called.{PlaysSo}
+use Rattle.papaya_pieced.specs.SoFar.{ActsSoFar, GoesOnByActs}
 use Rattle.papaya_grouped.proofs.Callers.{each_at, placed_at}
 use Rattle.papaya_grouped.proofs.Midst.{InEvent, event_begins, event_ends}
-use Rattle.papaya_grouped.proofs.Quiet.{quiet_goes_on}
+use Rattle.papaya_pieced.proofs.Quiet.{quiet_goes_on}
 use Rattle.papaya_grouped.proofs.Reached.{reach_so}
-use Rattle.papaya_grouped.proofs.StepCall.{HasCallIn}
-use Rattle.papaya_grouped.proofs.StepsCall.{gone_by}
+use Rattle.papaya_pieced.proofs.StepCall.{HasCallIn}
+use Rattle.papaya_pieced.proofs.StepsCall.{gone_by}
 
 module _ {K V S : Type 0} (same : K → K → Bool) (by_hasher : S → K → ℕ) (terms : Terms) (any : Course V same by_hasher terms.batch_size terms.roots slot_of) (log : List (Entry K V)) (event : Event K V) (own : List ℕ)
     (may : (names : Names) (i : ℕ) → number_called own names ≡ Some i → MayHave names (moment log) event (Steps i)) (played : Played V) (old new : Scheduler K V S) where

@@ -4,7 +4,7 @@ use Rattle.papaya_schedules.specs.Entry.{Entry}
 use Rattle.papaya_schedules.specs.Terms.{Terms}
 use Rattle.papaya_named.specs.declared.caller.Caller.{Caller}
 use Rattle.papaya_scheduler.specs.Given.Logged.declared.logged.Logged.{Logged}
-use Rattle.papaya_grouped.specs.SoFar.{ActsSoFar}
+use Rattle.papaya_pieced.specs.SoFar.{ActsSoFar}
 
 module _ {K V S : Type 0} (same : K → K → Bool) (by_hasher : S → K → ℕ) (terms : Terms) (log : List (Entry K V)) (l : Logged K V S) (calls : List (Caller V)) where
   pub quiet_goes_on : (e : Entry K V) → e.steps ≡ 0 → e.effects ≡ [] → ActsSoFar same by_hasher terms log l calls → ActsSoFar same by_hasher terms (e ∷ log) l calls

@@ -1,0 +1,5 @@
+pub mod Quiet
+pub mod CallsOn
+pub mod StepCall
+pub mod StepsCall
+pub mod Taken
