@@ -3,3 +3,4 @@ pub mod CallsOn
 pub mod StepCall
 pub mod StepsCall
 pub mod Taken
+pub mod Replied
