@@ -1,4 +1,4 @@
--- Where an executor is by acts, and does what is one act more, it is by acts.
+-- Where an executor is by acts, and does what is one act more, or a choice comes, it is by acts.
 use Rattle.std.specs.Prelude.{◌<◌, ◌+◌, ◌++◌, ◌==◌, Option, Some, None, length, if◌then◌else◌}
 use Rattle.std.specs.Option.{is_none}
 use Rattle.std.specs.List.{AllByRecursion}
@@ -10,15 +10,16 @@ use Rattle.papaya_effects.specs.Known.{Known}
 use Rattle.papaya_executor.specs.IsThere.{IsThere, StaysGiven}
 use Rattle.papaya_executor.specs.declared.executor.Executor.{Executor}
 use Rattle.papaya_acts.specs.Acts.{Act, Answer, BeginsRow}
-use Rattle.papaya_acts.specs.Doings.{Doing, Does, MayDo, Stage, reclaiming}
+use Rattle.papaya_acts.specs.Doings.{Chooses, Doing, Does, HasDone, MayDo, Stage, reclaiming, scene_chosen}
 use Rattle.papaya_acts.specs.Lists.{Course, LedTo, Reached, nothing_done, on_by}
 use Rattle.papaya_acts.proofs.Further.{led_further}
 use Rattle.papaya_agrees.specs.Agree.{Asks}
 use Rattle.papaya_agrees.specs.Fresh.{HasNewNumber}
 use Rattle.papaya_drives.specs.Executors.{IsAct}
-use Rattle.papaya_played.specs.Play.{State, first_state, play_act, play_all}
+use Rattle.papaya_played.specs.Play.{State, choice_come, first_state, play, play_act, play_all}
 use Rattle.papaya_played.specs.Reached.{AreOnOwn, IsOfStage, IsOnOwn}
 use Rattle.papaya_played.proofs.All.{lists_are_played}
+use Rattle.papaya_grouped.specs.ByActs.{IsNew}
 use Rattle.papaya_grouped.specs.Reach.{PlaysTo, Reach}
 use Rattle.papaya_schedules.specs.Lists.{put}
 use Rattle.papaya_grouped.proofs.Aborts.{new_one, new_same, plays_one, plays_same, told_all}
@@ -44,32 +45,34 @@ module _ {K V S : Type 0} (same : K → K → Bool) (by_hasher : S → K → ℕ
   all_on_own [] all = tt
   all_on_own (doing ∷ doings) all = (on_own doing all.0, all_on_own doings all.1)
 
-  module _ (act : Act K V S) (told : Answer K V) (asks : Its (Does act)) (is : (s : Scene K V) → IsThere same (by_hasher e.hasher) e s → IsAct same by_hasher e e2 s act told)
-      (new : (x : State K V S) → P x → HasNewNumber x act) (abort : V → V)
+  -- One doing more: it may be, and wherever it leads, the second executor is there.
+  module _ (doing : Doing K V S) (asks : Its doing)
+      (may : (p : Stage V same by_hasher e.batch_size e.roots slot_of) → reclaiming V same by_hasher e.batch_size e.roots slot_of p ≡ None → IsThere same (by_hasher e.hasher) e p.0
+      → MayDo V same by_hasher e.batch_size e.roots slot_of doing p)
+      (leads_to : (told : Answer K V) (p n : Stage V same by_hasher e.batch_size e.roots slot_of) → IsThere same (by_hasher e.hasher) e p.0
+      → HasDone V same by_hasher e.batch_size e.roots slot_of doing p told n → (reclaiming V same by_hasher e.batch_size e.roots slot_of n ≡ None) × IsThere same (by_hasher e.hasher) e2 n.0)
+      (new : (aborts : ℕ → V) (x : State K V S) → P x → IsNew same by_hasher e.batch_size e.roots aborts x doing) (abort : V → V)
       (next : (value : V) (aborts : ℕ → V) (x y : State K V S) (p : Stage V same by_hasher e.batch_size e.roots slot_of) → IsOfStage by_hasher same e.batch_size e.roots p x.now
-      → IsThere same (by_hasher e.hasher) e p.0 → aborts (length x.told) ≡ abort value → play_act same by_hasher e.batch_size e.roots aborts act x ≡ Some y → x.known ≡ noted → P x
+      → IsThere same (by_hasher e.hasher) e p.0 → aborts (length x.told) ≡ abort value → play same by_hasher e.batch_size e.roots aborts doing x ≡ Some y → x.known ≡ noted → P x
       → (y.known ≡ noted2) × Q y) where
     -- where one course leads by it
     module _ (course : Course V same by_hasher e.batch_size e.roots slot_of) (doings : List (Doing K V S)) (y : Reached V same by_hasher e.batch_size e.roots slot_of)
         (led : LedTo V same by_hasher e.batch_size e.roots slot_of course doings y) (idle : reclaiming V same by_hasher e.batch_size e.roots slot_of y.0 ≡ None)
         (there : IsThere same (by_hasher e.hasher) e y.0.0) where
-      it : IsAct same by_hasher e e2 y.0.0 act told
-      it = is y.0.0 there
-
-      may : MayDo V same by_hasher e.batch_size e.roots slot_of (Does act) y.0
-      may = (ap is_none idle, it.may)
+      may_be : MayDo V same by_hasher e.batch_size e.roots slot_of doing y.0
+      may_be = may y.0 idle there
 
       abbrev y2 : Reached V same by_hasher e.batch_size e.roots slot_of
-      y2 = on_by V same by_hasher e.batch_size e.roots slot_of course y (Does act) may
+      y2 = on_by V same by_hasher e.batch_size e.roots slot_of course y doing may_be
 
-      goes_on : LedTo V same by_hasher e.batch_size e.roots slot_of course (doings ++ Does act ∷ []) y2
-      goes_on = led_further V same by_hasher e.batch_size e.roots slot_of course doings (Does act ∷ []) (nothing_done V same by_hasher e.batch_size e.roots slot_of course) y y2 led (may, refl)
+      goes_on : LedTo V same by_hasher e.batch_size e.roots slot_of course (doings ++ doing ∷ []) y2
+      goes_on = led_further V same by_hasher e.batch_size e.roots slot_of course doings (doing ∷ []) (nothing_done V same by_hasher e.batch_size e.roots slot_of course) y y2 led (may_be, refl)
 
-      leads_there : (z : Reached V same by_hasher e.batch_size e.roots slot_of) × LedTo V same by_hasher e.batch_size e.roots slot_of course (doings ++ Does act ∷ []) z
+      leads_there : (z : Reached V same by_hasher e.batch_size e.roots slot_of) × LedTo V same by_hasher e.batch_size e.roots slot_of course (doings ++ doing ∷ []) z
           × (reclaiming V same by_hasher e.batch_size e.roots slot_of z.0 ≡ None) × IsThere same (by_hasher e.hasher) e2 z.0.0
       leads_there =
-          let done = course.leads y.0 (Does act) may in
-          (y2, goes_on, done.1, (it.wherever (course.next y.0 (Does act) may).0 (course.told y.0 (Does act) may) (course.next y.0 (Does act) may).1 done.0).1)
+          let so = leads_to (course.told y.0 doing may_be) y.0 (course.next y.0 doing may_be) there (course.leads y.0 doing may_be) in
+          (y2, goes_on, so.0, so.1)
 
     module _ (at : At P e noted) (value : V) where
       was : PlaysTo same by_hasher e.hasher e.batch_size e.roots shards P at.doings noted
@@ -90,34 +93,54 @@ module _ {K V S : Type 0} (same : K → K → Bool) (by_hasher : S → K → ℕ
       its : aborts (length was.after.told) ≡ abort value
       its = ap (λ (b : Bool). if b then abort value else was.aborts (length was.after.told)) (eq-eqb (length was.after.told) (length was.after.told) refl)
 
-      plays_then : PlaysTo same by_hasher e.hasher e.batch_size e.roots shards Q (at.doings ++ Does act ∷ []) noted2
+      plays_then : PlaysTo same by_hasher e.hasher e.batch_size e.roots shards Q (at.doings ++ doing ∷ []) noted2
       plays_then =
           let to = at.leads any in
           let before = lists_are_played V same by_hasher e.batch_size e.roots aborts any at.doings to.0 to.1 (all_on_own at.doings at.asks) in
-          let all = all_and_last Its at.doings (Does act) at.asks asks in
-          let then = lists_are_played V same by_hasher e.batch_size e.roots aborts any (at.doings ++ Does act ∷ []) (y2 any at.doings to.0 to.1 to.2 to.3)
-          (goes_on any at.doings to.0 to.1 to.2 to.3) (all_on_own (at.doings ++ Does act ∷ []) all) in
+          let all = all_and_last Its at.doings doing at.asks asks in
+          let then = lists_are_played V same by_hasher e.batch_size e.roots aborts any (at.doings ++ doing ∷ []) (y2 any at.doings to.0 to.1 to.2 to.3)
+          (goes_on any at.doings to.0 to.1 to.2 to.3) (all_on_own (at.doings ++ doing ∷ []) all) in
           let one : before.0 ≡ was.after = same_some before.0 was.after (sym before.1 ∙ plays) in
           let stage = subst (λ (x : State K V S). IsOfStage by_hasher same e.batch_size e.roots to.0.0 x.now) one before.2 in
-          let step = sym (plays_one same by_hasher e.batch_size e.roots aborts (Does act) at.doings (first_state e.roots) was.after plays) ∙ then.1 in
+          let step = sym (plays_one same by_hasher e.batch_size e.roots aborts doing at.doings (first_state e.roots) was.after plays) ∙ then.1 in
           let so = next value aborts was.after then.0 to.0.0 stage to.3 its step was.knows was.so in
           record {
             aborts = aborts;
             after = then.0;
             plays = then.1;
-            new = new_one same by_hasher e.batch_size e.roots aborts (Does act) at.doings (first_state e.roots) was.after plays
-                (new_same same by_hasher e.batch_size e.roots was.aborts aborts at.doings (first_state e.roots) alike was.new) (new was.after was.so);
+            new = new_one same by_hasher e.batch_size e.roots aborts doing at.doings (first_state e.roots) was.after plays
+                (new_same same by_hasher e.batch_size e.roots was.aborts aborts at.doings (first_state e.roots) alike was.new) (new aborts was.after was.so);
             knows = so.0;
             so = so.1;
           }
 
-    pub one_act : At P e noted → At Q e2 noted2
-    one_act at = record {
+    pub one_doing : At P e noted → At Q e2 noted2
+    one_doing at = record {
       hasher_is = given.0;
       size = given.1;
       roots_are = given.2;
-      doings = at.doings ++ Does act ∷ [];
-      asks = all_and_last Its at.doings (Does act) at.asks asks;
+      doings = at.doings ++ doing ∷ [];
+      asks = all_and_last Its at.doings doing at.asks asks;
       leads = λ course. (let to = at.leads course in leads_there course at.doings to.0 to.1 to.2 to.3);
       played = λ value. plays_then at value;
     }
+
+  -- By an act of the executor,
+  pub one_act : (act : Act K V S) (told : Answer K V) → Its (Does act) → ((s : Scene K V) → IsThere same (by_hasher e.hasher) e s → IsAct same by_hasher e e2 s act told)
+      → ((x : State K V S) → P x → HasNewNumber x act) → (abort : V → V)
+      → ((value : V) (aborts : ℕ → V) (x y : State K V S) (p : Stage V same by_hasher e.batch_size e.roots slot_of) → IsOfStage by_hasher same e.batch_size e.roots p x.now
+      → IsThere same (by_hasher e.hasher) e p.0 → aborts (length x.told) ≡ abort value → play_act same by_hasher e.batch_size e.roots aborts act x ≡ Some y → x.known ≡ noted → P x
+      → (y.known ≡ noted2) × Q y)
+      → At P e noted → At Q e2 noted2
+  one_act act told asks is new abort next =
+      one_doing (Does act) asks (λ p idle there. (ap is_none idle, (is p.0 there).may)) (λ said p n there done. (done.1, ((is p.0 there).wherever n.0 said n.1 done.0).1)) (λ aborts x so. new x so) abort next
+
+  -- and as a choice comes.
+  pub one_choice : (choice : ℕ) → ((s : Scene K V) → IsThere same (by_hasher e.hasher) e s → IsThere same (by_hasher e.hasher) e2 (scene_chosen choice s)) → noted ≡ noted2
+      → ((x : State K V S) → P x → Q (choice_come choice x)) → At P e noted → At Q e2 noted2
+  one_choice choice stays noted_is so =
+      one_doing (Chooses choice) tt (λ p idle there. ap is_none idle)
+      (λ told p n there done. (done.3, subst (λ (s : Scene K V). IsThere same (by_hasher e.hasher) e2 s) (sym done.1) (stays p.0 there))) (λ aborts x p. tt) (λ value. value)
+      (λ value aborts x y p stage there its played knows was.
+      (let is : choice_come choice x ≡ y = same_some (choice_come choice x) y played in
+      (ap (λ (z : State K V S). z.known) (sym is) ∙ knows ∙ noted_is, subst Q is (so x was))))
