@@ -55,12 +55,13 @@ module _ {K V S : Type 0} (same : K → K → Bool) (by_hasher : S → K → ℕ
   -- so many were told by a list
   pub told_all : (aborts : ℕ → V) (doings : List (Doing K V S)) (x y : State K V S) → play_all same by_hasher batch_size roots aborts doings x ≡ Some y → length y.told ≡ length x.told + length doings
   told_all aborts [] x y is = ap (λ (s : State K V S). length s.told) (sym (same_some x y is)) ∙ omega arith
-  told_all aborts (doing ∷ doings) x y is = by (play same by_hasher batch_size roots aborts doing x) refl is
+  told_all aborts (doing ∷ doings) x y is = by (play same by_hasher batch_size roots aborts doing x) refl is (λ z played. told_all aborts doings z y played)
     where
       by : (o : Option (State K V S)) → play same by_hasher batch_size roots aborts doing x ≡ o → then_on o (play_all same by_hasher batch_size roots aborts doings) ≡ Some y
+          → ((z : State K V S) → play_all same by_hasher batch_size roots aborts doings z ≡ Some y → length y.told ≡ length z.told + length doings)
           → length y.told ≡ length x.told + length (doing ∷ doings)
-      by None e never = absurd (cc never)
-      by (Some z) e is = omega (arith, told_all aborts doings z y is, told_more aborts x z doing e)
+      by None e never ih = absurd (cc never)
+      by (Some z) e is ih = let rest = ih z is in let one = told_more aborts x z doing e in omega (arith, rest, one)
 
   -- What was played before an act is so whatever closures abort with from that act on.
   module _ (aborts other : ℕ → V) where
@@ -77,13 +78,15 @@ module _ {K V S : Type 0} (same : K → K → Bool) (by_hasher : S → K → ℕ
     pub plays_same : (doings : List (Doing K V S)) (x : State K V S) → AreSame doings x → play_all same by_hasher batch_size roots aborts doings x ≡ play_all same by_hasher batch_size roots other doings x
     plays_same [] x are = refl
     plays_same (doing ∷ doings) x are =
-        by (play same by_hasher batch_size roots aborts doing x) refl
+        by (play same by_hasher batch_size roots aborts doing x) refl (λ y is. plays_same doings y (later_same doing doings x y are is))
         ∙ ap (λ (o : Option (State K V S)). then_on o (play_all same by_hasher batch_size roots other doings)) (now_same doing doings x are)
       where
         by : (o : Option (State K V S)) → play same by_hasher batch_size roots aborts doing x ≡ o
+            → ((y : State K V S) → play same by_hasher batch_size roots aborts doing x ≡ Some y
+            → play_all same by_hasher batch_size roots aborts doings y ≡ play_all same by_hasher batch_size roots other doings y)
             → then_on o (play_all same by_hasher batch_size roots aborts doings) ≡ then_on o (play_all same by_hasher batch_size roots other doings)
-        by None is = refl
-        by (Some y) is = plays_same doings y (later_same doing doings x y are is)
+        by None is ih = refl
+        by (Some y) is ih = ih y is
 
     pub new_same : (doings : List (Doing K V S)) (x : State K V S) → AreSame doings x → MakesNew same by_hasher batch_size roots aborts doings x → MakesNew same by_hasher batch_size roots other doings x
     new_same [] x are new = tt
@@ -101,12 +104,14 @@ module _ {K V S : Type 0} (same : K → K → Bool) (by_hasher : S → K → ℕ
         last : (o : Option (State K V S)) → then_on o (λ z. Some z) ≡ o
         last None = refl
         last (Some z) = refl
-    plays_one (first ∷ doings) x y is = by (play same by_hasher batch_size roots aborts first x) is
+    plays_one (first ∷ doings) x y is = by (play same by_hasher batch_size roots aborts first x) is (λ z played. plays_one doings z y played)
       where
         by : (o : Option (State K V S)) → then_on o (play_all same by_hasher batch_size roots aborts doings) ≡ Some y
+            → ((z : State K V S) → play_all same by_hasher batch_size roots aborts doings z ≡ Some y
+            → play_all same by_hasher batch_size roots aborts (doings ++ doing ∷ []) z ≡ play same by_hasher batch_size roots aborts doing y)
             → then_on o (play_all same by_hasher batch_size roots aborts (doings ++ doing ∷ [])) ≡ play same by_hasher batch_size roots aborts doing y
-        by None never = absurd (cc never)
-        by (Some z) is = plays_one doings z y is
+        by None never ih = absurd (cc never)
+        by (Some z) is ih = ih z is
 
     pub new_one : (doings : List (Doing K V S)) (x y : State K V S) → play_all same by_hasher batch_size roots aborts doings x ≡ Some y → MakesNew same by_hasher batch_size roots aborts doings x
         → IsNew same by_hasher batch_size roots aborts y doing → MakesNew same by_hasher batch_size roots aborts (doings ++ doing ∷ []) x

@@ -98,16 +98,16 @@ module _ {K V S : Type 0} (same : K → K → Bool) (by_hasher : S → K → ℕ
           let to = at.leads any in
           let before = lists_are_played V same by_hasher e.batch_size e.roots aborts any at.doings to.0 to.1 (all_on_own at.doings at.asks) in
           let all = all_and_last Its at.doings doing at.asks asks in
-          let then = lists_are_played V same by_hasher e.batch_size e.roots aborts any (at.doings ++ doing ∷ []) (y2 any at.doings to.0 to.1 to.2 to.3)
+          let after = lists_are_played V same by_hasher e.batch_size e.roots aborts any (at.doings ++ doing ∷ []) (y2 any at.doings to.0 to.1 to.2 to.3)
           (goes_on any at.doings to.0 to.1 to.2 to.3) (all_on_own (at.doings ++ doing ∷ []) all) in
           let one : before.0 ≡ was.after = same_some before.0 was.after (sym before.1 ∙ plays) in
           let stage = subst (λ (x : State K V S). IsOfStage by_hasher same e.batch_size e.roots to.0.0 x.now) one before.2 in
-          let step = sym (plays_one same by_hasher e.batch_size e.roots aborts doing at.doings (first_state e.roots) was.after plays) ∙ then.1 in
-          let so = next value aborts was.after then.0 to.0.0 stage to.3 its step was.knows was.so in
+          let step = sym (plays_one same by_hasher e.batch_size e.roots aborts doing at.doings (first_state e.roots) was.after plays) ∙ after.1 in
+          let so = next value aborts was.after after.0 to.0.0 stage to.3 its step was.knows was.so in
           record {
             aborts = aborts;
-            after = then.0;
-            plays = then.1;
+            after = after.0;
+            plays = after.1;
             new = new_one same by_hasher e.batch_size e.roots aborts doing at.doings (first_state e.roots) was.after plays
                 (new_same same by_hasher e.batch_size e.roots was.aborts aborts at.doings (first_state e.roots) alike was.new) (new aborts was.after was.so);
             knows = so.0;

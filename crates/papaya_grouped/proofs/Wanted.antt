@@ -15,7 +15,7 @@ use Rattle.papaya_schedules.specs.declared.call.OneKey.{OneKey}
 use Rattle.papaya_schedules.specs.declared.call.OneKey.TheVariants as one
 
 module _ {K V : Type 0} where
-  pub wanted_on : OneKey K V → Wanted K V
+  abbrev pub wanted_on : OneKey K V → Wanted K V
   wanted_on (one.Get key) = Get key
   wanted_on (one.GetKeyValue key) = GetKeyValue key
   wanted_on (one.ContainsKey key) = ContainsKey key
@@ -32,7 +32,7 @@ module _ {K V : Type 0} where
   wanted_on (one.RemoveEntry key) = RemoveEntry key
   wanted_on (one.RemoveIf key) = RemoveIf key
 
-  pub wanted_for : Call K V → Wanted K V
+  abbrev pub wanted_for : Call K V → Wanted K V
   wanted_for (calls.On it) = wanted_on it
   wanted_for (calls.Reserve additional) = MakeRoom additional
   wanted_for calls.Clear = GoOver purpose.Clears

@@ -42,7 +42,7 @@ same_outcome by its value (progress.Done said) = refl
 same_outcome by its value (progress.Refused fault) = refl
 
 -- a caller that goes on has the name, the number and the map that it had
-pub then_as : {K V : Type 0} (by : Known) (d : Caller V) (said : Progress (Node K V)) → let then = caller_then by d said in ((then.name ≡ d.name) × (then.number ≡ d.number) × (then.map ≡ d.map))
+pub then_as : {K V : Type 0} (by : Known) (d : Caller V) (said : Progress (Node K V)) → ((caller_then by d said).name ≡ d.name) × ((caller_then by d said).number ≡ d.number) × ((caller_then by d said).map ≡ d.map)
 then_as by d progress.Goes = (refl, refl, refl)
 then_as by d (progress.Gave node) = (refl, refl, refl)
 then_as by d (progress.Unstored node) = (refl, refl, refl)

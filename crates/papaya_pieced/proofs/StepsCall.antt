@@ -73,14 +73,14 @@ module _ {K V S : Type 0} (same : K → K → Bool) (by_hasher : S → K → ℕ
         (λ names called. subst (λ (j : ℕ). MayHave names (moment log) event (Steps j)) (sym number)
         (may names (subst (λ (n : List ℕ). number_called n names ≡ Some i) name (called ∙ ap Some number)))) steps prev shards any has at in (
           done.0,
-          λ on. (let then = then_as (known q.logged.notes) st.caller st.said in record {
+          λ on. (let alike = then_as (known q.logged.notes) st.caller st.said in record {
             caller = caller_then (known q.logged.notes) st.caller st.said;
             at = ap (λ (l : List (Caller V)). slice_get l place) st.calls
                 ∙ ap (λ (c : Bool). slice_get (if c then remove p.calls place else slice_set p.calls place (caller_then (known q.logged.notes) st.caller st.said)) place) on
                 ∙ set_there p.calls place st.caller (caller_then (known q.logged.notes) st.caller st.said) st.at;
-            name = then.0 ∙ name;
-            number = then.1 ∙ number;
-            map = then.2 ∙ map;
+            name = alike.0 ∙ name;
+            number = alike.1 ∙ number;
+            map = alike.2 ∙ map;
             works = subst (λ (j : ℕ). HasCallIn j m q.logged.executor) number (subst (λ (n : ℕ). HasCallIn st.caller.number n q.logged.executor) map (done.1 on));
           }),
         )
