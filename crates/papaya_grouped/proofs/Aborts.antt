@@ -1,12 +1,12 @@
 -- What closures abort with later makes no difference to what was played before; and a list that is played goes on by one more.
-use Rattle.std.specs.Prelude.{◌<◌, ◌≤◌, ◌+◌, ◌++◌, Option, Some, None, length, option_map}
+use Rattle.std.specs.Prelude.{◌<◌, ◌+◌, ◌++◌, Option, Some, None, length, option_map}
 use Rattle.std.proofs.Common.{◌≡◌, ℕ, Bool, List, [], ◌∷◌, refl, sym, ap, subst, arith, ◌∙◌}
 use Rattle.std.proofs.lemmas.List.{length-append}
-use Rattle.seize_acts.specs.Answers.{Grant, then_on}
+use Rattle.seize_acts.specs.Answers.{then_on}
 use Rattle.seize_acts.proofs.Answers.{same_some}
-use Rattle.papaya_acts.specs.Acts.{Act, Answer, BeginsCall, StepsCall, TellsCall, AsksCall, StopsCall, BeginsMaking, StepsMaking, BeginsEnding, StepsEnding, BeginsRow, StepsRow}
+use Rattle.papaya_acts.specs.Acts.{Answer, BeginsCall, StepsCall, TellsCall, AsksCall, StopsCall, BeginsMaking, StepsMaking, BeginsEnding, StepsEnding, BeginsRow, StepsRow}
 use Rattle.papaya_acts.specs.Doings.{Doing, Does, BeginsReclaiming, BeginsClearing, StepsReclaiming, Chooses}
-use Rattle.papaya_played.specs.Play.{State, call_told, play, play_act, play_all}
+use Rattle.papaya_played.specs.Play.{State, call_told, play, play_all}
 use Rattle.papaya_played.proofs.PlayedAs.{played_as, reclaimed_as}
 use Rattle.papaya_grouped.specs.ByActs.{IsNew, MakesNew}
 

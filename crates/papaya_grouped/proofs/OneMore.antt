@@ -1,5 +1,5 @@
 -- Where an executor is by acts, and does what is one act more, or a choice comes, it is by acts.
-use Rattle.std.specs.Prelude.{◌<◌, ◌+◌, ◌++◌, ◌==◌, Option, Some, None, length, if◌then◌else◌}
+use Rattle.std.specs.Prelude.{◌<◌, ◌+◌, ◌++◌, Some, None, length, if◌then◌else◌}
 use Rattle.std.specs.Option.{is_none}
 use Rattle.std.specs.List.{AllByRecursion}
 use Rattle.std.proofs.Common.{◌≡◌, ℕ, Bool, List, [], ◌∷◌, refl, sym, ap, subst, arith, ◌∙◌}

@@ -1,9 +1,9 @@
 -- What is so of a state wherever other facts are, is so of where a list of acts leads.
-use Rattle.std.proofs.Common.{◌≡◌, ℕ, Bool}
+use Rattle.std.proofs.Common.{ℕ, Bool}
 use Rattle.papaya_effects.specs.Known.{Known}
 use Rattle.papaya_executor.specs.declared.executor.Executor.{Executor}
 use Rattle.papaya_played.specs.Play.{State}
-use Rattle.papaya_grouped.specs.Reach.{PlaysTo, Reach}
+use Rattle.papaya_grouped.specs.Reach.{Reach}
 
 module _ {K V S : Type 0} (same : K → K → Bool) (by_hasher : S → K → ℕ) (hasher : S) (batch_size roots shards : ℕ) (P Q : State K V S → Type 0) (so : (x : State K V S) → P x → Q x) (e : Executor K V S) (noted : Known) where
   pub reach_so : Reach same by_hasher hasher batch_size roots shards P e noted → Reach same by_hasher hasher batch_size roots shards Q e noted

@@ -1,10 +1,10 @@
 -- A log of a run and the history of which it is the grouping, by hand. And wrong ones, each refused for its reason.
-use Rattle.std.proofs.Common.{◌≡◌, ℕ, true, false, List, [], ◌∷◌, refl, Some, None}
+use Rattle.std.proofs.Common.{◌≡◌, ℕ, false, List, [], ◌∷◌, refl, Some}
 use Rattle.std.specs.Prelude.{Option}
 use Rattle.papaya_scenes.specs.Given.Tables.declared.resize_mode.ResizeMode.TheVariants.{Incremental}
-use Rattle.papaya_schedules.specs.declared.call.Answer.TheVariants.{Absent, Stored as Stores}
+use Rattle.papaya_schedules.specs.declared.call.Answer.TheVariants.{Absent}
 use Rattle.papaya_schedules.specs.declared.call.Call.TheVariants.{On}
-use Rattle.papaya_schedules.specs.declared.call.OneKey.TheVariants.{Get, Insert}
+use Rattle.papaya_schedules.specs.declared.call.OneKey.TheVariants.{Get}
 use Rattle.papaya_schedules.specs.declared.effect.Effect.{Effect}
 use Rattle.papaya_schedules.specs.declared.effect.Effect.TheVariants.{Asked, Reclaimed}
 use Rattle.papaya_schedules.specs.declared.effect.Growth.TheVariants.{ABucket}

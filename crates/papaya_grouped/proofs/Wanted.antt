@@ -1,5 +1,5 @@
 -- What a call of a run wants of a map: what begins then is that call, with its machine.
-use Rattle.std.specs.Prelude.{Option, Some, None}
+use Rattle.std.specs.Prelude.{Some, None}
 use Rattle.std.proofs.Common.{◌≡◌, ℕ, Bool, refl}
 use Rattle.papaya_scenes.specs.Given.Sweeps.declared.sweep.Purpose.TheVariants as purpose
 use Rattle.papaya_scenes.specs.Given.Callers.Together.{in_slot}

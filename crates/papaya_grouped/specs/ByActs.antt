@@ -4,7 +4,6 @@ use Rattle.std.specs.List.{AllByRecursion}
 use Rattle.papaya_scenes.specs.Scene.{slot_of}
 use Rattle.papaya_schedules.specs.Entry.{Entry}
 use Rattle.papaya_schedules.specs.Terms.{Terms, shards_of}
-use Rattle.papaya_acts.specs.Acts.{Act}
 use Rattle.papaya_acts.specs.Doings.{Doing, Does}
 use Rattle.papaya_acts.specs.Lists.{Course, LedTo, Reached}
 use Rattle.papaya_agrees.specs.Agree.{Asks}

@@ -1,5 +1,5 @@
 -- That callers go by their numbers, and their calls are played; and that a log is the grouping of the history that was played.
-use Rattle.std.specs.Prelude.{◌≡◌, ◌≤◌, ◌==◌, ℕ, List, Option, Some, filter, length}
+use Rattle.std.specs.Prelude.{◌≡◌, ◌≤◌, ◌==◌, ℕ, List, Some, filter, length}
 use Rattle.std.specs.List.{AllByRecursion}
 use Rattle.papaya_schedules.specs.Entry.{Entry}
 use Rattle.papaya_named.specs.Seen.{kind_of}

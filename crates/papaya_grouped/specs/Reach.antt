@@ -1,5 +1,5 @@
 -- Where an executor is by acts, in the midst of an event: a list of acts has led there by every course, and what it comes to as it is played.
-use Rattle.std.specs.Prelude.{◌≡◌, ℕ, Bool, List, [], None, Some}
+use Rattle.std.specs.Prelude.{◌≡◌, ℕ, Bool, List, None, Some}
 use Rattle.std.specs.List.{AllByRecursion}
 use Rattle.papaya_scenes.specs.Scene.{slot_of}
 use Rattle.papaya_effects.specs.Known.{Known}
