@@ -44,7 +44,7 @@ use Rattle.papaya_scenes.specs.Given.Finishes.Maps.{Standing, with_call}
 use Rattle.papaya_executor.specs.declared.executor.Executor.{Executor}
 use Rattle.papaya_acts.specs.Acts.{Act, Answer, Nothing, OfCall, OfReply, OfAsking, OfMaking, OfEnding, BeginsCall, StepsCall, TellsCall, AsksCall, StopsCall, BeginsMaking, StepsMaking, BeginsEnding, StepsEnding, BeginsRow, StepsRow, begun}
 use Rattle.papaya_acts.specs.AsSteps.{IsOwn, changed_of, row_changed}
-use Rattle.papaya_drives.specs.Executors.{IsAct, IsStep, AreSteps, Computes, IsComputed, RowIsComputed, CallsAreActs, OthersAreActs, ExecutorsAct}
+use Rattle.papaya_drives.specs.Executors.{IsAct, AreSteps, Computes, IsComputed, RowIsComputed, CallsAreActs, OthersAreActs, ExecutorsAct}
 use Rattle.papaya_acts.specs.Leads.{AllStand, EndingCame, Led, MakingCame, MayBe, asked_on, call_at, call_steps, ending_steps, making_steps}
 use Rattle.papaya_acts.specs.Lists.{AllMayStep}
 use Rattle.papaya_drives.proofs.Begins.{wants}
@@ -63,7 +63,6 @@ use Rattle.papaya_executor.specs.OnSlots.{MayBegin, NobodyIn, RowStepsThere}
 use Rattle.papaya_executor.specs.Making.{MakesThere}
 use Rattle.papaya_executor.specs.Replying.{RepliesThere}
 use Rattle.papaya_executor.specs.Stepping.{StepsThere}
-use Rattle.papaya_scenes.proofs.Told.{as_step}
 use Rattle.papaya_scenes.specs.Ending.{EndingComesToThere}
 use Rattle.papaya_scenes.specs.Making.{MakingComesToThere}
 use Rattle.papaya_scenes.specs.OnSlots.{RowSteps}

@@ -1,22 +1,17 @@
 -- What an executor begins may be begun: a caller whose place comes next has nothing under way, and is one of few.
-use Rattle.std.specs.Prelude.{◌≢◌, ◌⊎◌, ◌<◌, ◌≤◌, ◌^◌, Option, Some, None, length, option_map, slice_index_or}
+use Rattle.std.specs.Prelude.{◌≢◌, ◌⊎◌, Option, Some, None, length}
 use Rattle.std.specs.Option.{is_none}
-use Rattle.std.specs.List.{All, AllPairs}
-use Rattle.std.proofs.Common.{◌≡◌, ℕ, Bool, true, false, List, inl, inr, refl, sym, ap, subst, arith, ◌∙◌}
+use Rattle.std.proofs.Common.{◌≡◌, ℕ, Bool, true, false, inl, inr, refl, sym, ap, subst, arith, ◌∙◌}
 use Rattle.std.proofs.lemmas.Bool.{cases_eq}
 use Rattle.std.proofs.lemmas.List.{get_or_past}
-use Rattle.papaya_scenes.specs.Given.Seize.World.{Begins, Request, Register', Enter', Leave', LeaveOwned, Refresh, Unregister', Flush, Row, Rests, Use, Vacant, Outside, Inside, Changing, IsTaken, World, with_at}
+use Rattle.papaya_scenes.specs.Given.Seize.World.{Begins, Use, Vacant, Outside, Inside, Changing, IsTaken, World, with_at}
 use Rattle.seize_acts.specs.Acts.{begun as row_begun, is_inside, is_outside, is_taken, is_within, rests}
 use Rattle.seize_acts.specs.Answers.{given}
-use Rattle.papaya_scenes.specs.Given.Tables.Nodes.{deferred_word}
-use Rattle.papaya_scenes.specs.Given.Tables.declared.node.Node.{Node}
-use Rattle.papaya_scenes.specs.Given.Tables.declared.setting.Setting.{Setting}
-use Rattle.papaya_scenes.specs.Given.Callers.Claims.{AreFew}
 use Rattle.papaya_scenes.specs.Given.Callers.Together.{HasCall, IsOfSlots, UnderWay}
 use Rattle.papaya_scenes.proofs.Given.Callers.Together.At.{at_other, at_same}
 use Rattle.papaya_scenes.specs.Given.Finishes.Machines.{machine_of}
 use Rattle.papaya_scenes.specs.Given.Finishes.Makings.{Beginning}
-use Rattle.papaya_scenes.specs.Given.Finishes.Maps.{Standing, with_call}
+use Rattle.papaya_scenes.specs.Given.Finishes.Maps.{with_call}
 use Rattle.papaya_scenes.proofs.NoCall.{none_of}
 use Rattle.papaya_scenes.specs.Replying.{scene_with}
 use Rattle.papaya_scenes.specs.Rows.{request_of}
@@ -28,7 +23,6 @@ use Rattle.papaya_scenes.specs.declared.row.SlotUse.TheVariants as used
 use Rattle.papaya_executor.specs.declared.executor.Executor.{Executor}
 use Rattle.papaya_executor.specs.declared.worker.Work.{Work}
 use Rattle.papaya_executor.specs.IsThere.{HasRow, IsThere, IsUsedAs, call_in, ending_in, making_in, use_at, work_of}
-use Rattle.papaya_executor.specs.OnSlots.{MayBegin, NobodyIn}
 use Rattle.papaya_acts.specs.Acts.{UnlessToCount, Wanted, Get, Remove, Insert, TryToInsert, Compute, Update, UpdateOrInsert, TryToInsertWith, RemoveIf, GetKeyValue, ContainsKey, GetOrInsert, GetOrInsertWith, RemoveEntry, MakeRoom, Count, GoOver}
 use Rattle.papaya_acts.specs.Leads.{AllStand, AreFewWith, IsFree}
 

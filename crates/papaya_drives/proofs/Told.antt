@@ -1,7 +1,7 @@
 -- A step of which is told what it has changed is computed, from what the memory was seen to choose: and so is what it has changed. What an operation has
 -- answered is told by the memory before it and after it.
-use Rattle.std.specs.Prelude.{◌≢◌, ◌⊎◌, ◌<◌, ◌+◌, ◌*◌, ◌^◌, ◌==◌, ◌++◌, Option, Some, None, Result, Ok, Err, length, replicate, if◌then◌else◌}
-use Rattle.std.proofs.Common.{◌≡◌, ℕ, Bool, true, false, List, inl, inr, refl, sym, ap, subst, arith, ◌∙◌}
+use Rattle.std.specs.Prelude.{◌≢◌, ◌⊎◌, ◌+◌, ◌==◌, ◌++◌, Option, Some, None, Result, Ok, Err, length, replicate, if◌then◌else◌}
+use Rattle.std.proofs.Common.{◌≡◌, ℕ, Bool, List, inl, inr, refl, sym, ap, subst, arith, ◌∙◌}
 use Rattle.std.proofs.lemmas.Bool.{cases_eq, eq-eqb, ne_eqb}
 use Rattle.std.proofs.lemmas.List.{length-append, length-replicate}
 use Rattle.papaya_scenes.specs.Given.SeizeWords.Mem.{Mem, Can, Gives, Took, after, block_of, fresh, value_at}

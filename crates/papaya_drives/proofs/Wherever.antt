@@ -1,8 +1,8 @@
 -- In whichever scene an act leads to, an executor is there that is in one of them: they are alike, and slots are used alike.
-use Rattle.std.specs.Prelude.{◌≢◌, ◌<◌, Option, Some, None, length, option_map}
+use Rattle.std.specs.Prelude.{Option, Some, None, option_map}
 use Rattle.std.specs.Option.{is_none}
-use Rattle.std.proofs.Common.{◌≡◌, ℕ, Bool, true, false, refl, sym, ap, subst, ◌∙◌}
-use Rattle.papaya_scenes.specs.Given.Seize.World.{Request, Register', Enter', Leave', LeaveOwned, Refresh, Unregister', Retire, Flush, Defer', Begins, Row, Rests, Use, Vacant, Outside, Inside, Changing, World}
+use Rattle.std.proofs.Common.{◌≡◌, ℕ, Bool, refl, sym, ap, subst, ◌∙◌}
+use Rattle.papaya_scenes.specs.Given.Seize.World.{Request, Register', Enter', Leave', LeaveOwned, Refresh, Unregister', Retire, Flush, Defer', Begins, Use, Vacant, Outside, Inside, Changing, World}
 use Rattle.seize_acts.proofs.Answers.{same_some}
 use Rattle.papaya_scenes.specs.Given.SeizeWords.Mem.{Mem}
 use Rattle.papaya_scenes.specs.Given.Seize.declared.progress.Progress.{Progress}
@@ -15,24 +15,23 @@ use Rattle.papaya_scenes.specs.Given.Tables.declared.setting.Setting.{Setting}
 use Rattle.papaya_scenes.specs.Given.Resize.declared.new_map.NewMap.{NewMap}
 use Rattle.papaya_scenes.specs.Given.Raw.declared.machines.end_map.EndMap.{EndMap}
 use Rattle.papaya_scenes.specs.Given.Callers.Rows.{IsUsedAlike}
-use Rattle.papaya_scenes.specs.Given.Callers.Together.{IsOfSlots, UnderWay}
+use Rattle.papaya_scenes.specs.Given.Callers.Together.{IsOfSlots}
 use Rattle.papaya_scenes.proofs.Given.Callers.Together.Users.{events_uses}
 use Rattle.papaya_scenes.specs.Given.Finishes.Endings.{EndingsTogether, Finishing}
 use Rattle.papaya_scenes.specs.Given.Finishes.FactsEnds.{Deed}
 use Rattle.papaya_scenes.specs.Given.Finishes.Machines.{machine_of}
 use Rattle.papaya_scenes.specs.Given.Finishes.Makings.{Beginning}
 use Rattle.papaya_scenes.specs.Given.Finishes.Maps.{Standing}
-use Rattle.papaya_scenes.specs.Given.Teller.declared.changed.Changed.{Changed}
 use Rattle.papaya_scenes.proofs.NoCall.{none_of}
-use Rattle.papaya_scenes.specs.Held.{Held, IsAt}
-use Rattle.papaya_scenes.specs.Scene.{HasNoCall, Scene, slot_of}
+use Rattle.papaya_scenes.specs.Held.{IsAt}
+use Rattle.papaya_scenes.specs.Scene.{Scene, slot_of}
 use Rattle.papaya_scenes.specs.declared.row.SlotUse.{SlotUse}
 use Rattle.papaya_scenes.specs.declared.row.SlotUse.TheVariants as used
 use Rattle.papaya_executor.specs.declared.executor.Executor.{Executor}
 use Rattle.papaya_executor.specs.declared.worker.Work.{Work}
 use Rattle.papaya_executor.specs.declared.worker.Work.TheVariants as work
 use Rattle.papaya_executor.proofs.Again.{used_on}
-use Rattle.papaya_executor.specs.IsThere.{HasRow, IsThere, IsUsedAs, StaysGiven, call_in, held_by, use_at, work_of}
+use Rattle.papaya_executor.specs.IsThere.{HasRow, IsThere, IsUsedAs, StaysGiven, call_in, use_at, work_of}
 use Rattle.papaya_acts.specs.Acts.{Act, Answer, BeginsCall, StepsCall, TellsCall, AsksCall, StopsCall, BeginsMaking, StepsMaking, BeginsEnding, StepsEnding, BeginsRow, StepsRow}
 use Rattle.papaya_acts.specs.AsSteps.{IsOwn, changed_by, held_in}
 use Rattle.papaya_acts.specs.Courses.{AreAlike, set_up}
