@@ -3,7 +3,7 @@ use Rattle.std.specs.Prelude.{Bool}
 use Rattle.std.specs.List.{AllByRecursion}
 use Rattle.std.proofs.Common.{ℕ, List, [], ◌∷◌}
 use Rattle.papaya_acts.specs.Acts.{Act}
-use Rattle.papaya_acts.specs.Doings.{Doing, Does, BeginsReclaiming, BeginsClearing, StepsReclaiming}
+use Rattle.papaya_acts.specs.Doings.{Doing, Does, BeginsReclaiming, BeginsClearing, StepsReclaiming, Chooses}
 use Rattle.papaya_deeds.specs.Deeds.{moment}
 use Rattle.papaya_played.specs.Play.{State, first_state}
 use Rattle.papaya_played.proofs.Along.{AllFit, AreOfTheirOwn, At, StaysSo, wherever}
@@ -19,7 +19,7 @@ use Rattle.papaya_agrees.proofs.Guards.{GuardsHold, guards_at_first, guards_stay
 use Rattle.papaya_agrees.proofs.Numbers.{NumbersStay, numbers_first, numbers_stay}
 use Rattle.papaya_agrees.proofs.Shards.{shards_stay}
 
-module _ {K S : Type 0} (V : Type 0) (same : K → K → Bool) (by_hasher : S → K → ℕ) (hash : ℕ → K → ℕ) (batch_size roots : ℕ) (aborts : V) where
+module _ {K S : Type 0} (V : Type 0) (same : K → K → Bool) (by_hasher : S → K → ℕ) (hash : ℕ → K → ℕ) (batch_size roots : ℕ) (aborts : ℕ → V) where
   abbrev Stays : (State K V S → Act K V S → Type 0) → (At V same by_hasher hash batch_size roots → State K V S → Type 0) → Type 0
   Stays Fits P = StaysSo V same by_hasher hash batch_size roots aborts Fits P
 
@@ -30,6 +30,7 @@ module _ {K S : Type 0} (V : Type 0) (same : K → K → Bool) (by_hasher : S �
     acts = λ p n x y act told own fits none none_then is is_then at may led leads at_then played here. so.acts p n x y act told own (less x act fits) none none_then is is_then at may led leads at_then played here;
     begins = so.begins;
     steps = so.steps;
+    chooses = so.chooses;
   }
 
   -- of two things at once
@@ -46,6 +47,10 @@ module _ {K S : Type 0} (V : Type 0) (same : K → K → Bool) (by_hasher : S �
     steps = λ p n x y told g st is is_then at leads scene played here. (
       one.steps p n x y told g st is is_then at leads scene played here.0,
       two.steps p n x y told g st is is_then at leads scene played here.1,
+    );
+    chooses = λ p n x choice none none_then scene is is_then at here. (
+      one.chooses p n x choice none none_then scene is is_then at here.0,
+      two.chooses p n x choice none none_then scene is is_then at here.1,
     );
   }
 
@@ -77,6 +82,7 @@ module _ {K S : Type 0} (V : Type 0) (same : K → K → Bool) (by_hasher : S �
     own_so (BeginsReclaiming i ∷ doings) asks = (tt, own_so doings asks.1)
     own_so (BeginsClearing i ∷ doings) asks = (tt, own_so doings asks.1)
     own_so (StepsReclaiming g ∷ doings) asks = (tt, own_so doings asks.1)
+    own_so (Chooses choice ∷ doings) asks = (tt, own_so doings asks.1)
 
     fit_so : (doings : List (Doing K V S)) → AllByRecursion (Asks V same by_hasher hash batch_size roots shards) doings → (x : State K V S) → AllFit V same by_hasher hash batch_size roots aborts Fits doings x
     fit_so [] asks x = tt
@@ -84,6 +90,7 @@ module _ {K S : Type 0} (V : Type 0) (same : K → K → Bool) (by_hasher : S �
     fit_so (BeginsReclaiming i ∷ doings) asks x = (tt, λ y e. fit_so doings asks.1 y)
     fit_so (BeginsClearing i ∷ doings) asks x = (tt, λ y e. fit_so doings asks.1 y)
     fit_so (StepsReclaiming g ∷ doings) asks x = (tt, λ y e. fit_so doings asks.1 y)
+    fit_so (Chooses choice ∷ doings) asks x = (tt, λ y e. fit_so doings asks.1 y)
 
 module _ {K S : Type 0} (V : Type 0) (same : K → K → Bool) (by_hasher : S → K → ℕ) (hash : ℕ → K → ℕ) (batch_size roots shards : ℕ) where
   pub lists_agree : ListsAgree V same by_hasher hash batch_size roots shards

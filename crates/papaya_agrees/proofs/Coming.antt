@@ -1,5 +1,5 @@
 -- Where no number is given to two maps, a map comes with a number with which none has come, and of which no other one is made.
-use Rattle.std.specs.Prelude.{◌≢◌, ◌⊎◌, ◌==◌, Option, Some, None, is_ok, option_map, if◌then◌else◌}
+use Rattle.std.specs.Prelude.{◌≢◌, ◌⊎◌, ◌==◌, Option, Some, None, is_ok, length, option_map, if◌then◌else◌}
 use Rattle.std.proofs.Common.{◌≡◌, ℕ, Bool, true, false, List, [], ◌∷◌, inl, inr, refl, ap, sym, subst, ◌∙◌}
 use Rattle.std.proofs.lemmas.Bool.{cases_eq, eq-eqb, ne_eqb}
 use Rattle.seize_acts.specs.Answers.{Grant}
@@ -19,11 +19,11 @@ use Rattle.papaya_scenes.specs.Scene.{slot_of}
 use Rattle.papaya_schedules.specs.declared.outcome.Outcome.TheVariants as outcome
 use Rattle.papaya_acts.specs.Acts.{Act, BeginsCall, StepsCall, TellsCall, AsksCall, StopsCall, BeginsMaking, StepsMaking, BeginsEnding, StepsEnding, BeginsRow, StepsRow}
 use Rattle.papaya_acts.specs.AsSteps.{changed_of}
-use Rattle.papaya_acts.specs.Doings.{Doing, Does, BeginsReclaiming, BeginsClearing, StepsReclaiming}
+use Rattle.papaya_acts.specs.Doings.{Doing, Does, BeginsReclaiming, BeginsClearing, StepsReclaiming, Chooses}
 use Rattle.papaya_acts.specs.Leads.{MayBe}
 use Rattle.papaya_acts.proofs.AsSteps.Told.{was_told}
 use Rattle.papaya_deeds.specs.Deeds.{Entry, Replies, Stops}
-use Rattle.papaya_played.specs.Play.{Making, Now, State, all_begun, first_state, has_root, made_on, making_stepped, play, reply_for}
+use Rattle.papaya_played.specs.Play.{Making, Now, State, all_begun, choice_come, first_state, has_root, made_on, making_stepped, play, reply_for}
 use Rattle.papaya_played.specs.Reached.{made_so, makes_so}
 use Rattle.papaya_played.proofs.Along.{AllFit, At, Is, StaysSo}
 use Rattle.papaya_played.proofs.PlayedAs.{PlayedAs, ReclaimedAs, played_as, reclaimed_as}
@@ -69,7 +69,7 @@ module _ {K V S : Type 0} where
     pub come : (n : ℕ) → has_come n x.history ≡ false → has_come n y.history ≡ false
     pub makers : (i : ℕ) (b : Making S) → y.now.makers i ≡ Some b → x.now.makers i ≡ Some b
 
-module _ {K V S : Type 0} (same : K → K → Bool) (hash : S → K → ℕ) (batch_size roots : ℕ) (aborts : V) (x y : State K V S) where
+module _ {K V S : Type 0} (same : K → K → Bool) (hash : S → K → ℕ) (batch_size roots : ℕ) (aborts : ℕ → V) (x y : State K V S) where
   leaves : (z : State K V S) → y ≡ z → LeavesMakings x z → LeavesMakings x y
   leaves z is so = subst (LeavesMakings x) (sym is) so
 
@@ -79,7 +79,7 @@ module _ {K V S : Type 0} (same : K → K → Bool) (hash : S → K → ℕ) (ba
   acts_leave (TellsCall i m reply) none (c, has, is) =
       leaves _ is
       (record {
-        come = λ n not. perhaps_not (is_ok (machine_replied c.machine reply).1) n (record { deed = Replies i (reply_for aborts reply); outcome = outcome.Goes; effects = []; refused = false }) x.history refl not;
+        come = λ n not. perhaps_not (is_ok (machine_replied c.machine reply).1) n (record { deed = Replies i (reply_for (aborts (length x.told)) reply); outcome = outcome.Goes; effects = []; refused = false }) x.history refl not;
         makers = λ j d has. has;
       })
   acts_leave (AsksCall i m) none (c, has, is) = leaves _ is (record { come = λ n not. not; makers = λ j d has. has })
@@ -174,6 +174,7 @@ module _ {K V S : Type 0} (same : K → K → Bool) (hash : S → K → ℕ) (ba
     doing_free (BeginsReclaiming i) none played =
         subst (IsFree n) (same_some (all_begun (reclaiming_all batch_size roots) x) y played) (record { not_come = free.not_come; not_made = free.not_made })
     doing_free (BeginsClearing i) none played = subst (IsFree n) (same_some (all_begun (clearing roots) x) y played) (record { not_come = free.not_come; not_made = free.not_made })
+    doing_free (Chooses choice) none played = subst (IsFree n) (same_some (choice_come choice x) y played) (record { not_come = free.not_come; not_made = free.not_made })
     doing_free (StepsReclaiming g) none played = left_free (reclaiming_leaves g (reclaimed_as same hash batch_size roots aborts x y g played))
 
   -- A map whose root is not taken yet has a number with which none has come, and of which no other is made.
@@ -239,7 +240,7 @@ module _ {K V S : Type 0} (same : K → K → Bool) (hash : S → K → ℕ) (ba
     acts_come (BeginsRow i request) new alone by = left_coming (acts_leave (BeginsRow i request) tt by)
     acts_come (StepsRow i g) new alone by = left_coming (acts_leave (StepsRow i g) tt by)
 
-module _ {K S : Type 0} (V : Type 0) (same : K → K → Bool) (by_hasher : S → K → ℕ) (hash : ℕ → K → ℕ) (batch_size roots : ℕ) (aborts : V) where
+module _ {K S : Type 0} (V : Type 0) (same : K → K → Bool) (by_hasher : S → K → ℕ) (hash : ℕ → K → ℕ) (batch_size roots : ℕ) (aborts : ℕ → V) where
   -- A list of acts by which no number is made twice makes each map with a new number, where its numbers are free.
   abbrev AreFree : List (Doing K V S) → State K V S → Type 0
   AreFree doings x = (n : ℕ) → is_made n doings ≡ true → IsFree n x
@@ -283,6 +284,7 @@ module _ {K S : Type 0} (V : Type 0) (same : K → K → Bool) (by_hasher : S �
   new_numbers (BeginsReclaiming i ∷ doings) x once free = (tt, λ y played. new_numbers doings y once (others_free (BeginsReclaiming i) doings x y (λ n made. refl) free played))
   new_numbers (BeginsClearing i ∷ doings) x once free = (tt, λ y played. new_numbers doings y once (others_free (BeginsClearing i) doings x y (λ n made. refl) free played))
   new_numbers (StepsReclaiming g ∷ doings) x once free = (tt, λ y played. new_numbers doings y once (others_free (StepsReclaiming g) doings x y (λ n made. refl) free played))
+  new_numbers (Chooses choice ∷ doings) x once free = (tt, λ y played. new_numbers doings y once (others_free (Chooses choice) doings x y (λ n made. refl) free played))
 
   -- no other is made with that number, where a making may begin
   made_alone : (p : At V same by_hasher hash batch_size roots) (x : State K V S) → Is V same by_hasher hash batch_size roots aborts p x → (act : Act K V S) → MayBe same by_hasher batch_size roots slot_of act p.0
@@ -308,6 +310,7 @@ module _ {K S : Type 0} (V : Type 0) (same : K → K → Bool) (by_hasher : S �
     begins = λ p n x i c none begun same_scene all_free is is_then at so. record { rootless = so.rootless; apart = so.apart };
     steps = λ p n x y told g st is is_then at leads comes played so.
         left_coming same by_hasher batch_size roots aborts x y so (reclaiming_leaves same by_hasher batch_size roots aborts x y g (reclaimed_as same by_hasher batch_size roots aborts x y g played));
+    chooses = λ p n x choice none none_then scene is is_then at so. record { rootless = so.rootless; apart = so.apart };
   }
 
 -- nothing is made at first

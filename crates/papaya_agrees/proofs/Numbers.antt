@@ -1,5 +1,5 @@
 -- Wherever a list of acts has led, nothing is there of a number with which no map has come.
-use Rattle.std.specs.Prelude.{◌≢◌, ◌⊎◌, Option, Some, None, is_ok, if◌then◌else◌}
+use Rattle.std.specs.Prelude.{◌≢◌, ◌⊎◌, Option, Some, None, is_ok, length, if◌then◌else◌}
 use Rattle.std.proofs.Common.{◌≡◌, ℕ, Bool, true, false, List, [], ◌∷◌, inl, inr, refl, ap, sym, subst, ◌∙◌}
 use Rattle.std.proofs.lemmas.Bool.{cases_eq}
 use Rattle.seize_acts.specs.Answers.{Grant, stepped}
@@ -236,7 +236,7 @@ same_map f machine said d is = by (is_over said) is
     by true e = absurd (cc e)
     by false e = sym (ap (λ (z : Ending). z.map) (same_some (record f { machine = machine }) d e))
 
-module _ {K V S : Type 0} (same : K → K → Bool) (hash : S → K → ℕ) (batch_size roots : ℕ) (aborts : V) (x y : State K V S) (here : NumbersHold x) where
+module _ {K V S : Type 0} (same : K → K → Bool) (hash : S → K → ℕ) (batch_size roots : ℕ) (aborts : ℕ → V) (x y : State K V S) (here : NumbersHold x) where
   makes_so : {R : Type 0} (g : Grant) (plan : Plan (Node K V) R) (end : Mem (Node K V) × R) → stepped x.now.memory g plan ≡ Some end → MakesSome (changed_of x.now.memory g plan)
   makes_so g plan end came = step_makes x.now.memory end.0 (changed_of x.now.memory g plan) plan end.1 (was_told x.now.memory g plan end came)
 
@@ -256,7 +256,7 @@ module _ {K V S : Type 0} (same : K → K → Bool) (hash : S → K → ℕ) (ba
   acts_number (TellsCall i m reply) (c, has, is) noted =
       let to = machine_replied c.machine reply in
       subst NumbersHold (sym is)
-      (did_so x here (is_ok to.1) (Replies i (reply_for aborts reply)) outcome.Goes (OfReply to.1) (with_call x.now.calls m i (Some (told_call to (reply_for aborts reply) c))) (λ n not. tt))
+      (did_so x here (is_ok to.1) (Replies i (reply_for (aborts (length x.told)) reply)) outcome.Goes (OfReply to.1) (with_call x.now.calls m i (Some (told_call to (reply_for (aborts (length x.told)) reply) c))) (λ n not. tt))
   acts_number (AsksCall i m) (c, has, is) noted =
       let to = machine_asked c.machine in
       subst NumbersHold (sym is) (did_so x here false (Steps i) outcome.Goes (OfAsking to.1) (with_call x.now.calls m i (Some (record c { machine = to.0 }))) (λ n not. tt))
@@ -330,7 +330,7 @@ NumbersStay x = CallsAreNoted x × NumbersHold x
 pub numbers_first : {K V S : Type 0} (roots : ℕ) → NumbersHold {K = K} {V = V} {S = S} (first_state roots)
 numbers_first roots = record { none = refl; fresh = λ n not. fresh_first n; maps = λ m at has. absurd (cc has); made = λ i b has rooted. absurd (cc has); ended = λ i f has. absurd (cc has) }
 
-module _ {K S : Type 0} (V : Type 0) (same : K → K → Bool) (by_hasher : S → K → ℕ) (hash : ℕ → K → ℕ) (batch_size roots : ℕ) (aborts : V) where
+module _ {K S : Type 0} (V : Type 0) (same : K → K → Bool) (by_hasher : S → K → ℕ) (hash : ℕ → K → ℕ) (batch_size roots : ℕ) (aborts : ℕ → V) where
   pub numbers_stay : StaysSo V same by_hasher hash batch_size roots aborts (Anything V same by_hasher hash batch_size roots aborts) (λ p x. NumbersStay x)
   numbers_stay = record {
     acts = λ p n x y act told own fits none none_then is is_then at may led leads at_then played so. (
@@ -342,6 +342,7 @@ module _ {K S : Type 0} (V : Type 0) (same : K → K → Bool) (by_hasher : S �
       notes.steps p n x y told g st is is_then at leads comes played so.0,
       reclaiming_numbers same by_hasher batch_size roots aborts x y so.1 g (reclaimed_as same by_hasher batch_size roots aborts x y g played),
     );
+    chooses = λ p n x choice none none_then scene is is_then at so. (so.0, record { none = so.1.none; fresh = so.1.fresh; maps = so.1.maps; made = so.1.made; ended = so.1.ended });
   }
     where
       notes : StaysSo V same by_hasher hash batch_size roots aborts (Anything V same by_hasher hash batch_size roots aborts) (λ p x. CallsAreNoted x)

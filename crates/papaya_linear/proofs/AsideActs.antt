@@ -1,5 +1,5 @@
 -- Maps come and go as before by what calls and rows do, and by who reclaims all.
-use Rattle.std.specs.Prelude.{◌≡◌, ◌≢◌, ℕ, Bool, true, false, List, [], ◌∷◌, Option, Some, None, is_ok, if◌then◌else◌}
+use Rattle.std.specs.Prelude.{◌≡◌, ◌≢◌, ℕ, Bool, true, false, List, [], ◌∷◌, Option, Some, None, is_ok, length, if◌then◌else◌}
 use Rattle.std.specs.List.{All}
 use Rattle.std.proofs.Common.{refl, ap, sym, subst, ◌∙◌}
 use Rattle.papaya_scenes.specs.Given.Seize.declared.rows.reclaim_all.ReclaimAll.{ReclaimAll}
@@ -107,10 +107,10 @@ module _ {K V S : Type 0} where
   abbrev pub Quiet : State K V S → State K V S → Type 0
   Quiet x y = AreAlike (moment x.history) (moment y.history) × (y.known ≡ x.known) × (y.now.enders ≡ x.now.enders)
 
-  module _ (same : K → K → Bool) (by_hasher : S → K → ℕ) (batch_size roots : ℕ) (aborts : V) (x y : State K V S) where
+  module _ (same : K → K → Bool) (by_hasher : S → K → ℕ) (batch_size roots : ℕ) (aborts : ℕ → V) (x y : State K V S) where
     pub quiet_played : (act : Act K V S) → IsQuiet act → PlayedAs same by_hasher batch_size roots aborts x y act → Quiet x y
     quiet_played (BeginsCall i m wanted) quiet (at, there, is) = subst (Quiet x) (sym is) ((refl, refl, refl), refl, refl)
-    quiet_played (TellsCall i m reply) quiet (c, here, is) = subst (Quiet x) (sym is) (told_alike x.history (is_ok (machine_replied c.machine reply).1) i reply aborts, refl, refl)
+    quiet_played (TellsCall i m reply) quiet (c, here, is) = subst (Quiet x) (sym is) (told_alike x.history (is_ok (machine_replied c.machine reply).1) i reply (aborts (length x.told)), refl, refl)
     quiet_played (AsksCall i m) quiet (c, here, is) = subst (Quiet x) (sym is) ((refl, refl, refl), refl, refl)
     quiet_played (StopsCall i m) quiet (c, here, is) = subst (Quiet x) (sym is) (stopped_alike x.history (machine_asked c.machine).1 i, refl, refl)
     quiet_played (BeginsRow i request) quiet (called, there, is) = subst (Quiet x) (sym is) ((refl, refl, refl), refl, refl)

@@ -73,7 +73,7 @@ module _ {K V S : Type 0} where
   made_enders b i machine (progress.Done setting) now = refl
   made_enders b i machine (progress.Refused fault) now = refl
 
-module _ {K V S : Type 0} (same : K → K → Bool) (by_hasher : S → K → ℕ) (hash : ℕ → K → ℕ) (batch_size roots : ℕ) (aborts : V) (x y : State K V S) (s n : Scene K V) (rows : ℕ → Row) (is : IsOf by_hasher s rows x.now)
+module _ {K V S : Type 0} (same : K → K → Bool) (by_hasher : S → K → ℕ) (hash : ℕ → K → ℕ) (batch_size roots : ℕ) (aborts : ℕ → V) (x y : State K V S) (s n : Scene K V) (rows : ℕ → Row) (is : IsOf by_hasher s rows x.now)
     (before : Changed) (at : IsAt same hash (held_in batch_size roots before s) s) (whole : ShowsWhole same named (moment x.history) x.known s) (so : MapsComeAndGo (moment x.history) x.known x.now.enders s) (told : Answer K V) where
   abbrev old : Held K V
   old = held_in batch_size roots before s

@@ -52,7 +52,7 @@ module _ {K V S : Type 0} where
       )
   new_number x numbers _ none = tt
 
-module _ {K V S : Type 0} (same : K → K → Bool) (by_hasher : S → K → ℕ) (hash : ℕ → K → ℕ) (batch_size roots : ℕ) (aborts : V) (x y : State K V S) (s n : Scene K V) (rows2 : ℕ → Row)
+module _ {K V S : Type 0} (same : K → K → Bool) (by_hasher : S → K → ℕ) (hash : ℕ → K → ℕ) (batch_size roots : ℕ) (aborts : ℕ → V) (x y : State K V S) (s n : Scene K V) (rows2 : ℕ → Row)
     (is : IsOf by_hasher s s.world.row x.now) (is_then : IsOf by_hasher n rows2 y.now) (at : IsAt same hash (held_in batch_size roots NoChange s) s) (holds : Holds same x s)
     (maps : MapsComeAndGo (moment x.history) x.known x.now.enders s) (noted_then : CallsAreNoted y) (told : Answer K V) where
   abbrev then_held : Act K V S → Held K V

@@ -33,6 +33,7 @@ pub mod AsideActs
 pub mod MakesRight
 pub mod EndsRight
 pub mod ComeActs
+pub mod Chosen
 pub mod Holding
 pub mod Stays
 pub mod Linear

@@ -2,7 +2,7 @@
 use Rattle.std.specs.Prelude.{◌≡◌, ◌<◌, ◌^◌, Bool, Some}
 use Rattle.std.specs.List.{AllByRecursion}
 use Rattle.std.proofs.Common.{ℕ, List, [], ◌∷◌, refl}
-use Rattle.papaya_acts.specs.Doings.{Doing, Does, BeginsReclaiming, BeginsClearing, StepsReclaiming}
+use Rattle.papaya_acts.specs.Doings.{Doing, Does, BeginsReclaiming, BeginsClearing, StepsReclaiming, Chooses}
 use Rattle.papaya_acts.specs.Lists.{Course, LedTo, Reached, nothing_done}
 use Rattle.papaya_scenes.specs.Scene.{slot_of}
 use Rattle.papaya_agrees.specs.Fresh.{HasNewNumber, MakesOnce}
@@ -20,9 +20,10 @@ module _ {K S : Type 0} (V : Type 0) (same : K → K → Bool) (by_hasher : S �
   own_so (BeginsReclaiming i ∷ doings) own = (tt, own_so doings own.1)
   own_so (BeginsClearing i ∷ doings) own = (tt, own_so doings own.1)
   own_so (StepsReclaiming g ∷ doings) own = (tt, own_so doings own.1)
+  own_so (Chooses choice ∷ doings) own = (tt, own_so doings own.1)
 
   -- What stays so where each map gets a new number is so wherever a list of acts has led that are of their own, and give no number to two maps.
-  pub wherever_led : batch_size < 2 ^ 64 → (aborts : V) (P : At V same by_hasher hash batch_size roots → State K V S → Type 0) → StaysSo V same by_hasher hash batch_size roots aborts HasNewNumber P
+  pub wherever_led : batch_size < 2 ^ 64 → (aborts : ℕ → V) (P : At V same by_hasher hash batch_size roots → State K V S → Type 0) → StaysSo V same by_hasher hash batch_size roots aborts HasNewNumber P
       → (course : Course V same by_hasher batch_size roots slot_of) (doings : List (Doing K V S)) (y : Reached V same by_hasher batch_size roots slot_of)
       → LedTo V same by_hasher batch_size roots slot_of course doings y → AllByRecursion (IsOfOwn V same by_hasher hash batch_size roots) doings → MakesOnce doings
       → P (nothing_done V same by_hasher batch_size roots slot_of course).0 (first_state roots)

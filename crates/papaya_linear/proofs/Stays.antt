@@ -26,8 +26,9 @@ use Rattle.papaya_agrees.specs.Fresh.{HasNewNumber}
 use Rattle.papaya_agrees.proofs.Numbers.{NumbersHold, numbers_stay}
 use Rattle.papaya_deeds.specs.Deeds.{moment, named}
 use Rattle.papaya_deeds.specs.History.{past}
-use Rattle.papaya_played.specs.Play.{State, all_begun, all_stepped, first_state, is_over, is_refusal, settled_outcome}
+use Rattle.papaya_played.specs.Play.{State, all_begun, choice_come, all_stepped, first_state, is_over, is_refusal, settled_outcome}
 use Rattle.papaya_played.specs.Reached.{IsOf, rows_beside}
+use Rattle.papaya_linear.proofs.Chosen.{maps_chosen, shows_chosen}
 use Rattle.papaya_played.proofs.Along.{At, Is, StaysSo, far, held, lists_at}
 use Rattle.papaya_played.proofs.Noted.{Anything, CallsAreNoted}
 use Rattle.papaya_played.proofs.PlayedAs.{ReclaimedAs, played_as, reclaimed_as}
@@ -49,7 +50,7 @@ first_shows {K = K} {V = V} same roots =
       questions = questions_begin K V;
     }
 
-module _ {K S : Type 0} (V : Type 0) (same : K → K → Bool) (by_hasher : S → K → ℕ) (hash : ℕ → K → ℕ) (batch_size roots : ℕ) (aborts : V) where
+module _ {K S : Type 0} (V : Type 0) (same : K → K → Bool) (by_hasher : S → K → ℕ) (hash : ℕ → K → ℕ) (batch_size roots : ℕ) (aborts : ℕ → V) where
   abbrev pub Of : At V same by_hasher hash batch_size roots → State K V S → Type 0
   Of p x = AllHolds same x p.0
 
@@ -126,6 +127,13 @@ module _ {K S : Type 0} (V : Type 0) (same : K → K → Bool) (by_hasher : S �
               (is_over st.end) (settled_outcome st.end) (is_refusal new.changed));
           numbers = then_numbers.1;
         });
+    chooses = λ p n x choice none none_then scene is is_then at so.
+        (let then_numbers = numbers.chooses p n x choice none none_then scene is is_then at (so.holds.noted, so.numbers) in
+        subst (AllHolds same (choice_come choice x)) (sym scene) (record {
+          holds = record { shows = shows_chosen same choice x p.0 so.holds.shows; noted = so.holds.noted; heard = so.holds.heard; each = so.holds.each };
+          maps = maps_chosen choice (moment x.history) x.known x.now.enders p.0 so.maps;
+          numbers = then_numbers.1;
+        }));
   }
     where
       numbers : StaysSo V same by_hasher hash batch_size roots aborts (Anything V same by_hasher hash batch_size roots aborts) (λ p x. CallsAreNoted x × NumbersHold x)

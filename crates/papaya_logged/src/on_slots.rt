@@ -14,7 +14,7 @@ ghost use Rattle.papaya_logged.specs.OnSlots.{EndsTelling, OnSlotBegins, OnSlotS
 ghost use Rattle.papaya_logged.specs.Shown.{IsShown};
 ghost use Rattle.papaya_executor.specs.Beginning.{IsRefused};
 ghost use Rattle.papaya_executor.specs.IsThere.{IsThere, KeepsGiven, work_of};
-ghost use Rattle.papaya_executor.specs.OnSlots.{RowStepsThere};
+ghost use Rattle.papaya_executor.specs.OnSlots.{RowBeginsThere, RowStepsThere};
 ghost use Rattle.papaya_scenes.specs.Scene.{Scene};
 
 use crate::back::keep_row;
@@ -45,6 +45,8 @@ impl<K: Drop, V: Drop, S> Logged<K, V, S> {
         ensures number { IfOk result (λ caller. caller ≡ length self.old.executor.workers.items * SLOTS + slot) }
         ensures leads { IfOk result (λ caller. (same : K → K → Bool) (hash : K → ℕ) (name : ℕ → List ℕ) (m : Moment K V) (s : Scene K V) → IsShown same hash name m self.old s
             → OnSlotBegins same hash name m s called caller self.old self.new) }
+        ensures begun { IfOk result (λ caller. (same : K → K → Bool) (hash : K → ℕ) (s : Scene K V) → IsThere same hash self.old.executor s
+            → RowBeginsThere same hash called caller s self.old.executor self.new.executor) }
         ensures notes { IfOk result (λ caller. self.new.notes ≡ self.old.notes) }
         ensures given { KeepsGiven self.old.executor self.new.executor }
         ensures refused { IfErr result (λ error. IsRefused self.old.executor self.new.executor × (self.new.notes ≡ self.old.notes)) }

@@ -2,7 +2,7 @@ pub mod Alike
 mod Calls
 mod Makings
 pub mod Rows
-mod All
+pub mod All
 pub mod Along
 pub mod PlayedAs
 pub mod Noted

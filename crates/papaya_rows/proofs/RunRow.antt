@@ -44,15 +44,18 @@ module _ {K V S : Type 0} (slot : ℕ) (called : SlotCall) (caller : ℕ) (old b
     begun_there = (same, hash, record s { world = (leads may_there).3.2.0; maps = (leads may_there).3.2.2 }, (leads may_there).3.2.4, begun_row slot old.executor.batch_size called, row_is)
 
     -- and has run
-    pub has_run : (said : RowTold (Node K V)) (before after : List Effect) → began.notes ≡ old.notes → KeepsGiven old.executor began.executor
+    pub has_run : (said : RowTold (Node K V)) (before after : List Effect)
+        → ((same2 : K → K → Bool) (hash2 : K → ℕ) (s2 : Scene K V) → IsThere same2 hash2 old.executor s2 → RowBeginsThere same2 hash2 called caller s2 old.executor began.executor)
+        → began.notes ≡ old.notes → KeepsGiven old.executor began.executor
         → GoesTo (RowGoes caller) (far before began) (far after new) → OnSlotComes caller said new → OnSlotLast caller said began.executor new.executor
         → ((row : SlotRow) → work_of began.executor caller ≡ Some (OnSlot row) → has_ended said ≡ true → new.executor.slots.items ≡ uses_ended row said began.executor.slots.items)
         → OnSlotRan before after began new → EndsTelling after new.executor → RowRan slot called said before after old new
-    has_run said before after noted given goes comes last used ran tells = record {
+    has_run said before after begun noted given goes comes last used ran tells = record {
       caller = caller;
       in_slot = in_slot;
       began = began;
       begins = begins;
+      begun = begun;
       noted = noted;
       given = given;
       goes = goes;

@@ -1,0 +1,7 @@
+pub mod Aborts
+pub mod OneMore
+pub mod Reached
+pub mod Wanted
+pub mod Midst
+pub mod Callers
+mod Samples
