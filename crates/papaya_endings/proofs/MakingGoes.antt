@@ -90,7 +90,7 @@ module _ {K V : Type 0} (map own : ℕ) (ne : own ≢ map) (m : Moment K V) (sto
       (alike_then map b v (then_at false true) (all_spared map None (Some own) other effects b (stored_alike map m b came stored) (firsts_spare map None (Some own) effects b firsts links))
       (alike_all map v (then_at false true) refl refl refl refl refl))
 
-module _ {K V S : Type 0} (same : K → K → Bool) (by_hasher : S → K → ℕ) (hash : ℕ → K → ℕ) (batch_size roots : ℕ) (aborts : V) (x y : State K V S) (s n : Scene K V)
+module _ {K V S : Type 0} (same : K → K → Bool) (by_hasher : S → K → ℕ) (hash : ℕ → K → ℕ) (batch_size roots : ℕ) (aborts : ℕ → V) (x y : State K V S) (s n : Scene K V)
     (is : IsOf by_hasher s s.world.row x.now) (at : IsAt same hash (held_in batch_size roots NoChange s) s) (all : AllHolds same x s) (so : EndsGoOn x s) (told : Answer K V) (i : ℕ) (g : Grant) where
   abbrev act : Act K V S
   act = StepsMaking i g

@@ -30,6 +30,6 @@ module _ {K S : Type 0} (V : Type 0) (same : K → K → Bool) (by_hasher : S �
   -- The promise: so it is of each entry wherever a list of acts has led, in which no number is given to two maps, whatever the values are with which closures abort.
   abbrev pub MapsEndInOrder : Type 0
   MapsEndInOrder =
-      batch_size < 2 ^ 64 → (aborts : V) (course : Course V same by_hasher batch_size roots slot_of) (doings : List (Doing K V S)) (y : Reached V same by_hasher batch_size roots slot_of)
+      batch_size < 2 ^ 64 → (aborts : ℕ → V) (course : Course V same by_hasher batch_size roots slot_of) (doings : List (Doing K V S)) (y : Reached V same by_hasher batch_size roots slot_of)
       → LedTo V same by_hasher batch_size roots slot_of course doings y → AllByRecursion (IsOfOwn V same by_hasher hash batch_size roots) doings → MakesOnce doings
       → (after : State K V S) × (play_all same by_hasher batch_size roots aborts doings (first_state roots) ≡ Some after) × AtEachEvent EndsInOrder after.history

@@ -130,7 +130,7 @@ module _ {K S : Type 0} (V : Type 0) (same : K → K → Bool) (by_hasher : S �
     chooses = λ p n x choice none none_then scene is is_then at so.
         (let then_numbers = numbers.chooses p n x choice none none_then scene is is_then at (so.holds.noted, so.numbers) in
         subst (AllHolds same (choice_come choice x)) (sym scene) (record {
-          holds = record { shows = shows_chosen same choice x p.0 so.holds.shows; noted = so.holds.noted; heard = so.holds.heard; each = so.holds.each };
+          holds = record { shows = shows_chosen same choice (past x.history) (moment x.history) x.known p.0 so.holds.shows; noted = so.holds.noted; heard = so.holds.heard; each = so.holds.each };
           maps = maps_chosen choice (moment x.history) x.known x.now.enders p.0 so.maps;
           numbers = then_numbers.1;
         }));

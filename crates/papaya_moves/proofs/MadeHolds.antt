@@ -1,5 +1,5 @@
 -- Of each map whose making is under way so many tables were made as it has in hand, and it has the capacity for its places; for a number with which no map has come none was made.
-use Rattle.std.specs.Prelude.{◌≡◌, ◌≢◌, ℕ, Bool, true, false, List, [], ◌∷◌, ◌++◌, Option, Some, None, if◌then◌else◌, is_ok}
+use Rattle.std.specs.Prelude.{◌≡◌, ◌≢◌, ℕ, Bool, true, false, List, [], ◌∷◌, ◌++◌, Option, Some, None, length, if◌then◌else◌, is_ok}
 use Rattle.std.proofs.Common.{refl, ap, sym, subst, ◌∙◌, arith}
 use Rattle.seize_acts.specs.Answers.{Grant}
 use Rattle.seize_acts.proofs.Answers.{same_some}
@@ -115,7 +115,7 @@ module _ {K V S : Type 0} (x : State K V S) (here : MadeHolds x) where
       by true goes = gone_capacity b.map f.map (apart i b it) e (moment x.history) goes names
       by false ends = capacity_still b.map e (moment x.history) (subst IsStill (sym ends) tt)
 
-module _ {K V S : Type 0} (same : K → K → Bool) (hash : S → K → ℕ) (batch_size roots : ℕ) (aborts : V) (x y : State K V S) (here : MadeHolds x) where
+module _ {K V S : Type 0} (same : K → K → Bool) (hash : S → K → ℕ) (batch_size roots : ℕ) (aborts : ℕ → V) (x y : State K V S) (here : MadeHolds x) where
   -- it is no step of a making, and a map that ends is none that is made
   abbrev pub LeavesMaking : Act K V S → Type 0
   LeavesMaking (StepsMaking i g) = ⊥
@@ -127,7 +127,7 @@ module _ {K V S : Type 0} (same : K → K → Bool) (hash : S → K → ℕ) (ba
   acts_keep_made (BeginsCall i m wanted) leaves new (at, there, is) = subst MadeHolds (sym is) (did_made x here true _ tt tt outcome.Goes _ _ refl)
   acts_keep_made (StepsCall i m g) leaves new (at, stands, (c, has, end, came, is)) = subst MadeHolds (sym is) (still_grown x here _ tt tt _ _ _ refl)
   acts_keep_made (TellsCall i m reply) leaves new (c, has, is) =
-      subst MadeHolds (sym is) (did_made x here (is_ok (machine_replied c.machine reply).1) (Replies i (reply_for aborts reply)) tt tt outcome.Goes _ _ refl)
+      subst MadeHolds (sym is) (did_made x here (is_ok (machine_replied c.machine reply).1) (Replies i (reply_for (aborts (length x.told)) reply)) tt tt outcome.Goes _ _ refl)
   acts_keep_made (AsksCall i m) leaves new (c, has, is) = subst MadeHolds (sym is) (did_made x here false (Steps i) tt tt outcome.Goes _ _ refl)
   acts_keep_made (StopsCall i m) leaves new (c, has, is) = subst MadeHolds (sym is) (did_made x here (machine_asked c.machine).1 (Stops i) tt tt outcome.Done _ _ refl)
   acts_keep_made (BeginsMaking i map hasher given places) leaves new is =

@@ -47,7 +47,7 @@ use Rattle.papaya_moves.proofs.MadeStep.{own_then, then_made}
 use Rattle.papaya_moves.proofs.MakingMoves.{counts as counts_made, frees_quietly}
 use Rattle.papaya_moves.proofs.Rooted.{Rooted, step_rooted}
 
-module _ {K V S : Type 0} (same : K → K → Bool) (by_hasher : S → K → ℕ) (hash : ℕ → K → ℕ) (batch_size roots : ℕ) (aborts : V) (x y : State K V S) (s n : Scene K V) (is : IsOf by_hasher s s.world.row x.now)
+module _ {K V S : Type 0} (same : K → K → Bool) (by_hasher : S → K → ℕ) (hash : ℕ → K → ℕ) (batch_size roots : ℕ) (aborts : ℕ → V) (x y : State K V S) (s n : Scene K V) (is : IsOf by_hasher s s.world.row x.now)
     (at : IsAt same hash (held_in batch_size roots NoChange s) s) (holds : Holds same x s) (maps : MapsComeAndGo (moment x.history) x.known x.now.enders s) (numbers : NumbersHold x) (made : MadeHolds x) (told : Answer K V)
     (i : ℕ) (g : Grant) where
   abbrev old : Held K V

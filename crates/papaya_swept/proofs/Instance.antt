@@ -34,7 +34,7 @@ use Rattle.papaya_linear.proofs.RowsPlayed.{is_of_row, no_caller, rows_like}
 use Rattle.papaya_swept.specs.Shown.{HasSwept, ShowsSweeps}
 use Rattle.papaya_swept.proofs.Calls.{reads, sweeps_begin, sweeps_go_on, sweeps_step, sweeps_stop, sweeps_take}
 use Rattle.papaya_swept.proofs.Kept.{IsKept, alone, coming, comes_by}
-use Rattle.papaya_swept.proofs.Others.{sweeps_by_end, sweeps_by_end_begun, sweeps_by_making, sweeps_by_making_begun, sweeps_by_map_come, sweeps_by_map_gone, sweeps_by_reclaiming, sweeps_by_row, sweeps_by_row_begun, sweeps_like, sweeps_over}
+use Rattle.papaya_swept.proofs.Others.{sweeps_by_end, sweeps_by_end_begun, sweeps_by_making, sweeps_by_making_begun, sweeps_by_map_come, sweeps_by_map_gone, sweeps_by_reclaiming, sweeps_by_row, sweeps_by_row_begun, sweeps_chosen, sweeps_like, sweeps_over}
 use Rattle.papaya_swept.proofs.SweptBy.{pair_words, right, shows_as_walk, walks_bring_none}
 
 module _ {K V : Type 0} (same : K → K → Bool) (terms : Terms) where
@@ -143,4 +143,5 @@ module _ {K V : Type 0} (same : K → K → Bool) (hash : ℕ → K → ℕ) (te
         let then_sweeps = sweeps_by_end K V same hash (past history) m known s all has.shows old new at i said leads f here map not_there its in
         one_more same terms history known known2 s _ all has e (none_swept same terms history e refl) (without_map (named map) v.remains v)
         (sweeps_by_map_gone K V same hash (past history) v known2 _ then_all then_sweeps new new at2 (named map) v.remains apart) refl);
+    choices_come = λ history known s all has choice. record { shows = sweeps_chosen same (past history) known s (moment history) all has.shows choice; each = has.each };
   }

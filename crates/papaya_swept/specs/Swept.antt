@@ -17,6 +17,6 @@ module _ {K S : Type 0} (V : Type 0) (same : K → K → Bool) (by_hasher : S �
   -- the history that it comes to as it is played is swept, whatever the values are with which closures abort.
   abbrev pub ListsAreSwept : Type 0
   ListsAreSwept =
-      batch_size < 2 ^ 64 → (aborts : V) (course : Course V same by_hasher batch_size roots slot_of) (doings : List (Doing K V S)) (y : Reached V same by_hasher batch_size roots slot_of)
+      batch_size < 2 ^ 64 → (aborts : ℕ → V) (course : Course V same by_hasher batch_size roots slot_of) (doings : List (Doing K V S)) (y : Reached V same by_hasher batch_size roots slot_of)
       → LedTo V same by_hasher batch_size roots slot_of course doings y → AllByRecursion (Asks V same by_hasher hash batch_size roots (shards_of terms)) doings → MakesOnce doings
       → (after : State K V S) × (play_all same by_hasher batch_size roots aborts doings (first_state roots) ≡ Some after) × AtEachEvent (IsSwept same terms) after.history
