@@ -353,25 +353,25 @@ module _ {K V S : Type 0} (same : K → K → Bool) (hash : S → K → ℕ) (e 
       )
 
   -- whichever row it is
-  row_world : (it : SlotRow) → s.world.row i ≡ row_of it → (g : Grant) → RowIsComputed e e2 it g → (w2 : World (Node K V)) → Steps' deferred_word i (s.world.row i) s.world w2 → w2.memory ≡ e2.memory.memory
+  row_world : (it : SlotRow) (told : RowTold (Node K V)) → s.world.row i ≡ row_of it → (g : Grant) → RowIsComputed e e2 it told g → (w2 : World (Node K V)) → Steps' deferred_word i (s.world.row i) s.world w2 → w2.memory ≡ e2.memory.memory
       → (row_steps deferred_word i (s.world.row i) g s.world ≡ Some w2) × (row_changed (s.world.row i) g s.world.memory ≡ e2.memory.changed)
-  row_world it is g computed_so w2 happens memory = by_row is row_may happens
+  row_world it told is g computed_so w2 happens memory = by_row is row_may happens
     where
       w : World (Node K V)
       w = s.world
 
-      by : (it : SlotRow) → RowIsComputed e e2 it g → MayStep deferred_word (row_of it) w.memory → Steps' deferred_word i (row_of it) w w2
+      by : (it : SlotRow) → RowIsComputed e e2 it told g → MayStep deferred_word (row_of it) w.memory → Steps' deferred_word i (row_of it) w w2
           → (row_steps deferred_word i (row_of it) g w ≡ Some w2) × (row_changed (row_of it) g w.memory ≡ e2.memory.changed)
-      by (rows.Registers c) (end, is) can (m2, other, seen, made) =
+      by (rows.Registers c) (end, (is, tells)) can (m2, other, seen, made) =
           row_by (register_plan c) (λ p. world.registers_on w i c p.0 p.1) end other w2 m2 g can is seen made (sym (registers_memory w i c m2 other) ∙ ap (λ (x : World (Node K V)). x.memory) (sym made) ∙ memory)
-      by (rows.Enters c) (end, is) can (m2, other, seen, made) =
+      by (rows.Enters c) (end, (is, tells)) can (m2, other, seen, made) =
           row_by (enter_plan c) (λ p. world.with_use (world.after_step w i p.0 Rests (Entered c.slot ∷ [])) c.slot (world.Inside 0)) end other w2 m2 g can is seen made
           (ap (λ (x : World (Node K V)). x.memory) (sym made) ∙ memory)
-      by (rows.Leaves c) (end, is) can (m2, other, seen, made) =
+      by (rows.Leaves c) (end, (is, tells)) can (m2, other, seen, made) =
           row_by (leave_plan deferred_word c) (λ p. world.leaves_on w i c p.0 p.1) end other w2 m2 g can is seen made (sym (leaves_memory w i c m2 other) ∙ ap (λ (x : World (Node K V)). x.memory) (sym made) ∙ memory)
-      by (rows.Flushes c) (end, is) can (m2, other, seen, made) =
+      by (rows.Flushes c) (end, (is, tells)) can (m2, other, seen, made) =
           row_by (settle_plan deferred_word c) (λ p. world.settles_on w i c p.0 p.1) end other w2 m2 g can is seen made (sym (settles_memory w i c m2 other) ∙ ap (λ (x : World (Node K V)). x.memory) (sym made) ∙ memory)
-      by (rows.Frees c) (end, is) can (m2, other, seen, made) =
+      by (rows.Frees c) (end, (is, tells)) can (m2, other, seen, made) =
           row_by (unregister_plan c) (λ p. world.with_use (world.after_step w i p.0 Rests []) c.slot world.Vacant) end other w2 m2 g can is seen made (ap (λ (x : World (Node K V)). x.memory) (sym made) ∙ memory)
 
       by_row : s.world.row i ≡ row_of it → MayStep deferred_word (s.world.row i) w.memory → Steps' deferred_word i (s.world.row i) w w2
@@ -382,24 +382,24 @@ module _ {K V S : Type 0} (same : K → K → Bool) (hash : S → K → ℕ) (e 
 
   -- and it is computed with some choice
   row_found : (it : SlotRow) → s.world.row i ≡ row_of it → (after : SlotRow) (told : RowTold (Node K V)) → RowSteps K V it e.memory.memory e2.memory.memory e2.memory.changed (after, told)
-      → (g : Grant) × RowIsComputed e e2 it g
+      → (g : Grant) × RowIsComputed e e2 it told g
   row_found it is after told steps = by it steps (subst (λ (r : Row). MayStep deferred_word r s.world.memory) is row_may)
     where
-      by : (it : SlotRow) → RowSteps K V it e.memory.memory e2.memory.memory e2.memory.changed (after, told) → MayStep deferred_word (row_of it) s.world.memory → (g : Grant) × RowIsComputed e e2 it g
-      by (rows.Registers c) (end, st, ends) can = let so = computed (register_plan c) end can st in (so.0, (end, so.1))
-      by (rows.Enters c) (end, st, ends) can = let so = computed (enter_plan c) end can st in (so.0, (end, so.1))
-      by (rows.Leaves c) (end, st, ends) can = let so = computed (leave_plan deferred_word c) end can st in (so.0, (end, so.1))
-      by (rows.Flushes c) (end, st, ends) can = let so = computed (settle_plan deferred_word c) end can st in (so.0, (end, so.1))
-      by (rows.Frees c) (end, st, ends) can = let so = computed (unregister_plan c) end can st in (so.0, (end, so.1))
+      by : (it : SlotRow) → RowSteps K V it e.memory.memory e2.memory.memory e2.memory.changed (after, told) → MayStep deferred_word (row_of it) s.world.memory → (g : Grant) × RowIsComputed e e2 it told g
+      by (rows.Registers c) (end, st, ends) can = let so = computed (register_plan c) end can st in (so.0, (end, (so.1, ap (λ (x : SlotRow × RowTold (Node K V)). x.1) ends)))
+      by (rows.Enters c) (end, st, ends) can = let so = computed (enter_plan c) end can st in (so.0, (end, (so.1, ap (λ (x : SlotRow × RowTold (Node K V)). x.1) ends)))
+      by (rows.Leaves c) (end, st, ends) can = let so = computed (leave_plan deferred_word c) end can st in (so.0, (end, (so.1, ap (λ (x : SlotRow × RowTold (Node K V)). x.1) ends)))
+      by (rows.Flushes c) (end, st, ends) can = let so = computed (settle_plan deferred_word c) end can st in (so.0, (end, (so.1, ap (λ (x : SlotRow × RowTold (Node K V)). x.1) ends)))
+      by (rows.Frees c) (end, st, ends) can = let so = computed (unregister_plan c) end can st in (so.0, (end, (so.1, ap (λ (x : SlotRow × RowTold (Node K V)). x.1) ends)))
 
   row : (told : RowTold (Node K V)) → RowStepsThere same (hash e.hasher) i told s e e2 → (it : SlotRow) → work_of e i ≡ Some (work.OnSlot it)
-      → AreSteps same hash e e2 s (RowIsComputed e e2 it) (StepsRow i) Nothing
+      → AreSteps same hash e e2 s (RowIsComputed e e2 it told) (StepsRow i) Nothing
   row told leads it has =
       let comes = leads it has in
       let to = comes.5 in (
         row_found it comes.0.1 comes.1 told comes.2,
         λ g is.
-            (let so = row_world it comes.0.1 g is to.0 to.1 to.4.held.memory in
+            (let so = row_world it told comes.0.1 g is to.0 to.1 to.4.held.memory in
             (acts (StepsRow i g) tt (comes.0.0, ap is_none so.0) Nothing _ (to.0, so.0, to.1, to.2, to.3, refl, refl) to.4, so.1)),
       )
 

@@ -50,7 +50,7 @@ use Rattle.papaya_executor.specs.OnSlots.{MayBegin, RowBeginsThere, RowStepsTher
 use Rattle.papaya_executor.specs.Replying.{AsksThere, RepliesThere, StopsThere}
 use Rattle.papaya_executor.specs.Stepping.{StepsThere}
 use Rattle.papaya_scenes.specs.Beginning.{Begins}
-use Rattle.papaya_scenes.specs.Rows.{request_of}
+use Rattle.papaya_scenes.specs.Rows.{of_registering, of_settling, of_storing, request_of}
 use Rattle.papaya_scenes.specs.Scene.{Scene, slot_of}
 
 module _ {K V S : Type 0} (e e2 : Executor K V S) where
@@ -62,13 +62,13 @@ module _ {K V S : Type 0} (e e2 : Executor K V S) where
   abbrev pub Computes : {M P : Type 0} → Plan (Node K V) (M × P) → P → Grant → Type 0
   Computes {M} plan told g = (machine : M) × IsComputed plan (machine, told) g
 
-  -- and of a row, whichever it is
-  abbrev pub RowIsComputed : SlotRow → Grant → Type 0
-  RowIsComputed (rows.Registers c) g = (end : Register × Progress ℕ) × IsComputed (register_plan c) end g
-  RowIsComputed (rows.Enters c) g = (end : Enter × Progress Unit) × IsComputed (enter_plan c) end g
-  RowIsComputed (rows.Leaves c) g = (end : Leave × Settled (Node K V)) × IsComputed (leave_plan deferred_word c) end g
-  RowIsComputed (rows.Flushes c) g = (end : Settle × Settled (Node K V)) × IsComputed (settle_plan deferred_word c) end g
-  RowIsComputed (rows.Frees c) g = (end : Unregister × Progress Unit) × IsComputed (unregister_plan c) end g
+  -- and of a row, whichever it is, that tells this
+  abbrev pub RowIsComputed : SlotRow → RowTold (Node K V) → Grant → Type 0
+  RowIsComputed (rows.Registers c) told g = (end : Register × Progress ℕ) × IsComputed (register_plan c) end g × (told ≡ of_registering end.1)
+  RowIsComputed (rows.Enters c) told g = (end : Enter × Progress Unit) × IsComputed (enter_plan c) end g × (told ≡ of_storing end.1)
+  RowIsComputed (rows.Leaves c) told g = (end : Leave × Settled (Node K V)) × IsComputed (leave_plan deferred_word c) end g × (told ≡ of_settling end.1)
+  RowIsComputed (rows.Flushes c) told g = (end : Settle × Settled (Node K V)) × IsComputed (settle_plan deferred_word c) end g × (told ≡ of_settling end.1)
+  RowIsComputed (rows.Frees c) told g = (end : Unregister × Progress Unit) × IsComputed (unregister_plan c) end g × (told ≡ of_storing end.1)
 
 module _ {K V S : Type 0} (same : K → K → Bool) (hash : S → K → ℕ) (e e2 : Executor K V S) (s : Scene K V) where
   -- In this scene, in which the first executor is, the act may be made, and tells this: it leads to one in which the second is; and so is each one to which it leads,
@@ -111,7 +111,7 @@ module _ {K V S : Type 0} (same : K → K → Bool) (hash : S → K → ℕ) (e 
     pub ending : (told : Settled (Node K V)) → EndsThere same (hash e.hasher) i told s e e2 → (f : Finishing K V) → s.enders i ≡ Some f
         → AreSteps (Computes e e2 (end_map_plan {K = K} {V = V} f.machine) told) (StepsEnding i) (OfEnding told)
     pub row_begins : (call : SlotCall) → RowBeginsThere same (hash e.hasher) call i s e e2 → work_of e i ≡ None → MayBegin e (slot_of i) call → IsAct (BeginsRow i (request_of (slot_of i) call)) Nothing
-    pub row : (told : RowTold (Node K V)) → RowStepsThere same (hash e.hasher) i told s e e2 → (it : SlotRow) → work_of e i ≡ Some (work.OnSlot it) → AreSteps (RowIsComputed e e2 it) (StepsRow i) Nothing
+    pub row : (told : RowTold (Node K V)) → RowStepsThere same (hash e.hasher) i told s e e2 → (it : SlotRow) → work_of e i ≡ Some (work.OnSlot it) → AreSteps (RowIsComputed e e2 it told) (StepsRow i) Nothing
 
 -- So it is wherever an executor is, that keeps what it was given.
 abbrev pub ExecutorsAct : {K S : Type 0} → (V : Type 0) → (K → K → Bool) → (S → K → ℕ) → Type 0

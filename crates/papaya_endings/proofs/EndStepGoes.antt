@@ -43,7 +43,7 @@ use Rattle.papaya_linear.specs.Coming.{Goes}
 use Rattle.papaya_linear.proofs.Coming.{gone_leaves}
 use Rattle.papaya_linear.proofs.Holding.{AllHolds}
 use Rattle.papaya_linear.proofs.Names.{effects_named}
-use Rattle.papaya_linear.proofs.Tied.{EndingTied, ending_tied}
+use Rattle.papaya_played.proofs.Tied.{EndingTied, ending_tied}
 use Rattle.papaya_endings.specs.Ends.{AlikeOf, EndsWell}
 use Rattle.papaya_endings.specs.Going.{GoesOnToEnd}
 use Rattle.papaya_endings.specs.GoingOn.{EndsGoOn}

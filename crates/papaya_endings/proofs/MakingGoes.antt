@@ -41,7 +41,7 @@ use Rattle.papaya_linear.proofs.ComeActs.{made_enders}
 use Rattle.papaya_linear.proofs.Coming.{come_leaves, gone_leaves}
 use Rattle.papaya_linear.proofs.Holding.{AllHolds}
 use Rattle.papaya_linear.proofs.Names.{effects_named}
-use Rattle.papaya_linear.proofs.Tied.{MakingTied, making_tied}
+use Rattle.papaya_played.proofs.Tied.{MakingTied, making_tied}
 use Rattle.papaya_endings.specs.Ends.{AlikeOf, AreStored}
 use Rattle.papaya_endings.specs.Going.{GoesOnToEnd}
 use Rattle.papaya_endings.specs.GoingOn.{EndsGoOn}

@@ -39,7 +39,7 @@ use Rattle.papaya_linear.proofs.Going.{noted_beside}
 use Rattle.papaya_linear.proofs.Holding.{AllHolds}
 use Rattle.papaya_linear.proofs.Like.{IsLike}
 use Rattle.papaya_linear.proofs.RowsPlayed.{is_of_row, rows_like}
-use Rattle.papaya_linear.proofs.Tied.{CallTied, call_tied}
+use Rattle.papaya_played.proofs.Tied.{CallTied, call_tied}
 use Rattle.papaya_endings.specs.Ends.{AlikeOf}
 use Rattle.papaya_endings.specs.Going.{GoesOnToEnd}
 use Rattle.papaya_endings.specs.GoingOn.{EndsGoOn}

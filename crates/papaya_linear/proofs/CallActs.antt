@@ -36,7 +36,7 @@ use Rattle.papaya_linear.proofs.HeardAll.{AreHeardAt}
 use Rattle.papaya_linear.proofs.Holds.{Holds, onto}
 use Rattle.papaya_linear.proofs.RepliesPlayed.{played_replies, played_replies_are_heard}
 use Rattle.papaya_linear.proofs.StepsPlayed.{led, played_steps_answer, played_steps_are_heard, played_steps_are_linearizable, there_alike, there_is}
-use Rattle.papaya_linear.proofs.Tied.{call_tied}
+use Rattle.papaya_played.proofs.Tied.{call_tied}
 
 pub ok_is : {E : Type 0} (r : Result Unit E) → is_ok r ≡ true → r ≡ Ok tt
 ok_is (Ok done) e = refl

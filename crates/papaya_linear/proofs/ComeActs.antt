@@ -50,7 +50,7 @@ use Rattle.papaya_linear.proofs.EndsRight.{ended_coming, ended_going, ended_name
 use Rattle.papaya_linear.proofs.Going.{goes_alike, goes_beside}
 use Rattle.papaya_linear.proofs.Gone.{BeginsOther, acts_leave_gone}
 use Rattle.papaya_linear.proofs.MakesRight.{made_coming, made_names, made_numbers}
-use Rattle.papaya_linear.proofs.Tied.{EndingTied, MakingTied, call_tied, ending_tied, making_tied}
+use Rattle.papaya_played.proofs.Tied.{EndingTied, MakingTied, call_tied, ending_tied, making_tied}
 
 -- What is noted of a map that stands.
 module _ {K V : Type 0} (same : K → K → Bool) (hash : ℕ → K → ℕ) (old : Held K V) (m : Moment K V) (known : Known) (s : Scene K V) (at : IsAt same hash old s) (shown : Shows same named m known s) (map : ℕ) (standing : Standing K)

@@ -4,7 +4,6 @@ pub mod TakesReply
 pub mod Like
 pub mod CallsGo
 pub mod OthersGo
-pub mod Tied
 pub mod Heard
 pub mod HeardAll
 pub mod Begun

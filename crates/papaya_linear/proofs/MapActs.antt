@@ -46,7 +46,7 @@ use Rattle.papaya_linear.proofs.Heard.{none_said}
 use Rattle.papaya_linear.proofs.HeardAll.{all_heard}
 use Rattle.papaya_linear.proofs.MapsPlayed.{IsApart, comes_answer, end_of, ended, ends_answer, ends_are_linearizable, fails_answer, goes_answer, made, makes_answer, makings_are_linearizable}
 use Rattle.papaya_linear.proofs.OthersGo.{ends_begin, makings_begin}
-use Rattle.papaya_linear.proofs.Tied.{EndingTied, MakingTied, ending_tied, making_tied}
+use Rattle.papaya_played.proofs.Tied.{EndingTied, MakingTied, ending_tied, making_tied}
 
 module _ {K V : Type 0} where
   -- a map comes where its root is taken, and goes where it is given up

@@ -37,7 +37,7 @@ use Rattle.papaya_linear.specs.Coming.{MapsComeAndGo}
 use Rattle.papaya_linear.proofs.Coming.{comes_bare}
 use Rattle.papaya_linear.proofs.Holds.{Holds}
 use Rattle.papaya_linear.proofs.MakesRight.{was_new}
-use Rattle.papaya_linear.proofs.Tied.{MakingTied, call_tied, making_tied}
+use Rattle.papaya_played.proofs.Tied.{MakingTied, call_tied, making_tied}
 use Rattle.papaya_moves.specs.Parts.{DoesIts}
 use Rattle.papaya_moves.proofs.CallMoves.{steps_move}
 use Rattle.papaya_moves.proofs.MadeHolds.{MadeHolds}

@@ -31,7 +31,7 @@ use Rattle.papaya_played.proofs.PlayedAs.{PlayedAs, played_as, reclaimed_as}
 use Rattle.papaya_linear.proofs.Holding.{AllHolds}
 use Rattle.papaya_linear.proofs.Stays.{all_tied}
 use Rattle.papaya_linear.proofs.StepsPlayed.{there_alike}
-use Rattle.papaya_linear.proofs.Tied.{EndingTied, MakingTied, ending_tied, making_tied}
+use Rattle.papaya_played.proofs.Tied.{EndingTied, MakingTied, ending_tied, making_tied}
 use Rattle.papaya_endings.specs.GoingOn.{EndsGoOn}
 use Rattle.papaya_endings.proofs.EndStepGoes.{over_whole, step_finds}
 use Rattle.papaya_endings.proofs.EndSteps.{none_done}

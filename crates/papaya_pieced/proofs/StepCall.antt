@@ -39,7 +39,7 @@ use Rattle.papaya_deeds.specs.Deeds.{Steps}
 use Rattle.papaya_deeds.specs.Deeds.{Entry as Act}
 use Rattle.papaya_drives.specs.Executors.{AreSteps, CallsAreActs, Computes, IsAct, OthersAreActs}
 use Rattle.papaya_drives.proofs.Executors.{executors_act}
-use Rattle.papaya_linear.proofs.Tied.{CallTied, call_tied}
+use Rattle.papaya_played.proofs.Tied.{CallTied, call_tied}
 use Rattle.papaya_played.specs.Play.{Calling, State, call_stepped, is_refusal, play_act}
 use Rattle.papaya_played.specs.Play as play
 use Rattle.papaya_played.specs.Reached.{IsOfStage, rows_beside}

@@ -5,6 +5,7 @@ pub mod Rows
 pub mod All
 pub mod Along
 pub mod PlayedAs
+pub mod Tied
 pub mod Noted
 mod Pairs
 mod Samples

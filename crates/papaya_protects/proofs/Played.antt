@@ -45,7 +45,7 @@ use Rattle.papaya_agrees.proofs.Rows.{rows_by}
 use Rattle.papaya_promises.proofs.Lists.{all_found, all_of}
 use Rattle.papaya_linear.proofs.Holding.{AllHolds}
 use Rattle.papaya_linear.proofs.MakesRight.{was_new}
-use Rattle.papaya_linear.proofs.Tied.{MakingTied, call_tied, ending_tied, making_tied}
+use Rattle.papaya_played.proofs.Tied.{MakingTied, call_tied, ending_tied, making_tied}
 use Rattle.papaya_protects.specs.Shelters.{IsOpen}
 use Rattle.papaya_protects.proofs.Acts.{Protected, begun_keeps, none_more, one_more}
 use Rattle.papaya_protects.proofs.After.{IsCalm, all_on, protected_so}

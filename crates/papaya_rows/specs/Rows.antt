@@ -13,7 +13,7 @@ use Rattle.papaya_logged.specs.Given.Scenes.declared.row.SlotUse.{SlotUse}
 use Rattle.papaya_logged.specs.Given.Scenes.declared.row.SlotUse.TheVariants as used
 use Rattle.papaya_logged.specs.Given.Finishes.Maps.{Standing}
 use Rattle.papaya_logged.specs.Ended.{has_ended, uses_ended}
-use Rattle.papaya_logged.specs.Goes.{GoesTo, RowGoes, far}
+use Rattle.papaya_logged.specs.Goes.{GoesTo, RowGoes, RowGone, far}
 use Rattle.papaya_logged.specs.OnSlots.{EndsTelling, OnSlotBegins, OnSlotLast, has_come}
 use Rattle.papaya_logged.specs.Shown.{IsShown}
 use Rattle.papaya_logged.specs.declared.logged.Logged.{Logged}
@@ -33,6 +33,7 @@ pub record RowRan {K V S : Type 0} (slot : ℕ) (called : SlotCall) (said : RowT
   pub noted : began.notes ≡ old.notes
   pub given : KeepsGiven old.executor began.executor
   pub goes : GoesTo (RowGoes caller) (far before began) (far after new)
+  pub gone : RowGone caller said before after began new
   pub last : OnSlotLast caller said began.executor new.executor
   pub come : has_come said ≡ true
   pub used : has_ended said ≡ true → new.executor.slots.items ≡ uses_ended (begun_row slot old.executor.batch_size called) said (uses_begun slot called old.executor.slots.items)

@@ -37,7 +37,7 @@ use Rattle.papaya_linear.proofs.Holds.{Holds}
 use Rattle.papaya_linear.proofs.RepliesPlayed.{told_back}
 use Rattle.papaya_linear.proofs.TakesReply.{TakesNone, refuses}
 use Rattle.papaya_linear.proofs.StepsPlayed.{led, played_ended, there_is}
-use Rattle.papaya_linear.proofs.Tied.{call_tied}
+use Rattle.papaya_played.proofs.Tied.{call_tied}
 use Rattle.papaya_swept.proofs.Kept.{IsKept}
 
 module _ {K V S : Type 0} (same : K → K → Bool) (by_hasher : S → K → ℕ) (hash : ℕ → K → ℕ) (batch_size roots : ℕ) (aborts : ℕ → V) (R : Scene K V → Type 0) (P : List (Entry K V) → Known → Scene K V → Type 0)
