@@ -1,4 +1,4 @@
--- Where no number is given to two maps, a map comes with a number with which none has come, and of which no other one is made.
+-- Where no number is given to two maps, each map is made with a new number; and where it is, none is taken with it before it has its root, and no other one is made with it.
 use Rattle.std.specs.Prelude.{◌≢◌, ◌⊎◌, ◌==◌, Option, Some, None, is_ok, length, option_map, if◌then◌else◌}
 use Rattle.std.proofs.Common.{◌≡◌, ℕ, Bool, true, false, List, [], ◌∷◌, inl, inr, refl, ap, sym, subst, ◌∙◌}
 use Rattle.std.proofs.lemmas.Bool.{cases_eq, eq-eqb, ne_eqb}
@@ -249,8 +249,8 @@ module _ {K S : Type 0} (V : Type 0) (same : K → K → Bool) (by_hasher : S �
   abbrev AreFree : List (Doing K V S) → State K V S → Type 0
   AreFree doings x = (n : ℕ) → is_made n doings ≡ true → IsFree n x
 
-  abbrev Fit : List (Doing K V S) → State K V S → Type 0
-  Fit doings x = AllFit V same by_hasher hash batch_size roots aborts HasNewNumber doings x
+  abbrev New : List (Doing K V S) → State K V S → Type 0
+  New doings x = MakesNew same by_hasher batch_size roots aborts doings x
 
   not_now : (q b : Bool) → (if q then true else b) ≡ false → (q ≡ false) × (b ≡ false)
   not_now true b e = absurd (cc e)
@@ -266,7 +266,7 @@ module _ {K S : Type 0} (V : Type 0) (same : K → K → Bool) (by_hasher : S �
   others_free doing doings x y apart free played n made =
       doing_free same by_hasher batch_size roots aborts x y n (free n (later (makes_one n doing) (is_made n doings) made)) doing (apart n made) played
 
-  pub new_numbers : (doings : List (Doing K V S)) (x : State K V S) → MakesOnce doings → AreFree doings x → Fit doings x
+  new_numbers : (doings : List (Doing K V S)) (x : State K V S) → MakesOnce doings → AreFree doings x → New doings x
   new_numbers [] x once free = tt
   new_numbers (Does (BeginsMaking i map hasher given places) ∷ doings) x once free = (
     (free map (ap (λ (q : Bool). if q then true else is_made map doings) (eq-eqb map map refl))).not_come,
@@ -289,6 +289,18 @@ module _ {K S : Type 0} (V : Type 0) (same : K → K → Bool) (by_hasher : S �
   new_numbers (BeginsClearing i ∷ doings) x once free = (tt, λ y played. new_numbers doings y once (others_free (BeginsClearing i) doings x y (λ n made. refl) free played))
   new_numbers (StepsReclaiming g ∷ doings) x once free = (tt, λ y played. new_numbers doings y once (others_free (StepsReclaiming g) doings x y (λ n made. refl) free played))
   new_numbers (Chooses choice ∷ doings) x once free = (tt, λ y played. new_numbers doings y once (others_free (Chooses choice) doings x y (λ n made. refl) free played))
+
+  pub once_is_new : (doings : List (Doing K V S)) → MakesOnce doings → New doings (first_state roots)
+  once_is_new doings once = new_numbers doings (first_state roots) once (λ n made. record { not_come = refl; not_made = λ i b has. absurd (cc has) })
+
+  -- Of a list that makes each map with a new number each act has one.
+  pub new_fits : (doings : List (Doing K V S)) (x : State K V S) → New doings x → AllFit V same by_hasher hash batch_size roots aborts HasNewNumber doings x
+  new_fits [] x new = tt
+  new_fits (Does act ∷ doings) x new = (new.0, λ y played. new_fits doings y (new.1 y played))
+  new_fits (BeginsReclaiming i ∷ doings) x new = (tt, λ y played. new_fits doings y (new.1 y played))
+  new_fits (BeginsClearing i ∷ doings) x new = (tt, λ y played. new_fits doings y (new.1 y played))
+  new_fits (StepsReclaiming g ∷ doings) x new = (tt, λ y played. new_fits doings y (new.1 y played))
+  new_fits (Chooses choice ∷ doings) x new = (tt, λ y played. new_fits doings y (new.1 y played))
 
   -- no other is made with that number, where a making may begin
   made_alone : (p : At V same by_hasher hash batch_size roots) (x : State K V S) → Is V same by_hasher hash batch_size roots aborts p x → (act : Act K V S) → MayBe same by_hasher batch_size roots slot_of act p.0

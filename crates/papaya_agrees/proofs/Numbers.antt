@@ -249,7 +249,7 @@ module _ {K V S : Type 0} (again : Bool) (x : State K V S) (here : NumbersHold a
         by : (gives_back again n made_entry.deed ≡ true) ⊎ (in_use again n x.history ≡ false) → IsFresh n (moment log_then)
         by (inl gives) =
             let its = gives_its K V b.map b.machine end.1.0 again n gives in
-            subst (λ (k : ℕ). IsFresh k (moment log_then)) its.1 (fresh_again its.0 its.2 its.3)
+            subst (λ (k : ℕ). IsFresh k (moment log_then)) its.1 (fresh_again its.0 its.3 its.4)
         by (inr was) = entry_fresh n made_entry (moment x.history) (not_in_use again n made_entry x.history not).0 (made_else n was) (here.fresh n was)
 
     -- with its root its map has come

@@ -1,7 +1,7 @@
 -- Before the making of a map has its root its steps have no effect; and a making that has it gives it up as it is refused alone.
 use Rattle.std.specs.Prelude.{◌≢◌, ◌==◌, ◌&&◌, ◌-◌, nat_lt, Ok, Err, Some, if◌then◌else◌}
 use Rattle.std.proofs.Common.{◌≡◌, ℕ, ◌+◌, Bool, true, false, [], refl, ap, sym, subst, ◌∙◌}
-use Rattle.std.proofs.lemmas.Bool.{eq-eqb, eqb-true, ne_eqb}
+use Rattle.std.proofs.lemmas.Bool.{and_parts, eq-eqb, eqb-true, ne_eqb}
 use Rattle.papaya_scenes.specs.Given.SeizeWords.Mem.{Mem, value_at}
 use Rattle.papaya_scenes.specs.Given.SeizeWords.Op.{Out, Exchange, Exchanged, Made}
 use Rattle.papaya_scenes.specs.Given.SeizeWords.Plan.{Ends as EndsSo}
@@ -36,10 +36,6 @@ use Rattle.papaya_agrees.proofs.Fresh.{BeginsElsewhere}
 -- it has no effect
 abbrev IsQuiet : Changed → Type 0
 IsQuiet told = (who : Acting) (known : Known) → effects_of who known told ≡ []
-
-both_true : (p q : Bool) → (p && q) ≡ true → (p ≡ true) × (q ≡ true)
-both_true true q is = (refl, is)
-both_true false q is = absurd (cc is)
 
 -- a root is given up by a refusal
 abbrev pub IsRefused : Progress Setting → Type 0
@@ -186,14 +182,14 @@ module _ (K V : Type 0) (map : ℕ) (before next : NewMap) where
 
     -- what gives a number back is the refusal of the making with it
     pub gives_its : gives_back again n (making_deed {K = K} {V = V} map before next) ≡ true
-        → (again ≡ true) × (map ≡ n) × (has_root next.stands ≡ false) × (making_deed {K = K} {V = V} map before next ≡ MapFails map)
+        → (again ≡ true) × (map ≡ n) × (has_root before.stands ≡ true) × (has_root next.stands ≡ false) × (making_deed {K = K} {V = V} map before next ≡ MapFails map)
     gives_its gives = by (has_root before.stands) refl (has_root next.stands) refl gives
       where
         by : (b : Bool) → has_root before.stands ≡ b → (c : Bool) → has_root next.stands ≡ c → gives_back again n (deed_by b c) ≡ true
-            → (again ≡ true) × (map ≡ n) × (has_root next.stands ≡ false) × (making_deed {K = K} {V = V} map before next ≡ MapFails map)
+            → (again ≡ true) × (map ≡ n) × (has_root before.stands ≡ true) × (has_root next.stands ≡ false) × (making_deed {K = K} {V = V} map before next ≡ MapFails map)
         by true had false none its =
-            let both = both_true again (map == n) its in
-            (both.0, eqb-true map n both.1, none, ap (λ (b : Bool). deed_by b (has_root next.stands)) had ∙ ap (λ (c : Bool). deed_by true c) none)
+            let both = and_parts again (map == n) its in
+            (both.0, eqb-true map n both.1, had, none, ap (λ (b : Bool). deed_by b (has_root next.stands)) had ∙ ap (λ (c : Bool). deed_by true c) none)
         by true had true has its = absurd (cc its)
         by false had true has its = absurd (cc its)
         by false had false none its = absurd (cc its)

@@ -23,7 +23,7 @@ use Rattle.papaya_acts.specs.AsSteps.{LeadsAs, changed_by, held_in}
 use Rattle.papaya_acts.specs.Leads.{Led}
 use Rattle.papaya_acts.specs.Lists.{nothing_done}
 use Rattle.papaya_agrees.specs.Fresh.{HasNewNumber}
-use Rattle.papaya_agrees.proofs.Numbers.{numbers_first}
+use Rattle.papaya_agrees.proofs.GivenBack.{again_first}
 use Rattle.papaya_deeds.specs.Deeds.{Deed, Entry, Leaves, MapComes, MapFails, Makes, Opens}
 use Rattle.papaya_played.specs.Play.{State, has_root, leaves_as, making_deed, pairs_for, registers_as, row_deed}
 use Rattle.papaya_played.specs.Reached.{IsOf, rows_beside}
@@ -123,8 +123,8 @@ module _ {K S : Type 0} (V : Type 0) (same : K → K → Bool) (by_hasher : S �
       go = ends_go_on V same by_hasher hash batch_size roots aborts
 
   pub maps_end_in_order : MapsEndInOrder {K = K} {S = S} V same by_hasher hash batch_size roots
-  maps_end_in_order small aborts course doings y led own once =
+  maps_end_in_order small aborts course doings y led own new =
       let first = nothing_done V same by_hasher batch_size roots slot_of course in
-      let to = wherever_led V same by_hasher hash batch_size roots small aborts (All aborts) (stay_in_order aborts) course doings y led own once
-      ((first_holds V same by_hasher hash batch_size roots aborts first.0 refl (numbers_first roots), first_go V same by_hasher hash batch_size roots aborts), tt) in
+      let to = wherever_led V same by_hasher hash batch_size roots small aborts (All aborts) (stay_in_order aborts) course doings y led own new
+      ((first_holds V same by_hasher hash batch_size roots aborts first.0 refl (again_first roots), first_go V same by_hasher hash batch_size roots aborts), tt) in
       (to.0, to.1, to.2.1)

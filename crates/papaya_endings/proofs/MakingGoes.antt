@@ -36,11 +36,9 @@ use Rattle.papaya_deeds.specs.Deeds.{Deed, Entry, Makes, MapComes, MapFails, aft
 use Rattle.papaya_played.specs.Play.{Ending, State, has_root, is_refusal, making_deed, making_outcome, pairs_for}
 use Rattle.papaya_played.specs.Reached.{IsOf}
 use Rattle.papaya_played.proofs.PlayedAs.{PlayedAs}
-use Rattle.papaya_linear.specs.Coming.{AreNamed}
 use Rattle.papaya_linear.proofs.ComeActs.{made_enders}
 use Rattle.papaya_linear.proofs.Coming.{come_leaves, gone_leaves}
 use Rattle.papaya_linear.proofs.Holding.{AllHolds}
-use Rattle.papaya_linear.proofs.Names.{effects_named}
 use Rattle.papaya_played.proofs.Tied.{MakingTied, making_tied}
 use Rattle.papaya_endings.specs.Ends.{AlikeOf, AreStored}
 use Rattle.papaya_endings.specs.Going.{GoesOnToEnd}
@@ -51,6 +49,8 @@ use Rattle.papaya_endings.proofs.Others.{firsts_spare}
 use Rattle.papaya_endings.proofs.Places.{stored_alike}
 use Rattle.papaya_endings.proofs.Played.{ends_stay, goes_of, noted_on}
 use Rattle.papaya_endings.proofs.Spares.{all_spared}
+use Rattle.papaya_agrees.specs.Fresh.{AreNamed}
+use Rattle.papaya_agrees.proofs.Names.{effects_named}
 
 -- After each step of the making of another map all of this one is as it was.
 module _ {K V : Type 0} (map own : ℕ) (ne : own ≢ map) (m : Moment K V) (stored : AreStored map m) (names : AreNamed m) (effects : List Effect) (firsts : list_all is_first_making effects ≡ true)

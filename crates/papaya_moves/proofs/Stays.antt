@@ -119,7 +119,7 @@ module _ {K V S : Type 0} (same : K → K → Bool) (by_hasher : S → K → ℕ
     making_made : Played (StepsMaking i g) → Leads (StepsMaking i g) → Goes (StepsMaking i g) → MadeHolds y
     making_made played (b, makes, m2, machine, end, computed, told_is, did, came) (said, answer, leads, goes) =
         subst MadeHolds (sym tied.comes)
-        (made_then same by_hasher hash batch_size roots aborts x y s n is at all.holds all.maps all.numbers made told i g b makes m2 machine end computed did came its.0 (its.1 b makes) at2 tied.it tied.here map_is machine_is
+        (made_then same by_hasher hash batch_size roots aborts x y s n is at all.holds all.maps all.again.numbers made told i g b makes m2 machine end computed did came its.0 (its.1 b makes) at2 tied.it tied.here map_is machine_is
         (x.told ++ OfMaking end ∷ []))
       where
         tied : MakingTied same by_hasher batch_size roots aborts s n s.world.row x y is i g b (m2, (machine, end))

@@ -106,7 +106,7 @@ module _ {K V : Type 0} (same : K → K → Bool) (hash : ℕ → K → ℕ) (te
         (sweeps_by_reclaiming K V same hash (past history) (moment history) known s all has.shows old new i lists before next told at leads)
         (rows_like (ReclaimsAll (is_over told)) tt (settled_outcome told) e.effects e.refused (moment history)));
     makings_begin = λ history known s old new at all shards has i b none not_made fresh at2.
-        record { shows = sweeps_by_making_begun K V same hash (past history) (moment history) known s all has.shows old new at i b not_made fresh.no_count at2; each = has.each };
+        record { shows = sweeps_by_making_begun K V same hash (past history) (moment history) known s all has.shows old new at i b not_made fresh.bare.no_count at2; each = has.each };
     makings_step = λ history known s old new at all shards has i said leads b here was_new.
         (let e : Entry K V = record { deed = Makes b.map; outcome = making_outcome said; effects = effects_of (acts.Making b.map) known new.changed; refused = is_refusal new.changed } in
         one_more same terms history known (known_after (acts.Making b.map) new.changed known) s _ all has e (none_swept same terms history e refl) (with_effects None (Some b.map) e.effects (moment history))

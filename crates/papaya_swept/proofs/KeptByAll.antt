@@ -66,7 +66,7 @@ module _ {K V S : Type 0} (same : K → K → Bool) (by_hasher : S → K → ℕ
   acts_kept (AsksCall i map) fits played may led leads at2 = asks_kept same by_hasher hash batch_size roots aborts R P kept x y s n s.world.row is NoChange at all.holds other so told i map played led leads
   acts_kept (StopsCall i map) fits played may led leads at2 = stops_kept same by_hasher hash batch_size roots aborts R P kept x y s n s.world.row is NoChange at all.holds other so told i map played led leads
   acts_kept (BeginsMaking i map hasher given places) fits played may led leads at2 =
-      making_begins_kept same by_hasher hash batch_size roots aborts R P kept x y s n s.world.row is NoChange at all.holds noted_then other so told i map hasher given places (all.numbers.fresh map fits) may played leads
+      making_begins_kept same by_hasher hash batch_size roots aborts R P kept x y s n s.world.row is NoChange at all.holds noted_then other so told i map hasher given places (all.again.numbers.fresh map fits) may played leads
   acts_kept (StepsMaking i g) fits played may led leads at2 =
       making_steps_kept same by_hasher hash batch_size roots aborts R P kept x y s n s.world.row is NoChange at all.holds noted_then other so told i g played led leads at2
       (making_so same by_hasher hash batch_size roots aborts x y s n rows2 is is_then at all.holds all.maps noted_then told i g leads)
