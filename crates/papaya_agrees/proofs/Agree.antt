@@ -1,5 +1,5 @@
 -- Wherever a list has led, its history agrees with what is so there.
-use Rattle.std.specs.Prelude.{Bool}
+use Rattle.std.specs.Prelude.{Bool, false}
 use Rattle.std.specs.List.{AllByRecursion}
 use Rattle.std.proofs.Common.{ℕ, List, [], ◌∷◌}
 use Rattle.papaya_acts.specs.Acts.{Act}

@@ -1,5 +1,5 @@
 -- While the making of a map has made no table yet, its steps link none and store nothing.
-use Rattle.std.specs.Prelude.{◌+◌, ◌%◌, ◌^◌, Ok, Err, Some, if◌then◌else◌}
+use Rattle.std.specs.Prelude.{◌+◌, ◌%◌, ◌^◌, Ok, Err, Option, Some, if◌then◌else◌}
 use Rattle.std.proofs.Common.{◌≡◌, ℕ, Bool, true, false, List, [], ◌∷◌, refl, ap, sym, subst, ◌∙◌}
 use Rattle.papaya_scenes.specs.Given.SeizeWords.Mem.{Mem, value_at}
 use Rattle.papaya_scenes.specs.Given.SeizeWords.Op.{Op, Out, Found, Stored, Exchanged, Made, Taken, Roomed, Exchange, Make}
@@ -162,7 +162,7 @@ module _ {K V : Type 0} (m : Mem (Node K V)) where
   makes_one value words (Found word) = tt
   makes_one value words Stored = tt
   makes_one value words (Exchanged found) = tt
-  makes_one value words (Taken value) = tt
+  makes_one value words (Taken taken) = tt
   makes_one value words (Roomed roomed) = tt
 
 -- Where the making has made no table after a step, it had made none before, and the step writes none.

@@ -22,8 +22,8 @@ use Rattle.papaya_acts.specs.AsSteps.{changed_of}
 use Rattle.papaya_acts.specs.Doings.{Doing, Does, BeginsReclaiming, BeginsClearing, StepsReclaiming, Chooses}
 use Rattle.papaya_acts.specs.Leads.{MayBe}
 use Rattle.papaya_acts.proofs.AsSteps.Told.{was_told}
-use Rattle.papaya_deeds.specs.Deeds.{Entry, Replies, Stops}
-use Rattle.papaya_played.specs.Play.{Making, Now, State, all_begun, choice_come, first_state, has_root, made_on, making_stepped, play, reply_for}
+use Rattle.papaya_deeds.specs.Deeds.{Deed, Entry, Replies, Stops}
+use Rattle.papaya_played.specs.Play.{Making, Now, State, all_begun, choice_come, ending_deed, first_state, has_root, made_on, making_deed, making_stepped, play, reply_for, row_deed}
 use Rattle.papaya_played.specs.Reached.{made_so, makes_so}
 use Rattle.papaya_played.proofs.Along.{AllFit, At, Is, StaysSo}
 use Rattle.papaya_played.proofs.PlayedAs.{PlayedAs, ReclaimedAs, played_as, reclaimed_as}
@@ -33,16 +33,17 @@ use Rattle.papaya_agrees.proofs.Openings.{IsRefused, ending_comes_none, no_other
 use Rattle.papaya_agrees.proofs.Told.{mapped, row_of_no_map}
 
 module _ {K V : Type 0} where
-  -- none has come yet with a number with which none comes now
-  pub not_yet : (n : ℕ) (e : Entry K V) (log : List (Entry K V)) → comes_with n e.deed ≡ false → is_taken n log ≡ false → is_taken n (e ∷ log) ≡ false
-  not_yet n e log comes not = ap (λ (q : Bool). if q then true else (if gives_back true n e.deed then false else is_taken n log)) comes ∙ by (gives_back true n e.deed)
+  -- a number that is not taken is none yet by a deed with which none comes
+  pub not_yet : (n : ℕ) (d : Deed K V) (log : List (Entry K V)) → comes_with n d ≡ false → is_taken n log ≡ false
+      → (if comes_with n d then true else (if gives_back true n d then false else is_taken n log)) ≡ false
+  not_yet n d log comes not = ap (λ (q : Bool). if q then true else (if gives_back true n d then false else is_taken n log)) comes ∙ by (gives_back true n d)
     where
       by : (p : Bool) → (if p then false else is_taken n log) ≡ false
       by true = refl
       by false = not
 
   perhaps_not : (taken : Bool) (n : ℕ) (e : Entry K V) (log : List (Entry K V)) → comes_with n e.deed ≡ false → is_taken n log ≡ false → is_taken n (if taken then e ∷ log else log) ≡ false
-  perhaps_not true n e log comes not = not_yet n e log comes not
+  perhaps_not true n e log comes not = not_yet n e.deed log comes not
   perhaps_not false n e log comes not = not
 
 module _ {K V S : Type 0} where
@@ -98,11 +99,11 @@ module _ {K V S : Type 0} (same : K → K → Bool) (hash : S → K → ℕ) (ba
   acts_leave (BeginsEnding i m) none (at, there, is) = leaves _ is (record { come = λ n not. not; makers = λ j d has. has })
   acts_leave (StepsEnding i g) none (f, has, end, came, is) =
       leaves _ is
-      (record { come = λ n not. not_yet n _ x.history (ending_comes_none K V f end.1.1 n) not; makers = λ j d has. has })
+      (record { come = λ n not. not_yet n (ending_deed f end.1.1) x.history (ending_comes_none K V f end.1.1 n) not; makers = λ j d has. has })
   acts_leave (BeginsRow i request) none (called, there, is) = leaves _ is (record { come = λ n not. not; makers = λ j d has. has })
   acts_leave (StepsRow i g) none (row, has, end, came, is) =
       leaves _ is
-      (record { come = λ n not. not_yet n _ x.history ((row_of_no_map {K = K} {V = V} row).comes n) not; makers = λ j d has. has })
+      (record { come = λ n not. not_yet n (row_deed row) x.history ((row_of_no_map {K = K} {V = V} row).comes n) not; makers = λ j d has. has })
 
   pub reclaiming_leaves : (g : Grant) → ReclaimedAs same hash batch_size roots aborts x y g → LeavesMakings x y
   reclaiming_leaves g (c, has, end, came, is) = leaves _ is (record { come = λ n not. not; makers = λ j d has. has })
@@ -113,12 +114,12 @@ module _ {K V S : Type 0} (same : K → K → Bool) (hash : S → K → ℕ) (ba
     others_come_none : (n : ℕ) → b.map ≢ n → is_taken n x.history ≡ false → is_taken n y.history ≡ false
     others_come_none n other not =
         ap (λ (z : State K V S). is_taken n z.history) is
-        ∙ not_yet n _ x.history (no_other_comes K V b.map b.machine end.1.0 n (ne_eqb b.map n other)) not
+        ∙ not_yet n (making_deed b.map b.machine end.1.0) x.history (no_other_comes K V b.map b.machine end.1.0 n (ne_eqb b.map n other)) not
 
     rootless_comes_none : has_root end.1.0.stands ≡ false → (n : ℕ) → is_taken n x.history ≡ false → is_taken n y.history ≡ false
     rootless_comes_none none n not =
         ap (λ (z : State K V S). is_taken n z.history) is
-        ∙ not_yet n _ x.history (none_comes K V b.map b.machine end.1.0 none n) not
+        ∙ not_yet n (making_deed b.map b.machine end.1.0) x.history (none_comes K V b.map b.machine end.1.0 none n) not
 
     -- each maker then is another one, or goes on as its machine does
     makers_then : (P : ℕ → Making S → Type 0) → ((IsRefused end.1.1 → ⊥) → P i (record b { machine = end.1.0 })) → ((j : ℕ) (d : Making S) → x.now.makers j ≡ Some d → (j ≢ i) → P j d) → (j : ℕ) (d : Making S)

@@ -187,9 +187,9 @@ module _ {K V : Type 0} (again : Bool) (n : ℕ) (e : Entry K V) (log : List (En
   still_in_use keeps has = by (comes_with n e.deed) (gives_back again n e.deed) keeps
     where
       by : (q p : Bool) → p ≡ false → (if q then true else (if p then false else in_use again n log)) ≡ true
-      by true p no = refl
-      by false false no = has
-      by false true no = absurd (cc no)
+      by true p e = refl
+      by false false e = has
+      by false true e = absurd (cc e)
 
   pub now_in_use : comes_with n e.deed ≡ true → in_use again n (e ∷ log) ≡ true
   now_in_use comes = ap (λ (q : Bool). if q then true else (if gives_back again n e.deed then false else in_use again n log)) comes

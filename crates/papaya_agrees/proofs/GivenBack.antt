@@ -37,7 +37,7 @@ use Rattle.papaya_played.proofs.Noted.{Anything, CallsAreNoted, notes_stay}
 use Rattle.papaya_played.proofs.PlayedAs.{PlayedAs, ReclaimedAs, played_as, reclaimed_as}
 use Rattle.papaya_agrees.specs.Fresh.{AreNamed, HasNewNumber, IsBare, is_taken}
 use Rattle.papaya_agrees.proofs.Bare.{bare_writes, is_bare}
-use Rattle.papaya_agrees.proofs.Coming.{ComingHolds, acts_come, coming_first, coming_stay, made_alone}
+use Rattle.papaya_agrees.proofs.Coming.{ComingHolds, coming_first, coming_stay}
 use Rattle.papaya_agrees.proofs.Elsewhere.{reclaiming_elsewhere, rows_elsewhere}
 use Rattle.papaya_agrees.proofs.Entries.{histories_grow}
 use Rattle.papaya_agrees.proofs.Fresh.{AnyTable, IsElsewhere, entry_bare}
@@ -63,7 +63,7 @@ module _ {K V S : Type 0} where
 module _ {K V S : Type 0} (x : State K V S) (so : MakesBare x) where
   -- a making may fail then
   may_fail : ComingHolds x → AreNamed (moment x.history) → (act : Act K V S) → MakesMayFail x true act
-  may_fail coming names (StepsMaking i g) comes b has = record {
+  may_fail coming names (StepsMaking i g) = λ comes b has. record {
     bare = so.bare i b has;
     no_map = so.no_map i b has;
     no_other = λ j d ne makes same. ne (coming.apart j i d b makes has (sym same));
@@ -87,12 +87,12 @@ module _ {K V S : Type 0} (x : State K V S) (so : MakesBare x) where
 
   -- one more entry, which is elsewhere
   on_entry : (e : Entry K V) → ((i : ℕ) (b : Making S) → x.now.makers i ≡ Some b → is_bare b.machine.stands ≡ true → IsElsewhere b.map e (moment x.history)) → EachBare (e ∷ x.history)
-  on_entry e else i b has bare = entry_bare b.map e (moment x.history) (else i b has bare) (so.bare i b has bare)
+  on_entry e elsewhere i b has bare = entry_bare b.map e (moment x.history) (elsewhere i b has bare) (so.bare i b has bare)
 
   perhaps : (taken : Bool) (e : Entry K V) → ((i : ℕ) (b : Making S) → x.now.makers i ≡ Some b → is_bare b.machine.stands ≡ true → IsElsewhere b.map e (moment x.history))
       → EachBare (if taken then e ∷ x.history else x.history)
-  perhaps true e else = on_entry e else
-  perhaps false e else = so.bare
+  perhaps true e elsewhere = on_entry e elsewhere
+  perhaps false e elsewhere = so.bare
 
   -- where makings, maps and ends are as they were
   as_were : (z : State K V S) → z.now.makers ≡ x.now.makers → z.now.maps ≡ x.now.maps → z.now.enders ≡ x.now.enders → EachBare z.history → MakesBare z

@@ -1,5 +1,5 @@
 -- Each map that is there has its number as its name.
-use Rattle.std.specs.Prelude.{◌==◌, not, filter, find, Bool, true, false, Option, Some, None, cond, if◌then◌else◌}
+use Rattle.std.specs.Prelude.{suc, ◌==◌, not, filter, find, Bool, true, false, Option, Some, None, cond, if◌then◌else◌}
 use Rattle.std.specs.List.{All}
 use Rattle.std.proofs.Common.{◌≡◌, ℕ, List, [], ◌∷◌, refl, ap, sym, ◌∙◌, arith}
 use Rattle.std.proofs.lemmas.Bool.{cases_eq, eqb-true, ne_eqb}
@@ -35,15 +35,12 @@ gone_named own maps all = All-filter (λ f. not (is_same f.name (named own))) Is
 -- and then none has its number
 pub none_gone : (own : ℕ) (maps : List MapThere) → All IsNamed maps → find (λ f. f.number == own) (without_map own maps) ≡ None
 none_gone own [] all = refl
-none_gone own (f ∷ maps) all = by (is_same f.name (named own)) refl (f.number == own) refl
+none_gone own (f ∷ maps) all = by (none_gone own maps (λ k d l. all (suc k) d (omega (arith, l)))) (is_same f.name (named own)) refl (f.number == own) refl
   where
-    rest : find (λ g. g.number == own) (without_map own maps) ≡ None
-    rest = none_gone own maps (λ k d l. all (k + 1) d (omega (arith, l)))
-
-    by : (q : Bool) → is_same f.name (named own) ≡ q → (p : Bool) → (f.number == own) ≡ p → find (λ g. g.number == own) (if not q then f ∷ without_map own maps else without_map own maps) ≡ None
-    by true e p is = rest
-    by false e false is = ap (λ (z : Bool). cond z (Some f) (find (λ g. g.number == own) (without_map own maps))) is ∙ rest
-    by false e true is =
+    by : find (λ g. g.number == own) (without_map own maps) ≡ None → (q : Bool) → is_same f.name (named own) ≡ q → (p : Bool) → (f.number == own) ≡ p → find (λ g. g.number == own) (if not q then f ∷ without_map own maps else without_map own maps) ≡ None
+    by rest true e p is = rest
+    by rest false e false is = ap (λ (z : Bool). cond z (Some f) (find (λ g. g.number == own) (without_map own maps))) is ∙ rest
+    by rest false e true is =
         let its : f.name ≡ named own = all 0 f (omega arith) ∙ ap named (eqb-true f.number own is) in
         absurd (let both : true ≡ false = sym (is_same_refl (named own)) ∙ sym (ap (λ (name : List ℕ). is_same name (named own)) its) ∙ e in cc both)
 
