@@ -15,6 +15,11 @@ each_at P [] k x is all = absurd (cc is)
 each_at P (y ∷ xs) zero x is all = let e : y ≡ x = cc is in subst P e all.0
 each_at P (y ∷ xs) (suc k) x is all = each_at P xs k x is all.1
 
+-- what is more is so of each
+pub each_so : {X : Type 0} (P Q : X → Type 0) → ((x : X) → P x → Q x) → (xs : List X) → AllByRecursion P xs → AllByRecursion Q xs
+each_so P Q so [] all = tt
+each_so P Q so (x ∷ xs) all = (so x all.0, each_so P Q so xs all.1)
+
 -- where none passes a test, each may be taken to fail it
 all_but : {X : Type 0} (P Q : X → Type 0) (q : X → Bool) → ((x : X) → q x ≡ false → P x → Q x) → (xs : List X) → list_any q xs ≡ false → AllByRecursion P xs → AllByRecursion Q xs
 all_but P Q q so [] none all = tt
