@@ -72,31 +72,31 @@ module _ {K V S : Type 0} (e e2 : Executor K V S) where
   -- what its next step comes to, and what that has changed
   row_computed : (row : SlotRow) (said : RowTold (Node K V)) (g : Grant) → RowIsComputed e e2 row said g
       → (after : SlotRow) × (slot_row_steps row g e.memory.memory ≡ Some (e2.memory.memory, (after, said))) × (row_changed (row_of row) g e.memory.memory ≡ e2.memory.changed)
-  row_computed (rows.Registers c) said g (end, (is, tells)) = (
+  row_computed (rows.Registers c) said g (end, is, tells) = (
     rows.Registers end.0,
     ap (option_map (λ (p : Mem (Node K V) × (Register × Progress ℕ)). (p.0, (rows.Registers p.1.0, of_registering p.1.1)))) is.0
         ∙ ap (λ (t : RowTold (Node K V)). Some (e2.memory.memory, (rows.Registers end.0, t))) (sym tells),
     is.1,
   )
-  row_computed (rows.Enters c) said g (end, (is, tells)) = (
+  row_computed (rows.Enters c) said g (end, is, tells) = (
     rows.Enters end.0,
     ap (option_map (λ (p : Mem (Node K V) × (Enter × Progress Unit)). (p.0, (rows.Enters p.1.0, of_storing p.1.1)))) is.0
         ∙ ap (λ (t : RowTold (Node K V)). Some (e2.memory.memory, (rows.Enters end.0, t))) (sym tells),
     is.1,
   )
-  row_computed (rows.Leaves c) said g (end, (is, tells)) = (
+  row_computed (rows.Leaves c) said g (end, is, tells) = (
     rows.Leaves end.0,
     ap (option_map (λ (p : Mem (Node K V) × (Leave × Settled (Node K V))). (p.0, (rows.Leaves p.1.0, of_settling p.1.1)))) is.0
         ∙ ap (λ (t : RowTold (Node K V)). Some (e2.memory.memory, (rows.Leaves end.0, t))) (sym tells),
     is.1,
   )
-  row_computed (rows.Flushes c) said g (end, (is, tells)) = (
+  row_computed (rows.Flushes c) said g (end, is, tells) = (
     rows.Flushes end.0,
     ap (option_map (λ (p : Mem (Node K V) × (Settle × Settled (Node K V))). (p.0, (rows.Flushes p.1.0, of_settling p.1.1)))) is.0
         ∙ ap (λ (t : RowTold (Node K V)). Some (e2.memory.memory, (rows.Flushes end.0, t))) (sym tells),
     is.1,
   )
-  row_computed (rows.Frees c) said g (end, (is, tells)) = (
+  row_computed (rows.Frees c) said g (end, is, tells) = (
     rows.Frees end.0,
     ap (option_map (λ (p : Mem (Node K V) × (Unregister × Progress Unit)). (p.0, (rows.Frees p.1.0, of_storing p.1.1)))) is.0
         ∙ ap (λ (t : RowTold (Node K V)). Some (e2.memory.memory, (rows.Frees end.0, t))) (sym tells),
