@@ -225,7 +225,7 @@ module _ {K S : Type 0} (V : Type 0) (same : K → K → Bool) (by_hasher : S �
           inside = λ t in_it. absurd (subst IsInside ((st.did.did.over done).nothing.2 t) (subst (λ (v : Scene K V). IsInside (v.world.uses t)) st.did.comes in_it));
         }));
     chooses = λ p n x choice none none_then scene is is_then at here.
-        unless n (choice_come choice x) None none_then
+        unless (GuardsAgree (choice_come choice x) n.0.world.uses) (far V same by_hasher hash batch_size roots n)
         (λ nobody. subst (λ (v : Scene K V). GuardsAgree (choice_come choice x) v.world.uses) (sym scene)
         (subst (λ (o : Option (ℕ × ReclaimAll)). UnlessReclaimed o (GuardsAgree x p.0.world.uses)) none here));
   }

@@ -6,5 +6,6 @@ pub mod Midst
 pub mod Aside
 pub mod RowGoes
 pub mod EndGoes
+pub mod CallBegins
 pub mod Callers
 mod Samples
