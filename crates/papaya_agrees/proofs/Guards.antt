@@ -226,7 +226,7 @@ module _ {K S : Type 0} (V : Type 0) (same : K → K → Bool) (by_hasher : S �
         }));
     chooses = λ p n x choice none none_then scene is is_then at here.
         unless (GuardsAgree (choice_come choice x) n.0.world.uses) (far V same by_hasher hash batch_size roots n)
-        (λ nobody_does. subst (λ (v : Scene K V). GuardsAgree (choice_come choice x) v.world.uses) (sym scene)
+        (λ nobody. subst (λ (v : Scene K V). GuardsAgree (choice_come choice x) v.world.uses) (sym scene)
         (subst (λ (o : Option (ℕ × ReclaimAll)). UnlessReclaimed o (GuardsAgree x p.0.world.uses)) none here));
   }
 

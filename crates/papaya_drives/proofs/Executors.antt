@@ -362,16 +362,16 @@ module _ {K V S : Type 0} (same : K → K → Bool) (hash : S → K → ℕ) (e 
 
       by : (it : SlotRow) → RowIsComputed e e2 it told g → MayStep deferred_word (row_of it) w.memory → Steps' deferred_word i (row_of it) w w2
           → (row_steps deferred_word i (row_of it) g w ≡ Some w2) × (row_changed (row_of it) g w.memory ≡ e2.memory.changed)
-      by (rows.Registers c) (end, (is, tells)) can (m2, other, seen, made) =
+      by (rows.Registers c) (end, is, tells) can (m2, other, seen, made) =
           row_by (register_plan c) (λ p. world.registers_on w i c p.0 p.1) end other w2 m2 g can is seen made (sym (registers_memory w i c m2 other) ∙ ap (λ (x : World (Node K V)). x.memory) (sym made) ∙ memory)
-      by (rows.Enters c) (end, (is, tells)) can (m2, other, seen, made) =
+      by (rows.Enters c) (end, is, tells) can (m2, other, seen, made) =
           row_by (enter_plan c) (λ p. world.with_use (world.after_step w i p.0 Rests (Entered c.slot ∷ [])) c.slot (world.Inside 0)) end other w2 m2 g can is seen made
           (ap (λ (x : World (Node K V)). x.memory) (sym made) ∙ memory)
-      by (rows.Leaves c) (end, (is, tells)) can (m2, other, seen, made) =
+      by (rows.Leaves c) (end, is, tells) can (m2, other, seen, made) =
           row_by (leave_plan deferred_word c) (λ p. world.leaves_on w i c p.0 p.1) end other w2 m2 g can is seen made (sym (leaves_memory w i c m2 other) ∙ ap (λ (x : World (Node K V)). x.memory) (sym made) ∙ memory)
-      by (rows.Flushes c) (end, (is, tells)) can (m2, other, seen, made) =
+      by (rows.Flushes c) (end, is, tells) can (m2, other, seen, made) =
           row_by (settle_plan deferred_word c) (λ p. world.settles_on w i c p.0 p.1) end other w2 m2 g can is seen made (sym (settles_memory w i c m2 other) ∙ ap (λ (x : World (Node K V)). x.memory) (sym made) ∙ memory)
-      by (rows.Frees c) (end, (is, tells)) can (m2, other, seen, made) =
+      by (rows.Frees c) (end, is, tells) can (m2, other, seen, made) =
           row_by (unregister_plan c) (λ p. world.with_use (world.after_step w i p.0 Rests []) c.slot world.Vacant) end other w2 m2 g can is seen made (ap (λ (x : World (Node K V)). x.memory) (sym made) ∙ memory)
 
       by_row : s.world.row i ≡ row_of it → MayStep deferred_word (s.world.row i) w.memory → Steps' deferred_word i (s.world.row i) w w2
@@ -386,11 +386,11 @@ module _ {K V S : Type 0} (same : K → K → Bool) (hash : S → K → ℕ) (e 
   row_found it is after told steps = by it steps (subst (λ (r : Row). MayStep deferred_word r s.world.memory) is row_may)
     where
       by : (it : SlotRow) → RowSteps K V it e.memory.memory e2.memory.memory e2.memory.changed (after, told) → MayStep deferred_word (row_of it) s.world.memory → (g : Grant) × RowIsComputed e e2 it told g
-      by (rows.Registers c) (end, st, ends) can = let so = computed (register_plan c) end can st in (so.0, (end, (so.1, ap (λ (x : SlotRow × RowTold (Node K V)). x.1) ends)))
-      by (rows.Enters c) (end, st, ends) can = let so = computed (enter_plan c) end can st in (so.0, (end, (so.1, ap (λ (x : SlotRow × RowTold (Node K V)). x.1) ends)))
-      by (rows.Leaves c) (end, st, ends) can = let so = computed (leave_plan deferred_word c) end can st in (so.0, (end, (so.1, ap (λ (x : SlotRow × RowTold (Node K V)). x.1) ends)))
-      by (rows.Flushes c) (end, st, ends) can = let so = computed (settle_plan deferred_word c) end can st in (so.0, (end, (so.1, ap (λ (x : SlotRow × RowTold (Node K V)). x.1) ends)))
-      by (rows.Frees c) (end, st, ends) can = let so = computed (unregister_plan c) end can st in (so.0, (end, (so.1, ap (λ (x : SlotRow × RowTold (Node K V)). x.1) ends)))
+      by (rows.Registers c) (end, st, ends) can = let so = computed (register_plan c) end can st in (so.0, (end, so.1, ap (λ (x : SlotRow × RowTold (Node K V)). x.1) ends))
+      by (rows.Enters c) (end, st, ends) can = let so = computed (enter_plan c) end can st in (so.0, (end, so.1, ap (λ (x : SlotRow × RowTold (Node K V)). x.1) ends))
+      by (rows.Leaves c) (end, st, ends) can = let so = computed (leave_plan deferred_word c) end can st in (so.0, (end, so.1, ap (λ (x : SlotRow × RowTold (Node K V)). x.1) ends))
+      by (rows.Flushes c) (end, st, ends) can = let so = computed (settle_plan deferred_word c) end can st in (so.0, (end, so.1, ap (λ (x : SlotRow × RowTold (Node K V)). x.1) ends))
+      by (rows.Frees c) (end, st, ends) can = let so = computed (unregister_plan c) end can st in (so.0, (end, so.1, ap (λ (x : SlotRow × RowTold (Node K V)). x.1) ends))
 
   row : (told : RowTold (Node K V)) → RowStepsThere same (hash e.hasher) i told s e e2 → (it : SlotRow) → work_of e i ≡ Some (work.OnSlot it)
       → AreSteps same hash e e2 s (RowIsComputed e e2 it told) (StepsRow i) Nothing

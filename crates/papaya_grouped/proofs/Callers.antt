@@ -1,8 +1,12 @@
 -- One of several is another one, or goes, and what is so of each of them.
-use Rattle.std.specs.Prelude.{◌≤◌, ◌+◌, ◌||◌, zero, suc, not, length, filter, Option, Some, None, option_map, cond, nat_lt, position, slice_set, slice_get}
+use Rattle.std.specs.Prelude.{◌≢◌, ◌⊎◌, ◌==◌, ◌≤◌, ◌+◌, ◌||◌, zero, suc, not, length, filter, Option, Some, None, option_map, cond, nat_lt, position, slice_set, slice_get}
 use Rattle.std.specs.List.{AllByRecursion, list_any, position_or_len, remove}
-use Rattle.std.proofs.Common.{◌≡◌, ℕ, Bool, true, false, List, [], ◌∷◌, refl, sym, ap, subst, arith, ◌∙◌}
+use Rattle.std.proofs.Common.{◌≡◌, ℕ, Bool, true, false, List, [], ◌∷◌, inl, inr, refl, sym, ap, subst, arith, ◌∙◌}
+use Rattle.std.proofs.lemmas.Bool.{cases_eq, eq-eqb}
 use Rattle.seize_acts.proofs.Answers.{same_some}
+use Rattle.papaya_scenes.specs.Given.Seize.World.{with_at}
+use Rattle.papaya_scenes.specs.Given.Finishes.Maps.{with_call}
+use Rattle.papaya_scenes.proofs.Given.Callers.Together.At.{at_other, at_same}
 
 -- something is there, of which this is seen
 pub under : {A B : Type 0} (f : A → B) (o : Option A) (b : B) → option_map f o ≡ Some b → (a : A) × (o ≡ Some a) × (f a ≡ b)
@@ -14,6 +18,11 @@ pub each_at : {X : Type 0} (P : X → Type 0) (xs : List X) (k : ℕ) (x : X) �
 each_at P [] k x is all = absurd (cc is)
 each_at P (y ∷ xs) zero x is all = let e : y ≡ x = cc is in subst P e all.0
 each_at P (y ∷ xs) (suc k) x is all = each_at P xs k x is all.1
+
+-- what is more is so of each
+pub each_so : {X : Type 0} (P Q : X → Type 0) → ((x : X) → P x → Q x) → (xs : List X) → AllByRecursion P xs → AllByRecursion Q xs
+each_so P Q so [] all = tt
+each_so P Q so (x ∷ xs) all = (so x all.0, each_so P Q so xs all.1)
 
 -- where none passes a test, each may be taken to fail it
 all_but : {X : Type 0} (P Q : X → Type 0) (q : X → Bool) → ((x : X) → q x ≡ false → P x → Q x) → (xs : List X) → list_any q xs ≡ false → AllByRecursion P xs → AllByRecursion Q xs
@@ -134,3 +143,17 @@ placed_at {X} p xs place is = by (nat_lt (position_or_len p xs) (length xs)) ref
     by : (b : Bool) → nat_lt (position_or_len p xs) (length xs) ≡ b → Some place ≡ cond b (Some (position_or_len p xs)) None → (x : X) × (slice_get xs place ≡ Some x) × (p x ≡ true)
     by true there e = let at : place ≡ position_or_len p xs = cc e in let it = first xs there in (it.0, ap (slice_get xs) at ∙ it.1, it.2)
     by false there e = absurd (cc e)
+
+-- a call that is written, and those of other callers
+pub call_here : {X : Type 0} (calls : ℕ → ℕ → Option X) (m i : ℕ) (it : Option X) → with_call calls m i it m i ≡ it
+call_here calls m i it = ap (λ (f : ℕ → Option _). f i) (at_same calls m (with_at (calls m) i it) m refl) ∙ at_same (calls m) i it i refl
+
+pub call_beside : {X : Type 0} (calls : ℕ → ℕ → Option X) (m i : ℕ) (it : Option X) (n j : ℕ) → (j == i) ≡ false → with_call calls m i it n j ≡ calls n j
+call_beside {X} calls m i it n j other = by (cases_eq n m)
+  where
+    apart : j ≢ i
+    apart same = let both : true ≡ false = sym (eq-eqb j i same) ∙ other in cc both
+
+    by : (n ≡ m) ⊎ (n ≢ m) → with_call calls m i it n j ≡ calls n j
+    by (inl e) = ap (λ (f : ℕ → Option X). f j) (at_same calls m (with_at (calls m) i it) n e) ∙ at_other (calls m) i it j apart ∙ ap (λ (k : ℕ). calls k j) (sym e)
+    by (inr ne) = ap (λ (f : ℕ → Option X). f j) (at_other calls m (with_at (calls m) i it) n ne)

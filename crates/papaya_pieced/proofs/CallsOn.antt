@@ -1,17 +1,14 @@
 -- A call as it is played, that takes a step: callers are as they were played, still.
-use Rattle.std.specs.Prelude.{◌≢◌, ◌⊎◌, ◌≤◌, ◌==◌, Option, Some, None, option_map, filter, length, slice_get, slice_set, if◌then◌else◌}
+use Rattle.std.specs.Prelude.{◌≤◌, ◌==◌, Option, Some, None, option_map, filter, length, slice_get, slice_set, if◌then◌else◌}
 use Rattle.std.specs.List.{AllByRecursion, remove}
-use Rattle.std.proofs.Common.{◌≡◌, ℕ, Bool, true, false, List, inl, inr, refl, sym, ap, subst, arith, ◌∙◌}
-use Rattle.std.proofs.lemmas.Bool.{cases_eq, eq-eqb}
+use Rattle.std.proofs.Common.{◌≡◌, ℕ, Bool, true, false, List, refl, sym, ap, subst, arith, ◌∙◌}
+use Rattle.std.proofs.lemmas.Bool.{eq-eqb}
 use Rattle.papaya_scenes.specs.Given.SeizeWords.Mem.{Mem}
 use Rattle.papaya_scenes.specs.Given.Tables.declared.node.Node.{Node}
 use Rattle.papaya_scenes.specs.Given.Raw.declared.machines.machine.Machine.{Machine}
 use Rattle.papaya_scenes.specs.Given.Raw.declared.machines.progress.Progress.{Progress}
 use Rattle.papaya_scenes.specs.Given.Raw.declared.machines.progress.Progress.TheVariants as progress
 use Rattle.papaya_scenes.specs.Given.Teller.declared.changed.Changed.{Changed}
-use Rattle.papaya_scenes.specs.Given.Finishes.Maps.{with_call}
-use Rattle.papaya_scenes.specs.Given.Seize.World.{with_at}
-use Rattle.papaya_scenes.proofs.Given.Callers.Together.At.{at_other, at_same}
 use Rattle.papaya_scenes.specs.Stepping.{has_ended}
 use Rattle.papaya_schedules.specs.declared.outcome.Outcome.{Outcome}
 use Rattle.papaya_scheduler.specs.Given.Effects.Known.{Known}
@@ -27,7 +24,7 @@ use Rattle.papaya_stepping.specs.Stepping.{caller_then, callers_then}
 use Rattle.papaya_stepping.specs.Stepping as stepping
 use Rattle.papaya_grouped.specs.Grouping.{Names}
 use Rattle.papaya_grouped.specs.Called.{CallersAre, IsCalledAs}
-use Rattle.papaya_grouped.proofs.Callers.{remove_one, removed_count, set_count, set_one}
+use Rattle.papaya_grouped.proofs.Callers.{call_beside, call_here, remove_one, removed_count, set_count, set_one}
 
 -- what a step says is the same outcome in both words
 pub same_outcome : {K V : Type 0} (by : Known) (its : Kind) (value : Option V) (said : Progress (Node K V)) → play.outcome_of by its value said ≡ stepping.outcome_of by its value said
@@ -52,20 +49,6 @@ then_as by d progress.Ready = (refl, refl, refl)
 then_as by d (progress.Pair word) = (refl, refl, refl)
 then_as by d (progress.Done said) = (refl, refl, refl)
 then_as by d (progress.Refused fault) = (refl, refl, refl)
-
--- a call that is written, and those of other callers
-pub call_here : {X : Type 0} (calls : ℕ → ℕ → Option X) (m i : ℕ) (it : Option X) → with_call calls m i it m i ≡ it
-call_here calls m i it = ap (λ (f : ℕ → Option _). f i) (at_same calls m (with_at (calls m) i it) m refl) ∙ at_same (calls m) i it i refl
-
-pub call_beside : {X : Type 0} (calls : ℕ → ℕ → Option X) (m i : ℕ) (it : Option X) (n j : ℕ) → (j == i) ≡ false → with_call calls m i it n j ≡ calls n j
-call_beside {X} calls m i it n j other = by (cases_eq n m)
-  where
-    apart : j ≢ i
-    apart same = let both : true ≡ false = sym (eq-eqb j i same) ∙ other in cc both
-
-    by : (n ≡ m) ⊎ (n ≢ m) → with_call calls m i it n j ≡ calls n j
-    by (inl e) = ap (λ (f : ℕ → Option X). f j) (at_same calls m (with_at (calls m) i it) n e) ∙ at_other (calls m) i it j apart ∙ ap (λ (k : ℕ). calls k j) (sym e)
-    by (inr ne) = ap (λ (f : ℕ → Option X). f j) (at_other calls m (with_at (calls m) i it) n ne)
 
 module _ {K V S : Type 0} (names : Names) (x : State K V S) (d : Caller V) (by : Known) (changed : Changed) (memory : Mem (Node K V)) (machine : Machine K V K) (called : IsCalledAs names x d)
     (it : Calling K V) (here : called.call ≡ it) where

@@ -44,10 +44,9 @@ use Rattle.papaya_played.proofs.PlayedAs.{played_as}
 use Rattle.papaya_grouped.specs.Called.{CallersAre, IsCalledAs, PlaysSo}
 use Rattle.papaya_grouped.specs.Grouping.{Names, number_called}
 use Rattle.papaya_grouped.specs.Reach.{Reach}
-use Rattle.papaya_grouped.proofs.Callers.{each_at, set_count, set_one, under}
+use Rattle.papaya_grouped.proofs.Callers.{call_beside, call_here, each_at, set_count, set_one, under}
 use Rattle.papaya_grouped.proofs.Midst.{event_begins, event_ends, event_goes_on}
 use Rattle.papaya_grouped.proofs.OneMore.{one_act}
-use Rattle.papaya_pieced.proofs.CallsOn.{call_beside, call_here}
 use Rattle.papaya_pieced.proofs.StepCall.{HasCallIn}
 
 -- what the closure aborts with that is told so, if it is told to abort

@@ -48,8 +48,8 @@ use Rattle.papaya_stepping.specs.Stepping.{IsStepped, callers_then}
 use Rattle.papaya_grouped.specs.Grouping.{MayHave, Names, names_after, number_called}
 use Rattle.papaya_grouped.specs.Reach.{Reach}
 use Rattle.papaya_grouped.specs.Called.{CallersAre, IsCalledAs}
-use Rattle.papaya_grouped.proofs.Callers.{each_at, under}
-use Rattle.papaya_pieced.proofs.CallsOn.{call_here, callers_on, same_outcome}
+use Rattle.papaya_grouped.proofs.Callers.{call_here, each_at, under}
+use Rattle.papaya_pieced.proofs.CallsOn.{callers_on, same_outcome}
 use Rattle.papaya_grouped.proofs.Midst.{InEvent, event_steps}
 use Rattle.papaya_grouped.proofs.OneMore.{one_act}
 

@@ -7,5 +7,5 @@ pub mod Along
 pub mod PlayedAs
 pub mod Tied
 pub mod Noted
-mod Pairs
+pub mod Pairs
 mod Samples

@@ -247,10 +247,10 @@ module _ {K V S : Type 0} (same : K → K → Bool) (hash : K → ℕ) (terms : 
           names = stands.names;
         }
 
-        pub begun : (calls2 : List (Caller V)) → calls2 ≡ caller ∷ calls → new.notes ≡ p.logged.notes
+        pub begun : (calls2 : List (Caller V)) → calls2 ≡ caller ∷ calls → caller.value ≡ None → new.notes ≡ p.logged.notes
             → ((t : Scene K V) → IsThere same hash p.logged.executor t → BeginsThere same hash number (machine_for (record setting { slot = slot }) hash call) i t p.logged.executor new.executor)
             → BeginsSo same hash terms m own guard name call true p (record p { logged = new; calls = calls2 })
-        begun calls2 items kept begins = record {
+        begun calls2 items keeps_none kept begins = record {
           so = sym may_begin;
           none = λ e. absurd (cc e);
           stands = λ e. subst (λ (o : Option ℕ). StandsFor same hash terms (with_call own guard call o m) (record p { logged = new; calls = calls2 })) (sym its.0) (stands_then calls2 items);
@@ -266,6 +266,7 @@ module _ {K V S : Type 0} (same : K → K → Bool) (hash : K → ℕ) (terms : 
             caller = caller;
             is = is;
             numbered = numbered;
+            keeps_none = keeps_none;
             items = items;
             rest = refl;
             notes = kept;

@@ -82,6 +82,6 @@ module _ {K V S : Type 0} (same : K → K → Bool) (hash : K → ℕ) (terms : 
       (subst (λ (n : ℕ). CallBegins same hash names v t n number (machine_for (record setting { slot = slot }) hash call) p.logged new) is_i
       (subst (λ (x : Machine K V K). CallBegins same hash names v t i number x p.logged new) is_machine (leads names v t shown))))
       (record { name = own; guard = guard; map = number; number = i; kind = kind; stands = far.Goes; value = None })
-      (ap {B = Seen} (λ (k : Kind). record { name = own; guard = guard; map = number; kind = k; far = far.Goes }) is_kind) is_i calls2 items kept
+      (ap {B = Seen} (λ (k : Kind). record { name = own; guard = guard; map = number; kind = k; far = far.Goes }) is_kind) is_i calls2 items refl kept
       (λ t at. subst (λ (n : ℕ). BeginsThere same hash number (machine_for (record setting { slot = slot }) hash call) n t p.logged.executor new.executor) is_i
       (subst (λ (x : Machine K V K). BeginsThere same hash number x i t p.logged.executor new.executor) is_machine (begins t at)))

@@ -140,6 +140,7 @@ module _ {K V S : Type 0} (same : K → K → Bool) (hash : K → ℕ) where
     pub caller : Caller V
     pub is : seen_of caller ≡ record { name = own; guard = guard; map = number; kind = kind_of call; far = far.Goes }
     pub numbered : caller.number ≡ length old.logged.executor.workers.items * SLOTS + slot
+    pub keeps_none : caller.value ≡ None
     pub items : new.calls ≡ caller ∷ old.calls
     pub rest : new ≡ record old { logged = new.logged; calls = new.calls }
     pub notes : new.logged.notes ≡ old.logged.notes

@@ -24,7 +24,7 @@ returns-clause-given g c = given_noted c.args.self.now.executor c.step-progress.
 pub returns-clause-steps : goal.returns-clause-steps
 returns-clause-steps g c = record {
   leads = λ s at.
-      subst (λ (e : Executor _ _ _). StepsThere _ _ c.args.caller c.step-progress.result s c.args.self.now.executor e) (sym c.note.ensures.executor) (c.step-progress.ensures.leads s at);
+      subst (λ (e : Executor _ _ _). StepsThere g.K.PartialEq.eq (g.S.Hashes.hash c.args.self.now.executor.hasher) c.args.caller c.step-progress.result s c.args.self.now.executor e) (sym c.note.ensures.executor) (c.step-progress.ensures.leads s at);
   is_noted = record {
     did = c.in_ok-note.ensures.did
         ∙ ap (λ (e : Executor _ _ _). c.args.effects.now.items ++ effects_of (acts.Call c.args.caller c.args.map) (known c.args.self.now.notes) e.memory.changed) (sym c.note.ensures.executor);
