@@ -27,7 +27,7 @@ use Rattle.papaya_played.specs.Play.{Making, Now, State, all_begun, choice_come,
 use Rattle.papaya_played.specs.Reached.{made_so, makes_so}
 use Rattle.papaya_played.proofs.Along.{AllFit, At, Is, StaysSo}
 use Rattle.papaya_played.proofs.PlayedAs.{PlayedAs, ReclaimedAs, played_as, reclaimed_as}
-use Rattle.papaya_agrees.specs.Fresh.{HasNewNumber, IsNew, MakesNew, MakesOnce, comes_with, gives_back, is_made, is_taken, makes_one}
+use Rattle.papaya_agrees.specs.Fresh.{HasNewNumber, MakesNew, MakesOnce, comes_with, gives_back, is_made, is_taken, makes_one}
 use Rattle.papaya_agrees.proofs.Numbers.{with_so}
 use Rattle.papaya_agrees.proofs.Openings.{IsRefused, ending_comes_none, no_other_comes, none_comes, root_kept}
 use Rattle.papaya_agrees.proofs.Told.{mapped, row_of_no_map}
