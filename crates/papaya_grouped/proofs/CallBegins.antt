@@ -56,14 +56,15 @@ others_called own other i names apart =
     by false e = e
     by true e = absurd (let it = same_is own other e in let f : is_same other own ≡ true = subst (λ (x : List ℕ). is_same x own ≡ true) it (same_refl own) in let g : true ≡ false = sym f ∙ apart in cc g)
 
+-- the entry of a call that begins
+abbrev entry : {K V : Type 0} → (i m : ℕ) → Call K V → Act K V
+entry i m call = record { deed = Begins i (slot_of i) m call; outcome = outcome.Goes; effects = []; refused = false }
+
 module _ {K V S : Type 0} (log : List (Entry K V)) (event : Event K V) (own : List ℕ) (beginner : beginner_of event ≡ own) (i m : ℕ) (call : Call K V)
     (may : (names : Names) → number_called own names ≡ Some i → MayHave names (moment log) event (Begins i (slot_of i) m call)) (calls : List (Caller V))
     (free : list_any (λ d. is_same d.name own) calls ≡ false) (apart : AllByRecursion (λ d. (d.number == i) ≡ false) calls) (caller : Caller V) (named : caller.name ≡ own) (numbered : caller.number ≡ i)
     (on : caller.map ≡ m) (kind : caller.kind ≡ kind_of call) (keeps_none : caller.value ≡ None) where
-  abbrev entry : Act K V
-  entry = record { deed = Begins i (slot_of i) m call; outcome = outcome.Goes; effects = []; refused = false }
-
-  module _ (x y : State K V S) (it : Calling K V) (its : kind_of it.call ≡ kind_of call) (none : it.value ≡ None) (history : y.history ≡ entry ∷ x.history)
+  module _ (x y : State K V S) (it : Calling K V) (its : kind_of it.call ≡ kind_of call) (none : it.value ≡ None) (history : y.history ≡ entry i m call ∷ x.history)
       (here : y.now.calls m i ≡ Some it) (beside : (n j : ℕ) → (j == i) ≡ false → y.now.calls n j ≡ x.now.calls n j) where
     others : (names : Names) (xs : List (Caller V)) → list_any (λ d. is_same d.name own) xs ≡ false → AllByRecursion (λ d. (d.number == i) ≡ false) xs → AllByRecursion (λ d. IsCalledAs names x d) xs
         → AllByRecursion (λ d. IsCalledAs ((own, i) ∷ names) y d) xs
@@ -115,7 +116,7 @@ module _ {K V S : Type 0} (log : List (Entry K V)) (event : Event K V) (own : Li
           known = so.names;
           before = x.history;
           grouping = so.grouping;
-          piece = entry ∷ [];
+          piece = entry i m call ∷ [];
           history = history;
           effects = refl;
           counts = refl;
