@@ -85,7 +85,7 @@ module _ {K V : Type 0} where
   pub making_aside : (map : ℕ) (before after : NewMap) → IsAside (making_deed map before after)
   making_aside map before after = by (has_root before.stands) (has_root after.stands)
     where
-      by : (b c : Bool) → IsAside {K = K} {V = V} (if b then (if c then Makes map else MapFails map) else (if c then MapComes map after.setting.root after.setting.mode (pairs_for after.len) else Makes map))
+      by : (b c : Bool) → IsAside (if b then (if c then Makes map else MapFails map) else (if c then MapComes map after.setting.root after.setting.mode (pairs_for after.len) else Makes map))
       by true true = record { named = λ event names. refl; still = refl }
       by true false = record { named = λ event names. refl; still = refl }
       by false true = record { named = λ event names. refl; still = refl }
@@ -94,7 +94,7 @@ module _ {K V : Type 0} where
   pub ending_aside : {T : Type 0} (f : Ending) (told : Settled T) → IsAside (ending_deed f told)
   ending_aside f told = by (is_over told)
     where
-      by : (b : Bool) → IsAside {K = K} {V = V} (if b then MapGoes f.map else Ends f.map)
+      by : (b : Bool) → IsAside (if b then MapGoes f.map else Ends f.map)
       by true = record { named = λ event names. refl; still = refl }
       by false = record { named = λ event names. refl; still = refl }
 
