@@ -1,5 +1,5 @@
 -- Wherever a list has led, its history agrees with what is so there.
-use Rattle.std.specs.Prelude.{Bool}
+use Rattle.std.specs.Prelude.{Bool, false}
 use Rattle.std.specs.List.{AllByRecursion}
 use Rattle.std.proofs.Common.{ℕ, List, [], ◌∷◌}
 use Rattle.papaya_acts.specs.Acts.{Act}
@@ -59,22 +59,22 @@ module _ {K S : Type 0} (V : Type 0) (same : K → K → Bool) (by_hasher : S �
     Fits x act = AsksShards shards act
 
     abbrev All : At V same by_hasher hash batch_size roots → State K V S → Type 0
-    All p x = ShardsAre shards p.0 × (GuardsHold V same by_hasher hash batch_size roots aborts p x × (CallsHaveGuards (moment x.history) × (EachRefuses x.history × NumbersStay x)))
+    All p x = ShardsAre shards p.0 × (GuardsHold V same by_hasher hash batch_size roots aborts p x × (CallsHaveGuards (moment x.history) × (EachRefuses x.history × NumbersStay false x)))
 
     of_any : (P : At V same by_hasher hash batch_size roots → State K V S → Type 0) → Stays (Anything V same by_hasher hash batch_size roots aborts) P → Stays Fits P
     of_any P so = asks_more (Anything V same by_hasher hash batch_size roots aborts) Fits P (λ x act fits. tt) so
 
     all_stay : Stays Fits All
     all_stay =
-        both_stay Fits (λ p x. ShardsAre shards p.0) (λ p x. GuardsHold V same by_hasher hash batch_size roots aborts p x × (CallsHaveGuards (moment x.history) × (EachRefuses x.history × NumbersStay x)))
+        both_stay Fits (λ p x. ShardsAre shards p.0) (λ p x. GuardsHold V same by_hasher hash batch_size roots aborts p x × (CallsHaveGuards (moment x.history) × (EachRefuses x.history × NumbersStay false x)))
         (shards_stay V same by_hasher hash batch_size roots shards aborts)
-        (both_stay Fits (GuardsHold V same by_hasher hash batch_size roots aborts) (λ p x. CallsHaveGuards (moment x.history) × (EachRefuses x.history × NumbersStay x))
+        (both_stay Fits (GuardsHold V same by_hasher hash batch_size roots aborts) (λ p x. CallsHaveGuards (moment x.history) × (EachRefuses x.history × NumbersStay false x))
         (of_any (GuardsHold V same by_hasher hash batch_size roots aborts) (guards_stay V same by_hasher hash batch_size roots aborts))
-        (both_stay Fits (λ p x. CallsHaveGuards (moment x.history)) (λ p x. EachRefuses x.history × NumbersStay x)
+        (both_stay Fits (λ p x. CallsHaveGuards (moment x.history)) (λ p x. EachRefuses x.history × NumbersStay false x)
         (of_any (λ p x. CallsHaveGuards (moment x.history)) (histories_grow V same by_hasher hash batch_size roots aborts (λ log. CallsHaveGuards (moment log)) (calls_have_guards K V)))
-        (both_stay Fits (λ p x. EachRefuses x.history) (λ p x. NumbersStay x)
+        (both_stay Fits (λ p x. EachRefuses x.history) (λ p x. NumbersStay false x)
         (of_any (λ p x. EachRefuses x.history) (histories_grow V same by_hasher hash batch_size roots aborts EachRefuses (each_refuses K V)))
-        (of_any (λ p x. NumbersStay x) (numbers_stay V same by_hasher hash batch_size roots aborts)))))
+        (of_any (λ p x. NumbersStay false x) (numbers_stay V same by_hasher hash batch_size roots aborts)))))
 
     own_so : (doings : List (Doing K V S)) → AllByRecursion (Asks V same by_hasher hash batch_size roots shards) doings → AreOfTheirOwn V same by_hasher hash batch_size roots doings
     own_so [] asks = tt
@@ -97,6 +97,6 @@ module _ {K S : Type 0} (V : Type 0) (same : K → K → Bool) (by_hasher : S �
   lists_agree small aborts course doings y led asks =
       let to = wherever V same by_hasher hash batch_size roots small aborts (Fits V same by_hasher hash batch_size roots aborts shards) (All V same by_hasher hash batch_size roots aborts shards)
       (all_stay V same by_hasher hash batch_size roots aborts shards) course doings y led (own_so V same by_hasher hash batch_size roots aborts shards doings asks)
-      (record { standing = λ m st has. absurd (cc has); made = λ i b makes. absurd (cc makes) }, (guards_at_first V same by_hasher hash batch_size roots aborts, (tt, (tt, (λ on i c has. absurd (cc has), numbers_first roots)))))
+      (record { standing = λ m st has. absurd (cc has); made = λ i b makes. absurd (cc makes) }, (guards_at_first V same by_hasher hash batch_size roots aborts, (tt, (tt, (λ on i c has. absurd (cc has), numbers_first false roots)))))
       (fit_so V same by_hasher hash batch_size roots aborts shards doings asks (first_state roots)) in
       (to.0, to.1, record { shards_are = to.2.0; guards = to.2.1.0; calls = to.2.1.1.0; refuses = to.2.1.1.1.0; fresh = to.2.1.1.1.1.1.fresh })

@@ -4,29 +4,20 @@ use Rattle.std.specs.List.{AllByRecursion}
 use Rattle.papaya_scenes.specs.Scene.{slot_of}
 use Rattle.papaya_schedules.specs.Entry.{Entry}
 use Rattle.papaya_schedules.specs.Terms.{Terms, shards_of}
-use Rattle.papaya_acts.specs.Doings.{Doing, Does}
+use Rattle.papaya_acts.specs.Doings.{Doing}
 use Rattle.papaya_acts.specs.Lists.{Course, LedTo, Reached}
 use Rattle.papaya_agrees.specs.Agree.{Asks}
-use Rattle.papaya_agrees.specs.Fresh.{HasNewNumber}
-use Rattle.papaya_played.specs.Play.{State, first_state, play, play_all}
+use Rattle.papaya_agrees.specs.Fresh.{MakesNew}
+use Rattle.papaya_played.specs.Play.{State, first_state, play_all}
 use Rattle.papaya_grouped.specs.Grouping.{IsGroupingOf, Names}
 
 -- Keys have a hash by each hasher; a batch has such a size, and there are so many roots; and a closure that is told to abort as the n-th act aborts with that.
 module _ {K V S : Type 0} (same : K → K → Bool) (by_hasher : S → K → ℕ) (batch_size roots : ℕ) (aborts : ℕ → V) where
-  abbrev pub IsNew : State K V S → Doing K V S → Type 0
-  IsNew x (Does act) = HasNewNumber x act
-  IsNew x doing = Unit {0}
-
-  -- Each map that a list makes, from a state on, has a number with which none has come.
-  abbrev pub MakesNew : List (Doing K V S) → State K V S → Type 0
-  MakesNew [] x = Unit {0}
-  MakesNew (doing ∷ doings) x = IsNew x doing × ((y : State K V S) → play same by_hasher batch_size roots aborts doing x ≡ Some y → MakesNew doings y)
-
   -- Played, the list has a history, of which the log is the grouping.
   pub record IsPlayedAs (doings : List (Doing K V S)) (log : List (Entry K V)) : Type 0 where
     pub after : State K V S
     pub plays : play_all same by_hasher batch_size roots aborts doings (first_state roots) ≡ Some after
-    pub new : MakesNew doings (first_state roots)
+    pub new : MakesNew same by_hasher batch_size roots aborts doings (first_state roots)
     pub names : Names
     pub grouping : IsGroupingOf log after.history names
 

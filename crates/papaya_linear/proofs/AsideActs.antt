@@ -44,14 +44,15 @@ use Rattle.papaya_agrees.proofs.Elsewhere.{SameOf}
 use Rattle.papaya_deeds.specs.Deeds.{Entry, ReclaimsAll, Replies, Steps, Stops, acted_on, after, moment, named}
 use Rattle.papaya_played.specs.Play.{Ending, State, reply_for, row_deed}
 use Rattle.papaya_played.proofs.PlayedAs.{PlayedAs}
-use Rattle.papaya_linear.specs.Coming.{AreNamed, Goes, IsGone, IsNamed, MapsComeAndGo}
+use Rattle.papaya_linear.specs.Coming.{Goes, IsGone, MapsComeAndGo}
 use Rattle.papaya_linear.proofs.Below.{maps_below}
 use Rattle.papaya_linear.proofs.Coming.{comes_bare, comes_on, others_leave, rows_leave, same_of, same_then}
 use Rattle.papaya_linear.proofs.Counted.{counted_again}
 use Rattle.papaya_linear.proofs.Going.{goes_alike, goes_beside}
 use Rattle.papaya_linear.proofs.Like.{IsLike}
-use Rattle.papaya_linear.proofs.Names.{effects_named}
 use Rattle.papaya_linear.proofs.RowsPlayed.{is_of_row, rows_like}
+use Rattle.papaya_agrees.specs.Fresh.{AreNamed, IsNamed}
+use Rattle.papaya_agrees.proofs.Names.{effects_named}
 
 module _ {K V : Type 0} where
   -- two moments have the same maps, pairs and tables

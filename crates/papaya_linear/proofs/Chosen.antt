@@ -2,33 +2,33 @@
 use Rattle.std.specs.Prelude.{◌≡◌, ℕ, Bool, Option}
 use Rattle.papaya_moments.specs.Given.Follows.Shows.{Shows}
 use Rattle.papaya_moments.specs.Given.Schedules.Moment.{Moment}
+use Rattle.papaya_moments.specs.Given.Schedules.Transition.{Past}
 use Rattle.papaya_logged.specs.Given.Effects.Known.{Known}
 use Rattle.papaya_logged.proofs.Choosing.{kept_then, whole_then}
 use Rattle.papaya_acts.specs.Doings.{scene_chosen}
-use Rattle.papaya_deeds.specs.Deeds.{moment, named}
-use Rattle.papaya_deeds.specs.History.{past}
+use Rattle.papaya_deeds.specs.Deeds.{named}
 use Rattle.papaya_linear.specs.Coming.{MapsComeAndGo}
 use Rattle.papaya_linear.specs.Shown.{ShowsAnswers}
-use Rattle.papaya_played.specs.Play.{Ending, State}
+use Rattle.papaya_played.specs.Play.{Ending}
 use Rattle.papaya_scenes.specs.Scene.{Scene}
 
-module _ {K V S : Type 0} (same : K → K → Bool) (choice : ℕ) (x : State K V S) (s : Scene K V) (so : ShowsAnswers same (past x.history) (moment x.history) x.known s) where
-  abbrev shown : Shows same named (moment x.history) x.known s → Shows same named (moment x.history) x.known (scene_chosen choice s)
-  shown shows = record {
-    blocks = (whole_then choice same named (moment x.history) x.known s so.whole).all.shown.blocks;
+module _ {K V : Type 0} (same : K → K → Bool) (choice : ℕ) (log : Past K V) (m : Moment K V) (known : Known) (s : Scene K V) (so : ShowsAnswers same log m known s) where
+  abbrev pub shown_chosen : Shows same named m known s → Shows same named m known (scene_chosen choice s)
+  shown_chosen shows = record {
+    blocks = (whole_then choice same named m known s so.whole).all.shown.blocks;
     number = shows.number;
     maps = shows.maps;
     calls = shows.calls;
   }
 
-  pub shows_chosen : ShowsAnswers same (past x.history) (moment x.history) x.known (scene_chosen choice s)
+  pub shows_chosen : ShowsAnswers same log m known (scene_chosen choice s)
   shows_chosen = record {
-    whole = whole_then choice same named (moment x.history) x.known s so.whole;
-    kept = kept_then choice named (moment x.history) x.known s so.kept;
+    whole = whole_then choice same named m known s so.whole;
+    kept = kept_then choice named m known s so.kept;
     dues = record {
       history = record {
         past = so.dues.history.past;
-        shown = shown so.dues.history.shown;
+        shown = shown_chosen so.dues.history.shown;
         asked = record { apart = so.dues.history.asked.apart; each = so.dues.history.asked.each };
         begun = so.dues.history.begun;
         within = so.dues.history.within;
@@ -36,7 +36,7 @@ module _ {K V S : Type 0} (same : K → K → Bool) (choice : ℕ) (x : State K 
       owes = so.dues.owes;
       taken = so.dues.taken;
     };
-    as_called = record { shown = shown so.as_called.shown; each = so.as_called.each };
+    as_called = record { shown = shown_chosen so.as_called.shown; each = so.as_called.each };
     questions = so.questions;
   }
 

@@ -1,5 +1,5 @@
 -- Each act that is played leaves it so: nothing is reclaimed that is sheltered, and what is is sheltered still.
-use Rattle.std.specs.Prelude.{Bool, true, false, Some, is_ok, if◌then◌else◌}
+use Rattle.std.specs.Prelude.{Bool, true, false, Some, is_ok, length, if◌then◌else◌}
 use Rattle.std.proofs.Common.{◌≡◌, ℕ, [], ◌∷◌, refl, ap, sym, subst, ◌∙◌}
 use Rattle.seize_acts.specs.Acts.{row_steps}
 use Rattle.seize_acts.specs.Answers.{Grant}
