@@ -35,7 +35,8 @@ use Rattle.papaya_grouped.specs.Grouping.{MayHave, Names, beginner_of, names_aft
 use Rattle.papaya_grouped.specs.Called.{CallersAre, IsCalledAs, PlaysSo}
 use Rattle.papaya_grouped.specs.Reach.{Reach}
 use Rattle.papaya_grouped.proofs.Callers.{call_beside, call_here, under}
-use Rattle.papaya_grouped.proofs.Midst.{InEvent}
+use Rattle.papaya_agrees.specs.Fresh.{is_taken}
+use Rattle.papaya_grouped.proofs.Midst.{InEvent, maps_of, taken_on}
 use Rattle.papaya_grouped.proofs.OneMore.{one_act}
 use Rattle.papaya_grouped.proofs.Wanted.{call_back, wanted_for, wanted_machine}
 
@@ -124,6 +125,7 @@ module _ {K V S : Type 0} (log : List (Entry K V)) (event : Event K V) (own : Li
           deeds = (subst (λ (n : Names). MayHave n (moment log) event (Begins i (slot_of i) m call)) same_names (may ((own, i) ∷ so.names) (newest_called own i so.names)), tt);
           callers = subst (λ (n : Names). CallersAre n (caller ∷ calls) y) same_names
               (record { each = (itself so.names, others so.names calls free apart so.callers.each); once = λ n. once n (so.callers.once n) });
+          fresh = λ n l. ap (is_taken n) history ∙ taken_on n (entry i m call) x.history refl (so.fresh n (omega (arith, l)));
         }
 
   module _ (same : K → K → Bool) (by_hasher : S → K → ℕ) (shards : ℕ) (e e2 : Executor K V S) (given : StaysGiven e e2) (any : Course V same by_hasher e.batch_size e.roots slot_of) (slot : ℕ) (at_slot : slot_of i ≡ slot)

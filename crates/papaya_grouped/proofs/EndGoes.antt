@@ -31,6 +31,7 @@ use Rattle.papaya_acts.specs.Doings.{Stage, reclaiming}
 use Rattle.papaya_acts.specs.Leads.{Led}
 use Rattle.papaya_acts.specs.Lists.{Course}
 use Rattle.papaya_deeds.specs.Deeds.{Ends, MapGoes}
+use Rattle.papaya_agrees.specs.Fresh.{comes_with}
 use Rattle.papaya_drives.specs.Executors.{AreSteps, Computes}
 use Rattle.papaya_drives.proofs.Executors.{executors_act}
 use Rattle.papaya_played.specs.Play.{Ending, State, ended_on, ending_begun, ending_deed, ending_stepped, is_over, play_act, settled_outcome}
@@ -43,6 +44,14 @@ use Rattle.papaya_grouped.proofs.Aside.{begun_aside, ending_aside, works_on}
 use Rattle.papaya_grouped.proofs.Callers.{under}
 use Rattle.papaya_grouped.proofs.Midst.{InEvent}
 use Rattle.papaya_grouped.proofs.OneMore.{one_act}
+
+-- no map comes by an end
+ending_comes : (K V : Type 0) {T : Type 0} (n : ℕ) (f : Ending) (told : Settled T) → comes_with n (ending_deed {K = K} {V = V} f told) ≡ false
+ending_comes K V n f told = by (is_over told)
+  where
+    by : (b : Bool) → comes_with {K = K} {V = V} n (if b then MapGoes f.map else Ends f.map) ≡ false
+    by true = refl
+    by false = refl
 
 -- the end that a caller has under way, as it is played, is that of this map
 abbrev pub EndsMap : {K V S : Type 0} → (i map : ℕ) → State K V S → Type 0
@@ -92,12 +101,14 @@ module _ {K V S : Type 0} (same : K → K → Bool) (by_hasher : S → K → ℕ
       by_it x y it here map_is machine memory comes knows so =
           let z = ending_stepped i it e2.memory.changed x (memory, (machine, said)) in
           let may_it : (names : Names) → MayHave names (moment log) event (ending_deed it said) = λ names. subst (λ (m : ℕ). MayHave names (moment log) event (if is_over said then MapGoes m else Ends m)) (sym map_is) (may names (is_over said)) in
-          let on = works_on log event did 0 outcome calls x so z.now refl (acting.Ending it.map) e2.memory.changed (ending_deed it said) (settled_outcome said) (OfEnding said) (ending_aside it said) may_it noted noted2 did2 knows
+          let on = works_on log event did 0 outcome calls x so z.now refl (acting.Ending it.map) e2.memory.changed (ending_deed it said) (settled_outcome said) (OfEnding said) (ending_aside it said) (λ n l. ending_comes K V n it said) may_it noted noted2 did2 knows
           (did_is ∙ ap (λ (m : ℕ). did ++ effects_of (acting.Ending m) noted e2.memory.changed) (sym map_is)) (noted_is ∙ ap (λ (m : ℕ). known_after (acting.Ending m) e2.memory.changed noted) (sym map_is)) y comes in (
             on.0,
-            on.1,
-            λ goes. ap (λ (w : State K V S). option_map (λ f. f.map) (w.now.enders i)) comes ∙ ap (option_map (λ f. f.map)) (at_same x.now.enders i (ended_on it machine said) i refl)
-                ∙ ap (λ (b : Bool). option_map (λ f. f.map) (if b then None else Some (record it { machine = machine }))) goes ∙ ap Some map_is,
+            (
+              on.1,
+              λ goes. ap (λ (w : State K V S). option_map (λ f. f.map) (w.now.enders i)) comes ∙ ap (option_map (λ f. f.map)) (at_same x.now.enders i (ended_on it machine said) i refl)
+                  ∙ ap (λ (b : Bool). option_map (λ f. f.map) (if b then None else Some (record it { machine = machine }))) goes ∙ ap Some map_is,
+            ),
           )
 
       next : (value : V) (aborts : ℕ → V) (x y : State K V S) (p : Stage V same by_hasher e.batch_size e.roots slot_of) → IsOfStage by_hasher same e.batch_size e.roots p x.now
