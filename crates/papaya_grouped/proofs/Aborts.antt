@@ -8,7 +8,7 @@ use Rattle.papaya_acts.specs.Acts.{Answer, BeginsCall, StepsCall, TellsCall, Ask
 use Rattle.papaya_acts.specs.Doings.{Doing, Does, BeginsReclaiming, BeginsClearing, StepsReclaiming, Chooses}
 use Rattle.papaya_played.specs.Play.{State, call_told, play, play_all}
 use Rattle.papaya_played.proofs.PlayedAs.{played_as, reclaimed_as}
-use Rattle.papaya_grouped.specs.ByActs.{IsNew, MakesNew}
+use Rattle.papaya_agrees.specs.Fresh.{IsNew, MakesNew}
 
 module _ {K V S : Type 0} (same : K → K → Bool) (by_hasher : S → K → ℕ) (batch_size roots : ℕ) where
   -- the next state, by what a closure aborts with at this act alone

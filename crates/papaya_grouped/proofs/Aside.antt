@@ -1,5 +1,5 @@
 -- What is done beside calls, in the midst of an event: the event goes on by its entry, or as it was where there is none, and callers are as they were played.
-use Rattle.std.specs.Prelude.{◌++◌, ◌==◌, if◌then◌else◌}
+use Rattle.std.specs.Prelude.{◌++◌, ◌==◌, ◌+◌, ◌≤◌, Option, if◌then◌else◌}
 use Rattle.std.proofs.Common.{◌≡◌, ℕ, Bool, true, false, List, ◌∷◌, refl, sym, ap, subst, ◌∙◌}
 use Rattle.papaya_scenes.specs.Given.Seize.declared.progress.Progress.{Progress}
 use Rattle.papaya_scenes.specs.Given.Seize.declared.progress.Progress.TheVariants as progress
@@ -30,7 +30,8 @@ use Rattle.papaya_played.specs.Play.{Calling, Ending, Making, Now, State, began,
 use Rattle.papaya_grouped.specs.Grouping.{MayHave, Names, is_step, names_after, names_on}
 use Rattle.papaya_grouped.specs.Called.{CallersAre, IsCalledAs}
 use Rattle.papaya_grouped.proofs.Callers.{each_so}
-use Rattle.papaya_grouped.proofs.Midst.{InEvent, event_goes_on}
+use Rattle.papaya_agrees.specs.Fresh.{comes_with}
+use Rattle.papaya_grouped.proofs.Midst.{InEvent, event_goes_on, maps_of}
 
 module _ {K V : Type 0} where
   -- It begins no call, and is no step of one.
@@ -85,7 +86,7 @@ module _ {K V : Type 0} where
   pub making_aside : (map : ℕ) (before after : NewMap) → IsAside (making_deed map before after)
   making_aside map before after = by (has_root before.stands) (has_root after.stands)
     where
-      by : (b c : Bool) → IsAside {K} {V} (if b then (if c then Makes map else MapFails map) else (if c then MapComes map after.setting.root after.setting.mode (pairs_for after.len) else Makes map))
+      by : (b c : Bool) → IsAside (if b then (if c then Makes map else MapFails map) else (if c then MapComes map after.setting.root after.setting.mode (pairs_for after.len) else Makes map))
       by true true = record { named = λ event names. refl; still = refl }
       by true false = record { named = λ event names. refl; still = refl }
       by false true = record { named = λ event names. refl; still = refl }
@@ -94,7 +95,7 @@ module _ {K V : Type 0} where
   pub ending_aside : {T : Type 0} (f : Ending) (told : Settled T) → IsAside (ending_deed f told)
   ending_aside f told = by (is_over told)
     where
-      by : (b : Bool) → IsAside {K} {V} (if b then MapGoes f.map else Ends f.map)
+      by : (b : Bool) → IsAside (if b then MapGoes f.map else Ends f.map)
       by true = record { named = λ event names. refl; still = refl }
       by false = record { named = λ event names. refl; still = refl }
 
@@ -135,9 +136,11 @@ module _ {K V S : Type 0} (log : List (Entry K V)) (event : Event K V) (did : Li
     comes = so.comes;
     deeds = so.deeds;
     callers = callers_same (names_after event so.piece so.known) calls x (began now x) same_calls so.callers;
+    fresh = so.fresh;
   }
 
-  module _ (who : Acting) (changed : Changed) (deed : Deed K V) (outcome2 : Outcome V) (answer : Answer K V) (aside : IsAside deed) (may : (names : Names) → MayHave names (moment log) event deed) where
+  module _ (who : Acting) (changed : Changed) (deed : Deed K V) (outcome2 : Outcome V) (answer : Answer K V) (aside : IsAside deed)
+      (kept : (n : ℕ) → (moment log).made + maps_of event ≤ n → comes_with n deed ≡ false) (may : (names : Names) → MayHave names (moment log) event deed) where
     abbrev z : State K V S
     z = worked who changed deed outcome2 answer now x
 
@@ -145,7 +148,7 @@ module _ {K V S : Type 0} (log : List (Entry K V)) (event : Event K V) (did : Li
     pub worked_aside : InEvent log event (did ++ effects_of who x.known changed) steps outcome2 calls z
     worked_aside =
         let names = names_after event so.piece so.known in
-        event_goes_on log event did steps outcome calls calls x z so (record { deed = deed; outcome = outcome2; effects = effects_of who x.known changed; refused = is_refusal changed }) refl aside.still
+        event_goes_on log event did steps outcome calls calls x z so (record { deed = deed; outcome = outcome2; effects = effects_of who x.known changed; refused = is_refusal changed }) refl kept aside.still
         (aside.named event names) (may names) (callers_same names calls x z same_calls so.callers)
 
     -- with what was noted of it

@@ -35,7 +35,8 @@ use Rattle.papaya_grouped.specs.Grouping.{MayHave, Names, beginner_of, names_aft
 use Rattle.papaya_grouped.specs.Called.{CallersAre, IsCalledAs, PlaysSo}
 use Rattle.papaya_grouped.specs.Reach.{Reach}
 use Rattle.papaya_grouped.proofs.Callers.{call_beside, call_here, under}
-use Rattle.papaya_grouped.proofs.Midst.{InEvent}
+use Rattle.papaya_agrees.specs.Fresh.{is_taken}
+use Rattle.papaya_grouped.proofs.Midst.{InEvent, maps_of, taken_on}
 use Rattle.papaya_grouped.proofs.OneMore.{one_act}
 use Rattle.papaya_grouped.proofs.Wanted.{call_back, wanted_for, wanted_machine}
 
@@ -56,14 +57,15 @@ others_called own other i names apart =
     by false e = e
     by true e = absurd (let it = same_is own other e in let f : is_same other own ≡ true = subst (λ (x : List ℕ). is_same x own ≡ true) it (same_refl own) in let g : true ≡ false = sym f ∙ apart in cc g)
 
+-- the entry of a call that begins
+abbrev entry : {K V : Type 0} → (i m : ℕ) → Call K V → Act K V
+entry i m call = record { deed = Begins i (slot_of i) m call; outcome = outcome.Goes; effects = []; refused = false }
+
 module _ {K V S : Type 0} (log : List (Entry K V)) (event : Event K V) (own : List ℕ) (beginner : beginner_of event ≡ own) (i m : ℕ) (call : Call K V)
     (may : (names : Names) → number_called own names ≡ Some i → MayHave names (moment log) event (Begins i (slot_of i) m call)) (calls : List (Caller V))
     (free : list_any (λ d. is_same d.name own) calls ≡ false) (apart : AllByRecursion (λ d. (d.number == i) ≡ false) calls) (caller : Caller V) (named : caller.name ≡ own) (numbered : caller.number ≡ i)
     (on : caller.map ≡ m) (kind : caller.kind ≡ kind_of call) (keeps_none : caller.value ≡ None) where
-  abbrev entry : Act K V
-  entry = record { deed = Begins i (slot_of i) m call; outcome = outcome.Goes; effects = []; refused = false }
-
-  module _ (x y : State K V S) (it : Calling K V) (its : kind_of it.call ≡ kind_of call) (none : it.value ≡ None) (history : y.history ≡ entry ∷ x.history)
+  module _ (x y : State K V S) (it : Calling K V) (its : kind_of it.call ≡ kind_of call) (none : it.value ≡ None) (history : y.history ≡ entry i m call ∷ x.history)
       (here : y.now.calls m i ≡ Some it) (beside : (n j : ℕ) → (j == i) ≡ false → y.now.calls n j ≡ x.now.calls n j) where
     others : (names : Names) (xs : List (Caller V)) → list_any (λ d. is_same d.name own) xs ≡ false → AllByRecursion (λ d. (d.number == i) ≡ false) xs → AllByRecursion (λ d. IsCalledAs names x d) xs
         → AllByRecursion (λ d. IsCalledAs ((own, i) ∷ names) y d) xs
@@ -115,7 +117,7 @@ module _ {K V S : Type 0} (log : List (Entry K V)) (event : Event K V) (own : Li
           known = so.names;
           before = x.history;
           grouping = so.grouping;
-          piece = entry ∷ [];
+          piece = entry i m call ∷ [];
           history = history;
           effects = refl;
           counts = refl;
@@ -123,6 +125,7 @@ module _ {K V S : Type 0} (log : List (Entry K V)) (event : Event K V) (own : Li
           deeds = (subst (λ (n : Names). MayHave n (moment log) event (Begins i (slot_of i) m call)) same_names (may ((own, i) ∷ so.names) (newest_called own i so.names)), tt);
           callers = subst (λ (n : Names). CallersAre n (caller ∷ calls) y) same_names
               (record { each = (itself so.names, others so.names calls free apart so.callers.each); once = λ n. once n (so.callers.once n) });
+          fresh = λ n l. ap (is_taken n) history ∙ taken_on n (entry i m call) x.history refl (so.fresh n (omega (arith, l)));
         }
 
   module _ (same : K → K → Bool) (by_hasher : S → K → ℕ) (shards : ℕ) (e e2 : Executor K V S) (given : StaysGiven e e2) (any : Course V same by_hasher e.batch_size e.roots slot_of) (slot : ℕ) (at_slot : slot_of i ≡ slot)

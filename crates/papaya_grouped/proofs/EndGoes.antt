@@ -7,7 +7,7 @@ use Rattle.papaya_scenes.specs.Given.SeizeWords.Mem.{Mem}
 use Rattle.papaya_scenes.specs.Given.Seize.World.{with_at}
 use Rattle.papaya_scenes.specs.Given.Seize.declared.rows.settle.Settled.{Settled}
 use Rattle.papaya_scenes.specs.Given.Tables.declared.node.Node.{Node}
-use Rattle.papaya_scenes.specs.Given.Raw.EndMap.{end_map_plan}
+use Rattle.papaya_scenes.specs.Given.Raw.EndMap.{end_map_plan, ending}
 use Rattle.papaya_scenes.specs.Given.Raw.declared.machines.end_map.EndMap.{EndMap}
 use Rattle.papaya_scenes.specs.Given.Teller.declared.changed.Changed.{Changed}
 use Rattle.papaya_scenes.specs.Given.Finishes.Endings.{Finishing}
@@ -31,9 +31,10 @@ use Rattle.papaya_acts.specs.Doings.{Stage, reclaiming}
 use Rattle.papaya_acts.specs.Leads.{Led}
 use Rattle.papaya_acts.specs.Lists.{Course}
 use Rattle.papaya_deeds.specs.Deeds.{Ends, MapGoes}
+use Rattle.papaya_agrees.specs.Fresh.{comes_with}
 use Rattle.papaya_drives.specs.Executors.{AreSteps, Computes}
 use Rattle.papaya_drives.proofs.Executors.{executors_act}
-use Rattle.papaya_played.specs.Play.{Ending, State, ending_begun, ending_deed, ending_stepped, is_over, play_act, settled_outcome}
+use Rattle.papaya_played.specs.Play.{Ending, State, ended_on, ending_begun, ending_deed, ending_stepped, is_over, play_act, settled_outcome}
 use Rattle.papaya_played.specs.Reached.{IsOfStage, rows_beside}
 use Rattle.papaya_played.proofs.PlayedAs.{played_as}
 use Rattle.papaya_played.proofs.Tied.{ending_tied}
@@ -43,6 +44,14 @@ use Rattle.papaya_grouped.proofs.Aside.{begun_aside, ending_aside, works_on}
 use Rattle.papaya_grouped.proofs.Callers.{under}
 use Rattle.papaya_grouped.proofs.Midst.{InEvent}
 use Rattle.papaya_grouped.proofs.OneMore.{one_act}
+
+-- no map comes by an end
+ending_comes : (K V : Type 0) {T : Type 0} (n : ℕ) (f : Ending) (told : Settled T) → comes_with n (ending_deed {K = K} {V = V} f told) ≡ false
+ending_comes K V n f told = by (is_over told)
+  where
+    by : (b : Bool) → comes_with {K = K} {V = V} n (if b then MapGoes f.map else Ends f.map) ≡ false
+    by true = refl
+    by false = refl
 
 -- the end that a caller has under way, as it is played, is that of this map
 abbrev pub EndsMap : {K V S : Type 0} → (i map : ℕ) → State K V S → Type 0
@@ -68,16 +77,16 @@ module _ {K V S : Type 0} (same : K → K → Bool) (by_hasher : S → K → ℕ
       let z = ending_begun i map x came.0 in (
         ap (λ (w : State K V S). w.known) came.2 ∙ knows,
         subst (λ (w : State K V S). EndsOn did outcome w) (sym came.2)
-            (begun_aside log event did 0 outcome calls x so z.now refl, ap (option_map (λ f. f.map)) (at_same x.now.enders i (z.now.enders i) i refl)),
+            (begun_aside log event did 0 outcome calls x so z.now refl, ap (option_map (λ f. f.map)) (at_same x.now.enders i (Some (record { map = map; machine = ending came.0.0 false })) i refl)),
       ))) at
 
   -- Its step, which said this: its entry is one of the event.
-  module _ (ending : EndMap) (has : ending_in (work_of e i) ≡ Some ending) (said : Settled (Node K V)) (leads : (s : Scene K V) → IsThere same (by_hasher e.hasher) e s → EndsThere same (by_hasher e.hasher) i said s e e2)
+  module _ (under_way : EndMap) (has : ending_in (work_of e i) ≡ Some under_way) (said : Settled (Node K V)) (leads : (s : Scene K V) → IsThere same (by_hasher e.hasher) e s → EndsThere same (by_hasher e.hasher) i said s e e2)
       (did did2 : List Effect) (noted noted2 : Known) (did_is : did2 ≡ did ++ effects_of (acting.Ending map) noted e2.memory.changed) (noted_is : noted2 ≡ known_after (acting.Ending map) e2.memory.changed noted)
       (outcome : Outcome V) (may : (names : Names) (last : Bool) → MayHave names (moment log) event (if last then MapGoes map else Ends map)) where
-    drive : (s : Scene K V) → IsThere same (by_hasher e.hasher) e s → AreSteps same by_hasher e e2 s (Computes e e2 (end_map_plan {K = K} {V = V} ending) said) (StepsEnding i) (OfEnding said)
+    drive : (s : Scene K V) → IsThere same (by_hasher e.hasher) e s → AreSteps same by_hasher e e2 s (Computes e e2 (end_map_plan {K = K} {V = V} under_way) said) (StepsEnding i) (OfEnding said)
     drive s there =
-        let f = under (λ (f : Finishing K V). f.machine) (s.enders i) ending (there.enders i ∙ has) in
+        let f = under (λ (f : Finishing K V). f.machine) (s.enders i) under_way (there.enders i ∙ has) in
         subst (λ (z : EndMap). AreSteps same by_hasher e e2 s (Computes e e2 (end_map_plan {K = K} {V = V} z) said) (StepsEnding i) (OfEnding said)) f.2
         ((executors_act V same by_hasher e e2 s there given i).1.ending said (leads s there) f.0 f.1)
 
@@ -85,19 +94,21 @@ module _ {K V S : Type 0} (same : K → K → Bool) (by_hasher : S → K → ℕ
     abbrev pub EndsThen : State K V S → Type 0
     EndsThen x = InEvent log event did2 0 (settled_outcome said) calls x × (is_over said ≡ false → EndsMap i map x)
 
-    module _ (g : Grant) (computed : Computes e e2 (end_map_plan {K = K} {V = V} ending) said g) where
+    module _ (g : Grant) (computed : Computes e e2 (end_map_plan {K = K} {V = V} under_way) said g) where
       -- by the end as it is played
       by_it : (x y : State K V S) (it : Ending) → x.now.enders i ≡ Some it → it.map ≡ map → (machine : EndMap) (memory : Mem (Node K V)) → y ≡ ending_stepped i it e2.memory.changed x (memory, (machine, said))
           → x.known ≡ noted → InEvent log event did 0 outcome calls x → (y.known ≡ noted2) × EndsThen y
       by_it x y it here map_is machine memory comes knows so =
           let z = ending_stepped i it e2.memory.changed x (memory, (machine, said)) in
           let may_it : (names : Names) → MayHave names (moment log) event (ending_deed it said) = λ names. subst (λ (m : ℕ). MayHave names (moment log) event (if is_over said then MapGoes m else Ends m)) (sym map_is) (may names (is_over said)) in
-          let on = works_on log event did 0 outcome calls x so z.now refl (acting.Ending it.map) e2.memory.changed (ending_deed it said) (settled_outcome said) (OfEnding said) (ending_aside it said) may_it noted noted2 did2 knows
+          let on = works_on log event did 0 outcome calls x so z.now refl (acting.Ending it.map) e2.memory.changed (ending_deed it said) (settled_outcome said) (OfEnding said) (ending_aside it said) (λ n l. ending_comes K V n it said) may_it noted noted2 did2 knows
           (did_is ∙ ap (λ (m : ℕ). did ++ effects_of (acting.Ending m) noted e2.memory.changed) (sym map_is)) (noted_is ∙ ap (λ (m : ℕ). known_after (acting.Ending m) e2.memory.changed noted) (sym map_is)) y comes in (
             on.0,
-            on.1,
-            λ goes. ap (λ (w : State K V S). option_map (λ f. f.map) (w.now.enders i)) comes ∙ ap (option_map (λ f. f.map)) (at_same x.now.enders i (z.now.enders i) i refl)
-                ∙ ap (λ (b : Bool). option_map (λ f. f.map) (if b then None else Some (record it { machine = machine }))) goes ∙ ap Some map_is,
+            (
+              on.1,
+              λ goes. ap (λ (w : State K V S). option_map (λ f. f.map) (w.now.enders i)) comes ∙ ap (option_map (λ f. f.map)) (at_same x.now.enders i (ended_on it machine said) i refl)
+                  ∙ ap (λ (b : Bool). option_map (λ f. f.map) (if b then None else Some (record it { machine = machine }))) goes ∙ ap Some map_is,
+            ),
           )
 
       next : (value : V) (aborts : ℕ → V) (x y : State K V S) (p : Stage V same by_hasher e.batch_size e.roots slot_of) → IsOfStage by_hasher same e.batch_size e.roots p x.now

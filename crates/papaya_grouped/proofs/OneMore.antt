@@ -19,7 +19,7 @@ use Rattle.papaya_drives.specs.Executors.{IsAct}
 use Rattle.papaya_played.specs.Play.{State, choice_come, first_state, play, play_act, play_all}
 use Rattle.papaya_played.specs.Reached.{AreOnOwn, IsOfStage, IsOnOwn}
 use Rattle.papaya_played.proofs.All.{lists_are_played}
-use Rattle.papaya_grouped.specs.ByActs.{IsNew}
+use Rattle.papaya_agrees.specs.Fresh.{IsNew}
 use Rattle.papaya_grouped.specs.Reach.{PlaysTo, Reach}
 use Rattle.papaya_schedules.specs.Lists.{put}
 use Rattle.papaya_grouped.proofs.Aborts.{new_one, new_same, plays_one, plays_same, told_all}

@@ -48,6 +48,7 @@ use Rattle.papaya_acts.specs.Acts.{BeginsRow, Nothing, StepsRow}
 use Rattle.papaya_acts.specs.AsSteps.{changed_of, row_changed}
 use Rattle.papaya_acts.specs.Doings.{Stage, reclaiming}
 use Rattle.papaya_acts.specs.Lists.{Course}
+use Rattle.papaya_agrees.proofs.Told.{row_of_no_map}
 use Rattle.papaya_drives.specs.Executors.{AreSteps, IsAct, RowIsComputed}
 use Rattle.papaya_drives.proofs.Executors.{executors_act}
 use Rattle.papaya_played.specs.Play.{Now, State, play_act, row_begun, row_deed, row_on, row_outcome, row_stepped, slot_row_steps}
@@ -157,7 +158,7 @@ module _ {K V S : Type 0} (same : K → K → Bool) (by_hasher : S → K → ℕ
           came.4 ∙ ap (λ (c : Changed). row_stepped i came.0 c x came.2) change ∙ ap (λ (r : SlotRow). row_stepped i r e2.memory.changed x came.2) one
           ∙ ap (λ (q : Mem (Node K V) × (SlotRow × RowTold (Node K V))). row_stepped i row e2.memory.changed x q) end in
           works_on log event did 0 outcome calls x so (row_stepped i row e2.memory.changed x (e2.memory.memory, (end_is.0, said))).now refl acting.Row e2.memory.changed (row_deed row) (row_outcome said) Nothing
-          (row_aside row) may noted noted2 did2 knows did_is noted_is y is)
+          (row_aside row) (λ n l. (row_of_no_map row).comes n) may noted noted2 did2 knows did_is noted_is y is)
 
     pub row_steps : At did outcome e noted → At did2 (row_outcome said) e2 noted2
     row_steps at =

@@ -1,9 +1,11 @@
 -- That callers go by their numbers, and their calls are played; and that a log is the grouping of the history that was played.
-use Rattle.std.specs.Prelude.{◌≡◌, ◌≤◌, ◌==◌, ℕ, List, Some, filter, length}
+use Rattle.std.specs.Prelude.{◌≡◌, ◌≤◌, ◌==◌, ℕ, false, List, Some, filter, length}
 use Rattle.std.specs.List.{AllByRecursion}
+use Rattle.papaya_schedules.specs.After.{moment}
 use Rattle.papaya_schedules.specs.Entry.{Entry}
 use Rattle.papaya_named.specs.Seen.{kind_of}
 use Rattle.papaya_named.specs.declared.caller.Caller.{Caller}
+use Rattle.papaya_agrees.specs.Fresh.{is_taken}
 use Rattle.papaya_played.specs.Play.{Calling, State}
 use Rattle.papaya_grouped.specs.Grouping.{IsGroupingOf, Names, number_called}
 
@@ -21,8 +23,9 @@ module _ {K V S : Type 0} where
     pub each : AllByRecursion (λ d. IsCalledAs names x d) calls
     pub once : (i : ℕ) → length (filter (λ d. d.number == i) calls) ≤ 1
 
-  -- The log is the grouping of the history that was played, and callers are as they were played.
+  -- The log is the grouping of the history that was played, callers are as they were played, and the numbers of maps that are to come are not taken.
   pub record PlaysSo (log : List (Entry K V)) (calls : List (Caller V)) (x : State K V S) : Type 0 where
     pub names : Names
     pub grouping : IsGroupingOf log x.history names
     pub callers : CallersAre names calls x
+    pub fresh : (n : ℕ) → (moment log).made ≤ n → is_taken n x.history ≡ false

@@ -9,7 +9,7 @@ use Rattle.papaya_acts.specs.Doings.{Doing, reclaiming}
 use Rattle.papaya_acts.specs.Lists.{Course, LedTo, Reached}
 use Rattle.papaya_agrees.specs.Agree.{Asks}
 use Rattle.papaya_played.specs.Play.{State, first_state, play_all}
-use Rattle.papaya_grouped.specs.ByActs.{MakesNew}
+use Rattle.papaya_agrees.specs.Fresh.{MakesNew}
 
 module _ {K V S : Type 0} (same : K → K → Bool) (by_hasher : S → K → ℕ) (hasher : S) (batch_size roots shards : ℕ) where
   -- Played so far, with what closures abort with, and with what is known of the blocks, this is so of the state.
