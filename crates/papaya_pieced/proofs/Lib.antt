@@ -4,3 +4,4 @@ pub mod StepCall
 pub mod StepsCall
 pub mod Taken
 pub mod Replied
+pub mod Stopped
