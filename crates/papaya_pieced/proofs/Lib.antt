@@ -5,3 +5,5 @@ pub mod StepsCall
 pub mod Taken
 pub mod Replied
 pub mod Stopped
+pub mod Chosen
+pub mod Begun
