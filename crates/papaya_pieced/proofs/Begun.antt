@@ -6,6 +6,7 @@ use Rattle.std.proofs.lemmas.Bool.{ne_eqb}
 use Rattle.papaya_runs.specs.Present.{guard_of, living_slot}
 use Rattle.papaya_scenes.specs.Given.Callers.Together.{UnderWay}
 use Rattle.papaya_scenes.specs.Given.Tables.declared.setting.Setting.{Setting}
+use Rattle.papaya_scenes.specs.Given.Finishes.Maps.{Standing}
 use Rattle.papaya_scenes.specs.Scene.{slot_of}
 use Rattle.papaya_schedules.specs.declared.call.Call.{Call}
 use Rattle.papaya_schedules.specs.declared.effect.Effect.{Effect}
@@ -60,18 +61,18 @@ module _ {K V S : Type 0} (same : K → K → Bool) (by_hasher : S → K → ℕ
   abbrev e2 : Executor K V S
   e2 = mid.logged.executor
 
-  abbrev hash : K → ℕ
-  hash = by_hasher e.hasher
+  abbrev its_hash : K → ℕ
+  its_hash = by_hasher e.hasher
 
   abbrev i : ℕ
   i = caller_in e led.slot
 
   its_slot : slot_of i ≡ led.slot
-  its_slot = at_slot same hash terms (moment log) old stands own guard name call led.free led.slot led.lives led.number led.setting led.found
+  its_slot = at_slot same its_hash terms (moment log) old stands own guard name call led.free led.slot led.lives led.number led.setting led.found
 
   -- the map is there, with its setting
-  abbrev its : (number_of name (moment log) ≡ Some led.number) × _
-  its = setting_of_it same hash terms (moment log) old stands name led.number led.setting led.found
+  its : (number_of name (moment log) ≡ Some led.number) × (standing : Standing K) × (stands.scene.maps led.number ≡ Some standing) × (standing.setting ≡ led.setting)
+  its = setting_of_it same its_hash terms (moment log) old stands name led.number led.setting led.found
 
   setting_is : slice_index_or e.maps.items led.number None ≡ Some led.setting
   setting_is = sym (stands.shown.is_at.maps led.number) ∙ ap (option_map (λ standing. standing.setting)) its.2 ∙ ap Some its.3
@@ -84,12 +85,9 @@ module _ {K V S : Type 0} (same : K → K → Bool) (by_hasher : S → K → ℕ
   apart =
       each_so (IsUnderWayAs AsFar stands.name stands.scene old.there) (λ (d : Caller V). (d.number == i) ≡ false)
       (λ d way. ne_eqb d.number i (λ is.
-      (let none = no_calls_yet same hash e stands.scene stands.shown.is_at led.slot (fits same hash terms (moment log) old stands own guard name call led.free led.slot led.lives led.number led.setting led.found) d.map in
+      (let none = no_calls_yet same its_hash e stands.scene stands.shown.is_at led.slot (fits same its_hash terms (moment log) old stands own guard name call led.free led.slot led.lives led.number led.setting led.found) d.map in
       let here = subst (λ (n : ℕ). stands.scene.calls d.map n ≡ Some way.0) is way.1 in
       let both : Some way.0 ≡ None = sym here ∙ none in cc both))) old.calls stands.calls.each
-
-  seen : {X : Type 0} (f : Seen → X) → f (record { name = led.caller.name; guard = led.caller.guard; map = led.caller.map; kind = led.caller.kind; far = led.caller.stands }) ≡ f _
-  seen f = ap f led.is
 
   -- So the list goes on where it begins.
   pub begin_goes : StaysGiven e e2 → Course V same by_hasher e.batch_size e.roots slot_of
@@ -98,10 +96,10 @@ module _ {K V S : Type 0} (same : K → K → Bool) (by_hasher : S → K → ℕ
   begin_goes given any at =
       subst (λ (l : List (Caller V)). Reach same by_hasher e.hasher e.batch_size e.roots (shards_of terms) (λ (x : State K V S). InEvent log event [] 0 outcome.Goes l x) e2 (known mid.logged.notes)) (sym led.items)
       (subst (λ (k : Known). Reach same by_hasher e.hasher e.batch_size e.roots (shards_of terms) (λ (x : State K V S). InEvent log event [] 0 outcome.Goes (led.caller ∷ old.calls) x) e2 k) (ap known (sym led.notes))
-      (call_begins log event own beginner i led.number call (λ names called. may names i (slot_of i) led.number called lives_there its.0) old.calls led.free apart led.caller (seen (λ s. s.name)) led.numbered (seen (λ s. s.map))
-      (seen (λ s. s.kind)) led.keeps_none same by_hasher (shards_of terms) e e2 given any led.slot its_slot led.setting setting_is
-      (entered same hash terms (moment log) old stands own guard name call led.free led.slot led.lives led.number led.setting led.found)
-      (no_work e led.slot (fits same hash terms (moment log) old stands own guard name call led.free led.slot led.lives led.number led.setting led.found)) led.begins (known old.logged.notes) at))
+      (call_begins log event own beginner i led.number call (λ names called. may names i (slot_of i) led.number called lives_there its.0) old.calls led.free apart led.caller (ap (λ (s : Seen). s.name) led.is) led.numbered (ap (λ (s : Seen). s.map) led.is)
+      (ap (λ (s : Seen). s.kind) led.is) led.keeps_none same by_hasher (shards_of terms) e e2 given any led.slot its_slot led.setting setting_is
+      (entered same its_hash terms (moment log) old stands own guard name call led.free led.slot led.lives led.number led.setting led.found)
+      (no_work e led.slot (fits same its_hash terms (moment log) old stands own guard name call led.free led.slot led.lives led.number led.setting led.found)) led.begins (known old.logged.notes) at))
 
 -- steps of a call leave what an executor was given
 module _ {K V S : Type 0} (same : K → K → Bool) (hash : K → ℕ) (place : ℕ) where

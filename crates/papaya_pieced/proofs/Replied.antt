@@ -57,7 +57,7 @@ use Rattle.papaya_pieced.proofs.StepCall.{HasCallIn}
 use Rattle.papaya_pieced.proofs.Taken.{works_at}
 
 -- what the closure aborts with that is told so, if it is told to abort
-abort_of : {V : Type 0} → Reply V → V → V
+abbrev abort_of : {V : Type 0} → Reply V → V → V
 abort_of (reply.Aborts value) other = value
 abort_of _ other = other
 
