@@ -7,3 +7,8 @@ pub mod Replied
 pub mod Stopped
 pub mod Chosen
 pub mod Begun
+pub mod Walked
+mod Chains
+pub mod Ended
+pub mod RowKinds
+pub mod Rowed

@@ -29,7 +29,7 @@ use Rattle.papaya_scheduler.specs.declared.played.Played.{Played}
 use Rattle.papaya_scheduler.specs.declared.scheduler.Scheduler.{Scheduler}
 use Rattle.papaya_scheduler.proofs.Here.{here_at}
 use Rattle.papaya_scheduler.proofs.Stopped.{ready_parts}
-use Rattle.papaya_named.specs.Seen.{ready_place}
+use Rattle.papaya_named.specs.Seen.{kind_of, ready_place}
 use Rattle.papaya_named.specs.declared.caller.Caller.{Caller}
 use Rattle.papaya_named.specs.declared.caller.Stands.{Stands as HowFar}
 use Rattle.papaya_named.specs.declared.caller.Stands.TheVariants as far
@@ -172,3 +172,88 @@ module _ {K V S : Type 0} (same : K → K → Bool) (by_hasher : S → K → ℕ
       let done = one_goes same by_hasher shards log event place i m own may outcome mid after led q (n + 0) was.0 h b r any last was.1.1 was.1.0 in
       let many : 1 + (n + 0) ≡ count = omega (arith, count_is) in
       subst (λ (k : ℕ). Midst after k outcome q) many done.0
+
+-- The walk is asked for its next pair.
+module _ {K V S : Type 0} (same : K → K → Bool) (by_hasher : S → K → ℕ) (shards : ℕ) (log : List (Entry K V)) (event : Event K V) (e e2 : Executor K V S) (given : StaysGiven e e2)
+    (any : Course V same by_hasher e.batch_size e.roots slot_of) (calls : List (Caller V)) (place : ℕ) (d : Caller V) (at : slice_get calls place ≡ Some d) (ready : Bool)
+    (leads : (s : Scene K V) → IsThere same (by_hasher e.hasher) e s → AsksThere same (by_hasher e.hasher) d.number ready s e e2) (has : HasCallIn d.number d.map e) where
+  is_asked : (s : Scene K V) → IsThere same (by_hasher e.hasher) e s → IsAct same by_hasher e e2 s (AsksCall d.number d.map) (OfAsking ready)
+  is_asked s there =
+      let c = under machine_of (s.calls d.map d.number) has.0 (there.calls d.map d.number ∙ has.1) in
+      (executors_act V same by_hasher e e2 s there given d.number).0.ask ready (leads s there) d.map c.0 c.1
+
+  -- it is under way then
+  works_asked : (s : Scene K V) → IsThere same (by_hasher e.hasher) e s → HasCallIn d.number d.map e2
+  works_asked s there =
+      let c = under machine_of (s.calls d.map d.number) has.0 (there.calls d.map d.number ∙ has.1) in
+      let to = (leads s there).1 d.map c.0 c.1 in
+      (machine_of to.0, sym (to.4.calls d.map d.number) ∙ ap (option_map machine_of) (call_here s.calls d.map d.number (Some to.0)))
+
+  pub ask_goes : (noted : Known) → Reach same by_hasher e.hasher e.batch_size e.roots shards (PlaysSo log calls) e noted
+      → Reach same by_hasher e.hasher e.batch_size e.roots shards (λ (x : State K V S). InEvent log event [] 0 outcome.Goes calls x) e2 noted × HasCallIn d.number d.map e2
+  ask_goes noted before =
+      let to = before.leads any in (
+        one_act same by_hasher shards e e2 given any noted noted (PlaysSo log calls) (λ (x : State K V S). InEvent log event [] 0 outcome.Goes calls x) (AsksCall d.number d.map) (OfAsking ready) (tt, tt) is_asked
+            (λ x so. tt) (λ value. value)
+            (λ value aborts x y p stage there its played knows so.
+            (let came = played_as same by_hasher e.batch_size e.roots aborts x y (AsksCall d.number d.map) played in
+            let z = call_asked d.number d.map x came.0 in (
+              ap (λ (w : State K V S). w.known) came.2 ∙ knows,
+              subst (λ (w : State K V S). InEvent log event [] 0 outcome.Goes calls w) (sym came.2) (record {
+                known = so.names;
+                before = x.history;
+                grouping = so.grouping;
+                piece = [];
+                history = refl;
+                effects = refl;
+                counts = refl;
+                comes = tt;
+                deeds = tt;
+                callers = callers_asked so.names x calls place d at came.0 came.1 so.callers;
+                fresh = λ n l. so.fresh n (omega (arith, l));
+              }),
+            ))) before,
+        works_asked to.0.0.0 to.3,
+      )
+
+-- So the event goes on by acts.
+module _ {K V S : Type 0} (same : K → K → Bool) (by_hasher : S → K → ℕ) (any : (batch_size roots : ℕ) → Course V same by_hasher batch_size roots slot_of) (own : List ℕ) (played : Played V) (old new : Scheduler K V S)
+    (took : TookNext same (by_hasher old.logged.executor.hasher) own played old new) (given : KeepsGiven old.logged.executor new.logged.executor) where
+  abbrev its_hash : K → ℕ
+  its_hash = by_hasher old.logged.executor.hasher
+
+  pub next_goes_on : GoesOnByActs same by_hasher (event.Next own) played old new
+  next_goes_on terms log stands in_turn next next2 at = by (ready_place own old.calls) refl
+    where
+      ev : Event K V
+      ev = event.Next own
+
+      After : Type 0
+      After = ActsSoFar same by_hasher terms (entry_of ev played ∷ log) new.logged new.calls
+
+      walked : (place : ℕ) → Some place ≡ ready_place own old.calls → HasWalked same its_hash place played old new → After
+      walked place ready it =
+          let placed = ready_parts same its_hash terms log old own stands place ready in
+          let here = here_at same its_hash terms (moment log) old stands own place placed.0 in
+          let one : it.caller ≡ here.caller = same_some it.caller here.caller (sym it.at ∙ here.at) in
+          let works = works_at same its_hash terms (moment log) old stands place it.caller it.at in
+          goes_at same by_hasher (shards_of terms) (PlaysSo log old.calls) (PlaysSo (entry_of ev played ∷ log) new.calls) old.logged.executor new.logged.executor (known old.logged.notes) (known new.logged.notes)
+          (λ course there.
+          (let asked = ask_goes same by_hasher (shards_of terms) log ev old.logged.executor it.asked.executor (it.given.0, it.given.1, it.given.2) course old.calls place it.caller it.at it.ready it.leads works
+          (known old.logged.notes) there in
+          let p0 : Scheduler K V S = record old { logged = it.asked } in
+          let began = subst (λ (k : Known). Reach same by_hasher old.logged.executor.hasher old.logged.executor.batch_size old.logged.executor.roots (shards_of terms)
+          (λ (x : State K V S). InEvent log ev [] 0 outcome.Goes old.calls x) it.asked.executor k) (ap known (sym it.notes)) asked.0 in
+          let done = walked_by same by_hasher (shards_of terms) log ev place it.caller.number it.caller.map own (λ names called. called) old.logged.executor.hasher old.logged.executor.batch_size old.logged.executor.roots course
+          it.steps played.steps played.outcome it.mid played.effects.items p0 it.led new outcome.Goes it.steps_are it.walked it.last
+          (record { caller = it.caller; at = it.at; name = ap (λ (c : Caller V). c.name) one ∙ here.named; number = refl; map = refl; works = asked.1 }) began in
+          reach_so same by_hasher old.logged.executor.hasher old.logged.executor.batch_size old.logged.executor.roots (shards_of terms)
+          (λ (x : State K V S). InEvent log ev played.effects.items played.steps played.outcome new.calls x) (PlaysSo (entry_of ev played ∷ log) new.calls)
+          (λ x in_it. event_ends log ev played.effects.items played.steps played.outcome new.calls x (later_by ev played old new log refl given next next2) in_it) new.logged.executor (known new.logged.notes) done))
+          terms.batch_size terms.roots (any terms.batch_size terms.roots) at
+
+      by : (o : Option ℕ) → ready_place own old.calls ≡ o → After
+      by None is =
+          let n = took.1 is in
+          did_nothing ev played old new same by_hasher n.1 n.2 (ap (λ (p : Scheduler K V S). p.logged) n.3) (ap (λ (p : Scheduler K V S). p.calls) n.3) terms log stands in_turn next next2 at
+      by (Some place) is = walked place (sym is) (took.0 place (sym is))
