@@ -7,5 +7,6 @@ pub mod Aside
 pub mod RowGoes
 pub mod EndGoes
 pub mod CallBegins
+pub mod Chosen
 pub mod Callers
 mod Samples

@@ -63,7 +63,7 @@ step_comes n (ReclaimsAll last) is = refl
 
 module _ {K V S : Type 0} (log : List (Entry K V)) (event : Event K V) where
   -- it begins with nothing done
-  pub event_begins : (outcome : Outcome V) (calls : List (Caller V)) (x : State K V S) → PlaysSo log calls x → InEvent log event [] 0 outcome calls x
+  abbrev pub event_begins : (outcome : Outcome V) (calls : List (Caller V)) (x : State K V S) → PlaysSo log calls x → InEvent log event [] 0 outcome calls x
   event_begins outcome calls x so =
       record { known = so.names; before = x.history; grouping = so.grouping; piece = []; history = refl; effects = refl; counts = refl; comes = tt; deeds = tt; callers = so.callers; fresh = λ n l. so.fresh n (omega (arith, l)) }
 

@@ -4,3 +4,11 @@ pub mod StepCall
 pub mod StepsCall
 pub mod Taken
 pub mod Replied
+pub mod Stopped
+pub mod Chosen
+pub mod Begun
+pub mod Walked
+mod Chains
+pub mod Ended
+pub mod RowKinds
+pub mod Rowed

@@ -1,7 +1,7 @@
 -- An event by which a call is told a reply: the list of acts goes on by that.
-use Rattle.std.specs.Prelude.{◌≤◌, ◌==◌, Option, Some, Result, Ok, Err, option_map, is_ok, length, slice_get, if◌then◌else◌}
+use Rattle.std.specs.Prelude.{◌≤◌, ◌==◌, ◌+◌, ◌⊎◌, Option, Some, Result, Ok, Err, option_map, is_ok, length, slice_get, if◌then◌else◌}
 use Rattle.std.specs.Result.{is_err}
-use Rattle.std.proofs.Common.{◌≡◌, ℕ, Bool, true, false, List, [], ◌∷◌, refl, sym, ap, subst, ◌∙◌}
+use Rattle.std.proofs.Common.{◌≡◌, ℕ, Bool, true, false, List, [], ◌∷◌, inl, inr, refl, sym, ap, subst, ◌∙◌}
 use Rattle.std.proofs.lemmas.Bool.{eq-eqb}
 use Rattle.seize_acts.proofs.Answers.{same_some}
 use Rattle.papaya_scenes.specs.Given.Raw.Machine.{machine_replied}
@@ -16,14 +16,17 @@ use Rattle.papaya_schedules.specs.declared.event.Event.TheVariants as event
 use Rattle.papaya_schedules.specs.declared.effect.Effect.{Effect}
 use Rattle.papaya_schedules.specs.declared.outcome.Outcome.{Outcome}
 use Rattle.papaya_schedules.specs.declared.outcome.Outcome.TheVariants as outcome
+use Rattle.papaya_schedules.specs.After.{moment}
 use Rattle.papaya_schedules.specs.Entry.{Entry}
 use Rattle.papaya_schedules.specs.Terms.{Terms, shards_of}
 use Rattle.papaya_scheduler.specs.Given.Effects.Known.{known}
-use Rattle.papaya_scheduler.specs.Given.Executor.IsThere.{IsThere, StaysGiven}
+use Rattle.papaya_scheduler.specs.Given.SeizeWords.declared.fault.Fault.TheVariants as fault
+use Rattle.papaya_scheduler.specs.Given.Executor.IsThere.{IsThere, KeepsGiven, StaysGiven}
 use Rattle.papaya_scheduler.specs.Given.Executor.Replying.{RepliesThere}
 use Rattle.papaya_scheduler.specs.Given.Executor.declared.executor.Executor.{Executor}
 use Rattle.papaya_scheduler.specs.Given.Hands.Asked.{as_told}
-use Rattle.papaya_scheduler.specs.Played.{HasReplied, entry_of}
+use Rattle.papaya_scheduler.specs.Played.{HasReplied, IsPlayed, Replies as Told', entry_of}
+use Rattle.papaya_scheduler.proofs.Here.{here_at, read_here}
 use Rattle.papaya_scheduler.specs.declared.played.Played.{Played}
 use Rattle.papaya_scheduler.specs.declared.scheduler.Scheduler.{Scheduler}
 use Rattle.papaya_named.specs.Machines.{aborted_by}
@@ -45,12 +48,16 @@ use Rattle.papaya_grouped.specs.Called.{CallersAre, IsCalledAs, PlaysSo}
 use Rattle.papaya_grouped.specs.Grouping.{Names, number_called}
 use Rattle.papaya_grouped.specs.Reach.{Reach}
 use Rattle.papaya_grouped.proofs.Callers.{call_beside, call_here, each_at, set_count, set_one, under}
-use Rattle.papaya_grouped.proofs.Midst.{event_begins, event_ends, event_goes_on}
+use Rattle.papaya_grouped.proofs.Midst.{InEvent, event_begins, event_ends, event_goes_on}
+use Rattle.papaya_grouped.proofs.Reached.{goes_at}
 use Rattle.papaya_grouped.proofs.OneMore.{one_act}
+use Rattle.papaya_pieced.specs.SoFar.{ActsSoFar}
+use Rattle.papaya_pieced.proofs.Quiet.{did_nothing, later_by}
 use Rattle.papaya_pieced.proofs.StepCall.{HasCallIn}
+use Rattle.papaya_pieced.proofs.Taken.{works_at}
 
 -- what the closure aborts with that is told so, if it is told to abort
-abort_of : {V : Type 0} → Reply V → V → V
+abbrev abort_of : {V : Type 0} → Reply V → V → V
 abort_of (reply.Aborts value) other = value
 abort_of _ other = other
 
@@ -66,7 +73,8 @@ taken (Ok a) plain = refl
 taken (Err b) plain = absurd (cc plain)
 
 module _ {K V S : Type 0} (same : K → K → Bool) (by_hasher : S → K → ℕ) (terms : Terms) (log : List (Entry K V)) (own : List ℕ) (told : Reply V) (played : Played V) (old new : Scheduler K V S)
-    (did : HasReplied same (by_hasher old.logged.executor.hasher) own told old new) (d : Caller V) (here : slice_get old.calls did.place ≡ Some d) (named : d.name ≡ own) (its : did.whose ≡ d) where
+    (did : HasReplied same (by_hasher old.logged.executor.hasher) own told old new) (d : Caller V) (here : slice_get old.calls did.place ≡ Some d) (named : d.name ≡ own) (its : did.whose ≡ d)
+    (later : (moment log).made + 0 ≤ (moment (entry_of (event.Replied own told) played ∷ log)).made) where
   abbrev e : Executor K V S
   e = old.logged.executor
 
@@ -130,12 +138,12 @@ module _ {K V S : Type 0} (same : K → K → Bool) (by_hasher : S → K → ℕ
       let z = call_told d.number d.map aborts did.as_it x c in
       let callers = callers_then so.names x so.callers c at aborts is_ok_then as_reply in
       let name : IsCalledAs so.names x d = each_at (λ a. IsCalledAs so.names x a) old.calls did.place d here so.callers.each in
-      let on = event_goes_on log (event.Replied own told) [] 0 outcome.Goes old.calls new.calls x z begins entry (history_then so.names x so.callers c at aborts is_ok_then as_reply) refl refl
+      let on = event_goes_on log (event.Replied own told) [] 0 outcome.Goes old.calls new.calls x z begins entry (history_then so.names x so.callers c at aborts is_ok_then as_reply) (λ n l. refl) refl refl
       (subst (λ (n : List ℕ). number_called n so.names ≡ Some d.number) named name.name, refl) callers in
-      subst (λ (o : Outcome V). PlaysSo (record { event = event.Replied own told; outcome = o; steps = played.steps; effects = played.effects.items } ∷ log) new.calls z) (sym goes)
-      (subst (λ (n : ℕ). PlaysSo (record { event = event.Replied own told; outcome = outcome.Goes; steps = n; effects = played.effects.items } ∷ log) new.calls z) (sym none)
-      (subst (λ (l : List Effect). PlaysSo (record { event = event.Replied own told; outcome = outcome.Goes; steps = 0; effects = l } ∷ log) new.calls z) (sym idle)
-      (event_ends log (event.Replied own told) [] 0 outcome.Goes new.calls z on)))
+      event_ends log (event.Replied own told) played.effects.items played.steps played.outcome new.calls z later
+      (subst (λ (o : Outcome V). InEvent log (event.Replied own told) played.effects.items played.steps o new.calls z) (sym goes)
+      (subst (λ (n : ℕ). InEvent log (event.Replied own told) played.effects.items n outcome.Goes new.calls z) (sym none)
+      (subst (λ (l : List Effect). InEvent log (event.Replied own told) l 0 outcome.Goes new.calls z) (sym idle) on)))
 
   -- So the list goes on by it.
   pub reply_goes : (any : Course V same by_hasher e.batch_size e.roots slot_of) → StaysGiven e e2 → HasCallIn d.number d.map e → played.outcome ≡ outcome.Goes → played.steps ≡ 0 → played.effects.items ≡ []
@@ -169,3 +177,24 @@ module _ {K V S : Type 0} (same : K → K → Bool) (by_hasher : S → K → ℕ
             ap (λ (w : State K V S). w.known) came.2 ∙ knows ∙ ap known (sym did.notes),
             subst (PlaysSo (entry_of (event.Replied own told) played ∷ log) new.calls) (sym came.2) (piece x so came.0 came.1 aborts ok reply_is goes none idle),
           )
+
+-- The event by which a reply is told, or is out of turn.
+module _ {K V S : Type 0} (same : K → K → Bool) (by_hasher : S → K → ℕ) (any : (batch_size roots : ℕ) → Course V same by_hasher batch_size roots slot_of) (own : List ℕ) (told : Reply V) (played : Played V) (old new : Scheduler K V S)
+    (idle : played.steps ≡ 0) (tells : Told' same (by_hasher old.logged.executor.hasher) own told played old new) (given : KeepsGiven old.logged.executor new.logged.executor) (terms : Terms) (log : List (Entry K V))
+    (stands : IsPlayed same (by_hasher old.logged.executor.hasher) terms log old) (in_turn : (moment log).is_closed ≡ false) (next : length old.logged.executor.maps.items ≡ (moment log).made)
+    (next2 : length new.logged.executor.maps.items ≡ (moment (entry_of (event.Replied own told) played ∷ log)).made) where
+  abbrev Goes : Type 0
+  Goes = ActsSoFar same by_hasher terms log old.logged old.calls → ActsSoFar same by_hasher terms (entry_of (event.Replied own told) played ∷ log) new.logged new.calls
+
+  pub reply_goes_on : (played.outcome ≡ outcome.Goes) ⊎ (played.outcome ≡ outcome.Refused fault.Busy) → (played.outcome ≡ outcome.Refused fault.Busy → (new ≡ old) × (played.effects.items ≡ [])) → Goes
+  reply_goes_on (inl goes) busy at =
+      let it = tells goes in
+      let here = here_at same (by_hasher old.logged.executor.hasher) terms (moment log) old stands own it.0.place it.0.placed in
+      let its = read_here same (by_hasher old.logged.executor.hasher) terms (moment log) old stands own it.0.place here it.0.whose it.0.reads_whose in
+      goes_at same by_hasher (shards_of terms) (PlaysSo log old.calls) (PlaysSo (entry_of (event.Replied own told) played ∷ log) new.calls) old.logged.executor new.logged.executor (known old.logged.notes) (known new.logged.notes)
+      (λ course there. reply_goes same by_hasher terms log own told played old new it.0 here.caller here.at here.named its (later_by (event.Replied own told) played old new log refl given next next2) course
+      (given.0, given.1, given.2) (works_at same (by_hasher old.logged.executor.hasher) terms (moment log) old stands it.0.place here.caller here.at) goes idle it.1 there)
+      terms.batch_size terms.roots (any terms.batch_size terms.roots) at
+  reply_goes_on (inr is) busy at =
+      did_nothing (event.Replied own told) played old new same by_hasher idle (busy is).1 (ap (λ (p : Scheduler K V S). p.logged) (busy is).0) (ap (λ (p : Scheduler K V S). p.calls) (busy is).0) terms log stands in_turn next next2
+      at

@@ -28,6 +28,9 @@ use Rattle.papaya_pieced.proofs.CallsOn.{then_as}
 use Rattle.papaya_grouped.proofs.Midst.{InEvent}
 use Rattle.papaya_pieced.proofs.StepCall.{HasCallIn, step_goes}
 
+none_more : (n : ℕ) → n ≡ 0 + n
+none_more n = omega arith
+
 -- a step after which a call goes on by itself is none by which it has ended
 still : {K V : Type 0} (by : Known) (its : Kind) (value : Option V) (said : Progress (Node K V)) → goes_on (outcome_of by its value said) ≡ true → has_ended said ≡ false
 still by its value progress.Goes on = refl
@@ -98,8 +101,13 @@ module _ {K V S : Type 0} (same : K → K → Bool) (by_hasher : S → K → ℕ
     -- by several, after each of which the call goes on
     pub gone_for : (n : ℕ) (before after : List Effect) (p q : Scheduler K V S) (steps : ℕ) (prev : Outcome V) → GoneFor same (by_hasher h) place n before after p q → StandsThere p → InMidst h b r before steps prev p
         → (last : Outcome V) × (InMidst h b r after (n + steps) last q × StandsThere q)
-    gone_for zero before after p q steps prev (same_list, same_one) stands at =
-        (prev, (subst (λ (x : Scheduler K V S). InMidst h b r after steps prev x) same_one (subst (λ (l : List Effect). InMidst h b r l steps prev p) same_list at), subst StandsThere same_one stands))
+    gone_for zero before after p q steps prev (same_list, same_one) stands at = (
+      prev,
+      (
+        subst (λ (k : ℕ). InMidst h b r after k prev q) (none_more steps) (subst (λ (x : Scheduler K V S). InMidst h b r after steps prev x) same_one (subst (λ (l : List Effect). InMidst h b r l steps prev p) same_list at)),
+        subst StandsThere same_one stands,
+      ),
+    )
     gone_for (suc n) before after p q steps prev (mid, t, outcome, before_it, on, st) stands at =
         let was = gone_for n before mid p t steps prev before_it stands at in
         let done = one_goes outcome mid after t q (n + steps) was.0 h b r any st was.1.1 was.1.0 in
