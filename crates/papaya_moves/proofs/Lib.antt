@@ -1,3 +1,8 @@
+pub mod Doors
+pub mod Buckets
+pub mod BucketsStay
+pub mod Needed
+pub mod Callers
 pub mod Parts
 pub mod Leaves
 pub mod CallMoves
