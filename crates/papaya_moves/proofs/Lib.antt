@@ -14,6 +14,7 @@ pub mod Rooted
 pub mod Counted
 pub mod MakingMoves
 pub mod MakingFinds
+pub mod MakesFind
 pub mod Opens
 pub mod MadeHolds
 pub mod MadeStep
