@@ -6,5 +6,5 @@ mod All
 pub mod Along
 pub mod PlayedAs
 pub mod Noted
-mod Pairs
+pub mod Pairs
 mod Samples
