@@ -24,12 +24,11 @@ use Rattle.papaya_legal.specs.Given.Effects.declared.acting.Acting.TheVariants a
 use Rattle.papaya_legal.specs.Given.Remains.Slots.{SlotsNoted}
 use Rattle.papaya_legal.proofs.Given.Follows.OfEach.{OfEach, led_so, operation_so, taken_so}
 use Rattle.papaya_legal.proofs.Given.Follows.Operations.{Operated}
-use Rattle.papaya_legal.proofs.Given.Remains.Slots.{operation_notes}
+use Rattle.papaya_legal.proofs.Given.Remains.Slots.{IsNoRoom, IsOther, MakesRoom, buckets_stay, either_way, no_room_told, operation_notes}
 use Rattle.papaya_acts.specs.Acts.{Answer}
 use Rattle.papaya_deeds.specs.Deeds.{Deed, Entry}
 use Rattle.papaya_deeds.specs.History.{buckets}
 use Rattle.papaya_played.specs.Play.{Now, State, did, is_refusal}
-use Rattle.papaya_moves.proofs.Doors.{IsNoRoom, IsOther, MakesRoom, buckets_stay, either_way, no_room_told}
 
 -- words of slots are noted just where there are some, and as many buckets as were granted
 pub record BucketsHold {K V S : Type 0} (x : State K V S) : Type 0 where

@@ -1,4 +1,3 @@
-pub mod Doors
 pub mod Buckets
 pub mod BucketsStay
 pub mod Needed

@@ -35,7 +35,8 @@ use Rattle.papaya_works.proofs.Steps.{registers_tell}
 use Rattle.papaya_deeds.specs.History.{NeedsBucket, buckets}
 use Rattle.papaya_played.specs.Play.{State}
 use Rattle.papaya_moves.proofs.Buckets.{BucketsHold}
-use Rattle.papaya_moves.proofs.Doors.{AsksAt, asked_is, lacks_at}
+use Rattle.papaya_works.proofs.Needs.{asked_is}
+use Rattle.papaya_works.proofs.Registering.{AsksAt, lacks_at}
 
 -- what a row knows that asks for room of the bucket that is not there
 needs_at : (n i : ℕ) (m : Ghost) (x : Extra) (k slot bucket there : ℕ) (p : Registering) → FitsRegister n i m x k slot p → AsksAt p bucket → bucket ≡ there → NeedsBucket slot there
