@@ -2,6 +2,7 @@ pub mod Buckets
 pub mod BucketsStay
 pub mod Needed
 pub mod Callers
+pub mod OthersFound
 pub mod Parts
 pub mod Leaves
 pub mod CallMoves
@@ -9,6 +10,7 @@ pub mod RowKinds
 pub mod RowMoves
 pub mod RowFinds
 pub mod AllFinds
+pub mod BehindFound
 pub mod Rooted
 pub mod Counted
 pub mod MakingMoves

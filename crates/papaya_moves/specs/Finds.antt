@@ -1,9 +1,9 @@
--- What is promised of an entry of a history: its effects find what they must. And who does it, if it is no step of a call.
+-- What is promised of an entry of a history: its effects find what they must. Those of rows, of makings, and of who reclaims all, do where all is in order as it comes.
 use Rattle.std.specs.Prelude.{List}
 use Rattle.papaya_legal.specs.Given.Finds.Within.{AllIsInOrder}
 use Rattle.papaya_legal.specs.Given.Schedules.Effects.{AtEachEffect}
 use Rattle.papaya_legal.specs.Given.Schedules.Terms.{Terms}
-use Rattle.papaya_deeds.specs.Deeds.{Deed, Entry, Steps, moment}
+use Rattle.papaya_deeds.specs.Deeds.{Deed, Entry, Leaves, Makes, ReclaimsAll, Registers, Steps, Tends, moment}
 use Rattle.papaya_deeds.specs.History.{FindsBy, transition}
 
 module _ {K V : Type 0} where
@@ -16,6 +16,15 @@ module _ {K V : Type 0} where
   IsOther (Steps i) = ⊥
   IsOther deed = Unit {0}
 
-  -- Where all is in order as it comes, an entry that is no step of a call finds what it must.
+  -- it is one of who registers, leaves or tends a slot, of who makes a map, or of who reclaims all
+  abbrev pub IsOfOthers : Deed K V → Type 0
+  IsOfOthers (Registers slot) = Unit {0}
+  IsOfOthers (Leaves slot) = Unit {0}
+  IsOfOthers (Tends slot) = Unit {0}
+  IsOfOthers (Makes map) = Unit {0}
+  IsOfOthers (ReclaimsAll last) = Unit {0}
+  IsOfOthers deed = ⊥
+
+  -- Such an entry finds what it must where all is in order as it comes.
   abbrev pub OthersFind : Terms → List (Entry K V) → Entry K V → Type 0
-  OthersFind terms log e = IsOther e.deed → AllIsInOrder (moment log) → FindsIts terms log e
+  OthersFind terms log e = IsOfOthers e.deed → AllIsInOrder (moment log) → FindsIts terms log e
