@@ -11,6 +11,8 @@ pub mod RowMoves
 pub mod RowFinds
 pub mod AllFinds
 pub mod BehindFound
+pub mod MapsIn
+pub mod MapsHad
 pub mod Rooted
 pub mod Counted
 pub mod MakingMoves
