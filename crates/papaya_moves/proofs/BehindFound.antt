@@ -40,7 +40,7 @@ none_put P n never (d ∷ ds) each = by (n == d.pair) refl (none_put P n never d
   where
     by : (q : Bool) → (n == d.pair) ≡ q → put_in n ds ≡ 0 → once_if (n == d.pair) + put_in n ds ≡ 0
     by true e rest = absurd (never d.behind (subst (λ (k : ℕ). P k d.behind) (sym (eqb-true n d.pair e)) each.0))
-    by false e rest = ap (λ (q : Bool). once_if q + put_in n ds) e ∙ rest
+    by false e rest = ap (λ (q : Bool). once_if q + put_in n ds) e ∙ (let none : put_in n ds ≡ 0 = rest in omega (arith, none))
 
 -- at each point of who reclaims all, what is behind the roots is left over
 left_at : {K V : Type 0} (batch_size roots i : ℕ) (c : ReclaimAll) (w : World (Node K V)) (maps : ℕ → _) (lists : ℕ → List ℕ) (p : Reclaiming) → ReclaimingAt {K = K} {V = V} batch_size roots i c w maps lists p

@@ -1,5 +1,5 @@
 -- Wherever a list of acts has led, words of slots are noted just where there are some, and as many buckets are known as the history says that were granted.
-use Rattle.std.specs.Prelude.{◌≡◌, ℕ, Bool, List, Option, is_ok}
+use Rattle.std.specs.Prelude.{◌≡◌, ℕ, Bool, true, List, Option, is_ok}
 use Rattle.std.proofs.Common.{refl, ap, sym, subst, ◌∙◌}
 use Rattle.seize_acts.specs.Answers.{Grant}
 use Rattle.papaya_legal.specs.Given.SeizeWords.Mem.{Mem}
@@ -23,6 +23,7 @@ use Rattle.papaya_legal.specs.Given.Effects.declared.acting.Acting.TheVariants a
 use Rattle.papaya_legal.specs.Given.Finishes.Endings.{Finishing}
 use Rattle.papaya_legal.specs.Given.Finishes.Machines.{machine_of}
 use Rattle.papaya_legal.specs.Given.Finishes.Makings.{Beginning}
+use Rattle.papaya_legal.specs.Given.Named.Seen.{kind_of}
 use Rattle.papaya_legal.specs.Given.Scenes.Held.{Held, IsAt}
 use Rattle.papaya_legal.specs.Given.Scenes.Scene.{IsOnSlot, Scene, row_of, slot_of}
 use Rattle.papaya_legal.specs.Given.Scenes.declared.row.RowTold.{RowTold}
@@ -34,7 +35,6 @@ use Rattle.papaya_acts.specs.Acts.{Act, Answer, BeginsCall, StepsCall, TellsCall
 use Rattle.papaya_acts.specs.AsSteps.{LeadsAs, changed_by, held_in, row_changed, row_told}
 use Rattle.papaya_acts.specs.Leads.{Led, MayBe}
 use Rattle.papaya_deeds.specs.Deeds.{Begins, Replies, Stops}
-use Rattle.papaya_named.specs.Seen.{kind_of}
 use Rattle.papaya_played.specs.Play.{State, all_stepped, call_for, call_stepped, ending_deed, ending_stepped, first_state, making_deed, making_outcome, making_stepped, outcome_of, reply_for, row_deed, row_outcome, row_stepped, settled_outcome}
 use Rattle.papaya_played.specs.Reached.{IsOf, row_or_rests, rows_beside}
 use Rattle.papaya_played.proofs.Along.{At, StaysSo, held}

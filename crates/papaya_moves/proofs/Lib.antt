@@ -2,6 +2,7 @@ pub mod Buckets
 pub mod BucketsStay
 pub mod Needed
 pub mod Callers
+pub mod OtherActs
 pub mod OthersFound
 pub mod Parts
 pub mod Leaves

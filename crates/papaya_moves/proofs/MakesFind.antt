@@ -1,5 +1,5 @@
 -- The step of a making, as it is played, finds what it must, where each making makes a first table for its places, and its map has the capacity that these are for.
-use Rattle.std.specs.Prelude.{◌≡◌, ℕ, Bool, true, false, [], Some, None}
+use Rattle.std.specs.Prelude.{◌≡◌, ℕ, Bool, true, false, [], ◌∷◌, Some, None}
 use Rattle.std.proofs.Common.{refl, ap, sym, subst, ◌∙◌}
 use Rattle.seize_acts.specs.Answers.{Grant}
 use Rattle.papaya_legal.specs.Given.Seize.declared.progress.Progress.{Progress}

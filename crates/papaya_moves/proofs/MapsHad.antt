@@ -9,14 +9,16 @@ use Rattle.papaya_legal.specs.Given.SeizeWords.Mem.{Mem}
 use Rattle.papaya_legal.specs.Given.SeizeWords.declared.fault.Fault.{Fault}
 use Rattle.papaya_legal.specs.Given.Raw.declared.machines.end_map.EndMap.{EndMap}
 use Rattle.papaya_legal.specs.Given.Seize.World.{Row, with_at}
+use Rattle.papaya_legal.specs.Given.Seize.ReclaimAll.{reclaim_all_plan}
 use Rattle.papaya_legal.specs.Given.Seize.declared.progress.Progress.{Progress}
 use Rattle.papaya_legal.specs.Given.Seize.declared.progress.Progress.TheVariants as progress
 use Rattle.papaya_legal.specs.Given.Seize.declared.rows.reclaim_all.ReclaimAll.{ReclaimAll}
 use Rattle.papaya_legal.specs.Given.Seize.declared.rows.settle.Settled.{Settled}
+use Rattle.papaya_legal.specs.Given.Tables.Nodes.{deferred_word, was_left}
 use Rattle.papaya_legal.specs.Given.Tables.declared.node.Node.{Node}
 use Rattle.papaya_legal.specs.Given.Tables.declared.setting.Setting.{Setting}
-use Rattle.papaya_legal.specs.Given.Raw.EndMap.{ending}
-use Rattle.papaya_legal.specs.Given.Raw.Machine.{machine_asked, machine_replied}
+use Rattle.papaya_legal.specs.Given.Raw.EndMap.{end_map_plan, ending}
+use Rattle.papaya_legal.specs.Given.Raw.Machine.{machine_asked, machine_plan, machine_replied}
 use Rattle.papaya_legal.specs.Given.Resize.NewMap.{new_map_plan, opening}
 use Rattle.papaya_legal.specs.Given.Resize.declared.new_map.NewMap.{NewMap}
 use Rattle.papaya_legal.specs.Given.Schedules.declared.effect.Effect.{Effect}
@@ -32,16 +34,17 @@ use Rattle.papaya_legal.specs.Given.Effects.declared.acting.Acting.TheVariants a
 use Rattle.papaya_legal.specs.Given.Finishes.Endings.{Finishing}
 use Rattle.papaya_legal.specs.Given.Finishes.Makings.{Beginning}
 use Rattle.papaya_legal.specs.Given.Finishes.Maps.{Standing}
+use Rattle.papaya_legal.specs.Given.Named.Seen.{kind_of}
 use Rattle.papaya_legal.specs.Given.Scenes.Scene.{Scene, row_of, slot_of}
 use Rattle.papaya_legal.proofs.Given.Callers.Together.At.{at_other, at_same}
 use Rattle.papaya_legal.proofs.Given.Scenes.NoCall.{none_is}
 use Rattle.papaya_acts.specs.Acts.{Act, Answer, BeginsCall, StepsCall, TellsCall, AsksCall, StopsCall, BeginsMaking, StepsMaking, BeginsEnding, StepsEnding, BeginsRow, StepsRow}
-use Rattle.papaya_acts.specs.AsSteps.{changed_of}
+use Rattle.papaya_acts.specs.AsSteps.{changed_of, row_changed}
 use Rattle.papaya_acts.specs.Courses.{set_up}
 use Rattle.papaya_acts.specs.Leads.{Led, MayBe}
 use Rattle.papaya_acts.proofs.AsSteps.Told.{was_told}
 use Rattle.papaya_deeds.specs.Deeds.{Begins, Deed, Ends, Entry, Leaves, Makes, MapComes, MapFails, MapGoes, Opens, ReclaimsAll, Registers, Replies, Shuts, Steps, Stops, Tends, moment}
-use Rattle.papaya_played.specs.Play.{Ending, Making, Now, State, call_for, did, first_state, has_root, is_over, is_refusal, made_on, making_deed, making_outcome, pairs_for, reply_for, row_deed, settled_outcome}
+use Rattle.papaya_played.specs.Play.{Ending, Making, Now, State, all_stepped, call_begun, call_for, call_stepped, call_stopped, call_told, has_root, is_over, is_refusal, made_on, making_deed, making_outcome, outcome_of, pairs_for, reply_for, row_deed, row_outcome, row_stepped, settled_outcome}
 use Rattle.papaya_played.specs.Reached.{IsOf, made_so, makes_so, stands_so}
 use Rattle.papaya_played.proofs.Along.{At, StaysSo}
 use Rattle.papaya_played.proofs.PlayedAs.{PlayedAs, ReclaimedAs, played_as, reclaimed_as}
@@ -53,6 +56,16 @@ use Rattle.papaya_linear.proofs.StepsPlayed.{there_alike}
 use Rattle.papaya_moves.proofs.MapsIn.{AreIn, LeavesMaps, comes_in, fails_in, found_in, goes_in, none_in, still_in, then_in}
 use Rattle.papaya_moves.proofs.Rooted.{Rooted, step_rooted}
 
+-- who acts on slots, or reclaims all, leaves maps
+rows_leave_maps : {K V : Type 0} (d : Deed K V) → IsOfRow d → LeavesMaps d
+rows_leave_maps (Registers s) is = tt
+rows_leave_maps (Opens s) is = tt
+rows_leave_maps (Shuts s) is = tt
+rows_leave_maps (Leaves s) is = tt
+rows_leave_maps (Tends s) is = tt
+rows_leave_maps (ReclaimsAll last) is = tt
+rows_leave_maps _ is = absurd is
+
 module _ {K V S : Type 0} where
   -- a map with this number stands, is made, or ends
   abbrev pub IsHad : Now K V S → ℕ → Type 0
@@ -61,16 +74,6 @@ module _ {K V S : Type 0} where
 
   abbrev pub MapsAreHad : State K V S → Type 0
   MapsAreHad x = AreIn (IsHad x.now) (moment x.history).maps
-
-  -- who acts on slots, or reclaims all, leaves maps
-  rows_leave_maps : (d : Deed K V) → IsOfRow d → LeavesMaps d
-  rows_leave_maps (Registers s) is = tt
-  rows_leave_maps (Opens s) is = tt
-  rows_leave_maps (Shuts s) is = tt
-  rows_leave_maps (Leaves s) is = tt
-  rows_leave_maps (Tends s) is = tt
-  rows_leave_maps (ReclaimsAll last) is = tt
-  rows_leave_maps _ is = absurd is
 
   module _ (now : Now K V S) (i : ℕ) where
     -- where a making begins, goes on, or is over; and an end
@@ -169,7 +172,7 @@ module _ {K V S : Type 0} (x : State K V S) (here : MapsAreHad x) where
         (moment (record { deed = if q then MapGoes it.map else Ends it.map; outcome = o; effects = fs; refused = refused } ∷ x.history)).maps
     ends_had true machine =
         goes_in (IsHad x.now) (IsHad (record x.now { memory = memory; enders = with_at x.now.enders i None })) m here o fs refused it.map (other_end None)
-    ends_had false machine = works_had (Ends it.map) tt o fs refused _ on
+    ends_had false machine = works_had (Ends it.map) tt o fs refused (record x.now { memory = memory; enders = with_at x.now.enders i next }) on
       where
         next : Option Ending
         next = Some (record it { machine = machine })
@@ -243,20 +246,35 @@ module _ {K V S : Type 0} (same : K → K → Bool) (by_hasher : S → K → ℕ
           ∙ (subst (λ (q : Bool). ComesBy q other.0 (moment x.history)) (sym (ap (λ (c : NewMap). has_root c.stands) machine_is) ∙ none) (maps.coming i other.0 other.1)).none
 
   pub acts_had : (act : Act K V S) → May act → Played act → MapsAreHad y
-  acts_had (BeginsCall i m wanted) may (at, there, y_is) = then_had _ y_is (quiet_had x here true (Begins i (slot_of i) m (call_for wanted)) tt outcome.Goes _ (λ k had. had))
-  acts_had (StepsCall i m g) may (at, stands, (c, has, end, came, y_is)) = then_had _ y_is (works_had x here (Steps i) tt _ _ _ _ (λ k had. had))
+  acts_had (BeginsCall i m wanted) may (at, there, y_is) =
+      then_had _ y_is (quiet_had x here true (Begins i (slot_of i) m (call_for wanted)) tt outcome.Goes (call_begun i m by_hasher (call_for wanted) x at).now (λ k had. had))
+  acts_had (StepsCall i m g) may (at, stands, (c, has, end, came, y_is)) =
+      let change = changed_of x.now.memory g (machine_plan same same (by_hasher at.1) c.machine) in
+      then_had _ y_is
+      (works_had x here (Steps i) tt (outcome_of (known_after (acts.Call i m) change x.known) (kind_of c.call) c.value end.1.1) (effects_of (acts.Call i m) x.known change) (is_refusal change) (call_stepped i m c change x end).now
+      (λ k had. had))
   acts_had (TellsCall i m reply) may (c, has, y_is) =
-      then_had _ y_is (quiet_had x here (is_ok (machine_replied c.machine reply).1) (Replies i (reply_for aborts reply)) tt outcome.Goes _ (λ k had. had))
+      then_had _ y_is (quiet_had x here (is_ok (machine_replied c.machine reply).1) (Replies i (reply_for aborts reply)) tt outcome.Goes (call_told i m aborts reply x c).now (λ k had. had))
   acts_had (AsksCall i m) may (c, has, y_is) = then_had _ y_is here
-  acts_had (StopsCall i m) may (c, has, y_is) = then_had _ y_is (quiet_had x here (machine_asked c.machine).1 (Stops i) tt outcome.Done _ (λ k had. had))
+  acts_had (StopsCall i m) may (c, has, y_is) = then_had _ y_is (quiet_had x here (machine_asked c.machine).1 (Stops i) tt outcome.Done (call_stopped i m x c).now (λ k had. had))
   acts_had (BeginsMaking i map hasher given places) may played = making_begins i map hasher given places may played
   acts_had (StepsMaking i g) may played = making_steps i g played
   acts_had (BeginsEnding i map) may played = end_begins i map may played
   acts_had (StepsEnding i g) may (f, has, end, came, y_is) =
-      then_had _ y_is (ends_had x here i f has (settled_outcome end.1.1) _ _ end.0 (is_over end.1.1) end.1.0)
+      let change = changed_of x.now.memory g (end_map_plan {K = K} {V = V} f.machine) in
+      then_had _ y_is (ends_had x here i f has (settled_outcome end.1.1) (effects_of (acts.Ending f.map) x.known change) (is_refusal change) end.0 (is_over end.1.1) end.1.0)
   acts_had (BeginsRow i request) may (called, there, y_is) = then_had _ y_is here
   acts_had (StepsRow i g) may (row, has, end, came, y_is) =
-      then_had _ y_is (works_had x here (row_deed row) (rows_leave_maps (row_deed row) (is_of_row K V row)) _ _ _ _ (λ k had. had))
+      let change = row_changed (row_of row) g x.now.memory in
+      then_had _ y_is
+      (works_had x here (row_deed row) (rows_leave_maps (row_deed row) (is_of_row K V row)) (row_outcome end.1.1) (effects_of acts.Row x.known change) (is_refusal change) (row_stepped i row change x end).now (λ k had. had))
+
+  -- and so it is where all is reclaimed
+  pub reclaiming_had : (g : Grant) → ReclaimedAs same by_hasher batch_size roots aborts x y g → MapsAreHad y
+  reclaiming_had g (c, has, end, came, y_is) =
+      let change = changed_of x.now.memory g (reclaim_all_plan deferred_word was_left c) in
+      then_had _ y_is
+      (works_had x here (ReclaimsAll (is_over end.1.1)) tt (settled_outcome end.1.1) (effects_of acts.Row x.known change) (is_refusal change) (all_stepped change x end).now (λ k had. had))
 
 module _ {K S : Type 0} (V : Type 0) (same : K → K → Bool) (by_hasher : S → K → ℕ) (hash : ℕ → K → ℕ) (batch_size roots : ℕ) (aborts : V) where
   -- where all is reclaimed each of them stands

@@ -1,5 +1,5 @@
 -- Which maps are there by a history: after an entry those that were, but for one that goes, and one that comes.
-use Rattle.std.specs.Prelude.{◌≡◌, ◌≢◌, ◌==◌, ℕ, Bool, true, false, not, cond, List, [], ◌∷◌, ◌++◌, find, map, Option, Some, None, if◌then◌else◌}
+use Rattle.std.specs.Prelude.{◌≡◌, ◌≢◌, ◌==◌, ◌||◌, ℕ, Bool, true, false, not, cond, List, [], ◌∷◌, ◌++◌, find, map, Option, Some, None, if◌then◌else◌}
 use Rattle.std.specs.List.{AllByRecursion, list_any}
 use Rattle.std.proofs.Common.{refl, ap, sym, subst, ◌∙◌, eqb-true}
 use Rattle.std.proofs.lemmas.Bool.{eq-eqb}
@@ -46,7 +46,7 @@ module _ (P : ℕ → Type 0) where
     where
       by : (q : Bool) → (f.number == n) ≡ q → (list_any (λ (g : MapThere). g.number == n) maps ≡ true → P n) → P n
       by true e rest = subst P (eqb-true f.number n e) all.0.1
-      by false e rest = rest (sym (ap (λ (q : Bool). cond q true (list_any (λ (g : MapThere). g.number == n) maps)) e) ∙ some)
+      by false e rest = rest (sym (ap (λ (q : Bool). q || list_any (λ (g : MapThere). g.number == n) maps) e) ∙ some)
 
 module _ (P Q : ℕ → Type 0) where
   pub then_in : ((n : ℕ) → P n → Q n) → (maps : List MapThere) → AreIn P maps → AreIn Q maps
@@ -65,7 +65,7 @@ module _ (P Q : ℕ → Type 0) where
             let not_kept : not true ≡ true = ap not (sym here) ∙ kept in cc not_kept) its.1,
       )) all
 
-  none_in : (own : ℕ) → ((n : ℕ) → n ≢ own → P n → Q n) → (maps : List MapThere) → find (λ (f : MapThere). f.number == own) maps ≡ None → AreIn P maps → AreIn Q maps
+  pub none_in : (own : ℕ) → ((n : ℕ) → n ≢ own → P n → Q n) → (maps : List MapThere) → find (λ (f : MapThere). f.number == own) maps ≡ None → AreIn P maps → AreIn Q maps
   none_in own so [] none all = tt
   none_in own so (f ∷ maps) none all = by (f.number == own) refl none (λ later. none_in own so maps later all.1)
     where

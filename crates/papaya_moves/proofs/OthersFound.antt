@@ -25,7 +25,7 @@ module _ {K V : Type 0} (terms : Terms) (log : List (Entry K V)) where
   nothing_finds e none =
       let t = transition log e in subst (λ (fs : List Effect). AtEachEffect (FindsBy terms log e.deed t) t.caller t.map fs t.found) (sym none) tt
 
-  by_deed : (d : Deed K V) (o : Outcome V) (fs : List Effect) (refused : Bool) → (let e = record { deed = d; outcome = o; effects = fs; refused = refused } in
+  by_deed : (d : Deed K V) (o : Outcome V) (fs : List Effect) (refused : Bool) → (let e : Entry K V = record { deed = d; outcome = o; effects = fs; refused = refused } in
       list_all (may_do d) fs ≡ true → EndsInOrder log e → OthersFind terms log e → IsOther d → AllIsInOrder (moment log) → FindsIts terms log e)
   by_deed (Begins i s map call) o fs refused may ends others is order = nothing_finds _ (none_done fs may)
   by_deed (Steps i) o fs refused may ends others is order = absurd is
