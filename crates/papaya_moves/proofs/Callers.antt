@@ -45,7 +45,7 @@ module _ {K V : Type 0} where
       by (Some own) = changed_by P (λ c. is_same c.caller own) (call_by m f) (λ c. (changed_same m f c).0) m.calls all
 
   module _ (P Q : ℕ → Type 0) where
-    then_by : ((i : ℕ) → P i → Q i) → (cs : List (UnderWay K V)) → AreBy P cs → AreBy Q cs
+    pub then_by : ((i : ℕ) → P i → Q i) → (cs : List (UnderWay K V)) → AreBy P cs → AreBy Q cs
     then_by so [] all = tt
     then_by so (c ∷ cs) all = ((all.0.0, all.0.1, so all.0.0 all.0.2), then_by so cs all.1)
 

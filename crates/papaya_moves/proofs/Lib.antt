@@ -2,6 +2,9 @@ pub mod Buckets
 pub mod BucketsStay
 pub mod Needed
 pub mod Callers
+pub mod RoomDoors
+pub mod ForRoom
+pub mod CallersHad
 pub mod OtherActs
 pub mod OthersFound
 pub mod Parts

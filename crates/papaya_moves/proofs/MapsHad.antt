@@ -269,11 +269,12 @@ module _ {K V S : Type 0} (same : K → K → Bool) (by_hasher : S → K → ℕ
       then_had _ y_is
       (works_had x here (row_deed row) (rows_leave_maps (row_deed row) (is_of_row K V row)) (row_outcome end.1.1) (effects_of acts.Row x.known change) (is_refusal change) (row_stepped i row change x end).now (λ k had. had))
 
-  -- and so it is where all is reclaimed
+-- And so it is where all is reclaimed.
+module _ {K V S : Type 0} (same : K → K → Bool) (by_hasher : S → K → ℕ) (batch_size roots : ℕ) (aborts : V) (x y : State K V S) (here : MapsAreHad x) where
   pub reclaiming_had : (g : Grant) → ReclaimedAs same by_hasher batch_size roots aborts x y g → MapsAreHad y
   reclaiming_had g (c, has, end, came, y_is) =
       let change = changed_of x.now.memory g (reclaim_all_plan deferred_word was_left c) in
-      then_had _ y_is
+      subst MapsAreHad (sym y_is)
       (works_had x here (ReclaimsAll (is_over end.1.1)) tt (settled_outcome end.1.1) (effects_of acts.Row x.known change) (is_refusal change) (all_stepped change x end).now (λ k had. had))
 
 module _ {K S : Type 0} (V : Type 0) (same : K → K → Bool) (by_hasher : S → K → ℕ) (hash : ℕ → K → ℕ) (batch_size roots : ℕ) (aborts : V) where
