@@ -1,11 +1,8 @@
 pub mod Buckets
 pub mod BucketsStay
 pub mod Needed
-pub mod Callers
-pub mod RoomDoors
-pub mod ForRoom
-pub mod CallersHad
 pub mod OtherActs
+pub mod OtherStays
 pub mod OthersFound
 pub mod Parts
 pub mod Leaves

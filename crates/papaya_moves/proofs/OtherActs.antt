@@ -13,6 +13,8 @@ use Rattle.papaya_legal.specs.Given.Schedules.declared.effect.Effect.{Effect}
 use Rattle.papaya_legal.specs.Given.Schedules.declared.outcome.Outcome.{Outcome}
 use Rattle.papaya_legal.specs.Given.Teller.declared.changed.Changed.{Changed}
 use Rattle.papaya_legal.specs.Given.Teller.declared.changed.Changed.TheVariants.{Nothing as NoChange}
+use Rattle.papaya_legal.specs.Given.Effects.Effects.{effects_of}
+use Rattle.papaya_legal.specs.Given.Effects.declared.acting.Acting.TheVariants as acts
 use Rattle.papaya_legal.specs.Given.Scenes.Held.{Held, IsAt}
 use Rattle.papaya_legal.specs.Given.Scenes.Scene.{IsOnSlot, Scene, row_of, slot_of}
 use Rattle.papaya_legal.specs.Given.Scenes.declared.row.RowTold.{RowTold}
@@ -21,7 +23,7 @@ use Rattle.papaya_acts.specs.AsSteps.{LeadsAs, changed_by, held_in, row_changed,
 use Rattle.papaya_acts.specs.Leads.{Led, MayBe}
 use Rattle.papaya_deeds.specs.Deeds.{Deed, Ends, Entry, Leaves, MapGoes, Opens, ReclaimsAll, Registers, Shuts, Tends, moment}
 use Rattle.papaya_deeds.specs.History.{FindsBy, transition}
-use Rattle.papaya_played.specs.Play.{Ending, State, ending_deed, is_over, row_deed, row_outcome, row_stepped}
+use Rattle.papaya_played.specs.Play.{Ending, State, ending_deed, is_over, is_refusal, row_deed, row_outcome, row_stepped}
 use Rattle.papaya_played.specs.Reached.{IsOf, row_or_rests}
 use Rattle.papaya_played.proofs.PlayedAs.{PlayedAs}
 use Rattle.papaya_linear.proofs.Holding.{AllHolds}
@@ -87,7 +89,7 @@ module _ {K V S : Type 0} (same : K → K → Bool) (by_hasher : S → K → ℕ
       let said : RowTold (Node K V) = row_told (s.world.row i) g s.world.memory in
       let finds = row_finds same hash x s old new at all.holds.shows i said leads (row_outcome end.1.1) terms row here (row_needs same hash x s old new at is.memory buckets i said leads row here) in
       subst (AllFind terms) (sym (y_is ∙ ap (λ (c : Changed). row_stepped i row c x end) change))
-      ((λ of order. rows_its terms x.history (row_deed row) (is_of_row K V row) (row_outcome end.1.1) _ _ finds), each)
+      ((λ of order. rows_its terms x.history (row_deed row) (is_of_row K V row) (row_outcome end.1.1) (effects_of acts.Row x.known new.changed) (is_refusal new.changed) finds), each)
 
   making_steps : (i : ℕ) (g : Grant) → Played (StepsMaking i g) → Leads (StepsMaking i g) → Goes (StepsMaking i g) → AllFind terms y
   making_steps i g played led leads =

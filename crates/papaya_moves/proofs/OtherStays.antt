@@ -5,12 +5,14 @@ use Rattle.papaya_legal.specs.Given.Seize.declared.rows.reclaim_all.ReclaimAll.{
 use Rattle.papaya_legal.specs.Given.Schedules.Moment.{Moment}
 use Rattle.papaya_legal.specs.Given.Schedules.Terms.{Terms}
 use Rattle.papaya_legal.specs.Given.Teller.declared.changed.Changed.TheVariants.{Nothing as NoChange}
+use Rattle.papaya_legal.specs.Given.Effects.Effects.{effects_of}
+use Rattle.papaya_legal.specs.Given.Effects.declared.acting.Acting.TheVariants as acts
 use Rattle.papaya_legal.specs.Given.Scenes.Held.{Held}
 use Rattle.papaya_legal.specs.Given.Scenes.Scene.{Scene, at_first, slot_of}
 use Rattle.papaya_acts.specs.Acts.{Act}
 use Rattle.papaya_agrees.specs.Fresh.{HasNewNumber}
 use Rattle.papaya_deeds.specs.Deeds.{ReclaimsAll, moment, named}
-use Rattle.papaya_played.specs.Play.{State, all_begun, all_stepped, first_state, is_over, settled_outcome}
+use Rattle.papaya_played.specs.Play.{State, all_begun, all_stepped, first_state, is_over, is_refusal, settled_outcome}
 use Rattle.papaya_played.specs.Reached.{IsOf, rows_beside}
 use Rattle.papaya_played.proofs.Along.{At, StaysSo, far, held, lists_at}
 use Rattle.papaya_played.proofs.PlayedAs.{ReclaimedAs, played_as, reclaimed_as}
@@ -98,7 +100,7 @@ module _ {K S : Type 0} (V : Type 0) (same : K → K → Bool) (by_hasher : S �
             found = subst (AllFind terms) (sym y_is) (
               λ others order.
                   (let none = none_under_way by_hasher x p.0 _ is.scene idle.no_calls here.1.callers in
-                  rows_its terms x.history (ReclaimsAll (is_over st.end)) tt (settled_outcome st.end) _ _
+                  rows_its terms x.history (ReclaimsAll (is_over st.end)) tt (settled_outcome st.end) (effects_of acts.Row x.known new.changed) (is_refusal new.changed)
                   (all_find same hash x p.0 old new shows st.caller lists st.machine st.next st.end at leads order.waits.placed none
                   (behind_found same hash named (moment x.history) x.known p.0 shows.whole shows.kept old st.caller lists st.machine at order none
                   (all_stand V same by_hasher hash batch_size roots aborts x p.0 _ is.scene idle.no_makers idle.no_enders here.1.maps)) terms)),

@@ -21,26 +21,25 @@ none_done (f ∷ fs) all = absurd (cc all)
 
 module _ {K V : Type 0} (terms : Terms) (log : List (Entry K V)) where
   -- what does nothing finds what it must
-  nothing_finds : (e : Entry K V) → e.effects ≡ [] → FindsIts terms log e
-  nothing_finds e none =
-      let t = transition log e in subst (λ (fs : List Effect). AtEachEffect (FindsBy terms log e.deed t) t.caller t.map fs t.found) (sym none) tt
+  nothing_finds : (d : Deed K V) (o : Outcome V) (fs : List Effect) (refused : Bool) → list_all (λ f. false) fs ≡ true → FindsIts terms log (record { deed = d; outcome = o; effects = fs; refused = refused })
+  nothing_finds d o fs refused may = subst (λ (gs : List Effect). FindsIts terms log (record { deed = d; outcome = o; effects = gs; refused = refused })) (sym (none_done fs may)) tt
 
   by_deed : (d : Deed K V) (o : Outcome V) (fs : List Effect) (refused : Bool) → (let e : Entry K V = record { deed = d; outcome = o; effects = fs; refused = refused } in
       list_all (may_do d) fs ≡ true → EndsInOrder log e → OthersFind terms log e → IsOther d → AllIsInOrder (moment log) → FindsIts terms log e)
-  by_deed (Begins i s map call) o fs refused may ends others is order = nothing_finds _ (none_done fs may)
+  by_deed (Begins i s map call) o fs refused may ends others is order = nothing_finds (Begins i s map call) o fs refused may
   by_deed (Steps i) o fs refused may ends others is order = absurd is
-  by_deed (Replies i reply) o fs refused may ends others is order = nothing_finds _ (none_done fs may)
-  by_deed (Stops i) o fs refused may ends others is order = nothing_finds _ (none_done fs may)
+  by_deed (Replies i reply) o fs refused may ends others is order = nothing_finds (Replies i reply) o fs refused may
+  by_deed (Stops i) o fs refused may ends others is order = nothing_finds (Stops i) o fs refused may
   by_deed (Registers slot) o fs refused may ends others is order = others tt order
-  by_deed (Opens slot) o fs refused may ends others is order = nothing_finds _ (none_done fs may)
-  by_deed (Shuts slot) o fs refused may ends others is order = nothing_finds _ (none_done fs may)
+  by_deed (Opens slot) o fs refused may ends others is order = nothing_finds (Opens slot) o fs refused may
+  by_deed (Shuts slot) o fs refused may ends others is order = nothing_finds (Shuts slot) o fs refused may
   by_deed (Leaves slot) o fs refused may ends others is order = others tt order
   by_deed (Tends slot) o fs refused may ends others is order = others tt order
-  by_deed (MapComes map root mode capacity) o fs refused may ends others is order = nothing_finds _ (none_done fs may)
+  by_deed (MapComes map root mode capacity) o fs refused may ends others is order = nothing_finds (MapComes map root mode capacity) o fs refused may
   by_deed (Makes map) o fs refused may ends others is order = others tt order
-  by_deed (MapFails map) o fs refused may ends others is order = nothing_finds _ (none_done fs may)
+  by_deed (MapFails map) o fs refused may ends others is order = nothing_finds (MapFails map) o fs refused may
   by_deed (Ends map) o fs refused may ends others is order = ends
-  by_deed (MapGoes map) o fs refused may ends others is order = nothing_finds _ (none_done fs may)
+  by_deed (MapGoes map) o fs refused may ends others is order = nothing_finds (MapGoes map) o fs refused may
   by_deed (ReclaimsAll last) o fs refused may ends others is order = others tt order
 
   pub others_found : (e : Entry K V) → DoesIts log e → EndsInOrder log e → OthersFind terms log e → IsOther e.deed → AllIsInOrder (moment log) → FindsIts terms log e
