@@ -1,5 +1,5 @@
 -- Wherever a list of acts has led, words of slots are noted just where there are some, and as many buckets are known as the history says that were granted.
-use Rattle.std.specs.Prelude.{◌≡◌, ℕ, Bool, true, List, Option, is_ok}
+use Rattle.std.specs.Prelude.{◌≡◌, ℕ, Bool, true, List, length, Option, is_ok}
 use Rattle.std.proofs.Common.{refl, ap, sym, subst, ◌∙◌}
 use Rattle.seize_acts.specs.Answers.{Grant}
 use Rattle.papaya_legal.specs.Given.SeizeWords.Mem.{Mem}
@@ -40,13 +40,13 @@ use Rattle.papaya_played.specs.Reached.{IsOf, row_or_rests, rows_beside}
 use Rattle.papaya_played.proofs.Along.{At, StaysSo, held}
 use Rattle.papaya_played.proofs.PlayedAs.{PlayedAs, played_as, reclaimed_as}
 use Rattle.papaya_linear.proofs.Stays.{all_tied, change, end}
-use Rattle.papaya_linear.proofs.Tied.{call_tied, ending_tied, making_tied}
+use Rattle.papaya_played.proofs.Tied.{call_tied, ending_tied, making_tied}
 use Rattle.papaya_moves.proofs.Buckets.{BucketsHold, did_hold, worked_hold}
 
 pub first_buckets : {K V S : Type 0} (roots : ℕ) → BucketsHold {K = K} {V = V} {S = S} (first_state roots)
 first_buckets {K} {V} roots = record { slots = slots_begin K V roots; granted = refl }
 
-module _ {K V S : Type 0} (same : K → K → Bool) (by_hasher : S → K → ℕ) (hash : ℕ → K → ℕ) (batch_size roots : ℕ) (aborts : V) (x y : State K V S) (s n : Scene K V) (is : IsOf by_hasher s s.world.row x.now)
+module _ {K V S : Type 0} (same : K → K → Bool) (by_hasher : S → K → ℕ) (hash : ℕ → K → ℕ) (batch_size roots : ℕ) (aborts : ℕ → V) (x y : State K V S) (s n : Scene K V) (is : IsOf by_hasher s s.world.row x.now)
     (after : y.now.memory ≡ n.world.memory) (at : IsAt same hash (held_in batch_size roots NoChange s) s) (here : BucketsHold x) (told : Answer K V) where
   abbrev old : Held K V
   old = held_in batch_size roots NoChange s
@@ -110,7 +110,7 @@ module _ {K V S : Type 0} (same : K → K → Bool) (by_hasher : S → K → ℕ
   acts_hold_buckets (BeginsCall i m wanted) (there, set, y_is) may led leads = subst BucketsHold (sym y_is) (did_hold x here true (Begins i (slot_of i) m (call_for wanted)) outcome.Goes _ _ refl)
   acts_hold_buckets (StepsCall i m g) played may led leads = call_steps i m g played led leads
   acts_hold_buckets (TellsCall i m reply) (c, has, y_is) may led leads =
-      subst BucketsHold (sym y_is) (did_hold x here (is_ok (machine_replied c.machine reply).1) (Replies i (reply_for aborts reply)) outcome.Goes _ _ refl)
+      subst BucketsHold (sym y_is) (did_hold x here (is_ok (machine_replied c.machine reply).1) (Replies i (reply_for (aborts (length x.told)) reply)) outcome.Goes _ _ refl)
   acts_hold_buckets (AsksCall i m) (c, has, y_is) may led leads = subst BucketsHold (sym y_is) (record { slots = here.slots; granted = here.granted })
   acts_hold_buckets (StopsCall i m) (c, has, y_is) may led leads = subst BucketsHold (sym y_is) (did_hold x here (machine_asked c.machine).1 (Stops i) outcome.Done _ _ refl)
   acts_hold_buckets (BeginsMaking i map hasher given places) y_is may led leads = subst BucketsHold (sym y_is) (record { slots = here.slots; granted = here.granted })
@@ -120,7 +120,7 @@ module _ {K V S : Type 0} (same : K → K → Bool) (by_hasher : S → K → ℕ
   acts_hold_buckets (BeginsRow i request) (called, has, y_is) may led leads = subst BucketsHold (sym y_is) (record { slots = here.slots; granted = here.granted })
   acts_hold_buckets (StepsRow i g) played may led leads = row_steps i g may played leads
 
-module _ {K S : Type 0} (V : Type 0) (same : K → K → Bool) (by_hasher : S → K → ℕ) (hash : ℕ → K → ℕ) (batch_size roots : ℕ) (aborts : V) where
+module _ {K S : Type 0} (V : Type 0) (same : K → K → Bool) (by_hasher : S → K → ℕ) (hash : ℕ → K → ℕ) (batch_size roots : ℕ) (aborts : ℕ → V) where
   -- So it stays by whatever acts.
   pub buckets_hold : (Fits : State K V S → Act K V S → Type 0) → StaysSo V same by_hasher hash batch_size roots aborts Fits (λ p x. BucketsHold x)
   buckets_hold Fits = record {
@@ -129,6 +129,7 @@ module _ {K S : Type 0} (V : Type 0) (same : K → K → Bool) (by_hasher : S �
         (subst (λ (o : Option (ℕ × ReclaimAll)). IsOf by_hasher p.0 (rows_beside o p.0.world.row) x.now) none is.scene) is_then.scene.memory at here told act
         (played_as same by_hasher batch_size roots aborts x y act played) may led leads;
     begins = λ p n x i c none begun same_scene all_free is is_then at here. record { slots = here.slots; granted = here.granted };
+    chooses = λ p n x choice none none_then scene is is_then at here. record { slots = record { some = here.slots.some; none = here.slots.none; whole = here.slots.whole }; granted = here.granted };
     steps = λ p n x y told g st is is_then at leads scene played here.
         (let y_is = all_tied V same by_hasher hash batch_size roots aborts p n x y told g st is (reclaimed_as same by_hasher batch_size roots aborts x y g played) in
         let old = held V same by_hasher hash batch_size roots NoChange p in

@@ -32,7 +32,7 @@ use Rattle.papaya_linear.specs.Coming.{ComesBy, MapsComeAndGo}
 use Rattle.papaya_linear.proofs.Coming.{comes_bare}
 use Rattle.papaya_linear.proofs.Holds.{Holds}
 use Rattle.papaya_linear.proofs.MakesRight.{was_new}
-use Rattle.papaya_linear.proofs.Tied.{MakingTied, making_tied}
+use Rattle.papaya_played.proofs.Tied.{MakingTied, making_tied}
 use Rattle.papaya_moves.specs.Finds.{FindsIts}
 use Rattle.papaya_moves.specs.Places.{ArePlaces, OpensFor}
 use Rattle.papaya_moves.proofs.MadeHolds.{MadeHolds}
@@ -40,7 +40,7 @@ use Rattle.papaya_moves.proofs.MakingFinds.{makings_find}
 use Rattle.papaya_moves.proofs.MakingMoves.{frees_quietly}
 use Rattle.papaya_moves.proofs.Rooted.{Rooted, step_rooted}
 
-module _ {K V S : Type 0} (same : K → K → Bool) (by_hasher : S → K → ℕ) (hash : ℕ → K → ℕ) (batch_size roots : ℕ) (aborts : V) (x y : State K V S) (s n : Scene K V) (is : IsOf by_hasher s s.world.row x.now)
+module _ {K V S : Type 0} (same : K → K → Bool) (by_hasher : S → K → ℕ) (hash : ℕ → K → ℕ) (batch_size roots : ℕ) (aborts : ℕ → V) (x y : State K V S) (s n : Scene K V) (is : IsOf by_hasher s s.world.row x.now)
     (at : IsAt same hash (held_in batch_size roots NoChange s) s) (holds : Holds same x s) (maps : MapsComeAndGo (moment x.history) x.known x.now.enders s) (made : MadeHolds x) (opens : OpensFor s) (told : Answer K V) (terms : Terms)
     (i : ℕ) (g : Grant) where
   abbrev old : Held K V

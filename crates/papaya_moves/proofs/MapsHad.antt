@@ -1,5 +1,5 @@
 -- Wherever a list of acts has led, each map that is there by the history stands, is made, or ends.
-use Rattle.std.specs.Prelude.{◌≡◌, ◌≢◌, ◌⊎◌, ◌==◌, ℕ, Bool, true, false, List, [], ◌∷◌, ◌++◌, Option, Some, None, if◌then◌else◌, is_ok, option_map}
+use Rattle.std.specs.Prelude.{◌≡◌, ◌≢◌, ◌⊎◌, ◌==◌, ℕ, Bool, true, false, List, length, [], ◌∷◌, ◌++◌, Option, Some, None, if◌then◌else◌, is_ok, option_map}
 use Rattle.std.specs.List.{list_any}
 use Rattle.std.proofs.Common.{refl, ap, sym, subst, ◌∙◌, inl, inr}
 use Rattle.std.proofs.lemmas.Bool.{cases_eq}
@@ -183,7 +183,7 @@ module _ {K V S : Type 0} (x : State K V S) (here : MapsAreHad x) where
           | inr other ↦ other_end (Some (record it { machine = machine })) n other had
         ]
 
-module _ {K V S : Type 0} (same : K → K → Bool) (by_hasher : S → K → ℕ) (batch_size roots : ℕ) (aborts : V) (x y : State K V S) (s n : Scene K V) (is : IsOf by_hasher s s.world.row x.now)
+module _ {K V S : Type 0} (same : K → K → Bool) (by_hasher : S → K → ℕ) (batch_size roots : ℕ) (aborts : ℕ → V) (x y : State K V S) (s n : Scene K V) (is : IsOf by_hasher s s.world.row x.now)
     (maps : MapsComeAndGo (moment x.history) x.known x.now.enders s) (here : MapsAreHad x) where
   abbrev Played : Act K V S → Type 0
   Played act = PlayedAs same by_hasher batch_size roots aborts x y act
@@ -254,7 +254,7 @@ module _ {K V S : Type 0} (same : K → K → Bool) (by_hasher : S → K → ℕ
       (works_had x here (Steps i) tt (outcome_of (known_after (acts.Call i m) change x.known) (kind_of c.call) c.value end.1.1) (effects_of (acts.Call i m) x.known change) (is_refusal change) (call_stepped i m c change x end).now
       (λ k had. had))
   acts_had (TellsCall i m reply) may (c, has, y_is) =
-      then_had _ y_is (quiet_had x here (is_ok (machine_replied c.machine reply).1) (Replies i (reply_for aborts reply)) tt outcome.Goes (call_told i m aborts reply x c).now (λ k had. had))
+      then_had _ y_is (quiet_had x here (is_ok (machine_replied c.machine reply).1) (Replies i (reply_for (aborts (length x.told)) reply)) tt outcome.Goes (call_told i m aborts reply x c).now (λ k had. had))
   acts_had (AsksCall i m) may (c, has, y_is) = then_had _ y_is here
   acts_had (StopsCall i m) may (c, has, y_is) = then_had _ y_is (quiet_had x here (machine_asked c.machine).1 (Stops i) tt outcome.Done (call_stopped i m x c).now (λ k had. had))
   acts_had (BeginsMaking i map hasher given places) may played = making_begins i map hasher given places may played
@@ -270,14 +270,14 @@ module _ {K V S : Type 0} (same : K → K → Bool) (by_hasher : S → K → ℕ
       (works_had x here (row_deed row) (rows_leave_maps (row_deed row) (is_of_row K V row)) (row_outcome end.1.1) (effects_of acts.Row x.known change) (is_refusal change) (row_stepped i row change x end).now (λ k had. had))
 
 -- And so it is where all is reclaimed.
-module _ {K V S : Type 0} (same : K → K → Bool) (by_hasher : S → K → ℕ) (batch_size roots : ℕ) (aborts : V) (x y : State K V S) (here : MapsAreHad x) where
+module _ {K V S : Type 0} (same : K → K → Bool) (by_hasher : S → K → ℕ) (batch_size roots : ℕ) (aborts : ℕ → V) (x y : State K V S) (here : MapsAreHad x) where
   pub reclaiming_had : (g : Grant) → ReclaimedAs same by_hasher batch_size roots aborts x y g → MapsAreHad y
   reclaiming_had g (c, has, end, came, y_is) =
       let change = changed_of x.now.memory g (reclaim_all_plan deferred_word was_left c) in
       subst MapsAreHad (sym y_is)
       (works_had x here (ReclaimsAll (is_over end.1.1)) tt (settled_outcome end.1.1) (effects_of acts.Row x.known change) (is_refusal change) (all_stepped change x end).now (λ k had. had))
 
-module _ {K S : Type 0} (V : Type 0) (same : K → K → Bool) (by_hasher : S → K → ℕ) (hash : ℕ → K → ℕ) (batch_size roots : ℕ) (aborts : V) where
+module _ {K S : Type 0} (V : Type 0) (same : K → K → Bool) (by_hasher : S → K → ℕ) (hash : ℕ → K → ℕ) (batch_size roots : ℕ) (aborts : ℕ → V) where
   -- where all is reclaimed each of them stands
   pub all_stand : (x : State K V S) (s : Scene K V) (rows : ℕ → Row) → IsOf by_hasher s rows x.now → ((j : ℕ) → s.makers j ≡ None) → ((j : ℕ) → s.enders j ≡ None) → MapsAreHad x
       → (n : ℕ) → list_any (λ (f : MapThere). f.number == n) (moment x.history).maps ≡ true → (standing : Standing K) × (s.maps n ≡ Some standing)

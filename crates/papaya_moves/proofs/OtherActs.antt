@@ -63,7 +63,7 @@ module _ (K V : Type 0) where
       by true of = of
       by false of = of
 
-module _ {K V S : Type 0} (same : K → K → Bool) (by_hasher : S → K → ℕ) (hash : ℕ → K → ℕ) (batch_size roots : ℕ) (aborts : V) (x y : State K V S) (s n : Scene K V) (is : IsOf by_hasher s s.world.row x.now)
+module _ {K V S : Type 0} (same : K → K → Bool) (by_hasher : S → K → ℕ) (hash : ℕ → K → ℕ) (batch_size roots : ℕ) (aborts : ℕ → V) (x y : State K V S) (s n : Scene K V) (is : IsOf by_hasher s s.world.row x.now)
     (at : IsAt same hash (held_in batch_size roots NoChange s) s) (all : AllHolds same x s) (made : MadeHolds x) (buckets : BucketsHold x) (opens : OpensFor s) (told : Answer K V) (terms : Terms) (each : AllFind terms x) where
   abbrev old : Held K V
   old = held_in batch_size roots NoChange s

@@ -36,7 +36,7 @@ module _ {K V : Type 0} (m : Moment K V) (s : Scene K V) (none : (map i : ℕ) �
       by [] under = refl
       by (c ∷ cs) under = absurd (let its = under.0 in let gone = none c.map its.0 in let there = its.2.1 in cc (gone, there))
 
-module _ {K S : Type 0} (V : Type 0) (same : K → K → Bool) (by_hasher : S → K → ℕ) (hash : ℕ → K → ℕ) (batch_size roots : ℕ) (aborts : V) (terms : Terms) where
+module _ {K S : Type 0} (V : Type 0) (same : K → K → Bool) (by_hasher : S → K → ℕ) (hash : ℕ → K → ℕ) (batch_size roots : ℕ) (aborts : ℕ → V) (terms : Terms) where
   abbrev Fits : State K V S → Act K V S → Type 0
   Fits x act = HasNewNumber x act × Asks V same by_hasher hash batch_size roots aborts terms x act
 
@@ -62,6 +62,10 @@ module _ {K S : Type 0} (V : Type 0) (same : K → K → Bool) (by_hasher : S �
     begins = λ p n x i c none begun same_scene all_free is is_then at here. (
       order.begins p n x i c none begun same_scene all_free is is_then at here.0,
       (slots.begins p n x i c none begun same_scene all_free is is_then at here.1.0, here.1.1, here.1.2),
+    );
+    chooses = λ p n x choice none none_then scene is is_then at here. (
+      order.chooses p n x choice none none_then scene is is_then at here.0,
+      (slots.chooses p n x choice none none_then scene is is_then at here.1.0, here.1.1, here.1.2),
     );
     steps = λ p n x y told g st is is_then at leads scene played here.
         (let it = reclaimed_as same by_hasher batch_size roots aborts x y g played in
