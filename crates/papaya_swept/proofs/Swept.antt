@@ -28,7 +28,7 @@ use Rattle.papaya_swept.proofs.Instance.{P, Shards, sweeps_are_kept}
 use Rattle.papaya_swept.proofs.KeptByAll.{Fit, With, all_kept}
 
 -- at first
-first_swept : {K V : Type 0} (same : K → K → Bool) (terms : Terms) (roots : ℕ) → HasSwept {K = K} {V = V} same terms [] nothing_known (at_first roots)
+pub first_swept : {K V : Type 0} (same : K → K → Bool) (terms : Terms) (roots : ℕ) → HasSwept {K = K} {V = V} same terms [] nothing_known (at_first roots)
 first_swept {K} {V} same terms roots = record { shows = first_shows; each = tt }
   where
     first_shows : ShowsSweeps {K = K} {V = V} same (past []) (moment []) nothing_known (at_first roots)
