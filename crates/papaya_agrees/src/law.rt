@@ -5,7 +5,8 @@ ghost use Rattle.papaya_agrees.specs.Agree.{ListsAgree};
 /// Wherever a list of acts has led, the history that it comes to as it is played agrees with what is so there: each map has as many shards as its making was asked
 /// for with, where all makings ask for as many; the guards that are there are the slots within sections, each by the name of its slot, up to the step that ends a
 /// section; each call under way has the guard of its caller's slot; what was refused a growth has asked for it, and made nothing; and of a number with which no map
-/// has come nothing is there: no map, no table, no pair, no count and no call.
+/// has come nothing is there: no map, no table, no pair, no count and no call; nor of one with which a map has come, once its making was refused, where each map is made
+/// with a number that no map has, or had.
 pub fn lists_agree<K, V, S>()
     ensures agrees { (same : K → K → Bool) (by_hasher : S → K → ℕ) (hash : ℕ → K → ℕ) (batch_size roots shards : ℕ) → ListsAgree V same by_hasher hash batch_size roots shards }
 {}

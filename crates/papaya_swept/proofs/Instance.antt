@@ -34,7 +34,7 @@ use Rattle.papaya_linear.proofs.RowsPlayed.{is_of_row, no_caller, rows_like}
 use Rattle.papaya_swept.specs.Shown.{HasSwept, ShowsSweeps}
 use Rattle.papaya_swept.proofs.Calls.{reads, sweeps_begin, sweeps_go_on, sweeps_step, sweeps_stop, sweeps_take}
 use Rattle.papaya_swept.proofs.Kept.{IsKept, alone, coming, comes_by}
-use Rattle.papaya_swept.proofs.Others.{sweeps_by_end, sweeps_by_end_begun, sweeps_by_making, sweeps_by_making_begun, sweeps_by_map_come, sweeps_by_map_gone, sweeps_by_reclaiming, sweeps_by_row, sweeps_by_row_begun, sweeps_like, sweeps_over}
+use Rattle.papaya_swept.proofs.Others.{sweeps_by_end, sweeps_by_end_begun, sweeps_by_making, sweeps_by_making_begun, sweeps_by_map_come, sweeps_by_map_gone, sweeps_by_reclaiming, sweeps_by_row, sweeps_by_row_begun, sweeps_chosen, sweeps_like, sweeps_over}
 use Rattle.papaya_swept.proofs.SweptBy.{pair_words, right, shows_as_walk, walks_bring_none}
 
 module _ {K V : Type 0} (same : K → K → Bool) (terms : Terms) where
@@ -106,7 +106,7 @@ module _ {K V : Type 0} (same : K → K → Bool) (hash : ℕ → K → ℕ) (te
         (sweeps_by_reclaiming K V same hash (past history) (moment history) known s all has.shows old new i lists before next told at leads)
         (rows_like (ReclaimsAll (is_over told)) tt (settled_outcome told) e.effects e.refused (moment history)));
     makings_begin = λ history known s old new at all shards has i b none not_made fresh at2.
-        record { shows = sweeps_by_making_begun K V same hash (past history) (moment history) known s all has.shows old new at i b not_made fresh.no_count at2; each = has.each };
+        record { shows = sweeps_by_making_begun K V same hash (past history) (moment history) known s all has.shows old new at i b not_made fresh.bare.no_count at2; each = has.each };
     makings_step = λ history known s old new at all shards has i said leads b here was_new.
         (let e : Entry K V = record { deed = Makes b.map; outcome = making_outcome said; effects = effects_of (acts.Making b.map) known new.changed; refused = is_refusal new.changed } in
         one_more same terms history known (known_after (acts.Making b.map) new.changed known) s _ all has e (none_swept same terms history e refl) (with_effects None (Some b.map) e.effects (moment history))
@@ -143,4 +143,5 @@ module _ {K V : Type 0} (same : K → K → Bool) (hash : ℕ → K → ℕ) (te
         let then_sweeps = sweeps_by_end K V same hash (past history) m known s all has.shows old new at i said leads f here map not_there its in
         one_more same terms history known known2 s _ all has e (none_swept same terms history e refl) (without_map (named map) v.remains v)
         (sweeps_by_map_gone K V same hash (past history) v known2 _ then_all then_sweeps new new at2 (named map) v.remains apart) refl);
+    choices_come = λ history known s all has choice. record { shows = sweeps_chosen same (past history) known s (moment history) all has.shows choice; each = has.each };
   }

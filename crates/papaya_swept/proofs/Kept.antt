@@ -50,6 +50,7 @@ use Rattle.papaya_moments.specs.Numbers.{AreFound}
 use Rattle.papaya_named.specs.Seen.{kind_of}
 use Rattle.papaya_values.specs.Values.{KeepsValue}
 use Rattle.papaya_acts.specs.Acts.{Wanted, begun}
+use Rattle.papaya_acts.specs.Doings.{scene_chosen}
 use Rattle.papaya_agrees.specs.Fresh.{IsFresh}
 use Rattle.papaya_deeds.specs.Deeds.{Begins, Deed, Ends, Entry, Makes, MapComes, MapFails, MapGoes, ReclaimsAll, Replies, Steps, Stops, come, moment, named}
 use Rattle.papaya_deeds.specs.History.{past}
@@ -148,3 +149,6 @@ module _ {K V : Type 0} (same : K → K → Bool) (hash : ℕ → K → ℕ) (R 
         let ended = ending_after same hash s new i f to.0 to.2.w2 to.2.deed said to.3 in
         let e : Entry K V = record { deed = MapGoes map; outcome = settled_outcome said; effects = effects_of (acts.Ending map) known new.changed; refused = is_refusal new.changed } in
         AreFound v → IsApart map v ended → IsAt same hash new ended → P (e ∷ history) (known_after (acts.Ending map) new.changed known) ended))
+    -- And where a choice of a number comes.
+    pub choices_come : (history : List (Entry K V)) (known : Known) (s : Scene K V) → ShowsAnswers same (past history) (moment history) known s → P history known s → (choice : ℕ)
+        → P history known (scene_chosen choice s)

@@ -24,7 +24,7 @@ use Rattle.papaya_swept.proofs.Kept.{IsKept}
 use Rattle.papaya_swept.proofs.KeptByCalls.{asks_kept, begins_kept, steps_kept, stops_kept, told_kept}
 use Rattle.papaya_swept.proofs.KeptByMaps.{end_begins_kept, ending_steps_kept, making_begins_kept, making_steps_kept}
 
-module _ {K V S : Type 0} (same : K → K → Bool) (by_hasher : S → K → ℕ) (hash : ℕ → K → ℕ) (batch_size roots : ℕ) (aborts : V) (R : Scene K V → Type 0) (P : List (Entry K V) → Known → Scene K V → Type 0)
+module _ {K V S : Type 0} (same : K → K → Bool) (by_hasher : S → K → ℕ) (hash : ℕ → K → ℕ) (batch_size roots : ℕ) (aborts : ℕ → V) (R : Scene K V → Type 0) (P : List (Entry K V) → Known → Scene K V → Type 0)
     (kept : IsKept same hash R P) (x y : State K V S) (s n : Scene K V)
     (is : IsOf by_hasher s s.world.row x.now) (rows2 : ℕ → Row) (is_then : IsOf by_hasher n rows2 y.now) (at : IsAt same hash (held_in batch_size roots NoChange s) s) (all : AllHolds same x s) (noted_then : CallsAreNoted y)
     (other : R s) (so : P x.history x.known s) (told : Answer K V) where
@@ -66,7 +66,7 @@ module _ {K V S : Type 0} (same : K → K → Bool) (by_hasher : S → K → ℕ
   acts_kept (AsksCall i map) fits played may led leads at2 = asks_kept same by_hasher hash batch_size roots aborts R P kept x y s n s.world.row is NoChange at all.holds other so told i map played led leads
   acts_kept (StopsCall i map) fits played may led leads at2 = stops_kept same by_hasher hash batch_size roots aborts R P kept x y s n s.world.row is NoChange at all.holds other so told i map played led leads
   acts_kept (BeginsMaking i map hasher given places) fits played may led leads at2 =
-      making_begins_kept same by_hasher hash batch_size roots aborts R P kept x y s n s.world.row is NoChange at all.holds noted_then other so told i map hasher given places (all.numbers.fresh map fits) may played leads
+      making_begins_kept same by_hasher hash batch_size roots aborts R P kept x y s n s.world.row is NoChange at all.holds noted_then other so told i map hasher given places (all.again.numbers.fresh map fits) may played leads
   acts_kept (StepsMaking i g) fits played may led leads at2 =
       making_steps_kept same by_hasher hash batch_size roots aborts R P kept x y s n s.world.row is NoChange at all.holds noted_then other so told i g played led leads at2
       (making_so same by_hasher hash batch_size roots aborts x y s n rows2 is is_then at all.holds all.maps noted_then told i g leads)
@@ -79,7 +79,7 @@ module _ {K V S : Type 0} (same : K → K → Bool) (by_hasher : S → K → ℕ
   acts_kept (StepsRow i g) fits played may led leads at2 = row_steps_kept i g may.0 played leads
 
 -- So it stays wherever a list leads, beside what is asked of a scene, if that stays so where more is asked of acts.
-module _ {K S : Type 0} (V : Type 0) (same : K → K → Bool) (by_hasher : S → K → ℕ) (hash : ℕ → K → ℕ) (batch_size roots : ℕ) (aborts : V) (R : Scene K V → Type 0)
+module _ {K S : Type 0} (V : Type 0) (same : K → K → Bool) (by_hasher : S → K → ℕ) (hash : ℕ → K → ℕ) (batch_size roots : ℕ) (aborts : ℕ → V) (R : Scene K V → Type 0)
     (P : List (Entry K V) → Known → Scene K V → Type 0) (kept : IsKept same hash R P) (More : State K V S → Act K V S → Type 0) where
   abbrev Stays : (State K V S → Act K V S → Type 0) → (At V same by_hasher hash batch_size roots → State K V S → Type 0) → Type 0
   Stays Fits Q = StaysSo V same by_hasher hash batch_size roots aborts Fits Q
@@ -121,6 +121,13 @@ module _ {K S : Type 0} (V : Type 0) (same : K → K → Bool) (by_hasher : S �
                 (kept.all_step x.history x.known p.0 old new here.0.holds.shows here.1.0 here.1.1 st.caller (lists_at V same by_hasher hash batch_size roots p) st.machine st.next st.end at leads)),
           ),
         ));
+    chooses = λ p n x choice none none_then scene is is_then at here. (
+      linear.chooses p n x choice none none_then scene is is_then at here.0,
+      (
+        rest.chooses p n x choice none none_then scene is is_then at here.1.0,
+        subst (P x.history x.known) (sym scene) (kept.choices_come x.history x.known p.0 here.0.holds.shows here.1.1 choice),
+      ),
+    );
   }
     where
       linear : Stays HasNewNumber (Of V same by_hasher hash batch_size roots aborts)

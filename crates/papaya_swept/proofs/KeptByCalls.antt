@@ -1,5 +1,5 @@
 -- What stays so by each kind of step stays so by each act of a call, as it is played.
-use Rattle.std.specs.Prelude.{◌≡◌, ◌⊎◌, ℕ, Bool, true, false, List, Option, Some, None, Ok, is_ok, is_err, option_map}
+use Rattle.std.specs.Prelude.{◌≡◌, ◌⊎◌, ℕ, Bool, true, false, List, Option, Some, None, Ok, is_ok, is_err, length, option_map}
 use Rattle.std.proofs.Common.{refl, ap, sym, subst, ◌∙◌, inl, inr}
 use Rattle.seize_acts.specs.Answers.{Grant}
 use Rattle.papaya_scenes.specs.Given.Raw.Machine.{machine_asked, machine_replied}
@@ -37,10 +37,10 @@ use Rattle.papaya_linear.proofs.Holds.{Holds}
 use Rattle.papaya_linear.proofs.RepliesPlayed.{told_back}
 use Rattle.papaya_linear.proofs.TakesReply.{TakesNone, refuses}
 use Rattle.papaya_linear.proofs.StepsPlayed.{led, played_ended, there_is}
-use Rattle.papaya_linear.proofs.Tied.{call_tied}
+use Rattle.papaya_played.proofs.Tied.{call_tied}
 use Rattle.papaya_swept.proofs.Kept.{IsKept}
 
-module _ {K V S : Type 0} (same : K → K → Bool) (by_hasher : S → K → ℕ) (hash : ℕ → K → ℕ) (batch_size roots : ℕ) (aborts : V) (R : Scene K V → Type 0) (P : List (Entry K V) → Known → Scene K V → Type 0)
+module _ {K V S : Type 0} (same : K → K → Bool) (by_hasher : S → K → ℕ) (hash : ℕ → K → ℕ) (batch_size roots : ℕ) (aborts : ℕ → V) (R : Scene K V → Type 0) (P : List (Entry K V) → Known → Scene K V → Type 0)
     (kept : IsKept same hash R P) (x y : State K V S) (s n : Scene K V) (rows : ℕ → Row)
     (is : IsOf by_hasher s rows x.now) (before : Changed) (at : IsAt same hash (held_in batch_size roots before s) s) (holds : Holds same x s) (other : R s) (so : P x.history x.known s)
     (told : Answer K V) where
@@ -85,7 +85,7 @@ module _ {K V S : Type 0} (same : K → K → Bool) (by_hasher : S → K → ℕ
       new = then_held (TellsCall i m reply)
 
       said : Reply V
-      said = reply_for aborts reply
+      said = reply_for (aborts (length x.told)) reply
 
       it : IsHeard (moment x.history) i c.call c.machine c.value
       it = holds.heard m i c here
@@ -97,9 +97,9 @@ module _ {K V S : Type 0} (same : K → K → Bool) (by_hasher : S → K → ℕ
       by : (b : Bool) → is_ok (machine_replied c.machine reply).1 ≡ b → Then
       by true ok = comes_so (z true) (scene_with m i next s) (y_is ∙ ap z ok) n_is
           (kept.calls_take x.history x.known s old new at holds.shows other so m i u under it.there it.is asks.0 asks.1 standing stands said next
-          (next_is ∙ ap (λ (t : Told V). (machine_replied (machine_of u) t).0) (sym (told_back aborts reply)))
-          (subst (λ (t : Told V). (machine_replied (machine_of u) t).1 ≡ Ok tt) (sym (told_back aborts reply)) (subst (λ (w : Machine K V K). (machine_replied w reply).1 ≡ Ok tt) its taken))
-          (subst (λ (t : Told V). ToldOfKind V same same old.batch_size old.roots slot_of standing i u t next) (sym (told_back aborts reply)) kind.0) (subst (IsAt same hash new) n_is at2))
+          (next_is ∙ ap (λ (t : Told V). (machine_replied (machine_of u) t).0) (sym (told_back (aborts (length x.told)) reply)))
+          (subst (λ (t : Told V). (machine_replied (machine_of u) t).1 ≡ Ok tt) (sym (told_back (aborts (length x.told)) reply)) (subst (λ (w : Machine K V K). (machine_replied w reply).1 ≡ Ok tt) its taken))
+          (subst (λ (t : Told V). ToldOfKind V same same old.batch_size old.roots slot_of standing i u t next) (sym (told_back (aborts (length x.told)) reply)) kind.0) (subst (IsAt same hash new) n_is at2))
         where
           taken : (machine_replied c.machine reply).1 ≡ Ok tt
           taken = ok_is (machine_replied c.machine reply).1 ok

@@ -37,10 +37,10 @@ use Rattle.papaya_played.proofs.PlayedAs.{PlayedAs}
 use Rattle.papaya_linear.proofs.Holds.{Holds}
 use Rattle.papaya_linear.proofs.MapActs.{EndsSo, MakesSo, MakingDid, deed_by, ended_is, made_is}
 use Rattle.papaya_linear.proofs.MapsPlayed.{IsApart, ended, made}
-use Rattle.papaya_linear.proofs.Tied.{EndingTied, MakingTied, ending_tied, making_tied}
+use Rattle.papaya_played.proofs.Tied.{EndingTied, MakingTied, ending_tied, making_tied}
 use Rattle.papaya_swept.proofs.Kept.{IsKept}
 
-module _ {K V S : Type 0} (same : K → K → Bool) (by_hasher : S → K → ℕ) (hash : ℕ → K → ℕ) (batch_size roots : ℕ) (aborts : V) (R : Scene K V → Type 0) (P : List (Entry K V) → Known → Scene K V → Type 0)
+module _ {K V S : Type 0} (same : K → K → Bool) (by_hasher : S → K → ℕ) (hash : ℕ → K → ℕ) (batch_size roots : ℕ) (aborts : ℕ → V) (R : Scene K V → Type 0) (P : List (Entry K V) → Known → Scene K V → Type 0)
     (kept : IsKept same hash R P) (x y : State K V S) (s n : Scene K V) (rows : ℕ → Row)
     (is : IsOf by_hasher s rows x.now) (before : Changed) (at : IsAt same hash (held_in batch_size roots before s) s) (holds : Holds same x s) (noted_then : CallsAreNoted y) (other : R s) (so : P x.history x.known s)
     (told : Answer K V) where

@@ -9,13 +9,13 @@ use Rattle.papaya_moments.proofs.Calls.{whole_begins}
 use Rattle.papaya_histories.proofs.DueOn.{dues_begin}
 use Rattle.papaya_purposes.proofs.Stored.{first_lasts}
 use Rattle.papaya_acts.specs.Acts.{Act}
-use Rattle.papaya_acts.specs.Doings.{Doing, Does, BeginsReclaiming, BeginsClearing, StepsReclaiming}
+use Rattle.papaya_acts.specs.Doings.{Doing, Does, BeginsReclaiming, BeginsClearing, StepsReclaiming, Chooses}
 use Rattle.papaya_acts.specs.Lists.{nothing_done}
 use Rattle.papaya_agrees.specs.Agree.{Asks}
 use Rattle.papaya_agrees.specs.Shards.{AsksShards}
-use Rattle.papaya_agrees.proofs.Coming.{new_numbers}
+use Rattle.papaya_agrees.proofs.Coming.{new_fits}
 use Rattle.papaya_agrees.specs.Fresh.{HasNewNumber}
-use Rattle.papaya_agrees.proofs.Numbers.{numbers_first}
+use Rattle.papaya_agrees.proofs.GivenBack.{again_first}
 use Rattle.papaya_agrees.proofs.Shards.{shards_stay}
 use Rattle.papaya_deeds.specs.Deeds.{moment, named}
 use Rattle.papaya_deeds.specs.History.{past}
@@ -52,12 +52,13 @@ module _ {K S : Type 0} (V : Type 0) (same : K → K → Bool) (by_hasher : S �
   own_so (BeginsReclaiming i ∷ doings) asks = (tt, own_so doings asks.1)
   own_so (BeginsClearing i ∷ doings) asks = (tt, own_so doings asks.1)
   own_so (StepsReclaiming g ∷ doings) asks = (tt, own_so doings asks.1)
+  own_so (Chooses choice ∷ doings) asks = (tt, own_so doings asks.1)
 
   abbrev More : State K V S → Act K V S → Type 0
   More x act = AsksShards (shards_of terms) act
 
   -- each act makes its map with a new number, and with so many shards
-  both_fit : (aborts : V) (doings : List (Doing K V S)) → AllByRecursion (Asks V same by_hasher hash batch_size roots (shards_of terms)) doings → (x : State K V S)
+  both_fit : (aborts : ℕ → V) (doings : List (Doing K V S)) → AllByRecursion (Asks V same by_hasher hash batch_size roots (shards_of terms)) doings → (x : State K V S)
       → AllFit V same by_hasher hash batch_size roots aborts HasNewNumber doings x
       → AllFit V same by_hasher hash batch_size roots aborts (Fit V same by_hasher hash batch_size roots aborts (Shards same hash terms) (P same hash terms) (sweeps_are_kept same hash terms) More) doings x
   both_fit aborts [] asks x new = tt
@@ -65,17 +66,18 @@ module _ {K S : Type 0} (V : Type 0) (same : K → K → Bool) (by_hasher : S �
   both_fit aborts (BeginsReclaiming i ∷ doings) asks x new = (tt, λ y e. both_fit aborts doings asks.1 y (new.1 y e))
   both_fit aborts (BeginsClearing i ∷ doings) asks x new = (tt, λ y e. both_fit aborts doings asks.1 y (new.1 y e))
   both_fit aborts (StepsReclaiming g ∷ doings) asks x new = (tt, λ y e. both_fit aborts doings asks.1 y (new.1 y e))
+  both_fit aborts (Chooses choice ∷ doings) asks x new = (tt, λ y e. both_fit aborts doings asks.1 y (new.1 y e))
 
   pub lists_are_swept : ListsAreSwept V same by_hasher hash batch_size roots terms
-  lists_are_swept small aborts course doings y led asks once =
+  lists_are_swept small aborts course doings y led asks makes_new =
       let first = nothing_done V same by_hasher batch_size roots slot_of course in
-      let new = new_numbers V same by_hasher hash batch_size roots aborts doings (first_state roots) once (λ n made. record { not_come = refl; not_made = λ i b has. absurd (cc has) }) in
+      let new = new_fits V same by_hasher hash batch_size roots aborts doings (first_state roots) makes_new in
       let R = Shards same hash terms in
       let kept = sweeps_are_kept same hash terms in
       let to = wherever V same by_hasher hash batch_size roots small aborts (Fit V same by_hasher hash batch_size roots aborts R (P same hash terms) kept More)
       (With V same by_hasher hash batch_size roots aborts R (P same hash terms) kept More)
       (all_kept V same by_hasher hash batch_size roots aborts R (P same hash terms) kept More (shards_stay V same by_hasher hash batch_size roots (shards_of terms) aborts)) course doings y led (own_so doings asks) (
-        first_holds V same by_hasher hash batch_size roots aborts first.0 refl (numbers_first roots),
+        first_holds V same by_hasher hash batch_size roots aborts first.0 refl (again_first roots),
         (record { standing = λ m st has. absurd (cc has); made = λ i b makes. absurd (cc makes) }, first_swept same terms roots),
       ) (both_fit aborts doings asks (first_state roots) new) in
       (to.0, to.1, to.2.1.1.each)
