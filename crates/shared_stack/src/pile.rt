@@ -8,10 +8,26 @@ use std::alloc::{AllocError, Global};
 use std::sync::Arc;
 
 /// A value, and what stands below it.
-#[derive(Drop)]
 struct Layer<V> {
     value: Arc<V>,
     below: Option<Arc<Layer<V>>>,
+}
+
+/// Layers that nobody else has go one after another, however many they are.
+impl<V: Drop> Drop for Layer<V> {
+    fn drop(mut self) {
+        loop {
+            let Layer { value, below } = self;
+            drop(value);
+            let Some(below) = below else {
+                return;
+            };
+            match Arc::into_inner(below) {
+                Some(layer) => self = layer,
+                None => return,
+            }
+        }
+    }
 }
 
 /// Values that stand one above the other. Two piles share what they have in common.

@@ -51,7 +51,7 @@ impl Drop for Tally {
 }
 
 /// No counts yet.
-fn counts(alloc: Global) -> Result<Arc<Counts>, AllocError> {
+fn no_counts(alloc: Global) -> Result<Arc<Counts>, AllocError> {
     Ok(Arc::new(
         alloc,
         Counts {
@@ -64,7 +64,7 @@ fn counts(alloc: Global) -> Result<Arc<Counts>, AllocError> {
 }
 
 /// This number, as a value.
-fn tally(alloc: Global, counts: &Arc<Counts>, number: u64) -> Result<Arc<Tally>, AllocError> {
+fn counted(alloc: Global, counts: &Arc<Counts>, number: u64) -> Result<Arc<Tally>, AllocError> {
     let counts = Arc::try_clone(counts)?;
     counts.made.fetch_add(1, SeqCst);
     Ok(Arc::new(alloc, Tally { number, counts })?)
@@ -77,7 +77,7 @@ fn pushes<G: Guard<Numbers>>(
     counts: &Arc<Counts>,
     number: u64,
 ) -> Result<bool, AllocError> {
-    let value = tally(alloc, counts, number)?;
+    let value = counted(alloc, counts, number)?;
     for _ in 0..TRIES {
         guard.refresh();
         if push(guard, 0, alloc, &value)? {
@@ -130,7 +130,7 @@ fn by_one(
 
 #[test]
 fn what_was_pushed_last_is_popped_first(rt: HostRuntime) -> Result<(), Fail> {
-    let counts = counts(rt.alloc())?;
+    let counts = no_counts(rt.alloc())?;
     let home = Home::<Numbers, OfRows>::open(rt.alloc(), 1, 8, &CHOSEN)?;
     let popped = by_one(&home.blocks, rt.alloc(), &counts)?;
     assert_eq!(rt; popped, [Some(3), Some(2), Some(1), None]);
@@ -179,6 +179,25 @@ fn drains(blocks: &Blocks<Numbers, OfRows>, counts: &Arc<Counts>) -> Result<u64,
     Ok(popped)
 }
 
+/// Two threads at a time.
+fn by_two<R: Threads + Sync>(
+    rt: &R,
+    blocks: &Blocks<Numbers, OfRows>,
+    alloc: Global,
+    counts: &Arc<Counts>,
+) -> (
+    Result<(u64, u64), AllocError>,
+    Result<(u64, u64), AllocError>,
+)
+    requires { blocks.now.words.fixed ≡ record { batch_size = 32; roots = 1 } }
+{
+    thread::join(
+        rt,
+        || goes(blocks, alloc, counts),
+        || goes(blocks, alloc, counts),
+    )
+}
+
 /// Four threads over one memory, which ends then; answers how many values each of them has pushed and popped, and how many were left.
 fn by_four<R: Threads + Sync>(
     rt: &R,
@@ -187,20 +206,17 @@ fn by_four<R: Threads + Sync>(
 ) -> Result<([(u64, u64); 4], u64), AllocError> {
     let home = Home::<Numbers, OfRows>::open(alloc, 1, 64, &CHOSEN)?;
     let blocks = &home.blocks;
-    let two = || {
-        thread::join(
-            rt,
-            || goes(blocks, alloc, counts),
-            || goes(blocks, alloc, counts),
-        )
-    };
-    let ((a, b), (c, d)) = thread::join(rt, &two, &two);
+    let ((a, b), (c, d)) = thread::join(
+        rt,
+        || by_two(rt, blocks, alloc, counts),
+        || by_two(rt, blocks, alloc, counts),
+    );
     Ok(([a?, b?, c?, d?], drains(blocks, counts)?))
 }
 
 #[test]
 fn each_value_that_is_pushed_is_popped_once_and_dropped_once(rt: HostRuntime) -> Result<(), Fail> {
-    let counts = counts(rt.alloc())?;
+    let counts = no_counts(rt.alloc())?;
     let (by_each, left) = by_four(&rt, rt.alloc(), &counts)?;
     let (mut pushed, mut popped) = (0u64, left);
     for (one, other) in by_each {
