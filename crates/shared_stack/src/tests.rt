@@ -198,20 +198,31 @@ fn by_two<R: Threads + Sync>(
     )
 }
 
-/// Four threads over one memory, which ends then; answers how many values each of them has pushed and popped, and how many were left.
-fn by_four<R: Threads + Sync>(
+/// And twice two; answers how many values each of them has pushed and popped, and how many were left.
+fn by_each<R: Threads + Sync>(
     rt: &R,
+    blocks: &Blocks<Numbers, OfRows>,
     alloc: Global,
     counts: &Arc<Counts>,
-) -> Result<([(u64, u64); 4], u64), AllocError> {
-    let home = Home::<Numbers, OfRows>::open(alloc, 1, 64, &CHOSEN)?;
-    let blocks = &home.blocks;
+) -> Result<([(u64, u64); 4], u64), AllocError>
+    requires { blocks.now.words.fixed ≡ record { batch_size = 32; roots = 1 } }
+{
     let ((a, b), (c, d)) = thread::join(
         rt,
         || by_two(rt, blocks, alloc, counts),
         || by_two(rt, blocks, alloc, counts),
     );
     Ok(([a?, b?, c?, d?], drains(blocks, counts)?))
+}
+
+/// The same over one memory, which ends then.
+fn by_four<R: Threads + Sync>(
+    rt: &R,
+    alloc: Global,
+    counts: &Arc<Counts>,
+) -> Result<([(u64, u64); 4], u64), AllocError> {
+    let home = Home::<Numbers, OfRows>::open(alloc, 1, 64, &CHOSEN)?;
+    by_each(rt, &home.blocks, alloc, counts)
 }
 
 #[test]
