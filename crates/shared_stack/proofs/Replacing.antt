@@ -1,10 +1,10 @@
 -- What was put in the place of what was found.
-use Rattle.std.proofs.Common.{ℕ, List, [], ◌∷◌, ◌≡◌, ◌≢◌, ◌⊎◌, Bool, true, false, Option, Some, None, IfSome, IfNone, Result, Ok, Err, IfOk, is_ok, Bor, refl, sym, inl, inr, true≢false}
+use Rattle.std.proofs.Common.{ℕ, [], ◌∷◌, ◌≡◌, ◌≢◌, Bool, true, false, Option, Some, None, IfSome, IfNone, Result, Ok, Err, IfOk, is_ok, Bor, refl, sym, inl, inr, true≢false}
 use Rattle.seize_views.specs.declared.view.Deed.{Deed}
 use Rattle.seize_views.specs.declared.view.Deed.TheVariants.{Looked, Wrote}
 use Rattle.shared_stack.specs.declared.pile.Pile.{Pile}
 use Rattle.shared_stack.specs.Piles.{values}
-use Rattle.shared_stack.specs.Stacks.{Found, Replaces}
+use Rattle.shared_stack.specs.Stacks.{Replaces}
 
 -- what is so of an answer that was Ok
 pub done : {A B P : Type 0} (r : Result A B) → is_ok r ≡ true → IfOk r (λ _. P) → P

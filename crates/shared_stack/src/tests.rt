@@ -43,6 +43,13 @@ struct Tally {
 /// Numbers one above the other.
 type Numbers = Pile<Tally>;
 
+/// A memory that was opened so.
+#[derive(Drop)]
+struct Ground<'a> {
+    blocks: &'a Blocks<Numbers, OfRows>,
+    ghost chosen: { blocks.now.words.fixed ≡ record { batch_size = 32; roots = 1 } },
+}
+
 impl Drop for Tally {
     fn drop(self) {
         let Tally { number: _, counts } = self;
@@ -107,13 +114,11 @@ fn pops<G: Guard<Numbers>>(guard: &mut G, counts: &Arc<Counts>) -> Result<Option
 
 /// What three pops answer after three pushes, and one more.
 fn by_one(
-    blocks: &Blocks<Numbers, OfRows>,
+    ground: &Ground,
     alloc: Global,
     counts: &Arc<Counts>,
-) -> Result<[Option<u64>; 4], AllocError>
-    requires { blocks.now.words.fixed ≡ record { batch_size = 32; roots = 1 } }
-{
-    let Ok(mut registration) = Registration::new(blocks, &CHOSEN) else {
+) -> Result<[Option<u64>; 4], AllocError> {
+    let Ok(mut registration) = Registration::new(ground.blocks, &CHOSEN) else {
         return Err(AllocError);
     };
     let mut guard = registration.enter();
@@ -132,20 +137,17 @@ fn by_one(
 fn what_was_pushed_last_is_popped_first(rt: HostRuntime) -> Result<(), Fail> {
     let counts = no_counts(rt.alloc())?;
     let home = Home::<Numbers, OfRows>::open(rt.alloc(), 1, 8, &CHOSEN)?;
-    let popped = by_one(&home.blocks, rt.alloc(), &counts)?;
+    let ground = Ground {
+        blocks: &home.blocks,
+    };
+    let popped = by_one(&ground, rt.alloc(), &counts)?;
     assert_eq!(rt; popped, [Some(3), Some(2), Some(1), None]);
     Ok(())
 }
 
 /// Pushes numbers, and pops one after each other one; answers how many were pushed, and how many popped.
-fn goes(
-    blocks: &Blocks<Numbers, OfRows>,
-    alloc: Global,
-    counts: &Arc<Counts>,
-) -> Result<(u64, u64), AllocError>
-    requires { blocks.now.words.fixed ≡ record { batch_size = 32; roots = 1 } }
-{
-    let Ok(mut registration) = Registration::new(blocks, &CHOSEN) else {
+fn goes(ground: &Ground, alloc: Global, counts: &Arc<Counts>) -> Result<(u64, u64), AllocError> {
+    let Ok(mut registration) = Registration::new(ground.blocks, &CHOSEN) else {
         return Err(AllocError);
     };
     let mut guard = registration.enter();
@@ -162,10 +164,8 @@ fn goes(
 }
 
 /// Pops what is left, and answers how many values there were.
-fn drains(blocks: &Blocks<Numbers, OfRows>, counts: &Arc<Counts>) -> Result<u64, AllocError>
-    requires { blocks.now.words.fixed ≡ record { batch_size = 32; roots = 1 } }
-{
-    let Ok(mut registration) = Registration::new(blocks, &CHOSEN) else {
+fn drains(ground: &Ground, counts: &Arc<Counts>) -> Result<u64, AllocError> {
+    let Ok(mut registration) = Registration::new(ground.blocks, &CHOSEN) else {
         return Err(AllocError);
     };
     let mut guard = registration.enter();
@@ -182,37 +182,33 @@ fn drains(blocks: &Blocks<Numbers, OfRows>, counts: &Arc<Counts>) -> Result<u64,
 /// Two threads at a time.
 fn by_two<R: Threads + Sync>(
     rt: &R,
-    blocks: &Blocks<Numbers, OfRows>,
+    ground: &Ground,
     alloc: Global,
     counts: &Arc<Counts>,
 ) -> (
     Result<(u64, u64), AllocError>,
     Result<(u64, u64), AllocError>,
-)
-    requires { blocks.now.words.fixed ≡ record { batch_size = 32; roots = 1 } }
-{
+) {
     thread::join(
         rt,
-        || goes(blocks, alloc, counts),
-        || goes(blocks, alloc, counts),
+        || goes(ground, alloc, counts),
+        || goes(ground, alloc, counts),
     )
 }
 
 /// And twice two; answers how many values each of them has pushed and popped, and how many were left.
 fn by_each<R: Threads + Sync>(
     rt: &R,
-    blocks: &Blocks<Numbers, OfRows>,
+    ground: &Ground,
     alloc: Global,
     counts: &Arc<Counts>,
-) -> Result<([(u64, u64); 4], u64), AllocError>
-    requires { blocks.now.words.fixed ≡ record { batch_size = 32; roots = 1 } }
-{
+) -> Result<([(u64, u64); 4], u64), AllocError> {
     let ((a, b), (c, d)) = thread::join(
         rt,
-        || by_two(rt, blocks, alloc, counts),
-        || by_two(rt, blocks, alloc, counts),
+        || by_two(rt, ground, alloc, counts),
+        || by_two(rt, ground, alloc, counts),
     );
-    Ok(([a?, b?, c?, d?], drains(blocks, counts)?))
+    Ok(([a?, b?, c?, d?], drains(ground, counts)?))
 }
 
 /// The same over one memory, which ends then.
@@ -222,7 +218,10 @@ fn by_four<R: Threads + Sync>(
     counts: &Arc<Counts>,
 ) -> Result<([(u64, u64); 4], u64), AllocError> {
     let home = Home::<Numbers, OfRows>::open(alloc, 1, 64, &CHOSEN)?;
-    by_each(rt, &home.blocks, alloc, counts)
+    let ground = Ground {
+        blocks: &home.blocks,
+    };
+    by_each(rt, &ground, alloc, counts)
 }
 
 #[test]
