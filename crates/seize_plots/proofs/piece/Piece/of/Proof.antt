@@ -14,7 +14,7 @@ use types.ByLocal.{alloc_all, pass_all, free_all, look_at, get, sets, env}
 use types.Part.{agg}
 use contract.Running.{tables}
 use contract.Monad.{fact, fact_i}
-use denote.Exit.{yes, no}
+use denote.Exit.{yes}
 use denote.RattleType.{RattleType, Valss, owns}
 use denote.Struct.Struct.{within}
 use denote.Struct.Declared as declared
@@ -54,8 +54,8 @@ of_spec 𝓤 𝓛 𝓜 𝓡 wired =
     let H = 𝓛.H in let 𝓣 = tables 𝓤 H 𝓜 𝓡 𝓡.env in let Pc : RattleType = piece_of.the_row in let c = clauses 𝓛 𝓜.mem 𝓡.returns in
     let Rw : RattleType = row.the_row u64 in let Rt : RattleType = right_of.the_row heap.the_row ghosts in
     let words = plain (λ _. Rw) in let right = plain (λ _. Rt) in
-    let hs : Stays ended.signature.params ended.kept = (stay_dropped words no, (stay_dropped right no, tt)) in
-    proved 𝓛 ended hs c 𝓜 𝓡 (Goes-dropped 𝓛 0 words no (λ κs x f. refl), (Goes-dropped 𝓛 0 right no (λ κs x f. refl), tt))
+    let hs : Stays ended.signature.params ended.kept = (stay_dropped words yes, (stay_dropped right yes, tt)) in
+    proved 𝓛 ended hs c 𝓜 𝓡 (Goes-dropped 𝓛 0 words yes (λ κs x f. refl), (Goes-dropped 𝓛 0 right yes (λ κs x f. refl), tt))
     #self code.function (code.unfolded 𝓤 H 𝓜 𝓡 wired)
     (λ κs. ((λ x. one_of x.at ∷ []), ((λ _. token ∷ []), tt)))
     (λ κs. ((λ x vs so. places_told u64 x.at vs so.0), ((λ x vs so. mark_told heap.the_row vs so.0), tt))) (λ κs qs bounds a gh are.

@@ -14,7 +14,7 @@ use types.ByLocal.{alloc_all, pass_all, free_all, look_at, get, sets, env}
 use types.Part.{agg}
 use contract.Running.{tables}
 use contract.Monad.{fact, fact_i}
-use denote.Exit.{yes, no}
+use denote.Exit.{yes}
 use denote.RattleType.{RattleType, Valss, owns}
 use denote.Struct.Struct.{within}
 use denote.Struct.Declared as declared
@@ -55,9 +55,9 @@ parted_spec 𝓤 𝓛 𝓜 𝓡 wired =
     let H = 𝓛.H in let 𝓣 = tables 𝓤 H 𝓜 𝓡 𝓡.env in let Pc : RattleType = piece_of.the_row in let c = clauses 𝓛 𝓜.mem 𝓡.returns in
     let Gl : RattleType = heap.the_row in let Rw : RattleType = row.the_row u64 in let Rt : RattleType = right_of.the_row Gl ghosts in
     let self = plain (λ _. Pc) in let handle = RefOf (0 ∷ []) tt (plain (λ _. Gl)) (λ _. tt) in let addr = plain (λ _. RawPtr) in
-    let hs : Stays ended.signature.params ended.kept = (stay_dropped self no, (stay_dropped handle yes, (stay_dropped addr yes, tt))) in
+    let hs : Stays ended.signature.params ended.kept = (stay_dropped self yes, (stay_dropped handle yes, (stay_dropped addr yes, tt))) in
     proved 𝓛 ended hs c 𝓜 𝓡
-    (Goes-dropped 𝓛 1 self no (λ κs x f. refl), (Goes-dropped 𝓛 1 handle yes (λ κs x f. refl), (Goes-dropped 𝓛 1 addr yes (λ κs x f. refl), tt)))
+    (Goes-dropped 𝓛 1 self yes (λ κs x f. refl), (Goes-dropped 𝓛 1 handle yes (λ κs x f. refl), (Goes-dropped 𝓛 1 addr yes (λ κs x f. refl), tt)))
     #self code.function (code.unfolded 𝓤 H 𝓜 𝓡 wired)
     (λ κs. ((λ _. token ∷ []), (shr_vals, (rawptr_vals, tt))))
     (λ κs. ((λ x vs so. mark_told u64 vs so.0), (shr_Tells (named 0) κs.0 Gl, (rawptr_Tells, tt)))) (λ κs qs bounds a gh are.
