@@ -4,5 +4,5 @@
 mod piece;
 mod row;
 
-pub use piece::{Piece, Right, release_words, reserve_words};
+pub use piece::{Laid, Piece, Right, join_words, release_words, reserve_words};
 pub use row::Row;

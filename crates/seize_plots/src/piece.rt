@@ -33,6 +33,12 @@ impl Model for Piece {
     ghost also_owns = { λ s. piece_at s.at s.count s.words };
 }
 
+/// Where words lie, and the words.
+pub struct Laid {
+    pub at: *mut u64,
+    pub piece: Piece,
+}
+
 /// Room for so many words, at least one.
 pub fn reserve_words<A: Allocator>(
     alloc: &A,
@@ -53,6 +59,21 @@ pub fn reserve_words<A: Allocator>(
             ))
         }
         Err(refused) => Err(refused),
+    }
+}
+
+/// The words of a row, of which there is at least one, with the right to give their memory back.
+pub fn join_words(words: Row<u64>, right: Right<Global>) -> Laid
+    requires { (right.at ≡ words.at) × (length words.items ≡ right.count) × Filled words.filled 0 (length words.items) × (0 < right.count) }
+    ensures { (result.at ≡ right.at) × (result.piece.at ≡ right.at) × (result.piece.count ≡ right.count) × (result.piece.words ≡ words.items) }
+{
+    let Row { at } = words;
+    let Right { marker: _ } = right;
+    Laid {
+        at,
+        piece: Piece {
+            marker: PhantomData,
+        },
     }
 }
 
@@ -83,18 +104,6 @@ impl Piece {
         requires { self.count ≡ 0 }
     {
         let Piece { marker: _ } = self;
-    }
-
-    /// So many words, at least one.
-    pub fn of(words: Row<u64>, right: Right<Global>) -> Piece
-        requires { (right.at ≡ words.at) × (length words.items ≡ right.count) × Filled words.filled 0 (length words.items) × (0 < right.count) }
-        ensures { (result.at ≡ right.at) × (result.count ≡ right.count) × (result.words ≡ words.items) }
-    {
-        let Row { at: _ } = words;
-        let Right { marker: _ } = right;
-        Piece {
-            marker: PhantomData,
-        }
     }
 
     /// The words, at least one, and the right to give their memory back.

@@ -32,7 +32,7 @@ use Rattle.core.proofs.alloc.Calls.{Al as Handle, Gives, at_gives, Gives-goes, G
 use Rattle.std.proofs.raw_atomic.Walks.{proved, leaves}
 use Rattle.std.proofs.raw_atomic.Calls.{fm}
 use Rattle.seize_plots.specs.Pieces.{words_held}
-use Rattle.seize_plots.proofs.Laid.{laid_out, given_up}
+use Rattle.seize_plots.proofs.Room.{laid_out, given_up}
 use Rattle.seize_plots.specs.contracts.row.Row as row
 use Rattle.seize_plots.specs.contracts.piece.Right as right_of
 use Rattle.seize_plots.proofs.Fields.{token, mark_told, one_of, one_good, places_told}

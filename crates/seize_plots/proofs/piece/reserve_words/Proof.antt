@@ -43,7 +43,7 @@ use Rattle.seize_plots.specs.Pieces.{words_held}
 use Rattle.seize_plots.specs.contracts.row.Row as row
 use Rattle.seize_plots.specs.contracts.piece.Right as right_of
 use Rattle.seize_plots.proofs.Fields.{token, Mark, mark_made, one_of, Places, places_made}
-use Rattle.seize_plots.proofs.Laid.{laid_out, laid, naughts, Empty}
+use Rattle.seize_plots.proofs.Room.{laid_out, laid, naughts, Empty}
 use Rattle.seize_plots.specs.contracts.piece.reserve_words.{ended, clauses}
 use Rattle.seize_plots.specs.contracts.piece.reserve_words.Key.{name as #self}
 use Rattle.seize_plots.proofs.piece.reserve_words.Statement.{statement}
