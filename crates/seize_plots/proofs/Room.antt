@@ -1,5 +1,6 @@
 -- Memory for words, as it is had and given back. Assumes `Logic`.
-use Rattle.std.proofs.Common.{◌≡◌, ℕ, ◌*◌, ◌^◌, ◌<◌, false, List, [], ◌∷◌, length, replicate, refl, sym, arith, w64}
+use Rattle.std.proofs.Common.{◌≡◌, ℕ, zero, suc, ◌*◌, ◌^◌, ◌<◌, false, List, [], ◌∷◌, length, replicate, refl, sym, arith, w64}
+use Rattle.std.specs.Prelude.{slice_index}
 use Rattle.std.proofs.lemmas.List.{length-replicate}
 use seplogic.Ra.Ura.{Ura}
 use mir.Syntax.{ty_int, ty_array}
@@ -41,3 +42,10 @@ module _ {M : Type 1} {𝓤 : Ura M} (𝓛 : Logic 𝓤) (n b o : ℕ) where
       use1 𝓛 (given (Fits 𝓛 (block_ptr b o) ws) (‵ (row b o ws))) (whole_out 𝓛 (block_ptr b o) ws) $ learn ! (λ _.
       use1 𝓛 (‵ (froom (ty_array (ty_int w64) (length ws)) b o)) (words_room 𝓛 u64 b ws o) $
       rewrite ! 0 (λ (k : ℕ). ‵ (froom (ty_array (ty_int w64) k) b o)) more refl $ done !)
+
+-- words that are all 0
+pub zeros_are : (n : ℕ) (xs : List ℕ) → length xs ≡ n → ((k : ℕ) → slice_index xs k ≡ 0) → xs ≡ replicate n 0
+zeros_are zero [] l none = refl
+zeros_are zero (x ∷ xs) l none = absurd (omega (arith, l))
+zeros_are (suc n) [] l none = absurd (omega (arith, l))
+zeros_are (suc n) (x ∷ xs) l none = let first : x ≡ 0 = none 0 in let rest = zeros_are n xs (omega (arith, l)) (λ k. none (suc k)) in cc (first, rest)

@@ -1,8 +1,12 @@
 //! What memories are made of: places side by side, and words with the right to give their memory back.
 #![tactic(auto)]
 
+mod beside;
+mod filling;
 mod piece;
 mod row;
 
+pub use beside::{give_words, lay_words};
+pub use filling::{empty, fill};
 pub use piece::{Laid, Piece, Right, join_words, release_words, reserve_words};
 pub use row::Row;
