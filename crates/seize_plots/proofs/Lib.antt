@@ -1,3 +1,4 @@
 pub mod Fields
 pub mod Placing
 pub mod Room
+pub mod Spots

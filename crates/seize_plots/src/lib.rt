@@ -3,10 +3,14 @@
 
 mod beside;
 mod filling;
+mod kept;
 mod piece;
+mod pieces;
 mod row;
 
 pub use beside::{give_words, lay_words};
 pub use filling::{empty, fill};
+pub use kept::Kept;
 pub use piece::{Laid, Piece, Right, join_words, release_words, reserve_words};
+pub use pieces::Pieces;
 pub use row::Row;
