@@ -6,6 +6,7 @@ mod filling;
 mod kept;
 mod piece;
 mod pieces;
+mod plot;
 mod row;
 
 pub use beside::{give_words, lay_words};
@@ -13,4 +14,5 @@ pub use filling::{empty, fill};
 pub use kept::Kept;
 pub use piece::{Laid, Piece, Right, join_words, release_words, reserve_words};
 pub use pieces::Pieces;
+pub use plot::{Alone, Deed, bytes_of, fits, lay_strip, release, reserve, skip_of, stride_of};
 pub use row::Row;
