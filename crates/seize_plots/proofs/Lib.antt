@@ -2,3 +2,4 @@ pub mod Fields
 pub mod Placing
 pub mod Room
 pub mod Spots
+pub mod Emptied

@@ -1,6 +1,6 @@
 -- The words in the first of some spots, and in the others; and those of blocks whose values places hold. Assumes `Logic`.
-use Rattle.std.specs.Prelude.{map}
-use Rattle.std.proofs.Common.{◌≡◌, ℕ, ◌*◌, ◌^◌, ◌<◌, List, [], ◌∷◌, Option, Some, None, refl, arith}
+use Rattle.std.specs.Prelude.{map, slice_index_or, ◌+◌, ◌<◌, zero, suc, length, drop as rest_from}
+use Rattle.std.proofs.Common.{◌≡◌, ℕ, ◌*◌, ◌^◌, List, [], ◌∷◌, Option, Some, None, refl, sym, ap, ◌∙◌, arith}
 use seplogic.Ra.Ura.{Ura}
 use base.Logic.{ent, sep, emp, id⊢}
 use base.Fml.{Fml, ftrue, fsep, fex}
@@ -31,3 +31,23 @@ module _ {M : Type 1} {𝓤 : Ura M} (𝓛 : Logic 𝓤) where
   spots (Some x ∷ xs) = qed 𝓛 (‵ (pieces kept_words (Some x ∷ xs)) ∷ []) ∵ fsplit ! $ move ! (1 ∷ []) $
       use1 𝓛 (‵ (all_pieces (map spot_of xs))) (spots xs) $ move ! (1 ∷ []) $
       use1 𝓛 (‵ (some_piece (x.at, x.count))) (id⊢ 𝓤 _) $ fjoin ! $ done !
+
+-- the spots from a place on
+pub spot_here : {T : Type 0} (xs : List (Option (Kept T))) (i : ℕ) (x : Option (Kept T)) → i < length xs → x ≡ slice_index_or xs i x
+    → first_spot (rest_from i (map spot_of xs)) ≡ spot_of x
+spot_here [] i x lt is = absurd (omega (arith, lt))
+spot_here (y ∷ ys) zero x lt is = ap spot_of (sym is)
+spot_here (y ∷ ys) (suc i) x lt is = spot_here ys i x (omega (arith, lt)) is
+
+spots_on : (ss : List (Ptr × ℕ)) (i : ℕ) → other_spots (rest_from i ss) ≡ rest_from (suc i) ss
+spots_on [] zero = refl
+spots_on [] (suc i) = refl
+spots_on (s ∷ ss) zero = refl
+spots_on (s ∷ ss) (suc i) = spots_on ss i
+
+pub spots_after : (ss : List (Ptr × ℕ)) (i : ℕ) → other_spots (rest_from i ss) ≡ rest_from (i + 1) ss
+spots_after ss i = let next : suc i ≡ i + 1 = omega arith in spots_on ss i ∙ ap (λ (k : ℕ). rest_from k ss) next
+
+pub none_left : {T : Type 0} (xs : List (Option (Kept T))) → rest_from (length xs) (map spot_of xs) ≡ []
+none_left [] = refl
+none_left (x ∷ xs) = none_left xs

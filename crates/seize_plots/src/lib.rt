@@ -2,6 +2,7 @@
 #![tactic(auto)]
 
 mod beside;
+mod emptying;
 mod filling;
 mod kept;
 mod piece;
@@ -10,6 +11,7 @@ mod plot;
 mod row;
 
 pub use beside::{give_words, lay_words};
+pub use emptying::{drain, give_up};
 pub use filling::{empty, fill};
 pub use kept::Kept;
 pub use piece::{Laid, Piece, Right, join_words, release_words, reserve_words};
