@@ -1,6 +1,5 @@
 //! Places are emptied, and what lies beside their values is given back.
-ghost use Rattle.std.specs.Prelude.{◌≡◌, ◌*◌, ◌^◌, ◌<◌, None, map, true, replicate, slice_index_or};
-ghost use denote.RawPtr.{null_ptr};
+ghost use Rattle.std.specs.Prelude.{◌≡◌, ℕ, ◌*◌, ◌^◌, ◌<◌, None, map, true, slice_index_or};
 ghost use Rattle.core.specs.Mem.Slots.{slots_items, slots_filled, slots_ptr, slots_len, IsFull};
 ghost use Rattle.seize_seats.specs.Strips.{further};
 ghost use Rattle.seize_seats.specs.Doors.{block_bytes};
@@ -75,4 +74,43 @@ pub fn give_up<T: Drop>(
         bytes_of::<Kept<T>>(count, skip),
     );
     others
+}
+
+/// The places of a strip that has no value yet are emptied.
+fn vacate<T>(slots: &mut Slots<Option<Kept<T>>>, count: usize, pieces: Pieces)
+    requires { (slots_len slots.old ≡ count) × IsFull slots.old × ((k : ℕ) → slice_index_or (slots_items slots.old) k None ≡ None)
+        × (pieces.spots ≡ map spot_of (slots_items slots.old)) }
+    ensures same { (slots_ptr slots.new ≡ slots_ptr slots.old) × (slots_len slots.new ≡ slots_len slots.old) }
+    ensures empty { AreEmpty (slots_filled slots.new) (slots_len slots.new) }
+{
+    let mut left = pieces;
+    for index in 0..count {
+        match slots.take(index) {
+            None => {
+                let (piece, others) = left.next();
+                piece.end();
+                left = others;
+            }
+            Some(_) => unreachable!(),
+        }
+    }
+    left.over();
+}
+
+/// Gives the block of a fresh strip back.
+pub fn take_back<T>(alloc: &Global, strips: Alone<T>, at: *mut Option<Kept<T>>, count: usize)
+    requires { HasFirst (KeptOf T.row) at count strips.strips × (strips.fresh ≡ true) × (block_bytes (KeptOf T.row) count < 2 ^ 63)
+        × (count * stride (KeptOf T.row) < 2 ^ 63) }
+{
+    let skip = skip_of::<Kept<T>>(count);
+    let (places, words, deed, _, pieces) = strips.parted(alloc, at, count, skip);
+    let mut slots = places.into_slots(count);
+    vacate(&mut slots, count, pieces);
+    release::<Kept<T>, Global>(
+        alloc,
+        Row::of(slots),
+        words,
+        deed,
+        bytes_of::<Kept<T>>(count, skip),
+    );
 }

@@ -11,7 +11,7 @@ mod plot;
 mod row;
 
 pub use beside::{give_words, lay_words};
-pub use emptying::{drain, give_up};
+pub use emptying::{drain, give_up, take_back};
 pub use filling::{empty, fill};
 pub use kept::Kept;
 pub use piece::{Laid, Piece, Right, join_words, release_words, reserve_words};
