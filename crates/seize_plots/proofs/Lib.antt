@@ -1,0 +1,5 @@
+pub mod Fields
+pub mod Placing
+pub mod Room
+pub mod Spots
+pub mod Emptied
