@@ -1,9 +1,11 @@
 //! Where the values of blocks lie, and where the doors do.
 
+use seize_plots::Kept;
+
 /// The address of the first of the places for values.
 #[derive(Drop)]
 pub(crate) struct Place<T> {
-    pub(crate) at: *mut Option<T>,
+    pub(crate) at: *mut Option<Kept<T>>,
 }
 
 /// The address of the first of the doors, behind which further strips of numbers lie.

@@ -41,11 +41,14 @@ module _ {T : Type 0} where
   abbrev pub lies_at : Kept T → Ptr
   lies_at x = x.at
 
-  -- where the own words of a block lie, and how many they are
   abbrev pub kept_words : Pieces (Kept T)
   kept_words = record { at = lies_at; count = λ x. x.count }
+
+  -- where the own words of a block lie, and how many they are
+  abbrev pub lies : Kept T → Ptr × ℕ
+  lies x = (x.at, x.count)
 
   -- and so of the block whose value is in a place
   abbrev pub spot_of : Option (Kept T) → Ptr × ℕ
   spot_of None = (null_ptr, 0)
-  spot_of (Some x) = (x.at, x.count)
+  spot_of (Some x) = lies x
