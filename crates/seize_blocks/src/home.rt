@@ -6,15 +6,14 @@ ghost use Rattle.core.specs.Mem.Slots.Ownership.{Filled};
 ghost use Rattle.seize_seats.specs.State.{Starts};
 ghost use Rattle.seize_seats.specs.Lines.{whole};
 ghost use Rattle.seize_seats.specs.Doors.{IsFurther, AreBehind};
-ghost use Rattle.seize_seats.specs.Plots.{AreEmpty};
+ghost use Rattle.seize_plots.specs.contracts.kept.Kept.{the_row as KeptOf};
 
 use crate::blocks::{Blocks, MOST};
 use crate::place::{Doors, Place};
-use crate::plot::{Alone, give_up};
-use crate::row::Row;
 use crate::rule::Rule;
 use crate::words::Words;
 use core::slots::{Lease, Slots, release, reserve};
+use seize_plots::{Alone, Kept, Row, drain, empty, fill, give_up};
 use std::alloc::{AllocError, Global};
 use std::ptr::{NonNull, null_mut};
 
@@ -22,7 +21,7 @@ use std::ptr::{NonNull, null_mut};
 pub struct Home<T: Drop, R: Rule<T>> {
     pub blocks: Blocks<T, R>,
     ground: Ground<u64>,
-    places: Ground<Option<T>>,
+    places: Ground<Option<Kept<T>>>,
     doorway: Ground<*mut u64>,
     ghost lies: { (lease_ptr ground.lease ≡ blocks.words.words) × (lease_ptr places.lease ≡ blocks.values.at) × (lease_ptr doorway.lease ≡ blocks.doors.at) },
     ghost size: { (lease_len ground.lease ≡ whole blocks.words.id.roots blocks.words.id.size) × (lease_len places.lease ≡ blocks.words.id.size)
@@ -36,30 +35,6 @@ pub struct Ground<E> {
     ghost leased: { lease_heap lease ≡ alloc },
 }
 
-/// Each place holds 0.
-pub(crate) fn fill(slots: &mut Slots<u64>, count: usize)
-    requires { slots_len slots.old ≡ count }
-    ensures full { IsFull slots.new }
-    ensures zeros { (k : ℕ) → slice_index (slots_items slots.new) k ≡ 0 }
-    ensures same { (slots_ptr slots.new ≡ slots_ptr slots.old) × (slots_len slots.new ≡ slots_len slots.old) }
-{
-    for index in 0..count {
-        slots.put(index, 0);
-    }
-}
-
-/// Each place holds none.
-pub(crate) fn empty<T>(slots: &mut Slots<Option<T>>, count: usize)
-    requires { slots_len slots.old ≡ count }
-    ensures full { IsFull slots.new }
-    ensures nones { (k : ℕ) → slice_index_or (slots_items slots.new) k None ≡ None }
-    ensures same { (slots_ptr slots.new ≡ slots_ptr slots.old) × (slots_len slots.new ≡ slots_len slots.old) }
-{
-    for index in 0..count {
-        slots.put(index, None);
-    }
-}
-
 /// Each place holds no address.
 fn shut(slots: &mut Slots<*mut u64>, count: usize)
     requires { slots_len slots.old ≡ count }
@@ -69,17 +44,6 @@ fn shut(slots: &mut Slots<*mut u64>, count: usize)
 {
     for index in 0..count {
         slots.put(index, null_mut());
-    }
-}
-
-/// What each place holds is dropped.
-pub(crate) fn drain<T: Drop>(slots: &mut Slots<Option<T>>, count: usize)
-    requires { (slots_len slots.old ≡ count) × IsFull slots.old }
-    ensures same { (slots_ptr slots.new ≡ slots_ptr slots.old) × (slots_len slots.new ≡ slots_len slots.old) }
-    ensures empty { AreEmpty (slots_filled slots.new) (slots_len slots.new) }
-{
-    for index in 0..count {
-        drop(slots.take(index));
     }
 }
 
@@ -152,9 +116,9 @@ fn give_back<E>(ground: Ground<E>, slots: Slots<E>)
     release(&alloc, slots, lease);
 }
 
-/// Gives back all further strips: the doors from the first on have the addresses of as many, each of as many numbers as come before it.
+/// Gives back all further strips, with the own words of their blocks: the doors from the first on have the addresses of as many, each of as many numbers as come before it.
 fn clear<T: Drop>(alloc: &Global, strips: Alone<T>, doors: &mut Slots<*mut u64>, least: u64)
-    requires { IsFull doors.old × (slots_len doors.old ≡ 32) × AreBehind (IsFurther T.row least) 0 strips.strips (slots_items doors.old) }
+    requires { IsFull doors.old × (slots_len doors.old ≡ 32) × AreBehind (IsFurther (KeptOf T.row) least) 0 strips.strips (slots_items doors.old) }
     ensures { (slots_ptr doors.new ≡ slots_ptr doors.old) × (slots_len doors.new ≡ slots_len doors.old) }
 {
     let mut left = strips;
@@ -162,7 +126,12 @@ fn clear<T: Drop>(alloc: &Global, strips: Alone<T>, doors: &mut Slots<*mut u64>,
     for door in 0..32 {
         match NonNull::new(doors.take(door)) {
             Some(at) => {
-                left = give_up(alloc, left, at.cast::<Option<T>>().as_ptr(), count as usize);
+                left = give_up(
+                    alloc,
+                    left,
+                    at.cast::<Option<Kept<T>>>().as_ptr(),
+                    count as usize,
+                );
                 count = count * 2;
             }
             None => return,
@@ -180,15 +149,15 @@ impl<T: Drop, R: Rule<T>> Home<T, R> {
         let count = if count == 0 { 1 } else { count };
         let long = ((roots + roots + 32) * 16 + count * 5) as usize;
         let (row, ground) = lay(alloc, long)?;
-        let (empty, places) = match lay_empty::<T>(alloc, count as usize) {
+        let (nulls, doorway) = match lay_doors(alloc, 32) {
             Ok(laid) => laid,
             Err(refused) => {
                 give_back(ground, row.into_slots(long));
                 return Err(refused);
             }
         };
-        match lay_doors(alloc, 32) {
-            Ok((nulls, doorway)) => {
+        match lay_empty::<Kept<T>>(alloc, count as usize) {
+            Ok((empty, places)) => {
                 let (words, values, doors) = Words::open(
                     row, empty, nulls, roots, count, MOST, fixed,
                 );
@@ -209,9 +178,7 @@ impl<T: Drop, R: Rule<T>> Home<T, R> {
             }
             Err(refused) => {
                 give_back(ground, row.into_slots(long));
-                let mut slots = empty.into_slots(count as usize);
-                drain(&mut slots, count as usize);
-                give_back(places, slots);
+                give_back(doorway, nulls.into_slots(32));
                 Err(refused)
             }
         }
@@ -236,7 +203,7 @@ impl<T: Drop, R: Rule<T>> Drop for Home<T, R> {
         } = blocks;
         let Place { at } = values;
         let Doors { at: nulls } = doors;
-        let (row, kept, shut, strips) = words.close(at, nulls);
+        let (row, kept, shut, strips, pieces) = words.close(at, nulls);
         let mut open = shut.into_slots(32);
         clear(&alloc, strips, &mut open, count);
         give_back(doorway, open);
@@ -245,7 +212,7 @@ impl<T: Drop, R: Rule<T>> Drop for Home<T, R> {
             row.into_slots(((roots + roots + 32) * 16 + count * 5) as usize),
         );
         let mut slots = kept.into_slots(count as usize);
-        drain(&mut slots, count as usize);
+        drain(&alloc, &mut slots, count as usize, pieces);
         give_back(places, slots);
     }
 }

@@ -1,4 +1,5 @@
 //! Where the values of blocks lie, and where the doors do.
+ghost use Rattle.seize_plots.specs.Somewhere.{AreBeside};
 
 use seize_plots::Kept;
 
@@ -18,6 +19,14 @@ pub(crate) struct Doors {
 #[derive(Drop)]
 pub(crate) struct Address {
     pub(crate) at: *mut u64,
+}
+
+/// Where words of a block's own lie, and how many they are.
+#[derive(Drop)]
+pub(crate) struct Beside {
+    pub(crate) at: *mut u64,
+    pub(crate) count: u64,
+    pub(crate) ghost beside: { AreBeside at count },
 }
 
 unsafe impl Send for Doors {}

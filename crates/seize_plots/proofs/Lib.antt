@@ -3,3 +3,4 @@ pub mod Placing
 pub mod Room
 pub mod Spots
 pub mod Emptied
+pub mod Somewhere

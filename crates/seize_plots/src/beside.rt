@@ -1,5 +1,6 @@
 //! The words of a block's own are laid, and given back.
 ghost use Rattle.std.specs.Prelude.{◌≡◌, IfSome, replicate};
+ghost use Rattle.seize_plots.specs.Somewhere.{AreBeside};
 
 use crate::filling::fill;
 use crate::piece::{Laid, Piece, join_words, release_words, reserve_words};
@@ -10,6 +11,7 @@ use std::ptr::null_mut;
 /// So many words, each 0, where there is memory for them: at null where they are none.
 pub fn lay_words(alloc: &Global, count: u64) -> Option<Laid>
     ensures lies { IfSome result (λ l. (l.piece.at ≡ l.at) × (l.piece.count ≡ count)) }
+    ensures beside { IfSome result (λ l. AreBeside l.at count) }
     ensures zeros { IfSome result (λ l. l.piece.words ≡ replicate count 0) }
 {
     if count == 0 {

@@ -70,7 +70,7 @@ use Rattle.seize_plots.specs.Pieces.{kept_words, value_of, lies}
 use Rattle.seize_blocks.specs.Visiting.{seat_coded}
 use Rattle.seize_seats.specs.Visits.{Visit, HoldsKept, keeps_kept, then_kept}
 use Rattle.seize_seats.proofs.Visits.{make_allowed}
-use Rattle.seize_blocks.proofs.Lives.{kept_lives}
+use Rattle.seize_blocks.proofs.Lives.{kept_lives, kept_goes}
 use Rattle.seize_plots.specs.Pieces.{piece_at}
 use Rattle.seize_plots.specs.contracts.piece.Piece as piece_of
 
@@ -104,7 +104,7 @@ put_spec 𝓤 𝓛 𝓜 𝓡 wired X P U F LX LP LU LF g d _ =
             Goes-dropped 𝓛 6 num yes (λ κs x f. refl),
             (
               Goes-dropped 𝓛 6 (plain (λ _. RawPtr)) yes (λ κs x f. refl),
-              (Goes-dropped 𝓛 6 (plain (λ _. K₀)) no (λ κs x f. refl), (Goes-dropped 𝓛 6 (plain (λ _. Pc)) yes (λ κs x f. refl), tt)),
+              (kept_goes 𝓛 6 X, (Goes-dropped 𝓛 6 (plain (λ _. Pc)) yes (λ κs x f. refl), tt)),
             ),
           ),
         ),
@@ -131,7 +131,7 @@ put_spec 𝓤 𝓛 𝓜 𝓡 wired X P U F LX LP LU LF g d _ =
     keep ! (5 ∷ 1 ∷ 0 ∷ []) $ heard ! Asked (λ asked. heard ! (κs.1.1.0 ⊑ X.lives) (λ inc. split ! $ split3 ! $ move ! (3 ∷ []) $ fsplit3 ! $ fsplit ! $ move ! (2 ∷ []) $ fsplit3 ! $
     -- [the seat's address; the seat, by two; the address of self; self; the rest; the tokens; the others]
     keep ! (4 ∷ 6 ∷ 1 ∷ 2 ∷ 7 ∷ 8 ∷ 5 ∷ []) $ move ! (6 ∷ []) $ fsplit3 ! $ move ! (2 ∷ []) $ fsplit3 ! $ move ! (2 ∷ []) $ fsplit ! $ fsplit ! $
-    keep ! (6 ∷ 4 ∷ 8 ∷ 9 ∷ 10 ∷ 11 ∷ 12 ∷ 13 ∷ 1 ∷ []) $
+    keep ! (5 ∷ 4 ∷ 7 ∷ 8 ∷ 9 ∷ 10 ∷ 11 ∷ 12 ∷ 1 ∷ []) $
     -- [the claim; the value; self; its token; the seat, by two; its token; the others; the own words, which stay last]
     fsplit ! $ drop ! $ rewrite ! 0 (λ (u : ℕ × ℕ × ℕ). ‵ (claim_owns u.0 u.1 u.2)) (λ i. (asked.1 i, asked.3 i, asked.2 i)) refl $
     rewrite ! 1 (λ (ws : List Val). ‵ (K₀.own_val new ws)) got.1 refl $
@@ -226,4 +226,4 @@ put_spec 𝓤 𝓛 𝓜 𝓡 wired X P U F LX LP LU LF g d _ =
     move ! (1 ∷ 4 ∷ []) $ join ! $ move ! (2 ∷ 0 ∷ []) $ join ! $
     use0 𝓛 (raw (fact 𝓤 Told)) (fact_i 𝓤 Told (emp 𝓤) (sym asked.0, refl, such.0)) $ feq_i ! (List Val) (vunit ∷ []) (vunit ∷ []) refl $
     returns ! (look_at ! 0 refl) $ free_all ! refl $ keep ! (2 ∷ 3 ∷ 0 ∷ 1 ∷ []) $
-    by ! (leaves 𝓛 En hs c y vunit tt (tt, (h', (tt, (tt, (tt, (tt, (tt, tt))))))) (tt, (tt, (tt, (tt, (tt, (tt, (tt, tt))))))))))))))))))))
+    by ! (leaves 𝓛 En hs c y vunit tt (tt, (h', (tt, (tt, (tt, ((tt, tt), (tt, tt))))))) (tt, (tt, (tt, (tt, (tt, (tt, (tt, tt))))))))))))))))))))

@@ -86,7 +86,7 @@ refuse_spec 𝓤 𝓛 𝓜 𝓡 wired X P U F LX LP LU LF g d _ =
     let o₂ : ℕ = a.1.1.0.ref_ptr.1 in
     let x : X.Denot = a.1.1.0.now in let count : ℕ = a.1.1.1.0 in
     let so : Out K₀.Denot → U.Denot × Visit → Type 0 = then_kept value_of (g.then h.view (Make x count)) in
-    let kept : K₀.Denot = record { value = x; at = null_ptr; count = 0 } in let out : Out K₀.Denot = Made (Err kept) in
+    let kept : K₀.Denot = record { value = x; at = null_ptr; count = 0; beside = refl } in let out : Out K₀.Denot = Made (Err kept) in
     let others : Fml = fsep (flft κs.1.1.0 qs.1.1.0) (fsep (flft κs.1.1.1.0 qs.1.1.1.0) (fsep (flft κs.1.1.1.1.0 qs.1.1.1.1.0)
     (fsep (flft κs.1.1.1.1.1.0 qs.1.1.1.1.1.0) (fsep (flft κs.1.1.1.1.1.1.0 qs.1.1.1.1.1.1.0) ftrue)))) in
     let Asked : Type 0 = (h.base ≡ z.views_name) × Allows rule g.keeps id h.view (Make x count) (g.then h.view (Make x count)) in

@@ -71,7 +71,8 @@ use Rattle.seize_plots.specs.Pieces.{kept_words, value_of, lies}
 use Rattle.seize_blocks.specs.Visiting.{seat_coded}
 use Rattle.seize_seats.specs.Visits.{Visit, HoldsKept, keeps_kept, then_kept}
 use Rattle.seize_seats.proofs.Visits.{rewrite_allowed, owned_kept}
-use Rattle.seize_blocks.proofs.Lives.{kept_lives}
+use Rattle.seize_seats.specs.Lendings.{IsValueOf}
+use Rattle.seize_blocks.proofs.Lives.{kept_lives, kept_goes}
 
 pub rewrite_spec : {M : Type 1} → statement M
 rewrite_spec 𝓤 𝓛 𝓜 𝓡 wired X P U F LX LP LU LF g d _ =
@@ -100,7 +101,7 @@ rewrite_spec 𝓤 𝓛 𝓜 𝓡 wired X P U F LX LP LU LF g d _ =
             Goes-dropped 𝓛 6 num yes (λ κs x f. refl),
             (
               Goes-dropped 𝓛 6 (plain (λ _. RawPtr)) yes (λ κs x f. refl),
-              (Goes-dropped 𝓛 6 (plain (λ _. K₀)) no (λ κs x f. refl), tt),
+              (kept_goes 𝓛 6 X, tt),
             ),
           ),
         ),
@@ -223,4 +224,4 @@ rewrite_spec 𝓤 𝓛 𝓜 𝓡 wired X P U F LX LP LU LF g d _ =
     move ! (1 ∷ 3 ∷ []) $ join ! $ move ! (2 ∷ 0 ∷ []) $ join ! $
     use0 𝓛 (raw (fact 𝓤 Told)) (fact_i 𝓤 Told (emp 𝓤) (sym asked.0, refl, (x, refl, such.0))) $
     returns ! (look_at ! 0 refl) $ free_all ! refl $ keep ! (1 ∷ 2 ∷ 3 ∷ 0 ∷ []) $
-    by ! (leaves 𝓛 En hs c y w (Some x) (tt, (h', (tt, (tt, (tt, (tt, tt)))))) (tt, (tt, (tt, (tt, (tt, (tt, tt)))))))))))))))))))))
+    by ! (leaves 𝓛 En hs c y w (Some x) (tt, (h', (tt, (tt, (tt, ((tt, tt), tt)))))) (tt, (tt, (tt, (tt, (tt, (tt, tt)))))))))))))))))))))

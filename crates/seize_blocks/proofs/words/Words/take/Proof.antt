@@ -11,7 +11,7 @@ use base.Share.{three_quarters}
 use base.Logic.{SProp, ent, sep, emp, id⊢, via}
 use types.Logic.{sem}
 use base.Fml.{Lft, Share, Fml, ftrue, fsep, fex, flft, fhide, froom, fat}
-use types.Kit.{‵, raw, ◌⊛◌, given, later, mean, at_ret, ◌$◌, ◌∵◌, !, qed, by, move, keep, drop, split, split3, join, fsplit, fsplit3, fjoin, fjoin3, fpick, learn, use0, use1, use2, use3, await, suffices, rewrite, feq_i, some as items, pick, group}
+use types.Kit.{‵, raw, ◌⊛◌, given, later, mean, at_ret, ◌$◌, ◌∵◌, !, qed, by, move, keep, drop, split, split3, join, fsplit, fsplit3, fjoin, fjoin3, fpick, fpack, learn, use0, use1, use2, use3, await, suffices, rewrite, feq_i, some as items, pick, group}
 use types.Run.{stop, fld, load, look_raw, lit, size_word, of_opd, bin, no_more, and_then, first, blocks, exec, calls, returns, enter, init, assigns}
 use types.ByLocal.{alloc_all, pass_all, free_all, look_at, get, through, sets, sets_last, is, env, lands_as}
 use types.Part.{agg, sub, whole, look_in}
@@ -33,7 +33,7 @@ use denote.Param.{param, bounded}
 use denote.Param.Laws.{Laws, param_laws}
 use denote.Builtin.{RefOf, RawPtr, u64}
 use denote.Struct.Members.{Member}
-use denote.Struct.Struct.{within}
+use denote.Struct.Struct.{within, as_fields}
 use denote.Struct.Declared as declared
 use denote.Struct.Tuple.{Tuple, tuple_type}
 use denote.Struct.Lending.{lent_out}
