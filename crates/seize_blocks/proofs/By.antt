@@ -1,5 +1,5 @@
 -- What is asked of the words of a strip is what is known of the strip.
-use Rattle.std.proofs.Common.{◌≡◌, ℕ, Option, None, Some, IsSome, replicate, refl, sym, ap, ◌∙◌, subst, arith, ◌*◌, ◌+◌, ◌<◌, ◌≤◌, ◌^◌}
+use Rattle.std.proofs.Common.{◌≡◌, ◌⊎◌, inl, inr, ℕ, Option, None, Some, IsSome, replicate, refl, sym, ap, ◌∙◌, subst, arith, ◌*◌, ◌+◌, ◌<◌, ◌≤◌, ◌^◌}
 use denote.RawPtr.{Ptr, InBlock}
 use Rattle.seize_words.specs.Op.{Op, Out, Make, Take, Rewrite}
 use Rattle.seize_words.specs.declared.at.At.{At}
@@ -15,6 +15,8 @@ use Rattle.seize_seats.proofs.Visits.{visits_found, value_found}
 use Rattle.seize_plots.specs.Pieces.{value_of, lies, lies_at}
 use Rattle.seize_plots.specs.declared.kept.Kept.{Kept}
 use Rattle.seize_plots.specs.declared.piece.Piece.{Piece}
+use Rattle.seize_plots.specs.Somewhere.{AreBeside}
+use Rattle.seize_plots.proofs.Somewhere.{beside_none}
 use Rattle.seize_seats.specs.Owned.{BaseId}
 use Rattle.seize_blocks.specs.Placed.{IsItsPlace, IsItsSign, IsItsIndex, HasWord}
 use Rattle.seize_blocks.specs.declared.claim.Claim.{Claim}
@@ -124,3 +126,8 @@ own_lies {T} {V} {W} holds keeps id v visit b i s p address place z index is at 
   where
     seen : AreSeenAt lies_at (HoldsKept value_of lies holds) id (v, Some (b, s)) b s.0
     seen t ok here = let f = visits_found value_of lies holds keeps t id v b s ok here in (f.0, f.1, ap (λ (u : Ptr × ℕ). u.0) f.2)
+
+-- a word that is looked for elsewhere is none
+pub own_away : (p : Ptr) (n i : ℕ) → AreBeside p n → ((0 < n) × (2 ^ 60 ≤ i)) ⊎ (n ≤ 0) → InBlock p → i * 8 < 2 ^ 63 → ⊥
+own_away p n i is (inl far) there few = let high = far.1 in omega (arith, high, few)
+own_away p n i is (inr none) there few = beside_none p n is (omega (arith, none)) there

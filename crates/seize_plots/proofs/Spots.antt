@@ -1,15 +1,14 @@
 -- The words in the first of some spots, and in the others; and those of blocks whose values places hold. Assumes `Logic`.
 use Rattle.std.specs.Prelude.{map, slice_index_or, ◌+◌, ◌<◌, zero, suc, length, drop as rest_from}
-use Rattle.std.proofs.Common.{◌≡◌, ℕ, ◌*◌, ◌^◌, List, [], ◌∷◌, Option, Some, None, refl, sym, ap, ◌∙◌, arith}
+use Rattle.std.proofs.Common.{◌≡◌, ℕ, List, [], ◌∷◌, Option, Some, None, refl, sym, ap, ◌∙◌, arith}
 use seplogic.Ra.Ura.{Ura}
 use base.Logic.{ent, sep, emp, id⊢}
-use base.Fml.{Fml, ftrue, fsep, fex}
+use base.Fml.{ftrue}
 use types.Logic.{Logic, sem}
-use types.Kit.{‵, ◌⊛◌, ◌$◌, ◌∵◌, !, qed, by, move, drop, split, fsplit, fjoin, fpack, use0, use1, done}
+use types.Kit.{‵, ◌$◌, ◌∵◌, !, qed, move, drop, fsplit, fjoin, fpack, use0, use1, done}
 use denote.RawPtr.{Ptr, null_ptr}
 use denote.Steps.{nothing}
-use denote.RattleType.{RattleType}
-use Rattle.seize_seats.specs.Owned.{pieces, piece_in}
+use Rattle.seize_seats.specs.Owned.{pieces}
 use Rattle.seize_plots.specs.Pieces.{AreAt, piece_at, some_piece, all_pieces, first_spot, other_spots, kept_words, spot_of}
 use Rattle.seize_plots.specs.declared.kept.Kept.{Kept}
 

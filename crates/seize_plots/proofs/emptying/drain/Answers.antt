@@ -1,5 +1,5 @@
-use Rattle.std.proofs.Common.{◌<◌, ◌≡◌, length, ap, ◌∙◌, sym, arith}
-use Rattle.std.specs.Prelude.{map, drop, slice_index_or}
+use Rattle.std.proofs.Common.{◌<◌, length, ap, ◌∙◌, arith}
+use Rattle.std.specs.Prelude.{map, slice_index_or}
 use Rattle.core.specs.Mem.Slots.{slots_items, slots_filled, slots_len, slots_counts}
 use Rattle.seize_seats.proofs.Behind.{full_behind}
 use Rattle.seize_plots.specs.Pieces.{spot_of, first_spot, other_spots}

@@ -1,16 +1,14 @@
 -- `join_words` takes a row of words, with the right to their memory, for a piece.
-use Rattle.std.proofs.Common.{◌≡◌, ℕ, zero, suc, ◌*◌, ◌^◌, ◌<◌, Bool, true, List, [], ◌∷◌, length, sym, refl, ap, subst, arith}
-use Rattle.std.proofs.lemmas.List.{length-replicate}
-use mir.Syntax.{named}
-use mir.Val.{Val, vptr, vstruct, vcons, vnil}
+use Rattle.std.proofs.Common.{◌≡◌, ℕ, zero, suc, ◌<◌, Bool, List, [], ◌∷◌, length, sym, refl, ap, subst, arith}
+use mir.Val.{Val, vstruct, vcons, vnil}
 use prog.Wp.{WpFn}
 use base.Logic.{SProp, ent, emp, id⊢}
 use seplogic.Ra.Ura.{Ura}
 use types.Logic.{Logic, sem}
 use base.Fml.{ftrue}
-use types.Kit.{‵, raw, ◌⊛◌, given, at_ret, ◌$◌, ◌∵◌, !, qed, by, move, keep, drop, split, fsplit, fjoin, fpick, fpack, feq_i, learn, suffices, use0, use1, rewrite}
+use types.Kit.{‵, raw, ◌⊛◌, given, ◌$◌, ◌∵◌, !, qed, by, move, keep, split, fsplit, fjoin, fpack, feq_i, learn, suffices, use0, use1, rewrite}
 use types.Run.{stop, fld, of_opd, no_more, and_then, returns, enter}
-use types.ByLocal.{alloc_all, pass_all, free_all, look_at, get, get_in, sets, env}
+use types.ByLocal.{alloc_all, pass_all, free_all, look_at, get, get_in, sets}
 use types.Part.{agg, sub, whole}
 use contract.Running.{tables}
 use contract.Monad.{fact, fact_i}
@@ -18,28 +16,25 @@ use denote.Exit.{yes}
 use denote.RattleType.{RattleType, Valss, owns}
 use denote.Struct.Struct.{within}
 use denote.Struct.Declared as declared
-use denote.Struct.Tuple.{tuple_type}
 use denote.Signature.{types_at, plain}
-use denote.RawPtr.{Ptr, block_ptr, null_ptr, block_of, count_of, at_block, ptr_val, rawptr_vals, rawptr_Tells, InBlock}
+use denote.RawPtr.{Ptr, block_ptr, block_of, count_of, at_block, ptr_val, InBlock}
 use denote.Steps.{nothing, heard}
-use denote.Builtin.{RefOf, RawPtr, u64}
-use denote.Ref.{shr_vals, shr_Tells}
+use denote.Builtin.{RawPtr, u64}
 use denote.Triple.Entry.{alive}
 use denote.Triple.Walked.{Stays, stay_dropped, walk_of, Goes-dropped}
-use Rattle.core.proofs.atomic.Steps.{Ptr-Good}
 use Rattle.core.specs.Mem.Slots.Ownership.{owned, Filled}
 use Rattle.std.specs.contracts.alloc.Global as heap
 use Rattle.std.specs.contracts.impls.GlobalAllocator.TheImpl.{ghosts}
 use Rattle.std.proofs.raw_atomic.Walks.{proved, leaves}
 use Rattle.seize_seats.specs.Owned.{row as word_row, words_right}
 use Rattle.seize_seats.specs.Doors.{frees}
-use Rattle.seize_seats.proofs.Slotted.{Whole, Fits, whole_in, whole_out, full_is, are_full}
-use Rattle.seize_plots.specs.Pieces.{AreAt, piece_at, words_held}
+use Rattle.seize_seats.proofs.Slotted.{Fits, whole_out, full_is}
+use Rattle.seize_plots.specs.Pieces.{AreAt, words_held}
 use Rattle.seize_plots.specs.contracts.row.Row as row
 use Rattle.seize_plots.specs.contracts.piece.Right as right_of
 use Rattle.seize_plots.specs.contracts.piece.Piece as piece_of
 use Rattle.seize_plots.specs.contracts.piece.Laid as laid_of
-use Rattle.seize_plots.proofs.Fields.{token, Mark, mark_told, mark_made, one_of, one_good, Places, places_told, places_made}
+use Rattle.seize_plots.proofs.Fields.{token, Mark, mark_told, mark_made, one_of, places_told}
 use Rattle.seize_plots.specs.contracts.piece.join_words.{ended, clauses}
 use Rattle.seize_plots.specs.contracts.piece.join_words.Key.{name as #self}
 use Rattle.seize_plots.proofs.piece.join_words.Statement.{statement}

@@ -22,7 +22,6 @@ use denote.Param.{param, bounded}
 use denote.Builtin.{RefOf, u64, usize}
 use denote.Plain.{uint_vals, uint_Tells}
 use denote.Ref.{shr_vals, shr_Tells}
-use denote.Struct.Tuple.{Tuple}
 use denote.Triple.Call.{calls_at_last}
 use denote.Triple.Walked.{Stays, stay_dropped, walk_of, Goes-dropped}
 use Rattle.core.specs.Mem.Slots.Ownership.{owned, slots, Filled}
@@ -35,7 +34,7 @@ use Rattle.seize_plots.specs.Pieces.{words_held}
 use Rattle.seize_plots.proofs.Room.{laid_out, given_up}
 use Rattle.seize_plots.specs.contracts.row.Row as row
 use Rattle.seize_plots.specs.contracts.piece.Right as right_of
-use Rattle.seize_plots.proofs.Fields.{token, mark_told, one_of, one_good, places_told}
+use Rattle.seize_plots.proofs.Fields.{token, mark_told, one_of, places_told}
 use Rattle.seize_seats.proofs.Slotted.{full_is}
 use Rattle.seize_seats.specs.Plots.{all_full}
 use Rattle.seize_plots.specs.contracts.piece.release_words.{ended, clauses}

@@ -1,5 +1,5 @@
 -- `reserve_words` asks the allocator for memory, and makes a row of its room.
-use Rattle.std.proofs.Common.{◌≡◌, ℕ, ◌+◌, ◌*◌, ◌^◌, ◌<◌, true, false, List, [], ◌∷◌, length, replicate, sym, refl, ap, subst, arith, lit<, w64, Option, None}
+use Rattle.std.proofs.Common.{◌≡◌, ℕ, ◌*◌, ◌^◌, ◌<◌, true, false, List, [], ◌∷◌, length, replicate, sym, refl, subst, lit<, w64}
 use Rattle.std.proofs.lemmas.List.{length-replicate}
 use mir.Syntax.{Ty, Body, ty_int, ty_array, a_type, dcons, dnil, named}
 use mir.MapTy.{inst_fn}
@@ -7,9 +7,9 @@ use mir.Val.{Val, WT, vint, vptr, vstruct, vcons, vnil}
 use prog.Wp.{Wp, after_seq, at_return}
 use base.Logic.{SProp, emp}
 use base.Fml.{Lft, Share, Fml, ftrue, fsep, flft, Incl-trans}
-use types.Kit.{‵, raw, ◌⊛◌, later, at_ret, any_q, ◌$◌, ◌∵◌, !, qed, by, move, keep, split, join, fsplit, fjoin, fjoin3, fpack, feq_i, await, use0, use1, use2, rewrite}
+use types.Kit.{‵, raw, ◌⊛◌, later, at_ret, any_q, ◌$◌, ◌∵◌, !, qed, by, move, keep, split, join, fsplit, fjoin, fpack, feq_i, await, use0, use1, use2}
 use types.Match.{live, vrt, in_variant}
-use types.Run.{stop, fld, lit, of_opd, bin, no_more, and_then, first, blocks, switches_on, exec, returns, enter}
+use types.Run.{stop, fld, lit, of_opd, no_more, and_then, first, switches_on, exec, returns, enter}
 use types.ByLocal.{alloc_all, pass_all, free_all, look_at, get, get_in, get_tag, sets, sets_last, lands_as, env}
 use types.Part.{agg, whole}
 use contract.BorrowLft.{◌⊑◌}
@@ -39,7 +39,6 @@ use Rattle.core.proofs.alloc.Calls.{Al as Handle, Answer-typed, Takes, at_takes,
 use Rattle.core.specs.Allocator.{HasLayout}
 use Rattle.std.proofs.raw_atomic.Walks.{proved, leaves}
 use Rattle.std.proofs.raw_atomic.Calls.{fm}
-use Rattle.seize_plots.specs.Pieces.{words_held}
 use Rattle.seize_plots.specs.contracts.row.Row as row
 use Rattle.seize_plots.specs.contracts.piece.Right as right_of
 use Rattle.seize_plots.proofs.Fields.{token, Mark, mark_made, one_of, Places, places_made}

@@ -1,5 +1,5 @@
 -- `parted` takes a piece for a row of words, with the right to their memory.
-use Rattle.std.proofs.Common.{◌≡◌, ℕ, zero, suc, ◌*◌, ◌^◌, ◌<◌, Bool, true, List, [], ◌∷◌, length, sym, refl, ap, subst, arith}
+use Rattle.std.proofs.Common.{◌≡◌, ℕ, zero, suc, ◌*◌, ◌^◌, ◌<◌, true, List, [], ◌∷◌, length, sym, refl, ap, subst, arith}
 use Rattle.std.proofs.lemmas.List.{length-replicate}
 use mir.Syntax.{named}
 use mir.Val.{Val, vptr, vstruct, vcons, vnil}
@@ -7,10 +7,9 @@ use prog.Wp.{WpFn}
 use base.Logic.{SProp, ent, emp, id⊢}
 use seplogic.Ra.Ura.{Ura}
 use types.Logic.{Logic, sem}
-use base.Fml.{ftrue}
-use types.Kit.{‵, raw, ◌⊛◌, given, at_ret, ◌$◌, ◌∵◌, !, qed, by, move, keep, drop, split, fsplit, fjoin, fpick, fpack, feq_i, learn, suffices, use0, use1, rewrite}
-use types.Run.{of_opd, no_more, and_then, returns, enter}
-use types.ByLocal.{alloc_all, pass_all, free_all, look_at, get, sets, env}
+use types.Kit.{‵, raw, ◌⊛◌, ◌$◌, ◌∵◌, !, qed, by, move, keep, drop, split, fsplit, fjoin, fpick, fpack, feq_i, suffices, use0, use1, rewrite}
+use types.Run.{no_more, and_then, returns, enter}
+use types.ByLocal.{alloc_all, pass_all, free_all, look_at, get, sets}
 use types.Part.{agg}
 use contract.Running.{tables}
 use contract.Monad.{fact, fact_i}
@@ -20,26 +19,26 @@ use denote.Struct.Struct.{within}
 use denote.Struct.Declared as declared
 use denote.Struct.Tuple.{tuple_type}
 use denote.Signature.{types_at, plain}
-use denote.RawPtr.{Ptr, block_ptr, null_ptr, block_of, count_of, at_block, ptr_val, rawptr_vals, rawptr_Tells, InBlock}
+use denote.RawPtr.{Ptr, block_ptr, block_of, count_of, at_block, ptr_val, rawptr_vals, rawptr_Tells}
 use denote.Steps.{nothing, heard}
 use denote.Builtin.{RefOf, RawPtr, u64}
 use denote.Ref.{shr_vals, shr_Tells}
 use denote.Triple.Entry.{alive}
 use denote.Triple.Walked.{Stays, stay_dropped, walk_of, Goes-dropped}
 use Rattle.core.proofs.atomic.Steps.{Ptr-Good}
-use Rattle.core.specs.Mem.Slots.Ownership.{owned, Filled}
+use Rattle.core.specs.Mem.Slots.Ownership.{Filled}
 use Rattle.std.specs.contracts.alloc.Global as heap
 use Rattle.std.specs.contracts.impls.GlobalAllocator.TheImpl.{ghosts}
 use Rattle.std.proofs.raw_atomic.Walks.{proved, leaves}
-use Rattle.seize_seats.specs.Owned.{row as word_row, words_right}
+use Rattle.seize_seats.specs.Owned.{words_right}
 use Rattle.seize_seats.specs.Doors.{frees}
 use Rattle.seize_seats.specs.Plots.{all_full}
-use Rattle.seize_seats.proofs.Slotted.{Whole, Fits, whole_in, whole_out, full_is, are_full}
-use Rattle.seize_plots.specs.Pieces.{AreAt, piece_at, words_held}
+use Rattle.seize_seats.proofs.Slotted.{Whole, whole_in, are_full}
+use Rattle.seize_plots.specs.Pieces.{piece_at, words_held}
 use Rattle.seize_plots.specs.contracts.row.Row as row
 use Rattle.seize_plots.specs.contracts.piece.Right as right_of
 use Rattle.seize_plots.specs.contracts.piece.Piece as piece_of
-use Rattle.seize_plots.proofs.Fields.{token, Mark, mark_told, mark_made, one_of, one_good, Places, places_told, places_made}
+use Rattle.seize_plots.proofs.Fields.{token, Mark, mark_told, mark_made, one_of, Places, places_made}
 use Rattle.seize_plots.specs.contracts.piece.Piece.parted.{ended, clauses}
 use Rattle.seize_plots.specs.contracts.piece.Piece.parted.Key.{name as #self}
 use Rattle.seize_plots.proofs.piece.Piece.parted.Statement.{statement}

@@ -1,14 +1,10 @@
 -- `next` takes the words in the first spot.
-use Rattle.std.proofs.Common.{◌≡◌, ℕ, ◌*◌, ◌^◌, ◌<◌, Bool, true, List, [], ◌∷◌, length, sym, refl, ap, subst, arith}
-use Rattle.std.proofs.lemmas.List.{length-replicate}
-use mir.Syntax.{named}
-use mir.Val.{Val, vptr, vstruct, vcons, vnil}
-use prog.Wp.{WpFn}
-use base.Logic.{SProp, ent, emp, id⊢}
-use base.Fml.{ftrue}
-use types.Kit.{‵, raw, ◌⊛◌, given, at_ret, ◌$◌, ◌∵◌, !, qed, by, move, keep, drop, split, fsplit, fjoin, fpick, fpack, feq_i, learn, suffices, use0, use1, rewrite}
-use types.Run.{of_opd, no_more, and_then, returns, enter}
-use types.ByLocal.{alloc_all, pass_all, free_all, look_at, get, sets, env}
+use Rattle.std.proofs.Common.{◌≡◌, ℕ, List, [], ◌∷◌, refl}
+use mir.Val.{Val, vstruct, vcons, vnil}
+use base.Logic.{SProp, emp}
+use types.Kit.{‵, raw, ◌⊛◌, ◌$◌, ◌∵◌, !, qed, by, move, keep, split, fsplit, fjoin, fpick, fpack, feq_i, use0, use1}
+use types.Run.{no_more, and_then, returns, enter}
+use types.ByLocal.{alloc_all, pass_all, free_all, look_at, get, sets}
 use types.Part.{agg}
 use contract.Running.{tables}
 use contract.Monad.{fact, fact_i}
@@ -18,27 +14,17 @@ use denote.Struct.Struct.{within}
 use denote.Struct.Declared as declared
 use denote.Struct.Tuple.{tuple_type}
 use denote.Signature.{types_at, plain}
-use denote.RawPtr.{Ptr, block_ptr, null_ptr, block_of, count_of, at_block, ptr_val, rawptr_vals, rawptr_Tells, InBlock}
-use denote.Steps.{nothing, heard}
-use denote.Builtin.{RefOf, RawPtr, u64}
-use denote.Ref.{shr_vals, shr_Tells}
+use denote.RawPtr.{Ptr}
+use denote.Steps.{nothing}
+use denote.Builtin.{u64}
 use denote.Triple.Entry.{alive}
 use denote.Triple.Walked.{Stays, stay_dropped, walk_of, Goes-dropped}
-use Rattle.core.proofs.atomic.Steps.{Ptr-Good}
-use Rattle.core.specs.Mem.Slots.Ownership.{owned, Filled}
-use Rattle.std.specs.contracts.alloc.Global as heap
-use Rattle.std.specs.contracts.impls.GlobalAllocator.TheImpl.{ghosts}
 use Rattle.std.proofs.raw_atomic.Walks.{proved, leaves}
-use Rattle.seize_seats.specs.Owned.{row as word_row, words_right}
-use Rattle.seize_seats.specs.Plots.{all_full}
-use Rattle.seize_seats.proofs.Slotted.{Whole, Fits, whole_in, whole_out, full_is, are_full}
-use Rattle.seize_plots.specs.Pieces.{AreAt, piece_at, some_piece, all_pieces, first_spot, other_spots}
-use Rattle.seize_plots.specs.contracts.row.Row as row
-use Rattle.seize_plots.specs.contracts.piece.Right as right_of
+use Rattle.seize_plots.specs.Pieces.{some_piece, all_pieces, first_spot, other_spots}
 use Rattle.seize_plots.specs.contracts.piece.Piece as piece_of
 use Rattle.seize_plots.specs.contracts.pieces.Pieces as pieces_of
 use Rattle.seize_plots.proofs.Spots.{first}
-use Rattle.seize_plots.proofs.Fields.{token, Mark, mark_told, mark_made, one_of, one_good, Places, places_told, places_made}
+use Rattle.seize_plots.proofs.Fields.{token, Mark, mark_told, mark_made}
 use Rattle.seize_plots.specs.contracts.pieces.Pieces.next.{ended, clauses}
 use Rattle.seize_plots.specs.contracts.pieces.Pieces.next.Key.{name as #self}
 use Rattle.seize_plots.proofs.pieces.Pieces.next.Statement.{statement}
