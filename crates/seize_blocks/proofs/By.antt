@@ -9,7 +9,7 @@ use Rattle.seize_words.specs.declared.block.Block.{Block}
 use Rattle.seize_seats.specs.State.{State, Allows, Owns}
 use Rattle.seize_seats.specs.Visits.{AreSeenAt}
 use Rattle.seize_seats.specs.Reached.{IsAt}
-use Rattle.seize_seats.specs.Lendings.{Shown, ShownToBoth, IsValueOf}
+use Rattle.seize_seats.specs.Lendings.{ShownToBoth, IsValueOf}
 use Rattle.seize_seats.specs.Visits.{Visit, HoldsKept}
 use Rattle.seize_seats.proofs.Visits.{visits_found, value_found}
 use Rattle.seize_plots.specs.Pieces.{value_of, lies, lies_at}

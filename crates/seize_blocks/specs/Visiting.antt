@@ -1,5 +1,5 @@
 -- What a seat that visits blocks is known by.
-use Rattle.std.specs.Prelude.{◌≡◌, ℕ, List, [], ◌∷◌, Option, Some, None}
+use Rattle.std.specs.Prelude.{◌≡◌, ℕ, List, [], ◌∷◌, Some, None}
 use base.Stored.{Coded, coded×, coded_ℕ, coded_list, coded_via}
 use denote.RawPtr.{coded_ptr}
 use Rattle.seize_seats.specs.Visits.{Spot, Visit}

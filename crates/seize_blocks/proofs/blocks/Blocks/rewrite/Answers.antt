@@ -1,4 +1,3 @@
-use Rattle.std.proofs.Common.{refl}
 use Rattle.seize_words.specs.Op.{Rewrite}
 use Rattle.seize_blocks.proofs.By.{on_rewrite}
 use Rattle.seize_blocks.proofs.blocks.Blocks.rewrite.Goals as goal

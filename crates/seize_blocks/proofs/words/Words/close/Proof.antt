@@ -4,7 +4,7 @@ use mir.Syntax.{dcons, dnil, a_type}
 use mir.MapTy.{inst_fn}
 use mir.Val.{Val, vstruct, vcons, vnil}
 use base.Logic.{SProp, emp}
-use types.Kit.{‵, raw, ◌⊛◌, some as items, given, later, ◌$◌, ◌∵◌, !, qed, by, move, keep, drop, split3, split, fsplit, fjoin, fjoin3, fpack, feq_i, pick, learn, use0, use1, rewrite, await}
+use types.Kit.{‵, raw, ◌⊛◌, some as items, given, later, ◌$◌, ◌∵◌, !, qed, by, move, keep, split3, split, fsplit, fjoin, fjoin3, fpack, feq_i, pick, learn, use0, use1, rewrite, await}
 use types.Run.{stop, fld, of_opd, no_more, and_then, returns, enter}
 use types.ByLocal.{alloc_all, pass_all, free_all, look_at, get, get_in, sets}
 use types.Part.{agg, sub, whole}

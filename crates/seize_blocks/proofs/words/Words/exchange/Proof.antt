@@ -59,7 +59,7 @@ use Rattle.seize_plots.specs.contracts.kept.Kept as kept_of
 use Rattle.seize_plots.specs.Pieces.{kept_words, value_of, lies}
 use Rattle.seize_blocks.specs.Visiting.{seat_coded}
 use Rattle.seize_seats.specs.Visits.{Visit, HoldsKept, keeps_kept, then_kept}
-use Rattle.seize_seats.proofs.Visits.{word_allowed, turn_kept, comes_kept, make_allowed}
+use Rattle.seize_seats.proofs.Visits.{word_allowed}
 use Rattle.seize_blocks.proofs.Fields.{Data}
 use Rattle.seize_blocks.specs.contracts.words.Words.exchange.{ended, clauses}
 use Rattle.seize_blocks.specs.contracts.words.Words.exchange.Key.{name as #self}

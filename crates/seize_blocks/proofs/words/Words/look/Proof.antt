@@ -47,8 +47,7 @@ use Rattle.seize_blocks.proofs.words.Words.look.Code as code
 use Rattle.seize_plots.specs.contracts.kept.Kept as kept_of
 use Rattle.seize_plots.specs.Pieces.{kept_words, value_of, lies}
 use Rattle.seize_blocks.specs.Visiting.{seat_coded}
-use Rattle.seize_seats.specs.Visits.{Visit, HoldsKept, keeps_kept}
-use Rattle.seize_seats.proofs.Visits.{meets_kept, renews_kept, shown_to_both}
+use Rattle.seize_seats.specs.Visits.{HoldsKept, keeps_kept}
 
 pub look_spec : {M : Type 1} → statement M
 look_spec 𝓤 𝓛 𝓜 𝓡 wired X P U F LX LP LU LF g d _ =

@@ -28,7 +28,7 @@ use denote.Laws.{Is, shows}
 use denote.Steps.{nothing, peeks, heard, opens, closes}
 use denote.Opens.{unhide}
 use denote.Memory.{lone, hidden_shr}
-use denote.Param.{param, bounded, layout}
+use denote.Param.{param, bounded}
 use denote.Param.Laws.{Laws, param_laws}
 use denote.Builtin.{RefOf, RawPtr, u64}
 use denote.Struct.Members.{Member}

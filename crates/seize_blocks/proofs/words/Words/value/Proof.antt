@@ -52,7 +52,7 @@ use Rattle.seize_plots.specs.contracts.kept.Kept as kept_of
 use Rattle.seize_plots.proofs.kept.Kept.TheLaws.{the_row_laws as kept_laws}
 use Rattle.seize_plots.specs.Pieces.{kept_words, value_of, lies}
 use Rattle.seize_blocks.specs.Visiting.{seat_coded}
-use Rattle.seize_seats.specs.Visits.{Visit, HoldsKept, keeps_kept, then_kept}
+use Rattle.seize_seats.specs.Visits.{Visit, HoldsKept, keeps_kept}
 use Rattle.seize_seats.proofs.Visits.{shown_to_both}
 
 pub value_spec : {M : Type 1} → statement M
