@@ -33,9 +33,9 @@ use Rattle.seize_blocks.specs.contracts.seat.Seat as seat
 pub use Rattle.seize_plots.proofs.Fields.{token, Mark, mark_told, mark_made, one_of, Places, places_told, places_made, one_good}
 use Rattle.seize_blocks.specs.contracts.claim.Claim as claim
 use Rattle.seize_blocks.specs.contracts.strip.Strip as strip
-use Rattle.seize_blocks.specs.contracts.place.Place as place
-use Rattle.seize_blocks.specs.contracts.place.Doors as doors
-use Rattle.seize_blocks.specs.contracts.place.Address as address
+use Rattle.seize_plots.specs.contracts.place.Place as place
+use Rattle.seize_plots.specs.contracts.place.Doors as doors
+use Rattle.seize_plots.specs.contracts.place.Address as address
 
 pub word_laws : Laws u64
 word_laws = of_field u64-field u64-laws refl (copy_shared u64-field u64-copy)

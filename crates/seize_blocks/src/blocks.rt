@@ -5,11 +5,10 @@ ghost use Rattle.seize_seats.specs.State.{Allows, Owns, Turns, Comes, Meets, Ren
 ghost use Rattle.seize_seats.specs.Owned.{IsFirst};
 ghost use Rattle.seize_seats.specs.Lendings.{Shown, ShownToBoth, IsValueOf, IsValueOfBoth};
 
-use crate::place::{Doors, Place};
 use crate::rule::{Meeting, Rule, Turn};
 use crate::seat::Seat;
 use crate::words::Words;
-use seize_plots::{Kept, Laid, give_words, lay_words};
+use seize_plots::{Doors, Kept, Laid, Place, give_words, lay_words};
 use seize_words::{At, Fault};
 use std::alloc::Global;
 

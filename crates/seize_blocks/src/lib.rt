@@ -6,7 +6,6 @@ mod claim;
 mod home;
 mod numbers;
 mod part;
-mod place;
 mod places;
 mod rule;
 mod seat;

@@ -1,9 +1,8 @@
 //! A strip with what its numbers are found by.
 ghost use Rattle.std.specs.Prelude.{◌≡◌, ◌+◌, ◌*◌, ◌^◌, ◌<◌, ◌≤◌};
 
-use crate::place::{Address, Place};
 use crate::strip::Strip;
-use seize_plots::Kept;
+use seize_plots::{Address, Kept, Place};
 
 /// A strip, where its values lie, how many numbers come before its own and how many it has, and how many words come before theirs.
 #[derive(Drop)]

@@ -11,10 +11,9 @@ ghost use Rattle.seize_blocks.specs.Placed.{IsItsPlace, IsItsIndex, IsBehind, Ha
 
 use crate::blocks::{Blocks, MOST};
 use crate::part::{Reached, Spot, places_in, words_in};
-use crate::place::Beside;
 use crate::rule::Rule;
 use crate::seat::Seat;
-use seize_plots::{Kept, skip_of};
+use seize_plots::{Beside, Kept, skip_of};
 use seize_words::At;
 
 impl<T, R: Rule<T>> Blocks<T, R> {

@@ -1,5 +1,6 @@
 //! The words, and what one step of a seat does to them: one atomic operation on a word, or none. And the doors behind which further strips lie.
-ghost use Rattle.std.specs.Prelude.{◌≡◌, ℕ, ◌+◌, ◌-◌, ◌*◌, ◌^◌, ◌<◌, ◌≤◌, Some, None, true, Ok, Err, IfErr, length, map, replicate, slice_index, slice_index_or};
+ghost use Rattle.std.specs.Prelude.{◌≡◌, ℕ, ◌+◌, ◌-◌, ◌*◌, ◌^◌, ◌<◌, ◌≤◌, Some, None, true, Ok, Err, IfErr};
+ghost use Rattle.std.specs.Prelude.{length, map, replicate, slice_index, slice_index_or};
 ghost use denote.RawPtr.{InBlock, Testable, null_ptr};
 ghost use Rattle.core.specs.Mem.Slots.Ownership.{Filled};
 ghost use Rattle.seize_words.specs.Op.{Load, Store, Swap, Add, Or, Exchange, Make, Take, Rewrite, Room, Found, Stored, Exchanged, Made, Taken, Roomed};
@@ -18,11 +19,10 @@ ghost use Rattle.seize_blocks.specs.Placed.{IsItsPlace, IsItsSign, IsItsIndex};
 ghost use Rattle.seize_seats.specs.Plots.{HasFirst};
 
 use crate::claim::Claim;
-use crate::place::{Doors, Place};
 use crate::rule::{Meeting, Rule, Turn};
 use crate::seat::Seat;
 use crate::strip::Strip;
-use seize_plots::{Alone, Deed, Kept, Piece, Pieces, Row};
+use seize_plots::{Alone, Deed, Doors, Kept, Piece, Pieces, Place, Row};
 use seize_words::At;
 use std::alloc::Global;
 use std::marker::{Brand, Model, PhantomData};
@@ -385,7 +385,9 @@ impl<T, R: Rule<T>> Words<T, R> {
 
     /// Reads the word of a name, which lies so many words on from this address.
     pub(crate) fn load(&self, seat: &mut Seat<T, R>, at: &At, address: *mut u64, place: u64) -> u64
-        requires { (seat.old.base ≡ self.now.id.views_name) × IsItsPlace (HoldsKept value_of lies (R.holds self.now.fixed)) seat.old.id (seat.old.view, seat.old.visit) self.now.words self.now.id at.now address place
+        requires { (seat.old.base ≡ self.now.id.views_name)
+            × IsItsPlace (HoldsKept value_of lies (R.holds self.now.fixed)) seat.old.id (seat.old.view, seat.old.visit)
+            self.now.words self.now.id at.now address place
             × Allows (R.holds self.now.fixed) R.keeps seat.old.id seat.old.view (Load at.now) (R.then seat.old.view (Load at.now)) }
         ensures { (seat.new.base ≡ seat.old.base) × (seat.new.id ≡ seat.old.id)
             × R.then seat.old.view (Load at.now) (Found result) seat.new.view }
@@ -402,7 +404,9 @@ impl<T, R: Rule<T>> Words<T, R> {
         place: u64,
         word: u64,
     )
-        requires { (seat.old.base ≡ self.now.id.views_name) × IsItsPlace (HoldsKept value_of lies (R.holds self.now.fixed)) seat.old.id (seat.old.view, seat.old.visit) self.now.words self.now.id at.now address place
+        requires { (seat.old.base ≡ self.now.id.views_name)
+            × IsItsPlace (HoldsKept value_of lies (R.holds self.now.fixed)) seat.old.id (seat.old.view, seat.old.visit)
+            self.now.words self.now.id at.now address place
             × Allows (R.holds self.now.fixed) R.keeps seat.old.id seat.old.view (Store at.now word) (R.then seat.old.view (Store at.now word)) }
         ensures { (seat.new.base ≡ seat.old.base) × (seat.new.id ≡ seat.old.id)
             × R.then seat.old.view (Store at.now word) Stored seat.new.view }
@@ -419,7 +423,9 @@ impl<T, R: Rule<T>> Words<T, R> {
         place: u64,
         word: u64,
     ) -> u64
-        requires { (seat.old.base ≡ self.now.id.views_name) × IsItsPlace (HoldsKept value_of lies (R.holds self.now.fixed)) seat.old.id (seat.old.view, seat.old.visit) self.now.words self.now.id at.now address place
+        requires { (seat.old.base ≡ self.now.id.views_name)
+            × IsItsPlace (HoldsKept value_of lies (R.holds self.now.fixed)) seat.old.id (seat.old.view, seat.old.visit)
+            self.now.words self.now.id at.now address place
             × Allows (R.holds self.now.fixed) R.keeps seat.old.id seat.old.view (Swap at.now word) (R.then seat.old.view (Swap at.now word)) }
         ensures { (seat.new.base ≡ seat.old.base) × (seat.new.id ≡ seat.old.id)
             × R.then seat.old.view (Swap at.now word) (Found result) seat.new.view }
@@ -436,7 +442,9 @@ impl<T, R: Rule<T>> Words<T, R> {
         place: u64,
         by: u64,
     ) -> u64
-        requires { (seat.old.base ≡ self.now.id.views_name) × IsItsPlace (HoldsKept value_of lies (R.holds self.now.fixed)) seat.old.id (seat.old.view, seat.old.visit) self.now.words self.now.id at.now address place
+        requires { (seat.old.base ≡ self.now.id.views_name)
+            × IsItsPlace (HoldsKept value_of lies (R.holds self.now.fixed)) seat.old.id (seat.old.view, seat.old.visit)
+            self.now.words self.now.id at.now address place
             × Allows (R.holds self.now.fixed) R.keeps seat.old.id seat.old.view (Add at.now by) (R.then seat.old.view (Add at.now by)) }
         ensures { (seat.new.base ≡ seat.old.base) × (seat.new.id ≡ seat.old.id)
             × R.then seat.old.view (Add at.now by) (Found result) seat.new.view }
@@ -453,7 +461,9 @@ impl<T, R: Rule<T>> Words<T, R> {
         place: u64,
         bits: u64,
     ) -> u64
-        requires { (seat.old.base ≡ self.now.id.views_name) × IsItsPlace (HoldsKept value_of lies (R.holds self.now.fixed)) seat.old.id (seat.old.view, seat.old.visit) self.now.words self.now.id at.now address place
+        requires { (seat.old.base ≡ self.now.id.views_name)
+            × IsItsPlace (HoldsKept value_of lies (R.holds self.now.fixed)) seat.old.id (seat.old.view, seat.old.visit)
+            self.now.words self.now.id at.now address place
             × Allows (R.holds self.now.fixed) R.keeps seat.old.id seat.old.view (Or at.now bits) (R.then seat.old.view (Or at.now bits)) }
         ensures { (seat.new.base ≡ seat.old.base) × (seat.new.id ≡ seat.old.id)
             × R.then seat.old.view (Or at.now bits) (Found result) seat.new.view }
@@ -471,7 +481,9 @@ impl<T, R: Rule<T>> Words<T, R> {
         old: u64,
         new: u64,
     ) -> Result<u64, u64>
-        requires { (seat.old.base ≡ self.now.id.views_name) × IsItsPlace (HoldsKept value_of lies (R.holds self.now.fixed)) seat.old.id (seat.old.view, seat.old.visit) self.now.words self.now.id at.now address place
+        requires { (seat.old.base ≡ self.now.id.views_name)
+            × IsItsPlace (HoldsKept value_of lies (R.holds self.now.fixed)) seat.old.id (seat.old.view, seat.old.visit)
+            self.now.words self.now.id at.now address place
             × Allows (R.holds self.now.fixed) R.keeps seat.old.id seat.old.view (Exchange at.now old new) (R.then seat.old.view (Exchange at.now old new)) }
         ensures { (seat.new.base ≡ seat.old.base) × (seat.new.id ≡ seat.old.id)
             × R.then seat.old.view (Exchange at.now old new) (Exchanged result) seat.new.view }

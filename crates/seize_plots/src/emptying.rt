@@ -2,7 +2,7 @@
 ghost use Rattle.std.specs.Prelude.{◌≡◌, ℕ, ◌*◌, ◌^◌, ◌<◌, None, map, true, slice_index_or};
 ghost use Rattle.core.specs.Mem.Slots.{slots_items, slots_filled, slots_ptr, slots_len, IsFull};
 ghost use Rattle.seize_seats.specs.Strips.{further};
-ghost use Rattle.seize_seats.specs.Doors.{block_bytes};
+ghost use Rattle.seize_seats.specs.Doors.{block_bytes, IsFurther, AreBehind};
 ghost use Rattle.seize_seats.specs.Owned.{stride};
 ghost use Rattle.seize_seats.specs.Plots.{AreEmpty, HasFirst};
 ghost use Rattle.seize_plots.specs.Pieces.{spot_of, first_spot, other_spots};
@@ -15,7 +15,7 @@ use crate::plot::{Alone, bytes_of, release, skip_of};
 use crate::row::Row;
 use core::slots::Slots;
 use std::alloc::Global;
-use std::ptr::null_mut;
+use std::ptr::{NonNull, null_mut};
 
 /// What a place holds is dropped, and the words that lie beside it are given back: those in the first spot.
 fn drop_first<T: Drop>(alloc: &Global, kept: Option<Kept<T>>, pieces: Pieces) -> Pieces
@@ -113,4 +113,27 @@ pub fn take_back<T>(alloc: &Global, strips: Alone<T>, at: *mut Option<Kept<T>>, 
         deed,
         bytes_of::<Kept<T>>(count, skip),
     );
+}
+
+/// Gives back all further strips, with the own words of their blocks: the doors from the first on have the addresses of as many, each of as many numbers as come before it.
+pub fn clear<T: Drop>(alloc: &Global, strips: Alone<T>, doors: &mut Slots<*mut u64>, least: u64)
+    requires { IsFull doors.old × (slots_len doors.old ≡ 32) × AreBehind (IsFurther (KeptOf T.row) least) 0 strips.strips (slots_items doors.old) }
+    ensures { (slots_ptr doors.new ≡ slots_ptr doors.old) × (slots_len doors.new ≡ slots_len doors.old) }
+{
+    let mut left = strips;
+    let mut count = least;
+    for door in 0..32 {
+        match NonNull::new(doors.take(door)) {
+            Some(at) => {
+                left = give_up(
+                    alloc,
+                    left,
+                    at.cast::<Option<Kept<T>>>().as_ptr(),
+                    count as usize,
+                );
+                count = count * 2;
+            }
+            None => return,
+        }
+    }
 }

@@ -28,11 +28,11 @@ module _ (s : S) (has : AreThrees s) (id : ℕ) (m : Mem ℕ) (kept : (n : ℕ) 
   goes so u mine told = (u, tt, stays u mine, (λ j k b u o x y z v kept. kept), told)
 
 module _ (id v i : ℕ) (low : 0 < v) (few : i < 3) where
-  pub loads : Allows AreThrees NoneKept id v (Load (Word v i)) (knows v (Load (Word v i)))
-  loads s has at = (has id v at low i few, λ out m took. told out m took)
+  loads_own : Allows AreThrees NoneKept id v (Load (Word v i)) (knows v (Load (Word v i)))
+  loads_own s has at = (has id v at low i few, λ out m took. told out m took)
     where
       told : (out : Out ℕ) (m : Mem ℕ) → Took s.memory (Load (Word v i)) out m → Goes AreThrees NoneKept s m id (knows v (Load (Word v i)) out)
-      told (Found w) m took = let kept = λ n three. subst (λ (c : Mem ℕ). HasThree c n) (sym took.1) three in
+      told (Found w) m took = let kept : (n : ℕ) → HasThree s.memory n → HasThree m n = λ n three. subst (λ (c : Mem ℕ). HasThree c n) (sym took.1) three in
           goes s has id m kept (knows v (Load (Word v i)) (Found w)) v (λ _. kept v (has id v at low)) refl
       told Stored m took = absurd took.0
       told (Exchanged r) m took = absurd took.0
@@ -40,8 +40,8 @@ module _ (id v i : ℕ) (low : 0 < v) (few : i < 3) where
       told (Taken r) m took = absurd took.0
       told (Roomed r) m took = absurd took.0
 
-  pub adds : (by : ℕ) → Allows AreThrees NoneKept id v (Add (Word v i) by) (knows v (Add (Word v i) by))
-  adds by s has at = (has id v at low i few, λ out m took. told out m took)
+  adds_own : (by : ℕ) → Allows AreThrees NoneKept id v (Add (Word v i) by) (knows v (Add (Word v i) by))
+  adds_own by s has at = (has id v at low i few, λ out m took. told out m took)
     where
       told : (out : Out ℕ) (m : Mem ℕ) → Took s.memory (Add (Word v i) by) out m → Goes AreThrees NoneKept s m id (knows v (Add (Word v i) by) out)
       told (Found w) m took = goes s has id m kept (knows v (Add (Word v i) by) (Found w)) v (λ _. kept v (has id v at low)) refl
@@ -58,6 +58,14 @@ module _ (id v i : ℕ) (low : 0 < v) (few : i < 3) where
       told (Made r) m took = absurd took.0
       told (Taken r) m took = absurd took.0
       told (Roomed r) m took = absurd took.0
+
+-- and so where the number is told apart from the view
+module _ (id v b i : ℕ) (is : v ≡ b) (low : 0 < b) (few : i < 3) where
+  pub loads : Allows AreThrees NoneKept id v (Load (Word b i)) (knows v (Load (Word b i)))
+  loads = subst (λ (k : ℕ). Allows AreThrees NoneKept id k (Load (Word b i)) (knows k (Load (Word b i)))) (sym is) (loads_own id b i low few)
+
+  pub adds : (by : ℕ) → Allows AreThrees NoneKept id v (Add (Word b i) by) (knows v (Add (Word b i) by))
+  adds by = subst (λ (k : ℕ). Allows AreThrees NoneKept id k (Add (Word b i) by) (knows k (Add (Word b i) by))) (sym is) (adds_own id b i low few by)
 
 fresh_word : (x l : ℕ) → l < 3 → IsSome (word_in (Some (fresh x 3)) l)
 fresh_word x zero lt = refl
@@ -88,7 +96,7 @@ makes id x v s has at = (tt, λ out m took. told out m took)
         mine : HasThree m b
         mine l lt = subst IsSome (sym (ap (λ (o : Option (Block ℕ)). word_in o l) (at_number b
             ∙ ap (λ (t : Bool). if t then Some (fresh x 3) else block_of s.memory b) (eq-eqb b b refl)))) (fresh_word x l lt)
-    told (Made (Err y)) m took = let kept = λ n three. subst (λ (c : Mem ℕ). HasThree c n) (sym took.1) three in
+    told (Made (Err y)) m took = let kept : (n : ℕ) → HasThree s.memory n → HasThree m n = λ n three. subst (λ (c : Mem ℕ). HasThree c n) (sym took.1) three in
         goes s has id m kept (knows v (Make x 3) (Made (Err y))) v (λ low. kept v (has id v at low)) refl
     told (Found w) m took = absurd took.0
     told Stored m took = absurd took.0

@@ -1,4 +1,4 @@
-//! Two threads add to the same words of a block's own: no addition is lost.
+//! Four threads add to the same words of a block's own: no addition is lost.
 ghost use Rattle.std.specs.Prelude.{◌≡◌, ◌<◌};
 ghost use Rattle.seize_threads_tests.specs.Three.{AreThrees, knows, hears};
 
@@ -6,6 +6,7 @@ use seize_blocks::{Blocks, Home, Meeting, Rule, Seat};
 use seize_words::At;
 use std::test::Fail;
 use std::thread;
+use std::thread::Threads;
 
 /// Each seat knows of a block with three words of its own, or of none.
 pub(crate) struct Threes;
@@ -53,6 +54,24 @@ fn found(blocks: &Blocks<u64, Threes>, seat: &mut Seat<u64, Threes>, block: u64)
     (first, second, blocks.load(seat, At::Word(block, 2)))
 }
 
+/// Two threads that add to the words of a block: the other one has a seat that comes to know of it.
+fn pair<R: Threads + Sync>(
+    rt: &R,
+    blocks: &Blocks<u64, Threes>,
+    one: &mut Seat<u64, Threes>,
+    block: u64,
+)
+    requires { (one.old.base ≡ blocks.now.words.id.views_name) × (one.old.view ≡ block) × (0 < block) }
+{
+    let mut other = blocks.seat();
+    blocks.meet::<Told>(one, &mut other);
+    thread::join(
+        rt,
+        || adds(blocks, one, block, 20_000),
+        || adds(blocks, &mut other, block, 20_000),
+    );
+}
+
 // If one thread were served after the other, this would pass too: it shows that an addition to a word of a block's own is one step, and where that word lies.
 #[test]
 fn no_addition_to_a_word_of_a_block_is_lost(rt: HostRuntime) -> Result<(), Fail> {
@@ -69,11 +88,11 @@ fn no_addition_to_a_word_of_a_block_is_lost(rt: HostRuntime) -> Result<(), Fail>
         blocks.meet::<Told>(&mut first, &mut last);
         thread::join(
             &rt,
-            || adds(blocks, &mut first, block, 20_000),
-            || adds(blocks, &mut second, block, 20_000),
+            || pair(&rt, blocks, &mut first, block),
+            || pair(&rt, blocks, &mut second, block),
         );
         let (one, two, three) = found(blocks, &mut last, block);
-        assert!(rt; one == 40_000 && two == 80_000 && three == 120_000);
+        assert!(rt; one == 80_000 && two == 160_000 && three == 240_000);
     }
     Ok(())
 }

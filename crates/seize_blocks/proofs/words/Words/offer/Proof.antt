@@ -58,7 +58,7 @@ use Rattle.seize_blocks.specs.contracts.strip.Strip as strip
 use Rattle.seize_plots.specs.contracts.row.Row as row
 use Rattle.seize_plots.specs.contracts.plot.Deed as deed_of
 use Rattle.seize_plots.specs.contracts.plot.Alone as alone_of
-use Rattle.seize_blocks.specs.contracts.place.Place as place
+use Rattle.seize_plots.specs.contracts.place.Place as place
 use Rattle.seize_blocks.proofs.Fields.{token, word_laws, Data, Mark, mark_told, mark_made, one_of, one_good, places_told, place_made, found_good, answer_made}
 use Rattle.seize_seats.proofs.Slotted.{full_is, Fits, whole_out, Roomy, values_out, nones_are}
 use Rattle.seize_seats.proofs.Plotted.{plot}

@@ -3,7 +3,7 @@ use Rattle.std.specs.Prelude.{slice_index_or}
 use denote.RawPtr.{null_ptr}
 use Rattle.core.specs.Mem.Slots.{slots_items, slots_filled, slots_ptr, slots_len}
 use Rattle.core.specs.Mem.Slots.Ownership.{Filled}
-use Rattle.seize_blocks.proofs.home.shut.Given as goal
+use Rattle.seize_plots.proofs.filling.shut.Given as goal
 
 -- the places so far hold no address
 abbrev pub invariant-loop-index : goal.invariant-loop-index

@@ -4,7 +4,7 @@ use Rattle.core.specs.Mem.Slots.{slots_items, slots_filled, slots_ptr, slots_len
 use Rattle.core.specs.Mem.Slots.Ownership.{Filled}
 use Rattle.seize_seats.specs.Doors.{IsFurther, AreBehind}
 use Rattle.seize_plots.specs.contracts.kept.Kept.{the_row as KeptOf}
-use Rattle.seize_blocks.proofs.home.clear.Given as goal
+use Rattle.seize_plots.proofs.emptying.clear.Given as goal
 
 -- the doors from here on have the addresses of the strips that are left, and so many numbers come before the next one
 abbrev pub invariant-loop-door : goal.invariant-loop-door

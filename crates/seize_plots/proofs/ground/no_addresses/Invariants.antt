@@ -1,5 +1,5 @@
 use Rattle.std.proofs.Common.{◌≡◌, length}
-use Rattle.seize_blocks.proofs.home.no_addresses.Given as goal
+use Rattle.seize_plots.proofs.ground.no_addresses.Given as goal
 
 -- there are as many so far
 abbrev pub invariant-loop : goal.invariant-loop

@@ -6,7 +6,7 @@ use Rattle.seize_seats.specs.Strips.{Strip}
 use Rattle.seize_seats.specs.Plots.{HasFirst}
 use Rattle.seize_seats.proofs.Behind.{Behind, behind, doubles, doubled, full_behind}
 use Rattle.seize_plots.specs.contracts.kept.Kept.{the_row as KeptOf}
-use Rattle.seize_blocks.proofs.home.clear.Goals as goal
+use Rattle.seize_plots.proofs.emptying.clear.Goals as goal
 
 pub loop-door-init : goal.loop-door-init
 loop-door-init g c = let r = c.requires in (omega arith, r.2, r.0, r.1, refl)
