@@ -1,9 +1,7 @@
 -- A call is never refused as busy; so it is over for its history where it is over.
 use Rattle.std.specs.Prelude.{◌≡◌, ℕ, Bool, true, Option, Some}
-use Rattle.std.proofs.Common.{refl, ap, sym, subst, ◌∙◌, inl, inr}
-use Rattle.papaya_legal.specs.Given.Logged.Given.Late.Faults.{IsRoom}
+use Rattle.std.proofs.Common.{refl, sym, subst, inl, inr}
 use Rattle.papaya_legal.specs.Given.Logged.Given.Late.Kinds.{FaultFits}
-use Rattle.papaya_legal.specs.Given.SeizeWords.declared.fault.Fault.{Fault}
 use Rattle.papaya_legal.specs.Given.SeizeWords.declared.fault.Fault.TheVariants.{Busy}
 use Rattle.papaya_legal.specs.Given.Tables.declared.node.Node.{Node}
 use Rattle.papaya_legal.specs.Given.Raw.declared.machines.progress.Progress.{Progress}

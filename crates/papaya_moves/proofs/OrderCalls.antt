@@ -1,7 +1,7 @@
 -- All stays in order where a call begins, takes a reply, is given up, or comes to an outcome.
-use Rattle.std.specs.Prelude.{◌≡◌, ◌==◌, ◌+◌, ℕ, Bool, true, false, List, [], ◌∷◌, Option, Some, None, if◌then◌else◌}
+use Rattle.std.specs.Prelude.{◌≡◌, ◌==◌, ℕ, true, false, List, [], Some, None, if◌then◌else◌}
 use Rattle.std.specs.List.{AllByRecursion, list_any}
-use Rattle.std.proofs.Common.{refl, arith}
+use Rattle.std.proofs.Common.{arith}
 use Rattle.papaya_legal.specs.Given.Runs.Same.{is_same}
 use Rattle.papaya_legal.specs.Given.Schedules.declared.call.Call.{Call}
 use Rattle.papaya_legal.specs.Given.Schedules.declared.call.Reply.{Reply}
@@ -9,7 +9,7 @@ use Rattle.papaya_legal.specs.Given.Schedules.declared.event.Event.{Event}
 use Rattle.papaya_legal.specs.Given.Schedules.declared.event.Event.TheVariants as event
 use Rattle.papaya_legal.specs.Given.Schedules.declared.outcome.Outcome.{Outcome}
 use Rattle.papaya_legal.specs.Given.Schedules.declared.outcome.Outcome.TheVariants as outcome
-use Rattle.papaya_legal.specs.Given.Schedules.After.{after, replied, stepped, without_call}
+use Rattle.papaya_legal.specs.Given.Schedules.After.{after, stepped, without_call}
 use Rattle.papaya_legal.specs.Given.Schedules.Beginning.{with_call}
 use Rattle.papaya_legal.specs.Given.Schedules.Entry.{Entry, ends_call}
 use Rattle.papaya_legal.specs.Given.Schedules.Moment.{MapThere, Moment, TableThere, UnderWay as CallThere}

@@ -1,29 +1,24 @@
 -- By each kind of step all stays in order from entry to entry of a history.
-use Rattle.std.specs.Prelude.{◌≡◌, ◌≢◌, ◌==◌, ◌+◌, ℕ, Bool, true, false, List, [], ◌∷◌, Option, Some, None}
-use Rattle.std.specs.List.{AllByRecursion, list_any}
-use Rattle.std.proofs.Common.{refl, ap, sym, subst, ◌∙◌, inl, inr}
+use Rattle.std.specs.Prelude.{◌≡◌, ◌≢◌, ◌==◌, ◌+◌, ℕ, Bool, true, false, List, [], Option, Some, None}
+use Rattle.std.specs.List.{AllByRecursion}
+use Rattle.std.proofs.Common.{refl, ap, sym, subst, ◌∙◌}
 use Rattle.seize_acts.proofs.Answers.{same_some}
 use Rattle.papaya_legal.proofs.Given.Logged.Given.Late.KindsKept.Laws.{told_sweeps_refuse_room}
 use Rattle.papaya_legal.specs.Given.Seize.World.{Step}
 use Rattle.papaya_legal.specs.Given.Seize.declared.progress.Progress.{Progress as Making}
 use Rattle.papaya_legal.specs.Given.Seize.declared.progress.Progress.TheVariants as making
-use Rattle.papaya_legal.specs.Given.Tables.declared.node.Node.{Node}
 use Rattle.papaya_legal.specs.Given.Tables.declared.setting.Setting.{Setting}
-use Rattle.papaya_legal.specs.Given.Sweeps.SweepPoints.{after_next}
-use Rattle.papaya_legal.specs.Given.Raw.declared.machines.progress.Progress.{Progress}
-use Rattle.papaya_legal.specs.Given.Raw.declared.machines.progress.Progress.TheVariants as progress
 use Rattle.papaya_legal.specs.Given.Schedules.declared.outcome.Outcome.{Outcome}
 use Rattle.papaya_legal.specs.Given.Schedules.declared.outcome.Outcome.TheVariants as outcome
-use Rattle.papaya_legal.specs.Given.Raw.Machine.{machine_asked, machine_replied}
+use Rattle.papaya_legal.specs.Given.Raw.Machine.{machine_asked}
 use Rattle.papaya_legal.specs.Given.Schedules.declared.effect.Effect.{Effect}
 use Rattle.papaya_legal.specs.Given.Schedules.Beginning.{fresh_call}
-use Rattle.papaya_legal.specs.Given.Schedules.After.{comes_to, replied}
+use Rattle.papaya_legal.specs.Given.Schedules.After.{replied}
 use Rattle.papaya_legal.specs.Given.Schedules.Effects.{with_effects}
 use Rattle.papaya_legal.specs.Given.Schedules.Entry.{IfCall, ends_call}
 use Rattle.papaya_legal.specs.Given.Schedules.Moment.{MapThere, Moment, UnderWay as CallThere}
 use Rattle.papaya_legal.specs.Given.Schedules.Terms.{Terms}
-use Rattle.papaya_legal.specs.Given.Schedules.Views.{call_of, map_at}
-use Rattle.papaya_legal.specs.Given.Callers.OverAll.{gone_on}
+use Rattle.papaya_legal.specs.Given.Schedules.Views.{call_of}
 use Rattle.papaya_legal.specs.Given.Callers.Together.{OverAll, UnderWay}
 use Rattle.papaya_legal.specs.Given.Effects.Effects.{effects_of, known_after}
 use Rattle.papaya_legal.specs.Given.Effects.Known.{Known}
@@ -53,7 +48,6 @@ use Rattle.papaya_legal.proofs.Given.Named.Called.{begins_for_room}
 use Rattle.papaya_acts.specs.Acts.{begun}
 use Rattle.papaya_deeds.specs.Deeds.{Entry, ReclaimsAll, Steps, acted_on, after, come, moment, named}
 use Rattle.papaya_played.specs.Play.{call_for, is_over, is_refusal, making_outcome, outcome_of, pairs_for, row_deed, settled_outcome}
-use Rattle.papaya_linear.specs.Shown.{ShowsAnswers}
 use Rattle.papaya_linear.specs.Coming.{ComesBy, IsUnknown}
 use Rattle.papaya_linear.proofs.Begun.{begun_is}
 use Rattle.papaya_linear.proofs.Like.{IsLike}
@@ -62,7 +56,7 @@ use Rattle.papaya_swept.proofs.Kept.{IsKept, coming}
 use Rattle.papaya_moves.specs.Order.{AreUnderWay, IsUnderWay, KeepsOrder, MapsComeNew}
 use Rattle.papaya_moves.proofs.NotBusy.{ends_so, not_busy, room_then}
 use Rattle.papaya_moves.proofs.OrderStays.{begins_stay, comes_stay, ends_stay, fails_stay, goes_stay, makes_stay, replies_stay, rows_stay, steps_stay, stops_stay}
-use Rattle.papaya_moves.proofs.RoomKept.{HasRoom, goes_on, one_call, ready_has_none, room_on, room_still, told_room}
+use Rattle.papaya_moves.proofs.RoomKept.{goes_on, one_call, ready_has_none, room_on, room_still, told_room}
 use Rattle.papaya_moves.proofs.UnderWay.{begins_under, effects_under, ends_under, goes_under, none_named, stays_under, stepped_under, still_under}
 
 not_over : (q : Bool) → (q ≡ true → ⊥) → q ≡ false

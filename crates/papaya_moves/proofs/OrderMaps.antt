@@ -1,15 +1,15 @@
 -- All stays in order where a map comes, and where one goes that has no pair and no linked table, and on which no call is.
-use Rattle.std.specs.Prelude.{◌≡◌, ◌≢◌, ◌==◌, ◌<◌, ◌≤◌, ◌+◌, ◌++◌, ℕ, nat_le, max, Bool, true, false, not, cond, ◌&&◌, ◌||◌, List, [], ◌∷◌, filter, find, Option, Some, None}
+use Rattle.std.specs.Prelude.{◌≡◌, ◌≢◌, ◌==◌, ◌<◌, ◌≤◌, ◌+◌, ◌++◌, ℕ, nat_le, max, Bool, true, false, not, cond, ◌&&◌, ◌||◌, List, [], ◌∷◌, find, Some, None}
 use Rattle.std.specs.List.{AllByRecursion, list_any}
 use Rattle.std.proofs.Common.{refl, ap, sym, subst, ◌∙◌, arith}
-use Rattle.std.proofs.lemmas.Bool.{and_from, and_parts, eq-eqb, leb-true, le-leb, or_left}
+use Rattle.std.proofs.lemmas.Bool.{and_parts, eq-eqb, leb-true, le-leb, or_left}
 use Rattle.std.proofs.lemmas.List.Elements.{All-from_recursion, recursion_from_All}
 use Rattle.std.proofs.lemmas.List.Folds.{list_any-append}
 use Rattle.papaya_legal.specs.Given.Runs.Same.{is_same}
-use Rattle.papaya_legal.specs.Given.Schedules.Moment.{InMap, MapThere, Moment, Place, TableThere, UnderWay as CallThere}
+use Rattle.papaya_legal.specs.Given.Schedules.Moment.{InMap, MapThere, Moment, TableThere, UnderWay as CallThere}
 use Rattle.papaya_legal.specs.Given.Schedules.Reclaims.{is_kept}
 use Rattle.papaya_legal.specs.Given.Schedules.Things.{same_table}
-use Rattle.papaya_legal.specs.Given.Schedules.Views.{first_of, first_or, is_linked, map_at, map_of, tables_of}
+use Rattle.papaya_legal.specs.Given.Schedules.Views.{first_of, first_or, is_linked, map_at, tables_of}
 use Rattle.papaya_legal.specs.Given.Schedules.Beginning.{with_map}
 use Rattle.papaya_legal.specs.Given.Finds.Tables.{TablesAreInOrder}
 use Rattle.papaya_legal.specs.Given.Finds.Waiting.{PairsArePlaced}

@@ -1,5 +1,5 @@
 -- All stays in order by each entry of a history that does what is its own, whose effects find what they must.
-use Rattle.std.specs.Prelude.{◌≡◌, ◌≢◌, ◌==◌, ◌≤◌, ◌<◌, ℕ, nat_le, Bool, true, false, List, [], ◌∷◌, filter, length, Option, Some, None}
+use Rattle.std.specs.Prelude.{◌≡◌, ◌≢◌, ◌==◌, ◌≤◌, ◌<◌, ℕ, nat_le, Bool, true, false, List, [], filter, length, Some, None}
 use Rattle.std.specs.List.{AllByRecursion, list_any}
 use Rattle.std.proofs.Common.{refl, ap, sym, subst, ◌∙◌, arith}
 use Rattle.std.proofs.lemmas.Bool.{eq-eqb}
@@ -20,14 +20,13 @@ use Rattle.papaya_legal.specs.Given.Schedules.Lives.{EventFinds, Finds}
 use Rattle.papaya_legal.specs.Given.Schedules.Moment.{InMap, MapThere, Moment, Place, TableThere, UnderWay as CallThere}
 use Rattle.papaya_legal.specs.Given.Schedules.Terms.{Terms}
 use Rattle.papaya_legal.specs.Given.Schedules.Views.{call_of, first_of, is_in_map, is_linked, map_at}
-use Rattle.papaya_legal.specs.Given.Finds.Events.{EndedOwesNone}
 use Rattle.papaya_legal.specs.Given.Finds.Life.{StoresOne}
 use Rattle.papaya_legal.specs.Given.Finds.Waiting.{is_unborn}
 use Rattle.papaya_legal.specs.Given.Finds.Within.{ActsOn, AllIsInOrder, many_of}
 use Rattle.papaya_legal.proofs.Given.Finds.Life.{each_so}
 use Rattle.papaya_legal.proofs.Given.Finds.Over.{both_at, calls_stay, ended_owes_none, none_of_name}
 use Rattle.papaya_legal.proofs.Given.Finds.Runs.{life_keeps_order}
-use Rattle.papaya_deeds.specs.Deeds.{Begins, Deed, Ends, Entry, Leaves, Makes, MapComes, MapFails, MapGoes, Opens, ReclaimsAll, Registers, Replies, Shuts, Steps, Stops, Tends, acted_on, after, come, map_of_call, moment, named, without_map, worked}
+use Rattle.papaya_deeds.specs.Deeds.{Begins, Deed, Ends, Entry, Leaves, Makes, MapComes, MapFails, MapGoes, Opens, ReclaimsAll, Registers, Replies, Shuts, Steps, Stops, Tends, acted_on, after, come, map_of_call, moment, named, without_map}
 use Rattle.papaya_deeds.specs.History.{EndFinds, past}
 use Rattle.papaya_agrees.specs.Fresh.{AreNamed}
 use Rattle.papaya_agrees.proofs.Names.{effects_named}

@@ -1,10 +1,9 @@
 -- What calls on no key are refused for is room, whatever they are told; and of a call that goes on, or is ready.
-use Rattle.std.specs.Prelude.{◌≡◌, ℕ, Bool, true, false, List, [], Option, Some, None}
+use Rattle.std.specs.Prelude.{◌≡◌, ℕ, Bool, true, false, List, [], Option, Some}
 use Rattle.std.proofs.Common.{refl, ap, sym, ◌∙◌, inl, inr}
 use Rattle.papaya_legal.specs.Given.Logged.Given.Late.Faults.{RoomInSweeping}
 use Rattle.papaya_legal.proofs.Given.Logged.Given.Late.KindsKept.Laws.{told_sweeps_refuse_room}
 use Rattle.papaya_legal.specs.Given.Tables.declared.node.Node.{Node}
-use Rattle.papaya_legal.specs.Given.Sweeps.declared.sweep.Sweep.{Sweep}
 use Rattle.papaya_legal.specs.Given.Sweeps.declared.sweep.Sweeping.{Sweeping}
 use Rattle.papaya_legal.specs.Given.Sweeps.declared.sweep.Sweeping.TheVariants as sweeping
 use Rattle.papaya_legal.specs.Given.Raw.Machine.{machine_asked, machine_replied, sweep_told}

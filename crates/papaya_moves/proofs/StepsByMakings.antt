@@ -1,6 +1,6 @@
 -- What a moment shows of steps of calls it shows, too, where the making of a map begins, as its map comes, and after each of its steps.
 use Rattle.std.specs.Prelude.{◌≡◌, ◌⊎◌, ℕ, Bool, List, Option, Some, None}
-use Rattle.std.proofs.Common.{refl, ap, sym, subst, ◌∙◌, inl, inr}
+use Rattle.std.proofs.Common.{refl, ap, sym, ◌∙◌, inl, inr}
 use Rattle.papaya_legal.specs.Given.Seize.declared.progress.Progress.{Progress as Making}
 use Rattle.papaya_legal.specs.Given.Tables.declared.setting.Setting.{Setting}
 use Rattle.papaya_legal.specs.Given.Schedules.declared.effect.Effect.{Effect}

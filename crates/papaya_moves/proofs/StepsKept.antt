@@ -2,7 +2,7 @@
 use Rattle.std.specs.Prelude.{◌≡◌, ◌⊎◌, ◌<◌, ℕ, Bool, true, List, [], ◌∷◌, length, Option, Some, None}
 use Rattle.std.proofs.Common.{refl, ap, sym, subst, ◌∙◌, arith, inl, inr}
 use Rattle.seize_acts.proofs.Answers.{same_some}
-use Rattle.papaya_legal.specs.Given.Seize.World.{Begin, Step}
+use Rattle.papaya_legal.specs.Given.Seize.World.{Step}
 use Rattle.papaya_legal.specs.Given.Seize.declared.progress.Progress.{Progress as Making}
 use Rattle.papaya_legal.specs.Given.Seize.declared.progress.Progress.TheVariants as progress
 use Rattle.papaya_legal.specs.Given.Tables.Lengths.{entries_of}
@@ -16,7 +16,7 @@ use Rattle.papaya_legal.specs.Given.Schedules.Growing.{Has}
 use Rattle.papaya_legal.specs.Given.Schedules.Moment.{MapThere, Moment, UnderWay as CallThere}
 use Rattle.papaya_legal.specs.Given.Schedules.Terms.{Terms}
 use Rattle.papaya_legal.specs.Given.Schedules.Views.{capacity_or, map_at}
-use Rattle.papaya_legal.specs.Given.Callers.Together.{OverAll, UnderWay}
+use Rattle.papaya_legal.specs.Given.Callers.Together.{OverAll}
 use Rattle.papaya_legal.specs.Given.Effects.Effects.{effects_of, known_after}
 use Rattle.papaya_legal.specs.Given.Effects.Known.{Known}
 use Rattle.papaya_legal.specs.Given.Effects.declared.acting.Acting.TheVariants as acts
@@ -30,7 +30,6 @@ use Rattle.papaya_legal.specs.Given.Others.Endings.{ending_after, without_map}
 use Rattle.papaya_legal.specs.Given.Others.Makings.{WasNew, making_after}
 use Rattle.papaya_legal.specs.Given.Others.Rows.{scene_then}
 use Rattle.papaya_legal.specs.Given.Others.Walks.{given_up}
-use Rattle.papaya_legal.specs.Given.Scenes.Held.{Held, IsAt}
 use Rattle.papaya_legal.specs.Given.Scenes.Replying.{scene_with, unless_stopped}
 use Rattle.papaya_legal.specs.Given.Scenes.Scene.{Scene, slot_of}
 use Rattle.papaya_legal.specs.Given.Scenes.Stepping.{scene_after}
@@ -42,7 +41,6 @@ use Rattle.papaya_acts.specs.Acts.{begun}
 use Rattle.papaya_deeds.specs.Deeds.{Begins, Deed, Ends, Entry, Leaves, Makes, MapFails, MapGoes, Opens, ReclaimsAll, Registers, Replies, Shuts, Steps, Stops, Tends, acted_on, after, come, map_of_call, moment, named, worked}
 use Rattle.papaya_deeds.specs.History.{past}
 use Rattle.papaya_played.specs.Play.{call_for, is_over, is_refusal, making_outcome, outcome_of, row_deed, settled_outcome}
-use Rattle.papaya_linear.specs.Shown.{ShowsAnswers}
 use Rattle.papaya_linear.proofs.CallsGo.{calls_step}
 use Rattle.papaya_linear.proofs.Like.{IsLike, likes_answer}
 use Rattle.papaya_linear.proofs.OthersGo.{all_step, ends_step, makings_step, maps_come, maps_go, rows_step}
@@ -52,7 +50,7 @@ use Rattle.papaya_swept.proofs.Instance.{sweeps_are_kept}
 use Rattle.papaya_swept.proofs.Kept.{IsKept, alone, coming, comes_by}
 use Rattle.papaya_swept.proofs.Others.{sweeps_by_end, sweeps_by_making, sweeps_by_map_come, sweeps_by_map_gone, sweeps_by_reclaiming, sweeps_by_row, sweeps_like}
 use Rattle.papaya_swept.proofs.SweptBy.{pair_words}
-use Rattle.papaya_moves.specs.Steps.{HasFound, InOrderSoFar, OfStep, ShowsSteps, StepFinds, StepsMay}
+use Rattle.papaya_moves.specs.Steps.{HasFound, InOrderSoFar, OfStep, StepsMay}
 use Rattle.papaya_moves.proofs.StepsByCalls.{steps_begin, steps_go_on, steps_step, steps_stop, steps_take}
 use Rattle.papaya_moves.proofs.StepsByMakings.{steps_by_making, steps_by_making_begun, steps_by_map_come}
 use Rattle.papaya_moves.proofs.StepsByOthers.{steps_by_choice, steps_by_end, steps_by_end_begun, steps_by_map_gone, steps_by_reclaiming, steps_by_row, steps_by_row_begun}

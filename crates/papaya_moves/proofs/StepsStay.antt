@@ -1,16 +1,15 @@
 -- Wherever a list of acts has led each entry that is a step of a call finds what it must, and all stays in order by each entry, if maps are made with so many shards as the terms say, and with such
 -- places as capacities ask for.
-use Rattle.std.specs.Prelude.{◌≡◌, ◌==◌, ℕ, max, Bool, true, false, List, [], Option, Some, None}
+use Rattle.std.specs.Prelude.{◌≡◌, ℕ, max, Bool, true, false, Option, Some, None}
 use Rattle.std.proofs.Common.{refl, ap, sym, subst, ◌∙◌}
 use Rattle.seize_acts.proofs.Answers.{same_some}
 use Rattle.papaya_legal.specs.Given.Seize.World.{IsInside}
 use Rattle.papaya_legal.specs.Given.Seize.declared.rows.reclaim_all.ReclaimAll.{ReclaimAll}
 use Rattle.papaya_legal.specs.Given.Tables.Lengths.{entries_of}
-use Rattle.papaya_legal.specs.Given.Resize.NewMap.{at_root}
 use Rattle.papaya_legal.specs.Given.Resize.declared.new_map.NewMap.{NewMap}
 use Rattle.papaya_legal.specs.Given.Runs.Runs.{map_fault}
 use Rattle.papaya_legal.specs.Given.Schedules.Growing.{Has}
-use Rattle.papaya_legal.specs.Given.Schedules.Moment.{MapThere, Moment}
+use Rattle.papaya_legal.specs.Given.Schedules.Moment.{MapThere}
 use Rattle.papaya_legal.specs.Given.Schedules.Terms.{Terms, shards_of}
 use Rattle.papaya_legal.specs.Given.Schedules.Views.{capacity_or, map_at}
 use Rattle.papaya_legal.specs.Given.Teller.declared.changed.Changed.TheVariants.{Nothing as NoChange}
@@ -34,13 +33,12 @@ use Rattle.papaya_agrees.proofs.Shards.{shards_stay}
 use Rattle.papaya_deeds.specs.Deeds.{moment}
 use Rattle.papaya_played.specs.Play.{Making, State, has_root, pairs_for}
 use Rattle.papaya_played.specs.Reached.{IsOf, made_so, makes_so, rows_beside}
-use Rattle.papaya_played.proofs.Along.{At, Is, StaysSo, far, held}
+use Rattle.papaya_played.proofs.Along.{At, StaysSo}
 use Rattle.papaya_played.proofs.Noted.{Anything}
 use Rattle.papaya_linear.specs.Coming.{ComesBy}
 use Rattle.papaya_linear.proofs.Holding.{AllHolds}
 use Rattle.papaya_linear.proofs.StepsPlayed.{there_alike}
-use Rattle.papaya_swept.proofs.KeptByAll.{Fit, Gives, With, all_kept}
-use Rattle.papaya_moves.specs.Order.{MapsComeNew}
+use Rattle.papaya_swept.proofs.KeptByAll.{Gives, With, all_kept}
 use Rattle.papaya_moves.specs.Places.{ArePlaces, AsksPlaces, OpensFor}
 use Rattle.papaya_moves.specs.Steps.{StepsMay}
 use Rattle.papaya_moves.proofs.MadeHolds.{MadeHolds}

@@ -2,7 +2,6 @@
 use Rattle.std.specs.Prelude.{◌≤◌, ◌==◌, nat_lt, ℕ, Bool, true, false, List, [], ◌∷◌, length, if◌then◌else◌}
 use Rattle.std.specs.List.{AllByRecursion}
 use Rattle.std.proofs.Common.{◌≡◌, refl, arith}
-use Rattle.papaya_legal.specs.Given.Schedules.Effects.{with_effects}
 use Rattle.papaya_legal.specs.Given.Schedules.Moment.{Moment, start}
 use Rattle.papaya_legal.specs.Given.Finds.Within.{many_of}
 use Rattle.papaya_legal.specs.Given.Grows.Tries.{TablesLast}

@@ -1,7 +1,7 @@
 -- Each call of the moment of a history is under way in the scene: so it stays as calls begin, go on and end, and as anything else happens.
 use Rattle.std.specs.Prelude.{◌≡◌, ◌+◌, ℕ, Bool, true, false, not, List, [], ◌∷◌, map as list_map, Option, Some, None, if◌then◌else◌}
 use Rattle.std.specs.List.{AllByRecursion, list_any}
-use Rattle.std.proofs.Common.{refl, ap, sym, subst, ◌∙◌, inl, inr}
+use Rattle.std.proofs.Common.{refl, ap, sym, ◌∙◌, inl, inr}
 use Rattle.std.proofs.lemmas.Bool.{cases_eq}
 use Rattle.papaya_legal.specs.Given.Runs.Same.{is_same}
 use Rattle.papaya_legal.specs.Given.Schedules.declared.effect.Effect.{Effect}

@@ -1,5 +1,5 @@
 -- How all stays in order from entry to entry of a history.
-use Rattle.std.specs.Prelude.{◌≡◌, ℕ, Bool, List, ◌∷◌, Some}
+use Rattle.std.specs.Prelude.{◌≡◌, ℕ, List, ◌∷◌, Some}
 use Rattle.std.specs.List.{AllByRecursion}
 use Rattle.papaya_legal.specs.Given.Schedules.After.{AtEachEvent}
 use Rattle.papaya_legal.specs.Given.Schedules.Moment.{Moment, UnderWay as CallThere}
