@@ -44,3 +44,4 @@ pub mod OrderStays
 pub mod OrderKept
 pub mod StepsStay
 pub mod MoveOn
+mod Samples
