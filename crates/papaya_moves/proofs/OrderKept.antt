@@ -236,4 +236,5 @@ module _ {K V : Type 0} (same : K → K → Bool) (hash : ℕ → K → ℕ) (te
           room = room_still s t (ended_calls same hash s old new i f here said leads) has.room;
           each = (goes_stay terms history map fresh.names (none_on same hash m s old at has.under_way map not_there) (settled_outcome said) effects (is_refusal new.changed), has.each);
         });
+    choices_come = λ history known s all has choice shows. record { under_way = has.under_way; room = has.room; each = has.each };
   }

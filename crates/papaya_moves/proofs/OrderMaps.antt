@@ -24,7 +24,7 @@ use Rattle.papaya_legal.proofs.Given.Finds.Somewhere.{others_keep_somewhere}
 use Rattle.papaya_legal.proofs.Given.Finds.Tables.{all_append, all_kept, others_keep_tables}
 use Rattle.papaya_deeds.specs.Deeds.{come, named, without_map}
 use Rattle.papaya_deeds.specs.History.{left_tables}
-use Rattle.papaya_linear.specs.Coming.{AreNamed, IsNamed}
+use Rattle.papaya_agrees.specs.Fresh.{AreNamed, IsNamed}
 use Rattle.papaya_moves.proofs.OrderEffects.{itself, linked_one}
 
 -- of maps that have their numbers as names none has the name of a number that none has

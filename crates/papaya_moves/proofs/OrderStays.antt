@@ -29,8 +29,8 @@ use Rattle.papaya_legal.proofs.Given.Finds.Over.{both_at, calls_stay, ended_owes
 use Rattle.papaya_legal.proofs.Given.Finds.Runs.{life_keeps_order}
 use Rattle.papaya_deeds.specs.Deeds.{Begins, Deed, Ends, Entry, Leaves, Makes, MapComes, MapFails, MapGoes, Opens, ReclaimsAll, Registers, Replies, Shuts, Steps, Stops, Tends, acted_on, after, come, map_of_call, moment, named, without_map, worked}
 use Rattle.papaya_deeds.specs.History.{EndFinds, past}
-use Rattle.papaya_linear.specs.Coming.{AreNamed}
-use Rattle.papaya_linear.proofs.Names.{effects_named}
+use Rattle.papaya_agrees.specs.Fresh.{AreNamed}
+use Rattle.papaya_agrees.proofs.Names.{effects_named}
 use Rattle.papaya_linear.proofs.RowsPlayed.{IsOfRow}
 use Rattle.papaya_endings.specs.Ends.{AreStored}
 use Rattle.papaya_endings.proofs.Places.{none_in}

@@ -40,10 +40,21 @@ use Rattle.papaya_legal.proofs.Given.Grows.Tries.Others.{endings_keep_tries, row
 use Rattle.papaya_legal.proofs.Given.Grows.Tries.Shows.{tries_where}
 use Rattle.papaya_legal.proofs.OfAll.Tells.{gone_by, it_reclaims}
 use Rattle.papaya_legal.proofs.Sourced.{ends_leave, reclaimed_aside, same_maps_aside, so_aside, sources_same, sources_so}
+use Rattle.papaya_acts.specs.Doings.{scene_chosen}
 use Rattle.papaya_deeds.specs.Deeds.{named}
 use Rattle.papaya_linear.specs.Shown.{ShowsAnswers}
 use Rattle.papaya_linear.proofs.MapsPlayed.{IsApart}
 use Rattle.papaya_moves.specs.Steps.{ShowsSteps}
+
+-- where a choice comes
+pub steps_by_choice : {K V : Type 0} (same : K → K → Bool) (log : Past K V) (m : Moment K V) (known : Known) (s : Scene K V) → ShowsAnswers same log m known s → ShowsSteps same log m known s → (choice : ℕ)
+    → ShowsAnswers same log m known (scene_chosen choice s) → ShowsSteps same log m known (scene_chosen choice s)
+steps_by_choice same log m known s all steps choice then_all = record {
+  finding = finding_fewer _ _ same named m m known s (scene_chosen choice s) all.whole.all.shown.calls all.kept.owed then_all.kept.owed (λ n j x is. is) (λ n st stands. (st, stands, refl)) refl refl refl refl refl refl steps.finding;
+  nexts = steps.nexts;
+  tries = steps.tries;
+  sources = sources_same _ _ same named m m known known s (scene_chosen choice s) steps.sources then_all.whole.all.shown refl refl refl refl;
+}
 
 module _ {K V : Type 0} (same : K → K → Bool) (hash : ℕ → K → ℕ) (log : Past K V) (m : Moment K V) (known : Known) (s : Scene K V) (all : ShowsAnswers same log m known s) (steps : ShowsSteps same log m known s)
     (old new : Held K V) where

@@ -55,7 +55,7 @@ use Rattle.papaya_swept.proofs.SweptBy.{pair_words}
 use Rattle.papaya_moves.specs.Steps.{HasFound, InOrderSoFar, OfStep, ShowsSteps, StepFinds, StepsMay}
 use Rattle.papaya_moves.proofs.StepsByCalls.{steps_begin, steps_go_on, steps_step, steps_stop, steps_take}
 use Rattle.papaya_moves.proofs.StepsByMakings.{steps_by_making, steps_by_making_begun, steps_by_map_come}
-use Rattle.papaya_moves.proofs.StepsByOthers.{steps_by_end, steps_by_end_begun, steps_by_map_gone, steps_by_reclaiming, steps_by_row, steps_by_row_begun}
+use Rattle.papaya_moves.proofs.StepsByOthers.{steps_by_choice, steps_by_end, steps_by_end_begun, steps_by_map_gone, steps_by_reclaiming, steps_by_row, steps_by_row_begun}
 use Rattle.papaya_moves.proofs.StepsFind.{step_finds, step_stores}
 use Rattle.papaya_moves.proofs.StepsOver.{steps_come, steps_over}
 
@@ -324,4 +324,9 @@ module _ {K V : Type 0} (same : K → K → Bool) (hash : ℕ → K → ℕ) (te
               (maps_go K V same hash (past history) v known2 t then_all new new at2 (named map) v.remains found apart)) refl shows.whole.all.shown;
           each = (tt, has.each);
         });
+    choices_come = λ history known s all has choice shows. record {
+      swept = (sweeps_are_kept same hash terms).choices_come history known s all has.swept choice shows;
+      shows = λ order. steps_by_choice same (past history) (moment history) known s all (has.shows order) choice shows;
+      each = has.each;
+    };
   }

@@ -104,7 +104,7 @@ module _ {K V S : Type 0} (same : K → K → Bool) (by_hasher : S → K → ℕ
         unless_so u (IsInside (s.world.uses (slot_of i))) _ (guards.inside (slot_of i)) ((at.together.makings.standing.each map st.0 st.1).inside i u here));
   }
 
-module _ {K S : Type 0} (V : Type 0) (same : K → K → Bool) (by_hasher : S → K → ℕ) (hash : ℕ → K → ℕ) (batch_size roots : ℕ) (aborts : V) where
+module _ {K S : Type 0} (V : Type 0) (same : K → K → Bool) (by_hasher : S → K → ℕ) (hash : ℕ → K → ℕ) (batch_size roots : ℕ) (aborts : ℕ → V) where
   abbrev Stays : (State K V S → Act K V S → Type 0) → (At V same by_hasher hash batch_size roots → State K V S → Type 0) → Type 0
   Stays Fits So = StaysSo V same by_hasher hash batch_size roots aborts Fits So
 
@@ -113,6 +113,7 @@ module _ {K S : Type 0} (V : Type 0) (same : K → K → Bool) (by_hasher : S �
     acts = λ p n x y act told own fits none none_then is is_then at may led leads at_then played here. acts_open same by_hasher hash batch_size roots p.0 n.0 here told act fits led leads;
     begins = λ p n x i c none begun same_scene all_free is is_then at here. subst OpensFor (sym same_scene) here;
     steps = λ p n x y told g st is is_then at leads scene played here. still_open p.0 n.0 here (ap (λ (z : Scene K V). z.makers) scene);
+    chooses = λ p n x choice none none_then scene is is_then at here. still_open p.0 n.0 here (ap (λ (z : Scene K V). z.makers) scene);
   }
 
   module _ (terms : Terms) where

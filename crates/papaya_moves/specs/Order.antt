@@ -11,7 +11,8 @@ use Rattle.papaya_legal.specs.Given.Finds.Within.{AllIsInOrder}
 use Rattle.papaya_legal.specs.Given.Named.Machines.{RefusedForRoom}
 use Rattle.papaya_legal.specs.Given.Scenes.Scene.{Scene}
 use Rattle.papaya_deeds.specs.Deeds.{Entry, moment, named}
-use Rattle.papaya_linear.specs.Coming.{AreNamed, Comes}
+use Rattle.papaya_agrees.specs.Fresh.{AreNamed}
+use Rattle.papaya_linear.specs.Coming.{Comes}
 use Rattle.papaya_moves.specs.Parts.{DoesIts}
 use Rattle.papaya_moves.specs.Finds.{FindsIts}
 use Rattle.papaya_moves.specs.Steps.{EachStoresOne, OfStep}
