@@ -1,9 +1,9 @@
 -- While all is reclaimed each pair in a block behind a root is one that an ended map has left over, where all is in order, no call is under way, and each map that is there stands.
-use Rattle.std.specs.Prelude.{◌≡◌, ◌⊎◌, ◌<◌, ◌+◌, ◌==◌, ℕ, Bool, true, false, List, [], ◌∷◌, None, Some}
+use Rattle.std.specs.Prelude.{◌≡◌, ◌⊎◌, ◌<◌, ◌+◌, ◌==◌, ℕ, Bool, true, false, List, [], ◌∷◌, Some}
 use Rattle.std.specs.List.{list_any}
 use Rattle.std.proofs.Common.{refl, ap, sym, subst, ◌∙◌, arith, inl, inr, eqb-true}
 use Rattle.papaya_legal.specs.AllEvents.{BehindAreLeft}
-use Rattle.papaya_legal.specs.Given.Seize.World.{Hand, Handed, InUse, LeftTo, World, times}
+use Rattle.papaya_legal.specs.Given.Seize.World.{LeftTo, World, times}
 use Rattle.papaya_legal.specs.Given.Seize.declared.rows.reclaim_all.ReclaimAll.{ReclaimAll}
 use Rattle.papaya_legal.specs.Given.Seize.declared.rows.reclaim_all.Reclaiming.{Reclaiming}
 use Rattle.papaya_legal.specs.Given.Seize.declared.rows.reclaim_all.Reclaiming.TheVariants as reclaiming

@@ -1,10 +1,10 @@
 -- By each operation, whoever makes it, as many buckets of slots are known then as the history says that were granted.
-use Rattle.std.specs.Prelude.{◌≡◌, ◌⊎◌, ◌≤◌, ◌<◌, ◌+◌, ◌&&◌, nat_le, nat_lt, ℕ, suc, Bool, true, false, not, List, [], ◌∷◌, ◌++◌, length, if◌then◌else◌, Ok}
+use Rattle.std.specs.Prelude.{◌≡◌, ◌⊎◌, ◌≤◌, ◌+◌, ◌&&◌, nat_le, nat_lt, ℕ, Bool, true, false, not, List, [], ◌∷◌, if◌then◌else◌}
 use Rattle.std.specs.List.{list_any}
 use Rattle.std.proofs.Common.{refl, ap, sym, subst, ◌∙◌, arith, inl, inr}
 use Rattle.std.proofs.lemmas.Bool.{cases_lt}
 use Rattle.papaya_legal.specs.Given.SeizeWords.Mem.{Mem, Can}
-use Rattle.papaya_legal.specs.Given.SeizeWords.Op.{Op, Out, Room, Roomed}
+use Rattle.papaya_legal.specs.Given.SeizeWords.Op.{Op, Out, Room}
 use Rattle.papaya_legal.specs.Given.SeizeWords.Place.{capacity}
 use Rattle.papaya_legal.proofs.Given.SeizeWords.Places.Words.{capacity-more, capacity_le_capacity, capacity_pos}
 use Rattle.papaya_legal.specs.Given.Tables.declared.node.Node.{Node}
@@ -13,12 +13,12 @@ use Rattle.papaya_legal.specs.Given.Teller.Tells.{told_of}
 use Rattle.papaya_legal.specs.Given.Teller.declared.changed.Changed.{Changed}
 use Rattle.papaya_legal.specs.Given.Teller.declared.changed.Changed.TheVariants as changed
 use Rattle.papaya_legal.specs.Given.Schedules.declared.effect.Effect.{Effect}
-use Rattle.papaya_legal.specs.Given.Schedules.declared.effect.Effect.TheVariants.{Asked, Reclaimed}
+use Rattle.papaya_legal.specs.Given.Schedules.declared.effect.Effect.TheVariants.{Asked}
 use Rattle.papaya_legal.specs.Given.Schedules.declared.effect.Growth.TheVariants.{ABucket}
 use Rattle.papaya_legal.specs.Given.Schedules.declared.outcome.Outcome.{Outcome}
 use Rattle.papaya_legal.specs.Given.Schedules.Handing.{asks_for_bucket}
 use Rattle.papaya_legal.specs.Given.Effects.Effects.{effects_of, known_after, pair_taken, table_taken}
-use Rattle.papaya_legal.specs.Given.Effects.Known.{Known, with_bucket}
+use Rattle.papaya_legal.specs.Given.Effects.Known.{Known}
 use Rattle.papaya_legal.specs.Given.Effects.declared.acting.Acting.{Acting}
 use Rattle.papaya_legal.specs.Given.Effects.declared.acting.Acting.TheVariants as acts
 use Rattle.papaya_legal.specs.Given.Remains.Slots.{SlotsNoted}

@@ -14,7 +14,6 @@ use Rattle.papaya_legal.specs.Given.Schedules.Views.{capacity_or, map_at}
 use Rattle.papaya_legal.specs.Given.Teller.declared.changed.Changed.TheVariants.{Nothing as NoChange}
 use Rattle.papaya_legal.specs.Given.Effects.Effects.{effects_of}
 use Rattle.papaya_legal.specs.Given.Effects.declared.acting.Acting.TheVariants as acts
-use Rattle.papaya_legal.specs.Given.Finishes.Makings.{Beginning}
 use Rattle.papaya_legal.specs.Given.Named.Places.{first_places}
 use Rattle.papaya_legal.specs.Given.Scenes.Held.{Held, IsAt}
 use Rattle.papaya_legal.specs.Given.Scenes.Making.{MakingLeads}
@@ -25,7 +24,7 @@ use Rattle.papaya_acts.specs.Leads.{Led}
 use Rattle.papaya_acts.proofs.AsSteps.Told.{was_told}
 use Rattle.papaya_agrees.proofs.Openings.{rootless_quiet}
 use Rattle.papaya_deeds.specs.Deeds.{Entry, moment}
-use Rattle.papaya_played.specs.Play.{Making, State, has_root, is_refusal, making_deed, making_outcome, pairs_for}
+use Rattle.papaya_played.specs.Play.{State, has_root, is_refusal, making_deed, making_outcome, pairs_for}
 use Rattle.papaya_played.specs.Reached.{IsOf}
 use Rattle.papaya_played.proofs.PlayedAs.{PlayedAs}
 use Rattle.papaya_linear.specs.Coming.{ComesBy, MapsComeAndGo}
@@ -34,7 +33,7 @@ use Rattle.papaya_linear.proofs.Holds.{Holds}
 use Rattle.papaya_linear.proofs.MakesRight.{was_new}
 use Rattle.papaya_played.proofs.Tied.{MakingTied, making_tied}
 use Rattle.papaya_moves.specs.Finds.{FindsIts}
-use Rattle.papaya_moves.specs.Places.{ArePlaces, OpensFor}
+use Rattle.papaya_moves.specs.Places.{OpensFor}
 use Rattle.papaya_moves.proofs.MadeHolds.{MadeHolds}
 use Rattle.papaya_moves.proofs.MakingFinds.{makings_find}
 use Rattle.papaya_moves.proofs.MakingMoves.{frees_quietly}

@@ -1,5 +1,5 @@
 -- Wherever a list of acts has led, each map that is there by the history stands, is made, or ends.
-use Rattle.std.specs.Prelude.{◌≡◌, ◌≢◌, ◌⊎◌, ◌==◌, ℕ, Bool, true, false, List, length, [], ◌∷◌, ◌++◌, Option, Some, None, if◌then◌else◌, is_ok, option_map}
+use Rattle.std.specs.Prelude.{◌≡◌, ◌≢◌, ◌⊎◌, ◌==◌, ℕ, Bool, true, false, List, length, [], ◌∷◌, Option, Some, None, if◌then◌else◌, is_ok, option_map}
 use Rattle.std.specs.List.{list_any}
 use Rattle.std.proofs.Common.{refl, ap, sym, subst, ◌∙◌, inl, inr}
 use Rattle.std.proofs.lemmas.Bool.{cases_eq}
@@ -12,8 +12,6 @@ use Rattle.papaya_legal.specs.Given.Seize.World.{Row, with_at}
 use Rattle.papaya_legal.specs.Given.Seize.ReclaimAll.{reclaim_all_plan}
 use Rattle.papaya_legal.specs.Given.Seize.declared.progress.Progress.{Progress}
 use Rattle.papaya_legal.specs.Given.Seize.declared.progress.Progress.TheVariants as progress
-use Rattle.papaya_legal.specs.Given.Seize.declared.rows.reclaim_all.ReclaimAll.{ReclaimAll}
-use Rattle.papaya_legal.specs.Given.Seize.declared.rows.settle.Settled.{Settled}
 use Rattle.papaya_legal.specs.Given.Tables.Nodes.{deferred_word, was_left}
 use Rattle.papaya_legal.specs.Given.Tables.declared.node.Node.{Node}
 use Rattle.papaya_legal.specs.Given.Tables.declared.setting.Setting.{Setting}
@@ -27,27 +25,23 @@ use Rattle.papaya_legal.specs.Given.Schedules.declared.outcome.Outcome.TheVarian
 use Rattle.papaya_legal.specs.Given.Schedules.Moment.{MapThere, Moment}
 use Rattle.papaya_legal.specs.Given.Schedules.Views.{map_at}
 use Rattle.papaya_legal.specs.Given.Teller.declared.changed.Changed.{Changed}
-use Rattle.papaya_legal.specs.Given.Teller.declared.changed.Changed.TheVariants.{Nothing as NoChange}
 use Rattle.papaya_legal.specs.Given.Effects.Effects.{effects_of, known_after}
-use Rattle.papaya_legal.specs.Given.Effects.Known.{Known}
 use Rattle.papaya_legal.specs.Given.Effects.declared.acting.Acting.TheVariants as acts
 use Rattle.papaya_legal.specs.Given.Finishes.Endings.{Finishing}
-use Rattle.papaya_legal.specs.Given.Finishes.Makings.{Beginning}
 use Rattle.papaya_legal.specs.Given.Finishes.Maps.{Standing}
 use Rattle.papaya_legal.specs.Given.Named.Seen.{kind_of}
 use Rattle.papaya_legal.specs.Given.Scenes.Scene.{Scene, row_of, slot_of}
 use Rattle.papaya_legal.proofs.Given.Callers.Together.At.{at_other, at_same}
 use Rattle.papaya_legal.proofs.Given.Scenes.NoCall.{none_is}
-use Rattle.papaya_acts.specs.Acts.{Act, Answer, BeginsCall, StepsCall, TellsCall, AsksCall, StopsCall, BeginsMaking, StepsMaking, BeginsEnding, StepsEnding, BeginsRow, StepsRow}
+use Rattle.papaya_acts.specs.Acts.{Act, BeginsCall, StepsCall, TellsCall, AsksCall, StopsCall, BeginsMaking, StepsMaking, BeginsEnding, StepsEnding, BeginsRow, StepsRow}
 use Rattle.papaya_acts.specs.AsSteps.{changed_of, row_changed}
 use Rattle.papaya_acts.specs.Courses.{set_up}
-use Rattle.papaya_acts.specs.Leads.{Led, MayBe}
+use Rattle.papaya_acts.specs.Leads.{MayBe}
 use Rattle.papaya_acts.proofs.AsSteps.Told.{was_told}
-use Rattle.papaya_deeds.specs.Deeds.{Begins, Deed, Ends, Entry, Leaves, Makes, MapComes, MapFails, MapGoes, Opens, ReclaimsAll, Registers, Replies, Shuts, Steps, Stops, Tends, moment}
+use Rattle.papaya_deeds.specs.Deeds.{Begins, Deed, Ends, Entry, Leaves, Makes, MapGoes, Opens, ReclaimsAll, Registers, Replies, Shuts, Steps, Stops, Tends, moment}
 use Rattle.papaya_played.specs.Play.{Ending, Making, Now, State, all_stepped, call_begun, call_for, call_stepped, call_stopped, call_told, has_root, is_over, is_refusal, made_on, making_deed, making_outcome, outcome_of, pairs_for, reply_for, row_deed, row_outcome, row_stepped, settled_outcome}
 use Rattle.papaya_played.specs.Reached.{IsOf, made_so, makes_so, stands_so}
-use Rattle.papaya_played.proofs.Along.{At, StaysSo}
-use Rattle.papaya_played.proofs.PlayedAs.{PlayedAs, ReclaimedAs, played_as, reclaimed_as}
+use Rattle.papaya_played.proofs.PlayedAs.{PlayedAs, ReclaimedAs}
 use Rattle.papaya_linear.specs.Coming.{ComesBy, MapsComeAndGo}
 use Rattle.papaya_linear.proofs.Gone.{nothing_told}
 use Rattle.papaya_linear.proofs.MapActs.{deed_by}

@@ -13,7 +13,7 @@ use Rattle.papaya_legal.specs.Given.Schedules.declared.effect.Table.{Table}
 use Rattle.papaya_legal.specs.Given.Schedules.declared.outcome.Outcome.{Outcome}
 use Rattle.papaya_legal.proofs.Given.Follows.Calling.{is_same_refl}
 use Rattle.papaya_agrees.proofs.Lists.{all_kept}
-use Rattle.papaya_deeds.specs.Deeds.{Begins, Deed, Entry, MapComes, MapFails, MapGoes, acted_on, after, at_work, begun, caller_of, named, without_map}
+use Rattle.papaya_deeds.specs.Deeds.{Begins, Deed, Entry, MapComes, MapFails, MapGoes, acted_on, after, begun, caller_of, named, without_map}
 
 -- each is one of these, by its name, too
 abbrev pub IsIn : (ℕ → Type 0) → MapThere → Type 0

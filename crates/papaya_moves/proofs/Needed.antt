@@ -1,13 +1,12 @@
 -- Who registers asks for a bucket of words of slots where it needs one, and it is the next one that is not there.
-use Rattle.std.specs.Prelude.{◌≡◌, ◌<◌, ◌+◌, ℕ, Bool, true, List, length, Some}
+use Rattle.std.specs.Prelude.{◌≡◌, ◌+◌, ℕ, Bool, true, length, Some}
 use Rattle.std.specs.List.{list_any}
 use Rattle.std.proofs.Common.{ap, sym, subst, ◌∙◌, inl, inr}
-use Rattle.papaya_legal.specs.Given.SeizeWords.Mem.{Mem, Can, Took, value_at}
-use Rattle.papaya_legal.specs.Given.SeizeWords.Place.{capacity}
+use Rattle.papaya_legal.specs.Given.SeizeWords.Mem.{Can, Took, value_at}
 use Rattle.papaya_legal.specs.Given.SeizeWords.Plan.{May}
 use Rattle.papaya_legal.proofs.Given.SeizeWords.Places.Words.{capacity-one_to_one}
 use Rattle.papaya_legal.specs.Given.Seize.Register.{register_plan}
-use Rattle.papaya_legal.specs.Given.Seize.World.{Registers, Row}
+use Rattle.papaya_legal.specs.Given.Seize.World.{Row}
 use Rattle.papaya_legal.specs.Given.Seize.declared.rows.register.Register.{Register}
 use Rattle.papaya_legal.specs.Given.Seize.declared.rows.register.Registering.{Registering}
 use Rattle.papaya_legal.specs.Given.Seize.declared.rows.register.Registering.TheVariants as registering

@@ -1,6 +1,6 @@
 -- By each act the entry that it makes finds what it must, if it is one of who acts on slots or makes a map, and all is in order as it comes.
-use Rattle.std.specs.Prelude.{◌≡◌, ℕ, Bool, true, false, List, [], ◌∷◌, None, Some, if◌then◌else◌, is_ok}
-use Rattle.std.proofs.Common.{refl, ap, sym, subst, ◌∙◌}
+use Rattle.std.specs.Prelude.{◌≡◌, ℕ, Bool, true, false, List, ◌∷◌, None, if◌then◌else◌, is_ok}
+use Rattle.std.proofs.Common.{ap, sym, subst, ◌∙◌}
 use Rattle.seize_acts.specs.Answers.{Grant}
 use Rattle.papaya_legal.specs.Given.Seize.World.{Row}
 use Rattle.papaya_legal.specs.Given.Seize.declared.rows.settle.Settled.{Settled}

@@ -1,14 +1,13 @@
 -- Wherever a list of acts has led whose maps are made with places that capacities ask for, each entry of who acts on slots, makes a map, or reclaims all finds what it must, where all is in order as it comes.
 use Rattle.std.specs.Prelude.{◌≡◌, ℕ, Bool, List, [], ◌∷◌, Option, None}
 use Rattle.std.specs.List.{AllByRecursion}
-use Rattle.std.proofs.Common.{refl, ap, sym, subst, ◌∙◌}
+use Rattle.std.proofs.Common.{refl, sym, subst}
 use Rattle.papaya_legal.specs.Given.Seize.declared.rows.reclaim_all.ReclaimAll.{ReclaimAll}
 use Rattle.papaya_legal.specs.Given.Schedules.Moment.{Moment, UnderWay}
 use Rattle.papaya_legal.specs.Given.Schedules.Terms.{Terms}
 use Rattle.papaya_legal.specs.Given.Teller.declared.changed.Changed.TheVariants.{Nothing as NoChange}
 use Rattle.papaya_legal.specs.Given.Effects.Effects.{effects_of}
 use Rattle.papaya_legal.specs.Given.Effects.declared.acting.Acting.TheVariants as acts
-use Rattle.papaya_legal.specs.Given.Scenes.Held.{Held}
 use Rattle.papaya_legal.specs.Given.Scenes.Scene.{Scene}
 use Rattle.papaya_acts.specs.Acts.{Act}
 use Rattle.papaya_agrees.specs.Fresh.{HasNewNumber}

@@ -3,7 +3,6 @@ use Rattle.std.specs.Prelude.{◌≡◌, ℕ}
 use Rattle.std.proofs.Common.{refl, arith}
 use Rattle.papaya_legal.specs.Given.Tables.declared.resize_mode.ResizeMode.{ResizeMode}
 use Rattle.papaya_legal.specs.Given.Tables.declared.resize_mode.ResizeMode.TheVariants.{Blocking, Incremental}
-use Rattle.papaya_legal.specs.Given.Tables.declared.setting.Setting.{Setting}
 use Rattle.papaya_acts.specs.Acts.{Act, BeginsMaking}
 use Rattle.papaya_moves.specs.Places.{AsksPlaces}
 
