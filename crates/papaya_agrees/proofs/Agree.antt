@@ -80,7 +80,8 @@ module _ {K S : Type 0} (V : Type 0) (same : K → K → Bool) (by_hasher : S �
         (of_any (λ p x. EachRefuses x.history) (histories_grow V same by_hasher hash batch_size roots aborts EachRefuses (each_refuses K V)))
         (of_any (λ p x. NumbersStay false x) (numbers_stay V same by_hasher hash batch_size roots aborts)))))
 
-    own_so : (doings : List (Doing K V S)) → AllByRecursion (Asks V same by_hasher hash batch_size roots shards) doings → AreOfTheirOwn V same by_hasher hash batch_size roots doings
+    -- of acts of which more is asked each is of its own
+    pub own_so : (doings : List (Doing K V S)) → AllByRecursion (Asks V same by_hasher hash batch_size roots shards) doings → AreOfTheirOwn V same by_hasher hash batch_size roots doings
     own_so [] asks = tt
     own_so (Does act ∷ doings) asks = (asks.0.0, own_so doings asks.1)
     own_so (BeginsReclaiming i ∷ doings) asks = (tt, own_so doings asks.1)

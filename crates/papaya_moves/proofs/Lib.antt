@@ -26,7 +26,6 @@ pub mod MakingActs
 pub mod EndMoves
 pub mod Acts
 pub mod Stays
-mod Theirs
 pub mod TablesLast
 pub mod StepsOver
 pub mod StepsByCalls
@@ -45,3 +44,4 @@ pub mod OrderKept
 pub mod StepsStay
 pub mod MoveOn
 mod Samples
+mod Moved

@@ -53,7 +53,7 @@ steps_by_choice same log m known s all steps choice then_all = record {
   finding = finding_fewer _ _ same named m m known s (scene_chosen choice s) all.whole.all.shown.calls all.kept.owed then_all.kept.owed (λ n j x is. is) (λ n st stands. (st, stands, refl)) refl refl refl refl refl refl steps.finding;
   nexts = steps.nexts;
   tries = steps.tries;
-  sources = sources_same _ _ same named m m known known s (scene_chosen choice s) steps.sources then_all.whole.all.shown refl refl refl refl;
+  sources = sources_so _ _ same named m m known known s (scene_chosen choice s) steps.sources then_all.whole.all.shown refl refl refl (λ n st is. is);
 }
 
 module _ {K V : Type 0} (same : K → K → Bool) (hash : ℕ → K → ℕ) (log : Past K V) (m : Moment K V) (known : Known) (s : Scene K V) (all : ShowsAnswers same log m known s) (steps : ShowsSteps same log m known s)

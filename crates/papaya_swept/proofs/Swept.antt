@@ -13,6 +13,7 @@ use Rattle.papaya_acts.specs.Doings.{Doing, Does, BeginsReclaiming, BeginsCleari
 use Rattle.papaya_acts.specs.Lists.{nothing_done}
 use Rattle.papaya_agrees.specs.Agree.{Asks}
 use Rattle.papaya_agrees.specs.Shards.{AsksShards, ShardsAre}
+use Rattle.papaya_agrees.proofs.Agree.{own_so}
 use Rattle.papaya_agrees.proofs.Coming.{new_fits}
 use Rattle.papaya_agrees.specs.Fresh.{HasNewNumber}
 use Rattle.papaya_agrees.proofs.GivenBack.{again_first}
@@ -20,7 +21,7 @@ use Rattle.papaya_agrees.proofs.Shards.{shards_stay}
 use Rattle.papaya_deeds.specs.Deeds.{moment, named}
 use Rattle.papaya_deeds.specs.History.{past}
 use Rattle.papaya_played.specs.Play.{State, first_state}
-use Rattle.papaya_played.proofs.Along.{AllFit, AreOfTheirOwn, At, wherever}
+use Rattle.papaya_played.proofs.Along.{AllFit, At, wherever}
 use Rattle.papaya_linear.proofs.Stays.{first_holds}
 use Rattle.papaya_swept.specs.Shown.{HasSwept, ShowsSweeps}
 use Rattle.papaya_swept.specs.Swept.{ListsAreSwept}
@@ -28,7 +29,7 @@ use Rattle.papaya_swept.proofs.Instance.{P, Shards, sweeps_are_kept}
 use Rattle.papaya_swept.proofs.KeptByAll.{Fit, With, all_kept}
 
 -- at first
-first_swept : {K V : Type 0} (same : K → K → Bool) (terms : Terms) (roots : ℕ) → HasSwept {K = K} {V = V} same terms [] nothing_known (at_first roots)
+pub first_swept : {K V : Type 0} (same : K → K → Bool) (terms : Terms) (roots : ℕ) → HasSwept {K = K} {V = V} same terms [] nothing_known (at_first roots)
 first_swept {K} {V} same terms roots = record { shows = first_shows; each = tt }
   where
     first_shows : ShowsSweeps {K = K} {V = V} same (past []) (moment []) nothing_known (at_first roots)
@@ -46,14 +47,6 @@ first_swept {K} {V} same terms roots = record { shows = first_shows; each = tt }
     }
 
 module _ {K S : Type 0} (V : Type 0) (same : K → K → Bool) (by_hasher : S → K → ℕ) (hash : ℕ → K → ℕ) (batch_size roots : ℕ) (terms : Terms) where
-  own_so : (doings : List (Doing K V S)) → AllByRecursion (Asks V same by_hasher hash batch_size roots (shards_of terms)) doings → AreOfTheirOwn V same by_hasher hash batch_size roots doings
-  own_so [] asks = tt
-  own_so (Does act ∷ doings) asks = (asks.0.0, own_so doings asks.1)
-  own_so (BeginsReclaiming i ∷ doings) asks = (tt, own_so doings asks.1)
-  own_so (BeginsClearing i ∷ doings) asks = (tt, own_so doings asks.1)
-  own_so (StepsReclaiming g ∷ doings) asks = (tt, own_so doings asks.1)
-  own_so (Chooses choice ∷ doings) asks = (tt, own_so doings asks.1)
-
   abbrev More : State K V S → Act K V S → Type 0
   More x act = AsksShards (shards_of terms) act
 
@@ -80,7 +73,7 @@ module _ {K S : Type 0} (V : Type 0) (same : K → K → Bool) (by_hasher : S �
       let to = wherever V same by_hasher hash batch_size roots small aborts (Fit V same by_hasher hash batch_size roots aborts R (P same hash terms) kept More So)
       (With V same by_hasher hash batch_size roots aborts R (P same hash terms) kept More So)
       (all_kept V same by_hasher hash batch_size roots aborts R (P same hash terms) kept More So (shards_stay V same by_hasher hash batch_size roots (shards_of terms) aborts) (λ p x none is at all so. so)) course doings y
-      led (own_so doings asks) (
+      led (own_so V same by_hasher hash batch_size roots aborts (shards_of terms) doings asks) (
         first_holds V same by_hasher hash batch_size roots aborts first.0 refl (again_first roots),
         (record { standing = λ m st has. absurd (cc has); made = λ i b makes. absurd (cc makes) }, first_swept same terms roots),
       ) (both_fit aborts doings asks (first_state roots) new) in

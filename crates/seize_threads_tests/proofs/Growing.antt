@@ -13,18 +13,18 @@ use Rattle.seize_threads_tests.specs.Grown.{HasGrown, grows, greater}
 abbrev pub NoneKept : ℕ → ℕ → Unit {0} → ℕ → Type 0
 NoneKept u o w b = ⊥
 
-abbrev S : Type 0
+abbrev pub S : Type 0
 S = State ℕ ℕ (Unit {0})
 
 -- of the views after one was set: either that one, or one of before
-after_set : (vs : List ℕ) (i j w v : ℕ) → slice_get (slice_set vs i w) j ≡ Some v → (v ≡ w) ⊎ (slice_get vs j ≡ Some v)
+pub after_set : (vs : List ℕ) (i j w v : ℕ) → slice_get (slice_set vs i w) j ≡ Some v → (v ≡ w) ⊎ (slice_get vs j ≡ Some v)
 after_set [] i j w v e = inr e
 after_set (x ∷ vs) zero zero w v e = inl (let same : w ≡ v = cc e in sym same)
 after_set (x ∷ vs) zero (suc j) w v e = inr e
 after_set (x ∷ vs) (suc i) zero w v e = inr e
 after_set (x ∷ vs) (suc i) (suc j) w v e = after_set vs i j w v e
 
-after_push : (vs : List ℕ) (j w v : ℕ) → slice_get (vs ++ w ∷ []) j ≡ Some v → (v ≡ w) ⊎ (slice_get vs j ≡ Some v)
+pub after_push : (vs : List ℕ) (j w v : ℕ) → slice_get (vs ++ w ∷ []) j ≡ Some v → (v ≡ w) ⊎ (slice_get vs j ≡ Some v)
 after_push [] zero w v e = inl (let same : w ≡ v = cc e in sym same)
 after_push [] (suc j) w v e = inr e
 after_push (x ∷ vs) zero w v e = inr e

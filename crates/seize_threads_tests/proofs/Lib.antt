@@ -1,3 +1,4 @@
 pub mod Growing
 pub mod Roots
 pub mod Owners
+pub mod Threes

@@ -108,20 +108,20 @@ value_there m n x e = by (block_of m n) refl e
     by None is e = absurd (cc e)
     by (Some b) is e = (b, is)
 
-pub makes : (id x : ℕ) (v : Own) → Allows AreTheirs NoneLent id v (Make x 0) (tells v (Make x 0))
-makes id x v s has at = (tt, λ out m took. told out m took)
+pub makes : (id x words : ℕ) (v : Own) → Allows AreTheirs NoneLent id v (Make x words) (tells v (Make x words))
+makes id x words v s has at = (tt, λ out m took. told out m took)
   where
-    told : (out : Out ℕ) (m : Mem ℕ) → Took s.memory (Make x 0) out m → Goes AreTheirs NoneLent s m id (tells v (Make x 0) out)
+    told : (out : Out ℕ) (m : Mem ℕ) → Took s.memory (Make x words) out m → Goes AreTheirs NoneLent s m id (tells v (Make x words) out)
     told (Made (Ok b)) m took = (Some (b, x), tt, gets s has id v at m b x here others, (λ j k c u o p q r w kept. kept), refl)
       where
         free : IsFreeNumber s.memory b
         free = took.0.0
 
-        at_number : (k : ℕ) → block_of m k ≡ (if k == b then Some (fresh x 0) else block_of s.memory k)
-        at_number k = ap (λ (n : Mem ℕ). block_of n k) took.1 ∙ block_of-made s.memory x 0 b k free
+        at_number : (k : ℕ) → block_of m k ≡ (if k == b then Some (fresh x words) else block_of s.memory k)
+        at_number k = ap (λ (n : Mem ℕ). block_of n k) took.1 ∙ block_of-made s.memory x words b k free
 
         branch : (k : ℕ) → Bool → Option (Block ℕ)
-        branch k y = if y then Some (fresh x 0) else block_of s.memory k
+        branch k y = if y then Some (fresh x words) else block_of s.memory k
 
         here : value_at m b ≡ Some x
         here = ap value_in (at_number b ∙ ap (branch b) (eq-eqb b b refl))

@@ -1,3 +1,4 @@
 pub mod Grown
 pub mod Root
 pub mod Theirs
+pub mod Three

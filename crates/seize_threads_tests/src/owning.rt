@@ -25,7 +25,7 @@ impl Rule<u64> for OneEach {
     ghost newcomer = { λ _. None };
 }
 
-/// Makes a block, looks at its value twice at once, and takes it away, so many times, each time with another value. It answers how many blocks were made, or
+/// Makes a block with up to three words of its own, looks at its value twice at once, and takes it away, so many times, each time with another value. It answers how many blocks were made, or
 /// none where another value was seen or came back than was put in.
 fn make_and_take(blocks: &Blocks<u64, OneEach>, from: u64, times: u64) -> Option<u64> {
     let mut seat = blocks.seat();
@@ -33,7 +33,7 @@ fn make_and_take(blocks: &Blocks<u64, OneEach>, from: u64, times: u64) -> Option
     let mut made = 0;
     for turn in 0..times {
         let value = from.wrapping_add(turn);
-        if let Ok(number) = blocks.make(&mut seat, &mut near, value, 0) {
+        if let Ok(number) = blocks.make(&mut seat, &mut near, value, turn % 4) {
             made += 1;
             let once = blocks.value(&seat, number);
             let again = blocks.value(&seat, number);

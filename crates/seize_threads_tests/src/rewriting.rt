@@ -4,7 +4,7 @@ use seize_blocks::{Blocks, Home};
 use std::test::Fail;
 use std::thread;
 
-/// Makes a block, replaces its value, looks at the new one and takes the block away, so many times. It answers how many blocks were made, or none where
+/// Makes a block with up to three words of its own, replaces its value, looks at the new one and takes the block away, so many times. It answers how many blocks were made, or none where
 /// another value came back or was seen than was put in last.
 fn make_and_rewrite(blocks: &Blocks<u64, OneEach>, from: u64, times: u64) -> Option<u64> {
     let mut seat = blocks.seat();
@@ -13,7 +13,7 @@ fn make_and_rewrite(blocks: &Blocks<u64, OneEach>, from: u64, times: u64) -> Opt
     for turn in 0..times {
         let value = from.wrapping_add(turn);
         let other = value.wrapping_add(500_000);
-        if let Ok(number) = blocks.make(&mut seat, &mut near, value, 0) {
+        if let Ok(number) = blocks.make(&mut seat, &mut near, value, turn % 4) {
             made += 1;
             if blocks.rewrite(&mut seat, number, other) != value {
                 return None;

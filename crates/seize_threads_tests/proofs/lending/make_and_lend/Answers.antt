@@ -3,7 +3,7 @@ use Rattle.seize_threads_tests.proofs.Owners.{makes, shows_to_both, takes}
 use Rattle.seize_threads_tests.proofs.lending.make_and_lend.Goals as goal
 
 pub make-requires-clause-may : goal.make-requires-clause-may
-make-requires-clause-may c = makes c.loop-turn.owner.id ((c.args.from + c.loop-turn.turn) % 2 ^ 64) c.loop-turn.owner.view
+make-requires-clause-may c = makes c.loop-turn.owner.id ((c.args.from + c.loop-turn.turn) % 2 ^ 64) 0 c.loop-turn.owner.view
 
 pub value_for-seen-requires-clause-shown : goal.value_for-seen-requires-clause-shown
 value_for-seen-requires-clause-shown c =

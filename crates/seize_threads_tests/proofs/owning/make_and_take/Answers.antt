@@ -3,7 +3,7 @@ use Rattle.seize_threads_tests.proofs.Owners.{makes, takes, shows}
 use Rattle.seize_threads_tests.proofs.owning.make_and_take.Goals as goal
 
 pub make-requires-clause-may : goal.make-requires-clause-may
-make-requires-clause-may c = makes c.loop-turn.seat.id ((c.args.from + c.loop-turn.turn) % 2 ^ 64) c.loop-turn.seat.view
+make-requires-clause-may c = makes c.loop-turn.seat.id ((c.args.from + c.loop-turn.turn) % 2 ^ 64) (c.loop-turn.turn % 4) c.loop-turn.seat.view
 
 pub take-requires-clause-may : goal.take-requires-clause-may
 take-requires-clause-may c =

@@ -3,7 +3,7 @@ use Rattle.seize_threads_tests.proofs.Owners.{makes, owns, rewrites, shows, take
 use Rattle.seize_threads_tests.proofs.rewriting.make_and_rewrite.Goals as goal
 
 pub make-requires-clause-may : goal.make-requires-clause-may
-make-requires-clause-may c = makes c.loop-turn.seat.id ((c.args.from + c.loop-turn.turn) % 2 ^ 64) c.loop-turn.seat.view
+make-requires-clause-may c = makes c.loop-turn.seat.id ((c.args.from + c.loop-turn.turn) % 2 ^ 64) (c.loop-turn.turn % 4) c.loop-turn.seat.view
 
 pub rewrite-requires-clause-alone : goal.rewrite-requires-clause-alone
 rewrite-requires-clause-alone c = owns c.make.new.seat.id c.in-Ok.number ((c.args.from + c.loop-turn.turn) % 2 ^ 64) c.make.new.seat.view c.in-Ok.ensures.goes
