@@ -43,4 +43,5 @@ pub mod OrderStays
 pub mod OrderKept
 pub mod StepsStay
 pub mod MoveOn
+mod Samples
 mod Moved
