@@ -26,21 +26,8 @@ pub mod MakingActs
 pub mod EndMoves
 pub mod Acts
 pub mod Stays
-pub mod TablesLast
-pub mod StepsOver
-pub mod StepsByCalls
-pub mod StepsByOthers
-pub mod StepsByMakings
-pub mod StepsFind
-pub mod StepsKept
-pub mod OrderEffects
-pub mod OrderCalls
-pub mod OrderMaps
-pub mod UnderWay
-pub mod NotBusy
-pub mod RoomKept
-pub mod OrderStays
-pub mod OrderKept
+pub mod Steps
+pub mod Order
 pub mod StepsStay
 pub mod MoveOn
 mod Samples

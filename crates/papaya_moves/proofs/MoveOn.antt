@@ -11,7 +11,7 @@ use Rattle.papaya_moves.specs.Finds.{FindsIts, IsOther}
 use Rattle.papaya_moves.specs.Order.{OrderStays}
 use Rattle.papaya_moves.specs.Parts.{DoesIts}
 use Rattle.papaya_moves.specs.Steps.{EachStoresOne, InOrderSoFar, OfStep, StepFinds}
-use Rattle.papaya_moves.proofs.StepsKept.{order_now}
+use Rattle.papaya_moves.proofs.Steps.Kept.{order_now}
 
 module _ {K V : Type 0} (terms : Terms) where
   -- an entry that is no step of a call finds what it must where all is in order

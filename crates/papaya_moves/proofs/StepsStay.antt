@@ -43,9 +43,9 @@ use Rattle.papaya_moves.specs.Places.{ArePlaces, AsksPlaces, OpensFor}
 use Rattle.papaya_moves.specs.Steps.{StepsMay}
 use Rattle.papaya_moves.proofs.MadeHolds.{MadeHolds}
 use Rattle.papaya_moves.proofs.Opens.{acts_open, still_open}
-use Rattle.papaya_moves.proofs.OrderKept.{New, Orderly, order_is_kept}
+use Rattle.papaya_moves.proofs.Order.Kept.{New, Orderly, order_is_kept}
 use Rattle.papaya_moves.proofs.Stays.{Moves, moves_stay}
-use Rattle.papaya_moves.proofs.StepsKept.{Found, May, steps_are_kept}
+use Rattle.papaya_moves.proofs.Steps.Kept.{Found, May, steps_are_kept}
 
 -- what is so unless it counts
 unless_so : {K V : Type 0} (u : UnderWay K V K) (P Q : Type 0) → (P → Q) → UnlessCounts u P → UnlessCounts u Q

@@ -51,11 +51,11 @@ use Rattle.papaya_swept.proofs.Kept.{IsKept, alone, coming, comes_by}
 use Rattle.papaya_swept.proofs.Others.{sweeps_by_end, sweeps_by_making, sweeps_by_map_come, sweeps_by_map_gone, sweeps_by_reclaiming, sweeps_by_row, sweeps_like}
 use Rattle.papaya_swept.proofs.SweptBy.{pair_words}
 use Rattle.papaya_moves.specs.Steps.{HasFound, InOrderSoFar, OfStep, StepsMay}
-use Rattle.papaya_moves.proofs.StepsByCalls.{steps_begin, steps_go_on, steps_step, steps_stop, steps_take}
-use Rattle.papaya_moves.proofs.StepsByMakings.{steps_by_making, steps_by_making_begun, steps_by_map_come}
-use Rattle.papaya_moves.proofs.StepsByOthers.{steps_by_choice, steps_by_end, steps_by_end_begun, steps_by_map_gone, steps_by_reclaiming, steps_by_row, steps_by_row_begun}
-use Rattle.papaya_moves.proofs.StepsFind.{step_finds, step_stores}
-use Rattle.papaya_moves.proofs.StepsOver.{steps_come, steps_over}
+use Rattle.papaya_moves.proofs.Steps.ByCalls.{steps_begin, steps_go_on, steps_step, steps_stop, steps_take}
+use Rattle.papaya_moves.proofs.Steps.ByMakings.{steps_by_making, steps_by_making_begun, steps_by_map_come}
+use Rattle.papaya_moves.proofs.Steps.ByOthers.{steps_by_choice, steps_by_end, steps_by_end_begun, steps_by_map_gone, steps_by_reclaiming, steps_by_row, steps_by_row_begun}
+use Rattle.papaya_moves.proofs.Steps.Find.{step_finds, step_stores}
+use Rattle.papaya_moves.proofs.Steps.Over.{steps_come, steps_over}
 
 module _ {K V : Type 0} where
   pub order_now : (history : List (Entry K V)) → InOrderSoFar history → AllIsInOrder (moment history)

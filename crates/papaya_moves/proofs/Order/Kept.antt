@@ -54,10 +54,10 @@ use Rattle.papaya_linear.proofs.Like.{IsLike}
 use Rattle.papaya_linear.proofs.RowsPlayed.{is_of_row, rows_like}
 use Rattle.papaya_swept.proofs.Kept.{IsKept, coming}
 use Rattle.papaya_moves.specs.Order.{AreUnderWay, IsUnderWay, KeepsOrder, MapsComeNew}
-use Rattle.papaya_moves.proofs.NotBusy.{ends_so, not_busy, room_then}
-use Rattle.papaya_moves.proofs.OrderStays.{begins_stay, comes_stay, ends_stay, fails_stay, goes_stay, makes_stay, replies_stay, rows_stay, steps_stay, stops_stay}
-use Rattle.papaya_moves.proofs.RoomKept.{goes_on, one_call, ready_has_none, room_on, room_still, told_room}
-use Rattle.papaya_moves.proofs.UnderWay.{begins_under, effects_under, ends_under, goes_under, none_named, stays_under, stepped_under, still_under}
+use Rattle.papaya_moves.proofs.Order.NotBusy.{ends_so, not_busy, room_then}
+use Rattle.papaya_moves.proofs.Order.Stays.{begins_stay, comes_stay, ends_stay, fails_stay, goes_stay, makes_stay, replies_stay, rows_stay, steps_stay, stops_stay}
+use Rattle.papaya_moves.proofs.Order.RoomKept.{goes_on, one_call, ready_has_none, room_on, room_still, told_room}
+use Rattle.papaya_moves.proofs.Order.UnderWay.{begins_under, effects_under, ends_under, goes_under, none_named, stays_under, stepped_under, still_under}
 
 not_over : (q : Bool) → (q ≡ true → ⊥) → q ≡ false
 not_over false never = refl

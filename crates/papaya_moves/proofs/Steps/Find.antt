@@ -52,7 +52,7 @@ use Rattle.papaya_deeds.specs.History.{past}
 use Rattle.papaya_linear.specs.Shown.{ShowsAnswers}
 use Rattle.papaya_moves.specs.Finds.{FindsIts}
 use Rattle.papaya_moves.specs.Steps.{EachStoresOne, ShowsSteps, StepsMay}
-use Rattle.papaya_moves.proofs.TablesLast.{tables_last}
+use Rattle.papaya_moves.proofs.Steps.TablesLast.{tables_last}
 
 -- a counting only looks
 counting_looks : {K V : Type 0} (same : K → K → Bool) (sum : Sum) (its : Call K V) → IsCalled same (Counting sum) its → only_looks its ≡ true

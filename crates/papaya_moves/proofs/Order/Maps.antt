@@ -25,7 +25,7 @@ use Rattle.papaya_legal.proofs.Given.Finds.Tables.{all_append, all_kept, others_
 use Rattle.papaya_deeds.specs.Deeds.{come, named, without_map}
 use Rattle.papaya_deeds.specs.History.{left_tables}
 use Rattle.papaya_agrees.specs.Fresh.{AreNamed, IsNamed}
-use Rattle.papaya_moves.proofs.OrderEffects.{itself, linked_one}
+use Rattle.papaya_moves.proofs.Order.Effects.{itself, linked_one}
 
 -- of maps that have their numbers as names none has the name of a number that none has
 none_by_name : (n : ℕ) (fs : List MapThere) → AllByRecursion IsNamed fs → find (λ (f : MapThere). f.number == n) fs ≡ None → find (λ (f : MapThere). is_same f.name (named n)) fs ≡ None

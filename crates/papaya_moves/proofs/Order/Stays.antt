@@ -34,9 +34,9 @@ use Rattle.papaya_linear.proofs.RowsPlayed.{IsOfRow}
 use Rattle.papaya_endings.specs.Ends.{AreStored}
 use Rattle.papaya_endings.proofs.Places.{none_in}
 use Rattle.papaya_moves.specs.Order.{OrderStays}
-use Rattle.papaya_moves.proofs.OrderCalls.{begins_in_order, stepped_in_order, stopped_in_order, told_in_order}
-use Rattle.papaya_moves.proofs.OrderEffects.{buckets_in_order, effects_in_order, ends_find, order_like}
-use Rattle.papaya_moves.proofs.OrderMaps.{comes_in_order, goes_in_order}
+use Rattle.papaya_moves.proofs.Order.Calls.{begins_in_order, stepped_in_order, stopped_in_order, told_in_order}
+use Rattle.papaya_moves.proofs.Order.Effects.{buckets_in_order, effects_in_order, ends_find, order_like}
+use Rattle.papaya_moves.proofs.Order.Maps.{comes_in_order, goes_in_order}
 
 module _ {K V : Type 0} (terms : Terms) (history : List (Entry K V)) where
   abbrev m : Moment K V
