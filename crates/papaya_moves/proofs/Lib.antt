@@ -32,3 +32,4 @@ pub mod StepsStay
 pub mod MoveOn
 mod Samples
 mod Moved
+mod Legal

@@ -1,6 +1,7 @@
 //! What is promised of the histories of lists of acts.
 ghost use Rattle.std.specs.Prelude.{ℕ, Bool};
 ghost use Rattle.papaya_legal.specs.Given.Schedules.Terms.{Terms};
+ghost use Rattle.papaya_moves.specs.Legal.{ListsKeepAll};
 ghost use Rattle.papaya_moves.specs.Moves.{ListsMoveOn};
 
 /// Wherever a list of acts has led, each entry of the history that it comes to as it is played moves on. Each effect of it finds what it must: a pair and a
@@ -14,4 +15,13 @@ ghost use Rattle.papaya_moves.specs.Moves.{ListsMoveOn};
 /// is made with a number that is not taken, with so many shards as the terms say, and with such places as a capacity asks for.
 pub fn lists_move_on<K, V, S>()
     ensures moves { (same : K → K → Bool) (by_hasher : S → K → ℕ) (hash : ℕ → K → ℕ) (batch_size roots : ℕ) (terms : Terms) → ListsMoveOn V same by_hasher hash batch_size roots terms }
+{}
+
+/// So the history of each list of acts keeps all that is promised of histories. Wherever a list has led, each entry of the history that it comes to as it is
+/// played is linearizable: a call has an answer that was so at a moment since it began, and changes its map at one of its steps. It reclaims nothing that left
+/// its map while a section was open that it does not end. It is swept: calls on whole maps do what they are for. And it moves on. So it is for any callers,
+/// maps, modes and hashes, whatever the memory chose and refused, whatever closures say, and whoever reclaims all meanwhile, if each map is made with a number
+/// that is not taken, with so many shards as the terms say, and with such places as a capacity asks for.
+pub fn lists_keep_all<K, V, S>()
+    ensures all { (same : K → K → Bool) (by_hasher : S → K → ℕ) (hash : ℕ → K → ℕ) (batch_size roots : ℕ) (terms : Terms) → ListsKeepAll V same by_hasher hash batch_size roots terms }
 {}
