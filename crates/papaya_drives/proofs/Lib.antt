@@ -1,2 +1,5 @@
 mod Begins
-mod Executors
+mod Told
+mod Wherever
+mod May
+pub mod Executors

@@ -38,7 +38,7 @@ use Rattle.papaya_played.proofs.PlayedAs.{PlayedAs}
 both_there : {A B C : Type 0} (f : A → C) (g : B → C) (o : Option A) (p : Option B) → option_map f o ≡ option_map g p → (a : A) (b : B) → o ≡ Some a → p ≡ Some b → f a ≡ g b
 both_there f g o p is a b here there = same_some (f a) (g b) (sym (ap (option_map f) here) ∙ is ∙ ap (option_map g) there)
 
-module _ {K V S : Type 0} (same : K → K → Bool) (hash : S → K → ℕ) (batch_size roots : ℕ) (aborts : V) (s n : Scene K V) (rows : ℕ → Row) (x y : State K V S) (is : IsOf hash s rows x.now) (i : ℕ) where
+module _ {K V S : Type 0} (same : K → K → Bool) (hash : S → K → ℕ) (batch_size roots : ℕ) (aborts : ℕ → V) (s n : Scene K V) (rows : ℕ → Row) (x y : State K V S) (is : IsOf hash s rows x.now) (i : ℕ) where
   -- the step of a call
   pub record CallTied (m : ℕ) (g : Grant) (told : Answer K V) (came : CallCame same hash batch_size roots slot_of s i m g told n) : Type 0 where
     pub it : Calling K V

@@ -1,0 +1,12 @@
+pub mod Aborts
+pub mod OneMore
+pub mod Reached
+pub mod Wanted
+pub mod Midst
+pub mod Aside
+pub mod RowGoes
+pub mod EndGoes
+pub mod CallBegins
+pub mod Chosen
+pub mod Callers
+mod Samples

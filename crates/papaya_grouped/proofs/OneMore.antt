@@ -1,0 +1,146 @@
+-- Where an executor is by acts, and does what is one act more, or a choice comes, it is by acts.
+use Rattle.std.specs.Prelude.{◌<◌, ◌+◌, ◌++◌, Some, None, length, if◌then◌else◌}
+use Rattle.std.specs.Option.{is_none}
+use Rattle.std.specs.List.{AllByRecursion}
+use Rattle.std.proofs.Common.{◌≡◌, ℕ, Bool, List, [], ◌∷◌, refl, sym, ap, subst, arith, ◌∙◌}
+use Rattle.std.proofs.lemmas.Bool.{eq-eqb, ne_eqb}
+use Rattle.seize_acts.proofs.Answers.{same_some}
+use Rattle.papaya_scenes.specs.Scene.{Scene, slot_of}
+use Rattle.papaya_effects.specs.Known.{Known}
+use Rattle.papaya_executor.specs.IsThere.{IsThere, StaysGiven}
+use Rattle.papaya_executor.specs.declared.executor.Executor.{Executor}
+use Rattle.papaya_acts.specs.Acts.{Act, Answer, BeginsRow}
+use Rattle.papaya_acts.specs.Doings.{Chooses, Doing, Does, HasDone, MayDo, Stage, reclaiming, scene_chosen}
+use Rattle.papaya_acts.specs.Lists.{Course, LedTo, Reached, nothing_done, on_by}
+use Rattle.papaya_acts.proofs.Further.{led_further}
+use Rattle.papaya_agrees.specs.Agree.{Asks}
+use Rattle.papaya_agrees.specs.Fresh.{HasNewNumber}
+use Rattle.papaya_drives.specs.Executors.{IsAct}
+use Rattle.papaya_played.specs.Play.{State, choice_come, first_state, play, play_act, play_all}
+use Rattle.papaya_played.specs.Reached.{AreOnOwn, IsOfStage, IsOnOwn}
+use Rattle.papaya_played.proofs.All.{lists_are_played}
+use Rattle.papaya_agrees.specs.Fresh.{IsNew}
+use Rattle.papaya_grouped.specs.Reach.{PlaysTo, Reach}
+use Rattle.papaya_schedules.specs.Lists.{put}
+use Rattle.papaya_grouped.proofs.Aborts.{new_one, new_same, plays_one, plays_same, told_all}
+
+-- what all of these are, all of those are, and the last one, too
+pub all_and_last : {X : Type 0} (P : X → Type 0) (xs : List X) (x : X) → AllByRecursion P xs → P x → AllByRecursion P (xs ++ x ∷ [])
+all_and_last P [] x all last = (last, tt)
+all_and_last P (y ∷ xs) x all last = (all.0, all_and_last P xs x all.1 last)
+
+module _ {K V S : Type 0} (same : K → K → Bool) (by_hasher : S → K → ℕ) (shards : ℕ) (e e2 : Executor K V S) (given : StaysGiven e e2)
+    (any : Course V same by_hasher e.batch_size e.roots slot_of) (noted noted2 : Known) (P Q : State K V S → Type 0) where
+  abbrev At : (P : State K V S → Type 0) → Executor K V S → Known → Type 0
+  At P x known = Reach same by_hasher e.hasher e.batch_size e.roots shards P x known
+
+  abbrev Its : Doing K V S → Type 0
+  Its doing = Asks V same by_hasher (λ map. by_hasher e.hasher) e.batch_size e.roots shards doing
+
+  on_own : (doing : Doing K V S) → Its doing → IsOnOwn doing
+  on_own (Does (BeginsRow i request)) asks = asks.0
+  on_own doing asks = tt
+
+  all_on_own : (doings : List (Doing K V S)) → AllByRecursion Its doings → AreOnOwn doings
+  all_on_own [] all = tt
+  all_on_own (doing ∷ doings) all = (on_own doing all.0, all_on_own doings all.1)
+
+  -- One doing more: it may be, and wherever it leads, the second executor is there.
+  module _ (doing : Doing K V S) (asks : Its doing)
+      (may : (p : Stage V same by_hasher e.batch_size e.roots slot_of) → reclaiming V same by_hasher e.batch_size e.roots slot_of p ≡ None → IsThere same (by_hasher e.hasher) e p.0
+      → MayDo V same by_hasher e.batch_size e.roots slot_of doing p)
+      (leads_to : (told : Answer K V) (p n : Stage V same by_hasher e.batch_size e.roots slot_of) → IsThere same (by_hasher e.hasher) e p.0
+      → HasDone V same by_hasher e.batch_size e.roots slot_of doing p told n → (reclaiming V same by_hasher e.batch_size e.roots slot_of n ≡ None) × IsThere same (by_hasher e.hasher) e2 n.0)
+      (new : (aborts : ℕ → V) (x : State K V S) → P x → IsNew same by_hasher e.batch_size e.roots aborts x doing) (abort : V → V)
+      (next : (value : V) (aborts : ℕ → V) (x y : State K V S) (p : Stage V same by_hasher e.batch_size e.roots slot_of) → IsOfStage by_hasher same e.batch_size e.roots p x.now
+      → IsThere same (by_hasher e.hasher) e p.0 → aborts (length x.told) ≡ abort value → play same by_hasher e.batch_size e.roots aborts doing x ≡ Some y → x.known ≡ noted → P x
+      → (y.known ≡ noted2) × Q y) where
+    -- where one course leads by it
+    module _ (course : Course V same by_hasher e.batch_size e.roots slot_of) (doings : List (Doing K V S)) (y : Reached V same by_hasher e.batch_size e.roots slot_of)
+        (led : LedTo V same by_hasher e.batch_size e.roots slot_of course doings y) (idle : reclaiming V same by_hasher e.batch_size e.roots slot_of y.0 ≡ None)
+        (there : IsThere same (by_hasher e.hasher) e y.0.0) where
+      may_be : MayDo V same by_hasher e.batch_size e.roots slot_of doing y.0
+      may_be = may y.0 idle there
+
+      abbrev y2 : Reached V same by_hasher e.batch_size e.roots slot_of
+      y2 = on_by V same by_hasher e.batch_size e.roots slot_of course y doing may_be
+
+      goes_on : LedTo V same by_hasher e.batch_size e.roots slot_of course (doings ++ doing ∷ []) y2
+      goes_on = led_further V same by_hasher e.batch_size e.roots slot_of course doings (doing ∷ []) (nothing_done V same by_hasher e.batch_size e.roots slot_of course) y y2 led (may_be, refl)
+
+      leads_there : (z : Reached V same by_hasher e.batch_size e.roots slot_of) × LedTo V same by_hasher e.batch_size e.roots slot_of course (doings ++ doing ∷ []) z
+          × (reclaiming V same by_hasher e.batch_size e.roots slot_of z.0 ≡ None) × IsThere same (by_hasher e.hasher) e2 z.0.0
+      leads_there =
+          let so = leads_to (course.told y.0 doing may_be) y.0 (course.next y.0 doing may_be) there (course.leads y.0 doing may_be) in
+          (y2, goes_on, so.0, so.1)
+
+    module _ (at : At P e noted) (value : V) where
+      was : PlaysTo same by_hasher e.hasher e.batch_size e.roots shards P at.doings noted
+      was = at.played value
+
+      -- the closure that is told to by this act aborts with this value
+      abbrev aborts : ℕ → V
+      aborts = put (length was.after.told) (abort value) was.aborts
+
+      alike : (n : ℕ) → n < length (first_state {K = K} {V = V} {S = S} e.roots).told + length at.doings → was.aborts n ≡ aborts n
+      alike n l =
+          let count = told_all same by_hasher e.batch_size e.roots was.aborts at.doings (first_state e.roots) was.after was.plays in
+          sym (ap (λ (b : Bool). if b then abort value else was.aborts n) (ne_eqb n (length was.after.told) (λ is. absurd (omega (arith, is, l, count)))))
+
+      plays : play_all same by_hasher e.batch_size e.roots aborts at.doings (first_state e.roots) ≡ Some was.after
+      plays = sym (plays_same same by_hasher e.batch_size e.roots was.aborts aborts at.doings (first_state e.roots) alike) ∙ was.plays
+
+      its : aborts (length was.after.told) ≡ abort value
+      its = ap (λ (b : Bool). if b then abort value else was.aborts (length was.after.told)) (eq-eqb (length was.after.told) (length was.after.told) refl)
+
+      plays_then : PlaysTo same by_hasher e.hasher e.batch_size e.roots shards Q (at.doings ++ doing ∷ []) noted2
+      plays_then =
+          let to = at.leads any in
+          let before = lists_are_played V same by_hasher e.batch_size e.roots aborts any at.doings to.0 to.1 (all_on_own at.doings at.asks) in
+          let all = all_and_last Its at.doings doing at.asks asks in
+          let after = lists_are_played V same by_hasher e.batch_size e.roots aborts any (at.doings ++ doing ∷ []) (y2 any at.doings to.0 to.1 to.2 to.3)
+          (goes_on any at.doings to.0 to.1 to.2 to.3) (all_on_own (at.doings ++ doing ∷ []) all) in
+          let one : before.0 ≡ was.after = same_some before.0 was.after (sym before.1 ∙ plays) in
+          let stage = subst (λ (x : State K V S). IsOfStage by_hasher same e.batch_size e.roots to.0.0 x.now) one before.2 in
+          let step = sym (plays_one same by_hasher e.batch_size e.roots aborts doing at.doings (first_state e.roots) was.after plays) ∙ after.1 in
+          let so = next value aborts was.after after.0 to.0.0 stage to.3 its step was.knows was.so in
+          record {
+            aborts = aborts;
+            after = after.0;
+            plays = after.1;
+            new = new_one same by_hasher e.batch_size e.roots aborts doing at.doings (first_state e.roots) was.after plays
+                (new_same same by_hasher e.batch_size e.roots was.aborts aborts at.doings (first_state e.roots) alike was.new) (new aborts was.after was.so);
+            knows = so.0;
+            so = so.1;
+          }
+
+    pub one_doing : At P e noted → At Q e2 noted2
+    one_doing at = record {
+      hasher_is = given.0;
+      size = given.1;
+      roots_are = given.2;
+      doings = at.doings ++ doing ∷ [];
+      asks = all_and_last Its at.doings doing at.asks asks;
+      leads = λ course. (let to = at.leads course in leads_there course at.doings to.0 to.1 to.2 to.3);
+      played = λ value. plays_then at value;
+    }
+
+  -- By an act of the executor,
+  pub one_act : (act : Act K V S) (told : Answer K V) → Its (Does act) → ((s : Scene K V) → IsThere same (by_hasher e.hasher) e s → IsAct same by_hasher e e2 s act told)
+      → ((x : State K V S) → P x → HasNewNumber x act) → (abort : V → V)
+      → ((value : V) (aborts : ℕ → V) (x y : State K V S) (p : Stage V same by_hasher e.batch_size e.roots slot_of) → IsOfStage by_hasher same e.batch_size e.roots p x.now
+      → IsThere same (by_hasher e.hasher) e p.0 → aborts (length x.told) ≡ abort value → play_act same by_hasher e.batch_size e.roots aborts act x ≡ Some y → x.known ≡ noted → P x
+      → (y.known ≡ noted2) × Q y)
+      → At P e noted → At Q e2 noted2
+  one_act act told asks is new abort next =
+      one_doing (Does act) asks (λ p idle there. (ap is_none idle, (is p.0 there).may)) (λ said p n there done. (done.1, ((is p.0 there).wherever n.0 said n.1 done.0).1)) (λ aborts x so. new x so) abort next
+
+  -- and as a choice comes.
+  pub one_choice : (choice : ℕ) → ((s : Scene K V) → IsThere same (by_hasher e.hasher) e s → IsThere same (by_hasher e.hasher) e2 (scene_chosen choice s)) → noted ≡ noted2
+      → ((x : State K V S) → P x → Q (choice_come choice x)) → At P e noted → At Q e2 noted2
+  one_choice choice stays noted_is so =
+      one_doing (Chooses choice) tt (λ p idle there. ap is_none idle)
+      (λ told p n there done. (done.3, subst (λ (s : Scene K V). IsThere same (by_hasher e.hasher) e2 s) (sym done.1) (stays p.0 there))) (λ aborts x p. tt) (λ value. value)
+      (λ value aborts x y p stage there its played knows was.
+      (let is : choice_come choice x ≡ y = same_some (choice_come choice x) y played in
+      (ap (λ (z : State K V S). z.known) (sym is) ∙ knows ∙ noted_is, subst Q is (so x was))))
