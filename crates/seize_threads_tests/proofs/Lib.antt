@@ -1,4 +1,1 @@
-pub mod Growing
 pub mod Roots
-pub mod Owners
-pub mod Threes

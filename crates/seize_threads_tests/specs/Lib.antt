@@ -1,4 +1,1 @@
-pub mod Grown
 pub mod Root
-pub mod Theirs
-pub mod Three
