@@ -8,5 +8,6 @@ pub mod RowGoes
 pub mod EndGoes
 pub mod CallBegins
 pub mod Chosen
+pub mod MakingGoes
 pub mod Callers
 mod Samples
