@@ -20,7 +20,7 @@ few_places places zero is = let one : places ≡ 1 = is in (omega (arith, one), 
 few_places places (suc bits) is =
     even places (2 ^ bits) (is ∙ pow-suc 2 bits) (pow_pos bits)
   where
-    even : (p h : ℕ) → p ≡ 2 * h → 1 ≤ h → (back p ≤ p) × (p / 2 < max 1 (back p)) × (1 ≤ pairs_for p)
+    even : (p h : ℕ) → p ≡ h * 2 → 1 ≤ h → (back p ≤ p) × (p / 2 < max 1 (back p)) × (1 ≤ pairs_for p)
     even p h e some = (omega (arith, e, some), omega (arith, e, some), omega (arith, e, some))
 
 pub first_back : (places : ℕ) → IsFirstLen places → first_places (pairs_for places) ≡ places

@@ -14,3 +14,4 @@ pub mod RowKinds
 pub mod Rowed
 mod FirstPlaces
 pub mod Made
+pub mod AllDone
