@@ -51,7 +51,7 @@ use Rattle.papaya_pieced.proofs.Quiet.{did_nothing, later_by}
 
 -- what is so by what an executor was given is so by what that is
 by_given : {K V S : Type 0} (F : S → ℕ → ℕ → Type 0) (e : Executor K V S) (h : S) (b r : ℕ) → e.hasher ≡ h → e.batch_size ≡ b → e.roots ≡ r → F e.hasher e.batch_size e.roots → F h b r
-by_given F e h b r hasher size roots so = subst (λ (x : S). F x b r) hasher (subst (λ (x : ℕ). F e.hasher x r) size (subst (λ (x : ℕ). F e.hasher e.batch_size x) roots so))
+by_given {S = S} F e h b r hasher size roots so = subst (λ (x : S). F x b r) hasher (subst (λ (x : ℕ). F e.hasher x r) size (subst (λ (x : ℕ). F e.hasher e.batch_size x) roots so))
 
 done_is : {T : Type 0} (said : Settled T) → is_done said ≡ true → said ≡ settled.Done
 done_is settled.Goes is = absurd (cc is)
@@ -106,7 +106,7 @@ module _ {K V S : Type 0} (same : K → K → Bool) (by_hasher : S → K → ℕ
       }
 
   -- the last step
-  pub ends : (x : Far K V S × ReclaimAll) (effects : List Effect) (new : Logged K V S) (last : ReclaimAll) → SoFar x → (step : ReclaimingGoes x (far effects new, last)) → is_done step.1 ≡ true
+  ends : (x : Far K V S × ReclaimAll) (effects : List Effect) (new : Logged K V S) (last : ReclaimAll) → SoFar x → (step : ReclaimingGoes x (far effects new, last)) → is_done step.1 ≡ true
       → Reach same by_hasher h b r shards (In effects outcome.Done) new.executor (known new.notes)
   ends x effects new last so step done =
       let e = x.0.logged.executor in
@@ -119,7 +119,7 @@ module _ {K V S : Type 0} (same : K → K → Bool) (by_hasher : S → K → ℕ
       (λ s lists is. step.2 same (by_hasher e.hasher) s 0 lists is) x.0.effects effects (known x.0.logged.notes) (known new.notes) step.0.did step.0.noted so.outcome (done_is said done) at) any so.at in
       subst (λ (o : Outcome V). Reach same by_hasher h b r shards (In effects o) new.executor (known new.notes)) (done_outcome V said done) over
 
-  pub all_gone : (taken : Bool) (effects : List Effect) (old new : Logged K V S) → (gone : ReclaimingGone taken [] effects old new) → SoFar (far [] old, gone.0) → Reach same by_hasher h b r shards (In effects outcome.Done) new.executor (known new.notes)
+  all_gone : (taken : Bool) (effects : List Effect) (old new : Logged K V S) → (gone : ReclaimingGone taken [] effects old new) → SoFar (far [] old, gone.0) → Reach same by_hasher h b r shards (In effects outcome.Done) new.executor (known new.notes)
   all_gone taken effects old new (first, begins, mid, goes, last, step, done, first_is) so =
       ends mid effects new last (goes_to ReclaimingOn SoFar goes_on (far [] old, first) mid goes so) step done
 
