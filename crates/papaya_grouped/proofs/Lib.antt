@@ -8,5 +8,7 @@ pub mod RowGoes
 pub mod EndGoes
 pub mod CallBegins
 pub mod Chosen
+pub mod MakingGoes
+pub mod AllGoes
 pub mod Callers
 mod Samples

@@ -67,16 +67,22 @@ module _ {K V S : Type 0} (log : List (Entry K V)) (event : Event K V) where
   event_begins outcome calls x so =
       record { known = so.names; before = x.history; grouping = so.grouping; piece = []; history = refl; effects = refl; counts = refl; comes = tt; deeds = tt; callers = so.callers; fresh = λ n l. so.fresh n (omega (arith, l)) }
 
-  -- and ends as an entry of the log
-  pub event_ends : (did : List Effect) (steps : ℕ) (outcome : Outcome V) (calls : List (Caller V)) (x : State K V S)
-      → (moment log).made + maps_of event ≤ (moment (record { event = event; outcome = outcome; steps = steps; effects = did } ∷ log)).made → InEvent log event did steps outcome calls x
+  -- and ends as an entry of the log, where the numbers that are to come then are not taken,
+  pub event_ends_so : (did : List Effect) (steps : ℕ) (outcome : Outcome V) (calls : List (Caller V)) (x : State K V S)
+      → ((n : ℕ) → (moment (record { event = event; outcome = outcome; steps = steps; effects = did } ∷ log)).made ≤ n → is_taken n x.history ≡ false) → InEvent log event did steps outcome calls x
       → PlaysSo (record { event = event; outcome = outcome; steps = steps; effects = did } ∷ log) calls x
-  event_ends did steps outcome calls x later so = record {
+  event_ends_so did steps outcome calls x fresh so = record {
     names = names_after event so.piece so.known;
     grouping = (so.piece, so.before, so.known, so.history, refl, record { effects = so.effects; steps = so.counts; outcome = so.comes; deeds = so.deeds }, so.grouping);
     callers = so.callers;
-    fresh = λ n l. so.fresh n (omega (arith, l, later));
+    fresh = fresh;
   }
+
+  -- as they are not where as many more maps have come as it may make
+  pub event_ends : (did : List Effect) (steps : ℕ) (outcome : Outcome V) (calls : List (Caller V)) (x : State K V S)
+      → (moment log).made + maps_of event ≤ (moment (record { event = event; outcome = outcome; steps = steps; effects = did } ∷ log)).made → InEvent log event did steps outcome calls x
+      → PlaysSo (record { event = event; outcome = outcome; steps = steps; effects = did } ∷ log) calls x
+  event_ends did steps outcome calls x later so = event_ends_so did steps outcome calls x (λ n l. so.fresh n (omega (arith, l, later))) so
 
   module _ (did : List Effect) (steps : ℕ) (outcome : Outcome V) (calls calls2 : List (Caller V)) (x y : State K V S) (so : InEvent log event did steps outcome calls x) (entry : Act K V)
       (history : y.history ≡ entry ∷ x.history) where

@@ -5,7 +5,7 @@ use Rattle.papaya_scenes.specs.Scene.{slot_of}
 use Rattle.papaya_effects.specs.Known.{Known}
 use Rattle.papaya_executor.specs.IsThere.{IsThere}
 use Rattle.papaya_executor.specs.declared.executor.Executor.{Executor}
-use Rattle.papaya_acts.specs.Doings.{Doing, reclaiming}
+use Rattle.papaya_acts.specs.Doings.{Doing, Stage, reclaiming}
 use Rattle.papaya_acts.specs.Lists.{Course, LedTo, Reached}
 use Rattle.papaya_agrees.specs.Agree.{Asks}
 use Rattle.papaya_played.specs.Play.{State, first_state, play_all}
@@ -20,6 +20,14 @@ module _ {K V S : Type 0} (same : K → K → Bool) (by_hasher : S → K → ℕ
     pub new : MakesNew same by_hasher batch_size roots aborts doings (first_state roots)
     pub knows : after.known ≡ noted
     pub so : P after
+
+  -- A list of acts leads by every course to where this is so; and whatever value there is at all, the list is played to what is so.
+  pub record LeadsTo (Stands : Stage V same by_hasher batch_size roots slot_of → Type 0) (P : State K V S → Type 0) (noted : Known) : Type 0 where
+    pub doings : List (Doing K V S)
+    pub asks : AllByRecursion (Asks V same by_hasher (λ map. by_hasher hasher) batch_size roots shards) doings
+    pub leads : (course : Course V same by_hasher batch_size roots slot_of) → (y : Reached V same by_hasher batch_size roots slot_of)
+        × LedTo V same by_hasher batch_size roots slot_of course doings y × Stands y.0
+    pub played : V → PlaysTo P doings noted
 
   -- The executor is where a list of acts leads by every course, while nobody reclaims all; and whatever value there is at all, the list is played to what is so.
   pub record Reach (P : State K V S → Type 0) (e : Executor K V S) (noted : Known) : Type 0 where

@@ -1,5 +1,5 @@
 -- The row that an event works with is one of its kind at each step, and the event may have what it does.
-use Rattle.std.specs.Prelude.{◌==◌, Option, Some, None, Ok, Err, option_map, nat_lt, if◌then◌else◌}
+use Rattle.std.specs.Prelude.{◌+◌, ◌==◌, Option, Some, None, Ok, Err, option_map, nat_lt, if◌then◌else◌}
 use Rattle.std.proofs.Common.{◌≡◌, ℕ, Bool, true, false, List, refl, sym, ap, subst, ◌∙◌}
 use Rattle.papaya_runs.specs.Present.{Present, guard_of, has_registration, living_slot, registration_of}
 use Rattle.papaya_scenes.specs.Given.SeizeWords.Mem.{Mem, Took, value_at}
@@ -48,7 +48,7 @@ use Rattle.papaya_grouped.specs.Grouping.{MayHave, Names}
 use Rattle.papaya_pieced.specs.RowFor.{IsRowFor}
 
 -- a registering that enters none goes on so
-module _ (T : Type 0) (c : Register) (none : c.enters ≡ false) (no : c.stands ≡ registers.Enter → ⊥) where
+module _ (T : Type 0) (c : Register) (none : c.enters ≡ false) (never : c.stands ≡ registers.Enter → ⊥) where
   abbrev Short : Register × Progress ℕ → Type 0
   Short (c2, o) = (c2.enters ≡ false) × (c2.stands ≡ registers.Enter → ⊥)
 
@@ -63,7 +63,7 @@ module _ (T : Type 0) (c : Register) (none : c.enters ≡ false) (no : c.stands 
   begun_short : (out : Out T) → Outcomes Short (register.begun c out)
   begun_short (Roomed (Ok made)) = (none, λ e. cc e)
   begun_short (Roomed (Err fault)) = (none, λ e. cc e)
-  begun_short _ = (none, no)
+  begun_short _ = (none, never)
 
   looked_short : (out : Out T) → Outcomes Short (register.looked c out)
   looked_short (Found head) = by (register.can_be_taken head)
@@ -71,26 +71,26 @@ module _ (T : Type 0) (c : Register) (none : c.enters ≡ false) (no : c.stands 
       by : (t : Bool) → Short (if t then register.taking c head (register.bucket_needed c.slot) else register.further c)
       by true = taking_short head (register.bucket_needed c.slot)
       by false = further_short (nat_lt c.slot LAST_SLOT)
-  looked_short _ = (none, no)
+  looked_short _ = (none, never)
 
   widened_short : (seen : ℕ) (out : Out T) → Outcomes Short (register.widened c seen out)
   widened_short seen (Roomed (Ok made)) = (none, λ e. cc e)
   widened_short seen (Roomed (Err fault)) = (none, λ e. cc e)
-  widened_short seen _ = (none, no)
+  widened_short seen _ = (none, never)
 
   taken_short : (out : Out T) → Outcomes Short (register.taken c out)
   taken_short (Exchanged (Ok found)) = subst (λ (b : Bool). Short (if b then register.going c registers.Enter else register.registered c)) (sym none) (none, λ e. cc e)
   taken_short (Exchanged (Err found)) = further_short (nat_lt c.slot LAST_SLOT)
-  taken_short _ = (none, no)
+  taken_short _ = (none, never)
 
   register_short : (p : Registering) → c.stands ≡ p → PlanOutcomes {T = T} Short (register.plan_at c p)
   register_short registers.Begin e = begun_short
   register_short registers.Look e = looked_short
   register_short (registers.Widen bucket seen) e = widened_short seen
   register_short (registers.Take seen) e = taken_short
-  register_short registers.Enter e = absurd (no e)
-  register_short registers.Registered e = (none, no)
-  register_short (registers.Refused fault) e = (none, no)
+  register_short registers.Enter e = absurd (never e)
+  register_short registers.Registered e = (none, never)
+  register_short (registers.Refused fault) e = (none, never)
 
 -- a leaving leaves its slot as it is to
 module _ (T : Type 0) (c : Leave) where
@@ -123,22 +123,19 @@ module _ (T : Type 0) (c : Leave) where
   leave_still defers mem mem2 leaves.Over end st = plan_outcome Still mem mem2 (leave.plan_at defers c leaves.Over) end refl st
 
 module _ (K V : Type 0) (mem mem2 : Mem (Node K V)) (changed : Changed) (after : SlotRow) (said : RowTold (Node K V)) where
-  Told : Type 0
-  Told = SlotRow × RowTold (Node K V)
-
   -- by its step it stays of its kind
   pub keeps_row : (e : Event K V) (row : SlotRow) → IsRowFor e row → RowSteps K V row mem mem2 changed (after, said) → IsRowFor e after
   keeps_row (event.Register r) (rows.Registers c) is st =
-      subst (λ (q : SlotRow × RowTold (Node K V)). IsRowFor (event.Register r) q.0) (sym st.2)
+      subst (λ (q : SlotRow × RowTold (Node K V)). IsRowFor {K = K} {V = V} (event.Register r) q.0) (sym st.2)
       (plan_outcome (Short (Node K V) c is.0 is.1) mem mem2 (register.register_plan c) st.0 (register_short (Node K V) c is.0 is.1 c.stands refl) (as_step mem Nothing (register.register_plan c) mem2 changed st.0 st.1))
-  keeps_row (event.Own g) (rows.Registers c) is st = subst (λ (q : SlotRow × RowTold (Node K V)). IsRowFor (event.Own g) q.0) (sym st.2) tt
-  keeps_row (event.Unregister r) (rows.Frees c) is st = subst (λ (q : SlotRow × RowTold (Node K V)). IsRowFor (event.Unregister r) q.0) (sym st.2) tt
-  keeps_row (event.Enter g r) (rows.Enters c) is st = subst (λ (q : SlotRow × RowTold (Node K V)). IsRowFor (event.Enter g r) q.0) (sym st.2) tt
-  keeps_row (event.Refresh g) (rows.Leaves c) is st = subst (λ (q : SlotRow × RowTold (Node K V)). IsRowFor (event.Refresh g) q.0) (sym st.2) tt
+  keeps_row (event.Own g) (rows.Registers c) is st = subst (λ (q : SlotRow × RowTold (Node K V)). IsRowFor {K = K} {V = V} (event.Own g) q.0) (sym st.2) tt
+  keeps_row (event.Unregister r) (rows.Frees c) is st = subst (λ (q : SlotRow × RowTold (Node K V)). IsRowFor {K = K} {V = V} (event.Unregister r) q.0) (sym st.2) tt
+  keeps_row (event.Enter g r) (rows.Enters c) is st = subst (λ (q : SlotRow × RowTold (Node K V)). IsRowFor {K = K} {V = V} (event.Enter g r) q.0) (sym st.2) tt
+  keeps_row (event.Refresh g) (rows.Leaves c) is st = subst (λ (q : SlotRow × RowTold (Node K V)). IsRowFor {K = K} {V = V} (event.Refresh g) q.0) (sym st.2) tt
   keeps_row (event.DropGuard g) (rows.Leaves c) is st =
-      subst (λ (q : SlotRow × RowTold (Node K V)). IsRowFor (event.DropGuard g) q.0) (sym st.2)
+      subst (λ (q : SlotRow × RowTold (Node K V)). IsRowFor {K = K} {V = V} (event.DropGuard g) q.0) (sym st.2)
       (leave_still (Node K V) c deferred_word mem mem2 c.stands st.0 (as_step mem Nothing (leave.leave_plan deferred_word c) mem2 changed st.0 st.1) ∙ is)
-  keeps_row (event.Flush g) (rows.Flushes c) is st = subst (λ (q : SlotRow × RowTold (Node K V)). IsRowFor (event.Flush g) q.0) (sym st.2) tt
+  keeps_row (event.Flush g) (rows.Flushes c) is st = subst (λ (q : SlotRow × RowTold (Node K V)). IsRowFor {K = K} {V = V} (event.Flush g) q.0) (sym st.2) tt
   keeps_row _ _ is st = absurd is
 
 -- as it begins it is of that kind
@@ -175,13 +172,13 @@ module _ {K V S : Type 0} (names : Names) (m : Moment K V) (p : Scheduler K V S)
   free_lives guard free = lives_by _ (living_slot (guard_of guard p.there.guards)) free
 
   registers_so : (r : List ℕ) (s : ℕ) (stands : Registering) → (stands ≡ registers.Enter → ⊥) → MayHave names m (event.Register r) (registers_as stands s)
-  registers_so r s registers.Begin no = tt
-  registers_so r s registers.Look no = tt
-  registers_so r s (registers.Widen bucket head) no = tt
-  registers_so r s (registers.Take head) no = tt
-  registers_so r s registers.Enter no = absurd (no refl)
-  registers_so r s registers.Registered no = tt
-  registers_so r s (registers.Refused fault) no = tt
+  registers_so r s registers.Begin never = tt
+  registers_so r s registers.Look never = tt
+  registers_so r s (registers.Widen bucket head) never = tt
+  registers_so r s (registers.Take head) never = tt
+  registers_so r s registers.Enter never = absurd (never refl)
+  registers_so r s registers.Registered never = tt
+  registers_so r s (registers.Refused fault) never = tt
 
   owns_so : (g : List ℕ) (s : ℕ) (stands : Registering) → MayHave names m (event.Own g) (registers_as stands s)
   owns_so g s registers.Begin = tt

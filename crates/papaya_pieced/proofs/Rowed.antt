@@ -22,6 +22,7 @@ use Rattle.papaya_schedules.specs.Entry.{Entry}
 use Rattle.papaya_schedules.specs.Moment.{Moment}
 use Rattle.papaya_schedules.specs.Terms.{Terms, shards_of}
 use Rattle.papaya_scheduler.specs.Given.SeizeWords.declared.fault.Fault.{Fault}
+use Rattle.papaya_scheduler.specs.Given.SeizeWords.declared.fault.Fault.TheVariants.{Memory, SlotsUsedUp}
 use Rattle.papaya_scheduler.specs.Given.Effects.Known.{Known, known}
 use Rattle.papaya_scheduler.specs.Given.Executor.IsThere.{IsThere, KeepsGiven, work_of}
 use Rattle.papaya_scheduler.specs.Given.Executor.OnSlots.{MayBegin, row_on}
@@ -104,7 +105,7 @@ module _ {K V S : Type 0} (same : K → K → Bool) (by_hasher : S → K → ℕ
 -- What is so of the row of each event: it may begin, and the event comes to what it has told.
 module _ {K V S : Type 0} (same : K → K → Bool) (hash : K → ℕ) (terms : Terms) (log : List (Entry K V)) (old : Scheduler K V S) (stands : IsPlayed same hash terms log old) (in_turn : (moment log).is_closed ≡ false)
     (new : Logged K V S) (slot : ℕ) (effects : List Effect) where
-  due : (event : Event K V) → IsDue same hash terms log event old
+  abbrev due : (event : Event K V) → IsDue same hash terms log event old
   due event = record { played = stands; in_turn = in_turn }
 
   abbrev Facts : Event K V → SlotCall → Outcome V → Type 0
@@ -118,7 +119,7 @@ module _ {K V S : Type 0} (same : K → K → Bool) (hash : K → ℕ) (terms : 
       Fits : RowTold (Node K V) → Type 0
       Fits t = o ≡ told_so t → o ≡ row_outcome t
 
-      by : ((at : ℕ) × (said ≡ told.Registered at)) ⊎ ((fault : Fault) × (said ≡ told.Refused fault) × _) → o ≡ row_outcome said
+      by : ((at : ℕ) × (said ≡ told.Registered at)) ⊎ ((fault : Fault) × (said ≡ told.Refused fault) × ((fault ≡ Memory) ⊎ (fault ≡ SlotsUsedUp))) → o ≡ row_outcome said
       by (inl (at, says)) = subst Fits (sym says) (λ e. e) is
       by (inr (fault, says, why)) = subst Fits (sym says) (λ e. e) is
 
