@@ -1,5 +1,5 @@
 -- Steps on the own words of a block that is never taken: who knows of it finds them.
-use Rattle.std.specs.Prelude.{◌≡◌, ◌<◌, ◌⊎◌, ◌^◌, ◌%◌, ◌+◌, ◌==◌, ℕ, zero, suc, Bool, true, false, Option, Some, Ok, Err, IsSome, slice_get, slice_set, replicate, if◌then◌else◌}
+use Rattle.std.specs.Prelude.{◌≡◌, ◌<◌, ◌⊎◌, ◌^◌, ◌%◌, ◌+◌, ◌==◌, ℕ, zero, suc, Bool, true, false, Option, Some, Ok, Err, IsSome, slice_get, slice_set, if◌then◌else◌}
 use Rattle.std.proofs.Common.{ap, refl, sym, ◌∙◌, subst, inl, inr, arith}
 use Rattle.std.proofs.lemmas.Bool.{eq-eqb}
 use Rattle.seize_words.specs.Mem.{Mem, Took, same_at, word_at, word_in, block_of, fresh, IsFreeNumber}
