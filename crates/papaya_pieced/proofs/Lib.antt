@@ -14,3 +14,5 @@ pub mod RowKinds
 pub mod Rowed
 mod FirstPlaces
 pub mod Made
+pub mod First
+pub mod Last
