@@ -14,7 +14,7 @@ use Rattle.papaya_pieced.specs.SoFar.{ActsSoFar}
 
 module _ {K S : Type 0} (V : Type 0) (same : K → K → Bool) (by_hasher : S → K → ℕ) where
   pub any_course : ((hasher : S) → AreLawful same (by_hasher hasher)) → (batch_size roots : ℕ) → Course V same by_hasher batch_size roots slot_of
-  any_course lawful batch_size roots = (lists_determine V same by_hasher batch_size roots slot_of lawful).0
+  any_course lawful batch_size roots = (lists_determine {V = V} same by_hasher batch_size roots slot_of lawful).0
 
 module _ {K V S : Type 0} (same : K → K → Bool) (by_hasher : S → K → ℕ) (any : (batch_size roots : ℕ) → Course V same by_hasher batch_size roots slot_of) (terms : Terms) (log : List (Entry K V)) (l : Logged K V S)
     (calls : List (Caller V)) where
