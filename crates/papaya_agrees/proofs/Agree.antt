@@ -1,7 +1,8 @@
 -- Wherever a list has led, its history agrees with what is so there.
 use Rattle.std.specs.Prelude.{Bool, false}
 use Rattle.std.specs.List.{AllByRecursion}
-use Rattle.std.proofs.Common.{ℕ, List, [], ◌∷◌}
+use Rattle.std.proofs.Common.{ℕ, List, [], ◌∷◌, subst, sym, ◌∙◌}
+use Rattle.seize_acts.proofs.Answers.{same_some}
 use Rattle.papaya_acts.specs.Acts.{Act}
 use Rattle.papaya_acts.specs.Doings.{Doing, Does, BeginsReclaiming, BeginsClearing, StepsReclaiming, Chooses}
 use Rattle.papaya_deeds.specs.Deeds.{moment}
@@ -9,11 +10,14 @@ use Rattle.papaya_played.specs.Play.{State, first_state}
 use Rattle.papaya_played.proofs.Along.{AllFit, AreOfTheirOwn, At, StaysSo, wherever}
 use Rattle.papaya_played.proofs.Noted.{Anything}
 use Rattle.papaya_agrees.specs.Agree.{Asks, ListsAgree}
+use Rattle.papaya_agrees.specs.Fresh.{HasNewNumber}
 use Rattle.papaya_agrees.specs.Grants.{EachRefuses}
 use Rattle.papaya_agrees.specs.Guards.{CallsHaveGuards}
 use Rattle.papaya_agrees.specs.Shards.{AsksShards, ShardsAre}
 use Rattle.papaya_agrees.proofs.Calls.{calls_have_guards}
+use Rattle.papaya_agrees.proofs.Coming.{new_fits}
 use Rattle.papaya_agrees.proofs.Entries.{histories_grow}
+use Rattle.papaya_agrees.proofs.GivenBack.{NumbersComeAgain, again_first, numbers_come_again}
 use Rattle.papaya_agrees.proofs.Grants.{each_refuses}
 use Rattle.papaya_agrees.proofs.Guards.{GuardsHold, guards_at_first, guards_stay}
 use Rattle.papaya_agrees.proofs.Numbers.{NumbersStay, numbers_first, numbers_stay}
@@ -76,7 +80,8 @@ module _ {K S : Type 0} (V : Type 0) (same : K → K → Bool) (by_hasher : S �
         (of_any (λ p x. EachRefuses x.history) (histories_grow V same by_hasher hash batch_size roots aborts EachRefuses (each_refuses K V)))
         (of_any (λ p x. NumbersStay false x) (numbers_stay V same by_hasher hash batch_size roots aborts)))))
 
-    own_so : (doings : List (Doing K V S)) → AllByRecursion (Asks V same by_hasher hash batch_size roots shards) doings → AreOfTheirOwn V same by_hasher hash batch_size roots doings
+    -- of acts of which more is asked each is of its own
+    pub own_so : (doings : List (Doing K V S)) → AllByRecursion (Asks V same by_hasher hash batch_size roots shards) doings → AreOfTheirOwn V same by_hasher hash batch_size roots doings
     own_so [] asks = tt
     own_so (Does act ∷ doings) asks = (asks.0.0, own_so doings asks.1)
     own_so (BeginsReclaiming i ∷ doings) asks = (tt, own_so doings asks.1)
@@ -98,5 +103,12 @@ module _ {K S : Type 0} (V : Type 0) (same : K → K → Bool) (by_hasher : S �
       let to = wherever V same by_hasher hash batch_size roots small aborts (Fits V same by_hasher hash batch_size roots aborts shards) (All V same by_hasher hash batch_size roots aborts shards)
       (all_stay V same by_hasher hash batch_size roots aborts shards) course doings y led (own_so V same by_hasher hash batch_size roots aborts shards doings asks)
       (record { standing = λ m st has. absurd (cc has); made = λ i b makes. absurd (cc makes) }, (guards_at_first V same by_hasher hash batch_size roots aborts, (tt, (tt, (λ on i c has. absurd (cc has), numbers_first false roots)))))
-      (fit_so V same by_hasher hash batch_size roots aborts shards doings asks (first_state roots)) in
-      (to.0, to.1, record { shards_are = to.2.0; guards = to.2.1.0; calls = to.2.1.1.0; refuses = to.2.1.1.1.0; fresh = to.2.1.1.1.1.1.fresh })
+      (fit_so V same by_hasher hash batch_size roots aborts shards doings asks (first_state roots)) in (
+        to.0,
+        to.1,
+        record { shards_are = to.2.0; guards = to.2.1.0; calls = to.2.1.1.0; refuses = to.2.1.1.1.0; fresh = to.2.1.1.1.1.1.fresh },
+        λ new n not.
+            (let two = wherever V same by_hasher hash batch_size roots small aborts HasNewNumber (λ p x. NumbersComeAgain x) (numbers_come_again V same by_hasher hash batch_size roots aborts) course doings y led
+            (own_so V same by_hasher hash batch_size roots aborts shards doings asks) (again_first roots) (new_fits V same by_hasher hash batch_size roots aborts doings (first_state roots) new) in
+            (subst NumbersComeAgain (same_some two.0 to.0 (sym two.1 ∙ to.1)) two.2).numbers.fresh n not),
+      )

@@ -1,6 +1,6 @@
 -- While the making of a map has made no table yet, its steps link none and store nothing.
-use Rattle.std.specs.Prelude.{◌+◌, ◌%◌, ◌^◌, Ok, Err, Option, Some, if◌then◌else◌}
-use Rattle.std.proofs.Common.{◌≡◌, ℕ, Bool, true, false, List, [], ◌∷◌, refl, ap, sym, subst, ◌∙◌}
+use Rattle.std.specs.Prelude.{◌+◌, ◌%◌, ◌^◌, Ok, Err, Option, if◌then◌else◌}
+use Rattle.std.proofs.Common.{◌≡◌, ℕ, Bool, true, false, List, [], ◌∷◌, refl, ap, sym, subst}
 use Rattle.papaya_scenes.specs.Given.SeizeWords.Mem.{Mem, value_at}
 use Rattle.papaya_scenes.specs.Given.SeizeWords.Op.{Op, Out, Found, Stored, Exchanged, Made, Taken, Roomed, Exchange, Make}
 use Rattle.papaya_scenes.specs.Given.SeizeWords.Plan.{Ends as EndsSo, plan_as}

@@ -27,7 +27,7 @@ use Rattle.papaya_played.specs.Play.{Making, Now, State, all_begun, choice_come,
 use Rattle.papaya_played.specs.Reached.{made_so, makes_so}
 use Rattle.papaya_played.proofs.Along.{AllFit, At, Is, StaysSo}
 use Rattle.papaya_played.proofs.PlayedAs.{PlayedAs, ReclaimedAs, played_as, reclaimed_as}
-use Rattle.papaya_agrees.specs.Fresh.{HasNewNumber, IsNew, MakesNew, MakesOnce, comes_with, gives_back, is_made, is_taken, makes_one}
+use Rattle.papaya_agrees.specs.Fresh.{HasNewNumber, MakesNew, MakesOnce, OnceIsNew, comes_with, gives_back, is_made, is_taken, makes_one}
 use Rattle.papaya_agrees.proofs.Numbers.{with_so}
 use Rattle.papaya_agrees.proofs.Openings.{IsRefused, ending_comes_none, no_other_comes, none_comes, root_kept}
 use Rattle.papaya_agrees.proofs.Told.{mapped, row_of_no_map}
@@ -291,7 +291,7 @@ module _ {K S : Type 0} (V : Type 0) (same : K → K → Bool) (by_hasher : S �
   new_numbers (StepsReclaiming g ∷ doings) x once free = (tt, λ y played. new_numbers doings y once (others_free (StepsReclaiming g) doings x y (λ n made. refl) free played))
   new_numbers (Chooses choice ∷ doings) x once free = (tt, λ y played. new_numbers doings y once (others_free (Chooses choice) doings x y (λ n made. refl) free played))
 
-  pub once_is_new : (doings : List (Doing K V S)) → MakesOnce doings → New doings (first_state roots)
+  pub once_is_new : OnceIsNew same by_hasher batch_size roots aborts
   once_is_new doings once = new_numbers doings (first_state roots) once (λ n made. record { not_come = refl; not_made = λ i b has. absurd (cc has) })
 
   -- Of a list that makes each map with a new number each act has one.

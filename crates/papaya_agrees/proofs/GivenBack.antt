@@ -1,5 +1,5 @@
 -- Where each map is made with a number that is not taken, nothing is there of a number that was given back: so it is wherever a list has led.
-use Rattle.std.specs.Prelude.{◌≢◌, ◌==◌, Option, Some, None, is_ok, length, option_map, if◌then◌else◌}
+use Rattle.std.specs.Prelude.{◌≢◌, Option, Some, None, is_ok, length, option_map, if◌then◌else◌}
 use Rattle.std.proofs.Common.{◌≡◌, ℕ, Bool, true, false, List, [], ◌∷◌, refl, ap, sym, subst, arith, ◌∙◌}
 use Rattle.seize_acts.specs.Answers.{Grant, stepped}
 use Rattle.seize_acts.proofs.Answers.{same_some}
@@ -15,13 +15,11 @@ use Rattle.papaya_scenes.specs.Given.Resize.NewMap.{new_map_plan, opening}
 use Rattle.papaya_scenes.specs.Given.Resize.declared.new_map.NewMap.{NewMap}
 use Rattle.papaya_scenes.specs.Given.Raw.EndMap.{end_map_plan, ending}
 use Rattle.papaya_scenes.specs.Given.Raw.Machine.{machine_asked, machine_plan, machine_replied}
-use Rattle.papaya_scenes.specs.Given.Raw.declared.machines.end_map.EndMap.{EndMap}
 use Rattle.papaya_scenes.specs.Given.Teller.declared.changed.Changed.{Changed}
 use Rattle.papaya_scenes.specs.Scene.{row_of, slot_of}
 use Rattle.papaya_scenes.proofs.NoCall.{none_is, none_of}
-use Rattle.papaya_schedules.specs.declared.outcome.Outcome.{Outcome}
 use Rattle.papaya_schedules.specs.declared.outcome.Outcome.TheVariants as outcome
-use Rattle.papaya_effects.specs.Effects.{effects_of, known_after}
+use Rattle.papaya_effects.specs.Effects.{known_after}
 use Rattle.papaya_effects.specs.declared.acting.Acting.TheVariants as acting
 use Rattle.papaya_named.specs.Seen.{kind_of}
 use Rattle.papaya_acts.specs.Acts.{Act, BeginsCall, StepsCall, TellsCall, AsksCall, StopsCall, BeginsMaking, StepsMaking, BeginsEnding, StepsEnding, BeginsRow, StepsRow}
@@ -30,7 +28,7 @@ use Rattle.papaya_acts.specs.Courses.{set_up}
 use Rattle.papaya_acts.specs.Leads.{MayBe}
 use Rattle.papaya_acts.proofs.AsSteps.Told.{was_told}
 use Rattle.papaya_deeds.specs.Deeds.{Begins, Entry, ReclaimsAll, Replies, Steps, Stops, moment}
-use Rattle.papaya_played.specs.Play.{Ending, Making, Now, State, all_begun, call_for, choice_come, ended_on, ending_deed, first_state, is_over, is_refusal, made_on, making_deed, making_outcome, outcome_of, reply_for, row_deed, row_outcome, settled_outcome}
+use Rattle.papaya_played.specs.Play.{Ending, Making, Now, State, call_for, ended_on, ending_deed, first_state, is_over, made_on, making_deed, making_outcome, outcome_of, reply_for, row_deed, row_outcome, settled_outcome}
 use Rattle.papaya_played.specs.Reached.{stands_so}
 use Rattle.papaya_played.proofs.Along.{At, Is, StaysSo}
 use Rattle.papaya_played.proofs.Noted.{Anything, CallsAreNoted, notes_stay}
@@ -42,7 +40,7 @@ use Rattle.papaya_agrees.proofs.Elsewhere.{reclaiming_elsewhere, rows_elsewhere}
 use Rattle.papaya_agrees.proofs.Entries.{histories_grow}
 use Rattle.papaya_agrees.proofs.Fresh.{AnyTable, IsElsewhere, entry_bare}
 use Rattle.papaya_agrees.proofs.Names.{names_grow}
-use Rattle.papaya_agrees.proofs.Numbers.{MakesMayFail, MayFail, NumbersHold, acts_number, bare_else, call_else, ending_else, entry, making_else, no_map_else, numbers_first, reclaiming_numbers, same_map, with_each, with_so}
+use Rattle.papaya_agrees.proofs.Numbers.{MakesMayFail, NumbersHold, acts_number, bare_else, call_else, ending_else, entry, making_else, no_map_else, numbers_first, reclaiming_numbers, same_map, with_each, with_so}
 use Rattle.papaya_agrees.proofs.Told.{all_say, reclaims_all, row_of_no_map, row_says}
 
 module _ {K V S : Type 0} where

@@ -19,3 +19,4 @@ pub mod Numbers
 pub mod Coming
 pub mod GivenBack
 pub mod Agree
+mod Samples

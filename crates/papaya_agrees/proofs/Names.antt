@@ -1,8 +1,8 @@
 -- Each map that is there has its number as its name.
-use Rattle.std.specs.Prelude.{suc, ◌==◌, not, filter, find, Bool, true, false, Option, Some, None, cond, if◌then◌else◌}
+use Rattle.std.specs.Prelude.{suc, ◌==◌, not, find, Bool, true, false, Option, Some, None, cond, if◌then◌else◌}
 use Rattle.std.specs.List.{All}
 use Rattle.std.proofs.Common.{◌≡◌, ℕ, List, [], ◌∷◌, refl, ap, sym, ◌∙◌, arith}
-use Rattle.std.proofs.lemmas.Bool.{cases_eq, eqb-true, ne_eqb}
+use Rattle.std.proofs.lemmas.Bool.{eqb-true}
 use Rattle.std.proofs.lemmas.List.Elements.{All-append, All-cons, All-filter, All-map}
 use Rattle.papaya_follows.proofs.Calling.{is_same_refl}
 use Rattle.papaya_runs.specs.Same.{is_same}

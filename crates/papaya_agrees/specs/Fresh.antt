@@ -6,7 +6,7 @@ use Rattle.papaya_schedules.specs.Views.{map_at, tables_of}
 use Rattle.papaya_acts.specs.Acts.{Act, BeginsMaking}
 use Rattle.papaya_acts.specs.Doings.{Doing, Does}
 use Rattle.papaya_deeds.specs.Deeds.{Deed, Entry, MapComes, MapFails, named}
-use Rattle.papaya_played.specs.Play.{State, play}
+use Rattle.papaya_played.specs.Play.{State, first_state, play}
 
 module _ {K V : Type 0} where
   -- by it a map comes with this number
@@ -82,3 +82,7 @@ module _ {K V S : Type 0} (same : K → K → Bool) (by_hasher : S → K → ℕ
   abbrev pub MakesNew : List (Doing K V S) → State K V S → Type 0
   MakesNew [] x = Unit {0}
   MakesNew (doing ∷ doings) x = IsNew x doing × ((y : State K V S) → play same by_hasher batch_size roots aborts doing x ≡ Some y → MakesNew doings y)
+
+  -- The promise: a list in which no number is given to two maps makes each with a new number.
+  abbrev pub OnceIsNew : Type 0
+  OnceIsNew = (doings : List (Doing K V S)) → MakesOnce doings → MakesNew doings (first_state roots)
