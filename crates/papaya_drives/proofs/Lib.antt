@@ -1,5 +1,5 @@
 mod Begins
-mod Told
+pub mod Told
 mod Wherever
 mod May
 pub mod Executors

@@ -9,5 +9,6 @@ pub mod EndGoes
 pub mod CallBegins
 pub mod Chosen
 pub mod MakingGoes
+pub mod AllGoes
 pub mod Callers
 mod Samples

@@ -17,7 +17,7 @@ use Rattle.papaya_played.specs.Play.{call_for}
 
 module _ {K V : Type 0} (same : K → K → Bool) (st : Standing K) (i : ℕ) where
   -- what an act begins is what begins where that is called
-  begun_is : (wanted : Wanted K V) → begun same slot_of st i wanted ≡ begun_call same st i (call_for wanted)
+  pub begun_is : (wanted : Wanted K V) → begun same slot_of st i wanted ≡ begun_call same st i (call_for wanted)
   begun_is (Get key) = refl
   begun_is (Remove key) = refl
   begun_is (Insert key value) = refl

@@ -1,5 +1,5 @@
 -- A choice of a number comes: the moment shows the scene as before, and maps come and go as before.
-use Rattle.std.specs.Prelude.{◌≡◌, ℕ, Bool, Option}
+use Rattle.std.specs.Prelude.{ℕ, Bool, Option}
 use Rattle.papaya_moments.specs.Given.Follows.Shows.{Shows}
 use Rattle.papaya_moments.specs.Given.Schedules.Moment.{Moment}
 use Rattle.papaya_moments.specs.Given.Schedules.Transition.{Past}

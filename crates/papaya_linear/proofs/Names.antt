@@ -2,7 +2,7 @@
 use Rattle.std.specs.Prelude.{◌≡◌, ◌==◌, ℕ, false, List, Some, None}
 use Rattle.std.proofs.Common.{ap, sym, subst, ◌∙◌, arith}
 use Rattle.papaya_moments.specs.Given.Runs.Same.{is_same}
-use Rattle.papaya_moments.specs.Given.Schedules.Moment.{MapThere, Moment}
+use Rattle.papaya_moments.specs.Given.Schedules.Moment.{Moment}
 use Rattle.papaya_moments.specs.Given.Scenes.Scene.{Scene}
 use Rattle.papaya_moments.proofs.Numbers.{found_of}
 use Rattle.papaya_deeds.specs.Deeds.{named}

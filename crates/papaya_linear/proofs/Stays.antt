@@ -30,7 +30,6 @@ use Rattle.papaya_played.specs.Play.{State, all_begun, choice_come, all_stepped,
 use Rattle.papaya_played.specs.Reached.{IsOf, rows_beside}
 use Rattle.papaya_linear.proofs.Chosen.{maps_chosen, shows_chosen}
 use Rattle.papaya_played.proofs.Along.{At, Is, StaysSo, far, held, lists_at}
-use Rattle.papaya_played.proofs.Noted.{Anything, CallsAreNoted}
 use Rattle.papaya_played.proofs.PlayedAs.{ReclaimedAs, played_as, reclaimed_as}
 use Rattle.papaya_linear.specs.Coming.{MapsComeAndGo}
 use Rattle.papaya_linear.specs.Shown.{ShowsAnswers}

@@ -1,6 +1,6 @@
 -- What was made for maps under way stays counted by the step of a making, too.
 use Rattle.std.specs.Prelude.{◌≡◌, ◌≢◌, ◌⊎◌, ◌+◌, ℕ, Bool, true, false, List, [], ◌∷◌, length, filter, Option, Some, None}
-use Rattle.std.proofs.Common.{refl, ap, sym, ◌∙◌, arith, inl, inr}
+use Rattle.std.proofs.Common.{refl, ap, sym, subst, ◌∙◌, arith, inl, inr}
 use Rattle.std.proofs.lemmas.Bool.{cases_eq}
 use Rattle.papaya_legal.specs.Given.Seize.World.{with_at}
 use Rattle.papaya_legal.specs.Given.Seize.declared.progress.Progress.{Progress}
@@ -97,7 +97,7 @@ module _ {K V S : Type 0} (x : State K V S) (here : MadeHolds x) (numbers : Numb
         by : (gives_back true n (deed_by {K = K} {V = V} b.map machine had has) ≡ true) ⊎ (is_taken n x.history ≡ false) → (n ≡ b.map) ⊎ (n ≢ b.map) → made_for n log ≡ 0
         by (inl gives) either =
             let its = gives_its K V b.map b.machine machine true n gives in
-            let now = nothing_made n (deed_by b.map machine had has) effects (freed its.2 its.3) in
+            let now = nothing_made {K = K} {V = V} n (deed_by b.map machine had has) effects (freed its.2 its.3) in
             let before : made_for n x.history ≡ 0 = subst (λ (k : ℕ). made_for k x.history ≡ 0) its.1 (failed its.2 its.3) in
             omega (arith, now, before)
         by (inr was) (inl e) = let now = none_by had refl was e in let before = here.fresh n was in omega (arith, now, before)

@@ -2,6 +2,7 @@
 use Rattle.std.specs.Prelude.{zero, suc, ◌≢◌, ◌≤◌, ◌<◌, ◌*◌, ◌+◌, ◌/◌, ◌^◌, ◌==◌, max, if◌then◌else◌}
 use Rattle.std.specs.Int.{IsPowerOfTwo}
 use Rattle.std.proofs.Common.{◌≡◌, ℕ, Bool, true, false, refl, sym, ap, subst, arith, eqb-true, ◌∙◌}
+use Rattle.std.proofs.lemmas.Nat.{pow_pos}
 use Rattle.std.proofs.Math.Nat.{pow-suc}
 use Rattle.papaya_scenes.specs.Given.Tables.Lengths.{places_for}
 use Rattle.papaya_scenes.specs.Given.Tables.Powers.{next_power}
@@ -17,11 +18,10 @@ back places = places_for (pairs_for places)
 few_places : (places bits : ℕ) → places ≡ 2 ^ bits → (back places ≤ places) × (places / 2 < max 1 (back places)) × (1 ≤ pairs_for places)
 few_places places zero is = let one : places ≡ 1 = is in (omega (arith, one), omega (arith, one), omega (arith, one))
 few_places places (suc bits) is =
-    let power = pow-suc 2 bits in
-    (even places (2 ^ bits) (is ∙ power))
+    even places (2 ^ bits) (is ∙ pow-suc 2 bits) (pow_pos bits)
   where
-    even : (p h : ℕ) → p ≡ 2 * h → (back p ≤ p) × (p / 2 < max 1 (back p)) × (1 ≤ pairs_for p)
-    even p h e = (omega (arith, e), omega (arith, e), omega (arith, e))
+    even : (p h : ℕ) → p ≡ h * 2 → 1 ≤ h → (back p ≤ p) × (p / 2 < max 1 (back p)) × (1 ≤ pairs_for p)
+    even p h e some = (omega (arith, e, some), omega (arith, e, some), omega (arith, e, some))
 
 pub first_back : (places : ℕ) → IsFirstLen places → first_places (pairs_for places) ≡ places
 first_back places first = by (places == 0) refl

@@ -14,5 +14,6 @@ pub mod RowKinds
 pub mod Rowed
 mod FirstPlaces
 pub mod Made
+pub mod AllDone
 pub mod First
 pub mod Last

@@ -106,7 +106,7 @@ module _ {K V S : Type 0} (same : K → K → Bool) (by_hasher : S → K → ℕ
         by_less : (k l x : ℕ) → k ≡ map → l ≡ map + 1 → x < l → x ≢ map → x < k
         by_less k l x few long less ne = omega (arith, few, long, less, ne)
 
-  back_there : (g : Grant) (said : Progress Setting) → e3.maps.items ≡ given_back map said e2.maps.items → Led same by_hasher e.batch_size e.roots slot_of (StepsMaking {V = V} i g) s (OfMaking said) n → IsThere same (by_hasher e.hasher) e3 n
+  back_there : (g : Grant) (said : Progress Setting) → e3.maps.items ≡ given_back map said e2.maps.items → Led same by_hasher e.batch_size e.roots slot_of (StepsMaking i g) s (OfMaking said) n → IsThere same (by_hasher e.hasher) e3 n
   back_there g progress.Goes items led = kept items
   back_there g progress.Waits items led = kept items
   back_there g (progress.Done setting) items led = kept items
@@ -229,12 +229,12 @@ module _ {K V S : Type 0} (same : K → K → Bool) (by_hasher : S → K → ℕ
           ⊎ ((played.outcome ≡ outcome.Done) × (setting : Setting) × MakingHasRun played old new own mode capacity (progress.Done setting))) → After
       by (inl (fault, says, nothing)) = did_nothing ev played old new same by_hasher idle nothing.0 nothing.1 works.0 terms log stands in_turn next next2 at
       by (inr (inl (fault, says, d))) =
-          over (progress.Refused fault) says d (λ x so then n few. (let made_is = later ∙ ap (λ (o : Outcome V). numbers_made o (moment log).made) says in
-          let low : (moment log).made ≤ n = omega (arith, made_is, few) in by_number x so then n low (cases_eq n (moment log).made)))
+          over (progress.Refused fault) says d (λ x so comes n few. (let made_is = later ∙ ap (λ (o : Outcome V). numbers_made o (moment log).made) says in
+          let low : (moment log).made ≤ n = omega (arith, made_is, few) in by_number x so comes n low (cases_eq n (moment log).made)))
         where
           by_number : (x : State K V S) → InEvent log ev played.effects.items 0 (outcome.Refused fault) old.calls x → MakesThen d.caller (moment log).made mode d.places (progress.Refused fault) x → (n : ℕ)
               → (moment log).made ≤ n → (n ≡ (moment log).made) ⊎ (n ≢ (moment log).made) → is_taken n x.history ≡ false
-          by_number x so then n low (inl e) = ap (λ (k : ℕ). is_taken k x.history) e ∙ then.1 refl
-          by_number x so then n low (inr ne) = so.fresh n (omega (arith, low, ne))
+          by_number x so comes n low (inl e) = ap (λ (k : ℕ). is_taken k x.history) e ∙ comes.1 refl
+          by_number x so comes n low (inr ne) = so.fresh n (omega (arith, low, ne))
       by (inr (inr (done, setting, d))) =
-          over (progress.Done setting) done d (λ x so then n few. (let made_is = later ∙ ap (λ (o : Outcome V). numbers_made o (moment log).made) done in so.fresh n (omega (arith, made_is, few))))
+          over (progress.Done setting) done d (λ x so comes n few. (let made_is = later ∙ ap (λ (o : Outcome V). numbers_made o (moment log).made) done in so.fresh n (omega (arith, made_is, few))))

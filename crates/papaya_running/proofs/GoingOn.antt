@@ -13,6 +13,7 @@ use Rattle.papaya_schedules.specs.Coming.{fits_reply, shows_now}
 use Rattle.papaya_schedules.specs.Terms.{Terms}
 use Rattle.papaya_schedules.specs.Views.{call_of}
 use Rattle.papaya_raw.specs.Given.Tables.declared.resize_mode.ResizeMode.{ResizeMode}
+use Rattle.papaya_scheduler.specs.AllWorks.{WorksOnAll}
 use Rattle.papaya_scheduler.specs.Played.{Began, IsDue, PlaysAt, Replies, Stops, entry_of}
 use Rattle.papaya_scheduler.specs.Quiet.{StaysBusy}
 use Rattle.papaya_scheduler.specs.Works.{DidNothing, WorksOnEnd, WorksOnMap, WorksOnSetup, WorksOnSlot}
@@ -20,9 +21,11 @@ use Rattle.papaya_scheduler.specs.Mapping.{numbers_made}
 use Rattle.papaya_scheduler.specs.declared.played.Played.{Played}
 use Rattle.papaya_scheduler.specs.declared.scheduler.Scheduler.{Scheduler}
 use Rattle.papaya_stepping.specs.Stepping.{TookNext, TookSteps, TookWhole}
+use Rattle.papaya_events.specs.Asked.{MayHappenDue}
 use Rattle.papaya_events.specs.Given.Executor.IsThere.{KeepsGiven}
 use Rattle.papaya_events.proofs.OfCalls.Happens.{either, in_turn_comes}
 use Rattle.papaya_grouped.proofs.Midst.{maps_of}
+use Rattle.papaya_pieced.proofs.AllDone.{close_goes_on, reclaim_goes_on}
 use Rattle.papaya_pieced.proofs.Begun.{begin_goes_on, whole_goes_on}
 use Rattle.papaya_pieced.proofs.Chosen.{choice_goes_on}
 use Rattle.papaya_pieced.proofs.Ended.{end_goes_on}
@@ -104,6 +107,19 @@ module _ {K V S : Type 0} (same : K → K → Bool) (by_hasher : S → K → ℕ
         → KeepsGiven old.logged.executor new.logged.executor → IfOk result (λ played. Due its played)
     end_acts own is (Ok played) steps works given = form_so (event.EndMap own) is played (λ lawful few. end_goes_on same by_hasher (any_course V same by_hasher lawful) own played old new steps works given)
     end_acts own is (Err x) steps works given = tt
+
+    -- where all is reclaimed
+    pub reclaim_acts : its ≡ event.ReclaimAll → MayHappenDue same its_hash its old → (result : Result (Played V) X) → IfOk result (λ played. played.steps ≡ 0) → IfOk result (λ played. WorksOnAll played old new)
+        → KeepsGiven old.logged.executor new.logged.executor → IfOk result (λ played. Due its played)
+    reclaim_acts is holds (Ok played) steps works given =
+        form_so event.ReclaimAll is played (λ lawful few. reclaim_goes_on same by_hasher (any_course V same by_hasher lawful) played old new steps works holds.2.gives.slots given)
+    reclaim_acts is holds (Err x) steps works given = tt
+
+    pub close_acts : its ≡ event.Close → MayHappenDue same its_hash its old → (result : Result (Played V) X) → IfOk result (λ played. played.steps ≡ 0) → IfOk result (λ played. WorksOnAll played old new)
+        → KeepsGiven old.logged.executor new.logged.executor → IfOk result (λ played. Due its played)
+    close_acts is holds (Ok played) steps works given =
+        form_so event.Close is played (λ lawful few. close_goes_on same by_hasher (any_course V same by_hasher lawful) played old new steps works holds.2.gives.slots given)
+    close_acts is holds (Err x) steps works given = tt
 
   -- a reply, and a walk that is given up
   pub reply_acts : (own : List ℕ) (reply : Reply V) → its ≡ event.Replied own reply → (played : Played V) → played.steps ≡ 0

@@ -10,7 +10,7 @@ use Rattle.papaya_events.proofs.OfMakings.{makings_keep}
 use Rattle.papaya_events.proofs.OfRows.{others_keep_if}
 use Rattle.papaya_events.proofs.OfSetups.{others_set, setup_keeps_if}
 use Rattle.papaya_running.specs.Kinds.{event_of_maps}
-use Rattle.papaya_running.proofs.GoingOn.{all_acts, end_acts, make_acts, nothing_acts_if}
+use Rattle.papaya_running.proofs.GoingOn.{close_acts, end_acts, make_acts, nothing_acts_if, reclaim_acts}
 use Rattle.papaya_running.proofs.happening.of_maps.Goals as goal
 
 pub make_map-requires : goal.make_map-requires
@@ -140,7 +140,7 @@ pub returns-in-ShowShape-clause-acts : goal.returns-in-ShowShape-clause-acts
 returns-in-ShowShape-clause-acts g c = nothing_acts_if g.K.PartialEq.eq g.S.Hashes.hash (event_of_maps c.args.event) c.args.scheduler.now c.args.scheduler.now _ (ap event_of_maps c.in-ShowShape.is) c.show_shape.result c.show_shape.ensures.steps c.show_shape.ensures.works
 
 pub returns-in-ReclaimAll-clause-acts : goal.returns-in-ReclaimAll-clause-acts
-returns-in-ReclaimAll-clause-acts g c = all_acts g.K.PartialEq.eq g.S.Hashes.hash (event_of_maps c.args.event) c.args.scheduler.now c.reclaim_all.new.scheduler _ (ap event_of_maps c.in-ReclaimAll.is) c.reclaim_all.result c.reclaim_all.ensures.steps c.reclaim_all.ensures.works c.reclaim_all.ensures.given
+returns-in-ReclaimAll-clause-acts g c = reclaim_acts g.K.PartialEq.eq g.S.Hashes.hash (event_of_maps c.args.event) c.args.scheduler.now c.reclaim_all.new.scheduler (ap event_of_maps c.in-ReclaimAll.is) c.requires c.reclaim_all.result c.reclaim_all.ensures.steps c.reclaim_all.ensures.works c.reclaim_all.ensures.given
 
 pub returns-in-Close-clause-acts : goal.returns-in-Close-clause-acts
-returns-in-Close-clause-acts g c = all_acts g.K.PartialEq.eq g.S.Hashes.hash (event_of_maps c.args.event) c.args.scheduler.now c.close.new.scheduler _ (ap event_of_maps c.in-Close.is) c.close.result c.close.ensures.steps c.close.ensures.works c.close.ensures.given
+returns-in-Close-clause-acts g c = close_acts g.K.PartialEq.eq g.S.Hashes.hash (event_of_maps c.args.event) c.args.scheduler.now c.close.new.scheduler (ap event_of_maps c.in-Close.is) c.requires c.close.result c.close.ensures.steps c.close.ensures.works c.close.ensures.given
