@@ -14,6 +14,7 @@ use Rattle.papaya_scenes.specs.declared.callers.TheConstants.{SLOTS}
 use Rattle.papaya_scenes.specs.Scene.{slot_of}
 use Rattle.papaya_schedules.specs.declared.effect.Effect.{Effect}
 use Rattle.papaya_schedules.specs.declared.event.Event.{Event}
+use Rattle.papaya_schedules.specs.declared.event.Event.TheVariants as events
 use Rattle.papaya_schedules.specs.declared.outcome.Outcome.{Outcome}
 use Rattle.papaya_schedules.specs.declared.outcome.Outcome.TheVariants as outcome
 use Rattle.papaya_schedules.specs.After.{moment}
@@ -183,3 +184,11 @@ module _ {K V S : Type 0} (same : K → K → Bool) (by_hasher : S → K → ℕ
           ⊎ ((played.outcome ≡ outcome.Done) × (are_gone old.there old.calls ≡ true) × ReclaimingGone (nat_lt 0 (known old.logged.notes).buckets) [] played.effects.items old.logged new.logged) → After
       by (inl (says, nothing)) = did_nothing event played old new same by_hasher idle nothing.0 nothing.1 works.0 terms log stands in_turn next next2 at
       by (inr (done, gone, g)) = gone_so done gone g
+
+module _ {K V S : Type 0} (same : K → K → Bool) (by_hasher : S → K → ℕ) (any : (batch_size roots : ℕ) → Course V same by_hasher batch_size roots slot_of) (played : Played V) (old new : Scheduler K V S) (idle : played.steps ≡ 0)
+    (works : WorksOnAll played old new) (notes : NotesSlots (known old.logged.notes) old.logged.executor.memory.memory) (given : KeepsGiven old.logged.executor new.logged.executor) where
+  pub reclaim_goes_on : GoesOnByActs same by_hasher events.ReclaimAll played old new
+  reclaim_goes_on = all_goes_on same by_hasher any events.ReclaimAll refl (λ names log last. tt) played old new idle works notes given
+
+  pub close_goes_on : GoesOnByActs same by_hasher events.Close played old new
+  close_goes_on = all_goes_on same by_hasher any events.Close refl (λ names log last. tt) played old new idle works notes given

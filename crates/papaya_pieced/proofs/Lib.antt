@@ -15,3 +15,5 @@ pub mod Rowed
 mod FirstPlaces
 pub mod Made
 pub mod AllDone
+pub mod First
+pub mod Last
