@@ -1,6 +1,5 @@
 -- A map that is to begin with as many places as it is asked for begins so by the pairs for which it has places.
-use Rattle.std.specs.Prelude.{zero, suc, nat_lt, Some, None, ◌≢◌, ◌≤◌, ◌<◌, ◌*◌, ◌+◌, ◌/◌, ◌^◌, ◌==◌, max, if◌then◌else◌}
-use Rattle.std.specs.Int.{IsPowerOfTwo}
+use Rattle.std.specs.Prelude.{zero, suc, nat_lt, Some, None, ◌≤◌, ◌<◌, ◌*◌, ◌/◌, ◌^◌, ◌==◌, max, if◌then◌else◌}
 use Rattle.std.proofs.Common.{◌≡◌, ℕ, Bool, true, false, refl, sym, ap, subst, arith, eqb-true, ◌∙◌}
 use Rattle.std.proofs.lemmas.Bool.{ltb-true}
 use Rattle.std.proofs.lemmas.Nat.{pow_pos}

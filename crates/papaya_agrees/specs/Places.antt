@@ -1,5 +1,5 @@
 -- With which places a map is made: such as a capacity without a fault asks for; and of whom so many shards, and such places, are asked.
-use Rattle.std.specs.Prelude.{◌≡◌, ◌+◌, ℕ, Bool, max, None}
+use Rattle.std.specs.Prelude.{◌≡◌, ◌+◌, ℕ, max, None}
 use Rattle.papaya_scenes.specs.Given.Tables.declared.setting.Setting.{Setting}
 use Rattle.papaya_named.specs.Places.{first_places}
 use Rattle.papaya_runs.specs.Runs.{map_fault}

@@ -1,5 +1,5 @@
 -- The making of a map, in the midst of an event: the list of acts goes on where it begins, and by each of its steps.
-use Rattle.std.specs.Prelude.{◌-◌, ◌≢◌, ◌≤◌, ◌<◌, ◌+◌, ◌^◌, ◌==◌, ◌&&◌, ◌++◌, Option, Some, None, Ok, Err, length, max, nat_lt, option_map, if◌then◌else◌}
+use Rattle.std.specs.Prelude.{◌-◌, ◌≢◌, ◌≤◌, ◌<◌, ◌+◌, ◌^◌, ◌==◌, ◌&&◌, ◌++◌, Some, None, Ok, Err, length, max, nat_lt, option_map, if◌then◌else◌}
 use Rattle.std.specs.Int.{IsPowerOfTwo}
 use Rattle.std.proofs.Common.{◌≡◌, ℕ, Bool, true, false, List, [], ◌∷◌, refl, sym, ap, subst, arith, ◌∙◌}
 use Rattle.std.proofs.lemmas.Bool.{eq-eqb, ne_eqb}
@@ -11,7 +11,7 @@ use Rattle.papaya_scenes.specs.Given.SeizeWords.Plan.{Steps}
 use Rattle.papaya_scenes.specs.Given.SeizeWords.declared.fault.Fault.TheVariants.{RootsUsedUp}
 use Rattle.papaya_scenes.specs.Given.Seize.declared.progress.Progress.{Progress}
 use Rattle.papaya_scenes.specs.Given.Seize.declared.progress.Progress.TheVariants as progress
-use Rattle.papaya_scenes.proofs.Given.SeizeEnds.Batches.Free.{Outcomes, PlanOutcomes, plan_outcome}
+use Rattle.papaya_scenes.proofs.Given.SeizeEnds.Batches.Free.{Outcomes, plan_outcome}
 use Rattle.papaya_scenes.proofs.Given.SeizeRule.Rows.Leaving.{steps_back}
 use Rattle.papaya_scenes.specs.Given.Tables.Lengths.{IsTableLen}
 use Rattle.papaya_scenes.specs.Given.Tables.declared.node.Node.{Node}
@@ -51,7 +51,7 @@ use Rattle.papaya_deeds.specs.Deeds.{Entry as Act}
 use Rattle.papaya_drives.specs.Executors.{AreSteps, Computes, IsAct}
 use Rattle.papaya_drives.proofs.Executors.{executors_act}
 use Rattle.papaya_agrees.specs.Places.{ArePlaces}
-use Rattle.papaya_agrees.specs.Fresh.{comes_with, gives_back, is_taken}
+use Rattle.papaya_agrees.specs.Fresh.{comes_with, is_taken}
 use Rattle.papaya_played.specs.Play.{Making, Now, State, has_root, is_refusal, made_on, making_begun, making_deed, making_outcome, making_stepped, pairs_for, play_act, worked}
 use Rattle.papaya_played.specs.Reached.{IsOfStage, rows_beside}
 use Rattle.papaya_played.proofs.PlayedAs.{played_as}

@@ -1,5 +1,5 @@
 -- That a run is by acts: of which list of acts its log is the grouping.
-use Rattle.std.specs.Prelude.{◌≡◌, ◌<◌, ◌^◌, ℕ, Bool, List, [], ◌∷◌, Some}
+use Rattle.std.specs.Prelude.{◌≡◌, ◌<◌, ◌^◌, ℕ, Bool, List, Some}
 use Rattle.std.specs.List.{AllByRecursion}
 use Rattle.papaya_scenes.specs.Scene.{slot_of}
 use Rattle.papaya_schedules.specs.Entry.{Entry}
