@@ -9,7 +9,7 @@ use Rattle.papaya_schedules.specs.declared.event.Event.TheVariants as event
 use Rattle.papaya_schedules.specs.declared.outcome.Outcome.TheVariants.{Done, Goes, Refused}
 use Rattle.papaya_schedules.specs.After.{moment}
 use Rattle.papaya_schedules.specs.Entry.{Entry}
-use Rattle.papaya_schedules.specs.InTurn.{fits_reply, shows_now}
+use Rattle.papaya_schedules.specs.Coming.{fits_reply, shows_now}
 use Rattle.papaya_schedules.specs.Terms.{Terms}
 use Rattle.papaya_schedules.specs.Views.{call_of}
 use Rattle.papaya_raw.specs.Given.Tables.declared.resize_mode.ResizeMode.{ResizeMode}
@@ -48,10 +48,10 @@ module _ {K V S : Type 0} (same : K → K → Bool) (by_hasher : S → K → ℕ
   form_so : (form : Event K V) → its ≡ form → (played : Played V) → Due form played → Due its played
   form_so form is played so = subst (λ (e : Event K V). Due e played) (sym is) so
 
-  module _ {X : Type 0} where
-    abbrev its_hash : K → ℕ
-    its_hash = by_hasher old.logged.executor.hasher
+  abbrev its_hash : K → ℕ
+  its_hash = by_hasher old.logged.executor.hasher
 
+  module _ {X : Type 0} where
     -- calls
     pub begin_acts : (own guard name : List ℕ) (call : Call K V) → its ≡ event.Begin own guard name call → (result : Result (Played V) X) → IfOk result (λ played. played.steps ≡ 0)
         → IfOk result (λ played. Began same its_hash own guard name call played old new) → KeepsGiven old.logged.executor new.logged.executor → IfOk result (λ played. Due its played)
@@ -159,7 +159,7 @@ module _ {K V S : Type 0} (same : K → K → Bool) (by_hasher : S → K → ℕ
 
   -- An event that is in turn goes on so, if the log is not closed; and one that is kept out does nothing.
   pub in_turn_acts : {X : Type 0} (result : Result (Played V) X) → old.is_closed ≡ false → IfOk result (λ played. Due its played) → IfOk result (λ played. GoesOnAt same by_hasher its played old new)
-  in_turn_acts (Ok played) is_open due = λ lawful few terms log stands next next2 at. due lawful few terms log stands (sym stands.closed ∙ is_open) next next2 at
+  in_turn_acts (Ok played) is_open due = λ lawful few terms log stands next next2 at. due lawful few terms log stands (stands.closed ∙ is_open) next next2 at
   in_turn_acts (Err x) is_open due = tt
 
   pub out_acts : (played : Played V) (mapped : Bool) → played.steps ≡ 0 → played.effects.items ≡ [] → new ≡ record old { is_mapped = mapped } → GoesOnAt same by_hasher its played old new
