@@ -19,4 +19,5 @@ pub mod Numbers
 pub mod Coming
 pub mod GivenBack
 pub mod Agree
+pub mod FirstPlaces
 mod Samples

@@ -1,7 +1,7 @@
 -- All is reclaimed, in the midst of an event: the list of acts goes on where that begins, by each of its steps, and where it is over.
-use Rattle.std.specs.Prelude.{◌≤◌, ◌<◌, ◌^◌, ◌++◌, Option, Some, None, option_map, length, slice_index_or, IsSome}
+use Rattle.std.specs.Prelude.{◌<◌, ◌^◌, ◌++◌, Option, Some, None, option_map, length, slice_index_or, IsSome}
 use Rattle.std.specs.Option.{is_none, is_some}
-use Rattle.std.proofs.Common.{◌≡◌, ◌⊎◌, ℕ, Bool, true, false, List, ◌∷◌, inl, inr, refl, sym, ap, subst, ◌∙◌}
+use Rattle.std.proofs.Common.{◌≡◌, ℕ, Bool, false, List, inl, inr, refl, sym, ap, subst, ◌∙◌}
 use Rattle.seize_acts.specs.Acts.{rests}
 use Rattle.seize_acts.specs.Answers.{Grant, stepped, then_on}
 use Rattle.seize_acts.proofs.Answers.{same_some}
@@ -10,20 +10,19 @@ use Rattle.papaya_scenes.specs.Given.SeizeWords.Mem.{Mem, Can, Took, value_at, w
 use Rattle.papaya_scenes.specs.Given.SeizeWords.Plan.{May}
 use Rattle.papaya_scenes.specs.Given.SeizeWords.declared.at.At.TheVariants.{Slot}
 use Rattle.papaya_scenes.specs.Given.Seize.ReclaimAll.{clearing, reclaim_all_plan, reclaiming_all}
-use Rattle.papaya_scenes.specs.Given.Seize.World.{Row, Rests, Use, Vacant}
+use Rattle.papaya_scenes.specs.Given.Seize.World.{Rests}
 use Rattle.papaya_scenes.specs.Given.Seize.declared.rows.reclaim_all.ReclaimAll.{ReclaimAll}
 use Rattle.papaya_scenes.specs.Given.Seize.declared.rows.settle.Settled.{Settled}
 use Rattle.papaya_scenes.specs.Given.Seize.declared.rows.settle.Settled.TheVariants as settled
 use Rattle.papaya_scenes.specs.Given.Seize.declared.states.TheConstants.{HEAD}
 use Rattle.papaya_scenes.specs.Given.Tables.Nodes.{deferred_word, was_left}
 use Rattle.papaya_scenes.specs.Given.Tables.declared.node.Node.{Node}
-use Rattle.papaya_scenes.specs.Given.Tables.declared.setting.Setting.{Setting}
 use Rattle.papaya_scenes.specs.Given.Teller.declared.changed.Changed.{Changed}
 use Rattle.papaya_scenes.specs.Given.Callers.Rows.{IsRowOn}
 use Rattle.papaya_scenes.specs.Given.Finishes.Endings.{EndingsTogether, Finishing}
 use Rattle.papaya_scenes.specs.Given.Finishes.Machines.{machine_of}
 use Rattle.papaya_scenes.specs.Given.Finishes.Makings.{Beginning}
-use Rattle.papaya_scenes.specs.Given.Finishes.Maps.{IsSameMap, Standing}
+use Rattle.papaya_scenes.specs.Given.Finishes.Maps.{Standing}
 use Rattle.papaya_scenes.proofs.Goes.{same_map_keeps}
 use Rattle.papaya_scenes.proofs.NoCall.{none_of}
 use Rattle.papaya_scenes.specs.Held.{Held}
@@ -44,9 +43,9 @@ use Rattle.papaya_executor.specs.declared.executor.Executor.{Executor}
 use Rattle.papaya_executor.specs.declared.worker.Work.{Work}
 use Rattle.papaya_reclaiming.specs.Reclaiming.{IsReclaimingThere, NobodyHas, ReclaimsThere}
 use Rattle.papaya_named.specs.declared.caller.Caller.{Caller}
-use Rattle.papaya_acts.specs.Acts.{Answer, Nothing, OfReclaiming}
+use Rattle.papaya_acts.specs.Acts.{Answer, OfReclaiming}
 use Rattle.papaya_acts.specs.AsSteps.{changed_of}
-use Rattle.papaya_acts.specs.Doings.{AllAreFree, BeginsClearing, BeginsReclaiming, Doing, HasDone, HasStepped, MayDo, SlotsAreFree, Stage, StepsReclaiming, behind, is_vacant, reclaiming, still}
+use Rattle.papaya_acts.specs.Doings.{AllAreFree, BeginsClearing, BeginsReclaiming, HasStepped, MayDo, SlotsAreFree, Stage, StepsReclaiming, behind, is_vacant, reclaiming, still}
 use Rattle.papaya_acts.specs.Lists.{Course}
 use Rattle.papaya_acts.specs.Reclaiming.{IsReclaimingAll, reclaiming_steps}
 use Rattle.papaya_acts.proofs.Reclaiming.{reclaiming_is_by_acts}

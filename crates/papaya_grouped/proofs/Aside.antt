@@ -1,6 +1,6 @@
 -- What is done beside calls, in the midst of an event: the event goes on by its entry, or as it was where there is none, and callers are as they were played.
 use Rattle.std.specs.Prelude.{◌++◌, ◌==◌, ◌+◌, ◌≤◌, Option, if◌then◌else◌}
-use Rattle.std.proofs.Common.{◌≡◌, ℕ, Bool, true, false, List, ◌∷◌, refl, sym, ap, subst, ◌∙◌}
+use Rattle.std.proofs.Common.{◌≡◌, ℕ, Bool, true, false, List, refl, sym, ap, subst, ◌∙◌}
 use Rattle.papaya_scenes.specs.Given.Seize.declared.progress.Progress.{Progress}
 use Rattle.papaya_scenes.specs.Given.Seize.declared.progress.Progress.TheVariants as progress
 use Rattle.papaya_scenes.specs.Given.Seize.declared.rows.leave.Leave.{Leave}

@@ -1,9 +1,8 @@
 -- A call begins, as the first thing that an event does: the list of acts goes on by that, and its caller goes by the number that it has.
-use Rattle.std.specs.Prelude.{◌≤◌, ◌==◌, ◌||◌, Option, Some, None, option_map, cond, filter, find, length, slice_index_or, if◌then◌else◌}
+use Rattle.std.specs.Prelude.{◌≤◌, ◌==◌, ◌||◌, Some, None, option_map, cond, filter, find, length, slice_index_or}
 use Rattle.std.specs.List.{AllByRecursion, list_any}
 use Rattle.std.proofs.Common.{◌≡◌, ℕ, Bool, true, false, List, [], ◌∷◌, refl, sym, ap, subst, arith, ◌∙◌}
-use Rattle.std.proofs.lemmas.Bool.{eq-eqb, eqb-true}
-use Rattle.seize_acts.proofs.Answers.{same_some}
+use Rattle.std.proofs.lemmas.Bool.{eqb-true}
 use Rattle.papaya_runs.specs.Same.{is_same}
 use Rattle.papaya_runs.proofs.Sames.{same_is, same_refl}
 use Rattle.papaya_scenes.specs.Given.Tables.declared.setting.Setting.{Setting}
@@ -31,12 +30,12 @@ use Rattle.papaya_drives.specs.Executors.{IsAct}
 use Rattle.papaya_drives.proofs.Executors.{executors_act}
 use Rattle.papaya_played.specs.Play.{Calling, State, begun_call, call_begun}
 use Rattle.papaya_played.proofs.PlayedAs.{played_as}
-use Rattle.papaya_grouped.specs.Grouping.{MayHave, Names, beginner_of, names_after, number_called}
+use Rattle.papaya_grouped.specs.Grouping.{MayHave, Names, beginner_of, number_called}
 use Rattle.papaya_grouped.specs.Called.{CallersAre, IsCalledAs, PlaysSo}
 use Rattle.papaya_grouped.specs.Reach.{Reach}
 use Rattle.papaya_grouped.proofs.Callers.{call_beside, call_here, under}
 use Rattle.papaya_agrees.specs.Fresh.{is_taken}
-use Rattle.papaya_grouped.proofs.Midst.{InEvent, maps_of, taken_on}
+use Rattle.papaya_grouped.proofs.Midst.{InEvent, taken_on}
 use Rattle.papaya_grouped.proofs.OneMore.{one_act}
 use Rattle.papaya_grouped.proofs.Wanted.{call_back, wanted_for, wanted_machine}
 

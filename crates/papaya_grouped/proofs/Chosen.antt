@@ -1,11 +1,9 @@
 -- A choice of a number comes: the list of acts goes on by that, and the executor is there with it.
-use Rattle.std.proofs.Common.{◌≡◌, ℕ, Bool, List, refl, ap}
+use Rattle.std.proofs.Common.{ℕ, Bool, refl, ap}
 use Rattle.papaya_scenes.specs.Scene.{Scene, slot_of}
 use Rattle.papaya_effects.specs.Known.{Known}
 use Rattle.papaya_executor.specs.IsThere.{IsThere}
 use Rattle.papaya_executor.specs.declared.executor.Executor.{Executor}
-use Rattle.papaya_schedules.specs.Entry.{Entry}
-use Rattle.papaya_named.specs.declared.caller.Caller.{Caller}
 use Rattle.papaya_acts.specs.Doings.{memory_chosen, scene_chosen}
 use Rattle.papaya_acts.specs.Lists.{Course}
 use Rattle.papaya_acts.proofs.Chosen.{chosen_stand}

@@ -1,10 +1,9 @@
 -- The end of a map, in the midst of an event: the list of acts goes on where it begins, and by each of its steps.
-use Rattle.std.specs.Prelude.{◌++◌, Option, Some, None, option_map, if◌then◌else◌}
+use Rattle.std.specs.Prelude.{◌++◌, Some, None, option_map, if◌then◌else◌}
 use Rattle.std.proofs.Common.{◌≡◌, ℕ, Bool, true, false, List, refl, sym, ap, subst, ◌∙◌}
 use Rattle.seize_acts.specs.Answers.{Grant}
 use Rattle.seize_acts.proofs.Answers.{same_some}
 use Rattle.papaya_scenes.specs.Given.SeizeWords.Mem.{Mem}
-use Rattle.papaya_scenes.specs.Given.Seize.World.{with_at}
 use Rattle.papaya_scenes.specs.Given.Seize.declared.rows.settle.Settled.{Settled}
 use Rattle.papaya_scenes.specs.Given.Tables.declared.node.Node.{Node}
 use Rattle.papaya_scenes.specs.Given.Raw.EndMap.{end_map_plan, ending}
@@ -26,7 +25,6 @@ use Rattle.papaya_executor.specs.IsThere.{IsThere, StaysGiven, ending_in, work_o
 use Rattle.papaya_executor.specs.declared.executor.Executor.{Executor}
 use Rattle.papaya_named.specs.declared.caller.Caller.{Caller}
 use Rattle.papaya_acts.specs.Acts.{BeginsEnding, Nothing, OfEnding, StepsEnding}
-use Rattle.papaya_acts.specs.AsSteps.{changed_by}
 use Rattle.papaya_acts.specs.Doings.{Stage, reclaiming}
 use Rattle.papaya_acts.specs.Leads.{Led}
 use Rattle.papaya_acts.specs.Lists.{Course}

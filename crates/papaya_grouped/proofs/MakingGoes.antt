@@ -1,5 +1,5 @@
 -- The making of a map, in the midst of an event: the list of acts goes on where it begins, and by each of its steps.
-use Rattle.std.specs.Prelude.{◌-◌, ◌≢◌, ◌≤◌, ◌<◌, ◌+◌, ◌^◌, ◌==◌, ◌&&◌, ◌++◌, Option, Some, None, Ok, Err, length, max, nat_lt, option_map, if◌then◌else◌}
+use Rattle.std.specs.Prelude.{◌-◌, ◌≢◌, ◌≤◌, ◌<◌, ◌+◌, ◌^◌, ◌==◌, ◌&&◌, ◌++◌, Some, None, Ok, Err, length, max, nat_lt, option_map, if◌then◌else◌}
 use Rattle.std.specs.Int.{IsPowerOfTwo}
 use Rattle.std.proofs.Common.{◌≡◌, ℕ, Bool, true, false, List, [], ◌∷◌, refl, sym, ap, subst, arith, ◌∙◌}
 use Rattle.std.proofs.lemmas.Bool.{eq-eqb, ne_eqb}
@@ -11,7 +11,7 @@ use Rattle.papaya_scenes.specs.Given.SeizeWords.Plan.{Steps}
 use Rattle.papaya_scenes.specs.Given.SeizeWords.declared.fault.Fault.TheVariants.{RootsUsedUp}
 use Rattle.papaya_scenes.specs.Given.Seize.declared.progress.Progress.{Progress}
 use Rattle.papaya_scenes.specs.Given.Seize.declared.progress.Progress.TheVariants as progress
-use Rattle.papaya_scenes.proofs.Given.SeizeEnds.Batches.Free.{Outcomes, PlanOutcomes, plan_outcome}
+use Rattle.papaya_scenes.proofs.Given.SeizeEnds.Batches.Free.{Outcomes, plan_outcome}
 use Rattle.papaya_scenes.proofs.Given.SeizeRule.Rows.Leaving.{steps_back}
 use Rattle.papaya_scenes.specs.Given.Tables.Lengths.{IsTableLen}
 use Rattle.papaya_scenes.specs.Given.Tables.declared.node.Node.{Node}
@@ -50,7 +50,8 @@ use Rattle.papaya_deeds.specs.Deeds.{Deed, MapComes, MapFails, Makes}
 use Rattle.papaya_deeds.specs.Deeds.{Entry as Act}
 use Rattle.papaya_drives.specs.Executors.{AreSteps, Computes, IsAct}
 use Rattle.papaya_drives.proofs.Executors.{executors_act}
-use Rattle.papaya_agrees.specs.Fresh.{comes_with, gives_back, is_taken}
+use Rattle.papaya_agrees.specs.Places.{ArePlaces}
+use Rattle.papaya_agrees.specs.Fresh.{comes_with, is_taken}
 use Rattle.papaya_played.specs.Play.{Making, Now, State, has_root, is_refusal, made_on, making_begun, making_deed, making_outcome, making_stepped, pairs_for, play_act, worked}
 use Rattle.papaya_played.specs.Reached.{IsOfStage, rows_beside}
 use Rattle.papaya_played.proofs.PlayedAs.{played_as}
@@ -174,12 +175,12 @@ module _ {K V S : Type 0} (same : K → K → Bool) (by_hasher : S → K → ℕ
   -- It begins by the next number, by a caller that has nothing under way.
   pub making_begins : Course V same by_hasher e.batch_size e.roots slot_of → (its : Setting) → its.mode ≡ mode
       → ((s : Scene K V) → IsThere same (by_hasher e.hasher) e s → MakingBegins same (by_hasher e.hasher) its places i s e e2) → work_of e i ≡ None → AreLawful same (by_hasher e.hasher)
-      → IsPowerOfTwo its.initial → its.batch_size ≡ e.batch_size → its.mask + 1 < 2 ^ 64 → its.mask + 1 ≡ shards → 0 < e.roots → (max places 8 ≤ 2 ^ 48 → IsTableLen (max places 8)) → length e.maps.items ≡ (moment log).made
+      → IsPowerOfTwo its.initial → its.batch_size ≡ e.batch_size → its.mask + 1 < 2 ^ 64 → its.mask + 1 ≡ shards → ArePlaces its places → 0 < e.roots → (max places 8 ≤ 2 ^ 48 → IsTableLen (max places 8)) → length e.maps.items ≡ (moment log).made
       → (outcome : Outcome V) (noted : Known) → At (λ x. PlaysSo log calls x) e noted → At (λ x. InEvent log event [] 0 outcome calls x × MakesSo i (moment log).made mode places x) e2 noted
-  making_begins any its mode_is begins fresh lawful power batches mask many some sized next outcome noted at =
+  making_begins any its mode_is begins fresh lawful power batches mask many are some sized next outcome noted at =
       one_act same by_hasher shards e e2 given any noted noted (λ x. PlaysSo log calls x) (λ x. InEvent log event [] 0 outcome calls x × MakesSo i (moment log).made mode places x)
       (BeginsMaking i (length e.maps.items) e.hasher its places) Nothing
-      (refl, many) (λ s there. (executors_act V same by_hasher e e2 s there given i).1.making_begins its places (begins s there) fresh lawful power batches mask some sized)
+      (refl, (many, are)) (λ s there. (executors_act V same by_hasher e e2 s there given i).1.making_begins its places (begins s there) fresh lawful power batches mask some sized)
       (λ x so. so.fresh (length e.maps.items) (omega (arith, next))) (λ value. value)
       (λ value aborts x y p stage there its_abort played knows so.
       (let came = played_as same by_hasher e.batch_size e.roots aborts x y (BeginsMaking i (length e.maps.items) e.hasher its places) played in

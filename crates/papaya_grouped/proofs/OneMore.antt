@@ -13,7 +13,7 @@ use Rattle.papaya_acts.specs.Acts.{Act, Answer, BeginsRow}
 use Rattle.papaya_acts.specs.Doings.{Chooses, Doing, Does, HasDone, MayDo, Stage, reclaiming, scene_chosen}
 use Rattle.papaya_acts.specs.Lists.{Course, LedTo, Reached, nothing_done, on_by}
 use Rattle.papaya_acts.proofs.Further.{led_further}
-use Rattle.papaya_agrees.specs.Agree.{Asks}
+use Rattle.papaya_agrees.specs.Places.{AsksMaps}
 use Rattle.papaya_agrees.specs.Fresh.{HasNewNumber}
 use Rattle.papaya_drives.specs.Executors.{IsAct}
 use Rattle.papaya_played.specs.Play.{State, choice_come, first_state, play, play_act, play_all}
@@ -31,7 +31,7 @@ all_and_last P (y ∷ xs) x all last = (all.0, all_and_last P xs x all.1 last)
 
 module _ {K V S : Type 0} (same : K → K → Bool) (by_hasher : S → K → ℕ) (h : S) (b r shards : ℕ) where
   abbrev pub Its : Doing K V S → Type 0
-  Its doing = Asks V same by_hasher (λ map. by_hasher h) b r shards doing
+  Its doing = AsksMaps V by_hasher (λ map. by_hasher h) shards doing
 
   on_own : (doing : Doing K V S) → Its doing → IsOnOwn doing
   on_own (Does (BeginsRow i request)) asks = asks.0

@@ -1,15 +1,11 @@
 -- A row on a slot, in the midst of an event: the list of acts goes on where one begins, and by each of its steps.
 use Rattle.std.specs.Prelude.{◌++◌, Option, Some, None, option_map}
 use Rattle.std.specs.Option.{is_none}
-use Rattle.std.proofs.Common.{◌≡◌, ℕ, Bool, true, List, ◌∷◌, refl, sym, ap, subst, ◌∙◌}
-use Rattle.seize_acts.specs.Answers.{Grant, stepped}
+use Rattle.std.proofs.Common.{◌≡◌, ℕ, Bool, List, refl, sym, ap, subst, ◌∙◌}
+use Rattle.seize_acts.specs.Answers.{Grant}
 use Rattle.seize_acts.proofs.Answers.{same_some}
 use Rattle.papaya_scenes.specs.Given.SeizeWords.Mem.{Mem}
-use Rattle.papaya_scenes.specs.Given.Seize.World.{Row, Rests}
-use Rattle.papaya_scenes.specs.Given.Seize.Enter.{enter_plan, unregister_plan}
-use Rattle.papaya_scenes.specs.Given.Seize.Leave.{leave_plan}
-use Rattle.papaya_scenes.specs.Given.Seize.Register.{register_plan}
-use Rattle.papaya_scenes.specs.Given.Seize.Settle.{settle_plan}
+use Rattle.papaya_scenes.specs.Given.Seize.World.{Row}
 use Rattle.papaya_scenes.specs.Given.Seize.declared.progress.Progress.{Progress}
 use Rattle.papaya_scenes.specs.Given.Seize.declared.rows.enter.Enter.{Enter}
 use Rattle.papaya_scenes.specs.Given.Seize.declared.rows.enter.Unregister.{Unregister}
@@ -18,7 +14,6 @@ use Rattle.papaya_scenes.specs.Given.Seize.declared.rows.register.Register.{Regi
 use Rattle.papaya_scenes.specs.Given.Seize.declared.rows.settle.Settle.{Settle}
 use Rattle.papaya_scenes.specs.Given.Seize.declared.rows.settle.Settled.{Settled}
 use Rattle.papaya_scenes.specs.Given.Seize.declared.rows.reclaim_all.ReclaimAll.{ReclaimAll}
-use Rattle.papaya_scenes.specs.Given.Tables.Nodes.{deferred_word}
 use Rattle.papaya_scenes.specs.Given.Tables.declared.node.Node.{Node}
 use Rattle.papaya_scenes.specs.Given.Teller.declared.changed.Changed.{Changed}
 use Rattle.papaya_scenes.specs.Given.Finishes.Machines.{machine_of}
@@ -45,13 +40,13 @@ use Rattle.papaya_executor.specs.declared.worker.Work.{Work}
 use Rattle.papaya_executor.specs.declared.worker.Work.TheVariants as work
 use Rattle.papaya_named.specs.declared.caller.Caller.{Caller}
 use Rattle.papaya_acts.specs.Acts.{BeginsRow, Nothing, StepsRow}
-use Rattle.papaya_acts.specs.AsSteps.{changed_of, row_changed}
+use Rattle.papaya_acts.specs.AsSteps.{row_changed}
 use Rattle.papaya_acts.specs.Doings.{Stage, reclaiming}
 use Rattle.papaya_acts.specs.Lists.{Course}
 use Rattle.papaya_agrees.proofs.Told.{row_of_no_map}
-use Rattle.papaya_drives.specs.Executors.{AreSteps, IsAct, RowIsComputed}
+use Rattle.papaya_drives.specs.Executors.{AreSteps, RowIsComputed}
 use Rattle.papaya_drives.proofs.Executors.{executors_act}
-use Rattle.papaya_played.specs.Play.{Now, State, play_act, row_begun, row_deed, row_on, row_outcome, row_stepped, slot_row_steps}
+use Rattle.papaya_played.specs.Play.{State, play_act, row_begun, row_deed, row_outcome, row_stepped, slot_row_steps}
 use Rattle.papaya_played.specs.Reached.{IsOfStage, row_or_rests, rows_beside}
 use Rattle.papaya_played.proofs.PlayedAs.{played_as}
 use Rattle.papaya_grouped.specs.Grouping.{MayHave, Names}

@@ -1,12 +1,12 @@
 -- That a run is by acts: of which list of acts its log is the grouping.
-use Rattle.std.specs.Prelude.{◌≡◌, ◌<◌, ◌^◌, ℕ, Bool, List, [], ◌∷◌, Some}
+use Rattle.std.specs.Prelude.{◌≡◌, ◌<◌, ◌^◌, ℕ, Bool, List, Some}
 use Rattle.std.specs.List.{AllByRecursion}
 use Rattle.papaya_scenes.specs.Scene.{slot_of}
 use Rattle.papaya_schedules.specs.Entry.{Entry}
 use Rattle.papaya_schedules.specs.Terms.{Terms, shards_of}
 use Rattle.papaya_acts.specs.Doings.{Doing}
 use Rattle.papaya_acts.specs.Lists.{Course, LedTo, Reached}
-use Rattle.papaya_agrees.specs.Agree.{Asks}
+use Rattle.papaya_agrees.specs.Places.{AsksMaps}
 use Rattle.papaya_agrees.specs.Fresh.{MakesNew}
 use Rattle.papaya_played.specs.Play.{State, first_state, play_all}
 use Rattle.papaya_grouped.specs.Grouping.{IsGroupingOf, Names}
@@ -26,7 +26,7 @@ module _ {K V S : Type 0} (same : K → K → Bool) (by_hasher : S → K → ℕ
 pub record IsByActs {K V S : Type 0} (same : K → K → Bool) (by_hasher : S → K → ℕ) (hasher : S) (terms : Terms) (log : List (Entry K V)) : Type 0 where
   pub small : terms.batch_size < 2 ^ 64
   pub doings : List (Doing K V S)
-  pub asks : AllByRecursion (Asks V same by_hasher (λ map. by_hasher hasher) terms.batch_size terms.roots (shards_of terms)) doings
+  pub asks : AllByRecursion (AsksMaps V by_hasher (λ map. by_hasher hasher) (shards_of terms)) doings
   pub leads : (course : Course V same by_hasher terms.batch_size terms.roots slot_of)
       → (y : Reached V same by_hasher terms.batch_size terms.roots slot_of) × LedTo V same by_hasher terms.batch_size terms.roots slot_of course doings y
   pub played : V → (aborts : ℕ → V) × IsPlayedAs same by_hasher terms.batch_size terms.roots aborts doings log

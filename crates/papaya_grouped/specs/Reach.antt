@@ -7,7 +7,7 @@ use Rattle.papaya_executor.specs.IsThere.{IsThere}
 use Rattle.papaya_executor.specs.declared.executor.Executor.{Executor}
 use Rattle.papaya_acts.specs.Doings.{Doing, Stage, reclaiming}
 use Rattle.papaya_acts.specs.Lists.{Course, LedTo, Reached}
-use Rattle.papaya_agrees.specs.Agree.{Asks}
+use Rattle.papaya_agrees.specs.Places.{AsksMaps}
 use Rattle.papaya_played.specs.Play.{State, first_state, play_all}
 use Rattle.papaya_agrees.specs.Fresh.{MakesNew}
 
@@ -24,7 +24,7 @@ module _ {K V S : Type 0} (same : K → K → Bool) (by_hasher : S → K → ℕ
   -- A list of acts leads by every course to where this is so; and whatever value there is at all, the list is played to what is so.
   pub record LeadsTo (Stands : Stage V same by_hasher batch_size roots slot_of → Type 0) (P : State K V S → Type 0) (noted : Known) : Type 0 where
     pub doings : List (Doing K V S)
-    pub asks : AllByRecursion (Asks V same by_hasher (λ map. by_hasher hasher) batch_size roots shards) doings
+    pub asks : AllByRecursion (AsksMaps V by_hasher (λ map. by_hasher hasher) shards) doings
     pub leads : (course : Course V same by_hasher batch_size roots slot_of) → (y : Reached V same by_hasher batch_size roots slot_of)
         × LedTo V same by_hasher batch_size roots slot_of course doings y × Stands y.0
     pub played : V → PlaysTo P doings noted
@@ -35,7 +35,7 @@ module _ {K V S : Type 0} (same : K → K → Bool) (by_hasher : S → K → ℕ
     pub size : e.batch_size ≡ batch_size
     pub roots_are : e.roots ≡ roots
     pub doings : List (Doing K V S)
-    pub asks : AllByRecursion (Asks V same by_hasher (λ map. by_hasher hasher) batch_size roots shards) doings
+    pub asks : AllByRecursion (AsksMaps V by_hasher (λ map. by_hasher hasher) shards) doings
     pub leads : (course : Course V same by_hasher batch_size roots slot_of) → (y : Reached V same by_hasher batch_size roots slot_of)
         × LedTo V same by_hasher batch_size roots slot_of course doings y × (reclaiming V same by_hasher batch_size roots slot_of y.0 ≡ None) × IsThere same (by_hasher hasher) e y.0.0
     pub played : V → PlaysTo P doings noted

@@ -7,6 +7,7 @@ use Rattle.papaya_legal.specs.Given.Schedules.After.{AtEachEvent}
 use Rattle.papaya_legal.specs.Given.Schedules.Terms.{Terms, shards_of}
 use Rattle.papaya_acts.specs.Doings.{Doing, Does, BeginsReclaiming, BeginsClearing, StepsReclaiming, Chooses}
 use Rattle.papaya_agrees.specs.Agree.{Asks}
+use Rattle.papaya_agrees.specs.Places.{AsksMaps}
 use Rattle.papaya_deeds.specs.Deeds.{Entry}
 use Rattle.papaya_deeds.specs.History.{IsLinearizable, IsProtected, IsSwept, MovesOn}
 use Rattle.papaya_played.specs.Play.{State}
@@ -15,8 +16,7 @@ use Rattle.papaya_linear.proofs.Linear.{lists_are_linearizable}
 use Rattle.papaya_protects.proofs.Protected.{lists_are_protected}
 use Rattle.papaya_swept.proofs.Swept.{lists_are_swept}
 use Rattle.papaya_moves.specs.Legal.{KeepsAll, ListsKeepAll}
-use Rattle.papaya_moves.specs.Moves.{AsksMaps}
-use Rattle.papaya_moves.proofs.Moved.{lists_move_on}
+use Rattle.papaya_moves.proofs.Moved.{both_asked, lists_move_on}
 
 module _ {K V : Type 0} (same : K → K → Bool) (terms : Terms) where
   -- each entry keeps the one, and the others
@@ -28,10 +28,10 @@ module _ {K V : Type 0} (same : K → K → Bool) (terms : Terms) where
 
 module _ {K S : Type 0} (V : Type 0) (same : K → K → Bool) (by_hasher : S → K → ℕ) (hash : ℕ → K → ℕ) (batch_size roots : ℕ) (terms : Terms) where
   -- who asks for such maps asks for so many shards, and each act is of its own
-  less_asked : (doings : List (Doing K V S)) → AllByRecursion (AsksMaps V same by_hasher hash batch_size roots terms) doings
+  less_asked : (doings : List (Doing K V S)) → AllByRecursion (AsksMaps V by_hasher hash (shards_of terms)) doings
       → AllByRecursion (IsOfOwn V same by_hasher hash batch_size roots) doings × AllByRecursion (Asks V same by_hasher hash batch_size roots (shards_of terms)) doings
   less_asked [] asks = (tt, tt)
-  less_asked (Does act ∷ doings) asks = (let rest = less_asked doings asks.1 in ((asks.0.0, rest.0), ((asks.0.0, asks.0.1), rest.1)))
+  less_asked (Does act ∷ doings) asks = (let rest = less_asked doings asks.1 in ((asks.0.0, rest.0), ((asks.0.0, (both_asked (shards_of terms) act asks.0.1).0), rest.1)))
   less_asked (BeginsReclaiming i ∷ doings) asks = (let rest = less_asked doings asks.1 in ((tt, rest.0), (tt, rest.1)))
   less_asked (BeginsClearing i ∷ doings) asks = (let rest = less_asked doings asks.1 in ((tt, rest.0), (tt, rest.1)))
   less_asked (StepsReclaiming g ∷ doings) asks = (let rest = less_asked doings asks.1 in ((tt, rest.0), (tt, rest.1)))

@@ -33,3 +33,4 @@ pub mod MoveOn
 mod Samples
 mod Moved
 mod Legal
+mod Logs

@@ -4,14 +4,16 @@ use Rattle.std.specs.List.{AllByRecursion}
 use Rattle.std.proofs.Common.{ℕ, refl, sym, subst, ◌∙◌}
 use Rattle.seize_acts.proofs.Answers.{same_some}
 use Rattle.papaya_legal.specs.Given.Schedules.After.{AtEachEvent}
-use Rattle.papaya_legal.specs.Given.Schedules.Terms.{Terms}
+use Rattle.papaya_legal.specs.Given.Schedules.Terms.{Terms, shards_of}
 use Rattle.papaya_legal.specs.Given.Effects.Known.{nothing_known}
 use Rattle.papaya_legal.specs.Given.Follows.Shows.{Shows}
 use Rattle.papaya_legal.specs.Given.Scenes.Scene.{at_first, slot_of}
-use Rattle.papaya_acts.specs.Acts.{Act}
+use Rattle.papaya_acts.specs.Acts.{Act, BeginsMaking}
 use Rattle.papaya_acts.specs.Doings.{Doing, Does, BeginsReclaiming, BeginsClearing, StepsReclaiming, Chooses}
 use Rattle.papaya_acts.specs.Lists.{Course, nothing_done}
 use Rattle.papaya_agrees.specs.Fresh.{HasNewNumber}
+use Rattle.papaya_agrees.specs.Places.{AsksMap, AsksMaps, AsksPlaces}
+use Rattle.papaya_agrees.specs.Shards.{AsksShards}
 use Rattle.papaya_agrees.proofs.Coming.{new_fits}
 use Rattle.papaya_agrees.proofs.GivenBack.{again_first}
 use Rattle.papaya_agrees.proofs.Guards.{guards_at_first}
@@ -27,7 +29,7 @@ use Rattle.papaya_endings.proofs.InOrder.{maps_end_in_order}
 use Rattle.papaya_endings.proofs.Stays.{first_go}
 use Rattle.papaya_swept.proofs.Swept.{first_swept}
 use Rattle.papaya_moves.specs.Finds.{OthersFind}
-use Rattle.papaya_moves.specs.Moves.{AsksMaps, ListsMoveOn}
+use Rattle.papaya_moves.specs.Moves.{ListsMoveOn}
 use Rattle.papaya_moves.specs.Order.{KeepsOrder}
 use Rattle.papaya_moves.specs.Parts.{DoesIts}
 use Rattle.papaya_moves.specs.Steps.{HasFound, ShowsSteps, StepFinds}
@@ -36,6 +38,11 @@ use Rattle.papaya_moves.proofs.MoveOn.{OtherFinds, all_move_on}
 use Rattle.papaya_moves.proofs.OtherStays.{OthersStand, others_stay}
 use Rattle.papaya_moves.proofs.OthersFound.{others_found}
 use Rattle.papaya_moves.proofs.StepsStay.{Asks, Beside, WithOrder, WithSteps, steps_stay}
+
+-- who asks for a map asks for its shards, and for its places
+pub both_asked : {K V S : Type 0} (shards : ℕ) (act : Act K V S) → AsksMap shards act → AsksShards shards act × AsksPlaces act
+both_asked shards (BeginsMaking i map hasher given places) asks = asks
+both_asked shards act asks = (tt, tt)
 
 -- By what each entry does, how maps end, and what who acts on slots, makes maps or reclaims all finds, each that is no step of a call finds what it must.
 each_other : {K V : Type 0} (terms : Terms) (history : List (Entry K V)) → AtEachEvent DoesIts history → AtEachEvent EndsInOrder history → AtEachEvent (OthersFind terms) history → AtEachEvent (OtherFinds terms) history
@@ -70,7 +77,7 @@ module _ (K V : Type 0) (same : K → K → Bool) (terms : Terms) (roots : ℕ) 
   first_found = record { swept = first_swept same terms roots; shows = λ order. first_steps; each = tt }
 
 module _ {K S : Type 0} (V : Type 0) (same : K → K → Bool) (by_hasher : S → K → ℕ) (hash : ℕ → K → ℕ) (batch_size roots : ℕ) (terms : Terms) where
-  own_so : (doings : List (Doing K V S)) → AllByRecursion (AsksMaps V same by_hasher hash batch_size roots terms) doings
+  own_so : (doings : List (Doing K V S)) → AllByRecursion (AsksMaps V by_hasher hash (shards_of terms)) doings
       → AreOfTheirOwn V same by_hasher hash batch_size roots doings × AllByRecursion (IsOfOwn V same by_hasher hash batch_size roots) doings
   own_so [] asks = (tt, tt)
   own_so (Does act ∷ doings) asks = (let rest = own_so doings asks.1 in ((asks.0.0, rest.0), (asks.0.0, rest.1)))
@@ -84,10 +91,10 @@ module _ {K S : Type 0} (V : Type 0) (same : K → K → Bool) (by_hasher : S �
     Fits x act = HasNewNumber x act × Asks V same by_hasher hash batch_size roots aborts terms x act
 
     -- each act makes its map with a new number, and as the terms and a capacity ask
-    fit_so : (doings : List (Doing K V S)) → AllByRecursion (AsksMaps V same by_hasher hash batch_size roots terms) doings → (x : State K V S)
+    fit_so : (doings : List (Doing K V S)) → AllByRecursion (AsksMaps V by_hasher hash (shards_of terms)) doings → (x : State K V S)
         → AllFit V same by_hasher hash batch_size roots aborts HasNewNumber doings x → AllFit V same by_hasher hash batch_size roots aborts Fits doings x
     fit_so [] asks x new = tt
-    fit_so (Does act ∷ doings) asks x new = ((new.0, (new.0, (asks.0.1, asks.0.2))), λ y e. fit_so doings asks.1 y (new.1 y e))
+    fit_so (Does act ∷ doings) asks x new = ((new.0, (new.0, both_asked (shards_of terms) act asks.0.1)), λ y e. fit_so doings asks.1 y (new.1 y e))
     fit_so (BeginsReclaiming i ∷ doings) asks x new = (tt, λ y e. fit_so doings asks.1 y (new.1 y e))
     fit_so (BeginsClearing i ∷ doings) asks x new = (tt, λ y e. fit_so doings asks.1 y (new.1 y e))
     fit_so (StepsReclaiming g ∷ doings) asks x new = (tt, λ y e. fit_so doings asks.1 y (new.1 y e))

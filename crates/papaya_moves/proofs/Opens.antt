@@ -25,7 +25,8 @@ use Rattle.papaya_acts.specs.Leads.{EndingCame, Led}
 use Rattle.papaya_agrees.proofs.Numbers.{with_so}
 use Rattle.papaya_works.specs.Firsts.{ShowsOpenings}
 use Rattle.papaya_works.proofs.Firsts.{makings_go_on, makings_open}
-use Rattle.papaya_moves.specs.Places.{ArePlaces, AsksPlaces, OpensFor}
+use Rattle.papaya_agrees.specs.Places.{ArePlaces, AsksPlaces}
+use Rattle.papaya_moves.specs.Places.{OpensFor}
 
 module _ {K V : Type 0} (s n : Scene K V) (here : OpensFor s) where
   -- where makings are as they were

@@ -39,7 +39,8 @@ use Rattle.papaya_linear.specs.Coming.{ComesBy}
 use Rattle.papaya_linear.proofs.Holding.{AllHolds}
 use Rattle.papaya_linear.proofs.StepsPlayed.{there_alike}
 use Rattle.papaya_swept.proofs.KeptByAll.{Gives, With, all_kept}
-use Rattle.papaya_moves.specs.Places.{ArePlaces, AsksPlaces, OpensFor}
+use Rattle.papaya_agrees.specs.Places.{ArePlaces, AsksPlaces}
+use Rattle.papaya_moves.specs.Places.{OpensFor}
 use Rattle.papaya_moves.specs.Steps.{StepsMay}
 use Rattle.papaya_moves.proofs.MadeHolds.{MadeHolds}
 use Rattle.papaya_moves.proofs.Opens.{acts_open, still_open}

@@ -4,27 +4,21 @@ use Rattle.std.specs.List.{AllByRecursion}
 use Rattle.papaya_legal.specs.Given.Schedules.After.{AtEachEvent}
 use Rattle.papaya_legal.specs.Given.Schedules.Terms.{Terms, shards_of}
 use Rattle.papaya_legal.specs.Given.Scenes.Scene.{slot_of}
-use Rattle.papaya_acts.specs.AsSteps.{IsOwn}
-use Rattle.papaya_acts.specs.Doings.{Doing, Does}
+use Rattle.papaya_acts.specs.Doings.{Doing}
 use Rattle.papaya_acts.specs.Lists.{Course, LedTo, Reached}
 use Rattle.papaya_agrees.specs.Fresh.{MakesNew}
-use Rattle.papaya_agrees.specs.Shards.{AsksShards}
+use Rattle.papaya_agrees.specs.Places.{AsksMaps}
 use Rattle.papaya_deeds.specs.History.{MovesOn}
 use Rattle.papaya_played.specs.Play.{State, first_state, play_all}
-use Rattle.papaya_moves.specs.Places.{AsksPlaces}
 
 -- Keys have a hash by each hasher, and each map has one by its number.
 module _ {K S : Type 0} (V : Type 0) (same : K → K → Bool) (by_hasher : S → K → ℕ) (hash : ℕ → K → ℕ) (batch_size roots : ℕ) (terms : Terms) where
-  -- An act is of its own, and a making is asked for with so many shards as the terms say, and with the places that a capacity without a fault asks for.
-  abbrev pub AsksMaps : Doing K V S → Type 0
-  AsksMaps (Does act) = IsOwn by_hasher hash act × AsksShards (shards_of terms) act × AsksPlaces act
-  AsksMaps doing = Unit {0}
-
-  -- The promise: wherever a list of acts has led whose makings ask for such maps, each with a new number, each entry of the history that it comes to as it is played
+  -- The promise: wherever a list of acts has led whose makings ask for so many shards as the terms say, for the places that a capacity
+  -- without a fault asks for, and for a new number, each entry of the history that it comes to as it is played
   -- moves on, whatever the values are with which closures abort.
   abbrev pub ListsMoveOn : Type 0
   ListsMoveOn =
       batch_size < 2 ^ 64 → (aborts : ℕ → V) (course : Course V same by_hasher batch_size roots slot_of) (doings : List (Doing K V S)) (y : Reached V same by_hasher batch_size roots slot_of)
-      → LedTo V same by_hasher batch_size roots slot_of course doings y → AllByRecursion AsksMaps doings
+      → LedTo V same by_hasher batch_size roots slot_of course doings y → AllByRecursion (AsksMaps V by_hasher hash (shards_of terms)) doings
       → MakesNew same by_hasher batch_size roots aborts doings (first_state roots)
       → (after : State K V S) × (play_all same by_hasher batch_size roots aborts doings (first_state roots) ≡ Some after) × AtEachEvent (MovesOn terms) after.history

@@ -2,6 +2,7 @@
 ghost use Rattle.std.specs.Prelude.{ℕ, Bool};
 ghost use Rattle.papaya_legal.specs.Given.Schedules.Terms.{Terms};
 ghost use Rattle.papaya_moves.specs.Legal.{ListsKeepAll};
+ghost use Rattle.papaya_moves.specs.Logs.{LogsKeepAll};
 ghost use Rattle.papaya_moves.specs.Moves.{ListsMoveOn};
 
 /// Wherever a list of acts has led, each entry of the history that it comes to as it is played moves on. Each effect of it finds what it must: a pair and a
@@ -24,4 +25,9 @@ pub fn lists_move_on<K, V, S>()
 /// that is not taken, with so many shards as the terms say, and with such places as a capacity asks for.
 pub fn lists_keep_all<K, V, S>()
     ensures all { (same : K → K → Bool) (by_hasher : S → K → ℕ) (hash : ℕ → K → ℕ) (batch_size roots : ℕ) (terms : Terms) → ListsKeepAll V same by_hasher hash batch_size roots terms }
+{}
+
+/// So where the log of a run is by acts, the history of which it is the grouping keeps all that is promised of histories, if the hashers are lawful.
+pub fn logs_keep_all<K, V, S>()
+    ensures all { (same : K → K → Bool) (by_hasher : S → K → ℕ) → LogsKeepAll {K = K} {S = S} V same by_hasher }
 {}

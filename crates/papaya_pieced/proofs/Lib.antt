@@ -12,7 +12,6 @@ mod Chains
 pub mod Ended
 pub mod RowKinds
 pub mod Rowed
-mod FirstPlaces
 pub mod Made
 pub mod AllDone
 pub mod First

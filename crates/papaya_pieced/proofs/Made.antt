@@ -58,7 +58,7 @@ use Rattle.papaya_grouped.proofs.Midst.{InEvent, event_ends_so}
 use Rattle.papaya_grouped.proofs.Reached.{goes_at, reach_so}
 use Rattle.papaya_pieced.specs.SoFar.{ActsSoFar, GoesOnByActs}
 use Rattle.papaya_pieced.proofs.Chains.{goes_to}
-use Rattle.papaya_pieced.proofs.FirstPlaces.{first_back}
+use Rattle.papaya_agrees.proofs.FirstPlaces.{asked_places, first_back}
 use Rattle.papaya_pieced.proofs.Quiet.{did_nothing}
 
 -- a making that is not over goes on
@@ -204,7 +204,7 @@ module _ {K V S : Type 0} (same : K → K → Bool) (by_hasher : S → K → ℕ
           d.began.executor (known l.notes) (known l.notes)
           (λ course there. making_begins same by_hasher (shards_of terms) log ev refl old.calls l.executor d.began.executor d.stays d.caller mode d.places course d.given d.is_given.mode_is
           (λ s is. d.begun same (by_hasher l.executor.hasher) s is) (ap (work_of l.executor) d.fresh ∙ no_work l.executor 0 (omega arith)) lawful (subst IsPowerOfTwo (sym d.is_given.initial) d.first.0) d.is_given.batches
-          (omega (arith, least, processors)) many d.some (λ few. d.first.1) next outcome.Goes (known l.notes) there) terms.batch_size terms.roots (any terms.batch_size terms.roots) at in
+          (omega (arith, least, processors)) many (asked_places d.given mode capacity d.places d.is_given.mode_is d.faultless d.first d.is_given.initial) d.some (λ few. d.first.1) next outcome.Goes (known l.notes) there) terms.batch_size terms.roots (any terms.batch_size terms.roots) at in
           made_by same by_hasher (shards_of terms) log own mode capacity old.calls terms.batch_size terms.roots (any terms.batch_size terms.roots) d.caller (length l.executor.maps.items) next d.places
           (first_back d.places d.first ∙ d.places_are) told played.effects.items d.began new.logged d.gone outcome.Goes
           (subst (λ (k : Known). Reach same by_hasher d.began.executor.hasher terms.batch_size terms.roots (shards_of terms)
