@@ -1,8 +1,9 @@
 -- A call begins, as the first thing that an event does: the list of acts goes on by that, and its caller goes by the number that it has.
-use Rattle.std.specs.Prelude.{◌≤◌, ◌==◌, ◌||◌, Some, None, option_map, cond, filter, find, length, slice_index_or}
+use Rattle.std.specs.Prelude.{◌≤◌, ◌==◌, ◌||◌, not, if◌then◌else◌, Option, Some, None, option_map, cond, filter, find, length, slice_index_or}
 use Rattle.std.specs.List.{AllByRecursion, list_any}
 use Rattle.std.proofs.Common.{◌≡◌, ℕ, Bool, true, false, List, [], ◌∷◌, refl, sym, ap, subst, arith, ◌∙◌}
 use Rattle.std.proofs.lemmas.Bool.{eqb-true}
+use Rattle.seize_acts.proofs.Answers.{same_some}
 use Rattle.papaya_runs.specs.Same.{is_same}
 use Rattle.papaya_runs.proofs.Sames.{same_is, same_refl}
 use Rattle.papaya_scenes.specs.Given.Tables.declared.setting.Setting.{Setting}
@@ -30,7 +31,7 @@ use Rattle.papaya_drives.specs.Executors.{IsAct}
 use Rattle.papaya_drives.proofs.Executors.{executors_act}
 use Rattle.papaya_played.specs.Play.{Calling, State, begun_call, call_begun}
 use Rattle.papaya_played.proofs.PlayedAs.{played_as}
-use Rattle.papaya_grouped.specs.Grouping.{MayHave, Names, beginner_of, number_called}
+use Rattle.papaya_grouped.specs.Grouping.{MayHave, Names, beginner_of, number_called, without_number}
 use Rattle.papaya_grouped.specs.Called.{CallersAre, IsCalledAs, PlaysSo}
 use Rattle.papaya_grouped.specs.Reach.{Reach}
 use Rattle.papaya_grouped.proofs.Callers.{call_beside, call_here, under}
@@ -56,6 +57,24 @@ others_called own other i names apart =
     by false e = e
     by true e = absurd (let it = same_is own other e in let f : is_same other own ≡ true = subst (λ (x : List ℕ). is_same x own ≡ true) it (same_refl own) in let g : true ≡ false = sym f ∙ apart in cc g)
 
+-- who goes by another number goes by it still, where this one goes to somebody else
+kept_called : (other : List ℕ) (i n : ℕ) (names : Names) → (n == i) ≡ false → number_called other names ≡ Some n → number_called other (without_number i names) ≡ Some n
+kept_called other i n [] apart found = absurd (cc found)
+kept_called other i n (x ∷ names) apart found = by (λ one. kept_called other i n names apart one) (is_same x.0 other) refl (x.1 == i) refl found
+  where
+    second : Option (List ℕ × ℕ) → Option ℕ
+    second o = option_map (λ (it : List ℕ × ℕ). it.1) o
+
+    rest : Option (List ℕ × ℕ)
+    rest = find (λ it. is_same it.0 other) (without_number i names)
+
+    by : (number_called other names ≡ Some n → number_called other (without_number i names) ≡ Some n) → (b : Bool) → is_same x.0 other ≡ b → (q : Bool) → (x.1 == i) ≡ q → second (cond b (Some x) (find (λ it. is_same it.0 other) names)) ≡ Some n
+        → number_called other (if not q then x ∷ without_number i names else without_number i names) ≡ Some n
+    by again true e true f one = absurd (let its : x.1 ≡ n = same_some x.1 n one in let g : (n == i) ≡ true = ap (λ (k : ℕ). k == i) (sym its) ∙ f in cc (g, apart))
+    by again true e false f one = ap (λ (b : Bool). second (cond b (Some x) rest)) e ∙ one
+    by again false e true f one = again one
+    by again false e false f one = ap (λ (b : Bool). second (cond b (Some x) rest)) e ∙ again one
+
 -- the entry of a call that begins
 abbrev entry : {K V : Type 0} → (i m : ℕ) → Call K V → Act K V
 entry i m call = record { deed = Begins i (slot_of i) m call; outcome = outcome.Goes; effects = []; refused = false }
@@ -67,12 +86,12 @@ module _ {K V S : Type 0} (log : List (Entry K V)) (event : Event K V) (own : Li
   module _ (x y : State K V S) (it : Calling K V) (its : kind_of it.call ≡ kind_of call) (none : it.value ≡ None) (history : y.history ≡ entry i m call ∷ x.history)
       (here : y.now.calls m i ≡ Some it) (beside : (n j : ℕ) → (j == i) ≡ false → y.now.calls n j ≡ x.now.calls n j) where
     others : (names : Names) (xs : List (Caller V)) → list_any (λ d. is_same d.name own) xs ≡ false → AllByRecursion (λ d. (d.number == i) ≡ false) xs → AllByRecursion (λ d. IsCalledAs names x d) xs
-        → AllByRecursion (λ d. IsCalledAs ((own, i) ∷ names) y d) xs
+        → AllByRecursion (λ d. IsCalledAs ((own, i) ∷ without_number i names) y d) xs
     others names [] f a all = tt
     others names (d ∷ xs) f a all =
         let two = or_parts (is_same d.name own) (list_any (λ c. is_same c.name own) xs) f in (
           record {
-            name = others_called own d.name i names two.0 ∙ all.0.name;
+            name = others_called own d.name i (without_number i names) two.0 ∙ kept_called d.name i d.number names a.0 all.0.name;
             call = all.0.call;
             here = beside d.map d.number a.0 ∙ all.0.here;
             kind = all.0.kind;
@@ -81,9 +100,9 @@ module _ {K V S : Type 0} (log : List (Entry K V)) (event : Event K V) (own : Li
           others names xs two.1 a.1 all.1,
         )
 
-    itself : (names : Names) → IsCalledAs ((own, i) ∷ names) y caller
+    itself : (names : Names) → IsCalledAs ((own, i) ∷ without_number i names) y caller
     itself names = record {
-      name = ap (λ (n : List ℕ). number_called n ((own, i) ∷ names)) named ∙ newest_called own i names ∙ ap Some (sym numbered);
+      name = ap (λ (n : List ℕ). number_called n ((own, i) ∷ without_number i names)) named ∙ newest_called own i (without_number i names) ∙ ap Some (sym numbered);
       call = it;
       here = ap (λ (k : ℕ). y.now.calls k caller.number) on ∙ ap (y.now.calls m) numbered ∙ here;
       kind = its ∙ sym kind;
@@ -111,7 +130,8 @@ module _ {K V S : Type 0} (log : List (Entry K V)) (event : Event K V) (own : Li
 
     pub begins_so : PlaysSo log calls x → InEvent log event [] 0 outcome.Goes (caller ∷ calls) y
     begins_so so =
-        let same_names : (own, i) ∷ so.names ≡ (beginner_of event, i) ∷ so.names = ap (λ (n : List ℕ). (n, i) ∷ so.names) (sym beginner) in
+        let rest = without_number i so.names in
+        let same_names : (own, i) ∷ rest ≡ (beginner_of event, i) ∷ rest = ap (λ (n : List ℕ). (n, i) ∷ rest) (sym beginner) in
         record {
           known = so.names;
           before = x.history;
@@ -121,7 +141,7 @@ module _ {K V S : Type 0} (log : List (Entry K V)) (event : Event K V) (own : Li
           effects = refl;
           counts = refl;
           comes = refl;
-          deeds = (subst (λ (n : Names). MayHave n (moment log) event (Begins i (slot_of i) m call)) same_names (may ((own, i) ∷ so.names) (newest_called own i so.names)), tt);
+          deeds = (subst (λ (n : Names). MayHave n (moment log) event (Begins i (slot_of i) m call)) same_names (may ((own, i) ∷ rest) (newest_called own i rest)), tt);
           callers = subst (λ (n : Names). CallersAre n (caller ∷ calls) y) same_names
               (record { each = (itself so.names, others so.names calls free apart so.callers.each); once = λ n. once n (so.callers.once n) });
           fresh = λ n l. ap (is_taken n) history ∙ taken_on n (entry i m call) x.history refl (so.fresh n (omega (arith, l)));

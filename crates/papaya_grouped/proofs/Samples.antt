@@ -1,5 +1,5 @@
 -- A log of a run and the history of which it is the grouping, by hand. And wrong ones, each refused for its reason.
-use Rattle.std.proofs.Common.{◌≡◌, ℕ, false, List, [], ◌∷◌, refl, Some}
+use Rattle.std.proofs.Common.{◌≡◌, ℕ, false, List, [], ◌∷◌, refl, Some, None}
 use Rattle.std.specs.Prelude.{Option}
 use Rattle.papaya_scenes.specs.Given.Tables.declared.resize_mode.ResizeMode.TheVariants.{Incremental}
 use Rattle.papaya_schedules.specs.declared.call.Answer.TheVariants.{Absent}
@@ -17,7 +17,7 @@ use Rattle.papaya_schedules.specs.After.{moment}
 use Rattle.papaya_schedules.specs.Entry.{Entry}
 use Rattle.papaya_deeds.specs.Deeds.{Deed, Begins, Steps, Registers, Opens, MapComes, Makes}
 use Rattle.papaya_deeds.specs.Deeds.{Entry as Act}
-use Rattle.papaya_grouped.specs.Grouping.{IsGroupingOf, IsPieceOf, Names}
+use Rattle.papaya_grouped.specs.Grouping.{IsGroupingOf, IsPieceOf, Names, names_after}
 
 abbrev entry : Event ℕ ℕ → Outcome ℕ → ℕ → List Effect → Entry ℕ ℕ
 entry e outcome steps effects = record { event = e; outcome = outcome; steps = steps; effects = effects }
@@ -141,6 +141,19 @@ one_of_two h = cc h
 
 left_out : IsPieceOf names (moment begun) (entry (event.Go a false) (Answered Absent) 1 []) (act (Steps 1) (Answered Absent) [] ∷ act (Steps 1) Goes [] ∷ []) → ⊥
 left_out piece = one_of_two piece.steps
+
+-- The number of a caller whose call is over goes to another one: then nobody else goes by it, and a step of it is no event of whoever did.
+abbrev passed_on : Names
+passed_on = names_after (event.Begin b g m (On (Get 1))) (act (Begins 1 0 0 (On (Get 1))) Goes [] ∷ []) names
+
+goes_by_none : ◌≡◌ {A = Option ℕ} None (Some 1) → ⊥
+goes_by_none h = cc h
+
+of_its_own : IsPieceOf passed_on (moment begun) (entry (event.Step b false) Goes 1 []) (act (Steps 1) Goes [] ∷ [])
+of_its_own = record { effects = refl; steps = refl; outcome = refl; deeds = (refl, tt) }
+
+of_an_older : IsPieceOf passed_on (moment begun) (entry (event.Step a false) Goes 1 []) (act (Steps 1) Goes [] ∷ []) → ⊥
+of_an_older piece = goes_by_none piece.deeds.0
 
 -- nor is anything left of a history that no entry is of
 left_over : IsGroupingOf {K = ℕ} {V = ℕ} [] (act (Steps 1) Goes [] ∷ []) [] → ⊥

@@ -1,5 +1,5 @@
 -- That the log of a run is the grouping of a history: the history can be cut into consecutive pieces, one for each entry of the log, and each piece is of its entry.
-use Rattle.std.specs.Prelude.{◌≡◌, ℕ, Bool, true, false, List, [], ◌∷◌, ◌++◌, filter, find, length, Option, Some, option_map}
+use Rattle.std.specs.Prelude.{◌≡◌, ◌==◌, not, ℕ, Bool, true, false, List, [], ◌∷◌, ◌++◌, filter, find, length, Option, Some, option_map}
 use Rattle.std.specs.List.{AllByRecursion}
 use Rattle.papaya_runs.specs.Present.{guard_of, living_slot, registration_of}
 use Rattle.papaya_runs.specs.Same.{is_same}
@@ -15,12 +15,16 @@ use Rattle.papaya_named.specs.Places.{first_places}
 use Rattle.papaya_deeds.specs.Deeds.{Deed, Begins, Steps, Replies, Stops, Registers, Opens, Shuts, Leaves, Tends, MapComes, Makes, MapFails, Ends, MapGoes, ReclaimsAll}
 use Rattle.papaya_deeds.specs.Deeds.{Entry as Act}
 
--- In a run callers have names, and in a history numbers: by which number each name goes, the newest first.
+-- In a run callers have names, and in a history numbers: by which number each name goes, the newest first. A number goes by one name.
 abbrev pub Names : Type 0
 Names = List (List ℕ × ℕ)
 
 abbrev pub number_called : List ℕ → Names → Option ℕ
 number_called own names = option_map (λ it. it.1) (find (λ it. is_same it.0 own) names)
+
+-- without whoever went by it so far
+abbrev pub without_number : ℕ → Names → Names
+without_number i names = filter (λ it. not (it.1 == i)) names
 
 module _ {K V : Type 0} where
   -- whose call an event begins, if it begins one
@@ -28,9 +32,9 @@ module _ {K V : Type 0} where
   beginner_of (event.Begin caller guard map call) = caller
   beginner_of _ = nameless
 
-  -- who begins a call in a piece goes by its number from then on
+  -- who begins a call in a piece goes by its number from then on, and nobody else does
   abbrev pub names_on : Event K V → Deed K V → Names → Names
-  names_on e (Begins i slot map call) names = (beginner_of e, i) ∷ names
+  names_on e (Begins i slot map call) names = (beginner_of e, i) ∷ without_number i names
   names_on e deed names = names
 
   abbrev pub names_after : Event K V → List (Act K V) → Names → Names
