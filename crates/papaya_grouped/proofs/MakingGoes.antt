@@ -57,7 +57,7 @@ use Rattle.papaya_played.specs.Reached.{IsOfStage, rows_beside}
 use Rattle.papaya_played.proofs.PlayedAs.{played_as}
 use Rattle.papaya_played.proofs.Tied.{making_tied}
 use Rattle.papaya_grouped.specs.Called.{PlaysSo}
-use Rattle.papaya_grouped.specs.Grouping.{MayHave, Names}
+use Rattle.papaya_grouped.specs.Grouping.{MayHave, Names, refuses}
 use Rattle.papaya_grouped.specs.Reach.{Reach}
 use Rattle.papaya_grouped.proofs.Aside.{begun_aside, made_calls, making_aside, works_on}
 use Rattle.papaya_grouped.proofs.Callers.{under}
@@ -176,8 +176,8 @@ module _ {K V S : Type 0} (same : K → K → Bool) (by_hasher : S → K → ℕ
   pub making_begins : Course V same by_hasher e.batch_size e.roots slot_of → (its : Setting) → its.mode ≡ mode
       → ((s : Scene K V) → IsThere same (by_hasher e.hasher) e s → MakingBegins same (by_hasher e.hasher) its places i s e e2) → work_of e i ≡ None → AreLawful same (by_hasher e.hasher)
       → IsPowerOfTwo its.initial → its.batch_size ≡ e.batch_size → its.mask + 1 < 2 ^ 64 → its.mask + 1 ≡ shards → ArePlaces its places → 0 < e.roots → (max places 8 ≤ 2 ^ 48 → IsTableLen (max places 8)) → length e.maps.items ≡ (moment log).made
-      → (outcome : Outcome V) (noted : Known) → At (λ x. PlaysSo log calls x) e noted → At (λ x. InEvent log event [] 0 outcome calls x × MakesSo i (moment log).made mode places x) e2 noted
-  making_begins any its mode_is begins fresh lawful power batches mask many are some sized next outcome noted at =
+      → (outcome : Outcome V) → refuses outcome ≡ true → (noted : Known) → At (λ x. PlaysSo log calls x) e noted → At (λ x. InEvent log event [] 0 outcome calls x × MakesSo i (moment log).made mode places x) e2 noted
+  making_begins any its mode_is begins fresh lawful power batches mask many are some sized next outcome refused noted at =
       one_act same by_hasher shards e e2 given any noted noted (λ x. PlaysSo log calls x) (λ x. InEvent log event [] 0 outcome calls x × MakesSo i (moment log).made mode places x)
       (BeginsMaking i (length e.maps.items) e.hasher its places) Nothing
       (refl, (many, are)) (λ s there. (executors_act V same by_hasher e e2 s there given i).1.making_begins its places (begins s there) fresh lawful power batches mask some sized)
@@ -188,7 +188,7 @@ module _ {K V S : Type 0} (same : K → K → Bool) (by_hasher : S → K → ℕ
       let it : Making S = record { map = length e.maps.items; hasher = e.hasher; machine = new_map.opening its e.roots places } in (
         ap (λ (w : State K V S). w.known) came ∙ knows,
         subst (λ (w : State K V S). InEvent log event [] 0 outcome calls w × MakesSo i (moment log).made mode places w) (sym came) (
-          begun_aside log event [] 0 outcome calls x (event_begins log event outcome calls x so) z.now refl,
+          begun_aside log event [] 0 outcome calls x (event_begins log event outcome refused calls x so) z.now refl,
           record { it = it; here = at_same x.now.makers i (Some it) i refl; taken = so.fresh (moment log).made (omega arith); mode_is = mode_is; places_are = refl },
         ),
       ))) at

@@ -1,11 +1,13 @@
 -- In the midst of an event: the piece of the history that is its own so far, behind which the log before is the grouping.
 use Rattle.std.specs.Prelude.{◌+◌, ◌≤◌, ◌++◌, if◌then◌else◌}
 use Rattle.std.specs.List.{AllByRecursion}
-use Rattle.std.proofs.Common.{◌≡◌, ℕ, Bool, true, false, List, [], ◌∷◌, refl, sym, ap, subst, arith, ◌∙◌}
+use Rattle.std.proofs.Common.{◌≡◌, ℕ, Bool, true, false, List, [], ◌∷◌, inl, refl, sym, ap, subst, arith, ◌∙◌}
+use Rattle.papaya_scenes.specs.Given.SeizeWords.declared.fault.Fault.TheVariants.{Busy}
 use Rattle.papaya_schedules.specs.declared.effect.Effect.{Effect}
 use Rattle.papaya_schedules.specs.declared.event.Event.{Event}
 use Rattle.papaya_schedules.specs.declared.event.Event.TheVariants as event
 use Rattle.papaya_schedules.specs.declared.outcome.Outcome.{Outcome}
+use Rattle.papaya_schedules.specs.declared.outcome.Outcome.TheVariants.{Refused}
 use Rattle.papaya_schedules.specs.After.{moment}
 use Rattle.papaya_schedules.specs.Entry.{Entry}
 use Rattle.papaya_named.specs.declared.caller.Caller.{Caller}
@@ -13,8 +15,12 @@ use Rattle.papaya_deeds.specs.Deeds.{Deed, Begins, Steps, Replies, Stops, Regist
 use Rattle.papaya_deeds.specs.Deeds.{Entry as Act}
 use Rattle.papaya_agrees.specs.Fresh.{comes_with, gives_back, is_taken}
 use Rattle.papaya_played.specs.Play.{State}
-use Rattle.papaya_grouped.specs.Grouping.{ComesTo, IsGroupingOf, MayHave, Names, effects_in, is_step, names_after, names_on, steps_in}
+use Rattle.papaya_grouped.specs.Grouping.{ComesTo, IsGroupingOf, MayHave, Names, effects_in, is_step, names_after, names_on, refuses, steps_in}
 use Rattle.papaya_grouped.specs.Called.{CallersAre, PlaysSo}
+
+-- what an event that has done nothing yet would come to
+abbrev pub at_rest : {V : Type 0} → Outcome V
+at_rest = Refused Busy
 
 -- so many maps an event may make
 abbrev pub maps_of : {K V : Type 0} → Event K V → ℕ
@@ -30,7 +36,7 @@ pub record InEvent {K V S : Type 0} (log : List (Entry K V)) (event : Event K V)
   pub history : x.history ≡ piece ++ before
   pub effects : did ≡ effects_in piece
   pub counts : steps ≡ steps_in piece
-  pub comes : ComesTo piece outcome
+  pub comes : ComesTo (moment log) event piece outcome
   pub deeds : AllByRecursion (λ a. MayHave (names_after event piece known) (moment log) event a.deed) piece
   pub callers : CallersAre (names_after event piece known) calls x
   pub fresh : (n : ℕ) → (moment log).made + maps_of event ≤ n → is_taken n x.history ≡ false
@@ -62,10 +68,10 @@ step_comes n (MapGoes map) is = refl
 step_comes n (ReclaimsAll last) is = refl
 
 module _ {K V S : Type 0} (log : List (Entry K V)) (event : Event K V) where
-  -- it begins with nothing done
-  abbrev pub event_begins : (outcome : Outcome V) (calls : List (Caller V)) (x : State K V S) → PlaysSo log calls x → InEvent log event [] 0 outcome calls x
-  event_begins outcome calls x so =
-      record { known = so.names; before = x.history; grouping = so.grouping; piece = []; history = refl; effects = refl; counts = refl; comes = tt; deeds = tt; callers = so.callers; fresh = λ n l. so.fresh n (omega (arith, l)) }
+  -- it begins with nothing done, as if it were to be refused
+  abbrev pub event_begins : (outcome : Outcome V) → refuses outcome ≡ true → (calls : List (Caller V)) (x : State K V S) → PlaysSo log calls x → InEvent log event [] 0 outcome calls x
+  event_begins outcome refused calls x so =
+      record { known = so.names; before = x.history; grouping = so.grouping; piece = []; history = refl; effects = refl; counts = refl; comes = inl refused; deeds = tt; callers = so.callers; fresh = λ n l. so.fresh n (omega (arith, l)) }
 
   -- and ends as an entry of the log, where the numbers that are to come then are not taken,
   pub event_ends_so : (did : List Effect) (steps : ℕ) (outcome : Outcome V) (calls : List (Caller V)) (x : State K V S)

@@ -1,6 +1,6 @@
 -- A log of a run and the history of which it is the grouping, by hand. And wrong ones, each refused for its reason.
-use Rattle.std.proofs.Common.{◌≡◌, ℕ, false, List, [], ◌∷◌, refl, Some, None}
-use Rattle.std.specs.Prelude.{Option}
+use Rattle.std.proofs.Common.{◌≡◌, ℕ, Bool, true, false, inl, inr, List, [], ◌∷◌, refl, Some, None}
+use Rattle.std.specs.Prelude.{◌⊎◌, Option}
 use Rattle.papaya_scenes.specs.Given.Tables.declared.resize_mode.ResizeMode.TheVariants.{Incremental}
 use Rattle.papaya_schedules.specs.declared.call.Answer.TheVariants.{Absent}
 use Rattle.papaya_schedules.specs.declared.call.Call.TheVariants.{On}
@@ -161,3 +161,16 @@ left_over (none, names) = no_act none
   where
     no_act : ◌≡◌ {A = List (Act ℕ ℕ)} (act (Steps 1) Goes [] ∷ []) [] → ⊥
     no_act h = cc h
+
+-- Events that did nothing, and say that they did: a call that goes on and was not begun, a map that has ended by nobody's steps.
+no_rest : (asks still : Bool) → asks ≡ false → (false ≡ true) ⊎ ((false ≡ true) ⊎ (((asks ≡ true) × (still ≡ true)) ⊎ ⊥)) → ⊥
+no_rest asks still none (inl h) = cc h
+no_rest asks still none (inr (inl h)) = cc h
+no_rest asks still none (inr (inr (inl h))) = (let a = h.0 in cc (none, a))
+no_rest asks still none (inr (inr (inr h))) = h
+
+nobody_began : IsPieceOf names (moment begun) (entry (event.Begin b g m (On (Get 1))) Goes 0 []) [] → ⊥
+nobody_began piece = no_rest false false refl piece.outcome
+
+nobody_ended : IsPieceOf names (moment begun) (entry (event.EndMap m) Done 0 []) [] → ⊥
+nobody_ended piece = no_rest false false refl piece.outcome

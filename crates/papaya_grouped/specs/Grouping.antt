@@ -1,12 +1,13 @@
 -- That the log of a run is the grouping of a history: the history can be cut into consecutive pieces, one for each entry of the log, and each piece is of its entry.
-use Rattle.std.specs.Prelude.{◌≡◌, ◌==◌, not, ℕ, Bool, true, false, List, [], ◌∷◌, ◌++◌, filter, find, length, Option, Some, option_map}
+use Rattle.std.specs.Prelude.{◌≡◌, ◌≢◌, ◌⊎◌, ◌==◌, not, ℕ, Bool, true, false, List, [], ◌∷◌, ◌++◌, filter, find, length, Option, Some, option_map}
 use Rattle.std.specs.List.{AllByRecursion}
-use Rattle.papaya_runs.specs.Present.{guard_of, living_slot, registration_of}
+use Rattle.papaya_runs.specs.Present.{guard_of, guards_on, living_slot, registration_of}
 use Rattle.papaya_runs.specs.Same.{is_same}
 use Rattle.papaya_schedules.specs.declared.effect.Effect.{Effect}
 use Rattle.papaya_schedules.specs.declared.event.Event.{Event}
 use Rattle.papaya_schedules.specs.declared.event.Event.TheVariants as event
 use Rattle.papaya_schedules.specs.declared.outcome.Outcome.{Outcome}
+use Rattle.papaya_schedules.specs.declared.outcome.Outcome.TheVariants as outcome
 use Rattle.papaya_schedules.specs.After.{moment}
 use Rattle.papaya_schedules.specs.Entry.{Entry, nameless}
 use Rattle.papaya_schedules.specs.Moment.{Moment}
@@ -100,16 +101,52 @@ module _ {K V : Type 0} where
   abbrev pub steps_in : List (Act K V) → ℕ
   steps_in piece = length (filter (λ x. is_step x.deed) piece)
 
-  abbrev pub ComesTo : List (Act K V) → Outcome V → Type 0
-  ComesTo [] outcome = Unit {0}
-  ComesTo (x ∷ piece) outcome = outcome ≡ x.outcome
+  -- Which events have no act: it is refused; its call asks, or is ready, as before; it acts on no memory, or gives it a choice; or other guards are on its slot.
+  abbrev pub refuses : Outcome V → Bool
+  refuses (outcome.Refused fault) = true
+  refuses _ = false
 
-  -- A piece is of an entry: it has done, one after another, what the event did, has as many steps, and its last one came to what the event came to; and the
-  -- event may have each of its deeds.
+  abbrev pub acts_on_none : Event K V → Bool
+  acts_on_none (event.Collector setup) = true
+  acts_on_none (event.Hash by) = true
+  acts_on_none (event.Choose choice) = true
+  acts_on_none (event.ShowShape map) = true
+  acts_on_none (event.Forget guard) = true
+  acts_on_none _ = false
+
+  abbrev pub asks_for_steps : Event K V → Bool
+  asks_for_steps (event.Step caller refuse) = true
+  asks_for_steps (event.Go caller refuse) = true
+  asks_for_steps _ = false
+
+  abbrev pub stands_still : Outcome V → Bool
+  stands_still (outcome.Asks question) = true
+  stands_still outcome.Ready = true
+  stands_still _ = false
+
+  abbrev pub IsShared : Moment K V → Event K V → Type 0
+  IsShared m (event.Unregister registration) =
+      (slot : ℕ) × (option_map (λ r. r.slot) (registration_of registration m.there.registrations) ≡ Some slot) × (guards_on slot m.there.guards ≢ 0)
+  IsShared m (event.Enter guard registration) =
+      (slot : ℕ) × (option_map (λ r. r.slot) (registration_of registration m.there.registrations) ≡ Some slot) × (guards_on slot m.there.guards ≢ 0)
+  IsShared m (event.Refresh guard) = (slot : ℕ) × (living_slot (guard_of guard m.there.guards) ≡ Some slot) × (guards_on slot m.there.guards ≢ 1)
+  IsShared m (event.DropGuard guard) = (slot : ℕ) × (living_slot (guard_of guard m.there.guards) ≡ Some slot) × (guards_on slot m.there.guards ≢ 1)
+  IsShared m _ = ⊥
+
+  abbrev pub MayRest : Moment K V → Event K V → Outcome V → Type 0
+  MayRest m e outcome =
+      (refuses outcome ≡ true) ⊎ ((acts_on_none e ≡ true) ⊎ (((asks_for_steps e ≡ true) × (stands_still outcome ≡ true)) ⊎ IsShared m e))
+
+  abbrev pub ComesTo : Moment K V → Event K V → List (Act K V) → Outcome V → Type 0
+  ComesTo m e [] outcome = MayRest m e outcome
+  ComesTo m e (x ∷ piece) outcome = outcome ≡ x.outcome
+
+  -- A piece is of an entry: it has done, one after another, what the event did, has as many steps, and its last one came to what the event came to, or the
+  -- event may be of none; and it may have each of its deeds.
   pub record IsPieceOf (names : Names) (m : Moment K V) (e : Entry K V) (piece : List (Act K V)) : Type 0 where
     pub effects : e.effects ≡ effects_in piece
     pub steps : e.steps ≡ steps_in piece
-    pub outcome : ComesTo piece e.outcome
+    pub outcome : ComesTo m e.event piece e.outcome
     pub deeds : AllByRecursion (λ x. MayHave names m e.event x.deed) piece
 
   -- The log is the grouping of the history, and callers go by these names: the newest entry is one of the last piece, and the log before it is that of what was before.

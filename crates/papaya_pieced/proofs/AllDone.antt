@@ -40,10 +40,10 @@ use Rattle.papaya_acts.specs.Lists.{Course}
 use Rattle.papaya_deeds.specs.Deeds.{ReclaimsAll}
 use Rattle.papaya_played.specs.Play.{State, is_over, settled_outcome}
 use Rattle.papaya_grouped.specs.Called.{PlaysSo}
-use Rattle.papaya_grouped.specs.Grouping.{MayHave, Names}
+use Rattle.papaya_grouped.specs.Grouping.{MayHave, Names, refuses}
 use Rattle.papaya_grouped.specs.Reach.{LeadsTo, Reach}
 use Rattle.papaya_grouped.proofs.AllGoes.{IsAll, all_ends, all_steps, nobody_then, roots_begin, slots_begin}
-use Rattle.papaya_grouped.proofs.Midst.{InEvent, event_begins, event_ends, maps_of}
+use Rattle.papaya_grouped.proofs.Midst.{InEvent, event_begins, event_ends, maps_of, at_rest}
 use Rattle.papaya_grouped.proofs.Reached.{reach_so}
 use Rattle.papaya_pieced.specs.SoFar.{ActsSoFar, GoesOnByActs}
 use Rattle.papaya_pieced.proofs.Chains.{goes_to}
@@ -141,25 +141,25 @@ module _ {K V S : Type 0} (same : K → K → Bool) (by_hasher : S → K → ℕ
       e = old.logged.executor
 
       Start : ReclaimAll → Type 0
-      Start c = LeadsTo same by_hasher e.hasher terms.batch_size terms.roots (shards_of terms) (IsAll same by_hasher e.hasher terms.batch_size terms.roots e 0 c) (λ x. InEvent log event [] 0 outcome.Goes old.calls x) (known l.notes)
+      Start c = LeadsTo same by_hasher e.hasher terms.batch_size terms.roots (shards_of terms) (IsAll same by_hasher e.hasher terms.batch_size terms.roots e 0 c) (λ x. InEvent log event [] 0 at_rest old.calls x) (known l.notes)
 
-      begins : Reach same by_hasher e.hasher terms.batch_size terms.roots (shards_of terms) (λ x. InEvent log event [] 0 outcome.Goes old.calls x) e (known l.notes)
-      begins = reach_so same by_hasher e.hasher terms.batch_size terms.roots (shards_of terms) (PlaysSo log old.calls) (λ (x : State K V S). InEvent log event [] 0 outcome.Goes old.calls x)
-          (λ x so. event_begins log event outcome.Goes old.calls x so) e (known l.notes) at
+      begins : Reach same by_hasher e.hasher terms.batch_size terms.roots (shards_of terms) (λ x. InEvent log event [] 0 at_rest old.calls x) e (known l.notes)
+      begins = reach_so same by_hasher e.hasher terms.batch_size terms.roots (shards_of terms) (PlaysSo log old.calls) (λ (x : State K V S). InEvent log event [] 0 at_rest old.calls x)
+          (λ x so. event_begins log event at_rest refl old.calls x so) e (known l.notes) at
 
       starts : (taken : Bool) → nat_lt 0 (known l.notes).buckets ≡ taken → NobodyHas e → Start (if taken then reclaiming_all e.batch_size e.roots else clearing e.roots)
       starts true some nobody =
-          let F : S → ℕ → ℕ → Type 0 = λ h b r. Course V same by_hasher b r slot_of → Reach same by_hasher h b r (shards_of terms) (λ x. InEvent log event [] 0 outcome.Goes old.calls x) e (known l.notes)
-          → LeadsTo same by_hasher h b r (shards_of terms) (IsAll same by_hasher h b r e 0 (reclaiming_all e.batch_size e.roots)) (λ x. InEvent log event [] 0 outcome.Goes old.calls x) (known l.notes) in
+          let F : S → ℕ → ℕ → Type 0 = λ h b r. Course V same by_hasher b r slot_of → Reach same by_hasher h b r (shards_of terms) (λ x. InEvent log event [] 0 at_rest old.calls x) e (known l.notes)
+          → LeadsTo same by_hasher h b r (shards_of terms) (IsAll same by_hasher h b r e 0 (reclaiming_all e.batch_size e.roots)) (λ x. InEvent log event [] 0 at_rest old.calls x) (known l.notes) in
           by_given F e e.hasher terms.batch_size terms.roots refl at.size at.roots_are
-          (λ course there. slots_begin same by_hasher (shards_of terms) log event old.calls (λ names last. may names log last) e course 0 nobody [] outcome.Goes (known l.notes) (notes.some (ltb-true 0 (known l.notes).buckets some)) there)
+          (λ course there. slots_begin same by_hasher (shards_of terms) log event old.calls (λ names last. may names log last) e course 0 nobody [] at_rest (known l.notes) (notes.some (ltb-true 0 (known l.notes).buckets some)) there)
           (any terms.batch_size terms.roots) begins
       starts false none nobody =
-          let F : S → ℕ → ℕ → Type 0 = λ h b r. Course V same by_hasher b r slot_of → Reach same by_hasher h b r (shards_of terms) (λ x. InEvent log event [] 0 outcome.Goes old.calls x) e (known l.notes)
-          → LeadsTo same by_hasher h b r (shards_of terms) (IsAll same by_hasher h b r e 0 (clearing e.roots)) (λ x. InEvent log event [] 0 outcome.Goes old.calls x) (known l.notes) in
+          let F : S → ℕ → ℕ → Type 0 = λ h b r. Course V same by_hasher b r slot_of → Reach same by_hasher h b r (shards_of terms) (λ x. InEvent log event [] 0 at_rest old.calls x) e (known l.notes)
+          → LeadsTo same by_hasher h b r (shards_of terms) (IsAll same by_hasher h b r e 0 (clearing e.roots)) (λ x. InEvent log event [] 0 at_rest old.calls x) (known l.notes) in
           let few = ltb-false 0 (known l.notes).buckets none in
           by_given F e e.hasher terms.batch_size terms.roots refl at.size at.roots_are
-          (λ course there. roots_begin same by_hasher (shards_of terms) log event old.calls (λ names last. may names log last) e course 0 nobody [] outcome.Goes (known l.notes) (notes.none (omega (arith, few))) there)
+          (λ course there. roots_begin same by_hasher (shards_of terms) log event old.calls (λ names last. may names log last) e course 0 nobody [] at_rest (known l.notes) (notes.none (omega (arith, few))) there)
           (any terms.batch_size terms.roots) begins
 
       gone_so : played.outcome ≡ outcome.Done → are_gone old.there old.calls ≡ true → ReclaimingGone (nat_lt 0 (known l.notes).buckets) [] played.effects.items old.logged new.logged → After
@@ -171,7 +171,7 @@ module _ {K V S : Type 0} (same : K → K → Bool) (by_hasher : S → K → ℕ
           let small : terms.batch_size < 2 ^ 64 = subst (λ (n : ℕ). n < 2 ^ 64) at.size to.3.held.small in
           let over = all_gone same by_hasher (shards_of terms) log event old.calls (λ names last. may names log last) e.hasher terms.batch_size terms.roots (any terms.batch_size terms.roots) small
           (nat_lt 0 (known l.notes).buckets) played.effects.items old.logged new.logged g
-          (record { nobody = nobody; slots = stands.shown.is_at.slots; hasher = refl; size = at.size; roots = at.roots_are; outcome = outcome.Goes; at = starts_there }) in
+          (record { nobody = nobody; slots = stands.shown.is_at.slots; hasher = refl; size = at.size; roots = at.roots_are; outcome = at_rest; at = starts_there }) in
           let ended = reach_so same by_hasher e.hasher terms.batch_size terms.roots (shards_of terms) (λ (x : State K V S). InEvent log event played.effects.items 0 outcome.Done old.calls x)
           (PlaysSo (entry_of event played ∷ log) new.calls)
           (λ x so. event_ends log event played.effects.items played.steps played.outcome new.calls x (later_by event played old new log makes_none given next next2)
@@ -182,7 +182,7 @@ module _ {K V S : Type 0} (same : K → K → Bool) (by_hasher : S → K → ℕ
 
       by : ((played.outcome ≡ outcome.Refused fault.Busy) × DidNothing played old new)
           ⊎ ((played.outcome ≡ outcome.Done) × (are_gone old.there old.calls ≡ true) × ReclaimingGone (nat_lt 0 (known old.logged.notes).buckets) [] played.effects.items old.logged new.logged) → After
-      by (inl (says, nothing)) = did_nothing event played old new same by_hasher idle nothing.0 nothing.1 works.0 terms log stands in_turn next next2 at
+      by (inl (says, nothing)) = did_nothing event played old new same by_hasher idle nothing.0 nothing.1 works.0 (λ m there. inl (ap refuses says)) terms log stands in_turn next next2 at
       by (inr (done, gone, g)) = gone_so done gone g
 
 module _ {K V S : Type 0} (same : K → K → Bool) (by_hasher : S → K → ℕ) (any : (batch_size roots : ℕ) → Course V same by_hasher batch_size roots slot_of) (played : Played V) (old new : Scheduler K V S) (idle : played.steps ≡ 0)

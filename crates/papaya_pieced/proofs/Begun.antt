@@ -1,7 +1,7 @@
 -- An event by which a call begins, or one by which it begins and takes its steps: the list of acts goes on by that.
 use Rattle.std.specs.Prelude.{zero, suc, ◌≤◌, ◌==◌, ◌+◌, ◌*◌, Option, Some, None, option_map, length, slice_get, slice_index_or, if◌then◌else◌}
 use Rattle.std.specs.List.{AllByRecursion}
-use Rattle.std.proofs.Common.{◌≡◌, ℕ, Bool, true, false, List, [], ◌∷◌, refl, sym, ap, subst, ◌∙◌}
+use Rattle.std.proofs.Common.{◌≡◌, ℕ, Bool, true, false, List, [], ◌∷◌, refl, sym, ap, subst, ◌∙◌, inl}
 use Rattle.std.proofs.lemmas.Bool.{ne_eqb}
 use Rattle.papaya_runs.specs.Present.{guard_of, living_slot}
 use Rattle.papaya_scenes.specs.Given.Callers.Together.{UnderWay}
@@ -40,7 +40,7 @@ use Rattle.papaya_deeds.specs.Deeds.{Begins, Steps}
 use Rattle.papaya_stepping.specs.Stepping.{GoneBy, GoneFor, SaysAgain, TakenBy, TookWhole}
 use Rattle.papaya_played.specs.Play.{State}
 use Rattle.papaya_grouped.specs.Called.{PlaysSo}
-use Rattle.papaya_grouped.specs.Grouping.{MayHave, Names, beginner_of, number_called}
+use Rattle.papaya_grouped.specs.Grouping.{MayHave, Names, beginner_of, number_called, refuses}
 use Rattle.papaya_grouped.specs.Reach.{Reach}
 use Rattle.papaya_grouped.proofs.CallBegins.{call_begins}
 use Rattle.papaya_grouped.proofs.Callers.{each_so}
@@ -126,7 +126,7 @@ module _ {K V S : Type 0} (same : K → K → Bool) (by_hasher : S → K → ℕ
       by : (q : Bool) → q ≡ q → (it : (begun : Bool) × BeginsSo same hash terms (moment log) own guard name call begun old new × (played.effects.items ≡ []) × (played.outcome ≡ (if begun then outcome.Goes else outcome.Refused fault.Busy)))
           → ActsSoFar same by_hasher terms (entry_of ev played ∷ log) new.logged new.calls
       by q same_q (false, so, none, says) =
-          did_nothing ev played old new same by_hasher idle none (ap (λ (p : Scheduler K V S). p.logged) (so.none refl)) (ap (λ (p : Scheduler K V S). p.calls) (so.none refl)) terms log stands in_turn next next2 at
+          did_nothing ev played old new same by_hasher idle none (ap (λ (p : Scheduler K V S). p.logged) (so.none refl)) (ap (λ (p : Scheduler K V S). p.calls) (so.none refl)) (λ m there. inl (ap refuses says)) terms log stands in_turn next next2 at
       by q same_q (true, so, none, says) =
           let led = so.led refl in
           goes_at same by_hasher (shards_of terms) (PlaysSo log old.calls) (PlaysSo (entry_of ev played ∷ log) new.calls) old.logged.executor new.logged.executor (known old.logged.notes) (known new.logged.notes)
@@ -179,7 +179,7 @@ module _ {K V S : Type 0} (same : K → K → Bool) (by_hasher : S → K → ℕ
       by (false, mid, so, size, steps, none) =
           let n = none refl in
           let is : new ≡ old = n.3 ∙ so.none refl in
-          did_nothing ev played old new same by_hasher n.1 n.2 (ap (λ (p : Scheduler K V S). p.logged) is) (ap (λ (p : Scheduler K V S). p.calls) is) terms log stands in_turn next next2 at
+          did_nothing ev played old new same by_hasher n.1 n.2 (ap (λ (p : Scheduler K V S). p.logged) is) (ap (λ (p : Scheduler K V S). p.calls) is) (λ m there. inl (ap refuses n.0)) terms log stands in_turn next next2 at
       by (true, mid, so, size, steps, none) =
           let led = so.led refl in
           let goes : led.caller.stands ≡ far.Goes = ap (λ (s : Seen). s.far) led.is in

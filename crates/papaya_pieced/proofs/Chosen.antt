@@ -1,6 +1,6 @@
 -- An event by which a choice comes: the list of acts goes on by that, and it is the grouping of nothing.
 use Rattle.std.specs.Prelude.{◌≤◌, length}
-use Rattle.std.proofs.Common.{◌≡◌, ℕ, Bool, List, [], ◌∷◌, refl, sym, ap, subst, arith}
+use Rattle.std.proofs.Common.{◌≡◌, ℕ, Bool, List, [], ◌∷◌, refl, sym, ap, subst, arith, inl, inr}
 use Rattle.papaya_scenes.specs.Scene.{slot_of}
 use Rattle.papaya_schedules.specs.declared.event.Event.TheVariants as event
 use Rattle.papaya_schedules.specs.After.{moment}
@@ -19,6 +19,7 @@ use Rattle.papaya_grouped.specs.Called.{PlaysSo}
 use Rattle.papaya_grouped.proofs.Aside.{callers_same}
 use Rattle.papaya_grouped.proofs.Chosen.{choice_goes}
 use Rattle.papaya_pieced.specs.SoFar.{ActsSoFar, GoesOnByActs}
+use Rattle.papaya_grouped.specs.Grouping.{MayRest}
 
 module _ {K V S : Type 0} where
   -- a choice makes no entry
@@ -31,11 +32,11 @@ module _ {K V S : Type 0} where
   }
 
   -- and where an event is nothing else, it is the grouping of nothing
-  event_choice : (log : List (Entry K V)) (e : Entry K V) (calls : List (Caller V)) (choice : ℕ) (x : State K V S) → e.steps ≡ 0 → e.effects ≡ [] → (moment log).made ≤ (moment (e ∷ log)).made → PlaysSo log calls x
+  event_choice : (log : List (Entry K V)) (e : Entry K V) (calls : List (Caller V)) (choice : ℕ) (x : State K V S) → e.steps ≡ 0 → e.effects ≡ [] → (moment log).made ≤ (moment (e ∷ log)).made → MayRest (moment log) e.event e.outcome → PlaysSo log calls x
       → PlaysSo (e ∷ log) calls (choice_come choice x)
-  event_choice log e calls choice x idle none later so = record {
+  event_choice log e calls choice x idle none later rest so = record {
     names = so.names;
-    grouping = ([], x.history, so.names, refl, refl, record { effects = none; steps = idle; outcome = tt; deeds = tt }, so.grouping);
+    grouping = ([], x.history, so.names, refl, refl, record { effects = none; steps = idle; outcome = rest; deeds = tt }, so.grouping);
     callers = callers_same so.names calls x (choice_come choice x) refl so.callers;
     fresh = λ n few. so.fresh n (omega (arith, few, later));
   }
@@ -49,4 +50,4 @@ module _ {K V S : Type 0} (same : K → K → Bool) (by_hasher : S → K → ℕ
       let l = logged_chosen choice old.logged in
       subst (λ (p : Scheduler K V S). ActsSoFar same by_hasher terms (e ∷ log) p.logged p.calls) (sym works.2)
       (choice_goes same by_hasher (shards_of terms) choice old.logged.executor (PlaysSo log old.calls) (PlaysSo (e ∷ log) old.calls)
-      (λ x so. event_choice log e old.calls choice x idle works.1 (omega (arith, count, next, next2)) so) (known old.logged.notes) terms.batch_size terms.roots (any terms.batch_size terms.roots) at)
+      (λ x so. event_choice log e old.calls choice x idle works.1 (omega (arith, count, next, next2)) (inr (inl refl)) so) (known old.logged.notes) terms.batch_size terms.roots (any terms.batch_size terms.roots) at)

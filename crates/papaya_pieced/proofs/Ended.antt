@@ -32,10 +32,10 @@ use Rattle.papaya_acts.specs.Lists.{Course}
 use Rattle.papaya_deeds.specs.Deeds.{Ends, MapGoes}
 use Rattle.papaya_played.specs.Play.{State, is_over, settled_outcome}
 use Rattle.papaya_grouped.specs.Called.{PlaysSo}
-use Rattle.papaya_grouped.specs.Grouping.{MayHave, Names}
+use Rattle.papaya_grouped.specs.Grouping.{MayHave, Names, refuses}
 use Rattle.papaya_grouped.specs.Reach.{Reach}
 use Rattle.papaya_grouped.proofs.EndGoes.{EndsMap, end_begins, end_steps}
-use Rattle.papaya_grouped.proofs.Midst.{InEvent, event_begins, event_ends}
+use Rattle.papaya_grouped.proofs.Midst.{InEvent, event_begins, event_ends, at_rest}
 use Rattle.papaya_grouped.proofs.Reached.{goes_at, reach_so}
 use Rattle.papaya_pieced.specs.SoFar.{ActsSoFar, GoesOnByActs}
 use Rattle.papaya_pieced.proofs.Chains.{goes_to}
@@ -115,15 +115,15 @@ module _ {K V S : Type 0} (same : K → K → Bool) (by_hasher : S → K → ℕ
       ended done d =
           let l = old.logged in
           let free = no_call same its_hash terms log old own (record { played = stands; in_turn = in_turn }) d.number d.found d.free in
-          let begins = reach_so same by_hasher l.executor.hasher terms.batch_size terms.roots (shards_of terms) (PlaysSo log old.calls) (λ (x : State K V S). InEvent log ev [] 0 outcome.Goes old.calls x)
-          (λ x so. event_begins log ev outcome.Goes old.calls x so) l.executor (known l.notes) at in
-          let began = goes_at same by_hasher (shards_of terms) (λ (x : State K V S). InEvent log ev [] 0 outcome.Goes old.calls x) (λ x. InEvent log ev [] 0 outcome.Goes old.calls x × EndsMap d.caller d.number x) l.executor
+          let begins = reach_so same by_hasher l.executor.hasher terms.batch_size terms.roots (shards_of terms) (PlaysSo log old.calls) (λ (x : State K V S). InEvent log ev [] 0 at_rest old.calls x)
+          (λ x so. event_begins log ev at_rest refl old.calls x so) l.executor (known l.notes) at in
+          let began = goes_at same by_hasher (shards_of terms) (λ (x : State K V S). InEvent log ev [] 0 at_rest old.calls x) (λ x. InEvent log ev [] 0 at_rest old.calls x × EndsMap d.caller d.number x) l.executor
           d.began.executor (known l.notes) (known l.notes)
           (λ course there. end_begins same by_hasher (shards_of terms) log ev old.calls l.executor d.began.executor (d.stays.0, d.stays.1, d.stays.2) course d.caller d.number (λ s is. d.begun same its_hash s is)
-          (ap (work_of l.executor) d.fresh ∙ no_work l.executor 0 (omega arith)) free [] outcome.Goes (known l.notes) there) terms.batch_size terms.roots (any terms.batch_size terms.roots) begins in
+          (ap (work_of l.executor) d.fresh ∙ no_work l.executor 0 (omega arith)) free [] at_rest (known l.notes) there) terms.batch_size terms.roots (any terms.batch_size terms.roots) begins in
           let over = ended_by same by_hasher (shards_of terms) log ev old.calls terms.batch_size terms.roots (any terms.batch_size terms.roots) d.caller d.number
-          (may_end log own d.number (number_is same its_hash terms (moment log) old stands own ∙ d.found)) played.effects.items d.began new.logged d.gone outcome.Goes
-          (subst (λ (k : Known). Reach same by_hasher d.began.executor.hasher terms.batch_size terms.roots (shards_of terms) (λ x. InEvent log ev [] 0 outcome.Goes old.calls x × EndsMap d.caller d.number x) d.began.executor k)
+          (may_end log own d.number (number_is same its_hash terms (moment log) old stands own ∙ d.found)) played.effects.items d.began new.logged d.gone at_rest
+          (subst (λ (k : Known). Reach same by_hasher d.began.executor.hasher terms.batch_size terms.roots (shards_of terms) (λ x. InEvent log ev [] 0 at_rest old.calls x × EndsMap d.caller d.number x) d.began.executor k)
           (ap known (sym d.noted)) began) in
           reach_so same by_hasher new.logged.executor.hasher terms.batch_size terms.roots (shards_of terms) (λ (x : State K V S). InEvent log ev played.effects.items 0 outcome.Done old.calls x)
           (PlaysSo (entry_of ev played ∷ log) new.calls)
@@ -133,5 +133,5 @@ module _ {K V S : Type 0} (same : K → K → Bool) (by_hasher : S → K → ℕ
           (subst (λ (n : ℕ). InEvent log ev played.effects.items n outcome.Done old.calls x) (sym idle) so)))) new.logged.executor (known new.logged.notes) over
 
       by : ((fault : Fault) × (played.outcome ≡ outcome.Refused fault) × DidNothing played old new) ⊎ ((played.outcome ≡ outcome.Done) × HasEndedMap played old new own) → After
-      by (inl (fault, says, nothing)) = did_nothing ev played old new same by_hasher idle nothing.0 nothing.1 works.0 terms log stands in_turn next next2 at
+      by (inl (fault, says, nothing)) = did_nothing ev played old new same by_hasher idle nothing.0 nothing.1 works.0 (λ m there. inl (ap refuses says)) terms log stands in_turn next next2 at
       by (inr (done, d)) = ended done d

@@ -51,10 +51,10 @@ use Rattle.papaya_deeds.specs.Deeds.{MapComes, MapFails, Makes}
 use Rattle.papaya_agrees.specs.Fresh.{is_taken}
 use Rattle.papaya_played.specs.Play.{State, has_root, making_deed, making_outcome, pairs_for}
 use Rattle.papaya_grouped.specs.Called.{PlaysSo}
-use Rattle.papaya_grouped.specs.Grouping.{MayHave, Names}
+use Rattle.papaya_grouped.specs.Grouping.{MayHave, Names, refuses}
 use Rattle.papaya_grouped.specs.Reach.{Reach}
 use Rattle.papaya_grouped.proofs.MakingGoes.{MakesSo, MakesThen, is_on, making_begins, making_steps}
-use Rattle.papaya_grouped.proofs.Midst.{InEvent, event_ends_so}
+use Rattle.papaya_grouped.proofs.Midst.{InEvent, event_ends_so, at_rest}
 use Rattle.papaya_grouped.proofs.Reached.{goes_at, reach_so}
 use Rattle.papaya_pieced.specs.SoFar.{ActsSoFar, GoesOnByActs}
 use Rattle.papaya_pieced.proofs.Chains.{goes_to}
@@ -200,15 +200,15 @@ module _ {K V S : Type 0} (same : K → K → Bool) (by_hasher : S → K → ℕ
           next-power-unique old.setup.processors (d.given.mask + 1) d.is_given.mask.0.0 processors d.is_given.mask.0.1 d.is_given.mask.1 d.is_given.mask.2
           ∙ ap (λ (t : Terms). next_power t.processors) stands.given in
           let least = d.is_given.mask.2 in
-          let began = goes_at same by_hasher (shards_of terms) (λ (x : State K V S). PlaysSo log old.calls x) (λ x. InEvent log ev [] 0 outcome.Goes old.calls x × MakesSo d.caller (moment log).made mode d.places x) l.executor
+          let began = goes_at same by_hasher (shards_of terms) (λ (x : State K V S). PlaysSo log old.calls x) (λ x. InEvent log ev [] 0 at_rest old.calls x × MakesSo d.caller (moment log).made mode d.places x) l.executor
           d.began.executor (known l.notes) (known l.notes)
           (λ course there. making_begins same by_hasher (shards_of terms) log ev refl old.calls l.executor d.began.executor d.stays d.caller mode d.places course d.given d.is_given.mode_is
           (λ s is. d.begun same (by_hasher l.executor.hasher) s is) (ap (work_of l.executor) d.fresh ∙ no_work l.executor 0 (omega arith)) lawful (subst IsPowerOfTwo (sym d.is_given.initial) d.first.0) d.is_given.batches
-          (omega (arith, least, processors)) many (asked_places d.given mode capacity d.places d.is_given.mode_is d.faultless d.first d.is_given.initial) d.some (λ few. d.first.1) next outcome.Goes (known l.notes) there) terms.batch_size terms.roots (any terms.batch_size terms.roots) at in
+          (omega (arith, least, processors)) many (asked_places d.given mode capacity d.places d.is_given.mode_is d.faultless d.first d.is_given.initial) d.some (λ few. d.first.1) next at_rest refl (known l.notes) there) terms.batch_size terms.roots (any terms.batch_size terms.roots) at in
           made_by same by_hasher (shards_of terms) log own mode capacity old.calls terms.batch_size terms.roots (any terms.batch_size terms.roots) d.caller (length l.executor.maps.items) next d.places
-          (first_back d.places d.first ∙ d.places_are) told played.effects.items d.began new.logged d.gone outcome.Goes
+          (first_back d.places d.first ∙ d.places_are) told played.effects.items d.began new.logged d.gone at_rest
           (subst (λ (k : Known). Reach same by_hasher d.began.executor.hasher terms.batch_size terms.roots (shards_of terms)
-          (λ x. InEvent log ev [] 0 outcome.Goes old.calls x × MakesSo d.caller (moment log).made mode d.places x) d.began.executor k) (ap known (sym d.noted)) began)
+          (λ x. InEvent log ev [] 0 at_rest old.calls x × MakesSo d.caller (moment log).made mode d.places x) d.began.executor k) (ap known (sym d.noted)) began)
 
       later : (moment (entry_of ev played ∷ log)).made ≡ numbers_made played.outcome (moment log).made
       later = sym next2 ∙ count ∙ ap (numbers_made played.outcome) next
@@ -227,7 +227,7 @@ module _ {K V S : Type 0} (same : K → K → Bool) (by_hasher : S → K → ℕ
       by : ((fault : Fault) × (played.outcome ≡ outcome.Refused fault) × DidNothing played old new)
           ⊎ (((fault : Fault) × (played.outcome ≡ outcome.Refused fault) × MakingHasRun played old new own mode capacity (progress.Refused fault))
           ⊎ ((played.outcome ≡ outcome.Done) × (setting : Setting) × MakingHasRun played old new own mode capacity (progress.Done setting))) → After
-      by (inl (fault, says, nothing)) = did_nothing ev played old new same by_hasher idle nothing.0 nothing.1 works.0 terms log stands in_turn next next2 at
+      by (inl (fault, says, nothing)) = did_nothing ev played old new same by_hasher idle nothing.0 nothing.1 works.0 (λ m there. inl (ap refuses says)) terms log stands in_turn next next2 at
       by (inr (inl (fault, says, d))) =
           over (progress.Refused fault) says d (λ x so comes n few. (let made_is = later ∙ ap (λ (o : Outcome V). numbers_made o (moment log).made) says in
           let low : (moment log).made ≤ n = omega (arith, made_is, few) in by_number x so comes n low (cases_eq n (moment log).made)))

@@ -13,11 +13,13 @@ use Rattle.papaya_scheduler.specs.declared.played.Played.{Played}
 use Rattle.papaya_scheduler.specs.declared.scheduler.Scheduler.{Scheduler}
 use Rattle.papaya_grouped.proofs.Midst.{maps_of}
 use Rattle.papaya_pieced.specs.SoFar.{ActsSoFar, GoesOnByActs}
+use Rattle.papaya_grouped.specs.Grouping.{MayRest}
+use Rattle.papaya_schedules.specs.Moment.{Moment}
 
 module _ {K V S : Type 0} (same : K → K → Bool) (by_hasher : S → K → ℕ) (terms : Terms) (log : List (Entry K V)) (l : Logged K V S) (calls : List (Caller V)) where
-  pub quiet_goes_on : (e : Entry K V) → e.steps ≡ 0 → e.effects ≡ [] → (moment log).made ≤ (moment (e ∷ log)).made → ActsSoFar same by_hasher terms log l calls
+  pub quiet_goes_on : (e : Entry K V) → e.steps ≡ 0 → e.effects ≡ [] → (moment log).made ≤ (moment (e ∷ log)).made → MayRest (moment log) e.event e.outcome → ActsSoFar same by_hasher terms log l calls
       → ActsSoFar same by_hasher terms (e ∷ log) l calls
-  quiet_goes_on e steps none later at = record {
+  quiet_goes_on e steps none later rest at = record {
     hasher_is = at.hasher_is;
     size = at.size;
     roots_are = at.roots_are;
@@ -32,7 +34,7 @@ module _ {K V S : Type 0} (same : K → K → Bool) (by_hasher : S → K → ℕ
       knows = was.knows;
       so = record {
         names = was.so.names;
-        grouping = ([], was.after.history, was.so.names, refl, refl, record { effects = none; steps = steps; outcome = tt; deeds = tt }, was.so.grouping);
+        grouping = ([], was.after.history, was.so.names, refl, refl, record { effects = none; steps = steps; outcome = rest; deeds = tt }, was.so.grouping);
         callers = was.so.callers;
         fresh = λ n few. was.so.fresh n (omega (arith, few, later));
       };
@@ -47,9 +49,10 @@ module _ {K V S : Type 0} (event : Event K V) (played : Played V) (old new : Sch
 
   -- So it is of one by which nothing is done.
   pub did_nothing : (same : K → K → Bool) (by_hasher : S → K → ℕ) → played.steps ≡ 0 → played.effects.items ≡ [] → new.logged ≡ old.logged → new.calls ≡ old.calls
+      → ((m : Moment K V) → m.there ≡ old.there → MayRest m event played.outcome)
       → GoesOnByActs same by_hasher event played old new
-  did_nothing same by_hasher idle none logged calls terms log stands in_turn next next2 at =
+  did_nothing same by_hasher idle none logged calls rest terms log stands in_turn next next2 at =
       let count : length new.logged.executor.maps.items ≡ length old.logged.executor.maps.items = ap (λ (l : Logged K V S). length l.executor.maps.items) logged in
       subst (λ (l : Logged K V S). ActsSoFar same by_hasher terms (entry_of event played ∷ log) l new.calls) (sym logged)
       (subst (λ (c : List (Caller V)). ActsSoFar same by_hasher terms (entry_of event played ∷ log) old.logged c) (sym calls)
-      (quiet_goes_on same by_hasher terms log old.logged old.calls (entry_of event played) idle none (omega (arith, count, next, next2)) at))
+      (quiet_goes_on same by_hasher terms log old.logged old.calls (entry_of event played) idle none (omega (arith, count, next, next2)) (rest (moment log) stands.there) at))

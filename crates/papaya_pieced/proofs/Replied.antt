@@ -45,10 +45,10 @@ use Rattle.papaya_played.specs.Play.{Calling, State, call_told, play_act, reply_
 use Rattle.papaya_played.specs.Reached.{IsOfStage}
 use Rattle.papaya_played.proofs.PlayedAs.{played_as}
 use Rattle.papaya_grouped.specs.Called.{CallersAre, IsCalledAs, PlaysSo}
-use Rattle.papaya_grouped.specs.Grouping.{Names, number_called}
+use Rattle.papaya_grouped.specs.Grouping.{Names, number_called, refuses}
 use Rattle.papaya_grouped.specs.Reach.{Reach}
 use Rattle.papaya_grouped.proofs.Callers.{call_beside, call_here, each_at, set_count, set_one, under}
-use Rattle.papaya_grouped.proofs.Midst.{InEvent, event_begins, event_ends, event_goes_on}
+use Rattle.papaya_grouped.proofs.Midst.{InEvent, event_begins, event_ends, event_goes_on, at_rest}
 use Rattle.papaya_grouped.proofs.Reached.{goes_at}
 use Rattle.papaya_grouped.proofs.OneMore.{one_act}
 use Rattle.papaya_pieced.specs.SoFar.{ActsSoFar}
@@ -134,11 +134,11 @@ module _ {K V S : Type 0} (same : K → K → Bool) (by_hasher : S → K → ℕ
       → reply_for (aborts (length x.told)) did.as_it ≡ told → played.outcome ≡ outcome.Goes → played.steps ≡ 0 → played.effects.items ≡ []
       → PlaysSo (entry_of (event.Replied own told) played ∷ log) new.calls (call_told d.number d.map aborts did.as_it x c)
   piece x so c at aborts is_ok_then as_reply goes none idle =
-      let begins = event_begins log (event.Replied own told) outcome.Goes old.calls x so in
+      let begins = event_begins log (event.Replied own told) at_rest refl old.calls x so in
       let z = call_told d.number d.map aborts did.as_it x c in
       let callers = callers_then so.names x so.callers c at aborts is_ok_then as_reply in
       let name : IsCalledAs so.names x d = each_at (λ a. IsCalledAs so.names x a) old.calls did.place d here so.callers.each in
-      let on = event_goes_on log (event.Replied own told) [] 0 outcome.Goes old.calls new.calls x z begins entry (history_then so.names x so.callers c at aborts is_ok_then as_reply) (λ n l. refl) refl refl
+      let on = event_goes_on log (event.Replied own told) [] 0 at_rest old.calls new.calls x z begins entry (history_then so.names x so.callers c at aborts is_ok_then as_reply) (λ n l. refl) refl refl
       (subst (λ (n : List ℕ). number_called n so.names ≡ Some d.number) named name.name, refl) callers in
       event_ends log (event.Replied own told) played.effects.items played.steps played.outcome new.calls z later
       (subst (λ (o : Outcome V). InEvent log (event.Replied own told) played.effects.items played.steps o new.calls z) (sym goes)
@@ -196,5 +196,5 @@ module _ {K V S : Type 0} (same : K → K → Bool) (by_hasher : S → K → ℕ
       (given.0, given.1, given.2) (works_at same (by_hasher old.logged.executor.hasher) terms (moment log) old stands it.0.place here.caller here.at) goes idle it.1 there)
       terms.batch_size terms.roots (any terms.batch_size terms.roots) at
   reply_goes_on (inr is) busy at =
-      did_nothing (event.Replied own told) played old new same by_hasher idle (busy is).1 (ap (λ (p : Scheduler K V S). p.logged) (busy is).0) (ap (λ (p : Scheduler K V S). p.calls) (busy is).0) terms log stands in_turn next next2
+      did_nothing (event.Replied own told) played old new same by_hasher idle (busy is).1 (ap (λ (p : Scheduler K V S). p.logged) (busy is).0) (ap (λ (p : Scheduler K V S). p.calls) (busy is).0) (λ m there. inl (ap refuses is)) terms log stands in_turn next next2
       at

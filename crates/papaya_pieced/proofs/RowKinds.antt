@@ -1,7 +1,7 @@
 -- The row that an event works with is one of its kind at each step, and the event may have what it does.
 use Rattle.std.specs.Prelude.{◌+◌, ◌==◌, Option, Some, None, Ok, Err, option_map, nat_lt, if◌then◌else◌}
 use Rattle.std.proofs.Common.{◌≡◌, ℕ, Bool, true, false, List, refl, sym, ap, subst, ◌∙◌}
-use Rattle.papaya_runs.specs.Present.{Present, guard_of, has_registration, living_slot, registration_of}
+use Rattle.papaya_runs.specs.Present.{Present, guard_of, has_registration, living_slot, registration_of, guards_on}
 use Rattle.papaya_scenes.specs.Given.SeizeWords.Mem.{Mem, Took, value_at}
 use Rattle.papaya_scenes.specs.Given.SeizeWords.Op.{Out, Found, Exchanged, Roomed}
 use Rattle.papaya_scenes.specs.Given.SeizeWords.Plan.{Steps}
@@ -39,12 +39,12 @@ use Rattle.papaya_schedules.specs.declared.event.Event.TheVariants as event
 use Rattle.papaya_schedules.specs.Moment.{Moment}
 use Rattle.papaya_scheduler.proofs.Given.SeizeEnds.Batches.Free.{Outcomes, PlanOutcomes, if_outcome, plan_outcome}
 use Rattle.papaya_scheduler.proofs.Given.SeizeRule.Rows.Leaving.{steps_back}
-use Rattle.papaya_scheduler.specs.Works.{IsAbout, IsItsRow}
+use Rattle.papaya_scheduler.specs.Works.{IsAbout, IsItsRow, HasNoRow}
 use Rattle.papaya_scheduler.specs.declared.scheduler.Scheduler.{Scheduler}
 use Rattle.papaya_named.specs.Seen.{free_slot}
 use Rattle.papaya_deeds.specs.Deeds.{Leaves, Opens, Shuts}
 use Rattle.papaya_played.specs.Play.{leaves_as, registers_as, row_deed}
-use Rattle.papaya_grouped.specs.Grouping.{MayHave, Names}
+use Rattle.papaya_grouped.specs.Grouping.{MayHave, Names, IsShared}
 use Rattle.papaya_pieced.specs.RowFor.{IsRowFor}
 
 -- a registering that enters none goes on so
@@ -205,6 +205,14 @@ module _ {K V S : Type 0} (names : Names) (m : Moment K V) (p : Scheduler K V S)
   drops_so g c leaves.Frees idle lives = lives
   drops_so g c leaves.Over idle lives =
       subst (λ (n : ℕ). MayHave names m (event.DropGuard g) (if n == ACTIVE then Opens c.slot else Leaves c.slot)) (sym idle) lives
+
+  -- where other guards are on its slot, the event has no row
+  pub shared : (e : Event K V) → IsAbout e p slot → HasNoRow e p.there slot → IsShared m e
+  shared (event.Unregister r) about none = (slot, is_registered r slot refl about.0, (λ z. none (ap (λ (t : Present). guards_on slot t.guards) (sym there) ∙ z)))
+  shared (event.Enter g r) about none = (slot, is_registered r slot refl about.1, (λ z. none (ap (λ (t : Present). guards_on slot t.guards) (sym there) ∙ z)))
+  shared (event.Refresh g) about none = (slot, is_under g slot refl (free_lives g about), (λ z. none (ap (λ (t : Present). guards_on slot t.guards) (sym there) ∙ z)))
+  shared (event.DropGuard g) about none = (slot, is_under g slot refl (free_lives g about), (λ z. none (ap (λ (t : Present). guards_on slot t.guards) (sym there) ∙ z)))
+  shared _ about none = absurd none
 
   pub may_row : (e : Event K V) → IsAbout e p slot → (row : SlotRow) → IsRowFor e row → IsRowOn slot (row_of row) → MayHave names m e (row_deed row)
   may_row (event.Register r) about (rows.Registers c) is on = registers_so r c.slot c.stands is.1

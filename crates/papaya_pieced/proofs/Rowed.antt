@@ -48,14 +48,15 @@ use Rattle.papaya_acts.specs.Lists.{Course}
 use Rattle.papaya_played.specs.Play.{State, row_outcome}
 use Rattle.papaya_grouped.specs.Called.{PlaysSo}
 use Rattle.papaya_grouped.specs.Reach.{Reach}
-use Rattle.papaya_grouped.proofs.Midst.{InEvent, event_begins, event_ends, maps_of}
+use Rattle.papaya_grouped.proofs.Midst.{InEvent, event_begins, event_ends, maps_of, at_rest}
 use Rattle.papaya_grouped.proofs.Reached.{goes_at, reach_so}
 use Rattle.papaya_grouped.proofs.RowGoes.{row_begins, row_steps}
 use Rattle.papaya_pieced.specs.RowFor.{IsRowFor}
 use Rattle.papaya_pieced.specs.SoFar.{ActsSoFar, GoesOnByActs}
 use Rattle.papaya_pieced.proofs.Chains.{goes_to}
 use Rattle.papaya_pieced.proofs.Quiet.{did_nothing, later_by}
-use Rattle.papaya_pieced.proofs.RowKinds.{begins_row, keeps_row, may_row}
+use Rattle.papaya_pieced.proofs.RowKinds.{begins_row, keeps_row, may_row, shared}
+use Rattle.papaya_grouped.specs.Grouping.{refuses}
 
 -- a row that goes on is the one that it is then
 on_is : {K V : Type 0} (after row : SlotRow) (said : RowTold (Node K V)) → row_on {K = K} {V = V} after said ≡ Some (OnSlot row) → after ≡ row
@@ -184,17 +185,17 @@ module _ {K V S : Type 0} (same : K → K → Bool) (by_hasher : S → K → ℕ
           let may : MayBegin l.executor (slot_of ran.caller) called = subst (λ (t : ℕ). MayBegin l.executor t called) (sym ran.in_slot) facts.0 in
           let leads = ran.begun same its_hash stands.scene stands.shown.is_at may in
           let fresh = stands.rests ran.caller (λ n. none_is (stands.scene.calls n ran.caller) (leads.3.1 n)) in
-          let begins = reach_so same by_hasher l.executor.hasher terms.batch_size terms.roots (shards_of terms) (PlaysSo log old.calls) (λ (x : State K V S). InEvent log event [] 0 outcome.Goes old.calls x)
-          (λ x so. event_begins log event outcome.Goes old.calls x so) l.executor (known l.notes) at in
-          let began = goes_at same by_hasher (shards_of terms) (λ (x : State K V S). InEvent log event [] 0 outcome.Goes old.calls x) (λ (x : State K V S). InEvent log event [] 0 outcome.Goes old.calls x) l.executor
+          let begins = reach_so same by_hasher l.executor.hasher terms.batch_size terms.roots (shards_of terms) (PlaysSo log old.calls) (λ (x : State K V S). InEvent log event [] 0 at_rest old.calls x)
+          (λ x so. event_begins log event at_rest refl old.calls x so) l.executor (known l.notes) at in
+          let began = goes_at same by_hasher (shards_of terms) (λ (x : State K V S). InEvent log event [] 0 at_rest old.calls x) (λ (x : State K V S). InEvent log event [] 0 at_rest old.calls x) l.executor
           ran.began.executor (known l.notes) (known l.notes)
           (λ course there. row_begins same by_hasher (shards_of terms) log event old.calls l.executor ran.began.executor (ran.given.0, ran.given.1, ran.given.2) course ran.caller called
-          (λ s is. ran.begun same its_hash s is) fresh may [] outcome.Goes (known l.notes) there) terms.batch_size terms.roots (any terms.batch_size terms.roots) begins in
+          (λ s is. ran.begun same its_hash s is) fresh may [] at_rest (known l.notes) there) terms.batch_size terms.roots (any terms.batch_size terms.roots) begins in
           let kind : (row : SlotRow) → work_of ran.began.executor ran.caller ≡ Some (OnSlot row) → IsRowFor event row = λ row is.
           (let one = same_row (sym leads.1 ∙ is) in subst (IsRowFor event) one (begins_row old (slot_of ran.caller) l.executor.batch_size event called (subst (λ (t : ℕ). IsItsRow event old t called) (sym ran.in_slot) its))) in
           let over = ran_by same by_hasher (shards_of terms) log event old.calls terms.batch_size terms.roots (any terms.batch_size terms.roots) old stands.there slot ran.caller ran.in_slot about said played.effects.items
-          ran.began new.logged ran.gone kind outcome.Goes
-          (subst (λ (k : Known). Reach same by_hasher ran.began.executor.hasher terms.batch_size terms.roots (shards_of terms) (λ (x : State K V S). InEvent log event [] 0 outcome.Goes old.calls x) ran.began.executor k)
+          ran.began new.logged ran.gone kind at_rest
+          (subst (λ (k : Known). Reach same by_hasher ran.began.executor.hasher terms.batch_size terms.roots (shards_of terms) (λ (x : State K V S). InEvent log event [] 0 at_rest old.calls x) ran.began.executor k)
           (ap known (sym ran.noted)) began) in
           reach_so same by_hasher new.logged.executor.hasher terms.batch_size terms.roots (shards_of terms) (λ (x : State K V S). InEvent log event played.effects.items 0 (row_outcome said) old.calls x)
           (PlaysSo (entry_of event played ∷ log) new.calls)
@@ -211,6 +212,6 @@ module _ {K V S : Type 0} (same : K → K → Bool) (by_hasher : S → K → ℕ
           × (((played.outcome ≡ outcome.Done) × HasNoRow event old.there slot × DidNothing played old new)
           ⊎ ((called : SlotCall) × IsItsRow event old slot called × (said : RowTold (Node K V)) × ComesBy event said played.outcome
           × RowRan slot called said [] played.effects.items old.logged new.logged))) → After
-      by (inl (fault, says, nothing)) = did_nothing event played old new same by_hasher idle nothing.0 nothing.1 works.0 terms log stands in_turn next next2 at
-      by (inr (slot, about, inl (done, no_row, nothing))) = did_nothing event played old new same by_hasher idle nothing.0 nothing.1 works.0 terms log stands in_turn next next2 at
+      by (inl (fault, says, nothing)) = did_nothing event played old new same by_hasher idle nothing.0 nothing.1 works.0 (λ m there. inl (ap refuses says)) terms log stands in_turn next next2 at
+      by (inr (slot, about, inl (done, no_row, nothing))) = did_nothing event played old new same by_hasher idle nothing.0 nothing.1 works.0 (λ m there. inr (inr (inr (shared [] m old there slot event about no_row)))) terms log stands in_turn next next2 at
       by (inr (slot, about, inr (called, its, said, comes, ran))) = ran_so slot about called its said comes ran

@@ -42,10 +42,10 @@ use Rattle.papaya_played.specs.Play.{Calling, State, call_stopped, play_act}
 use Rattle.papaya_played.specs.Reached.{IsOfStage}
 use Rattle.papaya_played.proofs.PlayedAs.{played_as}
 use Rattle.papaya_grouped.specs.Called.{CallersAre, IsCalledAs, PlaysSo}
-use Rattle.papaya_grouped.specs.Grouping.{Names, number_called}
+use Rattle.papaya_grouped.specs.Grouping.{Names, number_called, refuses}
 use Rattle.papaya_grouped.specs.Reach.{Reach}
 use Rattle.papaya_grouped.proofs.Callers.{call_beside, each_at, remove_one, removed_count, under}
-use Rattle.papaya_grouped.proofs.Midst.{InEvent, event_begins, event_ends, event_goes_on}
+use Rattle.papaya_grouped.proofs.Midst.{InEvent, event_begins, event_ends, event_goes_on, at_rest}
 use Rattle.papaya_grouped.proofs.OneMore.{one_act}
 use Rattle.papaya_grouped.proofs.Reached.{goes_at}
 use Rattle.papaya_pieced.specs.SoFar.{ActsSoFar}
@@ -93,9 +93,9 @@ module _ {K V S : Type 0} (same : K → K → Bool) (by_hasher : S → K → ℕ
     -- so it is a piece of one entry
     piece : PlaysSo log old.calls x → played.outcome ≡ outcome.Done → played.steps ≡ 0 → played.effects.items ≡ [] → PlaysSo (entry_of (event.Stop own) played ∷ log) new.calls z
     piece so done none idle =
-        let begins = event_begins log (event.Stop own) outcome.Goes old.calls x so in
+        let begins = event_begins log (event.Stop own) at_rest refl old.calls x so in
         let name : IsCalledAs so.names x d = each_at (λ a. IsCalledAs so.names x a) old.calls did.place d here so.callers.each in
-        let on = event_goes_on log (event.Stop own) [] 0 outcome.Goes old.calls new.calls x z begins (entry d.number) history_then (λ n l. refl) refl refl
+        let on = event_goes_on log (event.Stop own) [] 0 at_rest old.calls new.calls x z begins (entry d.number) history_then (λ n l. refl) refl refl
         (subst (λ (n : List ℕ). number_called n so.names ≡ Some d.number) named name.name) (callers_then so.names so.callers) in
         event_ends log (event.Stop own) played.effects.items played.steps played.outcome new.calls z later
         (subst (λ (o : Outcome V). InEvent log (event.Stop own) played.effects.items played.steps o new.calls z) (sym done)
@@ -151,4 +151,4 @@ module _ {K V S : Type 0} (same : K → K → Bool) (by_hasher : S → K → ℕ
       (given.0, given.1, given.2) (λ s is. is.calls here.caller.map here.caller.number ∙ works.1 ∙ ap Some same_machine) done idle it.1 there)
       terms.batch_size terms.roots (any terms.batch_size terms.roots) at
   stop_goes_on (inr is) busy at =
-      did_nothing (event.Stop own) played old new same by_hasher idle (busy is).1 (ap (λ (p : Scheduler K V S). p.logged) (busy is).0) (ap (λ (p : Scheduler K V S). p.calls) (busy is).0) terms log stands in_turn next next2 at
+      did_nothing (event.Stop own) played old new same by_hasher idle (busy is).1 (ap (λ (p : Scheduler K V S). p.logged) (busy is).0) (ap (λ (p : Scheduler K V S). p.calls) (busy is).0) (λ m there. inl (ap refuses is)) terms log stands in_turn next next2 at

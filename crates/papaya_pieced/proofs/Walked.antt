@@ -1,7 +1,7 @@
 -- An event by which a walk is asked for its next pair: the list of acts goes on by that, and by the steps that the walk takes since.
 use Rattle.std.specs.Prelude.{zero, suc, ◌≤◌, ◌==◌, ◌+◌, Option, Some, None, option_map, filter, length, slice_get, slice_set, if◌then◌else◌}
 use Rattle.std.specs.List.{AllByRecursion}
-use Rattle.std.proofs.Common.{◌≡◌, ℕ, Bool, true, false, List, [], ◌∷◌, refl, sym, ap, subst, arith, ◌∙◌}
+use Rattle.std.proofs.Common.{◌≡◌, ℕ, Bool, true, false, List, [], ◌∷◌, refl, sym, ap, subst, arith, ◌∙◌, inl}
 use Rattle.std.proofs.lemmas.Bool.{eq-eqb}
 use Rattle.seize_acts.proofs.Answers.{same_some}
 use Rattle.papaya_scenes.specs.Given.Tables.declared.node.Node.{Node}
@@ -43,10 +43,10 @@ use Rattle.papaya_stepping.specs.Stepping.{HasWalked, IsStepOf, IsStepped, SaysA
 use Rattle.papaya_played.specs.Play.{Calling, State, call_asked}
 use Rattle.papaya_played.proofs.PlayedAs.{played_as}
 use Rattle.papaya_grouped.specs.Called.{CallersAre, IsCalledAs, PlaysSo}
-use Rattle.papaya_grouped.specs.Grouping.{MayHave, Names, names_after, number_called}
+use Rattle.papaya_grouped.specs.Grouping.{MayHave, Names, names_after, number_called, refuses}
 use Rattle.papaya_grouped.specs.Reach.{Reach}
 use Rattle.papaya_grouped.proofs.Callers.{call_beside, call_here, each_at, set_count, set_one, under}
-use Rattle.papaya_grouped.proofs.Midst.{InEvent, event_ends}
+use Rattle.papaya_grouped.proofs.Midst.{InEvent, event_ends, at_rest}
 use Rattle.papaya_grouped.proofs.OneMore.{one_act}
 use Rattle.papaya_grouped.proofs.Reached.{goes_at, reach_so}
 use Rattle.papaya_pieced.specs.SoFar.{ActsSoFar, GoesOnByActs}
@@ -190,16 +190,16 @@ module _ {K V S : Type 0} (same : K → K → Bool) (by_hasher : S → K → ℕ
       (machine_of to.0, sym (to.4.calls d.map d.number) ∙ ap (option_map machine_of) (call_here s.calls d.map d.number (Some to.0)))
 
   pub ask_goes : (noted : Known) → Reach same by_hasher e.hasher e.batch_size e.roots shards (PlaysSo log calls) e noted
-      → Reach same by_hasher e.hasher e.batch_size e.roots shards (λ (x : State K V S). InEvent log event [] 0 outcome.Goes calls x) e2 noted × HasCallIn d.number d.map e2
+      → Reach same by_hasher e.hasher e.batch_size e.roots shards (λ (x : State K V S). InEvent log event [] 0 at_rest calls x) e2 noted × HasCallIn d.number d.map e2
   ask_goes noted before =
       let to = before.leads any in (
-        one_act same by_hasher shards e e2 given any noted noted (PlaysSo log calls) (λ (x : State K V S). InEvent log event [] 0 outcome.Goes calls x) (AsksCall d.number d.map) (OfAsking ready) (tt, tt) is_asked
+        one_act same by_hasher shards e e2 given any noted noted (PlaysSo log calls) (λ (x : State K V S). InEvent log event [] 0 at_rest calls x) (AsksCall d.number d.map) (OfAsking ready) (tt, tt) is_asked
             (λ x so. tt) (λ value. value)
             (λ value aborts x y p stage there its played knows so.
             (let came = played_as same by_hasher e.batch_size e.roots aborts x y (AsksCall d.number d.map) played in
             let z = call_asked d.number d.map x came.0 in (
               ap (λ (w : State K V S). w.known) came.2 ∙ knows,
-              subst (λ (w : State K V S). InEvent log event [] 0 outcome.Goes calls w) (sym came.2) (record {
+              subst (λ (w : State K V S). InEvent log event [] 0 at_rest calls w) (sym came.2) (record {
                 known = so.names;
                 before = x.history;
                 grouping = so.grouping;
@@ -207,7 +207,7 @@ module _ {K V S : Type 0} (same : K → K → Bool) (by_hasher : S → K → ℕ
                 history = refl;
                 effects = refl;
                 counts = refl;
-                comes = tt;
+                comes = inl refl;
                 deeds = tt;
                 callers = callers_asked so.names x calls place d at came.0 came.1 so.callers;
                 fresh = λ n l. so.fresh n (omega (arith, l));
@@ -243,9 +243,9 @@ module _ {K V S : Type 0} (same : K → K → Bool) (by_hasher : S → K → ℕ
           (known old.logged.notes) there in
           let p0 : Scheduler K V S = record old { logged = it.asked } in
           let began = subst (λ (k : Known). Reach same by_hasher old.logged.executor.hasher old.logged.executor.batch_size old.logged.executor.roots (shards_of terms)
-          (λ (x : State K V S). InEvent log ev [] 0 outcome.Goes old.calls x) it.asked.executor k) (ap known (sym it.notes)) asked.0 in
+          (λ (x : State K V S). InEvent log ev [] 0 at_rest old.calls x) it.asked.executor k) (ap known (sym it.notes)) asked.0 in
           let done = walked_by same by_hasher (shards_of terms) log ev place it.caller.number it.caller.map own (λ names called. called) old.logged.executor.hasher old.logged.executor.batch_size old.logged.executor.roots course
-          it.steps played.steps played.outcome it.mid played.effects.items p0 it.led new outcome.Goes it.steps_are it.walked it.last
+          it.steps played.steps played.outcome it.mid played.effects.items p0 it.led new at_rest it.steps_are it.walked it.last
           (record { caller = it.caller; at = it.at; name = ap (λ (c : Caller V). c.name) one ∙ here.named; number = refl; map = refl; works = asked.1 }) began in
           reach_so same by_hasher old.logged.executor.hasher old.logged.executor.batch_size old.logged.executor.roots (shards_of terms)
           (λ (x : State K V S). InEvent log ev played.effects.items played.steps played.outcome new.calls x) (PlaysSo (entry_of ev played ∷ log) new.calls)
@@ -255,5 +255,5 @@ module _ {K V S : Type 0} (same : K → K → Bool) (by_hasher : S → K → ℕ
       by : (o : Option ℕ) → ready_place own old.calls ≡ o → After
       by None is =
           let n = took.1 is in
-          did_nothing ev played old new same by_hasher n.1 n.2 (ap (λ (p : Scheduler K V S). p.logged) n.3) (ap (λ (p : Scheduler K V S). p.calls) n.3) terms log stands in_turn next next2 at
+          did_nothing ev played old new same by_hasher n.1 n.2 (ap (λ (p : Scheduler K V S). p.logged) n.3) (ap (λ (p : Scheduler K V S). p.calls) n.3) (λ m there. inl (ap refuses n.0)) terms log stands in_turn next next2 at
       by (Some place) is = walked place (sym is) (took.0 place (sym is))

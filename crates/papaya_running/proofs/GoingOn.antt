@@ -1,15 +1,19 @@
 -- By each kind of event the list of acts goes on; and where events are kept out it is as it was.
-use Rattle.std.specs.Prelude.{◌≤◌, ◌⊎◌, ◌^◌, length, Result, Ok, Err, IfOk}
-use Rattle.std.proofs.Common.{◌≡◌, ℕ, Bool, true, false, List, [], ◌∷◌, refl, sym, ap, subst, arith, ◌∙◌}
+use Rattle.std.specs.Prelude.{◌≤◌, ◌⊎◌, ◌^◌, length, Result, Ok, Err, IfOk, Option, Some, None, MatchOption}
+use Rattle.std.proofs.Common.{◌≡◌, ℕ, Bool, true, false, List, [], ◌∷◌, inl, inr, refl, sym, ap, subst, arith, ◌∙◌}
+use Rattle.seize_words.specs.declared.fault.Fault.{Fault}
 use Rattle.seize_words.specs.declared.fault.Fault.TheVariants.{Busy}
+use Rattle.papaya_runs.specs.Runs.{map_fault}
 use Rattle.papaya_schedules.specs.declared.call.Call.{Call}
 use Rattle.papaya_schedules.specs.declared.call.Reply.{Reply}
 use Rattle.papaya_schedules.specs.declared.event.Event.{Event}
 use Rattle.papaya_schedules.specs.declared.event.Event.TheVariants as event
+use Rattle.papaya_schedules.specs.declared.outcome.Outcome.{Outcome}
 use Rattle.papaya_schedules.specs.declared.outcome.Outcome.TheVariants.{Done, Goes, Refused}
 use Rattle.papaya_schedules.specs.After.{moment}
 use Rattle.papaya_schedules.specs.Entry.{Entry}
 use Rattle.papaya_schedules.specs.Coming.{fits_reply, shows_now}
+use Rattle.papaya_schedules.specs.InTurn.{IsKeptOut}
 use Rattle.papaya_schedules.specs.Terms.{Terms}
 use Rattle.papaya_schedules.specs.Views.{call_of}
 use Rattle.papaya_raw.specs.Given.Tables.declared.resize_mode.ResizeMode.{ResizeMode}
@@ -24,6 +28,7 @@ use Rattle.papaya_stepping.specs.Stepping.{TookNext, TookSteps, TookWhole}
 use Rattle.papaya_events.specs.Asked.{MayHappenDue}
 use Rattle.papaya_events.specs.Given.Executor.IsThere.{KeepsGiven}
 use Rattle.papaya_events.proofs.OfCalls.Happens.{either, in_turn_comes}
+use Rattle.papaya_grouped.specs.Grouping.{acts_on_none, refuses}
 use Rattle.papaya_grouped.proofs.Midst.{maps_of}
 use Rattle.papaya_pieced.proofs.AllDone.{close_goes_on, reclaim_goes_on}
 use Rattle.papaya_pieced.proofs.Begun.{begin_goes_on, whole_goes_on}
@@ -148,22 +153,31 @@ module _ {K V S : Type 0} (same : K → K → Bool) (by_hasher : S → K → ℕ
       (stays hash terms log due) at))
 
   -- an event that does nothing
-  pub nothing_acts : (form : Event K V) → its ≡ form → (played : Played V) → played.steps ≡ 0 → played.effects.items ≡ [] → new.logged ≡ old.logged → new.calls ≡ old.calls → Due its played
-  nothing_acts form is played steps none logged calls = form_so form is played (λ lawful few. did_nothing form played old new same by_hasher steps none logged calls)
+  pub nothing_acts : (form : Event K V) → its ≡ form → (played : Played V) → played.steps ≡ 0 → played.effects.items ≡ [] → new.logged ≡ old.logged → new.calls ≡ old.calls → acts_on_none form ≡ true → Due its played
+  nothing_acts form is played steps none logged calls kind = form_so form is played (λ lawful few. did_nothing form played old new same by_hasher steps none logged calls (λ m there. inr (inl kind)))
 
   -- so where it shows the shape of a map
   pub nothing_acts_if : {X : Type 0} (form : Event K V) → its ≡ form → (result : Result (Played V) X) → IfOk result (λ played. played.steps ≡ 0)
-      → IfOk result (λ played. (new.calls ≡ old.calls) × DidNothing played old new) → IfOk result (λ played. Due its played)
-  nothing_acts_if form is (Ok played) steps works = nothing_acts form is played steps works.1.0 works.1.1 works.0
-  nothing_acts_if form is (Err x) steps works = tt
+      → IfOk result (λ played. (new.calls ≡ old.calls) × DidNothing played old new) → acts_on_none form ≡ true → IfOk result (λ played. Due its played)
+  nothing_acts_if form is (Ok played) steps works kind = nothing_acts form is played steps works.1.0 works.1.1 works.0 kind
+  nothing_acts_if form is (Err x) steps works kind = tt
+
+  -- one that is kept out is refused
+  making_refuses : (o : Option Fault) (outcome : Outcome V) → MatchOption o (outcome ≡ Refused Busy) (λ fault. outcome ≡ Refused fault) → refuses outcome ≡ true
+  making_refuses None outcome is = ap refuses is
+  making_refuses (Some fault) outcome is = ap refuses is
+
+  kept_refuses : (e : Event K V) (outcome : Outcome V) → IsKeptOut e outcome → refuses outcome ≡ true
+  kept_refuses (event.MakeMap name mode capacity) outcome is = making_refuses (map_fault mode capacity) outcome is
+  kept_refuses _ outcome is = ap refuses is
 
   -- An event that is in turn goes on so, if the log is not closed; and one that is kept out does nothing.
   pub in_turn_acts : {X : Type 0} (result : Result (Played V) X) → old.is_closed ≡ false → IfOk result (λ played. Due its played) → IfOk result (λ played. GoesOnAt same by_hasher its played old new)
   in_turn_acts (Ok played) is_open due = λ lawful few terms log stands next next2 at. due lawful few terms log stands (stands.closed ∙ is_open) next next2 at
   in_turn_acts (Err x) is_open due = tt
 
-  pub out_acts : (played : Played V) (mapped : Bool) → played.steps ≡ 0 → played.effects.items ≡ [] → new ≡ record old { is_mapped = mapped } → GoesOnAt same by_hasher its played old new
-  out_acts played mapped steps none is = λ lawful few terms log stands next next2 at.
+  pub out_acts : (played : Played V) (mapped : Bool) → IsKeptOut its played.outcome → played.steps ≡ 0 → played.effects.items ≡ [] → new ≡ record old { is_mapped = mapped } → GoesOnAt same by_hasher its played old new
+  out_acts played mapped out steps none is = λ lawful few terms log stands next next2 at.
       (let logged : new.logged ≡ old.logged = ap (λ (p : Scheduler K V S). p.logged) is in
       let calls : new.calls ≡ old.calls = ap (λ (p : Scheduler K V S). p.calls) is in
       quiet_acts logged calls terms log next next2 at)
@@ -175,4 +189,4 @@ module _ {K V S : Type 0} (same : K → K → Bool) (by_hasher : S → K → ℕ
           let count : length new.logged.executor.maps.items ≡ length old.logged.executor.maps.items = ap (λ l. length l.executor.maps.items) logged in
           subst (λ l. ActsSoFar same by_hasher terms (entry_of its played ∷ log) l new.calls) (sym logged)
           (subst (λ c. ActsSoFar same by_hasher terms (entry_of its played ∷ log) old.logged c) (sym calls)
-          (quiet_goes_on same by_hasher terms log old.logged old.calls (entry_of its played) steps none (omega (arith, count, next, next2)) at))
+          (quiet_goes_on same by_hasher terms log old.logged old.calls (entry_of its played) steps none (omega (arith, count, next, next2)) (inl (kept_refuses its played.outcome out)) at))

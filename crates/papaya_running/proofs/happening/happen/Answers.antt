@@ -45,7 +45,7 @@ returns-then-scheduler g c =
           kept_out g.K.PartialEq.eq (g.S.Hashes.hash c.args.scheduler.now.logged.executor.hasher) c.args.event c.args.scheduler.now c.refuse.new.self c.refuse.result c.refuse.ensures.outcome c.refuse.ensures.effects c.refuse.ensures.mapped;
       setups = setup_out g.K.PartialEq.eq (g.S.Hashes.hash c.args.scheduler.now.logged.executor.hasher) c.args.event c.args.scheduler.now c.refuse.new.self _ c.refuse.ensures.mapped c.refuse.result c.refuse.ensures.effects;
       all = all_out g.K.PartialEq.eq (g.S.Hashes.hash c.args.scheduler.now.logged.executor.hasher) c.args.event c.args.scheduler.now c.refuse.new.self _ c.refuse.ensures.mapped c.refuse.result c.refuse.ensures.outcome c.refuse.ensures.effects;
-      acts = out_acts g.K.PartialEq.eq g.S.Hashes.hash c.args.event c.args.scheduler.now c.refuse.new.self c.refuse.result _ c.refuse.ensures.steps c.refuse.ensures.effects c.refuse.ensures.mapped;
+      acts = out_acts g.K.PartialEq.eq g.S.Hashes.hash c.args.event c.args.scheduler.now c.refuse.new.self c.refuse.result _ c.refuse.ensures.outcome c.refuse.ensures.steps c.refuse.ensures.effects c.refuse.ensures.mapped;
     }
 
 pub of_calls-requires : goal.of_calls-requires

@@ -137,7 +137,7 @@ pub returns-in-EndMap-clause-acts : goal.returns-in-EndMap-clause-acts
 returns-in-EndMap-clause-acts g c = end_acts g.K.PartialEq.eq g.S.Hashes.hash (event_of_maps c.args.event) c.args.scheduler.now c.end_map.new.scheduler _ (ap event_of_maps c.in-EndMap.is) c.end_map.result c.end_map.ensures.steps c.end_map.ensures.works c.end_map.ensures.given
 
 pub returns-in-ShowShape-clause-acts : goal.returns-in-ShowShape-clause-acts
-returns-in-ShowShape-clause-acts g c = nothing_acts_if g.K.PartialEq.eq g.S.Hashes.hash (event_of_maps c.args.event) c.args.scheduler.now c.args.scheduler.now _ (ap event_of_maps c.in-ShowShape.is) c.show_shape.result c.show_shape.ensures.steps c.show_shape.ensures.works
+returns-in-ShowShape-clause-acts g c = nothing_acts_if g.K.PartialEq.eq g.S.Hashes.hash (event_of_maps c.args.event) c.args.scheduler.now c.args.scheduler.now _ (ap event_of_maps c.in-ShowShape.is) c.show_shape.result c.show_shape.ensures.steps c.show_shape.ensures.works refl
 
 pub returns-in-ReclaimAll-clause-acts : goal.returns-in-ReclaimAll-clause-acts
 returns-in-ReclaimAll-clause-acts g c = reclaim_acts g.K.PartialEq.eq g.S.Hashes.hash (event_of_maps c.args.event) c.args.scheduler.now c.reclaim_all.new.scheduler (ap event_of_maps c.in-ReclaimAll.is) c.requires c.reclaim_all.result c.reclaim_all.ensures.steps c.reclaim_all.ensures.works c.reclaim_all.ensures.given

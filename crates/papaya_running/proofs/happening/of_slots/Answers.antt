@@ -224,10 +224,10 @@ pub returns-in-Choose-clause-acts : goal.returns-in-Choose-clause-acts
 returns-in-Choose-clause-acts g c = choice_acts g.K.PartialEq.eq g.S.Hashes.hash (event_of_slots c.args.event) c.args.scheduler.now c.choose.new.self _ (ap event_of_slots c.in-Choose.is) c.choose.result c.choose.ensures.steps c.choose.ensures.works
 
 pub returns-in-Collector-clause-acts : goal.returns-in-Collector-clause-acts
-returns-in-Collector-clause-acts g c = nothing_acts g.K.PartialEq.eq g.S.Hashes.hash (event_of_slots c.args.event) c.args.scheduler.now c.args.scheduler.now _ (ap event_of_slots c.in-Collector.is) c.collector.result c.collector.ensures.steps c.collector.ensures.works.1.0 c.collector.ensures.works.1.1 c.collector.ensures.works.0
+returns-in-Collector-clause-acts g c = nothing_acts g.K.PartialEq.eq g.S.Hashes.hash (event_of_slots c.args.event) c.args.scheduler.now c.args.scheduler.now _ (ap event_of_slots c.in-Collector.is) c.collector.result c.collector.ensures.steps c.collector.ensures.works.1.0 c.collector.ensures.works.1.1 c.collector.ensures.works.0 refl
 
 pub returns-in-Hash-clause-acts : goal.returns-in-Hash-clause-acts
-returns-in-Hash-clause-acts g c = nothing_acts g.K.PartialEq.eq g.S.Hashes.hash (event_of_slots c.args.event) c.args.scheduler.now c.args.scheduler.now _ (ap event_of_slots c.in-Hash.is) c.hash.result c.hash.ensures.steps c.hash.ensures.works.1.0 c.hash.ensures.works.1.1 c.hash.ensures.works.0
+returns-in-Hash-clause-acts g c = nothing_acts g.K.PartialEq.eq g.S.Hashes.hash (event_of_slots c.args.event) c.args.scheduler.now c.args.scheduler.now _ (ap event_of_slots c.in-Hash.is) c.hash.result c.hash.ensures.steps c.hash.ensures.works.1.0 c.hash.ensures.works.1.1 c.hash.ensures.works.0 refl
 
 pub returns-in-Forget-clause-acts : goal.returns-in-Forget-clause-acts
-returns-in-Forget-clause-acts g c = nothing_acts g.K.PartialEq.eq g.S.Hashes.hash (event_of_slots c.args.event) c.args.scheduler.now c.forget.new.self _ (ap event_of_slots c.in-Forget.is) c.forget.result c.forget.ensures.steps c.forget.ensures.works.1.0 c.forget.ensures.works.1.1 c.forget.ensures.works.0
+returns-in-Forget-clause-acts g c = nothing_acts g.K.PartialEq.eq g.S.Hashes.hash (event_of_slots c.args.event) c.args.scheduler.now c.forget.new.self _ (ap event_of_slots c.in-Forget.is) c.forget.result c.forget.ensures.steps c.forget.ensures.works.1.0 c.forget.ensures.works.1.1 c.forget.ensures.works.0 refl
