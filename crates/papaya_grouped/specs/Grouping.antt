@@ -27,6 +27,16 @@ number_called own names = option_map (λ it. it.1) (find (λ it. is_same it.0 ow
 abbrev pub without_number : ℕ → Names → Names
 without_number i names = filter (λ it. not (it.1 == i)) names
 
+-- whether an event was refused; and whether its call stands where it asks, or is ready
+abbrev pub refuses : {V : Type 0} → Outcome V → Bool
+refuses (outcome.Refused fault) = true
+refuses _ = false
+
+abbrev pub stands_still : {V : Type 0} → Outcome V → Bool
+stands_still (outcome.Asks question) = true
+stands_still outcome.Ready = true
+stands_still _ = false
+
 module _ {K V : Type 0} where
   -- whose call an event begins, if it begins one
   abbrev pub beginner_of : Event K V → List ℕ
@@ -102,10 +112,6 @@ module _ {K V : Type 0} where
   steps_in piece = length (filter (λ x. is_step x.deed) piece)
 
   -- Which events have no act: it is refused; its call asks, or is ready, as before; it acts on no memory, or gives it a choice; or other guards are on its slot.
-  abbrev pub refuses : Outcome V → Bool
-  refuses (outcome.Refused fault) = true
-  refuses _ = false
-
   abbrev pub acts_on_none : Event K V → Bool
   acts_on_none (event.Collector setup) = true
   acts_on_none (event.Hash by) = true
@@ -118,11 +124,6 @@ module _ {K V : Type 0} where
   asks_for_steps (event.Step caller refuse) = true
   asks_for_steps (event.Go caller refuse) = true
   asks_for_steps _ = false
-
-  abbrev pub stands_still : Outcome V → Bool
-  stands_still (outcome.Asks question) = true
-  stands_still outcome.Ready = true
-  stands_still _ = false
 
   abbrev pub IsShared : Moment K V → Event K V → Type 0
   IsShared m (event.Unregister registration) =
