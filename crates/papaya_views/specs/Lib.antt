@@ -1,0 +1,4 @@
+pub mod Looks
+pub mod Rule
+pub mod Told
+pub mod Promises

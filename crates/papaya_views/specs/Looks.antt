@@ -1,0 +1,8 @@
+-- What a step looks at once its operation is answered, as a list of blocks with their values.
+use Rattle.std.specs.Prelude.{ℕ, ◌==◌, List, [], ◌∷◌, Option, Some, None, if◌then◌else◌}
+
+module _ {T : Type 0} where
+  -- the value of a block, as the list has it
+  abbrev pub shown_in : List (ℕ × T) → ℕ → Option T
+  shown_in [] b = None
+  shown_in (look ∷ looks) b = if b == look.0 then Some look.1 else shown_in looks b
