@@ -1,0 +1,6 @@
+pub mod Numbers
+mod Quiet
+mod Sections
+mod Looked
+mod Starts
+mod Calls
