@@ -3,4 +3,5 @@ mod Quiet
 mod Sections
 mod Looked
 mod Starts
+mod Next
 mod Calls

@@ -5,6 +5,7 @@ use Rattle.papaya_scenes.specs.Given.Seize.World.{World, Use, Rests, IsInside}
 use Rattle.papaya_scenes.specs.Given.Tables.declared.node.Node.{Node}
 use Rattle.papaya_scenes.specs.Given.Resize.declared.new_map.NewMap.{NewMap}
 use Rattle.papaya_scenes.specs.Given.Raw.declared.machines.machine.Machine.{Machine}
+use Rattle.papaya_scenes.specs.Given.Callers.Rows.{IsUsedAlike}
 use Rattle.papaya_scenes.specs.Given.Callers.Together.{UnderWay}
 use Rattle.papaya_scenes.specs.Given.Finishes.Machines.{machine_of}
 use Rattle.papaya_scenes.specs.Given.Finishes.Makings.{Beginning}
@@ -14,7 +15,7 @@ use Rattle.papaya_scenes.specs.declared.callers.TheConstants.{SLOTS}
 use Rattle.papaya_acts.specs.Doings.{Doing, Stage, reclaiming}
 use Rattle.papaya_acts.specs.Lists.{Course, Reached, LedTo}
 use Rattle.seize_seats.specs.State.{State, view_of}
-use Rattle.seize_views.specs.Rows.{row_of, use_of, IsUsed, Keeps}
+use Rattle.seize_views.specs.Rows.{row_of, use_of, Keeps}
 use Rattle.seize_views.specs.declared.view.Fixed.{Fixed}
 use Rattle.seize_views.specs.declared.view.Has.TheVariants.{Nothing as NoBlock}
 use Rattle.seize_views.specs.declared.view.View.{View as SlotView}
@@ -48,6 +49,11 @@ pub record MapsWorld (K V S : Type 0) : Type 0 where
   pub doings : List (Doing K V S)
   pub scene : Scene K V
 
+-- the slot is used so, if one is held, however many rows work on it
+abbrev pub IsUsedSo : {T : Type 0} → World T → Option (ℕ × Use) → Type 0
+IsUsedSo w None = Unit {0}
+IsUsedSo w (Some slot) = IsUsedAlike slot.1 (w.uses slot.0)
+
 module _ {K V : Type 0} where
   -- a caller has nothing under way
   pub record IsIdle (s : Scene K V) (i : ℕ) : Type 0 where
@@ -74,7 +80,7 @@ module _ {K V : Type 0} where
   -- nothing but this row, and its slot is used so
   pub record HasRow (s : Scene K V) (i : ℕ) (v : SlotView (Node K V)) : Type 0 where
     pub row : s.world.row i ≡ row_of v
-    pub slot : IsUsed s.world (use_of v)
+    pub slot : IsUsedSo s.world (use_of v)
     pub calls : (n : ℕ) → s.calls n i ≡ None
     pub makers : s.makers i ≡ None
     pub enders : s.enders i ≡ None

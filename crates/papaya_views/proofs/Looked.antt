@@ -1,0 +1,79 @@
+-- What a step looks at, in the memory to which its operation has led, as a list: by that it comes to the same.
+use Rattle.std.specs.Prelude.{◌≢◌, Option, Some, None, ◌==◌, if◌then◌else◌}
+use Rattle.std.proofs.Common.{◌≡◌, ℕ, Bool, true, false, List, [], ◌∷◌, ◌⊎◌, inl, inr, refl, sym, subst, ap, ◌∙◌}
+use Rattle.std.proofs.lemmas.Bool.{cases_eq, eq-eqb, ne_eqb}
+use Rattle.seize_words.specs.Mem.{Mem, Can, Took, value_at}
+use Rattle.seize_words.specs.Op.{Op, Out}
+use Rattle.seize_words.specs.Plan.{Plan, Then, Turn, Do, Now, Seeing, Sure, Ends, May, Steps}
+use Rattle.seize_acts.proofs.Answers.{same_some, ended}
+use Rattle.seize_acts.proofs.Steps.{sees_end}
+use Rattle.seize_views.specs.Promises.{op_in}
+use Rattle.seize_views.specs.Told.{FollowsBy}
+use Rattle.papaya_views.specs.Looks.{shown_in}
+
+module _ {T : Type 0} where
+  -- what the list shows is so
+  abbrev IsSo : (ℕ → Option T) → List (ℕ × T) → Type 0
+  IsSo shown looks = (b : ℕ) (x : T) → shown_in looks b ≡ Some x → shown b ≡ Some x
+
+  -- one block more
+  one_more : (shown : ℕ → Option T) (looks : List (ℕ × T)) (b : ℕ) (x : T) → shown b ≡ Some x → IsSo shown looks → IsSo shown ((b, x) ∷ looks)
+  one_more shown looks b x is so c y e = by (cases_eq c b)
+    where
+      by : (c ≡ b) ⊎ (c ≢ b) → shown c ≡ Some y
+      by (inl same) =
+          let here : shown_in ((b, x) ∷ looks) c ≡ Some x = ap (λ (k : Bool). if k then Some x else shown_in looks c) (eq-eqb c b same) in
+          ap shown same ∙ is ∙ sym here ∙ e
+      by (inr other) =
+          so c y (sym (ap (λ (k : Bool). if k then Some x else shown_in looks c) (ne_eqb c b other)) ∙ e)
+
+  -- what was shown is shown on, with one block more
+  shown_on : (shown : ℕ → Option T) (looks : List (ℕ × T)) (b : ℕ) (x : T) → shown b ≡ Some x → IsSo shown looks → (c : ℕ) (y : T) → shown_in looks c ≡ Some y
+      → shown_in ((b, x) ∷ looks) c ≡ Some y
+  shown_on shown looks b x is so c y e = by (cases_eq c b)
+    where
+      by : (c ≡ b) ⊎ (c ≢ b) → shown_in ((b, x) ∷ looks) c ≡ Some y
+      by (inl same) =
+          ap (λ (k : Bool). if k then Some x else shown_in looks c) (eq-eqb c b same) ∙ sym is ∙ sym (ap shown same) ∙ so c y e
+      by (inr other) = ap (λ (k : Bool). if k then Some x else shown_in looks c) (ne_eqb c b other) ∙ e
+
+module _ {T R : Type 0} where
+  ends_on : (shown other : ℕ → Option T) → ((c : ℕ) (y : T) → shown c ≡ Some y → other c ≡ Some y) → (rest : Then T R) (end : R) → Ends shown rest end → Ends other rest end
+  ends_on shown other on (Now x) end e = e
+  ends_on shown other on (Seeing block rest) end e = (e.0, on block e.0 e.1, ends_on shown other on (rest e.0) end e.2)
+  ends_on shown other on (Sure fact rest) end e = ends_on shown other on rest end e
+
+  pub looked : (shown : ℕ → Option T) (rest : Then T R) (end : R) → Ends shown rest end → (looks : List (ℕ × T)) × IsSo shown looks × Ends (shown_in looks) rest end
+  looked shown (Now x) end e = ([], λ b y none. absurd (cc none), e)
+  looked shown (Seeing block rest) end e =
+      let l = looked shown (rest e.0) end e.2 in (
+        (block, e.0) ∷ l.0,
+        one_more shown l.0 block e.0 e.1 l.1,
+        (
+          e.0,
+          ap (λ (k : Bool). if k then Some e.0 else shown_in l.0 block) (eq-eqb block block refl),
+          ends_on (shown_in l.0) (shown_in ((block, e.0) ∷ l.0)) (shown_on shown l.0 block e.0 e.1 l.1) (rest e.0) end l.2,
+        ),
+      )
+  looked shown (Sure fact rest) end e = looked shown rest end e
+
+  -- What may be done, and is an operation, may be made; and whatever it has led to the step comes to an end, which it comes to by a list of what it looks at.
+  pub record Made (m : Mem T) (plan : Plan T R) (out : Out T) (n : Mem T) : Type 0 where
+    pub end : R
+    pub steps : Steps Took value_at m plan n end
+    pub looks : List (ℕ × T)
+    pub so : (b : ℕ) (x : T) → shown_in looks b ≡ Some x → value_at n b ≡ Some x
+    pub follows : FollowsBy (shown_in looks) plan out end
+
+  pub may_op : (m : Mem T) (plan : Plan T R) (op : Op T) → op_in plan ≡ Some op → May Can Took value_at m plan
+      → Can m op × ((out : Out T) (n : Mem T) → Took m op out n → Made m plan out n)
+  may_op m (Turn rest) op e may = absurd (cc e)
+  may_op m (Do o rest) op e may =
+      subst (λ (x : Op T). Can m x × ((out : Out T) (n : Mem T) → Took m x out n → Made m (Do o rest) out n)) (same_some o op e) (
+        may.0,
+        λ out n took.
+            let s = sees_end (value_at n) (rest out) (may.1 out n took) in
+            let ends = ended (value_at n) (rest out) s.0 s.1 in
+            let l = looked (value_at n) (rest out) s.0 ends in
+            record { end = s.0; steps = (out, took, ends); looks = l.0; so = l.1; follows = l.2 },
+      )
