@@ -1,12 +1,11 @@
 -- The next operation of a call that is under way may be made at any moment: it is that of an act, and the rule holds where that leads.
 use Rattle.std.specs.Prelude.{◌≢◌, ◌++◌, Option, Some, None, slice_get, slice_set}
 use Rattle.std.specs.Option.{is_none}
-use Rattle.std.proofs.Common.{◌≡◌, ℕ, Bool, true, false, [], ◌∷◌, ◌⊎◌, inl, inr, refl, sym, subst, ap, ◌∙◌}
+use Rattle.std.proofs.Common.{◌≡◌, ℕ, Bool, [], ◌∷◌, ◌⊎◌, inl, inr, refl, sym, subst, ap, ◌∙◌}
 use Rattle.std.proofs.lemmas.Bool.{cases_eq}
 use Rattle.papaya_scenes.specs.Given.SeizeWords.Mem.{Mem, Can, Took, value_at}
 use Rattle.papaya_scenes.specs.Given.SeizeWords.Op.{Op, Out}
 use Rattle.papaya_scenes.specs.Given.SeizeWords.Plan.{Plan, Steps, May}
-use Rattle.papaya_scenes.specs.Given.Seize.Law.{holds, is_over}
 use Rattle.papaya_scenes.specs.Given.Seize.World.{Use, IsInside}
 use Rattle.papaya_scenes.specs.Given.Tables.Nodes.{deferred_word}
 use Rattle.papaya_scenes.specs.Given.Tables.declared.node.Node.{Node}
@@ -26,7 +25,6 @@ use Rattle.papaya_acts.proofs.Lists.{steps_are_acts}
 use Rattle.seize_acts.specs.Answers.{Grant, then_on}
 use Rattle.seize_acts.proofs.Answers.{same_some}
 use Rattle.seize_seats.specs.State.{State, view_of, Goes}
-use Rattle.seize_views.specs.Promises.{op_in}
 use Rattle.seize_views.specs.Rows.{use_of}
 use Rattle.seize_views.specs.Told.{FollowsBy}
 use Rattle.seize_views.specs.declared.view.Fixed.{Fixed}
@@ -36,7 +34,7 @@ use Rattle.seize_views.specs.declared.view.View.TheVariants as slot_view
 use Rattle.seize_views.proofs.Lists.{there, elsewhere}
 use Rattle.papaya_views.specs.Looks.{shown_in}
 use Rattle.papaya_views.specs.Promises.{CallsGoOn}
-use Rattle.papaya_views.specs.Rule.{MapsWorld, HasCall, IsSlot, IsIdle, DoesSo, KnowsMap, Fits, AreSo, Holds, KeepsFor, caller_at, place_of}
+use Rattle.papaya_views.specs.Rule.{MapsWorld, IsSlot, IsIdle, DoesSo, KnowsMap, Fits, AreSo, Holds, KeepsFor, caller_at, place_of}
 use Rattle.papaya_views.specs.Told.{call_after, called, told, told_by}
 use Rattle.papaya_views.specs.declared.view.Map.{Map}
 use Rattle.papaya_views.specs.declared.view.View.{View}
@@ -48,22 +46,16 @@ use Rattle.papaya_views.proofs.Quiet.{Stayed}
 use Rattle.papaya_views.proofs.Sections.{calls_leave_sections}
 
 -- a pair is known by what it is
-pair_is : {A B : Type 0} (x y : A × B) → x ≡ y → (x.0 ≡ y.0) × (x.1 ≡ y.1)
-pair_is x y e = (ap (λ (p : A × B). p.0) e, ap (λ (p : A × B). p.1) e)
+pair_is : (A B : Type 0) (x y : A × B) → x ≡ y → (x.0 ≡ y.0) × (x.1 ≡ y.1)
+pair_is A B x y e = (ap (λ (p : A × B). p.0) e, ap (λ (p : A × B). p.1) e)
 
 module _ {K V S : Type 0} (same : K → K → Bool) (hash : S → K → ℕ) (fixed : Fixed) where
-  abbrev St : Type 0
-  St = State (Node K V) (View K V S) (MapsWorld K V S)
-
-  abbrev size : ℕ
-  size = fixed.batch_size
-
-  module _ (s : St) (h : Holds same hash fixed s) (id : ℕ) (v : View K V S) (at_id : view_of s id ≡ Some v) (map : Map S) (machine : Machine K V K)
+  module _ (s : State (Node K V) (View K V S) (MapsWorld K V S)) (h : Holds same hash fixed s) (id : ℕ) (v : View K V S) (at_id : view_of s id ≡ Some v) (map : Map S) (machine : Machine K V K)
       (knows : v.map ≡ Some map) (works : v.work ≡ Calls machine) where
     abbrev scene : Scene K V
     scene = h.reached.0.0
 
-    all : AllStand same hash size fixed.roots slot_of scene
+    all : AllStand same hash fixed.batch_size fixed.roots slot_of scene
     all = h.reached.0.1
 
     so : AreSo same hash s scene
@@ -90,7 +82,7 @@ module _ {K V S : Type 0} (same : K → K → Bool) (hash : S → K → ℕ) (fi
         does.1 ∙ ap (λ (a : ℕ). slot_view.Inside a NoBlock) (sym same_place)
 
     inside : IsInside (scene.world.uses place)
-    inside = inside_of same hash size fixed.roots scene id place v NoBlock fits slot_is
+    inside = inside_of same hash fixed.batch_size fixed.roots scene id place v NoBlock fits slot_is
 
     abbrev i : ℕ
     i = caller_at id place
@@ -105,8 +97,8 @@ module _ {K V S : Type 0} (same : K → K → Bool) (hash : S → K → ℕ) (fi
     plan_was : (P : (K → ℕ) → Machine K V K → Type 0) → P (hash map.hasher) machine → P it.0.hash (machine_of does.3.call)
     plan_was P p = subst (λ (f : K → ℕ). P f (machine_of does.3.call)) (sym it.3) (subst (λ (x : Machine K V K). P (hash map.hasher) x) (sym does.3.is) p)
 
-    acts : AllMayStep V same hash size fixed.roots slot_of scene × AllAreActs V same hash size fixed.roots slot_of scene
-    acts = steps_are_acts {V = V} same hash size fixed.roots slot_of scene all
+    acts : AllMayStep V same hash fixed.batch_size fixed.roots slot_of scene × AllAreActs V same hash fixed.batch_size fixed.roots slot_of scene
+    acts = steps_are_acts {V = V} same hash fixed.batch_size fixed.roots slot_of scene all
 
     may : May Can Took value_at scene.world.memory step_plan
     may =
@@ -115,7 +107,7 @@ module _ {K V S : Type 0} (same : K → K → Bool) (hash : S → K → ℕ) (fi
 
     -- what the memory took is an act
     module _ (out : Out (Node K V)) (m2 : Mem (Node K V)) (made : Made scene.world.memory step_plan out m2) where
-      granted : (g : Grant) × (call_steps same hash size fixed.roots slot_of scene g (it.0, does.3.call) ≡ Some (m2, made.end))
+      granted : (g : Grant) × (call_steps same hash fixed.batch_size fixed.roots slot_of scene g (it.0, does.3.call) ≡ Some (m2, made.end))
       granted =
           acts.1.calls map.number i it.0 does.3.call it.1 does.3.here m2 made.end
           (plan_was (λ (f : K → ℕ) (x : Machine K V K). Steps Took value_at scene.world.memory (machine_plan same same f x) m2 made.end) made.steps)
@@ -125,51 +117,51 @@ module _ {K V S : Type 0} (same : K → K → Bool) (hash : S → K → ℕ) (fi
           ap (λ (o : Option (Standing K)). then_on o (λ standing. then_on (scene.calls map.number i) (λ u. Some (standing, u)))) it.1
           ∙ ap (λ (o : Option (UnderWay K V K)). then_on o (λ u. Some (it.0, u))) does.3.here
 
-      may_do : MayDo V same hash size fixed.roots slot_of (Does (StepsCall i map.number granted.0)) h.reached.0
+      may_do : MayDo V same hash fixed.batch_size fixed.roots slot_of (Does (StepsCall i map.number granted.0)) h.reached.0
       may_do = (
         ap is_none h.nobody,
-        ap is_none (ap (λ (o : Option (Standing K × UnderWay K V K)). then_on o (call_steps same hash size fixed.roots slot_of scene granted.0)) called_at ∙ granted.1),
+        ap is_none (ap (λ (o : Option (Standing K × UnderWay K V K)). then_on o (call_steps same hash fixed.batch_size fixed.roots slot_of scene granted.0)) called_at ∙ granted.1),
       )
 
-      abbrev led_to : Reached V same hash size fixed.roots slot_of
-      led_to = on_by V same hash size fixed.roots slot_of h.course h.reached (Does (StepsCall i map.number granted.0)) may_do
+      abbrev led_to : Reached V same hash fixed.batch_size fixed.roots slot_of
+      led_to = on_by V same hash fixed.batch_size fixed.roots slot_of h.course h.reached (Does (StepsCall i map.number granted.0)) may_do
 
-      led : LedTo V same hash size fixed.roots slot_of h.course (s.world.doings ++ Does (StepsCall i map.number granted.0) ∷ []) led_to
+      led : LedTo V same hash fixed.batch_size fixed.roots slot_of h.course (s.world.doings ++ Does (StepsCall i map.number granted.0) ∷ []) led_to
       led =
-          led_further V same hash size fixed.roots slot_of h.course s.world.doings (Does (StepsCall i map.number granted.0) ∷ [])
-          (nothing_done V same hash size fixed.roots slot_of h.course) h.reached led_to h.led (may_do, refl)
+          led_further V same hash fixed.batch_size fixed.roots slot_of h.course s.world.doings (Does (StepsCall i map.number granted.0) ∷ [])
+          (nothing_done V same hash fixed.batch_size fixed.roots slot_of h.course) h.reached led_to h.led (may_do, refl)
 
-      done : HasDone V same hash size fixed.roots slot_of (Does (StepsCall i map.number granted.0)) h.reached.0
+      done : HasDone V same hash fixed.batch_size fixed.roots slot_of (Does (StepsCall i map.number granted.0)) h.reached.0
           (h.course.told h.reached.0 (Does (StepsCall i map.number granted.0)) may_do) led_to.0
       done = h.course.leads h.reached.0 (Does (StepsCall i map.number granted.0)) may_do
 
-      came : CallCame same hash size fixed.roots slot_of scene i map.number granted.0 (h.course.told h.reached.0 (Does (StepsCall i map.number granted.0)) may_do) led_to.0.0
+      came : CallCame same hash fixed.batch_size fixed.roots slot_of scene i map.number granted.0 (h.course.told h.reached.0 (Does (StepsCall i map.number granted.0)) may_do) led_to.0.0
       came = done.0
 
       -- and it comes to what was made
-      computed : call_steps same hash size fixed.roots slot_of scene granted.0 (it.0, does.3.call) ≡ Some (came.memory, (came.machine, came.progress))
+      computed : call_steps same hash fixed.batch_size fixed.roots slot_of scene granted.0 (it.0, does.3.call) ≡ Some (came.memory, (came.machine, came.progress))
       computed =
-          ap (λ (x : Standing K). call_steps same hash size fixed.roots slot_of scene granted.0 (x, does.3.call)) (same_some it.0 came.standing (sym it.1 ∙ came.stands))
-          ∙ ap (λ (x : UnderWay K V K). call_steps same hash size fixed.roots slot_of scene granted.0 (came.standing, x))
+          ap (λ (x : Standing K). call_steps same hash fixed.batch_size fixed.roots slot_of scene granted.0 (x, does.3.call)) (same_some it.0 came.standing (sym it.1 ∙ came.stands))
+          ∙ ap (λ (x : UnderWay K V K). call_steps same hash fixed.batch_size fixed.roots slot_of scene granted.0 (came.standing, x))
           (same_some does.3.call came.call (sym does.3.here ∙ came.here))
           ∙ came.computed
 
-      both : (m2, made.end) ≡ (came.memory, (came.machine, came.progress))
+      both : ◌≡◌ {A = Mem (Node K V) × (Machine K V K × Progress (Node K V))} (m2, made.end) (came.memory, (came.machine, came.progress))
       both = same_some (m2, made.end) (came.memory, (came.machine, came.progress)) (sym granted.1 ∙ computed)
 
       memory_is : m2 ≡ came.memory
-      memory_is = (pair_is (m2, made.end) (came.memory, (came.machine, came.progress)) both).0
+      memory_is = (pair_is (Mem (Node K V)) (Machine K V K × Progress (Node K V)) (m2, made.end) (came.memory, (came.machine, came.progress)) both).0
 
       end_is : made.end ≡ (came.machine, came.progress)
-      end_is = (pair_is (m2, made.end) (came.memory, (came.machine, came.progress)) both).1
+      end_is = (pair_is (Mem (Node K V)) (Machine K V K × Progress (Node K V)) (m2, made.end) (came.memory, (came.machine, came.progress)) both).1
 
       abbrev n : Scene K V
-      n = next same hash size fixed.roots scene all id place map.number fits.slot came.standing came.stands came.call came.here inside came.memory came.machine came.progress came.did
+      n = next same hash fixed.batch_size fixed.roots scene all id place map.number fits.slot came.standing came.stands came.call came.here inside came.memory came.machine came.progress came.did
 
       -- what sections hold they hold still
-      left : (a : ℕ) → IsInside (scene.world.uses a) → Stayed (deferred_word {K = K} {V = V}) size scene.world came.did.w2 a
+      left : (a : ℕ) → IsInside (scene.world.uses a) → Stayed (deferred_word {K = K} {V = V}) fixed.batch_size scene.world came.did.w2 a
       left a is =
-          calls_leave_sections same hash size fixed.roots slot_of scene all map.number came.standing came.stands i came.call came.here came.memory came.machine came.progress came.did a is
+          calls_leave_sections same hash fixed.batch_size fixed.roots slot_of scene all map.number came.standing came.stands i came.call came.here came.memory came.machine came.progress came.did a is
 
       abbrev w : View K V S
       w = called v (came.machine, came.progress) made.looks
@@ -186,13 +178,13 @@ module _ {K V S : Type 0} (same : K → K → Bool) (hash : S → K → ℕ) (fi
         does =
             subst (λ (x : SlotView (Node K V)). DoesSo same hash n i x v.map (call_after came.machine came.progress)) (sym slot_is)
             (subst (λ (x : Option (Map S)). DoesSo same hash n i (slot_view.Inside place NoBlock) x (call_after came.machine came.progress)) (sym knows)
-            (own_does same hash size fixed.roots scene all id place map.number fits.slot came.standing came.stands came.call came.here inside came.memory came.machine came.progress came.did
+            (own_does same hash fixed.batch_size fixed.roots scene all id place map.number fits.slot came.standing came.stands came.call came.here inside came.memory came.machine came.progress came.did
             map refl came.progress came.did.goes_on));
         map =
-            map_on same hash size fixed.roots scene all id place map.number fits.slot came.standing came.stands came.call came.here inside came.memory came.machine came.progress came.did
+            map_on same hash fixed.batch_size fixed.roots scene all id place map.number fits.slot came.standing came.stands came.call came.here inside came.memory came.machine came.progress came.did
             v.map fits.map;
         idle =
-            own_idle same hash size fixed.roots scene all id place map.number fits.slot came.standing came.stands came.call came.here inside came.memory came.machine came.progress came.did
+            own_idle same hash fixed.batch_size fixed.roots scene all id place map.number fits.slot came.standing came.stands came.call came.here inside came.memory came.machine came.progress came.did
             fits.idle;
       }
 
@@ -200,13 +192,13 @@ module _ {K V S : Type 0} (same : K → K → Bool) (hash : S → K → ℕ) (fi
       seats j x at (inl e) =
           subst (λ (y : View K V S). Fits same hash n j y) (same_some w x (sym (here j e) ∙ at)) (subst (λ (a : ℕ). Fits same hash n a w) (sym e) own)
       seats j x at (inr ne) =
-          fits_on same hash size fixed.roots scene all id place map.number fits.slot came.standing came.stands came.call came.here inside came.memory came.machine came.progress came.did
+          fits_on same hash fixed.batch_size fixed.roots scene all id place map.number fits.slot came.standing came.stands came.call came.here inside came.memory came.machine came.progress came.did
           j x ne (so.seats j x (before j ne ∙ at))
 
       unborn : (j a : ℕ) → IsSlot a → slice_get (slice_set s.views id w) j ≡ None → (j ≡ id) ⊎ (j ≢ id) → IsIdle n (caller_at j a)
       unborn j a is at (inl e) = let f = here j e in absurd (cc (f, at))
       unborn j a is at (inr ne) =
-          unborn_on same hash size fixed.roots scene all id place map.number fits.slot came.standing came.stands came.call came.here inside came.memory came.machine came.progress came.did
+          unborn_on same hash fixed.batch_size fixed.roots scene all id place map.number fits.slot came.standing came.stands came.call came.here inside came.memory came.machine came.progress came.did
           j a ne is (so.unborn j a is (before j ne ∙ at))
 
       -- a seat has the slot that it had
@@ -225,7 +217,7 @@ module _ {K V S : Type 0} (same : K → K → Bool) (hash : S → K → ℕ) (fi
       kept : (j b : ℕ) (x o : View K V S) → view_of s j ≡ Some x → KeepsFor x o s.world b → KeepsFor x o (record { doings = s.world.doings; scene = n }) b
       kept j b x o at keeps =
           let k = subst (λ (y : Scene K V). KeepsFor x o (record { doings = s.world.doings; scene = y }) b) h.scene keeps in
-          let is = inside_of same hash size fixed.roots scene j k.0 x k.1 (so.seats j x at) k.2 in
+          let is = inside_of same hash fixed.batch_size fixed.roots scene j k.0 x k.1 (so.seats j x at) k.2 in
           let g = (left k.0 is).1 b k.3 k.4 in (k.0, k.1, k.2, g.0, g.1)
 
       told_so : (op : Op (Node K V)) → told same hash v op out w

@@ -1,9 +1,9 @@
 -- Where a step of a call has led, each seat knows what is so.
 use Rattle.std.specs.Prelude.{◌≢◌, Option, Some, None}
-use Rattle.std.proofs.Common.{◌≡◌, ℕ, Bool, true, false, ◌⊎◌, inl, inr, refl, sym, subst, ap, ◌∙◌}
+use Rattle.std.proofs.Common.{◌≡◌, ℕ, Bool, ◌⊎◌, inl, inr, refl, sym, subst, ap, ◌∙◌}
 use Rattle.std.proofs.lemmas.Bool.{cases_eq}
 use Rattle.papaya_scenes.specs.Given.SeizeWords.Mem.{Mem}
-use Rattle.papaya_scenes.specs.Given.Seize.World.{Use, Vacant, Outside, Inside, Changing, IsInside, Rests, with_at}
+use Rattle.papaya_scenes.specs.Given.Seize.World.{Use, Vacant, Outside, Inside, Changing, IsInside, with_at}
 use Rattle.papaya_scenes.specs.Given.Tables.declared.node.Node.{Node}
 use Rattle.papaya_scenes.specs.Given.Raw.declared.machines.machine.Machine.{Machine}
 use Rattle.papaya_scenes.specs.Given.Raw.declared.machines.progress.Progress.{Progress}
@@ -18,18 +18,18 @@ use Rattle.papaya_scenes.proofs.Given.Callers.Together.At.{at_same, at_other}
 use Rattle.papaya_scenes.specs.Scene.{Scene, slot_of}
 use Rattle.papaya_acts.specs.Leads.{AllStand}
 use Rattle.seize_acts.proofs.Answers.{same_some}
-use Rattle.seize_views.specs.Rows.{row_of, use_of}
+use Rattle.seize_views.specs.Rows.{use_of}
 use Rattle.seize_views.specs.declared.view.Has.{Has}
 use Rattle.seize_views.specs.declared.view.Has.TheVariants.{Nothing as NoBlock}
 use Rattle.seize_views.specs.declared.view.View.{View as SlotView}
 use Rattle.seize_views.specs.declared.view.View.TheVariants as slot_view
-use Rattle.papaya_views.specs.Rule.{IsIdle, HasCall, HasMaking, HasRow, IsUsedSo, IsSlot, DoesSo, KnowsMap, Fits, caller_at, place_of}
-use Rattle.papaya_views.specs.Told.{call_after, called}
+use Rattle.papaya_views.specs.Rule.{IsIdle, HasRow, IsUsedSo, IsSlot, DoesSo, KnowsMap, Fits, caller_at, place_of}
+use Rattle.papaya_views.specs.Told.{call_after}
 use Rattle.papaya_views.specs.declared.view.Map.{Map}
 use Rattle.papaya_views.specs.declared.view.View.{View}
 use Rattle.papaya_views.specs.declared.view.Work.{Work}
 use Rattle.papaya_views.specs.declared.view.Work.TheVariants.{Nothing, Calls, Makes}
-use Rattle.papaya_views.proofs.Numbers.{slot_at, seat_apart, slot_apart}
+use Rattle.papaya_views.proofs.Numbers.{seat_apart, slot_apart}
 
 pub stays_inside : (u v : Use) → IsUsedAlike u v → IsInside u → IsInside v
 stays_inside Vacant v is inside = absurd inside

@@ -1,17 +1,17 @@
 -- What ends no section, and no owner: events of users, and steps of rows that retire or defer a block. What sections hold stays.
 use Rattle.std.specs.Prelude.{◌≢◌, ◌++◌, Option, Ok, Err}
-use Rattle.std.proofs.Common.{◌≡◌, ℕ, ◌+◌, Bool, true, false, List, [], ◌∷◌, ◌⊎◌, inl, inr, refl, sym, subst, ap, arith, ◌∙◌}
+use Rattle.std.proofs.Common.{◌≡◌, ℕ, true, false, List, [], ◌∷◌, ◌⊎◌, inl, inr, refl, sym, subst, ap, arith, ◌∙◌}
 use Rattle.std.proofs.lemmas.Bool.{cases_eq}
 use Rattle.seize_alone.specs.Given.SeizeWords.Op.{Out, Found, Stored, Exchanged, Made, Taken, Roomed}
 use Rattle.seize_alone.specs.Given.SeizeWords.Mem.{Mem, value_at}
 use Rattle.seize_alone.specs.Given.Seize.Law.{Effect, Entered, Left, Made as MadeBlock, Linked, Unlinked, Deferred, Retired, Taken as TakenBlock, Dropped, Ended, LeftOver, holds, is_over, owner_of}
 use Rattle.seize_alone.specs.Given.Seize.Sequence.{IsUsers}
-use Rattle.seize_alone.specs.Given.Seize.World.{World, Use, Vacant, Outside, Inside, Changing, Event, Begin, Step, Makes, Drops, Links, Parts, Unlinks, Rewrites, Operates, Ends, LeavesOver, Relinks, Clears, Chooses, Request, Retire, Defer', Steps', Happens, Runs, IsInside, made_by, with_at, one_more}
+use Rattle.seize_alone.specs.Given.Seize.World.{World, Use, Vacant, Outside, Inside, Changing, Event, Begin, Step, Makes, Drops, Links, Parts, Unlinks, Rewrites, Operates, Ends, LeavesOver, Relinks, Clears, Chooses, Request, Retire, Defer', Happens, Runs, IsInside, made_by, with_at, one_more}
 use Rattle.seize_alone.proofs.Given.SeizeMoves.State.Held.{held_on, NoneLeft}
 use Rattle.seize_alone.proofs.Given.SeizeRule.Rows.Others.{with_here, with_other}
 use Rattle.seize_alone.proofs.Histories.Reached.{Reached, happens_reached}
 use Rattle.seize_alone.proofs.Histories.NotTaken.{IsHeld, kept_value, still_held, did}
-use Rattle.seize_acts.specs.Stays.{how_many, is_end_of, is_end_of_owner, GoesOn}
+use Rattle.seize_acts.specs.Stays.{how_many, is_end_of, is_end_of_owner}
 use Rattle.seize_acts.proofs.Stays.{run_stays}
 use Rattle.seize_views.proofs.Steps.{not_over}
 

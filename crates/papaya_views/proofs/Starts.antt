@@ -1,6 +1,6 @@
 -- The rule starts, and seats come.
-use Rattle.std.specs.Prelude.{Option, Some, None}
-use Rattle.std.proofs.Common.{◌≡◌, ℕ, Bool, [], ◌⊎◌, inl, inr, refl, sym, subst, ap, ◌∙◌}
+use Rattle.std.specs.Prelude.{Some, None}
+use Rattle.std.proofs.Common.{◌≡◌, ℕ, Bool, [], ◌⊎◌, inl, inr, refl, subst, ap}
 use Rattle.papaya_scenes.specs.Given.Seize.World.{Use}
 use Rattle.papaya_scenes.specs.Given.Tables.declared.node.Node.{Node}
 use Rattle.papaya_scenes.specs.Scene.{Scene, slot_of, at_first}
@@ -8,10 +8,9 @@ use Rattle.papaya_acts.specs.Lists.{nothing_done}
 use Rattle.papaya_acts.proofs.Lists.{lists_determine}
 use Rattle.seize_seats.specs.State.{State, view_of}
 use Rattle.seize_views.specs.Rows.{use_of}
-use Rattle.seize_views.specs.declared.view.Fixed.{Fixed}
 use Rattle.seize_views.proofs.Lists.{with_last, none_before}
 use Rattle.papaya_views.specs.Promises.{RulesStart, SeatsCome}
-use Rattle.papaya_views.specs.Rule.{MapsWorld, Fits, IsIdle, IsSlot, Holds, caller_at, at_rest}
+use Rattle.papaya_views.specs.Rule.{MapsWorld, Fits, IsIdle, IsSlot, caller_at, at_rest}
 use Rattle.papaya_views.specs.declared.view.View.{View}
 use Rattle.papaya_views.proofs.Numbers.{first_slot}
 

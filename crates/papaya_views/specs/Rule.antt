@@ -1,6 +1,6 @@
 -- The rule of maps: a list of acts has led to a scene, of which the memory is that of the state; and what each seat knows of its slot, of a map and of what it has
 -- under way is so there.
-use Rattle.std.specs.Prelude.{◌≡◌, ◌≢◌, ℕ, ◌+◌, ◌*◌, ◌<◌, Bool, true, false, List, [], ◌∷◌, Option, Some, None, ◌⊎◌}
+use Rattle.std.specs.Prelude.{◌≡◌, ◌≢◌, ℕ, ◌+◌, ◌*◌, ◌<◌, Bool, List, [], Option, Some, None}
 use Rattle.papaya_scenes.specs.Given.Seize.World.{World, Use, Rests, IsInside}
 use Rattle.papaya_scenes.specs.Given.Tables.declared.node.Node.{Node}
 use Rattle.papaya_scenes.specs.Given.Resize.declared.new_map.NewMap.{NewMap}
@@ -12,7 +12,7 @@ use Rattle.papaya_scenes.specs.Given.Finishes.Makings.{Beginning}
 use Rattle.papaya_scenes.specs.Given.Finishes.Maps.{Standing}
 use Rattle.papaya_scenes.specs.Scene.{Scene, slot_of}
 use Rattle.papaya_scenes.specs.declared.callers.TheConstants.{SLOTS}
-use Rattle.papaya_acts.specs.Doings.{Doing, Stage, reclaiming}
+use Rattle.papaya_acts.specs.Doings.{Doing, reclaiming}
 use Rattle.papaya_acts.specs.Lists.{Course, Reached, LedTo}
 use Rattle.seize_seats.specs.State.{State, view_of}
 use Rattle.seize_views.specs.Rows.{row_of, use_of, Keeps}
