@@ -3,5 +3,8 @@ mod Quiet
 mod Sections
 mod Looked
 mod Starts
+mod Leaves
+mod Moved
 mod Next
+mod UnderWay
 mod Calls

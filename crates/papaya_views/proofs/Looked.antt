@@ -9,7 +9,7 @@ use Rattle.seize_acts.proofs.Answers.{same_some, ended}
 use Rattle.seize_acts.proofs.Steps.{sees_end}
 use Rattle.seize_views.specs.Promises.{op_in}
 use Rattle.seize_views.specs.Told.{FollowsBy}
-use Rattle.papaya_views.specs.Looks.{shown_in}
+use Rattle.papaya_views.specs.Looks.{shown_in, TurnsTo}
 
 module _ {T : Type 0} where
   -- what the list shows is so
@@ -77,3 +77,14 @@ module _ {T R : Type 0} where
             let l = looked (value_at n) (rest out) s.0 ends in
             record { end = s.0; steps = (out, took, ends); looks = l.0; so = l.1; follows = l.2 },
       )
+
+  -- a step that makes no operation leaves the memory as it is
+  pub may_turn : (m : Mem T) (plan : Plan T R) (rest : Then T R) → plan ≡ Turn rest → May Can Took value_at m plan
+      → (end : R) × Steps Took value_at m plan m end × (looks : List (ℕ × T)) × TurnsTo (shown_in looks) plan end
+  may_turn m plan rest turns may =
+      subst (λ (p : Plan T R). May Can Took value_at m p → (end : R) × Steps Took value_at m p m end × (looks : List (ℕ × T)) × TurnsTo (shown_in looks) p end) (sym turns)
+      (λ see.
+      let s = sees_end (value_at m) rest see in
+      let ends = ended (value_at m) rest s.0 s.1 in
+      let l = looked (value_at m) rest s.0 ends in (s.0, (refl, ends), l.0, l.2))
+      may

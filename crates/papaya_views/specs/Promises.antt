@@ -1,15 +1,17 @@
 -- What is promised of the rule of maps.
 use Rattle.std.specs.Prelude.{◌≡◌, ℕ, Bool, Some}
 use Rattle.papaya_scenes.specs.Given.SeizeWords.Op.{Op}
+use Rattle.papaya_scenes.specs.Given.SeizeWords.Plan.{Then, Turn}
 use Rattle.papaya_scenes.specs.Given.Tables.declared.node.Node.{Node}
 use Rattle.papaya_scenes.specs.Given.Raw.Machine.{machine_plan}
 use Rattle.papaya_scenes.specs.Given.Raw.declared.machines.machine.Machine.{Machine}
+use Rattle.papaya_scenes.specs.Given.Raw.declared.machines.progress.Progress.{Progress}
 use Rattle.papaya_scenes.specs.Given.Points.Steps.{AreLawful}
-use Rattle.seize_seats.specs.State.{Starts, Comes, Allows}
+use Rattle.seize_seats.specs.State.{Starts, Comes, Allows, Turns}
 use Rattle.seize_views.specs.Promises.{op_in}
 use Rattle.seize_views.specs.declared.view.Fixed.{Fixed}
 use Rattle.papaya_views.specs.Rule.{Holds, KeepsFor, at_rest}
-use Rattle.papaya_views.specs.Told.{told}
+use Rattle.papaya_views.specs.Told.{told, turned}
 use Rattle.papaya_views.specs.declared.view.Map.{Map}
 use Rattle.papaya_views.specs.declared.view.View.{View}
 use Rattle.papaya_views.specs.declared.view.Work.TheVariants.{Calls}
@@ -29,3 +31,10 @@ module _ {K S : Type 0} (V : Type 0) (same : K → K → Bool) (hash : S → K �
       (fixed : Fixed) (id : ℕ) (v : View K V S) (map : Map S) (machine : Machine K V K) (op : Op (Node K V))
       → v.map ≡ Some map → v.work ≡ Calls machine → op_in (machine_plan same same (hash map.hasher) machine) ≡ Some op
       → Allows (Holds same hash fixed) KeepsFor id v op (told same hash v op)
+
+  -- and so may a step of it that makes none
+  abbrev pub CallsTurn : Type 0
+  CallsTurn =
+      (fixed : Fixed) (id : ℕ) (v : View K V S) (map : Map S) (machine : Machine K V K) (rest : Then (Node K V) (Machine K V K × Progress (Node K V)))
+      → v.map ≡ Some map → v.work ≡ Calls machine → machine_plan same same (hash map.hasher) machine ≡ Turn rest
+      → Turns (Holds same hash fixed) KeepsFor id v (turned same hash v)

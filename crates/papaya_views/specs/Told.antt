@@ -14,7 +14,7 @@ use Rattle.papaya_scenes.specs.Given.Raw.declared.machines.progress.Progress.{Pr
 use Rattle.papaya_scenes.specs.Given.Raw.declared.machines.progress.Progress.TheVariants as progress
 use Rattle.seize_views.specs.Told.{FollowsBy, told as row_told}
 use Rattle.seize_views.specs.declared.view.View.{View as SlotView}
-use Rattle.papaya_views.specs.Looks.{shown_in}
+use Rattle.papaya_views.specs.Looks.{shown_in, TurnsTo}
 use Rattle.papaya_views.specs.declared.view.Map.{Map}
 use Rattle.papaya_views.specs.declared.view.View.{View}
 use Rattle.papaya_views.specs.declared.view.Work.{Work}
@@ -51,3 +51,12 @@ module _ {K V S : Type 0} (same : K → K → Bool) (hash : S → K → ℕ) whe
 
   abbrev pub told : View K V S → Op (Node K V) → Out (Node K V) → View K V S → Type 0
   told v op out w = told_by v v.map v.work op out w
+
+  -- what a seat knows once its call has taken a step without an operation
+  abbrev pub turned_by : View K V S → Option (Map S) → Work K V S → View K V S → Type 0
+  turned_by v (Some map) (Calls machine) w =
+      (end : Machine K V K × Progress (Node K V)) × TurnsTo (shown_in w.looks) (machine_plan same same (hash map.hasher) machine) end × (w ≡ called v end w.looks)
+  turned_by v map work w = ⊥
+
+  abbrev pub turned : View K V S → View K V S → Type 0
+  turned v w = turned_by v v.map v.work w

@@ -1,4 +1,4 @@
-use Rattle.papaya_views.proofs.Calls.{calls_go_on}
+use Rattle.papaya_views.proofs.Calls.{calls_go_on, calls_turn}
 use Rattle.papaya_views.proofs.Starts.{rules_start, seats_come}
 use Rattle.papaya_views.proofs.law.calls_go_on.Goals as goal
 
@@ -10,3 +10,6 @@ returns-clause-come g c = seats_come _
 
 pub returns-clause-on : goal.returns-clause-on
 returns-clause-on g c = calls_go_on _
+
+pub returns-clause-turn : goal.returns-clause-turn
+returns-clause-turn g c = calls_turn _
