@@ -8,3 +8,5 @@ mod Moved
 mod Next
 mod UnderWay
 mod Calls
+mod Begins
+mod Handing

@@ -47,35 +47,35 @@ module _ {K V S : Type 0} (same : K → K → Bool) (hash : S → K → ℕ) (fi
   abbrev pub scene : Scene K V
   scene = scene_of same hash fixed s h
 
-  all : AllStand same hash fixed.batch_size fixed.roots slot_of scene
+  pub all : AllStand same hash fixed.batch_size fixed.roots slot_of scene
   all = all_stand same hash fixed s h
 
   pub so : AreSo same hash s scene
   so = are_so same hash fixed s h
 
-  fits : Fits same hash scene id v
+  pub fits : Fits same hash scene id v
   fits = so.seats id v at_id
 
-  abbrev place : ℕ
+  abbrev pub place : ℕ
   place = place_of v.slot
 
-  does : DoesSo same hash scene (caller_at id place) v.slot (Some map) (Calls machine)
+  pub does : DoesSo same hash scene (caller_at id place) v.slot (Some map) (Calls machine)
   does =
       subst (λ (x : Work K V S). DoesSo same hash scene (caller_at id place) v.slot (Some map) x) works
       (subst (λ (x : Option (Map S)). DoesSo same hash scene (caller_at id place) v.slot x v.work) knows fits.does)
 
-  it : KnowsMap same hash scene (Some map)
+  pub it : KnowsMap same hash scene (Some map)
   it = subst (λ (x : Option (Map S)). KnowsMap same hash scene x) knows fits.map
 
   -- the slot that it holds is the one of its section
-  slot_is : v.slot ≡ slot_view.Inside place NoBlock
+  pub slot_is : v.slot ≡ slot_view.Inside place NoBlock
   slot_is =
       let same_place : place ≡ does.0 = ap (λ (x : SlotView (Node K V)). place_of x) does.1 in does.1 ∙ ap (λ (a : ℕ). slot_view.Inside a NoBlock) (sym same_place)
 
-  inside : IsInside (scene.world.uses place)
+  pub inside : IsInside (scene.world.uses place)
   inside = inside_of same hash scene id place v NoBlock fits slot_is
 
-  abbrev i : ℕ
+  abbrev pub i : ℕ
   i = caller_at id place
 
   abbrev pub step_plan : Plan (Node K V) (Machine K V K × Progress (Node K V))
@@ -96,7 +96,7 @@ module _ {K V S : Type 0} (same : K → K → Bool) (hash : S → K → ℕ) (fi
       plan_is (λ (f : K → ℕ) (x : Machine K V K). May Can Took value_at scene.world.memory (machine_plan same same f x))
       (acts.0.calls map.number i it.0 does.3.call it.1 does.3.here)
 
-  called_at : call_at scene i map.number ≡ Some (it.0, does.3.call)
+  pub called_at : call_at scene i map.number ≡ Some (it.0, does.3.call)
   called_at =
       ap (λ (o : Option (Standing K)). then_on o (λ standing. then_on (scene.calls map.number i) (λ u. Some (standing, u)))) it.1
       ∙ ap (λ (o : Option (UnderWay K V K)). then_on o (λ u. Some (it.0, u))) does.3.here

@@ -1,20 +1,26 @@
 -- What is promised of the rule of maps.
-use Rattle.std.specs.Prelude.{◌≡◌, ℕ, Bool, Some}
+use Rattle.std.specs.Prelude.{◌≡◌, ℕ, Bool, true, Some}
 use Rattle.papaya_scenes.specs.Given.SeizeWords.Op.{Op}
 use Rattle.papaya_scenes.specs.Given.SeizeWords.Plan.{Then, Turn}
+use Rattle.papaya_scenes.specs.Given.Tables.Chunks.{is_incremental}
 use Rattle.papaya_scenes.specs.Given.Tables.declared.node.Node.{Node}
 use Rattle.papaya_scenes.specs.Given.Raw.Machine.{machine_plan}
+use Rattle.papaya_scenes.specs.Given.Raw.declared.machines.asking.Reply.{Reply}
 use Rattle.papaya_scenes.specs.Given.Raw.declared.machines.machine.Machine.{Machine}
 use Rattle.papaya_scenes.specs.Given.Raw.declared.machines.progress.Progress.{Progress}
 use Rattle.papaya_scenes.specs.Given.Points.Steps.{AreLawful}
-use Rattle.seize_seats.specs.State.{Starts, Comes, Allows, Turns}
+use Rattle.papaya_acts.specs.Acts.{Wanted}
+use Rattle.seize_seats.specs.State.{Starts, Comes, Allows, Turns, Meets}
 use Rattle.seize_views.specs.Promises.{op_in}
 use Rattle.seize_views.specs.declared.view.Fixed.{Fixed}
+use Rattle.seize_views.specs.declared.view.Has.TheVariants.{Nothing as NoBlock}
+use Rattle.seize_views.specs.declared.view.View.TheVariants.{Inside}
+use Rattle.papaya_views.specs.Begun.{machine_for, calling, replied, shown_map}
 use Rattle.papaya_views.specs.Rule.{Holds, KeepsFor, at_rest}
 use Rattle.papaya_views.specs.Told.{told, turned}
 use Rattle.papaya_views.specs.declared.view.Map.{Map}
 use Rattle.papaya_views.specs.declared.view.View.{View}
-use Rattle.papaya_views.specs.declared.view.Work.TheVariants.{Calls}
+use Rattle.papaya_views.specs.declared.view.Work.TheVariants.{Nothing, Calls}
 
 module _ {K S : Type 0} (V : Type 0) (same : K → K → Bool) (hash : S → K → ℕ) where
   -- The promise: the rule may start, whatever is chosen, where each hasher is lawful.
@@ -38,3 +44,21 @@ module _ {K S : Type 0} (V : Type 0) (same : K → K → Bool) (hash : S → K �
       (fixed : Fixed) (id : ℕ) (v : View K V S) (map : Map S) (machine : Machine K V K) (rest : Then (Node K V) (Machine K V K × Progress (Node K V)))
       → v.map ≡ Some map → v.work ≡ Calls machine → machine_plan same same (hash map.hasher) machine ≡ Turn rest
       → Turns (Holds same hash fixed) KeepsFor id v (turned same hash v)
+
+  -- Within its section a seat that knows a map in incremental mode, and has nothing under way, may begin to do anything with it.
+  abbrev pub CallsBegin : Type 0
+  CallsBegin =
+      (fixed : Fixed) (id t : ℕ) (v : View K V S) (map : Map S) (wanted : Wanted K V) → v.slot ≡ Inside t NoBlock → v.map ≡ Some map → v.work ≡ Nothing
+      → is_incremental map.setting.mode ≡ true → Turns (Holds same hash fixed) KeepsFor id v (λ w. w ≡ calling v (machine_for same hash map t wanted))
+
+  -- what it has under way may be told anything
+  abbrev pub CallsAreTold : Type 0
+  CallsAreTold =
+      (fixed : Fixed) (id : ℕ) (v : View K V S) (map : Map S) (machine : Machine K V K) (reply : Reply V) → v.map ≡ Some map → v.work ≡ Calls machine
+      → Turns (Holds same hash fixed) KeepsFor id v (λ w. w ≡ replied v machine reply)
+
+  -- and a map that one seat knows may be handed on to another one that has nothing under way
+  abbrev pub MapsAreHandedOn : Type 0
+  MapsAreHandedOn =
+      (fixed : Fixed) (i j : ℕ) (v u : View K V S) (map : Map S) → v.map ≡ Some map → u.work ≡ Nothing
+      → Meets (Holds same hash fixed) i v j u (λ p q. (p ≡ v) × (q ≡ shown_map u map))
