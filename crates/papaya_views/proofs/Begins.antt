@@ -83,12 +83,14 @@ module _ {K V S : Type 0} (same : K → K → Bool) (hash : S → K → ℕ) (fi
             subst (λ (x : SlotView (Node K V)). DoesSo same hash n i x v.map (Calls machine)) (sym slot_is)
             (subst (λ (x : Option (Map S)). DoesSo same hash n i (Inside t NoBlock) x (Calls machine)) (sym knows) its_does);
         map = map_on same hash scene id place map.number fits.slot scene.world scene.maps (Some u) (leaves_all same hash scene i) v.map fits.map;
+        held = tt;
         idle = own_idle same hash scene id place map.number fits.slot scene.world scene.maps (Some u) (leaves_all same hash scene i) fits.idle;
       };
       others = fits_on same hash scene id place map.number fits.slot scene.world scene.maps (Some u) (leaves_all same hash scene i);
       unborn = unborn_on same hash scene id place map.number fits.slot scene.world scene.maps (Some u) (leaves_all same hash scene i);
       alone = same_slot same hash fixed s h id v w at_id refl;
       held = λ a b inside held over. (held, over);
+      ended = λ o. refl;
     }
 
   -- it has nothing under way, and begins to do this

@@ -22,9 +22,9 @@ module _ {K S : Type 0} (V : Type 0) (same : K → K → Bool) (hash : S → K �
         subst (λ (m : Mem (Node K V)). Can m op) (sym is) step.0,
         λ out m2 took.
             let made = step.1 out m2 (subst (λ (m : Mem (Node K V)). Took m op out m2) is took) in
-            goes same hash fixed s h id v at_id map machine knows works m2 made.end made.steps made.looks (told same hash v op out)
-            (subst (λ (k : Work K V S). told_by same hash v v.map k op out (called v made.end made.looks)) (sym works)
-            (subst (λ (o : Option (Map S)). told_by same hash v o (Calls machine) op out (called v made.end made.looks)) (sym knows) (made.end, made.follows, refl))),
+            goes same hash fixed s h id v at_id map machine knows works m2 made.end made.steps made.looks made.seen (told same hash v op out)
+            (subst (λ (k : Work K V S). told_by same hash v v.map k op out (called v map machine made.end made.looks)) (sym works)
+            (subst (λ (o : Option (Map S)). told_by same hash v o (Calls machine) op out (called v map machine made.end made.looks)) (sym knows) (made.end, made.follows, refl))),
       )
 
   pub calls_turn : CallsTurn V same hash
@@ -34,6 +34,6 @@ module _ {K S : Type 0} (V : Type 0) (same : K → K → Bool) (hash : S → K �
       let m = (scene same hash fixed s h id v at_id map machine knows works).world.memory in
       let is = (so same hash fixed s h id v at_id map machine knows works).memory in
       subst (λ (x : Mem (Node K V)). Goes (Holds same hash fixed) KeepsFor s x id (turned same hash v)) (sym is)
-      (goes same hash fixed s h id v at_id map machine knows works m step.0 step.1 step.2 (turned same hash v)
-      (subst (λ (k : Work K V S). turned_by same hash v v.map k (called v step.0 step.2)) (sym works)
-      (subst (λ (o : Option (Map S)). turned_by same hash v o (Calls machine) (called v step.0 step.2)) (sym knows) (step.0, step.3, refl))))
+      (goes same hash fixed s h id v at_id map machine knows works m step.0 step.1 step.2 step.3 (turned same hash v)
+      (subst (λ (k : Work K V S). turned_by same hash v v.map k (called v map machine step.0 step.2)) (sym works)
+      (subst (λ (o : Option (Map S)). turned_by same hash v o (Calls machine) (called v map machine step.0 step.2)) (sym knows) (step.0, step.4, refl))))

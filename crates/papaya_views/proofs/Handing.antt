@@ -39,6 +39,7 @@ module _ {K V S : Type 0} (same : K → K → Bool) (hash : S → K → ℕ) (fi
             subst (λ (x : Work K V S). DoesSo same hash scene (caller_at j (place_of u.slot)) u.slot (Some map) x) (sym free)
             (subst (λ (x : Work K V S). DoesSo same hash scene (caller_at j (place_of u.slot)) u.slot u.map x) free f.does);
         map = subst (λ (x : Option (Map S)). KnowsMap same hash scene x) knows (h.so.seats i v at_i).map;
+        held = f.held;
         idle = f.idle;
       }
 
@@ -85,6 +86,7 @@ module _ {K V S : Type 0} (same : K → K → Bool) (hash : S → K → ℕ) (fi
       seats = λ k x at. seats k x at (cases_eq k j);
       unborn = λ k a is at. unborn k a is at (cases_eq k j);
       apart = no_two;
+      unended = h.so.unended;
     };
   }
 

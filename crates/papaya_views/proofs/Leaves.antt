@@ -1,19 +1,22 @@
 -- Where a step of a call has led, or a call has begun or was told something, each other seat knows what is so.
 use Rattle.std.specs.Prelude.{◌≢◌, Option, Some, None}
-use Rattle.std.proofs.Common.{◌≡◌, ℕ, Bool, refl, sym, subst, ◌∙◌}
+use Rattle.std.proofs.Common.{◌≡◌, ℕ, Bool, refl, sym, subst, ◌∙◌, true, false, List, [], ◌∷◌}
+use Rattle.papaya_scenes.specs.Given.SeizeWords.Mem.{value_at}
+use Rattle.papaya_scenes.specs.Given.Seize.Law.{holds, is_over}
 use Rattle.papaya_scenes.specs.Given.Seize.World.{World, Use, Vacant, Outside, Inside, Changing, IsInside}
 use Rattle.papaya_scenes.specs.Given.Tables.declared.node.Node.{Node}
 use Rattle.papaya_scenes.specs.Given.Callers.Rows.{IsUsedAlike}
 use Rattle.papaya_scenes.specs.Given.Callers.Together.{UnderWay}
 use Rattle.papaya_scenes.specs.Given.Finishes.Maps.{Standing, with_call}
 use Rattle.papaya_scenes.specs.Scene.{Scene}
+use Rattle.seize_acts.specs.Stays.{how_many, is_end_of_owner}
 use Rattle.papaya_acts.proofs.Counts.{its_call, other_call}
 use Rattle.seize_views.specs.Rows.{use_of}
 use Rattle.seize_views.specs.declared.view.Has.{Has}
 use Rattle.seize_views.specs.declared.view.Has.TheVariants.{Nothing as NoBlock}
 use Rattle.seize_views.specs.declared.view.View.{View as SlotView}
 use Rattle.seize_views.specs.declared.view.View.TheVariants as slot_view
-use Rattle.papaya_views.specs.Rule.{IsIdle, IsUsedSo, IsSlot, DoesSo, KnowsMap, Fits, caller_at, place_of}
+use Rattle.papaya_views.specs.Rule.{IsIdle, IsUsedSo, IsSlot, DoesSo, KnowsMap, Fits, caller_at, place_of, AllHeld}
 use Rattle.papaya_views.specs.declared.view.Map.{Map}
 use Rattle.papaya_views.specs.declared.view.View.{View}
 use Rattle.papaya_views.specs.declared.view.Work.{Work}
@@ -74,10 +77,13 @@ module _ {K V S : Type 0} (same : K → K → Bool) (hash : S → K → ℕ) whe
     pub rows : (k : ℕ) → k ≢ i → w2.row k ≡ s.world.row k
     pub uses : (t : ℕ) → IsUsedAlike (s.world.uses t) (w2.uses t)
     pub maps : (n : ℕ) (r : Standing K) → s.maps n ≡ Some r → (r2 : Standing K) × (maps2 n ≡ Some r2) × (r2.setting ≡ r.setting) × (r2.hash ≡ r.hash)
+    pub held : (t b : ℕ) → IsInside (s.world.uses t) → holds t b s.world.log ≡ true → is_over b s.world.log ≡ false
+        → (holds t b w2.log ≡ true) × (is_over b w2.log ≡ false) × (value_at w2.memory b ≡ value_at s.world.memory b)
+    pub ended : (o : ℕ) → how_many (is_end_of_owner o) w2.log ≡ how_many (is_end_of_owner o) s.world.log
 
   -- nothing has changed but a call
   pub leaves_all : (s : Scene K V) (i : ℕ) → Leaves s i s.world s.maps
-  leaves_all s i = record { rows = λ k ne. refl; uses = λ t. alike_same (s.world.uses t); maps = λ n r is. (r, is, refl, refl) }
+  leaves_all s i = record { rows = λ k ne. refl; uses = λ t. alike_same (s.world.uses t); maps = λ n r is. (r, is, refl, refl); held = λ t b inside held over. (held, over, refl); ended = λ o. refl }
 
   module _ (s : Scene K V) (id t m : ℕ) (its_slot : IsSlot t) (w2 : World (Node K V)) (maps2 : ℕ → Option (Standing K)) (it : Option (UnderWay K V K))
       (leaves : Leaves s (caller_at id t) w2 maps2) where
@@ -126,12 +132,20 @@ module _ {K V S : Type 0} (same : K → K → Bool) (hash : S → K → ℕ) whe
     map_on None f = tt
     map_on (Some map) f = let g = leaves.maps map.number f.0 f.1 in (g.0, g.1, g.2 ∙ f.2, g.3 ∙ f.3)
 
+    -- what the section of a slot is known to hold
+    pub held_on : (slot : SlotView (Node K V)) → ((a : ℕ) → slot ≡ slot_view.Inside a NoBlock → IsInside (s.world.uses a)) → (looks : List (ℕ × Node K V)) → AllHeld same hash s slot looks
+        → AllHeld same hash next slot looks
+    held_on slot inside [] f = tt
+    held_on slot inside (look ∷ looks) f =
+        let h = f.0 in let g = leaves.held h.0 look.0 (inside h.0 h.1) h.2 h.3 in ((h.0, h.1, g.0, g.1, g.2 ∙ h.4), held_on slot inside looks f.1)
+
     -- each other seat knows what is so
     pub fits_on : (j : ℕ) (v : View K V S) → j ≢ id → Fits same hash s j v → Fits same hash next j v
     fits_on j v ne f = record {
       slot = f.slot;
       does = does_on (caller_at j (place_of v.slot)) (λ e. ne (seat_apart j id (place_of v.slot) t f.slot its_slot e)) v.slot v.map v.work f.does;
       map = map_on v.map f.map;
+      held = held_on v.slot (λ a is. inside_of s j a v NoBlock f is) v.held f.held;
       idle = λ a is other. unborn_on j a ne is (f.idle a is other);
     }
 

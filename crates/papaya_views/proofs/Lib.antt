@@ -8,5 +8,6 @@ mod Moved
 mod Next
 mod UnderWay
 mod Calls
+mod Held
 mod Begins
 mod Handing

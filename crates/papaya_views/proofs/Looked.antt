@@ -9,6 +9,7 @@ use Rattle.seize_acts.proofs.Answers.{same_some, ended}
 use Rattle.seize_acts.proofs.Steps.{sees_end}
 use Rattle.seize_views.specs.Promises.{op_in}
 use Rattle.seize_views.specs.Told.{FollowsBy}
+use Rattle.papaya_looks.specs.Blocks.{Sees, LooksAt}
 use Rattle.papaya_views.specs.Looks.{shown_in, TurnsTo}
 
 module _ {T : Type 0} where
@@ -43,8 +44,23 @@ module _ {T R : Type 0} where
   ends_on shown other on (Seeing block rest) end e = (e.0, on block e.0 e.1, ends_on shown other on (rest e.0) end e.2)
   ends_on shown other on (Sure fact rest) end e = ends_on shown other on rest end e
 
-  pub looked : (shown : ℕ → Option T) (rest : Then T R) (end : R) → Ends shown rest end → (looks : List (ℕ × T)) × IsSo shown looks × Ends (shown_in looks) rest end
-  looked shown (Now x) end e = ([], λ b y none. absurd (cc none), e)
+  -- the rest looks at each of these blocks, which has this value
+  abbrev AllSeen : (ℕ → Option T) → Then T R → List (ℕ × T) → Type 0
+  AllSeen shown rest [] = Unit {0}
+  AllSeen shown rest (look ∷ looks) = Sees look.0 shown rest × (shown look.0 ≡ Some look.1) × AllSeen shown rest looks
+
+  seen_on : (shown : ℕ → Option T) (block : ℕ) (rest : T → Then T R) (value : T) → shown block ≡ Some value → (looks : List (ℕ × T)) → AllSeen shown (rest value) looks
+      → AllSeen shown (Seeing block rest) looks
+  seen_on shown block rest value is [] seen = tt
+  seen_on shown block rest value is (look ∷ looks) seen = (inr (value, is, seen.0), seen.1, seen_on shown block rest value is looks seen.2)
+
+  seen_sure : (shown : ℕ → Option T) (fact : Bool) (rest : Then T R) (looks : List (ℕ × T)) → AllSeen shown rest looks → AllSeen shown (Sure fact rest) looks
+  seen_sure shown fact rest [] seen = tt
+  seen_sure shown fact rest (look ∷ looks) seen = (seen.0, seen.1, seen_sure shown fact rest looks seen.2)
+
+  looked : (shown : ℕ → Option T) (rest : Then T R) (end : R) → Ends shown rest end
+      → (looks : List (ℕ × T)) × IsSo shown looks × Ends (shown_in looks) rest end × AllSeen shown rest looks
+  looked shown (Now x) end e = ([], λ b y none. absurd (cc none), e, tt)
   looked shown (Seeing block rest) end e =
       let l = looked shown (rest e.0) end e.2 in (
         (block, e.0) ∷ l.0,
@@ -54,15 +70,30 @@ module _ {T R : Type 0} where
           ap (λ (k : Bool). if k then Some e.0 else shown_in l.0 block) (eq-eqb block block refl),
           ends_on (shown_in l.0) (shown_in ((block, e.0) ∷ l.0)) (shown_on shown l.0 block e.0 e.1 l.1) (rest e.0) end l.2,
         ),
+        (inl refl, e.1, seen_on shown block rest e.0 e.1 l.0 l.3),
       )
-  looked shown (Sure fact rest) end e = looked shown rest end e
+  looked shown (Sure fact rest) end e = let l = looked shown rest end e in (l.0, l.1, l.2, seen_sure shown fact rest l.0 l.3)
+
+  -- the step looks at each of these blocks, which has this value where that leads
+  abbrev pub AllLooked : Mem T → Plan T R → Mem T → List (ℕ × T) → Type 0
+  AllLooked m plan n [] = Unit {0}
+  AllLooked m plan n (look ∷ looks) = LooksAt look.0 m plan × (value_at n look.0 ≡ Some look.1) × AllLooked m plan n looks
+
+  looked_op : (m n : Mem T) (op : Op T) (rest : Out T → Then T R) (out : Out T) → Took m op out n → (looks : List (ℕ × T)) → AllSeen (value_at n) (rest out) looks
+      → AllLooked m (Do op rest) n looks
+  looked_op m n op rest out took [] seen = tt
+  looked_op m n op rest out took (look ∷ looks) seen = (inr (out, n, took, seen.0), seen.1, looked_op m n op rest out took looks seen.2)
+
+  looked_turn : (m : Mem T) (rest : Then T R) (looks : List (ℕ × T)) → AllSeen (value_at m) rest looks → AllLooked m (Turn rest) m looks
+  looked_turn m rest [] seen = tt
+  looked_turn m rest (look ∷ looks) seen = (seen.0, seen.1, looked_turn m rest looks seen.2)
 
   -- What may be done, and is an operation, may be made; and whatever it has led to the step comes to an end, which it comes to by a list of what it looks at.
   pub record Made (m : Mem T) (plan : Plan T R) (out : Out T) (n : Mem T) : Type 0 where
     pub end : R
     pub steps : Steps Took value_at m plan n end
     pub looks : List (ℕ × T)
-    pub so : (b : ℕ) (x : T) → shown_in looks b ≡ Some x → value_at n b ≡ Some x
+    pub seen : AllLooked m plan n looks
     pub follows : FollowsBy (shown_in looks) plan out end
 
   pub may_op : (m : Mem T) (plan : Plan T R) (op : Op T) → op_in plan ≡ Some op → May Can Took value_at m plan
@@ -75,16 +106,17 @@ module _ {T R : Type 0} where
             let s = sees_end (value_at n) (rest out) (may.1 out n took) in
             let ends = ended (value_at n) (rest out) s.0 s.1 in
             let l = looked (value_at n) (rest out) s.0 ends in
-            record { end = s.0; steps = (out, took, ends); looks = l.0; so = l.1; follows = l.2 },
+            record { end = s.0; steps = (out, took, ends); looks = l.0; seen = looked_op m n o rest out took l.0 l.3; follows = l.2 },
       )
 
   -- a step that makes no operation leaves the memory as it is
   pub may_turn : (m : Mem T) (plan : Plan T R) (rest : Then T R) → plan ≡ Turn rest → May Can Took value_at m plan
-      → (end : R) × Steps Took value_at m plan m end × (looks : List (ℕ × T)) × TurnsTo (shown_in looks) plan end
+      → (end : R) × Steps Took value_at m plan m end × (looks : List (ℕ × T)) × AllLooked m plan m looks × TurnsTo (shown_in looks) plan end
   may_turn m plan rest turns may =
-      subst (λ (p : Plan T R). May Can Took value_at m p → (end : R) × Steps Took value_at m p m end × (looks : List (ℕ × T)) × TurnsTo (shown_in looks) p end) (sym turns)
+      subst (λ (p : Plan T R). May Can Took value_at m p
+      → (end : R) × Steps Took value_at m p m end × (looks : List (ℕ × T)) × AllLooked m p m looks × TurnsTo (shown_in looks) p end) (sym turns)
       (λ see.
       let s = sees_end (value_at m) rest see in
       let ends = ended (value_at m) rest s.0 s.1 in
-      let l = looked (value_at m) rest s.0 ends in (s.0, (refl, ends), l.0, l.2))
+      let l = looked (value_at m) rest s.0 ends in (s.0, (refl, ends), l.0, looked_turn m rest l.0 l.3, l.2))
       may

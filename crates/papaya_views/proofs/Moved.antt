@@ -12,6 +12,7 @@ use Rattle.papaya_acts.specs.Doings.{Does, MayDo}
 use Rattle.papaya_acts.specs.Leads.{AllStand}
 use Rattle.papaya_acts.specs.Lists.{Reached, LedTo, nothing_done, on_by}
 use Rattle.papaya_acts.proofs.Further.{led_further}
+use Rattle.seize_acts.specs.Stays.{how_many, is_end_of_owner}
 use Rattle.seize_acts.proofs.Answers.{same_some}
 use Rattle.seize_seats.specs.State.{State, view_of, Goes}
 use Rattle.seize_views.specs.Rows.{use_of}
@@ -40,6 +41,7 @@ module _ {K V S : Type 0} (same : K → K → Bool) (hash : S → K → ℕ) (fi
     pub alone : (j t : ℕ) (a b : Use) (x : View K V S) → j ≢ id → view_of s j ≡ Some x → use_of x.slot ≡ Some (t, a) → use_of w.slot ≡ Some (t, b) → ⊥
     pub held : (t b : ℕ) → IsInside (scene_of.world.uses t) → holds t b scene_of.world.log ≡ true → is_over b scene_of.world.log ≡ false
         → (holds t b n.world.log ≡ true) × (is_over b n.world.log ≡ false)
+    pub ended : (o : ℕ) → how_many (is_end_of_owner o) n.world.log ≡ how_many (is_end_of_owner o) scene_of.world.log
 
   -- the slot that it had is no other seat's
   pub same_slot : (id : ℕ) (v w : View K V S) → view_of s id ≡ Some v → w.slot ≡ v.slot
@@ -106,6 +108,7 @@ module _ {K V S : Type 0} (same : K → K → Bool) (hash : S → K → ℕ) (fi
           seats = λ j x at. seats j x at (cases_eq j id);
           unborn = λ j a slot at. unborn j a slot at (cases_eq j id);
           apart = λ j k t a b x y e f p q. apart j k t a b x y e f p q (cases_eq j id) (cases_eq k id);
+          unended = λ o. go.ended o ∙ are_so.unended o;
         };
       },
       λ j k b u o ne ne2 at at2 keeps. kept j b u o at keeps,

@@ -22,6 +22,7 @@ use Rattle.papaya_views.specs.Rule.{HasRow, IsSlot, DoesSo, caller_at}
 use Rattle.papaya_views.specs.Told.{call_after}
 use Rattle.papaya_views.specs.declared.view.Map.{Map}
 use Rattle.papaya_views.specs.declared.view.Work.TheVariants.{Calls}
+use Rattle.papaya_views.proofs.Sections.{calls_leave_sections, calls_end_none}
 use Rattle.papaya_views.proofs.Leaves.{Leaves, next, section_on, inside_alike, call_here, call_elsewhere}
 
 module _ {K V S : Type 0} (same : K → K → Bool) (hash : S → K → ℕ) (batch_size roots : ℕ) (s : Scene K V) (all : AllStand same hash batch_size roots slot_of s) (id t m : ℕ)
@@ -46,7 +47,13 @@ module _ {K V S : Type 0} (same : K → K → Bool) (hash : S → K → ℕ) (ba
   module _ (inside : IsInside (s.world.uses t)) (m2 : Mem (Node K V)) (machine : Machine K V K) (told : Progress (Node K V))
       (did : MachineStepsAmong V same same batch_size roots slot_of s.world s.maps s.calls s.makers s.enders m it (caller_at id t) m2 u machine told) where
     pub step_leaves : Leaves same hash s i did.w2 did.maps2
-    step_leaves = record { rows = did.rows; uses = did.slots.uses; maps = λ n r is. maps n r is (cases_eq n m) }
+    step_leaves = record {
+      rows = did.rows;
+      uses = did.slots.uses;
+      maps = λ n r is. maps n r is (cases_eq n m);
+      held = λ a b is held over. (calls_leave_sections same hash batch_size roots slot_of s all m it stands i u here m2 machine told did a is).1 b held over;
+      ended = calls_end_none same hash batch_size roots slot_of s all m it stands i u here m2 machine told did;
+    }
       where
         maps : (n : ℕ) (r : Standing K) → s.maps n ≡ Some r → (n ≡ m) ⊎ (n ≢ m) → (r2 : Standing K) × (did.maps2 n ≡ Some r2) × (r2.setting ≡ r.setting) × (r2.hash ≡ r.hash)
         maps n r is (inl e) =

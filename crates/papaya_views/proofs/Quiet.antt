@@ -1,13 +1,14 @@
 -- What ends no section, and no owner: events of users, and steps of rows that retire or defer a block. What sections hold stays.
-use Rattle.std.specs.Prelude.{◌≢◌, ◌++◌, Option, Ok, Err}
-use Rattle.std.proofs.Common.{◌≡◌, ℕ, true, false, List, [], ◌∷◌, ◌⊎◌, inl, inr, refl, sym, subst, ap, arith, ◌∙◌}
-use Rattle.std.proofs.lemmas.Bool.{cases_eq}
+use Rattle.std.specs.Prelude.{◌≢◌, ◌++◌, Option, Ok, Err, cond, eqb, if◌then◌else◌}
+use Rattle.std.proofs.Common.{◌≡◌, ℕ, Bool, true, false, List, [], ◌∷◌, ◌⊎◌, inl, inr, refl, sym, subst, ap, arith, ◌∙◌, ◌+◌}
+use Rattle.std.proofs.lemmas.Bool.{cases_eq, eq-eqb}
 use Rattle.seize_alone.specs.Given.SeizeWords.Op.{Out, Found, Stored, Exchanged, Made, Taken, Roomed}
 use Rattle.seize_alone.specs.Given.SeizeWords.Mem.{Mem, value_at}
 use Rattle.seize_alone.specs.Given.Seize.Law.{Effect, Entered, Left, Made as MadeBlock, Linked, Unlinked, Deferred, Retired, Taken as TakenBlock, Dropped, Ended, LeftOver, holds, is_over, owner_of}
 use Rattle.seize_alone.specs.Given.Seize.Sequence.{IsUsers}
 use Rattle.seize_alone.specs.Given.Seize.World.{World, Use, Vacant, Outside, Inside, Changing, Event, Begin, Step, Makes, Drops, Links, Parts, Unlinks, Rewrites, Operates, Ends, LeavesOver, Relinks, Clears, Chooses, Request, Retire, Defer', Happens, Runs, IsInside, made_by, with_at, one_more}
 use Rattle.seize_alone.proofs.Given.SeizeMoves.State.Held.{held_on, NoneLeft}
+use Rattle.seize_alone.proofs.Given.SeizeRule.Rows.Effects.{IsOneStep}
 use Rattle.seize_alone.proofs.Given.SeizeRule.Rows.Others.{with_here, with_other}
 use Rattle.seize_alone.proofs.Histories.Reached.{Reached, happens_reached}
 use Rattle.seize_alone.proofs.Histories.NotTaken.{IsHeld, kept_value, still_held, did}
@@ -89,6 +90,32 @@ module _ {T : Type 0} (defers : T → Option ℕ) (size : ℕ) where
         λ b held over. (still_held defers size w r i v h t b inside held, ap (is_over b) d.logged ∙ not_over b d.effects w.log d.one ∙ over, kept_value defers size w r i v h b (IsHeld t held)),
       )
 
+  -- no owner has ended
+
+  none_of_owners : (o : ℕ) (effects log : List Effect) → IsOneStep effects → how_many (is_end_of_owner o) (effects ++ log) ≡ how_many (is_end_of_owner o) log
+  none_of_owners o [] log one = refl
+  none_of_owners o (e ∷ f ∷ effects) log one = absurd one
+  none_of_owners o (Entered s ∷ []) log one = refl
+  none_of_owners o (Left s ∷ []) log one = refl
+  none_of_owners o (Retired c ∷ []) log one = refl
+  none_of_owners o (TakenBlock c ∷ []) log one = refl
+  none_of_owners o (MadeBlock c ∷ []) log one = absurd one
+  none_of_owners o (Linked c p ∷ []) log one = absurd one
+  none_of_owners o (Unlinked c ∷ []) log one = absurd one
+  none_of_owners o (Deferred c t ∷ []) log one = absurd one
+  none_of_owners o (Dropped c ∷ []) log one = absurd one
+  none_of_owners o (Ended p ∷ []) log one = absurd one
+  none_of_owners o (LeftOver c further ∷ []) log one = absurd one
+
+  abbrev pub SameOwners : World T → World T → Type 0
+  SameOwners w v = (o : ℕ) → how_many (is_end_of_owner o) v.log ≡ how_many (is_end_of_owner o) w.log
+
+  pub users_end_none : (events : List (Event T)) (w v : World T) → AllOfUsers events → Runs defers size events w v → SameOwners w v
+  users_end_none events w v is h = (users_end events w v is h).1
+
+  step_ends_none : (w v : World T) (i : ℕ) → Reached defers size w → Happens defers size (Step i) w v → SameOwners w v
+  step_ends_none w v i r h o = let d = did defers size w r i v h in ap (how_many (is_end_of_owner o)) d.logged ∙ none_of_owners o d.effects w.log d.one
+
   -- a row retires a block, or defers one
   abbrev pub HandsOne : Request → Type 0
   HandsOne (Retire s b) = Unit {0}
@@ -126,3 +153,36 @@ module _ {T : Type 0} (defers : T → Option ℕ) (size : ℕ) where
       let a = begin_stays request w begun i hands first t inside in
       let b = step_stays begun v i (happens_reached defers size (Begin i request) w begun r first) then_ t a.0 in
       (b.0 ∙ a.1.0, λ c held over. let k = a.1.1 c held over in let l = b.1 c k.0 k.1 in (l.0, l.1, l.2 ∙ k.2))
+
+  begin_ends_none : (request : Request) (w v : World T) (i : ℕ) → HandsOne request → Happens defers size (Begin i request) w v → SameOwners w v
+  begin_ends_none (Retire s b) w v i is h o = ap (λ (x : World T). how_many (is_end_of_owner o) x.log) h.1.2
+  begin_ends_none (Defer' s b c) w v i is h o = ap (λ (x : World T). how_many (is_end_of_owner o) x.log) h.1.7
+  begin_ends_none _ w v i is h o = absurd is
+
+  pub row_ends_none : (w v : World T) (i : ℕ) → Reached defers size w
+      → Happens defers size (Step i) w v ⊎ ((request : Request) × (begun : World T) × HandsOne request × Happens defers size (Begin i request) w begun × Happens defers size (Step i) begun v)
+      → SameOwners w v
+  row_ends_none w v i r (inl h) = step_ends_none w v i r h
+  row_ends_none w v i r (inr (request, begun, hands, first, then_)) =
+      λ o. step_ends_none begun v i (happens_reached defers size (Begin i request) w begun r first) then_ o ∙ begin_ends_none request w begun i hands first o
+
+-- where no owner has ended no block is over
+pub none_over : (log : List Effect) → ((o : ℕ) → how_many (is_end_of_owner o) log ≡ 0) → (b : ℕ) → is_over b log ≡ false
+none_over [] none b = refl
+none_over (Ended o ∷ r) none b =
+    let here : how_many (is_end_of_owner o) (Ended o ∷ r) ≡ 1 + how_many (is_end_of_owner o) r = ap (λ (k : Bool). if k then 1 + how_many (is_end_of_owner o) r else how_many (is_end_of_owner o) r) (eq-eqb o o refl) in
+    let is = none o in absurd (omega (arith, here, is))
+none_over (Linked c o ∷ r) none b = by (eqb b c) (none_over r none b)
+  where
+    by : (k : Bool) → is_over b r ≡ false → cond k false (is_over b r) ≡ false
+    by true is = refl
+    by false is = is
+none_over (Entered s ∷ r) none b = none_over r none b
+none_over (Left s ∷ r) none b = none_over r none b
+none_over (MadeBlock c ∷ r) none b = none_over r none b
+none_over (Unlinked c ∷ r) none b = none_over r none b
+none_over (Deferred c t ∷ r) none b = none_over r none b
+none_over (Retired c ∷ r) none b = none_over r none b
+none_over (TakenBlock c ∷ r) none b = none_over r none b
+none_over (Dropped c ∷ r) none b = none_over r none b
+none_over (LeftOver c further ∷ r) none b = none_over r none b

@@ -30,6 +30,7 @@ module _ {K S : Type 0} (V : Type 0) (same : K → K → Bool) (hash : S → K �
             seats = λ j v e. absurd (cc e);
             unborn = λ j t is e. record { calls = λ m. refl; makers = refl; enders = refl; row = refl };
             apart = λ j k t a b v u e f p q. absurd (cc e);
+            unended = λ o. refl;
           };
         },
       )
@@ -46,6 +47,7 @@ module _ {K S : Type 0} (V : Type 0) (same : K → K → Bool) (hash : S → K �
         slot = first_slot;
         does = record { row = first.row; slot = tt; calls = first.calls; makers = first.makers; enders = first.enders };
         map = tt;
+        held = tt;
         idle = λ t is ne. idle t is;
       }
 
@@ -63,6 +65,7 @@ module _ {K S : Type 0} (V : Type 0) (same : K → K → Bool) (hash : S → K �
         seats = λ j x e. fit j x (with_last s.views j at_rest x e);
         unborn = λ j t is e. h.so.unborn j t is (none_before s.views j at_rest e);
         apart = λ j k t a b x y e f p q. two j k t a b x y p q (with_last s.views j at_rest x e) (with_last s.views k at_rest y f);
+        unended = h.so.unended;
       };
     },
     λ b u o keeps. keeps,

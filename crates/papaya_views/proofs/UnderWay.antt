@@ -1,19 +1,28 @@
 -- What is so of a seat that has a call under way: the next step of it may be taken, and is that of an act.
-use Rattle.std.specs.Prelude.{Option, Some}
+use Rattle.std.specs.Prelude.{Option, Some, if◌then◌else◌, ◌&&◌}
 use Rattle.std.specs.Option.{is_none}
-use Rattle.std.proofs.Common.{◌≡◌, ℕ, Bool, List, sym, subst, ap, ◌∙◌, refl}
+use Rattle.std.proofs.Common.{◌≡◌, ℕ, Bool, List, sym, subst, ap, ◌∙◌, refl, true, false, [], ◌∷◌}
 use Rattle.papaya_scenes.specs.Given.SeizeWords.Mem.{Mem, Can, Took, value_at}
 use Rattle.papaya_scenes.specs.Given.SeizeWords.Plan.{Plan, Steps, May}
+use Rattle.papaya_scenes.specs.Given.Seize.Law.{holds}
 use Rattle.papaya_scenes.specs.Given.Seize.World.{IsInside}
-use Rattle.papaya_scenes.specs.Given.Tables.Nodes.{deferred_word}
+use Rattle.papaya_scenes.specs.Given.Tables.Chunks.{is_incremental}
 use Rattle.papaya_scenes.specs.Given.Tables.declared.node.Node.{Node}
+use Rattle.papaya_scenes.specs.Given.Tables.declared.setting.Setting.{Setting}
+use Rattle.papaya_scenes.specs.Given.Resize.declared.lookup.Lookup.{Lookup}
 use Rattle.papaya_scenes.specs.Given.Raw.Machine.{machine_plan}
+use Rattle.papaya_scenes.specs.Given.Raw.declared.machines.call.Calling.{Calling}
+use Rattle.papaya_scenes.specs.Given.Raw.declared.machines.call.Calling.TheVariants as at
+use Rattle.papaya_scenes.specs.Given.Raw.declared.machines.call.KeyCall.{KeyCall}
 use Rattle.papaya_scenes.specs.Given.Raw.declared.machines.machine.Machine.{Machine}
+use Rattle.papaya_scenes.specs.Given.Raw.declared.machines.machine.Machine.TheVariants as kinds
 use Rattle.papaya_scenes.specs.Given.Raw.declared.machines.progress.Progress.{Progress}
-use Rattle.papaya_scenes.specs.Given.Callers.Together.{UnderWay}
+use Rattle.papaya_scenes.specs.Given.Callers.Together.{UnderWay, CallOnKey, OnKey, ForRoom, Counting, OverAll}
 use Rattle.papaya_scenes.specs.Given.Finishes.Machines.{machine_of}
 use Rattle.papaya_scenes.specs.Given.Finishes.Maps.{Standing}
 use Rattle.papaya_scenes.specs.Scene.{Scene, slot_of}
+use Rattle.papaya_looks.specs.Blocks.{LooksAt}
+use Rattle.papaya_looks.proofs.Lookups.{lookups_look}
 use Rattle.papaya_acts.specs.Acts.{StepsCall}
 use Rattle.papaya_acts.specs.Doings.{Does, MayDo}
 use Rattle.papaya_acts.specs.Leads.{AllStand, CallCame, call_at, call_steps}
@@ -26,8 +35,8 @@ use Rattle.seize_views.specs.declared.view.Fixed.{Fixed}
 use Rattle.seize_views.specs.declared.view.Has.TheVariants.{Nothing as NoBlock}
 use Rattle.seize_views.specs.declared.view.View.{View as SlotView}
 use Rattle.seize_views.specs.declared.view.View.TheVariants as slot_view
-use Rattle.papaya_views.specs.Rule.{MapsWorld, DoesSo, KnowsMap, Fits, AreSo, Holds, KeepsFor, caller_at, place_of}
-use Rattle.papaya_views.specs.Told.{call_after, called}
+use Rattle.papaya_views.specs.Rule.{MapsWorld, DoesSo, KnowsMap, Fits, AreSo, Holds, KeepsFor, caller_at, place_of, AllHeld}
+use Rattle.papaya_views.specs.Told.{call_after, called, is_lookup, is_at_lookup}
 use Rattle.papaya_views.specs.declared.view.Map.{Map}
 use Rattle.papaya_views.specs.declared.view.View.{View}
 use Rattle.papaya_views.specs.declared.view.Work.{Work}
@@ -35,8 +44,9 @@ use Rattle.papaya_views.specs.declared.view.Work.TheVariants.{Calls}
 use Rattle.papaya_views.proofs.Leaves.{Leaves, inside_of, next, unborn_on, fits_on, own_idle, map_on}
 use Rattle.papaya_views.proofs.Moved.{scene_of, all_stand, are_so, Moved, same_slot, moved}
 use Rattle.papaya_views.proofs.Next.{step_leaves, own_does}
-use Rattle.papaya_views.proofs.Quiet.{Stayed}
-use Rattle.papaya_views.proofs.Sections.{calls_leave_sections}
+use Rattle.papaya_views.proofs.Looked.{AllLooked}
+use Rattle.papaya_views.proofs.Numbers.{slot_at}
+use Rattle.papaya_views.proofs.Quiet.{none_over}
 
 -- a pair is known by what it is
 pair_is : (A B : Type 0) (x y : A × B) → x ≡ y → (x.0 ≡ y.0) × (x.1 ≡ y.1)
@@ -101,8 +111,38 @@ module _ {K V S : Type 0} (same : K → K → Bool) (hash : S → K → ℕ) (fi
       ap (λ (o : Option (Standing K)). then_on o (λ standing. then_on (scene.calls map.number i) (λ u. Some (standing, u)))) it.1
       ∙ ap (λ (o : Option (UnderWay K V K)). then_on o (λ u. Some (it.0, u))) does.3.here
 
+  -- a call that is a call on a key is under way as one
+  key_call : (call : UnderWay K V K) (c : KeyCall K V K) → machine_of call ≡ kinds.Key c → (u : CallOnKey K V K) × (call ≡ OnKey u) × (u.call ≡ c)
+  key_call (OnKey u) c is = (u, refl, cc is)
+  key_call (ForRoom r) c is = absurd (cc is)
+  key_call (Counting sum) c is = absurd (cc is)
+  key_call (OverAll o) c is = absurd (cc is)
+
+  lookup_at : (stands : Calling) → is_at_lookup stands ≡ true → (l : Lookup) × (stands ≡ at.Looks l)
+  lookup_at (at.Looks l) is = (l, refl)
+  lookup_at _ is = absurd (cc is)
+
+  -- what a lookup looks at the section of its slot holds
+  at_lookup : is_incremental map.setting.mode ≡ true → is_lookup {K = K} {V = V} machine ≡ true → (b : ℕ) → LooksAt b scene.world.memory step_plan
+      → holds place b scene.world.log ≡ true
+  at_lookup incremental lookup b looks = by machine refl lookup
+    where
+      by : (x : Machine K V K) → machine ≡ x → is_lookup {K = K} {V = V} x ≡ true → holds place b scene.world.log ≡ true
+      by (kinds.Key c) is at_one =
+          let key = key_call does.3.call c (does.3.is ∙ is) in
+          let l = lookup_at c.stands at_one in
+          subst (λ (a : ℕ). holds a b scene.world.log ≡ true) (slot_at id place fits.slot)
+          (lookups_look V same same fixed.batch_size fixed.roots slot_of scene.world scene.maps scene.calls scene.makers scene.enders all map.number it.0 it.1
+          (ap (λ (x : Setting). is_incremental x.mode) it.2 ∙ incremental) i key.0 (does.3.here ∙ ap Some key.1) l.0 (ap (λ (x : KeyCall K V K). x.stands) key.2 ∙ l.1) b
+          (subst (λ (x : UnderWay K V K). LooksAt b scene.world.memory (machine_plan same same it.0.hash (machine_of x))) key.1
+          (plan_was (λ (f : K → ℕ) (x : Machine K V K). LooksAt b scene.world.memory (machine_plan same same f x)) looks)))
+      by (kinds.Reserve c) is at_one = absurd (cc at_one)
+      by (kinds.Sweep c) is at_one = absurd (cc at_one)
+      by (kinds.Count c) is at_one = absurd (cc at_one)
+
   -- what the memory took as a step is an act, which leads on
-  module _ (m2 : Mem (Node K V)) (end : Machine K V K × Progress (Node K V)) (steps : Steps Took value_at scene.world.memory step_plan m2 end) (looks : List (ℕ × Node K V)) where
+  module _ (m2 : Mem (Node K V)) (end : Machine K V K × Progress (Node K V)) (steps : Steps Took value_at scene.world.memory step_plan m2 end) (looks : List (ℕ × Node K V))
+      (seen : AllLooked scene.world.memory step_plan m2 looks) where
     granted : (g : Grant) × (call_steps same hash fixed.batch_size fixed.roots slot_of scene g (it.0, does.3.call) ≡ Some (m2, end))
     granted =
         acts.1.calls map.number i it.0 does.3.call it.1 does.3.here m2 end
@@ -144,13 +184,23 @@ module _ {K V S : Type 0} (same : K → K → Bool) (hash : S → K → ℕ) (fi
     n = next same hash scene id place map.number fits.slot came.did.w2 came.did.maps2 came.did.next leaves
 
     abbrev w : View K V S
-    w = called v (came.machine, came.progress) looks
+    w = called v map machine (came.machine, came.progress) looks
 
-    -- what sections hold they hold still
-    left : (a : ℕ) → IsInside (scene.world.uses a) → Stayed (deferred_word {K = K} {V = V}) fixed.batch_size scene.world came.did.w2 a
-    left a is =
-        calls_leave_sections same hash fixed.batch_size fixed.roots slot_of scene all map.number came.standing came.stands i came.call came.here came.memory came.machine came.progress came.did
-        a is
+    -- of what was looked at by a lookup each block is held, and has its value
+    looked_held : is_incremental map.setting.mode ≡ true → is_lookup {K = K} {V = V} machine ≡ true → (more : List (ℕ × Node K V)) → AllLooked scene.world.memory step_plan m2 more
+        → AllHeld same hash n v.slot more
+    looked_held incremental lookup [] each = tt
+    looked_held incremental lookup (look ∷ more) each =
+        let held = at_lookup incremental lookup look.0 each.0 in
+        let g = leaves.held place look.0 inside held (none_over scene.world.log so.unended look.0) in (
+          (place, slot_is, g.0, g.1, ap (λ (x : Mem (Node K V)). value_at x look.0) (came.did.memory ∙ sym memory_is) ∙ each.1),
+          looked_held incremental lookup more each.2,
+        )
+
+    held_then : (a b : Bool) → is_incremental map.setting.mode ≡ a → is_lookup {K = K} {V = V} machine ≡ b → AllHeld same hash n v.slot (if a && b then looks else [])
+    held_then true true incremental lookup = looked_held incremental lookup looks seen
+    held_then true false incremental lookup = tt
+    held_then false b incremental lookup = tt
 
     own : Fits same hash n id w
     own = record {
@@ -161,6 +211,7 @@ module _ {K V S : Type 0} (same : K → K → Bool) (hash : S → K → ℕ) (fi
           (own_does same hash fixed.batch_size fixed.roots scene all id place map.number fits.slot came.standing came.stands came.call came.here inside came.memory came.machine came.progress
           came.did map refl came.progress came.did.goes_on));
       map = map_on same hash scene id place map.number fits.slot came.did.w2 came.did.maps2 came.did.next leaves v.map fits.map;
+      held = held_then (is_incremental map.setting.mode) (is_lookup {K = K} {V = V} machine) refl refl;
       idle = own_idle same hash scene id place map.number fits.slot came.did.w2 came.did.maps2 came.did.next leaves fits.idle;
     }
 
@@ -171,10 +222,11 @@ module _ {K V S : Type 0} (same : K → K → Bool) (hash : S → K → ℕ) (fi
       others = fits_on same hash scene id place map.number fits.slot came.did.w2 came.did.maps2 came.did.next leaves;
       unborn = unborn_on same hash scene id place map.number fits.slot came.did.w2 came.did.maps2 came.did.next leaves;
       alone = same_slot same hash fixed s h id v w at_id refl;
-      held = λ t b is held over. let g = (left t is).1 b held over in (g.0, g.1);
+      held = λ t b is held over. let g = leaves.held t b is held over in (g.0, g.1);
+      ended = leaves.ended;
     }
 
-    pub goes : (so : View K V S → Type 0) → so (called v end looks) → Goes (Holds same hash fixed) KeepsFor s m2 id so
+    pub goes : (so : View K V S → Type 0) → so (called v map machine end looks) → Goes (Holds same hash fixed) KeepsFor s m2 id so
     goes so is =
         moved same hash fixed s h id v at_id (StepsCall i map.number granted.0) may_do n came.comes m2 w go so
-        (subst (λ (e : Machine K V K × Progress (Node K V)). so (called v e looks)) end_is is)
+        (subst (λ (e : Machine K V K × Progress (Node K V)). so (called v map machine e looks)) end_is is)

@@ -18,7 +18,7 @@ module _ {K V S : Type 0} (same : K → K → Bool) (hash : S → K → ℕ) whe
 module _ {K V S : Type 0} where
   -- with this call under way
   abbrev pub calling : View K V S → Machine K V K → View K V S
-  calling v machine = record { slot = v.slot; map = v.map; work = Calls machine; looks = [] }
+  calling v machine = record { slot = v.slot; map = v.map; work = Calls machine; looks = []; held = [] }
 
   -- its call was told this
   abbrev pub replied : View K V S → Machine K V K → Reply V → View K V S
@@ -26,4 +26,4 @@ module _ {K V S : Type 0} where
 
   -- it knows this map
   abbrev pub shown_map : View K V S → Map S → View K V S
-  shown_map v map = record { slot = v.slot; map = Some map; work = v.work; looks = v.looks }
+  shown_map v map = record { slot = v.slot; map = Some map; work = v.work; looks = v.looks; held = v.held }

@@ -10,12 +10,14 @@ use Rattle.papaya_scenes.specs.Given.Raw.declared.machines.machine.Machine.{Mach
 use Rattle.papaya_scenes.specs.Given.Raw.declared.machines.progress.Progress.{Progress}
 use Rattle.papaya_scenes.specs.Given.Points.Steps.{AreLawful}
 use Rattle.papaya_acts.specs.Acts.{Wanted}
+use Rattle.seize_seats.specs.Lendings.{Shown, IsValueOf}
 use Rattle.seize_seats.specs.State.{Starts, Comes, Allows, Turns, Meets}
 use Rattle.seize_views.specs.Promises.{op_in}
 use Rattle.seize_views.specs.declared.view.Fixed.{Fixed}
 use Rattle.seize_views.specs.declared.view.Has.TheVariants.{Nothing as NoBlock}
 use Rattle.seize_views.specs.declared.view.View.TheVariants.{Inside}
 use Rattle.papaya_views.specs.Begun.{machine_for, calling, replied, shown_map}
+use Rattle.papaya_views.specs.Looks.{shown_in}
 use Rattle.papaya_views.specs.Rule.{Holds, KeepsFor, at_rest}
 use Rattle.papaya_views.specs.Told.{told, turned}
 use Rattle.papaya_views.specs.declared.view.Map.{Map}
@@ -44,6 +46,12 @@ module _ {K S : Type 0} (V : Type 0) (same : K → K → Bool) (hash : S → K �
       (fixed : Fixed) (id : ℕ) (v : View K V S) (map : Map S) (machine : Machine K V K) (rest : Then (Node K V) (Machine K V K × Progress (Node K V)))
       → v.map ≡ Some map → v.work ≡ Calls machine → machine_plan same same (hash map.hasher) machine ≡ Turn rest
       → Turns (Holds same hash fixed) KeepsFor id v (turned same hash v)
+
+  -- what the section of a seat is known to hold is there, with its value
+  abbrev pub HeldAreShown : Type 0
+  HeldAreShown =
+      (fixed : Fixed) (id b : ℕ) (v : View K V S) (x : Node K V) → shown_in v.held b ≡ Some x
+      → Shown (Holds same hash fixed) id v b × ((y : Node K V) → IsValueOf (Holds same hash fixed) id v b y → y ≡ x)
 
   -- Within its section a seat that knows a map in incremental mode, and has nothing under way, may begin to do anything with it.
   abbrev pub CallsBegin : Type 0

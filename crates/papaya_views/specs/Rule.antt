@@ -1,6 +1,8 @@
 -- The rule of maps: a list of acts has led to a scene, of which the memory is that of the state; and what each seat knows of its slot, of a map and of what it has
--- under way is so there.
-use Rattle.std.specs.Prelude.{◌≡◌, ◌≢◌, ℕ, ◌+◌, ◌*◌, ◌<◌, Bool, List, [], Option, Some, None}
+-- under way is so there, and its section holds the blocks that it knows to be held.
+use Rattle.std.specs.Prelude.{◌≡◌, ◌≢◌, ℕ, ◌+◌, ◌*◌, ◌<◌, Bool, List, [], Option, Some, None, true, false, ◌∷◌}
+use Rattle.papaya_scenes.specs.Given.SeizeWords.Mem.{value_at}
+use Rattle.papaya_scenes.specs.Given.Seize.Law.{holds, is_over}
 use Rattle.papaya_scenes.specs.Given.Seize.World.{World, Use, Rests, IsInside}
 use Rattle.papaya_scenes.specs.Given.Tables.declared.node.Node.{Node}
 use Rattle.papaya_scenes.specs.Given.Resize.declared.new_map.NewMap.{NewMap}
@@ -14,6 +16,7 @@ use Rattle.papaya_scenes.specs.Scene.{Scene, slot_of}
 use Rattle.papaya_scenes.specs.declared.callers.TheConstants.{SLOTS}
 use Rattle.papaya_acts.specs.Doings.{Doing, reclaiming}
 use Rattle.papaya_acts.specs.Lists.{Course, Reached, LedTo}
+use Rattle.seize_acts.specs.Stays.{how_many, is_end_of_owner}
 use Rattle.seize_seats.specs.State.{State, view_of}
 use Rattle.seize_views.specs.Rows.{row_of, use_of, Keeps}
 use Rattle.seize_views.specs.declared.view.Fixed.{Fixed}
@@ -42,7 +45,7 @@ place_of v = held_slot (use_of v)
 
 -- a seat that holds no slot and knows no map
 abbrev pub at_rest : {K V S : Type 0} → View K V S
-at_rest = record { slot = slot_view.Rests; map = None; work = Nothing; looks = [] }
+at_rest = record { slot = slot_view.Rests; map = None; work = Nothing; looks = []; held = [] }
 
 -- what has been done, and the scene to which it has led
 pub record MapsWorld (K V S : Type 0) : Type 0 where
@@ -98,11 +101,22 @@ module _ {K V S : Type 0} (same : K → K → Bool) (hash : S → K → ℕ) whe
   KnowsMap s None = Unit {0}
   KnowsMap s (Some map) = (it : Standing K) × (s.maps map.number ≡ Some it) × (it.setting ≡ map.setting) × (it.hash ≡ hash map.hasher)
 
+  -- the section of the slot holds the block, which is not over, and has this value
+  abbrev pub IsHeld : Scene K V → SlotView (Node K V) → ℕ × Node K V → Type 0
+  IsHeld s slot look =
+      (t : ℕ) × (slot ≡ slot_view.Inside t NoBlock) × (holds t look.0 s.world.log ≡ true) × (is_over look.0 s.world.log ≡ false)
+      × (value_at s.world.memory look.0 ≡ Some look.1)
+
+  abbrev pub AllHeld : Scene K V → SlotView (Node K V) → List (ℕ × Node K V) → Type 0
+  AllHeld s slot [] = Unit {0}
+  AllHeld s slot (look ∷ looks) = IsHeld s slot look × AllHeld s slot looks
+
   -- what a seat knows is so; in other slots it has nothing under way
   pub record Fits (s : Scene K V) (j : ℕ) (v : View K V S) : Type 0 where
     pub slot : IsSlot (place_of v.slot)
     pub does : DoesSo s (caller_at j (place_of v.slot)) v.slot v.map v.work
     pub map : KnowsMap s v.map
+    pub held : AllHeld s v.slot v.held
     pub idle : (t : ℕ) → IsSlot t → t ≢ place_of v.slot → IsIdle s (caller_at j t)
 
   -- the scene is as the seats know it, and its memory is this one
@@ -111,6 +125,7 @@ module _ {K V S : Type 0} (same : K → K → Bool) (hash : S → K → ℕ) whe
     pub seats : (j : ℕ) (v : View K V S) → view_of s j ≡ Some v → Fits scene j v
     pub unborn : (j t : ℕ) → IsSlot t → view_of s j ≡ None → IsIdle scene (caller_at j t)
     pub apart : (j k t : ℕ) (a b : Use) (v u : View K V S) → view_of s j ≡ Some v → view_of s k ≡ Some u → use_of v.slot ≡ Some (t, a) → use_of u.slot ≡ Some (t, b) → j ≡ k
+    pub unended : (o : ℕ) → how_many (is_end_of_owner o) scene.world.log ≡ 0
 
   pub record Holds (fixed : Fixed) (s : State (Node K V) (View K V S) (MapsWorld K V S)) : Type 0 where
     pub course : Course V same hash fixed.batch_size fixed.roots slot_of

@@ -1,14 +1,16 @@
 //! What is promised of the rule of maps.
 ghost use Rattle.std.specs.Prelude.{ℕ, Bool};
-ghost use Rattle.papaya_views.specs.Promises.{RulesStart, SeatsCome, CallsGoOn, CallsTurn, CallsBegin, CallsAreTold, MapsAreHandedOn};
+ghost use Rattle.papaya_views.specs.Promises.{RulesStart, SeatsCome, CallsGoOn, CallsTurn, HeldAreShown, CallsBegin, CallsAreTold, MapsAreHandedOn};
 
 /// Keys may be compared, and hashed by a hasher, in any way. The rule may start where each hasher is lawful, and seats may come; and the next step of a call that a
-/// seat has under way, with an operation or without, may be taken at any moment, whatever the other seats do.
+/// seat has under way, with an operation or without, may be taken at any moment, whatever the other seats do. What it has
+/// looked at by a lookup in incremental mode is there until its next step, with the value that it had.
 pub fn calls_go_on<K, V, S>()
     ensures starts { (same : K → K → Bool) (hash : S → K → ℕ) → RulesStart V same hash }
     ensures come { (same : K → K → Bool) (hash : S → K → ℕ) → SeatsCome V same hash }
     ensures on { (same : K → K → Bool) (hash : S → K → ℕ) → CallsGoOn V same hash }
     ensures turn { (same : K → K → Bool) (hash : S → K → ℕ) → CallsTurn V same hash }
+    ensures held { (same : K → K → Bool) (hash : S → K → ℕ) → HeldAreShown V same hash }
 {}
 
 /// Within its section a seat that knows a map in incremental mode, and has nothing under way, may begin any call on it; what it has under way may be told anything; and a

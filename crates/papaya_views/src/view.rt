@@ -14,6 +14,8 @@ pub struct View<K, V, S> {
     pub work: Work<K, V, S>,
     /// The blocks that its last step looks at after its operation, with their values.
     pub looks: LinkedList<(u64, Node<K, V>)>,
+    /// Of these, those that its section is known to hold.
+    pub held: LinkedList<(u64, Node<K, V>)>,
 }
 
 /// A map that stands.
