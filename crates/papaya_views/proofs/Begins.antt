@@ -10,7 +10,7 @@ use Rattle.papaya_scenes.specs.Given.Raw.declared.machines.asking.Reply.{Reply}
 use Rattle.papaya_scenes.specs.Given.Raw.declared.machines.machine.Machine.{Machine}
 use Rattle.papaya_scenes.specs.Given.Callers.Together.{UnderWay}
 use Rattle.papaya_scenes.specs.Given.Finishes.Machines.{machine_of}
-use Rattle.papaya_scenes.specs.Given.Finishes.Maps.{Standing, new_map}
+use Rattle.papaya_scenes.specs.Given.Finishes.Maps.{Standing, new_map, with_call}
 use Rattle.papaya_scenes.specs.Scene.{Scene, slot_of}
 use Rattle.papaya_acts.specs.Acts.{Wanted, Get, Count, UnlessToCount, BeginsCall, TellsCall, begun}
 use Rattle.papaya_acts.specs.Doings.{Does, MayDo}
@@ -29,7 +29,7 @@ use Rattle.papaya_views.specs.declared.view.Map.{Map}
 use Rattle.papaya_views.specs.declared.view.View.{View}
 use Rattle.papaya_views.specs.declared.view.Work.{Work}
 use Rattle.papaya_views.specs.declared.view.Work.TheVariants.{Nothing, Calls}
-use Rattle.papaya_views.proofs.Leaves.{leaves_all, inside_of, next, unborn_on, fits_on, own_idle, map_on, call_here}
+use Rattle.papaya_views.proofs.Leaves.{leaves_all, inside_of, unborn_on, fits_on, own_idle, map_on, call_here}
 use Rattle.papaya_views.proofs.Moved.{scene_of, are_so, Moved, same_slot, moved}
 use Rattle.papaya_views.proofs.Numbers.{slot_at}
 use Rattle.papaya_views.proofs.UnderWay.{called_at, does as way_does, slot_is as way_slot}
@@ -66,7 +66,7 @@ module _ {K V S : Type 0} (same : K → K → Bool) (hash : S → K → ℕ) (fi
   -- where the seat has this call under way from now on, and nothing else has changed
   module _ (t : ℕ) (slot_is : v.slot ≡ Inside t NoBlock) (u : UnderWay K V K) (machine : Machine K V K) (is : machine_of u ≡ machine) where
     abbrev n : Scene K V
-    n = next same hash scene id place map.number fits.slot scene.world scene.maps (Some u) (leaves_all same hash scene i)
+    n = record scene { calls = with_call scene.calls map.number i (Some u) }
 
     its_does : DoesSo same hash n i (Inside t NoBlock) (Some map) (Calls machine)
     its_does = (t, refl, inside_of same hash scene id t v NoBlock fits slot_is, record { call = u; here = call_here scene.calls map.number i (Some u); is = is })
@@ -82,14 +82,15 @@ module _ {K V S : Type 0} (same : K → K → Bool) (hash : S → K → ℕ) (fi
         does =
             subst (λ (x : SlotView (Node K V)). DoesSo same hash n i x v.map (Calls machine)) (sym slot_is)
             (subst (λ (x : Option (Map S)). DoesSo same hash n i (Inside t NoBlock) x (Calls machine)) (sym knows) its_does);
-        map = map_on same hash scene id place map.number fits.slot scene.world scene.maps (Some u) (leaves_all same hash scene i) v.map fits.map;
+        map = map_on same hash scene n id place fits.slot (leaves_all same hash scene map.number i (Some u)) v.map fits.map;
         held = tt;
-        idle = own_idle same hash scene id place map.number fits.slot scene.world scene.maps (Some u) (leaves_all same hash scene i) fits.idle;
+        idle = own_idle same hash scene n id place fits.slot (leaves_all same hash scene map.number i (Some u)) fits.idle;
       };
-      others = fits_on same hash scene id place map.number fits.slot scene.world scene.maps (Some u) (leaves_all same hash scene i);
-      unborn = unborn_on same hash scene id place map.number fits.slot scene.world scene.maps (Some u) (leaves_all same hash scene i);
+      others = fits_on same hash scene n id place fits.slot (leaves_all same hash scene map.number i (Some u));
+      unborn = unborn_on same hash scene n id place fits.slot (leaves_all same hash scene map.number i (Some u));
       alone = same_slot same hash fixed s h id v w at_id refl;
       held = λ a b inside held over. (held, over);
+      fresh = (are_so same hash fixed s h).fresh;
       ended = λ o. refl;
     }
 

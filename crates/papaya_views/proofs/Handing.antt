@@ -86,6 +86,7 @@ module _ {K V S : Type 0} (same : K → K → Bool) (hash : S → K → ℕ) (fi
       seats = λ k x at. seats k x at (cases_eq k j);
       unborn = λ k a is at. unborn k a is at (cases_eq k j);
       apart = no_two;
+      fresh = h.so.fresh;
       unended = h.so.unended;
     };
   }

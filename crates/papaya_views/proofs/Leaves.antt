@@ -3,7 +3,7 @@ use Rattle.std.specs.Prelude.{◌≢◌, Option, Some, None}
 use Rattle.std.proofs.Common.{◌≡◌, ℕ, Bool, refl, sym, subst, ◌∙◌, true, false, List, [], ◌∷◌}
 use Rattle.papaya_scenes.specs.Given.SeizeWords.Mem.{value_at}
 use Rattle.papaya_scenes.specs.Given.Seize.Law.{holds, is_over}
-use Rattle.papaya_scenes.specs.Given.Seize.World.{World, Use, Vacant, Outside, Inside, Changing, IsInside}
+use Rattle.papaya_scenes.specs.Given.Seize.World.{Use, Vacant, Outside, Inside, Changing, IsInside}
 use Rattle.papaya_scenes.specs.Given.Tables.declared.node.Node.{Node}
 use Rattle.papaya_scenes.specs.Given.Callers.Rows.{IsUsedAlike}
 use Rattle.papaya_scenes.specs.Given.Callers.Together.{UnderWay}
@@ -51,7 +51,7 @@ module _ {X : Type 0} (calls : ℕ → ℕ → Option X) (m i : ℕ) (it : Optio
   pub call_here : with_call calls m i it m i ≡ it
   call_here = its_call calls i m i m it refl refl
 
-  call_other : (n j : ℕ) → j ≢ i → with_call calls m i it n j ≡ calls n j
+  pub call_other : (n j : ℕ) → j ≢ i → with_call calls m i it n j ≡ calls n j
   call_other n j ne = other_call calls j n i m it (λ e f. ne (sym e))
 
   pub call_elsewhere : (n : ℕ) → n ≢ m → with_call calls m i it n i ≡ calls n i
@@ -72,59 +72,67 @@ module _ {K V S : Type 0} (same : K → K → Bool) (hash : S → K → ℕ) whe
           same_slot e = cc e
       by (Makes m hasher opening) map d = absurd (cc (d.0, is))
 
-  -- what a step of this caller leaves: the rows of the others, how slots are used, and the maps as callers know them
-  pub record Leaves (s : Scene K V) (i : ℕ) (w2 : World (Node K V)) (maps2 : ℕ → Option (Standing K)) : Type 0 where
-    pub rows : (k : ℕ) → k ≢ i → w2.row k ≡ s.world.row k
-    pub uses : (t : ℕ) → IsUsedAlike (s.world.uses t) (w2.uses t)
-    pub maps : (n : ℕ) (r : Standing K) → s.maps n ≡ Some r → (r2 : Standing K) × (maps2 n ≡ Some r2) × (r2.setting ≡ r.setting) × (r2.hash ≡ r.hash)
+  -- what a step of this caller leaves: what the others have under way, how slots are used, the maps as callers know them, and what sections hold
+  pub record Leaves (s n : Scene K V) (i : ℕ) : Type 0 where
+    pub rows : (k : ℕ) → k ≢ i → n.world.row k ≡ s.world.row k
+    pub calls : (m k : ℕ) → k ≢ i → n.calls m k ≡ s.calls m k
+    pub makers : (k : ℕ) → k ≢ i → n.makers k ≡ s.makers k
+    pub enders : (k : ℕ) → n.enders k ≡ s.enders k
+    pub uses : (t : ℕ) → IsUsedAlike (s.world.uses t) (n.world.uses t)
+    pub maps : (m : ℕ) (r : Standing K) → s.maps m ≡ Some r → (r2 : Standing K) × (n.maps m ≡ Some r2) × (r2.setting ≡ r.setting) × (r2.hash ≡ r.hash)
     pub held : (t b : ℕ) → IsInside (s.world.uses t) → holds t b s.world.log ≡ true → is_over b s.world.log ≡ false
-        → (holds t b w2.log ≡ true) × (is_over b w2.log ≡ false) × (value_at w2.memory b ≡ value_at s.world.memory b)
-    pub ended : (o : ℕ) → how_many (is_end_of_owner o) w2.log ≡ how_many (is_end_of_owner o) s.world.log
+        → (holds t b n.world.log ≡ true) × (is_over b n.world.log ≡ false) × (value_at n.world.memory b ≡ value_at s.world.memory b)
+    pub ended : (o : ℕ) → how_many (is_end_of_owner o) n.world.log ≡ how_many (is_end_of_owner o) s.world.log
 
   -- nothing has changed but a call
-  pub leaves_all : (s : Scene K V) (i : ℕ) → Leaves s i s.world s.maps
-  leaves_all s i = record { rows = λ k ne. refl; uses = λ t. alike_same (s.world.uses t); maps = λ n r is. (r, is, refl, refl); held = λ t b inside held over. (held, over, refl); ended = λ o. refl }
+  pub leaves_all : (s : Scene K V) (m i : ℕ) (it : Option (UnderWay K V K)) → Leaves s (record s { calls = with_call s.calls m i it }) i
+  leaves_all s m i it = record {
+    rows = λ k ne. refl;
+    calls = λ n k ne. call_other s.calls m i it n k ne;
+    makers = λ k ne. refl;
+    enders = λ k. refl;
+    uses = λ t. alike_same (s.world.uses t);
+    maps = λ n r is. (r, is, refl, refl);
+    held = λ t b inside held over. (held, over, refl);
+    ended = λ o. refl;
+  }
 
-  module _ (s : Scene K V) (id t m : ℕ) (its_slot : IsSlot t) (w2 : World (Node K V)) (maps2 : ℕ → Option (Standing K)) (it : Option (UnderWay K V K))
-      (leaves : Leaves s (caller_at id t) w2 maps2) where
+  module _ (s next : Scene K V) (id t : ℕ) (its_slot : IsSlot t) (leaves : Leaves s next (caller_at id t)) where
     abbrev i : ℕ
     i = caller_at id t
 
-    abbrev pub next : Scene K V
-    next = record { world = w2; maps = maps2; calls = with_call s.calls m i it; makers = s.makers; enders = s.enders }
-
     idle_on : (k : ℕ) → k ≢ i → IsIdle s k → IsIdle next k
     idle_on k ne f = record {
-      calls = λ n. call_other s.calls m i it n k ne ∙ f.calls n;
-      makers = f.makers;
-      enders = f.enders;
+      calls = λ n. leaves.calls n k ne ∙ f.calls n;
+      makers = leaves.makers k ne ∙ f.makers;
+      enders = leaves.enders k ∙ f.enders;
       row = leaves.rows k ne ∙ f.row;
     }
 
     pub unborn_on : (j a : ℕ) → j ≢ id → IsSlot a → IsIdle s (caller_at j a) → IsIdle next (caller_at j a)
     unborn_on j a ne is f = idle_on (caller_at j a) (λ e. ne (seat_apart j id a t is its_slot e)) f
 
-    pub section_on : (a : ℕ) → IsInside (s.world.uses a) → IsInside (w2.uses a)
-    section_on a is = stays_inside (s.world.uses a) (w2.uses a) (leaves.uses a) is
+    pub section_on : (a : ℕ) → IsInside (s.world.uses a) → IsInside (next.world.uses a)
+    section_on a is = stays_inside (s.world.uses a) (next.world.uses a) (leaves.uses a) is
 
-    used_on : (o : Option (ℕ × Use)) → IsUsedSo s.world o → IsUsedSo w2 o
+    used_on : (o : Option (ℕ × Use)) → IsUsedSo s.world o → IsUsedSo next.world o
     used_on None f = tt
-    used_on (Some slot) f = alike_on slot.1 (s.world.uses slot.0) (w2.uses slot.0) f (leaves.uses slot.0)
+    used_on (Some slot) f = alike_on slot.1 (s.world.uses slot.0) (next.world.uses slot.0) f (leaves.uses slot.0)
 
     does_on : (k : ℕ) → k ≢ i → (slot : SlotView (Node K V)) (map : Option (Map S)) (work : Work K V S) → DoesSo same hash s k slot map work → DoesSo same hash next k slot map work
     does_on k ne slot map Nothing f = record {
       row = leaves.rows k ne ∙ f.row;
       slot = used_on (use_of slot) f.slot;
-      calls = λ n. call_other s.calls m i it n k ne ∙ f.calls n;
-      makers = f.makers;
-      enders = f.enders;
+      calls = λ n. leaves.calls n k ne ∙ f.calls n;
+      makers = leaves.makers k ne ∙ f.makers;
+      enders = leaves.enders k ∙ f.enders;
     }
     does_on k ne slot None (Calls p) f = absurd f
     does_on k ne slot (Some map) (Calls p) f =
-        (f.0, f.1, section_on f.0 f.2, record { call = f.3.call; here = call_other s.calls m i it map.number k ne ∙ f.3.here; is = f.3.is })
+        (f.0, f.1, section_on f.0 f.2, record { call = f.3.call; here = leaves.calls map.number k ne ∙ f.3.here; is = f.3.is })
     does_on k ne slot map (Makes n hasher opening) f = (
       f.0,
-      record { making = f.1.making; here = f.1.here; map = f.1.map; hashes = f.1.hashes; is = f.1.is; calls = λ a. call_other s.calls m i it a k ne ∙ f.1.calls a },
+      record { making = f.1.making; here = leaves.makers k ne ∙ f.1.here; map = f.1.map; hashes = f.1.hashes; is = f.1.is; calls = λ a. leaves.calls a k ne ∙ f.1.calls a },
       leaves.rows k ne ∙ f.2,
     )
 

@@ -11,3 +11,4 @@ mod Calls
 mod Held
 mod Begins
 mod Handing
+mod Makings

@@ -18,7 +18,7 @@ use Rattle.seize_seats.specs.State.{State, view_of, Goes}
 use Rattle.seize_views.specs.Rows.{use_of}
 use Rattle.seize_views.specs.declared.view.Fixed.{Fixed}
 use Rattle.seize_views.proofs.Lists.{there, elsewhere}
-use Rattle.papaya_views.specs.Rule.{MapsWorld, IsSlot, IsIdle, Fits, AreSo, Holds, KeepsFor, caller_at}
+use Rattle.papaya_views.specs.Rule.{MapsWorld, IsSlot, IsIdle, Fits, AreSo, Holds, KeepsFor, caller_at, IsFresh}
 use Rattle.papaya_views.specs.declared.view.View.{View}
 use Rattle.papaya_views.proofs.Leaves.{inside_of}
 
@@ -41,6 +41,7 @@ module _ {K V S : Type 0} (same : K → K → Bool) (hash : S → K → ℕ) (fi
     pub alone : (j t : ℕ) (a b : Use) (x : View K V S) → j ≢ id → view_of s j ≡ Some x → use_of x.slot ≡ Some (t, a) → use_of w.slot ≡ Some (t, b) → ⊥
     pub held : (t b : ℕ) → IsInside (scene_of.world.uses t) → holds t b scene_of.world.log ≡ true → is_over b scene_of.world.log ≡ false
         → (holds t b n.world.log ≡ true) × (is_over b n.world.log ≡ false)
+    pub fresh : (k : ℕ) × IsFresh n k
     pub ended : (o : ℕ) → how_many (is_end_of_owner o) n.world.log ≡ how_many (is_end_of_owner o) scene_of.world.log
 
   -- the slot that it had is no other seat's
@@ -108,6 +109,7 @@ module _ {K V S : Type 0} (same : K → K → Bool) (hash : S → K → ℕ) (fi
           seats = λ j x at. seats j x at (cases_eq j id);
           unborn = λ j a slot at. unborn j a slot at (cases_eq j id);
           apart = λ j k t a b x y e f p q. apart j k t a b x y e f p q (cases_eq j id) (cases_eq k id);
+          fresh = go.fresh;
           unended = λ o. go.ended o ∙ are_so.unended o;
         };
       },

@@ -18,12 +18,12 @@ use Rattle.papaya_acts.specs.Leads.{AllStand}
 use Rattle.seize_acts.proofs.Answers.{same_some}
 use Rattle.seize_views.specs.declared.view.Has.TheVariants.{Nothing as NoBlock}
 use Rattle.seize_views.specs.declared.view.View.TheVariants as slot_view
-use Rattle.papaya_views.specs.Rule.{HasRow, IsSlot, DoesSo, caller_at}
+use Rattle.papaya_views.specs.Rule.{HasRow, IsSlot, DoesSo, caller_at, IsFresh}
 use Rattle.papaya_views.specs.Told.{call_after}
 use Rattle.papaya_views.specs.declared.view.Map.{Map}
 use Rattle.papaya_views.specs.declared.view.Work.TheVariants.{Calls}
 use Rattle.papaya_views.proofs.Sections.{calls_leave_sections, calls_end_none}
-use Rattle.papaya_views.proofs.Leaves.{Leaves, next, section_on, inside_alike, call_here, call_elsewhere}
+use Rattle.papaya_views.proofs.Leaves.{Leaves, section_on, inside_alike, call_here, call_other, call_elsewhere}
 
 module _ {K V S : Type 0} (same : K → K → Bool) (hash : S → K → ℕ) (batch_size roots : ℕ) (s : Scene K V) (all : AllStand same hash batch_size roots slot_of s) (id t m : ℕ)
     (its_slot : IsSlot t) (it : Standing K) (stands : s.maps m ≡ Some it) (u : UnderWay K V K) (here : s.calls m (caller_at id t) ≡ Some u) where
@@ -46,9 +46,15 @@ module _ {K V S : Type 0} (same : K → K → Bool) (hash : S → K → ℕ) (ba
 
   module _ (inside : IsInside (s.world.uses t)) (m2 : Mem (Node K V)) (machine : Machine K V K) (told : Progress (Node K V))
       (did : MachineStepsAmong V same same batch_size roots slot_of s.world s.maps s.calls s.makers s.enders m it (caller_at id t) m2 u machine told) where
-    pub step_leaves : Leaves same hash s i did.w2 did.maps2
+    abbrev pub after : Scene K V
+    after = record { world = did.w2; maps = did.maps2; calls = with_call s.calls m i did.next; makers = s.makers; enders = s.enders }
+
+    pub step_leaves : Leaves same hash s after i
     step_leaves = record {
       rows = did.rows;
+      calls = λ n k ne. call_other s.calls m i did.next n k ne;
+      makers = λ k ne. refl;
+      enders = λ k. refl;
       uses = did.slots.uses;
       maps = λ n r is. maps n r is (cases_eq n m);
       held = λ a b is held over. (calls_leave_sections same hash batch_size roots slot_of s all m it stands i u here m2 machine told did a is).1 b held over;
@@ -63,14 +69,19 @@ module _ {K V S : Type 0} (same : K → K → Bool) (hash : S → K → ℕ) (ba
         maps n r is (inr ne) =
             let g = subst (λ (o : Option (Standing K)). IsSameMap o (did.maps2 n)) is (did.others n ne) in (record r { blocks = g.0; sights = g.1 }, g.2, refl, refl)
 
-    abbrev after : Scene K V
-    after = next same hash s id t m its_slot did.w2 did.maps2 did.next step_leaves
+    -- no further map has come
+    pub step_fresh : (k : ℕ) → IsFresh s k → IsFresh after k
+    step_fresh k f = (λ n above. none n (f.0 n above) (cases_eq n m), f.1)
+      where
+        none : (n : ℕ) → s.maps n ≡ None → (n ≡ m) ⊎ (n ≢ m) → did.maps2 n ≡ None
+        none n is (inl e) = let no = sym (ap s.maps e) ∙ is in absurd (cc (no, stands))
+        none n is (inr ne) = subst (λ (o : Option (Standing K)). IsSameMap o (did.maps2 n)) is (did.others n ne)
 
     -- once the call has ended its caller has nothing under way
     ended : did.next ≡ None → HasRow after i (slot_view.Inside t NoBlock)
     ended none = record {
       row = did.rests none;
-      slot = inside_alike (did.w2.uses t) (section_on same hash s id t m its_slot did.w2 did.maps2 did.next step_leaves t inside);
+      slot = inside_alike (did.w2.uses t) (section_on same hash s after id t its_slot step_leaves t inside);
       calls = λ n. calls_none n (cases_eq n m);
       makers = none_made (s.makers i) refl;
       enders = none_ended (s.enders i) refl;
@@ -86,7 +97,7 @@ module _ {K V S : Type 0} (same : K → K → Bool) (hash : S → K → ℕ) (ba
     goes_as map number x is one = (
       t,
       refl,
-      section_on same hash s id t m its_slot did.w2 did.maps2 did.next step_leaves t inside,
+      section_on same hash s after id t its_slot step_leaves t inside,
       record { call = x; here = ap (λ (a : ℕ). with_call s.calls m i did.next a i) number ∙ call_here s.calls m i did.next ∙ is; is = one },
     )
 

@@ -19,7 +19,7 @@ use Rattle.papaya_scenes.proofs.Given.Callers.Together.Came.{came_reached}
 use Rattle.papaya_views.proofs.Quiet.{AllOfUsers, HandsOne, Stayed, SameOwners, users_stay, users_end_none, row_stays, row_ends_none}
 
 module _ {K V : Type 0} where
-  as_users : (events : List (Event (Node K V))) → AllUsers events → AllOfUsers events
+  pub as_users : (events : List (Event (Node K V))) → AllUsers events → AllOfUsers events
   as_users [] h = tt
   as_users (e ∷ events) h = (h.0, as_users events h.1)
 

@@ -30,6 +30,7 @@ module _ {K S : Type 0} (V : Type 0) (same : K → K → Bool) (hash : S → K �
             seats = λ j v e. absurd (cc e);
             unborn = λ j t is e. record { calls = λ m. refl; makers = refl; enders = refl; row = refl };
             apart = λ j k t a b v u e f p q. absurd (cc e);
+            fresh = (0, ((λ m above. refl), (λ i b is. absurd (cc is))));
             unended = λ o. refl;
           };
         },
@@ -65,6 +66,7 @@ module _ {K S : Type 0} (V : Type 0) (same : K → K → Bool) (hash : S → K �
         seats = λ j x e. fit j x (with_last s.views j at_rest x e);
         unborn = λ j t is e. h.so.unborn j t is (none_before s.views j at_rest e);
         apart = λ j k t a b x y e f p q. two j k t a b x y p q (with_last s.views j at_rest x e) (with_last s.views k at_rest y f);
+        fresh = h.so.fresh;
         unended = h.so.unended;
       };
     },

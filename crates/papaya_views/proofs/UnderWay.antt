@@ -41,9 +41,9 @@ use Rattle.papaya_views.specs.declared.view.Map.{Map}
 use Rattle.papaya_views.specs.declared.view.View.{View}
 use Rattle.papaya_views.specs.declared.view.Work.{Work}
 use Rattle.papaya_views.specs.declared.view.Work.TheVariants.{Calls}
-use Rattle.papaya_views.proofs.Leaves.{Leaves, inside_of, next, unborn_on, fits_on, own_idle, map_on}
+use Rattle.papaya_views.proofs.Leaves.{Leaves, inside_of, unborn_on, fits_on, own_idle, map_on}
 use Rattle.papaya_views.proofs.Moved.{scene_of, all_stand, are_so, Moved, same_slot, moved}
-use Rattle.papaya_views.proofs.Next.{step_leaves, own_does}
+use Rattle.papaya_views.proofs.Next.{after, step_leaves, step_fresh, own_does}
 use Rattle.papaya_views.proofs.Looked.{AllLooked}
 use Rattle.papaya_views.proofs.Numbers.{slot_at}
 use Rattle.papaya_views.proofs.Quiet.{none_over}
@@ -175,13 +175,15 @@ module _ {K V S : Type 0} (same : K → K → Bool) (hash : S → K → ℕ) (fi
     end_is : end ≡ (came.machine, came.progress)
     end_is = (pair_is (Mem (Node K V)) (Machine K V K × Progress (Node K V)) (m2, end) (came.memory, (came.machine, came.progress)) both).1
 
-    leaves : Leaves same hash scene i came.did.w2 came.did.maps2
+    abbrev n : Scene K V
+    n =
+        after same hash fixed.batch_size fixed.roots scene all id place map.number fits.slot came.standing came.stands came.call came.here inside came.memory came.machine came.progress
+        came.did
+
+    leaves : Leaves same hash scene n i
     leaves =
         step_leaves same hash fixed.batch_size fixed.roots scene all id place map.number fits.slot came.standing came.stands came.call came.here inside came.memory came.machine came.progress
         came.did
-
-    abbrev n : Scene K V
-    n = next same hash scene id place map.number fits.slot came.did.w2 came.did.maps2 came.did.next leaves
 
     abbrev w : View K V S
     w = called v map machine (came.machine, came.progress) looks
@@ -210,19 +212,24 @@ module _ {K V S : Type 0} (same : K → K → Bool) (hash : S → K → ℕ) (fi
           (subst (λ (x : Option (Map S)). DoesSo same hash n i (slot_view.Inside place NoBlock) x (call_after came.machine came.progress)) (sym knows)
           (own_does same hash fixed.batch_size fixed.roots scene all id place map.number fits.slot came.standing came.stands came.call came.here inside came.memory came.machine came.progress
           came.did map refl came.progress came.did.goes_on));
-      map = map_on same hash scene id place map.number fits.slot came.did.w2 came.did.maps2 came.did.next leaves v.map fits.map;
+      map = map_on same hash scene n id place fits.slot leaves v.map fits.map;
       held = held_then (is_incremental map.setting.mode) (is_lookup {K = K} {V = V} machine) refl refl;
-      idle = own_idle same hash scene id place map.number fits.slot came.did.w2 came.did.maps2 came.did.next leaves fits.idle;
+      idle = own_idle same hash scene n id place fits.slot leaves fits.idle;
     }
 
     go : Moved same hash fixed s h id m2 w n
     go = record {
       memory = memory_is ∙ sym came.did.memory;
       own = own;
-      others = fits_on same hash scene id place map.number fits.slot came.did.w2 came.did.maps2 came.did.next leaves;
-      unborn = unborn_on same hash scene id place map.number fits.slot came.did.w2 came.did.maps2 came.did.next leaves;
+      others = fits_on same hash scene n id place fits.slot leaves;
+      unborn = unborn_on same hash scene n id place fits.slot leaves;
       alone = same_slot same hash fixed s h id v w at_id refl;
       held = λ t b is held over. let g = leaves.held t b is held over in (g.0, g.1);
+      fresh = (
+        so.fresh.0,
+        step_fresh same hash fixed.batch_size fixed.roots scene all id place map.number fits.slot came.standing came.stands came.call came.here inside came.memory came.machine came.progress
+            came.did so.fresh.0 so.fresh.1,
+      );
       ended = leaves.ended;
     }
 

@@ -1,9 +1,14 @@
 -- What is promised of the rule of maps.
-use Rattle.std.specs.Prelude.{◌≡◌, ℕ, Bool, true, Some}
+use Rattle.std.specs.Prelude.{◌≡◌, ℕ, Bool, true, Some, ◌+◌, ◌<◌, ◌≤◌, ◌^◌, max}
 use Rattle.papaya_scenes.specs.Given.SeizeWords.Op.{Op}
 use Rattle.papaya_scenes.specs.Given.SeizeWords.Plan.{Then, Turn}
+use Rattle.std.specs.Int.{IsPowerOfTwo}
 use Rattle.papaya_scenes.specs.Given.Tables.Chunks.{is_incremental}
+use Rattle.papaya_scenes.specs.Given.Tables.Lengths.{IsTableLen}
 use Rattle.papaya_scenes.specs.Given.Tables.declared.node.Node.{Node}
+use Rattle.papaya_scenes.specs.Given.Tables.declared.setting.Setting.{Setting}
+use Rattle.papaya_scenes.specs.Given.Resize.NewMap.{new_map_plan, opening}
+use Rattle.papaya_scenes.specs.Given.Resize.declared.new_map.NewMap.{NewMap}
 use Rattle.papaya_scenes.specs.Given.Raw.Machine.{machine_plan}
 use Rattle.papaya_scenes.specs.Given.Raw.declared.machines.asking.Reply.{Reply}
 use Rattle.papaya_scenes.specs.Given.Raw.declared.machines.machine.Machine.{Machine}
@@ -15,14 +20,14 @@ use Rattle.seize_seats.specs.State.{Starts, Comes, Allows, Turns, Meets}
 use Rattle.seize_views.specs.Promises.{op_in}
 use Rattle.seize_views.specs.declared.view.Fixed.{Fixed}
 use Rattle.seize_views.specs.declared.view.Has.TheVariants.{Nothing as NoBlock}
-use Rattle.seize_views.specs.declared.view.View.TheVariants.{Inside}
-use Rattle.papaya_views.specs.Begun.{machine_for, calling, replied, shown_map}
+use Rattle.seize_views.specs.declared.view.View.TheVariants.{Rests, Inside}
+use Rattle.papaya_views.specs.Begun.{machine_for, calling, replied, shown_map, making}
 use Rattle.papaya_views.specs.Looks.{shown_in}
 use Rattle.papaya_views.specs.Rule.{Holds, KeepsFor, at_rest}
 use Rattle.papaya_views.specs.Told.{told, turned}
 use Rattle.papaya_views.specs.declared.view.Map.{Map}
 use Rattle.papaya_views.specs.declared.view.View.{View}
-use Rattle.papaya_views.specs.declared.view.Work.TheVariants.{Nothing, Calls}
+use Rattle.papaya_views.specs.declared.view.Work.TheVariants.{Nothing, Calls, Makes}
 
 module _ {K S : Type 0} (V : Type 0) (same : K → K → Bool) (hash : S → K → ℕ) where
   -- The promise: the rule may start, whatever is chosen, where each hasher is lawful.
@@ -70,3 +75,16 @@ module _ {K S : Type 0} (V : Type 0) (same : K → K → Bool) (hash : S → K �
   MapsAreHandedOn =
       (fixed : Fixed) (i j : ℕ) (v u : View K V S) (map : Map S) → v.map ≡ Some map → u.work ≡ Nothing
       → Meets (Holds same hash fixed) i v j u (λ p q. (p ≡ v) × (q ≡ shown_map u map))
+
+  -- A seat that holds no slot, and has nothing under way, may begin to make a map, with lengths that tables may have,
+  abbrev pub MakingsBegin : Type 0
+  MakingsBegin =
+      (fixed : Fixed) (id : ℕ) (v : View K V S) (hasher : S) (given : Setting) (places : ℕ) → v.slot ≡ Rests → v.work ≡ Nothing
+      → given.batch_size ≡ fixed.batch_size → given.mask + 1 < 2 ^ 64 → 0 < fixed.roots → IsPowerOfTwo given.initial → (max places 8 ≤ 2 ^ 48 → IsTableLen (max places 8))
+      → Turns (Holds same hash fixed) KeepsFor id v (λ w. (m : ℕ) × (w ≡ making v m hasher (opening given fixed.roots places)))
+
+  -- and the next operation of a making may be made at any moment
+  abbrev pub MakingsGoOn : Type 0
+  MakingsGoOn =
+      (fixed : Fixed) (id m : ℕ) (v : View K V S) (hasher : S) (machine : NewMap) (op : Op (Node K V))
+      → v.work ≡ Makes m hasher machine → op_in (new_map_plan machine) ≡ Some op → Allows (Holds same hash fixed) KeepsFor id v op (told same hash v op)

@@ -1,6 +1,6 @@
 -- The rule of maps: a list of acts has led to a scene, of which the memory is that of the state; and what each seat knows of its slot, of a map and of what it has
 -- under way is so there, and its section holds the blocks that it knows to be held.
-use Rattle.std.specs.Prelude.{◌≡◌, ◌≢◌, ℕ, ◌+◌, ◌*◌, ◌<◌, Bool, List, [], Option, Some, None, true, false, ◌∷◌}
+use Rattle.std.specs.Prelude.{◌≡◌, ◌≢◌, ℕ, ◌+◌, ◌*◌, ◌<◌, Bool, List, [], Option, Some, None, true, false, ◌∷◌, ◌≤◌}
 use Rattle.papaya_scenes.specs.Given.SeizeWords.Mem.{value_at}
 use Rattle.papaya_scenes.specs.Given.Seize.Law.{holds, is_over}
 use Rattle.papaya_scenes.specs.Given.Seize.World.{World, Use, Rests, IsInside}
@@ -88,6 +88,10 @@ module _ {K V : Type 0} where
     pub makers : s.makers i ≡ None
     pub enders : s.enders i ≡ None
 
+  -- no map has this number or a later one, nor one that is being made
+  abbrev pub IsFresh : Scene K V → ℕ → Type 0
+  IsFresh s k = ((m : ℕ) → k ≤ m → s.maps m ≡ None) × ((i : ℕ) (b : Beginning K) → s.makers i ≡ Some b → b.map < k)
+
 module _ {K V S : Type 0} (same : K → K → Bool) (hash : S → K → ℕ) where
   -- what it has under way, as this caller
   abbrev pub DoesSo : Scene K V → ℕ → SlotView (Node K V) → Option (Map S) → Work K V S → Type 0
@@ -125,6 +129,7 @@ module _ {K V S : Type 0} (same : K → K → Bool) (hash : S → K → ℕ) whe
     pub seats : (j : ℕ) (v : View K V S) → view_of s j ≡ Some v → Fits scene j v
     pub unborn : (j t : ℕ) → IsSlot t → view_of s j ≡ None → IsIdle scene (caller_at j t)
     pub apart : (j k t : ℕ) (a b : Use) (v u : View K V S) → view_of s j ≡ Some v → view_of s k ≡ Some u → use_of v.slot ≡ Some (t, a) → use_of u.slot ≡ Some (t, b) → j ≡ k
+    pub fresh : (k : ℕ) × IsFresh scene k
     pub unended : (o : ℕ) → how_many (is_end_of_owner o) scene.world.log ≡ 0
 
   pub record Holds (fixed : Fixed) (s : State (Node K V) (View K V S) (MapsWorld K V S)) : Type 0 where

@@ -1,6 +1,6 @@
 //! What is promised of the rule of maps.
 ghost use Rattle.std.specs.Prelude.{ℕ, Bool};
-ghost use Rattle.papaya_views.specs.Promises.{RulesStart, SeatsCome, CallsGoOn, CallsTurn, HeldAreShown, CallsBegin, CallsAreTold, MapsAreHandedOn};
+ghost use Rattle.papaya_views.specs.Promises.{RulesStart, SeatsCome, CallsGoOn, CallsTurn, HeldAreShown, CallsBegin, CallsAreTold, MapsAreHandedOn, MakingsBegin, MakingsGoOn};
 
 /// Keys may be compared, and hashed by a hasher, in any way. The rule may start where each hasher is lawful, and seats may come; and the next step of a call that a
 /// seat has under way, with an operation or without, may be taken at any moment, whatever the other seats do. What it has
@@ -19,4 +19,10 @@ pub fn calls_begin<K, V, S>()
     ensures begin { (same : K → K → Bool) (hash : S → K → ℕ) → CallsBegin V same hash }
     ensures told { (same : K → K → Bool) (hash : S → K → ℕ) → CallsAreTold V same hash }
     ensures handed { (same : K → K → Bool) (hash : S → K → ℕ) → MapsAreHandedOn V same hash }
+{}
+
+/// A seat that holds no slot, and has nothing under way, may begin to make a map; and the next operation of a making may be made at any moment, whatever the other seats do.
+pub fn makings_go_on<K, V, S>()
+    ensures begin { (same : K → K → Bool) (hash : S → K → ℕ) → MakingsBegin V same hash }
+    ensures on { (same : K → K → Bool) (hash : S → K → ℕ) → MakingsGoOn V same hash }
 {}

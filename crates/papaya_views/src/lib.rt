@@ -6,6 +6,6 @@ mod law;
 mod maps;
 mod view;
 
-pub use law::{calls_begin, calls_go_on};
+pub use law::{calls_begin, calls_go_on, makings_go_on};
 pub use maps::OfMaps;
 pub use view::{Map, View, Work};
