@@ -8,7 +8,9 @@ use Rattle.papaya_scenes.specs.Given.Tables.declared.setting.Setting.{Setting}
 use Rattle.papaya_scenes.specs.Given.Raw.Machine.{machine_replied}
 use Rattle.papaya_scenes.specs.Given.Raw.declared.machines.asking.Reply.{Reply}
 use Rattle.papaya_scenes.specs.Given.Raw.declared.machines.machine.Machine.{Machine}
+use Rattle.papaya_scenes.specs.Given.Callers.Rows.{IsRowOn}
 use Rattle.papaya_scenes.specs.Given.Callers.Together.{UnderWay}
+use Rattle.papaya_scenes.specs.Given.Seize.World.{Row}
 use Rattle.papaya_scenes.specs.Given.Finishes.Machines.{machine_of}
 use Rattle.papaya_scenes.specs.Given.Finishes.Maps.{Standing, new_map, with_call}
 use Rattle.papaya_scenes.specs.Scene.{Scene, slot_of}
@@ -32,7 +34,7 @@ use Rattle.papaya_views.specs.declared.view.Work.TheVariants.{Nothing, Calls}
 use Rattle.papaya_views.proofs.Leaves.{leaves_all, inside_of, unborn_on, fits_on, own_idle, map_on, call_here}
 use Rattle.papaya_views.proofs.Moved.{scene_of, are_so, Moved, same_slot, moved}
 use Rattle.papaya_views.proofs.Numbers.{slot_at}
-use Rattle.papaya_views.proofs.UnderWay.{called_at, does as way_does, slot_is as way_slot}
+use Rattle.papaya_views.proofs.UnderWay.{called_at, does as way_does, slot_is as way_slot, on_row as way_on}
 
 -- but for a counting
 unless : {K V : Type 0} (wanted : Wanted K V) (A : Type 0) → A → UnlessToCount wanted A
@@ -64,12 +66,13 @@ module _ {K V S : Type 0} (same : K → K → Bool) (hash : S → K → ℕ) (fi
   it = subst (λ (x : Option (Map S)). KnowsMap same hash scene x) knows fits.map
 
   -- where the seat has this call under way from now on, and nothing else has changed
-  module _ (t : ℕ) (slot_is : v.slot ≡ Inside t NoBlock) (u : UnderWay K V K) (machine : Machine K V K) (is : machine_of u ≡ machine) where
+  module _ (t : ℕ) (slot_is : v.slot ≡ Inside t NoBlock) (u : UnderWay K V K) (machine : Machine K V K) (is : machine_of u ≡ machine)
+      (on_row : IsRowOn t (scene.world.row i)) where
     abbrev n : Scene K V
     n = record scene { calls = with_call scene.calls map.number i (Some u) }
 
     its_does : DoesSo same hash n i (Inside t NoBlock) (Some map) (Calls machine)
-    its_does = (t, refl, inside_of same hash scene id t v NoBlock fits slot_is, record { call = u; here = call_here scene.calls map.number i (Some u); is = is })
+    its_does = (t, refl, inside_of same hash scene id t v NoBlock fits slot_is, record { call = u; here = call_here scene.calls map.number i (Some u); is = is }, on_row)
 
     abbrev w : View K V S
     w = calling v machine
@@ -129,6 +132,9 @@ module _ {K V S : Type 0} (same : K → K → Bool) (hash : S → K → ℕ) (fi
         (h.course.next h.reached.0 (Does (BeginsCall i map.number wanted)) may).0
     led = (h.course.leads h.reached.0 (Does (BeginsCall i map.number wanted)) may).0
 
+    on_row : IsRowOn t (scene.world.row i)
+    on_row = subst (λ (x : Row). IsRowOn t x) (sym does.row) tt
+
     machine_is : machine_of (begun same slot_of led.0 i wanted) ≡ machine_for same hash map t wanted
     machine_is =
         let same_it = same_some it.0 led.0 (sym it.1 ∙ led.1) in
@@ -139,8 +145,8 @@ module _ {K V S : Type 0} (same : K → K → Bool) (hash : S → K → ℕ) (fi
 
     begins : Goes (Holds same hash fixed) KeepsFor s s.memory id (λ x. x ≡ calling v (machine_for same hash map t wanted))
     begins =
-        moved same hash fixed s h id v at_id (BeginsCall i map.number wanted) may (n t slot_is (begun same slot_of led.0 i wanted) (machine_for same hash map t wanted) machine_is) led.3 s.memory
-        (calling v (machine_for same hash map t wanted)) (go t slot_is (begun same slot_of led.0 i wanted) (machine_for same hash map t wanted) machine_is)
+        moved same hash fixed s h id v at_id (BeginsCall i map.number wanted) may (n t slot_is (begun same slot_of led.0 i wanted) (machine_for same hash map t wanted) machine_is on_row) led.3 s.memory
+        (calling v (machine_for same hash map t wanted)) (go t slot_is (begun same slot_of led.0 i wanted) (machine_for same hash map t wanted) machine_is on_row)
         (λ x. x ≡ calling v (machine_for same hash map t wanted)) refl
 
   -- its call is told this
@@ -162,8 +168,9 @@ module _ {K V S : Type 0} (same : K → K → Bool) (hash : S → K → ℕ) (fi
     tells : Goes (Holds same hash fixed) KeepsFor s s.memory id (λ x. x ≡ replied v machine reply)
     tells =
         let is = way_slot same hash fixed s h id v at_id map machine knows works in
-        moved same hash fixed s h id v at_id (TellsCall i map.number reply) told_may (n place is told_led.3 (machine_replied machine reply).0 reply_is) told_led.8 s.memory
-        (replied v machine reply) (go place is told_led.3 (machine_replied machine reply).0 reply_is) (λ x. x ≡ replied v machine reply) refl
+        let on = way_on same hash fixed s h id v at_id map machine knows works in
+        moved same hash fixed s h id v at_id (TellsCall i map.number reply) told_may (n place is told_led.3 (machine_replied machine reply).0 reply_is on) told_led.8 s.memory
+        (replied v machine reply) (go place is told_led.3 (machine_replied machine reply).0 reply_is on) (λ x. x ≡ replied v machine reply) refl
 
 module _ {K S : Type 0} (V : Type 0) (same : K → K → Bool) (hash : S → K → ℕ) where
   pub calls_begin : CallsBegin V same hash

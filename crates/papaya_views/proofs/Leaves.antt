@@ -3,9 +3,9 @@ use Rattle.std.specs.Prelude.{◌≢◌, Option, Some, None}
 use Rattle.std.proofs.Common.{◌≡◌, ℕ, Bool, refl, sym, subst, ◌∙◌, true, false, List, [], ◌∷◌}
 use Rattle.papaya_scenes.specs.Given.SeizeWords.Mem.{value_at}
 use Rattle.papaya_scenes.specs.Given.Seize.Law.{holds, is_over}
-use Rattle.papaya_scenes.specs.Given.Seize.World.{Use, Vacant, Outside, Inside, Changing, IsInside}
+use Rattle.papaya_scenes.specs.Given.Seize.World.{Row, Use, Vacant, Outside, Inside, Changing, IsInside}
 use Rattle.papaya_scenes.specs.Given.Tables.declared.node.Node.{Node}
-use Rattle.papaya_scenes.specs.Given.Callers.Rows.{IsUsedAlike}
+use Rattle.papaya_scenes.specs.Given.Callers.Rows.{IsUsedAlike, IsRowOn}
 use Rattle.papaya_scenes.specs.Given.Callers.Together.{UnderWay}
 use Rattle.papaya_scenes.specs.Given.Finishes.Maps.{Standing, with_call}
 use Rattle.papaya_scenes.specs.Scene.{Scene}
@@ -129,7 +129,7 @@ module _ {K V S : Type 0} (same : K → K → Bool) (hash : S → K → ℕ) whe
     }
     does_on k ne slot None (Calls p) f = absurd f
     does_on k ne slot (Some map) (Calls p) f =
-        (f.0, f.1, section_on f.0 f.2, record { call = f.3.call; here = leaves.calls map.number k ne ∙ f.3.here; is = f.3.is })
+        (f.0, f.1, section_on f.0 f.2, record { call = f.3.call; here = leaves.calls map.number k ne ∙ f.3.here; is = f.3.is }, subst (λ (x : Row). IsRowOn f.0 x) (sym (leaves.rows k ne)) f.4)
     does_on k ne slot map (Makes n hasher opening) f = (
       f.0,
       record { making = f.1.making; here = leaves.makers k ne ∙ f.1.here; map = f.1.map; hashes = f.1.hashes; is = f.1.is; calls = λ a. leaves.calls a k ne ∙ f.1.calls a },

@@ -8,6 +8,7 @@ use Rattle.papaya_scenes.specs.Given.Tables.declared.node.Node.{Node}
 use Rattle.papaya_scenes.specs.Given.Raw.declared.machines.machine.Machine.{Machine}
 use Rattle.papaya_scenes.specs.Given.Raw.declared.machines.progress.Progress.{Progress}
 use Rattle.papaya_scenes.specs.Given.Raw.declared.machines.progress.Progress.TheVariants as progress
+use Rattle.papaya_scenes.specs.Given.Callers.Rows.{IsRowOn}
 use Rattle.papaya_scenes.specs.Given.Callers.Together.{UnderWay}
 use Rattle.papaya_scenes.specs.Given.Finishes.Endings.{Finishing}
 use Rattle.papaya_scenes.specs.Given.Finishes.Machines.{machine_of, MachineStepsAmong, GoesOnAs}
@@ -22,6 +23,7 @@ use Rattle.papaya_views.specs.Rule.{HasRow, IsSlot, DoesSo, caller_at, IsFresh}
 use Rattle.papaya_views.specs.Told.{call_after}
 use Rattle.papaya_views.specs.declared.view.Map.{Map}
 use Rattle.papaya_views.specs.declared.view.Work.TheVariants.{Calls}
+use Rattle.papaya_views.proofs.Numbers.{slot_at}
 use Rattle.papaya_views.proofs.Sections.{calls_leave_sections, calls_end_none}
 use Rattle.papaya_views.proofs.Leaves.{Leaves, section_on, inside_alike, call_here, call_other, call_elsewhere}
 
@@ -44,7 +46,7 @@ module _ {K V S : Type 0} (same : K → K → Bool) (hash : S → K → ℕ) (ba
   only n ne None e = e
   only n ne (Some x) e = absurd (ne (all.makings.standing.once n m i (λ none. cc (none, e)) (λ none. cc (none, here))))
 
-  module _ (inside : IsInside (s.world.uses t)) (m2 : Mem (Node K V)) (machine : Machine K V K) (told : Progress (Node K V))
+  module _ (inside : IsInside (s.world.uses t)) (on_row : IsRowOn t (s.world.row i)) (m2 : Mem (Node K V)) (machine : Machine K V K) (told : Progress (Node K V))
       (did : MachineStepsAmong V same same batch_size roots slot_of s.world s.maps s.calls s.makers s.enders m it (caller_at id t) m2 u machine told) where
     abbrev pub after : Scene K V
     after = record { world = did.w2; maps = did.maps2; calls = with_call s.calls m i did.next; makers = s.makers; enders = s.enders }
@@ -91,6 +93,9 @@ module _ {K V S : Type 0} (same : K → K → Bool) (hash : S → K → ℕ) (ba
         calls_none n (inl e) = ap (λ (a : ℕ). with_call s.calls m i did.next a i) e ∙ call_here s.calls m i did.next ∙ none
         calls_none n (inr ne) = call_elsewhere s.calls m i did.next n ne ∙ only n ne (s.calls n i) refl
 
+    at_slot : slot_of i ≡ t
+    at_slot = slot_at id t its_slot
+
     -- or it goes on
     goes_as : (map : Map S) → map.number ≡ m → (x : UnderWay K V K) → did.next ≡ Some x → machine_of x ≡ machine
         → DoesSo same hash after i (slot_view.Inside t NoBlock) (Some map) (Calls machine)
@@ -99,6 +104,7 @@ module _ {K V S : Type 0} (same : K → K → Bool) (hash : S → K → ℕ) (ba
       refl,
       section_on same hash s after id t its_slot step_leaves t inside,
       record { call = x; here = ap (λ (a : ℕ). with_call s.calls m i did.next a i) number ∙ call_here s.calls m i did.next ∙ is; is = one },
+      subst (λ (a : ℕ). IsRowOn a (did.w2.row i)) at_slot (did.slots.on_slot (subst (λ (a : ℕ). IsRowOn a (s.world.row i)) (sym at_slot) on_row)),
     )
 
     pub own_does : (map : Map S) → map.number ≡ m → (end : Progress (Node K V)) → GoesOnAs machine end did.next

@@ -17,6 +17,7 @@ use Rattle.papaya_scenes.specs.Given.Raw.declared.machines.call.KeyCall.{KeyCall
 use Rattle.papaya_scenes.specs.Given.Raw.declared.machines.machine.Machine.{Machine}
 use Rattle.papaya_scenes.specs.Given.Raw.declared.machines.machine.Machine.TheVariants as kinds
 use Rattle.papaya_scenes.specs.Given.Raw.declared.machines.progress.Progress.{Progress}
+use Rattle.papaya_scenes.specs.Given.Callers.Rows.{IsRowOn}
 use Rattle.papaya_scenes.specs.Given.Callers.Together.{UnderWay, CallOnKey, OnKey, ForRoom, Counting, OverAll}
 use Rattle.papaya_scenes.specs.Given.Finishes.Machines.{machine_of}
 use Rattle.papaya_scenes.specs.Given.Finishes.Maps.{Standing}
@@ -84,6 +85,11 @@ module _ {K V S : Type 0} (same : K → K → Bool) (hash : S → K → ℕ) (fi
 
   pub inside : IsInside (scene.world.uses place)
   inside = inside_of same hash scene id place v NoBlock fits slot_is
+
+  pub on_row : IsRowOn place (scene.world.row (caller_at id place))
+  on_row =
+      let same_place : place ≡ does.0 = ap (λ (x : SlotView (Node K V)). place_of x) does.1 in
+      subst (λ (a : ℕ). IsRowOn a (scene.world.row (caller_at id place))) (sym same_place) does.4
 
   abbrev pub i : ℕ
   i = caller_at id place
@@ -177,12 +183,12 @@ module _ {K V S : Type 0} (same : K → K → Bool) (hash : S → K → ℕ) (fi
 
     abbrev n : Scene K V
     n =
-        after same hash fixed.batch_size fixed.roots scene all id place map.number fits.slot came.standing came.stands came.call came.here inside came.memory came.machine came.progress
+        after same hash fixed.batch_size fixed.roots scene all id place map.number fits.slot came.standing came.stands came.call came.here inside on_row came.memory came.machine came.progress
         came.did
 
     leaves : Leaves same hash scene n i
     leaves =
-        step_leaves same hash fixed.batch_size fixed.roots scene all id place map.number fits.slot came.standing came.stands came.call came.here inside came.memory came.machine came.progress
+        step_leaves same hash fixed.batch_size fixed.roots scene all id place map.number fits.slot came.standing came.stands came.call came.here inside on_row came.memory came.machine came.progress
         came.did
 
     abbrev w : View K V S
@@ -210,7 +216,7 @@ module _ {K V S : Type 0} (same : K → K → Bool) (hash : S → K → ℕ) (fi
       does =
           subst (λ (x : SlotView (Node K V)). DoesSo same hash n i x v.map (call_after came.machine came.progress)) (sym slot_is)
           (subst (λ (x : Option (Map S)). DoesSo same hash n i (slot_view.Inside place NoBlock) x (call_after came.machine came.progress)) (sym knows)
-          (own_does same hash fixed.batch_size fixed.roots scene all id place map.number fits.slot came.standing came.stands came.call came.here inside came.memory came.machine came.progress
+          (own_does same hash fixed.batch_size fixed.roots scene all id place map.number fits.slot came.standing came.stands came.call came.here inside on_row came.memory came.machine came.progress
           came.did map refl came.progress came.did.goes_on));
       map = map_on same hash scene n id place fits.slot leaves v.map fits.map;
       held = held_then (is_incremental map.setting.mode) (is_lookup {K = K} {V = V} machine) refl refl;
@@ -227,7 +233,7 @@ module _ {K V S : Type 0} (same : K → K → Bool) (hash : S → K → ℕ) (fi
       held = λ t b is held over. let g = leaves.held t b is held over in (g.0, g.1);
       fresh = (
         so.fresh.0,
-        step_fresh same hash fixed.batch_size fixed.roots scene all id place map.number fits.slot came.standing came.stands came.call came.here inside came.memory came.machine came.progress
+        step_fresh same hash fixed.batch_size fixed.roots scene all id place map.number fits.slot came.standing came.stands came.call came.here inside on_row came.memory came.machine came.progress
             came.did so.fresh.0 so.fresh.1,
       );
       ended = leaves.ended;

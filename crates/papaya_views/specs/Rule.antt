@@ -7,7 +7,7 @@ use Rattle.papaya_scenes.specs.Given.Seize.World.{World, Use, Rests, IsInside}
 use Rattle.papaya_scenes.specs.Given.Tables.declared.node.Node.{Node}
 use Rattle.papaya_scenes.specs.Given.Resize.declared.new_map.NewMap.{NewMap}
 use Rattle.papaya_scenes.specs.Given.Raw.declared.machines.machine.Machine.{Machine}
-use Rattle.papaya_scenes.specs.Given.Callers.Rows.{IsUsedAlike}
+use Rattle.papaya_scenes.specs.Given.Callers.Rows.{IsUsedAlike, IsRowOn}
 use Rattle.papaya_scenes.specs.Given.Callers.Together.{UnderWay}
 use Rattle.papaya_scenes.specs.Given.Finishes.Machines.{machine_of}
 use Rattle.papaya_scenes.specs.Given.Finishes.Makings.{Beginning}
@@ -97,7 +97,7 @@ module _ {K V S : Type 0} (same : K → K → Bool) (hash : S → K → ℕ) whe
   abbrev pub DoesSo : Scene K V → ℕ → SlotView (Node K V) → Option (Map S) → Work K V S → Type 0
   DoesSo s i slot map Nothing = HasRow s i slot
   DoesSo s i slot None (Calls machine) = ⊥
-  DoesSo s i slot (Some map) (Calls machine) = (t : ℕ) × (slot ≡ slot_view.Inside t NoBlock) × IsInside (s.world.uses t) × HasCall s i map.number machine
+  DoesSo s i slot (Some map) (Calls machine) = (t : ℕ) × (slot ≡ slot_view.Inside t NoBlock) × IsInside (s.world.uses t) × HasCall s i map.number machine × IsRowOn t (s.world.row i)
   DoesSo s i slot map (Makes m hasher opening) = (slot ≡ slot_view.Rests) × HasMaking s i m (hash hasher) opening × (s.world.row i ≡ Rests)
 
   -- the map that it knows stands, as it knows it
