@@ -12,3 +12,4 @@ mod Held
 mod Begins
 mod Handing
 mod Makings
+pub mod Exact
