@@ -22,7 +22,7 @@ use Rattle.papaya_reclaims.specs.Reclaims.{ReclaimingAt}
 use Rattle.papaya_reclaims.specs.Slots.{AreItsRows}
 use Rattle.papaya_acts.specs.Acts.{Answer, OfReclaiming}
 use Rattle.papaya_acts.specs.Courses.{AreAlike, CoursesAgree}
-use Rattle.papaya_acts.specs.Doings.{Doing, Does, BeginsReclaiming, BeginsClearing, StepsReclaiming, still, Stage, reclaiming, behind, MayDo, HasBegun, HasStepped, HasDone}
+use Rattle.papaya_acts.specs.Doings.{Doing, Does, BeginsReclaiming, BeginsClearing, StepsReclaiming, Chooses, memory_chosen, scene_chosen, still, Stage, reclaiming, behind, MayDo, HasBegun, HasStepped, HasDone}
 use Rattle.papaya_acts.specs.Lists.{Course, Reached, LedOn, nothing_done, on_by}
 use Rattle.papaya_acts.specs.Reclaiming.{ReclaimedOn}
 use Rattle.papaya_acts.proofs.Courses.{by_act, same_set_up}
@@ -143,6 +143,18 @@ module _ {K S : Type 0} (V : Type 0) (same : K → K → Bool) (hash : S → K �
     by_doing (BeginsReclaiming i) may told told2 begun begun2 = begun_agree i (reclaiming_all batch_size roots) told told2 begun begun2
     by_doing (BeginsClearing i) may told told2 begun begun2 = begun_agree i (clearing roots) told told2 begun begun2
     by_doing (StepsReclaiming g) may told told2 one two = stepped_agree g told told2 one two
+    by_doing (Chooses choice) may told told2 (none, is, lists, idle) (none2, is2, lists2, idle2) = (
+      subst (λ (x : Scene K V). AreAlike x o.0) (sym is) (subst (AreAlike (scene_chosen choice p.0)) (sym is2) (record {
+        memory = ap (memory_chosen choice) alike.memory;
+        maps = alike.maps;
+        calls = alike.calls;
+        makers = alike.makers;
+        enders = alike.enders;
+        rows = alike.rows;
+      })),
+      none ∙ sym none2,
+      idle ∙ sym idle2,
+    )
 
 abbrev SoFar : {K S : Type 0} (V : Type 0) (same : K → K → Bool) (hash : S → K → ℕ) (batch_size roots : ℕ) (slot : ℕ → ℕ) (x y : Reached V same hash batch_size roots slot) → Type 0
 SoFar V same hash batch_size roots slot x y = AreAlike x.0.0 y.0.0 × (x.1 ≡ y.1) × (reclaiming V same hash batch_size roots slot x.0 ≡ reclaiming V same hash batch_size roots slot y.0)

@@ -45,7 +45,7 @@ use Rattle.papaya_scenes.proofs.Given.Finishes.Among.MachinesTold.{machines_told
 use Rattle.papaya_scenes.proofs.Given.Finishes.Among.Rooms.{rooms_begin_among}
 use Rattle.papaya_scenes.proofs.Given.Finishes.Among.Sweeps.{sweeps_begin_among, sweeps_told_among, walks_stop_among}
 use Rattle.seize_acts.specs.Acts.{is_within}
-use Rattle.papaya_acts.specs.Acts.{Wanted, Get, Remove, Insert, TryToInsert, Compute, Update, UpdateOrInsert, TryToInsertWith, RemoveIf, MakeRoom, Count, GoOver, Answer, Nothing, OfCall, OfReply, OfAsking, BeginsCall, StepsCall, TellsCall, AsksCall, StopsCall, UnlessToCount, its, begun}
+use Rattle.papaya_acts.specs.Acts.{Wanted, Get, Remove, Insert, TryToInsert, Compute, Update, UpdateOrInsert, TryToInsertWith, RemoveIf, GetKeyValue, ContainsKey, GetOrInsert, GetOrInsertWith, RemoveEntry, MakeRoom, Count, GoOver, Answer, Nothing, OfCall, OfReply, OfAsking, BeginsCall, StepsCall, TellsCall, AsksCall, StopsCall, UnlessToCount, its, begun}
 use Rattle.papaya_acts.specs.Leads.{MayBe, AllStand, Led, asked_on, call_at, call_steps}
 use Rattle.papaya_acts.proofs.Tests.{some_is, inside_is, its_class}
 use Rattle.papaya_scenes.proofs.NoCall.{none_is}
@@ -165,6 +165,16 @@ module _ {K V S : Type 0} (same : K → K → Bool) (hash : S → K → ℕ) (ba
           on within (same key) (IsTold tries_to_insert_with (Some key) []) (trying_to_insert_with (its slot standing i) (standing.hash key) key) (begins.TriesToInsertWith key)
       by (RemoveIf key) within = on within (same key) (IsTold removes_if None []) (removing_if (its slot standing i) (standing.hash key) key)
           (begins.RemovesIf key (standing.hash key) (lawful.fits key) (its_class same standing.hash lawful key))
+      by (GetKeyValue key) within = on within (same key) (Begun gets None) (getting (its slot standing i) (standing.hash key) key)
+          (begins.Gets key (standing.hash key) (lawful.fits key) (its_class same standing.hash lawful key))
+      by (ContainsKey key) within = on within (same key) (Begun gets None) (getting (its slot standing i) (standing.hash key) key)
+          (begins.Gets key (standing.hash key) (lawful.fits key) (its_class same standing.hash lawful key))
+      by (GetOrInsert key value) within =
+          on within (same key) (Begun tries_to_insert (Some (node.Pair key value))) (trying_to_insert (its slot standing i) (standing.hash key) key value) (begins.TriesToInsert key value)
+      by (GetOrInsertWith key) within =
+          on within (same key) (IsTold tries_to_insert_with (Some key) []) (trying_to_insert_with (its slot standing i) (standing.hash key) key) (begins.TriesToInsertWith key)
+      by (RemoveEntry key) within = on within (same key) (Begun removes None) (removing (its slot standing i) (standing.hash key) key)
+          (begins.Removes key (standing.hash key) (lawful.fits key) (its_class same standing.hash lawful key))
       by (MakeRoom additional) within =
           rooms_begin_among V same same batch_size roots slot s.world s.maps s.calls s.makers s.enders all i (none_is (s.makers i) free.no_making) (none_is (s.enders i) free.no_ending)
           no_call (rests_is (s.world.row i) rest) (inside_is (s.world.uses (slot i)) within) m standing stands (few standing stands) additional

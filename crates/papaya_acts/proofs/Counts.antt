@@ -39,7 +39,7 @@ use Rattle.papaya_scenes.specs.Given.Finishes.Maps.{Standing, with_call}
 use Rattle.papaya_acts.specs.Acts.{Act, Answer, OfCall, Wanted, Count, its, begun}
 use Rattle.papaya_acts.specs.Acts.{BeginsCall, StepsCall, TellsCall, AsksCall, StopsCall, BeginsMaking, StepsMaking, BeginsEnding, StepsEnding, BeginsRow, StepsRow}
 use Rattle.papaya_acts.specs.Counts.{HasRead, is_its, next_shard, read_on, shard_of_call, read_by, words_on, words_read, CountingsAddUp, CountingsAnswerTheSum}
-use Rattle.papaya_acts.specs.Doings.{Doing, Does, BeginsReclaiming, BeginsClearing, StepsReclaiming, Stage, MayDo, HasDone}
+use Rattle.papaya_acts.specs.Doings.{Doing, Does, BeginsReclaiming, BeginsClearing, StepsReclaiming, Chooses, Stage, MayDo, HasDone}
 use Rattle.papaya_acts.specs.Leads.{Led, CallCame, MakingCame, EndingCame, asked_on}
 use Rattle.papaya_acts.proofs.Calls.{asked_machine}
 use Rattle.papaya_acts.specs.Lists.{Course, Reached, LedOn, LedTo, nothing_done, on_by}
@@ -233,6 +233,7 @@ module _ {K V S : Type 0} (same : K → K → Bool) (hash : S → K → ℕ) (ba
   by_doing i m words p n before c now (Does act) told (led, idle) = by_act same hash batch_size roots slot p.0 i m words before n.0 c now act told led
   by_doing i m words p n before c now (BeginsReclaiming j) told (none, is, lists, begun) = before c (ap (λ (s : Scene K V). s.calls m i) (sym is) ∙ now)
   by_doing i m words p n before c now (BeginsClearing j) told (none, is, lists, begun) = before c (ap (λ (s : Scene K V). s.calls m i) (sym is) ∙ now)
+  by_doing i m words p n before c now (Chooses choice) told (none, is, lists, idle) = before c (ap (λ (s : Scene K V). s.calls m i) (sym is) ∙ now)
   by_doing i m words p n before c now (StepsReclaiming g) told stepped = before c (ap (λ (s : Scene K V). s.calls m i) (sym stepped.did.comes) ∙ now)
 
 module _ {K V S : Type 0} (same : K → K → Bool) (hash : S → K → ℕ) (batch_size roots : ℕ) (slot : ℕ → ℕ) (course : Course V same hash batch_size roots slot) where

@@ -41,7 +41,7 @@ use Rattle.papaya_scenes.specs.Given.Finishes.Makings.{Beginning}
 use Rattle.papaya_scenes.specs.Given.Finishes.Maps.{Standing, IsSameMap, with_call}
 use Rattle.papaya_scenes.proofs.Given.Finishes.Among.Sweeps.{walks_stop_among}
 use Rattle.papaya_scenes.specs.Making.{making_begun}
-use Rattle.papaya_acts.specs.Acts.{Act, Answer, OfCall, OfReply, OfAsking, OfMaking, OfEnding, Wanted, Get, Remove, Insert, TryToInsert, Compute, Update, UpdateOrInsert, TryToInsertWith, RemoveIf, MakeRoom, Count, GoOver, begun}
+use Rattle.papaya_acts.specs.Acts.{Act, Answer, OfCall, OfReply, OfAsking, OfMaking, OfEnding, Wanted, Get, Remove, Insert, TryToInsert, Compute, Update, UpdateOrInsert, TryToInsertWith, RemoveIf, GetKeyValue, ContainsKey, GetOrInsert, GetOrInsertWith, RemoveEntry, MakeRoom, Count, GoOver, begun}
 use Rattle.papaya_acts.specs.Acts.{BeginsCall, StepsCall, TellsCall, AsksCall, StopsCall, BeginsMaking, StepsMaking, BeginsEnding, StepsEnding, BeginsRow, StepsRow}
 use Rattle.papaya_acts.specs.Courses.{set_up, AreAlike}
 use Rattle.papaya_acts.specs.Leads.{MayBe, AllStand, Led, CallCame, MakingCame, EndingCame, asked_on}
@@ -83,6 +83,11 @@ begins_as {K} same slot i s t e (Update key) = ap (λ (x : Setting × (K → ℕ
 begins_as {K} same slot i s t e (UpdateOrInsert key absent) = ap (λ (x : Setting × (K → ℕ)). kinds.Key (updating_or_inserting (in_slot x.0 (slot i)) (x.1 key) key (told_first absent))) e
 begins_as {K} same slot i s t e (TryToInsertWith key) = ap (λ (x : Setting × (K → ℕ)). kinds.Key (trying_to_insert_with (in_slot x.0 (slot i)) (x.1 key) key)) e
 begins_as {K} same slot i s t e (RemoveIf key) = ap (λ (x : Setting × (K → ℕ)). kinds.Key (removing_if (in_slot x.0 (slot i)) (x.1 key) key)) e
+begins_as {K} same slot i s t e (GetKeyValue key) = ap (λ (x : Setting × (K → ℕ)). kinds.Key (getting (in_slot x.0 (slot i)) (x.1 key) key)) e
+begins_as {K} same slot i s t e (ContainsKey key) = ap (λ (x : Setting × (K → ℕ)). kinds.Key (getting (in_slot x.0 (slot i)) (x.1 key) key)) e
+begins_as {K} same slot i s t e (GetOrInsert key value) = ap (λ (x : Setting × (K → ℕ)). kinds.Key (trying_to_insert (in_slot x.0 (slot i)) (x.1 key) key value)) e
+begins_as {K} same slot i s t e (GetOrInsertWith key) = ap (λ (x : Setting × (K → ℕ)). kinds.Key (trying_to_insert_with (in_slot x.0 (slot i)) (x.1 key) key)) e
+begins_as {K} same slot i s t e (RemoveEntry key) = ap (λ (x : Setting × (K → ℕ)). kinds.Key (removing (in_slot x.0 (slot i)) (x.1 key) key)) e
 begins_as {K} same slot i s t e (MakeRoom additional) = ap (λ (x : Setting × (K → ℕ)). kinds.Reserve (reserving (in_slot x.0 (slot i)) additional)) e
 begins_as {K} same slot i s t e Count = ap (λ (x : Setting × (K → ℕ)). kinds.Count (summing (in_slot x.0 (slot i)))) e
 begins_as {K} same slot i s t e (GoOver purpose) = ap (λ (x : Setting × (K → ℕ)). kinds.Sweep (sweeping (in_slot x.0 (slot i)) purpose)) e

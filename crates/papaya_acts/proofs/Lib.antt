@@ -3,6 +3,7 @@ pub mod Calls
 mod Makings
 pub mod Rows
 pub mod Left
+pub mod Chosen
 pub mod Lists
 mod Once
 pub mod Further

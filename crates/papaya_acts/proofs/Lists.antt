@@ -37,11 +37,12 @@ use Rattle.papaya_reclaims.specs.Slots.{IsQuiet}
 use Rattle.papaya_reclaims.proofs.Left.Stays.{left_is_left_behind, nothing_is_left}
 use Rattle.papaya_reclaims.proofs.Promised.{reclaiming_begins}
 use Rattle.papaya_acts.specs.Acts.{Act, Answer, Nothing, OfReclaiming, BeginsCall, StepsCall, TellsCall, AsksCall, StopsCall, BeginsMaking, StepsMaking, BeginsEnding, StepsEnding, BeginsRow, StepsRow}
-use Rattle.papaya_acts.specs.Doings.{Doing, Does, BeginsReclaiming, BeginsClearing, StepsReclaiming, is_vacant, IsLeft, AllAreFree, SlotsAreFree, still, Stage, MayDo, HasDone}
+use Rattle.papaya_acts.specs.Doings.{Doing, Does, BeginsReclaiming, BeginsClearing, StepsReclaiming, Chooses, scene_chosen, is_vacant, IsLeft, AllAreFree, SlotsAreFree, still, Stage, MayDo, HasDone}
 use Rattle.papaya_acts.specs.Leads.{MayBe, AllStand, Led}
 use Rattle.papaya_acts.specs.Lists.{AllMayStep, AllAreActs, StepsAreActs, Course, ListsDetermine}
 use Rattle.papaya_acts.specs.Reclaiming.{IsReclaimingAll, ReclaimedOn}
 use Rattle.papaya_acts.proofs.Calls.{call_begins, call_goes_on, call_told, call_asked, call_stops}
+use Rattle.papaya_acts.proofs.Chosen.{chosen_stand, left_chosen}
 use Rattle.papaya_acts.proofs.Left.{by_act as left_by_act}
 use Rattle.papaya_acts.proofs.Makings.{making_begins, making_goes_on, ending_begins, ending_goes_on}
 use Rattle.papaya_acts.proofs.Once.{is_determined}
@@ -198,6 +199,9 @@ module _ {K V S : Type 0} (same : K → K → Bool) (hash : S → K → ℕ) (ba
   does_on lawful (s, all, inr (i, lists, c, reclaims)) (Does act) may = absurd (cc (may.0))
   does_on lawful (s, all, inr (j, lists, c, reclaims)) (BeginsReclaiming i) may = absurd (cc (may.0))
   does_on lawful (s, all, inr (j, lists, c, reclaims)) (BeginsClearing i) may = absurd (cc (may.0))
+  does_on lawful (s, all, inl (lists, left)) (Chooses choice) idle =
+      (Nothing, (scene_chosen choice s, chosen_stand V same hash batch_size roots slot s all choice, inl (lists, left_chosen choice roots s lists left)), (refl, refl, refl, refl))
+  does_on lawful (s, all, inr (j, lists, c, reclaims)) (Chooses choice) may = absurd (cc may)
 
   -- at first all roots are free
   free_at_first : IsLeft {K = K} {V = V} roots (at_first roots) (λ r. [])

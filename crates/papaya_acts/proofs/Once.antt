@@ -7,9 +7,9 @@ use Rattle.std.proofs.Math.Pow.{pow-lt}
 use Rattle.std.proofs.lemmas.Bool.{cases_order}
 use Rattle.papaya_scenes.specs.Given.Seize.World.{Request, Register', Enter', Leave', LeaveOwned, Refresh, Unregister', Retire, Flush, Defer'}
 use Rattle.papaya_scenes.specs.Given.Callers.Together.{UnderWay, OnKey, ForRoom, Counting, OverAll, UnlessCounts, IsOfSlots, Closes}
-use Rattle.papaya_acts.specs.Acts.{Wanted, Get, Remove, Insert, TryToInsert, Compute, Update, UpdateOrInsert, TryToInsertWith, RemoveIf, MakeRoom, Count, GoOver, UnlessToCount}
+use Rattle.papaya_acts.specs.Acts.{Wanted, Get, Remove, Insert, TryToInsert, Compute, Update, UpdateOrInsert, TryToInsertWith, RemoveIf, GetKeyValue, ContainsKey, GetOrInsert, GetOrInsertWith, RemoveEntry, MakeRoom, Count, GoOver, UnlessToCount}
 use Rattle.papaya_acts.specs.Acts.{Act, BeginsCall, StepsCall, TellsCall, AsksCall, StopsCall, BeginsMaking, StepsMaking, BeginsEnding, StepsEnding, BeginsRow, StepsRow}
-use Rattle.papaya_acts.specs.Doings.{Doing, Does, BeginsReclaiming, BeginsClearing, StepsReclaiming, AllAreFree, SlotsAreFree, Stage, MayDo}
+use Rattle.papaya_acts.specs.Doings.{Doing, Does, BeginsReclaiming, BeginsClearing, StepsReclaiming, Chooses, AllAreFree, SlotsAreFree, Stage, MayDo}
 use Rattle.seize_acts.specs.Acts.{is_within}
 use Rattle.papaya_acts.specs.Leads.{IsFree, AreFewWith, MayBe}
 use Rattle.papaya_acts.specs.Lists.{Course, Reached, LedOn, nothing_done, on_by, IsDetermined}
@@ -70,6 +70,11 @@ to_count_prop same (Update key) = same
 to_count_prop same (UpdateOrInsert key absent) = same
 to_count_prop same (TryToInsertWith key) = same
 to_count_prop same (RemoveIf key) = same
+to_count_prop same (GetKeyValue key) = same
+to_count_prop same (ContainsKey key) = same
+to_count_prop same (GetOrInsert key value) = same
+to_count_prop same (GetOrInsertWith key) = same
+to_count_prop same (RemoveEntry key) = same
 to_count_prop same (MakeRoom additional) = same
 to_count_prop same (GoOver purpose) = same
 
@@ -105,6 +110,7 @@ module _ {K V S : Type 0} (same : K → K → Bool) (hash : S → K → ℕ) (ba
   may_do_prop (BeginsReclaiming i) p = hlevel (bool_set, le_prop, free_all_prop p.0)
   may_do_prop (BeginsClearing i) p = hlevel (bool_set, le_prop, free_all_prop p.0, slots_prop p.0)
   may_do_prop (StepsReclaiming g) p = hlevel (bool_set, le_prop)
+  may_do_prop (Chooses choice) p = bool_set _ _
 
   module _ (course : Course V same hash batch_size roots slot) where
     led_once : (doings : List (Doing K V S)) (x y z : Reached V same hash batch_size roots slot) → LedOn V same hash batch_size roots slot course doings x y

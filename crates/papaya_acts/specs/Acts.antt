@@ -34,6 +34,12 @@ pub data Wanted (K V : Type 0) : Type 0 where
   UpdateOrInsert : K → Option V → Wanted K V  -- with what is to be stored where the key is missing, if that is told at first
   TryToInsertWith : K → Wanted K V
   RemoveIf : K → Wanted K V
+  -- these do what others do, and answer otherwise
+  GetKeyValue : K → Wanted K V
+  ContainsKey : K → Wanted K V
+  GetOrInsert : K → V → Wanted K V
+  GetOrInsertWith : K → Wanted K V
+  RemoveEntry : K → Wanted K V
   MakeRoom : ℕ → Wanted K V  -- for so many further pairs
   Count : Wanted K V
   GoOver : Purpose → Wanted K V
@@ -88,6 +94,11 @@ module _ {K V : Type 0} (same : K → K → Bool) (slot : ℕ → ℕ) (s : Stan
       on_key (same key) (IsTold updates_or_inserts (Some key) (told_before absent)) (updating_or_inserting (its slot s i) (s.hash key) key (told_first absent))
   begun (TryToInsertWith key) = on_key (same key) (IsTold tries_to_insert_with (Some key) []) (trying_to_insert_with (its slot s i) (s.hash key) key)
   begun (RemoveIf key) = on_key (same key) (IsTold removes_if None []) (removing_if (its slot s i) (s.hash key) key)
+  begun (GetKeyValue key) = on_key (same key) (Begun gets None) (getting (its slot s i) (s.hash key) key)
+  begun (ContainsKey key) = on_key (same key) (Begun gets None) (getting (its slot s i) (s.hash key) key)
+  begun (GetOrInsert key value) = on_key (same key) (Begun tries_to_insert (Some (node.Pair key value))) (trying_to_insert (its slot s i) (s.hash key) key value)
+  begun (GetOrInsertWith key) = on_key (same key) (IsTold tries_to_insert_with (Some key) []) (trying_to_insert_with (its slot s i) (s.hash key) key)
+  begun (RemoveEntry key) = on_key (same key) (Begun removes None) (removing (its slot s i) (s.hash key) key)
   begun (MakeRoom additional) = ForRoom (record { began = s.chart.now; reserve = reserving (its slot s i) additional })
   begun Count = Counting (summing (its slot s i))
   begun (GoOver purpose) = OverAll (begun_over_all s.chart.now (its slot s i) purpose)

@@ -12,9 +12,9 @@ use Rattle.papaya_scenes.specs.Given.Tables.declared.setting.Setting.{Setting}
 use Rattle.papaya_scenes.specs.Given.Sweeps.declared.sweep.Purpose.TheVariants as purpose
 use Rattle.papaya_scenes.specs.Given.Raw.declared.machines.asking.Reply.{Reply}
 use Rattle.papaya_scenes.specs.Given.Raw.declared.machines.asking.Reply.TheVariants as reply
-use Rattle.papaya_acts.specs.Acts.{Wanted, Get, Remove, Insert, TryToInsert, Compute, Update, UpdateOrInsert, TryToInsertWith, RemoveIf, MakeRoom, Count, GoOver}
+use Rattle.papaya_acts.specs.Acts.{Wanted, Get, Remove, Insert, TryToInsert, Compute, Update, UpdateOrInsert, TryToInsertWith, RemoveIf, GetKeyValue, ContainsKey, GetOrInsert, GetOrInsertWith, RemoveEntry, MakeRoom, Count, GoOver}
 use Rattle.papaya_acts.specs.Acts.{Act, BeginsCall, StepsCall, TellsCall, AsksCall, StopsCall, BeginsMaking, StepsMaking, BeginsEnding, StepsEnding, BeginsRow, StepsRow}
-use Rattle.papaya_acts.specs.Doings.{Doing, Does, BeginsReclaiming, BeginsClearing, StepsReclaiming}
+use Rattle.papaya_acts.specs.Doings.{Doing, Does, BeginsReclaiming, BeginsClearing, StepsReclaiming, Chooses}
 
 abbrev coded_grant : Coded Grant
 coded_grant = coded_option coded_ℕ
@@ -79,8 +79,13 @@ module _ {K V : Type 0} where
   wanted_split (Update key) = inl (3, key)
   wanted_split (TryToInsertWith key) = inl (4, key)
   wanted_split (RemoveIf key) = inl (5, key)
+  wanted_split (GetKeyValue key) = inl (6, key)
+  wanted_split (ContainsKey key) = inl (7, key)
+  wanted_split (GetOrInsertWith key) = inl (8, key)
+  wanted_split (RemoveEntry key) = inl (9, key)
   wanted_split (Insert key value) = inr (inl (0, (key, value)))
   wanted_split (TryToInsert key value) = inr (inl (1, (key, value)))
+  wanted_split (GetOrInsert key value) = inr (inl (2, (key, value)))
   wanted_split (UpdateOrInsert key absent) = inr (inr (inl (key, absent)))
   wanted_split (MakeRoom additional) = inr (inr (inr (0, additional)))
   wanted_split Count = inr (inr (inr (1, 0)))
@@ -94,11 +99,16 @@ module _ {K V : Type 0} where
   key_kind (suc (suc zero)) key = Compute key
   key_kind (suc (suc (suc zero))) key = Update key
   key_kind (suc (suc (suc (suc zero)))) key = TryToInsertWith key
-  key_kind (suc (suc (suc (suc (suc k))))) key = RemoveIf key
+  key_kind (suc (suc (suc (suc (suc zero))))) key = RemoveIf key
+  key_kind (suc (suc (suc (suc (suc (suc zero)))))) key = GetKeyValue key
+  key_kind (suc (suc (suc (suc (suc (suc (suc zero))))))) key = ContainsKey key
+  key_kind (suc (suc (suc (suc (suc (suc (suc (suc zero)))))))) key = GetOrInsertWith key
+  key_kind (suc (suc (suc (suc (suc (suc (suc (suc (suc k))))))))) key = RemoveEntry key
 
   abbrev pair_kind : ℕ → K → V → Wanted K V
   pair_kind zero key value = Insert key value
-  pair_kind (suc k) key value = TryToInsert key value
+  pair_kind (suc zero) key value = TryToInsert key value
+  pair_kind (suc (suc k)) key value = GetOrInsert key value
 
   abbrev whole_kind : ℕ → ℕ → Wanted K V
   whole_kind zero additional = MakeRoom additional
@@ -123,6 +133,11 @@ module _ {K V : Type 0} where
   wanted_join-split (Insert key value) = refl
   wanted_join-split (TryToInsert key value) = refl
   wanted_join-split (UpdateOrInsert key absent) = refl
+  wanted_join-split (GetKeyValue key) = refl
+  wanted_join-split (ContainsKey key) = refl
+  wanted_join-split (GetOrInsert key value) = refl
+  wanted_join-split (GetOrInsertWith key) = refl
+  wanted_join-split (RemoveEntry key) = refl
   wanted_join-split (MakeRoom additional) = refl
   wanted_join-split Count = refl
   wanted_join-split (GoOver purpose.Walks) = refl
@@ -220,17 +235,19 @@ module _ {K V S : Type 0} where
       (coded⊎ (coded× coded_ℕ (coded× coded_ℕ coded_grant)) (coded× coded_ℕ coded_request)))))))
       act_split act_join act_join-split
 
-  -- and what a caller does that reclaims all
+  -- what a caller does that reclaims all, and choices
 
   abbrev doing_split : Doing K V S → DoingParts K V S
   doing_split (Does act) = inl act
   doing_split (BeginsReclaiming i) = inr (inl (0, i))
   doing_split (BeginsClearing i) = inr (inl (1, i))
+  doing_split (Chooses choice) = inr (inl (2, choice))
   doing_split (StepsReclaiming g) = inr (inr g)
 
   abbrev all_kind : ℕ → ℕ → Doing K V S
   all_kind zero i = BeginsReclaiming i
-  all_kind (suc k) i = BeginsClearing i
+  all_kind (suc zero) i = BeginsClearing i
+  all_kind (suc (suc k)) i = Chooses i
 
   abbrev doing_join : DoingParts K V S → Doing K V S
   doing_join (inl act) = Does act
@@ -242,6 +259,7 @@ module _ {K V S : Type 0} where
   doing_join-split (BeginsReclaiming i) = refl
   doing_join-split (BeginsClearing i) = refl
   doing_join-split (StepsReclaiming g) = refl
+  doing_join-split (Chooses choice) = refl
 
   abbrev pub coded_doing : Coded K → Coded V → Coded S → Coded (Doing K V S)
   coded_doing k v s = code_by (DoingParts K V S) (coded⊎ (coded_act k v s) (coded⊎ (coded× coded_ℕ coded_ℕ) coded_grant)) doing_split doing_join doing_join-split

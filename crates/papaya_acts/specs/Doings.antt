@@ -1,9 +1,9 @@
--- What a list of acts is made of: acts, and what a caller does that reclaims all, while nobody has anything under way. Where it stands, when each may be done,
--- and where it leads.
-use Rattle.std.specs.Prelude.{◌≡◌, ◌⊎◌, ℕ, ◌<◌, ◌≤◌, ◌^◌, Bool, true, false, List, Option, Some, None}
+-- What a list of acts is made of: acts, what a caller does that reclaims all, while nobody has anything under way, and choices of numbers. Where it stands, when
+-- each may be done, and where it leads.
+use Rattle.std.specs.Prelude.{◌≡◌, ◌⊎◌, ℕ, ◌<◌, ◌≤◌, ◌^◌, ◌++◌, ◌∷◌, [], Bool, true, false, List, Option, Some, None}
 use Rattle.std.specs.Option.{is_none}
 use Rattle.std.proofs.Common.{inl, inr}
-use Rattle.papaya_scenes.specs.Given.SeizeWords.Mem.{word_at}
+use Rattle.papaya_scenes.specs.Given.SeizeWords.Mem.{Mem, word_at}
 use Rattle.papaya_scenes.specs.Given.SeizeWords.declared.at.At.TheVariants.{Slot}
 use Rattle.papaya_scenes.specs.Given.Seize.ReclaimAll.{reclaiming_all, clearing}
 use Rattle.papaya_scenes.specs.Given.Seize.World.{Use, Vacant}
@@ -26,6 +26,7 @@ pub data Doing (K V S : Type 0) : Type 0 where
   BeginsReclaiming : ℕ → Doing K V S  -- this caller begins to reclaim all, with the slots
   BeginsClearing : ℕ → Doing K V S  -- or with the roots, where no slot is in use and none has a batch
   StepsReclaiming : Grant → Doing K V S  -- it takes its next step
+  Chooses : ℕ → Doing K V S  -- a choice joins those that are left in the memory: nobody's, and no step
 
 abbrev pub is_vacant : Use → Bool
 is_vacant Vacant = true
@@ -47,6 +48,13 @@ module _ {K V : Type 0} where
   pub record SlotsAreFree (s : Scene K V) : Type 0 where
     pub vacant : (t : ℕ) → is_vacant (s.world.uses t) ≡ true
     pub none : (t : ℕ) → t ≤ LAST_SLOT → HasNoBatch s.world t
+
+-- the memory with a further choice, and the scene that has it
+abbrev pub memory_chosen : {T : Type 0} → ℕ → Mem T → Mem T
+memory_chosen choice m = record m { choices = m.choices ++ choice ∷ [] }
+
+abbrev pub scene_chosen : {K V : Type 0} → ℕ → Scene K V → Scene K V
+scene_chosen choice s = record s { world = record s.world { memory = memory_chosen choice s.world.memory } }
 
 -- who reclaims all goes on, or has come to its end
 abbrev pub still : {T : Type 0} → Settled T → ℕ × ReclaimAll → Option (ℕ × ReclaimAll)
@@ -86,6 +94,7 @@ module _ {K S : Type 0} (V : Type 0) (same : K → K → Bool) (hash : S → K �
       (is_none (reclaiming p) ≡ true) × (batch_size < 2 ^ 64) × AllAreFree p.0 × (is_none (word_at p.0.world.memory (Slot 0 HEAD)) ≡ false)
   MayDo (BeginsClearing i) p = (is_none (reclaiming p) ≡ true) × (batch_size < 2 ^ 64) × AllAreFree p.0 × SlotsAreFree p.0
   MayDo (StepsReclaiming g) p = (batch_size < 2 ^ 64) × (is_none (then_on (reclaiming p) (λ it. reclaiming_steps p.0 g it.1)) ≡ false)
+  MayDo (Chooses choice) p = is_none (reclaiming p) ≡ true
 
   -- a caller has begun to reclaim all with this machine
   abbrev pub HasBegun : ℕ → ReclaimAll → Stage → Answer K V → Stage → Type 0
@@ -110,3 +119,4 @@ module _ {K S : Type 0} (V : Type 0) (same : K → K → Bool) (hash : S → K �
   HasDone (BeginsReclaiming i) p told n = HasBegun i (reclaiming_all batch_size roots) p told n
   HasDone (BeginsClearing i) p told n = HasBegun i (clearing roots) p told n
   HasDone (StepsReclaiming g) p told n = HasStepped g p told n
+  HasDone (Chooses choice) p told n = (told ≡ Nothing) × (n.0 ≡ scene_chosen choice p.0) × (behind n ≡ behind p) × (reclaiming n ≡ None)

@@ -1,5 +1,5 @@
--- Where no number is given to two maps, a map comes with a number with which none has come, and of which no other one is made.
-use Rattle.std.specs.Prelude.{◌≢◌, ◌⊎◌, ◌==◌, Option, Some, None, is_ok, option_map, if◌then◌else◌}
+-- Where no number is given to two maps, each map is made with a new number; and where it is, none is taken with it before it has its root, and no other one is made with it.
+use Rattle.std.specs.Prelude.{◌≢◌, ◌⊎◌, ◌==◌, Option, Some, None, is_ok, length, option_map, if◌then◌else◌}
 use Rattle.std.proofs.Common.{◌≡◌, ℕ, Bool, true, false, List, [], ◌∷◌, inl, inr, refl, ap, sym, subst, ◌∙◌}
 use Rattle.std.proofs.lemmas.Bool.{cases_eq, eq-eqb, ne_eqb}
 use Rattle.seize_acts.specs.Answers.{Grant}
@@ -19,37 +19,42 @@ use Rattle.papaya_scenes.specs.Scene.{slot_of}
 use Rattle.papaya_schedules.specs.declared.outcome.Outcome.TheVariants as outcome
 use Rattle.papaya_acts.specs.Acts.{Act, BeginsCall, StepsCall, TellsCall, AsksCall, StopsCall, BeginsMaking, StepsMaking, BeginsEnding, StepsEnding, BeginsRow, StepsRow}
 use Rattle.papaya_acts.specs.AsSteps.{changed_of}
-use Rattle.papaya_acts.specs.Doings.{Doing, Does, BeginsReclaiming, BeginsClearing, StepsReclaiming}
+use Rattle.papaya_acts.specs.Doings.{Doing, Does, BeginsReclaiming, BeginsClearing, StepsReclaiming, Chooses}
 use Rattle.papaya_acts.specs.Leads.{MayBe}
 use Rattle.papaya_acts.proofs.AsSteps.Told.{was_told}
-use Rattle.papaya_deeds.specs.Deeds.{Entry, Replies, Stops}
-use Rattle.papaya_played.specs.Play.{Making, Now, State, all_begun, first_state, has_root, made_on, making_stepped, play, reply_for}
+use Rattle.papaya_deeds.specs.Deeds.{Deed, Entry, Replies, Stops}
+use Rattle.papaya_played.specs.Play.{Making, Now, State, all_begun, choice_come, ending_deed, first_state, has_root, made_on, making_deed, making_stepped, play, reply_for, row_deed}
 use Rattle.papaya_played.specs.Reached.{made_so, makes_so}
 use Rattle.papaya_played.proofs.Along.{AllFit, At, Is, StaysSo}
 use Rattle.papaya_played.proofs.PlayedAs.{PlayedAs, ReclaimedAs, played_as, reclaimed_as}
-use Rattle.papaya_agrees.specs.Fresh.{HasNewNumber, MakesOnce, comes_with, has_come, is_made, makes_one}
+use Rattle.papaya_agrees.specs.Fresh.{HasNewNumber, MakesNew, MakesOnce, OnceIsNew, comes_with, gives_back, is_made, is_taken, makes_one}
 use Rattle.papaya_agrees.proofs.Numbers.{with_so}
 use Rattle.papaya_agrees.proofs.Openings.{IsRefused, ending_comes_none, no_other_comes, none_comes, root_kept}
 use Rattle.papaya_agrees.proofs.Told.{mapped, row_of_no_map}
 
 module _ {K V : Type 0} where
-  -- none has come yet with a number with which none comes now
-  pub not_yet : (n : ℕ) (e : Entry K V) (log : List (Entry K V)) → comes_with n e.deed ≡ false → has_come n log ≡ false → has_come n (e ∷ log) ≡ false
-  not_yet n e log comes not = ap (λ (q : Bool). if q then true else has_come n log) comes ∙ not
+  -- a number that is not taken is none yet by a deed with which none comes
+  pub not_yet : (n : ℕ) (d : Deed K V) (log : List (Entry K V)) → comes_with n d ≡ false → is_taken n log ≡ false
+      → (if comes_with n d then true else (if gives_back true n d then false else is_taken n log)) ≡ false
+  not_yet n d log comes not = ap (λ (q : Bool). if q then true else (if gives_back true n d then false else is_taken n log)) comes ∙ by (gives_back true n d)
+    where
+      by : (p : Bool) → (if p then false else is_taken n log) ≡ false
+      by true = refl
+      by false = not
 
-  perhaps_not : (taken : Bool) (n : ℕ) (e : Entry K V) (log : List (Entry K V)) → comes_with n e.deed ≡ false → has_come n log ≡ false → has_come n (if taken then e ∷ log else log) ≡ false
-  perhaps_not true n e log comes not = not_yet n e log comes not
+  perhaps_not : (taken : Bool) (n : ℕ) (e : Entry K V) (log : List (Entry K V)) → comes_with n e.deed ≡ false → is_taken n log ≡ false → is_taken n (if taken then e ∷ log else log) ≡ false
+  perhaps_not true n e log comes not = not_yet n e.deed log comes not
   perhaps_not false n e log comes not = not
 
 module _ {K V S : Type 0} where
   -- With a number none has come, and none is made.
   pub record IsFree (n : ℕ) (x : State K V S) : Type 0 where
-    pub not_come : has_come n x.history ≡ false
+    pub not_come : is_taken n x.history ≡ false
     pub not_made : (i : ℕ) (b : Making S) → x.now.makers i ≡ Some b → b.map ≢ n
 
   -- A map whose root is not taken yet has a number with which none has come, and each one that is made has a number of its own.
   pub record ComingHolds (x : State K V S) : Type 0 where
-    pub rootless : (i : ℕ) (b : Making S) → x.now.makers i ≡ Some b → has_root b.machine.stands ≡ false → has_come b.map x.history ≡ false
+    pub rootless : (i : ℕ) (b : Making S) → x.now.makers i ≡ Some b → has_root b.machine.stands ≡ false → is_taken b.map x.history ≡ false
     pub apart : (i j : ℕ) (b d : Making S) → x.now.makers i ≡ Some b → x.now.makers j ≡ Some d → b.map ≡ d.map → i ≡ j
 
   -- no other map is made with the number of one that begins to be
@@ -66,10 +71,10 @@ MakesNone act = Unit {0}
 module _ {K V S : Type 0} where
   -- makings are as they were, and no map has come
   pub record LeavesMakings (x y : State K V S) : Type 0 where
-    pub come : (n : ℕ) → has_come n x.history ≡ false → has_come n y.history ≡ false
+    pub come : (n : ℕ) → is_taken n x.history ≡ false → is_taken n y.history ≡ false
     pub makers : (i : ℕ) (b : Making S) → y.now.makers i ≡ Some b → x.now.makers i ≡ Some b
 
-module _ {K V S : Type 0} (same : K → K → Bool) (hash : S → K → ℕ) (batch_size roots : ℕ) (aborts : V) (x y : State K V S) where
+module _ {K V S : Type 0} (same : K → K → Bool) (hash : S → K → ℕ) (batch_size roots : ℕ) (aborts : ℕ → V) (x y : State K V S) where
   leaves : (z : State K V S) → y ≡ z → LeavesMakings x z → LeavesMakings x y
   leaves z is so = subst (LeavesMakings x) (sym is) so
 
@@ -79,7 +84,7 @@ module _ {K V S : Type 0} (same : K → K → Bool) (hash : S → K → ℕ) (ba
   acts_leave (TellsCall i m reply) none (c, has, is) =
       leaves _ is
       (record {
-        come = λ n not. perhaps_not (is_ok (machine_replied c.machine reply).1) n (record { deed = Replies i (reply_for aborts reply); outcome = outcome.Goes; effects = []; refused = false }) x.history refl not;
+        come = λ n not. perhaps_not (is_ok (machine_replied c.machine reply).1) n (record { deed = Replies i (reply_for (aborts (length x.told)) reply); outcome = outcome.Goes; effects = []; refused = false }) x.history refl not;
         makers = λ j d has. has;
       })
   acts_leave (AsksCall i m) none (c, has, is) = leaves _ is (record { come = λ n not. not; makers = λ j d has. has })
@@ -94,11 +99,11 @@ module _ {K V S : Type 0} (same : K → K → Bool) (hash : S → K → ℕ) (ba
   acts_leave (BeginsEnding i m) none (at, there, is) = leaves _ is (record { come = λ n not. not; makers = λ j d has. has })
   acts_leave (StepsEnding i g) none (f, has, end, came, is) =
       leaves _ is
-      (record { come = λ n not. ap (λ (q : Bool). if q then true else has_come n x.history) (ending_comes_none K V f end.1.1 n) ∙ not; makers = λ j d has. has })
+      (record { come = λ n not. not_yet n (ending_deed f end.1.1) x.history (ending_comes_none K V f end.1.1 n) not; makers = λ j d has. has })
   acts_leave (BeginsRow i request) none (called, there, is) = leaves _ is (record { come = λ n not. not; makers = λ j d has. has })
   acts_leave (StepsRow i g) none (row, has, end, came, is) =
       leaves _ is
-      (record { come = λ n not. ap (λ (q : Bool). if q then true else has_come n x.history) ((row_of_no_map {K = K} {V = V} row).comes n) ∙ not; makers = λ j d has. has })
+      (record { come = λ n not. not_yet n (row_deed row) x.history ((row_of_no_map {K = K} {V = V} row).comes n) not; makers = λ j d has. has })
 
   pub reclaiming_leaves : (g : Grant) → ReclaimedAs same hash batch_size roots aborts x y g → LeavesMakings x y
   reclaiming_leaves g (c, has, end, came, is) = leaves _ is (record { come = λ n not. not; makers = λ j d has. has })
@@ -106,15 +111,15 @@ module _ {K V S : Type 0} (same : K → K → Bool) (hash : S → K → ℕ) (ba
   -- what a making comes to, and that map that comes by it
   module _ (i : ℕ) (g : Grant) (b : Making S) (end : Mem (Node K V) × (NewMap × Progress Setting))
       (is : y ≡ making_stepped i b (changed_of x.now.memory g (new_map_plan {K = K} {V = V} b.machine)) x end) where
-    others_come_none : (n : ℕ) → b.map ≢ n → has_come n x.history ≡ false → has_come n y.history ≡ false
+    others_come_none : (n : ℕ) → b.map ≢ n → is_taken n x.history ≡ false → is_taken n y.history ≡ false
     others_come_none n other not =
-        ap (λ (z : State K V S). has_come n z.history) is
-        ∙ ap (λ (q : Bool). if q then true else has_come n x.history) (no_other_comes K V b.map b.machine end.1.0 n (ne_eqb b.map n other)) ∙ not
+        ap (λ (z : State K V S). is_taken n z.history) is
+        ∙ not_yet n (making_deed b.map b.machine end.1.0) x.history (no_other_comes K V b.map b.machine end.1.0 n (ne_eqb b.map n other)) not
 
-    rootless_comes_none : has_root end.1.0.stands ≡ false → (n : ℕ) → has_come n x.history ≡ false → has_come n y.history ≡ false
+    rootless_comes_none : has_root end.1.0.stands ≡ false → (n : ℕ) → is_taken n x.history ≡ false → is_taken n y.history ≡ false
     rootless_comes_none none n not =
-        ap (λ (z : State K V S). has_come n z.history) is
-        ∙ ap (λ (q : Bool). if q then true else has_come n x.history) (none_comes K V b.map b.machine end.1.0 none n) ∙ not
+        ap (λ (z : State K V S). is_taken n z.history) is
+        ∙ not_yet n (making_deed b.map b.machine end.1.0) x.history (none_comes K V b.map b.machine end.1.0 none n) not
 
     -- each maker then is another one, or goes on as its machine does
     makers_then : (P : ℕ → Making S → Type 0) → ((IsRefused end.1.1 → ⊥) → P i (record b { machine = end.1.0 })) → ((j : ℕ) (d : Making S) → x.now.makers j ≡ Some d → (j ≢ i) → P j d) → (j : ℕ) (d : Making S)
@@ -174,6 +179,7 @@ module _ {K V S : Type 0} (same : K → K → Bool) (hash : S → K → ℕ) (ba
     doing_free (BeginsReclaiming i) none played =
         subst (IsFree n) (same_some (all_begun (reclaiming_all batch_size roots) x) y played) (record { not_come = free.not_come; not_made = free.not_made })
     doing_free (BeginsClearing i) none played = subst (IsFree n) (same_some (all_begun (clearing roots) x) y played) (record { not_come = free.not_come; not_made = free.not_made })
+    doing_free (Chooses choice) none played = subst (IsFree n) (same_some (choice_come choice x) y played) (record { not_come = free.not_come; not_made = free.not_made })
     doing_free (StepsReclaiming g) none played = left_free (reclaiming_leaves g (reclaimed_as same hash batch_size roots aborts x y g played))
 
   -- A map whose root is not taken yet has a number with which none has come, and of which no other is made.
@@ -188,8 +194,8 @@ module _ {K V S : Type 0} (same : K → K → Bool) (hash : S → K → ℕ) (ba
     acts_come (BeginsMaking i map hasher given places) new alone is =
         subst ComingHolds (sym is)
         (record {
-          rootless = with_so x.now.makers i (Some it) (λ j d. has_root d.machine.stands ≡ false → has_come d.map x.history ≡ false)
-              (λ d its none. subst (λ (b : Making S). has_come b.map x.history ≡ false) (same_some it d its) new) coming.rootless;
+          rootless = with_so x.now.makers i (Some it) (λ j d. has_root d.machine.stands ≡ false → is_taken d.map x.history ≡ false)
+              (λ d its none. subst (λ (b : Making S). is_taken b.map x.history ≡ false) (same_some it d its) new) coming.rootless;
           apart = λ j k b d one two e. apart_then j k b d (cases_eq j i) (cases_eq k i) one two e;
         })
       where
@@ -208,7 +214,7 @@ module _ {K V S : Type 0} (same : K → K → Bool) (hash : S → K → ℕ) (ba
         apart_then j k b d (inr ne) (inl f) one two same_map = absurd (alone j b (was j b ne one) (sym (its_map k d f two) ∙ sym same_map))
         apart_then j k b d (inr ne) (inr other) one two same_map = coming.apart j k b d (was j b ne one) (was k d other two) same_map
     acts_come (StepsMaking i g) new alone (b, has, end, came, is) = record {
-      rootless = makers_then i g b end is (λ j d. has_root d.machine.stands ≡ false → has_come d.map y.history ≡ false)
+      rootless = makers_then i g b end is (λ j d. has_root d.machine.stands ≡ false → is_taken d.map y.history ≡ false)
           (λ on none. rootless_comes_none i g b end is none b.map (coming.rootless i b has (was_rootless on none)))
           (λ j d there ne none. others_come_none i g b end is d.map (λ e. ne (sym (coming.apart i j b d has there e))) (coming.rootless j d there none));
       apart = λ j k c d one two. coming_apart j k c d (at j c one) (at k d two);
@@ -239,13 +245,13 @@ module _ {K V S : Type 0} (same : K → K → Bool) (hash : S → K → ℕ) (ba
     acts_come (BeginsRow i request) new alone by = left_coming (acts_leave (BeginsRow i request) tt by)
     acts_come (StepsRow i g) new alone by = left_coming (acts_leave (StepsRow i g) tt by)
 
-module _ {K S : Type 0} (V : Type 0) (same : K → K → Bool) (by_hasher : S → K → ℕ) (hash : ℕ → K → ℕ) (batch_size roots : ℕ) (aborts : V) where
+module _ {K S : Type 0} (V : Type 0) (same : K → K → Bool) (by_hasher : S → K → ℕ) (hash : ℕ → K → ℕ) (batch_size roots : ℕ) (aborts : ℕ → V) where
   -- A list of acts by which no number is made twice makes each map with a new number, where its numbers are free.
   abbrev AreFree : List (Doing K V S) → State K V S → Type 0
   AreFree doings x = (n : ℕ) → is_made n doings ≡ true → IsFree n x
 
-  abbrev Fit : List (Doing K V S) → State K V S → Type 0
-  Fit doings x = AllFit V same by_hasher hash batch_size roots aborts HasNewNumber doings x
+  abbrev New : List (Doing K V S) → State K V S → Type 0
+  New doings x = MakesNew same by_hasher batch_size roots aborts doings x
 
   not_now : (q b : Bool) → (if q then true else b) ≡ false → (q ≡ false) × (b ≡ false)
   not_now true b e = absurd (cc e)
@@ -261,7 +267,7 @@ module _ {K S : Type 0} (V : Type 0) (same : K → K → Bool) (by_hasher : S �
   others_free doing doings x y apart free played n made =
       doing_free same by_hasher batch_size roots aborts x y n (free n (later (makes_one n doing) (is_made n doings) made)) doing (apart n made) played
 
-  pub new_numbers : (doings : List (Doing K V S)) (x : State K V S) → MakesOnce doings → AreFree doings x → Fit doings x
+  new_numbers : (doings : List (Doing K V S)) (x : State K V S) → MakesOnce doings → AreFree doings x → New doings x
   new_numbers [] x once free = tt
   new_numbers (Does (BeginsMaking i map hasher given places) ∷ doings) x once free = (
     (free map (ap (λ (q : Bool). if q then true else is_made map doings) (eq-eqb map map refl))).not_come,
@@ -283,6 +289,19 @@ module _ {K S : Type 0} (V : Type 0) (same : K → K → Bool) (by_hasher : S �
   new_numbers (BeginsReclaiming i ∷ doings) x once free = (tt, λ y played. new_numbers doings y once (others_free (BeginsReclaiming i) doings x y (λ n made. refl) free played))
   new_numbers (BeginsClearing i ∷ doings) x once free = (tt, λ y played. new_numbers doings y once (others_free (BeginsClearing i) doings x y (λ n made. refl) free played))
   new_numbers (StepsReclaiming g ∷ doings) x once free = (tt, λ y played. new_numbers doings y once (others_free (StepsReclaiming g) doings x y (λ n made. refl) free played))
+  new_numbers (Chooses choice ∷ doings) x once free = (tt, λ y played. new_numbers doings y once (others_free (Chooses choice) doings x y (λ n made. refl) free played))
+
+  pub once_is_new : OnceIsNew same by_hasher batch_size roots aborts
+  once_is_new doings once = new_numbers doings (first_state roots) once (λ n made. record { not_come = refl; not_made = λ i b has. absurd (cc has) })
+
+  -- Of a list that makes each map with a new number each act has one.
+  pub new_fits : (doings : List (Doing K V S)) (x : State K V S) → New doings x → AllFit V same by_hasher hash batch_size roots aborts HasNewNumber doings x
+  new_fits [] x new = tt
+  new_fits (Does act ∷ doings) x new = (new.0, λ y played. new_fits doings y (new.1 y played))
+  new_fits (BeginsReclaiming i ∷ doings) x new = (tt, λ y played. new_fits doings y (new.1 y played))
+  new_fits (BeginsClearing i ∷ doings) x new = (tt, λ y played. new_fits doings y (new.1 y played))
+  new_fits (StepsReclaiming g ∷ doings) x new = (tt, λ y played. new_fits doings y (new.1 y played))
+  new_fits (Chooses choice ∷ doings) x new = (tt, λ y played. new_fits doings y (new.1 y played))
 
   -- no other is made with that number, where a making may begin
   made_alone : (p : At V same by_hasher hash batch_size roots) (x : State K V S) → Is V same by_hasher hash batch_size roots aborts p x → (act : Act K V S) → MayBe same by_hasher batch_size roots slot_of act p.0
@@ -308,6 +327,7 @@ module _ {K S : Type 0} (V : Type 0) (same : K → K → Bool) (by_hasher : S �
     begins = λ p n x i c none begun same_scene all_free is is_then at so. record { rootless = so.rootless; apart = so.apart };
     steps = λ p n x y told g st is is_then at leads comes played so.
         left_coming same by_hasher batch_size roots aborts x y so (reclaiming_leaves same by_hasher batch_size roots aborts x y g (reclaimed_as same by_hasher batch_size roots aborts x y g played));
+    chooses = λ p n x choice none none_then scene is is_then at so. record { rootless = so.rootless; apart = so.apart };
   }
 
 -- nothing is made at first

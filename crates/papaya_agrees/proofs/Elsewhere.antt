@@ -102,7 +102,16 @@ module _ (n : ℕ) (t : Table) (stage : Stage) where
       at false later is = later is
 
 -- where pairs are
-module _ (n : ℕ) (acted : Option ℕ) (other : acted ≢ Some n) where
+module _ (n : ℕ) (acted : Option ℕ) where
+  -- a pair that is stored is stored in another map
+  abbrev pub StoresElsewhere : Effect → Type 0
+  StoresElsewhere (effect.Stored k s) = acted ≢ Some n
+  StoresElsewhere f = Unit {0}
+
+  pub stores_elsewhere : acted ≢ Some n → (f : Effect) → StoresElsewhere f
+  stores_elsewhere other (effect.Stored k s) = other
+  stores_elsewhere other _ = tt
+
   not_born : (o : Option ℕ) → o ≢ Some n → in_map o ≢ InMap n
   not_born None ne e = cc e
   not_born (Some k) ne e = ne (let same : k ≡ n = (cc e) in ap Some same)
@@ -121,18 +130,18 @@ module _ (n : ℕ) (acted : Option ℕ) (other : acted ≢ Some n) where
       by true e = absurd (not e)
       by false e = e
 
-  pub pairs_other : (deferred : List Deferral) (f : Effect) (place : ℕ → Place) (j : ℕ) → place_by acted deferred f place j ≡ InMap n → place j ≡ InMap n
-  pairs_other deferred (effect.Stored k s) place j is = put_other k (in_map acted) (not_born acted other) place j is
-  pairs_other deferred (effect.Replaced k) place j is = put_other k Out (λ e. cc e) place j is
-  pairs_other deferred (effect.Removed k) place j is = put_other k Out (λ e. cc e) place j is
-  pairs_other deferred (effect.Retired (APair k)) place j is = put_other k Handed (λ e. cc e) place j is
-  pairs_other deferred (effect.Retired (ATable t)) place j is = is
-  pairs_other deferred (effect.Deferred k t) place j is = put_other k Behind (λ e. cc e) place j is
-  pairs_other deferred (effect.Reclaimed (APair k)) place j is = put_other k GivenBack (λ e. cc e) place j is
-  pairs_other deferred (effect.Reclaimed (ATable t)) place j is = all_other Handed (λ e. cc e) (behind t deferred) place j is
-  pairs_other deferred (effect.Ended k) place j is = put_other k GivenBack (λ e. cc e) place j is
-  pairs_other deferred (effect.Taken t) place j is = all_other Left (λ e. cc e) (behind t deferred) place j is
-  pairs_other deferred _ place j is = is
+  pub pairs_other : (deferred : List Deferral) (f : Effect) → StoresElsewhere f → (place : ℕ → Place) (j : ℕ) → place_by acted deferred f place j ≡ InMap n → place j ≡ InMap n
+  pairs_other deferred (effect.Stored k s) other place j is = put_other k (in_map acted) (not_born acted other) place j is
+  pairs_other deferred (effect.Replaced k) other place j is = put_other k Out (λ e. cc e) place j is
+  pairs_other deferred (effect.Removed k) other place j is = put_other k Out (λ e. cc e) place j is
+  pairs_other deferred (effect.Retired (APair k)) other place j is = put_other k Handed (λ e. cc e) place j is
+  pairs_other deferred (effect.Retired (ATable t)) other place j is = is
+  pairs_other deferred (effect.Deferred k t) other place j is = put_other k Behind (λ e. cc e) place j is
+  pairs_other deferred (effect.Reclaimed (APair k)) other place j is = put_other k GivenBack (λ e. cc e) place j is
+  pairs_other deferred (effect.Reclaimed (ATable t)) other place j is = all_other Handed (λ e. cc e) (behind t deferred) place j is
+  pairs_other deferred (effect.Ended k) other place j is = put_other k GivenBack (λ e. cc e) place j is
+  pairs_other deferred (effect.Taken t) other place j is = all_other Left (λ e. cc e) (behind t deferred) place j is
+  pairs_other deferred _ other place j is = is
 
 -- a table that is linked is of another map
 linked_other : (n : ℕ) (us : List TableThere) (u : TableThere) → u.table.map ≢ n → filter (λ v. v.table.map == n) us ≡ [] → filter (λ v. v.table.map == n) (us ++ u ∷ []) ≡ []
@@ -162,7 +171,7 @@ module _ {K V : Type 0} (n : ℕ) where
       let rest = effects_elsewhere caller acted other effects (with_effect caller acted f m) all.1 in
       record {
         there = rest.there ∙ there_by caller acted f m all.0;
-        pairs = λ k is. pairs_other n acted other m.deferred f m.place k (rest.pairs k is);
+        pairs = λ k is. pairs_other n acted m.deferred f (stores_elsewhere n acted other f) m.place k (rest.pairs k is);
         tables = λ none. rest.tables (no_tables_by (λ t. t.map ≢ n) caller acted f m all.0 none);
       }
 

@@ -1,5 +1,5 @@
 -- What is so of a history, and of each entry that one step makes of it, is so wherever a list has led.
-use Rattle.std.specs.Prelude.{◌==◌, Bool, true, false, is_ok, if◌then◌else◌}
+use Rattle.std.specs.Prelude.{◌==◌, Bool, true, false, is_ok, length, if◌then◌else◌}
 use Rattle.std.proofs.Common.{◌≡◌, ℕ, List, [], ◌∷◌, refl, sym, subst}
 use Rattle.seize_acts.specs.Answers.{Grant}
 use Rattle.papaya_scenes.specs.Given.Seize.ReclaimAll.{reclaim_all_plan}
@@ -84,7 +84,7 @@ pub record Grows (K V : Type 0) (P : List (Entry K V) → Type 0) : Type 0 where
   pub works : (log : List (Entry K V)) (who : Acting) (known : Known) (changed : Changed) (d : Deed K V) (o : Outcome V) → BeginsOnIts d → P log
       → P (record { deed = d; outcome = o; effects = effects_of who known changed; refused = is_refusal changed } ∷ log)
 
-module _ {K V S : Type 0} (same : K → K → Bool) (by_hasher : S → K → ℕ) (batch_size roots : ℕ) (aborts : V) (P : List (Entry K V) → Type 0) (grows : Grows K V P) (x y : State K V S) where
+module _ {K V S : Type 0} (same : K → K → Bool) (by_hasher : S → K → ℕ) (batch_size roots : ℕ) (aborts : ℕ → V) (P : List (Entry K V) → Type 0) (grows : Grows K V P) (x y : State K V S) where
   abbrev Has : State K V S → Type 0
   Has v = P v.history
 
@@ -100,7 +100,7 @@ module _ {K V S : Type 0} (same : K → K → Bool) (by_hasher : S → K → ℕ
       subst Has (sym is)
       (grows.works x.history (acting.Call i m) x.known change (Steps i) (outcome_of (known_after (acting.Call i m) change x.known) (kind_of c.call) c.value end.1.1) tt so)
   acts_so (TellsCall i m reply) (c, here, is) so =
-      subst Has (sym is) (perhaps_so (is_ok (machine_replied c.machine reply).1) (Replies i (reply_for aborts reply)) outcome.Goes tt so)
+      subst Has (sym is) (perhaps_so (is_ok (machine_replied c.machine reply).1) (Replies i (reply_for (aborts (length x.told)) reply)) outcome.Goes tt so)
   acts_so (AsksCall i m) (c, here, is) so = subst Has (sym is) so
   acts_so (StopsCall i m) (c, here, is) so = subst Has (sym is) (perhaps_so (machine_asked c.machine).1 (Stops i) outcome.Done tt so)
   acts_so (BeginsMaking i on hasher given places) is so = subst Has (sym is) so
@@ -122,7 +122,7 @@ module _ {K V S : Type 0} (same : K → K → Bool) (by_hasher : S → K → ℕ
       subst Has (sym is)
       (grows.works x.history acting.Row x.known (changed_of x.now.memory g (reclaim_all_plan deferred_word was_left c)) (ReclaimsAll (is_over end.1.1)) (settled_outcome end.1.1) tt so)
 
-module _ {K S : Type 0} (V : Type 0) (same : K → K → Bool) (by_hasher : S → K → ℕ) (hash : ℕ → K → ℕ) (batch_size roots : ℕ) (aborts : V) where
+module _ {K S : Type 0} (V : Type 0) (same : K → K → Bool) (by_hasher : S → K → ℕ) (hash : ℕ → K → ℕ) (batch_size roots : ℕ) (aborts : ℕ → V) where
   pub histories_grow : (P : List (Entry K V) → Type 0) → Grows K V P
       → StaysSo V same by_hasher hash batch_size roots aborts (Anything V same by_hasher hash batch_size roots aborts) (λ p x. P x.history)
   histories_grow P grows = record {
@@ -131,4 +131,5 @@ module _ {K S : Type 0} (V : Type 0) (same : K → K → Bool) (by_hasher : S �
     begins = λ p n x i c none begun same_scene all_free is is_then at so. so;
     steps = λ p n x y told g st is is_then at leads scene played so.
         reclaiming_so same by_hasher batch_size roots aborts P grows x y g (reclaimed_as same by_hasher batch_size roots aborts x y g played) so;
+    chooses = λ p n x choice none none_then scene is is_then at so. so;
   }

@@ -1,8 +1,8 @@
 -- Of a number with which no map has come nothing is there after an entry of other numbers, if nothing was there before.
-use Rattle.std.specs.Prelude.{◌≢◌, ◌==◌, not, cond, filter, find, map, Option, Some, None, if◌then◌else◌}
+use Rattle.std.specs.Prelude.{◌≢◌, ◌⊎◌, ◌==◌, not, cond, filter, find, map, Option, Some, None, if◌then◌else◌}
 use Rattle.std.specs.List.{AllByRecursion}
 use Rattle.std.specs.Option.{option_or}
-use Rattle.std.proofs.Common.{◌≡◌, ℕ, ◌+◌, Bool, true, false, List, [], ◌∷◌, refl, ap, sym, ◌∙◌}
+use Rattle.std.proofs.Common.{◌≡◌, ℕ, ◌+◌, Bool, true, false, List, [], ◌∷◌, inl, inr, refl, ap, sym, ◌∙◌}
 use Rattle.std.proofs.lemmas.Bool.{ne_eqb}
 use Rattle.std.proofs.lemmas.List.Folds.{find-append}
 use Rattle.papaya_follows.proofs.Calling.{come_same, replied_same}
@@ -13,14 +13,15 @@ use Rattle.papaya_schedules.specs.Effects.{call_by, maps_by, shards_by, with_eff
 use Rattle.papaya_schedules.specs.Entry.{acting, ends_call}
 use Rattle.papaya_schedules.specs.Lists.{put}
 use Rattle.papaya_schedules.specs.Moment.{MapThere, Moment, UnderWay}
+use Rattle.papaya_schedules.specs.Views.{map_at}
 use Rattle.papaya_schedules.specs.declared.effect.Effect.{Effect}
 use Rattle.papaya_schedules.specs.declared.effect.Effect.TheVariants as effect
 use Rattle.papaya_schedules.specs.declared.effect.Table.{Table}
 use Rattle.papaya_schedules.specs.declared.outcome.Outcome.{Outcome}
 use Rattle.papaya_schedules.specs.declared.outcome.Outcome.TheVariants as outcome
 use Rattle.papaya_deeds.specs.Deeds.{Deed, Begins, Steps, Replies, Stops, MapComes, MapFails, MapGoes, Entry, acted_on, after, at_work, begun, caller_of, calls_on, maps_on, moment, named, worked}
-use Rattle.papaya_agrees.specs.Fresh.{IsFresh, comes_with, has_come}
-use Rattle.papaya_agrees.proofs.Elsewhere.{AllLinkElsewhere, LinksElsewhere, no_tables_by, none_promoted, pairs_other}
+use Rattle.papaya_agrees.specs.Fresh.{IsBare, IsFresh, comes_with, gives_back, in_use}
+use Rattle.papaya_agrees.proofs.Elsewhere.{AllLinkElsewhere, LinksElsewhere, StoresElsewhere, no_tables_by, none_promoted, pairs_other, stores_elsewhere}
 use Rattle.papaya_agrees.proofs.Lists.{all_kept, found_so}
 
 -- nothing is asked of tables that become the root's
@@ -44,14 +45,14 @@ module _ (n : ℕ) where
       by true false e rest is = ap (λ (z : Bool). cond z (Some f) (find (λ g. g.number == n) (filter keep maps))) e ∙ rest is
       by false false e rest is = rest is
 
-  -- if there are effects, they are on another map
+  -- pairs that are stored are stored in another map
   abbrev pub ActsElsewhere : Option ℕ → List Effect → Type 0
   ActsElsewhere acted [] = Unit {0}
-  ActsElsewhere acted (f ∷ effects) = acted ≢ Some n
+  ActsElsewhere acted (f ∷ effects) = StoresElsewhere n acted f × ActsElsewhere acted effects
 
   pub acts_elsewhere : (acted : Option ℕ) (effects : List Effect) → acted ≢ Some n → ActsElsewhere acted effects
   acts_elsewhere acted [] other = tt
-  acts_elsewhere acted (f ∷ effects) other = other
+  acts_elsewhere acted (f ∷ effects) other = (stores_elsewhere n acted other f, acts_elsewhere acted effects other)
 
 module _ {K V : Type 0} (n : ℕ) where
   abbrev pub OnOther : UnderWay K V → Type 0
@@ -89,40 +90,41 @@ module _ {K V : Type 0} (n : ℕ) where
   calls_other None f m acted all = all
   calls_other (Some own) f m acted all = changed_other (call_by m f) (changed_same m f) own m.calls all
 
-  effect_fresh : (caller : Option (List ℕ)) (acted : Option ℕ) → acted ≢ Some n → (f : Effect) (m : Moment K V) → LinksElsewhere n AnyTable f → IsFresh n m → IsFresh n (with_effect caller acted f m)
-  effect_fresh caller acted other f m links fresh = record {
-    no_map = no_map_by n f m.maps fresh.no_map;
-    no_table = no_tables_by n AnyTable caller acted f m links fresh.no_table;
-    no_pair = λ k is. fresh.no_pair k (pairs_other n acted other m.deferred f m.place k is);
-    no_count = λ s. counted_other (acting caller m) f m.shards s (its_other caller m fresh.no_call) (fresh.no_count s);
-    no_call = calls_other caller f m acted fresh.no_call;
+  effect_bare : (caller : Option (List ℕ)) (acted : Option ℕ) (f : Effect) (m : Moment K V) → StoresElsewhere n acted f → LinksElsewhere n AnyTable f → IsBare n m → IsBare n (with_effect caller acted f m)
+  effect_bare caller acted f m other links bare = record {
+    no_table = no_tables_by n AnyTable caller acted f m links bare.no_table;
+    no_pair = λ k is. bare.no_pair k (pairs_other n acted m.deferred f other m.place k is);
+    no_count = λ s. counted_other (acting caller m) f m.shards s (its_other caller m bare.no_call) (bare.no_count s);
+    no_call = calls_other caller f m acted bare.no_call;
   }
 
-  effects_fresh : (caller : Option (List ℕ)) (acted : Option ℕ) (effects : List Effect) (m : Moment K V) → ActsElsewhere n acted effects → AllLinkElsewhere n AnyTable effects → IsFresh n m
-      → IsFresh n (with_effects caller acted effects m)
-  effects_fresh caller acted [] m other links fresh = fresh
-  effects_fresh caller acted (f ∷ effects) m other links fresh =
-      effects_fresh caller acted effects (with_effect caller acted f m) (acts_elsewhere n acted effects other) links.1 (effect_fresh caller acted other f m links.0 fresh)
+  effects_bare : (caller : Option (List ℕ)) (acted : Option ℕ) (effects : List Effect) (m : Moment K V) → ActsElsewhere n acted effects → AllLinkElsewhere n AnyTable effects → IsBare n m
+      → IsBare n (with_effects caller acted effects m)
+  effects_bare caller acted [] m other links bare = bare
+  effects_bare caller acted (f ∷ effects) m other links bare = effects_bare caller acted effects (with_effect caller acted f m) other.1 links.1 (effect_bare caller acted f m other.0 links.0 bare)
+
+  no_map_then : (caller : Option (List ℕ)) (acted : Option ℕ) (effects : List Effect) (m : Moment K V) → map_at n m ≡ None → map_at n (with_effects caller acted effects m) ≡ None
+  no_map_then caller acted [] m none = none
+  no_map_then caller acted (f ∷ effects) m none = no_map_then caller acted effects (with_effect caller acted f m) (no_map_by n f m.maps none)
 
   -- no call begins on it
   abbrev pub BeginsElsewhere : Deed K V → Type 0
   BeginsElsewhere (Begins i s map call) = map ≢ n
   BeginsElsewhere deed = Unit {0}
 
-  begun_fresh : (d : Deed K V) (m : Moment K V) → comes_with n d ≡ false → BeginsElsewhere d → IsFresh n m → IsFresh n (begun d m)
-  begun_fresh (Begins i s map call) m comes other fresh = record { no_map = fresh.no_map; no_table = fresh.no_table; no_pair = fresh.no_pair; no_count = fresh.no_count; no_call = (other, fresh.no_call) }
-  begun_fresh (MapComes map root mode capacity) m comes other fresh = record {
-    no_map = find-append (λ (g : MapThere). g.number == n) m.maps (it ∷ []) ∙ ap (λ (o : Option MapThere). option_or o (find (λ g. g.number == n) (it ∷ []))) fresh.no_map
-        ∙ ap (λ (q : Bool). cond q (Some it) None) comes;
-    no_table = fresh.no_table;
-    no_pair = fresh.no_pair;
-    no_count = fresh.no_count;
-    no_call = fresh.no_call;
-  }
+  begun_bare : (d : Deed K V) (m : Moment K V) → BeginsElsewhere d → IsBare n m → IsBare n (begun d m)
+  begun_bare (Begins i s map call) m other bare = record { no_table = bare.no_table; no_pair = bare.no_pair; no_count = bare.no_count; no_call = (other, bare.no_call) }
+  begun_bare (MapComes map root mode capacity) m other bare = record { no_table = bare.no_table; no_pair = bare.no_pair; no_count = bare.no_count; no_call = bare.no_call }
+  begun_bare _ m other bare = bare
+
+  none_begun : (d : Deed K V) (m : Moment K V) → comes_with n d ≡ false → map_at n m ≡ None → map_at n (begun d m) ≡ None
+  none_begun (MapComes map root mode capacity) m comes none =
+      find-append (λ (g : MapThere). g.number == n) m.maps (it ∷ []) ∙ ap (λ (o : Option MapThere). option_or o (find (λ g. g.number == n) (it ∷ []))) none
+      ∙ ap (λ (q : Bool). cond q (Some it) None) comes
     where
       it : MapThere
       it = record { name = named map; number = map; root = root; mode = mode; capacity = capacity; first = 0 }
-  begun_fresh _ m comes other fresh = fresh
+  none_begun _ m comes none = none
 
   maps_left : (d : Deed K V) (maps : List MapThere) → find (λ g. g.number == n) maps ≡ None → find (λ g. g.number == n) (maps_on d maps) ≡ None
   maps_left (MapFails map) maps none = none_kept n (λ f. not (is_same f.name (named map))) maps none
@@ -150,36 +152,49 @@ module _ {K V : Type 0} (n : ℕ) where
     pub acts : ActsElsewhere n (acted_on e.deed (at_work e m)) e.effects
     pub links : AllLinkElsewhere n AnyTable e.effects
 
-  pub entry_fresh : (e : Entry K V) (m : Moment K V) → comes_with n e.deed ≡ false → IsElsewhere e m → IsFresh n m → IsFresh n (after e m)
-  entry_fresh e m comes elsewhere fresh =
-      let w = effects_fresh (caller_of e.deed) (acted_on e.deed (at_work e m)) e.effects (at_work e m) elsewhere.acts elsewhere.links (begun_fresh e.deed m comes elsewhere.begins fresh) in
-      record {
-        no_map = maps_left e.deed (worked e m).maps w.no_map;
-        no_table = w.no_table;
-        no_pair = w.no_pair;
-        no_count = w.no_count;
-        no_call = calls_left e.deed e.outcome (worked e m).calls w.no_call;
-      }
+  pub entry_bare : (e : Entry K V) (m : Moment K V) → IsElsewhere e m → IsBare n m → IsBare n (after e m)
+  entry_bare e m elsewhere bare =
+      let w = effects_bare (caller_of e.deed) (acted_on e.deed (at_work e m)) e.effects (at_work e m) elsewhere.acts elsewhere.links (begun_bare e.deed m elsewhere.begins bare) in
+      record { no_table = w.no_table; no_pair = w.no_pair; no_count = w.no_count; no_call = calls_left e.deed e.outcome (worked e m).calls w.no_call }
 
-if_not : (q : Bool) (b : Bool) → (if q then true else b) ≡ false → (q ≡ false) × (b ≡ false)
-if_not true b is = absurd (cc is)
-if_not false b is = (refl, is)
+  pub entry_fresh : (e : Entry K V) (m : Moment K V) → comes_with n e.deed ≡ false → IsElsewhere e m → IsFresh n m → IsFresh n (after e m)
+  entry_fresh e m comes elsewhere fresh = record {
+    no_map = maps_left e.deed (worked e m).maps (no_map_then (caller_of e.deed) (acted_on e.deed (at_work e m)) e.effects (at_work e m) (none_begun e.deed m comes fresh.no_map));
+    bare = entry_bare e m elsewhere fresh.bare;
+  }
+
+if_not : (q p b : Bool) → (if q then true else (if p then false else b)) ≡ false → (q ≡ false) × ((p ≡ true) ⊎ (b ≡ false))
+if_not true p b is = absurd (cc is)
+if_not false true b is = (refl, inl refl)
+if_not false false b is = (refl, inr is)
+
+module _ {K V : Type 0} (again : Bool) (n : ℕ) (e : Entry K V) (log : List (Entry K V)) where
+  -- a number that is not in use was not, unless it is given back now
+  pub not_in_use : in_use again n (e ∷ log) ≡ false → (comes_with n e.deed ≡ false) × ((gives_back again n e.deed ≡ true) ⊎ (in_use again n log ≡ false))
+  not_in_use is = if_not (comes_with n e.deed) (gives_back again n e.deed) (in_use again n log) is
+
+  pub was_not : gives_back again n e.deed ≡ false → in_use again n (e ∷ log) ≡ false → (comes_with n e.deed ≡ false) × (in_use again n log ≡ false)
+  was_not keeps is = (
+    (not_in_use is).0,
+    elim (not_in_use is).1 as (λ _. in_use again n log ≡ false) [
+      | inl gives ↦ absurd (cc (gives, keeps))
+      | inr not ↦ not
+    ],
+  )
+
+  -- and one that is in use is so still
+  pub still_in_use : gives_back again n e.deed ≡ false → in_use again n log ≡ true → in_use again n (e ∷ log) ≡ true
+  still_in_use keeps has = by (comes_with n e.deed) (gives_back again n e.deed) keeps
+    where
+      by : (q p : Bool) → p ≡ false → (if q then true else (if p then false else in_use again n log)) ≡ true
+      by true p e = refl
+      by false false e = has
+      by false true e = absurd (cc e)
+
+  pub now_in_use : comes_with n e.deed ≡ true → in_use again n (e ∷ log) ≡ true
+  now_in_use comes = ap (λ (q : Bool). if q then true else (if gives_back again n e.deed then false else in_use again n log)) comes
 
 module _ {K V : Type 0} where
-  -- a number that has come has come, and one that has not had not before
-  pub not_come : (n : ℕ) (e : Entry K V) (log : List (Entry K V)) → has_come n (e ∷ log) ≡ false → (comes_with n e.deed ≡ false) × (has_come n log ≡ false)
-  not_come n e log is = if_not (comes_with n e.deed) (has_come n log) is
-
-  pub still_come : (n : ℕ) (e : Entry K V) (log : List (Entry K V)) → has_come n log ≡ true → has_come n (e ∷ log) ≡ true
-  still_come n e log has = by (comes_with n e.deed)
-    where
-      by : (q : Bool) → (if q then true else has_come n log) ≡ true
-      by true = refl
-      by false = has
-
-  pub now_come : (n : ℕ) (e : Entry K V) (log : List (Entry K V)) → comes_with n e.deed ≡ true → has_come n (e ∷ log) ≡ true
-  now_come n e log comes = ap (λ (q : Bool). if q then true else has_come n log) comes
-
   -- at first nothing is there of any number
   pub fresh_first : (n : ℕ) → IsFresh n (moment {K = K} {V = V} [])
-  fresh_first n = record { no_map = refl; no_table = refl; no_pair = λ k is. cc is; no_count = λ s. refl; no_call = tt }
+  fresh_first n = record { no_map = refl; bare = record { no_table = refl; no_pair = λ k is. cc is; no_count = λ s. refl; no_call = tt } }

@@ -1,5 +1,5 @@
 -- Wherever a list has led, the guards of its history are the slots within sections.
-use Rattle.std.specs.Prelude.{Bool, true, false, Option, Some, None, option_map, is_ok, if◌then◌else◌}
+use Rattle.std.specs.Prelude.{Bool, true, false, Option, Some, None, option_map, is_ok, length, if◌then◌else◌}
 use Rattle.std.proofs.Common.{◌≡◌, ℕ, List, [], ◌∷◌, refl, ap, sym, subst, ◌∙◌}
 use Rattle.seize_acts.specs.Acts.{row_steps}
 use Rattle.seize_acts.specs.Answers.{Grant}
@@ -41,7 +41,7 @@ use Rattle.papaya_acts.specs.AsSteps.{IsOwn, changed_of, row_changed}
 use Rattle.papaya_acts.specs.Doings.{still as goes_still}
 use Rattle.papaya_acts.specs.Leads.{EndingCame, Led, MakingCame, MayBe}
 use Rattle.papaya_deeds.specs.Deeds.{Begins, Entry, ReclaimsAll, Replies, Steps, Stops, moment}
-use Rattle.papaya_played.specs.Play.{Making, Now, State, all_begun, call_for, ending_deed, first_state, is_over, is_refusal, made_on, making_deed, making_outcome, outcome_of, reply_for, row_deed, row_on, row_outcome, settled_outcome, slot_call_of}
+use Rattle.papaya_played.specs.Play.{Making, Now, State, all_begun, choice_come, call_for, ending_deed, first_state, is_over, is_refusal, made_on, making_deed, making_outcome, outcome_of, reply_for, row_deed, row_on, row_outcome, settled_outcome, slot_call_of}
 use Rattle.papaya_played.specs.Reached.{IsOf, row_or_rests, rows_beside}
 use Rattle.papaya_played.proofs.Along.{At, Is, StaysSo, far}
 use Rattle.papaya_played.proofs.Noted.{Anything}
@@ -74,7 +74,7 @@ module _ {K V : Type 0} where
   perhaps true e log leaves = there_as_before e log leaves
   perhaps false e log leaves = refl
 
-module _ {K V S : Type 0} (same : K → K → Bool) (by_hasher : S → K → ℕ) (hash : ℕ → K → ℕ) (batch_size roots : ℕ) (aborts : V) (s n : Scene K V) (x y : State K V S)
+module _ {K V S : Type 0} (same : K → K → Bool) (by_hasher : S → K → ℕ) (hash : ℕ → K → ℕ) (batch_size roots : ℕ) (aborts : ℕ → V) (s n : Scene K V) (x y : State K V S)
     (is_of : IsOf by_hasher s s.world.row x.now) (came : CameAbout batch_size s.world) (here : GuardsAgree x s.world.uses) where
   -- the world then, by what it told
   making_world : (i : ℕ) (b : Beginning K) (w2 : World (Node K V)) (machine : NewMap) (told : Progress Setting) → MakingCame {S = S} same by_hasher batch_size roots slot_of s i b w2 machine n told → n.world ≡ w2
@@ -122,7 +122,7 @@ module _ {K V S : Type 0} (same : K → K → Bool) (by_hasher : S → K → ℕ
   acts_agree (TellsCall i m reply) own (c, has, is) may told (standing, stands, u, next, here_call, machine_is, told_is, kind, e) =
       calm (ap (λ (v : Scene K V). v.world.uses) e) (ap (λ (v : State K V S). v.now.rows) is)
       (ap (λ (v : State K V S). (moment v.history).there) is
-      ∙ perhaps (is_ok (machine_replied c.machine reply).1) (record { deed = Replies i (reply_for aborts reply); outcome = outcome.Goes; effects = []; refused = false }) x.history (λ there. refl))
+      ∙ perhaps (is_ok (machine_replied c.machine reply).1) (record { deed = Replies i (reply_for (aborts (length x.told)) reply); outcome = outcome.Goes; effects = []; refused = false }) x.history (λ there. refl))
   acts_agree (AsksCall i m) own (c, has, is) may told (u, here_call, told_is, e) =
       calm (ap (λ (v : Scene K V). v.world.uses) e) (ap (λ (v : State K V S). v.now.rows) is) (ap (λ (v : State K V S). (moment v.history).there) is)
   acts_agree (StopsCall i m) own (c, has, is) may told (u, here_call, told_is, e) =
@@ -193,7 +193,7 @@ pub unless : {X : Type 0} (P : Type 0) (o : Option X) → (o ≡ None → P) →
 unless P None so = so refl
 unless P (Some x) so = tt
 
-module _ {K S : Type 0} (V : Type 0) (same : K → K → Bool) (by_hasher : S → K → ℕ) (hash : ℕ → K → ℕ) (batch_size roots : ℕ) (aborts : V) where
+module _ {K S : Type 0} (V : Type 0) (same : K → K → Bool) (by_hasher : S → K → ℕ) (hash : ℕ → K → ℕ) (batch_size roots : ℕ) (aborts : ℕ → V) where
   -- while somebody reclaims all, sections end one after another, and in the end nobody is there
   abbrev pub GuardsHold : At V same by_hasher hash batch_size roots → State K V S → Type 0
   GuardsHold p x = UnlessReclaimed (far V same by_hasher hash batch_size roots p) (GuardsAgree x p.0.world.uses)
@@ -224,6 +224,10 @@ module _ {K S : Type 0} (V : Type 0) (same : K → K → Bool) (by_hasher : S �
           each = tt;
           inside = λ t in_it. absurd (subst IsInside ((st.did.did.over done).nothing.2 t) (subst (λ (v : Scene K V). IsInside (v.world.uses t)) st.did.comes in_it));
         }));
+    chooses = λ p n x choice none none_then scene is is_then at here.
+        unless (GuardsAgree (choice_come choice x) n.0.world.uses) (far V same by_hasher hash batch_size roots n)
+        (λ nobody. subst (λ (v : Scene K V). GuardsAgree (choice_come choice x) v.world.uses) (sym scene)
+        (subst (λ (o : Option (ℕ × ReclaimAll)). UnlessReclaimed o (GuardsAgree x p.0.world.uses)) none here));
   }
 
   -- So it is where nothing was done yet.

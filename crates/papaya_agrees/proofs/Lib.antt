@@ -13,6 +13,11 @@ pub mod Fresh
 pub mod Known
 pub mod Openings
 pub mod Told
+pub mod Names
+pub mod Bare
 pub mod Numbers
 pub mod Coming
+pub mod GivenBack
 pub mod Agree
+pub mod FirstPlaces
+mod Samples

@@ -1,7 +1,7 @@
 -- Before the making of a map has its root its steps have no effect; and a making that has it gives it up as it is refused alone.
-use Rattle.std.specs.Prelude.{◌==◌, ◌-◌, nat_lt, Ok, Err, Some, if◌then◌else◌}
+use Rattle.std.specs.Prelude.{◌≢◌, ◌==◌, ◌&&◌, ◌-◌, nat_lt, Ok, Err, Some, if◌then◌else◌}
 use Rattle.std.proofs.Common.{◌≡◌, ℕ, ◌+◌, Bool, true, false, [], refl, ap, sym, subst, ◌∙◌}
-use Rattle.std.proofs.lemmas.Bool.{eq-eqb}
+use Rattle.std.proofs.lemmas.Bool.{and_parts, eq-eqb, eqb-true, ne_eqb}
 use Rattle.papaya_scenes.specs.Given.SeizeWords.Mem.{Mem, value_at}
 use Rattle.papaya_scenes.specs.Given.SeizeWords.Op.{Out, Exchange, Exchanged, Made}
 use Rattle.papaya_scenes.specs.Given.SeizeWords.Plan.{Ends as EndsSo}
@@ -30,7 +30,7 @@ use Rattle.papaya_effects.specs.declared.acting.Acting.{Acting}
 use Rattle.papaya_others.proofs.Outcomes.{told_in}
 use Rattle.papaya_deeds.specs.Deeds.{Deed, MapComes, Makes, MapFails, Ends, MapGoes, acted_on}
 use Rattle.papaya_played.specs.Play.{Ending, ending_deed, has_root, is_over, making_deed, pairs_for}
-use Rattle.papaya_agrees.specs.Fresh.{comes_with}
+use Rattle.papaya_agrees.specs.Fresh.{comes_with, gives_back}
 use Rattle.papaya_agrees.proofs.Fresh.{BeginsElsewhere}
 
 -- it has no effect
@@ -158,6 +158,42 @@ module _ (K V : Type 0) (map : ℕ) (before next : NewMap) where
       by false true = other
       by false false = refl
 
+  -- it gives its number back alone, and that where its making has a root no more
+  module _ (again : Bool) (n : ℕ) where
+    pub keeps_number : has_root next.stands ≡ true → gives_back again n (making_deed {K = K} {V = V} map before next) ≡ false
+    keeps_number has = ap (λ (c : Bool). gives_back again n (deed_by (has_root before.stands) c)) has ∙ by (has_root before.stands)
+      where
+        by : (b : Bool) → gives_back again n (deed_by b true) ≡ false
+        by true = refl
+        by false = refl
+
+    pub keeps_other : (again ≡ true → map ≢ n) → gives_back again n (making_deed {K = K} {V = V} map before next) ≡ false
+    keeps_other other = by (has_root before.stands) (has_root next.stands)
+      where
+        its : (q : Bool) → again ≡ q → (again && (map == n)) ≡ false
+        its true e = ap (λ (q : Bool). again && q) (ne_eqb map n (other e)) ∙ ap (λ (q : Bool). q && false) e
+        its false e = ap (λ (q : Bool). q && (map == n)) e
+
+        by : (b c : Bool) → gives_back again n (deed_by b c) ≡ false
+        by true true = refl
+        by true false = its again refl
+        by false true = refl
+        by false false = refl
+
+    -- what gives a number back is the refusal of the making with it
+    pub gives_its : gives_back again n (making_deed {K = K} {V = V} map before next) ≡ true
+        → (again ≡ true) × (map ≡ n) × (has_root before.stands ≡ true) × (has_root next.stands ≡ false) × (making_deed {K = K} {V = V} map before next ≡ MapFails map)
+    gives_its gives = by (has_root before.stands) refl (has_root next.stands) refl gives
+      where
+        by : (b : Bool) → has_root before.stands ≡ b → (c : Bool) → has_root next.stands ≡ c → gives_back again n (deed_by b c) ≡ true
+            → (again ≡ true) × (map ≡ n) × (has_root before.stands ≡ true) × (has_root next.stands ≡ false) × (making_deed {K = K} {V = V} map before next ≡ MapFails map)
+        by true had false none its =
+            let both = and_parts again (map == n) its in
+            (both.0, eqb-true map n both.1, had, none, ap (λ (b : Bool). deed_by b (has_root next.stands)) had ∙ ap (λ (c : Bool). deed_by true c) none)
+        by true had true has its = absurd (cc its)
+        by false had true has its = absurd (cc its)
+        by false had false none its = absurd (cc its)
+
 -- and what is as one ends
 module _ (K V : Type 0) {T : Type 0} (f : Ending) (said : Settled T) where
   pub ending_acts : (m : Moment K V) → acted_on (ending_deed {K = K} {V = V} f said) m ≡ Some f.map
@@ -178,5 +214,12 @@ module _ (K V : Type 0) {T : Type 0} (f : Ending) (said : Settled T) where
   ending_comes_none n = by (is_over said)
     where
       by : (q : Bool) → comes_with {K = K} {V = V} n (if q then MapGoes f.map else Ends f.map) ≡ false
+      by true = refl
+      by false = refl
+
+  pub ending_keeps_numbers : (again : Bool) (n : ℕ) → gives_back again n (ending_deed {K = K} {V = V} f said) ≡ false
+  ending_keeps_numbers again n = by (is_over said)
+    where
+      by : (q : Bool) → gives_back {K = K} {V = V} again n (if q then MapGoes f.map else Ends f.map) ≡ false
       by true = refl
       by false = refl

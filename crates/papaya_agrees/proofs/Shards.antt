@@ -129,10 +129,11 @@ module _ {K S : Type 0} (V : Type 0) (same : K → K → Bool) (by_hasher : S �
   acts_so (BeginsRow i request) asks told (w2, happens, maps2, as_they_were, none, is) = seen_so w2 maps2 as_they_were is
   acts_so (StepsRow i g) asks told (w2, computed, happens, maps2, as_they_were, none, is) = seen_so w2 maps2 as_they_were is
 
-module _ {K S : Type 0} (V : Type 0) (same : K → K → Bool) (by_hasher : S → K → ℕ) (hash : ℕ → K → ℕ) (batch_size roots shards : ℕ) (aborts : V) where
+module _ {K S : Type 0} (V : Type 0) (same : K → K → Bool) (by_hasher : S → K → ℕ) (hash : ℕ → K → ℕ) (batch_size roots shards : ℕ) (aborts : ℕ → V) where
   pub shards_stay : StaysSo V same by_hasher hash batch_size roots aborts (λ x. AsksShards shards) (λ p x. ShardsAre shards p.0)
   shards_stay = record {
     acts = λ p n x y act told own fits none none_then is is_then at may led leads at_then played here. acts_so V same by_hasher hash batch_size roots shards p.0 n.0 here at.hashes act fits told led;
     begins = λ p n x i c none begun same_scene all_free is is_then at here. subst (ShardsAre shards) (sym same_scene) here;
     steps = λ p n x y told g st is is_then at leads scene played here. seen_so V same by_hasher hash batch_size roots shards p.0 n.0 here at.hashes st.did.did.w2 st.did.did.maps2 st.did.did.as_they_were st.did.comes;
+    chooses = λ p n x choice none none_then scene is is_then at here. subst (ShardsAre shards) (sym scene) (record { standing = here.standing; made = here.made });
   }

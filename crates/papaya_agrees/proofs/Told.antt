@@ -38,7 +38,7 @@ use Rattle.papaya_acts.specs.AsSteps.{changed_of, row_changed}
 use Rattle.papaya_acts.proofs.AsSteps.Told.{was_told}
 use Rattle.papaya_deeds.specs.Deeds.{Deed, Leaves, Opens, ReclaimsAll, Registers, Shuts, Tends, acted_on}
 use Rattle.papaya_played.specs.Play.{leaves_as, registers_as, row_deed, slot_row_steps}
-use Rattle.papaya_agrees.specs.Fresh.{comes_with}
+use Rattle.papaya_agrees.specs.Fresh.{comes_with, gives_back}
 use Rattle.papaya_agrees.proofs.Elsewhere.{EmptiesRoot}
 use Rattle.papaya_agrees.proofs.Fresh.{BeginsElsewhere}
 use Rattle.papaya_agrees.proofs.Known.{MakesSome}
@@ -110,30 +110,31 @@ all_make told (inl row) = row_makes told row
 all_make (changed.Made kind b) (inr empties) = absurd empties
 all_make _ (inr empties) = tt
 
--- It begins no call, acts on no map, and none comes by it.
+-- It begins no call, acts on no map, none comes by it, and none gives its number back.
 module _ {K V : Type 0} where
   pub record OfNoMap (d : Deed K V) : Type 0 where
     pub acts : (m : Moment K V) → acted_on d m ≡ None
     pub begins : (n : ℕ) → BeginsElsewhere n d
     pub comes : (n : ℕ) → comes_with n d ≡ false
+    pub keeps : (again : Bool) (n : ℕ) → gives_back again n d ≡ false
 
   opens : (s : ℕ) → OfNoMap (Opens s)
-  opens s = record { acts = λ m. refl; begins = λ n. tt; comes = λ n. refl }
+  opens s = record { acts = λ m. refl; begins = λ n. tt; comes = λ n. refl; keeps = λ again n. refl }
 
   shuts : (s : ℕ) → OfNoMap (Shuts s)
-  shuts s = record { acts = λ m. refl; begins = λ n. tt; comes = λ n. refl }
+  shuts s = record { acts = λ m. refl; begins = λ n. tt; comes = λ n. refl; keeps = λ again n. refl }
 
   leaves_slot : (s : ℕ) → OfNoMap (Leaves s)
-  leaves_slot s = record { acts = λ m. refl; begins = λ n. tt; comes = λ n. refl }
+  leaves_slot s = record { acts = λ m. refl; begins = λ n. tt; comes = λ n. refl; keeps = λ again n. refl }
 
   registers_at : (s : ℕ) → OfNoMap (Registers s)
-  registers_at s = record { acts = λ m. refl; begins = λ n. tt; comes = λ n. refl }
+  registers_at s = record { acts = λ m. refl; begins = λ n. tt; comes = λ n. refl; keeps = λ again n. refl }
 
   tends : (s : ℕ) → OfNoMap (Tends s)
-  tends s = record { acts = λ m. refl; begins = λ n. tt; comes = λ n. refl }
+  tends s = record { acts = λ m. refl; begins = λ n. tt; comes = λ n. refl; keeps = λ again n. refl }
 
   pub reclaims_all : (last : Bool) → OfNoMap (ReclaimsAll last)
-  reclaims_all last = record { acts = λ m. refl; begins = λ n. tt; comes = λ n. refl }
+  reclaims_all last = record { acts = λ m. refl; begins = λ n. tt; comes = λ n. refl; keeps = λ again n. refl }
 
   registers_none : (stands : Registering) (s : ℕ) → OfNoMap (registers_as stands s)
   registers_none registers.Begin s = registers_at s

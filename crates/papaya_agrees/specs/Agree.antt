@@ -7,7 +7,7 @@ use Rattle.papaya_acts.specs.Doings.{Doing, Does, Stage, reclaiming}
 use Rattle.papaya_acts.specs.Lists.{Course, LedTo, Reached}
 use Rattle.papaya_deeds.specs.Deeds.{moment}
 use Rattle.papaya_played.specs.Play.{State, first_state, play_all}
-use Rattle.papaya_agrees.specs.Fresh.{IsFresh, has_come}
+use Rattle.papaya_agrees.specs.Fresh.{IsFresh, MakesNew, has_come, is_taken}
 use Rattle.papaya_agrees.specs.Grants.{EachRefuses}
 use Rattle.papaya_agrees.specs.Guards.{CallsHaveGuards, GuardsAgree, UnlessReclaimed}
 use Rattle.papaya_agrees.specs.Shards.{AsksShards, ShardsAre}
@@ -28,9 +28,11 @@ module _ {K S : Type 0} (V : Type 0) (same : K → K → Bool) (by_hasher : S �
     pub refuses : EachRefuses x.history
     pub fresh : (n : ℕ) → has_come n x.history ≡ false → IsFresh n (moment x.history)
 
-  -- The promise: so it is wherever a list has led, whatever the values are with which closures abort.
+  -- The promise: so it is wherever a list has led, whatever the values are with which closures abort. And where the list makes each map with a new number, nothing is
+  -- there of a number that was given back either.
   abbrev pub ListsAgree : Type 0
   ListsAgree =
-      batch_size < 2 ^ 64 → (aborts : V) (course : Course V same by_hasher batch_size roots slot_of) (doings : List (Doing K V S)) (y : Reached V same by_hasher batch_size roots slot_of)
+      batch_size < 2 ^ 64 → (aborts : ℕ → V) (course : Course V same by_hasher batch_size roots slot_of) (doings : List (Doing K V S)) (y : Reached V same by_hasher batch_size roots slot_of)
       → LedTo V same by_hasher batch_size roots slot_of course doings y → AllByRecursion Asks doings
       → (after : State K V S) × (play_all same by_hasher batch_size roots aborts doings (first_state roots) ≡ Some after) × Agrees y.0 after
+      × (MakesNew same by_hasher batch_size roots aborts doings (first_state roots) → (n : ℕ) → is_taken n after.history ≡ false → IsFresh n (moment after.history))

@@ -1,4 +1,5 @@
 pub mod Shards
+pub mod Places
 pub mod Guards
 pub mod Grants
 pub mod Fresh

@@ -18,7 +18,7 @@ use Rattle.papaya_reclaims.specs.Slots.{IsQuiet}
 use Rattle.papaya_reclaims.proofs.Left.Stays.{left_is_left_behind}
 use Rattle.papaya_reclaims.proofs.Promised.{reclaiming_begins}
 use Rattle.papaya_acts.specs.Acts.{Answer}
-use Rattle.papaya_acts.specs.Doings.{Doing, Does, BeginsReclaiming, BeginsClearing, StepsReclaiming, IsLeft, Stage, reclaiming, behind, MayDo, HasDone}
+use Rattle.papaya_acts.specs.Doings.{Doing, Does, BeginsReclaiming, BeginsClearing, StepsReclaiming, Chooses, scene_chosen, IsLeft, Stage, reclaiming, behind, MayDo, HasDone}
 use Rattle.papaya_acts.specs.Lists.{Course, Reached, LedOn, nothing_done, on_by}
 use Rattle.papaya_acts.specs.Reclaiming.{IsReclaimingAll, ReclaimedOn}
 use Rattle.papaya_carries.specs.Lists.{AreTheirs, ReclaimsTo, OnlyPairsAreLeft, ListsKeepTheirs, ReclaimingBeginsThere, OnlyPairsWaitThere, AllCanBeReclaimedThere}
@@ -72,12 +72,17 @@ module _ {K S : Type 0} (V : Type 0) (same : K → K → Bool) (hash : S → K �
   reclaimed_theirs i s n lists c idle theirs (g ∷ grants) (told, v, lists2, c2, on, inr more) =
       reclaimed_theirs i v n lists2 c2 (goes_on i s lists c idle theirs g told v lists2 c2 on) (then_theirs i s lists c idle theirs g told v lists2 c2 on) grants more
 
+  -- where a choice of a number comes each is whose it was
+  chosen_theirs : (s : Scene K V) (choice : ℕ) → AreTheirs s → AreTheirs (scene_chosen choice s)
+  chosen_theirs s choice theirs = theirs
+
   -- by whatever is done
   by_doing : (p n : Stage V same hash batch_size roots slot) (doing : Doing K V S) → MayDo V same hash batch_size roots slot doing p → (told : Answer K V)
       → HasDone V same hash batch_size roots slot doing p told n → AreTheirs p.0 → AreTheirs n.0
   by_doing p n (Does act) may told (led, idle) theirs = by_act same hash batch_size roots slot p.0 n.0 p.1 n.1 theirs act may.1 told led
   by_doing p n (BeginsReclaiming i) may told (none, is, behind_is, begun) theirs = subst AreTheirs (sym is) theirs
   by_doing p n (BeginsClearing i) may told (none, is, behind_is, begun) theirs = subst AreTheirs (sym is) theirs
+  by_doing p n (Chooses choice) may told (none, is, behind_is, idle) theirs = subst AreTheirs (sym is) (chosen_theirs p.0 choice theirs)
   by_doing p n (StepsReclaiming g) may told st theirs =
       then_theirs st.caller p.0 (behind V same hash batch_size roots slot p) st.machine (idle_there p st.caller st.machine st.here) theirs g st.end n.0 st.lists st.next st.did
 

@@ -1,2 +1,5 @@
 mod Begins
-mod Executors
+pub mod Told
+mod Wherever
+mod May
+pub mod Executors

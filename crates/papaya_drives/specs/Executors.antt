@@ -1,9 +1,23 @@
 -- What an executor does, it does by acts: where it is, its acts have led. All its maps have its hasher.
-use Rattle.std.specs.Prelude.{◌≡◌, ℕ, ◌+◌, ◌<◌, ◌≤◌, ◌^◌, length, max, Bool, Some, Result}
+use Rattle.std.specs.Prelude.{◌≡◌, ℕ, ◌+◌, ◌<◌, ◌≤◌, ◌^◌, length, max, Bool, None, Some, Result}
 use Rattle.std.specs.Int.{IsPowerOfTwo}
 use Rattle.papaya_scenes.specs.Given.Seize.declared.progress.Progress.{Progress}
 use Rattle.papaya_scenes.specs.Given.Seize.declared.rows.settle.Settled.{Settled}
-use Rattle.seize_acts.specs.Answers.{Grant}
+use Rattle.seize_acts.specs.Answers.{Grant, stepped}
+use Rattle.papaya_scenes.specs.Given.SeizeWords.Plan.{Plan}
+use Rattle.papaya_scenes.specs.Given.Seize.Enter.{enter_plan, unregister_plan}
+use Rattle.papaya_scenes.specs.Given.Seize.Leave.{leave_plan}
+use Rattle.papaya_scenes.specs.Given.Seize.Register.{register_plan}
+use Rattle.papaya_scenes.specs.Given.Seize.Settle.{settle_plan}
+use Rattle.papaya_scenes.specs.Given.Seize.declared.rows.enter.Enter.{Enter}
+use Rattle.papaya_scenes.specs.Given.Seize.declared.rows.enter.Unregister.{Unregister}
+use Rattle.papaya_scenes.specs.Given.Seize.declared.rows.leave.Leave.{Leave}
+use Rattle.papaya_scenes.specs.Given.Seize.declared.rows.register.Register.{Register}
+use Rattle.papaya_scenes.specs.Given.Seize.declared.rows.settle.Settle.{Settle}
+use Rattle.papaya_scenes.specs.Given.Tables.Nodes.{deferred_word}
+use Rattle.papaya_scenes.specs.Given.Resize.NewMap.{new_map_plan}
+use Rattle.papaya_scenes.specs.Given.Raw.EndMap.{end_map_plan}
+use Rattle.papaya_scenes.specs.Given.Raw.Machine.{machine_plan}
 use Rattle.papaya_scenes.specs.Given.Tables.Lengths.{IsTableLen}
 use Rattle.papaya_scenes.specs.Given.Tables.declared.node.Node.{Node}
 use Rattle.papaya_scenes.specs.Given.Tables.declared.setting.Setting.{Setting}
@@ -20,49 +34,86 @@ use Rattle.papaya_executor.specs.declared.executor.Executor.{Executor}
 use Rattle.papaya_scenes.specs.declared.row.RowTold.{RowTold}
 use Rattle.papaya_scenes.specs.declared.row.SlotCall.{SlotCall}
 use Rattle.papaya_scenes.specs.declared.row.SlotRow.{SlotRow}
+use Rattle.papaya_scenes.specs.declared.row.SlotRow.TheVariants as rows
 use Rattle.papaya_scenes.specs.declared.row.SlotUse.TheVariants as used
 use Rattle.papaya_executor.specs.declared.worker.Work.TheVariants as work
-use Rattle.papaya_acts.specs.Acts.{Act, Answer, Nothing, OfCall, OfReply, OfAsking, OfMaking, OfEnding, Wanted}
+use Rattle.papaya_acts.specs.Acts.{Act, Answer, Nothing, OfCall, OfReply, OfAsking, OfMaking, OfEnding, Wanted, begun}
 use Rattle.papaya_acts.specs.Acts.{BeginsCall, StepsCall, TellsCall, AsksCall, StopsCall, BeginsMaking, StepsMaking, BeginsEnding, StepsEnding, BeginsRow, StepsRow}
-use Rattle.papaya_acts.specs.Leads.{Led}
+use Rattle.papaya_acts.specs.AsSteps.{changed_by, changed_of}
+use Rattle.papaya_acts.specs.Leads.{AllStand, Led, MayBe}
 use Rattle.papaya_executor.specs.Beginning.{BeginsThere}
 use Rattle.papaya_executor.specs.Ending.{EndingBegins, EndsThere, NoCallOn}
-use Rattle.papaya_executor.specs.IsThere.{IsThere, use_at, work_of}
+use Rattle.papaya_executor.specs.IsThere.{IsThere, StaysGiven, use_at, work_of}
 use Rattle.papaya_executor.specs.Making.{MakesThere}
 use Rattle.papaya_executor.specs.MakingBegins.{MakingBegins}
 use Rattle.papaya_executor.specs.OnSlots.{MayBegin, RowBeginsThere, RowStepsThere}
 use Rattle.papaya_executor.specs.Replying.{AsksThere, RepliesThere, StopsThere}
 use Rattle.papaya_executor.specs.Stepping.{StepsThere}
 use Rattle.papaya_scenes.specs.Beginning.{Begins}
-use Rattle.papaya_scenes.specs.Rows.{request_of}
+use Rattle.papaya_scenes.specs.Rows.{of_registering, of_settling, of_storing, request_of}
 use Rattle.papaya_scenes.specs.Scene.{Scene, slot_of}
 
+module _ {K V S : Type 0} (e e2 : Executor K V S) where
+  -- a step of this plan, in the memory of the first executor, is computed to this outcome, in that of the second, with this choice, and so is what it has changed
+  abbrev pub IsComputed : {R : Type 0} → Plan (Node K V) R → R → Grant → Type 0
+  IsComputed plan end g = (stepped e.memory.memory g plan ≡ Some (e2.memory.memory, end)) × (changed_of e.memory.memory g plan ≡ e2.memory.changed)
+
+  -- so it is of a machine that tells this
+  abbrev pub Computes : {M P : Type 0} → Plan (Node K V) (M × P) → P → Grant → Type 0
+  Computes {M} plan told g = (machine : M) × IsComputed plan (machine, told) g
+
+  -- and of a row, whichever it is, that tells this
+  abbrev pub RowIsComputed : SlotRow → RowTold (Node K V) → Grant → Type 0
+  RowIsComputed (rows.Registers c) told g = (end : Register × Progress ℕ) × IsComputed (register_plan c) end g × (told ≡ of_registering end.1)
+  RowIsComputed (rows.Enters c) told g = (end : Enter × Progress Unit) × IsComputed (enter_plan c) end g × (told ≡ of_storing end.1)
+  RowIsComputed (rows.Leaves c) told g = (end : Leave × Settled (Node K V)) × IsComputed (leave_plan deferred_word c) end g × (told ≡ of_settling end.1)
+  RowIsComputed (rows.Flushes c) told g = (end : Settle × Settled (Node K V)) × IsComputed (settle_plan deferred_word c) end g × (told ≡ of_settling end.1)
+  RowIsComputed (rows.Frees c) told g = (end : Unregister × Progress Unit) × IsComputed (unregister_plan c) end g × (told ≡ of_storing end.1)
+
 module _ {K V S : Type 0} (same : K → K → Bool) (hash : S → K → ℕ) (e e2 : Executor K V S) (s : Scene K V) where
-  -- from this scene, in which the first executor is, the act leads, and tells this, to one in which the second is
-  abbrev pub IsAct : Act K V S → Answer K V → Type 0
-  IsAct act told = (n : Scene K V) × Led same hash e.batch_size e.roots slot_of act s told n × IsThere same (hash e.hasher) e2 n
+  -- In this scene, in which the first executor is, the act may be made, and tells this: it leads to one in which the second is; and so is each one to which it leads,
+  -- where all stand together.
+  pub record IsAct (act : Act K V S) (told : Answer K V) : Type 0 where
+    pub may : MayBe same hash e.batch_size e.roots slot_of act s
+    pub to : Scene K V
+    pub led : Led same hash e.batch_size e.roots slot_of act s told to
+    pub there : IsThere same (hash e.hasher) e2 to
+    pub wherever : (n : Scene K V) (said : Answer K V) → AllStand same hash e.batch_size e.roots slot_of n → Led same hash e.batch_size e.roots slot_of act s said n
+        → (said ≡ told) × IsThere same (hash e.hasher) e2 n
+
+  -- and what its one operation has changed is what the memory of the second tells
+  abbrev pub IsStep : Act K V S → Answer K V → Type 0
+  IsStep act told = IsAct act told × (changed_by same act s ≡ e2.memory.changed)
+
+  -- So it is of a step that is computed with whichever choice of the memory; and there is one.
+  abbrev pub AreSteps : (Grant → Type 0) → (Grant → Act K V S) → Answer K V → Type 0
+  AreSteps Computed act told = ((g : Grant) × Computed g) × ((g : Grant) → Computed g → IsStep (act g) told)
 
   -- The promise of what callers do with calls: they begin, and take steps, they are told something, asked for a pair, or given up.
   pub record CallsAreActs (i : ℕ) : Type 0 where
-    pub begin : (m : ℕ) (machine : Machine K V K) → BeginsThere same (hash e.hasher) m machine i s e e2 → (standing : Standing K) → s.maps m ≡ Some standing → use_at e (slot_of i) ≡ used.Inside
-        → (u : UnderWay K V K) → machine_of u ≡ machine → Begins same standing i u → (wanted : Wanted K V) × IsAct (BeginsCall i m wanted) Nothing
-    pub step : (told : CallProgress (Node K V)) → StepsThere same (hash e.hasher) i told s e e2 → (m : ℕ) (u : UnderWay K V K) → s.calls m i ≡ Some u → (g : Grant) × IsAct (StepsCall i m g) (OfCall told)
+    pub begin : (m : ℕ) (machine : Machine K V K) → BeginsThere same (hash e.hasher) m machine i s e e2 → work_of e i ≡ None → (standing : Standing K) → s.maps m ≡ Some standing
+        → use_at e (slot_of i) ≡ used.Inside → (wanted : Wanted K V) → machine_of (begun same slot_of standing i wanted) ≡ machine → IsAct (BeginsCall i m wanted) Nothing
+    pub begun_so : (m : ℕ) (standing : Standing K) → s.maps m ≡ Some standing → (u : UnderWay K V K) → Begins same standing i u → (wanted : Wanted K V) × (begun same slot_of standing i wanted ≡ u)
+    pub step : (told : CallProgress (Node K V)) → StepsThere same (hash e.hasher) i told s e e2 → (m : ℕ) (u : UnderWay K V K) → s.calls m i ≡ Some u
+        → AreSteps (Computes e e2 (machine_plan same same (hash e.hasher) (machine_of u)) told) (StepsCall i m) (OfCall told)
     pub reply : (told : Reply V) (result : Result Unit (Reply V)) → RepliesThere same (hash e.hasher) i told result s e e2 → (m : ℕ) (u : UnderWay K V K) → s.calls m i ≡ Some u → IsAct (TellsCall i m told) (OfReply result)
     pub ask : (ready : Bool) → AsksThere same (hash e.hasher) i ready s e e2 → (m : ℕ) (u : UnderWay K V K) → s.calls m i ≡ Some u → IsAct (AsksCall i m) (OfAsking ready)
     pub stop : (stopped : Bool) → StopsThere same (hash e.hasher) i stopped s e e2 → (m : ℕ) (u : UnderWay K V K) → s.calls m i ≡ Some u → IsAct (StopsCall i m) (OfAsking stopped)
 
   -- Of makings, of ends of maps, and of rows on slots.
   pub record OthersAreActs (i : ℕ) : Type 0 where
-    pub making_begins : (given : Setting) (places : ℕ) → MakingBegins same (hash e.hasher) given places i s e e2 → AreLawful same (hash e.hasher) → IsPowerOfTwo given.initial
+    pub making_begins : (given : Setting) (places : ℕ) → MakingBegins same (hash e.hasher) given places i s e e2 → work_of e i ≡ None → AreLawful same (hash e.hasher) → IsPowerOfTwo given.initial
         → given.batch_size ≡ e.batch_size → given.mask + 1 < 2 ^ 64 → 0 < e.roots → (max places 8 ≤ 2 ^ 48 → IsTableLen (max places 8))
         → IsAct (BeginsMaking i (length e.maps.items) e.hasher given places) Nothing
-    pub making : (told : Progress Setting) → MakesThere same (hash e.hasher) i told s e e2 → (b : Beginning K) → s.makers i ≡ Some b → (g : Grant) × IsAct (StepsMaking i g) (OfMaking told)
-    pub ending_begins : (m : ℕ) → EndingBegins same (hash e.hasher) m i s e e2 → NoCallOn e m → IsAct (BeginsEnding i m) Nothing
-    pub ending : (told : Settled (Node K V)) → EndsThere same (hash e.hasher) i told s e e2 → (f : Finishing K V) → s.enders i ≡ Some f → (g : Grant) × IsAct (StepsEnding i g) (OfEnding told)
-    pub row_begins : (call : SlotCall) → RowBeginsThere same (hash e.hasher) call i s e e2 → MayBegin e (slot_of i) call → IsAct (BeginsRow i (request_of (slot_of i) call)) Nothing
-    pub row : (told : RowTold (Node K V)) → RowStepsThere same (hash e.hasher) i told s e e2 → (it : SlotRow) → work_of e i ≡ Some (work.OnSlot it) → (g : Grant) × IsAct (StepsRow i g) Nothing
+    pub making : (told : Progress Setting) → MakesThere same (hash e.hasher) i told s e e2 → (b : Beginning K) → s.makers i ≡ Some b
+        → AreSteps (Computes e e2 (new_map_plan {K = K} {V = V} b.machine) told) (StepsMaking i) (OfMaking told)
+    pub ending_begins : (m : ℕ) → EndingBegins same (hash e.hasher) m i s e e2 → work_of e i ≡ None → NoCallOn e m → IsAct (BeginsEnding i m) Nothing
+    pub ending : (told : Settled (Node K V)) → EndsThere same (hash e.hasher) i told s e e2 → (f : Finishing K V) → s.enders i ≡ Some f
+        → AreSteps (Computes e e2 (end_map_plan {K = K} {V = V} f.machine) told) (StepsEnding i) (OfEnding told)
+    pub row_begins : (call : SlotCall) → RowBeginsThere same (hash e.hasher) call i s e e2 → work_of e i ≡ None → MayBegin e (slot_of i) call → IsAct (BeginsRow i (request_of (slot_of i) call)) Nothing
+    pub row : (told : RowTold (Node K V)) → RowStepsThere same (hash e.hasher) i told s e e2 → (it : SlotRow) → work_of e i ≡ Some (work.OnSlot it) → AreSteps (RowIsComputed e e2 it told) (StepsRow i) Nothing
 
--- So it is wherever an executor is.
+-- So it is wherever an executor is, that keeps what it was given.
 abbrev pub ExecutorsAct : {K S : Type 0} → (V : Type 0) → (K → K → Bool) → (S → K → ℕ) → Type 0
 ExecutorsAct {K} {S} V same hash =
-    (e e2 : Executor K V S) (s : Scene K V) → IsThere same (hash e.hasher) e s → (i : ℕ) → CallsAreActs same hash e e2 s i × OthersAreActs same hash e e2 s i
+    (e e2 : Executor K V S) (s : Scene K V) → IsThere same (hash e.hasher) e s → StaysGiven e e2 → (i : ℕ) → CallsAreActs same hash e e2 s i × OthersAreActs same hash e e2 s i

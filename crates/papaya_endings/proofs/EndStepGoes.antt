@@ -42,8 +42,7 @@ use Rattle.papaya_played.proofs.PlayedAs.{PlayedAs}
 use Rattle.papaya_linear.specs.Coming.{Goes}
 use Rattle.papaya_linear.proofs.Coming.{gone_leaves}
 use Rattle.papaya_linear.proofs.Holding.{AllHolds}
-use Rattle.papaya_linear.proofs.Names.{effects_named}
-use Rattle.papaya_linear.proofs.Tied.{EndingTied, ending_tied}
+use Rattle.papaya_played.proofs.Tied.{EndingTied, ending_tied}
 use Rattle.papaya_endings.specs.Ends.{AlikeOf, EndsWell}
 use Rattle.papaya_endings.specs.Going.{GoesOnToEnd}
 use Rattle.papaya_endings.specs.GoingOn.{EndsGoOn}
@@ -55,8 +54,9 @@ use Rattle.papaya_endings.proofs.Going.{NotedAlike, going_alike}
 use Rattle.papaya_endings.proofs.Others.{taken_spares}
 use Rattle.papaya_endings.proofs.Played.{goes_of, noted_on}
 use Rattle.papaya_endings.proofs.Spares.{all_spared}
+use Rattle.papaya_agrees.proofs.Names.{effects_named}
 
-module _ {K V S : Type 0} (same : K → K → Bool) (by_hasher : S → K → ℕ) (hash : ℕ → K → ℕ) (batch_size roots : ℕ) (aborts : V) (x y : State K V S) (s n : Scene K V)
+module _ {K V S : Type 0} (same : K → K → Bool) (by_hasher : S → K → ℕ) (hash : ℕ → K → ℕ) (batch_size roots : ℕ) (aborts : ℕ → V) (x y : State K V S) (s n : Scene K V)
     (is : IsOf by_hasher s s.world.row x.now) (at : IsAt same hash (held_in batch_size roots NoChange s) s) (all : AllHolds same x s) (so : EndsGoOn x s) (told : Answer K V) (i : ℕ) (g : Grant) where
   abbrev act : Act K V S
   act = StepsEnding i g

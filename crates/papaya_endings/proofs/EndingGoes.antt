@@ -92,7 +92,7 @@ maps_kept map (role.Pair n) m = refl
 maps_kept map (role.Table t len) m = refl
 maps_kept map (role.Counter of) m = refl
 
-module _ {K V S : Type 0} (same : K → K → Bool) (by_hasher : S → K → ℕ) (hash : ℕ → K → ℕ) (batch_size roots : ℕ) (aborts : V) (x y : State K V S) (s n : Scene K V)
+module _ {K V S : Type 0} (same : K → K → Bool) (by_hasher : S → K → ℕ) (hash : ℕ → K → ℕ) (batch_size roots : ℕ) (aborts : ℕ → V) (x y : State K V S) (s n : Scene K V)
     (is : IsOf by_hasher s s.world.row x.now) (at : IsAt same hash (held_in batch_size roots NoChange s) s) (all : AllHolds same x s) (so : EndsGoOn x s) (told : Answer K V) (i : ℕ) where
   abbrev old : Held K V
   old = held_in batch_size roots NoChange s

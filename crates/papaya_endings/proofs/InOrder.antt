@@ -23,7 +23,7 @@ use Rattle.papaya_acts.specs.AsSteps.{LeadsAs, changed_by, held_in}
 use Rattle.papaya_acts.specs.Leads.{Led}
 use Rattle.papaya_acts.specs.Lists.{nothing_done}
 use Rattle.papaya_agrees.specs.Fresh.{HasNewNumber}
-use Rattle.papaya_agrees.proofs.Numbers.{numbers_first}
+use Rattle.papaya_agrees.proofs.GivenBack.{again_first}
 use Rattle.papaya_deeds.specs.Deeds.{Deed, Entry, Leaves, MapComes, MapFails, Makes, Opens}
 use Rattle.papaya_played.specs.Play.{State, has_root, leaves_as, making_deed, pairs_for, registers_as, row_deed}
 use Rattle.papaya_played.specs.Reached.{IsOf, rows_beside}
@@ -79,7 +79,7 @@ module _ {K V : Type 0} where
   taken_or_not true e log one each = (one, each)
   taken_or_not false e log one each = each
 
-module _ {K V S : Type 0} (same : K → K → Bool) (by_hasher : S → K → ℕ) (hash : ℕ → K → ℕ) (batch_size roots : ℕ) (aborts : V) (x y : State K V S) (s n : Scene K V)
+module _ {K V S : Type 0} (same : K → K → Bool) (by_hasher : S → K → ℕ) (hash : ℕ → K → ℕ) (batch_size roots : ℕ) (aborts : ℕ → V) (x y : State K V S) (s n : Scene K V)
     (is : IsOf by_hasher s s.world.row x.now) (at : IsAt same hash (held_in batch_size roots NoChange s) s) (all : AllHolds same x s) (so : EndsGoOn x s) (told : Answer K V) (each : EachInOrder x.history) where
   -- by what the history is then
   then_so : (log : List (Entry K V)) → y.history ≡ log → EachInOrder log → EachInOrder y.history
@@ -102,10 +102,10 @@ module _ {K V S : Type 0} (same : K → K → Bool) (by_hasher : S → K → ℕ
   acts_in_order (StepsRow i g) (row, here, end, steps, y_is) led leads at2 = then_so _ (ap (λ (z : State K V S). z.history) y_is) (row_none row _ _ _, each)
 
 module _ {K S : Type 0} (V : Type 0) (same : K → K → Bool) (by_hasher : S → K → ℕ) (hash : ℕ → K → ℕ) (batch_size roots : ℕ) where
-  abbrev All : V → At V same by_hasher hash batch_size roots → State K V S → Type 0
+  abbrev All : (ℕ → V) → At V same by_hasher hash batch_size roots → State K V S → Type 0
   All aborts p x = AllGo V same by_hasher hash batch_size roots aborts p x × EachInOrder x.history
 
-  stay_in_order : (aborts : V) → StaysSo V same by_hasher hash batch_size roots aborts HasNewNumber (All aborts)
+  stay_in_order : (aborts : ℕ → V) → StaysSo V same by_hasher hash batch_size roots aborts HasNewNumber (All aborts)
   stay_in_order aborts = record {
     acts = λ p n x y act told own fits none none_then is is_then at may led leads at_then played here. (
       go.acts p n x y act told own fits none none_then is is_then at may led leads at_then played here.0,
@@ -116,14 +116,15 @@ module _ {K S : Type 0} (V : Type 0) (same : K → K → Bool) (by_hasher : S �
     steps = λ p n x y told g st is is_then at leads scene played here.
         (let it = reclaimed_as same by_hasher batch_size roots aborts x y g played in
         (go.steps p n x y told g st is is_then at leads scene played here.0, subst EachInOrder (sym (ap (λ (z : State K V S). z.history) it.4)) (tt, here.1)));
+    chooses = λ p n x choice none none_then scene is is_then at here. (go.chooses p n x choice none none_then scene is is_then at here.0, here.1);
   }
     where
       go : StaysSo V same by_hasher hash batch_size roots aborts HasNewNumber (AllGo V same by_hasher hash batch_size roots aborts)
       go = ends_go_on V same by_hasher hash batch_size roots aborts
 
   pub maps_end_in_order : MapsEndInOrder {K = K} {S = S} V same by_hasher hash batch_size roots
-  maps_end_in_order small aborts course doings y led own once =
+  maps_end_in_order small aborts course doings y led own new =
       let first = nothing_done V same by_hasher batch_size roots slot_of course in
-      let to = wherever_led V same by_hasher hash batch_size roots small aborts (All aborts) (stay_in_order aborts) course doings y led own once
-      ((first_holds V same by_hasher hash batch_size roots aborts first.0 refl (numbers_first roots), first_go V same by_hasher hash batch_size roots aborts), tt) in
+      let to = wherever_led V same by_hasher hash batch_size roots small aborts (All aborts) (stay_in_order aborts) course doings y led own new
+      ((first_holds V same by_hasher hash batch_size roots aborts first.0 refl (again_first roots), first_go V same by_hasher hash batch_size roots aborts), tt) in
       (to.0, to.1, to.2.1)

@@ -1,4 +1,4 @@
-mod Places
+pub mod Places
 mod Left
 mod Alike
 mod Begins

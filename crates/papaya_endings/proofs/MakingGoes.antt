@@ -36,12 +36,10 @@ use Rattle.papaya_deeds.specs.Deeds.{Deed, Entry, Makes, MapComes, MapFails, aft
 use Rattle.papaya_played.specs.Play.{Ending, State, has_root, is_refusal, making_deed, making_outcome, pairs_for}
 use Rattle.papaya_played.specs.Reached.{IsOf}
 use Rattle.papaya_played.proofs.PlayedAs.{PlayedAs}
-use Rattle.papaya_linear.specs.Coming.{AreNamed}
 use Rattle.papaya_linear.proofs.ComeActs.{made_enders}
 use Rattle.papaya_linear.proofs.Coming.{come_leaves, gone_leaves}
 use Rattle.papaya_linear.proofs.Holding.{AllHolds}
-use Rattle.papaya_linear.proofs.Names.{effects_named}
-use Rattle.papaya_linear.proofs.Tied.{MakingTied, making_tied}
+use Rattle.papaya_played.proofs.Tied.{MakingTied, making_tied}
 use Rattle.papaya_endings.specs.Ends.{AlikeOf, AreStored}
 use Rattle.papaya_endings.specs.Going.{GoesOnToEnd}
 use Rattle.papaya_endings.specs.GoingOn.{EndsGoOn}
@@ -51,6 +49,8 @@ use Rattle.papaya_endings.proofs.Others.{firsts_spare}
 use Rattle.papaya_endings.proofs.Places.{stored_alike}
 use Rattle.papaya_endings.proofs.Played.{ends_stay, goes_of, noted_on}
 use Rattle.papaya_endings.proofs.Spares.{all_spared}
+use Rattle.papaya_agrees.specs.Fresh.{AreNamed}
+use Rattle.papaya_agrees.proofs.Names.{effects_named}
 
 -- After each step of the making of another map all of this one is as it was.
 module _ {K V : Type 0} (map own : ℕ) (ne : own ≢ map) (m : Moment K V) (stored : AreStored map m) (names : AreNamed m) (effects : List Effect) (firsts : list_all is_first_making effects ≡ true)
@@ -90,7 +90,7 @@ module _ {K V : Type 0} (map own : ℕ) (ne : own ≢ map) (m : Moment K V) (sto
       (alike_then map b v (then_at false true) (all_spared map None (Some own) other effects b (stored_alike map m b came stored) (firsts_spare map None (Some own) effects b firsts links))
       (alike_all map v (then_at false true) refl refl refl refl refl))
 
-module _ {K V S : Type 0} (same : K → K → Bool) (by_hasher : S → K → ℕ) (hash : ℕ → K → ℕ) (batch_size roots : ℕ) (aborts : V) (x y : State K V S) (s n : Scene K V)
+module _ {K V S : Type 0} (same : K → K → Bool) (by_hasher : S → K → ℕ) (hash : ℕ → K → ℕ) (batch_size roots : ℕ) (aborts : ℕ → V) (x y : State K V S) (s n : Scene K V)
     (is : IsOf by_hasher s s.world.row x.now) (at : IsAt same hash (held_in batch_size roots NoChange s) s) (all : AllHolds same x s) (so : EndsGoOn x s) (told : Answer K V) (i : ℕ) (g : Grant) where
   abbrev act : Act K V S
   act = StepsMaking i g

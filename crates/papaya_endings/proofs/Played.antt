@@ -1,5 +1,5 @@
 -- Each map that ends goes on to end by each act that is played of calls and of rows.
-use Rattle.std.specs.Prelude.{◌≡◌, ◌≢◌, ◌<◌, ℕ, Bool, true, false, List, [], ◌∷◌, Option, Some, None, is_ok, if◌then◌else◌}
+use Rattle.std.specs.Prelude.{◌≡◌, ◌≢◌, ◌<◌, ℕ, Bool, true, false, List, [], ◌∷◌, Option, Some, None, is_ok, length, if◌then◌else◌}
 use Rattle.std.proofs.Common.{refl, ap, sym, subst, ◌∙◌}
 use Rattle.seize_acts.specs.Answers.{Grant}
 use Rattle.papaya_moments.specs.Given.Seize.World.{Row, times}
@@ -39,7 +39,7 @@ use Rattle.papaya_linear.proofs.Going.{noted_beside}
 use Rattle.papaya_linear.proofs.Holding.{AllHolds}
 use Rattle.papaya_linear.proofs.Like.{IsLike}
 use Rattle.papaya_linear.proofs.RowsPlayed.{is_of_row, rows_like}
-use Rattle.papaya_linear.proofs.Tied.{CallTied, call_tied}
+use Rattle.papaya_played.proofs.Tied.{CallTied, call_tied}
 use Rattle.papaya_endings.specs.Ends.{AlikeOf}
 use Rattle.papaya_endings.specs.Going.{GoesOnToEnd}
 use Rattle.papaya_endings.specs.GoingOn.{EndsGoOn}
@@ -65,17 +65,17 @@ module _ {K V : Type 0} where
   stopped_same h false i = (refl, refl, refl, refl, refl)
 
 module _ {K V S : Type 0} where
-  module _ (same : K → K → Bool) (by_hasher : S → K → ℕ) (batch_size roots : ℕ) (aborts : V) (x y : State K V S) where
+  module _ (same : K → K → Bool) (by_hasher : S → K → ℕ) (batch_size roots : ℕ) (aborts : ℕ → V) (x y : State K V S) where
     quiet_same : (act : Act K V S) → IsQuiet act → PlayedAs same by_hasher batch_size roots aborts x y act → AllTheSame (moment x.history) (moment y.history)
     quiet_same (BeginsCall i m wanted) quiet (at, there, is) = subst (λ (z : State K V S). AllTheSame (moment x.history) (moment z.history)) (sym is) (refl, refl, refl, refl, refl)
     quiet_same (TellsCall i m reply) quiet (c, here, is) =
-        subst (λ (z : State K V S). AllTheSame (moment x.history) (moment z.history)) (sym is) (told_same x.history (is_ok (machine_replied c.machine reply).1) i reply aborts)
+        subst (λ (z : State K V S). AllTheSame (moment x.history) (moment z.history)) (sym is) (told_same x.history (is_ok (machine_replied c.machine reply).1) i reply (aborts (length x.told)))
     quiet_same (AsksCall i m) quiet (c, here, is) = subst (λ (z : State K V S). AllTheSame (moment x.history) (moment z.history)) (sym is) (refl, refl, refl, refl, refl)
     quiet_same (StopsCall i m) quiet (c, here, is) = subst (λ (z : State K V S). AllTheSame (moment x.history) (moment z.history)) (sym is) (stopped_same x.history (machine_asked c.machine).1 i)
     quiet_same (BeginsRow i request) quiet (called, there, is) = subst (λ (z : State K V S). AllTheSame (moment x.history) (moment z.history)) (sym is) (refl, refl, refl, refl, refl)
     quiet_same act quiet played = absurd quiet
 
-module _ {K V S : Type 0} (same : K → K → Bool) (by_hasher : S → K → ℕ) (hash : ℕ → K → ℕ) (batch_size roots : ℕ) (aborts : V) (x y : State K V S) (s n : Scene K V)
+module _ {K V S : Type 0} (same : K → K → Bool) (by_hasher : S → K → ℕ) (hash : ℕ → K → ℕ) (batch_size roots : ℕ) (aborts : ℕ → V) (x y : State K V S) (s n : Scene K V)
     (is : IsOf by_hasher s s.world.row x.now) (at : IsAt same hash (held_in batch_size roots NoChange s) s) (all : AllHolds same x s) (so : EndsGoOn x s) (told : Answer K V) where
   abbrev old : Held K V
   old = held_in batch_size roots NoChange s

@@ -11,7 +11,7 @@ use Rattle.papaya_acts.specs.Acts.{Act, Answer, AsksCall, BeginsCall, BeginsEndi
 use Rattle.papaya_acts.specs.AsSteps.{LeadsAs, changed_by, held_in}
 use Rattle.papaya_acts.specs.Leads.{Led, MayBe}
 use Rattle.papaya_agrees.specs.Fresh.{HasNewNumber}
-use Rattle.papaya_played.specs.Play.{Ending, State, all_begun, first_state}
+use Rattle.papaya_played.specs.Play.{Ending, State, all_begun, choice_come, first_state}
 use Rattle.papaya_played.specs.Reached.{IsOf, rows_beside}
 use Rattle.papaya_played.proofs.Along.{At, StaysSo}
 use Rattle.papaya_played.proofs.PlayedAs.{PlayedAs, played_as, reclaimed_as}
@@ -23,7 +23,7 @@ use Rattle.papaya_endings.proofs.EndingGoes.{begins_going}
 use Rattle.papaya_endings.proofs.MakingGoes.{making_goes}
 use Rattle.papaya_endings.proofs.Played.{quiet_go, row_goes, step_goes}
 
-module _ {K V S : Type 0} (same : K → K → Bool) (by_hasher : S → K → ℕ) (hash : ℕ → K → ℕ) (batch_size roots : ℕ) (aborts : V) (x y : State K V S) (s n : Scene K V)
+module _ {K V S : Type 0} (same : K → K → Bool) (by_hasher : S → K → ℕ) (hash : ℕ → K → ℕ) (batch_size roots : ℕ) (aborts : ℕ → V) (x y : State K V S) (s n : Scene K V)
     (is : IsOf by_hasher s s.world.row x.now) (at : IsAt same hash (held_in batch_size roots NoChange s) s) (all : AllHolds same x s) (so : EndsGoOn x s) (told : Answer K V) where
   -- a making begins: ends are those that they were
   making_begun : (i map : ℕ) (hasher : S) (given : Setting) (places : ℕ) → PlayedAs same by_hasher batch_size roots aborts x y (BeginsMaking i map hasher given places)
@@ -47,7 +47,7 @@ module _ {K V S : Type 0} (same : K → K → Bool) (by_hasher : S → K → ℕ
   act_goes (BeginsRow i request) played may led leads at2 = quiet_go same by_hasher hash batch_size roots aborts x y s n is at all so told (BeginsRow i request) tt played led
   act_goes (StepsRow i g) played may led leads at2 = row_goes same by_hasher hash batch_size roots aborts x y s n is at all so told i g may.0 played led leads at2
 
-module _ {K S : Type 0} (V : Type 0) (same : K → K → Bool) (by_hasher : S → K → ℕ) (hash : ℕ → K → ℕ) (batch_size roots : ℕ) (aborts : V) where
+module _ {K S : Type 0} (V : Type 0) (same : K → K → Bool) (by_hasher : S → K → ℕ) (hash : ℕ → K → ℕ) (batch_size roots : ℕ) (aborts : ℕ → V) where
   abbrev pub AllGo : At V same by_hasher hash batch_size roots → State K V S → Type 0
   AllGo p x = Of V same by_hasher hash batch_size roots aborts p x × EndsGoOn x p.0
 
@@ -74,6 +74,10 @@ module _ {K S : Type 0} (V : Type 0) (same : K → K → Bool) (by_hasher : S �
             apart = λ j k e e2 ne one two. here.1.apart j k e e2 ne (sym (ap (λ (h : ℕ → Option Ending). h j) enders) ∙ one) (sym (ap (λ (h : ℕ → Option Ending). h k) enders) ∙ two);
           },
         ));
+    chooses = λ p n x choice none none_then scene is is_then at here. (
+      linear.chooses p n x choice none none_then scene is is_then at here.0,
+      subst (EndsGoOn (choice_come choice x)) (sym scene) (record { each = here.1.each; apart = here.1.apart }),
+    );
   }
     where
       linear : StaysSo V same by_hasher hash batch_size roots aborts HasNewNumber (Of V same by_hasher hash batch_size roots aborts)

@@ -9,7 +9,7 @@ use Rattle.papaya_moments.specs.Given.Schedules.Views.{size_of}
 use Rattle.papaya_moments.specs.Given.Scenes.Scene.{slot_of}
 use Rattle.papaya_acts.specs.Doings.{Doing}
 use Rattle.papaya_acts.specs.Lists.{Course, LedTo, Reached}
-use Rattle.papaya_agrees.specs.Fresh.{MakesOnce}
+use Rattle.papaya_agrees.specs.Fresh.{MakesNew}
 use Rattle.papaya_deeds.specs.Deeds.{Deed, Ends, Entry, MapGoes, moment, worked}
 use Rattle.papaya_deeds.specs.History.{EndFinds, left_tables}
 use Rattle.papaya_linear.specs.Linear.{IsOfOwn}
@@ -27,9 +27,10 @@ module _ {K V : Type 0} where
 
 -- Keys have a hash by each hasher, and each map has one by its number.
 module _ {K S : Type 0} (V : Type 0) (same : K → K → Bool) (by_hasher : S → K → ℕ) (hash : ℕ → K → ℕ) (batch_size roots : ℕ) where
-  -- The promise: so it is of each entry wherever a list of acts has led, in which no number is given to two maps, whatever the values are with which closures abort.
+  -- The promise: so it is of each entry wherever a list of acts has led that makes each map with a new number, whatever the values are with which closures abort.
   abbrev pub MapsEndInOrder : Type 0
   MapsEndInOrder =
-      batch_size < 2 ^ 64 → (aborts : V) (course : Course V same by_hasher batch_size roots slot_of) (doings : List (Doing K V S)) (y : Reached V same by_hasher batch_size roots slot_of)
-      → LedTo V same by_hasher batch_size roots slot_of course doings y → AllByRecursion (IsOfOwn V same by_hasher hash batch_size roots) doings → MakesOnce doings
+      batch_size < 2 ^ 64 → (aborts : ℕ → V) (course : Course V same by_hasher batch_size roots slot_of) (doings : List (Doing K V S)) (y : Reached V same by_hasher batch_size roots slot_of)
+      → LedTo V same by_hasher batch_size roots slot_of course doings y → AllByRecursion (IsOfOwn V same by_hasher hash batch_size roots) doings
+      → MakesNew same by_hasher batch_size roots aborts doings (first_state roots)
       → (after : State K V S) × (play_all same by_hasher batch_size roots aborts doings (first_state roots) ≡ Some after) × AtEachEvent EndsInOrder after.history

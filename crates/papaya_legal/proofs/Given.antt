@@ -18,6 +18,7 @@ pub use Rattle.papaya_grows.proofs.Given.Others
 pub use Rattle.papaya_grows.proofs.Given.Spots
 pub use Rattle.papaya_grows.proofs.Given.Moments
 pub use Rattle.papaya_logged.proofs.Given.Remains
+pub use Rattle.papaya_grows.proofs.Given.Lives
 pub use Rattle.papaya_grows.proofs.Given.Kept
 pub use Rattle.papaya_logged.proofs as Logged
 pub use Rattle.papaya_grows.proofs.Given.Histories

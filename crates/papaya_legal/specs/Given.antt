@@ -25,6 +25,7 @@ pub use Rattle.papaya_grows.specs.Given.Others
 pub use Rattle.papaya_grows.specs.Given.Spots
 pub use Rattle.papaya_grows.specs.Given.Moments
 pub use Rattle.papaya_logged.specs.Given.Remains
+pub use Rattle.papaya_grows.specs.Given.Lives
 pub use Rattle.papaya_grows.specs.Given.Kept
 pub use Rattle.papaya_logged.specs as Logged
 pub use Rattle.papaya_grows.specs.Given.Histories

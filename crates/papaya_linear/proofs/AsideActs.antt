@@ -1,5 +1,5 @@
 -- Maps come and go as before by what calls and rows do, and by who reclaims all.
-use Rattle.std.specs.Prelude.{◌≡◌, ◌≢◌, ℕ, Bool, true, false, List, [], ◌∷◌, Option, Some, None, is_ok, if◌then◌else◌}
+use Rattle.std.specs.Prelude.{◌≡◌, ◌≢◌, ℕ, Bool, true, false, List, [], ◌∷◌, Option, Some, None, is_ok, length, if◌then◌else◌}
 use Rattle.std.specs.List.{All}
 use Rattle.std.proofs.Common.{refl, ap, sym, subst, ◌∙◌}
 use Rattle.papaya_scenes.specs.Given.Seize.declared.rows.reclaim_all.ReclaimAll.{ReclaimAll}
@@ -44,14 +44,15 @@ use Rattle.papaya_agrees.proofs.Elsewhere.{SameOf}
 use Rattle.papaya_deeds.specs.Deeds.{Entry, ReclaimsAll, Replies, Steps, Stops, acted_on, after, moment, named}
 use Rattle.papaya_played.specs.Play.{Ending, State, reply_for, row_deed}
 use Rattle.papaya_played.proofs.PlayedAs.{PlayedAs}
-use Rattle.papaya_linear.specs.Coming.{AreNamed, Goes, IsGone, IsNamed, MapsComeAndGo}
+use Rattle.papaya_linear.specs.Coming.{Goes, IsGone, MapsComeAndGo}
 use Rattle.papaya_linear.proofs.Below.{maps_below}
 use Rattle.papaya_linear.proofs.Coming.{comes_bare, comes_on, others_leave, rows_leave, same_of, same_then}
 use Rattle.papaya_linear.proofs.Counted.{counted_again}
 use Rattle.papaya_linear.proofs.Going.{goes_alike, goes_beside}
 use Rattle.papaya_linear.proofs.Like.{IsLike}
-use Rattle.papaya_linear.proofs.Names.{effects_named}
 use Rattle.papaya_linear.proofs.RowsPlayed.{is_of_row, rows_like}
+use Rattle.papaya_agrees.specs.Fresh.{AreNamed, IsNamed}
+use Rattle.papaya_agrees.proofs.Names.{effects_named}
 
 module _ {K V : Type 0} where
   -- two moments have the same maps, pairs and tables
@@ -107,10 +108,10 @@ module _ {K V S : Type 0} where
   abbrev pub Quiet : State K V S → State K V S → Type 0
   Quiet x y = AreAlike (moment x.history) (moment y.history) × (y.known ≡ x.known) × (y.now.enders ≡ x.now.enders)
 
-  module _ (same : K → K → Bool) (by_hasher : S → K → ℕ) (batch_size roots : ℕ) (aborts : V) (x y : State K V S) where
+  module _ (same : K → K → Bool) (by_hasher : S → K → ℕ) (batch_size roots : ℕ) (aborts : ℕ → V) (x y : State K V S) where
     pub quiet_played : (act : Act K V S) → IsQuiet act → PlayedAs same by_hasher batch_size roots aborts x y act → Quiet x y
     quiet_played (BeginsCall i m wanted) quiet (at, there, is) = subst (Quiet x) (sym is) ((refl, refl, refl), refl, refl)
-    quiet_played (TellsCall i m reply) quiet (c, here, is) = subst (Quiet x) (sym is) (told_alike x.history (is_ok (machine_replied c.machine reply).1) i reply aborts, refl, refl)
+    quiet_played (TellsCall i m reply) quiet (c, here, is) = subst (Quiet x) (sym is) (told_alike x.history (is_ok (machine_replied c.machine reply).1) i reply (aborts (length x.told)), refl, refl)
     quiet_played (AsksCall i m) quiet (c, here, is) = subst (Quiet x) (sym is) ((refl, refl, refl), refl, refl)
     quiet_played (StopsCall i m) quiet (c, here, is) = subst (Quiet x) (sym is) (stopped_alike x.history (machine_asked c.machine).1 i, refl, refl)
     quiet_played (BeginsRow i request) quiet (called, there, is) = subst (Quiet x) (sym is) ((refl, refl, refl), refl, refl)

@@ -12,12 +12,12 @@ use Rattle.papaya_moments.specs.Given.Scenes.Scene.{slot_of}
 use Rattle.papaya_histories.specs.AsCalled.{IsBegunAs}
 use Rattle.papaya_named.proofs.Called.{begun_call, is_begun_for, is_called}
 use Rattle.papaya_acts.specs.Acts.{Wanted, begun}
-use Rattle.papaya_acts.specs.Acts.{Get, Remove, Insert, TryToInsert, Compute, Update, UpdateOrInsert, TryToInsertWith, RemoveIf, MakeRoom, Count, GoOver}
+use Rattle.papaya_acts.specs.Acts.{Get, Remove, Insert, TryToInsert, Compute, Update, UpdateOrInsert, TryToInsertWith, RemoveIf, GetKeyValue, ContainsKey, GetOrInsert, GetOrInsertWith, RemoveEntry, MakeRoom, Count, GoOver}
 use Rattle.papaya_played.specs.Play.{call_for}
 
 module _ {K V : Type 0} (same : K → K → Bool) (st : Standing K) (i : ℕ) where
   -- what an act begins is what begins where that is called
-  begun_is : (wanted : Wanted K V) → begun same slot_of st i wanted ≡ begun_call same st i (call_for wanted)
+  pub begun_is : (wanted : Wanted K V) → begun same slot_of st i wanted ≡ begun_call same st i (call_for wanted)
   begun_is (Get key) = refl
   begun_is (Remove key) = refl
   begun_is (Insert key value) = refl
@@ -28,6 +28,11 @@ module _ {K V : Type 0} (same : K → K → Bool) (st : Standing K) (i : ℕ) wh
   begun_is (UpdateOrInsert key (Some value)) = refl
   begun_is (TryToInsertWith key) = refl
   begun_is (RemoveIf key) = refl
+  begun_is (GetKeyValue key) = refl
+  begun_is (ContainsKey key) = refl
+  begun_is (GetOrInsert key value) = refl
+  begun_is (GetOrInsertWith key) = refl
+  begun_is (RemoveEntry key) = refl
   begun_is (MakeRoom additional) = refl
   begun_is Count = refl
   begun_is (GoOver purpose.Walks) = refl

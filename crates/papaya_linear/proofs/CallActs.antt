@@ -1,5 +1,5 @@
 -- What is so of a state that is played, and of the scene to which its acts have led, stays so by each act of a call: each entry so far is linearizable.
-use Rattle.std.specs.Prelude.{◌≡◌, ℕ, Bool, true, false, Some, None, Result, Ok, Err, is_ok, is_err, option_map, if◌then◌else◌}
+use Rattle.std.specs.Prelude.{◌≡◌, ℕ, Bool, true, false, Some, None, Result, Ok, Err, is_ok, is_err, length, option_map, if◌then◌else◌}
 use Rattle.std.proofs.Common.{refl, ap, sym, subst, ◌∙◌}
 use Rattle.seize_acts.specs.Acts.{rests}
 use Rattle.seize_acts.specs.Answers.{Grant}
@@ -36,7 +36,7 @@ use Rattle.papaya_linear.proofs.HeardAll.{AreHeardAt}
 use Rattle.papaya_linear.proofs.Holds.{Holds, onto}
 use Rattle.papaya_linear.proofs.RepliesPlayed.{played_replies, played_replies_are_heard}
 use Rattle.papaya_linear.proofs.StepsPlayed.{led, played_steps_answer, played_steps_are_heard, played_steps_are_linearizable, there_alike, there_is}
-use Rattle.papaya_linear.proofs.Tied.{call_tied}
+use Rattle.papaya_played.proofs.Tied.{call_tied}
 
 pub ok_is : {E : Type 0} (r : Result Unit E) → is_ok r ≡ true → r ≡ Ok tt
 ok_is (Ok done) e = refl
@@ -50,7 +50,7 @@ pub resting : (row : Row) → rests row ≡ true → row ≡ Rests
 resting Rests e = refl
 resting _ e = absurd (cc e)
 
-module _ {K V S : Type 0} (same : K → K → Bool) (by_hasher : S → K → ℕ) (hash : ℕ → K → ℕ) (batch_size roots : ℕ) (aborts : V) (x y : State K V S) (s n : Scene K V) (rows rows2 : ℕ → Row)
+module _ {K V S : Type 0} (same : K → K → Bool) (by_hasher : S → K → ℕ) (hash : ℕ → K → ℕ) (batch_size roots : ℕ) (aborts : ℕ → V) (x y : State K V S) (s n : Scene K V) (rows rows2 : ℕ → Row)
     (is : IsOf by_hasher s rows x.now) (is_then : IsOf by_hasher n rows2 y.now) (before : Changed) (at : IsAt same hash (held_in batch_size roots before s) s) (holds : Holds same x s) (noted_then : CallsAreNoted y)
     (told : Answer K V) where
   abbrev old : Held K V
@@ -108,25 +108,25 @@ module _ {K V S : Type 0} (same : K → K → Bool) (by_hasher : S → K → ℕ
       new = then_held (TellsCall i m reply)
 
       z : Bool → State K V S
-      z b = did b (Replies i (reply_for aborts reply)) outcome.Goes (OfReply (machine_replied c.machine reply).1)
-          (record x.now { calls = with_call x.now.calls m i (Some (told_call (machine_replied c.machine reply) (reply_for aborts reply) c)) }) x
+      z b = did b (Replies i (reply_for (aborts (length x.told)) reply)) outcome.Goes (OfReply (machine_replied c.machine reply).1)
+          (record x.now { calls = with_call x.now.calls m i (Some (told_call (machine_replied c.machine reply) (reply_for (aborts (length x.told)) reply) c)) }) x
 
       by : (b : Bool) → is_ok (machine_replied c.machine reply).1 ≡ b → Holds same y n
       by true ok =
           let taken = ok_is (machine_replied c.machine reply).1 ok in
-          let so = played_replies same hash aborts x s old new at holds.shows holds.noted holds.heard i m c here u under its reply taken standing stands next next_is kind.0 (subst (IsAt same hash new) n_is at2) in
+          let so = played_replies same hash (aborts (length x.told)) x s old new at holds.shows holds.noted holds.heard i m c here u under its reply taken standing stands next next_is kind.0 (subst (IsAt same hash new) n_is at2) in
           comes_so (z true) (scene_with m i next s) (y_is ∙ ap z ok) n_is
           (record {
             shows = so.1;
             noted = noted_as (z true) (y_is ∙ ap z ok);
-            heard = played_replies_are_heard same hash aborts x s old new at holds.shows holds.noted holds.heard i m c here u under its reply taken standing stands next next_is kind.0
+            heard = played_replies_are_heard same hash (aborts (length x.told)) x s old new at holds.shows holds.noted holds.heard i m c here u under its reply taken standing stands next next_is kind.0
                 (subst (IsAt same hash new) n_is at2);
             each = (so.0, holds.each);
           })
       by false not =
           let refused = err_is (machine_replied c.machine reply).1 not in
-          let as_it_was : told_call (machine_replied c.machine reply) (reply_for aborts reply) c ≡ c =
-          ap (λ (b : Bool). record c { machine = (machine_replied c.machine reply).0; value = if b then aborted_by (reply_for aborts reply) else c.value }) not
+          let as_it_was : told_call (machine_replied c.machine reply) (reply_for (aborts (length x.told)) reply) c ≡ c =
+          ap (λ (b : Bool). record c { machine = (machine_replied c.machine reply).0; value = if b then aborted_by (reply_for (aborts (length x.told)) reply) else c.value }) not
           ∙ ap (λ (w : Machine K V K). record c { machine = w }) (refused_same c.machine reply refused) in
           comes_so (z false) (scene_with m i u s) (y_is ∙ ap z not)
           (n_is ∙ ap (λ (w : UnderWay K V K). scene_with m i w s) (kind.1 (subst (λ (w : Machine K V K). is_err (machine_replied w reply).1 ≡ true) its refused)))

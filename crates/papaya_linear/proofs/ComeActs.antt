@@ -50,7 +50,7 @@ use Rattle.papaya_linear.proofs.EndsRight.{ended_coming, ended_going, ended_name
 use Rattle.papaya_linear.proofs.Going.{goes_alike, goes_beside}
 use Rattle.papaya_linear.proofs.Gone.{BeginsOther, acts_leave_gone}
 use Rattle.papaya_linear.proofs.MakesRight.{made_coming, made_names, made_numbers}
-use Rattle.papaya_linear.proofs.Tied.{EndingTied, MakingTied, call_tied, ending_tied, making_tied}
+use Rattle.papaya_played.proofs.Tied.{EndingTied, MakingTied, call_tied, ending_tied, making_tied}
 
 -- What is noted of a map that stands.
 module _ {K V : Type 0} (same : K → K → Bool) (hash : ℕ → K → ℕ) (old : Held K V) (m : Moment K V) (known : Known) (s : Scene K V) (at : IsAt same hash old s) (shown : Shows same named m known s) (map : ℕ) (standing : Standing K)
@@ -73,7 +73,7 @@ module _ {K V S : Type 0} where
   made_enders b i machine (progress.Done setting) now = refl
   made_enders b i machine (progress.Refused fault) now = refl
 
-module _ {K V S : Type 0} (same : K → K → Bool) (by_hasher : S → K → ℕ) (hash : ℕ → K → ℕ) (batch_size roots : ℕ) (aborts : V) (x y : State K V S) (s n : Scene K V) (rows : ℕ → Row) (is : IsOf by_hasher s rows x.now)
+module _ {K V S : Type 0} (same : K → K → Bool) (by_hasher : S → K → ℕ) (hash : ℕ → K → ℕ) (batch_size roots : ℕ) (aborts : ℕ → V) (x y : State K V S) (s n : Scene K V) (rows : ℕ → Row) (is : IsOf by_hasher s rows x.now)
     (before : Changed) (at : IsAt same hash (held_in batch_size roots before s) s) (whole : ShowsWhole same named (moment x.history) x.known s) (so : MapsComeAndGo (moment x.history) x.known x.now.enders s) (told : Answer K V) where
   abbrev old : Held K V
   old = held_in batch_size roots before s

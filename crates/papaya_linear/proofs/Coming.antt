@@ -28,7 +28,8 @@ use Rattle.papaya_agrees.proofs.Elsewhere.{SameOf, acting_elsewhere, effects_els
 use Rattle.papaya_deeds.specs.Deeds.{come, named, without_map}
 use Rattle.papaya_played.specs.Play.{has_root}
 use Rattle.papaya_played.proofs.Noted.{apart}
-use Rattle.papaya_linear.specs.Coming.{AreNamed, Comes, ComesBy, IsNamed, IsUnknown}
+use Rattle.papaya_linear.specs.Coming.{Comes, ComesBy, IsUnknown}
+use Rattle.papaya_agrees.specs.Fresh.{AreNamed, IsNamed}
 
 module _ {K V : Type 0} where
   pub unknown_on : (map : ℕ) (m v : Moment K V) → SameOf map m v → IsUnknown map m → IsUnknown map v

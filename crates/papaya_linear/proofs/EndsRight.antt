@@ -38,12 +38,14 @@ use Rattle.papaya_acts.specs.AsSteps.{EndedTo}
 use Rattle.papaya_agrees.proofs.Elsewhere.{SameOf}
 use Rattle.papaya_deeds.specs.Deeds.{Ends, MapGoes, after, named, without_map}
 use Rattle.papaya_played.specs.Play.{Ending, ended_on, is_over}
-use Rattle.papaya_linear.specs.Coming.{AreNamed, Comes, Goes, IsGone, MapsComeAndGo}
+use Rattle.papaya_linear.specs.Coming.{Comes, Goes, IsGone, MapsComeAndGo}
 use Rattle.papaya_linear.proofs.Coming.{comes_bare, comes_on, gone_leaves, others_leave, same_of, same_then}
 use Rattle.papaya_linear.proofs.Counted.{all_found, counted_again, counted_gone}
 use Rattle.papaya_linear.proofs.Going.{as_noted, goes_beside, notes_all, notes_still}
 use Rattle.papaya_linear.proofs.MapsPlayed.{IsApart}
-use Rattle.papaya_linear.proofs.Names.{apart_so, effects_named, gone_named}
+use Rattle.papaya_linear.proofs.Names.{apart_so}
+use Rattle.papaya_agrees.specs.Fresh.{AreNamed}
+use Rattle.papaya_agrees.proofs.Names.{effects_named, gone_named}
 
 -- what ends with a map leaves numbers below the count
 ends_count : {K V : Type 0} (count map : ℕ) (first : Known) (blocks : List ℕ) (m : Moment K V) → NumbersUpTo count m → NumbersUpTo count (with_effects None (Some map) (ended_as map first blocks) m)

@@ -18,7 +18,8 @@ use Rattle.papaya_moments.specs.Given.Schedules.Moment.{Moment}
 use Rattle.papaya_acts.specs.Acts.{Act, Answer, BeginsCall, StepsCall, TellsCall, AsksCall, StopsCall, BeginsMaking, StepsMaking, BeginsEnding, StepsEnding, BeginsRow, StepsRow, OfMaking}
 use Rattle.papaya_acts.specs.AsSteps.{LeadsAs, changed_by, held_in}
 use Rattle.papaya_acts.specs.Leads.{Led, MayBe}
-use Rattle.papaya_agrees.specs.Fresh.{HasNewNumber, has_come}
+use Rattle.papaya_agrees.specs.Fresh.{HasNewNumber, is_taken}
+use Rattle.papaya_agrees.proofs.GivenBack.{NumbersComeAgain}
 use Rattle.papaya_agrees.proofs.Numbers.{NumbersHold}
 use Rattle.papaya_deeds.specs.Deeds.{moment}
 use Rattle.papaya_played.specs.Play.{Ending, State}
@@ -40,19 +41,19 @@ use Rattle.papaya_linear.proofs.RowActs.{row_begins_hold, row_steps_hold}
 pub record AllHolds {K V S : Type 0} (same : K → K → Bool) (x : State K V S) (s : Scene K V) : Type 0 where
   pub holds : Holds same x s
   pub maps : MapsComeAndGo (moment x.history) x.known x.now.enders s
-  pub numbers : NumbersHold x
+  pub again : NumbersComeAgain x
 
 module _ {K V S : Type 0} where
-  -- of a number that has not come nothing is known, and no map with it ends
-  pub new_number : (x : State K V S) → NumbersHold x → (act : Act K V S) → HasNewNumber x act → IsByNewNumber x act
+  -- of a number that is not taken nothing is known, and no map with it ends
+  pub new_number : (x : State K V S) → NumbersHold true x → (act : Act K V S) → HasNewNumber x act → IsByNewNumber x act
   new_number x numbers (BeginsMaking i map hasher given places) none =
       let fresh = numbers.fresh map none in (
-        record { none = fresh.no_map; no_pairs = fresh.no_pair; no_tables = fresh.no_table },
-        λ j e ends same_map. (let come : has_come map x.history ≡ true = ap (λ (k : ℕ). has_come k x.history) (sym same_map) ∙ numbers.ended j e ends in cc (come, none)),
+        record { none = fresh.no_map; no_pairs = fresh.bare.no_pair; no_tables = fresh.bare.no_table },
+        λ j e ends same_map. (let taken : is_taken map x.history ≡ true = ap (λ (k : ℕ). is_taken k x.history) (sym same_map) ∙ numbers.ended j e ends in cc (taken, none)),
       )
   new_number x numbers _ none = tt
 
-module _ {K V S : Type 0} (same : K → K → Bool) (by_hasher : S → K → ℕ) (hash : ℕ → K → ℕ) (batch_size roots : ℕ) (aborts : V) (x y : State K V S) (s n : Scene K V) (rows2 : ℕ → Row)
+module _ {K V S : Type 0} (same : K → K → Bool) (by_hasher : S → K → ℕ) (hash : ℕ → K → ℕ) (batch_size roots : ℕ) (aborts : ℕ → V) (x y : State K V S) (s n : Scene K V) (rows2 : ℕ → Row)
     (is : IsOf by_hasher s s.world.row x.now) (is_then : IsOf by_hasher n rows2 y.now) (at : IsAt same hash (held_in batch_size roots NoChange s) s) (holds : Holds same x s)
     (maps : MapsComeAndGo (moment x.history) x.known x.now.enders s) (noted_then : CallsAreNoted y) (told : Answer K V) where
   abbrev then_held : Act K V S → Held K V

@@ -4,7 +4,6 @@ pub mod TakesReply
 pub mod Like
 pub mod CallsGo
 pub mod OthersGo
-pub mod Tied
 pub mod Heard
 pub mod HeardAll
 pub mod Begun
@@ -33,6 +32,7 @@ pub mod AsideActs
 pub mod MakesRight
 pub mod EndsRight
 pub mod ComeActs
+pub mod Chosen
 pub mod Holding
 pub mod Stays
 pub mod Linear

@@ -2,12 +2,12 @@
 use Rattle.std.specs.Prelude.{◌≡◌, ◌<◌, ◌^◌, Bool, Some}
 use Rattle.std.specs.List.{AllByRecursion}
 use Rattle.std.proofs.Common.{ℕ, List, [], ◌∷◌, refl}
-use Rattle.papaya_acts.specs.Doings.{Doing, Does, BeginsReclaiming, BeginsClearing, StepsReclaiming}
+use Rattle.papaya_acts.specs.Doings.{Doing, Does, BeginsReclaiming, BeginsClearing, StepsReclaiming, Chooses}
 use Rattle.papaya_acts.specs.Lists.{Course, LedTo, Reached, nothing_done}
 use Rattle.papaya_scenes.specs.Scene.{slot_of}
-use Rattle.papaya_agrees.specs.Fresh.{HasNewNumber, MakesOnce}
-use Rattle.papaya_agrees.proofs.Coming.{new_numbers}
-use Rattle.papaya_agrees.proofs.Numbers.{numbers_first}
+use Rattle.papaya_agrees.specs.Fresh.{HasNewNumber, MakesNew}
+use Rattle.papaya_agrees.proofs.Coming.{new_fits}
+use Rattle.papaya_agrees.proofs.GivenBack.{again_first}
 use Rattle.papaya_played.specs.Play.{State, first_state, play_all}
 use Rattle.papaya_played.proofs.Along.{AreOfTheirOwn, At, StaysSo, wherever}
 use Rattle.papaya_linear.specs.Linear.{IsOfOwn, ListsAreLinearizable}
@@ -20,19 +20,20 @@ module _ {K S : Type 0} (V : Type 0) (same : K → K → Bool) (by_hasher : S �
   own_so (BeginsReclaiming i ∷ doings) own = (tt, own_so doings own.1)
   own_so (BeginsClearing i ∷ doings) own = (tt, own_so doings own.1)
   own_so (StepsReclaiming g ∷ doings) own = (tt, own_so doings own.1)
+  own_so (Chooses choice ∷ doings) own = (tt, own_so doings own.1)
 
-  -- What stays so where each map gets a new number is so wherever a list of acts has led that are of their own, and give no number to two maps.
-  pub wherever_led : batch_size < 2 ^ 64 → (aborts : V) (P : At V same by_hasher hash batch_size roots → State K V S → Type 0) → StaysSo V same by_hasher hash batch_size roots aborts HasNewNumber P
+  -- What stays so where each map gets a new number is so wherever a list of acts has led that are of their own, and make each map with one.
+  pub wherever_led : batch_size < 2 ^ 64 → (aborts : ℕ → V) (P : At V same by_hasher hash batch_size roots → State K V S → Type 0) → StaysSo V same by_hasher hash batch_size roots aborts HasNewNumber P
       → (course : Course V same by_hasher batch_size roots slot_of) (doings : List (Doing K V S)) (y : Reached V same by_hasher batch_size roots slot_of)
-      → LedTo V same by_hasher batch_size roots slot_of course doings y → AllByRecursion (IsOfOwn V same by_hasher hash batch_size roots) doings → MakesOnce doings
-      → P (nothing_done V same by_hasher batch_size roots slot_of course).0 (first_state roots)
+      → LedTo V same by_hasher batch_size roots slot_of course doings y → AllByRecursion (IsOfOwn V same by_hasher hash batch_size roots) doings
+      → MakesNew same by_hasher batch_size roots aborts doings (first_state roots) → P (nothing_done V same by_hasher batch_size roots slot_of course).0 (first_state roots)
       → (after : State K V S) × (play_all same by_hasher batch_size roots aborts doings (first_state roots) ≡ Some after) × P y.0 after
-  wherever_led small aborts P so course doings y led own once first =
+  wherever_led small aborts P so course doings y led own new first =
       wherever V same by_hasher hash batch_size roots small aborts HasNewNumber P so course doings y led (own_so doings own) first
-      (new_numbers V same by_hasher hash batch_size roots aborts doings (first_state roots) once (λ n made. record { not_come = refl; not_made = λ i b has. absurd (cc has) }))
+      (new_fits V same by_hasher hash batch_size roots aborts doings (first_state roots) new)
 
   pub lists_are_linearizable : ListsAreLinearizable V same by_hasher hash batch_size roots
-  lists_are_linearizable small aborts course doings y led own once =
-      let to = wherever_led small aborts (Of V same by_hasher hash batch_size roots aborts) (all_stay V same by_hasher hash batch_size roots aborts) course doings y led own once
-      (first_holds V same by_hasher hash batch_size roots aborts (nothing_done V same by_hasher batch_size roots slot_of course).0 refl (numbers_first roots)) in
+  lists_are_linearizable small aborts course doings y led own new =
+      let to = wherever_led small aborts (Of V same by_hasher hash batch_size roots aborts) (all_stay V same by_hasher hash batch_size roots aborts) course doings y led own new
+      (first_holds V same by_hasher hash batch_size roots aborts (nothing_done V same by_hasher batch_size roots slot_of course).0 refl (again_first roots)) in
       (to.0, to.1, to.2.holds.each)

@@ -44,12 +44,14 @@ use Rattle.papaya_agrees.proofs.Elsewhere.{SameOf}
 use Rattle.papaya_agrees.proofs.Openings.{IsRefused, done_rooted, root_kept, rootless_quiet}
 use Rattle.papaya_deeds.specs.Deeds.{Deed, Entry, after, come, named, without_map}
 use Rattle.papaya_played.specs.Play.{Ending, has_root, pairs_for}
-use Rattle.papaya_linear.specs.Coming.{AreNamed, Comes, ComesBy, IsUnknown, MapsComeAndGo}
+use Rattle.papaya_linear.specs.Coming.{Comes, ComesBy, IsUnknown, MapsComeAndGo}
 use Rattle.papaya_linear.proofs.Coming.{come_leaves, come_there, comes_bare, comes_on, gone_leaves, new_on, others_leave, same_of, same_then, unknown_on}
 use Rattle.papaya_linear.proofs.Counted.{all_found, counted_again, counted_come, counted_gone}
 use Rattle.papaya_linear.proofs.MapActs.{deed_by}
 use Rattle.papaya_linear.proofs.MapsPlayed.{IsApart}
-use Rattle.papaya_linear.proofs.Names.{apart_so, come_named, effects_named, gone_named}
+use Rattle.papaya_linear.proofs.Names.{apart_so}
+use Rattle.papaya_agrees.specs.Fresh.{AreNamed}
+use Rattle.papaya_agrees.proofs.Names.{come_named, effects_named, gone_named}
 
 -- it has taken its root where it has it
 has_taken : {K V : Type 0} (w : World (Node K V)) (roots i : ℕ) (n : NewMap) (p : Opening) → OpeningFacts w roots i n p → has_root p ≡ true → HasTaken p

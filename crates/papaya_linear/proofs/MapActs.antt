@@ -46,7 +46,7 @@ use Rattle.papaya_linear.proofs.Heard.{none_said}
 use Rattle.papaya_linear.proofs.HeardAll.{all_heard}
 use Rattle.papaya_linear.proofs.MapsPlayed.{IsApart, comes_answer, end_of, ended, ends_answer, ends_are_linearizable, fails_answer, goes_answer, made, makes_answer, makings_are_linearizable}
 use Rattle.papaya_linear.proofs.OthersGo.{ends_begin, makings_begin}
-use Rattle.papaya_linear.proofs.Tied.{EndingTied, MakingTied, ending_tied, making_tied}
+use Rattle.papaya_played.proofs.Tied.{EndingTied, MakingTied, ending_tied, making_tied}
 
 module _ {K V : Type 0} where
   -- a map comes where its root is taken, and goes where it is given up
@@ -61,7 +61,7 @@ no_caller K V map after true false = refl
 no_caller K V map after false true = refl
 no_caller K V map after false false = refl
 
-module _ {K V S : Type 0} (same : K → K → Bool) (by_hasher : S → K → ℕ) (hash : ℕ → K → ℕ) (batch_size roots : ℕ) (aborts : V) (x y : State K V S) (s n : Scene K V) (rows : ℕ → Row)
+module _ {K V S : Type 0} (same : K → K → Bool) (by_hasher : S → K → ℕ) (hash : ℕ → K → ℕ) (batch_size roots : ℕ) (aborts : ℕ → V) (x y : State K V S) (s n : Scene K V) (rows : ℕ → Row)
     (is : IsOf by_hasher s rows x.now) (before : Changed) (at : IsAt same hash (held_in batch_size roots before s) s) (holds : Holds same x s) (noted_then : CallsAreNoted y) (told : Answer K V) where
   abbrev old : Held K V
   old = held_in batch_size roots before s

@@ -23,7 +23,7 @@ use Rattle.papaya_linear.proofs.Holds.{Holds, onto}
 use Rattle.papaya_linear.proofs.OthersGo.{rows_begin}
 use Rattle.papaya_linear.proofs.RowsPlayed.{played_rows_answer, played_rows_are_heard, played_rows_are_linearizable, reclaiming_answers, reclaiming_is_heard, reclaiming_is_linearizable}
 
-module _ {K V S : Type 0} (same : K → K → Bool) (by_hasher : S → K → ℕ) (hash : ℕ → K → ℕ) (batch_size roots : ℕ) (aborts : V) (x y : State K V S) (s n : Scene K V)
+module _ {K V S : Type 0} (same : K → K → Bool) (by_hasher : S → K → ℕ) (hash : ℕ → K → ℕ) (batch_size roots : ℕ) (aborts : ℕ → V) (x y : State K V S) (s n : Scene K V)
     (is : IsOf by_hasher s s.world.row x.now) (before : Changed) (at : IsAt same hash (held_in batch_size roots before s) s) (holds : Holds same x s) (noted_then : CallsAreNoted y) (told : Answer K V) where
   abbrev old : Held K V
   old = held_in batch_size roots before s

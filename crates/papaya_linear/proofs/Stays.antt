@@ -23,13 +23,13 @@ use Rattle.papaya_acts.specs.Acts.{Answer}
 use Rattle.papaya_acts.specs.AsSteps.{changed_of}
 use Rattle.papaya_acts.specs.Doings.{HasStepped}
 use Rattle.papaya_agrees.specs.Fresh.{HasNewNumber}
-use Rattle.papaya_agrees.proofs.Numbers.{NumbersHold, numbers_stay}
+use Rattle.papaya_agrees.proofs.GivenBack.{NumbersComeAgain, numbers_come_again}
 use Rattle.papaya_deeds.specs.Deeds.{moment, named}
 use Rattle.papaya_deeds.specs.History.{past}
-use Rattle.papaya_played.specs.Play.{State, all_begun, all_stepped, first_state, is_over, is_refusal, settled_outcome}
+use Rattle.papaya_played.specs.Play.{State, all_begun, choice_come, all_stepped, first_state, is_over, is_refusal, settled_outcome}
 use Rattle.papaya_played.specs.Reached.{IsOf, rows_beside}
+use Rattle.papaya_linear.proofs.Chosen.{maps_chosen, shows_chosen}
 use Rattle.papaya_played.proofs.Along.{At, Is, StaysSo, far, held, lists_at}
-use Rattle.papaya_played.proofs.Noted.{Anything, CallsAreNoted}
 use Rattle.papaya_played.proofs.PlayedAs.{ReclaimedAs, played_as, reclaimed_as}
 use Rattle.papaya_linear.specs.Coming.{MapsComeAndGo}
 use Rattle.papaya_linear.specs.Shown.{ShowsAnswers}
@@ -49,12 +49,12 @@ first_shows {K = K} {V = V} same roots =
       questions = questions_begin K V;
     }
 
-module _ {K S : Type 0} (V : Type 0) (same : K → K → Bool) (by_hasher : S → K → ℕ) (hash : ℕ → K → ℕ) (batch_size roots : ℕ) (aborts : V) where
+module _ {K S : Type 0} (V : Type 0) (same : K → K → Bool) (by_hasher : S → K → ℕ) (hash : ℕ → K → ℕ) (batch_size roots : ℕ) (aborts : ℕ → V) where
   abbrev pub Of : At V same by_hasher hash batch_size roots → State K V S → Type 0
   Of p x = AllHolds same x p.0
 
-  pub first_holds : (p : At V same by_hasher hash batch_size roots) → p.0 ≡ at_first roots → NumbersHold {K = K} {V = V} {S = S} (first_state roots) → Of p (first_state roots)
-  first_holds p is numbers = subst (AllHolds same (first_state roots)) (sym is) (record {
+  pub first_holds : (p : At V same by_hasher hash batch_size roots) → p.0 ≡ at_first roots → NumbersComeAgain {K = K} {V = V} {S = S} (first_state roots) → Of p (first_state roots)
+  first_holds p is again = subst (AllHolds same (first_state roots)) (sym is) (record {
     holds = record { shows = first_shows {K = K} {V = V} same roots; noted = λ on i c has. absurd (cc has); heard = λ on j d has. absurd (cc has); each = tt };
     maps = record {
       count = 0;
@@ -64,7 +64,7 @@ module _ {K S : Type 0} (V : Type 0) (same : K → K → Bool) (by_hasher : S �
       coming = λ i b has. absurd (cc has);
       going = λ i e has f ends. absurd (cc has);
     };
-    numbers = numbers;
+    again = again;
   })
 
   -- a step of who reclaims all, as it is played
@@ -96,37 +96,44 @@ module _ {K S : Type 0} (V : Type 0) (same : K → K → Bool) (by_hasher : S �
   all_stay = record {
     acts = λ p n x y act told own fits none none_then is is_then at may led leads at_then played so.
         (let as_played = played_as same by_hasher batch_size roots aborts x y act played in
-        let then_numbers = numbers.acts p n x y act told own tt none none_then is is_then at may led leads at_then played (so.holds.noted, so.numbers) in
+        let then_again = again.acts p n x y act told own fits none none_then is is_then at may led leads at_then played so.again in
         let of : IsOf by_hasher p.0 p.0.world.row x.now =
         subst (λ (o : Option (ℕ × ReclaimAll)). IsOf by_hasher p.0 (rows_beside o p.0.world.row) x.now) none is.scene in
         record {
-          holds = acts_hold same by_hasher hash batch_size roots aborts x y p.0 n.0 (rows_beside (far V same by_hasher hash batch_size roots n) n.0.world.row) of is_then.scene at so.holds so.maps then_numbers.0
+          holds = acts_hold same by_hasher hash batch_size roots aborts x y p.0 n.0 (rows_beside (far V same by_hasher hash batch_size roots n) n.0.world.row) of is_then.scene at so.holds so.maps then_again.noted
               told act as_played may led leads at_then;
-          maps = acts_come same by_hasher hash batch_size roots aborts x y p.0 n.0 (rows_beside (far V same by_hasher hash batch_size roots n) n.0.world.row) of is_then.scene at so.holds so.maps then_numbers.0
-              told act (new_number x so.numbers act fits) as_played may led leads at_then;
-          numbers = then_numbers.1;
+          maps = acts_come same by_hasher hash batch_size roots aborts x y p.0 n.0 (rows_beside (far V same by_hasher hash batch_size roots n) n.0.world.row) of is_then.scene at so.holds so.maps then_again.noted
+              told act (new_number x so.again.numbers act fits) as_played may led leads at_then;
+          again = then_again;
         });
     begins = λ p n x i c none begun same_scene all_free is is_then at so.
-        (let then_numbers = numbers.begins p n x i c none begun same_scene all_free is is_then at (so.holds.noted, so.numbers) in
+        (let then_again = again.begins p n x i c none begun same_scene all_free is is_then at so.again in
         subst (AllHolds same (all_begun c x)) (sym same_scene) (record {
           holds = record { shows = so.holds.shows; noted = so.holds.noted; heard = so.holds.heard; each = so.holds.each };
           maps = so.maps;
-          numbers = then_numbers.1;
+          again = then_again;
         }));
     steps = λ p n x y told g st is is_then at leads scene played so.
         (let as_played = reclaimed_as same by_hasher batch_size roots aborts x y g played in
-        let then_numbers = numbers.steps p n x y told g st is is_then at leads scene played (so.holds.noted, so.numbers) in
+        let then_again = again.steps p n x y told g st is is_then at leads scene played so.again in
         let old = held V same by_hasher hash batch_size roots NoChange p in
         let new = held V same by_hasher hash batch_size roots (change p n x y told g st is) n in
         let y_is = all_tied p n x y told g st is as_played in
         record {
-          holds = all_steps_hold same hash x y p.0 n.0 old new so.holds then_numbers.0 st.caller (lists_at V same by_hasher hash batch_size roots p) st.machine st.next st.end at leads st.did.memory y_is scene;
+          holds = all_steps_hold same hash x y p.0 n.0 old new so.holds then_again.noted st.caller (lists_at V same by_hasher hash batch_size roots p) st.machine st.next st.end at leads st.did.memory y_is scene;
           maps = subst (λ (z : State K V S). MapsComeAndGo (moment z.history) z.known z.now.enders n.0) (sym y_is)
               (reclaiming_aside same hash (moment x.history) x.known x.now.enders p.0 n.0 old new so.holds.shows.whole so.maps st.caller (lists_at V same by_hasher hash batch_size roots p) st.machine st.next st.end at leads scene
               (is_over st.end) (settled_outcome st.end) (is_refusal new.changed));
-          numbers = then_numbers.1;
+          again = then_again;
         });
+    chooses = λ p n x choice none none_then scene is is_then at so.
+        (let then_again = again.chooses p n x choice none none_then scene is is_then at so.again in
+        subst (AllHolds same (choice_come choice x)) (sym scene) (record {
+          holds = record { shows = shows_chosen same choice (past x.history) (moment x.history) x.known p.0 so.holds.shows; noted = so.holds.noted; heard = so.holds.heard; each = so.holds.each };
+          maps = maps_chosen choice (moment x.history) x.known x.now.enders p.0 so.maps;
+          again = then_again;
+        }));
   }
     where
-      numbers : StaysSo V same by_hasher hash batch_size roots aborts (Anything V same by_hasher hash batch_size roots aborts) (λ p x. CallsAreNoted x × NumbersHold x)
-      numbers = numbers_stay V same by_hasher hash batch_size roots aborts
+      again : StaysSo V same by_hasher hash batch_size roots aborts HasNewNumber (λ p x. NumbersComeAgain x)
+      again = numbers_come_again V same by_hasher hash batch_size roots aborts

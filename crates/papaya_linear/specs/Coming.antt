@@ -1,11 +1,10 @@
 -- What is so of maps that come and go as a list of acts is played: of their numbers, of those that are being made, and of those that end.
 use Rattle.std.specs.Prelude.{◌≡◌, ◌≢◌, ◌≤◌, ◌<◌, ◌⊎◌, ℕ, Bool, true, false, Option, Some, None, []}
-use Rattle.std.specs.List.{All}
 use Rattle.papaya_moments.specs.Given.Seize.World.{times}
 use Rattle.papaya_moments.specs.Given.Resize.NewMap.{at_root}
 use Rattle.papaya_moments.specs.Given.Finishes.Endings.{Finishing}
 use Rattle.papaya_moments.specs.Given.Finishes.Makings.{Beginning}
-use Rattle.papaya_moments.specs.Given.Schedules.Moment.{InMap, MapThere, Moment}
+use Rattle.papaya_moments.specs.Given.Schedules.Moment.{InMap, Moment}
 use Rattle.papaya_moments.specs.Given.Schedules.Views.{map_at, tables_of}
 use Rattle.papaya_moments.specs.Given.Effects.Known.{Known}
 use Rattle.papaya_moments.specs.Given.Others.Makings.{IsNew}
@@ -14,17 +13,11 @@ use Rattle.papaya_moments.specs.Numbers.{MapsAreBelow}
 use Rattle.papaya_logged.specs.Given.Remains.Numbered.{NumbersUpTo}
 use Rattle.papaya_logged.specs.Ends.{NotesMap}
 use Rattle.papaya_acts.specs.Acts.{Act, BeginsMaking}
-use Rattle.papaya_deeds.specs.Deeds.{moment, named}
+use Rattle.papaya_agrees.specs.Fresh.{AreNamed}
+use Rattle.papaya_deeds.specs.Deeds.{moment}
 use Rattle.papaya_played.specs.Play.{Ending, State, has_root}
 
--- it has its number as its name
-abbrev pub IsNamed : MapThere → Type 0
-IsNamed f = f.name ≡ named f.number
-
 module _ {K V : Type 0} where
-  abbrev pub AreNamed : Moment K V → Type 0
-  AreNamed m = All IsNamed m.maps
-
   -- no map has this number, and neither a table nor a pair is one of such a map
   pub record IsUnknown (map : ℕ) (m : Moment K V) : Type 0 where
     pub none : map_at map m ≡ None

@@ -6,7 +6,7 @@ use Rattle.papaya_moments.specs.Given.Schedules.After.{AtEachEvent}
 use Rattle.papaya_acts.specs.AsSteps.{IsOwn}
 use Rattle.papaya_acts.specs.Doings.{Doing, Does}
 use Rattle.papaya_acts.specs.Lists.{Course, LedTo, Reached}
-use Rattle.papaya_agrees.specs.Fresh.{MakesOnce}
+use Rattle.papaya_agrees.specs.Fresh.{MakesNew}
 use Rattle.papaya_deeds.specs.History.{IsLinearizable}
 use Rattle.papaya_played.specs.Play.{State, first_state, play_all}
 
@@ -17,10 +17,11 @@ module _ {K S : Type 0} (V : Type 0) (same : K → K → Bool) (by_hasher : S �
   IsOfOwn (Does act) = IsOwn by_hasher hash act
   IsOfOwn doing = Unit {0}
 
-  -- The promise: wherever a list of acts has led, in which no number is given to two maps, each entry of the history that it comes to as it is played is
-  -- linearizable, whatever the values are with which closures abort.
+  -- The promise: wherever a list of acts has led that makes each map with a new number, each entry of the history that it comes to as it is played is linearizable,
+  -- whatever the values are with which closures abort.
   abbrev pub ListsAreLinearizable : Type 0
   ListsAreLinearizable =
-      batch_size < 2 ^ 64 → (aborts : V) (course : Course V same by_hasher batch_size roots slot_of) (doings : List (Doing K V S)) (y : Reached V same by_hasher batch_size roots slot_of)
-      → LedTo V same by_hasher batch_size roots slot_of course doings y → AllByRecursion IsOfOwn doings → MakesOnce doings
+      batch_size < 2 ^ 64 → (aborts : ℕ → V) (course : Course V same by_hasher batch_size roots slot_of) (doings : List (Doing K V S)) (y : Reached V same by_hasher batch_size roots slot_of)
+      → LedTo V same by_hasher batch_size roots slot_of course doings y → AllByRecursion IsOfOwn doings
+      → MakesNew same by_hasher batch_size roots aborts doings (first_state roots)
       → (after : State K V S) × (play_all same by_hasher batch_size roots aborts doings (first_state roots) ≡ Some after) × AtEachEvent (IsLinearizable same) after.history

@@ -23,7 +23,7 @@ use Rattle.papaya_scenes.specs.Given.Finishes.Makings.{Beginning, IsFirstTable, 
 use Rattle.papaya_reclaims.specs.Slots.{AreItsRows}
 use Rattle.papaya_acts.specs.Acts.{Act, Answer}
 use Rattle.papaya_acts.specs.Acts.{BeginsCall, StepsCall, TellsCall, AsksCall, StopsCall, BeginsMaking, StepsMaking, BeginsEnding, StepsEnding, BeginsRow, StepsRow}
-use Rattle.papaya_acts.specs.Doings.{Doing, Does, BeginsReclaiming, BeginsClearing, StepsReclaiming, Stage, HasDone}
+use Rattle.papaya_acts.specs.Doings.{Doing, Does, BeginsReclaiming, BeginsClearing, StepsReclaiming, Chooses, Stage, HasDone}
 use Rattle.papaya_acts.specs.Leads.{AllStand, Led, MakingCame, EndingCame}
 use Rattle.papaya_acts.specs.Lists.{Course}
 use Rattle.papaya_carries.specs.Lists.{AreTheirs}
@@ -129,6 +129,7 @@ module _ {K S : Type 0} (V : Type 0) (same : K → K → Bool) (hash : S → K �
   doing_cut p n (Does act) told (led, idle) b = act_cut same hash batch_size roots slot p.0 n.0 p.1 n.1 b act told led
   doing_cut p n (BeginsReclaiming i) told (none, is, behind_is, begun) b = inl (ap (λ (x : Scene K V). unlinkings b x.world.log) is)
   doing_cut p n (BeginsClearing i) told (none, is, behind_is, begun) b = inl (ap (λ (x : Scene K V). unlinkings b x.world.log) is)
+  doing_cut p n (Chooses choice) told (none, is, behind_is, idle) b = inl (ap (λ (x : Scene K V). unlinkings b x.world.log) is)
   doing_cut p n (StepsReclaiming g) told st b =
       to same hash batch_size roots slot p.0 n.0 p.1 n.1 b (record p.0 { world = st.did.did.w2; maps = st.did.did.maps2 }) st.did.comes
       (event_cut p.0 p.1 b st.caller st.did.did.events st.did.did.w2 st.did.did.runs st.did.did.its)

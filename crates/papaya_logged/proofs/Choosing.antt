@@ -60,7 +60,7 @@ module _ {K V : Type 0} (choice : ℕ) (w : World (Node K V)) where
   one_then slot first one = record { block = one.block; held = one.held; retired = one.retired; is_first = one.is_first }
 
 module _ {K V : Type 0} (choice : ℕ) (same : K → K → Bool) (name : ℕ → List ℕ) (m : Moment K V) (noted : Known) (s : Scene K V) where
-  whole_then : ShowsWhole same name m noted s → ShowsWhole same name m noted (scene_chosen choice s)
+  pub whole_then : ShowsWhole same name m noted s → ShowsWhole same name m noted (scene_chosen choice s)
   whole_then whole =
       let shown = whole.all.shown in
       let hands = whole.all.hands in
@@ -95,7 +95,7 @@ module _ {K V : Type 0} (choice : ℕ) (name : ℕ → List ℕ) (m : Moment K V
   lies_then : (n : ℕ) (t : Table) → LiesBehind noted s.world n t → LiesBehind noted (then_in choice s.world) n t
   lies_then n t l = record { pair = l.pair; is_pair = l.is_pair; table = l.table; len = l.len; is_table = l.is_table; waits = l.waits }
 
-  kept_then : ShowsKept name m noted s → ShowsKept name m noted (scene_chosen choice s)
+  pub kept_then : ShowsKept name m noted s → ShowsKept name m noted (scene_chosen choice s)
   kept_then kept = record {
     entries = record {
       blank = λ b its. blank_then b (kept.entries.blank b its);

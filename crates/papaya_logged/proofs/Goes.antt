@@ -46,6 +46,10 @@ module _ {K V S : Type 0} (first old new : Logged K V S) (xs ys zs : List Effect
   row_more i said under gone did noted given leads =
       goes_more (RowGoes i) (far xs first) (far ys old) (far zs new) gone (record { under = under; is_noted = noted_as acts.Row did noted given; said = said; leads = leads })
 
+  abbrev pub row_step : (i : ℕ) (said : RowTold (Node K V)) → ((row : SlotRow) × (work_of old.executor i ≡ Some (OnSlot row))) → zs ≡ ys ++ effects_of acts.Row (known old.notes) new.executor.memory.changed
+      → known new.notes ≡ known_after acts.Row new.executor.memory.changed (known old.notes) → KeepsGiven old.executor new.executor → StepsOn i said old.executor new.executor → RowGoes i (far ys old) (far zs new)
+  row_step i said under did noted given leads = record { under = under; is_noted = noted_as acts.Row did noted given; said = said; leads = leads }
+
   abbrev pub making_step : (i map : ℕ) (said : Progress Setting) → ((opening : NewMap) × (making_in (work_of old.executor i) ≡ Some (map, opening)))
       → zs ≡ ys ++ effects_of (acts.Making map) (known old.notes) new.executor.memory.changed → known new.notes ≡ known_after (acts.Making map) new.executor.memory.changed (known old.notes)
       → KeepsGiven old.executor new.executor → StepsMaking i said old.executor new.executor → MakingGoes i map (far ys old) (far zs new)

@@ -27,9 +27,11 @@ use Rattle.papaya_kept.specs.Given.Follows.Calls.{IsCalled}
 use Rattle.papaya_kept.specs.Given.Hands.Asked.{as_told}
 use Rattle.papaya_kept.specs.Given.Hands.Calling.{IsBegunFor}
 use Rattle.papaya_kept.specs.Given.Others.Walks.{given_up}
+use Rattle.papaya_logged.specs.Goes.{IsNotedAs, far}
 use Rattle.papaya_logged.specs.Shown.{IsShown}
 use Rattle.papaya_logged.specs.declared.logged.Logged.{Logged}
-use Rattle.papaya_executor.specs.IsThere.{held_by, use_at}
+use Rattle.papaya_executor.specs.IsThere.{IsThere, held_by, use_at}
+use Rattle.papaya_executor.specs.Stepping.{StepsThere}
 use Rattle.papaya_scenes.specs.Beginning.{Begins}
 use Rattle.papaya_scenes.specs.Replying.{scene_with, unless_stopped}
 use Rattle.papaya_scenes.specs.Scene.{Scene, slot_of}
@@ -38,6 +40,11 @@ use Rattle.papaya_scenes.specs.Stepping.{StepLeads, scene_after}
 -- where growths are to be refused, nothing more is made
 abbrev pub MakesNoMore : Bool → (before after : List Effect) → Type 0
 MakesNoMore refuse before after = refuse ≡ true → list_any is_made after ≡ list_any is_made before
+
+-- A step of a caller's call on a map, in whatever scene the executor is there, was noted: what it did follows in the list, and is known from then on.
+pub record CallSteps {K V S : Type 0} (same : K → K → Bool) (hash : K → ℕ) (i map : ℕ) (told : Progress (Node K V)) (before after : List Effect) (old new : Logged K V S) : Type 0 where
+  pub leads : (s : Scene K V) → IsThere same hash old.executor s → StepsThere same hash i told s old.executor new.executor
+  pub is_noted : IsNotedAs (acts.Call i map) (far before old) (far after new)
 
 module _ {K V S : Type 0} (same : K → K → Bool) (hash : K → ℕ) (name : ℕ → List ℕ) (m : Moment K V) (s : Scene K V) where
   -- what such a step does, by what the executor's memory tells of it

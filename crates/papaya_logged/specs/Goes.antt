@@ -101,6 +101,10 @@ module _ {K V S : Type 0} where
   abbrev pub far : List Effect → Logged K V S → Far K V S
   far effects logged = record { logged = logged; effects = effects }
 
+  -- A row has run by its steps, of which the last one told this.
+  abbrev pub RowGone : ℕ → RowTold (Node K V) → (before after : List Effect) → (old new : Logged K V S) → Type 0
+  RowGone i told before after old new = (prev : Far K V S) × GoesTo (RowGoes i) (far before old) prev × (step : RowGoes i prev (far after new)) × (step.said ≡ told)
+
   -- A making has run by its steps, which told this at last; then its number was given back, if it was refused.
   abbrev pub MakingGone : (i map : ℕ) → Progress Setting → (before after : List Effect) → (old new : Logged K V S) → Type 0
   MakingGone i map told before after old new =

@@ -2,9 +2,9 @@
 ghost use Rattle.std.specs.Prelude.{◌≡◌, ◌<◌, ◌+◌, ◌*◌, ℕ, Bool, List, length, IfOk, IfErr};
 ghost use Rattle.papaya_schedules.specs.Moment.{Moment};
 ghost use Rattle.papaya_scenes.specs.declared.callers.TheConstants.{SLOTS};
-ghost use Rattle.papaya_logged.specs.Calling.{CallBegins, CallGoesOn, CallTakes, MakesNoMore, WalkGoesOn, WalkStops};
+ghost use Rattle.papaya_logged.specs.Calling.{CallBegins, CallGoesOn, CallSteps, CallTakes, MakesNoMore, WalkGoesOn, WalkStops};
 ghost use Rattle.papaya_logged.specs.Shown.{IsShown};
-ghost use Rattle.papaya_executor.specs.Beginning.{IsRefused};
+ghost use Rattle.papaya_executor.specs.Beginning.{BeginsThere, IsRefused};
 ghost use Rattle.papaya_executor.specs.IsThere.{IsThere, KeepsGiven};
 ghost use Rattle.papaya_executor.specs.Replying.{AsksThere, RepliesThere, StopsThere};
 ghost use Rattle.papaya_scenes.specs.Scene.{HasCall, Scene};
@@ -26,6 +26,8 @@ impl<K: Drop, V: Drop, S> Logged<K, V, S> {
         ensures number { IfOk result (λ caller. caller ≡ length self.old.executor.workers.items * SLOTS + slot) }
         ensures leads { IfOk result (λ caller. (same : K → K → Bool) (hash : K → ℕ) (name : ℕ → List ℕ) (m : Moment K V) (s : Scene K V) → IsShown same hash name m self.old s
             → CallBegins same hash name m s caller map machine self.old self.new) }
+        ensures begun { IfOk result (λ caller. (same : K → K → Bool) (hash : K → ℕ) (s : Scene K V) → IsThere same hash self.old.executor s
+            → BeginsThere same hash map machine caller s self.old.executor self.new.executor) }
         ensures given { KeepsGiven self.old.executor self.new.executor }
         ensures notes { self.new.notes ≡ self.old.notes }
         ensures refused { IfErr result (λ error. IsRefused self.old.executor self.new.executor × (self.new.notes ≡ self.old.notes)) }
@@ -87,6 +89,7 @@ impl<K: Eq + Hash + Drop, V: Drop, S: Hashes<K>> Logged<K, V, S> {
         requires { (s : Scene K V) × IsThere K.eq (S.hash self.old.executor.hasher) self.old.executor s × HasCall s caller }
         ensures leads { IfOk result (λ progress. (name : ℕ → List ℕ) (m : Moment K V) (s : Scene K V) → IsShown K.eq (S.hash self.old.executor.hasher) name m self.old s
             → CallGoesOn K.eq (S.hash self.old.executor.hasher) name m s caller map progress effects.old.items effects.new.items self.old self.new) }
+        ensures steps { IfOk result (λ progress. CallSteps K.eq (S.hash self.old.executor.hasher) caller map progress effects.old.items effects.new.items self.old self.new) }
         ensures refused { IfOk result (λ progress. MakesNoMore refuse effects.old.items effects.new.items) }
         ensures given { KeepsGiven self.old.executor self.new.executor }
     {

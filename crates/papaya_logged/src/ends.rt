@@ -11,7 +11,7 @@ ghost use Rattle.papaya_logged.specs.Ends.{EndIsBegun, EndSteps, EndRan, EndIsOv
 ghost use Rattle.papaya_logged.specs.Goes.{EndGone};
 ghost use Rattle.papaya_logged.specs.Shown.{IsShown};
 ghost use Rattle.papaya_executor.specs.Beginning.{IsRefused};
-ghost use Rattle.papaya_executor.specs.Ending.{EndsThere};
+ghost use Rattle.papaya_executor.specs.Ending.{EndingBegins, EndsThere};
 ghost use Rattle.papaya_executor.specs.IsThere.{IsThere, KeepsGiven};
 ghost use Rattle.papaya_scenes.specs.Scene.{IsEnding, Scene};
 
@@ -44,6 +44,8 @@ impl<K: Drop, V: Drop, S> Logged<K, V, S> {
         ensures number { IfOk result (λ caller. caller ≡ length self.old.executor.workers.items * SLOTS + slot) }
         ensures leads { IfOk result (λ caller. (same : K → K → Bool) (hash : K → ℕ) (name : ℕ → List ℕ) (m : Moment K V) (s : Scene K V) → IsShown same hash name m self.old s
             → EndIsBegun same hash name m s map caller self.old self.new) }
+        ensures begun { IfOk result (λ caller. (same : K → K → Bool) (hash : K → ℕ) (s : Scene K V) → IsThere same hash self.old.executor s
+            → EndingBegins same hash map caller s self.old.executor self.new.executor) }
         ensures notes { IfOk result (λ caller. self.new.notes ≡ self.old.notes) }
         ensures given { KeepsGiven self.old.executor self.new.executor }
         ensures refused { IfErr result (λ error. IsRefused self.old.executor self.new.executor × (self.new.notes ≡ self.old.notes)) }

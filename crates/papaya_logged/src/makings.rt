@@ -13,6 +13,7 @@ ghost use Rattle.papaya_logged.specs.Shown.{IsShown};
 ghost use Rattle.papaya_executor.specs.Beginning.{IsRefused};
 ghost use Rattle.papaya_executor.specs.IsThere.{IsThere, KeepsGiven, StaysGiven};
 ghost use Rattle.papaya_executor.specs.Making.{MakesThere};
+ghost use Rattle.papaya_executor.specs.MakingBegins.{MakingBegins};
 ghost use Rattle.papaya_scenes.specs.Scene.{IsMaking, Scene};
 
 use crate::logged::Logged;
@@ -58,6 +59,8 @@ impl<K: Drop, V: Drop, S> Logged<K, V, S> {
         ensures number { IfOk result (λ caller. caller ≡ length self.old.executor.workers.items * SLOTS + slot) }
         ensures leads { IfOk result (λ caller. (same : K → K → Bool) (hash : K → ℕ) (name : ℕ → List ℕ) (m : Moment K V) (s : Scene K V) → IsShown same hash name m self.old s
             → MakingIsBegun same hash name m s given places caller self.old self.new) }
+        ensures begun { IfOk result (λ caller. (same : K → K → Bool) (hash : K → ℕ) (s : Scene K V) → IsThere same hash self.old.executor s
+            → MakingBegins same hash given places caller s self.old.executor self.new.executor) }
         ensures there { IfOk result (λ caller. MapIsThere self.new) }
         ensures notes { IfOk result (λ caller. self.new.notes ≡ self.old.notes) }
         ensures numbers { IfOk result (λ caller. length self.new.executor.maps.items ≡ length self.old.executor.maps.items + 1) }

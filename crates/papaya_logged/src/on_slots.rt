@@ -9,12 +9,12 @@ ghost use Rattle.papaya_scenes.specs.declared.callers.TheConstants.{SLOTS};
 ghost use Rattle.papaya_executor.specs.declared.worker.Work.TheVariants.{OnSlot};
 ghost use Rattle.papaya_logged.specs.Back.{BringsBack};
 ghost use Rattle.papaya_logged.specs.Ended.{has_ended, uses_ended};
-ghost use Rattle.papaya_logged.specs.Goes.{GoesTo, RowGoes, far};
+ghost use Rattle.papaya_logged.specs.Goes.{RowGone};
 ghost use Rattle.papaya_logged.specs.OnSlots.{EndsTelling, OnSlotBegins, OnSlotSteps, OnSlotRan, OnSlotComes, OnSlotLast, has_come};
 ghost use Rattle.papaya_logged.specs.Shown.{IsShown};
 ghost use Rattle.papaya_executor.specs.Beginning.{IsRefused};
 ghost use Rattle.papaya_executor.specs.IsThere.{IsThere, KeepsGiven, work_of};
-ghost use Rattle.papaya_executor.specs.OnSlots.{RowStepsThere};
+ghost use Rattle.papaya_executor.specs.OnSlots.{RowBeginsThere, RowStepsThere};
 ghost use Rattle.papaya_scenes.specs.Scene.{Scene};
 
 use crate::back::keep_row;
@@ -45,6 +45,8 @@ impl<K: Drop, V: Drop, S> Logged<K, V, S> {
         ensures number { IfOk result (λ caller. caller ≡ length self.old.executor.workers.items * SLOTS + slot) }
         ensures leads { IfOk result (λ caller. (same : K → K → Bool) (hash : K → ℕ) (name : ℕ → List ℕ) (m : Moment K V) (s : Scene K V) → IsShown same hash name m self.old s
             → OnSlotBegins same hash name m s called caller self.old self.new) }
+        ensures begun { IfOk result (λ caller. (same : K → K → Bool) (hash : K → ℕ) (s : Scene K V) → IsThere same hash self.old.executor s
+            → RowBeginsThere same hash called caller s self.old.executor self.new.executor) }
         ensures notes { IfOk result (λ caller. self.new.notes ≡ self.old.notes) }
         ensures given { KeepsGiven self.old.executor self.new.executor }
         ensures refused { IfErr result (λ error. IsRefused self.old.executor self.new.executor × (self.new.notes ≡ self.old.notes)) }
@@ -85,7 +87,7 @@ impl<K: Drop, V: Drop, S> Logged<K, V, S> {
         requires { (same : K → K → Bool) × (hash : K → ℕ) × (s : Scene K V) × IsThere same hash self.old.executor s × (row : SlotRow) × (work_of self.old.executor caller ≡ Some (OnSlot row)) }
         ensures comes { IfOk result (λ told. OnSlotComes caller told self.new) }
         ensures last { IfOk result (λ told. OnSlotLast caller told self.old.executor self.new.executor) }
-        ensures goes { IfOk result (λ told. GoesTo (RowGoes caller) (far effects.old.items self.old) (far effects.new.items self.new)) }
+        ensures goes { IfOk result (λ told. RowGone caller told effects.old.items effects.new.items self.old self.new) }
         ensures used { IfOk result (λ told. (row : SlotRow) → work_of self.old.executor caller ≡ Some (OnSlot row) → has_ended told ≡ true
             → self.new.executor.slots.items ≡ uses_ended row told self.old.executor.slots.items) }
         ensures ran { IfOk result (λ told. OnSlotRan effects.old.items effects.new.items self.old self.new) }

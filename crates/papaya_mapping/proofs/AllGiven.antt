@@ -22,12 +22,13 @@ use Rattle.papaya_schedules.specs.Moment.{UnderWay as CallThere, Moment}
 use Rattle.papaya_schedules.specs.Terms.{Terms}
 use Rattle.papaya_scheduler.specs.Given.Callers.Together.{UnderWay}
 use Rattle.papaya_scheduler.specs.Given.Effects.Known.{known}
+use Rattle.papaya_scheduler.specs.Given.Tables.Nodes.{deferred_word}
 use Rattle.papaya_scheduler.specs.Given.Scenes.declared.row.SlotUse.TheVariants as used
 use Rattle.papaya_scheduler.specs.Given.Finishes.Endings.{Finishing}
 use Rattle.papaya_scheduler.specs.Given.Finishes.Makings.{Beginning}
 use Rattle.papaya_scheduler.specs.Given.Finishes.Maps.{Standing}
 use Rattle.papaya_scheduler.proofs.Given.Others.Quiet.{calls_none}
-use Rattle.papaya_scheduler.proofs.Given.Reclaims.Slots.Stages.{never_taken}
+use Rattle.seize_quiet.proofs.Slots.Stages.{never_taken}
 use Rattle.papaya_scheduler.specs.Given.Reclaiming.Reclaiming.{MayReclaim, NobodyHas}
 use Rattle.papaya_scheduler.specs.Given.Reclaims.Reclaims.{AllIsReclaimed}
 use Rattle.papaya_scheduler.specs.Given.Remains.Remains.{ShowsRemains}
@@ -105,7 +106,7 @@ module _ {K V S : Type 0} (same : K → K → Bool) (hash : K → ℕ) (terms : 
         by true e = (may.left, subst (λ x. IsSome (word_at x (Slot 0 HEAD))) (sym stands.shown.is_at.held.memory) (may.slots.some (grind (arith, e))))
         by false e = (
           may.left,
-          never_taken p.logged.executor.batch_size p.logged.executor.roots 0 s.world stands.shown.is_at.held.together.makings.standing.came rests
+          never_taken deferred_word p.logged.executor.batch_size p.logged.executor.roots 0 s.world stands.shown.is_at.held.together.makings.standing.came rests
               (ap (λ x. word_at x (Slot 0 HEAD)) stands.shown.is_at.held.memory ∙ may.slots.none (grind (arith, e))),
         )
 

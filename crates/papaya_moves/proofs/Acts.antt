@@ -1,5 +1,5 @@
 -- By each act but the step of an end the entry that it makes moves on, but for what its effects find; and what was made for maps under way stays counted.
-use Rattle.std.specs.Prelude.{◌≡◌, ℕ, Bool, true, false, List, [], ◌∷◌, is_ok, if◌then◌else◌}
+use Rattle.std.specs.Prelude.{◌≡◌, ℕ, Bool, true, false, List, [], ◌∷◌, is_ok, length, if◌then◌else◌}
 use Rattle.std.proofs.Common.{refl, ap, sym, subst, ◌∙◌}
 use Rattle.seize_acts.specs.Answers.{Grant}
 use Rattle.papaya_legal.specs.Given.Seize.World.{Row}
@@ -37,7 +37,7 @@ use Rattle.papaya_linear.specs.Coming.{MapsComeAndGo}
 use Rattle.papaya_linear.proofs.Coming.{comes_bare}
 use Rattle.papaya_linear.proofs.Holds.{Holds}
 use Rattle.papaya_linear.proofs.MakesRight.{was_new}
-use Rattle.papaya_linear.proofs.Tied.{MakingTied, call_tied, making_tied}
+use Rattle.papaya_played.proofs.Tied.{MakingTied, call_tied, making_tied}
 use Rattle.papaya_moves.specs.Parts.{DoesIts}
 use Rattle.papaya_moves.proofs.CallMoves.{steps_move}
 use Rattle.papaya_moves.proofs.MadeHolds.{MadeHolds}
@@ -57,7 +57,7 @@ module _ {K V : Type 0} where
   did_move log so true d is o = (quiet_moves log d is o, so)
   did_move log so false d is o = so
 
-module _ {K V S : Type 0} (same : K → K → Bool) (by_hasher : S → K → ℕ) (hash : ℕ → K → ℕ) (batch_size roots : ℕ) (aborts : V) (x y : State K V S) (s n : Scene K V) (is : IsOf by_hasher s s.world.row x.now)
+module _ {K V S : Type 0} (same : K → K → Bool) (by_hasher : S → K → ℕ) (hash : ℕ → K → ℕ) (batch_size roots : ℕ) (aborts : ℕ → V) (x y : State K V S) (s n : Scene K V) (is : IsOf by_hasher s s.world.row x.now)
     (at : IsAt same hash (held_in batch_size roots NoChange s) s) (holds : Holds same x s) (maps : MapsComeAndGo (moment x.history) x.known x.now.enders s) (made : MadeHolds x) (so : AllMove x) (told : Answer K V) where
   abbrev old : Held K V
   old = held_in batch_size roots NoChange s
@@ -75,7 +75,7 @@ module _ {K V S : Type 0} (same : K → K → Bool) (by_hasher : S → K → ℕ
   begins_move i m wanted (set, there, y_is) = subst AllMove (sym y_is) (quiet_moves x.history (Begins i (slot_of i) m (call_for wanted)) tt outcome.Goes, so)
 
   pub told_move : (i m : ℕ) (reply : Told V) → Played (TellsCall i m reply) → AllMove y
-  told_move i m reply (c, here, y_is) = subst AllMove (sym y_is) (did_move x.history so (is_ok (machine_replied c.machine reply).1) (Replies i (reply_for aborts reply)) tt outcome.Goes)
+  told_move i m reply (c, here, y_is) = subst AllMove (sym y_is) (did_move x.history so (is_ok (machine_replied c.machine reply).1) (Replies i (reply_for (aborts (length x.told)) reply)) tt outcome.Goes)
 
   pub asks_move : (i m : ℕ) → Played (AsksCall i m) → AllMove y
   asks_move i m (c, here, y_is) = subst AllMove (sym y_is) so

@@ -1,5 +1,5 @@
--- Of each map whose making is under way so many tables were made as it has in hand, and it has the capacity for its places; for a number with which no map has come none was made.
-use Rattle.std.specs.Prelude.{◌≡◌, ◌≢◌, ℕ, Bool, true, false, List, [], ◌∷◌, ◌++◌, Option, Some, None, if◌then◌else◌, is_ok}
+-- Of each map whose making is under way so many tables were made as it has in hand, and it has the capacity for its places; for a number that is not taken none was made.
+use Rattle.std.specs.Prelude.{◌≡◌, ◌≢◌, ℕ, Bool, true, false, List, [], ◌∷◌, ◌++◌, Option, Some, None, length, if◌then◌else◌, is_ok}
 use Rattle.std.proofs.Common.{refl, ap, sym, subst, ◌∙◌, arith}
 use Rattle.seize_acts.specs.Answers.{Grant}
 use Rattle.seize_acts.proofs.Answers.{same_some}
@@ -19,19 +19,19 @@ use Rattle.papaya_legal.specs.Given.Effects.declared.acting.Acting.TheVariants a
 use Rattle.papaya_legal.proofs.Given.Finds.Capacities.{effects_keep_capacities}
 use Rattle.papaya_acts.specs.Acts.{Act, Answer, BeginsCall, StepsCall, TellsCall, AsksCall, StopsCall, BeginsMaking, StepsMaking, BeginsEnding, StepsEnding, BeginsRow, StepsRow}
 use Rattle.papaya_acts.specs.AsSteps.{changed_of}
-use Rattle.papaya_agrees.specs.Fresh.{HasNewNumber, has_come}
-use Rattle.papaya_agrees.proofs.Fresh.{not_come}
+use Rattle.papaya_agrees.specs.Fresh.{AreNamed, HasNewNumber, gives_back, is_taken}
+use Rattle.papaya_agrees.proofs.Fresh.{was_not}
 use Rattle.papaya_agrees.proofs.Numbers.{with_so}
-use Rattle.papaya_deeds.specs.Deeds.{Deed, Ends, Entry, Leaves, MapGoes, Opens, ReclaimsAll, Registers, Replies, Shuts, Steps, Stops, Tends, after, moment}
+use Rattle.papaya_agrees.proofs.Openings.{ending_keeps_numbers}
+use Rattle.papaya_deeds.specs.Deeds.{Deed, Ends, Entry, Leaves, MapFails, MapGoes, Opens, ReclaimsAll, Registers, Replies, Shuts, Steps, Stops, Tends, after, moment}
 use Rattle.papaya_deeds.specs.History.{made_for}
 use Rattle.papaya_played.specs.Play.{Ending, Making, Now, State, did, ending_deed, has_root, is_over, is_refusal, pairs_for, reply_for, row_deed, settled_outcome}
 use Rattle.papaya_played.proofs.PlayedAs.{PlayedAs, ReclaimedAs}
 use Rattle.papaya_works.specs.Makings.{in_hand, table_left}
-use Rattle.papaya_linear.specs.Coming.{AreNamed}
 use Rattle.papaya_linear.proofs.Coming.{gone_leaves}
-use Rattle.papaya_linear.proofs.Names.{effects_named}
 use Rattle.papaya_linear.proofs.RowsPlayed.{IsOfRow, is_of_row}
 use Rattle.papaya_moves.proofs.Counted.{IsStill, MakesNone, capacity_still, none_made}
+use Rattle.papaya_agrees.proofs.Names.{effects_named}
 
 module _ {K V S : Type 0} where
   abbrev pub IsComing : List (Entry K V) → Making S → Type 0
@@ -39,7 +39,7 @@ module _ {K V S : Type 0} where
       (made_for b.map log ≡ in_hand (table_left b.machine progress.Goes)) × (has_root b.machine.stands ≡ true → capacity_or (map_at b.map (moment log)) ≡ pairs_for b.machine.len)
 
   pub record MadeHolds (x : State K V S) : Type 0 where
-    pub fresh : (n : ℕ) → has_come n x.history ≡ false → made_for n x.history ≡ 0
+    pub fresh : (n : ℕ) → is_taken n x.history ≡ false → made_for n x.history ≡ 0
     pub coming : (i : ℕ) (b : Making S) → x.now.makers i ≡ Some b → IsComing x.history b
 
 -- an end, or who acts on a slot, makes no map
@@ -62,6 +62,11 @@ module _ {K V : Type 0} where
   rows_still (ReclaimsAll last) is = tt
   rows_still _ is = absurd is
 
+-- no number is given back by what neither brings a map nor takes one
+still_keeps : {K V : Type 0} (d : Deed K V) → IsStill d → (n : ℕ) → gives_back true n d ≡ false
+still_keeps (MapFails map) is n = absurd is
+still_keeps _ is n = refl
+
 -- where another map goes one has the capacity that it had
 pub gone_capacity : {K V : Type 0} (n own : ℕ) → own ≢ n → (e : Entry K V) (m : Moment K V) → e.deed ≡ MapGoes own → AreNamed m → capacity_or (map_at n (after e m)) ≡ capacity_or (map_at n m)
 gone_capacity {K} {V} n own ne e m is names =
@@ -74,11 +79,15 @@ module _ {K V S : Type 0} (x : State K V S) (here : MadeHolds x) where
   abbrev KeepsCapacity : Entry K V → Type 0
   KeepsCapacity e = (i : ℕ) (b : Making S) → x.now.makers i ≡ Some b → capacity_or (map_at b.map (after e (moment x.history))) ≡ capacity_or (map_at b.map (moment x.history))
 
+  -- no number is given back
+  abbrev KeepsNumbers : Entry K V → Type 0
+  KeepsNumbers e = (n : ℕ) → gives_back true n e.deed ≡ false
+
   -- after one more entry, of no making
-  pub grown : (e : Entry K V) → MakesNone e.deed → KeepsCapacity e → (now : Now K V S) (known : Known) (told : List (Answer K V)) → now.makers ≡ x.now.makers
+  pub grown : (e : Entry K V) → MakesNone e.deed → KeepsNumbers e → KeepsCapacity e → (now : Now K V S) (known : Known) (told : List (Answer K V)) → now.makers ≡ x.now.makers
       → MadeHolds (record { now = now; known = known; history = e ∷ x.history; told = told })
-  grown e none keeps now known told makers = record {
-    fresh = λ n not. (let zero_now = none_made n e.deed none e.effects in let before = here.fresh n (not_come n e x.history not).1 in omega (arith, zero_now, before));
+  grown e none numbers keeps now known told makers = record {
+    fresh = λ n not. (let zero_now = none_made n e.deed none e.effects in let before = here.fresh n (was_not true n e x.history (numbers n) not).1 in omega (arith, zero_now, before));
     coming = λ i b it.
         (let was : x.now.makers i ≡ Some b = sym (ap (λ (f : ℕ → Option (Making S)). f i) makers) ∙ it in
         let so = here.coming i b was in (
@@ -89,7 +98,7 @@ module _ {K V S : Type 0} (x : State K V S) (here : MadeHolds x) where
 
   pub still_grown : (e : Entry K V) → MakesNone e.deed → IsStill e.deed → (now : Now K V S) (known : Known) (told : List (Answer K V)) → now.makers ≡ x.now.makers
       → MadeHolds (record { now = now; known = known; history = e ∷ x.history; told = told })
-  still_grown e none still = grown e none (λ i b it. capacity_still b.map e (moment x.history) still)
+  still_grown e none still = grown e none (still_keeps e.deed still) (λ i b it. capacity_still b.map e (moment x.history) still)
 
   -- or none
   pub as_it_was : (now : Now K V S) (told : List (Answer K V)) → now.makers ≡ x.now.makers → MadeHolds (record x { now = now; told = told })
@@ -115,7 +124,7 @@ module _ {K V S : Type 0} (x : State K V S) (here : MadeHolds x) where
       by true goes = gone_capacity b.map f.map (apart i b it) e (moment x.history) goes names
       by false ends = capacity_still b.map e (moment x.history) (subst IsStill (sym ends) tt)
 
-module _ {K V S : Type 0} (same : K → K → Bool) (hash : S → K → ℕ) (batch_size roots : ℕ) (aborts : V) (x y : State K V S) (here : MadeHolds x) where
+module _ {K V S : Type 0} (same : K → K → Bool) (hash : S → K → ℕ) (batch_size roots : ℕ) (aborts : ℕ → V) (x y : State K V S) (here : MadeHolds x) where
   -- it is no step of a making, and a map that ends is none that is made
   abbrev pub LeavesMaking : Act K V S → Type 0
   LeavesMaking (StepsMaking i g) = ⊥
@@ -127,7 +136,7 @@ module _ {K V S : Type 0} (same : K → K → Bool) (hash : S → K → ℕ) (ba
   acts_keep_made (BeginsCall i m wanted) leaves new (at, there, is) = subst MadeHolds (sym is) (did_made x here true _ tt tt outcome.Goes _ _ refl)
   acts_keep_made (StepsCall i m g) leaves new (at, stands, (c, has, end, came, is)) = subst MadeHolds (sym is) (still_grown x here _ tt tt _ _ _ refl)
   acts_keep_made (TellsCall i m reply) leaves new (c, has, is) =
-      subst MadeHolds (sym is) (did_made x here (is_ok (machine_replied c.machine reply).1) (Replies i (reply_for aborts reply)) tt tt outcome.Goes _ _ refl)
+      subst MadeHolds (sym is) (did_made x here (is_ok (machine_replied c.machine reply).1) (Replies i (reply_for (aborts (length x.told)) reply)) tt tt outcome.Goes _ _ refl)
   acts_keep_made (AsksCall i m) leaves new (c, has, is) = subst MadeHolds (sym is) (did_made x here false (Steps i) tt tt outcome.Goes _ _ refl)
   acts_keep_made (StopsCall i m) leaves new (c, has, is) = subst MadeHolds (sym is) (did_made x here (machine_asked c.machine).1 (Stops i) tt tt outcome.Done _ _ refl)
   acts_keep_made (BeginsMaking i map hasher given places) leaves new is =
@@ -144,7 +153,7 @@ module _ {K V S : Type 0} (same : K → K → Bool) (hash : S → K → ℕ) (ba
       let change = changed_of x.now.memory g (end_map_plan {K = K} {V = V} f.machine) in
       let e : Entry K V =
       record { deed = ending_deed f end.1.1; outcome = settled_outcome end.1.1; effects = effects_of (acts.Ending f.map) x.known change; refused = is_refusal change } in
-      subst MadeHolds (sym is) (grown x here e (ends_make_none x here f end.1.1) (end_keeps x here f end.1.1 names (apart f has) e refl) _ _ _ refl)
+      subst MadeHolds (sym is) (grown x here e (ends_make_none x here f end.1.1) (ending_keeps_numbers K V f end.1.1 true) (end_keeps x here f end.1.1 names (apart f has) e refl) _ _ _ refl)
   acts_keep_made (BeginsRow i request) leaves new (called, there, is) = subst MadeHolds (sym is) (as_it_was x here _ _ refl)
   acts_keep_made (StepsRow i g) leaves new (row, has, end, came, is) =
       subst MadeHolds (sym is) (still_grown x here _ (rows_make_none (row_deed row) (is_of_row K V row)) (rows_still (row_deed row) (is_of_row K V row)) _ _ _ refl)

@@ -1,6 +1,6 @@
 -- What was made for maps under way stays counted by the step of a making, too.
 use Rattle.std.specs.Prelude.{◌≡◌, ◌≢◌, ◌⊎◌, ◌+◌, ℕ, Bool, true, false, List, [], ◌∷◌, length, filter, Option, Some, None}
-use Rattle.std.proofs.Common.{refl, ap, sym, ◌∙◌, arith, inl, inr}
+use Rattle.std.proofs.Common.{refl, ap, sym, subst, ◌∙◌, arith, inl, inr}
 use Rattle.std.proofs.lemmas.Bool.{cases_eq}
 use Rattle.papaya_legal.specs.Given.Seize.World.{with_at}
 use Rattle.papaya_legal.specs.Given.Seize.declared.progress.Progress.{Progress}
@@ -20,21 +20,21 @@ use Rattle.papaya_legal.specs.Given.Effects.declared.acting.Acting.TheVariants a
 use Rattle.papaya_legal.proofs.Given.Callers.Together.At.{at_other, at_same}
 use Rattle.papaya_legal.proofs.Given.Finds.Capacities.{effects_keep_capacities}
 use Rattle.papaya_acts.specs.Acts.{Answer}
-use Rattle.papaya_agrees.specs.Fresh.{has_come}
-use Rattle.papaya_agrees.proofs.Fresh.{not_come}
+use Rattle.papaya_agrees.specs.Fresh.{AreNamed, gives_back, is_taken}
+use Rattle.papaya_agrees.proofs.Fresh.{not_in_use}
 use Rattle.papaya_agrees.proofs.Numbers.{NumbersHold}
 use Rattle.papaya_deeds.specs.Deeds.{Deed, Entry, after, come, moment, named}
 use Rattle.papaya_deeds.specs.History.{made_by, made_for}
 use Rattle.papaya_played.specs.Play.{Making, Now, State, has_root, is_refusal, making_outcome, pairs_for}
 use Rattle.papaya_works.specs.Makings.{in_hand, table_left}
-use Rattle.papaya_linear.specs.Coming.{AreNamed}
 use Rattle.papaya_linear.proofs.Coming.{come_leaves, come_there, gone_leaves}
 use Rattle.papaya_linear.proofs.MapActs.{deed_by}
-use Rattle.papaya_linear.proofs.Names.{effects_named}
 use Rattle.papaya_moves.proofs.Counted.{capacity_still, nothing_made, other_made, own_made}
 use Rattle.papaya_moves.proofs.MadeHolds.{IsComing, MadeHolds}
+use Rattle.papaya_agrees.proofs.Names.{effects_named}
+use Rattle.papaya_agrees.proofs.Openings.{gives_its}
 
-module _ {K V S : Type 0} (x : State K V S) (here : MadeHolds x) (numbers : NumbersHold x) (names : AreNamed (moment x.history)) (i : ℕ) (b : Making S) (makes : x.now.makers i ≡ Some b) (machine : NewMap)
+module _ {K V S : Type 0} (x : State K V S) (here : MadeHolds x) (numbers : NumbersHold true x) (names : AreNamed (moment x.history)) (i : ℕ) (b : Making S) (makes : x.now.makers i ≡ Some b) (machine : NewMap)
     (said : Progress Setting) (told : Changed) (apart : (j : ℕ) (d : Making S) → j ≢ i → x.now.makers j ≡ Some d → d.map ≢ b.map) where
   abbrev m : Moment K V
   m = moment x.history
@@ -71,7 +71,7 @@ module _ {K V S : Type 0} (x : State K V S) (here : MadeHolds x) (numbers : Numb
       ap capacity_or (gone_leaves n b.map ne w (after (by_roots true false) m) (effects_named None (Some b.map) effects m names) refl refl refl).there ∙ effects_keep_capacities K V None (Some b.map) effects m n
   beside n ne false true = effects_keep_capacities K V None (Some b.map) effects (come f m) n ∙ ap capacity_or (come_leaves n b.map ne f m refl).there
 
-  module _ (rootless : had ≡ false → effects ≡ []) (freed : had ≡ true → has ≡ false → effects ≡ []) where
+  module _ (rootless : had ≡ false → effects ≡ []) (freed : had ≡ true → has ≡ false → effects ≡ []) (failed : had ≡ true → has ≡ false → made_for b.map x.history ≡ 0) where
     own_adds : (p q : Bool) → had ≡ p → has ≡ q → made_by b.map (deed_by {K = K} {V = V} b.map machine p q) effects ≡ length (filter is_table_made effects)
     own_adds true true was is = own_made K V b.map effects
     own_adds false false was is = own_made K V b.map effects
@@ -87,19 +87,21 @@ module _ {K V S : Type 0} (x : State K V S) (here : MadeHolds x) (numbers : Numb
     abbrev log : List (Entry K V)
     log = by_roots had has ∷ x.history
 
-    fresh_then : (n : ℕ) → has_come n log ≡ false → made_for n log ≡ 0
-    fresh_then n not = by (cases_eq n b.map)
+    fresh_then : (n : ℕ) → is_taken n log ≡ false → made_for n log ≡ 0
+    fresh_then n not = by (not_in_use true n (by_roots had has) x.history not).1 (cases_eq n b.map)
       where
-        was : has_come n x.history ≡ false
-        was = (not_come n (by_roots had has) x.history not).1
+        none_by : (q : Bool) → had ≡ q → is_taken n x.history ≡ false → n ≡ b.map → made_by n (deed_by {K = K} {V = V} b.map machine had has) effects ≡ 0
+        none_by true rooted was e = absurd (let taken : is_taken n x.history ≡ true = ap (λ (k : ℕ). is_taken k x.history) e ∙ numbers.made i b makes rooted in cc (taken, was))
+        none_by false none was e = nothing_made n (deed_by b.map machine had has) effects (rootless none)
 
-        none_by : (q : Bool) → had ≡ q → n ≡ b.map → made_by n (deed_by {K = K} {V = V} b.map machine had has) effects ≡ 0
-        none_by true rooted e = absurd (let come : has_come n x.history ≡ true = ap (λ (k : ℕ). has_come k x.history) e ∙ numbers.made i b makes rooted in cc (come, was))
-        none_by false none e = nothing_made n (deed_by b.map machine had has) effects (rootless none)
-
-        by : (n ≡ b.map) ⊎ (n ≢ b.map) → made_for n log ≡ 0
-        by (inl e) = let now = none_by had refl e in let before = here.fresh n was in omega (arith, now, before)
-        by (inr ne) = let now = other_adds n ne had has in let before = here.fresh n was in omega (arith, now, before)
+        by : (gives_back true n (deed_by {K = K} {V = V} b.map machine had has) ≡ true) ⊎ (is_taken n x.history ≡ false) → (n ≡ b.map) ⊎ (n ≢ b.map) → made_for n log ≡ 0
+        by (inl gives) either =
+            let its = gives_its K V b.map b.machine machine true n gives in
+            let now = nothing_made {K = K} {V = V} n (deed_by b.map machine had has) effects (freed its.2 its.3) in
+            let before : made_for n x.history ≡ 0 = subst (λ (k : ℕ). made_for k x.history ≡ 0) its.1 (failed its.2 its.3) in
+            omega (arith, now, before)
+        by (inr was) (inl e) = let now = none_by had refl was e in let before = here.fresh n was in omega (arith, now, before)
+        by (inr was) (inr ne) = let now = other_adds n ne had has in let before = here.fresh n was in omega (arith, now, before)
 
     beside_then : (j : ℕ) (d : Making S) → j ≢ i → x.now.makers j ≡ Some d → IsComing log d
     beside_then j d ne there =

@@ -11,6 +11,8 @@ use Rattle.papaya_legal.specs.Given.Tables.declared.node.Node.{Node}
 use Rattle.papaya_legal.specs.Given.Tables.declared.setting.Setting.{Setting}
 use Rattle.papaya_legal.specs.Given.Resize.NewMap.{at_root, new_map_plan}
 use Rattle.papaya_legal.specs.Given.Resize.declared.new_map.NewMap.{NewMap}
+use Rattle.papaya_legal.specs.Given.Resize.declared.new_map.Opening.{Opening}
+use Rattle.papaya_legal.specs.Given.Resize.declared.new_map.Opening.TheVariants as openings
 use Rattle.papaya_legal.specs.Given.Schedules.declared.effect.Effect.{Effect}
 use Rattle.papaya_legal.specs.Given.Schedules.Effects.{with_effects}
 use Rattle.papaya_legal.specs.Given.Schedules.Handing.{is_table_made}
@@ -21,6 +23,8 @@ use Rattle.papaya_legal.specs.Given.Effects.Effects.{effects_of, known_after}
 use Rattle.papaya_legal.specs.Given.Effects.declared.acting.Acting.TheVariants as acts
 use Rattle.papaya_legal.specs.Given.Finishes.Endings.{MakingStepsAmong}
 use Rattle.papaya_legal.specs.Given.Finishes.Makings.{Beginning}
+use Rattle.papaya_legal.specs.Given.Owes.Making.{making_in_opening}
+use Rattle.papaya_legal.specs.Given.Owes.Tables.{table_made}
 use Rattle.papaya_legal.specs.Given.Scenes.Held.{Held, IsAt}
 use Rattle.papaya_legal.specs.Given.Scenes.Making.{MakingComesTo, MakingLeads}
 use Rattle.papaya_legal.specs.Given.Scenes.Scene.{Scene, slot_of}
@@ -45,10 +49,20 @@ use Rattle.papaya_linear.proofs.StepsPlayed.{there_alike}
 use Rattle.papaya_moves.proofs.MadeHolds.{IsComing, MadeHolds}
 use Rattle.papaya_moves.proofs.MadeStep.{own_then, then_made}
 use Rattle.papaya_moves.proofs.MakingMoves.{counts as counts_made, frees_quietly}
-use Rattle.papaya_moves.proofs.Rooted.{Rooted, step_rooted}
+use Rattle.papaya_moves.proofs.Rooted.{IsFreeing, Rooted, step_rooted}
 
-module _ {K V S : Type 0} (same : K → K → Bool) (by_hasher : S → K → ℕ) (hash : ℕ → K → ℕ) (batch_size roots : ℕ) (aborts : V) (x y : State K V S) (s n : Scene K V) (is : IsOf by_hasher s s.world.row x.now)
-    (at : IsAt same hash (held_in batch_size roots NoChange s) s) (holds : Holds same x s) (maps : MapsComeAndGo (moment x.history) x.known x.now.enders s) (numbers : NumbersHold x) (made : MadeHolds x) (told : Answer K V)
+-- where it gives its root up it has no table in hand
+freeing_none : (c : NewMap) (stands : Opening) → c.stands ≡ stands → IsFreeing stands → in_hand (table_left c progress.Goes) ≡ 0
+freeing_none c (openings.Frees fault) is freeing = ap (λ (stands : Opening). in_hand (table_made (making_in_opening stands))) is
+freeing_none c openings.Takes is freeing = absurd freeing
+freeing_none c openings.Shards is freeing = absurd freeing
+freeing_none c (openings.Tables making) is freeing = absurd freeing
+freeing_none c (openings.Unmakes fault) is freeing = absurd freeing
+freeing_none c openings.Over is freeing = absurd freeing
+freeing_none c (openings.Refused fault) is freeing = absurd freeing
+
+module _ {K V S : Type 0} (same : K → K → Bool) (by_hasher : S → K → ℕ) (hash : ℕ → K → ℕ) (batch_size roots : ℕ) (aborts : ℕ → V) (x y : State K V S) (s n : Scene K V) (is : IsOf by_hasher s s.world.row x.now)
+    (at : IsAt same hash (held_in batch_size roots NoChange s) s) (holds : Holds same x s) (maps : MapsComeAndGo (moment x.history) x.known x.now.enders s) (numbers : NumbersHold true x) (made : MadeHolds x) (told : Answer K V)
     (i : ℕ) (g : Grant) where
   abbrev old : Held K V
   old = held_in batch_size roots NoChange s
@@ -93,6 +107,9 @@ module _ {K V S : Type 0} (same : K → K → Bool) (by_hasher : S → K → ℕ
 
     freed : has_root it.machine.stands ≡ true → has_root machine.stands ≡ false → effects it.map ≡ []
     freed was none = frees_quietly b.machine old.memory new.memory new.changed ((leads b makes).0, end) b.machine.stands (rooted.0 (had_is true was) none) (leads b makes).1 it.map x.known
+
+    failed : has_root it.machine.stands ≡ true → has_root machine.stands ≡ false → made_for it.map x.history ≡ 0
+    failed was none = (made.coming i it here).0 ∙ ap (λ (c : NewMap). in_hand (table_left c progress.Goes)) machine_is ∙ freeing_none b.machine b.machine.stands refl (rooted.0 (had_is true was) none)
 
     -- another making is of another map
     apart : (j : ℕ) (d : Making S) → (j ≡ i → ⊥) → x.now.makers j ≡ Some d → d.map ≢ it.map
@@ -161,7 +178,7 @@ module _ {K V S : Type 0} (same : K → K → Bool) (by_hasher : S → K → ℕ
 
       own : IsComing (entry ∷ x.history) (record it { machine = machine })
       own =
-          own_then x made numbers maps.names i it here machine end new.changed apart rootless freed (subst CountsFor (sym map_is) counts)
+          own_then x made numbers maps.names i it here machine end new.changed apart rootless freed failed (subst CountsFor (sym map_is) counts)
           (subst (λ (map : ℕ). tables_of map (w map) ≡ []) (sym map_is) (bare_by (has_root b.machine.stands) refl)) len_same
           (λ none. ap (λ (map : ℕ). map_at map m) map_is ∙ (itself false (had_is false none)).none)
 
@@ -176,7 +193,7 @@ module _ {K V S : Type 0} (same : K → K → Bool) (by_hasher : S → K → ℕ
         as_made : (p : Progress Setting) (next : Option (Making S)) → (then_at p).makers ≡ with_at x.now.makers i next → ((d : Making S) → next ≡ Some d → IsComing (entry ∷ x.history) d)
             → MadeHolds (record { now = then_at p; known = known_after (acts.Making it.map) new.changed x.known; history = entry ∷ x.history; told = answers })
         as_made p next makers its_own =
-            then_made x made numbers maps.names i it here machine end new.changed apart rootless freed (then_at p) (known_after (acts.Making it.map) new.changed x.known) answers next makers its_own
+            then_made x made numbers maps.names i it here machine end new.changed apart rootless freed failed (then_at p) (known_after (acts.Making it.map) new.changed x.known) answers next makers its_own
 
         by : (p : Progress Setting) → end ≡ p
             → MadeHolds (record { now = then_at p; known = known_after (acts.Making it.map) new.changed x.known; history = entry ∷ x.history; told = answers })

@@ -20,7 +20,7 @@ use Rattle.papaya_legal.specs.Given.Scenes.Held.{Held, IsAt}
 use Rattle.papaya_legal.specs.Given.Scenes.Making.{MakingLeads}
 use Rattle.papaya_legal.specs.Given.Scenes.Scene.{Scene}
 use Rattle.papaya_legal.proofs.Given.Finds.Life.{each_so}
-use Rattle.papaya_deeds.specs.Deeds.{Deed, Entry, Makes, MapFails, moment, named}
+use Rattle.papaya_deeds.specs.Deeds.{Deed, Entry, Makes, MapFails, begun, moment, named}
 use Rattle.papaya_deeds.specs.History.{FindsBy, past, transition}
 use Rattle.papaya_played.specs.Play.{State, has_root, is_refusal, making_outcome}
 use Rattle.papaya_works.specs.Firsts.{ShowsOpenings}
@@ -28,6 +28,7 @@ use Rattle.papaya_works.proofs.Makings.{makings_find_theirs}
 use Rattle.papaya_linear.specs.Shown.{ShowsAnswers}
 use Rattle.papaya_linear.proofs.MapActs.{deed_by}
 use Rattle.papaya_linear.proofs.OthersGo.{makings_step}
+use Rattle.papaya_moves.specs.Finds.{FindsIts}
 
 module _ {K V S : Type 0} (same : K → K → Bool) (hash : ℕ → K → ℕ) (x : State K V S) (s : Scene K V) (old new : Held K V) (at : IsAt same hash old s)
     (all : ShowsAnswers same (past x.history) (moment x.history) x.known s) (openings : ShowsOpenings s) (i : ℕ) (b : Beginning K) (makes : s.makers i ≡ Some b) (machine : NewMap) (said : Progress Setting)
@@ -62,12 +63,12 @@ module _ {K V S : Type 0} (same : K → K → Bool) (hash : ℕ → K → ℕ) (
 
   -- So it is by whichever deed, if a map that has its root is there so, and nothing is done where it comes or goes.
   pub makings_find : (rootless : had ≡ false → effects ≡ []) → (freed : had ≡ true → has ≡ false → effects ≡ [])
-      → (had ≡ true → (f : MapThere) × (map_at b.map m ≡ Some f) × (map_fault f.mode f.capacity ≡ None) × (b.places ≡ first_places f.capacity)) → (v : Moment K V) → (had ≡ true → v ≡ m)
-      → Finds (deed_by b.map machine had has) v
-  makings_find rootless freed there v same_moment = by had has refl refl
+      → (had ≡ true → (f : MapThere) × (map_at b.map m ≡ Some f) × (map_fault f.mode f.capacity ≡ None) × (b.places ≡ first_places f.capacity))
+      → FindsIts terms x.history (entry (deed_by b.map machine had has))
+  makings_find rootless freed there = by had has refl refl
     where
-      by : (p q : Bool) → had ≡ p → has ≡ q → Finds (deed_by b.map machine p q) v
-      by true true was is = subst (Finds (Makes b.map)) (sym (same_moment was)) (let its = there was in makes_find its.0 its.1 its.2 its.3)
-      by true false was is = none_find (MapFails b.map) v (freed was is)
-      by false true was is = none_find (deed_by b.map machine false true) v (rootless was)
-      by false false was is = none_find (Makes b.map) v (rootless was)
+      by : (p q : Bool) → had ≡ p → has ≡ q → FindsIts terms x.history (entry (deed_by b.map machine p q))
+      by true true was is = let its = there was in makes_find its.0 its.1 its.2 its.3
+      by true false was is = none_find (MapFails b.map) m (freed was is)
+      by false true was is = none_find (deed_by b.map machine false true) (begun (deed_by b.map machine false true) m) (rootless was)
+      by false false was is = none_find (Makes b.map) m (rootless was)

@@ -25,7 +25,8 @@ use Rattle.papaya_acts.specs.Leads.{EndingCame, Led}
 use Rattle.papaya_agrees.proofs.Numbers.{with_so}
 use Rattle.papaya_works.specs.Firsts.{ShowsOpenings}
 use Rattle.papaya_works.proofs.Firsts.{makings_go_on, makings_open}
-use Rattle.papaya_moves.specs.Places.{ArePlaces, AsksPlaces, OpensFor}
+use Rattle.papaya_agrees.specs.Places.{ArePlaces, AsksPlaces}
+use Rattle.papaya_moves.specs.Places.{OpensFor}
 
 module _ {K V : Type 0} (s n : Scene K V) (here : OpensFor s) where
   -- where makings are as they were
@@ -36,11 +37,11 @@ module _ {K V : Type 0} (s n : Scene K V) (here : OpensFor s) where
   }
 
   -- where one goes on, or is over
-  pub next_open : (i : ℕ) (next : Option (Beginning K)) → n.makers ≡ with_at s.makers i next → ((b : Beginning K) → next ≡ Some b → ArePlaces b.given.mode b.places) → ShowsOpenings n → OpensFor n
+  pub next_open : (i : ℕ) (next : Option (Beginning K)) → n.makers ≡ with_at s.makers i next → ((b : Beginning K) → next ≡ Some b → ArePlaces b.given b.places) → ShowsOpenings n → OpensFor n
   next_open i next makers own opens = record {
     opens = opens;
     places = λ j b it.
-        with_so s.makers i next (λ k d. ArePlaces d.given.mode d.places) own here.places j b (sym (ap (λ (h : ℕ → Option (Beginning K)). h j) makers) ∙ it);
+        with_so s.makers i next (λ k d. ArePlaces d.given d.places) own here.places j b (sym (ap (λ (h : ℕ → Option (Beginning K)). h j) makers) ∙ it);
   }
 
 module _ {K V S : Type 0} (same : K → K → Bool) (by_hasher : S → K → ℕ) (hash : ℕ → K → ℕ) (batch_size roots : ℕ) (s n : Scene K V) (here : OpensFor s) (told : Answer K V) where
@@ -58,7 +59,7 @@ module _ {K V S : Type 0} (same : K → K → Bool) (by_hasher : S → K → ℕ
       → MadeTo same hash s old new i b machine w2 p comes n → ShowsOpenings n → OpensFor n
   made old new i b makes machine w2 progress.Goes comes to opens =
       next_open s n here i (Some (record b { machine = machine })) (ap (λ (z : Scene K V). z.makers) to)
-      (λ d is. subst (λ (z : Beginning K). ArePlaces z.given.mode z.places) (same_some (record b { machine = machine }) d is) (here.places i b makes)) opens
+      (λ d is. subst (λ (z : Beginning K). ArePlaces z.given z.places) (same_some (record b { machine = machine }) d is) (here.places i b makes)) opens
   made old new i b makes machine w2 progress.Waits comes to opens = absurd comes
   made old new i b makes machine w2 (progress.Done setting) comes to opens = next_open s n here i None (ap (λ (z : Scene K V). z.makers) to) (λ d none. absurd (cc none)) opens
   made old new i b makes machine w2 (progress.Refused fault) comes to opens = next_open s n here i None (ap (λ (z : Scene K V). z.makers) to) (λ d none. absurd (cc none)) opens
@@ -78,7 +79,7 @@ module _ {K V S : Type 0} (same : K → K → Bool) (by_hasher : S → K → ℕ
   acts_open (StopsCall i m) asks led leads = still_open s n here (ap (λ (z : Scene K V). z.makers) led.3)
   acts_open (BeginsMaking i map hasher given places) asks led leads =
       let b = making_begun (by_hasher hasher) roots map given places in
-      next_open s n here i (Some b) (ap (λ (z : Scene K V). z.makers) led.1) (λ d is. subst (λ (z : Beginning K). ArePlaces z.given.mode z.places) (same_some b d is) asks)
+      next_open s n here i (Some b) (ap (λ (z : Scene K V). z.makers) led.1) (λ d is. subst (λ (z : Beginning K). ArePlaces z.given z.places) (same_some b d is) asks)
       (subst ShowsOpenings (sym led.1) (makings_open K V s here.opens i b given roots places refl))
   acts_open (StepsMaking i g) asks led (said, answer, leads, goes) =
       let old = held_in batch_size roots NoChange s in

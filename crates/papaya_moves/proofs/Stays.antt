@@ -24,14 +24,14 @@ use Rattle.papaya_acts.specs.AsSteps.{LeadsAs, MadeTo, changed_by, held_in}
 use Rattle.papaya_acts.specs.Leads.{Led, MayBe}
 use Rattle.papaya_agrees.specs.Fresh.{HasNewNumber}
 use Rattle.papaya_deeds.specs.Deeds.{Ends, Entry, MapGoes, moment}
-use Rattle.papaya_played.specs.Play.{Ending, Making, State, all_begun, ending_stepped, is_over, is_refusal, settled_outcome}
+use Rattle.papaya_played.specs.Play.{Ending, Making, State, all_begun, choice_come, ending_stepped, is_over, is_refusal, settled_outcome}
 use Rattle.papaya_played.specs.Reached.{IsOf, made_so, makes_so, rows_beside}
 use Rattle.papaya_played.proofs.Along.{At, StaysSo, held}
 use Rattle.papaya_played.proofs.PlayedAs.{PlayedAs, played_as, reclaimed_as}
 use Rattle.papaya_linear.proofs.Holding.{AllHolds}
 use Rattle.papaya_linear.proofs.Stays.{all_tied}
 use Rattle.papaya_linear.proofs.StepsPlayed.{there_alike}
-use Rattle.papaya_linear.proofs.Tied.{EndingTied, MakingTied, ending_tied, making_tied}
+use Rattle.papaya_played.proofs.Tied.{EndingTied, MakingTied, ending_tied, making_tied}
 use Rattle.papaya_endings.specs.GoingOn.{EndsGoOn}
 use Rattle.papaya_endings.proofs.EndStepGoes.{over_whole, step_finds}
 use Rattle.papaya_endings.proofs.EndSteps.{none_done}
@@ -43,7 +43,7 @@ use Rattle.papaya_moves.proofs.MadeHolds.{LeavesMaking, MadeHolds, acts_keep_mad
 use Rattle.papaya_moves.proofs.MakingActs.{made_then}
 use Rattle.papaya_moves.proofs.RowMoves.{reclaiming_moves}
 
-module _ {K V S : Type 0} (same : K → K → Bool) (by_hasher : S → K → ℕ) (hash : ℕ → K → ℕ) (batch_size roots : ℕ) (aborts : V) (x y : State K V S) (s n : Scene K V) (is : IsOf by_hasher s s.world.row x.now)
+module _ {K V S : Type 0} (same : K → K → Bool) (by_hasher : S → K → ℕ) (hash : ℕ → K → ℕ) (batch_size roots : ℕ) (aborts : ℕ → V) (x y : State K V S) (s n : Scene K V) (is : IsOf by_hasher s s.world.row x.now)
     (at : IsAt same hash (held_in batch_size roots NoChange s) s) (all : AllHolds same x s) (go : EndsGoOn x s) (made : MadeHolds x) (so : AllMove x) (told : Answer K V) where
   abbrev old : Held K V
   old = held_in batch_size roots NoChange s
@@ -119,7 +119,7 @@ module _ {K V S : Type 0} (same : K → K → Bool) (by_hasher : S → K → ℕ
     making_made : Played (StepsMaking i g) → Leads (StepsMaking i g) → Goes (StepsMaking i g) → MadeHolds y
     making_made played (b, makes, m2, machine, end, computed, told_is, did, came) (said, answer, leads, goes) =
         subst MadeHolds (sym tied.comes)
-        (made_then same by_hasher hash batch_size roots aborts x y s n is at all.holds all.maps all.numbers made told i g b makes m2 machine end computed did came its.0 (its.1 b makes) at2 tied.it tied.here map_is machine_is
+        (made_then same by_hasher hash batch_size roots aborts x y s n is at all.holds all.maps all.again.numbers made told i g b makes m2 machine end computed did came its.0 (its.1 b makes) at2 tied.it tied.here map_is machine_is
         (x.told ++ OfMaking end ∷ []))
       where
         tied : MakingTied same by_hasher batch_size roots aborts s n s.world.row x y is i g b (m2, (machine, end))
@@ -160,7 +160,7 @@ module _ {K V S : Type 0} (same : K → K → Bool) (by_hasher : S → K → ℕ
   act_moves (StepsRow i g) fits played may led leads at2 =
       (keeps (StepsRow i g) tt fits played, row_steps_move same by_hasher hash batch_size roots aborts x y s n is at all.holds all.maps made so told i g may played leads)
 
-module _ {K S : Type 0} (V : Type 0) (same : K → K → Bool) (by_hasher : S → K → ℕ) (hash : ℕ → K → ℕ) (batch_size roots : ℕ) (aborts : V) where
+module _ {K S : Type 0} (V : Type 0) (same : K → K → Bool) (by_hasher : S → K → ℕ) (hash : ℕ → K → ℕ) (batch_size roots : ℕ) (aborts : ℕ → V) where
   abbrev pub Moves : At V same by_hasher hash batch_size roots → State K V S → Type 0
   Moves p x = AllGo V same by_hasher hash batch_size roots aborts p x × (MadeHolds x × AllMove x)
 
@@ -186,6 +186,10 @@ module _ {K S : Type 0} (V : Type 0) (same : K → K → Bool) (by_hasher : S �
                 (reclaiming_moves same hash x p.0 (held V same by_hasher hash batch_size roots NoChange p) _ here.0.0.holds.shows st.caller _ st.machine st.next st.end at leads, here.1.1),
           ),
         ));
+    chooses = λ p n x choice none none_then scene is is_then at here. (
+      ends.chooses p n x choice none none_then scene is is_then at here.0,
+      (as_it_was x here.1.0 (choice_come choice x).now (choice_come choice x).told refl, here.1.1),
+    );
   }
     where
       ends : StaysSo V same by_hasher hash batch_size roots aborts HasNewNumber (AllGo V same by_hasher hash batch_size roots aborts)

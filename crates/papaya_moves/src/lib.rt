@@ -1,4 +1,4 @@
-//! Entries of histories of lists of acts do what is their own.
+//! Entries of histories of lists of acts move on.
 #![tactic(auto)]
 
 pub mod law;

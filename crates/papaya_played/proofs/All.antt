@@ -17,17 +17,17 @@ use Rattle.papaya_scenes.proofs.NoCall.{none_is}
 use Rattle.papaya_scenes.specs.Scene.{Scene, slot_of}
 use Rattle.papaya_acts.specs.Acts.{Act, Answer, Nothing, OfReclaiming, BeginsCall, StepsCall, TellsCall, AsksCall, StopsCall, BeginsMaking, StepsMaking, BeginsEnding, StepsEnding, BeginsRow, StepsRow}
 use Rattle.papaya_acts.specs.AsSteps.{changed_of}
-use Rattle.papaya_acts.specs.Doings.{Doing, Does, BeginsReclaiming, BeginsClearing, StepsReclaiming, AllAreFree, HasBegun, HasDone, HasStepped, MayDo, Stage, reclaiming, still}
+use Rattle.papaya_acts.specs.Doings.{Doing, Does, BeginsReclaiming, BeginsClearing, StepsReclaiming, Chooses, memory_chosen, scene_chosen, AllAreFree, HasBegun, HasDone, HasStepped, MayDo, Stage, reclaiming, still}
 use Rattle.papaya_acts.specs.Leads.{AllStand, Led, MayBe}
 use Rattle.papaya_acts.specs.Lists.{Course, Reached, LedOn, nothing_done, on_by}
-use Rattle.papaya_played.specs.Play.{State, all_begun, all_on, all_stepped, first_state, play, play_act, play_all, step_all}
+use Rattle.papaya_played.specs.Play.{State, all_begun, choice_come, all_on, all_stepped, first_state, play, play_act, play_all, step_all}
 use Rattle.papaya_played.specs.Reached.{AreOnOwn, IsOf, IsOfStage, IsOnOwn, ListsArePlayed, rows_beside}
 use Rattle.papaya_acts.proofs.Courses.{same_set_up}
 use Rattle.papaya_played.proofs.Calls.{asks, begins, steps, stops, tells}
 use Rattle.papaya_played.proofs.Makings.{ending_begins, ending_steps_so, making_begins, making_steps_so}
 use Rattle.papaya_played.proofs.Rows.{row_begins, row_steps_so}
 
-module _ {K V S : Type 0} (same : K → K → Bool) (hash : S → K → ℕ) (batch_size roots : ℕ) (aborts : V) where
+module _ {K V S : Type 0} (same : K → K → Bool) (hash : S → K → ℕ) (batch_size roots : ℕ) (aborts : ℕ → V) where
   -- an act, whichever it is
   module _ (s : Scene K V) (all : AllStand same hash batch_size roots slot_of s) (x : State K V S) (is : IsOf hash s s.world.row x.now) (n : Scene K V) where
     abbrev Plays : Act K V S → Answer K V → Type 0
@@ -98,7 +98,26 @@ module _ {K V S : Type 0} (same : K → K → Bool) (hash : S → K → ℕ) (ba
           all = ap (option_map (λ (it : ℕ × ReclaimAll). it.1)) (sym begun);
         }
 
-    -- and takes a step
+    -- a choice of a number comes
+    chooses : (choice : ℕ) → is_none (far p) ≡ true → (told : Answer K V) → HasDone V same hash batch_size roots slot_of (Chooses choice) p told n
+        → IsOfStage hash same batch_size roots n (choice_come choice x).now
+    chooses choice idle told (none, scene_is, lists, idle_then) =
+        let before = scene_at None (none_is (far p) idle) in
+        let it : IsOf hash (scene_chosen choice p.0) p.0.world.row (choice_come choice x).now = record {
+          memory = ap (memory_chosen choice) before.memory;
+          maps = before.maps;
+          calls = before.calls;
+          makers = before.makers;
+          enders = before.enders;
+          between = before.between;
+          calling = before.calling;
+        } in record {
+          scene = subst (λ (q : Option (ℕ × ReclaimAll)). IsOf hash n.0 (rows_beside q n.0.world.row) (choice_come choice x).now) (sym idle_then)
+              (subst (λ (z : Scene K V). IsOf hash z z.world.row (choice_come choice x).now) (sym scene_is) it);
+          all = is.all ∙ ap (option_map (λ (it : ℕ × ReclaimAll). it.1)) (none_is (far p) idle ∙ sym idle_then);
+        }
+
+    -- somebody takes a step of reclaiming all
     module _ (g : Grant) (told : Answer K V) (to : HasStepped V same hash batch_size roots slot_of g p told n) where
       abbrev plan : Plan (Node K V) (ReclaimAll × Settled (Node K V))
       plan = reclaim_all_plan deferred_word was_left to.machine
@@ -153,6 +172,7 @@ module _ {K V S : Type 0} (same : K → K → Bool) (hash : S → K → ℕ) (ba
         (all_begun (reclaiming_all batch_size roots) x, refl, begins_all i (reclaiming_all batch_size roots) idle free told done, says Nothing told done.0)
     plays_on (BeginsClearing i) own (idle, size, free, slots) told done = (all_begun (clearing roots) x, refl, begins_all i (clearing roots) idle free told done, says Nothing told done.0)
     plays_on (StepsReclaiming g) own may told done = steps_all g told done
+    plays_on (Chooses choice) own idle told done = (choice_come choice x, refl, chooses choice idle told done, says Nothing told done.0)
 
   module _ (course : Course V same hash batch_size roots slot_of) where
     abbrev pub To : Reached V same hash batch_size roots slot_of → State K V S → Type 0
@@ -177,6 +197,6 @@ module _ {K V S : Type 0} (same : K → K → Bool) (hash : S → K → ℕ) (ba
       refl,
     )
 
-pub lists_are_played : {K S : Type 0} (V : Type 0) (same : K → K → Bool) (hash : S → K → ℕ) (batch_size roots : ℕ) (aborts : V) → ListsArePlayed {S = S} V same hash batch_size roots aborts
+pub lists_are_played : {K S : Type 0} (V : Type 0) (same : K → K → Bool) (hash : S → K → ℕ) (batch_size roots : ℕ) (aborts : ℕ → V) → ListsArePlayed {S = S} V same hash batch_size roots aborts
 lists_are_played V same hash batch_size roots aborts course doings x led own =
     played_on same hash batch_size roots aborts course doings (nothing_done V same hash batch_size roots slot_of course) x (first_state roots) (at_first_so same hash batch_size roots aborts course) led own

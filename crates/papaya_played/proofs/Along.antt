@@ -21,12 +21,12 @@ use Rattle.papaya_scenes.specs.Reclaiming.{IsReclaiming, ReclaimingLeads}
 use Rattle.papaya_scenes.specs.Scene.{Scene, slot_of}
 use Rattle.papaya_acts.specs.Acts.{Act, Answer, BeginsRow}
 use Rattle.papaya_acts.specs.AsSteps.{IsOwn, LeadsAs, changed_by, changed_of, held_in}
-use Rattle.papaya_acts.specs.Doings.{Doing, Does, BeginsReclaiming, BeginsClearing, StepsReclaiming, AllAreFree, HasDone, HasStepped, MayDo, Stage, behind, reclaiming, still}
+use Rattle.papaya_acts.specs.Doings.{Doing, Does, BeginsReclaiming, BeginsClearing, StepsReclaiming, Chooses, scene_chosen, AllAreFree, HasDone, HasStepped, MayDo, Stage, behind, reclaiming, still}
 use Rattle.papaya_acts.specs.Leads.{Led, MayBe}
 use Rattle.papaya_acts.specs.Lists.{Course, Reached, LedOn, nothing_done, on_by}
 use Rattle.papaya_acts.proofs.AsSteps.All.{acts_lead_as_steps}
 use Rattle.papaya_acts.proofs.AsSteps.Reclaiming.{reclaiming_leads_as_steps}
-use Rattle.papaya_played.specs.Play.{State, all_begun, first_state, play, play_act, play_all}
+use Rattle.papaya_played.specs.Play.{State, all_begun, choice_come, first_state, play, play_act, play_all}
 use Rattle.papaya_played.specs.Reached.{IsOfStage, IsOnOwn}
 use Rattle.papaya_played.proofs.All.{at_first_so, plays_on}
 
@@ -58,7 +58,7 @@ module _ {K S : Type 0} (V : Type 0) (same : K → K → Bool) (by_hasher : S �
   AreOfTheirOwn [] = Unit {0}
   AreOfTheirOwn (doing ∷ doings) = IsOfItsOwn doing × AreOfTheirOwn doings
 
-  module _ (aborts : V) where
+  module _ (aborts : ℕ → V) where
     abbrev pub Is : At → State K V S → Type 0
     Is p x = IsOfStage by_hasher same batch_size roots p x.now
 
@@ -85,6 +85,8 @@ module _ {K S : Type 0} (V : Type 0) (same : K → K → Bool) (by_hasher : S �
           → (leads : ReclaimingLeads same hash p.0 st.caller (lists_at p) (held NoChange p) (held (changed_of p.0.world.memory g (reclaim_all_plan deferred_word was_left st.machine)) n) st.machine st.next st.end)
           → n.0 ≡ record p.0 { world = leads.1.w2; maps = leads.1.maps2 }
           → play same by_hasher batch_size roots aborts (StepsReclaiming g) x ≡ Some y → P p x → P n y
+      pub chooses : (p n : At) (x : State K V S) (choice : ℕ) → far p ≡ None → far n ≡ None → n.0 ≡ scene_chosen choice p.0 → Is p x → Is n (choice_come choice x)
+          → IsAt same hash (held NoChange p) p.0 → P p x → P n (choice_come choice x)
 
   -- it is that of whatever was changed last
   at_any : (changed other : Changed) (p : At) → IsAt same hash (held changed p) p.0 → IsAt same hash (held other p) p.0
@@ -109,6 +111,12 @@ module _ {K S : Type 0} (V : Type 0) (same : K → K → Bool) (by_hasher : S �
         (subst (λ (s : Scene K V). (j : ℕ) (b : Beginning K) → s.makers j ≡ Some b → b.hash ≡ hash b.map) (sym same_scene) at.hashes_made)
         (λ none. absurd (let both : None ≡ Some (i, c) = sym none ∙ begun in cc both))
 
+    chosen_by : (choice : ℕ) → n.0 ≡ scene_chosen choice p.0 → IsAt same hash (held NoChange p) p.0 → StandsBy n (far n)
+    chosen_by choice is at =
+        stands n size (subst (λ (s : Scene K V). (m : ℕ) (standing : Standing K) → s.maps m ≡ Some standing → standing.hash ≡ hash m) (sym is) at.hashes)
+        (subst (λ (s : Scene K V). (j : ℕ) (b : Beginning K) → s.makers j ≡ Some b → b.hash ≡ hash b.map) (sym is) at.hashes_made)
+        (λ none. subst (λ (s : Scene K V). (j : ℕ) → IsRowOn (slot_of j) (s.world.row j)) (sym is) at.on_slots)
+
     stepped_by : (g : Grant) (told : Answer K V) (st : HasStepped V same by_hasher batch_size roots slot_of g p told n) → IsReclaiming same hash (held NoChange p) p.0 st.caller (lists_at p) st.machine
         → StandsBy n (far n)
     stepped_by g told st at =
@@ -132,7 +140,7 @@ module _ {K S : Type 0} (V : Type 0) (same : K → K → Bool) (by_hasher : S �
   on_own (Does (BeginsRow i request)) own = own
   on_own doing own = tt
 
-  module _ (size : batch_size < 2 ^ 64) (aborts : V) (Fits : State K V S → Act K V S → Type 0) (P : At → State K V S → Type 0) (so : StaysSo aborts Fits P) where
+  module _ (size : batch_size < 2 ^ 64) (aborts : ℕ → V) (Fits : State K V S → Act K V S → Type 0) (P : At → State K V S → Type 0) (so : StaysSo aborts Fits P) where
     abbrev pub Stays : At → Doing K V S → State K V S → Type 0
     Stays n doing x =
         (y : State K V S) × (play same by_hasher batch_size roots aborts doing x ≡ Some y) × Is aborts n y × StandsBy n (far n) × P n y
@@ -163,6 +171,12 @@ module _ {K S : Type 0} (V : Type 0) (same : K → K → Bool) (by_hasher : S �
         let to = plays_on same by_hasher batch_size roots aborts p n x is (BeginsClearing i) tt (idle, word, free, slots) told done in
         let is_then : Is aborts n (all_begun (clearing roots) x) = subst (Is aborts n) (sym (same_some (all_begun (clearing roots) x) to.0 to.1)) to.2 in
         (all_begun (clearing roots) x, refl, is_then, begun_by size p n i (clearing roots) done.1 done.3 at, so.begins p n x i (clearing roots) none done.3 done.1 free is is_then at here)
+    next_so p n x is stand here (Chooses choice) own fits idle told done =
+        let none : far p ≡ None = none_is (far p) idle in
+        let at : IsAt same hash (held NoChange p) p.0 = subst (StandsBy p) none stand in
+        let to = plays_on same by_hasher batch_size roots aborts p n x is (Chooses choice) tt idle told done in
+        let is_then : Is aborts n (choice_come choice x) = subst (Is aborts n) (sym (same_some (choice_come choice x) to.0 to.1)) to.2 in
+        (choice_come choice x, refl, is_then, chosen_by size p n choice done.1 at, so.chooses p n x choice none done.3 done.1 is is_then at here)
     next_so p n x is stand here (StepsReclaiming g) own fits may told done =
         let at : IsReclaiming same hash (held NoChange p) p.0 done.caller (lists_at p) done.machine = subst (StandsBy p) done.here stand in
         let leads = reclaiming_leads_as_steps V same hash batch_size roots p.0 n.0 NoChange done.caller (lists_at p) done.machine at g done.end done.lists done.next done.did in

@@ -1,5 +1,5 @@
 -- Calls that are played come to where they have led.
-use Rattle.std.specs.Prelude.{◌≢◌, ◌⊎◌, ◌++◌, Option, Some, None, option_map, if◌then◌else◌}
+use Rattle.std.specs.Prelude.{◌≢◌, ◌⊎◌, ◌++◌, length, Option, Some, None, option_map, if◌then◌else◌}
 use Rattle.std.specs.Option.{is_none}
 use Rattle.std.proofs.Common.{◌≡◌, ℕ, Bool, true, false, [], ◌∷◌, inl, inr, refl, ap, sym, subst, ◌∙◌}
 use Rattle.std.proofs.lemmas.Bool.{cases_eq}
@@ -24,7 +24,7 @@ use Rattle.papaya_scenes.specs.Replying.{unless_stopped}
 use Rattle.papaya_scenes.specs.Scene.{Scene, slot_of}
 use Rattle.papaya_scenes.specs.Stepping.{going_on, has_ended}
 use Rattle.papaya_acts.specs.Acts.{Act, Answer, Nothing, OfCall, OfReply, OfAsking, BeginsCall, StepsCall, TellsCall, AsksCall, StopsCall, begun}
-use Rattle.papaya_acts.specs.Acts.{Wanted, Get, Remove, Insert, TryToInsert, Compute, Update, UpdateOrInsert, TryToInsertWith, RemoveIf, MakeRoom, Count, GoOver}
+use Rattle.papaya_acts.specs.Acts.{Wanted, Get, Remove, Insert, TryToInsert, Compute, Update, UpdateOrInsert, TryToInsertWith, RemoveIf, GetKeyValue, ContainsKey, GetOrInsert, GetOrInsertWith, RemoveEntry, MakeRoom, Count, GoOver}
 use Rattle.papaya_acts.specs.AsSteps.{changed_of}
 use Rattle.papaya_acts.specs.Courses.{set_up}
 use Rattle.papaya_acts.specs.Leads.{AllStand, CallCame, Led, MayBe, asked_on}
@@ -49,6 +49,11 @@ begins_with same standing i (UpdateOrInsert key None) = refl
 begins_with same standing i (UpdateOrInsert key (Some value)) = refl
 begins_with same standing i (TryToInsertWith key) = refl
 begins_with same standing i (RemoveIf key) = refl
+begins_with same standing i (GetKeyValue key) = refl
+begins_with same standing i (ContainsKey key) = refl
+begins_with same standing i (GetOrInsert key value) = refl
+begins_with same standing i (GetOrInsertWith key) = refl
+begins_with same standing i (RemoveEntry key) = refl
 begins_with same standing i (MakeRoom additional) = refl
 begins_with same standing i Count = refl
 begins_with same standing i (GoOver purpose.Walks) = refl
@@ -71,7 +76,7 @@ stopped_so true c u e = refl
 stopped_so false c u e = ap Some e
 
 module _ {K V S : Type 0} (same : K → K → Bool) (hash : S → K → ℕ) (batch_size roots : ℕ) (s : Scene K V) where
-  module _ (aborts : V) (x : State K V S) (is : IsOf hash s s.world.row x.now) (n : Scene K V) where
+  module _ (aborts : ℕ → V) (x : State K V S) (is : IsOf hash s s.world.row x.now) (n : Scene K V) where
     -- played it comes to the scene to which it has led, and its caller is told the same
     abbrev pub Plays : Act K V S → Answer K V → Type 0
     Plays act told =
@@ -185,7 +190,7 @@ module _ {K V S : Type 0} (same : K → K → Bool) (hash : S → K → ℕ) (ba
           let y = call_told i m aborts reply x it.0 in (
             y,
             ap (option_map (call_told i m aborts reply x)) it.1,
-            call_alone (Some next) (Some (told_call (machine_replied it.0.machine reply) (reply_for aborts reply) it.0)) (ap (λ (v : Machine K V K). Some (machine_replied v reply).0) it.2 ∙ ap Some (sym machine_is)) (λ none. absurd (cc none))
+            call_alone (Some next) (Some (told_call (machine_replied it.0.machine reply) (reply_for (aborts (length x.told)) reply) it.0)) (ap (λ (v : Machine K V K). Some (machine_replied v reply).0) it.2 ∙ ap Some (sym machine_is)) (λ none. absurd (cc none))
                 (is.calling m i u here) comes,
             says (OfReply (machine_replied it.0.machine reply).1) told (told_is ∙ ap (λ (v : Machine K V K). OfReply (machine_replied v reply).1) (sym it.2)),
             refl,

@@ -2,9 +2,10 @@ pub mod Alike
 mod Calls
 mod Makings
 pub mod Rows
-mod All
+pub mod All
 pub mod Along
 pub mod PlayedAs
+pub mod Tied
 pub mod Noted
-mod Pairs
+pub mod Pairs
 mod Samples

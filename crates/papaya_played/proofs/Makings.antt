@@ -30,7 +30,7 @@ use Rattle.papaya_played.specs.Play.{Ending, Making, Now, State, ended_on, endin
 use Rattle.papaya_played.specs.Reached.{IsOf, made_so, makes_so, stands_so}
 use Rattle.papaya_played.proofs.Alike.{both_at, there_too}
 
-module _ {K V S : Type 0} (same : K → K → Bool) (hash : S → K → ℕ) (batch_size roots : ℕ) (s : Scene K V) (aborts : V) (x : State K V S) (is : IsOf hash s s.world.row x.now)
+module _ {K V S : Type 0} (same : K → K → Bool) (hash : S → K → ℕ) (batch_size roots : ℕ) (s : Scene K V) (aborts : ℕ → V) (x : State K V S) (is : IsOf hash s s.world.row x.now)
     (n : Scene K V) (i : ℕ) where
   abbrev pub Plays : Act K V S → Answer K V → Type 0
   Plays act told =

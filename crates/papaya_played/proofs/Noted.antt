@@ -1,5 +1,5 @@
 -- Of each call under way that is played the history says so: by its caller, on its map, and what was called.
-use Rattle.std.specs.Prelude.{◌≢◌, ◌⊎◌, ◌<◌, ◌^◌, ◌+◌, ◌==◌, cond, not, ◌&&◌, find, map, Option, Some, None, option_map, is_ok, if◌then◌else◌}
+use Rattle.std.specs.Prelude.{◌≢◌, ◌⊎◌, ◌<◌, ◌^◌, ◌+◌, ◌==◌, cond, not, ◌&&◌, find, map, Option, Some, None, option_map, is_ok, length, if◌then◌else◌}
 use Rattle.std.proofs.Common.{◌≡◌, ℕ, Bool, true, false, List, [], ◌∷◌, inl, inr, refl, ap, sym, subst, ◌∙◌, arith}
 use Rattle.std.proofs.lemmas.Bool.{cases_eq}
 use Rattle.papaya_scenes.specs.Given.Seize.declared.progress.Progress.{Progress}
@@ -55,7 +55,7 @@ use Rattle.papaya_named.specs.Seen.{kind_of}
 use Rattle.papaya_deeds.specs.Deeds.{Deed, Begins, Steps, Replies, Stops, Registers, Opens, Leaves, MapComes, Makes, MapFails, Ends, MapGoes, ReclaimsAll, Entry, acted_on, after, at_work, begun, caller_of, calls_on, moment, named, worked}
 use Rattle.papaya_acts.specs.Acts.{Act, BeginsCall, StepsCall, TellsCall, AsksCall, StopsCall, BeginsMaking, StepsMaking, BeginsEnding, StepsEnding, BeginsRow, StepsRow}
 use Rattle.papaya_acts.specs.AsSteps.{changed_of, row_changed}
-use Rattle.papaya_acts.specs.Doings.{Doing, Does, BeginsReclaiming, BeginsClearing, StepsReclaiming}
+use Rattle.papaya_acts.specs.Doings.{Doing, Does, BeginsReclaiming, BeginsClearing, StepsReclaiming, Chooses}
 use Rattle.papaya_acts.specs.Leads.{MayBe}
 use Rattle.papaya_acts.specs.Lists.{Course, Reached, LedOn, nothing_done}
 use Rattle.papaya_played.specs.Play.{Calling, Making, Ending, Now, State, begun_call, call_for, ending_deed, first_state, has_root, is_over, keeps, leaves_as, made_on, making_deed, making_outcome, outcome_of, pairs_for, play_all, registers_as, reply_for, row_deed, row_outcome, settled_outcome, told_call}
@@ -327,7 +327,7 @@ module _ {K V S : Type 0} where
   made_calls i b machine (progress.Done setting) now on j = refl
   made_calls i b machine (progress.Refused fault) now on j = refl
 
-module _ {K V S : Type 0} (same : K → K → Bool) (hash : S → K → ℕ) (batch_size roots : ℕ) (aborts : V) (x y : State K V S) (noted : CallsAreNoted x) where
+module _ {K V S : Type 0} (same : K → K → Bool) (hash : S → K → ℕ) (batch_size roots : ℕ) (aborts : ℕ → V) (x y : State K V S) (noted : CallsAreNoted x) where
   -- So it is after each act.
   pub acts_note : (act : Act K V S) → PlayedAs same hash batch_size roots aborts x y act → IsFreeToBegin x act → CallsAreNoted y
   acts_note (BeginsCall i m wanted) (at, there, is) free = subst CallsAreNoted (sym is) (begins_noted x noted i m (call_for wanted) (begun_call i m hash (call_for wanted) at) refl free)
@@ -338,7 +338,7 @@ module _ {K V S : Type 0} (same : K → K → Bool) (hash : S → K → ℕ) (ba
       (record c { machine = end.1.0; value = keeps (kind_of c.call) end.1.1 c.value }) refl)
   acts_note (TellsCall i m reply) (c, here, is) free =
       subst CallsAreNoted (sym is)
-      (tells_noted x noted i m c here (is_ok (machine_replied c.machine reply).1) (reply_for aborts reply) (told_call (machine_replied c.machine reply) (reply_for aborts reply) c) refl)
+      (tells_noted x noted i m c here (is_ok (machine_replied c.machine reply).1) (reply_for (aborts (length x.told)) reply) (told_call (machine_replied c.machine reply) (reply_for (aborts (length x.told)) reply) c) refl)
   acts_note (AsksCall i m) (c, here, is) free = subst CallsAreNoted (sym is) (same_call x noted i m c here (record c { machine = (machine_asked c.machine).0 }) refl)
   acts_note (StopsCall i m) (c, here, is) free = subst CallsAreNoted (sym is) (stops_noted x noted i m c here (machine_asked c.machine).1)
   acts_note (BeginsMaking i on hasher given places) is free = subst CallsAreNoted (sym is) noted
@@ -365,7 +365,7 @@ module _ {K V S : Type 0} (same : K → K → Bool) (hash : S → K → ℕ) (ba
       (effects_of acting.Row x.known (changed_of x.now.memory g (reclaim_all_plan deferred_word was_left c))) (λ o calls. refl, λ m. refl) (λ on j. refl))
 
 -- So it is wherever a list has led.
-module _ {K S : Type 0} (V : Type 0) (same : K → K → Bool) (by_hasher : S → K → ℕ) (hash : ℕ → K → ℕ) (batch_size roots : ℕ) (aborts : V) where
+module _ {K S : Type 0} (V : Type 0) (same : K → K → Bool) (by_hasher : S → K → ℕ) (hash : ℕ → K → ℕ) (batch_size roots : ℕ) (aborts : ℕ → V) where
   abbrev pub Anything : State K V S → Act K V S → Type 0
   Anything x act = Unit {0}
 
@@ -386,6 +386,7 @@ module _ {K S : Type 0} (V : Type 0) (same : K → K → Bool) (by_hasher : S �
     begins = λ p n x i c none begun same_scene all_free is is_then at noted. noted;
     steps = λ p n x y told g st is is_then at leads comes played noted.
         reclaiming_notes same by_hasher batch_size roots aborts x y noted g (reclaimed_as same by_hasher batch_size roots aborts x y g played);
+    chooses = λ p n x choice none none_then same_scene is is_then at noted. noted;
   }
 
   all_fit : (doings : List (Doing K V S)) (x : State K V S) → AllFit V same by_hasher hash batch_size roots aborts Anything doings x
@@ -394,6 +395,7 @@ module _ {K S : Type 0} (V : Type 0) (same : K → K → Bool) (by_hasher : S �
   all_fit (BeginsReclaiming i ∷ doings) x = (tt, λ y e. all_fit doings y)
   all_fit (BeginsClearing i ∷ doings) x = (tt, λ y e. all_fit doings y)
   all_fit (StepsReclaiming g ∷ doings) x = (tt, λ y e. all_fit doings y)
+  all_fit (Chooses choice ∷ doings) x = (tt, λ y e. all_fit doings y)
 
   pub calls_are_noted : batch_size < 2 ^ 64 → (course : Course V same by_hasher batch_size roots slot_of) (doings : List (Doing K V S)) (y : Reached V same by_hasher batch_size roots slot_of)
       → LedOn V same by_hasher batch_size roots slot_of course doings (nothing_done V same by_hasher batch_size roots slot_of course) y → AreOfTheirOwn V same by_hasher hash batch_size roots doings

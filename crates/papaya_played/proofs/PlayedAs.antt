@@ -15,7 +15,7 @@ use Rattle.papaya_acts.specs.AsSteps.{changed_of, row_changed}
 use Rattle.papaya_acts.specs.Doings.{StepsReclaiming}
 use Rattle.papaya_played.specs.Play.{State, all_stepped, call_asked, call_begun, call_for, call_stepped, call_stopped, call_told, ending_begun, ending_stepped, making_begun, making_stepped, play, play_act, row_begun, row_stepped, slot_call_of, slot_row_steps, step_call}
 
-module _ {K V S : Type 0} (same : K → K → Bool) (hash : S → K → ℕ) (batch_size roots : ℕ) (aborts : V) (x y : State K V S) where
+module _ {K V S : Type 0} (same : K → K → Bool) (hash : S → K → ℕ) (batch_size roots : ℕ) (aborts : ℕ → V) (x y : State K V S) where
   -- something was there, and by it the state is this then
   abbrev pub By : {A : Type 0} → Option A → (A → State K V S) → Type 0
   By {A} there to = (a : A) × (there ≡ Some a) × (y ≡ to a)

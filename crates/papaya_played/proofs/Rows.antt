@@ -128,7 +128,7 @@ module _ {K V : Type 0} (i : ℕ) (g : Grant) (w w2 : World (Node K V)) where
             (stores (Store (Slot c.slot HEAD) FREE) (c, progress.Done tt) p so)),
       ))
 
-module _ {K V S : Type 0} (same : K → K → Bool) (hash : S → K → ℕ) (batch_size roots : ℕ) (s : Scene K V) (aborts : V) (x : State K V S) (is : IsOf hash s s.world.row x.now)
+module _ {K V S : Type 0} (same : K → K → Bool) (hash : S → K → ℕ) (batch_size roots : ℕ) (s : Scene K V) (aborts : ℕ → V) (x : State K V S) (is : IsOf hash s s.world.row x.now)
     (n : Scene K V) (i : ℕ) where
   abbrev pub Plays : Act K V S → Answer K V → Type 0
   Plays act told =

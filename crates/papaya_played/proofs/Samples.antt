@@ -27,7 +27,7 @@ Doings = List (Doing ℕ ℕ ℕ)
 
 -- maps with numbers as keys, which are their own hashes; batches of one block, and one root
 abbrev pub plays : Doings → Option (State ℕ ℕ ℕ)
-plays doings = play_all nat_eq (λ hasher key. key) 1 1 0 doings (first_state 1)
+plays doings = play_all nat_eq (λ hasher key. key) 1 1 (λ n. 0) doings (first_state 1)
 
 abbrev pub history_of : Doings → Option (List (Entry ℕ ℕ))
 history_of doings = option_map (λ s. s.history) (plays doings)

@@ -1,9 +1,9 @@
 -- A list of acts is played: from memory and machines each act computes the next ones, and the entry of the history that it is.
-use Rattle.std.specs.Prelude.{ℕ, ◌+◌, ◌*◌, ◌/◌, ◌==◌, Bool, true, false, not, List, [], ◌∷◌, ◌++◌, Option, Some, None, option_map, Result, is_ok, if◌then◌else◌}
+use Rattle.std.specs.Prelude.{ℕ, ◌+◌, ◌*◌, ◌/◌, ◌==◌, Bool, true, false, not, List, [], ◌∷◌, ◌++◌, length, Option, Some, None, option_map, Result, is_ok, if◌then◌else◌}
 use Rattle.papaya_acts.specs.Acts.{Act, Answer, Nothing, OfCall, OfReply, OfAsking, OfMaking, OfEnding, OfReclaiming, BeginsCall, StepsCall, TellsCall, AsksCall, StopsCall, BeginsMaking, StepsMaking, BeginsEnding, StepsEnding, BeginsRow, StepsRow}
-use Rattle.papaya_acts.specs.Acts.{Wanted, Get, Remove, Insert, TryToInsert, Compute, Update, UpdateOrInsert, TryToInsertWith, RemoveIf, MakeRoom, Count, GoOver}
+use Rattle.papaya_acts.specs.Acts.{Wanted, Get, Remove, Insert, TryToInsert, Compute, Update, UpdateOrInsert, TryToInsertWith, RemoveIf, GetKeyValue, ContainsKey, GetOrInsert, GetOrInsertWith, RemoveEntry, MakeRoom, Count, GoOver}
 use Rattle.papaya_acts.specs.AsSteps.{changed_of, row_changed}
-use Rattle.papaya_acts.specs.Doings.{Doing, Does, BeginsReclaiming, BeginsClearing, StepsReclaiming}
+use Rattle.papaya_acts.specs.Doings.{Doing, Does, BeginsReclaiming, BeginsClearing, StepsReclaiming, Chooses, memory_chosen}
 use Rattle.seize_acts.specs.Answers.{Grant, stepped, then_on}
 use Rattle.papaya_scenes.specs.Given.SeizeWords.Mem.{Mem}
 use Rattle.papaya_scenes.specs.Given.Seize.Enter.{enter_plan, unregister_plan}
@@ -82,13 +82,18 @@ call_for (UpdateOrInsert key None) = calls.On (one.UpdateOrInsertWith key)
 call_for (UpdateOrInsert key (Some value)) = calls.On (one.UpdateOrInsert key value)
 call_for (TryToInsertWith key) = calls.On (one.TryInsertWith key)
 call_for (RemoveIf key) = calls.On (one.RemoveIf key)
+call_for (GetKeyValue key) = calls.On (one.GetKeyValue key)
+call_for (ContainsKey key) = calls.On (one.ContainsKey key)
+call_for (GetOrInsert key value) = calls.On (one.GetOrInsert key value)
+call_for (GetOrInsertWith key) = calls.On (one.GetOrInsertWith key)
+call_for (RemoveEntry key) = calls.On (one.RemoveEntry key)
 call_for (MakeRoom additional) = calls.Reserve additional
 call_for Count = calls.Len
 call_for (GoOver purpose.Walks) = calls.Walk
 call_for (GoOver purpose.Clears) = calls.Clear
 call_for (GoOver purpose.Retains) = calls.Retain
 
--- What a call is told. No act tells what a closure aborts with: it is this, whatever that may be.
+-- What a call is told. No act tells what a closure aborts with: it is this.
 abbrev pub reply_for : {V : Type 0} → V → Told V → Reply V
 reply_for aborts (told.Insert value) = reply.Gives value
 reply_for aborts told.Remove = reply.Removes
@@ -211,10 +216,11 @@ module _ {K V S : Type 0} (i m : ℕ) where
       worked (acting.Call i m) changed (Steps i) (outcome_of (known_after (acting.Call i m) changed s.known) (kind_of c.call) c.value p.1.1) (OfCall p.1.1)
       (record s.now { memory = p.0; calls = with_call s.now.calls m i (going c p.1.0 p.1.1) }) s
 
-  abbrev pub call_told : V → Told V → State K V S → Calling K V → State K V S
+  -- what the closure aborts with that is told to, is given by the number of the act, so many of which were done before
+  abbrev pub call_told : (ℕ → V) → Told V → State K V S → Calling K V → State K V S
   call_told aborts told s c =
       let to = machine_replied c.machine told in
-      let reply = reply_for aborts told in
+      let reply = reply_for (aborts (length s.told)) told in
       did (is_ok to.1) (Replies i reply) outcome.Goes (OfReply to.1) (record s.now { calls = with_call s.now.calls m i (Some (told_call to reply c)) }) s
 
   -- what a walk that is ready is asked for is the step that comes
@@ -358,6 +364,10 @@ module _ {K V S : Type 0} where
   row_stepped i row changed s p =
       worked acting.Row changed (row_deed row) (row_outcome p.1.1) Nothing (record s.now { memory = p.0; rows = with_at s.now.rows i (row_on p.1.0 p.1.1) }) s
 
+  -- a choice of a number comes
+  abbrev pub choice_come : ℕ → State K V S → State K V S
+  choice_come choice s = began (record s.now { memory = memory_chosen choice s.now.memory }) s
+
   -- who reclaims all begins, and takes a step
 
   abbrev pub all_begun : ReclaimAll → State K V S → State K V S
@@ -367,7 +377,7 @@ module _ {K V S : Type 0} where
   all_stepped changed s p =
       worked acting.Row changed (ReclaimsAll (is_over p.1.1)) (settled_outcome p.1.1) (OfReclaiming p.1.1) (record s.now { memory = p.0; all = all_on p.1.0 p.1.1 }) s
 
-module _ {K V S : Type 0} (same : K → K → Bool) (hash : S → K → ℕ) (batch_size roots : ℕ) (aborts : V) where
+module _ {K V S : Type 0} (same : K → K → Bool) (hash : S → K → ℕ) (batch_size roots : ℕ) (aborts : ℕ → V) where
   -- the steps of what is under way, if it is there and the memory may choose so
 
   abbrev pub step_call : ℕ → ℕ → Grant → State K V S → Setting × S → Calling K V → Option (State K V S)
@@ -407,12 +417,13 @@ module _ {K V S : Type 0} (same : K → K → Bool) (hash : S → K → ℕ) (ba
   play_act (BeginsRow i request) s = option_map (row_begun batch_size i s) (slot_call_of request)
   play_act (StepsRow i g) s = then_on (s.now.rows i) (step_row i g s)
 
-  -- and what a caller does that reclaims all
+  -- what a caller does that reclaims all, and choices
   abbrev pub play : Doing K V S → State K V S → Option (State K V S)
   play (Does act) s = play_act act s
   play (BeginsReclaiming i) s = Some (all_begun (reclaiming_all batch_size roots) s)
   play (BeginsClearing i) s = Some (all_begun (clearing roots) s)
   play (StepsReclaiming g) s = then_on s.now.all (step_all g s)
+  play (Chooses choice) s = Some (choice_come choice s)
 
   -- a list, the newest last
   abbrev pub play_all : List (Doing K V S) → State K V S → Option (State K V S)

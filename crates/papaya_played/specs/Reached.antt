@@ -67,7 +67,7 @@ module _ {K V S : Type 0} where
   AreOnOwn (doing ∷ doings) = IsOnOwn doing × AreOnOwn doings
 
 -- The promise: wherever a list of acts has led, there it comes as it is played, whatever the values are with which closures abort, and the same was told.
-abbrev pub ListsArePlayed : {K S : Type 0} (V : Type 0) (same : K → K → Bool) (hash : S → K → ℕ) (batch_size roots : ℕ) (aborts : V) → Type 0
+abbrev pub ListsArePlayed : {K S : Type 0} (V : Type 0) (same : K → K → Bool) (hash : S → K → ℕ) (batch_size roots : ℕ) (aborts : ℕ → V) → Type 0
 ListsArePlayed {K} {S} V same hash batch_size roots aborts =
     (course : Course V same hash batch_size roots slot_of) (doings : List (Doing K V S)) (x : Reached V same hash batch_size roots slot_of)
     → LedTo V same hash batch_size roots slot_of course doings x → AreOnOwn doings

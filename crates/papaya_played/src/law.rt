@@ -6,5 +6,5 @@ ghost use Rattle.papaya_played.specs.Reached.{ListsArePlayed};
 /// history that it is, and what its caller is told. Wherever a list has led, there it comes as it is played, and the same was told: so what a list of acts was is
 /// said by the list alone.
 pub fn lists_are_played<K, V, S>()
-    ensures played { (same : K → K → Bool) (hash : S → K → ℕ) (batch_size roots : ℕ) (aborts : V) → ListsArePlayed V same hash batch_size roots aborts }
+    ensures played { (same : K → K → Bool) (hash : S → K → ℕ) (batch_size roots : ℕ) (aborts : ℕ → V) → ListsArePlayed V same hash batch_size roots aborts }
 {}

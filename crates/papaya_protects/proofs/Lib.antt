@@ -9,4 +9,4 @@ pub mod Quiet
 pub mod Acts
 mod Played
 mod Stays
-mod Protected
+pub mod Protected

@@ -1,5 +1,5 @@
 -- Each act that is played leaves it so: nothing is reclaimed that is sheltered, and what is is sheltered still.
-use Rattle.std.specs.Prelude.{Bool, true, false, Some, is_ok, if◌then◌else◌}
+use Rattle.std.specs.Prelude.{Bool, true, false, Some, is_ok, length, if◌then◌else◌}
 use Rattle.std.proofs.Common.{◌≡◌, ℕ, [], ◌∷◌, refl, ap, sym, subst, ◌∙◌}
 use Rattle.seize_acts.specs.Acts.{row_steps}
 use Rattle.seize_acts.specs.Answers.{Grant}
@@ -45,7 +45,7 @@ use Rattle.papaya_agrees.proofs.Rows.{rows_by}
 use Rattle.papaya_promises.proofs.Lists.{all_found, all_of}
 use Rattle.papaya_linear.proofs.Holding.{AllHolds}
 use Rattle.papaya_linear.proofs.MakesRight.{was_new}
-use Rattle.papaya_linear.proofs.Tied.{MakingTied, call_tied, ending_tied, making_tied}
+use Rattle.papaya_played.proofs.Tied.{MakingTied, call_tied, ending_tied, making_tied}
 use Rattle.papaya_protects.specs.Shelters.{IsOpen}
 use Rattle.papaya_protects.proofs.Acts.{Protected, begun_keeps, none_more, one_more}
 use Rattle.papaya_protects.proofs.After.{IsCalm, all_on, protected_so}
@@ -70,7 +70,7 @@ module _ {K V : Type 0} (same : K → K → Bool) (hash : ℕ → K → ℕ) (s 
   ended_world f ending w2 deed (settled.Gave value) comes is = ap (λ (v : Scene K V). v.world) is
   ended_world f ending w2 deed settled.Done comes is = ap (λ (v : Scene K V). v.world) is
 
-module _ {K V S : Type 0} (same : K → K → Bool) (by_hasher : S → K → ℕ) (hash : ℕ → K → ℕ) (batch_size roots : ℕ) (aborts : V) (x y : State K V S) (s n : Scene K V)
+module _ {K V S : Type 0} (same : K → K → Bool) (by_hasher : S → K → ℕ) (hash : ℕ → K → ℕ) (batch_size roots : ℕ) (aborts : ℕ → V) (x y : State K V S) (s n : Scene K V)
     (is : IsOf by_hasher s s.world.row x.now) (at : IsAt same hash (held_in batch_size roots NoChange s) s) (all : AllHolds same x s) (guards : GuardsAgree x s.world.uses) (so : Protected x s) (told : Answer K V) where
   abbrev old : Held K V
   old = held_in batch_size roots NoChange s
@@ -208,7 +208,7 @@ module _ {K V S : Type 0} (same : K → K → Bool) (by_hasher : S → K → ℕ
       (ap (λ (v : Scene K V). v.world) n_is) refl (record { there = λ there. refl; sheltered = λ xs. refl }) refl
   acts_protect (StepsCall i map g) played may led leads = steps_protect i map g played led leads
   acts_protect (TellsCall i map reply) (c, has, y_is) may (standing, stands, u, next, here, machine_is, told_is, kind, n_is) leads =
-      quiet_by (is_ok (machine_replied c.machine reply).1) (record { deed = Replies i (reply_for aborts reply); outcome = outcome.Goes; effects = []; refused = false }) (ap (λ (z : State K V S). z.history) y_is)
+      quiet_by (is_ok (machine_replied c.machine reply).1) (record { deed = Replies i (reply_for (aborts (length x.told)) reply); outcome = outcome.Goes; effects = []; refused = false }) (ap (λ (z : State K V S). z.history) y_is)
       (ap (λ (z : State K V S). z.known) y_is) (ap (λ (v : Scene K V). v.world) n_is) refl (record { there = λ there. refl; sheltered = λ xs. refl }) refl
   acts_protect (AsksCall i map) (c, has, y_is) may (u, here, told_is, n_is) leads =
       none_more x y s n so (ap (λ (z : State K V S). z.history) y_is) (ap (λ (z : State K V S). z.known) y_is) (λ t. keeps_same t s.world n.world (ap (λ (v : Scene K V). v.world.log) n_is))

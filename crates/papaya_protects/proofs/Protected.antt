@@ -4,7 +4,7 @@ use Rattle.std.proofs.Common.{ℕ, refl}
 use Rattle.papaya_scenes.specs.Scene.{slot_of}
 use Rattle.papaya_acts.specs.Lists.{nothing_done}
 use Rattle.papaya_agrees.proofs.Guards.{guards_at_first}
-use Rattle.papaya_agrees.proofs.Numbers.{numbers_first}
+use Rattle.papaya_agrees.proofs.GivenBack.{again_first}
 use Rattle.papaya_linear.proofs.Linear.{wherever_led}
 use Rattle.papaya_linear.proofs.Stays.{first_holds}
 use Rattle.papaya_protects.specs.Protected.{ListsAreProtected}
@@ -12,10 +12,10 @@ use Rattle.papaya_protects.proofs.Stays.{All, all_protect}
 
 module _ {K S : Type 0} (V : Type 0) (same : K → K → Bool) (by_hasher : S → K → ℕ) (hash : ℕ → K → ℕ) (batch_size roots : ℕ) where
   pub lists_are_protected : ListsAreProtected {K = K} {S = S} V same by_hasher hash batch_size roots
-  lists_are_protected small aborts course doings y led own once =
+  lists_are_protected small aborts course doings y led own new =
       let first = nothing_done V same by_hasher batch_size roots slot_of course in
-      let to = wherever_led V same by_hasher hash batch_size roots small aborts (All V same by_hasher hash batch_size roots aborts) (all_protect V same by_hasher hash batch_size roots aborts) course doings y led own once (
-        first_holds V same by_hasher hash batch_size roots aborts first.0 refl (numbers_first roots),
+      let to = wherever_led V same by_hasher hash batch_size roots small aborts (All V same by_hasher hash batch_size roots aborts) (all_protect V same by_hasher hash batch_size roots aborts) course doings y led own new (
+        first_holds V same by_hasher hash batch_size roots aborts first.0 refl (again_first roots),
         (guards_at_first V same by_hasher hash batch_size roots aborts, (record { guards = λ own g found. absurd (cc found); held = tt }, tt)),
       ) in
       (to.0, to.1, to.2.1.1.1)

@@ -16,13 +16,14 @@ use Rattle.papaya_histories.specs.Given.Effects.Known.{Known}
 use Rattle.papaya_histories.specs.Given.Effects.declared.acting.Acting.TheVariants as acting
 use Rattle.papaya_promises.specs.Sheltered.{AreShelteredOn, GuardsAreOn}
 use Rattle.papaya_scenes.specs.Held.{IsAt}
-use Rattle.papaya_scenes.specs.Scene.{slot_of}
+use Rattle.papaya_scenes.specs.Scene.{Scene, slot_of}
 use Rattle.papaya_acts.specs.Acts.{Act, Answer}
 use Rattle.papaya_acts.specs.AsSteps.{LeadsAs, changed_by, changed_of}
+use Rattle.papaya_acts.specs.Doings.{scene_chosen}
 use Rattle.papaya_acts.specs.Leads.{Led, MayBe}
 use Rattle.papaya_deeds.specs.Deeds.{Entry, ReclaimsAll, moment}
 use Rattle.papaya_deeds.specs.History.{IsProtected}
-use Rattle.papaya_played.specs.Play.{State, is_over, is_refusal, play_act, settled_outcome}
+use Rattle.papaya_played.specs.Play.{State, choice_come, is_over, is_refusal, play_act, settled_outcome}
 use Rattle.papaya_played.specs.Reached.{IsOf, rows_beside}
 use Rattle.papaya_played.proofs.Along.{At, Is, StaysSo, far, held}
 use Rattle.papaya_played.proofs.Noted.{Anything}
@@ -42,7 +43,7 @@ nobody_shelters m known w none nothing = record {
   held = subst (AreShelteredOn (IsOpen w) m.there w known) (sym nothing) tt;
 }
 
-module _ {K S : Type 0} (V : Type 0) (same : K → K → Bool) (by_hasher : S → K → ℕ) (hash : ℕ → K → ℕ) (batch_size roots : ℕ) (aborts : V) where
+module _ {K S : Type 0} (V : Type 0) (same : K → K → Bool) (by_hasher : S → K → ℕ) (hash : ℕ → K → ℕ) (batch_size roots : ℕ) (aborts : ℕ → V) where
   abbrev Stage : Type 0
   Stage = At V same by_hasher hash batch_size roots
 
@@ -79,6 +80,13 @@ module _ {K S : Type 0} (V : Type 0) (same : K → K → Bool) (by_hasher : S �
         subst (AtEachEvent IsProtected) (sym history) (protected_so e x.history tt, each),
       )
 
+  -- a choice comes: sections are those that they were
+  choice_shelters : (p n : Stage) (x : State K V S) (choice : ℕ) → who p ≡ None → n.0 ≡ scene_chosen choice p.0 → All p x → Shelters n (choice_come choice x)
+  choice_shelters p n x choice none scene (all, (guards, (shelter, each))) =
+      let was = subst (λ (o : Option (ℕ × ReclaimAll)). UnlessReclaimed o (SectionsShelter (moment x.history) x.known p.0.world)) none shelter in
+      let so : SectionsShelter (moment x.history) x.known (scene_chosen choice p.0).world = record { guards = was.guards; held = was.held } in
+      (unless (SectionsShelter (moment x.history) x.known n.0.world) (who n) (λ nobody_does. subst (λ (s : Scene K V). SectionsShelter (moment x.history) x.known s.world) (sym scene) so), each)
+
   pub all_protect : StaysSo V same by_hasher hash batch_size roots aborts HasNewNumber All
   all_protect = record {
     acts = λ p n x y act told own fits none none_then is is_then at may led leads at_then played here. (
@@ -98,6 +106,10 @@ module _ {K S : Type 0} (V : Type 0) (same : K → K → Bool) (by_hasher : S �
         guards.steps p n x y told g st is is_then at leads scene played here.1.0,
         reclaiming_shelters p n x y g is_then (reclaimed_as same by_hasher batch_size roots aborts x y g played) here,
       ),
+    );
+    chooses = λ p n x choice none none_then scene is is_then at here. (
+      linear.chooses p n x choice none none_then scene is is_then at here.0,
+      (guards.chooses p n x choice none none_then scene is is_then at here.1.0, choice_shelters p n x choice none scene here),
     );
   }
     where

@@ -5,17 +5,18 @@ use Rattle.papaya_histories.specs.Given.Schedules.After.{AtEachEvent}
 use Rattle.papaya_scenes.specs.Scene.{slot_of}
 use Rattle.papaya_acts.specs.Doings.{Doing}
 use Rattle.papaya_acts.specs.Lists.{Course, LedTo, Reached}
-use Rattle.papaya_agrees.specs.Fresh.{MakesOnce}
+use Rattle.papaya_agrees.specs.Fresh.{MakesNew}
 use Rattle.papaya_deeds.specs.History.{IsProtected}
 use Rattle.papaya_linear.specs.Linear.{IsOfOwn}
 use Rattle.papaya_played.specs.Play.{State, first_state, play_all}
 
 -- Keys have a hash by each hasher, and each map has one by its number.
 module _ {K S : Type 0} (V : Type 0) (same : K → K → Bool) (by_hasher : S → K → ℕ) (hash : ℕ → K → ℕ) (batch_size roots : ℕ) where
-  -- The promise: wherever a list of acts has led, in which no number is given to two maps, each entry of the history that it comes to as it is played is
-  -- protected, whatever the values are with which closures abort.
+  -- The promise: wherever a list of acts has led that makes each map with a new number, each entry of the history that it comes to as it is played is protected,
+  -- whatever the values are with which closures abort.
   abbrev pub ListsAreProtected : Type 0
   ListsAreProtected =
-      batch_size < 2 ^ 64 → (aborts : V) (course : Course V same by_hasher batch_size roots slot_of) (doings : List (Doing K V S)) (y : Reached V same by_hasher batch_size roots slot_of)
-      → LedTo V same by_hasher batch_size roots slot_of course doings y → AllByRecursion (IsOfOwn V same by_hasher hash batch_size roots) doings → MakesOnce doings
+      batch_size < 2 ^ 64 → (aborts : ℕ → V) (course : Course V same by_hasher batch_size roots slot_of) (doings : List (Doing K V S)) (y : Reached V same by_hasher batch_size roots slot_of)
+      → LedTo V same by_hasher batch_size roots slot_of course doings y → AllByRecursion (IsOfOwn V same by_hasher hash batch_size roots) doings
+      → MakesNew same by_hasher batch_size roots aborts doings (first_state roots)
       → (after : State K V S) × (play_all same by_hasher batch_size roots aborts doings (first_state roots) ≡ Some after) × AtEachEvent IsProtected after.history

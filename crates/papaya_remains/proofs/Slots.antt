@@ -37,7 +37,7 @@ use Rattle.papaya_remains.specs.Slots.{CallsNoteSlots, EndingsNoteSlots, Makings
 use Rattle.papaya_lives.proofs.Given.Scenes.May.{may_end, may_make, may_row, may_step}
 
 -- no bucket came
-abbrev IsNoRoom : Changed → Type 0
+abbrev pub IsNoRoom : Changed → Type 0
 IsNoRoom (changed.Roomed bucket had) = had ≡ false
 IsNoRoom _ = Unit {0}
 
@@ -67,7 +67,7 @@ written_buckets acting (Root r) old new known =
 written_buckets acting (Word b field) old new known = block_buckets acting (known.roles b) field (names_same old new) (block_in new) (named known new) known
 written_buckets acting _ old new known = refl
 
-buckets_stay : (acting : Acting) (c : Changed) (known : Known) → IsNoRoom c → (known_after acting c known).buckets ≡ known.buckets
+pub buckets_stay : (acting : Acting) (c : Changed) (known : Known) → IsNoRoom c → (known_after acting c known).buckets ≡ known.buckets
 buckets_stay acting (changed.Wrote at old new) known none = written_buckets acting at old new known
 buckets_stay acting (changed.Roomed bucket true) known none = absurd (cc none)
 buckets_stay acting _ known none = refl
@@ -107,7 +107,7 @@ module _ {T : Type 0} where
   written m (Word b field) w can = (λ some. some, λ none. none, refl)
 
   -- an operation that makes no room
-  abbrev IsOther : Op T → Out T → Type 0
+  abbrev pub IsOther : Op T → Out T → Type 0
   IsOther (Room bucket) (Roomed (Ok made)) = ⊥
   IsOther _ _ = Unit {0}
 
@@ -129,10 +129,10 @@ module _ {T : Type 0} where
   other_keeps m (Room bucket) _ can other = (λ some. some, λ none. none, refl)
 
   -- it makes room, or it does not
-  abbrev MakesRoom : Op T → Out T → Type 0
+  abbrev pub MakesRoom : Op T → Out T → Type 0
   MakesRoom op out = (bucket : ℕ) × (op ≡ Room bucket) × (out ≡ Roomed (Ok tt))
 
-  either_way : (op : Op T) (out : Out T) → IsOther op out ⊎ MakesRoom op out
+  pub either_way : (op : Op T) (out : Out T) → IsOther op out ⊎ MakesRoom op out
   either_way (Room bucket) (Roomed (Ok made)) = inr (bucket, refl, refl)
   either_way _ _ = inl tt
 
@@ -195,7 +195,7 @@ module _ (bucket : ℕ) (known : Known) where
   }
 
 module _ {K V : Type 0} where
-  no_room_told : (m : Mem (Node K V)) (op : Op (Node K V)) (out : Out (Node K V)) → IsOther op out → IsNoRoom (told_of op out (seen_of m op out))
+  pub no_room_told : (m : Mem (Node K V)) (op : Op (Node K V)) (out : Out (Node K V)) → IsOther op out → IsNoRoom (told_of op out (seen_of m op out))
   no_room_told m (Load at) out other = tt
   no_room_told m (Store at w) out other = tt
   no_room_told m (Swap at w) (Found before) other = tt

@@ -11,10 +11,11 @@ use Rattle.papaya_logged.specs.Given.Scenes.declared.row.SlotUse.{SlotUse}
 use Rattle.papaya_logged.specs.Given.Scenes.declared.callers.TheConstants.{SLOTS}
 use Rattle.papaya_logged.specs.Given.Executor.declared.worker.Work.TheVariants.{OnSlot}
 use Rattle.papaya_logged.specs.Ended.{has_ended, uses_ended}
-use Rattle.papaya_logged.specs.Goes.{GoesTo, RowGoes, far}
+use Rattle.papaya_logged.specs.Goes.{RowGoes, RowGone, far}
 use Rattle.papaya_logged.specs.OnSlots.{EndsTelling, OnSlotBegins, OnSlotComes, OnSlotLast, OnSlotRan}
 use Rattle.papaya_logged.specs.Shown.{IsShown}
 use Rattle.papaya_logged.specs.declared.logged.Logged.{Logged}
+use Rattle.papaya_logged.proofs.Goes.{goes_more}
 use Rattle.papaya_rows.specs.Rows.{RowRan}
 use Rattle.papaya_logged.specs.Given.Executor.IsThere.{IsThere, KeepsGiven, work_of}
 use Rattle.papaya_logged.specs.Given.Executor.OnSlots.{MayBegin, RowBeginsThere}
@@ -44,18 +45,22 @@ module _ {K V S : Type 0} (slot : ℕ) (called : SlotCall) (caller : ℕ) (old b
     begun_there = (same, hash, record s { world = (leads may_there).3.2.0; maps = (leads may_there).3.2.2 }, (leads may_there).3.2.4, begun_row slot old.executor.batch_size called, row_is)
 
     -- and has run
-    pub has_run : (said : RowTold (Node K V)) (before after : List Effect) → began.notes ≡ old.notes → KeepsGiven old.executor began.executor
-        → GoesTo (RowGoes caller) (far before began) (far after new) → OnSlotComes caller said new → OnSlotLast caller said began.executor new.executor
+    pub has_run : (said : RowTold (Node K V)) (before after : List Effect)
+        → ((same2 : K → K → Bool) (hash2 : K → ℕ) (s2 : Scene K V) → IsThere same2 hash2 old.executor s2 → RowBeginsThere same2 hash2 called caller s2 old.executor began.executor)
+        → began.notes ≡ old.notes → KeepsGiven old.executor began.executor
+        → RowGone caller said before after began new → OnSlotComes caller said new → OnSlotLast caller said began.executor new.executor
         → ((row : SlotRow) → work_of began.executor caller ≡ Some (OnSlot row) → has_ended said ≡ true → new.executor.slots.items ≡ uses_ended row said began.executor.slots.items)
         → OnSlotRan before after began new → EndsTelling after new.executor → RowRan slot called said before after old new
-    has_run said before after noted given goes comes last used ran tells = record {
+    has_run said before after begun noted given gone comes last used ran tells = record {
       caller = caller;
       in_slot = in_slot;
       began = began;
       begins = begins;
+      begun = begun;
       noted = noted;
       given = given;
-      goes = goes;
+      goes = goes_more (RowGoes caller) (far before began) gone.0 (far after new) gone.1 gone.2;
+      gone = gone;
       last = last;
       come = comes.0;
       used = λ ended. used (begun_row slot old.executor.batch_size called) row_is ended

@@ -13,12 +13,12 @@ use Rattle.papaya_logged.specs.Given.Scenes.declared.row.SlotUse.{SlotUse}
 use Rattle.papaya_logged.specs.Given.Scenes.declared.row.SlotUse.TheVariants as used
 use Rattle.papaya_logged.specs.Given.Finishes.Maps.{Standing}
 use Rattle.papaya_logged.specs.Ended.{has_ended, uses_ended}
-use Rattle.papaya_logged.specs.Goes.{GoesTo, RowGoes, far}
+use Rattle.papaya_logged.specs.Goes.{GoesTo, RowGoes, RowGone, far}
 use Rattle.papaya_logged.specs.OnSlots.{EndsTelling, OnSlotBegins, OnSlotLast, has_come}
 use Rattle.papaya_logged.specs.Shown.{IsShown}
 use Rattle.papaya_logged.specs.declared.logged.Logged.{Logged}
-use Rattle.papaya_logged.specs.Given.Executor.IsThere.{KeepsGiven}
-use Rattle.papaya_logged.specs.Given.Executor.OnSlots.{MayBegin}
+use Rattle.papaya_logged.specs.Given.Executor.IsThere.{IsThere, KeepsGiven}
+use Rattle.papaya_logged.specs.Given.Executor.OnSlots.{MayBegin, RowBeginsThere}
 use Rattle.papaya_logged.specs.Given.Scenes.Rows.{begun_row, uses_begun}
 use Rattle.papaya_logged.specs.Given.Scenes.Scene.{Scene, slot_of}
 
@@ -29,9 +29,11 @@ pub record RowRan {K V S : Type 0} (slot : ℕ) (called : SlotCall) (said : RowT
   pub in_slot : slot_of caller ≡ slot
   pub began : Logged K V S
   pub begins : (same : K → K → Bool) (hash : K → ℕ) (name : ℕ → List ℕ) (m : Moment K V) (s : Scene K V) → IsShown same hash name m old s → OnSlotBegins same hash name m s called caller old began
+  pub begun : (same : K → K → Bool) (hash : K → ℕ) (s : Scene K V) → IsThere same hash old.executor s → RowBeginsThere same hash called caller s old.executor began.executor
   pub noted : began.notes ≡ old.notes
   pub given : KeepsGiven old.executor began.executor
   pub goes : GoesTo (RowGoes caller) (far before began) (far after new)
+  pub gone : RowGone caller said before after began new
   pub last : OnSlotLast caller said began.executor new.executor
   pub come : has_come said ≡ true
   pub used : has_ended said ≡ true → new.executor.slots.items ≡ uses_ended (begun_row slot old.executor.batch_size called) said (uses_begun slot called old.executor.slots.items)

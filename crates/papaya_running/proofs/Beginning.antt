@@ -36,6 +36,9 @@ use Rattle.papaya_named.specs.Seen.{seen, seen_of}
 use Rattle.papaya_named.specs.declared.caller.Caller.{Caller}
 use Rattle.papaya_events.specs.Asked.{Holds}
 use Rattle.papaya_events.specs.OfCalls.{HaveShards, HaveValues, Runs}
+use Rattle.papaya_pieced.specs.SoFar.{ActsSoFar}
+use Rattle.papaya_pieced.proofs.First.{none_yet, one_choice_yet}
+use Rattle.papaya_pieced.proofs.Last.{any_course}
 use Rattle.papaya_running.specs.Run.{bounded}
 use Rattle.papaya_events.proofs.OfCalls.Scenes.{its_named, stands_in}
 use Rattle.papaya_events.specs.Given.Scenes.Scene.{at_first}
@@ -51,6 +54,7 @@ pub record Begins {K V S : Type 0} (setup : Setup) (p : Scheduler K V S) : Type 
   pub played : (same : K → K → Bool) (hash : K → ℕ) → IsPlayed same hash (terms_given setup) [] p
   pub begun : HasJustBegun setup p
   pub first : (same : K → K → Bool) (hash : K → ℕ) → BeginsIn same hash setup p
+  pub acts : (same : K → K → Bool) (by_hasher : S → K → ℕ) → ((hasher : S) → AreLawful same (by_hasher hasher)) → ActsSoFar same by_hasher (terms_given setup) [] p.logged p.calls
 
 -- So it is as a scheduler was made,
 pub begins_first : {K V S : Type 0} (setup : Setup) (p : Scheduler K V S) → ((same : K → K → Bool) (hash : K → ℕ) → IsPlayed same hash (terms_given setup) [] p) → HasJustBegun setup p
@@ -63,7 +67,14 @@ begins_first {K} {V} setup p played begun shown = record {
     shown = shown same hash;
     came = turns_begin deferred_word setup.batch_size setup.roots;
   };
+  acts = λ same by_hasher lawful.
+      none_yet same by_hasher (terms_given setup) p.logged (shown same (by_hasher p.logged.executor.hasher) (played same (by_hasher p.logged.executor.hasher)).name).is_at begun.batches begun.many begun.known_is p.calls
+      (no_calls p.calls (played same (by_hasher p.logged.executor.hasher)).calls.listed);
 }
+  where
+    no_calls : (calls : List (Caller V)) → map seen (start {K = K} {V = V}).calls ≡ map seen_of calls → calls ≡ []
+    no_calls [] alike = refl
+    no_calls (d ∷ calls) alike = absurd (cc alike)
 
 -- and after a choice of a block's number, too.
 pub still_begins : {K V S : Type 0} (setup : Setup) (p : Scheduler K V S) → Begins setup p → (choice : ℕ) (logged : Logged K V S) → logged ≡ logged_chosen choice p.logged
@@ -81,6 +92,7 @@ still_begins {K} {V} {S} setup p begins choice logged is =
             came =
                 events_follow deferred_word setup.batch_size setup.roots f.world (record f.world { memory = memory_chosen choice f.world.memory }) [] f.came (Chooses choice) tt refl;
           };
+      acts = λ same by_hasher lawful. one_choice_yet same by_hasher (terms_given setup) p.logged (any_course V same by_hasher lawful) choice p.calls (begins.acts same by_hasher lawful);
     })
 
 module _ {K V S : Type 0} (same : K → K → Bool) (hash : K → ℕ) (setup : Setup) (p : Scheduler K V S) (begins : Begins setup p) where

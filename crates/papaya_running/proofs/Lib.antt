@@ -15,3 +15,4 @@ mod Held
 mod OfKinds
 pub mod Joined
 mod Classes
+mod GoingOn

@@ -80,7 +80,7 @@ module _ {K V S : Type 0} (same : K → K → Bool) (hash : K → ℕ) (terms : 
     module _ (rec2 : Record V) (outcomes : rec2.outcomes.items ≡ rec.outcomes.items ++ played.outcome ∷ []) (steps : rec2.steps.items ≡ rec.steps.items ++ played.steps ∷ [])
         (effects : rec2.effects.items ≡ rec.effects.items ++ played.effects ∷ [])
         (trace : rec2.trace.items ≡ rec.trace.items ++ (if is_busy played.outcome then single.Whole (length rec.outcomes.items) ∷ [] else singles_as (length rec.outcomes.items) (traced event) played.steps)) where
-      more : log_so (events ++ event ∷ []) rec2 ≡ e ∷ log
+      pub more : log_so (events ++ event ∷ []) rec2 ≡ e ∷ log
       more =
           (λ i. log_on [] (events ++ event ∷ []) (outcomes i) (steps i) (map (λ v. v.items) (effects i)))
           ∙ ap (λ (l : List (List Effect)). log_on [] (events ++ event ∷ []) (rec.outcomes.items ++ played.outcome ∷ []) (rec.steps.items ++ played.steps ∷ []) l) (map-append (λ v. v.items) rec.effects.items (played.effects ∷ []))
@@ -122,6 +122,9 @@ module _ {K V S : Type 0} (same : K → K → Bool) (hash : K → ℕ) (terms : 
           subst (AreBack (moment (e ∷ log))) (sym c.follow) (back_then e (moment log) b0 c.more (before right.1) c.reclaimed c.contents)))
 
 -- before all events
+pub none_so : {K V : Type 0} (rec : Record V) → rec.outcomes.items ≡ [] → rec.steps.items ≡ [] → rec.effects.items ≡ [] → log_so {K = K} {V = V} [] rec ≡ []
+none_so rec outcomes steps effects = λ i. log_on [] [] (outcomes i) (steps i) (map (λ v. v.items) (effects i))
+
 pub start_so : {K V S : Type 0} (same : K → K → Bool) (hash : K → ℕ) (terms : Terms) (rec : Record V) (tally : Tally) (p : Scheduler K V S) → rec.outcomes.items ≡ [] → rec.steps.items ≡ [] → rec.effects.items ≡ []
     → rec.trace.items ≡ [] → tally.pairs.items ≡ [] → tally.behind.items ≡ [] → tally.tables.items ≡ []
     → Holds same hash terms (start {K = K} {V = V}) p → Runs same hash terms [] p → SoFar same hash terms [] rec tally p
@@ -144,11 +147,11 @@ start_so {K} {V} same hash terms rec tally p outcomes steps effects trace pairs 
 }
   where
     none : log_so {K = K} {V = V} [] rec ≡ []
-    none = λ i. log_on [] [] (outcomes i) (steps i) (map (λ v. v.items) (effects i))
+    none = none_so rec outcomes steps effects
 
 pub back_first : {K V : Type 0} (rec : Record V) (b : List (Pair K V)) → rec.outcomes.items ≡ [] → rec.steps.items ≡ [] → rec.effects.items ≡ [] → b ≡ [] → BackSoFar (log_so [] rec) b
 back_first {K} {V} rec b outcomes steps effects none =
-    subst (λ (l : List (Entry K V)). BackSoFar l b) (sym (λ i. log_on [] [] (outcomes i) (steps i) (map (λ v. v.items) (effects i))))
+    subst (λ (l : List (Entry K V)). BackSoFar l b) (sym (none_so rec outcomes steps effects))
     (λ right. subst (AreBack (start {K = K} {V = V})) (sym none) (record { told = refl; contents = tt }))
 
 -- What is told of maps.

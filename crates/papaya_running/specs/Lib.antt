@@ -4,3 +4,4 @@ pub mod Back
 pub mod Ending
 pub mod Acting
 pub mod Run
+pub mod GoingOn

@@ -22,6 +22,8 @@ use Rattle.papaya_scheduler.specs.declared.scheduler.Scheduler.{Scheduler}
 use Rattle.papaya_events.specs.Asked.{Holds}
 use Rattle.papaya_running.specs.Back.{BackSoFar, TellsBack}
 use Rattle.papaya_events.specs.OfCalls.{Runs}
+use Rattle.papaya_events.specs.Given.Points.Steps.{AreLawful}
+use Rattle.papaya_pieced.specs.SoFar.{ActsSoFar}
 use Rattle.papaya_events.specs.Given.Folded.Folded.{HandsAllOver, HandsInOrder}
 use Rattle.papaya_tally.specs.Tally.{TellsMoment}
 use Rattle.papaya_running.specs.declared.record.Record.{Record}
@@ -84,10 +86,12 @@ module _ {K V S : Type 0} (same : K → K → Bool) (hash : K → ℕ) where
     pub runs : Runs same hash terms (log_so events rec) p
 
 module _ {K V S : Type 0} (same : K → K → Bool) (hashes : S → K → ℕ) where
-  -- By these events a run has come so far, and what they reclaimed has come back.
+  -- By these events a run has come so far, what they reclaimed has come back, and a list of acts has led there, of which the log is the grouping; each hasher gives keys lawful hashes.
   pub record HasCome (terms : Terms) (events : List (Event K V)) (r : Running K V S) : Type 0 where
     pub so_far : SoFar same (hashes r.scheduler.logged.executor.hasher) terms events r.written r.tally r.scheduler
     pub back : BackSoFar (log_so events r.written) r.back.items
+    pub lawful : (hasher : S) → AreLawful same (hashes hasher)
+    pub acts : ActsSoFar same hashes terms (log_so events r.written) r.scheduler.logged r.scheduler.calls
 
   -- A run tells how many blocks are there at its end: those that hold a value in the memory of one that has come by these events, with just these outcomes, steps and effects.
   pub record HoldsBlocks (terms : Terms) (events : List (Event K V)) (run : Run K V) : Type 0 where

@@ -2,6 +2,7 @@
 ghost use Rattle.std.specs.Prelude.{◌≡◌, length, IfOk};
 ghost use Rattle.papaya_events.specs.Asked.{HappensAt, HappensDue, HoldsThen, MayHappen, MayHappenDue, numbers_on};
 ghost use Rattle.papaya_running.specs.Back.{GivesAt, GivesDue};
+ghost use Rattle.papaya_running.specs.GoingOn.{GoesOnAt, GoesOnDue};
 ghost use Rattle.papaya_running.specs.Kinds.{event_of_call, event_of_maps, event_of_slots};
 ghost use Rattle.papaya_events.specs.OfAll.{KeepsAll};
 ghost use Rattle.papaya_events.specs.OfCalls.{KeepsAt, KeepsDue};
@@ -37,6 +38,7 @@ fn of_maps<K: Eq + Hash + Drop, V: Drop, S: Hashes<K>>(
     ensures rows { IfOk result (λ played. KeepsRun K.eq (S.hash scheduler.old.logged.executor.hasher) (event_of_maps event) played scheduler.old scheduler.new) }
     ensures setups { IfOk result (λ played. KeepsSetup K.eq (S.hash scheduler.old.logged.executor.hasher) (event_of_maps event) played scheduler.old scheduler.new) }
     ensures all { IfOk result (λ played. KeepsAll K.eq (S.hash scheduler.old.logged.executor.hasher) (event_of_maps event) played scheduler.old scheduler.new) }
+    ensures acts { IfOk result (λ played. GoesOnDue K.eq S.hash (event_of_maps event) played scheduler.old scheduler.new) }
     ensures given { StaysGiven scheduler.old.logged.executor scheduler.new.logged.executor }
 {
     match event {
@@ -60,6 +62,7 @@ fn of_slots<K: Eq + Hash + Drop, V: Drop, S: Hashes<K>>(
     ensures back { IfOk result (λ played. GivesDue K.eq (S.hash scheduler.old.logged.executor.hasher) (event_of_slots event) played scheduler.old back.old.items back.new.items) }
     ensures rows { IfOk result (λ played. KeepsRun K.eq (S.hash scheduler.old.logged.executor.hasher) (event_of_slots event) played scheduler.old scheduler.new) }
     ensures setups { IfOk result (λ played. KeepsSetup K.eq (S.hash scheduler.old.logged.executor.hasher) (event_of_slots event) played scheduler.old scheduler.new) }
+    ensures acts { IfOk result (λ played. GoesOnDue K.eq S.hash (event_of_slots event) played scheduler.old scheduler.new) }
     ensures given { KeepsGiven scheduler.old.logged.executor scheduler.new.logged.executor }
 {
     match event {
@@ -86,6 +89,7 @@ fn of_calls<K: Eq + Hash + Drop, V: Drop, S: Hashes<K>>(
     requires { MayHappenDue K.eq (S.hash scheduler.old.logged.executor.hasher) (event_of_call event) scheduler.old }
     ensures happens { IfOk result (λ played. HappensDue K.eq (S.hash scheduler.old.logged.executor.hasher) is_first (event_of_call event) played scheduler.old scheduler.new) }
     ensures keeps { IfOk result (λ played. KeepsDue K.eq (S.hash scheduler.old.logged.executor.hasher) (event_of_call event) played scheduler.old scheduler.new) }
+    ensures acts { IfOk result (λ played. GoesOnDue K.eq S.hash (event_of_call event) played scheduler.old scheduler.new) }
     ensures given { KeepsGiven scheduler.old.logged.executor scheduler.new.logged.executor }
 {
     match event {
@@ -115,6 +119,7 @@ pub fn happen<K: Eq + Hash + Drop, V: Drop, S: Hashes<K>>(
     ensures setups { IfOk result (λ played. KeepsSetup K.eq (S.hash scheduler.old.logged.executor.hasher) event played scheduler.old scheduler.new) }
     ensures all { IfOk result (λ played. KeepsAll K.eq (S.hash scheduler.old.logged.executor.hasher) event played scheduler.old scheduler.new) }
     ensures keeps { IfOk result (λ played. KeepsAt K.eq (S.hash scheduler.old.logged.executor.hasher) event played scheduler.old scheduler.new) }
+    ensures acts { IfOk result (λ played. GoesOnAt K.eq S.hash event played scheduler.old scheduler.new) }
     ensures given { StaysGiven scheduler.old.logged.executor scheduler.new.logged.executor }
 {
     if scheduler.is_closed {

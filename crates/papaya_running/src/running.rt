@@ -6,6 +6,7 @@ ghost use Rattle.papaya_schedules.specs.Runs.{IsRunOf, log_of};
 ghost use Rattle.papaya_schedules.specs.Terms.{Terms};
 ghost use Rattle.papaya_schedules.specs.declared.event.Event.{Event};
 ghost use Rattle.papaya_scheduler.specs.Played.{terms_given};
+ghost use Rattle.papaya_grouped.specs.ByActs.{IsByActs};
 ghost use Rattle.papaya_running.specs.Run.{HandsOn, HasCome, HoldsBlocks, IsRightRun, bounded};
 
 use crate::acting::{acting_of, traced_as};
@@ -109,6 +110,8 @@ impl<K: Drop, V: Drop, S: Drop> Running<K, V, S> {
             → AtEachEvent HandsOn (log_of events run)) }
         ensures live { IfOk result (λ run. (same : K → K → Bool) (hashes : S → K → ℕ) (terms : Terms) (events : List (Event K V)) → HasCome same hashes terms events self
             → HoldsBlocks same hashes terms events run) }
+        ensures acts { IfOk result (λ run. (same : K → K → Bool) (hashes : S → K → ℕ) (terms : Terms) (events : List (Event K V)) → HasCome same hashes terms events self
+            → IsByActs same hashes self.scheduler.logged.executor.hasher terms (log_of events run)) }
     {
         let Running {
             scheduler,
@@ -151,6 +154,7 @@ pub fn run<K: Eq + Hash + Drop, V: Drop, S: BuildHasher + Drop>(
     ensures whole { IfOk result (λ run. IsRunOf K.eq (terms_given (bounded setup)) schedule.items run) }
     ensures hands { IfOk result (λ run. AtEachEvent HandsOn (log_of schedule.items run)) }
     ensures live { IfOk result (λ run. HoldsBlocks K.eq ⟦<S as Hashes<K>>⟧.hash (terms_given (bounded setup)) schedule.items run) }
+    ensures acts { IfOk result (λ run. (by : S) × IsByActs K.eq ⟦<S as Hashes<K>>⟧.hash by (terms_given (bounded setup)) (log_of schedule.items run)) }
     ensures memory { IfErr result (λ fault. fault ≡ Fault.Memory) }
 {
     run_refusing(alloc, setup, hasher, schedule, choices, &[])
@@ -170,6 +174,7 @@ pub fn run_refusing<K: Eq + Hash + Drop, V: Drop, S: BuildHasher + Drop>(
     ensures whole { IfOk result (λ run. IsRunOf K.eq (terms_given (bounded setup)) schedule.items run) }
     ensures hands { IfOk result (λ run. AtEachEvent HandsOn (log_of schedule.items run)) }
     ensures live { IfOk result (λ run. HoldsBlocks K.eq ⟦<S as Hashes<K>>⟧.hash (terms_given (bounded setup)) schedule.items run) }
+    ensures acts { IfOk result (λ run. (by : S) × IsByActs K.eq ⟦<S as Hashes<K>>⟧.hash by (terms_given (bounded setup)) (log_of schedule.items run)) }
     ensures memory { IfErr result (λ fault. fault ≡ Fault.Memory) }
 {
     let mut running = Running::begin(alloc, setup, hasher, choices)?;

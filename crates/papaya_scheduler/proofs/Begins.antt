@@ -36,7 +36,8 @@ use Rattle.papaya_rows.proofs.Lists.{all_but, all_so, as_some, found_alike, is_f
 use Rattle.papaya_scheduler.proofs.Maps.{setting_of_it, setting_some}
 use Rattle.papaya_rows.proofs.There.{is_inside, living_is, on_its_slot}
 use Rattle.papaya_executor.proofs.Fresh.{caller_in, no_calls_yet, slot_is}
-use Rattle.papaya_executor.specs.IsThere.{use_at, work_of}
+use Rattle.papaya_executor.specs.Beginning.{BeginsThere}
+use Rattle.papaya_executor.specs.IsThere.{IsThere, use_at, work_of}
 use Rattle.papaya_scenes.specs.Replying.{scene_with}
 use Rattle.papaya_scenes.specs.Scene.{Scene, slot_of}
 
@@ -246,8 +247,10 @@ module _ {K V S : Type 0} (same : K → K → Bool) (hash : K → ℕ) (terms : 
           names = stands.names;
         }
 
-        pub begun : (calls2 : List (Caller V)) → calls2 ≡ caller ∷ calls → new.notes ≡ p.logged.notes → BeginsSo same hash terms m own guard name call true p (record p { logged = new; calls = calls2 })
-        begun calls2 items kept = record {
+        pub begun : (calls2 : List (Caller V)) → calls2 ≡ caller ∷ calls → caller.value ≡ None → new.notes ≡ p.logged.notes
+            → ((t : Scene K V) → IsThere same hash p.logged.executor t → BeginsThere same hash number (machine_for (record setting { slot = slot }) hash call) i t p.logged.executor new.executor)
+            → BeginsSo same hash terms m own guard name call true p (record p { logged = new; calls = calls2 })
+        begun calls2 items keeps_none kept begins = record {
           so = sym may_begin;
           none = λ e. absurd (cc e);
           stands = λ e. subst (λ (o : Option ℕ). StandsFor same hash terms (with_call own guard call o m) (record p { logged = new; calls = calls2 })) (sym its.0) (stands_then calls2 items);
@@ -259,9 +262,11 @@ module _ {K V S : Type 0} (same : K → K → Bool) (hash : K → ℕ) (terms : 
             setting = setting;
             found = found;
             leads = leads;
+            begins = begins;
             caller = caller;
             is = is;
             numbered = numbered;
+            keeps_none = keeps_none;
             items = items;
             rest = refl;
             notes = kept;

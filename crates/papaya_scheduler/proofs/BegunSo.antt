@@ -21,6 +21,8 @@ use Rattle.papaya_named.specs.declared.caller.Caller.{Caller}
 use Rattle.papaya_named.specs.declared.caller.Stands.TheVariants as far
 use Rattle.papaya_named.specs.declared.kind.Kind.{Kind}
 use Rattle.papaya_scheduler.specs.declared.scheduler.Scheduler.{Scheduler}
+use Rattle.papaya_executor.specs.Beginning.{BeginsThere}
+use Rattle.papaya_executor.specs.IsThere.{IsThere}
 use Rattle.papaya_scheduler.proofs.Begins.{begun, called_is, lives_is, not_begun}
 use Rattle.papaya_rows.proofs.Lists.{place_some}
 use Rattle.papaya_scheduler.proofs.Maps.{setting_some}
@@ -71,12 +73,15 @@ module _ {K V S : Type 0} (same : K → K → Bool) (hash : K → ℕ) (terms : 
       → setting_named name p.maps p.logged.executor.maps.items ≡ Some (number, setting) → (i : ℕ) → i ≡ length p.logged.executor.workers.items * SLOTS + slot
       → (machine : Machine K V K) → machine ≡ machine_for (record setting { slot = slot }) hash call → (kind : Kind) → kind ≡ kind_of call → (new : Logged K V S)
       → ((names : ℕ → List ℕ) (v : Moment K V) (t : Scene K V) → IsShown same hash names v p.logged t → CallBegins same hash names v t i number machine p.logged new)
+      → ((t : Scene K V) → IsThere same hash p.logged.executor t → BeginsThere same hash number machine i t p.logged.executor new.executor)
       → (calls2 : List (Caller V)) → calls2 ≡ record { name = own; guard = guard; map = number; number = i; kind = kind; stands = far.Goes; value = None } ∷ calls
       → new.notes ≡ p.logged.notes → BeginsSo same hash terms m own guard name call true p (record p { logged = new; calls = calls2 })
-  has_begun free slot lives number setting found i is_i machine is_machine kind is_kind new leads calls2 items kept =
+  has_begun free slot lives number setting found i is_i machine is_machine kind is_kind new leads begins calls2 items kept =
       begun same hash terms m p stands own guard name call free slot lives number setting found new
       (λ names v t shown.
       (subst (λ (n : ℕ). CallBegins same hash names v t n number (machine_for (record setting { slot = slot }) hash call) p.logged new) is_i
       (subst (λ (x : Machine K V K). CallBegins same hash names v t i number x p.logged new) is_machine (leads names v t shown))))
       (record { name = own; guard = guard; map = number; number = i; kind = kind; stands = far.Goes; value = None })
-      (ap {B = Seen} (λ (k : Kind). record { name = own; guard = guard; map = number; kind = k; far = far.Goes }) is_kind) is_i calls2 items kept
+      (ap {B = Seen} (λ (k : Kind). record { name = own; guard = guard; map = number; kind = k; far = far.Goes }) is_kind) is_i calls2 items refl kept
+      (λ t at. subst (λ (n : ℕ). BeginsThere same hash number (machine_for (record setting { slot = slot }) hash call) n t p.logged.executor new.executor) is_i
+      (subst (λ (x : Machine K V K). BeginsThere same hash number x i t p.logged.executor new.executor) is_machine (begins t at)))

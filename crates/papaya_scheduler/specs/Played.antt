@@ -35,6 +35,7 @@ use Rattle.papaya_named.specs.declared.caller.Stands.TheVariants as far
 use Rattle.papaya_scheduler.specs.declared.played.Played.{Played}
 use Rattle.papaya_named.specs.declared.named_map.NamedMap.{NamedMap}
 use Rattle.papaya_scheduler.specs.declared.scheduler.Scheduler.{Scheduler}
+use Rattle.papaya_executor.specs.Beginning.{BeginsThere}
 use Rattle.papaya_executor.specs.IsThere.{IsThere, use_at, work_of}
 use Rattle.papaya_executor.specs.Replying.{RepliesThere, StopsThere}
 use Rattle.papaya_scenes.specs.Scene.{Scene, slot_of}
@@ -134,9 +135,12 @@ module _ {K V S : Type 0} (same : K → K → Bool) (hash : K → ℕ) where
     pub found : setting_named name old.maps old.logged.executor.maps.items ≡ Some (number, setting)
     pub leads : (names : ℕ → List ℕ) (v : Moment K V) (t : Scene K V) → IsShown same hash names v old.logged t
         → CallBegins same hash names v t (length old.logged.executor.workers.items * SLOTS + slot) number (machine_for (record setting { slot = slot }) hash call) old.logged new.logged
+    pub begins : (s : Scene K V) → IsThere same hash old.logged.executor s
+        → BeginsThere same hash number (machine_for (record setting { slot = slot }) hash call) (length old.logged.executor.workers.items * SLOTS + slot) s old.logged.executor new.logged.executor
     pub caller : Caller V
     pub is : seen_of caller ≡ record { name = own; guard = guard; map = number; kind = kind_of call; far = far.Goes }
     pub numbered : caller.number ≡ length old.logged.executor.workers.items * SLOTS + slot
+    pub keeps_none : caller.value ≡ None
     pub items : new.calls ≡ caller ∷ old.calls
     pub rest : new ≡ record old { logged = new.logged; calls = new.calls }
     pub notes : new.logged.notes ≡ old.logged.notes

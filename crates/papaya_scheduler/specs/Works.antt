@@ -36,7 +36,9 @@ use Rattle.papaya_scheduler.specs.Mapping.{IsGivenFor}
 use Rattle.papaya_named.specs.Seen.{free_slot, number_named}
 use Rattle.papaya_scheduler.specs.declared.played.Played.{Played}
 use Rattle.papaya_scheduler.specs.declared.scheduler.Scheduler.{Scheduler}
-use Rattle.papaya_executor.specs.IsThere.{KeepsGiven, StaysGiven}
+use Rattle.papaya_executor.specs.Ending.{EndingBegins}
+use Rattle.papaya_executor.specs.IsThere.{IsThere, KeepsGiven, StaysGiven}
+use Rattle.papaya_executor.specs.MakingBegins.{MakingBegins}
 use Rattle.papaya_scenes.specs.Scene.{Scene}
 
 module _ {K V S : Type 0} where
@@ -120,6 +122,7 @@ module _ {K V S : Type 0} (played : Played V) (old new : Scheduler K V S) where
     pub began : Logged K V S
     pub begins : (same : K → K → Bool) (hash : K → ℕ) (name : ℕ → List ℕ) (m : Moment K V) (s : Scene K V) → IsShown same hash name m old.logged s
         → MakingIsBegun same hash name m s given places caller old.logged began
+    pub begun : (same : K → K → Bool) (hash : K → ℕ) (s : Scene K V) → IsThere same hash old.logged.executor s → MakingBegins same hash given places caller s old.logged.executor began.executor
     pub noted : began.notes ≡ old.logged.notes
     pub stays : StaysGiven old.logged.executor began.executor
     pub there : MapIsThere began
@@ -145,6 +148,7 @@ module _ {K V S : Type 0} (played : Played V) (old new : Scheduler K V S) where
     pub began : Logged K V S
     pub begins : (same : K → K → Bool) (hash : K → ℕ) (name : ℕ → List ℕ) (m : Moment K V) (s : Scene K V) → IsShown same hash name m old.logged s
         → EndIsBegun same hash name m s number caller old.logged began
+    pub begun : (same : K → K → Bool) (hash : K → ℕ) (s : Scene K V) → IsThere same hash old.logged.executor s → EndingBegins same hash number caller s old.logged.executor began.executor
     pub noted : began.notes ≡ old.logged.notes
     pub stays : KeepsGiven old.logged.executor began.executor
     pub ran : EndRan caller number true [] played.effects.items began new.logged

@@ -20,7 +20,7 @@ pub mod PlaysWhole
 mod QuietCopies
 mod QuietWaits
 pub mod RightSteps
-mod RoomSays
+pub mod RoomSays
 mod RoomsWait
 mod StepSays
 mod SteppedTo

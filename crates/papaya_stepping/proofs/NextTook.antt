@@ -44,6 +44,7 @@ module _ {K V S : Type 0} (same : K → K → Bool) (hash : K → ℕ) (place : 
     at = step.at;
     said = said;
     leads = step.leads;
+    steps = step.steps;
     outcome_is = comes_to_it step.caller there;
     calls = told step.caller there ∙ ap (λ (l : List (Caller V)). callers_then (known walked.logged.notes) place step.caller said l) calls_same;
     rest = ap (λ (x : Scheduler K V S). record x { calls = callers }) step.rest;

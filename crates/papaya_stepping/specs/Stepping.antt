@@ -36,7 +36,7 @@ use Rattle.papaya_schedules.specs.Waiting.{WaitsLawfully, may_wait_for}
 use Rattle.papaya_scheduler.specs.Given.Late.Faults.{IsRoom}
 use Rattle.papaya_scheduler.specs.Given.Effects.Known.{Known, known}
 use Rattle.papaya_scheduler.specs.Given.Follows.Calling.{come_to}
-use Rattle.papaya_scheduler.specs.Given.Logged.Calling.{CallGoesOn, WalkGoesOn}
+use Rattle.papaya_scheduler.specs.Given.Logged.Calling.{CallGoesOn, CallSteps, WalkGoesOn}
 use Rattle.papaya_scheduler.specs.Given.Logged.Shown.{IsShown}
 use Rattle.papaya_scheduler.specs.Given.Logged.declared.logged.Logged.{Logged}
 use Rattle.papaya_scheduler.specs.Played.{AsFar, BeginsSo, IsDue, IsPlayed, Plays, StandsAs, StandsFor, entry_of}
@@ -203,6 +203,7 @@ module _ {K V S : Type 0} (same : K → K → Bool) (hash : K → ℕ) where
     pub said : Progress (Node K V)
     pub leads : (name : ℕ → List ℕ) (m : Moment K V) (s : Scene K V) → IsShown same hash name m old.logged s
         → CallGoesOn same hash name m s caller.number caller.map said before after old.logged new.logged
+    pub steps : CallSteps same hash caller.number caller.map said before after old.logged new.logged
     pub outcome_is : outcome ≡ outcome_of (known new.logged.notes) caller.kind caller.value said
     pub calls : new.calls ≡ callers_then (known new.logged.notes) place caller said old.calls
     pub rest : new ≡ record old { logged = new.logged; calls = new.calls }
@@ -236,6 +237,7 @@ module _ {K V S : Type 0} (same : K → K → Bool) (hash : K → ℕ) where
     pub at : slice_get old.calls place ≡ Some caller
     pub leads : (name : ℕ → List ℕ) (m : Moment K V) (s : Scene K V) → IsShown same hash name m old.logged s
         → CallGoesOn same hash name m s caller.number caller.map said before after old.logged new.logged
+    pub steps : CallSteps same hash caller.number caller.map said before after old.logged new.logged
     pub rest : new ≡ record old { logged = new.logged }
     pub given : KeepsGiven old.logged.executor new.logged.executor
 

@@ -62,7 +62,7 @@ use Rattle.papaya_purposes.proofs.Told.{calls_take_purposes}
 use Rattle.papaya_purposes.proofs.Walks.{walks_show_purposes}
 use Rattle.papaya_named.specs.Telling.{number_by, number_in}
 use Rattle.papaya_acts.specs.Acts.{Wanted, begun}
-use Rattle.papaya_acts.specs.Acts.{Get, Remove, Insert, TryToInsert, Compute, Update, UpdateOrInsert, TryToInsertWith, RemoveIf, MakeRoom, Count, GoOver}
+use Rattle.papaya_acts.specs.Acts.{Get, Remove, Insert, TryToInsert, Compute, Update, UpdateOrInsert, TryToInsertWith, RemoveIf, GetKeyValue, ContainsKey, GetOrInsert, GetOrInsertWith, RemoveEntry, MakeRoom, Count, GoOver}
 use Rattle.papaya_named.specs.Seen.{kind_of}
 use Rattle.papaya_deeds.specs.Deeds.{named}
 use Rattle.papaya_played.specs.Play.{call_for, outcome_of}
@@ -83,6 +83,11 @@ begun_for same st i (UpdateOrInsert key None) = tt
 begun_for same st i (UpdateOrInsert key (Some value)) = tt
 begun_for same st i (TryToInsertWith key) = tt
 begun_for same st i (RemoveIf key) = tt
+begun_for same st i (GetKeyValue key) = tt
+begun_for same st i (ContainsKey key) = tt
+begun_for same st i (GetOrInsert key value) = tt
+begun_for same st i (GetOrInsertWith key) = tt
+begun_for same st i (RemoveEntry key) = tt
 begun_for same st i (MakeRoom additional) = refl
 begun_for same st i Count = tt
 begun_for same st i (GoOver purpose.Walks) = refl

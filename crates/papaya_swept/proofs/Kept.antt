@@ -1,7 +1,8 @@
--- What is so of a history, of what is known, and of the scene to which acts have led, and stays so by each kind of step: its entry, if there is one, is on the history then.
+-- What is so of a history, of what is known, and of the scene to which acts have led, and stays so by each kind of step, beside what else is so of them: its entry, if there is one, is on the history then.
 use Rattle.std.specs.Prelude.{◌≡◌, ℕ, Bool, true, false, List, [], ◌∷◌, Option, Some, None, Ok}
 use Rattle.papaya_moments.specs.Given.Seize.World.{Begin, Rests, Step}
 use Rattle.papaya_moments.specs.Given.Seize.declared.progress.Progress.{Progress as Making}
+use Rattle.papaya_moments.specs.Given.Seize.declared.progress.Progress.TheVariants as progress
 use Rattle.papaya_moments.specs.Given.Seize.declared.rows.reclaim_all.ReclaimAll.{ReclaimAll}
 use Rattle.papaya_moments.specs.Given.Seize.declared.rows.settle.Settled.{Settled}
 use Rattle.papaya_moments.specs.Given.Sweeps.SweepPoints.{after_next}
@@ -50,10 +51,11 @@ use Rattle.papaya_moments.specs.Numbers.{AreFound}
 use Rattle.papaya_named.specs.Seen.{kind_of}
 use Rattle.papaya_values.specs.Values.{KeepsValue}
 use Rattle.papaya_acts.specs.Acts.{Wanted, begun}
+use Rattle.papaya_acts.specs.Doings.{scene_chosen}
 use Rattle.papaya_agrees.specs.Fresh.{IsFresh}
 use Rattle.papaya_deeds.specs.Deeds.{Begins, Deed, Ends, Entry, Makes, MapComes, MapFails, MapGoes, ReclaimsAll, Replies, Steps, Stops, come, moment, named}
 use Rattle.papaya_deeds.specs.History.{past}
-use Rattle.papaya_played.specs.Play.{call_for, is_over, is_refusal, making_outcome, outcome_of, pairs_for, row_deed, settled_outcome}
+use Rattle.papaya_played.specs.Play.{call_for, has_root, is_over, is_refusal, making_outcome, outcome_of, pairs_for, row_deed, settled_outcome}
 use Rattle.papaya_linear.specs.Shown.{ShowsAnswers}
 use Rattle.papaya_linear.proofs.MapsPlayed.{IsApart}
 
@@ -70,11 +72,15 @@ module _ {K V : Type 0} where
   abbrev pub comes_by : Beginning K → NewMap → Deed K V
   comes_by b next = MapComes b.map next.setting.root next.setting.mode (pairs_for next.len)
 
-module _ {K V : Type 0} (same : K → K → Bool) (hash : ℕ → K → ℕ) (R : Scene K V → Type 0) (P : List (Entry K V) → Known → Scene K V → Type 0) where
-  -- from a history whose moment shows what its next entry asks for, in a scene of which something else is so
+module _ {K V : Type 0} (same : K → K → Bool) (hash : ℕ → K → ℕ) (R P : List (Entry K V) → Known → Scene K V → Type 0) where
+  -- if the moment shows then what its next entry asks for
+  abbrev pub Now : List (Entry K V) → Known → Scene K V → Type 0
+  Now history known s = ShowsAnswers same (past history) (moment history) known s → P history known s
+
+  -- from a history whose moment shows what its next entry asks for, of which something else is so
   abbrev pub From : (List (Entry K V) → Known → Scene K V → Held K V → Held K V → Type 0) → Type 0
   From Then =
-      (history : List (Entry K V)) (known : Known) (s : Scene K V) (old new : Held K V) → IsAt same hash old s → ShowsAnswers same (past history) (moment history) known s → R s → P history known s
+      (history : List (Entry K V)) (known : Known) (s : Scene K V) (old new : Held K V) → IsAt same hash old s → ShowsAnswers same (past history) (moment history) known s → R history known s → P history known s
       → Then history known s old new
 
   pub record IsKept : Type 0 where
@@ -82,7 +88,7 @@ module _ {K V : Type 0} (same : K → K → Bool) (hash : ℕ → K → ℕ) (R 
     pub calls_begin : From (λ history known s old new. (map i : ℕ) (standing : Standing K) → s.maps map ≡ Some standing → (wanted : Wanted K V)
         → (let u = begun same slot_of standing i wanted in
         BeginsSo same standing i u → NoneNamed named (named i) s → s.world.row i ≡ Rests → IsAt same hash new (scene_with map i u s)
-        → P (alone (Begins i (slot_of i) map (call_for wanted)) outcome.Goes ∷ history) known (scene_with map i u s)))
+        → Now (alone (Begins i (slot_of i) map (call_for wanted)) outcome.Goes ∷ history) known (scene_with map i u s)))
     pub calls_step : From (λ history known s old new. (map i : ℕ) (u : UnderWay K V K) (here : s.calls map i ≡ Some u) (said : Progress (Node K V)) (leads : StepLeads same hash i said s old new)
         → (d : CallThere K V) → call_of (named i) (moment history) ≡ Some d → (called : Call K V) → d.call ≡ called → (value : Option V) → KeepsValue d.call d.replies (machine_of u) value
         → (let known2 = known_after (acts.Call i map) new.changed known in
@@ -90,61 +96,67 @@ module _ {K V : Type 0} (same : K → K → Bool) (hash : ℕ → K → ℕ) (R 
         let s2 = scene_after same s old new map i to.0 u to.1 said to.4 in
         let o = outcome_of known2 (kind_of called) value said in
         let e : Entry K V = record { deed = Steps i; outcome = o; effects = effects_of (acts.Call i map) known new.changed; refused = is_refusal new.changed } in
-        (ends_call o ≡ true → NoneNamed named (named i) s2) → P (e ∷ history) known2 s2))
+        (ends_call o ≡ true → NoneNamed named (named i) s2) → Now (e ∷ history) known2 s2))
     pub calls_take : From (λ history known s old new. (map i : ℕ) (u : UnderWay K V K) → s.calls map i ≡ Some u
         → (d : CallThere K V) → call_of (named i) (moment history) ≡ Some d → (question : Option ℕ) → d.stands ≡ Asking question
         → (standing : Standing K) → s.maps map ≡ Some standing → (reply : Reply V) (next : UnderWay K V K)
         → machine_of next ≡ (machine_replied (machine_of u) (as_told reply)).0 → (machine_replied (machine_of u) (as_told reply)).1 ≡ Ok tt
         → ToldOfKind V same same old.batch_size old.roots slot_of standing i u (as_told reply) next → IsAt same hash new (scene_with map i next s)
-        → P (alone (Replies i reply) outcome.Goes ∷ history) known (scene_with map i next s))
+        → Now (alone (Replies i reply) outcome.Goes ∷ history) known (scene_with map i next s))
     pub walks_go_on : From (λ history known s old new. (map i : ℕ) (leads : AskLeads same hash i true s old new) (o : CallOverAll) (here : s.calls map i ≡ Some (OverAll o))
-        → (leads map (OverAll o) here).0 ≡ OverAll (gone_on o (after_next o.sweep)) → P history known (scene_with map i (leads map (OverAll o) here).0 s))
+        → (leads map (OverAll o) here).0 ≡ OverAll (gone_on o (after_next o.sweep)) → Now history known (scene_with map i (leads map (OverAll o) here).0 s))
     pub walks_stop : From (λ history known s old new. (map i : ℕ) → StopLeads same hash i true s old new → (u : UnderWay K V K) → s.calls map i ≡ Some u
         → (let then_at = record s { calls = with_call s.calls map i (unless_stopped true u) } in
-        NoneNamed named (named i) then_at → P (alone (Stops i) outcome.Done ∷ history) known then_at))
+        NoneNamed named (named i) then_at → Now (alone (Stops i) outcome.Done ∷ history) known then_at))
     -- It does where a row begins on a slot, and takes a step, and where who reclaims all takes one.
     pub rows_begin : From (λ history known s old new. (called : SlotCall) (i : ℕ) (leads : RowBegins same hash called i s old new)
-        → P history known (scene_then same hash (Begin i (request_of (slot_of i) called)) s old new leads.2))
+        → Now history known (scene_then same hash (Begin i (request_of (slot_of i) called)) s old new leads.2))
     pub rows_step : From (λ history known s old new. (i : ℕ) (said : RowTold (Node K V)) (leads : RowLeads same hash i said s old new) (row : SlotRow) (here : IsOnSlot s i row) (o : Outcome V)
         → (let e : Entry K V = record { deed = row_deed row; outcome = o; effects = effects_of acts.Row known new.changed; refused = is_refusal new.changed } in
-        P (e ∷ history) (known_after acts.Row new.changed known) (scene_then same hash (Step i) s old new (leads row here).2)))
-    pub all_step : (history : List (Entry K V)) (known : Known) (s : Scene K V) (old new : Held K V) → ShowsAnswers same (past history) (moment history) known s → R s → P history known s
+        Now (e ∷ history) (known_after acts.Row new.changed known) (scene_then same hash (Step i) s old new (leads row here).2)))
+    pub all_step : (history : List (Entry K V)) (known : Known) (s : Scene K V) (old new : Held K V) → ShowsAnswers same (past history) (moment history) known s → P history known s
         → (i : ℕ) (lists : ℕ → List ℕ) (before next : ReclaimAll) (told : Settled (Node K V)) → IsReclaiming same hash old s i lists before
         → (leads : ReclaimingLeads same hash s i lists old new before next told)
         → (let e : Entry K V = record { deed = ReclaimsAll (is_over told); outcome = settled_outcome told; effects = effects_of acts.Row known new.changed; refused = is_refusal new.changed } in
-        P (e ∷ history) (known_after acts.Row new.changed known) (record s { world = leads.1.w2; maps = leads.1.maps2 }))
+        Now (e ∷ history) (known_after acts.Row new.changed known) (record s { world = leads.1.w2; maps = leads.1.maps2 }))
     -- It does where the making of a map begins with a number of which nothing is there, and at its steps: by one its map comes, by one it is there no more.
     pub makings_begin : From (λ history known s old new. (i : ℕ) (b : Beginning K) → s.makers i ≡ None → (HasMade b.machine.stands → ⊥) → IsFresh b.map (moment history)
-        → IsAt same hash new (scene_making i b s) → P history known (scene_making i b s))
+        → IsAt same hash new (scene_making i b s) → Now history known (scene_making i b s))
     pub makings_step : From (λ history known s old new. (i : ℕ) (said : Making Setting) (leads : MakingLeads same hash i said s old new) (b : Beginning K) (here : s.makers i ≡ Some b)
         → WasNew b.map said (moment history)
         → (let to = leads b here in
+        let made = making_after same hash s old new i b to.0 to.2.step.w2 said to.3 in
         let e : Entry K V = record { deed = Makes b.map; outcome = making_outcome said; effects = effects_of (acts.Making b.map) known new.changed; refused = is_refusal new.changed } in
-        P (e ∷ history) (known_after (acts.Making b.map) new.changed known) (making_after same hash s old new i b to.0 to.2.step.w2 said to.3)))
+        IsAt same hash new made → Now (e ∷ history) (known_after (acts.Making b.map) new.changed known) made))
     pub maps_come : From (λ history known s old new. (i : ℕ) (said : Making Setting) (leads : MakingLeads same hash i said s old new) (b : Beginning K) (here : s.makers i ≡ Some b) (next : NewMap)
-        → tables_of b.map (moment history) ≡ [] → WasNew b.map said (come (coming b next) (moment history))
+        → has_root b.machine.stands ≡ false → said ≡ progress.Goes → tables_of b.map (moment history) ≡ [] → WasNew b.map said (come (coming b next) (moment history))
         → (let to = leads b here in
+        let made = making_after same hash s old new i b to.0 to.2.step.w2 said to.3 in
         let e : Entry K V = record { deed = comes_by b next; outcome = making_outcome said; effects = effects_of (acts.Making b.map) known new.changed; refused = is_refusal new.changed } in
-        P (e ∷ history) (known_after (acts.Making b.map) new.changed known) (making_after same hash s old new i b to.0 to.2.step.w2 said to.3)))
+        IsAt same hash new made → Now (e ∷ history) (known_after (acts.Making b.map) new.changed known) made))
     pub maps_fail : From (λ history known s old new. (i : ℕ) (said : Making Setting) (leads : MakingLeads same hash i said s old new) (b : Beginning K) (here : s.makers i ≡ Some b)
         → WasNew b.map said (moment history)
         → (let to = leads b here in
         let v = with_effects None (Some b.map) (effects_of (acts.Making b.map) known new.changed) (moment history) in
         let made = making_after same hash s old new i b to.0 to.2.step.w2 said to.3 in
         let e : Entry K V = record { deed = MapFails b.map; outcome = making_outcome said; effects = effects_of (acts.Making b.map) known new.changed; refused = is_refusal new.changed } in
-        AreFound v → IsApart b.map v made → IsAt same hash new made → P (e ∷ history) (known_after (acts.Making b.map) new.changed known) made))
+        AreFound v → IsApart b.map v made → IsAt same hash new made → Now (e ∷ history) (known_after (acts.Making b.map) new.changed known) made))
     -- And so it does where the end of a map begins, and at its steps: by the last one the map is there no more.
     pub ends_begin : From (λ history known s old new. (map i : ℕ) (standing : Standing K) → s.maps map ≡ Some standing → s.enders i ≡ None → IsAt same hash new (ending_begun map i standing s)
-        → P history known (ending_begun map i standing s))
+        → Now history known (ending_begun map i standing s))
     pub ends_step : From (λ history known s old new. (i : ℕ) (said : Settled (Node K V)) (leads : EndingLeads same hash i said s old new) (f : Finishing K V) (here : s.enders i ≡ Some f) (map : ℕ)
         → s.maps map ≡ None → AtEachEffect (IsOfIts map) None (Some map) (effects_of (acts.Ending map) known new.changed) (moment history)
         → (let to = leads f here in
+        let ended = ending_after same hash s new i f to.0 to.2.w2 to.2.deed said to.3 in
         let e : Entry K V = record { deed = Ends map; outcome = settled_outcome said; effects = effects_of (acts.Ending map) known new.changed; refused = is_refusal new.changed } in
-        P (e ∷ history) (known_after (acts.Ending map) new.changed known) (ending_after same hash s new i f to.0 to.2.w2 to.2.deed said to.3)))
+        IsAt same hash new ended → Now (e ∷ history) (known_after (acts.Ending map) new.changed known) ended))
     pub maps_go : From (λ history known s old new. (i : ℕ) (said : Settled (Node K V)) (leads : EndingLeads same hash i said s old new) (f : Finishing K V) (here : s.enders i ≡ Some f) (map : ℕ)
         → s.maps map ≡ None → AtEachEffect (IsOfIts map) None (Some map) (effects_of (acts.Ending map) known new.changed) (moment history)
         → (let to = leads f here in
         let v = with_effects None (Some map) (effects_of (acts.Ending map) known new.changed) (moment history) in
         let ended = ending_after same hash s new i f to.0 to.2.w2 to.2.deed said to.3 in
         let e : Entry K V = record { deed = MapGoes map; outcome = settled_outcome said; effects = effects_of (acts.Ending map) known new.changed; refused = is_refusal new.changed } in
-        AreFound v → IsApart map v ended → IsAt same hash new ended → P (e ∷ history) (known_after (acts.Ending map) new.changed known) ended))
+        AreFound v → IsApart map v ended → IsAt same hash new ended → Now (e ∷ history) (known_after (acts.Ending map) new.changed known) ended))
+    -- And where a choice of a number comes.
+    pub choices_come : (history : List (Entry K V)) (known : Known) (s : Scene K V) → ShowsAnswers same (past history) (moment history) known s → P history known s → (choice : ℕ)
+        → Now history known (scene_chosen choice s)

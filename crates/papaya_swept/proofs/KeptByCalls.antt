@@ -1,5 +1,5 @@
 -- What stays so by each kind of step stays so by each act of a call, as it is played.
-use Rattle.std.specs.Prelude.{◌≡◌, ◌⊎◌, ℕ, Bool, true, false, List, Option, Some, None, Ok, is_ok, is_err, option_map}
+use Rattle.std.specs.Prelude.{◌≡◌, ◌⊎◌, ℕ, Bool, true, false, List, Option, Some, None, Ok, is_ok, is_err, length, option_map}
 use Rattle.std.proofs.Common.{refl, ap, sym, subst, ◌∙◌, inl, inr}
 use Rattle.seize_acts.specs.Answers.{Grant}
 use Rattle.papaya_scenes.specs.Given.Raw.Machine.{machine_asked, machine_replied}
@@ -37,12 +37,12 @@ use Rattle.papaya_linear.proofs.Holds.{Holds}
 use Rattle.papaya_linear.proofs.RepliesPlayed.{told_back}
 use Rattle.papaya_linear.proofs.TakesReply.{TakesNone, refuses}
 use Rattle.papaya_linear.proofs.StepsPlayed.{led, played_ended, there_is}
-use Rattle.papaya_linear.proofs.Tied.{call_tied}
-use Rattle.papaya_swept.proofs.Kept.{IsKept}
+use Rattle.papaya_played.proofs.Tied.{call_tied}
+use Rattle.papaya_swept.proofs.Kept.{IsKept, Now}
 
-module _ {K V S : Type 0} (same : K → K → Bool) (by_hasher : S → K → ℕ) (hash : ℕ → K → ℕ) (batch_size roots : ℕ) (aborts : V) (R : Scene K V → Type 0) (P : List (Entry K V) → Known → Scene K V → Type 0)
+module _ {K V S : Type 0} (same : K → K → Bool) (by_hasher : S → K → ℕ) (hash : ℕ → K → ℕ) (batch_size roots : ℕ) (aborts : ℕ → V) (R P : List (Entry K V) → Known → Scene K V → Type 0)
     (kept : IsKept same hash R P) (x y : State K V S) (s n : Scene K V) (rows : ℕ → Row)
-    (is : IsOf by_hasher s rows x.now) (before : Changed) (at : IsAt same hash (held_in batch_size roots before s) s) (holds : Holds same x s) (other : R s) (so : P x.history x.known s)
+    (is : IsOf by_hasher s rows x.now) (before : Changed) (at : IsAt same hash (held_in batch_size roots before s) s) (holds : Holds same x s) (other : R x.history x.known s) (so : P x.history x.known s)
     (told : Answer K V) where
   abbrev old : Held K V
   old = held_in batch_size roots before s
@@ -51,11 +51,11 @@ module _ {K V S : Type 0} (same : K → K → Bool) (by_hasher : S → K → ℕ
   then_held act = held_in batch_size roots (changed_by same act s) n
 
   abbrev Then : Type 0
-  Then = P y.history y.known n
+  Then = Now same hash R P y.history y.known n
 
   -- so it is of what this comes to
-  comes_so : (z : State K V S) (l : Scene K V) → y ≡ z → n ≡ l → P z.history z.known l → Then
-  comes_so z l y_is n_is then_so = subst (λ (q : State K V S). P q.history q.known n) (sym y_is) (subst (P z.history z.known) (sym n_is) then_so)
+  comes_so : (z : State K V S) (l : Scene K V) → y ≡ z → n ≡ l → Now same hash R P z.history z.known l → Then
+  comes_so z l y_is n_is then_so = subst (λ (q : State K V S). Now same hash R P q.history q.known n) (sym y_is) (subst (Now same hash R P z.history z.known) (sym n_is) then_so)
 
   -- a step
   pub steps_kept : (i m : ℕ) (g : Grant) → PlayedAs same by_hasher batch_size roots aborts x y (StepsCall i m g) → Led same by_hasher batch_size roots slot_of (StepsCall i m g) s told n
@@ -85,7 +85,7 @@ module _ {K V S : Type 0} (same : K → K → Bool) (by_hasher : S → K → ℕ
       new = then_held (TellsCall i m reply)
 
       said : Reply V
-      said = reply_for aborts reply
+      said = reply_for (aborts (length x.told)) reply
 
       it : IsHeard (moment x.history) i c.call c.machine c.value
       it = holds.heard m i c here
@@ -97,9 +97,9 @@ module _ {K V S : Type 0} (same : K → K → Bool) (by_hasher : S → K → ℕ
       by : (b : Bool) → is_ok (machine_replied c.machine reply).1 ≡ b → Then
       by true ok = comes_so (z true) (scene_with m i next s) (y_is ∙ ap z ok) n_is
           (kept.calls_take x.history x.known s old new at holds.shows other so m i u under it.there it.is asks.0 asks.1 standing stands said next
-          (next_is ∙ ap (λ (t : Told V). (machine_replied (machine_of u) t).0) (sym (told_back aborts reply)))
-          (subst (λ (t : Told V). (machine_replied (machine_of u) t).1 ≡ Ok tt) (sym (told_back aborts reply)) (subst (λ (w : Machine K V K). (machine_replied w reply).1 ≡ Ok tt) its taken))
-          (subst (λ (t : Told V). ToldOfKind V same same old.batch_size old.roots slot_of standing i u t next) (sym (told_back aborts reply)) kind.0) (subst (IsAt same hash new) n_is at2))
+          (next_is ∙ ap (λ (t : Told V). (machine_replied (machine_of u) t).0) (sym (told_back (aborts (length x.told)) reply)))
+          (subst (λ (t : Told V). (machine_replied (machine_of u) t).1 ≡ Ok tt) (sym (told_back (aborts (length x.told)) reply)) (subst (λ (w : Machine K V K). (machine_replied w reply).1 ≡ Ok tt) its taken))
+          (subst (λ (t : Told V). ToldOfKind V same same old.batch_size old.roots slot_of standing i u t next) (sym (told_back (aborts (length x.told)) reply)) kind.0) (subst (IsAt same hash new) n_is at2))
         where
           taken : (machine_replied c.machine reply).1 ≡ Ok tt
           taken = ok_is (machine_replied c.machine reply).1 ok
@@ -114,7 +114,7 @@ module _ {K V S : Type 0} (same : K → K → Bool) (by_hasher : S → K → ℕ
           let refused = err_is (machine_replied c.machine reply).1 not in
           comes_so (z false) (scene_with m i u s) (y_is ∙ ap z not)
           (n_is ∙ ap (λ (w : UnderWay K V K). scene_with m i w s) (kind.1 (subst (λ (w : Machine K V K). is_err (machine_replied w reply).1 ≡ true) its refused)))
-          (subst (P x.history x.known) (sym (same_calls s m i u under)) so)
+          (λ shows. subst (P x.history x.known) (sym (same_calls s m i u under)) so)
 
   -- One is asked for its next pair,
   pub asks_kept : (i m : ℕ) → PlayedAs same by_hasher batch_size roots aborts x y (AsksCall i m) → Led same by_hasher batch_size roots slot_of (AsksCall i m) s told n
@@ -122,7 +122,7 @@ module _ {K V S : Type 0} (same : K → K → Bool) (by_hasher : S → K → ℕ
   asks_kept i m (c, here, y_is) (u, under, told_is, n_is) (ready, answer, leads, goes) =
       comes_so (call_asked i m x c) (scene_with m i (asked_on u) s) y_is n_is
       (asked_so same hash x s old (then_held (AsksCall i m)) at holds.shows holds.heard i m holds.noted c here u under
-      (its_machine same by_hasher hash batch_size roots aborts x x s s rows rows is is before at holds holds.noted told m i c here u under) (P x.history x.known) so
+      (its_machine same by_hasher hash batch_size roots aborts x x s s rows rows is is before at holds holds.noted told m i c here u under) (Now same hash R P x.history x.known) (λ shows. so)
       (λ o o_is walks on. kept.walks_go_on x.history x.known s old (then_held (AsksCall i m)) at holds.shows other so m i walks o o_is on) ready leads (goes m u under).0)
 
   -- or given up, if it is a walk that is ready,
@@ -146,7 +146,7 @@ module _ {K V S : Type 0} (same : K → K → Bool) (by_hasher : S → K → ℕ
       by true b_is leads_b n_b =
           comes_so (z true) (record s { calls = with_call s.calls m i (unless_stopped true u) }) (z_is true b_is) n_b
           (kept.walks_stop x.history x.known s old new at holds.shows other so m i leads_b u under (none_then same hash x s old new at holds.shows holds.heard i m holds.noted c here u under its))
-      by false b_is leads_b n_b = comes_so (z false) (scene_with m i u s) (z_is false b_is) n_b (subst (P x.history x.known) (sym (same_calls s m i u under)) so)
+      by false b_is leads_b n_b = comes_so (z false) (scene_with m i u s) (z_is false b_is) n_b (λ shows. subst (P x.history x.known) (sym (same_calls s m i u under)) so)
 
   -- and one begins.
   pub begins_kept : (i m : ℕ) (wanted : Wanted K V) → PlayedAs same by_hasher batch_size roots aborts x y (BeginsCall i m wanted) → MayBe same by_hasher batch_size roots slot_of (BeginsCall i m wanted) s

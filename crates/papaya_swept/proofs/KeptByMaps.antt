@@ -5,9 +5,11 @@ use Rattle.seize_acts.specs.Answers.{Grant}
 use Rattle.papaya_scenes.specs.Given.SeizeWords.Mem.{Mem}
 use Rattle.papaya_scenes.specs.Given.Seize.World.{Row}
 use Rattle.papaya_scenes.specs.Given.Seize.declared.progress.Progress.{Progress}
+use Rattle.papaya_scenes.specs.Given.Seize.declared.progress.Progress.TheVariants as making
 use Rattle.papaya_scenes.specs.Given.Seize.declared.rows.settle.Settled.{Settled}
 use Rattle.papaya_scenes.specs.Given.Tables.declared.node.Node.{Node}
 use Rattle.papaya_scenes.specs.Given.Tables.declared.setting.Setting.{Setting}
+use Rattle.papaya_scenes.specs.Given.Resize.NewMap.{new_map_plan}
 use Rattle.papaya_scenes.specs.Given.Resize.declared.new_map.NewMap.{NewMap}
 use Rattle.papaya_scenes.specs.Given.Finishes.Endings.{Finishing}
 use Rattle.papaya_scenes.specs.Given.Finishes.Makings.{Beginning}
@@ -26,8 +28,9 @@ use Rattle.papaya_moments.specs.Endings.{IsOfIts}
 use Rattle.papaya_logged.proofs.EndTold.{ends_alone}
 use Rattle.papaya_acts.specs.Acts.{Act, Answer, OfEnding, OfMaking}
 use Rattle.papaya_acts.specs.Acts.{BeginsMaking, StepsMaking, BeginsEnding, StepsEnding}
-use Rattle.papaya_acts.specs.AsSteps.{LeadsAs, changed_by, held_in}
+use Rattle.papaya_acts.specs.AsSteps.{LeadsAs, changed_by, changed_of, held_in}
 use Rattle.papaya_acts.specs.Leads.{Led, MayBe}
+use Rattle.papaya_acts.proofs.AsSteps.Told.{was_told}
 use Rattle.papaya_agrees.specs.Fresh.{IsFresh}
 use Rattle.papaya_deeds.specs.Deeds.{Deed, Ends, Entry, MapGoes, moment, named}
 use Rattle.papaya_played.specs.Play.{Ending, State, ending_begun as end_begun, ending_stepped, has_root, is_over, is_refusal, making_begun as made_begun, making_deed, making_outcome, making_stepped, settled_outcome}
@@ -37,12 +40,13 @@ use Rattle.papaya_played.proofs.PlayedAs.{PlayedAs}
 use Rattle.papaya_linear.proofs.Holds.{Holds}
 use Rattle.papaya_linear.proofs.MapActs.{EndsSo, MakesSo, MakingDid, deed_by, ended_is, made_is}
 use Rattle.papaya_linear.proofs.MapsPlayed.{IsApart, ended, made}
-use Rattle.papaya_linear.proofs.Tied.{EndingTied, MakingTied, ending_tied, making_tied}
-use Rattle.papaya_swept.proofs.Kept.{IsKept}
+use Rattle.papaya_played.proofs.Tied.{EndingTied, MakingTied, ending_tied, making_tied}
+use Rattle.papaya_swept.proofs.Kept.{IsKept, Now}
+use Rattle.papaya_swept.proofs.Rooting.{comes_going}
 
-module _ {K V S : Type 0} (same : K → K → Bool) (by_hasher : S → K → ℕ) (hash : ℕ → K → ℕ) (batch_size roots : ℕ) (aborts : V) (R : Scene K V → Type 0) (P : List (Entry K V) → Known → Scene K V → Type 0)
+module _ {K V S : Type 0} (same : K → K → Bool) (by_hasher : S → K → ℕ) (hash : ℕ → K → ℕ) (batch_size roots : ℕ) (aborts : ℕ → V) (R P : List (Entry K V) → Known → Scene K V → Type 0)
     (kept : IsKept same hash R P) (x y : State K V S) (s n : Scene K V) (rows : ℕ → Row)
-    (is : IsOf by_hasher s rows x.now) (before : Changed) (at : IsAt same hash (held_in batch_size roots before s) s) (holds : Holds same x s) (noted_then : CallsAreNoted y) (other : R s) (so : P x.history x.known s)
+    (is : IsOf by_hasher s rows x.now) (before : Changed) (at : IsAt same hash (held_in batch_size roots before s) s) (holds : Holds same x s) (noted_then : CallsAreNoted y) (other : R x.history x.known s) (so : P x.history x.known s)
     (told : Answer K V) where
   abbrev old : Held K V
   old = held_in batch_size roots before s
@@ -54,10 +58,10 @@ module _ {K V S : Type 0} (same : K → K → Bool) (by_hasher : S → K → ℕ
   m = moment x.history
 
   abbrev Then : Type 0
-  Then = P y.history y.known n
+  Then = Now same hash R P y.history y.known n
 
-  comes_so : (z : State K V S) (l : Scene K V) → y ≡ z → n ≡ l → P z.history z.known l → Then
-  comes_so z l y_is n_is then_so = subst (λ (q : State K V S). P q.history q.known n) (sym y_is) (subst (P z.history z.known) (sym n_is) then_so)
+  comes_so : (z : State K V S) (l : Scene K V) → y ≡ z → n ≡ l → Now same hash R P z.history z.known l → Then
+  comes_so z l y_is n_is then_so = subst (λ (q : State K V S). Now same hash R P q.history q.known n) (sym y_is) (subst (Now same hash R P z.history z.known) (sym n_is) then_so)
 
   -- A making begins, which has made nothing, with a number of which nothing is there,
   pub making_begins_kept : (i map : ℕ) (hasher : S) (given : Setting) (places : ℕ) → IsFresh map m → MayBe same by_hasher batch_size roots slot_of (BeginsMaking i map hasher given places) s
@@ -84,23 +88,27 @@ module _ {K V S : Type 0} (same : K → K → Bool) (by_hasher : S → K → ℕ
     Makes said b after = MakesSo same by_hasher hash batch_size roots aborts x y s n rows is before at holds noted_then told i g said b after
 
     module _ (said : Progress Setting) (leads : MakingLeads same hash i said s old new) (b : Beginning K) (here : s.makers i ≡ Some b) (n_is : n ≡ made same hash x s old new at holds.shows i said leads b here (making_outcome said))
-        (at2 : IsAt same hash new n) (after : NewMap) (makes : Makes said b after) where
+        (at2 : IsAt same hash new n) (after : NewMap) (makes : Makes said b after)
+        (on : has_root b.machine.stands ≡ false → has_root after.stands ≡ true → said ≡ making.Goes) where
       abbrev entry : Deed K V → Entry K V
       entry d = record { deed = d; outcome = making_outcome said; effects = effects_of (acts.Making b.map) x.known new.changed; refused = is_refusal new.changed }
 
       abbrev led : Scene K V
       led = made same hash x s old new at holds.shows i said leads b here (making_outcome said)
 
-      by_roots : (p q : Bool) → has_root b.machine.stands ≡ p → has_root after.stands ≡ q → P (entry (deed_by b.map after p q) ∷ x.history) (known_after (acts.Making b.map) new.changed x.known) led
-      by_roots true true had has = kept.makings_step x.history x.known s old new at holds.shows other so i said leads b here makes.was_new
-      by_roots false false had has = kept.makings_step x.history x.known s old new at holds.shows other so i said leads b here makes.was_new
-      by_roots false true had has = let it = makes.unknown had has in kept.maps_come x.history x.known s old new at holds.shows other so i said leads b here after it.0 it.1
+      at_led : IsAt same hash new led
+      at_led = subst (IsAt same hash new) n_is at2
+
+      by_roots : (p q : Bool) → has_root b.machine.stands ≡ p → has_root after.stands ≡ q → Now same hash R P (entry (deed_by b.map after p q) ∷ x.history) (known_after (acts.Making b.map) new.changed x.known) led
+      by_roots true true had has = kept.makings_step x.history x.known s old new at holds.shows other so i said leads b here makes.was_new at_led
+      by_roots false false had has = kept.makings_step x.history x.known s old new at holds.shows other so i said leads b here makes.was_new at_led
+      by_roots false true had has = let it = makes.unknown had has in kept.maps_come x.history x.known s old new at holds.shows other so i said leads b here after had (on had has) it.0 it.1 at_led
       by_roots true false had has =
           let it = makes.fails had has in
           let v = with_effects None (Some b.map) (effects_of (acts.Making b.map) x.known new.changed) m in
-          kept.maps_fail x.history x.known s old new at holds.shows other so i said leads b here makes.was_new it.0 (subst (IsApart b.map v) n_is it.1) (subst (IsAt same hash new) n_is at2)
+          kept.maps_fail x.history x.known s old new at holds.shows other so i said leads b here makes.was_new it.0 (subst (IsApart b.map v) n_is it.1) at_led
 
-      pub made_then : P (entry (making_deed b.map b.machine after) ∷ x.history) (known_after (acts.Making b.map) new.changed x.known) led
+      pub made_then : Now same hash R P (entry (making_deed b.map b.machine after) ∷ x.history) (known_after (acts.Making b.map) new.changed x.known) led
       made_then = by_roots (has_root b.machine.stands) (has_root after.stands) refl refl
 
     pub making_steps_kept : PlayedAs same by_hasher batch_size roots aborts x y (StepsMaking i g) → Led same by_hasher batch_size roots slot_of (StepsMaking i g) s told n
@@ -119,6 +127,12 @@ module _ {K V S : Type 0} (same : K → K → Bool) (by_hasher : S → K → ℕ
         its : Makes said b machine
         its = subst (λ (p : Progress Setting). Makes p b machine) said_is (right b m2 machine progress (makes, computed, told_is, (did, came)))
 
+        on : has_root b.machine.stands ≡ false → has_root machine.stands ≡ true → said ≡ making.Goes
+        on had has =
+            sym said_is
+            ∙ comes_going b.machine s.world.memory m2 (changed_of s.world.memory g (new_map_plan {K = K} {V = V} b.machine)) (machine, progress) b.machine.stands refl
+            (was_told s.world.memory g (new_map_plan {K = K} {V = V} b.machine) (m2, (machine, progress)) computed) had has
+
         z : State K V S
         z = making_stepped i tied.it new.changed x (m2, (machine, said))
 
@@ -130,13 +144,13 @@ module _ {K V S : Type 0} (same : K → K → Bool) (by_hasher : S → K → ℕ
 
         To : ℕ → NewMap → Type 0
         To map first =
-            P (record { deed = making_deed map first machine; outcome = making_outcome said; effects = effects_of (acts.Making map) x.known new.changed; refused = is_refusal new.changed } ∷ x.history)
+            Now same hash R P (record { deed = making_deed map first machine; outcome = making_outcome said; effects = effects_of (acts.Making map) x.known new.changed; refused = is_refusal new.changed } ∷ x.history)
             (known_after (acts.Making map) new.changed x.known) (made same hash x s old new at holds.shows i said leads b makes (making_outcome said))
 
         then_so : To tied.it.map tied.it.machine
         then_so =
             subst (λ (map : ℕ). To map tied.it.machine) (sym (ap (λ (p : ℕ × ((K → ℕ) × NewMap)). p.0) tied.its))
-            (subst (To b.map) (sym (ap (λ (p : ℕ × ((K → ℕ) × NewMap)). p.1.1) tied.its)) (made_then said leads b makes n_is at2 machine its))
+            (subst (To b.map) (sym (ap (λ (p : ℕ × ((K → ℕ) × NewMap)). p.1.1) tied.its)) (made_then said leads b makes n_is at2 machine its on))
 
   -- A step of an end, of a map that was noted so
   module _ (i : ℕ) (g : Grant) where
@@ -180,9 +194,9 @@ module _ {K V S : Type 0} (same : K → K → Bool) (by_hasher : S → K → ℕ
         v = with_effects None (Some tied.it.map) (effects_of (acts.Ending tied.it.map) x.known end_new.changed) m
 
         by : (b : Bool)
-            → P (record { deed = if b then MapGoes tied.it.map else Ends tied.it.map; outcome = settled_outcome said; effects = effects_of (acts.Ending tied.it.map) x.known end_new.changed; refused = is_refusal end_new.changed } ∷ x.history)
+            → Now same hash R P (record { deed = if b then MapGoes tied.it.map else Ends tied.it.map; outcome = settled_outcome said; effects = effects_of (acts.Ending tied.it.map) x.known end_new.changed; refused = is_refusal end_new.changed } ∷ x.history)
             (known_after (acts.Ending tied.it.map) end_new.changed x.known) led
         by true =
             kept.maps_go x.history x.known s old end_new at holds.shows other so i said leads f ends tied.it.map its.not_there effects_alone its.goes.0 (subst (IsApart tied.it.map v) n_is its.goes.1)
             (subst (IsAt same hash end_new) n_is at2)
-        by false = kept.ends_step x.history x.known s old end_new at holds.shows other so i said leads f ends tied.it.map its.not_there effects_alone
+        by false = kept.ends_step x.history x.known s old end_new at holds.shows other so i said leads f ends tied.it.map its.not_there effects_alone (subst (IsAt same hash end_new) n_is at2)

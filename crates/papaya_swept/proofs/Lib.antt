@@ -1,4 +1,5 @@
 pub mod Kept
+pub mod Rooting
 pub mod KeptByCalls
 pub mod KeptByMaps
 pub mod KeptByAll

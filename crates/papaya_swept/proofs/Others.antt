@@ -61,8 +61,10 @@ use Rattle.papaya_shards.proofs.ShardOthers.{endings_begin_counters, endings_kee
 use Rattle.papaya_purposes.proofs.Between.{events_keep_purposes}
 use Rattle.papaya_purposes.proofs.Elsewhere.{purposes_stay}
 use Rattle.papaya_purposes.proofs.Stored.{effects_stored, numbers_last}
+use Rattle.papaya_acts.specs.Doings.{scene_chosen}
 use Rattle.papaya_deeds.specs.Deeds.{named}
 use Rattle.papaya_linear.specs.Shown.{ShowsAnswers}
+use Rattle.papaya_linear.proofs.Chosen.{shown_chosen}
 use Rattle.papaya_linear.proofs.Like.{IsLike}
 use Rattle.papaya_swept.specs.Shown.{IsTabled, ShowsSweeps}
 use Rattle.papaya_swept.proofs.Tabled.{tabled_stays}
@@ -225,7 +227,7 @@ module _ (K V : Type 0) (same : K → K → Bool) (hash : ℕ → K → ℕ) (lo
           tabled = tabled_on None (effects_of acts.Row known x) t refl;
         }
 
--- So it is at a moment that is like another one, and where an entry is over.
+-- So it is at a moment that is like another one, where an entry is over, and where a choice comes.
 module _ {K V : Type 0} (same : K → K → Bool) (log : Past K V) (known : Known) (s : Scene K V) where
   pub sweeps_like : (m v : Moment K V) → ShowsSweeps same log m known s → IsLike m v → ShowsSweeps same log v known s
   sweeps_like m v sweeps like = subst (λ (x : Moment K V). ShowsSweeps same log x known s) (sym like) (record {
@@ -250,3 +252,18 @@ module _ {K V : Type 0} (same : K → K → Bool) (log : Past K V) (known : Know
   pub sweeps_over : (m v : Moment K V) → ShowsSweeps same log m known s → IsLike m v → v.events ≡ suc log.entries → ShowsSweeps same (further v log) v known s
   sweeps_over m v sweeps like counted =
       let now = sweeps_like m v sweeps like in record { purposes = events_keep_purposes K V same named log v known s now.purposes counted; counters = now.counters; tabled = now.tabled }
+
+  -- Where a choice of a number comes it is as before.
+  pub sweeps_chosen : (m : Moment K V) → ShowsAnswers same log m known s → ShowsSweeps same log m known s → (choice : ℕ) → ShowsSweeps same log m known (scene_chosen choice s)
+  sweeps_chosen m all sweeps choice = record {
+    purposes = record {
+      past = sweeps.purposes.past;
+      lasts = sweeps.purposes.lasts;
+      shown = shown_chosen same choice log m known s all sweeps.purposes.shown;
+      begun = sweeps.purposes.begun;
+      is_for = sweeps.purposes.is_for;
+      come = sweeps.purposes.come;
+    };
+    counters = record { shards = sweeps.counters.shards; makes = sweeps.counters.makes; adds = sweeps.counters.adds };
+    tabled = record { maps = sweeps.tabled.maps; counts = sweeps.tabled.counts };
+  }

@@ -9,18 +9,19 @@ use Rattle.papaya_moments.proofs.Calls.{whole_begins}
 use Rattle.papaya_histories.proofs.DueOn.{dues_begin}
 use Rattle.papaya_purposes.proofs.Stored.{first_lasts}
 use Rattle.papaya_acts.specs.Acts.{Act}
-use Rattle.papaya_acts.specs.Doings.{Doing, Does, BeginsReclaiming, BeginsClearing, StepsReclaiming}
+use Rattle.papaya_acts.specs.Doings.{Doing, Does, BeginsReclaiming, BeginsClearing, StepsReclaiming, Chooses}
 use Rattle.papaya_acts.specs.Lists.{nothing_done}
 use Rattle.papaya_agrees.specs.Agree.{Asks}
-use Rattle.papaya_agrees.specs.Shards.{AsksShards}
-use Rattle.papaya_agrees.proofs.Coming.{new_numbers}
+use Rattle.papaya_agrees.specs.Shards.{AsksShards, ShardsAre}
+use Rattle.papaya_agrees.proofs.Agree.{own_so}
+use Rattle.papaya_agrees.proofs.Coming.{new_fits}
 use Rattle.papaya_agrees.specs.Fresh.{HasNewNumber}
-use Rattle.papaya_agrees.proofs.Numbers.{numbers_first}
+use Rattle.papaya_agrees.proofs.GivenBack.{again_first}
 use Rattle.papaya_agrees.proofs.Shards.{shards_stay}
 use Rattle.papaya_deeds.specs.Deeds.{moment, named}
 use Rattle.papaya_deeds.specs.History.{past}
 use Rattle.papaya_played.specs.Play.{State, first_state}
-use Rattle.papaya_played.proofs.Along.{AllFit, AreOfTheirOwn, wherever}
+use Rattle.papaya_played.proofs.Along.{AllFit, At, wherever}
 use Rattle.papaya_linear.proofs.Stays.{first_holds}
 use Rattle.papaya_swept.specs.Shown.{HasSwept, ShowsSweeps}
 use Rattle.papaya_swept.specs.Swept.{ListsAreSwept}
@@ -28,7 +29,7 @@ use Rattle.papaya_swept.proofs.Instance.{P, Shards, sweeps_are_kept}
 use Rattle.papaya_swept.proofs.KeptByAll.{Fit, With, all_kept}
 
 -- at first
-first_swept : {K V : Type 0} (same : K → K → Bool) (terms : Terms) (roots : ℕ) → HasSwept {K = K} {V = V} same terms [] nothing_known (at_first roots)
+pub first_swept : {K V : Type 0} (same : K → K → Bool) (terms : Terms) (roots : ℕ) → HasSwept {K = K} {V = V} same terms [] nothing_known (at_first roots)
 first_swept {K} {V} same terms roots = record { shows = first_shows; each = tt }
   where
     first_shows : ShowsSweeps {K = K} {V = V} same (past []) (moment []) nothing_known (at_first roots)
@@ -46,36 +47,34 @@ first_swept {K} {V} same terms roots = record { shows = first_shows; each = tt }
     }
 
 module _ {K S : Type 0} (V : Type 0) (same : K → K → Bool) (by_hasher : S → K → ℕ) (hash : ℕ → K → ℕ) (batch_size roots : ℕ) (terms : Terms) where
-  own_so : (doings : List (Doing K V S)) → AllByRecursion (Asks V same by_hasher hash batch_size roots (shards_of terms)) doings → AreOfTheirOwn V same by_hasher hash batch_size roots doings
-  own_so [] asks = tt
-  own_so (Does act ∷ doings) asks = (asks.0.0, own_so doings asks.1)
-  own_so (BeginsReclaiming i ∷ doings) asks = (tt, own_so doings asks.1)
-  own_so (BeginsClearing i ∷ doings) asks = (tt, own_so doings asks.1)
-  own_so (StepsReclaiming g ∷ doings) asks = (tt, own_so doings asks.1)
-
   abbrev More : State K V S → Act K V S → Type 0
   More x act = AsksShards (shards_of terms) act
 
+  abbrev So : At V same by_hasher hash batch_size roots → State K V S → Type 0
+  So p x = ShardsAre (shards_of terms) p.0
+
   -- each act makes its map with a new number, and with so many shards
-  both_fit : (aborts : V) (doings : List (Doing K V S)) → AllByRecursion (Asks V same by_hasher hash batch_size roots (shards_of terms)) doings → (x : State K V S)
+  both_fit : (aborts : ℕ → V) (doings : List (Doing K V S)) → AllByRecursion (Asks V same by_hasher hash batch_size roots (shards_of terms)) doings → (x : State K V S)
       → AllFit V same by_hasher hash batch_size roots aborts HasNewNumber doings x
-      → AllFit V same by_hasher hash batch_size roots aborts (Fit V same by_hasher hash batch_size roots aborts (Shards same hash terms) (P same hash terms) (sweeps_are_kept same hash terms) More) doings x
+      → AllFit V same by_hasher hash batch_size roots aborts (Fit V same by_hasher hash batch_size roots aborts (Shards same hash terms) (P same hash terms) (sweeps_are_kept same hash terms) More So) doings x
   both_fit aborts [] asks x new = tt
   both_fit aborts (Does act ∷ doings) asks x new = ((new.0, asks.0.1), λ y e. both_fit aborts doings asks.1 y (new.1 y e))
   both_fit aborts (BeginsReclaiming i ∷ doings) asks x new = (tt, λ y e. both_fit aborts doings asks.1 y (new.1 y e))
   both_fit aborts (BeginsClearing i ∷ doings) asks x new = (tt, λ y e. both_fit aborts doings asks.1 y (new.1 y e))
   both_fit aborts (StepsReclaiming g ∷ doings) asks x new = (tt, λ y e. both_fit aborts doings asks.1 y (new.1 y e))
+  both_fit aborts (Chooses choice ∷ doings) asks x new = (tt, λ y e. both_fit aborts doings asks.1 y (new.1 y e))
 
   pub lists_are_swept : ListsAreSwept V same by_hasher hash batch_size roots terms
-  lists_are_swept small aborts course doings y led asks once =
+  lists_are_swept small aborts course doings y led asks makes_new =
       let first = nothing_done V same by_hasher batch_size roots slot_of course in
-      let new = new_numbers V same by_hasher hash batch_size roots aborts doings (first_state roots) once (λ n made. record { not_come = refl; not_made = λ i b has. absurd (cc has) }) in
+      let new = new_fits V same by_hasher hash batch_size roots aborts doings (first_state roots) makes_new in
       let R = Shards same hash terms in
       let kept = sweeps_are_kept same hash terms in
-      let to = wherever V same by_hasher hash batch_size roots small aborts (Fit V same by_hasher hash batch_size roots aborts R (P same hash terms) kept More)
-      (With V same by_hasher hash batch_size roots aborts R (P same hash terms) kept More)
-      (all_kept V same by_hasher hash batch_size roots aborts R (P same hash terms) kept More (shards_stay V same by_hasher hash batch_size roots (shards_of terms) aborts)) course doings y led (own_so doings asks) (
-        first_holds V same by_hasher hash batch_size roots aborts first.0 refl (numbers_first roots),
+      let to = wherever V same by_hasher hash batch_size roots small aborts (Fit V same by_hasher hash batch_size roots aborts R (P same hash terms) kept More So)
+      (With V same by_hasher hash batch_size roots aborts R (P same hash terms) kept More So)
+      (all_kept V same by_hasher hash batch_size roots aborts R (P same hash terms) kept More So (shards_stay V same by_hasher hash batch_size roots (shards_of terms) aborts) (λ p x none is at all so. so)) course doings y
+      led (own_so V same by_hasher hash batch_size roots aborts (shards_of terms) doings asks) (
+        first_holds V same by_hasher hash batch_size roots aborts first.0 refl (again_first roots),
         (record { standing = λ m st has. absurd (cc has); made = λ i b makes. absurd (cc makes) }, first_swept same terms roots),
       ) (both_fit aborts doings asks (first_state roots) new) in
       (to.0, to.1, to.2.1.1.each)

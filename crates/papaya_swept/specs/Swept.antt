@@ -7,16 +7,17 @@ use Rattle.papaya_scenes.specs.Scene.{slot_of}
 use Rattle.papaya_acts.specs.Doings.{Doing}
 use Rattle.papaya_acts.specs.Lists.{Course, LedTo, Reached}
 use Rattle.papaya_agrees.specs.Agree.{Asks}
-use Rattle.papaya_agrees.specs.Fresh.{MakesOnce}
+use Rattle.papaya_agrees.specs.Fresh.{MakesNew}
 use Rattle.papaya_deeds.specs.History.{IsSwept}
 use Rattle.papaya_played.specs.Play.{State, first_state, play_all}
 
 -- Keys have a hash by each hasher, and each map has one by its number.
 module _ {K S : Type 0} (V : Type 0) (same : K → K → Bool) (by_hasher : S → K → ℕ) (hash : ℕ → K → ℕ) (batch_size roots : ℕ) (terms : Terms) where
-  -- The promise: wherever a list of acts has led whose makings ask for as many shards as the terms say, and in which no number is given to two maps, each entry of
-  -- the history that it comes to as it is played is swept, whatever the values are with which closures abort.
+  -- The promise: wherever a list of acts has led whose makings ask for as many shards as the terms say, and that makes each map with a new number, each entry of the
+  -- history that it comes to as it is played is swept, whatever the values are with which closures abort.
   abbrev pub ListsAreSwept : Type 0
   ListsAreSwept =
-      batch_size < 2 ^ 64 → (aborts : V) (course : Course V same by_hasher batch_size roots slot_of) (doings : List (Doing K V S)) (y : Reached V same by_hasher batch_size roots slot_of)
-      → LedTo V same by_hasher batch_size roots slot_of course doings y → AllByRecursion (Asks V same by_hasher hash batch_size roots (shards_of terms)) doings → MakesOnce doings
+      batch_size < 2 ^ 64 → (aborts : ℕ → V) (course : Course V same by_hasher batch_size roots slot_of) (doings : List (Doing K V S)) (y : Reached V same by_hasher batch_size roots slot_of)
+      → LedTo V same by_hasher batch_size roots slot_of course doings y → AllByRecursion (Asks V same by_hasher hash batch_size roots (shards_of terms)) doings
+      → MakesNew same by_hasher batch_size roots aborts doings (first_state roots)
       → (after : State K V S) × (play_all same by_hasher batch_size roots aborts doings (first_state roots) ≡ Some after) × AtEachEvent (IsSwept same terms) after.history

@@ -50,7 +50,7 @@ use Rattle.papaya_legal.proofs.Given.Scenes.Rows.{begun_there, never_rests, one_
 
 -- a bucket is asked for among the effects of a step that makes room, where it was not known
 module _ (known : Known) where
-  asked_is : (told : Changed) → Tells false true told → list_any asks_for_bucket (effects_of acts.Row known told) ≡ true
+  pub asked_is : (told : Changed) → Tells false true told → list_any asks_for_bucket (effects_of acts.Row known told) ≡ true
       → (bucket : ℕ) × (had : Bool) × (told ≡ changed.Roomed bucket had) × ((had && nat_lt bucket known.buckets) ≡ false)
   asked_is changed.Nothing is asked = absurd (cc asked)
   asked_is (changed.Wrote (Slot t field) old new) is asked = absurd (cc asked)

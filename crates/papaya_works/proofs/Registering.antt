@@ -42,14 +42,14 @@ use Rattle.papaya_legal.specs.Given.Scenes.OnSlots.{RowSteps}
 use Rattle.papaya_legal.specs.Given.Scenes.Scene.{Scene}
 
 -- it asks for room of this bucket by its next step
-abbrev AsksAt : Registering → ℕ → Type 0
+abbrev pub AsksAt : Registering → ℕ → Type 0
 AsksAt at.Begin bucket = bucket ≡ 0
 AsksAt (at.Widen b seen) bucket = b ≡ bucket
 AsksAt _ bucket = ⊥
 
 module _ {K V : Type 0} (m m2 : Mem (Node K V)) (known : Known) (noted : SlotsNoted known m) (told : Changed) (bucket : ℕ) (had : Bool) (is : told ≡ changed.Roomed bucket had)
     (unknown : (had && nat_lt bucket known.buckets) ≡ false) where
-  abbrev Lacks : Type 0
+  abbrev pub Lacks : Type 0
   Lacks = length m.slots + 32 ≡ capacity bucket
 
   -- a bucket that was not known was not there
@@ -90,7 +90,7 @@ module _ {K V : Type 0} (m m2 : Mem (Node K V)) (known : Known) (noted : SlotsNo
   exchange_tells place old new (Taken value) told_is = cc (told_is, is)
   exchange_tells place old new (Roomed roomed) told_is = cc (told_is, is)
 
-  lacks_at : (c : Register) (p : Registering) (end : Register × Progress ℕ) → StepsTold K V (Register × Progress ℕ) m changed.Nothing (plan_at c p) m2 told end → May Can Took value_at m (plan_at {T = Node K V} c p)
+  pub lacks_at : (c : Register) (p : Registering) (end : Register × Progress ℕ) → StepsTold K V (Register × Progress ℕ) m changed.Nothing (plan_at c p) m2 told end → May Can Took value_at m (plan_at {T = Node K V} c p)
       → AsksAt p bucket × Lacks
   lacks_at c at.Begin end s may = let r = room_lacks 0 s.0 s.1.0 s.1.1 may.0 in (sym r.0, r.1)
   lacks_at c at.Look end s may = none_told s.1.1

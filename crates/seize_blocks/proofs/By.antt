@@ -1,16 +1,22 @@
 -- What is asked of the words of a strip is what is known of the strip.
-use Rattle.std.proofs.Common.{◌≡◌, ℕ, Option, None, Some, IsSome, refl, sym, ap, ◌∙◌, subst, arith, ◌*◌, ◌+◌, ◌<◌, ◌≤◌, ◌^◌}
-use denote.RawPtr.{Ptr, null_ptr}
+use Rattle.std.proofs.Common.{◌≡◌, ◌⊎◌, inl, inr, ℕ, Option, None, Some, IsSome, replicate, refl, sym, ap, ◌∙◌, subst, arith, ◌*◌, ◌+◌, ◌<◌, ◌≤◌, ◌^◌}
+use denote.RawPtr.{Ptr, InBlock}
 use Rattle.seize_words.specs.Op.{Op, Out, Make, Take, Rewrite}
 use Rattle.seize_words.specs.declared.at.At.{At}
 use Rattle.seize_words.specs.Mem.{block_of, entry_in, word_in, value_in}
 use Rattle.seize_words.specs.declared.at.At.TheVariants.{Entry, Word}
 use Rattle.seize_words.specs.declared.block.Block.{Block}
 use Rattle.seize_seats.specs.State.{State, Allows, Owns}
-use Rattle.seize_seats.specs.Lendings.{ShownToBoth}
 use Rattle.seize_seats.specs.Visits.{AreSeenAt}
 use Rattle.seize_seats.specs.Reached.{IsAt}
-use Rattle.seize_blocks.specs.Bare.{nowhere}
+use Rattle.seize_seats.specs.Lendings.{ShownToBoth, IsValueOf}
+use Rattle.seize_seats.specs.Visits.{Visit, HoldsKept}
+use Rattle.seize_seats.proofs.Visits.{visits_found, value_found}
+use Rattle.seize_plots.specs.Pieces.{value_of, lies, lies_at}
+use Rattle.seize_plots.specs.declared.kept.Kept.{Kept}
+use Rattle.seize_plots.specs.declared.piece.Piece.{Piece}
+use Rattle.seize_plots.specs.Somewhere.{AreBeside}
+use Rattle.seize_plots.proofs.Somewhere.{beside_none}
 use Rattle.seize_seats.specs.Owned.{BaseId}
 use Rattle.seize_blocks.specs.Placed.{IsItsPlace, IsItsSign, IsItsIndex, HasWord}
 use Rattle.seize_blocks.specs.declared.claim.Claim.{Claim}
@@ -20,12 +26,21 @@ module _ {T V W F : Type 0} (holds : F → State T V W → Type 0) (keeps : V �
   abbrev Same : Ptr → Ptr → BaseId → BaseId → BaseId → F → F → Type 0
   Same p q y z x f h = (p ≡ q) × (y ≡ z) × (f ≡ h) × (z.views_name ≡ x.views_name) × (z.hands_name ≡ x.hands_name)
 
-  pub on_word : (base id : ℕ) (address : Ptr) (place : ℕ) (v : V) (at : At) (op : Op T) (so : Out T → V → Type 0) (p q : Ptr) (y z x : BaseId) (f h : F) → Same p q y z x f h
-      → base ≡ x.views_name → IsItsPlace (holds h) id v q z at address place → Allows (holds h) keeps id v op so
-      → (base ≡ y.views_name) × IsItsPlace (holds f) id v p y at address place × Allows (holds f) keeps id v op so
-  on_word base id address place v at op so p q y z x f h e own lies may =
-      subst (λ (u : Ptr × BaseId × F). (base ≡ u.1.views_name) × IsItsPlace (holds u.2) id v u.0 u.1 at address place × Allows (holds u.2) keeps id v op so)
-      (λ i. (sym e.0 i, sym e.1 i, sym e.2 i)) (own ∙ sym e.3, lies, may)
+  -- what a seat knows is as it was, but for what it visits
+  abbrev AsItWas : ℕ → ℕ → ℕ → ℕ → V → V → Type 0
+  AsItWas base' base id' id v' v = (base' ≡ base) × (id' ≡ id) × (v' ≡ v)
+
+  abbrev Kinds : F → State (Kept T) (V × Visit) W → Type 0
+  Kinds h = HoldsKept value_of lies (holds h)
+
+  pub on_word : (base base' id id' : ℕ) (address : Ptr) (place : ℕ) (v v' : V) (visit : Visit) (at : At) (op : Op T) (so : V → Out T → V → Type 0) (p q : Ptr) (y z x : BaseId)
+      (f h : F) → Same p q y z x f h → AsItWas base' base id' id v' v
+      → base ≡ x.views_name → IsItsPlace (Kinds h) id' (v', visit) q z at address place → Allows (holds h) keeps id v op (so v)
+      → (base' ≡ y.views_name) × IsItsPlace (Kinds f) id' (v', visit) p y at address place × Allows (holds f) keeps id' v' op (so v')
+  on_word base base' id id' address place v v' visit at op so p q y z x f h e s own is may =
+      subst (λ (u : Ptr × BaseId × F). (base' ≡ u.1.views_name) × IsItsPlace (Kinds u.2) id' (v', visit) u.0 u.1 at address place × Allows (holds u.2) keeps id' v' op (so v'))
+      (λ i. (sym e.0 i, sym e.1 i, sym e.2 i))
+      (s.0 ∙ own ∙ sym e.3, is, subst (λ (w : ℕ × V). Allows (holds h) keeps w.0 w.1 op (so w.1)) (λ i. (sym s.1 i, sym s.2 i)) may)
 
   pub on_take : (base id block index first : ℕ) (v : V) (at p q : Ptr) (y z x : BaseId) (f h : F) (so : Out T → V → Type 0) → Same p q y z x f h → base ≡ x.views_name
       → IsItsIndex z block index → at ≡ z.values → first ≡ index * 5 + z.skip → first + 4 < 2 ^ 60 → Allows (holds h) keeps id v (Take block) so
@@ -36,21 +51,34 @@ module _ {T V W F : Type 0} (holds : F → State T V W → Type 0) (keeps : V �
       × (first + 2 ≡ first + 2) × (first + 3 ≡ first + 3) × (first + 4 ≡ first + 4) × (first + 4 < 2 ^ 60) × Allows (holds u.1) keeps id v (Take block) so)
       (λ i. (sym e.1 i, sym e.2 i)) (own ∙ sym e.3, lies, values, is, refl, refl, refl, refl, few, may)
 
-  pub on_rewrite : (base id block index : ℕ) (v : V) (value : T) (at p q : Ptr) (y z x : BaseId) (f h : F) (so : Out T → V → Type 0) → Same p q y z x f h
-      → base ≡ x.views_name → IsItsIndex z block index → at ≡ z.values → Owns (holds h) keeps id v block → Allows (holds h) keeps id v (Rewrite block value) so
-      → (base ≡ y.views_name) × IsItsIndex y block index × (at ≡ y.values) × Owns (holds f) keeps id v block × Allows (holds f) keeps id v (Rewrite block value) so
-  on_rewrite base id block index v value at p q y z x f h so e own lies values alone may =
-      subst (λ (u : BaseId × F). (base ≡ u.0.views_name) × IsItsIndex u.0 block index × (at ≡ u.0.values) × Owns (holds u.1) keeps id v block
-      × Allows (holds u.1) keeps id v (Rewrite block value) so) (λ i. (sym e.1 i, sym e.2 i)) (own ∙ sym e.3, lies, values, alone, may)
+  pub on_rewrite : (base base' id id' block index : ℕ) (v v' : V) (visit : Visit) (kept : Kept T) (at p q : Ptr) (y z x : BaseId) (f h : F) (so : V → Out T → V → Type 0)
+      → Same p q y z x f h → AsItWas base' base id' id v' v → visit ≡ Some (block, lies kept)
+      → base ≡ x.views_name → IsItsIndex z block index → at ≡ z.values → Owns (holds h) keeps id v block → Allows (holds h) keeps id v (Rewrite block kept.value) (so v)
+      → (base' ≡ y.views_name) × IsItsIndex y block index × (at ≡ y.values) × ((k : Kept T) → IsValueOf (Kinds f) id' (v', visit) block k → lies k ≡ lies kept)
+      × Owns (holds f) keeps id' v' block × Allows (holds f) keeps id' v' (Rewrite block kept.value) (so v')
+  on_rewrite base base' id id' block index v v' visit kept at p q y z x f h so e s seen own is values alone may =
+      subst (λ (u : BaseId × F). (base' ≡ u.0.views_name) × IsItsIndex u.0 block index × (at ≡ u.0.values)
+      × ((k : Kept T) → IsValueOf (Kinds u.1) id' (v', visit) block k → lies k ≡ lies kept)
+      × Owns (holds u.1) keeps id' v' block × Allows (holds u.1) keeps id' v' (Rewrite block kept.value) (so v')) (λ i. (sym e.1 i, sym e.2 i)) (
+        s.0 ∙ own ∙ sym e.3,
+        is,
+        values,
+        λ k of. value_found value_of lies (holds h) keeps id' v' block (lies kept) k (subst (λ (w : Visit). IsValueOf (Kinds h) id' (v', w) block k) seen of),
+        subst (λ (w : ℕ × V). Owns (holds h) keeps w.0 w.1 block) (λ i. (sym s.1 i, sym s.2 i)) alone,
+        subst (λ (w : ℕ × V). Allows (holds h) keeps w.0 w.1 (Rewrite block kept.value) (so w.1)) (λ i. (sym s.1 i, sym s.2 i)) may,
+      )
 
-  pub on_put : (base id index first count words : ℕ) (v : V) (value : T) (at p q : Ptr) (y z x : BaseId) (f h : F) (claim : Claim) (so : Out T → V → Type 0)
+  pub on_put : (base id index first count : ℕ) (v : V) (kept : Kept T) (piece : Piece) (at p q : Ptr) (y z x : BaseId) (f h : F) (claim : Claim) (so : Out T → V → Type 0)
       → Same p q y z x f h → base ≡ x.views_name → (claim.found ≡ 0) × (claim.base ≡ x.hands_name) × (claim.index ≡ first + index)
-      → z.values ≡ at → z.first ≡ first → z.size ≡ count → index < count → first + count ≤ 2 ^ 32 → words ≡ 0 → Allows (holds h) keeps id v (Make value words) so
+      → z.values ≡ at → z.first ≡ first → z.size ≡ count → index < count → first + count ≤ 2 ^ 32
+      → (piece.at ≡ kept.at) × (piece.count ≡ kept.count) × (piece.words ≡ replicate kept.count 0) → Allows (holds h) keeps id v (Make kept.value kept.count) so
       → (base ≡ y.views_name) × (claim.base ≡ y.hands_name) × (claim.found ≡ 0) × (claim.index ≡ y.first + index) × (index < y.size) × (y.first + index + 1 < 2 ^ 53)
-      × (at ≡ y.values) × (words ≡ 0) × Allows (holds f) keeps id v (Make value words) so
-  on_put base id index first count words v value at p q y z x f h claim so e own had values begins size lt few none may =
+      × (at ≡ y.values) × (piece.at ≡ kept.at) × (piece.count ≡ kept.count) × (piece.words ≡ replicate kept.count 0)
+      × Allows (holds f) keeps id v (Make kept.value kept.count) so
+  on_put base id index first count v kept piece at p q y z x f h claim so e own had values begins size lt few zeros may =
       subst (λ (u : BaseId × F). (base ≡ u.0.views_name) × (claim.base ≡ u.0.hands_name) × (claim.found ≡ 0) × (claim.index ≡ u.0.first + index) × (index < u.0.size)
-      × (u.0.first + index + 1 < 2 ^ 53) × (at ≡ u.0.values) × (words ≡ 0) × Allows (holds u.1) keeps id v (Make value words) so)
+      × (u.0.first + index + 1 < 2 ^ 53) × (at ≡ u.0.values) × (piece.at ≡ kept.at) × (piece.count ≡ kept.count) × (piece.words ≡ replicate kept.count 0)
+      × Allows (holds u.1) keeps id v (Make kept.value kept.count) so)
       (λ i. (sym e.1 i, sym e.2 i)) (
         own ∙ sym e.3,
         had.1 ∙ sym e.4,
@@ -59,7 +87,9 @@ module _ {T V W F : Type 0} (holds : F → State T V W → Type 0) (keeps : V �
         subst (λ (k : ℕ). index < k) (sym size) lt,
         omega (arith, begins, lt, few),
         sym values,
-        none,
+        zeros.0,
+        zeros.1,
+        zeros.2,
         may,
       )
 
@@ -79,19 +109,25 @@ pub shows_block : {T V W : Type 0} (holds : State T V W → Type 0) (id : ℕ) (
 shows_block holds id v b i has = λ t h at at'. entry_some (block_of t.memory b) i (has t h at)
 
 -- a word of its own is one of a block
-value_of : {T : Type 0} (x : Option (Block T)) (i : ℕ) → IsSome (word_in x i) → (y : T) × (value_in x ≡ Some y)
-value_of None i some = absurd (cc some)
-value_of (Some x) i some = (x.value, refl)
+block_value : {T : Type 0} (x : Option (Block T)) (i : ℕ) → IsSome (word_in x i) → (y : T) × (value_in x ≡ Some y)
+block_value None i some = absurd (cc some)
+block_value (Some x) i some = (x.value, refl)
 
 -- and so where there is a word of its own
 pub shows_own : {T V W : Type 0} (holds : State T V W → Type 0) (id : ℕ) (v : V) (b i : ℕ) → HasWord holds id v (Word b i) → ShownToBoth holds id v id v b
-shows_own {T} holds id v b i has t h at at' = let s = value_of (block_of t.memory b) i (has t h at) in subst (λ (y : Option T). IsSome y) (sym s.1) refl
+shows_own {T} holds id v b i has t h at at' = let s = block_value (block_of t.memory b) i (has t h at) in subst (λ (y : Option T). IsSome y) (sym s.1) refl
 
--- No block has words of its own: nobody can ask for one of them, wherever it is looked for.
-pub no_own : {T V W : Type 0} (holds : State T V W → Type 0) (id : ℕ) (v : V) (b i : ℕ) (p address : Ptr) (z : BaseId) (index : ℕ) → IsItsIndex z b index
-    → HasWord holds id v (Word b i)
-    → IsAt nowhere holds id v p z (Word b i) address 0
-no_own holds id v b i p address z index is has = (is.0, (null_ptr, seen, λ no few. absurd no))
+-- of a block that the seat visits, its own words lie where it has seen them
+pub own_lies : {T V W : Type 0} (holds : State T V W → Type 0) (keeps : V → V → W → ℕ → Type 0) (id : ℕ) (v : V) (visit : Visit) (b i : ℕ) (s : Ptr × ℕ) (p address : Ptr) (place : ℕ)
+    (z : BaseId) (index : ℕ) → IsItsIndex z b index → visit ≡ Some (b, s) → (InBlock s.0 → i * 8 < 2 ^ 63 → (s.0 ≡ address) × (place ≡ i))
+    → IsAt lies_at (HoldsKept value_of lies holds) id (v, visit) p z (Word b i) address place
+own_lies {T} {V} {W} holds keeps id v visit b i s p address place z index is at lands =
+    subst (λ (y : Visit). IsAt lies_at (HoldsKept value_of lies holds) id (v, y) p z (Word b i) address place) (sym at) (is.0, (s.0, seen, lands))
   where
-    seen : AreSeenAt nowhere holds id v b null_ptr
-    seen t ok at = let s = value_of (block_of t.memory b) i (has t ok at) in (s.0, s.1, refl)
+    seen : AreSeenAt lies_at (HoldsKept value_of lies holds) id (v, Some (b, s)) b s.0
+    seen t ok here = let f = visits_found value_of lies holds keeps t id v b s ok here in (f.0, f.1, ap (λ (u : Ptr × ℕ). u.0) f.2)
+
+-- a word that is looked for elsewhere is none
+pub own_away : (p : Ptr) (n i : ℕ) → AreBeside p n → ((0 < n) × (2 ^ 60 ≤ i)) ⊎ (n ≤ 0) → InBlock p → i * 8 < 2 ^ 63 → ⊥
+own_away p n i is (inl far) there few = let high = far.1 in omega (arith, high, few)
+own_away p n i is (inr none) there few = beside_none p n is (omega (arith, none)) there

@@ -30,12 +30,12 @@ use Rattle.std.specs.contracts.marker.PhantomData as marker
 use Rattle.seize_blocks.specs.declared.rule.Rule.{Ghosts}
 use Rattle.seize_blocks.specs.contracts.words.Words as words
 use Rattle.seize_blocks.specs.contracts.seat.Seat as seat
-use Rattle.seize_blocks.specs.contracts.row.Row as row
+pub use Rattle.seize_plots.proofs.Fields.{token, Mark, mark_told, mark_made, one_of, Places, places_told, places_made, one_good}
 use Rattle.seize_blocks.specs.contracts.claim.Claim as claim
 use Rattle.seize_blocks.specs.contracts.strip.Strip as strip
-use Rattle.seize_blocks.specs.contracts.place.Place as place
-use Rattle.seize_blocks.specs.contracts.place.Doors as doors
-use Rattle.seize_blocks.specs.contracts.place.Address as address
+use Rattle.seize_plots.specs.contracts.place.Place as place
+use Rattle.seize_plots.specs.contracts.place.Doors as doors
+use Rattle.seize_plots.specs.contracts.place.Address as address
 
 pub word_laws : Laws u64
 word_laws = of_field u64-field u64-laws refl (copy_shared u64-field u64-copy)
@@ -57,10 +57,6 @@ module _ (X R V F : RattleType) (g : Ghosts R.Denot X.Denot V.Denot F.Denot) whe
     RawPtr-copy.copied M 𝓤 𝓛,
     ((field_copy (marker.the_type (Tuple (X ∷ R ∷ []))) tt).copied M 𝓤 𝓛, tt),
   )).opens
-
--- a seat, which has no bytes
-abbrev pub token : Val
-token = vstruct (vcons (vstruct vnil) vnil)
 
 module _ (X R V F : RattleType) (g : Ghosts R.Denot X.Denot V.Denot F.Denot) where
   abbrev pub Token : RattleType
@@ -84,55 +80,10 @@ module _ (X R V F : RattleType) (g : Ghosts R.Denot X.Denot V.Denot F.Denot) whe
     ),
   )
 
--- what is known of a strip, or a right to its block, which has no bytes
-module _ (X : RattleType) where
-  abbrev pub Mark : RattleType
-  Mark = Struct record { name = []; args = []; types = []; fields = marker.the_row X ∷ [] }
-
-  pub mark_told : (vs : List Val) → Is Mark (record {}, tt) vs → vs ≡ token ∷ []
-  mark_told vs is = is.1.0 ∙ ap (λ (ws : List Val). vstruct (of_list (ws ++ [])) ∷ []) is.1.1.0.1.0
-
-  pub mark_made : {M : Type 1} {𝓤 : Ura M} (𝓛 : Logic 𝓤) → ent 𝓤 (emp 𝓤) (sem 𝓛 (Mark.own_val (record {}, tt) (token ∷ [])))
-  mark_made 𝓛 = makes_shadow 𝓛 (Mark.own_val (record {}, tt) (token ∷ [])) (λ vss. (tt, ((λ uss. (tt, tt)), tt))) (
-    (vstruct vnil ∷ [], tt),
-    (
-      refl,
-      (
-        (
-          tt,
-          (
-            refl,
-            tt,
-          ),
-        ),
-        tt,
-      ),
-    ),
-  )
-
--- an address alone
-abbrev pub one_of : Ptr → Val
-one_of p = vstruct (vcons (ptr_val p) vnil)
-
-module _ (R : RattleType) where
-  abbrev pub Places : RattleType
-  Places = Struct (shape (row.the_type R))
-
-  pub places_told : (p : Ptr) (vs : List Val) → Is Places (p, tt) vs → vs ≡ one_of p ∷ []
-  places_told p vs is = is.1.0 ∙ ap (λ (ws : List Val). vstruct (of_list (ws ++ [])) ∷ []) is.1.1.0
-
-  pub places_made : {M : Type 1} {𝓤 : Ura M} (𝓛 : Logic 𝓤) (p : Ptr) → ent 𝓤 (emp 𝓤) (sem 𝓛 (Places.own_val (p, tt) (one_of p ∷ [])))
-  places_made 𝓛 p = makes_shadow 𝓛 (Places.own_val (p, tt) (one_of p ∷ [])) (λ vss. (tt, (tt, tt))) ((ptr_val p ∷ [], tt), (refl, (refl, tt)))
-
--- each of these is stored as its type says
-pub one_good : (p : Ptr) → T (has_ty (ty_struct [] (tcons ty_ptr tnil)) (one_of p)) × WT (one_of p)
-one_good (block_ptr b o) = (tt, (tt, tt))
-one_good null_ptr = (tt, ((Ptr-Good null_ptr).1, tt))
-
 closed_typed : (p q r : Ptr)
     → T (has_ty (ty_struct [] (tcons (ty_struct [] (tcons ty_ptr tnil)) (tcons (ty_struct [] (tcons ty_ptr tnil)) (tcons (ty_struct [] (tcons ty_ptr tnil))
-    (tcons (ty_struct [] (tcons (ty_struct [] tnil) tnil)) tnil)))))
-    (vstruct (vcons (one_of p) (vcons (one_of q) (vcons (one_of r) (vcons token vnil))))))
+    (tcons (ty_struct [] (tcons (ty_struct [] tnil) tnil)) (tcons (ty_struct [] (tcons (ty_struct [] tnil) tnil)) tnil))))))
+    (vstruct (vcons (one_of p) (vcons (one_of q) (vcons (one_of r) (vcons token (vcons token vnil)))))))
 closed_typed (block_ptr b o) (block_ptr c u) (block_ptr d v) = tt
 closed_typed (block_ptr b o) (block_ptr c u) null_ptr = tt
 closed_typed (block_ptr b o) null_ptr (block_ptr d v) = tt
@@ -144,10 +95,10 @@ closed_typed null_ptr null_ptr null_ptr = tt
 
 pub closed_good : (p q r : Ptr)
     → T (has_ty (ty_struct [] (tcons (ty_struct [] (tcons ty_ptr tnil)) (tcons (ty_struct [] (tcons ty_ptr tnil)) (tcons (ty_struct [] (tcons ty_ptr tnil))
-    (tcons (ty_struct [] (tcons (ty_struct [] tnil) tnil)) tnil)))))
-    (vstruct (vcons (one_of p) (vcons (one_of q) (vcons (one_of r) (vcons token vnil))))))
-    × WT (vstruct (vcons (one_of p) (vcons (one_of q) (vcons (one_of r) (vcons token vnil)))))
-closed_good p q r = (closed_typed p q r, ((one_good p).1, ((one_good q).1, ((one_good r).1, ((tt, tt), tt)))))
+    (tcons (ty_struct [] (tcons (ty_struct [] tnil) tnil)) (tcons (ty_struct [] (tcons (ty_struct [] tnil) tnil)) tnil))))))
+    (vstruct (vcons (one_of p) (vcons (one_of q) (vcons (one_of r) (vcons token (vcons token vnil)))))))
+    × WT (vstruct (vcons (one_of p) (vcons (one_of q) (vcons (one_of r) (vcons token (vcons token vnil))))))
+closed_good p q r = (closed_typed p q r, ((one_good p).1, ((one_good q).1, ((one_good r).1, ((tt, tt), ((tt, tt), tt))))))
 
 opened_typed : (p q r : Ptr)
     → T (has_ty (ty_struct [] (tcons (ty_struct [] (tcons ty_ptr (tcons (ty_struct [] tnil) tnil))) (tcons (ty_struct [] (tcons ty_ptr tnil)) (tcons (ty_struct [] (tcons ty_ptr tnil)) tnil))))

@@ -1,3 +1,3 @@
 pub mod Fields
-pub mod Placing
+pub mod Lives
 pub mod By

@@ -6,11 +6,12 @@ use Rattle.seize_words.specs.declared.at.At.{At}
 use Rattle.seize_seats.specs.State.{State, view_of}
 use Rattle.seize_seats.specs.Owned.{BaseId, IsIts}
 use Rattle.seize_seats.specs.Reached.{IsAt}
-use Rattle.seize_blocks.specs.Bare.{nowhere}
+use Rattle.seize_plots.specs.Pieces.{lies_at}
+use Rattle.seize_plots.specs.declared.kept.Kept.{Kept}
 
 -- the word of the name lies so many words on from this address, if there is such a word; in any case the address is one in a block, and the number small
-abbrev pub IsItsPlace : {T V W : Type 0} → (State T V W → Type 0) → ℕ → V → Ptr → BaseId → At → Ptr → ℕ → Type 0
-IsItsPlace holds id v p z at address place = InBlock address × (place < 2 ^ 60) × IsAt nowhere holds id v p z at address place
+abbrev pub IsItsPlace : {T V W : Type 0} → (State (Kept T) V W → Type 0) → ℕ → V → Ptr → BaseId → At → Ptr → ℕ → Type 0
+IsItsPlace holds id v p z at address place = InBlock address × (place < 2 ^ 60) × IsAt lies_at holds id v p z at address place
 
 -- there is such a number, and its sign lies at the place
 abbrev pub IsItsSign : BaseId → ℕ → ℕ → Type 0

@@ -1,29 +1,22 @@
 //! The memory as a whole, as those use it who share it.
-ghost use Rattle.std.specs.Prelude.{◌≡◌, ◌+◌, ◌-◌, ◌*◌, ◌≤◌, ◌<◌, ◌^◌, IfSome};
-ghost use denote.RawPtr.{InBlock};
+ghost use Rattle.std.specs.Prelude.{◌≡◌, ◌≤◌, ◌<◌, ◌^◌};
 ghost use Rattle.seize_words.specs.Op.{Load, Store, Swap, Add, Or, Exchange, Make, Take, Rewrite, Room, Found, Stored, Exchanged, Made, Taken, Roomed};
 ghost use Rattle.seize_seats.specs.State.{Allows, Owns, Turns, Comes, Meets, Renews};
-ghost use Rattle.seize_seats.specs.Lines.{long};
-ghost use Rattle.seize_seats.specs.Owned.{core_of, IsFirst};
+ghost use Rattle.seize_seats.specs.Owned.{IsFirst};
 ghost use Rattle.seize_seats.specs.Lendings.{Shown, ShownToBoth, IsValueOf, IsValueOfBoth};
-ghost use Rattle.seize_words.specs.declared.at.At.TheVariants.{Word};
-ghost use Rattle.seize_blocks.specs.Placed.{IsItsPlace, IsItsIndex, IsBehind, HasWord};
 
-use crate::part::{Reached, Spot, places_in, words_in};
-use crate::place::{Doors, Place};
-use crate::plot::skip_of;
 use crate::rule::{Meeting, Rule, Turn};
 use crate::seat::Seat;
-use crate::strip::Strip;
 use crate::words::Words;
+use seize_plots::{Doors, Kept, Laid, Place, give_words, lay_words};
 use seize_words::{At, Fault};
 use std::alloc::Global;
 
 /// The most numbers that a memory has.
 pub(crate) const MOST: u64 = 4294967296;
 
-/// A memory that threads share under a rule. It has words of roots and of the slots of the first bucket, and numbers for blocks, which have no words of
-/// their own yet: so many in the first strip, and as many again with each further one, which is laid where it is needed.
+/// A memory that threads share under a rule. It has words of roots and of the slots of the first bucket, and numbers for blocks: so many in the first strip,
+/// and as many again with each further one, which is laid where it is needed. Words of a block's own lie in memory beside it.
 pub struct Blocks<T, R: Rule<T>> {
     pub(crate) alloc: Global,
     pub words: Words<T, R>,
@@ -38,141 +31,6 @@ pub struct Blocks<T, R: Rule<T>> {
 }
 
 impl<T, R: Rule<T>> Blocks<T, R> {
-    /// From where an operation on the word of a name is made: by which strip, from which address, and how many words on. Whatever the state is, if the seat
-    /// has this view then there is such a word.
-    #[inline(always)]
-    fn place_of(&self, seat: &Seat<T, R>, at: At) -> Reached<T>
-        requires own { seat.now.base ≡ self.now.words.id.views_name }
-        requires there { HasWord (R.holds self.now.words.fixed) seat.now.id seat.now.view at }
-        ensures { (core_of result.strip.id ≡ core_of self.now.words.id) × InBlock result.strip.words
-            × IsItsPlace (R.holds self.now.words.fixed) seat.now.id seat.now.view result.strip.words result.strip.id at result.address result.place }
-    {
-        match at {
-            At::Root(root) if root < self.roots => self.first_place(root * 16),
-            At::Used(root) if root < self.roots => self.first_place((self.roots + root) * 16),
-            At::Slot(slot, field) if slot < 32 && field < 2 => {
-                self.first_place((self.roots + self.roots + slot) * 16 + field)
-            }
-            At::Entry(block, word) if word < 4 => {
-                let spot = self.spot_of(seat, seat, block);
-                let words = words_in(&spot.strip);
-                let address = words.at;
-                Reached {
-                    address,
-                    place: spot.first + word,
-                    strip: spot.strip,
-                }
-            }
-            At::Word(block, own) => self.own_place(seat, block, own),
-            _ => self.first_place(0),
-        }
-    }
-
-    /// The place of a word of the first strip.
-    #[inline(always)]
-    fn first_place(&self, place: u64) -> Reached<T>
-        ensures { (result.strip.id ≡ self.now.words.id) × (result.strip.words ≡ self.now.words.words) × InBlock result.strip.words
-            × (result.address ≡ result.strip.words) × (result.place ≡ place) }
-    {
-        let strip = self.words.strip();
-        let words = words_in(&strip);
-        let address = words.at;
-        Reached {
-            strip,
-            address,
-            place,
-        }
-    }
-
-    /// The place of a word of a block's own. No block has any yet, so nobody may ask for one.
-    fn own_place(&self, seat: &Seat<T, R>, block: u64, own: u64) -> Reached<T>
-        requires own { seat.now.base ≡ self.now.words.id.views_name }
-        requires there { HasWord (R.holds self.now.words.fixed) seat.now.id seat.now.view (Word block own) }
-        ensures { (core_of result.strip.id ≡ core_of self.now.words.id) × InBlock result.strip.words
-            × IsItsPlace (R.holds self.now.words.fixed) seat.now.id seat.now.view result.strip.words result.strip.id (Word block own) result.address result.place }
-    {
-        let spot = self.spot_of(seat, seat, block);
-        let words = words_in(&spot.strip);
-        let address = words.at;
-        Reached {
-            strip: spot.strip,
-            address,
-            place: 0,
-        }
-    }
-
-    /// Where the words of a number of the first strip lie: the first of them.
-    #[inline(always)]
-    fn first_of(&self, index: u64) -> u64
-        requires { index ≤ 2 ^ 32 }
-        ensures { result ≡ index * 5 + long self.now.words.id.roots }
-    {
-        index * 5 + (self.roots + self.roots + 32) * 16
-    }
-
-    /// Behind which door the strip of a number is, and how many numbers come before those of the strip.
-    pub(crate) fn door_of(&self, index: u64) -> (u64, u64)
-        requires { (self.now.words.id.least ≤ index) × (index < 2 ^ 32) }
-        ensures { IsBehind self.now.words.id.least index result.0 result.1 }
-    {
-        let mut first = self.count;
-        for door in 0..32 {
-            if index < first * 2 {
-                return (door, first);
-            }
-            first = first * 2;
-        }
-        unreachable!()
-    }
-
-    /// Where a block is: in which strip, its index there, and where the first of its words lies. The views of two seats show the block.
-    #[inline(always)]
-    fn spot_of(&self, guard: &Seat<T, R>, owner: &Seat<T, R>, block: u64) -> Spot<T>
-        requires own { (guard.now.base ≡ self.now.words.id.views_name) × (owner.now.base ≡ self.now.words.id.views_name) }
-        requires shown { ShownToBoth (R.holds self.now.words.fixed) guard.now.id guard.now.view owner.now.id owner.now.view block }
-        ensures strip { (core_of result.strip.id ≡ core_of self.now.words.id) × InBlock result.strip.words × (result.values ≡ result.strip.id.values) }
-        ensures index { IsItsIndex result.strip.id block result.index × (result.index < 2 ^ 32) }
-        ensures words { (result.first ≡ result.index * 5 + result.strip.id.skip) × (result.first + 4 < 2 ^ 60) }
-    {
-        if block <= self.count || block > MOST {
-            let index = if block > 0 && block <= self.count {
-                block - 1
-            } else {
-                0
-            };
-            return Spot {
-                strip: self.words.strip(),
-                values: self.values.at,
-                index,
-                first: self.first_of(index),
-            };
-        }
-        self.far_spot_of(guard, owner, block)
-    }
-
-    /// The same, of a block whose number lies behind a door.
-    fn far_spot_of(&self, guard: &Seat<T, R>, owner: &Seat<T, R>, block: u64) -> Spot<T>
-        requires far { (self.now.words.id.least < block) × (block ≤ 2 ^ 32) }
-        requires own { (guard.now.base ≡ self.now.words.id.views_name) × (owner.now.base ≡ self.now.words.id.views_name) }
-        requires shown { ShownToBoth (R.holds self.now.words.fixed) guard.now.id guard.now.view owner.now.id owner.now.view block }
-        ensures strip { (core_of result.strip.id ≡ core_of self.now.words.id) × InBlock result.strip.words × (result.values ≡ result.strip.id.values) }
-        ensures index { IsItsIndex result.strip.id block result.index × (result.index < 2 ^ 32) }
-        ensures words { (result.first ≡ result.index * 5 + result.strip.id.skip) × (result.first + 4 < 2 ^ 60) }
-    {
-        let (door, first) = self.door_of(block - 1);
-        let strip = self.words.find(guard, owner, block, self.doors.at, door);
-        let place = places_in(&strip);
-        let values = place.at;
-        let skip = skip_of::<T>(first as usize) as u64;
-        let index = block - 1 - first;
-        Spot {
-            strip,
-            values,
-            index,
-            first: index * 5 + skip,
-        }
-    }
-
     /// A seat more.
     pub fn seat(&self) -> Seat<T, R>
         requires { Comes (R.holds self.now.words.fixed) R.keeps (R.newcomer self.now.words.fixed) }
@@ -324,9 +182,9 @@ impl<T, R: Rule<T>> Blocks<T, R> {
         (self.count / 32).wrapping_mul(slot)
     }
 
-    /// Makes a block of a value and as many words, each 0, and answers its number. There are no blocks with words of their own yet. Where such
-    /// a block is asked for, or no number is free and no further strip can be laid, the value comes back. A number is looked for from `near` on, which is then
-    /// where to look for the next one: with one of their own, those who make blocks don't meet.
+    /// Makes a block of a value and so many words of its own, each 0, and answers its number. Where there is no memory for the words, or no number is free and no
+    /// further strip can be laid, the value comes back. A number is looked for from `near` on, which is then where to look for the next one: with one of their
+    /// own, those who make blocks don't meet.
     pub fn make(
         &self,
         seat: &mut Seat<T, R>,
@@ -339,22 +197,33 @@ impl<T, R: Rule<T>> Blocks<T, R> {
         ensures same { (seat.new.base ≡ seat.old.base) × (seat.new.id ≡ seat.old.id) }
         ensures goes { R.then seat.old.view (Make value words) (Made result) seat.new.view }
     {
-        match self.number(*near, words) {
+        let Some(laid) = lay_words(&self.alloc, words) else {
+            self.words.refuse(seat, &value, words);
+            return Err(value);
+        };
+        let Laid { at, piece } = laid;
+        match self.number(*near) {
             Some((part, index, claim)) => {
                 *near = part.first + index + 1;
+                let kept = Kept {
+                    value,
+                    at,
+                    count: words,
+                };
                 self.words
                     .by(&part.strip)
-                    .put(seat, claim, index, part.values, value, words);
+                    .put(seat, claim, index, part.values, kept, piece);
                 Ok(part.first + index + 1)
             }
             None => {
+                give_words(&self.alloc, at, words, piece);
                 self.words.refuse(seat, &value, words);
                 Err(value)
             }
         }
     }
 
-    /// Takes a block away, and answers its value. Its number is free from then on.
+    /// Takes a block away, gives its own words back, and answers its value. Its number is free from then on.
     #[inline(always)]
     pub fn take(&self, seat: &mut Seat<T, R>, block: u64) -> T
         requires own { seat.old.base ≡ self.now.words.id.views_name }
@@ -364,7 +233,7 @@ impl<T, R: Rule<T>> Blocks<T, R> {
     {
         let spot = self.spot_of(seat, seat, block);
         let first = spot.first;
-        let value = self.words.by(&spot.strip).take(
+        let (kept, piece) = self.words.by(&spot.strip).take(
             seat,
             block,
             spot.index,
@@ -375,8 +244,11 @@ impl<T, R: Rule<T>> Blocks<T, R> {
             first + 3,
             first + 4,
         );
-        match value {
-            Some(value) => value,
+        match kept {
+            Some(Kept { value, at, count }) => {
+                give_words(&self.alloc, at, count, piece);
+                value
+            }
             None => unreachable!(),
         }
     }
@@ -389,13 +261,28 @@ impl<T, R: Rule<T>> Blocks<T, R> {
         ensures same { (seat.new.base ≡ seat.old.base) × (seat.new.id ≡ seat.old.id) }
         ensures goes { R.then seat.old.view (Rewrite block value) (Taken result) seat.new.view }
     {
+        self.words.visit(seat, block);
         let spot = self.spot_of(seat, seat, block);
+        let beside = self.beside(seat, &spot, block);
+        let at = beside.at;
+        let kept = Kept {
+            value,
+            at,
+            count: beside.count,
+        };
         match self
             .words
             .by(&spot.strip)
-            .rewrite(seat, block, spot.index, spot.values, value)
+            .rewrite(seat, block, spot.index, spot.values, kept)
         {
-            Some(before) => before,
+            Some(before) => {
+                let Kept {
+                    value,
+                    at: _,
+                    count: _,
+                } = before;
+                value
+            }
             None => unreachable!(),
         }
     }
@@ -428,7 +315,7 @@ impl<T, R: Rule<T>> Blocks<T, R> {
             .words
             .value(&spot.strip, guard, owner, block, spot.index, spot.values)
         {
-            Some(value) => value,
+            Some(kept) => &kept.value,
             None => unreachable!(),
         }
     }

@@ -2,13 +2,14 @@
 ghost use Rattle.std.specs.Prelude.{◌≡◌, ◌+◌, ◌*◌, ◌≤◌, ◌<◌, ◌^◌, IfSome};
 ghost use Rattle.seize_seats.specs.Doors.{block_bytes};
 ghost use Rattle.seize_seats.specs.Owned.{stride};
+ghost use Rattle.seize_plots.specs.contracts.kept.Kept.{the_row as KeptOf};
 ghost use Rattle.seize_blocks.specs.Parts.{IsHad, IsPart, IsClaimed};
 
 use crate::blocks::{Blocks, MOST};
 use crate::claim::Claim;
 use crate::part::{Part, places_in};
-use crate::plot::{fits, lay_strip, skip_of, take_back};
 use crate::rule::Rule;
+use seize_plots::{Kept, fits, lay_strip, skip_of, take_back};
 use std::ptr::NonNull;
 
 /// The index itself, or what is left of it round at so many.
@@ -42,7 +43,7 @@ impl<T, R: Rule<T>> Blocks<T, R> {
         let place = places_in(&strip);
         match NonNull::new(place.at) {
             Some(_) => {
-                let skip = skip_of::<T>(first as usize) as u64;
+                let skip = skip_of::<Kept<T>>(first as usize) as u64;
                 let values = place.at;
                 Some(Part {
                     strip,
@@ -68,7 +69,7 @@ impl<T, R: Rule<T>> Blocks<T, R> {
         match self.part_behind(door, first) {
             Some(part) => Some(part),
             None => {
-                if fits::<T>(first as usize) {
+                if fits::<Kept<T>>(first as usize) {
                     self.lay(last, door, first);
                     self.part_behind(door, first)
                 } else {
@@ -81,9 +82,9 @@ impl<T, R: Rule<T>> Blocks<T, R> {
     /// Lays a strip behind a door, if there is memory and the door is null.
     fn lay(&self, last: &Part<T>, door: u64, first: u64)
         requires { IsPart self.now.words.id last.now door × (first ≡ last.now.first + last.now.count) × (door < 32) × (first + first ≤ 2 ^ 32)
-            × (block_bytes T.row first < 2 ^ 63) × (first * stride T.row < 2 ^ 63) }
+            × (block_bytes (KeptOf T.row) first < 2 ^ 63) × (first * stride (KeptOf T.row) < 2 ^ 63) }
     {
-        if let Ok((places, words, deed)) = lay_strip::<T>(&self.alloc, first as usize) {
+        if let Ok((places, words, deed)) = lay_strip::<Kept<T>>(&self.alloc, first as usize) {
             let (found, place, left) = self
                 .words
                 .offer(&last.strip, self.doors.at, door, places, words, deed);
@@ -162,13 +163,10 @@ impl<T, R: Rule<T>> Blocks<T, R> {
         None
     }
 
-    /// A number that was free and is claimed now, with its strip and its index in it, for a block without words of its own. It is looked for from this one on.
-    pub(crate) fn number(&self, from: u64, words: u64) -> Option<(Part<T>, u64, Claim)>
-        ensures { IfSome result (λ c. (words ≡ 0) × IsClaimed self.now.words.id c) }
+    /// A number that was free and is claimed now, with its strip and its index in it. It is looked for from this one on.
+    pub(crate) fn number(&self, from: u64) -> Option<(Part<T>, u64, Claim)>
+        ensures { IfSome result (λ c. IsClaimed self.now.words.id c) }
     {
-        if words != 0 {
-            return None;
-        }
         match self.near(from) {
             Some(claimed) => Some(claimed),
             None => self.anywhere(from),

@@ -1,14 +1,14 @@
 //! A strip with what its numbers are found by.
 ghost use Rattle.std.specs.Prelude.{◌≡◌, ◌+◌, ◌*◌, ◌^◌, ◌<◌, ◌≤◌};
 
-use crate::place::{Address, Place};
 use crate::strip::Strip;
+use seize_plots::{Address, Kept, Place};
 
 /// A strip, where its values lie, how many numbers come before its own and how many it has, and how many words come before theirs.
 #[derive(Drop)]
 pub(crate) struct Part<T> {
     pub(crate) strip: Strip<T>,
-    pub(crate) values: *mut Option<T>,
+    pub(crate) values: *mut Option<Kept<T>>,
     pub(crate) first: u64,
     pub(crate) count: u64,
     pub(crate) skip: u64,
@@ -20,7 +20,7 @@ pub(crate) struct Part<T> {
 #[derive(Drop)]
 pub(crate) struct Spot<T> {
     pub(crate) strip: Strip<T>,
-    pub(crate) values: *mut Option<T>,
+    pub(crate) values: *mut Option<Kept<T>>,
     pub(crate) index: u64,
     pub(crate) first: u64,
 }
@@ -38,7 +38,7 @@ pub(crate) fn places_in<T>(strip: &Strip<T>) -> Place<T>
     ensures { result.at ≡ strip.now.words }
 {
     Place {
-        at: strip.words as *mut Option<T>,
+        at: strip.words as *mut Option<Kept<T>>,
     }
 }
 

@@ -1,6 +1,8 @@
 //! What one of those knows that share a memory.
 ghost use Rattle.std.specs.Prelude.{ℕ};
 ghost use Rattle.seize_seats.specs.Stretches.{seat_owns, seat_shares};
+ghost use Rattle.seize_seats.specs.Visits.{Visit};
+ghost use Rattle.seize_blocks.specs.Visiting.{seat_coded, visit_coded};
 
 use crate::rule::Rule;
 use std::marker::{Model, PhantomData};
@@ -11,14 +13,15 @@ pub struct Seat<T, R: Rule<T>> {
     pub ghost base: { ℕ },
     pub ghost id: { ℕ },
     pub ghost view: { R.View } by { R.View.code },
+    pub(crate) ghost visit: { Visit } by { visit_coded },
     pub(crate) ghost stretch: { ℕ },
     pub(crate) ghost mark: { ℕ },
 }
 
 impl<T, R: Rule<T>> Model for Seat<T, R> {
-    ghost also_owns = { λ s. seat_owns R.View.row.coded.code s.base s.id s.view s.stretch s.mark };
+    ghost also_owns = { λ s. seat_owns (seat_coded R.View.row.coded).code s.base s.id (s.view, s.visit) s.stretch s.mark };
 
-    ghost also_shares = { λ s _ κ. seat_shares R.View.row.coded.code s.base s.id s.view s.stretch s.mark κ };
+    ghost also_shares = { λ s _ κ. seat_shares (seat_coded R.View.row.coded).code s.base s.id (s.view, s.visit) s.stretch s.mark κ };
 }
 
 impl<T, R: Rule<T>> Drop for Seat<T, R> {

@@ -1,5 +1,6 @@
 //! What a strip of the numbers of a memory is known by.
 ghost use Rattle.seize_seats.specs.Owned.{BaseId, base_id_coded, strip_told, strip_owns};
+ghost use Rattle.seize_plots.specs.contracts.kept.Kept.{the_row as KeptOf};
 
 use std::marker::{Model, PhantomData};
 
@@ -12,7 +13,7 @@ pub(crate) struct Strip<T> {
 }
 
 impl<T> Model for Strip<T> {
-    ghost also_owns = { λ s. strip_owns T.row s.words s.id };
+    ghost also_owns = { λ s. strip_owns (KeptOf T.row) s.words s.id };
 
-    ghost also_shares = { λ s _ κ. strip_told T.row s.words s.id };
+    ghost also_shares = { λ s _ κ. strip_told (KeptOf T.row) s.words s.id };
 }

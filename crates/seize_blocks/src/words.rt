@@ -1,5 +1,6 @@
 //! The words, and what one step of a seat does to them: one atomic operation on a word, or none. And the doors behind which further strips lie.
-ghost use Rattle.std.specs.Prelude.{◌≡◌, ℕ, ◌+◌, ◌-◌, ◌*◌, ◌^◌, ◌<◌, ◌≤◌, Some, None, true, Ok, Err, IfErr, length, slice_index, slice_index_or};
+ghost use Rattle.std.specs.Prelude.{◌≡◌, ℕ, ◌+◌, ◌-◌, ◌*◌, ◌^◌, ◌<◌, ◌≤◌, Some, None, true, Ok, Err, IfErr};
+ghost use Rattle.std.specs.Prelude.{length, map, replicate, slice_index, slice_index_or};
 ghost use denote.RawPtr.{InBlock, Testable, null_ptr};
 ghost use Rattle.core.specs.Mem.Slots.Ownership.{Filled};
 ghost use Rattle.seize_words.specs.Op.{Load, Store, Swap, Add, Or, Exchange, Make, Take, Rewrite, Room, Found, Stored, Exchanged, Made, Taken, Roomed};
@@ -7,19 +8,21 @@ ghost use Rattle.seize_seats.specs.State.{Allows, Owns, Turns, Comes, Meets, Ren
 ghost use Rattle.seize_seats.specs.Lines.{whole};
 ghost use Rattle.seize_seats.specs.Doors.{before, block_bytes, words_from, IsFurther, AreBehind};
 ghost use Rattle.seize_seats.specs.Steps.{roomed};
-ghost use Rattle.seize_seats.specs.Lendings.{ShownToBoth, IsValueOfBoth};
+ghost use Rattle.seize_seats.specs.Lendings.{Shown, ShownToBoth, IsValueOf, IsValueOfBoth};
 ghost use Rattle.seize_seats.specs.Owned.{BaseId, base_id_coded, core_of, stride, IsFirst, IsLike, words_own, words_share};
-ghost use Rattle.seize_blocks.specs.Bare.{bare};
+ghost use Rattle.seize_seats.specs.Visits.{Spot, HoldsKept};
+ghost use Rattle.seize_plots.specs.Pieces.{value_of, kept_words, lies, spot_of};
+ghost use Rattle.seize_plots.specs.declared.kept.Kept.{Kept};
+ghost use Rattle.seize_plots.specs.contracts.kept.Kept.{the_row as KeptOf};
+ghost use Rattle.seize_blocks.specs.Visiting.{seat_coded};
 ghost use Rattle.seize_blocks.specs.Placed.{IsItsPlace, IsItsSign, IsItsIndex};
 ghost use Rattle.seize_seats.specs.Plots.{HasFirst};
 
 use crate::claim::Claim;
-use crate::place::{Doors, Place};
-use crate::plot::{Alone, Deed};
-use crate::row::Row;
 use crate::rule::{Meeting, Rule, Turn};
 use crate::seat::Seat;
 use crate::strip::Strip;
+use seize_plots::{Alone, Deed, Doors, Kept, Piece, Pieces, Place, Row};
 use seize_words::At;
 use std::alloc::Global;
 use std::marker::{Brand, Model, PhantomData};
@@ -36,16 +39,16 @@ pub struct Words<T, R: Rule<T>> {
 }
 
 impl<T, R: Rule<T>> Model for Words<T, R> {
-    ghost also_owns = { λ s. words_own T.row bare R.View.row.coded.code (R.holds s.fixed) s.words s.id };
+    ghost also_owns = { λ s. words_own (KeptOf T.row) kept_words (seat_coded R.View.row.coded).code (HoldsKept value_of lies (R.holds s.fixed)) s.words s.id };
 
-    ghost also_shares = { λ s _ κ. words_share T.row bare R.View.row.coded.code (R.holds s.fixed) s.words s.id κ };
+    ghost also_shares = { λ s _ κ. words_share (KeptOf T.row) kept_words (seat_coded R.View.row.coded).code (HoldsKept value_of lies (R.holds s.fixed)) s.words s.id κ };
 }
 
 impl<T, R: Rule<T>> Words<T, R> {
     /// The words, each 0, of so many roots go under the rule, with places for so many values, each of them empty. There are `most` numbers at most.
     pub(crate) fn open(
         row: Row<u64>,
-        values: Row<Option<T>>,
+        values: Row<Option<Kept<T>>>,
         doors: Row<*mut u64>,
         _roots: u64,
         _count: u64,
@@ -74,17 +77,24 @@ impl<T, R: Rule<T>> Words<T, R> {
         )
     }
 
-    /// The words, the values and the doors come back from under the rule, and all further strips.
+    /// The words, the values and the doors come back from under the rule, all further strips, and the own words of blocks.
     pub(crate) fn close(
         self,
-        values: *mut Option<T>,
+        values: *mut Option<Kept<T>>,
         doors: *mut *mut u64,
-    ) -> (Row<u64>, Row<Option<T>>, Row<*mut u64>, Alone<T>)
+    ) -> (
+        Row<u64>,
+        Row<Option<Kept<T>>>,
+        Row<*mut u64>,
+        Alone<T>,
+        Pieces,
+    )
         requires { (values ≡ self.id.values) × (doors ≡ self.id.doors) × IsFirst self.words self.id }
         ensures { (result.0.at ≡ self.words) × (length result.0.items ≡ whole self.id.roots self.id.size) × (result.1.at ≡ values)
             × (length result.1.items ≡ self.id.size) × (result.2.at ≡ doors) × (length result.2.items ≡ 32)
             × Filled result.0.filled 0 (length result.0.items) × Filled result.1.filled 0 (length result.1.items)
-            × Filled result.2.filled 0 (length result.2.items) × AreBehind (IsFurther T.row self.id.least) 0 result.3.strips result.2.items }
+            × Filled result.2.filled 0 (length result.2.items) × AreBehind (IsFurther (KeptOf T.row) self.id.least) 0 result.3.strips result.2.items
+            × (result.4.spots ≡ map spot_of result.1.items) }
     {
         let Words { words, marker: _ } = self;
         (
@@ -92,6 +102,9 @@ impl<T, R: Rule<T>> Words<T, R> {
             Row { at: values },
             Row { at: doors },
             Alone {
+                marker: PhantomData,
+            },
+            Pieces {
                 marker: PhantomData,
             },
         )
@@ -141,11 +154,11 @@ impl<T, R: Rule<T>> Words<T, R> {
     /// The strip behind a door, or no address where the door is null.
     pub(crate) fn look(&self, doors: *mut *mut u64, index: u64) -> Strip<T>
         requires { (doors ≡ self.now.id.doors) × (index < 32) }
-        ensures { (core_of result.id ≡ core_of self.now.id) × (result.id.skip ≡ before T.row result.id.size)
+        ensures { (core_of result.id ≡ core_of self.now.id) × (result.id.skip ≡ before (KeptOf T.row) result.id.size)
             × (result.id.values ≡ result.words)
             × (result.id.first ≡ self.now.id.least * 2 ^ index) × (result.id.size ≡ result.id.first)
             × (result.id.place ≡ index + 1) × Testable result.words
-            × (InBlock result.words → ((result.id.skip + result.id.size * 5) * 8 < 2 ^ 63) × (result.id.size * stride T.row < 2 ^ 63)) }
+            × (InBlock result.words → ((result.id.skip + result.id.size * 5) * 8 < 2 ^ 63) × (result.id.size * stride (KeptOf T.row) < 2 ^ 63)) }
     {
         let words = unsafe { raw::ptr::load::<u64, Brand>(doors.add(index as usize), SeqCst) };
         Strip {
@@ -160,19 +173,19 @@ impl<T, R: Rule<T>> Words<T, R> {
         last: &Strip<T>,
         doors: *mut *mut u64,
         index: u64,
-        places: Row<Option<T>>,
+        places: Row<Option<Kept<T>>>,
         words: Row<u64>,
-        deed: Deed<T, Global>,
+        deed: Deed<Kept<T>, Global>,
     ) -> (Result<*mut u64, *mut u64>, Place<T>, Alone<T>)
         requires { (core_of last.now.id ≡ core_of self.now.id) × InBlock last.now.words × (last.now.id.place ≡ index)
             × (last.now.id.first + last.now.id.size ≡ deed.count) × (deed.count ≡ self.now.id.least * 2 ^ index)
             × (deed.count + deed.count ≤ self.now.id.count) × (doors ≡ self.now.id.doors) × (index < 32)
-            × (deed.at ≡ places.at) × InBlock places.at × (words.at ≡ words_from T.row deed.count places.at)
+            × (deed.at ≡ places.at) × InBlock places.at × (words.at ≡ words_from (KeptOf T.row) deed.count places.at)
             × (length places.items ≡ deed.count) × (length words.items ≡ deed.count * 5)
             × Filled places.filled 0 (length places.items) × Filled words.filled 0 (length words.items)
             × ((k : ℕ) → slice_index_or places.items k None ≡ None) × ((k : ℕ) → slice_index words.items k ≡ 0)
-            × (block_bytes T.row deed.count < 2 ^ 63) }
-        ensures { IfErr result.0 (λ _. HasFirst T.row result.1.at deed.count result.2.strips × (result.2.fresh ≡ true)) }
+            × (block_bytes (KeptOf T.row) deed.count < 2 ^ 63) }
+        ensures { IfErr result.0 (λ _. HasFirst (KeptOf T.row) result.1.at deed.count result.2.strips × (result.2.fresh ≡ true)) }
     {
         let Deed { marker: _ } = deed;
         let Row { at } = places;
@@ -208,10 +221,10 @@ impl<T, R: Rule<T>> Words<T, R> {
             × (doors ≡ self.now.id.doors) × (index < 32) × (self.now.id.place ≡ 0) × (self.now.id.size ≡ self.now.id.least)
             × (self.now.id.least * 2 ^ index ≤ _block - 1)
             × ShownToBoth (R.holds self.now.fixed) guard.now.id guard.now.view owner.now.id owner.now.view _block }
-        ensures { (core_of result.id ≡ core_of self.now.id) × (result.id.skip ≡ before T.row result.id.size)
+        ensures { (core_of result.id ≡ core_of self.now.id) × (result.id.skip ≡ before (KeptOf T.row) result.id.size)
             × (result.id.values ≡ result.words)
             × (result.id.first ≡ self.now.id.least * 2 ^ index) × (result.id.size ≡ result.id.first) × InBlock result.words
-            × ((result.id.skip + result.id.size * 5) * 8 < 2 ^ 63) × (result.id.size * stride T.row < 2 ^ 63) }
+            × ((result.id.skip + result.id.size * 5) * 8 < 2 ^ 63) × (result.id.size * stride (KeptOf T.row) < 2 ^ 63) }
     {
         let words = unsafe { raw::ptr::load::<u64, Brand>(doors.add(index as usize), SeqCst) };
         Strip {
@@ -238,46 +251,49 @@ impl<T, R: Rule<T>> Words<T, R> {
         (found, Claim { found })
     }
 
-    /// Makes a block of a value, without words of its own, under a number that was claimed: the index-th of these.
+    /// Makes a block of a value with words of its own, each 0, under a number that was claimed: the index-th of these.
     pub(crate) fn put(
         &self,
         seat: &mut Seat<T, R>,
         claim: Claim,
         index: u64,
-        values: *mut Option<T>,
-        value: T,
-        _words: u64,
+        values: *mut Option<Kept<T>>,
+        kept: Kept<T>,
+        piece: Piece,
     )
         requires { (seat.old.base ≡ self.now.id.views_name) × (claim.base ≡ self.now.id.hands_name) × (claim.found ≡ 0) × (claim.index ≡ self.now.id.first + index)
             × (index < self.now.id.size) × (self.now.id.first + index + 1 < 2 ^ 53) × (values ≡ self.now.id.values)
-            × (_words ≡ 0)
-            × Allows (R.holds self.now.fixed) R.keeps seat.old.id seat.old.view (Make value _words) (R.then seat.old.view (Make value _words)) }
+            × (piece.at ≡ kept.at) × (piece.count ≡ kept.count) × (piece.words ≡ replicate kept.count 0)
+            × Allows (R.holds self.now.fixed) R.keeps seat.old.id seat.old.view (Make kept.value kept.count) (R.then seat.old.view (Make kept.value kept.count)) }
         ensures { (seat.new.base ≡ seat.old.base) × (seat.new.id ≡ seat.old.id)
-            × R.then seat.old.view (Make value _words) (Made (Ok (self.now.id.first + index + 1))) seat.new.view }
+            × R.then seat.old.view (Make kept.value kept.count) (Made (Ok (self.now.id.first + index + 1))) seat.new.view }
     {
         let Claim { found: _ } = claim;
-        unsafe { values.add(index as usize).write(Some(value)) }
+        let Piece { marker: _ } = piece;
+        unsafe { values.add(index as usize).write(Some(kept)) }
     }
 
-    /// Takes a block away, and answers its value. The index is that of its number, if there is such a block, and its words lie at these places.
+    /// Takes a block away, and answers its value, with its own words. The index is that of its number, if there is such a block, and the others of its words lie
+    /// at these places.
     pub(crate) fn take(
         &self,
         seat: &mut Seat<T, R>,
         block: u64,
         index: u64,
-        values: *mut Option<T>,
+        values: *mut Option<Kept<T>>,
         first: u64,
         second: u64,
         third: u64,
         fourth: u64,
         sign: u64,
-    ) -> Option<T>
+    ) -> (Option<Kept<T>>, Piece)
         requires { (seat.old.base ≡ self.now.id.views_name) × IsItsIndex self.now.id block index
             × (values ≡ self.now.id.values)
             × (first ≡ index * 5 + self.now.id.skip) × (second ≡ first + 1) × (third ≡ first + 2) × (fourth ≡ first + 3) × (sign ≡ first + 4)
             × (sign < 2 ^ 60)
             × Allows (R.holds self.now.fixed) R.keeps seat.old.id seat.old.view (Take block) (R.then seat.old.view (Take block)) }
-        ensures { (seat.new.base ≡ seat.old.base) × (seat.new.id ≡ seat.old.id) × ((x : T) × (result ≡ Some x) × R.then seat.old.view (Take block) (Taken x) seat.new.view) }
+        ensures { (seat.new.base ≡ seat.old.base) × (seat.new.id ≡ seat.old.id) × ((x : Kept T) × (result.0 ≡ Some x)
+            × (result.1.at ≡ x.at) × (result.1.count ≡ x.count) × R.then seat.old.view (Take block) (Taken x.value) seat.new.view) }
     {
         unsafe {
             let words = self.words;
@@ -289,34 +305,41 @@ impl<T, R: Rule<T>> Words<T, R> {
             words.add(third as usize).write(0);
             words.add(fourth as usize).write(0);
             raw::store::<Brand>(words.add(sign as usize), 0, SeqCst);
-            value
+            (
+                value,
+                Piece {
+                    marker: PhantomData,
+                },
+            )
         }
     }
 
-    /// Replaces the value of a block that the seat has to itself, and answers the one before. The index is that of its number, if there is such a block.
+    /// Replaces the value of a block that the seat has to itself, and answers the one before. The index is that of its number, if there is such a block. The seat
+    /// knows that the own words of the block lie where they are said to lie.
     pub(crate) fn rewrite(
         &self,
         seat: &mut Seat<T, R>,
         block: u64,
         index: u64,
-        values: *mut Option<T>,
-        value: T,
-    ) -> Option<T>
+        values: *mut Option<Kept<T>>,
+        kept: Kept<T>,
+    ) -> Option<Kept<T>>
         requires { (seat.old.base ≡ self.now.id.views_name) × IsItsIndex self.now.id block index
             × (values ≡ self.now.id.values)
+            × ((x : Kept T) → IsValueOf (HoldsKept value_of lies (R.holds self.now.fixed)) seat.old.id (seat.old.view, seat.old.visit) block x → lies x ≡ lies kept)
             × Owns (R.holds self.now.fixed) R.keeps seat.old.id seat.old.view block
-            × Allows (R.holds self.now.fixed) R.keeps seat.old.id seat.old.view (Rewrite block value) (R.then seat.old.view (Rewrite block value)) }
+            × Allows (R.holds self.now.fixed) R.keeps seat.old.id seat.old.view (Rewrite block kept.value) (R.then seat.old.view (Rewrite block kept.value)) }
         ensures { (seat.new.base ≡ seat.old.base) × (seat.new.id ≡ seat.old.id)
-            × ((x : T) × (result ≡ Some x) × R.then seat.old.view (Rewrite block value) (Taken x) seat.new.view) }
+            × ((x : Kept T) × (result ≡ Some x) × R.then seat.old.view (Rewrite block kept.value) (Taken x.value) seat.new.view) }
     {
         unsafe {
             let before = values.add(index as usize).read();
-            values.add(index as usize).write(Some(value));
+            values.add(index as usize).write(Some(kept));
             before
         }
     }
 
-    /// Where the value of a block lies, for as long as the words and both seats are borrowed. The index is that of its number in the strip, if there is such a
+    /// Where what is kept of a block lies, for as long as the words and both seats are borrowed. The index is that of its number in the strip, if there is such a
     /// block.
     pub(crate) fn value<'g>(
         &'g self,
@@ -325,17 +348,24 @@ impl<T, R: Rule<T>> Words<T, R> {
         owner: &'g Seat<T, R>,
         _block: u64,
         index: u64,
-        values: *mut Option<T>,
-    ) -> &'g Option<T>
+        values: *mut Option<Kept<T>>,
+    ) -> &'g Option<Kept<T>>
         requires { (core_of strip.now.id ≡ core_of self.now.id) × InBlock strip.now.words
             × (guard.now.base ≡ self.now.id.views_name) × (owner.now.base ≡ self.now.id.views_name)
             × IsItsIndex strip.now.id _block index × (values ≡ strip.now.id.values)
             × ShownToBoth (R.holds self.now.fixed) guard.now.id guard.now.view owner.now.id owner.now.view _block }
-        ensures { (x : T) × (result.now ≡ Some x)
-            × IsValueOfBoth (R.holds self.now.fixed) guard.now.id guard.now.view owner.now.id owner.now.view _block x }
+        ensures { (x : Kept T) × (result.now ≡ Some x) × IsValueOfBoth (HoldsKept value_of lies (R.holds self.now.fixed)) guard.now.id
+            (guard.now.view, guard.now.visit) owner.now.id (owner.now.view, owner.now.visit) _block x }
     {
         unsafe { &*values.add(index as usize) }
     }
+
+    /// A seat whose view shows a block begins to visit it: it knows where its own words lie, and how many they are, until its next step.
+    pub(crate) fn visit(&self, seat: &mut Seat<T, R>, _block: u64)
+        requires { (seat.old.base ≡ self.now.id.views_name) × Shown (R.holds self.now.fixed) seat.old.id seat.old.view _block }
+        ensures { (seat.new.base ≡ seat.old.base) × (seat.new.id ≡ seat.old.id)
+            × (seat.new.view ≡ seat.old.view) × ((spot : Spot) × (seat.new.visit ≡ Some (_block, spot))) }
+    {}
 
     /// A block is refused, and its value stays with its maker.
     pub(crate) fn refuse(&self, seat: &mut Seat<T, R>, value: &T, words: u64)
@@ -355,7 +385,9 @@ impl<T, R: Rule<T>> Words<T, R> {
 
     /// Reads the word of a name, which lies so many words on from this address.
     pub(crate) fn load(&self, seat: &mut Seat<T, R>, at: &At, address: *mut u64, place: u64) -> u64
-        requires { (seat.old.base ≡ self.now.id.views_name) × IsItsPlace (R.holds self.now.fixed) seat.old.id seat.old.view self.now.words self.now.id at.now address place
+        requires { (seat.old.base ≡ self.now.id.views_name)
+            × IsItsPlace (HoldsKept value_of lies (R.holds self.now.fixed)) seat.old.id (seat.old.view, seat.old.visit)
+            self.now.words self.now.id at.now address place
             × Allows (R.holds self.now.fixed) R.keeps seat.old.id seat.old.view (Load at.now) (R.then seat.old.view (Load at.now)) }
         ensures { (seat.new.base ≡ seat.old.base) × (seat.new.id ≡ seat.old.id)
             × R.then seat.old.view (Load at.now) (Found result) seat.new.view }
@@ -372,7 +404,9 @@ impl<T, R: Rule<T>> Words<T, R> {
         place: u64,
         word: u64,
     )
-        requires { (seat.old.base ≡ self.now.id.views_name) × IsItsPlace (R.holds self.now.fixed) seat.old.id seat.old.view self.now.words self.now.id at.now address place
+        requires { (seat.old.base ≡ self.now.id.views_name)
+            × IsItsPlace (HoldsKept value_of lies (R.holds self.now.fixed)) seat.old.id (seat.old.view, seat.old.visit)
+            self.now.words self.now.id at.now address place
             × Allows (R.holds self.now.fixed) R.keeps seat.old.id seat.old.view (Store at.now word) (R.then seat.old.view (Store at.now word)) }
         ensures { (seat.new.base ≡ seat.old.base) × (seat.new.id ≡ seat.old.id)
             × R.then seat.old.view (Store at.now word) Stored seat.new.view }
@@ -389,7 +423,9 @@ impl<T, R: Rule<T>> Words<T, R> {
         place: u64,
         word: u64,
     ) -> u64
-        requires { (seat.old.base ≡ self.now.id.views_name) × IsItsPlace (R.holds self.now.fixed) seat.old.id seat.old.view self.now.words self.now.id at.now address place
+        requires { (seat.old.base ≡ self.now.id.views_name)
+            × IsItsPlace (HoldsKept value_of lies (R.holds self.now.fixed)) seat.old.id (seat.old.view, seat.old.visit)
+            self.now.words self.now.id at.now address place
             × Allows (R.holds self.now.fixed) R.keeps seat.old.id seat.old.view (Swap at.now word) (R.then seat.old.view (Swap at.now word)) }
         ensures { (seat.new.base ≡ seat.old.base) × (seat.new.id ≡ seat.old.id)
             × R.then seat.old.view (Swap at.now word) (Found result) seat.new.view }
@@ -406,7 +442,9 @@ impl<T, R: Rule<T>> Words<T, R> {
         place: u64,
         by: u64,
     ) -> u64
-        requires { (seat.old.base ≡ self.now.id.views_name) × IsItsPlace (R.holds self.now.fixed) seat.old.id seat.old.view self.now.words self.now.id at.now address place
+        requires { (seat.old.base ≡ self.now.id.views_name)
+            × IsItsPlace (HoldsKept value_of lies (R.holds self.now.fixed)) seat.old.id (seat.old.view, seat.old.visit)
+            self.now.words self.now.id at.now address place
             × Allows (R.holds self.now.fixed) R.keeps seat.old.id seat.old.view (Add at.now by) (R.then seat.old.view (Add at.now by)) }
         ensures { (seat.new.base ≡ seat.old.base) × (seat.new.id ≡ seat.old.id)
             × R.then seat.old.view (Add at.now by) (Found result) seat.new.view }
@@ -423,7 +461,9 @@ impl<T, R: Rule<T>> Words<T, R> {
         place: u64,
         bits: u64,
     ) -> u64
-        requires { (seat.old.base ≡ self.now.id.views_name) × IsItsPlace (R.holds self.now.fixed) seat.old.id seat.old.view self.now.words self.now.id at.now address place
+        requires { (seat.old.base ≡ self.now.id.views_name)
+            × IsItsPlace (HoldsKept value_of lies (R.holds self.now.fixed)) seat.old.id (seat.old.view, seat.old.visit)
+            self.now.words self.now.id at.now address place
             × Allows (R.holds self.now.fixed) R.keeps seat.old.id seat.old.view (Or at.now bits) (R.then seat.old.view (Or at.now bits)) }
         ensures { (seat.new.base ≡ seat.old.base) × (seat.new.id ≡ seat.old.id)
             × R.then seat.old.view (Or at.now bits) (Found result) seat.new.view }
@@ -441,7 +481,9 @@ impl<T, R: Rule<T>> Words<T, R> {
         old: u64,
         new: u64,
     ) -> Result<u64, u64>
-        requires { (seat.old.base ≡ self.now.id.views_name) × IsItsPlace (R.holds self.now.fixed) seat.old.id seat.old.view self.now.words self.now.id at.now address place
+        requires { (seat.old.base ≡ self.now.id.views_name)
+            × IsItsPlace (HoldsKept value_of lies (R.holds self.now.fixed)) seat.old.id (seat.old.view, seat.old.visit)
+            self.now.words self.now.id at.now address place
             × Allows (R.holds self.now.fixed) R.keeps seat.old.id seat.old.view (Exchange at.now old new) (R.then seat.old.view (Exchange at.now old new)) }
         ensures { (seat.new.base ≡ seat.old.base) × (seat.new.id ≡ seat.old.id)
             × R.then seat.old.view (Exchange at.now old new) (Exchanged result) seat.new.view }

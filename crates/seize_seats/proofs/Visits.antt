@@ -5,13 +5,13 @@ use Rattle.core.specs.Option.{option_map}
 use Rattle.std.proofs.lemmas.Bool.{cases_eq}
 use Rattle.std.proofs.lemmas.List.{map-set, map-append}
 use Rattle.std.proofs.lemmas.Option.{slice_get-map}
-use denote.RawPtr.{Ptr, null_ptr}
+use denote.RawPtr.{null_ptr}
 use Rattle.seize_words.specs.Mem.{Mem, Can, Took, block_of, value_in, value_at, with_block, IsFreeNumber}
 use Rattle.seize_words.specs.Op.{Op, Out, Make, Take, Rewrite, Made}
 use Rattle.seize_seats.specs.State.{State, view_of, Goes, Allows, Owns, Turns, Starts, Comes, Meets, Renews}
 use Rattle.seize_seats.specs.State as State
 use Rattle.seize_seats.specs.Lendings.{Shown, ShownToBoth, Alone, IsValueOf, IsValueOfBoth}
-use Rattle.seize_seats.specs.Visits.{Visit, plain_memory, plain_op, plain_out, plain, AreFound, HoldsKept, keeps_kept, then_kept}
+use Rattle.seize_seats.specs.Visits.{Spot, Visit, plain_memory, plain_op, plain_out, plain, AreFound, HoldsKept, keeps_kept, then_kept}
 use Rattle.seize_seats.proofs.Ledgers.{other_view}
 use Rattle.seize_seats.proofs.Rewrites.{emptied, owns_alone}
 use Rattle.seize_seats.proofs.Steps.{set_same}
@@ -25,7 +25,7 @@ own_view (a ∷ xs) (suc i) x y e = own_view xs i x y e
 abbrev no_visit : Visit
 no_visit = None
 
-abbrev visit_of : ℕ → Ptr → Visit
+abbrev visit_of : ℕ → Spot → Visit
 visit_of b p = Some (b, p)
 
 abbrev with_visit : {V : Type 0} → V → Visit → V × Visit
@@ -35,12 +35,12 @@ abbrev visited : Visit → ℕ
 visited None = 0
 visited (Some u) = u.0
 
-abbrev visited_at : Visit → Ptr
-visited_at None = null_ptr
+abbrev visited_at : Visit → Spot
+visited_at None = (null_ptr, 0)
 visited_at (Some u) = u.1
 
 -- where a seat has another view, without a visit, those who visit a block are others
-others_visit : {V : Type 0} (us : List (V × Visit)) (i id : ℕ) (v' v : V) (b : ℕ) (p : Ptr) → slice_get (slice_set us id (v', None)) i ≡ Some (v, Some (b, p))
+others_visit : {V : Type 0} (us : List (V × Visit)) (i id : ℕ) (v' v : V) (b : ℕ) (p : Spot) → slice_get (slice_set us id (v', None)) i ≡ Some (v, Some (b, p))
     → (i ≢ id) × (slice_get us i ≡ Some (v, Some (b, p)))
 others_visit {V} us i id v' v b p e = by (cases_eq i id)
   where
@@ -56,7 +56,7 @@ among [] x y (suc i) e = absurd (cc e)
 among (a ∷ xs) x y zero e = inl e
 among (a ∷ xs) x y (suc i) e = among xs x y i e
 
-module _ {D T V W : Type 0} (value : D → T) (own : D → Ptr) (holds : State T V W → Type 0) (keeps : V → V → W → ℕ → Type 0) where
+module _ {D T V W : Type 0} (value : D → T) (own : D → Spot) (holds : State T V W → Type 0) (keeps : V → V → W → ℕ → Type 0) where
   abbrev St : Type 0
   St = State D (V × Visit) W
 
@@ -163,9 +163,9 @@ module _ {D T V W : Type 0} (value : D → T) (own : D → Ptr) (holds : State T
   some_value (Some a) some = (a, refl)
 
   -- a seat whose view shows a block may begin to visit it
-  pub visits : (id : ℕ) (v : V) (y : Visit) (b : ℕ) → Shown holds id v b → Turns Hold Keep id (v, y) (λ u. (u.0 ≡ v) × ((p : Ptr) × (u.1 ≡ Some (b, p))))
+  pub visits : (id : ℕ) (v : V) (y : Visit) (b : ℕ) → Shown holds id v b → Turns Hold Keep id (v, y) (λ u. (u.0 ≡ v) × ((p : Spot) × (u.1 ≡ Some (b, p))))
   visits id v y b shown s h at =
-      let x = some_value (value_at s.memory b) (shown_kept id v y b shown s h at) in let p : Ptr = own x.0 in let u : V × Visit = (v, Some (b, p)) in
+      let x = some_value (value_at s.memory b) (shown_kept id v y b shown s h at) in let p : Spot = own x.0 in let u : V × Visit = (v, Some (b, p)) in
       let here : view_of (flat s) id ≡ Some v = view_plain s id (v, y) at in
       let same : State.after (flat s) (plain_memory value s.memory) id v s.world ≡ flat s = ap (λ (vs : List V). record { memory = plain_memory value s.memory; views = vs; world = s.world }) (set_same (flat s).views id v here) in (
         u,
@@ -175,7 +175,7 @@ module _ {D T V W : Type 0} (value : D → T) (own : D → Ptr) (holds : State T
         (refl, (p, refl)),
       )
     where
-      found : (p : Ptr) (x : D) → value_at s.memory b ≡ Some x → own x ≡ p → AreFound value own holds (State.after s s.memory id (v, Some (b, p)) s.world)
+      found : (p : Spot) (x : D) → value_at s.memory b ≡ Some x → own x ≡ p → AreFound value own holds (State.after s s.memory id (v, Some (b, p)) s.world)
       found p x is lies i w c q e = by (cases_eq i id)
         where
           by : (i ≡ id) ⊎ (i ≢ id) → Shown holds i w c × ((z : D) → value_at s.memory c ≡ Some z → own z ≡ q)
@@ -188,10 +188,10 @@ module _ {D T V W : Type 0} (value : D → T) (own : D → Ptr) (holds : State T
           by (inr ne) = h.1 i w c q (sym (other_view s.views id i (v, Some (b, p)) ne) ∙ e)
 
   -- where it visits a block what is kept of that has its own words where the seat has seen them
-  pub visits_found : (s : St) (id : ℕ) (v : V) (b : ℕ) (p : Ptr) → Hold s → view_of s id ≡ Some (v, Some (b, p)) → (x : D) × (value_at s.memory b ≡ Some x) × (own x ≡ p)
+  pub visits_found : (s : St) (id : ℕ) (v : V) (b : ℕ) (p : Spot) → Hold s → view_of s id ≡ Some (v, Some (b, p)) → (x : D) × (value_at s.memory b ≡ Some x) × (own x ≡ p)
   visits_found s id v b p h at = let f = h.1 id v b p at in let x = some_value (value_at s.memory b) (shown_kept id v (Some (b, p)) b f.0 s h at) in (x.0, x.1, f.1 x.0 x.1)
 
-  pub value_found : (id : ℕ) (v : V) (b : ℕ) (p : Ptr) (x : D) → IsValueOf Hold id (v, Some (b, p)) b x → own x ≡ p
+  pub value_found : (id : ℕ) (v : V) (b : ℕ) (p : Spot) (x : D) → IsValueOf Hold id (v, Some (b, p)) b x → own x ≡ p
   value_found id v b p x is = (is.1.1 id v b p is.2).1 x is.3
 
   -- ---- seats that come, turn and meet, and a memory that begins and is renewed

@@ -8,9 +8,13 @@ use Rattle.seize_words.specs.declared.block.Block.{Block}
 use Rattle.seize_seats.specs.State.{State, view_of}
 use Rattle.seize_seats.specs.Lendings.{Shown}
 
+-- where words of a block's own lie, and how many they are
+abbrev pub Spot : Type 0
+Spot = Ptr × ℕ
+
 -- which block a seat visits, and where its own words lie
 abbrev pub Visit : Type 0
-Visit = Option (ℕ × Ptr)
+Visit = Option (ℕ × Spot)
 
 -- D: what is kept of a block in its place; value: the value of it
 module _ {D T : Type 0} (value : D → T) where
@@ -51,14 +55,14 @@ module _ {D T : Type 0} (value : D → T) where
     plain s = record { memory = plain_memory s.memory; views = map (λ (u : V × Visit). u.0) s.views; world = s.world }
 
     -- own: where the own words of what is kept lie. As long as a seat that visits a block has this view the block is there, and its own words lie where the seat
-    -- has seen them.
-    abbrev pub AreFound : (D → Ptr) → (State T V W → Type 0) → State D (V × Visit) W → Type 0
+    -- has seen them, as many as it has seen.
+    abbrev pub AreFound : (D → Spot) → (State T V W → Type 0) → State D (V × Visit) W → Type 0
     AreFound own holds s =
-        (id : ℕ) (v : V) (b : ℕ) (p : Ptr) → view_of s id ≡ Some (v, Some (b, p))
+        (id : ℕ) (v : V) (b : ℕ) (p : Spot) → view_of s id ≡ Some (v, Some (b, p))
         → Shown holds id v b × ((x : D) → value_at s.memory b ≡ Some x → own x ≡ p)
 
     -- what holds between any two steps, where a rule does
-    abbrev pub HoldsKept : (D → Ptr) → (State T V W → Type 0) → State D (V × Visit) W → Type 0
+    abbrev pub HoldsKept : (D → Spot) → (State T V W → Type 0) → State D (V × Visit) W → Type 0
     HoldsKept own holds s = holds (plain s) × AreFound own holds s
 
   -- a visit keeps nothing of its own

@@ -1,3 +1,1 @@
-pub mod Grown
 pub mod Root
-pub mod Theirs

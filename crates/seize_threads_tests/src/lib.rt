@@ -1,4 +1,4 @@
-//! Tests of the memory that threads share, and of the collector's rows over it: two threads at a time, or four, each with a seat of its own.
+//! Tests of the collector's rows over a memory that threads share: two threads at a time, or four, each with a seat of its own.
 #![tactic(auto)]
 
 #[cfg(test)]
@@ -16,26 +16,12 @@ mod guards;
 #[cfg(test)]
 mod idle;
 #[cfg(test)]
-mod lending;
-#[cfg(test)]
 mod lists;
-#[cfg(test)]
-mod looking;
 #[cfg(test)]
 mod making;
 #[cfg(test)]
-mod meeting;
-#[cfg(test)]
 mod order;
-#[cfg(test)]
-mod owning;
-#[cfg(test)]
-mod renewing;
 #[cfg(test)]
 mod retiring;
 #[cfg(test)]
-mod rewriting;
-#[cfg(test)]
 mod sections;
-#[cfg(test)]
-mod thousand;

@@ -1,4 +1,4 @@
-//! A value that keeps a list of further values comes back, since the memory makes no block with words of its own.
+//! A value that keeps a list of further values is put with the words that it asks for, and comes back where these can't be counted.
 ghost use Rattle.std.specs.Prelude.{◌≡◌, Some};
 
 use crate::guards::CHOSEN;
@@ -42,9 +42,12 @@ fn come_back(blocks: &Blocks<Listed, OfRows>, field: u64) -> Option<(u64, u64)>
 }
 
 #[test]
-fn a_value_that_keeps_a_list_comes_back(rt: HostRuntime) -> Result<(), Fail> {
+fn a_value_that_keeps_a_list_is_put_if_its_words_can_be_counted(
+    rt: HostRuntime,
+) -> Result<(), Fail> {
     let home = Home::<Listed, OfRows>::open(rt.alloc(), 1, 8, &CHOSEN)?;
-    assert_eq!(rt; come_back(&home.blocks, 0), Some((1, 2)));
+    assert_eq!(rt; come_back(&home.blocks, 0), Some((0, 2)));
+    assert_eq!(rt; come_back(&home.blocks, 2), Some((0, 2)));
     assert_eq!(rt; come_back(&home.blocks, u64::MAX), Some((1, 2)));
     Ok(())
 }

@@ -18,7 +18,7 @@ use Rattle.papaya_scenes.specs.Given.Callers.Together.{UnderWay}
 use Rattle.papaya_scenes.specs.Given.Callers.Together as begins
 use Rattle.papaya_scenes.specs.Given.Finishes.Machines.{machine_of, MachineStepsAmong, ToldOfKind}
 use Rattle.papaya_scenes.specs.Given.Finishes.Maps.{Standing, with_call}
-use Rattle.papaya_acts.specs.Acts.{Answer, Wanted, Get, Remove, Insert, TryToInsert, Compute, Update, UpdateOrInsert, TryToInsertWith, RemoveIf, MakeRoom, Count, GoOver, begun}
+use Rattle.papaya_acts.specs.Acts.{Answer, Wanted, Get, Remove, Insert, TryToInsert, Compute, Update, UpdateOrInsert, TryToInsertWith, RemoveIf, GetKeyValue, ContainsKey, GetOrInsert, GetOrInsertWith, RemoveEntry, MakeRoom, Count, GoOver, begun}
 use Rattle.papaya_acts.specs.Acts.{Act, BeginsCall, StepsCall, TellsCall, AsksCall, StopsCall}
 use Rattle.papaya_acts.specs.AsSteps.{LeadsAs, changed_by, changed_of, held_in}
 use Rattle.papaya_acts.specs.Leads.{AllStand, CallCame, Led, asked_on, call_at}
@@ -34,7 +34,7 @@ use Rattle.papaya_scenes.specs.Scene.{Scene, slot_of}
 use Rattle.papaya_scenes.specs.Stepping.{StepsFrom, scene_after}
 
 -- what is wanted of a map begins so
-begins_so : {K V : Type 0} (same : K → K → Bool) (s : Standing K) → AreLawful same s.hash → (i : ℕ) (wanted : Wanted K V) → Begins same s i (begun same slot_of s i wanted)
+pub begins_so : {K V : Type 0} (same : K → K → Bool) (s : Standing K) → AreLawful same s.hash → (i : ℕ) (wanted : Wanted K V) → Begins same s i (begun same slot_of s i wanted)
 begins_so same s lawful i (Get key) = (begins.Gets key (s.hash key) (lawful.fits key) (its_class same s.hash lawful key), refl)
 begins_so same s lawful i (Remove key) = (begins.Removes key (s.hash key) (lawful.fits key) (its_class same s.hash lawful key), refl)
 begins_so same s lawful i (Insert key value) = (begins.Inserts key value, refl)
@@ -44,6 +44,11 @@ begins_so same s lawful i (Update key) = (begins.Updates key, refl)
 begins_so same s lawful i (UpdateOrInsert key absent) = (begins.UpdatesOrInserts key absent, refl)
 begins_so same s lawful i (TryToInsertWith key) = (begins.TriesToInsertWith key, refl)
 begins_so same s lawful i (RemoveIf key) = (begins.RemovesIf key (s.hash key) (lawful.fits key) (its_class same s.hash lawful key), refl)
+begins_so same s lawful i (GetKeyValue key) = (begins.Gets key (s.hash key) (lawful.fits key) (its_class same s.hash lawful key), refl)
+begins_so same s lawful i (ContainsKey key) = (begins.Gets key (s.hash key) (lawful.fits key) (its_class same s.hash lawful key), refl)
+begins_so same s lawful i (GetOrInsert key value) = (begins.TriesToInsert key value, refl)
+begins_so same s lawful i (GetOrInsertWith key) = (begins.TriesToInsertWith key, refl)
+begins_so same s lawful i (RemoveEntry key) = (begins.Removes key (s.hash key) (lawful.fits key) (its_class same s.hash lawful key), refl)
 begins_so same s lawful i (MakeRoom additional) = (additional, refl)
 begins_so same s lawful i Count = refl
 begins_so same s lawful i (GoOver purpose) = (purpose, refl)

@@ -31,11 +31,11 @@ use Rattle.papaya_scheduler.specs.Given.Executor.IsThere.{KeepsGiven}
 use Rattle.papaya_folded.proofs.Given.Scenes.Leads.{happens}
 
 -- one that is in turn comes to what it must
-in_turn_comes : {K V : Type 0} (terms : Terms) (log : List (Entry K V)) (e : Entry K V) → (moment log).is_closed ≡ false → ComesRight terms log e
+pub in_turn_comes : {K V : Type 0} (terms : Terms) (log : List (Entry K V)) (e : Entry K V) → (moment log).is_closed ≡ false → ComesRight terms log e
     → ComesTo terms log (moment log) e e.event e.outcome
 in_turn_comes terms log e out right = subst (λ (b : Bool). MatchBool b (IsKeptOut e.event e.outcome) (ComesTo terms log (moment log) e e.event e.outcome)) out right
 
-either : {A B : Type 0} (q : Bool) → MatchBool q A B → A ⊎ B
+pub either : {A B : Type 0} (q : Bool) → MatchBool q A B → A ⊎ B
 either true so = inl so
 either false so = inr so
 

@@ -58,8 +58,9 @@ use Rattle.papaya_grows.specs.Given.Finishes.FactsEnds.{TakesLeft, WritesRoot, e
 use Rattle.papaya_grows.specs.Given.Finishes.Makings.{Beginning}
 use Rattle.papaya_grows.specs.Given.Moments.Whole.{ShowsWhole}
 use Rattle.papaya_logged.specs.Given.Reclaims.Reclaims.{ReclaimingAt}
-use Rattle.papaya_logged.specs.Given.Reclaims.Slots.{AreItsRows, BeginsAt, DoesAt}
-use Rattle.papaya_logged.proofs.Given.Reclaims.Slots.Facts.{rested_by}
+use Rattle.papaya_logged.specs.Given.Reclaims.Slots.{AreItsRows, DoesAt}
+use Rattle.seize_quiet.specs.Slots.{BeginsAt}
+use Rattle.seize_quiet.proofs.Slots.Facts.{rested_by}
 use Rattle.papaya_grows.specs.Given.Scenes.Reclaiming.{IsReclaiming, ReclaimingLeads}
 use Rattle.papaya_models.proofs.Calls.{OneStep, by_users, no_or, one_step}
 use Rattle.papaya_legal.proofs.Heads.Rows.{KeepsTaken, Off, by_memory, no_change, same_taken, step_taken, written}
@@ -258,7 +259,7 @@ module _ {K V : Type 0} (same : K → K → Bool) (hash : ℕ → K → ℕ) (s 
     Here p = ReclaimingAt old.batch_size old.roots i (c p) w s.maps lists p
 
     -- a look, and a row that may begin
-    begins_taken : (p : Reclaiming) → BeginsAt old.batch_size i w w3 p → KeepsTaken w.memory w3.memory
+    begins_taken : (p : Reclaiming) → BeginsAt deferred_word old.batch_size i w w3 p → KeepsTaken w.memory w3.memory
     begins_taken (at.Leaves t l) begins = no_change w.memory w3.memory (begins_memory deferred_word old.batch_size i (Leave' t) w w3 begins)
     begins_taken (at.Flushes t d) begins = no_change w.memory w3.memory (begins_memory deferred_word old.batch_size i (Flush t) w w3 begins)
     begins_taken _ same_world = no_change w.memory w3.memory (ap (λ (x : World (Node K V)). x.memory) same_world)
@@ -301,7 +302,7 @@ module _ {K V : Type 0} (same : K → K → Bool) (hash : ℕ → K → ℕ) (s 
         let d = stored {R = Unregister × Progress Unit} w.memory (λ out. Now (record { slot = t }, Done tt)) (name.Slot t HEAD) FREE new.memory back.0 back.1 in
         let few = f.few in
         head_taken t FREE IDLE
-        (idle_word deferred_word (LAST_SLOT + 1) old.batch_size refl w (rested_by old.batch_size w came f.rests) t (f.idle t (omega arith) lt) (omega (arith, lt, few))) (omega arith) (omega arith) d.0
+        (idle_word deferred_word (LAST_SLOT + 1) old.batch_size refl w (rested_by deferred_word old.batch_size w came f.rests) t (f.idle t (omega arith) lt) (omega (arith, lt, few))) (omega arith) (omega arith) d.0
     by_point (at.Roots root) point taking does = roots_taken (at.Roots root) does
     by_point (at.Nexts root block) point taking does = roots_taken (at.Nexts root block) does
     by_point (at.Takes root block next) point taking does = roots_taken (at.Takes root block next) does

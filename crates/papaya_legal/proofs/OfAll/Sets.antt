@@ -42,8 +42,9 @@ use Rattle.papaya_grows.specs.Given.Finishes.Maps.{Standing}
 use Rattle.papaya_logged.specs.Given.SeizeReclaims.AllReclaimed.{is_within}
 use Rattle.papaya_logged.proofs.Given.SeizeReclaims.AllReclaimed.Weights.{at_next_batch, at_next_head}
 use Rattle.papaya_logged.specs.Given.Reclaims.Reclaims.{ReclaimingAt, StepsOfReclaiming}
-use Rattle.papaya_logged.specs.Given.Reclaims.Slots.{AllRest, AreItsRows, BeginsAt, DoesAt, IsQuiet}
-use Rattle.papaya_logged.proofs.Given.Reclaims.Slots.Facts.{no_word, outside_at, rested_by}
+use Rattle.papaya_logged.specs.Given.Reclaims.Slots.{AllRest, AreItsRows, DoesAt, IsQuiet}
+use Rattle.seize_quiet.specs.Slots.{BeginsAt}
+use Rattle.seize_quiet.proofs.Slots.Facts.{no_word, outside_at, rested_by}
 use Rattle.papaya_models.specs.Reclaims.{HasReclaimed}
 use Rattle.papaya_models.specs.Turns.{CameByTurns}
 use Rattle.papaya_models.proofs.Reclaims.{has_reclaimed, quiet_reclaimed}
@@ -103,7 +104,7 @@ module _ {K V : Type 0} (size roots i : ℕ) (small : size < 2 ^ 64) (began : Wo
     abbrev machine : Reclaiming → ReclaimAll
     machine p = record { batch_size = batch; roots = all; slots = slots; again = again; stands = p }
 
-    seen_at : (u w : World (Node K V)) → Rested deferred_word n size u → (p : Reclaiming) → Staged (machine p) u → BeginsAt size i u w p → SoFarAt (machine p) w p
+    seen_at : (u w : World (Node K V)) → Rested deferred_word n size u → (p : Reclaiming) → Staged (machine p) u → BeginsAt deferred_word size i u w p → SoFarAt (machine p) w p
     seen_at u w rested (at.Heads s) stage same = subst (λ (x : World (Node K V)). Staged (machine (at.Heads s)) x) (sym same) stage
     seen_at u w rested (at.Retakes s) stage same = subst (λ (x : World (Node K V)). Staged (machine (at.Retakes s)) x) (sym same) stage
     seen_at u w rested (at.Leaves s l) stage begins = record {
@@ -133,7 +134,7 @@ module _ {K V : Type 0} (size roots i : ℕ) (small : size < 2 ^ 64) (began : Wo
     seen_at u w rested (at.Unuses root) stage same = absurd stage.here
     seen_at u w rested at.Over stage same = subst Has (sym same) (has_reclaimed deferred_word was_left size roots small began before came_first i u stage.here)
 
-  seen : (u w : World (Node K V)) → Rested deferred_word n size u → (c : ReclaimAll) → Staged c u → BeginsAt size i u w c.stands → SoFarAt c w c.stands
+  seen : (u w : World (Node K V)) → Rested deferred_word n size u → (c : ReclaimAll) → Staged c u → BeginsAt deferred_word size i u w c.stands → SoFarAt c w c.stands
   seen u w rested c stage begins = seen_at c.batch_size c.slots c.roots c.again u w rested c.stands stage begins
 
   -- it begins with the slots, or with the roots, where nothing is left of what slots had
@@ -143,7 +144,7 @@ module _ {K V : Type 0} (size roots i : ℕ) (small : size < 2 ^ 64) (began : Wo
   pub quiet_so : CameAbout size began → IsQuiet began → Has began
   quiet_so came quiet =
       quiet_reclaimed deferred_word was_left size roots small began before came_first i quiet.vacant
-      (λ s l. no_word size began came quiet.rests (outside_at 0 began.uses (λ t k. absurd (omega (arith, k))) (λ t k. quiet.vacant t)) s (quiet.none s (omega (arith, l))))
+      (λ s l. no_word deferred_word size began came quiet.rests (outside_at 0 began.uses (λ t k. absurd (omega (arith, k))) (λ t k. quiet.vacant t)) s (quiet.none s (omega (arith, l))))
 
   -- What lies between rows leaves it so, if it takes none that waited.
   has_on : (e : Event (Node K V)) → IsBetween e → ended_by e ≡ [] → (w v : World (Node K V)) → Happens deferred_word size e w v → taken_in v.log ≡ taken_in w.log → Has w → Has v
@@ -167,7 +168,7 @@ module _ {K V : Type 0} (size roots i : ℕ) (small : size < 2 ^ 64) (began : Wo
 
   -- Where its row rests, none begins at a point; and it rests at each that is within none.
   module _ (c : ReclaimAll) (w : World (Node K V)) (maps : ℕ → Option (Standing K)) (lists : ℕ → List ℕ) where
-    none_begins : (p : Reclaiming) → ReclaimingAt size roots i c w maps lists p → w.row i ≡ Rests → BeginsAt size i w w p
+    none_begins : (p : Reclaiming) → ReclaimingAt size roots i c w maps lists p → w.row i ≡ Rests → BeginsAt deferred_word size i w w p
     none_begins (at.Leaves s l) (ss, left, (none, lt, h)) rests = absurd (let row = h.row_is in cc (rests, row))
     none_begins (at.Flushes s d) (ss, left, (lt, h)) rests = absurd (let row = h.row_is in cc (rests, row))
     none_begins _ point rests = refl
@@ -214,7 +215,7 @@ module _ {K V : Type 0} (size roots i : ℕ) (small : size < 2 ^ 64) (began : Wo
       goes_still d e led.w2,
     )
 
-    looked_on : (p : Reclaiming) (led : Led p) → Rested deferred_word n size w → told ≡ settled.Goes → Staged c2 w → BeginsAt size i w led.w2 c2.stands → Then led.w2
+    looked_on : (p : Reclaiming) (led : Led p) → Rested deferred_word n size w → told ≡ settled.Goes → Staged c2 w → BeginsAt deferred_word size i w led.w2 c2.stands → Then led.w2
     looked_on p led rested goes stage begins = (seen w led.w2 rested c2 stage begins, λ done. absurd (cc (goes, done)))
 
     module _ (batch slots all : ℕ) (again : Bool) where
@@ -229,13 +230,13 @@ module _ {K V : Type 0} (size roots i : ℕ) (small : size < 2 ^ 64) (began : Wo
 
       heads_on : (s : ℕ) → Here (at.Heads s) → (led : Led (at.Heads s)) → Takes (at.Heads s) → Staged (c (at.Heads s)) w → Then led.w2
       heads_on s (ss, left, (none, lt, st, there)) led steps so =
-          let rested = rested_by size w came st.rests in
+          let rested = rested_by deferred_word size w came st.rests in
           let k = head_on deferred_word n size roots refl i began (c (at.Heads s)) so.size_is so.roots_are s w rested so.here.0 so.here.1 so.here.2 m2 end steps in
           looked_on (at.Heads s) led rested k.1 k.2 led.does
 
       retakes_on : (s : ℕ) → Here (at.Retakes s) → (led : Led (at.Retakes s)) → Takes (at.Retakes s) → Staged (c (at.Retakes s)) w → Then led.w2
       retakes_on s (ss, left, (none, lt, st, free)) led steps so =
-          let rested = rested_by size w came st.rests in
+          let rested = rested_by deferred_word size w came st.rests in
           let d = stored w.memory (λ out. to (next_head (c (at.Retakes s)) s)) (name.Slot s HEAD) IDLE m2 end steps in
           staged_on (at.Retakes s) led (next_head (c (at.Retakes s)) s) d.1
           (retake_on deferred_word n size roots refl i began (c (at.Retakes s)) so.size_is so.roots_are s w rested so.here.0 so.here.1 so.here.2 so.here.3 led.w2 led.does (led.memory ∙ d.0))
@@ -243,13 +244,13 @@ module _ {K V : Type 0} (size roots i : ℕ) (small : size < 2 ^ 64) (began : Wo
 
       batches_on : (s : ℕ) → Here (at.Batches s) → (led : Led (at.Batches s)) → Takes (at.Batches s) → Staged (c (at.Batches s)) w → Then led.w2
       batches_on s (ss, left, (lt, f)) led steps so =
-          let rested = rested_by size w came f.rests in
+          let rested = rested_by deferred_word size w came f.rests in
           let k = batch_on deferred_word n size roots refl i began (c (at.Batches s)) so.size_is so.roots_are s w rested so.here.0 so.here.1 m2 end steps in
           looked_on (at.Batches s) led rested k.1 k.2 led.does
 
       frees_on : (s : ℕ) → Here (at.Frees s) → (led : Led (at.Frees s)) → Takes (at.Frees s) → Staged (c (at.Frees s)) w → Then led.w2
       frees_on s (ss, left, (lt, f)) led steps so =
-          let rested = rested_by size w came f.rests in
+          let rested = rested_by deferred_word size w came f.rests in
           let goes : Unregister × Progress Unit → End = λ ends. (next_free (c (at.Frees s)) s, settled.Goes) in
           let back = steps_back goes w.memory m2 (unregister_plan (record { slot = s })) end steps in
           staged_on (at.Frees s) led (next_free (c (at.Frees s)) s) back.2

@@ -12,6 +12,7 @@ use Rattle.papaya_grows.specs.Given.Seize.World.{World, times, with_at}
 use Rattle.papaya_grows.specs.Given.Seize.declared.rows.reclaim_all.ReclaimAll.{ReclaimAll}
 use Rattle.papaya_grows.specs.Given.Seize.declared.rows.settle.Settled.{Settled}
 use Rattle.papaya_grows.specs.Given.SeizeSets.Reclaims.{is_on_slots}
+use Rattle.papaya_grows.specs.Given.Tables.Nodes.{deferred_word}
 use Rattle.papaya_grows.specs.Given.Tables.declared.node.Node.{Node}
 use Rattle.papaya_grows.specs.Given.Schedules.declared.effect.Effect.{Effect}
 use Rattle.papaya_grows.specs.Given.Schedules.declared.effect.Effect.TheVariants.{Reclaimed}
@@ -37,7 +38,7 @@ use Rattle.papaya_grows.specs.Given.Moments.Whole.{ShowsWhole}
 use Rattle.papaya_grows.proofs.Given.Moments.OnSlots.{none_some}
 use Rattle.papaya_logged.specs.Given.SeizeReclaims.Roots.{all_lists}
 use Rattle.papaya_logged.specs.Given.Reclaims.Slots.{IsQuiet}
-use Rattle.papaya_logged.proofs.Given.Reclaims.Slots.Facts.{nothing_left}
+use Rattle.seize_quiet.proofs.Slots.Facts.{nothing_left}
 use Rattle.papaya_grows.specs.Given.Scenes.Reclaiming.{IsReclaiming, ReclaimingLeads}
 use Rattle.papaya_logged.proofs.Reclaiming.Steps.{left as leaves_there}
 use Rattle.papaya_grows.specs.Given.Kept.Kept.{ShowsKept}
@@ -105,7 +106,7 @@ module _ {K V : Type 0} (same : K → K → Bool) (hash : ℕ → K → ℕ) (na
   none_retired : is_on_slots before.stands ≡ false → (b : ℕ) → is_retired b w.log ≡ true → ⊥
   none_retired off b retired =
       (let quiet : IsQuiet w = quiet_there old.batch_size old.roots i before w s.maps lists before.stands off under_way.under_way.point in
-      let none = (nothing_left old.batch_size under_way.small w under_way.under_way.stand.together.makings.standing.came quiet).1 b in cc (retired, none))
+      let none = (nothing_left deferred_word old.batch_size under_way.small w under_way.under_way.stand.together.makings.standing.came quiet).1 b in cc (retired, none))
 
   off_then : is_on_slots before.stands ≡ false → is_on_slots after.stands ≡ false
   off_then off = stays_off old.memory new.memory x before (after, told) off before.stands off leads.0

@@ -1,6 +1,10 @@
 -- Histories of lists of acts agree with what is so.
 use Rattle.papaya_agrees.proofs.Agree.{lists_agree}
+use Rattle.papaya_agrees.proofs.Coming.{once_is_new}
 use Rattle.papaya_agrees.proofs.law.lists_agree.Goals as goal
 
 pub returns : goal.returns
-returns c d = record { agrees = λ same by_hasher hash batch_size roots shards. lists_agree _ same by_hasher hash batch_size roots shards }
+returns c d = record {
+  agrees = λ same by_hasher hash batch_size roots shards. lists_agree _ same by_hasher hash batch_size roots shards;
+  new = λ same by_hasher batch_size roots aborts. once_is_new _ same by_hasher (λ map key. 0) batch_size roots aborts;
+}

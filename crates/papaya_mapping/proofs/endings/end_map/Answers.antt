@@ -91,6 +91,7 @@ returns-clause-works g c = (
       free = sym c.are_on.ensures ∙ c.if-are_on.false;
       began = c.begin_end.new.self;
       begins = λ same hash name m s shown. c.in_ok-caller.ensures.leads same hash name m s shown;
+      begun = λ same hash s at. c.in_ok-caller.ensures.begun same hash s at;
       noted = c.in_ok-caller.ensures.notes;
       stays = c.begin_end.ensures.given;
       ran = end_ran_as c.in_ok-caller.caller c.in-Some.number c.no_effects-effects.result.items c.run_end.new.effects.items c.no_effects-effects.ensures c.begin_end.new.self c.run_end.new.self

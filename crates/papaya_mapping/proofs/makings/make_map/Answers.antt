@@ -154,6 +154,7 @@ returns-in-Refused-clause-works g c =
           some = (let ne = c.if-scheduler-eq0.false in omega (arith, ne));
           began = c.begin_making.new.self;
           begins = λ same hash name m s shown. c.in_ok-caller.ensures.leads same hash name m s shown;
+          begun = λ same hash s at. c.in_ok-caller.ensures.begun same hash s at;
           noted = c.in_ok-caller.ensures.notes;
           stays = c.begin_making.ensures.given;
           there = c.in_ok-caller.ensures.there;
@@ -187,6 +188,7 @@ returns-in_ok-push-in-Done-clause-works g c =
           some = (let ne = c.if-scheduler-eq0.false in omega (arith, ne));
           began = c.begin_making.new.self;
           begins = λ same hash name m s shown. c.in_ok-caller.ensures.leads same hash name m s shown;
+          begun = λ same hash s at. c.in_ok-caller.ensures.begun same hash s at;
           noted = c.in_ok-caller.ensures.notes;
           stays = c.begin_making.ensures.given;
           there = c.in_ok-caller.ensures.there;

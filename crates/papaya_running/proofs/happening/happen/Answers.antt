@@ -7,7 +7,9 @@ use Rattle.papaya_events.specs.OfCalls.{KeepsAt}
 use Rattle.papaya_events.specs.OfRows.{KeepsRunAt}
 use Rattle.papaya_events.specs.OfSetups.{KeepsSetup}
 use Rattle.papaya_running.specs.Back.{GivesAt}
+use Rattle.papaya_running.specs.GoingOn.{GoesOnAt}
 use Rattle.papaya_running.specs.Kinds.{event_of, event_of_call, event_of_maps, event_of_slots}
+use Rattle.papaya_running.proofs.GoingOn.{in_turn_acts, out_acts}
 use Rattle.papaya_running.proofs.Counts.{calls_make_none, counts_still, out_counts, slots_make_none}
 use Rattle.papaya_running.proofs.Gives.{calls_reclaim_none, gave_in_turn, gave_none_if, gave_out}
 use Rattle.papaya_running.proofs.Happened.{in_turn_if, stays_out}
@@ -43,6 +45,7 @@ returns-then-scheduler g c =
           kept_out g.K.PartialEq.eq (g.S.Hashes.hash c.args.scheduler.now.logged.executor.hasher) c.args.event c.args.scheduler.now c.refuse.new.self c.refuse.result c.refuse.ensures.outcome c.refuse.ensures.effects c.refuse.ensures.mapped;
       setups = setup_out g.K.PartialEq.eq (g.S.Hashes.hash c.args.scheduler.now.logged.executor.hasher) c.args.event c.args.scheduler.now c.refuse.new.self _ c.refuse.ensures.mapped c.refuse.result c.refuse.ensures.effects;
       all = all_out g.K.PartialEq.eq (g.S.Hashes.hash c.args.scheduler.now.logged.executor.hasher) c.args.event c.args.scheduler.now c.refuse.new.self _ c.refuse.ensures.mapped c.refuse.result c.refuse.ensures.outcome c.refuse.ensures.effects;
+      acts = out_acts g.K.PartialEq.eq g.S.Hashes.hash c.args.event c.args.scheduler.now c.refuse.new.self c.refuse.result _ c.refuse.ensures.steps c.refuse.ensures.effects c.refuse.ensures.mapped;
     }
 
 pub of_calls-requires : goal.of_calls-requires
@@ -65,6 +68,8 @@ returns-in-OfCall g c =
           (none_set g.K.PartialEq.eq (g.S.Hashes.hash c.args.scheduler.now.logged.executor.hasher) (event_of_call c.in-OfCall.event) c.args.scheduler.now c.of_calls.new.scheduler (calls_set_none (event_of_call c.in-OfCall.event) (a_call c.in-OfCall.event)) c.of_calls.result);
       all = subst (λ event. IfOk c.of_calls.result (λ played. KeepsAll g.K.PartialEq.eq (g.S.Hashes.hash c.args.scheduler.now.logged.executor.hasher) event played c.args.scheduler.now c.of_calls.new.scheduler)) is
           (none_keep g.K.PartialEq.eq (g.S.Hashes.hash c.args.scheduler.now.logged.executor.hasher) (event_of_call c.in-OfCall.event) c.args.scheduler.now c.of_calls.new.scheduler (calls_give_none (event_of_call c.in-OfCall.event) (a_call c.in-OfCall.event)) c.of_calls.result);
+      acts = subst (λ event. IfOk c.of_calls.result (λ played. GoesOnAt g.K.PartialEq.eq g.S.Hashes.hash event played c.args.scheduler.now c.of_calls.new.scheduler)) is
+          (in_turn_acts g.K.PartialEq.eq g.S.Hashes.hash (event_of_call c.in-OfCall.event) c.args.scheduler.now c.of_calls.new.scheduler c.of_calls.result c.if-scheduler.false c.of_calls.ensures.acts);
       given = (c.of_calls.ensures.given.0, c.of_calls.ensures.given.1, c.of_calls.ensures.given.2);
     }
 
@@ -88,6 +93,8 @@ returns-in-OfMaps g c =
           (c.of_maps.ensures.setups);
       all = subst (λ event. IfOk c.of_maps.result (λ played. KeepsAll g.K.PartialEq.eq (g.S.Hashes.hash c.args.scheduler.now.logged.executor.hasher) event played c.args.scheduler.now c.of_maps.new.scheduler)) is
           (c.of_maps.ensures.all);
+      acts = subst (λ event. IfOk c.of_maps.result (λ played. GoesOnAt g.K.PartialEq.eq g.S.Hashes.hash event played c.args.scheduler.now c.of_maps.new.scheduler)) is
+          (in_turn_acts g.K.PartialEq.eq g.S.Hashes.hash (event_of_maps c.in-OfMaps.event) c.args.scheduler.now c.of_maps.new.scheduler c.of_maps.result c.if-scheduler.false c.of_maps.ensures.acts);
       given = c.of_maps.ensures.given;
     }
 
@@ -111,5 +118,7 @@ returns-in-OfSlots g c =
           (c.of_slots.ensures.setups);
       all = subst (λ event. IfOk c.of_slots.result (λ played. KeepsAll g.K.PartialEq.eq (g.S.Hashes.hash c.args.scheduler.now.logged.executor.hasher) event played c.args.scheduler.now c.of_slots.new.scheduler)) is
           (none_keep g.K.PartialEq.eq (g.S.Hashes.hash c.args.scheduler.now.logged.executor.hasher) (event_of_slots c.in-OfSlots.event) c.args.scheduler.now c.of_slots.new.scheduler (slots_give_none (event_of_slots c.in-OfSlots.event) (no_maps _ _ c.in-OfSlots.event)) c.of_slots.result);
+      acts = subst (λ event. IfOk c.of_slots.result (λ played. GoesOnAt g.K.PartialEq.eq g.S.Hashes.hash event played c.args.scheduler.now c.of_slots.new.scheduler)) is
+          (in_turn_acts g.K.PartialEq.eq g.S.Hashes.hash (event_of_slots c.in-OfSlots.event) c.args.scheduler.now c.of_slots.new.scheduler c.of_slots.result c.if-scheduler.false c.of_slots.ensures.acts);
       given = (c.of_slots.ensures.given.0, c.of_slots.ensures.given.1, c.of_slots.ensures.given.2);
     }

@@ -4,6 +4,7 @@ use Rattle.std.proofs.lemmas.Result.{IfOk-weaker}
 use Rattle.papaya_running.proofs.Happened.{due_so, goes_if, may_play, next_if, still, still_if}
 use Rattle.papaya_events.proofs.OfCalls.Happens.{ask_if, begin_if, go_if, step_if, stop_keeps, told_keeps, whole_if}
 use Rattle.papaya_running.specs.Kinds.{event_of_call}
+use Rattle.papaya_running.proofs.GoingOn.{begin_acts, go_acts, next_acts, reply_acts, step_acts, stop_acts, whole_acts}
 use Rattle.papaya_running.proofs.happening.of_calls.Goals as goal
 
 pub begin-requires : goal.begin-requires
@@ -99,3 +100,24 @@ returns-in-Stop-clause-keeps g c =
     stop_keeps g.K.PartialEq.eq (g.S.Hashes.hash c.args.scheduler.now.logged.executor.hasher) c.args.scheduler.now c.stop.new.self (event_of_call c.args.event) c.in-Stop.caller (ap event_of_call c.in-Stop.is) c.stop.result
     c.stop.ensures.steps (c.stop.ensures.plays g.K.PartialEq.eq (g.S.Hashes.hash c.args.scheduler.now.logged.executor.hasher)) (c.stop.ensures.stopped g.K.PartialEq.eq (g.S.Hashes.hash c.args.scheduler.now.logged.executor.hasher))
     (c.stop.ensures.stays g.K.PartialEq.eq (g.S.Hashes.hash c.args.scheduler.now.logged.executor.hasher)) c.stop.ensures.given
+
+pub returns-in-Begin-clause-acts : goal.returns-in-Begin-clause-acts
+returns-in-Begin-clause-acts g c = begin_acts g.K.PartialEq.eq g.S.Hashes.hash (event_of_call c.args.event) c.args.scheduler.now c.begin.new.self c.in-Begin.caller c.in-Begin.guard c.in-Begin.map c.in-Begin.call (ap event_of_call c.in-Begin.is) c.begin.result c.begin.ensures.steps c.begin.ensures.began c.begin.ensures.given
+
+pub returns-in-Step-clause-acts : goal.returns-in-Step-clause-acts
+returns-in-Step-clause-acts g c = step_acts g.K.PartialEq.eq g.S.Hashes.hash (event_of_call c.args.event) c.args.scheduler.now c.step.new.scheduler c.in-Step.caller c.in-Step.refuse (ap event_of_call c.in-Step.is) 1 c.step.result c.step.ensures.took c.step.ensures.given
+
+pub returns-in-Go-clause-acts : goal.returns-in-Go-clause-acts
+returns-in-Go-clause-acts g c = go_acts g.K.PartialEq.eq g.S.Hashes.hash (event_of_call c.args.event) c.args.scheduler.now c.go.new.scheduler c.in-Go.caller c.in-Go.refuse (ap event_of_call c.in-Go.is) _ c.go.result c.go.ensures.took c.go.ensures.given
+
+pub returns-in-OneCall-clause-acts : goal.returns-in-OneCall-clause-acts
+returns-in-OneCall-clause-acts g c = whole_acts g.K.PartialEq.eq g.S.Hashes.hash (event_of_call c.args.event) c.args.scheduler.now c.one_call.new.scheduler c.in-OneCall.guard c.in-OneCall.map c.in-OneCall.call (ap event_of_call c.in-OneCall.is) c.one_call.result c.one_call.ensures.took c.one_call.ensures.given
+
+pub returns-in-Next-clause-acts : goal.returns-in-Next-clause-acts
+returns-in-Next-clause-acts g c = next_acts g.K.PartialEq.eq g.S.Hashes.hash (event_of_call c.args.event) c.args.scheduler.now c.next.new.scheduler c.in-Next.caller (ap event_of_call c.in-Next.is) c.next.result c.next.ensures.took c.next.ensures.given
+
+pub returns-in-Replied-clause-acts : goal.returns-in-Replied-clause-acts
+returns-in-Replied-clause-acts g c = reply_acts g.K.PartialEq.eq g.S.Hashes.hash (event_of_call c.args.event) c.args.scheduler.now c.replied.new.self c.in-Replied.caller c.in-Replied.reply (ap event_of_call c.in-Replied.is) c.replied.result c.replied.ensures.steps (c.replied.ensures.plays g.K.PartialEq.eq) (c.replied.ensures.told g.K.PartialEq.eq) (c.replied.ensures.stays g.K.PartialEq.eq) c.replied.ensures.given
+
+pub returns-in-Stop-clause-acts : goal.returns-in-Stop-clause-acts
+returns-in-Stop-clause-acts g c = stop_acts g.K.PartialEq.eq g.S.Hashes.hash (event_of_call c.args.event) c.args.scheduler.now c.stop.new.self c.in-Stop.caller (ap event_of_call c.in-Stop.is) c.stop.result c.stop.ensures.steps (c.stop.ensures.plays g.K.PartialEq.eq) (c.stop.ensures.stopped g.K.PartialEq.eq) (c.stop.ensures.stays g.K.PartialEq.eq) c.stop.ensures.given

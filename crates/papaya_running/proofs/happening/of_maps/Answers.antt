@@ -10,6 +10,7 @@ use Rattle.papaya_events.proofs.OfMakings.{makings_keep}
 use Rattle.papaya_events.proofs.OfRows.{others_keep_if}
 use Rattle.papaya_events.proofs.OfSetups.{others_set, setup_keeps_if}
 use Rattle.papaya_running.specs.Kinds.{event_of_maps}
+use Rattle.papaya_running.proofs.GoingOn.{close_acts, end_acts, make_acts, nothing_acts_if, reclaim_acts}
 use Rattle.papaya_running.proofs.happening.of_maps.Goals as goal
 
 pub make_map-requires : goal.make_map-requires
@@ -128,3 +129,18 @@ returns-in-ReclaimAll-clause-setups g c = others_set g.K.PartialEq.eq (g.S.Hashe
 
 pub returns-in-Close-clause-setups : goal.returns-in-Close-clause-setups
 returns-in-Close-clause-setups g c = others_set g.K.PartialEq.eq (g.S.Hashes.hash c.args.scheduler.now.logged.executor.hasher) (event_of_maps c.args.event) _ (ap event_of_maps c.in-Close.is) c.args.scheduler.now c.close.new.scheduler refl c.close.result
+
+pub returns-in-MakeMap-clause-acts : goal.returns-in-MakeMap-clause-acts
+returns-in-MakeMap-clause-acts g c = make_acts g.K.PartialEq.eq g.S.Hashes.hash (event_of_maps c.args.event) c.args.scheduler.now c.make_map.new.scheduler _ _ _ (ap event_of_maps c.in-MakeMap.is) c.make_map.result c.make_map.ensures.steps c.make_map.ensures.works c.make_map.ensures.numbers
+
+pub returns-in-EndMap-clause-acts : goal.returns-in-EndMap-clause-acts
+returns-in-EndMap-clause-acts g c = end_acts g.K.PartialEq.eq g.S.Hashes.hash (event_of_maps c.args.event) c.args.scheduler.now c.end_map.new.scheduler _ (ap event_of_maps c.in-EndMap.is) c.end_map.result c.end_map.ensures.steps c.end_map.ensures.works c.end_map.ensures.given
+
+pub returns-in-ShowShape-clause-acts : goal.returns-in-ShowShape-clause-acts
+returns-in-ShowShape-clause-acts g c = nothing_acts_if g.K.PartialEq.eq g.S.Hashes.hash (event_of_maps c.args.event) c.args.scheduler.now c.args.scheduler.now _ (ap event_of_maps c.in-ShowShape.is) c.show_shape.result c.show_shape.ensures.steps c.show_shape.ensures.works
+
+pub returns-in-ReclaimAll-clause-acts : goal.returns-in-ReclaimAll-clause-acts
+returns-in-ReclaimAll-clause-acts g c = reclaim_acts g.K.PartialEq.eq g.S.Hashes.hash (event_of_maps c.args.event) c.args.scheduler.now c.reclaim_all.new.scheduler (ap event_of_maps c.in-ReclaimAll.is) c.requires c.reclaim_all.result c.reclaim_all.ensures.steps c.reclaim_all.ensures.works c.reclaim_all.ensures.given
+
+pub returns-in-Close-clause-acts : goal.returns-in-Close-clause-acts
+returns-in-Close-clause-acts g c = close_acts g.K.PartialEq.eq g.S.Hashes.hash (event_of_maps c.args.event) c.args.scheduler.now c.close.new.scheduler (ap event_of_maps c.in-Close.is) c.requires c.close.result c.close.ensures.steps c.close.ensures.works c.close.ensures.given

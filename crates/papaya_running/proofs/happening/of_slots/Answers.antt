@@ -6,6 +6,7 @@ use Rattle.papaya_running.proofs.Happened.{due_so, may_play, still, still_if}
 use Rattle.papaya_events.proofs.OfRows.{others_keep, others_keep_if, rows_keep}
 use Rattle.papaya_events.proofs.OfSetups.{others_set, setup_keeps, setup_keeps_if}
 use Rattle.papaya_running.specs.Kinds.{event_of_slots}
+use Rattle.papaya_running.proofs.GoingOn.{choice_acts, nothing_acts, row_acts}
 use Rattle.papaya_running.proofs.happening.of_slots.Goals as goal
 
 pub collector-requires : goal.collector-requires
@@ -197,3 +198,36 @@ returns-in-Flush-clause-setups g c = others_set g.K.PartialEq.eq (g.S.Hashes.has
 
 pub returns-in-DropGuard-clause-setups : goal.returns-in-DropGuard-clause-setups
 returns-in-DropGuard-clause-setups g c = others_set g.K.PartialEq.eq (g.S.Hashes.hash c.args.scheduler.now.logged.executor.hasher) (event_of_slots c.args.event) _ (ap event_of_slots c.in-DropGuard.is) c.args.scheduler.now c.drop_guard.new.self refl c.drop_guard.result
+
+pub returns-in-Register-clause-acts : goal.returns-in-Register-clause-acts
+returns-in-Register-clause-acts g c = row_acts g.K.PartialEq.eq g.S.Hashes.hash (event_of_slots c.args.event) c.args.scheduler.now c.register.new.self _ (ap event_of_slots c.in-Register.is) refl c.register.result c.register.ensures.steps c.register.ensures.works c.register.ensures.given
+
+pub returns-in-Unregister-clause-acts : goal.returns-in-Unregister-clause-acts
+returns-in-Unregister-clause-acts g c = row_acts g.K.PartialEq.eq g.S.Hashes.hash (event_of_slots c.args.event) c.args.scheduler.now c.unregister.new.self _ (ap event_of_slots c.in-Unregister.is) refl c.unregister.result c.unregister.ensures.steps c.unregister.ensures.works c.unregister.ensures.given
+
+pub returns-in-Enter-clause-acts : goal.returns-in-Enter-clause-acts
+returns-in-Enter-clause-acts g c = row_acts g.K.PartialEq.eq g.S.Hashes.hash (event_of_slots c.args.event) c.args.scheduler.now c.enter.new.self _ (ap event_of_slots c.in-Enter.is) refl c.enter.result c.enter.ensures.steps c.enter.ensures.works c.enter.ensures.given
+
+pub returns-in-Own-clause-acts : goal.returns-in-Own-clause-acts
+returns-in-Own-clause-acts g c = row_acts g.K.PartialEq.eq g.S.Hashes.hash (event_of_slots c.args.event) c.args.scheduler.now c.own.new.self _ (ap event_of_slots c.in-Own.is) refl c.own.result c.own.ensures.steps c.own.ensures.works c.own.ensures.given
+
+pub returns-in-Refresh-clause-acts : goal.returns-in-Refresh-clause-acts
+returns-in-Refresh-clause-acts g c = row_acts g.K.PartialEq.eq g.S.Hashes.hash (event_of_slots c.args.event) c.args.scheduler.now c.refresh.new.self _ (ap event_of_slots c.in-Refresh.is) refl c.refresh.result c.refresh.ensures.steps c.refresh.ensures.works c.refresh.ensures.given
+
+pub returns-in-Flush-clause-acts : goal.returns-in-Flush-clause-acts
+returns-in-Flush-clause-acts g c = row_acts g.K.PartialEq.eq g.S.Hashes.hash (event_of_slots c.args.event) c.args.scheduler.now c.flush.new.self _ (ap event_of_slots c.in-Flush.is) refl c.flush.result c.flush.ensures.steps c.flush.ensures.works c.flush.ensures.given
+
+pub returns-in-DropGuard-clause-acts : goal.returns-in-DropGuard-clause-acts
+returns-in-DropGuard-clause-acts g c = row_acts g.K.PartialEq.eq g.S.Hashes.hash (event_of_slots c.args.event) c.args.scheduler.now c.drop_guard.new.self _ (ap event_of_slots c.in-DropGuard.is) refl c.drop_guard.result c.drop_guard.ensures.steps c.drop_guard.ensures.works c.drop_guard.ensures.given
+
+pub returns-in-Choose-clause-acts : goal.returns-in-Choose-clause-acts
+returns-in-Choose-clause-acts g c = choice_acts g.K.PartialEq.eq g.S.Hashes.hash (event_of_slots c.args.event) c.args.scheduler.now c.choose.new.self _ (ap event_of_slots c.in-Choose.is) c.choose.result c.choose.ensures.steps c.choose.ensures.works
+
+pub returns-in-Collector-clause-acts : goal.returns-in-Collector-clause-acts
+returns-in-Collector-clause-acts g c = nothing_acts g.K.PartialEq.eq g.S.Hashes.hash (event_of_slots c.args.event) c.args.scheduler.now c.args.scheduler.now _ (ap event_of_slots c.in-Collector.is) c.collector.result c.collector.ensures.steps c.collector.ensures.works.1.0 c.collector.ensures.works.1.1 c.collector.ensures.works.0
+
+pub returns-in-Hash-clause-acts : goal.returns-in-Hash-clause-acts
+returns-in-Hash-clause-acts g c = nothing_acts g.K.PartialEq.eq g.S.Hashes.hash (event_of_slots c.args.event) c.args.scheduler.now c.args.scheduler.now _ (ap event_of_slots c.in-Hash.is) c.hash.result c.hash.ensures.steps c.hash.ensures.works.1.0 c.hash.ensures.works.1.1 c.hash.ensures.works.0
+
+pub returns-in-Forget-clause-acts : goal.returns-in-Forget-clause-acts
+returns-in-Forget-clause-acts g c = nothing_acts g.K.PartialEq.eq g.S.Hashes.hash (event_of_slots c.args.event) c.args.scheduler.now c.forget.new.self _ (ap event_of_slots c.in-Forget.is) c.forget.result c.forget.ensures.steps c.forget.ensures.works.1.0 c.forget.ensures.works.1.1 c.forget.ensures.works.0

@@ -1,5 +1,5 @@
 -- A schedule runs.
-use Rattle.std.specs.Prelude.{◌≡◌, ◌++◌, ◌∷◌, ◌%◌, ◌^◌, List, [], fold}
+use Rattle.std.specs.Prelude.{◌≡◌, ◌++◌, ◌∷◌, ◌%◌, ◌^◌, ℕ, List, [], fold}
 use Rattle.std.proofs.Common.{rules, arith, ap, subst, sym, ◌∙◌, append_assoc}
 use Rattle.std.proofs.lemmas.List.{append-nil, nil_from_length}
 use Rattle.std.proofs.lemmas.Result.{err_from_is_err_and}
@@ -7,6 +7,7 @@ use Rattle.papaya_schedules.specs.declared.event.Event.{Event}
 use Rattle.papaya_schedules.specs.After.{AtEachEvent}
 use Rattle.papaya_schedules.specs.Runs.{IsRunOf, log_of}
 use Rattle.papaya_scheduler.specs.Played.{terms_given}
+use Rattle.papaya_grouped.specs.ByActs.{IsByActs}
 use Rattle.papaya_running.specs.Run.{HandsOn, HasCome, HoldsBlocks, IsRightRun, bounded}
 use Rattle.papaya_running.specs.declared.running.Running.{Running}
 use Rattle.papaya_running.proofs.running.run_refusing.Goals as goal
@@ -91,6 +92,20 @@ returns-clause-live g c =
     (terms_given (bounded c.args.setup)) l c.in_ok-end.field-0) all
     (c.in_ok-end.ensures.live g.K.PartialEq.eq (λ hasher key. g.S.Hasher.Hasher.finish (fold g.S.Hasher.Hasher.write (g.S.BuildHasher.build_hasher hasher) (g.K.Hash.hash_input key)) % 2 ^ 64)
     (terms_given (bounded c.args.setup)) events c.loop-event.invariant.2)
+
+pub returns-clause-acts : goal.returns-clause-acts
+returns-clause-acts g c =
+    let events = c.loop-event.invariant.0 in
+    let hashes : g.row.S.Denot → g.row.K.Denot → ℕ =
+    λ hasher key. g.S.Hasher.Hasher.finish (fold g.S.Hasher.Hasher.write (g.S.BuildHasher.build_hasher hasher) (g.K.Hash.hash_input key)) % 2 ^ 64 in
+    let by = c.loop-event.running.scheduler.logged.executor.hasher in
+    let empty : c.loop-event.event-iterator.rest.items ≡ [] =
+    nil_from_length c.loop-event.event-iterator.rest.items (let a = c.loop-event.event-iterator.rest.ok in let s = c.in-None.ensures.steps in omega (arith, a, s.0)) in
+    let all : events ≡ c.args.schedule.items = sym (append-nil events) ∙ ap (λ (l : List (Event g.row.K.Denot g.row.V.Denot)). events ++ l) (sym empty) ∙ c.loop-event.invariant.1 in (
+      by,
+      subst (λ (l : List (Event g.row.K.Denot g.row.V.Denot)). IsByActs g.K.PartialEq.eq hashes by (terms_given (bounded c.args.setup)) (log_of l c.in_ok-end.field-0)) all
+          (c.in_ok-end.ensures.acts g.K.PartialEq.eq hashes (terms_given (bounded c.args.setup)) events c.loop-event.invariant.2),
+    )
 
 pub returns-in_err-take_turn-clause-memory : goal.returns-in_err-take_turn-clause-memory
 returns-in_err-take_turn-clause-memory g c =

@@ -1,7 +1,7 @@
 -- A call takes one step.
 use Rattle.std.proofs.Common.{◌≡◌, sym, ap, subst}
 use Rattle.papaya_scheduler.specs.Given.Effects.Known.{known}
-use Rattle.papaya_scheduler.specs.Given.Logged.Calling.{CallGoesOn}
+use Rattle.papaya_scheduler.specs.Given.Logged.Calling.{CallGoesOn, CallSteps}
 use Rattle.papaya_scheduler.proofs.KeptGiven.{given_as}
 use Rattle.papaya_stepping.specs.Stepping.{callers_then, outcome_of}
 use Rattle.papaya_stepping.proofs.ByName.{caller_here}
@@ -34,6 +34,10 @@ returns-clause-stepped g c = λ place placed.
           c.step.new.effects.items c.args.scheduler.now.logged l) (sym logged_is)
           (subst (λ x. CallGoesOn g.K.PartialEq.eq (g.S.Hashes.hash c.args.scheduler.now.logged.executor.hasher) name m s x.0 x.1 c.in_ok-progress.progress c.args.effects.now.items c.step.new.effects.items
           c.args.scheduler.now.logged c.step.new.self) read (c.in_ok-progress.ensures.leads name m s shown));
+      steps = subst (λ l. CallSteps g.K.PartialEq.eq (g.S.Hashes.hash c.args.scheduler.now.logged.executor.hasher) d.number d.map c.in_ok-progress.progress c.args.effects.now.items c.step.new.effects.items
+          c.args.scheduler.now.logged l) (sym logged_is)
+          (subst (λ x. CallSteps g.K.PartialEq.eq (g.S.Hashes.hash c.args.scheduler.now.logged.executor.hasher) x.0 x.1 c.in_ok-progress.progress c.args.effects.now.items c.step.new.effects.items
+          c.args.scheduler.now.logged c.step.new.self) read c.in_ok-progress.ensures.steps);
       outcome_is = subst (λ l. c.come_to.result ≡ outcome_of (known l.notes) d.kind d.value c.in_ok-progress.progress) (sym logged_is) (c.come_to.ensures.outcome place d it);
       calls = subst (λ l. c.come_to.new.scheduler.calls ≡ callers_then (known l.notes) place d c.in_ok-progress.progress c.args.scheduler.now.calls) (sym logged_is)
           (c.come_to.ensures.calls place d it);

@@ -3,7 +3,7 @@ use Rattle.std.specs.Prelude.{suc, slice_get}
 use Rattle.std.proofs.Common.{◌+◌, refl, sym, ap, subst, ◌∙◌, arith}
 use Rattle.std.proofs.lemmas.List.{append-nil}
 use Rattle.papaya_scheduler.proofs.Given.Logged.KeptGiven.{given_on}
-use Rattle.papaya_scheduler.specs.Given.Logged.Calling.{CallGoesOn}
+use Rattle.papaya_scheduler.specs.Given.Logged.Calling.{CallGoesOn, CallSteps}
 use Rattle.papaya_scheduler.specs.Given.Logged.Shown.{IsShown}
 use Rattle.papaya_stepping.specs.Stepping.{ReadyAt}
 use Rattle.papaya_stepping.proofs.NextOn.{logged_on, may_walk, mid_few, mid_first, mid_next}
@@ -58,6 +58,10 @@ returns-then-not-just_goes-clause-comes g c = λ place placed.
             c.loop-steps.scheduler.logged c.step.new.self) read
             (subst (λ h. CallGoesOn g.K.PartialEq.eq (g.S.Hashes.hash h) name m s c.way_of-number.result.0 c.way_of-number.result.1 c.in_ok-progress.progress c.loop-steps.effects.items c.step.new.effects.items
             c.loop-steps.scheduler.logged c.step.new.self) i.3.0 (c.in_ok-progress.ensures.leads name m s (subst (λ h. IsShown g.K.PartialEq.eq (g.S.Hashes.hash h) name m c.loop-steps.scheduler.logged s) (sym i.3.0) shown)));
+        steps = subst (λ x. CallSteps g.K.PartialEq.eq (g.S.Hashes.hash c.args.scheduler.now.logged.executor.hasher) x.0 x.1 c.in_ok-progress.progress c.loop-steps.effects.items c.step.new.effects.items
+            c.loop-steps.scheduler.logged c.step.new.self) read
+            (subst (λ h. CallSteps g.K.PartialEq.eq (g.S.Hashes.hash h) c.way_of-number.result.0 c.way_of-number.result.1 c.in_ok-progress.progress c.loop-steps.effects.items c.step.new.effects.items
+            c.loop-steps.scheduler.logged c.step.new.self) i.3.0 c.in_ok-progress.ensures.steps);
         rest = refl;
         given = c.step.ensures.given;
       },
@@ -91,6 +95,12 @@ loop-steps-preserved g c =
                 c.loop-steps.scheduler.logged c.step.new.self) read
                 (subst (λ h. CallGoesOn g.K.PartialEq.eq (g.S.Hashes.hash h) name m2 s c.way_of-number.result.0 c.way_of-number.result.1 c.in_ok-progress.progress c.loop-steps.effects.items c.step.new.effects.items
                 c.loop-steps.scheduler.logged c.step.new.self) i.3.0 (c.in_ok-progress.ensures.leads name m2 s (subst (λ h. IsShown g.K.PartialEq.eq (g.S.Hashes.hash h) name m2 c.loop-steps.scheduler.logged s) (sym i.3.0) shown))));
+            steps = subst (λ said. CallSteps g.K.PartialEq.eq (g.S.Hashes.hash c.args.scheduler.now.logged.executor.hasher) ready.1.number ready.1.map said c.loop-steps.effects.items c.step.new.effects.items
+                c.loop-steps.scheduler.logged c.step.new.self) goes
+                (subst (λ x. CallSteps g.K.PartialEq.eq (g.S.Hashes.hash c.args.scheduler.now.logged.executor.hasher) x.0 x.1 c.in_ok-progress.progress c.loop-steps.effects.items c.step.new.effects.items
+                c.loop-steps.scheduler.logged c.step.new.self) read
+                (subst (λ h. CallSteps g.K.PartialEq.eq (g.S.Hashes.hash h) c.way_of-number.result.0 c.way_of-number.result.1 c.in_ok-progress.progress c.loop-steps.effects.items c.step.new.effects.items
+                c.loop-steps.scheduler.logged c.step.new.self) i.3.0 c.in_ok-progress.ensures.steps));
             rest = refl;
             given = c.step.ensures.given;
           }),
@@ -113,6 +123,12 @@ loop-steps-preserved g c =
                   c.loop-steps.scheduler.logged c.step.new.self) read
                   (subst (λ h. CallGoesOn g.K.PartialEq.eq (g.S.Hashes.hash h) name m s c.way_of-number.result.0 c.way_of-number.result.1 c.in_ok-progress.progress c.loop-steps.effects.items c.step.new.effects.items
                   c.loop-steps.scheduler.logged c.step.new.self) i.3.0 (c.in_ok-progress.ensures.leads name m s (subst (λ h. IsShown g.K.PartialEq.eq (g.S.Hashes.hash h) name m c.loop-steps.scheduler.logged s) (sym i.3.0) shown))));
+              steps = subst (λ said. CallSteps g.K.PartialEq.eq (g.S.Hashes.hash c.args.scheduler.now.logged.executor.hasher) ready.1.number ready.1.map said c.loop-steps.effects.items c.step.new.effects.items
+                  c.loop-steps.scheduler.logged c.step.new.self) goes
+                  (subst (λ x. CallSteps g.K.PartialEq.eq (g.S.Hashes.hash c.args.scheduler.now.logged.executor.hasher) x.0 x.1 c.in_ok-progress.progress c.loop-steps.effects.items c.step.new.effects.items
+                  c.loop-steps.scheduler.logged c.step.new.self) read
+                  (subst (λ h. CallSteps g.K.PartialEq.eq (g.S.Hashes.hash h) c.way_of-number.result.0 c.way_of-number.result.1 c.in_ok-progress.progress c.loop-steps.effects.items c.step.new.effects.items
+                  c.loop-steps.scheduler.logged c.step.new.self) i.3.0 c.in_ok-progress.ensures.steps));
               rest = refl;
               given = c.step.ensures.given;
             },

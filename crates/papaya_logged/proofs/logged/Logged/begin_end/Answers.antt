@@ -10,3 +10,7 @@ returns-clause-leads g c = λ same hash name m s shown.
     end_is_begun same hash c.args.self.now (record { executor = c.begin_ending.new.self; notes = c.args.self.now.notes }) c.args.map _
     (λ v at. c.in_ok-caller.ensures.leads same hash v at)
     (λ v at. subst (λ (i : ℕ). v.enders i ≡ None) (sym c.in_ok-caller.ensures.number) (no_ending_yet same hash c.args.self.now.executor v at c.args.slot c.requires.slot)) refl c.begin_ending.ensures.given name m s shown
+
+-- and in whatever scene the executor is there, it is so
+pub returns-clause-begun : goal.returns-clause-begun
+returns-clause-begun g c = λ same hash s at. c.in_ok-caller.ensures.leads same hash s at

@@ -13,3 +13,7 @@ returns-clause-leads g c = λ same hash name m s shown.
 
 pub returns-clause-there : goal.returns-clause-there
 returns-clause-there g c = map_is_there _
+
+-- and in whatever scene the executor is there, it is so
+pub returns-clause-begun : goal.returns-clause-begun
+returns-clause-begun g c = λ same hash s at. c.in_ok-caller.ensures.leads same hash s at

@@ -4,7 +4,7 @@ use Rattle.papaya_effects.specs.Known.{known}
 use Rattle.papaya_logged.specs.Back.{row_back}
 use Rattle.papaya_logged.specs.Goes.{RowGoes, far}
 use Rattle.papaya_logged.proofs.BroughtBack.{brings_none, brings_row, row_comes}
-use Rattle.papaya_logged.proofs.Goes.{goes_none, row_more}
+use Rattle.papaya_logged.proofs.Goes.{goes_none, row_more, row_step}
 use Rattle.papaya_logged.proofs.KeptGiven.{given_none, given_on}
 use Rattle.papaya_logged.proofs.Runs.{ends_at_first, ends_now, ran_none, ran_on, run_goes, still_there}
 use Rattle.papaya_logged.proofs.logged.Logged.run_on_slot.Goals as goal
@@ -41,8 +41,13 @@ returns-then-has_come-clause-last g c = (c.loop-self.self.executor, c.loop-self.
 pub returns-then-has_come-clause-goes : goal.returns-then-has_come-clause-goes
 returns-then-has_come-clause-goes g c =
     let e = c.in_ok-told.ensures in
-    row_more c.args.self.now c.loop-self.self c.step_on_slot.new.self c.args.effects.now.items c.loop-self.effects.items c.step_on_slot.new.effects.items c.args.caller c.in_ok-told.told
-    c.loop-self.invariant.under c.loop-self.invariant.gone e.did e.noted c.step_on_slot.ensures.given e.steps
+    let i = c.loop-self.invariant in (
+      far c.loop-self.effects.items c.loop-self.self,
+      i.gone,
+      row_step c.args.self.now c.loop-self.self c.step_on_slot.new.self c.args.effects.now.items c.loop-self.effects.items c.step_on_slot.new.effects.items c.args.caller c.in_ok-told.told i.under e.did e.noted
+          c.step_on_slot.ensures.given e.steps,
+      refl,
+    )
 
 pub returns-then-has_come-clause-used : goal.returns-then-has_come-clause-used
 returns-then-has_come-clause-used g c =

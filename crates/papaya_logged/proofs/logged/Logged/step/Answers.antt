@@ -1,9 +1,13 @@
 -- A step of a call.
+use Rattle.std.proofs.Common.{◌++◌, ap, subst, sym, ◌∙◌}
+use Rattle.papaya_effects.specs.Effects.{effects_of, known_after}
 use Rattle.papaya_effects.specs.Known.{known}
 use Rattle.papaya_effects.specs.declared.acting.Acting.TheVariants as acts
 use Rattle.papaya_logged.proofs.KeptGiven.{given_noted}
 use Rattle.papaya_logged.proofs.Steps.{goes_on, makes_no_more}
 use Rattle.papaya_logged.proofs.logged.Logged.step.Goals as goal
+use Rattle.papaya_executor.specs.Stepping.{StepsThere}
+use Rattle.papaya_executor.specs.declared.executor.Executor.{Executor}
 
 pub returns-clause-leads : goal.returns-clause-leads
 returns-clause-leads g c = λ name m s shown. goes_on _ _ c.args.self.now c.note.new.self c.step-progress.new.self c.args.caller c.args.map c.step-progress.result c.args.effects.now.items c.note.new.effects.items c.step-progress.ensures.leads c.in_ok-note.ensures.did c.in_ok-note.ensures.known c.note.ensures.executor c.step-progress.ensures.given name m s shown
@@ -16,3 +20,15 @@ returns-in_err-note-clause-given g c = given_noted c.args.self.now.executor c.st
 
 pub returns-clause-given : goal.returns-clause-given
 returns-clause-given g c = given_noted c.args.self.now.executor c.step-progress.new.self c.note.new.self.executor c.step-progress.ensures.given c.note.ensures.executor
+
+pub returns-clause-steps : goal.returns-clause-steps
+returns-clause-steps g c = record {
+  leads = λ s at.
+      subst (λ (e : Executor _ _ _). StepsThere g.K.PartialEq.eq (g.S.Hashes.hash c.args.self.now.executor.hasher) c.args.caller c.step-progress.result s c.args.self.now.executor e) (sym c.note.ensures.executor) (c.step-progress.ensures.leads s at);
+  is_noted = record {
+    did = c.in_ok-note.ensures.did
+        ∙ ap (λ (e : Executor _ _ _). c.args.effects.now.items ++ effects_of (acts.Call c.args.caller c.args.map) (known c.args.self.now.notes) e.memory.changed) (sym c.note.ensures.executor);
+    noted = c.in_ok-note.ensures.known ∙ ap (λ (e : Executor _ _ _). known_after (acts.Call c.args.caller c.args.map) e.memory.changed (known c.args.self.now.notes)) (sym c.note.ensures.executor);
+    given = given_noted c.args.self.now.executor c.step-progress.new.self c.note.new.self.executor c.step-progress.ensures.given c.note.ensures.executor;
+  };
+}

@@ -1,12 +1,15 @@
 -- A run begins.
-use Rattle.std.specs.Prelude.{◌%◌, ◌^◌, ℕ, fold}
-use Rattle.std.proofs.Common.{subst}
+use Rattle.std.specs.Prelude.{◌%◌, ◌^◌, ℕ, List, fold}
+use Rattle.std.proofs.Common.{subst, sym}
 use Rattle.papaya_runs.specs.declared.event.Setup.{Setup}
+use Rattle.papaya_events.specs.Given.Points.Steps.{AreLawful}
+use Rattle.papaya_schedules.specs.Entry.{Entry}
 use Rattle.papaya_scheduler.specs.Played.{terms_given}
+use Rattle.papaya_pieced.specs.SoFar.{ActsSoFar}
 use Rattle.papaya_running.specs.Run.{bounded}
 use Rattle.papaya_running.proofs.Beginning.{Begins, are_few, begins_first, first_holds, first_runs, still_begins}
 use Rattle.papaya_running.proofs.LawfulKeys.{are_lawful}
-use Rattle.papaya_running.proofs.Turns.{back_first, start_so}
+use Rattle.papaya_running.proofs.Turns.{back_first, none_so, start_so}
 use Rattle.papaya_running.proofs.running.Running.begin.Goals as goal
 
 pub loop-choice-init : goal.loop-choice-init
@@ -20,6 +23,9 @@ loop-choice-preserved g c = still_begins (bounded c.args.setup) c.loop-choice.sc
 pub returns : goal.returns
 returns g c =
     let hash : g.row.K.Denot → ℕ = λ key. g.S.Hasher.Hasher.finish (fold g.S.Hasher.Hasher.write (g.S.BuildHasher.build_hasher c.loop-choice.scheduler.logged.executor.hasher) (g.K.Hash.hash_input key)) % 2 ^ 64 in
+    let hashes : g.row.S.Denot → g.row.K.Denot → ℕ = λ hasher key. g.S.Hasher.Hasher.finish (fold g.S.Hasher.Hasher.write (g.S.BuildHasher.build_hasher hasher) (g.K.Hash.hash_input key)) % 2 ^ 64 in
+    let lawful : (hasher : g.row.S.Denot) → AreLawful g.K.PartialEq.eq (hashes hasher) =
+    λ hasher. are_lawful g.K.PartialEq.eq g.K.Hash.hash_input g.met.K.Eq.laws g.met.K.Hash.respects_eq (λ writes. g.S.Hasher.Hasher.finish (fold g.S.Hasher.Hasher.write (g.S.BuildHasher.build_hasher hasher) writes)) in
     record {
       so_far =
           start_so g.K.PartialEq.eq hash (terms_given (bounded c.args.setup)) c.nothing-written.result c.nothing-tally.result c.loop-choice.scheduler c.nothing-written.ensures.outcomes c.nothing-written.ensures.steps
@@ -29,5 +35,9 @@ returns g c =
           (λ writes. g.S.Hasher.Hasher.finish (fold g.S.Hasher.Hasher.write (g.S.BuildHasher.build_hasher c.loop-choice.scheduler.logged.executor.hasher) writes)))
           (are_few c.args.setup))
           (first_runs g.K.PartialEq.eq hash (bounded c.args.setup) c.loop-choice.scheduler c.loop-choice.invariant);
+      lawful = lawful;
+      acts =
+          subst (λ (l : List (Entry g.row.K.Denot g.row.V.Denot)). ActsSoFar g.K.PartialEq.eq hashes (terms_given (bounded c.args.setup)) l c.loop-choice.scheduler.logged c.loop-choice.scheduler.calls)
+          (sym (none_so c.nothing-written.result c.nothing-written.ensures.outcomes c.nothing-written.ensures.steps c.nothing-written.ensures.effects)) (c.loop-choice.invariant.acts g.K.PartialEq.eq hashes lawful);
       back = back_first c.nothing-written.result c.new-back.result.items c.nothing-written.ensures.outcomes c.nothing-written.ensures.steps c.nothing-written.ensures.effects c.new-back.ensures.items;
     }

@@ -1,5 +1,7 @@
 -- What a run tells at its end.
 use Rattle.std.proofs.Common.{refl, ◌∙◌}
+use Rattle.papaya_pieced.proofs.Last.{any_course, by_acts}
+use Rattle.papaya_running.specs.Run.{log_so}
 use Rattle.papaya_running.proofs.Ended.{kept_so, tells_back, tells_most}
 use Rattle.papaya_running.proofs.Turns.{hands_so, run_so, whole_so}
 use Rattle.papaya_running.proofs.running.Running.end.Goals as goal
@@ -37,3 +39,8 @@ returns-clause-hands g c = λ same hashes terms events come.
 
 pub returns-clause-live : goal.returns-clause-live
 returns-clause-live g c = λ same hashes terms events come. record { last = c.args.self; come = come; same_log = refl; live = c.live-live.ensures }
+
+pub returns-clause-acts : goal.returns-clause-acts
+returns-clause-acts g c = λ same hashes terms events come.
+    let r = c.args.self in
+    by_acts same hashes (any_course g.row.V.Denot same hashes come.lawful) terms (log_so events r.written) r.scheduler.logged r.scheduler.calls come.acts

@@ -4,14 +4,15 @@ use Rattle.std.proofs.Common.{◌≡◌, ℕ, List, [], ◌∷◌, ◌++◌, sym
 use Rattle.papaya_runs.specs.declared.outcome.Single.TheVariants as single
 use Rattle.papaya_schedules.specs.declared.effect.Effect.{Effect}
 use Rattle.papaya_schedules.specs.After.{moment}
-use Rattle.papaya_schedules.specs.Entry.{is_busy}
+use Rattle.papaya_schedules.specs.Entry.{Entry, is_busy}
+use Rattle.papaya_pieced.specs.SoFar.{ActsSoFar}
 use Rattle.papaya_running.specs.Acting.{acting_of, map_acted, singles_as}
 use Rattle.papaya_running.specs.Run.{SoFar, log_so}
 use Rattle.papaya_tally.specs.Tally.{TellsAll}
 use Rattle.papaya_running.proofs.Joined.{legal_on}
 use Rattle.papaya_running.proofs.Logs.{events_are}
 use Rattle.papaya_tally.proofs.Tallies.{ok_four}
-use Rattle.papaya_running.proofs.Turns.{back_so, long, next_so}
+use Rattle.papaya_running.proofs.Turns.{back_so, long, more, next_so}
 use Rattle.papaya_running.proofs.running.Running.take_turn.Goals as goal
 
 pub happen-requires : goal.happen-requires
@@ -51,4 +52,9 @@ returns g c =
       back =
           back_so eq hash terms events rec tally p so c.args.event played tally2 told c.add.new.self outcomes steps effects traced_so come.back
           (c.in_ok-played.ensures.back terms log so.holds);
+      lawful = come.lawful;
+      acts =
+          subst (λ (l : List (Entry g.row.K.Denot g.row.V.Denot)). ActsSoFar eq g.S.Hashes.hash terms l c.happen.new.scheduler.logged c.happen.new.scheduler.calls)
+          (sym (more eq hash terms events rec tally p so c.args.event played tally2 told c.add.new.self outcomes steps effects traced_so))
+          (c.in_ok-played.ensures.acts come.lawful so.holds.counts.processors terms log so.holds.stands so.holds.counts.next (c.in_ok-played.ensures.holds terms log first so.holds).counts.next come.acts);
     })

@@ -41,6 +41,7 @@ returns g c = record {
       has_begun g.K.PartialEq.eq (g.S.Hashes.hash c.args.self.now.logged.executor.hasher) terms m c.args.self.now stands c.args.name c.args.guard c.args.map.now c.args.call free c.in-Some.slot
       (sym c.slot_of_living.ensures ∙ c.in-Some.is) c.in-Some-setting_of.map c.in-Some-setting_of.setting (sym c.setting_of.ensures ∙ c.in-Some-setting_of.is) c.in_ok-number.number
       c.in_ok-number.ensures.number c.machine_for-machine.result c.machine_for-machine.ensures c.of-kind.result c.of-kind.ensures c.begin.new.self
-      (λ names v t shown. c.in_ok-number.ensures.leads g.K.PartialEq.eq (g.S.Hashes.hash c.args.self.now.logged.executor.hasher) names v t shown) c.add.new.self c.in_ok-add.ensures c.begin.ensures.notes;
+      (λ names v t shown. c.in_ok-number.ensures.leads g.K.PartialEq.eq (g.S.Hashes.hash c.args.self.now.logged.executor.hasher) names v t shown)
+      (λ t at. c.in_ok-number.ensures.begun g.K.PartialEq.eq (g.S.Hashes.hash c.args.self.now.logged.executor.hasher) t at) c.add.new.self c.in_ok-add.ensures c.begin.ensures.notes;
   given = c.begin.ensures.given;
 }

@@ -17,7 +17,7 @@ returns-clause-ran g c =
     let e = c.in_ok-told.ensures in
     has_run c.args.slot c.args.called c.in_ok-caller.caller c.args.self.now.logged c.begin_on_slot.new.self c.run_on_slot.new.self
     (in_its_slot _ c.args.slot c.in_ok-caller.caller c.requires.fits c.in_ok-caller.ensures.number) c.requires.begins
-    c.in_ok-caller.ensures.leads r.0 r.1 r.2 r.3 r.4 r.5 c.in_ok-told.told _ _ c.in_ok-caller.ensures.notes c.begin_on_slot.ensures.given e.goes e.comes e.last e.used e.ran e.tells
+    c.in_ok-caller.ensures.leads r.0 r.1 r.2 r.3 r.4 r.5 c.in_ok-told.told _ _ c.in_ok-caller.ensures.begun c.in_ok-caller.ensures.notes c.begin_on_slot.ensures.given e.goes e.comes e.last e.used e.ran e.tells
 
 pub returns-in_err-told-clause-given : goal.returns-in_err-told-clause-given
 returns-in_err-told-clause-given g c = given_on c.args.self.now.logged.executor c.begin_on_slot.new.self.executor c.run_on_slot.new.self.executor c.begin_on_slot.ensures.given c.run_on_slot.ensures.given

@@ -2,11 +2,9 @@ use Rattle.seize_words.specs.Op.{Rewrite}
 use Rattle.seize_blocks.proofs.By.{on_rewrite}
 use Rattle.seize_blocks.proofs.blocks.Blocks.rewrite.Goals as goal
 
-pub spot_of-spot-requires-clause-shown : goal.spot_of-spot-requires-clause-shown
-spot_of-spot-requires-clause-shown g c = λ t so is _. (c.requires.alone t so is).0
-
 pub rewrite-requires : goal.rewrite-requires
-rewrite-requires g c = let s = c.spot_of-spot in
-    on_rewrite g.R.Rule.holds g.R.Rule.keeps c.args.seat.now.base c.args.seat.now.id c.args.block s.result.index c.args.seat.now.view c.args.value
-    s.result.values _ _ _ _ c.args.self.now.words.id _ _ (g.R.Rule.then c.args.seat.now.view (Rewrite c.args.block c.args.value)) c.by.ensures c.requires.own
-    s.ensures.index.0 s.ensures.strip.2 c.requires.alone c.requires.may
+rewrite-requires g c = let s = c.args.seat.now in let t = c.visit.new.seat in let v = c.visit.ensures in let p = c.spot_of-spot in let b = c.beside-beside.result in
+    on_rewrite g.R.Rule.holds g.R.Rule.keeps s.base t.base s.id t.id c.args.block p.result.index s.view t.view t.visit
+    record { value = c.args.value; at = b.at; count = b.count; beside = b.beside }
+    p.result.values _ _ _ _ c.args.self.now.words.id _ _ (λ v. g.R.Rule.then v (Rewrite c.args.block c.args.value)) c.by.ensures (v.0, v.1, v.2) c.beside-beside.ensures
+    c.requires.own p.ensures.index.0 p.ensures.strip.2 c.requires.alone c.requires.may

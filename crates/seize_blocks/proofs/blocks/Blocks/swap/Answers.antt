@@ -3,9 +3,9 @@ use Rattle.seize_blocks.proofs.By.{on_word}
 use Rattle.seize_blocks.proofs.blocks.Blocks.swap.Goals as goal
 
 pub swap-requires : goal.swap-requires
-swap-requires g c =
-    on_word g.R.Rule.holds g.R.Rule.keeps c.args.seat.now.base c.args.seat.now.id c.place_of-reached.result.address c.place_of-reached.result.place c.args.seat.now.view c.args.at (Swap c.args.at c.args.word)
-    (g.R.Rule.then c.args.seat.now.view (Swap c.args.at c.args.word)) _ _ _ _ c.args.self.now.words.id _ _ c.by.ensures c.requires.own c.place_of-reached.ensures.2 c.requires.may
+swap-requires g c = let s = c.args.seat.now in let r = c.place_of-reached in let t = r.new.seat in
+    on_word g.R.Rule.holds g.R.Rule.keeps s.base t.base s.id t.id r.result.address r.result.place s.view t.view t.visit c.args.at (Swap c.args.at c.args.word)
+    (λ v. g.R.Rule.then v (Swap c.args.at c.args.word)) _ _ _ _ c.args.self.now.words.id _ _ c.by.ensures r.ensures.same c.requires.own r.ensures.lies.2 c.requires.may
 
 pub place_of-reached-requires-clause-there : goal.place_of-reached-requires-clause-there
 place_of-reached-requires-clause-there g c = λ t so is. (c.requires.may t so is).0

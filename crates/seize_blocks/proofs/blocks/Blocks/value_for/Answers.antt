@@ -1,7 +1,13 @@
-use Rattle.std.proofs.Common.{◌≡◌, ap, ◌∙◌, Some}
+use Rattle.std.proofs.Common.{◌≡◌, subst}
+use Rattle.seize_plots.specs.declared.kept.Kept.{Kept}
+use Rattle.seize_plots.specs.Pieces.{value_of, lies}
+use Rattle.seize_seats.specs.Lendings.{IsValueOfBoth}
+use Rattle.seize_seats.proofs.Visits.{value_of_both}
 use Rattle.seize_blocks.proofs.blocks.Blocks.value_for.Goals as goal
 
 pub returns : goal.returns
 returns g c =
-    let e = c.value.ensures in let found = e.1 in let seen = c.in-Some.is in let same : e.0 ≡ c.in-Some.value = cc (found, seen) in let k = e.2 in
-    (k.0, k.1, k.2, k.3, k.4 ∙ ap Some same)
+    let e = c.value.ensures in let found = e.1 in let seen = c.in-Some.is in let same : e.0 ≡ c.in-Some.kept = cc (found, seen) in
+    let one = c.args.guard.now in let other = c.args.owner.now in let holds = g.R.Rule.holds c.args.self.now.words.fixed in
+    let k = value_of_both value_of lies holds g.R.Rule.keeps one.id one.view one.visit other.id other.view other.visit c.args.block e.0 e.2 in
+    subst (λ (x : Kept g.row.T.Denot). IsValueOfBoth holds one.id one.view other.id other.view c.args.block x.value) same k

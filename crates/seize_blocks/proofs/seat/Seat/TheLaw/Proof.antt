@@ -10,6 +10,7 @@ use Rattle.std.specs.contracts.marker.PhantomData as marker
 use Rattle.seize_seats.proofs.Shown.{seat_laws, lends_seat}
 use Rattle.seize_blocks.specs.declared.rule.Rule.{Ghosts}
 use Rattle.seize_blocks.specs.contracts.seat.Seat as seat
+use Rattle.seize_blocks.specs.Visiting.{seat_coded}
 use Rattle.seize_blocks.proofs.seat.Seat.TheLaw.Statement.{statement}
 
 pub shares : (T R V F : RattleType) (g : Ghosts R.Denot T.Denot V.Denot F.Denot) (LT : Laws T) (LR : Laws R) (LV : Laws V) (LF : Laws F)
@@ -17,6 +18,6 @@ pub shares : (T R V F : RattleType) (g : Ghosts R.Denot T.Denot V.Denot F.Denot)
 shares T R V F g LT LR LV LF = let All = Tuple (T ∷ R ∷ []) in
     of_Lends (seat.struct T R V F g) (seat.the_codes T.Denot R.Denot V.Denot F.Denot T.coded R.coded V.coded F.coded (marker.the_row All).coded)
     (seat.the_heap T R V F g) (seat.the_lent T R V F g)
-    (λ d p. seat_laws V.coded d.base d.id d.view d.stretch d.mark)
+    (λ d p. seat_laws (seat_coded V.coded) d.base d.id (d.view, d.visit) d.stretch d.mark)
     (copy_shared (marker.the_field All) (field_copy (marker.the_type All) tt), tt)
-    (λ M 𝓤 𝓛 d p. lends_seat V.coded d.base d.id d.view d.stretch d.mark 𝓛 (seat.the_row T R V F g).lives)
+    (λ M 𝓤 𝓛 d p. lends_seat (seat_coded V.coded) d.base d.id (d.view, d.visit) d.stretch d.mark 𝓛 (seat.the_row T R V F g).lives)

@@ -9,9 +9,10 @@ use Rattle.std.specs.contracts.marker.PhantomData as marker
 use Rattle.seize_seats.proofs.Shown.{strip_laws, lends_strip}
 use Rattle.seize_blocks.specs.contracts.strip.Strip as strip
 use Rattle.seize_blocks.proofs.strip.Strip.TheLaw.Statement.{statement}
+use Rattle.seize_plots.specs.contracts.kept.Kept as kept_of
 
 pub shares : (T : RattleType) (LT : Laws T) → statement T LT
 shares T LT = of_Lends (strip.struct T) (strip.the_codes T.Denot T.coded (marker.the_row T).coded) (strip.the_heap T) (strip.the_lent T)
-    (λ d p. strip_laws T d.words d.id)
+    (λ d p. strip_laws (kept_of.the_row T) d.words d.id)
     (copy_shared RawPtr-field RawPtr-copy, (copy_shared (marker.the_field T) (field_copy (marker.the_type T) tt), tt))
-    (λ M 𝓤 𝓛 d p. lends_strip T d.words d.id 𝓛 (strip.the_row T).lives)
+    (λ M 𝓤 𝓛 d p. lends_strip (kept_of.the_row T) d.words d.id 𝓛 (strip.the_row T).lives)

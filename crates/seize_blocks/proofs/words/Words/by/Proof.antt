@@ -38,11 +38,14 @@ use Rattle.seize_blocks.specs.contracts.words.Words.by.{ended, clauses}
 use Rattle.seize_blocks.specs.contracts.words.Words.by.Key.{name as #self}
 use Rattle.seize_blocks.proofs.words.Words.by.Statement.{statement}
 use Rattle.seize_blocks.proofs.words.Words.by.Code as code
-use Rattle.seize_blocks.specs.Bare.{bare}
+use Rattle.seize_plots.specs.contracts.kept.Kept as kept_of
+use Rattle.seize_plots.specs.Pieces.{kept_words, value_of, lies}
+use Rattle.seize_blocks.specs.Visiting.{seat_coded}
+use Rattle.seize_seats.specs.Visits.{HoldsKept, keeps_kept}
 
 pub by_spec : {M : Type 1} → statement M
 by_spec 𝓤 𝓛 𝓜 𝓡 wired X P U F LX LP LU LF g d _ =
-    let H = 𝓛.H in let 𝓣 = tables 𝓤 H 𝓜 𝓡 𝓡.env in let R₀ : RattleType = param 0 X in let R₁ : RattleType = param 1 P in let R₂ : RattleType = param 2 U in
+    let H = 𝓛.H in let 𝓣 = tables 𝓤 H 𝓜 𝓡 𝓡.env in let R₀ : RattleType = param 0 X in let K₀ : RattleType = kept_of.the_row R₀ in let R₁ : RattleType = param 1 P in let R₂ : RattleType = param 2 U in
     let R₃ : RattleType = param 3 F in
     let En = ended X P U F g d in let c = clauses X P U F g d 𝓛 𝓜.mem 𝓡.returns in
     let inst = bounded (a_type ∷ a_type ∷ a_type ∷ a_type ∷ []) (X, (P, (U, (F, tt)))) (dcons d dnil) in let fn = inst_fn inst code.function in
@@ -55,10 +58,10 @@ by_spec 𝓤 𝓛 𝓜 𝓡 wired X P U F LX LP LU LF g d _ =
     (λ κs. (shr_vals, (shr_vals, tt))) (λ κs. (shr_Tells (named 0) κs.0 Row, (shr_Tells (named 0) κs.0 St, tt))) (λ κs qs bounds a gh are.
     let b : ℕ = a.0.ref_ptr.0 in let o : ℕ = a.0.ref_ptr.1 in let b' : ℕ = a.1.0.ref_ptr.0 in let o' : ℕ = a.1.0.ref_ptr.1 in let κ : Lft = κs.0 in
     let t : Row.Denot = a.0.now in let p : Ptr = t.words in let z : BaseId = t.id in let s : St.Denot = a.1.0.now in let q : Ptr = s.words in let y : BaseId = s.id in
-    let cv = R₂.coded in let holds = g.holds t.fixed in
+    let cv = seat_coded R₂.coded in let rule = g.holds t.fixed in let holds = HoldsKept value_of lies rule in let keeps = keeps_kept {T = X.Denot} value_of g.keeps in
     let t' : Row.Denot = record { words = q; marker = t.marker; id = y; fixed = t.fixed } in
     let others : Fml = fsep (flft κs.1.0 qs.1.0) (fsep (flft κs.1.1.0 qs.1.1.0) (fsep (flft κs.1.1.1.0 qs.1.1.1.0) (fsep (flft κs.1.1.1.1.0 qs.1.1.1.1.0) ftrue))) in
-    let Asked : Type 0 = (core_of y ≡ core_of z) × InBlock q in let Inv : Core → Fml = λ k. invariant IsEven (fbor (k.atom ∷ []) (everything R₀ bare cv.code holds k)) in
+    let Asked : Type 0 = (core_of y ≡ core_of z) × InBlock q in let Inv : Core → Fml = λ k. invariant IsEven (fbor (k.atom ∷ []) (everything K₀ kept_words cv.code holds k)) in
     let Lasts : Core → Fml = λ k. fshr_bor κ (λ u. flft (k.atom ∷ []) u) in
     let w : (walk_of 𝓛 En hs c).Ghost = ((κs, qs, bounds, a, (vptr b o ∷ [], (vptr b' o' ∷ [], tt))), gh) in
     let Post : Val → SProp 𝓤 = (walk_of 𝓛 En hs c).post w in
@@ -68,20 +71,20 @@ by_spec 𝓤 𝓛 𝓜 𝓡 wired X P U F LX LP LU LF g d _ =
     -- [self; the strip; the token; the others]
     keep ! (3 ∷ 1 ∷ 5 ∷ 6 ∷ []) $
     enter ! 𝓣.C 𝓣.Λ fn (vptr b o ∷ vptr b' o' ∷ []) Post $ alloc_all ! (λ l. pass_all ! refl ((tt, tt), ((tt, tt), tt)) $ let Ev = env fn.locals l in
-    use1 𝓛 (‵ (hidden_shr D κ (p, (tt, tt)) b o) ⊛ ‵ (fhide (words_share R₀ bare cv.code holds p z κ)))
+    use1 𝓛 (‵ (hidden_shr D κ (p, (tt, tt)) b o) ⊛ ‵ (fhide (words_share K₀ kept_words cv.code holds p z κ)))
     (lent_out 𝓛 (words.struct R₀ R₁ R₂ R₃ g)
     (words.the_codes X.Denot P.Denot U.Denot F.Denot R₀.coded R₁.coded R₂.coded R₃.coded (marker.the_row (Tuple (R₀ ∷ R₁ ∷
     []))).coded) (words.the_heap R₀ R₁ R₂ R₃ g) (words.the_lent R₀ R₁ R₂ R₃ g) κ t b o) $
     split ! $ drop ! $ unhide ! $ fsplit ! $ move ! (1 ∷ []) $ fsplit ! $ drop ! $ fsplit ! $ drop ! $
     -- [the invariant; its lifetime lasts; the strip; the token; the others]
     rewrite ! 0 (λ (k : Core). ‵ (Inv k)) (sym asked.0) refl $ rewrite ! 1 (λ (k : Core). ‵ (Lasts k)) (sym asked.0) refl $ move ! (2 ∷ []) $
-    use1 𝓛 (‵ (hidden_shr Ds κ (q, (tt, tt)) b' o') ⊛ ‵ (fhide (strip_told R₀ q y)))
+    use1 𝓛 (‵ (hidden_shr Ds κ (q, (tt, tt)) b' o') ⊛ ‵ (fhide (strip_told K₀ q y)))
     (lent_out 𝓛 (strip.struct R₀) (strip.the_codes X.Denot R₀.coded (marker.the_row R₀).coded) (strip.the_heap R₀) (strip.the_lent R₀) κ s b' o') $
-    split ! $ move ! (1 ∷ []) $ unhide ! $ rewrite ! 0 (λ (f : Fml). ‵ f) (told_there R₀ q y asked.1) refl $ fsplit ! $
+    split ! $ move ! (1 ∷ []) $ unhide ! $ rewrite ! 0 (λ (f : Fml). ‵ f) (told_there K₀ q y asked.1) refl $ fsplit ! $
     -- [it is placed; it is listed; the address; the invariant; its lifetime lasts; the token; the others]
     move ! (1 ∷ 3 ∷ []) $ fjoin ! $ move ! (1 ∷ 0 ∷ []) $ fjoin ! $ move ! (2 ∷ 0 ∷ []) $ fjoin ! $
     -- [what words share; the address; the token; the others]
-    use1 𝓛 (‵ (fhide (words_share R₀ bare cv.code holds q y κ))) (id⊢ 𝓤 _) $ move ! (1 ∷ 0 ∷ []) $
+    use1 𝓛 (‵ (fhide (words_share K₀ kept_words cv.code holds q y κ))) (id⊢ 𝓤 _) $ move ! (1 ∷ 0 ∷ []) $
     use2 𝓛 (‵ (hidden_shr Row κ t' b' o')) (id⊢ 𝓤 _) $
     first ! $ blocks ! $
     sets ! (addr ! (through ! refl (stop !))) refl (tt, tt) $

@@ -46,11 +46,14 @@ use Rattle.seize_blocks.specs.contracts.words.Words.claim.{ended, clauses}
 use Rattle.seize_blocks.specs.contracts.words.Words.claim.Key.{name as #self}
 use Rattle.seize_blocks.proofs.words.Words.claim.Statement.{statement}
 use Rattle.seize_blocks.proofs.words.Words.claim.Code as code
-use Rattle.seize_blocks.specs.Bare.{bare}
+use Rattle.seize_plots.specs.contracts.kept.Kept as kept_of
+use Rattle.seize_plots.specs.Pieces.{kept_words, value_of, lies}
+use Rattle.seize_blocks.specs.Visiting.{seat_coded}
+use Rattle.seize_seats.specs.Visits.{HoldsKept, keeps_kept}
 
 pub claim_spec : {M : Type 1} → statement M
 claim_spec 𝓤 𝓛 𝓜 𝓡 wired X P U F LX LP LU LF g d _ =
-    let H = 𝓛.H in let 𝓣 = tables 𝓤 H 𝓜 𝓡 𝓡.env in let R₀ : RattleType = param 0 X in let R₁ : RattleType = param 1 P in let R₂ : RattleType = param 2 U in
+    let H = 𝓛.H in let 𝓣 = tables 𝓤 H 𝓜 𝓡 𝓡.env in let R₀ : RattleType = param 0 X in let K₀ : RattleType = kept_of.the_row R₀ in let R₁ : RattleType = param 1 P in let R₂ : RattleType = param 2 U in
     let R₃ : RattleType = param 3 F in
     let En = ended X P U F g d in let c = clauses X P U F g d 𝓛 𝓜.mem 𝓡.returns in
     let inst = bounded (a_type ∷ a_type ∷ a_type ∷ a_type ∷ []) (X, (P, (U, (F, tt)))) (dcons d dnil) in let fn = inst_fn inst code.function in
@@ -68,7 +71,7 @@ claim_spec 𝓤 𝓛 𝓜 𝓡 wired X P U F LX LP LU LF g d _ =
     (λ κs. (shr_vals, (uint_vals w64, (uint_vals w64, tt)))) (λ κs. (shr_Tells (named 0) κs.0 Row, (uint_Tells w64, (uint_Tells w64, tt)))) (λ κs qs bounds a gh are.
     let b : ℕ = a.0.ref_ptr.0 in let o : ℕ = a.0.ref_ptr.1 in let κ : Lft = κs.0 in
     let t : Row.Denot = a.0.now in let p : Ptr = t.words in let z : BaseId = t.id in let j : ℕ = a.1.0 in let i : ℕ = a.1.1.0 in
-    let pb : ℕ = block_of p in let po : ℕ = count_of p in let cv = R₂.coded in let α : Lft = age z in let holds = g.holds t.fixed in
+    let pb : ℕ = block_of p in let po : ℕ = count_of p in let cv = seat_coded R₂.coded in let α : Lft = age z in let rule = g.holds t.fixed in let holds = HoldsKept value_of lies rule in let keeps = keeps_kept {T = X.Denot} value_of g.keeps in
     let others : Fml = fsep (flft κs.1.0 qs.1.0) (fsep (flft κs.1.1.0 qs.1.1.0) (fsep (flft κs.1.1.1.0 qs.1.1.1.0)
     (fsep (flft κs.1.1.1.1.0 qs.1.1.1.1.0) ftrue))) in
     let Asked : Type 0 = IsItsSign z j i in
@@ -79,12 +82,12 @@ claim_spec 𝓤 𝓛 𝓜 𝓡 wired X P U F LX LP LU LF g d _ =
     keep ! (5 ∷ 0 ∷ []) $ heard ! Asked (λ asked. split ! $ split ! $ move ! (2 ∷ []) $ fsplit ! $ fsplit ! $ keep ! (1 ∷ 3 ∷ 4 ∷ []) $
     enter ! 𝓣.C 𝓣.Λ fn (vptr b o ∷ vint w64 j ∷ vint w64 i ∷ []) Post $
     alloc_all ! (λ l. pass_all ! refl ((tt, tt), ((tt, record { fits = are.1.0.1 }), ((tt, record { fits = are.1.1.0.1 }), tt))) $ let Ev = env fn.locals l in
-    use1 𝓛 (‵ (hidden_shr D κ (p, (tt, tt)) b o) ⊛ ‵ (fhide (words_share R₀ bare cv.code holds p z κ)))
+    use1 𝓛 (‵ (hidden_shr D κ (p, (tt, tt)) b o) ⊛ ‵ (fhide (words_share K₀ kept_words cv.code holds p z κ)))
     (lent_out 𝓛 (words.struct R₀ R₁ R₂ R₃ g)
     (words.the_codes X.Denot P.Denot U.Denot F.Denot R₀.coded R₁.coded R₂.coded R₃.coded (marker.the_row (Tuple (R₀ ∷ R₁ ∷
     []))).coded) (words.the_heap R₀ R₁ R₂ R₃ g) (words.the_lent R₀ R₁ R₂ R₃ g) κ t b o) $
     split ! $ move ! (1 ∷ []) $ unhide ! $ fsplit ! $ move ! (1 ∷ []) $
-    use1 𝓛 (given (IsPlaced R₀ p z) (‵ (common R₀ bare cv.code holds p z))) (placed R₀ bare cv holds p z 𝓛) $ learn ! (λ there. fsplit ! $ drop ! $
+    use1 𝓛 (given (IsPlaced K₀ p z) (‵ (common K₀ kept_words cv.code holds p z))) (placed K₀ kept_words cv holds p z 𝓛) $ learn ! (λ there. fsplit ! $ drop ! $
     let low = asked.1 in let at_p : p ≡ block_ptr pb po = at_block p there.0 in let small : i * 8 < 2 ^ 64 = omega (arith, low) in
     -- [the invariant; its lifetime lasts; the fields; the token; the others]
     move ! (2 ∷ 3 ∷ []) $ looks ! tt D (opened R₀ R₁ R₂ R₃ g 𝓛) (p, (tt, tt)) b o (λ q vs. move ! (1 ∷ []) $
@@ -102,7 +105,7 @@ claim_spec 𝓤 𝓛 𝓜 𝓡 wired X P U F LX LP LU LF g d _ =
     -- [open; the token; the fields; the invariant; the others]
     nothing ! $ move ! (4 ∷ 2 ∷ 0 ∷ []) $
     use3 𝓛 (raw (𝓣.C _ (vptr pb e ∷ vint w64 1 ∷ seq_cst ∷ []) (λ u. mean 𝓛 (found out u))))
-    (via 𝓤 _ (claims 𝓛 R₀ bare cv holds g.keeps p z s j e asked.2 at)
+    (via 𝓤 _ (claims 𝓛 K₀ kept_words cv holds keeps p z s j e asked.2 at)
     (ors 𝓛 𝓜 𝓡 (code.calls-core::raw_atomic::fetch_or 𝓡.env wired) (block_ptr pb e) 1 (lit< tt) out)) $
     sets ! (agg ! (and_then ! (lit ! tt) (no_more !))) refl (tt, (record { fits = lit< tt }, tt)) $
     Calls-last ! (fm 𝓛 𝓜 𝓡) (found out) (and_then ! (get ! refl) (and_then ! (lit ! tt) (and_then ! (get ! refl) (no_more !)))) (λ u. finds ! out (λ n fits.

@@ -1,4 +1,5 @@
 -- `meet` opens the invariant once for both seats, and takes no step of the machine.
+use Rattle.std.specs.Prelude.{None}
 use Rattle.std.proofs.Common.{◌≡◌, ℕ, List, [], ◌∷◌, sym, refl}
 use mir.Syntax.{dcons, dnil, a_type, named}
 use mir.MapTy.{inst_fn}
@@ -38,11 +39,15 @@ use Rattle.seize_blocks.proofs.words.Words.meet.Statement.{statement}
 use Rattle.seize_blocks.proofs.words.Words.meet.Code as code
 use Rattle.seize_seats.specs.Stretches.{seat_owns}
 use Rattle.seize_seats.proofs.Stretches.{ends, begins}
-use Rattle.seize_blocks.specs.Bare.{bare}
+use Rattle.seize_plots.specs.contracts.kept.Kept as kept_of
+use Rattle.seize_plots.specs.Pieces.{kept_words, value_of, lies}
+use Rattle.seize_blocks.specs.Visiting.{seat_coded}
+use Rattle.seize_seats.specs.Visits.{Visit, HoldsKept, keeps_kept}
+use Rattle.seize_seats.proofs.Visits.{meets_kept}
 
 pub meet_spec : {M : Type 1} → statement M
 meet_spec 𝓤 𝓛 𝓜 𝓡 wired X P U F N LX LP LU LF LN g d g' d' _ _ =
-    let H = 𝓛.H in let 𝓣 = tables 𝓤 H 𝓜 𝓡 𝓡.env in let R₀ : RattleType = param 0 X in let R₁ : RattleType = param 1 P in let R₂ : RattleType = param 2 U in
+    let H = 𝓛.H in let 𝓣 = tables 𝓤 H 𝓜 𝓡 𝓡.env in let R₀ : RattleType = param 0 X in let K₀ : RattleType = kept_of.the_row R₀ in let R₁ : RattleType = param 1 P in let R₂ : RattleType = param 2 U in
     let R₃ : RattleType = param 3 F in
     let En = ended X P U F N g d g' d' in let c = clauses X P U F N g d g' d' 𝓛 𝓜.mem 𝓡.returns in
     let inst = bounded (a_type ∷ a_type ∷ a_type ∷ a_type ∷ a_type ∷ []) (X, (P, (U, (F, (N, tt))))) (dcons d (dcons d' dnil)) in
@@ -57,43 +62,44 @@ meet_spec 𝓤 𝓛 𝓜 𝓡 wired X P U F N LX LP LU LF LN g d g' d' _ _ =
     let b : ℕ = a.0.ref_ptr.0 in let o : ℕ = a.0.ref_ptr.1 in let b' : ℕ = a.1.0.ref_ptr.0 in let o' : ℕ = a.1.0.ref_ptr.1 in
     let b₂ : ℕ = a.1.1.0.ref_ptr.0 in let o₂ : ℕ = a.1.1.0.ref_ptr.1 in let κ : Lft = κs.0 in
     let t : Row.Denot = a.0.now in let p : Ptr = t.words in let z : BaseId = t.id in let h : Sr.Denot = a.1.0.now in let k : Sr.Denot = a.1.1.0.now in
-    let i : ℕ = h.id in let v : U.Denot = h.view in let j : ℕ = k.id in let u : U.Denot = k.view in
-    let cv = R₂.coded in let holds = g.holds t.fixed in let so : U.Denot → U.Denot → Type 0 = g'.to t.fixed v u in
+    let i : ℕ = h.id in let v : U.Denot × Visit = (h.view, h.visit) in let j : ℕ = k.id in let u : U.Denot × Visit = (k.view, k.visit) in
+    let cv = seat_coded R₂.coded in let rule = g.holds t.fixed in let holds = HoldsKept value_of lies rule in let keeps = keeps_kept {T = X.Denot} value_of g.keeps in let to : U.Denot → U.Denot → Type 0 = g'.to t.fixed h.view k.view in
+    let so : U.Denot × Visit → U.Denot × Visit → Type 0 = λ c d. to c.0 d.0 × (c.1 ≡ None) × (d.1 ≡ None) in
     let others : Fml = fsep (flft κs.1.1.1.0 qs.1.1.1.0) (fsep (flft κs.1.1.1.1.0 qs.1.1.1.1.0) (fsep (flft κs.1.1.1.1.1.0 qs.1.1.1.1.1.0)
     (fsep (flft κs.1.1.1.1.1.1.0 qs.1.1.1.1.1.1.0) (fsep (flft κs.1.1.1.1.1.1.1.0 qs.1.1.1.1.1.1.1.0) ftrue)))) in
-    let Asked : Type 0 = (h.base ≡ z.views_name) × (k.base ≡ z.views_name) × Meets holds i v j u so in
+    let Asked : Type 0 = (h.base ≡ z.views_name) × (k.base ≡ z.views_name) × Meets rule i h.view j k.view to in
     let y : (walk_of 𝓛 En hs c).Ghost = ((κs, qs, bounds, a, (vptr b o ∷ [], (vptr b' o' ∷ [], (vptr b₂ o₂ ∷ [], tt)))), gh) in
     let Post : Val → SProp 𝓤 = (walk_of 𝓛 En hs c).post y in
     qed 𝓛 (((‵ (flft κs.0 qs.0) ⊛ ‵ (flft κs.1.0 qs.1.0) ⊛ ‵ (flft κs.1.1.0 qs.1.1.0) ⊛ ‵ others) ⊛ ‵ (owns (types_at En.signature.params κs) a y.0.4)) ∷
     raw (fact 𝓤 _) ∷ raw (fact 𝓤 _) ∷ raw (fact 𝓤 _) ∷ raw (fact 𝓤 _) ∷ raw (fact 𝓤 _) ∷ raw (fact 𝓤 Asked) ∷ []) ∵
-    keep ! (6 ∷ 0 ∷ []) $ heard ! Asked (λ asked. split ! $ split3 ! $ move ! (2 ∷ []) $ split ! $ move ! (4 ∷ []) $ fsplit3 ! $ move ! (2 ∷ []) $ fsplit ! $
+    keep ! (6 ∷ 0 ∷ []) $ heard ! Asked (λ asked. let law = meets_kept {D = K₀.Denot} {T = X.Denot} value_of lies rule g.keeps i h.view h.visit j k.view k.visit to asked.2 in split ! $ split3 ! $ move ! (2 ∷ []) $ split ! $ move ! (4 ∷ []) $ fsplit3 ! $ move ! (2 ∷ []) $ fsplit ! $
     fsplit3 ! $ move ! (5 ∷ []) $ fsplit3 ! $ move ! (7 ∷ []) $ fsplit ! $
     -- [self; its token; the one seat, by two; its token; the other, by two; its token; the others]
     keep ! (1 ∷ 11 ∷ 3 ∷ 4 ∷ 12 ∷ 6 ∷ 7 ∷ 9 ∷ 10 ∷ []) $
     enter ! 𝓣.C 𝓣.Λ fn (vptr b o ∷ vptr b' o' ∷ vptr b₂ o₂ ∷ []) Post $ alloc_all ! (λ l. pass_all ! refl ((tt, tt), ((tt, tt), ((tt, tt), tt))) $
     let Ev = env fn.locals l in
-    use1 𝓛 (‵ (hidden_shr D κ (p, (tt, tt)) b o) ⊛ ‵ (fhide (words_share R₀ bare cv.code holds p z κ)))
+    use1 𝓛 (‵ (hidden_shr D κ (p, (tt, tt)) b o) ⊛ ‵ (fhide (words_share K₀ kept_words cv.code holds p z κ)))
     (lent_out 𝓛 (words.struct R₀ R₁ R₂ R₃ g)
     (words.the_codes X.Denot P.Denot U.Denot F.Denot R₀.coded R₁.coded R₂.coded R₃.coded (marker.the_row (Tuple (R₀ ∷ R₁ ∷
     []))).coded) (words.the_heap R₀ R₁ R₂ R₃ g) (words.the_lent R₀ R₁ R₂ R₃ g) κ t b o) $
     split ! $ drop ! $ unhide ! $ move ! (2 ∷ 3 ∷ 4 ∷ []) $ opens ! tt Sr b' o' (λ ts. move ! (1 ∷ []) $ fsplit ! $
     rewrite ! 1 (λ (w : ℕ). ‵ (seat_owns cv.code w i v h.stretch h.mark)) asked.0 refl $ move ! (1 ∷ []) $
-    use1 𝓛 (later (‵ (seat_of 𝓛 R₀ bare cv holds g.keeps p z i v))) (ends 𝓛 cv z.views_name i v h.stretch h.mark) $ await ! tt $
+    use1 𝓛 (later (‵ (seat_of 𝓛 K₀ kept_words cv holds keeps p z i v))) (ends 𝓛 cv z.views_name i v h.stretch h.mark) $ await ! tt $
     -- [the one; its fields; four of it; what the words share; the token; the other, by two; its token; the others]
     move ! (8 ∷ 9 ∷ 10 ∷ []) $ opens ! tt Sr b₂ o₂ (λ us. move ! (1 ∷ []) $ fsplit ! $
     rewrite ! 1 (λ (w : ℕ). ‵ (seat_owns cv.code w j u k.stretch k.mark)) asked.1 refl $ move ! (1 ∷ []) $
-    use1 𝓛 (later (‵ (seat_of 𝓛 R₀ bare cv holds g.keeps p z j u))) (ends 𝓛 cv z.views_name j u k.stretch k.mark) $ await ! tt $
+    use1 𝓛 (later (‵ (seat_of 𝓛 K₀ kept_words cv holds keeps p z j u))) (ends 𝓛 cv z.views_name j u k.stretch k.mark) $ await ! tt $
     -- [the other; its fields; four of it; the one; its fields; four of it; what the words share; the token; the others]
     move ! (6 ∷ 0 ∷ []) $ join ! $ move ! (11 ∷ 12 ∷ 0 ∷ []) $
-    use3 𝓛 (later (‵ (met 𝓛 R₀ bare cv holds g.keeps p z i v j u so asked.2) ⊛ ‵ (flft κ qs.0))) (meets 𝓛 R₀ bare cv holds g.keeps p z i v j u so asked.2 κ qs.0) $
+    use3 𝓛 (later (‵ (met 𝓛 K₀ kept_words cv holds keeps p z i v j u so law) ⊛ ‵ (flft κ qs.0))) (meets 𝓛 K₀ kept_words cv holds keeps p z i v j u so law κ qs.0) $
     await ! tt $ split ! $ fpick ! (λ w. fsplit ! $ fpick ! (λ such. drop ! $ fsplit ! $
     use1 𝓛 (later (items (λ (st : ℕ × ℕ). ‵ (seat_owns cv.code z.views_name i w.0 st.0 st.1)))) (begins 𝓛 cv z.views_name i w.0) $ await ! tt $
     pick ! (λ st. move ! (1 ∷ []) $
     use1 𝓛 (later (items (λ (st : ℕ × ℕ). ‵ (seat_owns cv.code z.views_name j w.1 st.0 st.1)))) (begins 𝓛 cv z.views_name j w.1) $ await ! tt $
     pick ! (λ su.
-    let h' : Sr.Denot = record { marker = h.marker; base = z.views_name; id = i; view = w.0; stretch = st.0; mark = st.1 } in
-    let k' : Sr.Denot = record { marker = k.marker; base = z.views_name; id = j; view = w.1; stretch = su.0; mark = su.1 } in
-    let Told : Type 0 = (z.views_name ≡ h.base) × (i ≡ i) × (z.views_name ≡ k.base) × (j ≡ j) × so w.0 w.1 in
+    let h' : Sr.Denot = record { marker = h.marker; base = z.views_name; id = i; view = w.0.0; visit = w.0.1; stretch = st.0; mark = st.1 } in
+    let k' : Sr.Denot = record { marker = k.marker; base = z.views_name; id = j; view = w.1.0; visit = w.1.1; stretch = su.0; mark = su.1 } in
+    let Told : Type 0 = (z.views_name ≡ h.base) × (i ≡ i) × (z.views_name ≡ k.base) × (j ≡ j) × to w.0.0 w.1.0 in
     -- [the other; the one; the token; the other's fields; four; the one's fields; four; the others]
     move ! (3 ∷ 0 ∷ []) $ fjoin ! $ move ! (3 ∷ 0 ∷ 4 ∷ 5 ∷ 6 ∷ []) $ closes ! tt Sr k' us b₂ o₂ $
     feq_i ! (List Val) (vptr b₂ o₂ ∷ []) (vptr b₂ o₂ ∷ []) refl $ fjoin3 ! $
@@ -104,6 +110,6 @@ meet_spec 𝓤 𝓛 𝓜 𝓡 wired X P U F N LX LP LU LF LN g d g' d' _ _ =
     nothing ! $ move ! (3 ∷ 0 ∷ []) $ fjoin ! $ move ! (1 ∷ 0 ∷ []) $ fjoin ! $ nothing ! $ fjoin ! $
     move ! (2 ∷ 4 ∷ []) $ join ! $ move ! (2 ∷ 0 ∷ []) $ join ! $ move ! (2 ∷ 0 ∷ []) $ join ! $
     sets ! (of_opd ! (unit_lit !)) refl (tt, tt) $ feq_i ! (List Val) (vunit ∷ []) (vunit ∷ []) refl $
-    use0 𝓛 (raw (fact 𝓤 Told)) (fact_i 𝓤 Told (emp 𝓤) (sym asked.0, refl, sym asked.1, refl, such)) $
+    use0 𝓛 (raw (fact 𝓤 Told)) (fact_i 𝓤 Told (emp 𝓤) (sym asked.0, refl, sym asked.1, refl, such.0)) $
     returns ! (look_at ! 0 refl) $ free_all ! refl $ keep ! (2 ∷ 3 ∷ 1 ∷ 0 ∷ []) $
     by ! (leaves 𝓛 En hs c y vunit tt (tt, (h', (k', tt))) (tt, (tt, (tt, tt)))))))))))))

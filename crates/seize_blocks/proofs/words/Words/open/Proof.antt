@@ -33,9 +33,9 @@ use Rattle.seize_seats.specs.Owned.{BaseId, IsFirst, words_own, stride, places}
 use Rattle.seize_seats.specs.Owned as Owned
 use Rattle.seize_seats.specs.Doors.{pointers}
 use Rattle.seize_blocks.specs.contracts.words.Words as words
-use Rattle.seize_blocks.specs.contracts.row.Row as row
-use Rattle.seize_blocks.specs.contracts.place.Place as place
-use Rattle.seize_blocks.specs.contracts.place.Doors as doors
+use Rattle.seize_plots.specs.contracts.row.Row as row
+use Rattle.seize_plots.specs.contracts.place.Place as place
+use Rattle.seize_plots.specs.contracts.place.Doors as doors
 use Rattle.seize_blocks.proofs.Fields.{hand_of, hand_good, hand_made, one_of, one_good, places_told, place_made, doors_made, opened_good, Data}
 use Rattle.core.specs.Mem.Slots.Ownership.{owned, Filled}
 use Rattle.seize_seats.proofs.Slotted.{full_is, Fits, whole_out, Roomy, values_out, nones_are, doorway_out, nulls_are}
@@ -45,15 +45,19 @@ use Rattle.seize_blocks.specs.contracts.words.Words.open.{ended, clauses}
 use Rattle.seize_blocks.specs.contracts.words.Words.open.Key.{name as #self}
 use Rattle.seize_blocks.proofs.words.Words.open.Statement.{statement}
 use Rattle.seize_blocks.proofs.words.Words.open.Code as code
-use Rattle.seize_blocks.specs.Bare.{bare}
+use Rattle.seize_plots.specs.contracts.kept.Kept as kept_of
+use Rattle.seize_plots.specs.Pieces.{kept_words, value_of, lies}
+use Rattle.seize_blocks.specs.Visiting.{seat_coded}
+use Rattle.seize_seats.specs.Visits.{HoldsKept}
+use Rattle.seize_seats.proofs.Visits.{starts_kept}
 
 pub open_spec : {M : Type 1} → statement M
 open_spec 𝓤 𝓛 𝓜 𝓡 wired X P U F LX LP LU LF g d _ =
-    let H = 𝓛.H in let 𝓣 = tables 𝓤 H 𝓜 𝓡 𝓡.env in let R₀ : RattleType = param 0 X in let R₁ : RattleType = param 1 P in let R₂ : RattleType = param 2 U in
+    let H = 𝓛.H in let 𝓣 = tables 𝓤 H 𝓜 𝓡 𝓡.env in let R₀ : RattleType = param 0 X in let K₀ : RattleType = kept_of.the_row R₀ in let R₁ : RattleType = param 1 P in let R₂ : RattleType = param 2 U in
     let R₃ : RattleType = param 3 F in
     let En = ended X P U F g d in let c = clauses X P U F g d 𝓛 𝓜.mem 𝓡.returns in
     let inst = bounded (a_type ∷ a_type ∷ a_type ∷ a_type ∷ []) (X, (P, (U, (F, tt)))) (dcons d dnil) in let fn = inst_fn inst code.function in
-    let Row : RattleType = words.the_row R₀ R₁ R₂ R₃ g in let Rw : RattleType = row.the_row u64 in let Ro : RattleType = row.the_row (OptionOf R₀) in
+    let Row : RattleType = words.the_row R₀ R₁ R₂ R₃ g in let Rw : RattleType = row.the_row u64 in let Ro : RattleType = row.the_row (OptionOf K₀) in
     let Rd : RattleType = row.the_row RawPtr in let Pl : RattleType = place.the_row R₀ in let Dd : RattleType = doors.the_row in
     let about = RefOf (0 ∷ []) tt (plain (λ _. R₃)) (λ _. tt) in let num = plain (λ _. u64) in
     let hs : Stays En.signature.params En.kept = (
@@ -80,19 +84,19 @@ open_spec 𝓤 𝓛 𝓜 𝓡 wired X P U F LX LP LU LF g d _ =
     (λ κs. ((λ x. one_of x.at ∷ []), ((λ x. one_of x.at ∷ []), ((λ x. one_of x.at ∷ []), (uint_vals w64, (uint_vals w64, (uint_vals w64, (shr_vals, tt)))))))) (λ κs. (
       (λ x vs so. places_told u64 x.at vs so.0),
       (
-        (λ x vs so. places_told (OptionOf R₀) x.at vs so.0),
+        (λ x vs so. places_told (OptionOf K₀) x.at vs so.0),
         ((λ x vs so. places_told RawPtr x.at vs so.0), (uint_Tells w64, (uint_Tells w64, (uint_Tells w64, (shr_Tells (named 0) κs.0 R₃, tt))))),
       ),
     )) (λ κs qs bounds a gh are.
-    let p : Ptr = a.0.at in let ws : List ℕ = a.0.items in let pv : Ptr = a.1.0.at in let xs : List (Option X.Denot) = a.1.0.items in
+    let p : Ptr = a.0.at in let ws : List ℕ = a.0.items in let pv : Ptr = a.1.0.at in let xs : List (Option K₀.Denot) = a.1.0.items in
     let dp : Ptr = a.1.1.0.at in let ds : List Ptr = a.1.1.0.items in
     let roots : ℕ = a.1.1.1.0 in
     let count : ℕ = a.1.1.1.1.0 in let most : ℕ = a.1.1.1.1.1.0 in let b : ℕ = a.1.1.1.1.1.1.0.ref_ptr.0 in let o : ℕ = a.1.1.1.1.1.1.0.ref_ptr.1 in
     let about_is : F.Denot = a.1.1.1.1.1.1.0.now in
-    let cv = R₂.coded in let holds = g.holds about_is in
+    let cv = seat_coded R₂.coded in let rule = g.holds about_is in let holds = HoldsKept value_of lies rule in
     let others : Fml = fsep (flft κs.1.0 qs.1.0) (fsep (flft κs.1.1.0 qs.1.1.0) (fsep (flft κs.1.1.1.0 qs.1.1.1.0)
     (fsep (flft κs.1.1.1.1.0 qs.1.1.1.1.0) ftrue))) in
-    let Asked : Type 0 = ((k : ℕ) → slice_index ws k ≡ 0) × (length ws ≡ all_words roots count) × Starts holds roots ×
+    let Asked : Type 0 = ((k : ℕ) → slice_index ws k ≡ 0) × (length ws ≡ all_words roots count) × Starts rule roots ×
     ((k : ℕ) → slice_index_or xs k None ≡ None) × (length xs ≡ count) × ((k : ℕ) → slice_index_or ds k null_ptr ≡ null_ptr) × (length ds ≡ 32) × (count ≤ most)
     × Filled a.0.filled 0 (length ws) × Filled a.1.0.filled 0 (length xs) × Filled a.1.1.0.filled 0 (length ds) in
     let y : (walk_of 𝓛 En hs c).Ghost = (
@@ -121,15 +125,15 @@ open_spec 𝓤 𝓛 𝓜 𝓡 wired X P U F LX LP LU LF g d _ =
     rewrite ! 0 (λ (fs : List Bool). ‵ (owned u64 p (length ws) ws fs)) (full_is (length ws) a.0.filled a.0.even asked.8) refl $
     use1 𝓛 (given (Fits 𝓛 p ws) (‵ (Owned.row (block_of p) (count_of p) ws))) (whole_out 𝓛 p ws) $ learn ! (λ fits. keep ! (0 ∷ 2 ∷ 3 ∷ 4 ∷ []) $
     move ! (1 ∷ []) $ fsplit ! $ fsplit ! $ move ! (1 ∷ []) $
-    rewrite ! 0 (λ (fs : List Bool). ‵ (owned (OptionOf R₀) pv (length xs) xs fs)) (full_is (length xs) a.1.0.filled a.1.0.even asked.9) refl $
-    use1 𝓛 (given (Roomy 𝓛 R₀ pv xs) (‵ (places R₀ (block_of pv) (count_of pv) xs))) (values_out 𝓛 R₀ pv xs) $ learn ! (λ roomy. keep ! (2 ∷ 3 ∷ 0 ∷ 4 ∷ 5 ∷ []) $
+    rewrite ! 0 (λ (fs : List Bool). ‵ (owned (OptionOf K₀) pv (length xs) xs fs)) (full_is (length xs) a.1.0.filled a.1.0.even asked.9) refl $
+    use1 𝓛 (given (Roomy 𝓛 K₀ pv xs) (‵ (places K₀ (block_of pv) (count_of pv) xs))) (values_out 𝓛 K₀ pv xs) $ learn ! (λ roomy. keep ! (2 ∷ 3 ∷ 0 ∷ 4 ∷ 5 ∷ []) $
     -- [what comes behind; the words; the places; the token; the others]
     fsplit ! $ fsplit ! $ move ! (1 ∷ []) $
     rewrite ! 0 (λ (fs : List Bool). ‵ (owned RawPtr dp (length ds) ds fs)) (full_is (length ds) a.1.1.0.filled a.1.1.0.even asked.10) refl $
     use1 𝓛 (given (InBlock dp) (‵ (pointers (block_of dp) (count_of dp) ds))) (doorway_out 𝓛 dp ds) $ learn ! (λ shut. keep ! (3 ∷ 4 ∷ 0 ∷ 5 ∷ 6 ∷ []) $
     -- [the words; the places; the doors; the token; the others]
     rewrite ! 2 (λ (qs : List Ptr). ‵ (pointers (block_of dp) (count_of dp) qs)) (nulls_are 32 ds asked.6 asked.5) refl $
-    rewrite ! 1 (λ (ys : List (Option X.Denot)). ‵ (places R₀ (block_of pv) (count_of pv) ys)) (nones_are count xs asked.4 asked.3) refl $
+    rewrite ! 1 (λ (ys : List (Option K₀.Denot)). ‵ (places K₀ (block_of pv) (count_of pv) ys)) (nones_are count xs asked.4 asked.3) refl $
     enter ! 𝓣.C 𝓣.Λ fn (one_of p ∷ one_of pv ∷ one_of dp ∷ vint w64 roots ∷ vint w64 count ∷ vint w64 most ∷ vptr b o ∷ []) Post $
     alloc_all ! (λ l. pass_all ! refl (
       one_good p,
@@ -139,10 +143,10 @@ open_spec 𝓤 𝓛 𝓜 𝓡 wired X P U F LX LP LU LF g d _ =
       ),
     ) $
     let small : all_words roots count * 8 < 2 ^ 63 = subst (λ (n : ℕ). n * 8 < 2 ^ 63) asked.1 fits.1 in
-    let room : count * stride R₀ < 2 ^ 63 = subst (λ (n : ℕ). n * stride R₀ < 2 ^ 63) asked.4 roomy.1 in
+    let room : count * stride K₀ < 2 ^ 63 = subst (λ (n : ℕ). n * stride K₀ < 2 ^ 63) asked.4 roomy.1 in
     use3 𝓛 (later (items (λ (z : BaseId). given ((z.roots ≡ roots) × (z.count ≡ most) × (z.values ≡ pv) × (z.size ≡ count) × (z.least ≡ count) × (z.doors ≡ dp)
-    × IsFirst p z) (‵ (words_own R₀ bare cv.code holds p z)))))
-    (opens 𝓛 R₀ bare cv holds p pv dp roots count most asked.7 (g.newcomer about_is) ws asked.0 asked.1 (fits.0, small, roomy.0, room, shut) asked.2) $
+    × IsFirst p z) (‵ (words_own K₀ kept_words cv.code holds p z)))))
+    (opens 𝓛 K₀ kept_words cv holds p pv dp roots count most asked.7 (g.newcomer about_is, None) ws asked.0 asked.1 (fits.0, small, roomy.0, room, shut) (starts_kept {D = K₀.Denot} {T = X.Denot} value_of lies rule g.keeps roots asked.2)) $
     await ! tt $ pick ! (λ z. learn ! (λ is.
     sets ! (of_opd ! (get_in ! (fld ! refl (stop !)) (sub ! 0 refl (whole !)))) refl (Ptr-Good p) $
     sets ! (of_opd ! (get_in ! (fld ! refl (stop !)) (sub ! 0 refl (whole !)))) refl (Ptr-Good pv) $

@@ -1,4 +1,5 @@
 -- `seat` opens the invariant once, and the list of views grows.
+use Rattle.std.specs.Prelude.{None}
 use Rattle.std.proofs.Common.{◌≡◌, ℕ, [], ◌∷◌, refl}
 use mir.Syntax.{dcons, dnil, a_type, named}
 use mir.MapTy.{inst_fn}
@@ -31,6 +32,11 @@ use Rattle.seize_seats.specs.Owned.{BaseId, words_share}
 use Rattle.seize_seats.proofs.Moves.{comes, newcomer}
 use Rattle.seize_blocks.specs.contracts.words.Words as words
 use Rattle.seize_blocks.specs.contracts.seat.Seat as seat
+use Rattle.seize_plots.specs.contracts.kept.Kept as kept_of
+use Rattle.seize_plots.specs.Pieces.{kept_words, value_of, lies}
+use Rattle.seize_blocks.specs.Visiting.{seat_coded}
+use Rattle.seize_seats.specs.Visits.{Visit, HoldsKept, keeps_kept}
+use Rattle.seize_seats.proofs.Visits.{comes_kept}
 use Rattle.seize_blocks.proofs.Fields.{Data, Token, token, token_made}
 use Rattle.seize_blocks.specs.contracts.words.Words.seat.{ended, clauses}
 use Rattle.seize_blocks.specs.contracts.words.Words.seat.Key.{name as #self}
@@ -38,11 +44,10 @@ use Rattle.seize_blocks.proofs.words.Words.seat.Statement.{statement}
 use Rattle.seize_blocks.proofs.words.Words.seat.Code as code
 use Rattle.seize_seats.specs.Stretches.{seat_owns}
 use Rattle.seize_seats.proofs.Stretches.{begins}
-use Rattle.seize_blocks.specs.Bare.{bare}
 
 pub seat_spec : {M : Type 1} → statement M
 seat_spec 𝓤 𝓛 𝓜 𝓡 wired X P U F LX LP LU LF g d _ =
-    let H = 𝓛.H in let 𝓣 = tables 𝓤 H 𝓜 𝓡 𝓡.env in let R₀ : RattleType = param 0 X in let R₁ : RattleType = param 1 P in let R₂ : RattleType = param 2 U in
+    let H = 𝓛.H in let 𝓣 = tables 𝓤 H 𝓜 𝓡 𝓡.env in let R₀ : RattleType = param 0 X in let K₀ : RattleType = kept_of.the_row R₀ in let R₁ : RattleType = param 1 P in let R₂ : RattleType = param 2 U in
     let R₃ : RattleType = param 3 F in
     let En = ended X P U F g d in let c = clauses X P U F g d 𝓛 𝓜.mem 𝓡.returns in
     let inst = bounded (a_type ∷ a_type ∷ a_type ∷ a_type ∷ []) (X, (P, (U, (F, tt)))) (dcons d dnil) in let fn = inst_fn inst code.function in
@@ -53,28 +58,28 @@ seat_spec 𝓤 𝓛 𝓜 𝓡 wired X P U F LX LP LU LF g d _ =
     (#self inst) fn (code.unfolded 𝓤 H 𝓜 𝓡 wired (X, (P, (U, (F, tt)))) d)
     (λ κs. (shr_vals, tt)) (λ κs. (shr_Tells (named 0) κs.0 Row, tt)) (λ κs qs bounds a gh are.
     let b : ℕ = a.0.ref_ptr.0 in let o : ℕ = a.0.ref_ptr.1 in let κ : Lft = κs.0 in
-    let t : Row.Denot = a.0.now in let p : Ptr = t.words in let z : BaseId = t.id in let cv = R₂.coded in let holds = g.holds t.fixed in
-    let v : U.Denot = g.newcomer t.fixed in
+    let t : Row.Denot = a.0.now in let p : Ptr = t.words in let z : BaseId = t.id in let cv = seat_coded R₂.coded in let rule = g.holds t.fixed in let holds = HoldsKept value_of lies rule in let keeps = keeps_kept {T = X.Denot} value_of g.keeps in
+    let v₀ : U.Denot = g.newcomer t.fixed in let v : U.Denot × Visit = (v₀, None) in
     let others : Fml = fsep (flft κs.1.0 qs.1.0) (fsep (flft κs.1.1.0 qs.1.1.0) (fsep (flft κs.1.1.1.0 qs.1.1.1.0)
     (fsep (flft κs.1.1.1.1.0 qs.1.1.1.1.0) ftrue))) in
-    let Asked : Type 0 = Comes holds g.keeps v in
+    let Asked : Type 0 = Comes rule g.keeps v₀ in
     let y : (walk_of 𝓛 En hs c).Ghost = ((κs, qs, bounds, a, (vptr b o ∷ [], tt)), gh) in let Post : Val → SProp 𝓤 = (walk_of 𝓛 En hs c).post y in
     qed 𝓛 (((‵ (flft κs.0 qs.0) ⊛ ‵ others) ⊛ ‵ (owns (types_at En.signature.params κs) a y.0.4)) ∷ raw (fact 𝓤 _) ∷ raw (fact 𝓤 _) ∷ raw (fact 𝓤 _) ∷
     raw (fact 𝓤 _) ∷ raw (fact 𝓤 Asked) ∷ []) ∵
     keep ! (5 ∷ 0 ∷ []) $ heard ! Asked (λ asked. split ! $ split ! $ move ! (2 ∷ []) $ fsplit ! $ fsplit ! $ keep ! (1 ∷ 3 ∷ 4 ∷ []) $
     enter ! 𝓣.C 𝓣.Λ fn (vptr b o ∷ []) Post $ alloc_all ! (λ l. pass_all ! refl ((tt, tt), tt) $ let Ev = env fn.locals l in
-    use1 𝓛 (‵ (hidden_shr D κ (p, (tt, tt)) b o) ⊛ ‵ (fhide (words_share R₀ bare cv.code holds p z κ)))
+    use1 𝓛 (‵ (hidden_shr D κ (p, (tt, tt)) b o) ⊛ ‵ (fhide (words_share K₀ kept_words cv.code holds p z κ)))
     (lent_out 𝓛 (words.struct R₀ R₁ R₂ R₃ g)
     (words.the_codes X.Denot P.Denot U.Denot F.Denot R₀.coded R₁.coded R₂.coded R₃.coded (marker.the_row (Tuple (R₀ ∷ R₁ ∷
     []))).coded) (words.the_heap R₀ R₁ R₂ R₃ g) (words.the_lent R₀ R₁ R₂ R₃ g) κ t b o) $
     split ! $ drop ! $ unhide ! $
     -- [what the words share; the token; the others]
     nothing ! $ move ! (1 ∷ 2 ∷ 0 ∷ []) $
-    use3 𝓛 (later (‵ (newcomer 𝓛 R₀ bare cv holds g.keeps p z v) ⊛ ‵ (flft κ qs.0))) (comes 𝓛 R₀ bare cv holds g.keeps p z κ qs.0 v asked) $
+    use3 𝓛 (later (‵ (newcomer 𝓛 K₀ kept_words cv holds keeps p z v) ⊛ ‵ (flft κ qs.0))) (comes 𝓛 K₀ kept_words cv holds keeps p z κ qs.0 v (comes_kept value_of lies rule g.keeps v₀ asked)) $
     await ! tt $ split ! $ fpick ! (λ id.
     use1 𝓛 (later (items (λ (st : ℕ × ℕ). ‵ (seat_owns cv.code z.views_name id v st.0 st.1)))) (begins 𝓛 cv z.views_name id v) $ await ! tt $ pick ! (λ st.
     sets ! (agg ! (no_more !)) refl (tt, tt) $ sets ! (agg ! (and_then ! (get ! refl) (no_more !))) refl (tt, (tt, tt)) $
-    let r : Sr.Denot = record { marker = record {}; base = z.views_name; id = id; view = v; stretch = st.0; mark = st.1 } in let Told : Type 0 = (z.views_name ≡ z.views_name) × (v ≡ v) in
+    let r : Sr.Denot = record { marker = record {}; base = z.views_name; id = id; view = v₀; visit = None; stretch = st.0; mark = st.1 } in let Told : Type 0 = (z.views_name ≡ z.views_name) × (v₀ ≡ v₀) in
     use0 𝓛 (‵ ((Token R₀ R₁ R₂ R₃ g).own_val (tt, tt) (token ∷ []))) (token_made R₀ R₁ R₂ R₃ g 𝓛) $ fjoin ! $
     nothing ! $ nothing ! $ fjoin ! $ move ! (2 ∷ 3 ∷ []) $ join ! $ use0 𝓛 (raw (fact 𝓤 Told)) (fact_i 𝓤 Told (emp 𝓤) (refl, refl)) $
     returns ! (look_at ! 0 refl) $ free_all ! refl $ keep ! (1 ∷ 2 ∷ 3 ∷ 0 ∷ []) $ by ! (leaves 𝓛 En hs c y token r (tt, tt) (tt, tt)))))))

@@ -44,6 +44,11 @@ use Rattle.seize_seats.proofs.OwnWords.{reached}
 use Rattle.seize_blocks.specs.Placed.{IsItsPlace}
 use Rattle.seize_blocks.specs.contracts.words.Words as words
 use Rattle.seize_blocks.specs.contracts.seat.Seat as seat
+use Rattle.seize_plots.specs.contracts.kept.Kept as kept_of
+use Rattle.seize_plots.specs.Pieces.{kept_words, value_of, lies}
+use Rattle.seize_blocks.specs.Visiting.{seat_coded}
+use Rattle.seize_seats.specs.Visits.{Visit, HoldsKept, keeps_kept, then_kept}
+use Rattle.seize_seats.proofs.Visits.{word_allowed}
 use Rattle.seize_blocks.proofs.Fields.{Data}
 use Rattle.seize_blocks.specs.contracts.words.Words.store.{ended, clauses}
 use Rattle.seize_blocks.specs.contracts.words.Words.store.Key.{name as #self}
@@ -51,11 +56,10 @@ use Rattle.seize_blocks.proofs.words.Words.store.Statement.{statement}
 use Rattle.seize_blocks.proofs.words.Words.store.Code as code
 use Rattle.seize_seats.specs.Stretches.{seat_owns}
 use Rattle.seize_seats.proofs.Stretches.{ends, begins}
-use Rattle.seize_blocks.specs.Bare.{bare}
 
 pub store_spec : {M : Type 1} → statement M
 store_spec 𝓤 𝓛 𝓜 𝓡 wired X P U F LX LP LU LF g d _ =
-    let H = 𝓛.H in let 𝓣 = tables 𝓤 H 𝓜 𝓡 𝓡.env in let R₀ : RattleType = param 0 X in let R₁ : RattleType = param 1 P in let R₂ : RattleType = param 2 U in
+    let H = 𝓛.H in let 𝓣 = tables 𝓤 H 𝓜 𝓡 𝓡.env in let R₀ : RattleType = param 0 X in let K₀ : RattleType = kept_of.the_row R₀ in let R₁ : RattleType = param 1 P in let R₂ : RattleType = param 2 U in
     let R₃ : RattleType = param 3 F in
     let En = ended X P U F g d in let c = clauses X P U F g d 𝓛 𝓜.mem 𝓡.returns in
     let inst = bounded (a_type ∷ a_type ∷ a_type ∷ a_type ∷ []) (X, (P, (U, (F, tt)))) (dcons d dnil) in let fn = inst_fn inst code.function in
@@ -72,11 +76,11 @@ store_spec 𝓤 𝓛 𝓜 𝓡 wired X P U F LX LP LU LF g d _ =
     let b : ℕ = a.0.ref_ptr.0 in let o : ℕ = a.0.ref_ptr.1 in let b' : ℕ = a.1.0.ref_ptr.0 in let o' : ℕ = a.1.0.ref_ptr.1 in let κ : Lft = κs.0 in
     let t : Row.Denot = a.0.now in let p : Ptr = t.words in let z : BaseId = t.id in let h : Sr.Denot = a.1.0.now in let nm : At = a.1.1.0.now in
     let b₂ : ℕ = a.1.1.0.ref_ptr.0 in let o₂ : ℕ = a.1.1.0.ref_ptr.1 in let pv : Ptr = a.1.1.1.0 in let i : ℕ = a.1.1.1.1.0 in let k : ℕ = a.1.1.1.1.1.0 in
-    let pb : ℕ = block_of pv in let po : ℕ = count_of pv in let id : ℕ = h.id in let v : U.Denot = h.view in let cv = R₂.coded in let α : Lft = age z in
-    let holds = g.holds t.fixed in let so : Out X.Denot → U.Denot → Type 0 = g.then v (Store nm k) in let f : ℕ → ℕ = λ _. k in
+    let pb : ℕ = block_of pv in let po : ℕ = count_of pv in let id : ℕ = h.id in let v : U.Denot × Visit = (h.view, h.visit) in let cv = seat_coded R₂.coded in let α : Lft = age z in
+    let rule = g.holds t.fixed in let holds = HoldsKept value_of lies rule in let keeps = keeps_kept {T = X.Denot} value_of g.keeps in let so : Out K₀.Denot → U.Denot × Visit → Type 0 = then_kept value_of (g.then h.view (Store nm k)) in let f : ℕ → ℕ = λ _. k in
     let others : Fml = fsep (flft κs.1.1.0 qs.1.1.0) (fsep (flft κs.1.1.1.0 qs.1.1.1.0) (fsep (flft κs.1.1.1.1.0 qs.1.1.1.1.0)
     (fsep (flft κs.1.1.1.1.1.0 qs.1.1.1.1.1.0) (fsep (flft κs.1.1.1.1.1.1.0 qs.1.1.1.1.1.1.0) ftrue)))) in
-    let Asked : Type 0 = (h.base ≡ z.views_name) × IsItsPlace holds id v p z nm pv i × Allows holds g.keeps id v (Store nm k) so in
+    let Asked : Type 0 = (h.base ≡ z.views_name) × IsItsPlace holds id v p z nm pv i × Allows rule g.keeps id h.view (Store nm k) (g.then h.view (Store nm k)) in
     let p' : Ptr = block_ptr pb po in let us : Ptr → List Val = λ r. vptr b o ∷ vptr b' o' ∷ vptr b₂ o₂ ∷ ptr_val r ∷ vint w64 i ∷ vint w64 k ∷ [] in
     let y : (walk_of 𝓛 En hs c).Ghost =
     ((κs, qs, bounds, a, (vptr b o ∷ [], (vptr b' o' ∷ [], (vptr b₂ o₂ ∷ [], (ptr_val pv ∷ [], (vint w64 i ∷ [], (vint w64 k ∷ [], tt))))))), gh) in
@@ -85,12 +89,12 @@ store_spec 𝓤 𝓛 𝓜 𝓡 wired X P U F LX LP LU LF g d _ =
     raw (fact 𝓤 _) ∷ raw (fact 𝓤 _) ∷ raw (fact 𝓤 _) ∷ raw (fact 𝓤 Asked) ∷ []) ∵
     keep ! (5 ∷ 0 ∷ []) $ heard ! Asked (λ asked. split ! $ split3 ! $ move ! (3 ∷ []) $ fsplit3 ! $ fsplit ! $ move ! (2 ∷ []) $ fsplit3 ! $
     keep ! (4 ∷ 6 ∷ 1 ∷ 2 ∷ 7 ∷ 8 ∷ []) $
-    use1 𝓛 (‵ (hidden_shr D κ (p, (tt, tt)) b o) ⊛ ‵ (fhide (words_share R₀ bare cv.code holds p z κ)))
+    use1 𝓛 (‵ (hidden_shr D κ (p, (tt, tt)) b o) ⊛ ‵ (fhide (words_share K₀ kept_words cv.code holds p z κ)))
     (lent_out 𝓛 (words.struct R₀ R₁ R₂ R₃ g)
     (words.the_codes X.Denot P.Denot U.Denot F.Denot R₀.coded R₁.coded R₂.coded R₃.coded (marker.the_row (Tuple (R₀ ∷ R₁ ∷
     []))).coded) (words.the_heap R₀ R₁ R₂ R₃ g) (words.the_lent R₀ R₁ R₂ R₃ g) κ t b o) $
     split ! $ drop ! $ unhide ! $ fsplit ! $ move ! (1 ∷ []) $
-    use1 𝓛 (given (IsPlaced R₀ p z) (‵ (common R₀ bare cv.code holds p z))) (placed R₀ bare cv holds p z 𝓛) $ learn ! (λ there. fsplit ! $ drop ! $
+    use1 𝓛 (given (IsPlaced K₀ p z) (‵ (common K₀ kept_words cv.code holds p z))) (placed K₀ kept_words cv holds p z 𝓛) $ learn ! (λ there. fsplit ! $ drop ! $
     let low = asked.1.1 in let small : i * 8 < 2 ^ 64 = omega (arith, low) in let at_v : pv ≡ p' = at_block pv asked.1.0 in
     suffices ! (Run (us p')) (subst (λ (r : Ptr). ent 𝓤 (Run (us p')) (Run (us r))) (sym at_v) (id⊢ 𝓤 (Run (us p')))) $
     enter ! 𝓣.C 𝓣.Λ fn (us p') Post $ alloc_all ! (λ l. pass_all ! refl ((tt, tt), ((tt, tt), ((tt, tt), (Ptr-Good p', ((tt, record { fits = are.1.1.1.1.0.1 }), ((tt, record { fits = are.1.1.1.1.1.0.1 }), tt)))))) $
@@ -101,12 +105,12 @@ store_spec 𝓤 𝓛 𝓜 𝓡 wired X P U F LX LP LU LF g d _ =
     sets ! (bin ! (get ! refl) (get ! refl) tt) refl (tt, tt) $ move ! (1 ∷ 2 ∷ []) $
     let e : ℕ = i * 8 + po in
     shr_bor-open ! tt (tokens_halve 𝓛 α) (λ s. let out : ℕ
-    → Fml = λ n. fsep (flft α s) (gone_on 𝓛 R₀ bare cv holds g.keeps p z id (so Stored)) in
+    → Fml = λ n. fsep (flft α s) (gone_on 𝓛 K₀ kept_words cv holds keeps p z id (so Stored)) in
     move ! (3 ∷ 4 ∷ 5 ∷ []) $ opens ! tt Sr b' o' (λ ts. move ! (1 ∷ []) $ fsplit ! $
     rewrite ! 1 (λ (u : ℕ). ‵ (seat_owns cv.code u id v h.stretch h.mark)) asked.0 refl $ move ! (1 ∷ []) $
-    use1 𝓛 (later (‵ (seat_of 𝓛 R₀ bare cv holds g.keeps p z id v))) (ends 𝓛 cv z.views_name id v h.stretch h.mark) $ await ! tt $ move ! (1 ∷ 0 ∷ []) $ move ! (8 ∷ 7 ∷ 1 ∷ []) $
+    use1 𝓛 (later (‵ (seat_of 𝓛 K₀ kept_words cv holds keeps p z id v))) (ends 𝓛 cv z.views_name id v h.stretch h.mark) $ await ! tt $ move ! (1 ∷ 0 ∷ []) $ move ! (8 ∷ 7 ∷ 1 ∷ []) $
     use3 𝓛 (raw (𝓣.C _ (vptr pb e ∷ vint w64 k ∷ seq_cst ∷ []) (λ u. mean 𝓛 (stored (out 0) u))))
-    (via 𝓤 _ (reached 𝓛 R₀ bare cv holds g.keeps p z id v (Store nm k) f (λ _. Stored) so asked.2 nm pv i (Steps.stores X.Denot nm k) asked.1.2 s)
+    (via 𝓤 _ (reached 𝓛 K₀ kept_words cv holds keeps p z id v (Store nm k) f (λ _. Stored) so (word_allowed value_of lies rule g.keeps id h.view h.visit (Store nm k) (g.then h.view (Store nm k)) tt asked.2) nm pv i (Steps.stores K₀.Denot nm k) asked.1.2 s)
     (stores 𝓛 𝓜 𝓡 (code.calls-core::raw_atomic::store 𝓡.env wired) (block_ptr pb e) k are.1.1.1.1.1.0.1 (out 0))) $
     sets ! (agg ! (and_then ! (lit ! tt) (no_more !))) refl (tt, (record { fits = lit< tt }, tt)) $
     Calls-last ! (fm 𝓛 𝓜 𝓡) (stored (out 0)) (and_then ! (get ! refl) (and_then ! (get ! refl) (and_then ! (get ! refl) (no_more !))))
@@ -115,12 +119,12 @@ store_spec 𝓤 𝓛 𝓜 𝓡 wired X P U F LX LP LU LF g d _ =
     fsplit ! $ move ! (7 ∷ 0 ∷ []) $ obor_close ! tt $ drop ! $ move ! (1 ∷ []) $ fpick ! (λ v'. fsplit ! $ fpick ! (λ such. drop ! $
     use1 𝓛 (later (items (λ (st : ℕ × ℕ). ‵ (seat_owns cv.code z.views_name id v' st.0 st.1)))) (begins 𝓛 cv z.views_name id v') $ await ! tt $
     pick ! (λ st.
-    let h' : Sr.Denot = record { marker = h.marker; base = z.views_name; id = id; view = v'; stretch = st.0; mark = st.1 } in
-    let Told : Type 0 = (z.views_name ≡ h.base) × (id ≡ id) × so Stored v' in
+    let h' : Sr.Denot = record { marker = h.marker; base = z.views_name; id = id; view = v'.0; visit = v'.1; stretch = st.0; mark = st.1 } in
+    let Told : Type 0 = (z.views_name ≡ h.base) × (id ≡ id) × g.then h.view (Store nm k) Stored v'.0 in
     move ! (2 ∷ 0 ∷ []) $ fjoin ! $ move ! (2 ∷ 0 ∷ 3 ∷ 4 ∷ 5 ∷ []) $ closes ! tt Sr h' ts b' o' $
     feq_i ! (List Val) (vptr b' o' ∷ []) (vptr b' o' ∷ []) refl $ fjoin3 ! $
     nothing ! $ nothing ! $ fjoin ! $ nothing ! $ fjoin ! $ nothing ! $ fjoin ! $ nothing ! $ fjoin ! $ move ! (1 ∷ 0 ∷ []) $ fjoin ! $ nothing ! $ fjoin ! $ move ! (1 ∷ 3 ∷ []) $
     join ! $ move ! (2 ∷ 0 ∷ []) $ join ! $
-    use0 𝓛 (raw (fact 𝓤 Told)) (fact_i 𝓤 Told (emp 𝓤) (sym asked.0, refl, such)) $ feq_i ! (List Val) (vunit ∷ []) (vunit ∷ []) refl $
+    use0 𝓛 (raw (fact 𝓤 Told)) (fact_i 𝓤 Told (emp 𝓤) (sym asked.0, refl, such.0)) $ feq_i ! (List Val) (vunit ∷ []) (vunit ∷ []) refl $
     returns ! (look_at ! 0 refl) $ free_all ! refl $ keep ! (2 ∷ 3 ∷ 0 ∷ 1 ∷ []) $
     by ! (leaves 𝓛 En hs c y vunit tt (tt, (h', (tt, (tt, (tt, (tt, tt)))))) (tt, (tt, (tt, (tt, (tt, (tt, tt))))))))))))))))))

@@ -37,11 +37,14 @@ use Rattle.seize_blocks.specs.contracts.words.Words.strip.{ended, clauses}
 use Rattle.seize_blocks.specs.contracts.words.Words.strip.Key.{name as #self}
 use Rattle.seize_blocks.proofs.words.Words.strip.Statement.{statement}
 use Rattle.seize_blocks.proofs.words.Words.strip.Code as code
-use Rattle.seize_blocks.specs.Bare.{bare}
+use Rattle.seize_plots.specs.contracts.kept.Kept as kept_of
+use Rattle.seize_plots.specs.Pieces.{kept_words, value_of, lies}
+use Rattle.seize_blocks.specs.Visiting.{seat_coded}
+use Rattle.seize_seats.specs.Visits.{HoldsKept, keeps_kept}
 
 pub strip_spec : {M : Type 1} → statement M
 strip_spec 𝓤 𝓛 𝓜 𝓡 wired X P U F LX LP LU LF g d _ =
-    let H = 𝓛.H in let 𝓣 = tables 𝓤 H 𝓜 𝓡 𝓡.env in let R₀ : RattleType = param 0 X in let R₁ : RattleType = param 1 P in let R₂ : RattleType = param 2 U in
+    let H = 𝓛.H in let 𝓣 = tables 𝓤 H 𝓜 𝓡 𝓡.env in let R₀ : RattleType = param 0 X in let K₀ : RattleType = kept_of.the_row R₀ in let R₁ : RattleType = param 1 P in let R₂ : RattleType = param 2 U in
     let R₃ : RattleType = param 3 F in
     let En = ended X P U F g d in let c = clauses X P U F g d 𝓛 𝓜.mem 𝓡.returns in
     let inst = bounded (a_type ∷ a_type ∷ a_type ∷ a_type ∷ []) (X, (P, (U, (F, tt)))) (dcons d dnil) in let fn = inst_fn inst code.function in
@@ -52,7 +55,7 @@ strip_spec 𝓤 𝓛 𝓜 𝓡 wired X P U F LX LP LU LF g d _ =
     (#self inst) fn (code.unfolded 𝓤 H 𝓜 𝓡 wired (X, (P, (U, (F, tt)))) d)
     (λ κs. (shr_vals, tt)) (λ κs. (shr_Tells (named 0) κs.0 Row, tt)) (λ κs qs bounds a gh are.
     let b : ℕ = a.0.ref_ptr.0 in let o : ℕ = a.0.ref_ptr.1 in let κ : Lft = κs.0 in
-    let t : Row.Denot = a.0.now in let p : Ptr = t.words in let z : BaseId = t.id in let cv = R₂.coded in let holds = g.holds t.fixed in
+    let t : Row.Denot = a.0.now in let p : Ptr = t.words in let z : BaseId = t.id in let cv = seat_coded R₂.coded in let rule = g.holds t.fixed in let holds = HoldsKept value_of lies rule in let keeps = keeps_kept {T = X.Denot} value_of g.keeps in
     let others : Fml = fsep (flft κs.1.0 qs.1.0) (fsep (flft κs.1.1.0 qs.1.1.0) (fsep (flft κs.1.1.1.0 qs.1.1.1.0)
     (fsep (flft κs.1.1.1.1.0 qs.1.1.1.1.0) ftrue))) in
     let y : (walk_of 𝓛 En hs c).Ghost = ((κs, qs, bounds, a, (vptr b o ∷ [], tt)), gh) in let Post : Val → SProp 𝓤 = (walk_of 𝓛 En hs c).post y in
@@ -60,14 +63,14 @@ strip_spec 𝓤 𝓛 𝓜 𝓡 wired X P U F LX LP LU LF g d _ =
     raw (fact 𝓤 _) ∷ raw (emp 𝓤) ∷ []) ∵
     keep ! (0 ∷ []) $ split ! $ split ! $ move ! (2 ∷ []) $ fsplit ! $ fsplit ! $ keep ! (1 ∷ 3 ∷ 4 ∷ []) $
     enter ! 𝓣.C 𝓣.Λ fn (vptr b o ∷ []) Post $ alloc_all ! (λ l. pass_all ! refl ((tt, tt), tt) $ let Ev = env fn.locals l in
-    use1 𝓛 (‵ (hidden_shr D κ (p, (tt, tt)) b o) ⊛ ‵ (fhide (words_share R₀ bare cv.code holds p z κ)))
+    use1 𝓛 (‵ (hidden_shr D κ (p, (tt, tt)) b o) ⊛ ‵ (fhide (words_share K₀ kept_words cv.code holds p z κ)))
     (lent_out 𝓛 (words.struct R₀ R₁ R₂ R₃ g)
     (words.the_codes X.Denot P.Denot U.Denot F.Denot R₀.coded R₁.coded R₂.coded R₃.coded (marker.the_row (Tuple (R₀ ∷ R₁ ∷
     []))).coded) (words.the_heap R₀ R₁ R₂ R₃ g) (words.the_lent R₀ R₁ R₂ R₃ g) κ t b o) $
     split ! $ move ! (1 ∷ []) $ unhide ! $ fsplit ! $ drop ! $
-    use1 𝓛 (given (IsPlaced R₀ p z) (‵ (common R₀ bare cv.code holds p z))) (placed R₀ bare cv holds p z 𝓛) $ learn ! (λ there. fsplit ! $ move ! (1 ∷ []) $ fsplit ! $
+    use1 𝓛 (given (IsPlaced K₀ p z) (‵ (common K₀ kept_words cv.code holds p z))) (placed K₀ kept_words cv holds p z 𝓛) $ learn ! (λ there. fsplit ! $ move ! (1 ∷ []) $ fsplit ! $
     -- [it is listed; the invariant; it is placed; the fields; the token; the others]
-    move ! (2 ∷ 0 ∷ []) $ fjoin ! $ rewrite ! 0 (λ (f : Fml). ‵ f) (sym (told_there R₀ p z there.0)) refl $ move ! (2 ∷ 3 ∷ []) $ looks ! tt D (opened R₀ R₁ R₂ R₃ g 𝓛) (p, (tt, tt)) b o (λ q vs. move ! (1 ∷ []) $
+    move ! (2 ∷ 0 ∷ []) $ fjoin ! $ rewrite ! 0 (λ (f : Fml). ‵ f) (sym (told_there K₀ p z there.0)) refl $ move ! (2 ∷ 3 ∷ []) $ looks ! tt D (opened R₀ R₁ R₂ R₃ g 𝓛) (p, (tt, tt)) b o (λ q vs. move ! (1 ∷ []) $
     peeks ! D (Is D) (shows 𝓛 D) (p, (tt, tt)) vs (λ is_so.
     let ev : vs ≡ hand_of p ∷ [] = told R₀ R₁ R₂ R₃ g p vs is_so in
     rewrite ! 1 (λ (ws : List Val). ‵ (cell_at q D.mir ws b o)) ev refl $

@@ -1,0 +1,150 @@
+-- A log of a run and the history of which it is the grouping, by hand. And wrong ones, each refused for its reason.
+use Rattle.std.proofs.Common.{◌≡◌, ℕ, false, List, [], ◌∷◌, refl, Some}
+use Rattle.std.specs.Prelude.{Option}
+use Rattle.papaya_scenes.specs.Given.Tables.declared.resize_mode.ResizeMode.TheVariants.{Incremental}
+use Rattle.papaya_schedules.specs.declared.call.Answer.TheVariants.{Absent}
+use Rattle.papaya_schedules.specs.declared.call.Call.TheVariants.{On}
+use Rattle.papaya_schedules.specs.declared.call.OneKey.TheVariants.{Get}
+use Rattle.papaya_schedules.specs.declared.effect.Effect.{Effect}
+use Rattle.papaya_schedules.specs.declared.effect.Effect.TheVariants.{Asked, Reclaimed}
+use Rattle.papaya_schedules.specs.declared.effect.Growth.TheVariants.{ABucket}
+use Rattle.papaya_schedules.specs.declared.effect.Thing.TheVariants.{APair}
+use Rattle.papaya_schedules.specs.declared.event.Event.{Event}
+use Rattle.papaya_schedules.specs.declared.event.Event.TheVariants as event
+use Rattle.papaya_schedules.specs.declared.outcome.Outcome.{Outcome}
+use Rattle.papaya_schedules.specs.declared.outcome.Outcome.TheVariants.{Done, Slot, Goes, Answered}
+use Rattle.papaya_schedules.specs.After.{moment}
+use Rattle.papaya_schedules.specs.Entry.{Entry}
+use Rattle.papaya_deeds.specs.Deeds.{Deed, Begins, Steps, Registers, Opens, MapComes, Makes}
+use Rattle.papaya_deeds.specs.Deeds.{Entry as Act}
+use Rattle.papaya_grouped.specs.Grouping.{IsGroupingOf, IsPieceOf, Names}
+
+abbrev entry : Event ℕ ℕ → Outcome ℕ → ℕ → List Effect → Entry ℕ ℕ
+entry e outcome steps effects = record { event = e; outcome = outcome; steps = steps; effects = effects }
+
+abbrev act : Deed ℕ ℕ → Outcome ℕ → List Effect → Act ℕ ℕ
+act deed outcome effects = record { deed = deed; outcome = outcome; effects = effects; refused = false }
+
+-- names: a registration, a guard, a map, and two callers
+abbrev r : List ℕ
+r = 114 ∷ []
+
+abbrev g : List ℕ
+g = 103 ∷ []
+
+abbrev m : List ℕ
+m = 109 ∷ []
+
+abbrev a : List ℕ
+a = 97 ∷ []
+
+abbrev b : List ℕ
+b = 98 ∷ []
+
+-- A slot is registered, which asks for a bucket of them, and entered; a map is made; and a caller looks for a key that is not there, by two steps.
+abbrev begun : List (Entry ℕ ℕ)
+begun =
+    entry (event.Begin a g m (On (Get 1))) Goes 0 [] ∷ entry (event.MakeMap m (Incremental 64) 0) Done 0 [] ∷ entry (event.Enter g r) Done 0 []
+    ∷ entry (event.Register r) (Slot 0) 0 (Asked ABucket ∷ []) ∷ []
+
+abbrev log : List (Entry ℕ ℕ)
+log = entry (event.Go a false) (Answered Absent) 2 [] ∷ begun
+
+abbrev first_deeds : List (Act ℕ ℕ)
+first_deeds =
+    act (Begins 1 0 0 (On (Get 1))) Goes [] ∷ act (Makes 0) Done [] ∷ act (Makes 0) Goes [] ∷ act (MapComes 0 0 (Incremental 64) 0) Goes [] ∷ act (Opens 0) Done []
+    ∷ act (Registers 0) (Slot 0) [] ∷ act (Registers 0) Goes [] ∷ act (Registers 0) Goes (Asked ABucket ∷ []) ∷ []
+
+abbrev history : List (Act ℕ ℕ)
+history = act (Steps 1) (Answered Absent) [] ∷ act (Steps 1) Goes [] ∷ first_deeds
+
+abbrev names : Names
+names = (a, 1) ∷ []
+
+-- so the log is the grouping of the history, entry by entry
+none_yet : IsGroupingOf {K = ℕ} {V = ℕ} [] [] []
+none_yet = (refl, refl)
+
+registered : IsGroupingOf (entry (event.Register r) (Slot 0) 0 (Asked ABucket ∷ []) ∷ []) (act (Registers 0) (Slot 0) [] ∷ act (Registers 0) Goes [] ∷ act (Registers 0) Goes (Asked ABucket ∷ []) ∷ []) []
+registered = (
+  act (Registers 0) (Slot 0) [] ∷ act (Registers 0) Goes [] ∷ act (Registers 0) Goes (Asked ABucket ∷ []) ∷ [],
+  [],
+  [],
+  refl,
+  refl,
+  record { effects = refl; steps = refl; outcome = refl; deeds = (tt, (tt, (tt, tt))) },
+  none_yet,
+)
+
+entered : IsGroupingOf (entry (event.Enter g r) Done 0 [] ∷ entry (event.Register r) (Slot 0) 0 (Asked ABucket ∷ []) ∷ [])
+    (act (Opens 0) Done [] ∷ act (Registers 0) (Slot 0) [] ∷ act (Registers 0) Goes [] ∷ act (Registers 0) Goes (Asked ABucket ∷ []) ∷ []) []
+entered = (act (Opens 0) Done [] ∷ [], _, [], refl, refl, record { effects = refl; steps = refl; outcome = refl; deeds = (refl, tt) }, registered)
+
+called : IsGroupingOf begun first_deeds names
+called = (
+  act (Begins 1 0 0 (On (Get 1))) Goes [] ∷ [],
+  _,
+  [],
+  refl,
+  refl,
+  record { effects = refl; steps = refl; outcome = refl; deeds = ((refl, refl, refl, refl), tt) },
+  (
+    act (Makes 0) Done [] ∷ act (Makes 0) Goes [] ∷ act (MapComes 0 0 (Incremental 64) 0) Goes [] ∷ [],
+    _,
+    [],
+    refl,
+    refl,
+    record { effects = refl; steps = refl; outcome = refl; deeds = (refl, (refl, ((refl, refl, refl), tt))) },
+    entered,
+  ),
+)
+
+is_grouping : IsGroupingOf log history names
+is_grouping = (
+  act (Steps 1) (Answered Absent) [] ∷ act (Steps 1) Goes [] ∷ [],
+  first_deeds,
+  names,
+  refl,
+  refl,
+  record { effects = refl; steps = refl; outcome = refl; deeds = (refl, (refl, tt)) },
+  called,
+)
+
+-- An event whose effects no step has: pair 1 is reclaimed by nobody.
+has_none : ◌≡◌ {A = List Effect} (Reclaimed (APair 1) ∷ []) (Asked ABucket ∷ []) → ⊥
+has_none h = cc h
+
+nobody_did : IsPieceOf names (moment begun) (entry (event.Go a false) (Answered Absent) 2 (Reclaimed (APair 1) ∷ [])) (act (Steps 1) (Answered Absent) [] ∷ act (Steps 1) Goes (Asked ABucket ∷ []) ∷ [])
+    → ⊥
+nobody_did piece = has_none piece.effects
+
+-- Steps of two callers in one event: the second is another caller's.
+another : ◌≡◌ {A = Option ℕ} (Some 1) (Some 2) → ⊥
+another h = cc h
+
+abbrev both : Names
+both = (b, 2) ∷ names
+
+two_callers : IsPieceOf both (moment begun) (entry (event.Go a false) (Answered Absent) 2 []) (act (Steps 1) (Answered Absent) [] ∷ act (Steps 2) Goes [] ∷ []) → ⊥
+two_callers piece = another piece.deeds.1.0
+
+-- An outcome that another step gave: the last one of the piece just went on.
+goes_answers : ◌≡◌ {A = Outcome ℕ} (Answered Absent) Goes → ⊥
+goes_answers h = cc h
+
+another_came : IsPieceOf names (moment begun) (entry (event.Go a false) (Answered Absent) 2 []) (act (Steps 1) Goes [] ∷ act (Steps 1) (Answered Absent) [] ∷ []) → ⊥
+another_came piece = goes_answers piece.outcome
+
+-- A step left out: the event has one step, and the history two of its caller.
+one_of_two : ◌≡◌ {A = ℕ} 1 2 → ⊥
+one_of_two h = cc h
+
+left_out : IsPieceOf names (moment begun) (entry (event.Go a false) (Answered Absent) 1 []) (act (Steps 1) (Answered Absent) [] ∷ act (Steps 1) Goes [] ∷ []) → ⊥
+left_out piece = one_of_two piece.steps
+
+-- nor is anything left of a history that no entry is of
+left_over : IsGroupingOf {K = ℕ} {V = ℕ} [] (act (Steps 1) Goes [] ∷ []) [] → ⊥
+left_over (none, names) = no_act none
+  where
+    no_act : ◌≡◌ {A = List (Act ℕ ℕ)} (act (Steps 1) Goes [] ∷ []) [] → ⊥
+    no_act h = cc h

@@ -1,0 +1,4 @@
+pub mod Grouping
+pub mod ByActs
+pub mod Reach
+pub mod Called

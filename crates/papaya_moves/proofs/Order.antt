@@ -1,0 +1,9 @@
+-- All stays in order from entry to entry, and each call of the moment is under way in the scene.
+pub mod Effects
+pub mod Calls
+pub mod Maps
+pub mod UnderWay
+pub mod NotBusy
+pub mod RoomKept
+pub mod Stays
+pub mod Kept

@@ -1,0 +1,15 @@
+-- That a log that is by acts is the grouping of a history that keeps all that is promised of histories.
+use Rattle.std.specs.Prelude.{ℕ, Bool, List}
+use Rattle.papaya_legal.specs.Given.Schedules.After.{AtEachEvent}
+use Rattle.papaya_legal.specs.Given.Schedules.Entry.{Entry}
+use Rattle.papaya_legal.specs.Given.Schedules.Terms.{Terms}
+use Rattle.papaya_legal.specs.Given.Points.Steps.{AreLawful}
+use Rattle.papaya_grouped.specs.ByActs.{IsByActs}
+use Rattle.papaya_moves.specs.Legal.{KeepsAll}
+
+module _ {K S : Type 0} (V : Type 0) (same : K → K → Bool) (by_hasher : S → K → ℕ) where
+  -- The promise: where the hashers are lawful, each entry of the history of which such a log is the grouping keeps all of it.
+  abbrev pub LogsKeepAll : Type 0
+  LogsKeepAll =
+      ((hasher : S) → AreLawful same (by_hasher hasher)) → (hasher : S) (terms : Terms) (log : List (Entry K V)) (by : IsByActs same by_hasher hasher terms log) (value : V)
+      → AtEachEvent (KeepsAll same terms) (by.played value).1.after.history

@@ -1,0 +1,41 @@
+-- How all stays in order from entry to entry of a history.
+use Rattle.std.specs.Prelude.{◌≡◌, ℕ, List, ◌∷◌, Some}
+use Rattle.std.specs.List.{AllByRecursion}
+use Rattle.papaya_legal.specs.Given.Schedules.After.{AtEachEvent}
+use Rattle.papaya_legal.specs.Given.Schedules.Moment.{Moment, UnderWay as CallThere}
+use Rattle.papaya_legal.specs.Given.Schedules.Terms.{Terms}
+use Rattle.papaya_legal.specs.Given.Callers.Together.{UnderWay}
+use Rattle.papaya_legal.specs.Given.Finishes.Machines.{machine_of}
+use Rattle.papaya_legal.specs.Given.Finishes.Makings.{Beginning}
+use Rattle.papaya_legal.specs.Given.Finds.Within.{AllIsInOrder}
+use Rattle.papaya_legal.specs.Given.Named.Machines.{RefusedForRoom}
+use Rattle.papaya_legal.specs.Given.Scenes.Scene.{Scene}
+use Rattle.papaya_deeds.specs.Deeds.{Entry, moment, named}
+use Rattle.papaya_agrees.specs.Fresh.{AreNamed}
+use Rattle.papaya_linear.specs.Coming.{Comes}
+use Rattle.papaya_moves.specs.Parts.{DoesIts}
+use Rattle.papaya_moves.specs.Finds.{FindsIts}
+use Rattle.papaya_moves.specs.Steps.{EachStoresOne, OfStep}
+
+module _ {K V : Type 0} where
+  -- a call of the moment is under way in the scene, by the number that is its caller's name
+  abbrev pub IsUnderWay : Scene K V → CallThere K V → Type 0
+  IsUnderWay s c = (i : ℕ) × (c.caller ≡ named i) × ((u : UnderWay K V K) × (s.calls c.map i ≡ Some u))
+
+  abbrev pub AreUnderWay : Moment K V → Scene K V → Type 0
+  AreUnderWay m s = AllByRecursion (IsUnderWay s) m.calls
+
+  -- all stays in order by an entry that does what is its own, whose effects find what they must
+  abbrev pub OrderStays : Terms → List (Entry K V) → Entry K V → Type 0
+  OrderStays terms log e = AllIsInOrder (moment log) → FindsIts terms log e → OfStep e.deed (EachStoresOne log e) → DoesIts log e → AllIsInOrder (moment (e ∷ log))
+
+  -- So it is of each entry, and by this it will be of the next one: each call of the moment is under way, and one on no key is refused for want of room alone.
+  pub record KeepsOrder (terms : Terms) (history : List (Entry K V)) (s : Scene K V) : Type 0 where
+    pub under_way : AreUnderWay (moment history) s
+    pub room : (map i : ℕ) (u : UnderWay K V K) → s.calls map i ≡ Some u → RefusedForRoom (machine_of u)
+    pub each : AtEachEvent (OrderStays terms) history
+
+  -- if maps have their numbers as names, and each that is made comes as a new one
+  pub record MapsComeNew (history : List (Entry K V)) (s : Scene K V) : Type 0 where
+    pub names : AreNamed (moment history)
+    pub coming : (i : ℕ) (b : Beginning K) → s.makers i ≡ Some b → Comes b (moment history)

@@ -1,0 +1,193 @@
+//! Where the words and the values of a memory lie.
+ghost use Rattle.std.specs.Prelude.{◌≡◌, ℕ, ◌+◌, ◌-◌, ◌*◌, ◌≤◌, ◌<◌, ◌^◌, Some};
+ghost use denote.RawPtr.{Ptr, InBlock};
+ghost use Rattle.seize_seats.specs.Lines.{long};
+ghost use Rattle.seize_seats.specs.Owned.{core_of};
+ghost use Rattle.seize_seats.specs.Lendings.{Shown, ShownToBoth};
+ghost use Rattle.seize_seats.specs.Visits.{HoldsKept};
+ghost use Rattle.seize_words.specs.declared.at.At.TheVariants.{Word};
+ghost use Rattle.seize_plots.specs.Pieces.{value_of, lies};
+ghost use Rattle.seize_blocks.specs.Placed.{IsItsPlace, IsItsIndex, IsBehind, HasWord};
+
+use crate::blocks::{Blocks, MOST};
+use crate::part::{Reached, Spot, places_in, words_in};
+use crate::rule::Rule;
+use crate::seat::Seat;
+use seize_plots::{Beside, Kept, skip_of};
+use seize_words::At;
+
+impl<T, R: Rule<T>> Blocks<T, R> {
+    /// From where an operation on the word of a name is made: by which strip, from which address, and how many words on. Whatever the state is, if the seat
+    /// has this view then there is such a word, whose place is known then.
+    #[inline(always)]
+    pub(crate) fn place_of(&self, seat: &mut Seat<T, R>, at: At) -> Reached<T>
+        requires own { seat.old.base ≡ self.now.words.id.views_name }
+        requires there { HasWord (R.holds self.now.words.fixed) seat.old.id seat.old.view at }
+        ensures same { (seat.new.base ≡ seat.old.base) × (seat.new.id ≡ seat.old.id) × (seat.new.view ≡ seat.old.view) }
+        ensures lies { (core_of result.strip.id ≡ core_of self.now.words.id) × InBlock result.strip.words
+            × IsItsPlace (HoldsKept value_of lies (R.holds self.now.words.fixed)) seat.new.id (seat.new.view, seat.new.visit)
+            result.strip.words result.strip.id at result.address result.place }
+    {
+        match at {
+            At::Root(root) if root < self.roots => self.first_place(root * 16),
+            At::Used(root) if root < self.roots => self.first_place((self.roots + root) * 16),
+            At::Slot(slot, field) if slot < 32 && field < 2 => {
+                self.first_place((self.roots + self.roots + slot) * 16 + field)
+            }
+            At::Entry(block, word) if word < 4 => {
+                let spot = self.spot_of(seat, seat, block);
+                let words = words_in(&spot.strip);
+                let address = words.at;
+                Reached {
+                    address,
+                    place: spot.first + word,
+                    strip: spot.strip,
+                }
+            }
+            At::Word(block, own) => self.own_place(seat, block, own),
+            _ => self.first_place(0),
+        }
+    }
+
+    /// The place of a word of the first strip.
+    #[inline(always)]
+    fn first_place(&self, place: u64) -> Reached<T>
+        ensures { (result.strip.id ≡ self.now.words.id) × (result.strip.words ≡ self.now.words.words) × InBlock result.strip.words
+            × (result.address ≡ result.strip.words) × (result.place ≡ place) }
+    {
+        let strip = self.words.strip();
+        let words = words_in(&strip);
+        let address = words.at;
+        Reached {
+            strip,
+            address,
+            place,
+        }
+    }
+
+    /// The place of a word of a block's own. The seat visits the block.
+    fn own_place(&self, seat: &mut Seat<T, R>, block: u64, own: u64) -> Reached<T>
+        requires own { seat.old.base ≡ self.now.words.id.views_name }
+        requires there { HasWord (R.holds self.now.words.fixed) seat.old.id seat.old.view (Word block own) }
+        ensures same { (seat.new.base ≡ seat.old.base) × (seat.new.id ≡ seat.old.id) × (seat.new.view ≡ seat.old.view) }
+        ensures lies { (core_of result.strip.id ≡ core_of self.now.words.id) × InBlock result.strip.words
+            × IsItsPlace (HoldsKept value_of lies (R.holds self.now.words.fixed)) seat.new.id (seat.new.view, seat.new.visit)
+            result.strip.words result.strip.id (Word block own) result.address result.place }
+    {
+        self.words.visit(seat, block);
+        let spot = self.spot_of(seat, seat, block);
+        let beside = self.beside(seat, &spot, block);
+        if beside.count > 0 && own < 1152921504606846976 {
+            let address = beside.at;
+            return Reached {
+                strip: spot.strip,
+                address,
+                place: own,
+            };
+        }
+        let words = words_in(&spot.strip);
+        let address = words.at;
+        Reached {
+            strip: spot.strip,
+            address,
+            place: 0,
+        }
+    }
+
+    /// Where the own words of a block that the seat visits lie, and how many they are.
+    pub(crate) fn beside(&self, seat: &Seat<T, R>, spot: &Spot<T>, block: u64) -> Beside
+        requires own { seat.now.base ≡ self.now.words.id.views_name }
+        requires shown { Shown (R.holds self.now.words.fixed) seat.now.id seat.now.view block }
+        requires visits { (s : Ptr × ℕ) × (seat.now.visit ≡ Some (block, s)) }
+        requires strip { (core_of spot.now.strip.id ≡ core_of self.now.words.id) × InBlock spot.now.strip.words
+            × (spot.now.values ≡ spot.now.strip.id.values) × IsItsIndex spot.now.strip.id block spot.now.index }
+        ensures { seat.now.visit ≡ Some (block, (result.at, result.count)) }
+    {
+        let values = spot.values;
+        match self
+            .words
+            .value(&spot.strip, seat, seat, block, spot.index, values)
+        {
+            Some(kept) => {
+                let at = kept.at;
+                Beside {
+                    at,
+                    count: kept.count,
+                }
+            }
+            None => unreachable!(),
+        }
+    }
+
+    /// Where the words of a number of the first strip lie: the first of them.
+    #[inline(always)]
+    fn first_of(&self, index: u64) -> u64
+        requires { index ≤ 2 ^ 32 }
+        ensures { result ≡ index * 5 + long self.now.words.id.roots }
+    {
+        index * 5 + (self.roots + self.roots + 32) * 16
+    }
+
+    /// Behind which door the strip of a number is, and how many numbers come before those of the strip.
+    pub(crate) fn door_of(&self, index: u64) -> (u64, u64)
+        requires { (self.now.words.id.least ≤ index) × (index < 2 ^ 32) }
+        ensures { IsBehind self.now.words.id.least index result.0 result.1 }
+    {
+        let mut first = self.count;
+        for door in 0..32 {
+            if index < first * 2 {
+                return (door, first);
+            }
+            first = first * 2;
+        }
+        unreachable!()
+    }
+
+    /// Where a block is: in which strip, its index there, and where the first of its words lies. The views of two seats show the block.
+    #[inline(always)]
+    pub(crate) fn spot_of(&self, guard: &Seat<T, R>, owner: &Seat<T, R>, block: u64) -> Spot<T>
+        requires own { (guard.now.base ≡ self.now.words.id.views_name) × (owner.now.base ≡ self.now.words.id.views_name) }
+        requires shown { ShownToBoth (R.holds self.now.words.fixed) guard.now.id guard.now.view owner.now.id owner.now.view block }
+        ensures strip { (core_of result.strip.id ≡ core_of self.now.words.id) × InBlock result.strip.words × (result.values ≡ result.strip.id.values) }
+        ensures index { IsItsIndex result.strip.id block result.index × (result.index < 2 ^ 32) }
+        ensures words { (result.first ≡ result.index * 5 + result.strip.id.skip) × (result.first + 4 < 2 ^ 60) }
+    {
+        if block <= self.count || block > MOST {
+            let index = if block > 0 && block <= self.count {
+                block - 1
+            } else {
+                0
+            };
+            return Spot {
+                strip: self.words.strip(),
+                values: self.values.at,
+                index,
+                first: self.first_of(index),
+            };
+        }
+        self.far_spot_of(guard, owner, block)
+    }
+
+    /// The same, of a block whose number lies behind a door.
+    fn far_spot_of(&self, guard: &Seat<T, R>, owner: &Seat<T, R>, block: u64) -> Spot<T>
+        requires far { (self.now.words.id.least < block) × (block ≤ 2 ^ 32) }
+        requires own { (guard.now.base ≡ self.now.words.id.views_name) × (owner.now.base ≡ self.now.words.id.views_name) }
+        requires shown { ShownToBoth (R.holds self.now.words.fixed) guard.now.id guard.now.view owner.now.id owner.now.view block }
+        ensures strip { (core_of result.strip.id ≡ core_of self.now.words.id) × InBlock result.strip.words × (result.values ≡ result.strip.id.values) }
+        ensures index { IsItsIndex result.strip.id block result.index × (result.index < 2 ^ 32) }
+        ensures words { (result.first ≡ result.index * 5 + result.strip.id.skip) × (result.first + 4 < 2 ^ 60) }
+    {
+        let (door, first) = self.door_of(block - 1);
+        let strip = self.words.find(guard, owner, block, self.doors.at, door);
+        let place = places_in(&strip);
+        let values = place.at;
+        let skip = skip_of::<Kept<T>>(first as usize) as u64;
+        let index = block - 1 - first;
+        Spot {
+            strip,
+            values,
+            index,
+            first: index * 5 + skip,
+        }
+    }
+}

@@ -1,0 +1,6 @@
+pub mod Fields
+pub mod Placing
+pub mod Room
+pub mod Spots
+pub mod Emptied
+pub mod Somewhere

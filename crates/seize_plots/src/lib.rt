@@ -1,0 +1,24 @@
+//! What memories are made of: places side by side, and words with the right to give their memory back.
+#![tactic(auto)]
+
+mod beside;
+mod emptying;
+mod filling;
+mod ground;
+mod kept;
+mod piece;
+mod pieces;
+mod place;
+mod plot;
+mod row;
+
+pub use beside::{give_words, lay_words};
+pub use emptying::{clear, drain, give_up, take_back};
+pub use filling::{empty, fill};
+pub use ground::{Ground, give_back, lay, lay_doors, lay_empty};
+pub use kept::Kept;
+pub use piece::{Laid, Piece, Right, join_words, release_words, reserve_words};
+pub use pieces::Pieces;
+pub use place::{Address, Beside, Doors, Place};
+pub use plot::{Alone, Deed, bytes_of, fits, lay_strip, release, reserve, skip_of, stride_of};
+pub use row::Row;
