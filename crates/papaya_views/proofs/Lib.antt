@@ -13,3 +13,4 @@ mod Begins
 mod Handing
 mod Makings
 pub mod Exact
+mod Samples
