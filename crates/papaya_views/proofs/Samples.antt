@@ -1,5 +1,5 @@
 -- What the first operation of a lookup tells its seat, on a map that has no table.
-use Rattle.std.specs.Prelude.{◌≡◌, ℕ, ◌==◌, Bool, [], Some}
+use Rattle.std.specs.Prelude.{ℕ, ◌==◌, Bool, [], Some}
 use Rattle.std.proofs.Common.{refl, ap}
 use Rattle.papaya_scenes.specs.Given.SeizeWords.Op.{Load, Found}
 use Rattle.papaya_scenes.specs.Given.SeizeWords.declared.at.At.TheVariants.{Root}
