@@ -2,5 +2,6 @@ mod Restricted
 mod There
 mod Held
 mod Looks
+pub mod Lookups
 mod Makings
 mod Plans

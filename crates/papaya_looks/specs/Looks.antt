@@ -3,14 +3,18 @@ use Rattle.std.specs.Prelude.{◌≡◌, ℕ, Bool, true, Option, Some, IsSome, 
 use Rattle.papaya_finishes.specs.Given.SeizeWords.Mem.{value_at}
 use Rattle.papaya_finishes.specs.Given.Seize.Law.{holds}
 use Rattle.papaya_finishes.specs.Given.Seize.World.{World}
+use Rattle.papaya_finishes.specs.Given.Tables.Chunks.{is_incremental}
 use Rattle.papaya_finishes.specs.Given.Tables.declared.node.Node.{Node}
 use Rattle.papaya_finishes.specs.Given.Resize.NewMap.{new_map_plan}
+use Rattle.papaya_finishes.specs.Given.Resize.declared.lookup.Lookup.{Lookup}
 use Rattle.papaya_finishes.specs.Given.Raw.Machine.{machine_plan}
+use Rattle.papaya_finishes.specs.Given.Raw.declared.machines.call.Calling.TheVariants as at
+use Rattle.papaya_finishes.specs.Given.Raw.declared.machines.machine.Machine.TheVariants as kinds
 use Rattle.papaya_finishes.specs.Given.Rule.InWorld.{IsHeldBy}
 use Rattle.papaya_finishes.specs.Given.Points.Told.{IsRowOfCall}
 use Rattle.papaya_finishes.specs.Given.Late.ToldReserves.{IsRowOfReserve}
 use Rattle.papaya_finishes.specs.Given.Late.ToldSweeps.{IsRowOfSweep}
-use Rattle.papaya_finishes.specs.Given.Callers.Together.{UnderWay, OnKey, ForRoom, Counting, OverAll}
+use Rattle.papaya_finishes.specs.Given.Callers.Together.{UnderWay, CallOnKey, OnKey, ForRoom, Counting, OverAll}
 use Rattle.papaya_finishes.specs.Endings.{Finishing, EndingsTogether}
 use Rattle.papaya_finishes.specs.Machines.{machine_of}
 use Rattle.papaya_finishes.specs.Makings.{Beginning}
@@ -39,6 +43,16 @@ module _ {K Q : Type 0} (V : Type 0) (same : K → K → Bool) (asks : Q → K �
       → (m : ℕ) (s : Standing K) → maps m ≡ Some s → (i : ℕ) (u : UnderWay K V Q) → calls m i ≡ Some u
       → (b : ℕ) → LooksAt b w.memory (machine_plan asks same s.hash (machine_of u))
       → (IsSome (value_at w.memory b) × (IsAtRow u ⊎ IsHeldFor w (slot i) i s.setting.counter b)) ⊎ MayMake b w.memory (machine_plan asks same s.hash (machine_of u))
+
+  -- A lookup in incremental mode looks only at what its section holds.
+  abbrev pub LookupsLookAtWhatIsHeld : Type 0
+  LookupsLookAtWhatIsHeld =
+      (w : World (Node K V)) (maps : ℕ → Option (Standing K)) (calls : ℕ → ℕ → Option (UnderWay K V Q))
+      (makers : ℕ → Option (Beginning K)) (enders : ℕ → Option (Finishing K V))
+      → EndingsTogether V same asks batch_size roots slot w maps calls makers enders
+      → (m : ℕ) (s : Standing K) → maps m ≡ Some s → is_incremental s.setting.mode ≡ true → (i : ℕ) (u : CallOnKey K V Q) → calls m i ≡ Some (OnKey u)
+      → (l : Lookup) → u.call.stands ≡ at.Looks l
+      → (b : ℕ) → LooksAt b w.memory (machine_plan asks same s.hash (kinds.Key u.call)) → holds (slot i) b w.log ≡ true
 
   -- And so it is of the making of a map: each block that its next step looks at is there, and is its caller's own, or the step makes it.
   abbrev pub MakingsLookAtTheirOwn : Type 0

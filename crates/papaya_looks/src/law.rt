@@ -2,15 +2,17 @@
 ghost use Rattle.std.specs.Prelude.{ℕ, Bool, Option};
 ghost use Rattle.seize_acts.specs.Stays.{HeldStay};
 ghost use Rattle.papaya_finishes.specs.Given.Tables.declared.node.Node.{Node};
-ghost use Rattle.papaya_looks.specs.Looks.{StepsLookAtWhatIsHeld, MakingsLookAtTheirOwn};
+ghost use Rattle.papaya_looks.specs.Looks.{StepsLookAtWhatIsHeld, LookupsLookAtWhatIsHeld, MakingsLookAtTheirOwn};
 ghost use Rattle.papaya_looks.specs.There.{BlocksAreThere, WordsAreThere, StepsLookAtWhatIsThere};
 
 /// Any callers have calls under way on any maps of one collector, in either mode, and make and end others. Whichever block the next step of one looks at, by its
 /// operation or for its value, is there; and unless the step is one of a row of the collector, its caller's open section holds it, or its caller has it, having made
-/// it or taken it out of its map, or it is the counter of the map. What a section holds keeps its value, and no other block gets its number. So no step looks at a
+/// it or taken it out of its map, or it is the counter of the map; at a lookup in incremental mode its section
+/// holds it. What a section holds keeps its value, and no other block gets its number. So no step looks at a
 /// block that was given back, nor at another one than its number named. And who makes a map looks at blocks of its own.
 pub fn steps_look_at_what_is_held<K, V, Q>()
     ensures held { (same : K → K → Bool) (asks : Q → K → Bool) (batch_size roots : ℕ) (slot : ℕ → ℕ) → StepsLookAtWhatIsHeld V same asks batch_size roots slot }
+    ensures lookups { (same : K → K → Bool) (asks : Q → K → Bool) (batch_size roots : ℕ) (slot : ℕ → ℕ) → LookupsLookAtWhatIsHeld V same asks batch_size roots slot }
     ensures stays { (defers : Node K V → Option ℕ) → HeldStay defers }
     ensures makings { (same : K → K → Bool) (asks : Q → K → Bool) (batch_size roots : ℕ) (slot : ℕ → ℕ) → MakingsLookAtTheirOwn V same asks batch_size roots slot }
 {}

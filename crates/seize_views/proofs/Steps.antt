@@ -27,7 +27,7 @@ use Rattle.seize_views.proofs.Came.{of_users, reached, came_then}
 use Rattle.seize_views.proofs.Moved.{Moved, hand_users, not_vacant, used_so, still_used}
 
 -- one step of a row ends no block's owner
-not_over : (b : ℕ) (effects log : List Effect) → IsOneStep effects → is_over b (effects ++ log) ≡ is_over b log
+pub not_over : (b : ℕ) (effects log : List Effect) → IsOneStep effects → is_over b (effects ++ log) ≡ is_over b log
 not_over b [] log one = refl
 not_over b (e ∷ f ∷ effects) log one = absurd one
 not_over b (Entered s ∷ []) log one = refl

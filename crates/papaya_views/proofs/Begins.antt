@@ -1,0 +1,180 @@
+-- A call begins, or is told something; and a map is handed on.
+use Rattle.std.specs.Prelude.{Option, Some}
+use Rattle.std.specs.Option.{is_none}
+use Rattle.std.proofs.Common.{◌≡◌, ℕ, Bool, true, refl, sym, subst, ap, ◌∙◌}
+use Rattle.papaya_scenes.specs.Given.Tables.Chunks.{is_incremental}
+use Rattle.papaya_scenes.specs.Given.Tables.declared.node.Node.{Node}
+use Rattle.papaya_scenes.specs.Given.Tables.declared.setting.Setting.{Setting}
+use Rattle.papaya_scenes.specs.Given.Raw.Machine.{machine_replied}
+use Rattle.papaya_scenes.specs.Given.Raw.declared.machines.asking.Reply.{Reply}
+use Rattle.papaya_scenes.specs.Given.Raw.declared.machines.machine.Machine.{Machine}
+use Rattle.papaya_scenes.specs.Given.Callers.Rows.{IsRowOn}
+use Rattle.papaya_scenes.specs.Given.Callers.Together.{UnderWay}
+use Rattle.papaya_scenes.specs.Given.Seize.World.{Row}
+use Rattle.papaya_scenes.specs.Given.Finishes.Machines.{machine_of}
+use Rattle.papaya_scenes.specs.Given.Finishes.Maps.{Standing, new_map, with_call}
+use Rattle.papaya_scenes.specs.Scene.{Scene, slot_of}
+use Rattle.papaya_acts.specs.Acts.{Wanted, Get, Count, UnlessToCount, BeginsCall, TellsCall, begun}
+use Rattle.papaya_acts.specs.Doings.{Does, MayDo}
+use Rattle.papaya_acts.specs.Leads.{AreFewWith, Led}
+use Rattle.seize_acts.specs.Acts.{rests, is_within}
+use Rattle.seize_acts.proofs.Answers.{same_some}
+use Rattle.seize_seats.specs.State.{State, view_of, Goes}
+use Rattle.seize_views.specs.declared.view.Fixed.{Fixed}
+use Rattle.seize_views.specs.declared.view.Has.TheVariants.{Nothing as NoBlock}
+use Rattle.seize_views.specs.declared.view.View.{View as SlotView}
+use Rattle.seize_views.specs.declared.view.View.TheVariants.{Inside}
+use Rattle.papaya_views.specs.Begun.{machine_for, calling, replied}
+use Rattle.papaya_views.specs.Promises.{CallsBegin, CallsAreTold}
+use Rattle.papaya_views.specs.Rule.{MapsWorld, HasRow, DoesSo, KnowsMap, Fits, Holds, KeepsFor, caller_at, place_of}
+use Rattle.papaya_views.specs.declared.view.Map.{Map}
+use Rattle.papaya_views.specs.declared.view.View.{View}
+use Rattle.papaya_views.specs.declared.view.Work.{Work}
+use Rattle.papaya_views.specs.declared.view.Work.TheVariants.{Nothing, Calls}
+use Rattle.papaya_views.proofs.Leaves.{leaves_all, inside_of, unborn_on, fits_on, own_idle, map_on, call_here}
+use Rattle.papaya_views.proofs.Moved.{scene_of, are_so, Moved, same_slot, moved}
+use Rattle.papaya_views.proofs.Numbers.{slot_at}
+use Rattle.papaya_views.proofs.UnderWay.{called_at, does as way_does, slot_is as way_slot, on_row as way_on}
+
+-- but for a counting
+unless : {K V : Type 0} (wanted : Wanted K V) (A : Type 0) → A → UnlessToCount wanted A
+unless Count A a = tt
+unless _ A a = a
+
+module _ {K V : Type 0} (same : K → K → Bool) where
+  -- the machine that begins is told by setting, hash and slot
+  begins_as : (slot : ℕ → ℕ) (s : Standing K) (i : ℕ) (wanted : Wanted K V)
+      → machine_of (begun same slot s i wanted) ≡ machine_of (begun same (λ a. a) (new_map s.setting s.hash) (slot i) wanted)
+  begins_as slot s i (Get key) = refl
+  begins_as slot s i _ = refl
+
+module _ {K V S : Type 0} (same : K → K → Bool) (hash : S → K → ℕ) (fixed : Fixed) (s : State (Node K V) (View K V S) (MapsWorld K V S)) (h : Holds same hash fixed s)
+    (id : ℕ) (v : View K V S) (at_id : view_of s id ≡ Some v) (map : Map S) (knows : v.map ≡ Some map) where
+  abbrev scene : Scene K V
+  scene = scene_of same hash fixed s h
+
+  fits : Fits same hash scene id v
+  fits = (are_so same hash fixed s h).seats id v at_id
+
+  abbrev place : ℕ
+  place = place_of v.slot
+
+  abbrev i : ℕ
+  i = caller_at id place
+
+  it : KnowsMap same hash scene (Some map)
+  it = subst (λ (x : Option (Map S)). KnowsMap same hash scene x) knows fits.map
+
+  -- where the seat has this call under way from now on, and nothing else has changed
+  module _ (t : ℕ) (slot_is : v.slot ≡ Inside t NoBlock) (u : UnderWay K V K) (machine : Machine K V K) (is : machine_of u ≡ machine)
+      (on_row : IsRowOn t (scene.world.row i)) where
+    abbrev n : Scene K V
+    n = record scene { calls = with_call scene.calls map.number i (Some u) }
+
+    its_does : DoesSo same hash n i (Inside t NoBlock) (Some map) (Calls machine)
+    its_does = (t, refl, inside_of same hash scene id t v NoBlock fits slot_is, record { call = u; here = call_here scene.calls map.number i (Some u); is = is }, on_row)
+
+    abbrev w : View K V S
+    w = calling v machine
+
+    go : Moved same hash fixed s h id s.memory w n
+    go = record {
+      memory = (are_so same hash fixed s h).memory;
+      own = record {
+        slot = fits.slot;
+        does =
+            subst (λ (x : SlotView (Node K V)). DoesSo same hash n i x v.map (Calls machine)) (sym slot_is)
+            (subst (λ (x : Option (Map S)). DoesSo same hash n i (Inside t NoBlock) x (Calls machine)) (sym knows) its_does);
+        map = map_on same hash scene n id place fits.slot (leaves_all same hash scene map.number i (Some u)) v.map fits.map;
+        held = tt;
+        idle = own_idle same hash scene n id place fits.slot (leaves_all same hash scene map.number i (Some u)) fits.idle;
+      };
+      others = fits_on same hash scene n id place fits.slot (leaves_all same hash scene map.number i (Some u));
+      unborn = unborn_on same hash scene n id place fits.slot (leaves_all same hash scene map.number i (Some u));
+      alone = same_slot same hash fixed s h id v w at_id refl;
+      held = λ a b inside held over. (held, over);
+      fresh = (are_so same hash fixed s h).fresh;
+      ended = λ o. refl;
+    }
+
+  -- it has nothing under way, and begins to do this
+  module _ (t : ℕ) (slot_is : v.slot ≡ Inside t NoBlock) (free : v.work ≡ Nothing) (incremental : is_incremental map.setting.mode ≡ true) (wanted : Wanted K V) where
+    does : HasRow scene i (Inside t NoBlock)
+    does =
+        subst (λ (x : SlotView (Node K V)). HasRow scene i x) slot_is
+        (subst (λ (x : Work K V S). DoesSo same hash scene i v.slot v.map x) free fits.does)
+
+    place_is : place ≡ t
+    place_is = ap (λ (x : SlotView (Node K V)). place_of x) slot_is
+
+    its_slot : slot_of i ≡ t
+    its_slot = slot_at id place fits.slot ∙ place_is
+
+    few : AreFewWith scene i map.number
+    few standing stands not =
+        let same_it = same_some it.0 standing (sym it.1 ∙ stands) in
+        let setting : map.setting ≡ standing.setting = sym it.2 ∙ ap (λ (x : Standing K). x.setting) same_it in
+        let mode : is_incremental standing.setting.mode ≡ true = ap (λ (x : Setting). is_incremental x.mode) (sym setting) ∙ incremental in absurd (cc (not, mode))
+
+    may : MayDo V same hash fixed.batch_size fixed.roots slot_of (Does (BeginsCall i map.number wanted)) h.reached.0
+    may = (
+      ap is_none h.nobody,
+      (
+        record { no_call = λ m. ap is_none (does.calls m); no_making = ap is_none does.makers; no_ending = ap is_none does.enders },
+        ap rests does.row,
+        unless wanted (is_within (scene.world.uses (slot_of i)) ≡ true) (ap (λ (a : ℕ). is_within (scene.world.uses a)) its_slot ∙ ap is_within does.slot.1),
+        ap is_none it.1,
+        few,
+      ),
+    )
+
+    led : Led same hash fixed.batch_size fixed.roots slot_of (BeginsCall i map.number wanted) scene (h.course.told h.reached.0 (Does (BeginsCall i map.number wanted)) may)
+        (h.course.next h.reached.0 (Does (BeginsCall i map.number wanted)) may).0
+    led = (h.course.leads h.reached.0 (Does (BeginsCall i map.number wanted)) may).0
+
+    on_row : IsRowOn t (scene.world.row i)
+    on_row = subst (λ (x : Row). IsRowOn t x) (sym does.row) tt
+
+    machine_is : machine_of (begun same slot_of led.0 i wanted) ≡ machine_for same hash map t wanted
+    machine_is =
+        let same_it = same_some it.0 led.0 (sym it.1 ∙ led.1) in
+        begins_as same slot_of led.0 i wanted
+        ∙ ap (λ (a : ℕ). machine_of (begun same (λ b. b) (new_map led.0.setting led.0.hash) a wanted)) its_slot
+        ∙ ap (λ (x : Setting). machine_of (begun same (λ b. b) (new_map x led.0.hash) t wanted)) (ap (λ (x : Standing K). x.setting) (sym same_it) ∙ it.2)
+        ∙ ap (λ (f : K → ℕ). machine_of (begun same (λ b. b) (new_map map.setting f) t wanted)) (ap (λ (x : Standing K). x.hash) (sym same_it) ∙ it.3)
+
+    begins : Goes (Holds same hash fixed) KeepsFor s s.memory id (λ x. x ≡ calling v (machine_for same hash map t wanted))
+    begins =
+        moved same hash fixed s h id v at_id (BeginsCall i map.number wanted) may (n t slot_is (begun same slot_of led.0 i wanted) (machine_for same hash map t wanted) machine_is on_row) led.3 s.memory
+        (calling v (machine_for same hash map t wanted)) (go t slot_is (begun same slot_of led.0 i wanted) (machine_for same hash map t wanted) machine_is on_row)
+        (λ x. x ≡ calling v (machine_for same hash map t wanted)) refl
+
+  -- its call is told this
+  module _ (machine : Machine K V K) (works : v.work ≡ Calls machine) (reply : Reply V) where
+    told_may : MayDo V same hash fixed.batch_size fixed.roots slot_of (Does (TellsCall i map.number reply)) h.reached.0
+    told_may = (ap is_none h.nobody, ap is_none (called_at same hash fixed s h id v at_id map machine knows works))
+
+    told_led : Led same hash fixed.batch_size fixed.roots slot_of (TellsCall i map.number reply) scene (h.course.told h.reached.0 (Does (TellsCall i map.number reply)) told_may)
+        (h.course.next h.reached.0 (Does (TellsCall i map.number reply)) told_may).0
+    told_led = (h.course.leads h.reached.0 (Does (TellsCall i map.number reply)) told_may).0
+
+    reply_is : machine_of told_led.3 ≡ (machine_replied machine reply).0
+    reply_is =
+        let call = (way_does same hash fixed s h id v at_id map machine knows works).3 in
+        told_led.5
+        ∙ ap (λ (x : UnderWay K V K). (machine_replied (machine_of x) reply).0) (same_some told_led.2 call.call (sym told_led.4 ∙ call.here))
+        ∙ ap (λ (x : Machine K V K). (machine_replied x reply).0) call.is
+
+    tells : Goes (Holds same hash fixed) KeepsFor s s.memory id (λ x. x ≡ replied v machine reply)
+    tells =
+        let is = way_slot same hash fixed s h id v at_id map machine knows works in
+        let on = way_on same hash fixed s h id v at_id map machine knows works in
+        moved same hash fixed s h id v at_id (TellsCall i map.number reply) told_may (n place is told_led.3 (machine_replied machine reply).0 reply_is on) told_led.8 s.memory
+        (replied v machine reply) (go place is told_led.3 (machine_replied machine reply).0 reply_is on) (λ x. x ≡ replied v machine reply) refl
+
+module _ {K S : Type 0} (V : Type 0) (same : K → K → Bool) (hash : S → K → ℕ) where
+  pub calls_begin : CallsBegin V same hash
+  calls_begin fixed id t v map wanted slot_is knows free incremental s h at_id = begins same hash fixed s h id v at_id map knows t slot_is free incremental wanted
+
+  pub calls_are_told : CallsAreTold V same hash
+  calls_are_told fixed id v map machine reply knows works s h at_id = tells same hash fixed s h id v at_id map knows machine works reply

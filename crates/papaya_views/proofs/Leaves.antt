@@ -1,0 +1,162 @@
+-- Where a step of a call has led, or a call has begun or was told something, each other seat knows what is so.
+use Rattle.std.specs.Prelude.{◌≢◌, Option, Some, None}
+use Rattle.std.proofs.Common.{◌≡◌, ℕ, Bool, refl, sym, subst, ◌∙◌, true, false, List, [], ◌∷◌}
+use Rattle.papaya_scenes.specs.Given.SeizeWords.Mem.{value_at}
+use Rattle.papaya_scenes.specs.Given.Seize.Law.{holds, is_over}
+use Rattle.papaya_scenes.specs.Given.Seize.World.{Row, Use, Vacant, Outside, Inside, Changing, IsInside}
+use Rattle.papaya_scenes.specs.Given.Tables.declared.node.Node.{Node}
+use Rattle.papaya_scenes.specs.Given.Callers.Rows.{IsUsedAlike, IsRowOn}
+use Rattle.papaya_scenes.specs.Given.Callers.Together.{UnderWay}
+use Rattle.papaya_scenes.specs.Given.Finishes.Maps.{Standing, with_call}
+use Rattle.papaya_scenes.specs.Scene.{Scene}
+use Rattle.seize_acts.specs.Stays.{how_many, is_end_of_owner}
+use Rattle.papaya_acts.proofs.Counts.{its_call, other_call}
+use Rattle.seize_views.specs.Rows.{use_of}
+use Rattle.seize_views.specs.declared.view.Has.{Has}
+use Rattle.seize_views.specs.declared.view.Has.TheVariants.{Nothing as NoBlock}
+use Rattle.seize_views.specs.declared.view.View.{View as SlotView}
+use Rattle.seize_views.specs.declared.view.View.TheVariants as slot_view
+use Rattle.papaya_views.specs.Rule.{IsIdle, IsUsedSo, IsSlot, DoesSo, KnowsMap, Fits, caller_at, place_of, AllHeld}
+use Rattle.papaya_views.specs.declared.view.Map.{Map}
+use Rattle.papaya_views.specs.declared.view.View.{View}
+use Rattle.papaya_views.specs.declared.view.Work.{Work}
+use Rattle.papaya_views.specs.declared.view.Work.TheVariants.{Nothing, Calls, Makes}
+use Rattle.papaya_views.proofs.Numbers.{seat_apart, slot_apart}
+
+pub stays_inside : (u v : Use) → IsUsedAlike u v → IsInside u → IsInside v
+stays_inside Vacant v is inside = absurd inside
+stays_inside (Outside n) v is inside = absurd inside
+stays_inside (Inside n) v is inside = subst (λ (x : Use). IsInside x) (sym is.1) tt
+stays_inside Changing v is inside = absurd inside
+
+alike_on : (u v w : Use) → IsUsedAlike u v → IsUsedAlike v w → IsUsedAlike u w
+alike_on Vacant v w a b = subst (λ (x : Use). IsUsedAlike x w) a b
+alike_on (Outside n) v w a b = subst (λ (x : Use). IsUsedAlike x w) a.1 b
+alike_on (Inside n) v w a b = subst (λ (x : Use). IsUsedAlike x w) a.1 b
+alike_on Changing v w a b = subst (λ (x : Use). IsUsedAlike x w) a b
+
+pub alike_same : (u : Use) → IsUsedAlike u u
+alike_same Vacant = refl
+alike_same (Outside n) = (n, refl)
+alike_same (Inside n) = (n, refl)
+alike_same Changing = refl
+
+pub inside_alike : (u : Use) → IsInside u → IsUsedAlike (Inside 0) u
+inside_alike Vacant is = absurd is
+inside_alike (Outside n) is = absurd is
+inside_alike (Inside n) is = (n, refl)
+inside_alike Changing is = absurd is
+
+module _ {X : Type 0} (calls : ℕ → ℕ → Option X) (m i : ℕ) (it : Option X) where
+  pub call_here : with_call calls m i it m i ≡ it
+  call_here = its_call calls i m i m it refl refl
+
+  pub call_other : (n j : ℕ) → j ≢ i → with_call calls m i it n j ≡ calls n j
+  call_other n j ne = other_call calls j n i m it (λ e f. ne (sym e))
+
+  pub call_elsewhere : (n : ℕ) → n ≢ m → with_call calls m i it n i ≡ calls n i
+  call_elsewhere n ne = other_call calls i n i m it (λ e f. ne (sym f))
+
+module _ {K V S : Type 0} (same : K → K → Bool) (hash : S → K → ℕ) where
+  -- who is within a section by what it knows is within one
+  pub inside_of : (scene : Scene K V) (j t : ℕ) (v : View K V S) (has : Has (Node K V)) → Fits same hash scene j v → v.slot ≡ slot_view.Inside t has → IsInside (scene.world.uses t)
+  inside_of scene j t v has f is = by v.work v.map f.does
+    where
+      by : (work : Work K V S) (map : Option (Map S)) → DoesSo same hash scene (caller_at j (place_of v.slot)) v.slot map work → IsInside (scene.world.uses t)
+      by Nothing map d =
+          stays_inside (Inside 0) (scene.world.uses t) (subst (λ (x : SlotView (Node K V)). IsUsedSo scene.world (use_of x)) is d.slot) tt
+      by (Calls machine) None d = absurd d
+      by (Calls machine) (Some map) d = subst (λ (a : ℕ). IsInside (scene.world.uses a)) (same_slot (sym d.1 ∙ is)) d.2
+        where
+          same_slot : slot_view.Inside d.0 NoBlock ≡ slot_view.Inside t has → d.0 ≡ t
+          same_slot e = cc e
+      by (Makes m hasher opening) map d = absurd (cc (d.0, is))
+
+  -- what a step of this caller leaves: what the others have under way, how slots are used, the maps as callers know them, and what sections hold
+  pub record Leaves (s n : Scene K V) (i : ℕ) : Type 0 where
+    pub rows : (k : ℕ) → k ≢ i → n.world.row k ≡ s.world.row k
+    pub calls : (m k : ℕ) → k ≢ i → n.calls m k ≡ s.calls m k
+    pub makers : (k : ℕ) → k ≢ i → n.makers k ≡ s.makers k
+    pub enders : (k : ℕ) → n.enders k ≡ s.enders k
+    pub uses : (t : ℕ) → IsUsedAlike (s.world.uses t) (n.world.uses t)
+    pub maps : (m : ℕ) (r : Standing K) → s.maps m ≡ Some r → (r2 : Standing K) × (n.maps m ≡ Some r2) × (r2.setting ≡ r.setting) × (r2.hash ≡ r.hash)
+    pub held : (t b : ℕ) → IsInside (s.world.uses t) → holds t b s.world.log ≡ true → is_over b s.world.log ≡ false
+        → (holds t b n.world.log ≡ true) × (is_over b n.world.log ≡ false) × (value_at n.world.memory b ≡ value_at s.world.memory b)
+    pub ended : (o : ℕ) → how_many (is_end_of_owner o) n.world.log ≡ how_many (is_end_of_owner o) s.world.log
+
+  -- nothing has changed but a call
+  pub leaves_all : (s : Scene K V) (m i : ℕ) (it : Option (UnderWay K V K)) → Leaves s (record s { calls = with_call s.calls m i it }) i
+  leaves_all s m i it = record {
+    rows = λ k ne. refl;
+    calls = λ n k ne. call_other s.calls m i it n k ne;
+    makers = λ k ne. refl;
+    enders = λ k. refl;
+    uses = λ t. alike_same (s.world.uses t);
+    maps = λ n r is. (r, is, refl, refl);
+    held = λ t b inside held over. (held, over, refl);
+    ended = λ o. refl;
+  }
+
+  module _ (s next : Scene K V) (id t : ℕ) (its_slot : IsSlot t) (leaves : Leaves s next (caller_at id t)) where
+    abbrev i : ℕ
+    i = caller_at id t
+
+    idle_on : (k : ℕ) → k ≢ i → IsIdle s k → IsIdle next k
+    idle_on k ne f = record {
+      calls = λ n. leaves.calls n k ne ∙ f.calls n;
+      makers = leaves.makers k ne ∙ f.makers;
+      enders = leaves.enders k ∙ f.enders;
+      row = leaves.rows k ne ∙ f.row;
+    }
+
+    pub unborn_on : (j a : ℕ) → j ≢ id → IsSlot a → IsIdle s (caller_at j a) → IsIdle next (caller_at j a)
+    unborn_on j a ne is f = idle_on (caller_at j a) (λ e. ne (seat_apart j id a t is its_slot e)) f
+
+    pub section_on : (a : ℕ) → IsInside (s.world.uses a) → IsInside (next.world.uses a)
+    section_on a is = stays_inside (s.world.uses a) (next.world.uses a) (leaves.uses a) is
+
+    used_on : (o : Option (ℕ × Use)) → IsUsedSo s.world o → IsUsedSo next.world o
+    used_on None f = tt
+    used_on (Some slot) f = alike_on slot.1 (s.world.uses slot.0) (next.world.uses slot.0) f (leaves.uses slot.0)
+
+    does_on : (k : ℕ) → k ≢ i → (slot : SlotView (Node K V)) (map : Option (Map S)) (work : Work K V S) → DoesSo same hash s k slot map work → DoesSo same hash next k slot map work
+    does_on k ne slot map Nothing f = record {
+      row = leaves.rows k ne ∙ f.row;
+      slot = used_on (use_of slot) f.slot;
+      calls = λ n. leaves.calls n k ne ∙ f.calls n;
+      makers = leaves.makers k ne ∙ f.makers;
+      enders = leaves.enders k ∙ f.enders;
+    }
+    does_on k ne slot None (Calls p) f = absurd f
+    does_on k ne slot (Some map) (Calls p) f =
+        (f.0, f.1, section_on f.0 f.2, record { call = f.3.call; here = leaves.calls map.number k ne ∙ f.3.here; is = f.3.is }, subst (λ (x : Row). IsRowOn f.0 x) (sym (leaves.rows k ne)) f.4)
+    does_on k ne slot map (Makes n hasher opening) f = (
+      f.0,
+      record { making = f.1.making; here = leaves.makers k ne ∙ f.1.here; map = f.1.map; hashes = f.1.hashes; is = f.1.is; calls = λ a. leaves.calls a k ne ∙ f.1.calls a },
+      leaves.rows k ne ∙ f.2,
+    )
+
+    pub map_on : (map : Option (Map S)) → KnowsMap same hash s map → KnowsMap same hash next map
+    map_on None f = tt
+    map_on (Some map) f = let g = leaves.maps map.number f.0 f.1 in (g.0, g.1, g.2 ∙ f.2, g.3 ∙ f.3)
+
+    -- what the section of a slot is known to hold
+    pub held_on : (slot : SlotView (Node K V)) → ((a : ℕ) → slot ≡ slot_view.Inside a NoBlock → IsInside (s.world.uses a)) → (looks : List (ℕ × Node K V)) → AllHeld same hash s slot looks
+        → AllHeld same hash next slot looks
+    held_on slot inside [] f = tt
+    held_on slot inside (look ∷ looks) f =
+        let h = f.0 in let g = leaves.held h.0 look.0 (inside h.0 h.1) h.2 h.3 in ((h.0, h.1, g.0, g.1, g.2 ∙ h.4), held_on slot inside looks f.1)
+
+    -- each other seat knows what is so
+    pub fits_on : (j : ℕ) (v : View K V S) → j ≢ id → Fits same hash s j v → Fits same hash next j v
+    fits_on j v ne f = record {
+      slot = f.slot;
+      does = does_on (caller_at j (place_of v.slot)) (λ e. ne (seat_apart j id (place_of v.slot) t f.slot its_slot e)) v.slot v.map v.work f.does;
+      map = map_on v.map f.map;
+      held = held_on v.slot (λ a is. inside_of s j a v NoBlock f is) v.held f.held;
+      idle = λ a is other. unborn_on j a ne is (f.idle a is other);
+    }
+
+    -- in other slots its seat has nothing under way
+    pub own_idle : ((a : ℕ) → IsSlot a → a ≢ t → IsIdle s (caller_at id a)) → (a : ℕ) → IsSlot a → a ≢ t → IsIdle next (caller_at id a)
+    own_idle idle a is ne = idle_on (caller_at id a) (λ e. ne (slot_apart id id a t is its_slot e)) (idle a is ne)

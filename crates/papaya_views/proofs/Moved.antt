@@ -1,0 +1,118 @@
+-- An act of a seat makes the rule hold again, where it has left what the other seats know.
+use Rattle.std.specs.Prelude.{◌≢◌, ◌++◌, Some, None, slice_get, slice_set}
+use Rattle.std.proofs.Common.{◌≡◌, ℕ, Bool, true, false, [], ◌∷◌, ◌⊎◌, inl, inr, refl, sym, subst, ap, ◌∙◌}
+use Rattle.std.proofs.lemmas.Bool.{cases_eq}
+use Rattle.papaya_scenes.specs.Given.SeizeWords.Mem.{Mem}
+use Rattle.papaya_scenes.specs.Given.Seize.Law.{holds, is_over}
+use Rattle.papaya_scenes.specs.Given.Seize.World.{Use, IsInside}
+use Rattle.papaya_scenes.specs.Given.Tables.declared.node.Node.{Node}
+use Rattle.papaya_scenes.specs.Scene.{Scene, slot_of}
+use Rattle.papaya_acts.specs.Acts.{Act}
+use Rattle.papaya_acts.specs.Doings.{Does, MayDo}
+use Rattle.papaya_acts.specs.Leads.{AllStand}
+use Rattle.papaya_acts.specs.Lists.{Reached, LedTo, nothing_done, on_by}
+use Rattle.papaya_acts.proofs.Further.{led_further}
+use Rattle.seize_acts.specs.Stays.{how_many, is_end_of_owner}
+use Rattle.seize_acts.proofs.Answers.{same_some}
+use Rattle.seize_seats.specs.State.{State, view_of, Goes}
+use Rattle.seize_views.specs.Rows.{use_of}
+use Rattle.seize_views.specs.declared.view.Fixed.{Fixed}
+use Rattle.seize_views.proofs.Lists.{there, elsewhere}
+use Rattle.papaya_views.specs.Rule.{MapsWorld, IsSlot, IsIdle, Fits, AreSo, Holds, KeepsFor, caller_at, IsFresh}
+use Rattle.papaya_views.specs.declared.view.View.{View}
+use Rattle.papaya_views.proofs.Leaves.{inside_of}
+
+module _ {K V S : Type 0} (same : K → K → Bool) (hash : S → K → ℕ) (fixed : Fixed) (s : State (Node K V) (View K V S) (MapsWorld K V S)) (h : Holds same hash fixed s) where
+  abbrev pub scene_of : Scene K V
+  scene_of = h.reached.0.0
+
+  pub all_stand : AllStand same hash fixed.batch_size fixed.roots slot_of scene_of
+  all_stand = h.reached.0.1
+
+  pub are_so : AreSo same hash s scene_of
+  are_so = subst (λ (x : Scene K V). AreSo same hash s x) h.scene h.so
+
+  -- the seat has come to this view and this scene, and the others know what they knew
+  pub record Moved (id : ℕ) (m : Mem (Node K V)) (w : View K V S) (n : Scene K V) : Type 0 where
+    pub memory : m ≡ n.world.memory
+    pub own : Fits same hash n id w
+    pub others : (j : ℕ) (x : View K V S) → j ≢ id → Fits same hash scene_of j x → Fits same hash n j x
+    pub unborn : (j a : ℕ) → j ≢ id → IsSlot a → IsIdle scene_of (caller_at j a) → IsIdle n (caller_at j a)
+    pub alone : (j t : ℕ) (a b : Use) (x : View K V S) → j ≢ id → view_of s j ≡ Some x → use_of x.slot ≡ Some (t, a) → use_of w.slot ≡ Some (t, b) → ⊥
+    pub held : (t b : ℕ) → IsInside (scene_of.world.uses t) → holds t b scene_of.world.log ≡ true → is_over b scene_of.world.log ≡ false
+        → (holds t b n.world.log ≡ true) × (is_over b n.world.log ≡ false)
+    pub fresh : (k : ℕ) × IsFresh n k
+    pub ended : (o : ℕ) → how_many (is_end_of_owner o) n.world.log ≡ how_many (is_end_of_owner o) scene_of.world.log
+
+  -- the slot that it had is no other seat's
+  pub same_slot : (id : ℕ) (v w : View K V S) → view_of s id ≡ Some v → w.slot ≡ v.slot
+      → (j t : ℕ) (a b : Use) (x : View K V S) → j ≢ id → view_of s j ≡ Some x → use_of x.slot ≡ Some (t, a) → use_of w.slot ≡ Some (t, b) → ⊥
+  same_slot id v w at_id is j t a b x ne at uses its = ne (are_so.apart j id t a b x v at at_id uses (ap use_of (sym is) ∙ its))
+
+  module _ (id : ℕ) (v : View K V S) (at_id : view_of s id ≡ Some v) (act : Act K V S) (may : MayDo V same hash fixed.batch_size fixed.roots slot_of (Does act) h.reached.0) (n : Scene K V)
+      (comes : (h.course.next h.reached.0 (Does act) may).0 ≡ n) (m : Mem (Node K V)) (w : View K V S) (go : Moved id m w n) where
+    abbrev led_to : Reached V same hash fixed.batch_size fixed.roots slot_of
+    led_to = on_by V same hash fixed.batch_size fixed.roots slot_of h.course h.reached (Does act) may
+
+    led : LedTo V same hash fixed.batch_size fixed.roots slot_of h.course (s.world.doings ++ Does act ∷ []) led_to
+    led =
+        led_further V same hash fixed.batch_size fixed.roots slot_of h.course s.world.doings (Does act ∷ [])
+        (nothing_done V same hash fixed.batch_size fixed.roots slot_of h.course) h.reached led_to h.led (may, refl)
+
+    here : (j : ℕ) → j ≡ id → slice_get (slice_set s.views id w) j ≡ Some w
+    here j e = subst (λ (a : ℕ). slice_get (slice_set s.views id w) a ≡ Some w) (sym e) (there s.views id w v at_id)
+
+    before : (j : ℕ) → j ≢ id → view_of s j ≡ slice_get (slice_set s.views id w) j
+    before j ne = sym (elsewhere s.views id j w ne)
+
+    seats : (j : ℕ) (x : View K V S) → slice_get (slice_set s.views id w) j ≡ Some x → (j ≡ id) ⊎ (j ≢ id) → Fits same hash n j x
+    seats j x at (inl e) =
+        subst (λ (y : View K V S). Fits same hash n j y) (same_some w x (sym (here j e) ∙ at)) (subst (λ (a : ℕ). Fits same hash n a w) (sym e) go.own)
+    seats j x at (inr ne) = go.others j x ne (are_so.seats j x (before j ne ∙ at))
+
+    unborn : (j a : ℕ) → IsSlot a → slice_get (slice_set s.views id w) j ≡ None → (j ≡ id) ⊎ (j ≢ id) → IsIdle n (caller_at j a)
+    unborn j a is at (inl e) = let f = here j e in absurd (cc (f, at))
+    unborn j a is at (inr ne) = go.unborn j a ne is (are_so.unborn j a is (before j ne ∙ at))
+
+    apart : (j k t : ℕ) (a b : Use) (x y : View K V S) → slice_get (slice_set s.views id w) j ≡ Some x → slice_get (slice_set s.views id w) k ≡ Some y
+        → use_of x.slot ≡ Some (t, a) → use_of y.slot ≡ Some (t, b) → (j ≡ id) ⊎ (j ≢ id) → (k ≡ id) ⊎ (k ≢ id) → j ≡ k
+    apart j k t a b x y e f p q (inl one) (inl other) = one ∙ sym other
+    apart j k t a b x y e f p q (inl one) (inr ne) =
+        let own : use_of w.slot ≡ Some (t, a) = ap (λ (z : View K V S). use_of z.slot) (same_some w x (sym (here j one) ∙ e)) ∙ p in
+        absurd (go.alone k t b a y ne (before k ne ∙ f) q own)
+    apart j k t a b x y e f p q (inr ne) (inl other) =
+        let own : use_of w.slot ≡ Some (t, b) = ap (λ (z : View K V S). use_of z.slot) (same_some w y (sym (here k other) ∙ f)) ∙ q in
+        absurd (go.alone j t a b x ne (before j ne ∙ e) p own)
+    apart j k t a b x y e f p q (inr ne) (inr ne2) = are_so.apart j k t a b x y (before j ne ∙ e) (before k ne2 ∙ f) p q
+
+    abbrev after : MapsWorld K V S
+    after = record { doings = s.world.doings ++ Does act ∷ []; scene = n }
+
+    kept : (j b : ℕ) (x o : View K V S) → view_of s j ≡ Some x → KeepsFor x o s.world b → KeepsFor x o after b
+    kept j b x o at keeps =
+        let k = subst (λ (y : Scene K V). KeepsFor x o (record { doings = s.world.doings; scene = y }) b) h.scene keeps in
+        let is = inside_of same hash scene_of j k.0 x k.1 (are_so.seats j x at) k.2 in
+        let g = go.held k.0 b is k.3 k.4 in (k.0, k.1, k.2, g.0, g.1)
+
+    pub moved : (so : View K V S → Type 0) → so w → Goes (Holds same hash fixed) KeepsFor s m id so
+    moved so is = (
+      w,
+      after,
+      record {
+        course = h.course;
+        reached = led_to;
+        led = led;
+        scene = sym comes;
+        nobody = (h.course.leads h.reached.0 (Does act) may).1;
+        so = record {
+          memory = go.memory;
+          seats = λ j x at. seats j x at (cases_eq j id);
+          unborn = λ j a slot at. unborn j a slot at (cases_eq j id);
+          apart = λ j k t a b x y e f p q. apart j k t a b x y e f p q (cases_eq j id) (cases_eq k id);
+          fresh = go.fresh;
+          unended = λ o. go.ended o ∙ are_so.unended o;
+        };
+      },
+      λ j k b u o ne ne2 at at2 keeps. kept j b u o at keeps,
+      is,
+    )

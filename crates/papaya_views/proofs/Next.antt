@@ -1,0 +1,114 @@
+-- Where a step of a call has led, its own seat knows what is so.
+use Rattle.std.specs.Prelude.{◌≢◌, Option, Some, None}
+use Rattle.std.proofs.Common.{◌≡◌, ℕ, Bool, ◌⊎◌, inl, inr, refl, sym, subst, ap, ◌∙◌}
+use Rattle.std.proofs.lemmas.Bool.{cases_eq}
+use Rattle.papaya_scenes.specs.Given.SeizeWords.Mem.{Mem}
+use Rattle.papaya_scenes.specs.Given.Seize.World.{IsInside}
+use Rattle.papaya_scenes.specs.Given.Tables.declared.node.Node.{Node}
+use Rattle.papaya_scenes.specs.Given.Raw.declared.machines.machine.Machine.{Machine}
+use Rattle.papaya_scenes.specs.Given.Raw.declared.machines.progress.Progress.{Progress}
+use Rattle.papaya_scenes.specs.Given.Raw.declared.machines.progress.Progress.TheVariants as progress
+use Rattle.papaya_scenes.specs.Given.Callers.Rows.{IsRowOn}
+use Rattle.papaya_scenes.specs.Given.Callers.Together.{UnderWay}
+use Rattle.papaya_scenes.specs.Given.Finishes.Endings.{Finishing}
+use Rattle.papaya_scenes.specs.Given.Finishes.Machines.{machine_of, MachineStepsAmong, GoesOnAs}
+use Rattle.papaya_scenes.specs.Given.Finishes.Makings.{Beginning}
+use Rattle.papaya_scenes.specs.Given.Finishes.Maps.{Standing, IsSameMap, with_call}
+use Rattle.papaya_scenes.specs.Scene.{Scene, slot_of}
+use Rattle.papaya_acts.specs.Leads.{AllStand}
+use Rattle.seize_acts.proofs.Answers.{same_some}
+use Rattle.seize_views.specs.declared.view.Has.TheVariants.{Nothing as NoBlock}
+use Rattle.seize_views.specs.declared.view.View.TheVariants as slot_view
+use Rattle.papaya_views.specs.Rule.{HasRow, IsSlot, DoesSo, caller_at, IsFresh}
+use Rattle.papaya_views.specs.Told.{call_after}
+use Rattle.papaya_views.specs.declared.view.Map.{Map}
+use Rattle.papaya_views.specs.declared.view.Work.TheVariants.{Calls}
+use Rattle.papaya_views.proofs.Numbers.{slot_at}
+use Rattle.papaya_views.proofs.Sections.{calls_leave_sections, calls_end_none}
+use Rattle.papaya_views.proofs.Leaves.{Leaves, section_on, inside_alike, call_here, call_other, call_elsewhere}
+
+module _ {K V S : Type 0} (same : K → K → Bool) (hash : S → K → ℕ) (batch_size roots : ℕ) (s : Scene K V) (all : AllStand same hash batch_size roots slot_of s) (id t m : ℕ)
+    (its_slot : IsSlot t) (it : Standing K) (stands : s.maps m ≡ Some it) (u : UnderWay K V K) (here : s.calls m (caller_at id t) ≡ Some u) where
+  abbrev i : ℕ
+  i = caller_at id t
+
+  -- whoever has a call makes no map and ends none, and has no other call
+
+  none_made : (o : Option (Beginning K)) → s.makers i ≡ o → s.makers i ≡ None
+  none_made None e = e
+  none_made (Some b) e = let a = all.makings.alone i b e m in absurd (cc (a, here))
+
+  none_ended : (o : Option (Finishing K V)) → s.enders i ≡ o → s.enders i ≡ None
+  none_ended None e = e
+  none_ended (Some f) e = let a = (all.alone i f e).0 m in absurd (cc (a, here))
+
+  only : (n : ℕ) → n ≢ m → (o : Option (UnderWay K V K)) → s.calls n i ≡ o → s.calls n i ≡ None
+  only n ne None e = e
+  only n ne (Some x) e = absurd (ne (all.makings.standing.once n m i (λ none. cc (none, e)) (λ none. cc (none, here))))
+
+  module _ (inside : IsInside (s.world.uses t)) (on_row : IsRowOn t (s.world.row i)) (m2 : Mem (Node K V)) (machine : Machine K V K) (told : Progress (Node K V))
+      (did : MachineStepsAmong V same same batch_size roots slot_of s.world s.maps s.calls s.makers s.enders m it (caller_at id t) m2 u machine told) where
+    abbrev pub after : Scene K V
+    after = record { world = did.w2; maps = did.maps2; calls = with_call s.calls m i did.next; makers = s.makers; enders = s.enders }
+
+    pub step_leaves : Leaves same hash s after i
+    step_leaves = record {
+      rows = did.rows;
+      calls = λ n k ne. call_other s.calls m i did.next n k ne;
+      makers = λ k ne. refl;
+      enders = λ k. refl;
+      uses = did.slots.uses;
+      maps = λ n r is. maps n r is (cases_eq n m);
+      held = λ a b is held over. (calls_leave_sections same hash batch_size roots slot_of s all m it stands i u here m2 machine told did a is).1 b held over;
+      ended = calls_end_none same hash batch_size roots slot_of s all m it stands i u here m2 machine told did;
+    }
+      where
+        maps : (n : ℕ) (r : Standing K) → s.maps n ≡ Some r → (n ≡ m) ⊎ (n ≢ m) → (r2 : Standing K) × (did.maps2 n ≡ Some r2) × (r2.setting ≡ r.setting) × (r2.hash ≡ r.hash)
+        maps n r is (inl e) =
+            let g = did.its_map in
+            let one = same_some r it (sym is ∙ ap s.maps e ∙ stands) in
+            (record it { chart = g.0; blocks = g.1; sights = g.2 }, ap did.maps2 e ∙ g.4, ap (λ (x : Standing K). x.setting) (sym one), ap (λ (x : Standing K). x.hash) (sym one))
+        maps n r is (inr ne) =
+            let g = subst (λ (o : Option (Standing K)). IsSameMap o (did.maps2 n)) is (did.others n ne) in (record r { blocks = g.0; sights = g.1 }, g.2, refl, refl)
+
+    -- no further map has come
+    pub step_fresh : (k : ℕ) → IsFresh s k → IsFresh after k
+    step_fresh k f = (λ n above. none n (f.0 n above) (cases_eq n m), f.1)
+      where
+        none : (n : ℕ) → s.maps n ≡ None → (n ≡ m) ⊎ (n ≢ m) → did.maps2 n ≡ None
+        none n is (inl e) = let no = sym (ap s.maps e) ∙ is in absurd (cc (no, stands))
+        none n is (inr ne) = subst (λ (o : Option (Standing K)). IsSameMap o (did.maps2 n)) is (did.others n ne)
+
+    -- once the call has ended its caller has nothing under way
+    ended : did.next ≡ None → HasRow after i (slot_view.Inside t NoBlock)
+    ended none = record {
+      row = did.rests none;
+      slot = inside_alike (did.w2.uses t) (section_on same hash s after id t its_slot step_leaves t inside);
+      calls = λ n. calls_none n (cases_eq n m);
+      makers = none_made (s.makers i) refl;
+      enders = none_ended (s.enders i) refl;
+    }
+      where
+        calls_none : (n : ℕ) → (n ≡ m) ⊎ (n ≢ m) → with_call s.calls m i did.next n i ≡ None
+        calls_none n (inl e) = ap (λ (a : ℕ). with_call s.calls m i did.next a i) e ∙ call_here s.calls m i did.next ∙ none
+        calls_none n (inr ne) = call_elsewhere s.calls m i did.next n ne ∙ only n ne (s.calls n i) refl
+
+    at_slot : slot_of i ≡ t
+    at_slot = slot_at id t its_slot
+
+    -- or it goes on
+    goes_as : (map : Map S) → map.number ≡ m → (x : UnderWay K V K) → did.next ≡ Some x → machine_of x ≡ machine
+        → DoesSo same hash after i (slot_view.Inside t NoBlock) (Some map) (Calls machine)
+    goes_as map number x is one = (
+      t,
+      refl,
+      section_on same hash s after id t its_slot step_leaves t inside,
+      record { call = x; here = ap (λ (a : ℕ). with_call s.calls m i did.next a i) number ∙ call_here s.calls m i did.next ∙ is; is = one },
+      subst (λ (a : ℕ). IsRowOn a (did.w2.row i)) at_slot (did.slots.on_slot (subst (λ (a : ℕ). IsRowOn a (s.world.row i)) (sym at_slot) on_row)),
+    )
+
+    pub own_does : (map : Map S) → map.number ≡ m → (end : Progress (Node K V)) → GoesOnAs machine end did.next
+        → DoesSo same hash after i (slot_view.Inside t NoBlock) (Some map) (call_after machine end)
+    own_does map number (progress.Done answer) on = ended on
+    own_does map number (progress.Refused fault) on = ended on
+    own_does map number _ on = goes_as map number on.0 on.1 on.2

@@ -1,0 +1,86 @@
+-- The rule starts, and seats come.
+use Rattle.std.specs.Prelude.{Some, None}
+use Rattle.std.proofs.Common.{◌≡◌, ℕ, Bool, [], ◌⊎◌, inl, inr, refl, subst, ap}
+use Rattle.papaya_scenes.specs.Given.Seize.World.{Use}
+use Rattle.papaya_scenes.specs.Given.Tables.declared.node.Node.{Node}
+use Rattle.papaya_scenes.specs.Scene.{Scene, slot_of, at_first}
+use Rattle.papaya_acts.specs.Lists.{nothing_done}
+use Rattle.papaya_acts.proofs.Lists.{lists_determine}
+use Rattle.seize_seats.specs.State.{State, view_of}
+use Rattle.seize_views.specs.Rows.{use_of}
+use Rattle.seize_views.proofs.Lists.{with_last, none_before}
+use Rattle.papaya_views.specs.Promises.{RulesStart, SeatsCome}
+use Rattle.papaya_views.specs.Rule.{MapsWorld, Fits, IsIdle, IsSlot, caller_at, at_rest}
+use Rattle.papaya_views.specs.declared.view.View.{View}
+use Rattle.papaya_views.proofs.Numbers.{first_slot}
+
+module _ {K S : Type 0} (V : Type 0) (same : K → K → Bool) (hash : S → K → ℕ) where
+  pub rules_start : RulesStart V same hash
+  rules_start lawful fixed =
+      let course = (lists_determine {V = V} same hash fixed.batch_size fixed.roots slot_of lawful).0 in (
+        record { doings = []; scene = at_first fixed.roots },
+        record {
+          course = course;
+          reached = nothing_done V same hash fixed.batch_size fixed.roots slot_of course;
+          led = refl;
+          scene = refl;
+          nobody = refl;
+          so = record {
+            memory = refl;
+            seats = λ j v e. absurd (cc e);
+            unborn = λ j t is e. record { calls = λ m. refl; makers = refl; enders = refl; row = refl };
+            apart = λ j k t a b v u e f p q. absurd (cc e);
+            fresh = (0, ((λ m above. refl), (λ i b is. absurd (cc is))));
+            unended = λ o. refl;
+          };
+        },
+      )
+
+  -- a seat had this view, or has come with it
+  abbrev Came : State (Node K V) (View K V S) (MapsWorld K V S) → ℕ → View K V S → Type 0
+  Came s j x = (view_of s j ≡ Some x) ⊎ ((view_of s j ≡ None) × (at_rest ≡ x))
+
+  -- a seat that has come knows nothing, and has nothing under way
+  newcomer : (scene : Scene K V) (j : ℕ) → ((t : ℕ) → IsSlot t → IsIdle scene (caller_at j t)) → Fits same hash scene j at_rest
+  newcomer scene j idle =
+      let first = idle 0 first_slot in
+      record {
+        slot = first_slot;
+        does = record { row = first.row; slot = tt; calls = first.calls; makers = first.makers; enders = first.enders };
+        map = tt;
+        held = tt;
+        idle = λ t is ne. idle t is;
+      }
+
+  pub seats_come : SeatsCome V same hash
+  seats_come fixed s h = (
+    s.world,
+    record {
+      course = h.course;
+      reached = h.reached;
+      led = h.led;
+      scene = h.scene;
+      nobody = h.nobody;
+      so = record {
+        memory = h.so.memory;
+        seats = λ j x e. fit j x (with_last s.views j at_rest x e);
+        unborn = λ j t is e. h.so.unborn j t is (none_before s.views j at_rest e);
+        apart = λ j k t a b x y e f p q. two j k t a b x y p q (with_last s.views j at_rest x e) (with_last s.views k at_rest y f);
+        fresh = h.so.fresh;
+        unended = h.so.unended;
+      };
+    },
+    λ b u o keeps. keeps,
+  )
+    where
+      fit : (j : ℕ) (x : View K V S) → Came s j x → Fits same hash s.world.scene j x
+      fit j x (inl e) = h.so.seats j x e
+      fit j x (inr e) = subst (λ (y : View K V S). Fits same hash s.world.scene j y) e.1 (newcomer s.world.scene j (λ t is. h.so.unborn j t is e.0))
+
+      no_slot : (x : View K V S) (t : ℕ) (a : Use) → at_rest ≡ x → use_of x.slot ≡ Some (t, a) → ⊥
+      no_slot x t a e p = let f = ap (λ (y : View K V S). use_of y.slot) e in cc (f, p)
+
+      two : (j k t : ℕ) (a b : Use) (x y : View K V S) → use_of x.slot ≡ Some (t, a) → use_of y.slot ≡ Some (t, b) → Came s j x → Came s k y → j ≡ k
+      two j k t a b x y p q (inl e) (inl f) = h.so.apart j k t a b x y e f p q
+      two j k t a b x y p q (inl e) (inr f) = absurd (no_slot y t b f.1 q)
+      two j k t a b x y p q (inr e) f = absurd (no_slot x t a e.1 p)

@@ -1,0 +1,35 @@
+-- What a seat knows once a call has begun, or was told something, or a map was handed on to it.
+use Rattle.std.specs.Prelude.{ℕ, Bool, [], Some}
+use Rattle.papaya_scenes.specs.Given.Resize.declared.new_map.NewMap.{NewMap}
+use Rattle.papaya_scenes.specs.Given.Raw.Machine.{machine_replied}
+use Rattle.papaya_scenes.specs.Given.Raw.declared.machines.asking.Reply.{Reply}
+use Rattle.papaya_scenes.specs.Given.Raw.declared.machines.machine.Machine.{Machine}
+use Rattle.papaya_scenes.specs.Given.Finishes.Machines.{machine_of}
+use Rattle.papaya_scenes.specs.Given.Finishes.Maps.{new_map}
+use Rattle.papaya_acts.specs.Acts.{Wanted, begun}
+use Rattle.papaya_views.specs.declared.view.Map.{Map}
+use Rattle.papaya_views.specs.declared.view.View.{View}
+use Rattle.papaya_views.specs.declared.view.Work.TheVariants.{Calls, Makes}
+
+module _ {K V S : Type 0} (same : K → K → Bool) (hash : S → K → ℕ) where
+  -- the machine of a call that begins to do this on a map, in this slot
+  abbrev pub machine_for : Map S → ℕ → Wanted K V → Machine K V K
+  machine_for map t wanted = machine_of (begun same (λ a. a) (new_map map.setting (hash map.hasher)) t wanted)
+
+module _ {K V S : Type 0} where
+  -- with this call under way
+  abbrev pub calling : View K V S → Machine K V K → View K V S
+  calling v machine = record { slot = v.slot; map = v.map; work = Calls machine; looks = []; held = [] }
+
+  -- its call was told this
+  abbrev pub replied : View K V S → Machine K V K → Reply V → View K V S
+  replied v machine reply = calling v (machine_replied machine reply).0
+
+  -- it knows this map
+  abbrev pub shown_map : View K V S → Map S → View K V S
+  shown_map v map = record { slot = v.slot; map = Some map; work = v.work; looks = v.looks; held = v.held }
+
+module _ {K V S : Type 0} where
+  -- with the making of this map under way
+  abbrev pub making : View K V S → ℕ → S → NewMap → View K V S
+  making v m hasher opening = record { slot = v.slot; map = v.map; work = Makes m hasher opening; looks = []; held = [] }

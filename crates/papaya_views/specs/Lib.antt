@@ -1,0 +1,5 @@
+pub mod Looks
+pub mod Rule
+pub mod Told
+pub mod Begun
+pub mod Promises

@@ -1,0 +1,90 @@
+-- What is promised of the rule of maps.
+use Rattle.std.specs.Prelude.{◌≡◌, ℕ, Bool, true, Some, ◌+◌, ◌<◌, ◌≤◌, ◌^◌, max}
+use Rattle.papaya_scenes.specs.Given.SeizeWords.Op.{Op}
+use Rattle.papaya_scenes.specs.Given.SeizeWords.Plan.{Then, Turn}
+use Rattle.std.specs.Int.{IsPowerOfTwo}
+use Rattle.papaya_scenes.specs.Given.Tables.Chunks.{is_incremental}
+use Rattle.papaya_scenes.specs.Given.Tables.Lengths.{IsTableLen}
+use Rattle.papaya_scenes.specs.Given.Tables.declared.node.Node.{Node}
+use Rattle.papaya_scenes.specs.Given.Tables.declared.setting.Setting.{Setting}
+use Rattle.papaya_scenes.specs.Given.Resize.NewMap.{new_map_plan, opening}
+use Rattle.papaya_scenes.specs.Given.Resize.declared.new_map.NewMap.{NewMap}
+use Rattle.papaya_scenes.specs.Given.Raw.Machine.{machine_plan}
+use Rattle.papaya_scenes.specs.Given.Raw.declared.machines.asking.Reply.{Reply}
+use Rattle.papaya_scenes.specs.Given.Raw.declared.machines.machine.Machine.{Machine}
+use Rattle.papaya_scenes.specs.Given.Raw.declared.machines.progress.Progress.{Progress}
+use Rattle.papaya_scenes.specs.Given.Points.Steps.{AreLawful}
+use Rattle.papaya_acts.specs.Acts.{Wanted}
+use Rattle.seize_seats.specs.Lendings.{Shown, IsValueOf}
+use Rattle.seize_seats.specs.State.{Starts, Comes, Allows, Turns, Meets}
+use Rattle.seize_views.specs.Promises.{op_in}
+use Rattle.seize_views.specs.declared.view.Fixed.{Fixed}
+use Rattle.seize_views.specs.declared.view.Has.TheVariants.{Nothing as NoBlock}
+use Rattle.seize_views.specs.declared.view.View.TheVariants.{Rests, Inside}
+use Rattle.papaya_views.specs.Begun.{machine_for, calling, replied, shown_map, making}
+use Rattle.papaya_views.specs.Looks.{shown_in}
+use Rattle.papaya_views.specs.Rule.{Holds, KeepsFor, at_rest}
+use Rattle.papaya_views.specs.Told.{told, turned}
+use Rattle.papaya_views.specs.declared.view.Map.{Map}
+use Rattle.papaya_views.specs.declared.view.View.{View}
+use Rattle.papaya_views.specs.declared.view.Work.TheVariants.{Nothing, Calls, Makes}
+
+module _ {K S : Type 0} (V : Type 0) (same : K → K → Bool) (hash : S → K → ℕ) where
+  -- The promise: the rule may start, whatever is chosen, where each hasher is lawful.
+  abbrev pub RulesStart : Type 0
+  RulesStart = ((hasher : S) → AreLawful same (hash hasher)) → (fixed : Fixed) → Starts (Holds {V = V} same hash fixed) fixed.roots
+
+  -- and seats may come
+  abbrev pub SeatsCome : Type 0
+  SeatsCome = (fixed : Fixed) → Comes (Holds {V = V} same hash fixed) KeepsFor at_rest
+
+  -- the next operation of a call that is under way may be made at any moment
+  abbrev pub CallsGoOn : Type 0
+  CallsGoOn =
+      (fixed : Fixed) (id : ℕ) (v : View K V S) (map : Map S) (machine : Machine K V K) (op : Op (Node K V))
+      → v.map ≡ Some map → v.work ≡ Calls machine → op_in (machine_plan same same (hash map.hasher) machine) ≡ Some op
+      → Allows (Holds same hash fixed) KeepsFor id v op (told same hash v op)
+
+  -- and so may a step of it that makes none
+  abbrev pub CallsTurn : Type 0
+  CallsTurn =
+      (fixed : Fixed) (id : ℕ) (v : View K V S) (map : Map S) (machine : Machine K V K) (rest : Then (Node K V) (Machine K V K × Progress (Node K V)))
+      → v.map ≡ Some map → v.work ≡ Calls machine → machine_plan same same (hash map.hasher) machine ≡ Turn rest
+      → Turns (Holds same hash fixed) KeepsFor id v (turned same hash v)
+
+  -- what the section of a seat is known to hold is there, with its value
+  abbrev pub HeldAreShown : Type 0
+  HeldAreShown =
+      (fixed : Fixed) (id b : ℕ) (v : View K V S) (x : Node K V) → shown_in v.held b ≡ Some x
+      → Shown (Holds same hash fixed) id v b × ((y : Node K V) → IsValueOf (Holds same hash fixed) id v b y → y ≡ x)
+
+  -- Within its section a seat that knows a map in incremental mode, and has nothing under way, may begin to do anything with it.
+  abbrev pub CallsBegin : Type 0
+  CallsBegin =
+      (fixed : Fixed) (id t : ℕ) (v : View K V S) (map : Map S) (wanted : Wanted K V) → v.slot ≡ Inside t NoBlock → v.map ≡ Some map → v.work ≡ Nothing
+      → is_incremental map.setting.mode ≡ true → Turns (Holds same hash fixed) KeepsFor id v (λ w. w ≡ calling v (machine_for same hash map t wanted))
+
+  -- what it has under way may be told anything
+  abbrev pub CallsAreTold : Type 0
+  CallsAreTold =
+      (fixed : Fixed) (id : ℕ) (v : View K V S) (map : Map S) (machine : Machine K V K) (reply : Reply V) → v.map ≡ Some map → v.work ≡ Calls machine
+      → Turns (Holds same hash fixed) KeepsFor id v (λ w. w ≡ replied v machine reply)
+
+  -- and a map that one seat knows may be handed on to another one that has nothing under way
+  abbrev pub MapsAreHandedOn : Type 0
+  MapsAreHandedOn =
+      (fixed : Fixed) (i j : ℕ) (v u : View K V S) (map : Map S) → v.map ≡ Some map → u.work ≡ Nothing
+      → Meets (Holds same hash fixed) i v j u (λ p q. (p ≡ v) × (q ≡ shown_map u map))
+
+  -- A seat that holds no slot, and has nothing under way, may begin to make a map, with lengths that tables may have,
+  abbrev pub MakingsBegin : Type 0
+  MakingsBegin =
+      (fixed : Fixed) (id : ℕ) (v : View K V S) (hasher : S) (given : Setting) (places : ℕ) → v.slot ≡ Rests → v.work ≡ Nothing
+      → given.batch_size ≡ fixed.batch_size → given.mask + 1 < 2 ^ 64 → 0 < fixed.roots → IsPowerOfTwo given.initial → (max places 8 ≤ 2 ^ 48 → IsTableLen (max places 8))
+      → Turns (Holds same hash fixed) KeepsFor id v (λ w. (m : ℕ) × (w ≡ making v m hasher (opening given fixed.roots places)))
+
+  -- and the next operation of a making may be made at any moment
+  abbrev pub MakingsGoOn : Type 0
+  MakingsGoOn =
+      (fixed : Fixed) (id m : ℕ) (v : View K V S) (hasher : S) (machine : NewMap) (op : Op (Node K V))
+      → v.work ≡ Makes m hasher machine → op_in (new_map_plan machine) ≡ Some op → Allows (Holds same hash fixed) KeepsFor id v op (told same hash v op)

@@ -1,0 +1,145 @@
+-- The rule of maps: a list of acts has led to a scene, of which the memory is that of the state; and what each seat knows of its slot, of a map and of what it has
+-- under way is so there, and its section holds the blocks that it knows to be held.
+use Rattle.std.specs.Prelude.{◌≡◌, ◌≢◌, ℕ, ◌+◌, ◌*◌, ◌<◌, Bool, List, [], Option, Some, None, true, false, ◌∷◌, ◌≤◌}
+use Rattle.papaya_scenes.specs.Given.SeizeWords.Mem.{value_at}
+use Rattle.papaya_scenes.specs.Given.Seize.Law.{holds, is_over}
+use Rattle.papaya_scenes.specs.Given.Seize.World.{World, Use, Rests, IsInside}
+use Rattle.papaya_scenes.specs.Given.Tables.declared.node.Node.{Node}
+use Rattle.papaya_scenes.specs.Given.Resize.declared.new_map.NewMap.{NewMap}
+use Rattle.papaya_scenes.specs.Given.Raw.declared.machines.machine.Machine.{Machine}
+use Rattle.papaya_scenes.specs.Given.Callers.Rows.{IsUsedAlike, IsRowOn}
+use Rattle.papaya_scenes.specs.Given.Callers.Together.{UnderWay}
+use Rattle.papaya_scenes.specs.Given.Finishes.Machines.{machine_of}
+use Rattle.papaya_scenes.specs.Given.Finishes.Makings.{Beginning}
+use Rattle.papaya_scenes.specs.Given.Finishes.Maps.{Standing}
+use Rattle.papaya_scenes.specs.Scene.{Scene, slot_of}
+use Rattle.papaya_scenes.specs.declared.callers.TheConstants.{SLOTS}
+use Rattle.papaya_acts.specs.Doings.{Doing, reclaiming}
+use Rattle.papaya_acts.specs.Lists.{Course, Reached, LedTo}
+use Rattle.seize_acts.specs.Stays.{how_many, is_end_of_owner}
+use Rattle.seize_seats.specs.State.{State, view_of}
+use Rattle.seize_views.specs.Rows.{row_of, use_of, Keeps}
+use Rattle.seize_views.specs.declared.view.Fixed.{Fixed}
+use Rattle.seize_views.specs.declared.view.Has.TheVariants.{Nothing as NoBlock}
+use Rattle.seize_views.specs.declared.view.View.{View as SlotView}
+use Rattle.seize_views.specs.declared.view.View.TheVariants as slot_view
+use Rattle.papaya_views.specs.declared.view.Map.{Map}
+use Rattle.papaya_views.specs.declared.view.View.{View}
+use Rattle.papaya_views.specs.declared.view.Work.{Work}
+use Rattle.papaya_views.specs.declared.view.Work.TheVariants.{Nothing, Calls, Makes}
+
+-- A seat is another caller in each slot.
+abbrev pub caller_at : ℕ → ℕ → ℕ
+caller_at seat slot = seat * SLOTS + slot
+
+abbrev pub IsSlot : ℕ → Type 0
+IsSlot t = t < SLOTS
+
+-- the slot that is held; a seat that holds none acts in the first one
+abbrev pub held_slot : Option (ℕ × Use) → ℕ
+held_slot None = 0
+held_slot (Some slot) = slot.0
+
+abbrev pub place_of : {T : Type 0} → SlotView T → ℕ
+place_of v = held_slot (use_of v)
+
+-- a seat that holds no slot and knows no map
+abbrev pub at_rest : {K V S : Type 0} → View K V S
+at_rest = record { slot = slot_view.Rests; map = None; work = Nothing; looks = []; held = [] }
+
+-- what has been done, and the scene to which it has led
+pub record MapsWorld (K V S : Type 0) : Type 0 where
+  pub doings : List (Doing K V S)
+  pub scene : Scene K V
+
+-- the slot is used so, if one is held, however many rows work on it
+abbrev pub IsUsedSo : {T : Type 0} → World T → Option (ℕ × Use) → Type 0
+IsUsedSo w None = Unit {0}
+IsUsedSo w (Some slot) = IsUsedAlike slot.1 (w.uses slot.0)
+
+module _ {K V : Type 0} where
+  -- a caller has nothing under way
+  pub record IsIdle (s : Scene K V) (i : ℕ) : Type 0 where
+    pub calls : (m : ℕ) → s.calls m i ≡ None
+    pub makers : s.makers i ≡ None
+    pub enders : s.enders i ≡ None
+    pub row : s.world.row i ≡ Rests
+
+  -- it has nothing under way but this call
+  pub record HasCall (s : Scene K V) (i m : ℕ) (machine : Machine K V K) : Type 0 where
+    pub call : UnderWay K V K
+    pub here : s.calls m i ≡ Some call
+    pub is : machine_of call ≡ machine
+
+  -- nothing but this making
+  pub record HasMaking (s : Scene K V) (i m : ℕ) (hash : K → ℕ) (opening : NewMap) : Type 0 where
+    pub making : Beginning K
+    pub here : s.makers i ≡ Some making
+    pub map : making.map ≡ m
+    pub hashes : making.hash ≡ hash
+    pub is : making.machine ≡ opening
+    pub calls : (n : ℕ) → s.calls n i ≡ None
+
+  -- nothing but this row, and its slot is used so
+  pub record HasRow (s : Scene K V) (i : ℕ) (v : SlotView (Node K V)) : Type 0 where
+    pub row : s.world.row i ≡ row_of v
+    pub slot : IsUsedSo s.world (use_of v)
+    pub calls : (n : ℕ) → s.calls n i ≡ None
+    pub makers : s.makers i ≡ None
+    pub enders : s.enders i ≡ None
+
+  -- no map has this number or a later one, nor one that is being made
+  abbrev pub IsFresh : Scene K V → ℕ → Type 0
+  IsFresh s k = ((m : ℕ) → k ≤ m → s.maps m ≡ None) × ((i : ℕ) (b : Beginning K) → s.makers i ≡ Some b → b.map < k)
+
+module _ {K V S : Type 0} (same : K → K → Bool) (hash : S → K → ℕ) where
+  -- what it has under way, as this caller
+  abbrev pub DoesSo : Scene K V → ℕ → SlotView (Node K V) → Option (Map S) → Work K V S → Type 0
+  DoesSo s i slot map Nothing = HasRow s i slot
+  DoesSo s i slot None (Calls machine) = ⊥
+  DoesSo s i slot (Some map) (Calls machine) = (t : ℕ) × (slot ≡ slot_view.Inside t NoBlock) × IsInside (s.world.uses t) × HasCall s i map.number machine × IsRowOn t (s.world.row i)
+  DoesSo s i slot map (Makes m hasher opening) = (slot ≡ slot_view.Rests) × HasMaking s i m (hash hasher) opening × (s.world.row i ≡ Rests)
+
+  -- the map that it knows stands, as it knows it
+  abbrev pub KnowsMap : Scene K V → Option (Map S) → Type 0
+  KnowsMap s None = Unit {0}
+  KnowsMap s (Some map) = (it : Standing K) × (s.maps map.number ≡ Some it) × (it.setting ≡ map.setting) × (it.hash ≡ hash map.hasher)
+
+  -- the section of the slot holds the block, which is not over, and has this value
+  abbrev pub IsHeld : Scene K V → SlotView (Node K V) → ℕ × Node K V → Type 0
+  IsHeld s slot look =
+      (t : ℕ) × (slot ≡ slot_view.Inside t NoBlock) × (holds t look.0 s.world.log ≡ true) × (is_over look.0 s.world.log ≡ false)
+      × (value_at s.world.memory look.0 ≡ Some look.1)
+
+  abbrev pub AllHeld : Scene K V → SlotView (Node K V) → List (ℕ × Node K V) → Type 0
+  AllHeld s slot [] = Unit {0}
+  AllHeld s slot (look ∷ looks) = IsHeld s slot look × AllHeld s slot looks
+
+  -- what a seat knows is so; in other slots it has nothing under way
+  pub record Fits (s : Scene K V) (j : ℕ) (v : View K V S) : Type 0 where
+    pub slot : IsSlot (place_of v.slot)
+    pub does : DoesSo s (caller_at j (place_of v.slot)) v.slot v.map v.work
+    pub map : KnowsMap s v.map
+    pub held : AllHeld s v.slot v.held
+    pub idle : (t : ℕ) → IsSlot t → t ≢ place_of v.slot → IsIdle s (caller_at j t)
+
+  -- the scene is as the seats know it, and its memory is this one
+  pub record AreSo (s : State (Node K V) (View K V S) (MapsWorld K V S)) (scene : Scene K V) : Type 0 where
+    pub memory : s.memory ≡ scene.world.memory
+    pub seats : (j : ℕ) (v : View K V S) → view_of s j ≡ Some v → Fits scene j v
+    pub unborn : (j t : ℕ) → IsSlot t → view_of s j ≡ None → IsIdle scene (caller_at j t)
+    pub apart : (j k t : ℕ) (a b : Use) (v u : View K V S) → view_of s j ≡ Some v → view_of s k ≡ Some u → use_of v.slot ≡ Some (t, a) → use_of u.slot ≡ Some (t, b) → j ≡ k
+    pub fresh : (k : ℕ) × IsFresh scene k
+    pub unended : (o : ℕ) → how_many (is_end_of_owner o) scene.world.log ≡ 0
+
+  pub record Holds (fixed : Fixed) (s : State (Node K V) (View K V S) (MapsWorld K V S)) : Type 0 where
+    pub course : Course V same hash fixed.batch_size fixed.roots slot_of
+    pub reached : Reached V same hash fixed.batch_size fixed.roots slot_of
+    pub led : LedTo V same hash fixed.batch_size fixed.roots slot_of course s.world.doings reached
+    pub scene : s.world.scene ≡ reached.0.0
+    pub nobody : reclaiming V same hash fixed.batch_size fixed.roots slot_of reached.0 ≡ None
+    pub so : AreSo s s.world.scene
+
+-- the section of the one's slot holds the block, which is not over
+abbrev pub KeepsFor : {K V S : Type 0} → View K V S → View K V S → MapsWorld K V S → ℕ → Type 0
+KeepsFor u o w b = Keeps u.slot o.slot w.scene.world b

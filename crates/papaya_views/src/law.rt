@@ -1,0 +1,28 @@
+//! What is promised of the rule of maps.
+ghost use Rattle.std.specs.Prelude.{ℕ, Bool};
+ghost use Rattle.papaya_views.specs.Promises.{RulesStart, SeatsCome, CallsGoOn, CallsTurn, HeldAreShown, CallsBegin, CallsAreTold, MapsAreHandedOn, MakingsBegin, MakingsGoOn};
+
+/// Keys may be compared, and hashed by a hasher, in any way. The rule may start where each hasher is lawful, and seats may come; and the next step of a call that a
+/// seat has under way, with an operation or without, may be taken at any moment, whatever the other seats do. What it has
+/// looked at by a lookup in incremental mode is there until its next step, with the value that it had.
+pub fn calls_go_on<K, V, S>()
+    ensures starts { (same : K → K → Bool) (hash : S → K → ℕ) → RulesStart V same hash }
+    ensures come { (same : K → K → Bool) (hash : S → K → ℕ) → SeatsCome V same hash }
+    ensures on { (same : K → K → Bool) (hash : S → K → ℕ) → CallsGoOn V same hash }
+    ensures turn { (same : K → K → Bool) (hash : S → K → ℕ) → CallsTurn V same hash }
+    ensures held { (same : K → K → Bool) (hash : S → K → ℕ) → HeldAreShown V same hash }
+{}
+
+/// Within its section a seat that knows a map in incremental mode, and has nothing under way, may begin any call on it; what it has under way may be told anything; and a
+/// map that one seat knows may be handed on to another one that has nothing under way.
+pub fn calls_begin<K, V, S>()
+    ensures begin { (same : K → K → Bool) (hash : S → K → ℕ) → CallsBegin V same hash }
+    ensures told { (same : K → K → Bool) (hash : S → K → ℕ) → CallsAreTold V same hash }
+    ensures handed { (same : K → K → Bool) (hash : S → K → ℕ) → MapsAreHandedOn V same hash }
+{}
+
+/// A seat that holds no slot, and has nothing under way, may begin to make a map; and the next operation of a making may be made at any moment, whatever the other seats do.
+pub fn makings_go_on<K, V, S>()
+    ensures begin { (same : K → K → Bool) (hash : S → K → ℕ) → MakingsBegin V same hash }
+    ensures on { (same : K → K → Bool) (hash : S → K → ℕ) → MakingsGoOn V same hash }
+{}

@@ -1,0 +1,39 @@
+//! What those know that share the memory of maps.
+use papaya_raw::machines::Machine;
+use papaya_resize::NewMap;
+use papaya_tables::{Node, Setting};
+use std::collections::LinkedList;
+
+/// What a seat knows.
+pub struct View<K, V, S> {
+    /// Which slot it holds, and which row it has under way there, while it has nothing else under way.
+    pub slot: seize_views::View<Node<K, V>>,
+    /// The map that it knows, if it knows one.
+    pub map: Option<Map<S>>,
+    /// What it has under way.
+    pub work: Work<K, V, S>,
+    /// The blocks that its last step looks at after its operation, with their values.
+    pub looks: LinkedList<(u64, Node<K, V>)>,
+    /// Of these, those that its section is known to hold.
+    pub held: LinkedList<(u64, Node<K, V>)>,
+}
+
+/// A map that stands.
+pub struct Map<S> {
+    /// Its number.
+    pub number: u64,
+    /// What each call of it works with, but for the slot.
+    pub setting: Setting,
+    /// The hasher of its keys.
+    pub hasher: S,
+}
+
+/// What a seat has under way, beside a row.
+pub enum Work<K, V, S> {
+    /// Nothing.
+    Nothing,
+    /// A call on the map that it knows, within the section of its slot.
+    Calls(Machine<K, V>),
+    /// It makes the map of this number, with this hasher, and holds no slot.
+    Makes(u64, S, NewMap),
+}
