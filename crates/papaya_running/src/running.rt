@@ -49,7 +49,8 @@ impl<K: Eq + Hash + Drop, V: Drop, S: BuildHasher + Drop> Running<K, V, S> {
         hasher: S,
         choices: Vec<u64>,
     ) -> Result<Self, AllocError>
-        ensures { IfOk result (HasCome K.eq ⟦<S as Hashes<K>>⟧.hash (terms_given (bounded setup)) []) }
+        ensures come { IfOk result (HasCome K.eq ⟦<S as Hashes<K>>⟧.hash (terms_given (bounded setup)) []) }
+        ensures hasher { IfOk result (λ running. running.scheduler.logged.executor.hasher ≡ hasher) }
     {
         let mut scheduler = Scheduler::new(alloc, bounded(setup), hasher)?;
         for choice in choices {
@@ -72,7 +73,8 @@ impl<K: Eq + Hash + Drop, V: Drop, S: Hashes<K> + Drop> Running<K, V, S> {
     /// it from then on.
     pub fn take_turn(&mut self, event: Event<K, V>) -> Result<(), AllocError>
         requires { (terms : Terms) × (events : List (Event K V)) × HasCome K.eq S.hash terms events self.old }
-        ensures { OnOk result ((terms : Terms) (events : List (Event K V)) → HasCome K.eq S.hash terms events self.old → HasCome K.eq S.hash terms (events ++ event ∷ []) self.new) }
+        ensures come { OnOk result ((terms : Terms) (events : List (Event K V)) → HasCome K.eq S.hash terms events self.old → HasCome K.eq S.hash terms (events ++ event ∷ []) self.new) }
+        ensures hasher { OnOk result (self.new.scheduler.logged.executor.hasher ≡ self.old.scheduler.logged.executor.hasher) }
     {
         let traced = traced_as(&event);
         let acting = acting_of(&self.scheduler, &event)?;
@@ -154,7 +156,7 @@ pub fn run<K: Eq + Hash + Drop, V: Drop, S: BuildHasher + Drop>(
     ensures whole { IfOk result (λ run. IsRunOf K.eq (terms_given (bounded setup)) schedule.items run) }
     ensures hands { IfOk result (λ run. AtEachEvent HandsOn (log_of schedule.items run)) }
     ensures live { IfOk result (λ run. HoldsBlocks K.eq ⟦<S as Hashes<K>>⟧.hash (terms_given (bounded setup)) schedule.items run) }
-    ensures acts { IfOk result (λ run. (by : S) × IsByActs K.eq ⟦<S as Hashes<K>>⟧.hash by (terms_given (bounded setup)) (log_of schedule.items run)) }
+    ensures acts { IfOk result (λ run. IsByActs K.eq ⟦<S as Hashes<K>>⟧.hash hasher (terms_given (bounded setup)) (log_of schedule.items run)) }
     ensures memory { IfErr result (λ fault. fault ≡ Fault.Memory) }
 {
     run_refusing(alloc, setup, hasher, schedule, choices, &[])
@@ -174,7 +176,7 @@ pub fn run_refusing<K: Eq + Hash + Drop, V: Drop, S: BuildHasher + Drop>(
     ensures whole { IfOk result (λ run. IsRunOf K.eq (terms_given (bounded setup)) schedule.items run) }
     ensures hands { IfOk result (λ run. AtEachEvent HandsOn (log_of schedule.items run)) }
     ensures live { IfOk result (λ run. HoldsBlocks K.eq ⟦<S as Hashes<K>>⟧.hash (terms_given (bounded setup)) schedule.items run) }
-    ensures acts { IfOk result (λ run. (by : S) × IsByActs K.eq ⟦<S as Hashes<K>>⟧.hash by (terms_given (bounded setup)) (log_of schedule.items run)) }
+    ensures acts { IfOk result (λ run. IsByActs K.eq ⟦<S as Hashes<K>>⟧.hash hasher (terms_given (bounded setup)) (log_of schedule.items run)) }
     ensures memory { IfErr result (λ fault. fault ≡ Fault.Memory) }
 {
     let mut running = Running::begin(alloc, setup, hasher, choices)?;

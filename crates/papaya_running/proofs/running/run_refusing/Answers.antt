@@ -15,7 +15,7 @@ use Rattle.papaya_running.proofs.running.run_refusing.Goals as goal
 pub loop-event-init : goal.loop-event-init
 loop-event-init g c =
     let given : c.into_iter-event-iterator.result.rest.items ≡ c.args.schedule.items = let i = c.into_iter-event-iterator.ensures.into_iter_gives in search rules in
-    ([], given, c.in_ok-running.ensures)
+    ([], given, c.in_ok-running.ensures.come, c.in_ok-running.ensures.hasher)
 
 pub take_turn-requires : goal.take_turn-requires
 take_turn-requires g c = (
@@ -39,7 +39,8 @@ loop-event-preserved g c =
     let next : c.loop-event.event-iterator.rest.items ≡ event ∷ c.next.new.self.rest.items = let s = c.in-Some.ensures.steps in search rules in (
       events ++ event ∷ [],
       append_assoc events (event ∷ []) c.next.new.self.rest.items ∙ ap (λ (l : List (Event g.row.K.Denot g.row.V.Denot)). events ++ l) (sym next) ∙ c.loop-event.invariant.1,
-      c.in_ok-take_turn.ensures (terms_given (bounded c.args.setup)) events come,
+      c.in_ok-take_turn.ensures.come (terms_given (bounded c.args.setup)) events come,
+      c.in_ok-take_turn.ensures.hasher ∙ (ap (λ (r : Running g.row.K.Denot g.row.V.Denot g.row.S.Denot). r.scheduler.logged.executor.hasher) c.refuse_as_told.ensures ∙ c.loop-event.invariant.3),
     )
 
 pub end-requires : goal.end-requires
@@ -101,11 +102,10 @@ returns-clause-acts g c =
     let by = c.loop-event.running.scheduler.logged.executor.hasher in
     let empty : c.loop-event.event-iterator.rest.items ≡ [] =
     nil_from_length c.loop-event.event-iterator.rest.items (let a = c.loop-event.event-iterator.rest.ok in let s = c.in-None.ensures.steps in omega (arith, a, s.0)) in
-    let all : events ≡ c.args.schedule.items = sym (append-nil events) ∙ ap (λ (l : List (Event g.row.K.Denot g.row.V.Denot)). events ++ l) (sym empty) ∙ c.loop-event.invariant.1 in (
-      by,
-      subst (λ (l : List (Event g.row.K.Denot g.row.V.Denot)). IsByActs g.K.PartialEq.eq hashes by (terms_given (bounded c.args.setup)) (log_of l c.in_ok-end.field-0)) all
-          (c.in_ok-end.ensures.acts g.K.PartialEq.eq hashes (terms_given (bounded c.args.setup)) events c.loop-event.invariant.2),
-    )
+    let all : events ≡ c.args.schedule.items = sym (append-nil events) ∙ ap (λ (l : List (Event g.row.K.Denot g.row.V.Denot)). events ++ l) (sym empty) ∙ c.loop-event.invariant.1 in
+    subst (λ (h : g.row.S.Denot). IsByActs g.K.PartialEq.eq hashes h (terms_given (bounded c.args.setup)) (log_of c.args.schedule.items c.in_ok-end.field-0)) c.loop-event.invariant.3
+    (subst (λ (l : List (Event g.row.K.Denot g.row.V.Denot)). IsByActs g.K.PartialEq.eq hashes by (terms_given (bounded c.args.setup)) (log_of l c.in_ok-end.field-0)) all
+    (c.in_ok-end.ensures.acts g.K.PartialEq.eq hashes (terms_given (bounded c.args.setup)) events c.loop-event.invariant.2))
 
 pub returns-in_err-take_turn-clause-memory : goal.returns-in_err-take_turn-clause-memory
 returns-in_err-take_turn-clause-memory g c =

@@ -1,8 +1,9 @@
 -- A run begins.
 use Rattle.std.specs.Prelude.{◌%◌, ◌^◌, ℕ, List, fold}
-use Rattle.std.proofs.Common.{subst, sym}
+use Rattle.std.proofs.Common.{ap, subst, sym, ◌∙◌}
 use Rattle.papaya_runs.specs.declared.event.Setup.{Setup}
 use Rattle.papaya_events.specs.Given.Points.Steps.{AreLawful}
+use Rattle.papaya_logged.specs.declared.logged.Logged.{Logged}
 use Rattle.papaya_schedules.specs.Entry.{Entry}
 use Rattle.papaya_scheduler.specs.Played.{terms_given}
 use Rattle.papaya_pieced.specs.SoFar.{ActsSoFar}
@@ -15,13 +16,19 @@ use Rattle.papaya_running.proofs.running.Running.begin.Goals as goal
 pub loop-choice-init : goal.loop-choice-init
 loop-choice-init g c =
     let made = c.in_ok-scheduler.ensures in
-    subst (λ (setup : Setup). Begins setup c.in_ok-scheduler.scheduler) c.bounded.ensures (begins_first c.bounded.result c.in_ok-scheduler.scheduler made.played made.begun made.shown)
+    (subst (λ (setup : Setup). Begins setup c.in_ok-scheduler.scheduler) c.bounded.ensures (begins_first c.bounded.result c.in_ok-scheduler.scheduler made.played made.begun made.shown), made.hasher)
 
 pub loop-choice-preserved : goal.loop-choice-preserved
-loop-choice-preserved g c = still_begins (bounded c.args.setup) c.loop-choice.scheduler c.loop-choice.invariant _ c.choose.new.self c.in_ok-choose.ensures.chosen
+loop-choice-preserved g c = (
+  still_begins (bounded c.args.setup) c.loop-choice.scheduler c.loop-choice.invariant.0 _ c.choose.new.self c.in_ok-choose.ensures.chosen,
+  ap (λ (l : Logged g.row.K.Denot g.row.V.Denot g.row.S.Denot). l.executor.hasher) c.in_ok-choose.ensures.chosen ∙ c.loop-choice.invariant.1,
+)
 
-pub returns : goal.returns
-returns g c =
+pub returns-clause-hasher : goal.returns-clause-hasher
+returns-clause-hasher g c = c.loop-choice.invariant.1
+
+pub returns-clause-come : goal.returns-clause-come
+returns-clause-come g c =
     let hash : g.row.K.Denot → ℕ = λ key. g.S.Hasher.Hasher.finish (fold g.S.Hasher.Hasher.write (g.S.BuildHasher.build_hasher c.loop-choice.scheduler.logged.executor.hasher) (g.K.Hash.hash_input key)) % 2 ^ 64 in
     let hashes : g.row.S.Denot → g.row.K.Denot → ℕ = λ hasher key. g.S.Hasher.Hasher.finish (fold g.S.Hasher.Hasher.write (g.S.BuildHasher.build_hasher hasher) (g.K.Hash.hash_input key)) % 2 ^ 64 in
     let lawful : (hasher : g.row.S.Denot) → AreLawful g.K.PartialEq.eq (hashes hasher) =
@@ -30,14 +37,14 @@ returns g c =
       so_far =
           start_so g.K.PartialEq.eq hash (terms_given (bounded c.args.setup)) c.nothing-written.result c.nothing-tally.result c.loop-choice.scheduler c.nothing-written.ensures.outcomes c.nothing-written.ensures.steps
           c.nothing-written.ensures.effects c.nothing-written.ensures.trace c.nothing-tally.ensures.pairs c.nothing-tally.ensures.behind c.nothing-tally.ensures.tables
-          (first_holds g.K.PartialEq.eq hash (bounded c.args.setup) c.loop-choice.scheduler c.loop-choice.invariant
+          (first_holds g.K.PartialEq.eq hash (bounded c.args.setup) c.loop-choice.scheduler c.loop-choice.invariant.0
           (are_lawful g.K.PartialEq.eq g.K.Hash.hash_input g.met.K.Eq.laws g.met.K.Hash.respects_eq
           (λ writes. g.S.Hasher.Hasher.finish (fold g.S.Hasher.Hasher.write (g.S.BuildHasher.build_hasher c.loop-choice.scheduler.logged.executor.hasher) writes)))
           (are_few c.args.setup))
-          (first_runs g.K.PartialEq.eq hash (bounded c.args.setup) c.loop-choice.scheduler c.loop-choice.invariant);
+          (first_runs g.K.PartialEq.eq hash (bounded c.args.setup) c.loop-choice.scheduler c.loop-choice.invariant.0);
       lawful = lawful;
       acts =
           subst (λ (l : List (Entry g.row.K.Denot g.row.V.Denot)). ActsSoFar g.K.PartialEq.eq hashes (terms_given (bounded c.args.setup)) l c.loop-choice.scheduler.logged c.loop-choice.scheduler.calls)
-          (sym (none_so c.nothing-written.result c.nothing-written.ensures.outcomes c.nothing-written.ensures.steps c.nothing-written.ensures.effects)) (c.loop-choice.invariant.acts g.K.PartialEq.eq hashes lawful);
+          (sym (none_so c.nothing-written.result c.nothing-written.ensures.outcomes c.nothing-written.ensures.steps c.nothing-written.ensures.effects)) (c.loop-choice.invariant.0.acts g.K.PartialEq.eq hashes lawful);
       back = back_first c.nothing-written.result c.new-back.result.items c.nothing-written.ensures.outcomes c.nothing-written.ensures.steps c.nothing-written.ensures.effects c.new-back.ensures.items;
     }

@@ -18,8 +18,11 @@ use Rattle.papaya_running.proofs.running.Running.take_turn.Goals as goal
 pub happen-requires : goal.happen-requires
 happen-requires g c = let r = c.requires in (r.0, log_so r.1 c.args.self.now.written, r.2.so_far.holds)
 
-pub returns : goal.returns
-returns g c =
+pub returns-clause-hasher : goal.returns-clause-hasher
+returns-clause-hasher g c = ok_four c.add.result _ _ _ _ _ c.add.ensures.outcomes c.add.ensures.steps c.add.ensures.effects c.add.ensures.trace (λ outcomes steps effects trace. c.happen.ensures.given.0)
+
+pub returns-clause-come : goal.returns-clause-come
+returns-clause-come g c =
     let eq = g.K.PartialEq.eq in
     let p = c.args.self.now.scheduler in
     let hash = g.S.Hashes.hash p.logged.executor.hasher in
