@@ -1,15 +1,11 @@
 -- An event by which all is reclaimed: the list of acts goes on where that begins, by each of its steps, and where it is over.
-use Rattle.std.specs.Prelude.{◌≤◌, ◌<◌, ◌+◌, ◌⊎◌, ◌^◌, ◌==◌, Option, Some, None, length, nat_lt, IsSome, if◌then◌else◌}
+use Rattle.std.specs.Prelude.{◌<◌, ◌⊎◌, ◌^◌, length, nat_lt, if◌then◌else◌}
 use Rattle.std.proofs.Common.{◌≡◌, ℕ, Bool, true, false, List, [], ◌∷◌, inl, inr, refl, sym, ap, subst, arith, ◌∙◌}
 use Rattle.std.proofs.lemmas.Bool.{ltb-false, ltb-true}
-use Rattle.papaya_scenes.specs.Given.SeizeWords.Mem.{Mem, word_at}
-use Rattle.papaya_scenes.specs.Given.SeizeWords.declared.at.At.TheVariants.{Slot}
 use Rattle.papaya_scenes.specs.Given.Seize.ReclaimAll.{clearing, reclaiming_all}
 use Rattle.papaya_scenes.specs.Given.Seize.declared.rows.reclaim_all.ReclaimAll.{ReclaimAll}
 use Rattle.papaya_scenes.specs.Given.Seize.declared.rows.settle.Settled.{Settled}
 use Rattle.papaya_scenes.specs.Given.Seize.declared.rows.settle.Settled.TheVariants as settled
-use Rattle.papaya_scenes.specs.Given.Seize.declared.states.TheConstants.{HEAD}
-use Rattle.papaya_scenes.specs.Given.Tables.declared.node.Node.{Node}
 use Rattle.papaya_scenes.specs.declared.callers.TheConstants.{SLOTS}
 use Rattle.papaya_scenes.specs.Scene.{slot_of}
 use Rattle.papaya_schedules.specs.declared.effect.Effect.{Effect}
@@ -19,7 +15,7 @@ use Rattle.papaya_schedules.specs.declared.outcome.Outcome.{Outcome}
 use Rattle.papaya_schedules.specs.declared.outcome.Outcome.TheVariants as outcome
 use Rattle.papaya_schedules.specs.After.{moment}
 use Rattle.papaya_schedules.specs.Entry.{Entry}
-use Rattle.papaya_schedules.specs.Terms.{Terms, shards_of}
+use Rattle.papaya_schedules.specs.Terms.{shards_of}
 use Rattle.papaya_scheduler.specs.Given.SeizeWords.declared.fault.Fault.TheVariants as fault
 use Rattle.papaya_scheduler.specs.Given.Effects.Known.{Known, known}
 use Rattle.papaya_scheduler.specs.Given.Executor.IsThere.{KeepsGiven}
@@ -29,7 +25,7 @@ use Rattle.papaya_scheduler.specs.Given.Logged.Goes.{Far, ReclaimingGoes, Reclai
 use Rattle.papaya_scheduler.specs.Given.Logged.declared.logged.Logged.{Logged}
 use Rattle.papaya_scheduler.specs.Given.Reclaiming.Reclaiming.{NobodyHas}
 use Rattle.papaya_scheduler.specs.AllWorks.{WorksOnAll}
-use Rattle.papaya_scheduler.specs.Played.{IsPlayed, entry_of}
+use Rattle.papaya_scheduler.specs.Played.{entry_of}
 use Rattle.papaya_scheduler.specs.Reclaiming.{NotesSlots, are_gone}
 use Rattle.papaya_scheduler.specs.Works.{DidNothing}
 use Rattle.papaya_scheduler.specs.declared.played.Played.{Played}
@@ -38,7 +34,7 @@ use Rattle.papaya_mapping.proofs.AllGiven.{nobody_has}
 use Rattle.papaya_named.specs.declared.caller.Caller.{Caller}
 use Rattle.papaya_acts.specs.Lists.{Course}
 use Rattle.papaya_deeds.specs.Deeds.{ReclaimsAll}
-use Rattle.papaya_played.specs.Play.{State, is_over, settled_outcome}
+use Rattle.papaya_played.specs.Play.{State, settled_outcome}
 use Rattle.papaya_grouped.specs.Called.{PlaysSo}
 use Rattle.papaya_grouped.specs.Grouping.{MayHave, Names, refuses}
 use Rattle.papaya_grouped.specs.Reach.{LeadsTo, Reach}

@@ -1,11 +1,9 @@
 -- An event by which a call begins, or one by which it begins and takes its steps: the list of acts goes on by that.
-use Rattle.std.specs.Prelude.{zero, suc, ◌≤◌, ◌==◌, ◌+◌, ◌*◌, Option, Some, None, option_map, length, slice_get, slice_index_or, if◌then◌else◌}
+use Rattle.std.specs.Prelude.{zero, suc, ◌==◌, Some, None, option_map, slice_get, slice_index_or, if◌then◌else◌}
 use Rattle.std.specs.List.{AllByRecursion}
 use Rattle.std.proofs.Common.{◌≡◌, ℕ, Bool, true, false, List, [], ◌∷◌, refl, sym, ap, subst, ◌∙◌, inl}
 use Rattle.std.proofs.lemmas.Bool.{ne_eqb}
 use Rattle.papaya_runs.specs.Present.{guard_of, living_slot}
-use Rattle.papaya_scenes.specs.Given.Callers.Together.{UnderWay}
-use Rattle.papaya_scenes.specs.Given.Tables.declared.setting.Setting.{Setting}
 use Rattle.papaya_scenes.specs.Given.Finishes.Maps.{Standing}
 use Rattle.papaya_scenes.specs.Scene.{slot_of}
 use Rattle.papaya_schedules.specs.declared.call.Call.{Call}
@@ -22,7 +20,7 @@ use Rattle.papaya_schedules.specs.Views.{number_of}
 use Rattle.papaya_runs.specs.Stopped.{most_steps}
 use Rattle.papaya_scheduler.specs.Given.SeizeWords.declared.fault.Fault.TheVariants as fault
 use Rattle.papaya_scheduler.specs.Given.Effects.Known.{Known, known}
-use Rattle.papaya_scheduler.specs.Given.Executor.IsThere.{KeepsGiven, StaysGiven, work_of}
+use Rattle.papaya_scheduler.specs.Given.Executor.IsThere.{KeepsGiven, StaysGiven}
 use Rattle.papaya_scheduler.specs.Given.Executor.declared.executor.Executor.{Executor}
 use Rattle.papaya_scheduler.proofs.Given.Logged.KeptGiven.{given_on}
 use Rattle.papaya_scheduler.proofs.Given.Executor.Fresh.{caller_in, no_calls_yet, no_work}
@@ -36,7 +34,7 @@ use Rattle.papaya_named.specs.declared.caller.Caller.{Caller}
 use Rattle.papaya_named.specs.declared.caller.Stands.{Stands as HowFar}
 use Rattle.papaya_named.specs.declared.caller.Stands.TheVariants as far
 use Rattle.papaya_acts.specs.Lists.{Course}
-use Rattle.papaya_deeds.specs.Deeds.{Begins, Steps}
+use Rattle.papaya_deeds.specs.Deeds.{Begins}
 use Rattle.papaya_stepping.specs.Stepping.{GoneBy, GoneFor, SaysAgain, TakenBy, TookWhole}
 use Rattle.papaya_played.specs.Play.{State}
 use Rattle.papaya_grouped.specs.Called.{PlaysSo}
@@ -44,7 +42,7 @@ use Rattle.papaya_grouped.specs.Grouping.{MayHave, Names, beginner_of, number_ca
 use Rattle.papaya_grouped.specs.Reach.{Reach}
 use Rattle.papaya_grouped.proofs.CallBegins.{call_begins}
 use Rattle.papaya_grouped.proofs.Callers.{each_so}
-use Rattle.papaya_grouped.proofs.Midst.{InEvent, event_ends, maps_of}
+use Rattle.papaya_grouped.proofs.Midst.{InEvent, event_ends}
 use Rattle.papaya_grouped.proofs.Reached.{goes_at, reach_so}
 use Rattle.papaya_pieced.specs.SoFar.{ActsSoFar, GoesOnByActs}
 use Rattle.papaya_pieced.proofs.Quiet.{did_nothing, later_by}

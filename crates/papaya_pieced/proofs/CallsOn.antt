@@ -1,6 +1,6 @@
 -- A call as it is played, that takes a step: callers are as they were played, still.
-use Rattle.std.specs.Prelude.{◌≤◌, ◌==◌, Option, Some, None, option_map, filter, length, slice_get, slice_set, if◌then◌else◌}
-use Rattle.std.specs.List.{AllByRecursion, remove}
+use Rattle.std.specs.Prelude.{◌≤◌, ◌==◌, Option, Some, None, option_map, slice_get, slice_set, if◌then◌else◌}
+use Rattle.std.specs.List.{remove}
 use Rattle.std.proofs.Common.{◌≡◌, ℕ, Bool, true, false, List, refl, sym, ap, subst, arith, ◌∙◌}
 use Rattle.std.proofs.lemmas.Bool.{eq-eqb}
 use Rattle.papaya_scenes.specs.Given.SeizeWords.Mem.{Mem}
@@ -10,7 +10,6 @@ use Rattle.papaya_scenes.specs.Given.Raw.declared.machines.progress.Progress.{Pr
 use Rattle.papaya_scenes.specs.Given.Raw.declared.machines.progress.Progress.TheVariants as progress
 use Rattle.papaya_scenes.specs.Given.Teller.declared.changed.Changed.{Changed}
 use Rattle.papaya_scenes.specs.Stepping.{has_ended}
-use Rattle.papaya_schedules.specs.declared.outcome.Outcome.{Outcome}
 use Rattle.papaya_scheduler.specs.Given.Effects.Known.{Known}
 use Rattle.papaya_named.specs.Seen.{kind_of}
 use Rattle.papaya_named.specs.declared.caller.Caller.{Caller}

@@ -5,7 +5,7 @@ use Rattle.papaya_scenes.specs.Scene.{slot_of}
 use Rattle.papaya_schedules.specs.declared.event.Event.TheVariants as event
 use Rattle.papaya_schedules.specs.After.{moment}
 use Rattle.papaya_schedules.specs.Entry.{Entry}
-use Rattle.papaya_schedules.specs.Terms.{Terms, shards_of}
+use Rattle.papaya_schedules.specs.Terms.{shards_of}
 use Rattle.papaya_scheduler.specs.Given.Effects.Known.{known}
 use Rattle.papaya_scheduler.specs.Given.Logged.Choosing.{logged_chosen}
 use Rattle.papaya_scheduler.specs.Played.{entry_of}

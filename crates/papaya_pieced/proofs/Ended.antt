@@ -1,5 +1,5 @@
 -- An event by which a map ends: the list of acts goes on where the end begins, and by each of its steps.
-use Rattle.std.specs.Prelude.{◌≤◌, ◌+◌, ◌⊎◌, ◌*◌, Option, Some, None, option_map, length, if◌then◌else◌}
+use Rattle.std.specs.Prelude.{◌⊎◌, Some, if◌then◌else◌}
 use Rattle.std.proofs.Common.{◌≡◌, ℕ, Bool, true, false, List, [], ◌∷◌, inl, inr, refl, sym, ap, subst, arith, ◌∙◌}
 use Rattle.papaya_scenes.specs.Given.Seize.declared.rows.settle.Settled.{Settled}
 use Rattle.papaya_scenes.specs.Given.Seize.declared.rows.settle.Settled.TheVariants as settled
@@ -12,16 +12,16 @@ use Rattle.papaya_schedules.specs.declared.outcome.Outcome.{Outcome}
 use Rattle.papaya_schedules.specs.declared.outcome.Outcome.TheVariants as outcome
 use Rattle.papaya_schedules.specs.After.{moment}
 use Rattle.papaya_schedules.specs.Entry.{Entry}
-use Rattle.papaya_schedules.specs.Terms.{Terms, shards_of}
+use Rattle.papaya_schedules.specs.Terms.{shards_of}
 use Rattle.papaya_schedules.specs.Views.{number_of}
 use Rattle.papaya_scheduler.specs.Given.SeizeWords.declared.fault.Fault.{Fault}
 use Rattle.papaya_scheduler.specs.Given.Effects.Known.{Known, known}
-use Rattle.papaya_scheduler.specs.Given.Executor.IsThere.{KeepsGiven, StaysGiven, work_of}
+use Rattle.papaya_scheduler.specs.Given.Executor.IsThere.{KeepsGiven, work_of}
 use Rattle.papaya_scheduler.specs.Given.Logged.Ends.{is_done}
 use Rattle.papaya_scheduler.specs.Given.Logged.Goes.{EndGoes, EndGone, EndOn, Far, far}
 use Rattle.papaya_scheduler.specs.Given.Logged.declared.logged.Logged.{Logged}
 use Rattle.papaya_scheduler.proofs.Given.Executor.Fresh.{no_work}
-use Rattle.papaya_scheduler.specs.Played.{IsPlayed, entry_of}
+use Rattle.papaya_scheduler.specs.Played.{entry_of}
 use Rattle.papaya_scheduler.specs.Works.{DidNothing, HasEndedMap, WorksOnEnd}
 use Rattle.papaya_scheduler.specs.declared.played.Played.{Played}
 use Rattle.papaya_scheduler.specs.declared.scheduler.Scheduler.{Scheduler}

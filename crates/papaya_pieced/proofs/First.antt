@@ -1,5 +1,4 @@
 -- Before all events no act was done: the list of none leads to where the executor is, and a choice of a number that comes then is an act of the list.
-use Rattle.std.specs.Prelude.{◌≤◌, ◌==◌, filter, length}
 use Rattle.std.proofs.Common.{◌≡◌, ℕ, Bool, List, [], refl, sym, subst, arith}
 use Rattle.papaya_scenes.specs.Scene.{at_first, slot_of}
 use Rattle.papaya_schedules.specs.Terms.{Terms, shards_of}

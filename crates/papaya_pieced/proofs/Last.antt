@@ -1,6 +1,6 @@
 -- A run that stands where a list of acts has led is by acts; and there is a course, where each hasher gives keys lawful hashes.
 use Rattle.std.specs.Prelude.{◌<◌, ◌^◌}
-use Rattle.std.proofs.Common.{◌≡◌, ℕ, Bool, List, sym, subst}
+use Rattle.std.proofs.Common.{ℕ, Bool, List, subst}
 use Rattle.papaya_scenes.specs.Given.Points.Steps.{AreLawful}
 use Rattle.papaya_scenes.specs.Scene.{slot_of}
 use Rattle.papaya_schedules.specs.Entry.{Entry}

@@ -1,5 +1,5 @@
 -- An event by which a map is made: the list of acts goes on where the making begins, and by each of its steps.
-use Rattle.std.specs.Prelude.{◌≢◌, ◌≤◌, ◌<◌, ◌+◌, ◌⊎◌, ◌*◌, ◌^◌, ◌==◌, ◌++◌, Option, Some, None, option_map, length, take, max, slice_index_or, if◌then◌else◌}
+use Rattle.std.specs.Prelude.{◌≢◌, ◌≤◌, ◌<◌, ◌+◌, ◌⊎◌, ◌^◌, ◌==◌, Option, Some, None, option_map, length, take, slice_index_or, if◌then◌else◌}
 use Rattle.std.specs.Int.{IsPowerOfTwo}
 use Rattle.std.proofs.Common.{◌≡◌, ℕ, Bool, true, false, List, [], ◌∷◌, inl, inr, refl, sym, ap, subst, arith, eqb-true, ◌∙◌}
 use Rattle.std.proofs.lemmas.Bool.{cases_eq}
@@ -8,7 +8,6 @@ use Rattle.seize_acts.specs.Answers.{Grant}
 use Rattle.seize_acts.proofs.Answers.{same_some}
 use Rattle.papaya_scenes.specs.Given.Seize.declared.progress.Progress.{Progress}
 use Rattle.papaya_scenes.specs.Given.Seize.declared.progress.Progress.TheVariants as progress
-use Rattle.papaya_scenes.specs.Given.Tables.declared.node.Node.{Node}
 use Rattle.papaya_scenes.specs.Given.Tables.declared.resize_mode.ResizeMode.{ResizeMode}
 use Rattle.papaya_scenes.specs.Given.Tables.declared.setting.Setting.{Setting}
 use Rattle.papaya_scenes.specs.Given.Tables.Powers.{next_power}
@@ -37,7 +36,7 @@ use Rattle.papaya_scheduler.specs.Given.Logged.declared.logged.Logged.{Logged}
 use Rattle.papaya_scheduler.proofs.Given.Executor.Fresh.{no_work}
 use Rattle.papaya_scheduler.proofs.Given.Logged.GivenBack.{reads_same, with_maps}
 use Rattle.papaya_scheduler.specs.Mapping.{numbers_made}
-use Rattle.papaya_scheduler.specs.Played.{IsPlayed, entry_of, terms_given}
+use Rattle.papaya_scheduler.specs.Played.{entry_of}
 use Rattle.papaya_scheduler.specs.Works.{DidNothing, MakingHasRun, WorksOnMap}
 use Rattle.papaya_scheduler.specs.declared.played.Played.{Played}
 use Rattle.papaya_scheduler.specs.declared.scheduler.Scheduler.{Scheduler}

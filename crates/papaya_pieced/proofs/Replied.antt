@@ -1,13 +1,11 @@
 -- An event by which a call is told a reply: the list of acts goes on by that.
-use Rattle.std.specs.Prelude.{◌≤◌, ◌==◌, ◌+◌, ◌⊎◌, Option, Some, Result, Ok, Err, option_map, is_ok, length, slice_get, if◌then◌else◌}
+use Rattle.std.specs.Prelude.{◌≤◌, ◌==◌, ◌+◌, ◌⊎◌, Some, Result, Ok, Err, option_map, is_ok, length, slice_get, if◌then◌else◌}
 use Rattle.std.specs.Result.{is_err}
 use Rattle.std.proofs.Common.{◌≡◌, ℕ, Bool, true, false, List, [], ◌∷◌, inl, inr, refl, sym, ap, subst, ◌∙◌}
 use Rattle.std.proofs.lemmas.Bool.{eq-eqb}
 use Rattle.seize_acts.proofs.Answers.{same_some}
 use Rattle.papaya_scenes.specs.Given.Raw.Machine.{machine_replied}
-use Rattle.papaya_scenes.specs.Given.Raw.declared.machines.asking.Reply.{Reply as Told}
 use Rattle.papaya_scenes.specs.Given.Raw.declared.machines.machine.Machine.{Machine}
-use Rattle.papaya_scenes.specs.Given.Callers.Together.{UnderWay}
 use Rattle.papaya_scenes.specs.Given.Finishes.Machines.{machine_of}
 use Rattle.papaya_scenes.specs.Scene.{Scene, slot_of}
 use Rattle.papaya_schedules.specs.declared.call.Reply.{Reply}

@@ -27,7 +27,7 @@ use Rattle.papaya_scenes.specs.Given.Teller.declared.changed.Changed.TheVariants
 use Rattle.papaya_scenes.specs.Given.Callers.Rows.{IsRowOn}
 use Rattle.papaya_scenes.proofs.Told.{as_step}
 use Rattle.papaya_scenes.specs.OnSlots.{RowSteps}
-use Rattle.papaya_scenes.specs.Rows.{begun_row, of_registering, of_settling}
+use Rattle.papaya_scenes.specs.Rows.{begun_row}
 use Rattle.papaya_scenes.specs.Scene.{row_of}
 use Rattle.papaya_scenes.specs.declared.row.RowTold.{RowTold}
 use Rattle.papaya_scenes.specs.declared.row.SlotCall.{SlotCall}
@@ -42,7 +42,7 @@ use Rattle.papaya_scheduler.proofs.Given.SeizeRule.Rows.Leaving.{steps_back}
 use Rattle.papaya_scheduler.specs.Works.{IsAbout, IsItsRow, HasNoRow}
 use Rattle.papaya_scheduler.specs.declared.scheduler.Scheduler.{Scheduler}
 use Rattle.papaya_named.specs.Seen.{free_slot}
-use Rattle.papaya_deeds.specs.Deeds.{Leaves, Opens, Shuts}
+use Rattle.papaya_deeds.specs.Deeds.{Leaves, Opens}
 use Rattle.papaya_played.specs.Play.{leaves_as, registers_as, row_deed}
 use Rattle.papaya_grouped.specs.Grouping.{MayHave, Names, IsShared}
 use Rattle.papaya_pieced.specs.RowFor.{IsRowFor}

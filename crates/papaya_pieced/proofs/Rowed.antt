@@ -1,12 +1,10 @@
 -- An event by which a row runs on a slot: the list of acts goes on where the row begins, and by each of its steps.
-use Rattle.std.specs.Prelude.{◌≤◌, ◌+◌, ◌⊎◌, Option, Some, None, length}
-use Rattle.std.specs.Option.{is_none}
+use Rattle.std.specs.Prelude.{◌⊎◌, Option, Some}
 use Rattle.std.proofs.Common.{◌≡◌, ℕ, Bool, true, false, List, [], ◌∷◌, inl, inr, refl, sym, ap, subst, ◌∙◌}
-use Rattle.papaya_scenes.specs.Given.Seize.World.{Row}
 use Rattle.papaya_scenes.specs.Given.Tables.declared.node.Node.{Node}
 use Rattle.papaya_scenes.specs.Given.Callers.Rows.{IsRowOn}
 use Rattle.papaya_scenes.proofs.NoCall.{none_is}
-use Rattle.papaya_scenes.specs.Scene.{HasNoCall, row_of, slot_of}
+use Rattle.papaya_scenes.specs.Scene.{row_of, slot_of}
 use Rattle.papaya_scenes.specs.declared.row.RowTold.{RowTold}
 use Rattle.papaya_scenes.specs.declared.row.RowTold.TheVariants as told
 use Rattle.papaya_scenes.specs.declared.row.SlotCall.{SlotCall}
@@ -19,12 +17,11 @@ use Rattle.papaya_schedules.specs.declared.outcome.Outcome.{Outcome}
 use Rattle.papaya_schedules.specs.declared.outcome.Outcome.TheVariants as outcome
 use Rattle.papaya_schedules.specs.After.{moment}
 use Rattle.papaya_schedules.specs.Entry.{Entry}
-use Rattle.papaya_schedules.specs.Moment.{Moment}
 use Rattle.papaya_schedules.specs.Terms.{Terms, shards_of}
 use Rattle.papaya_scheduler.specs.Given.SeizeWords.declared.fault.Fault.{Fault}
 use Rattle.papaya_scheduler.specs.Given.SeizeWords.declared.fault.Fault.TheVariants.{Memory, SlotsUsedUp}
 use Rattle.papaya_scheduler.specs.Given.Effects.Known.{Known, known}
-use Rattle.papaya_scheduler.specs.Given.Executor.IsThere.{IsThere, KeepsGiven, work_of}
+use Rattle.papaya_scheduler.specs.Given.Executor.IsThere.{KeepsGiven, work_of}
 use Rattle.papaya_scheduler.specs.Given.Executor.OnSlots.{MayBegin, row_on}
 use Rattle.papaya_scheduler.specs.Given.Executor.declared.worker.Work.{Work}
 use Rattle.papaya_scheduler.specs.Given.Executor.declared.worker.Work.TheVariants.{OnSlot}

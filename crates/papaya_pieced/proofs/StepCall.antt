@@ -1,10 +1,9 @@
 -- A step of a call, in the midst of an event: the list of acts goes on by it.
-use Rattle.std.specs.Prelude.{◌+◌, ◌++◌, Option, Some, None, option_map, slice_get}
-use Rattle.std.proofs.Common.{◌≡◌, ℕ, Bool, false, List, ◌∷◌, refl, sym, ap, subst, ◌∙◌}
+use Rattle.std.specs.Prelude.{◌+◌, ◌++◌, Option, Some, option_map}
+use Rattle.std.proofs.Common.{◌≡◌, ℕ, Bool, false, List, refl, sym, ap, subst, ◌∙◌}
 use Rattle.seize_acts.specs.Answers.{Grant}
 use Rattle.seize_acts.proofs.Answers.{same_some}
 use Rattle.papaya_scenes.specs.Given.SeizeWords.Mem.{Mem}
-use Rattle.papaya_scenes.specs.Given.Seize.World.{Row}
 use Rattle.papaya_scenes.specs.Given.Tables.declared.node.Node.{Node}
 use Rattle.papaya_scenes.specs.Given.Raw.Machine.{machine_plan}
 use Rattle.papaya_scenes.specs.Given.Raw.declared.machines.machine.Machine.{Machine}
@@ -13,7 +12,6 @@ use Rattle.papaya_scenes.specs.Given.Raw.declared.machines.progress.Progress.The
 use Rattle.papaya_scenes.specs.Given.Teller.declared.changed.Changed.{Changed}
 use Rattle.papaya_scenes.specs.Given.Callers.Together.{UnderWay}
 use Rattle.papaya_scenes.specs.Given.Finishes.Machines.{GoesOnAs, machine_of}
-use Rattle.papaya_scenes.specs.Given.Finishes.Maps.{with_call}
 use Rattle.papaya_scenes.specs.Scene.{Scene, slot_of}
 use Rattle.papaya_scenes.specs.Stepping.{has_ended}
 use Rattle.papaya_schedules.specs.declared.effect.Effect.{Effect}
@@ -30,21 +28,21 @@ use Rattle.papaya_scheduler.specs.declared.scheduler.Scheduler.{Scheduler}
 use Rattle.papaya_named.specs.Seen.{kind_of}
 use Rattle.papaya_named.specs.declared.caller.Caller.{Caller}
 use Rattle.papaya_named.specs.declared.kind.Kind.{Kind}
-use Rattle.papaya_acts.specs.Acts.{Answer, OfCall, StepsCall}
+use Rattle.papaya_acts.specs.Acts.{OfCall, StepsCall}
 use Rattle.papaya_acts.specs.AsSteps.{changed_by}
 use Rattle.papaya_acts.specs.Leads.{CallCame}
-use Rattle.papaya_acts.specs.Doings.{Does, Stage, reclaiming}
+use Rattle.papaya_acts.specs.Doings.{reclaiming}
 use Rattle.papaya_acts.specs.Lists.{Course}
 use Rattle.papaya_deeds.specs.Deeds.{Steps}
 use Rattle.papaya_deeds.specs.Deeds.{Entry as Act}
-use Rattle.papaya_drives.specs.Executors.{AreSteps, CallsAreActs, Computes, IsAct, OthersAreActs}
+use Rattle.papaya_drives.specs.Executors.{AreSteps, Computes, IsAct}
 use Rattle.papaya_drives.proofs.Executors.{executors_act}
-use Rattle.papaya_played.proofs.Tied.{CallTied, call_tied}
+use Rattle.papaya_played.proofs.Tied.{call_tied}
 use Rattle.papaya_played.specs.Play.{Calling, State, call_stepped, is_refusal, play_act}
 use Rattle.papaya_played.specs.Play as play
-use Rattle.papaya_played.specs.Reached.{IsOfStage, rows_beside}
+use Rattle.papaya_played.specs.Reached.{rows_beside}
 use Rattle.papaya_played.proofs.PlayedAs.{played_as}
-use Rattle.papaya_stepping.specs.Stepping.{IsStepped, callers_then}
+use Rattle.papaya_stepping.specs.Stepping.{IsStepped}
 use Rattle.papaya_grouped.specs.Grouping.{MayHave, Names, names_after, number_called}
 use Rattle.papaya_grouped.specs.Reach.{Reach}
 use Rattle.papaya_grouped.specs.Called.{CallersAre, IsCalledAs}

@@ -1,5 +1,5 @@
 -- Several steps of a call, one after another, in the midst of an event: the list of acts goes on by each of them.
-use Rattle.std.specs.Prelude.{◌+◌, ◌==◌, zero, suc, Option, Some, slice_get, slice_set, if◌then◌else◌}
+use Rattle.std.specs.Prelude.{◌+◌, zero, suc, Option, Some, slice_get, slice_set, if◌then◌else◌}
 use Rattle.std.specs.List.{remove}
 use Rattle.std.proofs.Common.{◌≡◌, ℕ, Bool, true, false, List, refl, sym, ap, subst, arith, ◌∙◌}
 use Rattle.seize_acts.proofs.Answers.{same_some}
@@ -20,7 +20,7 @@ use Rattle.papaya_named.specs.declared.caller.Caller.{Caller}
 use Rattle.papaya_named.specs.declared.kind.Kind.{Kind}
 use Rattle.papaya_acts.specs.Lists.{Course}
 use Rattle.papaya_deeds.specs.Deeds.{Steps}
-use Rattle.papaya_stepping.specs.Stepping.{GoneBy, GoneFor, IsStepped, caller_then, callers_then, outcome_of}
+use Rattle.papaya_stepping.specs.Stepping.{GoneBy, GoneFor, IsStepped, caller_then, outcome_of}
 use Rattle.papaya_grouped.specs.Grouping.{MayHave, Names, number_called}
 use Rattle.papaya_grouped.specs.Reach.{Reach}
 use Rattle.papaya_grouped.proofs.Callers.{set_there}

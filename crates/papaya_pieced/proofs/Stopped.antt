@@ -1,6 +1,5 @@
 -- An event by which a walk that is ready is given up: the list of acts goes on by that.
-use Rattle.std.specs.Prelude.{◌≤◌, ◌==◌, ◌+◌, ◌⊎◌, Option, Some, None, option_map, filter, length, slice_get, if◌then◌else◌}
-use Rattle.std.specs.List.{remove}
+use Rattle.std.specs.Prelude.{◌≤◌, ◌==◌, ◌+◌, ◌⊎◌, Some, option_map, length, slice_get, if◌then◌else◌}
 use Rattle.std.proofs.Common.{◌≡◌, ℕ, Bool, true, false, List, [], ◌∷◌, inl, inr, refl, sym, ap, subst, arith, ◌∙◌}
 use Rattle.std.proofs.lemmas.Bool.{eq-eqb}
 use Rattle.seize_acts.proofs.Answers.{same_some}
@@ -31,15 +30,12 @@ use Rattle.papaya_named.specs.Seen.{is_ready as is_ready_there}
 use Rattle.papaya_named.specs.declared.caller.Caller.{Caller}
 use Rattle.papaya_named.specs.declared.caller.Stands.{Stands as HowFar}
 use Rattle.papaya_acts.specs.Acts.{OfAsking, StopsCall}
-use Rattle.papaya_acts.specs.Doings.{Stage}
-use Rattle.papaya_acts.specs.Leads.{Led}
 use Rattle.papaya_acts.specs.Lists.{Course}
 use Rattle.papaya_deeds.specs.Deeds.{Stops}
 use Rattle.papaya_deeds.specs.Deeds.{Entry as Act}
 use Rattle.papaya_drives.specs.Executors.{IsAct}
 use Rattle.papaya_drives.proofs.Executors.{executors_act}
-use Rattle.papaya_played.specs.Play.{Calling, State, call_stopped, play_act}
-use Rattle.papaya_played.specs.Reached.{IsOfStage}
+use Rattle.papaya_played.specs.Play.{Calling, State, call_stopped}
 use Rattle.papaya_played.proofs.PlayedAs.{played_as}
 use Rattle.papaya_grouped.specs.Called.{CallersAre, IsCalledAs, PlaysSo}
 use Rattle.papaya_grouped.specs.Grouping.{Names, number_called, refuses}
@@ -50,7 +46,6 @@ use Rattle.papaya_grouped.proofs.OneMore.{one_act}
 use Rattle.papaya_grouped.proofs.Reached.{goes_at}
 use Rattle.papaya_pieced.specs.SoFar.{ActsSoFar}
 use Rattle.papaya_pieced.proofs.Quiet.{did_nothing, later_by}
-use Rattle.papaya_pieced.proofs.StepCall.{HasCallIn}
 use Rattle.papaya_pieced.proofs.Taken.{works_at}
 
 -- the entry of a call that is given up

@@ -1,7 +1,6 @@
 -- An event by which a call takes steps, or says again what it has said: the list of acts goes on by them.
-use Rattle.std.specs.Prelude.{◌≤◌, ◌+◌, position, slice_get, Option, Some, None, option_map, length}
-use Rattle.std.specs.List.{AllByRecursion}
-use Rattle.std.proofs.Common.{◌≡◌, ℕ, Bool, true, false, List, [], ◌∷◌, refl, sym, ap, subst, arith, ◌∙◌, inl, inr}
+use Rattle.std.specs.Prelude.{◌≤◌, ◌+◌, position, slice_get, Option, Some, None, option_map}
+use Rattle.std.proofs.Common.{◌≡◌, ℕ, Bool, true, List, [], ◌∷◌, refl, sym, ap, subst, arith, ◌∙◌, inl, inr}
 use Rattle.papaya_runs.proofs.Sames.{same_is}
 use Rattle.papaya_scenes.specs.Given.Finishes.Machines.{machine_of}
 use Rattle.papaya_scenes.specs.Scene.{slot_of}

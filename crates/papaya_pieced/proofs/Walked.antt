@@ -1,12 +1,10 @@
 -- An event by which a walk is asked for its next pair: the list of acts goes on by that, and by the steps that the walk takes since.
-use Rattle.std.specs.Prelude.{zero, suc, ◌≤◌, ◌==◌, ◌+◌, Option, Some, None, option_map, filter, length, slice_get, slice_set, if◌then◌else◌}
+use Rattle.std.specs.Prelude.{zero, suc, ◌≤◌, ◌==◌, ◌+◌, Option, Some, None, option_map, slice_get, slice_set}
 use Rattle.std.specs.List.{AllByRecursion}
-use Rattle.std.proofs.Common.{◌≡◌, ℕ, Bool, true, false, List, [], ◌∷◌, refl, sym, ap, subst, arith, ◌∙◌, inl}
+use Rattle.std.proofs.Common.{◌≡◌, ℕ, Bool, List, [], ◌∷◌, refl, sym, ap, subst, arith, ◌∙◌, inl}
 use Rattle.std.proofs.lemmas.Bool.{eq-eqb}
 use Rattle.seize_acts.proofs.Answers.{same_some}
-use Rattle.papaya_scenes.specs.Given.Tables.declared.node.Node.{Node}
 use Rattle.papaya_scenes.specs.Given.Raw.Machine.{machine_asked}
-use Rattle.papaya_scenes.specs.Given.Raw.declared.machines.machine.Machine.{Machine}
 use Rattle.papaya_scenes.specs.Given.Raw.declared.machines.progress.Progress.TheVariants as progress
 use Rattle.papaya_scenes.specs.Given.Finishes.Machines.{machine_of}
 use Rattle.papaya_scenes.specs.Scene.{Scene, slot_of}
@@ -17,14 +15,12 @@ use Rattle.papaya_schedules.specs.declared.outcome.Outcome.{Outcome}
 use Rattle.papaya_schedules.specs.declared.outcome.Outcome.TheVariants as outcome
 use Rattle.papaya_schedules.specs.After.{moment}
 use Rattle.papaya_schedules.specs.Entry.{Entry}
-use Rattle.papaya_schedules.specs.Terms.{Terms, shards_of}
-use Rattle.papaya_scheduler.specs.Given.SeizeWords.declared.fault.Fault.TheVariants as fault
+use Rattle.papaya_schedules.specs.Terms.{shards_of}
 use Rattle.papaya_scheduler.specs.Given.Effects.Known.{Known, known}
 use Rattle.papaya_scheduler.specs.Given.Executor.IsThere.{IsThere, KeepsGiven, StaysGiven}
 use Rattle.papaya_scheduler.specs.Given.Executor.Replying.{AsksThere}
 use Rattle.papaya_scheduler.specs.Given.Executor.declared.executor.Executor.{Executor}
-use Rattle.papaya_scheduler.specs.Given.Logged.declared.logged.Logged.{Logged}
-use Rattle.papaya_scheduler.specs.Played.{IsPlayed, entry_of}
+use Rattle.papaya_scheduler.specs.Played.{entry_of}
 use Rattle.papaya_scheduler.specs.declared.played.Played.{Played}
 use Rattle.papaya_scheduler.specs.declared.scheduler.Scheduler.{Scheduler}
 use Rattle.papaya_scheduler.proofs.Here.{here_at}
@@ -34,12 +30,11 @@ use Rattle.papaya_named.specs.declared.caller.Caller.{Caller}
 use Rattle.papaya_named.specs.declared.caller.Stands.{Stands as HowFar}
 use Rattle.papaya_named.specs.declared.caller.Stands.TheVariants as far
 use Rattle.papaya_acts.specs.Acts.{AsksCall, OfAsking}
-use Rattle.papaya_acts.specs.Leads.{Led}
 use Rattle.papaya_acts.specs.Lists.{Course}
 use Rattle.papaya_deeds.specs.Deeds.{Steps}
 use Rattle.papaya_drives.specs.Executors.{IsAct}
 use Rattle.papaya_drives.proofs.Executors.{executors_act}
-use Rattle.papaya_stepping.specs.Stepping.{HasWalked, IsStepOf, IsStepped, SaysAgain, TookNext, WalkedFor}
+use Rattle.papaya_stepping.specs.Stepping.{HasWalked, IsStepOf, IsStepped, TookNext, WalkedFor}
 use Rattle.papaya_played.specs.Play.{Calling, State, call_asked}
 use Rattle.papaya_played.proofs.PlayedAs.{played_as}
 use Rattle.papaya_grouped.specs.Called.{CallersAre, IsCalledAs, PlaysSo}

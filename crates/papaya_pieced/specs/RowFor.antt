@@ -1,5 +1,5 @@
 -- Which row an event works with on a slot, as far as its deeds tell it.
-use Rattle.std.specs.Prelude.{◌≡◌, Bool, false}
+use Rattle.std.specs.Prelude.{◌≡◌, false}
 use Rattle.papaya_scenes.specs.Given.Seize.declared.rows.register.Registering.TheVariants as registers
 use Rattle.papaya_scenes.specs.Given.Seize.declared.states.TheConstants.{IDLE}
 use Rattle.papaya_scenes.specs.declared.row.SlotRow.{SlotRow}
