@@ -1,6 +1,6 @@
 -- By each kind of event the list of acts goes on; and where events are kept out it is as it was.
-use Rattle.std.specs.Prelude.{◌≤◌, ◌⊎◌, ◌^◌, length, Result, Ok, Err, IfOk, Option, Some, None, MatchOption}
-use Rattle.std.proofs.Common.{◌≡◌, ℕ, Bool, true, false, List, [], ◌∷◌, inl, inr, refl, sym, ap, subst, arith, ◌∙◌}
+use Rattle.std.specs.Prelude.{length, Result, Ok, Err, IfOk, Option, Some, None, MatchOption}
+use Rattle.std.proofs.Common.{◌≡◌, ℕ, Bool, true, false, List, [], ◌∷◌, inl, inr, sym, ap, subst, arith, ◌∙◌}
 use Rattle.seize_words.specs.declared.fault.Fault.{Fault}
 use Rattle.seize_words.specs.declared.fault.Fault.TheVariants.{Busy}
 use Rattle.papaya_runs.specs.Runs.{map_fault}
