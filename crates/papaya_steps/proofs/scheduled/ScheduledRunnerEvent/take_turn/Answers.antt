@@ -1,0 +1,7 @@
+-- One more event has happened.
+use Rattle.papaya_scheduler.specs.Played.{terms_given}
+use Rattle.papaya_running.specs.Run.{bounded}
+use Rattle.papaya_steps.proofs.scheduled.ScheduledRunnerEvent.take_turn.Goals as goal
+
+pub returns : goal.returns
+returns g c = λ setup events come. c.in_ok-take_turn.ensures.come (terms_given (bounded setup)) events come
