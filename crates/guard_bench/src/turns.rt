@@ -3,7 +3,7 @@ ghost use Rattle.std.specs.Prelude.{◌≡◌, None};
 
 use seize::rows::Defers;
 use seize_blocks::Blocks;
-use seize_shared::{Fixed, Guard, LocalGuard, OfRows, Registration};
+use seize_shared::{Fixed, Guard, LocalGuard, OfRows, Registration, RootGuard};
 
 /// How many roots there are.
 pub(crate) const ROOTS: u64 = 4;
@@ -46,10 +46,11 @@ fn sees(guard: &mut LocalGuard<'_, '_, Number>, root: u64, turns: u64) -> u64 {
     sum
 }
 
-/// Puts a value at a root, and retires the one that was there; answers how many were put.
+/// Begins the section anew, puts a value at a root, and retires the one that was there; answers how many were put.
 fn puts(guard: &mut LocalGuard<'_, '_, Number>, root: u64, turns: u64) -> u64 {
     let mut put = 0;
     for _ in 0..turns {
+        guard.refresh();
         if guard.put(root, Number(1)).is_ok() {
             put = u64::wrapping_add(put, 1);
         }

@@ -4,4 +4,5 @@ mod Held
 mod Looks
 pub mod Lookups
 mod Makings
+pub mod Sees
 mod Plans

@@ -56,10 +56,10 @@ module _ {K V Q : Type 0} (same : K → K → Bool) (hash : K → ℕ) (asks : Q
   abbrev seen : Blocks
   seen = seen_by blocks (sights (slot i))
 
-  within : IsWithin w (slot i) c seen setting
+  pub within : IsWithin w (slot i) c seen setting
   within = (s.ground.sight (slot i) inside).1
 
-  map : IsMapIn same hash here w c seen
+  pub map : IsMapIn same hash here w c seen
   map = map_seen same hash here w c blocks (sights (slot i)) (map_in_slot same hash setting w c blocks (slot i) s.ground.map) (s.ground.sight (slot i) inside).0
 
   -- the tables stand there

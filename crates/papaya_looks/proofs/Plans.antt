@@ -1,18 +1,22 @@
--- A wrong plan beside the law of what steps look at: stepped in a world of a few blocks, where the law's clause is false of it.
-use Rattle.std.specs.Prelude.{ℕ, zero, suc, [], IsSome, ◌⊎◌}
+-- Wrong plans beside the laws of what steps look at, and see: stepped in a world of a few blocks, where a law's clause is false of them.
+use Rattle.std.specs.Prelude.{◌≡◌, ℕ, zero, suc, true, [], IsSome, ◌⊎◌}
 use Rattle.std.proofs.Common.{inl, inr, refl, arith}
 use Rattle.papaya_finishes.specs.Given.SeizeWords.Mem.{Mem, Took, value_at}
 use Rattle.papaya_finishes.specs.Given.SeizeWords.Op.{Load, Found}
-use Rattle.papaya_finishes.specs.Given.SeizeWords.Plan.{Plan, Do, Now, Steps}
+use Rattle.papaya_finishes.specs.Given.SeizeWords.Plan.{Plan, Do, Now, Seeing, Steps}
 use Rattle.papaya_finishes.specs.Given.SeizeWords.declared.at.At.TheVariants.{Word}
+use Rattle.papaya_finishes.specs.Given.Seize.Law.{holds}
 use Rattle.papaya_finishes.specs.Given.Seize.World.{World, Rests, Vacant, Hand, NoBlock, Making, InUse}
 use Rattle.papaya_finishes.specs.Given.Tables.declared.node.Node.{Node}
 use Rattle.papaya_finishes.specs.Given.Raw.CallPoints.{entering, inserting}
 use Rattle.papaya_finishes.specs.Given.Raw.declared.machines.answer.Called.{Called}
 use Rattle.papaya_finishes.specs.Given.Raw.declared.machines.answer.Called.TheVariants as called
 use Rattle.papaya_finishes.specs.Given.Raw.declared.machines.call.KeyCall.{KeyCall}
+use Rattle.papaya_finishes.specs.Given.Raw.declared.machines.machine.Machine.TheVariants as kinds
+use Rattle.papaya_finishes.specs.Given.Raw.declared.machines.progress.Progress.TheVariants as progress
 use Rattle.papaya_finishes.proofs.Given.Late.Plans.FewBlocks.{setting, memory, new}
 use Rattle.papaya_looks.specs.Blocks.{LooksAt, MayMake}
+use Rattle.papaya_looks.specs.Sees.{HasSeen, GoesOn, IsOwnOf}
 use Rattle.papaya_looks.specs.Looks.{IsHeldFor}
 
 -- A call that loads the link of a table which it has left: the first one of that world.
@@ -48,3 +52,14 @@ back_is_refused : (slot caller : ℕ) → (IsSome (value_at memory 2) × (⊥ �
 back_is_refused slot caller (inl (there, inl row)) = row
 back_is_refused slot caller (inl (there, inr held)) = not_held slot caller held
 back_is_refused slot caller (inr made) = made
+
+-- And one that sees that table, once it has loaded its link: no section holds it, and it is no pair of the call's own.
+abbrev sees_back : KeyCall ℕ ℕ ℕ → Plan (Node ℕ ℕ) (KeyCall ℕ ℕ ℕ × Called (Node ℕ ℕ))
+sees_back p = Do (Load (Word 2 0)) (λ out. Seeing 2 (λ value. Now (p, called.Goes)))
+
+back_seen : HasSeen 2 memory (sees_back insertion) memory (insertion, called.Goes)
+back_seen = (Found 6144, (refl, refl), (_, refl, refl), inl refl)
+
+sight_is_refused : (slot : ℕ) → (holds slot 2 world.log ≡ true) ⊎ (IsOwnOf (kinds.Key insertion) 2 × GoesOn {T = Node ℕ ℕ} progress.Goes) → ⊥
+sight_is_refused slot (inl held) = cc held
+sight_is_refused slot (inr (own, on)) = let some = own.1 in cc some

@@ -1,3 +1,4 @@
 pub mod Blocks
 pub mod Looks
 pub mod There
+pub mod Sees

@@ -3,6 +3,7 @@ ghost use Rattle.std.specs.Prelude.{ℕ, Bool, Option};
 ghost use Rattle.seize_acts.specs.Stays.{HeldStay};
 ghost use Rattle.papaya_finishes.specs.Given.Tables.declared.node.Node.{Node};
 ghost use Rattle.papaya_looks.specs.Looks.{StepsLookAtWhatIsHeld, LookupsLookAtWhatIsHeld, MakingsLookAtTheirOwn};
+ghost use Rattle.papaya_looks.specs.Sees.{StepsSeeWhatLasts, OwnPairsAreMade};
 ghost use Rattle.papaya_looks.specs.There.{BlocksAreThere, WordsAreThere, StepsLookAtWhatIsThere};
 
 /// Any callers have calls under way on any maps of one collector, in either mode, and make and end others. Whichever block the next step of one looks at, by its
@@ -15,6 +16,13 @@ pub fn steps_look_at_what_is_held<K, V, Q>()
     ensures lookups { (same : K → K → Bool) (asks : Q → K → Bool) (batch_size roots : ℕ) (slot : ℕ → ℕ) → LookupsLookAtWhatIsHeld V same asks batch_size roots slot }
     ensures stays { (defers : Node K V → Option ℕ) → HeldStay defers }
     ensures makings { (same : K → K → Bool) (asks : Q → K → Bool) (batch_size roots : ℕ) (slot : ℕ → ℕ) → MakingsLookAtTheirOwn V same asks batch_size roots slot }
+{}
+
+/// On a map in incremental mode each block whose value a step of any call looks at, once its operation is answered and at no row, is held by its caller's section; or it is
+/// the call's own pair, with which it goes on, and which its caller has made and has until it is stored or given back. So all of them last until that caller's next step.
+pub fn steps_see_what_lasts<K, V, Q>()
+    ensures lasts { (same : K → K → Bool) (asks : Q → K → Bool) (batch_size roots : ℕ) (slot : ℕ → ℕ) → StepsSeeWhatLasts V same asks batch_size roots slot }
+    ensures own { (same : K → K → Bool) (asks : Q → K → Bool) (batch_size roots : ℕ) (slot : ℕ → ℕ) → OwnPairsAreMade V same asks batch_size roots slot }
 {}
 
 /// Where anything is under way, each block that the next step looks at is there, or the step may make it, be it one of a call, of the making or the end of a map, or of a

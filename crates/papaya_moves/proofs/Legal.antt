@@ -16,15 +16,16 @@ use Rattle.papaya_linear.proofs.Linear.{lists_are_linearizable}
 use Rattle.papaya_protects.proofs.Protected.{lists_are_protected}
 use Rattle.papaya_swept.proofs.Swept.{lists_are_swept}
 use Rattle.papaya_moves.specs.Legal.{KeepsAll, ListsKeepAll}
-use Rattle.papaya_moves.proofs.Moved.{both_asked, lists_move_on}
+use Rattle.papaya_moves.specs.Own.{IsOfItsCall}
+use Rattle.papaya_moves.proofs.Moved.{both_asked, move_as_their_calls}
 
 module _ {K V : Type 0} (same : K → K → Bool) (terms : Terms) where
   -- each entry keeps the one, and the others
-  all_kept : (history : List (Entry K V)) → AtEachEvent (IsLinearizable same) history → AtEachEvent IsProtected history → AtEachEvent (IsSwept same terms) history → AtEachEvent (MovesOn terms) history
+  all_kept : (history : List (Entry K V)) → AtEachEvent (IsLinearizable same) history → AtEachEvent IsProtected history → AtEachEvent (IsSwept same terms) history → AtEachEvent (MovesOn terms) history → AtEachEvent IsOfItsCall history
       → AtEachEvent (KeepsAll same terms) history
-  all_kept [] linear protected swept moves = tt
-  all_kept (e ∷ log) linear protected swept moves =
-      (record { linearizable = linear.0; protected = protected.0; swept = swept.0; moves = moves.0 }, all_kept log linear.1 protected.1 swept.1 moves.1)
+  all_kept [] linear protected swept moves own = tt
+  all_kept (e ∷ log) linear protected swept moves own =
+      (record { linearizable = linear.0; protected = protected.0; swept = swept.0; moves = moves.0; own = own.0 }, all_kept log linear.1 protected.1 swept.1 moves.1 own.1)
 
 module _ {K S : Type 0} (V : Type 0) (same : K → K → Bool) (by_hasher : S → K → ℕ) (hash : ℕ → K → ℕ) (batch_size roots : ℕ) (terms : Terms) where
   -- who asks for such maps asks for so many shards, and each act is of its own
@@ -44,12 +45,12 @@ module _ {K S : Type 0} (V : Type 0) (same : K → K → Bool) (by_hasher : S �
   pub lists_keep_all : ListsKeepAll V same by_hasher hash batch_size roots terms
   lists_keep_all small aborts course doings y led asks new =
       let less = less_asked doings asks in
-      let moves = lists_move_on V same by_hasher hash batch_size roots terms small aborts course doings y led asks new in
+      let moves = move_as_their_calls V same by_hasher hash batch_size roots terms small aborts course doings y led asks new in
       let linear = lists_are_linearizable V same by_hasher hash batch_size roots small aborts course doings y led less.0 new in
       let protected = lists_are_protected V same by_hasher hash batch_size roots small aborts course doings y led less.0 new in
       let swept = lists_are_swept V same by_hasher hash batch_size roots terms small aborts course doings y led less.1 new in (
         moves.0,
         moves.1,
         all_kept same terms moves.0.history (as_of _ linear.0 moves.0 linear.1 moves.1 (IsLinearizable same) linear.2) (as_of _ protected.0 moves.0 protected.1 moves.1 IsProtected protected.2)
-            (as_of _ swept.0 moves.0 swept.1 moves.1 (IsSwept same terms) swept.2) moves.2,
+            (as_of _ swept.0 moves.0 swept.1 moves.1 (IsSwept same terms) swept.2) moves.2 moves.3,
       )

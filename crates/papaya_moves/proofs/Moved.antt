@@ -1,5 +1,5 @@
--- Each entry of the history of each list of acts moves on.
-use Rattle.std.specs.Prelude.{Bool, List, [], ◌∷◌}
+-- Each entry of the history of each list of acts moves on, and is of its call.
+use Rattle.std.specs.Prelude.{◌≡◌, ◌<◌, ◌^◌, Bool, List, [], ◌∷◌, Some}
 use Rattle.std.specs.List.{AllByRecursion}
 use Rattle.std.proofs.Common.{ℕ, refl, sym, subst, ◌∙◌}
 use Rattle.seize_acts.proofs.Answers.{same_some}
@@ -10,16 +10,16 @@ use Rattle.papaya_legal.specs.Given.Follows.Shows.{Shows}
 use Rattle.papaya_legal.specs.Given.Scenes.Scene.{at_first, slot_of}
 use Rattle.papaya_acts.specs.Acts.{Act, BeginsMaking}
 use Rattle.papaya_acts.specs.Doings.{Doing, Does, BeginsReclaiming, BeginsClearing, StepsReclaiming, Chooses}
-use Rattle.papaya_acts.specs.Lists.{Course, nothing_done}
-use Rattle.papaya_agrees.specs.Fresh.{HasNewNumber}
+use Rattle.papaya_acts.specs.Lists.{Course, LedTo, Reached, nothing_done}
+use Rattle.papaya_agrees.specs.Fresh.{HasNewNumber, MakesNew}
 use Rattle.papaya_agrees.specs.Places.{AsksMap, AsksMaps, AsksPlaces}
 use Rattle.papaya_agrees.specs.Shards.{AsksShards}
 use Rattle.papaya_agrees.proofs.Coming.{new_fits}
 use Rattle.papaya_agrees.proofs.GivenBack.{again_first}
 use Rattle.papaya_agrees.proofs.Guards.{guards_at_first}
 use Rattle.papaya_deeds.specs.Deeds.{Entry, moment, named}
-use Rattle.papaya_deeds.specs.History.{past}
-use Rattle.papaya_played.specs.Play.{State, first_state}
+use Rattle.papaya_deeds.specs.History.{MovesOn, past}
+use Rattle.papaya_played.specs.Play.{State, first_state, play_all}
 use Rattle.papaya_played.proofs.Along.{AllFit, AreOfTheirOwn, At, wherever}
 use Rattle.papaya_linear.specs.Linear.{IsOfOwn}
 use Rattle.papaya_linear.proofs.Holding.{AllHolds}
@@ -31,6 +31,7 @@ use Rattle.papaya_swept.proofs.Swept.{first_swept}
 use Rattle.papaya_moves.specs.Finds.{OthersFind}
 use Rattle.papaya_moves.specs.Moves.{ListsMoveOn}
 use Rattle.papaya_moves.specs.Order.{KeepsOrder}
+use Rattle.papaya_moves.specs.Own.{IsOfItsCall}
 use Rattle.papaya_moves.specs.Parts.{DoesIts}
 use Rattle.papaya_moves.specs.Steps.{HasFound, ShowsSteps, StepFinds}
 use Rattle.papaya_moves.proofs.BucketsStay.{first_buckets}
@@ -51,7 +52,7 @@ each_other terms (e ∷ log) does ends others = (others_found terms log e does.0
 
 -- at first
 first_order : (K V : Type 0) (terms : Terms) (roots : ℕ) → KeepsOrder {K = K} {V = V} terms [] (at_first roots)
-first_order K V terms roots = record { under_way = tt; room = λ map i u is. absurd (cc is); each = tt }
+first_order K V terms roots = record { under_way = tt; room = λ map i u is. absurd (cc is); each = tt; own = tt }
 
 module _ (K V : Type 0) (same : K → K → Bool) (terms : Terms) (roots : ℕ) (shown : Shows {K = K} {V = V} same named (moment []) nothing_known (at_first roots)) where
   first_steps : ShowsSteps {K = K} {V = V} same (past []) (moment []) nothing_known (at_first roots)
@@ -128,18 +129,29 @@ module _ {K S : Type 0} (V : Type 0) (same : K → K → Bool) (by_hasher : S �
       first_with_order : WithOrder V same by_hasher hash batch_size roots aborts terms first (first_state roots)
       first_with_order = (first_all, (first_beside, first_order K V terms roots))
 
+  module _ (small : batch_size < 2 ^ 64) (aborts : ℕ → V) (course : Course V same by_hasher batch_size roots slot_of) (doings : List (Doing K V S)) (y : Reached V same by_hasher batch_size roots slot_of)
+      (led : LedTo V same by_hasher batch_size roots slot_of course doings y) (asks : AllByRecursion (AsksMaps V by_hasher hash (shards_of terms)) doings)
+      (makes_new : MakesNew same by_hasher batch_size roots aborts doings (first_state roots)) where
+    pub move_as_their_calls : (after : State K V S) × (play_all same by_hasher batch_size roots aborts doings (first_state roots) ≡ Some after)
+        × AtEachEvent (MovesOn terms) after.history × AtEachEvent IsOfItsCall after.history
+    move_as_their_calls =
+        let own = own_so doings asks in
+        let fit = fit_so aborts doings asks (first_state roots) (new_fits V same by_hasher hash batch_size roots aborts doings (first_state roots) makes_new) in
+        let steps = wherever V same by_hasher hash batch_size roots small aborts (Fits aborts) (WithSteps V same by_hasher hash batch_size roots aborts terms) (steps_stay V same by_hasher hash batch_size roots aborts terms)
+        course doings y led own.0 (first_with_steps aborts course) fit in
+        let others = wherever V same by_hasher hash batch_size roots small aborts (Fits aborts) (OthersStand V same by_hasher hash batch_size roots aborts terms) (others_stay V same by_hasher hash batch_size roots aborts terms)
+        course doings y led own.0 (first_with_order aborts course, (first_buckets roots, tt, tt)) fit in
+        let ends = maps_end_in_order V same by_hasher hash batch_size roots small aborts course doings y led own.1 makes_new in
+        let same_steps = same_some steps.0 others.0 (sym steps.1 ∙ others.1) in
+        let same_ends = same_some ends.0 others.0 (sym ends.1 ∙ others.1) in
+        let does : AtEachEvent DoesIts others.0.history = others.2.0.1.0.0.1.1 in
+        let found : AtEachEvent (StepFinds terms) others.0.history = subst (λ (x : State K V S). AtEachEvent (StepFinds terms) x.history) same_steps steps.2.1.1.each in
+        let ended : AtEachEvent EndsInOrder others.0.history = subst (λ (x : State K V S). AtEachEvent EndsInOrder x.history) same_ends ends.2 in (
+          others.0,
+          others.1,
+          (all_move_on terms others.0.history found (each_other terms others.0.history does ended others.2.1.2) others.2.0.1.1.each does).0,
+          others.2.0.1.1.own,
+        )
+
   pub lists_move_on : ListsMoveOn V same by_hasher hash batch_size roots terms
-  lists_move_on small aborts course doings y led asks makes_new =
-      let own = own_so doings asks in
-      let fit = fit_so aborts doings asks (first_state roots) (new_fits V same by_hasher hash batch_size roots aborts doings (first_state roots) makes_new) in
-      let steps = wherever V same by_hasher hash batch_size roots small aborts (Fits aborts) (WithSteps V same by_hasher hash batch_size roots aborts terms) (steps_stay V same by_hasher hash batch_size roots aborts terms)
-      course doings y led own.0 (first_with_steps aborts course) fit in
-      let others = wherever V same by_hasher hash batch_size roots small aborts (Fits aborts) (OthersStand V same by_hasher hash batch_size roots aborts terms) (others_stay V same by_hasher hash batch_size roots aborts terms)
-      course doings y led own.0 (first_with_order aborts course, (first_buckets roots, tt, tt)) fit in
-      let ends = maps_end_in_order V same by_hasher hash batch_size roots small aborts course doings y led own.1 makes_new in
-      let same_steps = same_some steps.0 others.0 (sym steps.1 ∙ others.1) in
-      let same_ends = same_some ends.0 others.0 (sym ends.1 ∙ others.1) in
-      let does : AtEachEvent DoesIts others.0.history = others.2.0.1.0.0.1.1 in
-      let found : AtEachEvent (StepFinds terms) others.0.history = subst (λ (x : State K V S). AtEachEvent (StepFinds terms) x.history) same_steps steps.2.1.1.each in
-      let ended : AtEachEvent EndsInOrder others.0.history = subst (λ (x : State K V S). AtEachEvent EndsInOrder x.history) same_ends ends.2 in
-      (others.0, others.1, (all_move_on terms others.0.history found (each_other terms others.0.history does ended others.2.1.2) others.2.0.1.1.each does).0)
+  lists_move_on small aborts course doings y led asks makes_new = (let they = move_as_their_calls small aborts course doings y led asks makes_new in (they.0, they.1, they.2))

@@ -3,6 +3,7 @@ pub mod Effects
 pub mod Calls
 pub mod Maps
 pub mod UnderWay
+pub mod Own
 pub mod NotBusy
 pub mod RoomKept
 pub mod Stays

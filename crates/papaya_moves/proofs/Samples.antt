@@ -1,4 +1,5 @@
 -- With which places a map may be made: with sixteen as so many pairs need; and wrong ones.
+mod Own
 use Rattle.std.specs.Prelude.{◌≡◌, ℕ}
 use Rattle.std.proofs.Common.{refl, arith}
 use Rattle.papaya_legal.specs.Given.Tables.declared.resize_mode.ResizeMode.{ResizeMode}

@@ -11,13 +11,15 @@ use Rattle.papaya_agrees.specs.Places.{AsksMaps}
 use Rattle.papaya_deeds.specs.Deeds.{Entry}
 use Rattle.papaya_deeds.specs.History.{IsLinearizable, IsProtected, IsSwept, MovesOn}
 use Rattle.papaya_played.specs.Play.{State, first_state, play_all}
+use Rattle.papaya_moves.specs.Own.{IsOfItsCall}
 
--- An entry is linearizable, reclaims nothing that an open section may still look at, is swept, and moves on.
+-- An entry is linearizable, reclaims nothing that an open section may still look at, is swept, moves on, and is of its call.
 pub record KeepsAll {K V : Type 0} (same : K → K → Bool) (terms : Terms) (log : List (Entry K V)) (e : Entry K V) : Type 0 where
   pub linearizable : IsLinearizable same log e
   pub protected : IsProtected log e
   pub swept : IsSwept same terms log e
   pub moves : MovesOn terms log e
+  pub own : IsOfItsCall log e
 
 -- Keys have a hash by each hasher, and each map has one by its number.
 module _ {K S : Type 0} (V : Type 0) (same : K → K → Bool) (by_hasher : S → K → ℕ) (hash : ℕ → K → ℕ) (batch_size roots : ℕ) (terms : Terms) where

@@ -15,6 +15,7 @@ use Rattle.papaya_agrees.specs.Fresh.{AreNamed}
 use Rattle.papaya_linear.specs.Coming.{Comes}
 use Rattle.papaya_moves.specs.Parts.{DoesIts}
 use Rattle.papaya_moves.specs.Finds.{FindsIts}
+use Rattle.papaya_moves.specs.Own.{IsOfItsCall}
 use Rattle.papaya_moves.specs.Steps.{EachStoresOne, OfStep}
 
 module _ {K V : Type 0} where
@@ -29,11 +30,12 @@ module _ {K V : Type 0} where
   abbrev pub OrderStays : Terms → List (Entry K V) → Entry K V → Type 0
   OrderStays terms log e = AllIsInOrder (moment log) → FindsIts terms log e → OfStep e.deed (EachStoresOne log e) → DoesIts log e → AllIsInOrder (moment (e ∷ log))
 
-  -- So it is of each entry, and by this it will be of the next one: each call of the moment is under way, and one on no key is refused for want of room alone.
+  -- So it is of each entry, which is of its call; and by this it will be of the next one: each call of the moment is under way, and one on no key is refused for want of room alone.
   pub record KeepsOrder (terms : Terms) (history : List (Entry K V)) (s : Scene K V) : Type 0 where
     pub under_way : AreUnderWay (moment history) s
     pub room : (map i : ℕ) (u : UnderWay K V K) → s.calls map i ≡ Some u → RefusedForRoom (machine_of u)
     pub each : AtEachEvent (OrderStays terms) history
+    pub own : AtEachEvent IsOfItsCall history
 
   -- if maps have their numbers as names, and each that is made comes as a new one
   pub record MapsComeNew (history : List (Entry K V)) (s : Scene K V) : Type 0 where

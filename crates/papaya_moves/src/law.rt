@@ -20,7 +20,8 @@ pub fn lists_move_on<K, V, S>()
 
 /// So the history of each list of acts keeps all that is promised of histories. Wherever a list has led, each entry of the history that it comes to as it is
 /// played is linearizable: a call has an answer that was so at a moment since it began, and changes its map at one of its steps. It reclaims nothing that left
-/// its map while a section was open that it does not end. It is swept: calls on whole maps do what they are for. And it moves on. So it is for any callers,
+/// its map while a section was open that it does not end. It is swept: calls on whole maps do what they are for. It moves on. And it is of its call: a call
+/// begins where its caller has none, and a step, a reply or an end is of one that its caller has under way. So it is for any callers,
 /// maps, modes and hashes, whatever the memory chose and refused, whatever closures say, and whoever reclaims all meanwhile, if each map is made with a number
 /// that is not taken, with so many shards as the terms say, and with such places as a capacity asks for.
 pub fn lists_keep_all<K, V, S>()

@@ -1,5 +1,5 @@
 -- A call begins, or is told something; and a map is handed on.
-use Rattle.std.specs.Prelude.{Option, Some}
+use Rattle.std.specs.Prelude.{Option, Some, None}
 use Rattle.std.specs.Option.{is_none}
 use Rattle.std.proofs.Common.{◌≡◌, ℕ, Bool, true, refl, sym, subst, ap, ◌∙◌}
 use Rattle.papaya_scenes.specs.Given.Tables.Chunks.{is_incremental}
@@ -31,7 +31,8 @@ use Rattle.papaya_views.specs.declared.view.Map.{Map}
 use Rattle.papaya_views.specs.declared.view.View.{View}
 use Rattle.papaya_views.specs.declared.view.Work.{Work}
 use Rattle.papaya_views.specs.declared.view.Work.TheVariants.{Nothing, Calls}
-use Rattle.papaya_views.proofs.Leaves.{leaves_all, inside_of, unborn_on, fits_on, own_idle, map_on, call_here}
+use Rattle.papaya_views.proofs.Knows.{knows_inside}
+use Rattle.papaya_views.proofs.Leaves.{Leaves, leaves_all, inside_of, own_idle, map_on, call_here}
 use Rattle.papaya_views.proofs.Moved.{scene_of, are_so, Moved, same_slot, moved}
 use Rattle.papaya_views.proofs.Numbers.{slot_at}
 use Rattle.papaya_views.proofs.UnderWay.{called_at, does as way_does, slot_is as way_slot, on_row as way_on}
@@ -77,6 +78,9 @@ module _ {K V S : Type 0} (same : K → K → Bool) (hash : S → K → ℕ) (fi
     abbrev w : View K V S
     w = calling v machine
 
+    leaves : Leaves same hash fixed.batch_size scene n i None
+    leaves = leaves_all same hash fixed.batch_size scene map.number i (Some u)
+
     go : Moved same hash fixed s h id s.memory w n
     go = record {
       memory = (are_so same hash fixed s h).memory;
@@ -85,16 +89,18 @@ module _ {K V S : Type 0} (same : K → K → Bool) (hash : S → K → ℕ) (fi
         does =
             subst (λ (x : SlotView (Node K V)). DoesSo same hash n i x v.map (Calls machine)) (sym slot_is)
             (subst (λ (x : Option (Map S)). DoesSo same hash n i (Inside t NoBlock) x (Calls machine)) (sym knows) its_does);
-        map = map_on same hash scene n id place fits.slot (leaves_all same hash scene map.number i (Some u)) v.map fits.map;
+        map = map_on same hash scene n id place fits.slot fixed.batch_size None leaves v.map fits.map;
         held = tt;
-        idle = own_idle same hash scene n id place fits.slot (leaves_all same hash scene map.number i (Some u)) fits.idle;
+        idle = own_idle same hash scene n id place fits.slot fixed.batch_size None leaves fits.idle;
       };
-      others = fits_on same hash scene n id place fits.slot (leaves_all same hash scene map.number i (Some u));
-      unborn = unborn_on same hash scene n id place fits.slot (leaves_all same hash scene map.number i (Some u));
+      place = place;
+      its_slot = fits.slot;
+      mine = None;
+      leaves = leaves;
+      theirs = λ j t a b x ne at uses e. cc e;
       alone = same_slot same hash fixed s h id v w at_id refl;
-      held = λ a b inside held over. (held, over);
       fresh = (are_so same hash fixed s h).fresh;
-      ended = λ o. refl;
+      row = knows_inside fixed n id t v.slot slot_is;
     }
 
   -- it has nothing under way, and begins to do this

@@ -24,7 +24,7 @@ module _ {K S : Type 0} (V : Type 0) (same : K → K → Bool) (hash : S → K �
             let made = step.1 out m2 (subst (λ (m : Mem (Node K V)). Took m op out m2) is took) in
             goes same hash fixed s h id v at_id map machine knows works m2 made.end made.steps made.looks made.seen (told same hash v op out)
             (subst (λ (k : Work K V S). told_by same hash v v.map k op out (called v map machine made.end made.looks)) (sym works)
-            (subst (λ (o : Option (Map S)). told_by same hash v o (Calls machine) op out (called v map machine made.end made.looks)) (sym knows) (made.end, made.follows, refl))),
+            (subst (λ (o : Option (Map S)). told_by same hash v o (Calls machine) op out (called v map machine made.end made.looks)) (sym knows) (made.end, made.follows, refl, made.may))),
       )
 
   pub calls_turn : CallsTurn V same hash

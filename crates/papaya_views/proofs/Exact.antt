@@ -1,7 +1,6 @@
 -- On the slot of a seat that has nothing under way no row works.
-use Rattle.std.specs.Prelude.{◌≢◌, Option, Some, None, eqb, cond, length, ◌/◌}
-use Rattle.std.proofs.Common.{◌≡◌, ℕ, ◌+◌, ◌%◌, Bool, true, false, List, [], ◌∷◌, ◌⊎◌, inl, inr, refl, sym, subst, ap, arith, ◌∙◌}
-use Rattle.std.proofs.lemmas.Bool.{cases_eq}
+use Rattle.std.specs.Prelude.{Option, Some, None, eqb, cond, length}
+use Rattle.std.proofs.Common.{◌≡◌, ℕ, ◌+◌, Bool, true, false, List, [], ◌∷◌, inl, inr, refl, sym, subst, ap, arith, ◌∙◌}
 use Rattle.papaya_scenes.specs.Given.Seize.Law.{is_open}
 use Rattle.papaya_scenes.specs.Given.Seize.World.{Row, Rests, Registers, Enters, Settles, Leaves, Defers, Frees, Use, Outside, Inside}
 use Rattle.papaya_scenes.specs.Given.SeizeWaiting.Held.{count, same as is_same}
@@ -21,12 +20,13 @@ use Rattle.seize_views.specs.declared.view.Fixed.{Fixed}
 use Rattle.seize_views.specs.declared.view.View.{View as SlotView}
 use Rattle.seize_views.specs.declared.view.View.TheVariants as slot_view
 use Rattle.seize_views.specs.declared.view.Why.TheVariants.{Retiring, Ending}
-use Rattle.papaya_views.specs.Rule.{MapsWorld, IsSlot, DoesSo, AreSo, Holds, caller_at, place_of}
+use Rattle.papaya_views.specs.Rule.{MapsWorld, DoesSo, AreSo, Holds}
 use Rattle.papaya_views.specs.declared.view.Map.{Map}
 use Rattle.papaya_views.specs.declared.view.View.{View}
 use Rattle.papaya_views.specs.declared.view.Work.{Work}
 use Rattle.papaya_views.specs.declared.view.Work.TheVariants.{Nothing, Calls, Makes}
 use Rattle.papaya_views.proofs.Moved.{scene_of, all_stand, are_so}
+use Rattle.papaya_views.proofs.Whose.{whose}
 
 -- a row that works beside others on a slot works on the one that it is on
 on_slot : (row : Row) (s t : ℕ) → IsRowOn s row → works_on row ≡ t + 1 → shares row ≡ true → s ≡ t
@@ -63,13 +63,8 @@ row_on_slot (slot_view.Left s size way) t on sh = absurd (cc sh)
 row_on_slot (slot_view.Frees s) t on sh = absurd (cc sh)
 row_on_slot (slot_view.Brings b x) t on sh = absurd (cc sh)
 row_on_slot (slot_view.Bears b) t on sh = absurd (cc sh)
-
--- each number is that of a caller
-its_caller : (a : ℕ) → caller_at (a / 65536) (a % 65536) ≡ a
-its_caller a = omega arith
-
-its_place : (a : ℕ) → IsSlot (a % 65536)
-its_place a = omega arith
+row_on_slot (slot_view.Watches s b) t on sh = absurd (cc sh)
+row_on_slot (slot_view.Busy s) t on sh = absurd (cc sh)
 
 same_here : (a : ℕ) (l : List ℕ) → (count a (a ∷ l) ≡ 0) → ⊥
 same_here a l e = grind (arith, e)
@@ -91,36 +86,26 @@ module _ {K V S : Type 0} (same : K → K → Bool) (hash : S → K → ℕ) (fi
       let one = so.apart j id t b u x v at at_id is uses in same_some x v (sym at ∙ ap (view_of s) one ∙ at_id)
 
   -- so nobody's does
-  by_seat : (j a : ℕ) → IsSlot a → works_on (scene.world.row (caller_at j a)) ≡ t + 1 → shares (scene.world.row (caller_at j a)) ≡ true → ⊥
-  by_seat j a is on sh = at (view_of s j) refl
-    where
-      by_work : (x : View K V S) → view_of s j ≡ Some x → (row : Row) → works_on row ≡ t + 1 → shares row ≡ true → (work : Work K V S) (map : Option (Map S)) → x.work ≡ work
-          → scene.world.row (caller_at j (place_of x.slot)) ≡ row → DoesSo same hash scene (caller_at j (place_of x.slot)) x.slot map work → ⊥
-      by_work x at row on sh Nothing map is row_is d =
-          let its : row ≡ row_of x.slot = sym row_is ∙ d.row in
-          let slot = row_on_slot x.slot t (ap works_on (sym its) ∙ on) (ap shares (sym its) ∙ sh) in
-          let one = other j x slot.0 at slot.1 in
-          no_rest row sh (its ∙ ap (λ (y : View K V S). row_of y.slot) one ∙ rests)
-      by_work x at row on sh (Calls p) None is row_is d = d
-      by_work x at row on sh (Calls p) (Some map) is row_is d =
-          let here = on_slot row d.0 t (subst (λ (y : Row). IsRowOn d.0 y) row_is d.4) on sh in
-          let slot : use_of x.slot ≡ Some (t, Inside 0) = ap use_of d.1 ∙ ap (λ (b : ℕ). Some (b, Inside 0)) here in
-          let one = other j x (Inside 0) at slot in
-          let work = sym is ∙ ap (λ (y : View K V S). y.work) one ∙ free in cc work
-      by_work x at row on sh (Makes m hasher opening) map is row_is d = no_rest row sh (sym row_is ∙ d.2)
-
-      at : (o : Option (View K V S)) → view_of s j ≡ o → ⊥
-      at None e = no_rest (scene.world.row (caller_at j a)) sh (so.unborn j a is e).row
-      at (Some x) e = by_place (cases_eq a (place_of x.slot))
-        where
-          by_place : (a ≡ place_of x.slot) ⊎ (a ≢ place_of x.slot) → ⊥
-          by_place (inl here) =
-              by_work x e (scene.world.row (caller_at j a)) on sh x.work x.map refl (ap (λ (b : ℕ). scene.world.row (caller_at j b)) (sym here)) (so.seats j x e).does
-          by_place (inr ne) = no_rest (scene.world.row (caller_at j a)) sh ((so.seats j x e).idle a is ne).row
+  by_work : (j a : ℕ) (x : View K V S) → view_of s j ≡ Some x → works_on (scene.world.row a) ≡ t + 1 → shares (scene.world.row a) ≡ true → (work : Work K V S) (map : Option (Map S))
+      → x.work ≡ work → DoesSo same hash scene a x.slot map work → ⊥
+  by_work j a x at on sh Nothing map is d =
+      let slot = row_on_slot x.slot t (ap works_on (sym d.row) ∙ on) (ap shares (sym d.row) ∙ sh) in
+      let one = other j x slot.0 at slot.1 in
+      no_rest (scene.world.row a) sh (d.row ∙ ap (λ (y : View K V S). row_of y.slot) one ∙ rests)
+  by_work j a x at on sh (Calls p) None is d = d
+  by_work j a x at on sh (Calls p) (Some map) is d =
+      let here = on_slot (scene.world.row a) d.0 t d.4 on sh in
+      let slot : use_of x.slot ≡ Some (t, Inside 0) = ap use_of d.1 ∙ ap (λ (b : ℕ). Some (b, Inside 0)) here in
+      let one = other j x (Inside 0) at slot in
+      let work = sym is ∙ ap (λ (y : View K V S). y.work) one ∙ free in cc work
+  by_work j a x at on sh (Makes m hasher opening) map is d = no_rest (scene.world.row a) sh d.2
 
   nobody : (a : ℕ) → works_on (scene.world.row a) ≡ t + 1 → shares (scene.world.row a) ≡ true → ⊥
   nobody a on sh =
-      by_seat (a / 65536) (a % 65536) (its_place a) (ap (λ (b : ℕ). works_on (scene.world.row b)) (its_caller a) ∙ on) (ap (λ (b : ℕ). shares (scene.world.row b)) (its_caller a) ∙ sh)
+      elim (whose same hash scene (view_of s) so.seats so.unborn a) as (λ _. ⊥) [
+        | inl idle ↦ no_rest (scene.world.row a) sh idle.row
+        | inr k ↦ by_work k.seat a k.knows k.here on sh k.knows.work k.knows.map refl k.does
+      ]
 
   -- the rows that work there, where it is shared
   none_there : (y : Use) → scene.world.uses t ≡ y → is_shared y ≡ true → r.good.used.team t ≡ []

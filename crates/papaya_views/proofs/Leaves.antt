@@ -1,9 +1,10 @@
 -- Where a step of a call has led, or a call has begun or was told something, each other seat knows what is so.
 use Rattle.std.specs.Prelude.{◌≢◌, Option, Some, None}
-use Rattle.std.proofs.Common.{◌≡◌, ℕ, Bool, refl, sym, subst, ◌∙◌, true, false, List, [], ◌∷◌}
+use Rattle.std.proofs.Common.{◌≡◌, ℕ, Bool, ◌⊎◌, inl, inr, refl, sym, subst, ap, ◌∙◌, true, false, List, [], ◌∷◌}
 use Rattle.papaya_scenes.specs.Given.SeizeWords.Mem.{value_at}
 use Rattle.papaya_scenes.specs.Given.Seize.Law.{holds, is_over}
 use Rattle.papaya_scenes.specs.Given.Seize.World.{Row, Use, Vacant, Outside, Inside, Changing, IsInside}
+use Rattle.papaya_scenes.specs.Given.Tables.Nodes.{deferred_word}
 use Rattle.papaya_scenes.specs.Given.Tables.declared.node.Node.{Node}
 use Rattle.papaya_scenes.specs.Given.Callers.Rows.{IsUsedAlike, IsRowOn}
 use Rattle.papaya_scenes.specs.Given.Callers.Together.{UnderWay}
@@ -16,12 +17,15 @@ use Rattle.seize_views.specs.declared.view.Has.{Has}
 use Rattle.seize_views.specs.declared.view.Has.TheVariants.{Nothing as NoBlock}
 use Rattle.seize_views.specs.declared.view.View.{View as SlotView}
 use Rattle.seize_views.specs.declared.view.View.TheVariants as slot_view
-use Rattle.papaya_views.specs.Rule.{IsIdle, IsUsedSo, IsSlot, DoesSo, KnowsMap, Fits, caller_at, place_of, AllHeld}
+use Rattle.papaya_views.specs.Rule.{IsIdle, IsUsedSo, IsSlot, DoesSo, KnowsMap, Fits, caller_at, place_of, IsInSection, IsOfCall, IsHeld, AllHeld}
 use Rattle.papaya_views.specs.declared.view.Map.{Map}
 use Rattle.papaya_views.specs.declared.view.View.{View}
 use Rattle.papaya_views.specs.declared.view.Work.{Work}
 use Rattle.papaya_views.specs.declared.view.Work.TheVariants.{Nothing, Calls, Makes}
+use Rattle.seize_views.proofs.Moved.{not_vacant}
 use Rattle.papaya_views.proofs.Numbers.{seat_apart, slot_apart}
+use Rattle.papaya_views.proofs.Made.{KeepsMade}
+use Rattle.papaya_views.proofs.Ran.{Keeps, Passes}
 
 pub stays_inside : (u v : Use) → IsUsedAlike u v → IsInside u → IsInside v
 stays_inside Vacant v is inside = absurd inside
@@ -40,6 +44,13 @@ alike_same Vacant = refl
 alike_same (Outside n) = (n, refl)
 alike_same (Inside n) = (n, refl)
 alike_same Changing = refl
+
+-- what is used like a slot that is nobody's is nobody's
+pub alike_vacant : (u : Use) → IsUsedAlike u Vacant → u ≡ Vacant
+alike_vacant Vacant is = refl
+alike_vacant (Outside n) is = absurd (cc is.1)
+alike_vacant (Inside n) is = absurd (cc is.1)
+alike_vacant Changing is = absurd (cc is)
 
 pub inside_alike : (u : Use) → IsInside u → IsUsedAlike (Inside 0) u
 inside_alike Vacant is = absurd is
@@ -72,32 +83,39 @@ module _ {K V S : Type 0} (same : K → K → Bool) (hash : S → K → ℕ) whe
           same_slot e = cc e
       by (Makes m hasher opening) map d = absurd (cc (d.0, is))
 
-  -- what a step of this caller leaves: what the others have under way, how slots are used, the maps as callers know them, and what sections hold
-  pub record Leaves (s n : Scene K V) (i : ℕ) : Type 0 where
+  -- What a step of this caller leaves: what the others have under way, how slots are used but its own, the maps as callers know them, what sections hold, what the
+  -- collector has, and within how many steps the others settle.
+  pub record Leaves (size : ℕ) (s n : Scene K V) (i : ℕ) (mine : Option (ℕ × Use)) : Type 0 where
     pub rows : (k : ℕ) → k ≢ i → n.world.row k ≡ s.world.row k
     pub calls : (m k : ℕ) → k ≢ i → n.calls m k ≡ s.calls m k
     pub makers : (k : ℕ) → k ≢ i → n.makers k ≡ s.makers k
     pub enders : (k : ℕ) → n.enders k ≡ s.enders k
-    pub uses : (t : ℕ) → IsUsedAlike (s.world.uses t) (n.world.uses t)
+    pub uses : (t : ℕ) → (s.world.uses t ≡ Vacant → ⊥) → ((a : Use) → mine ≡ Some (t, a) → ⊥) → IsUsedAlike (s.world.uses t) (n.world.uses t)
     pub maps : (m : ℕ) (r : Standing K) → s.maps m ≡ Some r → (r2 : Standing K) × (n.maps m ≡ Some r2) × (r2.setting ≡ r.setting) × (r2.hash ≡ r.hash)
-    pub held : (t b : ℕ) → IsInside (s.world.uses t) → holds t b s.world.log ≡ true → is_over b s.world.log ≡ false
+    pub held : (t b : ℕ) → ((a : Use) → mine ≡ Some (t, a) → ⊥) → IsInside (s.world.uses t) → holds t b s.world.log ≡ true → is_over b s.world.log ≡ false
         → (holds t b n.world.log ≡ true) × (is_over b n.world.log ≡ false) × (value_at n.world.memory b ≡ value_at s.world.memory b)
     pub ended : (o : ℕ) → how_many (is_end_of_owner o) n.world.log ≡ how_many (is_end_of_owner o) s.world.log
+    pub made : (k : ℕ) → k ≢ i → KeepsMade s.world n.world k
+    pub keeps : Keeps s.world n.world
+    pub passes : (c : ℕ) → i ≢ c → Passes deferred_word size s.world n.world c
 
   -- nothing has changed but a call
-  pub leaves_all : (s : Scene K V) (m i : ℕ) (it : Option (UnderWay K V K)) → Leaves s (record s { calls = with_call s.calls m i it }) i
-  leaves_all s m i it = record {
+  pub leaves_all : (size : ℕ) (s : Scene K V) (m i : ℕ) (it : Option (UnderWay K V K)) → Leaves size s (record s { calls = with_call s.calls m i it }) i None
+  leaves_all size s m i it = record {
     rows = λ k ne. refl;
     calls = λ n k ne. call_other s.calls m i it n k ne;
     makers = λ k ne. refl;
     enders = λ k. refl;
-    uses = λ t. alike_same (s.world.uses t);
+    uses = λ t used apart. alike_same (s.world.uses t);
     maps = λ n r is. (r, is, refl, refl);
-    held = λ t b inside held over. (held, over, refl);
+    held = λ t b apart inside held over. (held, over, refl);
     ended = λ o. refl;
+    made = λ k ne b x made is other. is;
+    keeps = λ b its there some. refl;
+    passes = λ c ne was now. ([], refl);
   }
 
-  module _ (s next : Scene K V) (id t : ℕ) (its_slot : IsSlot t) (leaves : Leaves s next (caller_at id t)) where
+  module _ (s next : Scene K V) (id t : ℕ) (its_slot : IsSlot t) (size : ℕ) (mine : Option (ℕ × Use)) (leaves : Leaves size s next (caller_at id t) mine) where
     abbrev i : ℕ
     i = caller_at id t
 
@@ -112,25 +130,34 @@ module _ {K V S : Type 0} (same : K → K → Bool) (hash : S → K → ℕ) whe
     pub unborn_on : (j a : ℕ) → j ≢ id → IsSlot a → IsIdle s (caller_at j a) → IsIdle next (caller_at j a)
     unborn_on j a ne is f = idle_on (caller_at j a) (λ e. ne (seat_apart j id a t is its_slot e)) f
 
-    pub section_on : (a : ℕ) → IsInside (s.world.uses a) → IsInside (next.world.uses a)
-    section_on a is = stays_inside (s.world.uses a) (next.world.uses a) (leaves.uses a) is
+    -- this slot is not its own
+    abbrev IsTheirs : ℕ → Type 0
+    IsTheirs a = (u : Use) → mine ≡ Some (a, u) → ⊥
 
-    used_on : (o : Option (ℕ × Use)) → IsUsedSo s.world o → IsUsedSo next.world o
-    used_on None f = tt
-    used_on (Some slot) f = alike_on slot.1 (s.world.uses slot.0) (next.world.uses slot.0) f (leaves.uses slot.0)
+    abbrev AreTheirs : Option (ℕ × Use) → Type 0
+    AreTheirs o = (a : ℕ) (u : Use) → o ≡ Some (a, u) → IsTheirs a
 
-    does_on : (k : ℕ) → k ≢ i → (slot : SlotView (Node K V)) (map : Option (Map S)) (work : Work K V S) → DoesSo same hash s k slot map work → DoesSo same hash next k slot map work
-    does_on k ne slot map Nothing f = record {
+    pub section_on : (a : ℕ) → IsTheirs a → IsInside (s.world.uses a) → IsInside (next.world.uses a)
+    section_on a apart is = stays_inside (s.world.uses a) (next.world.uses a) (leaves.uses a (λ v. subst (λ (u : Use). IsInside u) v is) apart) is
+
+    used_on : (o : Option (ℕ × Use)) → ((a : ℕ) (u : Use) → o ≡ Some (a, u) → u ≡ Vacant → ⊥) → AreTheirs o → IsUsedSo s.world o → IsUsedSo next.world o
+    used_on None there apart f = tt
+    used_on (Some slot) there apart f =
+        alike_on slot.1 (s.world.uses slot.0) (next.world.uses slot.0) f
+        (leaves.uses slot.0 (λ v. there slot.0 slot.1 refl (alike_vacant slot.1 (subst (λ (u : Use). IsUsedAlike slot.1 u) v f))) (apart slot.0 slot.1 refl))
+
+    does_on : (k : ℕ) → k ≢ i → (slot : SlotView (Node K V)) → AreTheirs (use_of slot) → (map : Option (Map S)) (work : Work K V S) → DoesSo same hash s k slot map work → DoesSo same hash next k slot map work
+    does_on k ne slot apart map Nothing f = record {
       row = leaves.rows k ne ∙ f.row;
-      slot = used_on (use_of slot) f.slot;
+      slot = used_on (use_of slot) (λ a u. not_vacant slot a u) apart f.slot;
       calls = λ n. leaves.calls n k ne ∙ f.calls n;
       makers = leaves.makers k ne ∙ f.makers;
       enders = leaves.enders k ∙ f.enders;
     }
-    does_on k ne slot None (Calls p) f = absurd f
-    does_on k ne slot (Some map) (Calls p) f =
-        (f.0, f.1, section_on f.0 f.2, record { call = f.3.call; here = leaves.calls map.number k ne ∙ f.3.here; is = f.3.is }, subst (λ (x : Row). IsRowOn f.0 x) (sym (leaves.rows k ne)) f.4)
-    does_on k ne slot map (Makes n hasher opening) f = (
+    does_on k ne slot apart None (Calls p) f = absurd f
+    does_on k ne slot apart (Some map) (Calls p) f =
+        (f.0, f.1, section_on f.0 (apart f.0 (Inside 0) (ap use_of f.1)) f.2, record { call = f.3.call; here = leaves.calls map.number k ne ∙ f.3.here; is = f.3.is }, subst (λ (x : Row). IsRowOn f.0 x) (sym (leaves.rows k ne)) f.4)
+    does_on k ne slot apart map (Makes n hasher opening) f = (
       f.0,
       record { making = f.1.making; here = leaves.makers k ne ∙ f.1.here; map = f.1.map; hashes = f.1.hashes; is = f.1.is; calls = λ a. leaves.calls a k ne ∙ f.1.calls a },
       leaves.rows k ne ∙ f.2,
@@ -140,20 +167,29 @@ module _ {K V S : Type 0} (same : K → K → Bool) (hash : S → K → ℕ) whe
     map_on None f = tt
     map_on (Some map) f = let g = leaves.maps map.number f.0 f.1 in (g.0, g.1, g.2 ∙ f.2, g.3 ∙ f.3)
 
-    -- what the section of a slot is known to hold
-    pub held_on : (slot : SlotView (Node K V)) → ((a : ℕ) → slot ≡ slot_view.Inside a NoBlock → IsInside (s.world.uses a)) → (looks : List (ℕ × Node K V)) → AllHeld same hash s slot looks
-        → AllHeld same hash next slot looks
-    held_on slot inside [] f = tt
-    held_on slot inside (look ∷ looks) f =
-        let h = f.0 in let g = leaves.held h.0 look.0 (inside h.0 h.1) h.2 h.3 in ((h.0, h.1, g.0, g.1, g.2 ∙ h.4), held_on slot inside looks f.1)
+    -- what is held for a caller
+    module _ (k : ℕ) (ne : k ≢ i) (slot : SlotView (Node K V)) (apart : AreTheirs (use_of slot)) (inside : (a : ℕ) → slot ≡ slot_view.Inside a NoBlock → IsInside (s.world.uses a)) (work : Work K V S)
+        (lasts : (b : ℕ) (x : Node K V) → value_at s.world.memory b ≡ Some x → IsOfCall same hash work b → value_at next.world.memory b ≡ Some x) where
+      look_on : (look : ℕ × Node K V) → value_at s.world.memory look.0 ≡ Some look.1 → IsInSection same hash s slot look.0 ⊎ IsOfCall same hash work look.0 → IsHeld same hash next slot work look
+      look_on look is (inl (a, slot_is, held, over)) =
+          let g = leaves.held a look.0 (apart a (Inside 0) (ap use_of slot_is)) (inside a slot_is) held over in (g.2 ∙ is, inl (a, slot_is, g.0, g.1))
+      look_on look is (inr of) = (lasts look.0 look.1 is of, inr of)
+
+      pub held_on : (looks : List (ℕ × Node K V)) → AllHeld same hash s slot work looks → AllHeld same hash next slot work looks
+      held_on [] f = tt
+      held_on (look ∷ looks) f = let h = f.0 in (look_on look h.0 h.1, held_on looks f.1)
 
     -- each other seat knows what is so
-    pub fits_on : (j : ℕ) (v : View K V S) → j ≢ id → Fits same hash s j v → Fits same hash next j v
-    fits_on j v ne f = record {
+    pub fits_on : (j : ℕ) (v : View K V S) → j ≢ id → AreTheirs (use_of v.slot)
+        → ((b : ℕ) (x : Node K V) → value_at s.world.memory b ≡ Some x → IsOfCall same hash v.work b → value_at next.world.memory b ≡ Some x)
+        → Fits same hash s j v → Fits same hash next j v
+    fits_on j v ne apart lasts f = record {
       slot = f.slot;
-      does = does_on (caller_at j (place_of v.slot)) (λ e. ne (seat_apart j id (place_of v.slot) t f.slot its_slot e)) v.slot v.map v.work f.does;
+      does = does_on (caller_at j (place_of v.slot)) (λ e. ne (seat_apart j id (place_of v.slot) t f.slot its_slot e)) v.slot apart v.map v.work f.does;
       map = map_on v.map f.map;
-      held = held_on v.slot (λ a is. inside_of s j a v NoBlock f is) v.held f.held;
+      held =
+          held_on (caller_at j (place_of v.slot)) (λ e. ne (seat_apart j id (place_of v.slot) t f.slot its_slot e)) v.slot apart (λ a is. inside_of s j a v NoBlock f is) v.work lasts v.held
+          f.held;
       idle = λ a is other. unborn_on j a ne is (f.idle a is other);
     }
 

@@ -1,9 +1,19 @@
 pub mod Numbers
 mod Quiet
+mod Handed
+mod Ran
+mod Made
+mod Within
+mod Knows
+mod Whose
+mod Alone
 mod Sections
 mod Looked
+mod Settled
+mod RowLooks
 mod Starts
 mod Leaves
+mod Lasts
 mod Moved
 mod Next
 mod UnderWay
@@ -12,5 +22,12 @@ mod Held
 mod Begins
 mod Handing
 mod Makings
+pub mod RowFits
+pub mod RowSteps
+pub mod RowBegins
+mod Views
+pub mod Rows
+pub mod Contents
 pub mod Exact
+pub mod Laws
 mod Samples

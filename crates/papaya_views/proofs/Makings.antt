@@ -2,7 +2,7 @@
 use Rattle.std.specs.Prelude.{◌≢◌, max, Option, Some, None}
 use Rattle.std.specs.Int.{IsPowerOfTwo}
 use Rattle.std.specs.Option.{is_none}
-use Rattle.std.proofs.Common.{◌≡◌, ℕ, ◌+◌, ◌<◌, ◌≤◌, ◌^◌, Bool, List, ◌⊎◌, inl, inr, refl, sym, subst, ap, ◌∙◌, arith}
+use Rattle.std.proofs.Common.{◌≡◌, ℕ, ◌+◌, ◌<◌, ◌≤◌, ◌^◌, Bool, List, [], ◌⊎◌, inl, inr, refl, sym, subst, ap, ◌∙◌, arith}
 use Rattle.std.proofs.lemmas.Bool.{cases_eq}
 use Rattle.papaya_scenes.specs.Given.SeizeWords.Mem.{Mem, Can, Took, value_at}
 use Rattle.papaya_scenes.specs.Given.SeizeWords.Op.{Op, Out}
@@ -30,6 +30,7 @@ use Rattle.papaya_acts.specs.Doings.{Does, MayDo}
 use Rattle.papaya_acts.specs.Leads.{AllStand, Led, MakingCame, making_steps}
 use Rattle.papaya_acts.specs.Lists.{AllMayStep, AllAreActs}
 use Rattle.papaya_acts.proofs.Lists.{steps_are_acts}
+use Rattle.seize_alone.proofs.Histories.Reached.{Reached}
 use Rattle.seize_acts.specs.Answers.{Grant, then_on}
 use Rattle.seize_acts.proofs.Answers.{same_some}
 use Rattle.seize_seats.specs.State.{State, view_of, Goes}
@@ -45,10 +46,12 @@ use Rattle.papaya_views.specs.Told.{told, told_by, made_after}
 use Rattle.papaya_views.specs.declared.view.View.{View}
 use Rattle.papaya_views.specs.declared.view.Work.{Work}
 use Rattle.papaya_views.specs.declared.view.Work.TheVariants.{Nothing, Makes}
-use Rattle.papaya_views.proofs.Leaves.{Leaves, alike_same, unborn_on, fits_on, own_idle, map_on}
+use Rattle.papaya_views.proofs.Knows.{knows_rests}
+use Rattle.papaya_views.proofs.Leaves.{Leaves, alike_same, own_idle, map_on}
 use Rattle.papaya_views.proofs.Looked.{Made, may_op}
+use Rattle.papaya_views.proofs.Made.{making_keeps}
 use Rattle.papaya_views.proofs.Moved.{scene_of, all_stand, are_so, Moved, same_slot, moved}
-use Rattle.papaya_views.proofs.Quiet.{users_stay, users_end_none}
+use Rattle.papaya_views.proofs.Ran.{Ran, ran_stays, ran_ends_none, ran_keeps, ran_passes}
 use Rattle.papaya_views.proofs.Sections.{as_users}
 
 module _ {K V S : Type 0} (same : K → K → Bool) (hash : S → K → ℕ) (fixed : Fixed) (s : State (Node K V) (View K V S) (MapsWorld K V S)) (h : Holds same hash fixed s)
@@ -103,16 +106,19 @@ module _ {K V S : Type 0} (same : K → K → Bool) (hash : S → K → ℕ) (fi
     abbrev n : Scene K V
     n = record scene { makers = with_at scene.makers i (Some b) }
 
-    leaves : Leaves same hash scene n i
+    leaves : Leaves same hash fixed.batch_size scene n i None
     leaves = record {
       rows = λ k ne. refl;
       calls = λ a k ne. refl;
       makers = λ k ne. at_other scene.makers i (Some b) k ne;
       enders = λ k. refl;
-      uses = λ t. alike_same (scene.world.uses t);
+      uses = λ t used apart. alike_same (scene.world.uses t);
       maps = λ a r is. (r, is, refl, refl);
-      held = λ t a inside held over. (held, over, refl);
+      held = λ t a apart inside held over. (held, over, refl);
       ended = λ o. refl;
+      made = λ k ne x y made is other. is;
+      keeps = λ a its there some. refl;
+      passes = λ c ne was now. ([], refl);
     }
 
     abbrev w : View K V S
@@ -129,16 +135,18 @@ module _ {K V S : Type 0} (same : K → K → Bool) (hash : S → K → ℕ) (fi
       own = record {
         slot = fits.slot;
         does = (rests, record { making = b; here = at_same scene.makers i (Some b) i refl; map = refl; hashes = refl; is = refl; calls = has_row.calls }, has_row.row);
-        map = map_on same hash scene n id place fits.slot leaves v.map fits.map;
+        map = map_on same hash scene n id place fits.slot fixed.batch_size None leaves v.map fits.map;
         held = tt;
-        idle = own_idle same hash scene n id place fits.slot leaves fits.idle;
+        idle = own_idle same hash scene n id place fits.slot fixed.batch_size None leaves fits.idle;
       };
-      others = fits_on same hash scene n id place fits.slot leaves;
-      unborn = unborn_on same hash scene n id place fits.slot leaves;
+      place = place;
+      its_slot = fits.slot;
+      mine = None;
+      leaves = leaves;
+      theirs = λ j t a b x ne at uses e. cc e;
       alone = same_slot same hash fixed s h id v w at_id refl;
-      held = λ t a inside held over. (held, over);
       fresh = (m + 1, ((λ a above. so.fresh.1.0 a (omega (arith, above))), (λ j d is. fresh_then j d is (cases_eq j i))));
-      ended = λ o. refl;
+      row = knows_rests fixed n id v.slot rests;
     }
 
     begins : Goes (Holds same hash fixed) KeepsFor s s.memory id (λ x. (a : ℕ) × (x ≡ making v a hasher (opening given fixed.roots places)))
@@ -214,6 +222,20 @@ module _ {K V S : Type 0} (same : K → K → Bool) (hash : S → K → ℕ) (fi
       none_ended None e = e
       none_ended (Some f) e = let a = (all.alone i f e).1 in let b = does.1.here in absurd (cc (a, b))
 
+      reached : Reached deferred_word fixed.batch_size scene.world
+      reached = came_reached fixed.batch_size scene.world all.makings.standing.came
+
+      -- it is a step of the making in the scene
+      its_steps : Steps Took value_at scene.world.memory (new_map_plan {K = K} {V = V} d.machine) led.2 (led.3, led.4)
+      its_steps =
+          subst (λ (x : Beginning K). Steps Took value_at scene.world.memory (new_map_plan {K = K} {V = V} x.machine) led.2 (led.3, led.4)) same_making
+          (subst (λ (x : NewMap). Steps Took value_at scene.world.memory (new_map_plan {K = K} {V = V} x) led.2 (led.3, led.4)) (sym does.1.is)
+          (subst (λ (x : Mem (Node K V)). Steps Took value_at scene.world.memory (new_map_plan {K = K} {V = V} machine) x (led.3, led.4)) memory_is
+          (subst (λ (x : NewMap × Progress Setting). Steps Took value_at scene.world.memory (new_map_plan {K = K} {V = V} machine) m2 x) end_is made.steps)))
+
+      ran : Ran deferred_word fixed.batch_size i scene.world w2
+      ran = inl (did.step.events, as_users did.step.events did.step.users, did.step.runs)
+
       -- where it has come: maps and makings are these then
       module _ (maps2 : ℕ → Option (Standing K)) (it : Option (Beginning K))
           (stand : (a : ℕ) (r : Standing K) → scene.maps a ≡ Some r → (r2 : Standing K) × (maps2 a ≡ Some r2) × (r2.setting ≡ r.setting) × (r2.hash ≡ r.hash))
@@ -221,18 +243,19 @@ module _ {K V S : Type 0} (same : K → K → Bool) (hash : S → K → ℕ) (fi
         abbrev n2 : Scene K V
         n2 = record { world = w2; maps = maps2; calls = scene.calls; makers = with_at scene.makers i it; enders = scene.enders }
 
-        step_leaves : Leaves same hash scene n2 i
+        step_leaves : Leaves same hash fixed.batch_size scene n2 i None
         step_leaves = record {
           rows = λ k ne. rows k;
           calls = λ a k ne. refl;
           makers = λ k ne. at_other scene.makers i it k ne;
           enders = λ k. refl;
-          uses = λ t. subst (λ (u : Use). IsUsedAlike (scene.world.uses t) u) (sym (uses t)) (alike_same (scene.world.uses t));
+          uses = λ t used apart. subst (λ (u : Use). IsUsedAlike (scene.world.uses t) u) (sym (uses t)) (alike_same (scene.world.uses t));
           maps = stand;
-          held = λ t a inside held over.
-              (users_stay deferred_word fixed.batch_size did.step.events scene.world w2 (came_reached fixed.batch_size scene.world all.makings.standing.came)
-              (as_users did.step.events did.step.users) did.step.runs t).1 a held over;
-          ended = users_end_none deferred_word fixed.batch_size did.step.events scene.world w2 (as_users did.step.events did.step.users) did.step.runs;
+          held = λ t a apart inside held over. (ran_stays deferred_word fixed.batch_size i scene.world w2 reached ran t inside).1 a held over;
+          ended = ran_ends_none deferred_word fixed.batch_size i scene.world w2 reached ran;
+          made = making_keeps same hash fixed.batch_size fixed.roots scene all i d led.1 led.2 (led.3, led.4) its_steps w2 did.step.memory;
+          keeps = ran_keeps deferred_word fixed.batch_size i scene.world w2 reached ran;
+          passes = λ c ne. ran_passes deferred_word fixed.batch_size i c ne scene.world w2 reached ran;
         }
 
         fresh_on : (j : ℕ) (e : Beginning K) → with_at scene.makers i it j ≡ Some e → (j ≡ i) ⊎ (j ≢ i) → e.map < so.fresh.0
@@ -244,19 +267,21 @@ module _ {K V S : Type 0} (same : K → K → Bool) (hash : S → K → ℕ) (fi
         come x slot_is own = record {
           memory = memory_is ∙ sym did.step.memory;
           own = own;
-          others = fits_on same hash scene n2 id place fits.slot step_leaves;
-          unborn = unborn_on same hash scene n2 id place fits.slot step_leaves;
+          place = place;
+          its_slot = fits.slot;
+          mine = None;
+          leaves = step_leaves;
+          theirs = λ j t a b y ne at uses e. cc e;
           alone = same_slot same hash fixed s h id v x at_id slot_is;
-          held = λ t a inside held over. let g = step_leaves.held t a inside held over in (g.0, g.1);
           fresh = (so.fresh.0, (none, (λ j e is. fresh_on j e is (cases_eq j i))));
-          ended = step_leaves.ended;
+          row = knows_rests fixed n2 id x.slot (slot_is ∙ does.0);
         }
 
         its_idle : (t : ℕ) → IsSlot t → t ≢ place → IsIdle n2 (caller_at id t)
-        its_idle = own_idle same hash scene n2 id place fits.slot step_leaves fits.idle
+        its_idle = own_idle same hash scene n2 id place fits.slot fixed.batch_size None step_leaves fits.idle
 
         map_still : KnowsMap same hash n2 v.map
-        map_still = map_on same hash scene n2 id place fits.slot step_leaves v.map fits.map
+        map_still = map_on same hash scene n2 id place fits.slot fixed.batch_size None step_leaves v.map fits.map
 
         -- the making is over
         over : it ≡ None → HasRow n2 i v.slot

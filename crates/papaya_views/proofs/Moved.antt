@@ -1,26 +1,30 @@
 -- An act of a seat makes the rule hold again, where it has left what the other seats know.
-use Rattle.std.specs.Prelude.{◌≢◌, ◌++◌, Some, None, slice_get, slice_set}
-use Rattle.std.proofs.Common.{◌≡◌, ℕ, Bool, true, false, [], ◌∷◌, ◌⊎◌, inl, inr, refl, sym, subst, ap, ◌∙◌}
+use Rattle.std.specs.Prelude.{◌≢◌, ◌++◌, Option, Some, None, slice_get, slice_set}
+use Rattle.std.proofs.Common.{◌≡◌, ℕ, Bool, [], ◌∷◌, ◌⊎◌, inl, inr, refl, sym, subst, ap, ◌∙◌}
 use Rattle.std.proofs.lemmas.Bool.{cases_eq}
 use Rattle.papaya_scenes.specs.Given.SeizeWords.Mem.{Mem}
-use Rattle.papaya_scenes.specs.Given.Seize.Law.{holds, is_over}
-use Rattle.papaya_scenes.specs.Given.Seize.World.{Use, IsInside}
+use Rattle.papaya_scenes.specs.Given.Seize.World.{Use, Inside}
 use Rattle.papaya_scenes.specs.Given.Tables.declared.node.Node.{Node}
+use Rattle.papaya_scenes.specs.Given.Callers.Together.{CameAbout}
 use Rattle.papaya_scenes.specs.Scene.{Scene, slot_of}
 use Rattle.papaya_acts.specs.Acts.{Act}
 use Rattle.papaya_acts.specs.Doings.{Does, MayDo}
 use Rattle.papaya_acts.specs.Leads.{AllStand}
 use Rattle.papaya_acts.specs.Lists.{Reached, LedTo, nothing_done, on_by}
 use Rattle.papaya_acts.proofs.Further.{led_further}
-use Rattle.seize_acts.specs.Stays.{how_many, is_end_of_owner}
+use Rattle.seize_bounds.specs.Bounds.{IsAloneOnSlot}
 use Rattle.seize_acts.proofs.Answers.{same_some}
 use Rattle.seize_seats.specs.State.{State, view_of, Goes}
 use Rattle.seize_views.specs.Rows.{use_of}
 use Rattle.seize_views.specs.declared.view.Fixed.{Fixed}
 use Rattle.seize_views.proofs.Lists.{there, elsewhere}
-use Rattle.papaya_views.specs.Rule.{MapsWorld, IsSlot, IsIdle, Fits, AreSo, Holds, KeepsFor, caller_at, IsFresh}
+use Rattle.papaya_views.specs.Rule.{MapsWorld, IsSlot, IsIdle, Fits, AreSo, KnowsRow, Holds, KeepsFor, caller_at, place_of, IsFresh}
 use Rattle.papaya_views.specs.declared.view.View.{View}
-use Rattle.papaya_views.proofs.Leaves.{inside_of}
+use Rattle.papaya_views.proofs.Alone.{alone_on_slot}
+use Rattle.papaya_views.proofs.Knows.{knows_on}
+use Rattle.papaya_views.proofs.Leaves.{Leaves, inside_of, unborn_on, fits_on}
+use Rattle.papaya_views.proofs.Lasts.{of_call_lasts}
+use Rattle.papaya_views.proofs.Numbers.{seat_apart}
 
 module _ {K V S : Type 0} (same : K → K → Bool) (hash : S → K → ℕ) (fixed : Fixed) (s : State (Node K V) (View K V S) (MapsWorld K V S)) (h : Holds same hash fixed s) where
   abbrev pub scene_of : Scene K V
@@ -32,17 +36,18 @@ module _ {K V S : Type 0} (same : K → K → Bool) (hash : S → K → ℕ) (fi
   pub are_so : AreSo same hash s scene_of
   are_so = subst (λ (x : Scene K V). AreSo same hash s x) h.scene h.so
 
-  -- the seat has come to this view and this scene, and the others know what they knew
+  -- The seat has come to this view and this scene, as the caller that it is in this place, and the others know what they knew: what changes of slots is its own.
   pub record Moved (id : ℕ) (m : Mem (Node K V)) (w : View K V S) (n : Scene K V) : Type 0 where
     pub memory : m ≡ n.world.memory
     pub own : Fits same hash n id w
-    pub others : (j : ℕ) (x : View K V S) → j ≢ id → Fits same hash scene_of j x → Fits same hash n j x
-    pub unborn : (j a : ℕ) → j ≢ id → IsSlot a → IsIdle scene_of (caller_at j a) → IsIdle n (caller_at j a)
+    pub place : ℕ
+    pub its_slot : IsSlot place
+    pub mine : Option (ℕ × Use)
+    pub leaves : Leaves same hash fixed.batch_size scene_of n (caller_at id place) mine
+    pub theirs : (j t : ℕ) (a b : Use) (x : View K V S) → j ≢ id → view_of s j ≡ Some x → use_of x.slot ≡ Some (t, a) → mine ≡ Some (t, b) → ⊥
     pub alone : (j t : ℕ) (a b : Use) (x : View K V S) → j ≢ id → view_of s j ≡ Some x → use_of x.slot ≡ Some (t, a) → use_of w.slot ≡ Some (t, b) → ⊥
-    pub held : (t b : ℕ) → IsInside (scene_of.world.uses t) → holds t b scene_of.world.log ≡ true → is_over b scene_of.world.log ≡ false
-        → (holds t b n.world.log ≡ true) × (is_over b n.world.log ≡ false)
     pub fresh : (k : ℕ) × IsFresh n k
-    pub ended : (o : ℕ) → how_many (is_end_of_owner o) n.world.log ≡ how_many (is_end_of_owner o) scene_of.world.log
+    pub row : KnowsRow fixed n id w.slot
 
   -- the slot that it had is no other seat's
   pub same_slot : (id : ℕ) (v w : View K V S) → view_of s id ≡ Some v → w.slot ≡ v.slot
@@ -65,14 +70,25 @@ module _ {K V S : Type 0} (same : K → K → Bool) (hash : S → K → ℕ) (fi
     before : (j : ℕ) → j ≢ id → view_of s j ≡ slice_get (slice_set s.views id w) j
     before j ne = sym (elsewhere s.views id j w ne)
 
+    came : CameAbout fixed.batch_size n.world
+    came = subst (λ (x : Scene K V). CameAbout fixed.batch_size x.world) comes led_to.0.1.makings.standing.came
+
     seats : (j : ℕ) (x : View K V S) → slice_get (slice_set s.views id w) j ≡ Some x → (j ≡ id) ⊎ (j ≢ id) → Fits same hash n j x
     seats j x at (inl e) =
         subst (λ (y : View K V S). Fits same hash n j y) (same_some w x (sym (here j e) ∙ at)) (subst (λ (a : ℕ). Fits same hash n a w) (sym e) go.own)
-    seats j x at (inr ne) = go.others j x ne (are_so.seats j x (before j ne ∙ at))
+    seats j x at (inr ne) =
+        let at_j = before j ne ∙ at in
+        fits_on same hash scene_of n id go.place go.its_slot fixed.batch_size go.mine go.leaves j x ne (λ t a uses u. go.theirs j t a u x ne at_j uses)
+        (λ b y is of.
+        let f = are_so.seats j x at_j in
+        of_call_lasts same hash fixed.batch_size fixed.roots scene_of n all_stand came (caller_at id go.place) go.mine go.leaves (caller_at j (place_of x.slot))
+        (λ e. ne (seat_apart j id (place_of x.slot) go.place f.slot go.its_slot e)) b y is x.slot x.map x.work f.does f.map of)
+        (are_so.seats j x at_j)
 
     unborn : (j a : ℕ) → IsSlot a → slice_get (slice_set s.views id w) j ≡ None → (j ≡ id) ⊎ (j ≢ id) → IsIdle n (caller_at j a)
     unborn j a is at (inl e) = let f = here j e in absurd (cc (f, at))
-    unborn j a is at (inr ne) = go.unborn j a ne is (are_so.unborn j a is (before j ne ∙ at))
+    unborn j a is at (inr ne) =
+        unborn_on same hash scene_of n id go.place go.its_slot fixed.batch_size go.mine go.leaves j a ne is (are_so.unborn j a is (before j ne ∙ at))
 
     apart : (j k t : ℕ) (a b : Use) (x y : View K V S) → slice_get (slice_set s.views id w) j ≡ Some x → slice_get (slice_set s.views id w) k ≡ Some y
         → use_of x.slot ≡ Some (t, a) → use_of y.slot ≡ Some (t, b) → (j ≡ id) ⊎ (j ≢ id) → (k ≡ id) ⊎ (k ≢ id) → j ≡ k
@@ -88,11 +104,35 @@ module _ {K V S : Type 0} (same : K → K → Bool) (hash : S → K → ℕ) (fi
     abbrev after : MapsWorld K V S
     after = record { doings = s.world.doings ++ Does act ∷ []; scene = n }
 
-    kept : (j b : ℕ) (x o : View K V S) → view_of s j ≡ Some x → KeepsFor x o s.world b → KeepsFor x o after b
-    kept j b x o at keeps =
+    kept : (j b : ℕ) (x o : View K V S) → j ≢ id → view_of s j ≡ Some x → KeepsFor x o s.world b → KeepsFor x o after b
+    kept j b x o ne at keeps =
         let k = subst (λ (y : Scene K V). KeepsFor x o (record { doings = s.world.doings; scene = y }) b) h.scene keeps in
         let is = inside_of same hash scene_of j k.0 x k.1 (are_so.seats j x at) k.2 in
-        let g = go.held k.0 b is k.3 k.4 in (k.0, k.1, k.2, g.0, g.1)
+        let theirs : (u : Use) → go.mine ≡ Some (k.0, u) → ⊥ = λ u. go.theirs j k.0 (Inside 0) u x ne at (ap use_of k.2) in
+        let g = go.leaves.held k.0 b theirs is k.3 k.4 in (k.0, k.1, k.2, g.0, g.1)
+
+    -- what each seat knows of its row
+
+    -- nobody else settles on a seat's slot
+
+    alone_before : (c : ℕ) → IsAloneOnSlot c scene_of.world
+    alone_before = alone_on_slot same hash scene_of (view_of s) are_so.seats are_so.unborn are_so.apart
+
+    alone_after : (c : ℕ) → IsAloneOnSlot c n.world
+    alone_after =
+        alone_on_slot same hash n (λ j. slice_get (slice_set s.views id w) j) (λ j x at. seats j x at (cases_eq j id)) (λ j a is at. unborn j a is at (cases_eq j id))
+        (λ j k t a b x y e f p q. apart j k t a b x y e f p q (cases_eq j id) (cases_eq k id))
+
+    rows : (j : ℕ) (x : View K V S) → slice_get (slice_set s.views id w) j ≡ Some x → (j ≡ id) ⊎ (j ≢ id) → KnowsRow fixed n j x.slot
+    rows j x at (inl e) =
+        subst (λ (y : View K V S). KnowsRow fixed n j y.slot) (same_some w x (sym (here j e) ∙ at)) (subst (λ (a : ℕ). KnowsRow fixed n a w.slot) (sym e) go.row)
+    rows j x at (inr ne) =
+        let at_j = before j ne ∙ at in
+        let fits = are_so.seats j x at_j in
+        let c = caller_at j (place_of x.slot) in
+        let pass = go.leaves.passes c (λ e. ne (seat_apart j id (place_of x.slot) go.place fits.slot go.its_slot (sym e))) (alone_before c) (alone_after c) in
+        knows_on same hash fixed j x scene_of n all_stand.makings.standing.came came fits (seats j x at (inr ne)) go.leaves.keeps pass.0 pass.1
+        (subst (λ (y : Scene K V). KnowsRow fixed y j x.slot) h.scene (h.rows j x at_j))
 
     pub moved : (so : View K V S → Type 0) → so w → Goes (Holds same hash fixed) KeepsFor s m id so
     moved so is = (
@@ -110,9 +150,10 @@ module _ {K V S : Type 0} (same : K → K → Bool) (hash : S → K → ℕ) (fi
           unborn = λ j a slot at. unborn j a slot at (cases_eq j id);
           apart = λ j k t a b x y e f p q. apart j k t a b x y e f p q (cases_eq j id) (cases_eq k id);
           fresh = go.fresh;
-          unended = λ o. go.ended o ∙ are_so.unended o;
+          unended = λ o. go.leaves.ended o ∙ are_so.unended o;
         };
+        rows = λ j x at. rows j x at (cases_eq j id);
       },
-      λ j k b u o ne ne2 at at2 keeps. kept j b u o at keeps,
+      λ j k b u o ne ne2 at at2 keeps. kept j b u o ne at keeps,
       is,
     )

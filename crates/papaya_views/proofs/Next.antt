@@ -4,6 +4,7 @@ use Rattle.std.proofs.Common.{◌≡◌, ℕ, Bool, ◌⊎◌, inl, inr, refl, s
 use Rattle.std.proofs.lemmas.Bool.{cases_eq}
 use Rattle.papaya_scenes.specs.Given.SeizeWords.Mem.{Mem}
 use Rattle.papaya_scenes.specs.Given.Seize.World.{IsInside}
+use Rattle.papaya_scenes.specs.Given.Tables.Nodes.{deferred_word}
 use Rattle.papaya_scenes.specs.Given.Tables.declared.node.Node.{Node}
 use Rattle.papaya_scenes.specs.Given.Raw.declared.machines.machine.Machine.{Machine}
 use Rattle.papaya_scenes.specs.Given.Raw.declared.machines.progress.Progress.{Progress}
@@ -16,6 +17,8 @@ use Rattle.papaya_scenes.specs.Given.Finishes.Makings.{Beginning}
 use Rattle.papaya_scenes.specs.Given.Finishes.Maps.{Standing, IsSameMap, with_call}
 use Rattle.papaya_scenes.specs.Scene.{Scene, slot_of}
 use Rattle.papaya_acts.specs.Leads.{AllStand}
+use Rattle.papaya_scenes.proofs.Given.Callers.Together.Came.{came_reached}
+use Rattle.seize_alone.proofs.Histories.Reached.{Reached}
 use Rattle.seize_acts.proofs.Answers.{same_some}
 use Rattle.seize_views.specs.declared.view.Has.TheVariants.{Nothing as NoBlock}
 use Rattle.seize_views.specs.declared.view.View.TheVariants as slot_view
@@ -23,8 +26,10 @@ use Rattle.papaya_views.specs.Rule.{HasRow, IsSlot, DoesSo, caller_at, IsFresh}
 use Rattle.papaya_views.specs.Told.{call_after}
 use Rattle.papaya_views.specs.declared.view.Map.{Map}
 use Rattle.papaya_views.specs.declared.view.Work.TheVariants.{Calls}
+use Rattle.papaya_views.proofs.Made.{call_keeps}
 use Rattle.papaya_views.proofs.Numbers.{slot_at}
-use Rattle.papaya_views.proofs.Sections.{calls_leave_sections, calls_end_none}
+use Rattle.papaya_views.proofs.Ran.{Ran, ran_stays, ran_ends_none, ran_keeps, ran_passes}
+use Rattle.papaya_views.proofs.Sections.{calls_ran}
 use Rattle.papaya_views.proofs.Leaves.{Leaves, section_on, inside_alike, call_here, call_other, call_elsewhere}
 
 module _ {K V S : Type 0} (same : K → K → Bool) (hash : S → K → ℕ) (batch_size roots : ℕ) (s : Scene K V) (all : AllStand same hash batch_size roots slot_of s) (id t m : ℕ)
@@ -51,16 +56,25 @@ module _ {K V S : Type 0} (same : K → K → Bool) (hash : S → K → ℕ) (ba
     abbrev pub after : Scene K V
     after = record { world = did.w2; maps = did.maps2; calls = with_call s.calls m i did.next; makers = s.makers; enders = s.enders }
 
-    pub step_leaves : Leaves same hash s after i
+    r : Reached deferred_word batch_size s.world
+    r = came_reached batch_size s.world all.makings.standing.came
+
+    ran : Ran deferred_word batch_size i s.world did.w2
+    ran = calls_ran same hash batch_size roots slot_of s all m it stands i u m2 machine told did
+
+    pub step_leaves : Leaves same hash batch_size s after i None
     step_leaves = record {
       rows = did.rows;
       calls = λ n k ne. call_other s.calls m i did.next n k ne;
       makers = λ k ne. refl;
       enders = λ k. refl;
-      uses = did.slots.uses;
+      uses = λ a used apart. did.slots.uses a;
       maps = λ n r is. maps n r is (cases_eq n m);
-      held = λ a b is held over. (calls_leave_sections same hash batch_size roots slot_of s all m it stands i u here m2 machine told did a is).1 b held over;
-      ended = calls_end_none same hash batch_size roots slot_of s all m it stands i u here m2 machine told did;
+      held = λ a b apart is held over. (ran_stays deferred_word batch_size i s.world did.w2 r ran a is).1 b held over;
+      ended = ran_ends_none deferred_word batch_size i s.world did.w2 r ran;
+      made = λ k ne. call_keeps same hash batch_size roots s all m it stands i u m2 machine told did k ne;
+      keeps = ran_keeps deferred_word batch_size i s.world did.w2 r ran;
+      passes = λ c ne. ran_passes deferred_word batch_size i c ne s.world did.w2 r ran;
     }
       where
         maps : (n : ℕ) (r : Standing K) → s.maps n ≡ Some r → (n ≡ m) ⊎ (n ≢ m) → (r2 : Standing K) × (did.maps2 n ≡ Some r2) × (r2.setting ≡ r.setting) × (r2.hash ≡ r.hash)
@@ -83,7 +97,7 @@ module _ {K V S : Type 0} (same : K → K → Bool) (hash : S → K → ℕ) (ba
     ended : did.next ≡ None → HasRow after i (slot_view.Inside t NoBlock)
     ended none = record {
       row = did.rests none;
-      slot = inside_alike (did.w2.uses t) (section_on same hash s after id t its_slot step_leaves t inside);
+      slot = inside_alike (did.w2.uses t) (section_on same hash s after id t its_slot batch_size None step_leaves t (λ a e. cc e) inside);
       calls = λ n. calls_none n (cases_eq n m);
       makers = none_made (s.makers i) refl;
       enders = none_ended (s.enders i) refl;
@@ -102,7 +116,7 @@ module _ {K V S : Type 0} (same : K → K → Bool) (hash : S → K → ℕ) (ba
     goes_as map number x is one = (
       t,
       refl,
-      section_on same hash s after id t its_slot step_leaves t inside,
+      section_on same hash s after id t its_slot batch_size None step_leaves t (λ a e. cc e) inside,
       record { call = x; here = ap (λ (a : ℕ). with_call s.calls m i did.next a i) number ∙ call_here s.calls m i did.next ∙ is; is = one },
       subst (λ (a : ℕ). IsRowOn a (did.w2.row i)) at_slot (did.slots.on_slot (subst (λ (a : ℕ). IsRowOn a (s.world.row i)) (sym at_slot) on_row)),
     )

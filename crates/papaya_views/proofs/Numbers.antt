@@ -1,5 +1,6 @@
 -- A seat is another caller in each slot.
-use Rattle.std.proofs.Common.{◌≡◌, ℕ, arith}
+use Rattle.std.specs.Prelude.{◌/◌}
+use Rattle.std.proofs.Common.{◌≡◌, ℕ, ◌%◌, arith}
 use Rattle.papaya_scenes.specs.Scene.{slot_of}
 use Rattle.papaya_views.specs.Rule.{caller_at, IsSlot}
 
@@ -14,3 +15,10 @@ slot_apart seat other s t is is2 e = omega (arith, is, is2, e)
 
 pub first_slot : IsSlot 0
 first_slot = omega arith
+
+-- each number is that of a caller
+pub its_caller : (a : ℕ) → caller_at (a / 65536) (a % 65536) ≡ a
+its_caller a = omega arith
+
+pub its_place : (a : ℕ) → IsSlot (a % 65536)
+its_place a = omega arith

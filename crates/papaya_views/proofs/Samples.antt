@@ -1,22 +1,33 @@
--- What the first operation of a lookup tells its seat, on a map that has no table.
+-- What the first operation of a lookup tells its seat, on a map that has no table; and what the operation of a row does.
 use Rattle.std.specs.Prelude.{ℕ, ◌==◌, Bool, [], Some}
-use Rattle.std.proofs.Common.{refl, ap}
-use Rattle.papaya_scenes.specs.Given.SeizeWords.Op.{Load, Found}
-use Rattle.papaya_scenes.specs.Given.SeizeWords.declared.at.At.TheVariants.{Root}
+use Rattle.std.proofs.Common.{inl, refl, ap}
+use Rattle.papaya_scenes.specs.Given.SeizeWords.Op.{Load, Store, Found, Stored}
+use Rattle.papaya_scenes.specs.Given.SeizeWords.declared.at.At.TheVariants.{Root, Slot}
 use Rattle.papaya_scenes.specs.Given.Tables.declared.node.Node.{Node}
 use Rattle.papaya_scenes.specs.Given.Tables.declared.resize_mode.ResizeMode.TheVariants.{Incremental}
 use Rattle.papaya_scenes.specs.Given.Tables.declared.setting.Setting.{Setting}
 use Rattle.papaya_scenes.specs.Given.Raw.declared.machines.machine.Machine.{Machine}
 use Rattle.papaya_scenes.specs.Given.Raw.declared.machines.progress.Progress.{Progress}
+use Rattle.papaya_scenes.specs.Given.Seize.declared.states.TheConstants.{HEAD, ACTIVE}
 use Rattle.papaya_acts.specs.Acts.{Get}
 use Rattle.seize_views.specs.declared.view.Has.TheVariants.{Nothing as NoBlock}
-use Rattle.seize_views.specs.declared.view.View.TheVariants.{Inside}
-use Rattle.papaya_views.specs.Begun.{machine_for}
+use Rattle.seize_views.specs.Promises.{IsNext}
+use Rattle.seize_views.specs.declared.view.Becomes.TheVariants.{Idle}
+use Rattle.seize_views.specs.declared.view.Fixed.{Fixed}
+use Rattle.seize_views.specs.declared.view.View.{View as SlotView}
+use Rattle.seize_views.specs.declared.view.View.TheVariants.{Outside, Enters, Inside, Leaves}
+use Rattle.papaya_views.specs.Begun.{machine_for, with_slot}
+use Rattle.papaya_views.specs.Notes.{notes_of}
+use Rattle.seize_views.specs.declared.view.Began.TheVariants.{NotYet, Section}
 use Rattle.papaya_views.specs.Told.{told, call_after}
 use Rattle.papaya_views.specs.declared.view.Map.{Map}
 use Rattle.papaya_views.specs.declared.view.View.{View}
 use Rattle.papaya_views.specs.declared.view.Work.{Work}
 use Rattle.papaya_views.specs.declared.view.Work.TheVariants.{Nothing, Calls}
+
+-- batches of 32 blocks, and four roots
+abbrev chosen : Fixed
+chosen = record { batch_size = 32; roots = 4 }
 
 abbrev same : ℕ → ℕ → Bool
 same a b = a == b
@@ -34,14 +45,31 @@ abbrev machine : Machine ℕ ℕ ℕ
 machine = machine_for same hash map 0 (Get 5)
 
 abbrev with_work : Work ℕ ℕ ℕ → View ℕ ℕ ℕ
-with_work work = record { slot = Inside 0 NoBlock; map = Some map; work = work; looks = []; held = [] }
+with_work work = record { slot = Inside 0 NoBlock; map = Some map; work = work; looks = []; held = []; began = NotYet }
 
 -- the root leads nowhere: the call has ended
 ends : told same hash (with_work (Calls machine)) (Load (Root 3)) (Found 0) (with_work Nothing)
-ends = (_, refl, refl)
+ends = (_, refl, refl, tt)
 
 -- and does not go on
 not_on : (told same hash (with_work (Calls machine)) (Load (Root 3)) (Found 0) (with_work (Calls machine))) → ⊥
-not_on (end, follows, is) =
+not_on (end, follows, is, may) =
     let work = ap (λ (v : View ℕ ℕ ℕ). v.work) is in
     let then = ap (λ (e : Machine ℕ ℕ ℕ × Progress (Node ℕ ℕ)). call_after {S = ℕ} e.0 e.1) follows in cc (work, then)
+
+-- while it is under way no row begins, and once it has ended the section may end
+none_begins : (u : SlotView (Node ℕ ℕ)) → IsNext chosen (notes_of (with_work (Calls machine))).knows u → ⊥
+none_begins u is = is
+
+may_leave : IsNext chosen (notes_of (with_work Nothing)).knows (Leaves 0 32 Idle)
+may_leave = inl (Idle, refl)
+
+-- the one operation of entering opens the section, and leaves no slot behind that is held outside of one
+abbrev enters : View ℕ ℕ ℕ
+enters = with_slot (with_work Nothing) (Enters 0) Section
+
+entered : told same hash enters (Store (Slot 0 HEAD) ACTIVE) Stored (with_slot enters (Inside 0 NoBlock) Section)
+entered = (Inside 0 NoBlock, refl, refl)
+
+not_outside : told same hash enters (Store (Slot 0 HEAD) ACTIVE) Stored (with_slot enters (Outside 0) Section) → ⊥
+not_outside (slot, tells, is) = let knows = ap (λ (v : View ℕ ℕ ℕ). v.slot) is in cc (knows, tells)

@@ -1,6 +1,6 @@
 -- The rule starts, and seats come.
 use Rattle.std.specs.Prelude.{Some, None}
-use Rattle.std.proofs.Common.{◌≡◌, ℕ, Bool, [], ◌⊎◌, inl, inr, refl, subst, ap}
+use Rattle.std.proofs.Common.{◌≡◌, ℕ, Bool, [], ◌⊎◌, inl, inr, refl, sym, subst, ap}
 use Rattle.papaya_scenes.specs.Given.Seize.World.{Use}
 use Rattle.papaya_scenes.specs.Given.Tables.declared.node.Node.{Node}
 use Rattle.papaya_scenes.specs.Scene.{Scene, slot_of, at_first}
@@ -10,8 +10,9 @@ use Rattle.seize_seats.specs.State.{State, view_of}
 use Rattle.seize_views.specs.Rows.{use_of}
 use Rattle.seize_views.proofs.Lists.{with_last, none_before}
 use Rattle.papaya_views.specs.Promises.{RulesStart, SeatsCome}
-use Rattle.papaya_views.specs.Rule.{MapsWorld, Fits, IsIdle, IsSlot, caller_at, at_rest}
+use Rattle.papaya_views.specs.Rule.{MapsWorld, Fits, KnowsRow, IsIdle, IsSlot, caller_at, at_rest}
 use Rattle.papaya_views.specs.declared.view.View.{View}
+use Rattle.papaya_views.proofs.Knows.{knows_rests}
 use Rattle.papaya_views.proofs.Numbers.{first_slot}
 
 module _ {K S : Type 0} (V : Type 0) (same : K → K → Bool) (hash : S → K → ℕ) where
@@ -33,6 +34,7 @@ module _ {K S : Type 0} (V : Type 0) (same : K → K → Bool) (hash : S → K �
             fresh = (0, ((λ m above. refl), (λ i b is. absurd (cc is))));
             unended = λ o. refl;
           };
+          rows = λ j v e. absurd (cc e);
         },
       )
 
@@ -69,6 +71,7 @@ module _ {K S : Type 0} (V : Type 0) (same : K → K → Bool) (hash : S → K �
         fresh = h.so.fresh;
         unended = h.so.unended;
       };
+      rows = λ j x e. row j x (with_last s.views j at_rest x e);
     },
     λ b u o keeps. keeps,
   )
@@ -76,6 +79,10 @@ module _ {K S : Type 0} (V : Type 0) (same : K → K → Bool) (hash : S → K �
       fit : (j : ℕ) (x : View K V S) → Came s j x → Fits same hash s.world.scene j x
       fit j x (inl e) = h.so.seats j x e
       fit j x (inr e) = subst (λ (y : View K V S). Fits same hash s.world.scene j y) e.1 (newcomer s.world.scene j (λ t is. h.so.unborn j t is e.0))
+
+      row : (j : ℕ) (x : View K V S) → Came s j x → KnowsRow fixed s.world.scene j x.slot
+      row j x (inl e) = h.rows j x e
+      row j x (inr e) = knows_rests fixed s.world.scene j x.slot (ap (λ (y : View K V S). y.slot) (sym e.1))
 
       no_slot : (x : View K V S) (t : ℕ) (a : Use) → at_rest ≡ x → use_of x.slot ≡ Some (t, a) → ⊥
       no_slot x t a e p = let f = ap (λ (y : View K V S). use_of y.slot) e in cc (f, p)

@@ -1,7 +1,7 @@
 -- What is so of a seat that has a call under way: the next step of it may be taken, and is that of an act.
-use Rattle.std.specs.Prelude.{Option, Some, if◌then◌else◌, ◌&&◌}
+use Rattle.std.specs.Prelude.{Option, Some, None, if◌then◌else◌}
 use Rattle.std.specs.Option.{is_none}
-use Rattle.std.proofs.Common.{◌≡◌, ℕ, Bool, List, sym, subst, ap, ◌∙◌, refl, true, false, [], ◌∷◌}
+use Rattle.std.proofs.Common.{◌≡◌, ℕ, Bool, List, ◌⊎◌, inl, inr, sym, subst, ap, ◌∙◌, refl, true, false, [], ◌∷◌}
 use Rattle.papaya_scenes.specs.Given.SeizeWords.Mem.{Mem, Can, Took, value_at}
 use Rattle.papaya_scenes.specs.Given.SeizeWords.Plan.{Plan, Steps, May}
 use Rattle.papaya_scenes.specs.Given.Seize.Law.{holds}
@@ -9,21 +9,31 @@ use Rattle.papaya_scenes.specs.Given.Seize.World.{IsInside}
 use Rattle.papaya_scenes.specs.Given.Tables.Chunks.{is_incremental}
 use Rattle.papaya_scenes.specs.Given.Tables.declared.node.Node.{Node}
 use Rattle.papaya_scenes.specs.Given.Tables.declared.setting.Setting.{Setting}
-use Rattle.papaya_scenes.specs.Given.Resize.declared.lookup.Lookup.{Lookup}
+use Rattle.papaya_scenes.specs.Given.Resize.declared.copier.Copying.{Copying}
+use Rattle.papaya_scenes.specs.Given.Resize.declared.copier.Copying.TheVariants as copies
+use Rattle.papaya_scenes.specs.Given.Resize.declared.dispose.Disposing.{Disposing}
+use Rattle.papaya_scenes.specs.Given.Resize.declared.dispose.Disposing.TheVariants as disposes
+use Rattle.papaya_scenes.specs.Given.Reserves.declared.reserve.Reserving.{Reserving}
+use Rattle.papaya_scenes.specs.Given.Reserves.declared.reserve.Reserving.TheVariants as reserving
+use Rattle.papaya_scenes.specs.Given.Sweeps.declared.sweep.Sweeping.{Sweeping}
+use Rattle.papaya_scenes.specs.Given.Sweeps.declared.sweep.Sweeping.TheVariants as sweeping
+use Rattle.papaya_scenes.specs.Given.Points.Told.{IsRowOf, IsRowOfCopier, IsRowOfCall}
+use Rattle.papaya_scenes.specs.Given.Late.ToldReserves.{IsRowOfReserve}
+use Rattle.papaya_scenes.specs.Given.Late.ToldSweeps.{IsRowOfSweep}
 use Rattle.papaya_scenes.specs.Given.Raw.Machine.{machine_plan}
 use Rattle.papaya_scenes.specs.Given.Raw.declared.machines.call.Calling.{Calling}
 use Rattle.papaya_scenes.specs.Given.Raw.declared.machines.call.Calling.TheVariants as at
-use Rattle.papaya_scenes.specs.Given.Raw.declared.machines.call.KeyCall.{KeyCall}
 use Rattle.papaya_scenes.specs.Given.Raw.declared.machines.machine.Machine.{Machine}
-use Rattle.papaya_scenes.specs.Given.Raw.declared.machines.machine.Machine.TheVariants as kinds
 use Rattle.papaya_scenes.specs.Given.Raw.declared.machines.progress.Progress.{Progress}
+use Rattle.papaya_scenes.specs.Given.Raw.declared.machines.progress.Progress.TheVariants as progress
 use Rattle.papaya_scenes.specs.Given.Callers.Rows.{IsRowOn}
-use Rattle.papaya_scenes.specs.Given.Callers.Together.{UnderWay, CallOnKey, OnKey, ForRoom, Counting, OverAll}
+use Rattle.papaya_scenes.specs.Given.Callers.Together.{UnderWay, OnKey, ForRoom, Counting, OverAll}
 use Rattle.papaya_scenes.specs.Given.Finishes.Machines.{machine_of}
 use Rattle.papaya_scenes.specs.Given.Finishes.Maps.{Standing}
 use Rattle.papaya_scenes.specs.Scene.{Scene, slot_of}
-use Rattle.papaya_looks.specs.Blocks.{LooksAt}
-use Rattle.papaya_looks.proofs.Lookups.{lookups_look}
+use Rattle.papaya_looks.specs.Looks.{IsAtRow}
+use Rattle.papaya_looks.specs.Sees.{HasSeen, GoesOn, IsOwnOf}
+use Rattle.papaya_looks.proofs.Sees.Promised.{steps_see}
 use Rattle.papaya_acts.specs.Acts.{StepsCall}
 use Rattle.papaya_acts.specs.Doings.{Does, MayDo}
 use Rattle.papaya_acts.specs.Leads.{AllStand, CallCame, call_at, call_steps}
@@ -36,16 +46,19 @@ use Rattle.seize_views.specs.declared.view.Fixed.{Fixed}
 use Rattle.seize_views.specs.declared.view.Has.TheVariants.{Nothing as NoBlock}
 use Rattle.seize_views.specs.declared.view.View.{View as SlotView}
 use Rattle.seize_views.specs.declared.view.View.TheVariants as slot_view
-use Rattle.papaya_views.specs.Rule.{MapsWorld, DoesSo, KnowsMap, Fits, AreSo, Holds, KeepsFor, caller_at, place_of, AllHeld}
-use Rattle.papaya_views.specs.Told.{call_after, called, is_lookup, is_at_lookup}
+use Rattle.papaya_views.specs.Rule.{MapsWorld, DoesSo, KnowsMap, Fits, AreSo, Holds, KeepsFor, caller_at, place_of, IsInSection, IsOfCall, AllHeld}
+use Rattle.papaya_views.specs.Reclaims.{IsNextOf, copies_at_row, disposes_at_row, calls_at_row, reserves_at_row, sweeps_at_row, is_at_row}
+use Rattle.papaya_views.specs.Told.{call_after, called}
 use Rattle.papaya_views.specs.declared.view.Map.{Map}
 use Rattle.papaya_views.specs.declared.view.View.{View}
 use Rattle.papaya_views.specs.declared.view.Work.{Work}
 use Rattle.papaya_views.specs.declared.view.Work.TheVariants.{Calls}
-use Rattle.papaya_views.proofs.Leaves.{Leaves, inside_of, unborn_on, fits_on, own_idle, map_on}
+use Rattle.papaya_views.proofs.Knows.{knows_inside}
+use Rattle.papaya_views.proofs.Leaves.{Leaves, inside_of, own_idle, map_on}
 use Rattle.papaya_views.proofs.Moved.{scene_of, all_stand, are_so, Moved, same_slot, moved}
 use Rattle.papaya_views.proofs.Next.{after, step_leaves, step_fresh, own_does}
 use Rattle.papaya_views.proofs.Looked.{AllLooked}
+use Rattle.papaya_views.proofs.RowLooks.{row_sees}
 use Rattle.papaya_views.proofs.Numbers.{slot_at}
 use Rattle.papaya_views.proofs.Quiet.{none_over}
 
@@ -117,38 +130,57 @@ module _ {K V S : Type 0} (same : K → K → Bool) (hash : S → K → ℕ) (fi
       ap (λ (o : Option (Standing K)). then_on o (λ standing. then_on (scene.calls map.number i) (λ u. Some (standing, u)))) it.1
       ∙ ap (λ (o : Option (UnderWay K V K)). then_on o (λ u. Some (it.0, u))) does.3.here
 
-  -- a call that is a call on a key is under way as one
-  key_call : (call : UnderWay K V K) (c : KeyCall K V K) → machine_of call ≡ kinds.Key c → (u : CallOnKey K V K) × (call ≡ OnKey u) × (u.call ≡ c)
-  key_call (OnKey u) c is = (u, refl, cc is)
-  key_call (ForRoom r) c is = absurd (cc is)
-  key_call (Counting sum) c is = absurd (cc is)
-  key_call (OverAll o) c is = absurd (cc is)
+  -- whoever stands at a row does so by its machine
+  copies_none : (x : Copying) → copies_at_row x ≡ false → IsRowOfCopier x → ⊥
+  copies_none (copies.Retires settle rest) is row = cc is
+  copies_none _ is row = row
 
-  lookup_at : (stands : Calling) → is_at_lookup stands ≡ true → (l : Lookup) × (stands ≡ at.Looks l)
-  lookup_at (at.Looks l) is = (l, refl)
-  lookup_at _ is = absurd (cc is)
+  disposes_none : (x : Disposing) → disposes_at_row x ≡ false → IsRowOf x → ⊥
+  disposes_none (disposes.Settles settle) is row = cc is
+  disposes_none (disposes.Defers defer) is row = cc is
+  disposes_none _ is row = row
 
-  -- what a lookup looks at the section of its slot holds
-  at_lookup : is_incremental map.setting.mode ≡ true → is_lookup {K = K} {V = V} machine ≡ true → (b : ℕ) → LooksAt b scene.world.memory step_plan
-      → holds place b scene.world.log ≡ true
-  at_lookup incremental lookup b looks = by machine refl lookup
+  calls_none : (x : Calling) → calls_at_row x ≡ false → IsRowOfCall x → ⊥
+  calls_none (at.Disposes dispose answer) is row = disposes_none dispose.stands is row
+  calls_none (at.Helps copier goal) is row = copies_none copier.stands is row
+  calls_none (at.Copies copier) is row = copies_none copier.stands is row
+  calls_none _ is row = row
+
+  reserves_none : (x : Reserving) → reserves_at_row x ≡ false → IsRowOfReserve x → ⊥
+  reserves_none (reserving.Copies copier) is row = copies_none copier.stands is row
+  reserves_none _ is row = row
+
+  sweeps_none : (x : Sweeping) → sweeps_at_row x ≡ false → IsRowOfSweep x → ⊥
+  sweeps_none (sweeping.Copies copier) is row = copies_none copier.stands is row
+  sweeps_none (sweeping.Disposes dispose) is row = disposes_none dispose.stands is row
+  sweeps_none _ is row = row
+
+  none_at : (u : UnderWay K V K) → is_at_row (machine_of u) ≡ false → IsAtRow u → ⊥
+  none_at (OnKey u) is row = calls_none u.call.stands is row
+  none_at (ForRoom r) is row = reserves_none r.reserve.stands is row
+  none_at (Counting sum) is row = row
+  none_at (OverAll o) is row = sweeps_none o.sweep.stands is row
+
+  -- what a step has seen the section of its slot holds, or its call has it, and goes on
+  seen_lasts : is_incremental map.setting.mode ≡ true → (m2 : Mem (Node K V)) (next : Machine K V K) (told : Progress (Node K V)) (b : ℕ)
+      → HasSeen b scene.world.memory step_plan m2 (next, told) → (holds place b scene.world.log ≡ true) ⊎ ((IsOwnOf next b ⊎ IsNextOf next b) × GoesOn told)
+  seen_lasts incremental m2 next told b saw = by (is_at_row {K = K} {V = V} machine) refl
     where
-      by : (x : Machine K V K) → machine ≡ x → is_lookup {K = K} {V = V} x ≡ true → holds place b scene.world.log ≡ true
-      by (kinds.Key c) is at_one =
-          let key = key_call does.3.call c (does.3.is ∙ is) in
-          let l = lookup_at c.stands at_one in
-          subst (λ (a : ℕ). holds a b scene.world.log ≡ true) (slot_at id place fits.slot)
-          (lookups_look V same same fixed.batch_size fixed.roots slot_of scene.world scene.maps scene.calls scene.makers scene.enders all map.number it.0 it.1
-          (ap (λ (x : Setting). is_incremental x.mode) it.2 ∙ incremental) i key.0 (does.3.here ∙ ap Some key.1) l.0 (ap (λ (x : KeyCall K V K). x.stands) key.2 ∙ l.1) b
-          (subst (λ (x : UnderWay K V K). LooksAt b scene.world.memory (machine_plan same same it.0.hash (machine_of x))) key.1
-          (plan_was (λ (f : K → ℕ) (x : Machine K V K). LooksAt b scene.world.memory (machine_plan same same f x)) looks)))
-      by (kinds.Reserve c) is at_one = absurd (cc at_one)
-      by (kinds.Sweep c) is at_one = absurd (cc at_one)
-      by (kinds.Count c) is at_one = absurd (cc at_one)
+      by : (x : Bool) → is_at_row {K = K} {V = V} machine ≡ x → (holds place b scene.world.log ≡ true) ⊎ ((IsOwnOf next b ⊎ IsNextOf next b) × GoesOn told)
+      by true row = let r = row_sees b scene.world.memory m2 same (hash map.hasher) machine row next told saw in inr (inr r.0, r.1)
+      by false none =
+          elim (steps_see V same same fixed.batch_size fixed.roots slot_of scene.world scene.maps scene.calls scene.makers scene.enders all map.number it.0 it.1
+          (ap (λ (x : Setting). is_incremental x.mode) it.2 ∙ incremental) i does.3.call does.3.here
+          (none_at does.3.call (ap is_at_row does.3.is ∙ none)) m2 next told b
+          (plan_was (λ (f : K → ℕ) (x : Machine K V K). HasSeen b scene.world.memory (machine_plan same same f x) m2 (next, told)) saw))
+          as (λ _. (holds place b scene.world.log ≡ true) ⊎ ((IsOwnOf next b ⊎ IsNextOf next b) × GoesOn told)) [
+            | inl held ↦ inl (subst (λ (a : ℕ). holds a b scene.world.log ≡ true) (slot_at id place fits.slot) held)
+            | inr own ↦ inr (inl own.0, own.1)
+          ]
 
   -- what the memory took as a step is an act, which leads on
   module _ (m2 : Mem (Node K V)) (end : Machine K V K × Progress (Node K V)) (steps : Steps Took value_at scene.world.memory step_plan m2 end) (looks : List (ℕ × Node K V))
-      (seen : AllLooked scene.world.memory step_plan m2 looks) where
+      (seen : AllLooked scene.world.memory step_plan m2 end looks) where
     granted : (g : Grant) × (call_steps same hash fixed.batch_size fixed.roots slot_of scene g (it.0, does.3.call) ≡ Some (m2, end))
     granted =
         acts.1.calls map.number i it.0 does.3.call it.1 does.3.here m2 end
@@ -186,7 +218,7 @@ module _ {K V S : Type 0} (same : K → K → Bool) (hash : S → K → ℕ) (fi
         after same hash fixed.batch_size fixed.roots scene all id place map.number fits.slot came.standing came.stands came.call came.here inside on_row came.memory came.machine came.progress
         came.did
 
-    leaves : Leaves same hash scene n i
+    leaves : Leaves same hash fixed.batch_size scene n i None
     leaves =
         step_leaves same hash fixed.batch_size fixed.roots scene all id place map.number fits.slot came.standing came.stands came.call came.here inside on_row came.memory came.machine came.progress
         came.did
@@ -194,21 +226,29 @@ module _ {K V S : Type 0} (same : K → K → Bool) (hash : S → K → ℕ) (fi
     abbrev w : View K V S
     w = called v map machine (came.machine, came.progress) looks
 
-    -- of what was looked at by a lookup each block is held, and has its value
-    looked_held : is_incremental map.setting.mode ≡ true → is_lookup {K = K} {V = V} machine ≡ true → (more : List (ℕ × Node K V)) → AllLooked scene.world.memory step_plan m2 more
-        → AllHeld same hash n v.slot more
-    looked_held incremental lookup [] each = tt
-    looked_held incremental lookup (look ∷ more) each =
-        let held = at_lookup incremental lookup look.0 each.0 in
-        let g = leaves.held place look.0 inside held (none_over scene.world.log so.unended look.0) in (
-          (place, slot_is, g.0, g.1, ap (λ (x : Mem (Node K V)). value_at x look.0) (came.did.memory ∙ sym memory_is) ∙ each.1),
-          looked_held incremental lookup more each.2,
-        )
+    -- of what was seen each block is held, and has its value
+    of_on : (next : Machine K V K) (told : Progress (Node K V)) (b : ℕ) → IsOwnOf next b ⊎ IsNextOf next b → GoesOn told → IsOfCall same hash (call_after {S = S} next told) b
+    of_on next (progress.Done answer) b of on = absurd on
+    of_on next (progress.Refused fault) b of on = absurd on
+    of_on next _ b of on = of
 
-    held_then : (a b : Bool) → is_incremental map.setting.mode ≡ a → is_lookup {K = K} {V = V} machine ≡ b → AllHeld same hash n v.slot (if a && b then looks else [])
-    held_then true true incremental lookup = looked_held incremental lookup looks seen
-    held_then true false incremental lookup = tt
-    held_then false b incremental lookup = tt
+    looked_held : is_incremental map.setting.mode ≡ true → (more : List (ℕ × Node K V)) → AllLooked scene.world.memory step_plan m2 (came.machine, came.progress) more
+        → AllHeld same hash n v.slot (call_after came.machine came.progress) more
+    looked_held incremental [] each = tt
+    looked_held incremental (look ∷ more) each = ((there, why (seen_lasts incremental m2 came.machine came.progress look.0 each.0)), looked_held incremental more each.2)
+      where
+        there : value_at n.world.memory look.0 ≡ Some look.1
+        there = ap (λ (x : Mem (Node K V)). value_at x look.0) (came.did.memory ∙ sym memory_is) ∙ each.1
+
+        why : (holds place look.0 scene.world.log ≡ true) ⊎ ((IsOwnOf came.machine look.0 ⊎ IsNextOf came.machine look.0) × GoesOn came.progress)
+            → IsInSection same hash n v.slot look.0 ⊎ IsOfCall same hash (call_after {S = S} came.machine came.progress) look.0
+        why (inl held) = let g = leaves.held place look.0 (λ a e. cc e) inside held (none_over scene.world.log so.unended look.0) in inl (place, slot_is, g.0, g.1)
+        why (inr (of, on)) = inr (of_on came.machine came.progress look.0 of on)
+
+    held_then : (a : Bool) → is_incremental map.setting.mode ≡ a → AllHeld same hash n v.slot (call_after came.machine came.progress) (if a then looks else [])
+    held_then true incremental =
+        looked_held incremental looks (subst (λ (e : Machine K V K × Progress (Node K V)). AllLooked scene.world.memory step_plan m2 e looks) end_is seen)
+    held_then false incremental = tt
 
     own : Fits same hash n id w
     own = record {
@@ -218,25 +258,27 @@ module _ {K V S : Type 0} (same : K → K → Bool) (hash : S → K → ℕ) (fi
           (subst (λ (x : Option (Map S)). DoesSo same hash n i (slot_view.Inside place NoBlock) x (call_after came.machine came.progress)) (sym knows)
           (own_does same hash fixed.batch_size fixed.roots scene all id place map.number fits.slot came.standing came.stands came.call came.here inside on_row came.memory came.machine came.progress
           came.did map refl came.progress came.did.goes_on));
-      map = map_on same hash scene n id place fits.slot leaves v.map fits.map;
-      held = held_then (is_incremental map.setting.mode) (is_lookup {K = K} {V = V} machine) refl refl;
-      idle = own_idle same hash scene n id place fits.slot leaves fits.idle;
+      map = map_on same hash scene n id place fits.slot fixed.batch_size None leaves v.map fits.map;
+      held = held_then (is_incremental map.setting.mode) refl;
+      idle = own_idle same hash scene n id place fits.slot fixed.batch_size None leaves fits.idle;
     }
 
     go : Moved same hash fixed s h id m2 w n
     go = record {
       memory = memory_is ∙ sym came.did.memory;
       own = own;
-      others = fits_on same hash scene n id place fits.slot leaves;
-      unborn = unborn_on same hash scene n id place fits.slot leaves;
+      place = place;
+      its_slot = fits.slot;
+      mine = None;
+      leaves = leaves;
+      theirs = λ j t a b x ne at uses e. cc e;
       alone = same_slot same hash fixed s h id v w at_id refl;
-      held = λ t b is held over. let g = leaves.held t b is held over in (g.0, g.1);
       fresh = (
         so.fresh.0,
         step_fresh same hash fixed.batch_size fixed.roots scene all id place map.number fits.slot came.standing came.stands came.call came.here inside on_row came.memory came.machine came.progress
             came.did so.fresh.0 so.fresh.1,
       );
-      ended = leaves.ended;
+      row = knows_inside fixed n id place v.slot slot_is;
     }
 
     pub goes : (so : View K V S → Type 0) → so (called v map machine end looks) → Goes (Holds same hash fixed) KeepsFor s m2 id so

@@ -1,4 +1,4 @@
--- What a seat knows once a call has begun, or was told something, or a map was handed on to it.
+-- What a seat knows once a row has begun or ended, or a call has begun, or was told something, or a map was handed on to it.
 use Rattle.std.specs.Prelude.{ℕ, Bool, [], Some}
 use Rattle.papaya_scenes.specs.Given.Resize.declared.new_map.NewMap.{NewMap}
 use Rattle.papaya_scenes.specs.Given.Raw.Machine.{machine_replied}
@@ -7,6 +7,9 @@ use Rattle.papaya_scenes.specs.Given.Raw.declared.machines.machine.Machine.{Mach
 use Rattle.papaya_scenes.specs.Given.Finishes.Machines.{machine_of}
 use Rattle.papaya_scenes.specs.Given.Finishes.Maps.{new_map}
 use Rattle.papaya_acts.specs.Acts.{Wanted, begun}
+use Rattle.papaya_scenes.specs.Given.Tables.declared.node.Node.{Node}
+use Rattle.seize_views.specs.declared.view.Began.{Began}
+use Rattle.seize_views.specs.declared.view.View.{View as SlotView}
 use Rattle.papaya_views.specs.declared.view.Map.{Map}
 use Rattle.papaya_views.specs.declared.view.View.{View}
 use Rattle.papaya_views.specs.declared.view.Work.TheVariants.{Calls, Makes}
@@ -19,7 +22,7 @@ module _ {K V S : Type 0} (same : K → K → Bool) (hash : S → K → ℕ) whe
 module _ {K V S : Type 0} where
   -- with this call under way
   abbrev pub calling : View K V S → Machine K V K → View K V S
-  calling v machine = record { slot = v.slot; map = v.map; work = Calls machine; looks = []; held = [] }
+  calling v machine = record { slot = v.slot; map = v.map; work = Calls machine; looks = []; held = []; began = v.began }
 
   -- its call was told this
   abbrev pub replied : View K V S → Machine K V K → Reply V → View K V S
@@ -27,9 +30,13 @@ module _ {K V S : Type 0} where
 
   -- it knows this map
   abbrev pub shown_map : View K V S → Map S → View K V S
-  shown_map v map = record { slot = v.slot; map = Some map; work = v.work; looks = v.looks; held = v.held }
+  shown_map v map = record { slot = v.slot; map = Some map; work = v.work; looks = v.looks; held = v.held; began = v.began }
 
 module _ {K V S : Type 0} where
   -- with the making of this map under way
   abbrev pub making : View K V S → ℕ → S → NewMap → View K V S
-  making v m hasher opening = record { slot = v.slot; map = v.map; work = Makes m hasher opening; looks = []; held = [] }
+  making v m hasher opening = record { slot = v.slot; map = v.map; work = Makes m hasher opening; looks = []; held = []; began = v.began }
+
+  -- with this known of its slot and its row, and begun there last
+  abbrev pub with_slot : View K V S → SlotView (Node K V) → Began → View K V S
+  with_slot v slot began = record { slot = slot; map = v.map; work = v.work; looks = []; held = []; began = began }

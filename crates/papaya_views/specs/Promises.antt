@@ -1,5 +1,5 @@
 -- What is promised of the rule of maps.
-use Rattle.std.specs.Prelude.{◌≡◌, ℕ, Bool, true, Some, ◌+◌, ◌<◌, ◌≤◌, ◌^◌, max}
+use Rattle.std.specs.Prelude.{◌≡◌, ℕ, Bool, true, Some, ◌+◌, ◌<◌, ◌≤◌, ◌^◌, max, None}
 use Rattle.papaya_scenes.specs.Given.SeizeWords.Op.{Op}
 use Rattle.papaya_scenes.specs.Given.SeizeWords.Plan.{Then, Turn}
 use Rattle.std.specs.Int.{IsPowerOfTwo}
@@ -17,11 +17,18 @@ use Rattle.papaya_scenes.specs.Given.Points.Steps.{AreLawful}
 use Rattle.papaya_acts.specs.Acts.{Wanted}
 use Rattle.seize_seats.specs.Lendings.{Shown, IsValueOf}
 use Rattle.seize_seats.specs.State.{Starts, Comes, Allows, Turns, Meets}
-use Rattle.seize_views.specs.Promises.{op_in}
+use Rattle.papaya_scenes.specs.Given.Seize.declared.rows.settle.Settle.{Settle}
+use Rattle.papaya_scenes.specs.Given.Tables.Nodes.{deferred_word}
+use Rattle.seize_views.specs.Promises.{op_in, op_of, IsNext, IsToSettle}
+use Rattle.seize_views.specs.declared.view.Becomes.{Becomes}
+use Rattle.seize_views.specs.declared.view.Began.{Began}
 use Rattle.seize_views.specs.declared.view.Fixed.{Fixed}
 use Rattle.seize_views.specs.declared.view.Has.TheVariants.{Nothing as NoBlock}
-use Rattle.seize_views.specs.declared.view.View.TheVariants.{Rests, Inside}
-use Rattle.papaya_views.specs.Begun.{machine_for, calling, replied, shown_map, making}
+use Rattle.seize_views.specs.declared.view.View.{View as SlotView}
+use Rattle.seize_views.specs.declared.view.View.TheVariants.{Rests, Inside, Settles}
+use Rattle.seize_views.specs.declared.view.Why.{Why}
+use Rattle.seize_views.specs.declared.view.Why.TheVariants.{Retiring}
+use Rattle.papaya_views.specs.Begun.{machine_for, calling, replied, shown_map, making, with_slot}
 use Rattle.papaya_views.specs.Looks.{shown_in}
 use Rattle.papaya_views.specs.Rule.{Holds, KeepsFor, at_rest}
 use Rattle.papaya_views.specs.Told.{told, turned}
@@ -52,7 +59,7 @@ module _ {K S : Type 0} (V : Type 0) (same : K → K → Bool) (hash : S → K �
       → v.map ≡ Some map → v.work ≡ Calls machine → machine_plan same same (hash map.hasher) machine ≡ Turn rest
       → Turns (Holds same hash fixed) KeepsFor id v (turned same hash v)
 
-  -- what the section of a seat is known to hold is there, with its value
+  -- what is known to be held for a seat is there, with its value
   abbrev pub HeldAreShown : Type 0
   HeldAreShown =
       (fixed : Fixed) (id b : ℕ) (v : View K V S) (x : Node K V) → shown_in v.held b ≡ Some x
@@ -88,3 +95,27 @@ module _ {K S : Type 0} (V : Type 0) (same : K → K → Bool) (hash : S → K �
   MakingsGoOn =
       (fixed : Fixed) (id m : ℕ) (v : View K V S) (hasher : S) (machine : NewMap) (op : Op (Node K V))
       → v.work ≡ Makes m hasher machine → op_in (new_map_plan machine) ≡ Some op → Allows (Holds same hash fixed) KeepsFor id v op (told same hash v op)
+
+  -- The next operation of a row that a seat has under way may be made at any moment,
+  abbrev pub RowsGoOn : Type 0
+  RowsGoOn =
+      (fixed : Fixed) (id : ℕ) (v : View K V S) (op : Op (Node K V)) → v.work ≡ Nothing → op_of deferred_word v.slot ≡ Some op
+      → Allows (Holds same hash fixed) KeepsFor id v op (told same hash v op)
+
+  -- and where it has nothing else under way rows begin and end, and it notes what it has begun.
+  abbrev pub RowsTurn : Type 0
+  RowsTurn =
+      (fixed : Fixed) (id : ℕ) (v : View K V S) (u : SlotView (Node K V)) (began : Began) → v.work ≡ Nothing → IsNext fixed v.slot u
+      → Turns (Holds same hash fixed) KeepsFor id v (λ w. w ≡ with_slot v u began)
+
+  -- A batch may be tried, with as many steps left as that takes at most,
+  abbrev pub SettlingsBegin : Type 0
+  SettlingsBegin =
+      (fixed : Fixed) (id : ℕ) (v : View K V S) (way : Becomes) (c : Settle) (began : Began) → v.work ≡ Nothing → IsToSettle fixed v.slot way c
+      → Turns (Holds same hash fixed) KeepsFor id v (λ w. (left : ℕ) × (w ≡ with_slot v (Settles c (Retiring way) None left) began))
+
+  -- and the block that a settling is to look at is there, with the value that was told.
+  abbrev pub LookedAreShown : Type 0
+  LookedAreShown =
+      (fixed : Fixed) (id : ℕ) (v : View K V S) (c : Settle) (why : Why) (b left : ℕ) (x : Node K V) → v.slot ≡ Settles c why (Some (b, x)) left
+      → Shown (Holds same hash fixed) id v b × ((y : Node K V) → IsValueOf (Holds same hash fixed) id v b y → y ≡ x)

@@ -1,9 +1,10 @@
 -- The rule of maps: a list of acts has led to a scene, of which the memory is that of the state; and what each seat knows of its slot, of a map and of what it has
--- under way is so there, and its section holds the blocks that it knows to be held.
-use Rattle.std.specs.Prelude.{◌≡◌, ◌≢◌, ℕ, ◌+◌, ◌*◌, ◌<◌, Bool, List, [], Option, Some, None, true, false, ◌∷◌, ◌≤◌}
+-- under way is so there, and the blocks that it knows to be held for it are there, and last.
+use Rattle.std.specs.Prelude.{◌≡◌, ◌≢◌, ℕ, ◌+◌, ◌*◌, ◌<◌, Bool, List, [], Option, Some, None, true, false, ◌∷◌, ◌≤◌, ◌⊎◌}
 use Rattle.papaya_scenes.specs.Given.SeizeWords.Mem.{value_at}
 use Rattle.papaya_scenes.specs.Given.Seize.Law.{holds, is_over}
 use Rattle.papaya_scenes.specs.Given.Seize.World.{World, Use, Rests, IsInside}
+use Rattle.papaya_scenes.specs.Given.Tables.Nodes.{deferred_word}
 use Rattle.papaya_scenes.specs.Given.Tables.declared.node.Node.{Node}
 use Rattle.papaya_scenes.specs.Given.Resize.declared.new_map.NewMap.{NewMap}
 use Rattle.papaya_scenes.specs.Given.Raw.declared.machines.machine.Machine.{Machine}
@@ -14,15 +15,18 @@ use Rattle.papaya_scenes.specs.Given.Finishes.Makings.{Beginning}
 use Rattle.papaya_scenes.specs.Given.Finishes.Maps.{Standing}
 use Rattle.papaya_scenes.specs.Scene.{Scene, slot_of}
 use Rattle.papaya_scenes.specs.declared.callers.TheConstants.{SLOTS}
+use Rattle.papaya_looks.specs.Sees.{IsOwnOf}
 use Rattle.papaya_acts.specs.Doings.{Doing, reclaiming}
 use Rattle.papaya_acts.specs.Lists.{Course, Reached, LedTo}
 use Rattle.seize_acts.specs.Stays.{how_many, is_end_of_owner}
 use Rattle.seize_seats.specs.State.{State, view_of}
-use Rattle.seize_views.specs.Rows.{row_of, use_of, Keeps}
+use Rattle.seize_views.specs.Rows.{row_of, use_of, IsPlain, IsShort, IsKnown, IsBounded, Keeps}
+use Rattle.seize_views.specs.declared.view.Began.TheVariants.{NotYet}
 use Rattle.seize_views.specs.declared.view.Fixed.{Fixed}
 use Rattle.seize_views.specs.declared.view.Has.TheVariants.{Nothing as NoBlock}
 use Rattle.seize_views.specs.declared.view.View.{View as SlotView}
 use Rattle.seize_views.specs.declared.view.View.TheVariants as slot_view
+use Rattle.papaya_views.specs.Reclaims.{IsNextOf}
 use Rattle.papaya_views.specs.declared.view.Map.{Map}
 use Rattle.papaya_views.specs.declared.view.View.{View}
 use Rattle.papaya_views.specs.declared.view.Work.{Work}
@@ -45,7 +49,7 @@ place_of v = held_slot (use_of v)
 
 -- a seat that holds no slot and knows no map
 abbrev pub at_rest : {K V S : Type 0} → View K V S
-at_rest = record { slot = slot_view.Rests; map = None; work = Nothing; looks = []; held = [] }
+at_rest = record { slot = slot_view.Rests; map = None; work = Nothing; looks = []; held = []; began = NotYet }
 
 -- what has been done, and the scene to which it has led
 pub record MapsWorld (K V S : Type 0) : Type 0 where
@@ -92,6 +96,14 @@ module _ {K V : Type 0} where
   abbrev pub IsFresh : Scene K V → ℕ → Type 0
   IsFresh s k = ((m : ℕ) → k ≤ m → s.maps m ≡ None) × ((i : ℕ) (b : Beginning K) → s.makers i ≡ Some b → b.map < k)
 
+  -- what a seat knows of its row is so: a slot is taken, and not entered at once; the block that a settling is to look at has that value; and what is settled is so
+  -- within so many steps
+  pub record KnowsRow (fixed : Fixed) (s : Scene K V) (j : ℕ) (v : SlotView (Node K V)) : Type 0 where
+    pub plain : IsPlain v
+    pub short : IsShort v
+    pub known : IsKnown s.world v
+    pub bounded : IsBounded deferred_word fixed s.world (caller_at j (place_of v)) v
+
 module _ {K V S : Type 0} (same : K → K → Bool) (hash : S → K → ℕ) where
   -- what it has under way, as this caller
   abbrev pub DoesSo : Scene K V → ℕ → SlotView (Node K V) → Option (Map S) → Work K V S → Type 0
@@ -105,22 +117,29 @@ module _ {K V S : Type 0} (same : K → K → Bool) (hash : S → K → ℕ) whe
   KnowsMap s None = Unit {0}
   KnowsMap s (Some map) = (it : Standing K) × (s.maps map.number ≡ Some it) × (it.setting ≡ map.setting) × (it.hash ≡ hash map.hasher)
 
-  -- the section of the slot holds the block, which is not over, and has this value
-  abbrev pub IsHeld : Scene K V → SlotView (Node K V) → ℕ × Node K V → Type 0
-  IsHeld s slot look =
-      (t : ℕ) × (slot ≡ slot_view.Inside t NoBlock) × (holds t look.0 s.world.log ≡ true) × (is_over look.0 s.world.log ≡ false)
-      × (value_at s.world.memory look.0 ≡ Some look.1)
+  -- the section of the slot holds the block, which is not over
+  abbrev pub IsInSection : Scene K V → SlotView (Node K V) → ℕ → Type 0
+  IsInSection s slot b = (t : ℕ) × (slot ≡ slot_view.Inside t NoBlock) × (holds t b s.world.log ≡ true) × (is_over b s.world.log ≡ false)
 
-  abbrev pub AllHeld : Scene K V → SlotView (Node K V) → List (ℕ × Node K V) → Type 0
-  AllHeld s slot [] = Unit {0}
-  AllHeld s slot (look ∷ looks) = IsHeld s slot look × AllHeld s slot looks
+  -- the call that is under way has it: as its own pair, or to reclaim it next, by a row of the collector
+  abbrev pub IsOfCall : Work K V S → ℕ → Type 0
+  IsOfCall (Calls machine) b = IsOwnOf machine b ⊎ IsNextOf machine b
+  IsOfCall work b = ⊥
+
+  -- the block is there with this value, and why it lasts until the seat's next step
+  abbrev pub IsHeld : Scene K V → SlotView (Node K V) → Work K V S → ℕ × Node K V → Type 0
+  IsHeld s slot work look = (value_at s.world.memory look.0 ≡ Some look.1) × (IsInSection s slot look.0 ⊎ IsOfCall work look.0)
+
+  abbrev pub AllHeld : Scene K V → SlotView (Node K V) → Work K V S → List (ℕ × Node K V) → Type 0
+  AllHeld s slot work [] = Unit {0}
+  AllHeld s slot work (look ∷ looks) = IsHeld s slot work look × AllHeld s slot work looks
 
   -- what a seat knows is so; in other slots it has nothing under way
   pub record Fits (s : Scene K V) (j : ℕ) (v : View K V S) : Type 0 where
     pub slot : IsSlot (place_of v.slot)
     pub does : DoesSo s (caller_at j (place_of v.slot)) v.slot v.map v.work
     pub map : KnowsMap s v.map
-    pub held : AllHeld s v.slot v.held
+    pub held : AllHeld s v.slot v.work v.held
     pub idle : (t : ℕ) → IsSlot t → t ≢ place_of v.slot → IsIdle s (caller_at j t)
 
   -- the scene is as the seats know it, and its memory is this one
@@ -139,6 +158,7 @@ module _ {K V S : Type 0} (same : K → K → Bool) (hash : S → K → ℕ) whe
     pub scene : s.world.scene ≡ reached.0.0
     pub nobody : reclaiming V same hash fixed.batch_size fixed.roots slot_of reached.0 ≡ None
     pub so : AreSo s s.world.scene
+    pub rows : (j : ℕ) (v : View K V S) → view_of s j ≡ Some v → KnowsRow fixed s.world.scene j v.slot
 
 -- the section of the one's slot holds the block, which is not over
 abbrev pub KeepsFor : {K V S : Type 0} → View K V S → View K V S → MapsWorld K V S → ℕ → Type 0

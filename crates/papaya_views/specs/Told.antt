@@ -1,5 +1,5 @@
 -- What the answer of an operation tells its seat: how far what it has under way has come, and at which blocks the step looks.
-use Rattle.std.specs.Prelude.{◌≡◌, ℕ, Bool, List, [], Option, Some, None, true, false, ◌&&◌, if◌then◌else◌}
+use Rattle.std.specs.Prelude.{◌≡◌, ℕ, Bool, List, [], Option, Some, None, if◌then◌else◌}
 use Rattle.papaya_scenes.specs.Given.SeizeWords.Op.{Op, Out}
 use Rattle.papaya_scenes.specs.Given.Seize.declared.progress.Progress.{Progress as Told}
 use Rattle.papaya_scenes.specs.Given.Seize.declared.progress.Progress.TheVariants as told_as
@@ -10,28 +10,16 @@ use Rattle.papaya_scenes.specs.Given.Tables.declared.setting.Setting.{Setting}
 use Rattle.papaya_scenes.specs.Given.Resize.NewMap.{new_map_plan}
 use Rattle.papaya_scenes.specs.Given.Resize.declared.new_map.NewMap.{NewMap}
 use Rattle.papaya_scenes.specs.Given.Raw.Machine.{machine_plan}
-use Rattle.papaya_scenes.specs.Given.Raw.declared.machines.call.Calling.{Calling}
-use Rattle.papaya_scenes.specs.Given.Raw.declared.machines.call.Calling.TheVariants as at
 use Rattle.papaya_scenes.specs.Given.Raw.declared.machines.machine.Machine.{Machine}
-use Rattle.papaya_scenes.specs.Given.Raw.declared.machines.machine.Machine.TheVariants as kinds
 use Rattle.papaya_scenes.specs.Given.Raw.declared.machines.progress.Progress.{Progress}
 use Rattle.papaya_scenes.specs.Given.Raw.declared.machines.progress.Progress.TheVariants as progress
 use Rattle.seize_views.specs.Told.{FollowsBy, told as row_told}
 use Rattle.seize_views.specs.declared.view.View.{View as SlotView}
-use Rattle.papaya_views.specs.Looks.{shown_in, TurnsTo}
+use Rattle.papaya_views.specs.Looks.{shown_in, TurnsTo, MayFollow}
 use Rattle.papaya_views.specs.declared.view.Map.{Map}
 use Rattle.papaya_views.specs.declared.view.View.{View}
 use Rattle.papaya_views.specs.declared.view.Work.{Work}
 use Rattle.papaya_views.specs.declared.view.Work.TheVariants.{Nothing, Calls, Makes}
-
--- a call that stands at a lookup
-abbrev pub is_at_lookup : Calling → Bool
-is_at_lookup (at.Looks lookup) = true
-is_at_lookup _ = false
-
-abbrev pub is_lookup : {K V : Type 0} → Machine K V K → Bool
-is_lookup (kinds.Key c) = is_at_lookup c.stands
-is_lookup _ = false
 
 module _ {K V S : Type 0} where
   -- a call that has come so far: it goes on, or has ended
@@ -40,28 +28,28 @@ module _ {K V S : Type 0} where
   call_after machine (progress.Refused fault) = Nothing
   call_after machine told = Calls machine
 
-  -- what its section holds of these blocks, as is known: all, where it looks a key up in a map in incremental mode
-  abbrev pub held_of : Map S → Machine K V K → List (ℕ × Node K V) → List (ℕ × Node K V)
-  held_of map machine looks = if is_incremental map.setting.mode && is_lookup machine then looks else []
+  -- what is known to be held for it of these blocks: all, on a map in incremental mode
+  abbrev pub held_of : Map S → List (ℕ × Node K V) → List (ℕ × Node K V)
+  held_of map looks = if is_incremental map.setting.mode then looks else []
 
   -- what a seat knows once its call, which was this one, has come so far, and has looked at these blocks
   abbrev pub called : View K V S → Map S → Machine K V K → Machine K V K × Progress (Node K V) → List (ℕ × Node K V) → View K V S
-  called v map machine end looks = record { slot = v.slot; map = v.map; work = call_after end.0 end.1; looks = looks; held = held_of map machine looks }
+  called v map machine end looks = record { slot = v.slot; map = v.map; work = call_after end.0 end.1; looks = looks; held = held_of map looks; began = v.began }
 
   -- and once the making of a map has
   abbrev pub made_after : View K V S → ℕ → S → List (ℕ × Node K V) → NewMap → Told Setting → View K V S
   made_after v m hasher looks opening (told_as.Done setting) =
-      record { slot = v.slot; map = Some record { number = m; setting = setting; hasher = hasher }; work = Nothing; looks = looks; held = [] }
-  made_after v m hasher looks opening (told_as.Refused fault) = record { slot = v.slot; map = v.map; work = Nothing; looks = looks; held = [] }
-  made_after v m hasher looks opening told = record { slot = v.slot; map = v.map; work = Makes m hasher opening; looks = looks; held = [] }
+      record { slot = v.slot; map = Some record { number = m; setting = setting; hasher = hasher }; work = Nothing; looks = looks; held = []; began = v.began }
+  made_after v m hasher looks opening (told_as.Refused fault) = record { slot = v.slot; map = v.map; work = Nothing; looks = looks; held = []; began = v.began }
+  made_after v m hasher looks opening told = record { slot = v.slot; map = v.map; work = Makes m hasher opening; looks = looks; held = []; began = v.began }
 
 module _ {K V S : Type 0} (same : K → K → Bool) (hash : S → K → ℕ) where
   abbrev pub told_by : View K V S → Option (Map S) → Work K V S → Op (Node K V) → Out (Node K V) → View K V S → Type 0
   told_by v map Nothing op out w =
-      (slot : SlotView (Node K V)) × row_told deferred_word v.slot op out slot × (w ≡ record { slot = slot; map = v.map; work = Nothing; looks = []; held = [] })
+      (slot : SlotView (Node K V)) × row_told deferred_word v.slot op out slot × (w ≡ record { slot = slot; map = v.map; work = Nothing; looks = []; held = []; began = v.began })
   told_by v (Some map) (Calls machine) op out w =
       (end : Machine K V K × Progress (Node K V)) × FollowsBy (shown_in w.looks) (machine_plan same same (hash map.hasher) machine) out end
-      × (w ≡ called v map machine end w.looks)
+      × (w ≡ called v map machine end w.looks) × MayFollow (shown_in w.looks) (machine_plan same same (hash map.hasher) machine) out
   told_by v None (Calls machine) op out w = ⊥
   told_by v map (Makes m hasher opening) op out w =
       (end : NewMap × Told Setting) × FollowsBy (shown_in w.looks) (new_map_plan opening) out end × (w ≡ made_after v m hasher w.looks end.0 end.1)

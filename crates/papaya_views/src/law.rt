@@ -1,10 +1,11 @@
 //! What is promised of the rule of maps.
 ghost use Rattle.std.specs.Prelude.{ℕ, Bool};
 ghost use Rattle.papaya_views.specs.Promises.{RulesStart, SeatsCome, CallsGoOn, CallsTurn, HeldAreShown, CallsBegin, CallsAreTold, MapsAreHandedOn, MakingsBegin, MakingsGoOn};
+ghost use Rattle.papaya_views.specs.Promises.{RowsGoOn, RowsTurn, SettlingsBegin, LookedAreShown};
 
 /// Keys may be compared, and hashed by a hasher, in any way. The rule may start where each hasher is lawful, and seats may come; and the next step of a call that a
-/// seat has under way, with an operation or without, may be taken at any moment, whatever the other seats do. What it has
-/// looked at by a lookup in incremental mode is there until its next step, with the value that it had.
+/// seat has under way, with an operation or without, may be taken at any moment, whatever the other seats do. What a step
+/// of any call has looked at in incremental mode is there until its next step, with the value that it had.
 pub fn calls_go_on<K, V, S>()
     ensures starts { (same : K → K → Bool) (hash : S → K → ℕ) → RulesStart V same hash }
     ensures come { (same : K → K → Bool) (hash : S → K → ℕ) → SeatsCome V same hash }
@@ -25,4 +26,13 @@ pub fn calls_begin<K, V, S>()
 pub fn makings_go_on<K, V, S>()
     ensures begin { (same : K → K → Bool) (hash : S → K → ℕ) → MakingsBegin V same hash }
     ensures on { (same : K → K → Bool) (hash : S → K → ℕ) → MakingsGoOn V same hash }
+{}
+
+/// A seat that has no call and no making under way may take a slot, enter, leave, refresh, try its batch and give its slot up: each row may begin, go on and end at any
+/// moment, whatever the other seats do; and what a settling is to look at is there.
+pub fn rows_go_on<K, V, S>()
+    ensures on { (same : K → K → Bool) (hash : S → K → ℕ) → RowsGoOn V same hash }
+    ensures turn { (same : K → K → Bool) (hash : S → K → ℕ) → RowsTurn V same hash }
+    ensures settle { (same : K → K → Bool) (hash : S → K → ℕ) → SettlingsBegin V same hash }
+    ensures looked { (same : K → K → Bool) (hash : S → K → ℕ) → LookedAreShown V same hash }
 {}

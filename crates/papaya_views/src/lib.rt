@@ -2,10 +2,11 @@
 //! last step looks at; and what is promised of it.
 #![tactic(auto)]
 
+mod content;
 mod law;
 mod maps;
 mod view;
 
-pub use law::{calls_begin, calls_go_on, makings_go_on};
+pub use law::{calls_begin, calls_go_on, makings_go_on, rows_go_on};
 pub use maps::OfMaps;
 pub use view::{Map, View, Work};

@@ -12,6 +12,8 @@ pub struct OfMaps<S>(PhantomData<S>);
 impl<K: Eq, V, S: Hashes<K>> Rule<Node<K, V>> for OfMaps<S> {
     ghost use Rattle.papaya_views.specs.Rule.{MapsWorld, Holds, KeepsFor, at_rest};
     ghost use Rattle.papaya_views.specs.Told.{told};
+    ghost use Rattle.papaya_views.specs.Notes.{IsResting};
+    ghost use Rattle.papaya_views.specs.Resting.{resting_stay};
 
     type View = View<K, V, S>;
 
@@ -26,4 +28,10 @@ impl<K: Eq, V, S: Hashes<K>> Rule<Node<K, V>> for OfMaps<S> {
     ghost then = { told K.eq S.hash };
 
     ghost newcomer = { λ _. at_rest };
+
+    ghost rests = { IsResting };
+
+    ghost newcomers_rest = { λ _. tt };
+
+    ghost resting_stay = { resting_stay K.eq S.hash };
 }

@@ -14,8 +14,10 @@ pub struct View<K, V, S> {
     pub work: Work<K, V, S>,
     /// The blocks that its last step looks at after its operation, with their values.
     pub looks: LinkedList<(u64, Node<K, V>)>,
-    /// Of these, those that its section is known to hold.
+    /// Of these, those that are known to be held for it: its section holds them, or its call has them as its own.
     pub held: LinkedList<(u64, Node<K, V>)>,
+    /// What it has begun last on its slot.
+    pub began: seize_views::Began,
 }
 
 /// A map that stands.

@@ -9,19 +9,21 @@ use Rattle.seize_words.specs.declared.block.Block.{Block}
 use Rattle.seize_seats.specs.State.{State, Allows, Owns}
 use Rattle.seize_seats.specs.Visits.{AreSeenAt}
 use Rattle.seize_seats.specs.Reached.{IsAt}
-use Rattle.seize_seats.specs.Lendings.{ShownToBoth, IsValueOf}
-use Rattle.seize_seats.specs.Visits.{Visit, HoldsKept}
-use Rattle.seize_seats.proofs.Visits.{visits_found, value_found}
-use Rattle.seize_plots.specs.Pieces.{value_of, lies, lies_at}
+use Rattle.seize_seats.specs.Lendings.{ShownToBoth, IsValueOf, IsValueOfBoth}
+use Rattle.seize_seats.specs.Visits.{Spot, Visit}
+use Rattle.seize_seats.specs.Errands.{Away}
+use Rattle.seize_atoms.specs.Visiting.{Seen, HoldsHere}
+use Rattle.seize_atoms.proofs.Allowed.{visits_found, value_found}
+use Rattle.seize_plots.specs.Pieces.{lies, lies_at}
 use Rattle.seize_plots.specs.declared.kept.Kept.{Kept}
 use Rattle.seize_plots.specs.declared.piece.Piece.{Piece}
 use Rattle.seize_plots.specs.Somewhere.{AreBeside}
 use Rattle.seize_plots.proofs.Somewhere.{beside_none}
 use Rattle.seize_seats.specs.Owned.{BaseId}
-use Rattle.seize_blocks.specs.Placed.{IsItsPlace, IsItsSign, IsItsIndex, HasWord}
-use Rattle.seize_blocks.specs.declared.claim.Claim.{Claim}
+use Rattle.seize_atoms.specs.Placed.{IsItsPlace, IsItsSign, IsItsIndex, HasWord}
+use Rattle.seize_atoms.specs.declared.claim.Claim.{Claim}
 
-module _ {T V W F : Type 0} (holds : F → State T V W → Type 0) (keeps : V → V → W → ℕ → Type 0) where
+module _ {T V W F : Type 0} (rests : V → Type 0) (holds : F → State T V W → Type 0) (keeps : V → V → W → ℕ → Type 0) where
   -- what `by` ensures
   abbrev Same : Ptr → Ptr → BaseId → BaseId → BaseId → F → F → Type 0
   Same p q y z x f h = (p ≡ q) × (y ≡ z) × (f ≡ h) × (z.views_name ≡ x.views_name) × (z.hands_name ≡ x.hands_name)
@@ -30,15 +32,15 @@ module _ {T V W F : Type 0} (holds : F → State T V W → Type 0) (keeps : V �
   abbrev AsItWas : ℕ → ℕ → ℕ → ℕ → V → V → Type 0
   AsItWas base' base id' id v' v = (base' ≡ base) × (id' ≡ id) × (v' ≡ v)
 
-  abbrev Kinds : F → State (Kept T) (V × Visit) W → Type 0
-  Kinds h = HoldsKept value_of lies (holds h)
+  abbrev Kinds : F → State (Kept T) (Seen V) W → Type 0
+  Kinds h = HoldsHere rests (holds h)
 
-  pub on_word : (base base' id id' : ℕ) (address : Ptr) (place : ℕ) (v v' : V) (visit : Visit) (at : At) (op : Op T) (so : V → Out T → V → Type 0) (p q : Ptr) (y z x : BaseId)
+  pub on_word : (base base' id id' : ℕ) (address : Ptr) (place : ℕ) (v v' : V) (visit : Visit) (away : Away) (at : At) (op : Op T) (so : V → Out T → V → Type 0) (p q : Ptr) (y z x : BaseId)
       (f h : F) → Same p q y z x f h → AsItWas base' base id' id v' v
-      → base ≡ x.views_name → IsItsPlace (Kinds h) id' (v', visit) q z at address place → Allows (holds h) keeps id v op (so v)
-      → (base' ≡ y.views_name) × IsItsPlace (Kinds f) id' (v', visit) p y at address place × Allows (holds f) keeps id' v' op (so v')
-  on_word base base' id id' address place v v' visit at op so p q y z x f h e s own is may =
-      subst (λ (u : Ptr × BaseId × F). (base' ≡ u.1.views_name) × IsItsPlace (Kinds u.2) id' (v', visit) u.0 u.1 at address place × Allows (holds u.2) keeps id' v' op (so v'))
+      → base ≡ x.views_name → IsItsPlace (Kinds h) id' ((v', visit), away) q z at address place → Allows (holds h) keeps id v op (so v)
+      → (base' ≡ y.views_name) × IsItsPlace (Kinds f) id' ((v', visit), away) p y at address place × Allows (holds f) keeps id' v' op (so v')
+  on_word base base' id id' address place v v' visit away at op so p q y z x f h e s own is may =
+      subst (λ (u : Ptr × BaseId × F). (base' ≡ u.1.views_name) × IsItsPlace (Kinds u.2) id' ((v', visit), away) u.0 u.1 at address place × Allows (holds u.2) keeps id' v' op (so v'))
       (λ i. (sym e.0 i, sym e.1 i, sym e.2 i))
       (s.0 ∙ own ∙ sym e.3, is, subst (λ (w : ℕ × V). Allows (holds h) keeps w.0 w.1 op (so w.1)) (λ i. (sym s.1 i, sym s.2 i)) may)
 
@@ -51,19 +53,19 @@ module _ {T V W F : Type 0} (holds : F → State T V W → Type 0) (keeps : V �
       × (first + 2 ≡ first + 2) × (first + 3 ≡ first + 3) × (first + 4 ≡ first + 4) × (first + 4 < 2 ^ 60) × Allows (holds u.1) keeps id v (Take block) so)
       (λ i. (sym e.1 i, sym e.2 i)) (own ∙ sym e.3, lies, values, is, refl, refl, refl, refl, few, may)
 
-  pub on_rewrite : (base base' id id' block index : ℕ) (v v' : V) (visit : Visit) (kept : Kept T) (at p q : Ptr) (y z x : BaseId) (f h : F) (so : V → Out T → V → Type 0)
+  pub on_rewrite : (base base' id id' block index : ℕ) (v v' : V) (visit : Visit) (away : Away) (kept : Kept T) (at p q : Ptr) (y z x : BaseId) (f h : F) (so : V → Out T → V → Type 0)
       → Same p q y z x f h → AsItWas base' base id' id v' v → visit ≡ Some (block, lies kept)
       → base ≡ x.views_name → IsItsIndex z block index → at ≡ z.values → Owns (holds h) keeps id v block → Allows (holds h) keeps id v (Rewrite block kept.value) (so v)
-      → (base' ≡ y.views_name) × IsItsIndex y block index × (at ≡ y.values) × ((k : Kept T) → IsValueOf (Kinds f) id' (v', visit) block k → lies k ≡ lies kept)
+      → (base' ≡ y.views_name) × IsItsIndex y block index × (at ≡ y.values) × ((k : Kept T) → IsValueOf (Kinds f) id' ((v', visit), away) block k → lies k ≡ lies kept)
       × Owns (holds f) keeps id' v' block × Allows (holds f) keeps id' v' (Rewrite block kept.value) (so v')
-  on_rewrite base base' id id' block index v v' visit kept at p q y z x f h so e s seen own is values alone may =
+  on_rewrite base base' id id' block index v v' visit away kept at p q y z x f h so e s seen own is values alone may =
       subst (λ (u : BaseId × F). (base' ≡ u.0.views_name) × IsItsIndex u.0 block index × (at ≡ u.0.values)
-      × ((k : Kept T) → IsValueOf (Kinds u.1) id' (v', visit) block k → lies k ≡ lies kept)
+      × ((k : Kept T) → IsValueOf (Kinds u.1) id' ((v', visit), away) block k → lies k ≡ lies kept)
       × Owns (holds u.1) keeps id' v' block × Allows (holds u.1) keeps id' v' (Rewrite block kept.value) (so v')) (λ i. (sym e.1 i, sym e.2 i)) (
         s.0 ∙ own ∙ sym e.3,
         is,
         values,
-        λ k of. value_found value_of lies (holds h) keeps id' v' block (lies kept) k (subst (λ (w : Visit). IsValueOf (Kinds h) id' (v', w) block k) seen of),
+        λ k of. value_found rests (holds h) keeps id' v' away block (lies kept) k (subst (λ (w : Visit). IsValueOf (Kinds h) id' ((v', w), away) block k) seen of),
         subst (λ (w : ℕ × V). Owns (holds h) keeps w.0 w.1 block) (λ i. (sym s.1 i, sym s.2 i)) alone,
         subst (λ (w : ℕ × V). Allows (holds h) keeps w.0 w.1 (Rewrite block kept.value) (so w.1)) (λ i. (sym s.1 i, sym s.2 i)) may,
       )
@@ -118,14 +120,24 @@ pub shows_own : {T V W : Type 0} (holds : State T V W → Type 0) (id : ℕ) (v 
 shows_own {T} holds id v b i has t h at at' = let s = block_value (block_of t.memory b) i (has t h at) in subst (λ (y : Option T). IsSome y) (sym s.1) refl
 
 -- of a block that the seat visits, its own words lie where it has seen them
-pub own_lies : {T V W : Type 0} (holds : State T V W → Type 0) (keeps : V → V → W → ℕ → Type 0) (id : ℕ) (v : V) (visit : Visit) (b i : ℕ) (s : Ptr × ℕ) (p address : Ptr) (place : ℕ)
+pub own_lies : {T V W : Type 0} (rests : V → Type 0) (holds : State T V W → Type 0) (keeps : V → V → W → ℕ → Type 0) (id : ℕ) (v : V) (visit : Visit) (away : Away) (b i : ℕ) (s : Ptr × ℕ) (p address : Ptr) (place : ℕ)
     (z : BaseId) (index : ℕ) → IsItsIndex z b index → visit ≡ Some (b, s) → (InBlock s.0 → i * 8 < 2 ^ 63 → (s.0 ≡ address) × (place ≡ i))
-    → IsAt lies_at (HoldsKept value_of lies holds) id (v, visit) p z (Word b i) address place
-own_lies {T} {V} {W} holds keeps id v visit b i s p address place z index is at lands =
-    subst (λ (y : Visit). IsAt lies_at (HoldsKept value_of lies holds) id (v, y) p z (Word b i) address place) (sym at) (is.0, (s.0, seen, lands))
+    → IsAt lies_at (HoldsHere rests holds) id ((v, visit), away) p z (Word b i) address place
+own_lies {T} {V} {W} rests holds keeps id v visit away b i s p address place z index is at lands =
+    subst (λ (y : Visit). IsAt lies_at (HoldsHere rests holds) id ((v, y), away) p z (Word b i) address place) (sym at) (is.0, (s.0, seen, lands))
   where
-    seen : AreSeenAt lies_at (HoldsKept value_of lies holds) id (v, Some (b, s)) b s.0
-    seen t ok here = let f = visits_found value_of lies holds keeps t id v b s ok here in (f.0, f.1, ap (λ (u : Ptr × ℕ). u.0) f.2)
+    seen : AreSeenAt lies_at (HoldsHere rests holds) id ((v, Some (b, s)), away) b s.0
+    seen t ok here = let f = visits_found rests holds keeps t id v away b s ok here in (f.0, f.1, ap (λ (u : Ptr × ℕ). u.0) f.2)
+
+-- what is found of a block that the seat visits lies where it has seen it
+pub lies_there : {T V W : Type 0} (rests : V → Type 0) (holds : State T V W → Type 0) (keeps : V → V → W → ℕ → Type 0) (id : ℕ) (v : V) (visit : Visit) (away : Away) (b : ℕ)
+    (x y : Kept T) (o : Option (Kept T)) → ((s : Spot) × (visit ≡ Some (b, s))) → o ≡ Some x → o ≡ Some y
+    → IsValueOfBoth (HoldsHere rests holds) id ((v, visit), away) id ((v, visit), away) b x → visit ≡ Some (b, lies y)
+lies_there rests holds keeps id v visit away b x y o s is_x is_y of =
+    let one : x ≡ y = cc (is_x, is_y) in
+    let found : lies x ≡ s.0 = value_found rests holds keeps id v away b s.0 x
+    (subst (λ (w : Visit). IsValueOf (HoldsHere rests holds) id ((v, w), away) b x) s.1 (of.0, of.1, of.2, of.4)) in
+    s.1 ∙ ap (λ (p : Spot). Some (b, p)) (sym found ∙ ap lies one)
 
 -- a word that is looked for elsewhere is none
 pub own_away : (p : Ptr) (n i : ℕ) → AreBeside p n → ((0 < n) × (2 ^ 60 ≤ i)) ⊎ (n ≤ 0) → InBlock p → i * 8 < 2 ^ 63 → ⊥

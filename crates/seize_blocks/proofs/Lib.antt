@@ -1,3 +1,2 @@
-pub mod Fields
-pub mod Lives
 pub mod By
+mod Far

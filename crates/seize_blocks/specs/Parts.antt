@@ -3,7 +3,7 @@ use Rattle.std.specs.Prelude.{◌≡◌, ℕ, ◌+◌, ◌*◌, ◌<◌, ◌^◌
 use denote.RawPtr.{InBlock}
 use Rattle.seize_seats.specs.Owned.{BaseId, core_of}
 use Rattle.seize_blocks.specs.declared.part.Part.{Part}
-use Rattle.seize_blocks.specs.declared.claim.Claim.{Claim}
+use Rattle.seize_atoms.specs.declared.claim.Claim.{Claim}
 
 -- it is a strip of this memory
 abbrev pub IsHad : {T : Type 0} → BaseId → Part T → Type 0

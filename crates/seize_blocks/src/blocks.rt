@@ -1,21 +1,21 @@
 //! The memory as a whole, as those use it who share it.
-ghost use Rattle.std.specs.Prelude.{◌≡◌, ◌≤◌, ◌<◌, ◌^◌};
-ghost use Rattle.seize_words.specs.Op.{Load, Store, Swap, Add, Or, Exchange, Make, Take, Rewrite, Room, Found, Stored, Exchanged, Made, Taken, Roomed};
-ghost use Rattle.seize_seats.specs.State.{Allows, Owns, Turns, Comes, Meets, Renews};
+ghost use Rattle.std.specs.Prelude.{◌≡◌, None, ◌≤◌, ◌<◌, ◌^◌};
+ghost use Rattle.seize_words.specs.Op.{Load, Store, Swap, Add, Or, Exchange, Make, Take, Rewrite, Found, Stored, Exchanged, Made, Taken};
+ghost use Rattle.seize_seats.specs.State.{Allows, Owns, Turns, Comes, Meets};
+ghost use Rattle.seize_seats.specs.Errands.{MayGo, MayMeet, RenewsIdle};
 ghost use Rattle.seize_seats.specs.Owned.{IsFirst};
 ghost use Rattle.seize_seats.specs.Lendings.{Shown, ShownToBoth, IsValueOf, IsValueOfBoth};
 
-use crate::rule::{Meeting, Rule, Turn};
-use crate::seat::Seat;
-use crate::words::Words;
+use crate::errand::{Errand, Sent};
+use seize_atoms::{Meeting, Rule, Seat, Turn, Words};
 use seize_plots::{Doors, Kept, Laid, Place, give_words, lay_words};
-use seize_words::{At, Fault};
+use seize_words::At;
 use std::alloc::Global;
 
 /// The most numbers that a memory has.
 pub(crate) const MOST: u64 = 4294967296;
 
-/// A memory that threads share under a rule. It has words of roots and of the slots of the first bucket, and numbers for blocks: so many in the first strip,
+/// A memory that threads share under a rule. It has words of roots and slots, and numbers for blocks: so many in the first strip,
 /// and as many again with each further one, which is laid where it is needed. Words of a block's own lie in memory beside it.
 pub struct Blocks<T, R: Rule<T>> {
     pub(crate) alloc: Global,
@@ -34,7 +34,7 @@ impl<T, R: Rule<T>> Blocks<T, R> {
     /// A seat more.
     pub fn seat(&self) -> Seat<T, R>
         requires { Comes (R.holds self.now.words.fixed) R.keeps (R.newcomer self.now.words.fixed) }
-        ensures { (result.base ≡ self.now.words.id.views_name) × (result.view ≡ R.newcomer self.now.words.fixed) }
+        ensures { (result.base ≡ self.now.words.id.views_name) × (result.view ≡ R.newcomer self.now.words.fixed) × (result.away ≡ None) }
     {
         self.words.seat()
     }
@@ -43,10 +43,31 @@ impl<T, R: Rule<T>> Blocks<T, R> {
     pub fn turn<M: Turn<R::Fixed, R::View>>(&self, seat: &mut Seat<T, R>)
         requires own { seat.old.base ≡ self.now.words.id.views_name }
         requires may { Turns (R.holds self.now.words.fixed) R.keeps seat.old.id seat.old.view (M.to self.now.words.fixed seat.old.view) }
+        requires errand { MayGo R.rests seat.old.away seat.old.view (M.to self.now.words.fixed seat.old.view) }
         ensures same { (seat.new.base ≡ seat.old.base) × (seat.new.id ≡ seat.old.id) }
+        ensures errand { seat.new.away ≡ seat.old.away }
         ensures goes { M.to self.now.words.fixed seat.old.view seat.new.view }
     {
         self.words.turn::<M>(seat)
+    }
+
+    /// A seat goes on an errand: a course of steps, in the midst of which nobody has the memory to himself. It ends where the seat rests.
+    pub fn errand<E: Errand<T, R>>(&self, seat: &mut Seat<T, R>, errand: E) -> E::Answer
+        requires own { seat.old.base ≡ self.now.words.id.views_name }
+        requires home { seat.old.away ≡ None }
+        requires asks { E.asks errand self.now.words.fixed seat.old.view }
+        requires ends { (answer : E.Answer) (w : R.View) → E.did errand self.now.words.fixed seat.old.view answer w → R.rests w }
+        ensures same { (seat.new.base ≡ seat.old.base) × (seat.new.id ≡ seat.old.id) }
+        ensures home { seat.new.away ≡ None }
+        ensures did { E.did errand self.now.words.fixed seat.old.view result seat.new.view }
+    {
+        self.words.errand(
+            seat,
+            Sent {
+                blocks: self,
+                errand,
+            },
+        )
     }
 
     /// Two seats come to know something else, by what both knew.
@@ -54,7 +75,9 @@ impl<T, R: Rule<T>> Blocks<T, R> {
         requires own { (one.old.base ≡ self.now.words.id.views_name) × (other.old.base ≡ self.now.words.id.views_name) }
         requires may { Meets (R.holds self.now.words.fixed) one.old.id one.old.view other.old.id other.old.view
             (M.to self.now.words.fixed one.old.view other.old.view) }
+        requires errand { MayMeet R.rests one.old.away one.old.view other.old.away other.old.view (M.to self.now.words.fixed one.old.view other.old.view) }
         ensures same { (one.new.base ≡ one.old.base) × (one.new.id ≡ one.old.id) × (other.new.base ≡ other.old.base) × (other.new.id ≡ other.old.id) }
+        ensures errand { (one.new.away ≡ one.old.away) × (other.new.away ≡ other.old.away) }
         ensures goes { M.to self.now.words.fixed one.old.view other.old.view one.new.view other.new.view }
     {
         self.words.meet::<M>(one, other)
@@ -62,7 +85,7 @@ impl<T, R: Rule<T>> Blocks<T, R> {
 
     /// All seats end, and what was lent is back. Words and blocks stay as they are.
     pub fn renew(&mut self)
-        requires ends { Renews (R.holds self.old.words.fixed) }
+        requires ends { RenewsIdle R.rests (R.holds self.old.words.fixed) }
         ensures same { (self.new.words.words ≡ self.old.words.words) × (self.new.words.fixed ≡ self.old.words.fixed) }
         ensures names { (self.new.words.id.roots ≡ self.old.words.id.roots) × (self.new.words.id.count ≡ self.old.words.id.count)
             × (self.new.words.id.values ≡ self.old.words.id.values) × (self.new.words.id.doors ≡ self.old.words.id.doors)
@@ -71,28 +94,13 @@ impl<T, R: Rule<T>> Blocks<T, R> {
         self.words.renew()
     }
 
-    /// Makes the words of a bucket of slots where they are not there yet. There are those of the first alone, so for every other one
-    /// the answer is `Memory`.
-    pub fn room(&self, seat: &mut Seat<T, R>, bucket: u64) -> Result<(), Fault>
-        requires own { seat.old.base ≡ self.now.words.id.views_name }
-        requires may { Allows (R.holds self.now.words.fixed) R.keeps seat.old.id seat.old.view (Room bucket) (R.then seat.old.view (Room bucket)) }
-        ensures same { (seat.new.base ≡ seat.old.base) × (seat.new.id ≡ seat.old.id) }
-        ensures goes { R.then seat.old.view (Room bucket) (Roomed result) seat.new.view }
-    {
-        self.words.room(seat, bucket);
-        if bucket == 0 {
-            Ok(())
-        } else {
-            Err(Fault::Memory)
-        }
-    }
-
     /// The word of a name.
     #[inline(always)]
     pub fn load(&self, seat: &mut Seat<T, R>, at: At) -> u64
         requires own { seat.old.base ≡ self.now.words.id.views_name }
         requires may { Allows (R.holds self.now.words.fixed) R.keeps seat.old.id seat.old.view (Load at) (R.then seat.old.view (Load at)) }
         ensures same { (seat.new.base ≡ seat.old.base) × (seat.new.id ≡ seat.old.id) }
+        ensures errand { seat.new.away ≡ seat.old.away }
         ensures goes { R.then seat.old.view (Load at) (Found result) seat.new.view }
     {
         let reached = self.place_of(seat, at);
@@ -108,6 +116,7 @@ impl<T, R: Rule<T>> Blocks<T, R> {
         requires own { seat.old.base ≡ self.now.words.id.views_name }
         requires may { Allows (R.holds self.now.words.fixed) R.keeps seat.old.id seat.old.view (Store at word) (R.then seat.old.view (Store at word)) }
         ensures same { (seat.new.base ≡ seat.old.base) × (seat.new.id ≡ seat.old.id) }
+        ensures errand { seat.new.away ≡ seat.old.away }
         ensures goes { R.then seat.old.view (Store at word) Stored seat.new.view }
     {
         let reached = self.place_of(seat, at);
@@ -123,6 +132,7 @@ impl<T, R: Rule<T>> Blocks<T, R> {
         requires own { seat.old.base ≡ self.now.words.id.views_name }
         requires may { Allows (R.holds self.now.words.fixed) R.keeps seat.old.id seat.old.view (Swap at word) (R.then seat.old.view (Swap at word)) }
         ensures same { (seat.new.base ≡ seat.old.base) × (seat.new.id ≡ seat.old.id) }
+        ensures errand { seat.new.away ≡ seat.old.away }
         ensures goes { R.then seat.old.view (Swap at word) (Found result) seat.new.view }
     {
         let reached = self.place_of(seat, at);
@@ -138,6 +148,7 @@ impl<T, R: Rule<T>> Blocks<T, R> {
         requires own { seat.old.base ≡ self.now.words.id.views_name }
         requires may { Allows (R.holds self.now.words.fixed) R.keeps seat.old.id seat.old.view (Add at by) (R.then seat.old.view (Add at by)) }
         ensures same { (seat.new.base ≡ seat.old.base) × (seat.new.id ≡ seat.old.id) }
+        ensures errand { seat.new.away ≡ seat.old.away }
         ensures goes { R.then seat.old.view (Add at by) (Found result) seat.new.view }
     {
         let reached = self.place_of(seat, at);
@@ -153,6 +164,7 @@ impl<T, R: Rule<T>> Blocks<T, R> {
         requires own { seat.old.base ≡ self.now.words.id.views_name }
         requires may { Allows (R.holds self.now.words.fixed) R.keeps seat.old.id seat.old.view (Or at bits) (R.then seat.old.view (Or at bits)) }
         ensures same { (seat.new.base ≡ seat.old.base) × (seat.new.id ≡ seat.old.id) }
+        ensures errand { seat.new.away ≡ seat.old.away }
         ensures goes { R.then seat.old.view (Or at bits) (Found result) seat.new.view }
     {
         let reached = self.place_of(seat, at);
@@ -168,6 +180,7 @@ impl<T, R: Rule<T>> Blocks<T, R> {
         requires own { seat.old.base ≡ self.now.words.id.views_name }
         requires may { Allows (R.holds self.now.words.fixed) R.keeps seat.old.id seat.old.view (Exchange at old new) (R.then seat.old.view (Exchange at old new)) }
         ensures same { (seat.new.base ≡ seat.old.base) × (seat.new.id ≡ seat.old.id) }
+        ensures errand { seat.new.away ≡ seat.old.away }
         ensures goes { R.then seat.old.view (Exchange at old new) (Exchanged result) seat.new.view }
     {
         let reached = self.place_of(seat, at);
@@ -195,6 +208,7 @@ impl<T, R: Rule<T>> Blocks<T, R> {
         requires own { seat.old.base ≡ self.now.words.id.views_name }
         requires may { Allows (R.holds self.now.words.fixed) R.keeps seat.old.id seat.old.view (Make value words) (R.then seat.old.view (Make value words)) }
         ensures same { (seat.new.base ≡ seat.old.base) × (seat.new.id ≡ seat.old.id) }
+        ensures errand { seat.new.away ≡ seat.old.away }
         ensures goes { R.then seat.old.view (Make value words) (Made result) seat.new.view }
     {
         let Some(laid) = lay_words(&self.alloc, words) else {
@@ -229,6 +243,7 @@ impl<T, R: Rule<T>> Blocks<T, R> {
         requires own { seat.old.base ≡ self.now.words.id.views_name }
         requires may { Allows (R.holds self.now.words.fixed) R.keeps seat.old.id seat.old.view (Take block) (R.then seat.old.view (Take block)) }
         ensures same { (seat.new.base ≡ seat.old.base) × (seat.new.id ≡ seat.old.id) }
+        ensures errand { seat.new.away ≡ seat.old.away }
         ensures goes { R.then seat.old.view (Take block) (Taken result) seat.new.view }
     {
         let spot = self.spot_of(seat, seat, block);
@@ -259,6 +274,7 @@ impl<T, R: Rule<T>> Blocks<T, R> {
         requires alone { Owns (R.holds self.now.words.fixed) R.keeps seat.old.id seat.old.view block }
         requires may { Allows (R.holds self.now.words.fixed) R.keeps seat.old.id seat.old.view (Rewrite block value) (R.then seat.old.view (Rewrite block value)) }
         ensures same { (seat.new.base ≡ seat.old.base) × (seat.new.id ≡ seat.old.id) }
+        ensures errand { seat.new.away ≡ seat.old.away }
         ensures goes { R.then seat.old.view (Rewrite block value) (Taken result) seat.new.view }
     {
         self.words.visit(seat, block);

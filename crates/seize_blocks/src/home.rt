@@ -1,14 +1,19 @@
 //! The memory with the right to give back what it is made of.
-ghost use Rattle.std.specs.Prelude.{◌≡◌, ◌≤◌, ◌^◌, IfOk};
+ghost use Rattle.std.specs.Prelude.{◌≡◌, ◌≤◌, ◌^◌, List, [], ◌∷◌, None, IfOk};
 ghost use Rattle.core.specs.Mem.Slots.{lease_ptr, lease_len};
+ghost use Rattle.seize_seats.specs.Errands.{RenewsTo, RenewsFrom};
 ghost use Rattle.seize_seats.specs.State.{Starts};
 ghost use Rattle.seize_seats.specs.Lines.{whole};
 
 use crate::blocks::{Blocks, MOST};
-use crate::rule::Rule;
-use crate::words::Words;
-use seize_plots::{Doors, Ground, Kept, Place, clear, drain, give_back, lay, lay_doors, lay_empty};
+use seize_atoms::{Rule, Seat, Words};
+use seize_plots::{
+    Doors, Ground, Kept, Place, clear, clear_rooms, drain, give_back, lay, lay_doors, lay_empty,
+};
 use std::alloc::{AllocError, Global};
+
+/// How many doors there are: one for each further strip of numbers, and one for each further bucket of slots.
+const DOORS: usize = 64;
 
 /// A memory with the right to give its words and places back. It stays with the thread that made it, and lends the memory to others.
 pub struct Home<T: Drop, R: Rule<T>> {
@@ -18,7 +23,7 @@ pub struct Home<T: Drop, R: Rule<T>> {
     doorway: Ground<*mut u64>,
     ghost lies: { (lease_ptr ground.lease ≡ blocks.words.words) × (lease_ptr places.lease ≡ blocks.values.at) × (lease_ptr doorway.lease ≡ blocks.doors.at) },
     ghost size: { (lease_len ground.lease ≡ whole blocks.words.id.roots blocks.words.id.size) × (lease_len places.lease ≡ blocks.words.id.size)
-        × (lease_len doorway.lease ≡ 32) },
+        × (lease_len doorway.lease ≡ 64) },
 }
 
 impl<T: Drop, R: Rule<T>> Home<T, R> {
@@ -31,7 +36,7 @@ impl<T: Drop, R: Rule<T>> Home<T, R> {
         let count = if count == 0 { 1 } else { count };
         let long = ((roots + roots + 32) * 16 + count * 5) as usize;
         let (row, ground) = lay(alloc, long)?;
-        let (nulls, doorway) = match lay_doors(alloc, 32) {
+        let (nulls, doorway) = match lay_doors(alloc, DOORS) {
             Ok(laid) => laid,
             Err(refused) => {
                 give_back(ground, row.into_slots(long));
@@ -60,9 +65,53 @@ impl<T: Drop, R: Rule<T>> Home<T, R> {
             }
             Err(refused) => {
                 give_back(ground, row.into_slots(long));
-                give_back(doorway, nulls.into_slots(32));
+                give_back(doorway, nulls.into_slots(DOORS));
                 Err(refused)
             }
+        }
+    }
+
+    /// All seats end, and what was lent is back. The memory is under another rule from then on, with one seat, which has just come.
+    pub fn alone<S: Rule<T>>(self, fixed: &S::Fixed) -> (Home<T, S>, Seat<T, S>)
+        requires ends { RenewsTo R.rests (R.holds self.blocks.words.fixed) (S.holds fixed.now) (S.newcomer fixed.now ∷ []) }
+        ensures fixed { result.0.blocks.words.fixed ≡ fixed.now }
+        ensures comes { (result.1.base ≡ result.0.blocks.words.id.views_name) × (result.1.view ≡ S.newcomer fixed.now) × (result.1.away ≡ None) }
+    {
+        let Home {
+            blocks,
+            ground,
+            places,
+            doorway,
+        } = self;
+        let (blocks, seat) = blocks.alone::<S>(fixed);
+        (
+            Home {
+                blocks,
+                ground,
+                places,
+                doorway,
+            },
+            seat,
+        )
+    }
+
+    /// All seats end, and what was lent is back, where it is known what this seat knows. The memory is under another rule from then on, with no seat.
+    pub fn used<S: Rule<T>>(self, seat: Seat<T, R>, fixed: &S::Fixed) -> Home<T, S>
+        requires own { seat.base ≡ self.blocks.words.id.views_name }
+        requires ends { RenewsFrom R.rests (R.holds self.blocks.words.fixed) (S.holds fixed.now) seat.id seat.view }
+        ensures { result.blocks.words.fixed ≡ fixed.now }
+    {
+        let Home {
+            blocks,
+            ground,
+            places,
+            doorway,
+        } = self;
+        Home {
+            blocks: blocks.used::<S>(seat, fixed),
+            ground,
+            places,
+            doorway,
         }
     }
 }
@@ -85,9 +134,10 @@ impl<T: Drop, R: Rule<T>> Drop for Home<T, R> {
         } = blocks;
         let Place { at } = values;
         let Doors { at: nulls } = doors;
-        let (row, kept, shut, strips, pieces) = words.close(at, nulls);
-        let mut open = shut.into_slots(32);
+        let (row, kept, shut, strips, pieces, rooms) = words.close(at, nulls);
+        let mut open = shut.into_slots(DOORS);
         clear(&alloc, strips, &mut open, count);
+        clear_rooms(&alloc, rooms, &mut open);
         give_back(doorway, open);
         give_back(
             ground,

@@ -1,19 +1,16 @@
 //! A memory that threads share, under any rule. Each operation on a word is one atomic step, which owes that the rule holds again.
 #![tactic(auto)]
 
+mod alone;
 mod blocks;
-mod claim;
+mod errand;
 mod home;
 mod numbers;
 mod part;
 mod places;
-mod rule;
-mod seat;
-mod strip;
-mod words;
+mod rooms;
 
 pub use blocks::Blocks;
+pub use errand::Errand;
 pub use home::Home;
-pub use rule::{Meeting, Rule, Turn};
-pub use seat::Seat;
-pub use words::Words;
+pub use seize_atoms::{Meeting, Rule, Seat, Turn, Words};

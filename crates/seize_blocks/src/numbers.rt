@@ -6,9 +6,8 @@ ghost use Rattle.seize_plots.specs.contracts.kept.Kept.{the_row as KeptOf};
 ghost use Rattle.seize_blocks.specs.Parts.{IsHad, IsPart, IsClaimed};
 
 use crate::blocks::{Blocks, MOST};
-use crate::claim::Claim;
 use crate::part::{Part, places_in};
-use crate::rule::Rule;
+use seize_atoms::{Claim, Rule};
 use seize_plots::{Kept, fits, lay_strip, skip_of, take_back};
 use std::ptr::NonNull;
 

@@ -1,7 +1,7 @@
 //! A strip with what its numbers are found by.
 ghost use Rattle.std.specs.Prelude.{◌≡◌, ◌+◌, ◌*◌, ◌^◌, ◌<◌, ◌≤◌};
 
-use crate::strip::Strip;
+use seize_atoms::Strip;
 use seize_plots::{Address, Kept, Place};
 
 /// A strip, where its values lie, how many numbers come before its own and how many it has, and how many words come before theirs.

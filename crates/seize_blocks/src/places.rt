@@ -4,15 +4,14 @@ ghost use denote.RawPtr.{Ptr, InBlock};
 ghost use Rattle.seize_seats.specs.Lines.{long};
 ghost use Rattle.seize_seats.specs.Owned.{core_of};
 ghost use Rattle.seize_seats.specs.Lendings.{Shown, ShownToBoth};
-ghost use Rattle.seize_seats.specs.Visits.{HoldsKept};
+ghost use Rattle.seize_atoms.specs.Visiting.{HoldsHere};
 ghost use Rattle.seize_words.specs.declared.at.At.TheVariants.{Word};
-ghost use Rattle.seize_plots.specs.Pieces.{value_of, lies};
-ghost use Rattle.seize_blocks.specs.Placed.{IsItsPlace, IsItsIndex, IsBehind, HasWord};
+ghost use Rattle.seize_plots.specs.Pieces.{lies};
+ghost use Rattle.seize_atoms.specs.Placed.{IsItsPlace, IsItsIndex, IsBehind, HasWord};
 
 use crate::blocks::{Blocks, MOST};
 use crate::part::{Reached, Spot, places_in, words_in};
-use crate::rule::Rule;
-use crate::seat::Seat;
+use seize_atoms::{Rule, Seat};
 use seize_plots::{Beside, Kept, skip_of};
 use seize_words::At;
 
@@ -24,8 +23,9 @@ impl<T, R: Rule<T>> Blocks<T, R> {
         requires own { seat.old.base ≡ self.now.words.id.views_name }
         requires there { HasWord (R.holds self.now.words.fixed) seat.old.id seat.old.view at }
         ensures same { (seat.new.base ≡ seat.old.base) × (seat.new.id ≡ seat.old.id) × (seat.new.view ≡ seat.old.view) }
+        ensures errand { seat.new.away ≡ seat.old.away }
         ensures lies { (core_of result.strip.id ≡ core_of self.now.words.id) × InBlock result.strip.words
-            × IsItsPlace (HoldsKept value_of lies (R.holds self.now.words.fixed)) seat.new.id (seat.new.view, seat.new.visit)
+            × IsItsPlace (HoldsHere R.rests (R.holds self.now.words.fixed)) seat.new.id ((seat.new.view, seat.new.visit), seat.new.away)
             result.strip.words result.strip.id at result.address result.place }
     {
         match at {
@@ -33,6 +33,9 @@ impl<T, R: Rule<T>> Blocks<T, R> {
             At::Used(root) if root < self.roots => self.first_place((self.roots + root) * 16),
             At::Slot(slot, field) if slot < 32 && field < 2 => {
                 self.first_place((self.roots + self.roots + slot) * 16 + field)
+            }
+            At::Slot(slot, field) if 32 <= slot && slot < 274877906912 && field < 2 => {
+                self.slot_place(seat, slot, field)
             }
             At::Entry(block, word) if word < 4 => {
                 let spot = self.spot_of(seat, seat, block);
@@ -70,8 +73,9 @@ impl<T, R: Rule<T>> Blocks<T, R> {
         requires own { seat.old.base ≡ self.now.words.id.views_name }
         requires there { HasWord (R.holds self.now.words.fixed) seat.old.id seat.old.view (Word block own) }
         ensures same { (seat.new.base ≡ seat.old.base) × (seat.new.id ≡ seat.old.id) × (seat.new.view ≡ seat.old.view) }
+        ensures errand { seat.new.away ≡ seat.old.away }
         ensures lies { (core_of result.strip.id ≡ core_of self.now.words.id) × InBlock result.strip.words
-            × IsItsPlace (HoldsKept value_of lies (R.holds self.now.words.fixed)) seat.new.id (seat.new.view, seat.new.visit)
+            × IsItsPlace (HoldsHere R.rests (R.holds self.now.words.fixed)) seat.new.id ((seat.new.view, seat.new.visit), seat.new.away)
             result.strip.words result.strip.id (Word block own) result.address result.place }
     {
         self.words.visit(seat, block);

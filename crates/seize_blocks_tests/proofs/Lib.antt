@@ -1,3 +1,4 @@
 pub mod Growing
 pub mod Owners
 pub mod Threes
+pub mod Roomy

@@ -1,3 +1,4 @@
 pub mod Grown
 pub mod Theirs
 pub mod Three
+pub mod Roomy

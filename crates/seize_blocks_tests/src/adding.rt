@@ -25,6 +25,12 @@ impl Rule<u64> for Threes {
     ghost then = { knows };
 
     ghost newcomer = { λ _. 0 };
+
+    ghost rests = { λ _. Unit {0} };
+
+    ghost newcomers_rest = { λ _. tt };
+
+    ghost resting_stay = { λ _ _ _ _ _ _. tt };
 }
 
 /// The other seat comes to know of the block of the one.

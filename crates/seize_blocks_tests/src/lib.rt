@@ -16,4 +16,6 @@ mod renewing;
 #[cfg(test)]
 mod rewriting;
 #[cfg(test)]
+mod rooming;
+#[cfg(test)]
 mod thousand;

@@ -24,6 +24,12 @@ impl Rule<u64> for Growing {
     ghost then = { grows };
 
     ghost newcomer = { λ _. 0 };
+
+    ghost rests = { λ _. Unit {0} };
+
+    ghost newcomers_rest = { λ _. tt };
+
+    ghost resting_stay = { λ _ _ _ _ _ _. tt };
 }
 
 /// Both know the greater number from then on.

@@ -23,6 +23,12 @@ impl Rule<u64> for OneEach {
     ghost then = { tells };
 
     ghost newcomer = { λ _. None };
+
+    ghost rests = { λ _. Unit {0} };
+
+    ghost newcomers_rest = { λ _. tt };
+
+    ghost resting_stay = { λ _ _ _ _ _ _. tt };
 }
 
 /// Makes a block with up to three words of its own, looks at its value twice at once, and takes it away, so many times, each time with another value. It answers how many blocks were made, or

@@ -1,6 +1,6 @@
-//! All seats of two threads end with a renewal of the memory: what they have made stays made.
+//! All seats of two threads end with a renewal of the memory, under its rule or another one: what they have made stays made.
 use crate::owning::OneEach;
-use seize_blocks::{Blocks, Home};
+use seize_blocks::{Blocks, Home, Rule};
 use std::test::Fail;
 use std::thread;
 
@@ -27,5 +27,53 @@ fn blocks_stay_where_their_seats_have_ended(rt: HostRuntime) -> Result<(), Fail>
         return Err(Fail::new("a block was refused"));
     };
     assert!(rt; third > first && third > second && fourth > first && fourth > second);
+    Ok(())
+}
+
+/// Nothing is said of the memory, and seats know nothing.
+struct Anything;
+
+impl Rule<u64> for Anything {
+    type View = ();
+
+    type Fixed = ();
+
+    ghost World = { Unit {0} };
+
+    ghost holds = { λ _ _. Unit {0} };
+
+    ghost keeps = { λ _ _ _ _. ⊥ };
+
+    ghost then = { λ _ _ _ _. Unit {0} };
+
+    ghost newcomer = { λ _. tt };
+
+    ghost rests = { λ _. Unit {0} };
+
+    ghost newcomers_rest = { λ _. tt };
+
+    ghost resting_stay = { λ _ _ _ _ _ _. tt };
+}
+
+/// Makes a block under another rule, which one seat alone is under then. It answers its number, and the memory.
+fn makes_alone(home: Home<u64, OneEach>, value: u64) -> (Option<u64>, Home<u64, OneEach>) {
+    let (home, seat) = home.alone::<Anything>(&());
+    let mut seat = seat;
+    let mut near = 0;
+    let number = home.blocks.make(&mut seat, &mut near, value, 0).ok();
+    (number, home.used::<OneEach>(seat, &()))
+}
+
+// Were the block of the other rule gone with its seat, its number would be given again.
+#[test]
+fn a_memory_goes_under_another_rule_and_back(rt: HostRuntime) -> Result<(), Fail> {
+    let home = Home::<u64, OneEach>::open(rt.alloc(), 0, 2, &())?;
+    let first = makes(&home.blocks, 1);
+    let (second, home) = makes_alone(home, 2);
+    let third = makes(&home.blocks, 3);
+    let (Some(first), Some(second), Some(third)) = (first, second, third) else {
+        return Err(Fail::new("a block was refused"));
+    };
+    assert!(rt; first != second && second != third && third != first);
     Ok(())
 }

@@ -8,8 +8,9 @@ use types.Logic.{Logic, sem}
 use types.Kit.{‵, ◌$◌, ◌∵◌, !, qed, move, drop, fsplit, fjoin, fpack, use0, use1, done}
 use denote.RawPtr.{Ptr, null_ptr}
 use denote.Steps.{nothing}
-use Rattle.seize_seats.specs.Owned.{pieces}
-use Rattle.seize_plots.specs.Pieces.{AreAt, piece_at, some_piece, all_pieces, first_spot, other_spots, kept_words, spot_of}
+use Rattle.seize_seats.specs.Strips.{Strip}
+use Rattle.seize_seats.specs.Owned.{bucket_pieces, pieces}
+use Rattle.seize_plots.specs.Pieces.{AreAt, piece_at, some_piece, all_pieces, first_spot, other_spots, kept_words, spot_of, bucket_spot}
 use Rattle.seize_plots.specs.declared.kept.Kept.{Kept}
 
 module _ {M : Type 1} {𝓤 : Ura M} (𝓛 : Logic 𝓤) where
@@ -30,6 +31,13 @@ module _ {M : Type 1} {𝓤 : Ura M} (𝓛 : Logic 𝓤) where
   spots (Some x ∷ xs) = qed 𝓛 (‵ (pieces kept_words (Some x ∷ xs)) ∷ []) ∵ fsplit ! $ move ! (1 ∷ []) $
       use1 𝓛 (‵ (all_pieces (map spot_of xs))) (spots xs) $ move ! (1 ∷ []) $
       use1 𝓛 (‵ (some_piece (x.at, x.count))) (id⊢ 𝓤 _) $ fjoin ! $ done !
+
+  -- and those of buckets of slots
+  pub bucket_spots : (ss : List Strip) → ent 𝓤 (sem 𝓛 (pieces bucket_pieces (map Some ss))) (sem 𝓛 (all_pieces (map bucket_spot ss)))
+  bucket_spots [] = id⊢ 𝓤 _
+  bucket_spots (s ∷ ss) = qed 𝓛 (‵ (pieces bucket_pieces (map Some (s ∷ ss))) ∷ []) ∵ fsplit ! $ move ! (1 ∷ []) $
+      use1 𝓛 (‵ (all_pieces (map bucket_spot ss))) (bucket_spots ss) $ move ! (1 ∷ []) $
+      use1 𝓛 (‵ (some_piece (bucket_spot s))) (id⊢ 𝓤 _) $ fjoin ! $ done !
 
 -- the spots from a place on
 pub spot_here : {T : Type 0} (xs : List (Option (Kept T))) (i : ℕ) (x : Option (Kept T)) → i < length xs → x ≡ slice_index_or xs i x

@@ -1,8 +1,11 @@
 -- Words of a block's own, and the right to give their memory back.
-use Rattle.std.specs.Prelude.{◌≡◌, ℕ, ◌*◌, ◌^◌, ◌<◌, List, [], ◌∷◌, Option, Some, None, length}
+use Rattle.std.specs.Prelude.{◌≡◌, ℕ, ◌-◌, ◌*◌, ◌^◌, ◌<◌, List, [], ◌∷◌, Option, Some, None, length, map, drop}
 use mir.Syntax.{Ty, w64, ty_int, ty_array}
 use base.Fml.{Fml, ftrue, fsep, fex}
 use denote.RawPtr.{Ptr, null_ptr, block_of, count_of, InBlock}
+use Rattle.seize_seats.specs.Strips.{Strip}
+use Rattle.seize_seats.specs.Doors.{AreBehind}
+use Rattle.seize_seats.specs.Buckets.{IsBucket}
 use Rattle.seize_seats.specs.Owned.{Pieces, fact, row, words_right}
 use Rattle.seize_plots.specs.declared.kept.Kept.{Kept}
 
@@ -52,3 +55,12 @@ module _ {T : Type 0} where
   abbrev pub spot_of : Option (Kept T) → Ptr × ℕ
   spot_of None = (null_ptr, 0)
   spot_of (Some x) = lies x
+
+-- where the words of a bucket of slots lie, and how many they are
+abbrev pub bucket_spot : Strip → Ptr × ℕ
+bucket_spot s = (s.words, s.size * 16)
+
+-- The doors from the one of this index on have the addresses of the buckets whose words lie in these spots; the first of the 32 is that of index 32.
+abbrev pub AreBucketsBehind : ℕ → List (Ptr × ℕ) → List Ptr → Type 0
+AreBucketsBehind door spots doors =
+    (ss : List Strip) × (spots ≡ map bucket_spot ss) × AreBehind IsBucket (door - 32) ss (drop door doors)

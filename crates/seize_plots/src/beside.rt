@@ -1,5 +1,5 @@
 //! The words of a block's own are laid, and given back.
-ghost use Rattle.std.specs.Prelude.{◌≡◌, ◌<◌, IfSome, replicate};
+ghost use Rattle.std.specs.Prelude.{◌≡◌, IfSome, replicate};
 ghost use Rattle.seize_plots.specs.Somewhere.{AreBeside};
 
 use crate::filling::fill;
@@ -8,13 +8,18 @@ use crate::row::Row;
 use std::alloc::Global;
 use std::ptr::null_mut;
 
-/// So many words, at least one, each 0, where there is memory for them.
-fn lay_some(alloc: &Global, count: u64) -> Option<Laid>
-    requires { 0 < count }
+/// So many words, each 0, where there is memory for them: at null where they are none.
+pub fn lay_words(alloc: &Global, count: u64) -> Option<Laid>
     ensures lies { IfSome result (λ l. (l.piece.at ≡ l.at) × (l.piece.count ≡ count)) }
     ensures beside { IfSome result (λ l. AreBeside l.at count) }
     ensures zeros { IfSome result (λ l. l.piece.words ≡ replicate count 0) }
 {
+    if count == 0 {
+        return Some(Laid {
+            at: null_mut(),
+            piece: Piece::none(),
+        });
+    }
     if count >= 1152921504606846976 {
         return None;
     }
@@ -29,39 +34,14 @@ fn lay_some(alloc: &Global, count: u64) -> Option<Laid>
     }
 }
 
-/// So many words, each 0, where there is memory for them: at null where they are none.
-#[inline(always)]
-pub fn lay_words(alloc: &Global, count: u64) -> Option<Laid>
-    ensures lies { IfSome result (λ l. (l.piece.at ≡ l.at) × (l.piece.count ≡ count)) }
-    ensures beside { IfSome result (λ l. AreBeside l.at count) }
-    ensures zeros { IfSome result (λ l. l.piece.words ≡ replicate count 0) }
-{
-    if count == 0 {
-        Some(Laid {
-            at: null_mut(),
-            piece: Piece::none(),
-        })
-    } else {
-        lay_some(alloc, count)
-    }
-}
-
-/// Gives the words of a piece back, of which there is at least one.
-fn give_some(alloc: &Global, at: *mut u64, count: u64, piece: Piece)
-    requires { (piece.at ≡ at) × (piece.count ≡ count) × (0 < count) }
-{
-    let (words, right) = piece.parted(alloc, at);
-    release_words::<Global>(alloc, words, right, count as usize * 8);
-}
-
 /// Gives the words of a piece back, if it has any.
-#[inline(always)]
 pub fn give_words(alloc: &Global, at: *mut u64, count: u64, piece: Piece)
     requires { (piece.at ≡ at) × (piece.count ≡ count) }
 {
     if count == 0 {
         piece.end();
     } else {
-        give_some(alloc, at, count, piece);
+        let (words, right) = piece.parted(alloc, at);
+        release_words::<Global>(alloc, words, right, count as usize * 8);
     }
 }

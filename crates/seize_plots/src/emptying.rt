@@ -1,6 +1,7 @@
 //! Places are emptied, and what lies beside their values is given back.
-ghost use Rattle.std.specs.Prelude.{◌≡◌, ℕ, ◌*◌, ◌^◌, ◌<◌, None, map, true, slice_index_or};
+ghost use Rattle.std.specs.Prelude.{◌≡◌, ℕ, ◌*◌, ◌^◌, ◌<◌, None, map, take, true, slice_index_or};
 ghost use Rattle.core.specs.Mem.Slots.{slots_items, slots_filled, slots_ptr, slots_len, IsFull};
+ghost use Rattle.core.specs.Mem.Slots.Ownership.{Filled};
 ghost use Rattle.seize_seats.specs.Strips.{further};
 ghost use Rattle.seize_seats.specs.Doors.{block_bytes, IsFurther, AreBehind};
 ghost use Rattle.seize_seats.specs.Owned.{stride};
@@ -115,10 +116,12 @@ pub fn take_back<T>(alloc: &Global, strips: Alone<T>, at: *mut Option<Kept<T>>, 
     );
 }
 
-/// Gives back all further strips, with the own words of their blocks: the doors from the first on have the addresses of as many, each of as many numbers as come before it.
+/// Gives back all further strips, with the own words of their blocks: the doors from the first on have the addresses of as many, each of as many numbers as come
+/// before it. Behind the 32 doors of strips are those of buckets, which stay.
 pub fn clear<T: Drop>(alloc: &Global, strips: Alone<T>, doors: &mut Slots<*mut u64>, least: u64)
-    requires { IsFull doors.old × (slots_len doors.old ≡ 32) × AreBehind (IsFurther (KeptOf T.row) least) 0 strips.strips (slots_items doors.old) }
-    ensures { (slots_ptr doors.new ≡ slots_ptr doors.old) × (slots_len doors.new ≡ slots_len doors.old) }
+    requires { IsFull doors.old × (slots_len doors.old ≡ 64) × AreBehind (IsFurther (KeptOf T.row) least) 0 strips.strips (take 32 (slots_items doors.old)) }
+    ensures { (slots_ptr doors.new ≡ slots_ptr doors.old) × (slots_len doors.new ≡ slots_len doors.old) × (slots_items doors.new ≡ slots_items doors.old)
+        × Filled (slots_filled doors.new) 32 (slots_len doors.new) }
 {
     let mut left = strips;
     let mut count = least;

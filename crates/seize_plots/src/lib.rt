@@ -10,6 +10,7 @@ mod piece;
 mod pieces;
 mod place;
 mod plot;
+mod rooms;
 mod row;
 
 pub use beside::{give_words, lay_words};
@@ -21,4 +22,5 @@ pub use piece::{Laid, Piece, Right, join_words, release_words, reserve_words};
 pub use pieces::Pieces;
 pub use place::{Address, Beside, Doors, Place};
 pub use plot::{Alone, Deed, bytes_of, fits, lay_strip, release, reserve, skip_of, stride_of};
+pub use rooms::clear_rooms;
 pub use row::Row;

@@ -4,3 +4,4 @@ pub mod Moved
 pub mod Registering
 pub mod Steps
 pub mod Ends
+pub mod One

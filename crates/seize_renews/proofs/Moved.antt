@@ -9,61 +9,50 @@ use Rattle.seize_seats.specs.State.{State, view_of, Goes}
 use Rattle.seize_views.specs.Rows.{RootsNameLinked, Came}
 use Rattle.seize_views.specs.declared.view.Fixed.{Fixed}
 use Rattle.seize_views.proofs.Lists.{there, elsewhere}
-use Rattle.seize_renews.specs.Rule.{Acts, Stands, HoldsAlone, KeepsNone}
-use Rattle.seize_renews.specs.Promises.{AreApart}
+use Rattle.seize_renews.specs.Rule.{Stands, HoldsAlone, KeepsNone}
 use Rattle.seize_renews.specs.declared.alone.Alone.{Alone}
-use Rattle.seize_renews.specs.declared.alone.Alone.TheVariants.{Waits, Registers, Reclaims}
 use Rattle.seize_renews.proofs.Roots.{RootsStay, roots_still}
 
-module _ {T V : Type 0} (of : Alone T → V) (apart : AreApart of) (defers : T → Option ℕ) (left_over : T → Bool) (fixed : Fixed) (s : State T V (World T)) (id : ℕ) (v u : Alone T) (acts : Acts v)
-    (h : HoldsAlone defers left_over fixed of s) (at_id : view_of s id ≡ Some (of v)) (m2 : Mem T) (n : World T) (came : Came defers fixed n) (memory : n.memory ≡ m2)
+module _ {T : Type 0} (defers : T → Option ℕ) (left_over : T → Bool) (fixed : Fixed) (s : State T (Alone T) (World T)) (id : ℕ) (v u : Alone T)
+    (h : HoldsAlone defers left_over fixed s) (at_id : view_of s id ≡ Some v) (m2 : Mem T) (n : World T) (came : Came defers fixed n) (memory : n.memory ≡ m2)
     (stay : RootsStay defers fixed s.world n) (own : Stands defers left_over fixed n id u) where
-  abbrev views2 : List V
-  views2 = slice_set s.views id (of u)
+  abbrev views2 : List (Alone T)
+  views2 = slice_set s.views id u
 
-  abbrev Who : ℕ → V → Type 0
-  Who j x = ((j ≡ id) × (x ≡ of u)) ⊎ ((j ≢ id) × (view_of s j ≡ Some x))
+  abbrev Who : ℕ → Alone T → Type 0
+  Who j x = ((j ≡ id) × (x ≡ u)) ⊎ ((j ≢ id) × (view_of s j ≡ Some x))
 
-  who : (j : ℕ) (x : V) → slice_get views2 j ≡ Some x → Who j x
+  who : (j : ℕ) (x : Alone T) → slice_get views2 j ≡ Some x → Who j x
   who j x e = elim (cases_eq j id) as (λ _. Who j x) [
-    | inl same ↦ inl (same, same_some x (of u) (sym e ∙ ap (slice_get views2) same ∙ there s.views id (of u) (of v) at_id))
-    | inr ne ↦ inr (ne, sym (elsewhere s.views id j (of u) ne) ∙ e)
+    | inl same ↦ inl (same, same_some x u (sym e ∙ ap (slice_get views2) same ∙ there s.views id u v at_id))
+    | inr ne ↦ inr (ne, sym (elsewhere s.views id j u ne) ∙ e)
   ]
 
-  others : (a : Alone T) (j : ℕ) → (Acts a → ⊥) → Stands defers left_over fixed n j a
-  others Waits j none = tt
-  others (Registers d size) j none = absurd (none tt)
-  others (Reclaims d seen left) j none = absurd (none tt)
-
-  stands_there : (j : ℕ) (x : V) → slice_get views2 j ≡ Some x → (a : Alone T) × (x ≡ of a) × Stands defers left_over fixed n j a
-  stands_there j x e = elim (who j x e) as (λ _. (a : Alone T) × (x ≡ of a) × Stands defers left_over fixed n j a) [
-    | inl (same, is) ↦ (u, is, subst (λ (k : ℕ). Stands defers left_over fixed n k u) (sym same) own)
-    | inr (ne, was) ↦ let k = h.seats j x was in
-        (k.0, k.1, others k.0 j (λ active. ne (h.one j id k.0 v (was ∙ ap Some k.1) at_id active acts)))
+  stands_there : (j : ℕ) (x : Alone T) → slice_get views2 j ≡ Some x → Stands defers left_over fixed n j x
+  stands_there j x e = elim (who j x e) as (λ _. Stands defers left_over fixed n j x) [
+    | inl (same, is) ↦ subst (λ (a : Alone T). Stands defers left_over fixed n j a) (sym is) (subst (λ (k : ℕ). Stands defers left_over fixed n k u) (sym same) own)
+    | inr (ne, was) ↦ absurd (ne (h.one j id x v was at_id))
   ]
 
-  mine : (k : ℕ) (a : Alone T) → view_of s k ≡ Some (of a) → Acts a → k ≡ id
-  mine k a was active = h.one k id a v was at_id active acts
-
-  both_mine : (j k : ℕ) (a b : Alone T) → Who j (of a) → Who k (of b) → Acts a → Acts b → j ≡ k
-  both_mine j k a b (inl x) (inl y) p q = x.0 ∙ sym y.0
-  both_mine j k a b (inl x) (inr y) p q = absurd (y.0 (mine k b y.1 q))
-  both_mine j k a b (inr x) y p q = absurd (x.0 (mine j a x.1 p))
+  both_mine : (j k : ℕ) (a b : Alone T) → Who j a → Who k b → j ≡ k
+  both_mine j k a b (inl x) (inl y) = x.0 ∙ sym y.0
+  both_mine j k a b (inl x) (inr y) = absurd (y.0 (h.one k id b v y.1 at_id))
+  both_mine j k a b (inr x) y = absurd (x.0 (h.one j id a v x.1 at_id))
 
   named : RootsNameLinked m2 n.hand
   named =
       subst (λ (m : Mem T). RootsNameLinked m n.hand) memory
       (roots_still defers fixed s.world n stay (subst (λ (m : Mem T). RootsNameLinked m s.world.hand) h.memory h.roots))
 
-  pub moved : (so : V → Type 0) → so (of u) → Goes (HoldsAlone defers left_over fixed of) KeepsNone s m2 id so
+  pub moved : (so : Alone T → Type 0) → so u → Goes (HoldsAlone defers left_over fixed) KeepsNone s m2 id so
   moved so is = (
-    of u,
+    u,
     n,
     record {
       came = came;
       memory = sym memory;
       seats = stands_there;
-      one = λ j k a b e f p q. both_mine j k a b (who j (of a) e) (who k (of b) f) p q;
+      one = λ j k a b e f. both_mine j k a b (who j a e) (who k b f);
       roots = named;
       rooted = ap (λ (m : Mem T). length m.roots) (sym memory) ∙ ap length stay.0 ∙ ap (λ (m : Mem T). length m.roots) (sym h.memory) ∙ h.rooted;
     },

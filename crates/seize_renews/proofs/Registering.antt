@@ -32,8 +32,8 @@ use Rattle.seize_views.specs.Rows.{IsSeeking, Came}
 use Rattle.seize_views.specs.Told.{ComesTo}
 use Rattle.seize_views.specs.declared.view.Fixed.{Fixed}
 use Rattle.seize_views.proofs.Came.{reached, came_then}
-use Rattle.seize_renews.specs.Rule.{SeeksAt, all_of, over_of, Stands, HoldsAlone, KeepsNone}
-use Rattle.seize_renews.specs.Promises.{AreApart, tells, RegisteringGoesOn}
+use Rattle.seize_renews.specs.Rule.{SeeksAt, all_of, over_of, Stands, HoldsAlone, KeepsNone, told}
+use Rattle.seize_renews.specs.Promises.{RegisteringGoesOn}
 use Rattle.seize_renews.specs.declared.alone.Alone.{Alone}
 use Rattle.seize_renews.specs.declared.alone.Alone.TheVariants.{Registers, Reclaims}
 use Rattle.seize_renews.proofs.Moved.{moved}
@@ -69,18 +69,16 @@ module _ {T : Type 0} (m : Mem T) where
       first_needs_none e = cc e
   well_taking c seen None is short there = (short, tt, there)
 
-module _ {T V : Type 0} (of : Alone T → V) (apart : AreApart of) (defers : T → Option ℕ) (left_over : T → Bool) (fixed : Fixed) (word : fixed.batch_size < 2 ^ 64) (s : State T V (World T)) (id : ℕ)
-    (c : Register) (size : ℕ) (h : HoldsAlone defers left_over fixed of s) (at_id : view_of s id ≡ Some (of (Registers c size))) where
+module _ {T : Type 0} (defers : T → Option ℕ) (left_over : T → Bool) (fixed : Fixed) (word : fixed.batch_size < 2 ^ 64) (s : State T (Alone T) (World T)) (id : ℕ)
+    (c : Register) (size : ℕ) (h : HoldsAlone defers left_over fixed s) (at_id : view_of s id ≡ Some (Registers c size)) where
   abbrev w : World T
   w = s.world
 
   stands : Stands defers left_over fixed w id (Registers c size)
-  stands =
-      let k = h.seats id (of (Registers c size)) at_id in
-      subst (λ (a : Alone T). Stands defers left_over fixed w id a) (sym (apart (Registers c size) k.0 k.1)) k.2
+  stands = h.seats id (Registers c size) at_id
 
   abbrev Gone : Op T → Out T → Mem T → Type 0
-  Gone op out m = Took s.memory op out m → Goes (HoldsAlone defers left_over fixed of) KeepsNone s m id (tells of defers left_over (Registers c size) op out)
+  Gone op out m = Took s.memory op out m → Goes (HoldsAlone defers left_over fixed) KeepsNone s m id (told defers left_over (Registers c size) op out)
 
   -- a step of its plan that ends so
   module _ (m : Mem T) (d : Register) (o : Progress ℕ) (steps : Steps Took value_at w.memory (register_plan c) m (d, o)) (well : IsWell m (d, o)) where
@@ -96,9 +94,9 @@ module _ {T V : Type 0} (of : Alone T → V) (apart : AreApart of) (defers : T �
     memory : n.memory ≡ m
     memory = registers_memory w id m c d o
 
-    goes_to : (u : Alone T) → Stands defers left_over fixed n id u → (so : V → Type 0) → so (of u) → Goes (HoldsAlone defers left_over fixed of) KeepsNone s m id so
+    goes_to : (u : Alone T) → Stands defers left_over fixed n id u → (so : Alone T → Type 0) → so u → Goes (HoldsAlone defers left_over fixed) KeepsNone s m id so
     goes_to u own so is =
-        moved of apart defers left_over fixed s id (Registers c size) u tt h at_id m n came memory (step_stays defers fixed id w n h.came step) own so is
+        moved defers left_over fixed s id (Registers c size) u h at_id m n came memory (step_stays defers fixed id w n h.came step) own so is
 
     -- with so many steps before it
     abbrev Begins : ReclaimAll → Type 0
@@ -159,32 +157,32 @@ module _ {T V : Type 0} (of : Alone T → V) (apart : AreApart of) (defers : T �
           absurd (cc (vacant, used))
 
   goes : (op : Op T) (out : Out T) (m : Mem T) (d : Register) (o : Progress ℕ) → Steps Took value_at w.memory (register_plan c) m (d, o) → ComesTo (register_plan {T = T} c) out (d, o)
-      → IsWell m (d, o) → Goes (HoldsAlone defers left_over fixed of) KeepsNone s m id (tells of defers left_over (Registers c size) op out)
+      → IsWell m (d, o) → Goes (HoldsAlone defers left_over fixed) KeepsNone s m id (told defers left_over (Registers c size) op out)
   goes op out m d progress.Goes steps comes well =
       goes_to m d progress.Goes steps well (Registers d size)
       (stands.0, with_here w.row id (world.Registers d), (λ k ne. with_other w.row id k (world.Registers d) ne ∙ stands.2 k ne), well.0, well.1, well.2)
-      (tells of defers left_over (Registers c size) op out) (Registers d size, refl, ((d, progress.Goes), comes, refl))
+      (told defers left_over (Registers c size) op out) ((d, progress.Goes), comes, refl)
   goes op out m d progress.Waits steps comes well =
       goes_to m d progress.Waits steps well (Registers d size)
       (stands.0, with_here w.row id (world.Registers d), (λ k ne. with_other w.row id k (world.Registers d) ne ∙ stands.2 k ne), well.0, well.1, well.2)
-      (tells of defers left_over (Registers c size) op out) (Registers d size, refl, ((d, progress.Waits), comes, refl))
+      (told defers left_over (Registers c size) op out) ((d, progress.Waits), comes, refl)
   goes op out m d (progress.Done t) steps comes well =
       let k = all_may m d (progress.Done t) steps well (rests_then m d t) (taken_there m d t steps) in
-      goes_to m d (progress.Done t) steps well (Reclaims (all_of size) None k.0) k.1 (tells of defers left_over (Registers c size) op out) (Reclaims (all_of size) None k.0, refl, ((d, progress.Done t), comes, (k.0, refl)))
+      goes_to m d (progress.Done t) steps well (Reclaims (all_of size) None k.0) k.1 (told defers left_over (Registers c size) op out) ((d, progress.Done t), comes, (k.0, refl))
   goes op out m d (progress.Refused fault) steps comes well = by (d.slot == 0) (eqb-true d.slot 0) (eqb-false d.slot 0) refl
     where
       behind : (k : ReclaimAll) → k ≡ (if d.slot == 0 then over_of size else all_of size)
           → (left : ℕ) × Stands defers left_over fixed (registers_on w id c m (d, progress.Refused fault)) id (Reclaims k None left)
-          → Goes (HoldsAlone defers left_over fixed of) KeepsNone s m id (tells of defers left_over (Registers c size) op out)
+          → Goes (HoldsAlone defers left_over fixed) KeepsNone s m id (told defers left_over (Registers c size) op out)
       behind k is b =
-          goes_to m d (progress.Refused fault) steps well (Reclaims k None b.0) b.1 (tells of defers left_over (Registers c size) op out)
-          (Reclaims k None b.0, refl, ((d, progress.Refused fault), comes, (b.0, ap (λ (x : ReclaimAll). Reclaims x None b.0) is)))
+          goes_to m d (progress.Refused fault) steps well (Reclaims k None b.0) b.1 (told defers left_over (Registers c size) op out)
+          ((d, progress.Refused fault), comes, (b.0, ap (λ (x : ReclaimAll). Reclaims x None b.0) is))
 
       none_at : length m.slots ≡ 0 → word_at m (Slot 0 HEAD) ≡ None
       none_at none = no_word m.slots none
 
       by : (b : Bool) → (b ≡ true → d.slot ≡ 0) → (b ≡ false → d.slot ≡ 0 → ⊥) → d.slot == 0 ≡ b
-          → Goes (HoldsAlone defers left_over fixed of) KeepsNone s m id (tells of defers left_over (Registers c size) op out)
+          → Goes (HoldsAlone defers left_over fixed) KeepsNone s m id (told defers left_over (Registers c size) op out)
       by true z ne e = behind (over_of size) (ap (λ (b : Bool). if b then over_of size else all_of size) (sym e)) (elim well as (λ _. (left : ℕ) × Stands defers left_over fixed (registers_on w id c m (d, progress.Refused fault)) id (Reclaims (over_of size) None left)) [
         | inl (first, none) ↦ over_may m d (progress.Refused fault) steps well (rests_refused m d fault) (quiet_if m d (progress.Refused fault) steps well (rests_refused m d fault) (ap (λ (x : Mem T). word_at x (Slot 0 HEAD)) (registers_memory w id m c d (progress.Refused fault)) ∙ none_at none))
         | inr (other, some) ↦ absurd (other (z refl))
@@ -206,7 +204,7 @@ module _ {T V : Type 0} (of : Alone T → V) (apart : AreApart of) (defers : T �
     -- the step ends so after this answer
     goes_at : (op : Op T) (rest : Out T → Then T (Register × Progress ℕ)) (out : Out T) (m : Mem T) (end : Register × Progress ℕ) → P ≡ Do op rest
         → Took s.memory op out m → ((shown : ℕ → Option T) → Ends shown (rest out) end) → IsWell m end
-        → Goes (HoldsAlone defers left_over fixed of) KeepsNone s m id (tells of defers left_over (Registers c size) op out)
+        → Goes (HoldsAlone defers left_over fixed) KeepsNone s m id (told defers left_over (Registers c size) op out)
     goes_at op rest out m end plan took ends well =
         goes op out m end.0 end.1
         (subst (λ (q : Plan T (Register × Progress ℕ)). Steps Took value_at w.memory q m end) (sym plan_is)
@@ -299,5 +297,5 @@ module _ {T V : Type 0} (of : Alone T → V) (apart : AreApart of) (defers : T �
   pub registers : (op : Op T) → op_in (register_plan {T = T} c) ≡ Some op → Allowed op
   registers op is = by c.stands refl op is
 
-pub registering_goes_on : {T V : Type 0} (of : Alone T → V) (defers : T → Option ℕ) (left_over : T → Bool) → RegisteringGoesOn of defers left_over
-registering_goes_on of defers left_over apart fixed id c size op word is s h at_id = registers of apart defers left_over fixed word s id c size h at_id op is
+pub registering_goes_on : {T : Type 0} (defers : T → Option ℕ) (left_over : T → Bool) → RegisteringGoesOn defers left_over
+registering_goes_on defers left_over fixed id c size op word is s h at_id = registers defers left_over fixed word s id c size h at_id op is

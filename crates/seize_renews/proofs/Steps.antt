@@ -19,8 +19,8 @@ use Rattle.seize_views.specs.Rows.{Came}
 use Rattle.seize_views.specs.Told.{FollowsBy, shown_by}
 use Rattle.seize_views.specs.declared.view.Fixed.{Fixed}
 use Rattle.seize_views.proofs.Looks.{rest_of}
-use Rattle.seize_renews.specs.Rule.{IsShown, HasGone, Stands, HoldsAlone, KeepsNone}
-use Rattle.seize_renews.specs.Promises.{AreApart, tells, ReclaimingGoesOn, ReclaimingTurns}
+use Rattle.seize_renews.specs.Rule.{IsShown, HasGone, Stands, HoldsAlone, KeepsNone, told}
+use Rattle.seize_renews.specs.Promises.{ReclaimingGoesOn, ReclaimingTurns}
 use Rattle.seize_renews.specs.declared.alone.Alone.{Alone}
 use Rattle.seize_renews.specs.declared.alone.Alone.TheVariants.{Reclaims}
 use Rattle.seize_renews.proofs.Looks.{may_end, reclaim_looked}
@@ -34,13 +34,13 @@ goes_on w w2 settled.Waits h = h
 goes_on w w2 (settled.Gave value) h = tt
 goes_on w w2 settled.Done h = h
 
--- the operation of a plan that makes one
+-- the operation a plan that makes one
 made : {T R : Type 0} (plan : Plan T R) (op : Op T) → op_in plan ≡ Some op → (rest : Out T → Then T R) × (plan ≡ Do op rest)
 made {T} {R} (Turn rest) op e = absurd (cc e)
 made {T} {R} (Do other rest) op e = (rest, ap (λ (o : Op T). Do o rest) (same_some other op e))
 
-module _ {T V : Type 0} (of : Alone T → V) (apart : AreApart of) (defers : T → Option ℕ) (left_over : T → Bool) (fixed : Fixed) (word : fixed.batch_size < 2 ^ 64) (s : State T V (World T)) (id : ℕ)
-    (c : ReclaimAll) (seen : Option (ℕ × T)) (left : ℕ) (on : IsOnSlots c.stands) (h : HoldsAlone defers left_over fixed of s) (at_id : view_of s id ≡ Some (of (Reclaims c seen left))) where
+module _ {T : Type 0} (defers : T → Option ℕ) (left_over : T → Bool) (fixed : Fixed) (word : fixed.batch_size < 2 ^ 64) (s : State T (Alone T) (World T)) (id : ℕ)
+    (c : ReclaimAll) (seen : Option (ℕ × T)) (left : ℕ) (on : IsOnSlots c.stands) (h : HoldsAlone defers left_over fixed s) (at_id : view_of s id ≡ Some (Reclaims c seen left)) where
   abbrev w : World T
   w = s.world
 
@@ -48,9 +48,7 @@ module _ {T V : Type 0} (of : Alone T → V) (apart : AreApart of) (defers : T �
   P = reclaim_all_plan defers left_over c
 
   stands : Stands defers left_over fixed w id (Reclaims c seen left)
-  stands =
-      let k = h.seats id (of (Reclaims c seen left)) at_id in
-      subst (λ (a : Alone T). Stands defers left_over fixed w id a) (sym (apart (Reclaims c seen left) k.0 k.1)) k.2
+  stands = h.seats id (Reclaims c seen left) at_id
 
   leads : May Can Took value_at w.memory P
       × ((m2 : Mem T) (c2 : ReclaimAll) (o : Settled T) → Steps Took value_at w.memory P m2 (c2, o) → Led defers fixed.batch_size id 0 w c.stands m2 c2 o)
@@ -75,18 +73,18 @@ module _ {T V : Type 0} (of : Alone T → V) (apart : AreApart of) (defers : T �
     abbrev u : Alone T
     u = Reclaims c2 seen2 less.0
 
-    goes : (so : V → Type 0) → so (of u) → Goes (HoldsAlone defers left_over fixed of) KeepsNone s m2 id so
+    goes : (so : Alone T → Type 0) → so u → Goes (HoldsAlone defers left_over fixed) KeepsNone s m2 id so
     goes so is =
-        moved of apart defers left_over fixed s id (Reclaims c seen left) u tt h at_id m2 led.w2 stay.0 led.memory stay.1
+        moved defers left_over fixed s id (Reclaims c seen left) u h at_id m2 led.w2 stay.0 led.memory stay.1
         (led.stage, subst (λ (m : Mem T). DoneWithin defers left_over less.0 m c2) (sym led.memory) less.2, subst (λ (m : Mem T). IsShown m seen2) (sym led.memory) shows) so is
 
   -- after an operation
   pub after_op : (op : Op T) → op_in P ≡ Some op
-      → Can s.memory op × ((out : Out T) (m : Mem T) → Took s.memory op out m → Goes (HoldsAlone defers left_over fixed of) KeepsNone s m id (tells of defers left_over (Reclaims c seen left) op out))
+      → Can s.memory op × ((out : Out T) (m : Mem T) → Took s.memory op out m → Goes (HoldsAlone defers left_over fixed) KeepsNone s m id (told defers left_over (Reclaims c seen left) op out))
   after_op op is = by (made P op is)
     where
       by : (rest : Out T → Then T (ReclaimAll × Settled T)) × (P ≡ Do op rest)
-          → Can s.memory op × ((out : Out T) (m : Mem T) → Took s.memory op out m → Goes (HoldsAlone defers left_over fixed of) KeepsNone s m id (tells of defers left_over (Reclaims c seen left) op out))
+          → Can s.memory op × ((out : Out T) (m : Mem T) → Took s.memory op out m → Goes (HoldsAlone defers left_over fixed) KeepsNone s m id (told defers left_over (Reclaims c seen left) op out))
       by (rest, plan) =
           let may : May Can Took value_at w.memory (Do op rest) = subst (λ (p : Plan T (ReclaimAll × Settled T)). May Can Took value_at w.memory p) plan leads.0 in (
             subst (λ (m : Mem T). Can m op) (sym h.memory) may.0,
@@ -96,18 +94,16 @@ module _ {T V : Type 0} (of : Alone T → V) (apart : AreApart of) (defers : T �
                 let st : Steps Took value_at w.memory P m end.0 = subst (λ (p : Plan T (ReclaimAll × Settled T)). Steps Took value_at w.memory p m end.0) (sym plan) (out, took2, end.1) in
                 let looks = reclaim_looked defers left_over m out c c.stands on end.0
                 (subst (λ (p : Plan T (ReclaimAll × Settled T)). Ends (value_at m) (rest_of p out) end.0) (sym plan) end.1) in
-                goes m end.0.0 end.0.1 st looks.0 looks.2 (tells of defers left_over (Reclaims c seen left) op out) (
-                  Reclaims end.0.0 looks.0 (less m end.0.0 end.0.1 st looks.0 looks.2).0,
-                  refl,
-                  record {
-                    end = end.0;
-                    seen = looks.0;
-                    now = (less m end.0.0 end.0.1 st looks.0 looks.2).0;
-                    follows = follows plan out end.0 looks.0 looks.1;
-                    goes = goes_on w (led m end.0.0 end.0.1 st looks.0 looks.2).w2 end.0.1 (led m end.0.0 end.0.1 st looks.0 looks.2).told;
-                    falls = (less m end.0.0 end.0.1 st looks.0 looks.2).1;
-                    view = refl;
-                  },
+                goes m end.0.0 end.0.1 st looks.0 looks.2 (told defers left_over (Reclaims c seen left) op out) (
+                record {
+                  end = end.0;
+                  seen = looks.0;
+                  now = (less m end.0.0 end.0.1 st looks.0 looks.2).0;
+                  follows = follows plan out end.0 looks.0 looks.1;
+                  goes = goes_on w (led m end.0.0 end.0.1 st looks.0 looks.2).w2 end.0.1 (led m end.0.0 end.0.1 st looks.0 looks.2).told;
+                  falls = (less m end.0.0 end.0.1 st looks.0 looks.2).1;
+                  view = refl;
+                }
                 ),
           )
         where
@@ -118,15 +114,15 @@ module _ {T V : Type 0} (of : Alone T → V) (apart : AreApart of) (defers : T �
 
   -- or without one
   pub after_turn : (c2 : ReclaimAll) (o : Settled T) → P ≡ Turn (Now (c2, o))
-      → Goes (HoldsAlone defers left_over fixed of) KeepsNone s s.memory id (λ x. (now : ℕ) × (now < left) × (x ≡ of (Reclaims c2 None now)))
+      → Goes (HoldsAlone defers left_over fixed) KeepsNone s s.memory id (λ x. (now : ℕ) × (now < left) × (x ≡ (Reclaims c2 None now)))
   after_turn c2 o plan =
       let st : Steps Took value_at w.memory P s.memory (c2, o) =
       subst (λ (p : Plan T (ReclaimAll × Settled T)). Steps Took value_at w.memory p s.memory (c2, o)) (sym plan) (h.memory, refl) in
       goes s.memory c2 o st None tt _ ((less s.memory c2 o st None tt).0, (less s.memory c2 o st None tt).1, refl)
 
-module _ {T V : Type 0} (of : Alone T → V) (defers : T → Option ℕ) (left_over : T → Bool) where
-  pub reclaiming_goes_on : ReclaimingGoesOn of defers left_over
-  reclaiming_goes_on apart fixed id c seen left op word on is s h at_id = after_op of apart defers left_over fixed word s id c seen left on h at_id op is
+module _ {T : Type 0} (defers : T → Option ℕ) (left_over : T → Bool) where
+  pub reclaiming_goes_on : ReclaimingGoesOn defers left_over
+  reclaiming_goes_on fixed id c seen left op word on is s h at_id = after_op defers left_over fixed word s id c seen left on h at_id op is
 
-  pub reclaiming_turns : ReclaimingTurns of defers left_over
-  reclaiming_turns apart fixed id c c2 o seen left word on plan s h at_id = after_turn of apart defers left_over fixed word s id c seen left on h at_id c2 o plan
+  pub reclaiming_turns : ReclaimingTurns defers left_over
+  reclaiming_turns fixed id c c2 o seen left word on plan s h at_id = after_turn defers left_over fixed word s id c seen left on h at_id c2 o plan

@@ -1,7 +1,6 @@
--- What is promised while one seat alone acts: others may come, who wait; each of its steps may be taken; and where it is over nothing is left that waits, and
--- the rule of all holds again.
+-- What is promised while one seat acts alone: each of its steps may be taken; and where it is over nothing is left that waits, and the rule of all holds again.
 use Rattle.std.specs.Prelude.{◌≡◌, ℕ, ◌<◌, ◌^◌, Bool, false, Option, Some, None, [], ◌∷◌}
-use Rattle.seize_words.specs.Op.{Op, Out}
+use Rattle.seize_words.specs.Op.{Op}
 use Rattle.seize_words.specs.Plan.{Turn, Now}
 use Rattle.seize.specs.declared.rows.register.Register.{Register}
 use Rattle.seize.specs.declared.rows.register.Registering.TheVariants as register_at
@@ -13,7 +12,7 @@ use Rattle.seize.specs.ReclaimAll.{reclaim_all_plan}
 use Rattle.seize.specs.World.{World}
 use Rattle.seize.specs.World as world
 use Rattle.seize_seats.specs.Lendings.{Shown, IsValueOf}
-use Rattle.seize_seats.specs.State.{State, view_of, Allows, Turns, Comes}
+use Rattle.seize_seats.specs.State.{State, view_of, Allows, Turns}
 use Rattle.seize_acts.specs.Reclaimed.{HasNothingLeft}
 use Rattle.seize_quiet.specs.Slots.{IsQuiet}
 use Rattle.seize_quiet.specs.Promises.{IsOnSlots}
@@ -23,17 +22,9 @@ use Rattle.seize_views.specs.declared.view.View.{View}
 use Rattle.seize_views.specs.declared.view.Fixed.{Fixed}
 use Rattle.seize_renews.specs.Rule.{told, HoldsAlone, KeepsNone}
 use Rattle.seize_renews.specs.declared.alone.Alone.{Alone}
-use Rattle.seize_renews.specs.declared.alone.Alone.TheVariants.{Waits, Registers, Reclaims}
+use Rattle.seize_renews.specs.declared.alone.Alone.TheVariants.{Registers, Reclaims}
 
--- views of this phase that are two are so among the others
-abbrev pub AreApart : {T V : Type 0} → (Alone T → V) → Type 0
-AreApart {T} {V} of = (a b : Alone T) → of a ≡ of b → a ≡ b
-
-module _ {T V : Type 0} (of : Alone T → V) (defers : T → Option ℕ) (left_over : T → Bool) where
-  -- what is told then, by a view of this phase
-  abbrev pub tells : Alone T → Op T → Out T → V → Type 0
-  tells x op out v = (a : Alone T) × (v ≡ of a) × told defers left_over x op out a
-
+module _ {T : Type 0} (defers : T → Option ℕ) (left_over : T → Bool) where
   -- Where each seat is at rest, one may act alone: it is the only one then, and begins to take a slot.
   abbrev pub AreIdle : State T (View T) (World T) → Type 0
   AreIdle s = (j : ℕ) (v : View T) → view_of s j ≡ Some v → row_of v ≡ world.Rests
@@ -44,48 +35,44 @@ module _ {T V : Type 0} (of : Alone T → V) (defers : T → Option ℕ) (left_o
   abbrev pub IdleRenew : Type 0
   IdleRenew =
       (fixed : Fixed) (s : State T (View T) (World T)) → Holds defers fixed s → AreIdle s
-      → (w : World T) × HoldsAlone defers left_over fixed of record { memory = s.memory; views = of (first_of fixed) ∷ []; world = w }
+      → (w : World T) × HoldsAlone defers left_over fixed record { memory = s.memory; views = (first_of fixed) ∷ []; world = w }
 
   -- it may make its next operation
   abbrev pub RegisteringGoesOn : Type 0
   RegisteringGoesOn =
-      AreApart of → (fixed : Fixed) (id : ℕ) (c : Register) (size : ℕ) (op : Op T) → fixed.batch_size < 2 ^ 64 → op_in (register_plan {T = T} c) ≡ Some op
-      → Allows (HoldsAlone defers left_over fixed of) KeepsNone id (of (Registers c size)) op (tells (Registers c size) op)
-
-  -- further seats may come, who wait
-  abbrev pub WaitersCome : Type 0
-  WaitersCome = AreApart of → (fixed : Fixed) → Comes (HoldsAlone defers left_over fixed of) KeepsNone (of Waits)
+      (fixed : Fixed) (id : ℕ) (c : Register) (size : ℕ) (op : Op T) → fixed.batch_size < 2 ^ 64 → op_in (register_plan {T = T} c) ≡ Some op
+      → Allows (HoldsAlone defers left_over fixed) KeepsNone id (Registers c size) op (told defers left_over (Registers c size) op)
 
   -- the next operation on slots may be made
   abbrev pub ReclaimingGoesOn : Type 0
   ReclaimingGoesOn =
-      AreApart of → (fixed : Fixed) (id : ℕ) (c : ReclaimAll) (seen : Option (ℕ × T)) (left : ℕ) (op : Op T) → fixed.batch_size < 2 ^ 64 → IsOnSlots c.stands
+      (fixed : Fixed) (id : ℕ) (c : ReclaimAll) (seen : Option (ℕ × T)) (left : ℕ) (op : Op T) → fixed.batch_size < 2 ^ 64 → IsOnSlots c.stands
       → op_in (reclaim_all_plan defers left_over c) ≡ Some op
-      → Allows (HoldsAlone defers left_over fixed of) KeepsNone id (of (Reclaims c seen left)) op (tells (Reclaims c seen left) op)
+      → Allows (HoldsAlone defers left_over fixed) KeepsNone id (Reclaims c seen left) op (told defers left_over (Reclaims c seen left) op)
 
   -- and a step that makes none is a turn
   abbrev pub ReclaimingTurns : Type 0
   ReclaimingTurns =
-      AreApart of → (fixed : Fixed) (id : ℕ) (c c2 : ReclaimAll) (progress : Settled T) (seen : Option (ℕ × T)) (left : ℕ) → fixed.batch_size < 2 ^ 64 → IsOnSlots c.stands
+      (fixed : Fixed) (id : ℕ) (c c2 : ReclaimAll) (progress : Settled T) (seen : Option (ℕ × T)) (left : ℕ) → fixed.batch_size < 2 ^ 64 → IsOnSlots c.stands
       → reclaim_all_plan defers left_over c ≡ Turn (Now (c2, progress))
-      → Turns (HoldsAlone defers left_over fixed of) KeepsNone id (of (Reclaims c seen left)) (λ v. (now : ℕ) × (now < left) × (v ≡ of (Reclaims c2 None now)))
+      → Turns (HoldsAlone defers left_over fixed) KeepsNone id (Reclaims c seen left) (λ v. (now : ℕ) × (now < left) × (v ≡ (Reclaims c2 None now)))
 
   -- what it is about to look at is there, with the value that was told
   abbrev pub LookedIsShown : Type 0
   LookedIsShown =
-      AreApart of → (fixed : Fixed) (id : ℕ) (c : ReclaimAll) (b left : ℕ) (x : T) → Shown (HoldsAlone defers left_over fixed of) id (of (Reclaims c (Some (b, x)) left)) b
-      × ((y : T) → IsValueOf (HoldsAlone defers left_over fixed of) id (of (Reclaims c (Some (b, x)) left)) b y → y ≡ x)
+      (fixed : Fixed) (id : ℕ) (c : ReclaimAll) (b left : ℕ) (x : T) → Shown (HoldsAlone defers left_over fixed) id (Reclaims c (Some (b, x)) left) b
+      × ((y : T) → IsValueOf (HoldsAlone defers left_over fixed) id (Reclaims c (Some (b, x)) left) b y → y ≡ x)
 
   -- Where its machine is over nothing is left: no row is under way, no block is retired, no slot is in use, and none has a batch.
   abbrev pub OverIsQuiet : Type 0
   OverIsQuiet =
-      AreApart of → (fixed : Fixed) (id : ℕ) (c : ReclaimAll) (seen : Option (ℕ × T)) (left : ℕ) → fixed.batch_size < 2 ^ 64 → c.stands ≡ at.Over
-      → (s : State T V (World T)) → HoldsAlone defers left_over fixed of s → view_of s id ≡ Some (of (Reclaims c seen left))
+      (fixed : Fixed) (id : ℕ) (c : ReclaimAll) (seen : Option (ℕ × T)) (left : ℕ) → fixed.batch_size < 2 ^ 64 → c.stands ≡ at.Over
+      → (s : State T (Alone T) (World T)) → HoldsAlone defers left_over fixed s → view_of s id ≡ Some (Reclaims c seen left)
       → IsQuiet s.world × HasNothingLeft defers s.world
 
   -- and the rule of all holds again, with no seat
   abbrev pub OverRenews : Type 0
   OverRenews =
-      AreApart of → (fixed : Fixed) (id : ℕ) (c : ReclaimAll) (seen : Option (ℕ × T)) (left : ℕ) → c.stands ≡ at.Over
-      → (s : State T V (World T)) → HoldsAlone defers left_over fixed of s → view_of s id ≡ Some (of (Reclaims c seen left))
+      (fixed : Fixed) (id : ℕ) (c : ReclaimAll) (seen : Option (ℕ × T)) (left : ℕ) → c.stands ≡ at.Over
+      → (s : State T (Alone T) (World T)) → HoldsAlone defers left_over fixed s → view_of s id ≡ Some (Reclaims c seen left)
       → (w : World T) × Holds defers fixed record { memory = s.memory; views = []; world = w }

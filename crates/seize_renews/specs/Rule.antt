@@ -1,5 +1,5 @@
--- The rule while one seat alone acts: there is a world that came about, of which the memory is that of the state; the one that acts takes a slot, or reclaims
--- all, and knows where it stands; all others wait, and know nothing.
+-- The rule by which one seat acts alone: there is a world that came about, of which the memory is that of the state; the seat takes a slot, or reclaims all, and
+-- knows where it stands.
 use Rattle.std.specs.Prelude.{◌≡◌, ◌≢◌, ℕ, ◌<◌, ◌==◌, Bool, false, Option, Some, None, if◌then◌else◌, length}
 use Rattle.seize_words.specs.Mem.{Mem, value_at}
 use Rattle.seize_words.specs.Op.{Op, Out}
@@ -23,12 +23,7 @@ use Rattle.seize_views.specs.Rows.{IsSeeking, RootsNameLinked, Came}
 use Rattle.seize_views.specs.Told.{ComesTo, FollowsBy, shown_by}
 use Rattle.seize_views.specs.declared.view.Fixed.{Fixed}
 use Rattle.seize_renews.specs.declared.alone.Alone.{Alone}
-use Rattle.seize_renews.specs.declared.alone.Alone.TheVariants.{Waits, Registers, Reclaims}
-
--- it acts
-abbrev pub Acts : {T : Type 0} → Alone T → Type 0
-Acts Waits = ⊥
-Acts _ = Unit {0}
+use Rattle.seize_renews.specs.declared.alone.Alone.TheVariants.{Registers, Reclaims}
 
 -- what is so while a slot is sought: it begins at the first one, and from its second step on slots have words
 abbrev pub SeeksAt : {T : Type 0} → Mem T → Register → Registering → Type 0
@@ -75,28 +70,25 @@ module _ {T : Type 0} (defers : T → Option ℕ) (left_over : T → Bool) where
 
   -- what an operation tells the seat that makes it
   abbrev pub told : Alone T → Op T → Out T → Alone T → Type 0
-  told Waits op out w = ⊥
   told (Registers c size) op out w = (end : Register × Progress ℕ) × ComesTo (register_plan {T = T} c) out end × begun_by size end w
   told (Reclaims c seen left) op out w = ReclaimsOn c left out w
 
   module _ (fixed : Fixed) where
     -- where a seat stands
     abbrev pub Stands : World T → ℕ → Alone T → Type 0
-    Stands w j Waits = Unit {0}
     Stands w j (Registers c size) =
         (size ≡ fixed.batch_size) × (w.row j ≡ world.Registers c) × ((k : ℕ) → k ≢ j → w.row k ≡ world.Rests)
         × (c.enters ≡ false) × IsSeeking c.stands × SeeksAt w.memory c c.stands
     Stands w j (Reclaims c seen left) = Stage defers fixed.batch_size j 0 c w × DoneWithin defers left_over left w.memory c × IsShown w.memory seen
 
-    -- The views of the rule have those of this phase among them.
-    pub record HoldsAlone {V : Type 0} (of : Alone T → V) (s : State T V (World T)) : Type 0 where
+    pub record HoldsAlone (s : State T (Alone T) (World T)) : Type 0 where
       pub came : Came defers fixed s.world
       pub memory : s.memory ≡ s.world.memory
-      pub seats : (j : ℕ) (v : V) → view_of s j ≡ Some v → (a : Alone T) × (v ≡ of a) × Stands s.world j a
-      pub one : (j k : ℕ) (a b : Alone T) → view_of s j ≡ Some (of a) → view_of s k ≡ Some (of b) → Acts a → Acts b → j ≡ k
+      pub seats : (j : ℕ) (v : Alone T) → view_of s j ≡ Some v → Stands s.world j v
+      pub one : (j k : ℕ) (a b : Alone T) → view_of s j ≡ Some a → view_of s k ≡ Some b → j ≡ k
       pub roots : RootsNameLinked s.memory s.world.hand
       pub rooted : length s.memory.roots ≡ fixed.roots
 
 -- nobody looks at what another one may take
-abbrev pub KeepsNone : {T V : Type 0} → V → V → World T → ℕ → Type 0
+abbrev pub KeepsNone : {T : Type 0} → Alone T → Alone T → World T → ℕ → Type 0
 KeepsNone u o w b = ⊥

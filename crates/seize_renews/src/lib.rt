@@ -3,6 +3,8 @@
 
 mod alone;
 mod law;
+mod rule;
 
 pub use alone::Alone;
-pub use law::one_reclaims_all;
+pub use law::{one_acts_alone, one_reclaims_all};
+pub use rule::{OfOne, Passing};

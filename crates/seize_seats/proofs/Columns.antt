@@ -1,10 +1,10 @@
 -- Words and their places: another word at a place is another word of its name.
-use Rattle.std.specs.Prelude.{◌≡◌, ◌≢◌, ℕ, zero, suc, ◌+◌, ◌*◌, ◌<◌, ◌≤◌, ◌⊎◌, List, length, Some, slice_get, slice_index, slice_set}
+use Rattle.std.specs.Prelude.{◌≡◌, ◌≢◌, ℕ, zero, suc, ◌+◌, ◌*◌, ◌^◌, ◌<◌, List, length, Some, slice_get, slice_index, slice_set}
 use Rattle.std.proofs.Common.{refl, ap, ◌∙◌, arith, inl, inr, length-set}
 use Rattle.std.proofs.lemmas.List.{get_or-set_same, get_or-set_other}
 use Rattle.seize_words.specs.SlotWords.{slot_word, with_slot_word}
 use Rattle.seize_words.specs.declared.at.At.TheVariants.{Root, Used, Slot, Entry, Word}
-use Rattle.seize_seats.specs.Lines.{Parts, column, slots_from, AreLaid}
+use Rattle.seize_seats.specs.Lines.{Parts, column, slots_from, AreSlots, AreLaid}
 use Rattle.seize_seats.specs.Laws.{WordsLie, WordsAreApart}
 
 column_get : (k : ℕ) (ws : List ℕ) (o i w : ℕ) → slice_get (column k ws o) i ≡ Some w → (i < k) × (slice_index ws (i * 16 + o) ≡ w)
@@ -33,7 +33,7 @@ column_set (suc k) ws o (suc i) w lt le =
     let rest = column_set k ws (o + 16) i w (omega (arith, lt)) (omega (arith, le, same)) in
     ap (λ p. column (suc k) (slice_set ws p w) o) same ∙ cc (first, rest)
 
-slots_get : (k : ℕ) (ws : List ℕ) (o s f w : ℕ) → slot_word (slots_from k ws o) s f ≡ Some w → (s < k) × (f < 2) × (slice_index ws (s * 16 + o + f) ≡ w)
+pub slots_get : (k : ℕ) (ws : List ℕ) (o s f w : ℕ) → slot_word (slots_from k ws o) s f ≡ Some w → (s < k) × (f < 2) × (slice_index ws (s * 16 + o + f) ≡ w)
 slots_get zero ws o s f w e = absurd (cc e)
 slots_get (suc k) ws o zero zero w e = (omega arith, omega arith, ap (slice_index ws) (let r : 0 * 16 + o + 0 ≡ o = omega arith in r) ∙ cc e)
 slots_get (suc k) ws o zero (suc zero) w e = (omega arith, omega arith, ap (slice_index ws) (let r : 0 * 16 + o + 1 ≡ o + 1 = omega arith in r) ∙ cc e)
@@ -76,23 +76,22 @@ slots_set (suc k) ws o (suc s) f w lt le fits =
     let rest = slots_set k ws (o + 16) s f w (omega (arith, lt)) le (omega (arith, fits, same)) in
     ap (λ q. slots_from (suc k) (slice_set ws q w) o) same ∙ cc (first, second, rest)
 
-module _ {T : Type 0} (roots count : ℕ) (s : Parts T) (laid : AreLaid roots count s) where
-  slots_bound : s.slots ≤ 32
-  slots_bound = elim laid.slots_are as (λ _. s.slots ≤ 32) [
-    | inl none ↦ omega (arith, none.0)
-    | inr some ↦ omega (arith, some)
-  ]
+-- a slot that has its words lies within them
+slot_fits : (roots slots : ℕ) (ws : List ℕ) → AreSlots roots ws slots → (n f : ℕ) → n < slots → f < 2 → (n + 32 < 2 ^ 38) × ((roots + roots + n) * 16 + f < length ws)
+slot_fits roots slots ws (inl none) n f lt low = absurd (let z = none.0 in omega (arith, z, lt))
+slot_fits roots slots ws (inr some) n f lt low = let l = some.0 in let m = some.1 in (omega (arith, lt, m), omega (arith, l, lt, low))
 
+module _ {T : Type 0} (roots count : ℕ) (s : Parts T) (laid : AreLaid roots count s) where
   abbrev with_words : List ℕ → Parts T
   with_words ws = record { words = ws; slots = s.slots; cells = s.cells; given = s.given }
 
   abbrev Slots : List ℕ → Type 0
-  Slots ws = ((s.slots ≡ 0) × ((k : ℕ) → (roots + roots) * 16 ≤ k → slice_index ws k ≡ 0)) ⊎ (s.slots ≡ 32)
+  Slots ws = AreSlots roots ws s.slots
 
   -- other words of slots, and all else is as it was
   laid_as : (p w : ℕ) → Slots (slice_set s.words p w) → AreLaid roots count (with_words (slice_set s.words p w))
   laid_as p w are = record {
-    all = length-set s.words p w ∙ laid.all;
+    all = let l = length-set s.words p w in let a = laid.all in omega (arith, l, a);
     slots_are = are;
     counted = laid.counted;
     within = laid.within;
@@ -103,8 +102,8 @@ module _ {T : Type 0} (roots count : ℕ) (s : Parts T) (laid : AreLaid roots co
   -- what lies before the slots changes none of them
   laid_before : (p w : ℕ) → p < (roots + roots) * 16 → AreLaid roots count (with_words (slice_set s.words p w))
   laid_before p w lt = laid_as p w (elim laid.slots_are as (λ _. Slots (slice_set s.words p w)) [
-    | inl none ↦ inl (none.0, λ k le. get_or-set_other s.words p k w 0 (λ e. omega (arith, e, le, lt)) ∙ none.1 k le)
-    | inr some ↦ inr some
+    | inl none ↦ inl (none.0, length-set s.words p w ∙ none.1, λ k le. get_or-set_other s.words p k w 0 (λ e. omega (arith, e, le, lt)) ∙ none.2 k le)
+    | inr some ↦ inr (length-set s.words p w ∙ some.0, some.1)
   ])
 
 pub words_lie : (T : Type 0) → WordsLie T
@@ -116,9 +115,9 @@ words_lie T roots count s (Used r) w laid fixed e =
     (lt, omega (arith, laid.all, lt), ap (slice_index s.words) (let q : (roots + r) * 16 ≡ r * 16 + roots * 16 = omega arith in q) ∙ g.1)
 words_lie T roots count s (Slot n f) w laid fixed e =
     let g = slots_get s.slots s.words ((roots + roots) * 16) n f w e in let lt : n < s.slots = g.0 in let low : f < 2 = g.1 in
-    let few = slots_bound roots count s laid in (
-      (omega (arith, lt, few), low),
-      omega (arith, laid.all, lt, low, few),
+    let fits = slot_fits roots s.slots s.words laid.slots_are n f lt low in (
+      (fits.0, low),
+      fits.1,
       ap (slice_index s.words) (let q : (roots + roots + n) * 16 + f ≡ n * 16 + (roots + roots) * 16 + f = omega arith in q) ∙ g.2,
     )
 words_lie T roots count s (Entry b i) w laid fixed e = absurd fixed
@@ -152,7 +151,7 @@ words_are_apart T roots count s (Slot n f) w new laid fixed e =
     some : n < s.slots → Slots roots count s laid (slice_set s.words ((roots + roots + n) * 16 + f) new)
     some lt = elim laid.slots_are as (λ _. Slots roots count s laid (slice_set s.words ((roots + roots + n) * 16 + f) new)) [
       | inl none ↦ absurd (let z = none.0 in omega (arith, z, lt))
-      | inr all ↦ inr all
+      | inr all ↦ inr (length-set s.words ((roots + roots + n) * 16 + f) new ∙ all.0, all.1)
     ]
 words_are_apart T roots count s (Entry b i) w new laid fixed e = absurd fixed
 words_are_apart T roots count s (Word b i) w new laid fixed e = absurd fixed

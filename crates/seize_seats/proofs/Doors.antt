@@ -6,7 +6,7 @@ use base.Share
 use base.Logic.{SProp, ent, sep, wand, ex, all, guard, apply∗, all_e}
 use base.Fml.{Share, Fml, ftrue, fsep}
 use types.Logic.{Logic, sem}
-use types.Kit.{‵, raw, ◌⊛◌, some, given, ◌$◌, ◌∵◌, !, qed, move, split, frame, each, assume, pick, learn, show, check, fsplit, fjoin, fsplit3, fjoin3, fpick, fpack, drop, use1, use2, rewrite, done}
+use types.Kit.{‵, raw, ◌⊛◌, some, given, ◌$◌, ◌∵◌, !, qed, move, keep, split, frame, each, assume, pick, learn, show, check, fsplit, fjoin, fsplit3, fjoin3, fpick, fpack, drop, use1, use2, rewrite, done}
 use denote.RawPtr.{Ptr, null_ptr}
 use denote.Steps.{nothing}
 use Rattle.core.specs.Sync.RawAtomic.Pointer.{cell}
@@ -135,3 +135,16 @@ module _ {M : Type 1} {𝓤 : Ura M} (𝓛 : Logic 𝓤) (σ : ℕ) (Is : ℕ �
       move ! (1 ∷ []) $ fsplit3 ! $ move ! (1 ∷ []) $ fpick ! (λ is. drop ! $
       -- [the cell; it stays, and the right; the others]
       move ! (1 ∷ []) $ nothing ! $ fpack ! (Is k s) (λ _. ftrue) is $ fjoin ! $ move ! (1 ∷ 0 ∷ []) $ fjoin ! $ check ! (is, rest) $ done !))
+
+-- ---- pointers side by side, in two parts
+module _ {M : Type 1} {𝓤 : Ura M} (𝓛 : Logic 𝓤) (b : ℕ) where
+  pub pointers_split : (ps qs : List Ptr) (o e : ℕ) → e ≡ length ps * 8 + o → ent 𝓤 (sem 𝓛 (pointers b o (ps ++ qs))) (sep 𝓤 (sem 𝓛 (pointers b o ps)) (sem 𝓛 (pointers b e qs)))
+  pointers_split [] qs o e is = let here : o ≡ e = omega (arith, is) in qed 𝓛 (‵ (pointers b o qs) ∷ []) ∵ rewrite ! 0 (λ (k : ℕ). ‵ (pointers b k qs)) here refl $ nothing ! $ done !
+  pointers_split (p ∷ ps) qs o e is = qed 𝓛 (‵ (cell b o p) ∷ ‵ (pointers b (o + 8) (ps ++ qs)) ∷ []) ∵ move ! (1 ∷ []) $
+      use1 𝓛 (‵ (pointers b (o + 8) ps) ⊛ ‵ (pointers b e qs)) (pointers_split ps qs (o + 8) e (omega (arith, is))) $ split ! $ move ! (2 ∷ 0 ∷ []) $ fjoin ! $ done !
+
+  pub pointers_join : (ps qs : List Ptr) (o e : ℕ) → e ≡ length ps * 8 + o → ent 𝓤 (sep 𝓤 (sem 𝓛 (pointers b o ps)) (sem 𝓛 (pointers b e qs))) (sem 𝓛 (pointers b o (ps ++ qs)))
+  pointers_join [] qs o e is = let here : e ≡ o = omega (arith, is) in qed 𝓛 (‵ ftrue ∷ ‵ (pointers b e qs) ∷ []) ∵
+      rewrite ! 1 (λ (k : ℕ). ‵ (pointers b k qs)) here refl $ move ! (1 ∷ []) $ keep ! (0 ∷ []) $ done !
+  pointers_join (p ∷ ps) qs o e is = qed 𝓛 ((‵ (cell b o p) ⊛ ‵ (pointers b (o + 8) ps)) ∷ ‵ (pointers b e qs) ∷ []) ∵ split ! $ move ! (1 ∷ 2 ∷ []) $
+      use2 𝓛 (‵ (pointers b (o + 8) (ps ++ qs))) (pointers_join ps qs (o + 8) e (omega (arith, is))) $ move ! (1 ∷ 0 ∷ []) $ fjoin ! $ done !

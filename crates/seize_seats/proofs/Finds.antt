@@ -3,7 +3,6 @@ use Rattle.std.specs.Prelude.{slice_get}
 use Rattle.std.proofs.Common.{◌≡◌, ◌⊎◌, inl, inr, ℕ, zero, suc, ◌+◌, ◌-◌, ◌*◌, ◌^◌, ◌<◌, ◌≤◌, List, [], ◌∷◌, length, sym, refl, ap, ◌∙◌, subst, arith, lit<, Some}
 use native.Mathlib.Nat.{pow-suc, mul_assoc, mul-le-mul_left, pow-le-pow_right}
 use seplogic.Ra.Ura.{Ura}
-use base.Stored.{Coded}
 use base.Logic.{SProp, ent, sep, wand, ex, apply∗, upd_i}
 use base.Fml.{Lft, Share, Fml, ftrue, fsep, flft, fbor, finv}
 use types.Logic.{Logic, sem}
@@ -13,6 +12,7 @@ use denote.RawPtr.{Ptr, block_ptr, block_of, count_of, at_block, InBlock}
 use denote.Steps.{nothing}
 use Rattle.core.specs.Sync.RawAtomic.Pointer.{cell, asks_ptr}
 use Rattle.core.proofs.raw_atomic.Asked.{borrowed_ptr, PtrLies}
+use Rattle.seize_seats.specs.Errands.{Sight}
 use Rattle.seize_seats.specs.State.{State}
 use Rattle.seize_seats.specs.Seen.{fact, seen}
 use Rattle.seize_seats.specs.Cells.{Cell, Free, cell_at}
@@ -21,7 +21,7 @@ use Rattle.seize_seats.specs.Strips.{Strip, strip_coded, no_strip, further, AreS
 use Rattle.seize_seats.specs.Doors.{IsFurther, right_to, stays, behind, door}
 use Rattle.seize_seats.specs.Stretches.{IsEven}
 use Rattle.seize_seats.specs.Lendings.{ShownToBoth}
-use Rattle.seize_seats.specs.Owned.{Pieces, row, ledger, unborn, hand_coded, resting, strips, doors_of, BaseId, Inside, age, core_of, book_of, strip_of, is_listed, state_of, lent_here, had_here, everything, told}
+use Rattle.seize_seats.specs.Owned.{Pieces, ground, ledger, sitting, unborn, hand_coded, resting, strips, doors_of, BaseId, Inside, age, core_of, book_of, strip_of, is_listed, state_of, lent_here, had_here, everything, told}
 use Rattle.seize_seats.proofs.Stretches as Stretches
 use Rattle.seize_seats.proofs.Ledgers as Ledgers
 use Rattle.seize_seats.proofs.Hands as Hands
@@ -47,7 +47,7 @@ is_there [] i some = absurd (some refl)
 is_there (c ∷ cs) zero some = omega arith
 is_there (c ∷ cs) (suc i) some = let r = is_there cs i some in omega (arith, r)
 
-module _ {M : Type 1} {𝓤 : Ura M} (𝓛 : Logic 𝓤) (R : RattleType) (own : Pieces R.Denot) {V W : Type 0} (cv : Coded V) (holds : State R.Denot V W → Type 0) (keeps : V → V → W → ℕ
+module _ {M : Type 1} {𝓤 : Ura M} (𝓛 : Logic 𝓤) (R : RattleType) (own : Pieces R.Denot) {V W : Type 0} (cv : Sight V) (holds : State R.Denot V W → Type 0) (keeps : V → V → W → ℕ
     → Type 0) (p : Ptr) (z : BaseId) where
   open 𝓛 use {H, A}
 
@@ -69,10 +69,10 @@ module _ {M : Type 1} {𝓤 : Ura M} (𝓛 : Logic 𝓤) (R : RattleType) (own :
   α = age z
 
   abbrev E : Fml
-  E = everything R own cv.code holds (core_of z)
+  E = everything R own cv holds (core_of z)
 
   abbrev Inv : Fml
-  Inv = told R own cv.code holds p z
+  Inv = told R own cv holds p z
 
   abbrev b : ℕ
   b = block_of z.doors
@@ -96,13 +96,13 @@ module _ {M : Type 1} {𝓤 : Ura M} (𝓛 : Logic 𝓤) (R : RattleType) (own :
   LH ss n = fsep (ledger strip_coded.code σ no_strip ss) (unborn hand_coded.code z.hands_name n resting)
 
   abbrev All : List Strip → List (Cell R.Denot) → Fml
-  All ss cs = strips R α z.hands_name (lent_here R own cv.code holds p z) (had_here R own cv.code holds p z) ss cs
+  All ss cs = strips R α z.hands_name (lent_here R own cv holds p z) (had_here R own cv holds p z) ss cs
 
   abbrev Fixed : List ℕ → Fml
-  Fixed ws = row (block_of z.fixed) (count_of z.fixed) ws
+  Fixed ws = ground (core_of z) ws
 
   abbrev Views : In → Fml
-  Views t = ledger cv.code z.views_name t.blank t.views
+  Views t = sitting (age z) cv z.views_name t.blank t.views
 
   abbrev Sound : In → Type 0
   Sound t = holds record { memory = memory_of z.roots t.parts; views = t.views; world = t.world } × AreLaid z.roots z.count t.parts
@@ -173,7 +173,7 @@ module _ {M : Type 1} {𝓤 : Ura M} (𝓛 : Logic 𝓤) (R : RattleType) (own :
         move ! (1 ∷ 3 ∷ []) $ use2 𝓛 (given (Hands.Sit 𝓛 R own cv holds p z i v k u t) (‵ (Views t) ⊛ ‵ Sn)) (Hands.two_show 𝓛 R own cv holds p z i v k u f f' t) $
         learn ! (λ sit. split ! $ move ! (2 ∷ []) $ fsplit ! $ move ! (1 ∷ []) $ fpick ! (λ ss. fsplit3 ! $ move ! (1 ∷ []) $ fpick ! (λ are. drop ! $ fsplit ! $ fsplit ! $
         -- [the list; the hands; the doors; the strips; the words; the views; the seats' views; it is listed]
-        move ! (7 ∷ []) $ fpick ! (λ r. move ! (1 ∷ 0 ∷ []) $
+        move ! (7 ∷ []) $ fsplit ! $ move ! (1 ∷ []) $ drop ! $ fpick ! (λ r. move ! (1 ∷ 0 ∷ []) $
         use2 𝓛 (given (slice_get ss z.place ≡ Some (strip_of p z)) (‵ (ledger strip_coded.code σ no_strip ss) ⊛ ‵ (Sh r)))
         (Ledgers.sits 𝓛 strip_coded σ no_strip ss z.place r (strip_of p z)) $ learn ! (λ has. split ! $ move ! (1 ∷ []) $ drop ! $ fjoin ! $
         let some : Has-cell t = has_cell t (Makings.has_block 𝓛 R own cv holds keeps p z n t sound.1 (shown (state_of z t) sound.0 sit.0 sit.1)) in

@@ -5,7 +5,6 @@ use Rattle.std.proofs.Common.{◌≡◌, ◌≢◌, ◌⊎◌, inl, inr, ℕ, su
 use Rattle.std.proofs.lemmas.Bool.{cases_eq}
 use seplogic.Ra.Ura.{Ura}
 use base.Share.{three_quarters}
-use base.Stored.{Coded}
 use base.Logic.{SProp, ent, sep, guard}
 use base.Fml.{Share, Fml, fsep}
 use types.Logic.{Logic, sem}
@@ -16,11 +15,12 @@ use Rattle.seize_seats.specs.State.{State}
 use Rattle.seize_seats.specs.Seen.{seen}
 use Rattle.seize_seats.specs.Lines.{AreLaid}
 use Rattle.seize_seats.specs.Lendings.{Alone, ShownToBoth}
-use Rattle.seize_seats.specs.Owned.{Pieces, ledger, had_here, BaseId, Inside, state_of}
-use Rattle.seize_seats.proofs.Ledgers as Ledgers
+use Rattle.seize_seats.specs.Errands.{Sight}
+use Rattle.seize_seats.specs.Owned.{Pieces, sitting, age, had_here, BaseId, Inside, state_of}
+use Rattle.seize_seats.proofs.Sitters as Sitters
 use Rattle.seize_seats.specs.Cells.{Body}
 
-module _ {M : Type 1} {𝓤 : Ura M} (𝓛 : Logic 𝓤) (R : RattleType) (own : Pieces R.Denot) {V W : Type 0} (cv : Coded V) (holds : State R.Denot V W → Type 0) (p : Ptr) (z : BaseId) where
+module _ {M : Type 1} {𝓤 : Ura M} (𝓛 : Logic 𝓤) (R : RattleType) (own : Pieces R.Denot) {V W : Type 0} (cv : Sight V) (holds : State R.Denot V W → Type 0) (p : Ptr) (z : BaseId) where
   abbrev Pr : Type 2
   Pr = SProp 𝓤
 
@@ -42,7 +42,7 @@ module _ {M : Type 1} {𝓤 : Ura M} (𝓛 : Logic 𝓤) (R : RattleType) (own :
   Sn q j u = seen cv.code z.views_name q j u
 
   abbrev Led : In → Fml
-  Led t = ledger cv.code z.views_name t.blank t.views
+  Led t = sitting (age z) cv z.views_name t.blank t.views
 
   module _ (j : ℕ) (v : V) (k : ℕ) (u : V) where
     -- the one seat has this view and the other one that
@@ -63,28 +63,28 @@ module _ {M : Type 1} {𝓤 : Ura M} (𝓛 : Logic 𝓤) (R : RattleType) (own :
 
     pub two_show : (q r : Share) → Shows (two q r)
     two_show q r t = qed 𝓛 (‵ (Led t) ∷ ‵ (two q r) ∷ []) ∵ move ! (1 ∷ []) $ fsplit ! $ move ! (2 ∷ 0 ∷ []) $
-        use2 𝓛 (given (slice_get t.views j ≡ Some v) (‵ (Led t) ⊛ ‵ (Sn q j v))) (Ledgers.sits 𝓛 cv z.views_name t.blank t.views j q v) $
+        use2 𝓛 (given (slice_get t.views j ≡ Some v) (‵ (Led t) ⊛ ‵ (Sn q j v))) (Sitters.sits 𝓛 (age z) cv z.views_name t.blank t.views j q v) $
         learn ! (λ at. split ! $
         move ! (0 ∷ 2 ∷ []) $
-        use2 𝓛 (given (slice_get t.views k ≡ Some u) (‵ (Led t) ⊛ ‵ (Sn r k u))) (Ledgers.sits 𝓛 cv z.views_name t.blank t.views k r u) $
+        use2 𝓛 (given (slice_get t.views k ≡ Some u) (‵ (Led t) ⊛ ‵ (Sn r k u))) (Sitters.sits 𝓛 (age z) cv z.views_name t.blank t.views k r u) $
         learn ! (λ at'. split ! $
         check ! (at, at') $ move ! (2 ∷ 1 ∷ []) $ fjoin ! $ move ! (1 ∷ 0 ∷ []) $ done !))
 
     pub two_crowd : (q r : Share) → Crowds (two q r)
     two_crowd q r t w Z (inl same) = qed 𝓛 (‵ (Led t) ∷ ‵ (Sn three_quarters w.0 w.1) ∷ ‵ (two q r) ∷ []) ∵ move ! (2 ∷ []) $ fsplit ! $
-        rewrite ! 0 (λ (n : ℕ). ‵ (Sn q n v)) same refl $ keep ! (2 ∷ 3 ∷ 0 ∷ []) $ by ! (Ledgers.crowded 𝓛 cv z.views_name t.blank t.views w.0 q w.1 v Z)
+        rewrite ! 0 (λ (n : ℕ). ‵ (Sn q n v)) same refl $ keep ! (2 ∷ 3 ∷ 0 ∷ []) $ by ! (Sitters.crowded 𝓛 (age z) cv z.views_name t.blank t.views w.0 q w.1 v Z)
     two_crowd q r t w Z (inr same) = qed 𝓛 (‵ (Led t) ∷ ‵ (Sn three_quarters w.0 w.1) ∷ ‵ (two q r) ∷ []) ∵ move ! (2 ∷ []) $ fsplit ! $
-        rewrite ! 1 (λ (n : ℕ). ‵ (Sn r n u)) same refl $ keep ! (2 ∷ 3 ∷ 1 ∷ []) $ by ! (Ledgers.crowded 𝓛 cv z.views_name t.blank t.views w.0 r w.1 u Z)
+        rewrite ! 1 (λ (n : ℕ). ‵ (Sn r n u)) same refl $ keep ! (2 ∷ 3 ∷ 1 ∷ []) $ by ! (Sitters.crowded 𝓛 (age z) cv z.views_name t.blank t.views w.0 r w.1 u Z)
 
     -- a share of one, where it is one seat with one view
     pub one_shows : (q : Share) → j ≡ k → v ≡ u → Shows (Sn q j v)
     one_shows q same view t = qed 𝓛 (‵ (Led t) ∷ ‵ (Sn q j v) ∷ []) ∵
-        use2 𝓛 (given (slice_get t.views j ≡ Some v) (‵ (Led t) ⊛ ‵ (Sn q j v))) (Ledgers.sits 𝓛 cv z.views_name t.blank t.views j q v) $
+        use2 𝓛 (given (slice_get t.views j ≡ Some v) (‵ (Led t) ⊛ ‵ (Sn q j v))) (Sitters.sits 𝓛 (age z) cv z.views_name t.blank t.views j q v) $
         learn ! (λ at. check ! (at, ap (slice_get t.views) (sym same) ∙ at ∙ ap Some view) $ split ! $ done !)
 
     pub one_crowds : (q : Share) → j ≡ k → Crowds (Sn q j v)
     one_crowds q same t w Z is = qed 𝓛 (‵ (Led t) ∷ ‵ (Sn three_quarters w.0 w.1) ∷ ‵ (Sn q j v) ∷ []) ∵
-        rewrite ! 2 (λ (n : ℕ). ‵ (Sn q n v)) (by_one is) refl $ by ! (Ledgers.crowded 𝓛 cv z.views_name t.blank t.views w.0 q w.1 v Z)
+        rewrite ! 2 (λ (n : ℕ). ‵ (Sn q n v)) (by_one is) refl $ by ! (Sitters.crowded 𝓛 (age z) cv z.views_name t.blank t.views w.0 q w.1 v Z)
       where
         by_one : (j ≡ w.0) ⊎ (k ≡ w.0) → j ≡ w.0
         by_one (inl e) = e
@@ -100,11 +100,11 @@ module _ {M : Type 1} {𝓤 : Ura M} (𝓛 : Logic 𝓤) (R : RattleType) (own :
       by_seat w alone at (inr ne) (inl same) = crowds t w Z (inr same)
       by_seat w alone at (inr ne) (inr nf) = qed 𝓛 (‵ (Led t) ∷ ‵ (Sn three_quarters w.0 w.1) ∷ ‵ S ∷ []) ∵
           use2 𝓛 (given (slice_get t.views w.0 ≡ Some w.1) (‵ (Led t) ⊛ ‵ (Sn three_quarters w.0 w.1)))
-          (Ledgers.sits 𝓛 cv z.views_name t.blank t.views w.0 three_quarters w.1) $
+          (Sitters.sits 𝓛 (age z) cv z.views_name t.blank t.views w.0 three_quarters w.1) $
           learn ! (λ sits. absurd (alone (state_of z t) j v k u sound.0 sits ne nf at.0 at.1 shown))
 
-      pub excludes : ⟦ Led t ⟧ ∗ ⟦ had_here R own cv.code holds p z ρ i x ⟧ ∗ ⟦ S ⟧ ⊢ Z
-      excludes = qed 𝓛 (‵ (Led t) ∷ ‵ (had_here R own cv.code holds p z ρ i x) ∷ ‵ S ∷ []) ∵ move ! (1 ∷ []) $ fsplit ! $ drop ! $
+      pub excludes : ⟦ Led t ⟧ ∗ ⟦ had_here R own cv holds p z ρ i x ⟧ ∗ ⟦ S ⟧ ⊢ Z
+      excludes = qed 𝓛 (‵ (Led t) ∷ ‵ (had_here R own cv holds p z ρ i x) ∷ ‵ S ∷ []) ∵ move ! (1 ∷ []) $ fsplit ! $ drop ! $
           fpick ! (λ w. fsplit3 ! $ drop ! $
           move ! (1 ∷ []) $ fpick ! (λ alone. drop ! $
           -- [three quarters; the views; the seats']

@@ -1,8 +1,7 @@
 -- Whoever knows of a strip finds it among those of the invariant, as long as that is open. Assumes `Logic`.
-use Rattle.std.proofs.Common.{ℕ, List, [], ◌∷◌, length}
+use Rattle.std.proofs.Common.{ℕ, zero, suc, List, [], ◌∷◌, length}
 use seplogic.Ra.Ura.{Ura}
 use base.Share
-use base.Stored.{Coded}
 use base.Logic.{SProp, ent, sep, ex, all, upd, apply∗, all_e, upd_i}
 use base.Fml.{Lft, Share, Fml, ftrue, fsep, flft, fbor, finv}
 use types.Logic.{Logic, sem}
@@ -12,24 +11,40 @@ use denote.RawPtr.{Ptr, block_ptr}
 use denote.Steps.{nothing}
 use Rattle.core.specs.Sync.RawAtomic.{word, asks, always}
 use Rattle.core.proofs.raw_atomic.Asked.{borrowed, Lies, Again}
+use Rattle.seize_seats.specs.Errands.{Sight}
 use Rattle.seize_seats.specs.State.{State}
 use Rattle.seize_seats.specs.Seen.{seen}
 use Rattle.seize_seats.specs.Cells.{Cell}
 use Rattle.seize_seats.specs.Strips.{Strip, strip_coded, no_strip, AreStrips}
+use Rattle.seize_seats.specs.Doors.{stays as lasts}
+use Rattle.seize_seats.specs.Buckets.{IsBucket}
 use Rattle.seize_seats.specs.Stretches.{IsEven, invariant}
-use Rattle.seize_seats.specs.Owned.{Pieces, ledger, listed, BaseId, Inside, age, core_of, book_of, strip_of, IsListed, is_listed, lent_here, had_here, standing, standing_in, inner, everything, told}
+use Rattle.seize_seats.specs.Owned.{Pieces, ledger, listed, BaseId, Inside, age, core_of, book_of, strip_of, IsListed, bucket_told, is_listed, lent_here, had_here, standing, standing_in, inner, everything, told}
 use Rattle.seize_seats.proofs.Ledgers as Ledgers
 use Rattle.seize_seats.proofs.Stretches as Stretches
 
--- that a strip is listed may be told again
-pub listed_twice : {M : Type 1} {𝓤 : Ura M} (𝓛 : Logic 𝓤) (p : Ptr) (z : BaseId)
-    → ent 𝓤 (sem 𝓛 (is_listed p z)) (sep 𝓤 (sem 𝓛 (is_listed p z)) (sem 𝓛 (is_listed p z)))
-listed_twice 𝓛 p z = let Sh : Share → Fml = λ q. seen strip_coded.code z.strips_name q z.place (strip_of p z) in
-    qed 𝓛 (‵ (is_listed p z) ∷ []) ∵ fpick ! (λ q. let q₁ : Share = Share.left q in let q₂ : Share = Share.right q in
-    use1 𝓛 (‵ (Sh q₁) ⊛ ‵ (Sh q₂)) ((Ledgers.view_halves 𝓛 strip_coded z.strips_name z.place (strip_of p z)).cut q) $ split ! $
+-- that a strip, or a bucket, stays in a list may be told again
+stays_twice : {M : Type 1} {𝓤 : Ura M} (𝓛 : Logic 𝓤) (σ k : ℕ) (s : Strip) → ent 𝓤 (sem 𝓛 (lasts σ k s)) (sep 𝓤 (sem 𝓛 (lasts σ k s)) (sem 𝓛 (lasts σ k s)))
+stays_twice 𝓛 σ k s = let Sh : Share → Fml = λ q. seen strip_coded.code σ q k s in
+    qed 𝓛 (‵ (lasts σ k s) ∷ []) ∵ fpick ! (λ q. let q₁ : Share = Share.left q in let q₂ : Share = Share.right q in
+    use1 𝓛 (‵ (Sh q₁) ⊛ ‵ (Sh q₂)) ((Ledgers.view_halves 𝓛 strip_coded σ k s).cut q) $ split ! $
     fpack ! Share Sh q₁ $ move ! (1 ∷ []) $ fpack ! Share Sh q₂ $ done !)
 
-module _ {M : Type 1} {𝓤 : Ura M} (𝓛 : Logic 𝓤) (R : RattleType) (own : Pieces R.Denot) {V W : Type 0} (cv : Coded V) (holds : State R.Denot V W → Type 0) (p : Ptr) (z : BaseId) where
+pub bucket_twice : {M : Type 1} {𝓤 : Ura M} (𝓛 : Logic 𝓤) (σ k : ℕ) (s : Strip)
+    → ent 𝓤 (sem 𝓛 (bucket_told σ k s)) (sep 𝓤 (sem 𝓛 (bucket_told σ k s)) (sem 𝓛 (bucket_told σ k s)))
+bucket_twice 𝓛 σ zero s = qed 𝓛 (‵ ftrue ∷ []) ∵ nothing ! $ done !
+bucket_twice 𝓛 σ (suc k) s = let St : Fml = lasts σ (suc k) s in qed 𝓛 (‵ (bucket_told σ (suc k) s) ∷ []) ∵ fsplit ! $ fpick ! (λ is. drop ! $
+    use1 𝓛 (‵ St ⊛ ‵ St) (stays_twice 𝓛 σ (suc k) s) $ split ! $ nothing ! $ fpack ! (IsBucket k s) (λ _. ftrue) is $ move ! (0 ∷ 1 ∷ []) $ fjoin ! $
+    move ! (1 ∷ []) $ nothing ! $ fpack ! (IsBucket k s) (λ _. ftrue) is $ move ! (0 ∷ 1 ∷ []) $ fjoin ! $ done !)
+
+-- what is known of a strip may be told again
+pub listed_twice : {M : Type 1} {𝓤 : Ura M} (𝓛 : Logic 𝓤) (p : Ptr) (z : BaseId)
+    → ent 𝓤 (sem 𝓛 (is_listed p z)) (sep 𝓤 (sem 𝓛 (is_listed p z)) (sem 𝓛 (is_listed p z)))
+listed_twice 𝓛 p z = let St : Fml = lasts z.strips_name z.place (strip_of p z) in let B : Fml = bucket_told z.slots_name z.bucket z.slots in
+    qed 𝓛 (‵ (is_listed p z) ∷ []) ∵ fsplit ! $ use1 𝓛 (‵ St ⊛ ‵ St) (stays_twice 𝓛 z.strips_name z.place (strip_of p z)) $ split ! $ move ! (2 ∷ []) $
+    use1 𝓛 (‵ B ⊛ ‵ B) (bucket_twice 𝓛 z.slots_name z.bucket z.slots) $ split ! $ move ! (2 ∷ 0 ∷ []) $ fjoin ! $ move ! (2 ∷ 1 ∷ []) $ fjoin ! $ move ! (1 ∷ []) $ done !
+
+module _ {M : Type 1} {𝓤 : Ura M} (𝓛 : Logic 𝓤) (R : RattleType) (own : Pieces R.Denot) {V W : Type 0} (cv : Sight V) (holds : State R.Denot V W → Type 0) (p : Ptr) (z : BaseId) where
   open 𝓛 use {H, A}
 
   abbrev Pr : Type 2
@@ -51,16 +66,16 @@ module _ {M : Type 1} {𝓤 : Ura M} (𝓛 : Logic 𝓤) (R : RattleType) (own :
 
   -- the invariant itself, and as it is seen by who knows of the strip
   abbrev E : Fml
-  E = everything R own cv.code holds (core_of z)
+  E = everything R own cv holds (core_of z)
 
   abbrev I : Fml
-  I = inner R own cv.code holds p z
+  I = inner R own cv holds p z
 
   abbrev L : Fml
   L = is_listed p z
 
   abbrev Inv : Fml
-  Inv = told R own cv.code holds p z
+  Inv = told R own cv holds p z
 
   abbrev Book : List Strip → Fml
   Book ss = ledger strip_coded.code z.strips_name no_strip ss
@@ -69,7 +84,7 @@ module _ {M : Type 1} {𝓤 : Ura M} (𝓛 : Logic 𝓤) (R : RattleType) (own :
   Sh q = seen strip_coded.code z.strips_name q z.place (strip_of p z)
 
   abbrev Listed : (List Strip → Type 0) → List (Cell R.Denot) → List Strip → Fml
-  Listed = listed R α z.hands_name (lent_here R own cv.code holds p z) (had_here R own cv.code holds p z) (book_of z)
+  Listed = listed R α z.hands_name (lent_here R own cv holds p z) (had_here R own cv holds p z) (book_of z)
 
   abbrev Any : List Strip → Type 0
   Any ss = Unit {0}
@@ -79,19 +94,19 @@ module _ {M : Type 1} {𝓤 : Ura M} (𝓛 : Logic 𝓤) (R : RattleType) (own :
 
   pub comes_in : ⟦ E ⟧ ∗ ⟦ L ⟧ ⊢ ⟦ I ⟧
   comes_in = qed 𝓛 (‵ E ∷ ‵ L ∷ []) ∵ fpick ! (λ t. fsplit3 ! $ fsplit ! $ move ! (1 ∷ []) $ fpick ! (λ ss. fsplit3 ! $ move ! (1 ∷ []) $ fpick ! (λ are. drop ! $
-      -- [the list; the strips; the words; the views; the facts; the share]
-      move ! (5 ∷ []) $ fpick ! (λ q. move ! (1 ∷ []) $ fsplit ! $ fsplit ! $ move ! (0 ∷ 3 ∷ []) $
+      -- [the list; the strips; the words; the views; the facts; what is known]
+      move ! (5 ∷ []) $ fsplit ! $ move ! (1 ∷ []) $ drop ! $ fpick ! (λ q. move ! (1 ∷ []) $ fsplit ! $ fsplit ! $ move ! (0 ∷ 3 ∷ []) $
       use2 𝓛 (given (IsListed p z ss) (‵ (Book ss) ⊛ ‵ (Sh q))) (Ledgers.sits 𝓛 strip_coded z.strips_name no_strip ss z.place q (strip_of p z)) $
       learn ! (λ at. split ! $ move ! (1 ∷ []) $ drop ! $ fjoin ! $ fjoin ! $
       nothing ! $ fpack ! (Are (IsListed p z) t ss) (λ _. ftrue) (are.0, at) $ move ! (1 ∷ 0 ∷ 2 ∷ []) $ fjoin3 ! $
       fpack ! (List Strip) (Listed (IsListed p z) t.parts.cells) ss $ move ! (1 ∷ 0 ∷ []) $ fjoin ! $ fjoin3 ! $
-      fpack ! (Inside R.Denot V W) (standing R own cv.code holds p z) t $ done !)))))
+      fpack ! (Inside R.Denot V W) (standing R own cv holds p z) t $ done !)))))
 
   pub goes_out : ⟦ I ⟧ ⊢ ⟦ E ⟧
   goes_out = qed 𝓛 (‵ I ∷ []) ∵ fpick ! (λ t. fsplit3 ! $ fsplit ! $ move ! (1 ∷ []) $ fpick ! (λ ss. fsplit3 ! $ move ! (1 ∷ []) $ fpick ! (λ are. drop ! $
       nothing ! $ fpack ! (Are Any t ss) (λ _. ftrue) (are.0, tt) $ move ! (1 ∷ 0 ∷ 2 ∷ []) $ fjoin3 ! $
       fpack ! (List Strip) (Listed Any t.parts.cells) ss $ move ! (1 ∷ 0 ∷ []) $ fjoin ! $ fjoin3 ! $
-      fpack ! (Inside R.Denot V W) (standing_in R own cv.code holds (core_of z) Any) t $ done !)))
+      fpack ! (Inside R.Denot V W) (standing_in R own cv holds (core_of z) Any) t $ done !)))
 
   -- it may be told again
   pub twice : ⟦ Inv ⟧ ⊢ ⟦ Inv ⟧ ∗ ⟦ Inv ⟧

@@ -7,7 +7,6 @@ use base.Fraction.{full_share}
 use base.FractionLaws.{common}
 use base.Share
 use base.Share.{quarter, three_quarters}
-use base.Stored.{Coded}
 use base.Logic.{SProp, ent, sep, wand, ex, all, guard, upd, via, apply∗, upd_i, guard_i, ex_i}
 use base.Fml.{Lft, Share, Fml, ftrue, fsep, fex, flft, flent, finv, fshr_bor}
 use contract.BorrowLft.{meet_⊑_left, meet_⊑_right}
@@ -25,6 +24,7 @@ use denote.RawPtr.{Ptr, block_of, count_of}
 use denote.Steps.{nothing}
 use Rattle.core.specs.contracts.option.Option.{the_row as OptionOf}
 use Rattle.seize_words.specs.Mem.{value_in}
+use Rattle.seize_seats.specs.Errands.{Sight, coded_of}
 use Rattle.seize_seats.specs.State.{State}
 use Rattle.seize_seats.specs.Cells.{Body, Cell, Has, block_in}
 use Rattle.seize_seats.specs.Seen.{shared_view, number_share_coded}
@@ -81,7 +81,7 @@ module _ {M : Type 1} {𝓤 : Ura M} (𝓛 : Logic 𝓤) where
     lasts = via 𝓤 _ (qed 𝓛 (‵ (finv Ac) ∷ ‵ Pt ∷ ‵ Due ∷ []) ∵ frame ! $ assume ! (‵ Ac) $ fpick ! (λ ph. by ! (by_phase ph)))
         (𝓛.invs.inv_acc Ac (A.lft μ s))
 
-  module _ (R : RattleType) (L : RowLaws (OptionOf R)) (own : Pieces R.Denot) {V W : Type 0} (cv : Coded V) (holds : State R.Denot V W → Type 0) (keeps : V → V → W → ℕ
+  module _ (R : RattleType) (L : RowLaws (OptionOf R)) (own : Pieces R.Denot) {V W : Type 0} (cv : Sight V) (holds : State R.Denot V W → Type 0) (keeps : V → V → W → ℕ
       → Type 0) (p : Ptr) (z : BaseId) (g o : Holder V) (n : ℕ) (shown : ShownToBoth holds g.seat g.view o.seat o.view n)
       (mine : Makings.Mine 𝓛 R own cv holds keeps p z n) where
     abbrev α : Lft
@@ -91,7 +91,7 @@ module _ {M : Type 1} {𝓤 : Ura M} (𝓛 : Logic 𝓤) where
     O = OptionOf R
 
     abbrev I : Fml
-    I = inner R own cv.code holds p z
+    I = inner R own cv holds p z
 
     abbrev Inv : Fml
     Inv = Moves.Inv 𝓛 R own cv holds keeps p z
@@ -261,11 +261,11 @@ module _ {M : Type 1} {𝓤 : Ura M} (𝓛 : Logic 𝓤) where
       shares_of h = seat_shares cv.code z.views_name h.seat h.view h.stretch h.mark κ
 
       -- THE VALUE IS LENT
-      pub lent_to : (q : Share) → ⟦ words_share R own cv.code holds p z κ ⟧ ∗ ⟦ shares_of g ⟧ ∗ ⟦ shares_of o ⟧ ∗ A.lft κ q ⊢ H.⇛ (ex 𝓤 Lent ∗ A.lft κ q)
+      pub lent_to : (q : Share) → ⟦ words_share R own cv holds p z κ ⟧ ∗ ⟦ shares_of g ⟧ ∗ ⟦ shares_of o ⟧ ∗ A.lft κ q ⊢ H.⇛ (ex 𝓤 Lent ∗ A.lft κ q)
       lent_to q = let q₁ : Share = Share.left q in let q₂ : Share = Share.right q in let q₃ : Share = Share.left q₂ in let q₄ : Share = Share.right q₂ in
           let q₅ : Share = Share.left q₄ in let q₆ : Share = Share.right q₄ in let q₇ : Share = Share.left q₆ in let q₈ : Share = Share.right q₆ in
           let σ : Lft = g.stretch ∷ [] in let ρ : Lft = o.stretch ∷ [] in
-          qed 𝓛 (‵ (words_share R own cv.code holds p z κ) ∷ ‵ (shares_of g) ∷ ‵ (shares_of o) ∷ ‵ (flft κ q) ∷ []) ∵ updating ! $ fsplit ! $
+          qed 𝓛 (‵ (words_share R own cv holds p z κ) ∷ ‵ (shares_of g) ∷ ‵ (shares_of o) ∷ ‵ (flft κ q) ∷ []) ∵ updating ! $ fsplit ! $
           shr_bor_dup ! $ move ! (2 ∷ []) $ fsplit ! $ fpick ! (λ placed. drop ! $ move ! (3 ∷ []) $ fsplit3 ! $ shr_bor_dup ! $
           move ! (7 ∷ []) $ fsplit3 ! $ shr_bor_dup ! $
           -- [ρ, twice; its view; its stretch; σ, twice; its view; its stretch; the invariant; α, twice; the token]
@@ -276,8 +276,8 @@ module _ {M : Type 1} {𝓤 : Ura M} (𝓛 : Logic 𝓤) where
           -- [q₇; q₈; q₅; q₃; q₁; ρ, twice; its view; its stretch; σ, twice; its view; its stretch; the invariant; α, twice]
           move ! (14 ∷ 0 ∷ []) $ shr_bor-open ! tt (tokens_halve 𝓛 α) (λ r. move ! (10 ∷ 2 ∷ []) $ shr_bor-open ! tt (tokens_halve 𝓛 σ) (λ s.
           move ! (7 ∷ 4 ∷ []) $ shr_bor-open ! tt (tokens_halve 𝓛 ρ) (λ s'.
-          move ! (12 ∷ 6 ∷ []) $ shr_bor-open ! tt (Ledgers.view_halves 𝓛 cv z.views_name g.seat g.view) (λ t.
-          move ! (10 ∷ 8 ∷ []) $ shr_bor-open ! tt (Ledgers.view_halves 𝓛 cv z.views_name o.seat o.view) (λ t'.
+          move ! (12 ∷ 6 ∷ []) $ shr_bor-open ! tt (Ledgers.view_halves 𝓛 (coded_of cv) z.views_name g.seat g.view) (λ t.
+          move ! (10 ∷ 8 ∷ []) $ shr_bor-open ! tt (Ledgers.view_halves 𝓛 (coded_of cv) z.views_name o.seat o.view) (λ t'.
           let r₁ : Share = Share.left r in let r₂ : Share = Share.right r in let c₁ : Share = (common s' r₂).0 in let c : Share = (common s c₁).0 in
           let Owners : Pr = A.lft ρ s' ∗ A.lft α r₂ in let Both : Pr = A.lft σ s ∗ A.lft (ρ ++ α) c₁ in
           -- [ρ's view is open; the view; σ's view is open; the view; ρ is open; its token; σ is open; its token; α is open; its token; ρ; its stretch; σ;

@@ -2,10 +2,12 @@ pub mod Cells
 pub mod Columns
 pub mod Rows
 pub mod Ledgers
+pub mod Sitters
 pub mod Stretches
 pub mod Lendings
 pub mod Plain
 pub mod Visits
+pub mod Errands
 pub mod Beside
 pub mod Strips
 pub mod Known
@@ -15,6 +17,7 @@ pub mod Moves
 pub mod Hands
 pub mod Makings
 pub mod OwnWords
+pub mod SlotWords
 pub mod Regains
 pub mod Rewrites
 pub mod Lends
@@ -27,10 +30,15 @@ pub mod Looks
 pub mod Offers
 pub mod Finds
 pub mod Meetings
+pub mod Inside
+pub mod Outings
 pub mod Renewal
 pub mod Shares
 pub mod Shown
 pub mod Rooms
+pub mod Grounds
+pub mod Gates
+pub mod RoomSteps
 pub mod Sent
 pub mod Slotted
 pub mod Holes

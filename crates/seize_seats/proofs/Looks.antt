@@ -2,7 +2,6 @@
 use Rattle.std.specs.Prelude.{slice_get}
 use Rattle.std.proofs.Common.{◌≡◌, ◌⊎◌, inl, inr, ℕ, zero, suc, ◌+◌, ◌*◌, ◌^◌, ◌<◌, ◌≤◌, List, [], ◌∷◌, length, sym, refl, ap, ◌∙◌, subst, arith, lit<, Some}
 use seplogic.Ra.Ura.{Ura}
-use base.Stored.{Coded}
 use base.Logic.{SProp, ent, sep, wand, ex, guard, emp, apply∗, upd_i}
 use base.Fml.{Lft, Share, Fml, ftrue, fsep, fex, flft, fbor, finv}
 use types.Logic.{Logic, sem}
@@ -12,10 +11,11 @@ use denote.RawPtr.{Ptr, InBlock, Testable, block_ptr, null_ptr, block_of, count_
 use denote.Steps.{nothing}
 use Rattle.core.specs.Sync.RawAtomic.Pointer.{cell, asks_ptr}
 use Rattle.core.proofs.raw_atomic.Asked.{borrowed_ptr, PtrLies}
+use Rattle.seize_seats.specs.Errands.{Sight}
 use Rattle.seize_seats.specs.State.{State}
 use Rattle.seize_seats.specs.Seen.{fact, seen}
 use Rattle.seize_seats.specs.Cells.{Cell}
-use Rattle.seize_seats.specs.Strips.{Strip, strip_coded, further}
+use Rattle.seize_seats.specs.Strips.{Strip, strip_coded, no_strip, further}
 use Rattle.seize_seats.specs.Doors.{before, block_bytes, IsFurther, right_to, stays, behind, door}
 use Rattle.seize_seats.specs.Stretches.{IsEven}
 use Rattle.seize_seats.specs.Owned.{Pieces, doors_of, listed, BaseId, Inside, age, core_of, book_of, strip_of, strip_told, IsPlaced, stride, lent_here, had_here, standing_in, everything, told}
@@ -33,7 +33,7 @@ at_or_not (s ∷ ss) (suc i) = up (at_or_not ss i)
     up (inl has) = inl has
     up (inr few) = inr (omega (arith, few))
 
-module _ {M : Type 1} {𝓤 : Ura M} (𝓛 : Logic 𝓤) (R : RattleType) (own : Pieces R.Denot) {V W : Type 0} (cv : Coded V) (holds : State R.Denot V W → Type 0) (p : Ptr) (z : BaseId) where
+module _ {M : Type 1} {𝓤 : Ura M} (𝓛 : Logic 𝓤) (R : RattleType) (own : Pieces R.Denot) {V W : Type 0} (cv : Sight V) (holds : State R.Denot V W → Type 0) (p : Ptr) (z : BaseId) where
   open 𝓛 use {H, A}
 
   abbrev Pr : Type 2
@@ -54,10 +54,10 @@ module _ {M : Type 1} {𝓤 : Ura M} (𝓛 : Logic 𝓤) (R : RattleType) (own :
   α = age z
 
   abbrev E : Fml
-  E = everything R own cv.code holds (core_of z)
+  E = everything R own cv holds (core_of z)
 
   abbrev Inv : Fml
-  Inv = told R own cv.code holds p z
+  Inv = told R own cv holds p z
 
   abbrev b : ℕ
   b = block_of z.doors
@@ -75,7 +75,7 @@ module _ {M : Type 1} {𝓤 : Ura M} (𝓛 : Logic 𝓤) (R : RattleType) (own :
   Any ss = Unit {0}
 
   abbrev Listed : List (Cell R.Denot) → List Strip → Fml
-  Listed = listed R α z.hands_name (lent_here R own cv.code holds p z) (had_here R own cv.code holds p z) (book_of z) Any
+  Listed = listed R α z.hands_name (lent_here R own cv holds p z) (had_here R own cv holds p z) (book_of z) Any
 
   -- all but the doors
   abbrev Rest : List Strip → Pr
@@ -89,7 +89,7 @@ module _ {M : Type 1} {𝓤 : Ura M} (𝓛 : Logic 𝓤) (R : RattleType) (own :
       -- [the doors; the list and the hands; the strips; the words; the views; the facts]
       show ! Apart ss $ frame ! $ assume ! (‵ (Drs ss)) $ move ! (1 ∷ 0 ∷ []) $ fjoin ! $ fjoin ! $
       fpack ! (List Strip) (Listed t.parts.cells) ss $ move ! (1 ∷ 0 ∷ []) $ fjoin ! $ fjoin3 ! $
-      fpack ! (Inside R.Denot V W) (standing_in R own cv.code holds (core_of z) Any) t $ done !))
+      fpack ! (Inside R.Denot V W) (standing_in R own cv holds (core_of z) Any) t $ done !))
 
   -- one door
   module _ (q : Share) (j e : ℕ) (few : j < 32) (at : e ≡ j * 8 + o) where
@@ -111,7 +111,7 @@ module _ {M : Type 1} {𝓤 : Ura M} (𝓛 : Logic 𝓤) (R : RattleType) (own :
     -- which words they are that lie there
     abbrev pub at_door : Ptr → BaseId
     at_door w =
-        record z { place = suc j; skip = before R many; values = w; first = many; size = many }
+        record z { place = suc j; skip = before R many; values = w; first = many; size = many; bucket = 0; slots = no_strip }
 
     is_strip : (w : Ptr) (s : Strip) → Found w s → s ≡ strip_of w (at_door w)
     is_strip w s so = λ i. record {
@@ -138,7 +138,7 @@ module _ {M : Type 1} {𝓤 : Ura M} (𝓛 : Logic 𝓤) (R : RattleType) (own :
         let placed : IsPlaced R w y = (tt, all.0, tt, all.1, door) in
         check ! (subst Testable so.0 so.1.1, λ _. all) $
         rewrite ! 0 (λ (s' : Strip). ‵ (Sh s' r)) same refl $ fpack ! Share (Sh (strip_of w y)) r $
-        nothing ! $ fpack ! (IsPlaced R w y) (λ _. ftrue) placed $ fjoin ! $ done !)))
+        nothing ! $ move ! (1 ∷ 0 ∷ []) $ fjoin ! $ nothing ! $ fpack ! (IsPlaced R w y) (λ _. ftrue) placed $ fjoin ! $ done !)))
 
     pub tells_strip : InBlock z.doors → (w : Ptr) → ⟦ glimpse w ⟧ ⊢ ⟦ strip_told R w (at_door w) ⟧
     tells_strip door w = qed 𝓛 (‵ (glimpse w) ∷ []) ∵ use1 𝓛 (given (Fits w) (‵ (strip_told R w (at_door w)))) (tells_more door w) $ learn ! (λ _. done !)

@@ -5,7 +5,6 @@ use Rattle.std.specs.Prelude.{bit_or, IsSome, replicate}
 use seplogic.Ra.Ura.{Ura}
 use base.Fraction.{full_share}
 use base.Share.{quarter, three_quarters}
-use base.Stored.{Coded}
 use base.Logic.{SProp, ent, sep, ex, all, guard, upd, emp, apply∗, all_e, upd_i}
 use base.Fml.{Lft, Share, Fml, ftrue, fsep, fex, flft}
 use types.Logic.{Logic, sem}
@@ -23,7 +22,8 @@ use Rattle.seize_seats.specs.State.{State, Goes, Allows}
 use Rattle.seize_seats.specs.Lendings.{ShownToBoth}
 use Rattle.seize_seats.specs.Cells.{Body, Cell, Free, Claimed, Out, Has, Held, block_in, blocks_in, cell_at, sign_of}
 use Rattle.seize_seats.specs.Lines.{Parts, memory_of, AreLaid}
-use Rattle.seize_seats.specs.Owned.{Pieces, fact, ledger, claim_owns, Hand, hand_coded, resting, busy, held, zeros, row, stride, hand, inside, offered, lent_here, BaseId, age, IsIts, Inside, state_of, standing, inner}
+use Rattle.seize_seats.specs.Errands.{Sight, StaysSo, StayAllSo}
+use Rattle.seize_seats.specs.Owned.{Pieces, fact, sitting, claim_owns, Hand, hand_coded, resting, busy, held, zeros, row, stride, hand, inside, offered, lent_here, BaseId, age, IsIts, Inside, state_of, standing, inner}
 use Rattle.seize_seats.proofs.Cells.{recelled, laid_same, laid_with, block_is, blocks_made, blocks_set, cell_beyond}
 use Rattle.seize_seats.proofs.Numbers as Numbers
 use Rattle.seize_seats.proofs.Ledgers as Ledgers
@@ -31,7 +31,7 @@ use Rattle.seize_seats.proofs.Moves as Moves
 use Rattle.seize_seats.proofs.Hands as Hands
 use Rattle.seize_seats.proofs.Known as Known
 
-module _ {M : Type 1} {𝓤 : Ura M} (𝓛 : Logic 𝓤) (R : RattleType) (own : Pieces R.Denot) {V W : Type 0} (cv : Coded V) (holds : State R.Denot V W → Type 0) (keeps : V → V → W → ℕ
+module _ {M : Type 1} {𝓤 : Ura M} (𝓛 : Logic 𝓤) (R : RattleType) (own : Pieces R.Denot) {V W : Type 0} (cv : Sight V) (holds : State R.Denot V W → Type 0) (keeps : V → V → W → ℕ
     → Type 0) (p : Ptr) (z : BaseId) where
   open 𝓛 use {H, A}
 
@@ -53,7 +53,7 @@ module _ {M : Type 1} {𝓤 : Ura M} (𝓛 : Logic 𝓤) (R : RattleType) (own :
   α = age z
 
   abbrev I : Fml
-  I = inner R own cv.code holds p z
+  I = inner R own cv holds p z
 
   abbrev Inv : Fml
   Inv = Moves.Inv 𝓛 R own cv holds keeps p z
@@ -72,7 +72,7 @@ module _ {M : Type 1} {𝓤 : Ura M} (𝓛 : Logic 𝓤) (R : RattleType) (own :
   nth i = i - z.first
 
   abbrev pub Led : In → Fml
-  Led t = ledger cv.code z.views_name t.blank t.views
+  Led t = sitting (age z) cv z.views_name t.blank t.views
 
   abbrev seat : ℕ → V → Fml
   seat = Moves.seat 𝓛 R own cv holds keeps p z
@@ -81,7 +81,7 @@ module _ {M : Type 1} {𝓤 : Ura M} (𝓛 : Logic 𝓤) (R : RattleType) (own :
   gone_on = Moves.gone_on 𝓛 R own cv holds keeps p z
 
   abbrev pub lent : ℕ → Body R.Denot → ℕ → ℕ → Fml
-  lent = lent_here R own cv.code holds p z
+  lent = lent_here R own cv holds p z
 
   abbrev had : ℕ → ℕ → Body R.Denot → Fml
   had = Moves.had 𝓛 R own cv holds keeps p z
@@ -110,7 +110,7 @@ module _ {M : Type 1} {𝓤 : Ura M} (𝓛 : Logic 𝓤) (R : RattleType) (own :
   Sound t = holds (state_of z t) × AreLaid z.roots z.count t.parts
 
   abbrev At_inside : In → Fml
-  At_inside = standing R own cv.code holds p z
+  At_inside = standing R own cv holds p z
 
   module _ (t : In) (sound : Sound t) where
     -- another cell with the same block
@@ -301,7 +301,7 @@ module _ {M : Type 1} {𝓤 : Ura M} (𝓛 : Logic 𝓤) (R : RattleType) (own :
     pub frees : ⟦ Inv ⟧ ∗ (A.lft α q ∗ Returning) ⊢ asks 𝓛 (block_ptr b k) g always (λ n. fsep (flft α q) (due n))
     frees = Known.stepped 𝓛 R own cv holds p z q b k g due Returning (opens Returning (upd 𝓤 (ex 𝓤 Lf)) i lt returns)
 
-  abbrev back : (id : ℕ) (v : V) (t : In) (s : Parts R.Denot) (so : V → Type 0) → AreLaid z.roots z.count s → slice_get t.views id ≡ Some v
+  abbrev back : (id : ℕ) (v : V) (t : In) (s : Parts R.Denot) (so : V → Type 0) → StaysSo cv.away v so → AreLaid z.roots z.count s → slice_get t.views id ≡ Some v
       → Goes holds keeps (state_of z t) (memory_of z.roots s) id so → ⟦ Ws s.words s.cells ⟧ ∗ ⟦ Led t ⟧ ∗ ⟦ seat id v ⟧ ⊢ upd 𝓤 (⟦ I ⟧ ∗ ⟦ gone_on id so ⟧)
   back = Moves.back 𝓛 R own cv holds keeps p z
 
@@ -316,7 +316,7 @@ module _ {M : Type 1} {𝓤 : Ura M} (𝓛 : Logic 𝓤) (R : RattleType) (own :
 
   -- ---- A BLOCK IS MADE of a value in its place
   module _ (id : ℕ) (v : V) (i : ℕ) (e : Share) (x : R.Denot) (words : ℕ) (so : Op.Out R.Denot → V
-      → Type 0) (lt : IsIts z i) (small : i + 1 < 2 ^ 53) (law : Allows holds keeps id v (Make x words) so) where
+      → Type 0) (stays : StayAllSo cv.away v so) (lt : IsIts z i) (small : i + 1 < 2 ^ 53) (law : Allows holds keeps id v (Make x words) so) where
     abbrev pub body : Body R.Denot
     body = (x, replicate words 0)
 
@@ -372,7 +372,7 @@ module _ {M : Type 1} {𝓤 : Ura M} (𝓛 : Logic 𝓤) (R : RattleType) (own :
         move ! (2 ∷ []) $ use1 𝓛 (raw (Recells t i d)) (all_e 𝓤 (Recells t i) d) $ move ! (1 ∷ 0 ∷ []) $
         use2 𝓛 (‵ (Ws ws cs)) (apply∗ 𝓤 ⟦ cell_of i d ⟧ ⟦ Ws ws cs ⟧) $ move ! (0 ∷ 2 ∷ 3 ∷ []) $
         use3 𝓛 (raw (upd 𝓤 (⟦ I ⟧ ∗ ⟦ gone_on id (so (Made (Ok (i + 1)))) ⟧)))
-        (back id v t (recelled z.roots z.count t.parts g.1 i d r.0) (so (Made (Ok (i + 1)))) r.1 g.2 r.2) $
+        (back id v t (recelled z.roots z.count t.parts g.1 i d r.0) (so (Made (Ok (i + 1)))) (stays (Made (Ok (i + 1)))) r.1 g.2 r.2) $
         settle 𝓛 Published (‵ I ⊛ ‵ (gone_on id (so (Made (Ok (i + 1)))))) $ split ! $ suffices ! _ (upd_i 𝓤 Published) $
         move ! (2 ∷ []) $ rewrite ! 0 (λ (u : Share). ‵ (flft α u)) (ap (λ (h : Hand). h.1) same) refl $ move ! (1 ∷ 2 ∷ 0 ∷ []) $ done !))
     puts t g (Held ρ s x' ws) in_it is = another t (Held ρ s x' ws) (held_is_not_busy ρ s e)
@@ -430,7 +430,7 @@ module _ {M : Type 1} {𝓤 : Ura M} (𝓛 : Logic 𝓤) (R : RattleType) (own :
       keep ! (6 ∷ 1 ∷ 7 ∷ []) $ by ! (Hands.excludes 𝓛 R own cv holds p z j v k u S shows crowds t sound i ρ x Z here)
 
   -- ---- A BLOCK IS TAKEN AWAY, and its place is taken out for a share of the lifetime
-  module _ (id : ℕ) (v : V) (n : ℕ) (e : Share) (so : Op.Out R.Denot → V → Type 0) (law : Allows holds keeps id v (Take n) so) (mine : Mine n) where
+  module _ (id : ℕ) (v : V) (n : ℕ) (e : Share) (so : Op.Out R.Denot → V → Type 0) (stays : StayAllSo cv.away v so) (law : Allows holds keeps id v (Take n) so) (mine : Mine n) where
     abbrev pub Taking : Body R.Denot × List ℕ → Fml
     Taking u =
         fsep (fact ((0 < n) × IsIts z (n - 1) × (length u.1 ≡ 4)))
@@ -473,7 +473,7 @@ module _ {M : Type 1} {𝓤 : Ura M} (𝓛 : Logic 𝓤) (R : RattleType) (own :
         -- [the cell; three quarters; the contents; the others; the views; the seat]
         move ! (3 ∷ []) $ use1 𝓛 (raw (Recells t i d)) (all_e 𝓤 (Recells t i) d) $ move ! (1 ∷ 0 ∷ []) $
         use2 𝓛 (‵ (Ws ws ds)) (apply∗ 𝓤 ⟦ cell_of i d ⟧ ⟦ Ws ws ds ⟧) $ move ! (0 ∷ 3 ∷ 4 ∷ []) $
-        use3 𝓛 (raw (upd 𝓤 (⟦ I ⟧ ∗ ⟦ gone_on id told ⟧))) (back id v t (left t g) told r.0 g.2 r.1) $
+        use3 𝓛 (raw (upd 𝓤 (⟦ I ⟧ ∗ ⟦ gone_on id told ⟧))) (back id v t (left t g) told (stays (Taken th.0.0)) r.0 g.2 r.1) $
         settle 𝓛 TakenOut (‵ I ⊛ ‵ (gone_on id told)) $ split ! $ suffices ! _ (upd_i 𝓤 TakenOut) $ frame ! $
         -- [the seat; three quarters; the contents]
         move ! (1 ∷ 2 ∷ []) $ fjoin ! $ move ! (1 ∷ 0 ∷ []) $ fjoin ! $

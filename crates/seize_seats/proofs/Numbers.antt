@@ -16,16 +16,17 @@ use Rattle.seize_words.specs.Mem.{entry_in, word_at, with_word}
 use Rattle.seize_words.specs.declared.at.At.{At}
 use Rattle.seize_words.specs.declared.at.At.TheVariants.{Root, Used, Slot, Entry, Word}
 use Rattle.seize_seats.specs.Cells.{Body, Cell, Free, Claimed, Out, Has, Held, block_in, cell_at, noted_in}
-use Rattle.seize_seats.specs.Lines.{Parts, place_of, memory_of, IsWord, IsNoBlocks, AreLaid}
+use Rattle.seize_seats.specs.Lines.{Parts, long, place_of, memory_of, IsWord, IsNoBlocks, AreLaid}
 use Rattle.seize_seats.specs.Strips.{Strip, AreStrips}
 use Rattle.seize_seats.specs.Laws.{noted}
-use Rattle.seize_seats.specs.Owned.{row, stride, resting, held, hand, under, strips, listing, listed, all_strips, BaseId, age, book_of, strip_of, IsListed, IsIts, IsIn, place_in}
+use Rattle.seize_seats.specs.Owned.{row, stride, resting, held, hand, under, strips, listing, listed, all_strips, ground, BaseId, age, core_of, book_of, strip_of, IsListed, IsIts, IsIn, place_in}
 use Rattle.seize_seats.proofs.Cells.{entries_lie, entries_are_apart, own_lies, get_some}
 use Rattle.seize_seats.proofs.Columns.{words_lie, words_are_apart}
 use Rattle.seize_seats.proofs.Rows.{row_at}
 use Rattle.seize_seats.proofs.Rows as Rows
 use Rattle.seize_seats.proofs.Strips.{strip_within}
 use Rattle.seize_seats.proofs.Strips as Strips
+use Rattle.seize_seats.proofs.Grounds as Grounds
 
 module _ {M : Type 1} {𝓤 : Ura M} (𝓛 : Logic 𝓤) (R : RattleType) (p : Ptr) (z : BaseId) (lent : ℕ → Body R.Denot → ℕ → ℕ → Fml) (had : ℕ → ℕ → Body R.Denot → Fml) where
   abbrev ⟦◌⟧ : Fml → SProp 𝓤
@@ -55,7 +56,7 @@ module _ {M : Type 1} {𝓤 : Ura M} (𝓛 : Logic 𝓤) (R : RattleType) (p : P
   All cs = all_strips R α z.hands_name lent had (book_of z) (IsListed p z) cs
 
   abbrev Fixed : List ℕ → Fml
-  Fixed ws = row (block_of z.fixed) (count_of z.fixed) ws
+  Fixed ws = ground (core_of z) ws
 
   abbrev pub Ws : List ℕ → List (Cell R.Denot) → Fml
   Ws ws cs = fsep (Fixed ws) (All cs)
@@ -107,16 +108,18 @@ module _ {M : Type 1} {𝓤 : Ura M} (𝓛 : Logic 𝓤) (R : RattleType) (p : P
     abbrev Opens : At → ℕ → ℕ → Type 1
     Opens at e w = ent 𝓤 ⟦ Ws s.words s.cells ⟧ (sep 𝓤 ⟦ word b e w ⟧ (all 𝓤 (Rewrites s at e)))
 
-    fixed : (at : At) (e w : ℕ) → IsNoBlocks at → z.fixed ≡ p → word_at (memory_of z.roots s) at ≡ Some w → e ≡ place_of z.roots at * 8 + o → Opens at e w
-    fixed at e w free first is at_e =
+    -- one that lies before the words of the first strip
+    fixed : (at : At) (e w : ℕ) → IsNoBlocks at → place_of z.roots at < long z.roots → z.fixed ≡ p → word_at (memory_of z.roots s) at ≡ Some w
+        → e ≡ place_of z.roots at * 8 + o → Opens at e w
+    fixed at e w free low first is at_e =
         let ws : List ℕ = s.words in let i : ℕ = place_of z.roots at in let l = words_lie R.Denot z.roots z.count s at w laid free is in
-        let P = Rows.Puts 𝓛 b o ws i e in let At : Ptr → List ℕ → Fml = λ r us. row (block_of r) (count_of r) us in
-        qed 𝓛 (‵ (Fixed ws) ∷ ‵ (All s.cells) ∷ []) ∵ rewrite ! 0 (λ (r : Ptr). ‵ (At r ws)) first refl $
-        use1 𝓛 (‵ (word b e (get_or ws i 0)) ⊛ raw (all 𝓤 P)) (row_at 𝓛 b ws o i e at_e l.1) $ split ! $
-        rewrite ! 0 (λ (k : ℕ). ‵ (word b e k)) l.2 refl $ frame ! $
+        let c : ℕ = block_of z.fixed in let P = Grounds.Sets 𝓛 (core_of z) ws i c e in let there : e ≡ i * 8 + count_of z.fixed = at_e ∙ ap (λ (r : Ptr). i * 8 + count_of r) (sym first) in
+        qed 𝓛 (‵ (Fixed ws) ∷ ‵ (All s.cells) ∷ []) ∵
+        use1 𝓛 (‵ (word c e (get_or ws i 0)) ⊛ raw (all 𝓤 P)) (Grounds.ground_at 𝓛 (core_of z) ws i e low laid.all there) $ split ! $
+        rewrite ! 0 (λ (k : ℕ). ‵ (word c e k)) l.2 refl $ rewrite ! 0 (λ (r : Ptr). ‵ (word (block_of r) e w)) first refl $ frame ! $
         each ! (Rewrites s at e) (λ y. use1 𝓛 (raw (P y)) (all_e 𝓤 P y) $ assume ! (‵ (word b e y)) $
-        use2 𝓛 (‵ (row b o (set ws i y))) (apply∗ 𝓤 ⟦ word b e y ⟧ ⟦ row b o (set ws i y) ⟧) $
-        rewrite ! 0 (λ (r : Ptr). ‵ (At r (set ws i y))) (sym first) refl $
+        rewrite ! 0 (λ (r : Ptr). ‵ (word (block_of r) e y)) (sym first) refl $
+        use2 𝓛 (‵ (Fixed (set ws i y))) (apply∗ 𝓤 ⟦ word c e y ⟧ ⟦ Fixed (set ws i y) ⟧) $
         let a = words_are_apart R.Denot z.roots z.count s at w y laid free is in
         show ! (Rewritten s at y) (record { words = set ws i y; slots = s.slots; cells = s.cells; given = s.given }) $ check ! (a.0, a.1) $ fjoin ! $ done !)
 
@@ -166,9 +169,12 @@ module _ {M : Type 1} {𝓤 : Ura M} (𝓛 : Logic 𝓤) (R : RattleType) (p : P
 
     -- THE WORD OF A NAME, and what takes another one in its place
     pub word_opens : (at : At) (e w : ℕ) → IsIn p z at → word_at (memory_of z.roots s) at ≡ Some w → e ≡ place_in z at * 8 + o → Opens at e w
-    word_opens (Root r) e w of is at_e = fixed (Root r) e w tt of is at_e
-    word_opens (Used r) e w of is at_e = fixed (Used r) e w tt of is at_e
-    word_opens (Slot n g) e w of is at_e = fixed (Slot n g) e w tt of is at_e
+    word_opens (Root r) e w of is at_e =
+        let lt : r < z.roots = (words_lie R.Denot z.roots z.count s (Root r) w laid tt is).0 in fixed (Root r) e w tt (omega (arith, lt)) of is at_e
+    word_opens (Used r) e w of is at_e =
+        let lt : r < z.roots = (words_lie R.Denot z.roots z.count s (Used r) w laid tt is).0 in fixed (Used r) e w tt (omega (arith, lt)) of is at_e
+    word_opens (Slot n g) e w of is at_e =
+        let few = of.0 in let low = (words_lie R.Denot z.roots z.count s (Slot n g) w laid tt is).0.1 in fixed (Slot n g) e w tt (omega (arith, few, low)) of.1 is at_e
     word_opens (Entry n i) e w of is at_e = entry n i e w of is at_e
     word_opens (Word n i) e w of is at_e = absurd of
 

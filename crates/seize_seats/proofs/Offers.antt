@@ -2,7 +2,6 @@
 use Rattle.std.specs.Prelude.{slice_get, replicate}
 use Rattle.std.proofs.Common.{◌≡◌, ◌⊎◌, inl, inr, ℕ, zero, suc, ◌+◌, ◌*◌, ◌<◌, ◌≤◌, Bool, true, false, List, [], ◌∷◌, ◌++◌, length, sym, refl, subst, arith, Some, None, lit<}
 use seplogic.Ra.Ura.{Ura}
-use base.Stored.{Coded}
 use base.Logic.{SProp, ent, sep, wand, ex, all, upd, apply∗, all_e, upd_i}
 use base.Fml.{Lft, Share, Fml, ftrue, fsep, flft, fbor, finv}
 use types.Logic.{Logic, sem}
@@ -13,6 +12,7 @@ use denote.Steps.{nothing}
 use Rattle.core.specs.Sync.RawAtomic.Pointer.{cell, alike, compares}
 use Rattle.core.proofs.raw_atomic.Asked.{borrowed_compares, Compared, alike_null}
 use Rattle.seize_words.specs.Mem.{Mem}
+use Rattle.seize_seats.specs.Errands.{Sight}
 use Rattle.seize_seats.specs.State.{State}
 use Rattle.seize_seats.specs.Seen.{seen}
 use Rattle.seize_seats.specs.Cells.{Body, Cell}
@@ -20,7 +20,7 @@ use Rattle.seize_seats.specs.Lines.{memory_of, AreLaid}
 use Rattle.seize_seats.specs.Strips.{Strip, strip_coded, no_strip, further, AreStrips}
 use Rattle.seize_seats.specs.Doors.{IsFurther, right_to, stays, behind, door}
 use Rattle.seize_seats.specs.Stretches.{IsEven}
-use Rattle.seize_seats.specs.Owned.{Pieces, row, ledger, unborn, hand_coded, resting, places, strips, doors_of, listed, BaseId, Inside, age, core_of, book_of, lent_here, had_here, standing_in, everything, told}
+use Rattle.seize_seats.specs.Owned.{Pieces, row, ground, ledger, sitting, unborn, hand_coded, resting, places, strips, doors_of, listed, BaseId, Inside, age, core_of, book_of, lent_here, had_here, standing_in, everything, told}
 use Rattle.seize_seats.proofs.Stretches as Stretches
 use Rattle.seize_seats.proofs.Ledgers as Ledgers
 use Rattle.seize_seats.proofs.Doors as Doors
@@ -49,7 +49,7 @@ further_more : (ss : List Strip) (s : Strip) (j : ℕ) → length ss ≡ suc j �
 further_more [] s j long = absurd (omega (arith, long))
 further_more (x ∷ ss) s j long = refl
 
-module _ {M : Type 1} {𝓤 : Ura M} (𝓛 : Logic 𝓤) (R : RattleType) (own : Pieces R.Denot) {V W : Type 0} (cv : Coded V) (holds : State R.Denot V W → Type 0) (p : Ptr) (z : BaseId) where
+module _ {M : Type 1} {𝓤 : Ura M} (𝓛 : Logic 𝓤) (R : RattleType) (own : Pieces R.Denot) {V W : Type 0} (cv : Sight V) (holds : State R.Denot V W → Type 0) (p : Ptr) (z : BaseId) where
   open 𝓛 use {H, A}
 
   abbrev Pr : Type 2
@@ -70,10 +70,10 @@ module _ {M : Type 1} {𝓤 : Ura M} (𝓛 : Logic 𝓤) (R : RattleType) (own :
   α = age z
 
   abbrev E : Fml
-  E = everything R own cv.code holds (core_of z)
+  E = everything R own cv holds (core_of z)
 
   abbrev Inv : Fml
-  Inv = told R own cv.code holds p z
+  Inv = told R own cv holds p z
 
   abbrev b : ℕ
   b = block_of z.doors
@@ -91,10 +91,10 @@ module _ {M : Type 1} {𝓤 : Ura M} (𝓛 : Logic 𝓤) (R : RattleType) (own :
   Drs us = doors_of R (book_of z) us
 
   abbrev Lt : ℕ → Body R.Denot → ℕ → ℕ → Fml
-  Lt = lent_here R own cv.code holds p z
+  Lt = lent_here R own cv holds p z
 
   abbrev Hd : ℕ → ℕ → Body R.Denot → Fml
-  Hd = had_here R own cv.code holds p z
+  Hd = had_here R own cv holds p z
 
   abbrev Any : List Strip → Type 0
   Any ss = Unit {0}
@@ -106,10 +106,10 @@ module _ {M : Type 1} {𝓤 : Ura M} (𝓛 : Logic 𝓤) (R : RattleType) (own :
   Hands n = unborn hand_coded.code z.hands_name n resting
 
   abbrev Fixed : List ℕ → Fml
-  Fixed ws = row (block_of z.fixed) (count_of z.fixed) ws
+  Fixed ws = ground (core_of z) ws
 
   abbrev Views : Inside R.Denot V W → Fml
-  Views t = ledger cv.code z.views_name t.blank t.views
+  Views t = sitting (age z) cv z.views_name t.blank t.views
 
   abbrev All : List Strip → List (Cell R.Denot) → Fml
   All ss cs = strips R α z.hands_name Lt Hd ss cs
@@ -124,7 +124,7 @@ module _ {M : Type 1} {𝓤 : Ura M} (𝓛 : Logic 𝓤) (R : RattleType) (own :
       nothing ! $ fpack ! (AreStrips 0 ss (length t.parts.cells) × Unit {0}) (λ _. ftrue) (are, tt) $ move ! (1 ∷ 0 ∷ 2 ∷ []) $ fjoin3 ! $
       fpack ! (List Strip) (listed R α z.hands_name Lt Hd (book_of z) Any t.parts.cells) ss $ move ! (1 ∷ 0 ∷ []) $ fjoin ! $
       nothing ! $ fpack ! (holds record { memory = memory_of z.roots t.parts; views = t.views; world = t.world } × AreLaid z.roots z.count t.parts) (λ _. ftrue) sound $
-      move ! (1 ∷ 2 ∷ 0 ∷ []) $ fjoin3 ! $ fpack ! (Inside R.Denot V W) (standing_in R own cv.code holds (core_of z) Any) t $ done !
+      move ! (1 ∷ 2 ∷ 0 ∷ []) $ fjoin3 ! $ fpack ! (Inside R.Denot V W) (standing_in R own cv holds (core_of z) Any) t $ done !
 
   -- A strip s is offered at the j-th door. The one before it is there, and its numbers end where those of s begin.
   module _ (q : Share) (j e : ℕ) (few : j < 32) (at : e ≡ j * 8 + o) (s : Strip) (is : Is j s) (before : Strip)
@@ -238,7 +238,7 @@ module _ {M : Type 1} {𝓤 : Ura M} (𝓛 : Logic 𝓤) (R : RattleType) (own :
           -- [the strips; it stays; the first words; the views]
           fpack ! (List Strip) (listed R α z.hands_name Lt Hd (book_of z) Any grown.parts.cells) us $ move ! (2 ∷ 0 ∷ []) $ fjoin ! $
           nothing ! $ fpack ! (holds record { memory = memory_of z.roots grown.parts; views = t.views; world = t.world } × AreLaid z.roots z.count grown.parts) (λ _. ftrue) (still, laid.0) $
-          move ! (1 ∷ 3 ∷ 0 ∷ []) $ fjoin3 ! $ fpack ! (Inside R.Denot V W) (standing_in R own cv.code holds (core_of z) Any) grown $ frame ! $
+          move ! (1 ∷ 3 ∷ 0 ∷ []) $ fjoin3 ! $ fpack ! (Inside R.Denot V W) (standing_in R own cv holds (core_of z) Any) grown $ frame ! $
           rewrite ! 0 (λ (k : ℕ). ‵ (stays σ k s)) long refl $ done !
 
     -- the list shows the one before

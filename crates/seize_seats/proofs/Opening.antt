@@ -1,11 +1,10 @@
 -- Words that are 0 and places without a value go under a rule that holds of them, and come back at the end. Assumes `Logic`.
-use Rattle.std.specs.Prelude.{slice_index, slice_get, replicate}
+use Rattle.std.specs.Prelude.{slice_index, slice_get, replicate, map}
 use Rattle.std.proofs.Common.{◌≡◌, ℕ, zero, suc, ◌+◌, ◌*◌, ◌≤◌, false, List, [], ◌∷◌, ◌++◌, length, take, drop, refl, sym, ap, ◌∙◌, subst, inl, arith, Option, None, Some, length-append}
-use Rattle.std.proofs.lemmas.List.{length-replicate, length-take-le, length-drop, take_all}
+use Rattle.std.proofs.lemmas.List.{length-replicate, length-take-le, length-drop, take_all, take-append-le, drop-append-le}
 use seplogic.Ra.Ura.{Ura}
 use base.Fraction.{full_share}
 use base.Share.{three_quarters}
-use base.Stored.{Coded}
 use base.Logic.{SProp, ent, sep, ex, guard, via, never, never_e, emp}
 use base.Fml.{Lft, Share, Fml, ftrue, fsep, fbor, fdead}
 use types.Logic.{Logic, sem}
@@ -18,20 +17,27 @@ use denote.RawPtr.{Ptr, null_ptr, block_of, count_of}
 use denote.Steps.{nothing}
 use Rattle.core.specs.Sync.RawAtomic.{word}
 use Rattle.seize_words.specs.declared.block.Block.{Block}
+use Rattle.seize_seats.specs.Errands.{Sight}
 use Rattle.seize_seats.specs.State.{State, Starts}
 use Rattle.seize_seats.specs.Cells.{Body, Cell, Free, Claimed, Out, Has, Held, block_in, cell_at, sign_of}
 use Rattle.seize_seats.specs.Lines.{Parts, column, long, whole, memory_of, AreLaid}
 use Rattle.seize_seats.specs.Strips.{Strip, strip_coded, no_strip, further, AreStrips}
+use Rattle.seize_seats.specs.Buckets.{IsBucket}
 use Rattle.seize_seats.specs.Doors.{pointers, IsFurther, right_to, AreBehind}
 use Rattle.seize_seats.specs.Seen.{seen, fact}
-use Rattle.seize_seats.specs.Owned.{piece_in, pieces, piece, Pieces, row, unborn, ledger, shared_view, hand_coded, resting, zeros, stride, place, places, AreOf, stripped, all_alone, hand, kept, under, numbers, strips, doors_of, listed, BaseId, age, core_of, book_of, strip_of, IsFirst, Inside, state_of, IsPlaced, standing_in, inner, everything, lent_here, had_here, words_own}
+use Rattle.seize_seats.specs.Owned.{bucket_pieces, piece_in, pieces, piece, Pieces, row, ground, unborn, ledger, sitting, shared_view, hand_coded, resting, zeros, stride, place, places, AreOf, stripped, all_alone, hand, kept, under, numbers, strips, doors_of, listed, BaseId, age, core_of, book_of, strip_of, IsFirst, Inside, state_of, IsPlaced, standing_in, inner, everything, lent_here, had_here, words_own}
 use Rattle.seize_seats.specs.Stretches.{IsEven, invariant}
 use Rattle.seize_seats.proofs.Ledgers as Ledgers
+use Rattle.seize_seats.proofs.Sitters as Sitters
 use Rattle.seize_seats.proofs.Stretches as Stretches
 use Rattle.seize_seats.proofs.Pieces as Pieces
 use Rattle.seize_seats.proofs.Strips.{strips_up, strip_within}
 use Rattle.seize_seats.proofs.Doors as Doors
+use Rattle.seize_seats.proofs.Doors.{pointers_split, pointers_join}
+use Rattle.seize_seats.proofs.Rows.{row_splits, row_joins}
+use Rattle.seize_seats.proofs.Grounds.{drop_none}
 use Rattle.seize_seats.proofs.Known as Known
+use Rattle.seize_seats.proofs.Grounds as Grounds
 
 -- each word is 0
 abbrev pub AreZeros : List ℕ → Type 0
@@ -61,18 +67,6 @@ fives_are (suc n) (a ∷ b ∷ c ∷ d ∷ e ∷ ws) l none =
 pub fives_long : (n : ℕ) → length (fives n) ≡ n * 5
 fives_long zero = refl
 fives_long (suc n) = let r = fives_long n in omega (arith, r)
-
-module _ {M : Type 1} {𝓤 : Ura M} (𝓛 : Logic 𝓤) (b : ℕ) where
-  pub row_splits : (xs ys : List ℕ) (o e : ℕ) → e ≡ length xs * 8 + o → ent 𝓤 (sem 𝓛 (row b o (xs ++ ys))) (sep 𝓤 (sem 𝓛 (row b o xs)) (sem 𝓛 (row b e ys)))
-  row_splits [] ys o e is = let here : o ≡ e = omega (arith, is) in qed 𝓛 (‵ (row b o ys) ∷ []) ∵ rewrite ! 0 (λ (k : ℕ). ‵ (row b k ys)) here refl $ nothing ! $ done !
-  row_splits (x ∷ xs) ys o e is = qed 𝓛 (‵ (word b o x) ∷ ‵ (row b (o + 8) (xs ++ ys)) ∷ []) ∵ move ! (1 ∷ []) $
-      use1 𝓛 (‵ (row b (o + 8) xs) ⊛ ‵ (row b e ys)) (row_splits xs ys (o + 8) e (omega (arith, is))) $ split ! $ move ! (2 ∷ 0 ∷ []) $ fjoin ! $ done !
-
-  pub row_joins : (xs ys : List ℕ) (o e : ℕ) → e ≡ length xs * 8 + o → ent 𝓤 (sep 𝓤 (sem 𝓛 (row b o xs)) (sem 𝓛 (row b e ys))) (sem 𝓛 (row b o (xs ++ ys)))
-  row_joins [] ys o e is = let here : e ≡ o = omega (arith, is) in qed 𝓛 (‵ ftrue ∷ ‵ (row b e ys) ∷ []) ∵
-      rewrite ! 1 (λ (k : ℕ). ‵ (row b k ys)) here refl $ move ! (1 ∷ []) $ keep ! (0 ∷ []) $ done !
-  row_joins (x ∷ xs) ys o e is = qed 𝓛 ((‵ (word b o x) ⊛ ‵ (row b (o + 8) xs)) ∷ ‵ (row b e ys) ∷ []) ∵ split ! $ move ! (1 ∷ 2 ∷ []) $
-      use2 𝓛 (‵ (row b (o + 8) (xs ++ ys))) (row_joins xs ys (o + 8) e (omega (arith, is))) $ move ! (1 ∷ 0 ∷ []) $ fjoin ! $ done !
 
 -- a block under one of the first numbers, or under one of the others, is there
 module _ {T : Type 0} where
@@ -273,15 +267,15 @@ zeros_are zero m ws l none = fives_are m ws (omega (arith, l)) none
 zeros_are (suc n) m [] l none = absurd (omega (arith, l))
 zeros_are (suc n) m (a ∷ ws) l none = let first : a ≡ 0 = none 0 in let rest = zeros_are n m ws (omega (arith, l)) (λ k. none (suc k)) in cc (first, rest)
 
-module _ {M : Type 1} {𝓤 : Ura M} (𝓛 : Logic 𝓤) (R : RattleType) (own : Pieces R.Denot) {V W : Type 0} (cv : Coded V) (holds : State R.Denot V W → Type 0) (p pv dp : Ptr) where
+module _ {M : Type 1} {𝓤 : Ura M} (𝓛 : Logic 𝓤) (R : RattleType) (own : Pieces R.Denot) {V W : Type 0} (cv : Sight V) (holds : State R.Denot V W → Type 0) (p pv dp : Ptr) where
   open 𝓛 use {H, A}
 
   abbrev ⟦◌⟧ : Fml → SProp 𝓤
   ⟦ P ⟧ = sem 𝓛 P
 
   -- which words these are, but for names: those of roots and slots, and of the first strip
-  abbrev pub named : ℕ → ℕ → ℕ → ℕ → ℕ → ℕ → ℕ → BaseId
-  named a γ δ σ roots count most = record {
+  abbrev pub named : ℕ → ℕ → ℕ → ℕ → ℕ → ℕ → ℕ → ℕ → BaseId
+  named a γ δ σ ε roots count most = record {
     atom = a;
     views_name = γ;
     hands_name = δ;
@@ -296,12 +290,15 @@ module _ {M : Type 1} {𝓤 : Ura M} (𝓛 : Logic 𝓤) (R : RattleType) (own :
     size = count;
     doors = dp;
     least = count;
+    slots_name = ε;
+    bucket = 0;
+    slots = no_strip;
   }
 
-  module _ (roots count most : ℕ) (within : count ≤ most) (blank : V) (ws : List ℕ) (none : AreZeros ws) (all : length ws ≡ whole roots count) (placed : IsPlaced R p (named 0 0 0 0 roots count most))
+  module _ (roots count most : ℕ) (within : count ≤ most) (blank : V) (ws : List ℕ) (none : AreZeros ws) (all : length ws ≡ whole roots count) (placed : IsPlaced R p (named 0 0 0 0 0 roots count most))
       (starts : Starts holds roots) where
     abbrev pub Opened : BaseId → SProp 𝓤
-    Opened z = guard 𝓤 ((z.roots ≡ roots) × (z.count ≡ most) × (z.values ≡ pv) × (z.size ≡ count) × (z.least ≡ count) × (z.doors ≡ dp) × IsFirst p z) ⟦ words_own R own cv.code holds p z ⟧
+    Opened z = guard 𝓤 ((z.roots ≡ roots) × (z.count ≡ most) × (z.values ≡ pv) × (z.size ≡ count) × (z.least ≡ count) × (z.doors ≡ dp) × IsFirst p z) ⟦ words_own R own cv holds p z ⟧
 
     abbrev parts : Parts R.Denot
     parts = record { words = replicate (long roots) 0; slots = 0; cells = replicate count Free; given = 0 }
@@ -311,8 +308,8 @@ module _ {M : Type 1} {𝓤 : Ura M} (𝓛 : Logic 𝓤) (R : RattleType) (own :
 
     laid : AreLaid roots most parts
     laid = record {
-      all = length-replicate (long roots) 0;
-      slots_are = inl (refl, λ k le. zeros_of (long roots) k);
+      all = let l = length-replicate {A = ℕ} (long roots) 0 in omega (arith, l);
+      slots_are = inl (refl, length-replicate (long roots) 0, λ k le. zeros_of (long roots) k);
       counted = let l = length-replicate {A = Cell R.Denot} count Free in omega (arith, l, within);
       within = omega arith;
       rest = λ k le. ap block_in (frees_of count k);
@@ -336,29 +333,40 @@ module _ {M : Type 1} {𝓤 : Ura M} (𝓛 : Logic 𝓤) (R : RattleType) (own :
     all_free = replicate count Free
 
     pub opens : ent 𝓤 (sep 𝓤 ⟦ row (block_of p) (count_of p) ws ⟧ (sep 𝓤 ⟦ places R (block_of pv) (count_of pv) (replicate count None) ⟧
-        ⟦ pointers (block_of dp) (count_of dp) (replicate 32 null_ptr) ⟧)) (H.⇛ (ex 𝓤 Opened))
+        ⟦ pointers (block_of dp) (count_of dp) (replicate 32 null_ptr ++ replicate 32 null_ptr) ⟧)) (H.⇛ (ex 𝓤 Opened))
     opens = let b : ℕ = block_of p in let o : ℕ = count_of p in let b' : ℕ = block_of pv in let o' : ℕ = count_of pv in let f : ℕ = long roots * 8 + o in
         let head : List ℕ = replicate (long roots) 0 in let l = length-replicate {A = ℕ} (long roots) 0 in
         let many = length-replicate {A = Cell R.Denot} count Free in let same : take count all_free ≡ all_free = take_all count all_free (omega (arith, many)) in
         let db : ℕ = block_of dp in let d₀ : ℕ = count_of dp in
-        qed 𝓛 (‵ (row b o ws) ∷ ‵ (places R b' o' (replicate count None)) ∷ ‵ (pointers db d₀ (replicate 32 null_ptr)) ∷ []) ∵ updating ! $ lft_new ! tt (λ a. let α : Lft = a ∷ [] in
-        use0 𝓛 (later (items (λ (γ : ℕ). ‵ (ledger cv.code γ blank [])))) (via 𝓤 _ (Ledgers.begins 𝓛 cv 0 blank)
-        (basic 𝓛 (ex 𝓤 (λ (γ : ℕ). ⟦ ledger cv.code γ blank [] ⟧)))) $ await ! tt $ pick ! (λ γ.
+        let Nulls : Fml = pointers db d₀ (replicate 32 null_ptr) in let More : Fml = pointers db (256 + d₀) (replicate 32 null_ptr) in
+        qed 𝓛 (‵ (row b o ws) ∷ ‵ (places R b' o' (replicate count None)) ∷ ‵ (pointers db d₀ (replicate 32 null_ptr ++ replicate 32 null_ptr)) ∷ []) ∵ updating ! $ lft_new ! tt (λ a. let α : Lft = a ∷ [] in
+        use0 𝓛 (later (items (λ (γ : ℕ). ‵ (sitting α cv γ blank [])))) (via 𝓤 _ (Sitters.begins 𝓛 α cv 0 blank)
+        (basic 𝓛 (ex 𝓤 (λ (γ : ℕ). ⟦ sitting α cv γ blank [] ⟧)))) $ await ! tt $ pick ! (λ γ.
         use0 𝓛 (later (items (λ (δ : ℕ). ‵ (unborn hand_coded.code δ 0 resting)))) hands_new $ await ! tt $ pick ! (λ δ.
         use0 𝓛 (later (items (λ (σ : ℕ). ‵ (ledger strip_coded.code σ no_strip [])))) (via 𝓤 _ (Ledgers.begins 𝓛 strip_coded 0 no_strip)
         (basic 𝓛 (ex 𝓤 (λ (σ : ℕ). ⟦ ledger strip_coded.code σ no_strip [] ⟧)))) $ await ! tt $ pick ! (λ σ.
-        let z : BaseId = named a γ δ σ roots count most in let E : Fml = everything R own cv.code holds (core_of z) in let s : Strip = strip_of p z in
+        use0 𝓛 (later (items (λ (ε : ℕ). ‵ (ledger strip_coded.code ε no_strip [])))) (via 𝓤 _ (Ledgers.begins 𝓛 strip_coded 0 no_strip)
+        (basic 𝓛 (ex 𝓤 (λ (ε : ℕ). ⟦ ledger strip_coded.code ε no_strip [] ⟧)))) $ await ! tt $ pick ! (λ ε.
+        let Bs : Fml = ledger strip_coded.code ε no_strip (no_strip ∷ []) in
+        use1 𝓛 (later (‵ Bs ⊛ ‵ (seen strip_coded.code ε three_quarters 0 no_strip))) (via 𝓤 _ (Ledgers.comes 𝓛 strip_coded ε no_strip [] no_strip) (basic 𝓛 _)) $
+        await ! tt $ split ! $ move ! (1 ∷ []) $ leave ! $
+        -- [the list of the buckets; that of the strips; the hands; the views; the token; the words; the places; the doors]
+        move ! (7 ∷ []) $ use1 𝓛 (‵ Nulls ⊛ ‵ More) (pointers_split 𝓛 db (replicate 32 null_ptr) (replicate 32 null_ptr) d₀ (256 + d₀) refl) $ split ! $
+        -- [the doors; those of buckets; the list of the buckets; that of the strips; the hands; the views; the token; the words; the places]
+        move ! (3 ∷ 4 ∷ 5 ∷ 6 ∷ 7 ∷ 8 ∷ 0 ∷ 1 ∷ 2 ∷ []) $
+        let z : BaseId = named a γ δ σ ε roots count most in let E : Fml = everything R own cv holds (core_of z) in let s : Strip = strip_of p z in
         let Drs : Fml = doors_of R (book_of z) [] in
         let Book : Fml = ledger strip_coded.code σ no_strip (s ∷ []) in let Sh : Share → Fml = λ q. seen strip_coded.code σ q 0 s in
-        let Lt = lent_here R own cv.code holds p z in let Hd = had_here R own cv.code holds p z in
+        let Lt = lent_here R own cv holds p z in let Hd = had_here R own cv holds p z in
         let N : List (Cell R.Denot) → Fml = λ cs. numbers R α δ Lt Hd b f b' o' 0 cs in
         use1 𝓛 (later (‵ Book ⊛ ‵ (Sh three_quarters))) (via 𝓤 _ (Ledgers.comes 𝓛 strip_coded σ no_strip [] s) (basic 𝓛 _)) $ await ! tt $ split ! $
         move ! (1 ∷ []) $ fpack ! Share Sh three_quarters $
-        -- [the strip; the list; the hands; the views; the token; the words; the places; the doors]
+        -- [the strip; the list; the hands; the views; the token; the words; the places; the doors; those of buckets; their list]
         move ! (7 ∷ []) $ use1 𝓛 (‵ Drs) (Doors.nulls 𝓛 σ (IsFurther R count) (right_to R) db 32 d₀ 0) $ move ! (1 ∷ 2 ∷ 3 ∷ 4 ∷ 5 ∷ 6 ∷ 7 ∷ 0 ∷ []) $
         move ! (5 ∷ []) $ rewrite ! 0 (λ (us : List ℕ). ‵ (row b o us)) (zeros_are (long roots) count ws all none) refl $
         use1 𝓛 (‵ (row b o head) ⊛ ‵ (row b f (fives count))) (row_splits 𝓛 b head (fives count) o f (omega (arith, l))) $ split ! $
-        -- [the first words; the others; the strip; the list; the hands; the views; the token; the places; the doors]
+        -- [the first words; the others; the strip; the list; the hands; the views; the token; the places; the doors; those of buckets; their list]
+        move ! (0 ∷ 10 ∷ 9 ∷ []) $ use3 𝓛 (‵ (ground (core_of z) head)) (Grounds.ground_begins 𝓛 (core_of z) head l) $
         move ! (1 ∷ 7 ∷ 4 ∷ []) $ use3 𝓛 (‵ (N all_free) ⊛ ‵ (unborn hand_coded.code δ count resting)) (builds 𝓛 R α δ Lt Hd b b' count 0 count f o' (omega arith)) $ split ! $
         rewrite ! 0 (λ (cs : List (Cell R.Denot)). ‵ (N cs)) (sym same) refl $
         rewrite ! 1 (λ (n : ℕ). ‵ (unborn hand_coded.code δ n resting)) (sym many) refl $
@@ -371,23 +379,29 @@ module _ {M : Type 1} {𝓤 : Ura M} (𝓛 : Logic 𝓤) (R : RattleType) (own :
         move ! (4 ∷ 0 ∷ 1 ∷ []) $ fjoin3 ! $ fpack ! (List Strip) (listed R α δ Lt Hd (book_of z) (λ _. Unit {0}) all_free) (s ∷ []) $ move ! (1 ∷ 0 ∷ []) $ fjoin ! $
         -- [the memory; the strip; the views; the token]
         nothing ! $ fpack ! (holds (state_of z first) × AreLaid z.roots z.count parts) (λ _. ftrue) (begins, laid) $ move ! (1 ∷ 3 ∷ 0 ∷ []) $ fjoin3 ! $
-        fpack ! (Inside R.Denot V W) (standing_in R own cv.code holds (core_of z) (λ _. Unit {0})) first $
+        fpack ! (Inside R.Denot V W) (standing_in R own cv holds (core_of z) (λ _. Unit {0})) first $
         bor_new ! tt α $ use1 𝓛 (later (‵ (invariant IsEven (fbor α E)))) (Stretches.made 𝓛 IsEven (fbor α E) Stretches.evens) $ await ! tt $
         -- [the invariant; what was lent; the strip; the token]
-        move ! (2 ∷ 0 ∷ []) $ fjoin ! $
+        move ! (2 ∷ []) $ nothing ! $ move ! (1 ∷ 0 ∷ []) $ fjoin ! $ move ! (0 ∷ 1 ∷ []) $ fjoin ! $
         nothing ! $ fpack ! (IsPlaced R p z) (λ _. ftrue) placed $ move ! (0 ∷ 1 ∷ []) $ fjoin ! $ move ! (0 ∷ 1 ∷ []) $ fjoin ! $ move ! (1 ∷ 0 ∷ []) $ fjoin ! $
-        now ! $ show ! Opened z $ check ! (refl, refl, refl, refl, refl, refl, (refl, refl, refl, refl)) $ done !))))
+        now ! $ show ! Opened z $ check ! (refl, refl, refl, refl, refl, refl, (refl, refl, refl, refl)) $ done !)))))
 
   module _ (z : BaseId) (is : IsFirst p z) where
-    abbrev pub AreClosed : List ℕ × List (Option R.Denot) × List Ptr × List Strip → Type 0
-    AreClosed u =
-        (length u.0 ≡ whole z.roots z.size) × (length u.1 ≡ z.size) × (length u.2 ≡ 32) × IsPlaced R p z × AreBehind (IsFurther R z.least) 0 u.3 u.2
+    -- the words, the places, the doors, the further strips, and the further buckets of slots
+    abbrev pub Back : Type 0
+    Back = List ℕ × List (Option R.Denot) × List Ptr × List Strip × List Strip
 
-    abbrev pub Closed : List ℕ × List (Option R.Denot) × List Ptr × List Strip → SProp 𝓤
+    abbrev pub AreClosed : Back → Type 0
+    AreClosed u =
+        (length u.0 ≡ whole z.roots z.size) × (length u.1 ≡ z.size) × (length u.2 ≡ 64) × IsPlaced R p z
+        × AreBehind (IsFurther R z.least) 0 u.3 (take 32 u.2) × AreBehind IsBucket 0 u.4 (drop 32 u.2)
+
+    abbrev pub Closed : Back → SProp 𝓤
     Closed u =
         guard 𝓤 (AreClosed u)
         (sep 𝓤 ⟦ row (block_of p) (count_of p) u.0 ⟧ (sep 𝓤 ⟦ places R (block_of z.values) (count_of z.values) u.1 ⟧
-        (sep 𝓤 ⟦ pointers (block_of z.doors) (count_of z.doors) u.2 ⟧ (sep 𝓤 ⟦ all_alone R own false u.3 ⟧ ⟦ pieces own u.1 ⟧))))
+        (sep 𝓤 ⟦ pointers (block_of z.doors) (count_of z.doors) u.2 ⟧ (sep 𝓤 ⟦ all_alone R own false u.3 ⟧
+        (sep 𝓤 ⟦ pieces own u.1 ⟧ ⟦ pieces bucket_pieces (map Some u.4) ⟧)))))
 
     abbrev Drs : List Strip → Fml
     Drs ss = doors_of R (book_of z) ss
@@ -396,19 +410,20 @@ module _ {M : Type 1} {𝓤 : Ura M} (𝓛 : Logic 𝓤) (R : RattleType) (own :
     α = age z
 
     abbrev Lt : ℕ → Body R.Denot → ℕ → ℕ → Fml
-    Lt = lent_here R own cv.code holds p z
+    Lt = lent_here R own cv holds p z
 
     abbrev Hd : ℕ → ℕ → Body R.Denot → Fml
-    Hd = had_here R own cv.code holds p z
+    Hd = had_here R own cv holds p z
 
     abbrev Owned : ℕ → Body R.Denot → ℕ → ℕ → Fml
     Owned = owned 𝓛 R α z.hands_name Lt Hd own
 
     abbrev Fixed : List ℕ → Fml
-    Fixed ws = row (block_of z.fixed) (count_of z.fixed) ws
+    Fixed ws = ground (core_of z) ws
 
-    abbrev Rest : Fml
-    Rest = fsep (fdead α) ftrue
+    abbrev ended_item : List ℕ → types.Kit.Item 𝓤
+    ended_item ws = items (λ (v : List Strip × List Ptr). given ((length v.1 ≡ 32) × AreBehind IsBucket 0 v.0 v.1)
+        (‵ (row (block_of z.fixed) (count_of z.fixed) (take (long z.roots) ws)) ⊛ ‵ (pieces bucket_pieces (map Some v.0)) ⊛ ‵ (pointers (block_of z.doors) (256 + count_of z.doors) v.1)))
 
     -- the first strip, and all others
     gives_back : (t : Inside R.Denot V W) (laid : AreLaid z.roots z.count t.parts) (placed : IsPlaced R p z) (ss : List Strip)
@@ -422,7 +437,8 @@ module _ {M : Type 1} {𝓤 : Ura M} (𝓛 : Logic 𝓤) (R : RattleType) (own :
         (take r.size cs) in
         let b : ℕ = block_of p in let o : ℕ = count_of p in let b' : ℕ = block_of z.values in let o' : ℕ = count_of z.values in let f : ℕ = z.skip * 8 + o in
         let size : length us ≡ z.size = length-take-le z.size cs (omega (arith, last)) in let skip = is.1 in let head = laid.all in
-        let At : Ptr → Fml = λ r. row (block_of r) (count_of r) ws in
+        let ws' : List ℕ = take (long z.roots) ws in let few_words : length ws' ≡ long z.roots = length-take-le (long z.roots) ws head in
+        let At : Ptr → Fml = λ r. row (block_of r) (count_of r) ws' in
         let σ : ℕ = z.strips_name in let Is : ℕ → Strip → Type 0 = IsFurther R z.least in let db : ℕ = block_of z.doors in let d₀ : ℕ = count_of z.doors in
         let le : s.size ≤ length cs = let l = strips_up ss (0 + s.size) (length cs) are.1 in omega (arith, l) in let beyond = length-drop s.size cs in
         let further_long : length cs ≡ 0 + s.size + length (drop s.size cs) = omega (arith, beyond, le) in
@@ -432,28 +448,43 @@ module _ {M : Type 1} {𝓤 : Ura M} (𝓛 : Logic 𝓤) (R : RattleType) (own :
         use2 𝓛 (‵ Stripped)
         (tears_all 𝓛 R α z.hands_name Lt Hd own ss (drop s.size cs) (0 + s.size) (length cs) are.1 further_long (λ k x q. laid.fours (s.size + k) x (dropped_cell s.size k (s.size + k) cs x refl q))) $
         -- [the others; dead; the first numbers; the first words; the doors]
-        move ! (2 ∷ 1 ∷ 3 ∷ []) $
+        move ! (3 ∷ []) $ use1 𝓛 (ended_item ws) (Grounds.ground_ends 𝓛 (core_of z) ws) $ pick ! (λ v. learn ! (λ so. split3 ! $
+        -- [the first words; the buckets; their doors; the others; dead; the first numbers; the doors]
+        move ! (5 ∷ 4 ∷ 0 ∷ 3 ∷ 6 ∷ 1 ∷ 2 ∷ []) $
         rewrite ! 0 (λ (r : Strip). ‵ (Of r)) same refl $
         rewrite ! 2 (λ (r : Ptr). ‵ (At r)) is.0 refl $
         use2 𝓛 (items (torn_item 𝓛 R α z.hands_name Lt Hd own b b' (length us) f o'))
         (tears 𝓛 R α z.hands_name Lt Hd own b b' us f o' z.first (λ k x e. laid.fours k x (taken_cell z.size k cs x e))) $ pick ! (λ u. learn ! (λ l. split3 ! $
-        -- [its words; its places; their own words; the first words; the others; the doors]
+        -- [its words; its places; their own words; the first words; the others; the doors; the buckets; their doors]
         let l0 = l.0 in let l1 = l.1 in
-        let long_is : length (ws ++ u.0) ≡ whole z.roots z.size = length-append ws u.0 ∙ omega (arith, head, l0, size) in
-        move ! (3 ∷ 0 ∷ []) $ use2 𝓛 (‵ (row b o (ws ++ u.0))) (row_joins 𝓛 b ws u.0 o f (omega (arith, head, skip))) $ move ! (4 ∷ []) $
+        let long_is : length (ws' ++ u.0) ≡ whole z.roots z.size = length-append ws' u.0 ∙ omega (arith, few_words, l0, size) in
+        move ! (3 ∷ 0 ∷ []) $ use2 𝓛 (‵ (row b o (ws' ++ u.0))) (row_joins 𝓛 b ws' u.0 o f (omega (arith, few_words, skip))) $ move ! (4 ∷ []) $
         use1 𝓛 (Doors.plain_item 𝓛 σ Is (right_to R) db d₀ 32 0 ss) (Doors.plain 𝓛 σ Is (right_to R) db 32 d₀ 0 ss) $ pick ! (λ ps. learn ! (λ few. split ! $
-        -- [the doors; the rights; the words; the places; their own words; the others]
+        -- [the doors; the rights; the words; the places; their own words; the others; the buckets; their doors]
         move ! (5 ∷ 1 ∷ []) $ use2 𝓛 (‵ (all_alone R own false (take 32 ss))) (all_joined 𝓛 R α z.hands_name Lt Hd own σ Is db 32 ss) $
-        show ! Closed (ws ++ u.0, u.1, ps, take 32 ss) $ check ! (long_is, omega (arith, l1, size), few.0, placed, few.1) $ move ! (2 ∷ 3 ∷ 1 ∷ 0 ∷ 4 ∷ []) $ done !))))
+        move ! (1 ∷ 6 ∷ []) $ use2 𝓛 (‵ (pointers db d₀ (ps ++ v.1))) (pointers_join 𝓛 db ps v.1 d₀ (256 + d₀) (let n = few.0 in omega (arith, n))) $
+        -- [the doors; the others; the words; the places; their own words; the buckets]
+        let first_doors : take 32 (ps ++ v.1) ≡ ps = take-append-le 32 ps v.1 (let n = few.0 in omega (arith, n)) ∙ take_all 32 ps (let n = few.0 in omega (arith, n)) in
+        let last_doors : drop 32 (ps ++ v.1) ≡ v.1 = drop-append-le 32 ps v.1 (let n = few.0 in omega (arith, n)) ∙ ap (λ (l : List Ptr). l ++ v.1) (drop_none 32 ps few.0) in
+        let many : length (ps ++ v.1) ≡ 64 = let l = length-append ps v.1 in let m = few.0 in let n = so.0 in omega (arith, l, m, n) in
+        show ! Closed (ws' ++ u.0, u.1, ps ++ v.1, take 32 ss, v.0) $
+        check ! (
+          long_is,
+          omega (arith, l1, size),
+          many,
+          placed,
+          subst (AreBehind Is 0 (take 32 ss)) (sym first_doors) few.1,
+          subst (AreBehind IsBucket 0 v.0) (sym last_doors) so.1,
+        ) $ move ! (2 ∷ 3 ∷ 0 ∷ 1 ∷ 4 ∷ 5 ∷ []) $ done !))))))
 
-    pub closes : ent 𝓤 ⟦ words_own R own cv.code holds p z ⟧ (H.⇛ (ex 𝓤 Closed))
-    closes = let E : Fml = everything R own cv.code holds (core_of z) in
-        qed 𝓛 (‵ (words_own R own cv.code holds p z) ∷ []) ∵ updating ! $ fsplit3 ! $ move ! (1 ∷ []) $ fsplit ! $ fpick ! (λ placed. leave ! $ fsplit ! $
+    pub closes : ent 𝓤 ⟦ words_own R own cv holds p z ⟧ (H.⇛ (ex 𝓤 Closed))
+    closes = let E : Fml = everything R own cv holds (core_of z) in
+        qed 𝓛 (‵ (words_own R own cv holds p z) ∷ []) ∵ updating ! $ fsplit3 ! $ move ! (1 ∷ []) $ fsplit ! $ fpick ! (λ placed. leave ! $ fsplit ! $
         -- [the strip; the invariant; the token; what was lent]
         move ! (1 ∷ []) $ leave ! $ move ! (1 ∷ []) $
         lft_end ! tt $ use1 𝓛 (‵ (fdead α) ⊛ ‵ (fdead α)) (𝓛.lfts.dead_dup α) $ split ! $ move ! (0 ∷ 3 ∷ []) $ lent_back ! tt $
         -- [all of it; dead; the strip]
-        move ! (0 ∷ 2 ∷ []) $ use2 𝓛 (‵ (inner R own cv.code holds p z)) (Known.comes_in 𝓛 R own cv holds p z) $
+        move ! (0 ∷ 2 ∷ []) $ use2 𝓛 (‵ (inner R own cv holds p z)) (Known.comes_in 𝓛 R own cv holds p z) $
         fpick ! (λ t. fsplit3 ! $ move ! (2 ∷ []) $ fpick ! (λ so. leave ! $
         -- [the memory; the views; dead]
         fsplit ! $ move ! (1 ∷ []) $ fpick ! (λ ss. fsplit3 ! $ move ! (1 ∷ []) $ fpick ! (λ are. leave ! $ fsplit ! $ leave ! $

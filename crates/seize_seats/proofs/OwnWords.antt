@@ -1,7 +1,6 @@
 -- One step on a word of a block's own, by a seat that knows where they lie; and on any word. Assumes `Logic`.
-use Rattle.std.proofs.Common.{◌≡◌, ℕ, ◌+◌, ◌*◌, [], ◌∷◌, sym, ◌∙◌, Some, ap, subst, ◌^◌, ◌<◌}
+use Rattle.std.proofs.Common.{◌≡◌, inl, inr, ℕ, ◌+◌, ◌*◌, [], ◌∷◌, sym, ◌∙◌, Some, ap, subst, ◌^◌, ◌<◌}
 use seplogic.Ra.Ura.{Ura}
-use base.Stored.{Coded}
 use base.Logic.{SProp, ent, sep, ex, all, apply∗, all_e, upd_i}
 use base.Fml.{Lft, Share, Fml, fsep, flft}
 use types.Logic.{Logic, sem}
@@ -14,6 +13,7 @@ use Rattle.seize_words.specs.Mem.{word_at, with_word}
 use Rattle.seize_words.specs.Op.{Op, Out}
 use Rattle.seize_words.specs.declared.at.At.{At}
 use Rattle.seize_words.specs.declared.at.At.TheVariants.{Root, Used, Slot, Entry, Word}
+use Rattle.seize_seats.specs.Errands.{Sight, StayAllSo}
 use Rattle.seize_seats.specs.State.{State, Goes, Allows}
 use Rattle.seize_seats.specs.Lines.{Parts, IsWord, memory_of, AreLaid}
 use Rattle.seize_seats.specs.Steps.{IsWordStep}
@@ -26,9 +26,10 @@ use Rattle.seize_seats.proofs.Pieces as Pieces
 use Rattle.seize_seats.proofs.Moves as Moves
 use Rattle.seize_seats.proofs.Makings as Makings
 use Rattle.seize_seats.proofs.Known as Known
+use Rattle.seize_seats.proofs.SlotWords as SlotWords
 use Rattle.seize_seats.proofs.Steps.{lying}
 
-module _ {M : Type 1} {𝓤 : Ura M} (𝓛 : Logic 𝓤) (R : RattleType) (own : Pieces R.Denot) {V W : Type 0} (cv : Coded V) (holds : State R.Denot V W → Type 0) (keeps : V → V → W → ℕ
+module _ {M : Type 1} {𝓤 : Ura M} (𝓛 : Logic 𝓤) (R : RattleType) (own : Pieces R.Denot) {V W : Type 0} (cv : Sight V) (holds : State R.Denot V W → Type 0) (keeps : V → V → W → ℕ
     → Type 0) (p : Ptr) (z : BaseId) where
   open 𝓛 use {H, A}
 
@@ -47,7 +48,7 @@ module _ {M : Type 1} {𝓤 : Ura M} (𝓛 : Logic 𝓤) (R : RattleType) (own :
   α = age z
 
   abbrev I : Fml
-  I = inner R own cv.code holds p z
+  I = inner R own cv holds p z
 
   abbrev In : Type 0
   In = Inside R.Denot V W
@@ -67,7 +68,7 @@ module _ {M : Type 1} {𝓤 : Ura M} (𝓛 : Logic 𝓤) (R : RattleType) (own :
     abbrev pub told : ℕ → Fml
     told m = Moves.gone_on 𝓛 R own cv holds keeps p z id (so (out m))
 
-    module _ (is : IsWordStep R.Denot (Word n i) op f out) (law : Allows holds keeps id v op so) (seen : AreSeenAt own.at holds id v n r)
+    module _ (is : IsWordStep R.Denot (Word n i) op f out) (stays : StayAllSo cv.away v so) (law : Allows holds keeps id v op so) (seen : AreSeenAt own.at holds id v n r)
         (lands : InBlock r → i * 8 < 2 ^ 63 → (r ≡ q) × (place ≡ i)) (mine : Makings.Mine 𝓛 R own cv holds keeps p z n) where
       abbrev b : ℕ
       b = block_of q
@@ -99,10 +100,11 @@ module _ {M : Type 1} {𝓤 : Ura M} (𝓛 : Logic 𝓤) (R : RattleType) (own :
           (‵ (Ws m)))) (apply∗ 𝓤 ⟦ word b e (f w) ⟧
           (ex 𝓤 (Numbers.Rewritten 𝓛 R p z (Moves.lent 𝓛 R own cv holds keeps p z) (Moves.had 𝓛 R own cv holds keeps p z) t.parts (Word n i) (f w)))) $
           pick ! (λ m. learn ! (λ so_is.
-          by ! (Moves.back 𝓛 R own cv holds keeps p z id v t m (so (out w)) so_is.0 g.2 (goes t g w found.1 m so_is.1))))))))
+          by ! (Moves.back 𝓛 R own cv holds keeps p z id v t m (so (out w)) (stays (out w)) so_is.0 g.2 (goes t g w found.1 m so_is.1))))))))
 
   -- one step on the word of a name, whichever it is
-  module _ (id : ℕ) (v : V) (op : Op R.Denot) (f : ℕ → ℕ) (out : ℕ → Out R.Denot) (so : Out R.Denot → V → Type 0) (law : Allows holds keeps id v op so) where
+  module _ (id : ℕ) (v : V) (op : Op R.Denot) (f : ℕ → ℕ) (out : ℕ → Out R.Denot) (so : Out R.Denot → V → Type 0) (stays : StayAllSo cv.away v so)
+      (law : Allows holds keeps id v op so) where
     abbrev Reached : Ptr → ℕ → Share → Type 1
     Reached q place s =
         ⟦ Moves.Inv 𝓛 R own cv holds keeps p z ⟧ ∗ (A.lft α s ∗ ⟦ seat id v ⟧)
@@ -111,11 +113,13 @@ module _ {M : Type 1} {𝓤 : Ura M} (𝓛 : Logic 𝓤) (R : RattleType) (own :
     of_strip : (at : At) (q : Ptr) (place : ℕ) → IsWordStep R.Denot at op f out → q ≡ p → (IsWord z.roots z.count at → IsIn p z at × (place ≡ place_in z at))
         → (s : Share) → Reached q place s
     of_strip at q place is same lies s =
-        subst (λ (r : Ptr). Reached r place s) (sym same) (Moves.steps 𝓛 R own cv holds keeps p z id v at place op f out so (lying p z at place op f out is lies) law s)
+        subst (λ (r : Ptr). Reached r place s) (sym same) (Moves.steps 𝓛 R own cv holds keeps p z id v at place op f out so (lying p z at place op f out is lies) stays law s)
 
     pub reached : (at : At) (q : Ptr) (place : ℕ) → IsWordStep R.Denot at op f out → IsAt own.at holds id v p z at q place → (s : Share) → Reached q place s
     reached (Root r) q place is at s = of_strip (Root r) q place is at.0 at.1 s
     reached (Used r) q place is at s = of_strip (Used r) q place is at.0 at.1 s
-    reached (Slot n i) q place is at s = of_strip (Slot n i) q place is at.0 at.1 s
+    reached (Slot n i) q place is (inl at) s = of_strip (Slot n i) q place is at.0 at.1 s
+    reached (Slot n i) q place is (inr at) s =
+        subst (λ (r : Ptr). Reached r place s) (sym at.0) (SlotWords.steps 𝓛 R own cv holds keeps p z id v n i place op f out so is stays law at.2 at.3 at.1 s)
     reached (Entry b i) q place is at s = of_strip (Entry b i) q place is at.0 at.1 s
-    reached (Word b i) q place is at s = steps id v b i place at.1.0 q op f out so is law at.1.1 at.1.2 at.0 s
+    reached (Word b i) q place is at s = steps id v b i place at.1.0 q op f out so is stays law at.1.1 at.1.2 at.0 s

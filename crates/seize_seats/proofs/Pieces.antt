@@ -4,7 +4,6 @@ use Rattle.std.proofs.Common.{◌≡◌, ℕ, zero, suc, ◌+◌, ◌-◌, ◌*�
 use seplogic.Ra.Ura.{Ura}
 use base.Fraction.{full_share}
 use base.Share.{quarter}
-use base.Stored.{Coded}
 use base.Logic.{SProp, ent, sep, wand, ex, all, emp, apply∗, all_e}
 use base.Fml.{Lft, Share, Fml, Incl, ftrue, fsep, flft, fdead}
 use types.Logic.{Logic, sem}
@@ -18,6 +17,7 @@ use Rattle.core.specs.contracts.option.Option.{the_row as OptionOf}
 use Rattle.core.specs.Sync.RawAtomic.{word}
 use Rattle.seize_words.specs.Mem.{value_at, value_in, word_at, word_in}
 use Rattle.seize_words.specs.declared.at.At.TheVariants.{Word}
+use Rattle.seize_seats.specs.Errands.{Sight, coded_of}
 use Rattle.seize_seats.specs.State.{State}
 use Rattle.seize_seats.specs.Seen.{fact}
 use Rattle.seize_seats.specs.Cells.{Cell, Free, Claimed, Out, Has, Held, block_in, cell_at, own_noted_in}
@@ -30,7 +30,7 @@ use Rattle.seize_seats.proofs.Lendings as Lendings
 use Rattle.seize_seats.proofs.Rows.{row_at}
 use Rattle.seize_seats.proofs.Rows as Rows
 
-module _ {M : Type 1} {𝓤 : Ura M} (𝓛 : Logic 𝓤) (R : RattleType) (own : Pieces R.Denot) {V W : Type 0} (cv : Coded V) (holds : State R.Denot V W → Type 0) (p : Ptr) (z : BaseId) where
+module _ {M : Type 1} {𝓤 : Ura M} (𝓛 : Logic 𝓤) (R : RattleType) (own : Pieces R.Denot) {V W : Type 0} (cv : Sight V) (holds : State R.Denot V W → Type 0) (p : Ptr) (z : BaseId) where
   abbrev ⟦◌⟧ : Fml → SProp 𝓤
   ⟦ P ⟧ = sem 𝓛 P
 
@@ -38,10 +38,10 @@ module _ {M : Type 1} {𝓤 : Ura M} (𝓛 : Logic 𝓤) (R : RattleType) (own :
   α = age z
 
   abbrev lent : ℕ → R.Denot × List ℕ → ℕ → ℕ → Fml
-  lent = lent_here R own cv.code holds p z
+  lent = lent_here R own cv holds p z
 
   abbrev had : ℕ → ℕ → R.Denot × List ℕ → Fml
-  had = had_here R own cv.code holds p z
+  had = had_here R own cv holds p z
 
   abbrev Ws : List ℕ → List (Cell R.Denot) → Fml
   Ws = Numbers.Ws 𝓛 R p z lent had
@@ -157,7 +157,7 @@ module _ {M : Type 1} {𝓤 : Ura M} (𝓛 : Logic 𝓤) (R : RattleType) (own :
   -- once the lifetime of the memory is over the value is back
   pub over : (i : ℕ) (x : R.Denot × List ℕ) (b o : ℕ) → ent 𝓤 (sep 𝓤 ⟦ fdead α ⟧ ⟦ lent i x b o ⟧) (𝓛.H.⇛ (sep 𝓤 ⟦ fdead α ⟧ ⟦ owned x b o ⟧))
   over i x b o = qed 𝓛 (‵ (fdead α) ∷ ‵ (lent i x b o) ∷ []) ∵ updating ! $ move ! (1 ∷ []) $ fsplit ! $ move ! (2 ∷ 1 ∷ []) $
-      use2 𝓛 (later (‵ (fdead α) ⊛ ‵ (part_at (OptionOf R) full_share (Some x.0) b o))) (Lendings.over 𝓛 R α cv z.views_name holds i x.0 b o) $ await ! tt $ split ! $
+      use2 𝓛 (later (‵ (fdead α) ⊛ ‵ (part_at (OptionOf R) full_share (Some x.0) b o))) (Lendings.over 𝓛 R α (coded_of cv) z.views_name holds i x.0 b o) $ await ! tt $ split ! $
       -- [dead; the value; the own words]
       move ! (2 ∷ 1 ∷ []) $ fjoin ! $ now ! $ move ! (1 ∷ 0 ∷ []) $ done !
 
@@ -166,7 +166,7 @@ module _ {M : Type 1} {𝓤 : Ura M} (𝓛 : Logic 𝓤) (R : RattleType) (own :
       → ent 𝓤 (sep 𝓤 ⟦ owned x b o ⟧ ⟦ flft τ s ⟧) (𝓛.H.⇛ (sep 𝓤 ⟦ lent i x b o ⟧ ⟦ flft τ s ⟧))
   offers shares i x b o τ s inc = qed 𝓛 (‵ (owned x b o) ∷ ‵ (flft τ s) ∷ []) ∵ updating ! $ fsplit ! $ move ! (1 ∷ 2 ∷ []) $
       use2 𝓛 (later (‵ (lendable R α cv.code z.views_name holds i x.0 b o) ⊛ ‵ (flft τ s)))
-      (Lendings.offers 𝓛 R α cv z.views_name holds shares i x.0 b o τ s inc) $ await ! tt $ split ! $
+      (Lendings.offers 𝓛 R α (coded_of cv) z.views_name holds shares i x.0 b o τ s inc) $ await ! tt $ split ! $
       -- [the value; the token; the own words]
       move ! (2 ∷ 0 ∷ []) $ fjoin ! $ now ! $ done !
 

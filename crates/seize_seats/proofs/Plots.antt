@@ -1,5 +1,5 @@
 -- The block of a further strip: how it is laid out, and that its room is room for places and for words, which given back make it again. Assumes `Logic`.
-use Rattle.std.proofs.Common.{◌≡◌, ℕ, ◌+◌, ◌*◌, ◌/◌, ◌^◌, ◌<◌, max, [], ◌∷◌, refl, sym, ap, ◌∙◌, subst, arith, lit<, w8, w16, w32, w64}
+use Rattle.std.proofs.Common.{◌≡◌, ℕ, zero, suc, ◌+◌, ◌*◌, ◌/◌, ◌^◌, ◌<◌, max, [], ◌∷◌, refl, sym, ap, ◌∙◌, subst, arith, lit<, w8, w16, w32, w64}
 use seplogic.Ra.Ura.{Ura}
 use mir.Syntax.{Ty, Width, w128, ty_int, ty_array, ty_struct, tcons, tnil}
 use mir.Raw.{raw as bare}
@@ -20,7 +20,7 @@ use Rattle.std.proofs.GlobalToken.{dealloc_token_start}
 use Rattle.core.specs.contracts.option.Option.{the_row as OptionOf}
 use Rattle.core.specs.Allocator.{HasLayout}
 use Rattle.seize_seats.specs.Doors.{places_type, words_type, block_type, before, block_bytes, fits_again, deed, frees, heap}
-use Rattle.seize_seats.specs.Owned.{stride}
+use Rattle.seize_seats.specs.Owned.{stride, words_right}
 
 -- ---- rounded up
 up_8 : (v : ℕ) → up 8 v ≡ (v + 7) / 8 * 8
@@ -139,3 +139,10 @@ tested {𝓤 = 𝓤} 𝓛 R n p = let D : Fml = frees (block_type R n) p in
     qed 𝓛 (‵ (deed R frees n p) ∷ []) ∵ fsplit ! $
     use1 𝓛 (given (count_of p ≡ 0) (‵ D)) (fact_use 𝓤 (count_of p ≡ 0) (dealloc_token_start 𝓛 heap (block_type R n) p) (guard_i 𝓤 (count_of p ≡ 0) (sem 𝓛 D))) $
     learn ! (λ at. check ! (subst (λ (k : ℕ). k < 2 ^ 63) (sym at) (lit< tt)) $ fjoin ! $ done !)
+
+-- and so whoever may give words back
+pub words_tested : {M : Type 1} {𝓤 : Ura M} (𝓛 : Logic 𝓤) (n : ℕ) (p : Ptr) → 0 < n → ent 𝓤 (sem 𝓛 (words_right n p)) (guard 𝓤 (Testable p) (sem 𝓛 (words_right n p)))
+words_tested 𝓛 zero p lt = absurd (omega (arith, lt))
+words_tested {𝓤 = 𝓤} 𝓛 (suc n) p lt = let T : Ty = ty_array (ty_int w64) (suc n) in let D : Fml = frees T p in
+    qed 𝓛 (‵ D ∷ []) ∵ use1 𝓛 (given (count_of p ≡ 0) (‵ D)) (fact_use 𝓤 (count_of p ≡ 0) (dealloc_token_start 𝓛 heap T p) (guard_i 𝓤 (count_of p ≡ 0) (sem 𝓛 D))) $
+    learn ! (λ at. check ! (subst (λ (k : ℕ). k < 2 ^ 63) (sym at) (lit< tt)) $ done !)

@@ -7,7 +7,6 @@ use mathlib.Core.HLevel.{⊥_prop}
 use mathlib.Core.List.{mem-cons, not-mem-nil}
 use seplogic.Ra.Ura.{Ura}
 use base.Share.{three_quarters}
-use base.Stored.{Coded}
 use base.Logic.{SProp, ent, sep, all, upd, emp, id⊢, via, upd_i}
 use base.Fml.{Lft, Share, Fml, ftrue, fsep, flft, fdead, fbor, fnamed}
 use base.Several.{Apart, bodies}
@@ -18,6 +17,7 @@ use denote.RattleType.{RattleType}
 use denote.RawPtr.{Ptr}
 use denote.Steps.{nothing}
 use Rattle.seize_words.specs.Mem.{value_in}
+use Rattle.seize_seats.specs.Errands.{Sight, coded_of}
 use Rattle.seize_seats.specs.State.{State}
 use Rattle.seize_seats.specs.Cells.{Cell, Free, Claimed, Out, Has, Held, block_in, cell_at}
 use Rattle.seize_seats.specs.Seen.{seen}
@@ -51,7 +51,7 @@ three i j n m k P Q S ne e o u =
       ((λ in_it. Or.elim ⊥_prop ((mem-cons {a = m} {b = k} {l = []}).0 in_it) other (λ x. not-mem-nil x)), ((λ x. not-mem-nil x), tt)),
     )
 
-module _ {M : Type 1} {𝓤 : Ura M} (𝓛 : Logic 𝓤) (R : RattleType) (own : Pieces R.Denot) {V W : Type 0} (cv : Coded V) (holds : State R.Denot V W → Type 0) (keeps : V → V → W → ℕ
+module _ {M : Type 1} {𝓤 : Ura M} (𝓛 : Logic 𝓤) (R : RattleType) (own : Pieces R.Denot) {V W : Type 0} (cv : Sight V) (holds : State R.Denot V W → Type 0) (keeps : V → V → W → ℕ
     → Type 0) (p : Ptr) (z : BaseId) (i : ℕ) where
   open 𝓛 use {H, A}
 
@@ -73,11 +73,11 @@ module _ {M : Type 1} {𝓤 : Ura M} (𝓛 : Logic 𝓤) (R : RattleType) (own :
   α = age z
 
   abbrev I : Fml
-  I = inner R own cv.code holds p z
+  I = inner R own cv holds p z
 
   -- the invariant itself, and what is known of the strip
   abbrev E : Fml
-  E = everything R own cv.code holds (core_of z)
+  E = everything R own cv holds (core_of z)
 
   abbrev L : Fml
   L = is_listed p z
@@ -260,9 +260,9 @@ module _ {M : Type 1} {𝓤 : Ura M} (𝓛 : Logic 𝓤) (R : RattleType) (own :
           move ! (4 ∷ 3 ∷ 2 ∷ []) $ group ! 3 $ move ! (0 ∷ 2 ∷ 1 ∷ []) $ done !)
 
       -- THE VALUE COMES BACK: seats whose views show the block have other views by now
-      pub comes_back : (x : R.Denot) (b o : ℕ) → Having ∗ ⟦ Lendings.Lent 𝓛 R α cv z.views_name holds i x b o ⟧
-          ⊢ H.⇛ (Having ∗ ⟦ Lendings.Own 𝓛 R α cv z.views_name holds x b o ⟧)
-      comes_back = Lendings.regains 𝓛 R α cv z.views_name holds i Having dies
+      pub comes_back : (x : R.Denot) (b o : ℕ) → Having ∗ ⟦ Lendings.Lent 𝓛 R α (coded_of cv) z.views_name holds i x b o ⟧
+          ⊢ H.⇛ (Having ∗ ⟦ Lendings.Own 𝓛 R α (coded_of cv) z.views_name holds x b o ⟧)
+      comes_back = Lendings.regains 𝓛 R α (coded_of cv) z.views_name holds i Having dies
 
   -- A BLOCK THAT WAS TAKEN AWAY: its place is in the hand of the call that has taken it
   module _ (e : Share) (lt : IsIts z i) where
@@ -293,8 +293,8 @@ module _ {M : Type 1} {𝓤 : Ura M} (𝓛 : Logic 𝓤) (R : RattleType) (own :
     pub none_taken : (g o : Holder V) (S : Fml) → Shows g o S → Crowds g o S → Shown g o → (Z : Pr) → ⟦ I ⟧ ∗ (⟦ S ⟧ ∗ ⟦ Hd ⟧) ⊢ Z
     none_taken g o S shows crowds shown Z = Makings.opens 𝓛 R own cv holds keeps p z (⟦ S ⟧ ∗ ⟦ Hd ⟧) Z i lt (by_cell g o S shows crowds shown Z)
 
-    pub regains : (q : Share) (x : R.Denot) (b o : ℕ) → Having Hd none_taken q ∗ ⟦ Lendings.Lent 𝓛 R α cv z.views_name holds i x b o ⟧
-        ⊢ H.⇛ (Having Hd none_taken q ∗ ⟦ Lendings.Own 𝓛 R α cv z.views_name holds x b o ⟧)
+    pub regains : (q : Share) (x : R.Denot) (b o : ℕ) → Having Hd none_taken q ∗ ⟦ Lendings.Lent 𝓛 R α (coded_of cv) z.views_name holds i x b o ⟧
+        ⊢ H.⇛ (Having Hd none_taken q ∗ ⟦ Lendings.Own 𝓛 R α (coded_of cv) z.views_name holds x b o ⟧)
     regains = comes_back Hd none_taken
 
   -- A BLOCK WHOSE VALUE IS IN THE HAND of a call: its seat has it to itself
@@ -319,6 +319,6 @@ module _ {M : Type 1} {𝓤 : Ura M} (𝓛 : Logic 𝓤) (R : RattleType) (own :
     pub none_held : (g o : Holder V) (S : Fml) → Shows g o S → Crowds g o S → Shown g o → (Z : Pr) → ⟦ I ⟧ ∗ (⟦ S ⟧ ∗ ⟦ Hh ⟧) ⊢ Z
     none_held g o S shows crowds shown Z = Makings.opens 𝓛 R own cv holds keeps p z (⟦ S ⟧ ∗ ⟦ Hh ⟧) Z i lt (by_hand g o S shows crowds shown Z)
 
-    pub regains_held : (q : Share) (x : R.Denot) (b o : ℕ) → Having Hh none_held q ∗ ⟦ Lendings.Lent 𝓛 R α cv z.views_name holds i x b o ⟧
-        ⊢ H.⇛ (Having Hh none_held q ∗ ⟦ Lendings.Own 𝓛 R α cv z.views_name holds x b o ⟧)
+    pub regains_held : (q : Share) (x : R.Denot) (b o : ℕ) → Having Hh none_held q ∗ ⟦ Lendings.Lent 𝓛 R α (coded_of cv) z.views_name holds i x b o ⟧
+        ⊢ H.⇛ (Having Hh none_held q ∗ ⟦ Lendings.Own 𝓛 R α (coded_of cv) z.views_name holds x b o ⟧)
     regains_held = comes_back Hh none_held

@@ -20,6 +20,7 @@ use Rattle.seize_words.specs.Mem.{Mem, value_at, value_in, with_block, with_valu
 use Rattle.seize_words.specs.Op.{Rewrite, Taken}
 use Rattle.seize_words.specs.Op as Op
 use Rattle.seize_words.specs.declared.block.Block.{Block}
+use Rattle.seize_seats.specs.Errands.{Sight, StayAllSo}
 use Rattle.seize_seats.specs.State.{State, Goes, Allows, Owns}
 use Rattle.seize_seats.specs.State as State
 use Rattle.seize_seats.specs.Cells.{Body, Cell, Free, Claimed, Out, Has, Held, block_in, blocks_in, cell_at}
@@ -31,6 +32,7 @@ use Rattle.seize_seats.proofs.Cells.{recelled, laid_with, block_is, blocks_set, 
 use Rattle.seize_seats.proofs.Numbers as Numbers
 use Rattle.seize_seats.proofs.Pieces as Pieces
 use Rattle.seize_seats.proofs.Ledgers as Ledgers
+use Rattle.seize_seats.proofs.Sitters as Sitters
 use Rattle.seize_seats.proofs.Moves as Moves
 use Rattle.seize_seats.proofs.Makings as Makings
 use Rattle.seize_seats.proofs.Hands as Hands
@@ -64,7 +66,7 @@ owns_alone {T} {V} {W} holds keeps id v n own t i w j u so at ne nf here there s
     let some = shown (State.after t m id g.0 g.1) g.2 (Ledgers.other_view t.views id i g.0 ne ∙ here) (Ledgers.other_view t.views id j g.0 nf ∙ there) in
     let none = emptied t.memory n in absurd (cc (subst IsSome none some))
 
-module _ {M : Type 1} {𝓤 : Ura M} (𝓛 : Logic 𝓤) (R : RattleType) (own : Pieces R.Denot) {V W : Type 0} (cv : Coded V) (holds : State R.Denot V W → Type 0) (keeps : V → V → W → ℕ
+module _ {M : Type 1} {𝓤 : Ura M} (𝓛 : Logic 𝓤) (R : RattleType) (own : Pieces R.Denot) {V W : Type 0} (cv : Sight V) (holds : State R.Denot V W → Type 0) (keeps : V → V → W → ℕ
     → Type 0) (p : Ptr) (z : BaseId) where
   open 𝓛 use {H, A}
 
@@ -86,7 +88,7 @@ module _ {M : Type 1} {𝓤 : Ura M} (𝓛 : Logic 𝓤) (R : RattleType) (own :
   α = age z
 
   abbrev I : Fml
-  I = inner R own cv.code holds p z
+  I = inner R own cv holds p z
 
   abbrev In : Type 0
   In = Inside R.Denot V W
@@ -110,7 +112,7 @@ module _ {M : Type 1} {𝓤 : Ura M} (𝓛 : Logic 𝓤) (R : RattleType) (own :
   Ws = Moves.Ws 𝓛 R own cv holds keeps p z
 
   abbrev had : ℕ → ℕ → Body R.Denot → Fml
-  had = had_here R own cv.code holds p z
+  had = had_here R own cv holds p z
 
   abbrev cell_of : ℕ → Cell R.Denot → Fml
   cell_of = Makings.cell_of 𝓛 R own cv holds keeps p z
@@ -212,7 +214,7 @@ module _ {M : Type 1} {𝓤 : Ura M} (𝓛 : Logic 𝓤) (R : RattleType) (own :
 
     -- ---- ANOTHER VALUE IS PUT in its place, and the share comes back
     module _ (ρ : ℕ) (x new : R.Denot) (there : own.at x ≡ own.at new) (many : own.count x ≡ own.count new) (so : Op.Out R.Denot → V → Type 0)
-        (law : Allows holds keeps id v (Rewrite n new) so) (low : 0 < n) (of : IsIts z (n - 1)) where
+        (stays : StayAllSo cv.away v so) (law : Allows holds keeps id v (Rewrite n new) so) (low : 0 < n) (of : IsIts z (n - 1)) where
       abbrev pub PutBack : Pr
       PutBack = ⟦ I ⟧ ∗ (⟦ gone_on id (so (Taken x)) ⟧ ∗ ⟦ flft α e ⟧)
 
@@ -272,9 +274,9 @@ module _ {M : Type 1} {𝓤 : Ura M} (𝓛 : Logic 𝓤) (R : RattleType) (own :
           (apply∗ 𝓤 ⟦ cell_of i d ⟧ ⟦ Numbers.Ws 𝓛 R p z (Moves.lent 𝓛 R own cv holds keeps p z) had t.parts.words cs ⟧) $
           -- [the memory; the share; the seat; the views]
           move ! (3 ∷ 2 ∷ []) $ use2 𝓛 (given (slice_get t.views id ≡ Some v) (‵ (Led t) ⊛ ‵ (seat id v)))
-          (Ledgers.sits 𝓛 cv z.views_name t.blank t.views id three_quarters v) $ learn ! (λ at. split ! $ move ! (2 ∷ 0 ∷ 1 ∷ []) $
+          (Sitters.sits 𝓛 α cv z.views_name t.blank t.views id three_quarters v) $ learn ! (λ at. split ! $ move ! (2 ∷ 0 ∷ 1 ∷ []) $
           let r = goes t sound s y ws ρ' is same_value at in
-          use3 𝓛 (raw (upd 𝓤 (⟦ I ⟧ ∗ ⟦ gone_on id told ⟧))) (Moves.back 𝓛 R own cv holds keeps p z id v t (renewed t sound y.1 ws) told r.0 at r.1) $
+          use3 𝓛 (raw (upd 𝓤 (⟦ I ⟧ ∗ ⟦ gone_on id told ⟧))) (Moves.back 𝓛 R own cv holds keeps p z id v t (renewed t sound y.1 ws) told (stays (Taken x)) r.0 at r.1) $
           settle 𝓛 PutBack (‵ I ⊛ ‵ (gone_on id told)) $ split ! $ suffices ! _ (upd_i 𝓤 PutBack) $ done !))
 
       none_of_theirs : (t : In) (c : Cell R.Denot) → Makings.IsAnothers 𝓛 R own cv holds keeps p z (held ρ e) c → Opened t c ⊢ upd 𝓤 PutBack

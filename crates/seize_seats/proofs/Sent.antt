@@ -15,13 +15,24 @@ use Rattle.seize_seats.specs.State.{State}
 use Rattle.seize_seats.specs.Cells.{Body, Cell, Free, Claimed, Out, Has, Held}
 use Rattle.seize_seats.specs.Strips.{Strip, strip_coded, no_strip, further}
 use Rattle.seize_seats.specs.Doors.{block_type, IsFurther, heap, right_to, doors}
-use Rattle.seize_seats.specs.Owned.{words_right, Pieces, shared_view, row, piece, lent_in, had_in, quarters, ledger, zeros, stride, kept, numbers, strips, Core, BaseId, core_of, everything, common, words_own, words_share}
+use Rattle.seize_seats.specs.Lines.{long}
+use Rattle.seize_seats.specs.Buckets.{IsBucket}
+use Rattle.seize_seats.specs.Errands.{Away, Sight, stake, stakes}
+use Rattle.seize_seats.specs.Owned.{words_right, lines, bucket_right, bucket_told, ground, Pieces, shared_view, row, piece, lent_in, had_in, quarters, ledger, zeros, stride, kept, numbers, strips, Core, BaseId, core_of, everything, common, words_own, words_share}
 use Rattle.seize_seats.specs.Lendings.{Phase, Begins, Lasts, Over, in_phase, Holder, Lending, span, told, lendings, lendable, in_hand}
 use Rattle.seize_seats.specs.Stretches.{lasting, seat_owns, seat_shares}
 
 row_keyless : (b o : ℕ) (ns : List ℕ) → Keyless (row b o ns)
 row_keyless b o [] = tt
 row_keyless b o (n ∷ ns) = (tt, row_keyless b (o + 8) ns)
+
+lines_keyless : (ss : List Strip) (ws : List ℕ) → Keyless (lines ss ws)
+lines_keyless [] ws = tt
+lines_keyless (s ∷ ss) ws = (row_keyless (block_of s.words) (count_of s.words) (take (s.size * 16) ws), lines_keyless ss (drop (s.size * 16) ws))
+
+bucket_keyless : (σ k : ℕ) (s : Strip) → Keyless (bucket_told σ k s)
+bucket_keyless σ zero s = tt
+bucket_keyless σ (suc k) s = ((λ _. tt), λ q. entry_keyless shared_view σ (suc k) _)
 
 module _ {V : Type 0} (c : V → Gv) (γ : ℕ) where
   quarters_keyless : (k : ℕ) (vs : List V) → Keyless (quarters c γ k vs)
@@ -98,7 +109,15 @@ module _ (σ : ℕ) (Is : ℕ → Strip → Type 0) (right : Strip → Fml) (rig
 ledger_keyless : {V : Type 0} (c : V → Gv) (γ : ℕ) (d : V) (vs : List V) → Keyless (ledger c γ d vs)
 ledger_keyless c γ d vs = (quarters_keyless c γ 0 vs, entries_keyless shared_view γ (length vs) _)
 
-module _ (R : RattleType) (own : Pieces R.Denot) (sent : IsSend (OptionOf R)) (synced : IsSync (OptionOf R)) {V W : Type 0} (c : V → Gv)
+stake_keyless : (α : Lft) (e : Away) → Keyless (stake α e)
+stake_keyless α None = tt
+stake_keyless α (Some q) = tt
+
+stakes_keyless : {V : Type 0} (α : Lft) (away : V → Away) (vs : List V) → Keyless (stakes α away vs)
+stakes_keyless α away [] = tt
+stakes_keyless α away (v ∷ vs) = (stake_keyless α (away v), stakes_keyless α away vs)
+
+module _ (R : RattleType) (own : Pieces R.Denot) (sent : IsSend (OptionOf R)) (synced : IsSync (OptionOf R)) {V W : Type 0} (c : Sight V)
     (holds : State R.Denot V W → Type 0) where
   right_keyless : (n : ℕ) (p : Ptr) → Keyless (words_right n p)
   right_keyless zero p = tt
@@ -107,10 +126,22 @@ module _ (R : RattleType) (own : Pieces R.Denot) (sent : IsSend (OptionOf R)) (s
   piece_keyless : (x : Body R.Denot) → Keyless (piece own x)
   piece_keyless x = ((λ _. tt), (row_keyless (block_of (own.at x.0)) (count_of (own.at x.0)) x.1, right_keyless (own.count x.0) (own.at x.0)))
 
+  ground_keyless : (k : Core) (ws : List ℕ) → Keyless (ground k ws)
+  ground_keyless k ws = λ ss. (
+    (row_keyless (block_of k.fixed) (count_of k.fixed) (take (long k.roots) ws), lines_keyless ss (drop (long k.roots) ws)),
+    (
+      (
+        ledger_keyless strip_coded.code k.slots_name no_strip (no_strip ∷ ss),
+        doors_keyless k.slots_name IsBucket bucket_right (λ s. right_keyless (s.size * 16) s.words) (block_of k.doors) (256 + count_of k.doors) 32 0 ss,
+      ),
+      λ _. tt,
+    ),
+  )
+
   everything_keyless : (k : Core) → Keyless (everything R own c holds k)
   everything_keyless k = λ t. (
     (
-      row_keyless (block_of k.fixed) (count_of k.fixed) t.parts.words,
+      ground_keyless k t.parts.words,
       λ ss. (
         (
           (ledger_keyless strip_coded.code k.strips_name no_strip ss, entries_keyless shared_view k.hands_name (length t.parts.cells) _),
@@ -119,17 +150,17 @@ module _ (R : RattleType) (own : Pieces R.Denot) (sent : IsSend (OptionOf R)) (s
         (
           (λ _. tt),
           strips_keyless R sent (k.atom ∷ []) k.hands_name (lent_in R own c holds k (λ _. Unit {0}))
-              (λ i x b o. (piece_keyless x, lendable_keyless R sent synced (k.atom ∷ []) c k.views_name holds i x.0 b o))
-              (had_in R own c holds k (λ _. Unit {0})) (λ ρ i x. (piece_keyless x, in_hand_keyless R sent synced (k.atom ∷ []) c k.views_name holds ρ i x.0)) ss t.parts.cells,
+              (λ i x b o. (piece_keyless x, lendable_keyless R sent synced (k.atom ∷ []) c.code k.views_name holds i x.0 b o))
+              (had_in R own c holds k (λ _. Unit {0})) (λ ρ i x. (piece_keyless x, in_hand_keyless R sent synced (k.atom ∷ []) c.code k.views_name holds ρ i x.0)) ss t.parts.cells,
         ),
       ),
     ),
-    (ledger_keyless c k.views_name t.blank t.views, λ _. tt),
+    ((ledger_keyless c.code k.views_name t.blank t.views, stakes_keyless (k.atom ∷ []) c.away t.views), λ _. tt),
   )
 
   module _ (p : Ptr) (z : BaseId) where
     told_in_keyless : Keyless (common R own c holds p z)
-    told_in_keyless = ((λ _. tt), ((λ q. entry_keyless shared_view z.strips_name z.place _), λ n. ((λ _. tt), everything_keyless (core_of z))))
+    told_in_keyless = ((λ _. tt), (((λ q. entry_keyless shared_view z.strips_name z.place _), bucket_keyless z.slots_name z.bucket z.slots), λ n. ((λ _. tt), everything_keyless (core_of z))))
 
     pub owns_keyless : Keyless (words_own R own c holds p z)
     owns_keyless = (tt, (told_in_keyless, everything_keyless (core_of z)))

@@ -14,6 +14,7 @@ use denote.Sharing.{ShrLaws, one, said, beside}
 use denote.SharingLaws.{beside_shr_laws, one_shr_laws}
 use denote.Steps.{nothing}
 use denote.Struct.Lending.{Lends, Lends-both}
+use Rattle.seize_seats.specs.Errands.{Sight}
 use Rattle.seize_seats.specs.State.{State}
 use types.Keyed.{ticket}
 use Rattle.seize_seats.specs.Seen.{seen}
@@ -23,15 +24,15 @@ use Rattle.seize_seats.proofs.Known as Known
 use Rattle.seize_seats.proofs.Shares as Shares
 use Rattle.seize_seats.specs.Owned.{Pieces, BaseId, age, core_of, IsPlaced, everything, told, common, is_listed, strip_there, strip_told, strip_owns, words_own, words_share}
 
-module _ (R : RattleType) (own : Pieces R.Denot) {V W : Type 0} (cv : Coded V) (holds : State R.Denot V W → Type 0) (p : Ptr) (z : BaseId) where
+module _ (R : RattleType) (own : Pieces R.Denot) {V W : Type 0} (cv : Sight V) (holds : State R.Denot V W → Type 0) (p : Ptr) (z : BaseId) where
   abbrev α : Lft
   α = age z
 
   abbrev I : Fml
-  I = everything R own cv.code holds (core_of z)
+  I = everything R own cv holds (core_of z)
 
   abbrev C : Fml
-  C = common R own cv.code holds p z
+  C = common R own cv holds p z
 
   abbrev Φ : Share → Fml
   Φ q = flft α q
@@ -41,11 +42,11 @@ module _ (R : RattleType) (own : Pieces R.Denot) {V W : Type 0} (cv : Coded V) (
   placed 𝓛 = qed 𝓛 (‵ C ∷ []) ∵ fsplit ! $ fpick ! (λ i. drop ! $ check ! i $ nothing ! $ fpack ! (IsPlaced R p z) (λ _. ftrue) i $ fjoin ! $ done !)
 
   twice : {M : Type 1} {𝓤 : Ura M} (𝓛 : Logic 𝓤) → ent 𝓤 (sem 𝓛 C) (sep 𝓤 (sem 𝓛 C) (sem 𝓛 C))
-  twice 𝓛 = let Inv : Fml = told R own cv.code holds p z in qed 𝓛 (‵ C ∷ []) ∵ fsplit ! $ fpick ! (λ i. drop ! $
+  twice 𝓛 = let Inv : Fml = told R own cv holds p z in qed 𝓛 (‵ C ∷ []) ∵ fsplit ! $ fpick ! (λ i. drop ! $
       use1 𝓛 (‵ Inv ⊛ ‵ Inv) (Known.twice 𝓛 R own cv holds p z) $ split ! $
       nothing ! $ fpack ! (IsPlaced R p z) (λ _. ftrue) i $ fjoin ! $ move ! (1 ∷ []) $ nothing ! $ fpack ! (IsPlaced R p z) (λ _. ftrue) i $ fjoin ! $ done !)
 
-  pub words_laws : ShrLaws (words_share R own cv.code holds p z)
+  pub words_laws : ShrLaws (words_share R own cv holds p z)
   words_laws = beside_shr_laws (one Φ) (said C) (one_shr_laws Φ) record {
     contraction = λ M 𝓤 𝓛 ν. twice 𝓛;
     mono =
@@ -55,7 +56,7 @@ module _ (R : RattleType) (own : Pieces R.Denot) {V W : Type 0} (cv : Coded V) (
   module _ {M : Type 1} {𝓤 : Ura M} (𝓛 : Logic 𝓤) (l : Lft) where
     open 𝓛 use {H, A}
 
-    pub lends_words : Lends 𝓛 (words_own R own cv.code holds p z) (words_share R own cv.code holds p z) l
+    pub lends_words : Lends 𝓛 (words_own R own cv holds p z) (words_share R own cv holds p z) l
     lends_words = Lends-both 𝓛 (Φ full_share) (fsep C (flent α I)) (one Φ) (said C) l (Shares.cut 𝓛 l Φ full_share) (Shares.told 𝓛 l C (flent α I) (twice 𝓛))
 
 -- what a `&` to a strip shows: that it is one of a memory's

@@ -14,7 +14,7 @@ use Rattle.seize_seats.specs.Strips.{Strip, IsOf, AreStrips}
 use Rattle.seize_seats.specs.Owned.{stride, under, numbers, strips}
 use Rattle.seize_seats.proofs.Beside as Beside
 
-take_set : {A : Type 0} (n : ℕ) (l : List A) (i : ℕ) (a : A) → take n (set l i a) ≡ set (take n l) i a
+pub take_set : {A : Type 0} (n : ℕ) (l : List A) (i : ℕ) (a : A) → take n (set l i a) ≡ set (take n l) i a
 take_set zero l i a = refl
 take_set (suc n) [] i a = refl
 take_set (suc n) (x ∷ l) zero a = refl

@@ -17,7 +17,7 @@ use Rattle.seize_seats.proofs.Rewrites.{emptied, owns_alone}
 use Rattle.seize_seats.proofs.Steps.{set_same}
 use Rattle.seize_seats.proofs.Plain.{block_at, value_plain, set_plain, value_of_block, after_plain, gives_plain, can_plain, IsOnWord, value_after, made_apart, taken_apart, rewritten_apart}
 
-own_view : {A : Type 0} (xs : List A) (i : ℕ) (x y : A) → slice_get (slice_set xs i x) i ≡ Some y → x ≡ y
+pub own_view : {A : Type 0} (xs : List A) (i : ℕ) (x y : A) → slice_get (slice_set xs i x) i ≡ Some y → x ≡ y
 own_view [] i x y e = absurd (cc e)
 own_view (a ∷ xs) zero x y e = cc e
 own_view (a ∷ xs) (suc i) x y e = own_view xs i x y e
@@ -50,7 +50,7 @@ others_visit {V} us i id v' v b p e = by (cases_eq i id)
     by (inr ne) = (ne, sym (other_view us id i (v', None) ne) ∙ e)
 
 -- a view in a list with one more is in the list, or is that one
-among : {A : Type 0} (xs : List A) (x y : A) (i : ℕ) → slice_get (xs ++ x ∷ []) i ≡ Some y → (slice_get xs i ≡ Some y) ⊎ (x ≡ y)
+pub among : {A : Type 0} (xs : List A) (x y : A) (i : ℕ) → slice_get (xs ++ x ∷ []) i ≡ Some y → (slice_get xs i ≡ Some y) ⊎ (x ≡ y)
 among [] x y zero e = inr (cc e)
 among [] x y (suc i) e = absurd (cc e)
 among (a ∷ xs) x y zero e = inl e
@@ -69,7 +69,7 @@ module _ {D T V W : Type 0} (value : D → T) (own : D → Spot) (holds : State 
   abbrev Keep : V × Visit → V × Visit → W → ℕ → Type 0
   Keep = keeps_kept value keeps
 
-  view_plain : (s : St) (id : ℕ) (u : V × Visit) → view_of s id ≡ Some u → view_of (flat s) id ≡ Some u.0
+  pub view_plain : (s : St) (id : ℕ) (u : V × Visit) → view_of s id ≡ Some u → view_of (flat s) id ≡ Some u.0
   view_plain s id u e = slice_get-map (λ (u : V × Visit). u.0) s.views id ∙ ap (option_map (λ (u : V × Visit). u.0)) e
 
   flat_after : (s : St) (n : Mem D) (id : ℕ) (u : V × Visit) (w : W) → flat (State.after s n id u w) ≡ State.after (flat s) (plain_memory value n) id u.0 w

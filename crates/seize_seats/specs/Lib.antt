@@ -3,12 +3,14 @@ pub mod State
 pub mod Lines
 pub mod Strips
 pub mod Doors
+pub mod Buckets
 pub mod Plots
 pub mod Steps
 pub mod Seen
 pub mod Stretches
 pub mod Lendings
 pub mod Visits
+pub mod Errands
 pub mod Owned
 pub mod Reached
 pub mod Laws

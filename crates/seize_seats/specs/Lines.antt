@@ -1,6 +1,6 @@
--- Where the words of a memory lie: each root's on lines of their own, each slot's on one, and then those of the blocks' entries. A line has 16 words, which
--- are 128 bytes.
-use Rattle.std.specs.Prelude.{◌≡◌, ℕ, zero, suc, ◌+◌, ◌*◌, ◌<◌, ◌≤◌, ◌⊎◌, List, [], ◌∷◌, Some, None, length, slice_index}
+-- Where the words of a memory lie: each root's on lines of their own, each slot's on one, bucket after bucket; and those of the blocks' entries. A line has 16
+-- words, which are 128 bytes.
+use Rattle.std.specs.Prelude.{◌≡◌, ℕ, zero, suc, ◌+◌, ◌*◌, ◌^◌, ◌<◌, ◌≤◌, ◌⊎◌, List, [], ◌∷◌, Some, None, length, slice_index}
 use Rattle.seize_words.specs.Mem.{Mem}
 use Rattle.seize_words.specs.declared.at.At.{At}
 use Rattle.seize_words.specs.declared.block.Block.{Block}
@@ -33,11 +33,11 @@ place_of roots (Slot s field) = (roots + roots + s) * 16 + field
 place_of roots (Entry b i) = 0
 place_of roots (Word b i) = 0
 
--- there is such a word, once the slots of the first bucket have theirs, and a block of the number is there that has as many words
+-- there is such a word, once the slots have theirs, and a block of the number is there that has as many words: 33 buckets of slots have theirs at most
 abbrev pub IsWord : ℕ → ℕ → At → Type 0
 IsWord roots count (Root r) = r < roots
 IsWord roots count (Used r) = r < roots
-IsWord roots count (Slot s field) = (s < 32) × (field < 2)
+IsWord roots count (Slot s field) = (s + 32 < 2 ^ 38) × (field < 2)
 IsWord roots count (Entry b i) = (0 < b) × (b ≤ count) × (i < 4)
 IsWord roots count (Word b i) = (0 < b) × (b ≤ count)
 
@@ -63,11 +63,17 @@ memory_of roots s = record {
   choices = [];
 }
 
--- All words are there, and no more numbers than so many. Either no slot has its words, and they are 0, or those of the first bucket have. There is no block
--- of a number that was not given.
+-- no slot has its words, which are 0, or so many have
+abbrev pub AreSlots : ℕ → List ℕ → ℕ → Type 0
+AreSlots roots ws slots =
+    ((slots ≡ 0) × (length ws ≡ long roots) × ((k : ℕ) → (roots + roots) * 16 ≤ k → slice_index ws k ≡ 0))
+    ⊎ ((length ws ≡ (roots + roots + slots) * 16) × (slots + 32 ≤ 2 ^ 38))
+
+-- All words of roots are there, those of the slots of the first bucket, and no more numbers than so many. Either no slot has its words, and they are 0, or as
+-- many have as there are words for. There is no block of a number that was not given.
 pub record AreLaid {T : Type 0} (roots count : ℕ) (s : Parts T) : Type 0 where
-  pub all : length s.words ≡ long roots
-  pub slots_are : ((s.slots ≡ 0) × ((k : ℕ) → (roots + roots) * 16 ≤ k → slice_index s.words k ≡ 0)) ⊎ (s.slots ≡ 32)
+  pub all : long roots ≤ length s.words
+  pub slots_are : AreSlots roots s.words s.slots
   pub counted : length s.cells ≤ count
   pub within : s.given ≤ length s.cells
   pub rest : (k : ℕ) → s.given ≤ k → block_in (cell_at s.cells k) ≡ None

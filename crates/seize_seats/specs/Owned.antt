@@ -17,11 +17,13 @@ use Rattle.core.specs.Sync.RawAtomic.{word}
 pub use Rattle.seize_seats.specs.Seen.{fact, itself, shared_view, seen, number_share_coded}
 use Rattle.seize_seats.specs.Lendings.{lendable, in_hand}
 use Rattle.seize_seats.specs.State.{State}
+use Rattle.seize_seats.specs.Errands.{Sight, stakes}
 use Rattle.seize_seats.specs.Stretches.{IsEven, invariant}
 use Rattle.seize_seats.specs.Cells.{Body, Cell, Free, Claimed, Out, Has, Held, sign_of}
 use Rattle.seize_seats.specs.Lines.{Parts, long, place_of, memory_of, AreLaid}
 use Rattle.seize_seats.specs.Strips.{Strip, strip_coded, no_strip, further, Book, AreStrips}
-use Rattle.seize_seats.specs.Doors.{IsFurther, frees, right_to, doors}
+use Rattle.seize_seats.specs.Doors.{IsFurther, frees, right_to, stays, doors}
+use Rattle.seize_seats.specs.Buckets.{IsBucket, AreBuckets}
 use Rattle.seize_words.specs.declared.at.At.{At}
 use Rattle.seize_words.specs.declared.at.At.TheVariants.{Root, Used, Slot, Entry, Word}
 
@@ -65,6 +67,23 @@ module _ {V : Type 0} (c : V → Gv) (γ : ℕ) where
   -- of seats that are there and those that are not
   abbrev pub ledger : V → List V → Fml
   ledger blank vs = fsep (quarters 0 vs) (unborn (length vs) blank)
+
+-- the words of buckets of slots, one bucket after the other
+abbrev pub lines : List Strip → List ℕ → Fml
+lines [] ws = ftrue
+lines (s ∷ ss) ws = fsep (row (block_of s.words) (count_of s.words) (take (s.size * 16) ws)) (lines ss (drop (s.size * 16) ws))
+
+-- the right to give the memory of a bucket back
+abbrev pub bucket_right : Strip → Fml
+bucket_right s = words_right (s.size * 16) s.words
+
+-- a bucket is a piece of memory
+abbrev pub bucket_pieces : Pieces Strip
+bucket_pieces = pieces_at (λ s. s.words) (λ s. s.size * 16)
+
+-- of seats that may be on errands: α: the lifetime of the memory
+abbrev pub sitting : {V : Type 0} → Lft → Sight V → ℕ → V → List V → Fml
+sitting α c γ blank vs = fsep (ledger c.code γ blank vs) (stakes α c.away vs)
 
 -- Who has a number: 0, or 1 where a call has its place in its hand, or two more than the name under which it is noted whose call has its value in the hand. The
 -- call has left this share.
@@ -182,8 +201,8 @@ module _ (R : RattleType) (own : Pieces R.Denot) (fresh : Bool) where
   all_alone [] = ftrue
   all_alone (s ∷ ss) = fsep (alone s) (all_alone ss)
 
--- Which memory: the atom of its lifetime, the names of the views, of the hands and of the strips, how many roots it has and how many numbers there may be, and
--- where the words of roots and slots lie; where the doors lie, and how many numbers the first strip has.
+-- Which memory: the atom of its lifetime, the names of the views, of the hands, of the strips and of the buckets of slots, how many roots it has and how many
+-- numbers there may be, and where the words of roots and of the first bucket's slots lie; where the doors lie, and how many numbers the first strip has.
 pub record Core : Type 0 where
   pub atom : ℕ
   pub views_name : ℕ
@@ -194,8 +213,10 @@ pub record Core : Type 0 where
   pub fixed : Ptr
   pub doors : Ptr
   pub least : ℕ
+  pub slots_name : ℕ
 
--- Which words these are: of which memory, and of which of its strips: the place of that in the list, and the strip, but for the address of the words.
+-- Which words these are: of which memory, and of which of its strips: the place of that in the list, and the strip, but for the address of the words. And which
+-- bucket of slots behind the first is known to be there, if it isn't 0.
 pub record BaseId : Type 0 where
   pub atom : ℕ
   pub views_name : ℕ
@@ -211,11 +232,14 @@ pub record BaseId : Type 0 where
   pub size : ℕ
   pub doors : Ptr
   pub least : ℕ
+  pub slots_name : ℕ
+  pub bucket : ℕ
+  pub slots : Strip
 
 abbrev pub base_id_coded : Coded BaseId
 base_id_coded = coded_via (coded× coded_ℕ (coded× coded_ℕ (coded× coded_ℕ (coded× coded_ℕ (coded× coded_ℕ (coded× coded_ℕ
-    (coded× coded_ptr (coded× coded_ℕ (coded× coded_ℕ (coded× coded_ptr (coded× coded_ℕ (coded× coded_ℕ (coded× coded_ptr coded_ℕ)))))))))))))
-    (λ (z : BaseId). (z.atom, (z.views_name, (z.hands_name, (z.strips_name, (z.roots, (z.count, (z.fixed, (z.place, (z.skip, (z.values, (z.first, (z.size, (z.doors, z.least))))))))))))))
+    (coded× coded_ptr (coded× coded_ℕ (coded× coded_ℕ (coded× coded_ptr (coded× coded_ℕ (coded× coded_ℕ (coded× coded_ptr (coded× coded_ℕ (coded× coded_ℕ (coded× coded_ℕ strip_coded))))))))))))))))
+    (λ (z : BaseId). (z.atom, (z.views_name, (z.hands_name, (z.strips_name, (z.roots, (z.count, (z.fixed, (z.place, (z.skip, (z.values, (z.first, (z.size, (z.doors, (z.least, (z.slots_name, (z.bucket, z.slots)))))))))))))))))
     (λ x y e i. record {
       atom = (e i).0;
       views_name = (e i).1.0;
@@ -230,7 +254,10 @@ base_id_coded = coded_via (coded× coded_ℕ (coded× coded_ℕ (coded× coded_�
       first = (e i).1.1.1.1.1.1.1.1.1.1.0;
       size = (e i).1.1.1.1.1.1.1.1.1.1.1.0;
       doors = (e i).1.1.1.1.1.1.1.1.1.1.1.1.0;
-      least = (e i).1.1.1.1.1.1.1.1.1.1.1.1.1;
+      least = (e i).1.1.1.1.1.1.1.1.1.1.1.1.1.0;
+      slots_name = (e i).1.1.1.1.1.1.1.1.1.1.1.1.1.1.0;
+      bucket = (e i).1.1.1.1.1.1.1.1.1.1.1.1.1.1.1.0;
+      slots = (e i).1.1.1.1.1.1.1.1.1.1.1.1.1.1.1.1;
     })
 
 abbrev pub core_of : BaseId → Core
@@ -244,6 +271,7 @@ core_of z = record {
   fixed = z.fixed;
   doors = z.doors;
   least = z.least;
+  slots_name = z.slots_name;
 }
 
 -- what the list of its strips is known by
@@ -268,6 +296,7 @@ abbrev pub IsLike : BaseId → BaseId → Type 0
 IsLike y z =
     (y.roots ≡ z.roots) × (y.count ≡ z.count) × (y.hands_name ≡ z.hands_name) × (y.strips_name ≡ z.strips_name) × (y.fixed ≡ z.fixed)
     × (y.place ≡ z.place) × (y.skip ≡ z.skip) × (y.values ≡ z.values) × (y.first ≡ z.first) × (y.size ≡ z.size) × (y.doors ≡ z.doors) × (y.least ≡ z.least)
+    × (y.slots_name ≡ z.slots_name) × (y.bucket ≡ z.bucket) × (y.slots ≡ z.slots)
 
 -- it is the first strip: its words come behind those of roots and slots
 abbrev pub IsFirst : Ptr → BaseId → Type 0
@@ -281,13 +310,27 @@ place_in z (Slot s field) = place_of z.roots (Slot s field)
 place_in z (Entry b i) = (b - 1 - z.first) * 5 + z.skip + i
 place_in z (Word b i) = 0
 
--- it is one of these words, if there is such a word: those of roots and slots lie before the words of the first strip
+-- it is one of these words, if there is such a word: those of roots and of the first bucket's slots lie before the words of the first strip
 abbrev pub IsIn : Ptr → BaseId → At → Type 0
 IsIn p z (Root r) = z.fixed ≡ p
 IsIn p z (Used r) = z.fixed ≡ p
-IsIn p z (Slot s field) = z.fixed ≡ p
+IsIn p z (Slot s field) = (s < 32) × (z.fixed ≡ p)
 IsIn p z (Entry b i) = IsIts z (b - 1)
 IsIn p z (Word b i) = ⊥
+
+-- the doors of the buckets behind the first, which follow those of strips
+abbrev pub gates : Core → List Strip → Fml
+gates k ss = doors k.slots_name IsBucket bucket_right (block_of k.doors) (256 + count_of k.doors) 32 0 ss
+
+-- The words of roots and slots, with these buckets behind the first: where they lie, the list of the buckets, which only grows, and their doors. The first
+-- bucket has no door, and another one stands for it in the list.
+abbrev pub ground_of : Core → List ℕ → List Strip → Fml
+ground_of k ws ss =
+    fsep (fsep (row (block_of k.fixed) (count_of k.fixed) (take (long k.roots) ws)) (lines ss (drop (long k.roots) ws)))
+    (fsep (fsep (ledger strip_coded.code k.slots_name no_strip (no_strip ∷ ss)) (gates k ss)) (fact (AreBuckets k.roots ws ss)))
+
+abbrev pub ground : Core → List ℕ → Fml
+ground k ws = fex (List Strip) (ground_of k ws)
 
 -- what the invariant has beside the rule: what the memory is made of, and the views
 pub record Inside (T V W : Type 0) : Type 0 where
@@ -304,18 +347,18 @@ abbrev pub IsPlaced : RattleType → Ptr → BaseId → Type 0
 IsPlaced R p z = InBlock p × ((z.skip + z.size * 5) * 8 < 2 ^ 63) × InBlock z.values × (z.size * stride R < 2 ^ 63) × InBlock z.doors
 
 -- the invariant, where this is known of the list of the strips
-module _ (R : RattleType) (own : Pieces R.Denot) {V W : Type 0} (c : V → Gv) (holds : State R.Denot V W → Type 0) (k : Core) (Known : List Strip → Type 0) where
+module _ (R : RattleType) (own : Pieces R.Denot) {V W : Type 0} (c : Sight V) (holds : State R.Denot V W → Type 0) (k : Core) (Known : List Strip → Type 0) where
   -- the own words of a block, and its value, at a place
   abbrev pub lent_in : ℕ → Body R.Denot → ℕ → ℕ → Fml
-  lent_in i x b o = fsep (piece own x) (lendable R (k.atom ∷ []) c k.views_name holds i x.0 b o)
+  lent_in i x b o = fsep (piece own x) (lendable R (k.atom ∷ []) c.code k.views_name holds i x.0 b o)
 
   abbrev pub had_in : ℕ → ℕ → Body R.Denot → Fml
-  had_in ρ i x = fsep (piece own x) (in_hand R (k.atom ∷ []) c k.views_name holds ρ i x.0)
+  had_in ρ i x = fsep (piece own x) (in_hand R (k.atom ∷ []) c.code k.views_name holds ρ i x.0)
 
   abbrev pub standing_in : Inside R.Denot V W → Fml
   standing_in i =
-      fsep (fsep (row (block_of k.fixed) (count_of k.fixed) i.parts.words) (all_strips R (k.atom ∷ []) k.hands_name lent_in had_in (book_in k) Known i.parts.cells))
-      (fsep (ledger c k.views_name i.blank i.views)
+      fsep (fsep (ground k i.parts.words) (all_strips R (k.atom ∷ []) k.hands_name lent_in had_in (book_in k) Known i.parts.cells))
+      (fsep (sitting (k.atom ∷ []) c k.views_name i.blank i.views)
       (fact (holds record { memory = memory_of k.roots i.parts; views = i.views; world = i.world } × AreLaid k.roots k.count i.parts)))
 
   abbrev pub inner_in : Fml
@@ -325,9 +368,14 @@ module _ (R : RattleType) (own : Pieces R.Denot) {V W : Type 0} (c : V → Gv) (
 abbrev pub IsListed : Ptr → BaseId → List Strip → Type 0
 IsListed p z ss = slice_get ss z.place ≡ Some (strip_of p z)
 
--- and stays so: a share of its place in the list, which can be cut again and again
+-- that a bucket is there, if it isn't the first
+abbrev pub bucket_told : ℕ → ℕ → Strip → Fml
+bucket_told σ zero s = ftrue
+bucket_told σ (suc k) s = fsep (fact (IsBucket k s)) (stays σ (suc k) s)
+
+-- and stays so: a share of its place in the list, which can be cut again and again; with what is known of a bucket of slots
 abbrev pub is_listed : Ptr → BaseId → Fml
-is_listed p z = fex Share (λ q. seen strip_coded.code z.strips_name q z.place (strip_of p z))
+is_listed p z = fsep (stays z.strips_name z.place (strip_of p z)) (bucket_told z.slots_name z.bucket z.slots)
 
 -- what shows that a strip is one of a memory's
 abbrev pub strip_there : RattleType → Ptr → BaseId → Fml
@@ -342,7 +390,7 @@ strip_told R (block_ptr b o) z = strip_there R (block_ptr b o) z
 abbrev pub strip_owns : RattleType → Ptr → BaseId → Fml
 strip_owns R p z = fsep (strip_told R p z) ftrue
 
-module _ (R : RattleType) (own : Pieces R.Denot) {V W : Type 0} (c : V → Gv) (holds : State R.Denot V W → Type 0) where
+module _ (R : RattleType) (own : Pieces R.Denot) {V W : Type 0} (c : Sight V) (holds : State R.Denot V W → Type 0) where
   -- the invariant itself
   abbrev pub everything : Core → Fml
   everything k = inner_in R own c holds k (λ _. Unit {0})
@@ -350,11 +398,11 @@ module _ (R : RattleType) (own : Pieces R.Denot) {V W : Type 0} (c : V → Gv) (
   module _ (p : Ptr) (z : BaseId) where
     -- what stands for the body of a block
     abbrev pub lent_here : ℕ → Body R.Denot → ℕ → ℕ → Fml
-    lent_here i x b o = fsep (piece own x) (lendable R (age z) c z.views_name holds i x.0 b o)
+    lent_here i x b o = fsep (piece own x) (lendable R (age z) c.code z.views_name holds i x.0 b o)
 
     -- what stands for one whose value a call has in its hand
     abbrev pub had_here : ℕ → ℕ → Body R.Denot → Fml
-    had_here ρ i x = fsep (piece own x) (in_hand R (age z) c z.views_name holds ρ i x.0)
+    had_here ρ i x = fsep (piece own x) (in_hand R (age z) c.code z.views_name holds ρ i x.0)
 
     -- the invariant, as it is seen by who knows of the strip
     abbrev pub standing : Inside R.Denot V W → Fml

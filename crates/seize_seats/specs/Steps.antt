@@ -24,6 +24,6 @@ pub record IsStepOf (T : Type 0) (p : Ptr) (z : BaseId) (at : At) (place : ℕ) 
 abbrev pub exchanged : ℕ → ℕ → Result ℕ ℕ
 exchanged old found = if found == old then Ok found else Err found
 
--- how the asking for the words of a bucket is answered: there are those of the first one alone
+-- how the asking for the words of a bucket is answered that has no door: the first one's are there then, and there are none of one behind the last door
 abbrev pub roomed : ℕ → Result Unit Fault
 roomed bucket = if bucket == 0 then Ok tt else Err Memory

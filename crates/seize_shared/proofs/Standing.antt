@@ -7,7 +7,7 @@ use Rattle.seize_shared.specs.Standing.{standing}
 use Rattle.seize_views.specs.Told.{seen_as}
 use Rattle.seize_views.specs.Promises.{IsLooking, IsTaker}
 use Rattle.seize_views.specs.declared.view.View.{View}
-use Rattle.seize_views.specs.declared.view.View.TheVariants.{Rests, Registers, Outside, Owes, Enters, Inside, Settles, Leaves, Left, Frees, Brings, Bears}
+use Rattle.seize_views.specs.declared.view.View.TheVariants.{Rests, Registers, Outside, Owes, Enters, Inside, Settles, Leaves, Left, Frees, Brings, Bears, Watches, Busy}
 use Rattle.seize_views.specs.declared.view.Has.{Has}
 use Rattle.seize_views.specs.declared.view.Has.TheVariants.{Nothing, Made, Seen, Both, Cut}
 
@@ -75,6 +75,8 @@ module _ {T : Type 0} (t : ℕ) where
   is_outside k (Frees s) e = absurd (cc e)
   is_outside k (Brings b x) e = absurd (cc e)
   is_outside k (Bears b) e = absurd (cc e)
+  is_outside k (Watches s b) e = absurd (cc e)
+  is_outside k (Busy s) e = absurd (cc e)
 
   inside : (k : ℕ) (v : View T) → standing v ≡ Some (stands t true k) → (has : Has T) × Knows has k × (v ≡ Inside t has)
   inside k (Inside s Nothing) e = let p = same t s k 0 true true e in (Nothing, sym p.2, ap (λ (n : ℕ). Inside n Nothing) p.0)
@@ -98,6 +100,8 @@ module _ {T : Type 0} (t : ℕ) where
   inside k (Frees s) e = absurd (cc e)
   inside k (Brings b x) e = absurd (cc e)
   inside k (Bears b) e = absurd (cc e)
+  inside k (Watches s b) e = absurd (cc e)
+  inside k (Busy s) e = absurd (cc e)
 
   pub is_inside : (k : ℕ) (v : View T) → standing v ≡ Some (stands t true k) → (has : Has T) × IsLooking has × (v ≡ Inside t has)
   is_inside k v e = let i = inside k v e in (i.0, looking i.0 k i.1, i.2)

@@ -1,5 +1,3 @@
-pub mod Seeking
-pub mod Made
 pub mod Standing
 pub mod Lent
 pub mod Deeds

@@ -1,7 +1,7 @@
 -- How a seat stands that has a slot and no block in its hand.
 use Rattle.std.specs.Prelude.{ℕ, Bool, true, false, Option, Some, None, ◌==◌, if◌then◌else◌}
 use Rattle.seize_views.specs.declared.view.View.{View}
-use Rattle.seize_views.specs.declared.view.View.TheVariants.{Outside, Inside, Brings, Bears}
+use Rattle.seize_views.specs.declared.view.View.TheVariants.{Outside, Inside}
 use Rattle.seize_views.specs.declared.view.Has.TheVariants.{Nothing, Seen}
 
 -- the slot; whether its section is open; and which block it has seen there, 0 for none
@@ -10,12 +10,3 @@ standing (Outside t) = Some (t, false, 0)
 standing (Inside t Nothing) = Some (t, true, 0)
 standing (Inside t (Seen b)) = if b == 0 then None else Some (t, true, b)
 standing _ = None
-
--- and the block that a seat has that has no slot: which it has made, or unlinked
-abbrev pub brought_by : {T : Type 0} → View T → Option ℕ
-brought_by (Brings b x) = Some b
-brought_by _ = None
-
-abbrev pub borne_by : {T : Type 0} → View T → Option ℕ
-borne_by (Bears b) = Some b
-borne_by _ = None

@@ -1,30 +1,33 @@
 //! Guards of sections: what they have in common, one of a slot that stays on its thread, and one with a slot of its own that may be sent.
 ghost use Rattle.std.specs.Prelude.{◌≡◌, ◌≢◌, ◌<◌, ◌^◌, ◌⊎◌, ℕ, Bool, None, Some, IfOk, IfErr, IfNone, IfSome, true, false};
+ghost use Rattle.seize_callers.specs.Owning.{borne_by};
 ghost use Rattle.seize_shared.specs.Deeds.{has_put, has_taken};
 ghost use Rattle.seize_views.specs.declared.view.Began.{Began};
 ghost use Rattle.seize_views.specs.declared.view.Began.TheVariants.{Retirement, Section, Trial};
 ghost use Rattle.seize_views.specs.declared.view.Deed.{Deed};
 ghost use Rattle.seize_views.specs.declared.view.Deed.TheVariants.{Looked, Wrote};
-ghost use Rattle.seize_views.specs.declared.view.View.TheVariants.{Bears, Rests};
+ghost use Rattle.seize_views.specs.declared.view.View.TheVariants.{Rests};
 
 use crate::owned::Unlinked;
 use crate::stay::Stay;
 use seize::rows::Defers;
-use seize_blocks::{Blocks, Seat};
-use seize_views::{Fixed, OfRows};
+use seize_blocks::Blocks;
+use seize_callers::Caller;
+use seize_views::{Content, Fixed, OfRows};
 use seize_words::Fault;
 use std::marker::PhantomData;
 
 /// A slot of its owner's, on whose thread it stays. It is given up as this ends.
 #[derive(Drop)]
-pub struct Registration<'a, T: Defers + Drop> {
-    stay: Stay<'a, T>,
+pub struct Registration<'a, T: Defers + Drop, C: Content<T> = OfRows> {
+    stay: Stay<'a, T, C>,
     thread: PhantomData<*const ()>,
+    ghost alone: { stay.guards ≡ 0 },
 }
 
-impl<'a, T: Defers + Drop> Registration<'a, T> {
+impl<'a, T: Defers + Drop, C: Content<T>> Registration<'a, T, C> {
     /// Takes the first slot that can be taken. What was chosen as the memory was opened is handed in.
-    pub fn new(blocks: &'a Blocks<T, OfRows>, fixed: &Fixed) -> Result<Self, Fault>
+    pub fn new(blocks: &'a Blocks<T, C>, fixed: &Fixed) -> Result<Self, Fault>
         requires fixed { blocks.now.words.fixed ≡ fixed.now }
         ensures home { IfOk result (λ registration. registration.stay.caller.blocks.now ≡ blocks.now) }
     {
@@ -35,6 +38,32 @@ impl<'a, T: Defers + Drop> Registration<'a, T> {
         })
     }
 
+    /// Tries the slot's batch without a section. A value that is reclaimed is dropped. Where a guard was forgotten its section ends first.
+    pub fn flush(&mut self)
+        ensures home { self.new.stay.caller.blocks ≡ self.old.stay.caller.blocks }
+        ensures beside { C.beside self.new.stay.caller.seat.view ≡ C.beside self.old.stay.caller.seat.view }
+        ensures slot { self.new.stay.slot ≡ self.old.stay.slot }
+        ensures closed { self.new.stay.inside ≡ false }
+        ensures began { (C.notes self.new.stay.caller.seat.view).began ≡ Trial }
+    {
+        self.stay.closes();
+        self.stay.flushes();
+    }
+
+    /// Opens a section of the slot. Where a guard was forgotten its section ends first.
+    pub fn enter<'r>(&'r mut self) -> LocalGuard<'r, 'a, T, C>
+        ensures inside { result.registration.now.stay.inside ≡ true }
+        ensures home { result.registration.now.stay.caller.blocks ≡ self.old.stay.caller.blocks }
+        ensures beside { C.beside result.registration.now.stay.caller.seat.view ≡ C.beside self.old.stay.caller.seat.view }
+        ensures slot { result.registration.now.stay.slot ≡ self.old.stay.slot }
+        ensures fresh { result.registration.now.stay.seen ≡ 0 }
+    {
+        self.stay.refreshes();
+        LocalGuard { registration: self }
+    }
+}
+
+impl<'a, T: Defers + Drop> Registration<'a, T> {
     /// Takes the value from a root, and retires it, without a section; tells whether there was one. Where a guard was forgotten its section ends first.
     pub fn clear(&mut self, root: u64) -> bool
         ensures home { self.new.stay.caller.blocks ≡ self.old.stay.caller.blocks }
@@ -56,34 +85,15 @@ impl<'a, T: Defers + Drop> Registration<'a, T> {
     {
         let Unlinked { caller, block } = old;
         let mut caller = caller;
-        caller.hands_over(&mut self.stay, block);
-    }
-
-    /// Tries the slot's batch without a section. A value that is reclaimed is dropped. Where a guard was forgotten its section ends first.
-    pub fn flush(&mut self)
-        ensures home { self.new.stay.caller.blocks ≡ self.old.stay.caller.blocks }
-        ensures slot { self.new.stay.slot ≡ self.old.stay.slot }
-        ensures closed { self.new.stay.inside ≡ false }
-        ensures began { self.new.stay.caller.seat.view.began ≡ Trial }
-    {
-        self.stay.closes();
-        self.stay.flushes();
-    }
-
-    /// Opens a section of the slot. Where a guard was forgotten its section ends first.
-    pub fn enter<'r>(&'r mut self) -> LocalGuard<'r, 'a, T>
-        ensures inside { result.registration.now.stay.inside ≡ true }
-        ensures home { result.registration.now.stay.caller.blocks ≡ self.old.stay.caller.blocks }
-        ensures slot { result.registration.now.stay.slot ≡ self.old.stay.slot }
-        ensures fresh { result.registration.now.stay.seen ≡ 0 }
-    {
-        self.stay.refreshes();
-        LocalGuard { registration: self }
+        self.stay.takes_over(&mut caller, block);
     }
 }
 
 /// What guards of sections have in common, so that a call can take any of them.
 pub trait Guard<T: Defers> {
+    /// What its memory has beside slots, sections and batches.
+    type Content: Content<T>;
+
     /// The memory that it is of, and how many roots that has.
     ghost home: { Self → ℕ × ℕ };
 
@@ -96,14 +106,13 @@ pub trait Guard<T: Defers> {
     /// The block that it has seen last, 0 for none.
     ghost seen: { Self → ℕ };
 
-    /// This is the value of that block, as it is while nothing else was seen.
-    ghost lends: { Self → ℕ → T → Type 0 };
-
-    /// What it has done last at a root.
-    ghost did: { Self → Deed T };
-
     /// What it has begun last on its slot.
     ghost began: { Self → Began };
+
+    /// What its seat knows beside that: of this kind.
+    ghost Beside: { Type 0 };
+
+    ghost beside: { Self → Beside };
 
     /// The number of its slot.
     fn thread_id(&self) -> u64
@@ -112,86 +121,97 @@ pub trait Guard<T: Defers> {
     /// Ends the section and begins the next one. A value that is reclaimed is dropped.
     fn refresh(&mut self)
         ensures home { home self.new ≡ home self.old }
+        ensures beside { beside self.new ≡ beside self.old }
         ensures slot { slot self.new ≡ slot self.old }
         ensures inside { inside self.new ≡ true }
         ensures fresh { seen self.new ≡ 0 }
         ensures began { began self.new ≡ Section };
 
-    /// Looks which value is at a root, and tells whether one is. What it has seen before it doesn't know any more.
-    fn see(&mut self, root: u64) -> bool
-        ensures home { home self.new ≡ home self.old }
-        ensures slot { slot self.new ≡ slot self.old }
-        ensures inside { inside self.new ≡ inside self.old }
-        ensures seen { result ≡ true → seen self.new ≢ 0 }
-        ensures looked { result ≡ true → did self.new ≡ Looked root (seen self.new) }
-        ensures none { result ≡ false → seen self.new ≡ 0 }
-        ensures empty { result ≡ false → inside self.old ≡ true → root < (home self.old).1 → did self.new ≡ Looked root 0 };
-
-    /// The value that it has seen, if it has seen one since it began, or was refreshed.
-    fn value(&self) -> Option<&T>
-        ensures lent { IfSome result (λ value. lends self.now (seen self.now) value.now) }
-        ensures some { IfSome result (λ value. seen self.now ≢ 0) }
-        ensures none { IfNone result (seen self.now ≡ 0) };
-
-    /// Puts a value at a root, and retires the one that was there. Without such a root, or a block for it, it comes back. The section is begun anew.
-    fn put(&mut self, root: u64, value: T) -> Result<(), T>
-        ensures home { home self.new ≡ home self.old }
-        ensures slot { slot self.new ≡ slot self.old }
-        ensures inside { inside self.new ≡ true }
-        ensures fresh { seen self.new ≡ 0 }
-        ensures back { IfErr result (λ back. back ≡ value) }
-        ensures put { IfOk result (λ _. has_put (did self.new) ≡ Some (root, value)) };
-
-    /// Puts a value at a root if what it has seen last is there, or nothing where it has seen nothing, and retires that. Else the value comes back, and it has
-    /// seen what is there. It comes back, too, where there is no such root, or no block can be made of it.
-    fn exchange(&mut self, root: u64, value: T) -> Result<(), T>
-        ensures home { home self.new ≡ home self.old }
-        ensures slot { slot self.new ≡ slot self.old }
-        ensures inside { inside self.new ≡ inside self.old }
-        ensures back { IfErr result (λ back. back ≡ value) }
-        ensures put { IfOk result (λ _. did self.new ≡ Wrote root (Some value) (seen self.old)) }
-        ensures spent { IfOk result (λ _. seen self.new ≡ 0) }
-        ensures other { IfErr result (λ _. (did self.new ≡ Looked root (seen self.new)) ⊎ (seen self.new ≡ seen self.old)) };
-
-    /// Takes the value from a root, and retires it; tells whether there was one. The section is begun anew.
-    fn clear(&mut self, root: u64) -> bool
-        ensures home { home self.new ≡ home self.old }
-        ensures slot { slot self.new ≡ slot self.old }
-        ensures inside { inside self.new ≡ true }
-        ensures fresh { seen self.new ≡ 0 }
-        ensures taken { result ≡ true → has_taken (did self.new) ≡ Some root }
-        ensures none { result ≡ false → root < (home self.old).1 → did self.new ≡ Wrote root None 0 };
-
-    /// Retires a block that a seat without a slot has unlinked, of the same memory (`Unlinked` does so by it). What it has seen it doesn't know any more.
-    fn takes_over(&mut self, seat: &mut Seat<T, OfRows>, block: u64)
-        requires own { seat.old.base ≡ (home self.old).0 }
-        requires bears { seat.old.view.knows ≡ Bears block }
-        requires fits { block < 2 ^ 53 }
-        ensures home { home self.new ≡ home self.old }
-        ensures slot { slot self.new ≡ slot self.old }
-        ensures inside { inside self.new ≡ inside self.old }
-        ensures fresh { seen self.new ≡ 0 }
-        ensures began { began self.new ≡ Retirement }
-        ensures did { did self.new ≡ did self.old }
-        ensures rests { seat.new.view.knows ≡ Rests }
-        ensures base { seat.new.base ≡ seat.old.base };
-
     /// Tries the slot's batch, whatever its length. A value that is reclaimed is dropped. What it has seen it doesn't know any more.
     fn flush(&mut self)
         ensures home { home self.new ≡ home self.old }
+        ensures beside { beside self.new ≡ beside self.old }
         ensures slot { slot self.new ≡ slot self.old }
         ensures inside { inside self.new ≡ inside self.old }
         ensures fresh { seen self.new ≡ 0 }
         ensures began { began self.new ≡ Trial };
 }
 
-/// A section that is open as long as this lives. What it has seen is there until its next step. It stays on its thread.
-pub struct LocalGuard<'r, 'a, T: Defers + Drop> {
-    registration: &'r mut Registration<'a, T>,
+/// A guard that looks at roots, puts values there and takes them from there: so it is where rows are all there is.
+pub trait RootGuard<T: Defers>: Guard<T> {
+    /// This is the value of that block, as it is while nothing else was seen.
+    ghost lends: { Self → ℕ → T → Type 0 };
+
+    /// What it has done last at a root.
+    ghost did: { Self → Deed T };
+
+    /// Looks which value is at a root, and tells whether one is. What it has seen before it doesn't know any more.
+    fn see(&mut self, root: u64) -> bool
+        ensures home { Self.home self.new ≡ Self.home self.old }
+        ensures slot { Self.slot self.new ≡ Self.slot self.old }
+        ensures inside { Self.inside self.new ≡ Self.inside self.old }
+        ensures seen { result ≡ true → Self.seen self.new ≢ 0 }
+        ensures looked { result ≡ true → did self.new ≡ Looked root (Self.seen self.new) }
+        ensures none { result ≡ false → Self.seen self.new ≡ 0 }
+        ensures empty { result ≡ false → Self.inside self.old ≡ true → root < (Self.home self.old).1 → did self.new ≡ Looked root 0 };
+
+    /// The value that it has seen, if it has seen one since it began, or was refreshed.
+    fn value(&self) -> Option<&T>
+        ensures lent { IfSome result (λ value. lends self.now (Self.seen self.now) value.now) }
+        ensures some { IfSome result (λ value. Self.seen self.now ≢ 0) }
+        ensures none { IfNone result (Self.seen self.now ≡ 0) };
+
+    /// Puts a value at a root, and retires the one that was there. Without such a root, or a block for it, it comes back. What it has seen it doesn't know any more.
+    fn put(&mut self, root: u64, value: T) -> Result<(), T>
+        ensures home { Self.home self.new ≡ Self.home self.old }
+        ensures slot { Self.slot self.new ≡ Self.slot self.old }
+        ensures inside { Self.inside self.new ≡ true }
+        ensures fresh { Self.seen self.new ≡ 0 }
+        ensures back { IfErr result (λ back. back ≡ value) }
+        ensures put { IfOk result (λ _. has_put (did self.new) ≡ Some (root, value)) };
+
+    /// Puts a value at a root if what it has seen last is there, or nothing where it has seen nothing, and retires that. Else the value comes back, and it has
+    /// seen what is there. It comes back, too, where there is no such root, or no block can be made of it.
+    fn exchange(&mut self, root: u64, value: T) -> Result<(), T>
+        ensures home { Self.home self.new ≡ Self.home self.old }
+        ensures slot { Self.slot self.new ≡ Self.slot self.old }
+        ensures inside { Self.inside self.new ≡ Self.inside self.old }
+        ensures back { IfErr result (λ back. back ≡ value) }
+        ensures put { IfOk result (λ _. did self.new ≡ Wrote root (Some value) (Self.seen self.old)) }
+        ensures spent { IfOk result (λ _. Self.seen self.new ≡ 0) }
+        ensures other { IfErr result (λ _. (did self.new ≡ Looked root (Self.seen self.new)) ⊎ (Self.seen self.new ≡ Self.seen self.old)) };
+
+    /// Takes the value from a root, and retires it; tells whether there was one. What it has seen it doesn't know any more.
+    fn clear(&mut self, root: u64) -> bool
+        ensures home { Self.home self.new ≡ Self.home self.old }
+        ensures slot { Self.slot self.new ≡ Self.slot self.old }
+        ensures inside { Self.inside self.new ≡ true }
+        ensures fresh { Self.seen self.new ≡ 0 }
+        ensures taken { result ≡ true → has_taken (did self.new) ≡ Some root }
+        ensures none { result ≡ false → root < (Self.home self.old).1 → did self.new ≡ Wrote root None 0 };
+
+    /// Retires a block that a caller without a slot has unlinked, of the same memory (`Unlinked` does so by it). What it has seen it doesn't know any more.
+    fn takes_over<'b>(&mut self, bearer: &mut Caller<'b, T>, block: u64)
+        requires home { bearer.old.blocks.now.words.id.views_name ≡ (Self.home self.old).0 }
+        requires bears { borne_by bearer.old.seat.view.knows ≡ Some block }
+        requires fits { block < 2 ^ 53 }
+        ensures home { Self.home self.new ≡ Self.home self.old }
+        ensures slot { Self.slot self.new ≡ Self.slot self.old }
+        ensures inside { Self.inside self.new ≡ Self.inside self.old }
+        ensures fresh { Self.seen self.new ≡ 0 }
+        ensures began { Self.began self.new ≡ Retirement }
+        ensures did { did self.new ≡ did self.old }
+        ensures rests { bearer.new.seat.view.knows ≡ Rests }
+        ensures memory { bearer.new.blocks ≡ bearer.old.blocks };
 }
 
-impl<'r, 'a, T: Defers + Drop> Guard<T> for LocalGuard<'r, 'a, T> {
-    ghost use Rattle.seize_shared.specs.Lent.{IsLent};
+/// A section that is open as long as this lives. What it has seen is there until its next step. It stays on its thread.
+pub struct LocalGuard<'r, 'a, T: Defers + Drop, C: Content<T> = OfRows> {
+    registration: &'r mut Registration<'a, T, C>,
+}
+
+impl<'r, 'a, T: Defers + Drop, C: Content<T>> Guard<T> for LocalGuard<'r, 'a, T, C> {
+    type Content = C;
 
     ghost home = { λ g. (g.registration.now.stay.caller.blocks.now.words.id.views_name, g.registration.now.stay.caller.blocks.now.words.fixed.roots) };
 
@@ -201,22 +221,37 @@ impl<'r, 'a, T: Defers + Drop> Guard<T> for LocalGuard<'r, 'a, T> {
 
     ghost seen = { λ g. g.registration.now.stay.seen };
 
-    ghost lends = { λ g. IsLent T.defers g.registration.now.stay.caller };
+    ghost began = { λ g. (C.notes g.registration.now.stay.caller.seat.view).began };
 
-    ghost did = { λ g. g.registration.now.stay.caller.seat.view.did };
+    ghost Beside = { C.Beside };
 
-    ghost began = { λ g. g.registration.now.stay.caller.seat.view.began };
+    ghost beside = { λ g. C.beside g.registration.now.stay.caller.seat.view };
 
     fn thread_id(&self) -> u64 {
         self.registration.stay.slot
     }
 
     fn refresh(&mut self) {
-        self.registration.stay.refreshes();
+        let registration = &mut *self.registration;
+        registration.stay.refreshes();
     }
 
+    fn flush(&mut self) {
+        let registration = &mut *self.registration;
+        registration.stay.flushes();
+    }
+}
+
+impl<'r, 'a, T: Defers + Drop> RootGuard<T> for LocalGuard<'r, 'a, T> {
+    ghost use Rattle.seize_shared.specs.Lent.{IsLent};
+
+    ghost lends = { λ g. IsLent T.defers g.registration.now.stay.caller.blocks.now.words.fixed g.registration.now.stay.caller.seat.id g.registration.now.stay.caller.seat.view };
+
+    ghost did = { λ g. g.registration.now.stay.caller.seat.view.did };
+
     fn see(&mut self, root: u64) -> bool {
-        self.registration.stay.sees(root)
+        let registration = &mut *self.registration;
+        registration.stay.sees(root)
     }
 
     fn value(&self) -> Option<&T> {
@@ -224,27 +259,27 @@ impl<'r, 'a, T: Defers + Drop> Guard<T> for LocalGuard<'r, 'a, T> {
     }
 
     fn put(&mut self, root: u64, value: T) -> Result<(), T> {
-        self.registration.stay.puts(root, value)
+        let registration = &mut *self.registration;
+        registration.stay.puts(root, value)
     }
 
     fn exchange(&mut self, root: u64, value: T) -> Result<(), T> {
-        self.registration.stay.exchanges(root, value)
+        let registration = &mut *self.registration;
+        registration.stay.exchanges(root, value)
     }
 
     fn clear(&mut self, root: u64) -> bool {
-        self.registration.stay.clears(root)
+        let registration = &mut *self.registration;
+        registration.stay.clears(root)
     }
 
-    fn takes_over(&mut self, seat: &mut Seat<T, OfRows>, block: u64) {
-        self.registration.stay.takes_over(seat, block);
-    }
-
-    fn flush(&mut self) {
-        self.registration.stay.flushes();
+    fn takes_over<'b>(&mut self, bearer: &mut Caller<'b, T>, block: u64) {
+        let registration = &mut *self.registration;
+        registration.stay.takes_over(bearer, block);
     }
 }
 
-impl<'r, 'a, T: Defers + Drop> Drop for LocalGuard<'r, 'a, T> {
+impl<'r, 'a, T: Defers + Drop, C: Content<T>> Drop for LocalGuard<'r, 'a, T, C> {
     fn drop(self)
         ensures { self.exit.0.now.stay.inside ≡ false }
     {
@@ -256,14 +291,15 @@ impl<'r, 'a, T: Defers + Drop> Drop for LocalGuard<'r, 'a, T> {
 /// A section of a slot of its own, open as long as this lives: the slot is given up as it ends. What it has seen is there until its next step. It may be
 /// sent to another thread, and end there.
 #[derive(Drop)]
-pub struct OwnedGuard<'a, T: Defers + Drop> {
-    stay: Stay<'a, T>,
+pub struct OwnedGuard<'a, T: Defers + Drop, C: Content<T> = OfRows> {
+    stay: Stay<'a, T, C>,
     ghost within: { stay.inside ≡ true },
+    ghost alone: { stay.guards ≡ 0 },
 }
 
-impl<'a, T: Defers + Drop> OwnedGuard<'a, T> {
+impl<'a, T: Defers + Drop, C: Content<T>> OwnedGuard<'a, T, C> {
     /// Takes the first slot that can be taken, and opens a section of it. What was chosen as the memory was opened is handed in.
-    pub fn enter(blocks: &'a Blocks<T, OfRows>, fixed: &Fixed) -> Result<Self, Fault>
+    pub fn enter(blocks: &'a Blocks<T, C>, fixed: &Fixed) -> Result<Self, Fault>
         requires fixed { blocks.now.words.fixed ≡ fixed.now }
         ensures home { IfOk result (λ guard. guard.stay.caller.blocks.now ≡ blocks.now) }
         ensures fresh { IfOk result (λ guard. guard.stay.seen ≡ 0) }
@@ -274,8 +310,8 @@ impl<'a, T: Defers + Drop> OwnedGuard<'a, T> {
     }
 }
 
-impl<'a, T: Defers + Drop> Guard<T> for OwnedGuard<'a, T> {
-    ghost use Rattle.seize_shared.specs.Lent.{IsLent};
+impl<'a, T: Defers + Drop, C: Content<T>> Guard<T> for OwnedGuard<'a, T, C> {
+    type Content = C;
 
     ghost home = { λ g. (g.stay.caller.blocks.now.words.id.views_name, g.stay.caller.blocks.now.words.fixed.roots) };
 
@@ -285,11 +321,11 @@ impl<'a, T: Defers + Drop> Guard<T> for OwnedGuard<'a, T> {
 
     ghost seen = { λ g. g.stay.seen };
 
-    ghost lends = { λ g. IsLent T.defers g.stay.caller };
+    ghost began = { λ g. (C.notes g.stay.caller.seat.view).began };
 
-    ghost did = { λ g. g.stay.caller.seat.view.did };
+    ghost Beside = { C.Beside };
 
-    ghost began = { λ g. g.stay.caller.seat.view.began };
+    ghost beside = { λ g. C.beside g.stay.caller.seat.view };
 
     fn thread_id(&self) -> u64 {
         self.stay.slot
@@ -298,6 +334,18 @@ impl<'a, T: Defers + Drop> Guard<T> for OwnedGuard<'a, T> {
     fn refresh(&mut self) {
         self.stay.refreshes();
     }
+
+    fn flush(&mut self) {
+        self.stay.flushes();
+    }
+}
+
+impl<'a, T: Defers + Drop> RootGuard<T> for OwnedGuard<'a, T> {
+    ghost use Rattle.seize_shared.specs.Lent.{IsLent};
+
+    ghost lends = { λ g. IsLent T.defers g.stay.caller.blocks.now.words.fixed g.stay.caller.seat.id g.stay.caller.seat.view };
+
+    ghost did = { λ g. g.stay.caller.seat.view.did };
 
     fn see(&mut self, root: u64) -> bool {
         self.stay.sees(root)
@@ -319,11 +367,7 @@ impl<'a, T: Defers + Drop> Guard<T> for OwnedGuard<'a, T> {
         self.stay.clears(root)
     }
 
-    fn takes_over(&mut self, seat: &mut Seat<T, OfRows>, block: u64) {
-        self.stay.takes_over(seat, block);
-    }
-
-    fn flush(&mut self) {
-        self.stay.flushes();
+    fn takes_over<'b>(&mut self, bearer: &mut Caller<'b, T>, block: u64) {
+        self.stay.takes_over(bearer, block);
     }
 }

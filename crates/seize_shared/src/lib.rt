@@ -2,12 +2,13 @@
 //! roots, seen there, taken from there and retired, by as many threads as there are.
 #![tactic(auto)]
 
-mod caller;
+mod desk;
 mod guard;
 mod owned;
 mod stay;
 
-pub use caller::Caller;
-pub use guard::{Guard, LocalGuard, OwnedGuard, Registration};
+pub use desk::{Desk, DeskGuard, Place};
+pub use guard::{Guard, LocalGuard, OwnedGuard, Registration, RootGuard};
 pub use owned::{Owned, Unlinked};
-pub use seize_views::{Becomes, Began, Deed, Fixed, Has, Noted, OfRows, View, Why};
+pub use seize_callers::Caller;
+pub use seize_views::{Becomes, Began, Content, Deed, Fixed, Has, Noted, OfRows, View, Why};

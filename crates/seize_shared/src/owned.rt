@@ -1,32 +1,32 @@
 //! Blocks that have seats of their own, and so need no slot: one that was made, and one that was unlinked.
 ghost use Rattle.std.specs.Prelude.{◌≡◌, ◌<◌, ◌^◌, None, Some, IfOk, IfErr, IfSome};
+ghost use Rattle.seize_callers.specs.Owning.{brought_by, borne_by};
 ghost use Rattle.seize_shared.specs.Lent.{IsLent};
-ghost use Rattle.seize_shared.specs.Standing.{brought_by, borne_by};
 ghost use Rattle.seize_views.specs.declared.view.Began.TheVariants.{Retirement};
 ghost use Rattle.seize_views.specs.declared.view.Deed.TheVariants.{Wrote};
 ghost use Rattle.seize_views.specs.declared.view.View.TheVariants.{Brings};
 
-use crate::caller::Caller;
-use crate::guard::Guard;
+use crate::guard::RootGuard;
 use seize::rows::Defers;
 use seize_blocks::Blocks;
-use seize_views::{Fixed, OfRows};
+use seize_callers::Caller;
+use seize_views::{Content, Fixed, OfRows};
 
 /// A block that was made, of its holder's alone: nobody else can reach it. It is spent, by taking it away, or by putting it at a root.
-pub struct Owned<'a, T: Defers> {
-    caller: Caller<'a, T>,
+pub struct Owned<'a, T: Defers, C: Content<T> = OfRows> {
+    caller: Caller<'a, T, C>,
     roots: u64,
     block: u64,
     ghost rooted: { caller.blocks.now.words.fixed.roots ≡ roots },
-    ghost brings: { brought_by caller.seat.view.knows ≡ Some block },
+    ghost brings: { brought_by (C.notes caller.seat.view).knows ≡ Some block },
     ghost fits: { block < 2 ^ 53 },
 }
 
 /// A block that was taken from a root, and is to be retired. It is spent by that.
-pub struct Unlinked<'a, T: Defers> {
-    pub(crate) caller: Caller<'a, T>,
+pub struct Unlinked<'a, T: Defers, C: Content<T> = OfRows> {
+    pub(crate) caller: Caller<'a, T, C>,
     pub(crate) block: u64,
-    ghost bears: { borne_by caller.seat.view.knows ≡ Some block },
+    ghost bears: { borne_by (C.notes caller.seat.view).knows ≡ Some block },
     ghost fits: { block < 2 ^ 53 },
 }
 
@@ -126,13 +126,13 @@ impl<'a, T: Defers> Owned<'a, T> {
 impl<'a, T: Defers> Unlinked<'a, T> {
     /// Its value, for as long as it is borrowed: others may look at it still, so it is only lent.
     pub fn value(&self) -> &T
-        ensures { IsLent T.defers self.now.caller self.now.block result.now }
+        ensures { IsLent T.defers self.now.caller.blocks.now.words.fixed self.now.caller.seat.id self.now.caller.seat.view self.now.block result.now }
     {
         self.caller.borne(self.block)
     }
 
     /// Retires it under a guard of the same memory. What the guard has seen it doesn't know any more.
-    pub fn retire<G: Guard<T>>(self, guard: &mut G)
+    pub fn retire<G: RootGuard<T>>(self, guard: &mut G)
         requires home { self.caller.blocks.now.words.id.views_name ≡ (G.home guard.old).0 }
         ensures home { G.home guard.new ≡ G.home guard.old }
         ensures slot { G.slot guard.new ≡ G.slot guard.old }
@@ -143,6 +143,6 @@ impl<'a, T: Defers> Unlinked<'a, T> {
     {
         let Unlinked { caller, block } = self;
         let mut caller = caller;
-        caller.hands_to(guard, block);
+        guard.takes_over(&mut caller, block);
     }
 }

@@ -24,6 +24,12 @@ impl Rule<u64> for OneRoot {
     ghost then = { λ _ _ _ _. Unit {0} };
 
     ghost newcomer = { λ _. tt };
+
+    ghost rests = { λ _. Unit {0} };
+
+    ghost newcomers_rest = { λ _. tt };
+
+    ghost resting_stay = { λ _ _ _ _ _ _. tt };
 }
 
 /// Adds 1 so many times, and answers what it finds then.

@@ -5,7 +5,7 @@ use crate::ground::SIZE;
 use crate::retiring::{Table, table};
 use seize::rows::Defers;
 use seize_blocks::{Blocks, Home};
-use seize_shared::{Fixed, Guard, OfRows, Registration};
+use seize_shared::{Fixed, OfRows, Registration, RootGuard};
 use std::alloc::{AllocError, Global};
 use std::sync::Arc;
 use std::sync::atomic::Ordering::SeqCst;

@@ -4,7 +4,7 @@ ghost use Rattle.std.specs.Prelude.{◌≡◌};
 use crate::ground::SIZE;
 use crate::retiring::{Counted, Table, all_are, dropped, table};
 use seize_blocks::{Blocks, Home};
-use seize_shared::{Fixed, Guard, LocalGuard, OfRows, OwnedGuard, Registration};
+use seize_shared::{Fixed, Guard, LocalGuard, OfRows, OwnedGuard, Registration, RootGuard};
 use std::alloc::{AllocError, Global};
 use std::test::Fail;
 use std::thread::Threads;
@@ -258,7 +258,7 @@ fn a_guard_sees_what_it_has_put_and_drops_what_it_has_taken(rt: HostRuntime) -> 
 }
 
 /// Puts a value at the root, by any guard, and looks there; answers the place that it has seen, and the number of its slot.
-fn puts_by<G: Guard<Counted>>(guard: &mut G, value: Counted) -> (Option<usize>, u64)
+fn puts_by<G: RootGuard<Counted>>(guard: &mut G, value: Counted) -> (Option<usize>, u64)
     ensures { result.1 ≡ G.slot guard.old }
 {
     drop(guard.put(0, value));

@@ -4,7 +4,7 @@ ghost use Rattle.std.specs.Prelude.{◌≡◌, Some};
 use crate::guards::CHOSEN;
 use seize::rows::Defers;
 use seize_blocks::{Blocks, Home};
-use seize_shared::{Guard, OfRows, Registration};
+use seize_shared::{OfRows, Registration, RootGuard};
 use std::test::Fail;
 
 /// A number, which keeps a list at this word of its block.

@@ -53,8 +53,10 @@ impl Defers for Numbered {
 /// Puts the value of a place at the root, and retires the one that was there; tells whether it is there.
 fn puts(caller: &mut Caller<'_, Numbered>, slot: u64, numbers: &Table, place: usize) -> bool
     requires inside { caller.old.seat.view.knows ≡ Inside slot Nothing }
+    requires alone { caller.old.seat.view.guards ≡ 0 }
     requires root { 0 < caller.old.blocks.now.words.fixed.roots }
     ensures inside { caller.new.seat.view.knows ≡ Inside slot Nothing }
+    ensures alone { caller.new.seat.view.guards ≡ 0 }
     ensures blocks { caller.new.blocks ≡ caller.old.blocks }
 {
     let Ok(numbers) = Arc::try_clone(numbers) else {
@@ -92,8 +94,10 @@ fn retires(ground: &Ground<'_, Numbered>, numbers: &Table) -> Option<u64> {
 /// Takes the value from the root, if there is one, and retires it.
 fn clears(caller: &mut Caller<'_, Numbered>, slot: u64)
     requires inside { caller.old.seat.view.knows ≡ Inside slot Nothing }
+    requires alone { caller.old.seat.view.guards ≡ 0 }
     requires root { 0 < caller.old.blocks.now.words.fixed.roots }
     ensures inside { caller.new.seat.view.knows ≡ Inside slot Nothing }
+    ensures alone { caller.new.seat.view.guards ≡ 0 }
     ensures blocks { caller.new.blocks ≡ caller.old.blocks }
 {
     if let Some(old) = caller.remove(slot, 0) {

@@ -64,8 +64,10 @@ impl Defers for Counted {
 /// number is free it is dropped.
 pub(crate) fn puts(caller: &mut Caller<'_, Counted>, slot: u64, drops: &Table, place: usize) -> bool
     requires inside { caller.old.seat.view.knows ≡ Inside slot Nothing }
+    requires alone { caller.old.seat.view.guards ≡ 0 }
     requires root { 0 < caller.old.blocks.now.words.fixed.roots }
     ensures inside { caller.new.seat.view.knows ≡ Inside slot Nothing }
+    ensures alone { caller.new.seat.view.guards ≡ 0 }
     ensures blocks { caller.new.blocks ≡ caller.old.blocks }
 {
     let Some(value) = Counted::of(drops, place) else {
@@ -88,8 +90,10 @@ pub(crate) fn puts(caller: &mut Caller<'_, Counted>, slot: u64, drops: &Table, p
 /// Takes the value from the root, if there is one, and retires it.
 pub(crate) fn clears(caller: &mut Caller<'_, Counted>, slot: u64)
     requires inside { caller.old.seat.view.knows ≡ Inside slot Nothing }
+    requires alone { caller.old.seat.view.guards ≡ 0 }
     requires root { 0 < caller.old.blocks.now.words.fixed.roots }
     ensures inside { caller.new.seat.view.knows ≡ Inside slot Nothing }
+    ensures alone { caller.new.seat.view.guards ≡ 0 }
     ensures blocks { caller.new.blocks ≡ caller.old.blocks }
 {
     if let Some(old) = caller.remove(slot, 0) {
@@ -121,8 +125,10 @@ fn writes(ground: &Ground<'_, Counted>, drops: &Table, times: usize) -> Option<u
 /// Looks at the root within a section, and tells whether the value that it has seen there had been dropped, if there was one.
 pub(crate) fn looks(caller: &mut Caller<'_, Counted>, slot: u64) -> Option<bool>
     requires outside { caller.old.seat.view.knows ≡ Outside slot }
+    requires alone { caller.old.seat.view.guards ≡ 0 }
     requires root { 0 < caller.old.blocks.now.words.fixed.roots }
     ensures outside { caller.new.seat.view.knows ≡ Outside slot }
+    ensures alone { caller.new.seat.view.guards ≡ 0 }
     ensures blocks { caller.new.blocks ≡ caller.old.blocks }
 {
     caller.enter(slot);

@@ -1,37 +1,46 @@
 -- Each row goes on: its next operation may be made at any moment.
-use Rattle.std.proofs.Common.{ℕ, subst}
-use Rattle.std.specs.Prelude.{Option}
+use Rattle.std.proofs.Common.{◌≡◌, ℕ, subst}
+use Rattle.std.specs.Prelude.{Option, Some}
 use Rattle.seize_words.specs.Op.{Op, Store, Swap}
 use Rattle.seize_words.specs.declared.at.At.TheVariants.{Slot}
 use Rattle.seize.specs.declared.states.TheConstants.{HEAD, FREE, ACTIVE}
+use Rattle.seize.specs.World.{World, Use}
 use Rattle.seize_acts.proofs.Answers.{same_some}
-use Rattle.seize_views.specs.Rows.{Permits}
 use Rattle.seize_views.specs.Rows.{head_of}
 use Rattle.seize_views.specs.Told.{told}
-use Rattle.seize_views.specs.Promises.{RowsGoOn}
-use Rattle.seize_views.specs.declared.view.View.TheVariants.{Rests, Registers, Outside, Owes, Enters, Inside, Settles, Leaves, Left, Frees, Brings, Bears}
+use Rattle.seize_views.specs.Promises.{op_of, RowsGoOn}
+use Rattle.seize_views.specs.declared.view.View.{View}
+use Rattle.seize_views.specs.declared.view.View.TheVariants.{Rests, Registers, Outside, Owes, Enters, Inside, Settles, Leaves, Left, Frees, Brings, Bears, Watches, Busy}
+use Rattle.seize_views.specs.declared.view.Fixed.{Fixed}
+use Rattle.seize_views.proofs.InWorld.{IsJustSo, just_so, IsLikeness, HasRow, MayMake}
+use Rattle.seize_views.proofs.Lifted.{has_row, makes}
 use Rattle.seize_views.proofs.Operations.{enters, leaves, frees}
 use Rattle.seize_views.proofs.Registers.{registers}
 use Rattle.seize_views.proofs.Settling.{settles}
 
+-- in a world
+module _ {T : Type 0} (defers : T → Option ℕ) (fixed : Fixed) (Is : Use → Use → Type 0) (like : IsLikeness Is) (w : World T) (i : ℕ) where
+  abbrev May : View T → Op T → Type 0
+  May v op = MayMake defers fixed Is w i v op (told defers v op)
+
+  pub goes_on : (v : View T) (op : Op T) → HasRow defers fixed Is w i v → op_of defers v ≡ Some op → May v op
+  goes_on Rests op h e = absurd (cc e)
+  goes_on (Registers c) op h e = registers defers fixed Is like w i c h op e
+  goes_on (Outside t) op h e = absurd (cc e)
+  goes_on (Brings b x) op h e = absurd (cc e)
+  goes_on (Bears b) op h e = absurd (cc e)
+  goes_on (Watches t b) op h e = absurd (cc e)
+  goes_on (Busy t) op h e = absurd (cc e)
+  goes_on (Owes t b) op h e = absurd (cc e)
+  goes_on (Enters t) op h e = subst (May (Enters t)) (same_some (Store (Slot t HEAD) ACTIVE) op e) (enters defers fixed Is like w i t h)
+  goes_on (Inside t has) op h e = absurd (cc e)
+  goes_on (Settles c why seen left) op h e = settles defers fixed Is like w i c why seen left h op e
+  goes_on (Leaves t size way) op h e =
+      subst (May (Leaves t size way)) (same_some (Swap (Slot t HEAD) (head_of way)) op e) (leaves defers fixed Is like w i t size way h)
+  goes_on (Left t size way) op h e = absurd (cc e)
+  goes_on (Frees t) op h e = subst (May (Frees t)) (same_some (Store (Slot t HEAD) FREE) op e) (frees defers fixed Is like w i t h)
+
 module _ (T : Type 0) (defers : T → Option ℕ) where
   pub rows_go_on : RowsGoOn T defers
-  rows_go_on fixed id Rests op e s h at_id = absurd (cc e)
-  rows_go_on fixed id (Registers c) op e s h at_id = registers defers fixed s id c h at_id op e
-  rows_go_on fixed id (Outside t) op e s h at_id = absurd (cc e)
-  rows_go_on fixed id (Brings b x) op e s h at_id = absurd (cc e)
-  rows_go_on fixed id (Bears b) op e s h at_id = absurd (cc e)
-  rows_go_on fixed id (Owes t b) op e s h at_id = absurd (cc e)
-  rows_go_on fixed id (Enters t) op e s h at_id =
-      subst (λ (o : Op T). Permits defers fixed id (Enters t) o (told defers (Enters t) o)) (same_some (Store (Slot t HEAD) ACTIVE) op e)
-      (enters defers fixed id t) s h at_id
-  rows_go_on fixed id (Inside t has) op e s h at_id = absurd (cc e)
-  rows_go_on fixed id (Settles c why seen left) op e s h at_id = settles defers fixed s id c why seen left h at_id op e
-  rows_go_on fixed id (Leaves t size way) op e s h at_id =
-      subst (λ (o : Op T). Permits defers fixed id (Leaves t size way) o (told defers (Leaves t size way) o))
-      (same_some (Swap (Slot t HEAD) (head_of way)) op e)
-      (leaves defers fixed id t size way) s h at_id
-  rows_go_on fixed id (Left t size way) op e s h at_id = absurd (cc e)
-  rows_go_on fixed id (Frees t) op e s h at_id =
-      subst (λ (o : Op T). Permits defers fixed id (Frees t) o (told defers (Frees t) o)) (same_some (Store (Slot t HEAD) FREE) op e)
-      (frees defers fixed id t) s h at_id
+  rows_go_on fixed id v op e s h at_id =
+      makes defers fixed s id v h at_id op (told defers v op) (goes_on defers fixed IsJustSo just_so s.world id v op (has_row defers fixed s id v h at_id) e)

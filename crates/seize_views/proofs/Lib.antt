@@ -4,7 +4,12 @@ pub mod Reclaims
 pub mod Came
 pub mod Moved
 pub mod Steps
+pub mod InWorld
 pub mod Operations
+pub mod Begins
+pub mod Ends
+pub mod Turning
+pub mod Lifted
 pub mod Beginnings
 pub mod Registers
 pub mod Looks
@@ -15,4 +20,8 @@ pub mod Blocks
 pub mod Written
 pub mod Roots
 pub mod Handing
+mod Watched
+mod Stays
 pub mod Notes
+pub mod Guarding
+mod Contents

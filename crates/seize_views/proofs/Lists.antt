@@ -26,3 +26,8 @@ module _ {X : Type 0} where
   none_before [] j x e = refl
   none_before (a ∷ l) zero x e = e
   none_before (a ∷ l) (suc j) x e = none_before l j x e
+
+  pub with_more : (l : List X) (j : ℕ) (x y : X) → slice_get l j ≡ Some y → slice_get (l ++ x ∷ []) j ≡ Some y
+  with_more [] j x y e = absurd (cc e)
+  with_more (a ∷ l) zero x y e = e
+  with_more (a ∷ l) (suc j) x y e = with_more l j x y e

@@ -1,7 +1,7 @@
--- Entering, leaving and giving up: the one operation of each may be made, and the rule holds after it.
-use Rattle.std.specs.Prelude.{Option, Some, None, nat_lt}
-use Rattle.std.proofs.Common.{◌≡◌, ℕ, Bool, true, false, [], ◌∷◌, refl, sym, subst, ap, ◌∙◌}
-use Rattle.seize_words.specs.Mem.{Mem, Can, Took}
+-- Entering, leaving and giving up: the one operation of each may be made, and leads on.
+use Rattle.std.specs.Prelude.{Option, None, nat_lt}
+use Rattle.std.proofs.Common.{◌≡◌, ℕ, Bool, true, false, [], ◌∷◌, inl, inr, refl, sym, subst, ◌∙◌}
+use Rattle.seize_words.specs.Mem.{Mem, Took}
 use Rattle.seize_words.specs.Op.{Out, Store, Swap, Found, Stored, Exchanged, Made, Taken, Roomed}
 use Rattle.seize_words.specs.declared.at.At.TheVariants.{Slot}
 use Rattle.seize.specs.declared.states.TheConstants.{HEAD, FREE, ACTIVE}
@@ -12,15 +12,11 @@ use Rattle.seize.specs.declared.rows.settle.Settled.TheVariants as settled
 use Rattle.seize.specs.Settle.{counting_down}
 use Rattle.seize.specs.Leave.{standing}
 use Rattle.seize.specs.Law.{Entered}
-use Rattle.seize.specs.World.{World, Row, Use, Step, Steps', MayStep, after_step, with_use, leaves_on}
+use Rattle.seize.specs.World.{World, Row, Use, Step, Steps', after_step, with_use, leaves_on}
 use Rattle.seize.specs.World as world
-use Rattle.seize_rule.proofs.World.Kept.{rows_may}
 use Rattle.seize_rule.proofs.Rows.Others.{with_here, with_other}
-use Rattle.seize_seats.specs.State.{State, view_of}
-use Rattle.seize_views.specs.Rows.{Leads, Permits}
-use Rattle.seize_views.specs.Rows.{row_of, leave_of, Holds, head_of}
+use Rattle.seize_views.specs.Rows.{row_of, leave_of, head_of}
 use Rattle.seize_views.specs.Told.{list_taken, told}
-use Rattle.seize_views.specs.declared.view.View.{View}
 use Rattle.seize_views.specs.declared.view.Becomes.{Becomes}
 use Rattle.seize_views.specs.declared.view.View.TheVariants.{Rests, Enters, Inside, Settles, Leaves, Left, Frees}
 use Rattle.seize_views.specs.declared.view.Has.TheVariants.{Nothing}
@@ -29,115 +25,127 @@ use Rattle.seize_views.specs.declared.view.Fixed.{Fixed}
 use Rattle.seize_acts.specs.Waits.{SettlesOn}
 use Rattle.seize_bounds.specs.Bounds.{IsAloneOnSlot}
 use Rattle.seize_bounds.proofs.Settles.Within.{lists_are_settled}
-use Rattle.seize_views.proofs.Aside.{alone_after}
-use Rattle.seize_views.proofs.Moved.{moved}
-use Rattle.seize_views.proofs.Came.{came_then}
-use Rattle.seize_views.proofs.Steps.{alone, step_of, stepped}
+use Rattle.seize_views.proofs.InWorld.{IsLikeness, HasRow, GoesTo, MayMake, came_on, may, same_slot, stays_on}
 
--- the slot of one is that of the other
-pub slot_of : (p q : ℕ × Use) → Some p ≡ Some q → p.0 ≡ q.0
-slot_of p q e = cc e
+module _ {T : Type 0} (defers : T → Option ℕ) (fixed : Fixed) (Is : Use → Use → Type 0) (like : IsLikeness Is) (w : World T) (i : ℕ) where
+  -- a slot that is used so just now is used like that
+  just : (t : ℕ) (a : Use) (n : World T) → n.uses t ≡ a → Is a (n.uses t)
+  just t a n is = subst (λ (u : Use). Is a u) (sym is) (like.same a)
 
-abbrev pub used_as : ℕ → Use → Option (ℕ × Use)
-used_as t a = Some (t, a)
-
-pub same_slot : (t s : ℕ) (a b c : Use) → used_as t a ≡ used_as s b → (d : Use) × (used_as t c ≡ used_as s d)
-same_slot t s a b c e = (c, ap (λ (k : ℕ). used_as k c) (slot_of (t, a) (s, b) e))
-
-module _ {T : Type 0} (defers : T → Option ℕ) (fixed : Fixed) where
-  abbrev H : State T (View T) (World T) → Type 0
-  H = Holds defers fixed
-
-  -- the row of a seat may take its next step
-  pub may : (s : State T (View T) (World T)) (id : ℕ) (v : View T) → H s → view_of s id ≡ Some v → MayStep defers (row_of v) s.world.memory
-  may s id v h at =
-      subst (λ (row : Row). MayStep defers row s.world.memory) (h.seats id v at).row (rows_may defers fixed.batch_size fixed.roots h.came.0 s.world h.came.1 id)
-
-  pub enters : (id t : ℕ) → Permits defers fixed id (Enters t) (Store (Slot t HEAD) ACTIVE) (told defers (Enters t) (Store (Slot t HEAD) ACTIVE))
-  enters id t s h at = (can, λ out m took. goes out m took)
+  pub enters : (t : ℕ) → HasRow defers fixed Is w i (Enters t)
+      → MayMake defers fixed Is w i (Enters t) (Store (Slot t HEAD) ACTIVE) (told defers (Enters t) (Store (Slot t HEAD) ACTIVE))
+  enters t h = ((may defers fixed Is w i (Enters t) h).0, λ out m took. goes out m took)
     where
-      can : Can s.memory (Store (Slot t HEAD) ACTIVE)
-      can = subst (λ (m : Mem T). Can m (Store (Slot t HEAD) ACTIVE)) (sym h.memory) (may s id (Enters t) h at).0
-
-      goes : (out : Out T) (m : Mem T) → Took s.memory (Store (Slot t HEAD) ACTIVE) out m
-          → Leads defers fixed s m id (told defers (Enters t) (Store (Slot t HEAD) ACTIVE) out)
+      goes : (out : Out T) (m : Mem T) → Took w.memory (Store (Slot t HEAD) ACTIVE) out m
+          → GoesTo defers fixed Is w i (Enters t) m (told defers (Enters t) (Store (Slot t HEAD) ACTIVE) out)
       goes out m took =
-          let n : World T = with_use (after_step s.world id m world.Rests (Entered t ∷ [])) t (world.Inside 0) in
-          moved defers fixed s id (Enters t) (Inside t Nothing) m n (told defers (Enters t) (Store (Slot t HEAD) ACTIVE) out) h at
-          (stepped defers fixed s id (Enters t) h at (Inside t Nothing) m n
-          (m, (record { slot = t }, Done tt), (out, subst (λ (x : Mem T). Took x (Store (Slot t HEAD) ACTIVE) out m) h.memory took, refl), refl) refl
-          (record { row = with_here s.world.row id world.Rests; slot = with_here s.world.uses t (world.Inside 0); short = tt; known = tt })
-          (alone defers fixed s id (Enters t) h at (Inside t Nothing) (λ x b e. same_slot t x (world.Inside 0) b world.Changing e)) refl tt)
-          refl
+          let n : World T = with_use (after_step w i m world.Rests (Entered t ∷ [])) t (world.Inside 0) in (
+            Inside t Nothing,
+            n,
+            record {
+              step = (m, (record { slot = t }, Done tt), (out, took, refl), refl);
+              memory = refl;
+              row = with_here w.row i world.Rests;
+              used = just t (world.Inside 0) n (with_here w.uses t (world.Inside 0));
+              plain = tt;
+              short = tt;
+              known = tt;
+              bounded = tt;
+              none = refl;
+              slot = λ x b e. inl (same_slot t x (world.Inside 0) b world.Changing e);
+              place = inl refl;
+            },
+            refl,
+          )
 
-  pub frees : (id t : ℕ) → Permits defers fixed id (Frees t) (Store (Slot t HEAD) FREE) (told defers (Frees t) (Store (Slot t HEAD) FREE))
-  frees id t s h at = (can, λ out m took. goes out m took)
+  pub frees : (t : ℕ) → HasRow defers fixed Is w i (Frees t)
+      → MayMake defers fixed Is w i (Frees t) (Store (Slot t HEAD) FREE) (told defers (Frees t) (Store (Slot t HEAD) FREE))
+  frees t h = ((may defers fixed Is w i (Frees t) h).0, λ out m took. goes out m took)
     where
-      can : Can s.memory (Store (Slot t HEAD) FREE)
-      can = subst (λ (m : Mem T). Can m (Store (Slot t HEAD) FREE)) (sym h.memory) (may s id (Frees t) h at).0
-
-      goes : (out : Out T) (m : Mem T) → Took s.memory (Store (Slot t HEAD) FREE) out m
-          → Leads defers fixed s m id (told defers (Frees t) (Store (Slot t HEAD) FREE) out)
+      goes : (out : Out T) (m : Mem T) → Took w.memory (Store (Slot t HEAD) FREE) out m
+          → GoesTo defers fixed Is w i (Frees t) m (told defers (Frees t) (Store (Slot t HEAD) FREE) out)
       goes out m took =
-          let n : World T = with_use (after_step s.world id m world.Rests []) t world.Vacant in
-          moved defers fixed s id (Frees t) Rests m n (told defers (Frees t) (Store (Slot t HEAD) FREE) out) h at
-          (stepped defers fixed s id (Frees t) h at Rests m n
-          (m, (record { slot = t }, Done tt), (out, subst (λ (x : Mem T). Took x (Store (Slot t HEAD) FREE) out m) h.memory took, refl), refl) refl
-          (record { row = with_here s.world.row id world.Rests; slot = tt; short = tt; known = tt })
-          (alone defers fixed s id (Frees t) h at Rests (λ x b e. absurd (cc e))) refl tt)
-          refl
+          let n : World T = with_use (after_step w i m world.Rests []) t world.Vacant in (
+            Rests,
+            n,
+            record {
+              step = (m, (record { slot = t }, Done tt), (out, took, refl), refl);
+              memory = refl;
+              row = with_here w.row i world.Rests;
+              used = tt;
+              plain = tt;
+              short = tt;
+              known = tt;
+              bounded = tt;
+              none = refl;
+              slot = λ x b e. absurd (cc e);
+              place = inl refl;
+            },
+            refl,
+          )
 
-  pub leaves : (id t size : ℕ) (way : Becomes)
-      → Permits defers fixed id (Leaves t size way) (Swap (Slot t HEAD) (head_of way)) (told defers (Leaves t size way) (Swap (Slot t HEAD) (head_of way)))
-  leaves id t size way s h at = (can, λ out m took. by out m took)
+  pub leaves : (t size : ℕ) (way : Becomes) → HasRow defers fixed Is w i (Leaves t size way)
+      → MayMake defers fixed Is w i (Leaves t size way) (Swap (Slot t HEAD) (head_of way)) (told defers (Leaves t size way) (Swap (Slot t HEAD) (head_of way)))
+  leaves t size way h = ((may defers fixed Is w i (Leaves t size way) h).0, λ out m took. by out m took)
     where
-      can : Can s.memory (Swap (Slot t HEAD) (head_of way))
-      can = subst (λ (m : Mem T). Can m (Swap (Slot t HEAD) (head_of way))) (sym h.memory) (may s id (Leaves t size way) h at).0
-
-      took_here : (head : ℕ) (m : Mem T) → Took s.memory (Swap (Slot t HEAD) (head_of way)) (Found head) m
-          → Took s.world.memory (Swap (Slot t HEAD) (head_of way)) (Found head) m
-      took_here head m took = subst (λ (x : Mem T). Took x (Swap (Slot t HEAD) (head_of way)) (Found head) m) h.memory took
-
-      slot : (d : Leave) (m : Mem T) → (leaves_on s.world id (leave_of t size way) m (d, settled.Goes)).uses t ≡ world.Changing
-      slot d m = with_here s.world.uses t (s.world.uses t) ∙ (h.seats id (Leaves t size way) at).slot
+      used : (d : Leave) (m : Mem T) → Is world.Changing ((leaves_on w i (leave_of t size way) m (d, settled.Goes)).uses t)
+      used d m = subst (λ (u : Use). Is world.Changing u) (sym (with_here w.uses t (w.uses t))) h.used
 
       -- nobody else settles on its slot
-      lone : (d : Leave) (m : Mem T) → d.slot ≡ t → IsAloneOnSlot id (leaves_on s.world id (leave_of t size way) m (d, settled.Goes))
+      lone : (d : Leave) (m : Mem T) → d.slot ≡ t → IsAloneOnSlot i (leaves_on w i (leave_of t size way) m (d, settled.Goes))
       lone d m same =
-          alone_after s.world (view_of s) (λ j x e. (h.seats j x e).row) h.unborn h.apart id t world.Changing (Leaves t size way) at refl
-          (leaves_on s.world id (leave_of t size way) m (d, settled.Goes))
-          (λ slot its. sym same ∙ subst (λ (r : Row). SettlesOn slot r) (with_here s.world.row id (world.Leaves d)) its)
-          (λ j ne. with_other s.world.row id j (world.Leaves d) ne)
+          stays_on w (leaves_on w i (leave_of t size way) m (d, settled.Goes)) i h.alone
+          (λ j ne. with_other w.row i j (world.Leaves d) ne)
+          (λ slot its. subst (λ (r : Row). SettlesOn slot r) (sym h.row) (sym same ∙ subst (λ (r : Row). SettlesOn slot r) (with_here w.row i (world.Leaves d)) its))
 
-      goes : (head : ℕ) (m : Mem T) → Took s.memory (Swap (Slot t HEAD) (head_of way)) (Found head) m → (b : Bool) → nat_lt ACTIVE head ≡ b
-          → Leads defers fixed s m id (λ u. (left : ℕ) × (u ≡ list_taken t size way head left))
+      goes : (head : ℕ) (m : Mem T) → Took w.memory (Swap (Slot t HEAD) (head_of way)) (Found head) m → (b : Bool) → nat_lt ACTIVE head ≡ b
+          → GoesTo defers fixed Is w i (Leaves t size way) m (λ u. (left : ℕ) × (u ≡ list_taken t size way head left))
       goes head m took true e =
           let d : Leave = standing (leave_of t size way) (leaving_at.Settles (counting_down t size head)) in
-          let n : World T = leaves_on s.world id (leave_of t size way) m (d, settled.Goes) in
-          let taken : Steps' defers id (row_of {T = T} (Leaves t size way)) s.world n =
-          (m, (d, settled.Goes), (Found head, took_here head m took, rw e refl), refl) in
-          let row : n.row id ≡ world.Leaves d = with_here s.world.row id (world.Leaves d) in
-          let step = step_of defers fixed s id (Leaves t size way) h at n taken in
-          let came = came_then defers fixed s.world n (Step id) h.came step in
-          let k = lists_are_settled defers fixed.batch_size fixed.roots came.0 n came.1 id head (leave_of t size way) (lone d m refl) row in
-          let u : View T = Settles (counting_down t size head) (Ending size way) None k.0 in
-          moved defers fixed s id (Leaves t size way) u m n (λ x. (left : ℕ) × (x ≡ list_taken t size way head left)) h at
-          (stepped defers fixed s id (Leaves t size way) h at u m n taken refl
-          (record { row = row; slot = slot d m; short = tt; known = tt })
-          (alone defers fixed s id (Leaves t size way) h at u (λ x b q. same_slot t x world.Changing b world.Changing q)) refl k.1)
-          (k.0, rw e refl)
+          let n : World T = leaves_on w i (leave_of t size way) m (d, settled.Goes) in
+          let taken : Steps' defers i (row_of {T = T} (Leaves t size way)) w n = (m, (d, settled.Goes), (Found head, took, rw e refl), refl) in
+          let row : n.row i ≡ world.Leaves d = with_here w.row i (world.Leaves d) in
+          let came = came_on defers fixed w n (Step i) h.came (subst (λ (r : Row). Steps' defers i r w n) (sym h.row) taken) in
+          let k = lists_are_settled defers fixed.batch_size came.0 came.1 n came.2 i head (leave_of t size way) (lone d m refl) row in (
+            Settles (counting_down t size head) (Ending size way) None k.0,
+            n,
+            record {
+              step = taken;
+              memory = refl;
+              row = row;
+              used = used d m;
+              plain = tt;
+              short = tt;
+              known = tt;
+              bounded = k.1;
+              none = refl;
+              slot = λ x b q. inl (same_slot t x world.Changing b world.Changing q);
+              place = inr refl;
+            },
+            (k.0, rw e refl),
+          )
       goes head m took false e =
-          let u : View T = Left t size way in
-          let d : Leave = standing (leave_of t size way) leaving_at.Over in
-          let n : World T = leaves_on s.world id (leave_of t size way) m (d, settled.Goes) in
-          moved defers fixed s id (Leaves t size way) u m n (λ x. (left : ℕ) × (x ≡ list_taken t size way head left)) h at
-          (stepped defers fixed s id (Leaves t size way) h at u m n (m, (d, settled.Goes), (Found head, took_here head m took, rw e refl), refl) refl
-          (record { row = with_here s.world.row id (world.Leaves d); slot = slot d m; short = tt; known = tt })
-          (alone defers fixed s id (Leaves t size way) h at u (λ x b q. same_slot t x world.Changing b world.Changing q)) refl tt)
-          (0, rw e refl)
+          let d : Leave = standing (leave_of t size way) leaving_at.Over in (
+            Left t size way,
+            leaves_on w i (leave_of t size way) m (d, settled.Goes),
+            record {
+              step = (m, (d, settled.Goes), (Found head, took, rw e refl), refl);
+              memory = refl;
+              row = with_here w.row i (world.Leaves d);
+              used = used d m;
+              plain = tt;
+              short = tt;
+              known = tt;
+              bounded = tt;
+              none = refl;
+              slot = λ x b q. inl (same_slot t x world.Changing b world.Changing q);
+              place = inr refl;
+            },
+            (0, rw e refl),
+          )
 
-      by : (out : Out T) (m : Mem T) → Took s.memory (Swap (Slot t HEAD) (head_of way)) out m
-          → Leads defers fixed s m id (told defers (Leaves t size way) (Swap (Slot t HEAD) (head_of way)) out)
+      by : (out : Out T) (m : Mem T) → Took w.memory (Swap (Slot t HEAD) (head_of way)) out m
+          → GoesTo defers fixed Is w i (Leaves t size way) m (told defers (Leaves t size way) (Swap (Slot t HEAD) (head_of way)) out)
       by (Found head) m took = goes head m took (nat_lt ACTIVE head) refl
       by Stored m took = absurd took.0
       by (Exchanged r) m took = absurd took.0

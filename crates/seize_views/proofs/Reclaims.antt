@@ -12,6 +12,11 @@ use Rattle.seize.specs.declared.rows.settle.Settling.TheVariants as at
 use Rattle.seize.specs.Settle.{settle_plan, plan_at}
 use Rattle.seize.specs.Leave.{settled}
 use Rattle.seize.specs.World.{MayStep}
+use Rattle.seize_alone.proofs.Given.SeizeMoves.State.Ghost.{State}
+use Rattle.seize_rule.proofs.Points.Known.{Fits}
+use Rattle.seize_rule.proofs.Rows.Known.{FitsRow}
+use Rattle.seize_rule.proofs.Words.Shows.{Extra}
+use Rattle.seize_rule.proofs.Words.View.{View}
 use Rattle.seize_views.specs.Rows.{counting, settles_for, IsReclaiming}
 use Rattle.seize_views.specs.declared.view.Why.{Why}
 use Rattle.seize_views.specs.declared.view.Why.TheVariants.{Retiring, Ending}
@@ -20,6 +25,11 @@ use Rattle.seize_views.specs.declared.view.Why.TheVariants.{Retiring, Ending}
 some_value : {T : Type 0} (x : Option (Block T)) (word : ℕ) → IsSome (word_in x word) → IsSome (value_in x)
 some_value None word is = is
 some_value (Some x) word is = refl
+
+-- what its settling relies on
+pub fits_settle : (n i : ℕ) (f : View) (m : State) (x : Extra) (k : ℕ) (c : Settle) (why : Why) → FitsRow n i f m x k (settles_for why c) → Fits n i f m x c
+fits_settle n i f m x k c (Retiring way) is = is
+fits_settle n i f m x k c (Ending size way) is = is.settles
 
 module _ {T : Type 0} (defers : T → Option ℕ) (c : Settle) where
   -- whatever it is for, the step of a settling may be taken

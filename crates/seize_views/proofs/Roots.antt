@@ -7,7 +7,7 @@ use Rattle.seize_words.specs.Word.{block_in, link_to}
 use Rattle.seize_words.specs.Op.{Out, Load, Swap, Exchange, Found, Stored, Exchanged, Made as OutMade, Taken, Roomed}
 use Rattle.seize_words.specs.declared.at.At.TheVariants.{Root}
 use Rattle.seize.specs.Law.{Effect, Linked, holds, is_over, is_open, reachable, is_somewhere}
-use Rattle.seize.specs.World.{World, Use, Hand, Links, with_hand, with_effect}
+use Rattle.seize.specs.World.{World, Use, Hand, Links, IsInside, with_hand, with_effect}
 use Rattle.seize.specs.World as world
 use Rattle.seize_alone.proofs.Given.SeizeMoves.State.Ghost.{Life, IsLinked, emptied, place_of}
 use Rattle.seize_rule.proofs.Points.Aside.{HandFits}
@@ -27,12 +27,13 @@ use Rattle.seize_views.specs.declared.view.Has.{Has}
 use Rattle.seize_views.specs.declared.view.Has.TheVariants.{Nothing, Made, Seen, Both, Cut}
 use Rattle.seize_views.specs.declared.view.Fixed.{Fixed}
 use Rattle.seize_views.proofs.Came.{reached, came_then}
+use Rattle.seize_views.proofs.Moved.{inside_of}
 use Rattle.seize_views.proofs.Users.{use_making, making_use}
 use Rattle.seize_views.proofs.Users.{beside, making_not_held, passes_then, Carries, within, alone_carries, users, users_outside, users_owe}
 use Rattle.seize_views.proofs.Written.{Wrote, Cuts, block_of_link, wrote, rooted_still, roots_now, fresh, root_can, unlinked, clears}
 
 module _ {T : Type 0} (defers : T → Option ℕ) (fixed : Fixed) (s : State T (View T) (World T)) (t : ℕ) (h : Holds defers fixed s)
-    (open_here : s.world.uses t ≡ world.Inside 0) where
+    (open_here : IsInside (s.world.uses t)) where
   abbrev here : World T
   here = s.world
 
@@ -44,10 +45,12 @@ module _ {T : Type 0} (defers : T → Option ℕ) (fixed : Fixed) (s : State T (
   is_open_here : is_open t here.log ≡ true
   is_open_here = subst (λ (l : List Effect). is_open t l ≡ true) sound.good.logged (by (here.uses t) open_here (sound.good.used.fits t))
     where
-      by : (u : Use) → u ≡ world.Inside 0
+      by : (u : Use) → IsInside u
           → UseFits u (emptied (sound.good.state.head t)) (length (sound.good.used.team t)) (is_open t sound.good.state.log) → is_open t sound.good.state.log ≡ true
-      by u e f =
-          (subst (λ (x : Use). UseFits x (emptied (sound.good.state.head t)) (length (sound.good.used.team t)) (is_open t sound.good.state.log)) e f).2
+      by (world.Inside n) is f = f.2
+      by (world.Outside n) is f = absurd is
+      by world.Changing is f = absurd is
+      by world.Vacant is f = absurd is
 
   linked_held : (b a : ℕ) → here.hand b ≡ world.InUse a → holds t b here.log ≡ true
   linked_held b a is =
@@ -58,7 +61,7 @@ module _ {T : Type 0} (defers : T → Option ℕ) (fixed : Fixed) (s : State T (
       reached_held t b here.log reach is_open_here
 
   -- what a root names is held by the section from now on
-  root_held : (a word : ℕ) → word_at s.memory (Root a) ≡ Some word → (block_in word == 0) ≡ false → holds t (block_in word) here.log ≡ true
+  pub root_held : (a word : ℕ) → word_at s.memory (Root a) ≡ Some word → (block_in word == 0) ≡ false → holds t (block_in word) here.log ≡ true
   root_held a word e is = elim (h.roots a word e) as (λ _. holds t (block_in word) here.log ≡ true) [
     | inl none ↦ absurd (let k = eq-eqb (block_in word) 0 none in cc (k, is))
     | inr linked ↦ linked_held (block_in word) a linked
@@ -205,7 +208,7 @@ module _ {T : Type 0} (defers : T → Option ℕ) (fixed : Fixed) (s : State T (
       → ((word : ℕ) → out ≡ Found word → so (Inside t (seen_in word))) → Leads defers fixed s m id so
   sees a (Found word) m took so is =
       looks defers fixed s id t (Inside t) (within t) had h at m (seen_in word) took.1
-      (seen_known defers fixed s t h (h.seats id (Inside t had) at).slot a word took.0 (block_in word == 0) refl)
+      (seen_known defers fixed s t h (inside_of s.world t had (h.seats id (Inside t had) at).slot) a word took.0 (block_in word == 0) refl)
       (seen_hand T (block_in word) (block_in word == 0) ∙ sym none) so (is word refl)
   sees a Stored m took so is = absurd took.0
   sees a (Exchanged x) m took so is = absurd took.0
@@ -260,7 +263,7 @@ module _ (T : Type 0) (defers : T → Option ℕ) where
       exchanges defers fixed s id t (Inside t) (within t) had h at b x a old made_so (has ∙ ap Some is) so cut
       (λ word e. (
         made_beside b x (block_in word),
-        beside_known defers fixed s t h (h.seats id (Inside t had) at).slot b x a word made_so e (block_in word == 0) refl,
+        beside_known defers fixed s t h (inside_of s.world t had (h.seats id (Inside t had) at).slot) b x a word made_so e (block_in word == 0) refl,
         beside_hand b x (block_in word) (block_in word == 0) ∙ ap Some (sym is) ∙ sym has,
         other word,
       ))

@@ -20,7 +20,7 @@ use Rattle.seize_alone.proofs.Histories.Uses.{uses_kept}
 use Rattle.seize_seats.specs.State.{State, view_of}
 use Rattle.seize_views.specs.Rows.{row_of, use_of, hand_of, used_for, IsSeeking, IsShort, IsUsed, RootsNameLinked, Fits, IsBounded, Holds}
 use Rattle.seize_views.specs.declared.view.View.{View}
-use Rattle.seize_views.specs.declared.view.View.TheVariants.{Rests, Registers, Outside, Owes, Enters, Inside, Settles, Leaves, Left, Frees, Brings, Bears}
+use Rattle.seize_views.specs.declared.view.View.TheVariants.{Rests, Registers, Outside, Owes, Enters, Inside, Settles, Leaves, Left, Frees, Brings, Bears, Watches, Busy}
 use Rattle.seize_views.specs.declared.view.Why.TheVariants.{Retiring, Ending}
 use Rattle.seize_views.specs.declared.view.Fixed.{Fixed}
 use Rattle.seize_views.proofs.Came.{of_users, reached, came_then}
@@ -43,7 +43,7 @@ not_over b (Ended o ∷ []) log one = absurd one
 not_over b (LeftOver c further ∷ []) log one = absurd one
 
 -- a row of a seat works on no slot but the seat's
-works_on_own : {T : Type 0} (v : View T) → IsShort v → (t : ℕ) → works_on (row_of v) ≡ t + 1 → (a : Use) × (use_of v ≡ Some (t, a))
+pub works_on_own : {T : Type 0} (v : View T) → IsShort v → (t : ℕ) → works_on (row_of v) ≡ t + 1 → (a : Use) × (use_of v ≡ Some (t, a))
 works_on_own Rests short t e = absurd (omega (arith, e))
 works_on_own (Registers c) short t e = absurd (by c.stands short.1 e)
   where
@@ -66,6 +66,8 @@ works_on_own (Left s size way) short t e = (world.Changing, ap (λ (k : ℕ). So
 works_on_own (Frees s) short t e = (world.Changing, ap (λ (k : ℕ). Some (k, world.Changing)) (omega (arith, e)))
 works_on_own (Brings b x) short t e = absurd (omega (arith, e))
 works_on_own (Bears b) short t e = absurd (omega (arith, e))
+works_on_own (Watches s b) short t e = absurd (omega (arith, e))
+works_on_own (Busy s) short t e = absurd (omega (arith, e))
 
 module _ {T : Type 0} where
   -- the roots are as they were, and what was linked at them is
@@ -76,6 +78,18 @@ module _ {T : Type 0} where
         | inl none ↦ inl none
         | inr is ↦ inr (linked (block_in word) r is)
       ]
+
+-- a step of a row takes a block away, or leaves it with its value
+pub step_keeps : {T : Type 0} (defers : T → Option ℕ) (size : ℕ) (w n : World T) (i : ℕ) → Reached defers size w → Steps' defers i (w.row i) w n → (b : ℕ) → IsSome (value_at n.memory b)
+    → value_at n.memory b ≡ value_at w.memory b
+step_keeps {T} defers size w n i r step b some = by (cases_eq (times b (taken_in d.effects)) 0)
+  where
+    d : RowStepped defers i w n
+    d = did defers size w r i n step
+
+    by : (times b (taken_in d.effects) ≡ 0) ⊎ (times b (taken_in d.effects) ≢ 0) → value_at n.memory b ≡ value_at w.memory b
+    by (inl e) = d.frames.values b e
+    by (inr ne) = let none = taken_gone defers size w r i n step b ne in absurd (cc (some, none))
 
 module _ {T : Type 0} (defers : T → Option ℕ) (fixed : Fixed) (s : State T (View T) (World T)) (id : ℕ) (v : View T) (h : Holds defers fixed s)
     (at_id : view_of s id ≡ Some v) where
@@ -143,7 +157,7 @@ module _ {T : Type 0} (defers : T → Option ℕ) (fixed : Fixed) (s : State T (
     alone = lone;
     hands = λ j b x ne e q. kept_hand defers fixed.batch_size w r id n step b (IsHad (hand_users w x b (h.seats j x e).known q).0);
     sole = λ j b x ne e p q. cc (none, q);
-    values = λ b some some2. value b some2 (cases_eq (times b (taken_in d.effects)) 0);
+    values = λ b some some2. step_keeps defers fixed.batch_size w n id r step b some2;
     held = λ t b inside held. still_held defers fixed.batch_size w r id n step t b inside held;
     over = λ t b held. ap (is_over b) d.logged ∙ not_over b d.effects w.log d.one;
     roots = roots_kept w.memory m w.hand n.hand same_roots (λ b r is. kept b (world.InUse r) tt is) world_roots;
@@ -169,8 +183,3 @@ module _ {T : Type 0} (defers : T → Option ℕ) (fixed : Fixed) (s : State T (
 
       same_roots : m.roots ≡ w.memory.roots
       same_roots = ap (λ (x : Mem T). x.roots) memory ∙ d.frames.roots
-
-      value : (b : ℕ) → IsSome (value_at n.memory b) → (times b (taken_in d.effects) ≡ 0) ⊎ (times b (taken_in d.effects) ≢ 0)
-          → value_at n.memory b ≡ value_at w.memory b
-      value b some (inl e) = d.frames.values b e
-      value b some (inr ne) = let none = taken_gone defers fixed.batch_size w r id n step b ne in absurd (cc (some, none))

@@ -1,5 +1,5 @@
 -- The rule with what each seat has done last: it is noted as it is done, and whatever a seat may do by what it knows it may do.
-use Rattle.std.specs.Prelude.{◌≡◌, ℕ, Option, Some, None, Ok, Err, map}
+use Rattle.std.specs.Prelude.{◌≡◌, ◌≢◌, ◌+◌, ◌<◌, ℕ, Option, Some, None, Ok, Err, map}
 use Rattle.seize_words.specs.Word.{block_in}
 use Rattle.seize_words.specs.Op.{Op, Out, Load, Swap, Exchange, Found, Exchanged}
 use Rattle.seize_words.specs.declared.at.At.TheVariants.{Root}
@@ -11,13 +11,15 @@ use Rattle.seize_views.specs.Rows.{TurnsTo, Permits}
 use Rattle.seize_views.specs.Begun.{IsBegun, Hands}
 use Rattle.seize_views.specs.Rows.{Holds, Keeps}
 use Rattle.seize_views.specs.Told.{told}
+use Rattle.seize_views.specs.Promises.{IsToSettle, IsTaker}
+use Rattle.seize_views.specs.Watched.{open_at, IsOwn, Stays, known_by, AreGuarded}
 use Rattle.seize_views.specs.declared.view.Noted.{Noted}
 use Rattle.seize_views.specs.declared.view.Deed.{Deed}
 use Rattle.seize_views.specs.declared.view.Deed.TheVariants.{NoneYet, Looked, Wrote}
 use Rattle.seize_views.specs.declared.view.Began.{Began}
 use Rattle.seize_views.specs.declared.view.Began.TheVariants.{NotYet}
 use Rattle.seize_views.specs.declared.view.View.{View}
-use Rattle.seize_views.specs.declared.view.View.TheVariants.{Rests, Outside, Inside, Brings}
+use Rattle.seize_views.specs.declared.view.View.TheVariants.{Rests, Outside, Inside, Brings, Bears, Watches}
 use Rattle.seize_views.specs.declared.view.Has.{Has}
 use Rattle.seize_views.specs.declared.view.Has.TheVariants.{Made, Both}
 use Rattle.seize_views.specs.declared.view.Becomes.{Becomes}
@@ -28,15 +30,12 @@ abbrev pub still : Began → Began
 still began = began
 
 module _ {T : Type 0} where
-  abbrev pub noted : View T → Deed T → Began → Noted T
-  noted v did began = record { knows = v; did = did; began = began }
+  abbrev pub noted : View T → Deed T → Began → ℕ → Noted T
+  noted v did began guards = record { knows = v; did = did; began = began; guards = guards }
 
   -- who has just come knows nothing, and has done nothing
   abbrev pub newcomer : Noted T
-  newcomer = noted Rests NoneYet NotYet
-
-  abbrev pub known_by : Noted T → View T
-  known_by v = v.knows
+  newcomer = noted Rests NoneYet NotYet 0
 
   -- the state by what the seats know alone
   abbrev pub as_known : State T (Noted T) (World T) → State T (View T) (World T)
@@ -60,29 +59,40 @@ module _ {T : Type 0} where
   deed (Outside t) did op out = deed_at None did op out
   deed (Inside t has) did op out = deed_at (made_in has) did op out
   deed (Brings b x) did op out = deed_at (Some x) did op out
+  deed (Watches t b) did op out = deed_at None did op out
   deed v did op out = did
 
   -- two views have the same notes
   abbrev pub SameNotes : Noted T → Noted T → Type 0
-  SameNotes v u = (u.did ≡ v.did) × (u.began ≡ v.began)
+  SameNotes v u = (u.did ≡ v.did) × (u.began ≡ v.began) × (u.guards ≡ v.guards)
 
   -- a turn comes to know so, and notes that this has begun
   abbrev pub Notes : (Fixed → View T → View T → Type 0) → (Began → Began) → Fixed → Noted T → Noted T → Type 0
-  Notes so began fixed v u = so fixed v.knows u.knows × (u.did ≡ v.did) × (u.began ≡ began v.began)
+  Notes so began fixed v u = so fixed v.knows u.knows × (u.did ≡ v.did) × (u.began ≡ began v.began) × (u.guards ≡ v.guards)
 
   -- a block is handed on, and nothing has begun
   abbrev pub NotedHands : Fixed → Noted T → Noted T → Noted T → Noted T → Type 0
   NotedHands fixed v u p q = Hands fixed v.knows u.knows p.knows q.knows × SameNotes v p × SameNotes u q
+
+  -- a seat begins to watch the section that another one has open, which counts one more
+  abbrev pub Begins : Noted T → Noted T → Noted T → Noted T → Type 0
+  Begins v u p q =
+      (t : ℕ) → open_at u.knows ≡ Some t
+      → (p.knows ≡ Watches t 0) × (p.guards ≡ v.guards) × (q.knows ≡ u.knows) × (q.did ≡ u.did) × (q.began ≡ u.began) × (q.guards ≡ u.guards + 1)
+
+  -- or ends, and that one counts one less
+  abbrev pub Ends : Noted T → Noted T → Noted T → Noted T → Type 0
+  Ends v u p q = (p.knows ≡ Rests) × (p.guards ≡ v.guards) × (q.knows ≡ u.knows) × (q.did ≡ u.did) × (q.began ≡ u.began) × (q.guards + 1 ≡ u.guards)
 
   abbrev pub NotedKeeps : Noted T → Noted T → World T → ℕ → Type 0
   NotedKeeps u o w b = Keeps u.knows o.knows w b
 
 module _ {T : Type 0} (defers : T → Option ℕ) where
   abbrev pub NotedHolds : Fixed → State T (Noted T) (World T) → Type 0
-  NotedHolds fixed s = Holds defers fixed (as_known s)
+  NotedHolds fixed s = Holds defers fixed (as_known s) × AreGuarded s
 
   abbrev pub noted_told : Noted T → Op T → Out T → Noted T → Type 0
-  noted_told v op out w = told defers v.knows op out w.knows × (w.did ≡ deed v.knows v.did op out) × (w.began ≡ v.began)
+  noted_told v op out w = told defers v.knows op out w.knows × (w.did ≡ deed v.knows v.did op out) × (w.began ≡ v.began) × (w.guards ≡ v.guards)
 
 module _ (T : Type 0) (defers : T → Option ℕ) where
   -- The promise: what starts, comes, and may be done by what is known does so with notes.
@@ -90,29 +100,31 @@ module _ (T : Type 0) (defers : T → Option ℕ) where
   StartsAreNoted = (fixed : Fixed) → Starts (Holds defers fixed) fixed.roots → Starts (NotedHolds defers fixed) fixed.roots
 
   abbrev pub ComingsAreNoted : Type 0
-  ComingsAreNoted = (fixed : Fixed) → Comes (Holds defers fixed) Keeps Rests → Comes (NotedHolds defers fixed) NotedKeeps newcomer
+  ComingsAreNoted = (fixed : Fixed) → Comes (NotedHolds defers fixed) NotedKeeps newcomer
 
   abbrev pub StepsAreNoted : Type 0
   StepsAreNoted =
-      (fixed : Fixed) (id : ℕ) (v : Noted T) (op : Op T) → Permits defers fixed id v.knows op (told defers v.knows op)
+      (fixed : Fixed) (id : ℕ) (v : Noted T) (op : Op T) → IsOwn v.knows → Permits defers fixed id v.knows op (told defers v.knows op)
       → Allows (NotedHolds defers fixed) NotedKeeps id v op (noted_told defers v op)
 
-  -- a turn may note anything
+  -- a turn that ends no section which is watched may note anything
   abbrev pub TurnsAreNoted : Type 0
   TurnsAreNoted =
-      (fixed : Fixed) (id : ℕ) (v : Noted T) (u : View T) (did : Deed T) (began : Began) → TurnsTo defers fixed id v.knows (λ x. x ≡ u)
-      → Turns (NotedHolds defers fixed) NotedKeeps id v (λ x. (x.knows ≡ u) × (x.did ≡ did) × (x.began ≡ began))
+      (fixed : Fixed) (id : ℕ) (v : Noted T) (u : View T) (did : Deed T) (began : Began) → IsOwn v.knows → IsOwn u → Stays v.guards v.knows u
+      → TurnsTo defers fixed id v.knows (λ x. x ≡ u)
+      → Turns (NotedHolds defers fixed) NotedKeeps id v (λ x. (x.knows ≡ u) × (x.did ≡ did) × (x.began ≡ began) × (x.guards ≡ v.guards))
 
   abbrev pub SettlingsAreNoted : Type 0
   SettlingsAreNoted =
-      (fixed : Fixed) (id : ℕ) (v : Noted T) (way : Becomes) (c : Settle) (did : Deed T) (began : Began)
+      (fixed : Fixed) (id : ℕ) (v : Noted T) (way : Becomes) (c : Settle) (did : Deed T) (began : Began) → IsToSettle fixed v.knows way c
       → TurnsTo defers fixed id v.knows (IsBegun way c)
-      → Turns (NotedHolds defers fixed) NotedKeeps id v (λ x. IsBegun way c x.knows × (x.did ≡ did) × (x.began ≡ began))
+      → Turns (NotedHolds defers fixed) NotedKeeps id v (λ x. IsBegun way c x.knows × (x.did ≡ did) × (x.began ≡ began) × (x.guards ≡ v.guards))
 
   -- and so may a meeting
   abbrev pub MeetingsAreNoted : Type 0
   MeetingsAreNoted =
-      (fixed : Fixed) (i j : ℕ) (v u : Noted T) → Meets (Holds defers fixed) i v.knows j u.knows (Hands fixed v.knows u.knows)
+      (fixed : Fixed) (i j b : ℕ) (v u : Noted T) → v.knows ≡ Bears b → IsTaker u.knows
+      → Meets (Holds defers fixed) i v.knows j u.knows (Hands fixed v.knows u.knows)
       → Meets (NotedHolds defers fixed) i v j u (NotedHands fixed v u)
 
   -- and a block that is shown by what is known is shown, with a value that is its value by that
@@ -120,3 +132,22 @@ module _ (T : Type 0) (defers : T → Option ℕ) where
   LooksAreNoted =
       (fixed : Fixed) (id : ℕ) (v : Noted T) (b : ℕ) → (Shown (Holds defers fixed) id v.knows b → Shown (NotedHolds defers fixed) id v b)
       × ((x : T) → IsValueOf (NotedHolds defers fixed) id v b x → IsValueOf (Holds defers fixed) id v.knows b x)
+
+  -- A seat may begin to watch an open section, and end, by meeting the seat that has it open.
+  abbrev pub WatchesBegin : Type 0
+  WatchesBegin =
+      (fixed : Fixed) (i j t : ℕ) (v u : Noted T) → v.knows ≡ Rests → open_at u.knows ≡ Some t → Meets (NotedHolds defers fixed) i v j u (Begins v u)
+
+  abbrev pub WatchesEnd : Type 0
+  WatchesEnd =
+      (fixed : Fixed) (i j t b : ℕ) (v u : Noted T) → v.knows ≡ Watches t b → open_at u.knows ≡ Some t
+      → Meets (NotedHolds defers fixed) i v j u (Ends v u)
+
+  -- as long as it does, it may look at a root, and what it has seen there is there
+  abbrev pub WatchersSee : Type 0
+  WatchersSee =
+      (fixed : Fixed) (id t b r : ℕ) (v : Noted T) → v.knows ≡ Watches t b → r < fixed.roots
+      → Allows (NotedHolds defers fixed) NotedKeeps id v (Load (Root r)) (noted_told defers v (Load (Root r)))
+
+  abbrev pub WatchedAreShown : Type 0
+  WatchedAreShown = (fixed : Fixed) (id t b : ℕ) (v : Noted T) → v.knows ≡ Watches t b → b ≢ 0 → Shown (NotedHolds defers fixed) id v b

@@ -22,7 +22,7 @@ use Rattle.seize_bounds.specs.Bounds.{SettlesWithin, TriesWithin}
 use Rattle.seize_views.specs.declared.view.View.{View}
 use Rattle.seize_views.specs.declared.view.Becomes.{Becomes}
 use Rattle.seize_views.specs.declared.view.Becomes.TheVariants.{Idle, Active}
-use Rattle.seize_views.specs.declared.view.View.TheVariants.{Rests, Registers, Outside, Owes, Enters, Inside, Settles, Leaves, Left, Frees, Brings, Bears}
+use Rattle.seize_views.specs.declared.view.View.TheVariants.{Rests, Registers, Outside, Owes, Enters, Inside, Settles, Leaves, Left, Frees, Brings, Bears, Watches, Busy}
 use Rattle.seize_views.specs.declared.view.Has.{Has}
 use Rattle.seize_views.specs.declared.view.Has.TheVariants.{Nothing, Made, Seen, Both, Cut}
 use Rattle.seize_views.specs.declared.view.Why.{Why}
@@ -66,6 +66,19 @@ row_of (Left t size way) = world.Leaves (standing (leave_of t size way) leaving_
 row_of (Frees t) = world.Frees record { slot = t }
 row_of (Brings b x) = world.Rests
 row_of (Bears b) = world.Rests
+row_of (Watches t b) = world.Rests
+row_of (Busy t) = world.Rests
+
+-- it has nothing under way: no row, and nothing beside rows
+abbrev pub IsAtRest : {T : Type 0} → View T → Type 0
+IsAtRest (Registers c) = ⊥
+IsAtRest (Enters t) = ⊥
+IsAtRest (Settles c why seen left) = ⊥
+IsAtRest (Leaves t size way) = ⊥
+IsAtRest (Left t size way) = ⊥
+IsAtRest (Frees t) = ⊥
+IsAtRest (Busy t) = ⊥
+IsAtRest _ = Unit {0}
 
 -- the slot that it holds, if it holds one, and how that is used
 abbrev pub use_of : {T : Type 0} → View T → Option (ℕ × Use)
@@ -81,6 +94,9 @@ use_of (Left t size way) = Some (t, world.Changing)
 use_of (Frees t) = Some (t, world.Changing)
 use_of (Brings b x) = None
 use_of (Bears b) = None
+use_of (Watches t b) = None
+use_of (Busy None) = None
+use_of (Busy (Some t)) = Some (t, world.Inside 0)
 
 -- the block that is in its hand, if one is
 abbrev pub had_in : {T : Type 0} → Has T → Option ℕ
@@ -109,6 +125,17 @@ IsSeeking _ = ⊥
 abbrev pub IsShort : {T : Type 0} → View T → Type 0
 IsShort (Registers c) = (c.enters ≡ false) × IsSeeking c.stands
 IsShort _ = Unit {0}
+
+-- it knows of no block but one that a settling is to look at
+abbrev pub IsPlain : {T : Type 0} → View T → Type 0
+IsPlain (Inside t Nothing) = Unit {0}
+IsPlain (Inside t has) = ⊥
+IsPlain (Owes t b) = ⊥
+IsPlain (Brings b x) = ⊥
+IsPlain (Bears b) = ⊥
+IsPlain (Watches t b) = ⊥
+IsPlain (Busy t) = ⊥
+IsPlain _ = Unit {0}
 
 -- a settling is about to reclaim a block
 abbrev pub IsReclaiming : Settling → Type 0
@@ -143,12 +170,14 @@ module _ {T : Type 0} where
   IsLooked m c None = Unit {0}
   IsLooked m c (Some seen) = IsReclaiming c.stands × (seen.0 ≡ block_in c.reclaiming) × (value_at m seen.0 ≡ Some seen.1)
 
+  -- nobody is busy, as rows are all there is
   abbrev pub IsKnown : World T → View T → Type 0
   IsKnown w (Owes t b) = IsCut w b
   IsKnown w (Inside t has) = IsInHand w t has
   IsKnown w (Brings b x) = IsMade w b x
   IsKnown w (Bears b) = IsCut w b
   IsKnown w (Settles c why seen left) = IsLooked w.memory c seen
+  IsKnown w (Busy t) = ⊥
   IsKnown w _ = Unit {0}
 
   -- a root names no block, or one that is linked there

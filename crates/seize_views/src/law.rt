@@ -3,6 +3,7 @@ ghost use Rattle.seize_views.specs.Promises.{RulesStart, SeatsCome, RowsGoOn, Ro
 ghost use Rattle.seize_views.specs.Promises.{BlocksAreMade, MadeAreTaken, MadeAreLinked, MadeAreExchanged, KnownAreShown};
 ghost use Rattle.seize_views.specs.Promises.{RootsAreSeen, RootsAreCleared, RootsAreWithdrawn};
 ghost use Rattle.seize_views.specs.Notes.{StartsAreNoted, ComingsAreNoted, StepsAreNoted, TurnsAreNoted, SettlingsAreNoted, MeetingsAreNoted, LooksAreNoted};
+ghost use Rattle.seize_views.specs.Notes.{WatchesBegin, WatchesEnd, WatchersSee, WatchedAreShown};
 ghost use Rattle.seize_views.specs.Promises.{OwnAreMade, OwnAreTaken, OwnAreLinked, OwnAreExchanged, OwnAreShown, BorneAreShown, BorneAreHandedOn};
 
 use seize::rows::Defers;
@@ -51,4 +52,13 @@ pub fn deeds_are_noted<T: Defers>()
     ensures settlings { SettlingsAreNoted T T.defers }
     ensures meetings { MeetingsAreNoted T T.defers }
     ensures looks { LooksAreNoted T T.defers }
+{}
+
+/// A seat may begin to watch the section that another one has open, look at roots, is shown what it has seen, and may end; who has the section open knows how
+/// many do.
+pub fn sections_are_watched<T: Defers>()
+    ensures begin { WatchesBegin T T.defers }
+    ensures end { WatchesEnd T T.defers }
+    ensures see { WatchersSee T T.defers }
+    ensures shown { WatchedAreShown T T.defers }
 {}

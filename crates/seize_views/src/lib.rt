@@ -2,11 +2,15 @@
 //! is promised of it.
 #![tactic(auto)]
 
+mod content;
 mod law;
 mod rows;
 pub mod turns;
 mod view;
 
-pub use law::{blocks_have_seats, deeds_are_noted, rows_go_on, sections_go_on};
+pub use content::Content;
+pub use law::{
+    blocks_have_seats, deeds_are_noted, rows_go_on, sections_are_watched, sections_go_on,
+};
 pub use rows::OfRows;
 pub use view::{Becomes, Began, Deed, Fixed, Has, Noted, View, Why};

@@ -9,6 +9,8 @@ pub struct OfRows;
 impl<T: Defers> Rule<T> for OfRows {
     ghost use Rattle.seize.specs.World.{World};
     ghost use Rattle.seize_views.specs.Notes.{NotedHolds, NotedKeeps, noted_told, newcomer};
+    ghost use Rattle.seize_views.specs.Rows.{IsAtRest};
+    ghost use Rattle.seize_views.specs.Resting.{resting_stay};
 
     type View = Noted<T>;
 
@@ -23,4 +25,10 @@ impl<T: Defers> Rule<T> for OfRows {
     ghost then = { noted_told T.defers };
 
     ghost newcomer = { λ _. newcomer };
+
+    ghost rests = { λ v. IsAtRest v.knows };
+
+    ghost newcomers_rest = { λ _. tt };
+
+    ghost resting_stay = { resting_stay T.defers };
 }

@@ -1,106 +1,132 @@
 //! The steps of a seat, or of two, that make no operation.
+use crate::content::Content;
 use crate::view::{Fixed, Noted};
+use seize::rows::Defers;
 use seize_blocks::{Meeting, Turn};
+use std::marker::PhantomData;
 
 /// Registering begins.
-pub struct Registering;
+pub struct Registering<T, C>(PhantomData<(T, C)>);
 
 /// Entering begins.
-pub struct Entering;
+pub struct Entering<T, C>(PhantomData<(T, C)>);
 
 /// A retirement begins.
-pub struct Retiring;
+pub struct Retiring<T, C>(PhantomData<(T, C)>);
 
 /// The trying of a batch begins.
-pub struct Flushing;
+pub struct Flushing<T, C>(PhantomData<(T, C)>);
 
 /// Leaving begins.
-pub struct Leaving;
+pub struct Leaving<T, C>(PhantomData<(T, C)>);
 
 /// Refreshing begins.
-pub struct Refreshing;
+pub struct Refreshing<T, C>(PhantomData<(T, C)>);
 
 /// What was seen is let go.
-pub struct Forgetting;
+pub struct Forgetting<T, C>(PhantomData<(T, C)>);
 
 /// What was begun ends.
-pub struct Ending;
+pub struct Ending<T, C>(PhantomData<(T, C)>);
 
 /// Giving up begins.
-pub struct Freeing;
+pub struct Freeing<T, C>(PhantomData<(T, C)>);
 
 /// A block that was unlinked is handed on.
 pub struct Handing;
 
-impl<T> Turn<Fixed, Noted<T>> for Registering {
-    ghost use Rattle.seize_views.specs.Begun.{registering, Makes};
-    ghost use Rattle.seize_views.specs.Notes.{Notes, still};
+/// A seat begins to watch the section that another one has open.
+pub struct Watching;
 
-    ghost to = { Notes (Makes registering) still };
+/// It watches it no longer.
+pub struct Ceasing;
+
+impl<T: Defers, C: Content<T>> Turn<Fixed, C::View> for Registering<T, C> {
+    ghost use Rattle.seize_views.specs.Begun.{registering, Makes};
+    ghost use Rattle.seize_views.specs.Content.{Turned};
+    ghost use Rattle.seize_views.specs.Notes.{still};
+
+    ghost to = { Turned C.notes C.beside (Makes registering) still };
 }
 
-impl<T> Turn<Fixed, Noted<T>> for Entering {
+impl<T: Defers, C: Content<T>> Turn<Fixed, C::View> for Entering<T, C> {
     ghost use Rattle.seize_views.specs.Begun.{entering, Makes};
-    ghost use Rattle.seize_views.specs.Notes.{Notes};
+    ghost use Rattle.seize_views.specs.Content.{Turned};
     ghost use Rattle.seize_views.specs.declared.view.Began.TheVariants.{Section};
 
-    ghost to = { Notes (Makes entering) (λ _. Section) };
+    ghost to = { Turned C.notes C.beside (Makes entering) (λ _. Section) };
 }
 
-impl<T> Turn<Fixed, Noted<T>> for Retiring {
+impl<T: Defers, C: Content<T>> Turn<Fixed, C::View> for Retiring<T, C> {
     ghost use Rattle.seize_views.specs.Begun.{Retires};
-    ghost use Rattle.seize_views.specs.Notes.{Notes};
+    ghost use Rattle.seize_views.specs.Content.{Turned};
     ghost use Rattle.seize_views.specs.declared.view.Began.TheVariants.{Retirement};
 
-    ghost to = { Notes Retires (λ _. Retirement) };
+    ghost to = { Turned C.notes C.beside Retires (λ _. Retirement) };
 }
 
-impl<T> Turn<Fixed, Noted<T>> for Flushing {
+impl<T: Defers, C: Content<T>> Turn<Fixed, C::View> for Flushing<T, C> {
     ghost use Rattle.seize_views.specs.Begun.{Flushes};
-    ghost use Rattle.seize_views.specs.Notes.{Notes};
+    ghost use Rattle.seize_views.specs.Content.{Turned};
     ghost use Rattle.seize_views.specs.declared.view.Began.TheVariants.{Trial};
 
-    ghost to = { Notes Flushes (λ _. Trial) };
+    ghost to = { Turned C.notes C.beside Flushes (λ _. Trial) };
 }
 
-impl<T> Turn<Fixed, Noted<T>> for Leaving {
+impl<T: Defers, C: Content<T>> Turn<Fixed, C::View> for Leaving<T, C> {
     ghost use Rattle.seize_views.specs.Begun.{leaving, Makes};
-    ghost use Rattle.seize_views.specs.Notes.{Notes, still};
+    ghost use Rattle.seize_views.specs.Content.{Turned};
+    ghost use Rattle.seize_views.specs.Notes.{still};
 
-    ghost to = { Notes (Makes leaving) still };
+    ghost to = { Turned C.notes C.beside (Makes leaving) still };
 }
 
-impl<T> Turn<Fixed, Noted<T>> for Refreshing {
+impl<T: Defers, C: Content<T>> Turn<Fixed, C::View> for Refreshing<T, C> {
     ghost use Rattle.seize_views.specs.Begun.{refreshes, Makes};
-    ghost use Rattle.seize_views.specs.Notes.{Notes};
+    ghost use Rattle.seize_views.specs.Content.{Turned};
     ghost use Rattle.seize_views.specs.declared.view.Began.TheVariants.{Section};
 
-    ghost to = { Notes (Makes refreshes) (λ _. Section) };
+    ghost to = { Turned C.notes C.beside (Makes refreshes) (λ _. Section) };
 }
 
-impl<T> Turn<Fixed, Noted<T>> for Forgetting {
+impl<T: Defers, C: Content<T>> Turn<Fixed, C::View> for Forgetting<T, C> {
     ghost use Rattle.seize_views.specs.Begun.{forgetting, Makes};
-    ghost use Rattle.seize_views.specs.Notes.{Notes, still};
+    ghost use Rattle.seize_views.specs.Content.{Turned};
+    ghost use Rattle.seize_views.specs.Notes.{still};
 
-    ghost to = { Notes (Makes forgetting) still };
+    ghost to = { Turned C.notes C.beside (Makes forgetting) still };
 }
 
-impl<T> Turn<Fixed, Noted<T>> for Ending {
+impl<T: Defers, C: Content<T>> Turn<Fixed, C::View> for Ending<T, C> {
     ghost use Rattle.seize_views.specs.Begun.{ended, Makes};
-    ghost use Rattle.seize_views.specs.Notes.{Notes, still};
+    ghost use Rattle.seize_views.specs.Content.{Turned};
+    ghost use Rattle.seize_views.specs.Notes.{still};
 
-    ghost to = { Notes (Makes ended) still };
+    ghost to = { Turned C.notes C.beside (Makes ended) still };
 }
 
-impl<T> Turn<Fixed, Noted<T>> for Freeing {
+impl<T: Defers, C: Content<T>> Turn<Fixed, C::View> for Freeing<T, C> {
     ghost use Rattle.seize_views.specs.Begun.{freeing, Makes};
-    ghost use Rattle.seize_views.specs.Notes.{Notes, still};
+    ghost use Rattle.seize_views.specs.Content.{Turned};
+    ghost use Rattle.seize_views.specs.Notes.{still};
 
-    ghost to = { Notes (Makes freeing) still };
+    ghost to = { Turned C.notes C.beside (Makes freeing) still };
 }
 
 impl<T> Meeting<Fixed, Noted<T>> for Handing {
     ghost use Rattle.seize_views.specs.Notes.{NotedHands};
 
     ghost to = { NotedHands };
+}
+
+impl<T> Meeting<Fixed, Noted<T>> for Watching {
+    ghost use Rattle.seize_views.specs.Notes.{Begins};
+
+    ghost to = { λ _. Begins };
+}
+
+impl<T> Meeting<Fixed, Noted<T>> for Ceasing {
+    ghost use Rattle.seize_views.specs.Notes.{Ends};
+
+    ghost to = { λ _. Ends };
 }

@@ -9,6 +9,8 @@ pub struct Noted<T> {
     pub did: Deed<T>,
     /// What it has begun last on a slot.
     pub began: Began,
+    /// How many seats watch its section.
+    pub guards: u64,
 }
 
 /// What a seat has done last at a root.
@@ -60,6 +62,10 @@ pub enum View<T> {
     Brings(u64, T),
     /// It holds no slot, and is to hand on this block, which it has unlinked.
     Bears(u64),
+    /// It holds no slot, and watches the open section of this one, where it has seen this block, 0 for none.
+    Watches(u64, u64),
+    /// It has something under way that is no row: within the open section of this slot, or without a slot.
+    Busy(Option<u64>),
 }
 
 /// Which block a seat within a section knows of.

@@ -4,7 +4,7 @@ ghost use Rattle.std.specs.Arc.{arc_value};
 ghost use Rattle.shared_stack.specs.Stacks.{Found, Replaces, IfValue, IfEmpty};
 
 use crate::pile::Pile;
-use seize_shared::Guard;
+use seize_shared::RootGuard;
 use std::alloc::{AllocError, Global};
 use std::sync::Arc;
 
@@ -20,7 +20,7 @@ pub enum Popped<V> {
 }
 
 /// Pushes a value on the stack at a root, and tells whether it did. It did not where another one was faster, there is no such root, or memory was refused.
-pub fn push<V: Drop, G: Guard<Pile<V>>>(
+pub fn push<V: Drop, G: RootGuard<Pile<V>>>(
     guard: &mut G,
     root: u64,
     alloc: Global,
@@ -38,7 +38,10 @@ pub fn push<V: Drop, G: Guard<Pile<V>>>(
 }
 
 /// Pops the value on top of the stack at a root.
-pub fn pop<V: Drop, G: Guard<Pile<V>>>(guard: &mut G, root: u64) -> Result<Popped<V>, AllocError>
+pub fn pop<V: Drop, G: RootGuard<Pile<V>>>(
+    guard: &mut G,
+    root: u64,
+) -> Result<Popped<V>, AllocError>
     ensures home { G.home guard.new ≡ G.home guard.old }
     ensures slot { G.slot guard.new ≡ G.slot guard.old }
     ensures inside { G.inside guard.new ≡ G.inside guard.old }

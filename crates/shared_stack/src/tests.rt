@@ -4,7 +4,7 @@ ghost use Rattle.std.specs.Prelude.{◌≡◌};
 use crate::pile::Pile;
 use crate::stack::{Popped, pop, push};
 use seize_blocks::{Blocks, Home};
-use seize_shared::{Fixed, Guard, OfRows, Registration};
+use seize_shared::{Fixed, Guard, OfRows, Registration, RootGuard};
 use std::alloc::{AllocError, Global};
 use std::sync::Arc;
 use std::sync::atomic::AtomicU64;
@@ -78,7 +78,7 @@ fn counted(alloc: Global, counts: &Arc<Counts>, number: u64) -> Result<Arc<Tally
 }
 
 /// Pushes a number, and tells whether it did so at last.
-fn pushes<G: Guard<Numbers>>(
+fn pushes<G: RootGuard<Numbers>>(
     guard: &mut G,
     alloc: Global,
     counts: &Arc<Counts>,
@@ -97,7 +97,10 @@ fn pushes<G: Guard<Numbers>>(
 }
 
 /// The number that was popped at last, if one was.
-fn pops<G: Guard<Numbers>>(guard: &mut G, counts: &Arc<Counts>) -> Result<Option<u64>, AllocError> {
+fn pops<G: RootGuard<Numbers>>(
+    guard: &mut G,
+    counts: &Arc<Counts>,
+) -> Result<Option<u64>, AllocError> {
     for _ in 0..TRIES {
         guard.refresh();
         match pop(guard, 0)? {

@@ -54,6 +54,7 @@ use Rattle.papaya_linear.proofs.Like.{IsLike}
 use Rattle.papaya_linear.proofs.RowsPlayed.{is_of_row, rows_like}
 use Rattle.papaya_swept.proofs.Kept.{IsKept, coming}
 use Rattle.papaya_moves.specs.Order.{AreUnderWay, IsUnderWay, KeepsOrder, MapsComeNew}
+use Rattle.papaya_moves.proofs.Order.Own.{its_call, rows_own}
 use Rattle.papaya_moves.proofs.Order.NotBusy.{ends_so, not_busy, room_then}
 use Rattle.papaya_moves.proofs.Order.Stays.{begins_stay, comes_stay, ends_stay, fails_stay, goes_stay, makes_stay, replies_stay, rows_stay, steps_stay, stops_stay}
 use Rattle.papaya_moves.proofs.Order.RoomKept.{goes_on, one_call, ready_has_none, room_on, room_still, told_room}
@@ -118,6 +119,7 @@ module _ {K V : Type 0} (same : K → K → Bool) (hash : ℕ → K → ℕ) (te
             begins_stay terms history i (slot_of i) map (call_for wanted) (none_named m s has.under_way i none) (found_any (λ (f : MapThere). f.number == map) m.maps shown.there.there shown.there.is) outcome.Goes false,
             has.each,
           );
+          own = (none_named m s has.under_way i none, has.own);
         });
     calls_step = λ history known s old new at all fresh has map i u here said leads d d_is called called_is value keeps ended shows.
         (let m : Moment K V = moment history in
@@ -134,12 +136,14 @@ module _ {K V : Type 0} (same : K → K → Bool) (hash : ℕ → K → ℕ) (te
               (effects_under s (Some (named i)) (acted_on {K = K} {V = V} (Steps i) m) effects m has.under_way);
           room = room_on s t map i to.4.next refl (λ x is. subst RefusedForRoom (sym (goes_as_one to.1 said to.4.next to.4.goes_on x is)) (room_then same hash s old new map i u here room said leads)) has.room;
           each = (steps_stay terms history i o effects (is_refusal new.changed), has.each);
+          own = (its_call history i d d_is, has.own);
         });
     calls_take = λ history known s old new at all fresh has map i u here d d_is question asks standing there reply next next_is takes kind at2 shows. record {
       under_way = goes_under s (scene_with map i next s) map i next refl (one_call same history known s all map i u here) (λ c. replied reply c c.stands) (λ c. (told_same reply c c.stands).0) (moment history).calls has.under_way;
       room = room_on s (scene_with map i next s) map i (Some next) refl
           (λ x is. subst (λ (y : UnderWay K V K). RefusedForRoom (machine_of y)) (same_some next x is) (subst RefusedForRoom (sym next_is) (told_room (machine_of u) (as_told reply) (has.room map i u here)))) has.room;
       each = (replies_stay terms history i reply false, has.each);
+      own = (its_call history i d d_is, has.own);
     };
     walks_go_on = λ history known s old new at all fresh has map i leads o here is shows.
         (let next : UnderWay K V K = (leads map (OverAll o) here).0 in
@@ -149,6 +153,7 @@ module _ {K V : Type 0} (same : K → K → Bool) (hash : ℕ → K → ℕ) (te
           room = room_on s t map i (Some next) refl
               (λ x e. subst (λ (y : UnderWay K V K). RefusedForRoom (machine_of y)) (sym is ∙ same_some next x e) ((told_sweeps_refuse_room o.sweep (has.room map i (OverAll o) here)).0)) has.room;
           each = has.each;
+          own = has.own;
         });
     walks_stop = λ history known s old new at all fresh has map i leads u here none shows.
         (let m : Moment K V = moment history in
@@ -157,8 +162,9 @@ module _ {K V : Type 0} (same : K → K → Bool) (hash : ℕ → K → ℕ) (te
           under_way = ends_under s t map i (unless_stopped true u) refl m.calls has.under_way;
           room = room_on s t map i (unless_stopped true u) refl (λ x is. absurd (cc is)) has.room;
           each = (stops_stay terms history i (owes_none known m s all.kept.owed map i u here (leads map u here).0) false, has.each);
+          own = ((let shown = all.whole.all.shown.calls map i u here in its_call history i shown.0 shown.1), has.own);
         });
-    rows_begin = λ history known s old new at all fresh has called i leads shows. record { under_way = has.under_way; room = has.room; each = has.each };
+    rows_begin = λ history known s old new at all fresh has called i leads shows. record { under_way = has.under_way; room = has.room; each = has.each; own = has.own };
     rows_step = λ history known s old new at all fresh has i said leads row here o shows.
         (let m : Moment K V = moment history in
         let effects : List Effect = effects_of acts.Row known new.changed in
@@ -168,6 +174,7 @@ module _ {K V : Type 0} (same : K → K → Bool) (hash : ℕ → K → ℕ) (te
           under_way = still_row m s t (after e m) effects (rows_like (row_deed row) (is_of_row K V row) o effects (is_refusal new.changed) m) refl has.under_way;
           room = has.room;
           each = (rows_stay terms history (row_deed row) (is_of_row K V row) o effects (is_refusal new.changed), has.each);
+          own = (rows_own history (row_deed row) (is_of_row K V row), has.own);
         });
     all_step = λ history known s old new all has i lists before next told at leads shows.
         (let m : Moment K V = moment history in
@@ -178,8 +185,9 @@ module _ {K V : Type 0} (same : K → K → Bool) (hash : ℕ → K → ℕ) (te
           under_way = still_row m s t (after e m) effects (rows_like (ReclaimsAll (is_over told)) tt (settled_outcome told) effects (is_refusal new.changed) m) refl has.under_way;
           room = has.room;
           each = (rows_stay terms history (ReclaimsAll (is_over told)) tt (settled_outcome told) effects (is_refusal new.changed), has.each);
+          own = (tt, has.own);
         });
-    makings_begin = λ history known s old new at all fresh has i b none not_made number at2 shows. record { under_way = has.under_way; room = has.room; each = has.each };
+    makings_begin = λ history known s old new at all fresh has i b none not_made number at2 shows. record { under_way = has.under_way; room = has.room; each = has.each; own = has.own };
     makings_step = λ history known s old new at all fresh has i said leads b here was_new at2 shows.
         (let m : Moment K V = moment history in
         let effects : List Effect = effects_of (acts.Making b.map) known new.changed in
@@ -188,6 +196,7 @@ module _ {K V : Type 0} (same : K → K → Bool) (hash : ℕ → K → ℕ) (te
           under_way = still_map m s t (Some b.map) effects (made_calls same hash s old new i said leads b here) has.under_way;
           room = room_still s t (made_calls same hash s old new i said leads b here) has.room;
           each = (makes_stay terms history b.map (making_outcome said) effects (is_refusal new.changed), has.each);
+          own = (tt, has.own);
         });
     maps_come = λ history known s old new at all fresh has i said leads b here next had on no_tables was_new at2 shows.
         (let m : Moment K V = moment history in
@@ -198,6 +207,7 @@ module _ {K V : Type 0} (same : K → K → Bool) (hash : ℕ → K → ℕ) (te
           under_way = still_map (come (coming b next) m) s t (Some b.map) effects (made_calls same hash s old new i said leads b here) has.under_way;
           room = room_still s t (made_calls same hash s old new i said leads b here) has.room;
           each = (comes_stay terms history b.map next.setting.root next.setting.mode (pairs_for next.len) fresh.names unknown.none (making_outcome said) effects (is_refusal new.changed), has.each);
+          own = (tt, has.own);
         });
     maps_fail = λ history known s old new at all fresh has i said leads b here was_new found apart at2 shows.
         (let m : Moment K V = moment history in
@@ -210,8 +220,9 @@ module _ {K V : Type 0} (same : K → K → Bool) (hash : ℕ → K → ℕ) (te
             fails_stay terms history b.map fresh.names (none_on same hash m s old at has.under_way b.map (at.together.makings.coming i b here)) (making_outcome said) effects (is_refusal new.changed),
             has.each,
           );
+          own = (tt, has.own);
         });
-    ends_begin = λ history known s old new at all fresh has map i standing there none at2 shows. record { under_way = has.under_way; room = has.room; each = has.each };
+    ends_begin = λ history known s old new at all fresh has map i standing there none at2 shows. record { under_way = has.under_way; room = has.room; each = has.each; own = has.own };
     ends_step = λ history known s old new at all fresh has i said leads f here map not_there its at2 shows.
         (let m : Moment K V = moment history in
         let effects : List Effect = effects_of (acts.Ending map) known new.changed in
@@ -220,6 +231,7 @@ module _ {K V : Type 0} (same : K → K → Bool) (hash : ℕ → K → ℕ) (te
           under_way = still_map m s t (Some map) effects (ended_calls same hash s old new i f here said leads) has.under_way;
           room = room_still s t (ended_calls same hash s old new i f here said leads) has.room;
           each = (ends_stay terms history map (settled_outcome said) effects (is_refusal new.changed), has.each);
+          own = (tt, has.own);
         });
     maps_go = λ history known s old new at all fresh has i said leads f here map not_there its found apart at2 shows.
         (let m : Moment K V = moment history in
@@ -229,6 +241,7 @@ module _ {K V : Type 0} (same : K → K → Bool) (hash : ℕ → K → ℕ) (te
           under_way = still_map m s t (Some map) effects (ended_calls same hash s old new i f here said leads) has.under_way;
           room = room_still s t (ended_calls same hash s old new i f here said leads) has.room;
           each = (goes_stay terms history map fresh.names (none_on same hash m s old at has.under_way map not_there) (settled_outcome said) effects (is_refusal new.changed), has.each);
+          own = (tt, has.own);
         });
-    choices_come = λ history known s all has choice shows. record { under_way = has.under_way; room = has.room; each = has.each };
+    choices_come = λ history known s all has choice shows. record { under_way = has.under_way; room = has.room; each = has.each; own = has.own };
   }

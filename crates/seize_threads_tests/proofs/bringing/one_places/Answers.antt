@@ -1,5 +1,5 @@
 use Rattle.std.specs.Prelude.{None}
-use Rattle.seize_views.proofs.Beginnings.{rules_start}
+use Rattle.seize_views.proofs.Notes.{rules_start}
 use Rattle.seize_threads_tests.specs.declared.retiring.Counted.{Counted}
 use Rattle.seize_threads_tests.proofs.bringing.one_places.Goals as goal
 

@@ -1,5 +1,5 @@
 use Rattle.std.specs.Prelude.{None}
-use Rattle.seize_views.proofs.Beginnings.{rules_start}
+use Rattle.seize_views.proofs.Notes.{rules_start}
 use Rattle.seize_threads_tests.specs.declared.making.Number.{Number}
 use Rattle.seize_threads_tests.proofs.making.two_threads_find_what_they_have_made.Goals as goal
 

@@ -1,5 +1,5 @@
 use Rattle.std.specs.Prelude.{None}
-use Rattle.seize_views.proofs.Beginnings.{rules_start}
+use Rattle.seize_views.proofs.Notes.{rules_start}
 use Rattle.seize_threads_tests.specs.declared.sections.Plain.{Plain}
 use Rattle.seize_threads_tests.proofs.sections.one_is_within_a_section_while_another_enters_and_leaves.Goals as goal
 

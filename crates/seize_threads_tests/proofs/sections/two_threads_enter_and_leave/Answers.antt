@@ -1,5 +1,5 @@
 use Rattle.std.specs.Prelude.{None}
-use Rattle.seize_views.proofs.Beginnings.{rules_start}
+use Rattle.seize_views.proofs.Notes.{rules_start}
 use Rattle.seize_threads_tests.specs.declared.sections.Plain.{Plain}
 use Rattle.seize_threads_tests.proofs.sections.two_threads_enter_and_leave.Goals as goal
 

@@ -4,7 +4,7 @@ use Rattle.seize_blocks.proofs.blocks.Blocks.add.Goals as goal
 
 pub add-requires : goal.add-requires
 add-requires g c = let s = c.args.seat.now in let r = c.place_of-reached in let t = r.new.seat in
-    on_word g.R.Rule.holds g.R.Rule.keeps s.base t.base s.id t.id r.result.address r.result.place s.view t.view t.visit c.args.at (Add c.args.at c.args.by)
+    on_word g.R.Rule.rests g.R.Rule.holds g.R.Rule.keeps s.base t.base s.id t.id r.result.address r.result.place s.view t.view t.visit t.away c.args.at (Add c.args.at c.args.by)
     (λ v. g.R.Rule.then v (Add c.args.at c.args.by)) _ _ _ _ c.args.self.now.words.id _ _ c.by.ensures r.ensures.same c.requires.own r.ensures.lies.2 c.requires.may
 
 pub place_of-reached-requires-clause-there : goal.place_of-reached-requires-clause-there

@@ -1,6 +1,6 @@
 use Rattle.std.proofs.Common.{subst}
 use Rattle.seize_words.specs.declared.at.At.{At}
-use Rattle.seize_blocks.specs.Placed.{HasWord}
+use Rattle.seize_atoms.specs.Placed.{HasWord}
 use Rattle.seize_blocks.proofs.By.{shows_block}
 use Rattle.seize_blocks.proofs.blocks.Blocks.place_of.Goals as goal
 

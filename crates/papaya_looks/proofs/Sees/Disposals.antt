@@ -1,0 +1,60 @@
+-- A disposal that stands at no row has seen the table of the root, which its section holds.
+use Rattle.std.specs.Prelude.{◌==◌, ◌/◌, ◌^◌, ◌<◌, nat_lt, Some}
+use Rattle.std.proofs.Common.{◌≡◌, ℕ, Bool, true, inl, inr, sym, subst, ap, arith, ◌∙◌}
+use Rattle.papaya_finishes.specs.Given.SeizeWords.declared.at.At.TheVariants.{Root, Word}
+use Rattle.papaya_finishes.specs.Given.SeizeWords.Mem.{Mem, value_at, word_at}
+use Rattle.papaya_finishes.specs.Given.SeizeWords.Op.{Found}
+use Rattle.papaya_finishes.specs.Given.Seize.Law.{holds}
+use Rattle.papaya_finishes.specs.Given.Seize.World.{World}
+use Rattle.papaya_finishes.specs.Given.Seize.declared.rows.settle.Settled.{Settled}
+use Rattle.papaya_finishes.specs.Given.Tables.Nodes.{table_seen}
+use Rattle.papaya_finishes.specs.Given.Tables.declared.node.Node.{Node}
+use Rattle.papaya_finishes.specs.Given.Tables.declared.setting.Setting.{Setting}
+use Rattle.papaya_finishes.specs.Given.Tables.declared.table.Table.{Table}
+use Rattle.papaya_finishes.specs.Given.Tables.declared.table_words.TheConstants.{NEXT}
+use Rattle.papaya_finishes.specs.Given.Resize.Dispose as dispose
+use Rattle.papaya_finishes.specs.Given.Resize.Dispose.{dispose_plan}
+use Rattle.papaya_finishes.specs.Given.Resize.declared.dispose.Dispose.{Dispose}
+use Rattle.papaya_finishes.specs.Given.Resize.declared.dispose.Disposing.{Disposing}
+use Rattle.papaya_finishes.specs.Given.Resize.declared.dispose.Disposing.TheVariants as at
+use Rattle.papaya_finishes.specs.Given.Rule.Chart.{Chart}
+use Rattle.papaya_finishes.specs.Given.Rule.Words.{Blocks}
+use Rattle.papaya_finishes.specs.Given.Rule.InWorld.{IsMapIn}
+use Rattle.papaya_finishes.specs.Given.Points.FactsDisposes.{DisposeFacts}
+use Rattle.papaya_finishes.specs.Given.Points.Told.{IsRowOf}
+use Rattle.papaya_finishes.specs.Given.Callers.Kept.{IsWithin}
+use Rattle.papaya_looks.specs.Blocks.{Sees}
+use Rattle.papaya_looks.specs.Sees.{HasSeen}
+use Rattle.papaya_looks.proofs.Sees.Copiers.{root_held}
+use Rattle.papaya_looks.proofs.Sees.Operations.{none_if, loads}
+
+module _ {K V : Type 0} (same : K → K → Bool) (hash : K → ℕ) (fits : (k : K) → hash k < 2 ^ 64) (w : World (Node K V)) (slot caller : ℕ) (c : Chart K) (seen : Blocks)
+    (setting within_setting : Setting) (within : IsWithin w slot c seen within_setting) (map : IsMapIn same hash setting w c seen)
+    (p : Dispose) (facts : DisposeFacts w caller setting c seen p) (b : ℕ) (n : Mem (Node K V)) (end : Dispose × Settled (Node K V)) where
+  abbrev IsHeld : Type 0
+  IsHeld = holds slot b w.log ≡ true
+
+  -- by the root's table nothing further is seen
+  compared_none : (root : ℕ) (table : Table) → Sees b (value_at n) (dispose.compared {K = K} {V = V} p root table) → ⊥
+  compared_none root table sees = none_if b (value_at n) (nat_lt table.turn p.table.turn) _ _ (λ x. x) (λ x. x) sees
+
+  root_seen : (root : ℕ) → word_at w.memory (Root setting.root) ≡ Some root → Sees b (value_at n) (dispose.root_read {K = K} {V = V} p (Found root)) → IsHeld
+  root_seen root read (inl is) =
+      let made = facts.table.made in
+      subst (λ (x : ℕ). holds slot x w.log ≡ true) (sym is)
+      (root_held same hash fits w slot caller c seen setting within_setting within map (omega (arith, made)) root read)
+  root_seen root read (inr (value, shown, sees)) = absurd (compared_none root (table_seen root value) sees)
+
+  by_point : (stands : Disposing) → (IsRowOf stands → ⊥) → HasSeen b w.memory (dispose.plan_at p stands) n end → IsHeld
+  by_point (at.Settles settle) none saw = absurd (none tt)
+  by_point at.Reads none saw =
+      let l = loads b w.memory n (Root p.setting.root) end (dispose.root_read p) saw in
+      root_seen l.0 (ap (λ (x : Setting). word_at w.memory (Root x.root)) (sym facts.setting_is) ∙ l.1) l.3.1
+  by_point (at.Walks table) none saw =
+      let l = loads b w.memory n (Word (table / 2048) NEXT) end (dispose.walked p table) saw in
+      absurd (none_if b (value_at n) (l.0 / 2048 == p.table.link / 2048) _ _ (λ x. x) (λ x. x) l.3.1)
+  by_point (at.Defers defer) none saw = absurd (none tt)
+  by_point at.Over none saw = absurd saw.2
+
+  pub dispose_sees : (IsRowOf p.stands → ⊥) → HasSeen b w.memory (dispose_plan p) n end → IsHeld
+  dispose_sees none saw = by_point p.stands none saw

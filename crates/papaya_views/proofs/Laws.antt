@@ -1,0 +1,40 @@
+-- What is promised of the rule of maps, as lemmas.
+use Rattle.std.specs.Prelude.{ℕ, Bool}
+use Rattle.papaya_views.specs.Promises.{RulesStart, SeatsCome, CallsGoOn, CallsTurn, HeldAreShown, CallsBegin, CallsAreTold, MapsAreHandedOn, MakingsBegin, MakingsGoOn}
+use Rattle.papaya_views.proofs.Starts as starts
+use Rattle.papaya_views.proofs.Calls as calls
+use Rattle.papaya_views.proofs.Held as held
+use Rattle.papaya_views.proofs.Begins as begins
+use Rattle.papaya_views.proofs.Handing as handing
+use Rattle.papaya_views.proofs.Makings as makings
+
+module _ {K S : Type 0} (V : Type 0) (same : K → K → Bool) (hash : S → K → ℕ) where
+  pub rules_start : RulesStart V same hash
+  rules_start = starts.rules_start V same hash
+
+  pub seats_come : SeatsCome V same hash
+  seats_come = starts.seats_come V same hash
+
+  pub calls_go_on : CallsGoOn V same hash
+  calls_go_on = calls.calls_go_on V same hash
+
+  pub calls_turn : CallsTurn V same hash
+  calls_turn = calls.calls_turn V same hash
+
+  pub held_are_shown : HeldAreShown V same hash
+  held_are_shown = held.held_are_shown V same hash
+
+  pub calls_begin : CallsBegin V same hash
+  calls_begin = begins.calls_begin V same hash
+
+  pub calls_are_told : CallsAreTold V same hash
+  calls_are_told = begins.calls_are_told V same hash
+
+  pub maps_are_handed_on : MapsAreHandedOn V same hash
+  maps_are_handed_on = handing.maps_are_handed_on V same hash
+
+  pub makings_begin : MakingsBegin V same hash
+  makings_begin = makings.makings_begin V same hash
+
+  pub makings_go_on : MakingsGoOn V same hash
+  makings_go_on = makings.makings_go_on V same hash

@@ -1,0 +1,41 @@
+-- The rule holds of other views of the seats, where each has the slot that it had, and knows what is so.
+use Rattle.std.specs.Prelude.{Some, None, slice_get}
+use Rattle.std.proofs.Common.{◌≡◌, ℕ, Bool, List, sym, subst, ap, ◌∙◌}
+use Rattle.papaya_scenes.specs.Given.Tables.declared.node.Node.{Node}
+use Rattle.seize_seats.specs.State.{State, view_of}
+use Rattle.seize_views.specs.Rows.{use_of}
+use Rattle.seize_views.specs.declared.view.Fixed.{Fixed}
+use Rattle.seize_views.specs.declared.view.View.{View as SlotView}
+use Rattle.papaya_views.specs.Rule.{MapsWorld, Fits, KnowsRow, Holds}
+use Rattle.papaya_views.specs.declared.view.View.{View}
+
+module _ {K V S : Type 0} (same : K → K → Bool) (hash : S → K → ℕ) (fixed : Fixed) (s : State (Node K V) (View K V S) (MapsWorld K V S)) (h : Holds same hash fixed s)
+    (views : List (View K V S)) where
+  -- what a seat knew that knows this now
+  pub record Had (k : ℕ) (x : View K V S) : Type 0 where
+    pub knew : View K V S
+    pub at : view_of s k ≡ Some knew
+    pub slot : x.slot ≡ knew.slot
+    pub fits : Fits same hash s.world.scene k x
+
+  pub views_hold : ((k : ℕ) (x : View K V S) → slice_get views k ≡ Some x → Had k x) → ((k : ℕ) → slice_get views k ≡ None → view_of s k ≡ None)
+      → Holds same hash fixed record { memory = s.memory; views = views; world = s.world }
+  views_hold had none = record {
+    course = h.course;
+    reached = h.reached;
+    led = h.led;
+    scene = h.scene;
+    nobody = h.nobody;
+    so = record {
+      memory = h.so.memory;
+      seats = λ k x at. (had k x at).fits;
+      unborn = λ k a is at. h.so.unborn k a is (none k at);
+      apart = λ k l t a b x y e f p r.
+          let one = had k x e in
+          let other = had l y f in
+          h.so.apart k l t a b one.knew other.knew one.at other.at (sym (ap (λ (z : SlotView (Node K V)). use_of z) one.slot) ∙ p) (sym (ap (λ (z : SlotView (Node K V)). use_of z) other.slot) ∙ r);
+      fresh = h.so.fresh;
+      unended = h.so.unended;
+    };
+    rows = λ k x at. let o = had k x at in subst (λ (z : SlotView (Node K V)). KnowsRow fixed s.world.scene k z) (sym o.slot) (h.rows k o.knew o.at);
+  }

@@ -1,0 +1,31 @@
+-- What a seat knows of its slot and of its row, as it is noted for whoever has rows run.
+use Rattle.std.specs.Prelude.{Some, None}
+use Rattle.papaya_scenes.specs.Given.Tables.declared.node.Node.{Node}
+use Rattle.seize_views.specs.Notes.{noted}
+use Rattle.seize_views.specs.Rows.{IsAtRest}
+use Rattle.seize_views.specs.declared.view.Deed.TheVariants.{NoneYet}
+use Rattle.seize_views.specs.declared.view.Noted.{Noted}
+use Rattle.seize_views.specs.declared.view.View.{View as SlotView}
+use Rattle.seize_views.specs.declared.view.View.TheVariants.{Inside, Busy}
+use Rattle.papaya_views.specs.declared.view.View.{View}
+use Rattle.papaya_views.specs.declared.view.Work.{Work}
+use Rattle.papaya_views.specs.declared.view.Work.TheVariants.{Nothing, Calls, Makes}
+
+-- a seat that has something else under way, within the section of its slot or without one, is busy
+abbrev pub busy : {T : Type 0} → SlotView T → SlotView T
+busy (Inside t has) = Busy (Some t)
+busy slot = Busy None
+
+module _ {K V S : Type 0} where
+  abbrev pub row_known : SlotView (Node K V) → Work K V S → SlotView (Node K V)
+  row_known slot Nothing = slot
+  row_known slot (Calls machine) = busy slot
+  row_known slot (Makes m hasher opening) = Busy None
+
+  -- nothing is done at a root, and nobody watches a section
+  abbrev pub notes_of : View K V S → Noted (Node K V)
+  notes_of v = noted (row_known v.slot v.work) NoneYet v.began 0
+
+  -- it has nothing under way
+  abbrev pub IsResting : View K V S → Type 0
+  IsResting v = IsAtRest (notes_of v).knows

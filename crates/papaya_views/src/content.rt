@@ -1,0 +1,18 @@
+//! The rule of maps as a content: rows of the collector run beside calls.
+use crate::maps::OfMaps;
+use papaya_tables::{Hashes, Node};
+use seize_views::Content;
+
+impl<K: Eq, V, S: Hashes<K>> Content<Node<K, V>> for OfMaps<S> {
+    ghost use Rattle.std.specs.Prelude.{Option};
+    ghost use Rattle.papaya_views.specs.Notes.{notes_of};
+    ghost use Rattle.papaya_views.specs.declared.view.Map.{Map};
+
+    ghost Beside = { Option (Map S) };
+
+    ghost notes = { notes_of };
+
+    ghost beside = { λ v. v.map };
+
+    fn goes_on() {}
+}

@@ -1,0 +1,4 @@
+pub mod Fields
+pub mod Lives
+pub mod Allowed
+pub mod Asked

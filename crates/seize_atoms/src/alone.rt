@@ -1,0 +1,67 @@
+//! Who has the memory to himself, and errands, in the midst of which nobody has.
+ghost use Rattle.std.specs.Prelude.{◌≡◌, ◌≢◌, List, [], ◌∷◌, None};
+ghost use Rattle.seize_seats.specs.Errands.{RenewsIdle, RenewsTo, RenewsFrom};
+ghost use Rattle.seize_seats.specs.Owned.{IsLike};
+
+use crate::rule::Rule;
+use crate::seat::Seat;
+use crate::task::Task;
+use crate::words::Words;
+use std::marker::PhantomData;
+
+impl<T, R: Rule<T>> Words<T, R> {
+    /// A seat goes on an errand: as long as that runs nobody has the memory to himself.
+    pub fn errand<E: Task<T, R>>(&self, seat: &mut Seat<T, R>, errand: E) -> E::Answer
+        requires { (seat.old.base ≡ self.now.id.views_name) × (seat.old.away ≡ None) × E.asks errand seat.old.base seat.old.view
+            × ((answer : E.Answer) (w : R.View) → E.did errand seat.old.view answer w → R.rests w) }
+        ensures { (seat.new.base ≡ seat.old.base) × (seat.new.id ≡ seat.old.id) × (seat.new.away ≡ None)
+            × E.did errand seat.old.view result seat.new.view }
+    {
+        self.sent(seat, errand)
+    }
+
+    // The steps of an errand that a seat is on.
+    fn sent<E: Task<T, R>>(&self, seat: &mut Seat<T, R>, errand: E) -> E::Answer
+        requires { (seat.old.away ≢ None) × E.asks errand seat.old.base seat.old.view }
+        ensures { (seat.new.base ≡ seat.old.base) × (seat.new.id ≡ seat.old.id) × (seat.new.away ≡ seat.old.away)
+            × E.did errand seat.old.view result seat.new.view }
+    {
+        errand.run(seat)
+    }
+
+    /// All seats end, and the memory is under another rule from then on, with one seat, which has just come.
+    pub fn alone<S: Rule<T>>(self, fixed: &S::Fixed) -> (Words<T, S>, Seat<T, S>)
+        requires { RenewsTo R.rests (R.holds self.fixed) (S.holds fixed.now) (S.newcomer fixed.now ∷ []) }
+        ensures { (result.0.words ≡ self.words) × (result.0.fixed ≡ fixed.now) × IsLike result.0.id self.id
+            × (result.1.base ≡ result.0.id.views_name) × (result.1.id ≡ 0) × (result.1.view ≡ S.newcomer fixed.now) × (result.1.away ≡ None) }
+    {
+        let Words { words, marker: _ } = self;
+        (
+            Words {
+                words,
+                marker: PhantomData,
+            },
+            Seat {
+                marker: PhantomData,
+            },
+        )
+    }
+
+    /// All seats end, where it is known what this one knows, and the memory is under another rule from then on, with no seat.
+    pub fn used<S: Rule<T>>(self, seat: &mut Seat<T, R>, fixed: &S::Fixed) -> Words<T, S>
+        requires { (seat.old.base ≡ self.id.views_name) × RenewsFrom R.rests (R.holds self.fixed) (S.holds fixed.now) seat.old.id seat.old.view }
+        ensures { (result.words ≡ self.words) × (result.fixed ≡ fixed.now) × IsLike result.id self.id }
+    {
+        let Words { words, marker: _ } = self;
+        Words {
+            words,
+            marker: PhantomData,
+        }
+    }
+
+    /// All seats end.
+    pub fn renew(&mut self)
+        requires { RenewsIdle R.rests (R.holds self.old.fixed) }
+        ensures { (self.new.words ≡ self.old.words) × (self.new.fixed ≡ self.old.fixed) × IsLike self.new.id self.old.id }
+    {}
+}

@@ -1,0 +1,47 @@
+//! What a rule over a shared memory says, and what a seat of it may do without an operation.
+ghost use Rattle.std.specs.Prelude.{ℕ};
+ghost use Rattle.seize_words.specs.Op.{Op, Out};
+ghost use Rattle.seize_seats.specs.State.{State};
+
+/// What holds of a memory that seats share between any two steps, whoever takes them.
+pub trait Rule<T> {
+    /// What a seat knows. No value of it is made: it is plain data of the proofs.
+    type View;
+
+    /// What is chosen as the memory is opened, and stays.
+    type Fixed;
+
+    /// What the rule keeps beside the memory and the views.
+    ghost World: { Type 0 };
+
+    /// What holds between any two steps.
+    ghost holds: { Self.Fixed → State T Self.View World → Type 0 };
+
+    /// The view of one seat, as long as what another owns lasts, keeps the block of a number in this world.
+    ghost keeps: { Self.View → Self.View → World → ℕ → Type 0 };
+
+    /// What an operation tells its seat: its view before it, the operation, the answer, and its view after it.
+    ghost then: { Self.View → Op T → Out T → Self.View → Type 0 };
+
+    /// What a seat knows that has just come.
+    ghost newcomer: { Self.Fixed → Self.View };
+
+    /// A seat that knows this is in the midst of nothing: under `&mut` all seats do.
+    ghost rests: { Self.View → Type 0 };
+
+    /// One that has just come rests.
+    ghost newcomers_rest: { (fixed : Self.Fixed) → rests (newcomer fixed) };
+
+    /// An operation leaves one at rest that rests.
+    ghost resting_stay: { (v : Self.View) (op : Op T) (out : Out T) (w : Self.View) → then v op out w → rests v → rests w };
+}
+
+/// What a step without an operation makes of a view, by what was chosen as the memory was opened.
+pub trait Turn<F, V> {
+    ghost to: { F → V → V → Type 0 };
+}
+
+/// What a meeting of two seats makes of both views: what was chosen, the one view and the other before it, and after it.
+pub trait Meeting<F, V> {
+    ghost to: { F → V → V → V → V → Type 0 };
+}

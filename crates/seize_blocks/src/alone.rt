@@ -1,0 +1,66 @@
+//! A memory that one seat has to itself, under a rule of its own, and that goes back under the rule of all.
+ghost use Rattle.std.specs.Prelude.{◌≡◌, List, [], ◌∷◌, None};
+ghost use Rattle.seize_seats.specs.Errands.{RenewsTo, RenewsFrom};
+ghost use Rattle.seize_seats.specs.Owned.{IsLike};
+
+use crate::blocks::Blocks;
+use seize_atoms::{Rule, Seat};
+
+impl<T, R: Rule<T>> Blocks<T, R> {
+    /// All seats end, and what was lent is back. The memory is under another rule from then on, with one seat, which has just come.
+    pub(crate) fn alone<S: Rule<T>>(self, fixed: &S::Fixed) -> (Blocks<T, S>, Seat<T, S>)
+        requires { RenewsTo R.rests (R.holds self.words.fixed) (S.holds fixed.now) (S.newcomer fixed.now ∷ []) }
+        ensures fixed { result.0.words.fixed ≡ fixed.now }
+        ensures comes { (result.1.base ≡ result.0.words.id.views_name) × (result.1.view ≡ S.newcomer fixed.now) × (result.1.away ≡ None) }
+        ensures same { (result.0.words.words ≡ self.words.words) × IsLike result.0.words.id self.words.id × (result.0.values.at ≡ self.values.at)
+            × (result.0.doors.at ≡ self.doors.at) }
+    {
+        let Blocks {
+            alloc,
+            words,
+            roots,
+            count,
+            values,
+            doors,
+        } = self;
+        let (words, seat) = words.alone::<S>(fixed);
+        (
+            Blocks {
+                alloc,
+                words,
+                roots,
+                count,
+                values,
+                doors,
+            },
+            seat,
+        )
+    }
+
+    /// All seats end, and what was lent is back, where it is known what this seat knows. The memory is under another rule from then on, with no seat.
+    pub(crate) fn used<S: Rule<T>>(self, seat: Seat<T, R>, fixed: &S::Fixed) -> Blocks<T, S>
+        requires { (seat.base ≡ self.words.id.views_name) × RenewsFrom R.rests (R.holds self.words.fixed) (S.holds fixed.now) seat.id seat.view }
+        ensures fixed { result.words.fixed ≡ fixed.now }
+        ensures same { (result.words.words ≡ self.words.words) × IsLike result.words.id self.words.id × (result.values.at ≡ self.values.at)
+            × (result.doors.at ≡ self.doors.at) }
+    {
+        let mut seat = seat;
+        let Blocks {
+            alloc,
+            words,
+            roots,
+            count,
+            values,
+            doors,
+        } = self;
+        let words = words.used::<S>(&mut seat, fixed);
+        Blocks {
+            alloc,
+            words,
+            roots,
+            count,
+            values,
+            doors,
+        }
+    }
+}

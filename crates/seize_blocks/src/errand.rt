@@ -1,0 +1,42 @@
+//! What a seat is sent for: a course of steps, in the midst of which nobody has the memory to himself.
+ghost use Rattle.std.specs.Prelude.{◌≡◌, ◌≢◌, None};
+
+use crate::blocks::Blocks;
+use seize_atoms::{Rule, Seat, Task};
+
+/// A course of steps that a seat takes.
+pub trait Errand<T, R: Rule<T>>: Sized {
+    /// What it answers.
+    type Answer;
+
+    /// What the seat has to know as it begins, by what was chosen as the memory was opened.
+    ghost asks: { Self → R.Fixed → R.View → Type 0 };
+
+    /// What it has come to: what was chosen, the view before it, the answer, and the view after it.
+    ghost did: { Self → R.Fixed → R.View → Self.Answer → R.View → Type 0 };
+
+    /// Takes the steps.
+    fn run(self, blocks: &Blocks<T, R>, seat: &mut Seat<T, R>) -> Self::Answer
+        requires { (seat.old.base ≡ blocks.now.words.id.views_name) × (seat.old.away ≢ None) × asks self blocks.now.words.fixed seat.old.view }
+        ensures { (seat.new.base ≡ seat.old.base) × (seat.new.id ≡ seat.old.id) × (seat.new.away ≡ seat.old.away)
+            × did self blocks.now.words.fixed seat.old.view result seat.new.view };
+}
+
+/// An errand in a memory.
+pub(crate) struct Sent<'a, T, R: Rule<T>, E> {
+    pub(crate) blocks: &'a Blocks<T, R>,
+    pub(crate) errand: E,
+}
+
+impl<'a, T, R: Rule<T>, E: Errand<T, R>> Task<T, R> for Sent<'a, T, R, E> {
+    type Answer = E::Answer;
+
+    ghost asks = { λ s base v. (s.blocks.now.words.id.views_name ≡ base) × E.asks s.errand s.blocks.now.words.fixed v };
+
+    ghost did = { λ s v answer w. E.did s.errand s.blocks.now.words.fixed v answer w };
+
+    fn run(self, seat: &mut Seat<T, R>) -> E::Answer {
+        let Self { blocks, errand } = self;
+        errand.run(blocks, seat)
+    }
+}

@@ -1,0 +1,10 @@
+pub mod Owning
+pub mod Keeping
+pub mod Resting
+pub mod Turns
+pub mod Calls
+pub mod Deeds
+pub mod Drives
+pub mod Seen
+pub mod Straight
+pub mod Making

@@ -1,0 +1,208 @@
+-- What a seat without a slot may do with the block that it has, and what it knows then.
+use Rattle.std.specs.Prelude.{◌<◌, ◌==◌, Option, Some, Ok, Err, if◌then◌else◌}
+use Rattle.std.proofs.Common.{◌≡◌, ℕ, ◌^◌, ◌%◌, Bool, sym, subst, ap, ◌∙◌}
+use Rattle.std.proofs.lemmas.Bool.{ne_eqb, eq-eqb}
+use Rattle.seize_words.specs.Op.{Op, Swap, Exchange, Make, Take, Found, Exchanged, Made as OutMade, Taken}
+use Rattle.seize_words.specs.Word.{block_in, link_to}
+use Rattle.seize_words.specs.declared.at.At.TheVariants.{Root}
+use Rattle.seize.specs.World.{HasListWord}
+use Rattle.seize_acts.proofs.Answers.{same_some}
+use Rattle.seize_seats.specs.Lendings.{Shown, IsValueOf}
+use Rattle.seize_seats.specs.State.{Allows, Meets}
+use Rattle.seize_views.specs.Begun.{Hands}
+use Rattle.seize_views.specs.Promises.{IsLooking, IsTaker}
+use Rattle.seize_views.specs.Rows.{Holds}
+use Rattle.seize_views.specs.Notes.{NotedHolds, NotedKeeps, NotedHands, noted_told}
+use Rattle.seize_callers.specs.Owning.{brought_by, borne_by}
+use Rattle.seize_views.specs.Told.{alone_with, cut_in, told}
+use Rattle.seize_views.specs.declared.view.Noted.{Noted}
+use Rattle.seize_views.specs.declared.view.View.{View}
+use Rattle.seize_views.specs.declared.view.View.TheVariants.{Rests, Registers, Outside, Owes, Enters, Inside, Settles, Leaves, Left, Frees, Brings, Bears, Watches, Busy}
+use Rattle.seize_views.specs.declared.view.Has.{Has}
+use Rattle.seize_views.specs.declared.view.Has.TheVariants.{Nothing, Made, Seen, Both, Cut}
+use Rattle.seize_views.specs.declared.view.Fixed.{Fixed}
+use Rattle.seize_views.proofs.Blocks.{own_are_made, own_are_taken, own_are_shown, borne_are_shown}
+use Rattle.seize_callers.proofs.Calls.{by_view, whole_link}
+use Rattle.seize_views.proofs.Notes.{looks_are_noted, meetings_are_noted}
+use Rattle.seize_views.proofs.Handing.{borne_are_handed_on}
+use Rattle.seize_views.proofs.Roots.{beside_alone, own_are_linked, own_are_exchanged}
+
+module _ {T : Type 0} where
+  -- which view it has
+  pub brings : (b : ℕ) (v : View T) → brought_by v ≡ Some b → (x : T) × (v ≡ Brings b x)
+  brings b (Brings c x) e = (x, ap (λ (k : ℕ). Brings k x) (same_some c b e))
+  brings b Rests e = absurd (cc e)
+  brings b (Registers c) e = absurd (cc e)
+  brings b (Outside t) e = absurd (cc e)
+  brings b (Owes t c) e = absurd (cc e)
+  brings b (Enters t) e = absurd (cc e)
+  brings b (Inside t has) e = absurd (cc e)
+  brings b (Settles c why seen left) e = absurd (cc e)
+  brings b (Leaves t size way) e = absurd (cc e)
+  brings b (Left t size way) e = absurd (cc e)
+  brings b (Frees t) e = absurd (cc e)
+  brings b (Bears c) e = absurd (cc e)
+  brings b (Watches t c) e = absurd (cc e)
+  brings b (Busy t) e = absurd (cc e)
+
+  pub bears : (b : ℕ) (v : View T) → borne_by v ≡ Some b → v ≡ Bears b
+  bears b (Bears c) e = ap Bears (same_some c b e)
+  bears b Rests e = absurd (cc e)
+  bears b (Registers c) e = absurd (cc e)
+  bears b (Outside t) e = absurd (cc e)
+  bears b (Owes t c) e = absurd (cc e)
+  bears b (Enters t) e = absurd (cc e)
+  bears b (Inside t has) e = absurd (cc e)
+  bears b (Settles c why seen left) e = absurd (cc e)
+  bears b (Leaves t size way) e = absurd (cc e)
+  bears b (Left t size way) e = absurd (cc e)
+  bears b (Frees t) e = absurd (cc e)
+  bears b (Brings c x) e = absurd (cc e)
+  bears b (Watches t c) e = absurd (cc e)
+  bears b (Busy t) e = absurd (cc e)
+
+module _ {T : Type 0} (defers : T → Option ℕ) (fixed : Fixed) (id : ℕ) (v : Noted T) where
+  abbrev MayMake : Op T → Type 0
+  MayMake op = Allows (NotedHolds defers fixed) NotedKeeps id v op (noted_told defers v op)
+
+  pub may_make_own : v.knows ≡ Rests → (value : T) (words : ℕ) → HasListWord defers (defers value) words → MayMake (Make value words)
+  may_make_own is value words list = by_view defers fixed id v Rests (Make value words) is tt (own_are_made T defers value words list fixed id)
+
+  pub may_take_own : (b : ℕ) → brought_by v.knows ≡ Some b → MayMake (Take b)
+  may_take_own b e = let k = brings b v.knows e in by_view defers fixed id v (Brings b k.0) (Take b) k.1 tt (own_are_taken T defers b k.0 fixed id)
+
+  pub may_link_own : (b r word : ℕ) → brought_by v.knows ≡ Some b → r < fixed.roots → b < 2 ^ 53 → word ≡ link_to b % 2 ^ 64 → MayMake (Swap (Root r) word)
+  may_link_own b r word e lt fits link =
+      let k = brings b v.knows e in
+      subst (λ (w : ℕ). MayMake (Swap (Root r) w)) (sym (link ∙ whole_link b fits))
+      (by_view defers fixed id v (Brings b k.0) (Swap (Root r) (link_to b)) k.1 tt (own_are_linked T defers b k.0 r fixed id lt))
+
+  pub may_place : (b r word : ℕ) → brought_by v.knows ≡ Some b → r < fixed.roots → b < 2 ^ 53 → word ≡ link_to b % 2 ^ 64 → MayMake (Exchange (Root r) 0 word)
+  may_place b r word e lt fits link =
+      let k = brings b v.knows e in
+      subst (λ (w : ℕ). MayMake (Exchange (Root r) 0 w)) (sym (link ∙ whole_link b fits))
+      (by_view defers fixed id v (Brings b k.0) (Exchange (Root r) 0 (link_to b)) k.1 tt (own_are_exchanged T defers b k.0 r 0 fixed id lt))
+
+  pub is_brought : (b : ℕ) → brought_by v.knows ≡ Some b → Shown (NotedHolds defers fixed) id v b
+  is_brought b e =
+      let k = brings b v.knows e in
+      (looks_are_noted T defers fixed id v b).0
+      (subst (λ (x : View T). Shown (Holds defers fixed) id x b) (sym k.1) (own_are_shown T defers fixed id b k.0).0)
+
+  pub brought_value : (b : ℕ) (x y : T) → v.knows ≡ Brings b x → IsValueOf (NotedHolds defers fixed) id v b y → y ≡ x
+  brought_value b x y is of =
+      (own_are_shown T defers fixed id b x).1 y
+      (subst (λ (u : View T). IsValueOf (Holds defers fixed) id u b y) is ((looks_are_noted T defers fixed id v b).1 y of))
+
+  pub is_borne : (b : ℕ) → borne_by v.knows ≡ Some b → Shown (NotedHolds defers fixed) id v b
+  is_borne b e =
+      (looks_are_noted T defers fixed id v b).0
+      (subst (λ (x : View T). Shown (Holds defers fixed) id x b) (sym (bears b v.knows e)) (borne_are_shown T defers fixed id b))
+
+  pub may_hand_on : (j b : ℕ) (u : Noted T) → v.knows ≡ Bears b → IsTaker u.knows → Meets (NotedHolds defers fixed) id v j u (NotedHands fixed v u)
+  may_hand_on j b u is takes =
+      meetings_are_noted T defers fixed id j b v u is takes
+      (subst (λ (x : View T). Meets (Holds defers fixed) id x j u.knows (Hands fixed x u.knows)) (sym is)
+      (borne_are_handed_on T defers fixed id j b u.knows takes))
+
+module _ {T : Type 0} (defers : T → Option ℕ) (v w : View T) where
+  pub own_made_told : (words b : ℕ) (value : T) → v ≡ Rests → told defers v (Make value words) (OutMade (Ok b)) w → (w ≡ Brings b value) × (b < 2 ^ 53)
+  own_made_told words b value is so =
+      let k = subst (λ (x : View T). told defers x (Make value words) (OutMade (Ok b)) w) is so in (k.2 ∙ ap alone_with k.1.1, k.1.0)
+
+  pub own_refused_told : (words : ℕ) (value back : T) → v ≡ Rests → told defers v (Make value words) (OutMade (Err back)) w → back ≡ value
+  own_refused_told words value back is so = (subst (λ (x : View T). told defers x (Make value words) (OutMade (Err back)) w) is so).1.0
+
+  pub own_taken_told : (b : ℕ) (x value : T) → v ≡ Brings b x → told defers v (Take b) (Taken value) w → value ≡ x
+  own_taken_told b x value is so = (subst (λ (y : View T). told defers y (Take b) (Taken value) w) is so).1.0
+
+  -- what was put where nothing was, taken back, or put, leaves a seat that rests
+
+  pub own_rests_told : (b : ℕ) (value : T) → brought_by v ≡ Some b → told defers v (Take b) (Taken value) w → w ≡ Rests
+  own_rests_told b value e so =
+      let k = brings b v e in let t = subst (λ (x : View T). told defers x (Take b) (Taken value) w) k.1 so in t.2 ∙ ap alone_with t.1.1
+
+  pub own_placed_told : (b r word was : ℕ) → brought_by v ≡ Some b → told defers v (Exchange (Root r) 0 word) (Exchanged (Ok was)) w → w ≡ Rests
+  own_placed_told b r word was e so =
+      let k = brings b v e in
+      let t = subst (λ (x : View T). told defers x (Exchange (Root r) 0 word) (Exchanged (Ok was)) w) k.1 so in t.2 ∙ ap alone_with t.1
+
+  own_linked_told : (b r word old : ℕ) → brought_by v ≡ Some b → told defers v (Swap (Root r) word) (Found old) w → w ≡ alone_with (cut_in old)
+  own_linked_told b r word old e so =
+      let k = brings b v e in
+      let t = subst (λ (x : View T). told defers x (Swap (Root r) word) (Found old) w) k.1 so in t.2 ∙ ap alone_with t.1
+
+  pub own_lost_told : (b : ℕ) (x : T) (r old word now : ℕ) → v ≡ Brings b x → told defers v (Exchange (Root r) old word) (Exchanged (Err now)) w
+      → w ≡ Brings b x
+  own_lost_told b x r old word now is so =
+      let t = subst (λ (y : View T). told defers y (Exchange (Root r) old word) (Exchanged (Err now)) w) is so in
+      t.2 ∙ ap alone_with t.1 ∙ sym (beside_alone b x (block_in now) (block_in now == 0))
+
+  pub still_brings : (b r old word now : ℕ) → brought_by v ≡ Some b → told defers v (Exchange (Root r) old word) (Exchanged (Err now)) w
+      → brought_by w ≡ Some b
+  still_brings b r old word now e so = let k = brings b v e in ap brought_by (own_lost_told b k.0 r old word now k.1 so)
+
+-- a block that was taken from a root is borne
+borne_block : (T : Type 0) (word b : ℕ) → b ≡ block_in word → (b ≡ 0 → ⊥) → borne_by {T = T} (alone_with (cut_in word)) ≡ Some b
+borne_block T word b is ne =
+    ap (λ (y : Bool). borne_by {T = T} (alone_with (if y then Nothing else Cut (block_in word)))) (ne_eqb (block_in word) 0 (λ e. ne (is ∙ e))) ∙ ap Some (sym is)
+
+module _ {T : Type 0} (defers : T → Option ℕ) (v w : View T) where
+  -- and its seat bears it
+  pub linked_is : (b r word old c : ℕ) → brought_by v ≡ Some b → told defers v (Swap (Root r) word) (Found old) w → c ≡ block_in old → (c ≡ 0 → ⊥)
+      → w ≡ Bears c
+  linked_is b r word old c e so is ne =
+      own_linked_told defers v w b r word old e so
+      ∙ ap (λ (y : Bool). alone_with (if y then Nothing else Cut (block_in old))) (ne_eqb (block_in old) 0 (λ z. ne (is ∙ z))) ∙ ap Bears (sym is)
+
+  pub linked_rests : (b r word old : ℕ) → brought_by v ≡ Some b → told defers v (Swap (Root r) word) (Found old) w → block_in old ≡ 0 → w ≡ Rests
+  linked_rests b r word old e so is =
+      own_linked_told defers v w b r word old e so
+      ∙ ap (λ (y : Bool). alone_with (if y then Nothing else Cut (block_in old))) (eq-eqb (block_in old) 0 is)
+
+  pub linked_bears : (b r word old c : ℕ) → brought_by v ≡ Some b → told defers v (Swap (Root r) word) (Found old) w → c ≡ block_in old → (c ≡ 0 → ⊥)
+      → borne_by w ≡ Some c
+  linked_bears b r word old c e so is ne = ap borne_by (own_linked_told defers v w b r word old e so) ∙ borne_block T old c is ne
+
+module _ {T : Type 0} (fixed : Fixed) (v u v2 u2 : View T) (slot b : ℕ) where
+  -- who took it over owes it, or has it in its hand
+
+  pub owes_told : v ≡ Bears b → u ≡ Outside slot → Hands fixed v u v2 u2 → u2 ≡ Owes slot b
+  owes_told is on so =
+      (subst (λ (x : View T). Hands fixed (Bears b) x v2 u2) on (subst (λ (x : View T). Hands fixed x u v2 u2) is so)).1
+
+  cut_so : (has : Has T) → IsLooking has → Hands fixed (Bears b) (Inside slot has) v2 u2 → u2 ≡ Inside slot (Cut b)
+  cut_so Nothing looks so = so.1
+  cut_so (Seen a) looks so = so.1
+  cut_so (Made c x) looks so = absurd looks
+  cut_so (Both c x a) looks so = absurd looks
+  cut_so (Cut c) looks so = absurd looks
+
+  pub cuts_told : (has : Has T) → IsLooking has → v ≡ Bears b → u ≡ Inside slot has → Hands fixed v u v2 u2 → u2 ≡ Inside slot (Cut b)
+  cuts_told has looks is on so =
+      cut_so has looks (subst (λ (x : View T). Hands fixed (Bears b) x v2 u2) on (subst (λ (x : View T). Hands fixed x u v2 u2) is so))
+
+  -- and who handed it on rests
+
+  rests_so : (x : View T) → IsTaker x → Hands fixed (Bears b) x v2 u2 → v2 ≡ Rests
+  rests_so (Outside t) takes so = so.0
+  rests_so (Inside t Nothing) takes so = so.0
+  rests_so (Inside t (Seen a)) takes so = so.0
+  rests_so (Inside t (Made c x)) takes so = absurd takes
+  rests_so (Inside t (Both c x a)) takes so = absurd takes
+  rests_so (Inside t (Cut c)) takes so = absurd takes
+  rests_so Rests takes so = absurd takes
+  rests_so (Registers c) takes so = absurd takes
+  rests_so (Owes t c) takes so = absurd takes
+  rests_so (Enters t) takes so = absurd takes
+  rests_so (Settles c why seen left) takes so = absurd takes
+  rests_so (Leaves t size way) takes so = absurd takes
+  rests_so (Left t size way) takes so = absurd takes
+  rests_so (Frees t) takes so = absurd takes
+  rests_so (Brings c x) takes so = absurd takes
+  rests_so (Bears c) takes so = absurd takes
+  rests_so (Watches t c) takes so = absurd takes
+  rests_so (Busy t) takes so = absurd takes
+
+  pub rests_told : IsTaker u → v ≡ Bears b → Hands fixed v u v2 u2 → v2 ≡ Rests
+  rests_told takes is so = rests_so u takes (subst (λ (x : View T). Hands fixed x u v2 u2) is so)

@@ -1,0 +1,39 @@
+use Rattle.std.proofs.Common.{subst}
+use Rattle.seize_views.specs.Begun.{Hands}
+use Rattle.seize_callers.proofs.Resting.{handed}
+use Rattle.seize_callers.proofs.Owning.{bears, may_hand_on, owes_told, cuts_told, rests_told}
+use Rattle.seize_callers.proofs.caller.roots.Caller+T.takes_over.Goals as goal
+
+pub meet-requires-clause-may : goal.meet-requires-clause-may
+meet-requires-clause-may g c =
+    let x = c.args.self.now in let seat = c.args.bearer.now.seat in
+    may_hand_on g.T.Defers.defers x.blocks.now.words.fixed seat.id seat.view x.seat.id c.args._block x.seat.view (bears c.args._block seat.view.knows c.requires.bears) c.requires.takes
+
+pub returns-clause-outside : goal.returns-clause-outside
+returns-clause-outside g c =
+    let x = c.args.self.now in let seat = c.args.bearer.now.seat in
+    λ on. owes_told x.blocks.now.words.fixed seat.view.knows x.seat.view.knows c.meet.new.one.view.knows c.meet.new.other.view.knows c.args._slot c.args._block
+    (bears c.args._block seat.view.knows c.requires.bears) on c.meet.ensures.goes.0
+
+pub returns-clause-inside : goal.returns-clause-inside
+returns-clause-inside g c =
+    let x = c.args.self.now in let seat = c.args.bearer.now.seat in
+    λ has looks on. cuts_told x.blocks.now.words.fixed seat.view.knows x.seat.view.knows c.meet.new.one.view.knows c.meet.new.other.view.knows c.args._slot c.args._block
+    has looks (bears c.args._block seat.view.knows c.requires.bears) on c.meet.ensures.goes.0
+
+pub returns-clause-did : goal.returns-clause-did
+returns-clause-did g c = c.meet.ensures.goes.2.0
+
+pub returns-clause-rests : goal.returns-clause-rests
+returns-clause-rests g c =
+    let x = c.args.self.now in let seat = c.args.bearer.now.seat in
+    rests_told x.blocks.now.words.fixed seat.view.knows x.seat.view.knows c.meet.new.one.view.knows c.meet.new.other.view.knows c.args._slot c.args._block
+    c.requires.takes (bears c.args._block seat.view.knows c.requires.bears) c.meet.ensures.goes.0
+
+pub meet-requires-clause-errand : goal.meet-requires-clause-errand
+meet-requires-clause-errand g c = λ p q so.
+    let x = c.args.self.now in let seat = c.args.bearer.now.seat in let fixed = x.blocks.now.words.fixed in
+    let k =
+    handed fixed c.args._block x.seat.view.knows p.knows q.knows c.requires.takes
+    (subst (λ v. Hands fixed v x.seat.view.knows p.knows q.knows) (bears c.args._block seat.view.knows c.requires.bears) so.0) in
+    (λ home rests. k.0, λ home rests. k.1)

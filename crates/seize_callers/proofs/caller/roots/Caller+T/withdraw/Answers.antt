@@ -1,0 +1,17 @@
+use Rattle.std.specs.Prelude.{None}
+use Rattle.std.proofs.Common.{sym, ap, ◌∙◌}
+use Rattle.seize_views.specs.declared.view.Deed.TheVariants.{Wrote}
+use Rattle.seize_callers.proofs.Deeds.{withdrawn_noted}
+use Rattle.seize_callers.proofs.Calls.{may_withdraw}
+use Rattle.seize_callers.proofs.caller.roots.Caller+T.withdraw.Goals as goal
+
+pub swap-old-requires-clause-may : goal.swap-old-requires-clause-may
+swap-old-requires-clause-may g c =
+    let x = c.args.self.now in
+    may_withdraw g.T.Defers.defers x.blocks.now.words.fixed x.seat.id x.seat.view c.args._slot c.args.root c.requires.outside c.requires.root
+
+pub returns-clause-took : goal.returns-clause-took
+returns-clause-took g c =
+    let x = c.args.self.now in
+    withdrawn_noted x.seat.view.knows x.seat.view.did c.swap-old.new.seat.view.did c.args._slot c.args.root 0 c.swap-old.result c.requires.outside
+    c.swap-old.ensures.goes.1 ∙ ap (Wrote c.args.root None) (sym c.named.ensures.either)

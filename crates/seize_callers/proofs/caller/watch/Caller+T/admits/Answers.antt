@@ -1,0 +1,15 @@
+use Rattle.seize_callers.proofs.Resting.{at_rest}
+use Rattle.seize_views.specs.declared.view.View.TheVariants.{Watches}
+use Rattle.seize_views.proofs.Guarding.{watches_begin}
+use Rattle.seize_callers.proofs.caller.watch.Caller+T.admits.Goals as goal
+
+pub meet-requires-clause-may : goal.meet-requires-clause-may
+meet-requires-clause-may g c =
+    let x = c.args.self.now in
+    watches_begin g.row.T.Denot g.T.Defers.defers x.blocks.now.words.fixed c.args.seat.now.id x.seat.id c.args._slot c.args.seat.now.view x.seat.view c.requires.rests
+    c.requires.inside
+
+pub meet-requires-clause-errand : goal.meet-requires-clause-errand
+meet-requires-clause-errand g c = λ p q so.
+    let k = so c.args._slot c.requires.inside in
+    (λ home rests. at_rest p.knows (Watches c.args._slot 0) k.0 tt, λ home rests. at_rest q.knows c.args.self.now.seat.view.knows k.2 rests)

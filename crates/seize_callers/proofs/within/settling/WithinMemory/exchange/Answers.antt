@@ -1,0 +1,14 @@
+use Rattle.seize_callers.proofs.Keeping.{still_kept}
+use Rattle.seize_callers.proofs.Making.{may_make, has_told}
+use Rattle.seize_callers.proofs.within.settling.WithinMemory.exchange.Goals as goal
+
+pub exchange-requires-clause-may : goal.exchange-requires-clause-may
+exchange-requires-clause-may g c =
+    let x = c.args.self.now in
+    may_make g.C.Rule.holds g.C.Rule.keeps g.C.Content.notes g.C.Content.beside g.T.Defers.defers g.C.Rule.then x.blocks.now.words.fixed x.seat.now.id x.seat.now.view c.goes_on.ensures.rows _ c.requires
+
+pub returns : goal.returns
+returns g c =
+    let x = c.args.self.now in
+    let k = has_told g.C.Rule.holds g.C.Rule.keeps g.C.Content.notes g.C.Content.beside g.T.Defers.defers g.C.Rule.then x.blocks.now.words.fixed x.seat.now.id x.seat.now.view c.goes_on.ensures.told _ c.requires _ c.exchange.new.seat.view c.exchange.ensures.goes in
+    (still_kept _ _ c.exchange.ensures.same.1 c.exchange.ensures.errand, k.1, k.0)

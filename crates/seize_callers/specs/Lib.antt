@@ -1,0 +1,5 @@
+pub mod Seeking
+pub mod Kept
+pub mod Made
+pub mod Done
+pub mod Owning

@@ -1,5 +1,0 @@
-use Rattle.std.proofs.Common.{arith}
-use Rattle.seize_shared.proofs.stay.Stay.clears.Goals as goal
-
-pub remove-requires-clause-root : goal.remove-requires-clause-root
-remove-requires-clause-root g c = let k = c.if-root-self.false in let q = c.refreshes.new.self.rooted in grind (arith, k, q)

@@ -1,0 +1,84 @@
+//! Several guards of one slot: its section begins with the first of them, and ends with the last, whichever that is.
+ghost use Rattle.std.specs.Prelude.{◌≡◌};
+
+use crate::guards::CHOSEN;
+use crate::retiring::{Counted, Table, dropped, table};
+use seize_blocks::{Blocks, Home};
+use seize_shared::{Desk, OfRows, Place, Registration, RootGuard};
+use std::alloc::{AllocError, Global};
+use std::marker::Brand;
+use std::test::Fail;
+
+/// How often a value was dropped: while two guards have seen it and it was retired; after one of them has ended; and after both.
+#[derive(Drop)]
+struct Drops {
+    seen: bool,
+    both: u64,
+    one: u64,
+    none: u64,
+}
+
+/// Two guards see a value, which is taken away and retired by another slot then; one of them ends, and then the other one: the inner one first, or the outer one.
+fn ends<B: Place>(
+    blocks: &Blocks<Counted, OfRows>,
+    drops: &Table,
+    inner_first: bool,
+) -> Option<Drops>
+    requires fixed { blocks.now.words.fixed ≡ record { batch_size = 5; roots = 1 } }
+    requires home { blocks.now.words.id.views_name ≡ B.base }
+{
+    let mut writer = Registration::new(blocks, &CHOSEN).ok()?;
+    let mut guard = writer.enter();
+    guard.put(0, Counted::of(drops, 0)?).ok()?;
+    drop(guard);
+    let desk = Desk::<Counted, B>::new(blocks, &CHOSEN).ok()?;
+    let mut outer = desk.enter()?;
+    let mut inner = desk.enter()?;
+    outer.see(0);
+    inner.see(0);
+    writer.clear(0);
+    writer.flush();
+    let both = dropped(drops, 0);
+    let (first, second) = if inner_first {
+        (inner, outer)
+    } else {
+        (outer, inner)
+    };
+    drop(first);
+    writer.flush();
+    let one = dropped(drops, 0);
+    let seen = second.value().is_some();
+    drop(second);
+    Some(Drops {
+        seen,
+        both,
+        one,
+        none: dropped(drops, 0),
+    })
+}
+
+/// The same over one memory, which ends then.
+fn both_end(alloc: Global, drops: &Table, inner_first: bool) -> Result<Option<Drops>, AllocError> {
+    let home = Home::<Counted, OfRows>::open(alloc, 1, 64, &CHOSEN)?;
+    Ok(ends_here(&home.blocks, drops, inner_first))
+}
+
+/// In this memory.
+fn ends_here(blocks: &Blocks<Counted, OfRows>, drops: &Table, inner_first: bool) -> Option<Drops>
+    requires { blocks.now.words.fixed ≡ record { batch_size = 5; roots = 1 } }
+{
+    ends::<Brand>(blocks, drops, inner_first)
+}
+
+#[test]
+fn what_a_guard_has_seen_is_there_until_the_last_one_ends(rt: HostRuntime) -> Result<(), Fail> {
+    for inner_first in [true, false] {
+        let drops = table(rt.alloc(), 1)?;
+        let Some(times) = both_end(rt.alloc(), &drops, inner_first)? else {
+            return Err(Fail::new("a slot or memory was refused"));
+        };
+        assert!(rt; times.seen);
+        assert_eq!(rt; (times.both, times.one, times.none), (0, 0, 1));
+    }
+    Ok(())
+}

@@ -1,0 +1,91 @@
+-- Who has nothing under way has nothing under way after an operation.
+use Rattle.std.specs.Prelude.{◌≡◌, ◌==◌, ℕ, Bool, true, false, Option, if◌then◌else◌}
+use Rattle.std.proofs.Common.{sym, subst}
+use Rattle.seize_words.specs.Op.{Op, Out, Load, Store, Swap, Add, Or, Exchange, Make, Take, Rewrite, Room, Found, Stored, Exchanged, Made as OutMade, Taken, Roomed}
+use Rattle.seize_words.specs.Word.{block_in}
+use Rattle.seize_words.specs.declared.at.At.TheVariants.{Root, Used, Slot, Entry, Word}
+use Rattle.seize_views.specs.Notes.{noted_told}
+use Rattle.seize_views.specs.Rows.{IsAtRest}
+use Rattle.seize_views.specs.Told.{told, alone_with, owes_in}
+use Rattle.seize_views.specs.declared.view.Noted.{Noted}
+use Rattle.seize_views.specs.declared.view.View.{View}
+use Rattle.seize_views.specs.declared.view.View.TheVariants.{Rests, Registers, Outside, Owes, Enters, Inside, Settles, Leaves, Left, Frees, Brings, Bears, Watches, Busy}
+use Rattle.seize_views.specs.declared.view.Has.{Has}
+use Rattle.seize_views.specs.declared.view.Has.TheVariants.{Nothing, Made, Seen, Both, Cut}
+
+owes_rests : (T : Type 0) (t word : ℕ) (b : Bool) → IsAtRest {T = T} (if b then Outside t else Owes t (block_in word))
+owes_rests T t word true = tt
+owes_rests T t word false = tt
+
+module _ {T : Type 0} where
+  alone_rests : (has : Has T) → IsAtRest (alone_with has)
+  alone_rests Nothing = tt
+  alone_rests (Made b x) = tt
+  alone_rests (Seen b) = tt
+  alone_rests (Both b x a) = tt
+  alone_rests (Cut b) = tt
+
+  rests_as : (w v : View T) → w ≡ v → IsAtRest v → IsAtRest w
+  rests_as w v e rests = subst IsAtRest (sym e) rests
+
+module _ {T : Type 0} (defers : T → Option ℕ) where
+  withdrawn : (t : ℕ) (op : Op T) (out : Out T) (w : View T) → told defers (Outside t) op out w → IsAtRest w
+  withdrawn t (Swap (Root r) word) (Found old) w is = rests_as w (owes_in t old) is (owes_rests T t old (block_in old == 0))
+  withdrawn t (Swap (Root r) word) Stored w is = absurd is
+  withdrawn t (Swap (Root r) word) (Exchanged x) w is = absurd is
+  withdrawn t (Swap (Root r) word) (OutMade x) w is = absurd is
+  withdrawn t (Swap (Root r) word) (Taken x) w is = absurd is
+  withdrawn t (Swap (Root r) word) (Roomed x) w is = absurd is
+  withdrawn t (Swap (Used r) word) out w is = absurd is
+  withdrawn t (Swap (Slot a c) word) out w is = absurd is
+  withdrawn t (Swap (Entry a c) word) out w is = absurd is
+  withdrawn t (Swap (Word a c) word) out w is = absurd is
+  withdrawn t (Load at) out w is = absurd is
+  withdrawn t (Store at word) out w is = absurd is
+  withdrawn t (Add at word) out w is = absurd is
+  withdrawn t (Or at word) out w is = absurd is
+  withdrawn t (Exchange at old word) out w is = absurd is
+  withdrawn t (Make x words) out w is = absurd is
+  withdrawn t (Take c) out w is = absurd is
+  withdrawn t (Rewrite c x) out w is = absurd is
+  withdrawn t (Room c) out w is = absurd is
+
+  watched : (t b : ℕ) (op : Op T) (out : Out T) (w : View T) → told defers (Watches t b) op out w → IsAtRest w
+  watched t b (Load (Root r)) (Found word) w is = rests_as w (Watches t (block_in word)) is tt
+  watched t b (Load (Root r)) Stored w is = absurd is
+  watched t b (Load (Root r)) (Exchanged x) w is = absurd is
+  watched t b (Load (Root r)) (OutMade x) w is = absurd is
+  watched t b (Load (Root r)) (Taken x) w is = absurd is
+  watched t b (Load (Root r)) (Roomed x) w is = absurd is
+  watched t b (Load (Used r)) out w is = absurd is
+  watched t b (Load (Slot a c)) out w is = absurd is
+  watched t b (Load (Entry a c)) out w is = absurd is
+  watched t b (Load (Word a c)) out w is = absurd is
+  watched t b (Swap at word) out w is = absurd is
+  watched t b (Store at word) out w is = absurd is
+  watched t b (Add at word) out w is = absurd is
+  watched t b (Or at word) out w is = absurd is
+  watched t b (Exchange at old word) out w is = absurd is
+  watched t b (Make x words) out w is = absurd is
+  watched t b (Take c) out w is = absurd is
+  watched t b (Rewrite c x) out w is = absurd is
+  watched t b (Room c) out w is = absurd is
+
+  told_rests : (v : View T) (op : Op T) (out : Out T) (w : View T) → told defers v op out w → IsAtRest v → IsAtRest w
+  told_rests Rests op out w is r = rests_as w (alone_with is.0) is.2 (alone_rests is.0)
+  told_rests (Outside t) op out w is r = withdrawn t op out w is
+  told_rests (Owes t b) op out w is r = absurd is
+  told_rests (Inside t has) op out w is r = rests_as w (Inside t is.0) is.2 tt
+  told_rests (Brings b x) op out w is r = rests_as w (alone_with is.0) is.2 (alone_rests is.0)
+  told_rests (Bears b) op out w is r = absurd is
+  told_rests (Watches t b) op out w is r = watched t b op out w is
+  told_rests (Registers c) op out w is r = absurd r
+  told_rests (Enters t) op out w is r = absurd r
+  told_rests (Settles c why seen left) op out w is r = absurd r
+  told_rests (Leaves t size way) op out w is r = absurd r
+  told_rests (Left t size way) op out w is r = absurd r
+  told_rests (Frees t) op out w is r = absurd r
+  told_rests (Busy t) op out w is r = absurd r
+
+  pub resting_stay : (v : Noted T) (op : Op T) (out : Out T) (w : Noted T) → noted_told defers v op out w → IsAtRest v.knows → IsAtRest w.knows
+  resting_stay v op out w is rests = told_rests v.knows op out w.knows is.0 rests
