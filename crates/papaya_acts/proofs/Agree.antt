@@ -11,15 +11,15 @@ use Rattle.papaya_scenes.specs.Given.Seize.declared.rows.reclaim_all.ReclaimAll.
 use Rattle.papaya_scenes.specs.Given.Seize.declared.rows.reclaim_all.Reclaiming.{Reclaiming}
 use Rattle.papaya_scenes.specs.Given.Seize.declared.rows.reclaim_all.Reclaiming.TheVariants as at
 use Rattle.papaya_scenes.specs.Given.Seize.declared.rows.settle.Settled.{Settled}
-use Rattle.seize_acts.specs.Answers.{Grant, stepped}
-use Rattle.seize_acts.proofs.Answers.{same_some}
+use Rattle.papaya_scenes.specs.Given.SeizeActs.Answers.{Grant, stepped}
+use Rattle.papaya_scenes.proofs.Given.SeizeActs.Answers.{same_some}
 use Rattle.papaya_scenes.proofs.Given.SeizeRule.Rows.Others.{begins_others, steps_others}
 use Rattle.papaya_scenes.specs.Given.Tables.Nodes.{deferred_word, was_left}
 use Rattle.papaya_scenes.specs.Given.Tables.declared.node.Node.{Node}
 use Rattle.papaya_scenes.specs.Given.Finishes.FactsEnds.{TakesLeft, WritesRoot, events_of}
 use Rattle.papaya_scenes.specs.Given.Finishes.Maps.{Standing}
-use Rattle.papaya_reclaims.specs.Reclaims.{ReclaimingAt}
-use Rattle.papaya_reclaims.specs.Slots.{AreItsRows}
+use Rattle.papaya_scenes.specs.Given.Reclaims.Reclaims.{ReclaimingAt}
+use Rattle.papaya_scenes.specs.Given.Reclaims.Slots.{AreItsRows}
 use Rattle.papaya_acts.specs.Acts.{Answer, OfReclaiming}
 use Rattle.papaya_acts.specs.Courses.{AreAlike, CoursesAgree}
 use Rattle.papaya_acts.specs.Doings.{Doing, Does, BeginsReclaiming, BeginsClearing, StepsReclaiming, Chooses, memory_chosen, scene_chosen, still, Stage, reclaiming, behind, MayDo, HasBegun, HasStepped, HasDone}

@@ -4,9 +4,9 @@ use Rattle.std.specs.Option.{is_none}
 use Rattle.std.specs.Result.{is_err}
 use Rattle.std.proofs.Common.{refl, sym, ap, subst, ◌∙◌, inr}
 use Rattle.papaya_scenes.specs.Given.Seize.World.{with_at}
-use Rattle.seize_acts.specs.Answers.{Grant, then_on}
-use Rattle.seize_acts.proofs.Answers.{some, same_some, was_stepped}
-use Rattle.seize_acts.proofs.Begun.{rests_is}
+use Rattle.papaya_scenes.specs.Given.SeizeActs.Answers.{Grant, then_on}
+use Rattle.papaya_scenes.proofs.Given.SeizeActs.Answers.{some, same_some, was_stepped}
+use Rattle.papaya_scenes.proofs.Given.SeizeActs.Begun.{rests_is}
 use Rattle.papaya_scenes.proofs.Given.SeizeRule.Rows.Leaving.{with_same}
 use Rattle.papaya_scenes.specs.Given.SeizeWords.Mem.{Mem}
 use Rattle.papaya_scenes.specs.Given.Tables.declared.node.Node.{Node}
@@ -44,7 +44,7 @@ use Rattle.papaya_scenes.proofs.Given.Finishes.Among.Machines.{machines_stand_am
 use Rattle.papaya_scenes.proofs.Given.Finishes.Among.MachinesTold.{machines_told_among}
 use Rattle.papaya_scenes.proofs.Given.Finishes.Among.Rooms.{rooms_begin_among}
 use Rattle.papaya_scenes.proofs.Given.Finishes.Among.Sweeps.{sweeps_begin_among, sweeps_told_among, walks_stop_among}
-use Rattle.seize_acts.specs.Acts.{is_within}
+use Rattle.papaya_scenes.specs.Given.SeizeActs.Acts.{is_within}
 use Rattle.papaya_acts.specs.Acts.{Wanted, Get, Remove, Insert, TryToInsert, Compute, Update, UpdateOrInsert, TryToInsertWith, RemoveIf, GetKeyValue, ContainsKey, GetOrInsert, GetOrInsertWith, RemoveEntry, MakeRoom, Count, GoOver, Answer, Nothing, OfCall, OfReply, OfAsking, BeginsCall, StepsCall, TellsCall, AsksCall, StopsCall, UnlessToCount, its, begun}
 use Rattle.papaya_acts.specs.Leads.{MayBe, AllStand, Led, asked_on, call_at, call_steps}
 use Rattle.papaya_acts.proofs.Tests.{some_is, inside_is, its_class}

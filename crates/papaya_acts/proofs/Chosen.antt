@@ -7,8 +7,8 @@ use Rattle.papaya_scenes.specs.Given.Finishes.Endings.{Finishing}
 use Rattle.papaya_scenes.specs.Given.Finishes.Makings.{Beginning}
 use Rattle.papaya_scenes.specs.Given.Finishes.Maps.{Standing}
 use Rattle.papaya_scenes.proofs.Given.Finishes.Among.Choices.{choices_stand_among}
-use Rattle.papaya_reclaims.specs.Left.{IsSomebodys}
-use Rattle.papaya_reclaims.specs.Reclaims.{RootLeads}
+use Rattle.papaya_scenes.specs.Given.Reclaims.Left.{IsSomebodys}
+use Rattle.papaya_scenes.specs.Given.Reclaims.Reclaims.{RootLeads}
 use Rattle.papaya_scenes.specs.Given.Seize.Further.{ListFrom}
 use Rattle.papaya_acts.specs.Doings.{IsLeft, memory_chosen, scene_chosen}
 use Rattle.papaya_acts.specs.Leads.{AllStand}

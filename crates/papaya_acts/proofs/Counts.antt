@@ -10,8 +10,8 @@ use Rattle.papaya_scenes.specs.Given.Seize.declared.progress.Progress.{Progress 
 use Rattle.papaya_scenes.specs.Given.Seize.declared.progress.Progress.TheVariants as counted_as
 use Rattle.papaya_scenes.specs.Given.Seize.declared.rows.settle.Settled.{Settled}
 use Rattle.papaya_scenes.specs.Given.Seize.declared.rows.settle.Settled.TheVariants as settled
-use Rattle.seize_acts.proofs.Answers.{was_stepped}
-use Rattle.seize_acts.proofs.Begun.{and_both}
+use Rattle.papaya_scenes.proofs.Given.SeizeActs.Answers.{was_stepped}
+use Rattle.papaya_scenes.proofs.Given.SeizeActs.Begun.{and_both}
 use Rattle.papaya_scenes.proofs.Given.SeizeRule.Rows.Leaving.{steps_back}
 use Rattle.papaya_scenes.specs.Given.Tables.Counts.{count_in}
 use Rattle.papaya_scenes.specs.Given.Tables.declared.node.Node.{Node}

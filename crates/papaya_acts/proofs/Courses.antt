@@ -9,9 +9,9 @@ use Rattle.papaya_scenes.specs.Given.Seize.declared.progress.Progress.{Progress}
 use Rattle.papaya_scenes.specs.Given.Seize.declared.progress.Progress.TheVariants as progress
 use Rattle.papaya_scenes.specs.Given.Seize.declared.rows.settle.Settled.{Settled}
 use Rattle.papaya_scenes.specs.Given.Seize.declared.rows.settle.Settled.TheVariants as settled
-use Rattle.seize_acts.specs.Acts.{row_steps}
-use Rattle.seize_acts.specs.Answers.{Grant, stepped}
-use Rattle.seize_acts.proofs.Answers.{same_some}
+use Rattle.papaya_scenes.specs.Given.SeizeActs.Acts.{row_steps}
+use Rattle.papaya_scenes.specs.Given.SeizeActs.Answers.{Grant, stepped}
+use Rattle.papaya_scenes.proofs.Given.SeizeActs.Answers.{same_some}
 use Rattle.papaya_scenes.proofs.Given.SeizeRule.Rows.Others.{begins_others, steps_others}
 use Rattle.papaya_scenes.proofs.Given.SeizeEnds.Batches.Rows.{begins_memory}
 use Rattle.papaya_scenes.specs.Given.Tables.Nodes.{deferred_word}

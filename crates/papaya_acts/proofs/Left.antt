@@ -10,7 +10,7 @@ use Rattle.papaya_scenes.specs.Given.Seize.declared.progress.Progress.{Progress}
 use Rattle.papaya_scenes.specs.Given.Seize.declared.progress.Progress.TheVariants as progress
 use Rattle.papaya_scenes.specs.Given.Seize.declared.rows.settle.Settled.{Settled}
 use Rattle.papaya_scenes.specs.Given.Seize.declared.rows.settle.Settled.TheVariants as settled
-use Rattle.seize_acts.proofs.Answers.{same_some}
+use Rattle.papaya_scenes.proofs.Given.SeizeActs.Answers.{same_some}
 use Rattle.papaya_scenes.specs.Given.Tables.declared.node.Node.{Node}
 use Rattle.papaya_scenes.specs.Given.Tables.declared.setting.Setting.{Setting}
 use Rattle.papaya_scenes.specs.Given.Resize.declared.new_map.NewMap.{NewMap}
@@ -21,11 +21,11 @@ use Rattle.papaya_scenes.specs.Given.Finishes.Endings.{Finishing, MakingStepsAmo
 use Rattle.papaya_scenes.specs.Given.Finishes.FactsEnds.{Deed, taken_by}
 use Rattle.papaya_scenes.specs.Given.Finishes.Makings.{Beginning}
 use Rattle.papaya_scenes.specs.Given.Finishes.Maps.{Standing}
-use Rattle.papaya_reclaims.specs.Left.{GoesOnBy, IsSomebodys, LeftAmong}
-use Rattle.papaya_reclaims.specs.Reclaims.{IsRootOf, RootLeads}
-use Rattle.papaya_reclaims.proofs.Left.Calls.{machines_leave_it, guards_leave_it}
-use Rattle.papaya_reclaims.proofs.Left.Endings.{endings_begin_and_leave_it, endings_leave_it}
-use Rattle.papaya_reclaims.proofs.Left.Makings.{makings_begin_and_leave_it, makings_leave_it}
+use Rattle.papaya_scenes.specs.Given.Reclaims.Left.{GoesOnBy, IsSomebodys, LeftAmong}
+use Rattle.papaya_scenes.specs.Given.Reclaims.Reclaims.{IsRootOf, RootLeads}
+use Rattle.papaya_scenes.proofs.Given.Reclaims.Left.Calls.{machines_leave_it, guards_leave_it}
+use Rattle.papaya_scenes.proofs.Given.Reclaims.Left.Endings.{endings_begin_and_leave_it, endings_leave_it}
+use Rattle.papaya_scenes.proofs.Given.Reclaims.Left.Makings.{makings_begin_and_leave_it, makings_leave_it}
 use Rattle.papaya_scenes.specs.Making.{making_begun}
 use Rattle.papaya_acts.specs.Acts.{Act, Answer}
 use Rattle.papaya_acts.specs.Acts.{BeginsCall, StepsCall, TellsCall, AsksCall, StopsCall, BeginsMaking, StepsMaking, BeginsEnding, StepsEnding, BeginsRow, StepsRow}

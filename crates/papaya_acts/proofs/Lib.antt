@@ -16,3 +16,4 @@ mod Samples
 mod Untrue
 pub mod Reclaiming
 pub mod AsSteps
+pub mod Given

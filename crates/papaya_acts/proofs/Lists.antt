@@ -10,9 +10,9 @@ use Rattle.papaya_scenes.specs.Given.Seize.declared.rows.reclaim_all.ReclaimAll.
 use Rattle.papaya_scenes.specs.Given.Seize.declared.rows.settle.Settled.{Settled}
 use Rattle.papaya_scenes.specs.Given.Seize.declared.rows.settle.Settled.TheVariants as settled
 use Rattle.papaya_scenes.specs.Given.Seize.declared.states.TheConstants.{HEAD}
-use Rattle.seize_acts.specs.Answers.{Grant}
-use Rattle.seize_acts.proofs.Begun.{rests_is}
-use Rattle.seize_acts.proofs.Steps.{steps_so, row_so}
+use Rattle.papaya_scenes.specs.Given.SeizeActs.Answers.{Grant}
+use Rattle.papaya_scenes.proofs.Given.SeizeActs.Begun.{rests_is}
+use Rattle.papaya_scenes.proofs.Given.SeizeActs.Steps.{steps_so, row_so}
 use Rattle.papaya_scenes.specs.Given.Tables.Nodes.{deferred_word}
 use Rattle.papaya_scenes.specs.Given.Tables.declared.node.Node.{Node}
 use Rattle.papaya_scenes.specs.Given.Resize.NewMap.{new_map_plan}
@@ -32,10 +32,10 @@ use Rattle.papaya_scenes.proofs.Given.Finishes.Beside.Makings.Promised.{no_makin
 use Rattle.papaya_scenes.proofs.Given.Finishes.Beside.Makings.Samples.{start_roots}
 use Rattle.papaya_scenes.proofs.Given.Finishes.Beside.Maps.Comes.{no_maps_begin}
 use Rattle.papaya_scenes.proofs.Given.Points.Making.OwnTables.{zero_at}
-use Rattle.papaya_reclaims.specs.Left.{IsSomebodys}
-use Rattle.papaya_reclaims.specs.Slots.{IsQuiet}
-use Rattle.papaya_reclaims.proofs.Left.Stays.{left_is_left_behind, nothing_is_left}
-use Rattle.papaya_reclaims.proofs.Promised.{reclaiming_begins}
+use Rattle.papaya_scenes.specs.Given.Reclaims.Left.{IsSomebodys}
+use Rattle.papaya_scenes.specs.Given.Reclaims.Slots.{IsQuiet}
+use Rattle.papaya_scenes.proofs.Given.Reclaims.Left.Stays.{left_is_left_behind, nothing_is_left}
+use Rattle.papaya_scenes.proofs.Given.Reclaims.Promised.{reclaiming_begins}
 use Rattle.papaya_acts.specs.Acts.{Act, Answer, Nothing, OfReclaiming, BeginsCall, StepsCall, TellsCall, AsksCall, StopsCall, BeginsMaking, StepsMaking, BeginsEnding, StepsEnding, BeginsRow, StepsRow}
 use Rattle.papaya_acts.specs.Doings.{Doing, Does, BeginsReclaiming, BeginsClearing, StepsReclaiming, Chooses, scene_chosen, is_vacant, IsLeft, AllAreFree, SlotsAreFree, still, Stage, MayDo, HasDone}
 use Rattle.papaya_acts.specs.Leads.{MayBe, AllStand, Led}

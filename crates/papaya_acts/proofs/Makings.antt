@@ -7,8 +7,8 @@ use Rattle.papaya_scenes.specs.Given.Seize.declared.progress.Progress.{Progress}
 use Rattle.papaya_scenes.specs.Given.Seize.declared.progress.Progress.TheVariants as progress
 use Rattle.papaya_scenes.specs.Given.Seize.declared.rows.settle.Settled.{Settled}
 use Rattle.papaya_scenes.specs.Given.Seize.declared.rows.settle.Settled.TheVariants as settled
-use Rattle.seize_acts.specs.Answers.{Grant, then_on}
-use Rattle.seize_acts.proofs.Answers.{some, was_stepped}
+use Rattle.papaya_scenes.specs.Given.SeizeActs.Answers.{Grant, then_on}
+use Rattle.papaya_scenes.proofs.Given.SeizeActs.Answers.{some, was_stepped}
 use Rattle.papaya_scenes.specs.Given.SeizeWords.Mem.{Mem}
 use Rattle.papaya_scenes.specs.Given.Tables.declared.node.Node.{Node}
 use Rattle.papaya_scenes.specs.Given.Tables.declared.setting.Setting.{Setting}

@@ -10,7 +10,7 @@ use Rattle.papaya_scenes.specs.Given.Callers.Together.{UnderWay, OnKey, ForRoom,
 use Rattle.papaya_acts.specs.Acts.{Wanted, Get, Remove, Insert, TryToInsert, Compute, Update, UpdateOrInsert, TryToInsertWith, RemoveIf, GetKeyValue, ContainsKey, GetOrInsert, GetOrInsertWith, RemoveEntry, MakeRoom, Count, GoOver, UnlessToCount}
 use Rattle.papaya_acts.specs.Acts.{Act, BeginsCall, StepsCall, TellsCall, AsksCall, StopsCall, BeginsMaking, StepsMaking, BeginsEnding, StepsEnding, BeginsRow, StepsRow}
 use Rattle.papaya_acts.specs.Doings.{Doing, Does, BeginsReclaiming, BeginsClearing, StepsReclaiming, Chooses, AllAreFree, SlotsAreFree, Stage, MayDo}
-use Rattle.seize_acts.specs.Acts.{is_within}
+use Rattle.papaya_scenes.specs.Given.SeizeActs.Acts.{is_within}
 use Rattle.papaya_acts.specs.Leads.{IsFree, AreFewWith, MayBe}
 use Rattle.papaya_acts.specs.Lists.{Course, Reached, LedOn, nothing_done, on_by, IsDetermined}
 use Rattle.papaya_scenes.specs.Scene.{Scene}

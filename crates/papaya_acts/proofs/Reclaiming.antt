@@ -5,13 +5,13 @@ use Rattle.papaya_scenes.specs.Given.SeizeWords.Mem.{Mem}
 use Rattle.papaya_scenes.specs.Given.Seize.ReclaimAll.{reclaim_all_plan}
 use Rattle.papaya_scenes.specs.Given.Seize.declared.rows.reclaim_all.ReclaimAll.{ReclaimAll}
 use Rattle.papaya_scenes.specs.Given.Seize.declared.rows.settle.Settled.{Settled}
-use Rattle.seize_acts.specs.Answers.{Grant}
-use Rattle.seize_acts.proofs.Answers.{was_stepped}
-use Rattle.seize_acts.proofs.Steps.{steps_so}
+use Rattle.papaya_scenes.specs.Given.SeizeActs.Answers.{Grant}
+use Rattle.papaya_scenes.proofs.Given.SeizeActs.Answers.{was_stepped}
+use Rattle.papaya_scenes.proofs.Given.SeizeActs.Steps.{steps_so}
 use Rattle.papaya_scenes.specs.Given.Tables.Nodes.{deferred_word, was_left}
 use Rattle.papaya_scenes.specs.Given.Tables.declared.node.Node.{Node}
-use Rattle.papaya_reclaims.specs.Reclaims.{StepsOfReclaiming}
-use Rattle.papaya_reclaims.proofs.Promised.{reclaiming_stands}
+use Rattle.papaya_scenes.specs.Given.Reclaims.Reclaims.{StepsOfReclaiming}
+use Rattle.papaya_scenes.proofs.Given.Reclaims.Promised.{reclaiming_stands}
 use Rattle.papaya_acts.specs.Reclaiming.{reclaiming_steps, ReclaimedOn, IsReclaimingAll, ReclaimingIsByActs}
 use Rattle.papaya_acts.proofs.Tests.{some_is}
 use Rattle.papaya_scenes.specs.Scene.{Scene}

@@ -20,9 +20,9 @@ use Rattle.papaya_scenes.specs.Given.Seize.declared.rows.register.Register.{Regi
 use Rattle.papaya_scenes.specs.Given.Seize.declared.rows.settle.Settle.{Settle}
 use Rattle.papaya_scenes.specs.Given.Seize.declared.rows.settle.Settled.{Settled}
 use Rattle.papaya_scenes.specs.Given.Seize.declared.rows.settle.Settled.TheVariants as settled
-use Rattle.seize_acts.specs.Acts.{row_steps}
-use Rattle.seize_acts.specs.Answers.{Grant, then_on, stepped}
-use Rattle.seize_acts.proofs.Answers.{some, same_some}
+use Rattle.papaya_scenes.specs.Given.SeizeActs.Acts.{row_steps}
+use Rattle.papaya_scenes.specs.Given.SeizeActs.Answers.{Grant, then_on, stepped}
+use Rattle.papaya_scenes.proofs.Given.SeizeActs.Answers.{some, same_some}
 use Rattle.papaya_scenes.proofs.Given.SeizeRule.Rows.Others.{with_here}
 use Rattle.papaya_scenes.specs.Given.Callers.Together.{IsOfSlots}
 

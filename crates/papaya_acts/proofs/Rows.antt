@@ -2,10 +2,10 @@
 use Rattle.std.specs.Prelude.{ℕ, Bool}
 use Rattle.std.proofs.Common.{refl}
 use Rattle.papaya_scenes.specs.Given.Seize.World.{Request, Begin, Step, Happens}
-use Rattle.seize_acts.specs.Acts.{row_steps, begun as row_begun}
-use Rattle.seize_acts.specs.Answers.{Grant}
-use Rattle.seize_acts.proofs.Begun.{rests_is, begun_is}
-use Rattle.seize_acts.proofs.Fine.{row_stepped}
+use Rattle.papaya_scenes.specs.Given.SeizeActs.Acts.{row_steps, begun as row_begun}
+use Rattle.papaya_scenes.specs.Given.SeizeActs.Answers.{Grant}
+use Rattle.papaya_scenes.proofs.Given.SeizeActs.Begun.{rests_is, begun_is}
+use Rattle.papaya_scenes.proofs.Given.SeizeActs.Fine.{row_stepped}
 use Rattle.papaya_scenes.specs.Given.Tables.Nodes.{deferred_word}
 use Rattle.papaya_scenes.specs.Given.Finishes.Endings.{AllEndingsStand}
 use Rattle.papaya_scenes.proofs.Given.Finishes.Among.Rows.{guards_stand_among}

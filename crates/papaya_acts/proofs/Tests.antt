@@ -3,7 +3,7 @@ use Rattle.std.specs.Prelude.{Option, Some, None}
 use Rattle.std.specs.Option.{is_none}
 use Rattle.std.proofs.Common.{◌≡◌, ℕ, ◌^◌, Bool, true, false, refl, sym, arith}
 use Rattle.papaya_scenes.specs.Given.Seize.World.{Use, Vacant, Outside, Inside, Changing, IsInside}
-use Rattle.seize_acts.specs.Acts.{is_within}
+use Rattle.papaya_scenes.specs.Given.SeizeActs.Acts.{is_within}
 use Rattle.papaya_scenes.specs.Given.Rule.Maps.{IsClass}
 use Rattle.papaya_scenes.specs.Given.Points.Steps.{AreLawful}
 

@@ -3,7 +3,7 @@ use Rattle.std.specs.Prelude.{ℕ, Bool, [], Option, Some, None, Result}
 use Rattle.papaya_scenes.specs.Given.Seize.World.{Request}
 use Rattle.papaya_scenes.specs.Given.Seize.declared.progress.Progress.{Progress as Told}
 use Rattle.papaya_scenes.specs.Given.Seize.declared.rows.settle.Settled.{Settled}
-use Rattle.seize_acts.specs.Answers.{Grant}
+use Rattle.papaya_scenes.specs.Given.SeizeActs.Answers.{Grant}
 use Rattle.papaya_scenes.specs.Given.Tables.declared.node.Node.{Node}
 use Rattle.papaya_scenes.specs.Given.Tables.declared.setting.Setting.{Setting}
 use Rattle.papaya_scenes.specs.Given.Resize.Sum.{summing}

@@ -4,8 +4,8 @@ use Rattle.std.specs.Prelude.{◌≡◌, ◌⊎◌, ℕ, zero, suc, List, Option
 use Rattle.std.specs.Coded.{Coded, code_by, coded×, coded⊎, coded_ℕ, coded_list, coded_option}
 use Rattle.std.proofs.Common.{inl, inr, ap}
 use Rattle.papaya_scenes.specs.Given.Seize.World.{Request}
-use Rattle.seize_acts.specs.Answers.{Grant}
-use Rattle.seize_acts.specs.Codes.{coded_request}
+use Rattle.papaya_scenes.specs.Given.SeizeActs.Answers.{Grant}
+use Rattle.papaya_scenes.specs.Given.SeizeActs.Codes.{coded_request}
 use Rattle.papaya_scenes.specs.Given.Tables.declared.resize_mode.ResizeMode.{ResizeMode}
 use Rattle.papaya_scenes.specs.Given.Tables.declared.resize_mode.ResizeMode.TheVariants as mode
 use Rattle.papaya_scenes.specs.Given.Tables.declared.setting.Setting.{Setting}

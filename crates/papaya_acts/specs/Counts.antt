@@ -3,7 +3,7 @@ use Rattle.std.specs.Prelude.{◌≡◌, ℕ, suc, ◌==◌, ◌&&◌, ◌%◌, 
 use Rattle.std.specs.List.{sum}
 use Rattle.papaya_scenes.specs.Given.SeizeWords.Mem.{Mem, word_at}
 use Rattle.papaya_scenes.specs.Given.SeizeWords.declared.at.At.TheVariants.{Word}
-use Rattle.seize_acts.specs.Answers.{Grant}
+use Rattle.papaya_scenes.specs.Given.SeizeActs.Answers.{Grant}
 use Rattle.papaya_scenes.specs.Given.Tables.Counts.{count_in}
 use Rattle.papaya_scenes.specs.Given.Tables.declared.node.Node.{Node}
 use Rattle.papaya_scenes.specs.Given.Resize.declared.sum.Sum.{Sum}

@@ -11,11 +11,11 @@ use Rattle.papaya_scenes.specs.Given.Seize.declared.rows.reclaim_all.ReclaimAll.
 use Rattle.papaya_scenes.specs.Given.Seize.declared.rows.settle.Settled.{Settled}
 use Rattle.papaya_scenes.specs.Given.Seize.declared.rows.settle.Settled.TheVariants as settled
 use Rattle.papaya_scenes.specs.Given.Seize.declared.states.TheConstants.{HEAD, LAST_SLOT}
-use Rattle.seize_acts.specs.Acts.{rests}
-use Rattle.seize_acts.specs.Answers.{Grant, then_on}
+use Rattle.papaya_scenes.specs.Given.SeizeActs.Acts.{rests}
+use Rattle.papaya_scenes.specs.Given.SeizeActs.Answers.{Grant, then_on}
 use Rattle.papaya_scenes.specs.Given.Tables.declared.node.Node.{Node}
-use Rattle.papaya_reclaims.specs.Left.{LeftAmong}
-use Rattle.papaya_reclaims.specs.Slots.{HasNoBatch}
+use Rattle.papaya_scenes.specs.Given.Reclaims.Left.{LeftAmong}
+use Rattle.papaya_scenes.specs.Given.Reclaims.Slots.{HasNoBatch}
 use Rattle.papaya_acts.specs.Acts.{Act, Answer, Nothing, OfReclaiming}
 use Rattle.papaya_acts.specs.Leads.{MayBe, AllStand, Led}
 use Rattle.papaya_acts.specs.Reclaiming.{IsReclaimingAll, ReclaimedOn, reclaiming_steps}

@@ -9,8 +9,8 @@ use Rattle.papaya_scenes.specs.Given.Seize.declared.progress.Progress.{Progress}
 use Rattle.papaya_scenes.specs.Given.Seize.declared.progress.Progress.TheVariants as progress
 use Rattle.papaya_scenes.specs.Given.Seize.declared.rows.settle.Settled.{Settled}
 use Rattle.papaya_scenes.specs.Given.Seize.declared.rows.settle.Settled.TheVariants as settled
-use Rattle.seize_acts.specs.Acts.{rests, is_within, begun as row_begun, row_steps}
-use Rattle.seize_acts.specs.Answers.{Grant, then_on, stepped}
+use Rattle.papaya_scenes.specs.Given.SeizeActs.Acts.{rests, is_within, begun as row_begun, row_steps}
+use Rattle.papaya_scenes.specs.Given.SeizeActs.Answers.{Grant, then_on, stepped}
 use Rattle.papaya_scenes.specs.Given.Tables.Chunks.{is_incremental}
 use Rattle.papaya_scenes.specs.Given.Tables.Lengths.{IsTableLen}
 use Rattle.papaya_scenes.specs.Given.Tables.Nodes.{deferred_word}

@@ -7,3 +7,4 @@ pub mod Counts
 pub mod Reclaiming
 pub mod Courses
 pub mod AsSteps
+pub mod Given

@@ -6,8 +6,8 @@ use Rattle.papaya_scenes.specs.Given.SeizeWords.Plan.{May, Steps}
 use Rattle.papaya_scenes.specs.Given.Seize.World.{World, MayStep, Steps'}
 use Rattle.papaya_scenes.specs.Given.Seize.declared.progress.Progress.{Progress}
 use Rattle.papaya_scenes.specs.Given.Seize.declared.rows.settle.Settled.{Settled}
-use Rattle.seize_acts.specs.Acts.{row_steps}
-use Rattle.seize_acts.specs.Answers.{Grant}
+use Rattle.papaya_scenes.specs.Given.SeizeActs.Acts.{row_steps}
+use Rattle.papaya_scenes.specs.Given.SeizeActs.Answers.{Grant}
 use Rattle.papaya_scenes.specs.Given.Tables.Nodes.{deferred_word}
 use Rattle.papaya_scenes.specs.Given.Tables.declared.node.Node.{Node}
 use Rattle.papaya_scenes.specs.Given.Tables.declared.setting.Setting.{Setting}

@@ -6,10 +6,10 @@ use Rattle.papaya_scenes.specs.Given.SeizeWords.Plan.{May, Steps}
 use Rattle.papaya_scenes.specs.Given.Seize.ReclaimAll.{reclaim_all_plan}
 use Rattle.papaya_scenes.specs.Given.Seize.declared.rows.reclaim_all.ReclaimAll.{ReclaimAll}
 use Rattle.papaya_scenes.specs.Given.Seize.declared.rows.settle.Settled.{Settled}
-use Rattle.seize_acts.specs.Answers.{Grant, stepped}
+use Rattle.papaya_scenes.specs.Given.SeizeActs.Answers.{Grant, stepped}
 use Rattle.papaya_scenes.specs.Given.Tables.Nodes.{deferred_word, was_left}
 use Rattle.papaya_scenes.specs.Given.Tables.declared.node.Node.{Node}
-use Rattle.papaya_reclaims.specs.Reclaims.{ReclaimingTogether, StepsOfReclaiming}
+use Rattle.papaya_scenes.specs.Given.Reclaims.Reclaims.{ReclaimingTogether, StepsOfReclaiming}
 use Rattle.papaya_scenes.specs.Scene.{Scene}
 
 -- what its next step comes to, if the memory may choose so

@@ -4,13 +4,13 @@ use Rattle.std.proofs.Common.{◌≡◌, ℕ, Bool, true, false, refl, sym, ap, 
 use Rattle.std.proofs.lemmas.Bool.{ltb-true}
 use Rattle.std.proofs.lemmas.Nat.{pow_pos}
 use Rattle.std.proofs.Math.Nat.{pow-suc}
-use Rattle.papaya_scenes.specs.Given.Tables.Lengths.{places_for}
-use Rattle.papaya_scenes.specs.Given.Tables.Powers.{next_power}
-use Rattle.papaya_scenes.specs.Given.Tables.declared.resize_mode.ResizeMode.{ResizeMode}
-use Rattle.papaya_scenes.specs.Given.Tables.declared.resize_mode.ResizeMode.TheVariants.{Blocking, Incremental}
-use Rattle.papaya_scenes.specs.Given.Tables.declared.setting.Setting.{Setting}
+use Rattle.papaya_tables.specs.Lengths.{places_for}
+use Rattle.papaya_tables.specs.Powers.{next_power}
+use Rattle.papaya_tables.specs.declared.resize_mode.ResizeMode.{ResizeMode}
+use Rattle.papaya_tables.specs.declared.resize_mode.ResizeMode.TheVariants.{Blocking, Incremental}
+use Rattle.papaya_tables.specs.declared.setting.Setting.{Setting}
 use Rattle.papaya_tables.proofs.Logarithms.{next-power-unique}
-use Rattle.papaya_named.specs.Places.{IsFirstLen, first_places}
+use Rattle.papaya_played.specs.Given.Named.Places.{IsFirstLen, first_places}
 use Rattle.papaya_played.specs.Play.{pairs_for}
 use Rattle.papaya_runs.specs.Runs.{map_fault}
 use Rattle.papaya_agrees.specs.Places.{ArePlaces}

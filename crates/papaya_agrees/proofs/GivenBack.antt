@@ -1,33 +1,33 @@
 -- Where each map is made with a number that is not taken, nothing is there of a number that was given back: so it is wherever a list has led.
 use Rattle.std.specs.Prelude.{◌≢◌, Option, Some, None, is_ok, length, option_map, if◌then◌else◌}
 use Rattle.std.proofs.Common.{◌≡◌, ℕ, Bool, true, false, List, [], ◌∷◌, refl, ap, sym, subst, arith, ◌∙◌}
-use Rattle.seize_acts.specs.Answers.{Grant, stepped}
-use Rattle.seize_acts.proofs.Answers.{same_some}
-use Rattle.papaya_scenes.specs.Given.SeizeWords.Mem.{Mem}
-use Rattle.papaya_scenes.specs.Given.Seize.ReclaimAll.{reclaim_all_plan}
-use Rattle.papaya_scenes.specs.Given.Seize.World.{with_at}
-use Rattle.papaya_scenes.specs.Given.Seize.declared.progress.Progress.{Progress}
-use Rattle.papaya_scenes.specs.Given.Seize.declared.progress.Progress.TheVariants as progress
-use Rattle.papaya_scenes.specs.Given.Tables.Nodes.{deferred_word, was_left}
-use Rattle.papaya_scenes.specs.Given.Tables.declared.node.Node.{Node}
-use Rattle.papaya_scenes.specs.Given.Tables.declared.setting.Setting.{Setting}
-use Rattle.papaya_scenes.specs.Given.Resize.NewMap.{new_map_plan, opening}
-use Rattle.papaya_scenes.specs.Given.Resize.declared.new_map.NewMap.{NewMap}
-use Rattle.papaya_scenes.specs.Given.Raw.EndMap.{end_map_plan, ending}
-use Rattle.papaya_scenes.specs.Given.Raw.Machine.{machine_asked, machine_plan, machine_replied}
-use Rattle.papaya_scenes.specs.Given.Teller.declared.changed.Changed.{Changed}
-use Rattle.papaya_scenes.specs.Scene.{row_of, slot_of}
-use Rattle.papaya_scenes.proofs.NoCall.{none_is, none_of}
-use Rattle.papaya_schedules.specs.declared.outcome.Outcome.TheVariants as outcome
-use Rattle.papaya_effects.specs.Effects.{known_after}
-use Rattle.papaya_effects.specs.declared.acting.Acting.TheVariants as acting
-use Rattle.papaya_named.specs.Seen.{kind_of}
-use Rattle.papaya_acts.specs.Acts.{Act, BeginsCall, StepsCall, TellsCall, AsksCall, StopsCall, BeginsMaking, StepsMaking, BeginsEnding, StepsEnding, BeginsRow, StepsRow}
-use Rattle.papaya_acts.specs.AsSteps.{changed_of, row_changed}
-use Rattle.papaya_acts.specs.Courses.{set_up}
-use Rattle.papaya_acts.specs.Leads.{MayBe}
-use Rattle.papaya_acts.proofs.AsSteps.Told.{was_told}
-use Rattle.papaya_deeds.specs.Deeds.{Begins, Entry, ReclaimsAll, Replies, Steps, Stops, moment}
+use Rattle.papaya_played.specs.Given.SeizeActs.Answers.{Grant, stepped}
+use Rattle.papaya_played.proofs.Given.SeizeActs.Answers.{same_some}
+use Rattle.papaya_played.specs.Given.SeizeWords.Mem.{Mem}
+use Rattle.papaya_tables.specs.Given.Seize.ReclaimAll.{reclaim_all_plan}
+use Rattle.papaya_tables.specs.Given.Seize.World.{with_at}
+use Rattle.papaya_tables.specs.Given.Seize.declared.progress.Progress.{Progress}
+use Rattle.papaya_tables.specs.Given.Seize.declared.progress.Progress.TheVariants as progress
+use Rattle.papaya_tables.specs.Nodes.{deferred_word, was_left}
+use Rattle.papaya_tables.specs.declared.node.Node.{Node}
+use Rattle.papaya_tables.specs.declared.setting.Setting.{Setting}
+use Rattle.papaya_played.specs.Given.Resize.NewMap.{new_map_plan, opening}
+use Rattle.papaya_played.specs.Given.Resize.declared.new_map.NewMap.{NewMap}
+use Rattle.papaya_played.specs.Given.Raw.EndMap.{end_map_plan, ending}
+use Rattle.papaya_played.specs.Given.Raw.Machine.{machine_asked, machine_plan, machine_replied}
+use Rattle.papaya_played.specs.Given.Teller.declared.changed.Changed.{Changed}
+use Rattle.papaya_played.specs.Given.Scenes.Scene.{row_of, slot_of}
+use Rattle.papaya_played.proofs.Given.Scenes.NoCall.{none_is, none_of}
+use Rattle.papaya_played.specs.Given.Schedules.declared.outcome.Outcome.TheVariants as outcome
+use Rattle.papaya_played.specs.Given.Effects.Effects.{known_after}
+use Rattle.papaya_played.specs.Given.Effects.declared.acting.Acting.TheVariants as acting
+use Rattle.papaya_played.specs.Given.Named.Seen.{kind_of}
+use Rattle.papaya_played.specs.Given.Acts.Acts.{Act, BeginsCall, StepsCall, TellsCall, AsksCall, StopsCall, BeginsMaking, StepsMaking, BeginsEnding, StepsEnding, BeginsRow, StepsRow}
+use Rattle.papaya_played.specs.Given.Acts.AsSteps.{changed_of, row_changed}
+use Rattle.papaya_played.specs.Given.Acts.Courses.{set_up}
+use Rattle.papaya_played.specs.Given.Acts.Leads.{MayBe}
+use Rattle.papaya_played.proofs.Given.Acts.AsSteps.Told.{was_told}
+use Rattle.papaya_played.specs.Given.Deeds.Deeds.{Begins, Entry, ReclaimsAll, Replies, Steps, Stops, moment}
 use Rattle.papaya_played.specs.Play.{Ending, Making, Now, State, call_for, ended_on, ending_deed, first_state, is_over, made_on, making_deed, making_outcome, outcome_of, reply_for, row_deed, row_outcome, settled_outcome}
 use Rattle.papaya_played.specs.Reached.{stands_so}
 use Rattle.papaya_played.proofs.Along.{At, Is, StaysSo}

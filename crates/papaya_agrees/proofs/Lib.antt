@@ -21,3 +21,4 @@ pub mod GivenBack
 pub mod Agree
 pub mod FirstPlaces
 mod Samples
+pub mod Given

@@ -2,36 +2,36 @@
 use Rattle.std.specs.Prelude.{◌≢◌, ◌⊎◌, ◌==◌, Some, if◌then◌else◌}
 use Rattle.std.proofs.Common.{◌≡◌, ℕ, Bool, true, false, [], ◌∷◌, inl, inr, refl, sym, subst}
 use Rattle.std.proofs.lemmas.Bool.{cases_eq}
-use Rattle.seize_acts.specs.Acts.{row_steps}
-use Rattle.seize_acts.specs.Answers.{Grant, stepped, then_on}
-use Rattle.seize_acts.proofs.Answers.{same_some, some, was_stepped}
-use Rattle.papaya_scenes.specs.Given.SeizeWords.Mem.{Mem, Took, value_at}
-use Rattle.papaya_scenes.specs.Given.SeizeWords.Plan.{Plan, Steps}
-use Rattle.papaya_scenes.specs.Given.Seize.Enter.{enter_plan, unregister_plan}
-use Rattle.papaya_scenes.specs.Given.Seize.Law.{Entered}
-use Rattle.papaya_scenes.specs.Given.Seize.Leave.{leave_plan}
-use Rattle.papaya_scenes.specs.Given.Seize.Register.{plan_at, register_plan, registered}
-use Rattle.papaya_scenes.specs.Given.Seize.Settle.{settle_plan}
-use Rattle.papaya_scenes.specs.Given.Seize.World.{World, Rests, Use, Vacant, Outside, Inside, Changing, IsInside, after_step, left_as, leaves_on, one_less, one_more, registered_as, registered_use, registers_on, settles_on, with_at, with_use}
-use Rattle.papaya_scenes.specs.Given.Seize.declared.progress.Progress.{Progress}
-use Rattle.papaya_scenes.specs.Given.Seize.declared.progress.Progress.TheVariants as progress
-use Rattle.papaya_scenes.specs.Given.Seize.declared.rows.leave.Leave.{Leave}
-use Rattle.papaya_scenes.specs.Given.Seize.declared.rows.leave.Leaving.{Leaving}
-use Rattle.papaya_scenes.specs.Given.Seize.declared.rows.leave.Leaving.TheVariants as leaves
-use Rattle.papaya_scenes.specs.Given.Seize.declared.rows.register.Register.{Register}
-use Rattle.papaya_scenes.specs.Given.Seize.declared.rows.register.Registering.{Registering}
-use Rattle.papaya_scenes.specs.Given.Seize.declared.rows.register.Registering.TheVariants as registers
-use Rattle.papaya_scenes.specs.Given.Seize.declared.rows.settle.Settle.{Settle}
-use Rattle.papaya_scenes.specs.Given.Seize.declared.rows.settle.Settled.{Settled}
-use Rattle.papaya_scenes.specs.Given.Seize.declared.rows.settle.Settled.TheVariants as settled
-use Rattle.papaya_scenes.specs.Given.Seize.declared.states.TheConstants.{ACTIVE}
-use Rattle.papaya_scenes.specs.Given.Tables.Nodes.{deferred_word}
-use Rattle.papaya_scenes.specs.Given.Tables.declared.node.Node.{Node}
-use Rattle.papaya_scenes.proofs.Given.Callers.Together.At.{at_other, at_same}
-use Rattle.papaya_scenes.specs.Scene.{row_of}
-use Rattle.papaya_scenes.specs.declared.row.SlotRow.{SlotRow}
-use Rattle.papaya_scenes.specs.declared.row.SlotRow.TheVariants as rows
-use Rattle.papaya_deeds.specs.Deeds.{Deed, Leaves, Opens}
+use Rattle.papaya_played.specs.Given.SeizeActs.Acts.{row_steps}
+use Rattle.papaya_played.specs.Given.SeizeActs.Answers.{Grant, stepped, then_on}
+use Rattle.papaya_played.proofs.Given.SeizeActs.Answers.{same_some, some, was_stepped}
+use Rattle.papaya_played.specs.Given.SeizeWords.Mem.{Mem, Took, value_at}
+use Rattle.papaya_played.specs.Given.SeizeWords.Plan.{Plan, Steps}
+use Rattle.papaya_tables.specs.Given.Seize.Enter.{enter_plan, unregister_plan}
+use Rattle.papaya_tables.specs.Given.Seize.Law.{Entered}
+use Rattle.papaya_tables.specs.Given.Seize.Leave.{leave_plan}
+use Rattle.papaya_tables.specs.Given.Seize.Register.{plan_at, register_plan, registered}
+use Rattle.papaya_tables.specs.Given.Seize.Settle.{settle_plan}
+use Rattle.papaya_tables.specs.Given.Seize.World.{World, Rests, Use, Vacant, Outside, Inside, Changing, IsInside, after_step, left_as, leaves_on, one_less, one_more, registered_as, registered_use, registers_on, settles_on, with_at, with_use}
+use Rattle.papaya_tables.specs.Given.Seize.declared.progress.Progress.{Progress}
+use Rattle.papaya_tables.specs.Given.Seize.declared.progress.Progress.TheVariants as progress
+use Rattle.papaya_tables.specs.Given.Seize.declared.rows.leave.Leave.{Leave}
+use Rattle.papaya_tables.specs.Given.Seize.declared.rows.leave.Leaving.{Leaving}
+use Rattle.papaya_tables.specs.Given.Seize.declared.rows.leave.Leaving.TheVariants as leaves
+use Rattle.papaya_tables.specs.Given.Seize.declared.rows.register.Register.{Register}
+use Rattle.papaya_tables.specs.Given.Seize.declared.rows.register.Registering.{Registering}
+use Rattle.papaya_tables.specs.Given.Seize.declared.rows.register.Registering.TheVariants as registers
+use Rattle.papaya_tables.specs.Given.Seize.declared.rows.settle.Settle.{Settle}
+use Rattle.papaya_tables.specs.Given.Seize.declared.rows.settle.Settled.{Settled}
+use Rattle.papaya_tables.specs.Given.Seize.declared.rows.settle.Settled.TheVariants as settled
+use Rattle.papaya_tables.specs.Given.Seize.declared.states.TheConstants.{ACTIVE}
+use Rattle.papaya_tables.specs.Nodes.{deferred_word}
+use Rattle.papaya_tables.specs.declared.node.Node.{Node}
+use Rattle.papaya_played.proofs.Given.Callers.Together.At.{at_other, at_same}
+use Rattle.papaya_played.specs.Given.Scenes.Scene.{row_of}
+use Rattle.papaya_played.specs.Given.Scenes.declared.row.SlotRow.{SlotRow}
+use Rattle.papaya_played.specs.Given.Scenes.declared.row.SlotRow.TheVariants as rows
+use Rattle.papaya_played.specs.Given.Deeds.Deeds.{Deed, Leaves, Opens}
 use Rattle.papaya_played.specs.Play.{leaves_as, registers_as, row_deed}
 
 -- Who is within a section after a deed was so, or the section began by it; and where it ends one nobody is within that.

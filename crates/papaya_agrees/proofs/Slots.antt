@@ -2,32 +2,32 @@
 use Rattle.std.specs.Prelude.{◌≢◌, ◌⊎◌, ◌==◌, ◌+◌, Bool, true, false, Option, Some, if◌then◌else◌}
 use Rattle.std.proofs.Common.{◌≡◌, ℕ, List, [], ◌∷◌, ◌++◌, inl, inr, refl, ap, sym, subst, ◌∙◌}
 use Rattle.std.proofs.lemmas.Bool.{cases_eq}
-use Rattle.seize_acts.proofs.Answers.{same_some}
-use Rattle.papaya_scenes.specs.Given.Seize.World.{World, Begins as BeginsSo, Vacant, Outside, Inside, Changing, IsInside, Use, Steps', one_more, with_at}
-use Rattle.papaya_scenes.specs.Given.Seize.declared.rows.leave.Leave.{Leave}
-use Rattle.papaya_scenes.specs.Given.Seize.declared.rows.leave.Leaving.{Leaving}
-use Rattle.papaya_scenes.specs.Given.Seize.declared.rows.leave.Leaving.TheVariants as leaves
-use Rattle.papaya_scenes.specs.Given.Seize.declared.rows.register.Register.{Register}
-use Rattle.papaya_scenes.specs.Given.Seize.declared.rows.register.Registering.{Registering}
-use Rattle.papaya_scenes.specs.Given.Seize.declared.rows.register.Registering.TheVariants as registers
-use Rattle.papaya_scenes.specs.Given.Seize.declared.states.TheConstants.{ACTIVE}
-use Rattle.papaya_scenes.specs.Given.Tables.Nodes.{deferred_word}
-use Rattle.papaya_scenes.specs.Given.Tables.declared.node.Node.{Node}
-use Rattle.papaya_scenes.specs.Given.Callers.Rows.{IsUsedAlike}
-use Rattle.papaya_scenes.proofs.Given.Callers.Together.At.{at_other, at_same}
-use Rattle.papaya_scenes.proofs.Given.SeizeAlone.Histories.Reached.{Reached}
-use Rattle.papaya_scenes.proofs.Given.SeizeAlone.Histories.Uses.{inside_kept}
-use Rattle.papaya_scenes.proofs.Given.SeizeRule.Rows.Known.{leaving_on, works_on}
-use Rattle.papaya_scenes.proofs.Given.SeizeRule.Rows.Teams.{is_shared, shares}
-use Rattle.papaya_scenes.specs.Rows.{begun_row, request_of}
-use Rattle.papaya_scenes.specs.Scene.{row_of}
-use Rattle.papaya_scenes.specs.declared.row.SlotCall.{SlotCall}
-use Rattle.papaya_scenes.specs.declared.row.SlotCall.TheVariants as call
-use Rattle.papaya_scenes.specs.declared.row.SlotRow.{SlotRow}
-use Rattle.papaya_scenes.specs.declared.row.SlotRow.TheVariants as rows
+use Rattle.papaya_played.proofs.Given.SeizeActs.Answers.{same_some}
+use Rattle.papaya_tables.specs.Given.Seize.World.{World, Begins as BeginsSo, Vacant, Outside, Inside, Changing, IsInside, Use, Steps', one_more, with_at}
+use Rattle.papaya_tables.specs.Given.Seize.declared.rows.leave.Leave.{Leave}
+use Rattle.papaya_tables.specs.Given.Seize.declared.rows.leave.Leaving.{Leaving}
+use Rattle.papaya_tables.specs.Given.Seize.declared.rows.leave.Leaving.TheVariants as leaves
+use Rattle.papaya_tables.specs.Given.Seize.declared.rows.register.Register.{Register}
+use Rattle.papaya_tables.specs.Given.Seize.declared.rows.register.Registering.{Registering}
+use Rattle.papaya_tables.specs.Given.Seize.declared.rows.register.Registering.TheVariants as registers
+use Rattle.papaya_tables.specs.Given.Seize.declared.states.TheConstants.{ACTIVE}
+use Rattle.papaya_tables.specs.Nodes.{deferred_word}
+use Rattle.papaya_tables.specs.declared.node.Node.{Node}
+use Rattle.papaya_played.specs.Given.Callers.Rows.{IsUsedAlike}
+use Rattle.papaya_played.proofs.Given.Callers.Together.At.{at_other, at_same}
+use Rattle.papaya_played.proofs.Given.SeizeAlone.Histories.Reached.{Reached}
+use Rattle.papaya_played.proofs.Given.SeizeAlone.Histories.Uses.{inside_kept}
+use Rattle.papaya_played.proofs.Given.SeizeRule.Rows.Known.{leaving_on, works_on}
+use Rattle.papaya_played.proofs.Given.SeizeRule.Rows.Teams.{is_shared, shares}
+use Rattle.papaya_played.specs.Given.Scenes.Rows.{begun_row, request_of}
+use Rattle.papaya_played.specs.Given.Scenes.Scene.{row_of}
+use Rattle.papaya_played.specs.Given.Scenes.declared.row.SlotCall.{SlotCall}
+use Rattle.papaya_played.specs.Given.Scenes.declared.row.SlotCall.TheVariants as call
+use Rattle.papaya_played.specs.Given.Scenes.declared.row.SlotRow.{SlotRow}
+use Rattle.papaya_played.specs.Given.Scenes.declared.row.SlotRow.TheVariants as rows
 use Rattle.papaya_runs.specs.Present.{Present}
 use Rattle.papaya_runs.specs.declared.holders.Guard.{Guard}
-use Rattle.papaya_deeds.specs.Deeds.{Leaves, Opens, moment, there_on}
+use Rattle.papaya_played.specs.Given.Deeds.Deeds.{Leaves, Opens, moment, there_on}
 use Rattle.papaya_played.specs.Play.{State, leaves_as, registers_as, row_deed}
 use Rattle.papaya_agrees.specs.Guards.{GuardsAgree, GuardsAre, IsLeaving, IsOpen, guard_on}
 use Rattle.papaya_agrees.proofs.Opens.{opened, same_guards, shut}

@@ -4,3 +4,4 @@ pub mod Guards
 pub mod Grants
 pub mod Fresh
 pub mod Agree
+pub mod Given

@@ -6,3 +6,4 @@ pub mod Handed
 pub mod Values
 pub mod Calls
 mod Samples
+pub mod Given

@@ -7,3 +7,4 @@ pub mod FactsAlone
 pub mod FactsAloneCalls
 pub mod Values
 pub mod Met
+pub mod Given

@@ -3,31 +3,31 @@
 use Rattle.std.specs.Prelude.{◌≢◌, Option, Some, None, IsSome}
 use Rattle.std.proofs.Common.{◌≡◌, ℕ, ◌<◌, ◌≤◌, zero, suc, Bool, true, ◌⊎◌, inl, inr, refl, arith, ap, sym, subst, ◌∙◌}
 use Rattle.std.proofs.lemmas.Bool.{cases_lt, cases_eq}
-use Rattle.papaya_scenes.specs.Given.SeizeWords.Mem.{Mem, value_at}
-use Rattle.papaya_scenes.specs.Given.Seize.World.{World, Row, Hand, NoBlock, Making, InUse, Parting, Cutting, Handed, LeftTo, IsInside, with_at}
+use Rattle.seize_acts.specs.Given.SeizeWords.Mem.{Mem, value_at}
+use Rattle.seize_acts.specs.Given.Seize.World.{World, Row, Hand, NoBlock, Making, InUse, Parting, Cutting, Handed, LeftTo, IsInside, with_at}
 use Rattle.seize_acts.specs.Reclaimed.{IsStillHad}
-use Rattle.papaya_scenes.specs.Given.SeizeAlone.Alone.{IsOfUsers}
-use Rattle.papaya_scenes.proofs.Given.SeizeAlone.Histories.NotTaken.{IsHad, kept_there}
-use Rattle.papaya_scenes.proofs.Given.SeizeAlone.Histories.Reached.{Reached}
-use Rattle.papaya_scenes.specs.Given.Tables.Nodes.{deferred_word}
-use Rattle.papaya_scenes.specs.Given.Tables.declared.node.Node.{Node}
-use Rattle.papaya_scenes.specs.Given.Tables.declared.node.Node.TheVariants as node
-use Rattle.papaya_scenes.specs.Given.Resize.declared.copier.Copier.{Copier}
-use Rattle.papaya_scenes.specs.Given.Rule.Chart.{Chart}
-use Rattle.papaya_scenes.specs.Given.Rule.Words.{Blocks}
-use Rattle.papaya_scenes.specs.Given.Rule.InWorld.{IsOut, IsKnownBlock, IsOwnBlock, Went}
-use Rattle.papaya_alone.proofs.Handed.RootTurns.{IsPromoted, first_moves}
-use Rattle.papaya_scenes.specs.Given.Callers.Sights.{Sight, IsGrown, seen_by}
-use Rattle.papaya_scenes.specs.Given.Callers.Together.{UnderWay, in_slot, Together}
-use Rattle.papaya_scenes.proofs.Given.Callers.Claims.Charts.{past_moved}
-use Rattle.papaya_scenes.proofs.Given.Callers.Together.At.{at_other, at_same}
-use Rattle.papaya_scenes.proofs.Given.Callers.Together.Came.{came_reached}
-use Rattle.papaya_scenes.proofs.Given.Callers.Together.Users.{events_rows}
-use Rattle.papaya_scenes.specs.Given.Finishes.Endings.{Finishing}
-use Rattle.papaya_scenes.specs.Given.Finishes.Maps.{Standing, MapsTogether, with_call}
-use Rattle.papaya_scenes.proofs.Given.Finishes.Beside.Maps.OtherSteps.{known_out}
-use Rattle.papaya_scenes.proofs.Given.Finishes.Beside.Maps.Steps.{seen_known}
-use Rattle.papaya_reclaims.specs.Deferred.{IsLinkedTable}
+use Rattle.seize_acts.specs.Given.SeizeAlone.Alone.{IsOfUsers}
+use Rattle.seize_acts.proofs.Given.SeizeAlone.Histories.NotTaken.{IsHad, kept_there}
+use Rattle.seize_acts.proofs.Given.SeizeAlone.Histories.Reached.{Reached}
+use Rattle.papaya_acts.specs.Given.Tables.Nodes.{deferred_word}
+use Rattle.papaya_acts.specs.Given.Tables.declared.node.Node.{Node}
+use Rattle.papaya_acts.specs.Given.Tables.declared.node.Node.TheVariants as node
+use Rattle.papaya_acts.specs.Given.Resize.declared.copier.Copier.{Copier}
+use Rattle.papaya_acts.specs.Given.Rule.Chart.{Chart}
+use Rattle.papaya_acts.specs.Given.Rule.Words.{Blocks}
+use Rattle.papaya_acts.specs.Given.Rule.InWorld.{IsOut, IsKnownBlock, IsOwnBlock, Went}
+use Rattle.papaya_acts.proofs.Given.Alone.Handed.RootTurns.{IsPromoted, first_moves}
+use Rattle.papaya_acts.specs.Given.Callers.Sights.{Sight, IsGrown, seen_by}
+use Rattle.papaya_acts.specs.Given.Callers.Together.{UnderWay, in_slot, Together}
+use Rattle.papaya_acts.proofs.Given.Callers.Claims.Charts.{past_moved}
+use Rattle.papaya_acts.proofs.Given.Callers.Together.At.{at_other, at_same}
+use Rattle.papaya_acts.proofs.Given.Callers.Together.Came.{came_reached}
+use Rattle.papaya_acts.proofs.Given.Callers.Together.Users.{events_rows}
+use Rattle.papaya_acts.specs.Given.Finishes.Endings.{Finishing}
+use Rattle.papaya_acts.specs.Given.Finishes.Maps.{Standing, MapsTogether, with_call}
+use Rattle.papaya_acts.proofs.Given.Finishes.Beside.Maps.OtherSteps.{known_out}
+use Rattle.papaya_acts.proofs.Given.Finishes.Beside.Maps.Steps.{seen_known}
+use Rattle.papaya_acts.specs.Given.Reclaims.Deferred.{IsLinkedTable}
 use Rattle.papaya_carries.specs.Theirs.{copier_of, IsToHandOver, Owes, CanCarry, IsTheirs, AllAreTheirs}
 use Rattle.papaya_carries.proofs.Hands.{step_origin}
 use Rattle.papaya_carries.proofs.Owed.{one_some, StandsOn, StandsOnAt, stays_so, hands_on, OwesThen, owed_then, owed_with}

@@ -2,42 +2,42 @@
 use Rattle.std.specs.Prelude.{◌*◌, ◌/◌, Some}
 use Rattle.std.proofs.Common.{◌≡◌, ℕ, suc, ◌<◌, ◌≤◌, Bool, true, false, cond, ◌⊎◌, inl, inr, refl, arith, ap, sym, subst, ◌∙◌}
 use Rattle.std.proofs.lemmas.Bool.{cases_lt}
-use Rattle.papaya_scenes.specs.Given.SeizeWords.declared.at.At.TheVariants.{Root, Word}
-use Rattle.papaya_scenes.specs.Given.SeizeWords.Mem.{Mem, Can, Took, value_at, word_at, with_word}
-use Rattle.papaya_scenes.specs.Given.SeizeWords.Plan.{Steps}
-use Rattle.papaya_scenes.proofs.Given.SeizeWords.OneOwner.Operations.{loaded, exchanged}
-use Rattle.papaya_scenes.proofs.Given.SeizeWords.Plans.{steps_as}
-use Rattle.papaya_scenes.specs.Given.Seize.Settle.{retiring}
-use Rattle.papaya_scenes.specs.Given.Seize.World.{World}
-use Rattle.papaya_scenes.specs.Given.Tables.Chunks.{is_incremental}
-use Rattle.papaya_scenes.specs.Given.Tables.declared.node.Node.{Node}
-use Rattle.papaya_scenes.specs.Given.Tables.declared.setting.Setting.{Setting}
-use Rattle.papaya_scenes.specs.Given.Tables.declared.table.Table.{Table}
-use Rattle.papaya_scenes.specs.Given.Tables.declared.table_words.TheConstants.{NEXT}
-use Rattle.papaya_scenes.specs.Given.Resize.Copier.{copier_plan, plan_at as copier_plan_at}
-use Rattle.papaya_scenes.specs.Given.Resize.CopierPromotes.{promoted, successor_read, also_retired, retiring_table}
-use Rattle.papaya_scenes.specs.Given.Resize.CopierStates as copying
-use Rattle.papaya_scenes.specs.Given.Resize.declared.copier.Copier.{Copier}
-use Rattle.papaya_scenes.specs.Given.Resize.declared.copier.Copying.{Copying}
-use Rattle.papaya_scenes.specs.Given.Resize.declared.copier.Copying.TheVariants as copies
-use Rattle.papaya_scenes.specs.Given.Resize.declared.outcome.Outcome.{Outcome}
-use Rattle.papaya_scenes.specs.Given.Resize.declared.outcome.Outcome.TheVariants as outcome
-use Rattle.papaya_scenes.specs.Given.Raw.Call.{copied}
-use Rattle.papaya_scenes.specs.Given.Raw.CallPoints.{getting}
-use Rattle.papaya_scenes.specs.Given.Raw.declared.machines.call.KeyCall.{KeyCall}
-use Rattle.papaya_scenes.specs.Given.Raw.declared.machines.call.Calling.TheVariants as at
-use Rattle.papaya_scenes.specs.Given.Rule.Chart.{Chart}
-use Rattle.papaya_scenes.specs.Given.Rule.InWorld.{IsMapIn, Moved, SameBlocks}
-use Rattle.papaya_scenes.specs.Given.Rule.Maps.{IsTable}
-use Rattle.papaya_scenes.specs.Given.Rule.Words.{Blocks}
-use Rattle.papaya_scenes.proofs.Given.Rule.Words.LinksSeen.{link_made, root_leads}
-use Rattle.papaya_scenes.proofs.Given.Rule.Words.WritesWords.{is_some_of}
-use Rattle.papaya_scenes.proofs.Given.Rule.World.RootSpared.{RootStays}
-use Rattle.papaya_scenes.specs.Given.Points.Told.{IsRowOfCopier}
-use Rattle.papaya_scenes.proofs.Given.Points.Blocking.Successors.{next_read, rest_between}
-use Rattle.papaya_scenes.proofs.Given.Points.Steps.RootSteps.{is_promoting, root_stays}
-use Rattle.papaya_scenes.proofs.Given.Late.Plans.{written}
-use Rattle.papaya_alone.proofs.Handed.RootTurns.{IsPromoted, first_moves, first_kept}
+use Rattle.seize_acts.specs.Given.SeizeWords.declared.at.At.TheVariants.{Root, Word}
+use Rattle.seize_acts.specs.Given.SeizeWords.Mem.{Mem, Can, Took, value_at, word_at, with_word}
+use Rattle.seize_acts.specs.Given.SeizeWords.Plan.{Steps}
+use Rattle.seize_acts.proofs.Given.SeizeWords.OneOwner.Operations.{loaded, exchanged}
+use Rattle.seize_acts.proofs.Given.SeizeWords.Plans.{steps_as}
+use Rattle.seize_acts.specs.Given.Seize.Settle.{retiring}
+use Rattle.seize_acts.specs.Given.Seize.World.{World}
+use Rattle.papaya_acts.specs.Given.Tables.Chunks.{is_incremental}
+use Rattle.papaya_acts.specs.Given.Tables.declared.node.Node.{Node}
+use Rattle.papaya_acts.specs.Given.Tables.declared.setting.Setting.{Setting}
+use Rattle.papaya_acts.specs.Given.Tables.declared.table.Table.{Table}
+use Rattle.papaya_acts.specs.Given.Tables.declared.table_words.TheConstants.{NEXT}
+use Rattle.papaya_acts.specs.Given.Resize.Copier.{copier_plan, plan_at as copier_plan_at}
+use Rattle.papaya_acts.specs.Given.Resize.CopierPromotes.{promoted, successor_read, also_retired, retiring_table}
+use Rattle.papaya_acts.specs.Given.Resize.CopierStates as copying
+use Rattle.papaya_acts.specs.Given.Resize.declared.copier.Copier.{Copier}
+use Rattle.papaya_acts.specs.Given.Resize.declared.copier.Copying.{Copying}
+use Rattle.papaya_acts.specs.Given.Resize.declared.copier.Copying.TheVariants as copies
+use Rattle.papaya_acts.specs.Given.Resize.declared.outcome.Outcome.{Outcome}
+use Rattle.papaya_acts.specs.Given.Resize.declared.outcome.Outcome.TheVariants as outcome
+use Rattle.papaya_acts.specs.Given.Raw.Call.{copied}
+use Rattle.papaya_acts.specs.Given.Raw.CallPoints.{getting}
+use Rattle.papaya_acts.specs.Given.Raw.declared.machines.call.KeyCall.{KeyCall}
+use Rattle.papaya_acts.specs.Given.Raw.declared.machines.call.Calling.TheVariants as at
+use Rattle.papaya_acts.specs.Given.Rule.Chart.{Chart}
+use Rattle.papaya_acts.specs.Given.Rule.InWorld.{IsMapIn, Moved, SameBlocks}
+use Rattle.papaya_acts.specs.Given.Rule.Maps.{IsTable}
+use Rattle.papaya_acts.specs.Given.Rule.Words.{Blocks}
+use Rattle.papaya_acts.proofs.Given.Rule.Words.LinksSeen.{link_made, root_leads}
+use Rattle.papaya_acts.proofs.Given.Rule.Words.WritesWords.{is_some_of}
+use Rattle.papaya_acts.proofs.Given.Rule.World.RootSpared.{RootStays}
+use Rattle.papaya_acts.specs.Given.Points.Told.{IsRowOfCopier}
+use Rattle.papaya_acts.proofs.Given.Points.Blocking.Successors.{next_read, rest_between}
+use Rattle.papaya_acts.proofs.Given.Points.Steps.RootSteps.{is_promoting, root_stays}
+use Rattle.papaya_acts.proofs.Given.Late.Plans.{written}
+use Rattle.papaya_acts.proofs.Given.Alone.Handed.RootTurns.{IsPromoted, first_moves, first_kept}
 use Rattle.papaya_carries.specs.Theirs.{IsDueAt, IsNext, IsAhead, next_of_them}
 use Rattle.papaya_carries.proofs.Known.{HasCut, KnowsTables, CopierKnows}
 

@@ -2,21 +2,21 @@
 use Rattle.std.specs.Prelude.{◌≢◌, Option, Some, None}
 use Rattle.std.proofs.Common.{◌≡◌, ℕ, zero, suc, ◌<◌, ◌≤◌, Bool, false, [], ◌⊎◌, inl, inr, refl, arith, ap, sym, subst, ◌∙◌}
 use Rattle.std.proofs.lemmas.Bool.{cases_eq}
-use Rattle.papaya_scenes.specs.Given.SeizeWords.Mem.{value_at}
-use Rattle.papaya_scenes.specs.Given.Seize.World.{World, Row, times, with_at}
+use Rattle.seize_acts.specs.Given.SeizeWords.Mem.{value_at}
+use Rattle.seize_acts.specs.Given.Seize.World.{World, Row, times, with_at}
 use Rattle.seize_acts.specs.Reclaimed.{IsStillHad}
-use Rattle.papaya_scenes.specs.Given.Tables.declared.node.Node.{Node}
-use Rattle.papaya_scenes.specs.Given.Rule.Chart.{Chart}
-use Rattle.papaya_scenes.specs.Given.Rule.Words.{Blocks}
-use Rattle.papaya_scenes.specs.Given.Callers.Together.{UnderWay}
-use Rattle.papaya_scenes.proofs.Given.Callers.Together.At.{at_other, at_same}
-use Rattle.papaya_scenes.specs.Given.Finishes.Endings.{Finishing, HasFinished, finishing_of}
-use Rattle.papaya_scenes.specs.Given.Finishes.FactsEnds.{back_of, from_table, taken_by, left_by}
-use Rattle.papaya_scenes.specs.Given.Finishes.Makings.{Beginning}
-use Rattle.papaya_scenes.specs.Given.Finishes.Maps.{Standing}
-use Rattle.papaya_scenes.proofs.Given.Finishes.Ends.CountedBlocks.{some_last, times-append}
-use Rattle.papaya_scenes.proofs.Given.Finishes.Ends.OrdersOn.{table_later}
-use Rattle.papaya_reclaims.specs.Left.{GoesOnBy}
+use Rattle.papaya_acts.specs.Given.Tables.declared.node.Node.{Node}
+use Rattle.papaya_acts.specs.Given.Rule.Chart.{Chart}
+use Rattle.papaya_acts.specs.Given.Rule.Words.{Blocks}
+use Rattle.papaya_acts.specs.Given.Callers.Together.{UnderWay}
+use Rattle.papaya_acts.proofs.Given.Callers.Together.At.{at_other, at_same}
+use Rattle.papaya_acts.specs.Given.Finishes.Endings.{Finishing, HasFinished, finishing_of}
+use Rattle.papaya_acts.specs.Given.Finishes.FactsEnds.{back_of, from_table, taken_by, left_by}
+use Rattle.papaya_acts.specs.Given.Finishes.Makings.{Beginning}
+use Rattle.papaya_acts.specs.Given.Finishes.Maps.{Standing}
+use Rattle.papaya_acts.proofs.Given.Finishes.Ends.CountedBlocks.{some_last, times-append}
+use Rattle.papaya_acts.proofs.Given.Finishes.Ends.OrdersOn.{table_later}
+use Rattle.papaya_acts.specs.Given.Reclaims.Left.{GoesOnBy}
 use Rattle.papaya_carries.specs.Promises.{EndingsBeginAndKeepTheirs, EndingsKeepTheirs}
 use Rattle.papaya_carries.specs.Theirs.{CanCarry, IsTheirs, AllAreTheirs}
 use Rattle.papaya_carries.proofs.Owed.{one_some, stays_so, owed_on}

@@ -1,24 +1,24 @@
 -- What the first step of a row leaves of what it is to hand over: a retirement has its block still, and neither ends by it.
 use Rattle.std.specs.Prelude.{◌==◌, Option}
 use Rattle.std.proofs.Common.{◌≡◌, ℕ, refl, ap, sym, subst, ◌∙◌}
-use Rattle.papaya_scenes.specs.Given.SeizeWords.Mem.{Mem, Took, value_at}
-use Rattle.papaya_scenes.specs.Given.SeizeWords.Op.{Out, Found, Stored, Exchanged, Made, Taken, Roomed}
-use Rattle.papaya_scenes.specs.Given.SeizeWords.Plan.{Steps}
-use Rattle.papaya_scenes.proofs.Given.SeizeWords.OneOwner.Operations.{loaded}
-use Rattle.papaya_scenes.specs.Given.Seize.declared.progress.Progress.{Progress}
-use Rattle.papaya_scenes.specs.Given.Seize.declared.progress.Progress.TheVariants as progress
-use Rattle.papaya_scenes.specs.Given.Seize.declared.rows.defer.Defer.{Defer}
-use Rattle.papaya_scenes.specs.Given.Seize.declared.rows.defer.Deferring.TheVariants as at
-use Rattle.papaya_scenes.specs.Given.Seize.declared.rows.settle.Settle.{Settle}
-use Rattle.papaya_scenes.specs.Given.Seize.declared.rows.settle.Settled.{Settled}
-use Rattle.papaya_scenes.specs.Given.Seize.declared.rows.settle.Settled.TheVariants as settled
-use Rattle.papaya_scenes.specs.Given.Seize.declared.states.TheConstants.{HELD}
-use Rattle.papaya_scenes.specs.Given.Seize.Defer.{deferring, head_read, standing}
-use Rattle.papaya_scenes.specs.Given.Seize.Settle.{retiring, seen, settle_plan}
-use Rattle.papaya_scenes.specs.Given.Seize.World.{World, Settles, Defers, Steps', settles_on, defers_on}
-use Rattle.papaya_scenes.specs.Given.SeizeWords.declared.at.At.{At}
-use Rattle.papaya_scenes.proofs.Given.SeizeRule.Rows.Others.{with_here}
-use Rattle.papaya_scenes.proofs.Given.Rule.Keys.Always.{Always, always_if, always_steps}
+use Rattle.seize_acts.specs.Given.SeizeWords.Mem.{Mem, Took, value_at}
+use Rattle.seize_acts.specs.Given.SeizeWords.Op.{Out, Found, Stored, Exchanged, Made, Taken, Roomed}
+use Rattle.seize_acts.specs.Given.SeizeWords.Plan.{Steps}
+use Rattle.seize_acts.proofs.Given.SeizeWords.OneOwner.Operations.{loaded}
+use Rattle.seize_acts.specs.Given.Seize.declared.progress.Progress.{Progress}
+use Rattle.seize_acts.specs.Given.Seize.declared.progress.Progress.TheVariants as progress
+use Rattle.seize_acts.specs.Given.Seize.declared.rows.defer.Defer.{Defer}
+use Rattle.seize_acts.specs.Given.Seize.declared.rows.defer.Deferring.TheVariants as at
+use Rattle.seize_acts.specs.Given.Seize.declared.rows.settle.Settle.{Settle}
+use Rattle.seize_acts.specs.Given.Seize.declared.rows.settle.Settled.{Settled}
+use Rattle.seize_acts.specs.Given.Seize.declared.rows.settle.Settled.TheVariants as settled
+use Rattle.seize_acts.specs.Given.Seize.declared.states.TheConstants.{HELD}
+use Rattle.seize_acts.specs.Given.Seize.Defer.{deferring, head_read, standing}
+use Rattle.seize_acts.specs.Given.Seize.Settle.{retiring, seen, settle_plan}
+use Rattle.seize_acts.specs.Given.Seize.World.{World, Settles, Defers, Steps', settles_on, defers_on}
+use Rattle.seize_acts.specs.Given.SeizeWords.declared.at.At.{At}
+use Rattle.seize_acts.proofs.Given.SeizeRule.Rows.Others.{with_here}
+use Rattle.papaya_acts.proofs.Given.Rule.Keys.Always.{Always, always_if, always_steps}
 
 module _ {T : Type 0} (defers : T → Option ℕ) where
   -- it is to retire this block still, and has not ended

@@ -1,23 +1,23 @@
 -- Whose a block is that users have, and behind which something may be put, over rows between calls; and at rest.
 use Rattle.std.specs.Prelude.{Option, Some, None}
 use Rattle.std.proofs.Common.{◌≡◌, ◌≢◌, ◌<◌, ◌≤◌, ℕ, Bool, inl, inr, refl, arith, ap, sym, subst, ◌∙◌}
-use Rattle.papaya_scenes.specs.Given.SeizeWords.Mem.{Mem, value_at}
-use Rattle.papaya_scenes.specs.Given.Seize.World.{World, Hand, NoBlock, Making, InUse, Parting, Cutting, Handed, LeftTo, Request, Begin, Step, Happens}
+use Rattle.seize_acts.specs.Given.SeizeWords.Mem.{Mem, value_at}
+use Rattle.seize_acts.specs.Given.Seize.World.{World, Hand, NoBlock, Making, InUse, Parting, Cutting, Handed, LeftTo, Request, Begin, Step, Happens}
 use Rattle.seize_acts.specs.Reclaimed.{IsStillHad}
-use Rattle.papaya_scenes.proofs.Given.SeizeRule.Rows.Others.{begins_others, steps_others}
-use Rattle.papaya_scenes.proofs.Given.SeizeEnds.Batches.Rows.{begins_memory}
-use Rattle.papaya_scenes.proofs.Given.SeizeAlone.Histories.Reached.{Reached}
-use Rattle.papaya_scenes.specs.Given.Tables.Nodes.{deferred_word}
-use Rattle.papaya_scenes.specs.Given.Tables.declared.node.Node.{Node}
-use Rattle.papaya_scenes.specs.Given.Rule.Chart.{Chart}
-use Rattle.papaya_scenes.specs.Given.Callers.Kept.{IsUsersOwn}
-use Rattle.papaya_scenes.specs.Given.Callers.Together.{UnderWay, IsOfSlots}
-use Rattle.papaya_scenes.proofs.Given.Callers.Rows.Beside.{users_value}
-use Rattle.papaya_scenes.proofs.Given.Callers.Together.Came.{came_reached}
-use Rattle.papaya_scenes.specs.Given.Finishes.Endings.{Finishing}
-use Rattle.papaya_scenes.specs.Given.Finishes.Makings.{Beginning}
-use Rattle.papaya_scenes.specs.Given.Finishes.Maps.{Standing, IsSameMap, with_call}
-use Rattle.papaya_reclaims.specs.Deferred.{IsLinkedTable}
+use Rattle.seize_acts.proofs.Given.SeizeRule.Rows.Others.{begins_others, steps_others}
+use Rattle.seize_acts.proofs.Given.SeizeEnds.Batches.Rows.{begins_memory}
+use Rattle.seize_acts.proofs.Given.SeizeAlone.Histories.Reached.{Reached}
+use Rattle.papaya_acts.specs.Given.Tables.Nodes.{deferred_word}
+use Rattle.papaya_acts.specs.Given.Tables.declared.node.Node.{Node}
+use Rattle.papaya_acts.specs.Given.Rule.Chart.{Chart}
+use Rattle.papaya_acts.specs.Given.Callers.Kept.{IsUsersOwn}
+use Rattle.papaya_acts.specs.Given.Callers.Together.{UnderWay, IsOfSlots}
+use Rattle.papaya_acts.proofs.Given.Callers.Rows.Beside.{users_value}
+use Rattle.papaya_acts.proofs.Given.Callers.Together.Came.{came_reached}
+use Rattle.papaya_acts.specs.Given.Finishes.Endings.{Finishing}
+use Rattle.papaya_acts.specs.Given.Finishes.Makings.{Beginning}
+use Rattle.papaya_acts.specs.Given.Finishes.Maps.{Standing, IsSameMap, with_call}
+use Rattle.papaya_acts.specs.Given.Reclaims.Deferred.{IsLinkedTable}
 use Rattle.papaya_carries.specs.Promises.{ChangesKeepTheirs, GuardsKeepTheirs, NoneBegins, OnlyTablesCarry}
 use Rattle.papaya_carries.specs.Theirs.{CanCarry, IsOwed, IsTheirs, AllAreTheirs}
 use Rattle.papaya_carries.proofs.Hands.{begun_same, still_row}

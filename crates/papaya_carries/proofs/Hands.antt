@@ -1,28 +1,28 @@
 -- What users have after a step, and had before it, or had made: over rows, and over what a step of a call does.
 use Rattle.std.specs.Prelude.{Option, Some, None, Ok, Err, IsSome}
 use Rattle.std.proofs.Common.{◌≡◌, ℕ, ◌+◌, true, List, [], ◌∷◌, ◌⊎◌, inl, inr, refl, arith, ap, sym, subst, ◌∙◌}
-use Rattle.papaya_scenes.specs.Given.SeizeWords.Mem.{Mem, Took, value_at}
-use Rattle.papaya_scenes.specs.Given.SeizeWords.Op.{Out, Make, Found, Stored, Exchanged, Made, Taken, Roomed}
-use Rattle.papaya_scenes.specs.Given.Seize.declared.states.TheConstants.{LAST_SLOT}
-use Rattle.papaya_scenes.specs.Given.Seize.Law.{Effect, Entered, Left, Made as MadeBlock, Linked, Unlinked, Deferred, Retired, Taken as TakenBlock, Dropped, Ended, LeftOver}
-use Rattle.papaya_scenes.specs.Given.Seize.Sequence.{IsUsers}
-use Rattle.papaya_scenes.specs.Given.Seize.World.{World, Hand, NoBlock, Making, InUse, Parting, Cutting, Handed, LeftTo, MayCut, Request, Register', Enter', Leave', LeaveOwned, Refresh, Unregister', Retire, Flush, Defer', Event, Begin, Step, Makes, Drops, Links, Parts, Unlinks, Rewrites, Operates, Ends, LeavesOver, Relinks, Clears, Chooses, Begins, Happens, Runs, Steps', handed_by, made_by, with_at}
+use Rattle.seize_acts.specs.Given.SeizeWords.Mem.{Mem, Took, value_at}
+use Rattle.seize_acts.specs.Given.SeizeWords.Op.{Out, Make, Found, Stored, Exchanged, Made, Taken, Roomed}
+use Rattle.seize_acts.specs.Given.Seize.declared.states.TheConstants.{LAST_SLOT}
+use Rattle.seize_acts.specs.Given.Seize.Law.{Effect, Entered, Left, Made as MadeBlock, Linked, Unlinked, Deferred, Retired, Taken as TakenBlock, Dropped, Ended, LeftOver}
+use Rattle.seize_acts.specs.Given.Seize.Sequence.{IsUsers}
+use Rattle.seize_acts.specs.Given.Seize.World.{World, Hand, NoBlock, Making, InUse, Parting, Cutting, Handed, LeftTo, MayCut, Request, Register', Enter', Leave', LeaveOwned, Refresh, Unregister', Retire, Flush, Defer', Event, Begin, Step, Makes, Drops, Links, Parts, Unlinks, Rewrites, Operates, Ends, LeavesOver, Relinks, Clears, Chooses, Begins, Happens, Runs, Steps', handed_by, made_by, with_at}
 use Rattle.seize_acts.specs.Reclaimed.{IsStillHad}
-use Rattle.papaya_scenes.proofs.Given.SeizeMoves.State.Ghost.{Life}
-use Rattle.papaya_scenes.proofs.Given.SeizeRule.Points.Aside.{HandFits, is_handed}
-use Rattle.papaya_scenes.proofs.Given.SeizeRule.Words.Shows.{lives}
-use Rattle.papaya_scenes.proofs.Given.SeizeRule.Words.There.{value_there}
-use Rattle.papaya_scenes.proofs.Given.SeizeAlone.Histories.NotTaken.{did}
-use Rattle.papaya_scenes.proofs.Given.SeizeAlone.Histories.Reached.{Reached, happens_reached}
-use Rattle.papaya_scenes.specs.Given.Tables.Nodes.{deferred_word}
-use Rattle.papaya_scenes.specs.Given.Tables.declared.node.Node.{Node}
-use Rattle.papaya_scenes.specs.Given.Tables.declared.setting.Setting.{Setting}
-use Rattle.papaya_scenes.specs.Given.Rule.Chart.{Chart}
-use Rattle.papaya_scenes.specs.Given.Rule.InWorld.{AllUsers, AllIts, IsIts, IsItsEvent, IsKnownBlock, IsOut}
-use Rattle.papaya_scenes.specs.Given.Rule.Words.{Blocks}
-use Rattle.papaya_scenes.proofs.Given.Rule.World.Hands.{at_cases}
-use Rattle.papaya_scenes.proofs.Given.Rule.Words.BlocksApart.{new_apart}
-use Rattle.papaya_scenes.specs.Given.Callers.Together.{IsOfSlots}
+use Rattle.seize_acts.proofs.Given.SeizeMoves.State.Ghost.{Life}
+use Rattle.seize_acts.proofs.Given.SeizeRule.Points.Aside.{HandFits, is_handed}
+use Rattle.seize_acts.proofs.Given.SeizeRule.Words.Shows.{lives}
+use Rattle.seize_acts.proofs.Given.SeizeRule.Words.There.{value_there}
+use Rattle.seize_acts.proofs.Given.SeizeAlone.Histories.NotTaken.{did}
+use Rattle.seize_acts.proofs.Given.SeizeAlone.Histories.Reached.{Reached, happens_reached}
+use Rattle.papaya_acts.specs.Given.Tables.Nodes.{deferred_word}
+use Rattle.papaya_acts.specs.Given.Tables.declared.node.Node.{Node}
+use Rattle.papaya_acts.specs.Given.Tables.declared.setting.Setting.{Setting}
+use Rattle.papaya_acts.specs.Given.Rule.Chart.{Chart}
+use Rattle.papaya_acts.specs.Given.Rule.InWorld.{AllUsers, AllIts, IsIts, IsItsEvent, IsKnownBlock, IsOut}
+use Rattle.papaya_acts.specs.Given.Rule.Words.{Blocks}
+use Rattle.papaya_acts.proofs.Given.Rule.World.Hands.{at_cases}
+use Rattle.papaya_acts.proofs.Given.Rule.Words.BlocksApart.{new_apart}
+use Rattle.papaya_acts.specs.Given.Callers.Together.{IsOfSlots}
 
 -- a row's effects leave with users what they have, or reclaim it
 still_by : (b : ℕ) (effects : List Effect) (hand : ℕ → Hand) → IsStillHad (handed_by effects hand b) → handed_by effects hand b ≡ hand b

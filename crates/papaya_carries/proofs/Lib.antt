@@ -23,3 +23,4 @@ pub mod Lists
 pub mod Onward
 mod Samples
 mod Drained
+pub mod Given

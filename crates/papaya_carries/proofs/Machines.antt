@@ -1,38 +1,38 @@
 -- A step of a call under way, whichever its kind, leaves each block somebody's behind which something may be put.
 use Rattle.std.specs.Prelude.{Option, Some, None}
 use Rattle.std.proofs.Common.{◌≡◌, ℕ, ◌≤◌, ◌<◌, Bool, inl, inr, refl, arith, ap, sym, subst, ◌∙◌}
-use Rattle.papaya_scenes.specs.Given.SeizeWords.Mem.{Mem, Took, value_at}
-use Rattle.papaya_scenes.specs.Given.SeizeWords.Plan.{Plan, Steps}
-use Rattle.papaya_scenes.specs.Given.Seize.World.{World}
-use Rattle.papaya_scenes.proofs.Given.SeizeRule.Rows.Leaving.{steps_back}
-use Rattle.papaya_scenes.specs.Given.Tables.declared.node.Node.{Node}
-use Rattle.papaya_scenes.specs.Given.Resize.declared.outcome.Outcome.{Outcome}
-use Rattle.papaya_scenes.specs.Given.Resize.declared.outcome.Outcome.TheVariants as outcome
-use Rattle.papaya_scenes.specs.Given.Reserves.Reserve.{reserve_plan}
-use Rattle.papaya_scenes.specs.Given.Reserves.declared.reserve.Reserve.{Reserve}
-use Rattle.papaya_scenes.specs.Given.Sweeps.Sweep.{sweep_plan}
-use Rattle.papaya_scenes.specs.Given.Sweeps.declared.sweep.Sweep.{Sweep}
-use Rattle.papaya_scenes.specs.Given.Sweeps.declared.sweep.Swept.{Swept}
-use Rattle.papaya_scenes.specs.Given.Sweeps.declared.sweep.Swept.TheVariants as swept_as
-use Rattle.papaya_scenes.specs.Given.Raw.Call.{call_plan}
-use Rattle.papaya_scenes.specs.Given.Raw.Machine.{machine_plan, called, reserved, swept}
-use Rattle.papaya_scenes.specs.Given.Raw.Progress.{of_called, of_outcome, of_swept}
-use Rattle.papaya_scenes.specs.Given.Resize.declared.copier.Copier.{Copier}
-use Rattle.papaya_scenes.specs.Given.Resize.declared.sum.Sum.{Sum}
-use Rattle.papaya_scenes.specs.Given.Raw.declared.machines.answer.Called.{Called}
-use Rattle.papaya_scenes.specs.Given.Raw.declared.machines.answer.Called.TheVariants as called_as
-use Rattle.papaya_scenes.specs.Given.Raw.declared.machines.call.KeyCall.{KeyCall}
-use Rattle.papaya_scenes.specs.Given.Raw.declared.machines.machine.Machine.{Machine}
-use Rattle.papaya_scenes.specs.Given.Raw.declared.machines.machine.Machine.TheVariants as kinds
-use Rattle.papaya_scenes.specs.Given.Raw.declared.machines.progress.Answer.TheVariants as answers
-use Rattle.papaya_scenes.specs.Given.Raw.declared.machines.progress.Progress.{Progress}
-use Rattle.papaya_scenes.specs.Given.Raw.declared.machines.progress.Progress.TheVariants as progress
-use Rattle.papaya_scenes.specs.Given.Callers.Together.{UnderWay, OnKey, ForRoom, Counting, OverAll, next_of_counting}
-use Rattle.papaya_scenes.specs.Given.Finishes.Endings.{Finishing, EndingsTogether}
-use Rattle.papaya_scenes.specs.Given.Finishes.Machines.{DidOfKind, machine_of}
-use Rattle.papaya_scenes.specs.Given.Finishes.Makings.{Beginning}
-use Rattle.papaya_scenes.specs.Given.Finishes.Maps.{Standing, IsSameMap, with_call}
-use Rattle.papaya_reclaims.specs.Deferred.{IsLinkedTable}
+use Rattle.seize_acts.specs.Given.SeizeWords.Mem.{Mem, Took, value_at}
+use Rattle.seize_acts.specs.Given.SeizeWords.Plan.{Plan, Steps}
+use Rattle.seize_acts.specs.Given.Seize.World.{World}
+use Rattle.seize_acts.proofs.Given.SeizeRule.Rows.Leaving.{steps_back}
+use Rattle.papaya_acts.specs.Given.Tables.declared.node.Node.{Node}
+use Rattle.papaya_acts.specs.Given.Resize.declared.outcome.Outcome.{Outcome}
+use Rattle.papaya_acts.specs.Given.Resize.declared.outcome.Outcome.TheVariants as outcome
+use Rattle.papaya_acts.specs.Given.Reserves.Reserve.{reserve_plan}
+use Rattle.papaya_acts.specs.Given.Reserves.declared.reserve.Reserve.{Reserve}
+use Rattle.papaya_acts.specs.Given.Sweeps.Sweep.{sweep_plan}
+use Rattle.papaya_acts.specs.Given.Sweeps.declared.sweep.Sweep.{Sweep}
+use Rattle.papaya_acts.specs.Given.Sweeps.declared.sweep.Swept.{Swept}
+use Rattle.papaya_acts.specs.Given.Sweeps.declared.sweep.Swept.TheVariants as swept_as
+use Rattle.papaya_acts.specs.Given.Raw.Call.{call_plan}
+use Rattle.papaya_acts.specs.Given.Raw.Machine.{machine_plan, called, reserved, swept}
+use Rattle.papaya_acts.specs.Given.Raw.Progress.{of_called, of_outcome, of_swept}
+use Rattle.papaya_acts.specs.Given.Resize.declared.copier.Copier.{Copier}
+use Rattle.papaya_acts.specs.Given.Resize.declared.sum.Sum.{Sum}
+use Rattle.papaya_acts.specs.Given.Raw.declared.machines.answer.Called.{Called}
+use Rattle.papaya_acts.specs.Given.Raw.declared.machines.answer.Called.TheVariants as called_as
+use Rattle.papaya_acts.specs.Given.Raw.declared.machines.call.KeyCall.{KeyCall}
+use Rattle.papaya_acts.specs.Given.Raw.declared.machines.machine.Machine.{Machine}
+use Rattle.papaya_acts.specs.Given.Raw.declared.machines.machine.Machine.TheVariants as kinds
+use Rattle.papaya_acts.specs.Given.Raw.declared.machines.progress.Answer.TheVariants as answers
+use Rattle.papaya_acts.specs.Given.Raw.declared.machines.progress.Progress.{Progress}
+use Rattle.papaya_acts.specs.Given.Raw.declared.machines.progress.Progress.TheVariants as progress
+use Rattle.papaya_acts.specs.Given.Callers.Together.{UnderWay, OnKey, ForRoom, Counting, OverAll, next_of_counting}
+use Rattle.papaya_acts.specs.Given.Finishes.Endings.{Finishing, EndingsTogether}
+use Rattle.papaya_acts.specs.Given.Finishes.Machines.{DidOfKind, machine_of}
+use Rattle.papaya_acts.specs.Given.Finishes.Makings.{Beginning}
+use Rattle.papaya_acts.specs.Given.Finishes.Maps.{Standing, IsSameMap, with_call}
+use Rattle.papaya_acts.specs.Given.Reclaims.Deferred.{IsLinkedTable}
 use Rattle.papaya_carries.specs.Theirs.{copier_of, IsTheirs, AllAreTheirs}
 use Rattle.papaya_carries.proofs.Guards.{theirs_by, same_on}
 use Rattle.papaya_carries.proofs.Owed.{one_some, StandsOn, StandsOnAt, owed_on, owed_with}

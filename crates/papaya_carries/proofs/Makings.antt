@@ -1,35 +1,35 @@
 -- A making takes a step: what users have then they had, with its value, or it is the first table of the map that stands by it.
 use Rattle.std.specs.Prelude.{◌*◌, Option, Some, Ok, Err, IsSome, is_some}
 use Rattle.std.proofs.Common.{◌≡◌, ℕ, ◌<◌, Bool, List, [], ◌∷◌, ◌⊎◌, inl, inr, refl, arith, ap, sym, subst, ◌∙◌}
-use Rattle.papaya_scenes.specs.Given.SeizeWords.declared.at.At.TheVariants.{Root}
-use Rattle.papaya_scenes.specs.Given.SeizeWords.Mem.{Mem, Took, value_at, word_at}
-use Rattle.papaya_scenes.specs.Given.SeizeWords.Op.{Out, Make, Found, Stored, Exchanged, Made, Taken, Roomed}
-use Rattle.papaya_scenes.specs.Given.Seize.Sequence.{IsUsers}
-use Rattle.papaya_scenes.specs.Given.Seize.World.{World, Row, Hand, NoBlock, Making, InUse, Parting, Cutting, Event, Begin, Step, Makes, Drops, Links, Parts, Unlinks, Rewrites, Operates, Ends, LeavesOver, Relinks, Clears, Chooses, Happens, Runs, made_by, with_at}
-use Rattle.papaya_scenes.specs.Given.Seize.declared.progress.Progress.TheVariants as progress
+use Rattle.seize_acts.specs.Given.SeizeWords.declared.at.At.TheVariants.{Root}
+use Rattle.seize_acts.specs.Given.SeizeWords.Mem.{Mem, Took, value_at, word_at}
+use Rattle.seize_acts.specs.Given.SeizeWords.Op.{Out, Make, Found, Stored, Exchanged, Made, Taken, Roomed}
+use Rattle.seize_acts.specs.Given.Seize.Sequence.{IsUsers}
+use Rattle.seize_acts.specs.Given.Seize.World.{World, Row, Hand, NoBlock, Making, InUse, Parting, Cutting, Event, Begin, Step, Makes, Drops, Links, Parts, Unlinks, Rewrites, Operates, Ends, LeavesOver, Relinks, Clears, Chooses, Happens, Runs, made_by, with_at}
+use Rattle.seize_acts.specs.Given.Seize.declared.progress.Progress.TheVariants as progress
 use Rattle.seize_acts.specs.Reclaimed.{IsStillHad}
-use Rattle.papaya_scenes.proofs.Given.SeizeRule.Words.Named.{made_one}
-use Rattle.papaya_scenes.proofs.Given.SeizeRule.Words.There.{live_pos}
-use Rattle.papaya_scenes.proofs.Given.SeizeRule.World.Values.{own_op_value, made_value, rewritten_value, taken_value}
-use Rattle.papaya_scenes.proofs.Given.SeizeEnds.Batches.Rows.{made_memory}
-use Rattle.papaya_scenes.proofs.Given.SeizeAlone.Histories.NotTaken.{IsHad, kept_there}
-use Rattle.papaya_scenes.proofs.Given.SeizeAlone.Histories.Reached.{Reached, happens_reached}
-use Rattle.papaya_scenes.specs.Given.Tables.Nodes.{deferred_word}
-use Rattle.papaya_scenes.specs.Given.Tables.declared.node.Node.{Node}
-use Rattle.papaya_scenes.specs.Given.Resize.declared.new_map.NewMap.{NewMap}
-use Rattle.papaya_scenes.specs.Given.Tables.declared.setting.Setting.{Setting}
-use Rattle.papaya_scenes.specs.Given.Seize.declared.progress.Progress.{Progress}
-use Rattle.papaya_scenes.specs.Given.Rule.InWorld.{AllUsers, IsOut}
-use Rattle.papaya_scenes.proofs.Given.Rule.Words.LinksSeen.{link_some, root_leads}
-use Rattle.papaya_scenes.proofs.Given.Rule.World.Hands.{at_cases}
-use Rattle.papaya_scenes.specs.Given.Callers.Together.{UnderWay, Together}
-use Rattle.papaya_scenes.proofs.Given.Callers.Together.At.{at_other, at_same}
-use Rattle.papaya_scenes.proofs.Given.Callers.Together.Came.{came_reached}
-use Rattle.papaya_scenes.proofs.Given.Callers.Together.Users.{events_rows}
-use Rattle.papaya_scenes.specs.Given.Finishes.Endings.{Finishing, EndingsTogether}
-use Rattle.papaya_scenes.specs.Given.Finishes.Makings.{Beginning, IsFirstTable, StepsOfMaking}
-use Rattle.papaya_scenes.specs.Given.Finishes.Maps.{Standing, MapsTogether}
-use Rattle.papaya_reclaims.specs.Deferred.{IsLinkedTable}
+use Rattle.seize_acts.proofs.Given.SeizeRule.Words.Named.{made_one}
+use Rattle.seize_acts.proofs.Given.SeizeRule.Words.There.{live_pos}
+use Rattle.seize_acts.proofs.Given.SeizeRule.World.Values.{own_op_value, made_value, rewritten_value, taken_value}
+use Rattle.seize_acts.proofs.Given.SeizeEnds.Batches.Rows.{made_memory}
+use Rattle.seize_acts.proofs.Given.SeizeAlone.Histories.NotTaken.{IsHad, kept_there}
+use Rattle.seize_acts.proofs.Given.SeizeAlone.Histories.Reached.{Reached, happens_reached}
+use Rattle.papaya_acts.specs.Given.Tables.Nodes.{deferred_word}
+use Rattle.papaya_acts.specs.Given.Tables.declared.node.Node.{Node}
+use Rattle.papaya_acts.specs.Given.Resize.declared.new_map.NewMap.{NewMap}
+use Rattle.papaya_acts.specs.Given.Tables.declared.setting.Setting.{Setting}
+use Rattle.seize_acts.specs.Given.Seize.declared.progress.Progress.{Progress}
+use Rattle.papaya_acts.specs.Given.Rule.InWorld.{AllUsers, IsOut}
+use Rattle.papaya_acts.proofs.Given.Rule.Words.LinksSeen.{link_some, root_leads}
+use Rattle.papaya_acts.proofs.Given.Rule.World.Hands.{at_cases}
+use Rattle.papaya_acts.specs.Given.Callers.Together.{UnderWay, Together}
+use Rattle.papaya_acts.proofs.Given.Callers.Together.At.{at_other, at_same}
+use Rattle.papaya_acts.proofs.Given.Callers.Together.Came.{came_reached}
+use Rattle.papaya_acts.proofs.Given.Callers.Together.Users.{events_rows}
+use Rattle.papaya_acts.specs.Given.Finishes.Endings.{Finishing, EndingsTogether}
+use Rattle.papaya_acts.specs.Given.Finishes.Makings.{Beginning, IsFirstTable, StepsOfMaking}
+use Rattle.papaya_acts.specs.Given.Finishes.Maps.{Standing, MapsTogether}
+use Rattle.papaya_acts.specs.Given.Reclaims.Deferred.{IsLinkedTable}
 use Rattle.papaya_carries.specs.Promises.{MakingsKeepTheirs}
 use Rattle.papaya_carries.specs.Theirs.{CanCarry, IsTheirs, AllAreTheirs}
 use Rattle.papaya_carries.proofs.Calls.{users_of, out_of}

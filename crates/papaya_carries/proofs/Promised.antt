@@ -1,22 +1,22 @@
 -- A step of a call on one key that is none of a row leaves each block somebody's behind which something may be put.
 use Rattle.std.specs.Prelude.{Option, Some, None}
 use Rattle.std.proofs.Common.{◌≡◌, ℕ, Bool, inl, inr, ◌⊎◌, sym, subst}
-use Rattle.papaya_scenes.specs.Given.SeizeWords.Mem.{Mem}
-use Rattle.papaya_scenes.specs.Given.Seize.World.{World, Rests}
-use Rattle.papaya_scenes.specs.Given.Tables.declared.node.Node.{Node}
-use Rattle.papaya_scenes.specs.Given.Resize.declared.copier.Copier.{Copier}
-use Rattle.papaya_scenes.specs.Given.Raw.declared.machines.call.Calling.{Calling}
-use Rattle.papaya_scenes.specs.Given.Raw.declared.machines.call.Calling.TheVariants as at
-use Rattle.papaya_scenes.specs.Given.Points.FactsCalls.{Unchanged, CallFacts, CallingFacts}
-use Rattle.papaya_scenes.proofs.Given.Points.Steps.RootSteps.{root_stays}
-use Rattle.papaya_scenes.specs.Given.Late.LateCalls.{LateCallFacts, LateCalling}
-use Rattle.papaya_scenes.proofs.Given.Rule.World.RootSpared.{RootStays}
-use Rattle.papaya_alone.proofs.Handed.RootTurns.{first_kept}
-use Rattle.papaya_scenes.specs.Given.Callers.Sights.{seen_by}
-use Rattle.papaya_scenes.specs.Given.Callers.Together.{UnderWay, OnKey, CallOnKey, Knows, Stands, in_slot, next_of, change_told}
-use Rattle.papaya_scenes.specs.Given.Finishes.Endings.{Finishing}
-use Rattle.papaya_scenes.specs.Given.Finishes.Makings.{Beginning}
-use Rattle.papaya_scenes.specs.Given.Finishes.Maps.{Standing}
+use Rattle.seize_acts.specs.Given.SeizeWords.Mem.{Mem}
+use Rattle.seize_acts.specs.Given.Seize.World.{World, Rests}
+use Rattle.papaya_acts.specs.Given.Tables.declared.node.Node.{Node}
+use Rattle.papaya_acts.specs.Given.Resize.declared.copier.Copier.{Copier}
+use Rattle.papaya_acts.specs.Given.Raw.declared.machines.call.Calling.{Calling}
+use Rattle.papaya_acts.specs.Given.Raw.declared.machines.call.Calling.TheVariants as at
+use Rattle.papaya_acts.specs.Given.Points.FactsCalls.{Unchanged, CallFacts, CallingFacts}
+use Rattle.papaya_acts.proofs.Given.Points.Steps.RootSteps.{root_stays}
+use Rattle.papaya_acts.specs.Given.Late.LateCalls.{LateCallFacts, LateCalling}
+use Rattle.papaya_acts.proofs.Given.Rule.World.RootSpared.{RootStays}
+use Rattle.papaya_acts.proofs.Given.Alone.Handed.RootTurns.{first_kept}
+use Rattle.papaya_acts.specs.Given.Callers.Sights.{seen_by}
+use Rattle.papaya_acts.specs.Given.Callers.Together.{UnderWay, OnKey, CallOnKey, Knows, Stands, in_slot, next_of, change_told}
+use Rattle.papaya_acts.specs.Given.Finishes.Endings.{Finishing}
+use Rattle.papaya_acts.specs.Given.Finishes.Makings.{Beginning}
+use Rattle.papaya_acts.specs.Given.Finishes.Maps.{Standing}
 use Rattle.papaya_carries.specs.Promises.{CallsKeepTheirs}
 use Rattle.papaya_carries.specs.Theirs.{copier_of_call}
 use Rattle.papaya_carries.proofs.Inside.{it_is, call_copies, call_row, none_promotes}

@@ -2,25 +2,25 @@
 use Rattle.std.specs.Prelude.{Option, Some, None, Ok, Err, ◌==◌}
 use Rattle.std.specs.Option.{is_none}
 use Rattle.std.proofs.Common.{◌≡◌, ℕ, ◌<◌, ◌^◌, Bool, true, false, List, [], ◌∷◌, inl, inr, refl, arith, ap, subst, ◌∙◌}
-use Rattle.papaya_scenes.specs.Given.SeizeWords.Mem.{Mem, Can, Took, after, value_at, word_at}
-use Rattle.papaya_scenes.specs.Given.SeizeWords.Op.{Op, Out, Load, Store, Swap, Add, Or, Exchange, Make, Take, Rewrite, Room, Found, Stored, Exchanged, Made, Taken, Roomed}
-use Rattle.papaya_scenes.specs.Given.SeizeWords.Plan.{Plan, Turn, Do, May, Steps}
-use Rattle.papaya_scenes.specs.Given.Seize.ReclaimAll.{reclaim_all_plan}
-use Rattle.papaya_scenes.specs.Given.Seize.declared.rows.reclaim_all.ReclaimAll.{ReclaimAll}
-use Rattle.papaya_scenes.specs.Given.Seize.declared.rows.settle.Settled.{Settled}
-use Rattle.papaya_scenes.specs.Given.Seize.declared.rows.settle.Settled.TheVariants as settled
+use Rattle.seize_acts.specs.Given.SeizeWords.Mem.{Mem, Can, Took, after, value_at, word_at}
+use Rattle.seize_acts.specs.Given.SeizeWords.Op.{Op, Out, Load, Store, Swap, Add, Or, Exchange, Make, Take, Rewrite, Room, Found, Stored, Exchanged, Made, Taken, Roomed}
+use Rattle.seize_acts.specs.Given.SeizeWords.Plan.{Plan, Turn, Do, May, Steps}
+use Rattle.seize_acts.specs.Given.Seize.ReclaimAll.{reclaim_all_plan}
+use Rattle.seize_acts.specs.Given.Seize.declared.rows.reclaim_all.ReclaimAll.{ReclaimAll}
+use Rattle.seize_acts.specs.Given.Seize.declared.rows.settle.Settled.{Settled}
+use Rattle.seize_acts.specs.Given.Seize.declared.rows.settle.Settled.TheVariants as settled
 use Rattle.seize_acts.specs.Answers.{Grant, then_on, answer, compared, ends, exchanged, found, stored, taken, stepped}
 use Rattle.seize_acts.proofs.Answers.{was_stepped}
 use Rattle.seize_acts.proofs.Steps.{sees_end}
-use Rattle.papaya_scenes.specs.Given.Tables.Nodes.{deferred_word, was_left}
-use Rattle.papaya_scenes.specs.Given.Tables.declared.node.Node.{Node}
-use Rattle.papaya_scenes.proofs.Given.Finishes.Beside.Endings.Spares.{some_there}
-use Rattle.papaya_reclaims.specs.Ends.{ComesToEnd, Comes}
-use Rattle.papaya_reclaims.proofs.Ends.All.{reclaiming_ends}
+use Rattle.papaya_acts.specs.Given.Tables.Nodes.{deferred_word, was_left}
+use Rattle.papaya_acts.specs.Given.Tables.declared.node.Node.{Node}
+use Rattle.papaya_acts.proofs.Given.Finishes.Beside.Endings.Spares.{some_there}
+use Rattle.papaya_acts.specs.Given.Reclaims.Ends.{ComesToEnd, Comes}
+use Rattle.papaya_acts.proofs.Given.Reclaims.Ends.All.{reclaiming_ends}
 use Rattle.papaya_acts.specs.Reclaiming.{IsReclaimingAll, ReclaimedOn, reclaiming_steps}
 use Rattle.papaya_acts.proofs.Reclaiming.{reclaiming_is_by_acts}
 use Rattle.papaya_carries.specs.Lists.{ReclaimsTo, ReclaimingComesToEnd}
-use Rattle.papaya_scenes.specs.Scene.{Scene}
+use Rattle.papaya_acts.specs.Given.Scenes.Scene.{Scene}
 
 module _ {T : Type 0} (m : Mem T) where
   abbrev Answered : Op T → Type 0

@@ -1,27 +1,27 @@
 -- Whose a block is that users have, and behind which something may be put, while a caller reclaims all; and what waits at its end.
 use Rattle.std.specs.Prelude.{Option}
 use Rattle.std.proofs.Common.{◌≡◌, ℕ, Bool, List, [], ◌∷◌, inl, inr, ◌⊎◌, ap, subst, ◌∙◌}
-use Rattle.papaya_scenes.specs.Given.SeizeWords.declared.at.At.{At}
-use Rattle.papaya_scenes.specs.Given.SeizeWords.declared.at.At.TheVariants.{Root, Used}
-use Rattle.papaya_scenes.specs.Given.SeizeWords.Mem.{Mem, value_at}
-use Rattle.papaya_scenes.specs.Given.SeizeWords.Op.{Store}
-use Rattle.papaya_scenes.specs.Given.Seize.World.{World, Hand, NoBlock, Request, Register', Enter', Leave', LeaveOwned, Refresh, Unregister', Retire, Flush, Defer', Event, Begin, Step, Happens, Runs, with_at}
+use Rattle.seize_acts.specs.Given.SeizeWords.declared.at.At.{At}
+use Rattle.seize_acts.specs.Given.SeizeWords.declared.at.At.TheVariants.{Root, Used}
+use Rattle.seize_acts.specs.Given.SeizeWords.Mem.{Mem, value_at}
+use Rattle.seize_acts.specs.Given.SeizeWords.Op.{Store}
+use Rattle.seize_acts.specs.Given.Seize.World.{World, Hand, NoBlock, Request, Register', Enter', Leave', LeaveOwned, Refresh, Unregister', Retire, Flush, Defer', Event, Begin, Step, Happens, Runs, with_at}
 use Rattle.seize_acts.specs.Reclaimed.{IsStillHad}
-use Rattle.papaya_scenes.proofs.Given.SeizeEnds.Batches.Rows.{begins_memory}
-use Rattle.papaya_scenes.proofs.Given.SeizeRule.World.Values.{own_op_value, taken_value}
-use Rattle.papaya_scenes.proofs.Given.SeizeAlone.Histories.Reached.{Reached, happens_reached}
-use Rattle.papaya_scenes.specs.Given.Tables.Nodes.{deferred_word}
-use Rattle.papaya_scenes.specs.Given.Tables.declared.node.Node.{Node}
-use Rattle.papaya_scenes.proofs.Given.Rule.World.Hands.{at_cases}
-use Rattle.papaya_scenes.specs.Given.Callers.Together.{UnderWay, IsOfSlots}
-use Rattle.papaya_scenes.proofs.Given.Callers.Rows.Beside.{users_value}
-use Rattle.papaya_scenes.proofs.Given.Callers.Together.Came.{came_reached}
-use Rattle.papaya_scenes.specs.Given.Finishes.Endings.{Finishing}
-use Rattle.papaya_scenes.specs.Given.Finishes.FactsEnds.{TakesLeft, WritesRoot, events_of}
-use Rattle.papaya_scenes.specs.Given.Finishes.Makings.{Beginning}
-use Rattle.papaya_scenes.specs.Given.Finishes.Maps.{Standing}
-use Rattle.papaya_reclaims.specs.Slots.{IsForSlots, AreItsRows}
-use Rattle.papaya_reclaims.proofs.Behind.Deferred.{waits_on_tables}
+use Rattle.seize_acts.proofs.Given.SeizeEnds.Batches.Rows.{begins_memory}
+use Rattle.seize_acts.proofs.Given.SeizeRule.World.Values.{own_op_value, taken_value}
+use Rattle.seize_acts.proofs.Given.SeizeAlone.Histories.Reached.{Reached, happens_reached}
+use Rattle.papaya_acts.specs.Given.Tables.Nodes.{deferred_word}
+use Rattle.papaya_acts.specs.Given.Tables.declared.node.Node.{Node}
+use Rattle.papaya_acts.proofs.Given.Rule.World.Hands.{at_cases}
+use Rattle.papaya_acts.specs.Given.Callers.Together.{UnderWay, IsOfSlots}
+use Rattle.papaya_acts.proofs.Given.Callers.Rows.Beside.{users_value}
+use Rattle.papaya_acts.proofs.Given.Callers.Together.Came.{came_reached}
+use Rattle.papaya_acts.specs.Given.Finishes.Endings.{Finishing}
+use Rattle.papaya_acts.specs.Given.Finishes.FactsEnds.{TakesLeft, WritesRoot, events_of}
+use Rattle.papaya_acts.specs.Given.Finishes.Makings.{Beginning}
+use Rattle.papaya_acts.specs.Given.Finishes.Maps.{Standing}
+use Rattle.papaya_acts.specs.Given.Reclaims.Slots.{IsForSlots, AreItsRows}
+use Rattle.papaya_acts.proofs.Given.Reclaims.Behind.Deferred.{waits_on_tables}
 use Rattle.papaya_carries.specs.Promises.{ReclaimingKeepsTheirs, NothingElseWaits}
 use Rattle.papaya_carries.proofs.Guards.{users_own, theirs_same, can_back, only_tables_carry}
 use Rattle.papaya_carries.proofs.Hands.{begun_same, still_row}

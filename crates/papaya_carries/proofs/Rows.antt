@@ -2,26 +2,26 @@
 use Rattle.std.specs.Prelude.{◌≢◌, ◌*◌, ◌==◌, if◌then◌else◌}
 use Rattle.std.proofs.Common.{◌≡◌, ℕ, Bool, true, false, refl, arith, sym, subst}
 use Rattle.std.proofs.lemmas.Bool.{ne_eqb}
-use Rattle.papaya_scenes.specs.Given.SeizeWords.Mem.{Mem, Took, value_at}
-use Rattle.papaya_scenes.specs.Given.SeizeWords.Plan.{Steps}
-use Rattle.papaya_scenes.specs.Given.Seize.Settle.{settle_plan}
-use Rattle.papaya_scenes.specs.Given.Seize.World.{Row, Settles}
-use Rattle.papaya_scenes.specs.Given.Seize.declared.rows.settle.Settle.{Settle}
-use Rattle.papaya_scenes.specs.Given.Seize.declared.rows.settle.Settled.{Settled}
-use Rattle.papaya_scenes.specs.Given.Seize.declared.rows.settle.Settled.TheVariants as settled
-use Rattle.papaya_scenes.proofs.Given.SeizeRule.Rows.Leaving.{steps_back}
-use Rattle.papaya_scenes.specs.Given.Tables.Nodes.{deferred_word}
-use Rattle.papaya_scenes.specs.Given.Tables.declared.node.Node.{Node}
-use Rattle.papaya_scenes.specs.Given.Tables.declared.table.Table.{Table}
-use Rattle.papaya_scenes.specs.Given.Resize.Copier.{plan_at as copier_plan_at}
-use Rattle.papaya_scenes.specs.Given.Resize.CopierPromotes.{retired}
-use Rattle.papaya_scenes.specs.Given.Resize.CopierStates.{standing}
-use Rattle.papaya_scenes.specs.Given.Resize.declared.copier.Copier.{Copier}
-use Rattle.papaya_scenes.specs.Given.Resize.declared.copier.Copying.{Copying}
-use Rattle.papaya_scenes.specs.Given.Resize.declared.copier.Copying.TheVariants as copies
-use Rattle.papaya_scenes.specs.Given.Resize.declared.outcome.Outcome.{Outcome}
-use Rattle.papaya_scenes.specs.Given.Points.Told.{IsRowOfCopier}
-use Rattle.papaya_scenes.specs.Given.Callers.Rows.{row_of_copier}
+use Rattle.seize_acts.specs.Given.SeizeWords.Mem.{Mem, Took, value_at}
+use Rattle.seize_acts.specs.Given.SeizeWords.Plan.{Steps}
+use Rattle.seize_acts.specs.Given.Seize.Settle.{settle_plan}
+use Rattle.seize_acts.specs.Given.Seize.World.{Row, Settles}
+use Rattle.seize_acts.specs.Given.Seize.declared.rows.settle.Settle.{Settle}
+use Rattle.seize_acts.specs.Given.Seize.declared.rows.settle.Settled.{Settled}
+use Rattle.seize_acts.specs.Given.Seize.declared.rows.settle.Settled.TheVariants as settled
+use Rattle.seize_acts.proofs.Given.SeizeRule.Rows.Leaving.{steps_back}
+use Rattle.papaya_acts.specs.Given.Tables.Nodes.{deferred_word}
+use Rattle.papaya_acts.specs.Given.Tables.declared.node.Node.{Node}
+use Rattle.papaya_acts.specs.Given.Tables.declared.table.Table.{Table}
+use Rattle.papaya_acts.specs.Given.Resize.Copier.{plan_at as copier_plan_at}
+use Rattle.papaya_acts.specs.Given.Resize.CopierPromotes.{retired}
+use Rattle.papaya_acts.specs.Given.Resize.CopierStates.{standing}
+use Rattle.papaya_acts.specs.Given.Resize.declared.copier.Copier.{Copier}
+use Rattle.papaya_acts.specs.Given.Resize.declared.copier.Copying.{Copying}
+use Rattle.papaya_acts.specs.Given.Resize.declared.copier.Copying.TheVariants as copies
+use Rattle.papaya_acts.specs.Given.Resize.declared.outcome.Outcome.{Outcome}
+use Rattle.papaya_acts.specs.Given.Points.Told.{IsRowOfCopier}
+use Rattle.papaya_acts.specs.Given.Callers.Rows.{row_of_copier}
 use Rattle.papaya_carries.specs.Theirs.{IsDueAt, IsAhead, next_of_them}
 use Rattle.papaya_carries.proofs.FirstSteps.{IsRetiring, retires_first}
 use Rattle.papaya_carries.proofs.Inside.{IsOn}

@@ -1,23 +1,23 @@
 -- What the definitions refuse: a table that a call has unlinked and forgotten, one that its copier has come past, and rest while a map is made.
 use Rattle.std.specs.Prelude.{◌≢◌, ◌*◌, Option, Some, None}
 use Rattle.std.proofs.Common.{◌≡◌, ◌+◌, ◌≤◌, ℕ, Bool, true, List, [], inl, inr, refl, arith, ap, sym, subst, ◌∙◌}
-use Rattle.papaya_scenes.specs.Given.SeizeWords.Mem.{value_at}
-use Rattle.papaya_scenes.specs.Given.Seize.declared.rows.reclaim_all.ReclaimAll.{ReclaimAll}
-use Rattle.papaya_scenes.specs.Given.Seize.World.{World, Cutting, with_at}
+use Rattle.seize_acts.specs.Given.SeizeWords.Mem.{value_at}
+use Rattle.seize_acts.specs.Given.Seize.declared.rows.reclaim_all.ReclaimAll.{ReclaimAll}
+use Rattle.seize_acts.specs.Given.Seize.World.{World, Cutting, with_at}
 use Rattle.seize_acts.specs.Reclaimed.{IsStillHad}
-use Rattle.papaya_scenes.specs.Given.Tables.Chunks.{is_incremental}
-use Rattle.papaya_scenes.specs.Given.Tables.Nodes.{deferred_word}
-use Rattle.papaya_scenes.specs.Given.Tables.declared.node.Node.{Node}
-use Rattle.papaya_scenes.specs.Given.Resize.declared.copier.Copier.{Copier}
-use Rattle.papaya_scenes.specs.Given.Resize.declared.copier.Copying.{Copying}
-use Rattle.papaya_scenes.specs.Given.Resize.declared.copier.Copying.TheVariants as copies
-use Rattle.papaya_scenes.specs.Given.Callers.Together.{UnderWay}
-use Rattle.papaya_scenes.specs.Given.Finishes.Makings.{Beginning}
-use Rattle.papaya_scenes.specs.Given.Finishes.Maps.{Standing}
+use Rattle.papaya_acts.specs.Given.Tables.Chunks.{is_incremental}
+use Rattle.papaya_acts.specs.Given.Tables.Nodes.{deferred_word}
+use Rattle.papaya_acts.specs.Given.Tables.declared.node.Node.{Node}
+use Rattle.papaya_acts.specs.Given.Resize.declared.copier.Copier.{Copier}
+use Rattle.papaya_acts.specs.Given.Resize.declared.copier.Copying.{Copying}
+use Rattle.papaya_acts.specs.Given.Resize.declared.copier.Copying.TheVariants as copies
+use Rattle.papaya_acts.specs.Given.Callers.Together.{UnderWay}
+use Rattle.papaya_acts.specs.Given.Finishes.Makings.{Beginning}
+use Rattle.papaya_acts.specs.Given.Finishes.Maps.{Standing}
 use Rattle.papaya_carries.specs.Lists.{IsAtRest, ReclaimsTo}
 use Rattle.papaya_carries.specs.Theirs.{IsDueAt, next_of_them, IsAhead, IsToCome, copier_of, IsToHandOver, Owes, IsTheirs, AllAreTheirs}
 use Rattle.papaya_carries.proofs.Owed.{one_some}
-use Rattle.papaya_scenes.specs.Scene.{Scene, at_first}
+use Rattle.papaya_acts.specs.Given.Scenes.Scene.{Scene, at_first}
 
 module _ {K V Q : Type 0} (w : World (Node K V)) (maps : ℕ → Option (Standing K)) (b field i : ℕ) (value : Node K V)
     (cut : w.hand b ≡ Cutting i) (there : value_at w.memory b ≡ Some value) (has_list : deferred_word value ≡ Some field)

@@ -2,25 +2,25 @@
 -- it, or leaves the root's table.
 use Rattle.std.specs.Prelude.{Option, Some, None}
 use Rattle.std.proofs.Common.{◌≡◌, ℕ, ◌<◌, ◌≤◌, Bool, false, inl, inr, refl, arith, ap, sym, subst, ◌∙◌}
-use Rattle.papaya_scenes.specs.Given.SeizeWords.Mem.{Mem, Took, value_at}
-use Rattle.papaya_scenes.specs.Given.SeizeWords.Plan.{Steps}
-use Rattle.papaya_scenes.specs.Given.Seize.World.{World, Rests, IsInside}
-use Rattle.papaya_scenes.specs.Given.Tables.Chunks.{is_incremental}
-use Rattle.papaya_scenes.specs.Given.Tables.declared.node.Node.{Node}
-use Rattle.papaya_scenes.specs.Given.Tables.declared.table.Table.{Table}
-use Rattle.papaya_scenes.specs.Given.Resize.Copier.{copier_plan}
-use Rattle.papaya_scenes.specs.Given.Resize.declared.copier.Copier.{Copier}
-use Rattle.papaya_scenes.specs.Given.Resize.declared.outcome.Outcome.{Outcome}
-use Rattle.papaya_scenes.specs.Given.Rule.Chart.{Chart}
-use Rattle.papaya_scenes.specs.Given.Rule.InWorld.{IsMapIn, Went}
-use Rattle.papaya_scenes.specs.Given.Rule.Words.{Blocks}
-use Rattle.papaya_scenes.specs.Given.Points.Told.{IsRowOfCopier}
-use Rattle.papaya_scenes.specs.Given.Callers.Sights.{Sight, IsGrown, seen_by}
-use Rattle.papaya_scenes.specs.Given.Callers.Together.{UnderWay, in_slot}
-use Rattle.papaya_scenes.proofs.Given.Callers.Sights.Seen.{map_seen}
-use Rattle.papaya_scenes.proofs.Given.Callers.Together.Fits.{map_in_slot}
-use Rattle.papaya_scenes.specs.Given.Finishes.Endings.{Finishing}
-use Rattle.papaya_scenes.specs.Given.Finishes.Maps.{Standing, MapsTogether}
+use Rattle.seize_acts.specs.Given.SeizeWords.Mem.{Mem, Took, value_at}
+use Rattle.seize_acts.specs.Given.SeizeWords.Plan.{Steps}
+use Rattle.seize_acts.specs.Given.Seize.World.{World, Rests, IsInside}
+use Rattle.papaya_acts.specs.Given.Tables.Chunks.{is_incremental}
+use Rattle.papaya_acts.specs.Given.Tables.declared.node.Node.{Node}
+use Rattle.papaya_acts.specs.Given.Tables.declared.table.Table.{Table}
+use Rattle.papaya_acts.specs.Given.Resize.Copier.{copier_plan}
+use Rattle.papaya_acts.specs.Given.Resize.declared.copier.Copier.{Copier}
+use Rattle.papaya_acts.specs.Given.Resize.declared.outcome.Outcome.{Outcome}
+use Rattle.papaya_acts.specs.Given.Rule.Chart.{Chart}
+use Rattle.papaya_acts.specs.Given.Rule.InWorld.{IsMapIn, Went}
+use Rattle.papaya_acts.specs.Given.Rule.Words.{Blocks}
+use Rattle.papaya_acts.specs.Given.Points.Told.{IsRowOfCopier}
+use Rattle.papaya_acts.specs.Given.Callers.Sights.{Sight, IsGrown, seen_by}
+use Rattle.papaya_acts.specs.Given.Callers.Together.{UnderWay, in_slot}
+use Rattle.papaya_acts.proofs.Given.Callers.Sights.Seen.{map_seen}
+use Rattle.papaya_acts.proofs.Given.Callers.Together.Fits.{map_in_slot}
+use Rattle.papaya_acts.specs.Given.Finishes.Endings.{Finishing}
+use Rattle.papaya_acts.specs.Given.Finishes.Maps.{Standing, MapsTogether}
 use Rattle.papaya_carries.specs.Theirs.{IsAhead, next_of_them, copier_of, IsToHandOver, AllAreTheirs}
 use Rattle.papaya_carries.proofs.Calls.{Due, calls2, maps2, owes_after, went_theirs}
 use Rattle.papaya_carries.proofs.Copiers.{GoesOwing, IsItsNext, copier_left, copier_stays}

@@ -1,21 +1,21 @@
 -- A step of a sweep that is none of a row leaves each block somebody's behind which something may be put.
 use Rattle.std.specs.Prelude.{Option, Some}
 use Rattle.std.proofs.Common.{◌≡◌, ℕ, Bool, inl, inr, ap, subst}
-use Rattle.papaya_scenes.specs.Given.Seize.World.{World, Rests}
-use Rattle.papaya_scenes.specs.Given.Tables.declared.node.Node.{Node}
-use Rattle.papaya_scenes.specs.Given.Tables.declared.resize_mode.ResizeMode.{ResizeMode}
-use Rattle.papaya_scenes.specs.Given.Resize.declared.copier.Copier.{Copier}
-use Rattle.papaya_scenes.specs.Given.Sweeps.declared.sweep.Sweeping.{Sweeping}
-use Rattle.papaya_scenes.specs.Given.Sweeps.declared.sweep.Sweeping.TheVariants as sweeping
-use Rattle.papaya_scenes.specs.Given.Rule.Chart.{Chart}
-use Rattle.papaya_scenes.specs.Given.Late.FactsSweeps.{CopiesTable, SweepingFacts}
-use Rattle.papaya_scenes.specs.Given.Late.ToldSweeps.{OnlyRemoves}
-use Rattle.papaya_scenes.specs.Given.Callers.OverAll.{CallOverAll, come_to}
-use Rattle.papaya_scenes.specs.Given.Callers.Sights.{seen_by}
-use Rattle.papaya_scenes.specs.Given.Callers.Together.{UnderWay, OverAll, KnowsSweep, Stands, in_slot, next_over_all}
-use Rattle.papaya_scenes.specs.Given.Finishes.Endings.{Finishing}
-use Rattle.papaya_scenes.specs.Given.Finishes.Makings.{Beginning}
-use Rattle.papaya_scenes.specs.Given.Finishes.Maps.{Standing}
+use Rattle.seize_acts.specs.Given.Seize.World.{World, Rests}
+use Rattle.papaya_acts.specs.Given.Tables.declared.node.Node.{Node}
+use Rattle.papaya_acts.specs.Given.Tables.declared.resize_mode.ResizeMode.{ResizeMode}
+use Rattle.papaya_acts.specs.Given.Resize.declared.copier.Copier.{Copier}
+use Rattle.papaya_acts.specs.Given.Sweeps.declared.sweep.Sweeping.{Sweeping}
+use Rattle.papaya_acts.specs.Given.Sweeps.declared.sweep.Sweeping.TheVariants as sweeping
+use Rattle.papaya_acts.specs.Given.Rule.Chart.{Chart}
+use Rattle.papaya_acts.specs.Given.Late.FactsSweeps.{CopiesTable, SweepingFacts}
+use Rattle.papaya_acts.specs.Given.Late.ToldSweeps.{OnlyRemoves}
+use Rattle.papaya_acts.specs.Given.Callers.OverAll.{CallOverAll, come_to}
+use Rattle.papaya_acts.specs.Given.Callers.Sights.{seen_by}
+use Rattle.papaya_acts.specs.Given.Callers.Together.{UnderWay, OverAll, KnowsSweep, Stands, in_slot, next_over_all}
+use Rattle.papaya_acts.specs.Given.Finishes.Endings.{Finishing}
+use Rattle.papaya_acts.specs.Given.Finishes.Makings.{Beginning}
+use Rattle.papaya_acts.specs.Given.Finishes.Maps.{Standing}
 use Rattle.papaya_carries.specs.Promises.{SweepsKeepTheirs}
 use Rattle.papaya_carries.specs.Theirs.{copier_of_sweep}
 use Rattle.papaya_carries.proofs.Inside.{it_is, sweep_copies, sweep_row, sweep_without}

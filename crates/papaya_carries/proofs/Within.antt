@@ -2,39 +2,39 @@
 use Rattle.std.specs.Prelude.{◌≢◌, ◌*◌, Option, Some}
 use Rattle.std.proofs.Common.{◌≡◌, ℕ, Bool, ◌⊎◌, inl, inr, refl, arith, ap, sym, subst, ◌∙◌}
 use Rattle.std.proofs.lemmas.Bool.{cases_eq}
-use Rattle.papaya_scenes.specs.Given.SeizeWords.Mem.{Mem, Took, value_at}
-use Rattle.papaya_scenes.specs.Given.SeizeWords.Plan.{Steps}
-use Rattle.papaya_scenes.specs.Given.SeizeWords.Word.{link_to}
-use Rattle.papaya_scenes.specs.Given.Seize.Defer.{deferring}
-use Rattle.papaya_scenes.specs.Given.Seize.Settle.{retiring}
-use Rattle.papaya_scenes.specs.Given.Seize.World.{World, Row, Rests, Settles, Defers, Hand, Handed, Request, Register', Enter', Leave', LeaveOwned, Refresh, Unregister', Retire, Flush, Defer', Begin, Step, Steps', Happens, with_at}
-use Rattle.papaya_scenes.specs.Given.Seize.declared.rows.defer.Defer.{Defer}
-use Rattle.papaya_scenes.specs.Given.Seize.declared.rows.settle.Settle.{Settle}
+use Rattle.seize_acts.specs.Given.SeizeWords.Mem.{Mem, Took, value_at}
+use Rattle.seize_acts.specs.Given.SeizeWords.Plan.{Steps}
+use Rattle.seize_acts.specs.Given.SeizeWords.Word.{link_to}
+use Rattle.seize_acts.specs.Given.Seize.Defer.{deferring}
+use Rattle.seize_acts.specs.Given.Seize.Settle.{retiring}
+use Rattle.seize_acts.specs.Given.Seize.World.{World, Row, Rests, Settles, Defers, Hand, Handed, Request, Register', Enter', Leave', LeaveOwned, Refresh, Unregister', Retire, Flush, Defer', Begin, Step, Steps', Happens, with_at}
+use Rattle.seize_acts.specs.Given.Seize.declared.rows.defer.Defer.{Defer}
+use Rattle.seize_acts.specs.Given.Seize.declared.rows.settle.Settle.{Settle}
 use Rattle.seize_acts.specs.Reclaimed.{IsStillHad}
-use Rattle.papaya_scenes.proofs.Given.SeizeRule.Rows.Others.{with_here, begins_others, steps_others}
-use Rattle.papaya_scenes.proofs.Given.SeizeEnds.Batches.Rows.{begins_memory}
-use Rattle.papaya_scenes.proofs.Given.SeizeAlone.Histories.Reached.{Reached, happens_reached}
-use Rattle.papaya_scenes.specs.Given.Tables.Nodes.{deferred_word}
-use Rattle.papaya_scenes.specs.Given.Tables.declared.node.Node.{Node}
-use Rattle.papaya_scenes.specs.Given.Tables.declared.setting.Setting.{Setting}
-use Rattle.papaya_scenes.specs.Given.Tables.declared.table.Table.{Table}
-use Rattle.papaya_scenes.specs.Given.Resize.Copier.{copier_plan}
-use Rattle.papaya_scenes.specs.Given.Resize.declared.copier.Copier.{Copier}
-use Rattle.papaya_scenes.specs.Given.Resize.declared.outcome.Outcome.{Outcome}
-use Rattle.papaya_scenes.specs.Given.Points.Told.{IsRowOfCopier}
-use Rattle.papaya_scenes.proofs.Given.Rule.World.Hands.{at_cases}
-use Rattle.papaya_scenes.specs.Given.Callers.OverAll.{gone_on, row_of_sweep}
-use Rattle.papaya_scenes.specs.Given.Callers.Rooms.{CallForRoom, row_of_room}
-use Rattle.papaya_scenes.specs.Given.Callers.Rows.{row_of, row_of_copier}
-use Rattle.papaya_scenes.specs.Given.Callers.Sights.{seen_by}
-use Rattle.papaya_scenes.specs.Given.Callers.Together.{UnderWay, OnKey, ForRoom, OverAll, CallOnKey, HandsOver, IsOneStep, Stands, next_of, next_for_room, next_over_all}
-use Rattle.papaya_scenes.proofs.Given.Callers.Rows.Beside.{users_value}
-use Rattle.papaya_scenes.proofs.Given.Callers.Together.At.{at_same}
-use Rattle.papaya_scenes.proofs.Given.Callers.Together.Came.{came_reached}
-use Rattle.papaya_scenes.specs.Given.Finishes.Endings.{Finishing, EndingsTogether}
-use Rattle.papaya_scenes.specs.Given.Finishes.Makings.{Beginning}
-use Rattle.papaya_scenes.specs.Given.Finishes.Maps.{Standing, IsSameMap, with_call}
-use Rattle.papaya_scenes.proofs.Given.Finishes.Beside.Maps.Steps.{no_other}
+use Rattle.seize_acts.proofs.Given.SeizeRule.Rows.Others.{with_here, begins_others, steps_others}
+use Rattle.seize_acts.proofs.Given.SeizeEnds.Batches.Rows.{begins_memory}
+use Rattle.seize_acts.proofs.Given.SeizeAlone.Histories.Reached.{Reached, happens_reached}
+use Rattle.papaya_acts.specs.Given.Tables.Nodes.{deferred_word}
+use Rattle.papaya_acts.specs.Given.Tables.declared.node.Node.{Node}
+use Rattle.papaya_acts.specs.Given.Tables.declared.setting.Setting.{Setting}
+use Rattle.papaya_acts.specs.Given.Tables.declared.table.Table.{Table}
+use Rattle.papaya_acts.specs.Given.Resize.Copier.{copier_plan}
+use Rattle.papaya_acts.specs.Given.Resize.declared.copier.Copier.{Copier}
+use Rattle.papaya_acts.specs.Given.Resize.declared.outcome.Outcome.{Outcome}
+use Rattle.papaya_acts.specs.Given.Points.Told.{IsRowOfCopier}
+use Rattle.papaya_acts.proofs.Given.Rule.World.Hands.{at_cases}
+use Rattle.papaya_acts.specs.Given.Callers.OverAll.{gone_on, row_of_sweep}
+use Rattle.papaya_acts.specs.Given.Callers.Rooms.{CallForRoom, row_of_room}
+use Rattle.papaya_acts.specs.Given.Callers.Rows.{row_of, row_of_copier}
+use Rattle.papaya_acts.specs.Given.Callers.Sights.{seen_by}
+use Rattle.papaya_acts.specs.Given.Callers.Together.{UnderWay, OnKey, ForRoom, OverAll, CallOnKey, HandsOver, IsOneStep, Stands, next_of, next_for_room, next_over_all}
+use Rattle.papaya_acts.proofs.Given.Callers.Rows.Beside.{users_value}
+use Rattle.papaya_acts.proofs.Given.Callers.Together.At.{at_same}
+use Rattle.papaya_acts.proofs.Given.Callers.Together.Came.{came_reached}
+use Rattle.papaya_acts.specs.Given.Finishes.Endings.{Finishing, EndingsTogether}
+use Rattle.papaya_acts.specs.Given.Finishes.Makings.{Beginning}
+use Rattle.papaya_acts.specs.Given.Finishes.Maps.{Standing, IsSameMap, with_call}
+use Rattle.papaya_acts.proofs.Given.Finishes.Beside.Maps.Steps.{no_other}
 use Rattle.papaya_carries.specs.Promises.{RowsKeepTheirs, RoomRowsKeepTheirs, SweepRowsKeepTheirs}
 use Rattle.papaya_carries.specs.Theirs.{IsDueAt, copier_of_call, copier_of_room, copier_of_sweep, copier_of, IsToHandOver, AllAreTheirs}
 use Rattle.papaya_carries.proofs.FirstSteps.{row_retires, row_defers}

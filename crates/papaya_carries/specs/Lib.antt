@@ -1,3 +1,4 @@
 pub mod Theirs
 pub mod Promises
 pub mod Lists
+pub mod Given

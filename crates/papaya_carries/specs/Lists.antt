@@ -1,25 +1,25 @@
 -- What is promised of lists of acts: after any of them each block behind which something may be put is somebody's, what ended maps have left is behind roots
 -- that are nobody's, and once a caller has reclaimed all, nothing waits but pairs that are deferred on linked tables.
 use Rattle.std.specs.Prelude.{◌≡◌, ◌⊎◌, ℕ, ◌<◌, ◌^◌, Bool, List, [], ◌∷◌, ◌++◌, None, IsSome}
-use Rattle.papaya_scenes.specs.Given.SeizeWords.declared.at.At.TheVariants.{Slot}
-use Rattle.papaya_scenes.specs.Given.SeizeWords.Mem.{word_at}
-use Rattle.papaya_scenes.specs.Given.Seize.ReclaimAll.{reclaiming_all, clearing}
-use Rattle.papaya_scenes.specs.Given.Seize.declared.rows.reclaim_all.ReclaimAll.{ReclaimAll}
-use Rattle.papaya_scenes.specs.Given.Seize.declared.rows.settle.Settled.{Settled}
-use Rattle.papaya_scenes.specs.Given.Seize.declared.rows.settle.Settled.TheVariants as settled
-use Rattle.papaya_scenes.specs.Given.Seize.declared.states.TheConstants.{HEAD}
+use Rattle.seize_acts.specs.Given.SeizeWords.declared.at.At.TheVariants.{Slot}
+use Rattle.seize_acts.specs.Given.SeizeWords.Mem.{word_at}
+use Rattle.seize_acts.specs.Given.Seize.ReclaimAll.{reclaiming_all, clearing}
+use Rattle.seize_acts.specs.Given.Seize.declared.rows.reclaim_all.ReclaimAll.{ReclaimAll}
+use Rattle.seize_acts.specs.Given.Seize.declared.rows.settle.Settled.{Settled}
+use Rattle.seize_acts.specs.Given.Seize.declared.rows.settle.Settled.TheVariants as settled
+use Rattle.seize_acts.specs.Given.Seize.declared.states.TheConstants.{HEAD}
 use Rattle.seize_acts.specs.Answers.{Grant}
-use Rattle.papaya_scenes.specs.Given.Tables.declared.node.Node.{Node}
-use Rattle.papaya_reclaims.specs.Deferred.{OnlyPairsWait}
-use Rattle.papaya_reclaims.specs.Reclaims.{AllIsReclaimed}
-use Rattle.papaya_reclaims.specs.Slots.{AllRest, IsQuiet}
+use Rattle.papaya_acts.specs.Given.Tables.declared.node.Node.{Node}
+use Rattle.papaya_acts.specs.Given.Reclaims.Deferred.{OnlyPairsWait}
+use Rattle.papaya_acts.specs.Given.Reclaims.Reclaims.{AllIsReclaimed}
+use Rattle.papaya_acts.specs.Given.Reclaims.Slots.{AllRest, IsQuiet}
 use Rattle.papaya_acts.specs.Acts.{Act, Answer}
 use Rattle.papaya_acts.specs.Doings.{Doing, StepsReclaiming, MayDo, reclaiming}
 use Rattle.papaya_acts.specs.Leads.{MayBe, AllStand, Led}
 use Rattle.papaya_acts.specs.Lists.{Course, Reached, LedTo, on_by}
 use Rattle.papaya_acts.specs.Reclaiming.{IsReclaimingAll, ReclaimedOn}
 use Rattle.papaya_carries.specs.Theirs.{AllAreTheirs}
-use Rattle.papaya_scenes.specs.Scene.{Scene}
+use Rattle.papaya_acts.specs.Given.Scenes.Scene.{Scene}
 
 -- all that a scene has is somebody's
 abbrev pub AreTheirs : {K V : Type 0} → Scene K V → Type 0

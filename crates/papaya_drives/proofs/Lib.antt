@@ -3,3 +3,4 @@ pub mod Told
 mod Wherever
 mod May
 pub mod Executors
+pub mod Given

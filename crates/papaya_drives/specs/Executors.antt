@@ -1,57 +1,57 @@
 -- What an executor does, it does by acts: where it is, its acts have led. All its maps have its hasher.
 use Rattle.std.specs.Prelude.{◌≡◌, ℕ, ◌+◌, ◌<◌, ◌≤◌, ◌^◌, length, max, Bool, None, Some, Result}
 use Rattle.std.specs.Int.{IsPowerOfTwo}
-use Rattle.papaya_scenes.specs.Given.Seize.declared.progress.Progress.{Progress}
-use Rattle.papaya_scenes.specs.Given.Seize.declared.rows.settle.Settled.{Settled}
-use Rattle.seize_acts.specs.Answers.{Grant, stepped}
-use Rattle.papaya_scenes.specs.Given.SeizeWords.Plan.{Plan}
-use Rattle.papaya_scenes.specs.Given.Seize.Enter.{enter_plan, unregister_plan}
-use Rattle.papaya_scenes.specs.Given.Seize.Leave.{leave_plan}
-use Rattle.papaya_scenes.specs.Given.Seize.Register.{register_plan}
-use Rattle.papaya_scenes.specs.Given.Seize.Settle.{settle_plan}
-use Rattle.papaya_scenes.specs.Given.Seize.declared.rows.enter.Enter.{Enter}
-use Rattle.papaya_scenes.specs.Given.Seize.declared.rows.enter.Unregister.{Unregister}
-use Rattle.papaya_scenes.specs.Given.Seize.declared.rows.leave.Leave.{Leave}
-use Rattle.papaya_scenes.specs.Given.Seize.declared.rows.register.Register.{Register}
-use Rattle.papaya_scenes.specs.Given.Seize.declared.rows.settle.Settle.{Settle}
-use Rattle.papaya_scenes.specs.Given.Tables.Nodes.{deferred_word}
-use Rattle.papaya_scenes.specs.Given.Resize.NewMap.{new_map_plan}
-use Rattle.papaya_scenes.specs.Given.Raw.EndMap.{end_map_plan}
-use Rattle.papaya_scenes.specs.Given.Raw.Machine.{machine_plan}
-use Rattle.papaya_scenes.specs.Given.Tables.Lengths.{IsTableLen}
-use Rattle.papaya_scenes.specs.Given.Tables.declared.node.Node.{Node}
-use Rattle.papaya_scenes.specs.Given.Tables.declared.setting.Setting.{Setting}
-use Rattle.papaya_scenes.specs.Given.Raw.declared.machines.asking.Reply.{Reply}
-use Rattle.papaya_scenes.specs.Given.Raw.declared.machines.machine.Machine.{Machine}
-use Rattle.papaya_scenes.specs.Given.Raw.declared.machines.progress.Progress.{Progress as CallProgress}
-use Rattle.papaya_scenes.specs.Given.Points.Steps.{AreLawful}
-use Rattle.papaya_scenes.specs.Given.Callers.Together.{UnderWay}
-use Rattle.papaya_scenes.specs.Given.Finishes.Endings.{Finishing}
-use Rattle.papaya_scenes.specs.Given.Finishes.Machines.{machine_of}
-use Rattle.papaya_scenes.specs.Given.Finishes.Makings.{Beginning}
-use Rattle.papaya_scenes.specs.Given.Finishes.Maps.{Standing}
-use Rattle.papaya_executor.specs.declared.executor.Executor.{Executor}
-use Rattle.papaya_scenes.specs.declared.row.RowTold.{RowTold}
-use Rattle.papaya_scenes.specs.declared.row.SlotCall.{SlotCall}
-use Rattle.papaya_scenes.specs.declared.row.SlotRow.{SlotRow}
-use Rattle.papaya_scenes.specs.declared.row.SlotRow.TheVariants as rows
-use Rattle.papaya_scenes.specs.declared.row.SlotUse.TheVariants as used
-use Rattle.papaya_executor.specs.declared.worker.Work.TheVariants as work
-use Rattle.papaya_acts.specs.Acts.{Act, Answer, Nothing, OfCall, OfReply, OfAsking, OfMaking, OfEnding, Wanted, begun}
-use Rattle.papaya_acts.specs.Acts.{BeginsCall, StepsCall, TellsCall, AsksCall, StopsCall, BeginsMaking, StepsMaking, BeginsEnding, StepsEnding, BeginsRow, StepsRow}
-use Rattle.papaya_acts.specs.AsSteps.{changed_by, changed_of}
-use Rattle.papaya_acts.specs.Leads.{AllStand, Led, MayBe}
-use Rattle.papaya_executor.specs.Beginning.{BeginsThere}
-use Rattle.papaya_executor.specs.Ending.{EndingBegins, EndsThere, NoCallOn}
-use Rattle.papaya_executor.specs.IsThere.{IsThere, StaysGiven, use_at, work_of}
-use Rattle.papaya_executor.specs.Making.{MakesThere}
-use Rattle.papaya_executor.specs.MakingBegins.{MakingBegins}
-use Rattle.papaya_executor.specs.OnSlots.{MayBegin, RowBeginsThere, RowStepsThere}
-use Rattle.papaya_executor.specs.Replying.{AsksThere, RepliesThere, StopsThere}
-use Rattle.papaya_executor.specs.Stepping.{StepsThere}
-use Rattle.papaya_scenes.specs.Beginning.{Begins}
-use Rattle.papaya_scenes.specs.Rows.{of_registering, of_settling, of_storing, request_of}
-use Rattle.papaya_scenes.specs.Scene.{Scene, slot_of}
+use Rattle.papaya_reclaiming.specs.Given.Seize.declared.progress.Progress.{Progress}
+use Rattle.papaya_reclaiming.specs.Given.Seize.declared.rows.settle.Settled.{Settled}
+use Rattle.papaya_reclaiming.specs.Given.SeizeActs.Answers.{Grant, stepped}
+use Rattle.papaya_reclaiming.specs.Given.SeizeWords.Plan.{Plan}
+use Rattle.papaya_reclaiming.specs.Given.Seize.Enter.{enter_plan, unregister_plan}
+use Rattle.papaya_reclaiming.specs.Given.Seize.Leave.{leave_plan}
+use Rattle.papaya_reclaiming.specs.Given.Seize.Register.{register_plan}
+use Rattle.papaya_reclaiming.specs.Given.Seize.Settle.{settle_plan}
+use Rattle.papaya_reclaiming.specs.Given.Seize.declared.rows.enter.Enter.{Enter}
+use Rattle.papaya_reclaiming.specs.Given.Seize.declared.rows.enter.Unregister.{Unregister}
+use Rattle.papaya_reclaiming.specs.Given.Seize.declared.rows.leave.Leave.{Leave}
+use Rattle.papaya_reclaiming.specs.Given.Seize.declared.rows.register.Register.{Register}
+use Rattle.papaya_reclaiming.specs.Given.Seize.declared.rows.settle.Settle.{Settle}
+use Rattle.papaya_agrees.specs.Given.Tables.Nodes.{deferred_word}
+use Rattle.papaya_reclaiming.specs.Given.Resize.NewMap.{new_map_plan}
+use Rattle.papaya_agrees.specs.Given.Raw.EndMap.{end_map_plan}
+use Rattle.papaya_agrees.specs.Given.Raw.Machine.{machine_plan}
+use Rattle.papaya_agrees.specs.Given.Tables.Lengths.{IsTableLen}
+use Rattle.papaya_agrees.specs.Given.Tables.declared.node.Node.{Node}
+use Rattle.papaya_agrees.specs.Given.Tables.declared.setting.Setting.{Setting}
+use Rattle.papaya_agrees.specs.Given.Raw.declared.machines.asking.Reply.{Reply}
+use Rattle.papaya_agrees.specs.Given.Raw.declared.machines.machine.Machine.{Machine}
+use Rattle.papaya_agrees.specs.Given.Raw.declared.machines.progress.Progress.{Progress as CallProgress}
+use Rattle.papaya_reclaiming.specs.Given.Points.Steps.{AreLawful}
+use Rattle.papaya_reclaiming.specs.Given.Callers.Together.{UnderWay}
+use Rattle.papaya_reclaiming.specs.Given.Finishes.Endings.{Finishing}
+use Rattle.papaya_reclaiming.specs.Given.Finishes.Machines.{machine_of}
+use Rattle.papaya_reclaiming.specs.Given.Finishes.Makings.{Beginning}
+use Rattle.papaya_reclaiming.specs.Given.Finishes.Maps.{Standing}
+use Rattle.papaya_reclaiming.specs.Given.Executor.declared.executor.Executor.{Executor}
+use Rattle.papaya_reclaiming.specs.Given.Scenes.declared.row.RowTold.{RowTold}
+use Rattle.papaya_reclaiming.specs.Given.Scenes.declared.row.SlotCall.{SlotCall}
+use Rattle.papaya_reclaiming.specs.Given.Scenes.declared.row.SlotRow.{SlotRow}
+use Rattle.papaya_reclaiming.specs.Given.Scenes.declared.row.SlotRow.TheVariants as rows
+use Rattle.papaya_reclaiming.specs.Given.Scenes.declared.row.SlotUse.TheVariants as used
+use Rattle.papaya_reclaiming.specs.Given.Executor.declared.worker.Work.TheVariants as work
+use Rattle.papaya_agrees.specs.Given.Acts.Acts.{Act, Answer, Nothing, OfCall, OfReply, OfAsking, OfMaking, OfEnding, Wanted, begun}
+use Rattle.papaya_agrees.specs.Given.Acts.Acts.{BeginsCall, StepsCall, TellsCall, AsksCall, StopsCall, BeginsMaking, StepsMaking, BeginsEnding, StepsEnding, BeginsRow, StepsRow}
+use Rattle.papaya_agrees.specs.Given.Acts.AsSteps.{changed_by, changed_of}
+use Rattle.papaya_agrees.specs.Given.Acts.Leads.{AllStand, Led, MayBe}
+use Rattle.papaya_reclaiming.specs.Given.Executor.Beginning.{BeginsThere}
+use Rattle.papaya_reclaiming.specs.Given.Executor.Ending.{EndingBegins, EndsThere, NoCallOn}
+use Rattle.papaya_reclaiming.specs.Given.Executor.IsThere.{IsThere, StaysGiven, use_at, work_of}
+use Rattle.papaya_reclaiming.specs.Given.Executor.Making.{MakesThere}
+use Rattle.papaya_reclaiming.specs.Given.Executor.MakingBegins.{MakingBegins}
+use Rattle.papaya_reclaiming.specs.Given.Executor.OnSlots.{MayBegin, RowBeginsThere, RowStepsThere}
+use Rattle.papaya_reclaiming.specs.Given.Executor.Replying.{AsksThere, RepliesThere, StopsThere}
+use Rattle.papaya_reclaiming.specs.Given.Executor.Stepping.{StepsThere}
+use Rattle.papaya_reclaiming.specs.Given.Scenes.Beginning.{Begins}
+use Rattle.papaya_reclaiming.specs.Given.Scenes.Rows.{of_registering, of_settling, of_storing, request_of}
+use Rattle.papaya_reclaiming.specs.Given.Scenes.Scene.{Scene, slot_of}
 
 module _ {K V S : Type 0} (e e2 : Executor K V S) where
   -- a step of this plan, in the memory of the first executor, is computed to this outcome, in that of the second, with this choice, and so is what it has changed

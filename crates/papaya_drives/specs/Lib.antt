@@ -1,1 +1,2 @@
 pub mod Executors
+pub mod Given

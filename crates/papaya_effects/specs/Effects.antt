@@ -1,10 +1,10 @@
 -- What an operation does to pairs and tables: its effects, by what it has changed, by what the blocks were before, and by who made it.
 use Rattle.std.specs.Prelude.{ℕ, ◌+◌, ◌-◌, ◌==◌, ◌<◌, ◌^◌, ◌&&◌, nat_le, nat_lt, Bool, true, List, [], ◌∷◌, if◌then◌else◌}
-use Rattle.seize_words.specs.declared.at.At.{At}
-use Rattle.seize_words.specs.declared.at.At.TheVariants.{Root, Entry, Word}
-use Rattle.seize_words.specs.Word.{block_in}
-use Rattle.seize.specs.declared.states.TheConstants.{FIRST}
-use Rattle.papaya_tables.specs.declared.table_words.TheConstants.{NEXT, DEFERRED, PLACES}
+use Rattle.papaya_schedules.specs.Given.SeizeWords.declared.at.At.{At}
+use Rattle.papaya_schedules.specs.Given.SeizeWords.declared.at.At.TheVariants.{Root, Entry, Word}
+use Rattle.papaya_schedules.specs.Given.SeizeWords.Word.{block_in}
+use Rattle.papaya_schedules.specs.Given.Seize.declared.states.TheConstants.{FIRST}
+use Rattle.papaya_schedules.specs.Given.Tables.declared.table_words.TheConstants.{NEXT, DEFERRED, PLACES}
 use Rattle.papaya_schedules.specs.declared.effect.Effect.{Effect}
 use Rattle.papaya_schedules.specs.declared.effect.Effect.TheVariants as effect
 use Rattle.papaya_schedules.specs.declared.effect.Growth.TheVariants.{ABlock, ABucket}

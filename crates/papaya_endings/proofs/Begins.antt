@@ -3,31 +3,31 @@ use Rattle.std.specs.Prelude.{◌≡◌, ◌<◌, ◌≤◌, ◌-◌, ◌==◌, 
 use Rattle.std.proofs.Common.{refl, ap, sym, subst, ◌∙◌, arith, inl, inr}
 use Rattle.std.proofs.lemmas.Bool.{and_parts, cases_order, eq-eqb, leb-true}
 use Rattle.std.proofs.lemmas.List.Elements.{filter-append}
-use Rattle.papaya_moments.specs.Given.Seize.World.{times}
-use Rattle.papaya_moments.specs.Given.Tables.Chunks.{is_incremental}
-use Rattle.papaya_moments.specs.Given.Rule.Chart.{Chart}
-use Rattle.papaya_moments.specs.Given.Finishes.Endings.{AllPairsOnce}
-use Rattle.papaya_moments.specs.Given.Finishes.Maps.{Standing}
-use Rattle.papaya_moments.specs.Given.Finishes.Orders.{pairs_of}
-use Rattle.papaya_moments.proofs.Given.Finishes.Ends.CountedBlocks.{some_here, some_last, some_of_first, times-append}
-use Rattle.papaya_moments.specs.Given.Schedules.declared.effect.Effect.{Effect}
-use Rattle.papaya_moments.specs.Given.Schedules.declared.effect.Effect.TheVariants.{Ended, Taken}
-use Rattle.papaya_moments.specs.Given.Schedules.declared.effect.Table.{Table}
-use Rattle.papaya_moments.specs.Given.Schedules.After.{tables_taken}
-use Rattle.papaya_moments.specs.Given.Schedules.Handing.{in_order}
-use Rattle.papaya_moments.specs.Given.Schedules.Moment.{GivenBack, InMap, IsLinked, IsTaken, Left, MapThere, Moment, Stage, TableThere}
-use Rattle.papaya_moments.specs.Given.Schedules.Lists.{is_among}
-use Rattle.papaya_moments.specs.Given.Schedules.Things.{is_before, same_table}
-use Rattle.papaya_moments.specs.Given.Schedules.Views.{behind, chain_of, first_of, first_or, is_in_map, is_linked, tables_of}
-use Rattle.papaya_moments.specs.Given.Effects.Known.{Known}
-use Rattle.papaya_moments.specs.Given.Follows.Maps.{ShowsMap, shape_at, table_of, tables_to}
-use Rattle.papaya_moments.proofs.Given.Follows.Alike.{put_elsewhere}
-use Rattle.papaya_moments.proofs.Given.Others.Leads.{same_parts}
-use Rattle.papaya_moments.proofs.Given.Others.Outside.{in_map_of}
-use Rattle.papaya_moments.proofs.Given.Spots.Unreclaimed.{same_itself}
-use Rattle.papaya_moments.specs.WholeEnds.{all_ended, tables_ended}
-use Rattle.papaya_moments.proofs.WholeEnds.{whole_ends_take_all}
-use Rattle.papaya_finds.proofs.Lists.{numbers_pass}
+use Rattle.seize_acts.specs.Given.Seize.World.{times}
+use Rattle.papaya_deeds.specs.Given.Tables.Chunks.{is_incremental}
+use Rattle.papaya_protects.specs.Given.Rule.Chart.{Chart}
+use Rattle.papaya_protects.specs.Given.Finishes.Endings.{AllPairsOnce}
+use Rattle.papaya_protects.specs.Given.Finishes.Maps.{Standing}
+use Rattle.papaya_protects.specs.Given.Finishes.Orders.{pairs_of}
+use Rattle.papaya_protects.proofs.Given.Finishes.Ends.CountedBlocks.{some_here, some_last, some_of_first, times-append}
+use Rattle.papaya_deeds.specs.Given.Schedules.declared.effect.Effect.{Effect}
+use Rattle.papaya_deeds.specs.Given.Schedules.declared.effect.Effect.TheVariants.{Ended, Taken}
+use Rattle.papaya_deeds.specs.Given.Schedules.declared.effect.Table.{Table}
+use Rattle.papaya_deeds.specs.Given.Schedules.After.{tables_taken}
+use Rattle.papaya_deeds.specs.Given.Schedules.Handing.{in_order}
+use Rattle.papaya_deeds.specs.Given.Schedules.Moment.{GivenBack, InMap, IsLinked, IsTaken, Left, MapThere, Moment, Stage, TableThere}
+use Rattle.papaya_deeds.specs.Given.Schedules.Lists.{is_among}
+use Rattle.papaya_deeds.specs.Given.Schedules.Things.{is_before, same_table}
+use Rattle.papaya_deeds.specs.Given.Schedules.Views.{behind, chain_of, first_of, first_or, is_in_map, is_linked, tables_of}
+use Rattle.papaya_protects.specs.Given.Effects.Known.{Known}
+use Rattle.papaya_protects.specs.Given.Follows.Maps.{ShowsMap, shape_at, table_of, tables_to}
+use Rattle.papaya_protects.proofs.Given.Follows.Alike.{put_elsewhere}
+use Rattle.papaya_protects.proofs.Given.Others.Leads.{same_parts}
+use Rattle.papaya_protects.proofs.Given.Others.Outside.{in_map_of}
+use Rattle.papaya_protects.proofs.Given.Spots.Unreclaimed.{same_itself}
+use Rattle.papaya_protects.specs.Given.Moments.WholeEnds.{all_ended, tables_ended}
+use Rattle.papaya_protects.proofs.Given.Moments.WholeEnds.{whole_ends_take_all}
+use Rattle.papaya_protects.proofs.Given.Finds.Lists.{numbers_pass}
 use Rattle.papaya_deeds.specs.History.{EndFinds, is_first_of, is_next_pair, left_tables}
 use Rattle.papaya_endings.specs.Ends.{AreStored, EndsWell}
 use Rattle.papaya_endings.proofs.Alike.{ended}

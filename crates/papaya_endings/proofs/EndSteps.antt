@@ -2,41 +2,41 @@
 use Rattle.std.specs.Prelude.{◌≡◌, ◌≢◌, ◌<◌, ◌≤◌, ◌⊎◌, ◌++◌, ℕ, Bool, false, List, [], ◌∷◌, Some, None}
 use Rattle.std.proofs.Common.{refl, ap, sym, subst, ◌∙◌, arith, inl, inr}
 use Rattle.std.proofs.lemmas.List.{append-nil, append_assoc}
-use Rattle.papaya_moments.specs.Given.Seize.World.{World, times}
-use Rattle.papaya_moments.specs.Given.Seize.declared.rows.settle.Settled.{Settled}
-use Rattle.papaya_moments.specs.Given.Seize.declared.rows.settle.Settled.TheVariants as settled
-use Rattle.papaya_moments.specs.Given.Tables.declared.node.Node.{Node}
-use Rattle.papaya_moments.specs.Given.Raw.declared.machines.end_map.EndMap.{EndMap}
-use Rattle.papaya_moments.specs.Given.Finishes.Endings.{Finishing, FinishingFacts, StepsOfEnding, waiting_by}
-use Rattle.papaya_moments.specs.Given.Finishes.FactsEnds.{back_of, taken_by as taken_of}
-use Rattle.papaya_moments.proofs.Given.Callers.Together.At.{at_same}
-use Rattle.papaya_moments.proofs.Given.Finishes.Ends.CountedBlocks.{later_apart, next_apart}
-use Rattle.papaya_moments.proofs.Given.Finishes.Ends.OrdersOn.{back_same}
-use Rattle.papaya_moments.proofs.Given.Finishes.Ends.OrdersOnce.{plain_order}
-use Rattle.papaya_moments.specs.Given.Schedules.declared.effect.Effect.{Effect}
-use Rattle.papaya_moments.specs.Given.Schedules.Effects.{AtEachEffect, with_effects}
-use Rattle.papaya_moments.specs.Given.Schedules.Moment.{Moment}
-use Rattle.papaya_moments.specs.Given.Schedules.Views.{map_at}
-use Rattle.papaya_moments.specs.Given.Effects.Effects.{effects_of, known_after, taken_by}
-use Rattle.papaya_moments.specs.Given.Effects.Known.{Known}
-use Rattle.papaya_moments.specs.Given.Effects.declared.acting.Acting.TheVariants as acts
-use Rattle.papaya_moments.specs.Given.Effects.declared.role.Role.TheVariants as role
-use Rattle.papaya_moments.specs.Given.Others.Endings.{TellsNext}
-use Rattle.papaya_moments.specs.Given.Scenes.Ending.{EndingComesTo, EndingLeads}
-use Rattle.papaya_moments.specs.Given.Scenes.Held.{Held, IsAt}
-use Rattle.papaya_moments.specs.Given.Scenes.Scene.{Scene, slot_of}
-use Rattle.papaya_moments.specs.Given.Teller.declared.changed.Changed.{Changed}
-use Rattle.papaya_moments.specs.Given.Teller.declared.changed.Changed.TheVariants as changed
-use Rattle.papaya_moments.specs.Whole.{ShowsWhole}
-use Rattle.papaya_moments.proofs.Given.Follows.Alike.{put_elsewhere}
-use Rattle.papaya_moments.proofs.Given.Others.Ends.{tells_next}
-use Rattle.papaya_logged.specs.Ends.{ended_as}
-use Rattle.papaya_logged.proofs.EndLists.{back_first, once}
-use Rattle.papaya_logged.proofs.EndTold.{did_end, noted_on}
+use Rattle.seize_acts.specs.Given.Seize.World.{World, times}
+use Rattle.seize_acts.specs.Given.Seize.declared.rows.settle.Settled.{Settled}
+use Rattle.seize_acts.specs.Given.Seize.declared.rows.settle.Settled.TheVariants as settled
+use Rattle.papaya_deeds.specs.Given.Tables.declared.node.Node.{Node}
+use Rattle.papaya_deeds.specs.Given.Raw.declared.machines.end_map.EndMap.{EndMap}
+use Rattle.papaya_protects.specs.Given.Finishes.Endings.{Finishing, FinishingFacts, StepsOfEnding, waiting_by}
+use Rattle.papaya_protects.specs.Given.Finishes.FactsEnds.{back_of, taken_by as taken_of}
+use Rattle.papaya_protects.proofs.Given.Callers.Together.At.{at_same}
+use Rattle.papaya_protects.proofs.Given.Finishes.Ends.CountedBlocks.{later_apart, next_apart}
+use Rattle.papaya_protects.proofs.Given.Finishes.Ends.OrdersOn.{back_same}
+use Rattle.papaya_protects.proofs.Given.Finishes.Ends.OrdersOnce.{plain_order}
+use Rattle.papaya_deeds.specs.Given.Schedules.declared.effect.Effect.{Effect}
+use Rattle.papaya_deeds.specs.Given.Schedules.Effects.{AtEachEffect, with_effects}
+use Rattle.papaya_deeds.specs.Given.Schedules.Moment.{Moment}
+use Rattle.papaya_deeds.specs.Given.Schedules.Views.{map_at}
+use Rattle.papaya_protects.specs.Given.Effects.Effects.{effects_of, known_after, taken_by}
+use Rattle.papaya_protects.specs.Given.Effects.Known.{Known}
+use Rattle.papaya_protects.specs.Given.Effects.declared.acting.Acting.TheVariants as acts
+use Rattle.papaya_protects.specs.Given.Effects.declared.role.Role.TheVariants as role
+use Rattle.papaya_protects.specs.Given.Others.Endings.{TellsNext}
+use Rattle.papaya_protects.specs.Given.Scenes.Ending.{EndingComesTo, EndingLeads}
+use Rattle.papaya_protects.specs.Given.Scenes.Held.{Held, IsAt}
+use Rattle.papaya_protects.specs.Given.Scenes.Scene.{Scene, slot_of}
+use Rattle.papaya_protects.specs.Given.Teller.declared.changed.Changed.{Changed}
+use Rattle.papaya_protects.specs.Given.Teller.declared.changed.Changed.TheVariants as changed
+use Rattle.papaya_protects.specs.Given.Moments.Whole.{ShowsWhole}
+use Rattle.papaya_protects.proofs.Given.Follows.Alike.{put_elsewhere}
+use Rattle.papaya_protects.proofs.Given.Others.Ends.{tells_next}
+use Rattle.papaya_protects.specs.Given.Logged.Ends.{ended_as}
+use Rattle.papaya_protects.proofs.Given.Logged.EndLists.{back_first, once}
+use Rattle.papaya_protects.proofs.Given.Logged.EndTold.{did_end, noted_on}
 use Rattle.papaya_deeds.specs.Deeds.{named}
 use Rattle.papaya_deeds.specs.History.{EndFinds}
-use Rattle.papaya_linear.specs.Coming.{Goes}
-use Rattle.papaya_linear.proofs.Going.{as_noted, notes_all, notes_still}
+use Rattle.papaya_protects.specs.Given.Linear.Coming.{Goes}
+use Rattle.papaya_protects.proofs.Given.Linear.Going.{as_noted, notes_all, notes_still}
 use Rattle.papaya_endings.specs.Ends.{AreStored, EndsWell}
 use Rattle.papaya_endings.specs.Going.{GoesOnToEnd}
 use Rattle.papaya_endings.proofs.Going.{NotedAlike, ended_alike, ends_on}

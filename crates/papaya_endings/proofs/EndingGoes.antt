@@ -3,43 +3,43 @@ use Rattle.std.specs.Prelude.{map as mapped, ◌≡◌, ◌≢◌, ◌<◌, ◌�
 use Rattle.std.proofs.Common.{refl, ap, sym, subst, ◌∙◌, inl, inr}
 use Rattle.std.proofs.lemmas.Bool.{cases_eq}
 use Rattle.seize_acts.proofs.Answers.{same_some}
-use Rattle.papaya_moments.specs.Given.Seize.World.{with_at}
-use Rattle.papaya_moments.specs.Given.Tables.Chunks.{is_incremental}
-use Rattle.papaya_moments.specs.Given.Raw.EndMap.{ending}
-use Rattle.papaya_moments.specs.Given.Raw.declared.machines.end_map.EndMap.{EndMap}
-use Rattle.papaya_moments.proofs.Given.Callers.Together.At.{at_other, at_same}
-use Rattle.papaya_moments.specs.Given.Finishes.Endings.{AllPairsOnce, Finishing, finishing_of}
-use Rattle.papaya_moments.specs.Given.Finishes.FactsEnds.{back_of}
-use Rattle.papaya_moments.specs.Given.Finishes.Maps.{Standing}
-use Rattle.papaya_moments.specs.Given.Finishes.Orders.{pairs_of}
-use Rattle.papaya_moments.specs.Given.Rule.InWorld.{IsMapIn}
-use Rattle.papaya_moments.specs.Given.Schedules.declared.effect.Effect.{Effect}
-use Rattle.papaya_moments.specs.Given.Schedules.Effects.{with_effects}
-use Rattle.papaya_moments.specs.Given.Schedules.Handing.{in_order}
-use Rattle.papaya_moments.specs.Given.Schedules.Moment.{Moment}
-use Rattle.papaya_moments.specs.Given.Effects.Effects.{taken_by}
-use Rattle.papaya_moments.specs.Given.Effects.Known.{Known}
-use Rattle.papaya_moments.specs.Given.Effects.declared.acting.Acting.TheVariants as acts
-use Rattle.papaya_moments.specs.Given.Effects.declared.role.Role.{Role}
-use Rattle.papaya_moments.specs.Given.Effects.declared.role.Role.TheVariants as role
-use Rattle.papaya_moments.specs.Given.Follows.Maps.{ShowsMap}
-use Rattle.papaya_moments.specs.Given.Teller.declared.changed.Changed.TheVariants.{Nothing as NoChange}
-use Rattle.papaya_moments.specs.Given.Scenes.Held.{Held, IsAt}
-use Rattle.papaya_moments.specs.Given.Scenes.Scene.{Scene, slot_of}
-use Rattle.papaya_moments.specs.Whole.{ShowsWhole}
-use Rattle.papaya_moments.proofs.Given.Rule.Laws.{current_is_known}
-use Rattle.papaya_logged.specs.Ends.{NotesMap}
-use Rattle.papaya_logged.proofs.EndAll.{all_end}
-use Rattle.papaya_logged.proofs.EndOrder.{pairs_ordered}
-use Rattle.papaya_acts.specs.Acts.{Act, Answer, BeginsEnding}
-use Rattle.papaya_acts.specs.AsSteps.{changed_by, held_in}
-use Rattle.papaya_acts.specs.Leads.{Led}
+use Rattle.seize_acts.specs.Given.Seize.World.{with_at}
+use Rattle.papaya_deeds.specs.Given.Tables.Chunks.{is_incremental}
+use Rattle.papaya_deeds.specs.Given.Raw.EndMap.{ending}
+use Rattle.papaya_deeds.specs.Given.Raw.declared.machines.end_map.EndMap.{EndMap}
+use Rattle.papaya_protects.proofs.Given.Callers.Together.At.{at_other, at_same}
+use Rattle.papaya_protects.specs.Given.Finishes.Endings.{AllPairsOnce, Finishing, finishing_of}
+use Rattle.papaya_protects.specs.Given.Finishes.FactsEnds.{back_of}
+use Rattle.papaya_protects.specs.Given.Finishes.Maps.{Standing}
+use Rattle.papaya_protects.specs.Given.Finishes.Orders.{pairs_of}
+use Rattle.papaya_protects.specs.Given.Rule.InWorld.{IsMapIn}
+use Rattle.papaya_deeds.specs.Given.Schedules.declared.effect.Effect.{Effect}
+use Rattle.papaya_deeds.specs.Given.Schedules.Effects.{with_effects}
+use Rattle.papaya_deeds.specs.Given.Schedules.Handing.{in_order}
+use Rattle.papaya_deeds.specs.Given.Schedules.Moment.{Moment}
+use Rattle.papaya_protects.specs.Given.Effects.Effects.{taken_by}
+use Rattle.papaya_protects.specs.Given.Effects.Known.{Known}
+use Rattle.papaya_protects.specs.Given.Effects.declared.acting.Acting.TheVariants as acts
+use Rattle.papaya_protects.specs.Given.Effects.declared.role.Role.{Role}
+use Rattle.papaya_protects.specs.Given.Effects.declared.role.Role.TheVariants as role
+use Rattle.papaya_protects.specs.Given.Follows.Maps.{ShowsMap}
+use Rattle.papaya_protects.specs.Given.Teller.declared.changed.Changed.TheVariants.{Nothing as NoChange}
+use Rattle.papaya_protects.specs.Given.Scenes.Held.{Held, IsAt}
+use Rattle.papaya_protects.specs.Given.Scenes.Scene.{Scene, slot_of}
+use Rattle.papaya_protects.specs.Given.Moments.Whole.{ShowsWhole}
+use Rattle.papaya_protects.proofs.Given.Rule.Laws.{current_is_known}
+use Rattle.papaya_protects.specs.Given.Logged.Ends.{NotesMap}
+use Rattle.papaya_protects.proofs.Given.Logged.EndAll.{all_end}
+use Rattle.papaya_protects.proofs.Given.Logged.EndOrder.{pairs_ordered}
+use Rattle.papaya_protects.specs.Given.Acts.Acts.{Act, Answer, BeginsEnding}
+use Rattle.papaya_protects.specs.Given.Acts.AsSteps.{changed_by, held_in}
+use Rattle.papaya_protects.specs.Given.Acts.Leads.{Led}
 use Rattle.papaya_deeds.specs.Deeds.{moment, named}
-use Rattle.papaya_played.specs.Play.{Ending, State}
-use Rattle.papaya_played.specs.Reached.{IsOf}
-use Rattle.papaya_played.proofs.PlayedAs.{PlayedAs}
-use Rattle.papaya_linear.proofs.ComeActs.{notes_map}
-use Rattle.papaya_linear.proofs.Holding.{AllHolds}
+use Rattle.papaya_protects.specs.Given.Played.Play.{Ending, State}
+use Rattle.papaya_protects.specs.Given.Played.Reached.{IsOf}
+use Rattle.papaya_protects.proofs.Given.Played.PlayedAs.{PlayedAs}
+use Rattle.papaya_protects.proofs.Given.Linear.ComeActs.{notes_map}
+use Rattle.papaya_protects.proofs.Given.Linear.Holding.{AllHolds}
 use Rattle.papaya_endings.specs.Ends.{EndsWell}
 use Rattle.papaya_endings.specs.Going.{GoesOnToEnd}
 use Rattle.papaya_endings.specs.GoingOn.{EndsGoOn}

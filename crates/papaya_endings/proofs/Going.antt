@@ -2,28 +2,28 @@
 use Rattle.std.specs.Prelude.{◌≡◌, ◌<◌, ◌++◌, ℕ, Bool, true, false, List, [], ◌∷◌, Some, None}
 use Rattle.std.specs.List.{AllByRecursion}
 use Rattle.std.proofs.Common.{refl, ap, sym, subst, ◌∙◌}
-use Rattle.papaya_moments.specs.Given.Seize.World.{times}
-use Rattle.papaya_moments.proofs.Given.Finishes.Ends.CountedBlocks.{some_here, some_last}
-use Rattle.papaya_moments.specs.Given.Finishes.Endings.{Finishing}
-use Rattle.papaya_moments.specs.Given.Schedules.declared.effect.Effect.{Effect}
-use Rattle.papaya_moments.specs.Given.Schedules.declared.effect.Table.{Table}
-use Rattle.papaya_moments.specs.Given.Schedules.Effects.{AtEachEffect, with_effects}
-use Rattle.papaya_moments.specs.Given.Schedules.Moment.{Moment, TableThere}
-use Rattle.papaya_moments.specs.Given.Schedules.Things.{same_table}
-use Rattle.papaya_moments.specs.Given.Schedules.Views.{is_in_map}
-use Rattle.papaya_moments.specs.Given.Effects.Effects.{known_after, taken_by}
-use Rattle.papaya_moments.specs.Given.Effects.Known.{Known}
-use Rattle.papaya_moments.specs.Given.Effects.declared.acting.Acting.{Acting}
-use Rattle.papaya_moments.specs.Given.Effects.declared.acting.Acting.TheVariants as acts
-use Rattle.papaya_moments.specs.Given.Effects.declared.role.Role.{Role}
-use Rattle.papaya_moments.specs.Given.Effects.declared.role.Role.TheVariants as role
-use Rattle.papaya_moments.specs.Given.Spots.Deferred.{WaitOutside}
-use Rattle.papaya_moments.proofs.Given.Spots.Deferred.{each_waits_outside}
-use Rattle.papaya_moments.proofs.Given.Spots.Unreclaimed.{table_is}
-use Rattle.papaya_moments.proofs.Given.Follows.Alike.{put_here}
-use Rattle.papaya_moments.proofs.Given.Follows.Handed.{not_in}
-use Rattle.papaya_moments.specs.Given.Teller.declared.changed.Changed.TheVariants as changed
-use Rattle.papaya_logged.specs.Ends.{ended_as}
+use Rattle.seize_acts.specs.Given.Seize.World.{times}
+use Rattle.papaya_protects.proofs.Given.Finishes.Ends.CountedBlocks.{some_here, some_last}
+use Rattle.papaya_protects.specs.Given.Finishes.Endings.{Finishing}
+use Rattle.papaya_deeds.specs.Given.Schedules.declared.effect.Effect.{Effect}
+use Rattle.papaya_deeds.specs.Given.Schedules.declared.effect.Table.{Table}
+use Rattle.papaya_deeds.specs.Given.Schedules.Effects.{AtEachEffect, with_effects}
+use Rattle.papaya_deeds.specs.Given.Schedules.Moment.{Moment, TableThere}
+use Rattle.papaya_deeds.specs.Given.Schedules.Things.{same_table}
+use Rattle.papaya_deeds.specs.Given.Schedules.Views.{is_in_map}
+use Rattle.papaya_protects.specs.Given.Effects.Effects.{known_after, taken_by}
+use Rattle.papaya_protects.specs.Given.Effects.Known.{Known}
+use Rattle.papaya_protects.specs.Given.Effects.declared.acting.Acting.{Acting}
+use Rattle.papaya_protects.specs.Given.Effects.declared.acting.Acting.TheVariants as acts
+use Rattle.papaya_protects.specs.Given.Effects.declared.role.Role.{Role}
+use Rattle.papaya_protects.specs.Given.Effects.declared.role.Role.TheVariants as role
+use Rattle.papaya_protects.specs.Given.Spots.Deferred.{WaitOutside}
+use Rattle.papaya_protects.proofs.Given.Spots.Deferred.{each_waits_outside}
+use Rattle.papaya_protects.proofs.Given.Spots.Unreclaimed.{table_is}
+use Rattle.papaya_protects.proofs.Given.Follows.Alike.{put_here}
+use Rattle.papaya_protects.proofs.Given.Follows.Handed.{not_in}
+use Rattle.papaya_protects.specs.Given.Teller.declared.changed.Changed.TheVariants as changed
+use Rattle.papaya_protects.specs.Given.Logged.Ends.{ended_as}
 use Rattle.papaya_deeds.specs.History.{EndFinds, left_tables}
 use Rattle.papaya_endings.specs.Ends.{AlikeOf, AreStored, EndsWell, IsOther, IsOut}
 use Rattle.papaya_endings.specs.Going.{GoesOnToEnd}

@@ -1,37 +1,37 @@
 -- By the history of each list of acts maps end in order.
 use Rattle.std.specs.Prelude.{◌≡◌, ◌==◌, ℕ, Bool, true, false, List, ◌∷◌, Option, is_ok, if◌then◌else◌}
 use Rattle.std.proofs.Common.{refl, ap, sym, subst}
-use Rattle.papaya_moments.specs.Given.Seize.declared.rows.leave.Leave.{Leave}
-use Rattle.papaya_moments.specs.Given.Seize.declared.rows.leave.Leaving.{Leaving}
-use Rattle.papaya_moments.specs.Given.Seize.declared.rows.leave.Leaving.TheVariants as leaving
-use Rattle.papaya_moments.specs.Given.Seize.declared.rows.reclaim_all.ReclaimAll.{ReclaimAll}
-use Rattle.papaya_moments.specs.Given.Seize.declared.rows.register.Registering.{Registering}
-use Rattle.papaya_moments.specs.Given.Seize.declared.rows.register.Registering.TheVariants as registers
-use Rattle.papaya_moments.specs.Given.Seize.declared.states.TheConstants.{ACTIVE}
-use Rattle.papaya_moments.specs.Given.Resize.declared.new_map.NewMap.{NewMap}
-use Rattle.papaya_moments.specs.Given.Raw.Machine.{machine_asked, machine_replied}
-use Rattle.papaya_moments.specs.Given.Schedules.After.{AtEachEvent}
-use Rattle.papaya_moments.specs.Given.Schedules.declared.effect.Effect.{Effect}
-use Rattle.papaya_moments.specs.Given.Schedules.Moment.{Moment}
-use Rattle.papaya_moments.specs.Given.Scenes.Held.{IsAt}
-use Rattle.papaya_moments.specs.Given.Scenes.Scene.{Scene, slot_of}
-use Rattle.papaya_moments.specs.Given.Scenes.declared.row.SlotRow.{SlotRow}
-use Rattle.papaya_moments.specs.Given.Scenes.declared.row.SlotRow.TheVariants as rows
-use Rattle.papaya_moments.specs.Given.Teller.declared.changed.Changed.TheVariants.{Nothing as NoChange}
-use Rattle.papaya_acts.specs.Acts.{Act, Answer, AsksCall, BeginsCall, BeginsEnding, BeginsMaking, BeginsRow, StepsCall, StepsEnding, StepsMaking, StepsRow, StopsCall, TellsCall}
-use Rattle.papaya_acts.specs.AsSteps.{LeadsAs, changed_by, held_in}
-use Rattle.papaya_acts.specs.Leads.{Led}
-use Rattle.papaya_acts.specs.Lists.{nothing_done}
-use Rattle.papaya_agrees.specs.Fresh.{HasNewNumber}
-use Rattle.papaya_agrees.proofs.GivenBack.{again_first}
+use Rattle.seize_acts.specs.Given.Seize.declared.rows.leave.Leave.{Leave}
+use Rattle.seize_acts.specs.Given.Seize.declared.rows.leave.Leaving.{Leaving}
+use Rattle.seize_acts.specs.Given.Seize.declared.rows.leave.Leaving.TheVariants as leaving
+use Rattle.seize_acts.specs.Given.Seize.declared.rows.reclaim_all.ReclaimAll.{ReclaimAll}
+use Rattle.seize_acts.specs.Given.Seize.declared.rows.register.Registering.{Registering}
+use Rattle.seize_acts.specs.Given.Seize.declared.rows.register.Registering.TheVariants as registers
+use Rattle.seize_acts.specs.Given.Seize.declared.states.TheConstants.{ACTIVE}
+use Rattle.papaya_deeds.specs.Given.Resize.declared.new_map.NewMap.{NewMap}
+use Rattle.papaya_deeds.specs.Given.Raw.Machine.{machine_asked, machine_replied}
+use Rattle.papaya_deeds.specs.Given.Schedules.After.{AtEachEvent}
+use Rattle.papaya_deeds.specs.Given.Schedules.declared.effect.Effect.{Effect}
+use Rattle.papaya_deeds.specs.Given.Schedules.Moment.{Moment}
+use Rattle.papaya_protects.specs.Given.Scenes.Held.{IsAt}
+use Rattle.papaya_protects.specs.Given.Scenes.Scene.{Scene, slot_of}
+use Rattle.papaya_protects.specs.Given.Scenes.declared.row.SlotRow.{SlotRow}
+use Rattle.papaya_protects.specs.Given.Scenes.declared.row.SlotRow.TheVariants as rows
+use Rattle.papaya_protects.specs.Given.Teller.declared.changed.Changed.TheVariants.{Nothing as NoChange}
+use Rattle.papaya_protects.specs.Given.Acts.Acts.{Act, Answer, AsksCall, BeginsCall, BeginsEnding, BeginsMaking, BeginsRow, StepsCall, StepsEnding, StepsMaking, StepsRow, StopsCall, TellsCall}
+use Rattle.papaya_protects.specs.Given.Acts.AsSteps.{LeadsAs, changed_by, held_in}
+use Rattle.papaya_protects.specs.Given.Acts.Leads.{Led}
+use Rattle.papaya_protects.specs.Given.Acts.Lists.{nothing_done}
+use Rattle.papaya_protects.specs.Given.Agrees.Fresh.{HasNewNumber}
+use Rattle.papaya_protects.proofs.Given.Agrees.GivenBack.{again_first}
 use Rattle.papaya_deeds.specs.Deeds.{Deed, Entry, Leaves, MapComes, MapFails, Makes, Opens}
-use Rattle.papaya_played.specs.Play.{State, has_root, leaves_as, making_deed, pairs_for, registers_as, row_deed}
-use Rattle.papaya_played.specs.Reached.{IsOf, rows_beside}
-use Rattle.papaya_played.proofs.Along.{At, StaysSo}
-use Rattle.papaya_played.proofs.PlayedAs.{PlayedAs, played_as, reclaimed_as}
-use Rattle.papaya_linear.proofs.Holding.{AllHolds}
-use Rattle.papaya_linear.proofs.Linear.{wherever_led}
-use Rattle.papaya_linear.proofs.Stays.{first_holds}
+use Rattle.papaya_protects.specs.Given.Played.Play.{State, has_root, leaves_as, making_deed, pairs_for, registers_as, row_deed}
+use Rattle.papaya_protects.specs.Given.Played.Reached.{IsOf, rows_beside}
+use Rattle.papaya_protects.proofs.Given.Played.Along.{At, StaysSo}
+use Rattle.papaya_protects.proofs.Given.Played.PlayedAs.{PlayedAs, played_as, reclaimed_as}
+use Rattle.papaya_protects.proofs.Given.Linear.Holding.{AllHolds}
+use Rattle.papaya_protects.proofs.Given.Linear.Linear.{wherever_led}
+use Rattle.papaya_protects.proofs.Given.Linear.Stays.{first_holds}
 use Rattle.papaya_endings.specs.GoingOn.{EndsGoOn}
 use Rattle.papaya_endings.specs.InOrder.{EndsInOrder, EndsSo, MapsEndInOrder}
 use Rattle.papaya_endings.proofs.EndStepGoes.{end_step_in_order}

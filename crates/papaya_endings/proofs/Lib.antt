@@ -14,3 +14,4 @@ mod EndingGoes
 pub mod EndStepGoes
 pub mod Stays
 pub mod InOrder
+pub mod Given

@@ -2,44 +2,44 @@
 use Rattle.std.specs.Prelude.{◌≡◌, ◌≢◌, ◌<◌, ℕ, Bool, true, false, List, [], ◌∷◌, Option, Some, None, is_ok, length, if◌then◌else◌}
 use Rattle.std.proofs.Common.{refl, ap, sym, subst, ◌∙◌}
 use Rattle.seize_acts.specs.Answers.{Grant}
-use Rattle.papaya_moments.specs.Given.Seize.World.{Row, times}
-use Rattle.papaya_moments.specs.Given.Raw.Machine.{machine_asked, machine_plan, machine_replied}
-use Rattle.papaya_moments.specs.Given.Raw.declared.machines.asking.Reply.{Reply as Told}
-use Rattle.papaya_moments.specs.Given.Finishes.Endings.{Finishing, FinishingFacts}
-use Rattle.papaya_moments.specs.Given.Finishes.Machines.{machine_of}
-use Rattle.papaya_moments.proofs.Given.Finishes.Ends.CountedBlocks.{some_last}
-use Rattle.papaya_moments.proofs.Given.Finishes.Ends.OrdersOnce.{plain_order}
-use Rattle.papaya_moments.specs.Given.Schedules.declared.effect.Effect.{Effect}
-use Rattle.papaya_moments.specs.Given.Schedules.declared.outcome.Outcome.TheVariants as outcome
-use Rattle.papaya_moments.specs.Given.Schedules.Effects.{with_effects}
-use Rattle.papaya_moments.specs.Given.Schedules.Moment.{Moment}
-use Rattle.papaya_moments.specs.Given.Effects.Effects.{effects_of, known_after}
-use Rattle.papaya_moments.specs.Given.Effects.Known.{Known}
-use Rattle.papaya_moments.specs.Given.Effects.declared.acting.Acting.{Acting}
-use Rattle.papaya_moments.specs.Given.Effects.declared.acting.Acting.TheVariants as acts
-use Rattle.papaya_moments.specs.Given.Teller.declared.changed.Changed.{Changed}
-use Rattle.papaya_moments.specs.Given.Teller.declared.changed.Changed.TheVariants.{Nothing as NoChange}
-use Rattle.papaya_moments.specs.Given.Scenes.Held.{Held, IsAt}
-use Rattle.papaya_moments.specs.Given.Scenes.Scene.{HasNoCall, IsOnSlot, Scene, row_of, slot_of}
-use Rattle.papaya_moments.proofs.Given.Follows.Operations.{Operated, operated}
-use Rattle.papaya_moments.proofs.Given.Others.RowPlans.{row_operated, row_tells}
-use Rattle.papaya_moments.proofs.Given.Scenes.May.{may_row, may_step}
-use Rattle.papaya_acts.specs.Acts.{Act, Answer, AsksCall, BeginsCall, BeginsRow, StepsCall, StepsRow, StopsCall, TellsCall}
-use Rattle.papaya_acts.specs.AsSteps.{LeadsAs, changed_by, held_in, row_changed, row_told}
-use Rattle.papaya_acts.specs.Leads.{Led}
+use Rattle.seize_acts.specs.Given.Seize.World.{Row, times}
+use Rattle.papaya_deeds.specs.Given.Raw.Machine.{machine_asked, machine_plan, machine_replied}
+use Rattle.papaya_deeds.specs.Given.Raw.declared.machines.asking.Reply.{Reply as Told}
+use Rattle.papaya_protects.specs.Given.Finishes.Endings.{Finishing, FinishingFacts}
+use Rattle.papaya_protects.specs.Given.Finishes.Machines.{machine_of}
+use Rattle.papaya_protects.proofs.Given.Finishes.Ends.CountedBlocks.{some_last}
+use Rattle.papaya_protects.proofs.Given.Finishes.Ends.OrdersOnce.{plain_order}
+use Rattle.papaya_deeds.specs.Given.Schedules.declared.effect.Effect.{Effect}
+use Rattle.papaya_deeds.specs.Given.Schedules.declared.outcome.Outcome.TheVariants as outcome
+use Rattle.papaya_deeds.specs.Given.Schedules.Effects.{with_effects}
+use Rattle.papaya_deeds.specs.Given.Schedules.Moment.{Moment}
+use Rattle.papaya_protects.specs.Given.Effects.Effects.{effects_of, known_after}
+use Rattle.papaya_protects.specs.Given.Effects.Known.{Known}
+use Rattle.papaya_protects.specs.Given.Effects.declared.acting.Acting.{Acting}
+use Rattle.papaya_protects.specs.Given.Effects.declared.acting.Acting.TheVariants as acts
+use Rattle.papaya_protects.specs.Given.Teller.declared.changed.Changed.{Changed}
+use Rattle.papaya_protects.specs.Given.Teller.declared.changed.Changed.TheVariants.{Nothing as NoChange}
+use Rattle.papaya_protects.specs.Given.Scenes.Held.{Held, IsAt}
+use Rattle.papaya_protects.specs.Given.Scenes.Scene.{HasNoCall, IsOnSlot, Scene, row_of, slot_of}
+use Rattle.papaya_protects.proofs.Given.Follows.Operations.{Operated, operated}
+use Rattle.papaya_protects.proofs.Given.Others.RowPlans.{row_operated, row_tells}
+use Rattle.papaya_protects.proofs.Given.Scenes.May.{may_row, may_step}
+use Rattle.papaya_protects.specs.Given.Acts.Acts.{Act, Answer, AsksCall, BeginsCall, BeginsRow, StepsCall, StepsRow, StopsCall, TellsCall}
+use Rattle.papaya_protects.specs.Given.Acts.AsSteps.{LeadsAs, changed_by, held_in, row_changed, row_told}
+use Rattle.papaya_protects.specs.Given.Acts.Leads.{Led}
 use Rattle.papaya_deeds.specs.Deeds.{Entry, Replies, Steps, Stops, acted_on, after, map_of_call, moment, named}
-use Rattle.papaya_logged.proofs.EndLists.{one_of}
-use Rattle.papaya_named.specs.Seen.{kind_of}
-use Rattle.papaya_played.specs.Play.{Ending, State, is_refusal, outcome_of, reply_for, row_deed, row_outcome, row_stepped}
-use Rattle.papaya_played.specs.Reached.{IsOf, row_or_rests}
-use Rattle.papaya_played.proofs.PlayedAs.{PlayedAs}
-use Rattle.papaya_linear.specs.Coming.{Goes}
-use Rattle.papaya_linear.proofs.AsideActs.{IsQuiet, quiet_led, quiet_played}
-use Rattle.papaya_linear.proofs.Going.{noted_beside}
-use Rattle.papaya_linear.proofs.Holding.{AllHolds}
-use Rattle.papaya_linear.proofs.Like.{IsLike}
-use Rattle.papaya_linear.proofs.RowsPlayed.{is_of_row, rows_like}
-use Rattle.papaya_played.proofs.Tied.{CallTied, call_tied}
+use Rattle.papaya_protects.proofs.Given.Logged.EndLists.{one_of}
+use Rattle.papaya_protects.specs.Given.Named.Seen.{kind_of}
+use Rattle.papaya_protects.specs.Given.Played.Play.{Ending, State, is_refusal, outcome_of, reply_for, row_deed, row_outcome, row_stepped}
+use Rattle.papaya_protects.specs.Given.Played.Reached.{IsOf, row_or_rests}
+use Rattle.papaya_protects.proofs.Given.Played.PlayedAs.{PlayedAs}
+use Rattle.papaya_protects.specs.Given.Linear.Coming.{Goes}
+use Rattle.papaya_protects.proofs.Given.Linear.AsideActs.{IsQuiet, quiet_led, quiet_played}
+use Rattle.papaya_protects.proofs.Given.Linear.Going.{noted_beside}
+use Rattle.papaya_protects.proofs.Given.Linear.Holding.{AllHolds}
+use Rattle.papaya_protects.proofs.Given.Linear.Like.{IsLike}
+use Rattle.papaya_protects.proofs.Given.Linear.RowsPlayed.{is_of_row, rows_like}
+use Rattle.papaya_protects.proofs.Given.Played.Tied.{CallTied, call_tied}
 use Rattle.papaya_endings.specs.Ends.{AlikeOf}
 use Rattle.papaya_endings.specs.Going.{GoesOnToEnd}
 use Rattle.papaya_endings.specs.GoingOn.{EndsGoOn}

@@ -2,18 +2,18 @@
 use Rattle.std.specs.Prelude.{◌≡◌, ◌≢◌, ◌≤◌, ◌<◌, ◌==◌, ◌&&◌, ℕ, nat_le, Bool, true, false, List, [], ◌∷◌, filter, length, Option, Some, None, if◌then◌else◌}
 use Rattle.std.proofs.Common.{refl, ap, sym, ◌∙◌, arith, eqb-true, length-append}
 use Rattle.std.proofs.lemmas.Bool.{ne_eqb}
-use Rattle.papaya_moments.specs.Given.Schedules.declared.effect.Effect.{Effect}
-use Rattle.papaya_moments.specs.Given.Schedules.declared.effect.Effect.TheVariants as effect
-use Rattle.papaya_moments.specs.Given.Schedules.declared.effect.Spot.{Spot}
-use Rattle.papaya_moments.specs.Given.Schedules.declared.effect.Table.{Table}
-use Rattle.papaya_moments.specs.Given.Schedules.declared.effect.Thing.TheVariants.{APair, ATable}
-use Rattle.papaya_moments.specs.Given.Schedules.Effects.{AtEachEffect, all_at, in_map, is_chunked, new_pair, spot_by, stored_by, with_effect, with_effects}
-use Rattle.papaya_moments.specs.Given.Schedules.Entry.{acting}
-use Rattle.papaya_moments.specs.Given.Schedules.Lists.{is_among, put}
-use Rattle.papaya_moments.specs.Given.Schedules.Moment.{Behind, GivenBack, Handed, IsLinked, IsReclaimed, IsRetired, IsTaken, Left, MapThere, Moment, Out, Place, UnderWay}
-use Rattle.papaya_moments.specs.Given.Schedules.Views.{behind, first_of, first_or, is_in_map, is_linked, tables_of}
-use Rattle.papaya_moments.proofs.Given.Follows.Alike.{others_found, put_elsewhere}
-use Rattle.papaya_moments.proofs.Given.Others.Outside.{in_map_of}
+use Rattle.papaya_deeds.specs.Given.Schedules.declared.effect.Effect.{Effect}
+use Rattle.papaya_deeds.specs.Given.Schedules.declared.effect.Effect.TheVariants as effect
+use Rattle.papaya_deeds.specs.Given.Schedules.declared.effect.Spot.{Spot}
+use Rattle.papaya_deeds.specs.Given.Schedules.declared.effect.Table.{Table}
+use Rattle.papaya_deeds.specs.Given.Schedules.declared.effect.Thing.TheVariants.{APair, ATable}
+use Rattle.papaya_deeds.specs.Given.Schedules.Effects.{AtEachEffect, all_at, in_map, is_chunked, new_pair, spot_by, stored_by, with_effect, with_effects}
+use Rattle.papaya_deeds.specs.Given.Schedules.Entry.{acting}
+use Rattle.papaya_deeds.specs.Given.Schedules.Lists.{is_among, put}
+use Rattle.papaya_deeds.specs.Given.Schedules.Moment.{Behind, GivenBack, Handed, IsLinked, IsReclaimed, IsRetired, IsTaken, Left, MapThere, Moment, Out, Place, UnderWay}
+use Rattle.papaya_deeds.specs.Given.Schedules.Views.{behind, first_of, first_or, is_in_map, is_linked, tables_of}
+use Rattle.papaya_protects.proofs.Given.Follows.Alike.{others_found, put_elsewhere}
+use Rattle.papaya_protects.proofs.Given.Others.Outside.{in_map_of}
 use Rattle.papaya_endings.specs.Ends.{AlikeOf, AreStored, IsOut, Spares}
 use Rattle.papaya_endings.proofs.Alike.{alike_itself, alike_then}
 use Rattle.papaya_endings.proofs.Left.{left_beside, linked_beside}

@@ -1,22 +1,22 @@
 -- Wherever a list of acts has led each map that ends goes on to end, and no two ends have one map.
 use Rattle.std.specs.Prelude.{◌≡◌, ℕ, Bool, Option, Some, None}
 use Rattle.std.proofs.Common.{ap, sym, subst, ◌∙◌}
-use Rattle.papaya_moments.specs.Given.Seize.declared.rows.reclaim_all.ReclaimAll.{ReclaimAll}
-use Rattle.papaya_moments.specs.Given.Tables.declared.setting.Setting.{Setting}
-use Rattle.papaya_moments.specs.Given.Teller.declared.changed.Changed.TheVariants.{Nothing as NoChange}
-use Rattle.papaya_moments.specs.Given.Finishes.Endings.{Finishing}
-use Rattle.papaya_moments.specs.Given.Scenes.Held.{IsAt}
-use Rattle.papaya_moments.specs.Given.Scenes.Scene.{Scene, at_first, slot_of}
-use Rattle.papaya_acts.specs.Acts.{Act, Answer, AsksCall, BeginsCall, BeginsEnding, BeginsMaking, BeginsRow, StepsCall, StepsEnding, StepsMaking, StepsRow, StopsCall, TellsCall}
-use Rattle.papaya_acts.specs.AsSteps.{LeadsAs, changed_by, held_in}
-use Rattle.papaya_acts.specs.Leads.{Led, MayBe}
-use Rattle.papaya_agrees.specs.Fresh.{HasNewNumber}
-use Rattle.papaya_played.specs.Play.{Ending, State, all_begun, choice_come, first_state}
-use Rattle.papaya_played.specs.Reached.{IsOf, rows_beside}
-use Rattle.papaya_played.proofs.Along.{At, StaysSo}
-use Rattle.papaya_played.proofs.PlayedAs.{PlayedAs, played_as, reclaimed_as}
-use Rattle.papaya_linear.proofs.Holding.{AllHolds}
-use Rattle.papaya_linear.proofs.Stays.{Of, all_stay}
+use Rattle.seize_acts.specs.Given.Seize.declared.rows.reclaim_all.ReclaimAll.{ReclaimAll}
+use Rattle.papaya_deeds.specs.Given.Tables.declared.setting.Setting.{Setting}
+use Rattle.papaya_protects.specs.Given.Teller.declared.changed.Changed.TheVariants.{Nothing as NoChange}
+use Rattle.papaya_protects.specs.Given.Finishes.Endings.{Finishing}
+use Rattle.papaya_protects.specs.Given.Scenes.Held.{IsAt}
+use Rattle.papaya_protects.specs.Given.Scenes.Scene.{Scene, at_first, slot_of}
+use Rattle.papaya_protects.specs.Given.Acts.Acts.{Act, Answer, AsksCall, BeginsCall, BeginsEnding, BeginsMaking, BeginsRow, StepsCall, StepsEnding, StepsMaking, StepsRow, StopsCall, TellsCall}
+use Rattle.papaya_protects.specs.Given.Acts.AsSteps.{LeadsAs, changed_by, held_in}
+use Rattle.papaya_protects.specs.Given.Acts.Leads.{Led, MayBe}
+use Rattle.papaya_protects.specs.Given.Agrees.Fresh.{HasNewNumber}
+use Rattle.papaya_protects.specs.Given.Played.Play.{Ending, State, all_begun, choice_come, first_state}
+use Rattle.papaya_protects.specs.Given.Played.Reached.{IsOf, rows_beside}
+use Rattle.papaya_protects.proofs.Given.Played.Along.{At, StaysSo}
+use Rattle.papaya_protects.proofs.Given.Played.PlayedAs.{PlayedAs, played_as, reclaimed_as}
+use Rattle.papaya_protects.proofs.Given.Linear.Holding.{AllHolds}
+use Rattle.papaya_protects.proofs.Given.Linear.Stays.{Of, all_stay}
 use Rattle.papaya_endings.specs.GoingOn.{EndsGoOn}
 use Rattle.papaya_endings.proofs.EndStepGoes.{end_step_goes}
 use Rattle.papaya_endings.proofs.EndingGoes.{begins_going}

@@ -1,19 +1,19 @@
 -- That by the history of each list of acts a map ends in order: its pairs go by their places, table by table, and then its tables, from the root's on, and all of them have gone as it is over.
 use Rattle.std.specs.Prelude.{◌≡◌, ◌<◌, ◌^◌, ℕ, Bool, List, [], None, Some}
 use Rattle.std.specs.List.{AllByRecursion}
-use Rattle.papaya_moments.specs.Given.Schedules.declared.effect.Effect.{Effect}
-use Rattle.papaya_moments.specs.Given.Schedules.After.{AtEachEvent}
-use Rattle.papaya_moments.specs.Given.Schedules.Effects.{AtEachEffect}
-use Rattle.papaya_moments.specs.Given.Schedules.Moment.{Moment}
-use Rattle.papaya_moments.specs.Given.Schedules.Views.{size_of}
-use Rattle.papaya_moments.specs.Given.Scenes.Scene.{slot_of}
-use Rattle.papaya_acts.specs.Doings.{Doing}
-use Rattle.papaya_acts.specs.Lists.{Course, LedTo, Reached}
-use Rattle.papaya_agrees.specs.Fresh.{MakesNew}
+use Rattle.papaya_deeds.specs.Given.Schedules.declared.effect.Effect.{Effect}
+use Rattle.papaya_deeds.specs.Given.Schedules.After.{AtEachEvent}
+use Rattle.papaya_deeds.specs.Given.Schedules.Effects.{AtEachEffect}
+use Rattle.papaya_deeds.specs.Given.Schedules.Moment.{Moment}
+use Rattle.papaya_deeds.specs.Given.Schedules.Views.{size_of}
+use Rattle.papaya_protects.specs.Given.Scenes.Scene.{slot_of}
+use Rattle.papaya_protects.specs.Given.Acts.Doings.{Doing}
+use Rattle.papaya_protects.specs.Given.Acts.Lists.{Course, LedTo, Reached}
+use Rattle.papaya_protects.specs.Given.Agrees.Fresh.{MakesNew}
 use Rattle.papaya_deeds.specs.Deeds.{Deed, Ends, Entry, MapGoes, moment, worked}
 use Rattle.papaya_deeds.specs.History.{EndFinds, left_tables}
-use Rattle.papaya_linear.specs.Linear.{IsOfOwn}
-use Rattle.papaya_played.specs.Play.{State, first_state, play_all}
+use Rattle.papaya_protects.specs.Given.Linear.Linear.{IsOfOwn}
+use Rattle.papaya_protects.specs.Given.Played.Play.{State, first_state, play_all}
 
 module _ {K V : Type 0} where
   -- What a step of an end does to its map finds that next, at the moment before it; and after the last one no pair of the map is there, and none of its tables.

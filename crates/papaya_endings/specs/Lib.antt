@@ -2,3 +2,4 @@ pub mod Ends
 pub mod Going
 pub mod GoingOn
 pub mod InOrder
+pub mod Given

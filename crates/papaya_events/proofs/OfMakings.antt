@@ -4,72 +4,72 @@ use Rattle.std.specs.List.{AllByRecursion}
 use Rattle.std.proofs.Common.{refl, sym, ap, subst, inl, inr, ◌∙◌, arith}
 use Rattle.std.proofs.lemmas.Bool.{eq-eqb, ne_eqb}
 use Rattle.std.proofs.lemmas.Nat.{pow_pos}
-use Rattle.papaya_folded.specs.Given.Seize.declared.progress.Progress.{Progress}
-use Rattle.papaya_folded.specs.Given.Seize.declared.progress.Progress.TheVariants as progress
-use Rattle.papaya_folded.specs.Given.Runs.Same.{is_same}
-use Rattle.papaya_folded.specs.Given.Tables.declared.resize_mode.ResizeMode.{ResizeMode}
-use Rattle.papaya_folded.specs.Given.Tables.Lengths.{places_for}
-use Rattle.papaya_folded.specs.Given.Tables.Powers.{floor_log2, next_power}
-use Rattle.papaya_folded.specs.Given.Tables.declared.setting.Setting.{Setting}
-use Rattle.papaya_folded.proofs.Given.Callers.Together.At.{at_same}
-use Rattle.papaya_scheduler.specs.Given.Executor.declared.executor.Executor.{Executor}
-use Rattle.papaya_folded.specs.Given.Finishes.Makings.{Beginning}
-use Rattle.papaya_folded.specs.Given.Finishes.Maps.{Standing}
-use Rattle.papaya_folded.specs.Given.Others.Makings.{IsNew, WasNew}
-use Rattle.papaya_folded.specs.Given.SeizeWords.declared.fault.Fault.{Fault}
-use Rattle.papaya_folded.proofs.Given.Runs.Sames.{same_refl}
-use Rattle.papaya_folded.specs.Given.Schedules.declared.effect.Effect.{Effect}
-use Rattle.papaya_folded.specs.Given.Schedules.declared.event.Event.{Event}
-use Rattle.papaya_folded.specs.Given.Schedules.declared.event.Event.TheVariants.{MakeMap}
-use Rattle.papaya_folded.specs.Given.Schedules.declared.outcome.Outcome.TheVariants.{Done, Refused}
-use Rattle.papaya_folded.specs.Given.Schedules.After.{moment}
-use Rattle.papaya_folded.specs.Given.Schedules.Beginning.{used_roots, with_map}
-use Rattle.papaya_folded.specs.Given.Schedules.Effects.{with_effects, worked}
-use Rattle.papaya_folded.specs.Given.Schedules.Entry.{Entry}
-use Rattle.papaya_folded.specs.Given.Schedules.Handing.{IsWhole, is_first_making, is_table_made, may_do, tables_named}
-use Rattle.papaya_folded.specs.Given.Schedules.InTurn.{ComesRight}
-use Rattle.papaya_folded.specs.Given.Schedules.Lists.{least_free}
-use Rattle.papaya_folded.specs.Given.Schedules.Moment.{MapThere, Moment}
-use Rattle.papaya_folded.specs.Given.Schedules.Terms.{Terms, shards_of}
-use Rattle.papaya_folded.specs.Given.Schedules.Views.{map_at, map_of, number_of, tables_of}
-use Rattle.papaya_folded.specs.Given.Effects.Known.{Known, known}
-use Rattle.papaya_folded.specs.Given.Effects.declared.notes.Notes.{Notes}
-use Rattle.papaya_folded.proofs.Given.Legal.Heads.Chains.{makings_taken}
-use Rattle.papaya_folded.proofs.Given.Legal.Heads.Rows.{slots_stay}
-use Rattle.papaya_folded.proofs.Given.Finds.Capacities.{given_are_for}
-use Rattle.papaya_folded.specs.Given.Legal.CallEvents.{IsLegalBut}
-use Rattle.papaya_folded.specs.Given.Models.Follows.{FollowsModel}
-use Rattle.papaya_folded.specs.Given.Legal.Carried.{ComesAlone, ShowsRun}
-use Rattle.papaya_folded.specs.Given.Legal.Chains.{Chain as StepChain, Come, MakingSteps}
-use Rattle.papaya_folded.specs.Given.Legal.MapEvents.{InMakingEvent}
-use Rattle.papaya_folded.proofs.Given.Legal.Chains.{makings_run_to_their_ends}
-use Rattle.papaya_folded.proofs.Given.Legal.MapsOver.{making_events_begin_so}
-use Rattle.papaya_works.specs.Makings.{CountsTables, table_left}
-use Rattle.papaya_works.proofs.Firsts.{makings_open}
-use Rattle.papaya_folded.specs.Given.Reclaims.Left.{LeftAmong}
-use Rattle.papaya_folded.specs.Given.Logged.Goes.{far}
-use Rattle.papaya_folded.specs.Given.Logged.Makings.{MakingIsBegun}
-use Rattle.papaya_folded.specs.Given.Logged.Shown.{IsShown}
-use Rattle.papaya_folded.specs.Given.Logged.declared.logged.Logged.{Logged}
-use Rattle.papaya_folded.proofs.Given.Logged.GivenBack.{with_maps}
-use Rattle.papaya_folded.proofs.Given.Rows.Lists.{found_alike}
-use Rattle.papaya_folded.proofs.Given.Tables.Logarithms.{next-power-unique}
-use Rattle.papaya_folded.specs.Given.Named.Places.{first_places}
-use Rattle.papaya_scheduler.specs.Mapping.{MayMap}
-use Rattle.papaya_scheduler.specs.Played.{IsPlayed, entry_of}
-use Rattle.papaya_folded.specs.Given.Named.Seen.{named as named_of_map, number_named}
-use Rattle.papaya_scheduler.specs.Works.{MakingHasRun, WorksOnMap}
-use Rattle.papaya_scheduler.specs.declared.played.Played.{Played}
-use Rattle.papaya_scheduler.specs.declared.scheduler.Scheduler.{Scheduler}
-use Rattle.papaya_mapping.proofs.MapLists.{by_recursion}
-use Rattle.papaya_mapping.proofs.MapsMade.{new_one, shown_there as shown_by}
-use Rattle.papaya_scheduler.proofs.Maps.{number_is}
-use Rattle.papaya_scheduler.proofs.RanOn.{maps_named}
-use Rattle.papaya_scheduler.proofs.Rights.{entry, entry_is}
+use Rattle.papaya_stepping.specs.Given.Seize.declared.progress.Progress.{Progress}
+use Rattle.papaya_stepping.specs.Given.Seize.declared.progress.Progress.TheVariants as progress
+use Rattle.papaya_stepping.specs.Given.Runs.Same.{is_same}
+use Rattle.papaya_stepping.specs.Given.Tables.declared.resize_mode.ResizeMode.{ResizeMode}
+use Rattle.papaya_stepping.specs.Given.Tables.Lengths.{places_for}
+use Rattle.papaya_stepping.specs.Given.Tables.Powers.{floor_log2, next_power}
+use Rattle.papaya_stepping.specs.Given.Tables.declared.setting.Setting.{Setting}
+use Rattle.papaya_stepping.proofs.Given.Callers.Together.At.{at_same}
+use Rattle.papaya_stepping.specs.Given.Executor.declared.executor.Executor.{Executor}
+use Rattle.papaya_stepping.specs.Given.Finishes.Makings.{Beginning}
+use Rattle.papaya_stepping.specs.Given.Finishes.Maps.{Standing}
+use Rattle.papaya_values.specs.Given.Others.Makings.{IsNew, WasNew}
+use Rattle.papaya_stepping.specs.Given.SeizeWords.declared.fault.Fault.{Fault}
+use Rattle.papaya_stepping.proofs.Given.Runs.Sames.{same_refl}
+use Rattle.papaya_values.specs.Given.Schedules.declared.effect.Effect.{Effect}
+use Rattle.papaya_values.specs.Given.Schedules.declared.event.Event.{Event}
+use Rattle.papaya_values.specs.Given.Schedules.declared.event.Event.TheVariants.{MakeMap}
+use Rattle.papaya_values.specs.Given.Schedules.declared.outcome.Outcome.TheVariants.{Done, Refused}
+use Rattle.papaya_values.specs.Given.Schedules.After.{moment}
+use Rattle.papaya_values.specs.Given.Schedules.Beginning.{used_roots, with_map}
+use Rattle.papaya_values.specs.Given.Schedules.Effects.{with_effects, worked}
+use Rattle.papaya_values.specs.Given.Schedules.Entry.{Entry}
+use Rattle.papaya_values.specs.Given.Schedules.Handing.{IsWhole, is_first_making, is_table_made, may_do, tables_named}
+use Rattle.papaya_values.specs.Given.Schedules.InTurn.{ComesRight}
+use Rattle.papaya_values.specs.Given.Schedules.Lists.{least_free}
+use Rattle.papaya_values.specs.Given.Schedules.Moment.{MapThere, Moment}
+use Rattle.papaya_values.specs.Given.Schedules.Terms.{Terms, shards_of}
+use Rattle.papaya_values.specs.Given.Schedules.Views.{map_at, map_of, number_of, tables_of}
+use Rattle.papaya_values.specs.Given.Effects.Known.{Known, known}
+use Rattle.papaya_values.specs.Given.Effects.declared.notes.Notes.{Notes}
+use Rattle.papaya_stepping.proofs.Given.Legal.Heads.Chains.{makings_taken}
+use Rattle.papaya_stepping.proofs.Given.Legal.Heads.Rows.{slots_stay}
+use Rattle.papaya_stepping.proofs.Given.Finds.Capacities.{given_are_for}
+use Rattle.papaya_stepping.specs.Given.Legal.CallEvents.{IsLegalBut}
+use Rattle.papaya_stepping.specs.Given.Models.Follows.{FollowsModel}
+use Rattle.papaya_stepping.specs.Given.Legal.Carried.{ComesAlone, ShowsRun}
+use Rattle.papaya_stepping.specs.Given.Legal.Chains.{Chain as StepChain, Come, MakingSteps}
+use Rattle.papaya_stepping.specs.Given.Legal.MapEvents.{InMakingEvent}
+use Rattle.papaya_stepping.proofs.Given.Legal.Chains.{makings_run_to_their_ends}
+use Rattle.papaya_stepping.proofs.Given.Legal.MapsOver.{making_events_begin_so}
+use Rattle.papaya_stepping.specs.Given.Works.Makings.{CountsTables, table_left}
+use Rattle.papaya_stepping.proofs.Given.Works.Firsts.{makings_open}
+use Rattle.papaya_values.specs.Given.Reclaims.Left.{LeftAmong}
+use Rattle.papaya_stepping.specs.Given.Logged.Goes.{far}
+use Rattle.papaya_stepping.specs.Given.Logged.Makings.{MakingIsBegun}
+use Rattle.papaya_stepping.specs.Given.Logged.Shown.{IsShown}
+use Rattle.papaya_stepping.specs.Given.Logged.declared.logged.Logged.{Logged}
+use Rattle.papaya_stepping.proofs.Given.Logged.GivenBack.{with_maps}
+use Rattle.papaya_stepping.proofs.Given.Rows.Lists.{found_alike}
+use Rattle.papaya_stepping.proofs.Given.Tables.Logarithms.{next-power-unique}
+use Rattle.papaya_values.specs.Given.Named.Places.{first_places}
+use Rattle.papaya_stepping.specs.Given.Scheduler.Mapping.{MayMap}
+use Rattle.papaya_stepping.specs.Given.Scheduler.Played.{IsPlayed, entry_of}
+use Rattle.papaya_values.specs.Given.Named.Seen.{named as named_of_map, number_named}
+use Rattle.papaya_stepping.specs.Given.Scheduler.Works.{MakingHasRun, WorksOnMap}
+use Rattle.papaya_stepping.specs.Given.Scheduler.declared.played.Played.{Played}
+use Rattle.papaya_stepping.specs.Given.Scheduler.declared.scheduler.Scheduler.{Scheduler}
+use Rattle.papaya_stepping.proofs.Given.Mapping.MapLists.{by_recursion}
+use Rattle.papaya_stepping.proofs.Given.Mapping.MapsMade.{new_one, shown_there as shown_by}
+use Rattle.papaya_stepping.proofs.Given.Scheduler.Maps.{number_is}
+use Rattle.papaya_stepping.proofs.Given.Scheduler.RanOn.{maps_named}
+use Rattle.papaya_stepping.proofs.Given.Scheduler.Rights.{entry, entry_is}
 use Rattle.papaya_events.specs.Asked.{Holds}
 use Rattle.papaya_events.specs.OfCalls.{HaveShards, Runs, RunsOn}
 use Rattle.papaya_events.specs.OfRows.{KeepsRun}
-use Rattle.papaya_works.proofs.Reached.{makings_note_more}
+use Rattle.papaya_stepping.proofs.Given.Works.Reached.{makings_note_more}
 use Rattle.papaya_events.proofs.OfMakings.Begun.{begun_as, begun_in, begun_shown, none_begun}
 use Rattle.papaya_events.proofs.OfMakings.Chain.{HasFound, MakingComes, Midway, comes_on, counts_on, found_on, makings_come, masks}
 use Rattle.papaya_events.proofs.OfMakings.Unmade.{refused_runs}
@@ -79,8 +79,8 @@ use Rattle.papaya_events.proofs.OfRows.Over.{over_runs}
 use Rattle.papaya_events.proofs.OfRows.May.{all_by}
 use Rattle.papaya_events.proofs.OfRows.Quiet.{refused_still, still_keeps}
 use Rattle.papaya_events.proofs.Remaining.{nobody_makes}
-use Rattle.papaya_scheduler.specs.Given.Executor.IsThere.{IsThere, held_by}
-use Rattle.papaya_folded.specs.Given.Scenes.Scene.{Scene}
+use Rattle.papaya_stepping.specs.Given.Executor.IsThere.{IsThere, held_by}
+use Rattle.papaya_values.specs.Given.Scenes.Scene.{Scene}
 pub mod Chain
 pub mod Begun
 pub mod Unmade

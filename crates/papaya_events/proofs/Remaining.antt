@@ -3,34 +3,34 @@
 use Rattle.std.specs.Prelude.{◌≡◌, ◌⊎◌, ◌<◌, ℕ, Bool, List, map, Option, Some, None}
 use Rattle.std.specs.List.{AllByRecursion}
 use Rattle.std.proofs.Common.{refl, ap, sym, subst, ◌∙◌, inl, inr}
-use Rattle.papaya_folded.specs.Given.SeizeWords.SlotWords.{slot_word}
-use Rattle.papaya_folded.specs.Given.Seize.declared.states.TheConstants.{HEAD}
-use Rattle.papaya_folded.specs.Given.Tables.declared.setting.Setting.{Setting}
-use Rattle.papaya_folded.specs.Given.Raw.declared.machines.end_map.EndMap.{EndMap}
-use Rattle.papaya_folded.specs.Given.Resize.declared.new_map.NewMap.{NewMap}
-use Rattle.papaya_folded.specs.Given.Finishes.Endings.{Finishing}
-use Rattle.papaya_folded.specs.Given.Finishes.Makings.{Beginning}
-use Rattle.papaya_folded.specs.Given.Finishes.Maps.{Standing}
-use Rattle.papaya_folded.specs.Given.Moments.Numbers.{AreFound}
-use Rattle.papaya_folded.specs.Given.Schedules.Moment.{Moment}
-use Rattle.papaya_folded.specs.Given.Effects.Known.{known}
-use Rattle.papaya_folded.specs.Given.Effects.declared.role.Role.TheVariants as role
-use Rattle.papaya_folded.specs.Given.Schedules.Terms.{Terms}
-use Rattle.papaya_folded.specs.Given.Reclaims.Left.{IsSomebodys, LeftAmong}
-use Rattle.papaya_folded.specs.Given.Reclaims.Reclaims.{IsRootOf, LeftBehind, RootLeads}
-use Rattle.papaya_folded.specs.Given.Remains.Remains.{AllStand, RootsAreTaken, ShowsRemains, has_some, left_at}
-use Rattle.papaya_folded.proofs.Given.Remains.Leads.{both_lead}
-use Rattle.papaya_folded.proofs.Given.Remains.Rests.{each_noted, rests_remain}
-use Rattle.papaya_folded.specs.Given.Logged.Shown.{IsCounted}
-use Rattle.papaya_folded.proofs.Given.Rows.Facts.{no_ending_of, no_making_of}
-use Rattle.papaya_folded.proofs.Given.Rows.Lists.{both_none, both_some}
-use Rattle.papaya_scheduler.specs.Played.{StandsFor}
-use Rattle.papaya_scheduler.specs.Reclaiming.{MayGiveAll}
-use Rattle.papaya_folded.specs.Given.Named.Seen.{named, named_of}
-use Rattle.papaya_scheduler.specs.declared.scheduler.Scheduler.{Scheduler}
-use Rattle.papaya_mapping.proofs.MapLists.{all_back, all_seen}
-use Rattle.papaya_scheduler.specs.Given.Executor.IsThere.{IsThere, held_by}
-use Rattle.papaya_folded.specs.Given.Scenes.Scene.{Scene}
+use Rattle.papaya_stepping.specs.Given.SeizeWords.SlotWords.{slot_word}
+use Rattle.papaya_stepping.specs.Given.Seize.declared.states.TheConstants.{HEAD}
+use Rattle.papaya_stepping.specs.Given.Tables.declared.setting.Setting.{Setting}
+use Rattle.papaya_stepping.specs.Given.Raw.declared.machines.end_map.EndMap.{EndMap}
+use Rattle.papaya_stepping.specs.Given.Resize.declared.new_map.NewMap.{NewMap}
+use Rattle.papaya_stepping.specs.Given.Finishes.Endings.{Finishing}
+use Rattle.papaya_stepping.specs.Given.Finishes.Makings.{Beginning}
+use Rattle.papaya_stepping.specs.Given.Finishes.Maps.{Standing}
+use Rattle.papaya_values.specs.Given.Moments.Numbers.{AreFound}
+use Rattle.papaya_values.specs.Given.Schedules.Moment.{Moment}
+use Rattle.papaya_values.specs.Given.Effects.Known.{known}
+use Rattle.papaya_values.specs.Given.Effects.declared.role.Role.TheVariants as role
+use Rattle.papaya_values.specs.Given.Schedules.Terms.{Terms}
+use Rattle.papaya_values.specs.Given.Reclaims.Left.{IsSomebodys, LeftAmong}
+use Rattle.papaya_values.specs.Given.Reclaims.Reclaims.{IsRootOf, LeftBehind, RootLeads}
+use Rattle.papaya_stepping.specs.Given.Remains.Remains.{AllStand, RootsAreTaken, ShowsRemains, has_some, left_at}
+use Rattle.papaya_stepping.proofs.Given.Remains.Leads.{both_lead}
+use Rattle.papaya_stepping.proofs.Given.Remains.Rests.{each_noted, rests_remain}
+use Rattle.papaya_stepping.specs.Given.Logged.Shown.{IsCounted}
+use Rattle.papaya_stepping.proofs.Given.Rows.Facts.{no_ending_of, no_making_of}
+use Rattle.papaya_stepping.proofs.Given.Rows.Lists.{both_none, both_some}
+use Rattle.papaya_stepping.specs.Given.Scheduler.Played.{StandsFor}
+use Rattle.papaya_stepping.specs.Given.Scheduler.Reclaiming.{MayGiveAll}
+use Rattle.papaya_values.specs.Given.Named.Seen.{named, named_of}
+use Rattle.papaya_stepping.specs.Given.Scheduler.declared.scheduler.Scheduler.{Scheduler}
+use Rattle.papaya_stepping.proofs.Given.Mapping.MapLists.{all_back, all_seen}
+use Rattle.papaya_stepping.specs.Given.Executor.IsThere.{IsThere, held_by}
+use Rattle.papaya_values.specs.Given.Scenes.Scene.{Scene}
 
 -- a root that a standing map has in one scene of an executor it has in any
 root_in : {K V S : Type 0} (same : K → K → Bool) (hash : K → ℕ) (p : Scheduler K V S) (s t : Scene K V) → IsThere same hash p.logged.executor s → IsThere same hash p.logged.executor t → (r : ℕ)

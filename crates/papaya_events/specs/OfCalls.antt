@@ -1,47 +1,47 @@
 -- What is so after each event of a run, of the scheduler and of the scene for which it stands; and what is promised of an event of a call: it keeps its promises, and the run goes on.
 use Rattle.std.specs.Prelude.{◌≡◌, ◌<◌, ◌≤◌, ◌^◌, ◌+◌, ℕ, Bool, true, false, List, ◌∷◌, slice_index_or, Option, Some, None}
 use Rattle.std.specs.List.{AllByRecursion}
-use Rattle.papaya_folded.specs.Given.SeizeWaiting.Held.{count}
-use Rattle.papaya_folded.specs.Given.Seize.WaitingSets.{Sets}
-use Rattle.papaya_folded.specs.Given.Seize.World.{World, IsInside, SlotsTaken}
-use Rattle.papaya_folded.specs.Given.Tables.declared.node.Node.{Node}
-use Rattle.papaya_folded.specs.Given.Tables.declared.setting.Setting.{Setting}
-use Rattle.papaya_folded.specs.Given.Raw.declared.machines.progress.Progress.{Progress}
-use Rattle.papaya_folded.specs.Given.Schedules.declared.effect.Effect.{Effect}
-use Rattle.papaya_folded.specs.Given.Schedules.declared.event.Event.{Event}
-use Rattle.papaya_folded.specs.Given.Schedules.After.{moment}
-use Rattle.papaya_folded.specs.Given.Schedules.Entry.{Entry}
-use Rattle.papaya_folded.specs.Given.Schedules.InTurn.{ComesRight}
-use Rattle.papaya_folded.specs.Given.Schedules.declared.effect.Thing.{Thing}
-use Rattle.papaya_folded.specs.Given.Schedules.Model.{things_in}
-use Rattle.papaya_folded.specs.Given.Schedules.Moment.{UnderWay as CallThere, Moment}
-use Rattle.papaya_folded.specs.Given.Schedules.Terms.{Terms, shards_of}
-use Rattle.papaya_folded.specs.Given.Schedules.Views.{call_of}
-use Rattle.papaya_folded.specs.Given.Callers.Together.{UnderWay}
-use Rattle.papaya_folded.specs.Given.Effects.Effects.{known_after}
-use Rattle.papaya_folded.specs.Given.Effects.Known.{Known, known}
-use Rattle.papaya_folded.specs.Given.Effects.declared.acting.Acting.TheVariants as acts
-use Rattle.papaya_scheduler.specs.Given.Executor.declared.executor.Executor.{Executor}
-use Rattle.papaya_folded.specs.Given.Histories.InEvent.{ComesSo}
-use Rattle.papaya_folded.specs.Given.Finishes.Machines.{machine_of}
-use Rattle.papaya_folded.specs.Given.Models.CallEvents.{IsInItsRow}
+use Rattle.papaya_stepping.specs.Given.SeizeWaiting.Held.{count}
+use Rattle.papaya_stepping.specs.Given.Seize.WaitingSets.{Sets}
+use Rattle.papaya_stepping.specs.Given.Seize.World.{World, IsInside, SlotsTaken}
+use Rattle.papaya_stepping.specs.Given.Tables.declared.node.Node.{Node}
+use Rattle.papaya_stepping.specs.Given.Tables.declared.setting.Setting.{Setting}
+use Rattle.papaya_stepping.specs.Given.Raw.declared.machines.progress.Progress.{Progress}
+use Rattle.papaya_values.specs.Given.Schedules.declared.effect.Effect.{Effect}
+use Rattle.papaya_values.specs.Given.Schedules.declared.event.Event.{Event}
+use Rattle.papaya_values.specs.Given.Schedules.After.{moment}
+use Rattle.papaya_values.specs.Given.Schedules.Entry.{Entry}
+use Rattle.papaya_values.specs.Given.Schedules.InTurn.{ComesRight}
+use Rattle.papaya_values.specs.Given.Schedules.declared.effect.Thing.{Thing}
+use Rattle.papaya_values.specs.Given.Schedules.Model.{things_in}
+use Rattle.papaya_values.specs.Given.Schedules.Moment.{UnderWay as CallThere, Moment}
+use Rattle.papaya_values.specs.Given.Schedules.Terms.{Terms, shards_of}
+use Rattle.papaya_values.specs.Given.Schedules.Views.{call_of}
+use Rattle.papaya_stepping.specs.Given.Callers.Together.{UnderWay}
+use Rattle.papaya_values.specs.Given.Effects.Effects.{known_after}
+use Rattle.papaya_values.specs.Given.Effects.Known.{Known, known}
+use Rattle.papaya_values.specs.Given.Effects.declared.acting.Acting.TheVariants as acts
+use Rattle.papaya_stepping.specs.Given.Executor.declared.executor.Executor.{Executor}
+use Rattle.papaya_stepping.specs.Given.Histories.InEvent.{ComesSo}
+use Rattle.papaya_stepping.specs.Given.Finishes.Machines.{machine_of}
+use Rattle.papaya_stepping.specs.Given.Models.CallEvents.{IsInItsRow}
 use Rattle.papaya_values.specs.Values.{KeepsValue}
-use Rattle.papaya_folded.specs.Given.Named.declared.caller.Caller.{Caller}
-use Rattle.papaya_folded.specs.Given.Legal.CallEvents.{InCallEvent, IsLegalBut}
-use Rattle.papaya_folded.specs.Given.Legal.CallSwept.{TellsOf}
-use Rattle.papaya_folded.specs.Given.Legal.Carried.{ShowsRun}
-use Rattle.papaya_folded.specs.Given.Legal.Noted.{HaveCome}
-use Rattle.papaya_folded.specs.Folded.{HandsInOrder}
-use Rattle.papaya_scheduler.specs.Played.{IsPlayed, entry_of}
-use Rattle.papaya_folded.specs.Given.Named.Seen.{kind_of}
-use Rattle.papaya_scheduler.specs.declared.played.Played.{Played}
-use Rattle.papaya_scheduler.specs.declared.scheduler.Scheduler.{Scheduler}
+use Rattle.papaya_values.specs.Given.Named.declared.caller.Caller.{Caller}
+use Rattle.papaya_stepping.specs.Given.Legal.CallEvents.{InCallEvent, IsLegalBut}
+use Rattle.papaya_stepping.specs.Given.Legal.CallSwept.{TellsOf}
+use Rattle.papaya_stepping.specs.Given.Legal.Carried.{ShowsRun}
+use Rattle.papaya_stepping.specs.Given.Legal.Noted.{HaveCome}
+use Rattle.papaya_stepping.specs.Given.Folded.Folded.{HandsInOrder}
+use Rattle.papaya_stepping.specs.Given.Scheduler.Played.{IsPlayed, entry_of}
+use Rattle.papaya_values.specs.Given.Named.Seen.{kind_of}
+use Rattle.papaya_stepping.specs.Given.Scheduler.declared.played.Played.{Played}
+use Rattle.papaya_stepping.specs.Given.Scheduler.declared.scheduler.Scheduler.{Scheduler}
 use Rattle.papaya_stepping.specs.Stepping.{ComesAs, outcome_of}
-use Rattle.papaya_works.specs.Needs.{AreReached}
+use Rattle.papaya_stepping.specs.Given.Works.Needs.{AreReached}
 use Rattle.papaya_events.specs.Asked.{FindsRight, is_of_calls}
-use Rattle.papaya_folded.specs.Given.Scenes.Scene.{Scene}
-use Rattle.papaya_folded.specs.Given.Scenes.Held.{Held, IsAt}
-use Rattle.papaya_folded.specs.Given.Scenes.Stepping.{StepLeads}
+use Rattle.papaya_values.specs.Given.Scenes.Scene.{Scene}
+use Rattle.papaya_values.specs.Given.Scenes.Held.{Held, IsAt}
+use Rattle.papaya_values.specs.Given.Scenes.Stepping.{StepLeads}
 
 -- each map has as many shards as the terms say
 abbrev pub HaveShards : {K V S : Type 0} → Terms → Executor K V S → Type 0

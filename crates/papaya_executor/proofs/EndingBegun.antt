@@ -5,7 +5,7 @@ use Rattle.std.proofs.lemmas.Bool.{cases_eq}
 use Rattle.std.proofs.lemmas.List.{get_or-set_other, get_or-set_same, length-set}
 use Rattle.seize.specs.World.{with_at}
 use Rattle.papaya_scenes.specs.Given.Tables.declared.setting.Setting.{Setting}
-use Rattle.papaya_raw.specs.EndMap.{ending}
+use Rattle.papaya_scenes.specs.Given.Raw.EndMap.{ending}
 use Rattle.papaya_scenes.proofs.Given.Callers.Together.At.{at_other, at_same}
 use Rattle.papaya_scenes.proofs.Given.Callers.Together.Slots.{alike_same}
 use Rattle.papaya_scenes.specs.Given.Finishes.Endings.{finishing_of}

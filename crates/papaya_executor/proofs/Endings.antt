@@ -8,9 +8,9 @@ use Rattle.seize.specs.declared.rows.settle.Settled.{Settled}
 use Rattle.seize.specs.declared.rows.settle.Settled.TheVariants as settled
 use Rattle.papaya_scenes.specs.Given.Tables.Nodes.{deferred_word}
 use Rattle.papaya_scenes.specs.Given.Tables.declared.node.Node.{Node}
-use Rattle.papaya_raw.specs.EndMap.{end_map_plan}
-use Rattle.papaya_raw.specs.declared.machines.end_map.EndMap.{EndMap}
-use Rattle.papaya_teller.specs.declared.changed.Changed.TheVariants.{Nothing}
+use Rattle.papaya_scenes.specs.Given.Raw.EndMap.{end_map_plan}
+use Rattle.papaya_scenes.specs.Given.Raw.declared.machines.end_map.EndMap.{EndMap}
+use Rattle.papaya_scenes.specs.Given.Teller.declared.changed.Changed.TheVariants.{Nothing}
 use Rattle.papaya_scenes.proofs.Given.Callers.Together.Slots.{between_rows, between_slots}
 use Rattle.papaya_scenes.specs.Given.Callers.Rows.{LeavesSlots}
 use Rattle.papaya_scenes.specs.Given.Finishes.Endings.{Finishing, EndingsTogether, FinishingTold, StepsOfEnding, waiting_by}

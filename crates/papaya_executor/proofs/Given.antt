@@ -14,3 +14,7 @@ pub use Rattle.papaya_scenes.proofs.Given.Tells
 pub use Rattle.papaya_scenes.proofs.Given.Callers
 pub use Rattle.papaya_scenes.proofs.Given.Finishes
 pub use Rattle.papaya_scenes.proofs as Scenes
+pub use Rattle.papaya_scenes.proofs.Given.Reclaims
+pub use Rattle.papaya_scenes.proofs.Given.SeizeActs
+pub use Rattle.papaya_scenes.proofs.Given.SeizeReclaims
+pub use Rattle.papaya_scenes.proofs.Given.SeizeQuiet

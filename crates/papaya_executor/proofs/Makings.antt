@@ -13,7 +13,7 @@ use Rattle.papaya_scenes.specs.Given.Tables.declared.node.Node.{Node}
 use Rattle.papaya_scenes.specs.Given.Tables.declared.setting.Setting.{Setting}
 use Rattle.papaya_scenes.specs.Given.Resize.NewMap.{new_map_plan}
 use Rattle.papaya_scenes.specs.Given.Resize.declared.new_map.NewMap.{NewMap}
-use Rattle.papaya_teller.specs.declared.changed.Changed.TheVariants.{Nothing}
+use Rattle.papaya_scenes.specs.Given.Teller.declared.changed.Changed.TheVariants.{Nothing}
 use Rattle.papaya_scenes.proofs.Given.Callers.Together.At.{at_other, at_same}
 use Rattle.papaya_scenes.proofs.Given.Callers.Together.Slots.{all_between, between_rows, between_slots}
 use Rattle.papaya_scenes.specs.Given.Callers.Rows.{LeavesSlots}

@@ -1,9 +1,9 @@
 -- What a call is told, and what it is asked for: the executor is there again.
 use Rattle.std.specs.Prelude.{◌≡◌, ℕ, Bool, Some, None, Result, slice_set}
 use Rattle.std.proofs.Common.{refl, sym, ap, subst, ◌∙◌}
-use Rattle.papaya_raw.specs.Machine.{machine_replied, machine_asked}
-use Rattle.papaya_raw.specs.declared.machines.asking.Reply.{Reply}
-use Rattle.papaya_raw.specs.declared.machines.machine.Machine.{Machine}
+use Rattle.papaya_scenes.specs.Given.Raw.Machine.{machine_replied, machine_asked}
+use Rattle.papaya_scenes.specs.Given.Raw.declared.machines.asking.Reply.{Reply}
+use Rattle.papaya_scenes.specs.Given.Raw.declared.machines.machine.Machine.{Machine}
 use Rattle.papaya_scenes.proofs.Given.Callers.Together.Slots.{alike_same}
 use Rattle.papaya_scenes.specs.Given.Callers.Together.{UnderWay}
 use Rattle.papaya_scenes.specs.Given.Finishes.Endings.{EndingsTogether}

@@ -34,8 +34,8 @@ use Rattle.papaya_scenes.proofs.Given.SeizeRule.Words.Shows.{Extra}
 use Rattle.papaya_scenes.proofs.Given.SeizeRule.Words.View.{view}
 use Rattle.papaya_scenes.specs.Given.Tables.Nodes.{deferred_word}
 use Rattle.papaya_scenes.specs.Given.Tables.declared.node.Node.{Node}
-use Rattle.papaya_teller.specs.declared.changed.Changed.{Changed}
-use Rattle.papaya_teller.specs.declared.changed.Changed.TheVariants.{Nothing}
+use Rattle.papaya_scenes.specs.Given.Teller.declared.changed.Changed.{Changed}
+use Rattle.papaya_scenes.specs.Given.Teller.declared.changed.Changed.TheVariants.{Nothing}
 use Rattle.papaya_scenes.specs.Given.Callers.Rows.{IsRowOn, LeavesSlots}
 use Rattle.papaya_scenes.proofs.Given.Callers.Together.Slots.{alike_same, alike_at, step_leaves}
 use Rattle.papaya_executor.specs.declared.executor.Executor.{Executor}

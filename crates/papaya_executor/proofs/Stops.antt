@@ -5,8 +5,8 @@ use Rattle.seize.specs.World.{Rests, with_at}
 use Rattle.papaya_scenes.proofs.Given.SeizeRule.Rows.Leaving.{with_same}
 use Rattle.papaya_scenes.specs.Given.Sweeps.declared.sweep.Sweeping.{Sweeping}
 use Rattle.papaya_scenes.specs.Given.Sweeps.declared.sweep.Sweeping.TheVariants as sweeping
-use Rattle.papaya_raw.specs.Machine.{machine_asked, is_ready}
-use Rattle.papaya_raw.specs.declared.machines.machine.Machine.{Machine}
+use Rattle.papaya_scenes.specs.Given.Raw.Machine.{machine_asked, is_ready}
+use Rattle.papaya_scenes.specs.Given.Raw.declared.machines.machine.Machine.{Machine}
 use Rattle.papaya_scenes.proofs.Given.Callers.Together.Slots.{alike_same}
 use Rattle.papaya_scenes.specs.Given.Callers.Together.{UnderWay, OnKey, ForRoom, Counting, OverAll}
 use Rattle.papaya_scenes.specs.Given.Finishes.Endings.{EndingsTogether}

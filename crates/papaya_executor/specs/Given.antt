@@ -18,3 +18,7 @@ pub use Rattle.papaya_scenes.specs.Given.Teller
 pub use Rattle.papaya_scenes.specs.Given.Callers
 pub use Rattle.papaya_scenes.specs.Given.Finishes
 pub use Rattle.papaya_scenes.specs as Scenes
+pub use Rattle.papaya_scenes.specs.Given.Reclaims
+pub use Rattle.papaya_scenes.specs.Given.SeizeActs
+pub use Rattle.papaya_scenes.specs.Given.SeizeReclaims
+pub use Rattle.papaya_scenes.specs.Given.SeizeQuiet

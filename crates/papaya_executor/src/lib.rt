@@ -13,3 +13,6 @@ mod taking;
 pub mod telling;
 pub mod vacating;
 pub mod worker;
+
+pub use papaya_scenes;
+pub use papaya_scenes::{papaya_raw, papaya_teller};

@@ -2,10 +2,10 @@
 ghost use Rattle.std.specs.Prelude.{◌≡◌, ◌<◌, true, false, length};
 ghost use Rattle.seize_words.specs.Mem.{Can, Took, value_at};
 ghost use Rattle.seize_words.specs.Plan.{May};
-ghost use Rattle.papaya_raw.specs.Machine.{machine_plan};
-ghost use Rattle.papaya_teller.specs.Changed.{is_made};
-ghost use Rattle.papaya_teller.specs.Tells.{StepsTold};
-ghost use Rattle.papaya_teller.specs.declared.changed.Changed.TheVariants.{Nothing};
+ghost use Rattle.papaya_scenes.specs.Given.Raw.Machine.{machine_plan};
+ghost use Rattle.papaya_scenes.specs.Given.Teller.Changed.{is_made};
+ghost use Rattle.papaya_scenes.specs.Given.Teller.Tells.{StepsTold};
+ghost use Rattle.papaya_scenes.specs.Given.Teller.declared.changed.Changed.TheVariants.{Nothing};
 ghost use Rattle.papaya_executor.specs.IsThere.{IsThere, KeepsGiven, worker_with};
 ghost use Rattle.papaya_executor.specs.Stepping.{SteppedAs, StepsThere};
 ghost use Rattle.papaya_scenes.specs.Scene.{HasCall, Scene};
@@ -14,10 +14,10 @@ ghost use Rattle.papaya_scenes.specs.Stepping.{going_on};
 use crate::executor::Executor;
 use crate::taking::{TakenCall, take_call};
 use crate::worker::{Work, Worker};
-use papaya_raw::machines::{Machine, Progress};
-use papaya_raw::{Hashes, Node};
 use papaya_scenes::callers::SLOTS;
-use papaya_teller::teller::Teller;
+use papaya_scenes::papaya_raw::machines::{Machine, Progress};
+use papaya_scenes::papaya_raw::{Hashes, Node};
+use papaya_scenes::papaya_teller::teller::Teller;
 use seize_words::Plain;
 use std::hash::Hash;
 

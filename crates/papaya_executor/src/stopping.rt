@@ -1,6 +1,6 @@
 //! A walk is given up.
 ghost use Rattle.std.specs.Prelude.{◌≡◌, ℕ, Bool};
-ghost use Rattle.papaya_raw.specs.Machine.{machine_asked};
+ghost use Rattle.papaya_scenes.specs.Given.Raw.Machine.{machine_asked};
 ghost use Rattle.papaya_executor.specs.IsThere.{IsThere, KeepsGiven, worker_with};
 ghost use Rattle.papaya_executor.specs.Replying.{StopsThere};
 ghost use Rattle.papaya_scenes.specs.Replying.{unless_stopped};
@@ -9,8 +9,8 @@ ghost use Rattle.papaya_scenes.specs.Scene.{HasCall, Scene};
 use crate::executor::Executor;
 use crate::taking::{TakenCall, put_at, take_call};
 use crate::worker::{Work, Worker};
-use papaya_raw::machines::{Machine, Sweeping};
 use papaya_scenes::callers::SLOTS;
+use papaya_scenes::papaya_raw::machines::{Machine, Sweeping};
 
 /// Whether it is a walk that is ready.
 fn is_ready<K, V>(machine: &Machine<K, V>) -> bool

@@ -3,12 +3,12 @@ ghost use Rattle.std.specs.Prelude.{◌≡◌, ◌<◌, ℕ, length, slice_index
 ghost use Rattle.papaya_scenes.specs.declared.row.SlotRow.{SlotRow};
 ghost use Rattle.papaya_executor.specs.declared.worker.Work.TheVariants.{Making, Ending, OnSlot};
 ghost use Rattle.papaya_scenes.specs.Given.Resize.declared.new_map.NewMap.{NewMap};
-ghost use Rattle.papaya_raw.specs.declared.machines.end_map.EndMap.{EndMap};
-ghost use Rattle.papaya_raw.specs.declared.machines.machine.Machine.{Machine};
+ghost use Rattle.papaya_scenes.specs.Given.Raw.declared.machines.end_map.EndMap.{EndMap};
+ghost use Rattle.papaya_scenes.specs.Given.Raw.declared.machines.machine.Machine.{Machine};
 ghost use Rattle.papaya_executor.specs.IsThere.{worker_of, worker_with};
 
 use crate::worker::{Work, Worker};
-use papaya_raw::machines::{EndMap, Machine, NewMap};
+use papaya_scenes::papaya_raw::machines::{EndMap, Machine, NewMap};
 use papaya_scenes::row::SlotRow;
 use std::mem;
 

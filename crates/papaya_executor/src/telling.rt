@@ -2,12 +2,12 @@
 ghost use Rattle.std.specs.Prelude.{◌≡◌};
 ghost use Rattle.seize_words.specs.Mem.{Can, Took, value_at};
 ghost use Rattle.seize_words.specs.Plan.{May};
-ghost use Rattle.papaya_teller.specs.Tells.{StepsTold};
-ghost use Rattle.papaya_teller.specs.declared.changed.Changed.TheVariants.{Nothing};
+ghost use Rattle.papaya_scenes.specs.Given.Teller.Tells.{StepsTold};
+ghost use Rattle.papaya_scenes.specs.Given.Teller.declared.changed.Changed.TheVariants.{Nothing};
 
 use crate::executor::Executor;
-use papaya_raw::Node;
-use papaya_teller::teller::Teller;
+use papaya_scenes::papaya_raw::Node;
+use papaya_scenes::papaya_teller::teller::Teller;
 use seize::Machine;
 use seize_words::Plain;
 

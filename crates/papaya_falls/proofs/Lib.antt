@@ -10,3 +10,4 @@ pub mod Calls
 pub mod Reserves
 mod Samples
 pub mod Laws
+pub mod Given

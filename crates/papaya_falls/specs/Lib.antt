@@ -6,3 +6,4 @@ pub mod Falls
 pub mod FallsWithin
 pub mod Reserves
 pub mod FallsReserves
+pub mod Given

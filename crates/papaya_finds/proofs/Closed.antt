@@ -3,27 +3,27 @@ use Rattle.std.specs.Prelude.{◌≡◌, ℕ, Bool, true, false, not, ◌&&◌, 
 use Rattle.std.specs.List.{list_all}
 use Rattle.std.proofs.Common.{refl, ap, sym, subst, ◌∙◌}
 use Rattle.std.proofs.lemmas.Bool.{and_parts}
-use Rattle.papaya_settles.specs.Given.SeizeWords.declared.fault.Fault.{Fault}
-use Rattle.papaya_settles.specs.Given.SeizeWords.declared.fault.Fault.TheVariants.{Busy, Memory}
-use Rattle.papaya_settles.specs.Given.Tables.declared.resize_mode.ResizeMode.{ResizeMode}
-use Rattle.papaya_settles.specs.Given.Runs.Runs.{map_fault}
-use Rattle.papaya_settles.specs.Given.Schedules.declared.effect.Effect.{Effect}
-use Rattle.papaya_settles.specs.Given.Schedules.declared.effect.Effect.TheVariants as effect
-use Rattle.papaya_settles.specs.Given.Schedules.declared.event.Event.{Event}
-use Rattle.papaya_settles.specs.Given.Schedules.declared.event.Event.TheVariants as event
-use Rattle.papaya_settles.specs.Given.Schedules.declared.outcome.Outcome.{Outcome}
-use Rattle.papaya_settles.specs.Given.Schedules.declared.outcome.Outcome.TheVariants.{Done, Refused}
-use Rattle.papaya_settles.specs.Given.Schedules.After.{calls_on, closed_on, after, moment}
-use Rattle.papaya_settles.specs.Given.Schedules.Effects.{maps_by, with_effect, with_effects, worked}
-use Rattle.papaya_settles.specs.Given.Schedules.Entry.{Entry}
-use Rattle.papaya_settles.specs.Given.Schedules.Handing.{IsWhole}
-use Rattle.papaya_settles.specs.Given.Schedules.InTurn.{is_growth, IsKeptOut, ComesTo}
-use Rattle.papaya_settles.specs.Given.Schedules.InUse.{is_left}
-use Rattle.papaya_settles.specs.Given.Schedules.Lists.{is_empty}
-use Rattle.papaya_settles.specs.Given.Schedules.Moment.{Place, TableThere, Moment}
-use Rattle.papaya_settles.specs.Given.Schedules.Terms.{Terms}
-use Rattle.papaya_settles.specs.Given.Schedules.Reclaims.{is_handed}
-use Rattle.papaya_settles.specs.Given.Schedules.Views.{number_of, is_retired}
+use Rattle.papaya_owes.specs.Given.SeizeWords.declared.fault.Fault.{Fault}
+use Rattle.papaya_owes.specs.Given.SeizeWords.declared.fault.Fault.TheVariants.{Busy, Memory}
+use Rattle.papaya_owes.specs.Given.Tables.declared.resize_mode.ResizeMode.{ResizeMode}
+use Rattle.papaya_owes.specs.Given.Runs.Runs.{map_fault}
+use Rattle.papaya_owes.specs.Given.Schedules.declared.effect.Effect.{Effect}
+use Rattle.papaya_owes.specs.Given.Schedules.declared.effect.Effect.TheVariants as effect
+use Rattle.papaya_owes.specs.Given.Schedules.declared.event.Event.{Event}
+use Rattle.papaya_owes.specs.Given.Schedules.declared.event.Event.TheVariants as event
+use Rattle.papaya_owes.specs.Given.Schedules.declared.outcome.Outcome.{Outcome}
+use Rattle.papaya_owes.specs.Given.Schedules.declared.outcome.Outcome.TheVariants.{Done, Refused}
+use Rattle.papaya_owes.specs.Given.Schedules.After.{calls_on, closed_on, after, moment}
+use Rattle.papaya_owes.specs.Given.Schedules.Effects.{maps_by, with_effect, with_effects, worked}
+use Rattle.papaya_owes.specs.Given.Schedules.Entry.{Entry}
+use Rattle.papaya_owes.specs.Given.Schedules.Handing.{IsWhole}
+use Rattle.papaya_owes.specs.Given.Schedules.InTurn.{is_growth, IsKeptOut, ComesTo}
+use Rattle.papaya_owes.specs.Given.Schedules.InUse.{is_left}
+use Rattle.papaya_owes.specs.Given.Schedules.Lists.{is_empty}
+use Rattle.papaya_owes.specs.Given.Schedules.Moment.{Place, TableThere, Moment}
+use Rattle.papaya_owes.specs.Given.Schedules.Terms.{Terms}
+use Rattle.papaya_owes.specs.Given.Schedules.Reclaims.{is_handed}
+use Rattle.papaya_owes.specs.Given.Schedules.Views.{number_of, is_retired}
 use Rattle.papaya_finds.specs.Little.{AllIsBack, ReclaimsAll, OverStaysBack}
 use Rattle.papaya_finds.specs.Orderly.{is_left_over}
 use Rattle.papaya_finds.specs.Within.{GoesInOrder}

@@ -1,27 +1,27 @@
 -- Each map that stands was made for the capacity that the moment says: so it stays, whatever is done, once a map has come so.
 use Rattle.std.specs.Prelude.{◌≡◌, ℕ, Bool, List, max, Option, Some, None}
-use Rattle.papaya_settles.specs.Given.Seize.declared.progress.Progress.{Progress as Making}
-use Rattle.papaya_settles.specs.Given.Tables.declared.node.Node.{Node}
-use Rattle.papaya_settles.specs.Given.Tables.declared.setting.Setting.{Setting}
-use Rattle.papaya_settles.specs.Given.Raw.declared.machines.progress.Progress.{Progress}
-use Rattle.papaya_settles.specs.Given.Runs.Runs.{map_fault}
-use Rattle.papaya_settles.specs.Given.Schedules.declared.effect.Effect.{Effect}
-use Rattle.papaya_settles.specs.Given.Schedules.Effects.{with_effects}
-use Rattle.papaya_settles.specs.Given.Schedules.Moment.{MapThere, Moment}
-use Rattle.papaya_settles.specs.Given.Schedules.Views.{map_at, capacity_or}
-use Rattle.papaya_settles.specs.Given.Callers.Together.{UnderWay}
-use Rattle.papaya_named.specs.Places.{first_places}
-use Rattle.papaya_settles.specs.Given.Effects.Effects.{effects_of}
-use Rattle.papaya_settles.specs.Given.Effects.Known.{Known}
-use Rattle.papaya_settles.specs.Given.Effects.declared.acting.Acting.TheVariants as acts
-use Rattle.papaya_settles.specs.Given.Finishes.Makings.{Beginning}
-use Rattle.papaya_settles.specs.Given.Finishes.Maps.{Standing, IsSameMap}
-use Rattle.papaya_settles.specs.Given.Others.Makings.{making_after}
+use Rattle.papaya_owes.specs.Given.Seize.declared.progress.Progress.{Progress as Making}
+use Rattle.papaya_owes.specs.Given.Tables.declared.node.Node.{Node}
+use Rattle.papaya_owes.specs.Given.Tables.declared.setting.Setting.{Setting}
+use Rattle.papaya_owes.specs.Given.Raw.declared.machines.progress.Progress.{Progress}
+use Rattle.papaya_owes.specs.Given.Runs.Runs.{map_fault}
+use Rattle.papaya_owes.specs.Given.Schedules.declared.effect.Effect.{Effect}
+use Rattle.papaya_owes.specs.Given.Schedules.Effects.{with_effects}
+use Rattle.papaya_owes.specs.Given.Schedules.Moment.{MapThere, Moment}
+use Rattle.papaya_owes.specs.Given.Schedules.Views.{map_at, capacity_or}
+use Rattle.papaya_owes.specs.Given.Callers.Together.{UnderWay}
+use Rattle.papaya_owes.specs.Given.Named.Places.{first_places}
+use Rattle.papaya_owes.specs.Given.Effects.Effects.{effects_of}
+use Rattle.papaya_owes.specs.Given.Effects.Known.{Known}
+use Rattle.papaya_owes.specs.Given.Effects.declared.acting.Acting.TheVariants as acts
+use Rattle.papaya_owes.specs.Given.Finishes.Makings.{Beginning}
+use Rattle.papaya_owes.specs.Given.Finishes.Maps.{Standing, IsSameMap}
+use Rattle.papaya_owes.specs.Given.Others.Makings.{making_after}
 use Rattle.papaya_finds.specs.Linking.{IsMadeFor}
-use Rattle.papaya_settles.specs.Given.Scenes.Held.{Held}
-use Rattle.papaya_settles.specs.Given.Scenes.Making.{MakingLeads}
-use Rattle.papaya_settles.specs.Given.Scenes.Scene.{Scene}
-use Rattle.papaya_settles.specs.Given.Scenes.Stepping.{StepLeads, scene_after}
+use Rattle.papaya_owes.specs.Given.Scenes.Held.{Held}
+use Rattle.papaya_owes.specs.Given.Scenes.Making.{MakingLeads}
+use Rattle.papaya_owes.specs.Given.Scenes.Scene.{Scene}
+use Rattle.papaya_owes.specs.Given.Scenes.Stepping.{StepLeads, scene_after}
 
 abbrev pub ShowsCapacities : {K V : Type 0} → Moment K V → Scene K V → Type 0
 ShowsCapacities {K} m s = (map : ℕ) (standing : Standing K) → s.maps map ≡ Some standing → IsMadeFor map m standing.setting

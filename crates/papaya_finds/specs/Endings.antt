@@ -2,18 +2,18 @@
 -- found by their names, as by their numbers.
 use Rattle.std.specs.Prelude.{◌≡◌, true, Some, None}
 use Rattle.std.specs.List.{AllByRecursion, list_all}
-use Rattle.papaya_settles.specs.Given.Schedules.declared.event.Event.{Event}
-use Rattle.papaya_settles.specs.Given.Schedules.declared.event.Event.TheVariants.{MakeMap}
-use Rattle.papaya_settles.specs.Given.Schedules.declared.outcome.Outcome.{Outcome}
-use Rattle.papaya_settles.specs.Given.Schedules.declared.outcome.Outcome.TheVariants.{Done}
-use Rattle.papaya_settles.specs.Given.Schedules.After.{after}
-use Rattle.papaya_settles.specs.Given.Schedules.Effects.{worked}
-use Rattle.papaya_settles.specs.Given.Schedules.Entry.{Entry}
-use Rattle.papaya_settles.specs.Given.Schedules.Handing.{may_do, IsWhole}
-use Rattle.papaya_settles.specs.Given.Schedules.Moment.{Moment}
-use Rattle.papaya_settles.specs.Given.Schedules.Reclaims.{is_kept}
-use Rattle.papaya_settles.specs.Given.Schedules.Views.{map_of}
-use Rattle.papaya_settles.specs.Given.Moments.Numbers.{AreFound}
+use Rattle.papaya_owes.specs.Given.Schedules.declared.event.Event.{Event}
+use Rattle.papaya_owes.specs.Given.Schedules.declared.event.Event.TheVariants.{MakeMap}
+use Rattle.papaya_owes.specs.Given.Schedules.declared.outcome.Outcome.{Outcome}
+use Rattle.papaya_owes.specs.Given.Schedules.declared.outcome.Outcome.TheVariants.{Done}
+use Rattle.papaya_owes.specs.Given.Schedules.After.{after}
+use Rattle.papaya_owes.specs.Given.Schedules.Effects.{worked}
+use Rattle.papaya_owes.specs.Given.Schedules.Entry.{Entry}
+use Rattle.papaya_owes.specs.Given.Schedules.Handing.{may_do, IsWhole}
+use Rattle.papaya_owes.specs.Given.Schedules.Moment.{Moment}
+use Rattle.papaya_owes.specs.Given.Schedules.Reclaims.{is_kept}
+use Rattle.papaya_owes.specs.Given.Schedules.Views.{map_of}
+use Rattle.papaya_owes.specs.Given.Moments.Numbers.{AreFound}
 use Rattle.papaya_finds.specs.TornDown.{StoredAreSomewhere}
 use Rattle.papaya_finds.specs.Waiting.{PairsArePlaced}
 

@@ -1,18 +1,18 @@
 -- Where pairs are that have left their maps, once an event has begun what it begins, and once it is over.
 use Rattle.std.specs.Prelude.{◌≡◌, false, true, List, [], ℕ, Option, Some, None, if◌then◌else◌}
 use Rattle.std.specs.List.{AllByRecursion, list_any}
-use Rattle.papaya_settles.specs.Given.Runs.Same.{is_same}
-use Rattle.papaya_settles.specs.Given.Schedules.declared.call.Call.{Call}
-use Rattle.papaya_settles.specs.Given.Schedules.declared.event.Event.{Event}
-use Rattle.papaya_settles.specs.Given.Schedules.declared.event.Event.TheVariants.{Stop}
-use Rattle.papaya_settles.specs.Given.Schedules.declared.outcome.Outcome.{Outcome}
-use Rattle.papaya_settles.specs.Given.Schedules.declared.outcome.Outcome.TheVariants.{Done}
-use Rattle.papaya_settles.specs.Given.Schedules.After.{after}
-use Rattle.papaya_settles.specs.Given.Schedules.Beginning.{with_call, with_map}
-use Rattle.papaya_settles.specs.Given.Schedules.Effects.{worked}
-use Rattle.papaya_settles.specs.Given.Schedules.Entry.{Entry, ends_call, caller_of}
-use Rattle.papaya_settles.specs.Given.Schedules.Moment.{MapThere, UnderWay, Moment}
-use Rattle.papaya_settles.specs.Given.Schedules.Reclaims.{is_kept}
+use Rattle.papaya_owes.specs.Given.Runs.Same.{is_same}
+use Rattle.papaya_owes.specs.Given.Schedules.declared.call.Call.{Call}
+use Rattle.papaya_owes.specs.Given.Schedules.declared.event.Event.{Event}
+use Rattle.papaya_owes.specs.Given.Schedules.declared.event.Event.TheVariants.{Stop}
+use Rattle.papaya_owes.specs.Given.Schedules.declared.outcome.Outcome.{Outcome}
+use Rattle.papaya_owes.specs.Given.Schedules.declared.outcome.Outcome.TheVariants.{Done}
+use Rattle.papaya_owes.specs.Given.Schedules.After.{after}
+use Rattle.papaya_owes.specs.Given.Schedules.Beginning.{with_call, with_map}
+use Rattle.papaya_owes.specs.Given.Schedules.Effects.{worked}
+use Rattle.papaya_owes.specs.Given.Schedules.Entry.{Entry, ends_call, caller_of}
+use Rattle.papaya_owes.specs.Given.Schedules.Moment.{MapThere, UnderWay, Moment}
+use Rattle.papaya_owes.specs.Given.Schedules.Reclaims.{is_kept}
 use Rattle.papaya_finds.specs.Tables.{TablesAreInOrder}
 use Rattle.papaya_finds.specs.Waiting.{PairsArePlaced}
 

@@ -1,18 +1,18 @@
 -- What an effect of a step of a call finds, by parts: where pairs lie, that the root leaves no pair behind, and what is left.
 use Rattle.std.specs.Prelude.{◌≡◌, ℕ, true, false, List, ◌∷◌, Some}
-use Rattle.papaya_settles.specs.Given.Schedules.declared.effect.Effect.{Effect}
-use Rattle.papaya_settles.specs.Given.Schedules.declared.effect.Effect.TheVariants.{Asked, Linked, Promoted, Copied, Stored, Deferred, Retired}
-use Rattle.papaya_settles.specs.Given.Schedules.declared.effect.Growth.TheVariants.{ABlock}
-use Rattle.papaya_settles.specs.Given.Schedules.declared.effect.Thing.TheVariants.{APair}
-use Rattle.papaya_settles.specs.Given.Schedules.Effects.{AtEachEffect}
-use Rattle.papaya_settles.specs.Given.Schedules.Entry.{ByCall, acting}
-use Rattle.papaya_settles.specs.Given.Schedules.Growing.{only_looks, MayGrow, Follows, none_before}
-use Rattle.papaya_settles.specs.Given.Schedules.Lives.{CallFinds, IsFreeFor, IsPast, MayCopy, MayDefer}
-use Rattle.papaya_settles.specs.Given.Schedules.Moment.{UnderWay as CallThere, Moment}
-use Rattle.papaya_settles.specs.Given.Schedules.Terms.{Terms}
-use Rattle.papaya_settles.specs.Given.Schedules.Views.{map_at, capacity_or, grows_in_chunks, first_of, tables_of}
-use Rattle.papaya_settles.specs.Owing.{FindsOwed}
-use Rattle.papaya_settles.specs.Shards.{is_counting}
+use Rattle.papaya_owes.specs.Given.Schedules.declared.effect.Effect.{Effect}
+use Rattle.papaya_owes.specs.Given.Schedules.declared.effect.Effect.TheVariants.{Asked, Linked, Promoted, Copied, Stored, Deferred, Retired}
+use Rattle.papaya_owes.specs.Given.Schedules.declared.effect.Growth.TheVariants.{ABlock}
+use Rattle.papaya_owes.specs.Given.Schedules.declared.effect.Thing.TheVariants.{APair}
+use Rattle.papaya_owes.specs.Given.Schedules.Effects.{AtEachEffect}
+use Rattle.papaya_owes.specs.Given.Schedules.Entry.{ByCall, acting}
+use Rattle.papaya_owes.specs.Given.Schedules.Growing.{only_looks, MayGrow, Follows, none_before}
+use Rattle.papaya_owes.specs.Given.Schedules.Lives.{CallFinds, IsFreeFor, IsPast, MayCopy, MayDefer}
+use Rattle.papaya_owes.specs.Given.Schedules.Moment.{UnderWay as CallThere, Moment}
+use Rattle.papaya_owes.specs.Given.Schedules.Terms.{Terms}
+use Rattle.papaya_owes.specs.Given.Schedules.Views.{map_at, capacity_or, grows_in_chunks, first_of, tables_of}
+use Rattle.papaya_owes.specs.Given.Settles.Owing.{FindsOwed}
+use Rattle.papaya_owes.specs.Given.Settles.Shards.{is_counting}
 
 -- Of each kind of effect these parts make up what it finds:
 --   Asked ABlock        not short (made), and it may ask for a block (rest)

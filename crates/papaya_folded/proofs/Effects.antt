@@ -22,7 +22,7 @@ use Rattle.papaya_legal.proofs.Given.Hands.Calling.{caller_is}
 use Rattle.papaya_legal.proofs.Given.Spots.Unreclaimed.{same_itself}
 use Rattle.papaya_legal.proofs.Given.Histories.Begun.{effects_begun}
 use Rattle.papaya_legal.proofs.Given.Histories.Changes.{acted_on}
-use Rattle.papaya_rows.proofs.Lists.{both_some, found_alike, unseen}
+use Rattle.papaya_legal.proofs.Given.Rows.Lists.{both_some, found_alike, unseen}
 use Rattle.papaya_legal.proofs.Given.Settles.Gains.{none_changed, others_stay}
 use Rattle.papaya_legal.proofs.Given.Settles.Owing.{leaves}
 use Rattle.papaya_folded.specs.Folded.{EffectsFold, HandInOrder, IsOwedFirst, handed_in, if_its, out_in}

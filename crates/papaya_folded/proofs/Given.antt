@@ -18,7 +18,7 @@ pub use Rattle.papaya_legal.proofs.Given.Spots
 pub use Rattle.papaya_legal.proofs.Given.Moments
 pub use Rattle.papaya_legal.proofs.Given.Remains
 pub use Rattle.papaya_legal.proofs.Given.Logged
-pub use Rattle.papaya_rows.proofs as Rows
+pub use Rattle.papaya_legal.proofs.Given.Rows
 pub use Rattle.papaya_legal.proofs.Given.Histories
 pub use Rattle.papaya_legal.proofs.Given.Named
 pub use Rattle.papaya_legal.proofs.Given.Promises
@@ -27,3 +27,13 @@ pub use Rattle.papaya_legal.proofs.Given.Purposes
 pub use Rattle.papaya_legal.proofs.Given.Finds
 pub use Rattle.papaya_legal.proofs.Given.Grows
 pub use Rattle.papaya_legal.proofs as Legal
+pub use Rattle.papaya_legal.proofs.Given.Owes
+pub use Rattle.papaya_legal.proofs.Given.SeizeSets
+pub use Rattle.papaya_legal.proofs.Given.Scheduler
+pub use Rattle.papaya_legal.proofs.Given.Kept
+pub use Rattle.papaya_legal.proofs.Given.Waiters
+pub use Rattle.papaya_legal.proofs.Given.Settles
+pub use Rattle.papaya_legal.proofs.Given.Mapping
+pub use Rattle.papaya_legal.proofs.Given.Executor
+pub use Rattle.papaya_legal.proofs.Given.Shards
+pub use Rattle.papaya_legal.proofs.Given.Lives

@@ -16,7 +16,7 @@ use Rattle.papaya_legal.specs.Given.Schedules.Moment.{Asking, Moment, Stands, Un
 use Rattle.papaya_legal.specs.Given.Schedules.Views.{call_of, number_of}
 use Rattle.papaya_legal.proofs.Given.Follows.Calling.{is_same_is}
 use Rattle.papaya_legal.proofs.Given.Follows.Steps.{one_of}
-use Rattle.papaya_rows.proofs.Lists.{both_some, found_alike, unseen}
+use Rattle.papaya_legal.proofs.Given.Rows.Lists.{both_some, found_alike, unseen}
 
 -- what is seen of a call
 record Seen : Type 0 where

@@ -25,7 +25,7 @@ pub use Rattle.papaya_legal.specs.Given.Moments
 pub use Rattle.papaya_legal.specs.Given.Remains
 pub use Rattle.papaya_legal.specs.Given.Kept
 pub use Rattle.papaya_legal.specs.Given.Logged
-pub use Rattle.papaya_rows.specs as Rows
+pub use Rattle.papaya_legal.specs.Given.Rows
 pub use Rattle.papaya_legal.specs.Given.Histories
 pub use Rattle.papaya_legal.specs.Given.Named
 pub use Rattle.papaya_legal.specs.Given.Promises
@@ -34,3 +34,12 @@ pub use Rattle.papaya_legal.specs.Given.Purposes
 pub use Rattle.papaya_legal.specs.Given.Finds
 pub use Rattle.papaya_legal.specs.Given.Grows
 pub use Rattle.papaya_legal.specs as Legal
+pub use Rattle.papaya_legal.specs.Given.Owes
+pub use Rattle.papaya_legal.specs.Given.Teller
+pub use Rattle.papaya_legal.specs.Given.Tells
+pub use Rattle.papaya_legal.specs.Given.Scheduler
+pub use Rattle.papaya_legal.specs.Given.Executor
+pub use Rattle.papaya_legal.specs.Given.Shown
+pub use Rattle.papaya_legal.specs.Given.Settles
+pub use Rattle.papaya_legal.specs.Given.Shards
+pub use Rattle.papaya_legal.specs.Given.Lives

@@ -15,3 +15,6 @@ pub use Rattle.papaya_scenes.proofs.Given.Callers
 pub use Rattle.papaya_scenes.proofs.Given.Finishes
 pub use Rattle.papaya_effects.proofs.Given.Runs
 pub use Rattle.papaya_scenes.proofs as Scenes
+pub use Rattle.papaya_scenes.proofs.Given.Alone
+pub use Rattle.papaya_scenes.proofs.Given.Reclaims
+pub use Rattle.papaya_scenes.proofs.Given.SeizeReclaims

@@ -21,3 +21,6 @@ pub use Rattle.papaya_effects.specs.Given.Runs
 pub use Rattle.papaya_effects.specs.Given.Schedules
 pub use Rattle.papaya_effects.specs as Effects
 pub use Rattle.papaya_scenes.specs as Scenes
+pub use Rattle.papaya_scenes.specs.Given.Alone
+pub use Rattle.papaya_scenes.specs.Given.Reclaims
+pub use Rattle.papaya_scenes.specs.Given.SeizeReclaims

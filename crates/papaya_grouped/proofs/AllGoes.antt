@@ -2,58 +2,58 @@
 use Rattle.std.specs.Prelude.{◌<◌, ◌^◌, ◌++◌, Option, Some, None, option_map, length, slice_index_or, IsSome}
 use Rattle.std.specs.Option.{is_none, is_some}
 use Rattle.std.proofs.Common.{◌≡◌, ℕ, Bool, false, List, inl, inr, refl, sym, ap, subst, ◌∙◌}
-use Rattle.seize_acts.specs.Acts.{rests}
-use Rattle.seize_acts.specs.Answers.{Grant, stepped, then_on}
-use Rattle.seize_acts.proofs.Answers.{same_some}
-use Rattle.seize_quiet.proofs.Slots.Stages.{never_taken}
-use Rattle.papaya_scenes.specs.Given.SeizeWords.Mem.{Mem, Can, Took, value_at, word_at}
-use Rattle.papaya_scenes.specs.Given.SeizeWords.Plan.{May}
-use Rattle.papaya_scenes.specs.Given.SeizeWords.declared.at.At.TheVariants.{Slot}
-use Rattle.papaya_scenes.specs.Given.Seize.ReclaimAll.{clearing, reclaim_all_plan, reclaiming_all}
-use Rattle.papaya_scenes.specs.Given.Seize.World.{Rests}
-use Rattle.papaya_scenes.specs.Given.Seize.declared.rows.reclaim_all.ReclaimAll.{ReclaimAll}
-use Rattle.papaya_scenes.specs.Given.Seize.declared.rows.settle.Settled.{Settled}
-use Rattle.papaya_scenes.specs.Given.Seize.declared.rows.settle.Settled.TheVariants as settled
-use Rattle.papaya_scenes.specs.Given.Seize.declared.states.TheConstants.{HEAD}
-use Rattle.papaya_scenes.specs.Given.Tables.Nodes.{deferred_word, was_left}
-use Rattle.papaya_scenes.specs.Given.Tables.declared.node.Node.{Node}
-use Rattle.papaya_scenes.specs.Given.Teller.declared.changed.Changed.{Changed}
-use Rattle.papaya_scenes.specs.Given.Callers.Rows.{IsRowOn}
-use Rattle.papaya_scenes.specs.Given.Finishes.Endings.{EndingsTogether, Finishing}
-use Rattle.papaya_scenes.specs.Given.Finishes.Machines.{machine_of}
-use Rattle.papaya_scenes.specs.Given.Finishes.Makings.{Beginning}
-use Rattle.papaya_scenes.specs.Given.Finishes.Maps.{Standing}
-use Rattle.papaya_scenes.proofs.Goes.{same_map_keeps}
-use Rattle.papaya_scenes.proofs.NoCall.{none_of}
-use Rattle.papaya_scenes.specs.Held.{Held}
-use Rattle.papaya_scenes.specs.Reclaiming.{ReclaimingComesToThere}
-use Rattle.papaya_scenes.specs.Scene.{Scene, slot_of}
-use Rattle.papaya_reclaims.specs.Reclaims.{AllIsReclaimed}
-use Rattle.papaya_scenes.specs.declared.callers.TheConstants.{SLOTS}
-use Rattle.papaya_schedules.specs.declared.effect.Effect.{Effect}
-use Rattle.papaya_schedules.specs.declared.event.Event.{Event}
-use Rattle.papaya_schedules.specs.declared.outcome.Outcome.{Outcome}
-use Rattle.papaya_schedules.specs.After.{moment}
-use Rattle.papaya_schedules.specs.Entry.{Entry}
-use Rattle.papaya_effects.specs.Effects.{effects_of, known_after}
-use Rattle.papaya_effects.specs.Known.{Known}
-use Rattle.papaya_effects.specs.declared.acting.Acting.TheVariants as acting
-use Rattle.papaya_executor.specs.IsThere.{HasRow, IsThere, IsUsedAs, StaysGiven, call_in, ending_in, held_by, making_in, use_at, work_of}
-use Rattle.papaya_executor.specs.declared.executor.Executor.{Executor}
-use Rattle.papaya_executor.specs.declared.worker.Work.{Work}
-use Rattle.papaya_reclaiming.specs.Reclaiming.{IsReclaimingThere, NobodyHas, ReclaimsThere}
-use Rattle.papaya_named.specs.declared.caller.Caller.{Caller}
-use Rattle.papaya_acts.specs.Acts.{Answer, OfReclaiming}
-use Rattle.papaya_acts.specs.AsSteps.{changed_of}
-use Rattle.papaya_acts.specs.Doings.{AllAreFree, BeginsClearing, BeginsReclaiming, HasStepped, MayDo, SlotsAreFree, Stage, StepsReclaiming, behind, is_vacant, reclaiming, still}
-use Rattle.papaya_acts.specs.Lists.{Course}
-use Rattle.papaya_acts.specs.Reclaiming.{IsReclaimingAll, reclaiming_steps}
-use Rattle.papaya_acts.proofs.Reclaiming.{reclaiming_is_by_acts}
-use Rattle.papaya_deeds.specs.Deeds.{ReclaimsAll}
+use Rattle.papaya_drives.specs.Given.SeizeActs.Acts.{rests}
+use Rattle.papaya_drives.specs.Given.SeizeActs.Answers.{Grant, stepped, then_on}
+use Rattle.papaya_drives.proofs.Given.SeizeActs.Answers.{same_some}
+use Rattle.papaya_drives.proofs.Given.SeizeQuiet.Slots.Stages.{never_taken}
+use Rattle.papaya_drives.specs.Given.SeizeWords.Mem.{Mem, Can, Took, value_at, word_at}
+use Rattle.papaya_drives.specs.Given.SeizeWords.Plan.{May}
+use Rattle.papaya_drives.specs.Given.SeizeWords.declared.at.At.TheVariants.{Slot}
+use Rattle.papaya_drives.specs.Given.Seize.ReclaimAll.{clearing, reclaim_all_plan, reclaiming_all}
+use Rattle.papaya_drives.specs.Given.Seize.World.{Rests}
+use Rattle.papaya_drives.specs.Given.Seize.declared.rows.reclaim_all.ReclaimAll.{ReclaimAll}
+use Rattle.papaya_drives.specs.Given.Seize.declared.rows.settle.Settled.{Settled}
+use Rattle.papaya_drives.specs.Given.Seize.declared.rows.settle.Settled.TheVariants as settled
+use Rattle.papaya_drives.specs.Given.Seize.declared.states.TheConstants.{HEAD}
+use Rattle.papaya_runs.specs.Given.Tables.Nodes.{deferred_word, was_left}
+use Rattle.papaya_runs.specs.Given.Tables.declared.node.Node.{Node}
+use Rattle.papaya_drives.specs.Given.Teller.declared.changed.Changed.{Changed}
+use Rattle.papaya_drives.specs.Given.Callers.Rows.{IsRowOn}
+use Rattle.papaya_drives.specs.Given.Finishes.Endings.{EndingsTogether, Finishing}
+use Rattle.papaya_drives.specs.Given.Finishes.Machines.{machine_of}
+use Rattle.papaya_drives.specs.Given.Finishes.Makings.{Beginning}
+use Rattle.papaya_drives.specs.Given.Finishes.Maps.{Standing}
+use Rattle.papaya_drives.proofs.Given.Scenes.Goes.{same_map_keeps}
+use Rattle.papaya_drives.proofs.Given.Scenes.NoCall.{none_of}
+use Rattle.papaya_drives.specs.Given.Scenes.Held.{Held}
+use Rattle.papaya_drives.specs.Given.Scenes.Reclaiming.{ReclaimingComesToThere}
+use Rattle.papaya_drives.specs.Given.Scenes.Scene.{Scene, slot_of}
+use Rattle.papaya_drives.specs.Given.Reclaims.Reclaims.{AllIsReclaimed}
+use Rattle.papaya_drives.specs.Given.Scenes.declared.callers.TheConstants.{SLOTS}
+use Rattle.papaya_drives.specs.Given.Schedules.declared.effect.Effect.{Effect}
+use Rattle.papaya_drives.specs.Given.Schedules.declared.event.Event.{Event}
+use Rattle.papaya_drives.specs.Given.Schedules.declared.outcome.Outcome.{Outcome}
+use Rattle.papaya_drives.specs.Given.Schedules.After.{moment}
+use Rattle.papaya_drives.specs.Given.Schedules.Entry.{Entry}
+use Rattle.papaya_drives.specs.Given.Effects.Effects.{effects_of, known_after}
+use Rattle.papaya_drives.specs.Given.Effects.Known.{Known}
+use Rattle.papaya_drives.specs.Given.Effects.declared.acting.Acting.TheVariants as acting
+use Rattle.papaya_drives.specs.Given.Executor.IsThere.{HasRow, IsThere, IsUsedAs, StaysGiven, call_in, ending_in, held_by, making_in, use_at, work_of}
+use Rattle.papaya_drives.specs.Given.Executor.declared.executor.Executor.{Executor}
+use Rattle.papaya_drives.specs.Given.Executor.declared.worker.Work.{Work}
+use Rattle.papaya_drives.specs.Given.Reclaiming.Reclaiming.{IsReclaimingThere, NobodyHas, ReclaimsThere}
+use Rattle.papaya_drives.specs.Given.Named.declared.caller.Caller.{Caller}
+use Rattle.papaya_drives.specs.Given.Acts.Acts.{Answer, OfReclaiming}
+use Rattle.papaya_drives.specs.Given.Acts.AsSteps.{changed_of}
+use Rattle.papaya_drives.specs.Given.Acts.Doings.{AllAreFree, BeginsClearing, BeginsReclaiming, HasStepped, MayDo, SlotsAreFree, Stage, StepsReclaiming, behind, is_vacant, reclaiming, still}
+use Rattle.papaya_drives.specs.Given.Acts.Lists.{Course}
+use Rattle.papaya_drives.specs.Given.Acts.Reclaiming.{IsReclaimingAll, reclaiming_steps}
+use Rattle.papaya_drives.proofs.Given.Acts.Reclaiming.{reclaiming_is_by_acts}
+use Rattle.papaya_drives.specs.Given.Deeds.Deeds.{ReclaimsAll}
 use Rattle.papaya_drives.proofs.Told.{told_so}
-use Rattle.papaya_played.specs.Play.{State, all_begun, all_stepped, is_over, play, settled_outcome}
-use Rattle.papaya_played.specs.Reached.{IsOfStage}
-use Rattle.papaya_played.proofs.PlayedAs.{reclaimed_as}
+use Rattle.papaya_drives.specs.Given.Played.Play.{State, all_begun, all_stepped, is_over, play, settled_outcome}
+use Rattle.papaya_drives.specs.Given.Played.Reached.{IsOfStage}
+use Rattle.papaya_drives.proofs.Given.Played.PlayedAs.{reclaimed_as}
 use Rattle.papaya_grouped.specs.Grouping.{MayHave, Names}
 use Rattle.papaya_grouped.specs.Reach.{LeadsTo, Reach}
 use Rattle.papaya_grouped.proofs.Aside.{all_aside, begun_aside, works_on}

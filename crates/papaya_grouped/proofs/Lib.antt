@@ -12,3 +12,4 @@ pub mod MakingGoes
 pub mod AllGoes
 pub mod Callers
 mod Samples
+pub mod Given

@@ -3,59 +3,59 @@ use Rattle.std.specs.Prelude.{◌-◌, ◌≢◌, ◌≤◌, ◌<◌, ◌+◌, �
 use Rattle.std.specs.Int.{IsPowerOfTwo}
 use Rattle.std.proofs.Common.{◌≡◌, ℕ, Bool, true, false, List, [], ◌∷◌, refl, sym, ap, subst, arith, ◌∙◌}
 use Rattle.std.proofs.lemmas.Bool.{eq-eqb, ne_eqb}
-use Rattle.seize_acts.specs.Answers.{Grant, stepped}
-use Rattle.seize_acts.proofs.Answers.{same_some, was_stepped}
-use Rattle.papaya_scenes.specs.Given.SeizeWords.Mem.{Mem, Took, value_at}
-use Rattle.papaya_scenes.specs.Given.SeizeWords.Op.{Out, Exchanged, Made}
-use Rattle.papaya_scenes.specs.Given.SeizeWords.Plan.{Steps}
-use Rattle.papaya_scenes.specs.Given.SeizeWords.declared.fault.Fault.TheVariants.{RootsUsedUp}
-use Rattle.papaya_scenes.specs.Given.Seize.declared.progress.Progress.{Progress}
-use Rattle.papaya_scenes.specs.Given.Seize.declared.progress.Progress.TheVariants as progress
-use Rattle.papaya_scenes.proofs.Given.SeizeEnds.Batches.Free.{Outcomes, plan_outcome}
-use Rattle.papaya_scenes.proofs.Given.SeizeRule.Rows.Leaving.{steps_back}
-use Rattle.papaya_scenes.specs.Given.Tables.Lengths.{IsTableLen}
-use Rattle.papaya_scenes.specs.Given.Tables.declared.node.Node.{Node}
-use Rattle.papaya_scenes.specs.Given.Tables.declared.resize_mode.ResizeMode.{ResizeMode}
-use Rattle.papaya_scenes.specs.Given.Tables.declared.setting.Setting.{Setting}
-use Rattle.papaya_scenes.specs.Given.Tables.declared.table.Table.{Table}
-use Rattle.papaya_scenes.specs.Given.Resize.NewMap as new_map
-use Rattle.papaya_scenes.specs.Given.Resize.NewTable.{first_table, new_table_plan}
-use Rattle.papaya_scenes.specs.Given.Resize.declared.new_map.NewMap.{NewMap}
-use Rattle.papaya_scenes.specs.Given.Resize.declared.new_map.Opening.{Opening}
-use Rattle.papaya_scenes.specs.Given.Resize.declared.new_map.Opening.TheVariants as at
-use Rattle.papaya_scenes.specs.Given.Resize.declared.new_table.NewTable.{NewTable}
-use Rattle.papaya_scenes.specs.Given.Teller.declared.changed.Changed.{Changed}
-use Rattle.papaya_scenes.specs.Given.Points.Steps.{AreLawful}
-use Rattle.papaya_scenes.specs.Given.Finishes.Makings.{Beginning}
-use Rattle.papaya_scenes.proofs.Given.Callers.Together.At.{at_same}
-use Rattle.papaya_scenes.specs.Scene.{Scene, slot_of}
-use Rattle.papaya_schedules.specs.declared.effect.Effect.{Effect}
-use Rattle.papaya_schedules.specs.declared.event.Event.{Event}
-use Rattle.papaya_schedules.specs.declared.outcome.Outcome.{Outcome}
-use Rattle.papaya_schedules.specs.After.{moment}
-use Rattle.papaya_schedules.specs.Entry.{Entry}
-use Rattle.papaya_effects.specs.Effects.{effects_of, known_after}
-use Rattle.papaya_effects.specs.Known.{Known}
-use Rattle.papaya_effects.specs.declared.acting.Acting.TheVariants as acting
-use Rattle.papaya_executor.specs.IsThere.{IsThere, StaysGiven, making_in, work_of}
-use Rattle.papaya_executor.specs.Making.{MakesThere}
-use Rattle.papaya_executor.specs.MakingBegins.{MakingBegins}
-use Rattle.papaya_executor.specs.declared.executor.Executor.{Executor}
-use Rattle.papaya_named.specs.declared.caller.Caller.{Caller}
-use Rattle.papaya_acts.specs.Acts.{Answer, BeginsMaking, Nothing, OfMaking, StepsMaking}
-use Rattle.papaya_acts.specs.Doings.{Stage, reclaiming}
-use Rattle.papaya_acts.specs.Leads.{Led}
-use Rattle.papaya_acts.specs.Lists.{Course}
-use Rattle.papaya_deeds.specs.Deeds.{Deed, MapComes, MapFails, Makes}
-use Rattle.papaya_deeds.specs.Deeds.{Entry as Act}
+use Rattle.papaya_drives.specs.Given.SeizeActs.Answers.{Grant, stepped}
+use Rattle.papaya_drives.proofs.Given.SeizeActs.Answers.{same_some, was_stepped}
+use Rattle.papaya_drives.specs.Given.SeizeWords.Mem.{Mem, Took, value_at}
+use Rattle.papaya_drives.specs.Given.SeizeWords.Op.{Out, Exchanged, Made}
+use Rattle.papaya_drives.specs.Given.SeizeWords.Plan.{Steps}
+use Rattle.papaya_drives.specs.Given.SeizeWords.declared.fault.Fault.TheVariants.{RootsUsedUp}
+use Rattle.papaya_drives.specs.Given.Seize.declared.progress.Progress.{Progress}
+use Rattle.papaya_drives.specs.Given.Seize.declared.progress.Progress.TheVariants as progress
+use Rattle.papaya_drives.proofs.Given.SeizeEnds.Batches.Free.{Outcomes, plan_outcome}
+use Rattle.papaya_drives.proofs.Given.SeizeRule.Rows.Leaving.{steps_back}
+use Rattle.papaya_runs.specs.Given.Tables.Lengths.{IsTableLen}
+use Rattle.papaya_runs.specs.Given.Tables.declared.node.Node.{Node}
+use Rattle.papaya_runs.specs.Given.Tables.declared.resize_mode.ResizeMode.{ResizeMode}
+use Rattle.papaya_runs.specs.Given.Tables.declared.setting.Setting.{Setting}
+use Rattle.papaya_runs.specs.Given.Tables.declared.table.Table.{Table}
+use Rattle.papaya_drives.specs.Given.Resize.NewMap as new_map
+use Rattle.papaya_drives.specs.Given.Resize.NewTable.{first_table, new_table_plan}
+use Rattle.papaya_drives.specs.Given.Resize.declared.new_map.NewMap.{NewMap}
+use Rattle.papaya_drives.specs.Given.Resize.declared.new_map.Opening.{Opening}
+use Rattle.papaya_drives.specs.Given.Resize.declared.new_map.Opening.TheVariants as at
+use Rattle.papaya_drives.specs.Given.Resize.declared.new_table.NewTable.{NewTable}
+use Rattle.papaya_drives.specs.Given.Teller.declared.changed.Changed.{Changed}
+use Rattle.papaya_drives.specs.Given.Points.Steps.{AreLawful}
+use Rattle.papaya_drives.specs.Given.Finishes.Makings.{Beginning}
+use Rattle.papaya_drives.proofs.Given.Callers.Together.At.{at_same}
+use Rattle.papaya_drives.specs.Given.Scenes.Scene.{Scene, slot_of}
+use Rattle.papaya_drives.specs.Given.Schedules.declared.effect.Effect.{Effect}
+use Rattle.papaya_drives.specs.Given.Schedules.declared.event.Event.{Event}
+use Rattle.papaya_drives.specs.Given.Schedules.declared.outcome.Outcome.{Outcome}
+use Rattle.papaya_drives.specs.Given.Schedules.After.{moment}
+use Rattle.papaya_drives.specs.Given.Schedules.Entry.{Entry}
+use Rattle.papaya_drives.specs.Given.Effects.Effects.{effects_of, known_after}
+use Rattle.papaya_drives.specs.Given.Effects.Known.{Known}
+use Rattle.papaya_drives.specs.Given.Effects.declared.acting.Acting.TheVariants as acting
+use Rattle.papaya_drives.specs.Given.Executor.IsThere.{IsThere, StaysGiven, making_in, work_of}
+use Rattle.papaya_drives.specs.Given.Executor.Making.{MakesThere}
+use Rattle.papaya_drives.specs.Given.Executor.MakingBegins.{MakingBegins}
+use Rattle.papaya_drives.specs.Given.Executor.declared.executor.Executor.{Executor}
+use Rattle.papaya_drives.specs.Given.Named.declared.caller.Caller.{Caller}
+use Rattle.papaya_drives.specs.Given.Acts.Acts.{Answer, BeginsMaking, Nothing, OfMaking, StepsMaking}
+use Rattle.papaya_drives.specs.Given.Acts.Doings.{Stage, reclaiming}
+use Rattle.papaya_drives.specs.Given.Acts.Leads.{Led}
+use Rattle.papaya_drives.specs.Given.Acts.Lists.{Course}
+use Rattle.papaya_drives.specs.Given.Deeds.Deeds.{Deed, MapComes, MapFails, Makes}
+use Rattle.papaya_drives.specs.Given.Deeds.Deeds.{Entry as Act}
 use Rattle.papaya_drives.specs.Executors.{AreSteps, Computes, IsAct}
 use Rattle.papaya_drives.proofs.Executors.{executors_act}
-use Rattle.papaya_agrees.specs.Places.{ArePlaces}
-use Rattle.papaya_agrees.specs.Fresh.{comes_with, is_taken}
-use Rattle.papaya_played.specs.Play.{Making, Now, State, has_root, is_refusal, made_on, making_begun, making_deed, making_outcome, making_stepped, pairs_for, play_act, worked}
-use Rattle.papaya_played.specs.Reached.{IsOfStage, rows_beside}
-use Rattle.papaya_played.proofs.PlayedAs.{played_as}
-use Rattle.papaya_played.proofs.Tied.{making_tied}
+use Rattle.papaya_drives.specs.Given.Agrees.Places.{ArePlaces}
+use Rattle.papaya_drives.specs.Given.Agrees.Fresh.{comes_with, is_taken}
+use Rattle.papaya_drives.specs.Given.Played.Play.{Making, Now, State, has_root, is_refusal, made_on, making_begun, making_deed, making_outcome, making_stepped, pairs_for, play_act, worked}
+use Rattle.papaya_drives.specs.Given.Played.Reached.{IsOfStage, rows_beside}
+use Rattle.papaya_drives.proofs.Given.Played.PlayedAs.{played_as}
+use Rattle.papaya_drives.proofs.Given.Played.Tied.{making_tied}
 use Rattle.papaya_grouped.specs.Called.{PlaysSo}
 use Rattle.papaya_grouped.specs.Grouping.{MayHave, Names, refuses}
 use Rattle.papaya_grouped.specs.Reach.{Reach}

@@ -2,53 +2,53 @@
 use Rattle.std.specs.Prelude.{◌++◌, Option, Some, None, option_map}
 use Rattle.std.specs.Option.{is_none}
 use Rattle.std.proofs.Common.{◌≡◌, ℕ, Bool, List, refl, sym, ap, subst, ◌∙◌}
-use Rattle.seize_acts.specs.Answers.{Grant}
-use Rattle.seize_acts.proofs.Answers.{same_some}
-use Rattle.papaya_scenes.specs.Given.SeizeWords.Mem.{Mem}
-use Rattle.papaya_scenes.specs.Given.Seize.World.{Row}
-use Rattle.papaya_scenes.specs.Given.Seize.declared.progress.Progress.{Progress}
-use Rattle.papaya_scenes.specs.Given.Seize.declared.rows.enter.Enter.{Enter}
-use Rattle.papaya_scenes.specs.Given.Seize.declared.rows.enter.Unregister.{Unregister}
-use Rattle.papaya_scenes.specs.Given.Seize.declared.rows.leave.Leave.{Leave}
-use Rattle.papaya_scenes.specs.Given.Seize.declared.rows.register.Register.{Register}
-use Rattle.papaya_scenes.specs.Given.Seize.declared.rows.settle.Settle.{Settle}
-use Rattle.papaya_scenes.specs.Given.Seize.declared.rows.settle.Settled.{Settled}
-use Rattle.papaya_scenes.specs.Given.Seize.declared.rows.reclaim_all.ReclaimAll.{ReclaimAll}
-use Rattle.papaya_scenes.specs.Given.Tables.declared.node.Node.{Node}
-use Rattle.papaya_scenes.specs.Given.Teller.declared.changed.Changed.{Changed}
-use Rattle.papaya_scenes.specs.Given.Finishes.Machines.{machine_of}
-use Rattle.papaya_scenes.proofs.NoCall.{none_of}
-use Rattle.papaya_scenes.proofs.Rows.{one_row}
-use Rattle.papaya_scenes.specs.Rows.{of_registering, of_settling, of_storing, request_of}
-use Rattle.papaya_scenes.specs.Scene.{HasNoCall, Scene, row_of, slot_of}
-use Rattle.papaya_scenes.specs.declared.row.RowTold.{RowTold}
-use Rattle.papaya_scenes.specs.declared.row.SlotCall.{SlotCall}
-use Rattle.papaya_scenes.specs.declared.row.SlotRow.{SlotRow}
-use Rattle.papaya_scenes.specs.declared.row.SlotRow.TheVariants as rows
-use Rattle.papaya_schedules.specs.declared.effect.Effect.{Effect}
-use Rattle.papaya_schedules.specs.declared.event.Event.{Event}
-use Rattle.papaya_schedules.specs.declared.outcome.Outcome.{Outcome}
-use Rattle.papaya_schedules.specs.After.{moment}
-use Rattle.papaya_schedules.specs.Entry.{Entry}
-use Rattle.papaya_effects.specs.Effects.{effects_of, known_after}
-use Rattle.papaya_effects.specs.Known.{Known}
-use Rattle.papaya_effects.specs.declared.acting.Acting.TheVariants as acting
-use Rattle.papaya_executor.specs.IsThere.{HasRow, IsThere, StaysGiven, call_in, work_of}
-use Rattle.papaya_executor.specs.OnSlots.{MayBegin, RowBeginsThere, RowStepsThere}
-use Rattle.papaya_executor.specs.declared.executor.Executor.{Executor}
-use Rattle.papaya_executor.specs.declared.worker.Work.{Work}
-use Rattle.papaya_executor.specs.declared.worker.Work.TheVariants as work
-use Rattle.papaya_named.specs.declared.caller.Caller.{Caller}
-use Rattle.papaya_acts.specs.Acts.{BeginsRow, Nothing, StepsRow}
-use Rattle.papaya_acts.specs.AsSteps.{row_changed}
-use Rattle.papaya_acts.specs.Doings.{Stage, reclaiming}
-use Rattle.papaya_acts.specs.Lists.{Course}
-use Rattle.papaya_agrees.proofs.Told.{row_of_no_map}
+use Rattle.papaya_drives.specs.Given.SeizeActs.Answers.{Grant}
+use Rattle.papaya_drives.proofs.Given.SeizeActs.Answers.{same_some}
+use Rattle.papaya_drives.specs.Given.SeizeWords.Mem.{Mem}
+use Rattle.papaya_drives.specs.Given.Seize.World.{Row}
+use Rattle.papaya_drives.specs.Given.Seize.declared.progress.Progress.{Progress}
+use Rattle.papaya_drives.specs.Given.Seize.declared.rows.enter.Enter.{Enter}
+use Rattle.papaya_drives.specs.Given.Seize.declared.rows.enter.Unregister.{Unregister}
+use Rattle.papaya_drives.specs.Given.Seize.declared.rows.leave.Leave.{Leave}
+use Rattle.papaya_drives.specs.Given.Seize.declared.rows.register.Register.{Register}
+use Rattle.papaya_drives.specs.Given.Seize.declared.rows.settle.Settle.{Settle}
+use Rattle.papaya_drives.specs.Given.Seize.declared.rows.settle.Settled.{Settled}
+use Rattle.papaya_drives.specs.Given.Seize.declared.rows.reclaim_all.ReclaimAll.{ReclaimAll}
+use Rattle.papaya_runs.specs.Given.Tables.declared.node.Node.{Node}
+use Rattle.papaya_drives.specs.Given.Teller.declared.changed.Changed.{Changed}
+use Rattle.papaya_drives.specs.Given.Finishes.Machines.{machine_of}
+use Rattle.papaya_drives.proofs.Given.Scenes.NoCall.{none_of}
+use Rattle.papaya_drives.proofs.Given.Scenes.Rows.{one_row}
+use Rattle.papaya_drives.specs.Given.Scenes.Rows.{of_registering, of_settling, of_storing, request_of}
+use Rattle.papaya_drives.specs.Given.Scenes.Scene.{HasNoCall, Scene, row_of, slot_of}
+use Rattle.papaya_drives.specs.Given.Scenes.declared.row.RowTold.{RowTold}
+use Rattle.papaya_drives.specs.Given.Scenes.declared.row.SlotCall.{SlotCall}
+use Rattle.papaya_drives.specs.Given.Scenes.declared.row.SlotRow.{SlotRow}
+use Rattle.papaya_drives.specs.Given.Scenes.declared.row.SlotRow.TheVariants as rows
+use Rattle.papaya_drives.specs.Given.Schedules.declared.effect.Effect.{Effect}
+use Rattle.papaya_drives.specs.Given.Schedules.declared.event.Event.{Event}
+use Rattle.papaya_drives.specs.Given.Schedules.declared.outcome.Outcome.{Outcome}
+use Rattle.papaya_drives.specs.Given.Schedules.After.{moment}
+use Rattle.papaya_drives.specs.Given.Schedules.Entry.{Entry}
+use Rattle.papaya_drives.specs.Given.Effects.Effects.{effects_of, known_after}
+use Rattle.papaya_drives.specs.Given.Effects.Known.{Known}
+use Rattle.papaya_drives.specs.Given.Effects.declared.acting.Acting.TheVariants as acting
+use Rattle.papaya_drives.specs.Given.Executor.IsThere.{HasRow, IsThere, StaysGiven, call_in, work_of}
+use Rattle.papaya_drives.specs.Given.Executor.OnSlots.{MayBegin, RowBeginsThere, RowStepsThere}
+use Rattle.papaya_drives.specs.Given.Executor.declared.executor.Executor.{Executor}
+use Rattle.papaya_drives.specs.Given.Executor.declared.worker.Work.{Work}
+use Rattle.papaya_drives.specs.Given.Executor.declared.worker.Work.TheVariants as work
+use Rattle.papaya_drives.specs.Given.Named.declared.caller.Caller.{Caller}
+use Rattle.papaya_drives.specs.Given.Acts.Acts.{BeginsRow, Nothing, StepsRow}
+use Rattle.papaya_drives.specs.Given.Acts.AsSteps.{row_changed}
+use Rattle.papaya_drives.specs.Given.Acts.Doings.{Stage, reclaiming}
+use Rattle.papaya_drives.specs.Given.Acts.Lists.{Course}
+use Rattle.papaya_drives.proofs.Given.Agrees.Told.{row_of_no_map}
 use Rattle.papaya_drives.specs.Executors.{AreSteps, RowIsComputed}
 use Rattle.papaya_drives.proofs.Executors.{executors_act}
-use Rattle.papaya_played.specs.Play.{State, play_act, row_begun, row_deed, row_outcome, row_stepped, slot_row_steps}
-use Rattle.papaya_played.specs.Reached.{IsOfStage, row_or_rests, rows_beside}
-use Rattle.papaya_played.proofs.PlayedAs.{played_as}
+use Rattle.papaya_drives.specs.Given.Played.Play.{State, play_act, row_begun, row_deed, row_outcome, row_stepped, slot_row_steps}
+use Rattle.papaya_drives.specs.Given.Played.Reached.{IsOfStage, row_or_rests, rows_beside}
+use Rattle.papaya_drives.proofs.Given.Played.PlayedAs.{played_as}
 use Rattle.papaya_grouped.specs.Grouping.{MayHave, Names}
 use Rattle.papaya_grouped.specs.Reach.{Reach}
 use Rattle.papaya_grouped.proofs.Aside.{begun_aside, row_aside, works_on}

@@ -1,22 +1,22 @@
 -- A log of a run and the history of which it is the grouping, by hand. And wrong ones, each refused for its reason.
 use Rattle.std.proofs.Common.{◌≡◌, ℕ, Bool, true, false, inl, inr, List, [], ◌∷◌, refl, Some, None}
 use Rattle.std.specs.Prelude.{◌⊎◌, Option}
-use Rattle.papaya_scenes.specs.Given.Tables.declared.resize_mode.ResizeMode.TheVariants.{Incremental}
-use Rattle.papaya_schedules.specs.declared.call.Answer.TheVariants.{Absent}
-use Rattle.papaya_schedules.specs.declared.call.Call.TheVariants.{On}
-use Rattle.papaya_schedules.specs.declared.call.OneKey.TheVariants.{Get}
-use Rattle.papaya_schedules.specs.declared.effect.Effect.{Effect}
-use Rattle.papaya_schedules.specs.declared.effect.Effect.TheVariants.{Asked, Reclaimed}
-use Rattle.papaya_schedules.specs.declared.effect.Growth.TheVariants.{ABucket}
-use Rattle.papaya_schedules.specs.declared.effect.Thing.TheVariants.{APair}
-use Rattle.papaya_schedules.specs.declared.event.Event.{Event}
-use Rattle.papaya_schedules.specs.declared.event.Event.TheVariants as event
-use Rattle.papaya_schedules.specs.declared.outcome.Outcome.{Outcome}
-use Rattle.papaya_schedules.specs.declared.outcome.Outcome.TheVariants.{Done, Slot, Goes, Answered}
-use Rattle.papaya_schedules.specs.After.{moment}
-use Rattle.papaya_schedules.specs.Entry.{Entry}
-use Rattle.papaya_deeds.specs.Deeds.{Deed, Begins, Steps, Registers, Opens, MapComes, Makes}
-use Rattle.papaya_deeds.specs.Deeds.{Entry as Act}
+use Rattle.papaya_runs.specs.Given.Tables.declared.resize_mode.ResizeMode.TheVariants.{Incremental}
+use Rattle.papaya_drives.specs.Given.Schedules.declared.call.Answer.TheVariants.{Absent}
+use Rattle.papaya_drives.specs.Given.Schedules.declared.call.Call.TheVariants.{On}
+use Rattle.papaya_drives.specs.Given.Schedules.declared.call.OneKey.TheVariants.{Get}
+use Rattle.papaya_drives.specs.Given.Schedules.declared.effect.Effect.{Effect}
+use Rattle.papaya_drives.specs.Given.Schedules.declared.effect.Effect.TheVariants.{Asked, Reclaimed}
+use Rattle.papaya_drives.specs.Given.Schedules.declared.effect.Growth.TheVariants.{ABucket}
+use Rattle.papaya_drives.specs.Given.Schedules.declared.effect.Thing.TheVariants.{APair}
+use Rattle.papaya_drives.specs.Given.Schedules.declared.event.Event.{Event}
+use Rattle.papaya_drives.specs.Given.Schedules.declared.event.Event.TheVariants as event
+use Rattle.papaya_drives.specs.Given.Schedules.declared.outcome.Outcome.{Outcome}
+use Rattle.papaya_drives.specs.Given.Schedules.declared.outcome.Outcome.TheVariants.{Done, Slot, Goes, Answered}
+use Rattle.papaya_drives.specs.Given.Schedules.After.{moment}
+use Rattle.papaya_drives.specs.Given.Schedules.Entry.{Entry}
+use Rattle.papaya_drives.specs.Given.Deeds.Deeds.{Deed, Begins, Steps, Registers, Opens, MapComes, Makes}
+use Rattle.papaya_drives.specs.Given.Deeds.Deeds.{Entry as Act}
 use Rattle.papaya_grouped.specs.Grouping.{IsGroupingOf, IsPieceOf, Names, names_after}
 
 abbrev entry : Event ℕ ℕ → Outcome ℕ → ℕ → List Effect → Entry ℕ ℕ

@@ -1,12 +1,12 @@
 -- That callers go by their numbers, and their calls are played; and that a log is the grouping of the history that was played.
 use Rattle.std.specs.Prelude.{◌≡◌, ◌≤◌, ◌==◌, ℕ, false, List, Some, filter, length}
 use Rattle.std.specs.List.{AllByRecursion}
-use Rattle.papaya_schedules.specs.After.{moment}
-use Rattle.papaya_schedules.specs.Entry.{Entry}
-use Rattle.papaya_named.specs.Seen.{kind_of}
-use Rattle.papaya_named.specs.declared.caller.Caller.{Caller}
-use Rattle.papaya_agrees.specs.Fresh.{is_taken}
-use Rattle.papaya_played.specs.Play.{Calling, State}
+use Rattle.papaya_drives.specs.Given.Schedules.After.{moment}
+use Rattle.papaya_drives.specs.Given.Schedules.Entry.{Entry}
+use Rattle.papaya_drives.specs.Given.Named.Seen.{kind_of}
+use Rattle.papaya_drives.specs.Given.Named.declared.caller.Caller.{Caller}
+use Rattle.papaya_drives.specs.Given.Agrees.Fresh.{is_taken}
+use Rattle.papaya_drives.specs.Given.Played.Play.{Calling, State}
 use Rattle.papaya_grouped.specs.Grouping.{IsGroupingOf, Names, number_called}
 
 module _ {K V S : Type 0} where

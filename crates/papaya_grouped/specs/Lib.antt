@@ -2,3 +2,4 @@ pub mod Grouping
 pub mod ByActs
 pub mod Reach
 pub mod Called
+pub mod Given

@@ -18,8 +18,8 @@ pub use Rattle.papaya_purposes.proofs.Given.Hands
 pub use Rattle.papaya_purposes.proofs.Given.Others
 pub use Rattle.papaya_purposes.proofs.Given.Spots
 pub use Rattle.papaya_purposes.proofs.Given.Moments
-pub use Rattle.papaya_kept.proofs.Given.Lives
-pub use Rattle.papaya_kept.proofs as Kept
+pub use Rattle.papaya_purposes.proofs.Given.Lives
+pub use Rattle.papaya_models.proofs.Given.Kept
 pub use Rattle.papaya_purposes.proofs.Given.Histories
 pub use Rattle.papaya_purposes.proofs.Given.Named
 pub use Rattle.papaya_purposes.proofs.Given.Owes
@@ -27,4 +27,16 @@ pub use Rattle.papaya_purposes.proofs.Given.Settles
 pub use Rattle.papaya_purposes.proofs.Given.Shards
 pub use Rattle.papaya_purposes.proofs as Purposes
 pub use Rattle.papaya_purposes.proofs.Given.Finds
-pub use Rattle.papaya_sources.proofs as Sources
+pub use Rattle.papaya_purposes.proofs.Given.Sources
+pub use Rattle.papaya_models.proofs.Given.Promises
+pub use Rattle.papaya_models.proofs as Models
+pub use Rattle.papaya_models.proofs.Given.Reclaims
+pub use Rattle.papaya_models.proofs.Given.Remains
+pub use Rattle.papaya_models.proofs.Given.Logged
+pub use Rattle.papaya_models.proofs.Given.SeizeReclaims
+pub use Rattle.papaya_models.proofs.Given.SeizeQuiet
+pub use Rattle.papaya_models.proofs.Given.Executor
+pub use Rattle.papaya_models.proofs.Given.Rows
+pub use Rattle.papaya_models.proofs.Given.Scheduler
+pub use Rattle.papaya_models.proofs.Given.Waiters
+pub use Rattle.papaya_models.proofs.Given.Mapping

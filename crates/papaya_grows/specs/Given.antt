@@ -24,8 +24,8 @@ pub use Rattle.papaya_purposes.specs.Given.Hands
 pub use Rattle.papaya_purposes.specs.Given.Others
 pub use Rattle.papaya_purposes.specs.Given.Spots
 pub use Rattle.papaya_purposes.specs.Given.Moments
-pub use Rattle.papaya_kept.specs.Given.Lives
-pub use Rattle.papaya_kept.specs as Kept
+pub use Rattle.papaya_purposes.specs.Given.Lives
+pub use Rattle.papaya_models.specs.Given.Kept
 pub use Rattle.papaya_purposes.specs.Given.Histories
 pub use Rattle.papaya_purposes.specs.Given.Named
 pub use Rattle.papaya_purposes.specs.Given.Owes
@@ -33,4 +33,16 @@ pub use Rattle.papaya_purposes.specs.Given.Settles
 pub use Rattle.papaya_purposes.specs.Given.Shards
 pub use Rattle.papaya_purposes.specs as Purposes
 pub use Rattle.papaya_purposes.specs.Given.Finds
-pub use Rattle.papaya_sources.specs as Sources
+pub use Rattle.papaya_purposes.specs.Given.Sources
+pub use Rattle.papaya_models.specs.Given.Promises
+pub use Rattle.papaya_models.specs as Models
+pub use Rattle.papaya_models.specs.Given.Logged
+pub use Rattle.papaya_models.specs.Given.SeizeReclaims
+pub use Rattle.papaya_models.specs.Given.Reclaims
+pub use Rattle.papaya_models.specs.Given.Reclaiming
+pub use Rattle.papaya_models.specs.Given.Remains
+pub use Rattle.papaya_models.specs.Given.SeizeQuiet
+pub use Rattle.papaya_models.specs.Given.Executor
+pub use Rattle.papaya_models.specs.Given.Rows
+pub use Rattle.papaya_models.specs.Given.Scheduler
+pub use Rattle.papaya_purposes.specs.Given.Shown

@@ -14,12 +14,12 @@ use Rattle.papaya_purposes.specs.Given.Effects.Known.{Known}
 use Rattle.papaya_purposes.specs.Given.Effects.declared.acting.Acting.TheVariants as acts
 use Rattle.papaya_purposes.specs.Given.Finishes.Machines.{machine_of}
 use Rattle.papaya_purposes.specs.Given.Moments.Whole.{ShowsWhole}
-use Rattle.papaya_kept.specs.Kept.{ShowsKept}
+use Rattle.papaya_models.specs.Given.Kept.Kept.{ShowsKept}
 use Rattle.papaya_purposes.specs.Given.Finds.Linking.{FoundFull}
 use Rattle.papaya_grows.specs.Copiers.{making_of_copier}
 use Rattle.papaya_purposes.specs.Given.Finds.Parts.{FindRest}
 use Rattle.papaya_purposes.specs.Given.Finds.Within.{AllIsInOrder, many_of}
-use Rattle.papaya_sources.specs.Sources.{ShowsSources}
+use Rattle.papaya_purposes.specs.Given.Sources.Sources.{ShowsSources}
 use Rattle.papaya_purposes.specs.Purposes.{ShowsPurposes}
 use Rattle.papaya_grows.specs.Finding.{ShowsFinding}
 use Rattle.papaya_purposes.specs.Given.Scenes.Held.{Held, IsAt}

@@ -23,3 +23,4 @@ pub mod Guarded
 pub mod Summed
 pub mod SettlingRows
 pub mod Others
+pub mod Given

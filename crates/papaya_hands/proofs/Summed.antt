@@ -2,31 +2,31 @@
 use Rattle.std.specs.Prelude.{◌≡◌, ℕ, ◌<◌, ◌≤◌, ◌+◌, ◌/◌, ◌%◌, ◌^◌, ◌==◌, Bool, true, false, List, [], ◌∷◌, Option, Some, if◌then◌else◌}
 use Rattle.std.proofs.Common.{refl, ap, sym, subst, ◌∙◌, arith, inl, inr, eqb-true}
 use Rattle.std.proofs.lemmas.Bool.{cases_lt}
-use Rattle.papaya_follows.specs.Given.SeizeWords.declared.at.At.TheVariants.{Entry}
-use Rattle.papaya_follows.specs.Given.SeizeWords.Op.{Found}
-use Rattle.papaya_follows.specs.Given.SeizeWords.Mem.{Mem, Took, value_at, word_at}
-use Rattle.papaya_follows.specs.Given.SeizeWords.Plan.{Steps, Ends}
-use Rattle.papaya_follows.proofs.Given.SeizeWords.OneOwner.Operations.{added}
-use Rattle.papaya_follows.specs.Given.Seize.declared.rows.settle.Settle.{Settle}
-use Rattle.papaya_follows.specs.Given.Seize.declared.rows.settle.Settled.{Settled}
-use Rattle.papaya_follows.specs.Given.Seize.declared.states.TheConstants.{COUNT, LAST_SLOT}
-use Rattle.papaya_follows.specs.Given.Seize.Law.{holds, is_open}
-use Rattle.papaya_follows.specs.Given.Seize.Settle as plans
-use Rattle.papaya_follows.specs.Given.Seize.World.{World}
-use Rattle.papaya_follows.specs.Given.SeizeWaiting.Held.{count}
-use Rattle.papaya_follows.proofs.Given.SeizeMoves.State.Ghost.{Debt, Unscanned, Marked, Gone, Skipped, Owing, Loose, Counted, Head, Never, Stage, Closing, Life, IsIn, State, is_active, is_marked, owes, counts, was_put, total}
-use Rattle.papaya_follows.proofs.Given.SeizeMoves.State.Logs.{held_open}
-use Rattle.papaya_follows.proofs.Given.SeizeMoves.State.Rule.{IsLive, Waits, IsGuarded, SeenIs, AtStage}
-use Rattle.papaya_follows.proofs.Given.SeizeMoves.State.Sums.{put_parts, put_le, total_le}
-use Rattle.papaya_follows.proofs.Given.SeizeRule.Points.Known.{Sums, bare}
-use Rattle.papaya_follows.proofs.Given.SeizeRule.Points.Retire.{of_link}
-use Rattle.papaya_follows.proofs.Given.SeizeRule.Words.Chains.{first_or, count_first}
-use Rattle.papaya_follows.proofs.Given.SeizeRule.Words.Named.{words_of, word_found, link, link-block}
-use Rattle.papaya_follows.proofs.Given.SeizeRule.Words.Shows.{CountIs}
-use Rattle.papaya_follows.proofs.Given.SeizeRule.Words.View.{view}
-use Rattle.papaya_follows.proofs.Given.SeizeAlone.Histories.Reached.{Reached}
-use Rattle.papaya_follows.specs.Given.Tables.Nodes.{deferred_word}
-use Rattle.papaya_follows.specs.Given.Tables.declared.node.Node.{Node}
+use Rattle.papaya_spots.specs.Given.SeizeWords.declared.at.At.TheVariants.{Entry}
+use Rattle.papaya_spots.specs.Given.SeizeWords.Op.{Found}
+use Rattle.papaya_spots.specs.Given.SeizeWords.Mem.{Mem, Took, value_at, word_at}
+use Rattle.papaya_spots.specs.Given.SeizeWords.Plan.{Steps, Ends}
+use Rattle.papaya_spots.proofs.Given.SeizeWords.OneOwner.Operations.{added}
+use Rattle.papaya_spots.specs.Given.Seize.declared.rows.settle.Settle.{Settle}
+use Rattle.papaya_spots.specs.Given.Seize.declared.rows.settle.Settled.{Settled}
+use Rattle.papaya_spots.specs.Given.Seize.declared.states.TheConstants.{COUNT, LAST_SLOT}
+use Rattle.papaya_spots.specs.Given.Seize.Law.{holds, is_open}
+use Rattle.papaya_spots.specs.Given.Seize.Settle as plans
+use Rattle.papaya_spots.specs.Given.Seize.World.{World}
+use Rattle.papaya_spots.specs.Given.SeizeWaiting.Held.{count}
+use Rattle.papaya_spots.proofs.Given.SeizeMoves.State.Ghost.{Debt, Unscanned, Marked, Gone, Skipped, Owing, Loose, Counted, Head, Never, Stage, Closing, Life, IsIn, State, is_active, is_marked, owes, counts, was_put, total}
+use Rattle.papaya_spots.proofs.Given.SeizeMoves.State.Logs.{held_open}
+use Rattle.papaya_spots.proofs.Given.SeizeMoves.State.Rule.{IsLive, Waits, IsGuarded, SeenIs, AtStage}
+use Rattle.papaya_spots.proofs.Given.SeizeMoves.State.Sums.{put_parts, put_le, total_le}
+use Rattle.papaya_spots.proofs.Given.SeizeRule.Points.Known.{Sums, bare}
+use Rattle.papaya_spots.proofs.Given.SeizeRule.Points.Retire.{of_link}
+use Rattle.papaya_spots.proofs.Given.SeizeRule.Words.Chains.{first_or, count_first}
+use Rattle.papaya_spots.proofs.Given.SeizeRule.Words.Named.{words_of, word_found, link, link-block}
+use Rattle.papaya_spots.proofs.Given.SeizeRule.Words.Shows.{CountIs}
+use Rattle.papaya_spots.proofs.Given.SeizeRule.Words.View.{view}
+use Rattle.papaya_spots.proofs.Given.SeizeAlone.Histories.Reached.{Reached}
+use Rattle.papaya_spots.specs.Given.Tables.Nodes.{deferred_word}
+use Rattle.papaya_spots.specs.Given.Tables.declared.node.Node.{Node}
 use Rattle.papaya_hands.specs.Rows.{HoldsOne, SettlesAside}
 use Rattle.papaya_hands.proofs.Guarded.{block_in_batch, first_of_batch, counted_in, in_counted}
 use Rattle.papaya_hands.proofs.Settling.{GoesSo, onward_aside}

@@ -6,3 +6,4 @@ pub mod Steps
 pub mod Calling
 pub mod Beginning
 pub mod Others
+pub mod Given

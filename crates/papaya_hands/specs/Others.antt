@@ -1,22 +1,22 @@
 -- Whoever takes a step that is none of a call, the rows within calls reclaim nothing still.
 use Rattle.std.specs.Prelude.{◌≡◌, ℕ, Bool, Option, Some}
-use Rattle.papaya_follows.specs.Given.Seize.declared.progress.Progress.{Progress as Making}
-use Rattle.papaya_follows.specs.Given.Seize.declared.rows.settle.Settled.{Settled}
-use Rattle.papaya_follows.specs.Given.Tables.declared.node.Node.{Node}
-use Rattle.papaya_follows.specs.Given.Tables.declared.setting.Setting.{Setting}
-use Rattle.papaya_follows.specs.Given.Callers.Together.{UnderWay}
-use Rattle.papaya_follows.specs.Given.Finishes.Endings.{Finishing}
-use Rattle.papaya_follows.specs.Given.Finishes.Makings.{Beginning}
-use Rattle.papaya_follows.specs.Given.Finishes.Maps.{Standing, with_call}
-use Rattle.papaya_follows.specs.Given.Scenes.declared.row.RowTold.{RowTold}
-use Rattle.papaya_follows.specs.Given.Scenes.declared.row.SlotCall.{SlotCall}
-use Rattle.papaya_follows.specs.Given.Scenes.declared.row.SlotRow.{SlotRow}
+use Rattle.papaya_spots.specs.Given.Seize.declared.progress.Progress.{Progress as Making}
+use Rattle.papaya_spots.specs.Given.Seize.declared.rows.settle.Settled.{Settled}
+use Rattle.papaya_spots.specs.Given.Tables.declared.node.Node.{Node}
+use Rattle.papaya_spots.specs.Given.Tables.declared.setting.Setting.{Setting}
+use Rattle.papaya_spots.specs.Given.Callers.Together.{UnderWay}
+use Rattle.papaya_spots.specs.Given.Finishes.Endings.{Finishing}
+use Rattle.papaya_spots.specs.Given.Finishes.Makings.{Beginning}
+use Rattle.papaya_spots.specs.Given.Finishes.Maps.{Standing, with_call}
+use Rattle.papaya_spots.specs.Given.Scenes.declared.row.RowTold.{RowTold}
+use Rattle.papaya_spots.specs.Given.Scenes.declared.row.SlotCall.{SlotCall}
+use Rattle.papaya_spots.specs.Given.Scenes.declared.row.SlotRow.{SlotRow}
 use Rattle.papaya_hands.specs.Rows.{ShowsRows}
-use Rattle.papaya_follows.specs.Given.Scenes.Ending.{EndingLeads, ending_begun}
-use Rattle.papaya_follows.specs.Given.Scenes.Held.{Held, IsAt}
-use Rattle.papaya_follows.specs.Given.Scenes.Making.{MakingLeads}
-use Rattle.papaya_follows.specs.Given.Scenes.OnSlots.{RowBegins, RowLeads}
-use Rattle.papaya_follows.specs.Given.Scenes.Scene.{IsOnSlot, Scene}
+use Rattle.papaya_spots.specs.Given.Scenes.Ending.{EndingLeads, ending_begun}
+use Rattle.papaya_spots.specs.Given.Scenes.Held.{Held, IsAt}
+use Rattle.papaya_spots.specs.Given.Scenes.Making.{MakingLeads}
+use Rattle.papaya_spots.specs.Given.Scenes.OnSlots.{RowBegins, RowLeads}
+use Rattle.papaya_spots.specs.Given.Scenes.Scene.{IsOnSlot, Scene}
 
 module _ (K V : Type 0) (same : K → K → Bool) (hash : ℕ → K → ℕ) where
   -- The promises: so it is where a row begins on a slot,

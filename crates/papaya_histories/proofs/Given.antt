@@ -20,3 +20,7 @@ pub use Rattle.papaya_moments.proofs.Given.Hands
 pub use Rattle.papaya_moments.proofs.Given.Others
 pub use Rattle.papaya_moments.proofs.Given.Spots
 pub use Rattle.papaya_moments.proofs as Moments
+pub use Rattle.papaya_moments.proofs.Given.Alone
+pub use Rattle.papaya_moments.proofs.Given.Reclaims
+pub use Rattle.papaya_moments.proofs.Given.SeizeReclaims
+pub use Rattle.papaya_moments.proofs.Given.Named

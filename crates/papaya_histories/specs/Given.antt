@@ -26,3 +26,7 @@ pub use Rattle.papaya_moments.specs.Given.Hands
 pub use Rattle.papaya_moments.specs.Given.Others
 pub use Rattle.papaya_moments.specs.Given.Spots
 pub use Rattle.papaya_moments.specs as Moments
+pub use Rattle.papaya_moments.specs.Given.Alone
+pub use Rattle.papaya_moments.specs.Given.Reclaims
+pub use Rattle.papaya_moments.specs.Given.SeizeReclaims
+pub use Rattle.papaya_moments.specs.Given.Named

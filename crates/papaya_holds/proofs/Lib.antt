@@ -6,3 +6,4 @@ pub mod Runs
 mod Samples
 mod Stood
 mod Sweeps
+pub mod Given

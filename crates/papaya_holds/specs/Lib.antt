@@ -5,3 +5,4 @@ pub mod Held
 pub mod Lives
 pub mod Promises
 pub mod Sweeps
+pub mod Given

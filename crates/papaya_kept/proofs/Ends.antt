@@ -2,54 +2,54 @@
 use Rattle.std.specs.Prelude.{Bool, true, false, List, Option, Some, None, nat_lt, if◌then◌else◌}
 use Rattle.std.proofs.Common.{◌≡◌, ℕ, ◌≤◌, ◌⊎◌, inl, inr, refl, ap, sym, subst, ◌∙◌, arith}
 use Rattle.std.proofs.lemmas.Bool.{cases_eq}
-use Rattle.papaya_sifts.specs.Given.Waits.Others.{copier_in, copier_in_room, copier_in_sweep, copier_of}
-use Rattle.papaya_sifts.proofs.Given.Waits.EndingCalls.{AllOrOwn, as_own, copier_then, keeps_still, with_own}
+use Rattle.papaya_waiters.specs.Given.Waits.Others.{copier_in, copier_in_room, copier_in_sweep, copier_of}
+use Rattle.papaya_waiters.proofs.Given.Waits.EndingCalls.{AllOrOwn, as_own, copier_then, keeps_still, with_own}
 use Rattle.papaya_waiters.proofs.Likes.{IsFreshCopier, IsIdleCopier, idle_ends, like_keeps_blocking}
-use Rattle.papaya_lives.specs.Given.Seize.declared.rows.settle.Settled.{Settled}
-use Rattle.papaya_lives.specs.Given.Seize.declared.rows.settle.Settled.TheVariants as settled
-use Rattle.papaya_lives.specs.Given.Seize.declared.progress.Progress.{Progress}
-use Rattle.papaya_lives.specs.Given.Seize.declared.progress.Progress.TheVariants as progress
-use Rattle.papaya_lives.specs.Given.Seize.World.{World, Event, with_at}
-use Rattle.papaya_lives.specs.Given.Tables.Chunks.{is_incremental}
-use Rattle.papaya_lives.specs.Given.Tables.declared.node.Node.{Node}
-use Rattle.papaya_lives.specs.Given.Tables.declared.setting.Setting.{Setting}
-use Rattle.papaya_lives.specs.Given.Resize.declared.copier.Copier.{Copier}
-use Rattle.papaya_lives.specs.Given.Resize.declared.new_map.NewMap.{NewMap}
-use Rattle.papaya_lives.specs.Given.Raw.CallAsks.{told_at}
-use Rattle.papaya_lives.specs.Given.Raw.Machine.{is_ready, machine_asked, machine_replied, sweep_told}
-use Rattle.papaya_lives.specs.Given.Raw.declared.machines.asking.Reply.{Reply}
-use Rattle.papaya_lives.specs.Given.Raw.declared.machines.call.Calling.{Calling}
-use Rattle.papaya_lives.specs.Given.Raw.declared.machines.call.Calling.TheVariants as at
-use Rattle.papaya_lives.specs.Given.Raw.declared.machines.call.KeyCall.{KeyCall}
-use Rattle.papaya_lives.specs.Given.Raw.declared.machines.end_map.EndMap.{EndMap}
-use Rattle.papaya_lives.specs.Given.Raw.declared.machines.machine.Machine.{Machine}
-use Rattle.papaya_lives.specs.Given.Raw.declared.machines.machine.Machine.TheVariants as kinds
-use Rattle.papaya_lives.specs.Given.Sweeps.SweepPoints.{next_at}
-use Rattle.papaya_lives.specs.Given.Sweeps.declared.sweep.Sweep.{Sweep}
-use Rattle.papaya_lives.specs.Given.Sweeps.declared.sweep.Sweeping.{Sweeping}
-use Rattle.papaya_lives.specs.Given.Sweeps.declared.sweep.Sweeping.TheVariants as sweeping
-use Rattle.papaya_lives.specs.Given.Rule.Chart.{Chart}
-use Rattle.papaya_lives.specs.Given.Callers.Together.{UnderWay, OnKey, ForRoom, Counting, OverAll}
-use Rattle.papaya_lives.proofs.Given.Callers.Together.At.{at_same, at_other}
-use Rattle.papaya_lives.specs.Given.Finishes.Endings.{Finishing}
-use Rattle.papaya_lives.specs.Given.Finishes.FactsEnds.{Deed}
-use Rattle.papaya_lives.specs.Given.Finishes.Machines.{machine_of}
-use Rattle.papaya_lives.specs.Given.Finishes.Makings.{Beginning, IsNewChart}
-use Rattle.papaya_lives.specs.Given.Finishes.Maps.{Standing, IsSameMap, with_call as with_in}
-use Rattle.papaya_lives.specs.Given.Follows.Calling.{NoneNamed}
-use Rattle.papaya_lives.proofs.Given.Follows.Calling.{is_same_refl}
-use Rattle.papaya_lives.proofs.Given.Follows.Steps.{one_of}
-use Rattle.papaya_lives.specs.Given.Others.Endings.{ending_after}
-use Rattle.papaya_lives.specs.Given.Others.Makings.{making_after}
-use Rattle.papaya_lives.specs.Given.Others.Rows.{scene_then}
+use Rattle.papaya_owes.specs.Given.Seize.declared.rows.settle.Settled.{Settled}
+use Rattle.papaya_owes.specs.Given.Seize.declared.rows.settle.Settled.TheVariants as settled
+use Rattle.papaya_owes.specs.Given.Seize.declared.progress.Progress.{Progress}
+use Rattle.papaya_owes.specs.Given.Seize.declared.progress.Progress.TheVariants as progress
+use Rattle.papaya_owes.specs.Given.Seize.World.{World, Event, with_at}
+use Rattle.papaya_owes.specs.Given.Tables.Chunks.{is_incremental}
+use Rattle.papaya_owes.specs.Given.Tables.declared.node.Node.{Node}
+use Rattle.papaya_owes.specs.Given.Tables.declared.setting.Setting.{Setting}
+use Rattle.papaya_owes.specs.Given.Resize.declared.copier.Copier.{Copier}
+use Rattle.papaya_owes.specs.Given.Resize.declared.new_map.NewMap.{NewMap}
+use Rattle.papaya_owes.specs.Given.Raw.CallAsks.{told_at}
+use Rattle.papaya_owes.specs.Given.Raw.Machine.{is_ready, machine_asked, machine_replied, sweep_told}
+use Rattle.papaya_owes.specs.Given.Raw.declared.machines.asking.Reply.{Reply}
+use Rattle.papaya_owes.specs.Given.Raw.declared.machines.call.Calling.{Calling}
+use Rattle.papaya_owes.specs.Given.Raw.declared.machines.call.Calling.TheVariants as at
+use Rattle.papaya_owes.specs.Given.Raw.declared.machines.call.KeyCall.{KeyCall}
+use Rattle.papaya_owes.specs.Given.Raw.declared.machines.end_map.EndMap.{EndMap}
+use Rattle.papaya_owes.specs.Given.Raw.declared.machines.machine.Machine.{Machine}
+use Rattle.papaya_owes.specs.Given.Raw.declared.machines.machine.Machine.TheVariants as kinds
+use Rattle.papaya_owes.specs.Given.Sweeps.SweepPoints.{next_at}
+use Rattle.papaya_owes.specs.Given.Sweeps.declared.sweep.Sweep.{Sweep}
+use Rattle.papaya_owes.specs.Given.Sweeps.declared.sweep.Sweeping.{Sweeping}
+use Rattle.papaya_owes.specs.Given.Sweeps.declared.sweep.Sweeping.TheVariants as sweeping
+use Rattle.papaya_owes.specs.Given.Rule.Chart.{Chart}
+use Rattle.papaya_waiters.specs.Given.Callers.Together.{UnderWay, OnKey, ForRoom, Counting, OverAll}
+use Rattle.papaya_waiters.proofs.Given.Callers.Together.At.{at_same, at_other}
+use Rattle.papaya_waiters.specs.Given.Finishes.Endings.{Finishing}
+use Rattle.papaya_waiters.specs.Given.Finishes.FactsEnds.{Deed}
+use Rattle.papaya_waiters.specs.Given.Finishes.Machines.{machine_of}
+use Rattle.papaya_waiters.specs.Given.Finishes.Makings.{Beginning, IsNewChart}
+use Rattle.papaya_waiters.specs.Given.Finishes.Maps.{Standing, IsSameMap, with_call as with_in}
+use Rattle.papaya_owes.specs.Given.Follows.Calling.{NoneNamed}
+use Rattle.papaya_owes.proofs.Given.Follows.Calling.{is_same_refl}
+use Rattle.papaya_owes.proofs.Given.Follows.Steps.{one_of}
+use Rattle.papaya_owes.specs.Given.Others.Endings.{ending_after}
+use Rattle.papaya_owes.specs.Given.Others.Makings.{making_after}
+use Rattle.papaya_owes.specs.Given.Others.Rows.{scene_then}
 use Rattle.papaya_kept.specs.Ends.{HaveEndsIn, ShowsEnds}
 use Rattle.papaya_kept.proofs.ToldFresh.{reply_fresh, told_fresh}
-use Rattle.papaya_lives.specs.Given.Scenes.Ending.{EndingComesTo, ending_begun}
-use Rattle.papaya_lives.specs.Given.Scenes.Held.{Held}
-use Rattle.papaya_lives.specs.Given.Scenes.Making.{MakingComesTo}
-use Rattle.papaya_lives.specs.Given.Scenes.OnSlots.{HappensAt}
-use Rattle.papaya_lives.specs.Given.Scenes.Replying.{scene_with, unless_stopped}
-use Rattle.papaya_lives.specs.Given.Scenes.Scene.{Scene, at_first}
+use Rattle.papaya_owes.specs.Given.Scenes.Ending.{EndingComesTo, ending_begun}
+use Rattle.papaya_owes.specs.Given.Scenes.Held.{Held}
+use Rattle.papaya_owes.specs.Given.Scenes.Making.{MakingComesTo}
+use Rattle.papaya_owes.specs.Given.Scenes.OnSlots.{HappensAt}
+use Rattle.papaya_owes.specs.Given.Scenes.Replying.{scene_with, unless_stopped}
+use Rattle.papaya_owes.specs.Given.Scenes.Scene.{Scene, at_first}
 
 -- a call that is to do nothing for a copying goes on so, in blocking mode as one that begins
 pub idle_keeps : {K V : Type 0} (incremental : Bool) (c : Chart K) (calls : ℕ → Option (UnderWay K V K)) (i : ℕ) (next : Option (UnderWay K V K)) → HaveEndsIn incremental c calls

@@ -1,15 +1,15 @@
 -- All that is kept is so as long as nothing of it has changed: the same world, the same calls, what the moment says of calls, tables and pairs.
 use Rattle.std.specs.Prelude.{◌≡◌, ℕ, List, Option, Some, find}
 use Rattle.std.proofs.Common.{refl, ap, sym, subst, ◌∙◌, inl}
-use Rattle.papaya_lives.specs.Given.Seize.World.{World, with_at}
-use Rattle.papaya_lives.specs.Given.Tables.declared.node.Node.{Node}
-use Rattle.papaya_lives.specs.Given.Runs.Same.{is_same}
-use Rattle.papaya_lives.specs.Given.Schedules.Moment.{UnderWay as CallThere, Moment}
-use Rattle.papaya_lives.specs.Given.Schedules.Views.{call_of}
-use Rattle.papaya_lives.specs.Given.Callers.Together.{UnderWay}
-use Rattle.papaya_lives.specs.Given.Effects.Known.{Known}
-use Rattle.papaya_lives.specs.Given.Finishes.Machines.{machine_of}
-use Rattle.papaya_lives.specs.Given.Follows.Calling.{come_to}
+use Rattle.papaya_owes.specs.Given.Seize.World.{World, with_at}
+use Rattle.papaya_owes.specs.Given.Tables.declared.node.Node.{Node}
+use Rattle.papaya_owes.specs.Given.Runs.Same.{is_same}
+use Rattle.papaya_owes.specs.Given.Schedules.Moment.{UnderWay as CallThere, Moment}
+use Rattle.papaya_owes.specs.Given.Schedules.Views.{call_of}
+use Rattle.papaya_waiters.specs.Given.Callers.Together.{UnderWay}
+use Rattle.papaya_owes.specs.Given.Effects.Known.{Known}
+use Rattle.papaya_waiters.specs.Given.Finishes.Machines.{machine_of}
+use Rattle.papaya_owes.specs.Given.Follows.Calling.{come_to}
 use Rattle.papaya_owes.proofs.Aside.{stays_made}
 use Rattle.papaya_owes.proofs.Between.{made_begins, calls_come_to_made}
 use Rattle.papaya_owes.proofs.Looking.Between.{looking_begins, stays_looking, calls_come_to_looking}
@@ -17,26 +17,26 @@ use Rattle.papaya_owes.proofs.Short.Between.{short_begins, stays_short, calls_co
 use Rattle.papaya_owes.proofs.Grown.Between.{grown_begins, stays_grown, calls_come_to_grown}
 use Rattle.papaya_owes.proofs.Tables.Aside.{tables_begin, stays_tables, makings_begin_tables}
 use Rattle.papaya_owes.proofs.Tables.Between.{calls_come_to_tables}
-use Rattle.papaya_lives.specs.Given.Settles.Entries.{IsSomebodys, IsBlank, RetiresOne, ShowsEntries}
-use Rattle.papaya_lives.specs.Given.Settles.Hand.{SameInHand, ShowsOwed}
-use Rattle.papaya_lives.specs.Given.Settles.Handing.{HandsTold}
-use Rattle.papaya_lives.proofs.Given.Settles.Between.{counts_begin, stays_counts, calls_come_to_counts}
-use Rattle.papaya_lives.proofs.Given.Settles.EntryScenes.{entries_begin}
-use Rattle.papaya_lives.proofs.Given.Settles.Hand.Between.{owed_begins, stays_owed, calls_come_to_owed}
-use Rattle.papaya_lives.proofs.Given.Settles.Hand.Roles.{hand_kept}
-use Rattle.papaya_lives.proofs.Given.Settles.Handing.{handing_begins, calls_come_to_handing}
-use Rattle.papaya_lives.specs.Behind.{ShowsWaiting, WaitsOnce}
-use Rattle.papaya_lives.specs.Lying.{ShowsLying}
-use Rattle.papaya_lives.specs.Order.{ShowsOrder}
-use Rattle.papaya_lives.proofs.HandedRows.{handed_begins, others_leave_handed}
-use Rattle.papaya_lives.proofs.LeftTables.{left_begins, others_keep_left}
-use Rattle.papaya_lives.proofs.Lying.{lying_begins, others_leave_lying}
-use Rattle.papaya_lives.proofs.Order.{order_begins, others_leave_order}
-use Rattle.papaya_lives.proofs.Reclaimed.{retired_begins, others_leave_retired}
-use Rattle.papaya_lives.proofs.Waiting.{waiting_begins, others_leave_waiting}
+use Rattle.papaya_owes.specs.Given.Settles.Entries.{IsSomebodys, IsBlank, RetiresOne, ShowsEntries}
+use Rattle.papaya_owes.specs.Given.Settles.Hand.{SameInHand, ShowsOwed}
+use Rattle.papaya_owes.specs.Given.Settles.Handing.{HandsTold}
+use Rattle.papaya_owes.proofs.Given.Settles.Between.{counts_begin, stays_counts, calls_come_to_counts}
+use Rattle.papaya_owes.proofs.Given.Settles.EntryScenes.{entries_begin}
+use Rattle.papaya_owes.proofs.Given.Settles.Hand.Between.{owed_begins, stays_owed, calls_come_to_owed}
+use Rattle.papaya_owes.proofs.Given.Settles.Hand.Roles.{hand_kept}
+use Rattle.papaya_owes.proofs.Given.Settles.Handing.{handing_begins, calls_come_to_handing}
+use Rattle.papaya_owes.specs.Given.Lives.Behind.{ShowsWaiting, WaitsOnce}
+use Rattle.papaya_owes.specs.Given.Lives.Lying.{ShowsLying}
+use Rattle.papaya_owes.specs.Given.Lives.Order.{ShowsOrder}
+use Rattle.papaya_owes.proofs.Given.Lives.HandedRows.{handed_begins, others_leave_handed}
+use Rattle.papaya_owes.proofs.Given.Lives.LeftTables.{left_begins, others_keep_left}
+use Rattle.papaya_owes.proofs.Given.Lives.Lying.{lying_begins, others_leave_lying}
+use Rattle.papaya_owes.proofs.Given.Lives.Order.{order_begins, others_leave_order}
+use Rattle.papaya_owes.proofs.Given.Lives.Reclaimed.{retired_begins, others_leave_retired}
+use Rattle.papaya_owes.proofs.Given.Lives.Waiting.{waiting_begins, others_leave_waiting}
 use Rattle.papaya_kept.proofs.Ends.{ends_begin, ends_stay}
 use Rattle.papaya_kept.specs.Steps.{BeginsKept, StaysKept, RenamedKept, CallsComeToKept, MakingsBeginKept}
-use Rattle.papaya_lives.specs.Given.Scenes.Scene.{HasCall, Scene}
+use Rattle.papaya_owes.specs.Given.Scenes.Scene.{HasCall, Scene}
 
 pub begins_kept : (K V : Type 0) → BeginsKept K V
 begins_kept K V roots name = record {

@@ -5,9 +5,9 @@ use Rattle.papaya_grows.proofs.Given.Moments.NewMaps.{pairs_begin}
 use Rattle.papaya_grows.proofs.Given.Moments.Numbers.{numbers_begin}
 use Rattle.papaya_grows.proofs.Given.Histories.Logs.{first_is_past}
 use Rattle.papaya_grows.proofs.Given.Histories.Questions.{questions_begin}
-use Rattle.papaya_promises.proofs.Guards.{no_guard}
-use Rattle.papaya_models.specs.Numbers.{HasNumber}
-use Rattle.papaya_models.proofs.Alike.Changed.{start_alike}
+use Rattle.papaya_grows.proofs.Given.Promises.Guards.{no_guard}
+use Rattle.papaya_grows.specs.Given.Models.Numbers.{HasNumber}
+use Rattle.papaya_grows.proofs.Given.Models.Alike.Changed.{start_alike}
 use Rattle.papaya_grows.proofs.Given.Finds.Runs.{all_in_order_at_first}
 use Rattle.papaya_grows.proofs.Given.Purposes.Tableless.{tableless_at_first}
 use Rattle.papaya_legal.specs.Carried.{RunsBeginIn}

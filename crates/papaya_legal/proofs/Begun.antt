@@ -26,11 +26,11 @@ use Rattle.papaya_grows.proofs.Given.Hands.Asking.{which}
 use Rattle.papaya_grows.proofs.Given.Hands.Calling.{caller_is}
 use Rattle.papaya_grows.proofs.Given.Histories.Logs.{events_are}
 use Rattle.papaya_grows.proofs.Given.Purposes.Nothing.{no_calls_are_swept}
-use Rattle.papaya_promises.specs.Reading.{HasLooked, LookupsStay, ShowsReading, looks}
-use Rattle.papaya_promises.specs.Sheltered.{SectionsHold}
-use Rattle.papaya_promises.proofs.Brief.Meanwhile.{calls_begin_readings, calls_take_readings}
-use Rattle.papaya_promises.proofs.Brief.Stays.{readings_stay}
-use Rattle.papaya_promises.proofs.Shelters.Begins.{sections_go_on}
+use Rattle.papaya_grows.specs.Given.Promises.Reading.{HasLooked, LookupsStay, ShowsReading, looks}
+use Rattle.papaya_grows.specs.Given.Promises.Sheltered.{SectionsHold}
+use Rattle.papaya_grows.proofs.Given.Promises.Brief.Meanwhile.{calls_begin_readings, calls_take_readings}
+use Rattle.papaya_grows.proofs.Given.Promises.Brief.Stays.{readings_stay}
+use Rattle.papaya_grows.proofs.Given.Promises.Shelters.Begins.{sections_go_on}
 use Rattle.papaya_legal.specs.Between.{IsLike}
 use Rattle.papaya_legal.specs.CallEvents.{IsLegalBut}
 use Rattle.papaya_legal.specs.Carried.{ShowsCalls}

@@ -10,8 +10,8 @@ use Rattle.papaya_grows.specs.Given.Schedules.Moment.{Place, Left, Remains}
 use Rattle.papaya_grows.specs.Given.Effects.declared.role.Role.{Role}
 use Rattle.papaya_grows.specs.Given.Effects.declared.role.Role.TheVariants as role
 use Rattle.papaya_grows.proofs.Given.Finishes.Ends.CountedBlocks.{some_here, some_last, some_of_first}
-use Rattle.papaya_logged.specs.Given.SeizeReclaims.Roots.{all_lists}
-use Rattle.papaya_models.specs.Numbers.{things_of}
+use Rattle.papaya_grows.specs.Given.SeizeReclaims.Roots.{all_lists}
+use Rattle.papaya_grows.specs.Given.Models.Numbers.{things_of}
 use Rattle.papaya_grows.specs.Given.Finds.Orderly.{is_left_over}
 use Rattle.papaya_legal.specs.AllEvents.{BehindIsTold}
 

@@ -19,9 +19,9 @@ use Rattle.papaya_grows.proofs.Given.Follows.Calling.{is_same_refl}
 use Rattle.papaya_grows.proofs.Given.Follows.Steps.{one_of}
 use Rattle.papaya_grows.proofs.Given.Hands.Asking.{which}
 use Rattle.papaya_grows.proofs.Given.Histories.Logs.{events_are}
-use Rattle.papaya_promises.specs.Reading.{LookupsStay, ShowsReading, looks}
-use Rattle.papaya_promises.proofs.Brief.Meanwhile.{calls_begin_readings}
-use Rattle.papaya_promises.proofs.Brief.Stays.{readings_stay}
+use Rattle.papaya_grows.specs.Given.Promises.Reading.{LookupsStay, ShowsReading, looks}
+use Rattle.papaya_grows.proofs.Given.Promises.Brief.Meanwhile.{calls_begin_readings}
+use Rattle.papaya_grows.proofs.Given.Promises.Brief.Stays.{readings_stay}
 use Rattle.papaya_legal.specs.CallEvents.{NextsBegin, WholeCallsBegin}
 use Rattle.papaya_legal.specs.Carried.{ShowsCalls}
 use Rattle.papaya_legal.proofs.Between.{calls_begin, walks_go_on}

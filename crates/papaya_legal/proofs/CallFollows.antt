@@ -16,11 +16,11 @@ use Rattle.papaya_grows.specs.Given.Effects.Known.{Known}
 use Rattle.papaya_grows.specs.Given.Effects.declared.acting.Acting.TheVariants as acts
 use Rattle.papaya_grows.specs.Given.Histories.InEvent.{here_of}
 use Rattle.papaya_grows.proofs.Given.Histories.AnyCall.InEvent.{events_keep_all}
-use Rattle.papaya_promises.specs.Protected.{is_of_slots}
-use Rattle.papaya_models.specs.CallEvents.{FollowsInEvent, IsInItsRow, IsOfNoSlot}
-use Rattle.papaya_models.specs.Follows.{FollowsModel}
-use Rattle.papaya_models.proofs.CallEvents.{call_events_go_on, call_events_pause, others_hand_over}
-use Rattle.papaya_models.proofs.MapEvents.{moments_note_once}
+use Rattle.papaya_grows.specs.Given.Promises.Protected.{is_of_slots}
+use Rattle.papaya_grows.specs.Given.Models.CallEvents.{FollowsInEvent, IsInItsRow, IsOfNoSlot}
+use Rattle.papaya_grows.specs.Given.Models.Follows.{FollowsModel}
+use Rattle.papaya_grows.proofs.Given.Models.CallEvents.{call_events_go_on, call_events_pause, others_hand_over}
+use Rattle.papaya_grows.proofs.Given.Models.MapEvents.{moments_note_once}
 use Rattle.papaya_legal.specs.CallEvents.{CallEventsFollow}
 use Rattle.papaya_legal.specs.Carried.{ComesAlone, FollowsOrRows}
 use Rattle.papaya_legal.proofs.Calls.{out_of_slots}

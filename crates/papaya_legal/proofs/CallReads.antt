@@ -26,11 +26,11 @@ use Rattle.papaya_grows.proofs.Given.Follows.Steps.{one_of}
 use Rattle.papaya_grows.proofs.Given.Moments.After.{effects_after}
 use Rattle.papaya_grows.specs.Given.Histories.InEvent.{InEvent, here_of}
 use Rattle.papaya_grows.specs.Given.Histories.Several.{IsSameCall}
-use Rattle.papaya_promises.specs.Reading.{HasLooked, ShowsReading, looks}
-use Rattle.papaya_promises.proofs.Brief.Ends.{events_read_briefly}
-use Rattle.papaya_promises.proofs.Brief.Meanwhile.{effects_steps, others_keep_readings}
-use Rattle.papaya_promises.proofs.Brief.Own.{lookups_do_nothing}
-use Rattle.papaya_promises.proofs.Brief.Steps.{lookups_keep_readings}
+use Rattle.papaya_grows.specs.Given.Promises.Reading.{HasLooked, ShowsReading, looks}
+use Rattle.papaya_grows.proofs.Given.Promises.Brief.Ends.{events_read_briefly}
+use Rattle.papaya_grows.proofs.Given.Promises.Brief.Meanwhile.{effects_steps, others_keep_readings}
+use Rattle.papaya_grows.proofs.Given.Promises.Brief.Own.{lookups_do_nothing}
+use Rattle.papaya_grows.proofs.Given.Promises.Brief.Steps.{lookups_keep_readings}
 use Rattle.papaya_legal.specs.CallEvents.{InCallEvent}
 use Rattle.papaya_grows.specs.Given.Scenes.Held.{Held, IsAt}
 use Rattle.papaya_grows.specs.Given.Scenes.Scene.{Scene}

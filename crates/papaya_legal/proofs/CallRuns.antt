@@ -34,9 +34,9 @@ use Rattle.papaya_grows.specs.Given.Purposes.Purposes.{ShowsPurposes}
 use Rattle.papaya_grows.proofs.Given.Purposes.Between.{calls_come_to_purposes}
 use Rattle.papaya_grows.proofs.Given.Purposes.Kept.{calls_keep_purposes}
 use Rattle.papaya_grows.proofs.Given.Purposes.Walks.{walks_show_purposes}
-use Rattle.papaya_promises.specs.Reading.{ShowsReading, looks}
-use Rattle.papaya_promises.specs.Sheltered.{SectionsHold}
-use Rattle.papaya_promises.proofs.Brief.Meanwhile.{calls_come_to_readings}
+use Rattle.papaya_grows.specs.Given.Promises.Reading.{ShowsReading, looks}
+use Rattle.papaya_grows.specs.Given.Promises.Sheltered.{SectionsHold}
+use Rattle.papaya_grows.proofs.Given.Promises.Brief.Meanwhile.{calls_come_to_readings}
 use Rattle.papaya_grows.specs.Given.Finds.Little.{AllIsBack, ReclaimsAll, WhereAll}
 use Rattle.papaya_grows.specs.Given.Schedules.Reclaims.{ComesLast}
 use Rattle.papaya_grows.specs.Given.Schedules.Model.{all_left, thing_back, IsByModel}

@@ -22,7 +22,7 @@ use Rattle.papaya_grows.proofs.Given.Moments.After.{effects_after}
 use Rattle.papaya_grows.specs.Given.Histories.InEvent.{InEvent, here_of}
 use Rattle.papaya_grows.specs.Given.Histories.Several.{IsSameCall}
 use Rattle.papaya_grows.proofs.Given.Histories.OtherMidsts.{fewer_so}
-use Rattle.papaya_promises.proofs.Brief.Meanwhile.{effects_steps}
+use Rattle.papaya_grows.proofs.Given.Promises.Brief.Meanwhile.{effects_steps}
 use Rattle.papaya_grows.specs.Given.Purposes.Kept.{PairsChangeFirst}
 use Rattle.papaya_grows.specs.Given.Purposes.Shards.{ReadsShards}
 use Rattle.papaya_grows.specs.Given.Purposes.Swept.{ComesSo as IsToldSo}

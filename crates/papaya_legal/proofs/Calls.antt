@@ -26,19 +26,19 @@ use Rattle.papaya_grows.specs.Given.Histories.AsCalled.{ShowsAsCalled}
 use Rattle.papaya_grows.specs.Given.Histories.Due.{ShowsDue}
 use Rattle.papaya_grows.specs.Given.Histories.InEvent.{here_of}
 use Rattle.papaya_grows.proofs.Given.Histories.AnyCall.InEvent.{events_begin, events_go_on, events_keep_all}
-use Rattle.papaya_models.specs.CallEvents.{FollowsInEvent, IsInItsRow}
-use Rattle.papaya_models.proofs.CallEvents.{call_events_begin, call_events_go_on}
-use Rattle.papaya_models.proofs.MapEvents.{moments_note_once}
+use Rattle.papaya_grows.specs.Given.Models.CallEvents.{FollowsInEvent, IsInItsRow}
+use Rattle.papaya_grows.proofs.Given.Models.CallEvents.{call_events_begin, call_events_go_on}
+use Rattle.papaya_grows.proofs.Given.Models.MapEvents.{moments_note_once}
 use Rattle.papaya_grows.proofs.Given.Spots.Unreclaimed.{and_both}
 use Rattle.papaya_grows.specs.Given.Finds.Life.{StoresOne}
 use Rattle.papaya_grows.proofs.Given.Finds.Doing.{several_do_theirs}
 use Rattle.papaya_grows.proofs.Given.Finds.Quiet.{several_store_one}
 use Rattle.papaya_grows.proofs.Given.Finds.Steps.{steps_do_theirs, steps_store_one}
-use Rattle.papaya_promises.specs.Protected.{InMidst, is_of_slots}
-use Rattle.papaya_promises.specs.Reading.{HasLooked, looks}
-use Rattle.papaya_promises.specs.Sheltered.{SectionsHold}
-use Rattle.papaya_promises.proofs.Protected.{calls_protect}
-use Rattle.papaya_promises.proofs.Weights.{grants_add_up, operations_are_single, parts_add_up}
+use Rattle.papaya_grows.specs.Given.Promises.Protected.{InMidst, is_of_slots}
+use Rattle.papaya_grows.specs.Given.Promises.Reading.{HasLooked, looks}
+use Rattle.papaya_grows.specs.Given.Promises.Sheltered.{SectionsHold}
+use Rattle.papaya_grows.proofs.Given.Promises.Protected.{calls_protect}
+use Rattle.papaya_grows.proofs.Given.Promises.Weights.{grants_add_up, operations_are_single, parts_add_up}
 use Rattle.papaya_legal.specs.CallEvents.{CallEventsBegin, CallEventsGoOn}
 use Rattle.papaya_grows.proofs.Given.Purposes.ShardsRead.{events_begin_uncounted}
 use Rattle.papaya_legal.proofs.CallChanges.{changes_first, reads_shards, unadded_still}

@@ -25,7 +25,7 @@ use Rattle.papaya_grows.proofs.Given.Histories.AnyCall.InEvent.{events_keep_all}
 use Rattle.papaya_grows.specs.Given.Finds.Life.{StoresOne}
 use Rattle.papaya_grows.proofs.Given.Finds.Quiet.{several_store_one}
 use Rattle.papaya_grows.proofs.Given.Finds.Steps.{steps_store_one}
-use Rattle.papaya_promises.specs.Reading.{LookupsStay}
+use Rattle.papaya_grows.specs.Given.Promises.Reading.{LookupsStay}
 use Rattle.papaya_grows.proofs.Given.Purposes.Tableless.{events_keep_tableless}
 use Rattle.papaya_legal.specs.CallEvents.{CallEventsEnd}
 use Rattle.papaya_grows.specs.Given.Schedules.declared.outcome.Outcome.{Outcome}
@@ -37,7 +37,7 @@ use Rattle.papaya_grows.proofs.Given.Purposes.Between.{events_keep_purposes}
 use Rattle.papaya_grows.proofs.Given.Purposes.Elsewhere.{purposes_stay}
 use Rattle.papaya_grows.proofs.Given.Kept.Stays.{stays_kept, calls_come_to_kept}
 use Rattle.papaya_grows.proofs.Given.Shards.ShardBetween.{counters_stay, calls_come_to_counters}
-use Rattle.papaya_promises.proofs.Brief.Stays.{events_keep_readings, readings_stay}
+use Rattle.papaya_grows.proofs.Given.Promises.Brief.Stays.{events_keep_readings, readings_stay}
 use Rattle.papaya_grows.specs.Given.Finds.Within.{GoesInOrder}
 use Rattle.papaya_grows.proofs.Given.Finds.Runs.{events_keep_order}
 use Rattle.papaya_grows.proofs.Given.Finds.Closed.{over_stays_back}

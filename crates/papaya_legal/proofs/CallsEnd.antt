@@ -24,10 +24,10 @@ use Rattle.papaya_grows.proofs.Given.Moments.After.{effects_after}
 use Rattle.papaya_grows.specs.Given.Histories.InEvent.{here_of}
 use Rattle.papaya_grows.specs.Given.Histories.Questions.{EventAsksStill}
 use Rattle.papaya_grows.proofs.Given.Histories.AnyCall.InEvent.{events_end}
-use Rattle.papaya_promises.specs.Protected.{InMidst}
-use Rattle.papaya_promises.specs.Sheltered.{SectionsHold}
-use Rattle.papaya_promises.proofs.Protected.{calls_protect, other_events_end_protected}
-use Rattle.papaya_promises.proofs.Weights.{grants_add_up, operations_are_single}
+use Rattle.papaya_grows.specs.Given.Promises.Protected.{InMidst}
+use Rattle.papaya_grows.specs.Given.Promises.Sheltered.{SectionsHold}
+use Rattle.papaya_grows.proofs.Given.Promises.Protected.{calls_protect, other_events_end_protected}
+use Rattle.papaya_grows.proofs.Given.Promises.Weights.{grants_add_up, operations_are_single}
 use Rattle.papaya_grows.specs.Given.Finds.Doing.{takes_steps}
 use Rattle.papaya_grows.specs.Given.Finds.Parts.{FindAll}
 use Rattle.papaya_grows.proofs.Given.Finds.Doing.{events_may_do, several_do_theirs}

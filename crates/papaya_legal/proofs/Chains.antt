@@ -4,8 +4,8 @@ use Rattle.std.proofs.Common.{refl, sym, subst}
 use Rattle.papaya_grows.specs.Given.Schedules.declared.effect.Effect.{Effect}
 use Rattle.papaya_grows.specs.Given.Schedules.After.{moment}
 use Rattle.papaya_grows.specs.Given.Schedules.Effects.{with_effects}
-use Rattle.papaya_promises.specs.Sheltered.{SectionsHold}
-use Rattle.papaya_models.specs.Follows.{FollowsModel}
+use Rattle.papaya_grows.specs.Given.Promises.Sheltered.{SectionsHold}
+use Rattle.papaya_grows.specs.Given.Models.Follows.{FollowsModel}
 use Rattle.papaya_grows.specs.Given.Effects.Effects.{effects_of, known_after}
 use Rattle.papaya_grows.specs.Given.Effects.declared.acting.Acting.TheVariants as acts
 use Rattle.papaya_grows.specs.Given.Others.Makings.{making_after}
@@ -19,7 +19,7 @@ use Rattle.papaya_grows.specs.Given.Schedules.declared.outcome.Outcome.TheVarian
 use Rattle.papaya_grows.specs.Given.Schedules.Beginning.{with_map}
 use Rattle.papaya_grows.specs.Given.Schedules.Entry.{Entry}
 use Rattle.papaya_grows.specs.Given.Schedules.Model.{IsByModel}
-use Rattle.papaya_models.proofs.MapEvents.{moments_note_once}
+use Rattle.papaya_grows.proofs.Given.Models.MapEvents.{moments_note_once}
 use Rattle.papaya_legal.proofs.MapsEnd.{map_events_are_legal}
 use Rattle.papaya_legal.proofs.MapsOver.{end_events_begin_so, end_events_end_so, end_events_follow, making_events_begin_so, making_events_end_so, making_events_follow}
 use Rattle.papaya_legal.proofs.Slots.{slot_events_begin_so, slot_events_go_on_so}

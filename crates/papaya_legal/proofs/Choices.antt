@@ -16,13 +16,13 @@ use Rattle.papaya_grows.specs.Given.Effects.Known.{Known}
 use Rattle.papaya_grows.specs.Given.Follows.Shows.{Shows}
 use Rattle.papaya_grows.specs.Given.Moments.Whole.{ShowsWhole}
 use Rattle.papaya_grows.specs.Given.Kept.Kept.{ShowsKept}
-use Rattle.papaya_logged.specs.Choosing.{scene_chosen}
-use Rattle.papaya_models.specs.Follows.{FollowsModel}
-use Rattle.papaya_models.specs.Turns.{CameByTurns}
-use Rattle.papaya_models.proofs.Follows.{idle_events_follow}
-use Rattle.papaya_models.proofs.Turns.{events_follow}
-use Rattle.papaya_promises.specs.Reading.{ShowsReading}
-use Rattle.papaya_promises.specs.Sheltered.{SectionsHold}
+use Rattle.papaya_grows.specs.Given.Logged.Choosing.{scene_chosen}
+use Rattle.papaya_grows.specs.Given.Models.Follows.{FollowsModel}
+use Rattle.papaya_grows.specs.Given.Models.Turns.{CameByTurns}
+use Rattle.papaya_grows.proofs.Given.Models.Follows.{idle_events_follow}
+use Rattle.papaya_grows.proofs.Given.Models.Turns.{events_follow}
+use Rattle.papaya_grows.specs.Given.Promises.Reading.{ShowsReading}
+use Rattle.papaya_grows.specs.Given.Promises.Sheltered.{SectionsHold}
 use Rattle.papaya_legal.specs.CallEvents.{IsLegalBut}
 use Rattle.papaya_legal.specs.Carried.{FollowsOrRows, ShowsCalls, ShowsRun}
 use Rattle.papaya_legal.specs.Over.{ChoicesEnd}

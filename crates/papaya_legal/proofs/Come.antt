@@ -39,7 +39,7 @@ use Rattle.papaya_grows.specs.Given.Effects.declared.acting.Acting.TheVariants.{
 use Rattle.papaya_grows.proofs.Given.Spots.Unreclaimed.{or_right, same_itself}
 use Rattle.papaya_grows.proofs.Given.Finds.Lists.{all_so}
 use Rattle.papaya_grows.proofs.Given.Finds.Somewhere.{is_storing, none_stored}
-use Rattle.papaya_models.proofs.Numbers.{still_in}
+use Rattle.papaya_grows.proofs.Given.Models.Numbers.{still_in}
 use Rattle.papaya_legal.specs.Noted.{HaveCome, CallsBringThings, EventsBringThings, NothingHasCome}
 use Rattle.papaya_grows.proofs.Given.Follows.OfEach.{OfEach, each_operation_so}
 

@@ -19,10 +19,10 @@ use Rattle.papaya_grows.specs.Given.Schedules.Sweeps.{IsSwept}
 use Rattle.papaya_grows.specs.Given.Schedules.Terms.{Terms}
 use Rattle.papaya_grows.specs.Given.Effects.Known.{Known}
 use Rattle.papaya_grows.proofs.Given.Histories.NoKey.Idle.{idle_are_linearizable}
-use Rattle.papaya_models.proofs.Follows.{idle_events_follow}
-use Rattle.papaya_promises.specs.Guards.{EntersInside}
-use Rattle.papaya_promises.specs.Sheltered.{SectionsHold}
-use Rattle.papaya_promises.proofs.Protected.{idle_events_are_protected}
+use Rattle.papaya_grows.proofs.Given.Models.Follows.{idle_events_follow}
+use Rattle.papaya_grows.specs.Given.Promises.Guards.{EntersInside}
+use Rattle.papaya_grows.specs.Given.Promises.Sheltered.{SectionsHold}
+use Rattle.papaya_grows.proofs.Given.Promises.Protected.{idle_events_are_protected}
 use Rattle.papaya_legal.specs.CallEvents.{IsLegalBut}
 use Rattle.papaya_legal.specs.MapEvents.{IdleEventsAreLegal}
 use Rattle.papaya_grows.specs.Given.Schedules.Transition.{past, transition}

@@ -38,16 +38,16 @@ use Rattle.papaya_grows.proofs.Given.Shards.ShardOthers.{endings_keep_counters}
 use Rattle.papaya_grows.proofs.Given.Histories.Aside.Stays.{as_called_stays, dues_stay}
 use Rattle.papaya_grows.proofs.Given.Histories.Questions.{effects_keep_questions}
 use Rattle.papaya_grows.proofs.Given.Purposes.Elsewhere.{purposes_stay}
-use Rattle.papaya_promises.specs.Protected.{InMidst}
-use Rattle.papaya_promises.specs.Reading.{HasStood}
-use Rattle.papaya_promises.proofs.Brief.Meanwhile.{other_work_keeps_readings}
-use Rattle.papaya_promises.proofs.Brief.Stays.{same_tables}
-use Rattle.papaya_promises.proofs.Protected.{endings_protect, makings_protect}
-use Rattle.papaya_promises.proofs.Weights.{grants_add_up, operations_are_single}
-use Rattle.papaya_models.specs.Ends.{FollowsInEnd}
-use Rattle.papaya_models.specs.MapEvents.{FollowsInMaking}
-use Rattle.papaya_models.proofs.Ends.{ends_go_on}
-use Rattle.papaya_models.proofs.MapEvents.{making_events_go_on}
+use Rattle.papaya_grows.specs.Given.Promises.Protected.{InMidst}
+use Rattle.papaya_grows.specs.Given.Promises.Reading.{HasStood}
+use Rattle.papaya_grows.proofs.Given.Promises.Brief.Meanwhile.{other_work_keeps_readings}
+use Rattle.papaya_grows.proofs.Given.Promises.Brief.Stays.{same_tables}
+use Rattle.papaya_grows.proofs.Given.Promises.Protected.{endings_protect, makings_protect}
+use Rattle.papaya_grows.proofs.Given.Promises.Weights.{grants_add_up, operations_are_single}
+use Rattle.papaya_grows.specs.Given.Models.Ends.{FollowsInEnd}
+use Rattle.papaya_grows.specs.Given.Models.MapEvents.{FollowsInMaking}
+use Rattle.papaya_grows.proofs.Given.Models.Ends.{ends_go_on}
+use Rattle.papaya_grows.proofs.Given.Models.MapEvents.{making_events_go_on}
 use Rattle.papaya_legal.specs.MapEvents.{EndEventsGoOn, FindsItsMap, HasNotMade, MakingEventsGoOn}
 use Rattle.papaya_grows.proofs.Given.Shards.ShardKept.{none_shards}
 use Rattle.papaya_grows.proofs.Limits.Shows.{endings_keep_limits, makings_keep_limits}

@@ -19,9 +19,9 @@ use Rattle.papaya_grows.specs.Given.Schedules.Reclaims.{IsProtected}
 use Rattle.papaya_grows.specs.Given.Schedules.Sequential.{Shift}
 use Rattle.papaya_grows.specs.Given.Schedules.Steps.{IsBrief}
 use Rattle.papaya_grows.proofs.Given.Histories.OtherCalls.{no_calls_are_linearizable}
-use Rattle.papaya_promises.specs.Protected.{is_of_slots}
-use Rattle.papaya_promises.specs.Sheltered.{SectionsHold}
-use Rattle.papaya_promises.proofs.Protected.{other_events_end_protected}
+use Rattle.papaya_grows.specs.Given.Promises.Protected.{is_of_slots}
+use Rattle.papaya_grows.specs.Given.Promises.Sheltered.{SectionsHold}
+use Rattle.papaya_grows.proofs.Given.Promises.Protected.{other_events_end_protected}
 use Rattle.papaya_grows.proofs.Given.Purposes.Nothing.{no_calls_are_swept}
 use Rattle.papaya_grows.proofs.Given.Spots.Unreclaimed.{and_both}
 use Rattle.papaya_legal.specs.MapEvents.{MapEventsAreLegal}

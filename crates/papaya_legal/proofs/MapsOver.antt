@@ -19,16 +19,16 @@ use Rattle.papaya_grows.proofs.Given.Callers.Together.At.{at_other, at_same}
 use Rattle.papaya_grows.specs.Given.Finishes.Maps.{Standing}
 use Rattle.papaya_grows.specs.Given.Others.Endings.{without_map}
 use Rattle.papaya_grows.proofs.Given.Spots.Unreclaimed.{and_both}
-use Rattle.papaya_promises.specs.Reading.{HasStood, ShowsReading}
-use Rattle.papaya_promises.specs.Sheltered.{SectionsHold}
-use Rattle.papaya_promises.proofs.Brief.Meanwhile.{other_work_keeps_readings}
-use Rattle.papaya_promises.proofs.Shelters.Begins.{sections_go_on}
-use Rattle.papaya_models.specs.CallEvents.{slot_of_call}
-use Rattle.papaya_models.specs.Follows.{IsFollowed}
-use Rattle.papaya_models.proofs.CallEvents.{others_hand_over}
-use Rattle.papaya_models.proofs.Ends.{ends_begin as sets_begin}
+use Rattle.papaya_grows.specs.Given.Promises.Reading.{HasStood, ShowsReading}
+use Rattle.papaya_grows.specs.Given.Promises.Sheltered.{SectionsHold}
+use Rattle.papaya_grows.proofs.Given.Promises.Brief.Meanwhile.{other_work_keeps_readings}
+use Rattle.papaya_grows.proofs.Given.Promises.Shelters.Begins.{sections_go_on}
+use Rattle.papaya_grows.specs.Given.Models.CallEvents.{slot_of_call}
+use Rattle.papaya_grows.specs.Given.Models.Follows.{IsFollowed}
+use Rattle.papaya_grows.proofs.Given.Models.CallEvents.{others_hand_over}
+use Rattle.papaya_grows.proofs.Given.Models.Ends.{ends_begin as sets_begin}
 use Rattle.papaya_grows.proofs.Given.Lives.LeftTables.{none_is_left_to}
-use Rattle.papaya_models.proofs.MapEvents.{end_events_end as sets_end, making_events_begin as making_sets_begin, making_events_end as making_sets_end}
+use Rattle.papaya_grows.proofs.Given.Models.MapEvents.{end_events_end as sets_end, making_events_begin as making_sets_begin, making_events_end as making_sets_end}
 use Rattle.papaya_grows.specs.Given.Shards.ShardWords.{IsUncounted}
 use Rattle.papaya_grows.specs.Given.Finds.Life.{StoresOne}
 use Rattle.papaya_legal.specs.Between.{IsLike}

@@ -68,8 +68,8 @@ use Rattle.papaya_grows.proofs.Given.Lives.Retires.{begun_due}
 use Rattle.papaya_grows.proofs.Given.Lives.Rows.{new_way}
 use Rattle.papaya_grows.specs.Given.Kept.Kept.{ShowsKept}
 use Rattle.papaya_grows.proofs.Given.Kept.Calls.{own_made}
-use Rattle.papaya_models.specs.CallEvents.{IsNoted}
-use Rattle.papaya_models.specs.Numbers.{HasNumber}
+use Rattle.papaya_grows.specs.Given.Models.CallEvents.{IsNoted}
+use Rattle.papaya_grows.specs.Given.Models.Numbers.{HasNumber}
 use Rattle.papaya_grows.proofs.Given.Finds.Lists.{one_of_them}
 use Rattle.papaya_legal.specs.Noted.{HaveCome, CallsHandNoted}
 use Rattle.papaya_grows.specs.Given.Scenes.Held.{Held, IsAt}

@@ -23,11 +23,11 @@ use Rattle.papaya_grows.specs.Given.Schedules.Views.{call_of}
 use Rattle.papaya_grows.specs.Given.Callers.Together.{UnderWay}
 use Rattle.papaya_grows.specs.Given.Effects.Known.{Known}
 use Rattle.papaya_grows.proofs.Given.Spots.Unreclaimed.{and_both}
-use Rattle.papaya_promises.specs.Reading.{ShowsReading}
-use Rattle.papaya_promises.proofs.Brief.Stays.{events_keep_readings}
-use Rattle.papaya_models.specs.CallEvents.{IsInItsRow}
-use Rattle.papaya_models.specs.Follows.{FollowsSets}
-use Rattle.papaya_models.proofs.Follows.{idle_events_follow}
+use Rattle.papaya_grows.specs.Given.Promises.Reading.{ShowsReading}
+use Rattle.papaya_grows.proofs.Given.Promises.Brief.Stays.{events_keep_readings}
+use Rattle.papaya_grows.specs.Given.Models.CallEvents.{IsInItsRow}
+use Rattle.papaya_grows.specs.Given.Models.Follows.{FollowsSets}
+use Rattle.papaya_grows.proofs.Given.Models.Follows.{idle_events_follow}
 use Rattle.papaya_grows.specs.Given.Finds.Life.{StoresOne}
 use Rattle.papaya_grows.specs.Given.Finds.Within.{GoesInOrder}
 use Rattle.papaya_grows.proofs.Given.Finds.Closed.{over_stays_back}

@@ -25,11 +25,11 @@ use Rattle.papaya_grows.specs.Given.Schedules.Terms.{Terms}
 use Rattle.papaya_grows.specs.Given.Effects.Known.{Known}
 use Rattle.papaya_grows.specs.Given.Finishes.Makings.{Beginning, HasMade}
 use Rattle.papaya_grows.proofs.Given.Histories.OtherCalls.{no_calls_are_linearizable}
-use Rattle.papaya_promises.specs.Sheltered.{SectionsHold}
-use Rattle.papaya_promises.proofs.Protected.{other_events_end_protected}
+use Rattle.papaya_grows.specs.Given.Promises.Sheltered.{SectionsHold}
+use Rattle.papaya_grows.proofs.Given.Promises.Protected.{other_events_end_protected}
 use Rattle.papaya_grows.proofs.Given.Purposes.Nothing.{no_calls_are_swept}
-use Rattle.papaya_models.specs.Follows.{FollowsModel}
-use Rattle.papaya_models.proofs.MapEvents.{making_events_begin as making_sets_begin}
+use Rattle.papaya_grows.specs.Given.Models.Follows.{FollowsModel}
+use Rattle.papaya_grows.proofs.Given.Models.MapEvents.{making_events_begin as making_sets_begin}
 use Rattle.papaya_grows.specs.Given.Finds.Life.{StoresOne}
 use Rattle.papaya_grows.specs.Given.Sources.Stays.{NoneBorn}
 use Rattle.papaya_legal.specs.Between.{IsLike}

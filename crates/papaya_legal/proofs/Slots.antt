@@ -19,15 +19,15 @@ use Rattle.papaya_grows.specs.Given.Scenes.declared.row.SlotCall.{SlotCall}
 use Rattle.papaya_grows.specs.Given.Scenes.declared.row.SlotCall.TheVariants as call
 use Rattle.papaya_grows.specs.Given.Moments.Whole.{ShowsWhole}
 use Rattle.papaya_grows.proofs.Given.Moments.After.{effects_after}
-use Rattle.papaya_promises.specs.Protected.{InMidst, is_of_slots}
-use Rattle.papaya_promises.specs.Sheltered.{SectionsHold}
-use Rattle.papaya_promises.proofs.Brief.Meanwhile.{rows_keep_readings}
-use Rattle.papaya_promises.proofs.Protected.{events_begin_protected, rows_begin_protect, rows_protect}
-use Rattle.papaya_promises.proofs.Weights.{grants_add_up, operations_are_single}
-use Rattle.papaya_models.specs.Follows.{FollowsSets}
-use Rattle.papaya_models.specs.OnSlots.{FollowsInRow}
-use Rattle.papaya_models.proofs.MapEvents.{moments_note_once}
-use Rattle.papaya_models.proofs.OnSlots.{slot_events_begin, slot_events_go_on}
+use Rattle.papaya_grows.specs.Given.Promises.Protected.{InMidst, is_of_slots}
+use Rattle.papaya_grows.specs.Given.Promises.Sheltered.{SectionsHold}
+use Rattle.papaya_grows.proofs.Given.Promises.Brief.Meanwhile.{rows_keep_readings}
+use Rattle.papaya_grows.proofs.Given.Promises.Protected.{events_begin_protected, rows_begin_protect, rows_protect}
+use Rattle.papaya_grows.proofs.Given.Promises.Weights.{grants_add_up, operations_are_single}
+use Rattle.papaya_grows.specs.Given.Models.Follows.{FollowsSets}
+use Rattle.papaya_grows.specs.Given.Models.OnSlots.{FollowsInRow}
+use Rattle.papaya_grows.proofs.Given.Models.MapEvents.{moments_note_once}
+use Rattle.papaya_grows.proofs.Given.Models.OnSlots.{slot_events_begin, slot_events_go_on}
 use Rattle.papaya_legal.specs.SlotEvents.{SlotEventsBegin, SlotEventsGoOn}
 use Rattle.papaya_grows.specs.Given.Scenes.Rows.{request_of}
 use Rattle.papaya_grows.specs.Given.Scenes.Scene.{slot_of}

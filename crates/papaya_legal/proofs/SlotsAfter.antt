@@ -14,7 +14,7 @@ use Rattle.papaya_grows.specs.Given.Schedules.Effects.{with_effect, with_effects
 use Rattle.papaya_grows.specs.Given.Schedules.Entry.{Entry, acted_on, caller_of}
 use Rattle.papaya_grows.specs.Given.Schedules.Handing.{asks_for_bucket, is_only, is_reclaiming, may_do}
 use Rattle.papaya_grows.specs.Given.Schedules.Moment.{Moment}
-use Rattle.papaya_promises.specs.Protected.{is_of_slots}
+use Rattle.papaya_grows.specs.Given.Promises.Protected.{is_of_slots}
 use Rattle.papaya_grows.proofs.Given.Spots.Unreclaimed.{and_both}
 use Rattle.papaya_grows.specs.Given.Finds.Life.{StoresOne}
 use Rattle.papaya_legal.specs.Between.{IsLike}

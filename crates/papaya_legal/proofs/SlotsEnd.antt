@@ -24,11 +24,11 @@ use Rattle.papaya_grows.specs.Given.Schedules.Sequential.{Shift}
 use Rattle.papaya_grows.specs.Given.Schedules.Steps.{IsBrief}
 use Rattle.papaya_grows.specs.Given.Schedules.Terms.{Terms}
 use Rattle.papaya_grows.proofs.Given.Histories.OtherCalls.{no_calls_are_linearizable}
-use Rattle.papaya_models.specs.Follows.{IsFollowed}
-use Rattle.papaya_models.proofs.OnSlots.{slot_events_end}
-use Rattle.papaya_promises.specs.Protected.{is_of_slots}
-use Rattle.papaya_promises.specs.Sheltered.{SectionsHold}
-use Rattle.papaya_promises.proofs.Protected.{slot_events_end_protected}
+use Rattle.papaya_grows.specs.Given.Models.Follows.{IsFollowed}
+use Rattle.papaya_grows.proofs.Given.Models.OnSlots.{slot_events_end}
+use Rattle.papaya_grows.specs.Given.Promises.Protected.{is_of_slots}
+use Rattle.papaya_grows.specs.Given.Promises.Sheltered.{SectionsHold}
+use Rattle.papaya_grows.proofs.Given.Promises.Protected.{slot_events_end_protected}
 use Rattle.papaya_grows.proofs.Given.Purposes.Nothing.{no_calls_are_swept}
 use Rattle.papaya_grows.proofs.Given.Spots.Unreclaimed.{and_both}
 use Rattle.papaya_legal.specs.CallEvents.{IsLegalBut}

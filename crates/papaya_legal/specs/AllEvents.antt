@@ -31,13 +31,13 @@ use Rattle.papaya_grows.specs.Given.Effects.declared.acting.Acting.TheVariants a
 use Rattle.papaya_grows.specs.Given.Effects.declared.role.Role.TheVariants as role
 use Rattle.papaya_grows.specs.Given.Finishes.Maps.{Standing}
 use Rattle.papaya_grows.specs.Given.Moments.OnSlots.{HadRetired}
-use Rattle.papaya_logged.specs.Given.SeizeReclaims.Roots.{all_lists}
+use Rattle.papaya_grows.specs.Given.SeizeReclaims.Roots.{all_lists}
 use Rattle.papaya_grows.specs.Given.Scenes.Reclaiming.{IsReclaiming, ReclaimingLeads}
-use Rattle.papaya_promises.specs.Reading.{ShowsReading}
-use Rattle.papaya_models.specs.Follows.{FollowsModel}
-use Rattle.papaya_models.specs.Numbers.{EachIsOnce, things_of}
-use Rattle.papaya_models.specs.Reclaims.{HasReclaimed}
-use Rattle.papaya_models.specs.Turns.{CameByTurns}
+use Rattle.papaya_grows.specs.Given.Promises.Reading.{ShowsReading}
+use Rattle.papaya_grows.specs.Given.Models.Follows.{FollowsModel}
+use Rattle.papaya_grows.specs.Given.Models.Numbers.{EachIsOnce, things_of}
+use Rattle.papaya_grows.specs.Given.Models.Reclaims.{HasReclaimed}
+use Rattle.papaya_grows.specs.Given.Models.Turns.{CameByTurns}
 use Rattle.papaya_grows.specs.Given.Finds.Little.{ReclaimsAll}
 use Rattle.papaya_grows.specs.Given.Finds.Orderly.{is_left_over}
 use Rattle.papaya_legal.specs.CallEvents.{IsLegalBut}

@@ -26,7 +26,7 @@ use Rattle.papaya_grows.specs.Given.Others.Endings.{without_map}
 use Rattle.papaya_grows.specs.Given.Others.Walks.{given_up}
 use Rattle.papaya_grows.specs.Given.Histories.AsCalled.{IsBegunAs}
 use Rattle.papaya_grows.specs.Given.Histories.Changes.{IsTaken}
-use Rattle.papaya_promises.specs.Meanwhile.{BeginsToLook}
+use Rattle.papaya_grows.specs.Given.Promises.Meanwhile.{BeginsToLook}
 use Rattle.papaya_grows.specs.Given.Purposes.Purposes.{IsFor}
 use Rattle.papaya_grows.specs.Given.Shards.ShardWords.{IsUncounted}
 use Rattle.papaya_legal.specs.Carried.{ShowsCalls}

@@ -33,19 +33,19 @@ use Rattle.papaya_grows.specs.Given.Effects.Known.{Known}
 use Rattle.papaya_grows.specs.Given.Effects.declared.acting.Acting.TheVariants as acts
 use Rattle.papaya_grows.specs.Given.Finishes.Maps.{Standing}
 use Rattle.papaya_grows.specs.Given.Histories.InEvent.{ComesSo, InEvent, here_of}
-use Rattle.papaya_promises.specs.Protected.{InMidst}
-use Rattle.papaya_promises.specs.Reading.{ShowsReading, looks}
-use Rattle.papaya_promises.specs.Weights.{AreDoneBy}
+use Rattle.papaya_grows.specs.Given.Promises.Protected.{InMidst}
+use Rattle.papaya_grows.specs.Given.Promises.Reading.{ShowsReading, looks}
+use Rattle.papaya_grows.specs.Given.Promises.Weights.{AreDoneBy}
 use Rattle.papaya_grows.specs.Given.Histories.Kept.{HasJustBegun}
 use Rattle.papaya_grows.specs.Given.Purposes.Kept.{ShowsNone}
 use Rattle.papaya_grows.specs.Given.Purposes.Shards.{NoneCounted as NoneAdded}
 use Rattle.papaya_grows.specs.Given.Shards.ShardSteps.{AddsUp}
-use Rattle.papaya_models.specs.CallEvents.{FollowsInEvent, IsNoted, things_then, slot_of_call}
+use Rattle.papaya_grows.specs.Given.Models.CallEvents.{FollowsInEvent, IsNoted, things_then, slot_of_call}
 use Rattle.papaya_grows.specs.Given.Finds.Doing.{takes_steps}
 use Rattle.papaya_grows.specs.Given.Finds.Life.{StoresOne}
 use Rattle.papaya_grows.specs.Given.Finds.Parts.{FindAll}
 use Rattle.papaya_grows.specs.Given.Histories.Questions.{ShowsQuestions, EventAsksStill}
-use Rattle.papaya_promises.specs.Sheltered.{SectionsHold}
+use Rattle.papaya_grows.specs.Given.Promises.Sheltered.{SectionsHold}
 use Rattle.papaya_grows.specs.Given.Finds.Little.{ReclaimsAll}
 use Rattle.papaya_grows.specs.Given.Follows.Calling.{come_to, NoneNamed}
 use Rattle.papaya_grows.specs.Given.Purposes.Purposes.{ShowsPurposes}

@@ -32,7 +32,7 @@ use Rattle.papaya_grows.specs.Given.Kept.Kept.{ShowsKept}
 use Rattle.papaya_grows.specs.Given.Histories.Answers.{NamesPair}
 use Rattle.papaya_grows.specs.Given.Histories.InEvent.{ComesSo, here_of}
 use Rattle.papaya_grows.specs.Given.Purposes.Kept.{ShowsNone, TellsNone}
-use Rattle.papaya_models.specs.CallEvents.{IsNoted, slot_of_call, things_then}
+use Rattle.papaya_grows.specs.Given.Models.CallEvents.{IsNoted, slot_of_call, things_then}
 use Rattle.papaya_grows.specs.Given.Finds.Doing.{takes_steps}
 use Rattle.papaya_grows.specs.Given.Finds.Parts.{FindAll, FindRest}
 use Rattle.papaya_legal.specs.CallEvents.{InCallEvent, IsLegalBut}

@@ -17,13 +17,13 @@ use Rattle.papaya_grows.specs.Given.Moments.Whole.{ShowsWhole}
 use Rattle.papaya_grows.specs.Given.Histories.AsCalled.{ShowsAsCalled}
 use Rattle.papaya_grows.specs.Given.Histories.Due.{ShowsDue}
 use Rattle.papaya_grows.specs.Given.Histories.Questions.{ShowsQuestions}
-use Rattle.papaya_promises.specs.Reading.{ShowsReading}
-use Rattle.papaya_promises.specs.Sheltered.{SectionsHold}
+use Rattle.papaya_grows.specs.Given.Promises.Reading.{ShowsReading}
+use Rattle.papaya_grows.specs.Given.Promises.Sheltered.{SectionsHold}
 use Rattle.papaya_grows.specs.Given.Purposes.Purposes.{ShowsPurposes}
 use Rattle.papaya_grows.specs.Given.Purposes.Tableless.{TablelessUncounted}
-use Rattle.papaya_models.specs.CallEvents.{IsInItsRow}
-use Rattle.papaya_models.specs.Follows.{FollowsModel}
-use Rattle.papaya_models.specs.Turns.{CameByTurns}
+use Rattle.papaya_grows.specs.Given.Models.CallEvents.{IsInItsRow}
+use Rattle.papaya_grows.specs.Given.Models.Follows.{FollowsModel}
+use Rattle.papaya_grows.specs.Given.Models.Turns.{CameByTurns}
 use Rattle.papaya_grows.specs.Given.Shards.ShardWords.{IsUncounted, ShowsCounters}
 use Rattle.papaya_grows.specs.Given.Finds.Little.{OverIsBack, ReclaimsAll}
 use Rattle.papaya_grows.specs.Given.Finds.Orderly.{is_left_over}

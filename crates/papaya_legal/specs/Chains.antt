@@ -29,7 +29,7 @@ use Rattle.papaya_grows.specs.Given.Raw.declared.machines.progress.Progress.{Pro
 use Rattle.papaya_grows.specs.Given.Schedules.Model.{things_in}
 use Rattle.papaya_grows.specs.Given.Callers.Together.{UnderWay, HandsOver}
 use Rattle.papaya_grows.specs.Given.Purposes.Kept.{ShowsNone}
-use Rattle.papaya_models.specs.CallEvents.{IsNoted, things_then}
+use Rattle.papaya_grows.specs.Given.Models.CallEvents.{IsNoted, things_then}
 use Rattle.papaya_legal.specs.CallEvents.{IsLegalBut}
 use Rattle.papaya_legal.specs.MapEvents.{FindsItsMap, InEndEvent, InMakingEvent}
 use Rattle.papaya_grows.specs.Given.Schedules.After.{moment}
@@ -37,10 +37,10 @@ use Rattle.papaya_grows.specs.Given.Schedules.Beginning.{at_work, with_map}
 use Rattle.papaya_grows.specs.Given.Schedules.Handing.{gives_all, may_do, IsWhole}
 use Rattle.papaya_grows.specs.Given.Schedules.InTurn.{ComesRight}
 use Rattle.papaya_grows.specs.Given.Schedules.Lives.{Finds}
-use Rattle.papaya_promises.specs.Others.{SparesGuards}
-use Rattle.papaya_promises.specs.Protected.{EndsInside, is_of_slots, there_in}
-use Rattle.papaya_models.specs.Follows.{FollowsModel}
-use Rattle.papaya_models.specs.OnSlots.{IsRowFor}
+use Rattle.papaya_grows.specs.Given.Promises.Others.{SparesGuards}
+use Rattle.papaya_grows.specs.Given.Promises.Protected.{EndsInside, is_of_slots, there_in}
+use Rattle.papaya_grows.specs.Given.Models.Follows.{FollowsModel}
+use Rattle.papaya_grows.specs.Given.Models.OnSlots.{IsRowFor}
 use Rattle.papaya_grows.specs.Given.Finds.Little.{ReclaimsAll}
 use Rattle.papaya_legal.specs.Carried.{ComesAlone, ShowsRun}
 use Rattle.papaya_grows.specs.Given.Runs.Same.{is_same}

@@ -13,27 +13,32 @@ pub use Rattle.papaya_grows.specs.Given.Tells
 pub use Rattle.papaya_grows.specs.Given.Teller
 pub use Rattle.papaya_grows.specs.Given.Callers
 pub use Rattle.papaya_grows.specs.Given.Finishes
-pub use Rattle.papaya_logged.specs.Given.Reclaims
+pub use Rattle.papaya_grows.specs.Given.Reclaims
 pub use Rattle.papaya_grows.specs.Given.Runs
 pub use Rattle.papaya_grows.specs.Given.Schedules
 pub use Rattle.papaya_grows.specs.Given.Effects
 pub use Rattle.papaya_grows.specs.Given.Scenes
-pub use Rattle.papaya_logged.specs.Given.Reclaiming
+pub use Rattle.papaya_grows.specs.Given.Reclaiming
 pub use Rattle.papaya_grows.specs.Given.Follows
 pub use Rattle.papaya_grows.specs.Given.Hands
 pub use Rattle.papaya_grows.specs.Given.Others
 pub use Rattle.papaya_grows.specs.Given.Spots
 pub use Rattle.papaya_grows.specs.Given.Moments
-pub use Rattle.papaya_logged.specs.Given.Remains
+pub use Rattle.papaya_grows.specs.Given.Remains
 pub use Rattle.papaya_grows.specs.Given.Lives
 pub use Rattle.papaya_grows.specs.Given.Kept
-pub use Rattle.papaya_logged.specs as Logged
+pub use Rattle.papaya_grows.specs.Given.Logged
 pub use Rattle.papaya_grows.specs.Given.Histories
 pub use Rattle.papaya_grows.specs.Given.Named
-pub use Rattle.papaya_promises.specs as Promises
+pub use Rattle.papaya_grows.specs.Given.Promises
 pub use Rattle.papaya_grows.specs.Given.Owes
-pub use Rattle.papaya_models.specs as Models
+pub use Rattle.papaya_grows.specs.Given.Models
 pub use Rattle.papaya_grows.specs.Given.Settles
 pub use Rattle.papaya_grows.specs.Given.Purposes
 pub use Rattle.papaya_grows.specs.Given.Finds
 pub use Rattle.papaya_grows.specs as Grows
+pub use Rattle.papaya_grows.specs.Given.Rows
+pub use Rattle.papaya_grows.specs.Given.Scheduler
+pub use Rattle.papaya_grows.specs.Given.Executor
+pub use Rattle.papaya_grows.specs.Given.Shown
+pub use Rattle.papaya_grows.specs.Given.Shards

@@ -26,17 +26,17 @@ use Rattle.papaya_grows.specs.Given.Finishes.Makings.{Beginning}
 use Rattle.papaya_grows.specs.Given.Others.Endings.{ending_after}
 use Rattle.papaya_grows.specs.Given.Others.Makings.{WasNew, making_after}
 use Rattle.papaya_grows.specs.Given.Finds.Linking.{IsMadeFor}
-use Rattle.papaya_promises.specs.Protected.{InMidst, is_of_slots}
-use Rattle.papaya_promises.specs.Reading.{ShowsReading}
-use Rattle.papaya_models.specs.Ends.{FollowsInEnd}
-use Rattle.papaya_models.specs.MapEvents.{FollowsInMaking}
+use Rattle.papaya_grows.specs.Given.Promises.Protected.{InMidst, is_of_slots}
+use Rattle.papaya_grows.specs.Given.Promises.Reading.{ShowsReading}
+use Rattle.papaya_grows.specs.Given.Models.Ends.{FollowsInEnd}
+use Rattle.papaya_grows.specs.Given.Models.MapEvents.{FollowsInMaking}
 use Rattle.papaya_legal.specs.CallEvents.{IsLegalBut}
 use Rattle.papaya_grows.specs.Given.Seize.World.{World}
 use Rattle.papaya_grows.specs.Given.Schedules.Steps.{ReadsBriefly}
 use Rattle.papaya_grows.specs.Given.Schedules.Sweeps.{IsSwept}
 use Rattle.papaya_grows.specs.Given.Histories.OtherCalls.{IsIdle}
-use Rattle.papaya_promises.specs.Guards.{EntersInside}
-use Rattle.papaya_promises.specs.Sheltered.{SectionsHold}
+use Rattle.papaya_grows.specs.Given.Promises.Guards.{EntersInside}
+use Rattle.papaya_grows.specs.Given.Promises.Sheltered.{SectionsHold}
 use Rattle.papaya_grows.specs.Given.Schedules.Beginning.{at_work}
 use Rattle.papaya_grows.specs.Given.Sources.Stays.{NoneBorn}
 use Rattle.papaya_legal.specs.Carried.{ComesAlone, ShowsCalls}

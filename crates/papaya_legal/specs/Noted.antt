@@ -24,7 +24,7 @@ use Rattle.papaya_grows.specs.Given.Effects.Known.{Known}
 use Rattle.papaya_grows.specs.Given.Effects.declared.acting.Acting.TheVariants.{Call}
 use Rattle.papaya_grows.specs.Given.Moments.Whole.{ShowsWhole}
 use Rattle.papaya_grows.specs.Given.Kept.Kept.{ShowsKept}
-use Rattle.papaya_models.specs.CallEvents.{IsNoted}
+use Rattle.papaya_grows.specs.Given.Models.CallEvents.{IsNoted}
 use Rattle.papaya_grows.specs.Given.Scenes.Held.{Held, IsAt}
 use Rattle.papaya_grows.specs.Given.Scenes.Scene.{Scene, slot_of}
 use Rattle.papaya_grows.specs.Given.Scenes.Stepping.{StepLeads}

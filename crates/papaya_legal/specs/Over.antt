@@ -35,11 +35,11 @@ use Rattle.papaya_grows.specs.Given.Hands.Asked.{as_told}
 use Rattle.papaya_grows.specs.Given.Moments.Whole.{ShowsWhole}
 use Rattle.papaya_grows.specs.Given.Histories.Changes.{IsTaken}
 use Rattle.papaya_grows.specs.Given.Kept.Kept.{ShowsKept}
-use Rattle.papaya_logged.specs.Choosing.{scene_chosen}
-use Rattle.papaya_promises.specs.Reading.{ShowsReading}
-use Rattle.papaya_promises.specs.Sheltered.{SectionsHold}
-use Rattle.papaya_models.specs.Follows.{FollowsModel}
-use Rattle.papaya_models.specs.Numbers.{EachIsOnce}
+use Rattle.papaya_grows.specs.Given.Logged.Choosing.{scene_chosen}
+use Rattle.papaya_grows.specs.Given.Promises.Reading.{ShowsReading}
+use Rattle.papaya_grows.specs.Given.Promises.Sheltered.{SectionsHold}
+use Rattle.papaya_grows.specs.Given.Models.Follows.{FollowsModel}
+use Rattle.papaya_grows.specs.Given.Models.Numbers.{EachIsOnce}
 use Rattle.papaya_grows.specs.Given.Finds.Life.{StoresOne}
 use Rattle.papaya_grows.specs.Given.Finds.Little.{ReclaimsAll}
 use Rattle.papaya_legal.specs.Between.{IsBegunRight, IsLike}

@@ -22,13 +22,13 @@ use Rattle.papaya_grows.specs.Given.Scenes.declared.row.RowTold.{RowTold}
 use Rattle.papaya_grows.specs.Given.Scenes.declared.row.SlotCall.{SlotCall}
 use Rattle.papaya_grows.specs.Given.Scenes.declared.row.SlotRow.{SlotRow}
 use Rattle.papaya_grows.specs.Given.Others.Rows.{scene_then}
-use Rattle.papaya_promises.specs.Protected.{EndsInside, InMidst, is_of_slots, there_in}
-use Rattle.papaya_promises.specs.Others.{SparesGuards}
-use Rattle.papaya_promises.specs.Reading.{ShowsReading}
-use Rattle.papaya_promises.specs.Sheltered.{SectionsHold}
-use Rattle.papaya_models.specs.Follows.{FollowsModel}
-use Rattle.papaya_models.specs.Numbers.{EachIsOnce}
-use Rattle.papaya_models.specs.OnSlots.{FollowsInRow, IsRowFor}
+use Rattle.papaya_grows.specs.Given.Promises.Protected.{EndsInside, InMidst, is_of_slots, there_in}
+use Rattle.papaya_grows.specs.Given.Promises.Others.{SparesGuards}
+use Rattle.papaya_grows.specs.Given.Promises.Reading.{ShowsReading}
+use Rattle.papaya_grows.specs.Given.Promises.Sheltered.{SectionsHold}
+use Rattle.papaya_grows.specs.Given.Models.Follows.{FollowsModel}
+use Rattle.papaya_grows.specs.Given.Models.Numbers.{EachIsOnce}
+use Rattle.papaya_grows.specs.Given.Models.OnSlots.{FollowsInRow, IsRowFor}
 use Rattle.papaya_grows.specs.Given.Finds.Little.{ReclaimsAll}
 use Rattle.papaya_legal.specs.CallEvents.{IsLegalBut}
 use Rattle.papaya_legal.specs.Carried.{ComesAlone, ShowsCalls, ShowsRun}

@@ -1,31 +1,31 @@
 -- A sweep stands to take a reply only where its step has said that it asks.
 use Rattle.std.specs.Prelude.{◌≡◌, ℕ, ◌==◌, ◌&&◌, Bool, true, false, Ok, Err, if◌then◌else◌}
 use Rattle.std.proofs.Common.{refl, sym, subst}
-use Rattle.papaya_moments.specs.Given.SeizeWords.Op.{Out, Found, Stored, Exchanged, Made, Taken, Roomed}
-use Rattle.papaya_moments.specs.Given.SeizeWords.Word.{block_in}
-use Rattle.papaya_moments.specs.Given.Seize.declared.rows.settle.Settled.{Settled}
-use Rattle.papaya_moments.specs.Given.Seize.declared.rows.settle.Settled.TheVariants as settled
-use Rattle.papaya_moments.specs.Given.Tables.Marks.{has_mark}
-use Rattle.papaya_moments.specs.Given.Tables.Nodes.{table_seen}
-use Rattle.papaya_moments.specs.Given.Tables.declared.marks.TheConstants.{COPYING}
-use Rattle.papaya_moments.specs.Given.Tables.declared.node.Node.{Node}
-use Rattle.papaya_moments.specs.Given.Tables.declared.table.Table.{Table}
-use Rattle.papaya_moments.specs.Given.Resize.Copier.{copier_plan}
-use Rattle.papaya_moments.specs.Given.Resize.Dispose.{dispose_plan}
-use Rattle.papaya_moments.specs.Given.Resize.declared.copier.Copier.{Copier}
-use Rattle.papaya_moments.specs.Given.Resize.declared.dispose.Dispose.{Dispose}
-use Rattle.papaya_moments.specs.Given.Resize.declared.outcome.Outcome.{Outcome}
-use Rattle.papaya_moments.specs.Given.Resize.declared.outcome.Outcome.TheVariants as outcome
-use Rattle.papaya_moments.specs.Given.Sweeps.Sweep.{word_found, tried, disposed, root_read, next_read, copied, plan_at}
-use Rattle.papaya_moments.specs.Given.Sweeps.SweepPoints.{removes, beginning, tableless, entering, further, told, telling, at_pair, seen}
-use Rattle.papaya_moments.specs.Given.Sweeps.declared.sweep.Purpose.{Purpose}
-use Rattle.papaya_moments.specs.Given.Sweeps.declared.sweep.Purpose.TheVariants.{Walks, Clears, Retains}
-use Rattle.papaya_moments.specs.Given.Sweeps.declared.sweep.Sweep.{Sweep}
-use Rattle.papaya_moments.specs.Given.Sweeps.declared.sweep.Sweeping.{Sweeping}
-use Rattle.papaya_moments.specs.Given.Sweeps.declared.sweep.Sweeping.TheVariants as at
-use Rattle.papaya_moments.specs.Given.Sweeps.declared.sweep.Swept.{Swept}
-use Rattle.papaya_moments.specs.Given.Sweeps.declared.sweep.Swept.TheVariants as ends
-use Rattle.papaya_moments.proofs.Given.Rule.Keys.Always.{Always, AlwaysOf, always_if, always_plan_as}
+use Rattle.papaya_deeds.specs.Given.SeizeWords.Op.{Out, Found, Stored, Exchanged, Made, Taken, Roomed}
+use Rattle.papaya_deeds.specs.Given.SeizeWords.Word.{block_in}
+use Rattle.papaya_agrees.specs.Given.Seize.declared.rows.settle.Settled.{Settled}
+use Rattle.papaya_agrees.specs.Given.Seize.declared.rows.settle.Settled.TheVariants as settled
+use Rattle.papaya_agrees.specs.Given.Tables.Marks.{has_mark}
+use Rattle.papaya_agrees.specs.Given.Tables.Nodes.{table_seen}
+use Rattle.papaya_agrees.specs.Given.Tables.declared.marks.TheConstants.{COPYING}
+use Rattle.papaya_agrees.specs.Given.Tables.declared.node.Node.{Node}
+use Rattle.papaya_agrees.specs.Given.Tables.declared.table.Table.{Table}
+use Rattle.papaya_deeds.specs.Given.Resize.Copier.{copier_plan}
+use Rattle.papaya_deeds.specs.Given.Resize.Dispose.{dispose_plan}
+use Rattle.papaya_deeds.specs.Given.Resize.declared.copier.Copier.{Copier}
+use Rattle.papaya_deeds.specs.Given.Resize.declared.dispose.Dispose.{Dispose}
+use Rattle.papaya_deeds.specs.Given.Resize.declared.outcome.Outcome.{Outcome}
+use Rattle.papaya_deeds.specs.Given.Resize.declared.outcome.Outcome.TheVariants as outcome
+use Rattle.papaya_deeds.specs.Given.Sweeps.Sweep.{word_found, tried, disposed, root_read, next_read, copied, plan_at}
+use Rattle.papaya_deeds.specs.Given.Sweeps.SweepPoints.{removes, beginning, tableless, entering, further, told, telling, at_pair, seen}
+use Rattle.papaya_deeds.specs.Given.Sweeps.declared.sweep.Purpose.{Purpose}
+use Rattle.papaya_deeds.specs.Given.Sweeps.declared.sweep.Purpose.TheVariants.{Walks, Clears, Retains}
+use Rattle.papaya_deeds.specs.Given.Sweeps.declared.sweep.Sweep.{Sweep}
+use Rattle.papaya_deeds.specs.Given.Sweeps.declared.sweep.Sweeping.{Sweeping}
+use Rattle.papaya_deeds.specs.Given.Sweeps.declared.sweep.Sweeping.TheVariants as at
+use Rattle.papaya_deeds.specs.Given.Sweeps.declared.sweep.Swept.{Swept}
+use Rattle.papaya_deeds.specs.Given.Sweeps.declared.sweep.Swept.TheVariants as ends
+use Rattle.papaya_agrees.proofs.Given.Rule.Keys.Always.{Always, AlwaysOf, always_if, always_plan_as}
 
 -- it takes no reply there
 abbrev pub TakesNone : Sweeping → Type 0

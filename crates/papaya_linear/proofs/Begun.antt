@@ -1,19 +1,19 @@
 -- A call as an act begins it is what was called: on its key, given its pair, and over the map for its purpose.
 use Rattle.std.specs.Prelude.{◌≡◌, ℕ, Bool, Some, None}
 use Rattle.std.proofs.Common.{refl, sym, subst}
-use Rattle.papaya_moments.specs.Given.Sweeps.declared.sweep.Purpose.TheVariants as purpose
-use Rattle.papaya_moments.specs.Given.Callers.Together.{UnderWay}
-use Rattle.papaya_moments.specs.Given.Finishes.Maps.{Standing}
-use Rattle.papaya_moments.specs.Given.Follows.Calls.{IsCalled}
-use Rattle.papaya_moments.specs.Given.Hands.Calling.{IsBegunFor}
-use Rattle.papaya_moments.specs.Given.Schedules.declared.call.Call.{Call}
-use Rattle.papaya_moments.specs.Given.Schedules.declared.call.Call.TheVariants.{On, Reserve, Clear, Retain, Len, Walk}
-use Rattle.papaya_moments.specs.Given.Scenes.Scene.{slot_of}
-use Rattle.papaya_histories.specs.AsCalled.{IsBegunAs}
-use Rattle.papaya_named.proofs.Called.{begun_call, is_begun_for, is_called}
-use Rattle.papaya_acts.specs.Acts.{Wanted, begun}
-use Rattle.papaya_acts.specs.Acts.{Get, Remove, Insert, TryToInsert, Compute, Update, UpdateOrInsert, TryToInsertWith, RemoveIf, GetKeyValue, ContainsKey, GetOrInsert, GetOrInsertWith, RemoveEntry, MakeRoom, Count, GoOver}
-use Rattle.papaya_played.specs.Play.{call_for}
+use Rattle.papaya_deeds.specs.Given.Sweeps.declared.sweep.Purpose.TheVariants as purpose
+use Rattle.papaya_agrees.specs.Given.Callers.Together.{UnderWay}
+use Rattle.papaya_agrees.specs.Given.Finishes.Maps.{Standing}
+use Rattle.papaya_agrees.specs.Given.Follows.Calls.{IsCalled}
+use Rattle.papaya_agrees.specs.Given.Hands.Calling.{IsBegunFor}
+use Rattle.papaya_deeds.specs.Given.Schedules.declared.call.Call.{Call}
+use Rattle.papaya_deeds.specs.Given.Schedules.declared.call.Call.TheVariants.{On, Reserve, Clear, Retain, Len, Walk}
+use Rattle.papaya_agrees.specs.Given.Scenes.Scene.{slot_of}
+use Rattle.papaya_events.specs.Given.Histories.AsCalled.{IsBegunAs}
+use Rattle.papaya_agrees.proofs.Given.Named.Called.{begun_call, is_begun_for, is_called}
+use Rattle.papaya_agrees.specs.Given.Acts.Acts.{Wanted, begun}
+use Rattle.papaya_agrees.specs.Given.Acts.Acts.{Get, Remove, Insert, TryToInsert, Compute, Update, UpdateOrInsert, TryToInsertWith, RemoveIf, GetKeyValue, ContainsKey, GetOrInsert, GetOrInsertWith, RemoveEntry, MakeRoom, Count, GoOver}
+use Rattle.papaya_agrees.specs.Given.Played.Play.{call_for}
 
 module _ {K V : Type 0} (same : K → K → Bool) (st : Standing K) (i : ℕ) where
   -- what an act begins is what begins where that is called

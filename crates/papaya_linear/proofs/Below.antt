@@ -2,28 +2,28 @@
 use Rattle.std.specs.Prelude.{◌≡◌, ◌⊎◌, ◌≢◌, ◌<◌, ◌+◌, ℕ, Bool, Option, Some, None, option_map}
 use Rattle.std.proofs.Common.{refl, ap, sym, subst, ◌∙◌, arith, inl, inr}
 use Rattle.std.proofs.lemmas.Bool.{cases_eq}
-use Rattle.seize_acts.specs.Answers.{Grant}
-use Rattle.seize_acts.proofs.Answers.{same_some}
-use Rattle.papaya_scenes.specs.Given.Seize.World.{World, with_at}
-use Rattle.papaya_scenes.specs.Given.Seize.declared.progress.Progress.{Progress}
-use Rattle.papaya_scenes.specs.Given.Seize.declared.progress.Progress.TheVariants as progress
-use Rattle.papaya_scenes.specs.Given.Seize.declared.rows.settle.Settled.{Settled}
-use Rattle.papaya_scenes.specs.Given.Seize.declared.rows.settle.Settled.TheVariants as settled
-use Rattle.papaya_scenes.specs.Given.Tables.declared.node.Node.{Node}
-use Rattle.papaya_scenes.specs.Given.Tables.declared.setting.Setting.{Setting}
-use Rattle.papaya_scenes.specs.Given.Resize.declared.new_map.NewMap.{NewMap}
-use Rattle.papaya_scenes.specs.Given.Raw.declared.machines.end_map.EndMap.{EndMap}
-use Rattle.papaya_scenes.specs.Given.Finishes.Endings.{Finishing}
-use Rattle.papaya_scenes.specs.Given.Finishes.FactsEnds.{Deed}
-use Rattle.papaya_scenes.specs.Given.Finishes.Makings.{Beginning}
-use Rattle.papaya_scenes.specs.Given.Finishes.Maps.{IsSameMap, Standing}
-use Rattle.papaya_scenes.proofs.Given.Callers.Together.At.{at_other, at_same}
-use Rattle.papaya_scenes.proofs.Goes.{moved_map_keeps, same_map_keeps}
-use Rattle.papaya_scenes.specs.Making.{making_begun}
-use Rattle.papaya_scenes.specs.Scene.{Scene, slot_of}
-use Rattle.papaya_moments.specs.Numbers.{MapsAreBelow}
-use Rattle.papaya_acts.specs.Acts.{Act, Answer, BeginsCall, StepsCall, TellsCall, AsksCall, StopsCall, BeginsMaking, StepsMaking, BeginsEnding, StepsEnding, BeginsRow, StepsRow}
-use Rattle.papaya_acts.specs.Leads.{CallCame, EndingCame, Led, MakingCame}
+use Rattle.papaya_events.specs.Given.SeizeActs.Answers.{Grant}
+use Rattle.papaya_events.proofs.Given.SeizeActs.Answers.{same_some}
+use Rattle.papaya_agrees.specs.Given.Seize.World.{World, with_at}
+use Rattle.papaya_agrees.specs.Given.Seize.declared.progress.Progress.{Progress}
+use Rattle.papaya_agrees.specs.Given.Seize.declared.progress.Progress.TheVariants as progress
+use Rattle.papaya_agrees.specs.Given.Seize.declared.rows.settle.Settled.{Settled}
+use Rattle.papaya_agrees.specs.Given.Seize.declared.rows.settle.Settled.TheVariants as settled
+use Rattle.papaya_agrees.specs.Given.Tables.declared.node.Node.{Node}
+use Rattle.papaya_agrees.specs.Given.Tables.declared.setting.Setting.{Setting}
+use Rattle.papaya_deeds.specs.Given.Resize.declared.new_map.NewMap.{NewMap}
+use Rattle.papaya_deeds.specs.Given.Raw.declared.machines.end_map.EndMap.{EndMap}
+use Rattle.papaya_agrees.specs.Given.Finishes.Endings.{Finishing}
+use Rattle.papaya_agrees.specs.Given.Finishes.FactsEnds.{Deed}
+use Rattle.papaya_agrees.specs.Given.Finishes.Makings.{Beginning}
+use Rattle.papaya_agrees.specs.Given.Finishes.Maps.{IsSameMap, Standing}
+use Rattle.papaya_agrees.proofs.Given.Callers.Together.At.{at_other, at_same}
+use Rattle.papaya_agrees.proofs.Given.Scenes.Goes.{moved_map_keeps, same_map_keeps}
+use Rattle.papaya_agrees.specs.Given.Scenes.Making.{making_begun}
+use Rattle.papaya_agrees.specs.Given.Scenes.Scene.{Scene, slot_of}
+use Rattle.papaya_events.specs.Given.Moments.Numbers.{MapsAreBelow}
+use Rattle.papaya_agrees.specs.Given.Acts.Acts.{Act, Answer, BeginsCall, StepsCall, TellsCall, AsksCall, StopsCall, BeginsMaking, StepsMaking, BeginsEnding, StepsEnding, BeginsRow, StepsRow}
+use Rattle.papaya_agrees.specs.Given.Acts.Leads.{CallCame, EndingCame, Led, MakingCame}
 
 -- a map that goes on with its setting was there
 there_still : {K : Type 0} (before after : Option (Standing K)) → option_map (λ (st : Standing K). st.setting) after ≡ option_map (λ (st : Standing K). st.setting) before → (st : Standing K) → after ≡ Some st

@@ -5,29 +5,29 @@ use Rattle.std.specs.Option.{option_or}
 use Rattle.std.proofs.Common.{refl, ap, sym, ◌∙◌}
 use Rattle.std.proofs.lemmas.Bool.{eq-eqb, eqb-true, ne_eqb}
 use Rattle.std.proofs.lemmas.List.Folds.{find-append}
-use Rattle.papaya_moments.specs.Given.Runs.Same.{is_same}
-use Rattle.papaya_moments.specs.Given.Tables.declared.setting.Setting.{Setting}
-use Rattle.papaya_moments.specs.Given.Finishes.Makings.{Beginning}
-use Rattle.papaya_moments.specs.Given.Schedules.declared.effect.Table.{Table}
-use Rattle.papaya_moments.specs.Given.Schedules.Effects.{with_effects}
-use Rattle.papaya_moments.specs.Given.Schedules.Moment.{MapThere, Moment, Place, TableThere}
-use Rattle.papaya_moments.specs.Given.Schedules.Things.{same_table}
-use Rattle.papaya_moments.specs.Given.Schedules.Views.{is_there, map_at, tables_of}
-use Rattle.papaya_moments.specs.Given.Teller.declared.changed.Changed.{Changed}
-use Rattle.papaya_moments.specs.Given.Effects.Effects.{effects_of, map_of}
-use Rattle.papaya_moments.specs.Given.Effects.Known.{Known}
-use Rattle.papaya_moments.specs.Given.Effects.declared.acting.Acting.{Acting}
-use Rattle.papaya_moments.specs.Given.Effects.declared.acting.Acting.TheVariants as acts
-use Rattle.papaya_moments.specs.Given.Effects.declared.role.Role.TheVariants as role
-use Rattle.papaya_moments.specs.Given.Others.Makings.{IsNew}
-use Rattle.papaya_moments.specs.Given.Spots.Unreclaimed.{ShowsUnreclaimed}
-use Rattle.papaya_moments.proofs.Given.Others.EndBegins.{found_still}
-use Rattle.papaya_moments.proofs.Given.Others.RowPlans.{TellsRow}
-use Rattle.papaya_moments.proofs.Numbers.{found_of}
+use Rattle.papaya_agrees.specs.Given.Runs.Same.{is_same}
+use Rattle.papaya_agrees.specs.Given.Tables.declared.setting.Setting.{Setting}
+use Rattle.papaya_agrees.specs.Given.Finishes.Makings.{Beginning}
+use Rattle.papaya_deeds.specs.Given.Schedules.declared.effect.Table.{Table}
+use Rattle.papaya_deeds.specs.Given.Schedules.Effects.{with_effects}
+use Rattle.papaya_deeds.specs.Given.Schedules.Moment.{MapThere, Moment, Place, TableThere}
+use Rattle.papaya_deeds.specs.Given.Schedules.Things.{same_table}
+use Rattle.papaya_deeds.specs.Given.Schedules.Views.{is_there, map_at, tables_of}
+use Rattle.papaya_agrees.specs.Given.Teller.declared.changed.Changed.{Changed}
+use Rattle.papaya_agrees.specs.Given.Effects.Effects.{effects_of, map_of}
+use Rattle.papaya_agrees.specs.Given.Effects.Known.{Known}
+use Rattle.papaya_agrees.specs.Given.Effects.declared.acting.Acting.{Acting}
+use Rattle.papaya_agrees.specs.Given.Effects.declared.acting.Acting.TheVariants as acts
+use Rattle.papaya_agrees.specs.Given.Effects.declared.role.Role.TheVariants as role
+use Rattle.papaya_agrees.specs.Given.Others.Makings.{IsNew}
+use Rattle.papaya_agrees.specs.Given.Spots.Unreclaimed.{ShowsUnreclaimed}
+use Rattle.papaya_agrees.proofs.Given.Others.EndBegins.{found_still}
+use Rattle.papaya_agrees.proofs.Given.Others.RowPlans.{TellsRow}
+use Rattle.papaya_events.proofs.Given.Moments.Numbers.{found_of}
 use Rattle.papaya_agrees.proofs.Elsewhere.{SameOf, acting_elsewhere, effects_elsewhere, rows_elsewhere}
 use Rattle.papaya_deeds.specs.Deeds.{come, named, without_map}
-use Rattle.papaya_played.specs.Play.{has_root}
-use Rattle.papaya_played.proofs.Noted.{apart}
+use Rattle.papaya_agrees.specs.Given.Played.Play.{has_root}
+use Rattle.papaya_agrees.proofs.Given.Played.Noted.{apart}
 use Rattle.papaya_linear.specs.Coming.{Comes, ComesBy, IsUnknown}
 use Rattle.papaya_agrees.specs.Fresh.{AreNamed, IsNamed}
 

@@ -6,11 +6,11 @@ use Rattle.std.proofs.Common.{refl, ap, sym, subst, ◌∙◌, arith}
 use Rattle.std.proofs.lemmas.Bool.{eq-eqb}
 use Rattle.std.proofs.lemmas.List.Elements.{All-append, All-cons}
 use Rattle.std.proofs.lemmas.List.Folds.{find-append}
-use Rattle.papaya_moments.specs.Given.Schedules.Moment.{MapThere, Moment, TableThere}
-use Rattle.papaya_moments.specs.Given.Schedules.Views.{map_at}
-use Rattle.papaya_moments.specs.Numbers.{AreFound}
-use Rattle.papaya_moments.proofs.Numbers.{maps_go}
-use Rattle.papaya_logged.specs.Given.Remains.Numbered.{NumbersUpTo}
+use Rattle.papaya_deeds.specs.Given.Schedules.Moment.{MapThere, Moment, TableThere}
+use Rattle.papaya_deeds.specs.Given.Schedules.Views.{map_at}
+use Rattle.papaya_events.specs.Given.Moments.Numbers.{AreFound}
+use Rattle.papaya_events.proofs.Given.Moments.Numbers.{maps_go}
+use Rattle.papaya_events.specs.Given.Remains.Numbered.{NumbersUpTo}
 use Rattle.papaya_deeds.specs.Deeds.{come, named, without_map}
 
 module _ {K V : Type 0} (count : ℕ) where

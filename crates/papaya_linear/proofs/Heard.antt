@@ -1,25 +1,25 @@
 -- What a moment says that a caller's call was told, and whether it asks, while the call keeps its value and may take a reply: after each kind of entry.
 use Rattle.std.specs.Prelude.{◌+◌, cond, not, find, map, Option, Some, None, if◌then◌else◌}
 use Rattle.std.proofs.Common.{◌≡◌, ◌⊎◌, ℕ, Bool, true, false, List, [], ◌∷◌, refl, ap, sym, subst, ◌∙◌}
-use Rattle.papaya_moments.specs.Given.Raw.declared.machines.machine.Machine.{Machine}
-use Rattle.papaya_moments.specs.Given.Runs.Same.{is_same}
-use Rattle.papaya_moments.specs.Given.Schedules.declared.call.Call.{Call}
-use Rattle.papaya_moments.specs.Given.Schedules.declared.call.Reply.{Reply}
-use Rattle.papaya_moments.specs.Given.Schedules.declared.effect.Effect.{Effect}
-use Rattle.papaya_moments.specs.Given.Schedules.declared.outcome.Outcome.{Outcome}
-use Rattle.papaya_moments.specs.Given.Schedules.declared.outcome.Outcome.TheVariants as outcome
-use Rattle.papaya_moments.specs.Given.Schedules.After.{asks_on, comes_to, replied, without_call}
-use Rattle.papaya_moments.specs.Given.Schedules.Beginning.{fresh_call}
-use Rattle.papaya_moments.specs.Given.Schedules.Effects.{with_effect, with_effects}
-use Rattle.papaya_moments.specs.Given.Schedules.Entry.{ends_call}
-use Rattle.papaya_moments.specs.Given.Schedules.Moment.{Asking, Moment, Stands, Told, UnderWay}
-use Rattle.papaya_moments.specs.Given.Schedules.Views.{call_of}
-use Rattle.papaya_moments.proofs.Given.Follows.Calling.{apart_back, come_same, found_kept, found_passes, is_same_is, is_same_refl, replied_same}
-use Rattle.papaya_moments.proofs.Given.Follows.Calls.{IsOfSame, changed, found}
-use Rattle.papaya_moments.proofs.Given.Hands.Replacing.{calls_after}
-use Rattle.papaya_values.specs.Values.{KeepsValue}
+use Rattle.papaya_deeds.specs.Given.Raw.declared.machines.machine.Machine.{Machine}
+use Rattle.papaya_agrees.specs.Given.Runs.Same.{is_same}
+use Rattle.papaya_deeds.specs.Given.Schedules.declared.call.Call.{Call}
+use Rattle.papaya_deeds.specs.Given.Schedules.declared.call.Reply.{Reply}
+use Rattle.papaya_deeds.specs.Given.Schedules.declared.effect.Effect.{Effect}
+use Rattle.papaya_deeds.specs.Given.Schedules.declared.outcome.Outcome.{Outcome}
+use Rattle.papaya_deeds.specs.Given.Schedules.declared.outcome.Outcome.TheVariants as outcome
+use Rattle.papaya_deeds.specs.Given.Schedules.After.{asks_on, comes_to, replied, without_call}
+use Rattle.papaya_deeds.specs.Given.Schedules.Beginning.{fresh_call}
+use Rattle.papaya_deeds.specs.Given.Schedules.Effects.{with_effect, with_effects}
+use Rattle.papaya_deeds.specs.Given.Schedules.Entry.{ends_call}
+use Rattle.papaya_deeds.specs.Given.Schedules.Moment.{Asking, Moment, Stands, Told, UnderWay}
+use Rattle.papaya_deeds.specs.Given.Schedules.Views.{call_of}
+use Rattle.papaya_agrees.proofs.Given.Follows.Calling.{apart_back, come_same, found_kept, found_passes, is_same_is, is_same_refl, replied_same}
+use Rattle.papaya_agrees.proofs.Given.Follows.Calls.{IsOfSame, changed, found}
+use Rattle.papaya_agrees.proofs.Given.Hands.Replacing.{calls_after}
+use Rattle.papaya_events.specs.Given.Values.Values.{KeepsValue}
 use Rattle.papaya_deeds.specs.Deeds.{Begins, Entry, Replies, Steps, Stops, acted_on, after, at_work, caller_of, named, worked}
-use Rattle.papaya_played.proofs.Noted.{OfNoCall}
+use Rattle.papaya_agrees.proofs.Given.Played.Noted.{OfNoCall}
 use Rattle.papaya_linear.proofs.TakesReply.{TakesNone}
 
 module _ {K V : Type 0} where

@@ -36,3 +36,4 @@ pub mod Chosen
 pub mod Holding
 pub mod Stays
 pub mod Linear
+pub mod Given

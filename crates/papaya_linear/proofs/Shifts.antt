@@ -3,24 +3,24 @@ use Rattle.std.specs.Prelude.{◌≡◌, ◌⊎◌, ◌&&◌, ℕ, Bool, true, f
 use Rattle.std.specs.List.{list_all}
 use Rattle.std.proofs.Common.{refl, ap, ◌∙◌, inl, inr}
 use Rattle.std.proofs.lemmas.Grind.{flat_map-append}
-use Rattle.papaya_moments.specs.Given.SeizeWords.declared.at.At.TheVariants.{Root, Used, Slot, Entry, Word}
-use Rattle.papaya_moments.specs.Given.Schedules.declared.effect.Effect.{Effect}
-use Rattle.papaya_moments.specs.Given.Schedules.declared.effect.Effect.TheVariants as effect
-use Rattle.papaya_moments.specs.Given.Schedules.declared.effect.Growth.TheVariants.{ABucket}
-use Rattle.papaya_moments.specs.Given.Schedules.Handing.{is_first_making}
-use Rattle.papaya_moments.specs.Given.Schedules.Linearizable.{shift_of}
-use Rattle.papaya_moments.specs.Given.Schedules.Sequential.{Shift}
-use Rattle.papaya_moments.specs.Given.Teller.declared.changed.Changed.{Changed}
-use Rattle.papaya_moments.specs.Given.Teller.declared.changed.Changed.TheVariants as changed
-use Rattle.papaya_moments.specs.Given.Effects.Effects.{effects_of, led_to, named, names_same, taken_by}
-use Rattle.papaya_moments.specs.Given.Effects.Known.{Known}
-use Rattle.papaya_moments.specs.Given.Effects.declared.acting.Acting.{Acting}
-use Rattle.papaya_moments.specs.Given.Effects.declared.acting.Acting.TheVariants as acts
-use Rattle.papaya_moments.specs.Given.Effects.declared.role.Role.{Role}
-use Rattle.papaya_moments.specs.Given.Effects.declared.role.Role.TheVariants as role
-use Rattle.papaya_moments.proofs.Given.Others.RowPlans.{TellsRow}
-use Rattle.papaya_logged.specs.Ends.{ended_as}
-use Rattle.papaya_logged.proofs.Reclaiming.Rows.{EmptiesRoot}
+use Rattle.papaya_deeds.specs.Given.SeizeWords.declared.at.At.TheVariants.{Root, Used, Slot, Entry, Word}
+use Rattle.papaya_deeds.specs.Given.Schedules.declared.effect.Effect.{Effect}
+use Rattle.papaya_deeds.specs.Given.Schedules.declared.effect.Effect.TheVariants as effect
+use Rattle.papaya_deeds.specs.Given.Schedules.declared.effect.Growth.TheVariants.{ABucket}
+use Rattle.papaya_deeds.specs.Given.Schedules.Handing.{is_first_making}
+use Rattle.papaya_deeds.specs.Given.Schedules.Linearizable.{shift_of}
+use Rattle.papaya_deeds.specs.Given.Schedules.Sequential.{Shift}
+use Rattle.papaya_agrees.specs.Given.Teller.declared.changed.Changed.{Changed}
+use Rattle.papaya_agrees.specs.Given.Teller.declared.changed.Changed.TheVariants as changed
+use Rattle.papaya_agrees.specs.Given.Effects.Effects.{effects_of, led_to, named, names_same, taken_by}
+use Rattle.papaya_agrees.specs.Given.Effects.Known.{Known}
+use Rattle.papaya_agrees.specs.Given.Effects.declared.acting.Acting.{Acting}
+use Rattle.papaya_agrees.specs.Given.Effects.declared.acting.Acting.TheVariants as acts
+use Rattle.papaya_agrees.specs.Given.Effects.declared.role.Role.{Role}
+use Rattle.papaya_agrees.specs.Given.Effects.declared.role.Role.TheVariants as role
+use Rattle.papaya_agrees.proofs.Given.Others.RowPlans.{TellsRow}
+use Rattle.papaya_events.specs.Given.Logged.Ends.{ended_as}
+use Rattle.papaya_events.proofs.Given.Logged.Reclaiming.Rows.{EmptiesRoot}
 
 -- what takes a block away shifts nothing
 taken_shifts : (who : Acting) (r : Role) → flat_map shift_of (taken_by who r) ≡ []

@@ -1,40 +1,40 @@
 -- The step of a call, as it is played, is an entry that is linearizable, and what the moment shows of calls and of what they were told it shows then.
 use Rattle.std.specs.Prelude.{◌≡◌, ◌⊎◌, ◌+◌, ℕ, Bool, true, false, List, Option, Some, None, option_map, if◌then◌else◌}
 use Rattle.std.proofs.Common.{refl, ap, sym, subst, ◌∙◌, inl, inr}
-use Rattle.seize_acts.proofs.Answers.{same_some}
-use Rattle.papaya_moments.specs.Given.SeizeWords.Mem.{Mem}
-use Rattle.papaya_moments.specs.Given.Tables.declared.node.Node.{Node}
-use Rattle.papaya_moments.specs.Given.Raw.declared.machines.machine.Machine.{Machine}
-use Rattle.papaya_moments.specs.Given.Raw.declared.machines.progress.Progress.{Progress}
-use Rattle.papaya_moments.specs.Given.Raw.declared.machines.progress.Progress.TheVariants as progress
-use Rattle.papaya_moments.specs.Given.Callers.Together.{UnderWay}
-use Rattle.papaya_moments.specs.Given.Finishes.Machines.{machine_of}
-use Rattle.papaya_moments.specs.Given.Schedules.declared.call.Call.{Call}
-use Rattle.papaya_moments.specs.Given.Schedules.declared.call.Reply.{Reply}
-use Rattle.papaya_moments.specs.Given.Schedules.declared.outcome.Outcome.{Outcome}
-use Rattle.papaya_moments.specs.Given.Schedules.After.{comes_to}
-use Rattle.papaya_moments.specs.Given.Schedules.Entry.{ends_call}
-use Rattle.papaya_moments.specs.Given.Schedules.Moment.{Asking, UnderWay as CallThere}
-use Rattle.papaya_moments.specs.Given.Schedules.Views.{call_of}
-use Rattle.papaya_moments.specs.Given.Follows.Calling.{NoneNamed}
-use Rattle.papaya_moments.specs.Given.Effects.Effects.{effects_of, known_after}
-use Rattle.papaya_moments.specs.Given.Effects.Known.{Known}
-use Rattle.papaya_moments.specs.Given.Effects.declared.acting.Acting.TheVariants as acts
-use Rattle.papaya_moments.specs.Given.Scenes.Held.{Held, IsAt}
-use Rattle.papaya_moments.specs.Given.Scenes.Scene.{Scene}
-use Rattle.papaya_moments.proofs.Given.Scenes.Goes.{goes_as}
-use Rattle.papaya_moments.specs.Given.Scenes.Stepping.{StepLeads, has_ended, scene_after}
-use Rattle.papaya_named.specs.Seen.{kind_of}
-use Rattle.papaya_named.specs.Telling.{number_by}
-use Rattle.papaya_named.specs.declared.kind.Kind.{Kind}
-use Rattle.papaya_histories.specs.InEvent.{ComesSo}
-use Rattle.papaya_values.specs.Values.{KeepsValue, kept_after}
-use Rattle.papaya_values.proofs.Values.{values_go_on}
+use Rattle.papaya_events.proofs.Given.SeizeActs.Answers.{same_some}
+use Rattle.papaya_deeds.specs.Given.SeizeWords.Mem.{Mem}
+use Rattle.papaya_agrees.specs.Given.Tables.declared.node.Node.{Node}
+use Rattle.papaya_deeds.specs.Given.Raw.declared.machines.machine.Machine.{Machine}
+use Rattle.papaya_deeds.specs.Given.Raw.declared.machines.progress.Progress.{Progress}
+use Rattle.papaya_deeds.specs.Given.Raw.declared.machines.progress.Progress.TheVariants as progress
+use Rattle.papaya_agrees.specs.Given.Callers.Together.{UnderWay}
+use Rattle.papaya_agrees.specs.Given.Finishes.Machines.{machine_of}
+use Rattle.papaya_deeds.specs.Given.Schedules.declared.call.Call.{Call}
+use Rattle.papaya_deeds.specs.Given.Schedules.declared.call.Reply.{Reply}
+use Rattle.papaya_deeds.specs.Given.Schedules.declared.outcome.Outcome.{Outcome}
+use Rattle.papaya_deeds.specs.Given.Schedules.After.{comes_to}
+use Rattle.papaya_deeds.specs.Given.Schedules.Entry.{ends_call}
+use Rattle.papaya_deeds.specs.Given.Schedules.Moment.{Asking, UnderWay as CallThere}
+use Rattle.papaya_deeds.specs.Given.Schedules.Views.{call_of}
+use Rattle.papaya_agrees.specs.Given.Follows.Calling.{NoneNamed}
+use Rattle.papaya_agrees.specs.Given.Effects.Effects.{effects_of, known_after}
+use Rattle.papaya_agrees.specs.Given.Effects.Known.{Known}
+use Rattle.papaya_agrees.specs.Given.Effects.declared.acting.Acting.TheVariants as acts
+use Rattle.papaya_agrees.specs.Given.Scenes.Held.{Held, IsAt}
+use Rattle.papaya_agrees.specs.Given.Scenes.Scene.{Scene}
+use Rattle.papaya_agrees.proofs.Given.Scenes.Goes.{goes_as}
+use Rattle.papaya_agrees.specs.Given.Scenes.Stepping.{StepLeads, has_ended, scene_after}
+use Rattle.papaya_agrees.specs.Given.Named.Seen.{kind_of}
+use Rattle.papaya_agrees.specs.Given.Named.Telling.{number_by}
+use Rattle.papaya_agrees.specs.Given.Named.declared.kind.Kind.{Kind}
+use Rattle.papaya_events.specs.Given.Histories.InEvent.{ComesSo}
+use Rattle.papaya_events.specs.Given.Values.Values.{KeepsValue, kept_after}
+use Rattle.papaya_events.proofs.Given.Values.Values.{values_go_on}
 use Rattle.papaya_deeds.specs.Deeds.{Steps, acted_on, map_of_call, moment, named}
 use Rattle.papaya_deeds.specs.History.{IsLinearizable, past}
-use Rattle.papaya_played.specs.Play.{Calling, State, call_stepped, going, is_refusal, keeps, outcome_of}
-use Rattle.papaya_played.proofs.Alike.{its_call}
-use Rattle.papaya_played.proofs.Noted.{CallsAreNoted, not_over}
+use Rattle.papaya_agrees.specs.Given.Played.Play.{Calling, State, call_stepped, going, is_refusal, keeps, outcome_of}
+use Rattle.papaya_agrees.proofs.Given.Played.Alike.{its_call}
+use Rattle.papaya_agrees.proofs.Given.Played.Noted.{CallsAreNoted, not_over}
 use Rattle.papaya_linear.specs.Shown.{ShowsAnswers}
 use Rattle.papaya_linear.proofs.CallSteps.{ended, steps_answer, steps_are_linearizable, there_is as call_there}
 use Rattle.papaya_linear.proofs.Comes.{steps_come_so}

@@ -1,40 +1,40 @@
 -- A reply that a call on one key takes is one of its kind: a yes or no for `remove_if`, and for `compute` what is not.
 use Rattle.std.specs.Prelude.{◌≡◌, ℕ, Bool, true, false, List, Some, Ok}
 use Rattle.std.proofs.Common.{ap, subst, ◌∙◌, inl, inr}
-use Rattle.papaya_moments.specs.Given.Raw.CallAsks.{absent_told, present_told, told_at}
-use Rattle.papaya_moments.specs.Given.Raw.Machine.{machine_replied}
-use Rattle.papaya_moments.specs.Given.Raw.declared.machines.asking.Asking.TheVariants as asking
-use Rattle.papaya_moments.specs.Given.Raw.declared.machines.asking.Gap.{Gap}
-use Rattle.papaya_moments.specs.Given.Raw.declared.machines.asking.Reply.{Reply as MachineReply}
-use Rattle.papaya_moments.specs.Given.Raw.declared.machines.asking.Reply.TheVariants as reply
-use Rattle.papaya_moments.specs.Given.Raw.declared.machines.asking.Takes.{Takes}
-use Rattle.papaya_moments.specs.Given.Raw.declared.machines.asking.Takes.TheVariants as takes
-use Rattle.papaya_moments.specs.Given.Raw.declared.machines.call.Calling.{Calling}
-use Rattle.papaya_moments.specs.Given.Raw.declared.machines.call.Calling.TheVariants as at
-use Rattle.papaya_moments.specs.Given.Raw.declared.machines.call.KeyCall.{KeyCall}
-use Rattle.papaya_moments.specs.Given.Raw.declared.machines.machine.Machine.TheVariants as kinds
-use Rattle.papaya_moments.specs.Given.Points.Told.{IsRowOfCall}
-use Rattle.papaya_moments.specs.Given.Callers.Asked.{Asked}
-use Rattle.papaya_moments.specs.Given.Callers.Pairs.{Given, kind_of}
-use Rattle.papaya_moments.specs.Given.Callers.Sights.{seen_by}
-use Rattle.papaya_moments.specs.Given.Callers.Together.{CallOnKey, OnKey, Stands as TogetherStands}
-use Rattle.papaya_moments.specs.Given.Finishes.Maps.{Standing}
-use Rattle.papaya_moments.specs.Given.Schedules.declared.call.Call.{Call}
-use Rattle.papaya_moments.specs.Given.Schedules.declared.call.Call.TheVariants.{On}
-use Rattle.papaya_moments.specs.Given.Schedules.declared.call.OneKey.{OneKey}
-use Rattle.papaya_moments.specs.Given.Schedules.declared.call.OneKey.TheVariants.{Compute, RemoveIf}
-use Rattle.papaya_moments.specs.Given.Schedules.declared.call.Reply.{Reply}
-use Rattle.papaya_moments.specs.Given.Schedules.declared.call.Reply.TheVariants.{Gives, Removes, Aborts, Decides}
-use Rattle.papaya_moments.specs.Given.Schedules.Moment.{Moment, UnderWay as CallThere}
-use Rattle.papaya_moments.specs.Given.Schedules.Views.{call_of}
-use Rattle.papaya_moments.specs.Given.Effects.Known.{Known}
-use Rattle.papaya_moments.specs.Given.Hands.Asked.{IsAskedAs, IsAskedOn, as_told, given_by}
-use Rattle.papaya_moments.specs.Given.Scenes.Held.{Held, IsAt}
-use Rattle.papaya_moments.specs.Given.Scenes.Scene.{Scene, slot_of}
-use Rattle.papaya_moments.specs.Whole.{ShowsWhole}
-use Rattle.papaya_histories.specs.Changes.{IsTaken}
-use Rattle.papaya_scenes.proofs.May.{standing_is}
-use Rattle.papaya_scheduler.proofs.Replied.{of_kind}
+use Rattle.papaya_deeds.specs.Given.Raw.CallAsks.{absent_told, present_told, told_at}
+use Rattle.papaya_deeds.specs.Given.Raw.Machine.{machine_replied}
+use Rattle.papaya_deeds.specs.Given.Raw.declared.machines.asking.Asking.TheVariants as asking
+use Rattle.papaya_deeds.specs.Given.Raw.declared.machines.asking.Gap.{Gap}
+use Rattle.papaya_deeds.specs.Given.Raw.declared.machines.asking.Reply.{Reply as MachineReply}
+use Rattle.papaya_deeds.specs.Given.Raw.declared.machines.asking.Reply.TheVariants as reply
+use Rattle.papaya_deeds.specs.Given.Raw.declared.machines.asking.Takes.{Takes}
+use Rattle.papaya_deeds.specs.Given.Raw.declared.machines.asking.Takes.TheVariants as takes
+use Rattle.papaya_deeds.specs.Given.Raw.declared.machines.call.Calling.{Calling}
+use Rattle.papaya_deeds.specs.Given.Raw.declared.machines.call.Calling.TheVariants as at
+use Rattle.papaya_deeds.specs.Given.Raw.declared.machines.call.KeyCall.{KeyCall}
+use Rattle.papaya_deeds.specs.Given.Raw.declared.machines.machine.Machine.TheVariants as kinds
+use Rattle.papaya_events.specs.Given.Points.Told.{IsRowOfCall}
+use Rattle.papaya_agrees.specs.Given.Callers.Asked.{Asked}
+use Rattle.papaya_agrees.specs.Given.Callers.Pairs.{Given, kind_of}
+use Rattle.papaya_agrees.specs.Given.Callers.Sights.{seen_by}
+use Rattle.papaya_agrees.specs.Given.Callers.Together.{CallOnKey, OnKey, Stands as TogetherStands}
+use Rattle.papaya_agrees.specs.Given.Finishes.Maps.{Standing}
+use Rattle.papaya_deeds.specs.Given.Schedules.declared.call.Call.{Call}
+use Rattle.papaya_deeds.specs.Given.Schedules.declared.call.Call.TheVariants.{On}
+use Rattle.papaya_deeds.specs.Given.Schedules.declared.call.OneKey.{OneKey}
+use Rattle.papaya_deeds.specs.Given.Schedules.declared.call.OneKey.TheVariants.{Compute, RemoveIf}
+use Rattle.papaya_deeds.specs.Given.Schedules.declared.call.Reply.{Reply}
+use Rattle.papaya_deeds.specs.Given.Schedules.declared.call.Reply.TheVariants.{Gives, Removes, Aborts, Decides}
+use Rattle.papaya_deeds.specs.Given.Schedules.Moment.{Moment, UnderWay as CallThere}
+use Rattle.papaya_deeds.specs.Given.Schedules.Views.{call_of}
+use Rattle.papaya_agrees.specs.Given.Effects.Known.{Known}
+use Rattle.papaya_agrees.specs.Given.Hands.Asked.{IsAskedAs, IsAskedOn, as_told, given_by}
+use Rattle.papaya_agrees.specs.Given.Scenes.Held.{Held, IsAt}
+use Rattle.papaya_agrees.specs.Given.Scenes.Scene.{Scene, slot_of}
+use Rattle.papaya_events.specs.Given.Moments.Whole.{ShowsWhole}
+use Rattle.papaya_events.specs.Given.Histories.Changes.{IsTaken}
+use Rattle.papaya_agrees.proofs.Given.Scenes.May.{standing_is}
+use Rattle.papaya_events.proofs.Given.Scheduler.Replied.{of_kind}
 
 module _ {K V Q : Type 0} where
   -- what is taken nowhere by calls that take such replies, one of them does not take

@@ -1,54 +1,54 @@
 -- A call takes a reply only where the step before has said that it asks: none as it begins, none once it took one, and none as a walk goes on.
 use Rattle.std.specs.Prelude.{◌≡◌, ℕ, ◌==◌, Bool, true, false, nat_lt, ◌&&◌, Option, Ok, if◌then◌else◌}
 use Rattle.std.proofs.Common.{refl, sym, subst}
-use Rattle.papaya_moments.specs.Given.SeizeWords.Plan.{plan_as}
-use Rattle.papaya_moments.specs.Given.SeizeWords.declared.fault.Fault.TheVariants.{RemoveNothing}
-use Rattle.papaya_moments.specs.Given.Tables.declared.marks.TheConstants.{TOMBSTONE}
-use Rattle.papaya_moments.specs.Given.Tables.declared.node.Node.{Node}
-use Rattle.papaya_moments.specs.Given.Tables.declared.setting.Setting.{Setting}
-use Rattle.papaya_moments.specs.Given.Resize.Sum.{sum_plan}
-use Rattle.papaya_moments.specs.Given.Reserves.Reserve.{reserve_plan}
-use Rattle.papaya_moments.specs.Given.Sweeps.Sweep.{plan_at as sweep_at}
-use Rattle.papaya_moments.specs.Given.Sweeps.SweepPoints.{further, next_at, past, removes, reply_at}
-use Rattle.papaya_moments.specs.Given.Sweeps.declared.sweep.Sweep.{Sweep}
-use Rattle.papaya_moments.specs.Given.Sweeps.declared.sweep.Sweeping.{Sweeping}
-use Rattle.papaya_moments.specs.Given.Sweeps.declared.sweep.Sweeping.TheVariants as sweeping
-use Rattle.papaya_moments.specs.Given.Sweeps.declared.sweep.Swept.{Swept}
-use Rattle.papaya_moments.specs.Given.Sweeps.declared.sweep.Swept.TheVariants as swept_as
-use Rattle.papaya_moments.specs.Given.Raw.Call.{plan_at}
-use Rattle.papaya_moments.specs.Given.Raw.CallAsks.{absent_told, present_told, told_at, with_absent, with_present}
-use Rattle.papaya_moments.specs.Given.Raw.CallPoints.{at_gap, burying, ending, going, over}
-use Rattle.papaya_moments.specs.Given.Raw.Machine.{called, counted, machine_asked, machine_replied, reserved, swept, sweep_told}
-use Rattle.papaya_moments.specs.Given.Raw.declared.machines.answer.Called.{Called}
-use Rattle.papaya_moments.specs.Given.Raw.declared.machines.answer.Called.TheVariants as says
-use Rattle.papaya_moments.specs.Given.Raw.declared.machines.answer.End.{End}
-use Rattle.papaya_moments.specs.Given.Raw.declared.machines.answer.End.TheVariants as ends
-use Rattle.papaya_moments.specs.Given.Raw.declared.machines.answer.KeyAnswer.TheVariants as answers
-use Rattle.papaya_moments.specs.Given.Raw.declared.machines.asking.Asking.TheVariants as asking
-use Rattle.papaya_moments.specs.Given.Raw.declared.machines.asking.Gap.{Gap}
-use Rattle.papaya_moments.specs.Given.Raw.declared.machines.asking.Gap.TheVariants as gaps
-use Rattle.papaya_moments.specs.Given.Raw.declared.machines.asking.Reply.{Reply}
-use Rattle.papaya_moments.specs.Given.Raw.declared.machines.asking.Reply.TheVariants as reply
-use Rattle.papaya_moments.specs.Given.Raw.declared.machines.asking.Takes.{Takes}
-use Rattle.papaya_moments.specs.Given.Raw.declared.machines.asking.Takes.TheVariants as takes
-use Rattle.papaya_moments.specs.Given.Raw.declared.machines.asking.Told.TheVariants as tells
-use Rattle.papaya_moments.specs.Given.Raw.declared.machines.call.Calling.{Calling}
-use Rattle.papaya_moments.specs.Given.Raw.declared.machines.call.Calling.TheVariants as at
-use Rattle.papaya_moments.specs.Given.Raw.declared.machines.call.KeyCall.{KeyCall}
-use Rattle.papaya_moments.specs.Given.Raw.declared.machines.machine.Machine.{Machine}
-use Rattle.papaya_moments.specs.Given.Raw.declared.machines.machine.Machine.TheVariants as kinds
-use Rattle.papaya_moments.specs.Given.Raw.declared.machines.progress.Progress.{Progress}
-use Rattle.papaya_moments.specs.Given.Raw.declared.machines.progress.Progress.TheVariants as progress
-use Rattle.papaya_moments.specs.Given.Teller.declared.changed.Changed.TheVariants.{Nothing}
-use Rattle.papaya_moments.specs.Given.Schedules.declared.call.Call.{Call}
-use Rattle.papaya_moments.specs.Given.Schedules.declared.call.Call.TheVariants as calls
-use Rattle.papaya_moments.specs.Given.Schedules.declared.call.OneKey.{OneKey}
-use Rattle.papaya_moments.specs.Given.Schedules.declared.call.OneKey.TheVariants as one
-use Rattle.papaya_moments.specs.Given.Scenes.Held.{Held}
-use Rattle.papaya_moments.specs.Given.Scenes.Stepping.{StepsFrom}
-use Rattle.papaya_moments.proofs.Given.Rule.Keys.Always.{always_plan_as}
-use Rattle.papaya_histories.proofs.Asking.{always_told, always_turned}
-use Rattle.papaya_named.specs.Machines.{machine_for}
+use Rattle.papaya_deeds.specs.Given.SeizeWords.Plan.{plan_as}
+use Rattle.papaya_deeds.specs.Given.SeizeWords.declared.fault.Fault.TheVariants.{RemoveNothing}
+use Rattle.papaya_agrees.specs.Given.Tables.declared.marks.TheConstants.{TOMBSTONE}
+use Rattle.papaya_agrees.specs.Given.Tables.declared.node.Node.{Node}
+use Rattle.papaya_agrees.specs.Given.Tables.declared.setting.Setting.{Setting}
+use Rattle.papaya_deeds.specs.Given.Resize.Sum.{sum_plan}
+use Rattle.papaya_deeds.specs.Given.Reserves.Reserve.{reserve_plan}
+use Rattle.papaya_deeds.specs.Given.Sweeps.Sweep.{plan_at as sweep_at}
+use Rattle.papaya_deeds.specs.Given.Sweeps.SweepPoints.{further, next_at, past, removes, reply_at}
+use Rattle.papaya_deeds.specs.Given.Sweeps.declared.sweep.Sweep.{Sweep}
+use Rattle.papaya_deeds.specs.Given.Sweeps.declared.sweep.Sweeping.{Sweeping}
+use Rattle.papaya_deeds.specs.Given.Sweeps.declared.sweep.Sweeping.TheVariants as sweeping
+use Rattle.papaya_deeds.specs.Given.Sweeps.declared.sweep.Swept.{Swept}
+use Rattle.papaya_deeds.specs.Given.Sweeps.declared.sweep.Swept.TheVariants as swept_as
+use Rattle.papaya_deeds.specs.Given.Raw.Call.{plan_at}
+use Rattle.papaya_deeds.specs.Given.Raw.CallAsks.{absent_told, present_told, told_at, with_absent, with_present}
+use Rattle.papaya_deeds.specs.Given.Raw.CallPoints.{at_gap, burying, ending, going, over}
+use Rattle.papaya_deeds.specs.Given.Raw.Machine.{called, counted, machine_asked, machine_replied, reserved, swept, sweep_told}
+use Rattle.papaya_deeds.specs.Given.Raw.declared.machines.answer.Called.{Called}
+use Rattle.papaya_deeds.specs.Given.Raw.declared.machines.answer.Called.TheVariants as says
+use Rattle.papaya_deeds.specs.Given.Raw.declared.machines.answer.End.{End}
+use Rattle.papaya_deeds.specs.Given.Raw.declared.machines.answer.End.TheVariants as ends
+use Rattle.papaya_deeds.specs.Given.Raw.declared.machines.answer.KeyAnswer.TheVariants as answers
+use Rattle.papaya_deeds.specs.Given.Raw.declared.machines.asking.Asking.TheVariants as asking
+use Rattle.papaya_deeds.specs.Given.Raw.declared.machines.asking.Gap.{Gap}
+use Rattle.papaya_deeds.specs.Given.Raw.declared.machines.asking.Gap.TheVariants as gaps
+use Rattle.papaya_deeds.specs.Given.Raw.declared.machines.asking.Reply.{Reply}
+use Rattle.papaya_deeds.specs.Given.Raw.declared.machines.asking.Reply.TheVariants as reply
+use Rattle.papaya_deeds.specs.Given.Raw.declared.machines.asking.Takes.{Takes}
+use Rattle.papaya_deeds.specs.Given.Raw.declared.machines.asking.Takes.TheVariants as takes
+use Rattle.papaya_deeds.specs.Given.Raw.declared.machines.asking.Told.TheVariants as tells
+use Rattle.papaya_deeds.specs.Given.Raw.declared.machines.call.Calling.{Calling}
+use Rattle.papaya_deeds.specs.Given.Raw.declared.machines.call.Calling.TheVariants as at
+use Rattle.papaya_deeds.specs.Given.Raw.declared.machines.call.KeyCall.{KeyCall}
+use Rattle.papaya_deeds.specs.Given.Raw.declared.machines.machine.Machine.{Machine}
+use Rattle.papaya_deeds.specs.Given.Raw.declared.machines.machine.Machine.TheVariants as kinds
+use Rattle.papaya_deeds.specs.Given.Raw.declared.machines.progress.Progress.{Progress}
+use Rattle.papaya_deeds.specs.Given.Raw.declared.machines.progress.Progress.TheVariants as progress
+use Rattle.papaya_agrees.specs.Given.Teller.declared.changed.Changed.TheVariants.{Nothing}
+use Rattle.papaya_deeds.specs.Given.Schedules.declared.call.Call.{Call}
+use Rattle.papaya_deeds.specs.Given.Schedules.declared.call.Call.TheVariants as calls
+use Rattle.papaya_deeds.specs.Given.Schedules.declared.call.OneKey.{OneKey}
+use Rattle.papaya_deeds.specs.Given.Schedules.declared.call.OneKey.TheVariants as one
+use Rattle.papaya_agrees.specs.Given.Scenes.Held.{Held}
+use Rattle.papaya_agrees.specs.Given.Scenes.Stepping.{StepsFrom}
+use Rattle.papaya_agrees.proofs.Given.Rule.Keys.Always.{always_plan_as}
+use Rattle.papaya_events.proofs.Given.Histories.Asking.{always_told, always_turned}
+use Rattle.papaya_agrees.specs.Given.Named.Machines.{machine_for}
 use Rattle.papaya_linear.proofs.Aloud as keys
 use Rattle.papaya_linear.proofs.AloudSweeps as sweeps
 

@@ -1,3 +1,4 @@
 pub mod Shown
 pub mod Coming
 pub mod Linear
+pub mod Given

@@ -1,14 +1,14 @@
 -- What the moment of a history shows of the scene to which a list of acts has led, by which its next entry is linearizable. Callers have their numbers as names.
 use Rattle.std.specs.Prelude.{Bool}
-use Rattle.papaya_moments.specs.Given.Schedules.Moment.{Moment}
-use Rattle.papaya_moments.specs.Given.Schedules.Transition.{Past}
-use Rattle.papaya_moments.specs.Given.Effects.Known.{Known}
-use Rattle.papaya_moments.specs.Given.Scenes.Scene.{Scene}
-use Rattle.papaya_moments.specs.Whole.{ShowsWhole}
-use Rattle.papaya_histories.specs.AsCalled.{ShowsAsCalled}
-use Rattle.papaya_histories.specs.Due.{ShowsDue}
-use Rattle.papaya_histories.specs.Questions.{ShowsQuestions}
-use Rattle.papaya_logged.specs.Given.Kept.Kept.{ShowsKept}
+use Rattle.papaya_deeds.specs.Given.Schedules.Moment.{Moment}
+use Rattle.papaya_deeds.specs.Given.Schedules.Transition.{Past}
+use Rattle.papaya_agrees.specs.Given.Effects.Known.{Known}
+use Rattle.papaya_agrees.specs.Given.Scenes.Scene.{Scene}
+use Rattle.papaya_events.specs.Given.Moments.Whole.{ShowsWhole}
+use Rattle.papaya_events.specs.Given.Histories.AsCalled.{ShowsAsCalled}
+use Rattle.papaya_events.specs.Given.Histories.Due.{ShowsDue}
+use Rattle.papaya_events.specs.Given.Histories.Questions.{ShowsQuestions}
+use Rattle.papaya_events.specs.Given.Kept.Kept.{ShowsKept}
 use Rattle.papaya_deeds.specs.Deeds.{named}
 
 -- It shows the whole scene, and what every step keeps; what calls owe as answers, what those on no key are called for, and what calls have asked.

@@ -2,24 +2,24 @@
 use Rattle.std.specs.Prelude.{◌*◌}
 use Rattle.std.proofs.Common.{◌≡◌, ℕ, suc, ◌<◌, ◌≤◌, ◌⊎◌, Bool, true, false, cond, eqb, inl, inr, refl, arith, ap, sym, subst, ◌∙◌, eqb-true}
 use Rattle.std.proofs.lemmas.Bool.{cases_lt}
-use Rattle.papaya_scenes.specs.Given.Seize.World.{World, Cutting}
-use Rattle.papaya_scenes.specs.Given.Seize.declared.rows.settle.Settle.{Settle}
-use Rattle.papaya_scenes.specs.Given.Tables.Chunks.{is_incremental}
-use Rattle.papaya_scenes.specs.Given.Tables.declared.node.Node.{Node}
-use Rattle.papaya_scenes.specs.Given.Tables.declared.setting.Setting.{Setting}
-use Rattle.papaya_scenes.specs.Given.Tables.declared.table.Table.{Table}
-use Rattle.papaya_scenes.specs.Given.Resize.CopierStates.{standing}
-use Rattle.papaya_scenes.specs.Given.Resize.declared.copier.Copier.{Copier}
-use Rattle.papaya_scenes.specs.Given.Resize.declared.copier.Copying.{Copying}
-use Rattle.papaya_scenes.specs.Given.Resize.declared.copier.Copying.TheVariants as copies
-use Rattle.papaya_scenes.specs.Given.Rule.Chart.{Chart}
-use Rattle.papaya_scenes.specs.Given.Rule.Words.{Blocks}
-use Rattle.papaya_scenes.specs.Given.Points.FactsCopies.{CopyingFacts, CopierFacts}
-use Rattle.papaya_scenes.specs.Given.Points.FactsCopiesBlocking.{CopyingFactsBlocking, CopierFactsBlocking}
-use Rattle.papaya_scenes.specs.Given.Points.Told.{IsRowOfCopier}
-use Rattle.papaya_scenes.specs.Given.Late.FactsReserves.{CopiesWhole, IsEnding}
-use Rattle.papaya_scenes.specs.Given.Late.LateCopies.{LateCopying, LateCopierFacts}
-use Rattle.papaya_scenes.specs.Given.Callers.Rows.{past_copying}
+use Rattle.seize_acts.specs.Given.Seize.World.{World, Cutting}
+use Rattle.seize_acts.specs.Given.Seize.declared.rows.settle.Settle.{Settle}
+use Rattle.papaya_carries.specs.Given.Tables.Chunks.{is_incremental}
+use Rattle.papaya_carries.specs.Given.Tables.declared.node.Node.{Node}
+use Rattle.papaya_carries.specs.Given.Tables.declared.setting.Setting.{Setting}
+use Rattle.papaya_carries.specs.Given.Tables.declared.table.Table.{Table}
+use Rattle.papaya_carries.specs.Given.Resize.CopierStates.{standing}
+use Rattle.papaya_carries.specs.Given.Resize.declared.copier.Copier.{Copier}
+use Rattle.papaya_carries.specs.Given.Resize.declared.copier.Copying.{Copying}
+use Rattle.papaya_carries.specs.Given.Resize.declared.copier.Copying.TheVariants as copies
+use Rattle.papaya_carries.specs.Given.Rule.Chart.{Chart}
+use Rattle.papaya_carries.specs.Given.Rule.Words.{Blocks}
+use Rattle.papaya_reclaims.specs.Given.Points.FactsCopies.{CopyingFacts, CopierFacts}
+use Rattle.papaya_reclaims.specs.Given.Points.FactsCopiesBlocking.{CopyingFactsBlocking, CopierFactsBlocking}
+use Rattle.papaya_reclaims.specs.Given.Points.Told.{IsRowOfCopier}
+use Rattle.papaya_reclaims.specs.Given.Late.FactsReserves.{CopiesWhole, IsEnding}
+use Rattle.papaya_reclaims.specs.Given.Late.LateCopies.{LateCopying, LateCopierFacts}
+use Rattle.papaya_reclaims.specs.Given.Callers.Rows.{past_copying}
 use Rattle.papaya_carries.specs.Theirs.{IsDueAt, IsAhead, next_of_them}
 
 module _ {K V : Type 0} (same : K → K → Bool) (hash : K → ℕ) (w : World (Node K V)) (caller : ℕ) (setting : Setting) (c : Chart K) (blocks : Blocks) where

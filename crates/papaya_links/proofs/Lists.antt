@@ -1,31 +1,31 @@
 -- Wherever a list of acts has led, the world is tied, what one more step unlinks no links lead to, and what callers see is closed.
 use Rattle.std.specs.Prelude.{Some}
 use Rattle.std.proofs.Common.{◌≡◌, ◌⊎◌, ◌<◌, ℕ, Bool, true, false, List, inl, inr, refl, arith, ap, sym, subst, ◌∙◌}
-use Rattle.papaya_scenes.specs.Given.SeizeWords.Mem.{Mem, word_at}
-use Rattle.papaya_scenes.specs.Given.SeizeWords.declared.at.At.TheVariants.{Root, Used}
-use Rattle.papaya_scenes.specs.Given.Seize.Law.{reachable}
-use Rattle.papaya_scenes.specs.Given.Seize.World.{World, InUse, Event, Runs, with_at}
-use Rattle.papaya_scenes.specs.Given.Seize.declared.progress.Progress.{Progress}
-use Rattle.papaya_scenes.specs.Given.Seize.declared.progress.Progress.TheVariants as progress
-use Rattle.papaya_scenes.specs.Given.Seize.declared.rows.settle.Settled.{Settled}
-use Rattle.papaya_scenes.specs.Given.Seize.declared.rows.settle.Settled.TheVariants as settled
-use Rattle.papaya_scenes.proofs.Given.SeizeAlone.Histories.Reached.{Reached as IsReached}
-use Rattle.papaya_scenes.specs.Given.Tables.Nodes.{deferred_word}
-use Rattle.papaya_scenes.specs.Given.Tables.declared.node.Node.{Node}
-use Rattle.papaya_scenes.specs.Given.Tables.declared.setting.Setting.{Setting}
-use Rattle.papaya_scenes.specs.Given.Resize.declared.new_map.NewMap.{NewMap}
-use Rattle.papaya_scenes.specs.Given.Raw.declared.machines.end_map.EndMap.{EndMap}
-use Rattle.papaya_scenes.proofs.Given.Callers.Together.At.{at_same}
-use Rattle.papaya_scenes.proofs.Given.Callers.Together.Came.{came_reached}
-use Rattle.papaya_scenes.specs.Given.Finishes.Endings.{Finishing, MakingStepsAmong, StepsOfEnding}
-use Rattle.papaya_scenes.specs.Given.Finishes.FactsEnds.{TakesLeft, WritesRoot, events_of}
-use Rattle.papaya_scenes.specs.Given.Finishes.Makings.{Beginning, IsFirstTable, StepsOfMaking}
+use Rattle.seize_acts.specs.Given.SeizeWords.Mem.{Mem, word_at}
+use Rattle.seize_acts.specs.Given.SeizeWords.declared.at.At.TheVariants.{Root, Used}
+use Rattle.seize_acts.specs.Given.Seize.Law.{reachable}
+use Rattle.seize_acts.specs.Given.Seize.World.{World, InUse, Event, Runs, with_at}
+use Rattle.seize_acts.specs.Given.Seize.declared.progress.Progress.{Progress}
+use Rattle.seize_acts.specs.Given.Seize.declared.progress.Progress.TheVariants as progress
+use Rattle.seize_acts.specs.Given.Seize.declared.rows.settle.Settled.{Settled}
+use Rattle.seize_acts.specs.Given.Seize.declared.rows.settle.Settled.TheVariants as settled
+use Rattle.seize_acts.proofs.Given.SeizeAlone.Histories.Reached.{Reached as IsReached}
+use Rattle.papaya_carries.specs.Given.Tables.Nodes.{deferred_word}
+use Rattle.papaya_carries.specs.Given.Tables.declared.node.Node.{Node}
+use Rattle.papaya_carries.specs.Given.Tables.declared.setting.Setting.{Setting}
+use Rattle.papaya_carries.specs.Given.Resize.declared.new_map.NewMap.{NewMap}
+use Rattle.papaya_reclaims.specs.Given.Raw.declared.machines.end_map.EndMap.{EndMap}
+use Rattle.papaya_reclaims.proofs.Given.Callers.Together.At.{at_same}
+use Rattle.papaya_reclaims.proofs.Given.Callers.Together.Came.{came_reached}
+use Rattle.papaya_reclaims.specs.Given.Finishes.Endings.{Finishing, MakingStepsAmong, StepsOfEnding}
+use Rattle.papaya_reclaims.specs.Given.Finishes.FactsEnds.{TakesLeft, WritesRoot, events_of}
+use Rattle.papaya_reclaims.specs.Given.Finishes.Makings.{Beginning, IsFirstTable, StepsOfMaking}
 use Rattle.papaya_reclaims.specs.Slots.{AreItsRows}
-use Rattle.papaya_acts.specs.Acts.{Act, Answer}
-use Rattle.papaya_acts.specs.Acts.{BeginsCall, StepsCall, TellsCall, AsksCall, StopsCall, BeginsMaking, StepsMaking, BeginsEnding, StepsEnding, BeginsRow, StepsRow}
-use Rattle.papaya_acts.specs.Doings.{Doing, Does, BeginsReclaiming, BeginsClearing, StepsReclaiming, Chooses, Stage, HasDone}
-use Rattle.papaya_acts.specs.Leads.{AllStand, Led, MakingCame, EndingCame}
-use Rattle.papaya_acts.specs.Lists.{Course}
+use Rattle.papaya_carries.specs.Given.Acts.Acts.{Act, Answer}
+use Rattle.papaya_carries.specs.Given.Acts.Acts.{BeginsCall, StepsCall, TellsCall, AsksCall, StopsCall, BeginsMaking, StepsMaking, BeginsEnding, StepsEnding, BeginsRow, StepsRow}
+use Rattle.papaya_carries.specs.Given.Acts.Doings.{Doing, Does, BeginsReclaiming, BeginsClearing, StepsReclaiming, Chooses, Stage, HasDone}
+use Rattle.papaya_carries.specs.Given.Acts.Leads.{AllStand, Led, MakingCame, EndingCame}
+use Rattle.papaya_carries.specs.Given.Acts.Lists.{Course}
 use Rattle.papaya_carries.specs.Lists.{AreTheirs}
 use Rattle.papaya_carries.proofs.Acts.{acts_keep_theirs}
 use Rattle.papaya_carries.proofs.Lists.{lists_keep_theirs, theirs_on}
@@ -36,7 +36,7 @@ use Rattle.papaya_links.proofs.Makings.{first_in_use, making_cut_off}
 use Rattle.papaya_links.proofs.Steps.{deed_cut, rows_none, kind_cut}
 use Rattle.papaya_links.proofs.Tied.{is_held_inside, scenes_are_tied}
 use Rattle.papaya_links.proofs.Unlinked.{IsCutOff, begin_none, step_none}
-use Rattle.papaya_scenes.specs.Scene.{Scene}
+use Rattle.papaya_carries.specs.Given.Scenes.Scene.{Scene}
 
 module _ {K V S : Type 0} (same : K → K → Bool) (hash : S → K → ℕ) (batch_size roots : ℕ) (slot : ℕ → ℕ) (s n : Scene K V) (all : AllStand same hash batch_size roots slot s) (stand : AllStand same hash batch_size roots slot n) (b : ℕ) where
   reached : IsReached deferred_word batch_size s.world

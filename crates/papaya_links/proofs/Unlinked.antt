@@ -2,17 +2,17 @@
 use Rattle.std.specs.Prelude.{Option, Ok, Err, is_some}
 use Rattle.std.proofs.Common.{◌≡◌, ◌≢◌, ◌⊎◌, ℕ, suc, Bool, true, false, cond, eqb, List, [], ◌∷◌, ◌++◌, inl, inr, refl, ap, sym, subst, ◌∙◌}
 use Rattle.std.proofs.lemmas.Bool.{cases_eq, eq-eqb, ne_eqb}
-use Rattle.papaya_scenes.specs.Given.SeizeWords.Mem.{Mem, Took, value_in, value_at}
-use Rattle.papaya_scenes.specs.Given.SeizeWords.Op.{Out, Make, Found, Stored, Exchanged, Made, Taken, Roomed}
-use Rattle.papaya_scenes.specs.Given.Seize.Law as law
-use Rattle.papaya_scenes.specs.Given.Seize.Law.{Effect, is_somewhere, reachable, Linked, Unlinked, Deferred, Dropped, Ended, LeftOver}
-use Rattle.papaya_scenes.specs.Given.Seize.Sequence.{IsUsers}
-use Rattle.papaya_scenes.specs.Given.Seize.World.{World, Hand, NoBlock, Making, InUse, Parting, Cutting, Handed, LeftTo, Request, Event, Begin, Step, Makes, Drops, Links, Parts, Unlinks, Rewrites, Operates, Ends, LeavesOver, Relinks, Clears, Chooses, MayCut, Happens, Runs, Steps', Begins, Register', Enter', Leave', LeaveOwned, Refresh, Unregister', Retire, Flush, Defer', made_by, with_at}
-use Rattle.papaya_scenes.proofs.Given.SeizeRule.Rows.Effects.{IsOneStep}
-use Rattle.papaya_scenes.proofs.Given.SeizeAlone.Histories.NotTaken.{did}
-use Rattle.papaya_scenes.proofs.Given.SeizeAlone.Histories.Reached.{Reached, happens_reached}
-use Rattle.papaya_scenes.specs.Given.Rule.InWorld.{AllUsers}
-use Rattle.papaya_scenes.proofs.Given.Rule.World.Hands.{at_cases}
+use Rattle.seize_acts.specs.Given.SeizeWords.Mem.{Mem, Took, value_in, value_at}
+use Rattle.seize_acts.specs.Given.SeizeWords.Op.{Out, Make, Found, Stored, Exchanged, Made, Taken, Roomed}
+use Rattle.seize_acts.specs.Given.Seize.Law as law
+use Rattle.seize_acts.specs.Given.Seize.Law.{Effect, is_somewhere, reachable, Linked, Unlinked, Deferred, Dropped, Ended, LeftOver}
+use Rattle.seize_acts.specs.Given.Seize.Sequence.{IsUsers}
+use Rattle.seize_acts.specs.Given.Seize.World.{World, Hand, NoBlock, Making, InUse, Parting, Cutting, Handed, LeftTo, Request, Event, Begin, Step, Makes, Drops, Links, Parts, Unlinks, Rewrites, Operates, Ends, LeavesOver, Relinks, Clears, Chooses, MayCut, Happens, Runs, Steps', Begins, Register', Enter', Leave', LeaveOwned, Refresh, Unregister', Retire, Flush, Defer', made_by, with_at}
+use Rattle.seize_acts.proofs.Given.SeizeRule.Rows.Effects.{IsOneStep}
+use Rattle.seize_acts.proofs.Given.SeizeAlone.Histories.NotTaken.{did}
+use Rattle.seize_acts.proofs.Given.SeizeAlone.Histories.Reached.{Reached, happens_reached}
+use Rattle.papaya_carries.specs.Given.Rule.InWorld.{AllUsers}
+use Rattle.papaya_carries.proofs.Given.Rule.World.Hands.{at_cases}
 use Rattle.papaya_links.specs.Tied.{unlinkings}
 use Rattle.papaya_links.proofs.Places.{IsGone, gone_there, cut_nowhere}
 

@@ -18,3 +18,7 @@ pub use Rattle.papaya_settles.proofs.Given.Spots
 pub use Rattle.papaya_settles.proofs.Given.Moments
 pub use Rattle.papaya_settles.proofs.Given.Histories
 pub use Rattle.papaya_settles.proofs as Settles
+pub use Rattle.papaya_settles.proofs.Given.Reclaims
+pub use Rattle.papaya_settles.proofs.Given.SeizeReclaims
+pub use Rattle.papaya_settles.proofs.Given.Named
+pub use Rattle.papaya_settles.proofs.Given.Tells

@@ -25,3 +25,6 @@ pub use Rattle.papaya_settles.specs.Given.Spots
 pub use Rattle.papaya_settles.specs.Given.Moments
 pub use Rattle.papaya_settles.specs.Given.Histories
 pub use Rattle.papaya_settles.specs as Settles
+pub use Rattle.papaya_settles.specs.Given.Reclaims
+pub use Rattle.papaya_settles.specs.Given.SeizeReclaims
+pub use Rattle.papaya_settles.specs.Given.Named

@@ -4,57 +4,57 @@ use Rattle.std.specs.List.{AllByRecursion}
 use Rattle.std.proofs.Common.{refl, sym, ap, subst, ◌∙◌, arith}
 use Rattle.std.proofs.lemmas.Grind.{flat_map-append}
 use Rattle.std.proofs.lemmas.List.{append-nil, append_assoc, append_cancel_left, length-append}
-use Rattle.papaya_kept.specs.Given.SeizeWords.declared.at.At.TheVariants.{Root, Used, Slot, Entry, Word}
-use Rattle.papaya_kept.specs.Given.SeizeWords.Mem.{value_at}
+use Rattle.seize.specs.Given.SeizeWords.declared.at.At.TheVariants.{Root, Used, Slot, Entry, Word}
+use Rattle.seize.specs.Given.SeizeWords.Mem.{value_at}
 use Rattle.seize.specs.World.{World}
 use Rattle.seize.specs.declared.rows.settle.Settled.{Settled}
 use Rattle.seize.specs.declared.rows.settle.Settled.TheVariants as settled
-use Rattle.papaya_kept.specs.Given.Tables.declared.node.Node.{Node}
-use Rattle.papaya_kept.specs.Given.Tables.declared.node.Node.TheVariants as node
+use Rattle.papaya_runs.specs.Given.Tables.declared.node.Node.{Node}
+use Rattle.papaya_runs.specs.Given.Tables.declared.node.Node.TheVariants as node
 use Rattle.papaya_runs.specs.declared.record.Pair.{Pair}
 use Rattle.papaya_runs.specs.Pairs.{numbers}
 use Rattle.papaya_runs.specs.Runs.{IsStored}
 use Rattle.papaya_runs.proofs.Pairs.Held.{numbers-append}
-use Rattle.papaya_schedules.specs.declared.effect.Effect.{Effect}
-use Rattle.papaya_schedules.specs.declared.effect.Effect.TheVariants.{Asked, PairGivenUp}
-use Rattle.papaya_schedules.specs.declared.effect.Growth.TheVariants.{ABucket}
-use Rattle.papaya_schedules.specs.declared.effect.Table.{Table}
-use Rattle.papaya_schedules.specs.Effects.{pairs_back, with_effects}
-use Rattle.papaya_schedules.specs.Moment.{Moment}
-use Rattle.papaya_teller.specs.declared.changed.Changed.{Changed}
-use Rattle.papaya_teller.specs.declared.changed.Changed.TheVariants as changed
-use Rattle.papaya_effects.specs.Effects.{effects_of, names_same, pair_taken, table_taken, taken_by}
-use Rattle.papaya_effects.specs.Known.{Known, known}
-use Rattle.papaya_effects.specs.declared.acting.Acting.{Acting}
-use Rattle.papaya_effects.specs.declared.acting.Acting.TheVariants as acts
-use Rattle.papaya_effects.specs.declared.role.Role.{Role}
-use Rattle.papaya_effects.specs.declared.role.Role.TheVariants as role
-use Rattle.papaya_executor.specs.declared.executor.Executor.{Executor}
-use Rattle.papaya_scenes.specs.declared.row.RowTold.{RowTold}
-use Rattle.papaya_scenes.specs.declared.row.RowTold.TheVariants as told
-use Rattle.papaya_scenes.specs.declared.row.SlotRow.{SlotRow}
-use Rattle.papaya_executor.specs.declared.worker.Work.TheVariants.{OnSlot}
-use Rattle.papaya_kept.specs.Given.Finishes.Endings.{Finishing}
-use Rattle.papaya_kept.specs.Given.Finishes.FactsEnds.{taken_by as taken_of}
-use Rattle.papaya_kept.specs.Given.Finishes.Maps.{Standing}
-use Rattle.papaya_kept.specs.Given.Follows.Blocks.{HasRole}
-use Rattle.papaya_kept.specs.Given.Follows.Steps.{TakesNone}
-use Rattle.papaya_kept.specs.Given.Others.Endings.{TellsNext}
-use Rattle.papaya_kept.specs.Given.Others.Gives.{GivesWhatItTook}
-use Rattle.papaya_kept.proofs.Given.Others.Ends.{tells_next}
-use Rattle.papaya_kept.proofs.Given.Others.Quiet.{stored_none}
-use Rattle.papaya_kept.proofs.Given.Others.RowGives.{rows_give_what_they_took}
-use Rattle.papaya_kept.proofs.Given.Others.RowPlans.{TellsRow, row_tells}
+use Rattle.papaya_remains.specs.Given.Schedules.declared.effect.Effect.{Effect}
+use Rattle.papaya_remains.specs.Given.Schedules.declared.effect.Effect.TheVariants.{Asked, PairGivenUp}
+use Rattle.papaya_remains.specs.Given.Schedules.declared.effect.Growth.TheVariants.{ABucket}
+use Rattle.papaya_remains.specs.Given.Schedules.declared.effect.Table.{Table}
+use Rattle.papaya_remains.specs.Given.Schedules.Effects.{pairs_back, with_effects}
+use Rattle.papaya_remains.specs.Given.Schedules.Moment.{Moment}
+use Rattle.papaya_reclaiming.specs.Given.Teller.declared.changed.Changed.{Changed}
+use Rattle.papaya_reclaiming.specs.Given.Teller.declared.changed.Changed.TheVariants as changed
+use Rattle.papaya_remains.specs.Given.Effects.Effects.{effects_of, names_same, pair_taken, table_taken, taken_by}
+use Rattle.papaya_remains.specs.Given.Effects.Known.{Known, known}
+use Rattle.papaya_remains.specs.Given.Effects.declared.acting.Acting.{Acting}
+use Rattle.papaya_remains.specs.Given.Effects.declared.acting.Acting.TheVariants as acts
+use Rattle.papaya_remains.specs.Given.Effects.declared.role.Role.{Role}
+use Rattle.papaya_remains.specs.Given.Effects.declared.role.Role.TheVariants as role
+use Rattle.papaya_reclaiming.specs.Given.Executor.declared.executor.Executor.{Executor}
+use Rattle.papaya_reclaiming.specs.Given.Scenes.declared.row.RowTold.{RowTold}
+use Rattle.papaya_reclaiming.specs.Given.Scenes.declared.row.RowTold.TheVariants as told
+use Rattle.papaya_reclaiming.specs.Given.Scenes.declared.row.SlotRow.{SlotRow}
+use Rattle.papaya_reclaiming.specs.Given.Executor.declared.worker.Work.TheVariants.{OnSlot}
+use Rattle.papaya_reclaiming.specs.Given.Finishes.Endings.{Finishing}
+use Rattle.papaya_reclaiming.specs.Given.Finishes.FactsEnds.{taken_by as taken_of}
+use Rattle.papaya_reclaiming.specs.Given.Finishes.Maps.{Standing}
+use Rattle.papaya_remains.specs.Given.Follows.Blocks.{HasRole}
+use Rattle.papaya_remains.specs.Given.Follows.Steps.{TakesNone}
+use Rattle.papaya_remains.specs.Given.Others.Endings.{TellsNext}
+use Rattle.papaya_remains.specs.Given.Others.Gives.{GivesWhatItTook}
+use Rattle.papaya_remains.proofs.Given.Others.Ends.{tells_next}
+use Rattle.papaya_remains.proofs.Given.Others.Quiet.{stored_none}
+use Rattle.papaya_remains.proofs.Given.Others.RowGives.{rows_give_what_they_took}
+use Rattle.papaya_remains.proofs.Given.Others.RowPlans.{TellsRow, row_tells}
 use Rattle.papaya_logged.specs.Back.{BringsBack, ComesBack, EndBringsBack, number_back, number_in, number_last, numbered, pair_back, row_back, settled_back}
 use Rattle.papaya_logged.specs.Ends.{EndRan, EndSteps, ended_as, is_done}
 use Rattle.papaya_logged.specs.OnSlots.{OnSlotRan, has_come}
 use Rattle.papaya_logged.specs.Shown.{IsShown}
 use Rattle.papaya_logged.specs.declared.logged.Logged.{Logged}
-use Rattle.papaya_executor.specs.IsThere.{IsThere, held_by, work_of}
-use Rattle.papaya_executor.specs.OnSlots.{RowStepsThere}
-use Rattle.papaya_scenes.specs.Ending.{EndingComesTo, EndingLeads}
-use Rattle.papaya_scenes.specs.Scene.{Scene}
-use Rattle.papaya_executor.proofs.RowLeads.{held_row}
+use Rattle.papaya_reclaiming.specs.Given.Executor.IsThere.{IsThere, held_by, work_of}
+use Rattle.papaya_reclaiming.specs.Given.Executor.OnSlots.{RowStepsThere}
+use Rattle.papaya_reclaiming.specs.Given.Scenes.Ending.{EndingComesTo, EndingLeads}
+use Rattle.papaya_reclaiming.specs.Given.Scenes.Scene.{Scene}
+use Rattle.papaya_reclaiming.proofs.Given.Executor.RowLeads.{held_row}
 
 -- the last effect of a list
 at_end : (ys : List Effect) (f : Effect) → slice_get (ys ++ f ∷ []) (length ys) ≡ Some f

@@ -4,22 +4,22 @@ use Rattle.std.proofs.Common.{refl, ap, ◌∙◌, arith}
 use Rattle.std.proofs.lemmas.Grind.{flat_map-append}
 use Rattle.std.proofs.lemmas.List.{append-nil}
 use Rattle.seize.specs.World.{times}
-use Rattle.papaya_kept.specs.Given.Tables.Chunks.{is_incremental}
-use Rattle.papaya_kept.specs.Given.Tables.declared.setting.Setting.{Setting}
-use Rattle.papaya_kept.specs.Given.Rule.Chart.{Chart}
-use Rattle.papaya_kept.specs.Given.Rule.Words.{Blocks}
-use Rattle.papaya_schedules.specs.declared.effect.Effect.{Effect}
-use Rattle.papaya_schedules.specs.declared.effect.Effect.TheVariants.{Ended, Taken}
-use Rattle.papaya_effects.specs.Effects.{taken_by}
-use Rattle.papaya_effects.specs.Known.{Known}
-use Rattle.papaya_effects.specs.declared.acting.Acting.TheVariants.{Ending}
-use Rattle.papaya_effects.specs.declared.role.Role.{Role}
-use Rattle.papaya_kept.specs.Given.Finishes.Endings.{AllPairsOnce}
-use Rattle.papaya_kept.specs.Given.Finishes.FactsEnds.{back_of}
-use Rattle.papaya_kept.specs.Given.Finishes.Orders.{pairs_of, tables_in}
-use Rattle.papaya_kept.proofs.Given.Finishes.Ends.CountedBlocks.{some_here}
-use Rattle.papaya_kept.specs.Given.Follows.Maps.{table_of}
-use Rattle.papaya_kept.specs.Given.Moments.WholeEnds.{all_ended, tables_ended}
+use Rattle.papaya_runs.specs.Given.Tables.Chunks.{is_incremental}
+use Rattle.papaya_runs.specs.Given.Tables.declared.setting.Setting.{Setting}
+use Rattle.papaya_reclaiming.specs.Given.Rule.Chart.{Chart}
+use Rattle.papaya_reclaiming.specs.Given.Rule.Words.{Blocks}
+use Rattle.papaya_remains.specs.Given.Schedules.declared.effect.Effect.{Effect}
+use Rattle.papaya_remains.specs.Given.Schedules.declared.effect.Effect.TheVariants.{Ended, Taken}
+use Rattle.papaya_remains.specs.Given.Effects.Effects.{taken_by}
+use Rattle.papaya_remains.specs.Given.Effects.Known.{Known}
+use Rattle.papaya_remains.specs.Given.Effects.declared.acting.Acting.TheVariants.{Ending}
+use Rattle.papaya_remains.specs.Given.Effects.declared.role.Role.{Role}
+use Rattle.papaya_reclaiming.specs.Given.Finishes.Endings.{AllPairsOnce}
+use Rattle.papaya_reclaiming.specs.Given.Finishes.FactsEnds.{back_of}
+use Rattle.papaya_reclaiming.specs.Given.Finishes.Orders.{pairs_of, tables_in}
+use Rattle.papaya_reclaiming.proofs.Given.Finishes.Ends.CountedBlocks.{some_here}
+use Rattle.papaya_remains.specs.Given.Follows.Maps.{table_of}
+use Rattle.papaya_remains.specs.Given.Moments.WholeEnds.{all_ended, tables_ended}
 use Rattle.papaya_logged.specs.Ends.{NotesMap, ended_as}
 
 -- a pair of the list is one of the map

@@ -3,32 +3,32 @@ use Rattle.std.specs.Prelude.{◌≡◌, ℕ, Bool, List, ◌++◌, Some, None}
 use Rattle.std.proofs.Common.{refl, ap, subst, sym, ◌∙◌}
 use Rattle.seize.specs.declared.rows.settle.Settled.{Settled}
 use Rattle.seize.specs.declared.rows.settle.Settled.TheVariants as settled
-use Rattle.papaya_kept.specs.Given.Tables.Chunks.{is_incremental}
-use Rattle.papaya_kept.specs.Given.Tables.declared.node.Node.{Node}
-use Rattle.papaya_kept.proofs.Given.Rule.Laws.{current_is_known}
-use Rattle.papaya_schedules.specs.declared.effect.Effect.{Effect}
-use Rattle.papaya_schedules.specs.After.{if_any}
-use Rattle.papaya_schedules.specs.Effects.{with_effects}
-use Rattle.papaya_schedules.specs.Handing.{in_order}
-use Rattle.papaya_schedules.specs.Moment.{Moment}
-use Rattle.papaya_effects.specs.Effects.{effects_of, known_after}
-use Rattle.papaya_effects.specs.Known.{Known, known}
-use Rattle.papaya_effects.specs.declared.notes.Notes.{Notes}
-use Rattle.papaya_effects.specs.declared.acting.Acting.TheVariants.{Ending}
-use Rattle.papaya_kept.specs.Given.Finishes.Endings.{Finishing, AllPairsOnce, finishing_of}
-use Rattle.papaya_kept.specs.Given.Finishes.FactsEnds.{taken_by as taken_of}
-use Rattle.papaya_kept.specs.Given.Finishes.Maps.{Standing}
-use Rattle.papaya_executor.specs.declared.executor.Executor.{Executor}
-use Rattle.papaya_kept.specs.Given.Others.Endings.{ending_after, without_map}
-use Rattle.papaya_kept.proofs.Given.Moments.Ends.{endings_begin_whole, endings_keep_whole}
-use Rattle.papaya_kept.proofs.Given.Moments.Over.{endings_are_over_whole}
-use Rattle.papaya_kept.proofs.Given.Moments.WholeEnds.{whole_ends_take_all}
-use Rattle.papaya_kept.specs.Given.Moments.WholeEnds.{all_ended}
-use Rattle.papaya_kept.specs.Given.Moments.Whole.{ShowsWhole}
+use Rattle.papaya_runs.specs.Given.Tables.Chunks.{is_incremental}
+use Rattle.papaya_runs.specs.Given.Tables.declared.node.Node.{Node}
+use Rattle.papaya_reclaiming.proofs.Given.Rule.Laws.{current_is_known}
+use Rattle.papaya_remains.specs.Given.Schedules.declared.effect.Effect.{Effect}
+use Rattle.papaya_remains.specs.Given.Schedules.After.{if_any}
+use Rattle.papaya_remains.specs.Given.Schedules.Effects.{with_effects}
+use Rattle.papaya_remains.specs.Given.Schedules.Handing.{in_order}
+use Rattle.papaya_remains.specs.Given.Schedules.Moment.{Moment}
+use Rattle.papaya_remains.specs.Given.Effects.Effects.{effects_of, known_after}
+use Rattle.papaya_remains.specs.Given.Effects.Known.{Known, known}
+use Rattle.papaya_remains.specs.Given.Effects.declared.notes.Notes.{Notes}
+use Rattle.papaya_remains.specs.Given.Effects.declared.acting.Acting.TheVariants.{Ending}
+use Rattle.papaya_reclaiming.specs.Given.Finishes.Endings.{Finishing, AllPairsOnce, finishing_of}
+use Rattle.papaya_reclaiming.specs.Given.Finishes.FactsEnds.{taken_by as taken_of}
+use Rattle.papaya_reclaiming.specs.Given.Finishes.Maps.{Standing}
+use Rattle.papaya_reclaiming.specs.Given.Executor.declared.executor.Executor.{Executor}
+use Rattle.papaya_remains.specs.Given.Others.Endings.{ending_after, without_map}
+use Rattle.papaya_remains.proofs.Given.Moments.Ends.{endings_begin_whole, endings_keep_whole}
+use Rattle.papaya_remains.proofs.Given.Moments.Over.{endings_are_over_whole}
+use Rattle.papaya_remains.proofs.Given.Moments.WholeEnds.{whole_ends_take_all}
+use Rattle.papaya_remains.specs.Given.Moments.WholeEnds.{all_ended}
+use Rattle.papaya_remains.specs.Given.Moments.Whole.{ShowsWhole}
 use Rattle.papaya_logged.specs.Ends.{is_done, AllEnds, NotesMap, NotedStill, EndIsBegun, EndGoesOn, EndSteps, EndIsOver}
-use Rattle.papaya_kept.specs.Kept.{ShowsKept}
-use Rattle.papaya_kept.proofs.Others.{endings_begin_kept, endings_keep_kept, endings_find_kept}
-use Rattle.papaya_kept.proofs.Stays.{stays_kept}
+use Rattle.papaya_remains.specs.Given.Kept.Kept.{ShowsKept}
+use Rattle.papaya_remains.proofs.Given.Kept.Others.{endings_begin_kept, endings_keep_kept, endings_find_kept}
+use Rattle.papaya_remains.proofs.Given.Kept.Stays.{stays_kept}
 use Rattle.papaya_logged.specs.Shown.{IsShown}
 use Rattle.papaya_logged.specs.Waits.{TellsThen, TellsWaiting}
 use Rattle.papaya_logged.specs.declared.logged.Logged.{Logged}
@@ -38,10 +38,10 @@ use Rattle.papaya_logged.proofs.EndOrder.{all_told, pairs_ordered}
 use Rattle.papaya_logged.proofs.EndLists.{once}
 use Rattle.papaya_logged.proofs.EndTold.{did_end, ends_alone, noted_on}
 use Rattle.papaya_logged.proofs.EndWaits.{waits_begin, waits_said}
-use Rattle.papaya_executor.specs.Ending.{EndingBegins, EndsThere}
-use Rattle.papaya_executor.specs.IsThere.{IsThere, KeepsGiven, held_by}
-use Rattle.papaya_scenes.specs.Ending.{ending_begun}
-use Rattle.papaya_scenes.specs.Scene.{Scene}
+use Rattle.papaya_reclaiming.specs.Given.Executor.Ending.{EndingBegins, EndsThere}
+use Rattle.papaya_reclaiming.specs.Given.Executor.IsThere.{IsThere, KeepsGiven, held_by}
+use Rattle.papaya_reclaiming.specs.Given.Scenes.Ending.{ending_begun}
+use Rattle.papaya_reclaiming.specs.Given.Scenes.Scene.{Scene}
 use Rattle.papaya_logged.proofs.Held.{ending_held}
 
 module _ {K V S : Type 0} (same : K → K → Bool) (hash : K → ℕ) where

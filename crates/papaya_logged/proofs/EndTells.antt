@@ -1,29 +1,29 @@
 -- What a step of the end of a map tells: that it wrote a word of its root, or the link of a pair that waits, or that it took a block away. One that takes none has no effect.
 use Rattle.std.specs.Prelude.{◌≡◌, ℕ, Bool, true, false, List, [], if◌then◌else◌}
 use Rattle.std.proofs.Common.{refl, sym, subst}
-use Rattle.papaya_kept.specs.Given.SeizeWords.declared.at.At.{At}
-use Rattle.papaya_kept.specs.Given.SeizeWords.declared.at.At.TheVariants.{Root, Used, Slot, Entry, Word}
-use Rattle.papaya_kept.specs.Given.SeizeWords.Mem.{Mem}
-use Rattle.papaya_kept.specs.Given.SeizeWords.Op.{Op, Out, Load, Store, Swap, Add, Or, Exchange, Make, Take, Rewrite, Room}
-use Rattle.papaya_kept.specs.Given.SeizeWords.Plan.{Plan, Turn, Do}
+use Rattle.seize.specs.Given.SeizeWords.declared.at.At.{At}
+use Rattle.seize.specs.Given.SeizeWords.declared.at.At.TheVariants.{Root, Used, Slot, Entry, Word}
+use Rattle.seize.specs.Given.SeizeWords.Mem.{Mem}
+use Rattle.seize.specs.Given.SeizeWords.Op.{Op, Out, Load, Store, Swap, Add, Or, Exchange, Make, Take, Rewrite, Room}
+use Rattle.seize.specs.Given.SeizeWords.Plan.{Plan, Turn, Do}
 use Rattle.seize.specs.declared.rows.settle.Settled.{Settled}
-use Rattle.papaya_kept.specs.Given.Tables.declared.node.Node.{Node}
-use Rattle.papaya_raw.specs.EndMap.{plan_at, end_map_plan}
-use Rattle.papaya_raw.specs.declared.machines.end_map.EndMap.{EndMap}
-use Rattle.papaya_raw.specs.declared.machines.end_map.Ending.{Ending}
-use Rattle.papaya_raw.specs.declared.machines.end_map.Ending.TheVariants as ending
-use Rattle.papaya_schedules.specs.declared.effect.Effect.{Effect}
-use Rattle.papaya_kept.specs.Given.Tells.Seen.{seen_of}
-use Rattle.papaya_teller.specs.Tells.{told_of, StepsTold}
-use Rattle.papaya_teller.specs.declared.changed.Changed.{Changed}
-use Rattle.papaya_teller.specs.declared.changed.Changed.TheVariants as changed
-use Rattle.papaya_effects.specs.Effects.{led_to, named, names_same, effects_of}
-use Rattle.papaya_effects.specs.Known.{Known}
-use Rattle.papaya_effects.specs.declared.acting.Acting.TheVariants as acts
-use Rattle.papaya_effects.specs.declared.role.Role.{Role}
-use Rattle.papaya_effects.specs.declared.role.Role.TheVariants as role
-use Rattle.papaya_kept.specs.Given.Follows.Steps.{TakesNone}
-use Rattle.papaya_kept.proofs.Given.Follows.Alike.{AllCalm}
+use Rattle.papaya_runs.specs.Given.Tables.declared.node.Node.{Node}
+use Rattle.papaya_remains.specs.Given.Raw.EndMap.{plan_at, end_map_plan}
+use Rattle.papaya_remains.specs.Given.Raw.declared.machines.end_map.EndMap.{EndMap}
+use Rattle.papaya_remains.specs.Given.Raw.declared.machines.end_map.Ending.{Ending}
+use Rattle.papaya_remains.specs.Given.Raw.declared.machines.end_map.Ending.TheVariants as ending
+use Rattle.papaya_remains.specs.Given.Schedules.declared.effect.Effect.{Effect}
+use Rattle.papaya_reclaiming.specs.Given.Tells.Seen.{seen_of}
+use Rattle.papaya_reclaiming.specs.Given.Teller.Tells.{told_of, StepsTold}
+use Rattle.papaya_reclaiming.specs.Given.Teller.declared.changed.Changed.{Changed}
+use Rattle.papaya_reclaiming.specs.Given.Teller.declared.changed.Changed.TheVariants as changed
+use Rattle.papaya_remains.specs.Given.Effects.Effects.{led_to, named, names_same, effects_of}
+use Rattle.papaya_remains.specs.Given.Effects.Known.{Known}
+use Rattle.papaya_remains.specs.Given.Effects.declared.acting.Acting.TheVariants as acts
+use Rattle.papaya_remains.specs.Given.Effects.declared.role.Role.{Role}
+use Rattle.papaya_remains.specs.Given.Effects.declared.role.Role.TheVariants as role
+use Rattle.papaya_remains.specs.Given.Follows.Steps.{TakesNone}
+use Rattle.papaya_remains.proofs.Given.Follows.Alike.{AllCalm}
 
 -- a word that it writes
 abbrev IsOfEnd : At → Type 0

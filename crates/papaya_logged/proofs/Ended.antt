@@ -1,10 +1,10 @@
 -- How slots are used once a row has ended: each of its steps leads there.
 use Rattle.std.specs.Prelude.{◌≡◌, ℕ, ◌+◌, ◌==◌, Bool, true, false, List, slice_set, nat_lt, Option, Some, None, Ok, Err, if◌then◌else◌}
 use Rattle.std.proofs.Common.{refl, sym, ap, subst, ◌∙◌}
-use Rattle.papaya_kept.specs.Given.SeizeWords.Mem.{Mem, Took, value_at}
-use Rattle.papaya_kept.specs.Given.SeizeWords.Op.{Out, Found, Exchanged, Roomed}
-use Rattle.papaya_kept.specs.Given.SeizeWords.Plan.{Steps}
-use Rattle.papaya_kept.specs.Given.SeizeWords.declared.fault.Fault.TheVariants.{SlotsUsedUp}
+use Rattle.seize.specs.Given.SeizeWords.Mem.{Mem, Took, value_at}
+use Rattle.seize.specs.Given.SeizeWords.Op.{Out, Found, Exchanged, Roomed}
+use Rattle.seize.specs.Given.SeizeWords.Plan.{Steps}
+use Rattle.seize.specs.Given.SeizeWords.declared.fault.Fault.TheVariants.{SlotsUsedUp}
 use Rattle.seize.specs.declared.states.TheConstants.{ACTIVE, LAST_SLOT}
 use Rattle.seize.specs.declared.progress.Progress.{Progress}
 use Rattle.seize.specs.declared.progress.Progress.TheVariants as progress
@@ -23,26 +23,26 @@ use Rattle.seize.specs.Enter.{enter_plan, unregister_plan}
 use Rattle.seize.specs.Leave as leave
 use Rattle.seize.specs.Register as register
 use Rattle.seize.specs.Settle.{settle_plan}
-use Rattle.papaya_kept.proofs.Given.SeizeRule.Rows.Leaving.{steps_back}
-use Rattle.papaya_kept.proofs.Given.SeizeEnds.Batches.Free.{Outcomes, PlanOutcomes, plan_outcome, if_outcome}
-use Rattle.papaya_kept.specs.Given.Tables.Nodes.{deferred_word}
-use Rattle.papaya_kept.specs.Given.Tables.declared.node.Node.{Node}
-use Rattle.papaya_teller.specs.declared.changed.Changed.{Changed}
-use Rattle.papaya_teller.specs.declared.changed.Changed.TheVariants.{Nothing}
-use Rattle.papaya_scenes.specs.declared.row.RowTold.{RowTold}
-use Rattle.papaya_scenes.specs.declared.row.RowTold.TheVariants as told
-use Rattle.papaya_scenes.specs.declared.row.SlotChange.{SlotChange}
-use Rattle.papaya_scenes.specs.declared.row.SlotChange.TheVariants as change
-use Rattle.papaya_scenes.specs.declared.row.SlotRow.{SlotRow}
-use Rattle.papaya_scenes.specs.declared.row.SlotRow.TheVariants as rows
-use Rattle.papaya_scenes.specs.declared.row.SlotUse.{SlotUse}
-use Rattle.papaya_scenes.specs.declared.row.SlotUse.TheVariants as used
+use Rattle.papaya_reclaiming.proofs.Given.SeizeRule.Rows.Leaving.{steps_back}
+use Rattle.papaya_remains.proofs.Given.SeizeEnds.Batches.Free.{Outcomes, PlanOutcomes, plan_outcome, if_outcome}
+use Rattle.papaya_runs.specs.Given.Tables.Nodes.{deferred_word}
+use Rattle.papaya_runs.specs.Given.Tables.declared.node.Node.{Node}
+use Rattle.papaya_reclaiming.specs.Given.Teller.declared.changed.Changed.{Changed}
+use Rattle.papaya_reclaiming.specs.Given.Teller.declared.changed.Changed.TheVariants.{Nothing}
+use Rattle.papaya_reclaiming.specs.Given.Scenes.declared.row.RowTold.{RowTold}
+use Rattle.papaya_reclaiming.specs.Given.Scenes.declared.row.RowTold.TheVariants as told
+use Rattle.papaya_reclaiming.specs.Given.Scenes.declared.row.SlotChange.{SlotChange}
+use Rattle.papaya_reclaiming.specs.Given.Scenes.declared.row.SlotChange.TheVariants as change
+use Rattle.papaya_reclaiming.specs.Given.Scenes.declared.row.SlotRow.{SlotRow}
+use Rattle.papaya_reclaiming.specs.Given.Scenes.declared.row.SlotRow.TheVariants as rows
+use Rattle.papaya_reclaiming.specs.Given.Scenes.declared.row.SlotUse.{SlotUse}
+use Rattle.papaya_reclaiming.specs.Given.Scenes.declared.row.SlotUse.TheVariants as used
 use Rattle.papaya_logged.specs.Ended.{has_ended, taken_in_the_end, entered_as, left_in_the_end, uses_ended}
 use Rattle.papaya_logged.specs.OnSlots.{has_come}
 use Rattle.papaya_logged.proofs.RowsFall.{one_store}
-use Rattle.papaya_scenes.proofs.Told.{as_step}
-use Rattle.papaya_scenes.specs.OnSlots.{RowSteps}
-use Rattle.papaya_scenes.specs.Rows.{change_of, left_by, of_registering, of_settling, taken_as, uses_after}
+use Rattle.papaya_reclaiming.proofs.Given.Scenes.Told.{as_step}
+use Rattle.papaya_reclaiming.specs.Given.Scenes.OnSlots.{RowSteps}
+use Rattle.papaya_reclaiming.specs.Given.Scenes.Rows.{change_of, left_by, of_registering, of_settling, taken_as, uses_after}
 
 -- a registering takes its slot as it is to be used
 module _ (c : Register) where

@@ -3,47 +3,47 @@ use Rattle.std.specs.Prelude.{◌≡◌, ◌≢◌, ◌<◌, ◌≤◌, ◌+◌,
 use Rattle.std.proofs.Common.{refl, sym, ap, subst, ◌∙◌}
 use Rattle.std.proofs.lemmas.List.{append-nil, append_assoc}
 use Rattle.std.proofs.lemmas.Grind.{flat_map-append}
-use Rattle.papaya_kept.specs.Given.SeizeWords.Mem.{Mem, Took, value_at}
-use Rattle.papaya_kept.specs.Given.SeizeWords.Plan.{Steps}
+use Rattle.seize.specs.Given.SeizeWords.Mem.{Mem, Took, value_at}
+use Rattle.seize.specs.Given.SeizeWords.Plan.{Steps}
 use Rattle.seize.specs.World.{World, with_at}
 use Rattle.seize.specs.declared.rows.settle.Settled.{Settled}
 use Rattle.seize.specs.declared.rows.settle.Settled.TheVariants as settled
-use Rattle.papaya_kept.specs.Given.Tables.declared.node.Node.{Node}
-use Rattle.papaya_raw.specs.EndMap.{end_map_plan}
-use Rattle.papaya_raw.specs.declared.machines.end_map.EndMap.{EndMap}
-use Rattle.papaya_schedules.specs.declared.effect.Effect.{Effect}
-use Rattle.papaya_schedules.specs.Effects.{with_effects}
-use Rattle.papaya_schedules.specs.Moment.{Moment}
-use Rattle.papaya_teller.specs.declared.changed.Changed.TheVariants.{Nothing}
-use Rattle.papaya_effects.specs.Effects.{taken_by}
-use Rattle.papaya_effects.specs.Known.{Known, known}
-use Rattle.papaya_effects.specs.declared.acting.Acting.TheVariants.{Ending}
-use Rattle.papaya_kept.proofs.Given.Callers.Together.At.{at_other, at_same}
-use Rattle.papaya_kept.specs.Given.Finishes.Endings.{Finishing, FinishingFacts, waiting_by}
-use Rattle.papaya_kept.specs.Given.Finishes.FactsEnds.{taken_by as taken_of}
-use Rattle.papaya_kept.specs.Given.Finishes.Maps.{Standing}
-use Rattle.papaya_kept.proofs.Given.Finishes.Among.Own.Steps.{endings_stand}
-use Rattle.papaya_kept.specs.Given.Maps.EndingsEnds.{HasMore}
-use Rattle.papaya_kept.specs.Given.Maps.MeasuresEnds.{end_map_left, most_blocks, tables_left, steps_left}
-use Rattle.papaya_kept.proofs.Given.Maps.Ends.Lower.{end_falls, fits_in_one}
-use Rattle.papaya_executor.specs.declared.executor.Executor.{Executor}
-use Rattle.papaya_executor.specs.declared.worker.Work.{Work}
-use Rattle.papaya_executor.specs.declared.worker.Work.TheVariants as work
-use Rattle.papaya_kept.specs.Given.Others.Endings.{ending_after}
-use Rattle.papaya_kept.proofs.Given.Moments.After.{effects_after}
+use Rattle.papaya_runs.specs.Given.Tables.declared.node.Node.{Node}
+use Rattle.papaya_remains.specs.Given.Raw.EndMap.{end_map_plan}
+use Rattle.papaya_remains.specs.Given.Raw.declared.machines.end_map.EndMap.{EndMap}
+use Rattle.papaya_remains.specs.Given.Schedules.declared.effect.Effect.{Effect}
+use Rattle.papaya_remains.specs.Given.Schedules.Effects.{with_effects}
+use Rattle.papaya_remains.specs.Given.Schedules.Moment.{Moment}
+use Rattle.papaya_reclaiming.specs.Given.Teller.declared.changed.Changed.TheVariants.{Nothing}
+use Rattle.papaya_remains.specs.Given.Effects.Effects.{taken_by}
+use Rattle.papaya_remains.specs.Given.Effects.Known.{Known, known}
+use Rattle.papaya_remains.specs.Given.Effects.declared.acting.Acting.TheVariants.{Ending}
+use Rattle.papaya_reclaiming.proofs.Given.Callers.Together.At.{at_other, at_same}
+use Rattle.papaya_reclaiming.specs.Given.Finishes.Endings.{Finishing, FinishingFacts, waiting_by}
+use Rattle.papaya_reclaiming.specs.Given.Finishes.FactsEnds.{taken_by as taken_of}
+use Rattle.papaya_reclaiming.specs.Given.Finishes.Maps.{Standing}
+use Rattle.papaya_reclaiming.proofs.Given.Finishes.Among.Own.Steps.{endings_stand}
+use Rattle.papaya_remains.specs.Given.Maps.EndingsEnds.{HasMore}
+use Rattle.papaya_remains.specs.Given.Maps.MeasuresEnds.{end_map_left, most_blocks, tables_left, steps_left}
+use Rattle.papaya_remains.proofs.Given.Maps.Ends.Lower.{end_falls, fits_in_one}
+use Rattle.papaya_reclaiming.specs.Given.Executor.declared.executor.Executor.{Executor}
+use Rattle.papaya_reclaiming.specs.Given.Executor.declared.worker.Work.{Work}
+use Rattle.papaya_reclaiming.specs.Given.Executor.declared.worker.Work.TheVariants as work
+use Rattle.papaya_remains.specs.Given.Others.Endings.{ending_after}
+use Rattle.papaya_remains.proofs.Given.Moments.After.{effects_after}
 use Rattle.papaya_logged.specs.Ends.{is_done, ended_as, TellsCame, NotedStill, EndCame, EndSteps, EndIsAt, EndIsShown, EndRan}
 use Rattle.papaya_logged.specs.Shown.{IsShown}
 use Rattle.papaya_logged.specs.Waits.{TellsThen, TellsWaiting}
 use Rattle.papaya_logged.specs.declared.logged.Logged.{Logged}
 use Rattle.papaya_logged.proofs.EndAll.{all_end}
 use Rattle.papaya_logged.proofs.EndSteps.{end_there}
-use Rattle.papaya_executor.specs.Ending.{EndsThere}
-use Rattle.papaya_executor.specs.IsThere.{IsThere, ending_in, held_by, work_of}
-use Rattle.papaya_scenes.proofs.Told.{as_step}
-use Rattle.papaya_scenes.specs.Scene.{IsEnding, Scene, slot_of}
+use Rattle.papaya_reclaiming.specs.Given.Executor.Ending.{EndsThere}
+use Rattle.papaya_reclaiming.specs.Given.Executor.IsThere.{IsThere, ending_in, held_by, work_of}
+use Rattle.papaya_reclaiming.proofs.Given.Scenes.Told.{as_step}
+use Rattle.papaya_reclaiming.specs.Given.Scenes.Scene.{IsEnding, Scene, slot_of}
 use Rattle.papaya_logged.proofs.Held.{ending_held}
-use Rattle.papaya_scenes.specs.Ending.{EndingLeads}
-use Rattle.papaya_scenes.specs.Held.{Held, IsAt}
+use Rattle.papaya_reclaiming.specs.Given.Scenes.Ending.{EndingLeads}
+use Rattle.papaya_reclaiming.specs.Given.Scenes.Held.{Held, IsAt}
 
 -- how many steps are left at most of what a caller has under way, if that is the end of a map
 abbrev pub end_left_of : {K V : Type 0} → Mem (Node K V) → Option (Work K V) → ℕ

@@ -6,29 +6,29 @@ use Rattle.std.proofs.lemmas.List.{get_or_past}
 use Rattle.seize.specs.declared.progress.Progress.{Progress as Making}
 use Rattle.seize.specs.declared.rows.reclaim_all.ReclaimAll.{ReclaimAll}
 use Rattle.seize.specs.declared.rows.settle.Settled.{Settled}
-use Rattle.papaya_kept.specs.Given.Tables.declared.node.Node.{Node}
-use Rattle.papaya_kept.specs.Given.Tables.declared.setting.Setting.{Setting}
-use Rattle.papaya_kept.specs.Given.Finishes.Maps.{Standing}
-use Rattle.papaya_kept.specs.Given.Moments.Numbers.{MapsAreBelow}
-use Rattle.papaya_raw.specs.declared.machines.progress.Progress.{Progress}
-use Rattle.papaya_scenes.specs.Ending.{EndingLeads}
-use Rattle.papaya_scenes.specs.Held.{IsAt}
-use Rattle.papaya_scenes.specs.Making.{MakingLeads}
-use Rattle.papaya_scenes.specs.OnSlots.{RowBegins}
-use Rattle.papaya_scenes.specs.Replying.{AskLeads, StopLeads}
-use Rattle.papaya_scenes.specs.Scene.{Scene, slot_of}
-use Rattle.papaya_scenes.specs.Stepping.{StepLeads}
-use Rattle.papaya_scenes.specs.declared.row.SlotCall.{SlotCall}
-use Rattle.papaya_scenes.proofs.Leads.{ask_leads, ending_leads, making_leads, reclaiming_leads, row_begins, step_leads, stop_leads}
-use Rattle.papaya_executor.specs.Ending.{EndsThere}
-use Rattle.papaya_executor.specs.IsThere.{IsThere, held_by}
-use Rattle.papaya_executor.specs.Making.{MakesThere}
-use Rattle.papaya_executor.specs.OnSlots.{MayBegin, RowBeginsThere}
-use Rattle.papaya_executor.specs.Replying.{AsksThere, StopsThere}
-use Rattle.papaya_executor.specs.Stepping.{StepsThere}
-use Rattle.papaya_executor.specs.declared.executor.Executor.{Executor}
+use Rattle.papaya_runs.specs.Given.Tables.declared.node.Node.{Node}
+use Rattle.papaya_runs.specs.Given.Tables.declared.setting.Setting.{Setting}
+use Rattle.papaya_reclaiming.specs.Given.Finishes.Maps.{Standing}
+use Rattle.papaya_remains.specs.Given.Moments.Numbers.{MapsAreBelow}
+use Rattle.papaya_remains.specs.Given.Raw.declared.machines.progress.Progress.{Progress}
+use Rattle.papaya_reclaiming.specs.Given.Scenes.Ending.{EndingLeads}
+use Rattle.papaya_reclaiming.specs.Given.Scenes.Held.{IsAt}
+use Rattle.papaya_reclaiming.specs.Given.Scenes.Making.{MakingLeads}
+use Rattle.papaya_reclaiming.specs.Given.Scenes.OnSlots.{RowBegins}
+use Rattle.papaya_reclaiming.specs.Given.Scenes.Replying.{AskLeads, StopLeads}
+use Rattle.papaya_reclaiming.specs.Given.Scenes.Scene.{Scene, slot_of}
+use Rattle.papaya_reclaiming.specs.Given.Scenes.Stepping.{StepLeads}
+use Rattle.papaya_reclaiming.specs.Given.Scenes.declared.row.SlotCall.{SlotCall}
+use Rattle.papaya_reclaiming.proofs.Given.Scenes.Leads.{ask_leads, ending_leads, making_leads, reclaiming_leads, row_begins, step_leads, stop_leads}
+use Rattle.papaya_reclaiming.specs.Given.Executor.Ending.{EndsThere}
+use Rattle.papaya_reclaiming.specs.Given.Executor.IsThere.{IsThere, held_by}
+use Rattle.papaya_reclaiming.specs.Given.Executor.Making.{MakesThere}
+use Rattle.papaya_reclaiming.specs.Given.Executor.OnSlots.{MayBegin, RowBeginsThere}
+use Rattle.papaya_reclaiming.specs.Given.Executor.Replying.{AsksThere, StopsThere}
+use Rattle.papaya_reclaiming.specs.Given.Executor.Stepping.{StepsThere}
+use Rattle.papaya_reclaiming.specs.Given.Executor.declared.executor.Executor.{Executor}
 use Rattle.papaya_reclaiming.specs.Reclaiming.{IsReclaimingThere, ReclaimsThere}
-use Rattle.papaya_scenes.specs.Reclaiming.{IsReclaiming, ReclaimingLeads}
+use Rattle.papaya_reclaiming.specs.Given.Scenes.Reclaiming.{IsReclaiming, ReclaimingLeads}
 
 -- a map that stands, or is made, has a number that was given
 pub maps_below : {K V S : Type 0} (same : K → K → Bool) (hash : K → ℕ) (e : Executor K V S) (s : Scene K V) → IsThere same hash e s → MapsAreBelow (length e.maps.items) s

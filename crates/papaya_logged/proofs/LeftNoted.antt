@@ -1,55 +1,55 @@
 -- After each step what is left over is noted as the pairs as which it was.
 use Rattle.std.specs.Prelude.{◌≡◌, ◌+◌, ℕ, Bool, List, Option, None, Some, IsSome}
 use Rattle.std.proofs.Common.{refl, sym, subst, ◌∙◌, inl, inr}
-use Rattle.papaya_kept.specs.Given.SeizeWords.Mem.{value_at}
+use Rattle.seize.specs.Given.SeizeWords.Mem.{value_at}
 use Rattle.seize.specs.declared.progress.Progress.{Progress}
 use Rattle.seize.specs.declared.rows.settle.Settled.{Settled}
 use Rattle.seize.specs.declared.rows.settle.Settled.TheVariants as settled
 use Rattle.seize.specs.declared.states.TheConstants.{LAST_SLOT}
 use Rattle.seize.specs.World.{World, Hand, LeftTo, Step}
-use Rattle.papaya_kept.proofs.Given.SeizeRule.Points.Aside.{HandFits}
-use Rattle.papaya_kept.proofs.Given.SeizeRule.Words.There.{value_there}
-use Rattle.papaya_kept.proofs.Given.SeizeAlone.Histories.Reached.{Reached, runs_reached, steps_reached}
-use Rattle.papaya_kept.specs.Given.Tables.Nodes.{deferred_word}
-use Rattle.papaya_kept.specs.Given.Tables.declared.node.Node.{Node}
-use Rattle.papaya_kept.specs.Given.Tables.declared.setting.Setting.{Setting}
-use Rattle.papaya_raw.specs.declared.machines.progress.Progress.{Progress as CallTold}
-use Rattle.papaya_schedules.specs.Moment.{Moment}
-use Rattle.papaya_kept.specs.Given.Callers.Together.{UnderWay}
-use Rattle.papaya_kept.proofs.Given.Callers.Together.Came.{came_reached}
-use Rattle.papaya_effects.specs.Effects.{known_after}
-use Rattle.papaya_effects.specs.Known.{Known}
-use Rattle.papaya_effects.specs.declared.acting.Acting.TheVariants as acts
-use Rattle.papaya_effects.specs.declared.role.Role.TheVariants as role
-use Rattle.papaya_kept.specs.Given.Finishes.Endings.{Finishing}
-use Rattle.papaya_kept.specs.Given.Finishes.FactsEnds.{events_of}
-use Rattle.papaya_kept.specs.Given.Finishes.Makings.{Beginning}
-use Rattle.papaya_scenes.specs.declared.row.RowTold.{RowTold}
-use Rattle.papaya_scenes.specs.declared.row.SlotRow.{SlotRow}
-use Rattle.papaya_kept.proofs.Given.Follows.Onward.{IsLasting, IsOfMap}
-use Rattle.papaya_kept.proofs.Given.Follows.Steps.{step_shown, went_to}
-use Rattle.papaya_kept.proofs.Given.Hands.Steps.{calls_store_theirs}
-use Rattle.papaya_kept.specs.Given.Others.Endings.{ending_after}
-use Rattle.papaya_kept.specs.Given.Others.Makings.{WasNew}
-use Rattle.papaya_kept.specs.Given.Others.Rows.{scene_then}
-use Rattle.papaya_kept.proofs.Given.Others.RowPlans.{row_tells}
-use Rattle.papaya_kept.proofs.Given.Moments.Ends.{end_keeps}
-use Rattle.papaya_kept.specs.Given.Moments.Whole.{ShowsWhole}
-use Rattle.papaya_kept.proofs.Given.Settles.Hand.All.{own_or_row}
-use Rattle.papaya_kept.proofs.Given.Lives.CallRows.{role_kept}
-use Rattle.papaya_kept.proofs.Given.Lives.Lying.{row_pair}
-use Rattle.papaya_kept.proofs.Given.Lives.Makings.{role_kept as made_kept}
-use Rattle.papaya_kept.proofs.Given.Lives.Users.{left_lives}
-use Rattle.papaya_kept.proofs.Given.Lives.Waiting.{left, reached}
-use Rattle.papaya_kept.specs.Kept.{ShowsKept}
-use Rattle.papaya_kept.proofs.Calls.{own_made}
+use Rattle.papaya_reclaiming.proofs.Given.SeizeRule.Points.Aside.{HandFits}
+use Rattle.papaya_reclaiming.proofs.Given.SeizeRule.Words.There.{value_there}
+use Rattle.papaya_remains.proofs.Given.SeizeAlone.Histories.Reached.{Reached, runs_reached, steps_reached}
+use Rattle.papaya_runs.specs.Given.Tables.Nodes.{deferred_word}
+use Rattle.papaya_runs.specs.Given.Tables.declared.node.Node.{Node}
+use Rattle.papaya_runs.specs.Given.Tables.declared.setting.Setting.{Setting}
+use Rattle.papaya_remains.specs.Given.Raw.declared.machines.progress.Progress.{Progress as CallTold}
+use Rattle.papaya_remains.specs.Given.Schedules.Moment.{Moment}
+use Rattle.papaya_reclaiming.specs.Given.Callers.Together.{UnderWay}
+use Rattle.papaya_reclaiming.proofs.Given.Callers.Together.Came.{came_reached}
+use Rattle.papaya_remains.specs.Given.Effects.Effects.{known_after}
+use Rattle.papaya_remains.specs.Given.Effects.Known.{Known}
+use Rattle.papaya_remains.specs.Given.Effects.declared.acting.Acting.TheVariants as acts
+use Rattle.papaya_remains.specs.Given.Effects.declared.role.Role.TheVariants as role
+use Rattle.papaya_reclaiming.specs.Given.Finishes.Endings.{Finishing}
+use Rattle.papaya_reclaiming.specs.Given.Finishes.FactsEnds.{events_of}
+use Rattle.papaya_reclaiming.specs.Given.Finishes.Makings.{Beginning}
+use Rattle.papaya_reclaiming.specs.Given.Scenes.declared.row.RowTold.{RowTold}
+use Rattle.papaya_reclaiming.specs.Given.Scenes.declared.row.SlotRow.{SlotRow}
+use Rattle.papaya_remains.proofs.Given.Follows.Onward.{IsLasting, IsOfMap}
+use Rattle.papaya_remains.proofs.Given.Follows.Steps.{step_shown, went_to}
+use Rattle.papaya_remains.proofs.Given.Hands.Steps.{calls_store_theirs}
+use Rattle.papaya_remains.specs.Given.Others.Endings.{ending_after}
+use Rattle.papaya_remains.specs.Given.Others.Makings.{WasNew}
+use Rattle.papaya_remains.specs.Given.Others.Rows.{scene_then}
+use Rattle.papaya_remains.proofs.Given.Others.RowPlans.{row_tells}
+use Rattle.papaya_remains.proofs.Given.Moments.Ends.{end_keeps}
+use Rattle.papaya_remains.specs.Given.Moments.Whole.{ShowsWhole}
+use Rattle.papaya_remains.proofs.Given.Settles.Hand.All.{own_or_row}
+use Rattle.papaya_remains.proofs.Given.Lives.CallRows.{role_kept}
+use Rattle.papaya_remains.proofs.Given.Lives.Lying.{row_pair}
+use Rattle.papaya_remains.proofs.Given.Lives.Makings.{role_kept as made_kept}
+use Rattle.papaya_remains.proofs.Given.Lives.Users.{left_lives}
+use Rattle.papaya_remains.proofs.Given.Lives.Waiting.{left, reached}
+use Rattle.papaya_remains.specs.Given.Kept.Kept.{ShowsKept}
+use Rattle.papaya_remains.proofs.Given.Kept.Calls.{own_made}
 use Rattle.papaya_remains.specs.Remains.{LeftNoted}
-use Rattle.papaya_scenes.specs.Ending.{EndingComesTo, EndingLeads}
-use Rattle.papaya_scenes.specs.Held.{Held, IsAt}
-use Rattle.papaya_scenes.specs.Making.{MakingLeads}
-use Rattle.papaya_scenes.specs.OnSlots.{RowLeads}
-use Rattle.papaya_scenes.specs.Scene.{IsOnSlot, Scene}
-use Rattle.papaya_scenes.specs.Stepping.{StepLeads}
+use Rattle.papaya_reclaiming.specs.Given.Scenes.Ending.{EndingComesTo, EndingLeads}
+use Rattle.papaya_reclaiming.specs.Given.Scenes.Held.{Held, IsAt}
+use Rattle.papaya_reclaiming.specs.Given.Scenes.Making.{MakingLeads}
+use Rattle.papaya_reclaiming.specs.Given.Scenes.OnSlots.{RowLeads}
+use Rattle.papaya_reclaiming.specs.Given.Scenes.Scene.{IsOnSlot, Scene}
+use Rattle.papaya_reclaiming.specs.Given.Scenes.Stepping.{StepLeads}
 
 -- a block that is left over is there
 module _ {K V : Type 0} (size : ℕ) (w : World (Node K V)) (r : Reached deferred_word size w) (b j : ℕ) (left_over : w.hand b ≡ LeftTo j) where

@@ -2,45 +2,45 @@
 use Rattle.std.specs.Prelude.{◌≡◌, ◌+◌, ◌/◌, ◌%◌, ◌^◌, ℕ, Bool, true, false, Ok, Err}
 use Rattle.std.specs.List.{list_all}
 use Rattle.std.proofs.Common.{refl, ap, subst, sym, ◌∙◌, inl, inr}
-use Rattle.papaya_kept.specs.Given.SeizeWords.declared.at.At.{At}
-use Rattle.papaya_kept.specs.Given.SeizeWords.declared.at.At.TheVariants.{Root, Used, Slot, Entry, Word}
-use Rattle.papaya_kept.specs.Given.SeizeWords.Mem.{Mem, value_at}
-use Rattle.papaya_kept.specs.Given.SeizeWords.Op.{Op, Out, Found, Stored, Exchanged, Made, Taken, Roomed, Exchange, Make}
-use Rattle.papaya_kept.specs.Given.SeizeWords.Plan.{Plan, Then, Now, Seeing, Sure, Turn, Do, Ends, then_as, plan_as}
-use Rattle.papaya_kept.proofs.Given.SeizeWords.OneOwner.Operations.{exchanged, taken}
+use Rattle.seize.specs.Given.SeizeWords.declared.at.At.{At}
+use Rattle.seize.specs.Given.SeizeWords.declared.at.At.TheVariants.{Root, Used, Slot, Entry, Word}
+use Rattle.seize.specs.Given.SeizeWords.Mem.{Mem, value_at}
+use Rattle.seize.specs.Given.SeizeWords.Op.{Op, Out, Found, Stored, Exchanged, Made, Taken, Roomed, Exchange, Make}
+use Rattle.seize.specs.Given.SeizeWords.Plan.{Plan, Then, Now, Seeing, Sure, Turn, Do, Ends, then_as, plan_as}
+use Rattle.seize.proofs.Given.SeizeWords.OneOwner.Operations.{exchanged, taken}
 use Rattle.seize.specs.declared.progress.Progress.{Progress}
 use Rattle.seize.specs.declared.progress.Progress.TheVariants as progress
-use Rattle.papaya_kept.specs.Given.Tables.declared.node.Node.{Node}
-use Rattle.papaya_kept.specs.Given.Tables.declared.node.Node.TheVariants as node
-use Rattle.papaya_kept.specs.Given.Tables.declared.setting.Setting.{Setting}
-use Rattle.papaya_kept.specs.Given.Tables.declared.table.Table.{Table}
-use Rattle.papaya_kept.specs.Given.Tables.declared.table_words.TheConstants.{PLACES}
-use Rattle.papaya_kept.specs.Given.Tables.declared.lengths.Reason.{Reason}
-use Rattle.papaya_kept.specs.Given.Resize.NewMap as new_map
-use Rattle.papaya_kept.specs.Given.Resize.NewTable as new_table
-use Rattle.papaya_kept.specs.Given.Resize.Sum as sums
-use Rattle.papaya_kept.specs.Given.Resize.declared.sum.Sum.{Sum}
-use Rattle.papaya_kept.specs.Given.Resize.declared.sum.Summing.{Summing}
-use Rattle.papaya_kept.specs.Given.Resize.declared.sum.Summing.TheVariants as summing
-use Rattle.papaya_kept.specs.Given.Resize.declared.new_table.NewTable.{NewTable}
-use Rattle.papaya_kept.specs.Given.Resize.declared.new_table.Making.{Making}
-use Rattle.papaya_kept.specs.Given.Resize.declared.new_table.Making.TheVariants as makes
-use Rattle.papaya_kept.specs.Given.Resize.declared.new_map.NewMap.{NewMap}
-use Rattle.papaya_kept.specs.Given.Resize.declared.new_map.Opening.{Opening}
-use Rattle.papaya_kept.specs.Given.Resize.declared.new_map.Opening.TheVariants as opens
-use Rattle.papaya_schedules.specs.InTurn.{is_growth}
-use Rattle.papaya_kept.specs.Given.Tells.Seen.{seen_of}
-use Rattle.papaya_teller.specs.Tells.{told_of, StepsTold}
-use Rattle.papaya_teller.specs.declared.changed.Changed.{Changed}
-use Rattle.papaya_teller.specs.declared.changed.Changed.TheVariants as changed
-use Rattle.papaya_effects.specs.Effects.{taken_by, effects_of}
-use Rattle.papaya_effects.specs.Known.{Known}
-use Rattle.papaya_effects.specs.declared.acting.Acting.TheVariants as acts
-use Rattle.papaya_effects.specs.declared.role.Role.{Role}
-use Rattle.papaya_effects.specs.declared.role.Role.TheVariants as role
-use Rattle.papaya_kept.specs.Given.Finishes.Makings.{HasMade}
+use Rattle.papaya_runs.specs.Given.Tables.declared.node.Node.{Node}
+use Rattle.papaya_runs.specs.Given.Tables.declared.node.Node.TheVariants as node
+use Rattle.papaya_runs.specs.Given.Tables.declared.setting.Setting.{Setting}
+use Rattle.papaya_runs.specs.Given.Tables.declared.table.Table.{Table}
+use Rattle.papaya_runs.specs.Given.Tables.declared.table_words.TheConstants.{PLACES}
+use Rattle.papaya_runs.specs.Given.Tables.declared.lengths.Reason.{Reason}
+use Rattle.papaya_reclaiming.specs.Given.Resize.NewMap as new_map
+use Rattle.papaya_reclaiming.specs.Given.Resize.NewTable as new_table
+use Rattle.papaya_reclaiming.specs.Given.Resize.Sum as sums
+use Rattle.papaya_reclaiming.specs.Given.Resize.declared.sum.Sum.{Sum}
+use Rattle.papaya_reclaiming.specs.Given.Resize.declared.sum.Summing.{Summing}
+use Rattle.papaya_reclaiming.specs.Given.Resize.declared.sum.Summing.TheVariants as summing
+use Rattle.papaya_reclaiming.specs.Given.Resize.declared.new_table.NewTable.{NewTable}
+use Rattle.papaya_reclaiming.specs.Given.Resize.declared.new_table.Making.{Making}
+use Rattle.papaya_reclaiming.specs.Given.Resize.declared.new_table.Making.TheVariants as makes
+use Rattle.papaya_reclaiming.specs.Given.Resize.declared.new_map.NewMap.{NewMap}
+use Rattle.papaya_reclaiming.specs.Given.Resize.declared.new_map.Opening.{Opening}
+use Rattle.papaya_reclaiming.specs.Given.Resize.declared.new_map.Opening.TheVariants as opens
+use Rattle.papaya_remains.specs.Given.Schedules.InTurn.{is_growth}
+use Rattle.papaya_reclaiming.specs.Given.Tells.Seen.{seen_of}
+use Rattle.papaya_reclaiming.specs.Given.Teller.Tells.{told_of, StepsTold}
+use Rattle.papaya_reclaiming.specs.Given.Teller.declared.changed.Changed.{Changed}
+use Rattle.papaya_reclaiming.specs.Given.Teller.declared.changed.Changed.TheVariants as changed
+use Rattle.papaya_remains.specs.Given.Effects.Effects.{taken_by, effects_of}
+use Rattle.papaya_remains.specs.Given.Effects.Known.{Known}
+use Rattle.papaya_remains.specs.Given.Effects.declared.acting.Acting.TheVariants as acts
+use Rattle.papaya_remains.specs.Given.Effects.declared.role.Role.{Role}
+use Rattle.papaya_remains.specs.Given.Effects.declared.role.Role.TheVariants as role
+use Rattle.papaya_reclaiming.specs.Given.Finishes.Makings.{HasMade}
 use Rattle.papaya_logged.specs.Makings.{has_table, has_tabled, IsBare}
-use Rattle.papaya_scenes.proofs.Told.{as_step}
+use Rattle.papaya_reclaiming.proofs.Given.Scenes.Told.{as_step}
 
 -- what a step whose outcome is turned into another comes to, and tells
 module _ {K V A B : Type 0} (f : A → B) where

@@ -3,38 +3,38 @@ use Rattle.std.specs.Prelude.{◌≡◌, ◌≢◌, ◌<◌, ◌≤◌, ◌+◌,
 use Rattle.std.proofs.Common.{refl, ap, subst, sym, ◌∙◌, inl, inr, arith}
 use Rattle.std.proofs.lemmas.Bool.{cases_eq, cases_lt, eq-eqb, ne_eqb}
 use Rattle.std.proofs.lemmas.List.Folds.{list_any-append}
-use Rattle.papaya_kept.specs.Given.SeizeWords.declared.at.At.TheVariants.{Used}
-use Rattle.papaya_kept.specs.Given.SeizeWords.declared.fault.Fault.{Fault}
-use Rattle.papaya_kept.specs.Given.SeizeWords.declared.fault.Fault.TheVariants.{Memory, RootsUsedUp}
-use Rattle.papaya_kept.specs.Given.SeizeWords.Mem.{Mem, value_at, word_at}
-use Rattle.papaya_kept.specs.Given.SeizeWords.Op.{Out, Found, Stored, Exchanged, Made, Taken, Roomed, Make}
-use Rattle.papaya_kept.specs.Given.SeizeWords.Plan.{Ends}
-use Rattle.papaya_kept.proofs.Given.SeizeWords.OneOwner.Operations.{exchanged}
+use Rattle.seize.specs.Given.SeizeWords.declared.at.At.TheVariants.{Used}
+use Rattle.seize.specs.Given.SeizeWords.declared.fault.Fault.{Fault}
+use Rattle.seize.specs.Given.SeizeWords.declared.fault.Fault.TheVariants.{Memory, RootsUsedUp}
+use Rattle.seize.specs.Given.SeizeWords.Mem.{Mem, value_at, word_at}
+use Rattle.seize.specs.Given.SeizeWords.Op.{Out, Found, Stored, Exchanged, Made, Taken, Roomed, Make}
+use Rattle.seize.specs.Given.SeizeWords.Plan.{Ends}
+use Rattle.seize.proofs.Given.SeizeWords.OneOwner.Operations.{exchanged}
 use Rattle.seize.specs.declared.progress.Progress.{Progress}
 use Rattle.seize.specs.declared.progress.Progress.TheVariants as progress
-use Rattle.papaya_kept.specs.Given.Tables.declared.node.Node.{Node}
-use Rattle.papaya_kept.specs.Given.Tables.declared.node.Node.TheVariants as node
-use Rattle.papaya_kept.specs.Given.Tables.declared.setting.Setting.{Setting}
-use Rattle.papaya_kept.specs.Given.Tables.declared.table.Table.{Table}
-use Rattle.papaya_kept.specs.Given.Resize.NewMap as new_map
-use Rattle.papaya_kept.specs.Given.Resize.NewTable as new_table
-use Rattle.papaya_kept.specs.Given.Resize.declared.new_table.NewTable.{NewTable}
-use Rattle.papaya_kept.specs.Given.Resize.declared.new_map.NewMap.{NewMap}
-use Rattle.papaya_kept.specs.Given.Resize.declared.new_map.Opening.{Opening}
-use Rattle.papaya_kept.specs.Given.Resize.declared.new_map.Opening.TheVariants as opens
-use Rattle.papaya_schedules.specs.declared.effect.Effect.{Effect}
-use Rattle.papaya_schedules.specs.InTurn.{has_grown, is_growth}
-use Rattle.papaya_teller.specs.Tells.{StepsTold}
-use Rattle.papaya_teller.specs.declared.changed.Changed.{Changed}
-use Rattle.papaya_teller.specs.declared.changed.Changed.TheVariants as changed
-use Rattle.papaya_effects.specs.Effects.{effects_of}
-use Rattle.papaya_effects.specs.Known.{Known}
-use Rattle.papaya_effects.specs.declared.acting.Acting.TheVariants as acts
-use Rattle.papaya_kept.specs.Given.Finishes.Makings.{HasTaken}
+use Rattle.papaya_runs.specs.Given.Tables.declared.node.Node.{Node}
+use Rattle.papaya_runs.specs.Given.Tables.declared.node.Node.TheVariants as node
+use Rattle.papaya_runs.specs.Given.Tables.declared.setting.Setting.{Setting}
+use Rattle.papaya_runs.specs.Given.Tables.declared.table.Table.{Table}
+use Rattle.papaya_reclaiming.specs.Given.Resize.NewMap as new_map
+use Rattle.papaya_reclaiming.specs.Given.Resize.NewTable as new_table
+use Rattle.papaya_reclaiming.specs.Given.Resize.declared.new_table.NewTable.{NewTable}
+use Rattle.papaya_reclaiming.specs.Given.Resize.declared.new_map.NewMap.{NewMap}
+use Rattle.papaya_reclaiming.specs.Given.Resize.declared.new_map.Opening.{Opening}
+use Rattle.papaya_reclaiming.specs.Given.Resize.declared.new_map.Opening.TheVariants as opens
+use Rattle.papaya_remains.specs.Given.Schedules.declared.effect.Effect.{Effect}
+use Rattle.papaya_remains.specs.Given.Schedules.InTurn.{has_grown, is_growth}
+use Rattle.papaya_reclaiming.specs.Given.Teller.Tells.{StepsTold}
+use Rattle.papaya_reclaiming.specs.Given.Teller.declared.changed.Changed.{Changed}
+use Rattle.papaya_reclaiming.specs.Given.Teller.declared.changed.Changed.TheVariants as changed
+use Rattle.papaya_remains.specs.Given.Effects.Effects.{effects_of}
+use Rattle.papaya_remains.specs.Given.Effects.Known.{Known}
+use Rattle.papaya_remains.specs.Given.Effects.declared.acting.Acting.TheVariants as acts
+use Rattle.papaya_reclaiming.specs.Given.Finishes.Makings.{HasTaken}
 use Rattle.papaya_logged.specs.Roots.{AreTaken, FindsRoot, IsFirstFree, with_root}
 use Rattle.papaya_logged.proofs.MakingAsks.{told_as, told_back}
 use Rattle.papaya_logged.proofs.MakingTables.{HasAsked, IsFirstMaking, TableThen, begins_first, first_tables_then}
-use Rattle.papaya_scenes.proofs.Told.{as_step}
+use Rattle.papaya_reclaiming.proofs.Given.Scenes.Told.{as_step}
 
 abbrev pub bit : Bool → ℕ
 bit q = if q then 1 else 0

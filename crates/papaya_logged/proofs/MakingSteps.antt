@@ -4,39 +4,39 @@ use Rattle.std.proofs.Common.{refl, ap, subst, sym, ◌∙◌, arith}
 use Rattle.seize.specs.World.{with_at}
 use Rattle.seize.specs.declared.progress.Progress.{Progress}
 use Rattle.seize.specs.declared.progress.Progress.TheVariants as progress
-use Rattle.papaya_kept.specs.Given.Tables.declared.setting.Setting.{Setting}
-use Rattle.papaya_schedules.specs.declared.effect.Effect.{Effect}
-use Rattle.papaya_schedules.specs.Beginning.{with_map}
-use Rattle.papaya_schedules.specs.Effects.{with_effects}
-use Rattle.papaya_schedules.specs.Moment.{Moment}
-use Rattle.papaya_effects.specs.Effects.{effects_of, known_after}
-use Rattle.papaya_effects.specs.Known.{Known, known}
-use Rattle.papaya_effects.specs.declared.notes.Notes.{Notes}
-use Rattle.papaya_effects.specs.declared.acting.Acting.TheVariants as acts
-use Rattle.papaya_effects.specs.declared.role.Role.TheVariants as role
-use Rattle.papaya_kept.specs.Given.Finishes.Makings.{Beginning}
-use Rattle.papaya_executor.specs.declared.executor.Executor.{Executor}
-use Rattle.papaya_kept.specs.Given.Others.Makings.{WasNew, making_after}
-use Rattle.papaya_kept.proofs.Given.Others.MakingGoes.{new_maps_stay}
-use Rattle.papaya_kept.proofs.Given.Moments.MakingSteps.{makings_keep_whole}
-use Rattle.papaya_kept.proofs.Given.Moments.MapsCome.{makings_begin_whole, maps_come_whole}
-use Rattle.papaya_kept.proofs.Given.Moments.Numbers.{maps_come_by_number}
-use Rattle.papaya_kept.specs.Given.Moments.Whole.{ShowsWhole}
-use Rattle.papaya_kept.specs.Kept.{ShowsKept}
-use Rattle.papaya_kept.proofs.Others.{makings_keep_kept}
-use Rattle.papaya_kept.proofs.Stays.{makings_begin_kept, stays_kept}
+use Rattle.papaya_runs.specs.Given.Tables.declared.setting.Setting.{Setting}
+use Rattle.papaya_remains.specs.Given.Schedules.declared.effect.Effect.{Effect}
+use Rattle.papaya_remains.specs.Given.Schedules.Beginning.{with_map}
+use Rattle.papaya_remains.specs.Given.Schedules.Effects.{with_effects}
+use Rattle.papaya_remains.specs.Given.Schedules.Moment.{Moment}
+use Rattle.papaya_remains.specs.Given.Effects.Effects.{effects_of, known_after}
+use Rattle.papaya_remains.specs.Given.Effects.Known.{Known, known}
+use Rattle.papaya_remains.specs.Given.Effects.declared.notes.Notes.{Notes}
+use Rattle.papaya_remains.specs.Given.Effects.declared.acting.Acting.TheVariants as acts
+use Rattle.papaya_remains.specs.Given.Effects.declared.role.Role.TheVariants as role
+use Rattle.papaya_reclaiming.specs.Given.Finishes.Makings.{Beginning}
+use Rattle.papaya_reclaiming.specs.Given.Executor.declared.executor.Executor.{Executor}
+use Rattle.papaya_remains.specs.Given.Others.Makings.{WasNew, making_after}
+use Rattle.papaya_remains.proofs.Given.Others.MakingGoes.{new_maps_stay}
+use Rattle.papaya_remains.proofs.Given.Moments.MakingSteps.{makings_keep_whole}
+use Rattle.papaya_remains.proofs.Given.Moments.MapsCome.{makings_begin_whole, maps_come_whole}
+use Rattle.papaya_remains.proofs.Given.Moments.Numbers.{maps_come_by_number}
+use Rattle.papaya_remains.specs.Given.Moments.Whole.{ShowsWhole}
+use Rattle.papaya_remains.specs.Given.Kept.Kept.{ShowsKept}
+use Rattle.papaya_remains.proofs.Given.Kept.Others.{makings_keep_kept}
+use Rattle.papaya_remains.proofs.Given.Kept.Stays.{makings_begin_kept, stays_kept}
 use Rattle.papaya_logged.specs.Makings.{MakingIsBegun, MakingGoesOn, MakingSteps, MapIsThere, StaysNew}
 use Rattle.papaya_logged.specs.Shown.{IsCounted, IsShown}
 use Rattle.papaya_logged.specs.declared.logged.Logged.{Logged}
 use Rattle.papaya_logged.proofs.Counted.{counted_comes, counted_making_begins, counted_making_steps, numbers_within, same_memory}
 use Rattle.papaya_logged.proofs.LeftNoted.{makings_note_left}
 use Rattle.papaya_logged.proofs.MakingAsks.{making_asks}
-use Rattle.papaya_executor.specs.IsThere.{IsThere, KeepsGiven, held_by}
-use Rattle.papaya_executor.specs.Making.{MakesThere}
-use Rattle.papaya_executor.specs.MakingBegins.{MakingBegins, next_making}
-use Rattle.papaya_scenes.specs.Scene.{Scene}
+use Rattle.papaya_reclaiming.specs.Given.Executor.IsThere.{IsThere, KeepsGiven, held_by}
+use Rattle.papaya_reclaiming.specs.Given.Executor.Making.{MakesThere}
+use Rattle.papaya_reclaiming.specs.Given.Executor.MakingBegins.{MakingBegins, next_making}
+use Rattle.papaya_reclaiming.specs.Given.Scenes.Scene.{Scene}
 use Rattle.papaya_logged.proofs.Held.{making_held, maps_below}
-use Rattle.papaya_scenes.specs.Making.{MakingLeads}
+use Rattle.papaya_reclaiming.specs.Given.Scenes.Making.{MakingLeads}
 
 module _ {K V S : Type 0} (same : K → K → Bool) (hash : K → ℕ) where
   pub making_is_begun : (old new : Logged K V S) (given : Setting) (places i : ℕ)

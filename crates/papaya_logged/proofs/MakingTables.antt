@@ -1,34 +1,34 @@
 -- The making of a first table: which machine it may be, and that it is refused for want of memory alone.
 use Rattle.std.specs.Prelude.{◌≡◌, ◌+◌, ◌/◌, ◌%◌, ◌^◌, ◌≤◌, nat_le, ℕ, Bool, true, false, max, Ok, Err, if◌then◌else◌}
 use Rattle.std.proofs.Common.{refl, subst, sym, arith}
-use Rattle.papaya_kept.specs.Given.SeizeWords.declared.at.At.{At}
-use Rattle.papaya_kept.specs.Given.SeizeWords.declared.at.At.TheVariants.{Root, Used, Slot, Entry, Word}
-use Rattle.papaya_kept.specs.Given.SeizeWords.declared.fault.Fault.TheVariants.{Capacity, Memory}
-use Rattle.papaya_kept.specs.Given.SeizeWords.Mem.{Mem, value_at}
-use Rattle.papaya_kept.specs.Given.SeizeWords.Op.{Out, Found, Stored, Exchanged, Made, Taken, Roomed, Make}
-use Rattle.papaya_kept.specs.Given.SeizeWords.Plan.{Ends}
-use Rattle.papaya_kept.proofs.Given.SeizeWords.OneOwner.Operations.{taken}
+use Rattle.seize.specs.Given.SeizeWords.declared.at.At.{At}
+use Rattle.seize.specs.Given.SeizeWords.declared.at.At.TheVariants.{Root, Used, Slot, Entry, Word}
+use Rattle.seize.specs.Given.SeizeWords.declared.fault.Fault.TheVariants.{Capacity, Memory}
+use Rattle.seize.specs.Given.SeizeWords.Mem.{Mem, value_at}
+use Rattle.seize.specs.Given.SeizeWords.Op.{Out, Found, Stored, Exchanged, Made, Taken, Roomed, Make}
+use Rattle.seize.specs.Given.SeizeWords.Plan.{Ends}
+use Rattle.seize.proofs.Given.SeizeWords.OneOwner.Operations.{taken}
 use Rattle.seize.specs.declared.progress.Progress.{Progress}
 use Rattle.seize.specs.declared.progress.Progress.TheVariants as progress
-use Rattle.papaya_kept.specs.Given.Tables.declared.node.Node.{Node}
-use Rattle.papaya_kept.specs.Given.Tables.declared.node.Node.TheVariants as node
-use Rattle.papaya_kept.specs.Given.Tables.declared.setting.Setting.{Setting}
-use Rattle.papaya_kept.specs.Given.Tables.declared.table.Table.{Table}
-use Rattle.papaya_kept.specs.Given.Tables.declared.table_words.TheConstants.{PLACES}
-use Rattle.papaya_kept.specs.Given.Tables.Probes.{limit_of}
-use Rattle.papaya_kept.specs.Given.Resize.NewTable as new_table
-use Rattle.papaya_kept.specs.Given.Resize.declared.new_table.NewTable.{NewTable}
-use Rattle.papaya_kept.specs.Given.Resize.declared.new_table.Making.{Making}
-use Rattle.papaya_kept.specs.Given.Resize.declared.new_table.Making.TheVariants as makes
-use Rattle.papaya_schedules.specs.InTurn.{has_grown}
-use Rattle.papaya_teller.specs.Tells.{StepsTold}
-use Rattle.papaya_teller.specs.declared.changed.Changed.{Changed}
-use Rattle.papaya_teller.specs.declared.changed.Changed.TheVariants as changed
-use Rattle.papaya_effects.specs.Effects.{effects_of}
-use Rattle.papaya_effects.specs.Known.{Known}
-use Rattle.papaya_effects.specs.declared.acting.Acting.TheVariants as acts
+use Rattle.papaya_runs.specs.Given.Tables.declared.node.Node.{Node}
+use Rattle.papaya_runs.specs.Given.Tables.declared.node.Node.TheVariants as node
+use Rattle.papaya_runs.specs.Given.Tables.declared.setting.Setting.{Setting}
+use Rattle.papaya_runs.specs.Given.Tables.declared.table.Table.{Table}
+use Rattle.papaya_runs.specs.Given.Tables.declared.table_words.TheConstants.{PLACES}
+use Rattle.papaya_runs.specs.Given.Tables.Probes.{limit_of}
+use Rattle.papaya_reclaiming.specs.Given.Resize.NewTable as new_table
+use Rattle.papaya_reclaiming.specs.Given.Resize.declared.new_table.NewTable.{NewTable}
+use Rattle.papaya_reclaiming.specs.Given.Resize.declared.new_table.Making.{Making}
+use Rattle.papaya_reclaiming.specs.Given.Resize.declared.new_table.Making.TheVariants as makes
+use Rattle.papaya_remains.specs.Given.Schedules.InTurn.{has_grown}
+use Rattle.papaya_reclaiming.specs.Given.Teller.Tells.{StepsTold}
+use Rattle.papaya_reclaiming.specs.Given.Teller.declared.changed.Changed.{Changed}
+use Rattle.papaya_reclaiming.specs.Given.Teller.declared.changed.Changed.TheVariants as changed
+use Rattle.papaya_remains.specs.Given.Effects.Effects.{effects_of}
+use Rattle.papaya_remains.specs.Given.Effects.Known.{Known}
+use Rattle.papaya_remains.specs.Given.Effects.declared.acting.Acting.TheVariants as acts
 use Rattle.papaya_logged.proofs.MakingAsks.{told_as}
-use Rattle.papaya_scenes.proofs.Told.{as_step}
+use Rattle.papaya_reclaiming.proofs.Given.Scenes.Told.{as_step}
 
 -- a first table is none that counts, or that has answered
 abbrev pub IsFirstMaking : Making → Type 0

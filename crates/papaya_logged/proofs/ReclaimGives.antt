@@ -2,10 +2,10 @@
 use Rattle.std.specs.Prelude.{◌≡◌, ◌==◌, ℕ, Bool, true, false, Some, None, Ok, Err, if◌then◌else◌}
 use Rattle.std.proofs.Common.{ap, sym, subst, ◌∙◌, inl, inr}
 use Rattle.std.proofs.lemmas.Bool.{cases_eq}
-use Rattle.papaya_kept.specs.Given.SeizeWords.Mem.{Mem, Took, value_at}
-use Rattle.papaya_kept.specs.Given.SeizeWords.Op.{Op, Out, Load, Store, Swap, Add, Or, Exchange, Make, Take, Rewrite, Room, Found, Exchanged, Made, Taken, Roomed}
-use Rattle.papaya_kept.specs.Given.SeizeWords.Plan.{Plan, Turn, Do, Now, Ends}
-use Rattle.papaya_kept.specs.Given.SeizeWords.Word.{block_in}
+use Rattle.seize.specs.Given.SeizeWords.Mem.{Mem, Took, value_at}
+use Rattle.seize.specs.Given.SeizeWords.Op.{Op, Out, Load, Store, Swap, Add, Or, Exchange, Make, Take, Rewrite, Room, Found, Exchanged, Made, Taken, Roomed}
+use Rattle.seize.specs.Given.SeizeWords.Plan.{Plan, Turn, Do, Now, Ends}
+use Rattle.seize.specs.Given.SeizeWords.Word.{block_in}
 use Rattle.seize.specs.Leave as leave
 use Rattle.seize.specs.ReclaimAll as all
 use Rattle.seize.specs.Settle as settle
@@ -20,15 +20,15 @@ use Rattle.seize.specs.declared.rows.settle.Settled.{Settled}
 use Rattle.seize.specs.declared.rows.settle.Settled.TheVariants as settled
 use Rattle.seize.specs.declared.rows.settle.Settling.{Settling}
 use Rattle.seize.specs.declared.rows.settle.Settling.TheVariants as settling
-use Rattle.papaya_kept.specs.Given.Tables.Nodes.{deferred_word, was_left}
-use Rattle.papaya_kept.specs.Given.Tables.declared.node.Node.{Node}
-use Rattle.papaya_kept.specs.Given.Tells.Seen.{seen_of}
-use Rattle.papaya_teller.specs.Tells.{StepsTold, told_of}
-use Rattle.papaya_teller.specs.declared.changed.Changed.{Changed}
-use Rattle.papaya_teller.specs.declared.changed.Changed.TheVariants as changed
-use Rattle.papaya_kept.proofs.Given.Follows.Operations.{LeavesBy}
-use Rattle.papaya_kept.specs.Given.Follows.Steps.{TakesNone}
-use Rattle.papaya_kept.proofs.Given.Others.Outcomes.{told_in}
+use Rattle.papaya_runs.specs.Given.Tables.Nodes.{deferred_word, was_left}
+use Rattle.papaya_runs.specs.Given.Tables.declared.node.Node.{Node}
+use Rattle.papaya_reclaiming.specs.Given.Tells.Seen.{seen_of}
+use Rattle.papaya_reclaiming.specs.Given.Teller.Tells.{StepsTold, told_of}
+use Rattle.papaya_reclaiming.specs.Given.Teller.declared.changed.Changed.{Changed}
+use Rattle.papaya_reclaiming.specs.Given.Teller.declared.changed.Changed.TheVariants as changed
+use Rattle.papaya_remains.proofs.Given.Follows.Operations.{LeavesBy}
+use Rattle.papaya_remains.specs.Given.Follows.Steps.{TakesNone}
+use Rattle.papaya_remains.proofs.Given.Others.Outcomes.{told_in}
 
 module _ {T : Type 0} where
   -- an operation, and a plan, that takes no block away

@@ -5,23 +5,23 @@ use Rattle.std.proofs.lemmas.List.{append-nil, append_assoc}
 use Rattle.seize.specs.declared.rows.reclaim_all.ReclaimAll.{ReclaimAll}
 use Rattle.seize.specs.declared.rows.settle.Settled.{Settled}
 use Rattle.seize.specs.declared.rows.settle.Settled.TheVariants as settled
-use Rattle.papaya_kept.specs.Given.Tables.declared.node.Node.{Node}
-use Rattle.papaya_schedules.specs.declared.effect.Effect.{Effect}
-use Rattle.papaya_schedules.specs.Effects.{with_effect, with_effects, AtEachEffect}
-use Rattle.papaya_schedules.specs.Moment.{Moment}
-use Rattle.papaya_kept.specs.Given.Finishes.Maps.{IsSameMap, Standing}
-use Rattle.papaya_reclaims.specs.Reclaims.{AllIsReclaimed}
+use Rattle.papaya_runs.specs.Given.Tables.declared.node.Node.{Node}
+use Rattle.papaya_remains.specs.Given.Schedules.declared.effect.Effect.{Effect}
+use Rattle.papaya_remains.specs.Given.Schedules.Effects.{with_effect, with_effects, AtEachEffect}
+use Rattle.papaya_remains.specs.Given.Schedules.Moment.{Moment}
+use Rattle.papaya_reclaiming.specs.Given.Finishes.Maps.{IsSameMap, Standing}
+use Rattle.papaya_reclaiming.specs.Given.Reclaims.Reclaims.{AllIsReclaimed}
 use Rattle.papaya_reclaiming.specs.Reclaiming.{IsReclaimingThere, MayReclaim, NobodyHas, ReclaimsThere}
-use Rattle.papaya_kept.specs.Given.Spots.OnSlots.{WaitUnreclaimed}
-use Rattle.papaya_kept.proofs.Given.Moments.After.{effects_after}
-use Rattle.papaya_kept.specs.Given.Moments.OnSlots.{HadRetired}
+use Rattle.papaya_remains.specs.Given.Spots.OnSlots.{WaitUnreclaimed}
+use Rattle.papaya_remains.proofs.Given.Moments.After.{effects_after}
+use Rattle.papaya_remains.specs.Given.Moments.OnSlots.{HadRetired}
 use Rattle.papaya_logged.specs.Ends.{is_done}
 use Rattle.papaya_logged.specs.Reclaims.{ReclaimRetired, ReclaimingCame, ReclaimingIsShown, ReclaimingRan, ReclaimingSoFar, ReclaimingSteps, ReclaimingThen}
 use Rattle.papaya_logged.specs.Shown.{IsShown}
 use Rattle.papaya_logged.specs.declared.logged.Logged.{Logged}
-use Rattle.papaya_scenes.specs.Scene.{Scene}
-use Rattle.papaya_executor.specs.IsThere.{IsThere, held_by}
-use Rattle.papaya_scenes.specs.Reclaiming.{ReclaimingComesToThere, ReclaimingLeads}
+use Rattle.papaya_reclaiming.specs.Given.Scenes.Scene.{Scene}
+use Rattle.papaya_reclaiming.specs.Given.Executor.IsThere.{IsThere, held_by}
+use Rattle.papaya_reclaiming.specs.Given.Scenes.Reclaiming.{ReclaimingComesToThere, ReclaimingLeads}
 
 -- a map that is the same has its setting
 pub same_setting : {K : Type 0} (o o2 : Option (Standing K)) → IsSameMap o o2 → option_map (λ standing. standing.setting) o2 ≡ option_map (λ standing. standing.setting) o

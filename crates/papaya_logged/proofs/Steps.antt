@@ -4,34 +4,34 @@ use Rattle.std.specs.List.{list_any}
 use Rattle.std.proofs.Common.{ap, subst, sym, ◌∙◌}
 use Rattle.std.proofs.Math.Bool.{or-false}
 use Rattle.std.proofs.lemmas.List.Folds.{list_any-append}
-use Rattle.papaya_kept.specs.Given.Tables.declared.node.Node.{Node}
-use Rattle.papaya_raw.specs.declared.machines.progress.Progress.{Progress}
-use Rattle.papaya_schedules.specs.declared.effect.Effect.{Effect}
-use Rattle.papaya_schedules.specs.Effects.{with_effects}
-use Rattle.papaya_schedules.specs.Handing.{is_made}
-use Rattle.papaya_schedules.specs.Moment.{Moment}
-use Rattle.papaya_effects.specs.Effects.{effects_of, known_after}
-use Rattle.papaya_effects.specs.Known.{Known, known}
-use Rattle.papaya_effects.specs.declared.notes.Notes.{Notes}
-use Rattle.papaya_effects.specs.declared.acting.Acting.{Acting}
-use Rattle.papaya_effects.specs.declared.acting.Acting.TheVariants as acts
-use Rattle.papaya_executor.specs.declared.executor.Executor.{Executor}
-use Rattle.papaya_kept.proofs.Given.Moments.Calls.{calls_keep_whole}
-use Rattle.papaya_kept.specs.Given.Moments.Whole.{ShowsWhole}
-use Rattle.papaya_kept.specs.Kept.{ShowsKept}
-use Rattle.papaya_kept.proofs.Calls.{calls_keep_kept}
-use Rattle.papaya_kept.proofs.NoneMade.{none_made}
-use Rattle.papaya_teller.specs.Changed.{is_made as is_block_made}
-use Rattle.papaya_teller.specs.declared.changed.Changed.{Changed}
+use Rattle.papaya_runs.specs.Given.Tables.declared.node.Node.{Node}
+use Rattle.papaya_remains.specs.Given.Raw.declared.machines.progress.Progress.{Progress}
+use Rattle.papaya_remains.specs.Given.Schedules.declared.effect.Effect.{Effect}
+use Rattle.papaya_remains.specs.Given.Schedules.Effects.{with_effects}
+use Rattle.papaya_remains.specs.Given.Schedules.Handing.{is_made}
+use Rattle.papaya_remains.specs.Given.Schedules.Moment.{Moment}
+use Rattle.papaya_remains.specs.Given.Effects.Effects.{effects_of, known_after}
+use Rattle.papaya_remains.specs.Given.Effects.Known.{Known, known}
+use Rattle.papaya_remains.specs.Given.Effects.declared.notes.Notes.{Notes}
+use Rattle.papaya_remains.specs.Given.Effects.declared.acting.Acting.{Acting}
+use Rattle.papaya_remains.specs.Given.Effects.declared.acting.Acting.TheVariants as acts
+use Rattle.papaya_reclaiming.specs.Given.Executor.declared.executor.Executor.{Executor}
+use Rattle.papaya_remains.proofs.Given.Moments.Calls.{calls_keep_whole}
+use Rattle.papaya_remains.specs.Given.Moments.Whole.{ShowsWhole}
+use Rattle.papaya_remains.specs.Given.Kept.Kept.{ShowsKept}
+use Rattle.papaya_remains.proofs.Given.Kept.Calls.{calls_keep_kept}
+use Rattle.papaya_remains.proofs.Given.Kept.NoneMade.{none_made}
+use Rattle.papaya_reclaiming.specs.Given.Teller.Changed.{is_made as is_block_made}
+use Rattle.papaya_reclaiming.specs.Given.Teller.declared.changed.Changed.{Changed}
 use Rattle.papaya_logged.specs.Calling.{CallGoesOn, MakesNoMore}
 use Rattle.papaya_logged.specs.Shown.{IsShown}
 use Rattle.papaya_logged.specs.declared.logged.Logged.{Logged}
 use Rattle.papaya_logged.proofs.Counted.{counted_call_steps}
 use Rattle.papaya_logged.proofs.LeftNoted.{calls_note_left}
-use Rattle.papaya_executor.specs.IsThere.{IsThere, KeepsGiven, held_by}
-use Rattle.papaya_executor.specs.Stepping.{StepsThere}
-use Rattle.papaya_scenes.specs.Scene.{Scene}
-use Rattle.papaya_scenes.specs.Stepping.{scene_after}
+use Rattle.papaya_reclaiming.specs.Given.Executor.IsThere.{IsThere, KeepsGiven, held_by}
+use Rattle.papaya_reclaiming.specs.Given.Executor.Stepping.{StepsThere}
+use Rattle.papaya_reclaiming.specs.Given.Scenes.Scene.{Scene}
+use Rattle.papaya_reclaiming.specs.Given.Scenes.Stepping.{scene_after}
 use Rattle.papaya_logged.proofs.Held.{call_held, maps_below}
 
 module _ {K V S : Type 0} (same : K → K → Bool) (hash : K → ℕ) where

@@ -3,25 +3,25 @@ use Rattle.std.specs.Prelude.{◌≡◌, ◌-◌, ℕ, Bool, List, [], ◌∷◌
 use Rattle.std.specs.List.{AllByRecursion}
 use Rattle.seize.specs.declared.rows.settle.Settled.{Settled}
 use Rattle.seize.specs.declared.rows.settle.Settled.TheVariants as settled
-use Rattle.papaya_kept.specs.Given.Tables.declared.node.Node.{Node}
-use Rattle.papaya_kept.specs.Given.Tables.declared.node.Node.TheVariants as node
+use Rattle.papaya_runs.specs.Given.Tables.declared.node.Node.{Node}
+use Rattle.papaya_runs.specs.Given.Tables.declared.node.Node.TheVariants as node
 use Rattle.papaya_runs.specs.declared.record.Pair.{Pair}
 use Rattle.papaya_runs.specs.Pairs.{numbers}
 use Rattle.papaya_runs.specs.Runs.{IsStored}
-use Rattle.papaya_schedules.specs.declared.effect.Effect.{Effect}
-use Rattle.papaya_schedules.specs.declared.effect.Effect.TheVariants.{Ended, Reclaimed}
-use Rattle.papaya_schedules.specs.declared.effect.Thing.TheVariants.{APair}
-use Rattle.papaya_schedules.specs.Effects.{pairs_back}
-use Rattle.papaya_schedules.specs.Moment.{Moment}
-use Rattle.papaya_effects.specs.Known.{Known, known}
-use Rattle.papaya_scenes.specs.declared.row.RowTold.{RowTold}
-use Rattle.papaya_scenes.specs.declared.row.RowTold.TheVariants as told
+use Rattle.papaya_remains.specs.Given.Schedules.declared.effect.Effect.{Effect}
+use Rattle.papaya_remains.specs.Given.Schedules.declared.effect.Effect.TheVariants.{Ended, Reclaimed}
+use Rattle.papaya_remains.specs.Given.Schedules.declared.effect.Thing.TheVariants.{APair}
+use Rattle.papaya_remains.specs.Given.Schedules.Effects.{pairs_back}
+use Rattle.papaya_remains.specs.Given.Schedules.Moment.{Moment}
+use Rattle.papaya_remains.specs.Given.Effects.Known.{Known, known}
+use Rattle.papaya_reclaiming.specs.Given.Scenes.declared.row.RowTold.{RowTold}
+use Rattle.papaya_reclaiming.specs.Given.Scenes.declared.row.RowTold.TheVariants as told
 use Rattle.papaya_reclaiming.specs.Reclaiming.{MayReclaim, NobodyHas}
-use Rattle.papaya_kept.specs.Given.Finishes.Endings.{Finishing}
+use Rattle.papaya_reclaiming.specs.Given.Finishes.Endings.{Finishing}
 use Rattle.papaya_logged.specs.Ends.{NotedStill, NotesMap}
 use Rattle.papaya_logged.specs.Shown.{IsShown}
 use Rattle.papaya_logged.specs.declared.logged.Logged.{Logged}
-use Rattle.papaya_scenes.specs.Scene.{Scene}
+use Rattle.papaya_reclaiming.specs.Given.Scenes.Scene.{Scene}
 
 -- the number of the pair that an effect reclaims, if it reclaims one,
 abbrev pub number_back : Effect → Option ℕ

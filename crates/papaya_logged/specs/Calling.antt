@@ -1,41 +1,41 @@
 -- Where the beginning and a step of a call lead, and what they do; where a call goes on by what it is told, or asked.
 use Rattle.std.specs.Prelude.{◌≡◌, ℕ, Bool, true, List, ◌++◌, Option, Some, Result, Ok}
 use Rattle.std.specs.List.{list_any}
-use Rattle.papaya_kept.specs.Given.Tables.declared.node.Node.{Node}
-use Rattle.papaya_raw.specs.Machine.{machine_asked, machine_replied}
-use Rattle.papaya_raw.specs.declared.machines.asking.Reply.{Reply as MachineReply}
-use Rattle.papaya_raw.specs.declared.machines.machine.Machine.{Machine}
-use Rattle.papaya_raw.specs.declared.machines.progress.Progress.{Progress}
-use Rattle.papaya_schedules.specs.Beginning.{with_call}
-use Rattle.papaya_schedules.specs.Lists.{put}
-use Rattle.papaya_schedules.specs.declared.call.Call.{Call}
-use Rattle.papaya_schedules.specs.declared.call.Reply.{Reply}
-use Rattle.papaya_schedules.specs.declared.effect.Effect.{Effect}
-use Rattle.papaya_schedules.specs.Effects.{with_effects}
-use Rattle.papaya_schedules.specs.Handing.{is_made}
-use Rattle.papaya_schedules.specs.Moment.{Asking, UnderWay as CallThere, Moment}
-use Rattle.papaya_schedules.specs.Views.{call_of}
-use Rattle.papaya_kept.specs.Given.Callers.Together.{UnderWay}
-use Rattle.papaya_effects.specs.Effects.{effects_of, known_after}
-use Rattle.papaya_effects.specs.Known.{known}
-use Rattle.papaya_effects.specs.declared.acting.Acting.TheVariants as acts
-use Rattle.papaya_scenes.specs.declared.row.SlotUse.TheVariants as used
-use Rattle.papaya_kept.specs.Given.Finishes.Machines.{machine_of}
-use Rattle.papaya_kept.specs.Given.Finishes.Maps.{Standing, with_call as with_call_of}
-use Rattle.papaya_kept.specs.Given.Follows.Calling.{NoneNamed, told as told_so}
-use Rattle.papaya_kept.specs.Given.Follows.Calls.{IsCalled}
-use Rattle.papaya_kept.specs.Given.Hands.Asked.{as_told}
-use Rattle.papaya_kept.specs.Given.Hands.Calling.{IsBegunFor}
-use Rattle.papaya_kept.specs.Given.Others.Walks.{given_up}
+use Rattle.papaya_runs.specs.Given.Tables.declared.node.Node.{Node}
+use Rattle.papaya_remains.specs.Given.Raw.Machine.{machine_asked, machine_replied}
+use Rattle.papaya_remains.specs.Given.Raw.declared.machines.asking.Reply.{Reply as MachineReply}
+use Rattle.papaya_remains.specs.Given.Raw.declared.machines.machine.Machine.{Machine}
+use Rattle.papaya_remains.specs.Given.Raw.declared.machines.progress.Progress.{Progress}
+use Rattle.papaya_remains.specs.Given.Schedules.Beginning.{with_call}
+use Rattle.papaya_remains.specs.Given.Schedules.Lists.{put}
+use Rattle.papaya_remains.specs.Given.Schedules.declared.call.Call.{Call}
+use Rattle.papaya_remains.specs.Given.Schedules.declared.call.Reply.{Reply}
+use Rattle.papaya_remains.specs.Given.Schedules.declared.effect.Effect.{Effect}
+use Rattle.papaya_remains.specs.Given.Schedules.Effects.{with_effects}
+use Rattle.papaya_remains.specs.Given.Schedules.Handing.{is_made}
+use Rattle.papaya_remains.specs.Given.Schedules.Moment.{Asking, UnderWay as CallThere, Moment}
+use Rattle.papaya_remains.specs.Given.Schedules.Views.{call_of}
+use Rattle.papaya_reclaiming.specs.Given.Callers.Together.{UnderWay}
+use Rattle.papaya_remains.specs.Given.Effects.Effects.{effects_of, known_after}
+use Rattle.papaya_remains.specs.Given.Effects.Known.{known}
+use Rattle.papaya_remains.specs.Given.Effects.declared.acting.Acting.TheVariants as acts
+use Rattle.papaya_reclaiming.specs.Given.Scenes.declared.row.SlotUse.TheVariants as used
+use Rattle.papaya_reclaiming.specs.Given.Finishes.Machines.{machine_of}
+use Rattle.papaya_reclaiming.specs.Given.Finishes.Maps.{Standing, with_call as with_call_of}
+use Rattle.papaya_remains.specs.Given.Follows.Calling.{NoneNamed, told as told_so}
+use Rattle.papaya_remains.specs.Given.Follows.Calls.{IsCalled}
+use Rattle.papaya_remains.specs.Given.Hands.Asked.{as_told}
+use Rattle.papaya_remains.specs.Given.Hands.Calling.{IsBegunFor}
+use Rattle.papaya_remains.specs.Given.Others.Walks.{given_up}
 use Rattle.papaya_logged.specs.Goes.{IsNotedAs, far}
 use Rattle.papaya_logged.specs.Shown.{IsShown}
 use Rattle.papaya_logged.specs.declared.logged.Logged.{Logged}
-use Rattle.papaya_executor.specs.IsThere.{IsThere, held_by, use_at}
-use Rattle.papaya_executor.specs.Stepping.{StepsThere}
-use Rattle.papaya_scenes.specs.Beginning.{Begins}
-use Rattle.papaya_scenes.specs.Replying.{scene_with, unless_stopped}
-use Rattle.papaya_scenes.specs.Scene.{Scene, slot_of}
-use Rattle.papaya_scenes.specs.Stepping.{StepLeads, scene_after}
+use Rattle.papaya_reclaiming.specs.Given.Executor.IsThere.{IsThere, held_by, use_at}
+use Rattle.papaya_reclaiming.specs.Given.Executor.Stepping.{StepsThere}
+use Rattle.papaya_reclaiming.specs.Given.Scenes.Beginning.{Begins}
+use Rattle.papaya_reclaiming.specs.Given.Scenes.Replying.{scene_with, unless_stopped}
+use Rattle.papaya_reclaiming.specs.Given.Scenes.Scene.{Scene, slot_of}
+use Rattle.papaya_reclaiming.specs.Given.Scenes.Stepping.{StepLeads, scene_after}
 
 -- where growths are to be refused, nothing more is made
 abbrev pub MakesNoMore : Bool → (before after : List Effect) → Type 0

@@ -1,18 +1,18 @@
 -- Which roots are taken, and which one the making of a map finds.
 use Rattle.std.specs.Prelude.{◌≡◌, ◌<◌, ◌≤◌, ◌^◌, ◌==◌, ◌||◌, ℕ, Bool, true, false, List, ◌++◌, max, Some, if◌then◌else◌}
-use Rattle.papaya_kept.specs.Given.SeizeWords.declared.at.At.TheVariants.{Used}
-use Rattle.papaya_kept.specs.Given.SeizeWords.declared.fault.Fault.TheVariants.{Memory, RootsUsedUp}
-use Rattle.papaya_kept.specs.Given.SeizeWords.Mem.{Mem, word_at}
+use Rattle.seize.specs.Given.SeizeWords.declared.at.At.TheVariants.{Used}
+use Rattle.seize.specs.Given.SeizeWords.declared.fault.Fault.TheVariants.{Memory, RootsUsedUp}
+use Rattle.seize.specs.Given.SeizeWords.Mem.{Mem, word_at}
 use Rattle.seize.specs.declared.progress.Progress.{Progress}
 use Rattle.seize.specs.declared.progress.Progress.TheVariants as progress
-use Rattle.papaya_kept.specs.Given.Tables.declared.setting.Setting.{Setting}
-use Rattle.papaya_kept.specs.Given.Resize.NewMap.{opening}
-use Rattle.papaya_schedules.specs.declared.effect.Effect.{Effect}
-use Rattle.papaya_schedules.specs.InTurn.{has_grown}
-use Rattle.papaya_kept.specs.Given.Finishes.Makings.{Beginning}
+use Rattle.papaya_runs.specs.Given.Tables.declared.setting.Setting.{Setting}
+use Rattle.papaya_reclaiming.specs.Given.Resize.NewMap.{opening}
+use Rattle.papaya_remains.specs.Given.Schedules.declared.effect.Effect.{Effect}
+use Rattle.papaya_remains.specs.Given.Schedules.InTurn.{has_grown}
+use Rattle.papaya_reclaiming.specs.Given.Finishes.Makings.{Beginning}
 use Rattle.papaya_logged.specs.declared.logged.Logged.{Logged}
-use Rattle.papaya_executor.specs.IsThere.{IsThere}
-use Rattle.papaya_scenes.specs.Scene.{Scene}
+use Rattle.papaya_reclaiming.specs.Given.Executor.IsThere.{IsThere}
+use Rattle.papaya_reclaiming.specs.Given.Scenes.Scene.{Scene}
 
 -- of so many roots these are taken, and the others are free
 abbrev pub AreTaken : {T : Type 0} → ℕ → (ℕ → Bool) → Mem T → Type 0

@@ -1,16 +1,16 @@
 -- What an end of a map has left over so far is noted as the pairs that waited behind its tables as it began, in their order.
 use Rattle.std.specs.Prelude.{◌≡◌, ◌<◌, ◌≤◌, ◌-◌, ℕ, zero, suc, Bool, true, false, List, [], ◌++◌, map as each_of}
 use Rattle.seize.specs.World.{World}
-use Rattle.papaya_kept.specs.Given.Tables.declared.node.Node.{Node}
-use Rattle.papaya_raw.specs.declared.machines.end_map.EndMap.{EndMap}
-use Rattle.papaya_kept.specs.Given.Rule.Chart.{Chart}
-use Rattle.papaya_schedules.specs.Moment.{Deferral, Moment}
-use Rattle.papaya_schedules.specs.Views.{behind}
-use Rattle.papaya_effects.specs.Known.{Known}
-use Rattle.papaya_effects.specs.declared.role.Role.TheVariants as role
-use Rattle.papaya_kept.specs.Given.Finishes.Endings.{Finishing, FinishingFacts, waiting_by}
-use Rattle.papaya_kept.specs.Given.Finishes.FactsEnds.{Deed, taken_by}
-use Rattle.papaya_kept.specs.Given.Follows.Maps.{table_of}
+use Rattle.papaya_runs.specs.Given.Tables.declared.node.Node.{Node}
+use Rattle.papaya_remains.specs.Given.Raw.declared.machines.end_map.EndMap.{EndMap}
+use Rattle.papaya_reclaiming.specs.Given.Rule.Chart.{Chart}
+use Rattle.papaya_remains.specs.Given.Schedules.Moment.{Deferral, Moment}
+use Rattle.papaya_remains.specs.Given.Schedules.Views.{behind}
+use Rattle.papaya_remains.specs.Given.Effects.Known.{Known}
+use Rattle.papaya_remains.specs.Given.Effects.declared.role.Role.TheVariants as role
+use Rattle.papaya_reclaiming.specs.Given.Finishes.Endings.{Finishing, FinishingFacts, waiting_by}
+use Rattle.papaya_reclaiming.specs.Given.Finishes.FactsEnds.{Deed, taken_by}
+use Rattle.papaya_remains.specs.Given.Follows.Maps.{table_of}
 
 -- the pairs that wait behind so many tables of a map, from this one on
 abbrev pub waited_behind : ℕ → List Deferral → ℕ → ℕ → List ℕ

@@ -1,20 +1,20 @@
 //! Calls begin, take steps, and are told what they ask.
 ghost use Rattle.std.specs.Prelude.{◌≡◌, ◌<◌, ◌+◌, ◌*◌, ℕ, Bool, List, length, IfOk, IfErr};
-ghost use Rattle.papaya_schedules.specs.Moment.{Moment};
-ghost use Rattle.papaya_scenes.specs.declared.callers.TheConstants.{SLOTS};
+ghost use Rattle.papaya_remains.specs.Given.Schedules.Moment.{Moment};
+ghost use Rattle.papaya_reclaiming.specs.Given.Scenes.declared.callers.TheConstants.{SLOTS};
 ghost use Rattle.papaya_logged.specs.Calling.{CallBegins, CallGoesOn, CallSteps, CallTakes, MakesNoMore, WalkGoesOn, WalkStops};
 ghost use Rattle.papaya_logged.specs.Shown.{IsShown};
-ghost use Rattle.papaya_executor.specs.Beginning.{BeginsThere, IsRefused};
-ghost use Rattle.papaya_executor.specs.IsThere.{IsThere, KeepsGiven};
-ghost use Rattle.papaya_executor.specs.Replying.{AsksThere, RepliesThere, StopsThere};
-ghost use Rattle.papaya_scenes.specs.Scene.{HasCall, Scene};
+ghost use Rattle.papaya_reclaiming.specs.Given.Executor.Beginning.{BeginsThere, IsRefused};
+ghost use Rattle.papaya_reclaiming.specs.Given.Executor.IsThere.{IsThere, KeepsGiven};
+ghost use Rattle.papaya_reclaiming.specs.Given.Executor.Replying.{AsksThere, RepliesThere, StopsThere};
+ghost use Rattle.papaya_reclaiming.specs.Given.Scenes.Scene.{HasCall, Scene};
 
 use crate::logged::Logged;
-use papaya_effects::acting::Acting;
-use papaya_raw::machines::{Machine, Progress, Reply};
-use papaya_raw::{Hashes, Node};
-use papaya_scenes::callers::SLOTS;
-use papaya_schedules::effect::Effect;
+use papaya_reclaiming::papaya_scenes::callers::SLOTS;
+use papaya_remains::papaya_effects::acting::Acting;
+use papaya_remains::papaya_raw::machines::{Machine, Progress, Reply};
+use papaya_remains::papaya_raw::{Hashes, Node};
+use papaya_remains::papaya_schedules::effect::Effect;
 use std::alloc::AllocError;
 use std::hash::Hash;
 

@@ -1,27 +1,27 @@
 //! Ends of maps begin, take steps, and run to their ends.
 ghost use Rattle.std.specs.Prelude.{◌≡◌, ◌<◌, ◌+◌, ◌*◌, ◌++◌, ℕ, Bool, true, List, length, slice_index_or, Some, None, IfOk, IfErr};
-ghost use Rattle.papaya_effects.specs.Effects.{effects_of, known_after};
-ghost use Rattle.papaya_effects.specs.Known.{known};
-ghost use Rattle.papaya_effects.specs.declared.acting.Acting.TheVariants.{Ending};
-ghost use Rattle.papaya_schedules.specs.Moment.{Moment};
-ghost use Rattle.papaya_kept.specs.Given.Tables.declared.setting.Setting.{Setting};
-ghost use Rattle.papaya_scenes.specs.declared.callers.TheConstants.{SLOTS};
+ghost use Rattle.papaya_remains.specs.Given.Effects.Effects.{effects_of, known_after};
+ghost use Rattle.papaya_remains.specs.Given.Effects.Known.{known};
+ghost use Rattle.papaya_remains.specs.Given.Effects.declared.acting.Acting.TheVariants.{Ending};
+ghost use Rattle.papaya_remains.specs.Given.Schedules.Moment.{Moment};
+ghost use Rattle.papaya_runs.specs.Given.Tables.declared.setting.Setting.{Setting};
+ghost use Rattle.papaya_reclaiming.specs.Given.Scenes.declared.callers.TheConstants.{SLOTS};
 ghost use Rattle.papaya_logged.specs.Back.{EndBringsBack};
 ghost use Rattle.papaya_logged.specs.Ends.{EndIsBegun, EndSteps, EndRan, EndIsOver, is_done};
 ghost use Rattle.papaya_logged.specs.Goes.{EndGone};
 ghost use Rattle.papaya_logged.specs.Shown.{IsShown};
-ghost use Rattle.papaya_executor.specs.Beginning.{IsRefused};
-ghost use Rattle.papaya_executor.specs.Ending.{EndingBegins, EndsThere};
-ghost use Rattle.papaya_executor.specs.IsThere.{IsThere, KeepsGiven};
-ghost use Rattle.papaya_scenes.specs.Scene.{IsEnding, Scene};
+ghost use Rattle.papaya_reclaiming.specs.Given.Executor.Beginning.{IsRefused};
+ghost use Rattle.papaya_reclaiming.specs.Given.Executor.Ending.{EndingBegins, EndsThere};
+ghost use Rattle.papaya_reclaiming.specs.Given.Executor.IsThere.{IsThere, KeepsGiven};
+ghost use Rattle.papaya_reclaiming.specs.Given.Scenes.Scene.{IsEnding, Scene};
 
 use crate::back::keep_settled;
 use crate::logged::Logged;
-use papaya_effects::acting::Acting;
-use papaya_raw::Node;
+use papaya_reclaiming::papaya_scenes::callers::SLOTS;
+use papaya_remains::papaya_effects::acting::Acting;
+use papaya_remains::papaya_raw::Node;
+use papaya_remains::papaya_schedules::effect::Effect;
 use papaya_runs::record::Pair;
-use papaya_scenes::callers::SLOTS;
-use papaya_schedules::effect::Effect;
 use seize::rows::Settled;
 use std::alloc::AllocError;
 

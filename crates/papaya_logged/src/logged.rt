@@ -1,18 +1,18 @@
 //! An executor, with what is noted of its memory.
 ghost use Rattle.std.specs.Prelude.{◌≡◌, ◌++◌, ℕ, Bool, true, List, [], IfOk, OnOk};
-ghost use Rattle.papaya_schedules.specs.Moment.{start};
-ghost use Rattle.papaya_effects.specs.Effects.{effects_of, known_after, HasNumber};
-ghost use Rattle.papaya_effects.specs.Known.{known, nothing_known};
+ghost use Rattle.papaya_remains.specs.Given.Schedules.Moment.{start};
+ghost use Rattle.papaya_remains.specs.Given.Effects.Effects.{effects_of, known_after, HasNumber};
+ghost use Rattle.papaya_remains.specs.Given.Effects.Known.{known, nothing_known};
 ghost use Rattle.papaya_logged.specs.Choosing.{ChoiceIsShown, logged_chosen};
 ghost use Rattle.papaya_logged.specs.Shown.{IsShown};
-ghost use Rattle.papaya_executor.specs.IsThere.{KeepsGiven};
-ghost use Rattle.papaya_scenes.specs.Scene.{at_first};
+ghost use Rattle.papaya_reclaiming.specs.Given.Executor.IsThere.{KeepsGiven};
+ghost use Rattle.papaya_reclaiming.specs.Given.Scenes.Scene.{at_first};
 
-use papaya_effects::acting::Acting;
-use papaya_effects::notes::Notes;
-use papaya_executor::executor::Executor;
-use papaya_schedules::effect::Effect;
-use papaya_teller::changed::Changed;
+use papaya_reclaiming::papaya_executor::executor::Executor;
+use papaya_reclaiming::papaya_teller::changed::Changed;
+use papaya_remains::papaya_effects::acting::Acting;
+use papaya_remains::papaya_effects::notes::Notes;
+use papaya_remains::papaya_schedules::effect::Effect;
 use std::alloc::{AllocError, Global};
 
 /// An executor, with what is noted of its memory.

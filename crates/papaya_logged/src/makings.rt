@@ -1,26 +1,26 @@
 //! Makings of maps begin, take steps, and run to their ends.
 ghost use Rattle.std.specs.Prelude.{◌≡◌, ◌<◌, ◌+◌, ◌*◌, ◌++◌, ℕ, Bool, true, List, length, Some, IfOk, IfErr};
-ghost use Rattle.papaya_effects.specs.Effects.{effects_of, known_after};
-ghost use Rattle.papaya_effects.specs.Known.{known};
-ghost use Rattle.papaya_effects.specs.declared.acting.Acting.TheVariants.{Making};
-ghost use Rattle.papaya_kept.specs.Given.Finishes.Makings.{Beginning};
-ghost use Rattle.papaya_schedules.specs.Moment.{Moment};
-ghost use Rattle.papaya_scenes.specs.declared.callers.TheConstants.{SLOTS};
+ghost use Rattle.papaya_remains.specs.Given.Effects.Effects.{effects_of, known_after};
+ghost use Rattle.papaya_remains.specs.Given.Effects.Known.{known};
+ghost use Rattle.papaya_remains.specs.Given.Effects.declared.acting.Acting.TheVariants.{Making};
+ghost use Rattle.papaya_reclaiming.specs.Given.Finishes.Makings.{Beginning};
+ghost use Rattle.papaya_remains.specs.Given.Schedules.Moment.{Moment};
+ghost use Rattle.papaya_reclaiming.specs.Given.Scenes.declared.callers.TheConstants.{SLOTS};
 ghost use Rattle.papaya_logged.specs.Goes.{MakingGone};
 ghost use Rattle.papaya_logged.specs.Makings.{MakingIsBegun, MakingSteps, MakingRan, MapIsThere, given_back, is_over, numbers_then};
 ghost use Rattle.papaya_logged.specs.Roots.{MakingFinds};
 ghost use Rattle.papaya_logged.specs.Shown.{IsShown};
-ghost use Rattle.papaya_executor.specs.Beginning.{IsRefused};
-ghost use Rattle.papaya_executor.specs.IsThere.{IsThere, KeepsGiven, StaysGiven};
-ghost use Rattle.papaya_executor.specs.Making.{MakesThere};
-ghost use Rattle.papaya_executor.specs.MakingBegins.{MakingBegins};
-ghost use Rattle.papaya_scenes.specs.Scene.{IsMaking, Scene};
+ghost use Rattle.papaya_reclaiming.specs.Given.Executor.Beginning.{IsRefused};
+ghost use Rattle.papaya_reclaiming.specs.Given.Executor.IsThere.{IsThere, KeepsGiven, StaysGiven};
+ghost use Rattle.papaya_reclaiming.specs.Given.Executor.Making.{MakesThere};
+ghost use Rattle.papaya_reclaiming.specs.Given.Executor.MakingBegins.{MakingBegins};
+ghost use Rattle.papaya_reclaiming.specs.Given.Scenes.Scene.{IsMaking, Scene};
 
 use crate::logged::Logged;
-use papaya_effects::acting::Acting;
-use papaya_raw::Setting;
-use papaya_scenes::callers::SLOTS;
-use papaya_schedules::effect::Effect;
+use papaya_reclaiming::papaya_scenes::callers::SLOTS;
+use papaya_remains::papaya_effects::acting::Acting;
+use papaya_remains::papaya_raw::Setting;
+use papaya_remains::papaya_schedules::effect::Effect;
 use seize::Progress;
 use std::alloc::AllocError;
 

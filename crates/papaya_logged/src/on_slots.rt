@@ -1,30 +1,30 @@
 //! Rows on slots begin, and take steps.
 ghost use Rattle.std.specs.Prelude.{◌≡◌, ◌<◌, ◌+◌, ◌*◌, ◌++◌, ℕ, Bool, true, List, length, Some, IfOk, IfErr};
-ghost use Rattle.papaya_schedules.specs.Moment.{Moment};
-ghost use Rattle.papaya_effects.specs.Effects.{effects_of, known_after};
-ghost use Rattle.papaya_effects.specs.Known.{known};
-ghost use Rattle.papaya_effects.specs.declared.acting.Acting.TheVariants.{Row};
-ghost use Rattle.papaya_scenes.specs.declared.row.SlotRow.{SlotRow};
-ghost use Rattle.papaya_scenes.specs.declared.callers.TheConstants.{SLOTS};
-ghost use Rattle.papaya_executor.specs.declared.worker.Work.TheVariants.{OnSlot};
+ghost use Rattle.papaya_remains.specs.Given.Schedules.Moment.{Moment};
+ghost use Rattle.papaya_remains.specs.Given.Effects.Effects.{effects_of, known_after};
+ghost use Rattle.papaya_remains.specs.Given.Effects.Known.{known};
+ghost use Rattle.papaya_remains.specs.Given.Effects.declared.acting.Acting.TheVariants.{Row};
+ghost use Rattle.papaya_reclaiming.specs.Given.Scenes.declared.row.SlotRow.{SlotRow};
+ghost use Rattle.papaya_reclaiming.specs.Given.Scenes.declared.callers.TheConstants.{SLOTS};
+ghost use Rattle.papaya_reclaiming.specs.Given.Executor.declared.worker.Work.TheVariants.{OnSlot};
 ghost use Rattle.papaya_logged.specs.Back.{BringsBack};
 ghost use Rattle.papaya_logged.specs.Ended.{has_ended, uses_ended};
 ghost use Rattle.papaya_logged.specs.Goes.{RowGone};
 ghost use Rattle.papaya_logged.specs.OnSlots.{EndsTelling, OnSlotBegins, OnSlotSteps, OnSlotRan, OnSlotComes, OnSlotLast, has_come};
 ghost use Rattle.papaya_logged.specs.Shown.{IsShown};
-ghost use Rattle.papaya_executor.specs.Beginning.{IsRefused};
-ghost use Rattle.papaya_executor.specs.IsThere.{IsThere, KeepsGiven, work_of};
-ghost use Rattle.papaya_executor.specs.OnSlots.{RowBeginsThere, RowStepsThere};
-ghost use Rattle.papaya_scenes.specs.Scene.{Scene};
+ghost use Rattle.papaya_reclaiming.specs.Given.Executor.Beginning.{IsRefused};
+ghost use Rattle.papaya_reclaiming.specs.Given.Executor.IsThere.{IsThere, KeepsGiven, work_of};
+ghost use Rattle.papaya_reclaiming.specs.Given.Executor.OnSlots.{RowBeginsThere, RowStepsThere};
+ghost use Rattle.papaya_reclaiming.specs.Given.Scenes.Scene.{Scene};
 
 use crate::back::keep_row;
 use crate::logged::Logged;
-use papaya_effects::acting::Acting;
-use papaya_raw::Node;
+use papaya_reclaiming::papaya_scenes::callers::SLOTS;
+use papaya_reclaiming::papaya_scenes::row::{RowTold, SlotCall};
+use papaya_remains::papaya_effects::acting::Acting;
+use papaya_remains::papaya_raw::Node;
+use papaya_remains::papaya_schedules::effect::Effect;
 use papaya_runs::record::Pair;
-use papaya_scenes::callers::SLOTS;
-use papaya_scenes::row::{RowTold, SlotCall};
-use papaya_schedules::effect::Effect;
 use std::alloc::AllocError;
 
 /// Whether a row has ended, or waits.

@@ -1,26 +1,26 @@
 //! All is reclaimed, step by step, while nobody has anything under way.
 ghost use Rattle.std.specs.Prelude.{◌≡◌, ◌++◌, ℕ, Bool, List, IfOk, OnOk, if◌then◌else◌};
 ghost use Rattle.seize.specs.ReclaimAll.{reclaiming_all, clearing};
-ghost use Rattle.papaya_effects.specs.Effects.{effects_of, known_after};
-ghost use Rattle.papaya_effects.specs.Known.{known};
-ghost use Rattle.papaya_effects.specs.declared.acting.Acting.TheVariants.{Row};
-ghost use Rattle.papaya_schedules.specs.Moment.{Moment};
+ghost use Rattle.papaya_remains.specs.Given.Effects.Effects.{effects_of, known_after};
+ghost use Rattle.papaya_remains.specs.Given.Effects.Known.{known};
+ghost use Rattle.papaya_remains.specs.Given.Effects.declared.acting.Acting.TheVariants.{Row};
+ghost use Rattle.papaya_remains.specs.Given.Schedules.Moment.{Moment};
 ghost use Rattle.papaya_reclaiming.specs.Reclaiming.{IsReclaimingThere, MayReclaim, NobodyHas, ReclaimsThere};
 ghost use Rattle.papaya_logged.specs.Back.{AllBringsBack};
 ghost use Rattle.papaya_logged.specs.Goes.{ReclaimingGone};
 ghost use Rattle.papaya_logged.specs.Reclaims.{ReclaimingIsShown, ReclaimingRan, ReclaimingSteps};
 ghost use Rattle.papaya_logged.specs.Shown.{IsShown};
-ghost use Rattle.papaya_executor.specs.IsThere.{KeepsGiven};
-ghost use Rattle.papaya_scenes.specs.Scene.{Scene};
+ghost use Rattle.papaya_reclaiming.specs.Given.Executor.IsThere.{KeepsGiven};
+ghost use Rattle.papaya_reclaiming.specs.Given.Scenes.Scene.{Scene};
 
 use crate::back::keep_settled;
 use crate::ends::is_done;
 use crate::logged::Logged;
-use papaya_effects::acting::Acting;
-use papaya_raw::Node;
 use papaya_reclaiming::reclaiming::Reclaiming;
+use papaya_remains::papaya_effects::acting::Acting;
+use papaya_remains::papaya_raw::Node;
+use papaya_remains::papaya_schedules::effect::Effect;
 use papaya_runs::record::Pair;
-use papaya_schedules::effect::Effect;
 use seize::rows::Settled;
 use std::alloc::AllocError;
 

@@ -6,3 +6,4 @@ pub mod Lookups
 mod Makings
 pub mod Sees
 mod Plans
+pub mod Given

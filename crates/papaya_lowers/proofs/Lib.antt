@@ -14,3 +14,4 @@ pub mod ItsPair
 mod Waits
 mod Looks
 mod Plans
+pub mod Given

@@ -1,41 +1,41 @@
 -- A step of a call on one key, or of a reservation, that is none of a row of the collector: by all that can be looked at of its map, its numbers are lower.
 use Rattle.std.specs.Prelude.{◌≡◌, ℕ, Bool, Option, Some}
 use Rattle.std.proofs.Common.{inl, inr, sym, subst, ◌∙◌}
-use Rattle.papaya_maps.specs.Given.SeizeWords.Mem.{Mem, Took, value_at}
-use Rattle.papaya_maps.specs.Given.SeizeWords.Plan.{Steps}
-use Rattle.papaya_maps.specs.Given.Seize.World.{World, IsInside}
-use Rattle.papaya_maps.specs.Given.Tables.declared.node.Node.{Node}
-use Rattle.papaya_maps.specs.Given.Tables.declared.setting.Setting.{Setting}
-use Rattle.papaya_maps.specs.Given.Resize.declared.outcome.Outcome.{Outcome}
-use Rattle.papaya_maps.specs.Given.Raw.Call.{call_plan}
-use Rattle.papaya_maps.specs.Given.Raw.declared.machines.answer.Called.{Called}
-use Rattle.papaya_maps.specs.Given.Raw.declared.machines.call.KeyCall.{KeyCall}
-use Rattle.papaya_maps.specs.Given.Reserves.Reserve.{reserve_plan}
-use Rattle.papaya_maps.specs.Given.Reserves.declared.reserve.Reserve.{Reserve}
-use Rattle.papaya_maps.specs.Given.Rule.Chart.{Chart}
-use Rattle.papaya_maps.specs.Given.Rule.InWorld.{IsMapIn, Went}
-use Rattle.papaya_maps.specs.Given.Rule.Maps.{IsMap}
-use Rattle.papaya_maps.specs.Given.Rule.Words.{Blocks}
-use Rattle.papaya_maps.specs.Given.Points.Measures.{IsBelow}
-use Rattle.papaya_maps.proofs.Given.Points.MovedLasts.{moved_lasts}
-use Rattle.papaya_maps.specs.Given.Points.Steps.{AreLawful}
-use Rattle.papaya_maps.specs.Given.Points.Told.{IsRowOfCall}
-use Rattle.papaya_maps.specs.Given.Late.ToldReserves.{IsRowOfReserve}
-use Rattle.papaya_maps.specs.Given.Callers.Rooms.{CallForRoom}
-use Rattle.papaya_maps.specs.Given.Callers.Sights.{Sight, seen_by, IsGrown, IsSight}
-use Rattle.papaya_maps.specs.Given.Callers.Together.{UnderWay, CallOnKey, OnKey, ForRoom, in_slot, Stands, Together, StepsTogether, RoomStepsTogether}
-use Rattle.papaya_maps.proofs.Given.Callers.Together.Fits.{map_in_slot}
-use Rattle.papaya_falls.specs.Calls.{number_of_call}
-use Rattle.papaya_falls.specs.Falls.{GoesFurther}
-use Rattle.papaya_falls.specs.FallsWithin.{GoesFurther as RoomGoesFurther}
-use Rattle.papaya_falls.specs.Reserves.{number_of_reserve}
-use Rattle.papaya_falls.proofs.Calls.Facts.{call_stands}
-use Rattle.papaya_falls.proofs.Calls.LateFacts.{late_call_stands}
-use Rattle.papaya_falls.proofs.Calls.Points.{called_on}
-use Rattle.papaya_falls.proofs.Onward.{Onward}
-use Rattle.papaya_falls.proofs.Reserves.Points.{reserved_on}
-use Rattle.papaya_falls.proofs.Reserves.Stands.{ReserveStands, reserve_stands, late_reserve_stands}
-use Rattle.papaya_falls.proofs.Stands.{CallStands}
+use Rattle.papaya_whole.specs.Given.SeizeWords.Mem.{Mem, Took, value_at}
+use Rattle.papaya_whole.specs.Given.SeizeWords.Plan.{Steps}
+use Rattle.papaya_whole.specs.Given.Seize.World.{World, IsInside}
+use Rattle.papaya_whole.specs.Given.Tables.declared.node.Node.{Node}
+use Rattle.papaya_whole.specs.Given.Tables.declared.setting.Setting.{Setting}
+use Rattle.papaya_whole.specs.Given.Resize.declared.outcome.Outcome.{Outcome}
+use Rattle.papaya_whole.specs.Given.Raw.Call.{call_plan}
+use Rattle.papaya_whole.specs.Given.Raw.declared.machines.answer.Called.{Called}
+use Rattle.papaya_whole.specs.Given.Raw.declared.machines.call.KeyCall.{KeyCall}
+use Rattle.papaya_whole.specs.Given.Reserves.Reserve.{reserve_plan}
+use Rattle.papaya_whole.specs.Given.Reserves.declared.reserve.Reserve.{Reserve}
+use Rattle.papaya_whole.specs.Given.Rule.Chart.{Chart}
+use Rattle.papaya_whole.specs.Given.Rule.InWorld.{IsMapIn, Went}
+use Rattle.papaya_whole.specs.Given.Rule.Maps.{IsMap}
+use Rattle.papaya_whole.specs.Given.Rule.Words.{Blocks}
+use Rattle.papaya_whole.specs.Given.Points.Measures.{IsBelow}
+use Rattle.papaya_whole.proofs.Given.Points.MovedLasts.{moved_lasts}
+use Rattle.papaya_whole.specs.Given.Points.Steps.{AreLawful}
+use Rattle.papaya_whole.specs.Given.Points.Told.{IsRowOfCall}
+use Rattle.papaya_whole.specs.Given.Late.ToldReserves.{IsRowOfReserve}
+use Rattle.papaya_whole.specs.Given.Callers.Rooms.{CallForRoom}
+use Rattle.papaya_whole.specs.Given.Callers.Sights.{Sight, seen_by, IsGrown, IsSight}
+use Rattle.papaya_whole.specs.Given.Callers.Together.{UnderWay, CallOnKey, OnKey, ForRoom, in_slot, Stands, Together, StepsTogether, RoomStepsTogether}
+use Rattle.papaya_whole.proofs.Given.Callers.Together.Fits.{map_in_slot}
+use Rattle.papaya_whole.specs.Given.Falls.Calls.{number_of_call}
+use Rattle.papaya_whole.specs.Given.Falls.Falls.{GoesFurther}
+use Rattle.papaya_whole.specs.Given.Falls.FallsWithin.{GoesFurther as RoomGoesFurther}
+use Rattle.papaya_whole.specs.Given.Falls.Reserves.{number_of_reserve}
+use Rattle.papaya_whole.proofs.Given.Falls.Calls.Facts.{call_stands}
+use Rattle.papaya_whole.proofs.Given.Falls.Calls.LateFacts.{late_call_stands}
+use Rattle.papaya_whole.proofs.Given.Falls.Calls.Points.{called_on}
+use Rattle.papaya_whole.proofs.Given.Falls.Onward.{Onward}
+use Rattle.papaya_whole.proofs.Given.Falls.Reserves.Points.{reserved_on}
+use Rattle.papaya_whole.proofs.Given.Falls.Reserves.Stands.{ReserveStands, reserve_stands, late_reserve_stands}
+use Rattle.papaya_whole.proofs.Given.Falls.Stands.{CallStands}
 use Rattle.papaya_lowers.proofs.Widened as wide
 
 module _ {K V Q : Type 0} (same : K → K → Bool) (hash : K → ℕ) (asks : Q → K → Bool) (setting : Setting) (slot : ℕ → ℕ) (lawful : AreLawful same hash)

@@ -1,30 +1,30 @@
 -- A step of a row of the collector within a reservation: by all that can be looked at then, the numbers of the reservation and its row are lower.
 use Rattle.std.specs.Prelude.{◌≡◌, ℕ, ◌<◌, Bool, true, Option, Some}
 use Rattle.std.proofs.Common.{List, inl, inr, refl, ap, sym, subst, ◌∙◌}
-use Rattle.papaya_maps.specs.Given.SeizeWords.Mem.{Mem, Took, value_at}
-use Rattle.papaya_maps.specs.Given.SeizeWords.Plan.{Steps}
-use Rattle.papaya_maps.specs.Given.Seize.World.{World, Row, Settles, IsInside}
-use Rattle.papaya_maps.specs.Given.Seize.declared.rows.settle.Settled.{Settled}
-use Rattle.papaya_maps.specs.Given.Seize.declared.rows.settle.Settled.TheVariants as settled
-use Rattle.papaya_maps.proofs.Given.SeizeEnds.Settling.Most.{is_going, goes_further}
-use Rattle.papaya_maps.specs.Given.Tables.Chunks.{is_incremental}
-use Rattle.papaya_maps.specs.Given.Tables.declared.node.Node.{Node}
-use Rattle.papaya_maps.specs.Given.Tables.declared.setting.Setting.{Setting}
-use Rattle.papaya_maps.specs.Given.Resize.declared.outcome.Outcome.{Outcome}
-use Rattle.papaya_maps.specs.Given.Reserves.Reserve.{reserve_plan}
-use Rattle.papaya_maps.specs.Given.Reserves.declared.reserve.Reserve.{Reserve}
-use Rattle.papaya_maps.specs.Given.Rule.Chart.{Chart}
-use Rattle.papaya_maps.specs.Given.Rule.Words.{Blocks}
-use Rattle.papaya_maps.specs.Given.Points.Measures.{IsBelow}
-use Rattle.papaya_maps.specs.Given.Points.Steps.{AreLawful}
-use Rattle.papaya_maps.specs.Given.Late.ToldReserves.{IsRowOfReserve}
-use Rattle.papaya_maps.specs.Given.Callers.Rooms.{CallForRoom, row_of_room, room_once_over}
-use Rattle.papaya_maps.specs.Given.Callers.Sights.{Sight, IsPartOf}
-use Rattle.papaya_maps.specs.Given.Callers.Together.{UnderWay, ForRoom, Together}
-use Rattle.papaya_falls.specs.FallsWithin.{GoesFurther}
-use Rattle.papaya_falls.specs.Reserves.{number_of_reserve}
-use Rattle.papaya_falls.proofs.Below.{below_followed}
-use Rattle.papaya_falls.proofs.Laws.{reserve_rows_fall}
+use Rattle.papaya_whole.specs.Given.SeizeWords.Mem.{Mem, Took, value_at}
+use Rattle.papaya_whole.specs.Given.SeizeWords.Plan.{Steps}
+use Rattle.papaya_whole.specs.Given.Seize.World.{World, Row, Settles, IsInside}
+use Rattle.papaya_whole.specs.Given.Seize.declared.rows.settle.Settled.{Settled}
+use Rattle.papaya_whole.specs.Given.Seize.declared.rows.settle.Settled.TheVariants as settled
+use Rattle.papaya_whole.proofs.Given.SeizeEnds.Settling.Most.{is_going, goes_further}
+use Rattle.papaya_whole.specs.Given.Tables.Chunks.{is_incremental}
+use Rattle.papaya_whole.specs.Given.Tables.declared.node.Node.{Node}
+use Rattle.papaya_whole.specs.Given.Tables.declared.setting.Setting.{Setting}
+use Rattle.papaya_whole.specs.Given.Resize.declared.outcome.Outcome.{Outcome}
+use Rattle.papaya_whole.specs.Given.Reserves.Reserve.{reserve_plan}
+use Rattle.papaya_whole.specs.Given.Reserves.declared.reserve.Reserve.{Reserve}
+use Rattle.papaya_whole.specs.Given.Rule.Chart.{Chart}
+use Rattle.papaya_whole.specs.Given.Rule.Words.{Blocks}
+use Rattle.papaya_whole.specs.Given.Points.Measures.{IsBelow}
+use Rattle.papaya_whole.specs.Given.Points.Steps.{AreLawful}
+use Rattle.papaya_whole.specs.Given.Late.ToldReserves.{IsRowOfReserve}
+use Rattle.papaya_whole.specs.Given.Callers.Rooms.{CallForRoom, row_of_room, room_once_over}
+use Rattle.papaya_whole.specs.Given.Callers.Sights.{Sight, IsPartOf}
+use Rattle.papaya_whole.specs.Given.Callers.Together.{UnderWay, ForRoom, Together}
+use Rattle.papaya_whole.specs.Given.Falls.FallsWithin.{GoesFurther}
+use Rattle.papaya_whole.specs.Given.Falls.Reserves.{number_of_reserve}
+use Rattle.papaya_whole.proofs.Given.Falls.Below.{below_followed}
+use Rattle.papaya_whole.proofs.Given.Falls.Laws.{reserve_rows_fall}
 use Rattle.papaya_whole.proofs.Rooms.Account.{room_told_by, RoomAccount, RoomSettling, RoomOver, room_account}
 use Rattle.papaya_lowers.proofs.Kept.{RoomLinks, room_kept}
 use Rattle.papaya_lowers.proofs.Rows.{left, with_left, settling_less, row_lowers}

@@ -2,46 +2,46 @@
 use Rattle.std.specs.Prelude.{◌+◌, ◌%◌, ◌^◌, ◌==◌, not, Some, bit_and, bit_or}
 use Rattle.std.proofs.Common.{◌≡◌, ℕ, Bool, true, false, refl, ap, sym, ◌∙◌, arith}
 use Rattle.std.proofs.lemmas.Bool.{eqb-false}
-use Rattle.papaya_maps.specs.Given.SeizeWords.Word.{block_in}
-use Rattle.papaya_maps.specs.Given.SeizeWords.Mem.{Mem, Took, value_at, with_word}
-use Rattle.papaya_maps.specs.Given.SeizeWords.Plan.{Steps}
-use Rattle.papaya_maps.proofs.Given.SeizeWords.OneOwner.Operations.{loaded, ored}
-use Rattle.papaya_maps.proofs.Given.SeizeRule.Rows.Leaving.{steps_back}
-use Rattle.papaya_maps.specs.Given.Tables.Marks.{has_mark}
-use Rattle.papaya_maps.specs.Given.Tables.TablePlaces.{at_word, at_place}
-use Rattle.papaya_maps.specs.Given.Tables.Trials.{place_tried}
-use Rattle.papaya_maps.specs.Given.Tables.declared.marks.TheConstants.{COPYING}
-use Rattle.papaya_maps.specs.Given.Tables.declared.node.Node.{Node}
-use Rattle.papaya_maps.specs.Given.Tables.declared.table.Table.{Table}
-use Rattle.papaya_maps.specs.Given.Tables.declared.table_words.TheConstants.{STATUS, PLACES}
-use Rattle.papaya_maps.specs.Given.Resize.Copier as copier
-use Rattle.papaya_maps.specs.Given.Resize.CopierClaims.{status_read}
-use Rattle.papaya_maps.specs.Given.Resize.CopierMarks.{marked}
-use Rattle.papaya_maps.specs.Given.Resize.declared.copier.Copier.{Copier}
-use Rattle.papaya_maps.specs.Given.Resize.declared.copier.Copying.{Copying}
-use Rattle.papaya_maps.specs.Given.Resize.declared.copier.Copying.TheVariants as copies
-use Rattle.papaya_maps.specs.Given.Resize.declared.outcome.Outcome.{Outcome}
-use Rattle.papaya_maps.specs.Given.Resize.declared.outcome.Outcome.TheVariants as outcome
-use Rattle.papaya_maps.specs.Given.Raw.Call as call
-use Rattle.papaya_maps.specs.Given.Raw.declared.machines.answer.Called.TheVariants as called
-use Rattle.papaya_maps.specs.Given.Raw.declared.machines.call.KeyCall.{KeyCall}
-use Rattle.papaya_maps.specs.Given.Raw.declared.machines.call.Calling.{Calling}
-use Rattle.papaya_maps.specs.Given.Raw.declared.machines.call.Calling.TheVariants as at
-use Rattle.papaya_maps.specs.Given.Reserves.Reserve as reserve
-use Rattle.papaya_maps.specs.Given.Reserves.declared.reserve.Reserve.{Reserve}
-use Rattle.papaya_maps.specs.Given.Reserves.declared.reserve.Reserving.{Reserving}
-use Rattle.papaya_maps.specs.Given.Reserves.declared.reserve.Reserving.TheVariants as reserves
-use Rattle.papaya_maps.specs.Given.Sweeps.Sweep as sweep
-use Rattle.papaya_maps.specs.Given.Sweeps.declared.sweep.Sweep.{Sweep}
-use Rattle.papaya_maps.specs.Given.Sweeps.declared.sweep.Sweeping.{Sweeping}
-use Rattle.papaya_maps.specs.Given.Sweeps.declared.sweep.Sweeping.TheVariants as sweeps
-use Rattle.papaya_maps.specs.Given.Sweeps.declared.sweep.Swept.TheVariants as swept
-use Rattle.papaya_maps.proofs.Given.Rule.Words.PlaceWordsMarks.{and_copying}
-use Rattle.papaya_maps.proofs.Given.Rule.Words.PlaceWordsWritten.{or_copying}
-use Rattle.papaya_maps.proofs.Given.Rule.Words.WrittenAgain.{written_again}
-use Rattle.papaya_maps.specs.Given.Points.Told.{IsRowOfCall}
-use Rattle.papaya_maps.specs.Given.Late.ToldReserves.{IsRowOfReserve}
-use Rattle.papaya_maps.specs.Given.Late.ToldSweeps.{IsRowOfSweep}
+use Rattle.papaya_whole.specs.Given.SeizeWords.Word.{block_in}
+use Rattle.papaya_whole.specs.Given.SeizeWords.Mem.{Mem, Took, value_at, with_word}
+use Rattle.papaya_whole.specs.Given.SeizeWords.Plan.{Steps}
+use Rattle.papaya_whole.proofs.Given.SeizeWords.OneOwner.Operations.{loaded, ored}
+use Rattle.papaya_whole.proofs.Given.SeizeRule.Rows.Leaving.{steps_back}
+use Rattle.papaya_whole.specs.Given.Tables.Marks.{has_mark}
+use Rattle.papaya_whole.specs.Given.Tables.TablePlaces.{at_word, at_place}
+use Rattle.papaya_whole.specs.Given.Tables.Trials.{place_tried}
+use Rattle.papaya_whole.specs.Given.Tables.declared.marks.TheConstants.{COPYING}
+use Rattle.papaya_whole.specs.Given.Tables.declared.node.Node.{Node}
+use Rattle.papaya_whole.specs.Given.Tables.declared.table.Table.{Table}
+use Rattle.papaya_whole.specs.Given.Tables.declared.table_words.TheConstants.{STATUS, PLACES}
+use Rattle.papaya_whole.specs.Given.Resize.Copier as copier
+use Rattle.papaya_whole.specs.Given.Resize.CopierClaims.{status_read}
+use Rattle.papaya_whole.specs.Given.Resize.CopierMarks.{marked}
+use Rattle.papaya_whole.specs.Given.Resize.declared.copier.Copier.{Copier}
+use Rattle.papaya_whole.specs.Given.Resize.declared.copier.Copying.{Copying}
+use Rattle.papaya_whole.specs.Given.Resize.declared.copier.Copying.TheVariants as copies
+use Rattle.papaya_whole.specs.Given.Resize.declared.outcome.Outcome.{Outcome}
+use Rattle.papaya_whole.specs.Given.Resize.declared.outcome.Outcome.TheVariants as outcome
+use Rattle.papaya_whole.specs.Given.Raw.Call as call
+use Rattle.papaya_whole.specs.Given.Raw.declared.machines.answer.Called.TheVariants as called
+use Rattle.papaya_whole.specs.Given.Raw.declared.machines.call.KeyCall.{KeyCall}
+use Rattle.papaya_whole.specs.Given.Raw.declared.machines.call.Calling.{Calling}
+use Rattle.papaya_whole.specs.Given.Raw.declared.machines.call.Calling.TheVariants as at
+use Rattle.papaya_whole.specs.Given.Reserves.Reserve as reserve
+use Rattle.papaya_whole.specs.Given.Reserves.declared.reserve.Reserve.{Reserve}
+use Rattle.papaya_whole.specs.Given.Reserves.declared.reserve.Reserving.{Reserving}
+use Rattle.papaya_whole.specs.Given.Reserves.declared.reserve.Reserving.TheVariants as reserves
+use Rattle.papaya_whole.specs.Given.Sweeps.Sweep as sweep
+use Rattle.papaya_whole.specs.Given.Sweeps.declared.sweep.Sweep.{Sweep}
+use Rattle.papaya_whole.specs.Given.Sweeps.declared.sweep.Sweeping.{Sweeping}
+use Rattle.papaya_whole.specs.Given.Sweeps.declared.sweep.Sweeping.TheVariants as sweeps
+use Rattle.papaya_whole.specs.Given.Sweeps.declared.sweep.Swept.TheVariants as swept
+use Rattle.papaya_whole.proofs.Given.Rule.Words.PlaceWordsMarks.{and_copying}
+use Rattle.papaya_whole.proofs.Given.Rule.Words.PlaceWordsWritten.{or_copying}
+use Rattle.papaya_whole.proofs.Given.Rule.Words.WrittenAgain.{written_again}
+use Rattle.papaya_whole.specs.Given.Points.Told.{IsRowOfCall}
+use Rattle.papaya_whole.specs.Given.Late.ToldReserves.{IsRowOfReserve}
+use Rattle.papaya_whole.specs.Given.Late.ToldSweeps.{IsRowOfSweep}
 use Rattle.papaya_whole.proofs.Given.Waits.Calls.{CallSees, call_waits}
 use Rattle.papaya_whole.proofs.Given.Waits.Copiers.{Sees}
 use Rattle.papaya_whole.proofs.Given.Waits.Copyings.{RoomSees, room_waits, SweepSees, sweep_waits}

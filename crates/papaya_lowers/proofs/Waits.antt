@@ -1,54 +1,54 @@
 -- A step that answers that its machine waits: for a copying, or at a row for whoever has the batch of its slot in hand; and the machine stands where it stood.
 use Rattle.std.specs.Prelude.{◌≡◌, ℕ, Bool, Option, Some, ◌⊎◌}
 use Rattle.std.proofs.Common.{inl, inr, refl, ap, sym, subst, ◌∙◌}
-use Rattle.papaya_maps.specs.Given.SeizeWords.Mem.{Mem, Took, value_at}
-use Rattle.papaya_maps.specs.Given.SeizeWords.Plan.{Steps}
-use Rattle.papaya_maps.proofs.Given.SeizeRule.Rows.Leaving.{steps_back}
-use Rattle.papaya_maps.specs.Given.Seize.World.{World, Rests}
-use Rattle.papaya_maps.specs.Given.Seize.declared.progress.Progress.{Progress as Counted}
-use Rattle.papaya_maps.specs.Given.Seize.declared.progress.Progress.TheVariants as counted
-use Rattle.papaya_maps.specs.Given.Tables.declared.node.Node.{Node}
-use Rattle.papaya_maps.specs.Given.Resize.Sum.{sum_plan}
-use Rattle.papaya_maps.specs.Given.Resize.declared.outcome.Outcome.{Outcome}
-use Rattle.papaya_maps.specs.Given.Resize.declared.outcome.Outcome.TheVariants as outcome
-use Rattle.papaya_maps.specs.Given.Resize.declared.sum.Sum.{Sum}
-use Rattle.papaya_maps.specs.Given.Raw.Call.{call_plan}
-use Rattle.papaya_maps.specs.Given.Raw.Machine as machines
-use Rattle.papaya_maps.specs.Given.Raw.Machine.{machine_plan}
-use Rattle.papaya_maps.specs.Given.Raw.Progress.{of_called, of_outcome, of_swept, of_counting}
-use Rattle.papaya_maps.specs.Given.Raw.declared.machines.answer.Called.{Called}
-use Rattle.papaya_maps.specs.Given.Raw.declared.machines.answer.Called.TheVariants as called
-use Rattle.papaya_maps.specs.Given.Raw.declared.machines.call.KeyCall.{KeyCall}
-use Rattle.papaya_maps.specs.Given.Raw.declared.machines.machine.Machine.{Machine}
-use Rattle.papaya_maps.specs.Given.Raw.declared.machines.machine.Machine.TheVariants as kinds
-use Rattle.papaya_maps.specs.Given.Raw.declared.machines.progress.Progress.{Progress}
-use Rattle.papaya_maps.specs.Given.Raw.declared.machines.progress.Progress.TheVariants as progress
-use Rattle.papaya_maps.specs.Given.Reserves.Reserve.{reserve_plan}
-use Rattle.papaya_maps.specs.Given.Reserves.declared.reserve.Reserve.{Reserve}
-use Rattle.papaya_maps.specs.Given.Reserves.declared.reserve.Reserving.{Reserving}
-use Rattle.papaya_maps.specs.Given.Reserves.declared.reserve.Reserving.TheVariants as reserving
-use Rattle.papaya_maps.specs.Given.Sweeps.Sweep.{sweep_plan}
-use Rattle.papaya_maps.specs.Given.Sweeps.declared.sweep.Sweep.{Sweep}
-use Rattle.papaya_maps.specs.Given.Sweeps.declared.sweep.Sweeping.{Sweeping}
-use Rattle.papaya_maps.specs.Given.Sweeps.declared.sweep.Sweeping.TheVariants as sweeping
-use Rattle.papaya_maps.specs.Given.Sweeps.declared.sweep.Swept.{Swept}
-use Rattle.papaya_maps.specs.Given.Sweeps.declared.sweep.Swept.TheVariants as swept
-use Rattle.papaya_maps.specs.Given.Tables.Chunks.{is_incremental}
-use Rattle.papaya_maps.specs.Given.Raw.declared.machines.call.Calling.{Calling}
-use Rattle.papaya_maps.specs.Given.Raw.declared.machines.call.Calling.TheVariants as at
-use Rattle.papaya_maps.specs.Given.Points.Told.{IsRowOfCall}
-use Rattle.papaya_maps.specs.Given.Points.Steps.{AreLawful}
-use Rattle.papaya_maps.specs.Given.Late.ToldReserves.{IsRowOfReserve}
-use Rattle.papaya_maps.specs.Given.Late.ToldSweeps.{IsRowOfSweep}
-use Rattle.papaya_maps.specs.Given.Callers.OverAll.{CallOverAll, row_of_sweep}
-use Rattle.papaya_maps.specs.Given.Callers.Rooms.{CallForRoom}
-use Rattle.papaya_maps.specs.Given.Callers.Sights.{seen_by}
-use Rattle.papaya_maps.specs.Given.Callers.Together.{UnderWay, CallOnKey, OnKey, ForRoom, Counting, OverAll, in_slot, Stands, Together}
-use Rattle.papaya_maps.proofs.Given.Callers.Together.Countings.{countings_stand_together}
-use Rattle.papaya_maps.specs.Given.Finishes.Endings.{Finishing, EndingsTogether}
-use Rattle.papaya_maps.specs.Given.Finishes.Machines.{machine_of}
-use Rattle.papaya_maps.specs.Given.Finishes.Makings.{Beginning}
-use Rattle.papaya_maps.specs.Given.Finishes.Maps.{Standing}
+use Rattle.papaya_whole.specs.Given.SeizeWords.Mem.{Mem, Took, value_at}
+use Rattle.papaya_whole.specs.Given.SeizeWords.Plan.{Steps}
+use Rattle.papaya_whole.proofs.Given.SeizeRule.Rows.Leaving.{steps_back}
+use Rattle.papaya_whole.specs.Given.Seize.World.{World, Rests}
+use Rattle.papaya_whole.specs.Given.Seize.declared.progress.Progress.{Progress as Counted}
+use Rattle.papaya_whole.specs.Given.Seize.declared.progress.Progress.TheVariants as counted
+use Rattle.papaya_whole.specs.Given.Tables.declared.node.Node.{Node}
+use Rattle.papaya_whole.specs.Given.Resize.Sum.{sum_plan}
+use Rattle.papaya_whole.specs.Given.Resize.declared.outcome.Outcome.{Outcome}
+use Rattle.papaya_whole.specs.Given.Resize.declared.outcome.Outcome.TheVariants as outcome
+use Rattle.papaya_whole.specs.Given.Resize.declared.sum.Sum.{Sum}
+use Rattle.papaya_whole.specs.Given.Raw.Call.{call_plan}
+use Rattle.papaya_whole.specs.Given.Raw.Machine as machines
+use Rattle.papaya_whole.specs.Given.Raw.Machine.{machine_plan}
+use Rattle.papaya_whole.specs.Given.Raw.Progress.{of_called, of_outcome, of_swept, of_counting}
+use Rattle.papaya_whole.specs.Given.Raw.declared.machines.answer.Called.{Called}
+use Rattle.papaya_whole.specs.Given.Raw.declared.machines.answer.Called.TheVariants as called
+use Rattle.papaya_whole.specs.Given.Raw.declared.machines.call.KeyCall.{KeyCall}
+use Rattle.papaya_whole.specs.Given.Raw.declared.machines.machine.Machine.{Machine}
+use Rattle.papaya_whole.specs.Given.Raw.declared.machines.machine.Machine.TheVariants as kinds
+use Rattle.papaya_whole.specs.Given.Raw.declared.machines.progress.Progress.{Progress}
+use Rattle.papaya_whole.specs.Given.Raw.declared.machines.progress.Progress.TheVariants as progress
+use Rattle.papaya_whole.specs.Given.Reserves.Reserve.{reserve_plan}
+use Rattle.papaya_whole.specs.Given.Reserves.declared.reserve.Reserve.{Reserve}
+use Rattle.papaya_whole.specs.Given.Reserves.declared.reserve.Reserving.{Reserving}
+use Rattle.papaya_whole.specs.Given.Reserves.declared.reserve.Reserving.TheVariants as reserving
+use Rattle.papaya_whole.specs.Given.Sweeps.Sweep.{sweep_plan}
+use Rattle.papaya_whole.specs.Given.Sweeps.declared.sweep.Sweep.{Sweep}
+use Rattle.papaya_whole.specs.Given.Sweeps.declared.sweep.Sweeping.{Sweeping}
+use Rattle.papaya_whole.specs.Given.Sweeps.declared.sweep.Sweeping.TheVariants as sweeping
+use Rattle.papaya_whole.specs.Given.Sweeps.declared.sweep.Swept.{Swept}
+use Rattle.papaya_whole.specs.Given.Sweeps.declared.sweep.Swept.TheVariants as swept
+use Rattle.papaya_whole.specs.Given.Tables.Chunks.{is_incremental}
+use Rattle.papaya_whole.specs.Given.Raw.declared.machines.call.Calling.{Calling}
+use Rattle.papaya_whole.specs.Given.Raw.declared.machines.call.Calling.TheVariants as at
+use Rattle.papaya_whole.specs.Given.Points.Told.{IsRowOfCall}
+use Rattle.papaya_whole.specs.Given.Points.Steps.{AreLawful}
+use Rattle.papaya_whole.specs.Given.Late.ToldReserves.{IsRowOfReserve}
+use Rattle.papaya_whole.specs.Given.Late.ToldSweeps.{IsRowOfSweep}
+use Rattle.papaya_whole.specs.Given.Callers.OverAll.{CallOverAll, row_of_sweep}
+use Rattle.papaya_whole.specs.Given.Callers.Rooms.{CallForRoom}
+use Rattle.papaya_whole.specs.Given.Callers.Sights.{seen_by}
+use Rattle.papaya_whole.specs.Given.Callers.Together.{UnderWay, CallOnKey, OnKey, ForRoom, Counting, OverAll, in_slot, Stands, Together}
+use Rattle.papaya_whole.proofs.Given.Callers.Together.Countings.{countings_stand_together}
+use Rattle.papaya_whole.specs.Given.Finishes.Endings.{Finishing, EndingsTogether}
+use Rattle.papaya_whole.specs.Given.Finishes.Machines.{machine_of}
+use Rattle.papaya_whole.specs.Given.Finishes.Makings.{Beginning}
+use Rattle.papaya_whole.specs.Given.Finishes.Maps.{Standing}
 use Rattle.papaya_whole.specs.Given.Waits.Waits as waits
 use Rattle.papaya_whole.specs.Given.Waits.Waits.{CallAwaits, AnotherHolds}
 use Rattle.papaya_whole.proofs.Given.Waits.Laws as laws

@@ -1,21 +1,21 @@
 -- What is promised of each step of a machine that answers that it waits.
 use Rattle.std.specs.Prelude.{◌≡◌, ℕ, Bool, true, Option, Some, ◌⊎◌}
-use Rattle.papaya_maps.specs.Given.SeizeWords.Mem.{Mem, Took, value_at}
-use Rattle.papaya_maps.specs.Given.SeizeWords.Plan.{Steps}
-use Rattle.papaya_maps.specs.Given.Seize.World.{World}
-use Rattle.papaya_maps.specs.Given.Tables.Chunks.{is_incremental}
-use Rattle.papaya_maps.specs.Given.Tables.declared.node.Node.{Node}
-use Rattle.papaya_maps.specs.Given.Raw.Machine.{machine_plan}
-use Rattle.papaya_maps.specs.Given.Raw.declared.machines.call.Calling.{Calling}
-use Rattle.papaya_maps.specs.Given.Raw.declared.machines.call.Calling.TheVariants as at
-use Rattle.papaya_maps.specs.Given.Raw.declared.machines.machine.Machine.{Machine}
-use Rattle.papaya_maps.specs.Given.Raw.declared.machines.progress.Progress.TheVariants as progress
-use Rattle.papaya_maps.specs.Given.Rule.Chart.{Copying, Holds}
-use Rattle.papaya_maps.specs.Given.Callers.Together.{UnderWay, CallOnKey, OnKey, ForRoom, Counting, OverAll}
-use Rattle.papaya_maps.specs.Given.Finishes.Endings.{Finishing, EndingsTogether}
-use Rattle.papaya_maps.specs.Given.Finishes.Machines.{machine_of}
-use Rattle.papaya_maps.specs.Given.Finishes.Makings.{Beginning}
-use Rattle.papaya_maps.specs.Given.Finishes.Maps.{Standing}
+use Rattle.papaya_whole.specs.Given.SeizeWords.Mem.{Mem, Took, value_at}
+use Rattle.papaya_whole.specs.Given.SeizeWords.Plan.{Steps}
+use Rattle.papaya_whole.specs.Given.Seize.World.{World}
+use Rattle.papaya_whole.specs.Given.Tables.Chunks.{is_incremental}
+use Rattle.papaya_whole.specs.Given.Tables.declared.node.Node.{Node}
+use Rattle.papaya_whole.specs.Given.Raw.Machine.{machine_plan}
+use Rattle.papaya_whole.specs.Given.Raw.declared.machines.call.Calling.{Calling}
+use Rattle.papaya_whole.specs.Given.Raw.declared.machines.call.Calling.TheVariants as at
+use Rattle.papaya_whole.specs.Given.Raw.declared.machines.machine.Machine.{Machine}
+use Rattle.papaya_whole.specs.Given.Raw.declared.machines.progress.Progress.TheVariants as progress
+use Rattle.papaya_whole.specs.Given.Rule.Chart.{Copying, Holds}
+use Rattle.papaya_whole.specs.Given.Callers.Together.{UnderWay, CallOnKey, OnKey, ForRoom, Counting, OverAll}
+use Rattle.papaya_whole.specs.Given.Finishes.Endings.{Finishing, EndingsTogether}
+use Rattle.papaya_whole.specs.Given.Finishes.Machines.{machine_of}
+use Rattle.papaya_whole.specs.Given.Finishes.Makings.{Beginning}
+use Rattle.papaya_whole.specs.Given.Finishes.Maps.{Standing}
 use Rattle.papaya_whole.specs.Given.Waits.Waits.{CallAwaits, RoomAwaits, SweepAwaits, AnotherHolds}
 use Rattle.papaya_lowers.specs.Numbers.{row_within}
 

@@ -9,17 +9,17 @@ use Rattle.seize_words.specs.Mem.{word_at}
 use Rattle.seize_words.specs.declared.at.At.TheVariants.{Slot}
 use Rattle.seize_words.specs.declared.fault.Fault.TheVariants.{Busy}
 use Rattle.papaya_runs.specs.Present.{Present, all_forgotten, nobody}
-use Rattle.papaya_schedules.specs.declared.effect.Effect.{Effect}
-use Rattle.papaya_schedules.specs.declared.event.Event.TheVariants.{ReclaimAll, Close}
-use Rattle.papaya_schedules.specs.declared.outcome.Outcome.TheVariants.{Done, Refused}
-use Rattle.papaya_schedules.specs.After.{is_alone_on, moment}
-use Rattle.papaya_schedules.specs.Effects.{with_effects}
-use Rattle.papaya_schedules.specs.Entry.{Entry}
-use Rattle.papaya_schedules.specs.InTurn.{IsDone}
-use Rattle.papaya_schedules.specs.InUse.{is_left}
-use Rattle.papaya_schedules.specs.Lists.{is_empty}
-use Rattle.papaya_schedules.specs.Moment.{UnderWay as CallThere, Moment}
-use Rattle.papaya_schedules.specs.Terms.{Terms}
+use Rattle.papaya_scheduler.specs.Given.Schedules.declared.effect.Effect.{Effect}
+use Rattle.papaya_scheduler.specs.Given.Schedules.declared.event.Event.TheVariants.{ReclaimAll, Close}
+use Rattle.papaya_scheduler.specs.Given.Schedules.declared.outcome.Outcome.TheVariants.{Done, Refused}
+use Rattle.papaya_scheduler.specs.Given.Schedules.After.{is_alone_on, moment}
+use Rattle.papaya_scheduler.specs.Given.Schedules.Effects.{with_effects}
+use Rattle.papaya_scheduler.specs.Given.Schedules.Entry.{Entry}
+use Rattle.papaya_scheduler.specs.Given.Schedules.InTurn.{IsDone}
+use Rattle.papaya_scheduler.specs.Given.Schedules.InUse.{is_left}
+use Rattle.papaya_scheduler.specs.Given.Schedules.Lists.{is_empty}
+use Rattle.papaya_scheduler.specs.Given.Schedules.Moment.{UnderWay as CallThere, Moment}
+use Rattle.papaya_scheduler.specs.Given.Schedules.Terms.{Terms}
 use Rattle.papaya_scheduler.specs.Given.Callers.Together.{UnderWay}
 use Rattle.papaya_scheduler.specs.Given.Effects.Known.{known}
 use Rattle.papaya_scheduler.specs.Given.Tables.Nodes.{deferred_word}
@@ -28,7 +28,7 @@ use Rattle.papaya_scheduler.specs.Given.Finishes.Endings.{Finishing}
 use Rattle.papaya_scheduler.specs.Given.Finishes.Makings.{Beginning}
 use Rattle.papaya_scheduler.specs.Given.Finishes.Maps.{Standing}
 use Rattle.papaya_scheduler.proofs.Given.Others.Quiet.{calls_none}
-use Rattle.seize_quiet.proofs.Slots.Stages.{never_taken}
+use Rattle.papaya_scheduler.proofs.Given.SeizeQuiet.Slots.Stages.{never_taken}
 use Rattle.papaya_scheduler.specs.Given.Reclaiming.Reclaiming.{MayReclaim, NobodyHas}
 use Rattle.papaya_scheduler.specs.Given.Reclaims.Reclaims.{AllIsReclaimed}
 use Rattle.papaya_scheduler.specs.Given.Remains.Remains.{ShowsRemains}
@@ -42,9 +42,9 @@ use Rattle.papaya_scheduler.proofs.Given.Rows.Lists.{all_so}
 use Rattle.papaya_scheduler.proofs.Given.Rows.Names.{nobody_named}
 use Rattle.papaya_scheduler.specs.Played.{IsDue, IsUnderWay, Plays, StandsFor}
 use Rattle.papaya_scheduler.specs.Reclaiming.{MayGiveAll, are_gone}
-use Rattle.papaya_named.specs.Seen.{named, named_of, seen, seen_of}
-use Rattle.papaya_named.specs.declared.caller.Caller.{Caller}
-use Rattle.papaya_named.specs.declared.named_map.NamedMap.{NamedMap}
+use Rattle.papaya_scheduler.specs.Given.Named.Seen.{named, named_of, seen, seen_of}
+use Rattle.papaya_scheduler.specs.Given.Named.declared.caller.Caller.{Caller}
+use Rattle.papaya_scheduler.specs.Given.Named.declared.named_map.NamedMap.{NamedMap}
 use Rattle.papaya_scheduler.specs.declared.scheduler.Scheduler.{Scheduler}
 use Rattle.papaya_scheduler.proofs.Quiet.{stands_on}
 use Rattle.papaya_scheduler.proofs.RanOn.{both_true, maps_named, some_setting}

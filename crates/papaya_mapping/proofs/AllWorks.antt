@@ -2,8 +2,8 @@
 use Rattle.std.specs.Prelude.{◌≡◌, nat_lt, true, List, []}
 use Rattle.std.proofs.Common.{refl, subst, sym, inl, inr}
 use Rattle.seize_words.specs.declared.fault.Fault.TheVariants.{Busy}
-use Rattle.papaya_schedules.specs.declared.effect.Effect.{Effect}
-use Rattle.papaya_schedules.specs.declared.outcome.Outcome.TheVariants.{Done, Refused}
+use Rattle.papaya_scheduler.specs.Given.Schedules.declared.effect.Effect.{Effect}
+use Rattle.papaya_scheduler.specs.Given.Schedules.declared.outcome.Outcome.TheVariants.{Done, Refused}
 use Rattle.papaya_scheduler.specs.Given.Effects.Known.{known}
 use Rattle.papaya_scheduler.specs.Given.Logged.Goes.{ReclaimingGone}
 use Rattle.papaya_scheduler.specs.Given.Logged.declared.logged.Logged.{Logged}

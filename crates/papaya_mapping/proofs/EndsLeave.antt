@@ -2,12 +2,12 @@
 use Rattle.std.specs.Prelude.{◌≡◌, ◌-◌, ℕ, zero, suc, Bool, List, [], ◌∷◌, ◌++◌, flat_map, map}
 use Rattle.std.proofs.Common.{refl, ap, sym, ◌∙◌}
 use Rattle.papaya_scheduler.specs.Given.Rule.Chart.{Chart}
-use Rattle.papaya_schedules.specs.declared.effect.Effect.{Effect}
-use Rattle.papaya_schedules.specs.declared.effect.Effect.TheVariants.{Ended}
-use Rattle.papaya_schedules.specs.declared.effect.Table.{Table}
-use Rattle.papaya_schedules.specs.After.{tables_taken}
-use Rattle.papaya_schedules.specs.Moment.{Deferral}
-use Rattle.papaya_schedules.specs.Views.{behind}
+use Rattle.papaya_scheduler.specs.Given.Schedules.declared.effect.Effect.{Effect}
+use Rattle.papaya_scheduler.specs.Given.Schedules.declared.effect.Effect.TheVariants.{Ended}
+use Rattle.papaya_scheduler.specs.Given.Schedules.declared.effect.Table.{Table}
+use Rattle.papaya_scheduler.specs.Given.Schedules.After.{tables_taken}
+use Rattle.papaya_scheduler.specs.Given.Schedules.Moment.{Deferral}
+use Rattle.papaya_scheduler.specs.Given.Schedules.Views.{behind}
 use Rattle.papaya_scheduler.specs.Given.Finishes.Orders.{pairs_of}
 use Rattle.papaya_scheduler.specs.Given.Follows.Maps.{table_of}
 use Rattle.papaya_scheduler.specs.Given.Moments.WholeEnds.{all_ended, tables_ended}

@@ -7,3 +7,4 @@ pub mod MapNumbers
 pub mod MapsMade
 pub mod AllGiven
 mod AllWorks
+pub mod Given

@@ -4,8 +4,8 @@ use Rattle.std.specs.List.{AllByRecursion}
 use Rattle.std.proofs.Common.{ap, subst, sym, ◌∙◌}
 use Rattle.seize.specs.World.{Row, Use}
 use Rattle.papaya_runs.specs.Present.{Present}
-use Rattle.papaya_schedules.specs.Moment.{Remains, Sheltered, UnderWay as CallThere, Moment}
-use Rattle.papaya_schedules.specs.Terms.{Terms}
+use Rattle.papaya_scheduler.specs.Given.Schedules.Moment.{Remains, Sheltered, UnderWay as CallThere, Moment}
+use Rattle.papaya_scheduler.specs.Given.Schedules.Terms.{Terms}
 use Rattle.papaya_scheduler.specs.Given.Callers.Together.{UnderWay}
 use Rattle.papaya_scheduler.specs.Given.Effects.Known.{known}
 use Rattle.papaya_scheduler.specs.Given.Finishes.Maps.{Standing}
@@ -15,8 +15,8 @@ use Rattle.papaya_scheduler.proofs.Given.Rows.Elsewhere.{elsewhere, shown_elsewh
 use Rattle.papaya_scheduler.proofs.Given.Rows.Facts.{no_ending_of, no_making_of, no_work_at, row_rests, used_still}
 use Rattle.papaya_scheduler.proofs.Given.Rows.Lists.{all_so}
 use Rattle.papaya_scheduler.specs.Played.{IsUnderWay, StandsFor}
-use Rattle.papaya_named.specs.Seen.{named, named_of, seen}
-use Rattle.papaya_named.specs.declared.named_map.NamedMap.{NamedMap}
+use Rattle.papaya_scheduler.specs.Given.Named.Seen.{named, named_of, seen}
+use Rattle.papaya_scheduler.specs.Given.Named.declared.named_map.NamedMap.{NamedMap}
 use Rattle.papaya_scheduler.specs.declared.scheduler.Scheduler.{Scheduler}
 use Rattle.papaya_scheduler.specs.Given.Scenes.Scene.{Scene}
 

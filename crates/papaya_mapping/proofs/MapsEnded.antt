@@ -8,25 +8,25 @@ use Rattle.papaya_runs.specs.Same.{is_same}
 use Rattle.papaya_scheduler.specs.Given.Tables.Chunks.{is_incremental}
 use Rattle.papaya_scheduler.specs.Given.Rule.Chart.{Chart}
 use Rattle.papaya_runs.specs.declared.record.Pair.{Pair}
-use Rattle.papaya_schedules.specs.declared.effect.Effect.{Effect}
-use Rattle.papaya_schedules.specs.declared.effect.Effect.TheVariants.{Ended}
-use Rattle.papaya_schedules.specs.declared.event.Event.TheVariants.{EndMap}
-use Rattle.papaya_schedules.specs.declared.outcome.Outcome.TheVariants.{Done, Refused}
-use Rattle.papaya_schedules.specs.After.{if_any, is_alone_on, moment, remains_on, root_or}
-use Rattle.papaya_schedules.specs.Beginning.{used_roots}
-use Rattle.papaya_schedules.specs.Effects.{with_effect, with_effects}
-use Rattle.papaya_schedules.specs.Entry.{Entry, acted_on}
-use Rattle.papaya_schedules.specs.InTurn.{IsDone, is_called}
-use Rattle.papaya_schedules.specs.Lists.{is_among}
-use Rattle.papaya_schedules.specs.Moment.{MapThere, Remains, Moment}
-use Rattle.papaya_schedules.specs.Terms.{Terms}
-use Rattle.papaya_schedules.specs.Views.{map_at, map_of, number_of}
+use Rattle.papaya_scheduler.specs.Given.Schedules.declared.effect.Effect.{Effect}
+use Rattle.papaya_scheduler.specs.Given.Schedules.declared.effect.Effect.TheVariants.{Ended}
+use Rattle.papaya_scheduler.specs.Given.Schedules.declared.event.Event.TheVariants.{EndMap}
+use Rattle.papaya_scheduler.specs.Given.Schedules.declared.outcome.Outcome.TheVariants.{Done, Refused}
+use Rattle.papaya_scheduler.specs.Given.Schedules.After.{if_any, is_alone_on, moment, remains_on, root_or}
+use Rattle.papaya_scheduler.specs.Given.Schedules.Beginning.{used_roots}
+use Rattle.papaya_scheduler.specs.Given.Schedules.Effects.{with_effect, with_effects}
+use Rattle.papaya_scheduler.specs.Given.Schedules.Entry.{Entry, acted_on}
+use Rattle.papaya_scheduler.specs.Given.Schedules.InTurn.{IsDone, is_called}
+use Rattle.papaya_scheduler.specs.Given.Schedules.Lists.{is_among}
+use Rattle.papaya_scheduler.specs.Given.Schedules.Moment.{MapThere, Remains, Moment}
+use Rattle.papaya_scheduler.specs.Given.Schedules.Terms.{Terms}
+use Rattle.papaya_scheduler.specs.Given.Schedules.Views.{map_at, map_of, number_of}
 use Rattle.papaya_scheduler.proofs.Given.Callers.Together.At.{at_other, at_same}
 use Rattle.papaya_scheduler.specs.Given.Callers.Together.{UnderWay}
 use Rattle.papaya_scheduler.specs.Given.Effects.Known.{known}
 use Rattle.papaya_scheduler.specs.Given.Effects.declared.role.Role.TheVariants as role
 use Rattle.papaya_scheduler.specs.Given.Executor.declared.worker.Work.{Work}
-use Rattle.papaya_raw.specs.declared.machines.end_map.EndMap.{EndMap as EndMachine}
+use Rattle.papaya_scheduler.specs.Given.Raw.declared.machines.end_map.EndMap.{EndMap as EndMachine}
 use Rattle.papaya_scheduler.specs.Given.Finishes.Makings.{Beginning}
 use Rattle.papaya_scheduler.specs.Given.Finishes.Endings.{Finishing, finishing_of}
 use Rattle.papaya_scheduler.specs.Given.Finishes.Machines.{machine_of}
@@ -53,8 +53,8 @@ use Rattle.papaya_scheduler.proofs.Given.Rows.Elsewhere.{elsewhere}
 use Rattle.papaya_scheduler.proofs.Given.Rows.Lists.{all_but, all_so, any_alike, found_passes, one_of}
 use Rattle.papaya_scheduler.specs.Mapping.{AreApart}
 use Rattle.papaya_scheduler.specs.Played.{IsDue, IsUnderWay, Plays, StandsFor}
-use Rattle.papaya_named.specs.Seen.{named, named_of, number_named, seen, seen_of}
-use Rattle.papaya_named.specs.declared.named_map.NamedMap.{NamedMap}
+use Rattle.papaya_scheduler.specs.Given.Named.Seen.{named, named_of, number_named, seen, seen_of}
+use Rattle.papaya_scheduler.specs.Given.Named.declared.named_map.NamedMap.{NamedMap}
 use Rattle.papaya_scheduler.specs.declared.scheduler.Scheduler.{Scheduler}
 use Rattle.papaya_mapping.proofs.EndsLeave.{pairs_behind, waited_is}
 use Rattle.papaya_mapping.proofs.MapLists.{all_back, all_seen, by_recursion, found_same, kept_map, kept_of}

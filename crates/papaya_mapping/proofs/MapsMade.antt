@@ -14,21 +14,21 @@ use Rattle.papaya_scheduler.specs.Given.Tables.declared.resize_mode.ResizeMode.{
 use Rattle.papaya_scheduler.specs.Given.Tables.declared.setting.Setting.{Setting}
 use Rattle.papaya_scheduler.specs.Given.Resize.NewMap.{opening}
 use Rattle.papaya_runs.specs.Runs.{map_fault}
-use Rattle.papaya_schedules.specs.declared.effect.Effect.{Effect}
-use Rattle.papaya_schedules.specs.declared.event.Event.{Event}
-use Rattle.papaya_schedules.specs.declared.event.Event.TheVariants.{MakeMap}
-use Rattle.papaya_schedules.specs.declared.outcome.Outcome.{Outcome}
-use Rattle.papaya_schedules.specs.declared.outcome.Outcome.TheVariants.{Done, Refused}
-use Rattle.papaya_schedules.specs.After.{is_alone_on, moment}
-use Rattle.papaya_schedules.specs.Beginning.{used_roots, with_map}
-use Rattle.papaya_schedules.specs.Effects.{with_effects}
-use Rattle.papaya_schedules.specs.Entry.{Entry, is_busy}
-use Rattle.papaya_schedules.specs.InTurn.{InTurn, IsMade, has_grown}
-use Rattle.papaya_schedules.specs.Lists.{is_among, least_free}
-use Rattle.papaya_schedules.specs.Moment.{MapThere, Moment}
-use Rattle.papaya_schedules.specs.Terms.{Terms}
-use Rattle.papaya_schedules.specs.Views.{map_of, number_of}
-use Rattle.papaya_named.specs.Places.{IsFirstLen}
+use Rattle.papaya_scheduler.specs.Given.Schedules.declared.effect.Effect.{Effect}
+use Rattle.papaya_scheduler.specs.Given.Schedules.declared.event.Event.{Event}
+use Rattle.papaya_scheduler.specs.Given.Schedules.declared.event.Event.TheVariants.{MakeMap}
+use Rattle.papaya_scheduler.specs.Given.Schedules.declared.outcome.Outcome.{Outcome}
+use Rattle.papaya_scheduler.specs.Given.Schedules.declared.outcome.Outcome.TheVariants.{Done, Refused}
+use Rattle.papaya_scheduler.specs.Given.Schedules.After.{is_alone_on, moment}
+use Rattle.papaya_scheduler.specs.Given.Schedules.Beginning.{used_roots, with_map}
+use Rattle.papaya_scheduler.specs.Given.Schedules.Effects.{with_effects}
+use Rattle.papaya_scheduler.specs.Given.Schedules.Entry.{Entry, is_busy}
+use Rattle.papaya_scheduler.specs.Given.Schedules.InTurn.{InTurn, IsMade, has_grown}
+use Rattle.papaya_scheduler.specs.Given.Schedules.Lists.{is_among, least_free}
+use Rattle.papaya_scheduler.specs.Given.Schedules.Moment.{MapThere, Moment}
+use Rattle.papaya_scheduler.specs.Given.Schedules.Terms.{Terms}
+use Rattle.papaya_scheduler.specs.Given.Schedules.Views.{map_of, number_of}
+use Rattle.papaya_scheduler.specs.Given.Named.Places.{IsFirstLen}
 use Rattle.papaya_scheduler.proofs.Given.Callers.Together.At.{at_other, at_same}
 use Rattle.papaya_scheduler.specs.Given.Finishes.Endings.{Finishing}
 use Rattle.papaya_scheduler.specs.Given.Finishes.Makings.{Beginning}
@@ -48,8 +48,8 @@ use Rattle.papaya_scheduler.proofs.Given.Rows.Lists.{all_so}
 use Rattle.papaya_scheduler.specs.Mapping.{CountsMaps, IsGivenFor, MayMap}
 use Rattle.papaya_scheduler.specs.Played.{Plays, StandsFor}
 use Rattle.papaya_scheduler.specs.Quiet.{IsQuiet}
-use Rattle.papaya_named.specs.Seen.{named, named_of, number_named}
-use Rattle.papaya_named.specs.declared.named_map.NamedMap.{NamedMap}
+use Rattle.papaya_scheduler.specs.Given.Named.Seen.{named, named_of, number_named}
+use Rattle.papaya_scheduler.specs.Given.Named.declared.named_map.NamedMap.{NamedMap}
 use Rattle.papaya_scheduler.specs.declared.scheduler.Scheduler.{Scheduler}
 use Rattle.papaya_scheduler.proofs.KeptOut.{faulty_stands}
 use Rattle.papaya_mapping.proofs.MapLists.{all_push}

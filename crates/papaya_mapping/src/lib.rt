@@ -4,3 +4,6 @@
 pub mod endings;
 pub mod makings;
 pub mod reclaims;
+
+pub use papaya_scheduler;
+pub use papaya_scheduler::papaya_logged;

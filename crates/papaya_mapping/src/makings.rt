@@ -1,21 +1,21 @@
 //! Maps are made.
 ghost use Rattle.std.specs.Prelude.{◌≡◌, ◌≤◌, ◌^◌, ℕ, Bool, List, is_none, length, IfOk};
-ghost use Rattle.papaya_schedules.specs.Entry.{Entry};
-ghost use Rattle.papaya_schedules.specs.Terms.{Terms};
-ghost use Rattle.papaya_schedules.specs.declared.event.Event.TheVariants as event;
+ghost use Rattle.papaya_scheduler.specs.Given.Schedules.Entry.{Entry};
+ghost use Rattle.papaya_scheduler.specs.Given.Schedules.Terms.{Terms};
+ghost use Rattle.papaya_scheduler.specs.Given.Schedules.declared.event.Event.TheVariants as event;
 ghost use Rattle.papaya_scheduler.specs.Mapping.{MayMap, PlaysMaking, IsGivenFor, numbers_made};
-ghost use Rattle.papaya_named.specs.Seen.{number_named};
+ghost use Rattle.papaya_scheduler.specs.Given.Named.Seen.{number_named};
 ghost use Rattle.papaya_scheduler.specs.Quiet.{IsQuiet};
 ghost use Rattle.papaya_scheduler.specs.Works.{WorksOnMap};
 ghost use Rattle.papaya_scheduler.specs.Given.Executor.IsThere.{StaysGiven};
 
-use papaya_named::named_map::NamedMap;
-use papaya_named::places::places_for;
-use papaya_raw::{Counter, ResizeMode, Setting};
 use papaya_runs::token::Token;
+use papaya_scheduler::papaya_named::named_map::NamedMap;
+use papaya_scheduler::papaya_named::places::places_for;
+use papaya_scheduler::papaya_raw::{Counter, ResizeMode, Setting};
+use papaya_scheduler::papaya_schedules::outcome::Outcome;
 use papaya_scheduler::played::Played;
 use papaya_scheduler::scheduler::Scheduler;
-use papaya_schedules::outcome::Outcome;
 use seize::Progress;
 use seize_words::Fault;
 use std::alloc::AllocError;

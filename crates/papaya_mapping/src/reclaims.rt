@@ -1,8 +1,8 @@
 //! Everything is reclaimed, and the collector ends.
 ghost use Rattle.std.specs.Prelude.{◌≡◌, ◌<◌, ℕ, nat_lt, Bool, List, IfOk, OnOk};
 ghost use Rattle.papaya_runs.specs.Present.{nobody};
-ghost use Rattle.papaya_schedules.specs.Moment.{Moment};
-ghost use Rattle.papaya_schedules.specs.declared.event.Event.TheVariants as event;
+ghost use Rattle.papaya_scheduler.specs.Given.Schedules.Moment.{Moment};
+ghost use Rattle.papaya_scheduler.specs.Given.Schedules.declared.event.Event.TheVariants as event;
 ghost use Rattle.papaya_scheduler.specs.Given.Logged.Back.{AllBringsBack};
 ghost use Rattle.papaya_scheduler.specs.Given.Logged.Goes.{ReclaimingGone};
 ghost use Rattle.papaya_scheduler.specs.Given.Logged.Reclaims.{ReclaimingRan};
@@ -17,10 +17,10 @@ ghost use Rattle.papaya_scheduler.specs.Given.Executor.IsThere.{KeepsGiven};
 ghost use Rattle.papaya_scheduler.specs.Given.Scenes.Scene.{Scene};
 
 use papaya_runs::record::Pair;
+use papaya_scheduler::papaya_schedules::effect::Effect;
+use papaya_scheduler::papaya_schedules::outcome::Outcome;
 use papaya_scheduler::played::Played;
 use papaya_scheduler::scheduler::Scheduler;
-use papaya_schedules::effect::Effect;
-use papaya_schedules::outcome::Outcome;
 use std::alloc::AllocError;
 
 /// Whether nobody is there but guards that were forgotten, and no call is under way.

@@ -9,4 +9,4 @@ pub use Rattle.papaya_finishes.proofs.Given.Points
 pub use Rattle.papaya_finishes.proofs.Given.Late
 pub use Rattle.papaya_finishes.proofs.Given.Callers
 pub use Rattle.papaya_finishes.proofs as Finishes
-pub use Rattle.papaya_alone.proofs as Alone
+pub use Rattle.papaya_finishes.proofs.Given.Alone

@@ -34,9 +34,9 @@ use Rattle.papaya_finishes.proofs.Given.Rule.World.WentWrote.{counter_of}
 use Rattle.papaya_finishes.specs.Given.Points.FactsTables.{SumFacts}
 use Rattle.papaya_finishes.specs.Given.Points.Told.{SumTold}
 use Rattle.papaya_finishes.proofs.Given.Points.Making.Sum.{told_sum}
-use Rattle.papaya_alone.specs.Counting.{pairs_in, count_ahead}
-use Rattle.papaya_alone.specs.Met.{MetMaking}
-use Rattle.papaya_alone.proofs.Shards.Met.{goes_by_the_counter}
+use Rattle.papaya_finishes.specs.Given.Alone.Counting.{pairs_in, count_ahead}
+use Rattle.papaya_finishes.specs.Given.Alone.Met.{MetMaking}
+use Rattle.papaya_finishes.proofs.Given.Alone.Shards.Met.{goes_by_the_counter}
 use Rattle.papaya_maps.specs.NextTables.{CountsOrMakes, NextTablesGoByTheCounter}
 use Rattle.papaya_maps.proofs.Reserves.Sums.{Ahead, sum_ahead}
 

@@ -17,11 +17,11 @@ use Rattle.papaya_finishes.specs.Given.Resize.declared.new_map.Opening.TheVarian
 use Rattle.papaya_finishes.specs.Given.Rule.Chart.{Chart}
 use Rattle.papaya_finishes.specs.Given.Rule.Rule.{no_table}
 use Rattle.papaya_finishes.specs.Given.Rule.Words.{Blocks}
-use Rattle.papaya_alone.specs.Counting.{IsCounted}
-use Rattle.papaya_alone.specs.FactsAloneCalls.{RestsAlone}
+use Rattle.papaya_finishes.specs.Given.Alone.Counting.{IsCounted}
+use Rattle.papaya_finishes.specs.Given.Alone.FactsAloneCalls.{RestsAlone}
 use Rattle.papaya_maps.specs.FactsBegins.{IsNew, BeginFacts, LeavesRoots}
-use Rattle.papaya_alone.specs.Alone.{MapRests}
-use Rattle.papaya_alone.specs.Values.{HasCome, IsComing, IsMadeByOpening, IsLinkedSince}
+use Rattle.papaya_finishes.specs.Given.Alone.Alone.{MapRests}
+use Rattle.papaya_finishes.specs.Given.Alone.Values.{HasCome, IsComing, IsMadeByOpening, IsLinkedSince}
 
 module _ {K V : Type 0} (m0 : Mem (Node K V)) where
   -- all roots are as they were

@@ -17,7 +17,7 @@ use Rattle.papaya_finishes.specs.Given.Reserves.declared.reserve.Reserving.{Rese
 use Rattle.papaya_finishes.specs.Given.Reserves.declared.reserve.Reserving.TheVariants as at
 use Rattle.papaya_finishes.specs.Given.Rule.Chart.{Chart}
 use Rattle.papaya_finishes.specs.Given.Rule.Words.{Blocks}
-use Rattle.papaya_alone.specs.Counting.{shards_sum, count_ahead}
+use Rattle.papaya_finishes.specs.Given.Alone.Counting.{shards_sum, count_ahead}
 
 -- a counting will come to what the shards say
 abbrev pub SumsUp : {T : Type 0} → Setting → Mem T → Reserving → Type 0

@@ -6,7 +6,7 @@ use Rattle.papaya_finishes.specs.Given.Seize.declared.progress.Progress.TheVaria
 use Rattle.papaya_finishes.specs.Given.Resize.NewMap.{new_map_plan}
 use Rattle.papaya_finishes.specs.Given.Tables.declared.node.Node.{Node}
 use Rattle.papaya_finishes.specs.Given.Resize.declared.new_map.NewMap.{NewMap}
-use Rattle.papaya_alone.specs.Endings.{RunsEnd}
+use Rattle.papaya_finishes.specs.Given.Alone.Endings.{RunsEnd}
 use Rattle.papaya_maps.specs.MeasuresBegins.{new_map_left}
 
 module _ (K V : Type 0) where

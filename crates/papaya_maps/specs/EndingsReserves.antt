@@ -7,7 +7,7 @@ use Rattle.papaya_finishes.specs.Given.Tables.declared.node.Node.{Node}
 use Rattle.papaya_finishes.specs.Given.Resize.declared.outcome.Outcome.{Outcome}
 use Rattle.papaya_finishes.specs.Given.Resize.declared.outcome.Outcome.TheVariants as outcome
 use Rattle.papaya_finishes.specs.Given.Reserves.declared.reserve.Reserve.{Reserve}
-use Rattle.papaya_alone.specs.Endings.{RunsEnd}
+use Rattle.papaya_finishes.specs.Given.Alone.Endings.{RunsEnd}
 
 -- a reservation that tells this has not ended
 abbrev pub HasMore : {T R : Type 0} → Outcome T R → Type 0

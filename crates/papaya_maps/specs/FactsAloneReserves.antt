@@ -9,8 +9,8 @@ use Rattle.papaya_finishes.specs.Given.Reserves.declared.reserve.Reserving.TheVa
 use Rattle.papaya_finishes.specs.Given.Rule.Chart.{Chart}
 use Rattle.papaya_finishes.specs.Given.Points.Measures.{OthersIdle}
 use Rattle.papaya_finishes.specs.Given.Points.FactsAloneBlocking.{AloneBlocking}
-use Rattle.papaya_alone.specs.FactsAlone.{AloneAt}
-use Rattle.papaya_alone.specs.FactsAloneCalls.{TablesAlone, RestsAlone}
+use Rattle.papaya_finishes.specs.Given.Alone.FactsAlone.{AloneAt}
+use Rattle.papaya_finishes.specs.Given.Alone.FactsAloneCalls.{TablesAlone, RestsAlone}
 
 module _ {K : Type 0} where
   -- what its copier knows, in the mode of the map

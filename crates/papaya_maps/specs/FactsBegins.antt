@@ -24,7 +24,7 @@ use Rattle.papaya_finishes.specs.Given.Rule.Maps.{spot_of}
 use Rattle.papaya_finishes.specs.Given.Rule.InWorld.{IsMapIn, AllUsers, SparesPairs}
 use Rattle.papaya_finishes.specs.Given.Points.FactsTables.{NewTableFacts}
 use Rattle.papaya_finishes.specs.Makings.{HasLen, HasRoots, IsTakenRoot, IsFreeRoot}
-use Rattle.papaya_alone.specs.FactsAloneCalls.{RestsAlone}
+use Rattle.papaya_finishes.specs.Given.Alone.FactsAloneCalls.{RestsAlone}
 
 -- a map that begins has no table, or a first one of this length, with eight places at least
 abbrev pub IsNew : {K : Type 0} → (K → ℕ) → Setting → ℕ → Chart K → Type 0

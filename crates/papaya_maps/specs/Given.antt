@@ -13,4 +13,4 @@ pub use Rattle.papaya_finishes.specs.Given.Points
 pub use Rattle.papaya_finishes.specs.Given.Late
 pub use Rattle.papaya_finishes.specs.Given.Callers
 pub use Rattle.papaya_finishes.specs as Finishes
-pub use Rattle.papaya_alone.specs as Alone
+pub use Rattle.papaya_finishes.specs.Given.Alone

@@ -7,7 +7,7 @@ use Rattle.papaya_finishes.specs.Given.Seize.declared.states.TheConstants.{NEXT}
 use Rattle.papaya_finishes.specs.Given.Raw.declared.machines.end_map.EndMap.{EndMap}
 use Rattle.papaya_finishes.specs.Given.Raw.declared.machines.end_map.Ending.{Ending}
 use Rattle.papaya_finishes.specs.Given.Raw.declared.machines.end_map.Ending.TheVariants as at
-use Rattle.papaya_alone.specs.Counting.{number_in}
+use Rattle.papaya_finishes.specs.Given.Alone.Counting.{number_in}
 
 -- how far it is from its end, while it reclaims nothing: the root, the pairs of the tables, what a table carries, the table, and the root again
 abbrev pub stage : Ending → ℕ

@@ -24,8 +24,8 @@ use Rattle.papaya_finishes.specs.Given.Rule.Words.{Blocks}
 use Rattle.papaya_finishes.specs.Given.Rule.Maps.{spot_of}
 use Rattle.papaya_finishes.specs.Given.Rule.InWorld.{IsMapIn}
 use Rattle.papaya_finishes.specs.Given.Points.FactsTables.{SumFacts}
-use Rattle.papaya_alone.specs.Counting.{pairs_in, count_ahead}
-use Rattle.papaya_alone.specs.Met.{MetMaking}
+use Rattle.papaya_finishes.specs.Given.Alone.Counting.{pairs_in, count_ahead}
+use Rattle.papaya_finishes.specs.Given.Alone.Met.{MetMaking}
 
 -- it counts on, and will come to how many pairs the map has, or makes the table for so many, whatever it has met
 abbrev pub CountsOrMakes : {K T : Type 0} → Setting → Mem T → Chart K → NewTable → Table → Reason → Calling → Type 0

@@ -19,3 +19,4 @@ pub mod HandsOver
 pub mod Defers
 pub mod CallEvents
 pub mod MapEvents
+pub mod Given

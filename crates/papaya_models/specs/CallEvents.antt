@@ -1,36 +1,36 @@
 -- An event of a call, whole: after each of its steps the waiting sets of blocks are those of the model, by what the event has told so far, or the call is in the
 -- midst of a row that has told its part; and once the event is over it is by the model.
 use Rattle.std.specs.Prelude.{◌≡◌, ◌≢◌, ◌≤◌, ◌⊎◌, ℕ, Bool, List, [], ◌∷◌, ◌++◌, flat_map, Some}
-use Rattle.papaya_histories.specs.Given.Seize.WaitingSets.{Change, Sets}
-use Rattle.papaya_histories.specs.Given.Seize.World.{World, Rests, Request, Retire, Defer', Begin, Step, Happens}
-use Rattle.papaya_histories.specs.Given.SeizeWaiting.Held.{count}
-use Rattle.papaya_histories.specs.Given.Raw.declared.machines.progress.Progress.{Progress}
-use Rattle.papaya_histories.specs.Given.Tables.Nodes.{deferred_word}
-use Rattle.papaya_histories.specs.Given.Tables.declared.node.Node.{Node}
-use Rattle.papaya_histories.specs.Given.Callers.Together.{UnderWay, HandsOver}
-use Rattle.papaya_histories.specs.Given.Effects.Effects.{effects_of, known_after}
-use Rattle.papaya_histories.specs.Given.Effects.Known.{Known}
-use Rattle.papaya_histories.specs.Given.Effects.declared.acting.Acting.TheVariants.{Call}
-use Rattle.papaya_histories.specs.Given.Moments.Whole.{ShowsWhole}
-use Rattle.papaya_histories.specs.Given.Schedules.After.{moment}
-use Rattle.papaya_histories.specs.Given.Runs.Present.{slot_of_guard}
-use Rattle.papaya_histories.specs.Given.Schedules.Beginning.{at_work}
-use Rattle.papaya_histories.specs.Given.Schedules.Entry.{Entry, acting, caller_of}
-use Rattle.papaya_histories.specs.Given.Schedules.Model.{IsByModel, came, handing, guard_or, things_in, sets_in, changes_of, left_last}
-use Rattle.papaya_histories.specs.Given.Schedules.Moment.{Moment}
-use Rattle.papaya_histories.specs.Given.Schedules.Terms.{Terms}
-use Rattle.papaya_histories.specs.Given.Schedules.declared.effect.Effect.{Effect}
-use Rattle.papaya_histories.specs.Given.Schedules.declared.effect.Thing.{Thing}
-use Rattle.papaya_histories.specs.Given.Schedules.declared.event.Event.{Event}
-use Rattle.papaya_histories.specs.Given.Schedules.declared.event.Event.TheVariants as event
+use Rattle.papaya_promises.specs.Given.Seize.WaitingSets.{Change, Sets}
+use Rattle.papaya_promises.specs.Given.Seize.World.{World, Rests, Request, Retire, Defer', Begin, Step, Happens}
+use Rattle.papaya_promises.specs.Given.SeizeWaiting.Held.{count}
+use Rattle.papaya_promises.specs.Given.Raw.declared.machines.progress.Progress.{Progress}
+use Rattle.papaya_promises.specs.Given.Tables.Nodes.{deferred_word}
+use Rattle.papaya_promises.specs.Given.Tables.declared.node.Node.{Node}
+use Rattle.papaya_promises.specs.Given.Callers.Together.{UnderWay, HandsOver}
+use Rattle.papaya_promises.specs.Given.Effects.Effects.{effects_of, known_after}
+use Rattle.papaya_promises.specs.Given.Effects.Known.{Known}
+use Rattle.papaya_promises.specs.Given.Effects.declared.acting.Acting.TheVariants.{Call}
+use Rattle.papaya_promises.specs.Given.Moments.Whole.{ShowsWhole}
+use Rattle.papaya_promises.specs.Given.Schedules.After.{moment}
+use Rattle.papaya_promises.specs.Given.Runs.Present.{slot_of_guard}
+use Rattle.papaya_promises.specs.Given.Schedules.Beginning.{at_work}
+use Rattle.papaya_promises.specs.Given.Schedules.Entry.{Entry, acting, caller_of}
+use Rattle.papaya_promises.specs.Given.Schedules.Model.{IsByModel, came, handing, guard_or, things_in, sets_in, changes_of, left_last}
+use Rattle.papaya_promises.specs.Given.Schedules.Moment.{Moment}
+use Rattle.papaya_promises.specs.Given.Schedules.Terms.{Terms}
+use Rattle.papaya_promises.specs.Given.Schedules.declared.effect.Effect.{Effect}
+use Rattle.papaya_promises.specs.Given.Schedules.declared.effect.Thing.{Thing}
+use Rattle.papaya_promises.specs.Given.Schedules.declared.event.Event.{Event}
+use Rattle.papaya_promises.specs.Given.Schedules.declared.event.Event.TheVariants as event
 use Rattle.papaya_models.specs.Calls.{sets_on, FollowsInCall}
 use Rattle.papaya_models.specs.Defers.{AreNoted, HasToldIt}
 use Rattle.papaya_models.specs.Follows.{FollowsSets, FollowsModel, IsFollowed}
 use Rattle.papaya_models.specs.Numbers.{HasNumber, EachIsOnce, AreOfThings, NoneBack}
 use Rattle.papaya_models.specs.Retires.{HasToldSo}
-use Rattle.papaya_histories.specs.Given.Scenes.Held.{Held, IsAt}
-use Rattle.papaya_histories.specs.Given.Scenes.Scene.{Scene}
-use Rattle.papaya_histories.specs.Given.Scenes.Stepping.{StepLeads}
+use Rattle.papaya_promises.specs.Given.Scenes.Held.{Held, IsAt}
+use Rattle.papaya_promises.specs.Given.Scenes.Scene.{Scene}
+use Rattle.papaya_promises.specs.Given.Scenes.Stepping.{StepLeads}
 
 module _ (things : List Thing) (known : Known) (slot : ℕ) where
   -- what a row is to hand over is noted as things that came into maps, and it retires under this slot

@@ -2,38 +2,38 @@
 -- as each is taken away.
 use Rattle.std.specs.Prelude.{◌≡◌, ◌⊎◌, ◌<◌, ◌^◌, ℕ, Bool, true, List, [], ◌∷◌, ◌++◌, map, flat_map, Some, None}
 use Rattle.std.specs.List.{AllByRecursion}
-use Rattle.papaya_histories.specs.Given.SeizeWords.Mem.{value_at}
-use Rattle.papaya_histories.specs.Given.Seize.Law.{Ended}
-use Rattle.papaya_histories.specs.Given.Seize.WaitingSets.{Change, Ends, Sets, is_one_of}
-use Rattle.papaya_histories.specs.Given.Seize.World.{World, LeftTo, with_effect}
-use Rattle.papaya_histories.specs.Given.Seize.declared.rows.settle.Settled.{Settled}
-use Rattle.papaya_histories.specs.Given.SeizeWaiting.Held.{Every}
-use Rattle.papaya_histories.specs.Given.Tables.Nodes.{deferred_word}
-use Rattle.papaya_histories.specs.Given.Tables.declared.node.Node.{Node}
-use Rattle.papaya_histories.specs.Given.Schedules.After.{tables_taken}
-use Rattle.papaya_histories.specs.Given.Schedules.Lists.{is_in}
-use Rattle.papaya_histories.specs.Given.Schedules.Moment.{Moment}
-use Rattle.papaya_histories.specs.Given.Schedules.Things.{same_table}
-use Rattle.papaya_histories.specs.Given.Schedules.declared.effect.Effect.{Effect}
-use Rattle.papaya_histories.specs.Given.Schedules.declared.effect.Effect.TheVariants.{Stored, Linked, Reclaimed}
-use Rattle.papaya_histories.specs.Given.Schedules.declared.effect.Table.{Table}
-use Rattle.papaya_histories.specs.Given.Schedules.declared.effect.Thing.{Thing}
-use Rattle.papaya_histories.specs.Given.Effects.Effects.{effects_of, known_after}
-use Rattle.papaya_histories.specs.Given.Effects.Known.{Known}
-use Rattle.papaya_histories.specs.Given.Effects.declared.acting.Acting.TheVariants.{Ending}
-use Rattle.papaya_histories.specs.Given.Effects.declared.role.Role.TheVariants as role
-use Rattle.papaya_histories.specs.Given.Finishes.Endings.{Finishing}
-use Rattle.papaya_histories.specs.Given.Follows.Blocks.{ShowsBlocks}
-use Rattle.papaya_histories.specs.Given.Moments.Whole.{ShowsWhole}
+use Rattle.papaya_promises.specs.Given.SeizeWords.Mem.{value_at}
+use Rattle.papaya_promises.specs.Given.Seize.Law.{Ended}
+use Rattle.papaya_promises.specs.Given.Seize.WaitingSets.{Change, Ends, Sets, is_one_of}
+use Rattle.papaya_promises.specs.Given.Seize.World.{World, LeftTo, with_effect}
+use Rattle.papaya_promises.specs.Given.Seize.declared.rows.settle.Settled.{Settled}
+use Rattle.papaya_promises.specs.Given.SeizeWaiting.Held.{Every}
+use Rattle.papaya_promises.specs.Given.Tables.Nodes.{deferred_word}
+use Rattle.papaya_promises.specs.Given.Tables.declared.node.Node.{Node}
+use Rattle.papaya_promises.specs.Given.Schedules.After.{tables_taken}
+use Rattle.papaya_promises.specs.Given.Schedules.Lists.{is_in}
+use Rattle.papaya_promises.specs.Given.Schedules.Moment.{Moment}
+use Rattle.papaya_promises.specs.Given.Schedules.Things.{same_table}
+use Rattle.papaya_promises.specs.Given.Schedules.declared.effect.Effect.{Effect}
+use Rattle.papaya_promises.specs.Given.Schedules.declared.effect.Effect.TheVariants.{Stored, Linked, Reclaimed}
+use Rattle.papaya_promises.specs.Given.Schedules.declared.effect.Table.{Table}
+use Rattle.papaya_promises.specs.Given.Schedules.declared.effect.Thing.{Thing}
+use Rattle.papaya_promises.specs.Given.Effects.Effects.{effects_of, known_after}
+use Rattle.papaya_promises.specs.Given.Effects.Known.{Known}
+use Rattle.papaya_promises.specs.Given.Effects.declared.acting.Acting.TheVariants.{Ending}
+use Rattle.papaya_promises.specs.Given.Effects.declared.role.Role.TheVariants as role
+use Rattle.papaya_promises.specs.Given.Finishes.Endings.{Finishing}
+use Rattle.papaya_promises.specs.Given.Follows.Blocks.{ShowsBlocks}
+use Rattle.papaya_promises.specs.Given.Moments.Whole.{ShowsWhole}
 use Rattle.papaya_models.specs.Alike.{SetsAlike}
 use Rattle.papaya_models.specs.Calls.{sets_on}
 use Rattle.papaya_models.specs.Follows.{FollowsSets}
 use Rattle.papaya_models.specs.Numbers.{HasNumber, EachIsOnce}
 use Rattle.papaya_models.specs.Others.{HandNone}
 use Rattle.papaya_models.specs.Turns.{sets_of, CameByTurns}
-use Rattle.papaya_histories.specs.Given.Scenes.Ending.{EndingLeads}
-use Rattle.papaya_histories.specs.Given.Scenes.Held.{Held, IsAt}
-use Rattle.papaya_histories.specs.Given.Scenes.Scene.{Scene}
+use Rattle.papaya_promises.specs.Given.Scenes.Ending.{EndingLeads}
+use Rattle.papaya_promises.specs.Given.Scenes.Held.{Held, IsAt}
+use Rattle.papaya_promises.specs.Given.Scenes.Scene.{Scene}
 
 -- an effect of the end of a map: nothing comes by it, and nothing that was handed over is reclaimed
 abbrev pub IsOfEnd : Effect → Type 0

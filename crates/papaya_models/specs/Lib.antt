@@ -12,3 +12,4 @@ pub mod Retires
 pub mod Defers
 pub mod CallEvents
 pub mod MapEvents
+pub mod Given

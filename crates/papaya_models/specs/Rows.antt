@@ -1,15 +1,15 @@
 -- Which row an event of guards and registrations is to the waiting sets: the first guard on a slot enters it, and the only one refreshes and leaves it.
 use Rattle.std.specs.Prelude.{◌≡◌, ◌≢◌, ℕ, Bool, List, [], Some}
-use Rattle.papaya_histories.specs.Given.SeizeWords.declared.fault.Fault.{Fault}
-use Rattle.papaya_histories.specs.Given.Seize.Sequence.{new_slot}
-use Rattle.papaya_histories.specs.Given.Seize.World.{Use, IsInside, Register', Enter', Leave', LeaveOwned, Refresh, Unregister', Flush}
-use Rattle.papaya_histories.specs.Given.Runs.Present.{slot_of_registration, slot_of_guard, guards_on}
-use Rattle.papaya_histories.specs.Given.Schedules.Model.{changes_by}
-use Rattle.papaya_histories.specs.Given.Schedules.Moment.{Moment}
-use Rattle.papaya_histories.specs.Given.Schedules.declared.event.Event.{Event}
-use Rattle.papaya_histories.specs.Given.Schedules.declared.event.Event.TheVariants as event
-use Rattle.papaya_histories.specs.Given.Schedules.declared.outcome.Outcome.{Outcome}
-use Rattle.papaya_histories.specs.Given.Schedules.declared.outcome.Outcome.TheVariants.{Done, Slot, Refused}
+use Rattle.papaya_promises.specs.Given.SeizeWords.declared.fault.Fault.{Fault}
+use Rattle.papaya_promises.specs.Given.Seize.Sequence.{new_slot}
+use Rattle.papaya_promises.specs.Given.Seize.World.{Use, IsInside, Register', Enter', Leave', LeaveOwned, Refresh, Unregister', Flush}
+use Rattle.papaya_promises.specs.Given.Runs.Present.{slot_of_registration, slot_of_guard, guards_on}
+use Rattle.papaya_promises.specs.Given.Schedules.Model.{changes_by}
+use Rattle.papaya_promises.specs.Given.Schedules.Moment.{Moment}
+use Rattle.papaya_promises.specs.Given.Schedules.declared.event.Event.{Event}
+use Rattle.papaya_promises.specs.Given.Schedules.declared.event.Event.TheVariants as event
+use Rattle.papaya_promises.specs.Given.Schedules.declared.outcome.Outcome.{Outcome}
+use Rattle.papaya_promises.specs.Given.Schedules.declared.outcome.Outcome.TheVariants.{Done, Slot, Refused}
 use Rattle.papaya_models.specs.OnSlots.{IsRowFor}
 
 module _ {K V : Type 0} (m : Moment K V) where

@@ -1,31 +1,31 @@
 -- Calls keep all that a moment shows.
 use Rattle.std.specs.Prelude.{◌≡◌, ℕ, Bool, List, Some, ◌⊎◌}
 use Rattle.std.proofs.Common.{inl, inr}
-use Rattle.papaya_spots.specs.Given.Tables.declared.node.Node.{Node}
-use Rattle.papaya_spots.specs.Given.Raw.declared.machines.progress.Progress.{Progress}
-use Rattle.papaya_spots.specs.Given.Schedules.Beginning.{with_call}
-use Rattle.papaya_spots.specs.Given.Schedules.Effects.{with_effects}
-use Rattle.papaya_spots.specs.Given.Schedules.Moment.{Moment}
-use Rattle.papaya_spots.specs.Given.Callers.Together.{UnderWay, OnKey, ForRoom, Counting, OverAll}
-use Rattle.papaya_spots.specs.Given.Effects.Effects.{effects_of, known_after}
-use Rattle.papaya_spots.specs.Given.Effects.Known.{Known}
-use Rattle.papaya_spots.specs.Given.Effects.declared.acting.Acting.TheVariants as acts
-use Rattle.papaya_spots.specs.Given.Follows.Calling.{told, come_to}
-use Rattle.papaya_spots.specs.Given.Follows.Steps.{TakesNone}
-use Rattle.papaya_spots.proofs.Given.Follows.Steps.{WentTo, went_to, DidSo, OfNoRow}
-use Rattle.papaya_hands.specs.Shows.{ShowsAll}
-use Rattle.papaya_hands.proofs.Beginning.{runs_begin_so}
-use Rattle.papaya_hands.proofs.Calling.{calls_begin_for, calls_come_to_so}
-use Rattle.papaya_hands.proofs.RowSteps.{rows_hand_theirs}
-use Rattle.papaya_hands.proofs.Steps.{calls_store_theirs}
-use Rattle.papaya_hands.proofs.Told.{calls_take}
-use Rattle.papaya_spots.proofs.Given.Others.Counters.{calls_note_counters}
-use Rattle.papaya_spots.proofs.Begins.{places_begin, blocks_begin, calls_leave_places}
-use Rattle.papaya_spots.proofs.Steps.{calls_keep_places, calls_keep_blocks, calls_leave_outside}
+use Rattle.papaya_named.specs.Given.Tables.declared.node.Node.{Node}
+use Rattle.papaya_named.specs.Given.Raw.declared.machines.progress.Progress.{Progress}
+use Rattle.papaya_named.specs.Given.Schedules.Beginning.{with_call}
+use Rattle.papaya_named.specs.Given.Schedules.Effects.{with_effects}
+use Rattle.papaya_named.specs.Given.Schedules.Moment.{Moment}
+use Rattle.papaya_named.specs.Given.Callers.Together.{UnderWay, OnKey, ForRoom, Counting, OverAll}
+use Rattle.papaya_named.specs.Given.Effects.Effects.{effects_of, known_after}
+use Rattle.papaya_named.specs.Given.Effects.Known.{Known}
+use Rattle.papaya_named.specs.Given.Effects.declared.acting.Acting.TheVariants as acts
+use Rattle.papaya_named.specs.Given.Follows.Calling.{told, come_to}
+use Rattle.papaya_named.specs.Given.Follows.Steps.{TakesNone}
+use Rattle.papaya_named.proofs.Given.Follows.Steps.{WentTo, went_to, DidSo, OfNoRow}
+use Rattle.papaya_named.specs.Given.Hands.Shows.{ShowsAll}
+use Rattle.papaya_named.proofs.Given.Hands.Beginning.{runs_begin_so}
+use Rattle.papaya_named.proofs.Given.Hands.Calling.{calls_begin_for, calls_come_to_so}
+use Rattle.papaya_named.proofs.Given.Hands.RowSteps.{rows_hand_theirs}
+use Rattle.papaya_named.proofs.Given.Hands.Steps.{calls_store_theirs}
+use Rattle.papaya_named.proofs.Given.Hands.Told.{calls_take}
+use Rattle.papaya_named.proofs.Given.Others.Counters.{calls_note_counters}
+use Rattle.papaya_named.proofs.Given.Spots.Begins.{places_begin, blocks_begin, calls_leave_places}
+use Rattle.papaya_named.proofs.Given.Spots.Steps.{calls_keep_places, calls_keep_blocks, calls_leave_outside}
 use Rattle.papaya_moments.specs.Whole.{ShowsWhole, WholeBegins, CallsKeepWhole, CallsTakeWhole, CallsBeginWhole, CallsComeToWhole}
-use Rattle.papaya_spots.specs.Given.Scenes.Held.{Held, IsAt}
-use Rattle.papaya_spots.specs.Given.Scenes.Scene.{Scene}
-use Rattle.papaya_spots.specs.Given.Scenes.Stepping.{StepLeads, scene_after}
+use Rattle.papaya_named.specs.Given.Scenes.Held.{Held, IsAt}
+use Rattle.papaya_named.specs.Given.Scenes.Scene.{Scene}
+use Rattle.papaya_named.specs.Given.Scenes.Stepping.{StepLeads, scene_after}
 
 pub whole_begins : (K V : Type 0) → WholeBegins K V
 whole_begins K V same roots name = record {

@@ -3,62 +3,62 @@ use Rattle.std.specs.Prelude.{◌≡◌, ℕ, zero, suc, Bool, true, ◌&&◌, L
 use Rattle.std.specs.List.{list_any}
 use Rattle.std.proofs.Common.{refl, ap, sym, subst, ◌∙◌, arith, inl, inr}
 use Rattle.std.proofs.lemmas.Bool.{cases_eq}
-use Rattle.papaya_spots.specs.Given.SeizeWords.Mem.{value_at}
-use Rattle.papaya_spots.specs.Given.Seize.World.{World, with_at, times}
-use Rattle.papaya_spots.specs.Given.Seize.declared.rows.settle.Settled.{Settled}
-use Rattle.papaya_spots.specs.Given.Seize.declared.rows.settle.Settled.TheVariants as settled
-use Rattle.papaya_spots.specs.Given.Tables.declared.node.Node.{Node}
-use Rattle.papaya_spots.specs.Given.Raw.declared.machines.end_map.EndMap.{EndMap}
-use Rattle.papaya_spots.specs.Given.Schedules.declared.effect.Effect.{Effect}
-use Rattle.papaya_spots.specs.Given.Schedules.declared.effect.Effect.TheVariants.{Stored, Deferred, Taken}
-use Rattle.papaya_spots.specs.Given.Schedules.Effects.{with_effect, with_effects, AtEachEffect}
-use Rattle.papaya_spots.specs.Given.Schedules.Moment.{Place, Left, GivenBack, IsTaken, Moment}
-use Rattle.papaya_spots.specs.Given.Schedules.Things.{same_table}
-use Rattle.papaya_spots.specs.Given.Schedules.Views.{behind, is_there}
-use Rattle.papaya_spots.specs.Given.Teller.declared.changed.Changed.{Changed}
-use Rattle.papaya_spots.specs.Given.Teller.declared.changed.Changed.TheVariants as changed
-use Rattle.papaya_spots.proofs.Given.Callers.Together.At.{at_other, at_same}
-use Rattle.papaya_spots.specs.Given.Effects.Effects.{taken_by, effects_of, known_after}
-use Rattle.papaya_spots.specs.Given.Effects.Known.{Known, with_role}
-use Rattle.papaya_spots.specs.Given.Effects.declared.acting.Acting.{Acting}
-use Rattle.papaya_spots.specs.Given.Effects.declared.acting.Acting.TheVariants.{Ending}
-use Rattle.papaya_spots.specs.Given.Effects.declared.role.Role.{Role}
-use Rattle.papaya_spots.specs.Given.Effects.declared.role.Role.TheVariants as role
-use Rattle.papaya_spots.specs.Given.Finishes.Endings.{Finishing, StepsOfEnding}
-use Rattle.papaya_spots.specs.Given.Finishes.FactsEnds.{taken_by as taken_of, left_by}
-use Rattle.papaya_spots.specs.Given.Finishes.Maps.{Standing}
-use Rattle.papaya_spots.proofs.Given.Follows.Alike.{is_calm, AllCalm, AreSame, calm_still, put_elsewhere}
-use Rattle.papaya_spots.proofs.Given.Follows.Onward.{IsOfMap}
-use Rattle.papaya_spots.proofs.Given.Follows.Operations.{LeavesBy}
-use Rattle.papaya_hands.specs.Hands.{IsInUse}
-use Rattle.papaya_hands.specs.Rows.{ShowsRows}
-use Rattle.papaya_hands.proofs.Others.{endings_begin_aside, endings_go_aside}
-use Rattle.papaya_spots.specs.Given.Others.After.{ShowsAfter}
-use Rattle.papaya_spots.specs.Given.Others.Counters.{NotesCounters}
-use Rattle.papaya_spots.specs.Given.Others.Endings.{ending_after}
-use Rattle.papaya_spots.specs.Given.Others.Gone.{EndsWith}
-use Rattle.papaya_spots.proofs.Given.Others.Counters.{endings_note_counters}
-use Rattle.papaya_spots.proofs.Given.Others.EndBegins.{endings_begin_shown}
-use Rattle.papaya_spots.proofs.Given.Others.Ends.{left, says_or_takes, endings_are_shown}
-use Rattle.papaya_spots.proofs.Given.Others.Quiet.{all_quiet}
-use Rattle.papaya_spots.proofs.Given.Others.Stays.{same_maps}
-use Rattle.papaya_spots.specs.Deferred.{WaitOutside, FindsNumbers}
-use Rattle.papaya_spots.specs.Spots.{ShowsPlaces}
-use Rattle.papaya_spots.specs.Unreclaimed.{is_unreclaimed, ShowsUnreclaimed}
-use Rattle.papaya_spots.proofs.Begins.{fewer_maps_stand}
-use Rattle.papaya_spots.proofs.Calm.{put_back}
-use Rattle.papaya_spots.proofs.Deferred.{effects_leave_outside, each_waits_outside}
-use Rattle.papaya_spots.proofs.Effects.{AllAside, calm_aside}
-use Rattle.papaya_spots.proofs.Gone.{other_gone, pair_gone, table_gone}
-use Rattle.papaya_spots.proofs.Stays.{WerePairs, places_stay}
-use Rattle.papaya_spots.proofs.Unreclaimed.{unreclaimed_same}
+use Rattle.papaya_named.specs.Given.SeizeWords.Mem.{value_at}
+use Rattle.papaya_named.specs.Given.Seize.World.{World, with_at, times}
+use Rattle.papaya_named.specs.Given.Seize.declared.rows.settle.Settled.{Settled}
+use Rattle.papaya_named.specs.Given.Seize.declared.rows.settle.Settled.TheVariants as settled
+use Rattle.papaya_named.specs.Given.Tables.declared.node.Node.{Node}
+use Rattle.papaya_named.specs.Given.Raw.declared.machines.end_map.EndMap.{EndMap}
+use Rattle.papaya_named.specs.Given.Schedules.declared.effect.Effect.{Effect}
+use Rattle.papaya_named.specs.Given.Schedules.declared.effect.Effect.TheVariants.{Stored, Deferred, Taken}
+use Rattle.papaya_named.specs.Given.Schedules.Effects.{with_effect, with_effects, AtEachEffect}
+use Rattle.papaya_named.specs.Given.Schedules.Moment.{Place, Left, GivenBack, IsTaken, Moment}
+use Rattle.papaya_named.specs.Given.Schedules.Things.{same_table}
+use Rattle.papaya_named.specs.Given.Schedules.Views.{behind, is_there}
+use Rattle.papaya_named.specs.Given.Teller.declared.changed.Changed.{Changed}
+use Rattle.papaya_named.specs.Given.Teller.declared.changed.Changed.TheVariants as changed
+use Rattle.papaya_named.proofs.Given.Callers.Together.At.{at_other, at_same}
+use Rattle.papaya_named.specs.Given.Effects.Effects.{taken_by, effects_of, known_after}
+use Rattle.papaya_named.specs.Given.Effects.Known.{Known, with_role}
+use Rattle.papaya_named.specs.Given.Effects.declared.acting.Acting.{Acting}
+use Rattle.papaya_named.specs.Given.Effects.declared.acting.Acting.TheVariants.{Ending}
+use Rattle.papaya_named.specs.Given.Effects.declared.role.Role.{Role}
+use Rattle.papaya_named.specs.Given.Effects.declared.role.Role.TheVariants as role
+use Rattle.papaya_named.specs.Given.Finishes.Endings.{Finishing, StepsOfEnding}
+use Rattle.papaya_named.specs.Given.Finishes.FactsEnds.{taken_by as taken_of, left_by}
+use Rattle.papaya_named.specs.Given.Finishes.Maps.{Standing}
+use Rattle.papaya_named.proofs.Given.Follows.Alike.{is_calm, AllCalm, AreSame, calm_still, put_elsewhere}
+use Rattle.papaya_named.proofs.Given.Follows.Onward.{IsOfMap}
+use Rattle.papaya_named.proofs.Given.Follows.Operations.{LeavesBy}
+use Rattle.papaya_named.specs.Given.Hands.Hands.{IsInUse}
+use Rattle.papaya_named.specs.Given.Hands.Rows.{ShowsRows}
+use Rattle.papaya_named.proofs.Given.Hands.Others.{endings_begin_aside, endings_go_aside}
+use Rattle.papaya_named.specs.Given.Others.After.{ShowsAfter}
+use Rattle.papaya_named.specs.Given.Others.Counters.{NotesCounters}
+use Rattle.papaya_named.specs.Given.Others.Endings.{ending_after}
+use Rattle.papaya_named.specs.Given.Others.Gone.{EndsWith}
+use Rattle.papaya_named.proofs.Given.Others.Counters.{endings_note_counters}
+use Rattle.papaya_named.proofs.Given.Others.EndBegins.{endings_begin_shown}
+use Rattle.papaya_named.proofs.Given.Others.Ends.{left, says_or_takes, endings_are_shown}
+use Rattle.papaya_named.proofs.Given.Others.Quiet.{all_quiet}
+use Rattle.papaya_named.proofs.Given.Others.Stays.{same_maps}
+use Rattle.papaya_named.specs.Given.Spots.Deferred.{WaitOutside, FindsNumbers}
+use Rattle.papaya_named.specs.Given.Spots.Spots.{ShowsPlaces}
+use Rattle.papaya_named.specs.Given.Spots.Unreclaimed.{is_unreclaimed, ShowsUnreclaimed}
+use Rattle.papaya_named.proofs.Given.Spots.Begins.{fewer_maps_stand}
+use Rattle.papaya_named.proofs.Given.Spots.Calm.{put_back}
+use Rattle.papaya_named.proofs.Given.Spots.Deferred.{effects_leave_outside, each_waits_outside}
+use Rattle.papaya_named.proofs.Given.Spots.Effects.{AllAside, calm_aside}
+use Rattle.papaya_named.proofs.Given.Spots.Gone.{other_gone, pair_gone, table_gone}
+use Rattle.papaya_named.proofs.Given.Spots.Stays.{WerePairs, places_stay}
+use Rattle.papaya_named.proofs.Given.Spots.Unreclaimed.{unreclaimed_same}
 use Rattle.papaya_moments.specs.Endings.{IsOfIts, WaitsOn, EndingsBeginWhole, EndingsKeepWhole}
 use Rattle.papaya_moments.specs.Whole.{ShowsWhole}
 use Rattle.papaya_moments.proofs.Beside.{IsBeside, hands_beside, asked_beside}
 use Rattle.papaya_moments.proofs.OnSlots.{put_out, all_out, with_outside, IsAlone, alone, still_alone, none_some, Keeps, same_roles}
-use Rattle.papaya_spots.specs.Given.Scenes.Ending.{EndingComesTo, EndingStepsFrom, ending_begun}
-use Rattle.papaya_spots.specs.Given.Scenes.Held.{Held, IsAt}
-use Rattle.papaya_spots.specs.Given.Scenes.Scene.{Scene, slot_of}
+use Rattle.papaya_named.specs.Given.Scenes.Ending.{EndingComesTo, EndingStepsFrom, ending_begun}
+use Rattle.papaya_named.specs.Given.Scenes.Held.{Held, IsAt}
+use Rattle.papaya_named.specs.Given.Scenes.Scene.{Scene, slot_of}
 
 -- effects that move no pair and no table find numbers as they must
 module _ {K V : Type 0} (acted : Option ℕ) where

@@ -3,56 +3,56 @@ use Rattle.std.specs.Prelude.{◌≡◌, ℕ, ◌==◌, Bool, true, false, ◌&&
 use Rattle.std.specs.List.{list_any}
 use Rattle.std.proofs.Common.{refl, ap, sym, subst, ◌∙◌}
 use Rattle.std.proofs.lemmas.Bool.{eq-eqb}
-use Rattle.papaya_spots.specs.Given.SeizeWords.Mem.{value_at, word_at}
-use Rattle.papaya_spots.specs.Given.SeizeWords.Word.{block_in}
-use Rattle.papaya_spots.specs.Given.SeizeWords.declared.at.At.TheVariants.{Root, Used, Slot, Entry, Word}
-use Rattle.papaya_spots.specs.Given.Seize.World.{World}
-use Rattle.papaya_spots.specs.Given.Seize.declared.progress.Progress.{Progress}
-use Rattle.papaya_spots.specs.Given.Seize.declared.progress.Progress.TheVariants as progress
-use Rattle.papaya_spots.specs.Given.Tables.declared.node.Node.{Node}
-use Rattle.papaya_spots.specs.Given.Tables.declared.setting.Setting.{Setting}
-use Rattle.papaya_spots.specs.Given.Resize.declared.new_map.NewMap.{NewMap}
-use Rattle.papaya_spots.specs.Given.Schedules.declared.effect.Effect.{Effect}
-use Rattle.papaya_spots.specs.Given.Schedules.declared.effect.Effect.TheVariants.{Asked, Linked}
-use Rattle.papaya_spots.specs.Given.Schedules.declared.effect.Growth.TheVariants.{ABlock}
-use Rattle.papaya_spots.specs.Given.Schedules.declared.effect.Table.{Table}
-use Rattle.papaya_spots.specs.Given.Schedules.Effects.{with_effects}
-use Rattle.papaya_spots.specs.Given.Schedules.Moment.{Place, Moment}
-use Rattle.papaya_spots.specs.Given.Schedules.Things.{same_table}
-use Rattle.papaya_spots.specs.Given.Schedules.Views.{is_there, tables_of}
-use Rattle.papaya_spots.specs.Given.Teller.declared.changed.Changed.{Changed}
-use Rattle.papaya_spots.specs.Given.Teller.declared.changed.Changed.TheVariants as changed
-use Rattle.papaya_spots.specs.Given.Teller.declared.changed.Kind.{Kind}
-use Rattle.papaya_spots.specs.Given.Teller.declared.changed.Kind.TheVariants as kind
-use Rattle.papaya_spots.specs.Given.Finishes.Endings.{MakingStepsAmong}
-use Rattle.papaya_spots.specs.Given.Finishes.Makings.{Beginning}
-use Rattle.papaya_spots.specs.Given.Effects.Effects.{made_role, made_by, taken_by, led_to, linked_on, named, names_same, effects_of, known_after}
-use Rattle.papaya_spots.specs.Given.Effects.Known.{Known, with_role}
-use Rattle.papaya_spots.specs.Given.Effects.declared.acting.Acting.{Acting}
-use Rattle.papaya_spots.specs.Given.Effects.declared.acting.Acting.TheVariants.{Making}
-use Rattle.papaya_spots.specs.Given.Effects.declared.role.Role.{Role}
-use Rattle.papaya_spots.specs.Given.Effects.declared.role.Role.TheVariants as role
-use Rattle.papaya_spots.specs.Given.Follows.Blocks.{HasRole}
-use Rattle.papaya_spots.specs.Given.Follows.Shows.{Shows}
-use Rattle.papaya_spots.proofs.Given.Follows.Alike.{AllStill, calm_still, put_elsewhere}
-use Rattle.papaya_spots.proofs.Given.Follows.Onward.{IsLasting, IsOfMap}
-use Rattle.papaya_spots.proofs.Given.Follows.Operations.{LeavesBy}
-use Rattle.papaya_spots.proofs.Given.Follows.Writes.{nothing_free}
-use Rattle.papaya_spots.specs.Given.Others.Makings.{IsNew, WasNew}
-use Rattle.papaya_spots.proofs.Given.Others.Leads.{word_says}
-use Rattle.papaya_spots.proofs.Given.Others.MakingPlans.{TellsMaking}
-use Rattle.papaya_spots.proofs.Given.Others.MadeBlocks.{still_made, lasting_there}
-use Rattle.papaya_spots.proofs.Given.Others.Makes.{linked_stays, no_table_word, tells, left, not_going, not_refused}
-use Rattle.papaya_spots.proofs.Given.Others.Quiet.{all_quiet}
-use Rattle.papaya_spots.proofs.Given.Others.Retired.{any_kept}
-use Rattle.papaya_spots.specs.Unreclaimed.{is_unreclaimed, ShowsUnreclaimed}
-use Rattle.papaya_spots.proofs.Calm.{put_back}
-use Rattle.papaya_spots.proofs.Gone.{other_gone}
-use Rattle.papaya_spots.proofs.Unreclaimed.{AsUnreclaimed, unreclaimed_same, linked_unreclaimed, and_both, table_is}
+use Rattle.papaya_named.specs.Given.SeizeWords.Mem.{value_at, word_at}
+use Rattle.papaya_named.specs.Given.SeizeWords.Word.{block_in}
+use Rattle.papaya_named.specs.Given.SeizeWords.declared.at.At.TheVariants.{Root, Used, Slot, Entry, Word}
+use Rattle.papaya_named.specs.Given.Seize.World.{World}
+use Rattle.papaya_named.specs.Given.Seize.declared.progress.Progress.{Progress}
+use Rattle.papaya_named.specs.Given.Seize.declared.progress.Progress.TheVariants as progress
+use Rattle.papaya_named.specs.Given.Tables.declared.node.Node.{Node}
+use Rattle.papaya_named.specs.Given.Tables.declared.setting.Setting.{Setting}
+use Rattle.papaya_named.specs.Given.Resize.declared.new_map.NewMap.{NewMap}
+use Rattle.papaya_named.specs.Given.Schedules.declared.effect.Effect.{Effect}
+use Rattle.papaya_named.specs.Given.Schedules.declared.effect.Effect.TheVariants.{Asked, Linked}
+use Rattle.papaya_named.specs.Given.Schedules.declared.effect.Growth.TheVariants.{ABlock}
+use Rattle.papaya_named.specs.Given.Schedules.declared.effect.Table.{Table}
+use Rattle.papaya_named.specs.Given.Schedules.Effects.{with_effects}
+use Rattle.papaya_named.specs.Given.Schedules.Moment.{Place, Moment}
+use Rattle.papaya_named.specs.Given.Schedules.Things.{same_table}
+use Rattle.papaya_named.specs.Given.Schedules.Views.{is_there, tables_of}
+use Rattle.papaya_named.specs.Given.Teller.declared.changed.Changed.{Changed}
+use Rattle.papaya_named.specs.Given.Teller.declared.changed.Changed.TheVariants as changed
+use Rattle.papaya_named.specs.Given.Teller.declared.changed.Kind.{Kind}
+use Rattle.papaya_named.specs.Given.Teller.declared.changed.Kind.TheVariants as kind
+use Rattle.papaya_named.specs.Given.Finishes.Endings.{MakingStepsAmong}
+use Rattle.papaya_named.specs.Given.Finishes.Makings.{Beginning}
+use Rattle.papaya_named.specs.Given.Effects.Effects.{made_role, made_by, taken_by, led_to, linked_on, named, names_same, effects_of, known_after}
+use Rattle.papaya_named.specs.Given.Effects.Known.{Known, with_role}
+use Rattle.papaya_named.specs.Given.Effects.declared.acting.Acting.{Acting}
+use Rattle.papaya_named.specs.Given.Effects.declared.acting.Acting.TheVariants.{Making}
+use Rattle.papaya_named.specs.Given.Effects.declared.role.Role.{Role}
+use Rattle.papaya_named.specs.Given.Effects.declared.role.Role.TheVariants as role
+use Rattle.papaya_named.specs.Given.Follows.Blocks.{HasRole}
+use Rattle.papaya_named.specs.Given.Follows.Shows.{Shows}
+use Rattle.papaya_named.proofs.Given.Follows.Alike.{AllStill, calm_still, put_elsewhere}
+use Rattle.papaya_named.proofs.Given.Follows.Onward.{IsLasting, IsOfMap}
+use Rattle.papaya_named.proofs.Given.Follows.Operations.{LeavesBy}
+use Rattle.papaya_named.proofs.Given.Follows.Writes.{nothing_free}
+use Rattle.papaya_named.specs.Given.Others.Makings.{IsNew, WasNew}
+use Rattle.papaya_named.proofs.Given.Others.Leads.{word_says}
+use Rattle.papaya_named.proofs.Given.Others.MakingPlans.{TellsMaking}
+use Rattle.papaya_named.proofs.Given.Others.MadeBlocks.{still_made, lasting_there}
+use Rattle.papaya_named.proofs.Given.Others.Makes.{linked_stays, no_table_word, tells, left, not_going, not_refused}
+use Rattle.papaya_named.proofs.Given.Others.Quiet.{all_quiet}
+use Rattle.papaya_named.proofs.Given.Others.Retired.{any_kept}
+use Rattle.papaya_named.specs.Given.Spots.Unreclaimed.{is_unreclaimed, ShowsUnreclaimed}
+use Rattle.papaya_named.proofs.Given.Spots.Calm.{put_back}
+use Rattle.papaya_named.proofs.Given.Spots.Gone.{other_gone}
+use Rattle.papaya_named.proofs.Given.Spots.Unreclaimed.{AsUnreclaimed, unreclaimed_same, linked_unreclaimed, and_both, table_is}
 use Rattle.papaya_moments.specs.Makings.{MakingsKeepBlocks}
-use Rattle.papaya_spots.specs.Given.Scenes.Held.{Held, IsAt}
-use Rattle.papaya_spots.specs.Given.Scenes.Making.{MakingComesTo, MakingStepsFrom}
-use Rattle.papaya_spots.specs.Given.Scenes.Scene.{Scene, slot_of}
+use Rattle.papaya_named.specs.Given.Scenes.Held.{Held, IsAt}
+use Rattle.papaya_named.specs.Given.Scenes.Making.{MakingComesTo, MakingStepsFrom}
+use Rattle.papaya_named.specs.Given.Scenes.Scene.{Scene, slot_of}
 
 -- what is of a map lasts
 pub lasting_of : (r : Role) → IsOfMap r → IsLasting r

@@ -1,26 +1,26 @@
 -- Ends of maps: where one begins, and takes its steps, the moment shows all of the scene then.
 use Rattle.std.specs.Prelude.{◌≡◌, ℕ, true, false, Bool, List, Some, None}
-use Rattle.papaya_spots.specs.Given.Seize.declared.rows.settle.Settled.{Settled}
-use Rattle.papaya_spots.specs.Given.Tables.declared.node.Node.{Node}
-use Rattle.papaya_spots.specs.Given.Schedules.declared.effect.Effect.{Effect}
-use Rattle.papaya_spots.specs.Given.Schedules.declared.effect.Effect.TheVariants.{Taken}
-use Rattle.papaya_spots.specs.Given.Schedules.Effects.{with_effects, AtEachEffect}
-use Rattle.papaya_spots.specs.Given.Schedules.Lists.{is_among}
-use Rattle.papaya_spots.specs.Given.Runs.Same.{is_same}
-use Rattle.papaya_spots.specs.Given.Schedules.Moment.{MapThere, Remains, Moment}
-use Rattle.papaya_spots.specs.Given.Schedules.Views.{map_at, behind}
-use Rattle.papaya_spots.specs.Given.Effects.Effects.{effects_of, known_after}
-use Rattle.papaya_spots.specs.Given.Effects.Known.{Known}
-use Rattle.papaya_spots.specs.Given.Effects.declared.acting.Acting.TheVariants.{Ending}
-use Rattle.papaya_spots.specs.Given.Finishes.Endings.{Finishing}
-use Rattle.papaya_spots.specs.Given.Finishes.Maps.{Standing}
-use Rattle.papaya_spots.specs.Given.Others.Endings.{ending_after, without_map}
-use Rattle.papaya_spots.specs.Unreclaimed.{is_unreclaimed}
+use Rattle.papaya_named.specs.Given.Seize.declared.rows.settle.Settled.{Settled}
+use Rattle.papaya_named.specs.Given.Tables.declared.node.Node.{Node}
+use Rattle.papaya_named.specs.Given.Schedules.declared.effect.Effect.{Effect}
+use Rattle.papaya_named.specs.Given.Schedules.declared.effect.Effect.TheVariants.{Taken}
+use Rattle.papaya_named.specs.Given.Schedules.Effects.{with_effects, AtEachEffect}
+use Rattle.papaya_named.specs.Given.Schedules.Lists.{is_among}
+use Rattle.papaya_named.specs.Given.Runs.Same.{is_same}
+use Rattle.papaya_named.specs.Given.Schedules.Moment.{MapThere, Remains, Moment}
+use Rattle.papaya_named.specs.Given.Schedules.Views.{map_at, behind}
+use Rattle.papaya_named.specs.Given.Effects.Effects.{effects_of, known_after}
+use Rattle.papaya_named.specs.Given.Effects.Known.{Known}
+use Rattle.papaya_named.specs.Given.Effects.declared.acting.Acting.TheVariants.{Ending}
+use Rattle.papaya_named.specs.Given.Finishes.Endings.{Finishing}
+use Rattle.papaya_named.specs.Given.Finishes.Maps.{Standing}
+use Rattle.papaya_named.specs.Given.Others.Endings.{ending_after, without_map}
+use Rattle.papaya_named.specs.Given.Spots.Unreclaimed.{is_unreclaimed}
 use Rattle.papaya_moments.specs.Numbers.{AreFound}
 use Rattle.papaya_moments.specs.Whole.{ShowsWhole}
-use Rattle.papaya_spots.specs.Given.Scenes.Ending.{EndingLeads, ending_begun}
-use Rattle.papaya_spots.specs.Given.Scenes.Held.{Held, IsAt}
-use Rattle.papaya_spots.specs.Given.Scenes.Scene.{Scene}
+use Rattle.papaya_named.specs.Given.Scenes.Ending.{EndingLeads, ending_begun}
+use Rattle.papaya_named.specs.Given.Scenes.Held.{Held, IsAt}
+use Rattle.papaya_named.specs.Given.Scenes.Scene.{Scene}
 
 -- a table that ends with this map is one of it
 abbrev pub IsOfIts : {K V : Type 0} → ℕ → Moment K V → Effect → Type 0

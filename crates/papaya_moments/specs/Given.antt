@@ -1,27 +1,31 @@
 -- The words of the crates below, given on to the crates above: these list this crate in place of those.
-pub use Rattle.papaya_spots.specs.Given.SeizeWords
-pub use Rattle.papaya_spots.specs.Given.Seize
-pub use Rattle.papaya_spots.specs.Given.SeizeWaiting
-pub use Rattle.papaya_spots.specs.Given.SeizeSets
-pub use Rattle.papaya_spots.specs.Given.SeizeEnds
-pub use Rattle.papaya_spots.specs.Given.SeizeAlone
-pub use Rattle.papaya_spots.specs.Given.Tables
-pub use Rattle.papaya_spots.specs.Given.Resize
-pub use Rattle.papaya_spots.specs.Given.Sweeps
-pub use Rattle.papaya_spots.specs.Given.Reserves
-pub use Rattle.papaya_spots.specs.Given.Raw
-pub use Rattle.papaya_spots.specs.Given.Rule
-pub use Rattle.papaya_spots.specs.Given.Points
-pub use Rattle.papaya_spots.specs.Given.Late
-pub use Rattle.papaya_spots.specs.Given.Tells
-pub use Rattle.papaya_spots.specs.Given.Teller
-pub use Rattle.papaya_spots.specs.Given.Callers
-pub use Rattle.papaya_spots.specs.Given.Finishes
-pub use Rattle.papaya_spots.specs.Given.Runs
-pub use Rattle.papaya_spots.specs.Given.Schedules
-pub use Rattle.papaya_spots.specs.Given.Effects
-pub use Rattle.papaya_spots.specs.Given.Scenes
-pub use Rattle.papaya_spots.specs.Given.Follows
-pub use Rattle.papaya_hands.specs as Hands
-pub use Rattle.papaya_spots.specs.Given.Others
-pub use Rattle.papaya_spots.specs as Spots
+pub use Rattle.papaya_named.specs.Given.SeizeWords
+pub use Rattle.papaya_named.specs.Given.Seize
+pub use Rattle.papaya_named.specs.Given.SeizeWaiting
+pub use Rattle.papaya_named.specs.Given.SeizeSets
+pub use Rattle.papaya_named.specs.Given.SeizeEnds
+pub use Rattle.papaya_named.specs.Given.SeizeAlone
+pub use Rattle.papaya_named.specs.Given.Tables
+pub use Rattle.papaya_named.specs.Given.Resize
+pub use Rattle.papaya_named.specs.Given.Sweeps
+pub use Rattle.papaya_named.specs.Given.Reserves
+pub use Rattle.papaya_named.specs.Given.Raw
+pub use Rattle.papaya_named.specs.Given.Rule
+pub use Rattle.papaya_named.specs.Given.Points
+pub use Rattle.papaya_named.specs.Given.Late
+pub use Rattle.papaya_named.specs.Given.Tells
+pub use Rattle.papaya_named.specs.Given.Teller
+pub use Rattle.papaya_named.specs.Given.Callers
+pub use Rattle.papaya_named.specs.Given.Finishes
+pub use Rattle.papaya_named.specs.Given.Runs
+pub use Rattle.papaya_named.specs.Given.Schedules
+pub use Rattle.papaya_named.specs.Given.Effects
+pub use Rattle.papaya_named.specs.Given.Scenes
+pub use Rattle.papaya_named.specs.Given.Follows
+pub use Rattle.papaya_named.specs.Given.Hands
+pub use Rattle.papaya_named.specs.Given.Others
+pub use Rattle.papaya_named.specs.Given.Spots
+pub use Rattle.papaya_named.specs.Given.Alone
+pub use Rattle.papaya_named.specs.Given.Reclaims
+pub use Rattle.papaya_named.specs.Given.SeizeReclaims
+pub use Rattle.papaya_named.specs as Named

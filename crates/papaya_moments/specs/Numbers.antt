@@ -1,27 +1,27 @@
 -- Numbers of maps: each map that is there has one of its own, and the next one that comes has a higher one than any before.
 use Rattle.std.specs.Prelude.{◌≡◌, ℕ, ◌<◌, Bool, List, [], Option, Some, None}
 use Rattle.std.specs.List.{All}
-use Rattle.papaya_spots.specs.Given.Tables.declared.node.Node.{Node}
-use Rattle.papaya_spots.specs.Given.Tables.declared.setting.Setting.{Setting}
-use Rattle.papaya_spots.specs.Given.Schedules.declared.effect.Effect.{Effect}
-use Rattle.papaya_spots.specs.Given.Schedules.Beginning.{with_map}
-use Rattle.papaya_spots.specs.Given.Schedules.Effects.{with_effects}
-use Rattle.papaya_spots.specs.Given.Schedules.Moment.{InMap, MapThere, Remains, Moment, start}
-use Rattle.papaya_spots.specs.Given.Schedules.Views.{map_at, tables_of}
-use Rattle.papaya_spots.specs.Given.Teller.declared.changed.Changed.{Changed}
-use Rattle.papaya_spots.specs.Given.Effects.Effects.{map_of, effects_of}
-use Rattle.papaya_spots.specs.Given.Effects.Known.{Known}
-use Rattle.papaya_spots.specs.Given.Effects.declared.acting.Acting.{Acting}
-use Rattle.papaya_spots.specs.Given.Effects.declared.acting.Acting.TheVariants.{Row}
-use Rattle.papaya_spots.specs.Given.Scenes.declared.row.RowTold.{RowTold}
-use Rattle.papaya_spots.specs.Given.Scenes.declared.row.SlotRow.{SlotRow}
-use Rattle.papaya_spots.specs.Given.Others.Endings.{without_map}
-use Rattle.papaya_spots.specs.Given.Others.Makings.{IsNew}
-use Rattle.papaya_spots.specs.Given.Finishes.Makings.{Beginning}
-use Rattle.papaya_spots.specs.Given.Finishes.Maps.{Standing}
-use Rattle.papaya_spots.specs.Given.Scenes.Held.{Held}
-use Rattle.papaya_spots.specs.Given.Scenes.OnSlots.{RowLeads}
-use Rattle.papaya_spots.specs.Given.Scenes.Scene.{IsOnSlot, Scene}
+use Rattle.papaya_named.specs.Given.Tables.declared.node.Node.{Node}
+use Rattle.papaya_named.specs.Given.Tables.declared.setting.Setting.{Setting}
+use Rattle.papaya_named.specs.Given.Schedules.declared.effect.Effect.{Effect}
+use Rattle.papaya_named.specs.Given.Schedules.Beginning.{with_map}
+use Rattle.papaya_named.specs.Given.Schedules.Effects.{with_effects}
+use Rattle.papaya_named.specs.Given.Schedules.Moment.{InMap, MapThere, Remains, Moment, start}
+use Rattle.papaya_named.specs.Given.Schedules.Views.{map_at, tables_of}
+use Rattle.papaya_named.specs.Given.Teller.declared.changed.Changed.{Changed}
+use Rattle.papaya_named.specs.Given.Effects.Effects.{map_of, effects_of}
+use Rattle.papaya_named.specs.Given.Effects.Known.{Known}
+use Rattle.papaya_named.specs.Given.Effects.declared.acting.Acting.{Acting}
+use Rattle.papaya_named.specs.Given.Effects.declared.acting.Acting.TheVariants.{Row}
+use Rattle.papaya_named.specs.Given.Scenes.declared.row.RowTold.{RowTold}
+use Rattle.papaya_named.specs.Given.Scenes.declared.row.SlotRow.{SlotRow}
+use Rattle.papaya_named.specs.Given.Others.Endings.{without_map}
+use Rattle.papaya_named.specs.Given.Others.Makings.{IsNew}
+use Rattle.papaya_named.specs.Given.Finishes.Makings.{Beginning}
+use Rattle.papaya_named.specs.Given.Finishes.Maps.{Standing}
+use Rattle.papaya_named.specs.Given.Scenes.Held.{Held}
+use Rattle.papaya_named.specs.Given.Scenes.OnSlots.{RowLeads}
+use Rattle.papaya_named.specs.Given.Scenes.Scene.{IsOnSlot, Scene}
 
 module _ {K V : Type 0} where
   -- each map that is there is the one that is found by its number

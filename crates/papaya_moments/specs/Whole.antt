@@ -1,37 +1,37 @@
 -- What a moment of a run, with what is noted of the memory, shows of a scene, in one piece.
 use Rattle.std.specs.Prelude.{◌≡◌, ℕ, Bool, true, List, Option, Some, Ok}
-use Rattle.papaya_spots.specs.Given.Seize.World.{Rests}
-use Rattle.papaya_spots.specs.Given.Tables.declared.node.Node.{Node}
-use Rattle.papaya_spots.specs.Given.Runs.Same.{is_same}
-use Rattle.papaya_spots.specs.Given.Raw.Machine.{machine_replied}
-use Rattle.papaya_spots.specs.Given.Raw.declared.machines.progress.Progress.{Progress}
-use Rattle.papaya_spots.specs.Given.Schedules.declared.call.Call.{Call}
-use Rattle.papaya_spots.specs.Given.Schedules.declared.call.Reply.{Reply}
-use Rattle.papaya_spots.specs.Given.Schedules.declared.outcome.Outcome.{Outcome}
-use Rattle.papaya_spots.specs.Given.Schedules.Beginning.{with_call}
-use Rattle.papaya_spots.specs.Given.Schedules.Effects.{with_effects}
-use Rattle.papaya_spots.specs.Given.Schedules.Entry.{ends_call}
-use Rattle.papaya_spots.specs.Given.Schedules.Moment.{Asking, UnderWay as CallThere, Moment, start}
-use Rattle.papaya_spots.specs.Given.Schedules.Views.{call_of}
-use Rattle.papaya_spots.specs.Given.Callers.Together.{UnderWay}
-use Rattle.papaya_spots.specs.Given.Effects.Effects.{effects_of, known_after}
-use Rattle.papaya_spots.specs.Given.Effects.Known.{Known, nothing_known}
-use Rattle.papaya_spots.specs.Given.Effects.declared.acting.Acting.TheVariants as acts
-use Rattle.papaya_spots.specs.Given.Finishes.Machines.{machine_of, ToldOfKind}
-use Rattle.papaya_spots.specs.Given.Finishes.Maps.{Standing}
-use Rattle.papaya_spots.specs.Given.Follows.Calling.{NoneNamed, told, come_to}
-use Rattle.papaya_spots.specs.Given.Follows.Calls.{IsCalled}
-use Rattle.papaya_hands.specs.Asked.{as_told}
-use Rattle.papaya_hands.specs.Calling.{IsBegunFor, AsksJust}
-use Rattle.papaya_hands.specs.Shows.{ShowsAll}
-use Rattle.papaya_spots.specs.Given.Others.Counters.{NotesCounters}
-use Rattle.papaya_spots.specs.Deferred.{WaitOutside}
-use Rattle.papaya_spots.specs.Spots.{ShowsPlaces}
-use Rattle.papaya_spots.specs.Unreclaimed.{ShowsUnreclaimed}
-use Rattle.papaya_spots.specs.Given.Scenes.Held.{Held, IsAt}
-use Rattle.papaya_spots.specs.Given.Scenes.Replying.{scene_with}
-use Rattle.papaya_spots.specs.Given.Scenes.Scene.{Scene, at_first, slot_of}
-use Rattle.papaya_spots.specs.Given.Scenes.Stepping.{StepLeads, scene_after}
+use Rattle.papaya_named.specs.Given.Seize.World.{Rests}
+use Rattle.papaya_named.specs.Given.Tables.declared.node.Node.{Node}
+use Rattle.papaya_named.specs.Given.Runs.Same.{is_same}
+use Rattle.papaya_named.specs.Given.Raw.Machine.{machine_replied}
+use Rattle.papaya_named.specs.Given.Raw.declared.machines.progress.Progress.{Progress}
+use Rattle.papaya_named.specs.Given.Schedules.declared.call.Call.{Call}
+use Rattle.papaya_named.specs.Given.Schedules.declared.call.Reply.{Reply}
+use Rattle.papaya_named.specs.Given.Schedules.declared.outcome.Outcome.{Outcome}
+use Rattle.papaya_named.specs.Given.Schedules.Beginning.{with_call}
+use Rattle.papaya_named.specs.Given.Schedules.Effects.{with_effects}
+use Rattle.papaya_named.specs.Given.Schedules.Entry.{ends_call}
+use Rattle.papaya_named.specs.Given.Schedules.Moment.{Asking, UnderWay as CallThere, Moment, start}
+use Rattle.papaya_named.specs.Given.Schedules.Views.{call_of}
+use Rattle.papaya_named.specs.Given.Callers.Together.{UnderWay}
+use Rattle.papaya_named.specs.Given.Effects.Effects.{effects_of, known_after}
+use Rattle.papaya_named.specs.Given.Effects.Known.{Known, nothing_known}
+use Rattle.papaya_named.specs.Given.Effects.declared.acting.Acting.TheVariants as acts
+use Rattle.papaya_named.specs.Given.Finishes.Machines.{machine_of, ToldOfKind}
+use Rattle.papaya_named.specs.Given.Finishes.Maps.{Standing}
+use Rattle.papaya_named.specs.Given.Follows.Calling.{NoneNamed, told, come_to}
+use Rattle.papaya_named.specs.Given.Follows.Calls.{IsCalled}
+use Rattle.papaya_named.specs.Given.Hands.Asked.{as_told}
+use Rattle.papaya_named.specs.Given.Hands.Calling.{IsBegunFor, AsksJust}
+use Rattle.papaya_named.specs.Given.Hands.Shows.{ShowsAll}
+use Rattle.papaya_named.specs.Given.Others.Counters.{NotesCounters}
+use Rattle.papaya_named.specs.Given.Spots.Deferred.{WaitOutside}
+use Rattle.papaya_named.specs.Given.Spots.Spots.{ShowsPlaces}
+use Rattle.papaya_named.specs.Given.Spots.Unreclaimed.{ShowsUnreclaimed}
+use Rattle.papaya_named.specs.Given.Scenes.Held.{Held, IsAt}
+use Rattle.papaya_named.specs.Given.Scenes.Replying.{scene_with}
+use Rattle.papaya_named.specs.Given.Scenes.Scene.{Scene, at_first, slot_of}
+use Rattle.papaya_named.specs.Given.Scenes.Stepping.{StepLeads, scene_after}
 
 -- It shows what the scene has, what calls were told, in whose hands blocks are and what rows do; where pairs lie, which blocks are not reclaimed, that what waits
 -- behind tables is in no map; and the counters of maps that are being made.

@@ -2,42 +2,42 @@
 use Rattle.std.specs.Prelude.{◌≡◌, ℕ, Bool, true, false, List, [], ◌∷◌, is_ok, length, if◌then◌else◌}
 use Rattle.std.proofs.Common.{refl, ap, sym, subst, ◌∙◌}
 use Rattle.seize_acts.specs.Answers.{Grant}
-use Rattle.papaya_legal.specs.Given.Seize.World.{Row}
-use Rattle.papaya_legal.specs.Given.Seize.declared.progress.Progress.{Progress}
-use Rattle.papaya_legal.specs.Given.Seize.declared.progress.Progress.TheVariants as progress
-use Rattle.papaya_legal.specs.Given.Tables.declared.node.Node.{Node}
-use Rattle.papaya_legal.specs.Given.Tables.declared.setting.Setting.{Setting}
-use Rattle.papaya_legal.specs.Given.Resize.NewMap.{new_map_plan}
-use Rattle.papaya_legal.specs.Given.Resize.declared.new_map.NewMap.{NewMap}
-use Rattle.papaya_legal.specs.Given.Raw.Machine.{machine_asked, machine_replied}
-use Rattle.papaya_legal.specs.Given.Raw.declared.machines.asking.Reply.{Reply as Told}
-use Rattle.papaya_legal.specs.Given.Raw.declared.machines.progress.Progress.{Progress as CallProgress}
-use Rattle.papaya_legal.specs.Given.Schedules.After.{AtEachEvent}
-use Rattle.papaya_legal.specs.Given.Schedules.declared.outcome.Outcome.{Outcome}
-use Rattle.papaya_legal.specs.Given.Schedules.declared.outcome.Outcome.TheVariants as outcome
-use Rattle.papaya_legal.specs.Given.Schedules.Views.{capacity_or, map_at}
-use Rattle.papaya_legal.specs.Given.Teller.declared.changed.Changed.{Changed}
-use Rattle.papaya_legal.specs.Given.Teller.declared.changed.Changed.TheVariants.{Nothing as NoChange}
-use Rattle.papaya_legal.specs.Given.Effects.Effects.{effects_of}
-use Rattle.papaya_legal.specs.Given.Effects.declared.acting.Acting.TheVariants as acts
-use Rattle.papaya_legal.specs.Given.Scenes.Held.{Held, IsAt}
-use Rattle.papaya_legal.specs.Given.Scenes.Making.{MakingLeads}
-use Rattle.papaya_legal.specs.Given.Scenes.Scene.{IsOnSlot, Scene, row_of, slot_of}
-use Rattle.papaya_acts.specs.Acts.{Act, Answer, BeginsCall, StepsCall, TellsCall, AsksCall, StopsCall, StepsMaking, StepsRow, OfCall, OfMaking, Wanted}
-use Rattle.papaya_acts.specs.AsSteps.{LeadsAs, changed_by, changed_of, held_in, row_changed, row_told}
-use Rattle.papaya_acts.specs.Leads.{Led, MayBe}
-use Rattle.papaya_acts.proofs.AsSteps.Told.{was_told}
+use Rattle.seize_acts.specs.Given.Seize.World.{Row}
+use Rattle.seize_acts.specs.Given.Seize.declared.progress.Progress.{Progress}
+use Rattle.seize_acts.specs.Given.Seize.declared.progress.Progress.TheVariants as progress
+use Rattle.papaya_deeds.specs.Given.Tables.declared.node.Node.{Node}
+use Rattle.papaya_deeds.specs.Given.Tables.declared.setting.Setting.{Setting}
+use Rattle.papaya_deeds.specs.Given.Resize.NewMap.{new_map_plan}
+use Rattle.papaya_deeds.specs.Given.Resize.declared.new_map.NewMap.{NewMap}
+use Rattle.papaya_deeds.specs.Given.Raw.Machine.{machine_asked, machine_replied}
+use Rattle.papaya_deeds.specs.Given.Raw.declared.machines.asking.Reply.{Reply as Told}
+use Rattle.papaya_deeds.specs.Given.Raw.declared.machines.progress.Progress.{Progress as CallProgress}
+use Rattle.papaya_deeds.specs.Given.Schedules.After.{AtEachEvent}
+use Rattle.papaya_deeds.specs.Given.Schedules.declared.outcome.Outcome.{Outcome}
+use Rattle.papaya_deeds.specs.Given.Schedules.declared.outcome.Outcome.TheVariants as outcome
+use Rattle.papaya_deeds.specs.Given.Schedules.Views.{capacity_or, map_at}
+use Rattle.papaya_grouped.specs.Given.Teller.declared.changed.Changed.{Changed}
+use Rattle.papaya_grouped.specs.Given.Teller.declared.changed.Changed.TheVariants.{Nothing as NoChange}
+use Rattle.papaya_grouped.specs.Given.Effects.Effects.{effects_of}
+use Rattle.papaya_grouped.specs.Given.Effects.declared.acting.Acting.TheVariants as acts
+use Rattle.papaya_grouped.specs.Given.Scenes.Held.{Held, IsAt}
+use Rattle.papaya_grouped.specs.Given.Scenes.Making.{MakingLeads}
+use Rattle.papaya_grouped.specs.Given.Scenes.Scene.{IsOnSlot, Scene, row_of, slot_of}
+use Rattle.papaya_grouped.specs.Given.Acts.Acts.{Act, Answer, BeginsCall, StepsCall, TellsCall, AsksCall, StopsCall, StepsMaking, StepsRow, OfCall, OfMaking, Wanted}
+use Rattle.papaya_grouped.specs.Given.Acts.AsSteps.{LeadsAs, changed_by, changed_of, held_in, row_changed, row_told}
+use Rattle.papaya_grouped.specs.Given.Acts.Leads.{Led, MayBe}
+use Rattle.papaya_grouped.proofs.Given.Acts.AsSteps.Told.{was_told}
 use Rattle.papaya_deeds.specs.Deeds.{Begins, Deed, Entry, Replies, Stops, moment}
 use Rattle.papaya_deeds.specs.History.{made_for}
-use Rattle.papaya_played.specs.Play.{State, call_for, call_stepped, has_root, is_refusal, making_deed, making_outcome, pairs_for, reply_for, row_outcome, row_stepped}
-use Rattle.papaya_played.specs.Reached.{IsOf, row_or_rests}
-use Rattle.papaya_played.proofs.PlayedAs.{PlayedAs}
-use Rattle.papaya_works.specs.Makings.{in_hand, table_left}
-use Rattle.papaya_linear.specs.Coming.{MapsComeAndGo}
-use Rattle.papaya_linear.proofs.Coming.{comes_bare}
-use Rattle.papaya_linear.proofs.Holds.{Holds}
-use Rattle.papaya_linear.proofs.MakesRight.{was_new}
-use Rattle.papaya_played.proofs.Tied.{MakingTied, call_tied, making_tied}
+use Rattle.papaya_grouped.specs.Given.Played.Play.{State, call_for, call_stepped, has_root, is_refusal, making_deed, making_outcome, pairs_for, reply_for, row_outcome, row_stepped}
+use Rattle.papaya_grouped.specs.Given.Played.Reached.{IsOf, row_or_rests}
+use Rattle.papaya_grouped.proofs.Given.Played.PlayedAs.{PlayedAs}
+use Rattle.papaya_swept.specs.Given.Works.Makings.{in_hand, table_left}
+use Rattle.papaya_swept.specs.Given.Linear.Coming.{MapsComeAndGo}
+use Rattle.papaya_swept.proofs.Given.Linear.Coming.{comes_bare}
+use Rattle.papaya_swept.proofs.Given.Linear.Holds.{Holds}
+use Rattle.papaya_swept.proofs.Given.Linear.MakesRight.{was_new}
+use Rattle.papaya_grouped.proofs.Given.Played.Tied.{MakingTied, call_tied, making_tied}
 use Rattle.papaya_moves.specs.Parts.{DoesIts}
 use Rattle.papaya_moves.proofs.CallMoves.{steps_move}
 use Rattle.papaya_moves.proofs.MadeHolds.{MadeHolds}

@@ -2,39 +2,39 @@
 use Rattle.std.specs.Prelude.{◌≡◌, ℕ, Bool, true, length, Option, is_ok}
 use Rattle.std.proofs.Common.{refl, ap, sym, subst, ◌∙◌}
 use Rattle.seize_acts.specs.Answers.{Grant}
-use Rattle.papaya_legal.specs.Given.SeizeWords.Mem.{Mem}
-use Rattle.papaya_legal.specs.Given.Seize.ReclaimAll.{reclaim_all_plan}
-use Rattle.papaya_legal.specs.Given.Seize.World.{Row}
-use Rattle.papaya_legal.specs.Given.Seize.declared.rows.reclaim_all.ReclaimAll.{ReclaimAll}
-use Rattle.papaya_legal.specs.Given.Tables.Nodes.{deferred_word, was_left}
-use Rattle.papaya_legal.specs.Given.Tables.declared.node.Node.{Node}
-use Rattle.papaya_legal.specs.Given.Raw.EndMap.{end_map_plan}
-use Rattle.papaya_legal.specs.Given.Raw.Machine.{machine_asked, machine_plan, machine_replied}
-use Rattle.papaya_legal.specs.Given.Resize.NewMap.{new_map_plan}
-use Rattle.papaya_legal.specs.Given.Schedules.declared.outcome.Outcome.TheVariants as outcome
-use Rattle.papaya_legal.specs.Given.Teller.declared.changed.Changed.{Changed}
-use Rattle.papaya_legal.specs.Given.Teller.declared.changed.Changed.TheVariants.{Nothing as NoChange}
-use Rattle.papaya_legal.specs.Given.Effects.Effects.{known_after}
-use Rattle.papaya_legal.specs.Given.Effects.declared.acting.Acting.TheVariants as acts
-use Rattle.papaya_legal.specs.Given.Finishes.Machines.{machine_of}
-use Rattle.papaya_legal.specs.Given.Named.Seen.{kind_of}
-use Rattle.papaya_legal.specs.Given.Scenes.Held.{Held, IsAt}
-use Rattle.papaya_legal.specs.Given.Scenes.Scene.{IsOnSlot, Scene, row_of, slot_of}
-use Rattle.papaya_legal.specs.Given.Scenes.declared.row.RowTold.{RowTold}
-use Rattle.papaya_legal.proofs.Given.Follows.Operations.{Operated, operated}
-use Rattle.papaya_legal.proofs.Given.Others.RowPlans.{row_operated}
-use Rattle.papaya_legal.proofs.Given.Remains.Slots.{slots_begin}
-use Rattle.papaya_legal.proofs.Given.Scenes.May.{may_end, may_make, may_reclaim, may_row, may_step}
-use Rattle.papaya_acts.specs.Acts.{Act, Answer, BeginsCall, StepsCall, TellsCall, AsksCall, StopsCall, BeginsMaking, StepsMaking, BeginsEnding, StepsEnding, BeginsRow, StepsRow}
-use Rattle.papaya_acts.specs.AsSteps.{LeadsAs, changed_by, held_in, row_changed, row_told}
-use Rattle.papaya_acts.specs.Leads.{Led, MayBe}
+use Rattle.papaya_deeds.specs.Given.SeizeWords.Mem.{Mem}
+use Rattle.seize_acts.specs.Given.Seize.ReclaimAll.{reclaim_all_plan}
+use Rattle.seize_acts.specs.Given.Seize.World.{Row}
+use Rattle.seize_acts.specs.Given.Seize.declared.rows.reclaim_all.ReclaimAll.{ReclaimAll}
+use Rattle.papaya_deeds.specs.Given.Tables.Nodes.{deferred_word, was_left}
+use Rattle.papaya_deeds.specs.Given.Tables.declared.node.Node.{Node}
+use Rattle.papaya_deeds.specs.Given.Raw.EndMap.{end_map_plan}
+use Rattle.papaya_deeds.specs.Given.Raw.Machine.{machine_asked, machine_plan, machine_replied}
+use Rattle.papaya_deeds.specs.Given.Resize.NewMap.{new_map_plan}
+use Rattle.papaya_deeds.specs.Given.Schedules.declared.outcome.Outcome.TheVariants as outcome
+use Rattle.papaya_grouped.specs.Given.Teller.declared.changed.Changed.{Changed}
+use Rattle.papaya_grouped.specs.Given.Teller.declared.changed.Changed.TheVariants.{Nothing as NoChange}
+use Rattle.papaya_grouped.specs.Given.Effects.Effects.{known_after}
+use Rattle.papaya_grouped.specs.Given.Effects.declared.acting.Acting.TheVariants as acts
+use Rattle.papaya_grouped.specs.Given.Finishes.Machines.{machine_of}
+use Rattle.papaya_grouped.specs.Given.Named.Seen.{kind_of}
+use Rattle.papaya_grouped.specs.Given.Scenes.Held.{Held, IsAt}
+use Rattle.papaya_grouped.specs.Given.Scenes.Scene.{IsOnSlot, Scene, row_of, slot_of}
+use Rattle.papaya_grouped.specs.Given.Scenes.declared.row.RowTold.{RowTold}
+use Rattle.papaya_grouped.proofs.Given.Follows.Operations.{Operated, operated}
+use Rattle.papaya_grouped.proofs.Given.Others.RowPlans.{row_operated}
+use Rattle.papaya_swept.proofs.Given.Remains.Slots.{slots_begin}
+use Rattle.papaya_grouped.proofs.Given.Scenes.May.{may_end, may_make, may_reclaim, may_row, may_step}
+use Rattle.papaya_grouped.specs.Given.Acts.Acts.{Act, Answer, BeginsCall, StepsCall, TellsCall, AsksCall, StopsCall, BeginsMaking, StepsMaking, BeginsEnding, StepsEnding, BeginsRow, StepsRow}
+use Rattle.papaya_grouped.specs.Given.Acts.AsSteps.{LeadsAs, changed_by, held_in, row_changed, row_told}
+use Rattle.papaya_grouped.specs.Given.Acts.Leads.{Led, MayBe}
 use Rattle.papaya_deeds.specs.Deeds.{Begins, Replies, Stops}
-use Rattle.papaya_played.specs.Play.{State, call_for, ending_deed, first_state, making_deed, making_outcome, outcome_of, reply_for, row_deed, row_outcome, row_stepped, settled_outcome}
-use Rattle.papaya_played.specs.Reached.{IsOf, row_or_rests, rows_beside}
-use Rattle.papaya_played.proofs.Along.{StaysSo, held}
-use Rattle.papaya_played.proofs.PlayedAs.{PlayedAs, played_as, reclaimed_as}
-use Rattle.papaya_linear.proofs.Stays.{all_tied, change, end}
-use Rattle.papaya_played.proofs.Tied.{call_tied, ending_tied, making_tied}
+use Rattle.papaya_grouped.specs.Given.Played.Play.{State, call_for, ending_deed, first_state, making_deed, making_outcome, outcome_of, reply_for, row_deed, row_outcome, row_stepped, settled_outcome}
+use Rattle.papaya_grouped.specs.Given.Played.Reached.{IsOf, row_or_rests, rows_beside}
+use Rattle.papaya_grouped.proofs.Given.Played.Along.{StaysSo, held}
+use Rattle.papaya_grouped.proofs.Given.Played.PlayedAs.{PlayedAs, played_as, reclaimed_as}
+use Rattle.papaya_swept.proofs.Given.Linear.Stays.{all_tied, change, end}
+use Rattle.papaya_grouped.proofs.Given.Played.Tied.{call_tied, ending_tied, making_tied}
 use Rattle.papaya_moves.proofs.Buckets.{BucketsHold, did_hold, worked_hold}
 
 pub first_buckets : {K V S : Type 0} (roots : ℕ) → BucketsHold {K = K} {V = V} {S = S} (first_state roots)

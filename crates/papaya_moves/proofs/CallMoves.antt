@@ -1,31 +1,31 @@
 -- The step of a call, as it is played, does what a call may do, and leaves nothing behind once it is over.
 use Rattle.std.specs.Prelude.{◌≡◌, ◌⊎◌, ℕ, Bool, true, Option, Some}
 use Rattle.std.proofs.Common.{refl, ap, sym, subst, ◌∙◌, inl, inr}
-use Rattle.papaya_legal.specs.Given.SeizeWords.declared.fault.Fault.TheVariants.{Memory}
-use Rattle.papaya_legal.specs.Given.Tables.declared.node.Node.{Node}
-use Rattle.papaya_legal.specs.Given.Raw.declared.machines.progress.Progress.{Progress}
-use Rattle.papaya_legal.specs.Given.Raw.declared.machines.progress.Progress.TheVariants as progress
-use Rattle.papaya_legal.specs.Given.Schedules.declared.outcome.Outcome.{Outcome}
-use Rattle.papaya_legal.specs.Given.Schedules.declared.outcome.Outcome.TheVariants as outcome
-use Rattle.papaya_legal.specs.Given.Schedules.Effects.{with_effects}
-use Rattle.papaya_legal.specs.Given.Schedules.Entry.{IfCall}
-use Rattle.papaya_legal.specs.Given.Schedules.Handing.{LeavesOf, comes_clear, is_call_effect}
-use Rattle.papaya_legal.specs.Given.Schedules.Views.{call_of}
-use Rattle.papaya_legal.specs.Given.Callers.Together.{UnderWay}
-use Rattle.papaya_legal.specs.Given.Effects.Effects.{effects_of, known_after}
-use Rattle.papaya_legal.specs.Given.Effects.Known.{Known}
-use Rattle.papaya_legal.specs.Given.Effects.declared.acting.Acting.TheVariants as acts
-use Rattle.papaya_legal.specs.Given.Scenes.Held.{Held, IsAt}
-use Rattle.papaya_legal.specs.Given.Scenes.Scene.{Scene}
-use Rattle.papaya_legal.specs.Given.Scenes.Stepping.{StepLeads, has_ended}
-use Rattle.papaya_legal.specs.Given.Named.Seen.{kind_of}
-use Rattle.papaya_legal.specs.Given.Named.declared.kind.Kind.{Kind}
-use Rattle.papaya_legal.proofs.Given.Finds.Steps.{steps_do_theirs}
+use Rattle.papaya_deeds.specs.Given.SeizeWords.declared.fault.Fault.TheVariants.{Memory}
+use Rattle.papaya_deeds.specs.Given.Tables.declared.node.Node.{Node}
+use Rattle.papaya_deeds.specs.Given.Raw.declared.machines.progress.Progress.{Progress}
+use Rattle.papaya_deeds.specs.Given.Raw.declared.machines.progress.Progress.TheVariants as progress
+use Rattle.papaya_deeds.specs.Given.Schedules.declared.outcome.Outcome.{Outcome}
+use Rattle.papaya_deeds.specs.Given.Schedules.declared.outcome.Outcome.TheVariants as outcome
+use Rattle.papaya_deeds.specs.Given.Schedules.Effects.{with_effects}
+use Rattle.papaya_deeds.specs.Given.Schedules.Entry.{IfCall}
+use Rattle.papaya_deeds.specs.Given.Schedules.Handing.{LeavesOf, comes_clear, is_call_effect}
+use Rattle.papaya_deeds.specs.Given.Schedules.Views.{call_of}
+use Rattle.papaya_grouped.specs.Given.Callers.Together.{UnderWay}
+use Rattle.papaya_grouped.specs.Given.Effects.Effects.{effects_of, known_after}
+use Rattle.papaya_grouped.specs.Given.Effects.Known.{Known}
+use Rattle.papaya_grouped.specs.Given.Effects.declared.acting.Acting.TheVariants as acts
+use Rattle.papaya_grouped.specs.Given.Scenes.Held.{Held, IsAt}
+use Rattle.papaya_grouped.specs.Given.Scenes.Scene.{Scene}
+use Rattle.papaya_grouped.specs.Given.Scenes.Stepping.{StepLeads, has_ended}
+use Rattle.papaya_grouped.specs.Given.Named.Seen.{kind_of}
+use Rattle.papaya_grouped.specs.Given.Named.declared.kind.Kind.{Kind}
+use Rattle.papaya_swept.proofs.Given.Finds.Steps.{steps_do_theirs}
 use Rattle.papaya_deeds.specs.Deeds.{Entry, Steps, acted_on, map_of_call, moment, named}
 use Rattle.papaya_deeds.specs.History.{may_do, past}
-use Rattle.papaya_played.specs.Play.{Calling, State, is_refusal, outcome_of}
-use Rattle.papaya_played.proofs.Noted.{CallsAreNoted}
-use Rattle.papaya_linear.specs.Shown.{ShowsAnswers}
+use Rattle.papaya_grouped.specs.Given.Played.Play.{Calling, State, is_refusal, outcome_of}
+use Rattle.papaya_grouped.proofs.Given.Played.Noted.{CallsAreNoted}
+use Rattle.papaya_swept.specs.Given.Linear.Shown.{ShowsAnswers}
 use Rattle.papaya_moves.specs.Parts.{DoesIts}
 use Rattle.papaya_moves.proofs.Leaves.{leaves_nothing}
 use Rattle.papaya_moves.proofs.Parts.{all_also, granted_so, refuses_so}

@@ -2,20 +2,20 @@
 use Rattle.std.specs.Prelude.{◌≡◌, ◌≢◌, ◌==◌, ℕ, zero, suc, Bool, true, false, List, [], ◌∷◌, length, filter, if◌then◌else◌}
 use Rattle.std.proofs.Common.{refl, ap, sym, ◌∙◌, arith}
 use Rattle.std.proofs.lemmas.Bool.{eq-eqb, ne_eqb}
-use Rattle.papaya_legal.specs.Given.Resize.declared.new_map.Opening.{Opening}
-use Rattle.papaya_legal.specs.Given.Resize.declared.new_map.Opening.TheVariants as openings
-use Rattle.papaya_legal.specs.Given.Schedules.declared.effect.Effect.{Effect}
-use Rattle.papaya_legal.specs.Given.Schedules.declared.effect.Effect.TheVariants.{TableMade}
-use Rattle.papaya_legal.specs.Given.Schedules.Handing.{is_table_made}
-use Rattle.papaya_legal.specs.Given.Schedules.Moment.{Moment}
-use Rattle.papaya_legal.specs.Given.Schedules.Views.{capacity_or, map_at}
-use Rattle.papaya_legal.specs.Given.Owes.Making.{making_in_opening}
-use Rattle.papaya_legal.specs.Given.Owes.Tables.{table_made}
-use Rattle.papaya_legal.proofs.Given.Finds.Capacities.{effects_keep_capacities}
+use Rattle.papaya_deeds.specs.Given.Resize.declared.new_map.Opening.{Opening}
+use Rattle.papaya_deeds.specs.Given.Resize.declared.new_map.Opening.TheVariants as openings
+use Rattle.papaya_deeds.specs.Given.Schedules.declared.effect.Effect.{Effect}
+use Rattle.papaya_deeds.specs.Given.Schedules.declared.effect.Effect.TheVariants.{TableMade}
+use Rattle.papaya_deeds.specs.Given.Schedules.Handing.{is_table_made}
+use Rattle.papaya_deeds.specs.Given.Schedules.Moment.{Moment}
+use Rattle.papaya_deeds.specs.Given.Schedules.Views.{capacity_or, map_at}
+use Rattle.papaya_swept.specs.Given.Owes.Making.{making_in_opening}
+use Rattle.papaya_swept.specs.Given.Owes.Tables.{table_made}
+use Rattle.papaya_swept.proofs.Given.Finds.Capacities.{effects_keep_capacities}
 use Rattle.papaya_deeds.specs.Deeds.{Deed, Entry, Makes, MapComes, MapFails, MapGoes, acted_on, after, begun, caller_of}
 use Rattle.papaya_deeds.specs.History.{made_by}
-use Rattle.papaya_played.specs.Play.{has_root, pairs_for}
-use Rattle.papaya_works.specs.Makings.{in_hand}
+use Rattle.papaya_grouped.specs.Given.Played.Play.{has_root, pairs_for}
+use Rattle.papaya_swept.specs.Given.Works.Makings.{in_hand}
 use Rattle.papaya_moves.proofs.Rooted.{IsFreeing}
 
 -- as many effects that make tables

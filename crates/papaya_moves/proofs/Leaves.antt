@@ -1,44 +1,44 @@
 -- A call that has ended with its step, or is ready, leaves nothing behind: neither what it made, nor what it owes, nor what it has to count.
 use Rattle.std.specs.Prelude.{◌≡◌, ◌⊎◌, ℕ, ◌+◌, Bool, true, false, List, [], Option, Some, None, if◌then◌else◌}
 use Rattle.std.proofs.Common.{refl, ap, sym, subst, ◌∙◌, inl, inr}
-use Rattle.papaya_legal.specs.Given.SeizeWords.declared.fault.Fault.TheVariants.{Memory}
-use Rattle.papaya_legal.specs.Given.Tables.declared.node.Node.{Node}
-use Rattle.papaya_legal.specs.Given.Raw.Machine.{machine_asked}
-use Rattle.papaya_legal.specs.Given.Raw.declared.machines.machine.Machine.{Machine}
-use Rattle.papaya_legal.specs.Given.Raw.declared.machines.progress.Progress.{Progress}
-use Rattle.papaya_legal.specs.Given.Raw.declared.machines.progress.Progress.TheVariants as progress
-use Rattle.papaya_legal.specs.Given.Schedules.declared.outcome.Outcome.{Outcome}
-use Rattle.papaya_legal.specs.Given.Schedules.declared.outcome.Outcome.TheVariants as outcome
-use Rattle.papaya_legal.specs.Given.Schedules.Effects.{with_effects}
-use Rattle.papaya_legal.specs.Given.Schedules.Entry.{IfCall}
-use Rattle.papaya_legal.specs.Given.Schedules.Handing.{HasGrown, LeavesOf, comes_clear}
-use Rattle.papaya_legal.specs.Given.Schedules.Moment.{UnderWay as CallThere, Moment}
-use Rattle.papaya_legal.specs.Given.Schedules.Views.{call_of}
-use Rattle.papaya_legal.specs.Given.Callers.Together.{UnderWay}
-use Rattle.papaya_legal.specs.Given.Effects.Effects.{effects_of, known_after}
-use Rattle.papaya_legal.specs.Given.Effects.Known.{Known}
-use Rattle.papaya_legal.specs.Given.Effects.declared.acting.Acting.TheVariants as acts
-use Rattle.papaya_legal.specs.Given.Finishes.Machines.{machine_of}
-use Rattle.papaya_legal.specs.Given.Kept.Kept.{ShowsKept}
-use Rattle.papaya_legal.specs.Given.Moments.Whole.{ShowsWhole}
-use Rattle.papaya_legal.specs.Given.Owes.Events.{LeavesNothingMade}
-use Rattle.papaya_legal.specs.Given.Scenes.Held.{Held, IsAt}
-use Rattle.papaya_legal.specs.Given.Scenes.Scene.{Scene}
-use Rattle.papaya_legal.specs.Given.Scenes.Stepping.{StepLeads, has_ended, scene_after}
-use Rattle.papaya_legal.specs.Given.Settles.Counts.{HasToCount}
-use Rattle.papaya_legal.proofs.CallLeaves.{none_asked}
-use Rattle.papaya_legal.proofs.Given.Kept.Calls.{calls_keep_kept, own_made}
-use Rattle.papaya_legal.proofs.Given.Owes.Calls.{goes_as_one, step_keeps_made}
-use Rattle.papaya_legal.proofs.Given.Owes.Clear.{walks_are_clear}
-use Rattle.papaya_legal.proofs.Given.Owes.Kept.{calls_its}
-use Rattle.papaya_legal.proofs.Given.Owes.Ready.{ready_so}
-use Rattle.papaya_legal.proofs.Given.Owes.Short.Calls.{step_keeps_short}
-use Rattle.papaya_legal.proofs.Given.Owes.Tables.Calls.{step_keeps_tables}
-use Rattle.papaya_legal.proofs.Given.Scenes.Goes.{goes_as}
-use Rattle.papaya_legal.proofs.Given.Scenes.NoCall.{none_of}
-use Rattle.papaya_legal.proofs.Given.Settles.Calls.{calls_keep_counts}
-use Rattle.papaya_legal.proofs.Given.Settles.Hand.Asked.{walks_have_nothing}
-use Rattle.papaya_legal.proofs.Given.Settles.Hand.Calls.{calls_keep_owed}
+use Rattle.papaya_deeds.specs.Given.SeizeWords.declared.fault.Fault.TheVariants.{Memory}
+use Rattle.papaya_deeds.specs.Given.Tables.declared.node.Node.{Node}
+use Rattle.papaya_deeds.specs.Given.Raw.Machine.{machine_asked}
+use Rattle.papaya_deeds.specs.Given.Raw.declared.machines.machine.Machine.{Machine}
+use Rattle.papaya_deeds.specs.Given.Raw.declared.machines.progress.Progress.{Progress}
+use Rattle.papaya_deeds.specs.Given.Raw.declared.machines.progress.Progress.TheVariants as progress
+use Rattle.papaya_deeds.specs.Given.Schedules.declared.outcome.Outcome.{Outcome}
+use Rattle.papaya_deeds.specs.Given.Schedules.declared.outcome.Outcome.TheVariants as outcome
+use Rattle.papaya_deeds.specs.Given.Schedules.Effects.{with_effects}
+use Rattle.papaya_deeds.specs.Given.Schedules.Entry.{IfCall}
+use Rattle.papaya_deeds.specs.Given.Schedules.Handing.{HasGrown, LeavesOf, comes_clear}
+use Rattle.papaya_deeds.specs.Given.Schedules.Moment.{UnderWay as CallThere, Moment}
+use Rattle.papaya_deeds.specs.Given.Schedules.Views.{call_of}
+use Rattle.papaya_grouped.specs.Given.Callers.Together.{UnderWay}
+use Rattle.papaya_grouped.specs.Given.Effects.Effects.{effects_of, known_after}
+use Rattle.papaya_grouped.specs.Given.Effects.Known.{Known}
+use Rattle.papaya_grouped.specs.Given.Effects.declared.acting.Acting.TheVariants as acts
+use Rattle.papaya_grouped.specs.Given.Finishes.Machines.{machine_of}
+use Rattle.papaya_swept.specs.Given.Kept.Kept.{ShowsKept}
+use Rattle.papaya_swept.specs.Given.Moments.Whole.{ShowsWhole}
+use Rattle.papaya_swept.specs.Given.Owes.Events.{LeavesNothingMade}
+use Rattle.papaya_grouped.specs.Given.Scenes.Held.{Held, IsAt}
+use Rattle.papaya_grouped.specs.Given.Scenes.Scene.{Scene}
+use Rattle.papaya_grouped.specs.Given.Scenes.Stepping.{StepLeads, has_ended, scene_after}
+use Rattle.papaya_swept.specs.Given.Settles.Counts.{HasToCount}
+use Rattle.papaya_swept.proofs.Given.Legal.CallLeaves.{none_asked}
+use Rattle.papaya_swept.proofs.Given.Kept.Calls.{calls_keep_kept, own_made}
+use Rattle.papaya_swept.proofs.Given.Owes.Calls.{goes_as_one, step_keeps_made}
+use Rattle.papaya_swept.proofs.Given.Owes.Clear.{walks_are_clear}
+use Rattle.papaya_swept.proofs.Given.Owes.Kept.{calls_its}
+use Rattle.papaya_swept.proofs.Given.Owes.Ready.{ready_so}
+use Rattle.papaya_swept.proofs.Given.Owes.Short.Calls.{step_keeps_short}
+use Rattle.papaya_swept.proofs.Given.Owes.Tables.Calls.{step_keeps_tables}
+use Rattle.papaya_grouped.proofs.Given.Scenes.Goes.{goes_as}
+use Rattle.papaya_grouped.proofs.Given.Scenes.NoCall.{none_of}
+use Rattle.papaya_swept.proofs.Given.Settles.Calls.{calls_keep_counts}
+use Rattle.papaya_swept.proofs.Given.Settles.Hand.Asked.{walks_have_nothing}
+use Rattle.papaya_swept.proofs.Given.Settles.Hand.Calls.{calls_keep_owed}
 
 -- who is short of no growth has grown, whatever the outcome
 has_grown : {K V : Type 0} (o : Outcome V) (c : CallThere K V) → c.is_short ≡ false → HasGrown o c

@@ -3,17 +3,17 @@ use Rattle.std.specs.Prelude.{Bool, List, [], ◌∷◌, Option, Some}
 use Rattle.std.specs.List.{AllByRecursion}
 use Rattle.std.proofs.Common.{◌≡◌, ℕ, sym, subst, ◌∙◌}
 use Rattle.seize_acts.proofs.Answers.{same_some}
-use Rattle.papaya_legal.specs.Given.Schedules.After.{AtEachEvent}
-use Rattle.papaya_legal.specs.Given.Schedules.Terms.{Terms, shards_of}
-use Rattle.papaya_acts.specs.Doings.{Doing, Does, BeginsReclaiming, BeginsClearing, StepsReclaiming, Chooses}
-use Rattle.papaya_agrees.specs.Agree.{Asks}
-use Rattle.papaya_agrees.specs.Places.{AsksMaps}
+use Rattle.papaya_deeds.specs.Given.Schedules.After.{AtEachEvent}
+use Rattle.papaya_deeds.specs.Given.Schedules.Terms.{Terms, shards_of}
+use Rattle.papaya_grouped.specs.Given.Acts.Doings.{Doing, Does, BeginsReclaiming, BeginsClearing, StepsReclaiming, Chooses}
+use Rattle.papaya_grouped.specs.Given.Agrees.Agree.{Asks}
+use Rattle.papaya_grouped.specs.Given.Agrees.Places.{AsksMaps}
 use Rattle.papaya_deeds.specs.Deeds.{Entry}
 use Rattle.papaya_deeds.specs.History.{IsLinearizable, IsProtected, IsSwept, MovesOn}
-use Rattle.papaya_played.specs.Play.{State}
-use Rattle.papaya_linear.specs.Linear.{IsOfOwn}
-use Rattle.papaya_linear.proofs.Linear.{lists_are_linearizable}
-use Rattle.papaya_protects.proofs.Protected.{lists_are_protected}
+use Rattle.papaya_grouped.specs.Given.Played.Play.{State}
+use Rattle.papaya_swept.specs.Given.Linear.Linear.{IsOfOwn}
+use Rattle.papaya_swept.proofs.Given.Linear.Linear.{lists_are_linearizable}
+use Rattle.papaya_swept.proofs.Given.Protects.Protected.{lists_are_protected}
 use Rattle.papaya_swept.proofs.Swept.{lists_are_swept}
 use Rattle.papaya_moves.specs.Legal.{KeepsAll, ListsKeepAll}
 use Rattle.papaya_moves.specs.Own.{IsOfItsCall}

@@ -2,36 +2,36 @@
 use Rattle.std.specs.Prelude.{◌≡◌, ℕ, Bool, true, false, [], ◌∷◌, Some, None}
 use Rattle.std.proofs.Common.{refl, ap, sym, subst, ◌∙◌}
 use Rattle.seize_acts.specs.Answers.{Grant}
-use Rattle.papaya_legal.specs.Given.Seize.declared.progress.Progress.{Progress}
-use Rattle.papaya_legal.specs.Given.Tables.declared.resize_mode.ResizeMode.{ResizeMode}
-use Rattle.papaya_legal.specs.Given.Tables.declared.setting.Setting.{Setting}
-use Rattle.papaya_legal.specs.Given.Resize.NewMap.{new_map_plan}
-use Rattle.papaya_legal.specs.Given.Resize.declared.new_map.NewMap.{NewMap}
-use Rattle.papaya_legal.specs.Given.Runs.Runs.{map_fault}
-use Rattle.papaya_legal.specs.Given.Schedules.Moment.{MapThere, Moment}
-use Rattle.papaya_legal.specs.Given.Schedules.Terms.{Terms}
-use Rattle.papaya_legal.specs.Given.Schedules.Views.{capacity_or, map_at}
-use Rattle.papaya_legal.specs.Given.Teller.declared.changed.Changed.TheVariants.{Nothing as NoChange}
-use Rattle.papaya_legal.specs.Given.Effects.Effects.{effects_of}
-use Rattle.papaya_legal.specs.Given.Effects.declared.acting.Acting.TheVariants as acts
-use Rattle.papaya_legal.specs.Given.Named.Places.{first_places}
-use Rattle.papaya_legal.specs.Given.Scenes.Held.{Held, IsAt}
-use Rattle.papaya_legal.specs.Given.Scenes.Making.{MakingLeads}
-use Rattle.papaya_legal.specs.Given.Scenes.Scene.{Scene, slot_of}
-use Rattle.papaya_acts.specs.Acts.{Act, Answer, OfMaking, StepsMaking}
-use Rattle.papaya_acts.specs.AsSteps.{LeadsAs, changed_by, changed_of, held_in}
-use Rattle.papaya_acts.specs.Leads.{Led}
-use Rattle.papaya_acts.proofs.AsSteps.Told.{was_told}
-use Rattle.papaya_agrees.proofs.Openings.{rootless_quiet}
+use Rattle.seize_acts.specs.Given.Seize.declared.progress.Progress.{Progress}
+use Rattle.papaya_deeds.specs.Given.Tables.declared.resize_mode.ResizeMode.{ResizeMode}
+use Rattle.papaya_deeds.specs.Given.Tables.declared.setting.Setting.{Setting}
+use Rattle.papaya_deeds.specs.Given.Resize.NewMap.{new_map_plan}
+use Rattle.papaya_deeds.specs.Given.Resize.declared.new_map.NewMap.{NewMap}
+use Rattle.papaya_deeds.specs.Given.Runs.Runs.{map_fault}
+use Rattle.papaya_deeds.specs.Given.Schedules.Moment.{MapThere, Moment}
+use Rattle.papaya_deeds.specs.Given.Schedules.Terms.{Terms}
+use Rattle.papaya_deeds.specs.Given.Schedules.Views.{capacity_or, map_at}
+use Rattle.papaya_grouped.specs.Given.Teller.declared.changed.Changed.TheVariants.{Nothing as NoChange}
+use Rattle.papaya_grouped.specs.Given.Effects.Effects.{effects_of}
+use Rattle.papaya_grouped.specs.Given.Effects.declared.acting.Acting.TheVariants as acts
+use Rattle.papaya_grouped.specs.Given.Named.Places.{first_places}
+use Rattle.papaya_grouped.specs.Given.Scenes.Held.{Held, IsAt}
+use Rattle.papaya_grouped.specs.Given.Scenes.Making.{MakingLeads}
+use Rattle.papaya_grouped.specs.Given.Scenes.Scene.{Scene, slot_of}
+use Rattle.papaya_grouped.specs.Given.Acts.Acts.{Act, Answer, OfMaking, StepsMaking}
+use Rattle.papaya_grouped.specs.Given.Acts.AsSteps.{LeadsAs, changed_by, changed_of, held_in}
+use Rattle.papaya_grouped.specs.Given.Acts.Leads.{Led}
+use Rattle.papaya_grouped.proofs.Given.Acts.AsSteps.Told.{was_told}
+use Rattle.papaya_grouped.proofs.Given.Agrees.Openings.{rootless_quiet}
 use Rattle.papaya_deeds.specs.Deeds.{Entry, moment}
-use Rattle.papaya_played.specs.Play.{State, has_root, is_refusal, making_deed, making_outcome, pairs_for}
-use Rattle.papaya_played.specs.Reached.{IsOf}
-use Rattle.papaya_played.proofs.PlayedAs.{PlayedAs}
-use Rattle.papaya_linear.specs.Coming.{ComesBy, MapsComeAndGo}
-use Rattle.papaya_linear.proofs.Coming.{comes_bare}
-use Rattle.papaya_linear.proofs.Holds.{Holds}
-use Rattle.papaya_linear.proofs.MakesRight.{was_new}
-use Rattle.papaya_played.proofs.Tied.{MakingTied, making_tied}
+use Rattle.papaya_grouped.specs.Given.Played.Play.{State, has_root, is_refusal, making_deed, making_outcome, pairs_for}
+use Rattle.papaya_grouped.specs.Given.Played.Reached.{IsOf}
+use Rattle.papaya_grouped.proofs.Given.Played.PlayedAs.{PlayedAs}
+use Rattle.papaya_swept.specs.Given.Linear.Coming.{ComesBy, MapsComeAndGo}
+use Rattle.papaya_swept.proofs.Given.Linear.Coming.{comes_bare}
+use Rattle.papaya_swept.proofs.Given.Linear.Holds.{Holds}
+use Rattle.papaya_swept.proofs.Given.Linear.MakesRight.{was_new}
+use Rattle.papaya_grouped.proofs.Given.Played.Tied.{MakingTied, making_tied}
 use Rattle.papaya_moves.specs.Finds.{FindsIts}
 use Rattle.papaya_moves.specs.Places.{OpensFor}
 use Rattle.papaya_moves.proofs.MadeHolds.{MadeHolds}

@@ -3,49 +3,49 @@ use Rattle.std.specs.Prelude.{◌≡◌, ◌≢◌, ◌+◌, ℕ, Bool, true, fa
 use Rattle.std.proofs.Common.{refl, ap, sym, subst, ◌∙◌}
 use Rattle.seize_acts.specs.Answers.{Grant}
 use Rattle.seize_acts.proofs.Answers.{same_some}
-use Rattle.papaya_legal.specs.Given.SeizeWords.Mem.{Mem}
-use Rattle.papaya_legal.specs.Given.Seize.World.{World, with_at}
-use Rattle.papaya_legal.specs.Given.Seize.declared.progress.Progress.{Progress}
-use Rattle.papaya_legal.specs.Given.Seize.declared.progress.Progress.TheVariants as progress
-use Rattle.papaya_legal.specs.Given.Tables.declared.node.Node.{Node}
-use Rattle.papaya_legal.specs.Given.Tables.declared.setting.Setting.{Setting}
-use Rattle.papaya_legal.specs.Given.Resize.NewMap.{at_root, new_map_plan}
-use Rattle.papaya_legal.specs.Given.Resize.declared.new_map.NewMap.{NewMap}
-use Rattle.papaya_legal.specs.Given.Resize.declared.new_map.Opening.{Opening}
-use Rattle.papaya_legal.specs.Given.Resize.declared.new_map.Opening.TheVariants as openings
-use Rattle.papaya_legal.specs.Given.Schedules.declared.effect.Effect.{Effect}
-use Rattle.papaya_legal.specs.Given.Schedules.Effects.{with_effects}
-use Rattle.papaya_legal.specs.Given.Schedules.Handing.{is_table_made}
-use Rattle.papaya_legal.specs.Given.Schedules.Moment.{Moment}
-use Rattle.papaya_legal.specs.Given.Schedules.Views.{capacity_or, map_at, tables_of}
-use Rattle.papaya_legal.specs.Given.Teller.declared.changed.Changed.TheVariants.{Nothing as NoChange}
-use Rattle.papaya_legal.specs.Given.Effects.Effects.{effects_of, known_after}
-use Rattle.papaya_legal.specs.Given.Effects.declared.acting.Acting.TheVariants as acts
-use Rattle.papaya_legal.specs.Given.Finishes.Endings.{MakingStepsAmong}
-use Rattle.papaya_legal.specs.Given.Finishes.Makings.{Beginning}
-use Rattle.papaya_legal.specs.Given.Owes.Making.{making_in_opening}
-use Rattle.papaya_legal.specs.Given.Owes.Tables.{table_made}
-use Rattle.papaya_legal.specs.Given.Scenes.Held.{Held, IsAt}
-use Rattle.papaya_legal.specs.Given.Scenes.Making.{MakingComesTo, MakingLeads}
-use Rattle.papaya_legal.specs.Given.Scenes.Scene.{Scene, slot_of}
-use Rattle.papaya_legal.proofs.Given.Callers.Together.At.{at_same}
-use Rattle.papaya_legal.proofs.Given.Others.MakingGoes.{new_maps_stay}
-use Rattle.papaya_acts.specs.Acts.{Answer, StepsMaking}
-use Rattle.papaya_acts.specs.AsSteps.{MadeTo, changed_by, changed_of, held_in}
-use Rattle.papaya_acts.specs.Leads.{MakingCame, making_steps}
-use Rattle.papaya_acts.proofs.AsSteps.Told.{was_told}
-use Rattle.papaya_agrees.proofs.Numbers.{NumbersHold}
-use Rattle.papaya_agrees.proofs.Openings.{rootless_quiet}
+use Rattle.papaya_deeds.specs.Given.SeizeWords.Mem.{Mem}
+use Rattle.seize_acts.specs.Given.Seize.World.{World, with_at}
+use Rattle.seize_acts.specs.Given.Seize.declared.progress.Progress.{Progress}
+use Rattle.seize_acts.specs.Given.Seize.declared.progress.Progress.TheVariants as progress
+use Rattle.papaya_deeds.specs.Given.Tables.declared.node.Node.{Node}
+use Rattle.papaya_deeds.specs.Given.Tables.declared.setting.Setting.{Setting}
+use Rattle.papaya_deeds.specs.Given.Resize.NewMap.{at_root, new_map_plan}
+use Rattle.papaya_deeds.specs.Given.Resize.declared.new_map.NewMap.{NewMap}
+use Rattle.papaya_deeds.specs.Given.Resize.declared.new_map.Opening.{Opening}
+use Rattle.papaya_deeds.specs.Given.Resize.declared.new_map.Opening.TheVariants as openings
+use Rattle.papaya_deeds.specs.Given.Schedules.declared.effect.Effect.{Effect}
+use Rattle.papaya_deeds.specs.Given.Schedules.Effects.{with_effects}
+use Rattle.papaya_deeds.specs.Given.Schedules.Handing.{is_table_made}
+use Rattle.papaya_deeds.specs.Given.Schedules.Moment.{Moment}
+use Rattle.papaya_deeds.specs.Given.Schedules.Views.{capacity_or, map_at, tables_of}
+use Rattle.papaya_grouped.specs.Given.Teller.declared.changed.Changed.TheVariants.{Nothing as NoChange}
+use Rattle.papaya_grouped.specs.Given.Effects.Effects.{effects_of, known_after}
+use Rattle.papaya_grouped.specs.Given.Effects.declared.acting.Acting.TheVariants as acts
+use Rattle.papaya_grouped.specs.Given.Finishes.Endings.{MakingStepsAmong}
+use Rattle.papaya_grouped.specs.Given.Finishes.Makings.{Beginning}
+use Rattle.papaya_swept.specs.Given.Owes.Making.{making_in_opening}
+use Rattle.papaya_swept.specs.Given.Owes.Tables.{table_made}
+use Rattle.papaya_grouped.specs.Given.Scenes.Held.{Held, IsAt}
+use Rattle.papaya_grouped.specs.Given.Scenes.Making.{MakingComesTo, MakingLeads}
+use Rattle.papaya_grouped.specs.Given.Scenes.Scene.{Scene, slot_of}
+use Rattle.papaya_grouped.proofs.Given.Callers.Together.At.{at_same}
+use Rattle.papaya_grouped.proofs.Given.Others.MakingGoes.{new_maps_stay}
+use Rattle.papaya_grouped.specs.Given.Acts.Acts.{Answer, StepsMaking}
+use Rattle.papaya_grouped.specs.Given.Acts.AsSteps.{MadeTo, changed_by, changed_of, held_in}
+use Rattle.papaya_grouped.specs.Given.Acts.Leads.{MakingCame, making_steps}
+use Rattle.papaya_grouped.proofs.Given.Acts.AsSteps.Told.{was_told}
+use Rattle.papaya_grouped.proofs.Given.Agrees.Numbers.{NumbersHold}
+use Rattle.papaya_grouped.proofs.Given.Agrees.Openings.{rootless_quiet}
 use Rattle.papaya_deeds.specs.Deeds.{Entry, moment, named}
 use Rattle.papaya_deeds.specs.History.{made_for}
-use Rattle.papaya_played.specs.Play.{Making, Now, State, has_root, is_refusal, made_on, making_deed, making_outcome, pairs_for}
-use Rattle.papaya_played.specs.Reached.{IsOf, made_so, makes_so}
-use Rattle.papaya_works.specs.Makings.{in_hand, table_left}
-use Rattle.papaya_linear.specs.Coming.{Comes, ComesBy, MapsComeAndGo}
-use Rattle.papaya_linear.proofs.Coming.{comes_bare}
-use Rattle.papaya_linear.proofs.Holds.{Holds}
-use Rattle.papaya_linear.proofs.MakesRight.{was_new}
-use Rattle.papaya_linear.proofs.StepsPlayed.{there_alike}
+use Rattle.papaya_grouped.specs.Given.Played.Play.{Making, Now, State, has_root, is_refusal, made_on, making_deed, making_outcome, pairs_for}
+use Rattle.papaya_grouped.specs.Given.Played.Reached.{IsOf, made_so, makes_so}
+use Rattle.papaya_swept.specs.Given.Works.Makings.{in_hand, table_left}
+use Rattle.papaya_swept.specs.Given.Linear.Coming.{Comes, ComesBy, MapsComeAndGo}
+use Rattle.papaya_swept.proofs.Given.Linear.Coming.{comes_bare}
+use Rattle.papaya_swept.proofs.Given.Linear.Holds.{Holds}
+use Rattle.papaya_swept.proofs.Given.Linear.MakesRight.{was_new}
+use Rattle.papaya_swept.proofs.Given.Linear.StepsPlayed.{there_alike}
 use Rattle.papaya_moves.proofs.MadeHolds.{IsComing, MadeHolds}
 use Rattle.papaya_moves.proofs.MadeStep.{own_then, then_made}
 use Rattle.papaya_moves.proofs.MakingMoves.{counts as counts_made, frees_quietly}

@@ -1,33 +1,33 @@
 -- The effects of the step of a making, as it is played, find what they must: its table is the first one of the map, and has the shape that the map's capacity asks.
 use Rattle.std.specs.Prelude.{◌≡◌, ℕ, Bool, true, false, List, [], Some, None}
 use Rattle.std.proofs.Common.{refl, sym, subst}
-use Rattle.papaya_legal.specs.Given.Seize.declared.progress.Progress.{Progress}
-use Rattle.papaya_legal.specs.Given.Tables.declared.setting.Setting.{Setting}
-use Rattle.papaya_legal.specs.Given.Resize.declared.new_map.NewMap.{NewMap}
-use Rattle.papaya_legal.specs.Given.Runs.Runs.{map_fault}
-use Rattle.papaya_legal.specs.Given.Schedules.declared.effect.Effect.{Effect}
-use Rattle.papaya_legal.specs.Given.Schedules.Effects.{AtEachEffect}
-use Rattle.papaya_legal.specs.Given.Schedules.Lives.{EventFinds}
-use Rattle.papaya_legal.specs.Given.Schedules.Moment.{MapThere, Moment}
-use Rattle.papaya_legal.specs.Given.Schedules.Terms.{Terms}
-use Rattle.papaya_legal.specs.Given.Schedules.Views.{map_at, tables_of}
-use Rattle.papaya_legal.specs.Given.Effects.Effects.{effects_of}
-use Rattle.papaya_legal.specs.Given.Effects.declared.acting.Acting.TheVariants as acts
-use Rattle.papaya_legal.specs.Given.Finishes.Makings.{Beginning}
-use Rattle.papaya_legal.specs.Given.Named.Places.{first_places}
-use Rattle.papaya_legal.specs.Given.Others.Makings.{WasNew}
-use Rattle.papaya_legal.specs.Given.Scenes.Held.{Held, IsAt}
-use Rattle.papaya_legal.specs.Given.Scenes.Making.{MakingLeads}
-use Rattle.papaya_legal.specs.Given.Scenes.Scene.{Scene}
-use Rattle.papaya_legal.proofs.Given.Finds.Life.{each_so}
+use Rattle.seize_acts.specs.Given.Seize.declared.progress.Progress.{Progress}
+use Rattle.papaya_deeds.specs.Given.Tables.declared.setting.Setting.{Setting}
+use Rattle.papaya_deeds.specs.Given.Resize.declared.new_map.NewMap.{NewMap}
+use Rattle.papaya_deeds.specs.Given.Runs.Runs.{map_fault}
+use Rattle.papaya_deeds.specs.Given.Schedules.declared.effect.Effect.{Effect}
+use Rattle.papaya_deeds.specs.Given.Schedules.Effects.{AtEachEffect}
+use Rattle.papaya_deeds.specs.Given.Schedules.Lives.{EventFinds}
+use Rattle.papaya_deeds.specs.Given.Schedules.Moment.{MapThere, Moment}
+use Rattle.papaya_deeds.specs.Given.Schedules.Terms.{Terms}
+use Rattle.papaya_deeds.specs.Given.Schedules.Views.{map_at, tables_of}
+use Rattle.papaya_grouped.specs.Given.Effects.Effects.{effects_of}
+use Rattle.papaya_grouped.specs.Given.Effects.declared.acting.Acting.TheVariants as acts
+use Rattle.papaya_grouped.specs.Given.Finishes.Makings.{Beginning}
+use Rattle.papaya_grouped.specs.Given.Named.Places.{first_places}
+use Rattle.papaya_grouped.specs.Given.Others.Makings.{WasNew}
+use Rattle.papaya_grouped.specs.Given.Scenes.Held.{Held, IsAt}
+use Rattle.papaya_grouped.specs.Given.Scenes.Making.{MakingLeads}
+use Rattle.papaya_grouped.specs.Given.Scenes.Scene.{Scene}
+use Rattle.papaya_swept.proofs.Given.Finds.Life.{each_so}
 use Rattle.papaya_deeds.specs.Deeds.{Deed, Entry, Makes, MapFails, begun, moment, named}
 use Rattle.papaya_deeds.specs.History.{FindsBy, past, transition}
-use Rattle.papaya_played.specs.Play.{State, has_root, is_refusal, making_outcome}
-use Rattle.papaya_works.specs.Firsts.{ShowsOpenings}
-use Rattle.papaya_works.proofs.Makings.{makings_find_theirs}
-use Rattle.papaya_linear.specs.Shown.{ShowsAnswers}
-use Rattle.papaya_linear.proofs.MapActs.{deed_by}
-use Rattle.papaya_linear.proofs.OthersGo.{makings_step}
+use Rattle.papaya_grouped.specs.Given.Played.Play.{State, has_root, is_refusal, making_outcome}
+use Rattle.papaya_swept.specs.Given.Works.Firsts.{ShowsOpenings}
+use Rattle.papaya_swept.proofs.Given.Works.Makings.{makings_find_theirs}
+use Rattle.papaya_swept.specs.Given.Linear.Shown.{ShowsAnswers}
+use Rattle.papaya_swept.proofs.Given.Linear.MapActs.{deed_by}
+use Rattle.papaya_swept.proofs.Given.Linear.OthersGo.{makings_step}
 use Rattle.papaya_moves.specs.Finds.{FindsIts}
 
 module _ {K V S : Type 0} (same : K → K → Bool) (hash : ℕ → K → ℕ) (x : State K V S) (s : Scene K V) (old new : Held K V) (at : IsAt same hash old s)

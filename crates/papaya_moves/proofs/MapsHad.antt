@@ -5,48 +5,48 @@ use Rattle.std.proofs.Common.{refl, ap, sym, subst, ◌∙◌, inl, inr}
 use Rattle.std.proofs.lemmas.Bool.{cases_eq}
 use Rattle.seize_acts.specs.Answers.{Grant}
 use Rattle.seize_acts.proofs.Answers.{same_some}
-use Rattle.papaya_legal.specs.Given.SeizeWords.Mem.{Mem}
-use Rattle.papaya_legal.specs.Given.SeizeWords.declared.fault.Fault.{Fault}
-use Rattle.papaya_legal.specs.Given.Raw.declared.machines.end_map.EndMap.{EndMap}
-use Rattle.papaya_legal.specs.Given.Seize.World.{Row, with_at}
-use Rattle.papaya_legal.specs.Given.Seize.ReclaimAll.{reclaim_all_plan}
-use Rattle.papaya_legal.specs.Given.Seize.declared.progress.Progress.{Progress}
-use Rattle.papaya_legal.specs.Given.Seize.declared.progress.Progress.TheVariants as progress
-use Rattle.papaya_legal.specs.Given.Tables.Nodes.{deferred_word, was_left}
-use Rattle.papaya_legal.specs.Given.Tables.declared.node.Node.{Node}
-use Rattle.papaya_legal.specs.Given.Tables.declared.setting.Setting.{Setting}
-use Rattle.papaya_legal.specs.Given.Raw.EndMap.{end_map_plan, ending}
-use Rattle.papaya_legal.specs.Given.Raw.Machine.{machine_asked, machine_plan, machine_replied}
-use Rattle.papaya_legal.specs.Given.Resize.NewMap.{new_map_plan, opening}
-use Rattle.papaya_legal.specs.Given.Resize.declared.new_map.NewMap.{NewMap}
-use Rattle.papaya_legal.specs.Given.Schedules.declared.effect.Effect.{Effect}
-use Rattle.papaya_legal.specs.Given.Schedules.declared.outcome.Outcome.{Outcome}
-use Rattle.papaya_legal.specs.Given.Schedules.declared.outcome.Outcome.TheVariants as outcome
-use Rattle.papaya_legal.specs.Given.Schedules.Moment.{MapThere, Moment}
-use Rattle.papaya_legal.specs.Given.Schedules.Views.{map_at}
-use Rattle.papaya_legal.specs.Given.Teller.declared.changed.Changed.{Changed}
-use Rattle.papaya_legal.specs.Given.Effects.Effects.{effects_of, known_after}
-use Rattle.papaya_legal.specs.Given.Effects.declared.acting.Acting.TheVariants as acts
-use Rattle.papaya_legal.specs.Given.Finishes.Endings.{Finishing}
-use Rattle.papaya_legal.specs.Given.Finishes.Maps.{Standing}
-use Rattle.papaya_legal.specs.Given.Named.Seen.{kind_of}
-use Rattle.papaya_legal.specs.Given.Scenes.Scene.{Scene, row_of, slot_of}
-use Rattle.papaya_legal.proofs.Given.Callers.Together.At.{at_other, at_same}
-use Rattle.papaya_legal.proofs.Given.Scenes.NoCall.{none_is}
-use Rattle.papaya_acts.specs.Acts.{Act, BeginsCall, StepsCall, TellsCall, AsksCall, StopsCall, BeginsMaking, StepsMaking, BeginsEnding, StepsEnding, BeginsRow, StepsRow}
-use Rattle.papaya_acts.specs.AsSteps.{changed_of, row_changed}
-use Rattle.papaya_acts.specs.Courses.{set_up}
-use Rattle.papaya_acts.specs.Leads.{MayBe}
-use Rattle.papaya_acts.proofs.AsSteps.Told.{was_told}
+use Rattle.papaya_deeds.specs.Given.SeizeWords.Mem.{Mem}
+use Rattle.papaya_deeds.specs.Given.SeizeWords.declared.fault.Fault.{Fault}
+use Rattle.papaya_deeds.specs.Given.Raw.declared.machines.end_map.EndMap.{EndMap}
+use Rattle.seize_acts.specs.Given.Seize.World.{Row, with_at}
+use Rattle.seize_acts.specs.Given.Seize.ReclaimAll.{reclaim_all_plan}
+use Rattle.seize_acts.specs.Given.Seize.declared.progress.Progress.{Progress}
+use Rattle.seize_acts.specs.Given.Seize.declared.progress.Progress.TheVariants as progress
+use Rattle.papaya_deeds.specs.Given.Tables.Nodes.{deferred_word, was_left}
+use Rattle.papaya_deeds.specs.Given.Tables.declared.node.Node.{Node}
+use Rattle.papaya_deeds.specs.Given.Tables.declared.setting.Setting.{Setting}
+use Rattle.papaya_deeds.specs.Given.Raw.EndMap.{end_map_plan, ending}
+use Rattle.papaya_deeds.specs.Given.Raw.Machine.{machine_asked, machine_plan, machine_replied}
+use Rattle.papaya_deeds.specs.Given.Resize.NewMap.{new_map_plan, opening}
+use Rattle.papaya_deeds.specs.Given.Resize.declared.new_map.NewMap.{NewMap}
+use Rattle.papaya_deeds.specs.Given.Schedules.declared.effect.Effect.{Effect}
+use Rattle.papaya_deeds.specs.Given.Schedules.declared.outcome.Outcome.{Outcome}
+use Rattle.papaya_deeds.specs.Given.Schedules.declared.outcome.Outcome.TheVariants as outcome
+use Rattle.papaya_deeds.specs.Given.Schedules.Moment.{MapThere, Moment}
+use Rattle.papaya_deeds.specs.Given.Schedules.Views.{map_at}
+use Rattle.papaya_grouped.specs.Given.Teller.declared.changed.Changed.{Changed}
+use Rattle.papaya_grouped.specs.Given.Effects.Effects.{effects_of, known_after}
+use Rattle.papaya_grouped.specs.Given.Effects.declared.acting.Acting.TheVariants as acts
+use Rattle.papaya_grouped.specs.Given.Finishes.Endings.{Finishing}
+use Rattle.papaya_grouped.specs.Given.Finishes.Maps.{Standing}
+use Rattle.papaya_grouped.specs.Given.Named.Seen.{kind_of}
+use Rattle.papaya_grouped.specs.Given.Scenes.Scene.{Scene, row_of, slot_of}
+use Rattle.papaya_grouped.proofs.Given.Callers.Together.At.{at_other, at_same}
+use Rattle.papaya_grouped.proofs.Given.Scenes.NoCall.{none_is}
+use Rattle.papaya_grouped.specs.Given.Acts.Acts.{Act, BeginsCall, StepsCall, TellsCall, AsksCall, StopsCall, BeginsMaking, StepsMaking, BeginsEnding, StepsEnding, BeginsRow, StepsRow}
+use Rattle.papaya_grouped.specs.Given.Acts.AsSteps.{changed_of, row_changed}
+use Rattle.papaya_grouped.specs.Given.Acts.Courses.{set_up}
+use Rattle.papaya_grouped.specs.Given.Acts.Leads.{MayBe}
+use Rattle.papaya_grouped.proofs.Given.Acts.AsSteps.Told.{was_told}
 use Rattle.papaya_deeds.specs.Deeds.{Begins, Deed, Ends, Entry, Leaves, Makes, MapGoes, Opens, ReclaimsAll, Registers, Replies, Shuts, Steps, Stops, Tends, moment}
-use Rattle.papaya_played.specs.Play.{Ending, Making, Now, State, all_stepped, call_begun, call_for, call_stepped, call_stopped, call_told, has_root, is_over, is_refusal, made_on, making_deed, making_outcome, outcome_of, pairs_for, reply_for, row_deed, row_outcome, row_stepped, settled_outcome}
-use Rattle.papaya_played.specs.Reached.{IsOf, made_so, makes_so, stands_so}
-use Rattle.papaya_played.proofs.PlayedAs.{PlayedAs, ReclaimedAs}
-use Rattle.papaya_linear.specs.Coming.{ComesBy, MapsComeAndGo}
-use Rattle.papaya_linear.proofs.Gone.{nothing_told}
-use Rattle.papaya_linear.proofs.MapActs.{deed_by}
-use Rattle.papaya_linear.proofs.RowsPlayed.{IsOfRow, is_of_row}
-use Rattle.papaya_linear.proofs.StepsPlayed.{there_alike}
+use Rattle.papaya_grouped.specs.Given.Played.Play.{Ending, Making, Now, State, all_stepped, call_begun, call_for, call_stepped, call_stopped, call_told, has_root, is_over, is_refusal, made_on, making_deed, making_outcome, outcome_of, pairs_for, reply_for, row_deed, row_outcome, row_stepped, settled_outcome}
+use Rattle.papaya_grouped.specs.Given.Played.Reached.{IsOf, made_so, makes_so, stands_so}
+use Rattle.papaya_grouped.proofs.Given.Played.PlayedAs.{PlayedAs, ReclaimedAs}
+use Rattle.papaya_swept.specs.Given.Linear.Coming.{ComesBy, MapsComeAndGo}
+use Rattle.papaya_swept.proofs.Given.Linear.Gone.{nothing_told}
+use Rattle.papaya_swept.proofs.Given.Linear.MapActs.{deed_by}
+use Rattle.papaya_swept.proofs.Given.Linear.RowsPlayed.{IsOfRow, is_of_row}
+use Rattle.papaya_swept.proofs.Given.Linear.StepsPlayed.{there_alike}
 use Rattle.papaya_moves.proofs.MapsIn.{AreIn, LeavesMaps, comes_in, fails_in, found_in, goes_in, none_in, still_in, then_in}
 use Rattle.papaya_moves.proofs.Rooted.{Rooted, step_rooted}
 

@@ -3,30 +3,30 @@ use Rattle.std.specs.Prelude.{◌≡◌, ◌<◌, ◌^◌, Bool, List, [], ◌�
 use Rattle.std.specs.List.{AllByRecursion}
 use Rattle.std.proofs.Common.{ℕ, refl, sym, subst, ◌∙◌}
 use Rattle.seize_acts.proofs.Answers.{same_some}
-use Rattle.papaya_legal.specs.Given.Schedules.After.{AtEachEvent}
-use Rattle.papaya_legal.specs.Given.Schedules.Terms.{Terms, shards_of}
-use Rattle.papaya_legal.specs.Given.Effects.Known.{nothing_known}
-use Rattle.papaya_legal.specs.Given.Follows.Shows.{Shows}
-use Rattle.papaya_legal.specs.Given.Scenes.Scene.{at_first, slot_of}
-use Rattle.papaya_acts.specs.Acts.{Act, BeginsMaking}
-use Rattle.papaya_acts.specs.Doings.{Doing, Does, BeginsReclaiming, BeginsClearing, StepsReclaiming, Chooses}
-use Rattle.papaya_acts.specs.Lists.{Course, LedTo, Reached, nothing_done}
-use Rattle.papaya_agrees.specs.Fresh.{HasNewNumber, MakesNew}
-use Rattle.papaya_agrees.specs.Places.{AsksMap, AsksMaps, AsksPlaces}
-use Rattle.papaya_agrees.specs.Shards.{AsksShards}
-use Rattle.papaya_agrees.proofs.Coming.{new_fits}
-use Rattle.papaya_agrees.proofs.GivenBack.{again_first}
-use Rattle.papaya_agrees.proofs.Guards.{guards_at_first}
+use Rattle.papaya_deeds.specs.Given.Schedules.After.{AtEachEvent}
+use Rattle.papaya_deeds.specs.Given.Schedules.Terms.{Terms, shards_of}
+use Rattle.papaya_grouped.specs.Given.Effects.Known.{nothing_known}
+use Rattle.papaya_grouped.specs.Given.Follows.Shows.{Shows}
+use Rattle.papaya_grouped.specs.Given.Scenes.Scene.{at_first, slot_of}
+use Rattle.papaya_grouped.specs.Given.Acts.Acts.{Act, BeginsMaking}
+use Rattle.papaya_grouped.specs.Given.Acts.Doings.{Doing, Does, BeginsReclaiming, BeginsClearing, StepsReclaiming, Chooses}
+use Rattle.papaya_grouped.specs.Given.Acts.Lists.{Course, LedTo, Reached, nothing_done}
+use Rattle.papaya_grouped.specs.Given.Agrees.Fresh.{HasNewNumber, MakesNew}
+use Rattle.papaya_grouped.specs.Given.Agrees.Places.{AsksMap, AsksMaps, AsksPlaces}
+use Rattle.papaya_grouped.specs.Given.Agrees.Shards.{AsksShards}
+use Rattle.papaya_grouped.proofs.Given.Agrees.Coming.{new_fits}
+use Rattle.papaya_grouped.proofs.Given.Agrees.GivenBack.{again_first}
+use Rattle.papaya_grouped.proofs.Given.Agrees.Guards.{guards_at_first}
 use Rattle.papaya_deeds.specs.Deeds.{Entry, moment, named}
 use Rattle.papaya_deeds.specs.History.{MovesOn, past}
-use Rattle.papaya_played.specs.Play.{State, first_state, play_all}
-use Rattle.papaya_played.proofs.Along.{AllFit, AreOfTheirOwn, At, wherever}
-use Rattle.papaya_linear.specs.Linear.{IsOfOwn}
-use Rattle.papaya_linear.proofs.Holding.{AllHolds}
-use Rattle.papaya_linear.proofs.Stays.{first_holds}
-use Rattle.papaya_endings.specs.InOrder.{EndsInOrder}
-use Rattle.papaya_endings.proofs.InOrder.{maps_end_in_order}
-use Rattle.papaya_endings.proofs.Stays.{first_go}
+use Rattle.papaya_grouped.specs.Given.Played.Play.{State, first_state, play_all}
+use Rattle.papaya_grouped.proofs.Given.Played.Along.{AllFit, AreOfTheirOwn, At, wherever}
+use Rattle.papaya_swept.specs.Given.Linear.Linear.{IsOfOwn}
+use Rattle.papaya_swept.proofs.Given.Linear.Holding.{AllHolds}
+use Rattle.papaya_swept.proofs.Given.Linear.Stays.{first_holds}
+use Rattle.papaya_swept.specs.Given.Endings.InOrder.{EndsInOrder}
+use Rattle.papaya_swept.proofs.Given.Endings.InOrder.{maps_end_in_order}
+use Rattle.papaya_swept.proofs.Given.Endings.Stays.{first_go}
 use Rattle.papaya_swept.proofs.Swept.{first_swept}
 use Rattle.papaya_moves.specs.Finds.{OthersFind}
 use Rattle.papaya_moves.specs.Moves.{ListsMoveOn}

@@ -2,40 +2,40 @@
 use Rattle.std.specs.Prelude.{◌≡◌, ◌+◌, ℕ, Bool, true, length, Some}
 use Rattle.std.specs.List.{list_any}
 use Rattle.std.proofs.Common.{ap, sym, subst, ◌∙◌, inl, inr}
-use Rattle.papaya_legal.specs.Given.SeizeWords.Mem.{Can, Took, value_at}
-use Rattle.papaya_legal.specs.Given.SeizeWords.Plan.{May}
-use Rattle.papaya_legal.proofs.Given.SeizeWords.Places.Words.{capacity-one_to_one}
-use Rattle.papaya_legal.specs.Given.Seize.Register.{register_plan}
-use Rattle.papaya_legal.specs.Given.Seize.World.{Row}
-use Rattle.papaya_legal.specs.Given.Seize.declared.rows.register.Register.{Register}
-use Rattle.papaya_legal.specs.Given.Seize.declared.rows.register.Registering.{Registering}
-use Rattle.papaya_legal.specs.Given.Seize.declared.rows.register.Registering.TheVariants as registering
-use Rattle.papaya_legal.specs.Given.Seize.declared.states.TheConstants.{LAST_SLOT}
-use Rattle.papaya_legal.proofs.Given.SeizeMoves.State.Ghost.{State as Ghost}
-use Rattle.papaya_legal.proofs.Given.SeizeRule.Rows.Known.{FitsRegister, FitsRow}
-use Rattle.papaya_legal.proofs.Given.SeizeRule.Words.Shows.{Extra}
-use Rattle.papaya_legal.proofs.Given.SeizeRule.Words.View.{view}
-use Rattle.papaya_legal.proofs.Given.SeizeRule.World.Good.{Good}
-use Rattle.papaya_legal.specs.Given.Tables.Nodes.{deferred_word}
-use Rattle.papaya_legal.specs.Given.Tables.declared.node.Node.{Node}
-use Rattle.papaya_legal.specs.Given.Schedules.Handing.{asks_for_bucket}
-use Rattle.papaya_legal.specs.Given.Effects.Effects.{effects_of}
-use Rattle.papaya_legal.specs.Given.Effects.declared.acting.Acting.TheVariants as acts
-use Rattle.papaya_legal.specs.Given.Remains.Slots.{SlotsNoted}
-use Rattle.papaya_legal.specs.Given.Scenes.Held.{Held, IsAt}
-use Rattle.papaya_legal.specs.Given.Scenes.OnSlots.{RowLeads}
-use Rattle.papaya_legal.specs.Given.Scenes.Scene.{IsOnSlot, Scene}
-use Rattle.papaya_legal.specs.Given.Scenes.declared.row.RowTold.{RowTold}
-use Rattle.papaya_legal.specs.Given.Scenes.declared.row.SlotRow.{SlotRow}
-use Rattle.papaya_legal.specs.Given.Scenes.declared.row.SlotRow.TheVariants as rows
-use Rattle.papaya_legal.proofs.Given.Callers.Together.Came.{came_reached}
-use Rattle.papaya_legal.proofs.Given.Scenes.May.{may_row}
-use Rattle.papaya_works.proofs.Steps.{registers_tell}
+use Rattle.papaya_deeds.specs.Given.SeizeWords.Mem.{Can, Took, value_at}
+use Rattle.papaya_deeds.specs.Given.SeizeWords.Plan.{May}
+use Rattle.papaya_deeds.proofs.Given.SeizeWords.Places.Words.{capacity-one_to_one}
+use Rattle.seize_acts.specs.Given.Seize.Register.{register_plan}
+use Rattle.seize_acts.specs.Given.Seize.World.{Row}
+use Rattle.seize_acts.specs.Given.Seize.declared.rows.register.Register.{Register}
+use Rattle.seize_acts.specs.Given.Seize.declared.rows.register.Registering.{Registering}
+use Rattle.seize_acts.specs.Given.Seize.declared.rows.register.Registering.TheVariants as registering
+use Rattle.seize_acts.specs.Given.Seize.declared.states.TheConstants.{LAST_SLOT}
+use Rattle.seize_acts.proofs.Given.SeizeMoves.State.Ghost.{State as Ghost}
+use Rattle.seize_acts.proofs.Given.SeizeRule.Rows.Known.{FitsRegister, FitsRow}
+use Rattle.seize_acts.proofs.Given.SeizeRule.Words.Shows.{Extra}
+use Rattle.seize_acts.proofs.Given.SeizeRule.Words.View.{view}
+use Rattle.seize_acts.proofs.Given.SeizeRule.World.Good.{Good}
+use Rattle.papaya_deeds.specs.Given.Tables.Nodes.{deferred_word}
+use Rattle.papaya_deeds.specs.Given.Tables.declared.node.Node.{Node}
+use Rattle.papaya_deeds.specs.Given.Schedules.Handing.{asks_for_bucket}
+use Rattle.papaya_grouped.specs.Given.Effects.Effects.{effects_of}
+use Rattle.papaya_grouped.specs.Given.Effects.declared.acting.Acting.TheVariants as acts
+use Rattle.papaya_swept.specs.Given.Remains.Slots.{SlotsNoted}
+use Rattle.papaya_grouped.specs.Given.Scenes.Held.{Held, IsAt}
+use Rattle.papaya_grouped.specs.Given.Scenes.OnSlots.{RowLeads}
+use Rattle.papaya_grouped.specs.Given.Scenes.Scene.{IsOnSlot, Scene}
+use Rattle.papaya_grouped.specs.Given.Scenes.declared.row.RowTold.{RowTold}
+use Rattle.papaya_grouped.specs.Given.Scenes.declared.row.SlotRow.{SlotRow}
+use Rattle.papaya_grouped.specs.Given.Scenes.declared.row.SlotRow.TheVariants as rows
+use Rattle.papaya_grouped.proofs.Given.Callers.Together.Came.{came_reached}
+use Rattle.papaya_grouped.proofs.Given.Scenes.May.{may_row}
+use Rattle.papaya_swept.proofs.Given.Works.Steps.{registers_tell}
 use Rattle.papaya_deeds.specs.History.{NeedsBucket, buckets}
-use Rattle.papaya_played.specs.Play.{State}
+use Rattle.papaya_grouped.specs.Given.Played.Play.{State}
 use Rattle.papaya_moves.proofs.Buckets.{BucketsHold}
-use Rattle.papaya_works.proofs.Needs.{asked_is}
-use Rattle.papaya_works.proofs.Registering.{AsksAt, lacks_at}
+use Rattle.papaya_swept.proofs.Given.Works.Needs.{asked_is}
+use Rattle.papaya_swept.proofs.Given.Works.Registering.{AsksAt, lacks_at}
 
 -- what a row knows that asks for room of the bucket that is not there
 needs_at : (n i : ℕ) (m : Ghost) (x : Extra) (k slot bucket there : ℕ) (p : Registering) → FitsRegister n i m x k slot p → AsksAt p bucket → bucket ≡ there → NeedsBucket slot there

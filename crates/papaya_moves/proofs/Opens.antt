@@ -2,30 +2,30 @@
 use Rattle.std.specs.Prelude.{◌≡◌, ℕ, Bool, Option, Some, None}
 use Rattle.std.proofs.Common.{refl, ap, sym, subst, ◌∙◌}
 use Rattle.seize_acts.proofs.Answers.{same_some}
-use Rattle.papaya_legal.specs.Given.Seize.World.{World, with_at}
-use Rattle.papaya_legal.specs.Given.Seize.declared.progress.Progress.{Progress}
-use Rattle.papaya_legal.specs.Given.Seize.declared.progress.Progress.TheVariants as progress
-use Rattle.papaya_legal.specs.Given.Seize.declared.rows.settle.Settled.{Settled}
-use Rattle.papaya_legal.specs.Given.Seize.declared.rows.settle.Settled.TheVariants as settled
-use Rattle.papaya_legal.specs.Given.Tables.declared.node.Node.{Node}
-use Rattle.papaya_legal.specs.Given.Tables.declared.setting.Setting.{Setting}
-use Rattle.papaya_legal.specs.Given.Raw.declared.machines.end_map.EndMap.{EndMap}
-use Rattle.papaya_legal.specs.Given.Resize.declared.new_map.NewMap.{NewMap}
-use Rattle.papaya_legal.specs.Given.Teller.declared.changed.Changed.TheVariants.{Nothing as NoChange}
-use Rattle.papaya_legal.specs.Given.Finishes.Endings.{Finishing}
-use Rattle.papaya_legal.specs.Given.Finishes.FactsEnds.{Deed}
-use Rattle.papaya_legal.specs.Given.Finishes.Makings.{Beginning}
-use Rattle.papaya_legal.specs.Given.Others.Makings.{making_after}
-use Rattle.papaya_legal.specs.Given.Scenes.Held.{Held}
-use Rattle.papaya_legal.specs.Given.Scenes.Making.{MakingComesTo, making_begun}
-use Rattle.papaya_legal.specs.Given.Scenes.Scene.{Scene, slot_of}
-use Rattle.papaya_acts.specs.Acts.{Act, Answer, BeginsCall, StepsCall, TellsCall, AsksCall, StopsCall, BeginsMaking, StepsMaking, BeginsEnding, StepsEnding, BeginsRow, StepsRow}
-use Rattle.papaya_acts.specs.AsSteps.{LeadsAs, MadeTo, changed_by, held_in}
-use Rattle.papaya_acts.specs.Leads.{EndingCame, Led}
-use Rattle.papaya_agrees.proofs.Numbers.{with_so}
-use Rattle.papaya_works.specs.Firsts.{ShowsOpenings}
-use Rattle.papaya_works.proofs.Firsts.{makings_go_on, makings_open}
-use Rattle.papaya_agrees.specs.Places.{ArePlaces, AsksPlaces}
+use Rattle.seize_acts.specs.Given.Seize.World.{World, with_at}
+use Rattle.seize_acts.specs.Given.Seize.declared.progress.Progress.{Progress}
+use Rattle.seize_acts.specs.Given.Seize.declared.progress.Progress.TheVariants as progress
+use Rattle.seize_acts.specs.Given.Seize.declared.rows.settle.Settled.{Settled}
+use Rattle.seize_acts.specs.Given.Seize.declared.rows.settle.Settled.TheVariants as settled
+use Rattle.papaya_deeds.specs.Given.Tables.declared.node.Node.{Node}
+use Rattle.papaya_deeds.specs.Given.Tables.declared.setting.Setting.{Setting}
+use Rattle.papaya_deeds.specs.Given.Raw.declared.machines.end_map.EndMap.{EndMap}
+use Rattle.papaya_deeds.specs.Given.Resize.declared.new_map.NewMap.{NewMap}
+use Rattle.papaya_grouped.specs.Given.Teller.declared.changed.Changed.TheVariants.{Nothing as NoChange}
+use Rattle.papaya_grouped.specs.Given.Finishes.Endings.{Finishing}
+use Rattle.papaya_grouped.specs.Given.Finishes.FactsEnds.{Deed}
+use Rattle.papaya_grouped.specs.Given.Finishes.Makings.{Beginning}
+use Rattle.papaya_grouped.specs.Given.Others.Makings.{making_after}
+use Rattle.papaya_grouped.specs.Given.Scenes.Held.{Held}
+use Rattle.papaya_grouped.specs.Given.Scenes.Making.{MakingComesTo, making_begun}
+use Rattle.papaya_grouped.specs.Given.Scenes.Scene.{Scene, slot_of}
+use Rattle.papaya_grouped.specs.Given.Acts.Acts.{Act, Answer, BeginsCall, StepsCall, TellsCall, AsksCall, StopsCall, BeginsMaking, StepsMaking, BeginsEnding, StepsEnding, BeginsRow, StepsRow}
+use Rattle.papaya_grouped.specs.Given.Acts.AsSteps.{LeadsAs, MadeTo, changed_by, held_in}
+use Rattle.papaya_grouped.specs.Given.Acts.Leads.{EndingCame, Led}
+use Rattle.papaya_grouped.proofs.Given.Agrees.Numbers.{with_so}
+use Rattle.papaya_swept.specs.Given.Works.Firsts.{ShowsOpenings}
+use Rattle.papaya_swept.proofs.Given.Works.Firsts.{makings_go_on, makings_open}
+use Rattle.papaya_grouped.specs.Given.Agrees.Places.{ArePlaces, AsksPlaces}
 use Rattle.papaya_moves.specs.Places.{OpensFor}
 
 module _ {K V : Type 0} (s n : Scene K V) (here : OpensFor s) where

@@ -2,32 +2,32 @@
 use Rattle.std.specs.Prelude.{◌≡◌, ℕ, Bool, true, false, List, ◌∷◌, None, if◌then◌else◌, is_ok}
 use Rattle.std.proofs.Common.{ap, sym, subst, ◌∙◌}
 use Rattle.seize_acts.specs.Answers.{Grant}
-use Rattle.papaya_legal.specs.Given.Seize.World.{Row}
-use Rattle.papaya_legal.specs.Given.Seize.declared.rows.settle.Settled.{Settled}
-use Rattle.papaya_legal.specs.Given.Tables.declared.node.Node.{Node}
-use Rattle.papaya_legal.specs.Given.Raw.Machine.{machine_asked, machine_replied}
-use Rattle.papaya_legal.specs.Given.Schedules.After.{AtEachEvent}
-use Rattle.papaya_legal.specs.Given.Schedules.Effects.{AtEachEffect}
-use Rattle.papaya_legal.specs.Given.Schedules.Terms.{Terms}
-use Rattle.papaya_legal.specs.Given.Schedules.declared.effect.Effect.{Effect}
-use Rattle.papaya_legal.specs.Given.Schedules.declared.outcome.Outcome.{Outcome}
-use Rattle.papaya_legal.specs.Given.Teller.declared.changed.Changed.{Changed}
-use Rattle.papaya_legal.specs.Given.Teller.declared.changed.Changed.TheVariants.{Nothing as NoChange}
-use Rattle.papaya_legal.specs.Given.Effects.Effects.{effects_of}
-use Rattle.papaya_legal.specs.Given.Effects.declared.acting.Acting.TheVariants as acts
-use Rattle.papaya_legal.specs.Given.Scenes.Held.{Held, IsAt}
-use Rattle.papaya_legal.specs.Given.Scenes.Scene.{IsOnSlot, Scene, row_of, slot_of}
-use Rattle.papaya_legal.specs.Given.Scenes.declared.row.RowTold.{RowTold}
-use Rattle.papaya_acts.specs.Acts.{Act, Answer, BeginsCall, StepsCall, TellsCall, AsksCall, StopsCall, BeginsMaking, StepsMaking, BeginsEnding, StepsEnding, BeginsRow, StepsRow}
-use Rattle.papaya_acts.specs.AsSteps.{LeadsAs, changed_by, held_in, row_changed, row_told}
-use Rattle.papaya_acts.specs.Leads.{Led, MayBe}
+use Rattle.seize_acts.specs.Given.Seize.World.{Row}
+use Rattle.seize_acts.specs.Given.Seize.declared.rows.settle.Settled.{Settled}
+use Rattle.papaya_deeds.specs.Given.Tables.declared.node.Node.{Node}
+use Rattle.papaya_deeds.specs.Given.Raw.Machine.{machine_asked, machine_replied}
+use Rattle.papaya_deeds.specs.Given.Schedules.After.{AtEachEvent}
+use Rattle.papaya_deeds.specs.Given.Schedules.Effects.{AtEachEffect}
+use Rattle.papaya_deeds.specs.Given.Schedules.Terms.{Terms}
+use Rattle.papaya_deeds.specs.Given.Schedules.declared.effect.Effect.{Effect}
+use Rattle.papaya_deeds.specs.Given.Schedules.declared.outcome.Outcome.{Outcome}
+use Rattle.papaya_grouped.specs.Given.Teller.declared.changed.Changed.{Changed}
+use Rattle.papaya_grouped.specs.Given.Teller.declared.changed.Changed.TheVariants.{Nothing as NoChange}
+use Rattle.papaya_grouped.specs.Given.Effects.Effects.{effects_of}
+use Rattle.papaya_grouped.specs.Given.Effects.declared.acting.Acting.TheVariants as acts
+use Rattle.papaya_grouped.specs.Given.Scenes.Held.{Held, IsAt}
+use Rattle.papaya_grouped.specs.Given.Scenes.Scene.{IsOnSlot, Scene, row_of, slot_of}
+use Rattle.papaya_grouped.specs.Given.Scenes.declared.row.RowTold.{RowTold}
+use Rattle.papaya_grouped.specs.Given.Acts.Acts.{Act, Answer, BeginsCall, StepsCall, TellsCall, AsksCall, StopsCall, BeginsMaking, StepsMaking, BeginsEnding, StepsEnding, BeginsRow, StepsRow}
+use Rattle.papaya_grouped.specs.Given.Acts.AsSteps.{LeadsAs, changed_by, held_in, row_changed, row_told}
+use Rattle.papaya_grouped.specs.Given.Acts.Leads.{Led, MayBe}
 use Rattle.papaya_deeds.specs.Deeds.{Deed, Ends, Entry, Leaves, MapGoes, Opens, ReclaimsAll, Registers, Shuts, Tends, moment}
 use Rattle.papaya_deeds.specs.History.{FindsBy, transition}
-use Rattle.papaya_played.specs.Play.{Ending, State, ending_deed, is_over, is_refusal, row_deed, row_outcome, row_stepped}
-use Rattle.papaya_played.specs.Reached.{IsOf, row_or_rests}
-use Rattle.papaya_played.proofs.PlayedAs.{PlayedAs}
-use Rattle.papaya_linear.proofs.Holding.{AllHolds}
-use Rattle.papaya_linear.proofs.RowsPlayed.{IsOfRow, is_of_row}
+use Rattle.papaya_grouped.specs.Given.Played.Play.{Ending, State, ending_deed, is_over, is_refusal, row_deed, row_outcome, row_stepped}
+use Rattle.papaya_grouped.specs.Given.Played.Reached.{IsOf, row_or_rests}
+use Rattle.papaya_grouped.proofs.Given.Played.PlayedAs.{PlayedAs}
+use Rattle.papaya_swept.proofs.Given.Linear.Holding.{AllHolds}
+use Rattle.papaya_swept.proofs.Given.Linear.RowsPlayed.{IsOfRow, is_of_row}
 use Rattle.papaya_moves.specs.Finds.{FindsIts, IsOfOthers, OthersFind}
 use Rattle.papaya_moves.specs.Places.{OpensFor}
 use Rattle.papaya_moves.proofs.Buckets.{BucketsHold}

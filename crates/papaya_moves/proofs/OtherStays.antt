@@ -2,21 +2,21 @@
 use Rattle.std.specs.Prelude.{◌≡◌, ℕ, Bool, List, [], ◌∷◌, Option, None}
 use Rattle.std.specs.List.{AllByRecursion}
 use Rattle.std.proofs.Common.{refl, sym, subst}
-use Rattle.papaya_legal.specs.Given.Seize.declared.rows.reclaim_all.ReclaimAll.{ReclaimAll}
-use Rattle.papaya_legal.specs.Given.Schedules.Moment.{Moment, UnderWay}
-use Rattle.papaya_legal.specs.Given.Schedules.Terms.{Terms}
-use Rattle.papaya_legal.specs.Given.Teller.declared.changed.Changed.TheVariants.{Nothing as NoChange}
-use Rattle.papaya_legal.specs.Given.Effects.Effects.{effects_of}
-use Rattle.papaya_legal.specs.Given.Effects.declared.acting.Acting.TheVariants as acts
-use Rattle.papaya_legal.specs.Given.Scenes.Scene.{Scene}
-use Rattle.papaya_acts.specs.Acts.{Act}
-use Rattle.papaya_agrees.specs.Fresh.{HasNewNumber}
+use Rattle.seize_acts.specs.Given.Seize.declared.rows.reclaim_all.ReclaimAll.{ReclaimAll}
+use Rattle.papaya_deeds.specs.Given.Schedules.Moment.{Moment, UnderWay}
+use Rattle.papaya_deeds.specs.Given.Schedules.Terms.{Terms}
+use Rattle.papaya_grouped.specs.Given.Teller.declared.changed.Changed.TheVariants.{Nothing as NoChange}
+use Rattle.papaya_grouped.specs.Given.Effects.Effects.{effects_of}
+use Rattle.papaya_grouped.specs.Given.Effects.declared.acting.Acting.TheVariants as acts
+use Rattle.papaya_grouped.specs.Given.Scenes.Scene.{Scene}
+use Rattle.papaya_grouped.specs.Given.Acts.Acts.{Act}
+use Rattle.papaya_grouped.specs.Given.Agrees.Fresh.{HasNewNumber}
 use Rattle.papaya_deeds.specs.Deeds.{ReclaimsAll, moment, named}
-use Rattle.papaya_played.specs.Play.{State, is_over, is_refusal, settled_outcome}
-use Rattle.papaya_played.specs.Reached.{IsOf, rows_beside}
-use Rattle.papaya_played.proofs.Along.{At, StaysSo, held, lists_at}
-use Rattle.papaya_played.proofs.PlayedAs.{played_as, reclaimed_as}
-use Rattle.papaya_linear.proofs.Stays.{all_tied, change}
+use Rattle.papaya_grouped.specs.Given.Played.Play.{State, is_over, is_refusal, settled_outcome}
+use Rattle.papaya_grouped.specs.Given.Played.Reached.{IsOf, rows_beside}
+use Rattle.papaya_grouped.proofs.Given.Played.Along.{At, StaysSo, held, lists_at}
+use Rattle.papaya_grouped.proofs.Given.Played.PlayedAs.{played_as, reclaimed_as}
+use Rattle.papaya_swept.proofs.Given.Linear.Stays.{all_tied, change}
 use Rattle.papaya_moves.specs.Order.{AreUnderWay, IsUnderWay}
 use Rattle.papaya_moves.proofs.AllFinds.{all_find}
 use Rattle.papaya_moves.proofs.BehindFound.{behind_found}

@@ -3,19 +3,19 @@ use Rattle.std.specs.Prelude.{◌≡◌, Bool, true, false, ◌&&◌, List, [], 
 use Rattle.std.specs.List.{list_all}
 use Rattle.std.proofs.Common.{refl, ap, ◌∙◌}
 use Rattle.std.proofs.lemmas.Bool.{and_parts}
-use Rattle.papaya_legal.specs.Given.Schedules.declared.effect.Effect.{Effect}
-use Rattle.papaya_legal.specs.Given.Schedules.declared.outcome.Outcome.{Outcome}
-use Rattle.papaya_legal.specs.Given.Schedules.declared.outcome.Outcome.TheVariants as outcome
-use Rattle.papaya_legal.specs.Given.Schedules.Handing.{is_granted}
-use Rattle.papaya_legal.specs.Given.Teller.declared.changed.Changed.{Changed}
-use Rattle.papaya_legal.specs.Given.Effects.Effects.{effects_of}
-use Rattle.papaya_legal.specs.Given.Effects.Known.{Known}
-use Rattle.papaya_legal.specs.Given.Effects.declared.acting.Acting.{Acting}
-use Rattle.papaya_legal.proofs.Given.Promises.Weights.{operations_are_single}
+use Rattle.papaya_deeds.specs.Given.Schedules.declared.effect.Effect.{Effect}
+use Rattle.papaya_deeds.specs.Given.Schedules.declared.outcome.Outcome.{Outcome}
+use Rattle.papaya_deeds.specs.Given.Schedules.declared.outcome.Outcome.TheVariants as outcome
+use Rattle.papaya_deeds.specs.Given.Schedules.Handing.{is_granted}
+use Rattle.papaya_grouped.specs.Given.Teller.declared.changed.Changed.{Changed}
+use Rattle.papaya_grouped.specs.Given.Effects.Effects.{effects_of}
+use Rattle.papaya_grouped.specs.Given.Effects.Known.{Known}
+use Rattle.papaya_grouped.specs.Given.Effects.declared.acting.Acting.{Acting}
+use Rattle.papaya_swept.proofs.Given.Promises.Weights.{operations_are_single}
 use Rattle.papaya_deeds.specs.Deeds.{Begins, Deed, Entry, ReclaimsAll, Replies, Stops}
 use Rattle.papaya_deeds.specs.History.{Refuses, may_do}
-use Rattle.papaya_played.specs.Play.{is_refusal}
-use Rattle.papaya_agrees.proofs.Grants.{each_refuses}
+use Rattle.papaya_grouped.specs.Given.Played.Play.{is_refusal}
+use Rattle.papaya_grouped.proofs.Given.Agrees.Grants.{each_refuses}
 use Rattle.papaya_moves.specs.Parts.{DoesIts}
 
 -- what all pass that pass another test

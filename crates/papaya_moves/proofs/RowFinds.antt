@@ -3,40 +3,40 @@ use Rattle.std.specs.Prelude.{◌≡◌, ◌||◌, ℕ, Bool, true, false, List,
 use Rattle.std.specs.List.{list_all, list_any}
 use Rattle.std.proofs.Common.{refl, ap, sym, subst}
 use Rattle.std.proofs.lemmas.Bool.{and_parts}
-use Rattle.papaya_legal.specs.Given.Seize.declared.rows.leave.Leave.{Leave}
-use Rattle.papaya_legal.specs.Given.Seize.declared.rows.leave.Leaving.{Leaving}
-use Rattle.papaya_legal.specs.Given.Seize.declared.rows.leave.Leaving.TheVariants as leaving
-use Rattle.papaya_legal.specs.Given.Seize.declared.rows.register.Register.{Register}
-use Rattle.papaya_legal.specs.Given.Seize.declared.rows.register.Registering.{Registering}
-use Rattle.papaya_legal.specs.Given.Seize.declared.rows.register.Registering.TheVariants as registering
-use Rattle.papaya_legal.specs.Given.Tables.declared.node.Node.{Node}
-use Rattle.papaya_legal.specs.Given.Schedules.declared.effect.Effect.{Effect}
-use Rattle.papaya_legal.specs.Given.Schedules.declared.effect.Effect.TheVariants.{Asked}
-use Rattle.papaya_legal.specs.Given.Schedules.declared.effect.Growth.TheVariants.{ABucket}
-use Rattle.papaya_legal.specs.Given.Schedules.declared.outcome.Outcome.{Outcome}
-use Rattle.papaya_legal.specs.Given.Schedules.Effects.{AtEachEffect, with_effect}
-use Rattle.papaya_legal.specs.Given.Schedules.Handing.{asks_for_bucket, is_reclaiming}
-use Rattle.papaya_legal.specs.Given.Schedules.Lives.{Finds}
-use Rattle.papaya_legal.specs.Given.Schedules.Moment.{Moment}
-use Rattle.papaya_legal.specs.Given.Schedules.Terms.{Terms}
-use Rattle.papaya_legal.specs.Given.Schedules.Transition.{Transition}
-use Rattle.papaya_legal.specs.Given.Teller.declared.changed.Changed.TheVariants as changed
-use Rattle.papaya_legal.specs.Given.Effects.Effects.{effects_of}
-use Rattle.papaya_legal.specs.Given.Effects.declared.acting.Acting.TheVariants as acts
-use Rattle.papaya_legal.specs.Given.Scenes.Held.{Held, IsAt}
-use Rattle.papaya_legal.specs.Given.Scenes.OnSlots.{RowLeads, RowSteps}
-use Rattle.papaya_legal.specs.Given.Scenes.Scene.{IsOnSlot, Scene}
-use Rattle.papaya_legal.specs.Given.Scenes.declared.row.RowTold.{RowTold}
-use Rattle.papaya_legal.specs.Given.Scenes.declared.row.SlotRow.{SlotRow}
-use Rattle.papaya_legal.specs.Given.Scenes.declared.row.SlotRow.TheVariants as rows
-use Rattle.papaya_legal.proofs.Found.{rows_find_theirs}
-use Rattle.papaya_legal.proofs.Given.Finds.Life.{each_so}
-use Rattle.papaya_works.proofs.Needs.{none_need, reclaiming_asks_none}
-use Rattle.papaya_works.proofs.Steps.{IsNoOwn, asks_alone, does_nothing, enters_tell, frees_tell, registers_tell, takes_no_own}
+use Rattle.seize_acts.specs.Given.Seize.declared.rows.leave.Leave.{Leave}
+use Rattle.seize_acts.specs.Given.Seize.declared.rows.leave.Leaving.{Leaving}
+use Rattle.seize_acts.specs.Given.Seize.declared.rows.leave.Leaving.TheVariants as leaving
+use Rattle.seize_acts.specs.Given.Seize.declared.rows.register.Register.{Register}
+use Rattle.seize_acts.specs.Given.Seize.declared.rows.register.Registering.{Registering}
+use Rattle.seize_acts.specs.Given.Seize.declared.rows.register.Registering.TheVariants as registering
+use Rattle.papaya_deeds.specs.Given.Tables.declared.node.Node.{Node}
+use Rattle.papaya_deeds.specs.Given.Schedules.declared.effect.Effect.{Effect}
+use Rattle.papaya_deeds.specs.Given.Schedules.declared.effect.Effect.TheVariants.{Asked}
+use Rattle.papaya_deeds.specs.Given.Schedules.declared.effect.Growth.TheVariants.{ABucket}
+use Rattle.papaya_deeds.specs.Given.Schedules.declared.outcome.Outcome.{Outcome}
+use Rattle.papaya_deeds.specs.Given.Schedules.Effects.{AtEachEffect, with_effect}
+use Rattle.papaya_deeds.specs.Given.Schedules.Handing.{asks_for_bucket, is_reclaiming}
+use Rattle.papaya_deeds.specs.Given.Schedules.Lives.{Finds}
+use Rattle.papaya_deeds.specs.Given.Schedules.Moment.{Moment}
+use Rattle.papaya_deeds.specs.Given.Schedules.Terms.{Terms}
+use Rattle.papaya_deeds.specs.Given.Schedules.Transition.{Transition}
+use Rattle.papaya_grouped.specs.Given.Teller.declared.changed.Changed.TheVariants as changed
+use Rattle.papaya_grouped.specs.Given.Effects.Effects.{effects_of}
+use Rattle.papaya_grouped.specs.Given.Effects.declared.acting.Acting.TheVariants as acts
+use Rattle.papaya_grouped.specs.Given.Scenes.Held.{Held, IsAt}
+use Rattle.papaya_grouped.specs.Given.Scenes.OnSlots.{RowLeads, RowSteps}
+use Rattle.papaya_grouped.specs.Given.Scenes.Scene.{IsOnSlot, Scene}
+use Rattle.papaya_grouped.specs.Given.Scenes.declared.row.RowTold.{RowTold}
+use Rattle.papaya_grouped.specs.Given.Scenes.declared.row.SlotRow.{SlotRow}
+use Rattle.papaya_grouped.specs.Given.Scenes.declared.row.SlotRow.TheVariants as rows
+use Rattle.papaya_swept.proofs.Given.Legal.Found.{rows_find_theirs}
+use Rattle.papaya_swept.proofs.Given.Finds.Life.{each_so}
+use Rattle.papaya_swept.proofs.Given.Works.Needs.{none_need, reclaiming_asks_none}
+use Rattle.papaya_swept.proofs.Given.Works.Steps.{IsNoOwn, asks_alone, does_nothing, enters_tell, frees_tell, registers_tell, takes_no_own}
 use Rattle.papaya_deeds.specs.Deeds.{Deed, Entry, Leaves, Opens, Registers, Shuts, Tends, moment, named}
 use Rattle.papaya_deeds.specs.History.{FindsBy, NeedsBucket, buckets, past, transition}
-use Rattle.papaya_played.specs.Play.{State, is_refusal, leaves_as, registers_as, row_deed}
-use Rattle.papaya_linear.specs.Shown.{ShowsAnswers}
+use Rattle.papaya_grouped.specs.Given.Played.Play.{State, is_refusal, leaves_as, registers_as, row_deed}
+use Rattle.papaya_swept.specs.Given.Linear.Shown.{ShowsAnswers}
 use Rattle.papaya_moves.proofs.Parts.{all_also}
 use Rattle.papaya_moves.proofs.RowKinds.{ends_quietly, enters_quietly, flushes_reclaim, left_quietly, leaves_reclaim}
 

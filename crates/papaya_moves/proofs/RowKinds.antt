@@ -2,43 +2,43 @@
 use Rattle.std.specs.Prelude.{◌≡◌, ◌==◌, ℕ, true, false, List, [], if◌then◌else◌}
 use Rattle.std.specs.List.{list_all}
 use Rattle.std.proofs.Common.{refl, ap, sym, subst, ◌∙◌}
-use Rattle.papaya_legal.specs.Given.SeizeWords.declared.at.At.TheVariants.{Slot}
-use Rattle.papaya_legal.specs.Given.SeizeWords.Mem.{Mem}
-use Rattle.papaya_legal.specs.Given.SeizeWords.Op.{Out, Swap, Found}
-use Rattle.papaya_legal.specs.Given.Seize.Leave as leave
-use Rattle.papaya_legal.specs.Given.Seize.Register as register
-use Rattle.papaya_legal.specs.Given.Seize.Settle as settle
-use Rattle.papaya_legal.specs.Given.Seize.declared.progress.Progress.{Progress}
-use Rattle.papaya_legal.specs.Given.Seize.declared.rows.leave.Leave.{Leave}
-use Rattle.papaya_legal.specs.Given.Seize.declared.rows.leave.Leaving.{Leaving}
-use Rattle.papaya_legal.specs.Given.Seize.declared.rows.leave.Leaving.TheVariants as leaving
-use Rattle.papaya_legal.specs.Given.Seize.declared.rows.register.Register.{Register}
-use Rattle.papaya_legal.specs.Given.Seize.declared.rows.register.Registering.{Registering}
-use Rattle.papaya_legal.specs.Given.Seize.declared.rows.register.Registering.TheVariants as registering
-use Rattle.papaya_legal.specs.Given.Seize.declared.rows.settle.Settle.{Settle}
-use Rattle.papaya_legal.specs.Given.Seize.declared.rows.settle.Settled.{Settled}
-use Rattle.papaya_legal.specs.Given.Seize.declared.rows.settle.Settling.{Settling}
-use Rattle.papaya_legal.specs.Given.Seize.declared.rows.settle.Settling.TheVariants as settling
-use Rattle.papaya_legal.specs.Given.Seize.declared.states.TheConstants.{ACTIVE}
-use Rattle.papaya_legal.specs.Given.Tables.Nodes.{deferred_word}
-use Rattle.papaya_legal.specs.Given.Tables.declared.node.Node.{Node}
-use Rattle.papaya_legal.specs.Given.Tells.Seen.{seen_of}
-use Rattle.papaya_legal.specs.Given.Teller.Tells.{StepsTold, told_of}
-use Rattle.papaya_legal.specs.Given.Teller.declared.changed.Changed.{Changed}
-use Rattle.papaya_legal.specs.Given.Teller.declared.changed.Changed.TheVariants as changed
-use Rattle.papaya_legal.specs.Given.Schedules.declared.effect.Effect.{Effect}
-use Rattle.papaya_legal.specs.Given.Schedules.Handing.{asks_for_bucket, is_reclaiming}
-use Rattle.papaya_legal.specs.Given.Effects.Effects.{effects_of}
-use Rattle.papaya_legal.specs.Given.Effects.Known.{Known}
-use Rattle.papaya_legal.specs.Given.Effects.declared.acting.Acting.TheVariants as acts
-use Rattle.papaya_legal.specs.Given.Scenes.OnSlots.{RowSteps}
-use Rattle.papaya_legal.specs.Given.Scenes.declared.row.RowTold.{RowTold}
-use Rattle.papaya_legal.specs.Given.Scenes.declared.row.SlotRow.{SlotRow}
-use Rattle.papaya_legal.specs.Given.Scenes.declared.row.SlotRow.TheVariants as rows
-use Rattle.papaya_works.proofs.Steps.{IsNoOwn, IsTaking, Tells, asks_alone, does_nothing, enters_tell, flushes_tell, frees_tell, leaves_tell, reclaims_alone, registers_tell}
+use Rattle.papaya_deeds.specs.Given.SeizeWords.declared.at.At.TheVariants.{Slot}
+use Rattle.papaya_deeds.specs.Given.SeizeWords.Mem.{Mem}
+use Rattle.papaya_deeds.specs.Given.SeizeWords.Op.{Out, Swap, Found}
+use Rattle.seize_acts.specs.Given.Seize.Leave as leave
+use Rattle.seize_acts.specs.Given.Seize.Register as register
+use Rattle.seize_acts.specs.Given.Seize.Settle as settle
+use Rattle.seize_acts.specs.Given.Seize.declared.progress.Progress.{Progress}
+use Rattle.seize_acts.specs.Given.Seize.declared.rows.leave.Leave.{Leave}
+use Rattle.seize_acts.specs.Given.Seize.declared.rows.leave.Leaving.{Leaving}
+use Rattle.seize_acts.specs.Given.Seize.declared.rows.leave.Leaving.TheVariants as leaving
+use Rattle.seize_acts.specs.Given.Seize.declared.rows.register.Register.{Register}
+use Rattle.seize_acts.specs.Given.Seize.declared.rows.register.Registering.{Registering}
+use Rattle.seize_acts.specs.Given.Seize.declared.rows.register.Registering.TheVariants as registering
+use Rattle.seize_acts.specs.Given.Seize.declared.rows.settle.Settle.{Settle}
+use Rattle.seize_acts.specs.Given.Seize.declared.rows.settle.Settled.{Settled}
+use Rattle.seize_acts.specs.Given.Seize.declared.rows.settle.Settling.{Settling}
+use Rattle.seize_acts.specs.Given.Seize.declared.rows.settle.Settling.TheVariants as settling
+use Rattle.seize_acts.specs.Given.Seize.declared.states.TheConstants.{ACTIVE}
+use Rattle.papaya_deeds.specs.Given.Tables.Nodes.{deferred_word}
+use Rattle.papaya_deeds.specs.Given.Tables.declared.node.Node.{Node}
+use Rattle.papaya_grouped.specs.Given.Tells.Seen.{seen_of}
+use Rattle.papaya_grouped.specs.Given.Teller.Tells.{StepsTold, told_of}
+use Rattle.papaya_grouped.specs.Given.Teller.declared.changed.Changed.{Changed}
+use Rattle.papaya_grouped.specs.Given.Teller.declared.changed.Changed.TheVariants as changed
+use Rattle.papaya_deeds.specs.Given.Schedules.declared.effect.Effect.{Effect}
+use Rattle.papaya_deeds.specs.Given.Schedules.Handing.{asks_for_bucket, is_reclaiming}
+use Rattle.papaya_grouped.specs.Given.Effects.Effects.{effects_of}
+use Rattle.papaya_grouped.specs.Given.Effects.Known.{Known}
+use Rattle.papaya_grouped.specs.Given.Effects.declared.acting.Acting.TheVariants as acts
+use Rattle.papaya_grouped.specs.Given.Scenes.OnSlots.{RowSteps}
+use Rattle.papaya_grouped.specs.Given.Scenes.declared.row.RowTold.{RowTold}
+use Rattle.papaya_grouped.specs.Given.Scenes.declared.row.SlotRow.{SlotRow}
+use Rattle.papaya_grouped.specs.Given.Scenes.declared.row.SlotRow.TheVariants as rows
+use Rattle.papaya_swept.proofs.Given.Works.Steps.{IsNoOwn, IsTaking, Tells, asks_alone, does_nothing, enters_tell, flushes_tell, frees_tell, leaves_tell, reclaims_alone, registers_tell}
 use Rattle.papaya_deeds.specs.Deeds.{Leaves, Opens, Registers, Shuts, Tends}
 use Rattle.papaya_deeds.specs.History.{may_do}
-use Rattle.papaya_played.specs.Play.{leaves_as, registers_as, row_deed}
+use Rattle.papaya_grouped.specs.Given.Played.Play.{leaves_as, registers_as, row_deed}
 use Rattle.papaya_moves.proofs.Parts.{all_also, none_may}
 
 module _ {K V : Type 0} (m m2 : Mem (Node K V)) (told : Changed) (after : SlotRow × RowTold (Node K V)) (known : Known) where

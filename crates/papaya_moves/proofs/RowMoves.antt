@@ -2,31 +2,31 @@
 use Rattle.std.specs.Prelude.{◌≡◌, ℕ, Bool, true, List, [], ◌∷◌, map}
 use Rattle.std.specs.List.{list_all}
 use Rattle.std.proofs.Common.{refl, sym, subst}
-use Rattle.papaya_legal.specs.Given.Seize.declared.rows.reclaim_all.ReclaimAll.{ReclaimAll}
-use Rattle.papaya_legal.specs.Given.Seize.declared.rows.settle.Settled.{Settled}
-use Rattle.papaya_legal.specs.Given.Tables.declared.node.Node.{Node}
-use Rattle.papaya_legal.specs.Given.Schedules.declared.effect.Effect.{Effect}
-use Rattle.papaya_legal.specs.Given.Schedules.declared.effect.Effect.TheVariants.{Reclaimed}
-use Rattle.papaya_legal.specs.Given.Schedules.declared.effect.Thing.{Thing}
-use Rattle.papaya_legal.specs.Given.Schedules.declared.outcome.Outcome.{Outcome}
-use Rattle.papaya_legal.specs.Given.Schedules.Handing.{is_reclaiming}
-use Rattle.papaya_legal.specs.Given.Teller.declared.changed.Changed.{Changed}
-use Rattle.papaya_legal.specs.Given.Effects.Effects.{effects_of}
-use Rattle.papaya_legal.specs.Given.Effects.Known.{Known}
-use Rattle.papaya_legal.specs.Given.Effects.declared.acting.Acting.TheVariants as acts
-use Rattle.papaya_legal.specs.Given.Scenes.Held.{Held, IsAt}
-use Rattle.papaya_legal.specs.Given.Scenes.OnSlots.{RowLeads}
-use Rattle.papaya_legal.specs.Given.Scenes.Reclaiming.{IsReclaiming, ReclaimingLeads}
-use Rattle.papaya_legal.specs.Given.Scenes.Scene.{IsOnSlot, Scene}
-use Rattle.papaya_legal.specs.Given.Scenes.declared.row.RowTold.{RowTold}
-use Rattle.papaya_legal.specs.Given.Scenes.declared.row.SlotRow.{SlotRow}
-use Rattle.papaya_legal.proofs.OfAll.Tells.{gone_by, it_reclaims}
-use Rattle.papaya_works.proofs.Steps.{takes_no_own}
+use Rattle.seize_acts.specs.Given.Seize.declared.rows.reclaim_all.ReclaimAll.{ReclaimAll}
+use Rattle.seize_acts.specs.Given.Seize.declared.rows.settle.Settled.{Settled}
+use Rattle.papaya_deeds.specs.Given.Tables.declared.node.Node.{Node}
+use Rattle.papaya_deeds.specs.Given.Schedules.declared.effect.Effect.{Effect}
+use Rattle.papaya_deeds.specs.Given.Schedules.declared.effect.Effect.TheVariants.{Reclaimed}
+use Rattle.papaya_deeds.specs.Given.Schedules.declared.effect.Thing.{Thing}
+use Rattle.papaya_deeds.specs.Given.Schedules.declared.outcome.Outcome.{Outcome}
+use Rattle.papaya_deeds.specs.Given.Schedules.Handing.{is_reclaiming}
+use Rattle.papaya_grouped.specs.Given.Teller.declared.changed.Changed.{Changed}
+use Rattle.papaya_grouped.specs.Given.Effects.Effects.{effects_of}
+use Rattle.papaya_grouped.specs.Given.Effects.Known.{Known}
+use Rattle.papaya_grouped.specs.Given.Effects.declared.acting.Acting.TheVariants as acts
+use Rattle.papaya_grouped.specs.Given.Scenes.Held.{Held, IsAt}
+use Rattle.papaya_grouped.specs.Given.Scenes.OnSlots.{RowLeads}
+use Rattle.papaya_grouped.specs.Given.Scenes.Reclaiming.{IsReclaiming, ReclaimingLeads}
+use Rattle.papaya_grouped.specs.Given.Scenes.Scene.{IsOnSlot, Scene}
+use Rattle.papaya_grouped.specs.Given.Scenes.declared.row.RowTold.{RowTold}
+use Rattle.papaya_grouped.specs.Given.Scenes.declared.row.SlotRow.{SlotRow}
+use Rattle.papaya_swept.proofs.Given.Legal.OfAll.Tells.{gone_by, it_reclaims}
+use Rattle.papaya_swept.proofs.Given.Works.Steps.{takes_no_own}
 use Rattle.papaya_deeds.specs.Deeds.{Deed, Entry, Leaves, Opens, ReclaimsAll, Registers, Shuts, Tends, moment, named}
 use Rattle.papaya_deeds.specs.History.{may_do, past}
-use Rattle.papaya_played.specs.Play.{State, is_over, is_refusal, row_deed, settled_outcome}
-use Rattle.papaya_linear.specs.Shown.{ShowsAnswers}
-use Rattle.papaya_linear.proofs.RowsPlayed.{IsOfRow, is_of_row}
+use Rattle.papaya_grouped.specs.Given.Played.Play.{State, is_over, is_refusal, row_deed, settled_outcome}
+use Rattle.papaya_swept.specs.Given.Linear.Shown.{ShowsAnswers}
+use Rattle.papaya_swept.proofs.Given.Linear.RowsPlayed.{IsOfRow, is_of_row}
 use Rattle.papaya_moves.specs.Parts.{DoesIts}
 use Rattle.papaya_moves.proofs.Parts.{all_also, granted_so, refuses_so}
 use Rattle.papaya_moves.proofs.RowKinds.{row_may}

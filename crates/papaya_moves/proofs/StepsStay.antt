@@ -3,43 +3,43 @@
 use Rattle.std.specs.Prelude.{◌≡◌, ℕ, max, Bool, true, false, Option, Some, None}
 use Rattle.std.proofs.Common.{refl, ap, sym, subst, ◌∙◌}
 use Rattle.seize_acts.proofs.Answers.{same_some}
-use Rattle.papaya_legal.specs.Given.Seize.World.{IsInside}
-use Rattle.papaya_legal.specs.Given.Seize.declared.rows.reclaim_all.ReclaimAll.{ReclaimAll}
-use Rattle.papaya_legal.specs.Given.Tables.Lengths.{entries_of}
-use Rattle.papaya_legal.specs.Given.Resize.declared.new_map.NewMap.{NewMap}
-use Rattle.papaya_legal.specs.Given.Runs.Runs.{map_fault}
-use Rattle.papaya_legal.specs.Given.Schedules.Growing.{Has}
-use Rattle.papaya_legal.specs.Given.Schedules.Moment.{MapThere}
-use Rattle.papaya_legal.specs.Given.Schedules.Terms.{Terms, shards_of}
-use Rattle.papaya_legal.specs.Given.Schedules.Views.{capacity_or, map_at}
-use Rattle.papaya_legal.specs.Given.Teller.declared.changed.Changed.TheVariants.{Nothing as NoChange}
-use Rattle.papaya_legal.specs.Given.Callers.Together.{Counting, ForRoom, OnKey, OverAll, UnderWay, UnlessCounts}
-use Rattle.papaya_legal.specs.Given.Finishes.Makings.{Beginning}
-use Rattle.papaya_legal.specs.Given.Named.Places.{first_places}
-use Rattle.papaya_legal.specs.Given.Scenes.Held.{IsAt}
-use Rattle.papaya_legal.specs.Given.Scenes.Scene.{Scene, slot_of}
-use Rattle.papaya_legal.proofs.Given.Finds.Capacities.{given_are_for}
-use Rattle.papaya_legal.proofs.Given.Scenes.May.{standing_is}
-use Rattle.papaya_acts.specs.Acts.{Act}
-use Rattle.papaya_acts.specs.AsSteps.{held_in}
-use Rattle.papaya_agrees.specs.Fresh.{HasNewNumber}
-use Rattle.papaya_agrees.specs.Guards.{CallsHaveGuards, GuardsAgree, UnlessReclaimed}
-use Rattle.papaya_agrees.specs.Shards.{AsksShards, ShardsAre}
-use Rattle.papaya_agrees.proofs.Agree.{asks_more, both_stay}
-use Rattle.papaya_agrees.proofs.Calls.{calls_have_guards}
-use Rattle.papaya_agrees.proofs.Entries.{histories_grow}
-use Rattle.papaya_agrees.proofs.Guards.{GuardsHold, guards_stay}
-use Rattle.papaya_agrees.proofs.Shards.{shards_stay}
+use Rattle.seize_acts.specs.Given.Seize.World.{IsInside}
+use Rattle.seize_acts.specs.Given.Seize.declared.rows.reclaim_all.ReclaimAll.{ReclaimAll}
+use Rattle.papaya_deeds.specs.Given.Tables.Lengths.{entries_of}
+use Rattle.papaya_deeds.specs.Given.Resize.declared.new_map.NewMap.{NewMap}
+use Rattle.papaya_deeds.specs.Given.Runs.Runs.{map_fault}
+use Rattle.papaya_deeds.specs.Given.Schedules.Growing.{Has}
+use Rattle.papaya_deeds.specs.Given.Schedules.Moment.{MapThere}
+use Rattle.papaya_deeds.specs.Given.Schedules.Terms.{Terms, shards_of}
+use Rattle.papaya_deeds.specs.Given.Schedules.Views.{capacity_or, map_at}
+use Rattle.papaya_grouped.specs.Given.Teller.declared.changed.Changed.TheVariants.{Nothing as NoChange}
+use Rattle.papaya_grouped.specs.Given.Callers.Together.{Counting, ForRoom, OnKey, OverAll, UnderWay, UnlessCounts}
+use Rattle.papaya_grouped.specs.Given.Finishes.Makings.{Beginning}
+use Rattle.papaya_grouped.specs.Given.Named.Places.{first_places}
+use Rattle.papaya_grouped.specs.Given.Scenes.Held.{IsAt}
+use Rattle.papaya_grouped.specs.Given.Scenes.Scene.{Scene, slot_of}
+use Rattle.papaya_swept.proofs.Given.Finds.Capacities.{given_are_for}
+use Rattle.papaya_grouped.proofs.Given.Scenes.May.{standing_is}
+use Rattle.papaya_grouped.specs.Given.Acts.Acts.{Act}
+use Rattle.papaya_grouped.specs.Given.Acts.AsSteps.{held_in}
+use Rattle.papaya_grouped.specs.Given.Agrees.Fresh.{HasNewNumber}
+use Rattle.papaya_grouped.specs.Given.Agrees.Guards.{CallsHaveGuards, GuardsAgree, UnlessReclaimed}
+use Rattle.papaya_grouped.specs.Given.Agrees.Shards.{AsksShards, ShardsAre}
+use Rattle.papaya_grouped.proofs.Given.Agrees.Agree.{asks_more, both_stay}
+use Rattle.papaya_grouped.proofs.Given.Agrees.Calls.{calls_have_guards}
+use Rattle.papaya_grouped.proofs.Given.Agrees.Entries.{histories_grow}
+use Rattle.papaya_grouped.proofs.Given.Agrees.Guards.{GuardsHold, guards_stay}
+use Rattle.papaya_grouped.proofs.Given.Agrees.Shards.{shards_stay}
 use Rattle.papaya_deeds.specs.Deeds.{moment}
-use Rattle.papaya_played.specs.Play.{Making, State, has_root, pairs_for}
-use Rattle.papaya_played.specs.Reached.{IsOf, made_so, makes_so, rows_beside}
-use Rattle.papaya_played.proofs.Along.{At, StaysSo}
-use Rattle.papaya_played.proofs.Noted.{Anything}
-use Rattle.papaya_linear.specs.Coming.{ComesBy}
-use Rattle.papaya_linear.proofs.Holding.{AllHolds}
-use Rattle.papaya_linear.proofs.StepsPlayed.{there_alike}
+use Rattle.papaya_grouped.specs.Given.Played.Play.{Making, State, has_root, pairs_for}
+use Rattle.papaya_grouped.specs.Given.Played.Reached.{IsOf, made_so, makes_so, rows_beside}
+use Rattle.papaya_grouped.proofs.Given.Played.Along.{At, StaysSo}
+use Rattle.papaya_grouped.proofs.Given.Played.Noted.{Anything}
+use Rattle.papaya_swept.specs.Given.Linear.Coming.{ComesBy}
+use Rattle.papaya_swept.proofs.Given.Linear.Holding.{AllHolds}
+use Rattle.papaya_swept.proofs.Given.Linear.StepsPlayed.{there_alike}
 use Rattle.papaya_swept.proofs.KeptByAll.{Gives, With, all_kept}
-use Rattle.papaya_agrees.specs.Places.{ArePlaces, AsksPlaces}
+use Rattle.papaya_grouped.specs.Given.Agrees.Places.{ArePlaces, AsksPlaces}
 use Rattle.papaya_moves.specs.Places.{OpensFor}
 use Rattle.papaya_moves.specs.Steps.{StepsMay}
 use Rattle.papaya_moves.proofs.MadeHolds.{MadeHolds}

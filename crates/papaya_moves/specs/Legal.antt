@@ -1,16 +1,16 @@
 -- That the history of each list of acts keeps all that is promised of histories.
 use Rattle.std.specs.Prelude.{◌≡◌, ◌<◌, ◌^◌, ℕ, Bool, List, Some}
 use Rattle.std.specs.List.{AllByRecursion}
-use Rattle.papaya_legal.specs.Given.Schedules.After.{AtEachEvent}
-use Rattle.papaya_legal.specs.Given.Schedules.Terms.{Terms, shards_of}
-use Rattle.papaya_legal.specs.Given.Scenes.Scene.{slot_of}
-use Rattle.papaya_acts.specs.Doings.{Doing}
-use Rattle.papaya_acts.specs.Lists.{Course, LedTo, Reached}
-use Rattle.papaya_agrees.specs.Fresh.{MakesNew}
-use Rattle.papaya_agrees.specs.Places.{AsksMaps}
+use Rattle.papaya_deeds.specs.Given.Schedules.After.{AtEachEvent}
+use Rattle.papaya_deeds.specs.Given.Schedules.Terms.{Terms, shards_of}
+use Rattle.papaya_grouped.specs.Given.Scenes.Scene.{slot_of}
+use Rattle.papaya_grouped.specs.Given.Acts.Doings.{Doing}
+use Rattle.papaya_grouped.specs.Given.Acts.Lists.{Course, LedTo, Reached}
+use Rattle.papaya_grouped.specs.Given.Agrees.Fresh.{MakesNew}
+use Rattle.papaya_grouped.specs.Given.Agrees.Places.{AsksMaps}
 use Rattle.papaya_deeds.specs.Deeds.{Entry}
 use Rattle.papaya_deeds.specs.History.{IsLinearizable, IsProtected, IsSwept, MovesOn}
-use Rattle.papaya_played.specs.Play.{State, first_state, play_all}
+use Rattle.papaya_grouped.specs.Given.Played.Play.{State, first_state, play_all}
 use Rattle.papaya_moves.specs.Own.{IsOfItsCall}
 
 -- An entry is linearizable, reclaims nothing that an open section may still look at, is swept, moves on, and is of its call.

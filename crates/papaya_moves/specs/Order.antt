@@ -1,18 +1,18 @@
 -- How all stays in order from entry to entry of a history.
 use Rattle.std.specs.Prelude.{◌≡◌, ℕ, List, ◌∷◌, Some}
 use Rattle.std.specs.List.{AllByRecursion}
-use Rattle.papaya_legal.specs.Given.Schedules.After.{AtEachEvent}
-use Rattle.papaya_legal.specs.Given.Schedules.Moment.{Moment, UnderWay as CallThere}
-use Rattle.papaya_legal.specs.Given.Schedules.Terms.{Terms}
-use Rattle.papaya_legal.specs.Given.Callers.Together.{UnderWay}
-use Rattle.papaya_legal.specs.Given.Finishes.Machines.{machine_of}
-use Rattle.papaya_legal.specs.Given.Finishes.Makings.{Beginning}
-use Rattle.papaya_legal.specs.Given.Finds.Within.{AllIsInOrder}
-use Rattle.papaya_legal.specs.Given.Named.Machines.{RefusedForRoom}
-use Rattle.papaya_legal.specs.Given.Scenes.Scene.{Scene}
+use Rattle.papaya_deeds.specs.Given.Schedules.After.{AtEachEvent}
+use Rattle.papaya_deeds.specs.Given.Schedules.Moment.{Moment, UnderWay as CallThere}
+use Rattle.papaya_deeds.specs.Given.Schedules.Terms.{Terms}
+use Rattle.papaya_grouped.specs.Given.Callers.Together.{UnderWay}
+use Rattle.papaya_grouped.specs.Given.Finishes.Machines.{machine_of}
+use Rattle.papaya_grouped.specs.Given.Finishes.Makings.{Beginning}
+use Rattle.papaya_swept.specs.Given.Finds.Within.{AllIsInOrder}
+use Rattle.papaya_grouped.specs.Given.Named.Machines.{RefusedForRoom}
+use Rattle.papaya_grouped.specs.Given.Scenes.Scene.{Scene}
 use Rattle.papaya_deeds.specs.Deeds.{Entry, moment, named}
-use Rattle.papaya_agrees.specs.Fresh.{AreNamed}
-use Rattle.papaya_linear.specs.Coming.{Comes}
+use Rattle.papaya_grouped.specs.Given.Agrees.Fresh.{AreNamed}
+use Rattle.papaya_swept.specs.Given.Linear.Coming.{Comes}
 use Rattle.papaya_moves.specs.Parts.{DoesIts}
 use Rattle.papaya_moves.specs.Finds.{FindsIts}
 use Rattle.papaya_moves.specs.Own.{IsOfItsCall}

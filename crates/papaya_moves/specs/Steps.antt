@@ -1,26 +1,26 @@
 -- What the moment of a history shows of calls, in the scene to which a list of acts has led, by which the effects of their next steps find what they must.
 use Rattle.std.specs.Prelude.{◌≡◌, ℕ, Bool, List, [], ◌∷◌, Some}
-use Rattle.papaya_legal.specs.Given.Tables.Lengths.{entries_of}
-use Rattle.papaya_legal.specs.Given.Schedules.After.{AtEachEvent}
-use Rattle.papaya_legal.specs.Given.Schedules.Effects.{AtEachEffect}
-use Rattle.papaya_legal.specs.Given.Schedules.Growing.{Has}
-use Rattle.papaya_legal.specs.Given.Schedules.Moment.{MapThere, Moment}
-use Rattle.papaya_legal.specs.Given.Schedules.Terms.{Terms, shards_of}
-use Rattle.papaya_legal.specs.Given.Schedules.Transition.{Past}
-use Rattle.papaya_legal.specs.Given.Schedules.Views.{map_at}
-use Rattle.papaya_legal.specs.Given.Runs.Present.{guard_of}
-use Rattle.papaya_legal.specs.Given.Callers.Together.{UnderWay, UnlessCounts}
-use Rattle.papaya_legal.specs.Given.Effects.Known.{Known}
-use Rattle.papaya_legal.specs.Given.Finishes.Makings.{Beginning}
-use Rattle.papaya_legal.specs.Given.Finds.Life.{StoresOne}
-use Rattle.papaya_legal.specs.Given.Finds.Within.{AllIsInOrder}
-use Rattle.papaya_legal.specs.Given.Grows.Finding.{ShowsFinding}
-use Rattle.papaya_legal.specs.Given.Grows.Nexts.{ShowsNexts}
-use Rattle.papaya_legal.specs.Given.Grows.Tries.{ShowsTries}
-use Rattle.papaya_legal.specs.Given.Scenes.Scene.{Scene, slot_of}
-use Rattle.papaya_legal.specs.Given.Grows.Given.Sources.Sources.{ShowsSources}
-use Rattle.papaya_agrees.specs.Guards.{CallsHaveGuards, guard_on}
-use Rattle.papaya_agrees.specs.Shards.{ShardsAre}
+use Rattle.papaya_deeds.specs.Given.Tables.Lengths.{entries_of}
+use Rattle.papaya_deeds.specs.Given.Schedules.After.{AtEachEvent}
+use Rattle.papaya_deeds.specs.Given.Schedules.Effects.{AtEachEffect}
+use Rattle.papaya_deeds.specs.Given.Schedules.Growing.{Has}
+use Rattle.papaya_deeds.specs.Given.Schedules.Moment.{MapThere, Moment}
+use Rattle.papaya_deeds.specs.Given.Schedules.Terms.{Terms, shards_of}
+use Rattle.papaya_deeds.specs.Given.Schedules.Transition.{Past}
+use Rattle.papaya_deeds.specs.Given.Schedules.Views.{map_at}
+use Rattle.papaya_deeds.specs.Given.Runs.Present.{guard_of}
+use Rattle.papaya_grouped.specs.Given.Callers.Together.{UnderWay, UnlessCounts}
+use Rattle.papaya_grouped.specs.Given.Effects.Known.{Known}
+use Rattle.papaya_grouped.specs.Given.Finishes.Makings.{Beginning}
+use Rattle.papaya_swept.specs.Given.Finds.Life.{StoresOne}
+use Rattle.papaya_swept.specs.Given.Finds.Within.{AllIsInOrder}
+use Rattle.papaya_swept.specs.Given.Grows.Finding.{ShowsFinding}
+use Rattle.papaya_swept.specs.Given.Grows.Nexts.{ShowsNexts}
+use Rattle.papaya_swept.specs.Given.Grows.Tries.{ShowsTries}
+use Rattle.papaya_grouped.specs.Given.Scenes.Scene.{Scene, slot_of}
+use Rattle.papaya_swept.specs.Given.Grows.Given.Sources.Sources.{ShowsSources}
+use Rattle.papaya_grouped.specs.Given.Agrees.Guards.{CallsHaveGuards, guard_on}
+use Rattle.papaya_grouped.specs.Given.Agrees.Shards.{ShardsAre}
 use Rattle.papaya_deeds.specs.Deeds.{Deed, Entry, Steps, moment, named}
 use Rattle.papaya_deeds.specs.History.{past, transition}
 use Rattle.papaya_swept.specs.Shown.{HasSwept}

@@ -3,3 +3,4 @@ pub mod Seen
 pub mod Machines
 pub mod Telling
 pub mod Places
+pub mod Given

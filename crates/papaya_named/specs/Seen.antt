@@ -1,16 +1,16 @@
 -- What is seen of calls and maps by name, in a moment of a run and in the scheduler.
 use Rattle.std.specs.Prelude.{◌≡◌, ℕ, Bool, true, false, not, ◌&&◌, List, find, position, Option, Some, None, option_map, slice_get, slice_index_or, if◌then◌else◌}
 use Rattle.std.specs.List.{list_any}
-use Rattle.papaya_follows.specs.Given.Tables.declared.setting.Setting.{Setting}
-use Rattle.papaya_runs.specs.Present.{Present, guard_of, living_slot}
-use Rattle.papaya_runs.specs.Same.{is_same}
-use Rattle.papaya_schedules.specs.declared.call.Call.{Call}
-use Rattle.papaya_schedules.specs.declared.call.Call.TheVariants.{On, Reserve, Clear, Retain, Len, Walk}
-use Rattle.papaya_schedules.specs.declared.call.OneKey.{OneKey}
-use Rattle.papaya_schedules.specs.declared.call.OneKey.TheVariants.{Get, GetKeyValue, ContainsKey, Insert, TryInsert, TryInsertWith, GetOrInsert, GetOrInsertWith, Update, UpdateOrInsert, UpdateOrInsertWith, Compute, Remove, RemoveEntry, RemoveIf}
-use Rattle.papaya_schedules.specs.declared.call.Reply.{Reply}
-use Rattle.papaya_schedules.specs.declared.call.Reply.TheVariants.{Gives, Decides}
-use Rattle.papaya_schedules.specs.Moment.{Stands, Going, Asking, Told, IsReady, UnderWay, MapThere}
+use Rattle.papaya_present.specs.Given.Tables.declared.setting.Setting.{Setting}
+use Rattle.papaya_present.specs.Given.Runs.Present.{Present, guard_of, living_slot}
+use Rattle.papaya_present.specs.Given.Runs.Same.{is_same}
+use Rattle.papaya_hands.specs.Given.Schedules.declared.call.Call.{Call}
+use Rattle.papaya_hands.specs.Given.Schedules.declared.call.Call.TheVariants.{On, Reserve, Clear, Retain, Len, Walk}
+use Rattle.papaya_hands.specs.Given.Schedules.declared.call.OneKey.{OneKey}
+use Rattle.papaya_hands.specs.Given.Schedules.declared.call.OneKey.TheVariants.{Get, GetKeyValue, ContainsKey, Insert, TryInsert, TryInsertWith, GetOrInsert, GetOrInsertWith, Update, UpdateOrInsert, UpdateOrInsertWith, Compute, Remove, RemoveEntry, RemoveIf}
+use Rattle.papaya_hands.specs.Given.Schedules.declared.call.Reply.{Reply}
+use Rattle.papaya_hands.specs.Given.Schedules.declared.call.Reply.TheVariants.{Gives, Decides}
+use Rattle.papaya_hands.specs.Given.Schedules.Moment.{Stands, Going, Asking, Told, IsReady, UnderWay, MapThere}
 use Rattle.papaya_named.specs.declared.caller.Caller.{Caller}
 use Rattle.papaya_named.specs.declared.caller.Stands.{Stands as HowFar}
 use Rattle.papaya_named.specs.declared.caller.Stands.TheVariants as far

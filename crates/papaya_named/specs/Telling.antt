@@ -1,19 +1,19 @@
 -- What a call is told to answer, by what its machine says.
 use Rattle.std.specs.Prelude.{ℕ, Bool, true, false, Option, Some, None}
-use Rattle.seize_words.specs.Word.{block_in}
-use Rattle.papaya_follows.specs.Given.Tables.declared.node.Node.{Node}
-use Rattle.papaya_follows.specs.Given.Tables.declared.node.Node.TheVariants as node
-use Rattle.papaya_raw.specs.declared.machines.answer.KeyAnswer.{KeyAnswer}
-use Rattle.papaya_raw.specs.declared.machines.answer.KeyAnswer.TheVariants as says
-use Rattle.papaya_raw.specs.declared.machines.progress.Answer.{Answer as Said}
-use Rattle.papaya_raw.specs.declared.machines.progress.Answer.TheVariants as said
-use Rattle.papaya_schedules.specs.declared.call.Answer.{Answer}
-use Rattle.papaya_schedules.specs.declared.call.Answer.TheVariants as answer
-use Rattle.papaya_schedules.specs.declared.outcome.Outcome.{Outcome}
-use Rattle.papaya_schedules.specs.declared.outcome.Outcome.TheVariants as outcome
-use Rattle.papaya_effects.specs.Known.{Known}
-use Rattle.papaya_effects.specs.declared.role.Role.{Role}
-use Rattle.papaya_effects.specs.declared.role.Role.TheVariants as role
+use Rattle.papaya_present.specs.Given.SeizeWords.Word.{block_in}
+use Rattle.papaya_present.specs.Given.Tables.declared.node.Node.{Node}
+use Rattle.papaya_present.specs.Given.Tables.declared.node.Node.TheVariants as node
+use Rattle.papaya_hands.specs.Given.Raw.declared.machines.answer.KeyAnswer.{KeyAnswer}
+use Rattle.papaya_hands.specs.Given.Raw.declared.machines.answer.KeyAnswer.TheVariants as says
+use Rattle.papaya_hands.specs.Given.Raw.declared.machines.progress.Answer.{Answer as Said}
+use Rattle.papaya_hands.specs.Given.Raw.declared.machines.progress.Answer.TheVariants as said
+use Rattle.papaya_hands.specs.Given.Schedules.declared.call.Answer.{Answer}
+use Rattle.papaya_hands.specs.Given.Schedules.declared.call.Answer.TheVariants as answer
+use Rattle.papaya_hands.specs.Given.Schedules.declared.outcome.Outcome.{Outcome}
+use Rattle.papaya_hands.specs.Given.Schedules.declared.outcome.Outcome.TheVariants as outcome
+use Rattle.papaya_hands.specs.Given.Effects.Known.{Known}
+use Rattle.papaya_hands.specs.Given.Effects.declared.role.Role.{Role}
+use Rattle.papaya_hands.specs.Given.Effects.declared.role.Role.TheVariants as role
 use Rattle.papaya_named.specs.declared.kind.Kind.{Kind}
 use Rattle.papaya_named.specs.declared.kind.Kind.TheVariants as kind
 use Rattle.papaya_named.specs.declared.callers.Keeps.{Keeps}

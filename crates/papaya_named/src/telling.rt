@@ -1,14 +1,14 @@
 //! What a call is told to have come to, by what its machine says.
 ghost use Rattle.std.specs.Prelude.{◌≡◌};
-ghost use Rattle.papaya_effects.specs.Known.{known};
+ghost use Rattle.papaya_hands.specs.Given.Effects.Known.{known};
 ghost use Rattle.papaya_named.specs.Telling.{answer_of, answer_on, aborted_with, number_by, occupied_by};
 
 use crate::kind::Kind;
-use papaya_effects::notes::Notes;
-use papaya_effects::role::Role;
-use papaya_raw::machines::{Answer as Said, KeyAnswer};
-use papaya_schedules::call::Answer;
-use seize_words::Link;
+use papaya_hands::papaya_effects::notes::Notes;
+use papaya_hands::papaya_effects::role::Role;
+use papaya_hands::papaya_raw::machines::{Answer as Said, KeyAnswer};
+use papaya_hands::papaya_schedules::call::Answer;
+use papaya_present::seize_words::Link;
 
 /// The number of the pair that a word links to.
 pub fn number_by(notes: &Notes, word: u64) -> u64

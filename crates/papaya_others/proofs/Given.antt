@@ -16,3 +16,6 @@ pub use Rattle.papaya_follows.proofs.Given.Finishes
 pub use Rattle.papaya_follows.proofs.Given.Runs
 pub use Rattle.papaya_follows.proofs.Given.Scenes
 pub use Rattle.papaya_follows.proofs as Follows
+pub use Rattle.papaya_follows.proofs.Given.Alone
+pub use Rattle.papaya_follows.proofs.Given.Reclaims
+pub use Rattle.papaya_follows.proofs.Given.SeizeReclaims

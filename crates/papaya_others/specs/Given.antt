@@ -22,3 +22,6 @@ pub use Rattle.papaya_follows.specs.Given.Schedules
 pub use Rattle.papaya_follows.specs.Given.Effects
 pub use Rattle.papaya_follows.specs.Given.Scenes
 pub use Rattle.papaya_follows.specs as Follows
+pub use Rattle.papaya_follows.specs.Given.Alone
+pub use Rattle.papaya_follows.specs.Given.Reclaims
+pub use Rattle.papaya_follows.specs.Given.SeizeReclaims

@@ -31,3 +31,4 @@ pub mod Ready
 pub mod Events
 pub mod Shapes
 pub mod Known
+pub mod Given

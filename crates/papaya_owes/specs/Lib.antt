@@ -9,3 +9,4 @@ pub mod Grown
 pub mod Looking
 pub mod Clear
 pub mod Events
+pub mod Given

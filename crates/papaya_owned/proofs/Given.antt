@@ -10,3 +10,11 @@ pub use Rattle.papaya_whole.proofs.Given.Waits
 pub use Rattle.papaya_whole.proofs.Given.Finishes
 pub use Rattle.papaya_whole.proofs.Given.Maps
 pub use Rattle.papaya_whole.proofs as Whole
+pub use Rattle.seize.proofs.Given.SeizeWords
+pub use Rattle.seize.proofs as Seize
+pub use Rattle.papaya_shown.proofs.Given.SeizeMoves
+pub use Rattle.papaya_shown.proofs as Shown
+pub use Rattle.papaya_shown.proofs.Given.SeizeWaiting
+pub use Rattle.papaya_whole.proofs.Given.SeizeSets
+pub use Rattle.papaya_whole.proofs.Given.SeizeEnds
+pub use Rattle.papaya_straight.proofs.Given.Tables

@@ -2,10 +2,10 @@
 use Rattle.std.specs.Prelude.{◌≡◌, ℕ, Bool, true, false, Ok, Option, Result}
 use Rattle.std.proofs.Common.{refl, sym, subst}
 use denote.Ref.{Bor}
-use Rattle.seize_words.specs.Mem.{Mem, Can, Took, value_at}
-use Rattle.seize_words.specs.Plan.{Plan, Steps}
-use Rattle.seize_words.specs.declared.fault.Fault.{Fault}
-use Rattle.seize_words.proofs.Plans.{may_as}
+use Rattle.seize.specs.Given.SeizeWords.Mem.{Mem, Can, Took, value_at}
+use Rattle.seize.specs.Given.SeizeWords.Plan.{Plan, Steps}
+use Rattle.seize.specs.Given.SeizeWords.declared.fault.Fault.{Fault}
+use Rattle.seize.proofs.Given.SeizeWords.Plans.{may_as}
 use Rattle.seize.proofs.StepsInto.{steps_into}
 use Rattle.seize.specs.declared.progress.Progress.{Progress}
 use Rattle.seize.specs.declared.progress.Progress.TheVariants as progress
@@ -15,24 +15,24 @@ use Rattle.seize.specs.declared.rows.leave.Leaving.TheVariants as leaving
 use Rattle.seize.specs.declared.rows.settle.Settle.{Settle}
 use Rattle.seize.specs.declared.rows.settle.Settled.{Settled}
 use Rattle.seize.specs.declared.rows.settle.Settled.TheVariants as settled
-use Rattle.papaya_tables.specs.Nodes.{deferred_word}
-use Rattle.papaya_tables.specs.declared.node.Node.{Node}
-use Rattle.papaya_tables.specs.declared.table.Table.{Table}
-use Rattle.papaya_resize.specs.Copier.{copier_plan}
-use Rattle.papaya_resize.specs.declared.copier.Copier.{Copier}
-use Rattle.papaya_resize.specs.declared.dispose.Dispose.{Dispose}
-use Rattle.papaya_resize.specs.declared.outcome.Outcome.{Outcome}
-use Rattle.papaya_resize.specs.declared.outcome.Outcome.TheVariants as outcome
-use Rattle.papaya_raw.specs.Call.{call_plan}
-use Rattle.papaya_raw.specs.declared.machines.answer.Called.{Called}
-use Rattle.papaya_raw.specs.declared.machines.answer.Called.TheVariants as called
-use Rattle.papaya_raw.specs.declared.machines.answer.KeyAnswer.{KeyAnswer}
-use Rattle.papaya_raw.specs.declared.machines.call.KeyCall.{KeyCall}
-use Rattle.seize_straight.specs.Going.{DropGoes, DropLeads, MayDrop}
+use Rattle.papaya_straight.specs.Given.Tables.Nodes.{deferred_word}
+use Rattle.papaya_straight.specs.Given.Tables.declared.node.Node.{Node}
+use Rattle.papaya_straight.specs.Given.Tables.declared.table.Table.{Table}
+use Rattle.papaya_shown.specs.Given.Resize.Copier.{copier_plan}
+use Rattle.papaya_shown.specs.Given.Resize.declared.copier.Copier.{Copier}
+use Rattle.papaya_shown.specs.Given.Resize.declared.dispose.Dispose.{Dispose}
+use Rattle.papaya_shown.specs.Given.Resize.declared.outcome.Outcome.{Outcome}
+use Rattle.papaya_shown.specs.Given.Resize.declared.outcome.Outcome.TheVariants as outcome
+use Rattle.papaya_straight.specs.Given.Raw.Call.{call_plan}
+use Rattle.papaya_straight.specs.Given.Raw.declared.machines.answer.Called.{Called}
+use Rattle.papaya_straight.specs.Given.Raw.declared.machines.answer.Called.TheVariants as called
+use Rattle.papaya_straight.specs.Given.Raw.declared.machines.answer.KeyAnswer.{KeyAnswer}
+use Rattle.papaya_straight.specs.Given.Raw.declared.machines.call.KeyCall.{KeyCall}
+use Rattle.papaya_straight.specs.Given.SeizeStraight.Going.{DropGoes, DropLeads, MayDrop}
 use Rattle.papaya_straight.specs.Going.{CallGoes, CopyGoes}
-use Rattle.seize_straight.specs.Runs as Straight
-use Rattle.seize_straight.specs.Runs.{MayRun}
-use Rattle.seize_straight.proofs.Running.{by_law}
+use Rattle.papaya_straight.specs.Given.SeizeStraight.Runs as Straight
+use Rattle.papaya_straight.specs.Given.SeizeStraight.Runs.{MayRun}
+use Rattle.papaya_straight.proofs.Given.SeizeStraight.Running.{by_law}
 use Rattle.papaya_owned.specs.Ending.{Ends, Leads, RunsTo, none_taken, one_more, stops}
 use Rattle.papaya_owned.specs.Inside.{has_ended, helping, retiring, takes_more}
 use Rattle.papaya_owned.specs.Machines.{on_call, on_key_after, on_key_plan, refreshes_after, refreshes_plan}

@@ -2,11 +2,11 @@
 use Rattle.std.specs.Prelude.{cond}
 use Rattle.std.proofs.Common.{◌≡◌, ℕ, zero, suc, Bool, true, false, List, [], ◌∷◌, ◌++◌, Some, refl, ap, sym, subst, ◌∙◌}
 use Rattle.std.proofs.lemmas.List.{append-nil}
-use Rattle.seize_words.specs.Mem.{Mem, value_at}
-use Rattle.papaya_tables.specs.Chunks.{is_incremental}
-use Rattle.papaya_tables.specs.declared.node.Node.{Node}
-use Rattle.papaya_tables.specs.declared.node.Node.TheVariants as node
-use Rattle.papaya_tables.specs.declared.setting.Setting.{Setting}
+use Rattle.seize.specs.Given.SeizeWords.Mem.{Mem, value_at}
+use Rattle.papaya_straight.specs.Given.Tables.Chunks.{is_incremental}
+use Rattle.papaya_straight.specs.Given.Tables.declared.node.Node.{Node}
+use Rattle.papaya_straight.specs.Given.Tables.declared.node.Node.TheVariants as node
+use Rattle.papaya_straight.specs.Given.Tables.declared.setting.Setting.{Setting}
 use Rattle.papaya_whole.specs.Given.Rule.Chart.{Chart}
 use Rattle.papaya_whole.specs.Given.Rule.Words.{Blocks}
 use Rattle.papaya_whole.specs.Given.Rule.Maps.{spot_of, IsMap}

@@ -1,14 +1,14 @@
 -- Calls on one key of one owner's map, from question to question, and how they stop.
 use Rattle.std.specs.Prelude.{ℕ, Bool, Option, None, Result, Ok, Err}
 use denote.Ref.{Bor}
-use Rattle.seize_words.specs.Mem.{Mem}
-use Rattle.seize_words.specs.declared.fault.Fault.{Fault}
-use Rattle.papaya_tables.specs.declared.node.Node.{Node}
-use Rattle.papaya_tables.specs.declared.setting.Setting.{Setting}
-use Rattle.papaya_raw.specs.CallAsks.{replied}
-use Rattle.papaya_raw.specs.declared.machines.answer.KeyAnswer.{KeyAnswer}
-use Rattle.papaya_raw.specs.declared.machines.asking.Reply.{Reply}
-use Rattle.papaya_raw.specs.declared.machines.call.KeyCall.{KeyCall}
+use Rattle.seize.specs.Given.SeizeWords.Mem.{Mem}
+use Rattle.seize.specs.Given.SeizeWords.declared.fault.Fault.{Fault}
+use Rattle.papaya_straight.specs.Given.Tables.declared.node.Node.{Node}
+use Rattle.papaya_straight.specs.Given.Tables.declared.setting.Setting.{Setting}
+use Rattle.papaya_straight.specs.Given.Raw.CallAsks.{replied}
+use Rattle.papaya_straight.specs.Given.Raw.declared.machines.answer.KeyAnswer.{KeyAnswer}
+use Rattle.papaya_straight.specs.Given.Raw.declared.machines.asking.Reply.{Reply}
+use Rattle.papaya_straight.specs.Given.Raw.declared.machines.call.KeyCall.{KeyCall}
 use Rattle.papaya_whole.specs.Given.Callers.Pairs.{Given}
 use Rattle.papaya_whole.specs.Given.Callers.Together.{IsBegun}
 use Rattle.papaya_owned.specs.Ending.{RunsTo}

@@ -2,7 +2,7 @@
 pub use Rattle.seize.specs as Seize
 pub use Rattle.papaya_whole.specs.Given.SeizeAlone
 pub use Rattle.papaya_whole.specs.Given.SeizeActs
-pub use Rattle.papaya_resize.specs as Resize
+pub use Rattle.papaya_shown.specs.Given.Resize
 pub use Rattle.papaya_whole.specs.Given.Sweeps
 pub use Rattle.papaya_whole.specs.Given.Reserves
 pub use Rattle.papaya_whole.specs.Given.Rule
@@ -14,3 +14,9 @@ pub use Rattle.papaya_whole.specs.Given.Waits
 pub use Rattle.papaya_whole.specs.Given.Alone
 pub use Rattle.papaya_whole.specs.Given.Maps
 pub use Rattle.papaya_whole.specs as Whole
+pub use Rattle.seize.specs.Given.SeizeWords
+pub use Rattle.papaya_straight.specs.Given.Tables
+pub use Rattle.papaya_straight.specs.Given.Raw
+pub use Rattle.papaya_whole.specs.Given.Finishes
+pub use Rattle.papaya_shown.specs.Given.SeizeWaiting
+pub use Rattle.papaya_whole.specs.Given.SeizeSets

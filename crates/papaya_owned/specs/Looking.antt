@@ -1,11 +1,11 @@
 -- A lookup in the map of one owner.
 use Rattle.std.specs.Prelude.{ℕ, Bool, Option}
-use Rattle.seize_words.specs.Mem.{Mem}
-use Rattle.papaya_tables.specs.declared.node.Node.{Node}
-use Rattle.papaya_tables.specs.declared.table.Table.{Table}
-use Rattle.papaya_tables.specs.declared.trial.Trial.{Trial}
-use Rattle.papaya_resize.specs.declared.lookup.Lookup.{Lookup}
-use Rattle.papaya_resize.specs.declared.lookup.Looking.TheVariants as at
+use Rattle.seize.specs.Given.SeizeWords.Mem.{Mem}
+use Rattle.papaya_straight.specs.Given.Tables.declared.node.Node.{Node}
+use Rattle.papaya_straight.specs.Given.Tables.declared.table.Table.{Table}
+use Rattle.papaya_straight.specs.Given.Tables.declared.trial.Trial.{Trial}
+use Rattle.papaya_shown.specs.Given.Resize.declared.lookup.Lookup.{Lookup}
+use Rattle.papaya_shown.specs.Given.Resize.declared.lookup.Looking.TheVariants as at
 use Rattle.papaya_whole.specs.Given.Rule.Chart.{Chart}
 use Rattle.papaya_whole.specs.Given.Rule.Words.{Blocks}
 use Rattle.papaya_whole.specs.Given.Rule.Maps.{IsClass, IsMap}

@@ -1,14 +1,14 @@
 -- Room for pairs in the map of one owner.
 use Rattle.std.specs.Prelude.{◌≡◌, ◌≢◌, ℕ, ◌<◌, ◌≤◌, ◌^◌, ◌⊎◌, ◌==◌, Bool, List, [], ◌∷◌, if◌then◌else◌, length, max, Result, Ok, Err, Some}
-use Rattle.seize_words.specs.Mem.{Mem, value_at, word_at}
-use Rattle.seize_words.specs.Word.{block_in}
-use Rattle.seize_words.specs.declared.at.At.TheVariants.{Root}
-use Rattle.seize_words.specs.declared.fault.Fault.{Fault}
-use Rattle.seize_words.specs.declared.fault.Fault.TheVariants.{Capacity, Memory}
-use Rattle.papaya_tables.specs.Lengths.{places_for}
-use Rattle.papaya_tables.specs.declared.node.Node.{Node}
-use Rattle.papaya_tables.specs.declared.node.Node.TheVariants as node
-use Rattle.papaya_tables.specs.declared.setting.Setting.{Setting}
+use Rattle.seize.specs.Given.SeizeWords.Mem.{Mem, value_at, word_at}
+use Rattle.seize.specs.Given.SeizeWords.Word.{block_in}
+use Rattle.seize.specs.Given.SeizeWords.declared.at.At.TheVariants.{Root}
+use Rattle.seize.specs.Given.SeizeWords.declared.fault.Fault.{Fault}
+use Rattle.seize.specs.Given.SeizeWords.declared.fault.Fault.TheVariants.{Capacity, Memory}
+use Rattle.papaya_straight.specs.Given.Tables.Lengths.{places_for}
+use Rattle.papaya_straight.specs.Given.Tables.declared.node.Node.{Node}
+use Rattle.papaya_straight.specs.Given.Tables.declared.node.Node.TheVariants as node
+use Rattle.papaya_straight.specs.Given.Tables.declared.setting.Setting.{Setting}
 use Rattle.papaya_shown.specs.Chain.{CannotGrowIn, CountsTables, root_link, shapes_on}
 use Rattle.papaya_whole.specs.Given.Reserves.Reserve.{needed}
 use Rattle.papaya_whole.specs.Given.Late.Faults.{IsRoom}

@@ -1,12 +1,12 @@
 -- What the tries of a lookup at one table come to.
 use Rattle.std.specs.Prelude.{◌≡◌, ◌≤◌, ℕ, Bool, true, false, Option, None, if◌then◌else◌}
-use Rattle.seize_words.specs.Mem.{Mem}
-use Rattle.papaya_tables.specs.Chunks.{is_incremental}
-use Rattle.papaya_tables.specs.declared.finding.Finding.{Finding}
-use Rattle.papaya_tables.specs.declared.finding.Finding.TheVariants as is
-use Rattle.papaya_tables.specs.declared.node.Node.{Node}
-use Rattle.papaya_tables.specs.declared.table.Table.{Table}
-use Rattle.papaya_resize.specs.declared.lookup.Lookup.{Lookup}
+use Rattle.seize.specs.Given.SeizeWords.Mem.{Mem}
+use Rattle.papaya_straight.specs.Given.Tables.Chunks.{is_incremental}
+use Rattle.papaya_straight.specs.Given.Tables.declared.finding.Finding.{Finding}
+use Rattle.papaya_straight.specs.Given.Tables.declared.finding.Finding.TheVariants as is
+use Rattle.papaya_straight.specs.Given.Tables.declared.node.Node.{Node}
+use Rattle.papaya_straight.specs.Given.Tables.declared.table.Table.{Table}
+use Rattle.papaya_shown.specs.Given.Resize.declared.lookup.Lookup.{Lookup}
 use Rattle.papaya_whole.specs.Given.Rule.Chart.{Chart}
 use Rattle.papaya_whole.specs.Given.Rule.Words.{Blocks}
 use Rattle.papaya_owned.specs.Looking.{LooksIn, Finds, at_next}

@@ -1,16 +1,16 @@
 //! Steps of the machines within a call on a key, several at once.
 ghost use Rattle.std.specs.Prelude.{◌≡◌, true, false};
-ghost use Rattle.seize_words.specs.Mem.{Mem, Took, value_at};
-ghost use Rattle.seize_words.specs.Plan.{Steps};
+ghost use Rattle.seize.specs.Given.SeizeWords.Mem.{Mem, Took, value_at};
+ghost use Rattle.seize.specs.Given.SeizeWords.Plan.{Steps};
 ghost use Rattle.seize.specs.declared.progress.Progress.TheVariants as progress;
-ghost use Rattle.papaya_resize.specs.Copier.{copier_plan};
-ghost use Rattle.papaya_resize.specs.declared.copier.Copier.{Copier};
-ghost use Rattle.papaya_resize.specs.declared.dispose.Dispose.{Dispose};
-ghost use Rattle.papaya_resize.specs.declared.dispose.Disposing.TheVariants as disposal;
-ghost use Rattle.papaya_tables.specs.declared.table.Table.{Table};
-ghost use Rattle.papaya_raw.specs.Call.{helped};
-ghost use Rattle.papaya_raw.specs.declared.machines.answer.KeyAnswer.{KeyAnswer};
-ghost use Rattle.papaya_raw.specs.declared.machines.call.Calling.TheVariants as at;
+ghost use Rattle.papaya_shown.specs.Given.Resize.Copier.{copier_plan};
+ghost use Rattle.papaya_shown.specs.Given.Resize.declared.copier.Copier.{Copier};
+ghost use Rattle.papaya_shown.specs.Given.Resize.declared.dispose.Dispose.{Dispose};
+ghost use Rattle.papaya_shown.specs.Given.Resize.declared.dispose.Disposing.TheVariants as disposal;
+ghost use Rattle.papaya_straight.specs.Given.Tables.declared.table.Table.{Table};
+ghost use Rattle.papaya_straight.specs.Given.Raw.Call.{helped};
+ghost use Rattle.papaya_straight.specs.Given.Raw.declared.machines.answer.KeyAnswer.{KeyAnswer};
+ghost use Rattle.papaya_straight.specs.Given.Raw.declared.machines.call.Calling.TheVariants as at;
 ghost use Rattle.papaya_owned.specs.Ending.{Ends, Leads, Strides};
 ghost use Rattle.papaya_owned.specs.Inside.{answered, has_ended, helping, retiring, takes_more};
 ghost use Rattle.papaya_owned.specs.Machines.{on_key_after, on_key_plan};
@@ -18,14 +18,14 @@ ghost use Rattle.papaya_owned.specs.declared.machines.OnKey.{OnKey};
 ghost use Rattle.papaya_owned.specs.declared.machines.Stop.TheVariants as stop;
 
 use crate::machines::{OnKey, Stop};
-use papaya_raw::Outcome;
-use papaya_raw::machines::{Calling, Copier, Dispose, Disposing, End, KeyAnswer};
 use papaya_straight::copy_places;
-use papaya_tables::{Equivalent, Hashes, Node, Table};
+use papaya_straight::papaya_raw::Outcome;
+use papaya_straight::papaya_raw::machines::{Calling, Copier, Dispose, Disposing, End, KeyAnswer};
+use papaya_straight::papaya_tables::{Equivalent, Hashes, Node, Table};
+use papaya_straight::seize_straight::reclaims;
 use seize::rows::{Settle, Settled};
+use seize::seize_words::Plain;
 use seize::{Machine, Progress};
-use seize_straight::reclaims;
-use seize_words::Plain;
 use std::hash::Hash;
 
 /// How many steps of a machine within a call are taken at once at most.

@@ -1,21 +1,21 @@
 //! Lookups that the owner of a map runs to their ends, over a memory that is only read.
 ghost use Rattle.std.specs.Prelude.{◌≡◌, ℕ, Option, Some, option_map};
-ghost use Rattle.seize_words.specs.Mem.{value_at};
-ghost use Rattle.seize_words.specs.Word.{block_in};
-ghost use Rattle.papaya_tables.specs.declared.node.Node.TheVariants as node;
+ghost use Rattle.seize.specs.Given.SeizeWords.Mem.{value_at};
+ghost use Rattle.seize.specs.Given.SeizeWords.Word.{block_in};
+ghost use Rattle.papaya_straight.specs.Given.Tables.declared.node.Node.TheVariants as node;
 ghost use Rattle.papaya_owned.specs.Ending.{Ends};
 ghost use Rattle.papaya_owned.specs.Looking.{LooksIn, Finds};
 ghost use Rattle.papaya_owned.specs.Owned.{IsShownAt, NamesAPair};
-ghost use Rattle.papaya_resize.specs.Lookup.{lookup_plan};
+ghost use Rattle.papaya_shown.specs.Given.Resize.Lookup.{lookup_plan};
 ghost use Rattle.papaya_whole.specs.Given.Rule.Chart.{Chart};
 ghost use Rattle.papaya_whole.specs.Given.Rule.Words.{Blocks};
 
 use crate::most_looks::MostLooks;
 use crate::tries::{Tried, tries};
-use papaya_raw::machines::{Looking, Lookup};
-use papaya_tables::{Equivalent, Node};
+use papaya_straight::papaya_raw::machines::{Looking, Lookup};
+use papaya_straight::papaya_tables::{Equivalent, Node};
 use seize::Progress;
-use seize_words::{Link, Look, Plain};
+use seize::seize_words::{Link, Look, Plain};
 use std::hash::Hash;
 use std::snapshot::Snapshot;
 

@@ -1,10 +1,10 @@
 //! How many steps a lookup may still take. Only proofs read it.
 ghost use Rattle.papaya_owned.specs.Within.{HasLeast, has_least_prop, within};
-ghost use Rattle.papaya_resize.specs.Lookup.{lookup_plan};
+ghost use Rattle.papaya_shown.specs.Given.Resize.Lookup.{lookup_plan};
 
-use papaya_raw::machines::Lookup;
-use papaya_tables::{Equivalent, Node};
-use seize_words::Plain;
+use papaya_straight::papaya_raw::machines::Lookup;
+use papaya_straight::papaya_tables::{Equivalent, Node};
+use seize::seize_words::Plain;
 use std::hash::Hash;
 use std::snapshot::Snapshot;
 

@@ -1,14 +1,14 @@
 //! Removals that the owner of a map runs to their ends.
-ghost use Rattle.papaya_raw.specs.CallPoints.{removing};
+ghost use Rattle.papaya_straight.specs.Given.Raw.CallPoints.{removing};
 ghost use Rattle.papaya_owned.specs.Ending.{Ends, RunsTo};
 ghost use Rattle.papaya_owned.specs.Machines.{on_call, on_key_plan};
 ghost use Rattle.papaya_owned.specs.declared.machines.OnKey.{OnKey as Running};
 
 use crate::machines::{OnKey, Stop};
 use crate::running::run_skimming;
+use papaya_straight::papaya_tables::{Equivalent, Hashes, Node, Setting};
 use papaya_straight::{Removed, removal_of, remove};
-use papaya_tables::{Equivalent, Hashes, Node, Setting};
-use seize_words::{Fault, Plain};
+use seize::seize_words::{Fault, Plain};
 use std::hash::Hash;
 
 /// Runs a removal to its end: as straight code, and as a machine from where that stops.

@@ -5,13 +5,13 @@ ghost use Rattle.papaya_whole.specs.Given.Reserves.Reserve.{reserving};
 ghost use Rattle.papaya_owned.specs.Machines.{for_room_plan};
 ghost use Rattle.papaya_owned.specs.Owned.{Holds};
 ghost use Rattle.papaya_owned.specs.Rooms.{NeedTooMany, RoomBy};
-ghost use Rattle.seize_words.specs.declared.fault.Fault.TheVariants.{Capacity};
+ghost use Rattle.seize.specs.Given.SeizeWords.declared.fault.Fault.TheVariants.{Capacity};
 
 use crate::machines::ForRoom;
 use crate::running::run;
-use papaya_raw::machines::Reserve;
-use papaya_tables::{Hashes, Node, Setting};
-use seize_words::{Fault, Plain};
+use papaya_straight::papaya_raw::machines::Reserve;
+use papaya_straight::papaya_tables::{Hashes, Node, Setting};
+use seize::seize_words::{Fault, Plain};
 use std::hash::Hash;
 
 /// Makes room for so many further pairs: the table of the root has as many places as they need, beside the pairs that are there. No pair changes.

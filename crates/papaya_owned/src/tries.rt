@@ -1,9 +1,9 @@
 //! The tries of a lookup at one table, one after another.
 ghost use Rattle.std.specs.Prelude.{◌≡◌, ℕ, true, IfSome, IsSome, is_some, option_map};
-ghost use Rattle.seize_words.specs.Mem.{Can, Took, value_at};
-ghost use Rattle.seize_words.specs.Plan.{May, Steps};
-ghost use Rattle.papaya_tables.specs.declared.node.Node.TheVariants as node;
-ghost use Rattle.papaya_resize.specs.Lookup.{lookup_plan, names_pair, told_of};
+ghost use Rattle.seize.specs.Given.SeizeWords.Mem.{Can, Took, value_at};
+ghost use Rattle.seize.specs.Given.SeizeWords.Plan.{May, Steps};
+ghost use Rattle.papaya_straight.specs.Given.Tables.declared.node.Node.TheVariants as node;
+ghost use Rattle.papaya_shown.specs.Given.Resize.Lookup.{lookup_plan, names_pair, told_of};
 ghost use Rattle.papaya_whole.specs.Given.Rule.Chart.{Chart};
 ghost use Rattle.papaya_whole.specs.Given.Rule.Words.{Blocks};
 ghost use Rattle.papaya_owned.specs.Looking.{LooksIn, at_try};
@@ -11,9 +11,9 @@ ghost use Rattle.papaya_owned.specs.Owned.{IsPairAt};
 ghost use Rattle.papaya_owned.specs.Tries.{IsMet, Nearer, TriesTo, is_there, tried_beyond};
 ghost use Rattle.papaya_owned.specs.Within.{within};
 
-use papaya_raw::machines::{Looking, Lookup};
-use papaya_tables::{Aim, Equivalent, Finding, Node, Table, Trial, may_be, seen};
-use seize_words::{Link, Look, Plain};
+use papaya_straight::papaya_raw::machines::{Looking, Lookup};
+use papaya_straight::papaya_tables::{Aim, Equivalent, Finding, Node, Table, Trial, may_be, seen};
+use seize::seize_words::{Link, Look, Plain};
 use std::hash::Hash;
 
 /// What the tries of a lookup at a table come to.

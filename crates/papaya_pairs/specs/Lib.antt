@@ -3,3 +3,4 @@ pub mod Equals
 pub mod Puts
 pub mod Each
 pub mod Elements
+pub mod Given

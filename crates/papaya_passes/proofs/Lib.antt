@@ -8,3 +8,4 @@ pub mod Rows
 pub mod Promised
 mod Samples
 pub mod Laws
+pub mod Given

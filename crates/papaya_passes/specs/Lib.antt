@@ -1,2 +1,3 @@
 pub mod Sweeps
 pub mod FallsSweeps
+pub mod Given

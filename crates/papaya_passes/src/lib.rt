@@ -2,3 +2,5 @@
 #![tactic(auto)]
 
 pub mod law;
+
+pub use papaya_falls::papaya_raw;

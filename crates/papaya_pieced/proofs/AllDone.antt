@@ -2,12 +2,12 @@
 use Rattle.std.specs.Prelude.{◌<◌, ◌⊎◌, ◌^◌, length, nat_lt, if◌then◌else◌}
 use Rattle.std.proofs.Common.{◌≡◌, ℕ, Bool, true, false, List, [], ◌∷◌, inl, inr, refl, sym, ap, subst, arith, ◌∙◌}
 use Rattle.std.proofs.lemmas.Bool.{ltb-false, ltb-true}
-use Rattle.papaya_scenes.specs.Given.Seize.ReclaimAll.{clearing, reclaiming_all}
-use Rattle.papaya_scenes.specs.Given.Seize.declared.rows.reclaim_all.ReclaimAll.{ReclaimAll}
-use Rattle.papaya_scenes.specs.Given.Seize.declared.rows.settle.Settled.{Settled}
-use Rattle.papaya_scenes.specs.Given.Seize.declared.rows.settle.Settled.TheVariants as settled
-use Rattle.papaya_scenes.specs.declared.callers.TheConstants.{SLOTS}
-use Rattle.papaya_scenes.specs.Scene.{slot_of}
+use Rattle.papaya_tables.specs.Given.Seize.ReclaimAll.{clearing, reclaiming_all}
+use Rattle.papaya_tables.specs.Given.Seize.declared.rows.reclaim_all.ReclaimAll.{ReclaimAll}
+use Rattle.papaya_tables.specs.Given.Seize.declared.rows.settle.Settled.{Settled}
+use Rattle.papaya_tables.specs.Given.Seize.declared.rows.settle.Settled.TheVariants as settled
+use Rattle.papaya_grouped.specs.Given.Scenes.declared.callers.TheConstants.{SLOTS}
+use Rattle.papaya_grouped.specs.Given.Scenes.Scene.{slot_of}
 use Rattle.papaya_schedules.specs.declared.effect.Effect.{Effect}
 use Rattle.papaya_schedules.specs.declared.event.Event.{Event}
 use Rattle.papaya_schedules.specs.declared.event.Event.TheVariants as events
@@ -16,25 +16,25 @@ use Rattle.papaya_schedules.specs.declared.outcome.Outcome.TheVariants as outcom
 use Rattle.papaya_schedules.specs.After.{moment}
 use Rattle.papaya_schedules.specs.Entry.{Entry}
 use Rattle.papaya_schedules.specs.Terms.{shards_of}
-use Rattle.papaya_scheduler.specs.Given.SeizeWords.declared.fault.Fault.TheVariants as fault
-use Rattle.papaya_scheduler.specs.Given.Effects.Known.{Known, known}
-use Rattle.papaya_scheduler.specs.Given.Executor.IsThere.{KeepsGiven}
-use Rattle.papaya_scheduler.specs.Given.Executor.declared.executor.Executor.{Executor}
-use Rattle.papaya_scheduler.specs.Given.Logged.Ends.{is_done}
-use Rattle.papaya_scheduler.specs.Given.Logged.Goes.{Far, ReclaimingGoes, ReclaimingGone, ReclaimingOn, far}
-use Rattle.papaya_scheduler.specs.Given.Logged.declared.logged.Logged.{Logged}
-use Rattle.papaya_scheduler.specs.Given.Reclaiming.Reclaiming.{NobodyHas}
-use Rattle.papaya_scheduler.specs.AllWorks.{WorksOnAll}
-use Rattle.papaya_scheduler.specs.Played.{entry_of}
-use Rattle.papaya_scheduler.specs.Reclaiming.{NotesSlots, are_gone}
-use Rattle.papaya_scheduler.specs.Works.{DidNothing}
-use Rattle.papaya_scheduler.specs.declared.played.Played.{Played}
-use Rattle.papaya_scheduler.specs.declared.scheduler.Scheduler.{Scheduler}
-use Rattle.papaya_mapping.proofs.AllGiven.{nobody_has}
-use Rattle.papaya_named.specs.declared.caller.Caller.{Caller}
-use Rattle.papaya_acts.specs.Lists.{Course}
+use Rattle.papaya_deeds.specs.Given.SeizeWords.declared.fault.Fault.TheVariants as fault
+use Rattle.papaya_events.specs.Given.Effects.Known.{Known, known}
+use Rattle.papaya_grouped.specs.Given.Executor.IsThere.{KeepsGiven}
+use Rattle.papaya_grouped.specs.Given.Executor.declared.executor.Executor.{Executor}
+use Rattle.papaya_events.specs.Given.Logged.Ends.{is_done}
+use Rattle.papaya_events.specs.Given.Logged.Goes.{Far, ReclaimingGoes, ReclaimingGone, ReclaimingOn, far}
+use Rattle.papaya_events.specs.Given.Logged.declared.logged.Logged.{Logged}
+use Rattle.papaya_grouped.specs.Given.Reclaiming.Reclaiming.{NobodyHas}
+use Rattle.papaya_events.specs.Given.Scheduler.AllWorks.{WorksOnAll}
+use Rattle.papaya_events.specs.Given.Scheduler.Played.{entry_of}
+use Rattle.papaya_events.specs.Given.Scheduler.Reclaiming.{NotesSlots, are_gone}
+use Rattle.papaya_events.specs.Given.Scheduler.Works.{DidNothing}
+use Rattle.papaya_events.specs.Given.Scheduler.declared.played.Played.{Played}
+use Rattle.papaya_events.specs.Given.Scheduler.declared.scheduler.Scheduler.{Scheduler}
+use Rattle.papaya_events.proofs.Given.Mapping.AllGiven.{nobody_has}
+use Rattle.papaya_events.specs.Given.Named.declared.caller.Caller.{Caller}
+use Rattle.papaya_grouped.specs.Given.Acts.Lists.{Course}
 use Rattle.papaya_deeds.specs.Deeds.{ReclaimsAll}
-use Rattle.papaya_played.specs.Play.{State, settled_outcome}
+use Rattle.papaya_grouped.specs.Given.Played.Play.{State, settled_outcome}
 use Rattle.papaya_grouped.specs.Called.{PlaysSo}
 use Rattle.papaya_grouped.specs.Grouping.{MayHave, Names, refuses}
 use Rattle.papaya_grouped.specs.Reach.{LeadsTo, Reach}

@@ -3,24 +3,24 @@ use Rattle.std.specs.Prelude.{◌≤◌, ◌==◌, Option, Some, None, option_ma
 use Rattle.std.specs.List.{remove}
 use Rattle.std.proofs.Common.{◌≡◌, ℕ, Bool, true, false, List, refl, sym, ap, subst, arith, ◌∙◌}
 use Rattle.std.proofs.lemmas.Bool.{eq-eqb}
-use Rattle.papaya_scenes.specs.Given.SeizeWords.Mem.{Mem}
-use Rattle.papaya_scenes.specs.Given.Tables.declared.node.Node.{Node}
-use Rattle.papaya_scenes.specs.Given.Raw.declared.machines.machine.Machine.{Machine}
-use Rattle.papaya_scenes.specs.Given.Raw.declared.machines.progress.Progress.{Progress}
-use Rattle.papaya_scenes.specs.Given.Raw.declared.machines.progress.Progress.TheVariants as progress
-use Rattle.papaya_scenes.specs.Given.Teller.declared.changed.Changed.{Changed}
-use Rattle.papaya_scenes.specs.Stepping.{has_ended}
-use Rattle.papaya_scheduler.specs.Given.Effects.Known.{Known}
-use Rattle.papaya_named.specs.Seen.{kind_of}
-use Rattle.papaya_named.specs.declared.caller.Caller.{Caller}
-use Rattle.papaya_named.specs.declared.caller.Stands.{Stands as HowFar}
-use Rattle.papaya_named.specs.declared.caller.Stands.TheVariants as far
-use Rattle.papaya_named.specs.declared.kind.Kind.{Kind}
-use Rattle.papaya_named.specs.Telling.{kept, number_by}
-use Rattle.papaya_played.specs.Play.{Calling, State, call_stepped, going, keeps}
-use Rattle.papaya_played.specs.Play as play
-use Rattle.papaya_stepping.specs.Stepping.{caller_then, callers_then}
-use Rattle.papaya_stepping.specs.Stepping as stepping
+use Rattle.papaya_deeds.specs.Given.SeizeWords.Mem.{Mem}
+use Rattle.papaya_tables.specs.declared.node.Node.{Node}
+use Rattle.papaya_raw.specs.declared.machines.machine.Machine.{Machine}
+use Rattle.papaya_raw.specs.declared.machines.progress.Progress.{Progress}
+use Rattle.papaya_raw.specs.declared.machines.progress.Progress.TheVariants as progress
+use Rattle.papaya_grouped.specs.Given.Teller.declared.changed.Changed.{Changed}
+use Rattle.papaya_grouped.specs.Given.Scenes.Stepping.{has_ended}
+use Rattle.papaya_events.specs.Given.Effects.Known.{Known}
+use Rattle.papaya_events.specs.Given.Named.Seen.{kind_of}
+use Rattle.papaya_events.specs.Given.Named.declared.caller.Caller.{Caller}
+use Rattle.papaya_events.specs.Given.Named.declared.caller.Stands.{Stands as HowFar}
+use Rattle.papaya_events.specs.Given.Named.declared.caller.Stands.TheVariants as far
+use Rattle.papaya_events.specs.Given.Named.declared.kind.Kind.{Kind}
+use Rattle.papaya_events.specs.Given.Named.Telling.{kept, number_by}
+use Rattle.papaya_grouped.specs.Given.Played.Play.{Calling, State, call_stepped, going, keeps}
+use Rattle.papaya_grouped.specs.Given.Played.Play as play
+use Rattle.papaya_events.specs.Given.Stepping.Stepping.{caller_then, callers_then}
+use Rattle.papaya_events.specs.Given.Stepping.Stepping as stepping
 use Rattle.papaya_grouped.specs.Grouping.{Names}
 use Rattle.papaya_grouped.specs.Called.{CallersAre, IsCalledAs}
 use Rattle.papaya_grouped.proofs.Callers.{call_beside, call_here, remove_one, removed_count, set_count, set_one}

@@ -1,14 +1,14 @@
 -- A run that stands where a list of acts has led is by acts; and there is a course, where each hasher gives keys lawful hashes.
 use Rattle.std.specs.Prelude.{◌<◌, ◌^◌}
 use Rattle.std.proofs.Common.{ℕ, Bool, List, subst}
-use Rattle.papaya_scenes.specs.Given.Points.Steps.{AreLawful}
-use Rattle.papaya_scenes.specs.Scene.{slot_of}
+use Rattle.papaya_events.specs.Given.Points.Steps.{AreLawful}
+use Rattle.papaya_grouped.specs.Given.Scenes.Scene.{slot_of}
 use Rattle.papaya_schedules.specs.Entry.{Entry}
 use Rattle.papaya_schedules.specs.Terms.{Terms}
-use Rattle.papaya_scheduler.specs.Given.Logged.declared.logged.Logged.{Logged}
-use Rattle.papaya_named.specs.declared.caller.Caller.{Caller}
-use Rattle.papaya_acts.specs.Lists.{Course}
-use Rattle.papaya_acts.proofs.Lists.{lists_determine}
+use Rattle.papaya_events.specs.Given.Logged.declared.logged.Logged.{Logged}
+use Rattle.papaya_events.specs.Given.Named.declared.caller.Caller.{Caller}
+use Rattle.papaya_grouped.specs.Given.Acts.Lists.{Course}
+use Rattle.papaya_grouped.proofs.Given.Acts.Lists.{lists_determine}
 use Rattle.papaya_grouped.specs.ByActs.{IsByActs}
 use Rattle.papaya_pieced.specs.SoFar.{ActsSoFar}
 

@@ -16,3 +16,4 @@ pub mod Made
 pub mod AllDone
 pub mod First
 pub mod Last
+pub mod Given

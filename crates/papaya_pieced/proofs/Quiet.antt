@@ -5,12 +5,12 @@ use Rattle.papaya_schedules.specs.declared.event.Event.{Event}
 use Rattle.papaya_schedules.specs.After.{moment}
 use Rattle.papaya_schedules.specs.Entry.{Entry}
 use Rattle.papaya_schedules.specs.Terms.{Terms}
-use Rattle.papaya_named.specs.declared.caller.Caller.{Caller}
-use Rattle.papaya_scheduler.specs.Given.Executor.IsThere.{KeepsGiven}
-use Rattle.papaya_scheduler.specs.Given.Logged.declared.logged.Logged.{Logged}
-use Rattle.papaya_scheduler.specs.Played.{entry_of}
-use Rattle.papaya_scheduler.specs.declared.played.Played.{Played}
-use Rattle.papaya_scheduler.specs.declared.scheduler.Scheduler.{Scheduler}
+use Rattle.papaya_events.specs.Given.Named.declared.caller.Caller.{Caller}
+use Rattle.papaya_grouped.specs.Given.Executor.IsThere.{KeepsGiven}
+use Rattle.papaya_events.specs.Given.Logged.declared.logged.Logged.{Logged}
+use Rattle.papaya_events.specs.Given.Scheduler.Played.{entry_of}
+use Rattle.papaya_events.specs.Given.Scheduler.declared.played.Played.{Played}
+use Rattle.papaya_events.specs.Given.Scheduler.declared.scheduler.Scheduler.{Scheduler}
 use Rattle.papaya_grouped.proofs.Midst.{maps_of}
 use Rattle.papaya_pieced.specs.SoFar.{ActsSoFar, GoesOnByActs}
 use Rattle.papaya_grouped.specs.Grouping.{MayRest}

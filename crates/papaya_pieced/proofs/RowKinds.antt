@@ -2,48 +2,48 @@
 use Rattle.std.specs.Prelude.{◌+◌, ◌==◌, Option, Some, None, Ok, Err, option_map, nat_lt, if◌then◌else◌}
 use Rattle.std.proofs.Common.{◌≡◌, ℕ, Bool, true, false, List, refl, sym, ap, subst, ◌∙◌}
 use Rattle.papaya_runs.specs.Present.{Present, guard_of, has_registration, living_slot, registration_of, guards_on}
-use Rattle.papaya_scenes.specs.Given.SeizeWords.Mem.{Mem, Took, value_at}
-use Rattle.papaya_scenes.specs.Given.SeizeWords.Op.{Out, Found, Exchanged, Roomed}
-use Rattle.papaya_scenes.specs.Given.SeizeWords.Plan.{Steps}
-use Rattle.papaya_scenes.specs.Given.SeizeWords.declared.fault.Fault.TheVariants.{SlotsUsedUp}
-use Rattle.papaya_scenes.specs.Given.Seize.Leave as leave
-use Rattle.papaya_scenes.specs.Given.Seize.Register as register
-use Rattle.papaya_scenes.specs.Given.Seize.Settle.{settle_plan}
-use Rattle.papaya_scenes.specs.Given.Seize.declared.progress.Progress.{Progress}
-use Rattle.papaya_scenes.specs.Given.Seize.declared.rows.leave.Leave.{Leave}
-use Rattle.papaya_scenes.specs.Given.Seize.declared.rows.leave.Leaving.{Leaving}
-use Rattle.papaya_scenes.specs.Given.Seize.declared.rows.leave.Leaving.TheVariants as leaves
-use Rattle.papaya_scenes.specs.Given.Seize.declared.rows.register.Register.{Register}
-use Rattle.papaya_scenes.specs.Given.Seize.declared.rows.register.Registering.{Registering}
-use Rattle.papaya_scenes.specs.Given.Seize.declared.rows.register.Registering.TheVariants as registers
-use Rattle.papaya_scenes.specs.Given.Seize.declared.rows.settle.Settle.{Settle}
-use Rattle.papaya_scenes.specs.Given.Seize.declared.rows.settle.Settled.{Settled}
-use Rattle.papaya_scenes.specs.Given.Seize.declared.rows.settle.Settled.TheVariants as settled
-use Rattle.papaya_scenes.specs.Given.Seize.declared.states.TheConstants.{ACTIVE, IDLE, LAST_SLOT}
-use Rattle.papaya_scenes.specs.Given.Tables.Nodes.{deferred_word}
-use Rattle.papaya_scenes.specs.Given.Tables.declared.node.Node.{Node}
-use Rattle.papaya_scenes.specs.Given.Teller.declared.changed.Changed.{Changed}
-use Rattle.papaya_scenes.specs.Given.Teller.declared.changed.Changed.TheVariants.{Nothing}
-use Rattle.papaya_scenes.specs.Given.Callers.Rows.{IsRowOn}
-use Rattle.papaya_scenes.proofs.Told.{as_step}
-use Rattle.papaya_scenes.specs.OnSlots.{RowSteps}
-use Rattle.papaya_scenes.specs.Rows.{begun_row}
-use Rattle.papaya_scenes.specs.Scene.{row_of}
-use Rattle.papaya_scenes.specs.declared.row.RowTold.{RowTold}
-use Rattle.papaya_scenes.specs.declared.row.SlotCall.{SlotCall}
-use Rattle.papaya_scenes.specs.declared.row.SlotCall.TheVariants as call
-use Rattle.papaya_scenes.specs.declared.row.SlotRow.{SlotRow}
-use Rattle.papaya_scenes.specs.declared.row.SlotRow.TheVariants as rows
+use Rattle.papaya_deeds.specs.Given.SeizeWords.Mem.{Mem, Took, value_at}
+use Rattle.papaya_deeds.specs.Given.SeizeWords.Op.{Out, Found, Exchanged, Roomed}
+use Rattle.papaya_deeds.specs.Given.SeizeWords.Plan.{Steps}
+use Rattle.papaya_deeds.specs.Given.SeizeWords.declared.fault.Fault.TheVariants.{SlotsUsedUp}
+use Rattle.papaya_tables.specs.Given.Seize.Leave as leave
+use Rattle.papaya_tables.specs.Given.Seize.Register as register
+use Rattle.papaya_tables.specs.Given.Seize.Settle.{settle_plan}
+use Rattle.papaya_tables.specs.Given.Seize.declared.progress.Progress.{Progress}
+use Rattle.papaya_tables.specs.Given.Seize.declared.rows.leave.Leave.{Leave}
+use Rattle.papaya_tables.specs.Given.Seize.declared.rows.leave.Leaving.{Leaving}
+use Rattle.papaya_tables.specs.Given.Seize.declared.rows.leave.Leaving.TheVariants as leaves
+use Rattle.papaya_tables.specs.Given.Seize.declared.rows.register.Register.{Register}
+use Rattle.papaya_tables.specs.Given.Seize.declared.rows.register.Registering.{Registering}
+use Rattle.papaya_tables.specs.Given.Seize.declared.rows.register.Registering.TheVariants as registers
+use Rattle.papaya_tables.specs.Given.Seize.declared.rows.settle.Settle.{Settle}
+use Rattle.papaya_tables.specs.Given.Seize.declared.rows.settle.Settled.{Settled}
+use Rattle.papaya_tables.specs.Given.Seize.declared.rows.settle.Settled.TheVariants as settled
+use Rattle.papaya_tables.specs.Given.Seize.declared.states.TheConstants.{ACTIVE, IDLE, LAST_SLOT}
+use Rattle.papaya_tables.specs.Nodes.{deferred_word}
+use Rattle.papaya_tables.specs.declared.node.Node.{Node}
+use Rattle.papaya_grouped.specs.Given.Teller.declared.changed.Changed.{Changed}
+use Rattle.papaya_grouped.specs.Given.Teller.declared.changed.Changed.TheVariants.{Nothing}
+use Rattle.papaya_events.specs.Given.Callers.Rows.{IsRowOn}
+use Rattle.papaya_grouped.proofs.Given.Scenes.Told.{as_step}
+use Rattle.papaya_grouped.specs.Given.Scenes.OnSlots.{RowSteps}
+use Rattle.papaya_grouped.specs.Given.Scenes.Rows.{begun_row}
+use Rattle.papaya_grouped.specs.Given.Scenes.Scene.{row_of}
+use Rattle.papaya_grouped.specs.Given.Scenes.declared.row.RowTold.{RowTold}
+use Rattle.papaya_grouped.specs.Given.Scenes.declared.row.SlotCall.{SlotCall}
+use Rattle.papaya_grouped.specs.Given.Scenes.declared.row.SlotCall.TheVariants as call
+use Rattle.papaya_grouped.specs.Given.Scenes.declared.row.SlotRow.{SlotRow}
+use Rattle.papaya_grouped.specs.Given.Scenes.declared.row.SlotRow.TheVariants as rows
 use Rattle.papaya_schedules.specs.declared.event.Event.{Event}
 use Rattle.papaya_schedules.specs.declared.event.Event.TheVariants as event
 use Rattle.papaya_schedules.specs.Moment.{Moment}
-use Rattle.papaya_scheduler.proofs.Given.SeizeEnds.Batches.Free.{Outcomes, PlanOutcomes, if_outcome, plan_outcome}
-use Rattle.papaya_scheduler.proofs.Given.SeizeRule.Rows.Leaving.{steps_back}
-use Rattle.papaya_scheduler.specs.Works.{IsAbout, IsItsRow, HasNoRow}
-use Rattle.papaya_scheduler.specs.declared.scheduler.Scheduler.{Scheduler}
-use Rattle.papaya_named.specs.Seen.{free_slot}
+use Rattle.papaya_events.proofs.Given.SeizeEnds.Batches.Free.{Outcomes, PlanOutcomes, if_outcome, plan_outcome}
+use Rattle.papaya_grouped.proofs.Given.SeizeRule.Rows.Leaving.{steps_back}
+use Rattle.papaya_events.specs.Given.Scheduler.Works.{IsAbout, IsItsRow, HasNoRow}
+use Rattle.papaya_events.specs.Given.Scheduler.declared.scheduler.Scheduler.{Scheduler}
+use Rattle.papaya_events.specs.Given.Named.Seen.{free_slot}
 use Rattle.papaya_deeds.specs.Deeds.{Leaves, Opens}
-use Rattle.papaya_played.specs.Play.{leaves_as, registers_as, row_deed}
+use Rattle.papaya_grouped.specs.Given.Played.Play.{leaves_as, registers_as, row_deed}
 use Rattle.papaya_grouped.specs.Grouping.{MayHave, Names, IsShared}
 use Rattle.papaya_pieced.specs.RowFor.{IsRowFor}
 

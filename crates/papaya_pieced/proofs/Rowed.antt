@@ -1,15 +1,15 @@
 -- An event by which a row runs on a slot: the list of acts goes on where the row begins, and by each of its steps.
 use Rattle.std.specs.Prelude.{◌⊎◌, Option, Some}
 use Rattle.std.proofs.Common.{◌≡◌, ℕ, Bool, true, false, List, [], ◌∷◌, inl, inr, refl, sym, ap, subst, ◌∙◌}
-use Rattle.papaya_scenes.specs.Given.Tables.declared.node.Node.{Node}
-use Rattle.papaya_scenes.specs.Given.Callers.Rows.{IsRowOn}
-use Rattle.papaya_scenes.proofs.NoCall.{none_is}
-use Rattle.papaya_scenes.specs.Scene.{row_of, slot_of}
-use Rattle.papaya_scenes.specs.declared.row.RowTold.{RowTold}
-use Rattle.papaya_scenes.specs.declared.row.RowTold.TheVariants as told
-use Rattle.papaya_scenes.specs.declared.row.SlotCall.{SlotCall}
-use Rattle.papaya_scenes.specs.declared.row.SlotCall.TheVariants as call
-use Rattle.papaya_scenes.specs.declared.row.SlotRow.{SlotRow}
+use Rattle.papaya_tables.specs.declared.node.Node.{Node}
+use Rattle.papaya_events.specs.Given.Callers.Rows.{IsRowOn}
+use Rattle.papaya_grouped.proofs.Given.Scenes.NoCall.{none_is}
+use Rattle.papaya_grouped.specs.Given.Scenes.Scene.{row_of, slot_of}
+use Rattle.papaya_grouped.specs.Given.Scenes.declared.row.RowTold.{RowTold}
+use Rattle.papaya_grouped.specs.Given.Scenes.declared.row.RowTold.TheVariants as told
+use Rattle.papaya_grouped.specs.Given.Scenes.declared.row.SlotCall.{SlotCall}
+use Rattle.papaya_grouped.specs.Given.Scenes.declared.row.SlotCall.TheVariants as call
+use Rattle.papaya_grouped.specs.Given.Scenes.declared.row.SlotRow.{SlotRow}
 use Rattle.papaya_schedules.specs.declared.effect.Effect.{Effect}
 use Rattle.papaya_schedules.specs.declared.event.Event.{Event}
 use Rattle.papaya_schedules.specs.declared.event.Event.TheVariants as event
@@ -18,31 +18,31 @@ use Rattle.papaya_schedules.specs.declared.outcome.Outcome.TheVariants as outcom
 use Rattle.papaya_schedules.specs.After.{moment}
 use Rattle.papaya_schedules.specs.Entry.{Entry}
 use Rattle.papaya_schedules.specs.Terms.{Terms, shards_of}
-use Rattle.papaya_scheduler.specs.Given.SeizeWords.declared.fault.Fault.{Fault}
-use Rattle.papaya_scheduler.specs.Given.SeizeWords.declared.fault.Fault.TheVariants.{Memory, SlotsUsedUp}
-use Rattle.papaya_scheduler.specs.Given.Effects.Known.{Known, known}
-use Rattle.papaya_scheduler.specs.Given.Executor.IsThere.{KeepsGiven, work_of}
-use Rattle.papaya_scheduler.specs.Given.Executor.OnSlots.{MayBegin, row_on}
-use Rattle.papaya_scheduler.specs.Given.Executor.declared.worker.Work.{Work}
-use Rattle.papaya_scheduler.specs.Given.Executor.declared.worker.Work.TheVariants.{OnSlot}
-use Rattle.papaya_scheduler.specs.Given.Logged.Goes.{Far, RowGoes, RowGone, far}
-use Rattle.papaya_scheduler.specs.Given.Logged.declared.logged.Logged.{Logged}
-use Rattle.papaya_scheduler.specs.Played.{IsDue, IsPlayed, entry_of}
-use Rattle.papaya_scheduler.specs.Works.{ComesBy, DidNothing, HasNoRow, IsAbout, IsItsRow, WorksOnSlot, told_so}
-use Rattle.papaya_scheduler.specs.declared.played.Played.{Played}
-use Rattle.papaya_scheduler.specs.declared.scheduler.Scheduler.{Scheduler}
-use Rattle.papaya_scheduler.proofs.Drops as drops
-use Rattle.papaya_scheduler.proofs.Enters as enters
-use Rattle.papaya_scheduler.proofs.Flushes as flushes
-use Rattle.papaya_scheduler.proofs.Refreshes as refreshes
-use Rattle.papaya_scheduler.proofs.SlotTaken as taking
-use Rattle.papaya_scheduler.proofs.Unregisters as unregisters
-use Rattle.papaya_rows.specs.Rows.{RowRan}
-use Rattle.papaya_scheduler.proofs.Given.Rows.NeverWaits.{done_alone}
-use Rattle.papaya_scheduler.proofs.Given.Rows.Ran.{done_once}
-use Rattle.papaya_named.specs.declared.caller.Caller.{Caller}
-use Rattle.papaya_acts.specs.Lists.{Course}
-use Rattle.papaya_played.specs.Play.{State, row_outcome}
+use Rattle.papaya_deeds.specs.Given.SeizeWords.declared.fault.Fault.{Fault}
+use Rattle.papaya_deeds.specs.Given.SeizeWords.declared.fault.Fault.TheVariants.{Memory, SlotsUsedUp}
+use Rattle.papaya_events.specs.Given.Effects.Known.{Known, known}
+use Rattle.papaya_grouped.specs.Given.Executor.IsThere.{KeepsGiven, work_of}
+use Rattle.papaya_grouped.specs.Given.Executor.OnSlots.{MayBegin, row_on}
+use Rattle.papaya_grouped.specs.Given.Executor.declared.worker.Work.{Work}
+use Rattle.papaya_grouped.specs.Given.Executor.declared.worker.Work.TheVariants.{OnSlot}
+use Rattle.papaya_events.specs.Given.Logged.Goes.{Far, RowGoes, RowGone, far}
+use Rattle.papaya_events.specs.Given.Logged.declared.logged.Logged.{Logged}
+use Rattle.papaya_events.specs.Given.Scheduler.Played.{IsDue, IsPlayed, entry_of}
+use Rattle.papaya_events.specs.Given.Scheduler.Works.{ComesBy, DidNothing, HasNoRow, IsAbout, IsItsRow, WorksOnSlot, told_so}
+use Rattle.papaya_events.specs.Given.Scheduler.declared.played.Played.{Played}
+use Rattle.papaya_events.specs.Given.Scheduler.declared.scheduler.Scheduler.{Scheduler}
+use Rattle.papaya_events.proofs.Given.Scheduler.Drops as drops
+use Rattle.papaya_events.proofs.Given.Scheduler.Enters as enters
+use Rattle.papaya_events.proofs.Given.Scheduler.Flushes as flushes
+use Rattle.papaya_events.proofs.Given.Scheduler.Refreshes as refreshes
+use Rattle.papaya_events.proofs.Given.Scheduler.SlotTaken as taking
+use Rattle.papaya_events.proofs.Given.Scheduler.Unregisters as unregisters
+use Rattle.papaya_events.specs.Given.Rows.Rows.{RowRan}
+use Rattle.papaya_events.proofs.Given.Rows.NeverWaits.{done_alone}
+use Rattle.papaya_events.proofs.Given.Rows.Ran.{done_once}
+use Rattle.papaya_events.specs.Given.Named.declared.caller.Caller.{Caller}
+use Rattle.papaya_grouped.specs.Given.Acts.Lists.{Course}
+use Rattle.papaya_grouped.specs.Given.Played.Play.{State, row_outcome}
 use Rattle.papaya_grouped.specs.Called.{PlaysSo}
 use Rattle.papaya_grouped.specs.Reach.{Reach}
 use Rattle.papaya_grouped.proofs.Midst.{InEvent, event_begins, event_ends, maps_of, at_rest}

@@ -2,12 +2,12 @@
 use Rattle.std.specs.Prelude.{◌≤◌, ◌==◌, ◌+◌, ◌⊎◌, Some, option_map, length, slice_get, if◌then◌else◌}
 use Rattle.std.proofs.Common.{◌≡◌, ℕ, Bool, true, false, List, [], ◌∷◌, inl, inr, refl, sym, ap, subst, arith, ◌∙◌}
 use Rattle.std.proofs.lemmas.Bool.{eq-eqb}
-use Rattle.seize_acts.proofs.Answers.{same_some}
-use Rattle.papaya_scenes.specs.Given.Raw.Machine.{machine_asked}
-use Rattle.papaya_scenes.specs.Given.Raw.declared.machines.machine.Machine.{Machine}
-use Rattle.papaya_scenes.specs.Given.Finishes.Machines.{machine_of}
-use Rattle.papaya_scenes.specs.Replying.{unless_stopped}
-use Rattle.papaya_scenes.specs.Scene.{Scene, slot_of}
+use Rattle.papaya_events.proofs.Given.SeizeActs.Answers.{same_some}
+use Rattle.papaya_raw.specs.Machine.{machine_asked}
+use Rattle.papaya_raw.specs.declared.machines.machine.Machine.{Machine}
+use Rattle.papaya_events.specs.Given.Finishes.Machines.{machine_of}
+use Rattle.papaya_grouped.specs.Given.Scenes.Replying.{unless_stopped}
+use Rattle.papaya_grouped.specs.Given.Scenes.Scene.{Scene, slot_of}
 use Rattle.papaya_schedules.specs.declared.event.Event.TheVariants as event
 use Rattle.papaya_schedules.specs.declared.effect.Effect.{Effect}
 use Rattle.papaya_schedules.specs.declared.outcome.Outcome.{Outcome}
@@ -15,28 +15,28 @@ use Rattle.papaya_schedules.specs.declared.outcome.Outcome.TheVariants as outcom
 use Rattle.papaya_schedules.specs.After.{moment}
 use Rattle.papaya_schedules.specs.Entry.{Entry}
 use Rattle.papaya_schedules.specs.Terms.{Terms, shards_of}
-use Rattle.papaya_scheduler.specs.Given.SeizeWords.declared.fault.Fault.TheVariants as fault
-use Rattle.papaya_scheduler.specs.Given.Effects.Known.{known}
-use Rattle.papaya_scheduler.specs.Given.Executor.IsThere.{IsThere, KeepsGiven, StaysGiven}
-use Rattle.papaya_scheduler.specs.Given.Executor.Replying.{StopsThere}
-use Rattle.papaya_scheduler.specs.Given.Executor.declared.executor.Executor.{Executor}
-use Rattle.papaya_scheduler.specs.Played.{HasStopped, IsPlayed, Stops as GivesUp, entry_of}
-use Rattle.papaya_scheduler.specs.declared.played.Played.{Played}
-use Rattle.papaya_scheduler.specs.declared.scheduler.Scheduler.{Scheduler}
-use Rattle.papaya_scheduler.proofs.Here.{here_at, read_here}
-use Rattle.papaya_scheduler.proofs.Stopped.{asked_ready, ready_parts, shows_is}
-use Rattle.papaya_named.specs.Machines.{IsAsFar}
-use Rattle.papaya_named.specs.Seen.{is_ready as is_ready_there}
-use Rattle.papaya_named.specs.declared.caller.Caller.{Caller}
-use Rattle.papaya_named.specs.declared.caller.Stands.{Stands as HowFar}
-use Rattle.papaya_acts.specs.Acts.{OfAsking, StopsCall}
-use Rattle.papaya_acts.specs.Lists.{Course}
+use Rattle.papaya_deeds.specs.Given.SeizeWords.declared.fault.Fault.TheVariants as fault
+use Rattle.papaya_events.specs.Given.Effects.Known.{known}
+use Rattle.papaya_grouped.specs.Given.Executor.IsThere.{IsThere, KeepsGiven, StaysGiven}
+use Rattle.papaya_grouped.specs.Given.Executor.Replying.{StopsThere}
+use Rattle.papaya_grouped.specs.Given.Executor.declared.executor.Executor.{Executor}
+use Rattle.papaya_events.specs.Given.Scheduler.Played.{HasStopped, IsPlayed, Stops as GivesUp, entry_of}
+use Rattle.papaya_events.specs.Given.Scheduler.declared.played.Played.{Played}
+use Rattle.papaya_events.specs.Given.Scheduler.declared.scheduler.Scheduler.{Scheduler}
+use Rattle.papaya_events.proofs.Given.Scheduler.Here.{here_at, read_here}
+use Rattle.papaya_events.proofs.Given.Scheduler.Stopped.{asked_ready, ready_parts, shows_is}
+use Rattle.papaya_events.specs.Given.Named.Machines.{IsAsFar}
+use Rattle.papaya_events.specs.Given.Named.Seen.{is_ready as is_ready_there}
+use Rattle.papaya_events.specs.Given.Named.declared.caller.Caller.{Caller}
+use Rattle.papaya_events.specs.Given.Named.declared.caller.Stands.{Stands as HowFar}
+use Rattle.papaya_grouped.specs.Given.Acts.Acts.{OfAsking, StopsCall}
+use Rattle.papaya_grouped.specs.Given.Acts.Lists.{Course}
 use Rattle.papaya_deeds.specs.Deeds.{Stops}
 use Rattle.papaya_deeds.specs.Deeds.{Entry as Act}
-use Rattle.papaya_drives.specs.Executors.{IsAct}
-use Rattle.papaya_drives.proofs.Executors.{executors_act}
-use Rattle.papaya_played.specs.Play.{Calling, State, call_stopped}
-use Rattle.papaya_played.proofs.PlayedAs.{played_as}
+use Rattle.papaya_grouped.specs.Given.Drives.Executors.{IsAct}
+use Rattle.papaya_grouped.proofs.Given.Drives.Executors.{executors_act}
+use Rattle.papaya_grouped.specs.Given.Played.Play.{Calling, State, call_stopped}
+use Rattle.papaya_grouped.proofs.Given.Played.PlayedAs.{played_as}
 use Rattle.papaya_grouped.specs.Called.{CallersAre, IsCalledAs, PlaysSo}
 use Rattle.papaya_grouped.specs.Grouping.{Names, number_called, refuses}
 use Rattle.papaya_grouped.specs.Reach.{Reach}

@@ -2,9 +2,9 @@
 use Rattle.std.specs.Prelude.{◌≤◌, ◌+◌, position, slice_get, Option, Some, None, option_map}
 use Rattle.std.proofs.Common.{◌≡◌, ℕ, Bool, true, List, [], ◌∷◌, refl, sym, ap, subst, arith, ◌∙◌, inl, inr}
 use Rattle.papaya_runs.proofs.Sames.{same_is}
-use Rattle.papaya_scenes.specs.Given.Finishes.Machines.{machine_of}
-use Rattle.papaya_scenes.specs.Scene.{slot_of}
-use Rattle.papaya_scheduler.specs.Given.SeizeWords.declared.fault.Fault.TheVariants as fault
+use Rattle.papaya_events.specs.Given.Finishes.Machines.{machine_of}
+use Rattle.papaya_grouped.specs.Given.Scenes.Scene.{slot_of}
+use Rattle.papaya_deeds.specs.Given.SeizeWords.declared.fault.Fault.TheVariants as fault
 use Rattle.papaya_schedules.specs.declared.event.Event.{Event}
 use Rattle.papaya_schedules.specs.declared.event.Event.TheVariants as event
 use Rattle.papaya_schedules.specs.declared.outcome.Outcome.{Outcome}
@@ -13,18 +13,18 @@ use Rattle.papaya_schedules.specs.After.{moment}
 use Rattle.papaya_schedules.specs.Entry.{Entry}
 use Rattle.papaya_schedules.specs.Moment.{Moment}
 use Rattle.papaya_schedules.specs.Terms.{Terms, shards_of}
-use Rattle.papaya_scheduler.specs.Given.Effects.Known.{known}
-use Rattle.papaya_scheduler.specs.Given.Executor.IsThere.{KeepsGiven}
-use Rattle.papaya_scheduler.specs.Played.{IsPlayed, IsUnderWayAs, AsFar, StandsFor, entry_of}
-use Rattle.papaya_scheduler.specs.declared.played.Played.{Played}
-use Rattle.papaya_scheduler.specs.declared.scheduler.Scheduler.{Scheduler}
-use Rattle.papaya_named.specs.Seen.{is_named}
-use Rattle.papaya_named.specs.declared.caller.Caller.{Caller}
-use Rattle.papaya_named.specs.declared.caller.Stands.{Stands as HowFar}
-use Rattle.papaya_named.specs.declared.caller.Stands.TheVariants as far
-use Rattle.papaya_acts.specs.Lists.{Course}
+use Rattle.papaya_events.specs.Given.Effects.Known.{known}
+use Rattle.papaya_grouped.specs.Given.Executor.IsThere.{KeepsGiven}
+use Rattle.papaya_events.specs.Given.Scheduler.Played.{IsPlayed, IsUnderWayAs, AsFar, StandsFor, entry_of}
+use Rattle.papaya_events.specs.Given.Scheduler.declared.played.Played.{Played}
+use Rattle.papaya_events.specs.Given.Scheduler.declared.scheduler.Scheduler.{Scheduler}
+use Rattle.papaya_events.specs.Given.Named.Seen.{is_named}
+use Rattle.papaya_events.specs.Given.Named.declared.caller.Caller.{Caller}
+use Rattle.papaya_events.specs.Given.Named.declared.caller.Stands.{Stands as HowFar}
+use Rattle.papaya_events.specs.Given.Named.declared.caller.Stands.TheVariants as far
+use Rattle.papaya_grouped.specs.Given.Acts.Lists.{Course}
 use Rattle.papaya_deeds.specs.Deeds.{Steps}
-use Rattle.papaya_stepping.specs.Stepping.{SaysAgain, TakenBy, TookSteps}
+use Rattle.papaya_events.specs.Given.Stepping.Stepping.{SaysAgain, TakenBy, TookSteps}
 use Rattle.papaya_grouped.specs.Grouping.{MayHave, Names, number_called, MayRest, asks_for_steps}
 use Rattle.papaya_grouped.specs.Reach.{Reach}
 use Rattle.papaya_grouped.specs.Called.{PlaysSo}

@@ -1,2 +1,3 @@
 pub mod SoFar
 pub mod RowFor
+pub mod Given

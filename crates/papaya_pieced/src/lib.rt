@@ -1,2 +1,6 @@
 //! The events of a run are pieces of the history of a list of acts: by each event the list goes on, and the log with it is the grouping of its history.
 #![tactic(auto)]
+
+pub use papaya_events::{
+    papaya_logged, papaya_mapping, papaya_named, papaya_scheduler, papaya_stepping,
+};

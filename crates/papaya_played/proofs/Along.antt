@@ -1,24 +1,24 @@
 -- What is so at first, and after each kind of act, is so wherever a list of acts has led that is played: by this what is promised of steps is had of lists.
 use Rattle.std.specs.Prelude.{◌<◌, ◌^◌, Option, Some, None}
 use Rattle.std.proofs.Common.{◌≡◌, ℕ, Bool, List, [], ◌∷◌, inl, inr, refl, ap, sym, subst, ◌∙◌}
-use Rattle.papaya_scenes.specs.Given.Seize.ReclaimAll.{clearing, reclaim_all_plan, reclaiming_all}
-use Rattle.papaya_scenes.specs.Given.Seize.declared.rows.reclaim_all.ReclaimAll.{ReclaimAll}
-use Rattle.papaya_scenes.specs.Given.Seize.declared.rows.settle.Settled.{Settled}
-use Rattle.papaya_scenes.specs.Given.Seize.declared.rows.settle.Settled.TheVariants as settled
-use Rattle.seize_acts.specs.Answers.{Grant, then_on}
-use Rattle.seize_acts.proofs.Answers.{same_some}
-use Rattle.papaya_scenes.specs.Given.Tables.Nodes.{deferred_word, was_left}
-use Rattle.papaya_scenes.specs.Given.Tables.declared.node.Node.{Node}
-use Rattle.papaya_scenes.specs.Given.Teller.declared.changed.Changed.{Changed}
-use Rattle.papaya_scenes.specs.Given.Teller.declared.changed.Changed.TheVariants.{Nothing as NoChange}
-use Rattle.papaya_scenes.specs.Given.Callers.Rows.{IsRowOn}
-use Rattle.papaya_scenes.specs.Given.Finishes.Makings.{Beginning}
-use Rattle.papaya_scenes.specs.Given.Finishes.Maps.{Standing}
-use Rattle.papaya_scenes.proofs.Goes.{same_map_keeps}
-use Rattle.papaya_scenes.proofs.NoCall.{none_is}
-use Rattle.papaya_scenes.specs.Held.{Held, IsAt}
-use Rattle.papaya_scenes.specs.Reclaiming.{IsReclaiming, ReclaimingLeads}
-use Rattle.papaya_scenes.specs.Scene.{Scene, slot_of}
+use Rattle.papaya_runs.specs.Given.Seize.ReclaimAll.{clearing, reclaim_all_plan, reclaiming_all}
+use Rattle.papaya_runs.specs.Given.Seize.declared.rows.reclaim_all.ReclaimAll.{ReclaimAll}
+use Rattle.papaya_runs.specs.Given.Seize.declared.rows.settle.Settled.{Settled}
+use Rattle.papaya_runs.specs.Given.Seize.declared.rows.settle.Settled.TheVariants as settled
+use Rattle.papaya_acts.specs.Given.SeizeActs.Answers.{Grant, then_on}
+use Rattle.papaya_acts.proofs.Given.SeizeActs.Answers.{same_some}
+use Rattle.papaya_runs.specs.Given.Tables.Nodes.{deferred_word, was_left}
+use Rattle.papaya_runs.specs.Given.Tables.declared.node.Node.{Node}
+use Rattle.papaya_acts.specs.Given.Teller.declared.changed.Changed.{Changed}
+use Rattle.papaya_acts.specs.Given.Teller.declared.changed.Changed.TheVariants.{Nothing as NoChange}
+use Rattle.papaya_acts.specs.Given.Callers.Rows.{IsRowOn}
+use Rattle.papaya_acts.specs.Given.Finishes.Makings.{Beginning}
+use Rattle.papaya_acts.specs.Given.Finishes.Maps.{Standing}
+use Rattle.papaya_acts.proofs.Given.Scenes.Goes.{same_map_keeps}
+use Rattle.papaya_acts.proofs.Given.Scenes.NoCall.{none_is}
+use Rattle.papaya_acts.specs.Given.Scenes.Held.{Held, IsAt}
+use Rattle.papaya_acts.specs.Given.Scenes.Reclaiming.{IsReclaiming, ReclaimingLeads}
+use Rattle.papaya_acts.specs.Given.Scenes.Scene.{Scene, slot_of}
 use Rattle.papaya_acts.specs.Acts.{Act, Answer, BeginsRow}
 use Rattle.papaya_acts.specs.AsSteps.{IsOwn, LeadsAs, changed_by, changed_of, held_in}
 use Rattle.papaya_acts.specs.Doings.{Doing, Does, BeginsReclaiming, BeginsClearing, StepsReclaiming, Chooses, scene_chosen, AllAreFree, HasDone, HasStepped, MayDo, Stage, behind, reclaiming, still}

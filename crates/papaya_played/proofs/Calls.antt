@@ -3,26 +3,26 @@ use Rattle.std.specs.Prelude.{◌≢◌, ◌⊎◌, ◌++◌, length, Option, So
 use Rattle.std.specs.Option.{is_none}
 use Rattle.std.proofs.Common.{◌≡◌, ℕ, Bool, true, false, [], ◌∷◌, inl, inr, refl, ap, sym, subst, ◌∙◌}
 use Rattle.std.proofs.lemmas.Bool.{cases_eq}
-use Rattle.papaya_scenes.specs.Given.SeizeWords.Mem.{Mem}
-use Rattle.papaya_scenes.specs.Given.SeizeWords.Plan.{Plan}
-use Rattle.papaya_scenes.specs.Given.Seize.World.{World, Rests, with_at}
-use Rattle.seize_acts.specs.Answers.{Grant, stepped, then_on}
-use Rattle.seize_acts.proofs.Begun.{rests_is}
-use Rattle.papaya_scenes.specs.Given.Tables.declared.node.Node.{Node}
-use Rattle.papaya_scenes.specs.Given.Tables.declared.setting.Setting.{Setting}
-use Rattle.papaya_scenes.specs.Given.Sweeps.declared.sweep.Purpose.TheVariants as purpose
-use Rattle.papaya_scenes.specs.Given.Raw.Machine.{machine_plan, machine_replied, machine_asked}
-use Rattle.papaya_scenes.specs.Given.Raw.declared.machines.asking.Reply.{Reply}
-use Rattle.papaya_scenes.specs.Given.Raw.declared.machines.machine.Machine.{Machine}
-use Rattle.papaya_scenes.specs.Given.Raw.declared.machines.progress.Progress.{Progress}
-use Rattle.papaya_scenes.specs.Given.Callers.Together.{UnderWay, in_slot}
-use Rattle.papaya_scenes.specs.Given.Finishes.Machines.{machine_of}
-use Rattle.papaya_scenes.specs.Given.Finishes.Maps.{Standing, with_call}
-use Rattle.papaya_scenes.proofs.Goes.{goes_as}
-use Rattle.papaya_scenes.proofs.NoCall.{none_is}
-use Rattle.papaya_scenes.specs.Replying.{unless_stopped}
-use Rattle.papaya_scenes.specs.Scene.{Scene, slot_of}
-use Rattle.papaya_scenes.specs.Stepping.{going_on, has_ended}
+use Rattle.papaya_deeds.specs.Given.SeizeWords.Mem.{Mem}
+use Rattle.papaya_deeds.specs.Given.SeizeWords.Plan.{Plan}
+use Rattle.papaya_runs.specs.Given.Seize.World.{World, Rests, with_at}
+use Rattle.papaya_acts.specs.Given.SeizeActs.Answers.{Grant, stepped, then_on}
+use Rattle.papaya_acts.proofs.Given.SeizeActs.Begun.{rests_is}
+use Rattle.papaya_runs.specs.Given.Tables.declared.node.Node.{Node}
+use Rattle.papaya_runs.specs.Given.Tables.declared.setting.Setting.{Setting}
+use Rattle.papaya_deeds.specs.Given.Sweeps.declared.sweep.Purpose.TheVariants as purpose
+use Rattle.papaya_deeds.specs.Given.Raw.Machine.{machine_plan, machine_replied, machine_asked}
+use Rattle.papaya_deeds.specs.Given.Raw.declared.machines.asking.Reply.{Reply}
+use Rattle.papaya_deeds.specs.Given.Raw.declared.machines.machine.Machine.{Machine}
+use Rattle.papaya_deeds.specs.Given.Raw.declared.machines.progress.Progress.{Progress}
+use Rattle.papaya_acts.specs.Given.Callers.Together.{UnderWay, in_slot}
+use Rattle.papaya_acts.specs.Given.Finishes.Machines.{machine_of}
+use Rattle.papaya_acts.specs.Given.Finishes.Maps.{Standing, with_call}
+use Rattle.papaya_acts.proofs.Given.Scenes.Goes.{goes_as}
+use Rattle.papaya_acts.proofs.Given.Scenes.NoCall.{none_is}
+use Rattle.papaya_acts.specs.Given.Scenes.Replying.{unless_stopped}
+use Rattle.papaya_acts.specs.Given.Scenes.Scene.{Scene, slot_of}
+use Rattle.papaya_acts.specs.Given.Scenes.Stepping.{going_on, has_ended}
 use Rattle.papaya_acts.specs.Acts.{Act, Answer, Nothing, OfCall, OfReply, OfAsking, BeginsCall, StepsCall, TellsCall, AsksCall, StopsCall, begun}
 use Rattle.papaya_acts.specs.Acts.{Wanted, Get, Remove, Insert, TryToInsert, Compute, Update, UpdateOrInsert, TryToInsertWith, RemoveIf, GetKeyValue, ContainsKey, GetOrInsert, GetOrInsertWith, RemoveEntry, MakeRoom, Count, GoOver}
 use Rattle.papaya_acts.specs.AsSteps.{changed_of}

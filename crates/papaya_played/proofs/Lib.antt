@@ -9,3 +9,4 @@ pub mod Tied
 pub mod Noted
 pub mod Pairs
 mod Samples
+pub mod Given

@@ -2,54 +2,54 @@
 use Rattle.std.specs.Prelude.{◌≢◌, ◌⊎◌, ◌<◌, ◌^◌, ◌+◌, ◌==◌, cond, not, ◌&&◌, find, map, Option, Some, None, option_map, is_ok, length, if◌then◌else◌}
 use Rattle.std.proofs.Common.{◌≡◌, ℕ, Bool, true, false, List, [], ◌∷◌, inl, inr, refl, ap, sym, subst, ◌∙◌, arith}
 use Rattle.std.proofs.lemmas.Bool.{cases_eq}
-use Rattle.papaya_scenes.specs.Given.Seize.declared.progress.Progress.{Progress}
-use Rattle.papaya_scenes.specs.Given.Seize.declared.progress.Progress.TheVariants as progress
-use Rattle.papaya_scenes.specs.Given.Seize.declared.rows.leave.Leave.{Leave}
-use Rattle.papaya_scenes.specs.Given.Seize.declared.rows.leave.Leaving.{Leaving}
-use Rattle.papaya_scenes.specs.Given.Seize.declared.rows.leave.Leaving.TheVariants as leaves
-use Rattle.papaya_scenes.specs.Given.Seize.declared.rows.register.Registering.{Registering}
-use Rattle.papaya_scenes.specs.Given.Seize.declared.rows.register.Registering.TheVariants as registers
-use Rattle.papaya_scenes.specs.Given.Seize.declared.rows.settle.Settled.{Settled}
-use Rattle.papaya_scenes.specs.Given.Seize.declared.states.TheConstants.{ACTIVE}
-use Rattle.papaya_scenes.specs.Given.Tables.declared.node.Node.{Node}
-use Rattle.papaya_scenes.specs.Given.Tables.declared.setting.Setting.{Setting}
-use Rattle.papaya_scenes.specs.Given.Resize.declared.new_map.NewMap.{NewMap}
-use Rattle.papaya_scenes.specs.Given.Seize.ReclaimAll.{reclaim_all_plan}
-use Rattle.papaya_scenes.specs.Given.Tables.Nodes.{deferred_word, was_left}
-use Rattle.papaya_scenes.specs.Given.Resize.NewMap.{new_map_plan}
-use Rattle.papaya_scenes.specs.Given.Raw.EndMap.{end_map_plan}
-use Rattle.papaya_scenes.specs.Given.Raw.Machine.{machine_asked, machine_plan, machine_replied}
-use Rattle.papaya_scenes.specs.Given.Raw.declared.machines.progress.Progress.{Progress as CallProgress}
-use Rattle.papaya_scenes.specs.Given.Raw.declared.machines.progress.Progress.TheVariants as comes
-use Rattle.papaya_scenes.specs.Given.Finishes.Maps.{with_call}
-use Rattle.papaya_scenes.proofs.Given.Callers.Together.At.{at_other}
-use Rattle.papaya_scenes.specs.Given.Seize.World.{with_at}
-use Rattle.papaya_scenes.specs.Given.Finishes.Machines.{machine_of}
-use Rattle.papaya_scenes.proofs.NoCall.{none_is}
-use Rattle.papaya_scenes.specs.Replying.{unless_stopped}
-use Rattle.seize_acts.specs.Answers.{Grant}
-use Rattle.seize_acts.proofs.Answers.{same_some}
-use Rattle.papaya_scenes.specs.Scene.{row_of, slot_of}
-use Rattle.papaya_scenes.specs.Stepping.{has_ended}
-use Rattle.papaya_scenes.specs.declared.row.SlotRow.{SlotRow}
-use Rattle.papaya_scenes.specs.declared.row.SlotRow.TheVariants as rows
+use Rattle.papaya_runs.specs.Given.Seize.declared.progress.Progress.{Progress}
+use Rattle.papaya_runs.specs.Given.Seize.declared.progress.Progress.TheVariants as progress
+use Rattle.papaya_runs.specs.Given.Seize.declared.rows.leave.Leave.{Leave}
+use Rattle.papaya_runs.specs.Given.Seize.declared.rows.leave.Leaving.{Leaving}
+use Rattle.papaya_runs.specs.Given.Seize.declared.rows.leave.Leaving.TheVariants as leaves
+use Rattle.papaya_runs.specs.Given.Seize.declared.rows.register.Registering.{Registering}
+use Rattle.papaya_runs.specs.Given.Seize.declared.rows.register.Registering.TheVariants as registers
+use Rattle.papaya_runs.specs.Given.Seize.declared.rows.settle.Settled.{Settled}
+use Rattle.papaya_runs.specs.Given.Seize.declared.states.TheConstants.{ACTIVE}
+use Rattle.papaya_runs.specs.Given.Tables.declared.node.Node.{Node}
+use Rattle.papaya_runs.specs.Given.Tables.declared.setting.Setting.{Setting}
+use Rattle.papaya_acts.specs.Given.Resize.declared.new_map.NewMap.{NewMap}
+use Rattle.papaya_runs.specs.Given.Seize.ReclaimAll.{reclaim_all_plan}
+use Rattle.papaya_runs.specs.Given.Tables.Nodes.{deferred_word, was_left}
+use Rattle.papaya_acts.specs.Given.Resize.NewMap.{new_map_plan}
+use Rattle.papaya_deeds.specs.Given.Raw.EndMap.{end_map_plan}
+use Rattle.papaya_deeds.specs.Given.Raw.Machine.{machine_asked, machine_plan, machine_replied}
+use Rattle.papaya_deeds.specs.Given.Raw.declared.machines.progress.Progress.{Progress as CallProgress}
+use Rattle.papaya_deeds.specs.Given.Raw.declared.machines.progress.Progress.TheVariants as comes
+use Rattle.papaya_acts.specs.Given.Finishes.Maps.{with_call}
+use Rattle.papaya_acts.proofs.Given.Callers.Together.At.{at_other}
+use Rattle.papaya_runs.specs.Given.Seize.World.{with_at}
+use Rattle.papaya_acts.specs.Given.Finishes.Machines.{machine_of}
+use Rattle.papaya_acts.proofs.Given.Scenes.NoCall.{none_is}
+use Rattle.papaya_acts.specs.Given.Scenes.Replying.{unless_stopped}
+use Rattle.papaya_acts.specs.Given.SeizeActs.Answers.{Grant}
+use Rattle.papaya_acts.proofs.Given.SeizeActs.Answers.{same_some}
+use Rattle.papaya_acts.specs.Given.Scenes.Scene.{row_of, slot_of}
+use Rattle.papaya_acts.specs.Given.Scenes.Stepping.{has_ended}
+use Rattle.papaya_acts.specs.Given.Scenes.declared.row.SlotRow.{SlotRow}
+use Rattle.papaya_acts.specs.Given.Scenes.declared.row.SlotRow.TheVariants as rows
 use Rattle.papaya_runs.specs.Same.{is_same}
-use Rattle.papaya_schedules.specs.declared.call.Call.{Call}
-use Rattle.papaya_schedules.specs.declared.call.Reply.{Reply}
-use Rattle.papaya_schedules.specs.declared.effect.Effect.{Effect}
-use Rattle.papaya_schedules.specs.declared.outcome.Outcome.{Outcome}
-use Rattle.papaya_schedules.specs.declared.outcome.Outcome.TheVariants as outcome
-use Rattle.papaya_schedules.specs.After.{comes_to, replied, without_call}
-use Rattle.papaya_schedules.specs.Beginning.{fresh_call}
-use Rattle.papaya_schedules.specs.Effects.{call_by, with_effect, with_effects}
-use Rattle.papaya_schedules.specs.Entry.{ends_call}
-use Rattle.papaya_schedules.specs.Moment.{UnderWay, Moment}
-use Rattle.papaya_schedules.specs.Views.{call_of}
-use Rattle.papaya_effects.specs.Effects.{effects_of, known_after}
-use Rattle.papaya_effects.specs.Known.{Known}
-use Rattle.papaya_effects.specs.declared.acting.Acting.TheVariants as acting
-use Rattle.papaya_follows.proofs.Calling.{apart_back, found_kept, found_passes, is_same_is, is_same_refl, come_same, replied_same}
-use Rattle.papaya_follows.proofs.Calls.{IsOfSame, changed, changed_same, found, of_same}
+use Rattle.papaya_deeds.specs.Given.Schedules.declared.call.Call.{Call}
+use Rattle.papaya_deeds.specs.Given.Schedules.declared.call.Reply.{Reply}
+use Rattle.papaya_deeds.specs.Given.Schedules.declared.effect.Effect.{Effect}
+use Rattle.papaya_deeds.specs.Given.Schedules.declared.outcome.Outcome.{Outcome}
+use Rattle.papaya_deeds.specs.Given.Schedules.declared.outcome.Outcome.TheVariants as outcome
+use Rattle.papaya_deeds.specs.Given.Schedules.After.{comes_to, replied, without_call}
+use Rattle.papaya_deeds.specs.Given.Schedules.Beginning.{fresh_call}
+use Rattle.papaya_deeds.specs.Given.Schedules.Effects.{call_by, with_effect, with_effects}
+use Rattle.papaya_deeds.specs.Given.Schedules.Entry.{ends_call}
+use Rattle.papaya_deeds.specs.Given.Schedules.Moment.{UnderWay, Moment}
+use Rattle.papaya_deeds.specs.Given.Schedules.Views.{call_of}
+use Rattle.papaya_named.specs.Given.Effects.Effects.{effects_of, known_after}
+use Rattle.papaya_named.specs.Given.Effects.Known.{Known}
+use Rattle.papaya_named.specs.Given.Effects.declared.acting.Acting.TheVariants as acting
+use Rattle.papaya_named.proofs.Given.Follows.Calling.{apart_back, found_kept, found_passes, is_same_is, is_same_refl, come_same, replied_same}
+use Rattle.papaya_named.proofs.Given.Follows.Calls.{IsOfSame, changed, changed_same, found, of_same}
 use Rattle.papaya_named.specs.declared.kind.Kind.{Kind}
 use Rattle.papaya_named.specs.Seen.{kind_of}
 use Rattle.papaya_deeds.specs.Deeds.{Deed, Begins, Steps, Replies, Stops, Registers, Opens, Leaves, MapComes, Makes, MapFails, Ends, MapGoes, ReclaimsAll, Entry, acted_on, after, at_work, begun, caller_of, calls_on, moment, named, worked}

@@ -2,45 +2,45 @@
 use Rattle.std.specs.Prelude.{◌≢◌, ◌⊎◌, ◌++◌, Option, Some, None, option_map}
 use Rattle.std.proofs.Common.{◌≡◌, ℕ, Bool, [], ◌∷◌, inl, inr, refl, ap, sym, subst, ◌∙◌}
 use Rattle.std.proofs.lemmas.Bool.{cases_eq}
-use Rattle.papaya_scenes.specs.Given.SeizeWords.Mem.{Mem, after}
-use Rattle.papaya_scenes.specs.Given.SeizeWords.Op.{Op, Store}
-use Rattle.papaya_scenes.specs.Given.SeizeWords.Plan.{Plan}
-use Rattle.papaya_scenes.specs.Given.SeizeWords.declared.at.At.TheVariants.{Slot}
-use Rattle.papaya_scenes.specs.Given.Seize.Enter.{enter_plan, unregister_plan}
-use Rattle.papaya_scenes.specs.Given.Seize.Law.{Entered}
-use Rattle.papaya_scenes.specs.Given.Seize.Leave.{leave_plan}
-use Rattle.papaya_scenes.specs.Given.Seize.Register.{register_plan}
-use Rattle.papaya_scenes.specs.Given.Seize.Settle.{settle_plan}
-use Rattle.papaya_scenes.specs.Given.Seize.World.{World, Row, Rests, Inside, Vacant, Request, Begins, after_step, registers_on, settles_on, leaves_on, with_at, with_use}
-use Rattle.papaya_scenes.specs.Given.Seize.declared.progress.Progress.{Progress}
-use Rattle.papaya_scenes.specs.Given.Seize.declared.progress.Progress.TheVariants as progress
-use Rattle.papaya_scenes.specs.Given.Seize.declared.rows.enter.Enter.{Enter}
-use Rattle.papaya_scenes.specs.Given.Seize.declared.rows.enter.Unregister.{Unregister}
-use Rattle.papaya_scenes.specs.Given.Seize.declared.rows.leave.Leave.{Leave}
-use Rattle.papaya_scenes.specs.Given.Seize.declared.rows.register.Register.{Register}
-use Rattle.papaya_scenes.specs.Given.Seize.declared.rows.settle.Settle.{Settle}
-use Rattle.papaya_scenes.specs.Given.Seize.declared.rows.settle.Settled.{Settled}
-use Rattle.papaya_scenes.specs.Given.Seize.declared.rows.settle.Settled.TheVariants as settled
-use Rattle.papaya_scenes.specs.Given.Seize.declared.states.TheConstants.{ACTIVE, FREE, HEAD}
-use Rattle.seize_acts.specs.Acts.{row_steps}
-use Rattle.seize_acts.specs.Answers.{Grant, answer, stepped, then_on}
-use Rattle.seize_acts.proofs.Answers.{same_some, some}
-use Rattle.papaya_scenes.proofs.Given.SeizeRule.Rows.Others.{begins_others, steps_others, with_here}
-use Rattle.papaya_scenes.proofs.Given.SeizeEnds.Batches.Rows.{begins_memory}
-use Rattle.papaya_scenes.proofs.Given.Callers.Together.At.{at_same, at_other}
-use Rattle.papaya_scenes.specs.Given.Tables.Nodes.{deferred_word}
-use Rattle.papaya_scenes.specs.Given.Tables.declared.node.Node.{Node}
-use Rattle.papaya_scenes.specs.Given.Callers.Together.{UnderWay}
-use Rattle.papaya_scenes.specs.Given.Finishes.Maps.{Standing, IsSameMap}
-use Rattle.papaya_scenes.proofs.NoCall.{no_call}
-use Rattle.papaya_scenes.proofs.Rows.{begun_there}
-use Rattle.papaya_scenes.specs.Rows.{begun_row, request_of, of_registering, of_storing, of_settling}
-use Rattle.papaya_scenes.specs.Scene.{Scene, HasNoCall, row_of, slot_of}
-use Rattle.papaya_scenes.specs.declared.row.RowTold.{RowTold}
-use Rattle.papaya_scenes.specs.declared.row.SlotCall.{SlotCall}
-use Rattle.papaya_scenes.specs.declared.row.SlotCall.TheVariants as call
-use Rattle.papaya_scenes.specs.declared.row.SlotRow.{SlotRow}
-use Rattle.papaya_scenes.specs.declared.row.SlotRow.TheVariants as rows
+use Rattle.papaya_deeds.specs.Given.SeizeWords.Mem.{Mem, after}
+use Rattle.papaya_deeds.specs.Given.SeizeWords.Op.{Op, Store}
+use Rattle.papaya_deeds.specs.Given.SeizeWords.Plan.{Plan}
+use Rattle.papaya_deeds.specs.Given.SeizeWords.declared.at.At.TheVariants.{Slot}
+use Rattle.papaya_runs.specs.Given.Seize.Enter.{enter_plan, unregister_plan}
+use Rattle.papaya_runs.specs.Given.Seize.Law.{Entered}
+use Rattle.papaya_runs.specs.Given.Seize.Leave.{leave_plan}
+use Rattle.papaya_runs.specs.Given.Seize.Register.{register_plan}
+use Rattle.papaya_runs.specs.Given.Seize.Settle.{settle_plan}
+use Rattle.papaya_runs.specs.Given.Seize.World.{World, Row, Rests, Inside, Vacant, Request, Begins, after_step, registers_on, settles_on, leaves_on, with_at, with_use}
+use Rattle.papaya_runs.specs.Given.Seize.declared.progress.Progress.{Progress}
+use Rattle.papaya_runs.specs.Given.Seize.declared.progress.Progress.TheVariants as progress
+use Rattle.papaya_runs.specs.Given.Seize.declared.rows.enter.Enter.{Enter}
+use Rattle.papaya_runs.specs.Given.Seize.declared.rows.enter.Unregister.{Unregister}
+use Rattle.papaya_runs.specs.Given.Seize.declared.rows.leave.Leave.{Leave}
+use Rattle.papaya_runs.specs.Given.Seize.declared.rows.register.Register.{Register}
+use Rattle.papaya_runs.specs.Given.Seize.declared.rows.settle.Settle.{Settle}
+use Rattle.papaya_runs.specs.Given.Seize.declared.rows.settle.Settled.{Settled}
+use Rattle.papaya_runs.specs.Given.Seize.declared.rows.settle.Settled.TheVariants as settled
+use Rattle.papaya_runs.specs.Given.Seize.declared.states.TheConstants.{ACTIVE, FREE, HEAD}
+use Rattle.papaya_acts.specs.Given.SeizeActs.Acts.{row_steps}
+use Rattle.papaya_acts.specs.Given.SeizeActs.Answers.{Grant, answer, stepped, then_on}
+use Rattle.papaya_acts.proofs.Given.SeizeActs.Answers.{same_some, some}
+use Rattle.papaya_acts.proofs.Given.SeizeRule.Rows.Others.{begins_others, steps_others, with_here}
+use Rattle.papaya_acts.proofs.Given.SeizeEnds.Batches.Rows.{begins_memory}
+use Rattle.papaya_acts.proofs.Given.Callers.Together.At.{at_same, at_other}
+use Rattle.papaya_runs.specs.Given.Tables.Nodes.{deferred_word}
+use Rattle.papaya_runs.specs.Given.Tables.declared.node.Node.{Node}
+use Rattle.papaya_acts.specs.Given.Callers.Together.{UnderWay}
+use Rattle.papaya_acts.specs.Given.Finishes.Maps.{Standing, IsSameMap}
+use Rattle.papaya_acts.proofs.Given.Scenes.NoCall.{no_call}
+use Rattle.papaya_acts.proofs.Given.Scenes.Rows.{begun_there}
+use Rattle.papaya_acts.specs.Given.Scenes.Rows.{begun_row, request_of, of_registering, of_storing, of_settling}
+use Rattle.papaya_acts.specs.Given.Scenes.Scene.{Scene, HasNoCall, row_of, slot_of}
+use Rattle.papaya_acts.specs.Given.Scenes.declared.row.RowTold.{RowTold}
+use Rattle.papaya_acts.specs.Given.Scenes.declared.row.SlotCall.{SlotCall}
+use Rattle.papaya_acts.specs.Given.Scenes.declared.row.SlotCall.TheVariants as call
+use Rattle.papaya_acts.specs.Given.Scenes.declared.row.SlotRow.{SlotRow}
+use Rattle.papaya_acts.specs.Given.Scenes.declared.row.SlotRow.TheVariants as rows
 use Rattle.papaya_acts.specs.Acts.{Act, Answer, Nothing, BeginsRow, StepsRow}
 use Rattle.papaya_acts.specs.AsSteps.{row_changed}
 use Rattle.papaya_acts.specs.Leads.{Led, MayBe}

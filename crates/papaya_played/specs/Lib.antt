@@ -1,2 +1,3 @@
 pub mod Play
 pub mod Reached
+pub mod Given

@@ -4,66 +4,66 @@ use Rattle.papaya_acts.specs.Acts.{Act, Answer, Nothing, OfCall, OfReply, OfAski
 use Rattle.papaya_acts.specs.Acts.{Wanted, Get, Remove, Insert, TryToInsert, Compute, Update, UpdateOrInsert, TryToInsertWith, RemoveIf, GetKeyValue, ContainsKey, GetOrInsert, GetOrInsertWith, RemoveEntry, MakeRoom, Count, GoOver}
 use Rattle.papaya_acts.specs.AsSteps.{changed_of, row_changed}
 use Rattle.papaya_acts.specs.Doings.{Doing, Does, BeginsReclaiming, BeginsClearing, StepsReclaiming, Chooses, memory_chosen}
-use Rattle.seize_acts.specs.Answers.{Grant, stepped, then_on}
-use Rattle.papaya_scenes.specs.Given.SeizeWords.Mem.{Mem}
-use Rattle.papaya_scenes.specs.Given.Seize.Enter.{enter_plan, unregister_plan}
-use Rattle.papaya_scenes.specs.Given.Seize.Leave.{leave_plan}
-use Rattle.papaya_scenes.specs.Given.Seize.ReclaimAll.{reclaiming_all, clearing, reclaim_all_plan}
-use Rattle.papaya_scenes.specs.Given.Seize.Register.{register_plan}
-use Rattle.papaya_scenes.specs.Given.Seize.Settle.{settle_plan}
-use Rattle.papaya_scenes.specs.Given.Seize.World.{Request, Register', Enter', Leave', LeaveOwned, Refresh, Unregister', Flush, with_at}
-use Rattle.papaya_scenes.specs.Given.Seize.declared.progress.Progress.{Progress}
-use Rattle.papaya_scenes.specs.Given.Seize.declared.progress.Progress.TheVariants as progress
-use Rattle.papaya_scenes.specs.Given.Seize.declared.rows.leave.Leave.{Leave}
-use Rattle.papaya_scenes.specs.Given.Seize.declared.rows.leave.Leaving.{Leaving}
-use Rattle.papaya_scenes.specs.Given.Seize.declared.rows.leave.Leaving.TheVariants as leaves
-use Rattle.papaya_scenes.specs.Given.Seize.declared.rows.reclaim_all.ReclaimAll.{ReclaimAll}
-use Rattle.papaya_scenes.specs.Given.Seize.declared.rows.register.Registering.{Registering}
-use Rattle.papaya_scenes.specs.Given.Seize.declared.rows.register.Registering.TheVariants as registers
-use Rattle.papaya_scenes.specs.Given.Seize.declared.rows.settle.Settled.{Settled}
-use Rattle.papaya_scenes.specs.Given.Seize.declared.rows.settle.Settled.TheVariants as settled
-use Rattle.papaya_scenes.specs.Given.Seize.declared.states.TheConstants.{ACTIVE}
-use Rattle.papaya_scenes.specs.Given.Tables.Nodes.{deferred_word, was_left}
-use Rattle.papaya_scenes.specs.Given.Tables.declared.node.Node.{Node}
-use Rattle.papaya_scenes.specs.Given.Tables.declared.setting.Setting.{Setting}
-use Rattle.papaya_scenes.specs.Given.Resize.NewMap.{new_map_plan, opening}
-use Rattle.papaya_scenes.specs.Given.Resize.declared.new_map.NewMap.{NewMap}
-use Rattle.papaya_scenes.specs.Given.Resize.declared.new_map.Opening.{Opening}
-use Rattle.papaya_scenes.specs.Given.Resize.declared.new_map.Opening.TheVariants as openings
-use Rattle.papaya_scenes.specs.Given.Sweeps.declared.sweep.Purpose.TheVariants as purpose
-use Rattle.papaya_scenes.specs.Given.Raw.EndMap.{ending, end_map_plan}
-use Rattle.papaya_scenes.specs.Given.Raw.Machine.{machine_plan, machine_replied, machine_asked}
-use Rattle.papaya_scenes.specs.Given.Raw.declared.machines.asking.Reply.{Reply as Told}
-use Rattle.papaya_scenes.specs.Given.Raw.declared.machines.asking.Reply.TheVariants as told
-use Rattle.papaya_scenes.specs.Given.Raw.declared.machines.end_map.EndMap.{EndMap}
-use Rattle.papaya_scenes.specs.Given.Raw.declared.machines.machine.Machine.{Machine}
-use Rattle.papaya_scenes.specs.Given.Raw.declared.machines.progress.Progress.{Progress as CallProgress}
-use Rattle.papaya_scenes.specs.Given.Raw.declared.machines.progress.Progress.TheVariants as comes
-use Rattle.papaya_scenes.specs.Given.Teller.declared.changed.Changed.{Changed}
-use Rattle.papaya_scenes.specs.Given.Teller.declared.changed.Changed.TheVariants as changes
-use Rattle.papaya_scenes.specs.Given.Callers.Together.{in_slot}
-use Rattle.papaya_scenes.specs.Given.Finishes.Maps.{with_call}
-use Rattle.papaya_scenes.specs.Replying.{unless_stopped}
-use Rattle.papaya_scenes.specs.Rows.{begun_row, of_registering, of_settling, of_storing}
-use Rattle.papaya_scenes.specs.Scene.{at_first, row_of, slot_of}
-use Rattle.papaya_scenes.specs.Stepping.{has_ended}
-use Rattle.papaya_scenes.specs.declared.row.RowTold.{RowTold}
-use Rattle.papaya_scenes.specs.declared.row.RowTold.TheVariants as rows_tell
-use Rattle.papaya_scenes.specs.declared.row.SlotCall.{SlotCall}
-use Rattle.papaya_scenes.specs.declared.row.SlotCall.TheVariants as slot_call
-use Rattle.papaya_scenes.specs.declared.row.SlotRow.{SlotRow}
-use Rattle.papaya_scenes.specs.declared.row.SlotRow.TheVariants as rows
-use Rattle.papaya_schedules.specs.declared.call.Call.{Call}
-use Rattle.papaya_schedules.specs.declared.call.Call.TheVariants as calls
-use Rattle.papaya_schedules.specs.declared.call.OneKey.TheVariants as one
-use Rattle.papaya_schedules.specs.declared.call.Reply.{Reply}
-use Rattle.papaya_schedules.specs.declared.call.Reply.TheVariants as reply
-use Rattle.papaya_schedules.specs.declared.outcome.Outcome.{Outcome}
-use Rattle.papaya_schedules.specs.declared.outcome.Outcome.TheVariants as outcome
-use Rattle.papaya_effects.specs.Effects.{effects_of, known_after}
-use Rattle.papaya_effects.specs.Known.{Known, nothing_known}
-use Rattle.papaya_effects.specs.declared.acting.Acting.{Acting}
-use Rattle.papaya_effects.specs.declared.acting.Acting.TheVariants as acting
+use Rattle.papaya_acts.specs.Given.SeizeActs.Answers.{Grant, stepped, then_on}
+use Rattle.papaya_deeds.specs.Given.SeizeWords.Mem.{Mem}
+use Rattle.papaya_runs.specs.Given.Seize.Enter.{enter_plan, unregister_plan}
+use Rattle.papaya_runs.specs.Given.Seize.Leave.{leave_plan}
+use Rattle.papaya_runs.specs.Given.Seize.ReclaimAll.{reclaiming_all, clearing, reclaim_all_plan}
+use Rattle.papaya_runs.specs.Given.Seize.Register.{register_plan}
+use Rattle.papaya_runs.specs.Given.Seize.Settle.{settle_plan}
+use Rattle.papaya_runs.specs.Given.Seize.World.{Request, Register', Enter', Leave', LeaveOwned, Refresh, Unregister', Flush, with_at}
+use Rattle.papaya_runs.specs.Given.Seize.declared.progress.Progress.{Progress}
+use Rattle.papaya_runs.specs.Given.Seize.declared.progress.Progress.TheVariants as progress
+use Rattle.papaya_runs.specs.Given.Seize.declared.rows.leave.Leave.{Leave}
+use Rattle.papaya_runs.specs.Given.Seize.declared.rows.leave.Leaving.{Leaving}
+use Rattle.papaya_runs.specs.Given.Seize.declared.rows.leave.Leaving.TheVariants as leaves
+use Rattle.papaya_runs.specs.Given.Seize.declared.rows.reclaim_all.ReclaimAll.{ReclaimAll}
+use Rattle.papaya_runs.specs.Given.Seize.declared.rows.register.Registering.{Registering}
+use Rattle.papaya_runs.specs.Given.Seize.declared.rows.register.Registering.TheVariants as registers
+use Rattle.papaya_runs.specs.Given.Seize.declared.rows.settle.Settled.{Settled}
+use Rattle.papaya_runs.specs.Given.Seize.declared.rows.settle.Settled.TheVariants as settled
+use Rattle.papaya_runs.specs.Given.Seize.declared.states.TheConstants.{ACTIVE}
+use Rattle.papaya_runs.specs.Given.Tables.Nodes.{deferred_word, was_left}
+use Rattle.papaya_runs.specs.Given.Tables.declared.node.Node.{Node}
+use Rattle.papaya_runs.specs.Given.Tables.declared.setting.Setting.{Setting}
+use Rattle.papaya_acts.specs.Given.Resize.NewMap.{new_map_plan, opening}
+use Rattle.papaya_acts.specs.Given.Resize.declared.new_map.NewMap.{NewMap}
+use Rattle.papaya_acts.specs.Given.Resize.declared.new_map.Opening.{Opening}
+use Rattle.papaya_acts.specs.Given.Resize.declared.new_map.Opening.TheVariants as openings
+use Rattle.papaya_deeds.specs.Given.Sweeps.declared.sweep.Purpose.TheVariants as purpose
+use Rattle.papaya_deeds.specs.Given.Raw.EndMap.{ending, end_map_plan}
+use Rattle.papaya_deeds.specs.Given.Raw.Machine.{machine_plan, machine_replied, machine_asked}
+use Rattle.papaya_deeds.specs.Given.Raw.declared.machines.asking.Reply.{Reply as Told}
+use Rattle.papaya_deeds.specs.Given.Raw.declared.machines.asking.Reply.TheVariants as told
+use Rattle.papaya_deeds.specs.Given.Raw.declared.machines.end_map.EndMap.{EndMap}
+use Rattle.papaya_deeds.specs.Given.Raw.declared.machines.machine.Machine.{Machine}
+use Rattle.papaya_deeds.specs.Given.Raw.declared.machines.progress.Progress.{Progress as CallProgress}
+use Rattle.papaya_deeds.specs.Given.Raw.declared.machines.progress.Progress.TheVariants as comes
+use Rattle.papaya_acts.specs.Given.Teller.declared.changed.Changed.{Changed}
+use Rattle.papaya_acts.specs.Given.Teller.declared.changed.Changed.TheVariants as changes
+use Rattle.papaya_acts.specs.Given.Callers.Together.{in_slot}
+use Rattle.papaya_acts.specs.Given.Finishes.Maps.{with_call}
+use Rattle.papaya_acts.specs.Given.Scenes.Replying.{unless_stopped}
+use Rattle.papaya_acts.specs.Given.Scenes.Rows.{begun_row, of_registering, of_settling, of_storing}
+use Rattle.papaya_acts.specs.Given.Scenes.Scene.{at_first, row_of, slot_of}
+use Rattle.papaya_acts.specs.Given.Scenes.Stepping.{has_ended}
+use Rattle.papaya_acts.specs.Given.Scenes.declared.row.RowTold.{RowTold}
+use Rattle.papaya_acts.specs.Given.Scenes.declared.row.RowTold.TheVariants as rows_tell
+use Rattle.papaya_acts.specs.Given.Scenes.declared.row.SlotCall.{SlotCall}
+use Rattle.papaya_acts.specs.Given.Scenes.declared.row.SlotCall.TheVariants as slot_call
+use Rattle.papaya_acts.specs.Given.Scenes.declared.row.SlotRow.{SlotRow}
+use Rattle.papaya_acts.specs.Given.Scenes.declared.row.SlotRow.TheVariants as rows
+use Rattle.papaya_deeds.specs.Given.Schedules.declared.call.Call.{Call}
+use Rattle.papaya_deeds.specs.Given.Schedules.declared.call.Call.TheVariants as calls
+use Rattle.papaya_deeds.specs.Given.Schedules.declared.call.OneKey.TheVariants as one
+use Rattle.papaya_deeds.specs.Given.Schedules.declared.call.Reply.{Reply}
+use Rattle.papaya_deeds.specs.Given.Schedules.declared.call.Reply.TheVariants as reply
+use Rattle.papaya_deeds.specs.Given.Schedules.declared.outcome.Outcome.{Outcome}
+use Rattle.papaya_deeds.specs.Given.Schedules.declared.outcome.Outcome.TheVariants as outcome
+use Rattle.papaya_named.specs.Given.Effects.Effects.{effects_of, known_after}
+use Rattle.papaya_named.specs.Given.Effects.Known.{Known, nothing_known}
+use Rattle.papaya_named.specs.Given.Effects.declared.acting.Acting.{Acting}
+use Rattle.papaya_named.specs.Given.Effects.declared.acting.Acting.TheVariants as acting
 use Rattle.papaya_named.specs.Machines.{aborted_by, machine_for}
 use Rattle.papaya_named.specs.Seen.{kind_of}
 use Rattle.papaya_named.specs.Telling.{answer_of, kept, number_by}

@@ -1,1 +1,2 @@
 pub mod Crowds
+pub mod Given

@@ -5,3 +5,4 @@ pub mod Protected
 pub mod Weights
 pub mod Brief
 mod Samples
+pub mod Given

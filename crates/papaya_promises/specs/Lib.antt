@@ -7,3 +7,4 @@ pub mod Weights
 pub mod Brief
 pub mod Reading
 pub mod Meanwhile
+pub mod Given

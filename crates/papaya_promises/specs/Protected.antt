@@ -1,47 +1,47 @@
 -- What is promised of an event as it goes on: what left its map in sections that it does not end is sheltered by these, and not reclaimed.
 use Rattle.std.specs.Prelude.{◌≡◌, ℕ, Bool, true, false, List, [], ◌++◌, Option, Some, None, flat_map}
-use Rattle.papaya_histories.specs.Given.Seize.World.{World, Step, IsInside}
-use Rattle.papaya_histories.specs.Given.Seize.declared.progress.Progress.{Progress as Making}
-use Rattle.papaya_histories.specs.Given.Seize.declared.rows.settle.Settled.{Settled}
-use Rattle.papaya_histories.specs.Given.Tables.declared.node.Node.{Node}
-use Rattle.papaya_histories.specs.Given.Tables.declared.setting.Setting.{Setting}
-use Rattle.papaya_histories.specs.Given.Raw.declared.machines.progress.Progress.{Progress}
-use Rattle.papaya_histories.specs.Given.Runs.Present.{Present, nobody, guard_of, slot_of_registration, drops}
-use Rattle.papaya_histories.specs.Given.Runs.declared.holders.Guard.{Guard}
-use Rattle.papaya_histories.specs.Given.Schedules.declared.effect.Effect.{Effect}
-use Rattle.papaya_histories.specs.Given.Schedules.declared.event.Event.{Event}
-use Rattle.papaya_histories.specs.Given.Schedules.declared.event.Event.TheVariants.{Register, Unregister, Enter, Own, Refresh, Flush, DropGuard, ReclaimAll, Close}
-use Rattle.papaya_histories.specs.Given.Schedules.declared.outcome.Outcome.{Outcome}
-use Rattle.papaya_histories.specs.Given.Schedules.declared.outcome.Outcome.TheVariants.{Done, Slot}
-use Rattle.papaya_histories.specs.Given.Schedules.After.{sheltered_on, after, moment}
-use Rattle.papaya_histories.specs.Given.Schedules.Beginning.{at_work}
-use Rattle.papaya_histories.specs.Given.Schedules.Effects.{with_effects, worked}
-use Rattle.papaya_histories.specs.Given.Schedules.Entry.{Entry, caller_of, acted_on}
-use Rattle.papaya_histories.specs.Given.Schedules.Model.{thing_back}
-use Rattle.papaya_histories.specs.Given.Schedules.Moment.{Sheltered, Moment}
-use Rattle.papaya_histories.specs.Given.Schedules.Reclaims.{IsProtected}
-use Rattle.papaya_histories.specs.Given.Callers.Together.{UnderWay}
-use Rattle.papaya_histories.specs.Given.Effects.Effects.{effects_of, known_after}
-use Rattle.papaya_histories.specs.Given.Effects.Known.{Known}
-use Rattle.papaya_histories.specs.Given.Effects.declared.acting.Acting.TheVariants as acts
-use Rattle.papaya_histories.specs.Given.Finishes.Endings.{Finishing}
-use Rattle.papaya_histories.specs.Given.Finishes.Makings.{Beginning}
-use Rattle.papaya_histories.specs.Given.Scenes.declared.row.RowTold.{RowTold}
-use Rattle.papaya_histories.specs.Given.Scenes.declared.row.SlotCall.{SlotCall}
-use Rattle.papaya_histories.specs.Given.Scenes.declared.row.SlotRow.{SlotRow}
-use Rattle.papaya_histories.specs.Given.Others.Makings.{WasNew}
-use Rattle.papaya_histories.specs.Given.Others.Rows.{scene_then}
-use Rattle.papaya_histories.specs.Given.Moments.Whole.{ShowsWhole}
+use Rattle.papaya_mapping.specs.Given.Seize.World.{World, Step, IsInside}
+use Rattle.papaya_mapping.specs.Given.Seize.declared.progress.Progress.{Progress as Making}
+use Rattle.papaya_mapping.specs.Given.Seize.declared.rows.settle.Settled.{Settled}
+use Rattle.papaya_mapping.specs.Given.Tables.declared.node.Node.{Node}
+use Rattle.papaya_mapping.specs.Given.Tables.declared.setting.Setting.{Setting}
+use Rattle.papaya_mapping.specs.Given.Raw.declared.machines.progress.Progress.{Progress}
+use Rattle.papaya_mapping.specs.Given.Runs.Present.{Present, nobody, guard_of, slot_of_registration, drops}
+use Rattle.papaya_mapping.specs.Given.Runs.declared.holders.Guard.{Guard}
+use Rattle.papaya_mapping.specs.Given.Schedules.declared.effect.Effect.{Effect}
+use Rattle.papaya_mapping.specs.Given.Schedules.declared.event.Event.{Event}
+use Rattle.papaya_mapping.specs.Given.Schedules.declared.event.Event.TheVariants.{Register, Unregister, Enter, Own, Refresh, Flush, DropGuard, ReclaimAll, Close}
+use Rattle.papaya_mapping.specs.Given.Schedules.declared.outcome.Outcome.{Outcome}
+use Rattle.papaya_mapping.specs.Given.Schedules.declared.outcome.Outcome.TheVariants.{Done, Slot}
+use Rattle.papaya_mapping.specs.Given.Schedules.After.{sheltered_on, after, moment}
+use Rattle.papaya_mapping.specs.Given.Schedules.Beginning.{at_work}
+use Rattle.papaya_mapping.specs.Given.Schedules.Effects.{with_effects, worked}
+use Rattle.papaya_mapping.specs.Given.Schedules.Entry.{Entry, caller_of, acted_on}
+use Rattle.papaya_mapping.specs.Given.Schedules.Model.{thing_back}
+use Rattle.papaya_mapping.specs.Given.Schedules.Moment.{Sheltered, Moment}
+use Rattle.papaya_mapping.specs.Given.Schedules.Reclaims.{IsProtected}
+use Rattle.papaya_mapping.specs.Given.Callers.Together.{UnderWay}
+use Rattle.papaya_mapping.specs.Given.Effects.Effects.{effects_of, known_after}
+use Rattle.papaya_mapping.specs.Given.Effects.Known.{Known}
+use Rattle.papaya_mapping.specs.Given.Effects.declared.acting.Acting.TheVariants as acts
+use Rattle.papaya_mapping.specs.Given.Finishes.Endings.{Finishing}
+use Rattle.papaya_mapping.specs.Given.Finishes.Makings.{Beginning}
+use Rattle.papaya_mapping.specs.Given.Scenes.declared.row.RowTold.{RowTold}
+use Rattle.papaya_mapping.specs.Given.Scenes.declared.row.SlotCall.{SlotCall}
+use Rattle.papaya_mapping.specs.Given.Scenes.declared.row.SlotRow.{SlotRow}
+use Rattle.papaya_mapping.specs.Given.Others.Makings.{WasNew}
+use Rattle.papaya_mapping.specs.Given.Others.Rows.{scene_then}
+use Rattle.papaya_mapping.specs.Given.Moments.Whole.{ShowsWhole}
 use Rattle.papaya_promises.specs.Guards.{EntersInside}
 use Rattle.papaya_promises.specs.Others.{SparesGuards}
 use Rattle.papaya_promises.specs.Sheltered.{GuardsAreInside, AreSheltered, SectionsHold}
 use Rattle.papaya_promises.specs.Shelters.{NoneIsBack}
-use Rattle.papaya_histories.specs.Given.Scenes.Ending.{EndingLeads}
-use Rattle.papaya_histories.specs.Given.Scenes.Held.{Held, IsAt}
-use Rattle.papaya_histories.specs.Given.Scenes.Making.{MakingLeads}
-use Rattle.papaya_histories.specs.Given.Scenes.OnSlots.{RowBegins, RowLeads}
-use Rattle.papaya_histories.specs.Given.Scenes.Scene.{IsOnSlot, Scene, slot_of}
-use Rattle.papaya_histories.specs.Given.Scenes.Stepping.{StepLeads}
+use Rattle.papaya_mapping.specs.Given.Scenes.Ending.{EndingLeads}
+use Rattle.papaya_mapping.specs.Given.Scenes.Held.{Held, IsAt}
+use Rattle.papaya_mapping.specs.Given.Scenes.Making.{MakingLeads}
+use Rattle.papaya_mapping.specs.Given.Scenes.OnSlots.{RowBegins, RowLeads}
+use Rattle.papaya_mapping.specs.Given.Scenes.Scene.{IsOnSlot, Scene, slot_of}
+use Rattle.papaya_mapping.specs.Given.Scenes.Stepping.{StepLeads}
 
 -- rows on slots are its work
 abbrev pub is_of_slots : {K V : Type 0} → Event K V → Bool

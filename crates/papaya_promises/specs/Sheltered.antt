@@ -1,17 +1,17 @@
 -- What left its map while guards were there: their critical sections hold it still.
 use Rattle.std.specs.Prelude.{◌≡◌, ℕ, ◌≤◌, true, List, Some}
 use Rattle.std.specs.List.{AllByRecursion}
-use Rattle.papaya_histories.specs.Given.Seize.Law.{holds}
-use Rattle.papaya_histories.specs.Given.Seize.World.{World, IsInside}
-use Rattle.papaya_histories.specs.Given.Tables.declared.node.Node.{Node}
-use Rattle.papaya_histories.specs.Given.Runs.Present.{Present, guard_of}
-use Rattle.papaya_histories.specs.Given.Runs.declared.holders.Guard.{Guard}
-use Rattle.papaya_histories.specs.Given.Schedules.declared.effect.Thing.{Thing}
-use Rattle.papaya_histories.specs.Given.Schedules.declared.effect.Thing.TheVariants.{APair, ATable}
-use Rattle.papaya_histories.specs.Given.Schedules.Moment.{Sheltered, Moment}
-use Rattle.papaya_histories.specs.Given.Effects.Known.{Known}
-use Rattle.papaya_histories.specs.Given.Effects.declared.role.Role.{Role}
-use Rattle.papaya_histories.specs.Given.Effects.declared.role.Role.TheVariants as role
+use Rattle.papaya_mapping.specs.Given.Seize.Law.{holds}
+use Rattle.papaya_mapping.specs.Given.Seize.World.{World, IsInside}
+use Rattle.papaya_mapping.specs.Given.Tables.declared.node.Node.{Node}
+use Rattle.papaya_mapping.specs.Given.Runs.Present.{Present, guard_of}
+use Rattle.papaya_mapping.specs.Given.Runs.declared.holders.Guard.{Guard}
+use Rattle.papaya_mapping.specs.Given.Schedules.declared.effect.Thing.{Thing}
+use Rattle.papaya_mapping.specs.Given.Schedules.declared.effect.Thing.TheVariants.{APair, ATable}
+use Rattle.papaya_mapping.specs.Given.Schedules.Moment.{Sheltered, Moment}
+use Rattle.papaya_mapping.specs.Given.Effects.Known.{Known}
+use Rattle.papaya_mapping.specs.Given.Effects.declared.role.Role.{Role}
+use Rattle.papaya_mapping.specs.Given.Effects.declared.role.Role.TheVariants as role
 
 -- a block with this role is that thing
 abbrev pub IsOfThing : Thing → Role → Type 0

@@ -1,17 +1,17 @@
 -- So it is after each act: what was sheltered is so still, and no entry reclaims any of it.
 use Rattle.std.proofs.Common.{◌≡◌, ℕ, List, ◌∷◌, ap, sym, subst}
-use Rattle.papaya_histories.specs.Given.Seize.World.{Begins, World}
-use Rattle.papaya_histories.specs.Given.Tables.Nodes.{deferred_word}
-use Rattle.papaya_histories.specs.Given.Tables.declared.node.Node.{Node}
-use Rattle.papaya_histories.specs.Given.Schedules.After.{AtEachEvent}
-use Rattle.papaya_histories.specs.Given.Effects.Known.{Known}
-use Rattle.papaya_scenes.specs.Rows.{request_of}
-use Rattle.papaya_scenes.specs.Scene.{Scene}
-use Rattle.papaya_scenes.specs.declared.row.SlotCall.{SlotCall}
-use Rattle.papaya_scenes.specs.declared.row.SlotCall.TheVariants as call
+use Rattle.papaya_runs.specs.Given.Seize.World.{Begins, World}
+use Rattle.papaya_runs.specs.Given.Tables.Nodes.{deferred_word}
+use Rattle.papaya_runs.specs.Given.Tables.declared.node.Node.{Node}
+use Rattle.papaya_schedules.specs.After.{AtEachEvent}
+use Rattle.papaya_linear.specs.Given.Effects.Known.{Known}
+use Rattle.papaya_linear.specs.Given.Scenes.Rows.{request_of}
+use Rattle.papaya_linear.specs.Given.Scenes.Scene.{Scene}
+use Rattle.papaya_linear.specs.Given.Scenes.declared.row.SlotCall.{SlotCall}
+use Rattle.papaya_linear.specs.Given.Scenes.declared.row.SlotCall.TheVariants as call
 use Rattle.papaya_deeds.specs.Deeds.{Entry, after, moment}
 use Rattle.papaya_deeds.specs.History.{IsProtected}
-use Rattle.papaya_played.specs.Play.{State}
+use Rattle.papaya_linear.specs.Given.Played.Play.{State}
 use Rattle.papaya_protects.specs.Shelters.{SectionsShelter}
 use Rattle.papaya_protects.proofs.Quiet.{shelters_still}
 use Rattle.papaya_protects.proofs.Sections.{Keeps, keeps_same}

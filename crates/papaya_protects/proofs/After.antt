@@ -4,29 +4,29 @@ use Rattle.std.specs.List.{AllByRecursion}
 use Rattle.std.specs.Option.{option_or}
 use Rattle.std.proofs.Common.{◌≡◌, ℕ, List, [], ◌∷◌, refl, ap, sym, subst, ◌∙◌}
 use Rattle.std.proofs.lemmas.List.Folds.{find-append}
-use Rattle.papaya_histories.specs.Given.Seize.World.{World}
-use Rattle.papaya_histories.specs.Given.Tables.declared.node.Node.{Node}
-use Rattle.papaya_histories.specs.Given.Runs.Present.{Present, drops, enters_slot, guard_of}
-use Rattle.papaya_histories.specs.Given.Runs.Same.{is_same}
-use Rattle.papaya_histories.specs.Given.Runs.declared.holders.Guard.{Guard}
-use Rattle.papaya_histories.specs.Given.Schedules.After.{unsheltered}
-use Rattle.papaya_histories.specs.Given.Schedules.Lists.{is_in}
-use Rattle.papaya_histories.specs.Given.Schedules.Model.{thing_back}
-use Rattle.papaya_histories.specs.Given.Schedules.Moment.{Moment, Sheltered}
-use Rattle.papaya_histories.specs.Given.Schedules.Things.{same_thing}
-use Rattle.papaya_histories.specs.Given.Schedules.declared.effect.Effect.{Effect}
-use Rattle.papaya_histories.specs.Given.Schedules.declared.effect.Thing.{Thing}
-use Rattle.papaya_histories.specs.Given.Effects.Known.{Known}
-use Rattle.papaya_histories.proofs.Given.Follows.Calling.{is_same_is, is_same_refl}
-use Rattle.papaya_promises.specs.Sheltered.{AreShelteredOn, GuardsAreOn, IsShelteredOn}
-use Rattle.papaya_promises.specs.Shelters.{NoneIsBack}
-use Rattle.papaya_promises.proofs.Lists.{IsFound, all_of}
-use Rattle.papaya_promises.proofs.Shelters.Events.{events_are_protected}
+use Rattle.papaya_runs.specs.Given.Seize.World.{World}
+use Rattle.papaya_runs.specs.Given.Tables.declared.node.Node.{Node}
+use Rattle.papaya_runs.specs.Present.{Present, drops, enters_slot, guard_of}
+use Rattle.papaya_runs.specs.Same.{is_same}
+use Rattle.papaya_runs.specs.declared.holders.Guard.{Guard}
+use Rattle.papaya_schedules.specs.After.{unsheltered}
+use Rattle.papaya_schedules.specs.Lists.{is_in}
+use Rattle.papaya_schedules.specs.Model.{thing_back}
+use Rattle.papaya_schedules.specs.Moment.{Moment, Sheltered}
+use Rattle.papaya_schedules.specs.Things.{same_thing}
+use Rattle.papaya_schedules.specs.declared.effect.Effect.{Effect}
+use Rattle.papaya_schedules.specs.declared.effect.Thing.{Thing}
+use Rattle.papaya_linear.specs.Given.Effects.Known.{Known}
+use Rattle.papaya_linear.proofs.Given.Follows.Calling.{is_same_is, is_same_refl}
+use Rattle.papaya_linear.specs.Given.Promises.Sheltered.{AreShelteredOn, GuardsAreOn, IsShelteredOn}
+use Rattle.papaya_linear.specs.Given.Promises.Shelters.{NoneIsBack}
+use Rattle.papaya_linear.proofs.Given.Promises.Lists.{IsFound, all_of}
+use Rattle.papaya_linear.proofs.Given.Promises.Shelters.Events.{events_are_protected}
 use Rattle.papaya_deeds.specs.Deeds.{Deed, Entry, after, moment, named, sheltered_on, there_on, worked}
 use Rattle.papaya_deeds.specs.History.{IsProtected, transition}
-use Rattle.papaya_agrees.specs.Guards.{guard_on}
-use Rattle.papaya_agrees.proofs.Leads.{LeavesThere, there_after}
-use Rattle.papaya_agrees.proofs.Lists.{all_kept, found_kept, found_so}
+use Rattle.papaya_linear.specs.Given.Agrees.Guards.{guard_on}
+use Rattle.papaya_linear.proofs.Given.Agrees.Leads.{LeavesThere, there_after}
+use Rattle.papaya_linear.proofs.Given.Agrees.Lists.{all_kept, found_kept, found_so}
 use Rattle.papaya_protects.specs.Shelters.{IsOpen, SectionsShelter}
 
 -- where nothing is reclaimed, none of these is

@@ -1,41 +1,41 @@
 -- Each kind of step leaves sheltered, in sections that are open, what is so.
 use Rattle.std.specs.Prelude.{◌≡◌, ℕ, Bool, List, [], Some, None, Option, flat_map}
 use Rattle.std.proofs.Common.{ap, ◌∙◌}
-use Rattle.papaya_histories.specs.Given.Seize.Law.{is_open}
-use Rattle.papaya_histories.specs.Given.Seize.World.{Runs, World}
-use Rattle.papaya_histories.specs.Given.Seize.declared.progress.Progress.{Progress}
-use Rattle.papaya_histories.specs.Given.Seize.declared.rows.settle.Settled.{Settled}
-use Rattle.papaya_histories.specs.Given.Tables.Nodes.{deferred_word}
-use Rattle.papaya_histories.specs.Given.Tables.declared.node.Node.{Node}
-use Rattle.papaya_histories.specs.Given.Tables.declared.setting.Setting.{Setting}
-use Rattle.papaya_histories.specs.Given.Raw.declared.machines.progress.Progress.{Progress as CallProgress}
-use Rattle.papaya_histories.specs.Given.Runs.Present.{Present}
-use Rattle.papaya_histories.specs.Given.Schedules.Effects.{with_effects}
-use Rattle.papaya_histories.specs.Given.Schedules.Model.{thing_back}
-use Rattle.papaya_histories.specs.Given.Schedules.Moment.{Moment, Sheltered}
-use Rattle.papaya_histories.specs.Given.Callers.Together.{UnderWay}
-use Rattle.papaya_histories.specs.Given.Effects.Effects.{effects_of, known_after}
-use Rattle.papaya_histories.specs.Given.Effects.Known.{Known}
-use Rattle.papaya_histories.specs.Given.Effects.declared.acting.Acting.TheVariants as acts
-use Rattle.papaya_histories.specs.Given.Finishes.Endings.{Finishing}
-use Rattle.papaya_histories.specs.Given.Finishes.FactsEnds.{Deed, JoinsPair, LeavesTable, Looks, TakesCounter, TakesLeft, TakesPair, WritesRoot, events_of}
-use Rattle.papaya_histories.specs.Given.Finishes.Makings.{Beginning}
-use Rattle.papaya_histories.specs.Given.Moments.Whole.{ShowsWhole}
-use Rattle.papaya_histories.specs.Given.Others.Makings.{WasNew}
-use Rattle.papaya_histories.specs.Given.Scenes.Ending.{EndingLeads}
-use Rattle.papaya_histories.specs.Given.Scenes.Held.{Held, IsAt}
-use Rattle.papaya_histories.specs.Given.Scenes.Making.{MakingLeads}
-use Rattle.papaya_histories.specs.Given.Scenes.OnSlots.{RowLeads}
-use Rattle.papaya_histories.specs.Given.Scenes.Scene.{IsOnSlot, Scene}
-use Rattle.papaya_histories.specs.Given.Scenes.Stepping.{StepLeads}
-use Rattle.papaya_histories.specs.Given.Scenes.declared.row.RowTold.{RowTold}
-use Rattle.papaya_histories.specs.Given.Scenes.declared.row.SlotRow.{SlotRow}
-use Rattle.papaya_promises.specs.Sheltered.{AreShelteredOn, GuardsAreOn}
-use Rattle.papaya_promises.specs.Shelters.{NoneIsBack}
-use Rattle.papaya_promises.proofs.Shelters.Calls.{call_shelters}
-use Rattle.papaya_promises.proofs.Shelters.Ends.{endings_shelter_on}
-use Rattle.papaya_promises.proofs.Shelters.Makings.{makings_shelter_on}
-use Rattle.papaya_promises.proofs.Shelters.Rows.{row_shelters}
+use Rattle.papaya_runs.specs.Given.Seize.Law.{is_open}
+use Rattle.papaya_runs.specs.Given.Seize.World.{Runs, World}
+use Rattle.papaya_runs.specs.Given.Seize.declared.progress.Progress.{Progress}
+use Rattle.papaya_runs.specs.Given.Seize.declared.rows.settle.Settled.{Settled}
+use Rattle.papaya_runs.specs.Given.Tables.Nodes.{deferred_word}
+use Rattle.papaya_runs.specs.Given.Tables.declared.node.Node.{Node}
+use Rattle.papaya_runs.specs.Given.Tables.declared.setting.Setting.{Setting}
+use Rattle.papaya_schedules.specs.Given.Raw.declared.machines.progress.Progress.{Progress as CallProgress}
+use Rattle.papaya_runs.specs.Present.{Present}
+use Rattle.papaya_schedules.specs.Effects.{with_effects}
+use Rattle.papaya_schedules.specs.Model.{thing_back}
+use Rattle.papaya_schedules.specs.Moment.{Moment, Sheltered}
+use Rattle.papaya_linear.specs.Given.Callers.Together.{UnderWay}
+use Rattle.papaya_linear.specs.Given.Effects.Effects.{effects_of, known_after}
+use Rattle.papaya_linear.specs.Given.Effects.Known.{Known}
+use Rattle.papaya_linear.specs.Given.Effects.declared.acting.Acting.TheVariants as acts
+use Rattle.papaya_linear.specs.Given.Finishes.Endings.{Finishing}
+use Rattle.papaya_linear.specs.Given.Finishes.FactsEnds.{Deed, JoinsPair, LeavesTable, Looks, TakesCounter, TakesLeft, TakesPair, WritesRoot, events_of}
+use Rattle.papaya_linear.specs.Given.Finishes.Makings.{Beginning}
+use Rattle.papaya_linear.specs.Given.Moments.Whole.{ShowsWhole}
+use Rattle.papaya_linear.specs.Given.Others.Makings.{WasNew}
+use Rattle.papaya_linear.specs.Given.Scenes.Ending.{EndingLeads}
+use Rattle.papaya_linear.specs.Given.Scenes.Held.{Held, IsAt}
+use Rattle.papaya_linear.specs.Given.Scenes.Making.{MakingLeads}
+use Rattle.papaya_linear.specs.Given.Scenes.OnSlots.{RowLeads}
+use Rattle.papaya_linear.specs.Given.Scenes.Scene.{IsOnSlot, Scene}
+use Rattle.papaya_linear.specs.Given.Scenes.Stepping.{StepLeads}
+use Rattle.papaya_linear.specs.Given.Scenes.declared.row.RowTold.{RowTold}
+use Rattle.papaya_linear.specs.Given.Scenes.declared.row.SlotRow.{SlotRow}
+use Rattle.papaya_linear.specs.Given.Promises.Sheltered.{AreShelteredOn, GuardsAreOn}
+use Rattle.papaya_linear.specs.Given.Promises.Shelters.{NoneIsBack}
+use Rattle.papaya_linear.proofs.Given.Promises.Shelters.Calls.{call_shelters}
+use Rattle.papaya_linear.proofs.Given.Promises.Shelters.Ends.{endings_shelter_on}
+use Rattle.papaya_linear.proofs.Given.Promises.Shelters.Makings.{makings_shelter_on}
+use Rattle.papaya_linear.proofs.Given.Promises.Shelters.Rows.{row_shelters}
 use Rattle.papaya_protects.specs.Shelters.{IsOpen, SectionsShelter}
 use Rattle.papaya_protects.proofs.Goes.{IsSpared, open_sections, spared_by_rows, spared_sections}
 use Rattle.papaya_protects.proofs.Sections.{step_keeps}

@@ -2,43 +2,43 @@
 use Rattle.std.specs.Prelude.{Bool, true, false, Option, Some, None, flat_map, if◌then◌else◌}
 use Rattle.std.specs.Option.{is_none}
 use Rattle.std.proofs.Common.{◌≡◌, ℕ, List, [], refl, ap, sym, subst, ◌∙◌}
-use Rattle.papaya_histories.specs.Given.Seize.World.{World}
-use Rattle.papaya_histories.specs.Given.Seize.declared.progress.Progress.{Progress}
-use Rattle.papaya_histories.specs.Given.Seize.declared.rows.settle.Settled.{Settled}
-use Rattle.papaya_histories.specs.Given.Tables.Nodes.{deferred_word}
-use Rattle.papaya_histories.specs.Given.Tables.declared.node.Node.{Node}
-use Rattle.papaya_histories.specs.Given.Tables.declared.setting.Setting.{Setting}
-use Rattle.papaya_histories.specs.Given.Resize.declared.new_map.NewMap.{NewMap}
-use Rattle.papaya_histories.specs.Given.Raw.declared.machines.progress.Progress.{Progress as CallProgress}
-use Rattle.papaya_histories.specs.Given.Schedules.Effects.{with_effects}
-use Rattle.papaya_histories.specs.Given.Schedules.Model.{thing_back}
-use Rattle.papaya_histories.specs.Given.Schedules.Moment.{Moment, UnderWay as CallThere}
-use Rattle.papaya_histories.specs.Given.Schedules.declared.call.Call.{Call}
-use Rattle.papaya_histories.specs.Given.Schedules.declared.effect.Effect.{Effect}
-use Rattle.papaya_histories.specs.Given.Schedules.declared.outcome.Outcome.{Outcome}
-use Rattle.papaya_histories.specs.Given.Callers.Together.{UnderWay}
-use Rattle.papaya_histories.proofs.Given.Callers.Together.Came.{came_reached}
-use Rattle.papaya_histories.proofs.Given.SeizeAlone.Histories.Reached.{Reached}
-use Rattle.papaya_histories.specs.Given.Effects.Effects.{effects_of, known_after}
-use Rattle.papaya_histories.specs.Given.Effects.Known.{Known}
-use Rattle.papaya_histories.specs.Given.Effects.declared.acting.Acting.TheVariants as acts
-use Rattle.papaya_histories.specs.Given.Finishes.Endings.{Finishing}
-use Rattle.papaya_histories.specs.Given.Finishes.Makings.{Beginning}
-use Rattle.papaya_histories.specs.Given.Moments.Whole.{ShowsWhole}
-use Rattle.papaya_histories.specs.Given.Others.Makings.{WasNew}
-use Rattle.papaya_scenes.specs.Ending.{EndingLeads}
-use Rattle.papaya_scenes.specs.Held.{Held, IsAt}
-use Rattle.papaya_scenes.specs.Making.{MakingLeads}
-use Rattle.papaya_scenes.specs.Scene.{HasNoCall, Scene, row_of}
-use Rattle.papaya_scenes.specs.Stepping.{StepLeads}
-use Rattle.papaya_scenes.specs.declared.row.SlotRow.{SlotRow}
-use Rattle.papaya_promises.specs.Sheltered.{AreShelteredOn, GuardsAreOn}
+use Rattle.papaya_runs.specs.Given.Seize.World.{World}
+use Rattle.papaya_runs.specs.Given.Seize.declared.progress.Progress.{Progress}
+use Rattle.papaya_runs.specs.Given.Seize.declared.rows.settle.Settled.{Settled}
+use Rattle.papaya_runs.specs.Given.Tables.Nodes.{deferred_word}
+use Rattle.papaya_runs.specs.Given.Tables.declared.node.Node.{Node}
+use Rattle.papaya_runs.specs.Given.Tables.declared.setting.Setting.{Setting}
+use Rattle.papaya_schedules.specs.Given.Resize.declared.new_map.NewMap.{NewMap}
+use Rattle.papaya_schedules.specs.Given.Raw.declared.machines.progress.Progress.{Progress as CallProgress}
+use Rattle.papaya_schedules.specs.Effects.{with_effects}
+use Rattle.papaya_schedules.specs.Model.{thing_back}
+use Rattle.papaya_schedules.specs.Moment.{Moment, UnderWay as CallThere}
+use Rattle.papaya_schedules.specs.declared.call.Call.{Call}
+use Rattle.papaya_schedules.specs.declared.effect.Effect.{Effect}
+use Rattle.papaya_schedules.specs.declared.outcome.Outcome.{Outcome}
+use Rattle.papaya_linear.specs.Given.Callers.Together.{UnderWay}
+use Rattle.papaya_linear.proofs.Given.Callers.Together.Came.{came_reached}
+use Rattle.papaya_linear.proofs.Given.SeizeAlone.Histories.Reached.{Reached}
+use Rattle.papaya_linear.specs.Given.Effects.Effects.{effects_of, known_after}
+use Rattle.papaya_linear.specs.Given.Effects.Known.{Known}
+use Rattle.papaya_linear.specs.Given.Effects.declared.acting.Acting.TheVariants as acts
+use Rattle.papaya_linear.specs.Given.Finishes.Endings.{Finishing}
+use Rattle.papaya_linear.specs.Given.Finishes.Makings.{Beginning}
+use Rattle.papaya_linear.specs.Given.Moments.Whole.{ShowsWhole}
+use Rattle.papaya_linear.specs.Given.Others.Makings.{WasNew}
+use Rattle.papaya_linear.specs.Given.Scenes.Ending.{EndingLeads}
+use Rattle.papaya_linear.specs.Given.Scenes.Held.{Held, IsAt}
+use Rattle.papaya_linear.specs.Given.Scenes.Making.{MakingLeads}
+use Rattle.papaya_linear.specs.Given.Scenes.Scene.{HasNoCall, Scene, row_of}
+use Rattle.papaya_linear.specs.Given.Scenes.Stepping.{StepLeads}
+use Rattle.papaya_linear.specs.Given.Scenes.declared.row.SlotRow.{SlotRow}
+use Rattle.papaya_linear.specs.Given.Promises.Sheltered.{AreShelteredOn, GuardsAreOn}
 use Rattle.papaya_deeds.specs.Deeds.{Deed, Ends, Entry, Makes, MapComes, MapFails, MapGoes, Steps, acted_on, after, at_work, begun, caller_of, map_of_call, moment, named, worked}
 use Rattle.papaya_deeds.specs.History.{IsProtected}
-use Rattle.papaya_played.specs.Play.{Ending, State, ending_deed, has_root, is_over, making_deed, pairs_for}
-use Rattle.papaya_played.specs.Reached.{IsOf, row_or_rests}
-use Rattle.papaya_played.proofs.Noted.{IsNoted}
-use Rattle.papaya_agrees.specs.Guards.{GuardsAgree}
+use Rattle.papaya_linear.specs.Given.Played.Play.{Ending, State, ending_deed, has_root, is_over, making_deed, pairs_for}
+use Rattle.papaya_linear.specs.Given.Played.Reached.{IsOf, row_or_rests}
+use Rattle.papaya_linear.proofs.Given.Played.Noted.{IsNoted}
+use Rattle.papaya_linear.specs.Given.Agrees.Guards.{GuardsAgree}
 use Rattle.papaya_protects.specs.Shelters.{IsOpen, SectionsShelter}
 use Rattle.papaya_protects.proofs.After.{IsCalm, calm_shelters, none_back, protected_so}
 use Rattle.papaya_protects.proofs.Guards.{all_spared, guards_spared}

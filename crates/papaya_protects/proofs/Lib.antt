@@ -10,3 +10,4 @@ pub mod Acts
 mod Played
 mod Stays
 pub mod Protected
+pub mod Given

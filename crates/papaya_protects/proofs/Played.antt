@@ -1,51 +1,51 @@
 -- Each act that is played leaves it so: nothing is reclaimed that is sheltered, and what is is sheltered still.
 use Rattle.std.specs.Prelude.{Bool, true, false, Some, is_ok, length, if◌then◌else◌}
 use Rattle.std.proofs.Common.{◌≡◌, ℕ, [], ◌∷◌, refl, ap, sym, subst, ◌∙◌}
-use Rattle.seize_acts.specs.Acts.{row_steps}
-use Rattle.seize_acts.specs.Answers.{Grant}
-use Rattle.papaya_histories.specs.Given.Seize.Law.{Ended}
-use Rattle.papaya_histories.specs.Given.Seize.World.{Row, World}
-use Rattle.papaya_histories.specs.Given.Seize.declared.progress.Progress.{Progress}
-use Rattle.papaya_histories.specs.Given.Seize.declared.progress.Progress.TheVariants as progress
-use Rattle.papaya_histories.specs.Given.Seize.declared.rows.settle.Settled.{Settled}
-use Rattle.papaya_histories.specs.Given.Seize.declared.rows.settle.Settled.TheVariants as settled
-use Rattle.papaya_histories.specs.Given.Tables.Nodes.{deferred_word}
-use Rattle.papaya_histories.specs.Given.Tables.declared.node.Node.{Node}
-use Rattle.papaya_histories.specs.Given.Tables.declared.setting.Setting.{Setting}
-use Rattle.papaya_histories.specs.Given.Resize.declared.new_map.NewMap.{NewMap}
-use Rattle.papaya_histories.specs.Given.Raw.Machine.{machine_asked, machine_replied}
-use Rattle.papaya_histories.specs.Given.Raw.declared.machines.end_map.EndMap.{EndMap}
-use Rattle.papaya_histories.specs.Given.Runs.declared.holders.Guard.{Guard}
-use Rattle.papaya_histories.specs.Given.Schedules.Moment.{Moment}
-use Rattle.papaya_histories.specs.Given.Schedules.declared.outcome.Outcome.{Outcome}
-use Rattle.papaya_histories.specs.Given.Schedules.declared.outcome.Outcome.TheVariants as outcome
-use Rattle.papaya_histories.specs.Given.Teller.declared.changed.Changed.{Changed}
-use Rattle.papaya_histories.specs.Given.Teller.declared.changed.Changed.TheVariants.{Nothing as NoChange}
-use Rattle.papaya_histories.specs.Given.Effects.Effects.{effects_of, known_after}
-use Rattle.papaya_histories.specs.Given.Effects.declared.acting.Acting.TheVariants as acts
-use Rattle.papaya_histories.specs.Given.Finishes.Endings.{Finishing}
-use Rattle.papaya_histories.specs.Given.Finishes.FactsEnds.{Deed as EndDeed}
-use Rattle.papaya_histories.specs.Given.Finishes.Makings.{Beginning}
-use Rattle.papaya_histories.specs.Given.Others.Makings.{WasNew}
-use Rattle.papaya_scenes.specs.Ending.{EndingComesTo}
-use Rattle.papaya_scenes.specs.Held.{Held, IsAt}
-use Rattle.papaya_scenes.specs.Making.{MakingComesTo, MakingLeads}
-use Rattle.papaya_scenes.specs.Scene.{HasNoCall, IsOnSlot, Scene, row_of, slot_of}
-use Rattle.papaya_acts.specs.Acts.{Act, Answer, AsksCall, BeginsCall, BeginsEnding, BeginsMaking, BeginsRow, OfEnding, OfMaking, StepsCall, StepsEnding, StepsMaking, StepsRow, StopsCall, TellsCall}
-use Rattle.papaya_acts.specs.AsSteps.{EndedTo, LeadsAs, MadeTo, changed_by, held_in, row_changed, row_told}
-use Rattle.papaya_acts.specs.Leads.{Led, MayBe}
+use Rattle.papaya_linear.specs.Given.SeizeActs.Acts.{row_steps}
+use Rattle.papaya_linear.specs.Given.SeizeActs.Answers.{Grant}
+use Rattle.papaya_runs.specs.Given.Seize.Law.{Ended}
+use Rattle.papaya_runs.specs.Given.Seize.World.{Row, World}
+use Rattle.papaya_runs.specs.Given.Seize.declared.progress.Progress.{Progress}
+use Rattle.papaya_runs.specs.Given.Seize.declared.progress.Progress.TheVariants as progress
+use Rattle.papaya_runs.specs.Given.Seize.declared.rows.settle.Settled.{Settled}
+use Rattle.papaya_runs.specs.Given.Seize.declared.rows.settle.Settled.TheVariants as settled
+use Rattle.papaya_runs.specs.Given.Tables.Nodes.{deferred_word}
+use Rattle.papaya_runs.specs.Given.Tables.declared.node.Node.{Node}
+use Rattle.papaya_runs.specs.Given.Tables.declared.setting.Setting.{Setting}
+use Rattle.papaya_schedules.specs.Given.Resize.declared.new_map.NewMap.{NewMap}
+use Rattle.papaya_schedules.specs.Given.Raw.Machine.{machine_asked, machine_replied}
+use Rattle.papaya_schedules.specs.Given.Raw.declared.machines.end_map.EndMap.{EndMap}
+use Rattle.papaya_runs.specs.declared.holders.Guard.{Guard}
+use Rattle.papaya_schedules.specs.Moment.{Moment}
+use Rattle.papaya_schedules.specs.declared.outcome.Outcome.{Outcome}
+use Rattle.papaya_schedules.specs.declared.outcome.Outcome.TheVariants as outcome
+use Rattle.papaya_linear.specs.Given.Teller.declared.changed.Changed.{Changed}
+use Rattle.papaya_linear.specs.Given.Teller.declared.changed.Changed.TheVariants.{Nothing as NoChange}
+use Rattle.papaya_linear.specs.Given.Effects.Effects.{effects_of, known_after}
+use Rattle.papaya_linear.specs.Given.Effects.declared.acting.Acting.TheVariants as acts
+use Rattle.papaya_linear.specs.Given.Finishes.Endings.{Finishing}
+use Rattle.papaya_linear.specs.Given.Finishes.FactsEnds.{Deed as EndDeed}
+use Rattle.papaya_linear.specs.Given.Finishes.Makings.{Beginning}
+use Rattle.papaya_linear.specs.Given.Others.Makings.{WasNew}
+use Rattle.papaya_linear.specs.Given.Scenes.Ending.{EndingComesTo}
+use Rattle.papaya_linear.specs.Given.Scenes.Held.{Held, IsAt}
+use Rattle.papaya_linear.specs.Given.Scenes.Making.{MakingComesTo, MakingLeads}
+use Rattle.papaya_linear.specs.Given.Scenes.Scene.{HasNoCall, IsOnSlot, Scene, row_of, slot_of}
+use Rattle.papaya_linear.specs.Given.Acts.Acts.{Act, Answer, AsksCall, BeginsCall, BeginsEnding, BeginsMaking, BeginsRow, OfEnding, OfMaking, StepsCall, StepsEnding, StepsMaking, StepsRow, StopsCall, TellsCall}
+use Rattle.papaya_linear.specs.Given.Acts.AsSteps.{EndedTo, LeadsAs, MadeTo, changed_by, held_in, row_changed, row_told}
+use Rattle.papaya_linear.specs.Given.Acts.Leads.{Led, MayBe}
 use Rattle.papaya_deeds.specs.Deeds.{Begins, Entry, Replies, Steps, Stops, begun, moment}
-use Rattle.papaya_named.specs.Seen.{kind_of}
-use Rattle.papaya_played.specs.Play.{State, call_for, ending_deed, has_root, is_refusal, making_deed, making_outcome, outcome_of, reply_for, row_deed, row_outcome, row_stepped, settled_outcome}
-use Rattle.papaya_played.specs.Reached.{IsOf, row_or_rests}
-use Rattle.papaya_played.proofs.PlayedAs.{PlayedAs}
-use Rattle.papaya_agrees.specs.Guards.{GuardsAgree, IsOpen as IsOpenOn, guard_on}
-use Rattle.papaya_agrees.proofs.Openings.{rootless_quiet}
-use Rattle.papaya_agrees.proofs.Rows.{rows_by}
-use Rattle.papaya_promises.proofs.Lists.{all_found, all_of}
+use Rattle.papaya_linear.specs.Given.Named.Seen.{kind_of}
+use Rattle.papaya_linear.specs.Given.Played.Play.{State, call_for, ending_deed, has_root, is_refusal, making_deed, making_outcome, outcome_of, reply_for, row_deed, row_outcome, row_stepped, settled_outcome}
+use Rattle.papaya_linear.specs.Given.Played.Reached.{IsOf, row_or_rests}
+use Rattle.papaya_linear.proofs.Given.Played.PlayedAs.{PlayedAs}
+use Rattle.papaya_linear.specs.Given.Agrees.Guards.{GuardsAgree, IsOpen as IsOpenOn, guard_on}
+use Rattle.papaya_linear.proofs.Given.Agrees.Openings.{rootless_quiet}
+use Rattle.papaya_linear.proofs.Given.Agrees.Rows.{rows_by}
+use Rattle.papaya_linear.proofs.Given.Promises.Lists.{all_found, all_of}
 use Rattle.papaya_linear.proofs.Holding.{AllHolds}
 use Rattle.papaya_linear.proofs.MakesRight.{was_new}
-use Rattle.papaya_played.proofs.Tied.{MakingTied, call_tied, ending_tied, making_tied}
+use Rattle.papaya_linear.proofs.Given.Played.Tied.{MakingTied, call_tied, ending_tied, making_tied}
 use Rattle.papaya_protects.specs.Shelters.{IsOpen}
 use Rattle.papaya_protects.proofs.Acts.{Protected, begun_keeps, none_more, one_more}
 use Rattle.papaya_protects.proofs.After.{IsCalm, all_on, protected_so}

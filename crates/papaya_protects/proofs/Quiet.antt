@@ -1,29 +1,29 @@
 -- Where nothing is done to what is known, open sections that keep what they hold shelter what they did.
 use Rattle.std.proofs.Common.{◌≡◌, ℕ, false, List, refl, sym, subst}
-use Rattle.papaya_scenes.specs.Given.SeizeWords.Mem.{Mem}
-use Rattle.papaya_scenes.specs.Given.SeizeWords.Op.{Out, Exchange, Exchanged}
+use Rattle.papaya_deeds.specs.Given.SeizeWords.Mem.{Mem}
+use Rattle.papaya_deeds.specs.Given.SeizeWords.Op.{Out, Exchange, Exchanged}
 use Rattle.std.specs.Prelude.{Ok}
-use Rattle.papaya_scenes.specs.Given.SeizeWords.declared.at.At.TheVariants.{Used}
-use Rattle.papaya_scenes.specs.Given.Seize.declared.progress.Progress.{Progress}
-use Rattle.papaya_scenes.specs.Given.Tables.declared.node.Node.{Node}
-use Rattle.papaya_scenes.specs.Given.Tables.declared.setting.Setting.{Setting}
-use Rattle.papaya_scenes.specs.Given.Resize.NewMap.{plan_at}
-use Rattle.papaya_scenes.specs.Given.Resize.declared.new_map.NewMap.{NewMap}
-use Rattle.papaya_scenes.specs.Given.Resize.declared.new_map.Opening.{Opening}
-use Rattle.papaya_scenes.specs.Given.Resize.declared.new_map.Opening.TheVariants as openings
-use Rattle.papaya_scenes.specs.Given.Tells.Seen.{seen_of}
-use Rattle.papaya_scenes.specs.Given.Teller.Tells.{StepsTold, told_of}
-use Rattle.papaya_scenes.specs.Given.Teller.declared.changed.Changed.{Changed}
-use Rattle.papaya_scenes.specs.Given.Teller.declared.changed.Changed.TheVariants as changed
-use Rattle.papaya_histories.specs.Given.Seize.World.{World}
-use Rattle.papaya_histories.specs.Given.Runs.Present.{Present}
-use Rattle.papaya_histories.specs.Given.Schedules.Moment.{Moment, Sheltered}
-use Rattle.papaya_histories.specs.Given.Effects.Effects.{known_after}
-use Rattle.papaya_histories.specs.Given.Effects.Known.{Known}
-use Rattle.papaya_histories.specs.Given.Effects.declared.acting.Acting.{Acting}
-use Rattle.papaya_promises.specs.Sheltered.{AreShelteredOn, IsShelteredOn}
-use Rattle.papaya_promises.proofs.Lists.{all_of}
-use Rattle.papaya_played.specs.Play.{has_root}
+use Rattle.papaya_deeds.specs.Given.SeizeWords.declared.at.At.TheVariants.{Used}
+use Rattle.papaya_runs.specs.Given.Seize.declared.progress.Progress.{Progress}
+use Rattle.papaya_runs.specs.Given.Tables.declared.node.Node.{Node}
+use Rattle.papaya_runs.specs.Given.Tables.declared.setting.Setting.{Setting}
+use Rattle.papaya_schedules.specs.Given.Resize.NewMap.{plan_at}
+use Rattle.papaya_schedules.specs.Given.Resize.declared.new_map.NewMap.{NewMap}
+use Rattle.papaya_schedules.specs.Given.Resize.declared.new_map.Opening.{Opening}
+use Rattle.papaya_schedules.specs.Given.Resize.declared.new_map.Opening.TheVariants as openings
+use Rattle.papaya_linear.specs.Given.Tells.Seen.{seen_of}
+use Rattle.papaya_linear.specs.Given.Teller.Tells.{StepsTold, told_of}
+use Rattle.papaya_linear.specs.Given.Teller.declared.changed.Changed.{Changed}
+use Rattle.papaya_linear.specs.Given.Teller.declared.changed.Changed.TheVariants as changed
+use Rattle.papaya_runs.specs.Given.Seize.World.{World}
+use Rattle.papaya_runs.specs.Present.{Present}
+use Rattle.papaya_schedules.specs.Moment.{Moment, Sheltered}
+use Rattle.papaya_linear.specs.Given.Effects.Effects.{known_after}
+use Rattle.papaya_linear.specs.Given.Effects.Known.{Known}
+use Rattle.papaya_linear.specs.Given.Effects.declared.acting.Acting.{Acting}
+use Rattle.papaya_linear.specs.Given.Promises.Sheltered.{AreShelteredOn, IsShelteredOn}
+use Rattle.papaya_linear.proofs.Given.Promises.Lists.{all_of}
+use Rattle.papaya_linear.specs.Given.Played.Play.{has_root}
 use Rattle.papaya_protects.specs.Shelters.{IsOpen, SectionsShelter}
 use Rattle.papaya_protects.proofs.Sections.{Keeps}
 

@@ -1,2 +1,3 @@
 pub mod Shelters
 pub mod Protected
+pub mod Given

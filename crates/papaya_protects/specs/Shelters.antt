@@ -1,11 +1,11 @@
 -- What left its map while guards were there: sections that are open, by what has happened, hold it still.
 use Rattle.std.specs.Prelude.{◌≡◌, ℕ, true}
-use Rattle.papaya_histories.specs.Given.Seize.Law.{is_open}
-use Rattle.papaya_histories.specs.Given.Seize.World.{World}
-use Rattle.papaya_histories.specs.Given.Tables.declared.node.Node.{Node}
-use Rattle.papaya_histories.specs.Given.Schedules.Moment.{Moment}
-use Rattle.papaya_histories.specs.Given.Effects.Known.{Known}
-use Rattle.papaya_promises.specs.Sheltered.{AreShelteredOn, GuardsAreOn}
+use Rattle.papaya_runs.specs.Given.Seize.Law.{is_open}
+use Rattle.papaya_runs.specs.Given.Seize.World.{World}
+use Rattle.papaya_runs.specs.Given.Tables.declared.node.Node.{Node}
+use Rattle.papaya_schedules.specs.Moment.{Moment}
+use Rattle.papaya_linear.specs.Given.Effects.Known.{Known}
+use Rattle.papaya_linear.specs.Given.Promises.Sheltered.{AreShelteredOn, GuardsAreOn}
 
 module _ {K V : Type 0} where
   -- the section of a slot is open

@@ -3,52 +3,52 @@ use Rattle.std.specs.Prelude.{◌≡◌, ◌≢◌, ℕ, ◌<◌, ◌≤◌, Boo
 use Rattle.std.specs.Int.{IsPowerOfTwo}
 use Rattle.std.specs.List.{AllByRecursion}
 use Rattle.std.proofs.Common.{refl, ap, sym, subst, ◌∙◌, arith, inl, inr}
-use Rattle.papaya_finds.specs.Given.SeizeWords.Mem.{Mem, Took, value_at}
-use Rattle.papaya_finds.specs.Given.SeizeWords.Plan.{Steps}
-use Rattle.papaya_finds.specs.Given.SeizeWords.declared.fault.Fault.{Fault}
-use Rattle.papaya_finds.proofs.Given.SeizeRule.Rows.Leaving.{steps_back}
-use Rattle.papaya_finds.specs.Given.Seize.World.{World}
-use Rattle.papaya_finds.specs.Given.Tables.Chunks.{is_incremental}
-use Rattle.papaya_finds.specs.Given.Tables.declared.node.Node.{Node}
-use Rattle.papaya_finds.specs.Given.Tables.declared.setting.Setting.{Setting}
-use Rattle.papaya_finds.specs.Given.Tables.declared.status.TheConstants.Status.{ABORTED}
-use Rattle.papaya_finds.specs.Given.Tables.declared.table.Table.{Table}
-use Rattle.papaya_finds.specs.Given.Resize.Copier.{copier_plan}
-use Rattle.papaya_finds.specs.Given.Resize.declared.copier.Copier.{Copier}
-use Rattle.papaya_finds.specs.Given.Resize.declared.outcome.Outcome.{Outcome}
-use Rattle.papaya_finds.specs.Given.Resize.declared.outcome.Outcome.TheVariants as outcome
-use Rattle.papaya_finds.specs.Given.Sweeps.Sweep.{copied, plan_at, sweep_plan}
-use Rattle.papaya_finds.specs.Given.Sweeps.SweepPoints.{entering, told}
-use Rattle.papaya_finds.specs.Given.Sweeps.declared.sweep.Purpose.TheVariants.{Walks}
-use Rattle.papaya_finds.specs.Given.Sweeps.declared.sweep.Sweep.{Sweep}
-use Rattle.papaya_finds.specs.Given.Sweeps.declared.sweep.Sweeping.{Sweeping}
-use Rattle.papaya_finds.specs.Given.Sweeps.declared.sweep.Sweeping.TheVariants as at
-use Rattle.papaya_finds.specs.Given.Sweeps.declared.sweep.Swept.{Swept}
-use Rattle.papaya_finds.specs.Given.Sweeps.declared.sweep.Swept.TheVariants as swept
-use Rattle.papaya_finds.specs.Given.Rule.Chart.{Chart}
-use Rattle.papaya_finds.specs.Given.Rule.InWorld.{IsMapIn, Moved}
-use Rattle.papaya_finds.specs.Given.Rule.Maps.{spot_of}
-use Rattle.papaya_finds.specs.Given.Rule.Moments.{Moments}
-use Rattle.papaya_finds.specs.Given.Rule.Rule.{IsLawful, Rule}
-use Rattle.papaya_finds.specs.Given.Rule.Words.{Blocks}
-use Rattle.papaya_finds.proofs.Given.Rule.Moves.Promised.{moves_keep}
-use Rattle.papaya_finds.specs.Given.Points.Steps.{AreLawful}
-use Rattle.papaya_finds.specs.Given.Late.Covers.{times, WasSince, CoversAt}
-use Rattle.papaya_finds.specs.Given.Late.FactsSweeps.{GoesOver, SweepingFacts}
-use Rattle.papaya_finds.specs.Given.Late.ToldSweeps.{IsRowOfSweep}
-use Rattle.papaya_finds.proofs.Given.Late.Swept.Sweeps.Points.{went_sweep}
-use Rattle.papaya_finds.proofs.Given.Late.Swept.Sweeps.Tables.{upto_in, live_in}
-use Rattle.papaya_finds.specs.Given.Callers.OverAll.{CallOverAll, sweep_once_over, past_sweeping}
-use Rattle.papaya_finds.specs.Given.Callers.Sights.{Sight, seen_by}
-use Rattle.papaya_finds.specs.Given.Callers.Together.{UnderWay, OverAll, Stands, Together, in_slot}
-use Rattle.papaya_finds.proofs.Given.Callers.Sights.Seen.{map_seen}
-use Rattle.papaya_finds.proofs.Given.Callers.Together.Few.{claim_few}
-use Rattle.papaya_finds.proofs.Given.Callers.Together.Fits.{map_in_slot}
-use Rattle.papaya_finds.specs.Given.Finishes.Maps.{Standing, IsSameMap}
-use Rattle.papaya_finds.proofs.Given.Follows.Steps.{one_of}
+use Rattle.papaya_shards.specs.Given.SeizeWords.Mem.{Mem, Took, value_at}
+use Rattle.papaya_shards.specs.Given.SeizeWords.Plan.{Steps}
+use Rattle.papaya_shards.specs.Given.SeizeWords.declared.fault.Fault.{Fault}
+use Rattle.papaya_shards.proofs.Given.SeizeRule.Rows.Leaving.{steps_back}
+use Rattle.papaya_shards.specs.Given.Seize.World.{World}
+use Rattle.papaya_shards.specs.Given.Tables.Chunks.{is_incremental}
+use Rattle.papaya_shards.specs.Given.Tables.declared.node.Node.{Node}
+use Rattle.papaya_shards.specs.Given.Tables.declared.setting.Setting.{Setting}
+use Rattle.papaya_shards.specs.Given.Tables.declared.status.TheConstants.Status.{ABORTED}
+use Rattle.papaya_shards.specs.Given.Tables.declared.table.Table.{Table}
+use Rattle.papaya_shards.specs.Given.Resize.Copier.{copier_plan}
+use Rattle.papaya_shards.specs.Given.Resize.declared.copier.Copier.{Copier}
+use Rattle.papaya_shards.specs.Given.Resize.declared.outcome.Outcome.{Outcome}
+use Rattle.papaya_shards.specs.Given.Resize.declared.outcome.Outcome.TheVariants as outcome
+use Rattle.papaya_shards.specs.Given.Sweeps.Sweep.{copied, plan_at, sweep_plan}
+use Rattle.papaya_shards.specs.Given.Sweeps.SweepPoints.{entering, told}
+use Rattle.papaya_shards.specs.Given.Sweeps.declared.sweep.Purpose.TheVariants.{Walks}
+use Rattle.papaya_shards.specs.Given.Sweeps.declared.sweep.Sweep.{Sweep}
+use Rattle.papaya_shards.specs.Given.Sweeps.declared.sweep.Sweeping.{Sweeping}
+use Rattle.papaya_shards.specs.Given.Sweeps.declared.sweep.Sweeping.TheVariants as at
+use Rattle.papaya_shards.specs.Given.Sweeps.declared.sweep.Swept.{Swept}
+use Rattle.papaya_shards.specs.Given.Sweeps.declared.sweep.Swept.TheVariants as swept
+use Rattle.papaya_shards.specs.Given.Rule.Chart.{Chart}
+use Rattle.papaya_shards.specs.Given.Rule.InWorld.{IsMapIn, Moved}
+use Rattle.papaya_shards.specs.Given.Rule.Maps.{spot_of}
+use Rattle.papaya_shards.specs.Given.Rule.Moments.{Moments}
+use Rattle.papaya_shards.specs.Given.Rule.Rule.{IsLawful, Rule}
+use Rattle.papaya_shards.specs.Given.Rule.Words.{Blocks}
+use Rattle.papaya_shards.proofs.Given.Rule.Moves.Promised.{moves_keep}
+use Rattle.papaya_shards.specs.Given.Points.Steps.{AreLawful}
+use Rattle.papaya_shards.specs.Given.Late.Covers.{times, WasSince, CoversAt}
+use Rattle.papaya_shards.specs.Given.Late.FactsSweeps.{GoesOver, SweepingFacts}
+use Rattle.papaya_shards.specs.Given.Late.ToldSweeps.{IsRowOfSweep}
+use Rattle.papaya_shards.proofs.Given.Late.Swept.Sweeps.Points.{went_sweep}
+use Rattle.papaya_shards.proofs.Given.Late.Swept.Sweeps.Tables.{upto_in, live_in}
+use Rattle.papaya_shards.specs.Given.Callers.OverAll.{CallOverAll, sweep_once_over, past_sweeping}
+use Rattle.papaya_shards.specs.Given.Callers.Sights.{Sight, seen_by}
+use Rattle.papaya_shards.specs.Given.Callers.Together.{UnderWay, OverAll, Stands, Together, in_slot}
+use Rattle.papaya_shards.proofs.Given.Callers.Sights.Seen.{map_seen}
+use Rattle.papaya_shards.proofs.Given.Callers.Together.Few.{claim_few}
+use Rattle.papaya_shards.proofs.Given.Callers.Together.Fits.{map_in_slot}
+use Rattle.papaya_shards.specs.Given.Finishes.Maps.{Standing, IsSameMap}
+use Rattle.papaya_shards.proofs.Given.Follows.Steps.{one_of}
 use Rattle.papaya_purposes.specs.Keys.{KeysAt, AreKeyed}
 use Rattle.papaya_purposes.specs.Purposes.{KeysOf}
-use Rattle.papaya_finds.specs.Given.Named.Machines.{IsBefore}
+use Rattle.papaya_shards.specs.Given.Named.Machines.{IsBefore}
 use Rattle.papaya_purposes.proofs.KeysOn.{IsLow, StandsLow, keys_at_on}
 use Rattle.papaya_purposes.proofs.KeysSteps.{Leads, copies_lead, walk_leads}
 use Rattle.papaya_purposes.proofs.Lists.{all_on, all_both}

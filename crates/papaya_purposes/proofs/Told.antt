@@ -3,57 +3,57 @@ use Rattle.std.specs.Prelude.{◌≡◌, ◌≢◌, ℕ, ◌+◌, ◌<◌, ◌�
 use Rattle.std.specs.List.{AllByRecursion}
 use Rattle.std.proofs.Common.{refl, ap, sym, subst, ◌∙◌, arith, inl, inr}
 use Rattle.std.proofs.lemmas.Bool.{cases_order, eq-eqb}
-use Rattle.papaya_finds.specs.Given.Sweeps.SweepPoints.{reply_at, after_reply}
-use Rattle.papaya_finds.specs.Given.Sweeps.declared.sweep.Purpose.TheVariants.{Retains}
-use Rattle.papaya_finds.specs.Given.Sweeps.declared.sweep.Sweep.{Sweep}
-use Rattle.papaya_finds.specs.Given.Sweeps.declared.sweep.Sweeping.{Sweeping}
-use Rattle.papaya_finds.specs.Given.Sweeps.declared.sweep.Sweeping.TheVariants as sweeping
-use Rattle.papaya_finds.specs.Given.Raw.Machine.{machine_replied, sweep_told}
-use Rattle.papaya_finds.specs.Given.Raw.declared.machines.asking.Reply.{Reply as MachineReply}
-use Rattle.papaya_finds.specs.Given.Raw.declared.machines.asking.Reply.TheVariants as reply
-use Rattle.papaya_finds.specs.Given.Runs.Same.{is_same}
-use Rattle.papaya_finds.specs.Given.Schedules.declared.call.Call.{Call}
-use Rattle.papaya_finds.specs.Given.Schedules.declared.call.Call.TheVariants as call
-use Rattle.papaya_finds.specs.Given.Schedules.declared.call.Reply.{Reply}
-use Rattle.papaya_finds.specs.Given.Schedules.declared.call.Reply.TheVariants.{Gives, Removes, Aborts, Decides}
-use Rattle.papaya_finds.specs.Given.Schedules.After.{replied}
-use Rattle.papaya_finds.specs.Given.Schedules.Moment.{Asking, Told, UnderWay as CallThere, Moment}
-use Rattle.papaya_finds.specs.Given.Schedules.Sweeps.{is_yes}
-use Rattle.papaya_finds.specs.Given.Schedules.Views.{call_of, reply_to}
-use Rattle.papaya_finds.specs.Given.Rule.Words.{Blocks}
-use Rattle.papaya_finds.specs.Given.Points.Steps.{AreLawful}
-use Rattle.papaya_finds.specs.Given.Late.Covers.{times, NamesPair, CoversAt}
-use Rattle.papaya_finds.specs.Given.Late.FactsSweeps.{SweepingFacts}
-use Rattle.papaya_finds.specs.Given.Late.ToldSweeps.{IsRowOfSweep}
-use Rattle.papaya_finds.specs.Given.Callers.OverAll.{CallOverAll, told_of}
-use Rattle.papaya_finds.specs.Given.Callers.Sights.{IsSight, seen_by}
-use Rattle.papaya_finds.specs.Given.Callers.Together.{UnderWay, OnKey, ForRoom, Counting, OverAll, KnowsSweep, Together, in_slot}
-use Rattle.papaya_finds.specs.Given.Effects.Known.{Known}
-use Rattle.papaya_finds.specs.Given.Effects.declared.role.Role.TheVariants as role
-use Rattle.papaya_finds.specs.Given.Finishes.Machines.{machine_of, ToldOfKind}
-use Rattle.papaya_finds.specs.Given.Finishes.Maps.{Standing}
-use Rattle.papaya_finds.specs.Given.Follows.Calling.{told}
-use Rattle.papaya_finds.specs.Given.Follows.Shows.{Shows}
-use Rattle.papaya_finds.proofs.Given.Follows.Calling.{is_same_refl, replied_same, told_with}
-use Rattle.papaya_finds.proofs.Given.Follows.Calls.{found}
-use Rattle.papaya_finds.proofs.Given.Follows.Steps.{one_of}
-use Rattle.papaya_finds.specs.Given.Hands.Asked.{as_told}
-use Rattle.papaya_finds.proofs.Given.Hands.Asking.{which}
-use Rattle.papaya_finds.proofs.Given.Hands.Calling.{caller_is}
-use Rattle.papaya_finds.specs.Given.Histories.Answers.{NamesPair as NamesNumber}
-use Rattle.papaya_finds.specs.Given.Histories.Histories.{since, IsWithin}
-use Rattle.papaya_finds.proofs.Given.Histories.Roles.{named_by}
-use Rattle.papaya_finds.specs.Given.Moments.Whole.{ShowsWhole}
+use Rattle.papaya_shards.specs.Given.Sweeps.SweepPoints.{reply_at, after_reply}
+use Rattle.papaya_shards.specs.Given.Sweeps.declared.sweep.Purpose.TheVariants.{Retains}
+use Rattle.papaya_shards.specs.Given.Sweeps.declared.sweep.Sweep.{Sweep}
+use Rattle.papaya_shards.specs.Given.Sweeps.declared.sweep.Sweeping.{Sweeping}
+use Rattle.papaya_shards.specs.Given.Sweeps.declared.sweep.Sweeping.TheVariants as sweeping
+use Rattle.papaya_shards.specs.Given.Raw.Machine.{machine_replied, sweep_told}
+use Rattle.papaya_shards.specs.Given.Raw.declared.machines.asking.Reply.{Reply as MachineReply}
+use Rattle.papaya_shards.specs.Given.Raw.declared.machines.asking.Reply.TheVariants as reply
+use Rattle.papaya_shards.specs.Given.Runs.Same.{is_same}
+use Rattle.papaya_shards.specs.Given.Schedules.declared.call.Call.{Call}
+use Rattle.papaya_shards.specs.Given.Schedules.declared.call.Call.TheVariants as call
+use Rattle.papaya_shards.specs.Given.Schedules.declared.call.Reply.{Reply}
+use Rattle.papaya_shards.specs.Given.Schedules.declared.call.Reply.TheVariants.{Gives, Removes, Aborts, Decides}
+use Rattle.papaya_shards.specs.Given.Schedules.After.{replied}
+use Rattle.papaya_shards.specs.Given.Schedules.Moment.{Asking, Told, UnderWay as CallThere, Moment}
+use Rattle.papaya_shards.specs.Given.Schedules.Sweeps.{is_yes}
+use Rattle.papaya_shards.specs.Given.Schedules.Views.{call_of, reply_to}
+use Rattle.papaya_shards.specs.Given.Rule.Words.{Blocks}
+use Rattle.papaya_shards.specs.Given.Points.Steps.{AreLawful}
+use Rattle.papaya_shards.specs.Given.Late.Covers.{times, NamesPair, CoversAt}
+use Rattle.papaya_shards.specs.Given.Late.FactsSweeps.{SweepingFacts}
+use Rattle.papaya_shards.specs.Given.Late.ToldSweeps.{IsRowOfSweep}
+use Rattle.papaya_shards.specs.Given.Callers.OverAll.{CallOverAll, told_of}
+use Rattle.papaya_shards.specs.Given.Callers.Sights.{IsSight, seen_by}
+use Rattle.papaya_shards.specs.Given.Callers.Together.{UnderWay, OnKey, ForRoom, Counting, OverAll, KnowsSweep, Together, in_slot}
+use Rattle.papaya_shards.specs.Given.Effects.Known.{Known}
+use Rattle.papaya_shards.specs.Given.Effects.declared.role.Role.TheVariants as role
+use Rattle.papaya_shards.specs.Given.Finishes.Machines.{machine_of, ToldOfKind}
+use Rattle.papaya_shards.specs.Given.Finishes.Maps.{Standing}
+use Rattle.papaya_shards.specs.Given.Follows.Calling.{told}
+use Rattle.papaya_shards.specs.Given.Follows.Shows.{Shows}
+use Rattle.papaya_shards.proofs.Given.Follows.Calling.{is_same_refl, replied_same, told_with}
+use Rattle.papaya_shards.proofs.Given.Follows.Calls.{found}
+use Rattle.papaya_shards.proofs.Given.Follows.Steps.{one_of}
+use Rattle.papaya_shards.specs.Given.Hands.Asked.{as_told}
+use Rattle.papaya_shards.proofs.Given.Hands.Asking.{which}
+use Rattle.papaya_shards.proofs.Given.Hands.Calling.{caller_is}
+use Rattle.papaya_shards.specs.Given.Histories.Answers.{NamesPair as NamesNumber}
+use Rattle.papaya_shards.specs.Given.Histories.Histories.{since, IsWithin}
+use Rattle.papaya_shards.proofs.Given.Histories.Roles.{named_by}
+use Rattle.papaya_shards.specs.Given.Moments.Whole.{ShowsWhole}
 use Rattle.papaya_purposes.specs.Kept.{AsksAboutIt, CallsTakePurposes}
 use Rattle.papaya_purposes.specs.Purposes.{IsFor, PairsWithin, HasAdded, HasMet, TellsDone, HasSwept, HasCome, ShowsPurposes}
 use Rattle.papaya_purposes.proofs.For.{key_is_for, sweep_for}
 use Rattle.papaya_purposes.proofs.Lists.{all_on, all_both, yes_now, yes_still}
 use Rattle.papaya_purposes.proofs.Shown.{same_still}
 use Rattle.papaya_purposes.proofs.Still.{within_still, classes_still, come_still}
-use Rattle.papaya_finds.specs.Given.Scenes.Held.{Held, IsAt}
-use Rattle.papaya_finds.specs.Given.Scenes.Replying.{scene_with}
-use Rattle.papaya_finds.specs.Given.Scenes.Scene.{Scene, slot_of}
-use Rattle.papaya_finds.specs.Given.Schedules.Transition.{Past}
+use Rattle.papaya_shards.specs.Given.Scenes.Held.{Held, IsAt}
+use Rattle.papaya_shards.specs.Given.Scenes.Replying.{scene_with}
+use Rattle.papaya_shards.specs.Given.Scenes.Scene.{Scene, slot_of}
+use Rattle.papaya_shards.specs.Given.Schedules.Transition.{Past}
 
 -- a pair that is not among them is none of them
 apart_step : (p x : ℕ) (xs : List ℕ) → times p (x ∷ xs) ≡ 0 → (x ≢ p) × (times p xs ≡ 0)

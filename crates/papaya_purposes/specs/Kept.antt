@@ -1,41 +1,41 @@
 -- Where a run goes on, the moment says what calls on whole maps have come to, and what they are for.
 use Rattle.std.specs.Prelude.{◌≡◌, ℕ, Bool, true, List, Option, Some, Ok, ◌⊎◌, suc}
-use Rattle.papaya_finds.specs.Given.Tables.declared.node.Node.{Node}
-use Rattle.papaya_finds.specs.Given.Sweeps.SweepPoints.{after_next}
-use Rattle.papaya_finds.specs.Given.Sweeps.declared.sweep.Sweeping.TheVariants as at
-use Rattle.papaya_finds.specs.Given.Raw.Machine.{machine_replied}
-use Rattle.papaya_finds.specs.Given.Raw.declared.machines.progress.Progress.{Progress}
-use Rattle.papaya_finds.specs.Given.Raw.declared.machines.progress.Progress.TheVariants as progress
-use Rattle.papaya_finds.specs.Given.Schedules.declared.call.Call.{Call}
-use Rattle.papaya_finds.specs.Given.Schedules.declared.call.Reply.{Reply}
-use Rattle.papaya_finds.specs.Given.Schedules.declared.outcome.Outcome.{Outcome}
-use Rattle.papaya_finds.specs.Given.Schedules.declared.outcome.Outcome.TheVariants.{Shows}
-use Rattle.papaya_finds.specs.Given.Schedules.Beginning.{with_call}
-use Rattle.papaya_finds.specs.Given.Schedules.Effects.{with_effects}
-use Rattle.papaya_finds.specs.Given.Schedules.Entry.{ends_call}
-use Rattle.papaya_finds.specs.Given.Schedules.Moment.{Asking, UnderWay as CallThere, Moment}
-use Rattle.papaya_finds.specs.Given.Schedules.Views.{call_of, is_in_map}
-use Rattle.papaya_finds.specs.Given.Callers.OverAll.{CallOverAll, gone_on}
-use Rattle.papaya_finds.specs.Given.Callers.Together.{UnderWay, OverAll}
-use Rattle.papaya_finds.specs.Given.Effects.Effects.{effects_of, known_after}
-use Rattle.papaya_finds.specs.Given.Effects.Known.{Known}
-use Rattle.papaya_finds.specs.Given.Effects.declared.acting.Acting.TheVariants as acts
-use Rattle.papaya_finds.specs.Given.Finishes.Machines.{machine_of, ToldOfKind}
-use Rattle.papaya_finds.specs.Given.Finishes.Maps.{Standing}
-use Rattle.papaya_finds.specs.Given.Follows.Calling.{NoneNamed, told, come_to}
-use Rattle.papaya_finds.specs.Given.Follows.Calls.{IsCalled}
-use Rattle.papaya_finds.specs.Given.Hands.Asked.{as_told}
-use Rattle.papaya_finds.specs.Given.Histories.Answers.{NamesPair}
-use Rattle.papaya_finds.specs.Given.Histories.Kept.{HasJustBegun, ChangesFirst}
-use Rattle.papaya_finds.specs.Given.Moments.Whole.{ShowsWhole}
+use Rattle.papaya_shards.specs.Given.Tables.declared.node.Node.{Node}
+use Rattle.papaya_shards.specs.Given.Sweeps.SweepPoints.{after_next}
+use Rattle.papaya_shards.specs.Given.Sweeps.declared.sweep.Sweeping.TheVariants as at
+use Rattle.papaya_shards.specs.Given.Raw.Machine.{machine_replied}
+use Rattle.papaya_shards.specs.Given.Raw.declared.machines.progress.Progress.{Progress}
+use Rattle.papaya_shards.specs.Given.Raw.declared.machines.progress.Progress.TheVariants as progress
+use Rattle.papaya_shards.specs.Given.Schedules.declared.call.Call.{Call}
+use Rattle.papaya_shards.specs.Given.Schedules.declared.call.Reply.{Reply}
+use Rattle.papaya_shards.specs.Given.Schedules.declared.outcome.Outcome.{Outcome}
+use Rattle.papaya_shards.specs.Given.Schedules.declared.outcome.Outcome.TheVariants.{Shows}
+use Rattle.papaya_shards.specs.Given.Schedules.Beginning.{with_call}
+use Rattle.papaya_shards.specs.Given.Schedules.Effects.{with_effects}
+use Rattle.papaya_shards.specs.Given.Schedules.Entry.{ends_call}
+use Rattle.papaya_shards.specs.Given.Schedules.Moment.{Asking, UnderWay as CallThere, Moment}
+use Rattle.papaya_shards.specs.Given.Schedules.Views.{call_of, is_in_map}
+use Rattle.papaya_shards.specs.Given.Callers.OverAll.{CallOverAll, gone_on}
+use Rattle.papaya_shards.specs.Given.Callers.Together.{UnderWay, OverAll}
+use Rattle.papaya_shards.specs.Given.Effects.Effects.{effects_of, known_after}
+use Rattle.papaya_shards.specs.Given.Effects.Known.{Known}
+use Rattle.papaya_shards.specs.Given.Effects.declared.acting.Acting.TheVariants as acts
+use Rattle.papaya_shards.specs.Given.Finishes.Machines.{machine_of, ToldOfKind}
+use Rattle.papaya_shards.specs.Given.Finishes.Maps.{Standing}
+use Rattle.papaya_shards.specs.Given.Follows.Calling.{NoneNamed, told, come_to}
+use Rattle.papaya_shards.specs.Given.Follows.Calls.{IsCalled}
+use Rattle.papaya_shards.specs.Given.Hands.Asked.{as_told}
+use Rattle.papaya_shards.specs.Given.Histories.Answers.{NamesPair}
+use Rattle.papaya_shards.specs.Given.Histories.Kept.{HasJustBegun, ChangesFirst}
+use Rattle.papaya_shards.specs.Given.Moments.Whole.{ShowsWhole}
 use Rattle.papaya_purposes.specs.Purposes.{IsFor, ShowsPurposes}
 use Rattle.papaya_purposes.specs.Shards.{ReadsShards}
-use Rattle.papaya_finds.specs.Given.Scenes.Beginning.{Begins}
-use Rattle.papaya_finds.specs.Given.Scenes.Held.{Held, IsAt}
-use Rattle.papaya_finds.specs.Given.Scenes.Replying.{scene_with}
-use Rattle.papaya_finds.specs.Given.Scenes.Scene.{Scene, slot_of}
-use Rattle.papaya_finds.specs.Given.Scenes.Stepping.{StepLeads, scene_after}
-use Rattle.papaya_finds.specs.Given.Schedules.Transition.{Past, further}
+use Rattle.papaya_shards.specs.Given.Scenes.Beginning.{Begins}
+use Rattle.papaya_shards.specs.Given.Scenes.Held.{Held, IsAt}
+use Rattle.papaya_shards.specs.Given.Scenes.Replying.{scene_with}
+use Rattle.papaya_shards.specs.Given.Scenes.Scene.{Scene, slot_of}
+use Rattle.papaya_shards.specs.Given.Scenes.Stepping.{StepLeads, scene_after}
+use Rattle.papaya_shards.specs.Given.Schedules.Transition.{Past, further}
 
 -- the step shows no pair of a walk
 abbrev pub ShowsNone : {T : Type 0} → Progress T → Type 0

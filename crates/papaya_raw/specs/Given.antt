@@ -1,6 +1,7 @@
 -- The words of the crates below, given on to the crates above: these list this crate in place of those.
-pub use Rattle.seize.specs as Seize
+pub use Rattle.papaya_tables.specs.Given.Seize
 pub use Rattle.papaya_tables.specs as Tables
-pub use Rattle.papaya_resize.specs as Resize
+pub use Rattle.papaya_sweeps.specs.Given.Resize
 pub use Rattle.papaya_sweeps.specs as Sweeps
-pub use Rattle.papaya_reserves.specs as Reserves
+pub use Rattle.papaya_sweeps.specs.Given.Reserves
+pub use Rattle.papaya_tables.specs.Given.SeizeWords

@@ -12,8 +12,8 @@ pub use asking::{Asking, Gap, Replies, Reply, Takes, Told};
 pub use call::{Calling, KeyCall, is_same_key, link_to};
 pub use end_map::{EndMap, Ending};
 pub use machine::Machine;
-pub use papaya_reserves::{Reserve, Reserving};
-pub use papaya_resize::{
+pub use papaya_sweeps::papaya_reserves::{Reserve, Reserving};
+pub use papaya_sweeps::papaya_resize::{
     Copier, Copying, Dispose, Disposing, Looking, Lookup, Making, NewMap, NewTable, Opening, Sum,
     Summing,
 };

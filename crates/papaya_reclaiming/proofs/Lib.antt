@@ -1,1 +1,2 @@
 pub mod Reclaims
+pub mod Given

@@ -1,1 +1,2 @@
 pub mod Reclaiming
+pub mod Given

@@ -2,3 +2,6 @@
 #![tactic(auto)]
 
 pub mod reclaiming;
+
+pub use papaya_executor;
+pub use papaya_executor::{papaya_scenes, papaya_teller};

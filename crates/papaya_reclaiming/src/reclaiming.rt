@@ -3,10 +3,10 @@ ghost use Rattle.std.specs.Prelude.{◌≡◌, ℕ, Bool, List, if◌then◌else
 ghost use Rattle.seize.specs.ReclaimAll.{reclaiming_all, clearing};
 ghost use Rattle.papaya_reclaiming.specs.Reclaiming.{NobodyHas, MayReclaim, IsReclaimingThere, Leaves, ReclaimsThere};
 ghost use Rattle.papaya_executor.specs.IsThere.{IsThere, KeepsGiven};
-ghost use Rattle.papaya_scenes.specs.Scene.{Scene};
+ghost use Rattle.papaya_executor.specs.Given.Scenes.Scene.{Scene};
 
 use papaya_executor::executor::Executor;
-use papaya_raw::Node;
+use papaya_executor::papaya_raw::Node;
 use seize::rows::{ReclaimAll, Settled};
 
 /// All that waits is being reclaimed. It is no caller's: nobody has anything under way meanwhile.

@@ -3,3 +3,4 @@ pub mod Left
 pub mod Promised
 pub mod Ends
 mod Samples
+pub mod Given

@@ -5,7 +5,7 @@ use Rattle.papaya_finishes.specs.Given.SeizeWords.Word.{link_to}
 use Rattle.papaya_finishes.specs.Given.SeizeWords.declared.block.Block.{Block}
 use Rattle.papaya_finishes.specs.Given.Seize.declared.rows.settle.Settled.TheVariants as settled
 use Rattle.papaya_finishes.specs.Given.Seize.World.{World, Rests, Vacant, Outside, Handed, LeftTo, Retire, Leave', Register', Begin, Step}
-use Rattle.seize_acts.specs.Reclaimed.{IsStillHad}
+use Rattle.seize_quiet.specs.Given.SeizeActs.Reclaimed.{IsStillHad}
 use Rattle.papaya_finishes.specs.Given.Tables.declared.node.Node.{Node}
 use Rattle.papaya_finishes.specs.Given.Tables.declared.node.Node.TheVariants as node
 use Rattle.papaya_finishes.specs.Maps.{Standing}

@@ -5,7 +5,7 @@ use Rattle.papaya_finishes.specs.Given.Seize.Further.{FurtherAre}
 use Rattle.papaya_finishes.specs.Given.Seize.Law.{With, where_is}
 use Rattle.papaya_finishes.specs.Given.Seize.WaitingSets.{is_one_of}
 use Rattle.papaya_finishes.specs.Given.Seize.World.{World, Handed}
-use Rattle.seize_acts.specs.Reclaimed.{IsStillHad}
+use Rattle.seize_quiet.specs.Given.SeizeActs.Reclaimed.{IsStillHad}
 use Rattle.papaya_finishes.specs.Given.Tables.Nodes.{deferred_word}
 use Rattle.papaya_finishes.specs.Given.Tables.declared.node.Node.{Node}
 use Rattle.papaya_finishes.specs.Given.Callers.Kept.{IsPairOf}

@@ -5,7 +5,7 @@ use Rattle.papaya_finishes.specs.Given.Seize.declared.progress.Progress.{Progres
 use Rattle.papaya_finishes.specs.Given.Seize.declared.progress.Progress.TheVariants as counted
 use Rattle.papaya_finishes.specs.Given.Seize.declared.rows.settle.Settled.{Settled}
 use Rattle.papaya_finishes.specs.Given.Seize.World.{World, LeftTo, Request, Begin, Step, Ends, Happens, times, with_at}
-use Rattle.seize_reclaims.specs.Roots.{all_lists}
+use Rattle.seize_quiet.specs.Given.SeizeReclaims.Roots.{all_lists}
 use Rattle.papaya_finishes.specs.Given.Tables.Nodes.{deferred_word}
 use Rattle.papaya_finishes.specs.Given.Tables.declared.node.Node.{Node}
 use Rattle.papaya_finishes.specs.Given.Tables.declared.setting.Setting.{Setting}

@@ -3,3 +3,4 @@ pub mod Deferred
 pub mod Reclaims
 pub mod Left
 pub mod Ends
+pub mod Given

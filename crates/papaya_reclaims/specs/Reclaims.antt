@@ -16,8 +16,8 @@ use Rattle.papaya_finishes.specs.Given.Seize.Law.{is_retired}
 use Rattle.papaya_finishes.specs.Given.Seize.ReclaimAll.{reclaiming_all, clearing, reclaim_all_plan}
 use Rattle.papaya_finishes.specs.Given.Seize.Sequence.{taken_in}
 use Rattle.papaya_finishes.specs.Given.Seize.World.{World, LeftTo, Event, Runs, times, with_at}
-use Rattle.seize_reclaims.specs.Roots.{all_lists}
-use Rattle.seize_acts.specs.Reclaimed.{HasNothingLeft}
+use Rattle.seize_quiet.specs.Given.SeizeReclaims.Roots.{all_lists}
+use Rattle.seize_quiet.specs.Given.SeizeActs.Reclaimed.{HasNothingLeft}
 use Rattle.papaya_finishes.specs.Given.Tables.Nodes.{deferred_word, was_left}
 use Rattle.papaya_finishes.specs.Given.Tables.declared.node.Node.{Node}
 use Rattle.papaya_finishes.specs.Given.Callers.Together.{UnderWay}

@@ -2,3 +2,6 @@
 #![tactic(auto)]
 
 pub mod law;
+
+pub use papaya_finishes::papaya_raw;
+pub use seize_quiet::{seize, seize_words};

@@ -10,3 +10,4 @@ pub mod Numbered
 pub mod Slots
 pub mod Leads
 pub mod InOrder
+pub mod Given

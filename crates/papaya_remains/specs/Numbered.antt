@@ -1,22 +1,22 @@
 -- Numbers of maps, as they are given: those that are there and those of all tables are below the next one, while maps are made, too.
 use Rattle.std.specs.Prelude.{◌≡◌, ◌+◌, ℕ, Bool, List, Option, Some, None}
-use Rattle.papaya_lives.specs.Given.Tables.declared.node.Node.{Node}
-use Rattle.papaya_lives.specs.Given.Raw.declared.machines.progress.Progress.{Progress as CallTold}
-use Rattle.papaya_lives.specs.Given.Schedules.Effects.{with_effects}
-use Rattle.papaya_lives.specs.Given.Schedules.Moment.{Moment}
-use Rattle.papaya_lives.specs.Given.Callers.Together.{UnderWay}
-use Rattle.papaya_lives.specs.Given.Effects.Effects.{effects_of, taken_by}
-use Rattle.papaya_lives.specs.Given.Effects.Known.{Known}
-use Rattle.papaya_lives.specs.Given.Effects.declared.acting.Acting.TheVariants as acts
-use Rattle.papaya_lives.specs.Given.Effects.declared.role.Role.{Role}
-use Rattle.papaya_lives.specs.Given.Scenes.declared.row.RowTold.{RowTold}
-use Rattle.papaya_lives.specs.Given.Scenes.declared.row.SlotRow.{SlotRow}
-use Rattle.papaya_lives.specs.Given.Finishes.Makings.{Beginning}
-use Rattle.papaya_lives.specs.Given.Moments.Numbers.{MapsAreBelow, NumbersMaps}
-use Rattle.papaya_lives.specs.Given.Scenes.Held.{Held}
-use Rattle.papaya_lives.specs.Given.Scenes.OnSlots.{RowLeads}
-use Rattle.papaya_lives.specs.Given.Scenes.Scene.{IsOnSlot, Scene}
-use Rattle.papaya_lives.specs.Given.Scenes.Stepping.{StepLeads}
+use Rattle.papaya_kept.specs.Given.Tables.declared.node.Node.{Node}
+use Rattle.papaya_kept.specs.Given.Raw.declared.machines.progress.Progress.{Progress as CallTold}
+use Rattle.papaya_kept.specs.Given.Schedules.Effects.{with_effects}
+use Rattle.papaya_kept.specs.Given.Schedules.Moment.{Moment}
+use Rattle.papaya_kept.specs.Given.Callers.Together.{UnderWay}
+use Rattle.papaya_kept.specs.Given.Effects.Effects.{effects_of, taken_by}
+use Rattle.papaya_kept.specs.Given.Effects.Known.{Known}
+use Rattle.papaya_kept.specs.Given.Effects.declared.acting.Acting.TheVariants as acts
+use Rattle.papaya_kept.specs.Given.Effects.declared.role.Role.{Role}
+use Rattle.papaya_kept.specs.Given.Scenes.declared.row.RowTold.{RowTold}
+use Rattle.papaya_kept.specs.Given.Scenes.declared.row.SlotRow.{SlotRow}
+use Rattle.papaya_kept.specs.Given.Finishes.Makings.{Beginning}
+use Rattle.papaya_kept.specs.Given.Moments.Numbers.{MapsAreBelow, NumbersMaps}
+use Rattle.papaya_kept.specs.Given.Scenes.Held.{Held}
+use Rattle.papaya_kept.specs.Given.Scenes.OnSlots.{RowLeads}
+use Rattle.papaya_kept.specs.Given.Scenes.Scene.{IsOnSlot, Scene}
+use Rattle.papaya_kept.specs.Given.Scenes.Stepping.{StepLeads}
 
 -- numbers are as they are where so many have been given
 abbrev pub NumbersUpTo : {K V : Type 0} → ℕ → Moment K V → Type 0

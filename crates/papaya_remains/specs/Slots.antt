@@ -1,28 +1,28 @@
 -- That words of slots are noted just where there are some, and what is promised of each kind of step.
 use Rattle.std.specs.Prelude.{◌≡◌, ◌<◌, ◌+◌, ℕ, Bool, [], length, Some, IsSome}
-use Rattle.papaya_lives.specs.Given.SeizeWords.declared.at.At.TheVariants.{Slot}
-use Rattle.papaya_lives.specs.Given.SeizeWords.Mem.{Mem, word_at}
-use Rattle.papaya_lives.specs.Given.SeizeWords.Place.{capacity}
-use Rattle.papaya_lives.specs.Given.Seize.declared.progress.Progress.{Progress}
-use Rattle.papaya_lives.specs.Given.Seize.declared.rows.settle.Settled.{Settled}
-use Rattle.papaya_lives.specs.Given.Seize.declared.states.TheConstants.{HEAD}
-use Rattle.papaya_lives.specs.Given.Tables.declared.node.Node.{Node}
-use Rattle.papaya_lives.specs.Given.Tables.declared.setting.Setting.{Setting}
-use Rattle.papaya_lives.specs.Given.Raw.declared.machines.progress.Progress.{Progress as CallTold}
-use Rattle.papaya_lives.specs.Given.Callers.Together.{UnderWay}
-use Rattle.papaya_lives.specs.Given.Effects.Effects.{known_after}
-use Rattle.papaya_lives.specs.Given.Effects.Known.{Known, nothing_known}
-use Rattle.papaya_lives.specs.Given.Effects.declared.acting.Acting.TheVariants as acts
-use Rattle.papaya_lives.specs.Given.Scenes.declared.row.RowTold.{RowTold}
-use Rattle.papaya_lives.specs.Given.Scenes.declared.row.SlotRow.{SlotRow}
-use Rattle.papaya_lives.specs.Given.Finishes.Endings.{Finishing}
-use Rattle.papaya_lives.specs.Given.Finishes.Makings.{Beginning}
-use Rattle.papaya_lives.specs.Given.Scenes.Ending.{EndingLeads}
-use Rattle.papaya_lives.specs.Given.Scenes.Held.{Held, IsAt}
-use Rattle.papaya_lives.specs.Given.Scenes.Making.{MakingLeads}
-use Rattle.papaya_lives.specs.Given.Scenes.OnSlots.{RowLeads}
-use Rattle.papaya_lives.specs.Given.Scenes.Scene.{IsOnSlot, Scene, at_first}
-use Rattle.papaya_lives.specs.Given.Scenes.Stepping.{StepLeads}
+use Rattle.papaya_kept.specs.Given.SeizeWords.declared.at.At.TheVariants.{Slot}
+use Rattle.papaya_kept.specs.Given.SeizeWords.Mem.{Mem, word_at}
+use Rattle.papaya_kept.specs.Given.SeizeWords.Place.{capacity}
+use Rattle.papaya_kept.specs.Given.Seize.declared.progress.Progress.{Progress}
+use Rattle.papaya_kept.specs.Given.Seize.declared.rows.settle.Settled.{Settled}
+use Rattle.papaya_kept.specs.Given.Seize.declared.states.TheConstants.{HEAD}
+use Rattle.papaya_kept.specs.Given.Tables.declared.node.Node.{Node}
+use Rattle.papaya_kept.specs.Given.Tables.declared.setting.Setting.{Setting}
+use Rattle.papaya_kept.specs.Given.Raw.declared.machines.progress.Progress.{Progress as CallTold}
+use Rattle.papaya_kept.specs.Given.Callers.Together.{UnderWay}
+use Rattle.papaya_kept.specs.Given.Effects.Effects.{known_after}
+use Rattle.papaya_kept.specs.Given.Effects.Known.{Known, nothing_known}
+use Rattle.papaya_kept.specs.Given.Effects.declared.acting.Acting.TheVariants as acts
+use Rattle.papaya_kept.specs.Given.Scenes.declared.row.RowTold.{RowTold}
+use Rattle.papaya_kept.specs.Given.Scenes.declared.row.SlotRow.{SlotRow}
+use Rattle.papaya_kept.specs.Given.Finishes.Endings.{Finishing}
+use Rattle.papaya_kept.specs.Given.Finishes.Makings.{Beginning}
+use Rattle.papaya_kept.specs.Given.Scenes.Ending.{EndingLeads}
+use Rattle.papaya_kept.specs.Given.Scenes.Held.{Held, IsAt}
+use Rattle.papaya_kept.specs.Given.Scenes.Making.{MakingLeads}
+use Rattle.papaya_kept.specs.Given.Scenes.OnSlots.{RowLeads}
+use Rattle.papaya_kept.specs.Given.Scenes.Scene.{IsOnSlot, Scene, at_first}
+use Rattle.papaya_kept.specs.Given.Scenes.Stepping.{StepLeads}
 
 -- where a bucket is noted the first slot has a word, and where none is there is no slot; slots are as many as the buckets that are noted have
 pub record SlotsNoted {T : Type 0} (noted : Known) (m : Mem T) : Type 0 where

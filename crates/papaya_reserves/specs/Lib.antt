@@ -1,1 +1,2 @@
 pub mod Reserve
+pub mod Given

@@ -3,4 +3,6 @@
 
 mod reserve;
 
+pub use papaya_resize;
+pub use papaya_resize::{papaya_tables, seize, seize_words};
 pub use reserve::{Reserve, Reserving};

@@ -4,14 +4,14 @@ ghost use Rattle.papaya_resize.specs.Copier.{copier_plan};
 ghost use Rattle.papaya_resize.specs.NewTable.{new_table_plan};
 ghost use Rattle.papaya_reserves.specs.Reserve.{reserving, needed, enough, counting, copying, reads, made, summed, follows, grown, copied, reserve_plan};
 ghost use Rattle.papaya_resize.specs.Sum.{sum_plan};
-ghost use Rattle.seize_words.specs.Plan.{May, Steps, plan_as};
+ghost use Rattle.papaya_resize.specs.Given.SeizeWords.Plan.{May, Steps, plan_as};
 
+use papaya_resize::papaya_tables::lengths::{MOST_LEN, Reason, len_after};
+use papaya_resize::papaya_tables::table_words::NEXT;
+use papaya_resize::papaya_tables::{Hashes, Node, Setting, Table};
+use papaya_resize::seize::{Machine, Progress};
+use papaya_resize::seize_words::{At, Fault, Link, Memory};
 use papaya_resize::{Copier, NewTable, Outcome, Sum};
-use papaya_tables::lengths::{MOST_LEN, Reason, len_after};
-use papaya_tables::table_words::NEXT;
-use papaya_tables::{Hashes, Node, Setting, Table};
-use seize::{Machine, Progress};
-use seize_words::{At, Fault, Link, Memory};
 
 /// Where a reservation stands.
 #[derive(Clone, Copy)]

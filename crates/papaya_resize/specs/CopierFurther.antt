@@ -1,10 +1,10 @@
 -- How a copying comes to a further table, where a pair has no place in one.
 use Rattle.std.specs.Prelude.{ℕ, ◌==◌, if◌then◌else◌}
-use Rattle.seize_words.specs.Word.{block_in}
-use Rattle.seize_words.specs.Op.{Out, Load, Store, Found}
-use Rattle.seize_words.specs.Plan.{Plan, Then, Do, Now, Seeing, plan_as}
-use Rattle.seize.specs.declared.progress.Progress.{Progress}
-use Rattle.seize.specs.declared.progress.Progress.TheVariants as progress
+use Rattle.papaya_tables.specs.Given.SeizeWords.Word.{block_in}
+use Rattle.papaya_tables.specs.Given.SeizeWords.Op.{Out, Load, Store, Found}
+use Rattle.papaya_tables.specs.Given.SeizeWords.Plan.{Plan, Then, Do, Now, Seeing, plan_as}
+use Rattle.papaya_tables.specs.Given.Seize.declared.progress.Progress.{Progress}
+use Rattle.papaya_tables.specs.Given.Seize.declared.progress.Progress.TheVariants as progress
 use Rattle.papaya_tables.specs.declared.lengths.Reason.TheVariants.{NoPlace}
 use Rattle.papaya_tables.specs.declared.node.Node.{Node}
 use Rattle.papaya_tables.specs.declared.table.Table.{Table}

@@ -11,3 +11,4 @@ pub mod Lookup
 pub mod NewMap
 pub mod NewTable
 pub mod Sum
+pub mod Given

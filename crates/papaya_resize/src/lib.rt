@@ -18,4 +18,6 @@ pub use lookup::{Looking, Lookup, asks_for};
 pub use new_map::{NewMap, Opening};
 pub use new_table::{Making, NewTable};
 pub use outcome::Outcome;
+pub use papaya_tables;
+pub use papaya_tables::{seize, seize_words};
 pub use sum::{Sum, Summing};

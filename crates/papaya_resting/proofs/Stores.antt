@@ -6,28 +6,28 @@ use Rattle.seize_words.specs.Mem.{Mem, value_at}
 use Rattle.seize_words.specs.Word.{block_in}
 use Rattle.seize_words.specs.declared.fault.Fault.{Fault}
 use Rattle.seize_words.specs.declared.fault.Fault.TheVariants.{Capacity}
-use Rattle.papaya_sifts.specs.Given.Shown.Chain.{CannotGrowIn}
+use Rattle.papaya_asks.specs.Given.Shown.Chain.{CannotGrowIn}
 use Rattle.papaya_tables.specs.declared.node.Node.{Node}
 use Rattle.papaya_tables.specs.declared.node.Node.TheVariants as node
 use Rattle.papaya_tables.specs.declared.setting.Setting.{Setting}
 use Rattle.papaya_raw.specs.CallPoints.{inserting, trying_to_insert}
 use Rattle.papaya_raw.specs.declared.machines.answer.KeyAnswer.TheVariants as answers
 use Rattle.papaya_raw.specs.declared.machines.call.KeyCall.{KeyCall}
-use Rattle.papaya_sifts.specs.Given.Callers.Kind.{Kind, inserts, tries_to_insert}
-use Rattle.papaya_sifts.specs.Given.Callers.Pairs.{Begun}
-use Rattle.papaya_sifts.specs.Given.Callers.Together.{Inserts, TriesToInsert}
-use Rattle.papaya_sifts.specs.Given.Late.Kinds.{FaultFits}
-use Rattle.papaya_owned.specs.Calling.{IsCalling, HasStopped, begun}
-use Rattle.papaya_owned.specs.Ending.{Ends, RunsTo}
-use Rattle.papaya_owned.specs.Machines.{on_key_plan}
-use Rattle.papaya_owned.specs.Owned.{Holds, EndsBy, ComesBack, IsPairAt, found_by, left_by}
-use Rattle.papaya_owned.specs.declared.machines.OnKey.{OnKey}
-use Rattle.papaya_owned.specs.declared.machines.Stop.{Stop}
-use Rattle.papaya_owned.specs.declared.machines.Stop.TheVariants as stop
-use Rattle.papaya_owned.proofs.Owned.Calls.{UnderIt, begins_under, ends_by}
-use Rattle.papaya_owned.proofs.Owned.ComesBack.{comes_back}
-use Rattle.papaya_owned.proofs.Owned.HandsBack.{HasPair}
-use Rattle.papaya_owned.proofs.Owned.Keys.{under_ends, comes_to}
+use Rattle.papaya_asks.specs.Given.Callers.Kind.{Kind, inserts, tries_to_insert}
+use Rattle.papaya_asks.specs.Given.Callers.Pairs.{Begun}
+use Rattle.papaya_asks.specs.Given.Callers.Together.{Inserts, TriesToInsert}
+use Rattle.papaya_asks.specs.Given.Late.Kinds.{FaultFits}
+use Rattle.papaya_asks.specs.Given.Owned.Calling.{IsCalling, HasStopped, begun}
+use Rattle.papaya_asks.specs.Given.Owned.Ending.{Ends, RunsTo}
+use Rattle.papaya_asks.specs.Given.Owned.Machines.{on_key_plan}
+use Rattle.papaya_asks.specs.Given.Owned.Owned.{Holds, EndsBy, ComesBack, IsPairAt, found_by, left_by}
+use Rattle.papaya_asks.specs.Given.Owned.declared.machines.OnKey.{OnKey}
+use Rattle.papaya_asks.specs.Given.Owned.declared.machines.Stop.{Stop}
+use Rattle.papaya_asks.specs.Given.Owned.declared.machines.Stop.TheVariants as stop
+use Rattle.papaya_asks.proofs.Given.Owned.Owned.Calls.{UnderIt, begins_under, ends_by}
+use Rattle.papaya_asks.proofs.Given.Owned.Owned.ComesBack.{comes_back}
+use Rattle.papaya_asks.proofs.Given.Owned.Owned.HandsBack.{HasPair}
+use Rattle.papaya_asks.proofs.Given.Owned.Owned.Keys.{under_ends, comes_to}
 use Rattle.papaya_resting.specs.Calls.{StoresPair, has_found, has_replaced}
 use Rattle.papaya_resting.specs.Lasts.{IsPairOf, RestsWith, words_of_stop}
 use Rattle.papaya_resting.specs.declared.last.Last.{Last}

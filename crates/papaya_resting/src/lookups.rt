@@ -1,8 +1,8 @@
 //! A lookup. It reads words, and takes no memory.
 ghost use Rattle.std.specs.Prelude.{◌≡◌, List, option_map};
-ghost use Rattle.papaya_owned.specs.Owned.{Holds, found_by, hashed_by};
+ghost use Rattle.papaya_asks.specs.Given.Owned.Owned.{Holds, found_by, hashed_by};
 
-use papaya_owned::find;
+use papaya_asks::papaya_owned::find;
 use papaya_raw::machines::Lookup;
 use papaya_tables::{Equivalent, Hashes, Node, Setting};
 use seize_words::Plain;

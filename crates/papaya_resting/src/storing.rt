@@ -1,13 +1,13 @@
 //! A call that stores a pair of its own: straight code up to an end of the call, or a machine from where that stops.
 ghost use Rattle.std.specs.Prelude.{◌≡◌};
-ghost use Rattle.papaya_owned.specs.Ending.{Ends};
-ghost use Rattle.papaya_owned.specs.Machines.{on_key_plan};
+ghost use Rattle.papaya_asks.specs.Given.Owned.Ending.{Ends};
+ghost use Rattle.papaya_asks.specs.Given.Owned.Machines.{on_key_plan};
 ghost use Rattle.papaya_resting.specs.Storing.{StoresTo, storing, with_own};
 ghost use Rattle.papaya_raw.specs.CallPoints.{untried};
 ghost use Rattle.papaya_raw.specs.declared.machines.call.Calling.TheVariants as at;
 ghost use Rattle.papaya_straight.specs.Storing.{calling_at};
 
-use papaya_owned::{OnKey, Stop, run_skimming};
+use papaya_asks::papaya_owned::{OnKey, Stop, run_skimming};
 use papaya_raw::machines::{There, link_to};
 use papaya_straight::{Spot, Stored, call_of};
 use papaya_tables::{Hashes, Node, Setting, Trial};

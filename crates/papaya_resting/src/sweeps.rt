@@ -1,19 +1,19 @@
 //! What goes over all pairs, and removes them, each after a refresh.
 ghost use Rattle.std.specs.Prelude.{◌≡◌, List, [], IfErr, IsOk, OnOk, OnErr};
-ghost use Rattle.papaya_sifts.specs.Given.Late.Faults.{IsRoom};
-ghost use Rattle.papaya_sifts.specs.Given.Shown.Chain.{CannotGrowIn};
+ghost use Rattle.papaya_asks.specs.Given.Late.Faults.{IsRoom};
+ghost use Rattle.papaya_asks.specs.Given.Shown.Chain.{CannotGrowIn};
 ghost use Rattle.papaya_holds.specs.Held.{HoldsOn, held_in};
-ghost use Rattle.papaya_owned.specs.Owned.{Holds, hashed_by};
-ghost use Rattle.papaya_sifts.specs.Retaining.{KeepsOf};
-ghost use Rattle.papaya_sifts.specs.Given.Sweeps.declared.sweep.Purpose.TheVariants.{Clears, Retains};
+ghost use Rattle.papaya_asks.specs.Given.Owned.Owned.{Holds, hashed_by};
+ghost use Rattle.papaya_holds.specs.Given.Sifts.Retaining.{KeepsOf};
+ghost use Rattle.papaya_raw.specs.Given.Sweeps.declared.sweep.Purpose.TheVariants.{Clears, Retains};
 ghost use Rattle.papaya_resting.specs.Refreshed.{OnceRefreshed};
-ghost use Rattle.papaya_sifts.specs.Sweeping.{HasSwept};
+ghost use Rattle.papaya_holds.specs.Given.Sifts.Sweeping.{HasSwept};
 ghost use Rattle.papaya_steady.specs.Steady.{HasOneTable};
 ghost use Rattle.seize_words.specs.declared.fault.Fault.TheVariants.{Capacity};
 
 use crate::changes::refresh;
 use crate::counting::count;
-use papaya_sifts::{empty, sift};
+use papaya_holds::papaya_sifts::{empty, sift};
 use papaya_tables::{Node, Setting};
 use seize_words::{Fault, Plain};
 use std::hash::{BuildHasher, Hash};

@@ -13,3 +13,4 @@ pub mod Holders
 pub mod NeverWaits
 pub mod Light
 pub mod InUse
+pub mod Given

@@ -2,3 +2,6 @@
 #![tactic(auto)]
 
 pub mod law;
+
+pub use papaya_resize::papaya_tables;
+pub use seize_rule::seize_words;

@@ -1,47 +1,47 @@
 -- Before all events a scheduler is as events ask of it, whatever was chosen of numbers of blocks.
 use Rattle.std.specs.Prelude.{◌≡◌, ◌<◌, ◌≤◌, ◌^◌, ℕ, Bool, List, [], ◌∷◌, length, Option, None, Some, min, slice_get, slice_index_or, map}
 use Rattle.std.proofs.Common.{refl, sym, ap, subst, ◌∙◌, inr, arith, inl}
-use Rattle.papaya_events.specs.Given.Seize.declared.states.TheConstants.{HEAD}
-use Rattle.papaya_events.specs.Given.Tables.declared.node.Node.{Node}
-use Rattle.papaya_events.specs.Given.Points.Steps.{AreLawful}
-use Rattle.papaya_events.proofs.Given.Points.Making.OwnTables.{zero_at}
-use Rattle.papaya_events.proofs.Given.Moments.NewMaps.{pairs_begin}
-use Rattle.papaya_events.proofs.Given.Moments.Numbers.{numbers_begin}
-use Rattle.papaya_events.specs.Given.Seize.World.{Chooses, SlotsTaken, World}
-use Rattle.papaya_events.specs.Given.Tables.Nodes.{deferred_word}
-use Rattle.papaya_events.specs.Given.Tables.declared.setting.Setting.{Setting}
+use Rattle.papaya_pieced.specs.Given.Seize.declared.states.TheConstants.{HEAD}
+use Rattle.papaya_pieced.specs.Given.Tables.declared.node.Node.{Node}
+use Rattle.papaya_pieced.specs.Given.Points.Steps.{AreLawful}
+use Rattle.papaya_pieced.proofs.Given.Points.Making.OwnTables.{zero_at}
+use Rattle.papaya_pieced.proofs.Given.Moments.NewMaps.{pairs_begin}
+use Rattle.papaya_pieced.proofs.Given.Moments.Numbers.{numbers_begin}
+use Rattle.papaya_pieced.specs.Given.Seize.World.{Chooses, SlotsTaken, World}
+use Rattle.papaya_pieced.specs.Given.Tables.Nodes.{deferred_word}
+use Rattle.papaya_pieced.specs.Given.Tables.declared.setting.Setting.{Setting}
 use Rattle.seize_words.specs.Mem.{Mem, word_at}
 use Rattle.seize_words.specs.SlotWords.{slot_word}
 use Rattle.seize_words.specs.declared.at.At.TheVariants.{Root, Used}
 use Rattle.papaya_schedules.specs.Moment.{start}
 use Rattle.papaya_schedules.specs.Terms.{Terms}
-use Rattle.papaya_events.specs.Given.Effects.Known.{Known, known}
-use Rattle.papaya_events.specs.Given.Models.Turns.{CameByTurns}
-use Rattle.papaya_events.proofs.Given.Models.Turns.{events_follow, turns_begin}
-use Rattle.papaya_events.proofs.Given.Legal.Come.{nothing_has_come}
-use Rattle.papaya_events.proofs.Given.Legal.Begin.{runs_begin_in}
-use Rattle.papaya_logged.specs.Choosing.{logged_chosen, memory_chosen}
-use Rattle.papaya_logged.specs.Shown.{IsShown}
-use Rattle.papaya_logged.proofs.Choosing.{choice_shown}
-use Rattle.papaya_logged.specs.declared.logged.Logged.{Logged}
-use Rattle.papaya_events.proofs.Given.Reclaims.Left.Stays.{left_is_left_behind, nothing_is_left}
-use Rattle.papaya_scheduler.specs.First.{HasJustBegun}
-use Rattle.papaya_scheduler.specs.Mapping.{CountsMaps}
-use Rattle.papaya_scheduler.specs.Played.{IsPlayed, StandsFor, terms_given}
-use Rattle.papaya_scheduler.specs.Reclaiming.{MayGiveAll}
+use Rattle.papaya_tally.specs.Given.Effects.Known.{Known, known}
+use Rattle.papaya_pieced.specs.Given.Models.Turns.{CameByTurns}
+use Rattle.papaya_pieced.proofs.Given.Models.Turns.{events_follow, turns_begin}
+use Rattle.papaya_pieced.proofs.Given.Legal.Come.{nothing_has_come}
+use Rattle.papaya_pieced.proofs.Given.Legal.Begin.{runs_begin_in}
+use Rattle.papaya_pieced.specs.Given.Logged.Choosing.{logged_chosen, memory_chosen}
+use Rattle.papaya_pieced.specs.Given.Logged.Shown.{IsShown}
+use Rattle.papaya_pieced.proofs.Given.Logged.Choosing.{choice_shown}
+use Rattle.papaya_pieced.specs.Given.Logged.declared.logged.Logged.{Logged}
+use Rattle.papaya_pieced.proofs.Given.Reclaims.Left.Stays.{left_is_left_behind, nothing_is_left}
+use Rattle.papaya_pieced.specs.Given.Scheduler.First.{HasJustBegun}
+use Rattle.papaya_pieced.specs.Given.Scheduler.Mapping.{CountsMaps}
+use Rattle.papaya_pieced.specs.Given.Scheduler.Played.{IsPlayed, StandsFor, terms_given}
+use Rattle.papaya_pieced.specs.Given.Scheduler.Reclaiming.{MayGiveAll}
 use Rattle.papaya_runs.specs.declared.event.Setup.{Setup}
-use Rattle.papaya_scheduler.specs.declared.scheduler.Scheduler.{Scheduler}
-use Rattle.papaya_scheduler.proofs.Chosen.{stands_chosen}
-use Rattle.papaya_named.specs.Seen.{seen, seen_of}
-use Rattle.papaya_named.specs.declared.caller.Caller.{Caller}
-use Rattle.papaya_events.specs.Asked.{Holds}
-use Rattle.papaya_events.specs.OfCalls.{HaveShards, HaveValues, Runs}
+use Rattle.papaya_pieced.specs.Given.Scheduler.declared.scheduler.Scheduler.{Scheduler}
+use Rattle.papaya_pieced.proofs.Given.Scheduler.Chosen.{stands_chosen}
+use Rattle.papaya_pieced.specs.Given.Named.Seen.{seen, seen_of}
+use Rattle.papaya_pieced.specs.Given.Named.declared.caller.Caller.{Caller}
+use Rattle.papaya_pieced.specs.Given.Events.Asked.{Holds}
+use Rattle.papaya_pieced.specs.Given.Events.OfCalls.{HaveShards, HaveValues, Runs}
 use Rattle.papaya_pieced.specs.SoFar.{ActsSoFar}
 use Rattle.papaya_pieced.proofs.First.{none_yet, one_choice_yet}
 use Rattle.papaya_pieced.proofs.Last.{any_course}
 use Rattle.papaya_running.specs.Run.{bounded}
-use Rattle.papaya_events.proofs.OfCalls.Scenes.{its_named, stands_in}
-use Rattle.papaya_events.specs.Given.Scenes.Scene.{at_first}
+use Rattle.papaya_pieced.proofs.Given.Events.OfCalls.Scenes.{its_named, stands_in}
+use Rattle.papaya_pieced.specs.Given.Scenes.Scene.{at_first}
 
 -- Nothing is under way in a world that came about by what was chosen of numbers of blocks.
 pub record BeginsIn {K V S : Type 0} (same : K → K → Bool) (hash : K → ℕ) (setup : Setup) (p : Scheduler K V S) : Type 0 where

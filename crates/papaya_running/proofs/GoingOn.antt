@@ -17,19 +17,19 @@ use Rattle.papaya_schedules.specs.InTurn.{IsKeptOut}
 use Rattle.papaya_schedules.specs.Terms.{Terms}
 use Rattle.papaya_schedules.specs.Views.{call_of}
 use Rattle.papaya_raw.specs.Given.Tables.declared.resize_mode.ResizeMode.{ResizeMode}
-use Rattle.papaya_scheduler.specs.AllWorks.{WorksOnAll}
-use Rattle.papaya_scheduler.specs.Played.{Began, IsDue, PlaysAt, Replies, Stops, entry_of}
-use Rattle.papaya_scheduler.specs.Quiet.{StaysBusy}
-use Rattle.papaya_scheduler.specs.Works.{DidNothing, WorksOnEnd, WorksOnMap, WorksOnSetup, WorksOnSlot}
-use Rattle.papaya_scheduler.specs.Mapping.{numbers_made}
-use Rattle.papaya_scheduler.specs.declared.played.Played.{Played}
-use Rattle.papaya_scheduler.specs.declared.scheduler.Scheduler.{Scheduler}
-use Rattle.papaya_stepping.specs.Stepping.{TookNext, TookSteps, TookWhole}
-use Rattle.papaya_events.specs.Asked.{MayHappenDue}
-use Rattle.papaya_events.specs.Given.Executor.IsThere.{KeepsGiven}
-use Rattle.papaya_events.proofs.OfCalls.Happens.{either, in_turn_comes}
-use Rattle.papaya_grouped.specs.Grouping.{acts_on_none, refuses}
-use Rattle.papaya_grouped.proofs.Midst.{maps_of}
+use Rattle.papaya_pieced.specs.Given.Scheduler.AllWorks.{WorksOnAll}
+use Rattle.papaya_pieced.specs.Given.Scheduler.Played.{Began, IsDue, PlaysAt, Replies, Stops, entry_of}
+use Rattle.papaya_pieced.specs.Given.Scheduler.Quiet.{StaysBusy}
+use Rattle.papaya_pieced.specs.Given.Scheduler.Works.{DidNothing, WorksOnEnd, WorksOnMap, WorksOnSetup, WorksOnSlot}
+use Rattle.papaya_pieced.specs.Given.Scheduler.Mapping.{numbers_made}
+use Rattle.papaya_pieced.specs.Given.Scheduler.declared.played.Played.{Played}
+use Rattle.papaya_pieced.specs.Given.Scheduler.declared.scheduler.Scheduler.{Scheduler}
+use Rattle.papaya_pieced.specs.Given.Stepping.Stepping.{TookNext, TookSteps, TookWhole}
+use Rattle.papaya_pieced.specs.Given.Events.Asked.{MayHappenDue}
+use Rattle.papaya_pieced.specs.Given.Executor.IsThere.{KeepsGiven}
+use Rattle.papaya_pieced.proofs.Given.Events.OfCalls.Happens.{either, in_turn_comes}
+use Rattle.papaya_pieced.specs.Given.Grouped.Grouping.{acts_on_none, refuses}
+use Rattle.papaya_pieced.proofs.Given.Grouped.Midst.{maps_of}
 use Rattle.papaya_pieced.proofs.AllDone.{close_goes_on, reclaim_goes_on}
 use Rattle.papaya_pieced.proofs.Begun.{begin_goes_on, whole_goes_on}
 use Rattle.papaya_pieced.proofs.Chosen.{choice_goes_on}

@@ -5,3 +5,4 @@ pub mod Ending
 pub mod Acting
 pub mod Run
 pub mod GoingOn
+pub mod Given

@@ -1,26 +1,26 @@
 //! An event of a schedule happens.
 ghost use Rattle.std.specs.Prelude.{◌≡◌, length, IfOk};
-ghost use Rattle.papaya_events.specs.Asked.{HappensAt, HappensDue, HoldsThen, MayHappen, MayHappenDue, numbers_on};
+ghost use Rattle.papaya_pieced.specs.Given.Events.Asked.{HappensAt, HappensDue, HoldsThen, MayHappen, MayHappenDue, numbers_on};
 ghost use Rattle.papaya_running.specs.Back.{GivesAt, GivesDue};
 ghost use Rattle.papaya_running.specs.GoingOn.{GoesOnAt, GoesOnDue};
 ghost use Rattle.papaya_running.specs.Kinds.{event_of_call, event_of_maps, event_of_slots};
-ghost use Rattle.papaya_events.specs.OfAll.{KeepsAll};
-ghost use Rattle.papaya_events.specs.OfCalls.{KeepsAt, KeepsDue};
-ghost use Rattle.papaya_events.specs.OfRows.{KeepsRun, KeepsRunAt};
-ghost use Rattle.papaya_events.specs.OfSetups.{KeepsSetup};
-ghost use Rattle.papaya_events.specs.Given.Executor.IsThere.{KeepsGiven, StaysGiven};
+ghost use Rattle.papaya_pieced.specs.Given.Events.OfAll.{KeepsAll};
+ghost use Rattle.papaya_pieced.specs.Given.Events.OfCalls.{KeepsAt, KeepsDue};
+ghost use Rattle.papaya_pieced.specs.Given.Events.OfRows.{KeepsRun, KeepsRunAt};
+ghost use Rattle.papaya_pieced.specs.Given.Events.OfSetups.{KeepsSetup};
+ghost use Rattle.papaya_pieced.specs.Given.Executor.IsThere.{KeepsGiven, StaysGiven};
 
 use crate::kinds::{CallEvent, Kind, MapEvent, SlotEvent, kind_of};
-use papaya_mapping::endings::end_map;
-use papaya_mapping::makings::make_map;
-use papaya_mapping::reclaims::{close, reclaim_all};
+use papaya_pieced::papaya_mapping::endings::end_map;
+use papaya_pieced::papaya_mapping::makings::make_map;
+use papaya_pieced::papaya_mapping::reclaims::{close, reclaim_all};
+use papaya_pieced::papaya_scheduler::played::Played;
+use papaya_pieced::papaya_scheduler::scheduler::Scheduler;
+use papaya_pieced::papaya_stepping::stepping::{go, one_call, step};
+use papaya_pieced::papaya_stepping::walking::next;
 use papaya_raw::Hashes;
 use papaya_runs::record::Pair;
-use papaya_scheduler::played::Played;
-use papaya_scheduler::scheduler::Scheduler;
 use papaya_schedules::event::Event;
-use papaya_stepping::stepping::{go, one_call, step};
-use papaya_stepping::walking::next;
 use std::alloc::AllocError;
 use std::hash::Hash;
 

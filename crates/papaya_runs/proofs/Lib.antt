@@ -3,3 +3,4 @@ pub mod Laws
 mod PairLists
 pub mod Pairs
 pub mod Sames
+pub mod Given

@@ -9,3 +9,4 @@ pub mod Runs
 pub mod Pairs
 pub mod Laws
 pub mod KeyHashes
+pub mod Given

@@ -8,3 +8,5 @@ pub mod outcome;
 pub mod pair_list;
 pub mod record;
 pub mod token;
+
+pub use papaya_tables::seize_words;

@@ -1,13 +1,13 @@
 -- What a call goes on as after a step, and that maps go on with their settings and hashes.
 use Rattle.std.specs.Prelude.{◌≡◌, ℕ, Option, Some, None, option_map}
 use Rattle.std.proofs.Common.{refl, sym, ap, ◌∙◌}
-use Rattle.papaya_finishes.specs.Given.Tables.declared.node.Node.{Node}
-use Rattle.papaya_raw.specs.declared.machines.machine.Machine.{Machine}
-use Rattle.papaya_raw.specs.declared.machines.progress.Progress.{Progress}
-use Rattle.papaya_raw.specs.declared.machines.progress.Progress.TheVariants as progress
-use Rattle.papaya_finishes.specs.Given.Callers.Together.{UnderWay}
-use Rattle.papaya_finishes.specs.Machines.{machine_of, GoesOnAs, StandsOn}
-use Rattle.papaya_finishes.specs.Maps.{Standing, IsSameMap}
+use Rattle.papaya_teller.specs.Given.Tables.declared.node.Node.{Node}
+use Rattle.papaya_reclaims.specs.Given.Raw.declared.machines.machine.Machine.{Machine}
+use Rattle.papaya_reclaims.specs.Given.Raw.declared.machines.progress.Progress.{Progress}
+use Rattle.papaya_reclaims.specs.Given.Raw.declared.machines.progress.Progress.TheVariants as progress
+use Rattle.papaya_reclaims.specs.Given.Callers.Together.{UnderWay}
+use Rattle.papaya_reclaims.specs.Given.Finishes.Machines.{machine_of, GoesOnAs, StandsOn}
+use Rattle.papaya_reclaims.specs.Given.Finishes.Maps.{Standing, IsSameMap}
 use Rattle.papaya_scenes.specs.Stepping.{going_on}
 
 -- what goes on is the machine after the step

@@ -1,7 +1,7 @@
 -- A step of which is told what its one operation has changed.
-use Rattle.seize_words.specs.Mem.{Mem, Took, value_at}
-use Rattle.seize_words.specs.Plan.{Plan, Turn, Do, Steps}
-use Rattle.papaya_finishes.specs.Given.Tables.declared.node.Node.{Node}
+use Rattle.papaya_reclaims.specs.Given.SeizeWords.Mem.{Mem, Took, value_at}
+use Rattle.papaya_reclaims.specs.Given.SeizeWords.Plan.{Plan, Turn, Do, Steps}
+use Rattle.papaya_teller.specs.Given.Tables.declared.node.Node.{Node}
 use Rattle.papaya_teller.specs.Tells.{StepsTold}
 use Rattle.papaya_teller.specs.declared.changed.Changed.{Changed}
 

@@ -2,31 +2,31 @@
 use Rattle.std.specs.Prelude.{◌≡◌, ◌+◌, ◌*◌, ◌&&◌, ℕ, Bool, true, false, List, ◌∷◌, length, not, position, is_some, Option, Some, None}
 use Rattle.std.specs.List.{list_any}
 use Rattle.std.proofs.Common.{refl, sym, ap, subst, ◌∙◌}
-use Rattle.papaya_logged.specs.Given.Tables.declared.setting.Setting.{Setting}
+use Rattle.papaya_runs.specs.Given.Tables.declared.setting.Setting.{Setting}
 use Rattle.papaya_runs.specs.Present.{guard_of, living_slot}
-use Rattle.papaya_schedules.specs.Moment.{Moment}
-use Rattle.papaya_schedules.specs.Terms.{Terms}
-use Rattle.papaya_schedules.specs.InUse.{is_living}
-use Rattle.papaya_schedules.specs.Views.{call_of, map_of}
-use Rattle.papaya_schedules.specs.declared.call.Call.{Call}
-use Rattle.papaya_raw.specs.declared.machines.machine.Machine.{Machine}
-use Rattle.papaya_scenes.specs.declared.callers.TheConstants.{SLOTS}
-use Rattle.papaya_logged.specs.Calling.{CallBegins}
-use Rattle.papaya_logged.specs.Shown.{IsShown}
-use Rattle.papaya_logged.specs.declared.logged.Logged.{Logged}
-use Rattle.papaya_named.specs.Machines.{machine_for}
+use Rattle.papaya_rows.specs.Given.Schedules.Moment.{Moment}
+use Rattle.papaya_rows.specs.Given.Schedules.Terms.{Terms}
+use Rattle.papaya_rows.specs.Given.Schedules.InUse.{is_living}
+use Rattle.papaya_rows.specs.Given.Schedules.Views.{call_of, map_of}
+use Rattle.papaya_rows.specs.Given.Schedules.declared.call.Call.{Call}
+use Rattle.papaya_rows.specs.Given.Raw.declared.machines.machine.Machine.{Machine}
+use Rattle.papaya_rows.specs.Given.Scenes.declared.callers.TheConstants.{SLOTS}
+use Rattle.papaya_rows.specs.Given.Logged.Calling.{CallBegins}
+use Rattle.papaya_rows.specs.Given.Logged.Shown.{IsShown}
+use Rattle.papaya_rows.specs.Given.Logged.declared.logged.Logged.{Logged}
+use Rattle.papaya_rows.specs.Given.Named.Machines.{machine_for}
 use Rattle.papaya_scheduler.specs.Played.{BeginsSo, StandsFor}
-use Rattle.papaya_named.specs.Seen.{Seen, is_named, kind_of, setting_named}
-use Rattle.papaya_named.specs.declared.caller.Caller.{Caller}
-use Rattle.papaya_named.specs.declared.caller.Stands.TheVariants as far
-use Rattle.papaya_named.specs.declared.kind.Kind.{Kind}
+use Rattle.papaya_rows.specs.Given.Named.Seen.{Seen, is_named, kind_of, setting_named}
+use Rattle.papaya_rows.specs.Given.Named.declared.caller.Caller.{Caller}
+use Rattle.papaya_rows.specs.Given.Named.declared.caller.Stands.TheVariants as far
+use Rattle.papaya_rows.specs.Given.Named.declared.kind.Kind.{Kind}
 use Rattle.papaya_scheduler.specs.declared.scheduler.Scheduler.{Scheduler}
-use Rattle.papaya_executor.specs.Beginning.{BeginsThere}
-use Rattle.papaya_executor.specs.IsThere.{IsThere}
+use Rattle.papaya_rows.specs.Given.Executor.Beginning.{BeginsThere}
+use Rattle.papaya_rows.specs.Given.Executor.IsThere.{IsThere}
 use Rattle.papaya_scheduler.proofs.Begins.{begun, called_is, lives_is, not_begun}
 use Rattle.papaya_rows.proofs.Lists.{place_some}
 use Rattle.papaya_scheduler.proofs.Maps.{setting_some}
-use Rattle.papaya_scenes.specs.Scene.{Scene}
+use Rattle.papaya_rows.specs.Given.Scenes.Scene.{Scene}
 
 module _ {K V S : Type 0} (same : K → K → Bool) (hash : K → ℕ) (terms : Terms) (m : Moment K V) (p : Scheduler K V S) (stands : StandsFor same hash terms m p) (own guard name : List ℕ)
     (call : Call K V) where

@@ -5,31 +5,31 @@ use Rattle.std.proofs.Common.{◌≡◌, ℕ, ◌+◌, ◌<◌, Bool, true, fals
 use Rattle.std.proofs.lemmas.Bool.{cases_eq, eq-eqb, ne_eqb}
 use Rattle.std.proofs.lemmas.List.{get_or-set_other, get_or-set_same, length-set}
 use Rattle.seize_words.specs.declared.fault.Fault.TheVariants.{Busy, GuardsFull}
-use Rattle.papaya_logged.specs.Given.Tables.declared.node.Node.{Node}
+use Rattle.papaya_runs.specs.Given.Tables.declared.node.Node.{Node}
 use Rattle.papaya_runs.specs.declared.holders.Guard.{Guard}
 use Rattle.papaya_runs.specs.Present.{Present, enters_slot, guard_of, guards_on, has_registration, living_slot, registration_of, slot_of_registration}
 use Rattle.papaya_runs.specs.Runs.{MOST_GUARDS}
 use Rattle.papaya_runs.specs.Same.{is_same}
 use Rattle.papaya_runs.proofs.Laws.{enters_counts}
-use Rattle.papaya_schedules.specs.declared.effect.Effect.{Effect}
-use Rattle.papaya_schedules.specs.declared.event.Event.TheVariants.{Enter}
-use Rattle.papaya_schedules.specs.declared.outcome.Outcome.{Outcome}
-use Rattle.papaya_schedules.specs.declared.outcome.Outcome.TheVariants.{Done, Refused}
-use Rattle.papaya_schedules.specs.After.{is_alone_on, moment, there_on}
-use Rattle.papaya_schedules.specs.Effects.{with_effects}
-use Rattle.papaya_schedules.specs.Entry.{Entry}
-use Rattle.papaya_schedules.specs.InTurn.{IsEntered}
-use Rattle.papaya_schedules.specs.InUse.{is_guard, is_registered}
-use Rattle.papaya_schedules.specs.Moment.{Moment}
-use Rattle.papaya_schedules.specs.Terms.{Terms}
-use Rattle.papaya_scenes.specs.declared.row.RowTold.{RowTold}
-use Rattle.papaya_scenes.specs.declared.row.RowTold.TheVariants as told
-use Rattle.papaya_scenes.specs.declared.row.SlotCall.TheVariants as call
-use Rattle.papaya_scenes.specs.declared.row.SlotUse.{SlotUse}
-use Rattle.papaya_scenes.specs.declared.row.SlotUse.TheVariants as used
-use Rattle.papaya_scenes.specs.declared.callers.TheConstants.{SLOTS}
-use Rattle.papaya_logged.specs.Ended.{has_ended}
-use Rattle.papaya_logged.specs.declared.logged.Logged.{Logged}
+use Rattle.papaya_rows.specs.Given.Schedules.declared.effect.Effect.{Effect}
+use Rattle.papaya_rows.specs.Given.Schedules.declared.event.Event.TheVariants.{Enter}
+use Rattle.papaya_rows.specs.Given.Schedules.declared.outcome.Outcome.{Outcome}
+use Rattle.papaya_rows.specs.Given.Schedules.declared.outcome.Outcome.TheVariants.{Done, Refused}
+use Rattle.papaya_rows.specs.Given.Schedules.After.{is_alone_on, moment, there_on}
+use Rattle.papaya_rows.specs.Given.Schedules.Effects.{with_effects}
+use Rattle.papaya_rows.specs.Given.Schedules.Entry.{Entry}
+use Rattle.papaya_rows.specs.Given.Schedules.InTurn.{IsEntered}
+use Rattle.papaya_rows.specs.Given.Schedules.InUse.{is_guard, is_registered}
+use Rattle.papaya_rows.specs.Given.Schedules.Moment.{Moment}
+use Rattle.papaya_rows.specs.Given.Schedules.Terms.{Terms}
+use Rattle.papaya_rows.specs.Given.Scenes.declared.row.RowTold.{RowTold}
+use Rattle.papaya_rows.specs.Given.Scenes.declared.row.RowTold.TheVariants as told
+use Rattle.papaya_rows.specs.Given.Scenes.declared.row.SlotCall.TheVariants as call
+use Rattle.papaya_rows.specs.Given.Scenes.declared.row.SlotUse.{SlotUse}
+use Rattle.papaya_rows.specs.Given.Scenes.declared.row.SlotUse.TheVariants as used
+use Rattle.papaya_rows.specs.Given.Scenes.declared.callers.TheConstants.{SLOTS}
+use Rattle.papaya_rows.specs.Given.Logged.Ended.{has_ended}
+use Rattle.papaya_rows.specs.Given.Logged.declared.logged.Logged.{Logged}
 use Rattle.papaya_scheduler.specs.Played.{IsDue, IsUnderWay, Plays, StandsFor}
 use Rattle.papaya_rows.specs.Rows.{RowRan, RowRanOn, used_as}
 use Rattle.papaya_scheduler.specs.declared.scheduler.Scheduler.{Scheduler}
@@ -43,9 +43,9 @@ use Rattle.papaya_rows.proofs.Registered.{found_has, slot_found}
 use Rattle.papaya_scheduler.proofs.Seats.{stands_there}
 use Rattle.papaya_rows.proofs.There.{guard_is, is_inside, is_outside, registered_is, slot_is, slot_some, used_alike}
 use Rattle.papaya_scheduler.proofs.Rights.{entry, in_turn, out_of_turn, plays, quiet}
-use Rattle.papaya_executor.specs.IsThere.{use_at}
-use Rattle.papaya_executor.specs.OnSlots.{MayBegin}
-use Rattle.papaya_scenes.specs.Scene.{slot_of}
+use Rattle.papaya_rows.specs.Given.Executor.IsThere.{use_at}
+use Rattle.papaya_rows.specs.Given.Executor.OnSlots.{MayBegin}
+use Rattle.papaya_rows.specs.Given.Scenes.Scene.{slot_of}
 
 pub none_is : {X : Type 0} (o : Option X) → is_some o ≡ false → o ≡ None
 none_is None e = refl

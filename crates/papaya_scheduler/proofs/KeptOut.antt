@@ -3,28 +3,28 @@ use Rattle.std.specs.Prelude.{◌≡◌, ◌+◌, ◌&&◌, ◌||◌, ℕ, Bool,
 use Rattle.std.proofs.Common.{refl, sym, ap, subst, ◌∙◌}
 use Rattle.seize_words.specs.declared.fault.Fault.{Fault}
 use Rattle.seize_words.specs.declared.fault.Fault.TheVariants.{Busy}
-use Rattle.papaya_logged.specs.Given.Tables.declared.resize_mode.ResizeMode.{ResizeMode}
+use Rattle.papaya_runs.specs.Given.Tables.declared.resize_mode.ResizeMode.{ResizeMode}
 use Rattle.papaya_runs.specs.Runs.{map_fault}
 use Rattle.papaya_runs.specs.Same.{is_same}
-use Rattle.papaya_schedules.specs.declared.event.Event.{Event}
-use Rattle.papaya_schedules.specs.declared.event.Event.TheVariants.{Collector, Hash, Choose, Register, Unregister, Enter, Own, Refresh, Flush, DropGuard, Forget, ReclaimAll, Close, MakeMap, EndMap, ShowShape, Begin, Step, Go, Replied, OneCall, Next, Stop}
-use Rattle.papaya_schedules.specs.declared.outcome.Outcome.{Outcome}
-use Rattle.papaya_schedules.specs.declared.outcome.Outcome.TheVariants.{Refused}
-use Rattle.papaya_schedules.specs.After.{after, comes_to, is_alone_on, mapped_on, moment}
-use Rattle.papaya_schedules.specs.Entry.{Entry, nameless}
-use Rattle.papaya_schedules.specs.InTurn.{ComesRight, ComesTo, IsKeptOut}
-use Rattle.papaya_schedules.specs.Moment.{UnderWay as CallThere, Moment}
-use Rattle.papaya_schedules.specs.Terms.{Terms}
-use Rattle.papaya_logged.specs.Given.Callers.Together.{UnderWay, OnKey, ForRoom, Counting, OverAll}
-use Rattle.papaya_logged.specs.Given.Effects.Known.{Known, known}
-use Rattle.papaya_logged.specs.Given.Follows.Calling.{come_to}
-use Rattle.papaya_logged.specs.Given.Hands.Calling.{AsksJust}
-use Rattle.papaya_logged.proofs.Given.Moments.Calls.{calls_come_to_whole}
-use Rattle.papaya_logged.proofs.Given.Kept.Stays.{calls_come_to_kept}
+use Rattle.papaya_rows.specs.Given.Schedules.declared.event.Event.{Event}
+use Rattle.papaya_rows.specs.Given.Schedules.declared.event.Event.TheVariants.{Collector, Hash, Choose, Register, Unregister, Enter, Own, Refresh, Flush, DropGuard, Forget, ReclaimAll, Close, MakeMap, EndMap, ShowShape, Begin, Step, Go, Replied, OneCall, Next, Stop}
+use Rattle.papaya_rows.specs.Given.Schedules.declared.outcome.Outcome.{Outcome}
+use Rattle.papaya_rows.specs.Given.Schedules.declared.outcome.Outcome.TheVariants.{Refused}
+use Rattle.papaya_rows.specs.Given.Schedules.After.{after, comes_to, is_alone_on, mapped_on, moment}
+use Rattle.papaya_rows.specs.Given.Schedules.Entry.{Entry, nameless}
+use Rattle.papaya_rows.specs.Given.Schedules.InTurn.{ComesRight, ComesTo, IsKeptOut}
+use Rattle.papaya_rows.specs.Given.Schedules.Moment.{UnderWay as CallThere, Moment}
+use Rattle.papaya_rows.specs.Given.Schedules.Terms.{Terms}
+use Rattle.papaya_rows.specs.Given.Callers.Together.{UnderWay, OnKey, ForRoom, Counting, OverAll}
+use Rattle.papaya_rows.specs.Given.Effects.Known.{Known, known}
+use Rattle.papaya_rows.specs.Given.Follows.Calling.{come_to}
+use Rattle.papaya_rows.specs.Given.Hands.Calling.{AsksJust}
+use Rattle.papaya_rows.proofs.Given.Moments.Calls.{calls_come_to_whole}
+use Rattle.papaya_rows.proofs.Given.Kept.Stays.{calls_come_to_kept}
 use Rattle.papaya_scheduler.specs.Played.{IsPlayed, Plays, StandsFor}
-use Rattle.papaya_named.specs.Seen.{seen}
+use Rattle.papaya_rows.specs.Given.Named.Seen.{seen}
 use Rattle.papaya_scheduler.specs.declared.scheduler.Scheduler.{Scheduler}
-use Rattle.papaya_logged.proofs.Counted.{counted_calls}
+use Rattle.papaya_rows.proofs.Given.Logged.Counted.{counted_calls}
 use Rattle.papaya_rows.proofs.Elsewhere.{elsewhere, shown_elsewhere, kept_elsewhere, counted_elsewhere}
 use Rattle.papaya_rows.proofs.Lists.{unseen}
 use Rattle.papaya_scheduler.proofs.Quiet.{stands_on}

@@ -1,15 +1,15 @@
 -- Maps by name: the number that is found is the one of the moment, and the map stands.
 use Rattle.std.specs.Prelude.{◌≡◌, ℕ, Bool, true, List, find, is_some, Option, Some, None, option_map, slice_index_or}
 use Rattle.std.proofs.Common.{refl, sym, ap, subst, ◌∙◌}
-use Rattle.papaya_logged.specs.Given.Tables.declared.setting.Setting.{Setting}
+use Rattle.papaya_runs.specs.Given.Tables.declared.setting.Setting.{Setting}
 use Rattle.papaya_runs.specs.Same.{is_same}
-use Rattle.papaya_schedules.specs.Moment.{MapThere, Moment}
-use Rattle.papaya_schedules.specs.Terms.{Terms}
-use Rattle.papaya_schedules.specs.Views.{map_of, number_of}
-use Rattle.papaya_logged.specs.Given.Finishes.Maps.{Standing}
+use Rattle.papaya_rows.specs.Given.Schedules.Moment.{MapThere, Moment}
+use Rattle.papaya_rows.specs.Given.Schedules.Terms.{Terms}
+use Rattle.papaya_rows.specs.Given.Schedules.Views.{map_of, number_of}
+use Rattle.papaya_rows.specs.Given.Finishes.Maps.{Standing}
 use Rattle.papaya_scheduler.specs.Played.{StandsFor}
-use Rattle.papaya_named.specs.Seen.{named, named_of, number_named, setting_named, with_setting}
-use Rattle.papaya_named.specs.declared.named_map.NamedMap.{NamedMap}
+use Rattle.papaya_rows.specs.Given.Named.Seen.{named, named_of, number_named, setting_named, with_setting}
+use Rattle.papaya_rows.specs.Given.Named.declared.named_map.NamedMap.{NamedMap}
 use Rattle.papaya_scheduler.specs.declared.scheduler.Scheduler.{Scheduler}
 use Rattle.papaya_rows.proofs.Lists.{found_alike, found_has}
 

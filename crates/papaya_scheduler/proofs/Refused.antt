@@ -3,16 +3,16 @@ use Rattle.std.specs.Prelude.{◌≡◌, ℕ, Bool, true, false, not, ◌&&◌, 
 use Rattle.std.proofs.Common.{refl, sym, ap, subst, ◌∙◌}
 use Rattle.seize_words.specs.declared.fault.Fault.{Fault}
 use Rattle.seize_words.specs.declared.fault.Fault.TheVariants.{Busy}
-use Rattle.papaya_logged.specs.Given.Tables.declared.resize_mode.ResizeMode.{ResizeMode}
+use Rattle.papaya_runs.specs.Given.Tables.declared.resize_mode.ResizeMode.{ResizeMode}
 use Rattle.papaya_runs.specs.Runs.{map_fault}
-use Rattle.papaya_schedules.specs.declared.event.Event.{Event}
-use Rattle.papaya_schedules.specs.declared.event.Event.TheVariants.{Collector, Hash, Choose, Register, Unregister, Enter, Own, Refresh, Flush, DropGuard, Forget, ReclaimAll, Close, MakeMap, EndMap, ShowShape, Begin, Step, Go, Replied, OneCall, Next, Stop}
-use Rattle.papaya_schedules.specs.declared.outcome.Outcome.{Outcome}
-use Rattle.papaya_schedules.specs.declared.outcome.Outcome.TheVariants.{Refused}
-use Rattle.papaya_schedules.specs.After.{mapped_on}
-use Rattle.papaya_schedules.specs.Entry.{Entry}
-use Rattle.papaya_schedules.specs.InTurn.{IsKeptOut}
-use Rattle.papaya_schedules.specs.Terms.{Terms}
+use Rattle.papaya_rows.specs.Given.Schedules.declared.event.Event.{Event}
+use Rattle.papaya_rows.specs.Given.Schedules.declared.event.Event.TheVariants.{Collector, Hash, Choose, Register, Unregister, Enter, Own, Refresh, Flush, DropGuard, Forget, ReclaimAll, Close, MakeMap, EndMap, ShowShape, Begin, Step, Go, Replied, OneCall, Next, Stop}
+use Rattle.papaya_rows.specs.Given.Schedules.declared.outcome.Outcome.{Outcome}
+use Rattle.papaya_rows.specs.Given.Schedules.declared.outcome.Outcome.TheVariants.{Refused}
+use Rattle.papaya_rows.specs.Given.Schedules.After.{mapped_on}
+use Rattle.papaya_rows.specs.Given.Schedules.Entry.{Entry}
+use Rattle.papaya_rows.specs.Given.Schedules.InTurn.{IsKeptOut}
+use Rattle.papaya_rows.specs.Given.Schedules.Terms.{Terms}
 use Rattle.papaya_scheduler.specs.Played.{IsPlayed, Plays, entry_of}
 use Rattle.papaya_scheduler.specs.Turns.{IsMakingOut}
 use Rattle.papaya_scheduler.specs.declared.played.Played.{Played}

@@ -4,23 +4,23 @@ use Rattle.std.proofs.Common.{◌≡◌, ℕ, ◌+◌, Bool, true, false, List, 
 use Rattle.std.proofs.lemmas.Bool.{eq-eqb, ne_eqb}
 use Rattle.seize_words.specs.declared.fault.Fault.{Fault}
 use Rattle.seize_words.specs.declared.fault.Fault.TheVariants.{Busy}
-use Rattle.papaya_logged.specs.Given.Tables.declared.node.Node.{Node}
+use Rattle.papaya_runs.specs.Given.Tables.declared.node.Node.{Node}
 use Rattle.papaya_runs.specs.Present.{Present, has_registration, registers, registration_of}
-use Rattle.papaya_schedules.specs.declared.effect.Effect.{Effect}
-use Rattle.papaya_schedules.specs.declared.event.Event.TheVariants.{Register}
-use Rattle.papaya_schedules.specs.declared.outcome.Outcome.{Outcome}
-use Rattle.papaya_schedules.specs.declared.outcome.Outcome.TheVariants.{Refused, Slot}
-use Rattle.papaya_schedules.specs.After.{is_alone_on, moment, there_on}
-use Rattle.papaya_schedules.specs.Effects.{with_effects}
-use Rattle.papaya_schedules.specs.Entry.{Entry}
-use Rattle.papaya_schedules.specs.InTurn.{GetsSlot}
-use Rattle.papaya_schedules.specs.InUse.{is_registered}
-use Rattle.papaya_schedules.specs.Moment.{Moment}
-use Rattle.papaya_schedules.specs.Terms.{Terms}
-use Rattle.papaya_scenes.specs.declared.row.RowTold.{RowTold}
-use Rattle.papaya_scenes.specs.declared.row.RowTold.TheVariants as told
-use Rattle.papaya_scenes.specs.declared.row.SlotCall.TheVariants as call
-use Rattle.papaya_logged.specs.declared.logged.Logged.{Logged}
+use Rattle.papaya_rows.specs.Given.Schedules.declared.effect.Effect.{Effect}
+use Rattle.papaya_rows.specs.Given.Schedules.declared.event.Event.TheVariants.{Register}
+use Rattle.papaya_rows.specs.Given.Schedules.declared.outcome.Outcome.{Outcome}
+use Rattle.papaya_rows.specs.Given.Schedules.declared.outcome.Outcome.TheVariants.{Refused, Slot}
+use Rattle.papaya_rows.specs.Given.Schedules.After.{is_alone_on, moment, there_on}
+use Rattle.papaya_rows.specs.Given.Schedules.Effects.{with_effects}
+use Rattle.papaya_rows.specs.Given.Schedules.Entry.{Entry}
+use Rattle.papaya_rows.specs.Given.Schedules.InTurn.{GetsSlot}
+use Rattle.papaya_rows.specs.Given.Schedules.InUse.{is_registered}
+use Rattle.papaya_rows.specs.Given.Schedules.Moment.{Moment}
+use Rattle.papaya_rows.specs.Given.Schedules.Terms.{Terms}
+use Rattle.papaya_rows.specs.Given.Scenes.declared.row.RowTold.{RowTold}
+use Rattle.papaya_rows.specs.Given.Scenes.declared.row.RowTold.TheVariants as told
+use Rattle.papaya_rows.specs.Given.Scenes.declared.row.SlotCall.TheVariants as call
+use Rattle.papaya_rows.specs.Given.Logged.declared.logged.Logged.{Logged}
 use Rattle.papaya_scheduler.specs.Played.{IsDue, Plays, StandsFor}
 use Rattle.papaya_rows.specs.Rows.{RowRan}
 use Rattle.papaya_rows.specs.Taking.{SlotTaken, told_as}

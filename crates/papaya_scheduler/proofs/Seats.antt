@@ -5,18 +5,18 @@ use Rattle.std.proofs.Common.{refl, sym, ap, subst, ◌∙◌}
 use Rattle.seize_words.specs.declared.fault.Fault.TheVariants.{Busy}
 use Rattle.papaya_runs.specs.Present.{Present, HaveNames, guard_of, living_slot, forgets}
 use Rattle.papaya_runs.specs.Same.{is_same}
-use Rattle.papaya_schedules.specs.declared.event.Event.TheVariants.{Forget}
-use Rattle.papaya_schedules.specs.declared.outcome.Outcome.TheVariants.{Done, Refused}
-use Rattle.papaya_schedules.specs.After.{is_alone_on, moment}
-use Rattle.papaya_schedules.specs.Entry.{Entry}
-use Rattle.papaya_schedules.specs.InTurn.{IsDone}
-use Rattle.papaya_schedules.specs.InUse.{is_free_guard, is_living}
-use Rattle.papaya_schedules.specs.Moment.{Sheltered, Moment}
-use Rattle.papaya_schedules.specs.Terms.{Terms}
-use Rattle.papaya_logged.specs.Given.Effects.Known.{known}
+use Rattle.papaya_rows.specs.Given.Schedules.declared.event.Event.TheVariants.{Forget}
+use Rattle.papaya_rows.specs.Given.Schedules.declared.outcome.Outcome.TheVariants.{Done, Refused}
+use Rattle.papaya_rows.specs.Given.Schedules.After.{is_alone_on, moment}
+use Rattle.papaya_rows.specs.Given.Schedules.Entry.{Entry}
+use Rattle.papaya_rows.specs.Given.Schedules.InTurn.{IsDone}
+use Rattle.papaya_rows.specs.Given.Schedules.InUse.{is_free_guard, is_living}
+use Rattle.papaya_rows.specs.Given.Schedules.Moment.{Sheltered, Moment}
+use Rattle.papaya_rows.specs.Given.Schedules.Terms.{Terms}
+use Rattle.papaya_rows.specs.Given.Effects.Known.{known}
 use Rattle.papaya_rows.specs.Rows.{used_as}
 use Rattle.papaya_scheduler.specs.Played.{IsDue, IsUnderWay, Plays, StandsFor}
-use Rattle.papaya_named.specs.Seen.{Seen, free_slot, seen, seen_of}
+use Rattle.papaya_rows.specs.Given.Named.Seen.{Seen, free_slot, seen, seen_of}
 use Rattle.papaya_scheduler.specs.declared.scheduler.Scheduler.{Scheduler}
 use Rattle.papaya_rows.proofs.Elsewhere.{elsewhere, shown_elsewhere, kept_elsewhere, counted_elsewhere}
 use Rattle.papaya_rows.proofs.Lists.{all_but, any_alike}

@@ -6,27 +6,27 @@ use Rattle.std.proofs.lemmas.List.{map-append}
 use Rattle.std.proofs.lemmas.List.Elements.{filter-append}
 use Rattle.seize_words.specs.Mem.{Mem}
 use Rattle.seize_words.specs.declared.fault.Fault.TheVariants.{Busy}
-use Rattle.papaya_logged.specs.Given.Tables.declared.node.Node.{Node}
-use Rattle.papaya_logged.specs.Given.Tables.declared.setting.Setting.{Setting}
-use Rattle.papaya_logged.specs.Given.Tables.declared.table.Table.{Table}
-use Rattle.papaya_logged.specs.Given.Rule.Chart.{Chart}
-use Rattle.papaya_logged.specs.Given.Rule.Maps.{IsMap}
-use Rattle.papaya_logged.specs.Given.Rule.Words.{Blocks}
+use Rattle.papaya_runs.specs.Given.Tables.declared.node.Node.{Node}
+use Rattle.papaya_runs.specs.Given.Tables.declared.setting.Setting.{Setting}
+use Rattle.papaya_runs.specs.Given.Tables.declared.table.Table.{Table}
+use Rattle.papaya_rows.specs.Given.Rule.Chart.{Chart}
+use Rattle.papaya_rows.specs.Given.Rule.Maps.{IsMap}
+use Rattle.papaya_rows.specs.Given.Rule.Words.{Blocks}
 use Rattle.papaya_runs.specs.declared.outcome.TableShape.{TableShape}
-use Rattle.papaya_shown.specs.Shown.{Stands, table_of, tables_on}
-use Rattle.papaya_schedules.specs.declared.event.Event.TheVariants.{ShowShape}
-use Rattle.papaya_schedules.specs.declared.outcome.Outcome.{Outcome}
-use Rattle.papaya_schedules.specs.declared.outcome.Outcome.TheVariants.{Refused, Shape}
-use Rattle.papaya_schedules.specs.After.{is_alone_on, moment}
-use Rattle.papaya_schedules.specs.Entry.{Entry}
-use Rattle.papaya_schedules.specs.InTurn.{IsShapeOf, chain_named}
-use Rattle.papaya_schedules.specs.Moment.{Stage, TableThere, Moment}
-use Rattle.papaya_schedules.specs.Terms.{Terms}
-use Rattle.papaya_schedules.specs.Views.{first_of, first_or, map_of, number_of, tables_of}
-use Rattle.papaya_logged.specs.Given.Finishes.Maps.{Standing}
-use Rattle.papaya_logged.specs.Given.Follows.Maps.{tables_to}
+use Rattle.papaya_rows.specs.Given.Shown.Shown.{Stands, table_of, tables_on}
+use Rattle.papaya_rows.specs.Given.Schedules.declared.event.Event.TheVariants.{ShowShape}
+use Rattle.papaya_rows.specs.Given.Schedules.declared.outcome.Outcome.{Outcome}
+use Rattle.papaya_rows.specs.Given.Schedules.declared.outcome.Outcome.TheVariants.{Refused, Shape}
+use Rattle.papaya_rows.specs.Given.Schedules.After.{is_alone_on, moment}
+use Rattle.papaya_rows.specs.Given.Schedules.Entry.{Entry}
+use Rattle.papaya_rows.specs.Given.Schedules.InTurn.{IsShapeOf, chain_named}
+use Rattle.papaya_rows.specs.Given.Schedules.Moment.{Stage, TableThere, Moment}
+use Rattle.papaya_rows.specs.Given.Schedules.Terms.{Terms}
+use Rattle.papaya_rows.specs.Given.Schedules.Views.{first_of, first_or, map_of, number_of, tables_of}
+use Rattle.papaya_rows.specs.Given.Finishes.Maps.{Standing}
+use Rattle.papaya_rows.specs.Given.Follows.Maps.{tables_to}
 use Rattle.papaya_scheduler.specs.Played.{IsDue, Plays, StandsFor}
-use Rattle.papaya_named.specs.Seen.{setting_named}
+use Rattle.papaya_rows.specs.Given.Named.Seen.{setting_named}
 use Rattle.papaya_scheduler.specs.Shapes.{shape_of}
 use Rattle.papaya_scheduler.specs.declared.scheduler.Scheduler.{Scheduler}
 use Rattle.papaya_scheduler.proofs.Maps.{setting_of_it, setting_some}

@@ -4,14 +4,14 @@ use Rattle.std.proofs.Common.{refl, sym, ap, ◌∙◌}
 use Rattle.seize_words.specs.declared.fault.Fault.TheVariants.{Busy}
 use Rattle.papaya_runs.specs.declared.event.Setup.{Setup}
 use Rattle.papaya_runs.specs.declared.key_hash.KeyHash.{KeyHash}
-use Rattle.papaya_schedules.specs.declared.event.Event.TheVariants.{Collector, Hash}
-use Rattle.papaya_schedules.specs.declared.outcome.Outcome.{Outcome}
-use Rattle.papaya_schedules.specs.declared.outcome.Outcome.TheVariants.{Done, Refused}
-use Rattle.papaya_schedules.specs.After.{is_alone_on, moment}
-use Rattle.papaya_schedules.specs.Entry.{Entry}
-use Rattle.papaya_schedules.specs.InTurn.{IsDone}
-use Rattle.papaya_schedules.specs.Moment.{Moment}
-use Rattle.papaya_schedules.specs.Terms.{Terms}
+use Rattle.papaya_rows.specs.Given.Schedules.declared.event.Event.TheVariants.{Collector, Hash}
+use Rattle.papaya_rows.specs.Given.Schedules.declared.outcome.Outcome.{Outcome}
+use Rattle.papaya_rows.specs.Given.Schedules.declared.outcome.Outcome.TheVariants.{Done, Refused}
+use Rattle.papaya_rows.specs.Given.Schedules.After.{is_alone_on, moment}
+use Rattle.papaya_rows.specs.Given.Schedules.Entry.{Entry}
+use Rattle.papaya_rows.specs.Given.Schedules.InTurn.{IsDone}
+use Rattle.papaya_rows.specs.Given.Schedules.Moment.{Moment}
+use Rattle.papaya_rows.specs.Given.Schedules.Terms.{Terms}
 use Rattle.papaya_scheduler.specs.Played.{IsDue, Plays}
 use Rattle.papaya_scheduler.specs.declared.scheduler.Scheduler.{Scheduler}
 use Rattle.papaya_scheduler.proofs.Quiet.{stands_on}

@@ -3,18 +3,18 @@ use Rattle.std.specs.Prelude.{◌≡◌, ℕ, true, List, []}
 use Rattle.std.proofs.Common.{refl, sym, subst, inl, inr}
 use Rattle.seize.specs.declared.progress.Progress.{Progress}
 use Rattle.seize_words.specs.declared.fault.Fault.{Fault}
-use Rattle.papaya_logged.specs.Given.Tables.declared.node.Node.{Node}
-use Rattle.papaya_logged.specs.Given.Tables.declared.setting.Setting.{Setting}
-use Rattle.papaya_schedules.specs.declared.effect.Effect.{Effect}
-use Rattle.papaya_schedules.specs.declared.event.Event.{Event}
-use Rattle.papaya_schedules.specs.declared.outcome.Outcome.TheVariants.{Done, Refused}
-use Rattle.papaya_scenes.specs.declared.row.RowTold.{RowTold}
-use Rattle.papaya_scenes.specs.declared.row.SlotCall.{SlotCall}
-use Rattle.papaya_logged.specs.Ends.{EndRan}
-use Rattle.papaya_logged.specs.Goes.{EndGone, MakingGone}
-use Rattle.papaya_logged.specs.Makings.{MakingRan}
-use Rattle.papaya_logged.specs.Roots.{MakingFinds}
-use Rattle.papaya_logged.specs.declared.logged.Logged.{Logged}
+use Rattle.papaya_runs.specs.Given.Tables.declared.node.Node.{Node}
+use Rattle.papaya_runs.specs.Given.Tables.declared.setting.Setting.{Setting}
+use Rattle.papaya_rows.specs.Given.Schedules.declared.effect.Effect.{Effect}
+use Rattle.papaya_rows.specs.Given.Schedules.declared.event.Event.{Event}
+use Rattle.papaya_rows.specs.Given.Schedules.declared.outcome.Outcome.TheVariants.{Done, Refused}
+use Rattle.papaya_rows.specs.Given.Scenes.declared.row.RowTold.{RowTold}
+use Rattle.papaya_rows.specs.Given.Scenes.declared.row.SlotCall.{SlotCall}
+use Rattle.papaya_rows.specs.Given.Logged.Ends.{EndRan}
+use Rattle.papaya_rows.specs.Given.Logged.Goes.{EndGone, MakingGone}
+use Rattle.papaya_rows.specs.Given.Logged.Makings.{MakingRan}
+use Rattle.papaya_rows.specs.Given.Logged.Roots.{MakingFinds}
+use Rattle.papaya_rows.specs.Given.Logged.declared.logged.Logged.{Logged}
 use Rattle.papaya_rows.specs.Rows.{RowRan, RowRanOn}
 use Rattle.papaya_scheduler.specs.Works.{ComesBy, HasNoRow, IsAbout, IsItsRow, WorksOnSlot}
 use Rattle.papaya_scheduler.specs.declared.played.Played.{Played}

@@ -1,26 +1,26 @@
 -- What is asked of a moment before a map is made or ends, and what is promised then.
 use Rattle.std.specs.Prelude.{◌≡◌, ◌<◌, ◌≤◌, ◌+◌, ◌^◌, ℕ, Bool, true, List, length, filter, max}
 use Rattle.std.specs.Int.{IsNextPowerOfTwo}
-use Rattle.papaya_logged.specs.Given.Tables.declared.resize_mode.ResizeMode.{ResizeMode}
-use Rattle.papaya_logged.specs.Given.Tables.declared.setting.Setting.{Setting}
-use Rattle.papaya_logged.specs.Given.Points.Steps.{AreLawful}
+use Rattle.papaya_runs.specs.Given.Tables.declared.resize_mode.ResizeMode.{ResizeMode}
+use Rattle.papaya_runs.specs.Given.Tables.declared.setting.Setting.{Setting}
+use Rattle.papaya_rows.specs.Given.Points.Steps.{AreLawful}
 use Rattle.papaya_runs.specs.LifeCycle.{times}
 use Rattle.papaya_runs.specs.Same.{is_same}
-use Rattle.papaya_schedules.specs.declared.event.Event.{Event}
-use Rattle.papaya_schedules.specs.declared.outcome.Outcome.{Outcome}
-use Rattle.papaya_schedules.specs.declared.outcome.Outcome.TheVariants.{Done}
-use Rattle.papaya_schedules.specs.After.{moment}
-use Rattle.papaya_schedules.specs.Beginning.{used_roots}
-use Rattle.papaya_schedules.specs.Entry.{Entry}
-use Rattle.papaya_schedules.specs.Lists.{is_among}
-use Rattle.papaya_schedules.specs.Moment.{Moment}
-use Rattle.papaya_schedules.specs.Terms.{Terms}
-use Rattle.papaya_logged.specs.Given.Moments.Numbers.{NumbersMaps, PairsAreBelow}
-use Rattle.papaya_logged.specs.Roots.{AreTaken}
+use Rattle.papaya_rows.specs.Given.Schedules.declared.event.Event.{Event}
+use Rattle.papaya_rows.specs.Given.Schedules.declared.outcome.Outcome.{Outcome}
+use Rattle.papaya_rows.specs.Given.Schedules.declared.outcome.Outcome.TheVariants.{Done}
+use Rattle.papaya_rows.specs.Given.Schedules.After.{moment}
+use Rattle.papaya_rows.specs.Given.Schedules.Beginning.{used_roots}
+use Rattle.papaya_rows.specs.Given.Schedules.Entry.{Entry}
+use Rattle.papaya_rows.specs.Given.Schedules.Lists.{is_among}
+use Rattle.papaya_rows.specs.Given.Schedules.Moment.{Moment}
+use Rattle.papaya_rows.specs.Given.Schedules.Terms.{Terms}
+use Rattle.papaya_rows.specs.Given.Moments.Numbers.{NumbersMaps, PairsAreBelow}
+use Rattle.papaya_rows.specs.Given.Logged.Roots.{AreTaken}
 use Rattle.papaya_scheduler.specs.Played.{IsDue, Plays, entry_of}
-use Rattle.papaya_named.specs.Seen.{number_named}
+use Rattle.papaya_rows.specs.Given.Named.Seen.{number_named}
 use Rattle.papaya_scheduler.specs.declared.played.Played.{Played}
-use Rattle.papaya_named.specs.declared.named_map.NamedMap.{NamedMap}
+use Rattle.papaya_rows.specs.Given.Named.declared.named_map.NamedMap.{NamedMap}
 use Rattle.papaya_scheduler.specs.declared.scheduler.Scheduler.{Scheduler}
 
 -- so many maps have a number, of so many before, once the making of one came to this

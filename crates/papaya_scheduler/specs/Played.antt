@@ -3,42 +3,42 @@ use Rattle.std.specs.Prelude.{◌≡◌, ◌≤◌, ℕ, ◌==◌, ◌+◌, ◌*
 use Rattle.std.specs.List.{AllByRecursion, list_any, remove}
 use Rattle.std.specs.Result.{is_err}
 use Rattle.seize_words.specs.declared.fault.Fault.TheVariants.{Busy}
-use Rattle.papaya_logged.specs.Given.Tables.declared.setting.Setting.{Setting}
-use Rattle.papaya_logged.specs.Given.Callers.Together.{UnderWay}
-use Rattle.papaya_logged.specs.Given.Finishes.Machines.{machine_of}
-use Rattle.papaya_logged.specs.Given.Finishes.Maps.{Standing}
-use Rattle.papaya_logged.specs.Given.Hands.Asked.{as_told}
-use Rattle.papaya_raw.specs.declared.machines.asking.Reply.{Reply as MachineReply}
-use Rattle.papaya_raw.specs.declared.machines.machine.Machine.{Machine}
+use Rattle.papaya_runs.specs.Given.Tables.declared.setting.Setting.{Setting}
+use Rattle.papaya_rows.specs.Given.Callers.Together.{UnderWay}
+use Rattle.papaya_rows.specs.Given.Finishes.Machines.{machine_of}
+use Rattle.papaya_rows.specs.Given.Finishes.Maps.{Standing}
+use Rattle.papaya_rows.specs.Given.Hands.Asked.{as_told}
+use Rattle.papaya_rows.specs.Given.Raw.declared.machines.asking.Reply.{Reply as MachineReply}
+use Rattle.papaya_rows.specs.Given.Raw.declared.machines.machine.Machine.{Machine}
 use Rattle.papaya_runs.specs.Present.{Present, HaveNames, guard_of, living_slot}
 use Rattle.papaya_runs.specs.declared.event.Setup.{Setup}
-use Rattle.papaya_schedules.specs.declared.call.Call.{Call}
-use Rattle.papaya_schedules.specs.declared.call.Reply.{Reply}
-use Rattle.papaya_schedules.specs.declared.event.Event.{Event}
-use Rattle.papaya_schedules.specs.declared.outcome.Outcome.TheVariants.{Done, Goes, Refused}
-use Rattle.papaya_schedules.specs.After.{moment}
-use Rattle.papaya_schedules.specs.Beginning.{with_call}
-use Rattle.papaya_schedules.specs.Entry.{Entry}
-use Rattle.papaya_schedules.specs.InTurn.{ComesRight}
-use Rattle.papaya_schedules.specs.InUse.{is_living}
-use Rattle.papaya_schedules.specs.Moment.{Moment}
-use Rattle.papaya_schedules.specs.Terms.{Terms}
-use Rattle.papaya_schedules.specs.Views.{call_of, map_of, number_of}
-use Rattle.papaya_scenes.specs.declared.callers.TheConstants.{SLOTS}
-use Rattle.papaya_logged.specs.Calling.{CallBegins}
-use Rattle.papaya_logged.specs.Shown.{IsShown}
-use Rattle.papaya_named.specs.Machines.{IsAsFar, RefusedForRoom, aborted_by, machine_for}
+use Rattle.papaya_rows.specs.Given.Schedules.declared.call.Call.{Call}
+use Rattle.papaya_rows.specs.Given.Schedules.declared.call.Reply.{Reply}
+use Rattle.papaya_rows.specs.Given.Schedules.declared.event.Event.{Event}
+use Rattle.papaya_rows.specs.Given.Schedules.declared.outcome.Outcome.TheVariants.{Done, Goes, Refused}
+use Rattle.papaya_rows.specs.Given.Schedules.After.{moment}
+use Rattle.papaya_rows.specs.Given.Schedules.Beginning.{with_call}
+use Rattle.papaya_rows.specs.Given.Schedules.Entry.{Entry}
+use Rattle.papaya_rows.specs.Given.Schedules.InTurn.{ComesRight}
+use Rattle.papaya_rows.specs.Given.Schedules.InUse.{is_living}
+use Rattle.papaya_rows.specs.Given.Schedules.Moment.{Moment}
+use Rattle.papaya_rows.specs.Given.Schedules.Terms.{Terms}
+use Rattle.papaya_rows.specs.Given.Schedules.Views.{call_of, map_of, number_of}
+use Rattle.papaya_rows.specs.Given.Scenes.declared.callers.TheConstants.{SLOTS}
+use Rattle.papaya_rows.specs.Given.Logged.Calling.{CallBegins}
+use Rattle.papaya_rows.specs.Given.Logged.Shown.{IsShown}
+use Rattle.papaya_rows.specs.Given.Named.Machines.{IsAsFar, RefusedForRoom, aborted_by, machine_for}
 use Rattle.papaya_rows.specs.Rows.{used_as}
-use Rattle.papaya_named.specs.Seen.{is_named, kind_of, named, named_of, ready_place, seen, seen_of, setting_named, takes}
-use Rattle.papaya_named.specs.declared.caller.Caller.{Caller}
-use Rattle.papaya_named.specs.declared.caller.Stands.TheVariants as far
+use Rattle.papaya_rows.specs.Given.Named.Seen.{is_named, kind_of, named, named_of, ready_place, seen, seen_of, setting_named, takes}
+use Rattle.papaya_rows.specs.Given.Named.declared.caller.Caller.{Caller}
+use Rattle.papaya_rows.specs.Given.Named.declared.caller.Stands.TheVariants as far
 use Rattle.papaya_scheduler.specs.declared.played.Played.{Played}
-use Rattle.papaya_named.specs.declared.named_map.NamedMap.{NamedMap}
+use Rattle.papaya_rows.specs.Given.Named.declared.named_map.NamedMap.{NamedMap}
 use Rattle.papaya_scheduler.specs.declared.scheduler.Scheduler.{Scheduler}
-use Rattle.papaya_executor.specs.Beginning.{BeginsThere}
-use Rattle.papaya_executor.specs.IsThere.{IsThere, use_at, work_of}
-use Rattle.papaya_executor.specs.Replying.{RepliesThere, StopsThere}
-use Rattle.papaya_scenes.specs.Scene.{Scene, slot_of}
+use Rattle.papaya_rows.specs.Given.Executor.Beginning.{BeginsThere}
+use Rattle.papaya_rows.specs.Given.Executor.IsThere.{IsThere, use_at, work_of}
+use Rattle.papaya_rows.specs.Given.Executor.Replying.{RepliesThere, StopsThere}
+use Rattle.papaya_rows.specs.Given.Scenes.Scene.{Scene, slot_of}
 
 -- what the run is made with
 abbrev pub terms_given : Setup → Terms

@@ -8,38 +8,38 @@ use Rattle.seize_words.specs.Mem.{word_at}
 use Rattle.seize_words.specs.declared.at.At.TheVariants as at
 use Rattle.seize_words.specs.declared.fault.Fault.{Fault}
 use Rattle.seize_words.specs.declared.fault.Fault.TheVariants.{Busy}
-use Rattle.papaya_logged.specs.Given.Tables.declared.node.Node.{Node}
-use Rattle.papaya_logged.specs.Given.Tables.declared.resize_mode.ResizeMode.{ResizeMode}
-use Rattle.papaya_logged.specs.Given.Tables.declared.setting.Setting.{Setting}
+use Rattle.papaya_runs.specs.Given.Tables.declared.node.Node.{Node}
+use Rattle.papaya_runs.specs.Given.Tables.declared.resize_mode.ResizeMode.{ResizeMode}
+use Rattle.papaya_runs.specs.Given.Tables.declared.setting.Setting.{Setting}
 use Rattle.papaya_runs.specs.Runs.{map_fault}
 use Rattle.papaya_runs.specs.Present.{Present, guard_of, guards_on, living_on, living_slot, registration_of}
-use Rattle.papaya_schedules.specs.declared.event.Event.{Event}
-use Rattle.papaya_schedules.specs.declared.event.Event.TheVariants.{Choose, Register, Unregister, Enter, Own, Refresh, Flush, DropGuard}
-use Rattle.papaya_schedules.specs.declared.outcome.Outcome.{Outcome}
-use Rattle.papaya_schedules.specs.declared.outcome.Outcome.TheVariants.{Done, Slot, Refused}
-use Rattle.papaya_schedules.specs.Moment.{Moment}
-use Rattle.papaya_named.specs.Places.{IsFirstLen, first_places}
-use Rattle.papaya_scenes.specs.declared.row.RowTold.{RowTold}
-use Rattle.papaya_scenes.specs.declared.row.RowTold.TheVariants as told
-use Rattle.papaya_scenes.specs.declared.row.SlotCall.{SlotCall}
-use Rattle.papaya_scenes.specs.declared.callers.TheConstants.{SLOTS}
-use Rattle.papaya_scenes.specs.declared.row.SlotCall.TheVariants as call
-use Rattle.papaya_logged.specs.Choosing.{logged_chosen}
-use Rattle.papaya_logged.specs.Ends.{EndIsBegun, EndIsOver, EndRan}
-use Rattle.papaya_logged.specs.Goes.{EndGone, MakingGone}
-use Rattle.papaya_logged.specs.Makings.{MakingIsBegun, MakingRan, MapIsThere}
-use Rattle.papaya_logged.specs.Roots.{MakingFinds}
-use Rattle.papaya_logged.specs.Shown.{IsShown}
-use Rattle.papaya_logged.specs.declared.logged.Logged.{Logged}
+use Rattle.papaya_rows.specs.Given.Schedules.declared.event.Event.{Event}
+use Rattle.papaya_rows.specs.Given.Schedules.declared.event.Event.TheVariants.{Choose, Register, Unregister, Enter, Own, Refresh, Flush, DropGuard}
+use Rattle.papaya_rows.specs.Given.Schedules.declared.outcome.Outcome.{Outcome}
+use Rattle.papaya_rows.specs.Given.Schedules.declared.outcome.Outcome.TheVariants.{Done, Slot, Refused}
+use Rattle.papaya_rows.specs.Given.Schedules.Moment.{Moment}
+use Rattle.papaya_rows.specs.Given.Named.Places.{IsFirstLen, first_places}
+use Rattle.papaya_rows.specs.Given.Scenes.declared.row.RowTold.{RowTold}
+use Rattle.papaya_rows.specs.Given.Scenes.declared.row.RowTold.TheVariants as told
+use Rattle.papaya_rows.specs.Given.Scenes.declared.row.SlotCall.{SlotCall}
+use Rattle.papaya_rows.specs.Given.Scenes.declared.callers.TheConstants.{SLOTS}
+use Rattle.papaya_rows.specs.Given.Scenes.declared.row.SlotCall.TheVariants as call
+use Rattle.papaya_rows.specs.Given.Logged.Choosing.{logged_chosen}
+use Rattle.papaya_rows.specs.Given.Logged.Ends.{EndIsBegun, EndIsOver, EndRan}
+use Rattle.papaya_rows.specs.Given.Logged.Goes.{EndGone, MakingGone}
+use Rattle.papaya_rows.specs.Given.Logged.Makings.{MakingIsBegun, MakingRan, MapIsThere}
+use Rattle.papaya_rows.specs.Given.Logged.Roots.{MakingFinds}
+use Rattle.papaya_rows.specs.Given.Logged.Shown.{IsShown}
+use Rattle.papaya_rows.specs.Given.Logged.declared.logged.Logged.{Logged}
 use Rattle.papaya_rows.specs.Rows.{RowRan, left_as}
 use Rattle.papaya_scheduler.specs.Mapping.{IsGivenFor}
-use Rattle.papaya_named.specs.Seen.{free_slot, number_named}
+use Rattle.papaya_rows.specs.Given.Named.Seen.{free_slot, number_named}
 use Rattle.papaya_scheduler.specs.declared.played.Played.{Played}
 use Rattle.papaya_scheduler.specs.declared.scheduler.Scheduler.{Scheduler}
-use Rattle.papaya_executor.specs.Ending.{EndingBegins}
-use Rattle.papaya_executor.specs.IsThere.{IsThere, KeepsGiven, StaysGiven}
-use Rattle.papaya_executor.specs.MakingBegins.{MakingBegins}
-use Rattle.papaya_scenes.specs.Scene.{Scene}
+use Rattle.papaya_rows.specs.Given.Executor.Ending.{EndingBegins}
+use Rattle.papaya_rows.specs.Given.Executor.IsThere.{IsThere, KeepsGiven, StaysGiven}
+use Rattle.papaya_rows.specs.Given.Executor.MakingBegins.{MakingBegins}
+use Rattle.papaya_rows.specs.Given.Scenes.Scene.{Scene}
 
 module _ {K V S : Type 0} where
   -- The event is about this slot, by who is there as it comes; a registering finds a slot of its own.

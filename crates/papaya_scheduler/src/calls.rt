@@ -1,25 +1,25 @@
 //! Calls begin, get replies, and are given up.
 ghost use Rattle.std.specs.Prelude.{◌≡◌, ℕ, Bool, List, None, IfOk, MatchOption};
-ghost use Rattle.papaya_schedules.specs.declared.event.Event.TheVariants as event;
-ghost use Rattle.papaya_schedules.specs.Moment.{Moment};
-ghost use Rattle.papaya_schedules.specs.Terms.{Terms};
-ghost use Rattle.papaya_logged.specs.Given.Hands.Asked.{as_told};
-ghost use Rattle.papaya_named.specs.Machines.{aborted_by};
+ghost use Rattle.papaya_rows.specs.Given.Schedules.declared.event.Event.TheVariants as event;
+ghost use Rattle.papaya_rows.specs.Given.Schedules.Moment.{Moment};
+ghost use Rattle.papaya_rows.specs.Given.Schedules.Terms.{Terms};
+ghost use Rattle.papaya_rows.specs.Given.Hands.Asked.{as_told};
+ghost use Rattle.papaya_rows.specs.Given.Named.Machines.{aborted_by};
 ghost use Rattle.papaya_scheduler.specs.Played.{Began, BeginsSo, MayPlay, PlaysAt, Replies, StandsFor, Stops};
 ghost use Rattle.papaya_scheduler.specs.Quiet.{IsQuiet, StaysBusy};
-ghost use Rattle.papaya_named.specs.Seen.{IsReadyAt, ready_place};
-ghost use Rattle.papaya_executor.specs.IsThere.{KeepsGiven};
+ghost use Rattle.papaya_rows.specs.Given.Named.Seen.{IsReadyAt, ready_place};
+ghost use Rattle.papaya_rows.specs.Given.Executor.IsThere.{KeepsGiven};
 
 use crate::played::Played;
 use crate::scheduler::Scheduler;
-use papaya_named::caller::{Caller, Stands};
-use papaya_named::kind::Kind;
-use papaya_named::machines::machine_for;
-use papaya_raw::machines::Reply as Told;
-use papaya_raw::{Hashes, Setting};
+use papaya_rows::papaya_named::caller::{Caller, Stands};
+use papaya_rows::papaya_named::kind::Kind;
+use papaya_rows::papaya_named::machines::machine_for;
+use papaya_rows::papaya_raw::machines::Reply as Told;
+use papaya_rows::papaya_raw::{Hashes, Setting};
+use papaya_rows::papaya_schedules::call::{Call, Reply};
+use papaya_rows::papaya_schedules::outcome::Outcome;
 use papaya_runs::token::Token;
-use papaya_schedules::call::{Call, Reply};
-use papaya_schedules::outcome::Outcome;
 use std::alloc::AllocError;
 use std::hash::Hash;
 

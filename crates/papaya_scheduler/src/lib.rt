@@ -9,3 +9,5 @@ pub mod scheduler;
 pub mod setups;
 pub mod shapes;
 pub mod turns;
+
+pub use papaya_rows::{papaya_logged, papaya_named, papaya_raw, papaya_schedules};

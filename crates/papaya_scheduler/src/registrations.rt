@@ -1,23 +1,23 @@
 //! Slots are taken and given up: registrations, and guards that own theirs.
 ghost use Rattle.std.specs.Prelude.{◌≡◌, ℕ, Bool, List, IfOk};
-ghost use Rattle.papaya_schedules.specs.Moment.{Moment};
-ghost use Rattle.papaya_schedules.specs.Terms.{Terms};
-ghost use Rattle.papaya_schedules.specs.declared.event.Event.TheVariants as event;
-ghost use Rattle.papaya_logged.specs.Back.{BringsBack};
+ghost use Rattle.papaya_rows.specs.Given.Schedules.Moment.{Moment};
+ghost use Rattle.papaya_rows.specs.Given.Schedules.Terms.{Terms};
+ghost use Rattle.papaya_rows.specs.Given.Schedules.declared.event.Event.TheVariants as event;
+ghost use Rattle.papaya_rows.specs.Given.Logged.Back.{BringsBack};
 ghost use Rattle.papaya_scheduler.specs.Back.{GivesBack};
 ghost use Rattle.papaya_scheduler.specs.Played.{MayPlay, PlaysAt, StandsFor};
 ghost use Rattle.papaya_scheduler.specs.Quiet.{IsQuiet};
 ghost use Rattle.papaya_rows.specs.Taking.{SlotTaken};
 ghost use Rattle.papaya_scheduler.specs.Works.{WorksOnSlot};
-ghost use Rattle.papaya_executor.specs.IsThere.{KeepsGiven};
+ghost use Rattle.papaya_rows.specs.Given.Executor.IsThere.{KeepsGiven};
 
 use crate::played::Played;
 use crate::scheduler::Scheduler;
+use papaya_rows::papaya_scenes::row::{RowTold, SlotCall};
+use papaya_rows::papaya_schedules::effect::Effect;
+use papaya_rows::papaya_schedules::outcome::Outcome;
 use papaya_runs::record::Pair;
 use papaya_runs::token::Token;
-use papaya_scenes::row::{RowTold, SlotCall};
-use papaya_schedules::effect::Effect;
-use papaya_schedules::outcome::Outcome;
 use seize_words::Fault;
 use std::alloc::AllocError;
 

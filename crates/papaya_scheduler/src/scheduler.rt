@@ -1,31 +1,31 @@
 //! The state of a run whose calls stay under way: the executor, and who is there by name.
 ghost use Rattle.std.specs.Prelude.{◌≡◌, ◌<◌, ℕ, Bool, List, [], IfOk, OnOk};
-ghost use Rattle.papaya_schedules.specs.Moment.{Moment, start};
-ghost use Rattle.papaya_logged.specs.Back.{BringsBack};
-ghost use Rattle.papaya_logged.specs.Shown.{IsShown};
-ghost use Rattle.papaya_scenes.specs.declared.callers.TheConstants.{SLOTS};
-ghost use Rattle.papaya_named.specs.Seen.{free_slot, number_named, setting_named};
+ghost use Rattle.papaya_rows.specs.Given.Schedules.Moment.{Moment, start};
+ghost use Rattle.papaya_rows.specs.Given.Logged.Back.{BringsBack};
+ghost use Rattle.papaya_rows.specs.Given.Logged.Shown.{IsShown};
+ghost use Rattle.papaya_rows.specs.Given.Scenes.declared.callers.TheConstants.{SLOTS};
+ghost use Rattle.papaya_rows.specs.Given.Named.Seen.{free_slot, number_named, setting_named};
 ghost use Rattle.papaya_scheduler.specs.First.{HasJustBegun};
 ghost use Rattle.papaya_scheduler.specs.Played.{IsPlayed, terms_given};
 ghost use Rattle.papaya_rows.specs.Rows.{RowRan, RowRanOn};
 ghost use Rattle.seize_words.specs.declared.fault.Fault.TheVariants.{Busy};
-ghost use Rattle.papaya_executor.specs.IsThere.{KeepsGiven};
-ghost use Rattle.papaya_executor.specs.OnSlots.{MayBegin};
-ghost use Rattle.papaya_scenes.specs.Scene.{Scene, at_first};
+ghost use Rattle.papaya_rows.specs.Given.Executor.IsThere.{KeepsGiven};
+ghost use Rattle.papaya_rows.specs.Given.Executor.OnSlots.{MayBegin};
+ghost use Rattle.papaya_rows.specs.Given.Scenes.Scene.{Scene, at_first};
 
 use crate::played::Played;
-use papaya_logged::logged::Logged;
-use papaya_named::callers::Callers;
-use papaya_named::named_map::NamedMap;
 use papaya_present::Present;
 use papaya_present::crowd::Crowd;
-use papaya_raw::{Node, Setting};
+use papaya_rows::papaya_logged::logged::Logged;
+use papaya_rows::papaya_named::callers::Callers;
+use papaya_rows::papaya_named::named_map::NamedMap;
+use papaya_rows::papaya_raw::{Node, Setting};
+use papaya_rows::papaya_scenes::row::{RowTold, SlotCall};
+use papaya_rows::papaya_schedules::effect::Effect;
+use papaya_rows::papaya_schedules::outcome::Outcome;
 use papaya_runs::event::Setup;
 use papaya_runs::record::Pair;
 use papaya_runs::token::Token;
-use papaya_scenes::row::{RowTold, SlotCall};
-use papaya_schedules::effect::Effect;
-use papaya_schedules::outcome::Outcome;
 use std::alloc::{AllocError, Global};
 
 /// The executor with what is noted of its memory, and who is there by name.

@@ -1,17 +1,17 @@
 //! Events of the setup.
 ghost use Rattle.std.specs.Prelude.{[], ◌≡◌, ℕ, Bool, IfOk, if◌then◌else◌};
-ghost use Rattle.papaya_schedules.specs.declared.event.Event.TheVariants as event;
+ghost use Rattle.papaya_rows.specs.Given.Schedules.declared.event.Event.TheVariants as event;
 ghost use Rattle.seize_words.specs.declared.fault.Fault.TheVariants.{Busy};
 ghost use Rattle.papaya_scheduler.specs.Played.{MayPlay, PlaysAt, PlaysFirst};
 ghost use Rattle.papaya_scheduler.specs.Quiet.{IsQuiet};
 ghost use Rattle.papaya_scheduler.specs.Works.{WorksOnSetup};
-ghost use Rattle.papaya_executor.specs.IsThere.{KeepsGiven};
+ghost use Rattle.papaya_rows.specs.Given.Executor.IsThere.{KeepsGiven};
 
 use crate::played::Played;
 use crate::scheduler::Scheduler;
+use papaya_rows::papaya_schedules::outcome::Outcome;
 use papaya_runs::event::Setup;
 use papaya_runs::key_hash::KeyHash;
-use papaya_schedules::outcome::Outcome;
 use std::alloc::AllocError;
 
 impl<K: Drop, V: Drop, S> Scheduler<K, V, S> {

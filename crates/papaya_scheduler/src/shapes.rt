@@ -1,9 +1,9 @@
 //! The tables of a map, as a schedule is shown them.
 ghost use Rattle.std.specs.Prelude.{◌≡◌, ◌-◌, ◌++◌, ℕ, Bool, map, IfOk};
-ghost use Rattle.papaya_schedules.specs.declared.event.Event.TheVariants as event;
-ghost use Rattle.papaya_logged.specs.Given.Rule.Chart.{Chart};
-ghost use Rattle.papaya_logged.specs.Given.Rule.Words.{Blocks};
-ghost use Rattle.papaya_shown.specs.Shown.{Stands, tables_on};
+ghost use Rattle.papaya_rows.specs.Given.Schedules.declared.event.Event.TheVariants as event;
+ghost use Rattle.papaya_rows.specs.Given.Rule.Chart.{Chart};
+ghost use Rattle.papaya_rows.specs.Given.Rule.Words.{Blocks};
+ghost use Rattle.papaya_rows.specs.Given.Shown.Shown.{Stands, tables_on};
 ghost use Rattle.papaya_scheduler.specs.Played.{MayPlay, PlaysAt};
 ghost use Rattle.papaya_scheduler.specs.Shapes.{shape_of};
 ghost use Rattle.papaya_scheduler.specs.Quiet.{IsQuiet};
@@ -11,11 +11,11 @@ ghost use Rattle.papaya_scheduler.specs.Works.{WorksOnSetup};
 
 use crate::played::Played;
 use crate::scheduler::Scheduler;
-use papaya_raw::{Node, Setting, Table};
+use papaya_rows::papaya_raw::{Node, Setting, Table};
+use papaya_rows::papaya_schedules::outcome::Outcome;
+use papaya_rows::papaya_shown::{root_of, table_behind};
 use papaya_runs::outcome::TableShape;
 use papaya_runs::token::Token;
-use papaya_schedules::outcome::Outcome;
-use papaya_shown::{root_of, table_behind};
 use seize_words::Plain;
 use std::alloc::{AllocError, Global};
 

@@ -1,16 +1,16 @@
 //! Events that are kept out, once the collector has ended.
 ghost use Rattle.std.specs.Prelude.{◌≡◌, ℕ, Bool, true, []};
 ghost use Rattle.papaya_runs.specs.Runs.{map_fault};
-ghost use Rattle.papaya_schedules.specs.After.{mapped_on};
-ghost use Rattle.papaya_schedules.specs.InTurn.{IsKeptOut};
+ghost use Rattle.papaya_rows.specs.Given.Schedules.After.{mapped_on};
+ghost use Rattle.papaya_rows.specs.Given.Schedules.InTurn.{IsKeptOut};
 ghost use Rattle.papaya_scheduler.specs.KeptOut.{PlaysKeptOut};
 ghost use Rattle.papaya_scheduler.specs.Turns.{IsMakingOut};
 
 use crate::played::Played;
 use crate::scheduler::Scheduler;
-use papaya_raw::{ResizeMode, entries_for};
-use papaya_schedules::event::Event;
-use papaya_schedules::outcome::Outcome;
+use papaya_rows::papaya_raw::{ResizeMode, entries_for};
+use papaya_rows::papaya_schedules::event::Event;
+use papaya_rows::papaya_schedules::outcome::Outcome;
 use seize_words::Fault;
 
 /// What is wrong in making such a map.

@@ -1,2 +1,3 @@
 mod Rows
 mod Samples
+pub mod Given

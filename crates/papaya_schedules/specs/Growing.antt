@@ -1,7 +1,7 @@
 -- The tables of a map: for what memory is asked, and which table comes after which.
 use Rattle.std.specs.Prelude.{◌≡◌, ℕ, ◌+◌, ◌^◌, ◌<◌, ◌≤◌, ◌==◌, nat_le, nat_lt, Bool, true, false, not, ◌||◌, List, [], ◌∷◌, length, None, Result, Ok, Err, ◌⊎◌}
 use Rattle.std.specs.List.{list_all}
-use Rattle.seize_words.specs.declared.fault.Fault.{Fault}
+use Rattle.papaya_raw.specs.Given.SeizeWords.declared.fault.Fault.{Fault}
 use Rattle.papaya_raw.specs.Given.Seize.Register.{MayNeedRoom}
 use Rattle.papaya_raw.specs.Given.Tables.declared.lengths.Reason.{Reason}
 use Rattle.papaya_raw.specs.Given.Tables.declared.lengths.Reason.TheVariants.{Full, Reserved, NoPlace}

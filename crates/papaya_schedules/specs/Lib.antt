@@ -25,3 +25,4 @@ pub mod Model
 pub mod Reclaims
 pub mod Runs
 pub mod Rows
+pub mod Given

@@ -1,21 +1,21 @@
 //! A call on a map for one owner that computes what is to be done with a key. It begins with a refresh.
 ghost use Rattle.std.specs.Prelude.{◌≡◌, None, Some, IfOk, IfErr, OnErr};
 ghost use Rattle.std.specs.Borrow.{sem};
-ghost use Rattle.papaya_asks.specs.Closures.{Computing, ComputesAs, ComputingTakes};
+ghost use Rattle.papaya_seq_shows.specs.Given.Asks.Closures.{Computing, ComputesAs, ComputingTakes};
 ghost use Rattle.papaya_shown.specs.Chain.{CannotGrow};
 ghost use Rattle.seize_words.specs.declared.fault.Fault.TheVariants.{Capacity};
-ghost use Rattle.papaya_resting.specs.Given.{found_by};
-ghost use Rattle.papaya_resting.specs.Asking.{HasComputed, IsRefusedFor};
+ghost use Rattle.papaya_seq_shows.specs.Given.Resting.Given.{found_by};
+ghost use Rattle.papaya_seq_shows.specs.Given.Resting.Asking.{HasComputed, IsRefusedFor};
 ghost use Rattle.papaya_seq_map.specs.Answers.{IsRefused, RestsUnless};
 ghost use Rattle.papaya_seq_map.specs.Computes as computes;
-ghost use Rattle.papaya_resting.specs.Held.{stored_computing};
+ghost use Rattle.papaya_seq_shows.specs.Given.Resting.Held.{stored_computing};
 ghost use Rattle.papaya_seq_shows.specs.Maps.{HasNow, Keeps};
 
 use crate::answers::{Aborted, Compute, Present, Removed, Updated};
 use crate::map::HashMap;
-use papaya_asks::RefusedKey;
 use papaya_operation::Operation;
-use papaya_resting::{Change, Compute as Done};
+use papaya_seq_shows::papaya_asks::RefusedKey;
+use papaya_seq_shows::papaya_resting::{Change, Compute as Done};
 use seize_receivers::Receiver;
 use std::hash::{BuildHasher, Hash};
 
@@ -39,7 +39,7 @@ fn decided<
     ensures hasher { map.new.hasher ≡ map.old.hasher }
     ensures keeps { Keeps (stored_computing result map.new.met) map.old map.new }
 {
-    papaya_resting::compute(
+    papaya_seq_shows::papaya_resting::compute(
         &mut map.resting.memory,
         map.resting.setting,
         &map.hasher,

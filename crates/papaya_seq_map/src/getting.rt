@@ -3,16 +3,16 @@ ghost use Rattle.std.specs.Prelude.{◌≡◌, None, Some, MatchOption, MatchRes
 ghost use Rattle.std.specs.Borrow.{sem};
 ghost use Rattle.std.specs.Fn.{FnOnceReturns};
 ghost use Rattle.std.specs.Option.{ForNone};
-ghost use Rattle.papaya_sifts.specs.Given.Late.Faults.{IsRoom};
-ghost use Rattle.papaya_resting.specs.Given.{found_by};
+ghost use Rattle.papaya_seq_shows.specs.Given.Late.Faults.{IsRoom};
+ghost use Rattle.papaya_seq_shows.specs.Given.Resting.Given.{found_by};
 ghost use Rattle.papaya_seq_map.specs.Answers.{HasAdded, IsLeft, IsRefused, RestsUnless, name_of_either};
 
 use crate::answers::Present;
 use crate::asking;
 use crate::insertions::try_put;
 use crate::map::HashMap;
-use papaya_asks::{Refused, RefusedKey};
-use papaya_resting::Change;
+use papaya_seq_shows::papaya_asks::{Refused, RefusedKey};
+use papaya_seq_shows::papaya_resting::Change;
 use seize_receivers::Receiver;
 use std::hash::{BuildHasher, Hash};
 

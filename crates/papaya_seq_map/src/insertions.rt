@@ -2,18 +2,18 @@
 ghost use Rattle.std.specs.Borrow.{sem};
 ghost use Rattle.std.specs.Prelude.{◌≡◌, List, [], ◌∷◌, ◌++◌, None, Some, is_some, IsTrue, IfOk, IfErr, OnOk, OnErr, MatchResult};
 ghost use Rattle.std.specs.List.Sorted.{IsPermutation};
-ghost use Rattle.papaya_sifts.specs.Given.Late.Faults.{IsRoom};
+ghost use Rattle.papaya_seq_shows.specs.Given.Late.Faults.{IsRoom};
 ghost use Rattle.papaya_shown.specs.Chain.{CannotGrow};
 ghost use Rattle.seize_words.specs.declared.fault.Fault.TheVariants.{Capacity};
-ghost use Rattle.papaya_resting.specs.Given.{found_by, left_by};
-ghost use Rattle.papaya_resting.specs.Held.{if_stored, if_tried};
+ghost use Rattle.papaya_seq_shows.specs.Given.Resting.Given.{found_by, left_by};
+ghost use Rattle.papaya_seq_shows.specs.Given.Resting.Held.{if_stored, if_tried};
 ghost use Rattle.papaya_seq_map.specs.Answers.{HasAdded, IsLeft, IsRefused, RestsUnless, name_of_either};
 ghost use Rattle.papaya_seq_shows.specs.Maps.{Keeps, LastTook};
 ghost use Rattle.papaya_seq_shows.specs.Stored.{HasPut};
 
 use crate::answers::{OccupiedError, Present, Replaced};
 use crate::map::HashMap;
-use papaya_asks::Refused;
+use papaya_seq_shows::papaya_asks::Refused;
 use seize_receivers::Receiver;
 use seize_words::Fault;
 use std::hash::{BuildHasher, Hash};
@@ -36,7 +36,7 @@ pub fn put<K: Eq + Hash + Drop, V: Drop, S: BuildHasher, R: Receiver<(K, V)>>(
     ensures hasher { map.new.hasher ≡ map.old.hasher }
     ensures keeps { Keeps (if_stored result (key, value)) map.old map.new }
 {
-    papaya_resting::insert(
+    papaya_seq_shows::papaya_resting::insert(
         &mut map.resting.memory,
         map.resting.setting,
         &map.hasher,
@@ -65,7 +65,7 @@ pub(crate) fn try_put<K: Eq + Hash + Drop, V: Drop, S: BuildHasher, R: Receiver<
     ensures hasher { map.new.hasher ≡ map.old.hasher }
     ensures keeps { Keeps (if_tried result (key, value)) map.old map.new }
 {
-    papaya_resting::try_insert(
+    papaya_seq_shows::papaya_resting::try_insert(
         &mut map.resting.memory,
         map.resting.setting,
         &map.hasher,

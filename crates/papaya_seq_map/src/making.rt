@@ -1,12 +1,12 @@
 //! How a map for one owner is made.
 ghost use Rattle.std.specs.Prelude.{◌≡◌, [], None, IfOk, IfErr, OnOk};
 ghost use Rattle.seize_words.specs.declared.fault.Fault.TheVariants.{Memory};
-ghost use Rattle.papaya_sifts.specs.Given.Owned.Rooms.{tables_for};
-ghost use Rattle.papaya_resting.specs.Given.{AreTooMany, IsUnmade};
+ghost use Rattle.papaya_seq_shows.specs.Given.Owned.Rooms.{tables_for};
+ghost use Rattle.papaya_seq_shows.specs.Given.Resting.Given.{AreTooMany, IsUnmade};
 ghost use Rattle.papaya_seq_shows.specs.Maps.{LastTook};
 
 use crate::map::{HashMap, Resting};
-use papaya_resting::Last;
+use papaya_seq_shows::papaya_resting::Last;
 use seize_alone::register;
 use seize_words::{Fault, Plain};
 use std::alloc::Global;
@@ -65,10 +65,10 @@ impl<K: Eq + Hash + Drop, V: Drop, S: BuildHasher + Drop> HashMap<K, V, S> {
         ensures fault { IfErr result (IsUnmade capacity) }
         ensures hasher { IfOk result (λ map. map.hasher ≡ hasher) }
     {
-        let places = papaya_resting::places_for(capacity)?;
+        let places = papaya_seq_shows::papaya_resting::places_for(capacity)?;
         let mut memory = Plain::new(alloc, 1)?;
         let slot = register(&mut memory, true)?;
-        let setting = papaya_resting::begin(&mut memory, slot, places, &hasher)?;
+        let setting = papaya_seq_shows::papaya_resting::begin(&mut memory, slot, places, &hasher)?;
         Ok(HashMap {
             resting: Resting {
                 memory,

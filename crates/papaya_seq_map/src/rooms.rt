@@ -1,15 +1,15 @@
 //! Room for further pairs in a map for one owner. It begins with a refresh, as a change does.
 ghost use Rattle.std.specs.Prelude.{◌≡◌, ◌⊎◌, [], Err, None, IfErr, OnOk, length};
 ghost use Rattle.std.specs.List.Sorted.{IsPermutation};
-ghost use Rattle.papaya_sifts.specs.Given.Late.Faults.{IsRoom};
-ghost use Rattle.papaya_sifts.specs.Given.Reserves.Reserve.{needed};
-ghost use Rattle.papaya_sifts.specs.Given.Owned.Rooms.{NeedTooMany};
+ghost use Rattle.papaya_seq_shows.specs.Given.Late.Faults.{IsRoom};
+ghost use Rattle.papaya_seq_shows.specs.Given.Reserves.Reserve.{needed};
+ghost use Rattle.papaya_seq_shows.specs.Given.Owned.Rooms.{NeedTooMany};
 ghost use Rattle.papaya_shown.specs.Chain.{CannotGrow, FirstHas};
 ghost use Rattle.seize_words.specs.declared.fault.Fault.TheVariants.{Capacity};
 ghost use Rattle.papaya_seq_shows.specs.Maps.{Keeps, LastTook};
 
 use crate::map::HashMap;
-use papaya_resting::Last;
+use papaya_seq_shows::papaya_resting::Last;
 use seize_receivers::Receiver;
 use seize_words::Fault;
 use std::hash::{BuildHasher, Hash};
@@ -28,7 +28,7 @@ impl<K: Eq + Hash + Drop, V: Drop, S: BuildHasher, R: Receiver<(K, V)>> HashMap<
         ensures keeps { Keeps [] self.old self.new }
     {
         self.resting.last = Last::NONE;
-        papaya_resting::reserve(
+        papaya_seq_shows::papaya_resting::reserve(
             &mut self.resting.memory,
             self.resting.setting,
             &self.hasher,

@@ -1,14 +1,14 @@
 //! What goes over all pairs of a map for one owner, and removes them. Each change begins with a refresh.
 ghost use Rattle.std.specs.Prelude.{◌≡◌, ◌≤◌, None, Bool, List, [], length, IfErr, IsOk, OnOk, OnErr, filter};
 ghost use Rattle.std.specs.List.Sorted.{IsPermutation};
-ghost use Rattle.papaya_sifts.specs.Given.Late.Faults.{IsRoom};
+ghost use Rattle.papaya_seq_shows.specs.Given.Late.Faults.{IsRoom};
 ghost use Rattle.papaya_shown.specs.Chain.{CannotGrow};
 ghost use Rattle.seize_words.specs.declared.fault.Fault.TheVariants.{Capacity};
-ghost use Rattle.papaya_resting.specs.Given.{AnswersByTest, KeepsOf};
+ghost use Rattle.papaya_seq_shows.specs.Given.Resting.Given.{AnswersByTest, KeepsOf};
 ghost use Rattle.papaya_seq_shows.specs.Maps.{Keeps, LastTook};
 
 use crate::map::HashMap;
-use papaya_resting::Last;
+use papaya_seq_shows::papaya_resting::Last;
 use seize_receivers::Receiver;
 use seize_words::Fault;
 use std::hash::{BuildHasher, Hash};
@@ -28,7 +28,11 @@ impl<K: Eq + Hash + Drop, V: Drop, S: BuildHasher, R: Receiver<(K, V)>> HashMap<
         ensures keeps { Keeps [] self.old self.new }
     {
         self.resting.last = Last::NONE;
-        papaya_resting::clear(&mut self.resting.memory, self.resting.setting, &self.hasher)
+        papaya_seq_shows::papaya_resting::clear(
+            &mut self.resting.memory,
+            self.resting.setting,
+            &self.hasher,
+        )
     }
 
     /// Keeps just the pairs for which the closure answers `true`. It is called with each pair once, in which order is not said. The faults are
@@ -48,7 +52,7 @@ impl<K: Eq + Hash + Drop, V: Drop, S: BuildHasher, R: Receiver<(K, V)>> HashMap<
         ensures keeps { Keeps [] self.old self.new }
     {
         self.resting.last = Last::NONE;
-        papaya_resting::retain(
+        papaya_seq_shows::papaya_resting::retain(
             &mut self.resting.memory,
             self.resting.setting,
             &self.hasher,

@@ -2,17 +2,17 @@
 ghost use Rattle.std.specs.Prelude.{◌≡◌, ◌≤◌, [], None, Some, true, false, length, option_map, MatchOption, MatchResult, IfOk, IfErr, IsOk, OnErr};
 ghost use Rattle.std.specs.Borrow.{sem};
 ghost use Rattle.std.specs.Option.{ForSome};
-ghost use Rattle.papaya_asks.specs.Closures.{Removing, TestsAs, TestTakes};
-ghost use Rattle.papaya_sifts.specs.Given.Late.Faults.{IsRoom};
+ghost use Rattle.papaya_seq_shows.specs.Given.Asks.Closures.{Removing, TestsAs, TestTakes};
+ghost use Rattle.papaya_seq_shows.specs.Given.Late.Faults.{IsRoom};
 ghost use Rattle.papaya_shown.specs.Chain.{CannotGrow};
 ghost use Rattle.seize_words.specs.declared.fault.Fault.TheVariants.{Capacity};
-ghost use Rattle.papaya_resting.specs.Given.{found_by};
-ghost use Rattle.papaya_resting.specs.Asking.{HasDone};
+ghost use Rattle.papaya_seq_shows.specs.Given.Resting.Given.{found_by};
+ghost use Rattle.papaya_seq_shows.specs.Given.Resting.Asking.{HasDone};
 ghost use Rattle.papaya_seq_map.specs.Answers.{HasRemoved, IsLeft, IsRefused};
 ghost use Rattle.papaya_seq_shows.specs.Maps.{HasNow, Keeps};
 
 use crate::map::HashMap;
-use papaya_resting::Change;
+use papaya_seq_shows::papaya_resting::Change;
 use papaya_tables::Equivalent;
 use seize_receivers::Receiver;
 use seize_words::Fault;
@@ -39,7 +39,7 @@ fn take_if<
     ensures hasher { map.new.hasher ≡ map.old.hasher }
     ensures keeps { Keeps [] map.old map.new }
 {
-    papaya_resting::remove_if(
+    papaya_seq_shows::papaya_resting::remove_if(
         &mut map.resting.memory,
         map.resting.setting,
         &map.hasher,

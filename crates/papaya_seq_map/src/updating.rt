@@ -3,14 +3,14 @@ ghost use Rattle.std.specs.Prelude.{◌≡◌, None, Some, MatchOption, IsTrue, 
 ghost use Rattle.std.specs.Borrow.{sem};
 ghost use Rattle.std.specs.Fn.{FnOnceReturns, FnOnceReturnsAt, FnOnceTakesAt};
 ghost use Rattle.std.specs.Option.{ForNone, ForSome};
-ghost use Rattle.papaya_sifts.specs.Given.Late.Faults.{IsRoom};
-ghost use Rattle.papaya_resting.specs.Given.{found_by};
+ghost use Rattle.papaya_seq_shows.specs.Given.Late.Faults.{IsRoom};
+ghost use Rattle.papaya_seq_shows.specs.Given.Resting.Given.{found_by};
 ghost use Rattle.papaya_seq_map.specs.Answers.{HasAdded, HasReplaced, IsLeft, IsRefused, RestsUnless};
 
 use crate::answers::{Present, Updated};
 use crate::asking;
 use crate::map::HashMap;
-use papaya_asks::{Refused, RefusedKey};
+use papaya_seq_shows::papaya_asks::{Refused, RefusedKey};
 use seize_receivers::Receiver;
 use std::hash::{BuildHasher, Hash};
 

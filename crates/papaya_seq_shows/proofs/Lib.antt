@@ -6,3 +6,4 @@ pub mod Kept
 pub mod Done
 pub mod Stored
 pub mod Cloned
+pub mod Given

@@ -21,3 +21,6 @@ pub use Rattle.papaya_histories.proofs.Given.Others
 pub use Rattle.papaya_histories.proofs.Given.Spots
 pub use Rattle.papaya_histories.proofs.Given.Moments
 pub use Rattle.papaya_histories.proofs as Histories
+pub use Rattle.papaya_histories.proofs.Given.Reclaims
+pub use Rattle.papaya_histories.proofs.Given.SeizeReclaims
+pub use Rattle.papaya_histories.proofs.Given.Named

@@ -16,8 +16,8 @@ use Rattle.papaya_histories.specs.Given.Raw.declared.machines.call.Calling.{Call
 use Rattle.papaya_histories.specs.Given.Raw.declared.machines.call.Calling.TheVariants as at
 use Rattle.papaya_histories.specs.Given.Raw.declared.machines.call.KeyCall.{KeyCall}
 use Rattle.papaya_histories.proofs.Given.Rule.Keys.Always.{Always, AlwaysOf, always_steps}
-use Rattle.papaya_alone.specs.Handed.{call_has_unlinked}
-use Rattle.papaya_alone.proofs.Handed.Fresh.{IsFreshAt, call_fresh}
+use Rattle.papaya_histories.specs.Given.Alone.Handed.{call_has_unlinked}
+use Rattle.papaya_histories.proofs.Given.Alone.Handed.Fresh.{IsFreshAt, call_fresh}
 use Rattle.papaya_settles.proofs.Fresh.{IsBefore}
 
 -- no copier

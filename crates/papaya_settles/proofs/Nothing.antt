@@ -14,7 +14,7 @@ use Rattle.papaya_histories.specs.Given.Rule.Chart.{Chart}
 use Rattle.papaya_histories.specs.Given.Rule.Words.{Blocks}
 use Rattle.papaya_histories.specs.Given.Points.FactsCalls.{Change, Unchanged, Stored, Replaced, Removed, Tells, CallingFacts}
 use Rattle.papaya_histories.specs.Given.Late.LateCalls.{LateCalling}
-use Rattle.papaya_alone.specs.Handed.{call_has_unlinked}
+use Rattle.papaya_histories.specs.Given.Alone.Handed.{call_has_unlinked}
 use Rattle.papaya_histories.specs.Given.Callers.Rows.{past_row, once_over}
 use Rattle.papaya_histories.specs.Given.Callers.Together.{CallOnKey, OnKey, Stands, in_slot}
 use Rattle.papaya_settles.specs.Hand.{things_at, NotesPair}

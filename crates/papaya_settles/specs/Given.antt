@@ -27,3 +27,6 @@ pub use Rattle.papaya_histories.specs.Given.Others
 pub use Rattle.papaya_histories.specs.Given.Spots
 pub use Rattle.papaya_histories.specs.Given.Moments
 pub use Rattle.papaya_histories.specs as Histories
+pub use Rattle.papaya_histories.specs.Given.Reclaims
+pub use Rattle.papaya_histories.specs.Given.SeizeReclaims
+pub use Rattle.papaya_histories.specs.Given.Named

@@ -8,3 +8,4 @@ pub mod ShardOthers
 pub mod ShardBetween
 pub mod ShardMakes
 pub mod ShardNumbers
+pub mod Given

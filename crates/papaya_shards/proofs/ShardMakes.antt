@@ -2,55 +2,55 @@
 use Rattle.std.specs.Prelude.{◌≡◌, ℕ, ◌<◌, ◌≤◌, Bool, List, Option, Some, None}
 use Rattle.std.proofs.Common.{refl, ap, sym, subst, ◌∙◌, arith, inl, inr}
 use Rattle.std.proofs.lemmas.Bool.{cases_eq}
-use Rattle.papaya_settles.specs.Given.SeizeWords.Mem.{Mem, value_at, word_at}
-use Rattle.papaya_settles.specs.Given.SeizeWords.declared.at.At.TheVariants.{Root, Word}
-use Rattle.papaya_settles.specs.Given.Seize.World.{World, with_at}
-use Rattle.papaya_settles.specs.Given.Seize.declared.progress.Progress.{Progress}
-use Rattle.papaya_settles.specs.Given.Seize.declared.progress.Progress.TheVariants as progress
-use Rattle.papaya_settles.specs.Given.Tables.declared.node.Node.{Node}
-use Rattle.papaya_settles.specs.Given.Tables.declared.node.Node.TheVariants as node
-use Rattle.papaya_settles.specs.Given.Tables.declared.setting.Setting.{Setting}
-use Rattle.papaya_settles.specs.Given.Resize.NewMap.{opened, new_map_plan}
-use Rattle.papaya_settles.specs.Given.Resize.NewMap as new_map
-use Rattle.papaya_settles.specs.Given.Resize.NewTable.{new_table_plan}
-use Rattle.papaya_settles.specs.Given.Resize.declared.new_map.NewMap.{NewMap}
-use Rattle.papaya_settles.specs.Given.Resize.declared.new_map.Opening.{Opening}
-use Rattle.papaya_settles.specs.Given.Resize.declared.new_map.Opening.TheVariants as at
-use Rattle.papaya_settles.specs.Given.Schedules.declared.effect.Effect.{Effect}
-use Rattle.papaya_settles.specs.Given.Schedules.Effects.{with_effects}
-use Rattle.papaya_settles.specs.Given.Schedules.Moment.{Moment}
-use Rattle.papaya_settles.specs.Given.Teller.declared.changed.Changed.{Changed}
-use Rattle.papaya_settles.specs.Given.Teller.declared.changed.Changed.TheVariants as changed
-use Rattle.papaya_settles.specs.Given.Teller.declared.changed.Kind.{Kind}
-use Rattle.papaya_settles.specs.Given.Teller.declared.changed.Kind.TheVariants as kind
-use Rattle.papaya_settles.specs.Given.Rule.Rule.{no_table}
-use Rattle.papaya_settles.specs.Given.Callers.Together.{no_blocks}
-use Rattle.papaya_settles.proofs.Given.Callers.Together.At.{at_other, at_same}
-use Rattle.papaya_settles.specs.Given.Effects.Effects.{effects_of}
-use Rattle.papaya_settles.specs.Given.Effects.Known.{Known}
-use Rattle.papaya_settles.specs.Given.Effects.declared.acting.Acting.TheVariants as acts
-use Rattle.papaya_settles.specs.Given.Effects.declared.role.Role.TheVariants as role
-use Rattle.papaya_settles.specs.Given.Finishes.Endings.{MakingStepsAmong}
-use Rattle.papaya_settles.specs.Given.Finishes.Makings.{Beginning, HasMade, OpeningFacts, MakingFacts, IsMade, KeepsIts}
-use Rattle.papaya_settles.specs.Given.Finishes.Maps.{Standing}
-use Rattle.papaya_settles.specs.Given.Follows.Blocks.{HasRole}
-use Rattle.papaya_settles.proofs.Given.Follows.Operations.{LeavesBy, Operated, operated, operated_leaves}
-use Rattle.papaya_settles.proofs.Given.Follows.Steps.{one_of}
-use Rattle.papaya_settles.specs.Given.Moments.Whole.{ShowsWhole}
-use Rattle.papaya_settles.proofs.Given.Others.MakingPlans.{DoneBy, making_done, CounterFrom, counter_from}
+use Rattle.papaya_sources.specs.Given.SeizeWords.Mem.{Mem, value_at, word_at}
+use Rattle.papaya_sources.specs.Given.SeizeWords.declared.at.At.TheVariants.{Root, Word}
+use Rattle.papaya_sources.specs.Given.Seize.World.{World, with_at}
+use Rattle.papaya_sources.specs.Given.Seize.declared.progress.Progress.{Progress}
+use Rattle.papaya_sources.specs.Given.Seize.declared.progress.Progress.TheVariants as progress
+use Rattle.papaya_sources.specs.Given.Tables.declared.node.Node.{Node}
+use Rattle.papaya_sources.specs.Given.Tables.declared.node.Node.TheVariants as node
+use Rattle.papaya_sources.specs.Given.Tables.declared.setting.Setting.{Setting}
+use Rattle.papaya_sources.specs.Given.Resize.NewMap.{opened, new_map_plan}
+use Rattle.papaya_sources.specs.Given.Resize.NewMap as new_map
+use Rattle.papaya_sources.specs.Given.Resize.NewTable.{new_table_plan}
+use Rattle.papaya_sources.specs.Given.Resize.declared.new_map.NewMap.{NewMap}
+use Rattle.papaya_sources.specs.Given.Resize.declared.new_map.Opening.{Opening}
+use Rattle.papaya_sources.specs.Given.Resize.declared.new_map.Opening.TheVariants as at
+use Rattle.papaya_sources.specs.Given.Schedules.declared.effect.Effect.{Effect}
+use Rattle.papaya_sources.specs.Given.Schedules.Effects.{with_effects}
+use Rattle.papaya_sources.specs.Given.Schedules.Moment.{Moment}
+use Rattle.papaya_sources.specs.Given.Teller.declared.changed.Changed.{Changed}
+use Rattle.papaya_sources.specs.Given.Teller.declared.changed.Changed.TheVariants as changed
+use Rattle.papaya_sources.specs.Given.Teller.declared.changed.Kind.{Kind}
+use Rattle.papaya_sources.specs.Given.Teller.declared.changed.Kind.TheVariants as kind
+use Rattle.papaya_sources.specs.Given.Rule.Rule.{no_table}
+use Rattle.papaya_sources.specs.Given.Callers.Together.{no_blocks}
+use Rattle.papaya_sources.proofs.Given.Callers.Together.At.{at_other, at_same}
+use Rattle.papaya_sources.specs.Given.Effects.Effects.{effects_of}
+use Rattle.papaya_sources.specs.Given.Effects.Known.{Known}
+use Rattle.papaya_sources.specs.Given.Effects.declared.acting.Acting.TheVariants as acts
+use Rattle.papaya_sources.specs.Given.Effects.declared.role.Role.TheVariants as role
+use Rattle.papaya_sources.specs.Given.Finishes.Endings.{MakingStepsAmong}
+use Rattle.papaya_sources.specs.Given.Finishes.Makings.{Beginning, HasMade, OpeningFacts, MakingFacts, IsMade, KeepsIts}
+use Rattle.papaya_sources.specs.Given.Finishes.Maps.{Standing}
+use Rattle.papaya_sources.specs.Given.Follows.Blocks.{HasRole}
+use Rattle.papaya_sources.proofs.Given.Follows.Operations.{LeavesBy, Operated, operated, operated_leaves}
+use Rattle.papaya_sources.proofs.Given.Follows.Steps.{one_of}
+use Rattle.papaya_sources.specs.Given.Moments.Whole.{ShowsWhole}
+use Rattle.papaya_sources.proofs.Given.Others.MakingPlans.{DoneBy, making_done, CounterFrom, counter_from}
 use Rattle.papaya_shards.specs.ShardSteps.{MakingsKeepCounters}
 use Rattle.papaya_shards.specs.ShardWords.{ShowsShards, IsUncounted, MakesUncounted, ShowsCounters}
-use Rattle.papaya_settles.proofs.Aimed.{new_aims}
-use Rattle.papaya_settles.proofs.Aims.{NewAims, PlanAims, aims_as, table_at, plan_aimed}
-use Rattle.papaya_settles.proofs.Gains.{none_changed}
-use Rattle.papaya_settles.proofs.Here.{IsNoCount}
+use Rattle.papaya_sources.proofs.Given.Settles.Aimed.{new_aims}
+use Rattle.papaya_sources.proofs.Given.Settles.Aims.{NewAims, PlanAims, aims_as, table_at, plan_aimed}
+use Rattle.papaya_sources.proofs.Given.Settles.Gains.{none_changed}
+use Rattle.papaya_sources.proofs.Given.Settles.Here.{IsNoCount}
 use Rattle.papaya_shards.proofs.ShardKept.{none_shards, word_kept, shard_there, made_there, shard_kept, shards_kept, made_kept, adds_kept}
-use Rattle.papaya_settles.proofs.Uncounted.{CountsNowhere}
+use Rattle.papaya_sources.proofs.Given.Settles.Uncounted.{CountsNowhere}
 use Rattle.papaya_shards.proofs.WordOps.{word_lasts, none_there}
-use Rattle.papaya_settles.proofs.Given.Scenes.May.{may_make}
-use Rattle.papaya_settles.specs.Given.Scenes.Held.{Held, IsAt}
-use Rattle.papaya_settles.specs.Given.Scenes.Making.{MakingStepsFrom}
-use Rattle.papaya_settles.specs.Given.Scenes.Scene.{Scene, slot_of}
+use Rattle.papaya_sources.proofs.Given.Scenes.May.{may_make}
+use Rattle.papaya_sources.specs.Given.Scenes.Held.{Held, IsAt}
+use Rattle.papaya_sources.specs.Given.Scenes.Making.{MakingStepsFrom}
+use Rattle.papaya_sources.specs.Given.Scenes.Scene.{Scene, slot_of}
 
 -- which words of blocks the step of a making may write
 module _ (P : ℕ → Type 0) where

@@ -1,3 +1,4 @@
 pub mod Adds
 pub mod ShardWords
 pub mod ShardSteps
+pub mod Given

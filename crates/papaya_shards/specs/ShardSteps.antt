@@ -1,47 +1,47 @@
 -- What is promised of the words of maps' counts: the memory's are those of the moment, whoever takes a step.
 use Rattle.std.specs.Prelude.{◌≡◌, ℕ, ◌≤◌, Bool, true, false, List, Option, Some, None}
-use Rattle.papaya_settles.specs.Given.Seize.World.{Begin, Step, with_at}
-use Rattle.papaya_settles.specs.Given.Seize.declared.progress.Progress.{Progress as Making}
-use Rattle.papaya_settles.specs.Given.Seize.declared.rows.settle.Settled.{Settled}
-use Rattle.papaya_settles.specs.Given.Tables.declared.node.Node.{Node}
-use Rattle.papaya_settles.specs.Given.Tables.declared.setting.Setting.{Setting}
-use Rattle.papaya_settles.specs.Given.Raw.Machine.{machine_replied}
-use Rattle.papaya_settles.specs.Given.Raw.declared.machines.asking.Reply.{Reply as MachineReply}
-use Rattle.papaya_settles.specs.Given.Raw.declared.machines.progress.Progress.{Progress}
-use Rattle.papaya_settles.specs.Given.Schedules.declared.call.Call.{Call}
-use Rattle.papaya_settles.specs.Given.Schedules.declared.call.Reply.{Reply}
-use Rattle.papaya_settles.specs.Given.Schedules.declared.outcome.Outcome.{Outcome}
-use Rattle.papaya_settles.specs.Given.Schedules.Beginning.{with_call}
-use Rattle.papaya_settles.specs.Given.Schedules.Effects.{with_effects}
-use Rattle.papaya_settles.specs.Given.Schedules.Entry.{ends_call}
-use Rattle.papaya_settles.specs.Given.Schedules.Moment.{Moment}
-use Rattle.papaya_settles.specs.Given.Callers.Together.{UnderWay, ForRoom, Counting}
-use Rattle.papaya_settles.specs.Given.Effects.Effects.{effects_of}
-use Rattle.papaya_settles.specs.Given.Effects.Known.{Known}
-use Rattle.papaya_settles.specs.Given.Effects.declared.acting.Acting.TheVariants as acts
-use Rattle.papaya_settles.specs.Given.Scenes.declared.row.RowTold.{RowTold}
-use Rattle.papaya_settles.specs.Given.Scenes.declared.row.SlotCall.{SlotCall}
-use Rattle.papaya_settles.specs.Given.Scenes.declared.row.SlotRow.{SlotRow}
-use Rattle.papaya_settles.specs.Given.Finishes.Endings.{Finishing}
-use Rattle.papaya_settles.specs.Given.Finishes.Machines.{machine_of}
-use Rattle.papaya_settles.specs.Given.Finishes.Makings.{Beginning, HasMade}
-use Rattle.papaya_settles.specs.Given.Finishes.Maps.{Standing}
-use Rattle.papaya_settles.specs.Given.Follows.Calling.{NoneNamed, told, come_to}
-use Rattle.papaya_settles.specs.Given.Moments.Whole.{ShowsWhole}
-use Rattle.papaya_settles.specs.Given.Others.Endings.{ending_after}
-use Rattle.papaya_settles.specs.Given.Others.Makings.{making_after}
-use Rattle.papaya_settles.specs.Given.Others.Rows.{scene_then}
+use Rattle.papaya_sources.specs.Given.Seize.World.{Begin, Step, with_at}
+use Rattle.papaya_sources.specs.Given.Seize.declared.progress.Progress.{Progress as Making}
+use Rattle.papaya_sources.specs.Given.Seize.declared.rows.settle.Settled.{Settled}
+use Rattle.papaya_sources.specs.Given.Tables.declared.node.Node.{Node}
+use Rattle.papaya_sources.specs.Given.Tables.declared.setting.Setting.{Setting}
+use Rattle.papaya_sources.specs.Given.Raw.Machine.{machine_replied}
+use Rattle.papaya_sources.specs.Given.Raw.declared.machines.asking.Reply.{Reply as MachineReply}
+use Rattle.papaya_sources.specs.Given.Raw.declared.machines.progress.Progress.{Progress}
+use Rattle.papaya_sources.specs.Given.Schedules.declared.call.Call.{Call}
+use Rattle.papaya_sources.specs.Given.Schedules.declared.call.Reply.{Reply}
+use Rattle.papaya_sources.specs.Given.Schedules.declared.outcome.Outcome.{Outcome}
+use Rattle.papaya_sources.specs.Given.Schedules.Beginning.{with_call}
+use Rattle.papaya_sources.specs.Given.Schedules.Effects.{with_effects}
+use Rattle.papaya_sources.specs.Given.Schedules.Entry.{ends_call}
+use Rattle.papaya_sources.specs.Given.Schedules.Moment.{Moment}
+use Rattle.papaya_sources.specs.Given.Callers.Together.{UnderWay, ForRoom, Counting}
+use Rattle.papaya_sources.specs.Given.Effects.Effects.{effects_of}
+use Rattle.papaya_sources.specs.Given.Effects.Known.{Known}
+use Rattle.papaya_sources.specs.Given.Effects.declared.acting.Acting.TheVariants as acts
+use Rattle.papaya_sources.specs.Given.Scenes.declared.row.RowTold.{RowTold}
+use Rattle.papaya_sources.specs.Given.Scenes.declared.row.SlotCall.{SlotCall}
+use Rattle.papaya_sources.specs.Given.Scenes.declared.row.SlotRow.{SlotRow}
+use Rattle.papaya_sources.specs.Given.Finishes.Endings.{Finishing}
+use Rattle.papaya_sources.specs.Given.Finishes.Machines.{machine_of}
+use Rattle.papaya_sources.specs.Given.Finishes.Makings.{Beginning, HasMade}
+use Rattle.papaya_sources.specs.Given.Finishes.Maps.{Standing}
+use Rattle.papaya_sources.specs.Given.Follows.Calling.{NoneNamed, told, come_to}
+use Rattle.papaya_sources.specs.Given.Moments.Whole.{ShowsWhole}
+use Rattle.papaya_sources.specs.Given.Others.Endings.{ending_after}
+use Rattle.papaya_sources.specs.Given.Others.Makings.{making_after}
+use Rattle.papaya_sources.specs.Given.Others.Rows.{scene_then}
 use Rattle.papaya_shards.specs.Adds.{adds_of}
-use Rattle.papaya_settles.specs.Counts.{is_to_count, ShowsCounts}
+use Rattle.papaya_sources.specs.Given.Settles.Counts.{is_to_count, ShowsCounts}
 use Rattle.papaya_shards.specs.ShardWords.{IsUncounted, ShowsCounters}
-use Rattle.papaya_settles.specs.Given.Scenes.Ending.{EndingLeads, ending_begun}
-use Rattle.papaya_settles.specs.Given.Scenes.Held.{Held, IsAt}
-use Rattle.papaya_settles.specs.Given.Scenes.Making.{MakingLeads}
-use Rattle.papaya_settles.specs.Given.Scenes.OnSlots.{RowBegins, RowLeads}
-use Rattle.papaya_settles.specs.Given.Scenes.Replying.{scene_with}
-use Rattle.papaya_settles.specs.Given.Scenes.Rows.{request_of}
-use Rattle.papaya_settles.specs.Given.Scenes.Scene.{IsOnSlot, Scene, slot_of}
-use Rattle.papaya_settles.specs.Given.Scenes.Stepping.{StepLeads, scene_after}
+use Rattle.papaya_sources.specs.Given.Scenes.Ending.{EndingLeads, ending_begun}
+use Rattle.papaya_sources.specs.Given.Scenes.Held.{Held, IsAt}
+use Rattle.papaya_sources.specs.Given.Scenes.Making.{MakingLeads}
+use Rattle.papaya_sources.specs.Given.Scenes.OnSlots.{RowBegins, RowLeads}
+use Rattle.papaya_sources.specs.Given.Scenes.Replying.{scene_with}
+use Rattle.papaya_sources.specs.Given.Scenes.Rows.{request_of}
+use Rattle.papaya_sources.specs.Given.Scenes.Scene.{IsOnSlot, Scene, slot_of}
+use Rattle.papaya_sources.specs.Given.Scenes.Stepping.{StepLeads, scene_after}
 
 -- it adds shards up, or may
 abbrev pub AddsUp : {K V : Type 0} → UnderWay K V K → Type 0

@@ -11,3 +11,4 @@ pub mod Below
 pub mod Chains
 pub mod Shapes
 mod Samples
+pub mod Given

@@ -1,8 +1,8 @@
 -- The pairs of a map that are still to come.
 use Rattle.std.specs.Prelude.{◌≡◌, ◌≢◌, ◌≤◌, List}
-use Rattle.seize_words.specs.Word.{block_in}
-use Rattle.seize_words.specs.Mem.{value_at}
-use Rattle.papaya_tables.specs.Chunks.{is_incremental}
+use Rattle.papaya_rule.specs.Given.SeizeWords.Word.{block_in}
+use Rattle.papaya_rule.specs.Given.SeizeWords.Mem.{value_at}
+use Rattle.papaya_rule.specs.Given.Tables.Chunks.{is_incremental}
 use Rattle.papaya_shown.specs.Chain.{places_of, CanBeRead, pairs_left}
 use Rattle.papaya_shown.specs.declared.pairs.Pairs.{Pairs}
 

@@ -3,3 +3,4 @@ pub mod Chain
 pub mod Lent
 pub mod Coming
 pub mod Columns
+pub mod Given

@@ -1,5 +1,5 @@
 -- What is so by the crates below, given on to the crates above: these list this crate in place of those.
-pub use Rattle.seize_words.proofs as SeizeWords
+pub use Rattle.papaya_owned.proofs.Given.SeizeWords
 pub use Rattle.papaya_owned.proofs.Given.SeizeRule
 pub use Rattle.papaya_owned.proofs.Given.SeizeAlone
 pub use Rattle.papaya_owned.proofs.Given.SeizeActs
@@ -11,3 +11,10 @@ pub use Rattle.papaya_owned.proofs.Given.Finishes
 pub use Rattle.papaya_owned.proofs.Given.Maps
 pub use Rattle.papaya_owned.proofs.Given.Whole
 pub use Rattle.papaya_owned.proofs as Owned
+pub use Rattle.papaya_owned.proofs.Given.Late
+pub use Rattle.papaya_owned.proofs.Given.SeizeMoves
+pub use Rattle.papaya_owned.proofs.Given.Shown
+pub use Rattle.papaya_owned.proofs.Given.SeizeWaiting
+pub use Rattle.papaya_owned.proofs.Given.SeizeSets
+pub use Rattle.papaya_owned.proofs.Given.SeizeEnds
+pub use Rattle.papaya_owned.proofs.Given.Tables

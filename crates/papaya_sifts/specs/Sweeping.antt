@@ -1,14 +1,14 @@
 -- What a step of a sweep's machine does, and what a whole sweep comes to.
 use Rattle.std.specs.Prelude.{◌≡◌, ℕ, Bool, List, [], Result, Ok, Err}
 use denote.Ref.{Bor}
-use Rattle.seize_words.specs.Mem.{Mem}
-use Rattle.seize_words.specs.Plan.{Plan, plan_as}
-use Rattle.seize_words.specs.declared.fault.Fault.{Fault}
-use Rattle.seize_words.specs.declared.fault.Fault.TheVariants.{Capacity}
-use Rattle.seize.specs.declared.progress.Progress.{Progress}
-use Rattle.seize.specs.declared.progress.Progress.TheVariants as progress
-use Rattle.papaya_tables.specs.declared.node.Node.{Node}
-use Rattle.papaya_tables.specs.declared.setting.Setting.{Setting}
+use Rattle.papaya_owned.specs.Given.SeizeWords.Mem.{Mem}
+use Rattle.papaya_owned.specs.Given.SeizeWords.Plan.{Plan, plan_as}
+use Rattle.papaya_owned.specs.Given.SeizeWords.declared.fault.Fault.{Fault}
+use Rattle.papaya_owned.specs.Given.SeizeWords.declared.fault.Fault.TheVariants.{Capacity}
+use Rattle.papaya_owned.specs.Given.Seize.declared.progress.Progress.{Progress}
+use Rattle.papaya_owned.specs.Given.Seize.declared.progress.Progress.TheVariants as progress
+use Rattle.papaya_owned.specs.Given.Tables.declared.node.Node.{Node}
+use Rattle.papaya_owned.specs.Given.Tables.declared.setting.Setting.{Setting}
 use Rattle.papaya_owned.specs.Given.Sweeps.Sweep.{sweep_plan}
 use Rattle.papaya_owned.specs.Given.Sweeps.SweepPoints.{sweeping, after_reply}
 use Rattle.papaya_owned.specs.Given.Sweeps.declared.sweep.Purpose.{Purpose}

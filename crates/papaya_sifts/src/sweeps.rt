@@ -6,13 +6,13 @@ ghost use Rattle.papaya_owned.specs.Given.Shown.Chain.{CannotGrowIn};
 ghost use Rattle.papaya_owned.specs.Owned.{Holds};
 ghost use Rattle.papaya_sifts.specs.Retaining.{KeepsOf};
 ghost use Rattle.papaya_sifts.specs.Sweeping.{HasSwept};
-ghost use Rattle.seize_words.specs.declared.fault.Fault.TheVariants.{Capacity};
+ghost use Rattle.papaya_owned.specs.Given.SeizeWords.declared.fault.Fault.TheVariants.{Capacity};
 
 use crate::sweeping::{OverPairs, Pause};
+use papaya_owned::papaya_raw::machines::Sweep;
+use papaya_owned::papaya_tables::{Hashes, Node, Setting};
+use papaya_owned::seize_words::{Fault, Plain};
 use papaya_owned::{pair_at, run};
-use papaya_raw::machines::Sweep;
-use papaya_tables::{Hashes, Node, Setting};
-use seize_words::{Fault, Plain};
 use std::hash::Hash;
 
 /// Removes all pairs. The faults are `Fault::Capacity`, where no table can follow the map's last one, and `Fault::Memory`: a growth that was under way

@@ -12,3 +12,4 @@ mod Frame
 pub mod Steps
 mod Listed
 pub mod Space
+pub mod Given

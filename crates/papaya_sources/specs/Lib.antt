@@ -2,3 +2,4 @@
 pub mod Sources
 pub mod Stays
 pub mod Steps
+pub mod Given

@@ -17,3 +17,6 @@ pub use Rattle.papaya_others.proofs.Given.Runs
 pub use Rattle.papaya_others.proofs.Given.Scenes
 pub use Rattle.papaya_others.proofs.Given.Follows
 pub use Rattle.papaya_others.proofs as Others
+pub use Rattle.papaya_others.proofs.Given.Alone
+pub use Rattle.papaya_others.proofs.Given.Reclaims
+pub use Rattle.papaya_others.proofs.Given.SeizeReclaims

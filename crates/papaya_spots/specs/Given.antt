@@ -23,3 +23,6 @@ pub use Rattle.papaya_others.specs.Given.Effects
 pub use Rattle.papaya_others.specs.Given.Scenes
 pub use Rattle.papaya_others.specs.Given.Follows
 pub use Rattle.papaya_others.specs as Others
+pub use Rattle.papaya_others.specs.Given.Alone
+pub use Rattle.papaya_others.specs.Given.Reclaims
+pub use Rattle.papaya_others.specs.Given.SeizeReclaims

@@ -2,52 +2,52 @@
 use Rattle.std.specs.Prelude.{List, [], Some}
 use Rattle.std.specs.List.{list_any}
 use Rattle.std.proofs.Common.{◌≡◌, ℕ, Bool, true, refl, ap, sym, subst, ◌∙◌}
-use Rattle.papaya_scheduler.specs.Given.SeizeWords.Mem.{Mem}
-use Rattle.papaya_scheduler.specs.Given.Tables.declared.node.Node.{Node}
-use Rattle.papaya_scheduler.specs.Given.Resize.declared.outcome.Outcome.{Outcome}
-use Rattle.papaya_scheduler.specs.Given.Resize.declared.outcome.Outcome.TheVariants as outcome
-use Rattle.papaya_scheduler.specs.Given.Reserves.Reserve.{reserve_plan}
-use Rattle.papaya_scheduler.specs.Given.Reserves.declared.reserve.Reserve.{Reserve}
-use Rattle.papaya_scheduler.specs.Given.Sweeps.Sweep.{sweep_plan}
-use Rattle.papaya_scheduler.specs.Given.Sweeps.declared.sweep.Sweep.{Sweep}
-use Rattle.papaya_scheduler.specs.Given.Sweeps.declared.sweep.Swept.{Swept}
-use Rattle.papaya_scheduler.specs.Given.Sweeps.declared.sweep.Swept.TheVariants as swept
-use Rattle.papaya_raw.specs.Call.{call_plan}
-use Rattle.papaya_raw.specs.Machine.{called as of_key, reserved as of_room, swept as of_sweep}
-use Rattle.papaya_raw.specs.Progress.{of_outcome, of_swept}
-use Rattle.papaya_raw.specs.declared.machines.answer.Called.{Called}
-use Rattle.papaya_raw.specs.declared.machines.answer.Called.TheVariants as says
-use Rattle.papaya_raw.specs.declared.machines.call.KeyCall.{KeyCall}
-use Rattle.papaya_raw.specs.declared.machines.machine.Machine.{Machine}
-use Rattle.papaya_raw.specs.declared.machines.progress.Progress.{Progress}
-use Rattle.papaya_raw.specs.declared.machines.progress.Progress.TheVariants as progress
-use Rattle.papaya_scheduler.specs.Given.Callers.OverAll.{CallOverAll}
-use Rattle.papaya_scheduler.specs.Given.Callers.Rooms.{CallForRoom}
-use Rattle.papaya_scheduler.specs.Given.Callers.Together.{CallOnKey, UnderWay, OnKey, ForRoom, Counting, OverAll}
-use Rattle.papaya_schedules.specs.declared.effect.Effect.{Effect}
-use Rattle.papaya_schedules.specs.Moment.{UnderWay as CallThere, Moment}
-use Rattle.papaya_schedules.specs.Terms.{Terms}
-use Rattle.papaya_schedules.specs.Views.{call_of}
-use Rattle.papaya_schedules.specs.Waiting.{may_wait_for}
-use Rattle.papaya_scheduler.specs.Given.Effects.Effects.{effects_of}
-use Rattle.papaya_scheduler.specs.Given.Effects.Known.{known}
-use Rattle.papaya_scheduler.specs.Given.Effects.declared.acting.Acting.TheVariants as acts
-use Rattle.papaya_scheduler.specs.Given.Teller.declared.changed.Changed.{Changed}
-use Rattle.papaya_scheduler.specs.Given.Finishes.Machines.{machine_of}
-use Rattle.papaya_scheduler.specs.Given.Finishes.Maps.{Standing}
-use Rattle.papaya_scheduler.specs.Given.Follows.Calls.{IsCalled}
-use Rattle.papaya_scheduler.proofs.Given.Others.Outcomes.{told_in}
-use Rattle.papaya_scheduler.proofs.Given.Owes.Tables.Hosts.{Step}
-use Rattle.papaya_scheduler.specs.Played.{StandsFor}
-use Rattle.papaya_scheduler.specs.declared.scheduler.Scheduler.{Scheduler}
+use Rattle.papaya_runs.specs.Given.SeizeWords.Mem.{Mem}
+use Rattle.papaya_runs.specs.Given.Tables.declared.node.Node.{Node}
+use Rattle.papaya_lowers.specs.Given.Resize.declared.outcome.Outcome.{Outcome}
+use Rattle.papaya_lowers.specs.Given.Resize.declared.outcome.Outcome.TheVariants as outcome
+use Rattle.papaya_lowers.specs.Given.Reserves.Reserve.{reserve_plan}
+use Rattle.papaya_lowers.specs.Given.Reserves.declared.reserve.Reserve.{Reserve}
+use Rattle.papaya_lowers.specs.Given.Sweeps.Sweep.{sweep_plan}
+use Rattle.papaya_lowers.specs.Given.Sweeps.declared.sweep.Sweep.{Sweep}
+use Rattle.papaya_lowers.specs.Given.Sweeps.declared.sweep.Swept.{Swept}
+use Rattle.papaya_lowers.specs.Given.Sweeps.declared.sweep.Swept.TheVariants as swept
+use Rattle.papaya_lowers.specs.Given.Raw.Call.{call_plan}
+use Rattle.papaya_lowers.specs.Given.Raw.Machine.{called as of_key, reserved as of_room, swept as of_sweep}
+use Rattle.papaya_lowers.specs.Given.Raw.Progress.{of_outcome, of_swept}
+use Rattle.papaya_lowers.specs.Given.Raw.declared.machines.answer.Called.{Called}
+use Rattle.papaya_lowers.specs.Given.Raw.declared.machines.answer.Called.TheVariants as says
+use Rattle.papaya_lowers.specs.Given.Raw.declared.machines.call.KeyCall.{KeyCall}
+use Rattle.papaya_lowers.specs.Given.Raw.declared.machines.machine.Machine.{Machine}
+use Rattle.papaya_lowers.specs.Given.Raw.declared.machines.progress.Progress.{Progress}
+use Rattle.papaya_lowers.specs.Given.Raw.declared.machines.progress.Progress.TheVariants as progress
+use Rattle.papaya_lowers.specs.Given.Callers.OverAll.{CallOverAll}
+use Rattle.papaya_lowers.specs.Given.Callers.Rooms.{CallForRoom}
+use Rattle.papaya_lowers.specs.Given.Callers.Together.{CallOnKey, UnderWay, OnKey, ForRoom, Counting, OverAll}
+use Rattle.papaya_works.specs.Given.Schedules.declared.effect.Effect.{Effect}
+use Rattle.papaya_works.specs.Given.Schedules.Moment.{UnderWay as CallThere, Moment}
+use Rattle.papaya_works.specs.Given.Schedules.Terms.{Terms}
+use Rattle.papaya_works.specs.Given.Schedules.Views.{call_of}
+use Rattle.papaya_works.specs.Given.Schedules.Waiting.{may_wait_for}
+use Rattle.papaya_works.specs.Given.Effects.Effects.{effects_of}
+use Rattle.papaya_works.specs.Given.Effects.Known.{known}
+use Rattle.papaya_works.specs.Given.Effects.declared.acting.Acting.TheVariants as acts
+use Rattle.papaya_works.specs.Given.Teller.declared.changed.Changed.{Changed}
+use Rattle.papaya_lowers.specs.Given.Finishes.Machines.{machine_of}
+use Rattle.papaya_lowers.specs.Given.Finishes.Maps.{Standing}
+use Rattle.papaya_works.specs.Given.Follows.Calls.{IsCalled}
+use Rattle.papaya_works.proofs.Given.Others.Outcomes.{told_in}
+use Rattle.papaya_works.proofs.Given.Owes.Tables.Hosts.{Step}
+use Rattle.papaya_works.specs.Given.Scheduler.Played.{StandsFor}
+use Rattle.papaya_works.specs.Given.Scheduler.declared.scheduler.Scheduler.{Scheduler}
 use Rattle.papaya_stepping.proofs.LookSays.{key_waits, never_waits}
 use Rattle.papaya_stepping.proofs.RoomsWait.{SaysWaits, room_says, sweep_says}
 use Rattle.papaya_stepping.proofs.StepSays.{the}
 use Rattle.papaya_stepping.proofs.WaitsFor.{quiet, waits_so}
-use Rattle.papaya_scheduler.proofs.Given.Scenes.May.{standing_is}
-use Rattle.papaya_scheduler.specs.Given.Scenes.Stepping.{StepsFrom}
-use Rattle.papaya_scheduler.specs.Given.Executor.IsThere.{held_by}
-use Rattle.papaya_scheduler.specs.Given.Scenes.Held.{Held}
+use Rattle.papaya_works.proofs.Given.Scenes.May.{standing_is}
+use Rattle.papaya_works.specs.Given.Scenes.Stepping.{StepsFrom}
+use Rattle.papaya_works.specs.Given.Executor.IsThere.{held_by}
+use Rattle.papaya_works.specs.Given.Scenes.Held.{Held}
 
 -- what a reservation, or a sweep, says as it waits
 room_waits : {T : Type 0} (x : Outcome T Unit) → of_outcome x ≡ progress.Waits → x ≡ outcome.Waits

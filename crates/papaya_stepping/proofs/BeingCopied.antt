@@ -1,25 +1,25 @@
 -- A pair of a map that stands in the root, while a table is linked behind that, is the one that the finite map has of its key, and may be being copied, as the moment tells.
 use Rattle.std.specs.Prelude.{Option, Some, None, nat_le}
 use Rattle.std.proofs.Common.{◌≡◌, ℕ, suc, ◌≤◌, ◌<◌, Bool, true, refl, ap, sym, ◌∙◌, arith}
-use Rattle.papaya_scheduler.specs.Given.Seize.World.{World}
-use Rattle.papaya_scheduler.specs.Given.Tables.declared.node.Node.{Node}
-use Rattle.papaya_scheduler.specs.Given.Rule.Chart.{Chart, Copying, Holds}
-use Rattle.papaya_scheduler.proofs.Given.Rule.Laws.{current_is_known}
-use Rattle.papaya_scheduler.specs.Given.Points.Steps.{AreLawful}
-use Rattle.papaya_scheduler.specs.Given.Callers.Together.{Together}
-use Rattle.papaya_schedules.specs.Moment.{Moment}
-use Rattle.papaya_schedules.specs.Terms.{Terms}
-use Rattle.papaya_schedules.specs.Views.{finite_map, first_of}
-use Rattle.papaya_schedules.specs.Waiting.{is_to_be_copied}
-use Rattle.papaya_scheduler.specs.Given.Effects.Known.{known}
-use Rattle.papaya_scheduler.specs.Given.Finishes.Maps.{Standing}
-use Rattle.papaya_scheduler.specs.Given.Follows.Maps.{ShowsPairs}
-use Rattle.papaya_scheduler.specs.Given.Histories.Had.{Had, HadJust}
-use Rattle.papaya_scheduler.proofs.Given.Histories.Now.{now_had}
-use Rattle.papaya_scheduler.specs.Played.{StandsFor}
-use Rattle.papaya_scheduler.specs.declared.scheduler.Scheduler.{Scheduler}
+use Rattle.papaya_runs.specs.Given.Seize.World.{World}
+use Rattle.papaya_runs.specs.Given.Tables.declared.node.Node.{Node}
+use Rattle.papaya_lowers.specs.Given.Rule.Chart.{Chart, Copying, Holds}
+use Rattle.papaya_lowers.proofs.Given.Rule.Laws.{current_is_known}
+use Rattle.papaya_lowers.specs.Given.Points.Steps.{AreLawful}
+use Rattle.papaya_lowers.specs.Given.Callers.Together.{Together}
+use Rattle.papaya_works.specs.Given.Schedules.Moment.{Moment}
+use Rattle.papaya_works.specs.Given.Schedules.Terms.{Terms}
+use Rattle.papaya_works.specs.Given.Schedules.Views.{finite_map, first_of}
+use Rattle.papaya_works.specs.Given.Schedules.Waiting.{is_to_be_copied}
+use Rattle.papaya_works.specs.Given.Effects.Known.{known}
+use Rattle.papaya_lowers.specs.Given.Finishes.Maps.{Standing}
+use Rattle.papaya_works.specs.Given.Follows.Maps.{ShowsPairs}
+use Rattle.papaya_works.specs.Given.Histories.Had.{Had, HadJust}
+use Rattle.papaya_works.proofs.Given.Histories.Now.{now_had}
+use Rattle.papaya_works.specs.Given.Scheduler.Played.{StandsFor}
+use Rattle.papaya_works.specs.Given.Scheduler.declared.scheduler.Scheduler.{Scheduler}
 use Rattle.papaya_stepping.proofs.Waiting.{both_true, chain_longer, first_as}
-use Rattle.papaya_scheduler.specs.Given.Scenes.Scene.{slot_of}
+use Rattle.papaya_works.specs.Given.Scenes.Scene.{slot_of}
 
 upto : (a b : ℕ) → a ≤ b → nat_le a b ≡ true
 upto a b l = grind (arith, l)

@@ -3,24 +3,24 @@ use Rattle.std.specs.Prelude.{◌≡◌, ◌+◌, ℕ, Bool, true, false, List, 
 use Rattle.std.specs.List.{list_any}
 use Rattle.std.proofs.Common.{sym, ap, subst, ◌∙◌, arith}
 use Rattle.std.proofs.lemmas.List.{append_assoc}
-use Rattle.papaya_schedules.specs.declared.call.Call.{Call}
-use Rattle.papaya_schedules.specs.declared.effect.Effect.{Effect}
-use Rattle.papaya_schedules.specs.declared.outcome.Outcome.{Outcome}
-use Rattle.papaya_schedules.specs.Effects.{with_effects}
-use Rattle.papaya_schedules.specs.Growing.{only_looks}
-use Rattle.papaya_schedules.specs.Moment.{UnderWay as CallThere, Moment}
-use Rattle.papaya_schedules.specs.Terms.{Terms}
-use Rattle.papaya_schedules.specs.Views.{call_of}
-use Rattle.papaya_schedules.specs.Waiting.{may_wait_for}
-use Rattle.papaya_scheduler.specs.Given.Follows.Calling.{come_to}
-use Rattle.papaya_scheduler.proofs.Given.Hands.Replacing.{IsOn, calls_after}
-use Rattle.papaya_scheduler.proofs.Given.Moments.After.{effects_after}
-use Rattle.papaya_promises.proofs.Weights.{parts_add_up}
-use Rattle.papaya_scheduler.specs.Played.{StandsFor}
+use Rattle.papaya_works.specs.Given.Schedules.declared.call.Call.{Call}
+use Rattle.papaya_works.specs.Given.Schedules.declared.effect.Effect.{Effect}
+use Rattle.papaya_works.specs.Given.Schedules.declared.outcome.Outcome.{Outcome}
+use Rattle.papaya_works.specs.Given.Schedules.Effects.{with_effects}
+use Rattle.papaya_works.specs.Given.Schedules.Growing.{only_looks}
+use Rattle.papaya_works.specs.Given.Schedules.Moment.{UnderWay as CallThere, Moment}
+use Rattle.papaya_works.specs.Given.Schedules.Terms.{Terms}
+use Rattle.papaya_works.specs.Given.Schedules.Views.{call_of}
+use Rattle.papaya_works.specs.Given.Schedules.Waiting.{may_wait_for}
+use Rattle.papaya_works.specs.Given.Follows.Calling.{come_to}
+use Rattle.papaya_works.proofs.Given.Hands.Replacing.{IsOn, calls_after}
+use Rattle.papaya_works.proofs.Given.Moments.After.{effects_after}
+use Rattle.papaya_works.proofs.Given.Promises.Weights.{parts_add_up}
+use Rattle.papaya_works.specs.Given.Scheduler.Played.{StandsFor}
 use Rattle.papaya_stepping.specs.Stepping.{ComesAs, ComesBy, GoesAt, IsMidst, IsStepped}
-use Rattle.papaya_named.specs.Telling.{goes_on}
-use Rattle.papaya_scheduler.specs.declared.scheduler.Scheduler.{Scheduler}
-use Rattle.papaya_scheduler.proofs.Here.{here_at}
+use Rattle.papaya_works.specs.Given.Named.Telling.{goes_on}
+use Rattle.papaya_works.specs.Given.Scheduler.declared.scheduler.Scheduler.{Scheduler}
+use Rattle.papaya_works.proofs.Given.Scheduler.Here.{here_at}
 use Rattle.papaya_stepping.proofs.OneStep.{step_comes}
 use Rattle.papaya_stepping.proofs.StepSays.{the}
 

@@ -2,65 +2,65 @@
 use Rattle.std.specs.Prelude.{◌*◌, ◌∷◌, is_some, Option, Some, None}
 use Rattle.std.specs.List.{list_any}
 use Rattle.std.proofs.Common.{◌≡◌, ◌≢◌, ℕ, suc, ◌<◌, ◌⊎◌, inl, inr, Bool, true, false, refl, ap, sym, subst, ◌∙◌, arith}
-use Rattle.papaya_scheduler.specs.Given.Waits.Others.{EndsAt, copier_in, copier_in_room, copier_in_sweep, copier_of}
-use Rattle.papaya_scheduler.proofs.Given.Waiters.Stands.{copier_knows as knows_at_once}
-use Rattle.papaya_scheduler.specs.Given.SeizeWords.Word.{block_in}
-use Rattle.papaya_scheduler.specs.Given.Seize.World.{World, IsInside}
-use Rattle.papaya_scheduler.proofs.Given.SeizeRule.Words.There.{live_pos}
-use Rattle.papaya_scheduler.specs.Given.Tables.Chunks.{is_incremental}
-use Rattle.papaya_scheduler.specs.Given.Tables.declared.node.Node.{Node}
-use Rattle.papaya_scheduler.specs.Given.Tables.declared.setting.Setting.{Setting}
-use Rattle.papaya_scheduler.specs.Given.Tables.declared.table.Table.{Table}
-use Rattle.papaya_scheduler.specs.Given.Resize.declared.copier.Copier.{Copier}
-use Rattle.papaya_scheduler.specs.Given.Resize.declared.copier.Copying.{Copying}
-use Rattle.papaya_scheduler.specs.Given.Resize.declared.copier.Copying.TheVariants as copies
-use Rattle.papaya_raw.specs.declared.machines.call.Calling.{Calling}
-use Rattle.papaya_raw.specs.declared.machines.call.Calling.TheVariants as at
-use Rattle.papaya_scheduler.specs.Given.Reserves.declared.reserve.Reserving.{Reserving}
-use Rattle.papaya_scheduler.specs.Given.Reserves.declared.reserve.Reserving.TheVariants as reserves
-use Rattle.papaya_scheduler.specs.Given.Sweeps.declared.sweep.Sweep.{Sweep}
-use Rattle.papaya_scheduler.specs.Given.Sweeps.declared.sweep.Sweeping.{Sweeping}
-use Rattle.papaya_scheduler.specs.Given.Sweeps.declared.sweep.Sweeping.TheVariants as sweeps
-use Rattle.papaya_scheduler.specs.Given.Rule.Maps.{IsTable}
-use Rattle.papaya_scheduler.specs.Given.Rule.Words.{Blocks}
-use Rattle.papaya_scheduler.specs.Given.Points.FactsCalls.{CallFacts, CallingFacts, Unchanged}
-use Rattle.papaya_scheduler.specs.Given.Points.FactsCopies.{CopierFacts, CopyingFacts}
-use Rattle.papaya_scheduler.specs.Given.Points.FactsCopiesBlocking.{CopierFactsBlocking, CopyingFactsBlocking}
-use Rattle.papaya_scheduler.specs.Given.Points.Steps.{AreLawful}
-use Rattle.papaya_scheduler.specs.Given.Points.Told.{IsRowOfCall, IsRowOfCopier}
-use Rattle.papaya_scheduler.specs.Given.Late.FactsReserves.{CopiesWhole, IsEnding, ReservingFacts}
-use Rattle.papaya_scheduler.specs.Given.Late.FactsSweeps.{SweepingFacts}
-use Rattle.papaya_scheduler.specs.Given.Late.Kinds.{LooksAt}
-use Rattle.papaya_scheduler.specs.Given.Late.LateCalls.{LateCallFacts}
-use Rattle.papaya_scheduler.specs.Given.Late.LateCopies.{LateCopierFacts, LateCopying}
-use Rattle.papaya_scheduler.specs.Given.Late.ToldReserves.{IsRowOfReserve}
-use Rattle.papaya_scheduler.specs.Given.Late.ToldSweeps.{IsRowOfSweep}
-use Rattle.papaya_scheduler.specs.Given.Callers.Sights.{IsSight, seen_by}
-use Rattle.papaya_scheduler.specs.Given.Callers.Together.{CallOnKey, UnderWay, UnlessCounts, OnKey, ForRoom, Counting, OverAll, Together, in_slot}
-use Rattle.papaya_scheduler.proofs.Given.Waits.Awaited.{HasOther}
-use Rattle.papaya_scheduler.proofs.Given.Waits.Claimed.{chosen}
-use Rattle.papaya_schedules.specs.Moment.{UnderWay as CallThere, Moment}
-use Rattle.papaya_schedules.specs.Terms.{Terms}
-use Rattle.papaya_schedules.specs.Views.{call_of}
-use Rattle.papaya_schedules.specs.Waiting.{may_wait_for}
-use Rattle.papaya_scheduler.specs.Given.Effects.Known.{Known, known}
-use Rattle.papaya_scheduler.specs.Given.Effects.declared.role.Role.{Role}
-use Rattle.papaya_scheduler.specs.Given.Effects.declared.role.Role.TheVariants as role
-use Rattle.papaya_scheduler.specs.Given.Finishes.Machines.{machine_of}
-use Rattle.papaya_scheduler.specs.Given.Finishes.Maps.{Standing}
-use Rattle.papaya_scheduler.specs.Given.Follows.Blocks.{HasRole}
-use Rattle.papaya_scheduler.specs.Given.Follows.Calls.{IsCalled}
-use Rattle.papaya_scheduler.specs.Given.Follows.Maps.{table_of}
-use Rattle.papaya_scheduler.specs.Given.Owes.Looking.{IsLooking}
-use Rattle.papaya_scheduler.specs.Given.Settles.Hand.{in_hand, in_hand_of_call, in_hand_of_room, in_hand_of_sweep, tables_in_hand}
-use Rattle.papaya_scheduler.proofs.Given.Settles.Passed.{numbered, passed_first, tables_named}
-use Rattle.papaya_schedules.specs.Effects.{passed}
-use Rattle.papaya_scheduler.specs.Played.{StandsFor}
-use Rattle.papaya_scheduler.specs.declared.scheduler.Scheduler.{Scheduler}
+use Rattle.papaya_lowers.specs.Given.Waits.Others.{EndsAt, copier_in, copier_in_room, copier_in_sweep, copier_of}
+use Rattle.papaya_works.proofs.Given.Waiters.Stands.{copier_knows as knows_at_once}
+use Rattle.papaya_runs.specs.Given.SeizeWords.Word.{block_in}
+use Rattle.papaya_runs.specs.Given.Seize.World.{World, IsInside}
+use Rattle.papaya_lowers.proofs.Given.SeizeRule.Words.There.{live_pos}
+use Rattle.papaya_runs.specs.Given.Tables.Chunks.{is_incremental}
+use Rattle.papaya_runs.specs.Given.Tables.declared.node.Node.{Node}
+use Rattle.papaya_runs.specs.Given.Tables.declared.setting.Setting.{Setting}
+use Rattle.papaya_runs.specs.Given.Tables.declared.table.Table.{Table}
+use Rattle.papaya_lowers.specs.Given.Resize.declared.copier.Copier.{Copier}
+use Rattle.papaya_lowers.specs.Given.Resize.declared.copier.Copying.{Copying}
+use Rattle.papaya_lowers.specs.Given.Resize.declared.copier.Copying.TheVariants as copies
+use Rattle.papaya_lowers.specs.Given.Raw.declared.machines.call.Calling.{Calling}
+use Rattle.papaya_lowers.specs.Given.Raw.declared.machines.call.Calling.TheVariants as at
+use Rattle.papaya_lowers.specs.Given.Reserves.declared.reserve.Reserving.{Reserving}
+use Rattle.papaya_lowers.specs.Given.Reserves.declared.reserve.Reserving.TheVariants as reserves
+use Rattle.papaya_lowers.specs.Given.Sweeps.declared.sweep.Sweep.{Sweep}
+use Rattle.papaya_lowers.specs.Given.Sweeps.declared.sweep.Sweeping.{Sweeping}
+use Rattle.papaya_lowers.specs.Given.Sweeps.declared.sweep.Sweeping.TheVariants as sweeps
+use Rattle.papaya_lowers.specs.Given.Rule.Maps.{IsTable}
+use Rattle.papaya_lowers.specs.Given.Rule.Words.{Blocks}
+use Rattle.papaya_lowers.specs.Given.Points.FactsCalls.{CallFacts, CallingFacts, Unchanged}
+use Rattle.papaya_lowers.specs.Given.Points.FactsCopies.{CopierFacts, CopyingFacts}
+use Rattle.papaya_lowers.specs.Given.Points.FactsCopiesBlocking.{CopierFactsBlocking, CopyingFactsBlocking}
+use Rattle.papaya_lowers.specs.Given.Points.Steps.{AreLawful}
+use Rattle.papaya_lowers.specs.Given.Points.Told.{IsRowOfCall, IsRowOfCopier}
+use Rattle.papaya_lowers.specs.Given.Late.FactsReserves.{CopiesWhole, IsEnding, ReservingFacts}
+use Rattle.papaya_lowers.specs.Given.Late.FactsSweeps.{SweepingFacts}
+use Rattle.papaya_lowers.specs.Given.Late.Kinds.{LooksAt}
+use Rattle.papaya_lowers.specs.Given.Late.LateCalls.{LateCallFacts}
+use Rattle.papaya_lowers.specs.Given.Late.LateCopies.{LateCopierFacts, LateCopying}
+use Rattle.papaya_lowers.specs.Given.Late.ToldReserves.{IsRowOfReserve}
+use Rattle.papaya_lowers.specs.Given.Late.ToldSweeps.{IsRowOfSweep}
+use Rattle.papaya_lowers.specs.Given.Callers.Sights.{IsSight, seen_by}
+use Rattle.papaya_lowers.specs.Given.Callers.Together.{CallOnKey, UnderWay, UnlessCounts, OnKey, ForRoom, Counting, OverAll, Together, in_slot}
+use Rattle.papaya_lowers.proofs.Given.Waits.Awaited.{HasOther}
+use Rattle.papaya_lowers.proofs.Given.Waits.Claimed.{chosen}
+use Rattle.papaya_works.specs.Given.Schedules.Moment.{UnderWay as CallThere, Moment}
+use Rattle.papaya_works.specs.Given.Schedules.Terms.{Terms}
+use Rattle.papaya_works.specs.Given.Schedules.Views.{call_of}
+use Rattle.papaya_works.specs.Given.Schedules.Waiting.{may_wait_for}
+use Rattle.papaya_works.specs.Given.Effects.Known.{Known, known}
+use Rattle.papaya_works.specs.Given.Effects.declared.role.Role.{Role}
+use Rattle.papaya_works.specs.Given.Effects.declared.role.Role.TheVariants as role
+use Rattle.papaya_lowers.specs.Given.Finishes.Machines.{machine_of}
+use Rattle.papaya_lowers.specs.Given.Finishes.Maps.{Standing}
+use Rattle.papaya_works.specs.Given.Follows.Blocks.{HasRole}
+use Rattle.papaya_works.specs.Given.Follows.Calls.{IsCalled}
+use Rattle.papaya_works.specs.Given.Follows.Maps.{table_of}
+use Rattle.papaya_works.specs.Given.Owes.Looking.{IsLooking}
+use Rattle.papaya_works.specs.Given.Settles.Hand.{in_hand, in_hand_of_call, in_hand_of_room, in_hand_of_sweep, tables_in_hand}
+use Rattle.papaya_works.proofs.Given.Settles.Passed.{numbered, passed_first, tables_named}
+use Rattle.papaya_works.specs.Given.Schedules.Effects.{passed}
+use Rattle.papaya_works.specs.Given.Scheduler.Played.{StandsFor}
+use Rattle.papaya_works.specs.Given.Scheduler.declared.scheduler.Scheduler.{Scheduler}
 use Rattle.papaya_stepping.proofs.StepSays.{the}
 use Rattle.papaya_stepping.proofs.Waiting.{IsForResizes, owing_hands, waits_for_copier, waits_for_handing}
-use Rattle.papaya_scheduler.proofs.Given.Waits.Works.{OnlyLooks, works}
-use Rattle.papaya_scheduler.specs.Given.Scenes.Scene.{slot_of}
+use Rattle.papaya_lowers.proofs.Given.Waits.Works.{OnlyLooks, works}
+use Rattle.papaya_works.specs.Given.Scenes.Scene.{slot_of}
 
 -- the row of a call that copies is its copier's
 key_row : (stands : Calling) (q : Copier) → copier_in stands ≡ Some q → IsRowOfCall stands → IsRowOfCopier q.stands

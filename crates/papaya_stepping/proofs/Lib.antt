@@ -30,3 +30,4 @@ pub mod SweepSteps
 mod TakenBy
 mod Waiting
 mod WaitsFor
+pub mod Given

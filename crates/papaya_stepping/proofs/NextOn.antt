@@ -2,54 +2,54 @@
 use Rattle.std.specs.Prelude.{◌≡◌, ◌<◌, ◌⊎◌, ◌≤◌, ◌+◌, ◌^◌, ℕ, Bool, false, List, [], ◌++◌, map, slice_get, Option, Some}
 use Rattle.std.proofs.Common.{refl, sym, ap, subst, ◌∙◌, inl, inr, arith}
 use Rattle.std.proofs.lemmas.List.{append_assoc}
-use Rattle.papaya_scheduler.specs.Given.Tables.declared.node.Node.{Node}
-use Rattle.papaya_scheduler.specs.Given.Tables.declared.table.Table.{Table}
-use Rattle.papaya_scheduler.specs.Given.Sweeps.declared.sweep.Purpose.TheVariants.{Walks}
-use Rattle.papaya_scheduler.specs.Given.Sweeps.declared.sweep.Sweep.{Sweep}
-use Rattle.papaya_scheduler.specs.Given.Sweeps.declared.sweep.Sweeping.TheVariants as at
-use Rattle.papaya_raw.specs.declared.machines.machine.Machine.{Machine}
-use Rattle.papaya_raw.specs.declared.machines.machine.Machine.TheVariants as kinds
-use Rattle.papaya_raw.specs.declared.machines.progress.Progress.{Progress}
-use Rattle.papaya_raw.specs.declared.machines.progress.Progress.TheVariants as progress
+use Rattle.papaya_runs.specs.Given.Tables.declared.node.Node.{Node}
+use Rattle.papaya_runs.specs.Given.Tables.declared.table.Table.{Table}
+use Rattle.papaya_lowers.specs.Given.Sweeps.declared.sweep.Purpose.TheVariants.{Walks}
+use Rattle.papaya_lowers.specs.Given.Sweeps.declared.sweep.Sweep.{Sweep}
+use Rattle.papaya_lowers.specs.Given.Sweeps.declared.sweep.Sweeping.TheVariants as at
+use Rattle.papaya_lowers.specs.Given.Raw.declared.machines.machine.Machine.{Machine}
+use Rattle.papaya_lowers.specs.Given.Raw.declared.machines.machine.Machine.TheVariants as kinds
+use Rattle.papaya_lowers.specs.Given.Raw.declared.machines.progress.Progress.{Progress}
+use Rattle.papaya_lowers.specs.Given.Raw.declared.machines.progress.Progress.TheVariants as progress
 use Rattle.papaya_runs.specs.Same.{is_same}
-use Rattle.papaya_schedules.specs.declared.effect.Effect.{Effect}
-use Rattle.papaya_schedules.specs.Effects.{with_effects}
-use Rattle.papaya_schedules.specs.Moment.{UnderWay as CallThere, Moment}
-use Rattle.papaya_schedules.specs.Terms.{Terms}
-use Rattle.papaya_scheduler.specs.Given.Callers.Together.{UnderWay, OnKey, ForRoom, Counting, OverAll, Together}
-use Rattle.papaya_scheduler.specs.Given.Effects.Effects.{effects_of}
-use Rattle.papaya_scheduler.specs.Given.Effects.Known.{known}
-use Rattle.papaya_scheduler.specs.Given.Effects.declared.acting.Acting.TheVariants as acts
-use Rattle.papaya_scheduler.specs.Given.Finishes.Machines.{machine_of}
-use Rattle.papaya_scheduler.specs.Given.Finishes.Maps.{Standing}
-use Rattle.papaya_scheduler.specs.Given.Teller.declared.changed.Changed.TheVariants.{Nothing}
-use Rattle.papaya_scheduler.proofs.Given.Follows.Calling.{is_same_refl}
-use Rattle.papaya_scheduler.proofs.Given.Hands.Replacing.{calls_after}
-use Rattle.papaya_scheduler.specs.Given.Logged.Calling.{CallGoesOn, step_did}
-use Rattle.papaya_scheduler.specs.Given.Logged.Shown.{IsShown}
-use Rattle.papaya_scheduler.specs.Given.Logged.declared.logged.Logged.{Logged}
-use Rattle.papaya_scheduler.proofs.Given.Moments.After.{effects_after}
-use Rattle.papaya_scheduler.specs.Played.{StandsAs}
-use Rattle.papaya_named.specs.Seen.{Seen, seen, seen_of}
+use Rattle.papaya_works.specs.Given.Schedules.declared.effect.Effect.{Effect}
+use Rattle.papaya_works.specs.Given.Schedules.Effects.{with_effects}
+use Rattle.papaya_works.specs.Given.Schedules.Moment.{UnderWay as CallThere, Moment}
+use Rattle.papaya_works.specs.Given.Schedules.Terms.{Terms}
+use Rattle.papaya_lowers.specs.Given.Callers.Together.{UnderWay, OnKey, ForRoom, Counting, OverAll, Together}
+use Rattle.papaya_works.specs.Given.Effects.Effects.{effects_of}
+use Rattle.papaya_works.specs.Given.Effects.Known.{known}
+use Rattle.papaya_works.specs.Given.Effects.declared.acting.Acting.TheVariants as acts
+use Rattle.papaya_lowers.specs.Given.Finishes.Machines.{machine_of}
+use Rattle.papaya_lowers.specs.Given.Finishes.Maps.{Standing}
+use Rattle.papaya_works.specs.Given.Teller.declared.changed.Changed.TheVariants.{Nothing}
+use Rattle.papaya_works.proofs.Given.Follows.Calling.{is_same_refl}
+use Rattle.papaya_works.proofs.Given.Hands.Replacing.{calls_after}
+use Rattle.papaya_works.specs.Given.Logged.Calling.{CallGoesOn, step_did}
+use Rattle.papaya_works.specs.Given.Logged.Shown.{IsShown}
+use Rattle.papaya_works.specs.Given.Logged.declared.logged.Logged.{Logged}
+use Rattle.papaya_works.proofs.Given.Moments.After.{effects_after}
+use Rattle.papaya_works.specs.Given.Scheduler.Played.{StandsAs}
+use Rattle.papaya_works.specs.Given.Named.Seen.{Seen, seen, seen_of}
 use Rattle.papaya_stepping.specs.Stepping.{IsMidWalk, IsStepOf, IsWalking, ReadyAt, WalksFar}
-use Rattle.papaya_named.specs.declared.caller.Caller.{Caller}
-use Rattle.papaya_named.specs.declared.caller.Stands.TheVariants as far
-use Rattle.papaya_named.specs.declared.kind.Kind.TheVariants as kind
-use Rattle.papaya_scheduler.specs.declared.scheduler.Scheduler.{Scheduler}
+use Rattle.papaya_works.specs.Given.Named.declared.caller.Caller.{Caller}
+use Rattle.papaya_works.specs.Given.Named.declared.caller.Stands.TheVariants as far
+use Rattle.papaya_works.specs.Given.Named.declared.kind.Kind.TheVariants as kind
+use Rattle.papaya_works.specs.Given.Scheduler.declared.scheduler.Scheduler.{Scheduler}
 use Rattle.papaya_stepping.proofs.AfterEffects.{calls_seen, closed_stays, mapped_stays}
-use Rattle.papaya_scheduler.proofs.Here.{HereAs, here_as_at}
-use Rattle.papaya_scheduler.proofs.Given.Rows.Lists.{set_itself}
+use Rattle.papaya_works.proofs.Given.Scheduler.Here.{HereAs, here_as_at}
+use Rattle.papaya_works.proofs.Given.Rows.Lists.{set_itself}
 use Rattle.papaya_stepping.proofs.NextSays.{IsNextSaying, NextSays, over_idle, over_says, words_idle, words_say}
 use Rattle.papaya_stepping.proofs.OneStep.{goes_next}
-use Rattle.papaya_scheduler.proofs.RanOn.{maps_named, there_stays}
+use Rattle.papaya_works.proofs.Given.Scheduler.RanOn.{maps_named, there_stays}
 use Rattle.papaya_stepping.proofs.StepSays.{goes_as, the}
 use Rattle.papaya_stepping.proofs.SteppedTo.{going_on}
 use Rattle.papaya_stepping.proofs.SweepSteps.{knows_at}
-use Rattle.papaya_scheduler.proofs.Given.Scenes.May.{standing_is}
-use Rattle.papaya_scheduler.specs.Given.Executor.IsThere.{IsThere, held_by}
-use Rattle.papaya_scheduler.specs.Given.Scenes.Scene.{HasCall, Scene, slot_of}
-use Rattle.papaya_scheduler.specs.Given.Scenes.Stepping.{StepLeads, StepsFrom, has_ended, scene_after}
-use Rattle.papaya_scheduler.specs.Given.Scenes.Held.{Held}
+use Rattle.papaya_works.proofs.Given.Scenes.May.{standing_is}
+use Rattle.papaya_works.specs.Given.Executor.IsThere.{IsThere, held_by}
+use Rattle.papaya_works.specs.Given.Scenes.Scene.{HasCall, Scene, slot_of}
+use Rattle.papaya_works.specs.Given.Scenes.Stepping.{StepLeads, StepsFrom, has_ended, scene_after}
+use Rattle.papaya_works.specs.Given.Scenes.Held.{Held}
 
 module _ {K V : Type 0} where
   -- what says so is a sweep

@@ -1,31 +1,31 @@
 -- What a step of a walk says that was asked for its next pair: it goes on to the next place, shows a pair, or has shown all; and it changes nothing.
 use Rattle.std.specs.Prelude.{◌≡◌, ◌<◌, ◌≤◌, ◌^◌, ◌==◌, ◌&&◌, ℕ, nat_lt, Bool, true, false, if◌then◌else◌}
 use Rattle.std.proofs.Common.{refl, sym, ap, subst, arith}
-use Rattle.papaya_scheduler.specs.Given.SeizeWords.Mem.{Mem, Gives, value_at}
-use Rattle.papaya_scheduler.specs.Given.SeizeWords.Op.{Out, Load, Found, Stored, Exchanged, Made, Taken, Roomed}
-use Rattle.papaya_scheduler.specs.Given.SeizeWords.Plan.{Ends, plan_as, then_as}
-use Rattle.papaya_scheduler.specs.Given.SeizeWords.Word.{block_in}
-use Rattle.papaya_scheduler.specs.Given.Tables.Marks.{has_mark}
-use Rattle.papaya_scheduler.specs.Given.Tables.TablePlaces.{at_place}
-use Rattle.papaya_scheduler.specs.Given.Tables.declared.marks.TheConstants.{COPYING}
-use Rattle.papaya_scheduler.specs.Given.Tables.declared.node.Node.{Node}
-use Rattle.papaya_scheduler.specs.Given.Sweeps.Sweep.{plan_at, word_found}
-use Rattle.papaya_scheduler.specs.Given.Sweeps.SweepPoints.{at_pair, further, past, removes, seen, standing, telling}
-use Rattle.papaya_scheduler.specs.Given.Sweeps.declared.sweep.Purpose.{Purpose}
-use Rattle.papaya_scheduler.specs.Given.Sweeps.declared.sweep.Purpose.TheVariants.{Walks}
-use Rattle.papaya_scheduler.specs.Given.Sweeps.declared.sweep.Sweep.{Sweep}
-use Rattle.papaya_scheduler.specs.Given.Sweeps.declared.sweep.Sweeping.{Sweeping}
-use Rattle.papaya_scheduler.specs.Given.Sweeps.declared.sweep.Sweeping.TheVariants as at
-use Rattle.papaya_raw.specs.Machine.{swept}
-use Rattle.papaya_raw.specs.declared.machines.machine.Machine.{Machine}
-use Rattle.papaya_raw.specs.declared.machines.machine.Machine.TheVariants as kinds
-use Rattle.papaya_raw.specs.declared.machines.progress.Answer.TheVariants as answers
-use Rattle.papaya_raw.specs.declared.machines.progress.Progress.{Progress}
-use Rattle.papaya_raw.specs.declared.machines.progress.Progress.TheVariants as progress
-use Rattle.papaya_scheduler.specs.Given.Teller.Tells.{StepsTold}
-use Rattle.papaya_scheduler.specs.Given.Teller.declared.changed.Changed.TheVariants.{Nothing}
-use Rattle.papaya_scheduler.specs.Given.Scenes.Held.{Held}
-use Rattle.papaya_scheduler.specs.Given.Scenes.Stepping.{StepsFrom}
+use Rattle.papaya_runs.specs.Given.SeizeWords.Mem.{Mem, Gives, value_at}
+use Rattle.papaya_runs.specs.Given.SeizeWords.Op.{Out, Load, Found, Stored, Exchanged, Made, Taken, Roomed}
+use Rattle.papaya_runs.specs.Given.SeizeWords.Plan.{Ends, plan_as, then_as}
+use Rattle.papaya_runs.specs.Given.SeizeWords.Word.{block_in}
+use Rattle.papaya_runs.specs.Given.Tables.Marks.{has_mark}
+use Rattle.papaya_runs.specs.Given.Tables.TablePlaces.{at_place}
+use Rattle.papaya_runs.specs.Given.Tables.declared.marks.TheConstants.{COPYING}
+use Rattle.papaya_runs.specs.Given.Tables.declared.node.Node.{Node}
+use Rattle.papaya_lowers.specs.Given.Sweeps.Sweep.{plan_at, word_found}
+use Rattle.papaya_lowers.specs.Given.Sweeps.SweepPoints.{at_pair, further, past, removes, seen, standing, telling}
+use Rattle.papaya_lowers.specs.Given.Sweeps.declared.sweep.Purpose.{Purpose}
+use Rattle.papaya_lowers.specs.Given.Sweeps.declared.sweep.Purpose.TheVariants.{Walks}
+use Rattle.papaya_lowers.specs.Given.Sweeps.declared.sweep.Sweep.{Sweep}
+use Rattle.papaya_lowers.specs.Given.Sweeps.declared.sweep.Sweeping.{Sweeping}
+use Rattle.papaya_lowers.specs.Given.Sweeps.declared.sweep.Sweeping.TheVariants as at
+use Rattle.papaya_lowers.specs.Given.Raw.Machine.{swept}
+use Rattle.papaya_lowers.specs.Given.Raw.declared.machines.machine.Machine.{Machine}
+use Rattle.papaya_lowers.specs.Given.Raw.declared.machines.machine.Machine.TheVariants as kinds
+use Rattle.papaya_lowers.specs.Given.Raw.declared.machines.progress.Answer.TheVariants as answers
+use Rattle.papaya_lowers.specs.Given.Raw.declared.machines.progress.Progress.{Progress}
+use Rattle.papaya_lowers.specs.Given.Raw.declared.machines.progress.Progress.TheVariants as progress
+use Rattle.papaya_works.specs.Given.Teller.Tells.{StepsTold}
+use Rattle.papaya_works.specs.Given.Teller.declared.changed.Changed.TheVariants.{Nothing}
+use Rattle.papaya_works.specs.Given.Scenes.Held.{Held}
+use Rattle.papaya_works.specs.Given.Scenes.Stepping.{StepsFrom}
 
 module _ {K V : Type 0} where
   abbrev pub NextSays : Sweep → Progress (Node K V) → Sweep → Type 0

@@ -2,64 +2,64 @@
 use Rattle.std.specs.Prelude.{◌≡◌, ◌⊎◌, ◌+◌, ℕ, Bool, true, false, List, [], filter, find, map, not, position, slice_get, slice_set, Option, Some, None, if◌then◌else◌}
 use Rattle.std.specs.List.{list_any, remove}
 use Rattle.std.proofs.Common.{refl, sym, ap, subst, ◌∙◌, inl, inr}
-use Rattle.papaya_scheduler.specs.Given.SeizeWords.declared.fault.Fault.{Fault}
-use Rattle.papaya_scheduler.specs.Given.SeizeWords.declared.fault.Fault.TheVariants.{Busy, Memory}
-use Rattle.papaya_scheduler.specs.Given.Tables.declared.node.Node.{Node}
-use Rattle.papaya_raw.specs.declared.machines.machine.Machine.{Machine}
-use Rattle.papaya_raw.specs.declared.machines.progress.Progress.{Progress}
-use Rattle.papaya_raw.specs.declared.machines.progress.Progress.TheVariants as progress
+use Rattle.papaya_runs.specs.Given.SeizeWords.declared.fault.Fault.{Fault}
+use Rattle.papaya_runs.specs.Given.SeizeWords.declared.fault.Fault.TheVariants.{Busy, Memory}
+use Rattle.papaya_runs.specs.Given.Tables.declared.node.Node.{Node}
+use Rattle.papaya_lowers.specs.Given.Raw.declared.machines.machine.Machine.{Machine}
+use Rattle.papaya_lowers.specs.Given.Raw.declared.machines.progress.Progress.{Progress}
+use Rattle.papaya_lowers.specs.Given.Raw.declared.machines.progress.Progress.TheVariants as progress
 use Rattle.papaya_runs.specs.Same.{is_same}
-use Rattle.papaya_schedules.specs.declared.call.Call.{Call}
-use Rattle.papaya_schedules.specs.declared.call.Call.TheVariants.{On}
-use Rattle.papaya_schedules.specs.declared.effect.Effect.{Effect}
-use Rattle.papaya_schedules.specs.declared.outcome.Outcome.{Outcome}
-use Rattle.papaya_schedules.specs.declared.outcome.Outcome.TheVariants.{Refused, Waits}
-use Rattle.papaya_schedules.specs.After.{asks_on, comes_to}
-use Rattle.papaya_schedules.specs.Effects.{with_effects}
-use Rattle.papaya_schedules.specs.Entry.{ends_call}
-use Rattle.papaya_schedules.specs.Growing.{only_looks}
-use Rattle.papaya_schedules.specs.Moment.{Stands, Going, Asking, Told, IsReady, UnderWay as CallThere, Moment}
-use Rattle.papaya_schedules.specs.Terms.{Terms}
-use Rattle.papaya_schedules.specs.Views.{call_of}
-use Rattle.papaya_schedules.specs.Waiting.{may_wait_for}
-use Rattle.papaya_scheduler.specs.Given.Callers.Together.{UnderWay}
-use Rattle.papaya_scheduler.specs.Given.Finishes.Machines.{GoesOnAs, machine_of}
-use Rattle.papaya_scheduler.specs.Given.Effects.Known.{Known, known}
-use Rattle.papaya_scheduler.specs.Given.Effects.Effects.{known_after}
-use Rattle.papaya_scheduler.specs.Given.Effects.declared.acting.Acting.TheVariants as acts
-use Rattle.papaya_scheduler.specs.Given.Follows.Calling.{come_to}
-use Rattle.papaya_scheduler.proofs.Given.Follows.Calling.{apart_back}
-use Rattle.papaya_scheduler.specs.Given.Hands.Calling.{AsksJust}
-use Rattle.papaya_scheduler.specs.Given.Logged.Calling.{CallGoesOn, step_did}
-use Rattle.papaya_scheduler.specs.Given.Logged.Shown.{IsShown}
-use Rattle.papaya_scheduler.specs.Given.Logged.declared.logged.Logged.{Logged}
-use Rattle.papaya_scheduler.proofs.Given.Moments.Calls.{calls_come_to_whole}
-use Rattle.papaya_scheduler.proofs.Given.Kept.Stays.{calls_come_to_kept}
-use Rattle.papaya_scheduler.proofs.Given.Logged.Counted.{counted_calls}
-use Rattle.papaya_scheduler.proofs.Given.Owes.Grown.Calls.{step_keeps_grown}
-use Rattle.papaya_promises.proofs.Weights.{operations_are_single}
-use Rattle.papaya_named.specs.Machines.{IsAsFar}
-use Rattle.papaya_scheduler.specs.Played.{AsFar, StandsFor}
-use Rattle.papaya_named.specs.Seen.{Seen, far_of, is_named, seen, seen_of}
+use Rattle.papaya_works.specs.Given.Schedules.declared.call.Call.{Call}
+use Rattle.papaya_works.specs.Given.Schedules.declared.call.Call.TheVariants.{On}
+use Rattle.papaya_works.specs.Given.Schedules.declared.effect.Effect.{Effect}
+use Rattle.papaya_works.specs.Given.Schedules.declared.outcome.Outcome.{Outcome}
+use Rattle.papaya_works.specs.Given.Schedules.declared.outcome.Outcome.TheVariants.{Refused, Waits}
+use Rattle.papaya_works.specs.Given.Schedules.After.{asks_on, comes_to}
+use Rattle.papaya_works.specs.Given.Schedules.Effects.{with_effects}
+use Rattle.papaya_works.specs.Given.Schedules.Entry.{ends_call}
+use Rattle.papaya_works.specs.Given.Schedules.Growing.{only_looks}
+use Rattle.papaya_works.specs.Given.Schedules.Moment.{Stands, Going, Asking, Told, IsReady, UnderWay as CallThere, Moment}
+use Rattle.papaya_works.specs.Given.Schedules.Terms.{Terms}
+use Rattle.papaya_works.specs.Given.Schedules.Views.{call_of}
+use Rattle.papaya_works.specs.Given.Schedules.Waiting.{may_wait_for}
+use Rattle.papaya_lowers.specs.Given.Callers.Together.{UnderWay}
+use Rattle.papaya_lowers.specs.Given.Finishes.Machines.{GoesOnAs, machine_of}
+use Rattle.papaya_works.specs.Given.Effects.Known.{Known, known}
+use Rattle.papaya_works.specs.Given.Effects.Effects.{known_after}
+use Rattle.papaya_works.specs.Given.Effects.declared.acting.Acting.TheVariants as acts
+use Rattle.papaya_works.specs.Given.Follows.Calling.{come_to}
+use Rattle.papaya_works.proofs.Given.Follows.Calling.{apart_back}
+use Rattle.papaya_works.specs.Given.Hands.Calling.{AsksJust}
+use Rattle.papaya_works.specs.Given.Logged.Calling.{CallGoesOn, step_did}
+use Rattle.papaya_works.specs.Given.Logged.Shown.{IsShown}
+use Rattle.papaya_works.specs.Given.Logged.declared.logged.Logged.{Logged}
+use Rattle.papaya_works.proofs.Given.Moments.Calls.{calls_come_to_whole}
+use Rattle.papaya_works.proofs.Given.Kept.Stays.{calls_come_to_kept}
+use Rattle.papaya_works.proofs.Given.Logged.Counted.{counted_calls}
+use Rattle.papaya_works.proofs.Given.Owes.Grown.Calls.{step_keeps_grown}
+use Rattle.papaya_works.proofs.Given.Promises.Weights.{operations_are_single}
+use Rattle.papaya_works.specs.Given.Named.Machines.{IsAsFar}
+use Rattle.papaya_works.specs.Given.Scheduler.Played.{AsFar, StandsFor}
+use Rattle.papaya_works.specs.Given.Named.Seen.{Seen, far_of, is_named, seen, seen_of}
 use Rattle.papaya_stepping.specs.Stepping.{ComesAs, ComesBy, GoesAt, IsStepped, caller_then, callers_then, far_then, outcome_of}
-use Rattle.papaya_named.specs.Telling.{goes_on, kept}
-use Rattle.papaya_named.specs.declared.caller.Caller.{Caller}
-use Rattle.papaya_named.specs.declared.caller.Stands.{Stands as HowFar}
-use Rattle.papaya_named.specs.declared.caller.Stands.TheVariants as far
-use Rattle.papaya_named.specs.declared.kind.Kind.{Kind}
-use Rattle.papaya_scheduler.specs.declared.scheduler.Scheduler.{Scheduler}
+use Rattle.papaya_works.specs.Given.Named.Telling.{goes_on, kept}
+use Rattle.papaya_works.specs.Given.Named.declared.caller.Caller.{Caller}
+use Rattle.papaya_works.specs.Given.Named.declared.caller.Stands.{Stands as HowFar}
+use Rattle.papaya_works.specs.Given.Named.declared.caller.Stands.TheVariants as far
+use Rattle.papaya_works.specs.Given.Named.declared.kind.Kind.{Kind}
+use Rattle.papaya_works.specs.Given.Scheduler.declared.scheduler.Scheduler.{Scheduler}
 use Rattle.papaya_stepping.proofs.AfterEffects.{calls_seen, closed_stays, mapped_stays}
 use Rattle.papaya_stepping.proofs.AnySays.{any_says}
 use Rattle.papaya_stepping.proofs.LookSays.{never_waits}
-use Rattle.papaya_scheduler.proofs.Here.{Here, here_at}
-use Rattle.papaya_scheduler.proofs.Given.Rows.Lists.{changed_at, removed_at, set_get, set_position, set_seen}
-use Rattle.papaya_scheduler.proofs.RanOn.{maps_named, there_stays}
+use Rattle.papaya_works.proofs.Given.Scheduler.Here.{Here, here_at}
+use Rattle.papaya_works.proofs.Given.Rows.Lists.{changed_at, removed_at, set_get, set_position, set_seen}
+use Rattle.papaya_works.proofs.Given.Scheduler.RanOn.{maps_named, there_stays}
 use Rattle.papaya_stepping.proofs.StepSays.{Says, the}
 use Rattle.papaya_stepping.proofs.SteppedTo.{going_on, has_gone, here_then, name_is, next, none_named, s2}
 use Rattle.papaya_stepping.proofs.AnyWaits.{any_quiet, any_waits_for}
-use Rattle.papaya_scheduler.specs.Given.Scenes.Scene.{Scene}
-use Rattle.papaya_scheduler.specs.Given.Scenes.Stepping.{StepLeads, StepsFrom, has_ended}
-use Rattle.papaya_scheduler.specs.Given.Executor.IsThere.{held_by}
+use Rattle.papaya_works.specs.Given.Scenes.Scene.{Scene}
+use Rattle.papaya_works.specs.Given.Scenes.Stepping.{StepLeads, StepsFrom, has_ended}
+use Rattle.papaya_works.specs.Given.Executor.IsThere.{held_by}
 
 module _ {K V : Type 0} (by : Known) (its : Kind) (value : Option V) where
   -- what a caller keeps

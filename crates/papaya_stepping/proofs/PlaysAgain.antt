@@ -1,31 +1,31 @@
 -- The events by which a call would go on that asks, or is ready, or is not there: nothing happens.
 use Rattle.std.specs.Prelude.{◌≡◌, ◌+◌, ◌&&◌, ℕ, Bool, true, false, List, [], ◌∷◌, map, position, is_some, Option, Some, None, if◌then◌else◌}
 use Rattle.std.proofs.Common.{refl, sym, ap, subst, ◌∙◌, arith}
-use Rattle.papaya_scheduler.specs.Given.SeizeWords.declared.fault.Fault.TheVariants.{Busy}
+use Rattle.papaya_runs.specs.Given.SeizeWords.declared.fault.Fault.TheVariants.{Busy}
 use Rattle.papaya_runs.specs.Same.{is_same}
-use Rattle.papaya_schedules.specs.declared.event.Event.TheVariants.{Go, Step}
-use Rattle.papaya_schedules.specs.declared.outcome.Outcome.TheVariants.{Asks, Ready, Refused}
-use Rattle.papaya_schedules.specs.After.{comes_to, is_alone_on, moment, moments_from}
-use Rattle.papaya_schedules.specs.Coming.{Progresses}
-use Rattle.papaya_schedules.specs.Entry.{ByCall, Entry}
-use Rattle.papaya_schedules.specs.InTurn.{GoesOn}
-use Rattle.papaya_schedules.specs.Moment.{Asking, IsReady, Stands, UnderWay as CallThere, Moment}
-use Rattle.papaya_schedules.specs.Steps.{MakesSteps, stands_or}
-use Rattle.papaya_schedules.specs.Terms.{Terms}
-use Rattle.papaya_schedules.specs.Views.{call_of}
-use Rattle.papaya_scheduler.specs.Given.Follows.Calling.{come_to}
-use Rattle.papaya_scheduler.specs.Played.{IsDue, StandsFor}
-use Rattle.papaya_named.specs.Seen.{Seen, is_named}
+use Rattle.papaya_works.specs.Given.Schedules.declared.event.Event.TheVariants.{Go, Step}
+use Rattle.papaya_works.specs.Given.Schedules.declared.outcome.Outcome.TheVariants.{Asks, Ready, Refused}
+use Rattle.papaya_works.specs.Given.Schedules.After.{comes_to, is_alone_on, moment, moments_from}
+use Rattle.papaya_works.specs.Given.Schedules.Coming.{Progresses}
+use Rattle.papaya_works.specs.Given.Schedules.Entry.{ByCall, Entry}
+use Rattle.papaya_works.specs.Given.Schedules.InTurn.{GoesOn}
+use Rattle.papaya_works.specs.Given.Schedules.Moment.{Asking, IsReady, Stands, UnderWay as CallThere, Moment}
+use Rattle.papaya_works.specs.Given.Schedules.Steps.{MakesSteps, stands_or}
+use Rattle.papaya_works.specs.Given.Schedules.Terms.{Terms}
+use Rattle.papaya_works.specs.Given.Schedules.Views.{call_of}
+use Rattle.papaya_works.specs.Given.Follows.Calling.{come_to}
+use Rattle.papaya_works.specs.Given.Scheduler.Played.{IsDue, StandsFor}
+use Rattle.papaya_works.specs.Given.Named.Seen.{Seen, is_named}
 use Rattle.papaya_stepping.specs.Stepping.{PlaysOn}
-use Rattle.papaya_named.specs.declared.caller.Stands.TheVariants as far
-use Rattle.papaya_scheduler.specs.declared.scheduler.Scheduler.{Scheduler}
+use Rattle.papaya_works.specs.Given.Named.declared.caller.Stands.TheVariants as far
+use Rattle.papaya_works.specs.Given.Scheduler.declared.scheduler.Scheduler.{Scheduler}
 use Rattle.papaya_stepping.proofs.Again.{asks_again, far_ready, ready_again}
-use Rattle.papaya_scheduler.proofs.Here.{Here, here_at, there_is}
+use Rattle.papaya_works.proofs.Given.Scheduler.Here.{Here, here_at, there_is}
 use Rattle.papaya_stepping.proofs.PlaysSteps.{stands_elsewhere}
 use Rattle.papaya_stepping.proofs.RightSteps.{waits_never}
-use Rattle.papaya_scheduler.proofs.Quiet.{stands_on}
-use Rattle.papaya_scheduler.proofs.Replied.{far_asks}
-use Rattle.papaya_scheduler.proofs.Rights.{in_turn, out_of_turn, plays, quiet}
+use Rattle.papaya_works.proofs.Given.Scheduler.Quiet.{stands_on}
+use Rattle.papaya_works.proofs.Given.Scheduler.Replied.{far_asks}
+use Rattle.papaya_works.proofs.Given.Scheduler.Rights.{in_turn, out_of_turn, plays, quiet}
 
 module _ {K V S : Type 0} (same : K → K → Bool) (hash : K → ℕ) (terms : Terms) (log : List (Entry K V)) (own : List ℕ) (refuse : Bool) (p : Scheduler K V S) where
   abbrev m : Moment K V

@@ -1,43 +1,43 @@
 -- The event by which a call without a name begins, and goes on.
 use Rattle.std.specs.Prelude.{◌≡◌, ◌+◌, ◌&&◌, ℕ, Bool, true, false, List, [], ◌∷◌, is_none, is_some, map, position, slice_get, option_map, Option, Some, None, if◌then◌else◌}
 use Rattle.std.proofs.Common.{refl, sym, ap, subst, ◌∙◌, arith}
-use Rattle.papaya_scheduler.specs.Given.SeizeWords.declared.fault.Fault.TheVariants.{Busy}
+use Rattle.papaya_runs.specs.Given.SeizeWords.declared.fault.Fault.TheVariants.{Busy}
 use Rattle.papaya_runs.specs.Same.{is_same}
 use Rattle.papaya_runs.specs.Stopped.{most_steps}
-use Rattle.papaya_schedules.specs.declared.call.Call.{Call}
-use Rattle.papaya_schedules.specs.declared.effect.Effect.{Effect}
-use Rattle.papaya_schedules.specs.declared.event.Event.TheVariants.{OneCall}
-use Rattle.papaya_schedules.specs.declared.outcome.Outcome.{Outcome}
-use Rattle.papaya_schedules.specs.declared.outcome.Outcome.TheVariants.{Refused}
-use Rattle.papaya_schedules.specs.After.{is_alone_on, moment, moments_from, slots_on}
-use Rattle.papaya_schedules.specs.Beginning.{fresh_call, with_call}
-use Rattle.papaya_schedules.specs.Coming.{Progresses}
-use Rattle.papaya_schedules.specs.Effects.{with_effects}
-use Rattle.papaya_schedules.specs.Entry.{ByCall, Entry, IfCall, is_busy, nameless}
-use Rattle.papaya_schedules.specs.InTurn.{GoesOn}
-use Rattle.papaya_schedules.specs.InUse.{is_living}
-use Rattle.papaya_schedules.specs.Moment.{MapThere, Moment}
-use Rattle.papaya_schedules.specs.Steps.{stands_or}
-use Rattle.papaya_schedules.specs.Terms.{Terms}
-use Rattle.papaya_schedules.specs.Views.{call_of, map_of, number_of}
-use Rattle.papaya_schedules.specs.Waiting.{WaitsRight}
-use Rattle.papaya_scheduler.specs.Given.Follows.Calling.{come_to}
-use Rattle.papaya_scheduler.proofs.Given.Follows.Calling.{is_same_refl}
-use Rattle.papaya_scheduler.specs.Played.{BeginsSo, IsDue, StandsFor, entry_of}
-use Rattle.papaya_named.specs.Seen.{Seen, is_named, seen, seen_of}
+use Rattle.papaya_works.specs.Given.Schedules.declared.call.Call.{Call}
+use Rattle.papaya_works.specs.Given.Schedules.declared.effect.Effect.{Effect}
+use Rattle.papaya_works.specs.Given.Schedules.declared.event.Event.TheVariants.{OneCall}
+use Rattle.papaya_works.specs.Given.Schedules.declared.outcome.Outcome.{Outcome}
+use Rattle.papaya_works.specs.Given.Schedules.declared.outcome.Outcome.TheVariants.{Refused}
+use Rattle.papaya_works.specs.Given.Schedules.After.{is_alone_on, moment, moments_from, slots_on}
+use Rattle.papaya_works.specs.Given.Schedules.Beginning.{fresh_call, with_call}
+use Rattle.papaya_works.specs.Given.Schedules.Coming.{Progresses}
+use Rattle.papaya_works.specs.Given.Schedules.Effects.{with_effects}
+use Rattle.papaya_works.specs.Given.Schedules.Entry.{ByCall, Entry, IfCall, is_busy, nameless}
+use Rattle.papaya_works.specs.Given.Schedules.InTurn.{GoesOn}
+use Rattle.papaya_works.specs.Given.Schedules.InUse.{is_living}
+use Rattle.papaya_works.specs.Given.Schedules.Moment.{MapThere, Moment}
+use Rattle.papaya_works.specs.Given.Schedules.Steps.{stands_or}
+use Rattle.papaya_works.specs.Given.Schedules.Terms.{Terms}
+use Rattle.papaya_works.specs.Given.Schedules.Views.{call_of, map_of, number_of}
+use Rattle.papaya_works.specs.Given.Schedules.Waiting.{WaitsRight}
+use Rattle.papaya_works.specs.Given.Follows.Calling.{come_to}
+use Rattle.papaya_works.proofs.Given.Follows.Calling.{is_same_refl}
+use Rattle.papaya_works.specs.Given.Scheduler.Played.{BeginsSo, IsDue, StandsFor, entry_of}
+use Rattle.papaya_works.specs.Given.Named.Seen.{Seen, is_named, seen, seen_of}
 use Rattle.papaya_stepping.specs.Stepping.{ComesBy, GoesAt, IsInCase, PlaysOn, StepsCome, TakenAs, TakenBy, TakesUpTo, may_begin}
-use Rattle.papaya_named.specs.declared.caller.Caller.{Caller}
-use Rattle.papaya_named.specs.declared.caller.Stands.{Stands as HowFar}
-use Rattle.papaya_named.specs.declared.caller.Stands.TheVariants as far
-use Rattle.papaya_scheduler.specs.declared.played.Played.{Played}
-use Rattle.papaya_scheduler.specs.declared.scheduler.Scheduler.{Scheduler}
-use Rattle.papaya_scheduler.proofs.Given.Rows.Elsewhere.{elsewhere}
-use Rattle.papaya_scheduler.proofs.Here.{Here, here_at}
-use Rattle.papaya_scheduler.proofs.Given.Rows.Lists.{first_position}
+use Rattle.papaya_works.specs.Given.Named.declared.caller.Caller.{Caller}
+use Rattle.papaya_works.specs.Given.Named.declared.caller.Stands.{Stands as HowFar}
+use Rattle.papaya_works.specs.Given.Named.declared.caller.Stands.TheVariants as far
+use Rattle.papaya_works.specs.Given.Scheduler.declared.played.Played.{Played}
+use Rattle.papaya_works.specs.Given.Scheduler.declared.scheduler.Scheduler.{Scheduler}
+use Rattle.papaya_works.proofs.Given.Rows.Elsewhere.{elsewhere}
+use Rattle.papaya_works.proofs.Given.Scheduler.Here.{Here, here_at}
+use Rattle.papaya_works.proofs.Given.Rows.Lists.{first_position}
 use Rattle.papaya_stepping.proofs.PlaysAgain.{busy_stands}
 use Rattle.papaya_stepping.proofs.PlaysSteps.{few_steps, goes_right, never_busy, stands_elsewhere, stands_then, waits_so}
 use Rattle.papaya_stepping.proofs.RightSteps.{makes_whole, never_quiet, waits_never}
-use Rattle.papaya_scheduler.proofs.Rights.{entry, in_turn, out_of_turn, plays, quiet}
+use Rattle.papaya_works.proofs.Given.Scheduler.Rights.{entry, in_turn, out_of_turn, plays, quiet}
 use Rattle.papaya_stepping.proofs.StepSays.{the}
 
 plain : {V : Type 0} (o : Outcome V) → (o ≡ Refused Busy → ⊥) → is_busy o ≡ false

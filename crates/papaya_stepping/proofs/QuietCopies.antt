@@ -2,52 +2,52 @@
 use Rattle.std.specs.Prelude.{◌%◌, ◌+◌, ◌^◌, bit_or, []}
 use Rattle.std.proofs.Common.{◌≡◌, ℕ, ◌⊎◌, inl, inr, Bool, true, refl, sym, ap, subst, ◌∙◌, arith}
 use Rattle.std.proofs.lemmas.Bool.{eq-eqb}
-use Rattle.papaya_scheduler.specs.Given.SeizeWords.declared.at.At.TheVariants.{Word}
-use Rattle.papaya_scheduler.specs.Given.SeizeWords.Mem.{Mem}
-use Rattle.papaya_scheduler.specs.Given.SeizeWords.Op.{Found}
-use Rattle.papaya_scheduler.specs.Given.SeizeWords.Word.{block_in}
-use Rattle.papaya_scheduler.specs.Given.Seize.declared.rows.settle.Settled.{Settled}
-use Rattle.papaya_scheduler.specs.Given.Seize.declared.rows.settle.Settled.TheVariants as settled
-use Rattle.papaya_scheduler.specs.Given.Tables.declared.marks.TheConstants.{COPYING}
-use Rattle.papaya_scheduler.specs.Given.Tables.declared.node.Node.{Node}
-use Rattle.papaya_scheduler.specs.Given.Tables.declared.table.Table.{Table}
-use Rattle.papaya_scheduler.specs.Given.Tables.declared.table_words.TheConstants.{PLACES}
-use Rattle.papaya_scheduler.specs.Given.Resize.Copier.{copier_plan}
-use Rattle.papaya_scheduler.specs.Given.Resize.Copier as copiers
-use Rattle.papaya_scheduler.specs.Given.Resize.Dispose.{dispose_plan}
-use Rattle.papaya_scheduler.specs.Given.Resize.declared.copier.Copier.{Copier}
-use Rattle.papaya_scheduler.specs.Given.Resize.declared.copier.Copying.{Copying}
-use Rattle.papaya_scheduler.specs.Given.Resize.declared.copier.Copying.TheVariants as copies
-use Rattle.papaya_scheduler.specs.Given.Resize.declared.dispose.Dispose.{Dispose}
-use Rattle.papaya_scheduler.specs.Given.Resize.declared.outcome.Outcome.{Outcome}
-use Rattle.papaya_scheduler.specs.Given.Resize.declared.outcome.Outcome.TheVariants as outcome
-use Rattle.papaya_scheduler.specs.Given.Reserves.Reserve as rooms
-use Rattle.papaya_scheduler.specs.Given.Reserves.declared.reserve.Reserve.{Reserve}
-use Rattle.papaya_scheduler.specs.Given.Reserves.declared.reserve.Reserving.{Reserving}
-use Rattle.papaya_scheduler.specs.Given.Reserves.declared.reserve.Reserving.TheVariants as reserves
-use Rattle.papaya_scheduler.specs.Given.Sweeps.Sweep as plans
-use Rattle.papaya_scheduler.specs.Given.Sweeps.SweepPoints.{entering, further}
-use Rattle.papaya_scheduler.specs.Given.Sweeps.declared.sweep.Sweep.{Sweep}
-use Rattle.papaya_scheduler.specs.Given.Sweeps.declared.sweep.Swept.{Swept}
-use Rattle.papaya_scheduler.specs.Given.Sweeps.declared.sweep.Swept.TheVariants as swept
-use Rattle.papaya_scheduler.specs.Given.Sweeps.declared.sweep.Sweeping.{Sweeping}
-use Rattle.papaya_scheduler.specs.Given.Sweeps.declared.sweep.Sweeping.TheVariants as sweeps
-use Rattle.papaya_scheduler.proofs.Given.Rule.Words.PlaceWordsWritten.{or_copying}
-use Rattle.papaya_scheduler.specs.Given.Rule.Chart.{Chart}
-use Rattle.papaya_scheduler.specs.Given.Late.ToldReserves.{IsRowOfReserve}
-use Rattle.papaya_scheduler.specs.Given.Late.ToldSweeps.{IsRowOfSweep}
-use Rattle.papaya_scheduler.specs.Given.Teller.declared.changed.Changed.{Changed}
-use Rattle.papaya_scheduler.specs.Given.Teller.declared.changed.Changed.TheVariants as changed
-use Rattle.papaya_scheduler.specs.Given.Effects.Effects.{effects_of, in_block, named, names_same}
-use Rattle.papaya_scheduler.specs.Given.Effects.Known.{Known}
-use Rattle.papaya_scheduler.specs.Given.Effects.declared.acting.Acting.{Acting}
-use Rattle.papaya_scheduler.specs.Given.Effects.declared.role.Role.{Role}
-use Rattle.papaya_scheduler.specs.Given.Effects.declared.role.Role.TheVariants as role
-use Rattle.papaya_scheduler.proofs.Given.Others.Outcomes.{told_in}
-use Rattle.papaya_schedules.specs.declared.effect.Table.{Table as Numbered}
-use Rattle.papaya_scheduler.proofs.Given.Owes.Tables.Hosts.{Step}
-use Rattle.papaya_scheduler.proofs.Given.Waits.Copyings.{SweepsOn, telling_goes}
-use Rattle.papaya_scheduler.specs.Given.Waits.Waits.{CopierAwaits}
+use Rattle.papaya_runs.specs.Given.SeizeWords.declared.at.At.TheVariants.{Word}
+use Rattle.papaya_runs.specs.Given.SeizeWords.Mem.{Mem}
+use Rattle.papaya_runs.specs.Given.SeizeWords.Op.{Found}
+use Rattle.papaya_runs.specs.Given.SeizeWords.Word.{block_in}
+use Rattle.papaya_runs.specs.Given.Seize.declared.rows.settle.Settled.{Settled}
+use Rattle.papaya_runs.specs.Given.Seize.declared.rows.settle.Settled.TheVariants as settled
+use Rattle.papaya_runs.specs.Given.Tables.declared.marks.TheConstants.{COPYING}
+use Rattle.papaya_runs.specs.Given.Tables.declared.node.Node.{Node}
+use Rattle.papaya_runs.specs.Given.Tables.declared.table.Table.{Table}
+use Rattle.papaya_runs.specs.Given.Tables.declared.table_words.TheConstants.{PLACES}
+use Rattle.papaya_lowers.specs.Given.Resize.Copier.{copier_plan}
+use Rattle.papaya_lowers.specs.Given.Resize.Copier as copiers
+use Rattle.papaya_lowers.specs.Given.Resize.Dispose.{dispose_plan}
+use Rattle.papaya_lowers.specs.Given.Resize.declared.copier.Copier.{Copier}
+use Rattle.papaya_lowers.specs.Given.Resize.declared.copier.Copying.{Copying}
+use Rattle.papaya_lowers.specs.Given.Resize.declared.copier.Copying.TheVariants as copies
+use Rattle.papaya_lowers.specs.Given.Resize.declared.dispose.Dispose.{Dispose}
+use Rattle.papaya_lowers.specs.Given.Resize.declared.outcome.Outcome.{Outcome}
+use Rattle.papaya_lowers.specs.Given.Resize.declared.outcome.Outcome.TheVariants as outcome
+use Rattle.papaya_lowers.specs.Given.Reserves.Reserve as rooms
+use Rattle.papaya_lowers.specs.Given.Reserves.declared.reserve.Reserve.{Reserve}
+use Rattle.papaya_lowers.specs.Given.Reserves.declared.reserve.Reserving.{Reserving}
+use Rattle.papaya_lowers.specs.Given.Reserves.declared.reserve.Reserving.TheVariants as reserves
+use Rattle.papaya_lowers.specs.Given.Sweeps.Sweep as plans
+use Rattle.papaya_lowers.specs.Given.Sweeps.SweepPoints.{entering, further}
+use Rattle.papaya_lowers.specs.Given.Sweeps.declared.sweep.Sweep.{Sweep}
+use Rattle.papaya_lowers.specs.Given.Sweeps.declared.sweep.Swept.{Swept}
+use Rattle.papaya_lowers.specs.Given.Sweeps.declared.sweep.Swept.TheVariants as swept
+use Rattle.papaya_lowers.specs.Given.Sweeps.declared.sweep.Sweeping.{Sweeping}
+use Rattle.papaya_lowers.specs.Given.Sweeps.declared.sweep.Sweeping.TheVariants as sweeps
+use Rattle.papaya_lowers.proofs.Given.Rule.Words.PlaceWordsWritten.{or_copying}
+use Rattle.papaya_lowers.specs.Given.Rule.Chart.{Chart}
+use Rattle.papaya_lowers.specs.Given.Late.ToldReserves.{IsRowOfReserve}
+use Rattle.papaya_lowers.specs.Given.Late.ToldSweeps.{IsRowOfSweep}
+use Rattle.papaya_works.specs.Given.Teller.declared.changed.Changed.{Changed}
+use Rattle.papaya_works.specs.Given.Teller.declared.changed.Changed.TheVariants as changed
+use Rattle.papaya_works.specs.Given.Effects.Effects.{effects_of, in_block, named, names_same}
+use Rattle.papaya_works.specs.Given.Effects.Known.{Known}
+use Rattle.papaya_works.specs.Given.Effects.declared.acting.Acting.{Acting}
+use Rattle.papaya_works.specs.Given.Effects.declared.role.Role.{Role}
+use Rattle.papaya_works.specs.Given.Effects.declared.role.Role.TheVariants as role
+use Rattle.papaya_works.proofs.Given.Others.Outcomes.{told_in}
+use Rattle.papaya_works.specs.Given.Schedules.declared.effect.Table.{Table as Numbered}
+use Rattle.papaya_works.proofs.Given.Owes.Tables.Hosts.{Step}
+use Rattle.papaya_lowers.proofs.Given.Waits.Copyings.{SweepsOn, telling_goes}
+use Rattle.papaya_lowers.specs.Given.Waits.Waits.{CopierAwaits}
 use Rattle.papaya_stepping.proofs.QuietWaits.{copier_quiet, dispose_quiet}
 
 -- a mark leaves what a word names

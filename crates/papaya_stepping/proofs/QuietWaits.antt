@@ -1,52 +1,52 @@
 -- A step by which a call on one key waits changes nothing: it was a load, at a try, of how a copying stands, or of the batch of its slot.
 use Rattle.std.proofs.Common.{◌≡◌, ℕ, Bool, refl, sym, ap, subst, ◌∙◌}
-use Rattle.papaya_scheduler.specs.Given.SeizeWords.Mem.{Mem}
-use Rattle.papaya_scheduler.specs.Given.Seize.Defer.{defer_plan}
-use Rattle.papaya_scheduler.specs.Given.Seize.Settle.{settle_plan}
-use Rattle.papaya_scheduler.specs.Given.Seize.Settle as settles
-use Rattle.papaya_scheduler.specs.Given.Seize.declared.progress.Progress.{Progress as Counted}
-use Rattle.papaya_scheduler.specs.Given.Seize.declared.progress.Progress.TheVariants as counts
-use Rattle.papaya_scheduler.specs.Given.Seize.declared.rows.defer.Defer.{Defer}
-use Rattle.papaya_scheduler.specs.Given.Seize.declared.rows.settle.Settle.{Settle}
-use Rattle.papaya_scheduler.specs.Given.Seize.declared.rows.settle.Settled.{Settled}
-use Rattle.papaya_scheduler.specs.Given.Seize.declared.rows.settle.Settled.TheVariants as settled
-use Rattle.papaya_scheduler.specs.Given.Seize.declared.rows.settle.Settling.{Settling}
-use Rattle.papaya_scheduler.specs.Given.Seize.declared.rows.settle.Settling.TheVariants as settling
-use Rattle.papaya_scheduler.proofs.Given.SeizeEnds.Batches.Held.{waits_held}
-use Rattle.papaya_scheduler.proofs.Given.SeizeActs.Waits.{deferring_never_waits}
-use Rattle.papaya_scheduler.specs.Given.Tables.Nodes.{deferred_word}
-use Rattle.papaya_scheduler.specs.Given.Tables.declared.node.Node.{Node}
-use Rattle.papaya_scheduler.specs.Given.Tables.declared.table.Table.{Table}
-use Rattle.papaya_scheduler.specs.Given.Resize.Copier.{copier_plan}
-use Rattle.papaya_scheduler.specs.Given.Resize.Copier as copiers
-use Rattle.papaya_scheduler.specs.Given.Resize.CopierPromotes.{retired}
-use Rattle.papaya_scheduler.specs.Given.Resize.Dispose.{dispose_plan}
-use Rattle.papaya_scheduler.specs.Given.Resize.Dispose as disposes
-use Rattle.papaya_scheduler.specs.Given.Resize.declared.copier.Copier.{Copier}
-use Rattle.papaya_scheduler.specs.Given.Resize.declared.copier.Copying.{Copying}
-use Rattle.papaya_scheduler.specs.Given.Resize.declared.copier.Copying.TheVariants as copies
-use Rattle.papaya_scheduler.specs.Given.Resize.declared.dispose.Dispose.{Dispose}
-use Rattle.papaya_scheduler.specs.Given.Resize.declared.dispose.Disposing.{Disposing}
-use Rattle.papaya_scheduler.specs.Given.Resize.declared.dispose.Disposing.TheVariants as disposing
-use Rattle.papaya_scheduler.specs.Given.Resize.declared.outcome.Outcome.{Outcome}
-use Rattle.papaya_scheduler.specs.Given.Resize.declared.outcome.Outcome.TheVariants as outcome
-use Rattle.papaya_raw.specs.Call as calls
-use Rattle.papaya_raw.specs.CallPoints.{ending}
-use Rattle.papaya_raw.specs.declared.machines.answer.Called.{Called}
-use Rattle.papaya_raw.specs.declared.machines.answer.Called.TheVariants as says
-use Rattle.papaya_raw.specs.declared.machines.answer.End.{End}
-use Rattle.papaya_raw.specs.declared.machines.answer.End.TheVariants as ends
-use Rattle.papaya_raw.specs.declared.machines.answer.KeyAnswer.{KeyAnswer}
-use Rattle.papaya_raw.specs.declared.machines.call.Calling.{Calling}
-use Rattle.papaya_raw.specs.declared.machines.call.Calling.TheVariants as at
-use Rattle.papaya_raw.specs.declared.machines.call.KeyCall.{KeyCall}
-use Rattle.papaya_scheduler.specs.Given.Points.Told.{IsRowOf, IsRowOfCall, IsRowOfCopier}
-use Rattle.papaya_scheduler.specs.Given.Teller.declared.changed.Changed.{Changed}
-use Rattle.papaya_scheduler.specs.Given.Teller.declared.changed.Changed.TheVariants as changed
-use Rattle.papaya_scheduler.proofs.Given.Others.Outcomes.{told_in}
-use Rattle.papaya_scheduler.proofs.Given.Waits.CallPlans.{Continues, ending_goes}
-use Rattle.papaya_scheduler.proofs.Given.Owes.Tables.Hosts.{Step}
-use Rattle.papaya_scheduler.proofs.Given.Scenes.Told.{as_step}
+use Rattle.papaya_runs.specs.Given.SeizeWords.Mem.{Mem}
+use Rattle.papaya_runs.specs.Given.Seize.Defer.{defer_plan}
+use Rattle.papaya_runs.specs.Given.Seize.Settle.{settle_plan}
+use Rattle.papaya_runs.specs.Given.Seize.Settle as settles
+use Rattle.papaya_runs.specs.Given.Seize.declared.progress.Progress.{Progress as Counted}
+use Rattle.papaya_runs.specs.Given.Seize.declared.progress.Progress.TheVariants as counts
+use Rattle.papaya_runs.specs.Given.Seize.declared.rows.defer.Defer.{Defer}
+use Rattle.papaya_runs.specs.Given.Seize.declared.rows.settle.Settle.{Settle}
+use Rattle.papaya_runs.specs.Given.Seize.declared.rows.settle.Settled.{Settled}
+use Rattle.papaya_runs.specs.Given.Seize.declared.rows.settle.Settled.TheVariants as settled
+use Rattle.papaya_runs.specs.Given.Seize.declared.rows.settle.Settling.{Settling}
+use Rattle.papaya_runs.specs.Given.Seize.declared.rows.settle.Settling.TheVariants as settling
+use Rattle.papaya_lowers.proofs.Given.SeizeEnds.Batches.Held.{waits_held}
+use Rattle.papaya_lowers.proofs.Given.SeizeActs.Waits.{deferring_never_waits}
+use Rattle.papaya_runs.specs.Given.Tables.Nodes.{deferred_word}
+use Rattle.papaya_runs.specs.Given.Tables.declared.node.Node.{Node}
+use Rattle.papaya_runs.specs.Given.Tables.declared.table.Table.{Table}
+use Rattle.papaya_lowers.specs.Given.Resize.Copier.{copier_plan}
+use Rattle.papaya_lowers.specs.Given.Resize.Copier as copiers
+use Rattle.papaya_lowers.specs.Given.Resize.CopierPromotes.{retired}
+use Rattle.papaya_lowers.specs.Given.Resize.Dispose.{dispose_plan}
+use Rattle.papaya_lowers.specs.Given.Resize.Dispose as disposes
+use Rattle.papaya_lowers.specs.Given.Resize.declared.copier.Copier.{Copier}
+use Rattle.papaya_lowers.specs.Given.Resize.declared.copier.Copying.{Copying}
+use Rattle.papaya_lowers.specs.Given.Resize.declared.copier.Copying.TheVariants as copies
+use Rattle.papaya_lowers.specs.Given.Resize.declared.dispose.Dispose.{Dispose}
+use Rattle.papaya_lowers.specs.Given.Resize.declared.dispose.Disposing.{Disposing}
+use Rattle.papaya_lowers.specs.Given.Resize.declared.dispose.Disposing.TheVariants as disposing
+use Rattle.papaya_lowers.specs.Given.Resize.declared.outcome.Outcome.{Outcome}
+use Rattle.papaya_lowers.specs.Given.Resize.declared.outcome.Outcome.TheVariants as outcome
+use Rattle.papaya_lowers.specs.Given.Raw.Call as calls
+use Rattle.papaya_lowers.specs.Given.Raw.CallPoints.{ending}
+use Rattle.papaya_lowers.specs.Given.Raw.declared.machines.answer.Called.{Called}
+use Rattle.papaya_lowers.specs.Given.Raw.declared.machines.answer.Called.TheVariants as says
+use Rattle.papaya_lowers.specs.Given.Raw.declared.machines.answer.End.{End}
+use Rattle.papaya_lowers.specs.Given.Raw.declared.machines.answer.End.TheVariants as ends
+use Rattle.papaya_lowers.specs.Given.Raw.declared.machines.answer.KeyAnswer.{KeyAnswer}
+use Rattle.papaya_lowers.specs.Given.Raw.declared.machines.call.Calling.{Calling}
+use Rattle.papaya_lowers.specs.Given.Raw.declared.machines.call.Calling.TheVariants as at
+use Rattle.papaya_lowers.specs.Given.Raw.declared.machines.call.KeyCall.{KeyCall}
+use Rattle.papaya_lowers.specs.Given.Points.Told.{IsRowOf, IsRowOfCall, IsRowOfCopier}
+use Rattle.papaya_works.specs.Given.Teller.declared.changed.Changed.{Changed}
+use Rattle.papaya_works.specs.Given.Teller.declared.changed.Changed.TheVariants as changed
+use Rattle.papaya_works.proofs.Given.Others.Outcomes.{told_in}
+use Rattle.papaya_lowers.proofs.Given.Waits.CallPlans.{Continues, ending_goes}
+use Rattle.papaya_works.proofs.Given.Owes.Tables.Hosts.{Step}
+use Rattle.papaya_works.proofs.Given.Scenes.Told.{as_step}
 
 module _ {K V : Type 0} (m m2 : Mem (Node K V)) (told : Changed) where
   -- a row that settles waits where it has read the batch of its slot

@@ -2,26 +2,26 @@
 use Rattle.std.specs.Prelude.{◌≡◌, ◌⊎◌, ◌&&◌, ℕ, Bool, true, false, not, List, Option, Some, None}
 use Rattle.std.specs.List.{list_any}
 use Rattle.std.proofs.Common.{refl, sym, ap, subst, ◌∙◌, arith, inl, inr}
-use Rattle.papaya_scheduler.specs.Given.SeizeWords.declared.fault.Fault.{Fault}
-use Rattle.papaya_scheduler.specs.Given.SeizeWords.declared.fault.Fault.TheVariants.{Busy, Capacity, Memory, RemoveNothing}
+use Rattle.papaya_runs.specs.Given.SeizeWords.declared.fault.Fault.{Fault}
+use Rattle.papaya_runs.specs.Given.SeizeWords.declared.fault.Fault.TheVariants.{Busy, Capacity, Memory, RemoveNothing}
 use Rattle.papaya_runs.specs.Stopped.{most_steps}
-use Rattle.papaya_schedules.specs.declared.call.Call.{Call}
-use Rattle.papaya_schedules.specs.declared.call.Call.TheVariants.{On, Reserve, Clear, Retain, Len, Walk}
-use Rattle.papaya_schedules.specs.declared.effect.Effect.{Effect}
-use Rattle.papaya_schedules.specs.declared.event.Event.TheVariants.{Go, OneCall, Step}
-use Rattle.papaya_schedules.specs.declared.outcome.Outcome.{Outcome}
-use Rattle.papaya_schedules.specs.declared.outcome.Outcome.TheVariants.{Answered, Asks, Goes, Ready, Refused, Waits}
-use Rattle.papaya_schedules.specs.Coming.{MayCome, Progresses, is_compute}
-use Rattle.papaya_schedules.specs.Entry.{IfCall}
-use Rattle.papaya_schedules.specs.Growing.{only_looks}
-use Rattle.papaya_schedules.specs.Moment.{Stands, Going, Asking, Told, IsReady, UnderWay as CallThere, Moment}
-use Rattle.papaya_schedules.specs.Steps.{MakesSteps}
-use Rattle.papaya_schedules.specs.Terms.{Terms}
-use Rattle.papaya_schedules.specs.Waiting.{WaitsRight, may_wait_for}
-use Rattle.papaya_scheduler.specs.Quiet.{IsQuiet}
-use Rattle.papaya_named.specs.Seen.{far_of}
+use Rattle.papaya_works.specs.Given.Schedules.declared.call.Call.{Call}
+use Rattle.papaya_works.specs.Given.Schedules.declared.call.Call.TheVariants.{On, Reserve, Clear, Retain, Len, Walk}
+use Rattle.papaya_works.specs.Given.Schedules.declared.effect.Effect.{Effect}
+use Rattle.papaya_works.specs.Given.Schedules.declared.event.Event.TheVariants.{Go, OneCall, Step}
+use Rattle.papaya_works.specs.Given.Schedules.declared.outcome.Outcome.{Outcome}
+use Rattle.papaya_works.specs.Given.Schedules.declared.outcome.Outcome.TheVariants.{Answered, Asks, Goes, Ready, Refused, Waits}
+use Rattle.papaya_works.specs.Given.Schedules.Coming.{MayCome, Progresses, is_compute}
+use Rattle.papaya_works.specs.Given.Schedules.Entry.{IfCall}
+use Rattle.papaya_works.specs.Given.Schedules.Growing.{only_looks}
+use Rattle.papaya_works.specs.Given.Schedules.Moment.{Stands, Going, Asking, Told, IsReady, UnderWay as CallThere, Moment}
+use Rattle.papaya_works.specs.Given.Schedules.Steps.{MakesSteps}
+use Rattle.papaya_works.specs.Given.Schedules.Terms.{Terms}
+use Rattle.papaya_works.specs.Given.Schedules.Waiting.{WaitsRight, may_wait_for}
+use Rattle.papaya_works.specs.Given.Scheduler.Quiet.{IsQuiet}
+use Rattle.papaya_works.specs.Given.Named.Seen.{far_of}
 use Rattle.papaya_stepping.specs.Stepping.{ComesAs, IsInCase, TakesUpTo}
-use Rattle.papaya_named.specs.declared.caller.Stands.TheVariants as far
+use Rattle.papaya_works.specs.Given.Named.declared.caller.Stands.TheVariants as far
 
 module _ {K V : Type 0} where
   -- a call on one key is refused as out of turn never, and for removing nothing only where it computes

@@ -1,37 +1,37 @@
 -- For what a call on no key is refused: for room alone, at each of its steps, and one that counts never.
 use Rattle.std.specs.Prelude.{ℕ, Bool}
 use Rattle.std.proofs.Common.{sym, subst}
-use Rattle.papaya_scheduler.specs.Given.SeizeWords.Mem.{Mem}
-use Rattle.papaya_scheduler.specs.Given.SeizeWords.Plan.{plan_as}
-use Rattle.papaya_scheduler.specs.Given.Seize.declared.progress.Progress.{Progress as Counted}
-use Rattle.papaya_scheduler.specs.Given.Seize.declared.progress.Progress.TheVariants as counts
-use Rattle.papaya_scheduler.proofs.Given.SeizeRule.Rows.Leaving.{steps_back}
-use Rattle.papaya_scheduler.specs.Given.Tables.declared.node.Node.{Node}
-use Rattle.papaya_scheduler.specs.Given.Resize.Sum.{sum_plan}
-use Rattle.papaya_scheduler.specs.Given.Resize.declared.outcome.Outcome.{Outcome}
-use Rattle.papaya_scheduler.specs.Given.Resize.declared.outcome.Outcome.TheVariants as outcome
-use Rattle.papaya_scheduler.specs.Given.Resize.declared.sum.Sum.{Sum}
-use Rattle.papaya_scheduler.specs.Given.Reserves.Reserve.{reserve_plan}
-use Rattle.papaya_scheduler.specs.Given.Reserves.declared.reserve.Reserve.{Reserve}
-use Rattle.papaya_scheduler.specs.Given.Sweeps.Sweep.{sweep_plan}
-use Rattle.papaya_scheduler.specs.Given.Sweeps.declared.sweep.Sweep.{Sweep}
-use Rattle.papaya_scheduler.specs.Given.Sweeps.declared.sweep.Swept.{Swept}
-use Rattle.papaya_scheduler.specs.Given.Sweeps.declared.sweep.Swept.TheVariants as ends
-use Rattle.papaya_raw.specs.Machine.{counted, reserved, swept}
-use Rattle.papaya_raw.specs.Progress.{of_outcome, of_swept}
-use Rattle.papaya_raw.specs.declared.machines.machine.Machine.{Machine}
-use Rattle.papaya_raw.specs.declared.machines.machine.Machine.TheVariants as kinds
-use Rattle.papaya_raw.specs.declared.machines.progress.Progress.{Progress}
-use Rattle.papaya_raw.specs.declared.machines.progress.Progress.TheVariants as progress
-use Rattle.papaya_scheduler.specs.Given.Late.Faults.{IsRoom, RefusesRoom, RoomInReserving, RoomInSweeping, SweepRefusesRoom}
-use Rattle.papaya_scheduler.proofs.Given.Late.KindsKept.Laws.{reserves_refuse_room, sweeps_refuse_room}
-use Rattle.papaya_scheduler.proofs.Given.Late.KindsKept.Rooms.Making.{CountsOn, sum_counts}
-use Rattle.papaya_scheduler.specs.Given.Teller.declared.changed.Changed.TheVariants.{Nothing}
-use Rattle.papaya_scheduler.proofs.Given.Histories.Asking.{always_told, always_turned}
-use Rattle.papaya_named.specs.Machines.{RefusedForRoom}
-use Rattle.papaya_scheduler.proofs.Given.Scenes.Told.{as_step}
-use Rattle.papaya_scheduler.specs.Given.Scenes.Held.{Held}
-use Rattle.papaya_scheduler.specs.Given.Scenes.Stepping.{StepsFrom}
+use Rattle.papaya_runs.specs.Given.SeizeWords.Mem.{Mem}
+use Rattle.papaya_runs.specs.Given.SeizeWords.Plan.{plan_as}
+use Rattle.papaya_runs.specs.Given.Seize.declared.progress.Progress.{Progress as Counted}
+use Rattle.papaya_runs.specs.Given.Seize.declared.progress.Progress.TheVariants as counts
+use Rattle.papaya_lowers.proofs.Given.SeizeRule.Rows.Leaving.{steps_back}
+use Rattle.papaya_runs.specs.Given.Tables.declared.node.Node.{Node}
+use Rattle.papaya_lowers.specs.Given.Resize.Sum.{sum_plan}
+use Rattle.papaya_lowers.specs.Given.Resize.declared.outcome.Outcome.{Outcome}
+use Rattle.papaya_lowers.specs.Given.Resize.declared.outcome.Outcome.TheVariants as outcome
+use Rattle.papaya_lowers.specs.Given.Resize.declared.sum.Sum.{Sum}
+use Rattle.papaya_lowers.specs.Given.Reserves.Reserve.{reserve_plan}
+use Rattle.papaya_lowers.specs.Given.Reserves.declared.reserve.Reserve.{Reserve}
+use Rattle.papaya_lowers.specs.Given.Sweeps.Sweep.{sweep_plan}
+use Rattle.papaya_lowers.specs.Given.Sweeps.declared.sweep.Sweep.{Sweep}
+use Rattle.papaya_lowers.specs.Given.Sweeps.declared.sweep.Swept.{Swept}
+use Rattle.papaya_lowers.specs.Given.Sweeps.declared.sweep.Swept.TheVariants as ends
+use Rattle.papaya_lowers.specs.Given.Raw.Machine.{counted, reserved, swept}
+use Rattle.papaya_lowers.specs.Given.Raw.Progress.{of_outcome, of_swept}
+use Rattle.papaya_lowers.specs.Given.Raw.declared.machines.machine.Machine.{Machine}
+use Rattle.papaya_lowers.specs.Given.Raw.declared.machines.machine.Machine.TheVariants as kinds
+use Rattle.papaya_lowers.specs.Given.Raw.declared.machines.progress.Progress.{Progress}
+use Rattle.papaya_lowers.specs.Given.Raw.declared.machines.progress.Progress.TheVariants as progress
+use Rattle.papaya_lowers.specs.Given.Late.Faults.{IsRoom, RefusesRoom, RoomInReserving, RoomInSweeping, SweepRefusesRoom}
+use Rattle.papaya_lowers.proofs.Given.Late.KindsKept.Laws.{reserves_refuse_room, sweeps_refuse_room}
+use Rattle.papaya_lowers.proofs.Given.Late.KindsKept.Rooms.Making.{CountsOn, sum_counts}
+use Rattle.papaya_works.specs.Given.Teller.declared.changed.Changed.TheVariants.{Nothing}
+use Rattle.papaya_works.proofs.Given.Histories.Asking.{always_told, always_turned}
+use Rattle.papaya_works.specs.Given.Named.Machines.{RefusedForRoom}
+use Rattle.papaya_works.proofs.Given.Scenes.Told.{as_step}
+use Rattle.papaya_works.specs.Given.Scenes.Held.{Held}
+use Rattle.papaya_works.specs.Given.Scenes.Stepping.{StepsFrom}
 
 module _ {K V : Type 0} where
   -- what it says is no refusal, or one for room

@@ -1,73 +1,73 @@
 -- What a step of a call says, by what was called: what the call comes to, how far it is then, and that it stands where it asks that.
 use Rattle.std.specs.Prelude.{◌≡◌, ℕ, Bool, true, List, Option, Some, None, option_map}
 use Rattle.std.proofs.Common.{refl, sym, ap, subst, ◌∙◌, inl, inr}
-use Rattle.papaya_scheduler.specs.Given.SeizeWords.declared.fault.Fault.{Fault}
-use Rattle.papaya_scheduler.specs.Given.Seize.declared.progress.Progress.{Progress as Counted}
-use Rattle.papaya_scheduler.specs.Given.Seize.declared.progress.Progress.TheVariants as counted
-use Rattle.papaya_scheduler.specs.Given.Tables.declared.node.Node.{Node}
-use Rattle.papaya_scheduler.specs.Given.Resize.declared.outcome.Outcome.{Outcome as Room}
-use Rattle.papaya_scheduler.specs.Given.Resize.declared.outcome.Outcome.TheVariants as room
-use Rattle.papaya_scheduler.specs.Given.Resize.declared.sum.Sum.{Sum}
-use Rattle.papaya_scheduler.specs.Given.Reserves.declared.reserve.Reserve.{Reserve}
-use Rattle.papaya_scheduler.specs.Given.Sweeps.declared.sweep.Purpose.TheVariants.{Walks}
-use Rattle.papaya_scheduler.specs.Given.Sweeps.declared.sweep.Sweep.{Sweep}
-use Rattle.papaya_scheduler.specs.Given.Sweeps.declared.sweep.Sweeping.{Sweeping}
-use Rattle.papaya_raw.specs.Progress.{of_called, of_counting, of_outcome}
-use Rattle.papaya_raw.specs.declared.machines.answer.Called.{Called}
-use Rattle.papaya_raw.specs.declared.machines.answer.Called.TheVariants as called
-use Rattle.papaya_raw.specs.declared.machines.call.KeyCall.{KeyCall}
-use Rattle.papaya_raw.specs.declared.machines.machine.Machine.{Machine}
-use Rattle.papaya_raw.specs.declared.machines.machine.Machine.TheVariants as kinds
-use Rattle.papaya_raw.specs.declared.machines.progress.Progress.{Progress}
-use Rattle.papaya_raw.specs.declared.machines.progress.Progress.TheVariants as progress
-use Rattle.papaya_schedules.specs.declared.call.Call.{Call}
-use Rattle.papaya_schedules.specs.declared.call.Call.TheVariants.{On, Reserve as Reserves, Len, Walk}
-use Rattle.papaya_schedules.specs.declared.call.OneKey.{OneKey}
-use Rattle.papaya_schedules.specs.declared.outcome.Outcome.{Outcome}
-use Rattle.papaya_schedules.specs.declared.outcome.Outcome.TheVariants.{Asks}
-use Rattle.papaya_schedules.specs.declared.effect.Effect.{Effect}
-use Rattle.papaya_schedules.specs.Coming.{asks_of_key}
-use Rattle.papaya_schedules.specs.Effects.{with_effects}
-use Rattle.papaya_schedules.specs.Moment.{UnderWay as CallThere, Moment}
-use Rattle.papaya_schedules.specs.Views.{call_of}
-use Rattle.papaya_scheduler.specs.Given.Late.Faults.{RoomInReserving}
-use Rattle.papaya_scheduler.specs.Given.Late.Kinds.{FaultFits, FitsAsking, FitsAt}
-use Rattle.papaya_scheduler.specs.Given.Points.Told.{IsRowOfCall}
-use Rattle.papaya_scheduler.specs.Given.Callers.Pairs.{Given, kind_of as kind_given}
-use Rattle.papaya_scheduler.specs.Given.Callers.Rooms.{CallForRoom}
-use Rattle.papaya_scheduler.specs.Given.Callers.Sights.{seen_by}
-use Rattle.papaya_scheduler.specs.Given.Callers.Together.{CallOnKey, UnderWay, OnKey, ForRoom, Counting, Stands as TogetherStands, Together}
-use Rattle.papaya_scheduler.proofs.Given.Callers.Together.At.{at_same}
-use Rattle.papaya_scheduler.specs.Given.Finishes.Machines.{GoesOnAs, machine_of}
-use Rattle.papaya_scheduler.specs.Given.Finishes.Maps.{Standing}
-use Rattle.papaya_scheduler.specs.Given.Effects.Effects.{effects_of, known_after}
-use Rattle.papaya_scheduler.specs.Given.Effects.Known.{Known}
-use Rattle.papaya_scheduler.specs.Given.Effects.declared.acting.Acting.TheVariants as acts
-use Rattle.papaya_scheduler.specs.Given.Effects.declared.role.Role.TheVariants as role
-use Rattle.papaya_scheduler.specs.Given.Follows.Calls.{IsCalled}
-use Rattle.papaya_scheduler.specs.Given.Hands.Asked.{AsksThere, IsAskedAs, IsAskedOn}
-use Rattle.papaya_scheduler.specs.Given.Hands.Calling.{AsksJust}
-use Rattle.papaya_scheduler.proofs.Given.Hands.Replacing.{IsOn, calls_after}
-use Rattle.papaya_scheduler.specs.Given.Moments.Whole.{ShowsWhole}
-use Rattle.papaya_scheduler.proofs.Given.Moments.Calls.{calls_keep_whole}
-use Rattle.papaya_scheduler.specs.Given.Histories.Asking.{IsToldQuestion}
-use Rattle.papaya_scheduler.proofs.Given.Histories.AnyCall.HasWords.{questions_have_words}
-use Rattle.papaya_scheduler.proofs.Given.Histories.Asking.{asking_steps_stand_there}
-use Rattle.papaya_scheduler.proofs.Given.Histories.Refusals.{refused}
-use Rattle.papaya_named.specs.Machines.{IsAsFar, RefusedForRoom}
-use Rattle.papaya_named.specs.Seen.{kind_of}
+use Rattle.papaya_runs.specs.Given.SeizeWords.declared.fault.Fault.{Fault}
+use Rattle.papaya_runs.specs.Given.Seize.declared.progress.Progress.{Progress as Counted}
+use Rattle.papaya_runs.specs.Given.Seize.declared.progress.Progress.TheVariants as counted
+use Rattle.papaya_runs.specs.Given.Tables.declared.node.Node.{Node}
+use Rattle.papaya_lowers.specs.Given.Resize.declared.outcome.Outcome.{Outcome as Room}
+use Rattle.papaya_lowers.specs.Given.Resize.declared.outcome.Outcome.TheVariants as room
+use Rattle.papaya_lowers.specs.Given.Resize.declared.sum.Sum.{Sum}
+use Rattle.papaya_lowers.specs.Given.Reserves.declared.reserve.Reserve.{Reserve}
+use Rattle.papaya_lowers.specs.Given.Sweeps.declared.sweep.Purpose.TheVariants.{Walks}
+use Rattle.papaya_lowers.specs.Given.Sweeps.declared.sweep.Sweep.{Sweep}
+use Rattle.papaya_lowers.specs.Given.Sweeps.declared.sweep.Sweeping.{Sweeping}
+use Rattle.papaya_lowers.specs.Given.Raw.Progress.{of_called, of_counting, of_outcome}
+use Rattle.papaya_lowers.specs.Given.Raw.declared.machines.answer.Called.{Called}
+use Rattle.papaya_lowers.specs.Given.Raw.declared.machines.answer.Called.TheVariants as called
+use Rattle.papaya_lowers.specs.Given.Raw.declared.machines.call.KeyCall.{KeyCall}
+use Rattle.papaya_lowers.specs.Given.Raw.declared.machines.machine.Machine.{Machine}
+use Rattle.papaya_lowers.specs.Given.Raw.declared.machines.machine.Machine.TheVariants as kinds
+use Rattle.papaya_lowers.specs.Given.Raw.declared.machines.progress.Progress.{Progress}
+use Rattle.papaya_lowers.specs.Given.Raw.declared.machines.progress.Progress.TheVariants as progress
+use Rattle.papaya_works.specs.Given.Schedules.declared.call.Call.{Call}
+use Rattle.papaya_works.specs.Given.Schedules.declared.call.Call.TheVariants.{On, Reserve as Reserves, Len, Walk}
+use Rattle.papaya_works.specs.Given.Schedules.declared.call.OneKey.{OneKey}
+use Rattle.papaya_works.specs.Given.Schedules.declared.outcome.Outcome.{Outcome}
+use Rattle.papaya_works.specs.Given.Schedules.declared.outcome.Outcome.TheVariants.{Asks}
+use Rattle.papaya_works.specs.Given.Schedules.declared.effect.Effect.{Effect}
+use Rattle.papaya_works.specs.Given.Schedules.Coming.{asks_of_key}
+use Rattle.papaya_works.specs.Given.Schedules.Effects.{with_effects}
+use Rattle.papaya_works.specs.Given.Schedules.Moment.{UnderWay as CallThere, Moment}
+use Rattle.papaya_works.specs.Given.Schedules.Views.{call_of}
+use Rattle.papaya_lowers.specs.Given.Late.Faults.{RoomInReserving}
+use Rattle.papaya_lowers.specs.Given.Late.Kinds.{FaultFits, FitsAsking, FitsAt}
+use Rattle.papaya_lowers.specs.Given.Points.Told.{IsRowOfCall}
+use Rattle.papaya_lowers.specs.Given.Callers.Pairs.{Given, kind_of as kind_given}
+use Rattle.papaya_lowers.specs.Given.Callers.Rooms.{CallForRoom}
+use Rattle.papaya_lowers.specs.Given.Callers.Sights.{seen_by}
+use Rattle.papaya_lowers.specs.Given.Callers.Together.{CallOnKey, UnderWay, OnKey, ForRoom, Counting, Stands as TogetherStands, Together}
+use Rattle.papaya_lowers.proofs.Given.Callers.Together.At.{at_same}
+use Rattle.papaya_lowers.specs.Given.Finishes.Machines.{GoesOnAs, machine_of}
+use Rattle.papaya_lowers.specs.Given.Finishes.Maps.{Standing}
+use Rattle.papaya_works.specs.Given.Effects.Effects.{effects_of, known_after}
+use Rattle.papaya_works.specs.Given.Effects.Known.{Known}
+use Rattle.papaya_works.specs.Given.Effects.declared.acting.Acting.TheVariants as acts
+use Rattle.papaya_works.specs.Given.Effects.declared.role.Role.TheVariants as role
+use Rattle.papaya_works.specs.Given.Follows.Calls.{IsCalled}
+use Rattle.papaya_works.specs.Given.Hands.Asked.{AsksThere, IsAskedAs, IsAskedOn}
+use Rattle.papaya_works.specs.Given.Hands.Calling.{AsksJust}
+use Rattle.papaya_works.proofs.Given.Hands.Replacing.{IsOn, calls_after}
+use Rattle.papaya_works.specs.Given.Moments.Whole.{ShowsWhole}
+use Rattle.papaya_works.proofs.Given.Moments.Calls.{calls_keep_whole}
+use Rattle.papaya_works.specs.Given.Histories.Asking.{IsToldQuestion}
+use Rattle.papaya_works.proofs.Given.Histories.AnyCall.HasWords.{questions_have_words}
+use Rattle.papaya_works.proofs.Given.Histories.Asking.{asking_steps_stand_there}
+use Rattle.papaya_works.proofs.Given.Histories.Refusals.{refused}
+use Rattle.papaya_works.specs.Given.Named.Machines.{IsAsFar, RefusedForRoom}
+use Rattle.papaya_works.specs.Given.Named.Seen.{kind_of}
 use Rattle.papaya_stepping.specs.Stepping.{ComesAs, IsFaultOn, far_then, outcome_of}
-use Rattle.papaya_named.specs.Telling.{number_by, number_in}
-use Rattle.papaya_named.specs.declared.kind.Kind.{Kind}
-use Rattle.papaya_named.specs.declared.kind.Kind.TheVariants as kind
+use Rattle.papaya_works.specs.Given.Named.Telling.{number_by, number_in}
+use Rattle.papaya_works.specs.Given.Named.declared.kind.Kind.{Kind}
+use Rattle.papaya_works.specs.Given.Named.declared.kind.Kind.TheVariants as kind
 use Rattle.papaya_stepping.proofs.RoomSays.{NeverRefused, SaysRoom, reserve_room, sum_room}
 use Rattle.papaya_stepping.proofs.KeySays.{key_asks, key_refused}
-use Rattle.papaya_scheduler.proofs.Replied.{of_kind}
+use Rattle.papaya_works.proofs.Given.Scheduler.Replied.{of_kind}
 use Rattle.papaya_stepping.proofs.SweepSays.{WalkSays}
-use Rattle.papaya_scheduler.proofs.Given.Scenes.May.{standing_is}
-use Rattle.papaya_scheduler.specs.Given.Scenes.Held.{Held, IsAt}
-use Rattle.papaya_scheduler.specs.Given.Scenes.Scene.{Scene, slot_of}
-use Rattle.papaya_scheduler.specs.Given.Scenes.Stepping.{StepLeads, scene_after}
+use Rattle.papaya_works.proofs.Given.Scenes.May.{standing_is}
+use Rattle.papaya_works.specs.Given.Scenes.Held.{Held, IsAt}
+use Rattle.papaya_works.specs.Given.Scenes.Scene.{Scene, slot_of}
+use Rattle.papaya_works.specs.Given.Scenes.Stepping.{StepLeads, scene_after}
 
 pub the : {X : Type 0} (a b : X) → ◌≡◌ {A = Option X} (Some a) (Some b) → a ≡ b
 the a b e = cc e

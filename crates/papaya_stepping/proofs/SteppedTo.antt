@@ -3,36 +3,36 @@ use Rattle.std.specs.Prelude.{◌≡◌, ◌≢◌, ◌⊎◌, ◌≤◌, ◌==�
 use Rattle.std.specs.List.{AllByRecursion, list_any, remove}
 use Rattle.std.proofs.Common.{refl, sym, ap, subst, ◌∙◌, inl, inr, arith, eqb-true}
 use Rattle.std.proofs.lemmas.Bool.{cases_eq, ne_eqb}
-use Rattle.papaya_scheduler.specs.Given.Seize.World.{Use}
-use Rattle.papaya_scheduler.specs.Given.Tables.declared.node.Node.{Node}
-use Rattle.papaya_raw.specs.declared.machines.machine.Machine.{Machine}
-use Rattle.papaya_raw.specs.declared.machines.progress.Progress.{Progress}
+use Rattle.papaya_runs.specs.Given.Seize.World.{Use}
+use Rattle.papaya_runs.specs.Given.Tables.declared.node.Node.{Node}
+use Rattle.papaya_lowers.specs.Given.Raw.declared.machines.machine.Machine.{Machine}
+use Rattle.papaya_lowers.specs.Given.Raw.declared.machines.progress.Progress.{Progress}
 use Rattle.papaya_runs.specs.Same.{is_same}
-use Rattle.papaya_schedules.specs.Moment.{Moment}
-use Rattle.papaya_schedules.specs.Terms.{Terms}
-use Rattle.papaya_scheduler.specs.Given.Callers.Rows.{IsUsedAlike}
-use Rattle.papaya_scheduler.specs.Given.Callers.Together.{UnderWay}
-use Rattle.papaya_scheduler.proofs.Given.Callers.Together.At.{at_other, at_same}
-use Rattle.papaya_scheduler.specs.Given.Finishes.Machines.{MachineStepsAmong, machine_of}
-use Rattle.papaya_scheduler.specs.Given.Finishes.Maps.{IsSameMap, Standing}
-use Rattle.papaya_scheduler.specs.Given.Scenes.declared.row.SlotUse.{SlotUse}
-use Rattle.papaya_scheduler.specs.Given.Scenes.declared.row.SlotUse.TheVariants as used
-use Rattle.papaya_scheduler.specs.Given.Follows.Calling.{NoneNamed}
-use Rattle.papaya_scheduler.proofs.Given.Follows.Calling.{apart_back, is_same_refl}
-use Rattle.papaya_scheduler.specs.Given.Logged.Shown.{IsShown}
-use Rattle.papaya_scheduler.specs.Given.Logged.declared.logged.Logged.{Logged}
-use Rattle.papaya_scheduler.specs.Played.{CallsAs, IsUnderWayAs, StandsAs}
-use Rattle.papaya_named.specs.Seen.{is_named, named, seen, seen_of}
-use Rattle.papaya_named.specs.declared.caller.Caller.{Caller}
-use Rattle.papaya_named.specs.declared.caller.Stands.{Stands as HowFar}
-use Rattle.papaya_named.specs.declared.named_map.NamedMap.{NamedMap}
-use Rattle.papaya_scheduler.specs.declared.scheduler.Scheduler.{Scheduler}
-use Rattle.papaya_scheduler.proofs.Given.Rows.Facts.{no_ending_of, no_making_of, no_work_at, row_rests, used_once}
-use Rattle.papaya_scheduler.proofs.Here.{HereAs}
-use Rattle.papaya_scheduler.proofs.Given.Rows.Lists.{all_so, one_of, removed_all, removed_any, removed_count, set_all, set_any, set_count}
-use Rattle.papaya_scheduler.specs.Given.Executor.IsThere.{IsUsedAs, held_by, use_at, work_of}
-use Rattle.papaya_scheduler.specs.Given.Scenes.Scene.{Scene, slot_of}
-use Rattle.papaya_scheduler.specs.Given.Scenes.Stepping.{StepLeads, scene_after}
+use Rattle.papaya_works.specs.Given.Schedules.Moment.{Moment}
+use Rattle.papaya_works.specs.Given.Schedules.Terms.{Terms}
+use Rattle.papaya_lowers.specs.Given.Callers.Rows.{IsUsedAlike}
+use Rattle.papaya_lowers.specs.Given.Callers.Together.{UnderWay}
+use Rattle.papaya_lowers.proofs.Given.Callers.Together.At.{at_other, at_same}
+use Rattle.papaya_lowers.specs.Given.Finishes.Machines.{MachineStepsAmong, machine_of}
+use Rattle.papaya_lowers.specs.Given.Finishes.Maps.{IsSameMap, Standing}
+use Rattle.papaya_works.specs.Given.Scenes.declared.row.SlotUse.{SlotUse}
+use Rattle.papaya_works.specs.Given.Scenes.declared.row.SlotUse.TheVariants as used
+use Rattle.papaya_works.specs.Given.Follows.Calling.{NoneNamed}
+use Rattle.papaya_works.proofs.Given.Follows.Calling.{apart_back, is_same_refl}
+use Rattle.papaya_works.specs.Given.Logged.Shown.{IsShown}
+use Rattle.papaya_works.specs.Given.Logged.declared.logged.Logged.{Logged}
+use Rattle.papaya_works.specs.Given.Scheduler.Played.{CallsAs, IsUnderWayAs, StandsAs}
+use Rattle.papaya_works.specs.Given.Named.Seen.{is_named, named, seen, seen_of}
+use Rattle.papaya_works.specs.Given.Named.declared.caller.Caller.{Caller}
+use Rattle.papaya_works.specs.Given.Named.declared.caller.Stands.{Stands as HowFar}
+use Rattle.papaya_works.specs.Given.Named.declared.named_map.NamedMap.{NamedMap}
+use Rattle.papaya_works.specs.Given.Scheduler.declared.scheduler.Scheduler.{Scheduler}
+use Rattle.papaya_works.proofs.Given.Rows.Facts.{no_ending_of, no_making_of, no_work_at, row_rests, used_once}
+use Rattle.papaya_works.proofs.Given.Scheduler.Here.{HereAs}
+use Rattle.papaya_works.proofs.Given.Rows.Lists.{all_so, one_of, removed_all, removed_any, removed_count, set_all, set_any, set_count}
+use Rattle.papaya_works.specs.Given.Executor.IsThere.{IsUsedAs, held_by, use_at, work_of}
+use Rattle.papaya_works.specs.Given.Scenes.Scene.{Scene, slot_of}
+use Rattle.papaya_works.specs.Given.Scenes.Stepping.{StepLeads, scene_after}
 
 -- a slot that is used alike is used in that way
 used_alike : (v : SlotUse) (u u2 : Use) → IsUsedAs v u → IsUsedAlike u u2 → IsUsedAs v u2

@@ -2,59 +2,59 @@
 use Rattle.std.specs.Prelude.{Option, Some}
 use Rattle.std.specs.List.{list_any}
 use Rattle.std.proofs.Common.{◌≡◌, ℕ, suc, ◌<◌, ◌⊎◌, inl, inr, Bool, true, false, refl, ap, sym, subst, ◌∙◌}
-use Rattle.papaya_scheduler.specs.Given.Waits.Others.{copier_in}
-use Rattle.papaya_scheduler.specs.Given.SeizeWords.Mem.{Mem, Took, value_at}
-use Rattle.papaya_scheduler.specs.Given.SeizeWords.Plan.{Steps}
-use Rattle.papaya_scheduler.specs.Given.Seize.World.{World, Row}
-use Rattle.papaya_scheduler.specs.Given.SeizeEnds.Holders.{has_batch}
-use Rattle.papaya_scheduler.specs.Given.Tables.Chunks.{is_incremental}
-use Rattle.papaya_scheduler.specs.Given.Tables.declared.node.Node.{Node}
-use Rattle.papaya_scheduler.specs.Given.Tables.declared.setting.Setting.{Setting}
-use Rattle.papaya_scheduler.specs.Given.Resize.declared.copier.Copier.{Copier}
-use Rattle.papaya_scheduler.specs.Given.Resize.declared.copier.Copying.{Copying}
-use Rattle.papaya_scheduler.specs.Given.Resize.declared.copier.Copying.TheVariants as copies
-use Rattle.papaya_raw.specs.Call.{call_plan}
-use Rattle.papaya_raw.specs.Call as calls
-use Rattle.papaya_raw.specs.declared.machines.answer.Called.TheVariants as says
-use Rattle.papaya_raw.specs.declared.machines.call.Calling.{Calling}
-use Rattle.papaya_raw.specs.declared.machines.call.Calling.TheVariants as at
-use Rattle.papaya_raw.specs.declared.machines.call.KeyCall.{KeyCall}
-use Rattle.papaya_scheduler.specs.Given.Rule.Chart.{Claimed}
-use Rattle.papaya_scheduler.specs.Given.Rule.Words.{Blocks}
-use Rattle.papaya_scheduler.specs.Given.Points.FactsCalls.{CallFacts, CallingFacts, IsCopying, Unchanged}
-use Rattle.papaya_scheduler.specs.Given.Points.Steps.{AreLawful}
-use Rattle.papaya_scheduler.specs.Given.Points.Told.{IsRowOfCall}
-use Rattle.papaya_scheduler.specs.Given.Late.LateCalls.{LateCallFacts, LateCalling}
-use Rattle.papaya_scheduler.specs.Given.Callers.Rows.{IsRowOn, row_of}
-use Rattle.papaya_scheduler.specs.Given.Callers.Sights.{seen_by}
-use Rattle.papaya_scheduler.specs.Given.Callers.Together.{CallOnKey, UnderWay, OnKey, Together, in_slot}
-use Rattle.papaya_scheduler.proofs.Given.Whole.Rows.Kinds.{row_decided}
-use Rattle.papaya_scheduler.specs.Given.Waits.Waits.{AnotherHolds, CallAwaits, CopierAwaits, IsBeingCopied}
-use Rattle.papaya_scheduler.proofs.Given.Waits.Claimed.{pairs_are_copied_by_calls}
+use Rattle.papaya_lowers.specs.Given.Waits.Others.{copier_in}
+use Rattle.papaya_runs.specs.Given.SeizeWords.Mem.{Mem, Took, value_at}
+use Rattle.papaya_runs.specs.Given.SeizeWords.Plan.{Steps}
+use Rattle.papaya_runs.specs.Given.Seize.World.{World, Row}
+use Rattle.papaya_lowers.specs.Given.SeizeEnds.Holders.{has_batch}
+use Rattle.papaya_runs.specs.Given.Tables.Chunks.{is_incremental}
+use Rattle.papaya_runs.specs.Given.Tables.declared.node.Node.{Node}
+use Rattle.papaya_runs.specs.Given.Tables.declared.setting.Setting.{Setting}
+use Rattle.papaya_lowers.specs.Given.Resize.declared.copier.Copier.{Copier}
+use Rattle.papaya_lowers.specs.Given.Resize.declared.copier.Copying.{Copying}
+use Rattle.papaya_lowers.specs.Given.Resize.declared.copier.Copying.TheVariants as copies
+use Rattle.papaya_lowers.specs.Given.Raw.Call.{call_plan}
+use Rattle.papaya_lowers.specs.Given.Raw.Call as calls
+use Rattle.papaya_lowers.specs.Given.Raw.declared.machines.answer.Called.TheVariants as says
+use Rattle.papaya_lowers.specs.Given.Raw.declared.machines.call.Calling.{Calling}
+use Rattle.papaya_lowers.specs.Given.Raw.declared.machines.call.Calling.TheVariants as at
+use Rattle.papaya_lowers.specs.Given.Raw.declared.machines.call.KeyCall.{KeyCall}
+use Rattle.papaya_lowers.specs.Given.Rule.Chart.{Claimed}
+use Rattle.papaya_lowers.specs.Given.Rule.Words.{Blocks}
+use Rattle.papaya_lowers.specs.Given.Points.FactsCalls.{CallFacts, CallingFacts, IsCopying, Unchanged}
+use Rattle.papaya_lowers.specs.Given.Points.Steps.{AreLawful}
+use Rattle.papaya_lowers.specs.Given.Points.Told.{IsRowOfCall}
+use Rattle.papaya_lowers.specs.Given.Late.LateCalls.{LateCallFacts, LateCalling}
+use Rattle.papaya_lowers.specs.Given.Callers.Rows.{IsRowOn, row_of}
+use Rattle.papaya_lowers.specs.Given.Callers.Sights.{seen_by}
+use Rattle.papaya_lowers.specs.Given.Callers.Together.{CallOnKey, UnderWay, OnKey, Together, in_slot}
+use Rattle.papaya_lowers.proofs.Given.Whole.Rows.Kinds.{row_decided}
+use Rattle.papaya_lowers.specs.Given.Waits.Waits.{AnotherHolds, CallAwaits, CopierAwaits, IsBeingCopied}
+use Rattle.papaya_lowers.proofs.Given.Waits.Claimed.{pairs_are_copied_by_calls}
 use Rattle.papaya_lowers.proofs.ItsPair.{waits_for_its_pair}
-use Rattle.papaya_scheduler.proofs.Given.Waits.Laws.{calls_wait_for_a_copying, call_rows_wait_for_a_holder}
-use Rattle.papaya_scheduler.proofs.Given.Waits.Promised.{map_of}
-use Rattle.papaya_scheduler.proofs.Given.Waits.Works.{not_idle, works}
-use Rattle.papaya_schedules.specs.declared.call.OneKey.{OneKey}
-use Rattle.papaya_schedules.specs.Moment.{UnderWay as CallThere, Moment}
-use Rattle.papaya_schedules.specs.Sequential.{key_of}
-use Rattle.papaya_schedules.specs.Terms.{Terms}
-use Rattle.papaya_schedules.specs.Views.{call_of, finite_map, grows_in_chunks, map_at}
-use Rattle.papaya_schedules.specs.Waiting.{is_to_be_copied, may_wait_for, waits_on_map}
-use Rattle.papaya_scheduler.specs.Given.Teller.declared.changed.Changed.{Changed}
-use Rattle.papaya_scheduler.specs.Given.Teller.declared.changed.Changed.TheVariants as changed
-use Rattle.papaya_scheduler.specs.Given.Finishes.Maps.{Standing}
-use Rattle.papaya_scheduler.specs.Given.Follows.Calls.{IsCalled}
-use Rattle.papaya_scheduler.proofs.Given.Owes.Tables.Hosts.{Step}
-use Rattle.papaya_scheduler.specs.Played.{StandsFor}
-use Rattle.papaya_scheduler.specs.declared.scheduler.Scheduler.{Scheduler}
+use Rattle.papaya_lowers.proofs.Given.Waits.Laws.{calls_wait_for_a_copying, call_rows_wait_for_a_holder}
+use Rattle.papaya_lowers.proofs.Given.Waits.Promised.{map_of}
+use Rattle.papaya_lowers.proofs.Given.Waits.Works.{not_idle, works}
+use Rattle.papaya_works.specs.Given.Schedules.declared.call.OneKey.{OneKey}
+use Rattle.papaya_works.specs.Given.Schedules.Moment.{UnderWay as CallThere, Moment}
+use Rattle.papaya_works.specs.Given.Schedules.Sequential.{key_of}
+use Rattle.papaya_works.specs.Given.Schedules.Terms.{Terms}
+use Rattle.papaya_works.specs.Given.Schedules.Views.{call_of, finite_map, grows_in_chunks, map_at}
+use Rattle.papaya_works.specs.Given.Schedules.Waiting.{is_to_be_copied, may_wait_for, waits_on_map}
+use Rattle.papaya_works.specs.Given.Teller.declared.changed.Changed.{Changed}
+use Rattle.papaya_works.specs.Given.Teller.declared.changed.Changed.TheVariants as changed
+use Rattle.papaya_lowers.specs.Given.Finishes.Maps.{Standing}
+use Rattle.papaya_works.specs.Given.Follows.Calls.{IsCalled}
+use Rattle.papaya_works.proofs.Given.Owes.Tables.Hosts.{Step}
+use Rattle.papaya_works.specs.Given.Scheduler.Played.{StandsFor}
+use Rattle.papaya_works.specs.Given.Scheduler.declared.scheduler.Scheduler.{Scheduler}
 use Rattle.papaya_stepping.proofs.CopiesWait.{only_looks_by}
 use Rattle.papaya_stepping.proofs.BeingCopied.{may_be_copied}
 use Rattle.papaya_stepping.proofs.QuietWaits.{asked_quiet, row_quiet, try_quiet}
 use Rattle.papaya_stepping.proofs.Waiting.{at_once_for_resizes, for_pair, grows_as, waits_for_holder, waits_for_worker}
 use Rattle.papaya_stepping.proofs.RoomsWait.{at_once_on, copier_on, copier_waits, dispose_on, late_on, on_slot}
-use Rattle.papaya_scheduler.proofs.Given.Scenes.Told.{as_step}
-use Rattle.papaya_scheduler.specs.Given.Scenes.Scene.{slot_of}
+use Rattle.papaya_works.proofs.Given.Scenes.Told.{as_step}
+use Rattle.papaya_works.specs.Given.Scenes.Scene.{slot_of}
 
 module _ {K V S : Type 0} (same : K → K → Bool) (hash : K → ℕ) (terms : Terms) (m : Moment K V) (p : Scheduler K V S) (stands : StandsFor same hash terms m p) (of i : ℕ) (u : CallOnKey K V K)
     (under : stands.scene.calls of i ≡ Some (OnKey u)) (st : Standing K) (is : stands.scene.maps of ≡ Some st) where

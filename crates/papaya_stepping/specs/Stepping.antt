@@ -1,59 +1,59 @@
 -- What a call comes to by its steps, how far it is then, and what is promised of that.
 use Rattle.std.specs.Prelude.{◌≡◌, ◌≤◌, ◌+◌, ◌⊎◌, ◌&&◌, ℕ, zero, suc, Bool, true, false, is_none, is_some, List, [], ◌∷◌, ◌++◌, position, slice_get, slice_set, sum_by, Option, Some, None, option_map, if◌then◌else◌}
 use Rattle.std.specs.List.{list_any, remove}
-use Rattle.papaya_scheduler.specs.Given.SeizeWords.declared.fault.Fault.{Fault}
-use Rattle.papaya_scheduler.specs.Given.SeizeWords.declared.fault.Fault.TheVariants.{Busy, Capacity, Memory, RemoveNothing}
-use Rattle.papaya_scheduler.specs.Given.Tables.declared.node.Node.{Node}
-use Rattle.papaya_scheduler.specs.Given.Sweeps.declared.sweep.Purpose.TheVariants.{Walks}
-use Rattle.papaya_scheduler.specs.Given.Sweeps.declared.sweep.Sweeping.TheVariants as at
-use Rattle.papaya_raw.specs.declared.machines.machine.Machine.{Machine}
-use Rattle.papaya_raw.specs.declared.machines.machine.Machine.TheVariants as kinds
-use Rattle.papaya_raw.specs.declared.machines.progress.Progress.{Progress}
-use Rattle.papaya_raw.specs.declared.machines.progress.Progress.TheVariants as progress
+use Rattle.papaya_runs.specs.Given.SeizeWords.declared.fault.Fault.{Fault}
+use Rattle.papaya_runs.specs.Given.SeizeWords.declared.fault.Fault.TheVariants.{Busy, Capacity, Memory, RemoveNothing}
+use Rattle.papaya_runs.specs.Given.Tables.declared.node.Node.{Node}
+use Rattle.papaya_lowers.specs.Given.Sweeps.declared.sweep.Purpose.TheVariants.{Walks}
+use Rattle.papaya_lowers.specs.Given.Sweeps.declared.sweep.Sweeping.TheVariants as at
+use Rattle.papaya_lowers.specs.Given.Raw.declared.machines.machine.Machine.{Machine}
+use Rattle.papaya_lowers.specs.Given.Raw.declared.machines.machine.Machine.TheVariants as kinds
+use Rattle.papaya_lowers.specs.Given.Raw.declared.machines.progress.Progress.{Progress}
+use Rattle.papaya_lowers.specs.Given.Raw.declared.machines.progress.Progress.TheVariants as progress
 use Rattle.papaya_runs.specs.Stopped.{most_steps}
-use Rattle.papaya_schedules.specs.declared.call.Call.{Call}
-use Rattle.papaya_schedules.specs.declared.call.Call.TheVariants.{Len, On}
-use Rattle.papaya_schedules.specs.declared.call.OneKey.{OneKey}
-use Rattle.papaya_schedules.specs.declared.effect.Effect.{Effect}
-use Rattle.papaya_schedules.specs.declared.event.Event.{Event}
-use Rattle.papaya_schedules.specs.declared.event.Event.TheVariants.{Next}
-use Rattle.papaya_schedules.specs.declared.outcome.Outcome.{Outcome}
-use Rattle.papaya_schedules.specs.declared.outcome.Outcome.TheVariants.{Goes, Asks, Waits, Ready, Shows, Answered, Refused}
-use Rattle.papaya_schedules.specs.After.{moment, moments_from}
-use Rattle.papaya_schedules.specs.Beginning.{at_work}
-use Rattle.papaya_schedules.specs.Coming.{CountsTooMany, is_answer, is_at_limit, is_compute, is_walk, may_ask}
-use Rattle.papaya_schedules.specs.Effects.{with_effects, worked}
-use Rattle.papaya_schedules.specs.Entry.{Entry, IfCall, acting, caller_of, nameless}
-use Rattle.papaya_schedules.specs.InUse.{is_living}
-use Rattle.papaya_schedules.specs.Growing.{only_looks}
-use Rattle.papaya_schedules.specs.Lists.{OneOf}
-use Rattle.papaya_schedules.specs.Moment.{UnderWay as CallThere, Moment}
-use Rattle.papaya_schedules.specs.Sequential.{is_lookup}
-use Rattle.papaya_schedules.specs.Steps.{DoesFew, MakesSteps, stands_or, weight}
-use Rattle.papaya_schedules.specs.Terms.{Terms}
-use Rattle.papaya_schedules.specs.Views.{call_of, map_of}
-use Rattle.papaya_schedules.specs.Waiting.{WaitsLawfully, may_wait_for}
-use Rattle.papaya_scheduler.specs.Given.Late.Faults.{IsRoom}
-use Rattle.papaya_scheduler.specs.Given.Effects.Known.{Known, known}
-use Rattle.papaya_scheduler.specs.Given.Follows.Calling.{come_to}
-use Rattle.papaya_scheduler.specs.Given.Logged.Calling.{CallGoesOn, CallSteps, WalkGoesOn}
-use Rattle.papaya_scheduler.specs.Given.Logged.Shown.{IsShown}
-use Rattle.papaya_scheduler.specs.Given.Logged.declared.logged.Logged.{Logged}
-use Rattle.papaya_scheduler.specs.Played.{AsFar, BeginsSo, IsDue, IsPlayed, Plays, StandsAs, StandsFor, entry_of}
-use Rattle.papaya_scheduler.specs.Quiet.{IsQuiet}
-use Rattle.papaya_named.specs.Seen.{is_named, ready_place}
-use Rattle.papaya_named.specs.Telling.{answer_of, goes_on, number_by, kept}
-use Rattle.papaya_named.specs.declared.caller.Caller.{Caller}
-use Rattle.papaya_named.specs.declared.caller.Stands.{Stands as HowFar}
-use Rattle.papaya_named.specs.declared.caller.Stands.TheVariants as far
-use Rattle.papaya_named.specs.declared.kind.Kind.{Kind}
-use Rattle.papaya_named.specs.declared.kind.Kind.TheVariants as kind
-use Rattle.papaya_scheduler.specs.declared.played.Played.{Played}
-use Rattle.papaya_scheduler.specs.declared.scheduler.Scheduler.{Scheduler}
-use Rattle.papaya_scheduler.specs.Given.Executor.IsThere.{IsThere, KeepsGiven}
-use Rattle.papaya_scheduler.specs.Given.Executor.Replying.{AsksThere}
-use Rattle.papaya_scheduler.specs.Given.Scenes.Scene.{HasCall, Scene}
-use Rattle.papaya_scheduler.specs.Given.Scenes.Stepping.{has_ended}
+use Rattle.papaya_works.specs.Given.Schedules.declared.call.Call.{Call}
+use Rattle.papaya_works.specs.Given.Schedules.declared.call.Call.TheVariants.{Len, On}
+use Rattle.papaya_works.specs.Given.Schedules.declared.call.OneKey.{OneKey}
+use Rattle.papaya_works.specs.Given.Schedules.declared.effect.Effect.{Effect}
+use Rattle.papaya_works.specs.Given.Schedules.declared.event.Event.{Event}
+use Rattle.papaya_works.specs.Given.Schedules.declared.event.Event.TheVariants.{Next}
+use Rattle.papaya_works.specs.Given.Schedules.declared.outcome.Outcome.{Outcome}
+use Rattle.papaya_works.specs.Given.Schedules.declared.outcome.Outcome.TheVariants.{Goes, Asks, Waits, Ready, Shows, Answered, Refused}
+use Rattle.papaya_works.specs.Given.Schedules.After.{moment, moments_from}
+use Rattle.papaya_works.specs.Given.Schedules.Beginning.{at_work}
+use Rattle.papaya_works.specs.Given.Schedules.Coming.{CountsTooMany, is_answer, is_at_limit, is_compute, is_walk, may_ask}
+use Rattle.papaya_works.specs.Given.Schedules.Effects.{with_effects, worked}
+use Rattle.papaya_works.specs.Given.Schedules.Entry.{Entry, IfCall, acting, caller_of, nameless}
+use Rattle.papaya_works.specs.Given.Schedules.InUse.{is_living}
+use Rattle.papaya_works.specs.Given.Schedules.Growing.{only_looks}
+use Rattle.papaya_works.specs.Given.Schedules.Lists.{OneOf}
+use Rattle.papaya_works.specs.Given.Schedules.Moment.{UnderWay as CallThere, Moment}
+use Rattle.papaya_works.specs.Given.Schedules.Sequential.{is_lookup}
+use Rattle.papaya_works.specs.Given.Schedules.Steps.{DoesFew, MakesSteps, stands_or, weight}
+use Rattle.papaya_works.specs.Given.Schedules.Terms.{Terms}
+use Rattle.papaya_works.specs.Given.Schedules.Views.{call_of, map_of}
+use Rattle.papaya_works.specs.Given.Schedules.Waiting.{WaitsLawfully, may_wait_for}
+use Rattle.papaya_lowers.specs.Given.Late.Faults.{IsRoom}
+use Rattle.papaya_works.specs.Given.Effects.Known.{Known, known}
+use Rattle.papaya_works.specs.Given.Follows.Calling.{come_to}
+use Rattle.papaya_works.specs.Given.Logged.Calling.{CallGoesOn, CallSteps, WalkGoesOn}
+use Rattle.papaya_works.specs.Given.Logged.Shown.{IsShown}
+use Rattle.papaya_works.specs.Given.Logged.declared.logged.Logged.{Logged}
+use Rattle.papaya_works.specs.Given.Scheduler.Played.{AsFar, BeginsSo, IsDue, IsPlayed, Plays, StandsAs, StandsFor, entry_of}
+use Rattle.papaya_works.specs.Given.Scheduler.Quiet.{IsQuiet}
+use Rattle.papaya_works.specs.Given.Named.Seen.{is_named, ready_place}
+use Rattle.papaya_works.specs.Given.Named.Telling.{answer_of, goes_on, number_by, kept}
+use Rattle.papaya_works.specs.Given.Named.declared.caller.Caller.{Caller}
+use Rattle.papaya_works.specs.Given.Named.declared.caller.Stands.{Stands as HowFar}
+use Rattle.papaya_works.specs.Given.Named.declared.caller.Stands.TheVariants as far
+use Rattle.papaya_works.specs.Given.Named.declared.kind.Kind.{Kind}
+use Rattle.papaya_works.specs.Given.Named.declared.kind.Kind.TheVariants as kind
+use Rattle.papaya_works.specs.Given.Scheduler.declared.played.Played.{Played}
+use Rattle.papaya_works.specs.Given.Scheduler.declared.scheduler.Scheduler.{Scheduler}
+use Rattle.papaya_works.specs.Given.Executor.IsThere.{IsThere, KeepsGiven}
+use Rattle.papaya_works.specs.Given.Executor.Replying.{AsksThere}
+use Rattle.papaya_works.specs.Given.Scenes.Scene.{HasCall, Scene}
+use Rattle.papaya_works.specs.Given.Scenes.Stepping.{has_ended}
 
 module _ {K V : Type 0} (by : Known) where
   -- what a step says, in the words of an outcome, of a call of this kind that keeps this value

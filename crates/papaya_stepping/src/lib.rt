@@ -3,3 +3,5 @@
 
 pub mod stepping;
 pub mod walking;
+
+pub use papaya_works::{papaya_logged, papaya_mapping, papaya_scheduler};

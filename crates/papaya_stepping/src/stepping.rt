@@ -1,26 +1,26 @@
 //! Calls take steps, one or many.
 ghost use Rattle.std.specs.Prelude.{◌≡◌, ◌≤◌, ℕ, [], IfOk};
-ghost use Rattle.papaya_schedules.specs.declared.event.Event.TheVariants as event;
-ghost use Rattle.papaya_scheduler.specs.Given.Effects.Known.{known};
-ghost use Rattle.papaya_scheduler.specs.Given.Logged.Calling.{MakesNoMore};
-ghost use Rattle.papaya_scheduler.specs.Played.{MayPlay};
+ghost use Rattle.papaya_works.specs.Given.Schedules.declared.event.Event.TheVariants as event;
+ghost use Rattle.papaya_works.specs.Given.Effects.Known.{known};
+ghost use Rattle.papaya_works.specs.Given.Logged.Calling.{MakesNoMore};
+ghost use Rattle.papaya_works.specs.Given.Scheduler.Played.{MayPlay};
 ghost use Rattle.papaya_runs.specs.Stopped.{most_steps};
 ghost use Rattle.papaya_stepping.specs.Stepping.{HasCaller, IsCaller, IsPlaced, IsStepped, MayGo, MayStep, MayTake, PlaysOnAt, StepsCome, TakenAs, TookSteps, TookWhole, callers_then, outcome_of};
-ghost use Rattle.papaya_named.specs.Telling.{goes_on};
-ghost use Rattle.papaya_named.specs.declared.caller.Caller.{Caller};
-ghost use Rattle.papaya_scheduler.specs.Given.Executor.IsThere.{KeepsGiven};
+ghost use Rattle.papaya_works.specs.Given.Named.Telling.{goes_on};
+ghost use Rattle.papaya_works.specs.Given.Named.declared.caller.Caller.{Caller};
+ghost use Rattle.papaya_works.specs.Given.Executor.IsThere.{KeepsGiven};
 
-use papaya_named::caller::Stands;
-use papaya_named::callers::Callers;
-use papaya_named::telling::{answer_of, number_by};
-use papaya_raw::machines::Progress;
-use papaya_raw::{Hashes, Node};
+use papaya_lowers::papaya_raw::machines::Progress;
+use papaya_lowers::papaya_raw::{Hashes, Node};
 use papaya_runs::token::Token;
-use papaya_scheduler::played::Played;
-use papaya_scheduler::scheduler::Scheduler;
-use papaya_schedules::call::Call;
-use papaya_schedules::effect::Effect;
-use papaya_schedules::outcome::Outcome;
+use papaya_works::papaya_named::caller::Stands;
+use papaya_works::papaya_named::callers::Callers;
+use papaya_works::papaya_named::telling::{answer_of, number_by};
+use papaya_works::papaya_scheduler::played::Played;
+use papaya_works::papaya_scheduler::scheduler::Scheduler;
+use papaya_works::papaya_schedules::call::Call;
+use papaya_works::papaya_schedules::effect::Effect;
+use papaya_works::papaya_schedules::outcome::Outcome;
 use std::alloc::AllocError;
 use std::hash::Hash;
 

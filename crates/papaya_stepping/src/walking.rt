@@ -1,17 +1,17 @@
 //! Walks show their pairs, one by one.
 ghost use Rattle.std.specs.Prelude.{◌≡◌, ◌↔◌, ℕ, true, IfOk};
-ghost use Rattle.papaya_schedules.specs.declared.event.Event.TheVariants as event;
-ghost use Rattle.papaya_scheduler.specs.Played.{MayPlay};
+ghost use Rattle.papaya_works.specs.Given.Schedules.declared.event.Event.TheVariants as event;
+ghost use Rattle.papaya_works.specs.Given.Scheduler.Played.{MayPlay};
 ghost use Rattle.papaya_stepping.specs.Stepping.{IsPlaced, MayWalk, PlaysNextAt, TookNext, WalkComes};
-ghost use Rattle.papaya_scheduler.specs.Given.Executor.IsThere.{KeepsGiven};
+ghost use Rattle.papaya_works.specs.Given.Executor.IsThere.{KeepsGiven};
 
 use crate::stepping::{come_to, way_of};
-use papaya_raw::machines::Progress;
-use papaya_raw::{Hashes, Node};
+use papaya_lowers::papaya_raw::machines::Progress;
+use papaya_lowers::papaya_raw::{Hashes, Node};
 use papaya_runs::token::Token;
-use papaya_scheduler::played::Played;
-use papaya_scheduler::scheduler::Scheduler;
-use papaya_schedules::effect::Effect;
+use papaya_works::papaya_scheduler::played::Played;
+use papaya_works::papaya_scheduler::scheduler::Scheduler;
+use papaya_works::papaya_schedules::effect::Effect;
 use std::alloc::AllocError;
 use std::hash::Hash;
 

@@ -5,3 +5,4 @@ pub mod Inside
 pub mod Looks
 pub mod Removals
 pub mod Stores
+pub mod Given

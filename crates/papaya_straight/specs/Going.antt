@@ -1,18 +1,18 @@
 -- Which outcomes of each machine go on, and so what may be run of it, and where that leads.
 use Rattle.std.specs.Prelude.{ℕ, Bool, Option}
-use Rattle.seize_words.specs.Op.{Op, Out}
-use Rattle.seize.specs.declared.progress.Progress.{Progress}
-use Rattle.seize.specs.declared.progress.Progress.TheVariants as progress
-use Rattle.seize.specs.declared.rows.settle.Settled.{Settled}
+use Rattle.papaya_tables.specs.Given.SeizeWords.Op.{Op, Out}
+use Rattle.papaya_tables.specs.Given.Seize.declared.progress.Progress.{Progress}
+use Rattle.papaya_tables.specs.Given.Seize.declared.progress.Progress.TheVariants as progress
+use Rattle.papaya_tables.specs.Given.Seize.declared.rows.settle.Settled.{Settled}
 use Rattle.papaya_tables.specs.declared.node.Node.{Node}
-use Rattle.papaya_resize.specs.Copier.{copier_plan}
-use Rattle.papaya_resize.specs.declared.copier.Copier.{Copier}
-use Rattle.papaya_resize.specs.Dispose.{dispose_plan}
-use Rattle.papaya_resize.specs.declared.dispose.Dispose.{Dispose}
-use Rattle.papaya_resize.specs.declared.outcome.Outcome.{Outcome}
-use Rattle.papaya_resize.specs.declared.outcome.Outcome.TheVariants as outcome
-use Rattle.papaya_resize.specs.Lookup.{lookup_plan}
-use Rattle.papaya_resize.specs.declared.lookup.Lookup.{Lookup}
+use Rattle.papaya_raw.specs.Given.Resize.Copier.{copier_plan}
+use Rattle.papaya_raw.specs.Given.Resize.declared.copier.Copier.{Copier}
+use Rattle.papaya_raw.specs.Given.Resize.Dispose.{dispose_plan}
+use Rattle.papaya_raw.specs.Given.Resize.declared.dispose.Dispose.{Dispose}
+use Rattle.papaya_raw.specs.Given.Resize.declared.outcome.Outcome.{Outcome}
+use Rattle.papaya_raw.specs.Given.Resize.declared.outcome.Outcome.TheVariants as outcome
+use Rattle.papaya_raw.specs.Given.Resize.Lookup.{lookup_plan}
+use Rattle.papaya_raw.specs.Given.Resize.declared.lookup.Lookup.{Lookup}
 use Rattle.papaya_raw.specs.Call.{call_plan}
 use Rattle.papaya_raw.specs.declared.machines.answer.Called.{Called}
 use Rattle.papaya_raw.specs.declared.machines.answer.Called.TheVariants as called

@@ -4,3 +4,4 @@ pub mod Going
 pub mod Looking
 pub mod Removing
 pub mod Storing
+pub mod Given

@@ -1,2 +1,3 @@
 pub mod Sweep
 pub mod SweepPoints
+pub mod Given

@@ -3,4 +3,6 @@
 
 mod sweep;
 
+pub use papaya_reserves;
+pub use papaya_reserves::papaya_resize;
 pub use sweep::{Purpose, Sweep, Sweeping, Swept};

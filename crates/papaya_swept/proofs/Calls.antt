@@ -2,72 +2,72 @@
 use Rattle.std.specs.Prelude.{◌≡◌, ℕ, nat_lt, Bool, true, false, Option, Some, None, Ok, if◌then◌else◌}
 use Rattle.std.proofs.Common.{refl, ap, sym, subst, ◌∙◌, arith, inl, inr}
 use Rattle.seize_acts.proofs.Answers.{same_some}
-use Rattle.papaya_moments.specs.Given.Sweeps.SweepPoints.{after_next, next_at}
-use Rattle.papaya_moments.specs.Given.Sweeps.declared.sweep.Purpose.TheVariants as purpose
-use Rattle.papaya_moments.specs.Given.Sweeps.declared.sweep.Sweep.{Sweep}
-use Rattle.papaya_moments.specs.Given.Sweeps.declared.sweep.Sweeping.{Sweeping}
-use Rattle.papaya_moments.specs.Given.Sweeps.declared.sweep.Sweeping.TheVariants as sweeping
-use Rattle.papaya_moments.specs.Given.Tables.declared.node.Node.{Node}
-use Rattle.papaya_moments.specs.Given.Raw.Machine.{machine_replied}
-use Rattle.papaya_moments.specs.Given.Raw.declared.machines.progress.Progress.{Progress}
-use Rattle.papaya_moments.specs.Given.Raw.declared.machines.progress.Progress.TheVariants as progress
-use Rattle.papaya_moments.specs.Given.Callers.OverAll.{CallOverAll, gone_on}
-use Rattle.papaya_moments.specs.Given.Callers.Together.{OverAll, UnderWay}
-use Rattle.papaya_moments.specs.Given.Finishes.Machines.{ToldOfKind, machine_of}
-use Rattle.papaya_moments.specs.Given.Finishes.Maps.{Standing, with_call as with_call_of}
-use Rattle.papaya_moments.specs.Given.Schedules.declared.call.Call.{Call}
-use Rattle.papaya_moments.specs.Given.Schedules.declared.call.Reply.{Reply}
-use Rattle.papaya_moments.specs.Given.Schedules.declared.outcome.Outcome.{Outcome}
-use Rattle.papaya_moments.specs.Given.Schedules.declared.outcome.Outcome.TheVariants as outcome
-use Rattle.papaya_moments.specs.Given.Schedules.Beginning.{with_call}
-use Rattle.papaya_moments.specs.Given.Schedules.Effects.{with_effects}
-use Rattle.papaya_moments.specs.Given.Schedules.Entry.{ends_call}
-use Rattle.papaya_moments.specs.Given.Schedules.Moment.{Asking, Moment, UnderWay as CallThere}
-use Rattle.papaya_moments.specs.Given.Schedules.Transition.{Past}
-use Rattle.papaya_moments.specs.Given.Schedules.Views.{call_of}
-use Rattle.papaya_moments.specs.Given.Effects.Effects.{effects_of, known_after}
-use Rattle.papaya_moments.specs.Given.Effects.Known.{Known}
-use Rattle.papaya_moments.specs.Given.Effects.declared.acting.Acting.TheVariants as acts
-use Rattle.papaya_moments.specs.Given.Scenes.Beginning.{Begins as BeginsSo}
-use Rattle.papaya_moments.specs.Given.Scenes.Held.{Held, IsAt}
-use Rattle.papaya_moments.specs.Given.Scenes.Replying.{AskLeads, StopLeads, scene_with, unless_stopped}
-use Rattle.papaya_moments.specs.Given.Scenes.Scene.{Scene, slot_of}
-use Rattle.papaya_moments.specs.Given.Scenes.Stepping.{StepLeads, scene_after}
-use Rattle.papaya_moments.specs.Given.Follows.Calling.{NoneNamed, come_to, told}
-use Rattle.papaya_moments.specs.Given.Follows.Calls.{IsCalled}
-use Rattle.papaya_moments.specs.Given.Hands.Asked.{as_told}
-use Rattle.papaya_moments.specs.Given.Others.Walks.{given_up}
-use Rattle.papaya_moments.proofs.Given.Hands.Asking.{which}
-use Rattle.papaya_moments.proofs.Calls.{calls_keep_whole}
-use Rattle.papaya_histories.specs.Answers.{NamesPair}
-use Rattle.papaya_histories.specs.AsCalled.{IsAsCalled, IsSweptAs}
-use Rattle.papaya_histories.specs.Asking.{IsToldQuestion}
-use Rattle.papaya_histories.proofs.Calling.{first_steps_change_first}
-use Rattle.papaya_logged.proofs.Given.Kept.Between.{uncounted_at_first}
-use Rattle.papaya_settles.specs.Counts.{is_to_count}
-use Rattle.papaya_settles.proofs.Between.{told_same}
-use Rattle.papaya_shards.specs.Adds.{adds_in_sweeping, adds_of}
-use Rattle.papaya_shards.specs.ShardWords.{ShowsCounters}
-use Rattle.papaya_shards.proofs.Adds.{machine_adds, machine_not_adds}
-use Rattle.papaya_shards.proofs.ShardBetween.{calls_begin_counters, calls_come_to_counters, calls_take_counters, counters_stay, fewer_add}
-use Rattle.papaya_shards.proofs.ShardCalls.{calls_keep_counters}
-use Rattle.papaya_purposes.specs.Kept.{AsksAboutIt, PairsChangeFirst, ShowsNone, TellsNone}
-use Rattle.papaya_purposes.specs.Purposes.{IsFor, ShowsPurposes}
-use Rattle.papaya_purposes.specs.Shards.{ReadsShards}
-use Rattle.papaya_purposes.proofs.Between.{calls_begin_purposes, calls_come_to_purposes, first_steps_change_pairs_first}
-use Rattle.papaya_purposes.proofs.Elsewhere.{purposes_stay}
-use Rattle.papaya_purposes.proofs.Kept.{calls_keep_purposes}
-use Rattle.papaya_purposes.proofs.ShardsRead.{steps_read_shards}
-use Rattle.papaya_purposes.proofs.Told.{calls_take_purposes}
-use Rattle.papaya_purposes.proofs.Walks.{walks_show_purposes}
-use Rattle.papaya_named.specs.Telling.{number_by, number_in}
-use Rattle.papaya_acts.specs.Acts.{Wanted, begun}
-use Rattle.papaya_acts.specs.Acts.{Get, Remove, Insert, TryToInsert, Compute, Update, UpdateOrInsert, TryToInsertWith, RemoveIf, GetKeyValue, ContainsKey, GetOrInsert, GetOrInsertWith, RemoveEntry, MakeRoom, Count, GoOver}
-use Rattle.papaya_named.specs.Seen.{kind_of}
+use Rattle.papaya_deeds.specs.Given.Sweeps.SweepPoints.{after_next, next_at}
+use Rattle.papaya_deeds.specs.Given.Sweeps.declared.sweep.Purpose.TheVariants as purpose
+use Rattle.papaya_deeds.specs.Given.Sweeps.declared.sweep.Sweep.{Sweep}
+use Rattle.papaya_deeds.specs.Given.Sweeps.declared.sweep.Sweeping.{Sweeping}
+use Rattle.papaya_deeds.specs.Given.Sweeps.declared.sweep.Sweeping.TheVariants as sweeping
+use Rattle.papaya_deeds.specs.Given.Tables.declared.node.Node.{Node}
+use Rattle.papaya_deeds.specs.Given.Raw.Machine.{machine_replied}
+use Rattle.papaya_deeds.specs.Given.Raw.declared.machines.progress.Progress.{Progress}
+use Rattle.papaya_deeds.specs.Given.Raw.declared.machines.progress.Progress.TheVariants as progress
+use Rattle.papaya_endings.specs.Given.Callers.OverAll.{CallOverAll, gone_on}
+use Rattle.papaya_endings.specs.Given.Callers.Together.{OverAll, UnderWay}
+use Rattle.papaya_endings.specs.Given.Finishes.Machines.{ToldOfKind, machine_of}
+use Rattle.papaya_endings.specs.Given.Finishes.Maps.{Standing, with_call as with_call_of}
+use Rattle.papaya_deeds.specs.Given.Schedules.declared.call.Call.{Call}
+use Rattle.papaya_deeds.specs.Given.Schedules.declared.call.Reply.{Reply}
+use Rattle.papaya_deeds.specs.Given.Schedules.declared.outcome.Outcome.{Outcome}
+use Rattle.papaya_deeds.specs.Given.Schedules.declared.outcome.Outcome.TheVariants as outcome
+use Rattle.papaya_deeds.specs.Given.Schedules.Beginning.{with_call}
+use Rattle.papaya_deeds.specs.Given.Schedules.Effects.{with_effects}
+use Rattle.papaya_deeds.specs.Given.Schedules.Entry.{ends_call}
+use Rattle.papaya_deeds.specs.Given.Schedules.Moment.{Asking, Moment, UnderWay as CallThere}
+use Rattle.papaya_deeds.specs.Given.Schedules.Transition.{Past}
+use Rattle.papaya_deeds.specs.Given.Schedules.Views.{call_of}
+use Rattle.papaya_endings.specs.Given.Effects.Effects.{effects_of, known_after}
+use Rattle.papaya_endings.specs.Given.Effects.Known.{Known}
+use Rattle.papaya_endings.specs.Given.Effects.declared.acting.Acting.TheVariants as acts
+use Rattle.papaya_endings.specs.Given.Scenes.Beginning.{Begins as BeginsSo}
+use Rattle.papaya_endings.specs.Given.Scenes.Held.{Held, IsAt}
+use Rattle.papaya_endings.specs.Given.Scenes.Replying.{AskLeads, StopLeads, scene_with, unless_stopped}
+use Rattle.papaya_endings.specs.Given.Scenes.Scene.{Scene, slot_of}
+use Rattle.papaya_endings.specs.Given.Scenes.Stepping.{StepLeads, scene_after}
+use Rattle.papaya_endings.specs.Given.Follows.Calling.{NoneNamed, come_to, told}
+use Rattle.papaya_endings.specs.Given.Follows.Calls.{IsCalled}
+use Rattle.papaya_endings.specs.Given.Hands.Asked.{as_told}
+use Rattle.papaya_endings.specs.Given.Others.Walks.{given_up}
+use Rattle.papaya_endings.proofs.Given.Hands.Asking.{which}
+use Rattle.papaya_endings.proofs.Given.Moments.Calls.{calls_keep_whole}
+use Rattle.papaya_endings.specs.Given.Histories.Answers.{NamesPair}
+use Rattle.papaya_endings.specs.Given.Histories.AsCalled.{IsAsCalled, IsSweptAs}
+use Rattle.papaya_endings.specs.Given.Histories.Asking.{IsToldQuestion}
+use Rattle.papaya_endings.proofs.Given.Histories.Calling.{first_steps_change_first}
+use Rattle.papaya_endings.proofs.Given.Kept.Between.{uncounted_at_first}
+use Rattle.papaya_endings.specs.Given.Settles.Counts.{is_to_count}
+use Rattle.papaya_endings.proofs.Given.Settles.Between.{told_same}
+use Rattle.papaya_endings.specs.Given.Shards.Adds.{adds_in_sweeping, adds_of}
+use Rattle.papaya_endings.specs.Given.Shards.ShardWords.{ShowsCounters}
+use Rattle.papaya_endings.proofs.Given.Shards.Adds.{machine_adds, machine_not_adds}
+use Rattle.papaya_endings.proofs.Given.Shards.ShardBetween.{calls_begin_counters, calls_come_to_counters, calls_take_counters, counters_stay, fewer_add}
+use Rattle.papaya_endings.proofs.Given.Shards.ShardCalls.{calls_keep_counters}
+use Rattle.papaya_endings.specs.Given.Purposes.Kept.{AsksAboutIt, PairsChangeFirst, ShowsNone, TellsNone}
+use Rattle.papaya_endings.specs.Given.Purposes.Purposes.{IsFor, ShowsPurposes}
+use Rattle.papaya_endings.specs.Given.Purposes.Shards.{ReadsShards}
+use Rattle.papaya_endings.proofs.Given.Purposes.Between.{calls_begin_purposes, calls_come_to_purposes, first_steps_change_pairs_first}
+use Rattle.papaya_endings.proofs.Given.Purposes.Elsewhere.{purposes_stay}
+use Rattle.papaya_endings.proofs.Given.Purposes.Kept.{calls_keep_purposes}
+use Rattle.papaya_endings.proofs.Given.Purposes.ShardsRead.{steps_read_shards}
+use Rattle.papaya_endings.proofs.Given.Purposes.Told.{calls_take_purposes}
+use Rattle.papaya_endings.proofs.Given.Purposes.Walks.{walks_show_purposes}
+use Rattle.papaya_endings.specs.Given.Named.Telling.{number_by, number_in}
+use Rattle.papaya_endings.specs.Given.Acts.Acts.{Wanted, begun}
+use Rattle.papaya_endings.specs.Given.Acts.Acts.{Get, Remove, Insert, TryToInsert, Compute, Update, UpdateOrInsert, TryToInsertWith, RemoveIf, GetKeyValue, ContainsKey, GetOrInsert, GetOrInsertWith, RemoveEntry, MakeRoom, Count, GoOver}
+use Rattle.papaya_endings.specs.Given.Named.Seen.{kind_of}
 use Rattle.papaya_deeds.specs.Deeds.{named}
-use Rattle.papaya_played.specs.Play.{call_for, outcome_of}
-use Rattle.papaya_linear.specs.Shown.{ShowsAnswers}
-use Rattle.papaya_linear.proofs.Begun.{begun_rightly}
+use Rattle.papaya_endings.specs.Given.Played.Play.{call_for, outcome_of}
+use Rattle.papaya_endings.specs.Given.Linear.Shown.{ShowsAnswers}
+use Rattle.papaya_endings.proofs.Given.Linear.Begun.{begun_rightly}
 use Rattle.papaya_swept.specs.Shown.{ShowsSweeps}
 use Rattle.papaya_swept.proofs.Tabled.{calls_keep_tabled, tabled_stays}
 

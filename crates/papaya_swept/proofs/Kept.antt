@@ -1,63 +1,63 @@
 -- What is so of a history, of what is known, and of the scene to which acts have led, and stays so by each kind of step, beside what else is so of them: its entry, if there is one, is on the history then.
 use Rattle.std.specs.Prelude.{◌≡◌, ℕ, Bool, true, false, List, [], ◌∷◌, Option, Some, None, Ok}
-use Rattle.papaya_moments.specs.Given.Seize.World.{Begin, Rests, Step}
-use Rattle.papaya_moments.specs.Given.Seize.declared.progress.Progress.{Progress as Making}
-use Rattle.papaya_moments.specs.Given.Seize.declared.progress.Progress.TheVariants as progress
-use Rattle.papaya_moments.specs.Given.Seize.declared.rows.reclaim_all.ReclaimAll.{ReclaimAll}
-use Rattle.papaya_moments.specs.Given.Seize.declared.rows.settle.Settled.{Settled}
-use Rattle.papaya_moments.specs.Given.Sweeps.SweepPoints.{after_next}
-use Rattle.papaya_moments.specs.Given.Tables.declared.node.Node.{Node}
-use Rattle.papaya_moments.specs.Given.Tables.declared.setting.Setting.{Setting}
-use Rattle.papaya_moments.specs.Given.Resize.declared.new_map.NewMap.{NewMap}
-use Rattle.papaya_moments.specs.Given.Raw.Machine.{machine_replied}
-use Rattle.papaya_moments.specs.Given.Raw.declared.machines.progress.Progress.{Progress}
-use Rattle.papaya_moments.specs.Given.Callers.OverAll.{CallOverAll, gone_on}
-use Rattle.papaya_moments.specs.Given.Callers.Together.{OverAll, UnderWay}
-use Rattle.papaya_moments.specs.Given.Finishes.Endings.{Finishing}
-use Rattle.papaya_moments.specs.Given.Finishes.Machines.{ToldOfKind, machine_of}
-use Rattle.papaya_moments.specs.Given.Finishes.Makings.{Beginning, HasMade}
-use Rattle.papaya_moments.specs.Given.Finishes.Maps.{Standing, with_call}
-use Rattle.papaya_moments.specs.Given.Schedules.declared.call.Call.{Call}
-use Rattle.papaya_moments.specs.Given.Schedules.declared.call.Reply.{Reply}
-use Rattle.papaya_moments.specs.Given.Schedules.declared.outcome.Outcome.{Outcome}
-use Rattle.papaya_moments.specs.Given.Schedules.declared.outcome.Outcome.TheVariants as outcome
-use Rattle.papaya_moments.specs.Given.Schedules.Effects.{AtEachEffect, with_effects}
-use Rattle.papaya_moments.specs.Given.Schedules.Entry.{ends_call}
-use Rattle.papaya_moments.specs.Given.Schedules.Moment.{Asking, MapThere, UnderWay as CallThere}
-use Rattle.papaya_moments.specs.Given.Schedules.Views.{call_of, tables_of}
-use Rattle.papaya_moments.specs.Given.Effects.Effects.{effects_of, known_after}
-use Rattle.papaya_moments.specs.Given.Effects.Known.{Known}
-use Rattle.papaya_moments.specs.Given.Effects.declared.acting.Acting.TheVariants as acts
-use Rattle.papaya_moments.specs.Given.Scenes.Beginning.{Begins as BeginsSo}
-use Rattle.papaya_moments.specs.Given.Scenes.Ending.{EndingLeads, ending_begun}
-use Rattle.papaya_moments.specs.Given.Scenes.Held.{Held, IsAt}
-use Rattle.papaya_moments.specs.Given.Scenes.Making.{MakingLeads, scene_making}
-use Rattle.papaya_moments.specs.Given.Scenes.OnSlots.{RowBegins, RowLeads}
-use Rattle.papaya_moments.specs.Given.Scenes.Reclaiming.{IsReclaiming, ReclaimingLeads}
-use Rattle.papaya_moments.specs.Given.Scenes.Replying.{AskLeads, StopLeads, scene_with, unless_stopped}
-use Rattle.papaya_moments.specs.Given.Scenes.Rows.{request_of}
-use Rattle.papaya_moments.specs.Given.Scenes.Scene.{IsOnSlot, Scene, slot_of}
-use Rattle.papaya_moments.specs.Given.Scenes.Stepping.{StepLeads, scene_after}
-use Rattle.papaya_moments.specs.Given.Scenes.declared.row.RowTold.{RowTold}
-use Rattle.papaya_moments.specs.Given.Scenes.declared.row.SlotCall.{SlotCall}
-use Rattle.papaya_moments.specs.Given.Scenes.declared.row.SlotRow.{SlotRow}
-use Rattle.papaya_moments.specs.Given.Follows.Calling.{NoneNamed}
-use Rattle.papaya_moments.specs.Given.Hands.Asked.{as_told}
-use Rattle.papaya_moments.specs.Given.Others.Endings.{ending_after}
-use Rattle.papaya_moments.specs.Given.Others.Makings.{WasNew, making_after}
-use Rattle.papaya_moments.specs.Given.Others.Rows.{scene_then}
-use Rattle.papaya_moments.specs.Endings.{IsOfIts}
-use Rattle.papaya_moments.specs.Numbers.{AreFound}
-use Rattle.papaya_named.specs.Seen.{kind_of}
-use Rattle.papaya_values.specs.Values.{KeepsValue}
-use Rattle.papaya_acts.specs.Acts.{Wanted, begun}
-use Rattle.papaya_acts.specs.Doings.{scene_chosen}
-use Rattle.papaya_agrees.specs.Fresh.{IsFresh}
+use Rattle.seize_acts.specs.Given.Seize.World.{Begin, Rests, Step}
+use Rattle.seize_acts.specs.Given.Seize.declared.progress.Progress.{Progress as Making}
+use Rattle.seize_acts.specs.Given.Seize.declared.progress.Progress.TheVariants as progress
+use Rattle.seize_acts.specs.Given.Seize.declared.rows.reclaim_all.ReclaimAll.{ReclaimAll}
+use Rattle.seize_acts.specs.Given.Seize.declared.rows.settle.Settled.{Settled}
+use Rattle.papaya_deeds.specs.Given.Sweeps.SweepPoints.{after_next}
+use Rattle.papaya_deeds.specs.Given.Tables.declared.node.Node.{Node}
+use Rattle.papaya_deeds.specs.Given.Tables.declared.setting.Setting.{Setting}
+use Rattle.papaya_deeds.specs.Given.Resize.declared.new_map.NewMap.{NewMap}
+use Rattle.papaya_deeds.specs.Given.Raw.Machine.{machine_replied}
+use Rattle.papaya_deeds.specs.Given.Raw.declared.machines.progress.Progress.{Progress}
+use Rattle.papaya_endings.specs.Given.Callers.OverAll.{CallOverAll, gone_on}
+use Rattle.papaya_endings.specs.Given.Callers.Together.{OverAll, UnderWay}
+use Rattle.papaya_endings.specs.Given.Finishes.Endings.{Finishing}
+use Rattle.papaya_endings.specs.Given.Finishes.Machines.{ToldOfKind, machine_of}
+use Rattle.papaya_endings.specs.Given.Finishes.Makings.{Beginning, HasMade}
+use Rattle.papaya_endings.specs.Given.Finishes.Maps.{Standing, with_call}
+use Rattle.papaya_deeds.specs.Given.Schedules.declared.call.Call.{Call}
+use Rattle.papaya_deeds.specs.Given.Schedules.declared.call.Reply.{Reply}
+use Rattle.papaya_deeds.specs.Given.Schedules.declared.outcome.Outcome.{Outcome}
+use Rattle.papaya_deeds.specs.Given.Schedules.declared.outcome.Outcome.TheVariants as outcome
+use Rattle.papaya_deeds.specs.Given.Schedules.Effects.{AtEachEffect, with_effects}
+use Rattle.papaya_deeds.specs.Given.Schedules.Entry.{ends_call}
+use Rattle.papaya_deeds.specs.Given.Schedules.Moment.{Asking, MapThere, UnderWay as CallThere}
+use Rattle.papaya_deeds.specs.Given.Schedules.Views.{call_of, tables_of}
+use Rattle.papaya_endings.specs.Given.Effects.Effects.{effects_of, known_after}
+use Rattle.papaya_endings.specs.Given.Effects.Known.{Known}
+use Rattle.papaya_endings.specs.Given.Effects.declared.acting.Acting.TheVariants as acts
+use Rattle.papaya_endings.specs.Given.Scenes.Beginning.{Begins as BeginsSo}
+use Rattle.papaya_endings.specs.Given.Scenes.Ending.{EndingLeads, ending_begun}
+use Rattle.papaya_endings.specs.Given.Scenes.Held.{Held, IsAt}
+use Rattle.papaya_endings.specs.Given.Scenes.Making.{MakingLeads, scene_making}
+use Rattle.papaya_endings.specs.Given.Scenes.OnSlots.{RowBegins, RowLeads}
+use Rattle.papaya_endings.specs.Given.Scenes.Reclaiming.{IsReclaiming, ReclaimingLeads}
+use Rattle.papaya_endings.specs.Given.Scenes.Replying.{AskLeads, StopLeads, scene_with, unless_stopped}
+use Rattle.papaya_endings.specs.Given.Scenes.Rows.{request_of}
+use Rattle.papaya_endings.specs.Given.Scenes.Scene.{IsOnSlot, Scene, slot_of}
+use Rattle.papaya_endings.specs.Given.Scenes.Stepping.{StepLeads, scene_after}
+use Rattle.papaya_endings.specs.Given.Scenes.declared.row.RowTold.{RowTold}
+use Rattle.papaya_endings.specs.Given.Scenes.declared.row.SlotCall.{SlotCall}
+use Rattle.papaya_endings.specs.Given.Scenes.declared.row.SlotRow.{SlotRow}
+use Rattle.papaya_endings.specs.Given.Follows.Calling.{NoneNamed}
+use Rattle.papaya_endings.specs.Given.Hands.Asked.{as_told}
+use Rattle.papaya_endings.specs.Given.Others.Endings.{ending_after}
+use Rattle.papaya_endings.specs.Given.Others.Makings.{WasNew, making_after}
+use Rattle.papaya_endings.specs.Given.Others.Rows.{scene_then}
+use Rattle.papaya_endings.specs.Given.Moments.Endings.{IsOfIts}
+use Rattle.papaya_endings.specs.Given.Moments.Numbers.{AreFound}
+use Rattle.papaya_endings.specs.Given.Named.Seen.{kind_of}
+use Rattle.papaya_endings.specs.Given.Values.Values.{KeepsValue}
+use Rattle.papaya_endings.specs.Given.Acts.Acts.{Wanted, begun}
+use Rattle.papaya_endings.specs.Given.Acts.Doings.{scene_chosen}
+use Rattle.papaya_endings.specs.Given.Agrees.Fresh.{IsFresh}
 use Rattle.papaya_deeds.specs.Deeds.{Begins, Deed, Ends, Entry, Makes, MapComes, MapFails, MapGoes, ReclaimsAll, Replies, Steps, Stops, come, moment, named}
 use Rattle.papaya_deeds.specs.History.{past}
-use Rattle.papaya_played.specs.Play.{call_for, has_root, is_over, is_refusal, making_outcome, outcome_of, pairs_for, row_deed, settled_outcome}
-use Rattle.papaya_linear.specs.Shown.{ShowsAnswers}
-use Rattle.papaya_linear.proofs.MapsPlayed.{IsApart}
+use Rattle.papaya_endings.specs.Given.Played.Play.{call_for, has_root, is_over, is_refusal, making_outcome, outcome_of, pairs_for, row_deed, settled_outcome}
+use Rattle.papaya_endings.specs.Given.Linear.Shown.{ShowsAnswers}
+use Rattle.papaya_endings.proofs.Given.Linear.MapsPlayed.{IsApart}
 
 -- the map that comes of a making
 abbrev pub coming : {K : Type 0} → Beginning K → NewMap → MapThere

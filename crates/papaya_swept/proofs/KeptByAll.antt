@@ -2,24 +2,24 @@
 use Rattle.std.specs.Prelude.{◌≡◌, ℕ, Bool, List, Option, None}
 use Rattle.std.proofs.Common.{ap, sym, subst, ◌∙◌}
 use Rattle.seize_acts.specs.Answers.{Grant}
-use Rattle.papaya_scenes.specs.Given.Seize.World.{Request, Row}
-use Rattle.papaya_scenes.specs.Given.Seize.declared.rows.reclaim_all.ReclaimAll.{ReclaimAll}
-use Rattle.papaya_scenes.specs.Given.Teller.declared.changed.Changed.TheVariants.{Nothing as NoChange}
-use Rattle.papaya_scenes.specs.Held.{Held, IsAt}
-use Rattle.papaya_scenes.specs.Scene.{HasNoCall, IsOnSlot, Scene, row_of, slot_of}
-use Rattle.papaya_moments.specs.Given.Effects.Known.{Known}
-use Rattle.papaya_acts.specs.Acts.{Act, Answer, BeginsCall, StepsCall, TellsCall, AsksCall, StopsCall, BeginsMaking, StepsMaking, BeginsEnding, StepsEnding, BeginsRow, StepsRow}
-use Rattle.papaya_acts.specs.AsSteps.{LeadsAs, changed_by, held_in, row_changed, row_told}
-use Rattle.papaya_acts.specs.Leads.{Led, MayBe}
-use Rattle.papaya_agrees.specs.Fresh.{HasNewNumber}
+use Rattle.seize_acts.specs.Given.Seize.World.{Request, Row}
+use Rattle.seize_acts.specs.Given.Seize.declared.rows.reclaim_all.ReclaimAll.{ReclaimAll}
+use Rattle.papaya_endings.specs.Given.Teller.declared.changed.Changed.TheVariants.{Nothing as NoChange}
+use Rattle.papaya_endings.specs.Given.Scenes.Held.{Held, IsAt}
+use Rattle.papaya_endings.specs.Given.Scenes.Scene.{HasNoCall, IsOnSlot, Scene, row_of, slot_of}
+use Rattle.papaya_endings.specs.Given.Effects.Known.{Known}
+use Rattle.papaya_endings.specs.Given.Acts.Acts.{Act, Answer, BeginsCall, StepsCall, TellsCall, AsksCall, StopsCall, BeginsMaking, StepsMaking, BeginsEnding, StepsEnding, BeginsRow, StepsRow}
+use Rattle.papaya_endings.specs.Given.Acts.AsSteps.{LeadsAs, changed_by, held_in, row_changed, row_told}
+use Rattle.papaya_endings.specs.Given.Acts.Leads.{Led, MayBe}
+use Rattle.papaya_endings.specs.Given.Agrees.Fresh.{HasNewNumber}
 use Rattle.papaya_deeds.specs.Deeds.{Entry}
-use Rattle.papaya_played.specs.Play.{State, all_stepped, row_outcome, row_stepped}
-use Rattle.papaya_played.specs.Reached.{IsOf, row_or_rests, rows_beside}
-use Rattle.papaya_played.proofs.Along.{At, Is, StaysSo, far, held, lists_at}
-use Rattle.papaya_played.proofs.Noted.{CallsAreNoted}
-use Rattle.papaya_played.proofs.PlayedAs.{PlayedAs, played_as, reclaimed_as}
-use Rattle.papaya_linear.proofs.Holding.{AllHolds, ending_so, making_so}
-use Rattle.papaya_linear.proofs.Stays.{Of, all_stay, all_tied, change, end}
+use Rattle.papaya_endings.specs.Given.Played.Play.{State, all_stepped, row_outcome, row_stepped}
+use Rattle.papaya_endings.specs.Given.Played.Reached.{IsOf, row_or_rests, rows_beside}
+use Rattle.papaya_endings.proofs.Given.Played.Along.{At, Is, StaysSo, far, held, lists_at}
+use Rattle.papaya_endings.proofs.Given.Played.Noted.{CallsAreNoted}
+use Rattle.papaya_endings.proofs.Given.Played.PlayedAs.{PlayedAs, played_as, reclaimed_as}
+use Rattle.papaya_endings.proofs.Given.Linear.Holding.{AllHolds, ending_so, making_so}
+use Rattle.papaya_endings.proofs.Given.Linear.Stays.{Of, all_stay, all_tied, change, end}
 use Rattle.papaya_swept.proofs.Kept.{IsKept, Now}
 use Rattle.papaya_swept.proofs.KeptByCalls.{asks_kept, begins_kept, steps_kept, stops_kept, told_kept}
 use Rattle.papaya_swept.proofs.KeptByMaps.{end_begins_kept, ending_steps_kept, making_begins_kept, making_steps_kept}

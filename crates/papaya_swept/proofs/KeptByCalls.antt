@@ -2,42 +2,42 @@
 use Rattle.std.specs.Prelude.{◌≡◌, ◌⊎◌, ℕ, Bool, true, false, List, Option, Some, None, Ok, is_ok, is_err, length, option_map}
 use Rattle.std.proofs.Common.{refl, ap, sym, subst, ◌∙◌, inl, inr}
 use Rattle.seize_acts.specs.Answers.{Grant}
-use Rattle.papaya_scenes.specs.Given.Raw.Machine.{machine_asked, machine_replied}
-use Rattle.papaya_scenes.specs.Given.Raw.declared.machines.asking.Reply.{Reply as Told}
-use Rattle.papaya_scenes.specs.Given.Raw.declared.machines.machine.Machine.{Machine}
-use Rattle.papaya_scenes.specs.Given.Raw.declared.machines.progress.Progress.{Progress}
-use Rattle.papaya_scenes.specs.Given.Seize.World.{Row}
-use Rattle.papaya_scenes.specs.Given.Tables.declared.node.Node.{Node}
-use Rattle.papaya_scenes.specs.Given.Callers.Together.{UnderWay}
-use Rattle.papaya_scenes.specs.Given.Finishes.Machines.{ToldOfKind, machine_of}
-use Rattle.papaya_scenes.specs.Given.Finishes.Maps.{with_call}
-use Rattle.papaya_scenes.specs.Given.Teller.declared.changed.Changed.{Changed}
-use Rattle.papaya_scenes.proofs.NoCall.{none_is}
-use Rattle.papaya_scenes.specs.Held.{Held, IsAt}
-use Rattle.papaya_scenes.specs.Replying.{StopLeads, scene_with, unless_stopped}
-use Rattle.papaya_scenes.specs.Scene.{Scene, slot_of}
-use Rattle.papaya_moments.specs.Given.Schedules.declared.call.Reply.{Reply}
-use Rattle.papaya_moments.specs.Given.Schedules.declared.outcome.Outcome.TheVariants as outcome
-use Rattle.papaya_moments.specs.Given.Schedules.Moment.{Asking}
-use Rattle.papaya_moments.specs.Given.Effects.Known.{Known}
-use Rattle.papaya_values.specs.Values.{KeepsValue}
-use Rattle.papaya_acts.specs.Acts.{Act, Answer, OfCall, OfReply, OfAsking, Wanted, begun}
-use Rattle.papaya_acts.specs.Acts.{BeginsCall, StepsCall, TellsCall, AsksCall, StopsCall}
-use Rattle.papaya_acts.specs.AsSteps.{LeadsAs, changed_by, held_in}
-use Rattle.papaya_acts.specs.Leads.{Led, MayBe, asked_on}
+use Rattle.papaya_deeds.specs.Given.Raw.Machine.{machine_asked, machine_replied}
+use Rattle.papaya_deeds.specs.Given.Raw.declared.machines.asking.Reply.{Reply as Told}
+use Rattle.papaya_deeds.specs.Given.Raw.declared.machines.machine.Machine.{Machine}
+use Rattle.papaya_deeds.specs.Given.Raw.declared.machines.progress.Progress.{Progress}
+use Rattle.seize_acts.specs.Given.Seize.World.{Row}
+use Rattle.papaya_deeds.specs.Given.Tables.declared.node.Node.{Node}
+use Rattle.papaya_endings.specs.Given.Callers.Together.{UnderWay}
+use Rattle.papaya_endings.specs.Given.Finishes.Machines.{ToldOfKind, machine_of}
+use Rattle.papaya_endings.specs.Given.Finishes.Maps.{with_call}
+use Rattle.papaya_endings.specs.Given.Teller.declared.changed.Changed.{Changed}
+use Rattle.papaya_endings.proofs.Given.Scenes.NoCall.{none_is}
+use Rattle.papaya_endings.specs.Given.Scenes.Held.{Held, IsAt}
+use Rattle.papaya_endings.specs.Given.Scenes.Replying.{StopLeads, scene_with, unless_stopped}
+use Rattle.papaya_endings.specs.Given.Scenes.Scene.{Scene, slot_of}
+use Rattle.papaya_deeds.specs.Given.Schedules.declared.call.Reply.{Reply}
+use Rattle.papaya_deeds.specs.Given.Schedules.declared.outcome.Outcome.TheVariants as outcome
+use Rattle.papaya_deeds.specs.Given.Schedules.Moment.{Asking}
+use Rattle.papaya_endings.specs.Given.Effects.Known.{Known}
+use Rattle.papaya_endings.specs.Given.Values.Values.{KeepsValue}
+use Rattle.papaya_endings.specs.Given.Acts.Acts.{Act, Answer, OfCall, OfReply, OfAsking, Wanted, begun}
+use Rattle.papaya_endings.specs.Given.Acts.Acts.{BeginsCall, StepsCall, TellsCall, AsksCall, StopsCall}
+use Rattle.papaya_endings.specs.Given.Acts.AsSteps.{LeadsAs, changed_by, held_in}
+use Rattle.papaya_endings.specs.Given.Acts.Leads.{Led, MayBe, asked_on}
 use Rattle.papaya_deeds.specs.Deeds.{Entry, Replies, Stops, moment}
-use Rattle.papaya_played.specs.Play.{Calling, State, call_asked, call_begun, call_for, call_stepped, did, reply_for, told_call}
-use Rattle.papaya_played.specs.Reached.{IsOf}
-use Rattle.papaya_played.proofs.PlayedAs.{PlayedAs}
-use Rattle.papaya_linear.proofs.BeginsPlayed.{asked_so, none_named, none_then, same_calls}
-use Rattle.papaya_linear.proofs.CallActs.{err_is, its_machine, ok_is, resting}
-use Rattle.papaya_linear.proofs.Gone.{nothing_told}
-use Rattle.papaya_linear.proofs.Heard.{IsHeard}
-use Rattle.papaya_linear.proofs.Holds.{Holds}
-use Rattle.papaya_linear.proofs.RepliesPlayed.{told_back}
-use Rattle.papaya_linear.proofs.TakesReply.{TakesNone, refuses}
-use Rattle.papaya_linear.proofs.StepsPlayed.{led, played_ended, there_is}
-use Rattle.papaya_played.proofs.Tied.{call_tied}
+use Rattle.papaya_endings.specs.Given.Played.Play.{Calling, State, call_asked, call_begun, call_for, call_stepped, did, reply_for, told_call}
+use Rattle.papaya_endings.specs.Given.Played.Reached.{IsOf}
+use Rattle.papaya_endings.proofs.Given.Played.PlayedAs.{PlayedAs}
+use Rattle.papaya_endings.proofs.Given.Linear.BeginsPlayed.{asked_so, none_named, none_then, same_calls}
+use Rattle.papaya_endings.proofs.Given.Linear.CallActs.{err_is, its_machine, ok_is, resting}
+use Rattle.papaya_endings.proofs.Given.Linear.Gone.{nothing_told}
+use Rattle.papaya_endings.proofs.Given.Linear.Heard.{IsHeard}
+use Rattle.papaya_endings.proofs.Given.Linear.Holds.{Holds}
+use Rattle.papaya_endings.proofs.Given.Linear.RepliesPlayed.{told_back}
+use Rattle.papaya_endings.proofs.Given.Linear.TakesReply.{TakesNone, refuses}
+use Rattle.papaya_endings.proofs.Given.Linear.StepsPlayed.{led, played_ended, there_is}
+use Rattle.papaya_endings.proofs.Given.Played.Tied.{call_tied}
 use Rattle.papaya_swept.proofs.Kept.{IsKept, Now}
 
 module _ {K V S : Type 0} (same : K → K → Bool) (by_hasher : S → K → ℕ) (hash : ℕ → K → ℕ) (batch_size roots : ℕ) (aborts : ℕ → V) (R P : List (Entry K V) → Known → Scene K V → Type 0)

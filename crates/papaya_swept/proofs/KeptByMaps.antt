@@ -2,45 +2,45 @@
 use Rattle.std.specs.Prelude.{◌≡◌, ℕ, Bool, true, false, List, ◌∷◌, Some, None, if◌then◌else◌}
 use Rattle.std.proofs.Common.{refl, ap, sym, subst, ◌∙◌}
 use Rattle.seize_acts.specs.Answers.{Grant}
-use Rattle.papaya_scenes.specs.Given.SeizeWords.Mem.{Mem}
-use Rattle.papaya_scenes.specs.Given.Seize.World.{Row}
-use Rattle.papaya_scenes.specs.Given.Seize.declared.progress.Progress.{Progress}
-use Rattle.papaya_scenes.specs.Given.Seize.declared.progress.Progress.TheVariants as making
-use Rattle.papaya_scenes.specs.Given.Seize.declared.rows.settle.Settled.{Settled}
-use Rattle.papaya_scenes.specs.Given.Tables.declared.node.Node.{Node}
-use Rattle.papaya_scenes.specs.Given.Tables.declared.setting.Setting.{Setting}
-use Rattle.papaya_scenes.specs.Given.Resize.NewMap.{new_map_plan}
-use Rattle.papaya_scenes.specs.Given.Resize.declared.new_map.NewMap.{NewMap}
-use Rattle.papaya_scenes.specs.Given.Finishes.Endings.{Finishing}
-use Rattle.papaya_scenes.specs.Given.Finishes.Makings.{Beginning}
-use Rattle.papaya_scenes.specs.Given.Teller.declared.changed.Changed.{Changed}
-use Rattle.papaya_scenes.proofs.NoCall.{none_is}
-use Rattle.papaya_scenes.specs.Held.{Held, IsAt}
-use Rattle.papaya_scenes.specs.Ending.{ending_begun}
-use Rattle.papaya_scenes.specs.Making.{MakingLeads, making_begun, scene_making}
-use Rattle.papaya_scenes.specs.Scene.{Scene, slot_of}
-use Rattle.papaya_moments.specs.Given.Schedules.Effects.{AtEachEffect, with_effects}
-use Rattle.papaya_moments.specs.Given.Schedules.Moment.{Moment}
-use Rattle.papaya_moments.specs.Given.Effects.Effects.{effects_of, known_after}
-use Rattle.papaya_moments.specs.Given.Effects.Known.{Known}
-use Rattle.papaya_moments.specs.Given.Effects.declared.acting.Acting.TheVariants as acts
-use Rattle.papaya_moments.specs.Endings.{IsOfIts}
-use Rattle.papaya_logged.proofs.EndTold.{ends_alone}
-use Rattle.papaya_acts.specs.Acts.{Act, Answer, OfEnding, OfMaking}
-use Rattle.papaya_acts.specs.Acts.{BeginsMaking, StepsMaking, BeginsEnding, StepsEnding}
-use Rattle.papaya_acts.specs.AsSteps.{LeadsAs, changed_by, changed_of, held_in}
-use Rattle.papaya_acts.specs.Leads.{Led, MayBe}
-use Rattle.papaya_acts.proofs.AsSteps.Told.{was_told}
-use Rattle.papaya_agrees.specs.Fresh.{IsFresh}
+use Rattle.papaya_deeds.specs.Given.SeizeWords.Mem.{Mem}
+use Rattle.seize_acts.specs.Given.Seize.World.{Row}
+use Rattle.seize_acts.specs.Given.Seize.declared.progress.Progress.{Progress}
+use Rattle.seize_acts.specs.Given.Seize.declared.progress.Progress.TheVariants as making
+use Rattle.seize_acts.specs.Given.Seize.declared.rows.settle.Settled.{Settled}
+use Rattle.papaya_deeds.specs.Given.Tables.declared.node.Node.{Node}
+use Rattle.papaya_deeds.specs.Given.Tables.declared.setting.Setting.{Setting}
+use Rattle.papaya_deeds.specs.Given.Resize.NewMap.{new_map_plan}
+use Rattle.papaya_deeds.specs.Given.Resize.declared.new_map.NewMap.{NewMap}
+use Rattle.papaya_endings.specs.Given.Finishes.Endings.{Finishing}
+use Rattle.papaya_endings.specs.Given.Finishes.Makings.{Beginning}
+use Rattle.papaya_endings.specs.Given.Teller.declared.changed.Changed.{Changed}
+use Rattle.papaya_endings.proofs.Given.Scenes.NoCall.{none_is}
+use Rattle.papaya_endings.specs.Given.Scenes.Held.{Held, IsAt}
+use Rattle.papaya_endings.specs.Given.Scenes.Ending.{ending_begun}
+use Rattle.papaya_endings.specs.Given.Scenes.Making.{MakingLeads, making_begun, scene_making}
+use Rattle.papaya_endings.specs.Given.Scenes.Scene.{Scene, slot_of}
+use Rattle.papaya_deeds.specs.Given.Schedules.Effects.{AtEachEffect, with_effects}
+use Rattle.papaya_deeds.specs.Given.Schedules.Moment.{Moment}
+use Rattle.papaya_endings.specs.Given.Effects.Effects.{effects_of, known_after}
+use Rattle.papaya_endings.specs.Given.Effects.Known.{Known}
+use Rattle.papaya_endings.specs.Given.Effects.declared.acting.Acting.TheVariants as acts
+use Rattle.papaya_endings.specs.Given.Moments.Endings.{IsOfIts}
+use Rattle.papaya_endings.proofs.Given.Logged.EndTold.{ends_alone}
+use Rattle.papaya_endings.specs.Given.Acts.Acts.{Act, Answer, OfEnding, OfMaking}
+use Rattle.papaya_endings.specs.Given.Acts.Acts.{BeginsMaking, StepsMaking, BeginsEnding, StepsEnding}
+use Rattle.papaya_endings.specs.Given.Acts.AsSteps.{LeadsAs, changed_by, changed_of, held_in}
+use Rattle.papaya_endings.specs.Given.Acts.Leads.{Led, MayBe}
+use Rattle.papaya_endings.proofs.Given.Acts.AsSteps.Told.{was_told}
+use Rattle.papaya_endings.specs.Given.Agrees.Fresh.{IsFresh}
 use Rattle.papaya_deeds.specs.Deeds.{Deed, Ends, Entry, MapGoes, moment, named}
-use Rattle.papaya_played.specs.Play.{Ending, State, ending_begun as end_begun, ending_stepped, has_root, is_over, is_refusal, making_begun as made_begun, making_deed, making_outcome, making_stepped, settled_outcome}
-use Rattle.papaya_played.specs.Reached.{IsOf}
-use Rattle.papaya_played.proofs.Noted.{CallsAreNoted}
-use Rattle.papaya_played.proofs.PlayedAs.{PlayedAs}
-use Rattle.papaya_linear.proofs.Holds.{Holds}
-use Rattle.papaya_linear.proofs.MapActs.{EndsSo, MakesSo, MakingDid, deed_by, ended_is, made_is}
-use Rattle.papaya_linear.proofs.MapsPlayed.{IsApart, ended, made}
-use Rattle.papaya_played.proofs.Tied.{EndingTied, MakingTied, ending_tied, making_tied}
+use Rattle.papaya_endings.specs.Given.Played.Play.{Ending, State, ending_begun as end_begun, ending_stepped, has_root, is_over, is_refusal, making_begun as made_begun, making_deed, making_outcome, making_stepped, settled_outcome}
+use Rattle.papaya_endings.specs.Given.Played.Reached.{IsOf}
+use Rattle.papaya_endings.proofs.Given.Played.Noted.{CallsAreNoted}
+use Rattle.papaya_endings.proofs.Given.Played.PlayedAs.{PlayedAs}
+use Rattle.papaya_endings.proofs.Given.Linear.Holds.{Holds}
+use Rattle.papaya_endings.proofs.Given.Linear.MapActs.{EndsSo, MakesSo, MakingDid, deed_by, ended_is, made_is}
+use Rattle.papaya_endings.proofs.Given.Linear.MapsPlayed.{IsApart, ended, made}
+use Rattle.papaya_endings.proofs.Given.Played.Tied.{EndingTied, MakingTied, ending_tied, making_tied}
 use Rattle.papaya_swept.proofs.Kept.{IsKept, Now}
 use Rattle.papaya_swept.proofs.Rooting.{comes_going}
 

@@ -9,3 +9,4 @@ pub mod Calls
 pub mod Others
 pub mod Instance
 pub mod Swept
+pub mod Given

@@ -1,71 +1,71 @@
 -- What a moment shows of sweeps and counts it shows where a row begins on a slot, a map comes or goes, its making or its end begins, after each step of these, and after one by which all is reclaimed.
 use Rattle.std.specs.Prelude.{◌≡◌, ◌⊎◌, ◌≤◌, ℕ, suc, Bool, true, false, List, [], Option, Some, None}
 use Rattle.std.proofs.Common.{refl, ap, sym, subst, ◌∙◌, arith, inl, inr}
-use Rattle.papaya_moments.specs.Given.SeizeWords.Mem.{Mem, word_at}
-use Rattle.papaya_moments.specs.Given.SeizeWords.declared.at.At.TheVariants.{Word}
-use Rattle.papaya_moments.specs.Given.Seize.ReclaimAll.{reclaim_all_plan}
-use Rattle.papaya_moments.specs.Given.Seize.World.{Begin, Step}
-use Rattle.papaya_moments.specs.Given.Seize.declared.progress.Progress.{Progress as Making}
-use Rattle.papaya_moments.specs.Given.Seize.declared.progress.Progress.TheVariants as progress
-use Rattle.papaya_moments.specs.Given.Seize.declared.rows.reclaim_all.ReclaimAll.{ReclaimAll}
-use Rattle.papaya_moments.specs.Given.Seize.declared.rows.settle.Settled.{Settled}
-use Rattle.papaya_moments.specs.Given.Seize.declared.rows.settle.Settled.TheVariants as settled
-use Rattle.papaya_moments.specs.Given.Tables.Nodes.{deferred_word, was_left}
-use Rattle.papaya_moments.specs.Given.Tables.declared.node.Node.{Node}
-use Rattle.papaya_moments.specs.Given.Tables.declared.setting.Setting.{Setting}
-use Rattle.papaya_moments.specs.Given.Teller.declared.changed.Changed.{Changed}
-use Rattle.papaya_moments.specs.Given.Callers.Together.{UnderWay}
-use Rattle.papaya_moments.specs.Given.Finishes.Endings.{Finishing}
-use Rattle.papaya_moments.specs.Given.Finishes.Machines.{machine_of}
-use Rattle.papaya_moments.specs.Given.Finishes.Makings.{Beginning, HasMade}
-use Rattle.papaya_moments.specs.Given.Finishes.Maps.{Standing}
-use Rattle.papaya_moments.specs.Given.Runs.Same.{is_same}
-use Rattle.papaya_moments.specs.Given.Schedules.declared.effect.Effect.{Effect}
-use Rattle.papaya_moments.specs.Given.Schedules.Beginning.{with_map}
-use Rattle.papaya_moments.specs.Given.Schedules.Effects.{AtEachEffect, with_effects}
-use Rattle.papaya_moments.specs.Given.Schedules.Moment.{MapThere, Moment, Remains}
-use Rattle.papaya_moments.specs.Given.Schedules.Transition.{Past, further}
-use Rattle.papaya_moments.specs.Given.Schedules.Views.{map_at, tables_of}
-use Rattle.papaya_moments.specs.Given.Effects.Effects.{effects_of, known_after}
-use Rattle.papaya_moments.specs.Given.Effects.Known.{Known}
-use Rattle.papaya_moments.specs.Given.Effects.declared.acting.Acting.TheVariants as acts
-use Rattle.papaya_moments.specs.Given.Scenes.Ending.{EndingLeads, ending_begun}
-use Rattle.papaya_moments.specs.Given.Scenes.Held.{Held, IsAt}
-use Rattle.papaya_moments.specs.Given.Scenes.Making.{MakingLeads, scene_making}
-use Rattle.papaya_moments.specs.Given.Scenes.OnSlots.{RowBegins, RowLeads}
-use Rattle.papaya_moments.specs.Given.Scenes.Reclaiming.{IsReclaiming, ReclaimingLeads}
-use Rattle.papaya_moments.specs.Given.Scenes.Rows.{request_of}
-use Rattle.papaya_moments.specs.Given.Scenes.Scene.{IsOnSlot, Scene, slot_of}
-use Rattle.papaya_moments.specs.Given.Scenes.declared.row.RowTold.{RowTold}
-use Rattle.papaya_moments.specs.Given.Scenes.declared.row.SlotCall.{SlotCall}
-use Rattle.papaya_moments.specs.Given.Scenes.declared.row.SlotRow.{SlotRow}
-use Rattle.papaya_moments.specs.Given.Others.Endings.{ending_after, without_map}
-use Rattle.papaya_moments.specs.Given.Others.Makings.{WasNew, making_after}
-use Rattle.papaya_moments.specs.Given.Others.Rows.{scene_then}
-use Rattle.papaya_moments.specs.Endings.{IsOfIts}
-use Rattle.papaya_moments.proofs.Given.Follows.Operations.{Operated, operated}
-use Rattle.papaya_moments.proofs.Given.Others.RowPlans.{TellsRow}
-use Rattle.papaya_scenes.proofs.May.{may_reclaim}
-use Rattle.papaya_logged.proofs.Given.Kept.Others.{rows_find_kept}
-use Rattle.papaya_logged.proofs.Reclaiming.Rest.{reclaiming_found}
-use Rattle.papaya_logged.proofs.Reclaiming.Rows.{EmptiesRoot, reclaiming_tells}
-use Rattle.papaya_logged.proofs.Reclaiming.Steps.{reclaiming_whole}
-use Rattle.papaya_finds.proofs.Grows.Steps.{tables_have_been}
-use Rattle.papaya_settles.specs.Counts.{is_to_count}
-use Rattle.papaya_settles.proofs.Uncounted.{CountsNowhere}
-use Rattle.papaya_shards.specs.ShardWords.{IsUncounted, ShowsShards}
-use Rattle.papaya_shards.proofs.ShardBetween.{counters_stay}
-use Rattle.papaya_shards.proofs.ShardKept.{none_shards, same_setting, word_kept}
-use Rattle.papaya_shards.proofs.ShardMakes.{makings_keep_counters}
-use Rattle.papaya_shards.proofs.ShardOthers.{endings_begin_counters, endings_keep_counters, makings_begin_counters, rows_begin_counters, rows_keep_counters}
-use Rattle.papaya_purposes.proofs.Between.{events_keep_purposes}
-use Rattle.papaya_purposes.proofs.Elsewhere.{purposes_stay}
-use Rattle.papaya_purposes.proofs.Stored.{effects_stored, numbers_last}
-use Rattle.papaya_acts.specs.Doings.{scene_chosen}
+use Rattle.papaya_deeds.specs.Given.SeizeWords.Mem.{Mem, word_at}
+use Rattle.papaya_deeds.specs.Given.SeizeWords.declared.at.At.TheVariants.{Word}
+use Rattle.seize_acts.specs.Given.Seize.ReclaimAll.{reclaim_all_plan}
+use Rattle.seize_acts.specs.Given.Seize.World.{Begin, Step}
+use Rattle.seize_acts.specs.Given.Seize.declared.progress.Progress.{Progress as Making}
+use Rattle.seize_acts.specs.Given.Seize.declared.progress.Progress.TheVariants as progress
+use Rattle.seize_acts.specs.Given.Seize.declared.rows.reclaim_all.ReclaimAll.{ReclaimAll}
+use Rattle.seize_acts.specs.Given.Seize.declared.rows.settle.Settled.{Settled}
+use Rattle.seize_acts.specs.Given.Seize.declared.rows.settle.Settled.TheVariants as settled
+use Rattle.papaya_deeds.specs.Given.Tables.Nodes.{deferred_word, was_left}
+use Rattle.papaya_deeds.specs.Given.Tables.declared.node.Node.{Node}
+use Rattle.papaya_deeds.specs.Given.Tables.declared.setting.Setting.{Setting}
+use Rattle.papaya_endings.specs.Given.Teller.declared.changed.Changed.{Changed}
+use Rattle.papaya_endings.specs.Given.Callers.Together.{UnderWay}
+use Rattle.papaya_endings.specs.Given.Finishes.Endings.{Finishing}
+use Rattle.papaya_endings.specs.Given.Finishes.Machines.{machine_of}
+use Rattle.papaya_endings.specs.Given.Finishes.Makings.{Beginning, HasMade}
+use Rattle.papaya_endings.specs.Given.Finishes.Maps.{Standing}
+use Rattle.papaya_deeds.specs.Given.Runs.Same.{is_same}
+use Rattle.papaya_deeds.specs.Given.Schedules.declared.effect.Effect.{Effect}
+use Rattle.papaya_deeds.specs.Given.Schedules.Beginning.{with_map}
+use Rattle.papaya_deeds.specs.Given.Schedules.Effects.{AtEachEffect, with_effects}
+use Rattle.papaya_deeds.specs.Given.Schedules.Moment.{MapThere, Moment, Remains}
+use Rattle.papaya_deeds.specs.Given.Schedules.Transition.{Past, further}
+use Rattle.papaya_deeds.specs.Given.Schedules.Views.{map_at, tables_of}
+use Rattle.papaya_endings.specs.Given.Effects.Effects.{effects_of, known_after}
+use Rattle.papaya_endings.specs.Given.Effects.Known.{Known}
+use Rattle.papaya_endings.specs.Given.Effects.declared.acting.Acting.TheVariants as acts
+use Rattle.papaya_endings.specs.Given.Scenes.Ending.{EndingLeads, ending_begun}
+use Rattle.papaya_endings.specs.Given.Scenes.Held.{Held, IsAt}
+use Rattle.papaya_endings.specs.Given.Scenes.Making.{MakingLeads, scene_making}
+use Rattle.papaya_endings.specs.Given.Scenes.OnSlots.{RowBegins, RowLeads}
+use Rattle.papaya_endings.specs.Given.Scenes.Reclaiming.{IsReclaiming, ReclaimingLeads}
+use Rattle.papaya_endings.specs.Given.Scenes.Rows.{request_of}
+use Rattle.papaya_endings.specs.Given.Scenes.Scene.{IsOnSlot, Scene, slot_of}
+use Rattle.papaya_endings.specs.Given.Scenes.declared.row.RowTold.{RowTold}
+use Rattle.papaya_endings.specs.Given.Scenes.declared.row.SlotCall.{SlotCall}
+use Rattle.papaya_endings.specs.Given.Scenes.declared.row.SlotRow.{SlotRow}
+use Rattle.papaya_endings.specs.Given.Others.Endings.{ending_after, without_map}
+use Rattle.papaya_endings.specs.Given.Others.Makings.{WasNew, making_after}
+use Rattle.papaya_endings.specs.Given.Others.Rows.{scene_then}
+use Rattle.papaya_endings.specs.Given.Moments.Endings.{IsOfIts}
+use Rattle.papaya_endings.proofs.Given.Follows.Operations.{Operated, operated}
+use Rattle.papaya_endings.proofs.Given.Others.RowPlans.{TellsRow}
+use Rattle.papaya_endings.proofs.Given.Scenes.May.{may_reclaim}
+use Rattle.papaya_endings.proofs.Given.Kept.Others.{rows_find_kept}
+use Rattle.papaya_endings.proofs.Given.Logged.Reclaiming.Rest.{reclaiming_found}
+use Rattle.papaya_endings.proofs.Given.Logged.Reclaiming.Rows.{EmptiesRoot, reclaiming_tells}
+use Rattle.papaya_endings.proofs.Given.Logged.Reclaiming.Steps.{reclaiming_whole}
+use Rattle.papaya_endings.proofs.Given.Finds.Grows.Steps.{tables_have_been}
+use Rattle.papaya_endings.specs.Given.Settles.Counts.{is_to_count}
+use Rattle.papaya_endings.proofs.Given.Settles.Uncounted.{CountsNowhere}
+use Rattle.papaya_endings.specs.Given.Shards.ShardWords.{IsUncounted, ShowsShards}
+use Rattle.papaya_endings.proofs.Given.Shards.ShardBetween.{counters_stay}
+use Rattle.papaya_endings.proofs.Given.Shards.ShardKept.{none_shards, same_setting, word_kept}
+use Rattle.papaya_endings.proofs.Given.Shards.ShardMakes.{makings_keep_counters}
+use Rattle.papaya_endings.proofs.Given.Shards.ShardOthers.{endings_begin_counters, endings_keep_counters, makings_begin_counters, rows_begin_counters, rows_keep_counters}
+use Rattle.papaya_endings.proofs.Given.Purposes.Between.{events_keep_purposes}
+use Rattle.papaya_endings.proofs.Given.Purposes.Elsewhere.{purposes_stay}
+use Rattle.papaya_endings.proofs.Given.Purposes.Stored.{effects_stored, numbers_last}
+use Rattle.papaya_endings.specs.Given.Acts.Doings.{scene_chosen}
 use Rattle.papaya_deeds.specs.Deeds.{named}
-use Rattle.papaya_linear.specs.Shown.{ShowsAnswers}
-use Rattle.papaya_linear.proofs.Chosen.{shown_chosen}
-use Rattle.papaya_linear.proofs.Like.{IsLike}
+use Rattle.papaya_endings.specs.Given.Linear.Shown.{ShowsAnswers}
+use Rattle.papaya_endings.proofs.Given.Linear.Chosen.{shown_chosen}
+use Rattle.papaya_endings.proofs.Given.Linear.Like.{IsLike}
 use Rattle.papaya_swept.specs.Shown.{IsTabled, ShowsSweeps}
 use Rattle.papaya_swept.proofs.Tabled.{tabled_stays}
 

@@ -1,79 +1,79 @@
 -- A step of a call on a whole map does what the call is for.
 use Rattle.std.specs.Prelude.{◌≡◌, ℕ, suc, Bool, true, List, [], Option, Some}
 use Rattle.std.proofs.Common.{refl, ap, sym, subst, ◌∙◌, inl, inr}
-use Rattle.papaya_moments.specs.Given.Tables.declared.node.Node.{Node}
-use Rattle.papaya_moments.specs.Given.Seize.declared.progress.Progress.{Progress as Counted}
-use Rattle.papaya_moments.specs.Given.Seize.declared.progress.Progress.TheVariants as counted
-use Rattle.papaya_moments.specs.Given.Resize.declared.outcome.Outcome.{Outcome as Room}
-use Rattle.papaya_moments.specs.Given.Resize.declared.outcome.Outcome.TheVariants as room
-use Rattle.papaya_moments.specs.Given.Sweeps.declared.sweep.Purpose.{Purpose}
-use Rattle.papaya_moments.specs.Given.Sweeps.declared.sweep.Purpose.TheVariants.{Clears, Retains, Walks}
-use Rattle.papaya_moments.specs.Given.Sweeps.declared.sweep.Sweep.{Sweep}
-use Rattle.papaya_moments.specs.Given.Sweeps.declared.sweep.Sweeping.TheVariants as sweeping
-use Rattle.papaya_moments.specs.Given.Sweeps.declared.sweep.Swept.{Swept}
-use Rattle.papaya_moments.specs.Given.Sweeps.declared.sweep.Swept.TheVariants as swept
-use Rattle.papaya_moments.specs.Given.Raw.Progress.{of_called, of_counting, of_outcome, of_swept}
-use Rattle.papaya_moments.specs.Given.Raw.declared.machines.answer.Called.{Called}
-use Rattle.papaya_moments.specs.Given.Raw.declared.machines.answer.Called.TheVariants as called
-use Rattle.papaya_moments.specs.Given.Raw.declared.machines.machine.Machine.TheVariants as kinds
-use Rattle.papaya_moments.specs.Given.Raw.declared.machines.progress.Answer.TheVariants as answers
-use Rattle.papaya_moments.specs.Given.Raw.declared.machines.progress.Progress.{Progress}
-use Rattle.papaya_moments.specs.Given.Raw.declared.machines.progress.Progress.TheVariants as progress
-use Rattle.papaya_moments.specs.Given.Late.ToldSweeps.{TellsSo}
-use Rattle.papaya_moments.specs.Given.Callers.OverAll.{CallOverAll}
-use Rattle.papaya_moments.specs.Given.Callers.Together.{UnderWay, OnKey, ForRoom, Counting, OverAll}
-use Rattle.papaya_moments.specs.Given.Finishes.Machines.{GoesOnAs, machine_of}
-use Rattle.papaya_moments.specs.Given.Finishes.Maps.{Standing}
-use Rattle.papaya_moments.specs.Given.Schedules.declared.call.Answer.TheVariants as answer
-use Rattle.papaya_moments.specs.Given.Schedules.declared.call.Call.{Call}
-use Rattle.papaya_moments.specs.Given.Schedules.declared.call.Call.TheVariants as call
-use Rattle.papaya_moments.specs.Given.Schedules.declared.call.OneKey.{OneKey}
-use Rattle.papaya_moments.specs.Given.Schedules.declared.effect.Effect.{Effect}
-use Rattle.papaya_moments.specs.Given.Schedules.declared.outcome.Outcome.{Outcome}
-use Rattle.papaya_moments.specs.Given.Schedules.declared.outcome.Outcome.TheVariants as outcome
-use Rattle.papaya_moments.specs.Given.Schedules.Effects.{with_effects}
-use Rattle.papaya_moments.specs.Given.Schedules.Entry.{IfCall, acting}
-use Rattle.papaya_moments.specs.Given.Schedules.Moment.{Moment, UnderWay as CallThere}
-use Rattle.papaya_moments.specs.Given.Schedules.Sweeps.{SweepsRight}
-use Rattle.papaya_moments.specs.Given.Schedules.Terms.{Terms, shards_of}
-use Rattle.papaya_moments.specs.Given.Schedules.Transition.{Past, Transition, call_left, worked_by}
-use Rattle.papaya_moments.specs.Given.Schedules.Views.{call_of, is_in_map}
-use Rattle.papaya_moments.specs.Given.Effects.Effects.{effects_of, known_after}
-use Rattle.papaya_moments.specs.Given.Effects.Known.{Known}
-use Rattle.papaya_moments.specs.Given.Effects.declared.acting.Acting.TheVariants as acts
-use Rattle.papaya_moments.specs.Given.Scenes.Held.{Held, IsAt}
-use Rattle.papaya_moments.specs.Given.Scenes.Scene.{Scene}
-use Rattle.papaya_moments.specs.Given.Scenes.Stepping.{StepLeads, scene_after}
-use Rattle.papaya_moments.proofs.Given.Hands.Replacing.{calls_after}
-use Rattle.papaya_moments.proofs.Given.Callers.Together.At.{at_same}
-use Rattle.papaya_moments.specs.Whole.{ShowsWhole}
-use Rattle.papaya_scenes.proofs.May.{standing_is}
-use Rattle.papaya_moments.proofs.Calls.{calls_keep_whole}
-use Rattle.papaya_histories.specs.Answers.{NamesPair}
-use Rattle.papaya_histories.specs.InEvent.{InEvent}
-use Rattle.papaya_histories.proofs.AnyCall.InEvent.{events_begin}
-use Rattle.papaya_histories.proofs.OtherMidsts.{fewer_so}
-use Rattle.papaya_histories.proofs.Retaining.{found_there}
-use Rattle.papaya_legal.specs.CallEvents.{EachIsItsOwn}
-use Rattle.papaya_legal.proofs.CallPairs.{each_is_its_own}
-use Rattle.papaya_named.specs.Seen.{kind_of}
-use Rattle.papaya_named.specs.Telling.{number_by, number_in}
-use Rattle.papaya_stepping.proofs.SweepSteps.{walks_at}
-use Rattle.papaya_purposes.specs.Kept.{NoneCame, PairsChangeFirst}
-use Rattle.papaya_purposes.specs.Purposes.{IsFor, ShowsPurposes}
-use Rattle.papaya_purposes.specs.Shards.{ReadsShards}
-use Rattle.papaya_purposes.specs.Swept.{ComesSo as IsToldSo, SaysNothing}
-use Rattle.papaya_purposes.proofs.Between.{first_steps_change_pairs_first}
-use Rattle.papaya_purposes.proofs.FindsRoom.{reservations_are_swept}
-use Rattle.papaya_purposes.proofs.Nothing.{calls_on_keys_are_swept, other_outcomes_are_swept}
-use Rattle.papaya_purposes.proofs.Shows.{walks_show}
-use Rattle.papaya_purposes.proofs.ShowsAll.{walks_show_all}
-use Rattle.papaya_purposes.proofs.Swept.{clearings_are_swept, countings_are_swept, retainings_are_swept}
-use Rattle.papaya_purposes.proofs.WalkWords.{walks_have_words}
+use Rattle.papaya_deeds.specs.Given.Tables.declared.node.Node.{Node}
+use Rattle.seize_acts.specs.Given.Seize.declared.progress.Progress.{Progress as Counted}
+use Rattle.seize_acts.specs.Given.Seize.declared.progress.Progress.TheVariants as counted
+use Rattle.papaya_deeds.specs.Given.Resize.declared.outcome.Outcome.{Outcome as Room}
+use Rattle.papaya_deeds.specs.Given.Resize.declared.outcome.Outcome.TheVariants as room
+use Rattle.papaya_deeds.specs.Given.Sweeps.declared.sweep.Purpose.{Purpose}
+use Rattle.papaya_deeds.specs.Given.Sweeps.declared.sweep.Purpose.TheVariants.{Clears, Retains, Walks}
+use Rattle.papaya_deeds.specs.Given.Sweeps.declared.sweep.Sweep.{Sweep}
+use Rattle.papaya_deeds.specs.Given.Sweeps.declared.sweep.Sweeping.TheVariants as sweeping
+use Rattle.papaya_deeds.specs.Given.Sweeps.declared.sweep.Swept.{Swept}
+use Rattle.papaya_deeds.specs.Given.Sweeps.declared.sweep.Swept.TheVariants as swept
+use Rattle.papaya_deeds.specs.Given.Raw.Progress.{of_called, of_counting, of_outcome, of_swept}
+use Rattle.papaya_deeds.specs.Given.Raw.declared.machines.answer.Called.{Called}
+use Rattle.papaya_deeds.specs.Given.Raw.declared.machines.answer.Called.TheVariants as called
+use Rattle.papaya_deeds.specs.Given.Raw.declared.machines.machine.Machine.TheVariants as kinds
+use Rattle.papaya_deeds.specs.Given.Raw.declared.machines.progress.Answer.TheVariants as answers
+use Rattle.papaya_deeds.specs.Given.Raw.declared.machines.progress.Progress.{Progress}
+use Rattle.papaya_deeds.specs.Given.Raw.declared.machines.progress.Progress.TheVariants as progress
+use Rattle.papaya_endings.specs.Given.Late.ToldSweeps.{TellsSo}
+use Rattle.papaya_endings.specs.Given.Callers.OverAll.{CallOverAll}
+use Rattle.papaya_endings.specs.Given.Callers.Together.{UnderWay, OnKey, ForRoom, Counting, OverAll}
+use Rattle.papaya_endings.specs.Given.Finishes.Machines.{GoesOnAs, machine_of}
+use Rattle.papaya_endings.specs.Given.Finishes.Maps.{Standing}
+use Rattle.papaya_deeds.specs.Given.Schedules.declared.call.Answer.TheVariants as answer
+use Rattle.papaya_deeds.specs.Given.Schedules.declared.call.Call.{Call}
+use Rattle.papaya_deeds.specs.Given.Schedules.declared.call.Call.TheVariants as call
+use Rattle.papaya_deeds.specs.Given.Schedules.declared.call.OneKey.{OneKey}
+use Rattle.papaya_deeds.specs.Given.Schedules.declared.effect.Effect.{Effect}
+use Rattle.papaya_deeds.specs.Given.Schedules.declared.outcome.Outcome.{Outcome}
+use Rattle.papaya_deeds.specs.Given.Schedules.declared.outcome.Outcome.TheVariants as outcome
+use Rattle.papaya_deeds.specs.Given.Schedules.Effects.{with_effects}
+use Rattle.papaya_deeds.specs.Given.Schedules.Entry.{IfCall, acting}
+use Rattle.papaya_deeds.specs.Given.Schedules.Moment.{Moment, UnderWay as CallThere}
+use Rattle.papaya_deeds.specs.Given.Schedules.Sweeps.{SweepsRight}
+use Rattle.papaya_deeds.specs.Given.Schedules.Terms.{Terms, shards_of}
+use Rattle.papaya_deeds.specs.Given.Schedules.Transition.{Past, Transition, call_left, worked_by}
+use Rattle.papaya_deeds.specs.Given.Schedules.Views.{call_of, is_in_map}
+use Rattle.papaya_endings.specs.Given.Effects.Effects.{effects_of, known_after}
+use Rattle.papaya_endings.specs.Given.Effects.Known.{Known}
+use Rattle.papaya_endings.specs.Given.Effects.declared.acting.Acting.TheVariants as acts
+use Rattle.papaya_endings.specs.Given.Scenes.Held.{Held, IsAt}
+use Rattle.papaya_endings.specs.Given.Scenes.Scene.{Scene}
+use Rattle.papaya_endings.specs.Given.Scenes.Stepping.{StepLeads, scene_after}
+use Rattle.papaya_endings.proofs.Given.Hands.Replacing.{calls_after}
+use Rattle.papaya_endings.proofs.Given.Callers.Together.At.{at_same}
+use Rattle.papaya_endings.specs.Given.Moments.Whole.{ShowsWhole}
+use Rattle.papaya_endings.proofs.Given.Scenes.May.{standing_is}
+use Rattle.papaya_endings.proofs.Given.Moments.Calls.{calls_keep_whole}
+use Rattle.papaya_endings.specs.Given.Histories.Answers.{NamesPair}
+use Rattle.papaya_endings.specs.Given.Histories.InEvent.{InEvent}
+use Rattle.papaya_endings.proofs.Given.Histories.AnyCall.InEvent.{events_begin}
+use Rattle.papaya_endings.proofs.Given.Histories.OtherMidsts.{fewer_so}
+use Rattle.papaya_endings.proofs.Given.Histories.Retaining.{found_there}
+use Rattle.papaya_endings.specs.Given.Legal.CallEvents.{EachIsItsOwn}
+use Rattle.papaya_endings.proofs.Given.Legal.CallPairs.{each_is_its_own}
+use Rattle.papaya_endings.specs.Given.Named.Seen.{kind_of}
+use Rattle.papaya_endings.specs.Given.Named.Telling.{number_by, number_in}
+use Rattle.papaya_endings.proofs.Given.Stepping.SweepSteps.{walks_at}
+use Rattle.papaya_endings.specs.Given.Purposes.Kept.{NoneCame, PairsChangeFirst}
+use Rattle.papaya_endings.specs.Given.Purposes.Purposes.{IsFor, ShowsPurposes}
+use Rattle.papaya_endings.specs.Given.Purposes.Shards.{ReadsShards}
+use Rattle.papaya_endings.specs.Given.Purposes.Swept.{ComesSo as IsToldSo, SaysNothing}
+use Rattle.papaya_endings.proofs.Given.Purposes.Between.{first_steps_change_pairs_first}
+use Rattle.papaya_endings.proofs.Given.Purposes.FindsRoom.{reservations_are_swept}
+use Rattle.papaya_endings.proofs.Given.Purposes.Nothing.{calls_on_keys_are_swept, other_outcomes_are_swept}
+use Rattle.papaya_endings.proofs.Given.Purposes.Shows.{walks_show}
+use Rattle.papaya_endings.proofs.Given.Purposes.ShowsAll.{walks_show_all}
+use Rattle.papaya_endings.proofs.Given.Purposes.Swept.{clearings_are_swept, countings_are_swept, retainings_are_swept}
+use Rattle.papaya_endings.proofs.Given.Purposes.WalkWords.{walks_have_words}
 use Rattle.papaya_deeds.specs.Deeds.{Entry, moment, named}
 use Rattle.papaya_deeds.specs.History.{is_of_kind, past}
-use Rattle.papaya_played.specs.Play.{outcome_of}
-use Rattle.papaya_linear.specs.Shown.{ShowsAnswers}
+use Rattle.papaya_endings.specs.Given.Played.Play.{outcome_of}
+use Rattle.papaya_endings.specs.Given.Linear.Shown.{ShowsAnswers}
 
 -- what a machine says, by its kind
 abbrev SaidBy : {K V : Type 0} → UnderWay K V K → Progress (Node K V) → Type 0

@@ -1,17 +1,17 @@
 -- What the moment of a history shows of calls on whole maps, in the scene to which a list of acts has led, by which its next entry does what its call is for.
 use Rattle.std.specs.Prelude.{◌≡◌, ◌<◌, ℕ, Bool, true, List, Some}
-use Rattle.papaya_moments.specs.Given.Callers.Together.{UnderWay}
-use Rattle.papaya_moments.specs.Given.Finishes.Machines.{machine_of}
-use Rattle.papaya_moments.specs.Given.Schedules.After.{AtEachEvent}
-use Rattle.papaya_moments.specs.Given.Schedules.Moment.{Moment}
-use Rattle.papaya_moments.specs.Given.Schedules.Terms.{Terms}
-use Rattle.papaya_moments.specs.Given.Schedules.Transition.{Past}
-use Rattle.papaya_moments.specs.Given.Effects.Known.{Known}
-use Rattle.papaya_moments.specs.Given.Scenes.Scene.{Scene}
-use Rattle.papaya_finds.specs.Within.{many_of}
-use Rattle.papaya_settles.specs.Counts.{is_to_count}
-use Rattle.papaya_shards.specs.ShardWords.{ShowsCounters}
-use Rattle.papaya_purposes.specs.Purposes.{ShowsPurposes}
+use Rattle.papaya_endings.specs.Given.Callers.Together.{UnderWay}
+use Rattle.papaya_endings.specs.Given.Finishes.Machines.{machine_of}
+use Rattle.papaya_deeds.specs.Given.Schedules.After.{AtEachEvent}
+use Rattle.papaya_deeds.specs.Given.Schedules.Moment.{Moment}
+use Rattle.papaya_deeds.specs.Given.Schedules.Terms.{Terms}
+use Rattle.papaya_deeds.specs.Given.Schedules.Transition.{Past}
+use Rattle.papaya_endings.specs.Given.Effects.Known.{Known}
+use Rattle.papaya_endings.specs.Given.Scenes.Scene.{Scene}
+use Rattle.papaya_endings.specs.Given.Finds.Within.{many_of}
+use Rattle.papaya_endings.specs.Given.Settles.Counts.{is_to_count}
+use Rattle.papaya_endings.specs.Given.Shards.ShardWords.{ShowsCounters}
+use Rattle.papaya_endings.specs.Given.Purposes.Purposes.{ShowsPurposes}
 use Rattle.papaya_deeds.specs.Deeds.{Entry, moment, named}
 use Rattle.papaya_deeds.specs.History.{IsSwept, past}
 

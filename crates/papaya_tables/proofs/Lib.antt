@@ -9,3 +9,4 @@ pub mod TableLens
 mod Triangular
 mod Tries
 mod Words
+pub mod Given

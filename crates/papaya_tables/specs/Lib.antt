@@ -8,3 +8,4 @@ pub mod Powers
 pub mod Probes
 pub mod TablePlaces
 pub mod Trials
+pub mod Given

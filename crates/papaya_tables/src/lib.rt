@@ -27,6 +27,8 @@ pub use lengths::entries_for;
 pub use node::Node;
 pub use probe::{Probe, every_place_is_tried, limit, places_are_distinct};
 pub use resize_mode::ResizeMode;
+pub use seize;
+pub use seize::seize_words;
 pub use setting::Setting;
 pub use status::Status;
 pub use table::Table;

@@ -3,3 +3,4 @@ pub mod Places
 pub mod Tally
 pub mod Left
 pub mod Told
+pub mod Given

@@ -1,2 +1,3 @@
 pub mod Changed
 pub mod Tells
+pub mod Given

@@ -4,3 +4,4 @@ pub mod Names
 pub mod Quiet
 pub mod Places
 pub mod Promised
+pub mod Given

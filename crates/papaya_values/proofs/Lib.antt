@@ -1,3 +1,4 @@
 pub mod KeyEnds
 pub mod Inserts
 pub mod Values
+pub mod Given

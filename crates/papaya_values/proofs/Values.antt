@@ -50,10 +50,10 @@ use Rattle.papaya_moments.specs.Given.Hands.Asked.{AsksThere, as_told}
 use Rattle.papaya_moments.specs.Whole.{ShowsWhole}
 use Rattle.papaya_moments.proofs.Given.Others.Outcomes.{told_in}
 use Rattle.papaya_moments.specs.Given.Teller.declared.changed.Changed.TheVariants as changed
-use Rattle.papaya_named.specs.Machines.{aborted_by}
-use Rattle.papaya_named.specs.Seen.{kind_of}
-use Rattle.papaya_named.specs.Telling.{value_of}
-use Rattle.papaya_named.specs.declared.kind.Kind.TheVariants as kind
+use Rattle.papaya_moments.specs.Given.Named.Machines.{aborted_by}
+use Rattle.papaya_moments.specs.Given.Named.Seen.{kind_of}
+use Rattle.papaya_moments.specs.Given.Named.Telling.{value_of}
+use Rattle.papaya_moments.specs.Given.Named.declared.kind.Kind.TheVariants as kind
 use Rattle.papaya_values.specs.Values.{InsertsTellTheirs, IsEnding, KeepsValue, ValuesBegin, ValuesGoOn, ValuesTaken, kept_after}
 use Rattle.papaya_values.proofs.KeyEnds.{Comes, IsNotOver, MayFind, ending_stays, key_comes_so}
 use Rattle.papaya_values.proofs.Inserts.{FoundOver, asked_on, called_so, its_pair, may_find, same_call, takes_nothing}

@@ -25,10 +25,10 @@ use Rattle.papaya_moments.specs.Given.Finishes.Machines.{machine_of}
 use Rattle.papaya_moments.specs.Given.Finishes.Maps.{Standing}
 use Rattle.papaya_moments.specs.Given.Hands.Asked.{as_told}
 use Rattle.papaya_moments.specs.Whole.{ShowsWhole}
-use Rattle.papaya_named.specs.Machines.{aborted_by, machine_for}
-use Rattle.papaya_named.specs.Seen.{kind_of}
-use Rattle.papaya_named.specs.Telling.{kept}
-use Rattle.papaya_named.specs.declared.kind.Kind.{Kind}
+use Rattle.papaya_moments.specs.Given.Named.Machines.{aborted_by, machine_for}
+use Rattle.papaya_moments.specs.Given.Named.Seen.{kind_of}
+use Rattle.papaya_moments.specs.Given.Named.Telling.{kept}
+use Rattle.papaya_moments.specs.Given.Named.declared.kind.Kind.{Kind}
 use Rattle.papaya_moments.specs.Given.Scenes.Held.{Held, IsAt}
 use Rattle.papaya_moments.specs.Given.Scenes.Scene.{Scene}
 use Rattle.papaya_moments.specs.Given.Scenes.Stepping.{StepLeads}

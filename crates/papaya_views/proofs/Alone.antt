@@ -1,9 +1,9 @@
 -- No two rows settle on one slot, since no two seats have one.
 use Rattle.std.specs.Prelude.{Option, Some, None}
 use Rattle.std.proofs.Common.{◌≡◌, ℕ, Bool, inl, inr, sym, subst, ap, ◌∙◌}
-use Rattle.papaya_scenes.specs.Given.Seize.World.{Row, Rests, Registers, Enters, Settles, Leaves, Defers, Frees, Use, Inside}
-use Rattle.papaya_scenes.specs.Given.Callers.Rows.{IsRowOn}
-use Rattle.papaya_scenes.specs.Scene.{Scene}
+use Rattle.papaya_tables.specs.Given.Seize.World.{Row, Rests, Registers, Enters, Settles, Leaves, Defers, Frees, Use, Inside}
+use Rattle.papaya_looks.specs.Given.Callers.Rows.{IsRowOn}
+use Rattle.papaya_acts.specs.Given.Scenes.Scene.{Scene}
 use Rattle.seize_acts.specs.Waits.{SettlesOn}
 use Rattle.seize_acts.proofs.Answers.{same_some}
 use Rattle.seize_bounds.specs.Bounds.{IsAloneOnSlot}

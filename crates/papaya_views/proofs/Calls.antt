@@ -1,8 +1,8 @@
 -- The next step of a call that is under way may be taken at any moment.
 use Rattle.std.specs.Prelude.{Option}
 use Rattle.std.proofs.Common.{ℕ, Bool, sym, subst, refl}
-use Rattle.papaya_scenes.specs.Given.SeizeWords.Mem.{Mem, Can, Took}
-use Rattle.papaya_scenes.specs.Given.Tables.declared.node.Node.{Node}
+use Rattle.seize_words.specs.Mem.{Mem, Can, Took}
+use Rattle.papaya_tables.specs.declared.node.Node.{Node}
 use Rattle.seize_seats.specs.State.{Goes}
 use Rattle.papaya_views.specs.Promises.{CallsGoOn, CallsTurn}
 use Rattle.papaya_views.specs.Rule.{Holds, KeepsFor}

@@ -1,10 +1,10 @@
 -- The rule of maps is a content.
 use Rattle.std.specs.Prelude.{Option, Some, None}
 use Rattle.std.proofs.Common.{◌≡◌, ℕ, Bool, refl, sym, subst, ap, ◌∙◌}
-use Rattle.papaya_scenes.specs.Given.SeizeWords.Op.{Op, Out}
-use Rattle.papaya_scenes.specs.Given.Seize.declared.rows.settle.Settle.{Settle}
-use Rattle.papaya_scenes.specs.Given.Tables.Nodes.{deferred_word}
-use Rattle.papaya_scenes.specs.Given.Tables.declared.node.Node.{Node}
+use Rattle.seize_words.specs.Op.{Op, Out}
+use Rattle.papaya_tables.specs.Given.Seize.declared.rows.settle.Settle.{Settle}
+use Rattle.papaya_tables.specs.Nodes.{deferred_word}
+use Rattle.papaya_tables.specs.declared.node.Node.{Node}
 use Rattle.seize_views.specs.Content.{SeatsComeIn, RowsGoOnIn, RowsAreTold, RowsTurnIn, SettlingsBeginIn, LookedAreShownIn}
 use Rattle.seize_views.specs.Notes.{noted, deed}
 use Rattle.seize_views.specs.Promises.{op_of, IsNext, IsToSettle}

@@ -1,15 +1,15 @@
 -- What a seat knows of its row is so after what another one has done: the block that it is to look at is there with its value, and it has settled within so many steps.
 use Rattle.std.specs.Prelude.{Option, Some, None, IsSome}
 use Rattle.std.proofs.Common.{◌≡◌, ℕ, Bool, List, refl, sym, subst, ap, ◌∙◌}
-use Rattle.papaya_scenes.specs.Given.SeizeWords.Mem.{value_at}
-use Rattle.papaya_scenes.specs.Given.Seize.World.{Row, Event, MayStep, Handed}
-use Rattle.papaya_scenes.specs.Given.Seize.declared.rows.settle.Settle.{Settle}
-use Rattle.papaya_scenes.specs.Given.Tables.Nodes.{deferred_word}
-use Rattle.papaya_scenes.specs.Given.Tables.declared.node.Node.{Node}
-use Rattle.papaya_scenes.specs.Given.Callers.Together.{CameAbout}
-use Rattle.papaya_scenes.proofs.Given.SeizeRule.World.Kept.{rows_may}
-use Rattle.papaya_scenes.proofs.Given.Callers.Together.Came.{came_reached}
-use Rattle.papaya_scenes.specs.Scene.{Scene}
+use Rattle.seize_words.specs.Mem.{value_at}
+use Rattle.papaya_tables.specs.Given.Seize.World.{Row, Event, MayStep, Handed}
+use Rattle.papaya_tables.specs.Given.Seize.declared.rows.settle.Settle.{Settle}
+use Rattle.papaya_tables.specs.Nodes.{deferred_word}
+use Rattle.papaya_tables.specs.declared.node.Node.{Node}
+use Rattle.papaya_looks.specs.Given.Callers.Together.{CameAbout}
+use Rattle.seize_alone.proofs.Given.SeizeRule.World.Kept.{rows_may}
+use Rattle.papaya_looks.proofs.Given.Callers.Together.Came.{came_reached}
+use Rattle.papaya_acts.specs.Given.Scenes.Scene.{Scene}
 use Rattle.seize_bounds.specs.Bounds.{HasCounted, HasTried, IsAloneOnSlot, Meanwhile}
 use Rattle.seize_bounds.proofs.Bounds.Passing.{still_within}
 use Rattle.seize_views.specs.Rows.{row_of, settles_for, IsPlain, IsKnown, IsBounded}

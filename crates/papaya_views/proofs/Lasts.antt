@@ -1,15 +1,15 @@
 -- What the call of a seat has, as its own pair or to reclaim it, has its value through what others do.
 use Rattle.std.specs.Prelude.{◌≢◌, Option, Some, None, IsSome}
 use Rattle.std.proofs.Common.{◌≡◌, ℕ, Bool, inl, inr, refl, sym, subst, ap, ◌∙◌}
-use Rattle.papaya_scenes.specs.Given.SeizeWords.Mem.{value_at}
-use Rattle.papaya_scenes.specs.Given.Seize.World.{Row, Use, Handed, MayStep}
-use Rattle.papaya_scenes.specs.Given.Tables.Nodes.{deferred_word}
-use Rattle.papaya_scenes.specs.Given.Tables.declared.node.Node.{Node}
-use Rattle.papaya_scenes.specs.Given.Raw.declared.machines.machine.Machine.{Machine}
-use Rattle.papaya_scenes.specs.Given.Callers.Together.{CameAbout}
-use Rattle.papaya_scenes.proofs.Given.SeizeRule.World.Kept.{rows_may}
-use Rattle.papaya_scenes.proofs.Given.Callers.Together.Came.{came_reached}
-use Rattle.papaya_scenes.specs.Scene.{Scene, slot_of}
+use Rattle.seize_words.specs.Mem.{value_at}
+use Rattle.papaya_tables.specs.Given.Seize.World.{Row, Use, Handed, MayStep}
+use Rattle.papaya_tables.specs.Nodes.{deferred_word}
+use Rattle.papaya_tables.specs.declared.node.Node.{Node}
+use Rattle.papaya_raw.specs.declared.machines.machine.Machine.{Machine}
+use Rattle.papaya_looks.specs.Given.Callers.Together.{CameAbout}
+use Rattle.seize_alone.proofs.Given.SeizeRule.World.Kept.{rows_may}
+use Rattle.papaya_looks.proofs.Given.Callers.Together.Came.{came_reached}
+use Rattle.papaya_acts.specs.Given.Scenes.Scene.{Scene, slot_of}
 use Rattle.papaya_acts.specs.Leads.{AllStand}
 use Rattle.seize_acts.proofs.Answers.{same_some}
 use Rattle.seize_views.proofs.Reclaims.{reclaiming_there}

@@ -1,15 +1,15 @@
 -- Where a step of a call has led, or a call has begun or was told something, each other seat knows what is so.
 use Rattle.std.specs.Prelude.{◌≢◌, Option, Some, None}
 use Rattle.std.proofs.Common.{◌≡◌, ℕ, Bool, ◌⊎◌, inl, inr, refl, sym, subst, ap, ◌∙◌, true, false, List, [], ◌∷◌}
-use Rattle.papaya_scenes.specs.Given.SeizeWords.Mem.{value_at}
-use Rattle.papaya_scenes.specs.Given.Seize.Law.{holds, is_over}
-use Rattle.papaya_scenes.specs.Given.Seize.World.{Row, Use, Vacant, Outside, Inside, Changing, IsInside}
-use Rattle.papaya_scenes.specs.Given.Tables.Nodes.{deferred_word}
-use Rattle.papaya_scenes.specs.Given.Tables.declared.node.Node.{Node}
-use Rattle.papaya_scenes.specs.Given.Callers.Rows.{IsUsedAlike, IsRowOn}
-use Rattle.papaya_scenes.specs.Given.Callers.Together.{UnderWay}
-use Rattle.papaya_scenes.specs.Given.Finishes.Maps.{Standing, with_call}
-use Rattle.papaya_scenes.specs.Scene.{Scene}
+use Rattle.seize_words.specs.Mem.{value_at}
+use Rattle.papaya_tables.specs.Given.Seize.Law.{holds, is_over}
+use Rattle.papaya_tables.specs.Given.Seize.World.{Row, Use, Vacant, Outside, Inside, Changing, IsInside}
+use Rattle.papaya_tables.specs.Nodes.{deferred_word}
+use Rattle.papaya_tables.specs.declared.node.Node.{Node}
+use Rattle.papaya_looks.specs.Given.Callers.Rows.{IsUsedAlike, IsRowOn}
+use Rattle.papaya_looks.specs.Given.Callers.Together.{UnderWay}
+use Rattle.papaya_looks.specs.Given.Finishes.Maps.{Standing, with_call}
+use Rattle.papaya_acts.specs.Given.Scenes.Scene.{Scene}
 use Rattle.seize_acts.specs.Stays.{how_many, is_end_of_owner}
 use Rattle.papaya_acts.proofs.Counts.{its_call, other_call}
 use Rattle.seize_views.specs.Rows.{use_of}

@@ -1,28 +1,28 @@
 -- What a caller has made, and not linked, has its value through what others do; and the own pair of a call under way is such a block.
 use Rattle.std.specs.Prelude.{◌≢◌, Some}
 use Rattle.std.proofs.Common.{◌≡◌, ℕ, Bool, inl, inr, refl, sym, subst, ap, ◌∙◌}
-use Rattle.papaya_scenes.specs.Given.SeizeWords.Mem.{Mem, Took, value_at}
-use Rattle.papaya_scenes.specs.Given.SeizeWords.Plan.{Steps}
-use Rattle.papaya_scenes.specs.Given.Seize.World.{World, Hand, Handed, Making, Step, Begin, Request, Register', Enter', Leave', LeaveOwned, Refresh, Unregister', Retire, Flush, Defer', Happens}
-use Rattle.papaya_scenes.specs.Given.Seize.declared.progress.Progress.{Progress as Told}
-use Rattle.papaya_scenes.specs.Given.Tables.Nodes.{deferred_word}
-use Rattle.papaya_scenes.specs.Given.Tables.declared.node.Node.{Node}
-use Rattle.papaya_scenes.specs.Given.Tables.declared.node.Node.TheVariants.{Shards}
-use Rattle.papaya_scenes.specs.Given.Tables.declared.setting.Setting.{Setting}
-use Rattle.papaya_scenes.specs.Given.Resize.NewMap.{new_map_plan}
-use Rattle.papaya_scenes.specs.Given.Resize.declared.new_map.NewMap.{NewMap}
-use Rattle.papaya_scenes.specs.Given.Raw.declared.machines.machine.Machine.{Machine}
-use Rattle.papaya_scenes.specs.Given.Raw.declared.machines.progress.Progress.{Progress}
-use Rattle.papaya_scenes.specs.Given.Rule.InWorld.{IsHeldBy, KeepsBlocks}
-use Rattle.papaya_scenes.proofs.Given.Rule.World.OthersSpared.{held_once, keeps_same, keeps_then, keeps_handed}
-use Rattle.papaya_scenes.specs.Given.Callers.Together.{UnderWay, OnKey, ForRoom, Counting, OverAll, IsOneStep, HandsOver}
-use Rattle.papaya_scenes.proofs.Given.Callers.Rows.Beside.{row_keeps_blocks}
-use Rattle.papaya_scenes.proofs.Given.Callers.Together.Came.{came_reached}
-use Rattle.papaya_scenes.specs.Given.Finishes.Machines.{MachineStepsAmong, DidOfKind}
-use Rattle.papaya_scenes.specs.Given.Finishes.Makings.{Beginning}
-use Rattle.papaya_scenes.specs.Given.Finishes.Maps.{Standing}
-use Rattle.papaya_scenes.proofs.Given.Finishes.Beside.Makings.Promised.{makings_went}
-use Rattle.papaya_scenes.specs.Scene.{Scene, slot_of}
+use Rattle.seize_words.specs.Mem.{Mem, Took, value_at}
+use Rattle.seize_words.specs.Plan.{Steps}
+use Rattle.papaya_tables.specs.Given.Seize.World.{World, Hand, Handed, Making, Step, Begin, Request, Register', Enter', Leave', LeaveOwned, Refresh, Unregister', Retire, Flush, Defer', Happens}
+use Rattle.papaya_tables.specs.Given.Seize.declared.progress.Progress.{Progress as Told}
+use Rattle.papaya_tables.specs.Nodes.{deferred_word}
+use Rattle.papaya_tables.specs.declared.node.Node.{Node}
+use Rattle.papaya_tables.specs.declared.node.Node.TheVariants.{Shards}
+use Rattle.papaya_tables.specs.declared.setting.Setting.{Setting}
+use Rattle.papaya_resize.specs.NewMap.{new_map_plan}
+use Rattle.papaya_resize.specs.declared.new_map.NewMap.{NewMap}
+use Rattle.papaya_raw.specs.declared.machines.machine.Machine.{Machine}
+use Rattle.papaya_raw.specs.declared.machines.progress.Progress.{Progress}
+use Rattle.papaya_acts.specs.Given.Rule.InWorld.{IsHeldBy, KeepsBlocks}
+use Rattle.papaya_acts.proofs.Given.Rule.World.OthersSpared.{held_once, keeps_same, keeps_then, keeps_handed}
+use Rattle.papaya_looks.specs.Given.Callers.Together.{UnderWay, OnKey, ForRoom, Counting, OverAll, IsOneStep, HandsOver}
+use Rattle.papaya_looks.proofs.Given.Callers.Rows.Beside.{row_keeps_blocks}
+use Rattle.papaya_looks.proofs.Given.Callers.Together.Came.{came_reached}
+use Rattle.papaya_looks.specs.Given.Finishes.Machines.{MachineStepsAmong, DidOfKind}
+use Rattle.papaya_looks.specs.Given.Finishes.Makings.{Beginning}
+use Rattle.papaya_looks.specs.Given.Finishes.Maps.{Standing}
+use Rattle.papaya_looks.proofs.Given.Finishes.Beside.Makings.Promised.{makings_went}
+use Rattle.papaya_acts.specs.Given.Scenes.Scene.{Scene, slot_of}
 use Rattle.papaya_looks.specs.Sees.{IsOwnOf}
 use Rattle.papaya_looks.proofs.Sees.Made.{own_pairs_made}
 use Rattle.papaya_acts.specs.Leads.{AllStand}

@@ -4,27 +4,27 @@ use Rattle.std.specs.Int.{IsPowerOfTwo}
 use Rattle.std.specs.Option.{is_none}
 use Rattle.std.proofs.Common.{◌≡◌, ℕ, ◌+◌, ◌<◌, ◌≤◌, ◌^◌, Bool, List, [], ◌⊎◌, inl, inr, refl, sym, subst, ap, ◌∙◌, arith}
 use Rattle.std.proofs.lemmas.Bool.{cases_eq}
-use Rattle.papaya_scenes.specs.Given.SeizeWords.Mem.{Mem, Can, Took, value_at}
-use Rattle.papaya_scenes.specs.Given.SeizeWords.Op.{Op, Out}
-use Rattle.papaya_scenes.specs.Given.SeizeWords.Plan.{Steps, May}
-use Rattle.papaya_scenes.specs.Given.Seize.World.{World, Row, Use, Rests, with_at}
-use Rattle.papaya_scenes.specs.Given.Seize.declared.progress.Progress.{Progress}
-use Rattle.papaya_scenes.specs.Given.Seize.declared.progress.Progress.TheVariants as progress
-use Rattle.papaya_scenes.specs.Given.Tables.Lengths.{IsTableLen}
-use Rattle.papaya_scenes.specs.Given.Tables.Nodes.{deferred_word}
-use Rattle.papaya_scenes.specs.Given.Tables.declared.node.Node.{Node}
-use Rattle.papaya_scenes.specs.Given.Tables.declared.setting.Setting.{Setting}
-use Rattle.papaya_scenes.specs.Given.Resize.NewMap.{new_map_plan, opening}
-use Rattle.papaya_scenes.specs.Given.Resize.declared.new_map.NewMap.{NewMap}
-use Rattle.papaya_scenes.specs.Given.Callers.Rows.{IsUsedAlike}
-use Rattle.papaya_scenes.specs.Given.Finishes.Endings.{Finishing, MakingStepsAmong}
-use Rattle.papaya_scenes.specs.Given.Finishes.Makings.{Beginning}
-use Rattle.papaya_scenes.specs.Given.Finishes.Maps.{Standing}
-use Rattle.papaya_scenes.proofs.Given.Callers.Together.At.{at_same, at_other}
-use Rattle.papaya_scenes.proofs.Given.Callers.Together.Came.{came_reached}
-use Rattle.papaya_scenes.proofs.Given.Callers.Together.Users.{events_rows, events_uses}
-use Rattle.papaya_scenes.specs.Making.{making_begun}
-use Rattle.papaya_scenes.specs.Scene.{Scene, slot_of}
+use Rattle.seize_words.specs.Mem.{Mem, Can, Took, value_at}
+use Rattle.seize_words.specs.Op.{Op, Out}
+use Rattle.seize_words.specs.Plan.{Steps, May}
+use Rattle.papaya_tables.specs.Given.Seize.World.{World, Row, Use, Rests, with_at}
+use Rattle.papaya_tables.specs.Given.Seize.declared.progress.Progress.{Progress}
+use Rattle.papaya_tables.specs.Given.Seize.declared.progress.Progress.TheVariants as progress
+use Rattle.papaya_tables.specs.Lengths.{IsTableLen}
+use Rattle.papaya_tables.specs.Nodes.{deferred_word}
+use Rattle.papaya_tables.specs.declared.node.Node.{Node}
+use Rattle.papaya_tables.specs.declared.setting.Setting.{Setting}
+use Rattle.papaya_resize.specs.NewMap.{new_map_plan, opening}
+use Rattle.papaya_resize.specs.declared.new_map.NewMap.{NewMap}
+use Rattle.papaya_looks.specs.Given.Callers.Rows.{IsUsedAlike}
+use Rattle.papaya_looks.specs.Given.Finishes.Endings.{Finishing, MakingStepsAmong}
+use Rattle.papaya_looks.specs.Given.Finishes.Makings.{Beginning}
+use Rattle.papaya_looks.specs.Given.Finishes.Maps.{Standing}
+use Rattle.papaya_looks.proofs.Given.Callers.Together.At.{at_same, at_other}
+use Rattle.papaya_looks.proofs.Given.Callers.Together.Came.{came_reached}
+use Rattle.papaya_looks.proofs.Given.Callers.Together.Users.{events_rows, events_uses}
+use Rattle.papaya_acts.specs.Given.Scenes.Making.{making_begun}
+use Rattle.papaya_acts.specs.Given.Scenes.Scene.{Scene, slot_of}
 use Rattle.papaya_acts.specs.Acts.{BeginsMaking, StepsMaking}
 use Rattle.papaya_acts.specs.Doings.{Does, MayDo}
 use Rattle.papaya_acts.specs.Leads.{AllStand, Led, MakingCame, making_steps}

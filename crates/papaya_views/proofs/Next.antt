@@ -2,22 +2,22 @@
 use Rattle.std.specs.Prelude.{◌≢◌, Option, Some, None}
 use Rattle.std.proofs.Common.{◌≡◌, ℕ, Bool, ◌⊎◌, inl, inr, refl, sym, subst, ap, ◌∙◌}
 use Rattle.std.proofs.lemmas.Bool.{cases_eq}
-use Rattle.papaya_scenes.specs.Given.SeizeWords.Mem.{Mem}
-use Rattle.papaya_scenes.specs.Given.Seize.World.{IsInside}
-use Rattle.papaya_scenes.specs.Given.Tables.Nodes.{deferred_word}
-use Rattle.papaya_scenes.specs.Given.Tables.declared.node.Node.{Node}
-use Rattle.papaya_scenes.specs.Given.Raw.declared.machines.machine.Machine.{Machine}
-use Rattle.papaya_scenes.specs.Given.Raw.declared.machines.progress.Progress.{Progress}
-use Rattle.papaya_scenes.specs.Given.Raw.declared.machines.progress.Progress.TheVariants as progress
-use Rattle.papaya_scenes.specs.Given.Callers.Rows.{IsRowOn}
-use Rattle.papaya_scenes.specs.Given.Callers.Together.{UnderWay}
-use Rattle.papaya_scenes.specs.Given.Finishes.Endings.{Finishing}
-use Rattle.papaya_scenes.specs.Given.Finishes.Machines.{machine_of, MachineStepsAmong, GoesOnAs}
-use Rattle.papaya_scenes.specs.Given.Finishes.Makings.{Beginning}
-use Rattle.papaya_scenes.specs.Given.Finishes.Maps.{Standing, IsSameMap, with_call}
-use Rattle.papaya_scenes.specs.Scene.{Scene, slot_of}
+use Rattle.seize_words.specs.Mem.{Mem}
+use Rattle.papaya_tables.specs.Given.Seize.World.{IsInside}
+use Rattle.papaya_tables.specs.Nodes.{deferred_word}
+use Rattle.papaya_tables.specs.declared.node.Node.{Node}
+use Rattle.papaya_raw.specs.declared.machines.machine.Machine.{Machine}
+use Rattle.papaya_raw.specs.declared.machines.progress.Progress.{Progress}
+use Rattle.papaya_raw.specs.declared.machines.progress.Progress.TheVariants as progress
+use Rattle.papaya_looks.specs.Given.Callers.Rows.{IsRowOn}
+use Rattle.papaya_looks.specs.Given.Callers.Together.{UnderWay}
+use Rattle.papaya_looks.specs.Given.Finishes.Endings.{Finishing}
+use Rattle.papaya_looks.specs.Given.Finishes.Machines.{machine_of, MachineStepsAmong, GoesOnAs}
+use Rattle.papaya_looks.specs.Given.Finishes.Makings.{Beginning}
+use Rattle.papaya_looks.specs.Given.Finishes.Maps.{Standing, IsSameMap, with_call}
+use Rattle.papaya_acts.specs.Given.Scenes.Scene.{Scene, slot_of}
 use Rattle.papaya_acts.specs.Leads.{AllStand}
-use Rattle.papaya_scenes.proofs.Given.Callers.Together.Came.{came_reached}
+use Rattle.papaya_looks.proofs.Given.Callers.Together.Came.{came_reached}
 use Rattle.seize_alone.proofs.Histories.Reached.{Reached}
 use Rattle.seize_acts.proofs.Answers.{same_some}
 use Rattle.seize_views.specs.declared.view.Has.TheVariants.{Nothing as NoBlock}

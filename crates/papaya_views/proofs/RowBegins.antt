@@ -2,14 +2,14 @@
 use Rattle.std.specs.Prelude.{Option, Some, None}
 use Rattle.std.specs.Option.{is_none}
 use Rattle.std.proofs.Common.{◌≡◌, ℕ, Bool, List, [], ◌∷◌, inl, inr, refl, sym, subst, ap, ◌∙◌}
-use Rattle.papaya_scenes.specs.Given.SeizeWords.Mem.{Mem, value_at}
-use Rattle.papaya_scenes.specs.Given.Seize.Law.{Effect, holds, is_over}
-use Rattle.papaya_scenes.specs.Given.Seize.World.{World, Rests, Use, Outside, Inside, Begin, Request, Register', Enter', Leave', LeaveOwned, Refresh, Unregister', Retire, Flush, Defer', Begins}
-use Rattle.papaya_scenes.specs.Given.Tables.Nodes.{deferred_word}
-use Rattle.papaya_scenes.specs.Given.Tables.declared.node.Node.{Node}
-use Rattle.papaya_scenes.specs.Given.Callers.Rows.{IsUsedAlike}
-use Rattle.papaya_scenes.specs.Given.Callers.Together.{UnderWay, OnKey, ForRoom, Counting, OverAll, UnlessCounts, IsOfSlots, Closes}
-use Rattle.papaya_scenes.specs.Scene.{Scene, slot_of}
+use Rattle.seize_words.specs.Mem.{Mem, value_at}
+use Rattle.papaya_tables.specs.Given.Seize.Law.{Effect, holds, is_over}
+use Rattle.papaya_tables.specs.Given.Seize.World.{World, Rests, Use, Outside, Inside, Begin, Request, Register', Enter', Leave', LeaveOwned, Refresh, Unregister', Retire, Flush, Defer', Begins}
+use Rattle.papaya_tables.specs.Nodes.{deferred_word}
+use Rattle.papaya_tables.specs.declared.node.Node.{Node}
+use Rattle.papaya_looks.specs.Given.Callers.Rows.{IsUsedAlike}
+use Rattle.papaya_looks.specs.Given.Callers.Together.{UnderWay, OnKey, ForRoom, Counting, OverAll, UnlessCounts, IsOfSlots, Closes}
+use Rattle.papaya_acts.specs.Given.Scenes.Scene.{Scene, slot_of}
 use Rattle.papaya_acts.specs.Acts.{BeginsRow}
 use Rattle.papaya_acts.specs.Doings.{Does, MayDo}
 use Rattle.papaya_acts.specs.Leads.{Led}

@@ -2,13 +2,13 @@
 use Rattle.std.specs.Prelude.{◌≢◌, Option, Some, None}
 use Rattle.std.proofs.Common.{◌≡◌, ℕ, Bool, [], ◌⊎◌, inl, inr, refl, sym, subst, ap, ◌∙◌}
 use Rattle.std.proofs.lemmas.Bool.{cases_eq}
-use Rattle.papaya_scenes.specs.Given.SeizeWords.Mem.{Mem}
-use Rattle.papaya_scenes.specs.Given.Seize.World.{World, Rests, Use, Vacant, Inside, IsInside}
-use Rattle.papaya_scenes.specs.Given.Tables.Nodes.{deferred_word}
-use Rattle.papaya_scenes.specs.Given.Tables.declared.node.Node.{Node}
-use Rattle.papaya_scenes.specs.Given.Callers.Rows.{IsUsedAlike}
-use Rattle.papaya_scenes.specs.Given.Finishes.Maps.{Standing, IsSameMap}
-use Rattle.papaya_scenes.specs.Scene.{Scene, slot_of}
+use Rattle.seize_words.specs.Mem.{Mem}
+use Rattle.papaya_tables.specs.Given.Seize.World.{World, Rests, Use, Vacant, Inside, IsInside}
+use Rattle.papaya_tables.specs.Nodes.{deferred_word}
+use Rattle.papaya_tables.specs.declared.node.Node.{Node}
+use Rattle.papaya_looks.specs.Given.Callers.Rows.{IsUsedAlike}
+use Rattle.papaya_looks.specs.Given.Finishes.Maps.{Standing, IsSameMap}
+use Rattle.papaya_acts.specs.Given.Scenes.Scene.{Scene, slot_of}
 use Rattle.papaya_acts.specs.Leads.{AllStand}
 use Rattle.seize_seats.specs.State.{State, view_of}
 use Rattle.seize_views.specs.Rows.{row_of, use_of, IsPlain, IsShort, IsKnown, IsBounded}

@@ -1,56 +1,56 @@
 -- What a step of a call has seen that stands at a row of the collector: the block that the row is to reclaim next. And that row is the one that its caller has under way.
 use Rattle.std.proofs.Common.{◌≡◌, ℕ, Bool, true, inl, inr, refl, sym, subst, ap, ◌∙◌}
-use Rattle.papaya_scenes.specs.Given.SeizeWords.Mem.{Mem}
-use Rattle.papaya_scenes.specs.Given.Seize.Defer as defer
-use Rattle.papaya_scenes.specs.Given.Seize.Defer.{defer_plan}
-use Rattle.papaya_scenes.specs.Given.Seize.Settle.{settle_plan}
-use Rattle.papaya_scenes.specs.Given.Seize.declared.progress.Progress.{Progress as Told}
-use Rattle.papaya_scenes.specs.Given.Seize.declared.rows.defer.Defer.{Defer}
-use Rattle.papaya_scenes.specs.Given.Seize.declared.rows.defer.Deferring.{Deferring}
-use Rattle.papaya_scenes.specs.Given.Seize.declared.rows.defer.Deferring.TheVariants as deferring
-use Rattle.papaya_scenes.specs.Given.Seize.declared.rows.settle.Settle.{Settle}
-use Rattle.papaya_scenes.specs.Given.Seize.declared.rows.settle.Settled.{Settled}
-use Rattle.papaya_scenes.specs.Given.Seize.declared.rows.settle.Settled.TheVariants as settled
-use Rattle.papaya_scenes.specs.Given.Tables.Nodes.{deferred_word}
-use Rattle.papaya_scenes.specs.Given.Tables.declared.node.Node.{Node}
-use Rattle.papaya_scenes.specs.Given.Tables.declared.table.Table.{Table}
-use Rattle.papaya_scenes.specs.Given.Resize.Copier as copier
-use Rattle.papaya_scenes.specs.Given.Resize.Copier.{copier_plan}
-use Rattle.papaya_scenes.specs.Given.Resize.CopierPromotes as promotes
-use Rattle.papaya_scenes.specs.Given.Resize.Dispose as dispose
-use Rattle.papaya_scenes.specs.Given.Resize.Dispose.{dispose_plan}
-use Rattle.papaya_scenes.specs.Given.Resize.declared.copier.Copier.{Copier}
-use Rattle.papaya_scenes.specs.Given.Resize.declared.copier.Copying.{Copying}
-use Rattle.papaya_scenes.specs.Given.Resize.declared.copier.Copying.TheVariants as copies
-use Rattle.papaya_scenes.specs.Given.Resize.declared.dispose.Dispose.{Dispose}
-use Rattle.papaya_scenes.specs.Given.Resize.declared.dispose.Disposing.{Disposing}
-use Rattle.papaya_scenes.specs.Given.Resize.declared.dispose.Disposing.TheVariants as disposes
-use Rattle.papaya_scenes.specs.Given.Resize.declared.outcome.Outcome.{Outcome}
-use Rattle.papaya_scenes.specs.Given.Resize.declared.outcome.Outcome.TheVariants as outcome
-use Rattle.papaya_scenes.specs.Given.Reserves.Reserve as reserve
-use Rattle.papaya_scenes.specs.Given.Reserves.Reserve.{reserve_plan}
-use Rattle.papaya_scenes.specs.Given.Reserves.declared.reserve.Reserve.{Reserve}
-use Rattle.papaya_scenes.specs.Given.Reserves.declared.reserve.Reserving.{Reserving}
-use Rattle.papaya_scenes.specs.Given.Reserves.declared.reserve.Reserving.TheVariants as reserving
-use Rattle.papaya_scenes.specs.Given.Sweeps.Sweep as sweep
-use Rattle.papaya_scenes.specs.Given.Sweeps.Sweep.{sweep_plan}
-use Rattle.papaya_scenes.specs.Given.Sweeps.declared.sweep.Sweep.{Sweep}
-use Rattle.papaya_scenes.specs.Given.Sweeps.declared.sweep.Swept.{Swept}
-use Rattle.papaya_scenes.specs.Given.Sweeps.declared.sweep.Swept.TheVariants as swept
-use Rattle.papaya_scenes.specs.Given.Sweeps.declared.sweep.Sweeping.{Sweeping}
-use Rattle.papaya_scenes.specs.Given.Sweeps.declared.sweep.Sweeping.TheVariants as sweeping
-use Rattle.papaya_scenes.specs.Given.Raw.Call as call
-use Rattle.papaya_scenes.specs.Given.Raw.Call.{call_plan}
-use Rattle.papaya_scenes.specs.Given.Raw.Machine as machines
-use Rattle.papaya_scenes.specs.Given.Raw.Machine.{machine_plan}
-use Rattle.papaya_scenes.specs.Given.Raw.declared.machines.answer.Called.{Called}
-use Rattle.papaya_scenes.specs.Given.Raw.declared.machines.answer.Called.TheVariants as called
-use Rattle.papaya_scenes.specs.Given.Raw.declared.machines.call.Calling.{Calling}
-use Rattle.papaya_scenes.specs.Given.Raw.declared.machines.call.Calling.TheVariants as at
-use Rattle.papaya_scenes.specs.Given.Raw.declared.machines.call.KeyCall.{KeyCall}
-use Rattle.papaya_scenes.specs.Given.Raw.declared.machines.machine.Machine.{Machine}
-use Rattle.papaya_scenes.specs.Given.Raw.declared.machines.machine.Machine.TheVariants as kinds
-use Rattle.papaya_scenes.specs.Given.Raw.declared.machines.progress.Progress.{Progress}
+use Rattle.seize_words.specs.Mem.{Mem}
+use Rattle.papaya_tables.specs.Given.Seize.Defer as defer
+use Rattle.papaya_tables.specs.Given.Seize.Defer.{defer_plan}
+use Rattle.papaya_tables.specs.Given.Seize.Settle.{settle_plan}
+use Rattle.papaya_tables.specs.Given.Seize.declared.progress.Progress.{Progress as Told}
+use Rattle.papaya_tables.specs.Given.Seize.declared.rows.defer.Defer.{Defer}
+use Rattle.papaya_tables.specs.Given.Seize.declared.rows.defer.Deferring.{Deferring}
+use Rattle.papaya_tables.specs.Given.Seize.declared.rows.defer.Deferring.TheVariants as deferring
+use Rattle.papaya_tables.specs.Given.Seize.declared.rows.settle.Settle.{Settle}
+use Rattle.papaya_tables.specs.Given.Seize.declared.rows.settle.Settled.{Settled}
+use Rattle.papaya_tables.specs.Given.Seize.declared.rows.settle.Settled.TheVariants as settled
+use Rattle.papaya_tables.specs.Nodes.{deferred_word}
+use Rattle.papaya_tables.specs.declared.node.Node.{Node}
+use Rattle.papaya_tables.specs.declared.table.Table.{Table}
+use Rattle.papaya_resize.specs.Copier as copier
+use Rattle.papaya_resize.specs.Copier.{copier_plan}
+use Rattle.papaya_resize.specs.CopierPromotes as promotes
+use Rattle.papaya_resize.specs.Dispose as dispose
+use Rattle.papaya_resize.specs.Dispose.{dispose_plan}
+use Rattle.papaya_resize.specs.declared.copier.Copier.{Copier}
+use Rattle.papaya_resize.specs.declared.copier.Copying.{Copying}
+use Rattle.papaya_resize.specs.declared.copier.Copying.TheVariants as copies
+use Rattle.papaya_resize.specs.declared.dispose.Dispose.{Dispose}
+use Rattle.papaya_resize.specs.declared.dispose.Disposing.{Disposing}
+use Rattle.papaya_resize.specs.declared.dispose.Disposing.TheVariants as disposes
+use Rattle.papaya_resize.specs.declared.outcome.Outcome.{Outcome}
+use Rattle.papaya_resize.specs.declared.outcome.Outcome.TheVariants as outcome
+use Rattle.papaya_raw.specs.Given.Reserves.Reserve as reserve
+use Rattle.papaya_raw.specs.Given.Reserves.Reserve.{reserve_plan}
+use Rattle.papaya_raw.specs.Given.Reserves.declared.reserve.Reserve.{Reserve}
+use Rattle.papaya_raw.specs.Given.Reserves.declared.reserve.Reserving.{Reserving}
+use Rattle.papaya_raw.specs.Given.Reserves.declared.reserve.Reserving.TheVariants as reserving
+use Rattle.papaya_raw.specs.Given.Sweeps.Sweep as sweep
+use Rattle.papaya_raw.specs.Given.Sweeps.Sweep.{sweep_plan}
+use Rattle.papaya_raw.specs.Given.Sweeps.declared.sweep.Sweep.{Sweep}
+use Rattle.papaya_raw.specs.Given.Sweeps.declared.sweep.Swept.{Swept}
+use Rattle.papaya_raw.specs.Given.Sweeps.declared.sweep.Swept.TheVariants as swept
+use Rattle.papaya_raw.specs.Given.Sweeps.declared.sweep.Sweeping.{Sweeping}
+use Rattle.papaya_raw.specs.Given.Sweeps.declared.sweep.Sweeping.TheVariants as sweeping
+use Rattle.papaya_raw.specs.Call as call
+use Rattle.papaya_raw.specs.Call.{call_plan}
+use Rattle.papaya_raw.specs.Machine as machines
+use Rattle.papaya_raw.specs.Machine.{machine_plan}
+use Rattle.papaya_raw.specs.declared.machines.answer.Called.{Called}
+use Rattle.papaya_raw.specs.declared.machines.answer.Called.TheVariants as called
+use Rattle.papaya_raw.specs.declared.machines.call.Calling.{Calling}
+use Rattle.papaya_raw.specs.declared.machines.call.Calling.TheVariants as at
+use Rattle.papaya_raw.specs.declared.machines.call.KeyCall.{KeyCall}
+use Rattle.papaya_raw.specs.declared.machines.machine.Machine.{Machine}
+use Rattle.papaya_raw.specs.declared.machines.machine.Machine.TheVariants as kinds
+use Rattle.papaya_raw.specs.declared.machines.progress.Progress.{Progress}
 use Rattle.papaya_looks.specs.Sees.{HasSeen, GoesOn}
 use Rattle.papaya_looks.proofs.Sees.Operations.{loads, exchanges}
 use Rattle.papaya_looks.proofs.Sees.Plans.{seen_as}

@@ -1,14 +1,14 @@
 -- What the first operation of a lookup tells its seat, on a map that has no table; and what the operation of a row does.
 use Rattle.std.specs.Prelude.{ℕ, ◌==◌, Bool, [], Some}
 use Rattle.std.proofs.Common.{inl, refl, ap}
-use Rattle.papaya_scenes.specs.Given.SeizeWords.Op.{Load, Store, Found, Stored}
-use Rattle.papaya_scenes.specs.Given.SeizeWords.declared.at.At.TheVariants.{Root, Slot}
-use Rattle.papaya_scenes.specs.Given.Tables.declared.node.Node.{Node}
-use Rattle.papaya_scenes.specs.Given.Tables.declared.resize_mode.ResizeMode.TheVariants.{Incremental}
-use Rattle.papaya_scenes.specs.Given.Tables.declared.setting.Setting.{Setting}
-use Rattle.papaya_scenes.specs.Given.Raw.declared.machines.machine.Machine.{Machine}
-use Rattle.papaya_scenes.specs.Given.Raw.declared.machines.progress.Progress.{Progress}
-use Rattle.papaya_scenes.specs.Given.Seize.declared.states.TheConstants.{HEAD, ACTIVE}
+use Rattle.seize_words.specs.Op.{Load, Store, Found, Stored}
+use Rattle.seize_words.specs.declared.at.At.TheVariants.{Root, Slot}
+use Rattle.papaya_tables.specs.declared.node.Node.{Node}
+use Rattle.papaya_tables.specs.declared.resize_mode.ResizeMode.TheVariants.{Incremental}
+use Rattle.papaya_tables.specs.declared.setting.Setting.{Setting}
+use Rattle.papaya_raw.specs.declared.machines.machine.Machine.{Machine}
+use Rattle.papaya_raw.specs.declared.machines.progress.Progress.{Progress}
+use Rattle.papaya_tables.specs.Given.Seize.declared.states.TheConstants.{HEAD, ACTIVE}
 use Rattle.papaya_acts.specs.Acts.{Get}
 use Rattle.seize_views.specs.declared.view.Has.TheVariants.{Nothing as NoBlock}
 use Rattle.seize_views.specs.Promises.{IsNext}

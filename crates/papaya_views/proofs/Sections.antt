@@ -1,18 +1,18 @@
 -- What happens as a call takes a step: users' events, or a step of its caller's row.
 use Rattle.std.specs.Prelude.{Some}
 use Rattle.std.proofs.Common.{◌≡◌, ℕ, Bool, List, [], ◌∷◌, inl, inr, refl, sym, subst}
-use Rattle.papaya_scenes.specs.Given.SeizeWords.Mem.{Mem}
-use Rattle.papaya_scenes.specs.Given.Seize.World.{World, Event, Request, Register', Enter', Leave', LeaveOwned, Refresh, Unregister', Retire, Flush, Defer', Runs}
-use Rattle.papaya_scenes.specs.Given.Tables.Nodes.{deferred_word}
-use Rattle.papaya_scenes.specs.Given.Tables.declared.node.Node.{Node}
-use Rattle.papaya_scenes.specs.Given.Tables.declared.setting.Setting.{Setting}
-use Rattle.papaya_scenes.specs.Given.Raw.declared.machines.machine.Machine.{Machine}
-use Rattle.papaya_scenes.specs.Given.Raw.declared.machines.progress.Progress.{Progress}
-use Rattle.papaya_scenes.specs.Given.Rule.InWorld.{AllUsers}
-use Rattle.papaya_scenes.specs.Given.Callers.Together.{UnderWay, OnKey, ForRoom, Counting, OverAll, IsOneStep, HandsOver}
-use Rattle.papaya_scenes.specs.Given.Finishes.Machines.{MachineStepsAmong, DidOfKind}
-use Rattle.papaya_scenes.specs.Given.Finishes.Maps.{Standing}
-use Rattle.papaya_scenes.specs.Scene.{Scene}
+use Rattle.seize_words.specs.Mem.{Mem}
+use Rattle.papaya_tables.specs.Given.Seize.World.{World, Event, Request, Register', Enter', Leave', LeaveOwned, Refresh, Unregister', Retire, Flush, Defer', Runs}
+use Rattle.papaya_tables.specs.Nodes.{deferred_word}
+use Rattle.papaya_tables.specs.declared.node.Node.{Node}
+use Rattle.papaya_tables.specs.declared.setting.Setting.{Setting}
+use Rattle.papaya_raw.specs.declared.machines.machine.Machine.{Machine}
+use Rattle.papaya_raw.specs.declared.machines.progress.Progress.{Progress}
+use Rattle.papaya_acts.specs.Given.Rule.InWorld.{AllUsers}
+use Rattle.papaya_looks.specs.Given.Callers.Together.{UnderWay, OnKey, ForRoom, Counting, OverAll, IsOneStep, HandsOver}
+use Rattle.papaya_looks.specs.Given.Finishes.Machines.{MachineStepsAmong, DidOfKind}
+use Rattle.papaya_looks.specs.Given.Finishes.Maps.{Standing}
+use Rattle.papaya_acts.specs.Given.Scenes.Scene.{Scene}
 use Rattle.papaya_acts.specs.Leads.{AllStand}
 use Rattle.papaya_views.proofs.Quiet.{AllOfUsers, HandsOne}
 use Rattle.papaya_views.proofs.Ran.{Stepped, Ran}

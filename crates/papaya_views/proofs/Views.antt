@@ -1,7 +1,7 @@
 -- The rule holds of other views of the seats, where each has the slot that it had, and knows what is so.
 use Rattle.std.specs.Prelude.{Some, None, slice_get}
 use Rattle.std.proofs.Common.{◌≡◌, ℕ, Bool, List, sym, subst, ap, ◌∙◌}
-use Rattle.papaya_scenes.specs.Given.Tables.declared.node.Node.{Node}
+use Rattle.papaya_tables.specs.declared.node.Node.{Node}
 use Rattle.seize_seats.specs.State.{State, view_of}
 use Rattle.seize_views.specs.Rows.{use_of}
 use Rattle.seize_views.specs.declared.view.Fixed.{Fixed}

@@ -1,13 +1,13 @@
 -- What a seat knows once a row has begun or ended, or a call has begun, or was told something, or a map was handed on to it.
 use Rattle.std.specs.Prelude.{ℕ, Bool, [], Some}
-use Rattle.papaya_scenes.specs.Given.Resize.declared.new_map.NewMap.{NewMap}
-use Rattle.papaya_scenes.specs.Given.Raw.Machine.{machine_replied}
-use Rattle.papaya_scenes.specs.Given.Raw.declared.machines.asking.Reply.{Reply}
-use Rattle.papaya_scenes.specs.Given.Raw.declared.machines.machine.Machine.{Machine}
-use Rattle.papaya_scenes.specs.Given.Finishes.Machines.{machine_of}
-use Rattle.papaya_scenes.specs.Given.Finishes.Maps.{new_map}
+use Rattle.papaya_resize.specs.declared.new_map.NewMap.{NewMap}
+use Rattle.papaya_raw.specs.Machine.{machine_replied}
+use Rattle.papaya_raw.specs.declared.machines.asking.Reply.{Reply}
+use Rattle.papaya_raw.specs.declared.machines.machine.Machine.{Machine}
+use Rattle.papaya_looks.specs.Given.Finishes.Machines.{machine_of}
+use Rattle.papaya_looks.specs.Given.Finishes.Maps.{new_map}
 use Rattle.papaya_acts.specs.Acts.{Wanted, begun}
-use Rattle.papaya_scenes.specs.Given.Tables.declared.node.Node.{Node}
+use Rattle.papaya_tables.specs.declared.node.Node.{Node}
 use Rattle.seize_views.specs.declared.view.Began.{Began}
 use Rattle.seize_views.specs.declared.view.View.{View as SlotView}
 use Rattle.papaya_views.specs.declared.view.Map.{Map}

@@ -1,6 +1,6 @@
 -- What a seat knows of its slot and of its row, as it is noted for whoever has rows run.
 use Rattle.std.specs.Prelude.{Some, None}
-use Rattle.papaya_scenes.specs.Given.Tables.declared.node.Node.{Node}
+use Rattle.papaya_tables.specs.declared.node.Node.{Node}
 use Rattle.seize_views.specs.Notes.{noted}
 use Rattle.seize_views.specs.Rows.{IsAtRest}
 use Rattle.seize_views.specs.declared.view.Deed.TheVariants.{NoneYet}

@@ -1,9 +1,9 @@
 -- Who has nothing under way has nothing under way after an operation.
 use Rattle.std.specs.Prelude.{ℕ, Bool, Option}
 use Rattle.std.proofs.Common.{refl, sym, subst}
-use Rattle.papaya_scenes.specs.Given.SeizeWords.Op.{Op, Out}
-use Rattle.papaya_scenes.specs.Given.Tables.Nodes.{deferred_word}
-use Rattle.papaya_scenes.specs.Given.Tables.declared.node.Node.{Node}
+use Rattle.seize_words.specs.Op.{Op, Out}
+use Rattle.papaya_tables.specs.Nodes.{deferred_word}
+use Rattle.papaya_tables.specs.declared.node.Node.{Node}
 use Rattle.seize_views.specs.Notes.{noted, deed}
 use Rattle.seize_views.specs.Resting.{resting_stay as row_stays}
 use Rattle.seize_views.specs.Rows.{IsAtRest}

@@ -1,20 +1,20 @@
 -- The rule of maps: a list of acts has led to a scene, of which the memory is that of the state; and what each seat knows of its slot, of a map and of what it has
 -- under way is so there, and the blocks that it knows to be held for it are there, and last.
 use Rattle.std.specs.Prelude.{◌≡◌, ◌≢◌, ℕ, ◌+◌, ◌*◌, ◌<◌, Bool, List, [], Option, Some, None, true, false, ◌∷◌, ◌≤◌, ◌⊎◌}
-use Rattle.papaya_scenes.specs.Given.SeizeWords.Mem.{value_at}
-use Rattle.papaya_scenes.specs.Given.Seize.Law.{holds, is_over}
-use Rattle.papaya_scenes.specs.Given.Seize.World.{World, Use, Rests, IsInside}
-use Rattle.papaya_scenes.specs.Given.Tables.Nodes.{deferred_word}
-use Rattle.papaya_scenes.specs.Given.Tables.declared.node.Node.{Node}
-use Rattle.papaya_scenes.specs.Given.Resize.declared.new_map.NewMap.{NewMap}
-use Rattle.papaya_scenes.specs.Given.Raw.declared.machines.machine.Machine.{Machine}
-use Rattle.papaya_scenes.specs.Given.Callers.Rows.{IsUsedAlike, IsRowOn}
-use Rattle.papaya_scenes.specs.Given.Callers.Together.{UnderWay}
-use Rattle.papaya_scenes.specs.Given.Finishes.Machines.{machine_of}
-use Rattle.papaya_scenes.specs.Given.Finishes.Makings.{Beginning}
-use Rattle.papaya_scenes.specs.Given.Finishes.Maps.{Standing}
-use Rattle.papaya_scenes.specs.Scene.{Scene, slot_of}
-use Rattle.papaya_scenes.specs.declared.callers.TheConstants.{SLOTS}
+use Rattle.seize_words.specs.Mem.{value_at}
+use Rattle.papaya_tables.specs.Given.Seize.Law.{holds, is_over}
+use Rattle.papaya_tables.specs.Given.Seize.World.{World, Use, Rests, IsInside}
+use Rattle.papaya_tables.specs.Nodes.{deferred_word}
+use Rattle.papaya_tables.specs.declared.node.Node.{Node}
+use Rattle.papaya_resize.specs.declared.new_map.NewMap.{NewMap}
+use Rattle.papaya_raw.specs.declared.machines.machine.Machine.{Machine}
+use Rattle.papaya_looks.specs.Given.Callers.Rows.{IsUsedAlike, IsRowOn}
+use Rattle.papaya_looks.specs.Given.Callers.Together.{UnderWay}
+use Rattle.papaya_looks.specs.Given.Finishes.Machines.{machine_of}
+use Rattle.papaya_looks.specs.Given.Finishes.Makings.{Beginning}
+use Rattle.papaya_looks.specs.Given.Finishes.Maps.{Standing}
+use Rattle.papaya_acts.specs.Given.Scenes.Scene.{Scene, slot_of}
+use Rattle.papaya_acts.specs.Given.Scenes.declared.callers.TheConstants.{SLOTS}
 use Rattle.papaya_looks.specs.Sees.{IsOwnOf}
 use Rattle.papaya_acts.specs.Doings.{Doing, reclaiming}
 use Rattle.papaya_acts.specs.Lists.{Course, Reached, LedTo}

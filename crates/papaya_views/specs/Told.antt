@@ -1,18 +1,18 @@
 -- What the answer of an operation tells its seat: how far what it has under way has come, and at which blocks the step looks.
 use Rattle.std.specs.Prelude.{◌≡◌, ℕ, Bool, List, [], Option, Some, None, if◌then◌else◌}
-use Rattle.papaya_scenes.specs.Given.SeizeWords.Op.{Op, Out}
-use Rattle.papaya_scenes.specs.Given.Seize.declared.progress.Progress.{Progress as Told}
-use Rattle.papaya_scenes.specs.Given.Seize.declared.progress.Progress.TheVariants as told_as
-use Rattle.papaya_scenes.specs.Given.Tables.Chunks.{is_incremental}
-use Rattle.papaya_scenes.specs.Given.Tables.Nodes.{deferred_word}
-use Rattle.papaya_scenes.specs.Given.Tables.declared.node.Node.{Node}
-use Rattle.papaya_scenes.specs.Given.Tables.declared.setting.Setting.{Setting}
-use Rattle.papaya_scenes.specs.Given.Resize.NewMap.{new_map_plan}
-use Rattle.papaya_scenes.specs.Given.Resize.declared.new_map.NewMap.{NewMap}
-use Rattle.papaya_scenes.specs.Given.Raw.Machine.{machine_plan}
-use Rattle.papaya_scenes.specs.Given.Raw.declared.machines.machine.Machine.{Machine}
-use Rattle.papaya_scenes.specs.Given.Raw.declared.machines.progress.Progress.{Progress}
-use Rattle.papaya_scenes.specs.Given.Raw.declared.machines.progress.Progress.TheVariants as progress
+use Rattle.seize_words.specs.Op.{Op, Out}
+use Rattle.papaya_tables.specs.Given.Seize.declared.progress.Progress.{Progress as Told}
+use Rattle.papaya_tables.specs.Given.Seize.declared.progress.Progress.TheVariants as told_as
+use Rattle.papaya_tables.specs.Chunks.{is_incremental}
+use Rattle.papaya_tables.specs.Nodes.{deferred_word}
+use Rattle.papaya_tables.specs.declared.node.Node.{Node}
+use Rattle.papaya_tables.specs.declared.setting.Setting.{Setting}
+use Rattle.papaya_resize.specs.NewMap.{new_map_plan}
+use Rattle.papaya_resize.specs.declared.new_map.NewMap.{NewMap}
+use Rattle.papaya_raw.specs.Machine.{machine_plan}
+use Rattle.papaya_raw.specs.declared.machines.machine.Machine.{Machine}
+use Rattle.papaya_raw.specs.declared.machines.progress.Progress.{Progress}
+use Rattle.papaya_raw.specs.declared.machines.progress.Progress.TheVariants as progress
 use Rattle.seize_views.specs.Told.{FollowsBy, told as row_told}
 use Rattle.seize_views.specs.declared.view.View.{View as SlotView}
 use Rattle.papaya_views.specs.Looks.{shown_in, TurnsTo, MayFollow}

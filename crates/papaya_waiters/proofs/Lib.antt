@@ -18,3 +18,4 @@ pub mod Steps
 pub mod Calls
 pub mod Likes
 pub mod RowsFresh
+pub mod Given

@@ -2,34 +2,34 @@
 use Rattle.std.specs.Prelude.{Option, Some, None}
 use Rattle.std.specs.Int.{IsPowerOfTwo}
 use Rattle.std.proofs.Common.{◌≡◌, ℕ, Bool, true, ◌⊎◌, inl, inr, refl, ap, sym, subst, ◌∙◌}
-use Rattle.papaya_callers.specs.Given.SeizeWords.Mem.{Mem, Took, value_at}
-use Rattle.papaya_callers.specs.Given.SeizeWords.Plan.{Steps}
-use Rattle.papaya_callers.specs.Given.Seize.World.{World, Rests, with_at}
-use Rattle.papaya_callers.proofs.Given.SeizeRule.Rows.Leaving.{steps_back}
-use Rattle.papaya_callers.specs.Given.Tables.Chunks.{is_incremental}
-use Rattle.papaya_callers.specs.Given.Tables.declared.node.Node.{Node}
-use Rattle.papaya_callers.specs.Given.Tables.declared.setting.Setting.{Setting}
-use Rattle.papaya_callers.specs.Given.Tables.declared.table.Table.{Table}
-use Rattle.papaya_callers.specs.Given.Resize.Copier.{copier_plan}
-use Rattle.papaya_callers.specs.Given.Resize.declared.outcome.Outcome.{Outcome}
-use Rattle.papaya_callers.specs.Given.Resize.declared.outcome.Outcome.TheVariants as outcome
-use Rattle.papaya_callers.specs.Given.Resize.declared.copier.Copier.{Copier}
-use Rattle.papaya_callers.specs.Given.Raw.Call.{plan_at, call_plan, helped}
-use Rattle.papaya_callers.specs.Given.Raw.declared.machines.answer.Called.{Called}
-use Rattle.papaya_callers.specs.Given.Raw.declared.machines.call.KeyCall.{KeyCall}
-use Rattle.papaya_callers.specs.Given.Raw.declared.machines.call.Calling.{Calling}
-use Rattle.papaya_callers.specs.Given.Raw.declared.machines.call.Calling.TheVariants as at
-use Rattle.papaya_callers.specs.Given.Rule.Chart.{Chart}
-use Rattle.papaya_callers.specs.Given.Rule.InWorld.{IsMapIn}
-use Rattle.papaya_callers.specs.Given.Rule.Words.{Blocks}
-use Rattle.papaya_callers.specs.Given.Points.FactsCalls.{CallFacts, CallingFacts, IsCopying, Unchanged}
-use Rattle.papaya_callers.specs.Given.Points.FactsCopies.{CopierFacts}
-use Rattle.papaya_callers.specs.Given.Points.Steps.{AreLawful}
-use Rattle.papaya_callers.specs.Given.Points.Told.{IsRowOfCall, MovedBeside}
-use Rattle.papaya_callers.specs.Given.Late.LateCalls.{LateCallFacts}
-use Rattle.papaya_callers.specs.Rows.{row_of, once_over}
-use Rattle.papaya_callers.specs.Sights.{Sight, seen_by}
-use Rattle.papaya_callers.specs.Together.{CallOnKey, UnderWay, OnKey, Knows, Together, StepsTogether, StepTold, Fresh, Late, change_told, next_of, in_slot}
+use Rattle.seize_acts.specs.Given.SeizeWords.Mem.{Mem, Took, value_at}
+use Rattle.seize_acts.specs.Given.SeizeWords.Plan.{Steps}
+use Rattle.seize_acts.specs.Given.Seize.World.{World, Rests, with_at}
+use Rattle.seize_acts.proofs.Given.SeizeRule.Rows.Leaving.{steps_back}
+use Rattle.papaya_maps.specs.Given.Tables.Chunks.{is_incremental}
+use Rattle.papaya_maps.specs.Given.Tables.declared.node.Node.{Node}
+use Rattle.papaya_maps.specs.Given.Tables.declared.setting.Setting.{Setting}
+use Rattle.papaya_maps.specs.Given.Tables.declared.table.Table.{Table}
+use Rattle.papaya_maps.specs.Given.Resize.Copier.{copier_plan}
+use Rattle.papaya_maps.specs.Given.Resize.declared.outcome.Outcome.{Outcome}
+use Rattle.papaya_maps.specs.Given.Resize.declared.outcome.Outcome.TheVariants as outcome
+use Rattle.papaya_maps.specs.Given.Resize.declared.copier.Copier.{Copier}
+use Rattle.papaya_maps.specs.Given.Raw.Call.{plan_at, call_plan, helped}
+use Rattle.papaya_maps.specs.Given.Raw.declared.machines.answer.Called.{Called}
+use Rattle.papaya_maps.specs.Given.Raw.declared.machines.call.KeyCall.{KeyCall}
+use Rattle.papaya_maps.specs.Given.Raw.declared.machines.call.Calling.{Calling}
+use Rattle.papaya_maps.specs.Given.Raw.declared.machines.call.Calling.TheVariants as at
+use Rattle.papaya_maps.specs.Given.Rule.Chart.{Chart}
+use Rattle.papaya_maps.specs.Given.Rule.InWorld.{IsMapIn}
+use Rattle.papaya_maps.specs.Given.Rule.Words.{Blocks}
+use Rattle.papaya_maps.specs.Given.Points.FactsCalls.{CallFacts, CallingFacts, IsCopying, Unchanged}
+use Rattle.papaya_maps.specs.Given.Points.FactsCopies.{CopierFacts}
+use Rattle.papaya_maps.specs.Given.Points.Steps.{AreLawful}
+use Rattle.papaya_maps.specs.Given.Points.Told.{IsRowOfCall, MovedBeside}
+use Rattle.papaya_maps.specs.Given.Late.LateCalls.{LateCallFacts}
+use Rattle.papaya_maps.specs.Given.Callers.Rows.{row_of, once_over}
+use Rattle.papaya_maps.specs.Given.Callers.Sights.{Sight, seen_by}
+use Rattle.papaya_maps.specs.Given.Callers.Together.{CallOnKey, UnderWay, OnKey, Knows, Together, StepsTogether, StepTold, Fresh, Late, change_told, next_of, in_slot}
 use Rattle.papaya_waits.specs.Others.{HaveEnds, copier_in, CallsKeepEnds}
 use Rattle.papaya_waits.proofs.CopiersKeep.{beside_keeps, copier_keeps}
 use Rattle.papaya_waits.proofs.EndingCalls.{copier_then}

@@ -1,47 +1,47 @@
 -- A reservation and a sweep wait within their copyings, or within rows of the collector: so their plans say, whatever the memory is.
 use Rattle.std.specs.Prelude.{◌==◌, ◌&&◌, nat_lt, if◌then◌else◌, Ok, Err}
 use Rattle.std.proofs.Common.{◌≡◌, ℕ, ◌^◌, Bool, true, false, ap, sym, subst, ◌∙◌}
-use Rattle.papaya_callers.specs.Given.SeizeWords.Word.{block_in}
-use Rattle.papaya_callers.specs.Given.SeizeWords.declared.fault.Fault.TheVariants.{Capacity}
-use Rattle.papaya_callers.specs.Given.SeizeWords.Mem.{Mem, Took, value_at}
-use Rattle.papaya_callers.specs.Given.SeizeWords.Op.{Out, Found, Exchanged}
-use Rattle.papaya_callers.specs.Given.SeizeWords.Plan.{Steps}
-use Rattle.papaya_callers.proofs.Given.SeizeRule.Rows.Leaving.{steps_back}
-use Rattle.papaya_callers.specs.Given.Seize.declared.progress.Progress.{Progress}
-use Rattle.papaya_callers.specs.Given.Seize.declared.progress.Progress.TheVariants as progress
-use Rattle.papaya_callers.specs.Given.Seize.declared.rows.settle.Settled.{Settled}
-use Rattle.papaya_callers.specs.Given.Seize.declared.rows.settle.Settled.TheVariants as settled
-use Rattle.papaya_callers.specs.Given.Tables.Marks.{has_mark}
-use Rattle.papaya_callers.specs.Given.Tables.Nodes.{table_seen}
-use Rattle.papaya_callers.specs.Given.Tables.declared.marks.TheConstants.{COPYING}
-use Rattle.papaya_callers.specs.Given.Tables.declared.node.Node.{Node}
-use Rattle.papaya_callers.specs.Given.Tables.declared.table.Table.{Table}
-use Rattle.papaya_callers.specs.Given.Resize.Copier.{copier_plan}
-use Rattle.papaya_callers.specs.Given.Resize.Dispose.{dispose_plan}
-use Rattle.papaya_callers.specs.Given.Resize.NewTable.{new_table_plan}
-use Rattle.papaya_callers.specs.Given.Resize.Sum.{sum_plan}
-use Rattle.papaya_callers.specs.Given.Resize.declared.copier.Copier.{Copier}
-use Rattle.papaya_callers.specs.Given.Resize.declared.dispose.Dispose.{Dispose}
-use Rattle.papaya_callers.specs.Given.Resize.declared.new_table.NewTable.{NewTable}
-use Rattle.papaya_callers.specs.Given.Resize.declared.outcome.Outcome.{Outcome}
-use Rattle.papaya_callers.specs.Given.Resize.declared.outcome.Outcome.TheVariants as outcome
-use Rattle.papaya_callers.specs.Given.Resize.declared.sum.Sum.{Sum}
-use Rattle.papaya_callers.specs.Given.Reserves.Reserve as reserve
-use Rattle.papaya_callers.specs.Given.Reserves.declared.reserve.Reserve.{Reserve}
-use Rattle.papaya_callers.specs.Given.Reserves.declared.reserve.Reserving.{Reserving}
-use Rattle.papaya_callers.specs.Given.Reserves.declared.reserve.Reserving.TheVariants as reserves
-use Rattle.papaya_callers.specs.Given.Sweeps.Sweep as sweep
-use Rattle.papaya_callers.specs.Given.Sweeps.SweepPoints.{removes, standing, further, tableless, beginning, entering, telling, told, at_pair, seen}
-use Rattle.papaya_callers.specs.Given.Sweeps.declared.sweep.Purpose.{Purpose}
-use Rattle.papaya_callers.specs.Given.Sweeps.declared.sweep.Purpose.TheVariants.{Walks, Clears, Retains}
-use Rattle.papaya_callers.specs.Given.Sweeps.declared.sweep.Sweep.{Sweep}
-use Rattle.papaya_callers.specs.Given.Sweeps.declared.sweep.Sweeping.{Sweeping}
-use Rattle.papaya_callers.specs.Given.Sweeps.declared.sweep.Sweeping.TheVariants as sweeps
-use Rattle.papaya_callers.specs.Given.Sweeps.declared.sweep.Swept.{Swept}
-use Rattle.papaya_callers.specs.Given.Sweeps.declared.sweep.Swept.TheVariants as swept
-use Rattle.papaya_callers.proofs.Given.Rule.Keys.Always.{Always, AlwaysOf, always_if, always_steps}
-use Rattle.papaya_callers.specs.Given.Late.ToldReserves.{IsRowOfReserve}
-use Rattle.papaya_callers.specs.Given.Late.ToldSweeps.{IsRowOfSweep}
+use Rattle.seize_acts.specs.Given.SeizeWords.Word.{block_in}
+use Rattle.seize_acts.specs.Given.SeizeWords.declared.fault.Fault.TheVariants.{Capacity}
+use Rattle.seize_acts.specs.Given.SeizeWords.Mem.{Mem, Took, value_at}
+use Rattle.seize_acts.specs.Given.SeizeWords.Op.{Out, Found, Exchanged}
+use Rattle.seize_acts.specs.Given.SeizeWords.Plan.{Steps}
+use Rattle.seize_acts.proofs.Given.SeizeRule.Rows.Leaving.{steps_back}
+use Rattle.seize_acts.specs.Given.Seize.declared.progress.Progress.{Progress}
+use Rattle.seize_acts.specs.Given.Seize.declared.progress.Progress.TheVariants as progress
+use Rattle.seize_acts.specs.Given.Seize.declared.rows.settle.Settled.{Settled}
+use Rattle.seize_acts.specs.Given.Seize.declared.rows.settle.Settled.TheVariants as settled
+use Rattle.papaya_maps.specs.Given.Tables.Marks.{has_mark}
+use Rattle.papaya_maps.specs.Given.Tables.Nodes.{table_seen}
+use Rattle.papaya_maps.specs.Given.Tables.declared.marks.TheConstants.{COPYING}
+use Rattle.papaya_maps.specs.Given.Tables.declared.node.Node.{Node}
+use Rattle.papaya_maps.specs.Given.Tables.declared.table.Table.{Table}
+use Rattle.papaya_maps.specs.Given.Resize.Copier.{copier_plan}
+use Rattle.papaya_maps.specs.Given.Resize.Dispose.{dispose_plan}
+use Rattle.papaya_maps.specs.Given.Resize.NewTable.{new_table_plan}
+use Rattle.papaya_maps.specs.Given.Resize.Sum.{sum_plan}
+use Rattle.papaya_maps.specs.Given.Resize.declared.copier.Copier.{Copier}
+use Rattle.papaya_maps.specs.Given.Resize.declared.dispose.Dispose.{Dispose}
+use Rattle.papaya_maps.specs.Given.Resize.declared.new_table.NewTable.{NewTable}
+use Rattle.papaya_maps.specs.Given.Resize.declared.outcome.Outcome.{Outcome}
+use Rattle.papaya_maps.specs.Given.Resize.declared.outcome.Outcome.TheVariants as outcome
+use Rattle.papaya_maps.specs.Given.Resize.declared.sum.Sum.{Sum}
+use Rattle.papaya_maps.specs.Given.Reserves.Reserve as reserve
+use Rattle.papaya_maps.specs.Given.Reserves.declared.reserve.Reserve.{Reserve}
+use Rattle.papaya_maps.specs.Given.Reserves.declared.reserve.Reserving.{Reserving}
+use Rattle.papaya_maps.specs.Given.Reserves.declared.reserve.Reserving.TheVariants as reserves
+use Rattle.papaya_maps.specs.Given.Sweeps.Sweep as sweep
+use Rattle.papaya_maps.specs.Given.Sweeps.SweepPoints.{removes, standing, further, tableless, beginning, entering, telling, told, at_pair, seen}
+use Rattle.papaya_maps.specs.Given.Sweeps.declared.sweep.Purpose.{Purpose}
+use Rattle.papaya_maps.specs.Given.Sweeps.declared.sweep.Purpose.TheVariants.{Walks, Clears, Retains}
+use Rattle.papaya_maps.specs.Given.Sweeps.declared.sweep.Sweep.{Sweep}
+use Rattle.papaya_maps.specs.Given.Sweeps.declared.sweep.Sweeping.{Sweeping}
+use Rattle.papaya_maps.specs.Given.Sweeps.declared.sweep.Sweeping.TheVariants as sweeps
+use Rattle.papaya_maps.specs.Given.Sweeps.declared.sweep.Swept.{Swept}
+use Rattle.papaya_maps.specs.Given.Sweeps.declared.sweep.Swept.TheVariants as swept
+use Rattle.papaya_maps.proofs.Given.Rule.Keys.Always.{Always, AlwaysOf, always_if, always_steps}
+use Rattle.papaya_maps.specs.Given.Late.ToldReserves.{IsRowOfReserve}
+use Rattle.papaya_maps.specs.Given.Late.ToldSweeps.{IsRowOfSweep}
 use Rattle.papaya_waits.proofs.Copiers.{Proceeds, Sees, copier_waits}
 use Rattle.papaya_waits.proofs.Never.{Advances, Settles, always_within, sum_goes, new_table_goes, dispose_goes}
 

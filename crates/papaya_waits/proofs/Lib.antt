@@ -20,3 +20,4 @@ pub mod RoomsEnd
 pub mod RowsPromised
 mod Samples
 pub mod Laws
+pub mod Given

@@ -2,47 +2,47 @@
 use Rattle.std.specs.Prelude.{Option, Some, None}
 use Rattle.std.specs.Int.{IsPowerOfTwo}
 use Rattle.std.proofs.Common.{◌≡◌, ℕ, Bool, true, List, ◌⊎◌, inl, inr, refl, ap, sym, subst, ◌∙◌}
-use Rattle.papaya_callers.specs.Given.SeizeWords.Mem.{Mem, Took, value_at}
-use Rattle.papaya_callers.specs.Given.SeizeWords.Plan.{Steps}
-use Rattle.papaya_callers.specs.Given.Seize.World.{World, with_at}
-use Rattle.papaya_callers.proofs.Given.SeizeRule.Rows.Leaving.{steps_back}
-use Rattle.papaya_callers.specs.Given.Tables.Chunks.{is_incremental}
-use Rattle.papaya_callers.specs.Given.Tables.declared.node.Node.{Node}
-use Rattle.papaya_callers.specs.Given.Tables.declared.resize_mode.ResizeMode.{ResizeMode}
-use Rattle.papaya_callers.specs.Given.Tables.declared.setting.Setting.{Setting}
-use Rattle.papaya_callers.specs.Given.Tables.declared.table.Table.{Table}
-use Rattle.papaya_callers.specs.Given.Resize.Copier.{copier_plan}
-use Rattle.papaya_callers.specs.Given.Resize.declared.outcome.Outcome.{Outcome}
-use Rattle.papaya_callers.specs.Given.Resize.declared.outcome.Outcome.TheVariants as outcome
-use Rattle.papaya_callers.specs.Given.Resize.declared.copier.Copier.{Copier}
-use Rattle.papaya_callers.specs.Given.Reserves.Reserve as room_plans
-use Rattle.papaya_callers.specs.Given.Reserves.declared.reserve.Reserve.{Reserve}
-use Rattle.papaya_callers.specs.Given.Reserves.declared.reserve.Reserving.{Reserving}
-use Rattle.papaya_callers.specs.Given.Reserves.declared.reserve.Reserving.TheVariants as reserves
-use Rattle.papaya_callers.specs.Given.Sweeps.Sweep as sweep_plans
-use Rattle.papaya_callers.specs.Given.Sweeps.declared.sweep.Sweep.{Sweep}
-use Rattle.papaya_callers.specs.Given.Sweeps.declared.sweep.Sweeping.{Sweeping}
-use Rattle.papaya_callers.specs.Given.Sweeps.declared.sweep.Sweeping.TheVariants as sweeps
-use Rattle.papaya_callers.specs.Given.Sweeps.declared.sweep.Swept.{Swept}
-use Rattle.papaya_callers.specs.Given.Rule.Chart.{Chart}
-use Rattle.papaya_callers.specs.Given.Rule.InWorld.{IsMapIn}
-use Rattle.papaya_callers.specs.Given.Rule.Maps.{spot_of}
-use Rattle.papaya_callers.specs.Given.Rule.Moves.{Move, Links, Removes, after}
-use Rattle.papaya_callers.specs.Given.Rule.Words.{Blocks}
-use Rattle.papaya_callers.specs.Given.Points.FactsCopies.{CopierFacts}
-use Rattle.papaya_callers.specs.Given.Points.FactsCopiesBlocking.{CopierFactsBlocking}
-use Rattle.papaya_callers.specs.Given.Points.Steps.{AreLawful}
-use Rattle.papaya_callers.specs.Given.Points.Told.{IsBeside, OnlyLinks}
-use Rattle.papaya_callers.specs.Given.Late.FactsReserves.{CopiesPairs, CopiesWhole, IsEnding, ReservingFacts, ReserveFacts}
-use Rattle.papaya_callers.specs.Given.Late.FactsSweeps.{CopiesPairs as SweepCopies, SweepingFacts}
-use Rattle.papaya_callers.specs.Given.Late.LateReserves.{LateReserveFacts}
-use Rattle.papaya_callers.specs.Given.Late.ToldReserves.{IsRowOfReserve}
-use Rattle.papaya_callers.specs.Given.Late.ToldSweeps.{IsRowOfSweep, OnlyRemoves}
-use Rattle.papaya_callers.specs.OverAll.{CallOverAll, come_to}
-use Rattle.papaya_callers.specs.Rooms.{CallForRoom}
-use Rattle.papaya_callers.specs.Sights.{Sight, seen_by}
-use Rattle.papaya_callers.specs.Sweeps.{SweepStepsTogether}
-use Rattle.papaya_callers.specs.Together.{UnderWay, ForRoom, OverAll, Together, RoomStepsTogether, RoomTold, FreshRoom, LateRoom, next_for_room, next_over_all, in_slot}
+use Rattle.seize_acts.specs.Given.SeizeWords.Mem.{Mem, Took, value_at}
+use Rattle.seize_acts.specs.Given.SeizeWords.Plan.{Steps}
+use Rattle.seize_acts.specs.Given.Seize.World.{World, with_at}
+use Rattle.seize_acts.proofs.Given.SeizeRule.Rows.Leaving.{steps_back}
+use Rattle.papaya_maps.specs.Given.Tables.Chunks.{is_incremental}
+use Rattle.papaya_maps.specs.Given.Tables.declared.node.Node.{Node}
+use Rattle.papaya_maps.specs.Given.Tables.declared.resize_mode.ResizeMode.{ResizeMode}
+use Rattle.papaya_maps.specs.Given.Tables.declared.setting.Setting.{Setting}
+use Rattle.papaya_maps.specs.Given.Tables.declared.table.Table.{Table}
+use Rattle.papaya_maps.specs.Given.Resize.Copier.{copier_plan}
+use Rattle.papaya_maps.specs.Given.Resize.declared.outcome.Outcome.{Outcome}
+use Rattle.papaya_maps.specs.Given.Resize.declared.outcome.Outcome.TheVariants as outcome
+use Rattle.papaya_maps.specs.Given.Resize.declared.copier.Copier.{Copier}
+use Rattle.papaya_maps.specs.Given.Reserves.Reserve as room_plans
+use Rattle.papaya_maps.specs.Given.Reserves.declared.reserve.Reserve.{Reserve}
+use Rattle.papaya_maps.specs.Given.Reserves.declared.reserve.Reserving.{Reserving}
+use Rattle.papaya_maps.specs.Given.Reserves.declared.reserve.Reserving.TheVariants as reserves
+use Rattle.papaya_maps.specs.Given.Sweeps.Sweep as sweep_plans
+use Rattle.papaya_maps.specs.Given.Sweeps.declared.sweep.Sweep.{Sweep}
+use Rattle.papaya_maps.specs.Given.Sweeps.declared.sweep.Sweeping.{Sweeping}
+use Rattle.papaya_maps.specs.Given.Sweeps.declared.sweep.Sweeping.TheVariants as sweeps
+use Rattle.papaya_maps.specs.Given.Sweeps.declared.sweep.Swept.{Swept}
+use Rattle.papaya_maps.specs.Given.Rule.Chart.{Chart}
+use Rattle.papaya_maps.specs.Given.Rule.InWorld.{IsMapIn}
+use Rattle.papaya_maps.specs.Given.Rule.Maps.{spot_of}
+use Rattle.papaya_maps.specs.Given.Rule.Moves.{Move, Links, Removes, after}
+use Rattle.papaya_maps.specs.Given.Rule.Words.{Blocks}
+use Rattle.papaya_maps.specs.Given.Points.FactsCopies.{CopierFacts}
+use Rattle.papaya_maps.specs.Given.Points.FactsCopiesBlocking.{CopierFactsBlocking}
+use Rattle.papaya_maps.specs.Given.Points.Steps.{AreLawful}
+use Rattle.papaya_maps.specs.Given.Points.Told.{IsBeside, OnlyLinks}
+use Rattle.papaya_maps.specs.Given.Late.FactsReserves.{CopiesPairs, CopiesWhole, IsEnding, ReservingFacts, ReserveFacts}
+use Rattle.papaya_maps.specs.Given.Late.FactsSweeps.{CopiesPairs as SweepCopies, SweepingFacts}
+use Rattle.papaya_maps.specs.Given.Late.LateReserves.{LateReserveFacts}
+use Rattle.papaya_maps.specs.Given.Late.ToldReserves.{IsRowOfReserve}
+use Rattle.papaya_maps.specs.Given.Late.ToldSweeps.{IsRowOfSweep, OnlyRemoves}
+use Rattle.papaya_maps.specs.Given.Callers.OverAll.{CallOverAll, come_to}
+use Rattle.papaya_maps.specs.Given.Callers.Rooms.{CallForRoom}
+use Rattle.papaya_maps.specs.Given.Callers.Sights.{Sight, seen_by}
+use Rattle.papaya_maps.specs.Given.Callers.Sweeps.{SweepStepsTogether}
+use Rattle.papaya_maps.specs.Given.Callers.Together.{UnderWay, ForRoom, OverAll, Together, RoomStepsTogether, RoomTold, FreshRoom, LateRoom, next_for_room, next_over_all, in_slot}
 use Rattle.papaya_waits.specs.Others.{HaveEnds, copier_in_room, copier_in_sweep, RoomsKeepEnds, SweepsKeepEnds}
 use Rattle.papaya_waits.proofs.Claimed.{chosen}
 use Rattle.papaya_waits.proofs.CopiersKeep.{beside_keeps, copier_keeps}

@@ -1,25 +1,25 @@
 -- In incremental mode, a call whose caller has claimed a place, or has copied one and not counted it, is none that only looks.
 use Rattle.std.specs.Prelude.{Option, Some}
 use Rattle.std.proofs.Common.{◌≡◌, ℕ, suc, ◌<◌, ◌⊎◌, inl, inr, Bool, true, refl, sym, arith}
-use Rattle.papaya_callers.specs.Given.Seize.World.{World}
-use Rattle.papaya_callers.specs.Given.Tables.Chunks.{is_incremental}
-use Rattle.papaya_callers.specs.Given.Tables.declared.node.Node.{Node}
-use Rattle.papaya_callers.specs.Given.Tables.declared.setting.Setting.{Setting}
-use Rattle.papaya_callers.specs.Given.Raw.declared.machines.call.Calling.{Calling}
-use Rattle.papaya_callers.specs.Given.Raw.declared.machines.call.Calling.TheVariants as at
-use Rattle.papaya_callers.specs.Given.Rule.Chart.{Claimed, Done, Chart}
-use Rattle.papaya_callers.specs.Given.Rule.Moves.{is_done_by}
-use Rattle.papaya_callers.specs.Given.Rule.Words.{Blocks}
-use Rattle.papaya_callers.proofs.Given.Rule.Shares.LastsShares.{total_zero}
-use Rattle.papaya_callers.specs.Given.Points.FactsCalls.{CallFacts, IsCopying, Unchanged}
-use Rattle.papaya_callers.specs.Given.Points.FactsCopies.{ClaimsNone, HasDone}
-use Rattle.papaya_callers.specs.Given.Points.FactsCopiesBlocking.{HasNoShares}
-use Rattle.papaya_callers.specs.Given.Points.FactsIdle.{IsIdle}
-use Rattle.papaya_callers.specs.Given.Points.Told.{IsRowOfCall}
-use Rattle.papaya_callers.specs.Given.Late.Kinds.{LooksAt}
-use Rattle.papaya_callers.specs.Given.Late.LateCalls.{LateCallFacts}
-use Rattle.papaya_callers.specs.Sights.{Sight, seen_by}
-use Rattle.papaya_callers.specs.Together.{UnderWay, OnKey, ForRoom, Counting, OverAll, Together, in_slot}
+use Rattle.seize_acts.specs.Given.Seize.World.{World}
+use Rattle.papaya_maps.specs.Given.Tables.Chunks.{is_incremental}
+use Rattle.papaya_maps.specs.Given.Tables.declared.node.Node.{Node}
+use Rattle.papaya_maps.specs.Given.Tables.declared.setting.Setting.{Setting}
+use Rattle.papaya_maps.specs.Given.Raw.declared.machines.call.Calling.{Calling}
+use Rattle.papaya_maps.specs.Given.Raw.declared.machines.call.Calling.TheVariants as at
+use Rattle.papaya_maps.specs.Given.Rule.Chart.{Claimed, Done, Chart}
+use Rattle.papaya_maps.specs.Given.Rule.Moves.{is_done_by}
+use Rattle.papaya_maps.specs.Given.Rule.Words.{Blocks}
+use Rattle.papaya_maps.proofs.Given.Rule.Shares.LastsShares.{total_zero}
+use Rattle.papaya_maps.specs.Given.Points.FactsCalls.{CallFacts, IsCopying, Unchanged}
+use Rattle.papaya_maps.specs.Given.Points.FactsCopies.{ClaimsNone, HasDone}
+use Rattle.papaya_maps.specs.Given.Points.FactsCopiesBlocking.{HasNoShares}
+use Rattle.papaya_maps.specs.Given.Points.FactsIdle.{IsIdle}
+use Rattle.papaya_maps.specs.Given.Points.Told.{IsRowOfCall}
+use Rattle.papaya_maps.specs.Given.Late.Kinds.{LooksAt}
+use Rattle.papaya_maps.specs.Given.Late.LateCalls.{LateCallFacts}
+use Rattle.papaya_maps.specs.Given.Callers.Sights.{Sight, seen_by}
+use Rattle.papaya_maps.specs.Given.Callers.Together.{UnderWay, OnKey, ForRoom, Counting, OverAll, Together, in_slot}
 use Rattle.papaya_waits.proofs.Askers.{done_one}
 use Rattle.papaya_waits.proofs.Claimed.{chosen}
 

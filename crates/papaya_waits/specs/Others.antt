@@ -1,42 +1,42 @@
 -- Which call another one waits for, in incremental mode: who copies a pair that is being copied, and who goes on with a copying that is not over.
 use Rattle.std.specs.Prelude.{◌≡◌, ◌≢◌, ℕ, suc, ◌<◌, ◌≤◌, ◌⊎◌, Bool, true, Option, Some, None}
 use Rattle.std.specs.Int.{IsPowerOfTwo}
-use Rattle.papaya_callers.specs.Given.SeizeWords.Mem.{Mem, Took, value_at}
-use Rattle.papaya_callers.specs.Given.SeizeWords.Plan.{Steps}
-use Rattle.papaya_callers.specs.Given.Seize.World.{World, with_at}
-use Rattle.papaya_callers.specs.Given.Tables.Chunks.{is_incremental}
-use Rattle.papaya_callers.specs.Given.Tables.declared.node.Node.{Node}
-use Rattle.papaya_callers.specs.Given.Tables.declared.setting.Setting.{Setting}
-use Rattle.papaya_callers.specs.Given.Resize.declared.outcome.Outcome.{Outcome}
-use Rattle.papaya_callers.specs.Given.Resize.declared.copier.Copier.{Copier}
-use Rattle.papaya_callers.specs.Given.Resize.declared.copier.Copying.{Copying as Point}
-use Rattle.papaya_callers.specs.Given.Resize.declared.copier.Copying.TheVariants as copies
-use Rattle.papaya_callers.specs.Given.Raw.Call.{call_plan}
-use Rattle.papaya_callers.specs.Given.Raw.declared.machines.answer.Called.{Called}
-use Rattle.papaya_callers.specs.Given.Raw.declared.machines.call.KeyCall.{KeyCall}
-use Rattle.papaya_callers.specs.Given.Raw.declared.machines.call.Calling.{Calling}
-use Rattle.papaya_callers.specs.Given.Raw.declared.machines.call.Calling.TheVariants as at
-use Rattle.papaya_callers.specs.Given.Reserves.Reserve.{reserve_plan}
-use Rattle.papaya_callers.specs.Given.Reserves.declared.reserve.Reserve.{Reserve}
-use Rattle.papaya_callers.specs.Given.Reserves.declared.reserve.Reserving.{Reserving}
-use Rattle.papaya_callers.specs.Given.Reserves.declared.reserve.Reserving.TheVariants as reserves
-use Rattle.papaya_callers.specs.Given.Sweeps.Sweep.{sweep_plan}
-use Rattle.papaya_callers.specs.Given.Sweeps.declared.sweep.Sweep.{Sweep}
-use Rattle.papaya_callers.specs.Given.Sweeps.declared.sweep.Swept.{Swept}
-use Rattle.papaya_callers.specs.Given.Sweeps.declared.sweep.Sweeping.{Sweeping}
-use Rattle.papaya_callers.specs.Given.Sweeps.declared.sweep.Sweeping.TheVariants as sweeps
-use Rattle.papaya_callers.specs.Given.Rule.Chart.{Chart, Share, Claimed, Done, Counted, Lost}
-use Rattle.papaya_callers.specs.Given.Rule.Words.{Blocks}
-use Rattle.papaya_callers.specs.Given.Points.FactsCopies.{CopyingFacts}
-use Rattle.papaya_callers.specs.Given.Points.Steps.{AreLawful}
-use Rattle.papaya_callers.specs.Given.Points.Told.{IsRowOfCall}
-use Rattle.papaya_callers.specs.Given.Late.ToldReserves.{IsRowOfReserve}
-use Rattle.papaya_callers.specs.Given.Late.ToldSweeps.{IsRowOfSweep}
-use Rattle.papaya_callers.specs.OverAll.{CallOverAll, come_to}
-use Rattle.papaya_callers.specs.Rooms.{CallForRoom}
-use Rattle.papaya_callers.specs.Sights.{Sight}
-use Rattle.papaya_callers.specs.Sweeps.{SweepStepsTogether}
-use Rattle.papaya_callers.specs.Together.{CallOnKey, UnderWay, OnKey, ForRoom, Counting, OverAll, Together, StepsTogether, RoomStepsTogether, change_told, next_of, next_for_room, next_over_all, in_slot}
+use Rattle.seize_acts.specs.Given.SeizeWords.Mem.{Mem, Took, value_at}
+use Rattle.seize_acts.specs.Given.SeizeWords.Plan.{Steps}
+use Rattle.seize_acts.specs.Given.Seize.World.{World, with_at}
+use Rattle.papaya_maps.specs.Given.Tables.Chunks.{is_incremental}
+use Rattle.papaya_maps.specs.Given.Tables.declared.node.Node.{Node}
+use Rattle.papaya_maps.specs.Given.Tables.declared.setting.Setting.{Setting}
+use Rattle.papaya_maps.specs.Given.Resize.declared.outcome.Outcome.{Outcome}
+use Rattle.papaya_maps.specs.Given.Resize.declared.copier.Copier.{Copier}
+use Rattle.papaya_maps.specs.Given.Resize.declared.copier.Copying.{Copying as Point}
+use Rattle.papaya_maps.specs.Given.Resize.declared.copier.Copying.TheVariants as copies
+use Rattle.papaya_maps.specs.Given.Raw.Call.{call_plan}
+use Rattle.papaya_maps.specs.Given.Raw.declared.machines.answer.Called.{Called}
+use Rattle.papaya_maps.specs.Given.Raw.declared.machines.call.KeyCall.{KeyCall}
+use Rattle.papaya_maps.specs.Given.Raw.declared.machines.call.Calling.{Calling}
+use Rattle.papaya_maps.specs.Given.Raw.declared.machines.call.Calling.TheVariants as at
+use Rattle.papaya_maps.specs.Given.Reserves.Reserve.{reserve_plan}
+use Rattle.papaya_maps.specs.Given.Reserves.declared.reserve.Reserve.{Reserve}
+use Rattle.papaya_maps.specs.Given.Reserves.declared.reserve.Reserving.{Reserving}
+use Rattle.papaya_maps.specs.Given.Reserves.declared.reserve.Reserving.TheVariants as reserves
+use Rattle.papaya_maps.specs.Given.Sweeps.Sweep.{sweep_plan}
+use Rattle.papaya_maps.specs.Given.Sweeps.declared.sweep.Sweep.{Sweep}
+use Rattle.papaya_maps.specs.Given.Sweeps.declared.sweep.Swept.{Swept}
+use Rattle.papaya_maps.specs.Given.Sweeps.declared.sweep.Sweeping.{Sweeping}
+use Rattle.papaya_maps.specs.Given.Sweeps.declared.sweep.Sweeping.TheVariants as sweeps
+use Rattle.papaya_maps.specs.Given.Rule.Chart.{Chart, Share, Claimed, Done, Counted, Lost}
+use Rattle.papaya_maps.specs.Given.Rule.Words.{Blocks}
+use Rattle.papaya_maps.specs.Given.Points.FactsCopies.{CopyingFacts}
+use Rattle.papaya_maps.specs.Given.Points.Steps.{AreLawful}
+use Rattle.papaya_maps.specs.Given.Points.Told.{IsRowOfCall}
+use Rattle.papaya_maps.specs.Given.Late.ToldReserves.{IsRowOfReserve}
+use Rattle.papaya_maps.specs.Given.Late.ToldSweeps.{IsRowOfSweep}
+use Rattle.papaya_maps.specs.Given.Callers.OverAll.{CallOverAll, come_to}
+use Rattle.papaya_maps.specs.Given.Callers.Rooms.{CallForRoom}
+use Rattle.papaya_maps.specs.Given.Callers.Sights.{Sight}
+use Rattle.papaya_maps.specs.Given.Callers.Sweeps.{SweepStepsTogether}
+use Rattle.papaya_maps.specs.Given.Callers.Together.{CallOnKey, UnderWay, OnKey, ForRoom, Counting, OverAll, Together, StepsTogether, RoomStepsTogether, change_told, next_of, next_for_room, next_over_all, in_slot}
 use Rattle.papaya_waits.specs.Waits.{IsUnfinished, IsBeingCopied}
 
 -- it is not yet counted

@@ -1,15 +1,19 @@
 -- What is so by the crates below, given on to the crates above: these list this crate in place of those.
-pub use Rattle.papaya_maps.proofs.Given.SeizeMoves
-pub use Rattle.papaya_maps.proofs.Given.SeizeRule
-pub use Rattle.papaya_maps.proofs.Given.SeizeEnds
-pub use Rattle.papaya_maps.proofs.Given.SeizeAlone
-pub use Rattle.seize_acts.proofs as SeizeActs
-pub use Rattle.papaya_maps.proofs.Given.Rule
-pub use Rattle.papaya_maps.proofs.Given.Points
-pub use Rattle.papaya_maps.proofs.Given.Late
-pub use Rattle.papaya_falls.proofs as Falls
-pub use Rattle.papaya_maps.proofs.Given.Callers
+pub use Rattle.papaya_passes.proofs.Given.SeizeMoves
+pub use Rattle.papaya_passes.proofs.Given.SeizeRule
+pub use Rattle.papaya_waits.proofs.Given.SeizeEnds
+pub use Rattle.papaya_waits.proofs.Given.SeizeAlone
+pub use Rattle.papaya_waits.proofs.Given.SeizeActs
+pub use Rattle.papaya_passes.proofs.Given.Rule
+pub use Rattle.papaya_passes.proofs.Given.Points
+pub use Rattle.papaya_passes.proofs.Given.Late
+pub use Rattle.papaya_passes.proofs.Given.Falls
+pub use Rattle.papaya_waits.proofs.Given.Callers
 pub use Rattle.papaya_waits.proofs as Waits
-pub use Rattle.papaya_maps.proofs.Given.Finishes
-pub use Rattle.papaya_maps.proofs.Given.Alone
-pub use Rattle.papaya_maps.proofs as Maps
+pub use Rattle.papaya_waits.proofs.Given.Finishes
+pub use Rattle.papaya_waits.proofs.Given.Alone
+pub use Rattle.papaya_waits.proofs.Given.Maps
+pub use Rattle.papaya_waits.proofs.Given.SeizeWords
+pub use Rattle.papaya_passes.proofs as Passes
+pub use Rattle.papaya_waits.proofs.Given.SeizeSets
+pub use Rattle.papaya_passes.proofs.Given.SeizeWaiting

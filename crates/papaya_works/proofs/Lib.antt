@@ -9,3 +9,4 @@ pub mod Registering
 pub mod Reached
 pub mod Needs
 pub mod Firsts
+pub mod Given

@@ -2,55 +2,55 @@
 use Rattle.std.specs.Prelude.{◌≡◌, ℕ, nat_lt, Bool, true, false, ◌&&◌, List, [], ◌∷◌, Option, Ok, if◌then◌else◌}
 use Rattle.std.specs.List.{list_all}
 use Rattle.std.proofs.Common.{refl, ap, subst, sym}
-use Rattle.papaya_legal.specs.Given.SeizeWords.declared.at.At.TheVariants.{Root, Used, Slot, Entry, Word}
-use Rattle.papaya_legal.specs.Given.SeizeWords.Mem.{Mem}
-use Rattle.papaya_legal.specs.Given.SeizeWords.Op.{Op, Out, Load, Store, Swap, Add, Or, Exchange, Make, Take, Rewrite, Room, Found, Exchanged, Roomed}
-use Rattle.papaya_legal.specs.Given.SeizeWords.Plan.{Plan, Turn, Do, plan_as}
-use Rattle.papaya_legal.specs.Given.Seize.declared.rows.enter.Enter.{Enter}
-use Rattle.papaya_legal.specs.Given.Seize.declared.rows.enter.Unregister.{Unregister}
-use Rattle.papaya_legal.specs.Given.Seize.declared.rows.leave.Leave.{Leave}
-use Rattle.papaya_legal.specs.Given.Seize.declared.rows.leave.Leaving.{Leaving}
-use Rattle.papaya_legal.specs.Given.Seize.declared.rows.leave.Leaving.TheVariants as leaving
-use Rattle.papaya_legal.specs.Given.Seize.declared.rows.register.Register.{Register}
-use Rattle.papaya_legal.specs.Given.Seize.declared.rows.register.Registering.{Registering}
-use Rattle.papaya_legal.specs.Given.Seize.declared.rows.register.Registering.TheVariants as registering
-use Rattle.papaya_legal.specs.Given.Seize.declared.rows.settle.Settle.{Settle}
-use Rattle.papaya_legal.specs.Given.Seize.declared.rows.settle.Settling.{Settling}
-use Rattle.papaya_legal.specs.Given.Seize.declared.rows.settle.Settling.TheVariants as settling
-use Rattle.papaya_legal.specs.Given.Seize.Enter.{enter_plan, unregister_plan}
-use Rattle.papaya_legal.specs.Given.Seize.Leave as leave
-use Rattle.papaya_legal.specs.Given.Seize.Register as register
-use Rattle.papaya_legal.specs.Given.Seize.Settle as settle
-use Rattle.papaya_legal.specs.Given.Seize.World.{Step}
-use Rattle.papaya_legal.specs.Given.Tables.Nodes.{deferred_word}
-use Rattle.papaya_legal.specs.Given.Tables.declared.node.Node.{Node}
-use Rattle.papaya_legal.specs.Given.Tells.Seen.{seen_of}
-use Rattle.papaya_legal.specs.Given.Teller.Tells.{told_of, StepsTold}
-use Rattle.papaya_legal.specs.Given.Teller.declared.changed.Changed.{Changed}
-use Rattle.papaya_legal.specs.Given.Teller.declared.changed.Changed.TheVariants as changed
-use Rattle.papaya_legal.specs.Given.Schedules.declared.effect.Effect.{Effect}
-use Rattle.papaya_legal.specs.Given.Schedules.declared.effect.Effect.TheVariants.{Asked}
-use Rattle.papaya_legal.specs.Given.Schedules.declared.effect.Growth.TheVariants.{ABucket}
-use Rattle.papaya_legal.specs.Given.Schedules.Handing.{asks_for_bucket, is_reclaiming}
-use Rattle.papaya_legal.specs.Given.Schedules.Moment.{Moment}
-use Rattle.papaya_legal.specs.Given.Effects.Effects.{effects_of, names_same, taken_by}
-use Rattle.papaya_legal.specs.Given.Effects.Known.{Known}
-use Rattle.papaya_legal.specs.Given.Effects.declared.acting.Acting.TheVariants.{Row}
-use Rattle.papaya_legal.specs.Given.Effects.declared.role.Role.{Role}
-use Rattle.papaya_legal.specs.Given.Effects.declared.role.Role.TheVariants as role
-use Rattle.papaya_legal.specs.Given.Scenes.declared.row.RowTold.{RowTold}
-use Rattle.papaya_legal.specs.Given.Scenes.declared.row.SlotRow.{SlotRow}
-use Rattle.papaya_legal.specs.Given.Scenes.declared.row.SlotRow.TheVariants as rows
-use Rattle.papaya_legal.specs.Given.Follows.Shows.{Shows}
-use Rattle.papaya_legal.proofs.Given.Others.RowPlans.{IsOfSlots}
-use Rattle.papaya_legal.specs.Given.Owes.Made.{ShowsMade}
-use Rattle.papaya_legal.specs.Given.Owes.Tables.{ShowsTables}
-use Rattle.papaya_legal.proofs.Given.Owes.InHand.{in_hand}
-use Rattle.papaya_legal.proofs.Given.Owes.Lasting.{row_keeps_held}
-use Rattle.papaya_legal.proofs.Given.Owes.Tables.Held.{held_by}
-use Rattle.papaya_legal.specs.Given.Scenes.Held.{Held, IsAt}
-use Rattle.papaya_legal.specs.Given.Scenes.OnSlots.{HappensAt, RowSteps}
-use Rattle.papaya_legal.specs.Given.Scenes.Scene.{IsOnSlot, Scene}
+use Rattle.papaya_folded.specs.Given.SeizeWords.declared.at.At.TheVariants.{Root, Used, Slot, Entry, Word}
+use Rattle.papaya_folded.specs.Given.SeizeWords.Mem.{Mem}
+use Rattle.papaya_folded.specs.Given.SeizeWords.Op.{Op, Out, Load, Store, Swap, Add, Or, Exchange, Make, Take, Rewrite, Room, Found, Exchanged, Roomed}
+use Rattle.papaya_folded.specs.Given.SeizeWords.Plan.{Plan, Turn, Do, plan_as}
+use Rattle.papaya_folded.specs.Given.Seize.declared.rows.enter.Enter.{Enter}
+use Rattle.papaya_folded.specs.Given.Seize.declared.rows.enter.Unregister.{Unregister}
+use Rattle.papaya_folded.specs.Given.Seize.declared.rows.leave.Leave.{Leave}
+use Rattle.papaya_folded.specs.Given.Seize.declared.rows.leave.Leaving.{Leaving}
+use Rattle.papaya_folded.specs.Given.Seize.declared.rows.leave.Leaving.TheVariants as leaving
+use Rattle.papaya_folded.specs.Given.Seize.declared.rows.register.Register.{Register}
+use Rattle.papaya_folded.specs.Given.Seize.declared.rows.register.Registering.{Registering}
+use Rattle.papaya_folded.specs.Given.Seize.declared.rows.register.Registering.TheVariants as registering
+use Rattle.papaya_folded.specs.Given.Seize.declared.rows.settle.Settle.{Settle}
+use Rattle.papaya_folded.specs.Given.Seize.declared.rows.settle.Settling.{Settling}
+use Rattle.papaya_folded.specs.Given.Seize.declared.rows.settle.Settling.TheVariants as settling
+use Rattle.papaya_folded.specs.Given.Seize.Enter.{enter_plan, unregister_plan}
+use Rattle.papaya_folded.specs.Given.Seize.Leave as leave
+use Rattle.papaya_folded.specs.Given.Seize.Register as register
+use Rattle.papaya_folded.specs.Given.Seize.Settle as settle
+use Rattle.papaya_folded.specs.Given.Seize.World.{Step}
+use Rattle.papaya_folded.specs.Given.Tables.Nodes.{deferred_word}
+use Rattle.papaya_folded.specs.Given.Tables.declared.node.Node.{Node}
+use Rattle.papaya_folded.specs.Given.Tells.Seen.{seen_of}
+use Rattle.papaya_folded.specs.Given.Teller.Tells.{told_of, StepsTold}
+use Rattle.papaya_folded.specs.Given.Teller.declared.changed.Changed.{Changed}
+use Rattle.papaya_folded.specs.Given.Teller.declared.changed.Changed.TheVariants as changed
+use Rattle.papaya_folded.specs.Given.Schedules.declared.effect.Effect.{Effect}
+use Rattle.papaya_folded.specs.Given.Schedules.declared.effect.Effect.TheVariants.{Asked}
+use Rattle.papaya_folded.specs.Given.Schedules.declared.effect.Growth.TheVariants.{ABucket}
+use Rattle.papaya_folded.specs.Given.Schedules.Handing.{asks_for_bucket, is_reclaiming}
+use Rattle.papaya_folded.specs.Given.Schedules.Moment.{Moment}
+use Rattle.papaya_folded.specs.Given.Effects.Effects.{effects_of, names_same, taken_by}
+use Rattle.papaya_folded.specs.Given.Effects.Known.{Known}
+use Rattle.papaya_folded.specs.Given.Effects.declared.acting.Acting.TheVariants.{Row}
+use Rattle.papaya_folded.specs.Given.Effects.declared.role.Role.{Role}
+use Rattle.papaya_folded.specs.Given.Effects.declared.role.Role.TheVariants as role
+use Rattle.papaya_folded.specs.Given.Scenes.declared.row.RowTold.{RowTold}
+use Rattle.papaya_folded.specs.Given.Scenes.declared.row.SlotRow.{SlotRow}
+use Rattle.papaya_folded.specs.Given.Scenes.declared.row.SlotRow.TheVariants as rows
+use Rattle.papaya_folded.specs.Given.Follows.Shows.{Shows}
+use Rattle.papaya_folded.proofs.Given.Others.RowPlans.{IsOfSlots}
+use Rattle.papaya_folded.specs.Given.Owes.Made.{ShowsMade}
+use Rattle.papaya_folded.specs.Given.Owes.Tables.{ShowsTables}
+use Rattle.papaya_folded.proofs.Given.Owes.InHand.{in_hand}
+use Rattle.papaya_folded.proofs.Given.Owes.Lasting.{row_keeps_held}
+use Rattle.papaya_folded.proofs.Given.Owes.Tables.Held.{held_by}
+use Rattle.papaya_folded.specs.Given.Scenes.Held.{Held, IsAt}
+use Rattle.papaya_folded.specs.Given.Scenes.OnSlots.{HappensAt, RowSteps}
+use Rattle.papaya_folded.specs.Given.Scenes.Scene.{IsOnSlot, Scene}
 
 -- What a step tells that writes words of the collector alone, or takes a block away too, or makes room.
 abbrev pub Tells : (takes rooms : Bool) → Changed → Type 0

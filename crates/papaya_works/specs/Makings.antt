@@ -1,31 +1,31 @@
 -- What the making of a map does: it asks for blocks, makes the map's first table, and links it.
 use Rattle.std.specs.Prelude.{◌≡◌, ℕ, ◌+◌, Bool, true, false, List, [], ◌++◌, length, filter, Option, Some, None}
 use Rattle.std.specs.List.{list_all}
-use Rattle.papaya_legal.specs.Given.Seize.declared.progress.Progress.{Progress}
-use Rattle.papaya_legal.specs.Given.Seize.declared.progress.Progress.TheVariants as progress
-use Rattle.papaya_legal.specs.Given.Tables.declared.setting.Setting.{Setting}
-use Rattle.papaya_legal.specs.Given.Tables.declared.table.Table.{Table as Planned}
-use Rattle.papaya_legal.specs.Given.Resize.declared.new_map.NewMap.{NewMap}
-use Rattle.papaya_legal.specs.Given.Runs.Runs.{map_fault}
-use Rattle.papaya_legal.specs.Given.Schedules.declared.effect.Effect.{Effect}
-use Rattle.papaya_legal.specs.Given.Schedules.Effects.{AtEachEffect, with_effects}
-use Rattle.papaya_legal.specs.Given.Schedules.Handing.{is_first_making, is_table_made}
-use Rattle.papaya_legal.specs.Given.Schedules.Lives.{EventFinds}
-use Rattle.papaya_legal.specs.Given.Schedules.Moment.{MapThere, Moment}
-use Rattle.papaya_legal.specs.Given.Schedules.Views.{map_at, tables_of}
-use Rattle.papaya_legal.specs.Given.Effects.Effects.{effects_of, known_after}
-use Rattle.papaya_legal.specs.Given.Effects.Known.{Known}
-use Rattle.papaya_legal.specs.Given.Effects.declared.acting.Acting.TheVariants as acts
-use Rattle.papaya_legal.specs.Given.Finishes.Makings.{Beginning}
-use Rattle.papaya_legal.specs.Given.Follows.Shows.{Shows}
-use Rattle.papaya_legal.specs.Given.Others.Makings.{NotesCounter, making_after}
-use Rattle.papaya_legal.specs.Given.Owes.Making.{making_in_opening}
-use Rattle.papaya_legal.specs.Given.Owes.Tables.{ShowsTables, table_made}
+use Rattle.papaya_folded.specs.Given.Seize.declared.progress.Progress.{Progress}
+use Rattle.papaya_folded.specs.Given.Seize.declared.progress.Progress.TheVariants as progress
+use Rattle.papaya_folded.specs.Given.Tables.declared.setting.Setting.{Setting}
+use Rattle.papaya_folded.specs.Given.Tables.declared.table.Table.{Table as Planned}
+use Rattle.papaya_folded.specs.Given.Resize.declared.new_map.NewMap.{NewMap}
+use Rattle.papaya_folded.specs.Given.Runs.Runs.{map_fault}
+use Rattle.papaya_folded.specs.Given.Schedules.declared.effect.Effect.{Effect}
+use Rattle.papaya_folded.specs.Given.Schedules.Effects.{AtEachEffect, with_effects}
+use Rattle.papaya_folded.specs.Given.Schedules.Handing.{is_first_making, is_table_made}
+use Rattle.papaya_folded.specs.Given.Schedules.Lives.{EventFinds}
+use Rattle.papaya_folded.specs.Given.Schedules.Moment.{MapThere, Moment}
+use Rattle.papaya_folded.specs.Given.Schedules.Views.{map_at, tables_of}
+use Rattle.papaya_folded.specs.Given.Effects.Effects.{effects_of, known_after}
+use Rattle.papaya_folded.specs.Given.Effects.Known.{Known}
+use Rattle.papaya_folded.specs.Given.Effects.declared.acting.Acting.TheVariants as acts
+use Rattle.papaya_folded.specs.Given.Finishes.Makings.{Beginning}
+use Rattle.papaya_folded.specs.Given.Follows.Shows.{Shows}
+use Rattle.papaya_folded.specs.Given.Others.Makings.{NotesCounter, making_after}
+use Rattle.papaya_folded.specs.Given.Owes.Making.{making_in_opening}
+use Rattle.papaya_folded.specs.Given.Owes.Tables.{ShowsTables, table_made}
 use Rattle.papaya_works.specs.Firsts.{ShowsOpenings}
-use Rattle.papaya_legal.specs.Given.Named.Places.{first_places}
-use Rattle.papaya_legal.specs.Given.Scenes.Held.{Held, IsAt}
-use Rattle.papaya_legal.specs.Given.Scenes.Making.{MakingLeads}
-use Rattle.papaya_legal.specs.Given.Scenes.Scene.{Scene}
+use Rattle.papaya_folded.specs.Given.Named.Places.{first_places}
+use Rattle.papaya_folded.specs.Given.Scenes.Held.{Held, IsAt}
+use Rattle.papaya_folded.specs.Given.Scenes.Making.{MakingLeads}
+use Rattle.papaya_folded.specs.Given.Scenes.Scene.{Scene}
 
 -- the table that a making has made and not linked, by what it has told: one that is over has none
 abbrev pub table_left : NewMap → Progress Setting → Option Planned

@@ -2,3 +2,4 @@ mod Beginnings
 mod Numbers
 mod SamplesRegister
 pub mod StepsInto
+pub mod Given

@@ -13,3 +13,4 @@ pub mod Sequence
 pub mod Settle
 pub mod WaitingSets
 pub mod World
+pub mod Given

@@ -13,4 +13,5 @@ pub use collector::Collector;
 pub use ids::IdSource;
 pub use machine::Machine;
 pub use progress::Progress;
+pub use seize_words;
 pub use seize_words::{At, Fault, Link, Look, Memory, Plain};

@@ -11,3 +11,4 @@ pub mod Slots
 pub mod Stays
 pub mod Steps
 pub mod Waits
+pub mod Given

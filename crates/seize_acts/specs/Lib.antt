@@ -7,3 +7,4 @@ pub mod Reclaimed
 pub mod Refused
 pub mod Stays
 pub mod Waits
+pub mod Given

@@ -1,2 +1,3 @@
 pub mod Bounds
 pub mod Settles
+pub mod Given

@@ -8,3 +8,4 @@ pub mod Drives
 pub mod Seen
 pub mod Straight
 pub mod Making
+pub mod Given

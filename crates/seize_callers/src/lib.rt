@@ -7,3 +7,4 @@ pub mod errands;
 mod within;
 
 pub use caller::{Caller, named, watcher};
+pub use seize_views;

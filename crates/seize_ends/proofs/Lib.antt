@@ -1,3 +1,4 @@
 pub mod Batches
 pub mod Rows
 pub mod Settling
+pub mod Given

@@ -1,1 +1,2 @@
 pub mod Holders
+pub mod Given

@@ -1,3 +1,4 @@
 pub mod Moves
 pub mod Sets
 pub mod State
+pub mod Given

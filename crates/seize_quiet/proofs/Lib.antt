@@ -1,3 +1,4 @@
 pub mod Slots
 pub mod Promised
 pub mod Ends
+pub mod Given

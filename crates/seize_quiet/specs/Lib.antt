@@ -1,2 +1,3 @@
 pub mod Slots
 pub mod Promises
+pub mod Given

@@ -1,3 +1,4 @@
 pub mod AllReclaimed
 pub mod Laws
 pub mod Roots
+pub mod Given

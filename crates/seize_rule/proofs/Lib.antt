@@ -4,3 +4,4 @@ mod Samples
 pub mod Words
 pub mod World
 pub mod Written
+pub mod Given

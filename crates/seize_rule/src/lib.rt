@@ -2,3 +2,5 @@
 #![tactic(auto)]
 
 pub mod law;
+
+pub use seize_words;

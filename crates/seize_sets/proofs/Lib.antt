@@ -3,3 +3,4 @@ pub mod Reclaims
 mod Samples
 pub mod Slots
 pub mod Turns
+pub mod Given

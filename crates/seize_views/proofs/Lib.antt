@@ -25,3 +25,4 @@ mod Stays
 pub mod Notes
 pub mod Guarding
 mod Contents
+pub mod Given

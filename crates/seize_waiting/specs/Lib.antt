@@ -4,3 +4,4 @@ pub mod Handed
 pub mod Held
 pub mod Laws
 pub mod Lists
+pub mod Given

@@ -6,7 +6,7 @@ use Rattle.papaya_scenes.specs.Given.Seize.ReclaimAll.{reclaim_all_plan}
 use Rattle.papaya_scenes.specs.Given.Seize.declared.rows.reclaim_all.ReclaimAll.{ReclaimAll}
 use Rattle.papaya_scenes.specs.Given.Seize.declared.rows.settle.Settled.{Settled}
 use Rattle.papaya_scenes.specs.Given.Seize.declared.rows.settle.Settled.TheVariants as settled
-use Rattle.seize_acts.specs.Answers.{Grant}
+use Rattle.papaya_scenes.specs.Given.SeizeActs.Answers.{Grant}
 use Rattle.papaya_scenes.specs.Given.Tables.Nodes.{deferred_word, was_left}
 use Rattle.papaya_scenes.specs.Given.Tables.declared.node.Node.{Node}
 use Rattle.papaya_scenes.specs.Given.Teller.declared.changed.Changed.{Changed}

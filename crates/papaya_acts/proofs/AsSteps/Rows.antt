@@ -19,9 +19,9 @@ use Rattle.papaya_scenes.specs.Given.Seize.declared.rows.register.Register.{Regi
 use Rattle.papaya_scenes.specs.Given.Seize.declared.rows.settle.Settle.{Settle}
 use Rattle.papaya_scenes.specs.Given.Seize.declared.rows.settle.Settled.{Settled}
 use Rattle.papaya_scenes.specs.Given.Seize.declared.rows.settle.Settled.TheVariants as settled
-use Rattle.seize_acts.specs.Acts.{row_steps}
-use Rattle.seize_acts.specs.Answers.{Grant, stepped, then_on}
-use Rattle.seize_acts.proofs.Answers.{same_some, some, was_stepped}
+use Rattle.papaya_scenes.specs.Given.SeizeActs.Acts.{row_steps}
+use Rattle.papaya_scenes.specs.Given.SeizeActs.Answers.{Grant, stepped, then_on}
+use Rattle.papaya_scenes.proofs.Given.SeizeActs.Answers.{same_some, some, was_stepped}
 use Rattle.papaya_scenes.proofs.Given.SeizeRule.Rows.Others.{begins_others, steps_others, with_here}
 use Rattle.papaya_scenes.proofs.Given.SeizeRule.Rows.Teams.{shares}
 use Rattle.papaya_scenes.proofs.Given.SeizeEnds.Batches.Rows.{begins_memory}

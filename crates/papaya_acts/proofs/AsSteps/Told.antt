@@ -4,8 +4,8 @@ use Rattle.std.specs.Prelude.{Option, Some}
 use Rattle.std.specs.Option.{option_map_or}
 use Rattle.papaya_scenes.specs.Given.SeizeWords.Mem.{Mem, after, value_at}
 use Rattle.papaya_scenes.specs.Given.SeizeWords.Plan.{Plan, Turn, Do}
-use Rattle.seize_acts.specs.Answers.{Grant, answer, ends, stepped, then_on}
-use Rattle.seize_acts.proofs.Answers.{answer_gives, ended, same_some, some}
+use Rattle.papaya_scenes.specs.Given.SeizeActs.Answers.{Grant, answer, ends, stepped, then_on}
+use Rattle.papaya_scenes.proofs.Given.SeizeActs.Answers.{answer_gives, ended, same_some, some}
 use Rattle.papaya_scenes.specs.Given.Tables.declared.node.Node.{Node}
 use Rattle.papaya_scenes.specs.Given.Teller.Tells.{StepsTold}
 use Rattle.papaya_scenes.specs.Given.Teller.declared.changed.Changed.TheVariants.{Nothing as NoChange}

@@ -2,44 +2,44 @@
 use Rattle.std.specs.Prelude.{◌≡◌, ◌≤◌, ℕ, Bool, true, false, cond, List, [], ◌∷◌, filter, find, length, map, position, Some}
 use Rattle.std.specs.List.{AllByRecursion}
 use Rattle.std.proofs.Common.{refl, ap, sym, subst, ◌∙◌, arith}
-use Rattle.papaya_folded.specs.Given.Raw.Machine.{machine_asked}
-use Rattle.papaya_folded.specs.Given.Runs.Same.{is_same}
-use Rattle.papaya_folded.specs.Given.Schedules.declared.event.Event.{Event}
-use Rattle.papaya_folded.specs.Given.Schedules.declared.outcome.Outcome.{Outcome}
-use Rattle.papaya_folded.specs.Given.Schedules.declared.outcome.Outcome.TheVariants.{Asks, Ready}
-use Rattle.papaya_folded.specs.Given.Schedules.After.{moment, slots_on}
-use Rattle.papaya_folded.specs.Given.Schedules.Entry.{Entry}
-use Rattle.papaya_folded.specs.Given.Schedules.InTurn.{ComesRight}
-use Rattle.papaya_folded.specs.Given.Schedules.Moment.{UnderWay as CallThere, Stands}
-use Rattle.papaya_folded.specs.Given.Schedules.Terms.{Terms}
-use Rattle.papaya_folded.specs.Given.Schedules.Views.{call_of}
-use Rattle.papaya_folded.specs.Given.Effects.Known.{known}
-use Rattle.papaya_folded.specs.Given.Finishes.Machines.{machine_of}
-use Rattle.papaya_folded.specs.Given.Schedules.Moment.{Moment}
-use Rattle.papaya_folded.specs.Given.Schedules.After.{after}
-use Rattle.papaya_folded.specs.Given.Schedules.declared.event.Event.TheVariants.{Go, Step}
-use Rattle.papaya_folded.specs.Given.Legal.CallEvents.{IsLegalBut}
-use Rattle.papaya_folded.specs.Given.Legal.Carried.{ShowsRun}
-use Rattle.papaya_folded.specs.Given.Legal.Over.{GoesOnBy, IsSaidSo}
-use Rattle.papaya_folded.proofs.Given.Legal.Again.{again_events_end}
-use Rattle.papaya_folded.specs.Given.Named.Machines.{IsAsFar}
-use Rattle.papaya_folded.specs.Given.Named.Seen.{Seen, far_of, is_named, seen, seen_of}
-use Rattle.papaya_folded.specs.Given.Named.declared.caller.Caller.{Caller}
-use Rattle.papaya_folded.specs.Given.Named.declared.caller.Stands.{Stands as HowFar}
-use Rattle.papaya_folded.specs.Given.Named.declared.caller.Stands.TheVariants as far
-use Rattle.papaya_scheduler.specs.Played.{IsPlayed, entry_of}
-use Rattle.papaya_scheduler.specs.declared.played.Played.{Played}
-use Rattle.papaya_scheduler.specs.declared.scheduler.Scheduler.{Scheduler}
-use Rattle.papaya_scheduler.proofs.Here.{Here, here_at}
-use Rattle.papaya_scheduler.proofs.Replied.{far_asks}
-use Rattle.papaya_scheduler.proofs.Rights.{entry_is}
-use Rattle.papaya_scheduler.proofs.Stopped.{asked_ready}
+use Rattle.papaya_stepping.specs.Given.Raw.Machine.{machine_asked}
+use Rattle.papaya_stepping.specs.Given.Runs.Same.{is_same}
+use Rattle.papaya_values.specs.Given.Schedules.declared.event.Event.{Event}
+use Rattle.papaya_values.specs.Given.Schedules.declared.outcome.Outcome.{Outcome}
+use Rattle.papaya_values.specs.Given.Schedules.declared.outcome.Outcome.TheVariants.{Asks, Ready}
+use Rattle.papaya_values.specs.Given.Schedules.After.{moment, slots_on}
+use Rattle.papaya_values.specs.Given.Schedules.Entry.{Entry}
+use Rattle.papaya_values.specs.Given.Schedules.InTurn.{ComesRight}
+use Rattle.papaya_values.specs.Given.Schedules.Moment.{UnderWay as CallThere, Stands}
+use Rattle.papaya_values.specs.Given.Schedules.Terms.{Terms}
+use Rattle.papaya_values.specs.Given.Schedules.Views.{call_of}
+use Rattle.papaya_values.specs.Given.Effects.Known.{known}
+use Rattle.papaya_stepping.specs.Given.Finishes.Machines.{machine_of}
+use Rattle.papaya_values.specs.Given.Schedules.Moment.{Moment}
+use Rattle.papaya_values.specs.Given.Schedules.After.{after}
+use Rattle.papaya_values.specs.Given.Schedules.declared.event.Event.TheVariants.{Go, Step}
+use Rattle.papaya_stepping.specs.Given.Legal.CallEvents.{IsLegalBut}
+use Rattle.papaya_stepping.specs.Given.Legal.Carried.{ShowsRun}
+use Rattle.papaya_stepping.specs.Given.Legal.Over.{GoesOnBy, IsSaidSo}
+use Rattle.papaya_stepping.proofs.Given.Legal.Again.{again_events_end}
+use Rattle.papaya_values.specs.Given.Named.Machines.{IsAsFar}
+use Rattle.papaya_values.specs.Given.Named.Seen.{Seen, far_of, is_named, seen, seen_of}
+use Rattle.papaya_values.specs.Given.Named.declared.caller.Caller.{Caller}
+use Rattle.papaya_values.specs.Given.Named.declared.caller.Stands.{Stands as HowFar}
+use Rattle.papaya_values.specs.Given.Named.declared.caller.Stands.TheVariants as far
+use Rattle.papaya_stepping.specs.Given.Scheduler.Played.{IsPlayed, entry_of}
+use Rattle.papaya_stepping.specs.Given.Scheduler.declared.played.Played.{Played}
+use Rattle.papaya_stepping.specs.Given.Scheduler.declared.scheduler.Scheduler.{Scheduler}
+use Rattle.papaya_stepping.proofs.Given.Scheduler.Here.{Here, here_at}
+use Rattle.papaya_stepping.proofs.Given.Scheduler.Replied.{far_asks}
+use Rattle.papaya_stepping.proofs.Given.Scheduler.Rights.{entry_is}
+use Rattle.papaya_stepping.proofs.Given.Scheduler.Stopped.{asked_ready}
 use Rattle.papaya_stepping.specs.Stepping.{SaysAgain}
 use Rattle.papaya_stepping.proofs.Again.{far_ready}
 use Rattle.papaya_events.proofs.OfCalls.Worth.{SaidIn, event_says}
 use Rattle.papaya_events.specs.OfCalls.{Runs, RunsOn}
 use Rattle.papaya_events.proofs.OfCalls.AsBefore.{as_before}
-use Rattle.papaya_scheduler.specs.Given.Executor.IsThere.{held_by}
+use Rattle.papaya_stepping.specs.Given.Executor.IsThere.{held_by}
 
 -- Who has a name that one caller has at most is as far as that caller.
 

@@ -3,31 +3,31 @@ use Rattle.std.specs.Prelude.{◌≡◌, ◌≢◌, ◌<◌, ◌≤◌, ◌^◌,
 use Rattle.std.specs.List.{AllByRecursion, list_all, list_any}
 use Rattle.std.proofs.Common.{refl, ap, sym, subst, ◌∙◌, inl, inr}
 use Rattle.std.proofs.lemmas.Bool.{eqb-true}
-use Rattle.papaya_folded.specs.Given.SeizeWaiting.Held.{count}
-use Rattle.papaya_folded.specs.Given.Seize.World.{IsInside, Rests, Use}
-use Rattle.papaya_folded.specs.Given.Runs.Present.{guard_of, living_slot}
-use Rattle.papaya_folded.specs.Given.Runs.Same.{is_same}
-use Rattle.papaya_folded.specs.Given.Schedules.declared.event.Event.{Event}
-use Rattle.papaya_folded.specs.Given.Schedules.After.{is_by, moment}
-use Rattle.papaya_folded.specs.Given.Schedules.Entry.{Entry, speaker}
-use Rattle.papaya_folded.specs.Given.Schedules.Model.{sets_in}
-use Rattle.papaya_folded.specs.Given.Schedules.Terms.{Terms}
-use Rattle.papaya_folded.specs.Given.Callers.Together.{UnderWay}
-use Rattle.papaya_folded.specs.Given.Effects.Known.{known}
-use Rattle.papaya_folded.specs.Given.Scenes.declared.row.SlotUse.{SlotUse}
-use Rattle.papaya_folded.specs.Given.Scenes.declared.row.SlotUse.TheVariants as used
-use Rattle.papaya_folded.proofs.Given.Models.Quiet.{insides_follow}
-use Rattle.papaya_folded.specs.Given.Legal.Carried.{ComesAlone, FollowsOrRows}
-use Rattle.papaya_folded.proofs.Given.Rows.Facts.{row_rests}
-use Rattle.papaya_folded.proofs.Given.Rows.Lists.{all_alike, one_of}
-use Rattle.papaya_folded.proofs.Given.Rows.There.{is_inside, on_its_slot}
-use Rattle.papaya_scheduler.specs.Played.{IsPlayed, IsUnderWay}
-use Rattle.papaya_folded.specs.Given.Named.Seen.{Seen, is_named, seen, seen_of}
-use Rattle.papaya_folded.specs.Given.Named.declared.caller.Caller.{Caller}
-use Rattle.papaya_scheduler.specs.declared.scheduler.Scheduler.{Scheduler}
+use Rattle.papaya_stepping.specs.Given.SeizeWaiting.Held.{count}
+use Rattle.papaya_stepping.specs.Given.Seize.World.{IsInside, Rests, Use}
+use Rattle.papaya_stepping.specs.Given.Runs.Present.{guard_of, living_slot}
+use Rattle.papaya_stepping.specs.Given.Runs.Same.{is_same}
+use Rattle.papaya_values.specs.Given.Schedules.declared.event.Event.{Event}
+use Rattle.papaya_values.specs.Given.Schedules.After.{is_by, moment}
+use Rattle.papaya_values.specs.Given.Schedules.Entry.{Entry, speaker}
+use Rattle.papaya_values.specs.Given.Schedules.Model.{sets_in}
+use Rattle.papaya_values.specs.Given.Schedules.Terms.{Terms}
+use Rattle.papaya_stepping.specs.Given.Callers.Together.{UnderWay}
+use Rattle.papaya_values.specs.Given.Effects.Known.{known}
+use Rattle.papaya_values.specs.Given.Scenes.declared.row.SlotUse.{SlotUse}
+use Rattle.papaya_values.specs.Given.Scenes.declared.row.SlotUse.TheVariants as used
+use Rattle.papaya_stepping.proofs.Given.Models.Quiet.{insides_follow}
+use Rattle.papaya_stepping.specs.Given.Legal.Carried.{ComesAlone, FollowsOrRows}
+use Rattle.papaya_stepping.proofs.Given.Rows.Facts.{row_rests}
+use Rattle.papaya_stepping.proofs.Given.Rows.Lists.{all_alike, one_of}
+use Rattle.papaya_stepping.proofs.Given.Rows.There.{is_inside, on_its_slot}
+use Rattle.papaya_stepping.specs.Given.Scheduler.Played.{IsPlayed, IsUnderWay}
+use Rattle.papaya_values.specs.Given.Named.Seen.{Seen, is_named, seen, seen_of}
+use Rattle.papaya_values.specs.Given.Named.declared.caller.Caller.{Caller}
+use Rattle.papaya_stepping.specs.Given.Scheduler.declared.scheduler.Scheduler.{Scheduler}
 use Rattle.papaya_events.proofs.OfCalls.InRows.{insides_follow_in_rows}
-use Rattle.papaya_scheduler.specs.Given.Executor.IsThere.{IsUsedAs}
-use Rattle.papaya_folded.specs.Given.Scenes.Scene.{slot_of}
+use Rattle.papaya_stepping.specs.Given.Executor.IsThere.{IsUsedAs}
+use Rattle.papaya_values.specs.Given.Scenes.Scene.{slot_of}
 
 both : (a b : Bool) → (a && b) ≡ true → (a ≡ true) × (b ≡ true)
 both true b is = (refl, is)

@@ -2,47 +2,47 @@
 use Rattle.std.specs.Prelude.{◌≡◌, ◌||◌, cond, ℕ, Bool, true, false, List, [], ◌∷◌, Option, Some, None}
 use Rattle.std.specs.List.{AllByRecursion, list_any}
 use Rattle.std.proofs.Common.{refl, ap, sym, subst, ◌∙◌, inl, inr}
-use Rattle.papaya_folded.specs.Given.Seize.World.{Rests}
-use Rattle.papaya_folded.specs.Given.Runs.Same.{is_same}
-use Rattle.papaya_folded.specs.Given.Schedules.declared.call.Call.{Call}
-use Rattle.papaya_folded.specs.Given.Schedules.declared.call.Call.TheVariants.{Clear, Len, On, Reserve, Retain, Walk}
-use Rattle.papaya_folded.specs.Given.Schedules.declared.call.OneKey.{OneKey}
-use Rattle.papaya_folded.specs.Given.Schedules.declared.call.OneKey.TheVariants.{Get, GetKeyValue, ContainsKey, Insert, TryInsert, TryInsertWith, GetOrInsert, GetOrInsertWith, Update, UpdateOrInsert, UpdateOrInsertWith, Compute, Remove, RemoveEntry, RemoveIf}
-use Rattle.papaya_folded.specs.Given.Schedules.declared.event.Event.TheVariants.{Begin}
-use Rattle.papaya_folded.specs.Given.Schedules.declared.outcome.Outcome.TheVariants.{Goes}
-use Rattle.papaya_folded.specs.Given.Schedules.After.{moment}
-use Rattle.papaya_folded.specs.Given.Schedules.Beginning.{fresh_call, with_call}
-use Rattle.papaya_folded.specs.Given.Schedules.Entry.{Entry}
-use Rattle.papaya_folded.specs.Given.Schedules.InTurn.{ComesRight}
-use Rattle.papaya_folded.specs.Given.Schedules.Moment.{UnderWay as CallThere, Moment}
-use Rattle.papaya_folded.specs.Given.Schedules.Terms.{Terms}
-use Rattle.papaya_folded.specs.Given.Schedules.Views.{call_of, number_of}
-use Rattle.papaya_folded.specs.Given.Callers.Together.{UnderWay}
-use Rattle.papaya_folded.specs.Given.Effects.Known.{Known, known}
-use Rattle.papaya_folded.specs.Given.Finishes.Maps.{Standing}
-use Rattle.papaya_folded.specs.Given.Follows.Calling.{NoneNamed}
-use Rattle.papaya_folded.specs.Given.Histories.AsCalled.{IsBegunAs}
-use Rattle.papaya_folded.specs.Given.Raw.declared.machines.machine.Machine.{Machine}
-use Rattle.papaya_folded.specs.Given.Finishes.Machines.{machine_of}
-use Rattle.papaya_folded.proofs.Given.Follows.Calling.{apart_back, is_same_refl}
-use Rattle.papaya_folded.proofs.Given.Hands.Asking.{which}
-use Rattle.papaya_folded.specs.Given.Promises.Meanwhile.{BeginsToLook}
-use Rattle.papaya_folded.specs.Given.Purposes.Purposes.{IsFor}
-use Rattle.papaya_folded.proofs.Given.Legal.Come.{events_bring_things}
-use Rattle.papaya_folded.specs.Given.Legal.Between.{IsBegunRight}
-use Rattle.papaya_folded.specs.Given.Legal.CallEvents.{IsLegalBut}
-use Rattle.papaya_folded.specs.Given.Legal.Carried.{ShowsRun}
-use Rattle.papaya_folded.proofs.Given.Legal.Begun.{begun_events_end}
-use Rattle.papaya_folded.proofs.Given.Legal.Over.{runs_by_other_names}
-use Rattle.papaya_folded.specs.Given.Logged.Shown.{IsCounted, IsShown}
-use Rattle.papaya_folded.proofs.Given.Rows.Facts.{row_rests}
-use Rattle.papaya_scheduler.specs.Played.{HasBegun, IsPlayed, IsUnderWay}
-use Rattle.papaya_folded.specs.Given.Named.Seen.{Seen, is_named}
-use Rattle.papaya_folded.specs.Given.Named.declared.caller.Caller.{Caller}
-use Rattle.papaya_scheduler.specs.declared.scheduler.Scheduler.{Scheduler}
-use Rattle.papaya_scheduler.proofs.Begins as beginning
-use Rattle.papaya_folded.proofs.Given.Named.Called.{begins_so, begun_call, is_begun_for, is_called, its_machine}
-use Rattle.papaya_scheduler.proofs.Rights.{quiet}
+use Rattle.papaya_stepping.specs.Given.Seize.World.{Rests}
+use Rattle.papaya_stepping.specs.Given.Runs.Same.{is_same}
+use Rattle.papaya_values.specs.Given.Schedules.declared.call.Call.{Call}
+use Rattle.papaya_values.specs.Given.Schedules.declared.call.Call.TheVariants.{Clear, Len, On, Reserve, Retain, Walk}
+use Rattle.papaya_values.specs.Given.Schedules.declared.call.OneKey.{OneKey}
+use Rattle.papaya_values.specs.Given.Schedules.declared.call.OneKey.TheVariants.{Get, GetKeyValue, ContainsKey, Insert, TryInsert, TryInsertWith, GetOrInsert, GetOrInsertWith, Update, UpdateOrInsert, UpdateOrInsertWith, Compute, Remove, RemoveEntry, RemoveIf}
+use Rattle.papaya_values.specs.Given.Schedules.declared.event.Event.TheVariants.{Begin}
+use Rattle.papaya_values.specs.Given.Schedules.declared.outcome.Outcome.TheVariants.{Goes}
+use Rattle.papaya_values.specs.Given.Schedules.After.{moment}
+use Rattle.papaya_values.specs.Given.Schedules.Beginning.{fresh_call, with_call}
+use Rattle.papaya_values.specs.Given.Schedules.Entry.{Entry}
+use Rattle.papaya_values.specs.Given.Schedules.InTurn.{ComesRight}
+use Rattle.papaya_values.specs.Given.Schedules.Moment.{UnderWay as CallThere, Moment}
+use Rattle.papaya_values.specs.Given.Schedules.Terms.{Terms}
+use Rattle.papaya_values.specs.Given.Schedules.Views.{call_of, number_of}
+use Rattle.papaya_stepping.specs.Given.Callers.Together.{UnderWay}
+use Rattle.papaya_values.specs.Given.Effects.Known.{Known, known}
+use Rattle.papaya_stepping.specs.Given.Finishes.Maps.{Standing}
+use Rattle.papaya_values.specs.Given.Follows.Calling.{NoneNamed}
+use Rattle.papaya_stepping.specs.Given.Histories.AsCalled.{IsBegunAs}
+use Rattle.papaya_stepping.specs.Given.Raw.declared.machines.machine.Machine.{Machine}
+use Rattle.papaya_stepping.specs.Given.Finishes.Machines.{machine_of}
+use Rattle.papaya_values.proofs.Given.Follows.Calling.{apart_back, is_same_refl}
+use Rattle.papaya_values.proofs.Given.Hands.Asking.{which}
+use Rattle.papaya_stepping.specs.Given.Promises.Meanwhile.{BeginsToLook}
+use Rattle.papaya_stepping.specs.Given.Purposes.Purposes.{IsFor}
+use Rattle.papaya_stepping.proofs.Given.Legal.Come.{events_bring_things}
+use Rattle.papaya_stepping.specs.Given.Legal.Between.{IsBegunRight}
+use Rattle.papaya_stepping.specs.Given.Legal.CallEvents.{IsLegalBut}
+use Rattle.papaya_stepping.specs.Given.Legal.Carried.{ShowsRun}
+use Rattle.papaya_stepping.proofs.Given.Legal.Begun.{begun_events_end}
+use Rattle.papaya_stepping.proofs.Given.Legal.Over.{runs_by_other_names}
+use Rattle.papaya_stepping.specs.Given.Logged.Shown.{IsCounted, IsShown}
+use Rattle.papaya_stepping.proofs.Given.Rows.Facts.{row_rests}
+use Rattle.papaya_stepping.specs.Given.Scheduler.Played.{HasBegun, IsPlayed, IsUnderWay}
+use Rattle.papaya_values.specs.Given.Named.Seen.{Seen, is_named}
+use Rattle.papaya_values.specs.Given.Named.declared.caller.Caller.{Caller}
+use Rattle.papaya_stepping.specs.Given.Scheduler.declared.scheduler.Scheduler.{Scheduler}
+use Rattle.papaya_stepping.proofs.Given.Scheduler.Begins as beginning
+use Rattle.papaya_values.proofs.Given.Named.Called.{begins_so, begun_call, is_begun_for, is_called, its_machine}
+use Rattle.papaya_stepping.proofs.Given.Scheduler.Rights.{quiet}
 use Rattle.papaya_values.specs.Values.{KeepsValue}
 use Rattle.papaya_values.proofs.Values.{values_begin}
 use Rattle.papaya_events.proofs.OfCalls.Worth.{SaidIn, event_says, have_values_then}
@@ -50,10 +50,10 @@ use Rattle.papaya_events.specs.OfCalls.{HaveShards, HaveValues, IsWorth, Runs, R
 use Rattle.papaya_events.proofs.OfCalls.Scenes.{AreNamed, stands_in}
 use Rattle.papaya_events.proofs.Remaining.{counted_in}
 use Rattle.papaya_events.proofs.Reached.{reached_by}
-use Rattle.papaya_folded.specs.Given.Scenes.Beginning.{Begins}
-use Rattle.papaya_folded.specs.Given.Scenes.Replying.{scene_with}
-use Rattle.papaya_folded.specs.Given.Scenes.Scene.{HasCall, Scene, slot_of}
-use Rattle.papaya_scheduler.specs.Given.Executor.IsThere.{held_by}
+use Rattle.papaya_values.specs.Given.Scenes.Beginning.{Begins}
+use Rattle.papaya_values.specs.Given.Scenes.Replying.{scene_with}
+use Rattle.papaya_values.specs.Given.Scenes.Scene.{HasCall, Scene, slot_of}
+use Rattle.papaya_stepping.specs.Given.Executor.IsThere.{held_by}
 
 -- what is under way then is a call as it was called
 module _ {K V : Type 0} (same : K → K → Bool) (st : Standing K) (i : ℕ) where

@@ -4,76 +4,76 @@ use Rattle.std.specs.List.{remove}
 use Rattle.std.proofs.Common.{refl, ap, sym, subst, ◌∙◌, inl, inr, arith}
 use Rattle.std.proofs.lemmas.Bool.{cases_eq}
 use Rattle.std.specs.Prelude.{filter, length, ◌≤◌}
-use Rattle.papaya_folded.specs.Given.Seize.World.{Begin, Happens, Request, SlotsTaken, Step, World}
-use Rattle.papaya_folded.specs.Given.Tables.Nodes.{deferred_word}
-use Rattle.papaya_folded.specs.Given.Tables.declared.node.Node.{Node}
-use Rattle.papaya_folded.specs.Given.Tables.declared.setting.Setting.{Setting}
-use Rattle.papaya_folded.specs.Given.Raw.declared.machines.progress.Progress.{Progress}
-use Rattle.papaya_folded.specs.Given.Raw.declared.machines.progress.Progress.TheVariants as progress
-use Rattle.papaya_folded.specs.Given.Runs.Present.{slot_of_guard}
-use Rattle.papaya_folded.specs.Given.Runs.Same.{is_same}
-use Rattle.papaya_folded.specs.Given.Schedules.After.{moment}
-use Rattle.papaya_folded.specs.Given.Schedules.declared.effect.Effect.{Effect}
-use Rattle.papaya_folded.specs.Given.Schedules.declared.event.Event.{Event}
-use Rattle.papaya_folded.specs.Given.Schedules.declared.outcome.Outcome.{Outcome}
-use Rattle.papaya_folded.specs.Given.Schedules.Effects.{with_effects}
-use Rattle.papaya_folded.specs.Given.Schedules.Entry.{Entry}
-use Rattle.papaya_folded.specs.Given.Schedules.Model.{things_in}
-use Rattle.papaya_folded.specs.Given.Schedules.Moment.{UnderWay as CallThere, Moment}
-use Rattle.papaya_folded.specs.Given.Schedules.Terms.{Terms, shards_of}
-use Rattle.papaya_folded.specs.Given.Schedules.Views.{call_of}
-use Rattle.papaya_folded.specs.Given.Callers.Together.{UnderWay, HandsOver}
-use Rattle.papaya_folded.specs.Given.Effects.Effects.{effects_of, known_after}
-use Rattle.papaya_folded.specs.Given.Effects.Known.{Known, known}
-use Rattle.papaya_folded.specs.Given.Effects.declared.acting.Acting.TheVariants as acts
-use Rattle.papaya_folded.specs.Given.Finishes.Maps.{Standing, IsSameMap}
-use Rattle.papaya_folded.specs.Given.Histories.InEvent.{here_of}
-use Rattle.papaya_folded.specs.Given.Schedules.declared.effect.Thing.{Thing}
-use Rattle.papaya_folded.specs.Given.Schedules.declared.call.Call.{Call}
-use Rattle.papaya_folded.specs.Given.Schedules.declared.call.Reply.{Reply}
-use Rattle.papaya_folded.specs.Given.Finishes.Machines.{machine_of}
-use Rattle.papaya_folded.proofs.Given.Follows.Calling.{is_same_is, is_same_refl}
-use Rattle.papaya_folded.proofs.Given.Hands.Asking.{which}
-use Rattle.papaya_folded.specs.Given.Models.CallEvents.{IsNoted, things_then}
-use Rattle.papaya_folded.specs.Given.Legal.Noted.{HaveCome}
-use Rattle.papaya_folded.proofs.Given.Legal.Come.{calls_bring_things}
-use Rattle.papaya_folded.proofs.Given.Legal.Noted.{calls_hand_noted}
-use Rattle.papaya_folded.proofs.Given.Models.CallEvents.{things_more}
-use Rattle.papaya_folded.specs.Given.Purposes.Kept.{ShowsNone}
-use Rattle.papaya_folded.specs.Given.Legal.CallEvents.{InCallEvent}
-use Rattle.papaya_folded.proofs.Given.Legal.Calls.{call_events_go_on_so}
-use Rattle.papaya_folded.proofs.Given.Legal.Heads.Rows.{slots_stay}
-use Rattle.papaya_folded.proofs.Given.Legal.Heads.Steps.{call_taken}
-use Rattle.papaya_folded.specs.Given.Logged.Calling.{CallGoesOn}
-use Rattle.papaya_folded.specs.Given.Logged.Shown.{IsShown}
-use Rattle.papaya_folded.proofs.Given.Rows.Lists.{both_some, found_alike, set_get}
-use Rattle.papaya_folded.specs.Given.Named.Seen.{Seen, kind_of, seen}
-use Rattle.papaya_folded.specs.Given.Named.Telling.{goes_on}
-use Rattle.papaya_folded.specs.Given.Named.declared.caller.Caller.{Caller}
-use Rattle.papaya_scheduler.specs.declared.scheduler.Scheduler.{Scheduler}
-use Rattle.papaya_scheduler.proofs.RanOn.{there_stays}
+use Rattle.papaya_stepping.specs.Given.Seize.World.{Begin, Happens, Request, SlotsTaken, Step, World}
+use Rattle.papaya_stepping.specs.Given.Tables.Nodes.{deferred_word}
+use Rattle.papaya_stepping.specs.Given.Tables.declared.node.Node.{Node}
+use Rattle.papaya_stepping.specs.Given.Tables.declared.setting.Setting.{Setting}
+use Rattle.papaya_stepping.specs.Given.Raw.declared.machines.progress.Progress.{Progress}
+use Rattle.papaya_stepping.specs.Given.Raw.declared.machines.progress.Progress.TheVariants as progress
+use Rattle.papaya_stepping.specs.Given.Runs.Present.{slot_of_guard}
+use Rattle.papaya_stepping.specs.Given.Runs.Same.{is_same}
+use Rattle.papaya_values.specs.Given.Schedules.After.{moment}
+use Rattle.papaya_values.specs.Given.Schedules.declared.effect.Effect.{Effect}
+use Rattle.papaya_values.specs.Given.Schedules.declared.event.Event.{Event}
+use Rattle.papaya_values.specs.Given.Schedules.declared.outcome.Outcome.{Outcome}
+use Rattle.papaya_values.specs.Given.Schedules.Effects.{with_effects}
+use Rattle.papaya_values.specs.Given.Schedules.Entry.{Entry}
+use Rattle.papaya_values.specs.Given.Schedules.Model.{things_in}
+use Rattle.papaya_values.specs.Given.Schedules.Moment.{UnderWay as CallThere, Moment}
+use Rattle.papaya_values.specs.Given.Schedules.Terms.{Terms, shards_of}
+use Rattle.papaya_values.specs.Given.Schedules.Views.{call_of}
+use Rattle.papaya_stepping.specs.Given.Callers.Together.{UnderWay, HandsOver}
+use Rattle.papaya_values.specs.Given.Effects.Effects.{effects_of, known_after}
+use Rattle.papaya_values.specs.Given.Effects.Known.{Known, known}
+use Rattle.papaya_values.specs.Given.Effects.declared.acting.Acting.TheVariants as acts
+use Rattle.papaya_stepping.specs.Given.Finishes.Maps.{Standing, IsSameMap}
+use Rattle.papaya_stepping.specs.Given.Histories.InEvent.{here_of}
+use Rattle.papaya_values.specs.Given.Schedules.declared.effect.Thing.{Thing}
+use Rattle.papaya_values.specs.Given.Schedules.declared.call.Call.{Call}
+use Rattle.papaya_values.specs.Given.Schedules.declared.call.Reply.{Reply}
+use Rattle.papaya_stepping.specs.Given.Finishes.Machines.{machine_of}
+use Rattle.papaya_values.proofs.Given.Follows.Calling.{is_same_is, is_same_refl}
+use Rattle.papaya_values.proofs.Given.Hands.Asking.{which}
+use Rattle.papaya_stepping.specs.Given.Models.CallEvents.{IsNoted, things_then}
+use Rattle.papaya_stepping.specs.Given.Legal.Noted.{HaveCome}
+use Rattle.papaya_stepping.proofs.Given.Legal.Come.{calls_bring_things}
+use Rattle.papaya_stepping.proofs.Given.Legal.Noted.{calls_hand_noted}
+use Rattle.papaya_stepping.proofs.Given.Models.CallEvents.{things_more}
+use Rattle.papaya_stepping.specs.Given.Purposes.Kept.{ShowsNone}
+use Rattle.papaya_stepping.specs.Given.Legal.CallEvents.{InCallEvent}
+use Rattle.papaya_stepping.proofs.Given.Legal.Calls.{call_events_go_on_so}
+use Rattle.papaya_stepping.proofs.Given.Legal.Heads.Rows.{slots_stay}
+use Rattle.papaya_stepping.proofs.Given.Legal.Heads.Steps.{call_taken}
+use Rattle.papaya_stepping.specs.Given.Logged.Calling.{CallGoesOn}
+use Rattle.papaya_stepping.specs.Given.Logged.Shown.{IsShown}
+use Rattle.papaya_stepping.proofs.Given.Rows.Lists.{both_some, found_alike, set_get}
+use Rattle.papaya_values.specs.Given.Named.Seen.{Seen, kind_of, seen}
+use Rattle.papaya_values.specs.Given.Named.Telling.{goes_on}
+use Rattle.papaya_values.specs.Given.Named.declared.caller.Caller.{Caller}
+use Rattle.papaya_stepping.specs.Given.Scheduler.declared.scheduler.Scheduler.{Scheduler}
+use Rattle.papaya_stepping.proofs.Given.Scheduler.RanOn.{there_stays}
 use Rattle.papaya_stepping.specs.Stepping.{GoneFor, IsStepOf, IsStepped, WalkedFor, caller_then, far_then, outcome_of}
 use Rattle.papaya_stepping.proofs.AfterEffects.{calls_seen}
 use Rattle.papaya_stepping.proofs.OneStep.{caller_as, going_not_ended, goes_next, value_then}
 use Rattle.papaya_values.specs.Values.{KeepsValue, kept_after}
 use Rattle.papaya_values.proofs.Values.{values_go_on}
-use Rattle.papaya_folded.specs.Given.Named.Seen.{is_named}
-use Rattle.papaya_folded.specs.Given.Named.declared.kind.Kind.{Kind}
-use Rattle.papaya_folded.proofs.Given.Rows.Lists.{set_count}
+use Rattle.papaya_values.specs.Given.Named.Seen.{is_named}
+use Rattle.papaya_values.specs.Given.Named.declared.kind.Kind.{Kind}
+use Rattle.papaya_stepping.proofs.Given.Rows.Lists.{set_count}
 use Rattle.papaya_events.specs.OfCalls.{HaveValues, IsWorth}
 use Rattle.papaya_events.proofs.OfCalls.Worth.{AreWorth, SaidIn, all_gone, all_once, all_set, effects_say, is_worth_then, said_same}
-use Rattle.papaya_folded.proofs.Given.Remains.Slots.{buckets_grow}
-use Rattle.papaya_works.specs.Needs.{AreReached}
-use Rattle.papaya_works.proofs.Reached.{reached_still}
+use Rattle.papaya_stepping.proofs.Given.Remains.Slots.{buckets_grow}
+use Rattle.papaya_stepping.specs.Given.Works.Needs.{AreReached}
+use Rattle.papaya_stepping.proofs.Given.Works.Reached.{reached_still}
 use Rattle.papaya_events.specs.OfCalls.{HaveShards}
-use Rattle.papaya_folded.specs.Folded.{HandInOrder}
-use Rattle.papaya_folded.proofs.Steps.{more_in_order}
+use Rattle.papaya_stepping.specs.Given.Folded.Folded.{HandInOrder}
+use Rattle.papaya_stepping.proofs.Given.Folded.Steps.{more_in_order}
 use Rattle.papaya_events.proofs.OfCalls.Scenes.{AreNamed, named_left, named_set}
 use Rattle.papaya_events.proofs.OfCalls.Words.{shows_none}
-use Rattle.papaya_scheduler.specs.Given.Executor.IsThere.{KeepsGiven, held_by}
-use Rattle.papaya_folded.specs.Given.Scenes.Scene.{Scene, slot_of}
-use Rattle.papaya_folded.specs.Given.Scenes.Stepping.{StepLeads, has_ended, scene_after}
-use Rattle.papaya_folded.specs.Given.Schedules.Transition.{past}
+use Rattle.papaya_stepping.specs.Given.Executor.IsThere.{KeepsGiven, held_by}
+use Rattle.papaya_values.specs.Given.Scenes.Scene.{Scene, slot_of}
+use Rattle.papaya_values.specs.Given.Scenes.Stepping.{StepLeads, has_ended, scene_after}
+use Rattle.papaya_values.specs.Given.Schedules.Transition.{past}
 
 one_more : (n : ℕ) → n + 1 ≡ suc n
 one_more n = omega arith

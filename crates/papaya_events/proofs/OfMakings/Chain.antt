@@ -4,62 +4,62 @@ use Rattle.std.specs.List.{list_all}
 use Rattle.std.proofs.Common.{refl, sym, ap, subst, inl, inr, ◌∙◌}
 use Rattle.std.proofs.lemmas.Bool.{cases_eq}
 use Rattle.std.proofs.lemmas.List.Folds.{list_all-append}
-use Rattle.papaya_folded.specs.Given.Seize.declared.progress.Progress.{Progress}
-use Rattle.papaya_folded.specs.Given.Seize.declared.progress.Progress.TheVariants as progress
-use Rattle.papaya_folded.specs.Given.Seize.World.{with_at}
-use Rattle.papaya_folded.specs.Given.Resize.declared.new_map.NewMap.{NewMap}
-use Rattle.papaya_folded.specs.Given.Tables.declared.resize_mode.ResizeMode.{ResizeMode}
-use Rattle.papaya_folded.specs.Given.Tables.declared.setting.Setting.{Setting}
-use Rattle.papaya_folded.proofs.Given.Callers.Together.At.{at_other, at_same}
-use Rattle.papaya_folded.specs.Given.Runs.Runs.{map_fault}
-use Rattle.papaya_folded.specs.Given.Schedules.declared.effect.Effect.{Effect}
-use Rattle.papaya_folded.specs.Given.Schedules.declared.effect.Effect.TheVariants.{Asked, Linked, TableMade}
-use Rattle.papaya_folded.specs.Given.Schedules.declared.effect.Growth.TheVariants.{ABlock}
-use Rattle.papaya_folded.specs.Given.Schedules.declared.event.Event.TheVariants.{MakeMap}
-use Rattle.papaya_folded.specs.Given.Schedules.Effects.{AtEachEffect, maps_by, with_effect, with_effects}
-use Rattle.papaya_folded.specs.Given.Schedules.Entry.{Entry}
-use Rattle.papaya_folded.specs.Given.Schedules.Handing.{is_first_making}
-use Rattle.papaya_folded.specs.Given.Schedules.Lives.{EventFinds}
-use Rattle.papaya_folded.specs.Given.Schedules.Moment.{MapThere, Moment}
-use Rattle.papaya_folded.specs.Given.Schedules.Terms.{Terms}
-use Rattle.papaya_folded.specs.Given.Schedules.Views.{map_at}
-use Rattle.papaya_folded.specs.Given.Effects.Effects.{effects_of, known_after}
-use Rattle.papaya_folded.specs.Given.Effects.Known.{Known, known}
-use Rattle.papaya_folded.specs.Given.Effects.declared.acting.Acting.TheVariants as acts
-use Rattle.papaya_folded.specs.Given.Finishes.Makings.{Beginning, IsMade}
-use Rattle.papaya_folded.specs.Given.Finishes.Maps.{Standing}
-use Rattle.papaya_folded.specs.Given.Follows.Shows.{Shows}
-use Rattle.papaya_folded.proofs.Given.Spots.Unreclaimed.{and_both}
-use Rattle.papaya_folded.specs.Given.Others.Makings.{IsNew, WasNew, making_after}
-use Rattle.papaya_folded.proofs.Given.Others.MakingGoes.{new_maps_stay}
-use Rattle.papaya_folded.specs.Given.Finds.Linking.{IsMadeFor}
-use Rattle.papaya_folded.proofs.Given.Finds.Capacities.{effects_keep_capacities}
-use Rattle.papaya_folded.specs.Given.Legal.Chains.{Chain, Come, MakingSteps}
-use Rattle.papaya_folded.specs.Given.Legal.MapEvents.{FindsItsMap, HasNotMade, InMakingEvent}
-use Rattle.papaya_folded.proofs.Given.Legal.Chains.{makings_chain}
-use Rattle.papaya_folded.proofs.Given.Legal.Maps.{unmade_maps}
-use Rattle.papaya_folded.proofs.Given.Grows.Finding.Alike.{made_still}
-use Rattle.papaya_folded.proofs.Given.Legal.Slots.{each_join}
-use Rattle.papaya_works.specs.Firsts.{ShowsOpenings}
-use Rattle.papaya_works.specs.Makings.{CountsTables, table_left}
-use Rattle.papaya_works.proofs.Firsts.{makings_go_on}
-use Rattle.papaya_folded.proofs.Given.Remains.Numbered.{made_stays}
-use Rattle.papaya_folded.specs.Given.Logged.Goes.{Far, GoesFor, MakingGoes, MakingOn}
-use Rattle.papaya_folded.specs.Given.Logged.Makings.{is_over}
-use Rattle.papaya_folded.specs.Given.Logged.Shown.{IsCounted}
-use Rattle.papaya_folded.proofs.Given.Logged.Counted.{counted_making_steps}
-use Rattle.papaya_folded.proofs.Given.Logged.LeftNoted.{makings_note_left}
-use Rattle.papaya_folded.proofs.Given.Logged.MakingSteps.{is_there}
-use Rattle.papaya_folded.proofs.Given.Logged.Held.{making_held, maps_below}
-use Rattle.papaya_folded.specs.Given.Named.Places.{first_places}
-use Rattle.papaya_works.proofs.Makings.{makings_do_theirs, makings_find_theirs}
-use Rattle.papaya_works.proofs.TablesMade.{makings_count_tables}
+use Rattle.papaya_stepping.specs.Given.Seize.declared.progress.Progress.{Progress}
+use Rattle.papaya_stepping.specs.Given.Seize.declared.progress.Progress.TheVariants as progress
+use Rattle.papaya_stepping.specs.Given.Seize.World.{with_at}
+use Rattle.papaya_stepping.specs.Given.Resize.declared.new_map.NewMap.{NewMap}
+use Rattle.papaya_stepping.specs.Given.Tables.declared.resize_mode.ResizeMode.{ResizeMode}
+use Rattle.papaya_stepping.specs.Given.Tables.declared.setting.Setting.{Setting}
+use Rattle.papaya_stepping.proofs.Given.Callers.Together.At.{at_other, at_same}
+use Rattle.papaya_stepping.specs.Given.Runs.Runs.{map_fault}
+use Rattle.papaya_values.specs.Given.Schedules.declared.effect.Effect.{Effect}
+use Rattle.papaya_values.specs.Given.Schedules.declared.effect.Effect.TheVariants.{Asked, Linked, TableMade}
+use Rattle.papaya_values.specs.Given.Schedules.declared.effect.Growth.TheVariants.{ABlock}
+use Rattle.papaya_values.specs.Given.Schedules.declared.event.Event.TheVariants.{MakeMap}
+use Rattle.papaya_values.specs.Given.Schedules.Effects.{AtEachEffect, maps_by, with_effect, with_effects}
+use Rattle.papaya_values.specs.Given.Schedules.Entry.{Entry}
+use Rattle.papaya_values.specs.Given.Schedules.Handing.{is_first_making}
+use Rattle.papaya_values.specs.Given.Schedules.Lives.{EventFinds}
+use Rattle.papaya_values.specs.Given.Schedules.Moment.{MapThere, Moment}
+use Rattle.papaya_values.specs.Given.Schedules.Terms.{Terms}
+use Rattle.papaya_values.specs.Given.Schedules.Views.{map_at}
+use Rattle.papaya_values.specs.Given.Effects.Effects.{effects_of, known_after}
+use Rattle.papaya_values.specs.Given.Effects.Known.{Known, known}
+use Rattle.papaya_values.specs.Given.Effects.declared.acting.Acting.TheVariants as acts
+use Rattle.papaya_stepping.specs.Given.Finishes.Makings.{Beginning, IsMade}
+use Rattle.papaya_stepping.specs.Given.Finishes.Maps.{Standing}
+use Rattle.papaya_values.specs.Given.Follows.Shows.{Shows}
+use Rattle.papaya_values.proofs.Given.Spots.Unreclaimed.{and_both}
+use Rattle.papaya_values.specs.Given.Others.Makings.{IsNew, WasNew, making_after}
+use Rattle.papaya_values.proofs.Given.Others.MakingGoes.{new_maps_stay}
+use Rattle.papaya_stepping.specs.Given.Finds.Linking.{IsMadeFor}
+use Rattle.papaya_stepping.proofs.Given.Finds.Capacities.{effects_keep_capacities}
+use Rattle.papaya_stepping.specs.Given.Legal.Chains.{Chain, Come, MakingSteps}
+use Rattle.papaya_stepping.specs.Given.Legal.MapEvents.{FindsItsMap, HasNotMade, InMakingEvent}
+use Rattle.papaya_stepping.proofs.Given.Legal.Chains.{makings_chain}
+use Rattle.papaya_stepping.proofs.Given.Legal.Maps.{unmade_maps}
+use Rattle.papaya_stepping.proofs.Given.Grows.Finding.Alike.{made_still}
+use Rattle.papaya_stepping.proofs.Given.Legal.Slots.{each_join}
+use Rattle.papaya_stepping.specs.Given.Works.Firsts.{ShowsOpenings}
+use Rattle.papaya_stepping.specs.Given.Works.Makings.{CountsTables, table_left}
+use Rattle.papaya_stepping.proofs.Given.Works.Firsts.{makings_go_on}
+use Rattle.papaya_stepping.proofs.Given.Remains.Numbered.{made_stays}
+use Rattle.papaya_stepping.specs.Given.Logged.Goes.{Far, GoesFor, MakingGoes, MakingOn}
+use Rattle.papaya_stepping.specs.Given.Logged.Makings.{is_over}
+use Rattle.papaya_stepping.specs.Given.Logged.Shown.{IsCounted}
+use Rattle.papaya_stepping.proofs.Given.Logged.Counted.{counted_making_steps}
+use Rattle.papaya_stepping.proofs.Given.Logged.LeftNoted.{makings_note_left}
+use Rattle.papaya_stepping.proofs.Given.Logged.MakingSteps.{is_there}
+use Rattle.papaya_stepping.proofs.Given.Logged.Held.{making_held, maps_below}
+use Rattle.papaya_values.specs.Given.Named.Places.{first_places}
+use Rattle.papaya_stepping.proofs.Given.Works.Makings.{makings_do_theirs, makings_find_theirs}
+use Rattle.papaya_stepping.proofs.Given.Works.TablesMade.{makings_count_tables}
 use Rattle.papaya_events.proofs.OfRows.Chain.{come_as, come_by}
-use Rattle.papaya_scheduler.specs.Given.Executor.IsThere.{IsThere, held_by}
-use Rattle.papaya_scheduler.specs.Given.Executor.Making.{MakesThere}
-use Rattle.papaya_folded.specs.Given.Scenes.Scene.{Scene, slot_of}
-use Rattle.papaya_folded.specs.Given.Scenes.Held.{Held, IsAt}
-use Rattle.papaya_folded.specs.Given.Scenes.Making.{MakingLeads}
+use Rattle.papaya_stepping.specs.Given.Executor.IsThere.{IsThere, held_by}
+use Rattle.papaya_stepping.specs.Given.Executor.Making.{MakesThere}
+use Rattle.papaya_values.specs.Given.Scenes.Scene.{Scene, slot_of}
+use Rattle.papaya_values.specs.Given.Scenes.Held.{Held, IsAt}
+use Rattle.papaya_values.specs.Given.Scenes.Making.{MakingLeads}
 
 -- By what a step of a making told: it goes on as another machine, of the same map.
 module _ {K V : Type 0} (same : K → K → Bool) (hash : ℕ → K → ℕ) (s : Scene K V) (old new : Held K V) (i : ℕ) (b : Beginning K) (here : s.makers i ≡ Some b) where

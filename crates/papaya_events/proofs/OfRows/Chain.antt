@@ -1,24 +1,24 @@
 -- The steps that a row took are a chain of steps from the scene in which it began.
 use Rattle.std.specs.Prelude.{◌≡◌, ℕ, zero, suc, Bool, List, ◌++◌, None}
 use Rattle.std.proofs.Common.{refl, subst, ◌∙◌}
-use Rattle.papaya_folded.specs.Given.Seize.World.{Step}
-use Rattle.papaya_scheduler.specs.Given.Executor.declared.executor.Executor.{Executor}
-use Rattle.papaya_folded.specs.Given.Others.Rows.{scene_then}
-use Rattle.papaya_folded.specs.Given.Schedules.declared.effect.Effect.{Effect}
-use Rattle.papaya_folded.specs.Given.Schedules.Effects.{with_effects}
-use Rattle.papaya_folded.specs.Given.Schedules.Moment.{Moment}
-use Rattle.papaya_folded.specs.Given.Schedules.Terms.{Terms}
-use Rattle.papaya_folded.specs.Given.Effects.Effects.{effects_of, known_after}
-use Rattle.papaya_folded.specs.Given.Effects.Known.{Known, known}
-use Rattle.papaya_folded.specs.Given.Effects.declared.acting.Acting.TheVariants as acts
-use Rattle.papaya_folded.specs.Given.Logged.Goes.{Far, GoesFor, RowGoes}
-use Rattle.papaya_folded.specs.Given.Logged.Shown.{IsCounted}
-use Rattle.papaya_folded.proofs.Given.Logged.Counted.{counted_row_steps}
-use Rattle.papaya_folded.proofs.Given.Logged.LeftNoted.{rows_note_left}
-use Rattle.papaya_folded.specs.Given.Legal.Chains.{Chain, Come, RowSteps}
-use Rattle.papaya_scheduler.specs.Given.Executor.IsThere.{IsThere, held_by}
-use Rattle.papaya_folded.specs.Given.Scenes.Scene.{Scene}
-use Rattle.papaya_scheduler.proofs.Given.Executor.RowLeads.{has_row, held_row}
+use Rattle.papaya_stepping.specs.Given.Seize.World.{Step}
+use Rattle.papaya_stepping.specs.Given.Executor.declared.executor.Executor.{Executor}
+use Rattle.papaya_values.specs.Given.Others.Rows.{scene_then}
+use Rattle.papaya_values.specs.Given.Schedules.declared.effect.Effect.{Effect}
+use Rattle.papaya_values.specs.Given.Schedules.Effects.{with_effects}
+use Rattle.papaya_values.specs.Given.Schedules.Moment.{Moment}
+use Rattle.papaya_values.specs.Given.Schedules.Terms.{Terms}
+use Rattle.papaya_values.specs.Given.Effects.Effects.{effects_of, known_after}
+use Rattle.papaya_values.specs.Given.Effects.Known.{Known, known}
+use Rattle.papaya_values.specs.Given.Effects.declared.acting.Acting.TheVariants as acts
+use Rattle.papaya_stepping.specs.Given.Logged.Goes.{Far, GoesFor, RowGoes}
+use Rattle.papaya_stepping.specs.Given.Logged.Shown.{IsCounted}
+use Rattle.papaya_stepping.proofs.Given.Logged.Counted.{counted_row_steps}
+use Rattle.papaya_stepping.proofs.Given.Logged.LeftNoted.{rows_note_left}
+use Rattle.papaya_stepping.specs.Given.Legal.Chains.{Chain, Come, RowSteps}
+use Rattle.papaya_stepping.specs.Given.Executor.IsThere.{IsThere, held_by}
+use Rattle.papaya_values.specs.Given.Scenes.Scene.{Scene}
+use Rattle.papaya_stepping.proofs.Given.Executor.RowLeads.{has_row, held_row}
 
 module _ {K V S : Type 0} where
   -- how far an event has come that has run so far, at this moment, in this scene

@@ -2,55 +2,55 @@
 use Rattle.std.specs.Prelude.{◌≡◌, ◌≢◌, ◌||◌, ◌+◌, ℕ, Bool, true, false, List, [], ◌∷◌, not, Option, None, flat_map}
 use Rattle.std.specs.List.{list_all, list_any}
 use Rattle.std.proofs.Common.{refl, sym, ap, subst, ◌∙◌}
-use Rattle.papaya_folded.specs.Given.Seize.World.{World, IsInside}
-use Rattle.papaya_folded.specs.Given.Tables.declared.node.Node.{Node}
-use Rattle.papaya_folded.proofs.Given.Histories.OtherCalls.{no_calls_are_linearizable}
-use Rattle.papaya_folded.specs.Given.SeizeWords.declared.fault.Fault.{Fault}
-use Rattle.papaya_folded.specs.Given.SeizeWords.declared.fault.Fault.TheVariants.{Busy}
-use Rattle.papaya_folded.specs.Given.Runs.Present.{Present, guards_on, slot_of_guard, slot_of_registration}
-use Rattle.papaya_folded.specs.Given.Schedules.declared.effect.Effect.{Effect}
-use Rattle.papaya_folded.specs.Given.Schedules.declared.event.Event.{Event}
-use Rattle.papaya_folded.specs.Given.Schedules.declared.event.Event.TheVariants.{DropGuard, EndMap, Enter, Flush, MakeMap, Own, Refresh, Register, Unregister}
-use Rattle.papaya_folded.specs.Given.Schedules.declared.outcome.Outcome.TheVariants.{Done, Refused}
-use Rattle.papaya_folded.specs.Given.Schedules.After.{after, moment, moments_from, slots_on}
-use Rattle.papaya_folded.specs.Given.Schedules.Beginning.{at_work}
-use Rattle.papaya_folded.specs.Given.Schedules.Effects.{AtEachEffect, worked}
-use Rattle.papaya_folded.specs.Given.Schedules.Entry.{Entry, IfCall, acted_on, acting, caller_of}
-use Rattle.papaya_folded.specs.Given.Schedules.Handing.{IsWhole, LeavesOf, comes_clear, gives_all, is_granted, is_made, may_do, moments_of, refuses as refuses_growth}
-use Rattle.papaya_folded.specs.Given.Schedules.InTurn.{ComesRight}
-use Rattle.papaya_folded.specs.Given.Schedules.Lives.{Finds}
-use Rattle.papaya_folded.specs.Given.Schedules.Model.{changes_of, left_last}
-use Rattle.papaya_folded.specs.Given.Schedules.Moment.{UnderWay as CallThere, Moment}
-use Rattle.papaya_folded.specs.Given.Schedules.Reclaims.{IsProtected}
-use Rattle.papaya_folded.specs.Given.Schedules.Steps.{IsBrief}
-use Rattle.papaya_folded.specs.Given.Schedules.Terms.{Terms}
-use Rattle.papaya_folded.specs.Given.Effects.Known.{Known, known}
-use Rattle.papaya_folded.specs.Given.Schedules.Linearizable.{shift_of}
-use Rattle.papaya_folded.specs.Given.Promises.Guards.{EntersInside}
-use Rattle.papaya_folded.specs.Given.Promises.Sheltered.{SectionsHold}
-use Rattle.papaya_folded.proofs.Given.Promises.Protected.{idle_events_are_protected}
-use Rattle.papaya_folded.proofs.Given.Models.Follows.{idle_events_follow}
-use Rattle.papaya_folded.proofs.Given.Models.Rows.{events_are_rows}
-use Rattle.papaya_folded.proofs.Given.Purposes.Nothing.{no_calls_are_swept}
-use Rattle.papaya_folded.specs.Given.Finds.Little.{ReclaimsAll}
-use Rattle.papaya_folded.specs.Given.Legal.CallEvents.{IsLegalBut}
-use Rattle.papaya_folded.specs.Given.Legal.Carried.{ShowsRun}
-use Rattle.papaya_folded.specs.Given.Legal.Over.{LeavesAll}
-use Rattle.papaya_folded.proofs.Given.Legal.Over.{idle_events_end}
-use Rattle.papaya_folded.proofs.Given.Rows.There.{is_inside}
-use Rattle.papaya_scheduler.specs.Played.{IsDue, IsPlayed, StandsFor}
-use Rattle.papaya_scheduler.specs.Works.{HasNoRow, IsAbout}
-use Rattle.papaya_scheduler.specs.declared.scheduler.Scheduler.{Scheduler}
-use Rattle.papaya_scheduler.proofs.Dropped.{free_lives}
-use Rattle.papaya_scheduler.proofs.Enters as enters_so
-use Rattle.papaya_scheduler.proofs.Rights.{entry}
+use Rattle.papaya_stepping.specs.Given.Seize.World.{World, IsInside}
+use Rattle.papaya_stepping.specs.Given.Tables.declared.node.Node.{Node}
+use Rattle.papaya_stepping.proofs.Given.Histories.OtherCalls.{no_calls_are_linearizable}
+use Rattle.papaya_stepping.specs.Given.SeizeWords.declared.fault.Fault.{Fault}
+use Rattle.papaya_stepping.specs.Given.SeizeWords.declared.fault.Fault.TheVariants.{Busy}
+use Rattle.papaya_stepping.specs.Given.Runs.Present.{Present, guards_on, slot_of_guard, slot_of_registration}
+use Rattle.papaya_values.specs.Given.Schedules.declared.effect.Effect.{Effect}
+use Rattle.papaya_values.specs.Given.Schedules.declared.event.Event.{Event}
+use Rattle.papaya_values.specs.Given.Schedules.declared.event.Event.TheVariants.{DropGuard, EndMap, Enter, Flush, MakeMap, Own, Refresh, Register, Unregister}
+use Rattle.papaya_values.specs.Given.Schedules.declared.outcome.Outcome.TheVariants.{Done, Refused}
+use Rattle.papaya_values.specs.Given.Schedules.After.{after, moment, moments_from, slots_on}
+use Rattle.papaya_values.specs.Given.Schedules.Beginning.{at_work}
+use Rattle.papaya_values.specs.Given.Schedules.Effects.{AtEachEffect, worked}
+use Rattle.papaya_values.specs.Given.Schedules.Entry.{Entry, IfCall, acted_on, acting, caller_of}
+use Rattle.papaya_values.specs.Given.Schedules.Handing.{IsWhole, LeavesOf, comes_clear, gives_all, is_granted, is_made, may_do, moments_of, refuses as refuses_growth}
+use Rattle.papaya_values.specs.Given.Schedules.InTurn.{ComesRight}
+use Rattle.papaya_values.specs.Given.Schedules.Lives.{Finds}
+use Rattle.papaya_values.specs.Given.Schedules.Model.{changes_of, left_last}
+use Rattle.papaya_values.specs.Given.Schedules.Moment.{UnderWay as CallThere, Moment}
+use Rattle.papaya_values.specs.Given.Schedules.Reclaims.{IsProtected}
+use Rattle.papaya_values.specs.Given.Schedules.Steps.{IsBrief}
+use Rattle.papaya_values.specs.Given.Schedules.Terms.{Terms}
+use Rattle.papaya_values.specs.Given.Effects.Known.{Known, known}
+use Rattle.papaya_values.specs.Given.Schedules.Linearizable.{shift_of}
+use Rattle.papaya_stepping.specs.Given.Promises.Guards.{EntersInside}
+use Rattle.papaya_stepping.specs.Given.Promises.Sheltered.{SectionsHold}
+use Rattle.papaya_stepping.proofs.Given.Promises.Protected.{idle_events_are_protected}
+use Rattle.papaya_stepping.proofs.Given.Models.Follows.{idle_events_follow}
+use Rattle.papaya_stepping.proofs.Given.Models.Rows.{events_are_rows}
+use Rattle.papaya_stepping.proofs.Given.Purposes.Nothing.{no_calls_are_swept}
+use Rattle.papaya_stepping.specs.Given.Finds.Little.{ReclaimsAll}
+use Rattle.papaya_stepping.specs.Given.Legal.CallEvents.{IsLegalBut}
+use Rattle.papaya_stepping.specs.Given.Legal.Carried.{ShowsRun}
+use Rattle.papaya_stepping.specs.Given.Legal.Over.{LeavesAll}
+use Rattle.papaya_stepping.proofs.Given.Legal.Over.{idle_events_end}
+use Rattle.papaya_stepping.proofs.Given.Rows.There.{is_inside}
+use Rattle.papaya_stepping.specs.Given.Scheduler.Played.{IsDue, IsPlayed, StandsFor}
+use Rattle.papaya_stepping.specs.Given.Scheduler.Works.{HasNoRow, IsAbout}
+use Rattle.papaya_stepping.specs.Given.Scheduler.declared.scheduler.Scheduler.{Scheduler}
+use Rattle.papaya_stepping.proofs.Given.Scheduler.Dropped.{free_lives}
+use Rattle.papaya_stepping.proofs.Given.Scheduler.Enters as enters_so
+use Rattle.papaya_stepping.proofs.Given.Scheduler.Rights.{entry}
 use Rattle.papaya_events.specs.Asked.{is_of_calls}
 use Rattle.papaya_events.proofs.OfCalls.Worth.{nobody_says}
 use Rattle.papaya_events.specs.OfCalls.{Runs, RunsOn}
 use Rattle.papaya_events.specs.OfRows.{is_of_rows}
 use Rattle.papaya_events.proofs.OfCalls.AsBefore.{as_before}
 use Rattle.papaya_events.proofs.OfRows.Facts.{inside_by, slot_is}
-use Rattle.papaya_folded.specs.Given.Schedules.Transition.{past, transition}
+use Rattle.papaya_values.specs.Given.Schedules.Transition.{past, transition}
 
 none_made : (q : Bool) → (not q || true) ≡ true
 none_made true = refl

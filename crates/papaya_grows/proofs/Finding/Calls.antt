@@ -10,8 +10,8 @@ use Rattle.papaya_purposes.specs.Given.Effects.Known.{Known}
 use Rattle.papaya_purposes.specs.Given.Effects.declared.acting.Acting.TheVariants as acts
 use Rattle.papaya_purposes.specs.Given.Moments.Whole.{ShowsWhole}
 use Rattle.papaya_purposes.specs.Given.Settles.Due.{OwnAreMade}
-use Rattle.papaya_kept.specs.Kept.{ShowsKept}
-use Rattle.papaya_kept.proofs.Calls.{own_made}
+use Rattle.papaya_models.specs.Given.Kept.Kept.{ShowsKept}
+use Rattle.papaya_models.proofs.Given.Kept.Calls.{own_made}
 use Rattle.papaya_purposes.proofs.Given.Finds.Capacities.{calls_keep_capacities}
 use Rattle.papaya_purposes.proofs.Given.Finds.Grows.Steps.{calls_keep_growing}
 use Rattle.papaya_purposes.proofs.Given.Finds.Waits.Puts.{calls_keep_puts}

@@ -26,7 +26,7 @@ use Rattle.papaya_purposes.proofs.Given.Others.Outcomes.{told_in}
 use Rattle.papaya_purposes.specs.Given.Owes.Tables.{ShowsTables}
 use Rattle.papaya_purposes.proofs.Given.Owes.Walks.{sum_at}
 use Rattle.papaya_purposes.specs.Given.Settles.Due.{OwnAreMade}
-use Rattle.papaya_kept.proofs.Calls.{own_made}
+use Rattle.papaya_models.proofs.Given.Kept.Calls.{own_made}
 use Rattle.papaya_purposes.specs.Given.Finds.Growing.{FindAsked}
 use Rattle.papaya_purposes.specs.Given.Finds.Linking.{FindShapes, FoundFull}
 use Rattle.papaya_purposes.specs.Given.Finds.Within.{many_of}
@@ -39,7 +39,7 @@ use Rattle.papaya_purposes.proofs.Given.Finds.Rest.{rest_is_all}
 use Rattle.papaya_purposes.proofs.Given.Finds.Waits.Handed.{calls_hand_past, past_is_handed}
 use Rattle.papaya_purposes.proofs.Given.Finds.Waits.Next.{calls_put_behind}
 use Rattle.papaya_purposes.specs.Given.Finds.Waits.{FindPast, FindBehind}
-use Rattle.papaya_sources.proofs.Space.{calls_find_space}
+use Rattle.papaya_purposes.proofs.Given.Sources.Space.{calls_find_space}
 use Rattle.papaya_purposes.specs.Purposes.{ShowsPurposes}
 use Rattle.papaya_grows.specs.Finding.{ShowsFinding}
 use Rattle.papaya_grows.specs.Rests.{StepsFindRest}

@@ -32,7 +32,7 @@ use Rattle.papaya_purposes.specs.Given.Follows.Maps.{ShowsMap}
 use Rattle.papaya_purposes.specs.Given.Spots.Spots.{LiesAt, named_by, spot_in}
 use Rattle.papaya_purposes.proofs.Given.Spots.Stills.{still_spot}
 use Rattle.papaya_purposes.proofs.Given.Spots.Taken.{no_pair_there, pair_there, taken_there}
-use Rattle.papaya_sources.specs.Sources.{WereLeft}
+use Rattle.papaya_purposes.specs.Given.Sources.Sources.{WereLeft}
 
 -- In the last table of a map, which is the root where all pairs are copied at once, nothing is marked.
 module _ {K : Type 0} (same : K → K → Bool) (hash : K → ℕ) (c : Chart K) (t : ℕ) (last : suc t ≡ c.past) where

@@ -27,7 +27,7 @@ use Rattle.papaya_purposes.specs.Given.Finds.Within.{many_of}
 use Rattle.papaya_purposes.proofs.Given.Finds.Grows.Steps.{tables_have_been}
 use Rattle.papaya_grows.proofs.Finding.Alike.{itself}
 use Rattle.papaya_grows.proofs.Finding.Aside.{endings_leave_spots, makings_leave_spots, rows_leave_spots}
-use Rattle.papaya_sources.specs.Sources.{ShowsSources}
+use Rattle.papaya_purposes.specs.Given.Sources.Sources.{ShowsSources}
 use Rattle.papaya_grows.specs.Tries.{ShowsTries}
 use Rattle.papaya_grows.proofs.Finding.Others.{ended, ended_calls, ended_maps, ended_world}
 use Rattle.papaya_grows.proofs.Tries.Shows.{tries_beside}

@@ -24,7 +24,7 @@ use Rattle.papaya_purposes.specs.Given.Follows.Shows.{Shows}
 use Rattle.papaya_purposes.specs.Given.Others.Walks.{given_up}
 use Rattle.papaya_purposes.proofs.Given.Moments.Beside.{IsBeside}
 use Rattle.papaya_purposes.specs.Given.Finds.Within.{many_of}
-use Rattle.papaya_sources.specs.Sources.{ShowsSources}
+use Rattle.papaya_purposes.specs.Given.Sources.Sources.{ShowsSources}
 use Rattle.papaya_grows.specs.Tries.{MachineTried, OthersHadTried, ShowsTries, TakenOrPassed, TriedAt}
 use Rattle.papaya_grows.proofs.Since as since
 use Rattle.papaya_grows.proofs.Since.{HasSamePairs}

@@ -15,9 +15,9 @@ use Rattle.papaya_purposes.specs.Given.Finishes.Maps.{Standing}
 use Rattle.papaya_purposes.specs.Given.Follows.Maps.{ShowsMap}
 use Rattle.papaya_purposes.proofs.Given.Follows.Stored.{in_map_true}
 use Rattle.papaya_purposes.specs.Given.Finds.Within.{many_of}
-use Rattle.papaya_sources.specs.Sources.{AreNumbered}
-use Rattle.papaya_sources.specs.Stays.{PairsStay}
-use Rattle.papaya_sources.proofs.Stays.{numbers_stay}
+use Rattle.papaya_purposes.specs.Given.Sources.Sources.{AreNumbered}
+use Rattle.papaya_purposes.specs.Given.Sources.Stays.{PairsStay}
+use Rattle.papaya_purposes.proofs.Given.Sources.Stays.{numbers_stay}
 use Rattle.papaya_grows.specs.Tries.{TakenOrPassed}
 use Rattle.papaya_grows.proofs.Finding.Alike.{many_same}
 use Rattle.papaya_grows.proofs.Since.{HasSamePairs}

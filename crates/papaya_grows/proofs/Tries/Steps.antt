@@ -64,7 +64,7 @@ use Rattle.papaya_purposes.specs.Given.Moments.Whole.{ShowsWhole}
 use Rattle.papaya_purposes.specs.Given.Finds.Within.{many_of}
 use Rattle.papaya_purposes.proofs.Given.Finds.Grows.Steps.{tables_have_been}
 use Rattle.papaya_purposes.proofs.Given.Finds.Steps.{steps_do_theirs}
-use Rattle.papaya_sources.specs.Sources.{ShowsSources}
+use Rattle.papaya_purposes.specs.Given.Sources.Sources.{ShowsSources}
 use Rattle.papaya_grows.specs.Tries.{HasTaken, MachineTried, OthersHadTried, ShowsTries}
 use Rattle.papaya_grows.proofs.Since as since
 use Rattle.papaya_grows.proofs.Tries.Facts.{at_try, moves_none, takes_here}

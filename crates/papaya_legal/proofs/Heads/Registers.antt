@@ -35,12 +35,12 @@ use Rattle.papaya_grows.specs.Given.Scenes.declared.row.SlotCall.{SlotCall}
 use Rattle.papaya_grows.specs.Given.Scenes.declared.row.SlotCall.TheVariants as call
 use Rattle.papaya_grows.specs.Given.Scenes.declared.row.SlotRow.{SlotRow}
 use Rattle.papaya_grows.specs.Given.Scenes.declared.row.SlotRow.TheVariants as rows
-use Rattle.papaya_logged.specs.Given.Executor.declared.executor.Executor.{Executor}
-use Rattle.papaya_logged.specs.Given.Executor.declared.worker.Work.TheVariants.{OnSlot}
-use Rattle.papaya_logged.specs.Given.Executor.IsThere.{IsThere, held_by, work_of}
-use Rattle.papaya_logged.specs.Given.Executor.OnSlots.{RowComesThere, row_on}
-use Rattle.papaya_logged.proofs.Given.Executor.RowLeads.{has_row, held_row}
-use Rattle.papaya_logged.specs.OnSlots.{GoesOnFor, OnSlotLast, StepsOn, has_come}
+use Rattle.papaya_grows.specs.Given.Executor.declared.executor.Executor.{Executor}
+use Rattle.papaya_grows.specs.Given.Executor.declared.worker.Work.TheVariants.{OnSlot}
+use Rattle.papaya_grows.specs.Given.Executor.IsThere.{IsThere, held_by, work_of}
+use Rattle.papaya_grows.specs.Given.Executor.OnSlots.{RowComesThere, row_on}
+use Rattle.papaya_grows.proofs.Given.Executor.RowLeads.{has_row, held_row}
+use Rattle.papaya_grows.specs.Given.Logged.OnSlots.{GoesOnFor, OnSlotLast, StepsOn, has_come}
 use Rattle.papaya_legal.proofs.Heads.Rows.{KeepsTaken, Off, elsewhere, fits_at, from_up_to, idle_some, is_taken, no_change, now, positive, same_taken, slots_stay, step_taken, taken_word_of, up_to, written}
 use Rattle.papaya_grows.proofs.Given.Scenes.Told.{as_step}
 use Rattle.papaya_grows.specs.Given.Scenes.Held.{Held, IsAt}

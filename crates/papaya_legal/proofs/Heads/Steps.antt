@@ -57,12 +57,12 @@ use Rattle.papaya_grows.specs.Given.Finishes.Endings.{Finishing}
 use Rattle.papaya_grows.specs.Given.Finishes.FactsEnds.{TakesLeft, WritesRoot, events_of}
 use Rattle.papaya_grows.specs.Given.Finishes.Makings.{Beginning}
 use Rattle.papaya_grows.specs.Given.Moments.Whole.{ShowsWhole}
-use Rattle.papaya_logged.specs.Given.Reclaims.Reclaims.{ReclaimingAt}
-use Rattle.papaya_logged.specs.Given.Reclaims.Slots.{AreItsRows, DoesAt}
-use Rattle.seize_quiet.specs.Slots.{BeginsAt}
-use Rattle.seize_quiet.proofs.Slots.Facts.{rested_by}
+use Rattle.papaya_grows.specs.Given.Reclaims.Reclaims.{ReclaimingAt}
+use Rattle.papaya_grows.specs.Given.Reclaims.Slots.{AreItsRows, DoesAt}
+use Rattle.papaya_grows.specs.Given.SeizeQuiet.Slots.{BeginsAt}
+use Rattle.papaya_grows.proofs.Given.SeizeQuiet.Slots.Facts.{rested_by}
 use Rattle.papaya_grows.specs.Given.Scenes.Reclaiming.{IsReclaiming, ReclaimingLeads}
-use Rattle.papaya_models.proofs.Calls.{OneStep, by_users, no_or, one_step}
+use Rattle.papaya_grows.proofs.Given.Models.Calls.{OneStep, by_users, no_or, one_step}
 use Rattle.papaya_legal.proofs.Heads.Rows.{KeepsTaken, Off, by_memory, no_change, same_taken, step_taken, written}
 use Rattle.papaya_legal.proofs.OfAll.Sets.{none_of_rows}
 use Rattle.papaya_grows.proofs.Given.Scenes.Told.{as_step}

@@ -16,8 +16,8 @@ use Rattle.papaya_grows.specs.Given.Tables.declared.node.Node.{Node}
 use Rattle.papaya_grows.specs.Given.Teller.declared.changed.Changed.TheVariants.{Nothing}
 use Rattle.papaya_grows.specs.Given.Callers.Together.{CameAbout}
 use Rattle.papaya_grows.specs.Given.Scenes.Reclaiming.{IsReclaiming, ReclaimingLeads}
-use Rattle.papaya_models.specs.Reclaims.{HasReclaimed}
-use Rattle.papaya_models.specs.Turns.{CameByTurns}
+use Rattle.papaya_grows.specs.Given.Models.Reclaims.{HasReclaimed}
+use Rattle.papaya_grows.specs.Given.Models.Turns.{CameByTurns}
 use Rattle.papaya_legal.specs.AllEvents.{AllCome, AllReclaimBySets, AllSteps}
 use Rattle.papaya_legal.proofs.Chains.{chains_keep}
 use Rattle.papaya_legal.proofs.OfAll.Points.{quiet_there, stays_off}

@@ -32,15 +32,15 @@ use Rattle.papaya_grows.specs.Given.Effects.Known.{Known}
 use Rattle.papaya_grows.specs.Given.Finishes.Makings.{IsFreeRoot}
 use Rattle.papaya_grows.specs.Given.Moments.OnSlots.{HadRetired}
 use Rattle.papaya_grows.proofs.Given.Spots.Unreclaimed.{and_both}
-use Rattle.papaya_logged.specs.Given.SeizeReclaims.Roots.{all_lists}
-use Rattle.papaya_logged.specs.Given.Reclaims.Reclaims.{AllIsReclaimed, IsRootOf, ReclaimingTold}
+use Rattle.papaya_grows.specs.Given.SeizeReclaims.Roots.{all_lists}
+use Rattle.papaya_grows.specs.Given.Reclaims.Reclaims.{AllIsReclaimed, IsRootOf, ReclaimingTold}
 use Rattle.papaya_grows.specs.Given.Scenes.Reclaiming.{ReclaimingComesTo}
-use Rattle.papaya_promises.specs.Protected.{EndsInside, InMidst, is_of_slots}
-use Rattle.papaya_promises.specs.Sheltered.{SectionsHold}
-use Rattle.papaya_promises.proofs.Protected.{all_is_ended_protected, slot_events_end_protected}
-use Rattle.papaya_models.specs.Follows.{IsFollowed}
-use Rattle.papaya_models.specs.Reclaims.{HasReclaimed}
-use Rattle.papaya_models.specs.Turns.{CameByTurns}
+use Rattle.papaya_grows.specs.Given.Promises.Protected.{EndsInside, InMidst, is_of_slots}
+use Rattle.papaya_grows.specs.Given.Promises.Sheltered.{SectionsHold}
+use Rattle.papaya_grows.proofs.Given.Promises.Protected.{all_is_ended_protected, slot_events_end_protected}
+use Rattle.papaya_grows.specs.Given.Models.Follows.{IsFollowed}
+use Rattle.papaya_grows.specs.Given.Models.Reclaims.{HasReclaimed}
+use Rattle.papaya_grows.specs.Given.Models.Turns.{CameByTurns}
 use Rattle.papaya_grows.specs.Given.Finds.Little.{ReclaimsAll, WhereAll}
 use Rattle.papaya_grows.specs.Given.Finds.Orderly.{NothingIsRetired, is_left_over}
 use Rattle.papaya_grows.proofs.Given.Finds.Begun.{in_turn, not_kept_out, was_done}

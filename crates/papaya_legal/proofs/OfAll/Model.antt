@@ -31,19 +31,19 @@ use Rattle.papaya_grows.specs.Given.Effects.declared.role.Role.{Role}
 use Rattle.papaya_grows.specs.Given.Effects.declared.role.Role.TheVariants as role
 use Rattle.papaya_grows.specs.Given.Follows.Blocks.{HasRole, ShowsBlocks}
 use Rattle.papaya_grows.proofs.Given.Moments.OnSlots.{none_some}
-use Rattle.papaya_logged.specs.Given.SeizeReclaims.Roots.{all_lists}
-use Rattle.papaya_promises.specs.Sheltered.{IsOfThing}
-use Rattle.papaya_models.specs.Alike.{AfterAlike, AreAlike, SetsAlike}
-use Rattle.papaya_models.specs.Follows.{FollowsModel, IsFollowed}
-use Rattle.papaya_models.specs.Numbers.{EachIsOnce, HasNumber, things_of}
-use Rattle.papaya_models.specs.Reclaims.{HasReclaimed}
-use Rattle.papaya_models.specs.Turns.{sets_of}
-use Rattle.papaya_models.proofs.Alike.Again.{alike_again}
-use Rattle.papaya_models.proofs.Alike.Changed.{changed_alike}
-use Rattle.papaya_models.proofs.Follows.{if_alone, same_things, sets_then}
-use Rattle.papaya_models.proofs.Numbers.{has_one}
-use Rattle.papaya_models.proofs.OnSlots.{numbers_back}
-use Rattle.papaya_models.proofs.Turns.{all_there}
+use Rattle.papaya_grows.specs.Given.SeizeReclaims.Roots.{all_lists}
+use Rattle.papaya_grows.specs.Given.Promises.Sheltered.{IsOfThing}
+use Rattle.papaya_grows.specs.Given.Models.Alike.{AfterAlike, AreAlike, SetsAlike}
+use Rattle.papaya_grows.specs.Given.Models.Follows.{FollowsModel, IsFollowed}
+use Rattle.papaya_grows.specs.Given.Models.Numbers.{EachIsOnce, HasNumber, things_of}
+use Rattle.papaya_grows.specs.Given.Models.Reclaims.{HasReclaimed}
+use Rattle.papaya_grows.specs.Given.Models.Turns.{sets_of}
+use Rattle.papaya_grows.proofs.Given.Models.Alike.Again.{alike_again}
+use Rattle.papaya_grows.proofs.Given.Models.Alike.Changed.{changed_alike}
+use Rattle.papaya_grows.proofs.Given.Models.Follows.{if_alone, same_things, sets_then}
+use Rattle.papaya_grows.proofs.Given.Models.Numbers.{has_one}
+use Rattle.papaya_grows.proofs.Given.Models.OnSlots.{numbers_back}
+use Rattle.papaya_grows.proofs.Given.Models.Turns.{all_there}
 use Rattle.papaya_legal.specs.AllEvents.{BehindIsLeft, TakesInTurn}
 
 -- What such an event is to the model.

@@ -33,15 +33,15 @@ use Rattle.papaya_grows.proofs.Given.Follows.Alike.{put_here}
 use Rattle.papaya_grows.proofs.Given.Follows.Operations.{LeavesBy}
 use Rattle.papaya_grows.specs.Given.Moments.Whole.{ShowsWhole}
 use Rattle.papaya_grows.specs.Given.Spots.Unreclaimed.{is_unreclaimed}
-use Rattle.papaya_logged.specs.Given.SeizeReclaims.Roots.{all_lists}
+use Rattle.papaya_grows.specs.Given.SeizeReclaims.Roots.{all_lists}
 use Rattle.papaya_grows.specs.Given.Scenes.Reclaiming.{IsReclaiming, ReclaimingLeads}
 use Rattle.papaya_grows.specs.Given.Lives.Behind.{EachWaits, IsLeft, LiesBehind}
 use Rattle.papaya_grows.specs.Given.Lives.Waiting.{waits_behind}
 use Rattle.papaya_grows.proofs.Given.Lives.Each.{found}
 use Rattle.papaya_grows.proofs.Given.Lives.Worlds.{Kept, runs_kept, start_kept, unretired}
-use Rattle.papaya_logged.proofs.Reclaiming.Steps.{left as leaves_there}
+use Rattle.papaya_grows.proofs.Given.Logged.Reclaiming.Steps.{left as leaves_there}
 use Rattle.papaya_grows.specs.Given.Kept.Kept.{ShowsKept}
-use Rattle.papaya_models.specs.Numbers.{things_of}
+use Rattle.papaya_grows.specs.Given.Models.Numbers.{things_of}
 use Rattle.papaya_grows.specs.Given.Finds.Waiting.{FindsPlaced, PairsArePlaced, is_behind_one, is_let_go, is_out, once_if, owed_by, put_in}
 use Rattle.papaya_grows.proofs.Given.Finds.Placed.{effects_keep_placed}
 use Rattle.papaya_legal.specs.AllEvents.{AllCome, AllFindPairs, AllSteps, BehindAreLeft, FindsPair, InAllEvent, all_begun}

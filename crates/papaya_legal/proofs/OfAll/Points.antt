@@ -25,9 +25,9 @@ use Rattle.papaya_grows.proofs.Given.Callers.Together.At.{at_other, at_same}
 use Rattle.papaya_grows.specs.Given.Finishes.Makings.{IsFreeRoot}
 use Rattle.papaya_grows.specs.Given.Finishes.Maps.{IsSameMap, Standing}
 use Rattle.papaya_grows.specs.Given.Follows.Steps.{TakesNone}
-use Rattle.papaya_logged.specs.Given.SeizeReclaims.Roots.{all_lists}
-use Rattle.papaya_logged.specs.Given.Reclaims.Reclaims.{IsRootOf, LeftBehind, Opened, ReclaimingAt, RootLeads}
-use Rattle.papaya_logged.specs.Given.Reclaims.Slots.{IsQuiet}
+use Rattle.papaya_grows.specs.Given.SeizeReclaims.Roots.{all_lists}
+use Rattle.papaya_grows.specs.Given.Reclaims.Reclaims.{IsRootOf, LeftBehind, Opened, ReclaimingAt, RootLeads}
+use Rattle.papaya_grows.specs.Given.Reclaims.Slots.{IsQuiet}
 use Rattle.papaya_grows.proofs.Given.Shards.ShardKept.{same_setting}
 
 -- it stands where a block behind a root is taken away

@@ -34,14 +34,14 @@ use Rattle.papaya_grows.specs.Given.Follows.Steps.{TakesNone}
 use Rattle.papaya_grows.proofs.Given.Follows.Operations.{LeavesBy, operated, operated_leaves}
 use Rattle.papaya_grows.proofs.Given.Moments.OnSlots.{none_some}
 use Rattle.papaya_grows.proofs.Given.Others.Outcomes.{told_in}
-use Rattle.papaya_logged.specs.Given.Reclaims.Reclaims.{HasTaken, ReclaimingAt, ReclaimingTold}
-use Rattle.papaya_logged.specs.Given.Reclaims.Slots.{AreItsRows, IsForSlots}
+use Rattle.papaya_grows.specs.Given.Reclaims.Reclaims.{HasTaken, ReclaimingAt, ReclaimingTold}
+use Rattle.papaya_grows.specs.Given.Reclaims.Slots.{AreItsRows, IsForSlots}
 use Rattle.papaya_grows.specs.Given.Scenes.Reclaiming.{IsReclaiming, ReclaimingLeads}
 use Rattle.papaya_grows.proofs.Given.Scenes.May.{may_reclaim}
 use Rattle.papaya_grows.specs.Given.Lives.Behind.{IsLeft}
-use Rattle.papaya_logged.proofs.Reclaiming.Finds.{left_before, root_value, step_handed}
-use Rattle.papaya_logged.proofs.ReclaimGives.{taken_gone}
-use Rattle.papaya_logged.proofs.Reclaiming.Rows.{begun_kept}
+use Rattle.papaya_grows.proofs.Given.Logged.Reclaiming.Finds.{left_before, root_value, step_handed}
+use Rattle.papaya_grows.proofs.Given.Logged.ReclaimGives.{taken_gone}
+use Rattle.papaya_grows.proofs.Given.Logged.Reclaiming.Rows.{begun_kept}
 use Rattle.papaya_legal.specs.AllEvents.{SlotsLeaveRoots}
 use Rattle.papaya_grows.proofs.Given.Scenes.Told.{as_step}
 use Rattle.papaya_grows.specs.Given.Scenes.Held.{Held}

@@ -39,16 +39,16 @@ use Rattle.papaya_grows.specs.Given.Finishes.Endings.{Finishing}
 use Rattle.papaya_grows.specs.Given.Finishes.FactsEnds.{TakesLeft, WritesRoot, events_of}
 use Rattle.papaya_grows.specs.Given.Finishes.Makings.{Beginning}
 use Rattle.papaya_grows.specs.Given.Finishes.Maps.{Standing}
-use Rattle.papaya_logged.specs.Given.SeizeReclaims.AllReclaimed.{is_within}
-use Rattle.papaya_logged.proofs.Given.SeizeReclaims.AllReclaimed.Weights.{at_next_batch, at_next_head}
-use Rattle.papaya_logged.specs.Given.Reclaims.Reclaims.{ReclaimingAt, StepsOfReclaiming}
-use Rattle.papaya_logged.specs.Given.Reclaims.Slots.{AllRest, AreItsRows, DoesAt, IsQuiet}
-use Rattle.seize_quiet.specs.Slots.{BeginsAt}
-use Rattle.seize_quiet.proofs.Slots.Facts.{no_word, outside_at, rested_by}
-use Rattle.papaya_models.specs.Reclaims.{HasReclaimed}
-use Rattle.papaya_models.specs.Turns.{CameByTurns}
-use Rattle.papaya_models.proofs.Reclaims.{has_reclaimed, quiet_reclaimed}
-use Rattle.papaya_models.proofs.Turns.{events_follow}
+use Rattle.papaya_grows.specs.Given.SeizeReclaims.AllReclaimed.{is_within}
+use Rattle.papaya_grows.proofs.Given.SeizeReclaims.AllReclaimed.Weights.{at_next_batch, at_next_head}
+use Rattle.papaya_grows.specs.Given.Reclaims.Reclaims.{ReclaimingAt, StepsOfReclaiming}
+use Rattle.papaya_grows.specs.Given.Reclaims.Slots.{AllRest, AreItsRows, DoesAt, IsQuiet}
+use Rattle.papaya_grows.specs.Given.SeizeQuiet.Slots.{BeginsAt}
+use Rattle.papaya_grows.proofs.Given.SeizeQuiet.Slots.Facts.{no_word, outside_at, rested_by}
+use Rattle.papaya_grows.specs.Given.Models.Reclaims.{HasReclaimed}
+use Rattle.papaya_grows.specs.Given.Models.Turns.{CameByTurns}
+use Rattle.papaya_grows.proofs.Given.Models.Reclaims.{has_reclaimed, quiet_reclaimed}
+use Rattle.papaya_grows.proofs.Given.Models.Turns.{events_follow}
 
 -- where nothing but what lies between rows happened, and rows alone, nothing happened
 pub none_of_rows : {T : Type 0} (i : ℕ) (events : List (Event T)) → AreItsRows i events → AllByRecursion IsBetween events → events ≡ []

@@ -32,10 +32,10 @@ use Rattle.papaya_grows.proofs.Given.Others.RowPlans.{TellsRow}
 use Rattle.papaya_grows.proofs.Given.Histories.Questions.{effects_keep_questions}
 use Rattle.papaya_grows.specs.Given.Scenes.Reclaiming.{IsReclaiming, ReclaimingLeads}
 use Rattle.papaya_grows.proofs.Given.Scenes.May.{may_reclaim}
-use Rattle.papaya_logged.proofs.Reclaiming.Rest.{reclaiming_found, reclaiming_keeps}
-use Rattle.papaya_logged.proofs.Reclaiming.Rows.{EmptiesRoot, reclaiming_tells}
-use Rattle.papaya_logged.proofs.Reclaiming.Steps.{reclaiming_whole}
-use Rattle.papaya_promises.specs.Reading.{ShowsReading}
+use Rattle.papaya_grows.proofs.Given.Logged.Reclaiming.Rest.{reclaiming_found, reclaiming_keeps}
+use Rattle.papaya_grows.proofs.Given.Logged.Reclaiming.Rows.{EmptiesRoot, reclaiming_tells}
+use Rattle.papaya_grows.proofs.Given.Logged.Reclaiming.Steps.{reclaiming_whole}
+use Rattle.papaya_grows.specs.Given.Promises.Reading.{ShowsReading}
 use Rattle.papaya_grows.proofs.Given.Settles.Uncounted.{CountsNowhere}
 use Rattle.papaya_grows.specs.Given.Shards.ShardWords.{ShowsCounters, ShowsShards}
 use Rattle.papaya_grows.proofs.Given.Shards.ShardKept.{none_shards, same_setting, word_kept}

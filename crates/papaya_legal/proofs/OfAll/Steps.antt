@@ -25,9 +25,9 @@ use Rattle.papaya_grows.specs.Given.Moments.OnSlots.{HadRetired}
 use Rattle.papaya_grows.proofs.Given.Moments.After.{effects_after}
 use Rattle.papaya_grows.proofs.Given.Spots.Unreclaimed.{and_both}
 use Rattle.papaya_grows.specs.Given.Scenes.Reclaiming.{IsReclaiming, ReclaimingLeads}
-use Rattle.papaya_logged.proofs.Reclaiming.Rest.{reclaiming_found}
-use Rattle.papaya_promises.proofs.Weights.{grants_add_up, operations_are_single}
-use Rattle.papaya_models.proofs.MapEvents.{moments_note_once}
+use Rattle.papaya_grows.proofs.Given.Logged.Reclaiming.Rest.{reclaiming_found}
+use Rattle.papaya_grows.proofs.Given.Promises.Weights.{grants_add_up, operations_are_single}
+use Rattle.papaya_grows.proofs.Given.Models.MapEvents.{moments_note_once}
 use Rattle.papaya_legal.specs.AllEvents.{AllChain, AllCome, AllEventsBegin, AllSteps, InAllEvent, scene_in}
 use Rattle.papaya_legal.proofs.Chains.{chains_keep}
 use Rattle.papaya_legal.proofs.OfAll.Roots.{slots_leave_roots}

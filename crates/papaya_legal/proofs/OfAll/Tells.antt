@@ -42,14 +42,14 @@ use Rattle.papaya_grows.proofs.Given.Follows.Told.{roomed_as_many}
 use Rattle.papaya_grows.proofs.Given.Others.RowPlans.{TellsRow}
 use Rattle.papaya_grows.specs.Given.Moments.Whole.{ShowsWhole}
 use Rattle.papaya_grows.specs.Given.Owes.Tables.{HoldsTable}
-use Rattle.papaya_logged.specs.Given.Reclaims.Reclaims.{HasTaken, ReclaimingTold}
+use Rattle.papaya_grows.specs.Given.Reclaims.Reclaims.{HasTaken, ReclaimingTold}
 use Rattle.papaya_grows.specs.Given.Scenes.Reclaiming.{IsReclaiming, ReclaimingLeads}
-use Rattle.papaya_logged.proofs.ReclaimGives.{GivesOr, reclaiming_gives, taken_gone}
-use Rattle.papaya_logged.proofs.Reclaiming.Rows.{EmptiesRoot, reclaiming_tells}
-use Rattle.papaya_logged.proofs.Reclaiming.Steps.{left, no_call, nothing_there, root_none}
+use Rattle.papaya_grows.proofs.Given.Logged.ReclaimGives.{GivesOr, reclaiming_gives, taken_gone}
+use Rattle.papaya_grows.proofs.Given.Logged.Reclaiming.Rows.{EmptiesRoot, reclaiming_tells}
+use Rattle.papaya_grows.proofs.Given.Logged.Reclaiming.Steps.{left, no_call, nothing_there, root_none}
 use Rattle.papaya_grows.specs.Given.Kept.Kept.{ShowsKept}
-use Rattle.papaya_models.specs.Numbers.{things_of}
-use Rattle.papaya_models.proofs.RowSteps.{roles_after}
+use Rattle.papaya_grows.specs.Given.Models.Numbers.{things_of}
+use Rattle.papaya_grows.proofs.Given.Models.RowSteps.{roles_after}
 use Rattle.papaya_grows.specs.Given.Scenes.Held.{Held}
 use Rattle.papaya_grows.specs.Given.Scenes.Scene.{Scene}
 

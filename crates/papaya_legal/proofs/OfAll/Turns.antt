@@ -36,14 +36,14 @@ use Rattle.papaya_grows.proofs.Given.Follows.Alike.{put_elsewhere}
 use Rattle.papaya_grows.proofs.Given.Follows.Operations.{LeavesBy}
 use Rattle.papaya_grows.specs.Given.Moments.Whole.{ShowsWhole}
 use Rattle.papaya_grows.proofs.Given.Moments.OnSlots.{none_some}
-use Rattle.papaya_logged.specs.Given.SeizeReclaims.Roots.{all_lists}
-use Rattle.papaya_logged.specs.Given.Reclaims.Slots.{IsQuiet}
-use Rattle.seize_quiet.proofs.Slots.Facts.{nothing_left}
+use Rattle.papaya_grows.specs.Given.SeizeReclaims.Roots.{all_lists}
+use Rattle.papaya_grows.specs.Given.Reclaims.Slots.{IsQuiet}
+use Rattle.papaya_grows.proofs.Given.SeizeQuiet.Slots.Facts.{nothing_left}
 use Rattle.papaya_grows.specs.Given.Scenes.Reclaiming.{IsReclaiming, ReclaimingLeads}
-use Rattle.papaya_logged.proofs.Reclaiming.Steps.{left as leaves_there}
+use Rattle.papaya_grows.proofs.Given.Logged.Reclaiming.Steps.{left as leaves_there}
 use Rattle.papaya_grows.specs.Given.Kept.Kept.{ShowsKept}
-use Rattle.papaya_models.specs.Numbers.{things_of}
-use Rattle.papaya_models.proofs.OnSlots.{noted_still as still_noted}
+use Rattle.papaya_grows.specs.Given.Models.Numbers.{things_of}
+use Rattle.papaya_grows.proofs.Given.Models.OnSlots.{noted_still as still_noted}
 use Rattle.papaya_grows.specs.Given.Finds.Orderly.{is_left_over}
 use Rattle.papaya_legal.specs.AllEvents.{LeftIsBehind, TakesInTurn}
 use Rattle.papaya_legal.proofs.OfAll.Points.{first_taken, quiet_there, root_there, stays_off, takes_there}

@@ -2,57 +2,57 @@
 use Rattle.std.specs.Prelude.{◌≡◌, ◌⊎◌, ℕ, nat_lt, ◌&&◌, Bool, true, false, List, [], ◌∷◌, ◌++◌, Option, Some, None, IsSome, if◌then◌else◌}
 use Rattle.std.proofs.Common.{refl, ap, sym, subst, ◌∙◌, inl, inr}
 use Rattle.std.proofs.lemmas.Bool.{cases_eq}
-use Rattle.papaya_kept.specs.Given.SeizeWords.declared.at.At.{At}
-use Rattle.papaya_kept.specs.Given.SeizeWords.declared.at.At.TheVariants.{Root, Used, Slot, Entry, Word}
-use Rattle.papaya_kept.specs.Given.SeizeWords.Mem.{Mem, value_at}
-use Rattle.papaya_kept.specs.Given.SeizeWords.Op.{Store}
-use Rattle.papaya_kept.specs.Given.SeizeWords.Word.{block_in}
+use Rattle.seize.specs.Given.SeizeWords.declared.at.At.{At}
+use Rattle.seize.specs.Given.SeizeWords.declared.at.At.TheVariants.{Root, Used, Slot, Entry, Word}
+use Rattle.seize.specs.Given.SeizeWords.Mem.{Mem, value_at}
+use Rattle.seize.specs.Given.SeizeWords.Op.{Store}
+use Rattle.seize.specs.Given.SeizeWords.Word.{block_in}
 use Rattle.seize.specs.declared.rows.reclaim_all.ReclaimAll.{ReclaimAll}
 use Rattle.seize.specs.declared.rows.settle.Settled.{Settled}
 use Rattle.seize.specs.Law.{IsSound, is_retired as was_retired}
 use Rattle.seize.specs.World.{World, Hand, Handed, Event, Begin, Step, Steps', Runs}
-use Rattle.papaya_kept.proofs.Given.SeizeMoves.State.Ghost.{is_given}
-use Rattle.papaya_kept.proofs.Given.SeizeRule.World.Values.{own_op_value, taken_value}
-use Rattle.papaya_kept.proofs.Given.SeizeAlone.Histories.NotTaken.{did}
-use Rattle.papaya_kept.proofs.Given.SeizeAlone.Histories.Reached.{Reached, happens_reached, steps_reached}
-use Rattle.papaya_kept.proofs.Given.SeizeAlone.Spared.Rows.{RowStepped}
-use Rattle.papaya_kept.specs.Given.Tables.Nodes.{deferred_word}
-use Rattle.papaya_kept.specs.Given.Tables.declared.node.Node.{Node}
-use Rattle.papaya_schedules.specs.declared.effect.Effect.{Effect}
-use Rattle.papaya_schedules.specs.declared.effect.Effect.TheVariants.{Asked}
-use Rattle.papaya_schedules.specs.declared.effect.Growth.TheVariants.{ABucket}
-use Rattle.papaya_schedules.specs.declared.effect.Table.{Table}
-use Rattle.papaya_schedules.specs.Effects.{AtEachEffect}
-use Rattle.papaya_schedules.specs.Moment.{Moment}
-use Rattle.papaya_schedules.specs.Views.{is_retired, is_stage}
-use Rattle.papaya_teller.specs.declared.changed.Changed.{Changed}
-use Rattle.papaya_teller.specs.declared.changed.Changed.TheVariants as changed
-use Rattle.papaya_effects.specs.Effects.{led_to, named, names_same, taken_by, effects_of}
-use Rattle.papaya_effects.specs.Known.{Known}
-use Rattle.papaya_effects.specs.declared.acting.Acting.TheVariants.{Row}
-use Rattle.papaya_effects.specs.declared.role.Role.{Role}
-use Rattle.papaya_effects.specs.declared.role.Role.TheVariants as role
-use Rattle.papaya_kept.specs.Given.Finishes.FactsEnds.{TakesLeft, WritesRoot, events_of}
-use Rattle.papaya_reclaims.specs.Slots.{AreItsRows}
-use Rattle.papaya_scenes.specs.Reclaiming.{IsReclaiming, ReclaimingLeads}
-use Rattle.papaya_kept.specs.Given.Follows.Blocks.{HasRole}
-use Rattle.papaya_kept.proofs.Given.Follows.Operations.{LeavesBy}
-use Rattle.papaya_kept.proofs.Given.Follows.Writes.{nothing_free}
-use Rattle.papaya_kept.proofs.Given.Others.RowPlans.{TellsRow}
-use Rattle.papaya_kept.specs.Given.Spots.OnSlots.{WaitUnreclaimed}
-use Rattle.papaya_kept.specs.Given.Moments.OnSlots.{HadRetired}
-use Rattle.papaya_kept.specs.Given.Moments.Whole.{ShowsWhole}
-use Rattle.papaya_kept.proofs.Given.Moments.OnSlots.{none_some}
-use Rattle.papaya_kept.specs.Given.Lives.Behind.{IsLeft, NoTableLeft, ShowsWaiting}
-use Rattle.papaya_kept.specs.Given.Lives.Retired.{ShowsRetired}
-use Rattle.papaya_kept.proofs.Given.Lives.Retires.{given_hand}
-use Rattle.papaya_kept.proofs.Given.Lives.Taken.{taken_retired}
-use Rattle.papaya_kept.proofs.Given.Lives.Waiting.{row_finds}
+use Rattle.papaya_reclaiming.proofs.Given.SeizeMoves.State.Ghost.{is_given}
+use Rattle.papaya_reclaiming.proofs.Given.SeizeRule.World.Values.{own_op_value, taken_value}
+use Rattle.papaya_remains.proofs.Given.SeizeAlone.Histories.NotTaken.{did}
+use Rattle.papaya_remains.proofs.Given.SeizeAlone.Histories.Reached.{Reached, happens_reached, steps_reached}
+use Rattle.papaya_remains.proofs.Given.SeizeAlone.Spared.Rows.{RowStepped}
+use Rattle.papaya_runs.specs.Given.Tables.Nodes.{deferred_word}
+use Rattle.papaya_runs.specs.Given.Tables.declared.node.Node.{Node}
+use Rattle.papaya_remains.specs.Given.Schedules.declared.effect.Effect.{Effect}
+use Rattle.papaya_remains.specs.Given.Schedules.declared.effect.Effect.TheVariants.{Asked}
+use Rattle.papaya_remains.specs.Given.Schedules.declared.effect.Growth.TheVariants.{ABucket}
+use Rattle.papaya_remains.specs.Given.Schedules.declared.effect.Table.{Table}
+use Rattle.papaya_remains.specs.Given.Schedules.Effects.{AtEachEffect}
+use Rattle.papaya_remains.specs.Given.Schedules.Moment.{Moment}
+use Rattle.papaya_remains.specs.Given.Schedules.Views.{is_retired, is_stage}
+use Rattle.papaya_reclaiming.specs.Given.Teller.declared.changed.Changed.{Changed}
+use Rattle.papaya_reclaiming.specs.Given.Teller.declared.changed.Changed.TheVariants as changed
+use Rattle.papaya_remains.specs.Given.Effects.Effects.{led_to, named, names_same, taken_by, effects_of}
+use Rattle.papaya_remains.specs.Given.Effects.Known.{Known}
+use Rattle.papaya_remains.specs.Given.Effects.declared.acting.Acting.TheVariants.{Row}
+use Rattle.papaya_remains.specs.Given.Effects.declared.role.Role.{Role}
+use Rattle.papaya_remains.specs.Given.Effects.declared.role.Role.TheVariants as role
+use Rattle.papaya_reclaiming.specs.Given.Finishes.FactsEnds.{TakesLeft, WritesRoot, events_of}
+use Rattle.papaya_reclaiming.specs.Given.Reclaims.Slots.{AreItsRows}
+use Rattle.papaya_reclaiming.specs.Given.Scenes.Reclaiming.{IsReclaiming, ReclaimingLeads}
+use Rattle.papaya_remains.specs.Given.Follows.Blocks.{HasRole}
+use Rattle.papaya_remains.proofs.Given.Follows.Operations.{LeavesBy}
+use Rattle.papaya_remains.proofs.Given.Follows.Writes.{nothing_free}
+use Rattle.papaya_remains.proofs.Given.Others.RowPlans.{TellsRow}
+use Rattle.papaya_remains.specs.Given.Spots.OnSlots.{WaitUnreclaimed}
+use Rattle.papaya_remains.specs.Given.Moments.OnSlots.{HadRetired}
+use Rattle.papaya_remains.specs.Given.Moments.Whole.{ShowsWhole}
+use Rattle.papaya_remains.proofs.Given.Moments.OnSlots.{none_some}
+use Rattle.papaya_remains.specs.Given.Lives.Behind.{IsLeft, NoTableLeft, ShowsWaiting}
+use Rattle.papaya_remains.specs.Given.Lives.Retired.{ShowsRetired}
+use Rattle.papaya_remains.proofs.Given.Lives.Retires.{given_hand}
+use Rattle.papaya_remains.proofs.Given.Lives.Taken.{taken_retired}
+use Rattle.papaya_remains.proofs.Given.Lives.Waiting.{row_finds}
 use Rattle.papaya_logged.proofs.Reclaiming.Rows.{EmptiesRoot, begun_kept, step_kept, reclaiming_tells}
 use Rattle.papaya_logged.proofs.Reclaiming.Steps.{left, reached}
-use Rattle.papaya_scenes.specs.Held.{Held}
-use Rattle.papaya_scenes.specs.Scene.{HasCall, Scene}
-use Rattle.papaya_scenes.proofs.Leads.{happens}
+use Rattle.papaya_reclaiming.specs.Given.Scenes.Held.{Held}
+use Rattle.papaya_reclaiming.specs.Given.Scenes.Scene.{HasCall, Scene}
+use Rattle.papaya_reclaiming.proofs.Given.Scenes.Leads.{happens}
 
 module _ {K V : Type 0} (size : ℕ) where
   -- what a step of a row takes away the collector had,

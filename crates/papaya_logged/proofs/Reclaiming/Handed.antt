@@ -1,52 +1,52 @@
 -- After a step by which all is reclaimed what the collector has is handed over, or waits; and what is told to be handed over it has, and that waits behind nothing.
 use Rattle.std.specs.Prelude.{◌≡◌, ◌⊎◌, ℕ, ◌+◌, zero, suc, Bool, List, [], ◌∷◌, Option, Some, None, IsSome, if◌then◌else◌}
 use Rattle.std.proofs.Common.{refl, ap, sym, subst, ◌∙◌, inl, inr, arith}
-use Rattle.papaya_kept.specs.Given.SeizeWords.Op.{Store}
-use Rattle.papaya_kept.specs.Given.SeizeWords.declared.at.At.TheVariants.{Root, Used}
-use Rattle.papaya_kept.specs.Given.SeizeWords.Mem.{value_at}
-use Rattle.papaya_kept.specs.Given.SeizeWords.Word.{block_in}
+use Rattle.seize.specs.Given.SeizeWords.Op.{Store}
+use Rattle.seize.specs.Given.SeizeWords.declared.at.At.TheVariants.{Root, Used}
+use Rattle.seize.specs.Given.SeizeWords.Mem.{value_at}
+use Rattle.seize.specs.Given.SeizeWords.Word.{block_in}
 use Rattle.seize.specs.Sequence.{taken_in}
 use Rattle.seize.specs.declared.rows.reclaim_all.ReclaimAll.{ReclaimAll}
 use Rattle.seize.specs.declared.rows.settle.Settled.{Settled}
 use Rattle.seize.specs.declared.states.TheConstants.{LAST_SLOT}
 use Rattle.seize.specs.World.{World, Hand, Handed, Event, Begin, Step, Operates, Clears, Runs, times}
-use Rattle.papaya_kept.proofs.Given.SeizeRule.Points.Aside.{HandFits}
-use Rattle.papaya_kept.proofs.Given.SeizeRule.Words.There.{value_there}
-use Rattle.papaya_kept.proofs.Given.SeizeAlone.Histories.NotTaken.{did}
-use Rattle.papaya_kept.proofs.Given.SeizeAlone.Histories.Reached.{Reached, happens_reached}
-use Rattle.papaya_kept.proofs.Given.SeizeAlone.Spared.Rows.{RowStepped}
-use Rattle.papaya_kept.specs.Given.Tables.Nodes.{deferred_word}
-use Rattle.papaya_kept.specs.Given.Tables.declared.node.Node.{Node}
-use Rattle.papaya_schedules.specs.declared.effect.Effect.{Effect}
-use Rattle.papaya_schedules.specs.Effects.{with_effects}
-use Rattle.papaya_schedules.specs.Moment.{Moment}
-use Rattle.papaya_teller.specs.declared.changed.Changed.{Changed}
-use Rattle.papaya_teller.specs.declared.changed.Changed.TheVariants as changed
-use Rattle.papaya_effects.specs.Effects.{linked_on, named, names_same, effects_of, known_after}
-use Rattle.papaya_effects.specs.Known.{Known}
-use Rattle.papaya_effects.specs.declared.acting.Acting.TheVariants.{Row}
-use Rattle.papaya_scenes.specs.Reclaiming.{IsReclaiming, ReclaimingLeads}
-use Rattle.papaya_reclaims.specs.Slots.{AreItsRows}
-use Rattle.papaya_kept.specs.Given.Finishes.FactsEnds.{TakesLeft, WritesRoot, events_of}
-use Rattle.papaya_kept.proofs.Given.Follows.Operations.{LeavesBy}
-use Rattle.papaya_kept.proofs.Given.Others.RowPlans.{TellsRow}
-use Rattle.papaya_kept.proofs.Given.Others.Stays.{same_there}
-use Rattle.papaya_kept.specs.Given.Moments.Whole.{ShowsWhole}
-use Rattle.papaya_kept.specs.Given.Lives.Behind.{NoTableLeft, ShowsWaiting}
-use Rattle.papaya_kept.specs.Given.Lives.Handed.{IsToHand, IsHandedOver, ShowsHanded}
-use Rattle.papaya_kept.specs.Given.Lives.Waiting.{waits_behind}
-use Rattle.papaya_kept.proofs.Given.Lives.HandedOver.{came_listed}
-use Rattle.papaya_kept.proofs.Given.Lives.HandedTaken.{taking_keeps}
-use Rattle.papaya_kept.proofs.Given.Lives.Listed.{Listing, carries_lives, carries_some, runs_listed}
-use Rattle.papaya_kept.proofs.Given.Lives.Logs.{waits_no_more, waits_not, waits_on}
-use Rattle.papaya_kept.proofs.Given.Lives.RetiredEnds.{handed_lives}
-use Rattle.papaya_kept.proofs.Given.Lives.Worlds.{has_it, log_back}
+use Rattle.papaya_reclaiming.proofs.Given.SeizeRule.Points.Aside.{HandFits}
+use Rattle.papaya_reclaiming.proofs.Given.SeizeRule.Words.There.{value_there}
+use Rattle.papaya_remains.proofs.Given.SeizeAlone.Histories.NotTaken.{did}
+use Rattle.papaya_remains.proofs.Given.SeizeAlone.Histories.Reached.{Reached, happens_reached}
+use Rattle.papaya_remains.proofs.Given.SeizeAlone.Spared.Rows.{RowStepped}
+use Rattle.papaya_runs.specs.Given.Tables.Nodes.{deferred_word}
+use Rattle.papaya_runs.specs.Given.Tables.declared.node.Node.{Node}
+use Rattle.papaya_remains.specs.Given.Schedules.declared.effect.Effect.{Effect}
+use Rattle.papaya_remains.specs.Given.Schedules.Effects.{with_effects}
+use Rattle.papaya_remains.specs.Given.Schedules.Moment.{Moment}
+use Rattle.papaya_reclaiming.specs.Given.Teller.declared.changed.Changed.{Changed}
+use Rattle.papaya_reclaiming.specs.Given.Teller.declared.changed.Changed.TheVariants as changed
+use Rattle.papaya_remains.specs.Given.Effects.Effects.{linked_on, named, names_same, effects_of, known_after}
+use Rattle.papaya_remains.specs.Given.Effects.Known.{Known}
+use Rattle.papaya_remains.specs.Given.Effects.declared.acting.Acting.TheVariants.{Row}
+use Rattle.papaya_reclaiming.specs.Given.Scenes.Reclaiming.{IsReclaiming, ReclaimingLeads}
+use Rattle.papaya_reclaiming.specs.Given.Reclaims.Slots.{AreItsRows}
+use Rattle.papaya_reclaiming.specs.Given.Finishes.FactsEnds.{TakesLeft, WritesRoot, events_of}
+use Rattle.papaya_remains.proofs.Given.Follows.Operations.{LeavesBy}
+use Rattle.papaya_remains.proofs.Given.Others.RowPlans.{TellsRow}
+use Rattle.papaya_remains.proofs.Given.Others.Stays.{same_there}
+use Rattle.papaya_remains.specs.Given.Moments.Whole.{ShowsWhole}
+use Rattle.papaya_remains.specs.Given.Lives.Behind.{NoTableLeft, ShowsWaiting}
+use Rattle.papaya_remains.specs.Given.Lives.Handed.{IsToHand, IsHandedOver, ShowsHanded}
+use Rattle.papaya_remains.specs.Given.Lives.Waiting.{waits_behind}
+use Rattle.papaya_remains.proofs.Given.Lives.HandedOver.{came_listed}
+use Rattle.papaya_remains.proofs.Given.Lives.HandedTaken.{taking_keeps}
+use Rattle.papaya_remains.proofs.Given.Lives.Listed.{Listing, carries_lives, carries_some, runs_listed}
+use Rattle.papaya_remains.proofs.Given.Lives.Logs.{waits_no_more, waits_not, waits_on}
+use Rattle.papaya_remains.proofs.Given.Lives.RetiredEnds.{handed_lives}
+use Rattle.papaya_remains.proofs.Given.Lives.Worlds.{has_it, log_back}
 use Rattle.papaya_logged.proofs.Reclaiming.Rows.{EmptiesRoot, reclaiming_tells}
 use Rattle.papaya_logged.proofs.Reclaiming.Steps.{kept as kept_there, left, no_call, reached, root_none, nothing_there}
 use Rattle.papaya_logged.proofs.Reclaiming.Waits.{begun_log}
-use Rattle.papaya_scenes.specs.Held.{Held}
-use Rattle.papaya_scenes.specs.Scene.{HasCall, Scene}
-use Rattle.papaya_scenes.proofs.Leads.{happens}
+use Rattle.papaya_reclaiming.specs.Given.Scenes.Held.{Held}
+use Rattle.papaya_reclaiming.specs.Given.Scenes.Scene.{HasCall, Scene}
+use Rattle.papaya_reclaiming.proofs.Given.Scenes.Leads.{happens}
 
 -- what rows on slots do to what waits
 module _ {K V : Type 0} (size i p : ℕ) where

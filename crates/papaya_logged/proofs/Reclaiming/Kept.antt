@@ -2,49 +2,49 @@
 -- left over; and none is left over then.
 use Rattle.std.specs.Prelude.{◌≡◌, ◌⊎◌, ℕ, ◌+◌, Bool, true, List, [], None, if◌then◌else◌}
 use Rattle.std.proofs.Common.{sym, subst, ◌∙◌, inl, inr}
-use Rattle.papaya_kept.specs.Given.SeizeWords.declared.at.At.TheVariants.{Root, Used}
-use Rattle.papaya_kept.specs.Given.SeizeWords.Mem.{value_at}
-use Rattle.papaya_kept.specs.Given.SeizeWords.Word.{block_in}
+use Rattle.seize.specs.Given.SeizeWords.declared.at.At.TheVariants.{Root, Used}
+use Rattle.seize.specs.Given.SeizeWords.Mem.{value_at}
+use Rattle.seize.specs.Given.SeizeWords.Word.{block_in}
 use Rattle.seize.specs.declared.rows.reclaim_all.ReclaimAll.{ReclaimAll}
 use Rattle.seize.specs.declared.rows.settle.Settled.{Settled}
 use Rattle.seize.specs.declared.states.TheConstants.{LAST_SLOT}
 use Rattle.seize.specs.World.{World, Hand}
-use Rattle.papaya_kept.proofs.Given.SeizeRule.Points.Aside.{HandFits}
-use Rattle.papaya_kept.proofs.Given.SeizeRule.Words.Shows.{lives}
-use Rattle.papaya_kept.proofs.Given.SeizeRule.Words.There.{value_there}
-use Rattle.papaya_kept.specs.Given.Tables.Nodes.{deferred_word}
-use Rattle.papaya_kept.specs.Given.Tables.declared.node.Node.{Node}
-use Rattle.papaya_schedules.specs.declared.effect.Effect.{Effect}
-use Rattle.papaya_schedules.specs.Effects.{with_effects}
-use Rattle.papaya_schedules.specs.Moment.{Moment}
-use Rattle.papaya_schedules.specs.Views.{is_stage, is_retired}
-use Rattle.papaya_teller.specs.declared.changed.Changed.{Changed}
-use Rattle.papaya_teller.specs.declared.changed.Changed.TheVariants as changed
-use Rattle.papaya_effects.specs.Effects.{linked_on, named, names_same, effects_of, known_after}
-use Rattle.papaya_effects.specs.Known.{Known}
-use Rattle.papaya_effects.specs.declared.acting.Acting.TheVariants.{Row}
-use Rattle.papaya_scenes.specs.Reclaiming.{IsReclaiming, ReclaimingLeads}
-use Rattle.papaya_kept.proofs.Given.Follows.Operations.{LeavesBy}
-use Rattle.papaya_kept.proofs.Given.Others.RowPlans.{TellsRow}
-use Rattle.papaya_kept.proofs.Given.Others.Stays.{same_there}
-use Rattle.papaya_kept.specs.Given.Moments.Whole.{ShowsWhole}
-use Rattle.papaya_kept.specs.Given.Lives.Behind.{IsLeft, NoTableLeft, ShowsWaiting, WaitsOnce}
-use Rattle.papaya_kept.specs.Given.Lives.Lying.{ShowsLying}
-use Rattle.papaya_kept.specs.Given.Lives.Order.{ShowsOrder}
-use Rattle.papaya_kept.specs.Given.Lives.Retired.{IsToRetire, ShowsRetired}
-use Rattle.papaya_kept.proofs.Given.Lives.Once.{once_fewer, row_fewer}
-use Rattle.papaya_kept.proofs.Given.Lives.Reclaimed.{stays_so}
-use Rattle.papaya_kept.proofs.Given.Lives.RetiredEnds.{handed_lives}
-use Rattle.papaya_kept.proofs.Given.Lives.Stages.{still_retired}
-use Rattle.papaya_kept.proofs.Given.Lives.Users.{left_lives}
-use Rattle.papaya_kept.proofs.Given.Lives.Worlds.{Kept}
+use Rattle.papaya_reclaiming.proofs.Given.SeizeRule.Points.Aside.{HandFits}
+use Rattle.papaya_reclaiming.proofs.Given.SeizeRule.Words.Shows.{lives}
+use Rattle.papaya_reclaiming.proofs.Given.SeizeRule.Words.There.{value_there}
+use Rattle.papaya_runs.specs.Given.Tables.Nodes.{deferred_word}
+use Rattle.papaya_runs.specs.Given.Tables.declared.node.Node.{Node}
+use Rattle.papaya_remains.specs.Given.Schedules.declared.effect.Effect.{Effect}
+use Rattle.papaya_remains.specs.Given.Schedules.Effects.{with_effects}
+use Rattle.papaya_remains.specs.Given.Schedules.Moment.{Moment}
+use Rattle.papaya_remains.specs.Given.Schedules.Views.{is_stage, is_retired}
+use Rattle.papaya_reclaiming.specs.Given.Teller.declared.changed.Changed.{Changed}
+use Rattle.papaya_reclaiming.specs.Given.Teller.declared.changed.Changed.TheVariants as changed
+use Rattle.papaya_remains.specs.Given.Effects.Effects.{linked_on, named, names_same, effects_of, known_after}
+use Rattle.papaya_remains.specs.Given.Effects.Known.{Known}
+use Rattle.papaya_remains.specs.Given.Effects.declared.acting.Acting.TheVariants.{Row}
+use Rattle.papaya_reclaiming.specs.Given.Scenes.Reclaiming.{IsReclaiming, ReclaimingLeads}
+use Rattle.papaya_remains.proofs.Given.Follows.Operations.{LeavesBy}
+use Rattle.papaya_remains.proofs.Given.Others.RowPlans.{TellsRow}
+use Rattle.papaya_remains.proofs.Given.Others.Stays.{same_there}
+use Rattle.papaya_remains.specs.Given.Moments.Whole.{ShowsWhole}
+use Rattle.papaya_remains.specs.Given.Lives.Behind.{IsLeft, NoTableLeft, ShowsWaiting, WaitsOnce}
+use Rattle.papaya_remains.specs.Given.Lives.Lying.{ShowsLying}
+use Rattle.papaya_remains.specs.Given.Lives.Order.{ShowsOrder}
+use Rattle.papaya_remains.specs.Given.Lives.Retired.{IsToRetire, ShowsRetired}
+use Rattle.papaya_remains.proofs.Given.Lives.Once.{once_fewer, row_fewer}
+use Rattle.papaya_remains.proofs.Given.Lives.Reclaimed.{stays_so}
+use Rattle.papaya_remains.proofs.Given.Lives.RetiredEnds.{handed_lives}
+use Rattle.papaya_remains.proofs.Given.Lives.Stages.{still_retired}
+use Rattle.papaya_remains.proofs.Given.Lives.Users.{left_lives}
+use Rattle.papaya_remains.proofs.Given.Lives.Worlds.{Kept}
 use Rattle.papaya_logged.proofs.Reclaiming.Lies.{reclaiming_lies}
 use Rattle.papaya_logged.proofs.Reclaiming.Order.{reclaiming_order}
 use Rattle.papaya_logged.proofs.Reclaiming.Rows.{EmptiesRoot, reclaiming_tells}
 use Rattle.papaya_logged.proofs.Reclaiming.Steps.{kept as kept_there, left, no_call, root_none, nothing_there}
 use Rattle.papaya_logged.proofs.Reclaiming.Waits.{kept_then, rows_leave_waiting}
-use Rattle.papaya_scenes.specs.Held.{Held}
-use Rattle.papaya_scenes.specs.Scene.{HasCall, Scene}
+use Rattle.papaya_reclaiming.specs.Given.Scenes.Held.{Held}
+use Rattle.papaya_reclaiming.specs.Given.Scenes.Scene.{HasCall, Scene}
 
 module _ {K V : Type 0} (same : K → K → Bool) (hash : ℕ → K → ℕ) (name : ℕ → List ℕ) (m : Moment K V) (known : Known) (s : Scene K V) (whole : ShowsWhole same name m known s)
     (waiting : ShowsWaiting m known s.world) (once : WaitsOnce m.deferred) (retired : ShowsRetired m known s) (lying : ShowsLying m known s.world) (order : ShowsOrder m known s.world) (no_table : NoTableLeft known s.world)

@@ -2,44 +2,44 @@
 use Rattle.std.specs.Prelude.{◌≡◌, ◌≢◌, ◌⊎◌, ℕ, eqb, Bool, true, false, cond, List, [], ◌∷◌, None, Some, if◌then◌else◌}
 use Rattle.std.proofs.Common.{ap, sym, subst, ◌∙◌, inl, inr}
 use Rattle.std.proofs.lemmas.Bool.{cases_eq, ne_eqb}
-use Rattle.papaya_kept.specs.Given.SeizeWords.declared.at.At.{At}
-use Rattle.papaya_kept.specs.Given.SeizeWords.declared.at.At.TheVariants.{Root, Used}
-use Rattle.papaya_kept.specs.Given.SeizeWords.Mem.{value_at}
+use Rattle.seize.specs.Given.SeizeWords.declared.at.At.{At}
+use Rattle.seize.specs.Given.SeizeWords.declared.at.At.TheVariants.{Root, Used}
+use Rattle.seize.specs.Given.SeizeWords.Mem.{value_at}
 use Rattle.seize.specs.Law.{Place, Nowhere, With, is_somewhere, where_is}
 use Rattle.seize.specs.declared.rows.reclaim_all.ReclaimAll.{ReclaimAll}
 use Rattle.seize.specs.declared.rows.reclaim_all.Reclaiming.{Reclaiming}
 use Rattle.seize.specs.declared.rows.reclaim_all.Reclaiming.TheVariants as points
 use Rattle.seize.specs.declared.rows.settle.Settled.{Settled}
 use Rattle.seize.specs.World.{World, Row, Rests, Settles, Leaves, Request, Register', Leave', Flush, Unregister', Event, Begin, Step, Begins, Runs, with_at}
-use Rattle.papaya_kept.proofs.Given.SeizeAlone.Histories.NotTaken.{CanBeReached, did, kept_there}
-use Rattle.papaya_kept.proofs.Given.SeizeAlone.Histories.Reached.{Reached, happens_reached, runs_reached}
-use Rattle.papaya_kept.specs.Given.Tables.Nodes.{deferred_word}
-use Rattle.papaya_kept.specs.Given.Tables.declared.node.Node.{Node}
-use Rattle.papaya_schedules.specs.Effects.{with_effects}
-use Rattle.papaya_schedules.specs.Moment.{Moment}
-use Rattle.papaya_teller.specs.declared.changed.Changed.{Changed}
-use Rattle.papaya_effects.specs.Effects.{effects_of, known_after}
-use Rattle.papaya_effects.specs.Known.{Known}
-use Rattle.papaya_effects.specs.declared.acting.Acting.TheVariants.{Row as OfRow}
-use Rattle.papaya_effects.specs.declared.role.Role.TheVariants as role
-use Rattle.papaya_kept.proofs.Given.Callers.Rows.Behind.{row_back}
-use Rattle.papaya_kept.specs.Given.Finishes.FactsEnds.{TakesLeft, WritesRoot, events_of}
-use Rattle.papaya_reclaims.specs.Reclaims.{ReclaimingAt}
-use Rattle.papaya_reclaims.specs.Slots.{IsForSlots, AreItsRows}
-use Rattle.papaya_scenes.specs.Reclaiming.{IsReclaiming, ReclaimingLeads}
-use Rattle.papaya_kept.specs.Given.Follows.Blocks.{HasRole}
-use Rattle.papaya_kept.proofs.Given.Follows.Operations.{LeavesBy}
-use Rattle.papaya_kept.proofs.Given.Others.RowPlans.{TellsRow}
-use Rattle.papaya_kept.specs.Given.Moments.Whole.{ShowsWhole}
-use Rattle.papaya_kept.specs.Given.Lives.Lying.{ShowsLying}
-use Rattle.papaya_kept.specs.Given.Lives.Waiting.{IsPutting}
-use Rattle.papaya_kept.proofs.Given.Lives.Lying.{lying_on, row_among, row_pair}
-use Rattle.papaya_kept.proofs.Given.Lives.Reclaimed.{stays_so}
+use Rattle.papaya_remains.proofs.Given.SeizeAlone.Histories.NotTaken.{CanBeReached, did, kept_there}
+use Rattle.papaya_remains.proofs.Given.SeizeAlone.Histories.Reached.{Reached, happens_reached, runs_reached}
+use Rattle.papaya_runs.specs.Given.Tables.Nodes.{deferred_word}
+use Rattle.papaya_runs.specs.Given.Tables.declared.node.Node.{Node}
+use Rattle.papaya_remains.specs.Given.Schedules.Effects.{with_effects}
+use Rattle.papaya_remains.specs.Given.Schedules.Moment.{Moment}
+use Rattle.papaya_reclaiming.specs.Given.Teller.declared.changed.Changed.{Changed}
+use Rattle.papaya_remains.specs.Given.Effects.Effects.{effects_of, known_after}
+use Rattle.papaya_remains.specs.Given.Effects.Known.{Known}
+use Rattle.papaya_remains.specs.Given.Effects.declared.acting.Acting.TheVariants.{Row as OfRow}
+use Rattle.papaya_remains.specs.Given.Effects.declared.role.Role.TheVariants as role
+use Rattle.papaya_reclaiming.proofs.Given.Callers.Rows.Behind.{row_back}
+use Rattle.papaya_reclaiming.specs.Given.Finishes.FactsEnds.{TakesLeft, WritesRoot, events_of}
+use Rattle.papaya_reclaiming.specs.Given.Reclaims.Reclaims.{ReclaimingAt}
+use Rattle.papaya_reclaiming.specs.Given.Reclaims.Slots.{IsForSlots, AreItsRows}
+use Rattle.papaya_reclaiming.specs.Given.Scenes.Reclaiming.{IsReclaiming, ReclaimingLeads}
+use Rattle.papaya_remains.specs.Given.Follows.Blocks.{HasRole}
+use Rattle.papaya_remains.proofs.Given.Follows.Operations.{LeavesBy}
+use Rattle.papaya_remains.proofs.Given.Others.RowPlans.{TellsRow}
+use Rattle.papaya_remains.specs.Given.Moments.Whole.{ShowsWhole}
+use Rattle.papaya_remains.specs.Given.Lives.Lying.{ShowsLying}
+use Rattle.papaya_remains.specs.Given.Lives.Waiting.{IsPutting}
+use Rattle.papaya_remains.proofs.Given.Lives.Lying.{lying_on, row_among, row_pair}
+use Rattle.papaya_remains.proofs.Given.Lives.Reclaimed.{stays_so}
 use Rattle.papaya_logged.proofs.Reclaiming.Steps.{kept as kept_so, reached}
 use Rattle.papaya_logged.proofs.Reclaiming.Waits.{begun_log}
-use Rattle.papaya_scenes.specs.Held.{Held}
-use Rattle.papaya_scenes.specs.Scene.{Scene}
-use Rattle.papaya_scenes.proofs.Leads.{happens}
+use Rattle.papaya_reclaiming.specs.Given.Scenes.Held.{Held}
+use Rattle.papaya_reclaiming.specs.Given.Scenes.Scene.{Scene}
+use Rattle.papaya_reclaiming.proofs.Given.Scenes.Leads.{happens}
 
 module _ {K V : Type 0} (size : ℕ) where
   -- the beginning of such a row leaves the rows of others

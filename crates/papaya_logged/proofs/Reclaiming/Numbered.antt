@@ -1,33 +1,33 @@
 -- A step by which all is reclaimed leaves numbers of maps below the executor's count, and slots noted.
 use Rattle.std.specs.Prelude.{ℕ, Bool, List, None}
 use Rattle.std.proofs.Common.{sym, subst, inl, inr}
-use Rattle.papaya_kept.specs.Given.SeizeWords.declared.at.At.TheVariants.{Root, Used}
-use Rattle.papaya_kept.specs.Given.SeizeWords.Word.{block_in}
+use Rattle.seize.specs.Given.SeizeWords.declared.at.At.TheVariants.{Root, Used}
+use Rattle.seize.specs.Given.SeizeWords.Word.{block_in}
 use Rattle.seize.specs.ReclaimAll.{reclaim_all_plan}
 use Rattle.seize.specs.declared.rows.reclaim_all.ReclaimAll.{ReclaimAll}
 use Rattle.seize.specs.declared.rows.settle.Settled.{Settled}
-use Rattle.papaya_kept.specs.Given.Tables.Nodes.{deferred_word, was_left}
-use Rattle.papaya_kept.specs.Given.Tables.declared.node.Node.{Node}
-use Rattle.papaya_schedules.specs.declared.effect.Effect.{Effect}
-use Rattle.papaya_schedules.specs.Effects.{with_effects}
-use Rattle.papaya_schedules.specs.Moment.{Moment}
-use Rattle.papaya_teller.specs.declared.changed.Changed.{Changed}
-use Rattle.papaya_teller.specs.declared.changed.Changed.TheVariants as changed
-use Rattle.papaya_effects.specs.Effects.{names_same, named, effects_of, known_after}
-use Rattle.papaya_effects.specs.Known.{Known}
-use Rattle.papaya_effects.specs.declared.acting.Acting.TheVariants.{Row}
-use Rattle.papaya_scenes.specs.Reclaiming.{IsReclaiming, ReclaimingLeads}
-use Rattle.papaya_scenes.proofs.May.{may_reclaim}
-use Rattle.papaya_kept.proofs.Given.Follows.Operations.{operated}
-use Rattle.papaya_kept.specs.Given.Moments.Whole.{ShowsWhole}
+use Rattle.papaya_runs.specs.Given.Tables.Nodes.{deferred_word, was_left}
+use Rattle.papaya_runs.specs.Given.Tables.declared.node.Node.{Node}
+use Rattle.papaya_remains.specs.Given.Schedules.declared.effect.Effect.{Effect}
+use Rattle.papaya_remains.specs.Given.Schedules.Effects.{with_effects}
+use Rattle.papaya_remains.specs.Given.Schedules.Moment.{Moment}
+use Rattle.papaya_reclaiming.specs.Given.Teller.declared.changed.Changed.{Changed}
+use Rattle.papaya_reclaiming.specs.Given.Teller.declared.changed.Changed.TheVariants as changed
+use Rattle.papaya_remains.specs.Given.Effects.Effects.{names_same, named, effects_of, known_after}
+use Rattle.papaya_remains.specs.Given.Effects.Known.{Known}
+use Rattle.papaya_remains.specs.Given.Effects.declared.acting.Acting.TheVariants.{Row}
+use Rattle.papaya_reclaiming.specs.Given.Scenes.Reclaiming.{IsReclaiming, ReclaimingLeads}
+use Rattle.papaya_reclaiming.proofs.Given.Scenes.May.{may_reclaim}
+use Rattle.papaya_remains.proofs.Given.Follows.Operations.{operated}
+use Rattle.papaya_remains.specs.Given.Moments.Whole.{ShowsWhole}
 use Rattle.papaya_remains.specs.Numbered.{NumbersUpTo}
 use Rattle.papaya_remains.specs.Slots.{SlotsNoted}
 use Rattle.papaya_remains.proofs.Numbered.{told_keeps_count}
 use Rattle.papaya_remains.proofs.Slots.{operation_notes}
 use Rattle.papaya_logged.proofs.Reclaiming.Rows.{EmptiesRoot, reclaiming_tells}
 use Rattle.papaya_logged.proofs.Reclaiming.Steps.{root_none, nothing_there}
-use Rattle.papaya_scenes.specs.Held.{Held}
-use Rattle.papaya_scenes.specs.Scene.{Scene}
+use Rattle.papaya_reclaiming.specs.Given.Scenes.Held.{Held}
+use Rattle.papaya_reclaiming.specs.Given.Scenes.Scene.{Scene}
 
 module _ {K V : Type 0} (same : K → K → Bool) (hash : ℕ → K → ℕ) (name : ℕ → List ℕ) (m : Moment K V) (noted : Known) (s : Scene K V) (whole : ShowsWhole same name m noted s)
     (old new : Held K V) (i : ℕ) (lists : ℕ → List ℕ) (before after : ReclaimAll) (told : Settled (Node K V)) (at : IsReclaiming same hash old s i lists before)

@@ -2,45 +2,45 @@
 use Rattle.std.specs.Prelude.{◌≡◌, ◌⊎◌, ◌<◌, ℕ, ◌+◌, Bool, List, [], ◌∷◌, Option, None, Some, IsSome, if◌then◌else◌}
 use Rattle.std.proofs.Common.{refl, ap, sym, subst, ◌∙◌, inl, inr}
 use Rattle.std.proofs.lemmas.Bool.{eq-eqb}
-use Rattle.papaya_kept.specs.Given.SeizeWords.declared.at.At.{At}
-use Rattle.papaya_kept.specs.Given.SeizeWords.declared.at.At.TheVariants.{Root, Used}
-use Rattle.papaya_kept.specs.Given.SeizeWords.Mem.{Mem, value_at}
+use Rattle.seize.specs.Given.SeizeWords.declared.at.At.{At}
+use Rattle.seize.specs.Given.SeizeWords.declared.at.At.TheVariants.{Root, Used}
+use Rattle.seize.specs.Given.SeizeWords.Mem.{Mem, value_at}
 use Rattle.seize.specs.Further.{FurtherAre}
 use Rattle.seize.specs.declared.rows.reclaim_all.ReclaimAll.{ReclaimAll}
 use Rattle.seize.specs.declared.rows.settle.Settled.{Settled}
 use Rattle.seize.specs.declared.states.TheConstants.{LAST_SLOT}
 use Rattle.seize.specs.World.{World, Row, Hand, NoBlock, InUse, Request, Register', Leave', Flush, Unregister', Event, Begin, Step, Begins, Runs, Steps', with_at, times}
-use Rattle.papaya_kept.proofs.Given.SeizeRule.World.Kept.{steps_next}
-use Rattle.papaya_kept.proofs.Given.SeizeAlone.Histories.Reached.{Reached, happens_reached, runs_reached}
-use Rattle.papaya_kept.proofs.Given.Rule.World.Hands.{at_cases}
-use Rattle.papaya_kept.specs.Given.Tables.Nodes.{deferred_word}
-use Rattle.papaya_kept.specs.Given.Tables.declared.node.Node.{Node}
-use Rattle.papaya_schedules.specs.Effects.{with_effects}
-use Rattle.papaya_schedules.specs.Moment.{Moment}
-use Rattle.papaya_teller.specs.declared.changed.Changed.{Changed}
-use Rattle.papaya_effects.specs.Effects.{effects_of, known_after}
-use Rattle.papaya_effects.specs.Known.{Known}
-use Rattle.papaya_effects.specs.declared.acting.Acting.TheVariants.{Row as OfRow}
-use Rattle.papaya_effects.specs.declared.role.Role.TheVariants as role
-use Rattle.papaya_kept.specs.Given.Finishes.FactsEnds.{TakesLeft, WritesRoot, events_of}
-use Rattle.papaya_reclaims.specs.Slots.{IsForSlots, AreItsRows}
-use Rattle.papaya_scenes.specs.Reclaiming.{IsReclaiming, ReclaimingLeads}
-use Rattle.papaya_kept.proofs.Given.Follows.Operations.{LeavesBy}
-use Rattle.papaya_kept.proofs.Given.Others.RowPlans.{TellsRow}
-use Rattle.papaya_kept.specs.Given.Moments.Whole.{ShowsWhole}
-use Rattle.papaya_kept.specs.Given.Lives.Lying.{ShowsLying}
-use Rattle.papaya_kept.specs.Given.Lives.Order.{ShowsOrder}
-use Rattle.papaya_kept.specs.Given.Lives.Waiting.{IsPutting}
-use Rattle.papaya_kept.proofs.Given.Lives.InUse.{listed_there, step_goes, still_leave_list, used_then}
-use Rattle.papaya_kept.proofs.Given.Lives.Lying.{row_pair}
-use Rattle.papaya_kept.proofs.Given.Lives.Order.{order_as, row_behind}
-use Rattle.papaya_kept.proofs.Given.Lives.Putting.{put_before}
-use Rattle.papaya_kept.proofs.Given.Lives.Reclaimed.{stays_so}
+use Rattle.papaya_reclaiming.proofs.Given.SeizeRule.World.Kept.{steps_next}
+use Rattle.papaya_remains.proofs.Given.SeizeAlone.Histories.Reached.{Reached, happens_reached, runs_reached}
+use Rattle.papaya_reclaiming.proofs.Given.Rule.World.Hands.{at_cases}
+use Rattle.papaya_runs.specs.Given.Tables.Nodes.{deferred_word}
+use Rattle.papaya_runs.specs.Given.Tables.declared.node.Node.{Node}
+use Rattle.papaya_remains.specs.Given.Schedules.Effects.{with_effects}
+use Rattle.papaya_remains.specs.Given.Schedules.Moment.{Moment}
+use Rattle.papaya_reclaiming.specs.Given.Teller.declared.changed.Changed.{Changed}
+use Rattle.papaya_remains.specs.Given.Effects.Effects.{effects_of, known_after}
+use Rattle.papaya_remains.specs.Given.Effects.Known.{Known}
+use Rattle.papaya_remains.specs.Given.Effects.declared.acting.Acting.TheVariants.{Row as OfRow}
+use Rattle.papaya_remains.specs.Given.Effects.declared.role.Role.TheVariants as role
+use Rattle.papaya_reclaiming.specs.Given.Finishes.FactsEnds.{TakesLeft, WritesRoot, events_of}
+use Rattle.papaya_reclaiming.specs.Given.Reclaims.Slots.{IsForSlots, AreItsRows}
+use Rattle.papaya_reclaiming.specs.Given.Scenes.Reclaiming.{IsReclaiming, ReclaimingLeads}
+use Rattle.papaya_remains.proofs.Given.Follows.Operations.{LeavesBy}
+use Rattle.papaya_remains.proofs.Given.Others.RowPlans.{TellsRow}
+use Rattle.papaya_remains.specs.Given.Moments.Whole.{ShowsWhole}
+use Rattle.papaya_remains.specs.Given.Lives.Lying.{ShowsLying}
+use Rattle.papaya_remains.specs.Given.Lives.Order.{ShowsOrder}
+use Rattle.papaya_remains.specs.Given.Lives.Waiting.{IsPutting}
+use Rattle.papaya_remains.proofs.Given.Lives.InUse.{listed_there, step_goes, still_leave_list, used_then}
+use Rattle.papaya_remains.proofs.Given.Lives.Lying.{row_pair}
+use Rattle.papaya_remains.proofs.Given.Lives.Order.{order_as, row_behind}
+use Rattle.papaya_remains.proofs.Given.Lives.Putting.{put_before}
+use Rattle.papaya_remains.proofs.Given.Lives.Reclaimed.{stays_so}
 use Rattle.papaya_logged.proofs.Reclaiming.Lies.{own_none}
 use Rattle.papaya_logged.proofs.Reclaiming.Steps.{reached}
-use Rattle.papaya_scenes.specs.Held.{Held}
-use Rattle.papaya_scenes.specs.Scene.{Scene}
-use Rattle.papaya_scenes.proofs.Leads.{happens}
+use Rattle.papaya_reclaiming.specs.Given.Scenes.Held.{Held}
+use Rattle.papaya_reclaiming.specs.Given.Scenes.Scene.{Scene}
+use Rattle.papaya_reclaiming.proofs.Given.Scenes.Leads.{happens}
 
 module _ {K V : Type 0} (size : ℕ) where
   -- the beginning of such a row leaves the memory, and who has what; and it puts nothing behind a block

@@ -1,10 +1,10 @@
 -- What reclaiming all leaves in the memory, and in whose hands: each block that is there is as it was. What it tells is told of rows, or of a root that is emptied.
 use Rattle.std.specs.Prelude.{◌≡◌, ℕ, zero, suc, true, List, [], ◌∷◌, Option, IsSome, ◌⊎◌}
 use Rattle.std.proofs.Common.{refl, ap, sym, subst, ◌∙◌, arith, inl, inr}
-use Rattle.papaya_kept.specs.Given.SeizeWords.declared.at.At.{At}
-use Rattle.papaya_kept.specs.Given.SeizeWords.declared.at.At.TheVariants.{Root, Used}
-use Rattle.papaya_kept.specs.Given.SeizeWords.Mem.{Mem, value_at}
-use Rattle.papaya_kept.specs.Given.SeizeWords.Op.{Store}
+use Rattle.seize.specs.Given.SeizeWords.declared.at.At.{At}
+use Rattle.seize.specs.Given.SeizeWords.declared.at.At.TheVariants.{Root, Used}
+use Rattle.seize.specs.Given.SeizeWords.Mem.{Mem, value_at}
+use Rattle.seize.specs.Given.SeizeWords.Op.{Store}
 use Rattle.seize.specs.declared.rows.leave.Leave.{Leave}
 use Rattle.seize.specs.declared.rows.reclaim_all.ReclaimAll.{ReclaimAll}
 use Rattle.seize.specs.declared.rows.reclaim_all.Reclaiming.{Reclaiming}
@@ -17,26 +17,26 @@ use Rattle.seize.specs.Sequence.{taken_in}
 use Rattle.seize.specs.Settle.{settle_plan}
 use Rattle.seize.specs.Law.{Dropped}
 use Rattle.seize.specs.World.{World, Hand, NoBlock, Request, Register', Leave', Flush, Unregister', Event, Begin, Step, Begins, Steps', Runs, times, with_effect, with_hand}
-use Rattle.papaya_kept.proofs.Given.SeizeRule.Rows.Effects.{hand_kept}
-use Rattle.papaya_kept.proofs.Given.SeizeRule.World.Values.{own_op_value, taken_value}
-use Rattle.papaya_kept.proofs.Given.SeizeAlone.Spared.Rows.{RowStepped}
-use Rattle.papaya_kept.proofs.Given.SeizeAlone.Histories.NotTaken.{did, nobodys, taken_gone}
-use Rattle.papaya_kept.proofs.Given.SeizeAlone.Histories.Reached.{Reached, happens_reached}
-use Rattle.papaya_kept.specs.Given.Tables.Nodes.{deferred_word, was_left}
-use Rattle.papaya_kept.specs.Given.Tables.declared.node.Node.{Node}
-use Rattle.papaya_teller.specs.Tells.{StepsTold}
-use Rattle.papaya_teller.specs.declared.changed.Changed.{Changed}
-use Rattle.papaya_teller.specs.declared.changed.Changed.TheVariants as changed
-use Rattle.papaya_kept.proofs.Given.Callers.Together.At.{at_other, at_same}
-use Rattle.papaya_kept.specs.Given.Finishes.FactsEnds.{TakesLeft, WritesRoot, events_of}
-use Rattle.papaya_reclaims.specs.Slots.{IsForSlots, AreItsRows}
-use Rattle.papaya_scenes.specs.declared.row.SlotRow.TheVariants as rows
-use Rattle.papaya_kept.proofs.Given.Others.Outcomes.{told_in}
-use Rattle.papaya_kept.proofs.Given.Others.RowPlans.{TellsRow, row_tells}
-use Rattle.papaya_kept.proofs.Given.Moments.OnSlots.{none_some}
+use Rattle.papaya_reclaiming.proofs.Given.SeizeRule.Rows.Effects.{hand_kept}
+use Rattle.papaya_reclaiming.proofs.Given.SeizeRule.World.Values.{own_op_value, taken_value}
+use Rattle.papaya_remains.proofs.Given.SeizeAlone.Spared.Rows.{RowStepped}
+use Rattle.papaya_remains.proofs.Given.SeizeAlone.Histories.NotTaken.{did, nobodys, taken_gone}
+use Rattle.papaya_remains.proofs.Given.SeizeAlone.Histories.Reached.{Reached, happens_reached}
+use Rattle.papaya_runs.specs.Given.Tables.Nodes.{deferred_word, was_left}
+use Rattle.papaya_runs.specs.Given.Tables.declared.node.Node.{Node}
+use Rattle.papaya_reclaiming.specs.Given.Teller.Tells.{StepsTold}
+use Rattle.papaya_reclaiming.specs.Given.Teller.declared.changed.Changed.{Changed}
+use Rattle.papaya_reclaiming.specs.Given.Teller.declared.changed.Changed.TheVariants as changed
+use Rattle.papaya_reclaiming.proofs.Given.Callers.Together.At.{at_other, at_same}
+use Rattle.papaya_reclaiming.specs.Given.Finishes.FactsEnds.{TakesLeft, WritesRoot, events_of}
+use Rattle.papaya_reclaiming.specs.Given.Reclaims.Slots.{IsForSlots, AreItsRows}
+use Rattle.papaya_reclaiming.specs.Given.Scenes.declared.row.SlotRow.TheVariants as rows
+use Rattle.papaya_remains.proofs.Given.Others.Outcomes.{told_in}
+use Rattle.papaya_remains.proofs.Given.Others.RowPlans.{TellsRow, row_tells}
+use Rattle.papaya_remains.proofs.Given.Moments.OnSlots.{none_some}
 use Rattle.std.proofs.lemmas.Bool.{cases_eq}
-use Rattle.papaya_scenes.specs.Rows.{of_settling}
-use Rattle.papaya_scenes.proofs.Leads.{happens}
+use Rattle.papaya_reclaiming.specs.Given.Scenes.Rows.{of_settling}
+use Rattle.papaya_reclaiming.proofs.Given.Scenes.Leads.{happens}
 
 -- a block that is there then is as it was, in the same hands
 abbrev pub KeptThere : {K V : Type 0} → World (Node K V) → World (Node K V) → Type 0

@@ -44,7 +44,7 @@ use Rattle.papaya_finishes.proofs.Given.Points.Making.NewTable.{links_current, o
 use Rattle.papaya_finishes.proofs.Given.Rule.World.WentStill.{spares_made, spares_taken}
 use Rattle.papaya_finishes.proofs.Given.Rule.Words.WritesWords.{is_some_of}
 use Rattle.papaya_maps.specs.FactsBegins.{IsNew, OpeningFacts, BeginFacts, BeginTold, BeginWent}
-use Rattle.papaya_alone.proofs.Lone.Beside.{rests_first, rests_linked}
+use Rattle.papaya_finishes.proofs.Given.Alone.Lone.Beside.{rests_first, rests_linked}
 use Rattle.papaya_finishes.proofs.Given.Callers.MapBegins.{map_begins}
 use Rattle.papaya_finishes.specs.Given.Callers.Together.{no_blocks}
 use Rattle.papaya_maps.proofs.Begins.TableRoots.{LeavesRootsBut, leaves_roots}

@@ -28,11 +28,11 @@ use Rattle.papaya_finishes.specs.Given.Rule.Chart.{Chart}
 use Rattle.papaya_finishes.specs.Given.Rule.Rule.{no_table}
 use Rattle.papaya_finishes.proofs.Given.Points.Making.OwnTables.{zero_at}
 use Rattle.papaya_finishes.proofs.Given.Rule.Moves.Totals.{total_none}
-use Rattle.papaya_alone.specs.Counting.{number_in, one_if, pairs_in, shards_sum, IsCounted}
+use Rattle.papaya_finishes.specs.Given.Alone.Counting.{number_in, one_if, pairs_in, shards_sum, IsCounted}
 use Rattle.papaya_maps.specs.FactsBegins.{OpeningFacts, BeginFacts}
 use Rattle.papaya_maps.specs.AloneBegins.{IsUncounted, UncountedAt}
-use Rattle.papaya_alone.proofs.Spared.Shards.{counter_apart, shard_stays}
-use Rattle.papaya_alone.proofs.Spared.Calls.{new_table_spares}
+use Rattle.papaya_finishes.proofs.Given.Alone.Spared.Shards.{counter_apart, shard_stays}
+use Rattle.papaya_finishes.proofs.Given.Alone.Spared.Calls.{new_table_spares}
 
 -- the shards say that there is no pair
 no_count : (s p : ℕ) → s ≡ 0 → p ≡ 0 → s % 2 ^ 64 ≡ p

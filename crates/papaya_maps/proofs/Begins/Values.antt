@@ -27,9 +27,9 @@ use Rattle.papaya_finishes.specs.Given.Rule.Words.{Blocks}
 use Rattle.papaya_finishes.specs.Given.Points.FactsTables.{IsLinkOf, NewTableFacts}
 use Rattle.papaya_maps.specs.FactsBegins.{OpeningFacts, BeginFacts, BeginTold}
 use Rattle.papaya_finishes.specs.Given.Points.Made.{IsMadeBy}
-use Rattle.papaya_alone.specs.Values.{IsComing, IsMadeByOpening}
+use Rattle.papaya_finishes.specs.Given.Alone.Values.{IsComing, IsMadeByOpening}
 use Rattle.papaya_maps.specs.AloneBegins.{HasSameValues, IsAtRoot, HasLinked}
-use Rattle.papaya_alone.proofs.Values.Come.{has_come, comes_on, comes_same, values_same}
+use Rattle.papaya_finishes.proofs.Given.Alone.Values.Come.{has_come, comes_on, comes_same, values_same}
 use Rattle.papaya_finishes.proofs.Given.Points.Values.Kept.{SameValues, plain_keeps}
 use Rattle.papaya_finishes.proofs.Given.Points.Values.Left.{Leaves, leaves_made, leaves_taken, leaves_beside}
 use Rattle.papaya_finishes.proofs.Given.Points.Values.Making.{MadeAfter, IsLinkedNow, none_made, first_made_none, making_leaves}

@@ -40,16 +40,16 @@ use Rattle.papaya_finishes.proofs.Given.Rule.Moves.Totals.{total_none}
 use Rattle.papaya_finishes.proofs.Given.Rule.Words.LinksSeen.{link_some, root_leads}
 use Rattle.papaya_maps.specs.FactsBegins.{IsNew, HasBegun, LeavesRoots, OpeningFacts, BeginTold, BeginWent}
 use Rattle.papaya_finishes.specs.Given.Callers.Kept.{IsMaking}
-use Rattle.papaya_alone.specs.Alone.{IsIdleNow}
+use Rattle.papaya_finishes.specs.Given.Alone.Alone.{IsIdleNow}
 use Rattle.papaya_maps.specs.AloneBegins.{HasSameRoots, HasTaken, RootsAt, IsAtRoot, IsUncounted, IsOpening, HasOpened, OpensTo}
-use Rattle.papaya_alone.specs.Values.{IsComing, IsLinkedSince}
+use Rattle.papaya_finishes.specs.Given.Alone.Values.{IsComing, IsLinkedSince}
 use Rattle.papaya_maps.specs.WholeBegins.{MapsBeginAlone, MapsGoOnAlone}
 use Rattle.papaya_maps.proofs.Begins.Length.{keeps_len}
 use Rattle.papaya_maps.proofs.Begins.Uncounted.{UncountedTo, uncounted_none, opens_uncounted}
-use Rattle.papaya_alone.proofs.Calls.Rests.{reached_on, reached_in, tables_reached, pairs_reached}
+use Rattle.papaya_finishes.proofs.Given.Alone.Calls.Rests.{reached_on, reached_in, tables_reached, pairs_reached}
 use Rattle.papaya_finishes.proofs.Given.Callers.Rows.Users.{all_users}
 use Rattle.papaya_maps.proofs.Begins.Points.{begin_facts, may_new_map, went_new_map}
-use Rattle.papaya_alone.proofs.Values.Come.{none_coming}
+use Rattle.papaya_finishes.proofs.Given.Alone.Values.Come.{none_coming}
 use Rattle.papaya_maps.proofs.Begins.Values.{OpensWith, opens_with}
 
 module _ {K V : Type 0} (same : K → K → Bool) (hash : K → ℕ) (m0 m m2 : Mem (Node K V)) where

@@ -11,7 +11,7 @@ use Rattle.papaya_finishes.specs.Given.Seize.Further.{ListFrom}
 use Rattle.papaya_finishes.specs.Given.Seize.World.{times}
 use Rattle.papaya_finishes.proofs.Given.SeizeAlone.Spared.Fewer.{take_fewer}
 use Rattle.papaya_finishes.proofs.Given.Rule.Words.TablesSeen.{block_of_link}
-use Rattle.papaya_alone.specs.Counting.{number_in}
+use Rattle.papaya_finishes.specs.Given.Alone.Counting.{number_in}
 use Rattle.papaya_maps.specs.MeasuresEnds.{list_len, most_blocks}
 use Rattle.papaya_finishes.proofs.Ends.CountedBlocks.{times_here, some_here, some_last}
 use Rattle.papaya_finishes.proofs.Ends.Memory.{taken_value}

@@ -34,12 +34,12 @@ use Rattle.papaya_finishes.proofs.Given.Points.Calls.Making.{links_beside}
 use Rattle.papaya_finishes.specs.Given.Late.FactsReserves.{CopiesPairs, IsEnding, CopiesWhole, ReservingFacts}
 use Rattle.papaya_finishes.specs.Given.Late.ToldReserves.{EndsAtRoot, WholeTold, IsRowOfReserve}
 use Rattle.papaya_finishes.proofs.Given.Late.Rooms.Reserves.Moved.{IsFresh, Proceeds, CopierMoves, ReserveMoves}
-use Rattle.papaya_alone.specs.FactsAlone.{FactsAlone}
-use Rattle.papaya_alone.specs.FactsAloneCalls.{TablesAlone, RestsAlone}
-use Rattle.papaya_alone.proofs.Lone.Beside.{alone_begins, beside_idle, beside_tables}
-use Rattle.papaya_alone.proofs.Lone.Copier.{alone_goes}
-use Rattle.papaya_alone.proofs.Lone.Keeps.{kept_at}
-use Rattle.papaya_alone.proofs.Lone.QuietPoints.{IsQuiet, quiet_alone}
+use Rattle.papaya_finishes.specs.Given.Alone.FactsAlone.{FactsAlone}
+use Rattle.papaya_finishes.specs.Given.Alone.FactsAloneCalls.{TablesAlone, RestsAlone}
+use Rattle.papaya_finishes.proofs.Given.Alone.Lone.Beside.{alone_begins, beside_idle, beside_tables}
+use Rattle.papaya_finishes.proofs.Given.Alone.Lone.Copier.{alone_goes}
+use Rattle.papaya_finishes.proofs.Given.Alone.Lone.Keeps.{kept_at}
+use Rattle.papaya_finishes.proofs.Given.Alone.Lone.QuietPoints.{IsQuiet, quiet_alone}
 use Rattle.papaya_maps.specs.FactsAloneReserves.{CopierAlone, ReservesAlone, IsLoneReserve, LeadsReserve}
 
 -- where a step of its copier leads: it never waits

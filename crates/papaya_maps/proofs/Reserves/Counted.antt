@@ -24,13 +24,13 @@ use Rattle.papaya_finishes.specs.Given.Rule.InWorld.{IsMapIn}
 use Rattle.papaya_finishes.specs.Given.Points.FactsCopies.{CopierFacts}
 use Rattle.papaya_finishes.specs.Given.Points.FactsCopiesBlocking.{CopierFactsBlocking}
 use Rattle.papaya_finishes.specs.Given.Points.Told.{IsRowOfCopier}
-use Rattle.papaya_alone.specs.Counting.{shards_sum}
+use Rattle.papaya_finishes.specs.Given.Alone.Counting.{shards_sum}
 use Rattle.papaya_finishes.specs.Given.Late.FactsReserves.{IsEnding, ReservingFacts, ReserveFacts}
 use Rattle.papaya_finishes.specs.Given.Late.ToldReserves.{IsRowOfReserve}
-use Rattle.papaya_alone.proofs.Spared.Shards.{counter_apart, counter_no_next, shards_spared}
+use Rattle.papaya_finishes.proofs.Given.Alone.Spared.Shards.{counter_apart, counter_no_next, shards_spared}
 use Rattle.papaya_finishes.proofs.Given.Rule.Spared.{PlanSpares, spares_as}
-use Rattle.papaya_alone.proofs.Spared.Calls.{IsApart, new_table_spares, sum_spares, copier_spares}
-use Rattle.papaya_alone.proofs.Spared.Helpers.{helper_spares}
+use Rattle.papaya_finishes.proofs.Given.Alone.Spared.Calls.{IsApart, new_table_spares, sum_spares, copier_spares}
+use Rattle.papaya_finishes.proofs.Given.Alone.Spared.Helpers.{helper_spares}
 
 module _ {K V : Type 0} (same : K → K → Bool) (hash : K → ℕ) (w : World (Node K V)) (setting : Setting) (c : Chart K) (blocks : Blocks) (map : IsMapIn same hash setting w c blocks) where
   module _ (shard : ℕ) where

@@ -28,7 +28,7 @@ use Rattle.papaya_finishes.specs.Given.Rule.Maps.{spot_of, IsTable}
 use Rattle.papaya_finishes.specs.Given.Rule.InWorld.{SameBlocks, IsMapIn}
 use Rattle.papaya_maps.specs.AloneReserves.{AreLeft, RetiresFrom, IsNear}
 use Rattle.papaya_maps.proofs.Reserves.CopiersOn.{RetiresNone, on_behind}
-use Rattle.papaya_alone.proofs.Handed.RootTurns.{before_made}
+use Rattle.papaya_finishes.proofs.Given.Alone.Handed.RootTurns.{before_made}
 use Rattle.papaya_maps.proofs.Reserves.RootSame.{root_named, root_becomes, root_same}
 
 module _ {K : Type 0} (setting : Setting) (c : Chart K) (blocks : Blocks) (t : ℕ) where

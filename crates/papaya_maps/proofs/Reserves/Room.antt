@@ -33,7 +33,7 @@ use Rattle.papaya_finishes.specs.Given.Points.Told.{SumTold}
 use Rattle.papaya_finishes.proofs.Given.Rule.Keys.Always.{Always, AlwaysOf, always_if, always_plan_as, always_steps}
 use Rattle.papaya_finishes.proofs.Given.Points.Making.Sum.{told_sum}
 use Rattle.papaya_finishes.proofs.Given.Rule.World.WentWrote.{counter_of}
-use Rattle.papaya_alone.specs.Counting.{shards_sum, count_ahead}
+use Rattle.papaya_finishes.specs.Given.Alone.Counting.{shards_sum, count_ahead}
 use Rattle.papaya_finishes.specs.Given.Late.FactsReserves.{ReservingFacts, ReserveFacts}
 use Rattle.papaya_maps.specs.AloneReserves.{SumsUp}
 use Rattle.papaya_maps.proofs.Reserves.Sums.{Ahead, sum_ahead}

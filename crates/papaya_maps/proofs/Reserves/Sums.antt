@@ -16,8 +16,8 @@ use Rattle.papaya_finishes.specs.Given.Resize.declared.sum.Sum.{Sum}
 use Rattle.papaya_finishes.specs.Given.Resize.declared.sum.Summing.{Summing}
 use Rattle.papaya_finishes.specs.Given.Resize.declared.sum.Summing.TheVariants as sums
 use Rattle.papaya_finishes.specs.Given.Points.FactsTables.{CountsShards}
-use Rattle.papaya_alone.specs.Counting.{count_ahead, number_in, shards_sum}
-use Rattle.papaya_alone.proofs.Shards.Sums.{total_more}
+use Rattle.papaya_finishes.specs.Given.Alone.Counting.{count_ahead, number_in, shards_sum}
+use Rattle.papaya_finishes.proofs.Given.Alone.Shards.Sums.{total_more}
 
 -- a remainder of a part
 mod_part : (a b : ℕ) → (a % 2 ^ 64 + b) % 2 ^ 64 ≡ (a + b) % 2 ^ 64

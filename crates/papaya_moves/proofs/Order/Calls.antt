@@ -2,26 +2,26 @@
 use Rattle.std.specs.Prelude.{◌≡◌, ◌==◌, ℕ, true, false, List, [], Some, None, if◌then◌else◌}
 use Rattle.std.specs.List.{AllByRecursion, list_any}
 use Rattle.std.proofs.Common.{arith}
-use Rattle.papaya_legal.specs.Given.Runs.Same.{is_same}
-use Rattle.papaya_legal.specs.Given.Schedules.declared.call.Call.{Call}
-use Rattle.papaya_legal.specs.Given.Schedules.declared.call.Reply.{Reply}
-use Rattle.papaya_legal.specs.Given.Schedules.declared.event.Event.{Event}
-use Rattle.papaya_legal.specs.Given.Schedules.declared.event.Event.TheVariants as event
-use Rattle.papaya_legal.specs.Given.Schedules.declared.outcome.Outcome.{Outcome}
-use Rattle.papaya_legal.specs.Given.Schedules.declared.outcome.Outcome.TheVariants as outcome
-use Rattle.papaya_legal.specs.Given.Schedules.After.{after, stepped, without_call}
-use Rattle.papaya_legal.specs.Given.Schedules.Beginning.{with_call}
-use Rattle.papaya_legal.specs.Given.Schedules.Entry.{Entry, ends_call}
-use Rattle.papaya_legal.specs.Given.Schedules.Moment.{MapThere, Moment, TableThere, UnderWay as CallThere}
-use Rattle.papaya_legal.specs.Given.Schedules.Reclaims.{is_kept}
-use Rattle.papaya_legal.specs.Given.Finds.Events.{EndedOwesNone}
-use Rattle.papaya_legal.specs.Given.Finds.Tables.{TablesAreInOrder}
-use Rattle.papaya_legal.specs.Given.Finds.Waiting.{PairsArePlaced}
-use Rattle.papaya_legal.specs.Given.Finds.Within.{AllIsInOrder, HasItsMap}
-use Rattle.papaya_legal.proofs.Given.Finds.Events.{beginnings_keep_placed, beginnings_keep_tables, events_keep_placed, events_keep_tables}
-use Rattle.papaya_legal.proofs.Given.Finds.Lists.{all_so}
-use Rattle.papaya_legal.proofs.Given.Finds.Over.{over_have}
-use Rattle.papaya_legal.proofs.Given.Finds.Tables.{each_same}
+use Rattle.papaya_deeds.specs.Given.Runs.Same.{is_same}
+use Rattle.papaya_deeds.specs.Given.Schedules.declared.call.Call.{Call}
+use Rattle.papaya_deeds.specs.Given.Schedules.declared.call.Reply.{Reply}
+use Rattle.papaya_deeds.specs.Given.Schedules.declared.event.Event.{Event}
+use Rattle.papaya_deeds.specs.Given.Schedules.declared.event.Event.TheVariants as event
+use Rattle.papaya_deeds.specs.Given.Schedules.declared.outcome.Outcome.{Outcome}
+use Rattle.papaya_deeds.specs.Given.Schedules.declared.outcome.Outcome.TheVariants as outcome
+use Rattle.papaya_deeds.specs.Given.Schedules.After.{after, stepped, without_call}
+use Rattle.papaya_deeds.specs.Given.Schedules.Beginning.{with_call}
+use Rattle.papaya_deeds.specs.Given.Schedules.Entry.{Entry, ends_call}
+use Rattle.papaya_deeds.specs.Given.Schedules.Moment.{MapThere, Moment, TableThere, UnderWay as CallThere}
+use Rattle.papaya_deeds.specs.Given.Schedules.Reclaims.{is_kept}
+use Rattle.papaya_swept.specs.Given.Finds.Events.{EndedOwesNone}
+use Rattle.papaya_swept.specs.Given.Finds.Tables.{TablesAreInOrder}
+use Rattle.papaya_swept.specs.Given.Finds.Waiting.{PairsArePlaced}
+use Rattle.papaya_swept.specs.Given.Finds.Within.{AllIsInOrder, HasItsMap}
+use Rattle.papaya_swept.proofs.Given.Finds.Events.{beginnings_keep_placed, beginnings_keep_tables, events_keep_placed, events_keep_tables}
+use Rattle.papaya_swept.proofs.Given.Finds.Lists.{all_so}
+use Rattle.papaya_swept.proofs.Given.Finds.Over.{over_have}
+use Rattle.papaya_swept.proofs.Given.Finds.Tables.{each_same}
 
 module _ {K V : Type 0} (m : Moment K V) (order : AllIsInOrder m) where
   -- where a call begins by a name that none has, on a map that is there

@@ -3,29 +3,29 @@ use Rattle.std.specs.Prelude.{◌≡◌, ◌<◌, ◌==◌, ℕ, nat_le, Bool, t
 use Rattle.std.specs.List.{AllByRecursion, list_all, list_any}
 use Rattle.std.proofs.Common.{refl, ap, sym, subst, ◌∙◌}
 use Rattle.std.proofs.lemmas.Bool.{and_from, and_parts}
-use Rattle.papaya_legal.specs.Given.Schedules.declared.effect.Effect.{Effect}
-use Rattle.papaya_legal.specs.Given.Schedules.declared.effect.Effect.TheVariants as effect
-use Rattle.papaya_legal.specs.Given.Schedules.declared.effect.Table.{Table}
-use Rattle.papaya_legal.specs.Given.Schedules.Effects.{AtEachEffect, with_effects}
-use Rattle.papaya_legal.specs.Given.Schedules.Handing.{asks_for_bucket}
-use Rattle.papaya_legal.specs.Given.Schedules.InTurn.{is_growth}
-use Rattle.papaya_legal.specs.Given.Schedules.Lives.{EventFinds}
-use Rattle.papaya_legal.specs.Given.Schedules.Moment.{Moment, TableThere}
-use Rattle.papaya_legal.specs.Given.Schedules.Terms.{Terms}
-use Rattle.papaya_legal.specs.Given.Schedules.Things.{same_table}
-use Rattle.papaya_legal.specs.Given.Schedules.Views.{chain_of, first_of, is_linked, is_stage, tables_of}
-use Rattle.papaya_legal.specs.Given.Finds.Life.{StoresOne}
-use Rattle.papaya_legal.specs.Given.Finds.Within.{AllIsInOrder, HasItsMap}
-use Rattle.papaya_legal.proofs.Growths.{growths_leave}
-use Rattle.papaya_legal.proofs.Given.Finds.Life.{each_so}
-use Rattle.papaya_legal.proofs.Given.Finds.Lists.{all_so, any_so, each_among, each_is}
-use Rattle.papaya_legal.proofs.Given.Finds.Grown.{number_is}
-use Rattle.papaya_legal.proofs.Given.Finds.Tables.{all_kept}
-use Rattle.papaya_legal.proofs.Given.Others.Leads.{same_parts}
-use Rattle.papaya_legal.proofs.Given.Spots.Unreclaimed.{same_itself}
-use Rattle.papaya_legal.proofs.Given.Finds.Runs.{life_keeps_order}
+use Rattle.papaya_deeds.specs.Given.Schedules.declared.effect.Effect.{Effect}
+use Rattle.papaya_deeds.specs.Given.Schedules.declared.effect.Effect.TheVariants as effect
+use Rattle.papaya_deeds.specs.Given.Schedules.declared.effect.Table.{Table}
+use Rattle.papaya_deeds.specs.Given.Schedules.Effects.{AtEachEffect, with_effects}
+use Rattle.papaya_deeds.specs.Given.Schedules.Handing.{asks_for_bucket}
+use Rattle.papaya_deeds.specs.Given.Schedules.InTurn.{is_growth}
+use Rattle.papaya_deeds.specs.Given.Schedules.Lives.{EventFinds}
+use Rattle.papaya_deeds.specs.Given.Schedules.Moment.{Moment, TableThere}
+use Rattle.papaya_deeds.specs.Given.Schedules.Terms.{Terms}
+use Rattle.papaya_deeds.specs.Given.Schedules.Things.{same_table}
+use Rattle.papaya_deeds.specs.Given.Schedules.Views.{chain_of, first_of, is_linked, is_stage, tables_of}
+use Rattle.papaya_swept.specs.Given.Finds.Life.{StoresOne}
+use Rattle.papaya_swept.specs.Given.Finds.Within.{AllIsInOrder, HasItsMap}
+use Rattle.papaya_swept.proofs.Given.Legal.Growths.{growths_leave}
+use Rattle.papaya_swept.proofs.Given.Finds.Life.{each_so}
+use Rattle.papaya_swept.proofs.Given.Finds.Lists.{all_so, any_so, each_among, each_is}
+use Rattle.papaya_swept.proofs.Given.Finds.Grown.{number_is}
+use Rattle.papaya_swept.proofs.Given.Finds.Tables.{all_kept}
+use Rattle.papaya_grouped.proofs.Given.Others.Leads.{same_parts}
+use Rattle.papaya_grouped.proofs.Given.Spots.Unreclaimed.{same_itself}
+use Rattle.papaya_swept.proofs.Given.Finds.Runs.{life_keeps_order}
 use Rattle.papaya_deeds.specs.History.{EndFinds, is_first_of, left_tables}
-use Rattle.papaya_linear.proofs.Like.{IsLike}
+use Rattle.papaya_swept.proofs.Given.Linear.Like.{IsLike}
 
 -- who asks for buckets alone asks for growths alone
 all_growths : (effects : List Effect) → list_all asks_for_bucket effects ≡ true → list_all is_growth effects ≡ true

@@ -1,31 +1,31 @@
 -- What calls on no key are refused for is room, whatever they are told; and of a call that goes on, or is ready.
 use Rattle.std.specs.Prelude.{◌≡◌, ℕ, Bool, true, false, List, [], Option, Some}
 use Rattle.std.proofs.Common.{refl, ap, sym, ◌∙◌, inl, inr}
-use Rattle.papaya_legal.specs.Given.Logged.Given.Late.Faults.{RoomInSweeping}
-use Rattle.papaya_legal.proofs.Given.Logged.Given.Late.KindsKept.Laws.{told_sweeps_refuse_room}
-use Rattle.papaya_legal.specs.Given.Tables.declared.node.Node.{Node}
-use Rattle.papaya_legal.specs.Given.Sweeps.declared.sweep.Sweeping.{Sweeping}
-use Rattle.papaya_legal.specs.Given.Sweeps.declared.sweep.Sweeping.TheVariants as sweeping
-use Rattle.papaya_legal.specs.Given.Raw.Machine.{machine_asked, machine_replied, sweep_told}
-use Rattle.papaya_legal.specs.Given.Raw.declared.machines.asking.Reply.{Reply as MachineReply}
-use Rattle.papaya_legal.specs.Given.Raw.declared.machines.asking.Reply.TheVariants as reply
-use Rattle.papaya_legal.specs.Given.Raw.declared.machines.machine.Machine.{Machine}
-use Rattle.papaya_legal.specs.Given.Raw.declared.machines.machine.Machine.TheVariants as kinds
-use Rattle.papaya_legal.specs.Given.Raw.declared.machines.progress.Progress.{Progress}
-use Rattle.papaya_legal.specs.Given.Raw.declared.machines.progress.Progress.TheVariants as progress
-use Rattle.papaya_legal.specs.Given.Callers.Together.{UnderWay}
-use Rattle.papaya_legal.specs.Given.Effects.Known.{Known}
-use Rattle.papaya_legal.specs.Given.Finishes.Machines.{GoesOnAs, machine_of}
-use Rattle.papaya_legal.specs.Given.Finishes.Maps.{with_call}
-use Rattle.papaya_legal.specs.Given.Named.Machines.{RefusedForRoom}
-use Rattle.papaya_legal.specs.Given.Scenes.Scene.{Scene}
-use Rattle.papaya_legal.specs.Given.Scenes.Stepping.{has_ended}
-use Rattle.papaya_legal.specs.Given.Settles.Hand.{in_hand}
-use Rattle.papaya_legal.proofs.Given.Follows.Calling.{is_same_refl}
-use Rattle.papaya_legal.proofs.Given.Hands.Asking.{which}
+use Rattle.papaya_swept.specs.Given.Logged.Given.Late.Faults.{RoomInSweeping}
+use Rattle.papaya_swept.proofs.Given.Logged.Given.Late.KindsKept.Laws.{told_sweeps_refuse_room}
+use Rattle.papaya_deeds.specs.Given.Tables.declared.node.Node.{Node}
+use Rattle.papaya_deeds.specs.Given.Sweeps.declared.sweep.Sweeping.{Sweeping}
+use Rattle.papaya_deeds.specs.Given.Sweeps.declared.sweep.Sweeping.TheVariants as sweeping
+use Rattle.papaya_deeds.specs.Given.Raw.Machine.{machine_asked, machine_replied, sweep_told}
+use Rattle.papaya_deeds.specs.Given.Raw.declared.machines.asking.Reply.{Reply as MachineReply}
+use Rattle.papaya_deeds.specs.Given.Raw.declared.machines.asking.Reply.TheVariants as reply
+use Rattle.papaya_deeds.specs.Given.Raw.declared.machines.machine.Machine.{Machine}
+use Rattle.papaya_deeds.specs.Given.Raw.declared.machines.machine.Machine.TheVariants as kinds
+use Rattle.papaya_deeds.specs.Given.Raw.declared.machines.progress.Progress.{Progress}
+use Rattle.papaya_deeds.specs.Given.Raw.declared.machines.progress.Progress.TheVariants as progress
+use Rattle.papaya_grouped.specs.Given.Callers.Together.{UnderWay}
+use Rattle.papaya_grouped.specs.Given.Effects.Known.{Known}
+use Rattle.papaya_grouped.specs.Given.Finishes.Machines.{GoesOnAs, machine_of}
+use Rattle.papaya_grouped.specs.Given.Finishes.Maps.{with_call}
+use Rattle.papaya_grouped.specs.Given.Named.Machines.{RefusedForRoom}
+use Rattle.papaya_grouped.specs.Given.Scenes.Scene.{Scene}
+use Rattle.papaya_grouped.specs.Given.Scenes.Stepping.{has_ended}
+use Rattle.papaya_swept.specs.Given.Settles.Hand.{in_hand}
+use Rattle.papaya_grouped.proofs.Given.Follows.Calling.{is_same_refl}
+use Rattle.papaya_grouped.proofs.Given.Hands.Asking.{which}
 use Rattle.papaya_deeds.specs.Deeds.{Entry, moment, named}
 use Rattle.papaya_deeds.specs.History.{past}
-use Rattle.papaya_linear.specs.Shown.{ShowsAnswers}
+use Rattle.papaya_swept.specs.Given.Linear.Shown.{ShowsAnswers}
 
 module _ {K V : Type 0} where
   abbrev pub HasRoom : Scene K V → Type 0

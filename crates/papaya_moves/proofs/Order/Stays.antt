@@ -3,36 +3,36 @@ use Rattle.std.specs.Prelude.{◌≡◌, ◌≢◌, ◌==◌, ◌≤◌, ◌<◌
 use Rattle.std.specs.List.{AllByRecursion, list_any}
 use Rattle.std.proofs.Common.{refl, ap, sym, subst, ◌∙◌, arith}
 use Rattle.std.proofs.lemmas.Bool.{eq-eqb}
-use Rattle.papaya_legal.specs.Given.Runs.Same.{is_same}
-use Rattle.papaya_legal.specs.Given.Tables.declared.resize_mode.ResizeMode.{ResizeMode}
-use Rattle.papaya_legal.specs.Given.Schedules.declared.call.Call.{Call}
-use Rattle.papaya_legal.specs.Given.Schedules.declared.call.Reply.{Reply}
-use Rattle.papaya_legal.specs.Given.Schedules.declared.effect.Effect.{Effect}
-use Rattle.papaya_legal.specs.Given.Schedules.declared.event.Event.TheVariants as event
-use Rattle.papaya_legal.specs.Given.Schedules.declared.outcome.Outcome.{Outcome}
-use Rattle.papaya_legal.specs.Given.Schedules.declared.outcome.Outcome.TheVariants as outcome
-use Rattle.papaya_legal.specs.Given.Schedules.After.{stepped, without_call, after as after_event}
-use Rattle.papaya_legal.specs.Given.Schedules.Beginning.{with_call}
-use Rattle.papaya_legal.specs.Given.Schedules.Effects.{with_effects}
-use Rattle.papaya_legal.specs.Given.Schedules.Entry.{IfCall}
-use Rattle.papaya_legal.specs.Given.Schedules.Handing.{moments_since}
-use Rattle.papaya_legal.specs.Given.Schedules.Lives.{EventFinds, Finds}
-use Rattle.papaya_legal.specs.Given.Schedules.Moment.{InMap, MapThere, Moment, Place, TableThere, UnderWay as CallThere}
-use Rattle.papaya_legal.specs.Given.Schedules.Terms.{Terms}
-use Rattle.papaya_legal.specs.Given.Schedules.Views.{call_of, first_of, is_in_map, is_linked, map_at}
-use Rattle.papaya_legal.specs.Given.Finds.Life.{StoresOne}
-use Rattle.papaya_legal.specs.Given.Finds.Waiting.{is_unborn}
-use Rattle.papaya_legal.specs.Given.Finds.Within.{ActsOn, AllIsInOrder, many_of}
-use Rattle.papaya_legal.proofs.Given.Finds.Life.{each_so}
-use Rattle.papaya_legal.proofs.Given.Finds.Over.{both_at, calls_stay, ended_owes_none, none_of_name}
-use Rattle.papaya_legal.proofs.Given.Finds.Runs.{life_keeps_order}
+use Rattle.papaya_deeds.specs.Given.Runs.Same.{is_same}
+use Rattle.papaya_deeds.specs.Given.Tables.declared.resize_mode.ResizeMode.{ResizeMode}
+use Rattle.papaya_deeds.specs.Given.Schedules.declared.call.Call.{Call}
+use Rattle.papaya_deeds.specs.Given.Schedules.declared.call.Reply.{Reply}
+use Rattle.papaya_deeds.specs.Given.Schedules.declared.effect.Effect.{Effect}
+use Rattle.papaya_deeds.specs.Given.Schedules.declared.event.Event.TheVariants as event
+use Rattle.papaya_deeds.specs.Given.Schedules.declared.outcome.Outcome.{Outcome}
+use Rattle.papaya_deeds.specs.Given.Schedules.declared.outcome.Outcome.TheVariants as outcome
+use Rattle.papaya_deeds.specs.Given.Schedules.After.{stepped, without_call, after as after_event}
+use Rattle.papaya_deeds.specs.Given.Schedules.Beginning.{with_call}
+use Rattle.papaya_deeds.specs.Given.Schedules.Effects.{with_effects}
+use Rattle.papaya_deeds.specs.Given.Schedules.Entry.{IfCall}
+use Rattle.papaya_deeds.specs.Given.Schedules.Handing.{moments_since}
+use Rattle.papaya_deeds.specs.Given.Schedules.Lives.{EventFinds, Finds}
+use Rattle.papaya_deeds.specs.Given.Schedules.Moment.{InMap, MapThere, Moment, Place, TableThere, UnderWay as CallThere}
+use Rattle.papaya_deeds.specs.Given.Schedules.Terms.{Terms}
+use Rattle.papaya_deeds.specs.Given.Schedules.Views.{call_of, first_of, is_in_map, is_linked, map_at}
+use Rattle.papaya_swept.specs.Given.Finds.Life.{StoresOne}
+use Rattle.papaya_swept.specs.Given.Finds.Waiting.{is_unborn}
+use Rattle.papaya_swept.specs.Given.Finds.Within.{ActsOn, AllIsInOrder, many_of}
+use Rattle.papaya_swept.proofs.Given.Finds.Life.{each_so}
+use Rattle.papaya_swept.proofs.Given.Finds.Over.{both_at, calls_stay, ended_owes_none, none_of_name}
+use Rattle.papaya_swept.proofs.Given.Finds.Runs.{life_keeps_order}
 use Rattle.papaya_deeds.specs.Deeds.{Begins, Deed, Ends, Entry, Leaves, Makes, MapComes, MapFails, MapGoes, Opens, ReclaimsAll, Registers, Replies, Shuts, Steps, Stops, Tends, acted_on, after, come, map_of_call, moment, named, without_map}
 use Rattle.papaya_deeds.specs.History.{EndFinds, past}
-use Rattle.papaya_agrees.specs.Fresh.{AreNamed}
-use Rattle.papaya_agrees.proofs.Names.{effects_named}
-use Rattle.papaya_linear.proofs.RowsPlayed.{IsOfRow}
-use Rattle.papaya_endings.specs.Ends.{AreStored}
-use Rattle.papaya_endings.proofs.Places.{none_in}
+use Rattle.papaya_grouped.specs.Given.Agrees.Fresh.{AreNamed}
+use Rattle.papaya_grouped.proofs.Given.Agrees.Names.{effects_named}
+use Rattle.papaya_swept.proofs.Given.Linear.RowsPlayed.{IsOfRow}
+use Rattle.papaya_swept.specs.Given.Endings.Ends.{AreStored}
+use Rattle.papaya_swept.proofs.Given.Endings.Places.{none_in}
 use Rattle.papaya_moves.specs.Order.{OrderStays}
 use Rattle.papaya_moves.proofs.Order.Calls.{begins_in_order, stepped_in_order, stopped_in_order, told_in_order}
 use Rattle.papaya_moves.proofs.Order.Effects.{buckets_in_order, effects_in_order, ends_find, order_like}

@@ -3,22 +3,22 @@ use Rattle.std.specs.Prelude.{◌≡◌, ◌+◌, ℕ, Bool, true, false, not, L
 use Rattle.std.specs.List.{AllByRecursion, list_any}
 use Rattle.std.proofs.Common.{refl, ap, sym, ◌∙◌, inl, inr}
 use Rattle.std.proofs.lemmas.Bool.{cases_eq}
-use Rattle.papaya_legal.specs.Given.Runs.Same.{is_same}
-use Rattle.papaya_legal.specs.Given.Schedules.declared.effect.Effect.{Effect}
-use Rattle.papaya_legal.specs.Given.Schedules.declared.outcome.Outcome.{Outcome}
-use Rattle.papaya_legal.specs.Given.Schedules.After.{comes_to, stepped, without_call}
-use Rattle.papaya_legal.specs.Given.Schedules.Effects.{call_by, calls_by, with_effect, with_effects}
-use Rattle.papaya_legal.specs.Given.Schedules.Entry.{ends_call}
-use Rattle.papaya_legal.specs.Given.Schedules.Moment.{Moment, UnderWay as CallThere}
-use Rattle.papaya_legal.specs.Given.Callers.Together.{UnderWay}
-use Rattle.papaya_legal.specs.Given.Finishes.Maps.{with_call}
-use Rattle.papaya_legal.specs.Given.Follows.Calling.{NoneNamed}
-use Rattle.papaya_legal.specs.Given.Scenes.Scene.{Scene}
-use Rattle.papaya_legal.proofs.Given.Callers.Together.At.{at_other, at_same}
-use Rattle.papaya_legal.proofs.Given.Follows.Calling.{is_same_is, is_same_refl}
-use Rattle.papaya_legal.proofs.Given.Follows.Calls.{IsOfSame, changed, changed_same}
-use Rattle.papaya_legal.proofs.Given.Finds.Lists.{all_so, one_of_them}
-use Rattle.papaya_legal.proofs.Given.Finds.Tables.{all_kept, all_under}
+use Rattle.papaya_deeds.specs.Given.Runs.Same.{is_same}
+use Rattle.papaya_deeds.specs.Given.Schedules.declared.effect.Effect.{Effect}
+use Rattle.papaya_deeds.specs.Given.Schedules.declared.outcome.Outcome.{Outcome}
+use Rattle.papaya_deeds.specs.Given.Schedules.After.{comes_to, stepped, without_call}
+use Rattle.papaya_deeds.specs.Given.Schedules.Effects.{call_by, calls_by, with_effect, with_effects}
+use Rattle.papaya_deeds.specs.Given.Schedules.Entry.{ends_call}
+use Rattle.papaya_deeds.specs.Given.Schedules.Moment.{Moment, UnderWay as CallThere}
+use Rattle.papaya_grouped.specs.Given.Callers.Together.{UnderWay}
+use Rattle.papaya_grouped.specs.Given.Finishes.Maps.{with_call}
+use Rattle.papaya_grouped.specs.Given.Follows.Calling.{NoneNamed}
+use Rattle.papaya_grouped.specs.Given.Scenes.Scene.{Scene}
+use Rattle.papaya_grouped.proofs.Given.Callers.Together.At.{at_other, at_same}
+use Rattle.papaya_grouped.proofs.Given.Follows.Calling.{is_same_is, is_same_refl}
+use Rattle.papaya_grouped.proofs.Given.Follows.Calls.{IsOfSame, changed, changed_same}
+use Rattle.papaya_swept.proofs.Given.Finds.Lists.{all_so, one_of_them}
+use Rattle.papaya_swept.proofs.Given.Finds.Tables.{all_kept, all_under}
 use Rattle.papaya_deeds.specs.Deeds.{named}
 use Rattle.papaya_moves.specs.Order.{AreUnderWay, IsUnderWay}
 

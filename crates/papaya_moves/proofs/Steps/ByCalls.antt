@@ -1,54 +1,54 @@
 -- What a moment shows of steps of calls it shows where a call begins, takes a step, takes a reply, goes on as a walk, or is given up.
 use Rattle.std.specs.Prelude.{◌≡◌, ℕ, Bool, true, List, [], ◌∷◌, Some}
 use Rattle.std.proofs.Common.{refl, ap, ◌∙◌}
-use Rattle.papaya_legal.specs.Given.Tables.declared.node.Node.{Node}
-use Rattle.papaya_legal.specs.Given.Raw.Machine.{machine_replied}
-use Rattle.papaya_legal.specs.Given.Raw.declared.machines.machine.Machine.{Machine}
-use Rattle.papaya_legal.specs.Given.Raw.declared.machines.progress.Progress.{Progress}
-use Rattle.papaya_legal.specs.Given.Schedules.declared.call.Call.{Call}
-use Rattle.papaya_legal.specs.Given.Schedules.declared.call.Reply.{Reply}
-use Rattle.papaya_legal.specs.Given.Schedules.declared.effect.Thing.TheVariants.{APair}
-use Rattle.papaya_legal.specs.Given.Schedules.declared.outcome.Outcome.{Outcome}
-use Rattle.papaya_legal.specs.Given.Schedules.Beginning.{with_call}
-use Rattle.papaya_legal.specs.Given.Schedules.Effects.{with_effects}
-use Rattle.papaya_legal.specs.Given.Schedules.Entry.{ends_call}
-use Rattle.papaya_legal.specs.Given.Schedules.Moment.{Moment, UnderWay as CallThere}
-use Rattle.papaya_legal.specs.Given.Schedules.Transition.{Past}
-use Rattle.papaya_legal.specs.Given.Schedules.Views.{call_of}
-use Rattle.papaya_legal.specs.Given.Callers.OverAll.{CallOverAll}
-use Rattle.papaya_legal.specs.Given.Callers.Together.{OverAll, UnderWay}
-use Rattle.papaya_legal.specs.Given.Effects.Effects.{effects_of, known_after}
-use Rattle.papaya_legal.specs.Given.Effects.Known.{Known}
-use Rattle.papaya_legal.specs.Given.Effects.declared.acting.Acting.TheVariants as acts
-use Rattle.papaya_legal.specs.Given.Finishes.Machines.{machine_of}
-use Rattle.papaya_legal.specs.Given.Finishes.Maps.{Standing, with_call as with_call_of}
-use Rattle.papaya_legal.specs.Given.Follows.Calling.{NoneNamed, come_to, told}
-use Rattle.papaya_legal.specs.Given.Follows.Calls.{IsCalled}
-use Rattle.papaya_legal.specs.Given.Hands.Asked.{as_told}
-use Rattle.papaya_legal.specs.Given.Others.Walks.{given_up}
-use Rattle.papaya_legal.specs.Given.Settles.Hand.{ShowsOwed, in_hand}
-use Rattle.papaya_legal.specs.Given.Purposes.Purposes.{ShowsPurposes}
-use Rattle.papaya_legal.specs.Given.Grows.Finding.{ShowsFinding}
-use Rattle.papaya_legal.specs.Given.Grows.Nexts.{ShowsNexts}
-use Rattle.papaya_legal.specs.Given.Grows.Tries.{ShowsTries}
-use Rattle.papaya_legal.specs.Given.Scenes.Beginning.{Begins as BeginsSo}
-use Rattle.papaya_legal.specs.Given.Scenes.Held.{Held, IsAt}
-use Rattle.papaya_legal.specs.Given.Scenes.Replying.{AskLeads, scene_with, unless_stopped}
-use Rattle.papaya_legal.specs.Given.Scenes.Scene.{Scene}
-use Rattle.papaya_legal.specs.Given.Scenes.Stepping.{StepLeads, scene_after}
-use Rattle.papaya_legal.proofs.Given.Kept.Stays.{calls_come_to_kept}
-use Rattle.papaya_legal.proofs.Given.Settles.Hand.Asked.{asked_stays, told_stays}
-use Rattle.papaya_legal.proofs.Given.Finds.Grows.Between.{calls_begin_growing, calls_take_growing, walks_go_on_growing}
-use Rattle.papaya_legal.proofs.Given.Finds.Waits.Between.{calls_begin_waits}
-use Rattle.papaya_legal.proofs.Given.Grows.Finding.Alike.{finding_fewer, stood_as}
-use Rattle.papaya_legal.proofs.Given.Grows.Finding.Between.{asked_same, fewer_calls, none_at_first, puts_begun, puts_on, replied_same, waits_on}
-use Rattle.papaya_legal.proofs.Given.Grows.Finding.Calls.{calls_keep_finding}
-use Rattle.papaya_legal.proofs.Given.Grows.Finding.Making.Between.{calls_begin_further, calls_take_further, walks_go_on_further}
-use Rattle.papaya_legal.proofs.Given.Grows.Finding.Nexts.{calls_begin_nexts, calls_come_to_nexts, calls_take_nexts, nexts_go_on, others_at_first, walks_go_on_nexts, walks_stop_nexts}
-use Rattle.papaya_legal.proofs.Given.Grows.Tries.Shows.{calls_begin_tries, calls_come_to_tries, calls_take_tries, tries_at_first, walks_go_on_tries, walks_stop_tries}
-use Rattle.papaya_legal.proofs.Given.Grows.Tries.Steps.{tries_go_on}
+use Rattle.papaya_deeds.specs.Given.Tables.declared.node.Node.{Node}
+use Rattle.papaya_deeds.specs.Given.Raw.Machine.{machine_replied}
+use Rattle.papaya_deeds.specs.Given.Raw.declared.machines.machine.Machine.{Machine}
+use Rattle.papaya_deeds.specs.Given.Raw.declared.machines.progress.Progress.{Progress}
+use Rattle.papaya_deeds.specs.Given.Schedules.declared.call.Call.{Call}
+use Rattle.papaya_deeds.specs.Given.Schedules.declared.call.Reply.{Reply}
+use Rattle.papaya_deeds.specs.Given.Schedules.declared.effect.Thing.TheVariants.{APair}
+use Rattle.papaya_deeds.specs.Given.Schedules.declared.outcome.Outcome.{Outcome}
+use Rattle.papaya_deeds.specs.Given.Schedules.Beginning.{with_call}
+use Rattle.papaya_deeds.specs.Given.Schedules.Effects.{with_effects}
+use Rattle.papaya_deeds.specs.Given.Schedules.Entry.{ends_call}
+use Rattle.papaya_deeds.specs.Given.Schedules.Moment.{Moment, UnderWay as CallThere}
+use Rattle.papaya_deeds.specs.Given.Schedules.Transition.{Past}
+use Rattle.papaya_deeds.specs.Given.Schedules.Views.{call_of}
+use Rattle.papaya_grouped.specs.Given.Callers.OverAll.{CallOverAll}
+use Rattle.papaya_grouped.specs.Given.Callers.Together.{OverAll, UnderWay}
+use Rattle.papaya_grouped.specs.Given.Effects.Effects.{effects_of, known_after}
+use Rattle.papaya_grouped.specs.Given.Effects.Known.{Known}
+use Rattle.papaya_grouped.specs.Given.Effects.declared.acting.Acting.TheVariants as acts
+use Rattle.papaya_grouped.specs.Given.Finishes.Machines.{machine_of}
+use Rattle.papaya_grouped.specs.Given.Finishes.Maps.{Standing, with_call as with_call_of}
+use Rattle.papaya_grouped.specs.Given.Follows.Calling.{NoneNamed, come_to, told}
+use Rattle.papaya_grouped.specs.Given.Follows.Calls.{IsCalled}
+use Rattle.papaya_grouped.specs.Given.Hands.Asked.{as_told}
+use Rattle.papaya_grouped.specs.Given.Others.Walks.{given_up}
+use Rattle.papaya_swept.specs.Given.Settles.Hand.{ShowsOwed, in_hand}
+use Rattle.papaya_swept.specs.Given.Purposes.Purposes.{ShowsPurposes}
+use Rattle.papaya_swept.specs.Given.Grows.Finding.{ShowsFinding}
+use Rattle.papaya_swept.specs.Given.Grows.Nexts.{ShowsNexts}
+use Rattle.papaya_swept.specs.Given.Grows.Tries.{ShowsTries}
+use Rattle.papaya_grouped.specs.Given.Scenes.Beginning.{Begins as BeginsSo}
+use Rattle.papaya_grouped.specs.Given.Scenes.Held.{Held, IsAt}
+use Rattle.papaya_grouped.specs.Given.Scenes.Replying.{AskLeads, scene_with, unless_stopped}
+use Rattle.papaya_grouped.specs.Given.Scenes.Scene.{Scene}
+use Rattle.papaya_grouped.specs.Given.Scenes.Stepping.{StepLeads, scene_after}
+use Rattle.papaya_swept.proofs.Given.Kept.Stays.{calls_come_to_kept}
+use Rattle.papaya_swept.proofs.Given.Settles.Hand.Asked.{asked_stays, told_stays}
+use Rattle.papaya_swept.proofs.Given.Finds.Grows.Between.{calls_begin_growing, calls_take_growing, walks_go_on_growing}
+use Rattle.papaya_swept.proofs.Given.Finds.Waits.Between.{calls_begin_waits}
+use Rattle.papaya_swept.proofs.Given.Grows.Finding.Alike.{finding_fewer, stood_as}
+use Rattle.papaya_swept.proofs.Given.Grows.Finding.Between.{asked_same, fewer_calls, none_at_first, puts_begun, puts_on, replied_same, waits_on}
+use Rattle.papaya_swept.proofs.Given.Grows.Finding.Calls.{calls_keep_finding}
+use Rattle.papaya_swept.proofs.Given.Grows.Finding.Making.Between.{calls_begin_further, calls_take_further, walks_go_on_further}
+use Rattle.papaya_swept.proofs.Given.Grows.Finding.Nexts.{calls_begin_nexts, calls_come_to_nexts, calls_take_nexts, nexts_go_on, others_at_first, walks_go_on_nexts, walks_stop_nexts}
+use Rattle.papaya_swept.proofs.Given.Grows.Tries.Shows.{calls_begin_tries, calls_come_to_tries, calls_take_tries, tries_at_first, walks_go_on_tries, walks_stop_tries}
+use Rattle.papaya_swept.proofs.Given.Grows.Tries.Steps.{tries_go_on}
 use Rattle.papaya_deeds.specs.Deeds.{named}
-use Rattle.papaya_linear.specs.Shown.{ShowsAnswers}
+use Rattle.papaya_swept.specs.Given.Linear.Shown.{ShowsAnswers}
 use Rattle.papaya_moves.specs.Steps.{ShowsSteps}
 
 -- what stays so but for sources

@@ -1,44 +1,44 @@
 -- What a moment shows of steps of calls it shows, too, where the making of a map begins, as its map comes, and after each of its steps.
 use Rattle.std.specs.Prelude.{◌≡◌, ◌⊎◌, ℕ, Bool, List, Option, Some, None}
 use Rattle.std.proofs.Common.{refl, ap, sym, ◌∙◌, inl, inr}
-use Rattle.papaya_legal.specs.Given.Seize.declared.progress.Progress.{Progress as Making}
-use Rattle.papaya_legal.specs.Given.Tables.declared.setting.Setting.{Setting}
-use Rattle.papaya_legal.specs.Given.Schedules.declared.effect.Effect.{Effect}
-use Rattle.papaya_legal.specs.Given.Schedules.Effects.{with_effects}
-use Rattle.papaya_legal.specs.Given.Schedules.Moment.{MapThere, Moment}
-use Rattle.papaya_legal.specs.Given.Schedules.Transition.{Past}
-use Rattle.papaya_legal.specs.Given.Schedules.Views.{map_at}
-use Rattle.papaya_legal.specs.Given.Effects.Effects.{effects_of, known_after}
-use Rattle.papaya_legal.specs.Given.Effects.Known.{Known}
-use Rattle.papaya_legal.specs.Given.Effects.declared.acting.Acting.TheVariants as acts
-use Rattle.papaya_legal.specs.Given.Finishes.Makings.{Beginning}
-use Rattle.papaya_legal.specs.Given.Finishes.Maps.{Standing}
-use Rattle.papaya_legal.specs.Given.Finds.Linking.{IsMadeFor}
-use Rattle.papaya_legal.specs.Given.Grows.Finding.{ShowsFinding}
-use Rattle.papaya_legal.specs.Given.Others.Makings.{WasNew, making_after}
-use Rattle.papaya_legal.specs.Given.Scenes.Held.{Held, IsAt}
-use Rattle.papaya_legal.specs.Given.Scenes.Making.{MakingLeads, scene_making}
-use Rattle.papaya_legal.specs.Given.Scenes.Scene.{Scene}
-use Rattle.papaya_legal.specs.MapEvents.{HasNotMade}
-use Rattle.papaya_legal.proofs.Given.Moments.MakingSteps.{makings_go_beside}
-use Rattle.papaya_legal.proofs.Given.Finds.Capacities.{capacities_stay, effects_keep_capacities}
-use Rattle.papaya_legal.proofs.Given.Finds.Grows.Steps.{tables_have_been}
-use Rattle.papaya_legal.proofs.Given.Grows.Finding.Alike.{stood_as}
-use Rattle.papaya_legal.proofs.Given.Grows.Finding.Aside.{makings_aside, makings_leave_spots}
-use Rattle.papaya_legal.proofs.Given.Grows.Finding.Beside.{finding_beside}
-use Rattle.papaya_legal.proofs.Given.Grows.Finding.Between.{finding_where, found_beside}
-use Rattle.papaya_legal.proofs.Given.Grows.Finding.Making.Lengths.{effects_keep_lengths}
-use Rattle.papaya_legal.proofs.Given.Grows.Finding.Nexts.{nexts_where}
-use Rattle.papaya_legal.proofs.Given.Grows.Finding.NextsOthers.{makings_keep_nexts}
-use Rattle.papaya_legal.proofs.Given.Grows.Finding.Others.{makings_keep_finding}
-use Rattle.papaya_legal.proofs.Given.Grows.Tries.Others.{makings_keep_tries}
-use Rattle.papaya_legal.proofs.Given.Grows.Tries.Shows.{tries_where}
-use Rattle.papaya_legal.proofs.Maps.{unmade_maps}
-use Rattle.papaya_legal.proofs.Sourced.{making_sources, so_aside, sources_so}
-use Rattle.papaya_legal.specs.Given.Grows.Given.Sources.Sources.{ShowsSources}
-use Rattle.papaya_legal.specs.Given.Grows.Given.Sources.Stays.{NoneBorn}
+use Rattle.seize_acts.specs.Given.Seize.declared.progress.Progress.{Progress as Making}
+use Rattle.papaya_deeds.specs.Given.Tables.declared.setting.Setting.{Setting}
+use Rattle.papaya_deeds.specs.Given.Schedules.declared.effect.Effect.{Effect}
+use Rattle.papaya_deeds.specs.Given.Schedules.Effects.{with_effects}
+use Rattle.papaya_deeds.specs.Given.Schedules.Moment.{MapThere, Moment}
+use Rattle.papaya_deeds.specs.Given.Schedules.Transition.{Past}
+use Rattle.papaya_deeds.specs.Given.Schedules.Views.{map_at}
+use Rattle.papaya_grouped.specs.Given.Effects.Effects.{effects_of, known_after}
+use Rattle.papaya_grouped.specs.Given.Effects.Known.{Known}
+use Rattle.papaya_grouped.specs.Given.Effects.declared.acting.Acting.TheVariants as acts
+use Rattle.papaya_grouped.specs.Given.Finishes.Makings.{Beginning}
+use Rattle.papaya_grouped.specs.Given.Finishes.Maps.{Standing}
+use Rattle.papaya_swept.specs.Given.Finds.Linking.{IsMadeFor}
+use Rattle.papaya_swept.specs.Given.Grows.Finding.{ShowsFinding}
+use Rattle.papaya_grouped.specs.Given.Others.Makings.{WasNew, making_after}
+use Rattle.papaya_grouped.specs.Given.Scenes.Held.{Held, IsAt}
+use Rattle.papaya_grouped.specs.Given.Scenes.Making.{MakingLeads, scene_making}
+use Rattle.papaya_grouped.specs.Given.Scenes.Scene.{Scene}
+use Rattle.papaya_swept.specs.Given.Legal.MapEvents.{HasNotMade}
+use Rattle.papaya_swept.proofs.Given.Moments.MakingSteps.{makings_go_beside}
+use Rattle.papaya_swept.proofs.Given.Finds.Capacities.{capacities_stay, effects_keep_capacities}
+use Rattle.papaya_swept.proofs.Given.Finds.Grows.Steps.{tables_have_been}
+use Rattle.papaya_swept.proofs.Given.Grows.Finding.Alike.{stood_as}
+use Rattle.papaya_swept.proofs.Given.Grows.Finding.Aside.{makings_aside, makings_leave_spots}
+use Rattle.papaya_swept.proofs.Given.Grows.Finding.Beside.{finding_beside}
+use Rattle.papaya_swept.proofs.Given.Grows.Finding.Between.{finding_where, found_beside}
+use Rattle.papaya_swept.proofs.Given.Grows.Finding.Making.Lengths.{effects_keep_lengths}
+use Rattle.papaya_swept.proofs.Given.Grows.Finding.Nexts.{nexts_where}
+use Rattle.papaya_swept.proofs.Given.Grows.Finding.NextsOthers.{makings_keep_nexts}
+use Rattle.papaya_swept.proofs.Given.Grows.Finding.Others.{makings_keep_finding}
+use Rattle.papaya_swept.proofs.Given.Grows.Tries.Others.{makings_keep_tries}
+use Rattle.papaya_swept.proofs.Given.Grows.Tries.Shows.{tries_where}
+use Rattle.papaya_swept.proofs.Given.Legal.Maps.{unmade_maps}
+use Rattle.papaya_swept.proofs.Given.Legal.Sourced.{making_sources, so_aside, sources_so}
+use Rattle.papaya_swept.specs.Given.Grows.Given.Sources.Sources.{ShowsSources}
+use Rattle.papaya_swept.specs.Given.Grows.Given.Sources.Stays.{NoneBorn}
 use Rattle.papaya_deeds.specs.Deeds.{come, named}
-use Rattle.papaya_linear.specs.Shown.{ShowsAnswers}
+use Rattle.papaya_swept.specs.Given.Linear.Shown.{ShowsAnswers}
 use Rattle.papaya_moves.specs.Steps.{ShowsSteps}
 
 module _ {K V : Type 0} (same : K → K → Bool) (hash : ℕ → K → ℕ) (log : Past K V) (m : Moment K V) (known : Known) (s : Scene K V) (all : ShowsAnswers same log m known s) (steps : ShowsSteps same log m known s)

@@ -1,49 +1,49 @@
 -- What a moment shows of steps of calls it shows, too, where rows and ends of maps begin, and take their steps, and where all is reclaimed.
 use Rattle.std.specs.Prelude.{◌≡◌, ◌==◌, ℕ, Bool, not, List, Option, Some, None}
 use Rattle.std.proofs.Common.{refl, ap, sym, subst, ◌∙◌}
-use Rattle.papaya_legal.specs.Given.Seize.World.{Begin, Step}
-use Rattle.papaya_legal.specs.Given.Seize.declared.rows.reclaim_all.ReclaimAll.{ReclaimAll}
-use Rattle.papaya_legal.specs.Given.Seize.declared.rows.settle.Settled.{Settled}
-use Rattle.papaya_legal.specs.Given.Tables.declared.node.Node.{Node}
-use Rattle.papaya_legal.specs.Given.Runs.Same.{is_same}
-use Rattle.papaya_legal.specs.Given.Schedules.declared.effect.Effect.{Effect}
-use Rattle.papaya_legal.specs.Given.Schedules.Effects.{with_effects}
-use Rattle.papaya_legal.specs.Given.Schedules.Moment.{Moment, Remains}
-use Rattle.papaya_legal.specs.Given.Schedules.Transition.{Past}
-use Rattle.papaya_legal.specs.Given.Schedules.Views.{map_at}
-use Rattle.papaya_legal.specs.Given.Callers.Together.{UnderWay}
-use Rattle.papaya_legal.specs.Given.Effects.Effects.{effects_of, known_after}
-use Rattle.papaya_legal.specs.Given.Effects.Known.{Known}
-use Rattle.papaya_legal.specs.Given.Effects.declared.acting.Acting.TheVariants as acts
-use Rattle.papaya_legal.specs.Given.Finishes.Endings.{Finishing}
-use Rattle.papaya_legal.specs.Given.Finishes.Maps.{Standing}
-use Rattle.papaya_legal.specs.Given.Finds.Capacities.{StoodSo}
-use Rattle.papaya_legal.specs.Given.Others.Endings.{ending_after, without_map}
-use Rattle.papaya_legal.specs.Given.Others.Rows.{scene_then}
-use Rattle.papaya_legal.specs.Given.Scenes.Ending.{EndingLeads, ending_begun}
-use Rattle.papaya_legal.specs.Given.Scenes.Held.{Held, IsAt}
-use Rattle.papaya_legal.specs.Given.Scenes.OnSlots.{RowBegins, RowLeads}
-use Rattle.papaya_legal.specs.Given.Scenes.Reclaiming.{IsReclaiming, ReclaimingLeads}
-use Rattle.papaya_legal.specs.Given.Scenes.Rows.{request_of}
-use Rattle.papaya_legal.specs.Given.Scenes.Scene.{IsOnSlot, Scene, slot_of}
-use Rattle.papaya_legal.specs.Given.Scenes.declared.row.RowTold.{RowTold}
-use Rattle.papaya_legal.specs.Given.Scenes.declared.row.SlotCall.{SlotCall}
-use Rattle.papaya_legal.specs.Given.Scenes.declared.row.SlotRow.{SlotRow}
-use Rattle.papaya_legal.proofs.Given.Spots.Effects.{AllAside}
-use Rattle.papaya_legal.proofs.Given.Grows.Finding.Alike.{finding_fewer}
-use Rattle.papaya_legal.proofs.Given.Grows.Finding.Aside.{endings_aside, rows_aside}
-use Rattle.papaya_legal.proofs.Given.Grows.Finding.Between.{finding_where, found_kept}
-use Rattle.papaya_legal.proofs.Given.Grows.Finding.Nexts.{nexts_where}
-use Rattle.papaya_legal.proofs.Given.Grows.Finding.NextsOthers.{endings_keep_nexts, rows_begin_nexts, rows_keep_nexts}
-use Rattle.papaya_legal.proofs.Given.Grows.Finding.Others.{ended_maps, endings_keep_finding, finding_of_none, rows_begin_finding, rows_keep_finding}
-use Rattle.papaya_legal.proofs.Given.Grows.Tries.Others.{endings_keep_tries, rows_begin_tries, rows_keep_tries}
-use Rattle.papaya_legal.proofs.Given.Grows.Tries.Shows.{tries_where}
-use Rattle.papaya_legal.proofs.OfAll.Tells.{gone_by, it_reclaims}
-use Rattle.papaya_legal.proofs.Sourced.{ends_leave, reclaimed_aside, same_maps_aside, so_aside, sources_same, sources_so}
-use Rattle.papaya_acts.specs.Doings.{scene_chosen}
+use Rattle.seize_acts.specs.Given.Seize.World.{Begin, Step}
+use Rattle.seize_acts.specs.Given.Seize.declared.rows.reclaim_all.ReclaimAll.{ReclaimAll}
+use Rattle.seize_acts.specs.Given.Seize.declared.rows.settle.Settled.{Settled}
+use Rattle.papaya_deeds.specs.Given.Tables.declared.node.Node.{Node}
+use Rattle.papaya_deeds.specs.Given.Runs.Same.{is_same}
+use Rattle.papaya_deeds.specs.Given.Schedules.declared.effect.Effect.{Effect}
+use Rattle.papaya_deeds.specs.Given.Schedules.Effects.{with_effects}
+use Rattle.papaya_deeds.specs.Given.Schedules.Moment.{Moment, Remains}
+use Rattle.papaya_deeds.specs.Given.Schedules.Transition.{Past}
+use Rattle.papaya_deeds.specs.Given.Schedules.Views.{map_at}
+use Rattle.papaya_grouped.specs.Given.Callers.Together.{UnderWay}
+use Rattle.papaya_grouped.specs.Given.Effects.Effects.{effects_of, known_after}
+use Rattle.papaya_grouped.specs.Given.Effects.Known.{Known}
+use Rattle.papaya_grouped.specs.Given.Effects.declared.acting.Acting.TheVariants as acts
+use Rattle.papaya_grouped.specs.Given.Finishes.Endings.{Finishing}
+use Rattle.papaya_grouped.specs.Given.Finishes.Maps.{Standing}
+use Rattle.papaya_swept.specs.Given.Finds.Capacities.{StoodSo}
+use Rattle.papaya_grouped.specs.Given.Others.Endings.{ending_after, without_map}
+use Rattle.papaya_grouped.specs.Given.Others.Rows.{scene_then}
+use Rattle.papaya_grouped.specs.Given.Scenes.Ending.{EndingLeads, ending_begun}
+use Rattle.papaya_grouped.specs.Given.Scenes.Held.{Held, IsAt}
+use Rattle.papaya_grouped.specs.Given.Scenes.OnSlots.{RowBegins, RowLeads}
+use Rattle.papaya_grouped.specs.Given.Scenes.Reclaiming.{IsReclaiming, ReclaimingLeads}
+use Rattle.papaya_grouped.specs.Given.Scenes.Rows.{request_of}
+use Rattle.papaya_grouped.specs.Given.Scenes.Scene.{IsOnSlot, Scene, slot_of}
+use Rattle.papaya_grouped.specs.Given.Scenes.declared.row.RowTold.{RowTold}
+use Rattle.papaya_grouped.specs.Given.Scenes.declared.row.SlotCall.{SlotCall}
+use Rattle.papaya_grouped.specs.Given.Scenes.declared.row.SlotRow.{SlotRow}
+use Rattle.papaya_grouped.proofs.Given.Spots.Effects.{AllAside}
+use Rattle.papaya_swept.proofs.Given.Grows.Finding.Alike.{finding_fewer}
+use Rattle.papaya_swept.proofs.Given.Grows.Finding.Aside.{endings_aside, rows_aside}
+use Rattle.papaya_swept.proofs.Given.Grows.Finding.Between.{finding_where, found_kept}
+use Rattle.papaya_swept.proofs.Given.Grows.Finding.Nexts.{nexts_where}
+use Rattle.papaya_swept.proofs.Given.Grows.Finding.NextsOthers.{endings_keep_nexts, rows_begin_nexts, rows_keep_nexts}
+use Rattle.papaya_swept.proofs.Given.Grows.Finding.Others.{ended_maps, endings_keep_finding, finding_of_none, rows_begin_finding, rows_keep_finding}
+use Rattle.papaya_swept.proofs.Given.Grows.Tries.Others.{endings_keep_tries, rows_begin_tries, rows_keep_tries}
+use Rattle.papaya_swept.proofs.Given.Grows.Tries.Shows.{tries_where}
+use Rattle.papaya_swept.proofs.Given.Legal.OfAll.Tells.{gone_by, it_reclaims}
+use Rattle.papaya_swept.proofs.Given.Legal.Sourced.{ends_leave, reclaimed_aside, same_maps_aside, so_aside, sources_same, sources_so}
+use Rattle.papaya_grouped.specs.Given.Acts.Doings.{scene_chosen}
 use Rattle.papaya_deeds.specs.Deeds.{named}
-use Rattle.papaya_linear.specs.Shown.{ShowsAnswers}
-use Rattle.papaya_linear.proofs.MapsPlayed.{IsApart}
+use Rattle.papaya_swept.specs.Given.Linear.Shown.{ShowsAnswers}
+use Rattle.papaya_swept.proofs.Given.Linear.MapsPlayed.{IsApart}
 use Rattle.papaya_moves.specs.Steps.{ShowsSteps}
 
 -- where a choice comes

@@ -2,54 +2,54 @@
 use Rattle.std.specs.Prelude.{◌≡◌, ◌+◌, ℕ, Bool, true, false, List, [], ◌∷◌, Option, Some}
 use Rattle.std.proofs.Common.{refl, ap, sym, subst, ◌∙◌, arith, inl, inr}
 use Rattle.seize_acts.proofs.Answers.{same_some}
-use Rattle.papaya_legal.specs.Given.Tables.declared.node.Node.{Node}
-use Rattle.papaya_legal.specs.Given.Resize.declared.new_table.NewTable.{NewTable}
-use Rattle.papaya_legal.specs.Given.Resize.declared.sum.Sum.{Sum}
-use Rattle.papaya_legal.specs.Given.Raw.declared.machines.progress.Progress.{Progress}
-use Rattle.papaya_legal.specs.Given.Runs.Present.{guard_of, guards_slot_or, slot_of_guard}
-use Rattle.papaya_legal.specs.Given.Runs.Same.{is_same}
-use Rattle.papaya_legal.specs.Given.Schedules.declared.call.Call.{Call}
-use Rattle.papaya_legal.specs.Given.Schedules.declared.call.Call.TheVariants as call
-use Rattle.papaya_legal.specs.Given.Schedules.declared.effect.Effect.{Effect}
-use Rattle.papaya_legal.specs.Given.Schedules.declared.outcome.Outcome.{Outcome}
-use Rattle.papaya_legal.specs.Given.Schedules.Effects.{AtEachEffect}
-use Rattle.papaya_legal.specs.Given.Schedules.Entry.{ByCall}
-use Rattle.papaya_legal.specs.Given.Schedules.Growing.{HasNext, only_looks}
-use Rattle.papaya_legal.specs.Given.Schedules.Handing.{moments_since}
-use Rattle.papaya_legal.specs.Given.Schedules.Lists.{OneOf}
-use Rattle.papaya_legal.specs.Given.Schedules.Lives.{Finds}
-use Rattle.papaya_legal.specs.Given.Schedules.Moment.{Moment, UnderWay as CallThere}
-use Rattle.papaya_legal.specs.Given.Schedules.Terms.{Terms, shards_of}
-use Rattle.papaya_legal.specs.Given.Schedules.Views.{call_of}
-use Rattle.papaya_legal.specs.Given.Callers.Together.{Counting, ForRoom, OnKey, OverAll, UnderWay, UnlessCounts}
-use Rattle.papaya_legal.specs.Given.Effects.Effects.{effects_of}
-use Rattle.papaya_legal.specs.Given.Effects.Known.{Known}
-use Rattle.papaya_legal.specs.Given.Effects.declared.acting.Acting.TheVariants as acts
-use Rattle.papaya_legal.specs.Given.Finishes.Machines.{machine_of}
-use Rattle.papaya_legal.specs.Given.Follows.Calls.{IsCalled}
-use Rattle.papaya_legal.specs.Given.Owes.Looking.{FindAtWork}
-use Rattle.papaya_legal.specs.Given.Purposes.Purposes.{ShowsPurposes}
-use Rattle.papaya_legal.specs.Given.Finds.Linking.{FoundFull}
-use Rattle.papaya_legal.specs.Given.Finds.Life.{StoresOne}
-use Rattle.papaya_legal.specs.Given.Finds.Parts.{FindAll}
-use Rattle.papaya_legal.specs.Given.Finds.Within.{AllIsInOrder, many_of}
-use Rattle.papaya_legal.specs.Given.Grows.Copiers.{making_of_copier}
-use Rattle.papaya_legal.specs.Given.Grows.Nexts.{MayFollow}
-use Rattle.papaya_legal.specs.Given.Scenes.Held.{Held, IsAt}
-use Rattle.papaya_legal.specs.Given.Scenes.Scene.{Scene, slot_of}
-use Rattle.papaya_legal.specs.Given.Scenes.Stepping.{StepLeads}
-use Rattle.papaya_legal.proofs.CallFinds.{steps_find_all}
-use Rattle.papaya_legal.proofs.Given.Follows.Calling.{is_same_is}
-use Rattle.papaya_legal.proofs.Given.Owes.Looking.Calls.{calls_keep_looking}
-use Rattle.papaya_legal.proofs.Given.Finds.Grown.{found_of}
-use Rattle.papaya_legal.proofs.Given.Finds.Steps.{steps_store_one}
-use Rattle.papaya_legal.proofs.Given.Grows.Finding.Links.{such_of_making}
-use Rattle.papaya_legal.proofs.Given.Grows.Finding.Rest.{steps_find_rest}
-use Rattle.papaya_legal.proofs.Given.Grows.Tries.Log.{found_full_so}
-use Rattle.papaya_agrees.specs.Guards.{HasItsGuard, guard_on}
+use Rattle.papaya_deeds.specs.Given.Tables.declared.node.Node.{Node}
+use Rattle.papaya_deeds.specs.Given.Resize.declared.new_table.NewTable.{NewTable}
+use Rattle.papaya_deeds.specs.Given.Resize.declared.sum.Sum.{Sum}
+use Rattle.papaya_deeds.specs.Given.Raw.declared.machines.progress.Progress.{Progress}
+use Rattle.papaya_deeds.specs.Given.Runs.Present.{guard_of, guards_slot_or, slot_of_guard}
+use Rattle.papaya_deeds.specs.Given.Runs.Same.{is_same}
+use Rattle.papaya_deeds.specs.Given.Schedules.declared.call.Call.{Call}
+use Rattle.papaya_deeds.specs.Given.Schedules.declared.call.Call.TheVariants as call
+use Rattle.papaya_deeds.specs.Given.Schedules.declared.effect.Effect.{Effect}
+use Rattle.papaya_deeds.specs.Given.Schedules.declared.outcome.Outcome.{Outcome}
+use Rattle.papaya_deeds.specs.Given.Schedules.Effects.{AtEachEffect}
+use Rattle.papaya_deeds.specs.Given.Schedules.Entry.{ByCall}
+use Rattle.papaya_deeds.specs.Given.Schedules.Growing.{HasNext, only_looks}
+use Rattle.papaya_deeds.specs.Given.Schedules.Handing.{moments_since}
+use Rattle.papaya_deeds.specs.Given.Schedules.Lists.{OneOf}
+use Rattle.papaya_deeds.specs.Given.Schedules.Lives.{Finds}
+use Rattle.papaya_deeds.specs.Given.Schedules.Moment.{Moment, UnderWay as CallThere}
+use Rattle.papaya_deeds.specs.Given.Schedules.Terms.{Terms, shards_of}
+use Rattle.papaya_deeds.specs.Given.Schedules.Views.{call_of}
+use Rattle.papaya_grouped.specs.Given.Callers.Together.{Counting, ForRoom, OnKey, OverAll, UnderWay, UnlessCounts}
+use Rattle.papaya_grouped.specs.Given.Effects.Effects.{effects_of}
+use Rattle.papaya_grouped.specs.Given.Effects.Known.{Known}
+use Rattle.papaya_grouped.specs.Given.Effects.declared.acting.Acting.TheVariants as acts
+use Rattle.papaya_grouped.specs.Given.Finishes.Machines.{machine_of}
+use Rattle.papaya_grouped.specs.Given.Follows.Calls.{IsCalled}
+use Rattle.papaya_swept.specs.Given.Owes.Looking.{FindAtWork}
+use Rattle.papaya_swept.specs.Given.Purposes.Purposes.{ShowsPurposes}
+use Rattle.papaya_swept.specs.Given.Finds.Linking.{FoundFull}
+use Rattle.papaya_swept.specs.Given.Finds.Life.{StoresOne}
+use Rattle.papaya_swept.specs.Given.Finds.Parts.{FindAll}
+use Rattle.papaya_swept.specs.Given.Finds.Within.{AllIsInOrder, many_of}
+use Rattle.papaya_swept.specs.Given.Grows.Copiers.{making_of_copier}
+use Rattle.papaya_swept.specs.Given.Grows.Nexts.{MayFollow}
+use Rattle.papaya_grouped.specs.Given.Scenes.Held.{Held, IsAt}
+use Rattle.papaya_grouped.specs.Given.Scenes.Scene.{Scene, slot_of}
+use Rattle.papaya_grouped.specs.Given.Scenes.Stepping.{StepLeads}
+use Rattle.papaya_swept.proofs.Given.Legal.CallFinds.{steps_find_all}
+use Rattle.papaya_grouped.proofs.Given.Follows.Calling.{is_same_is}
+use Rattle.papaya_swept.proofs.Given.Owes.Looking.Calls.{calls_keep_looking}
+use Rattle.papaya_swept.proofs.Given.Finds.Grown.{found_of}
+use Rattle.papaya_swept.proofs.Given.Finds.Steps.{steps_store_one}
+use Rattle.papaya_swept.proofs.Given.Grows.Finding.Links.{such_of_making}
+use Rattle.papaya_swept.proofs.Given.Grows.Finding.Rest.{steps_find_rest}
+use Rattle.papaya_swept.proofs.Given.Grows.Tries.Log.{found_full_so}
+use Rattle.papaya_grouped.specs.Given.Agrees.Guards.{HasItsGuard, guard_on}
 use Rattle.papaya_deeds.specs.Deeds.{Entry, Steps, map_of_call, moment, named}
 use Rattle.papaya_deeds.specs.History.{past}
-use Rattle.papaya_linear.specs.Shown.{ShowsAnswers}
+use Rattle.papaya_swept.specs.Given.Linear.Shown.{ShowsAnswers}
 use Rattle.papaya_moves.specs.Finds.{FindsIts}
 use Rattle.papaya_moves.specs.Steps.{EachStoresOne, ShowsSteps, StepsMay}
 use Rattle.papaya_moves.proofs.Steps.TablesLast.{tables_last}

@@ -2,49 +2,49 @@
 use Rattle.std.specs.Prelude.{◌≡◌, ◌⊎◌, ◌<◌, ℕ, Bool, true, List, [], ◌∷◌, length, Option, Some, None}
 use Rattle.std.proofs.Common.{refl, ap, sym, subst, ◌∙◌, arith, inl, inr}
 use Rattle.seize_acts.proofs.Answers.{same_some}
-use Rattle.papaya_legal.specs.Given.Seize.World.{Step}
-use Rattle.papaya_legal.specs.Given.Seize.declared.progress.Progress.{Progress as Making}
-use Rattle.papaya_legal.specs.Given.Seize.declared.progress.Progress.TheVariants as progress
-use Rattle.papaya_legal.specs.Given.Tables.Lengths.{entries_of}
-use Rattle.papaya_legal.specs.Given.Tables.declared.setting.Setting.{Setting}
-use Rattle.papaya_legal.specs.Given.Schedules.declared.effect.Effect.{Effect}
-use Rattle.papaya_legal.specs.Given.Schedules.declared.outcome.Outcome.{Outcome}
-use Rattle.papaya_legal.specs.Given.Schedules.declared.outcome.Outcome.TheVariants as outcome
-use Rattle.papaya_legal.specs.Given.Schedules.Beginning.{with_call, with_map}
-use Rattle.papaya_legal.specs.Given.Schedules.Effects.{with_effects}
-use Rattle.papaya_legal.specs.Given.Schedules.Growing.{Has}
-use Rattle.papaya_legal.specs.Given.Schedules.Moment.{MapThere, Moment, UnderWay as CallThere}
-use Rattle.papaya_legal.specs.Given.Schedules.Terms.{Terms}
-use Rattle.papaya_legal.specs.Given.Schedules.Views.{capacity_or, map_at}
-use Rattle.papaya_legal.specs.Given.Callers.Together.{OverAll}
-use Rattle.papaya_legal.specs.Given.Effects.Effects.{effects_of, known_after}
-use Rattle.papaya_legal.specs.Given.Effects.Known.{Known}
-use Rattle.papaya_legal.specs.Given.Effects.declared.acting.Acting.TheVariants as acts
-use Rattle.papaya_legal.specs.Given.Finishes.Makings.{Beginning}
-use Rattle.papaya_legal.specs.Given.Finishes.Maps.{with_call as with_call_of}
-use Rattle.papaya_legal.specs.Given.Finds.Linking.{IsMadeFor}
-use Rattle.papaya_legal.specs.Given.Finds.Within.{AllIsInOrder, many_of}
-use Rattle.papaya_legal.specs.Given.Follows.Calling.{come_to, told}
-use Rattle.papaya_legal.specs.Given.Named.Seen.{kind_of}
-use Rattle.papaya_legal.specs.Given.Others.Endings.{ending_after, without_map}
-use Rattle.papaya_legal.specs.Given.Others.Makings.{WasNew, making_after}
-use Rattle.papaya_legal.specs.Given.Others.Rows.{scene_then}
-use Rattle.papaya_legal.specs.Given.Others.Walks.{given_up}
-use Rattle.papaya_legal.specs.Given.Scenes.Replying.{scene_with, unless_stopped}
-use Rattle.papaya_legal.specs.Given.Scenes.Scene.{Scene, slot_of}
-use Rattle.papaya_legal.specs.Given.Scenes.Stepping.{scene_after}
-use Rattle.papaya_legal.specs.MapEvents.{HasNotMade}
-use Rattle.papaya_legal.proofs.Sourced.{sources_so}
-use Rattle.papaya_legal.specs.Given.Grows.Given.Sources.Stays.{NoneBorn}
-use Rattle.papaya_legal.proofs.Given.Grows.Given.Sources.Steps.{calls_keep_sources}
-use Rattle.papaya_acts.specs.Acts.{begun}
+use Rattle.seize_acts.specs.Given.Seize.World.{Step}
+use Rattle.seize_acts.specs.Given.Seize.declared.progress.Progress.{Progress as Making}
+use Rattle.seize_acts.specs.Given.Seize.declared.progress.Progress.TheVariants as progress
+use Rattle.papaya_deeds.specs.Given.Tables.Lengths.{entries_of}
+use Rattle.papaya_deeds.specs.Given.Tables.declared.setting.Setting.{Setting}
+use Rattle.papaya_deeds.specs.Given.Schedules.declared.effect.Effect.{Effect}
+use Rattle.papaya_deeds.specs.Given.Schedules.declared.outcome.Outcome.{Outcome}
+use Rattle.papaya_deeds.specs.Given.Schedules.declared.outcome.Outcome.TheVariants as outcome
+use Rattle.papaya_deeds.specs.Given.Schedules.Beginning.{with_call, with_map}
+use Rattle.papaya_deeds.specs.Given.Schedules.Effects.{with_effects}
+use Rattle.papaya_deeds.specs.Given.Schedules.Growing.{Has}
+use Rattle.papaya_deeds.specs.Given.Schedules.Moment.{MapThere, Moment, UnderWay as CallThere}
+use Rattle.papaya_deeds.specs.Given.Schedules.Terms.{Terms}
+use Rattle.papaya_deeds.specs.Given.Schedules.Views.{capacity_or, map_at}
+use Rattle.papaya_grouped.specs.Given.Callers.Together.{OverAll}
+use Rattle.papaya_grouped.specs.Given.Effects.Effects.{effects_of, known_after}
+use Rattle.papaya_grouped.specs.Given.Effects.Known.{Known}
+use Rattle.papaya_grouped.specs.Given.Effects.declared.acting.Acting.TheVariants as acts
+use Rattle.papaya_grouped.specs.Given.Finishes.Makings.{Beginning}
+use Rattle.papaya_grouped.specs.Given.Finishes.Maps.{with_call as with_call_of}
+use Rattle.papaya_swept.specs.Given.Finds.Linking.{IsMadeFor}
+use Rattle.papaya_swept.specs.Given.Finds.Within.{AllIsInOrder, many_of}
+use Rattle.papaya_grouped.specs.Given.Follows.Calling.{come_to, told}
+use Rattle.papaya_grouped.specs.Given.Named.Seen.{kind_of}
+use Rattle.papaya_grouped.specs.Given.Others.Endings.{ending_after, without_map}
+use Rattle.papaya_grouped.specs.Given.Others.Makings.{WasNew, making_after}
+use Rattle.papaya_grouped.specs.Given.Others.Rows.{scene_then}
+use Rattle.papaya_grouped.specs.Given.Others.Walks.{given_up}
+use Rattle.papaya_grouped.specs.Given.Scenes.Replying.{scene_with, unless_stopped}
+use Rattle.papaya_grouped.specs.Given.Scenes.Scene.{Scene, slot_of}
+use Rattle.papaya_grouped.specs.Given.Scenes.Stepping.{scene_after}
+use Rattle.papaya_swept.specs.Given.Legal.MapEvents.{HasNotMade}
+use Rattle.papaya_swept.proofs.Given.Legal.Sourced.{sources_so}
+use Rattle.papaya_swept.specs.Given.Grows.Given.Sources.Stays.{NoneBorn}
+use Rattle.papaya_swept.proofs.Given.Grows.Given.Sources.Steps.{calls_keep_sources}
+use Rattle.papaya_grouped.specs.Given.Acts.Acts.{begun}
 use Rattle.papaya_deeds.specs.Deeds.{Begins, Deed, Ends, Entry, Leaves, Makes, MapFails, MapGoes, Opens, ReclaimsAll, Registers, Replies, Shuts, Steps, Stops, Tends, acted_on, after, come, map_of_call, moment, named, worked}
 use Rattle.papaya_deeds.specs.History.{past}
-use Rattle.papaya_played.specs.Play.{call_for, is_over, is_refusal, making_outcome, outcome_of, row_deed, settled_outcome}
-use Rattle.papaya_linear.proofs.CallsGo.{calls_step}
-use Rattle.papaya_linear.proofs.Like.{IsLike, likes_answer}
-use Rattle.papaya_linear.proofs.OthersGo.{all_step, ends_step, makings_step, maps_come, maps_go, rows_step}
-use Rattle.papaya_linear.proofs.RowsPlayed.{IsOfRow, is_of_row, rows_like}
+use Rattle.papaya_grouped.specs.Given.Played.Play.{call_for, is_over, is_refusal, making_outcome, outcome_of, row_deed, settled_outcome}
+use Rattle.papaya_swept.proofs.Given.Linear.CallsGo.{calls_step}
+use Rattle.papaya_swept.proofs.Given.Linear.Like.{IsLike, likes_answer}
+use Rattle.papaya_swept.proofs.Given.Linear.OthersGo.{all_step, ends_step, makings_step, maps_come, maps_go, rows_step}
+use Rattle.papaya_swept.proofs.Given.Linear.RowsPlayed.{IsOfRow, is_of_row, rows_like}
 use Rattle.papaya_swept.proofs.Calls.{sweeps_begin, sweeps_step, sweeps_stop, sweeps_take}
 use Rattle.papaya_swept.proofs.Instance.{sweeps_are_kept}
 use Rattle.papaya_swept.proofs.Kept.{IsKept, alone, coming, comes_by}

@@ -1,31 +1,31 @@
 -- A step of a call, of whichever kind: it asks for a growth only if it is not short of one, and each is as short as the moment says after it.
 use Rattle.std.specs.Prelude.{◌≡◌, ℕ, ◌==◌, Bool, true, false, List, Option, Some, None, option_map, ◌⊎◌, if◌then◌else◌}
 use Rattle.std.proofs.Common.{refl, ap, sym, subst, ◌∙◌, inl, inr}
-use Rattle.papaya_moments.specs.Given.Tables.declared.node.Node.{Node}
-use Rattle.papaya_moments.specs.Given.Raw.declared.machines.machine.Machine.{Machine}
-use Rattle.papaya_moments.specs.Given.Raw.declared.machines.progress.Progress.{Progress}
-use Rattle.papaya_moments.specs.Given.Raw.declared.machines.progress.Progress.TheVariants as said_so
-use Rattle.papaya_moments.specs.Given.Runs.Same.{is_same}
-use Rattle.papaya_moments.specs.Given.SeizeWords.declared.fault.Fault.TheVariants.{Memory}
-use Rattle.papaya_moments.specs.Given.Schedules.declared.effect.Effect.{Effect}
-use Rattle.papaya_moments.specs.Given.Schedules.declared.effect.Effect.TheVariants as effect
-use Rattle.papaya_moments.specs.Given.Schedules.Effects.{with_effects}
-use Rattle.papaya_moments.specs.Given.Schedules.Moment.{UnderWay as CallThere, Moment}
-use Rattle.papaya_moments.specs.Given.Schedules.Views.{call_of}
-use Rattle.papaya_moments.specs.Given.Teller.Changed.{kind_of}
-use Rattle.papaya_moments.specs.Given.Teller.declared.changed.Changed.{Changed}
-use Rattle.papaya_moments.specs.Given.Teller.declared.changed.Changed.TheVariants as changed
-use Rattle.papaya_moments.specs.Given.Teller.declared.changed.Kind.{Kind}
-use Rattle.papaya_moments.specs.Given.Teller.declared.changed.Kind.TheVariants as kind
-use Rattle.papaya_moments.specs.Given.Callers.Together.{UnderWay}
-use Rattle.papaya_moments.specs.Given.Effects.Effects.{table_at, effects_of}
-use Rattle.papaya_moments.specs.Given.Effects.Known.{Known}
-use Rattle.papaya_moments.specs.Given.Effects.declared.acting.Acting.{Acting}
-use Rattle.papaya_moments.specs.Given.Effects.declared.acting.Acting.TheVariants as acts
-use Rattle.papaya_moments.specs.Given.Finishes.Machines.{machine_of}
-use Rattle.papaya_moments.proofs.Given.Follows.Steps.{WentTo, went_to}
-use Rattle.papaya_moments.proofs.Given.Hands.Asking.{which}
-use Rattle.papaya_moments.specs.Whole.{ShowsWhole}
+use Rattle.papaya_holds.specs.Given.Tables.declared.node.Node.{Node}
+use Rattle.papaya_holds.specs.Given.Raw.declared.machines.machine.Machine.{Machine}
+use Rattle.papaya_holds.specs.Given.Raw.declared.machines.progress.Progress.{Progress}
+use Rattle.papaya_holds.specs.Given.Raw.declared.machines.progress.Progress.TheVariants as said_so
+use Rattle.papaya_lives.specs.Given.Runs.Same.{is_same}
+use Rattle.papaya_holds.specs.Given.SeizeWords.declared.fault.Fault.TheVariants.{Memory}
+use Rattle.papaya_lives.specs.Given.Schedules.declared.effect.Effect.{Effect}
+use Rattle.papaya_lives.specs.Given.Schedules.declared.effect.Effect.TheVariants as effect
+use Rattle.papaya_lives.specs.Given.Schedules.Effects.{with_effects}
+use Rattle.papaya_lives.specs.Given.Schedules.Moment.{UnderWay as CallThere, Moment}
+use Rattle.papaya_lives.specs.Given.Schedules.Views.{call_of}
+use Rattle.papaya_lives.specs.Given.Teller.Changed.{kind_of}
+use Rattle.papaya_lives.specs.Given.Teller.declared.changed.Changed.{Changed}
+use Rattle.papaya_lives.specs.Given.Teller.declared.changed.Changed.TheVariants as changed
+use Rattle.papaya_lives.specs.Given.Teller.declared.changed.Kind.{Kind}
+use Rattle.papaya_lives.specs.Given.Teller.declared.changed.Kind.TheVariants as kind
+use Rattle.papaya_holds.specs.Given.Callers.Together.{UnderWay}
+use Rattle.papaya_lives.specs.Given.Effects.Effects.{table_at, effects_of}
+use Rattle.papaya_lives.specs.Given.Effects.Known.{Known}
+use Rattle.papaya_lives.specs.Given.Effects.declared.acting.Acting.{Acting}
+use Rattle.papaya_lives.specs.Given.Effects.declared.acting.Acting.TheVariants as acts
+use Rattle.papaya_holds.specs.Given.Finishes.Machines.{machine_of}
+use Rattle.papaya_lives.proofs.Given.Follows.Steps.{WentTo, went_to}
+use Rattle.papaya_lives.proofs.Given.Hands.Asking.{which}
+use Rattle.papaya_lives.specs.Given.Moments.Whole.{ShowsWhole}
 use Rattle.papaya_owes.specs.Short.{fault_of, ShowsShort, FindGrown, CallsKeepShort}
 use Rattle.papaya_owes.proofs.Calls.{goes_as_one}
 use Rattle.papaya_owes.proofs.Fields.{all_by, field_own, field_other}
@@ -34,10 +34,10 @@ use Rattle.papaya_owes.proofs.Short.Effects.{short_by, short_kept, effect_short,
 use Rattle.papaya_owes.proofs.Short.Unmade.{unmade_so}
 use Rattle.papaya_owes.proofs.Tables.Held.{call_unmade}
 use Rattle.papaya_owes.proofs.Tables.Kinds.{MakesWhich, which_made, no_room}
-use Rattle.papaya_moments.proofs.Given.Scenes.Goes.{goes_as}
-use Rattle.papaya_moments.specs.Given.Scenes.Held.{Held, IsAt}
-use Rattle.papaya_moments.specs.Given.Scenes.Scene.{Scene}
-use Rattle.papaya_moments.specs.Given.Scenes.Stepping.{StepLeads, going_on, has_ended, scene_after}
+use Rattle.papaya_lives.proofs.Given.Scenes.Goes.{goes_as}
+use Rattle.papaya_lives.specs.Given.Scenes.Held.{Held, IsAt}
+use Rattle.papaya_lives.specs.Given.Scenes.Scene.{Scene}
+use Rattle.papaya_lives.specs.Given.Scenes.Stepping.{StepLeads, going_on, has_ended, scene_after}
 
 -- a table is none of shards
 not_shards : (len limit turn : ℕ) (q : Bool) → (if q then kind.Pair else kind.Table len limit turn) ≡ kind.Shards → ⊥

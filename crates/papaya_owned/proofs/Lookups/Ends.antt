@@ -1,31 +1,31 @@
 -- A lookup comes to its end, and takes its steps over a memory that is lent.
 use Rattle.std.specs.Prelude.{◌≡◌, ◌≢◌, ◌⊎◌, ℕ, ◌<◌, Bool, Option, List, length}
 use Rattle.std.proofs.Common.{refl, sym, ◌∙◌, ap, subst, arith, inl, inr}
-use Rattle.seize_words.specs.Mem.{Mem, Can, Took, Gives, value_at}
-use Rattle.seize_words.specs.Op.{Op, Out, Load}
-use Rattle.seize_words.specs.Plan.{Then, Do, Turn, Now, May, MaySee, Steps, Ends as Comes}
-use Rattle.seize_words.specs.declared.at.At.{At}
-use Rattle.seize_words.specs.declared.fault.Fault.{Fault}
-use Rattle.seize_words.specs.declared.lent.Lent.{Lent}
+use Rattle.seize.specs.Given.SeizeWords.Mem.{Mem, Can, Took, Gives, value_at}
+use Rattle.seize.specs.Given.SeizeWords.Op.{Op, Out, Load}
+use Rattle.seize.specs.Given.SeizeWords.Plan.{Then, Do, Turn, Now, May, MaySee, Steps, Ends as Comes}
+use Rattle.seize.specs.Given.SeizeWords.declared.at.At.{At}
+use Rattle.seize.specs.Given.SeizeWords.declared.fault.Fault.{Fault}
+use Rattle.seize.specs.Given.SeizeWords.declared.lent.Lent.{Lent}
 use Rattle.seize.specs.declared.progress.Progress.{Progress}
 use Rattle.seize.specs.declared.progress.Progress.TheVariants as progress
-use Rattle.papaya_tables.specs.declared.node.Node.{Node}
-use Rattle.papaya_tables.specs.declared.resize_mode.ResizeMode.{ResizeMode}
-use Rattle.papaya_tables.specs.declared.setting.Setting.{Setting}
-use Rattle.papaya_resize.specs.Lookup.{lookup_plan, plan_at, link_found, word_found}
-use Rattle.papaya_tables.specs.Trials.{place_tried}
-use Rattle.papaya_tables.specs.TablePlaces.{at_word}
-use Rattle.papaya_tables.specs.declared.table_words.TheConstants.{NEXT}
-use Rattle.seize_words.specs.declared.at.At.TheVariants.{Root}
-use Rattle.papaya_resize.specs.declared.lookup.Lookup.{Lookup}
-use Rattle.papaya_resize.specs.declared.lookup.Looking.{Looking}
-use Rattle.papaya_resize.specs.declared.lookup.Looking.TheVariants as at
+use Rattle.papaya_straight.specs.Given.Tables.declared.node.Node.{Node}
+use Rattle.papaya_straight.specs.Given.Tables.declared.resize_mode.ResizeMode.{ResizeMode}
+use Rattle.papaya_straight.specs.Given.Tables.declared.setting.Setting.{Setting}
+use Rattle.papaya_shown.specs.Given.Resize.Lookup.{lookup_plan, plan_at, link_found, word_found}
+use Rattle.papaya_straight.specs.Given.Tables.Trials.{place_tried}
+use Rattle.papaya_straight.specs.Given.Tables.TablePlaces.{at_word}
+use Rattle.papaya_straight.specs.Given.Tables.declared.table_words.TheConstants.{NEXT}
+use Rattle.seize.specs.Given.SeizeWords.declared.at.At.TheVariants.{Root}
+use Rattle.papaya_shown.specs.Given.Resize.declared.lookup.Lookup.{Lookup}
+use Rattle.papaya_shown.specs.Given.Resize.declared.lookup.Looking.{Looking}
+use Rattle.papaya_shown.specs.Given.Resize.declared.lookup.Looking.TheVariants as at
 use Rattle.papaya_whole.specs.Given.Rule.Chart.{Chart}
 use Rattle.papaya_whole.specs.Given.Rule.InWorld.{SameBlocks}
 use Rattle.papaya_whole.specs.Given.Rule.Lasts.{Lasts}
 use Rattle.papaya_whole.specs.Given.Rule.Maps.{spot_of}
 use Rattle.papaya_whole.specs.Given.Rule.Words.{Blocks}
-use Rattle.papaya_tables.specs.Chunks.{is_incremental}
+use Rattle.papaya_straight.specs.Given.Tables.Chunks.{is_incremental}
 use Rattle.papaya_whole.specs.Given.Points.FactsLooks.{LookingFacts}
 use Rattle.papaya_whole.specs.Given.Points.Measures.{IsBelow, EndsFrom, ends}
 use Rattle.papaya_whole.specs.Given.Points.MeasuresLooks.{number_of_lookup, number_at_looking}

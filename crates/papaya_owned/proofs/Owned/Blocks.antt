@@ -3,10 +3,10 @@ use Rattle.std.specs.Prelude.{◌≡◌, ℕ, zero, suc, ◌+◌, ◌-◌, ◌*�
 use Rattle.std.proofs.Common.{sym, ◌∙◌, ap, subst, arith, ⊎_elim, eqb, ltb}
 use Rattle.std.proofs.lemmas.Bool.Decides.{nat_tests}
 use Rattle.std.proofs.lemmas.Bool.{cases_lt, eqb-true, false_from_ne_true}
-use Rattle.seize_words.specs.Mem.{Mem, word_at}
-use Rattle.seize_words.specs.declared.at.At.TheVariants.{Word}
-use Rattle.papaya_tables.specs.declared.table_words.TheConstants.{NEXT, PLACES}
-use Rattle.papaya_tables.specs.declared.node.Node.{Node}
+use Rattle.seize.specs.Given.SeizeWords.Mem.{Mem, word_at}
+use Rattle.seize.specs.Given.SeizeWords.declared.at.At.TheVariants.{Word}
+use Rattle.papaya_straight.specs.Given.Tables.declared.table_words.TheConstants.{NEXT, PLACES}
+use Rattle.papaya_straight.specs.Given.Tables.declared.node.Node.{Node}
 use Rattle.papaya_whole.specs.Given.Rule.Chart.{Chart, Phase, Place, Empty, Holds}
 use Rattle.papaya_whole.specs.Given.Rule.Maps.{spot_of}
 use Rattle.papaya_whole.specs.Given.Rule.Rule.{Rule}

@@ -3,22 +3,22 @@ use Rattle.std.specs.Prelude.{◌≡◌, ℕ, Bool, Option, Some, Result, ◌⊎
 use Rattle.std.specs.Int.{IsPowerOfTwo}
 use Rattle.std.proofs.Common.{refl, sym, subst, inl, inr}
 use denote.Ref.{Bor}
-use Rattle.seize_words.specs.Mem.{Mem, Took, value_at}
-use Rattle.seize_words.specs.Plan.{Plan, Steps}
-use Rattle.seize_words.specs.declared.fault.Fault.{Fault}
+use Rattle.seize.specs.Given.SeizeWords.Mem.{Mem, Took, value_at}
+use Rattle.seize.specs.Given.SeizeWords.Plan.{Plan, Steps}
+use Rattle.seize.specs.Given.SeizeWords.declared.fault.Fault.{Fault}
 use Rattle.seize.specs.declared.progress.Progress.{Progress}
-use Rattle.papaya_tables.specs.Chunks.{is_incremental}
-use Rattle.papaya_tables.specs.declared.node.Node.{Node}
-use Rattle.papaya_tables.specs.declared.setting.Setting.{Setting}
-use Rattle.papaya_raw.specs.Answers.{ended}
-use Rattle.papaya_raw.specs.Call.{call_plan, plan_at}
-use Rattle.papaya_raw.specs.declared.machines.answer.Called.{Called}
-use Rattle.papaya_raw.specs.declared.machines.answer.Called.TheVariants as called
-use Rattle.papaya_raw.specs.declared.machines.answer.End.{End}
-use Rattle.papaya_raw.specs.declared.machines.answer.End.TheVariants as ends
-use Rattle.papaya_raw.specs.declared.machines.call.KeyCall.{KeyCall}
-use Rattle.papaya_raw.specs.declared.machines.call.Calling.{Calling}
-use Rattle.papaya_raw.specs.declared.machines.call.Calling.TheVariants as at
+use Rattle.papaya_straight.specs.Given.Tables.Chunks.{is_incremental}
+use Rattle.papaya_straight.specs.Given.Tables.declared.node.Node.{Node}
+use Rattle.papaya_straight.specs.Given.Tables.declared.setting.Setting.{Setting}
+use Rattle.papaya_straight.specs.Given.Raw.Answers.{ended}
+use Rattle.papaya_straight.specs.Given.Raw.Call.{call_plan, plan_at}
+use Rattle.papaya_straight.specs.Given.Raw.declared.machines.answer.Called.{Called}
+use Rattle.papaya_straight.specs.Given.Raw.declared.machines.answer.Called.TheVariants as called
+use Rattle.papaya_straight.specs.Given.Raw.declared.machines.answer.End.{End}
+use Rattle.papaya_straight.specs.Given.Raw.declared.machines.answer.End.TheVariants as ends
+use Rattle.papaya_straight.specs.Given.Raw.declared.machines.call.KeyCall.{KeyCall}
+use Rattle.papaya_straight.specs.Given.Raw.declared.machines.call.Calling.{Calling}
+use Rattle.papaya_straight.specs.Given.Raw.declared.machines.call.Calling.TheVariants as at
 use Rattle.papaya_whole.specs.Given.Rule.Chart.{Chart}
 use Rattle.papaya_whole.specs.Given.Rule.Maps.{spot_of}
 use Rattle.papaya_whole.specs.Given.Rule.Rule.{Rule}

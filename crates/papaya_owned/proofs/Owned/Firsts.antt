@@ -2,10 +2,10 @@
 use Rattle.std.specs.Prelude.{◌≡◌, ℕ, zero, suc, ◌≤◌, max, Bool, List, [], ◌∷◌, if◌then◌else◌, Some}
 use Rattle.std.proofs.Common.{refl, sym, ◌∙◌, ap, subst, arith, inl, inr}
 use Rattle.std.proofs.lemmas.Bool.{eq-eqb, ne_eqb}
-use Rattle.seize_words.specs.Mem.{Mem, word_at}
-use Rattle.seize_words.specs.declared.at.At.TheVariants.{Root}
-use Rattle.papaya_tables.specs.declared.node.Node.{Node}
-use Rattle.papaya_tables.specs.declared.setting.Setting.{Setting}
+use Rattle.seize.specs.Given.SeizeWords.Mem.{Mem, word_at}
+use Rattle.seize.specs.Given.SeizeWords.declared.at.At.TheVariants.{Root}
+use Rattle.papaya_straight.specs.Given.Tables.declared.node.Node.{Node}
+use Rattle.papaya_straight.specs.Given.Tables.declared.setting.Setting.{Setting}
 use Rattle.papaya_shown.specs.Chain.{CountsTables, behind, shape_of, shapes_on, word_or_none}
 use Rattle.papaya_shown.specs.Shown.{Stands}
 use Rattle.papaya_shown.proofs.Chains.{behind_leads}

@@ -2,45 +2,45 @@
 use Rattle.std.specs.Prelude.{◌==◌, ◌^◌, ◌<◌, Option, Some, None, Ok, Err, if◌then◌else◌}
 use Rattle.std.proofs.Common.{◌≡◌, ◌≢◌, ℕ, Bool, true, false, refl, sym, subst, arith, eqb-true}
 use Rattle.std.proofs.lemmas.Bool.{eqb-false}
-use Rattle.seize_words.specs.Mem.{Mem, value_at, Took}
-use Rattle.seize_words.specs.Op.{Out, Found, Stored, Exchanged, Made, Taken, Roomed}
-use Rattle.seize_words.specs.Plan.{Steps}
+use Rattle.seize.specs.Given.SeizeWords.Mem.{Mem, value_at, Took}
+use Rattle.seize.specs.Given.SeizeWords.Op.{Out, Found, Stored, Exchanged, Made, Taken, Roomed}
+use Rattle.seize.specs.Given.SeizeWords.Plan.{Steps}
 use Rattle.seize.specs.declared.progress.Progress.{Progress}
 use Rattle.seize.specs.declared.progress.Progress.TheVariants as progress
 use Rattle.seize.specs.declared.rows.settle.Settled.{Settled}
 use Rattle.seize.specs.declared.rows.settle.Settled.TheVariants as settled
-use Rattle.papaya_raw.specs.Answers.{ended}
-use Rattle.papaya_raw.specs.Call.{makes_of, root_found, next_found, dropped, key_read, pair_read, word_read, word_found, tried, first_made, next_made, disposed, helped, copied, plan_at}
-use Rattle.papaya_raw.specs.CallPoints.{word_to, going, standing, over, ending, tableless, at_free, at_last, at_pair, told_of, entering, went_on, changed, counted, having_met}
-use Rattle.papaya_tables.specs.Chunks.{is_incremental}
-use Rattle.papaya_resize.specs.Copier.{copier_plan}
-use Rattle.papaya_resize.specs.CopierStates.{copying_all}
-use Rattle.papaya_resize.specs.Dispose.{disposing, dispose_plan}
-use Rattle.papaya_tables.specs.Finding.{may_name}
-use Rattle.papaya_resize.specs.NewTable.{new_table_plan}
-use Rattle.papaya_tables.specs.Trials.{next_trial, with_met}
-use Rattle.papaya_tables.specs.declared.marks.TheConstants.{TOMBSTONE}
-use Rattle.papaya_tables.specs.declared.node.Node.{Node}
-use Rattle.papaya_resize.specs.declared.outcome.Outcome.{Outcome}
-use Rattle.papaya_resize.specs.declared.outcome.Outcome.TheVariants as outcome
-use Rattle.papaya_tables.specs.declared.table.Table.{Table}
-use Rattle.papaya_raw.specs.declared.machines.answer.KeyAnswer.{KeyAnswer}
-use Rattle.papaya_raw.specs.declared.machines.answer.KeyAnswer.TheVariants as answers
-use Rattle.papaya_raw.specs.declared.machines.answer.Called.{Called}
-use Rattle.papaya_raw.specs.declared.machines.answer.Called.TheVariants as called
-use Rattle.papaya_raw.specs.declared.machines.answer.End.{End}
-use Rattle.papaya_raw.specs.declared.machines.answer.End.TheVariants as ends
-use Rattle.papaya_raw.specs.declared.machines.answer.Missing.TheVariants as missing
-use Rattle.papaya_raw.specs.declared.machines.answer.There.{There}
-use Rattle.papaya_raw.specs.declared.machines.answer.There.TheVariants as there
-use Rattle.papaya_raw.specs.declared.machines.call.KeyCall.{KeyCall}
-use Rattle.papaya_raw.specs.declared.machines.call.Calling.{Calling}
-use Rattle.papaya_raw.specs.declared.machines.call.Calling.TheVariants as at
-use Rattle.papaya_resize.specs.declared.copier.Copier.{Copier}
-use Rattle.papaya_resize.specs.declared.dispose.Dispose.{Dispose}
-use Rattle.papaya_tables.specs.declared.finding.Finding.{Finding}
-use Rattle.papaya_tables.specs.declared.finding.Finding.TheVariants as finds
-use Rattle.papaya_resize.specs.declared.new_table.NewTable.{NewTable}
+use Rattle.papaya_straight.specs.Given.Raw.Answers.{ended}
+use Rattle.papaya_straight.specs.Given.Raw.Call.{makes_of, root_found, next_found, dropped, key_read, pair_read, word_read, word_found, tried, first_made, next_made, disposed, helped, copied, plan_at}
+use Rattle.papaya_straight.specs.Given.Raw.CallPoints.{word_to, going, standing, over, ending, tableless, at_free, at_last, at_pair, told_of, entering, went_on, changed, counted, having_met}
+use Rattle.papaya_straight.specs.Given.Tables.Chunks.{is_incremental}
+use Rattle.papaya_shown.specs.Given.Resize.Copier.{copier_plan}
+use Rattle.papaya_shown.specs.Given.Resize.CopierStates.{copying_all}
+use Rattle.papaya_shown.specs.Given.Resize.Dispose.{disposing, dispose_plan}
+use Rattle.papaya_straight.specs.Given.Tables.Finding.{may_name}
+use Rattle.papaya_shown.specs.Given.Resize.NewTable.{new_table_plan}
+use Rattle.papaya_straight.specs.Given.Tables.Trials.{next_trial, with_met}
+use Rattle.papaya_straight.specs.Given.Tables.declared.marks.TheConstants.{TOMBSTONE}
+use Rattle.papaya_straight.specs.Given.Tables.declared.node.Node.{Node}
+use Rattle.papaya_shown.specs.Given.Resize.declared.outcome.Outcome.{Outcome}
+use Rattle.papaya_shown.specs.Given.Resize.declared.outcome.Outcome.TheVariants as outcome
+use Rattle.papaya_straight.specs.Given.Tables.declared.table.Table.{Table}
+use Rattle.papaya_straight.specs.Given.Raw.declared.machines.answer.KeyAnswer.{KeyAnswer}
+use Rattle.papaya_straight.specs.Given.Raw.declared.machines.answer.KeyAnswer.TheVariants as answers
+use Rattle.papaya_straight.specs.Given.Raw.declared.machines.answer.Called.{Called}
+use Rattle.papaya_straight.specs.Given.Raw.declared.machines.answer.Called.TheVariants as called
+use Rattle.papaya_straight.specs.Given.Raw.declared.machines.answer.End.{End}
+use Rattle.papaya_straight.specs.Given.Raw.declared.machines.answer.End.TheVariants as ends
+use Rattle.papaya_straight.specs.Given.Raw.declared.machines.answer.Missing.TheVariants as missing
+use Rattle.papaya_straight.specs.Given.Raw.declared.machines.answer.There.{There}
+use Rattle.papaya_straight.specs.Given.Raw.declared.machines.answer.There.TheVariants as there
+use Rattle.papaya_straight.specs.Given.Raw.declared.machines.call.KeyCall.{KeyCall}
+use Rattle.papaya_straight.specs.Given.Raw.declared.machines.call.Calling.{Calling}
+use Rattle.papaya_straight.specs.Given.Raw.declared.machines.call.Calling.TheVariants as at
+use Rattle.papaya_shown.specs.Given.Resize.declared.copier.Copier.{Copier}
+use Rattle.papaya_shown.specs.Given.Resize.declared.dispose.Dispose.{Dispose}
+use Rattle.papaya_straight.specs.Given.Tables.declared.finding.Finding.{Finding}
+use Rattle.papaya_straight.specs.Given.Tables.declared.finding.Finding.TheVariants as finds
+use Rattle.papaya_shown.specs.Given.Resize.declared.new_table.NewTable.{NewTable}
 use Rattle.papaya_whole.proofs.Given.Points.Calls.Asked.{passed_so}
 use Rattle.papaya_whole.proofs.Given.Rule.Keys.Always.{Always, AlwaysOf, always_if, always_plan_as, always_steps}
 use Rattle.papaya_owned.specs.Owned.{PutsIt}

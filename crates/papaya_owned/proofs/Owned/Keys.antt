@@ -3,24 +3,24 @@ use Rattle.std.specs.Prelude.{◌≡◌, ℕ, ◌^◌, ◌<◌, ◌≤◌, Bool,
 use Rattle.std.specs.Int.{IsPowerOfTwo}
 use Rattle.std.proofs.Common.{refl, sym, ◌∙◌, ap, subst, arith}
 use denote.Ref.{Bor}
-use Rattle.seize_words.specs.Mem.{Mem, Can, Took, value_at}
-use Rattle.seize_words.specs.Op.{Op, Out}
-use Rattle.seize_words.specs.Plan.{Plan, Then, Turn, Do, Now, Seeing, Sure, May, MaySee, Steps, plan_as, then_as}
-use Rattle.seize_words.specs.declared.fault.Fault.{Fault}
-use Rattle.seize_words.specs.declared.fault.Fault.TheVariants.{RemoveNothing}
+use Rattle.seize.specs.Given.SeizeWords.Mem.{Mem, Can, Took, value_at}
+use Rattle.seize.specs.Given.SeizeWords.Op.{Op, Out}
+use Rattle.seize.specs.Given.SeizeWords.Plan.{Plan, Then, Turn, Do, Now, Seeing, Sure, May, MaySee, Steps, plan_as, then_as}
+use Rattle.seize.specs.Given.SeizeWords.declared.fault.Fault.{Fault}
+use Rattle.seize.specs.Given.SeizeWords.declared.fault.Fault.TheVariants.{RemoveNothing}
 use Rattle.seize.specs.World.{World}
 use Rattle.seize.specs.declared.progress.Progress.{Progress}
 use Rattle.papaya_whole.proofs.Given.SeizeRule.Rows.Leaving.{steps_back}
-use Rattle.papaya_tables.specs.Chunks.{is_incremental}
-use Rattle.papaya_tables.specs.declared.node.Node.{Node}
-use Rattle.papaya_tables.specs.declared.setting.Setting.{Setting}
-use Rattle.papaya_raw.specs.Call.{call_plan}
-use Rattle.papaya_raw.specs.declared.machines.answer.Called.{Called}
-use Rattle.papaya_raw.specs.declared.machines.answer.Called.TheVariants as called
-use Rattle.papaya_raw.specs.declared.machines.answer.KeyAnswer.{KeyAnswer}
-use Rattle.papaya_raw.specs.declared.machines.asking.Asking.{Asking}
-use Rattle.papaya_raw.specs.declared.machines.call.KeyCall.{KeyCall}
-use Rattle.papaya_raw.specs.declared.machines.call.Calling.TheVariants as points
+use Rattle.papaya_straight.specs.Given.Tables.Chunks.{is_incremental}
+use Rattle.papaya_straight.specs.Given.Tables.declared.node.Node.{Node}
+use Rattle.papaya_straight.specs.Given.Tables.declared.setting.Setting.{Setting}
+use Rattle.papaya_straight.specs.Given.Raw.Call.{call_plan}
+use Rattle.papaya_straight.specs.Given.Raw.declared.machines.answer.Called.{Called}
+use Rattle.papaya_straight.specs.Given.Raw.declared.machines.answer.Called.TheVariants as called
+use Rattle.papaya_straight.specs.Given.Raw.declared.machines.answer.KeyAnswer.{KeyAnswer}
+use Rattle.papaya_straight.specs.Given.Raw.declared.machines.asking.Asking.{Asking}
+use Rattle.papaya_straight.specs.Given.Raw.declared.machines.call.KeyCall.{KeyCall}
+use Rattle.papaya_straight.specs.Given.Raw.declared.machines.call.Calling.TheVariants as points
 use Rattle.papaya_whole.specs.Given.Rule.Chart.{Chart}
 use Rattle.papaya_whole.specs.Given.Rule.Maps.{spot_of}
 use Rattle.papaya_whole.specs.Given.Rule.Rule.{Rule}

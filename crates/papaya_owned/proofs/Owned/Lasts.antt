@@ -1,10 +1,10 @@
 -- Where the last table of one owner's map cannot be followed, its memory shows that.
 use Rattle.std.specs.Prelude.{◌≡◌, ℕ, Bool}
 use Rattle.std.proofs.Common.{subst}
-use Rattle.seize_words.specs.Mem.{Mem}
+use Rattle.seize.specs.Given.SeizeWords.Mem.{Mem}
 use Rattle.seize.specs.World.{World}
-use Rattle.papaya_tables.specs.declared.node.Node.{Node}
-use Rattle.papaya_tables.specs.declared.setting.Setting.{Setting}
+use Rattle.papaya_straight.specs.Given.Tables.declared.node.Node.{Node}
+use Rattle.papaya_straight.specs.Given.Tables.declared.setting.Setting.{Setting}
 use Rattle.papaya_shown.specs.Chain.{CannotGrowIn}
 use Rattle.papaya_shown.specs.Shown.{Stands}
 use Rattle.papaya_shown.proofs.Shapes.{grows_no_more}

@@ -1,13 +1,13 @@
 -- What a lookup finds is the pair of its keys in the list.
 use Rattle.std.specs.Prelude.{◌≡◌, ℕ, zero, suc, Bool, true, false, List, [], ◌∷◌, ◌++◌, Option, Some, None, if◌then◌else◌}
 use Rattle.std.proofs.Common.{refl, sym, ◌∙◌, ap, subst, inl, inr}
-use Rattle.seize_words.specs.Mem.{Mem, value_at}
-use Rattle.seize_words.specs.Word.{block_in}
+use Rattle.seize.specs.Given.SeizeWords.Mem.{Mem, value_at}
+use Rattle.seize.specs.Given.SeizeWords.Word.{block_in}
 use Rattle.seize.specs.World.{World}
-use Rattle.papaya_tables.specs.declared.node.Node.{Node}
-use Rattle.papaya_tables.specs.declared.node.Node.TheVariants as node
-use Rattle.papaya_tables.specs.declared.setting.Setting.{Setting}
-use Rattle.papaya_resize.specs.Lookup.{looking}
+use Rattle.papaya_straight.specs.Given.Tables.declared.node.Node.{Node}
+use Rattle.papaya_straight.specs.Given.Tables.declared.node.Node.TheVariants as node
+use Rattle.papaya_straight.specs.Given.Tables.declared.setting.Setting.{Setting}
+use Rattle.papaya_shown.specs.Given.Resize.Lookup.{looking}
 use Rattle.papaya_whole.specs.Given.Rule.Chart.{Chart}
 use Rattle.papaya_whole.specs.Given.Rule.Words.{Blocks}
 use Rattle.papaya_whole.specs.Given.Rule.Maps.{IsClass, IsAbsent, IsMap}

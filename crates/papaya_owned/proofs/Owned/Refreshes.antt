@@ -3,12 +3,12 @@ use Rattle.std.specs.Prelude.{◌≡◌, ◌≢◌, ℕ, zero, suc, ◌+◌, ◌
 use Rattle.std.proofs.Common.{refl, sym, ◌∙◌, ap, subst, arith, inl, inr, eqb}
 use Rattle.std.specs.Prelude.{cond}
 use Rattle.std.proofs.lemmas.Bool.{eqb-true, eqb-false, eq-eqb, false_from_ne_true}
-use Rattle.seize_words.specs.Mem.{Mem, Can, Took, value_at, with_word}
-use Rattle.seize_words.specs.Plan.{Plan, Now, May, Steps}
-use Rattle.seize_words.specs.declared.at.At.TheVariants.{Slot}
-use Rattle.seize_words.specs.declared.fault.Fault.{Fault}
-use Rattle.seize_words.proofs.OneOwner.Operations.{swapped, stored}
-use Rattle.seize_words.proofs.Plans.{ends_if}
+use Rattle.seize.specs.Given.SeizeWords.Mem.{Mem, Can, Took, value_at, with_word}
+use Rattle.seize.specs.Given.SeizeWords.Plan.{Plan, Now, May, Steps}
+use Rattle.seize.specs.Given.SeizeWords.declared.at.At.TheVariants.{Slot}
+use Rattle.seize.specs.Given.SeizeWords.declared.fault.Fault.{Fault}
+use Rattle.seize.proofs.Given.SeizeWords.OneOwner.Operations.{swapped, stored}
+use Rattle.seize.proofs.Given.SeizeWords.Plans.{ends_if}
 use Rattle.seize.specs.Leave.{leave_plan, plan_at as leave_plan_at, list_taken, settled, counted_down, standing, leaving as leaving_slot}
 use Rattle.seize.specs.Settle.{settle_plan, counting_down}
 use Rattle.seize.specs.World.{World, Row, Rests, Leaves, Refresh, Steps', MayStep, IsInside, Vacant, Outside, Inside, Changing, Use, leaves_on, left_as, left_row, with_row, with_use, at_start}
@@ -32,10 +32,10 @@ use Rattle.papaya_whole.proofs.Given.SeizeAlone.Histories.NotTaken.{kept_value}
 use Rattle.papaya_whole.proofs.Given.SeizeEnds.Batches.Rows.{HeldByRows, start_held, runs_held}
 use Rattle.papaya_whole.proofs.Given.SeizeEnds.Rows.Lone.{leave_to_go, leaves_lower}
 use Rattle.papaya_whole.proofs.Given.SeizeEnds.Settling.Most.{is_going}
-use Rattle.papaya_tables.specs.Nodes.{deferred_word}
-use Rattle.papaya_tables.specs.Chunks.{is_incremental}
-use Rattle.papaya_tables.specs.declared.node.Node.{Node}
-use Rattle.papaya_tables.specs.declared.setting.Setting.{Setting}
+use Rattle.papaya_straight.specs.Given.Tables.Nodes.{deferred_word}
+use Rattle.papaya_straight.specs.Given.Tables.Chunks.{is_incremental}
+use Rattle.papaya_straight.specs.Given.Tables.declared.node.Node.{Node}
+use Rattle.papaya_straight.specs.Given.Tables.declared.setting.Setting.{Setting}
 use Rattle.papaya_whole.specs.Given.Rule.InWorld.{IsMapIn}
 use Rattle.papaya_whole.specs.Given.Rule.Words.{Blocks}
 use Rattle.papaya_whole.specs.Given.Alone.Counted.{HasAdded}

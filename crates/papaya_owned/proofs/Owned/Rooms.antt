@@ -3,20 +3,20 @@ use Rattle.std.specs.Prelude.{◌≡◌, ℕ, suc, ◌+◌, ◌-◌, ◌*◌, �
 use Rattle.std.proofs.Common.{refl, sym, ◌∙◌, ap, subst, arith, inl, inr}
 use Rattle.std.proofs.lemmas.Bool.{ne_eqb}
 use denote.Ref.{Bor}
-use Rattle.seize_words.specs.Mem.{Mem, Can, Took, value_at, word_at}
-use Rattle.seize_words.specs.Plan.{Plan, May, Steps}
-use Rattle.seize_words.specs.Word.{block_in}
-use Rattle.seize_words.specs.declared.at.At.TheVariants.{Root}
-use Rattle.seize_words.specs.declared.fault.Fault.{Fault}
+use Rattle.seize.specs.Given.SeizeWords.Mem.{Mem, Can, Took, value_at, word_at}
+use Rattle.seize.specs.Given.SeizeWords.Plan.{Plan, May, Steps}
+use Rattle.seize.specs.Given.SeizeWords.Word.{block_in}
+use Rattle.seize.specs.Given.SeizeWords.declared.at.At.TheVariants.{Root}
+use Rattle.seize.specs.Given.SeizeWords.declared.fault.Fault.{Fault}
 use Rattle.seize.specs.World.{World}
 use Rattle.seize.specs.declared.progress.Progress.{Progress}
 use Rattle.papaya_whole.proofs.Given.SeizeRule.Rows.Leaving.{steps_back}
-use Rattle.papaya_tables.specs.Counts.{count_in}
-use Rattle.papaya_tables.specs.declared.node.Node.{Node}
-use Rattle.papaya_tables.specs.declared.node.Node.TheVariants as node
-use Rattle.papaya_tables.specs.declared.setting.Setting.{Setting}
-use Rattle.papaya_resize.specs.declared.outcome.Outcome.{Outcome}
-use Rattle.papaya_resize.specs.declared.outcome.Outcome.TheVariants as outcome
+use Rattle.papaya_straight.specs.Given.Tables.Counts.{count_in}
+use Rattle.papaya_straight.specs.Given.Tables.declared.node.Node.{Node}
+use Rattle.papaya_straight.specs.Given.Tables.declared.node.Node.TheVariants as node
+use Rattle.papaya_straight.specs.Given.Tables.declared.setting.Setting.{Setting}
+use Rattle.papaya_shown.specs.Given.Resize.declared.outcome.Outcome.{Outcome}
+use Rattle.papaya_shown.specs.Given.Resize.declared.outcome.Outcome.TheVariants as outcome
 use Rattle.papaya_whole.specs.Given.Reserves.Reserve.{needed, reserving, reserve_plan}
 use Rattle.papaya_whole.specs.Given.Reserves.declared.reserve.Reserve.{Reserve}
 use Rattle.papaya_whole.specs.Given.Rule.Chart.{Chart}

@@ -1,11 +1,11 @@
 -- Each pair of the map stands in a block of its own.
 use Rattle.std.specs.Prelude.{◌≡◌, ◌≢◌, ℕ, zero, suc, ◌<◌, Bool, true, false, cond, List, [], ◌∷◌, ◌++◌, Some}
 use Rattle.std.proofs.Common.{refl, sym, ◌∙◌, ap, subst, arith, inl, inr}
-use Rattle.seize_words.specs.Mem.{Mem, value_at}
+use Rattle.seize.specs.Given.SeizeWords.Mem.{Mem, value_at}
 use Rattle.seize.specs.World.{times}
-use Rattle.papaya_tables.specs.declared.node.Node.{Node}
-use Rattle.papaya_tables.specs.declared.node.Node.TheVariants as node
-use Rattle.papaya_tables.specs.declared.setting.Setting.{Setting}
+use Rattle.papaya_straight.specs.Given.Tables.declared.node.Node.{Node}
+use Rattle.papaya_straight.specs.Given.Tables.declared.node.Node.TheVariants as node
+use Rattle.papaya_straight.specs.Given.Tables.declared.setting.Setting.{Setting}
 use Rattle.papaya_whole.specs.Given.Rule.Chart.{Chart}
 use Rattle.papaya_whole.specs.Given.Rule.InWorld.{IsMapIn}
 use Rattle.papaya_whole.specs.Given.Rule.Words.{Blocks}

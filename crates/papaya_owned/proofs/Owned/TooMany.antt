@@ -3,32 +3,32 @@ use Rattle.std.specs.Prelude.{◌≡◌, ℕ, zero, suc, ◌+◌, ◌^◌, ◌<�
 use Rattle.std.proofs.Common.{refl, sym, ◌∙◌, ap, subst, arith, inl, inr}
 use Rattle.std.proofs.lemmas.Bool.{lt-ltb, lt-leb}
 use denote.Ref.{Bor}
-use Rattle.seize_words.specs.Mem.{Mem, Took, value_at}
-use Rattle.seize_words.specs.Plan.{Steps}
-use Rattle.seize_words.specs.declared.at.At.TheVariants.{Root}
-use Rattle.seize_words.specs.declared.fault.Fault.{Fault}
-use Rattle.seize_words.specs.declared.fault.Fault.TheVariants.{Capacity}
-use Rattle.seize_words.specs.Op.{Found}
-use Rattle.seize_words.proofs.OneOwner.Operations.{loaded}
+use Rattle.seize.specs.Given.SeizeWords.Mem.{Mem, Took, value_at}
+use Rattle.seize.specs.Given.SeizeWords.Plan.{Steps}
+use Rattle.seize.specs.Given.SeizeWords.declared.at.At.TheVariants.{Root}
+use Rattle.seize.specs.Given.SeizeWords.declared.fault.Fault.{Fault}
+use Rattle.seize.specs.Given.SeizeWords.declared.fault.Fault.TheVariants.{Capacity}
+use Rattle.seize.specs.Given.SeizeWords.Op.{Found}
+use Rattle.seize.proofs.Given.SeizeWords.OneOwner.Operations.{loaded}
 use Rattle.seize.specs.declared.progress.Progress.{Progress}
 use Rattle.seize.specs.declared.progress.Progress.TheVariants as progress
 use Rattle.papaya_whole.proofs.Given.SeizeRule.Rows.Leaving.{steps_back}
-use Rattle.papaya_tables.proofs.TableLens.{have_table_lens}
-use Rattle.papaya_tables.specs.Lengths.{IsTableLen, places_for}
-use Rattle.papaya_tables.specs.declared.node.Node.{Node}
-use Rattle.papaya_tables.specs.declared.node.Node.TheVariants as node
-use Rattle.papaya_tables.specs.declared.setting.Setting.{Setting}
-use Rattle.papaya_tables.specs.declared.table.Table.{Table}
-use Rattle.papaya_resize.specs.NewTable.{first_table, making_first, new_table_plan, plan_at as making_at, planned}
-use Rattle.papaya_tables.specs.Powers.{next_power}
-use Rattle.papaya_tables.specs.Probes.{limit_of}
-use Rattle.papaya_resize.specs.Sum.{sum_plan}
-use Rattle.papaya_resize.specs.declared.new_table.Making.{Making}
-use Rattle.papaya_resize.specs.declared.new_table.Making.TheVariants as makes
-use Rattle.papaya_resize.specs.declared.new_table.NewTable.{NewTable}
-use Rattle.papaya_resize.specs.declared.outcome.Outcome.{Outcome}
-use Rattle.papaya_resize.specs.declared.outcome.Outcome.TheVariants as outcome
-use Rattle.papaya_resize.specs.declared.sum.Sum.{Sum}
+use Rattle.papaya_straight.proofs.Given.Tables.TableLens.{have_table_lens}
+use Rattle.papaya_straight.specs.Given.Tables.Lengths.{IsTableLen, places_for}
+use Rattle.papaya_straight.specs.Given.Tables.declared.node.Node.{Node}
+use Rattle.papaya_straight.specs.Given.Tables.declared.node.Node.TheVariants as node
+use Rattle.papaya_straight.specs.Given.Tables.declared.setting.Setting.{Setting}
+use Rattle.papaya_straight.specs.Given.Tables.declared.table.Table.{Table}
+use Rattle.papaya_shown.specs.Given.Resize.NewTable.{first_table, making_first, new_table_plan, plan_at as making_at, planned}
+use Rattle.papaya_straight.specs.Given.Tables.Powers.{next_power}
+use Rattle.papaya_straight.specs.Given.Tables.Probes.{limit_of}
+use Rattle.papaya_shown.specs.Given.Resize.Sum.{sum_plan}
+use Rattle.papaya_shown.specs.Given.Resize.declared.new_table.Making.{Making}
+use Rattle.papaya_shown.specs.Given.Resize.declared.new_table.Making.TheVariants as makes
+use Rattle.papaya_shown.specs.Given.Resize.declared.new_table.NewTable.{NewTable}
+use Rattle.papaya_shown.specs.Given.Resize.declared.outcome.Outcome.{Outcome}
+use Rattle.papaya_shown.specs.Given.Resize.declared.outcome.Outcome.TheVariants as outcome
+use Rattle.papaya_shown.specs.Given.Resize.declared.sum.Sum.{Sum}
 use Rattle.papaya_whole.specs.Given.Reserves.Reserve.{enough, made, needed, or_too_long, plan_at, refusing, reserve_plan, reserving, root_read, standing, summed}
 use Rattle.papaya_whole.specs.Given.Reserves.declared.reserve.Reserve.{Reserve}
 use Rattle.papaya_whole.specs.Given.Reserves.declared.reserve.Reserving.{Reserving}

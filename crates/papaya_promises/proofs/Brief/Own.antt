@@ -1,54 +1,54 @@
 -- A step of a lookup, as one of many calls: it does nothing, and has read one word more.
 use Rattle.std.specs.Prelude.{◌≡◌, ℕ, suc, Bool, Option, Some, None, ◌⊎◌}
 use Rattle.std.proofs.Common.{ap, sym, subst, ◌∙◌, inl, inr}
-use Rattle.papaya_histories.specs.Given.SeizeWords.Mem.{Mem, Took, value_at}
-use Rattle.papaya_histories.specs.Given.SeizeWords.Plan.{Steps}
-use Rattle.papaya_histories.proofs.Given.SeizeRule.Rows.Leaving.{steps_back}
-use Rattle.papaya_histories.specs.Given.Seize.World.{Rests}
-use Rattle.papaya_histories.specs.Given.Seize.declared.progress.Progress.{Progress as Stepped}
-use Rattle.papaya_histories.specs.Given.Tables.Chunks.{is_incremental}
-use Rattle.papaya_histories.specs.Given.Tables.declared.node.Node.{Node}
-use Rattle.papaya_histories.specs.Given.Resize.Lookup.{lookup_plan}
-use Rattle.papaya_histories.specs.Given.Resize.Lookup as lookups
-use Rattle.papaya_histories.specs.Given.Resize.declared.lookup.Lookup.{Lookup}
-use Rattle.papaya_histories.specs.Given.Resize.declared.lookup.Looking.{Looking}
-use Rattle.papaya_histories.specs.Given.Resize.declared.lookup.Looking.TheVariants as looking
-use Rattle.papaya_histories.specs.Given.Raw.Call.{call_plan, looked, looks_for, plan_at}
-use Rattle.papaya_histories.specs.Given.Raw.Machine.{called, machine_plan}
-use Rattle.papaya_histories.specs.Given.Raw.Progress.{of_called}
-use Rattle.papaya_histories.specs.Given.Raw.declared.machines.answer.Called.{Called}
-use Rattle.papaya_histories.specs.Given.Raw.declared.machines.call.Calling.{Calling}
-use Rattle.papaya_histories.specs.Given.Raw.declared.machines.call.Calling.TheVariants as at
-use Rattle.papaya_histories.specs.Given.Raw.declared.machines.call.KeyCall.{KeyCall}
-use Rattle.papaya_histories.specs.Given.Raw.declared.machines.machine.Machine.{Machine}
-use Rattle.papaya_histories.specs.Given.Raw.declared.machines.machine.Machine.TheVariants as kinds
-use Rattle.papaya_histories.specs.Given.Raw.declared.machines.progress.Progress.{Progress}
-use Rattle.papaya_histories.specs.Given.Rule.Chart.{Chart}
-use Rattle.papaya_histories.specs.Given.Rule.InWorld.{IsMapIn}
-use Rattle.papaya_histories.specs.Given.Rule.Words.{Blocks}
-use Rattle.papaya_histories.specs.Given.Points.FactsCalls.{Unchanged, CallingFacts, CallFacts}
-use Rattle.papaya_histories.specs.Given.Points.Steps.{AreLawful}
-use Rattle.papaya_histories.specs.Given.Points.Told.{IsRowOfCall}
-use Rattle.papaya_histories.proofs.Given.Points.Lookups.LooksAsked.{class_asked, lookup_asked}
-use Rattle.papaya_histories.specs.Given.Late.LateCalls.{LateCalling, LateCallFacts}
-use Rattle.papaya_histories.specs.Given.Callers.Rows.{row_of, once_over}
-use Rattle.papaya_histories.specs.Given.Callers.Sights.{seen_by}
-use Rattle.papaya_histories.specs.Given.Callers.Together.{CallOnKey, OnKey, ForRoom, Counting, OverAll, Together, Knows, in_slot}
-use Rattle.papaya_histories.proofs.Given.Callers.Sights.Seen.{map_seen}
-use Rattle.papaya_histories.proofs.Given.Callers.Together.Fits.{map_in_slot}
-use Rattle.papaya_histories.specs.Given.Teller.Tells.{StepsTold}
-use Rattle.papaya_histories.specs.Given.Teller.declared.changed.Changed.{Changed}
-use Rattle.papaya_histories.specs.Given.Teller.declared.changed.Changed.TheVariants as changed
-use Rattle.papaya_histories.proofs.Given.Others.Outcomes.{told_in}
-use Rattle.papaya_histories.specs.Given.Effects.Effects.{effects_of}
-use Rattle.papaya_histories.specs.Given.Effects.declared.acting.Acting.TheVariants as acts
+use Rattle.papaya_mapping.specs.Given.SeizeWords.Mem.{Mem, Took, value_at}
+use Rattle.papaya_mapping.specs.Given.SeizeWords.Plan.{Steps}
+use Rattle.papaya_mapping.proofs.Given.SeizeRule.Rows.Leaving.{steps_back}
+use Rattle.papaya_mapping.specs.Given.Seize.World.{Rests}
+use Rattle.papaya_mapping.specs.Given.Seize.declared.progress.Progress.{Progress as Stepped}
+use Rattle.papaya_mapping.specs.Given.Tables.Chunks.{is_incremental}
+use Rattle.papaya_mapping.specs.Given.Tables.declared.node.Node.{Node}
+use Rattle.papaya_mapping.specs.Given.Resize.Lookup.{lookup_plan}
+use Rattle.papaya_mapping.specs.Given.Resize.Lookup as lookups
+use Rattle.papaya_mapping.specs.Given.Resize.declared.lookup.Lookup.{Lookup}
+use Rattle.papaya_mapping.specs.Given.Resize.declared.lookup.Looking.{Looking}
+use Rattle.papaya_mapping.specs.Given.Resize.declared.lookup.Looking.TheVariants as looking
+use Rattle.papaya_mapping.specs.Given.Raw.Call.{call_plan, looked, looks_for, plan_at}
+use Rattle.papaya_mapping.specs.Given.Raw.Machine.{called, machine_plan}
+use Rattle.papaya_mapping.specs.Given.Raw.Progress.{of_called}
+use Rattle.papaya_mapping.specs.Given.Raw.declared.machines.answer.Called.{Called}
+use Rattle.papaya_mapping.specs.Given.Raw.declared.machines.call.Calling.{Calling}
+use Rattle.papaya_mapping.specs.Given.Raw.declared.machines.call.Calling.TheVariants as at
+use Rattle.papaya_mapping.specs.Given.Raw.declared.machines.call.KeyCall.{KeyCall}
+use Rattle.papaya_mapping.specs.Given.Raw.declared.machines.machine.Machine.{Machine}
+use Rattle.papaya_mapping.specs.Given.Raw.declared.machines.machine.Machine.TheVariants as kinds
+use Rattle.papaya_mapping.specs.Given.Raw.declared.machines.progress.Progress.{Progress}
+use Rattle.papaya_mapping.specs.Given.Rule.Chart.{Chart}
+use Rattle.papaya_mapping.specs.Given.Rule.InWorld.{IsMapIn}
+use Rattle.papaya_mapping.specs.Given.Rule.Words.{Blocks}
+use Rattle.papaya_mapping.specs.Given.Points.FactsCalls.{Unchanged, CallingFacts, CallFacts}
+use Rattle.papaya_mapping.specs.Given.Points.Steps.{AreLawful}
+use Rattle.papaya_mapping.specs.Given.Points.Told.{IsRowOfCall}
+use Rattle.papaya_mapping.proofs.Given.Points.Lookups.LooksAsked.{class_asked, lookup_asked}
+use Rattle.papaya_mapping.specs.Given.Late.LateCalls.{LateCalling, LateCallFacts}
+use Rattle.papaya_mapping.specs.Given.Callers.Rows.{row_of, once_over}
+use Rattle.papaya_mapping.specs.Given.Callers.Sights.{seen_by}
+use Rattle.papaya_mapping.specs.Given.Callers.Together.{CallOnKey, OnKey, ForRoom, Counting, OverAll, Together, Knows, in_slot}
+use Rattle.papaya_mapping.proofs.Given.Callers.Sights.Seen.{map_seen}
+use Rattle.papaya_mapping.proofs.Given.Callers.Together.Fits.{map_in_slot}
+use Rattle.papaya_mapping.specs.Given.Teller.Tells.{StepsTold}
+use Rattle.papaya_mapping.specs.Given.Teller.declared.changed.Changed.{Changed}
+use Rattle.papaya_mapping.specs.Given.Teller.declared.changed.Changed.TheVariants as changed
+use Rattle.papaya_mapping.proofs.Given.Others.Outcomes.{told_in}
+use Rattle.papaya_mapping.specs.Given.Effects.Effects.{effects_of}
+use Rattle.papaya_mapping.specs.Given.Effects.declared.acting.Acting.TheVariants as acts
 use Rattle.papaya_promises.specs.Brief.{ReadsAt, ReadsOn, IsRootOf}
 use Rattle.papaya_promises.specs.Reading.{LookupsDoNothing}
 use Rattle.papaya_promises.proofs.Brief.Going.{lookups_read_on, late_reads_on}
-use Rattle.papaya_histories.proofs.Given.Scenes.Told.{as_step}
-use Rattle.papaya_histories.specs.Given.Scenes.Held.{Held, IsAt}
-use Rattle.papaya_histories.specs.Given.Scenes.Scene.{Scene, slot_of}
-use Rattle.papaya_histories.specs.Given.Scenes.Stepping.{StepLeads}
+use Rattle.papaya_mapping.proofs.Given.Scenes.Told.{as_step}
+use Rattle.papaya_mapping.specs.Given.Scenes.Held.{Held, IsAt}
+use Rattle.papaya_mapping.specs.Given.Scenes.Scene.{Scene, slot_of}
+use Rattle.papaya_mapping.specs.Given.Scenes.Stepping.{StepLeads}
 
 -- of a lookup's plan nothing is told
 

@@ -1,14 +1,14 @@
 //! The end of a map.
 ghost use Rattle.std.specs.Prelude.{◌≡◌};
 ghost use Rattle.papaya_raw.specs.EndMap.{ending, is_current, next_place, reads, words, takes, nexts, carries, joins, follows, gives, afters, drops, shards, sets, frees};
-ghost use Rattle.seize_words.specs.Plan.{May, Steps};
+ghost use Rattle.papaya_tables.specs.Given.SeizeWords.Plan.{May, Steps};
 
 use papaya_tables::marks::{COPYING, has};
+use papaya_tables::seize::rows::Settled;
+use papaya_tables::seize::{Machine, states};
+use papaya_tables::seize_words::{At, Link, Memory};
 use papaya_tables::table_words::{DEFERRED, NEXT, PLACES};
 use papaya_tables::{Node, Setting, Table};
-use seize::rows::Settled;
-use seize::{Machine, states};
-use seize_words::{At, Link, Memory};
 
 /// Where the end of a map stands.
 #[derive(Clone, Copy)]

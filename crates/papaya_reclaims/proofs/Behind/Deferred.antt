@@ -6,8 +6,8 @@ use Rattle.papaya_finishes.specs.Given.SeizeWords.Mem.{value_at, word_at}
 use Rattle.papaya_finishes.specs.Given.Seize.Further.{ListFrom, FurtherFrom, FurtherAre}
 use Rattle.papaya_finishes.specs.Given.Seize.WaitingSets.{is_one_of}
 use Rattle.papaya_finishes.specs.Given.Seize.World.{World, times}
-use Rattle.seize_acts.specs.Reclaimed.{IsStillHad}
-use Rattle.seize_reclaims.proofs.Roots.Once.{list_once}
+use Rattle.seize_quiet.specs.Given.SeizeActs.Reclaimed.{IsStillHad}
+use Rattle.seize_quiet.proofs.Given.SeizeReclaims.Roots.Once.{list_once}
 use Rattle.papaya_finishes.specs.Given.Tables.Nodes.{deferred_word}
 use Rattle.papaya_finishes.specs.Given.Tables.declared.node.Node.{Node}
 use Rattle.papaya_finishes.specs.Given.Callers.Together.{UnderWay, Together}

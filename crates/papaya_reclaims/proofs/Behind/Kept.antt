@@ -8,7 +8,7 @@ use Rattle.papaya_finishes.specs.Given.Seize.declared.states.TheConstants.{NEXT}
 use Rattle.papaya_finishes.specs.Given.Seize.World.{World, LeftTo, Request, Register', Leave', Flush, Unregister', Enter', LeaveOwned, Refresh, Retire, Defer', Event, Begin, Step, Happens, Runs, times}
 use Rattle.papaya_finishes.proofs.Given.SeizeEnds.Batches.Rows.{begins_memory}
 use Rattle.papaya_finishes.proofs.Given.SeizeAlone.Histories.NotTaken.{did}
-use Rattle.seize_reclaims.specs.Roots.{all_lists}
+use Rattle.seize_quiet.specs.Given.SeizeReclaims.Roots.{all_lists}
 use Rattle.papaya_finishes.specs.Given.Tables.Nodes.{deferred_word}
 use Rattle.papaya_finishes.specs.Given.Tables.declared.node.Node.{Node}
 use Rattle.papaya_finishes.proofs.Given.Callers.Sights.Parts.{part_same, part_then}

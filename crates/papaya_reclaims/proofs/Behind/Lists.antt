@@ -6,7 +6,7 @@ use Rattle.papaya_finishes.specs.Given.SeizeWords.Mem.{Mem}
 use Rattle.papaya_finishes.specs.Given.Seize.Further.{ListFrom}
 use Rattle.papaya_finishes.specs.Given.Seize.World.{times, with_at}
 use Rattle.papaya_finishes.proofs.Given.SeizeRule.Rows.Others.{with_here, with_other}
-use Rattle.seize_reclaims.specs.Roots.{all_lists}
+use Rattle.seize_quiet.specs.Given.SeizeReclaims.Roots.{all_lists}
 use Rattle.papaya_finishes.proofs.Ends.CountedBlocks.{times-append}
 use Rattle.papaya_reclaims.proofs.Behind.Kept.{in_all}
 

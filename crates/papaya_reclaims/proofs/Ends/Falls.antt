@@ -15,8 +15,8 @@ use Rattle.papaya_finishes.specs.Given.Seize.declared.rows.reclaim_all.Reclaimin
 use Rattle.papaya_finishes.specs.Given.Seize.ReclaimAll.{standing, next_root, to, left_there, root_read, next_read, given_back, plan_at}
 use Rattle.papaya_finishes.specs.Given.SeizeAlone.Alone.{blocks_in}
 use Rattle.papaya_finishes.proofs.Given.SeizeAlone.Spared.Fewer.{take_fewer}
-use Rattle.seize_reclaims.specs.AllReclaimed.{weight_at}
-use Rattle.seize_reclaims.proofs.AllReclaimed.Weights.{weight}
+use Rattle.seize_quiet.specs.Given.SeizeReclaims.AllReclaimed.{weight_at}
+use Rattle.seize_quiet.proofs.Given.SeizeReclaims.AllReclaimed.Weights.{weight}
 use Rattle.papaya_finishes.specs.Given.Tables.Nodes.{deferred_word, was_left}
 use Rattle.papaya_finishes.specs.Given.Tables.declared.node.Node.{Node}
 

@@ -8,7 +8,7 @@ use Rattle.papaya_finishes.specs.Given.Seize.declared.rows.reclaim_all.ReclaimAl
 use Rattle.papaya_finishes.specs.Given.Seize.ReclaimAll.{reclaim_all_plan}
 use Rattle.papaya_finishes.specs.Given.Seize.World.{World}
 use Rattle.papaya_finishes.specs.Given.SeizeAlone.Alone.{blocks_in}
-use Rattle.seize_reclaims.proofs.AllReclaimed.Weights.{weight}
+use Rattle.seize_quiet.proofs.Given.SeizeReclaims.AllReclaimed.Weights.{weight}
 use Rattle.papaya_finishes.specs.Given.Tables.Nodes.{deferred_word, was_left}
 use Rattle.papaya_finishes.specs.Given.Tables.declared.node.Node.{Node}
 use Rattle.papaya_finishes.specs.Given.Callers.Together.{UnderWay}

@@ -8,7 +8,7 @@ use Rattle.papaya_finishes.specs.Given.Seize.declared.rows.settle.Settled.{Settl
 use Rattle.papaya_finishes.specs.Given.Seize.declared.states.TheConstants.{NEXT}
 use Rattle.papaya_finishes.specs.Given.Seize.World.{World, Hand, LeftTo, times, with_at}
 use Rattle.papaya_finishes.proofs.Given.SeizeRule.Rows.Others.{with_here, with_other}
-use Rattle.seize_reclaims.specs.Roots.{all_lists}
+use Rattle.seize_quiet.specs.Given.SeizeReclaims.Roots.{all_lists}
 use Rattle.papaya_finishes.specs.Given.Tables.Nodes.{was_left}
 use Rattle.papaya_finishes.specs.Given.Tables.declared.node.Node.{Node}
 use Rattle.papaya_finishes.specs.Given.Tables.declared.node.Node.TheVariants as node

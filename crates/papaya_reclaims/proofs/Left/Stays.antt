@@ -4,7 +4,7 @@ use Rattle.std.proofs.Common.{◌≡◌, ℕ, zero, suc, ◌<◌, List, [], ◌�
 use Rattle.papaya_finishes.specs.Given.SeizeWords.declared.at.At.TheVariants.{Used}
 use Rattle.papaya_finishes.specs.Given.SeizeWords.Mem.{word_at}
 use Rattle.papaya_finishes.specs.Given.Seize.World.{World, times}
-use Rattle.seize_reclaims.specs.Roots.{all_lists}
+use Rattle.seize_quiet.specs.Given.SeizeReclaims.Roots.{all_lists}
 use Rattle.papaya_finishes.specs.Given.Tables.declared.node.Node.{Node}
 use Rattle.papaya_finishes.specs.Endings.{Finishing}
 use Rattle.papaya_finishes.specs.Makings.{Beginning}

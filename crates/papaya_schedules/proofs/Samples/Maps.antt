@@ -1,7 +1,7 @@
 -- A run worked by hand with two maps, an owned guard beside another one, and a batch that waits for both. And wrong runs.
 use Rattle.std.specs.Prelude.{codes, drop, nat_eq}
 use Rattle.std.proofs.Common.{◌≡◌, ℕ, List, [], ◌∷◌, inl, inr, refl, arith}
-use Rattle.seize_words.specs.declared.fault.Fault.TheVariants.{RootsUsedUp}
+use Rattle.papaya_raw.specs.Given.SeizeWords.declared.fault.Fault.TheVariants.{RootsUsedUp}
 use Rattle.papaya_raw.specs.Given.Tables.declared.resize_mode.ResizeMode.TheVariants.{Incremental, Blocking}
 use Rattle.papaya_schedules.specs.declared.call.Call.{Call}
 use Rattle.papaya_schedules.specs.declared.call.Call.TheVariants.{On}

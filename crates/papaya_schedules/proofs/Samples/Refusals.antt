@@ -1,7 +1,7 @@
 -- Reservations, growths and refusals: each in its case alone. And wrong runs.
 use Rattle.std.specs.Prelude.{codes, nat_eq, ◌+◌, ◌%◌, ◌^◌, nat_le, max, if◌then◌else◌}
 use Rattle.std.proofs.Common.{◌≡◌, ◌≤◌, ℕ, Bool, true, false, List, [], ◌∷◌, ◌++◌, inl, inr, refl, arith, Ok, Err}
-use Rattle.seize_words.specs.declared.fault.Fault.TheVariants.{Capacity, SlotsUsedUp, Memory}
+use Rattle.papaya_raw.specs.Given.SeizeWords.declared.fault.Fault.TheVariants.{Capacity, SlotsUsedUp, Memory}
 use Rattle.papaya_raw.specs.Given.Tables.declared.lengths.Reason.TheVariants.{Full, Reserved, NoPlace}
 use Rattle.papaya_raw.specs.Given.Seize.Register.{MayNeedRoom}
 use Rattle.papaya_raw.specs.Given.Tables.Counts.{count_in}

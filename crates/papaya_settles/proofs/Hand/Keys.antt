@@ -35,7 +35,7 @@ use Rattle.papaya_histories.proofs.Given.Rule.Keys.Always.{AlwaysOf, always_step
 use Rattle.papaya_histories.specs.Given.Points.FactsCalls.{Change, IsCopying}
 use Rattle.papaya_histories.specs.Given.Points.Told.{IsRowOfCall}
 use Rattle.papaya_histories.proofs.Given.Points.Steps.RootSteps.{call_is_promoting, spares_call}
-use Rattle.papaya_alone.specs.Handed.{call_has_unlinked}
+use Rattle.papaya_histories.specs.Given.Alone.Handed.{call_has_unlinked}
 use Rattle.papaya_histories.specs.Given.Callers.Sights.{seen_by}
 use Rattle.papaya_histories.specs.Given.Callers.Together.{CallOnKey, OnKey, Stands, change_told, next_of}
 use Rattle.papaya_histories.specs.Given.Effects.Effects.{effects_of}

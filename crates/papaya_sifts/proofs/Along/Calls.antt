@@ -2,22 +2,22 @@
 use Rattle.std.specs.Prelude.{◌≡◌, ℕ, Bool, List, Option, Some, None, Result, Ok, Err}
 use Rattle.std.proofs.Common.{refl, sym, ap, subst}
 use denote.Ref.{Bor}
-use Rattle.seize_words.specs.Mem.{Mem, Took, value_at}
-use Rattle.seize_words.specs.Plan.{Steps}
-use Rattle.seize_words.specs.declared.fault.Fault.{Fault}
-use Rattle.seize.specs.World.{World}
-use Rattle.seize.specs.declared.progress.Progress.{Progress}
-use Rattle.papaya_tables.specs.declared.node.Node.{Node}
-use Rattle.papaya_tables.specs.declared.setting.Setting.{Setting}
-use Rattle.papaya_raw.specs.Call.{call_plan}
-use Rattle.papaya_raw.specs.CallAsks.{replied}
-use Rattle.papaya_raw.specs.declared.machines.answer.Called.{Called}
-use Rattle.papaya_raw.specs.declared.machines.answer.Called.TheVariants as called
-use Rattle.papaya_raw.specs.declared.machines.answer.KeyAnswer.{KeyAnswer}
-use Rattle.papaya_raw.specs.declared.machines.asking.Asking.{Asking}
-use Rattle.papaya_raw.specs.declared.machines.asking.Reply.{Reply}
-use Rattle.papaya_raw.specs.declared.machines.call.Calling.TheVariants as at
-use Rattle.papaya_raw.specs.declared.machines.call.KeyCall.{KeyCall}
+use Rattle.papaya_owned.specs.Given.SeizeWords.Mem.{Mem, Took, value_at}
+use Rattle.papaya_owned.specs.Given.SeizeWords.Plan.{Steps}
+use Rattle.papaya_owned.specs.Given.SeizeWords.declared.fault.Fault.{Fault}
+use Rattle.papaya_owned.specs.Given.Seize.World.{World}
+use Rattle.papaya_owned.specs.Given.Seize.declared.progress.Progress.{Progress}
+use Rattle.papaya_owned.specs.Given.Tables.declared.node.Node.{Node}
+use Rattle.papaya_owned.specs.Given.Tables.declared.setting.Setting.{Setting}
+use Rattle.papaya_owned.specs.Given.Raw.Call.{call_plan}
+use Rattle.papaya_owned.specs.Given.Raw.CallAsks.{replied}
+use Rattle.papaya_owned.specs.Given.Raw.declared.machines.answer.Called.{Called}
+use Rattle.papaya_owned.specs.Given.Raw.declared.machines.answer.Called.TheVariants as called
+use Rattle.papaya_owned.specs.Given.Raw.declared.machines.answer.KeyAnswer.{KeyAnswer}
+use Rattle.papaya_owned.specs.Given.Raw.declared.machines.asking.Asking.{Asking}
+use Rattle.papaya_owned.specs.Given.Raw.declared.machines.asking.Reply.{Reply}
+use Rattle.papaya_owned.specs.Given.Raw.declared.machines.call.Calling.TheVariants as at
+use Rattle.papaya_owned.specs.Given.Raw.declared.machines.call.KeyCall.{KeyCall}
 use Rattle.papaya_owned.specs.Given.Rule.Chart.{Chart}
 use Rattle.papaya_owned.specs.Given.Rule.Words.{Blocks}
 use Rattle.papaya_owned.specs.Given.Callers.Pairs.{Given}

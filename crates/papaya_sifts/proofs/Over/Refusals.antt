@@ -1,10 +1,10 @@
 -- For what a sweep of one owner's map is refused: memory, or the length of a table.
 use Rattle.std.specs.Prelude.{ℕ, Result, IfErr}
-use Rattle.seize_words.specs.Mem.{Mem, Took, value_at}
-use Rattle.seize_words.specs.Plan.{Steps}
-use Rattle.seize_words.specs.declared.fault.Fault.{Fault}
-use Rattle.seize.specs.declared.progress.Progress.{Progress}
-use Rattle.papaya_tables.specs.declared.node.Node.{Node}
+use Rattle.papaya_owned.specs.Given.SeizeWords.Mem.{Mem, Took, value_at}
+use Rattle.papaya_owned.specs.Given.SeizeWords.Plan.{Steps}
+use Rattle.papaya_owned.specs.Given.SeizeWords.declared.fault.Fault.{Fault}
+use Rattle.papaya_owned.specs.Given.Seize.declared.progress.Progress.{Progress}
+use Rattle.papaya_owned.specs.Given.Tables.declared.node.Node.{Node}
 use Rattle.papaya_owned.specs.Given.Sweeps.Sweep.{sweep_plan}
 use Rattle.papaya_owned.specs.Given.Sweeps.declared.sweep.Swept.{Swept}
 use Rattle.papaya_owned.specs.Given.Sweeps.declared.sweep.Swept.TheVariants as swept

@@ -6,12 +6,12 @@ use Rattle.std.proofs.lemmas.List.{append-nil}
 use Rattle.std.proofs.lemmas.List.Elements.{filter-append}
 use Rattle.std.proofs.lemmas.List.Sorted.{IsPermutation-to_front, IsPermutation-append_left, length_permutation}
 use denote.Ref.{Bor}
-use Rattle.seize_words.specs.Mem.{Mem, value_at}
-use Rattle.seize_words.specs.Word.{block_in}
-use Rattle.papaya_tables.specs.Chunks.{is_incremental}
-use Rattle.papaya_tables.specs.declared.node.Node.{Node}
-use Rattle.papaya_tables.specs.declared.node.Node.TheVariants as node
-use Rattle.papaya_tables.specs.declared.setting.Setting.{Setting}
+use Rattle.papaya_owned.specs.Given.SeizeWords.Mem.{Mem, value_at}
+use Rattle.papaya_owned.specs.Given.SeizeWords.Word.{block_in}
+use Rattle.papaya_owned.specs.Given.Tables.Chunks.{is_incremental}
+use Rattle.papaya_owned.specs.Given.Tables.declared.node.Node.{Node}
+use Rattle.papaya_owned.specs.Given.Tables.declared.node.Node.TheVariants as node
+use Rattle.papaya_owned.specs.Given.Tables.declared.setting.Setting.{Setting}
 use Rattle.papaya_owned.specs.Given.Sweeps.SweepPoints.{after_reply}
 use Rattle.papaya_owned.specs.Given.Sweeps.declared.sweep.Purpose.{Purpose}
 use Rattle.papaya_owned.specs.Given.Sweeps.declared.sweep.Purpose.TheVariants.{Walks, Retains}

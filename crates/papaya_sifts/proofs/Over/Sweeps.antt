@@ -2,16 +2,16 @@
 use Rattle.std.specs.Prelude.{◌≡◌, ℕ, Bool, true, List, [], Result, Ok, Err}
 use Rattle.std.proofs.Common.{refl, sym, ◌∙◌, ap, subst, inl}
 use denote.Ref.{Bor}
-use Rattle.seize_words.specs.Mem.{Mem, Can, Took, value_at}
-use Rattle.seize_words.specs.Plan.{Plan, May, Steps}
-use Rattle.seize_words.specs.declared.fault.Fault.{Fault}
-use Rattle.seize_words.specs.declared.fault.Fault.TheVariants.{Capacity}
-use Rattle.seize.specs.World.{World}
-use Rattle.seize.specs.declared.progress.Progress.{Progress}
+use Rattle.papaya_owned.specs.Given.SeizeWords.Mem.{Mem, Can, Took, value_at}
+use Rattle.papaya_owned.specs.Given.SeizeWords.Plan.{Plan, May, Steps}
+use Rattle.papaya_owned.specs.Given.SeizeWords.declared.fault.Fault.{Fault}
+use Rattle.papaya_owned.specs.Given.SeizeWords.declared.fault.Fault.TheVariants.{Capacity}
+use Rattle.papaya_owned.specs.Given.Seize.World.{World}
+use Rattle.papaya_owned.specs.Given.Seize.declared.progress.Progress.{Progress}
 use Rattle.papaya_owned.proofs.Given.SeizeRule.Rows.Leaving.{steps_back}
-use Rattle.papaya_tables.specs.Chunks.{is_incremental}
-use Rattle.papaya_tables.specs.declared.node.Node.{Node}
-use Rattle.papaya_tables.specs.declared.setting.Setting.{Setting}
+use Rattle.papaya_owned.specs.Given.Tables.Chunks.{is_incremental}
+use Rattle.papaya_owned.specs.Given.Tables.declared.node.Node.{Node}
+use Rattle.papaya_owned.specs.Given.Tables.declared.setting.Setting.{Setting}
 use Rattle.papaya_owned.specs.Given.Sweeps.Sweep.{sweep_plan}
 use Rattle.papaya_owned.specs.Given.Sweeps.SweepPoints.{sweeping}
 use Rattle.papaya_owned.specs.Given.Sweeps.declared.sweep.Purpose.{Purpose}

@@ -2,35 +2,35 @@
 use Rattle.std.specs.Prelude.{◌≡◌, ℕ, ◌+◌, ◌<◌, Bool, List, [], ◌∷◌, ◌++◌, length}
 use Rattle.std.specs.Int.{IsPowerOfTwo}
 use Rattle.std.proofs.Common.{inl, inr, refl, ap, subst, ◌∙◌, length-append}
-use Rattle.papaya_maps.specs.Given.SeizeWords.Mem.{Mem, Took, value_at}
-use Rattle.papaya_maps.specs.Given.SeizeWords.Plan.{Steps}
-use Rattle.papaya_maps.specs.Given.Seize.World.{World, Row, Settles, Defers}
-use Rattle.papaya_maps.proofs.Given.SeizeEnds.Rows.Defer.{defer_to_go}
-use Rattle.papaya_maps.proofs.Given.SeizeEnds.Settling.Most.{settle_to_go}
-use Rattle.papaya_maps.specs.Given.Tables.Nodes.{deferred_word}
-use Rattle.papaya_maps.specs.Given.Tables.declared.node.Node.{Node}
-use Rattle.papaya_maps.specs.Given.Tables.declared.setting.Setting.{Setting}
-use Rattle.papaya_maps.specs.Given.Raw.Call.{call_plan, plan_at}
-use Rattle.papaya_maps.specs.Given.Raw.declared.machines.answer.Called.{Called}
-use Rattle.papaya_maps.specs.Given.Raw.declared.machines.answer.Called.TheVariants as called
-use Rattle.papaya_maps.specs.Given.Raw.declared.machines.answer.End.{End}
-use Rattle.papaya_maps.specs.Given.Raw.declared.machines.answer.End.TheVariants as over
-use Rattle.papaya_maps.specs.Given.Raw.declared.machines.call.KeyCall.{KeyCall}
-use Rattle.papaya_maps.specs.Given.Raw.declared.machines.call.Calling.{Calling}
-use Rattle.papaya_maps.specs.Given.Raw.declared.machines.call.Calling.TheVariants as at
-use Rattle.papaya_maps.specs.Given.Rule.Chart.{Chart}
-use Rattle.papaya_maps.specs.Given.Rule.Words.{Blocks}
-use Rattle.papaya_maps.specs.Given.Rule.InWorld.{Went}
-use Rattle.papaya_maps.specs.Given.Points.FactsCalls.{Change}
-use Rattle.papaya_maps.specs.Given.Points.Measures.{IsBelow}
-use Rattle.papaya_maps.specs.Given.Points.Steps.{AreLawful}
-use Rattle.papaya_maps.specs.Given.Points.Told.{IsRowOfCall}
-use Rattle.papaya_maps.specs.Given.Alone.Endings.{runs_end}
-use Rattle.papaya_falls.specs.Calls.{number_of_call}
-use Rattle.papaya_falls.proofs.Laws.{calls_fall, numbers_are_as_many}
-use Rattle.papaya_maps.specs.Given.Callers.Rows.{row_of}
-use Rattle.papaya_maps.specs.Given.Callers.Sights.{Sight, seen_by}
-use Rattle.papaya_maps.specs.Given.Callers.Together.{CallOnKey, OnKey}
+use Rattle.papaya_waits.specs.Given.SeizeWords.Mem.{Mem, Took, value_at}
+use Rattle.papaya_waits.specs.Given.SeizeWords.Plan.{Steps}
+use Rattle.papaya_waits.specs.Given.Seize.World.{World, Row, Settles, Defers}
+use Rattle.papaya_waits.proofs.Given.SeizeEnds.Rows.Defer.{defer_to_go}
+use Rattle.papaya_waits.proofs.Given.SeizeEnds.Settling.Most.{settle_to_go}
+use Rattle.papaya_passes.specs.Given.Tables.Nodes.{deferred_word}
+use Rattle.papaya_passes.specs.Given.Tables.declared.node.Node.{Node}
+use Rattle.papaya_passes.specs.Given.Tables.declared.setting.Setting.{Setting}
+use Rattle.papaya_passes.specs.Given.Raw.Call.{call_plan, plan_at}
+use Rattle.papaya_passes.specs.Given.Raw.declared.machines.answer.Called.{Called}
+use Rattle.papaya_passes.specs.Given.Raw.declared.machines.answer.Called.TheVariants as called
+use Rattle.papaya_passes.specs.Given.Raw.declared.machines.answer.End.{End}
+use Rattle.papaya_passes.specs.Given.Raw.declared.machines.answer.End.TheVariants as over
+use Rattle.papaya_passes.specs.Given.Raw.declared.machines.call.KeyCall.{KeyCall}
+use Rattle.papaya_passes.specs.Given.Raw.declared.machines.call.Calling.{Calling}
+use Rattle.papaya_passes.specs.Given.Raw.declared.machines.call.Calling.TheVariants as at
+use Rattle.papaya_passes.specs.Given.Rule.Chart.{Chart}
+use Rattle.papaya_passes.specs.Given.Rule.Words.{Blocks}
+use Rattle.papaya_passes.specs.Given.Rule.InWorld.{Went}
+use Rattle.papaya_passes.specs.Given.Points.FactsCalls.{Change}
+use Rattle.papaya_passes.specs.Given.Points.Measures.{IsBelow}
+use Rattle.papaya_passes.specs.Given.Points.Steps.{AreLawful}
+use Rattle.papaya_passes.specs.Given.Points.Told.{IsRowOfCall}
+use Rattle.papaya_waits.specs.Given.Alone.Endings.{runs_end}
+use Rattle.papaya_passes.specs.Given.Falls.Calls.{number_of_call}
+use Rattle.papaya_passes.proofs.Given.Falls.Laws.{calls_fall, numbers_are_as_many}
+use Rattle.papaya_waits.specs.Given.Callers.Rows.{row_of}
+use Rattle.papaya_waits.specs.Given.Callers.Sights.{Sight, seen_by}
+use Rattle.papaya_waits.specs.Given.Callers.Together.{CallOnKey, OnKey}
 use Rattle.papaya_whole.specs.Owner.{IsAlone}
 use Rattle.papaya_whole.specs.Whole.{then_so, GoesOn, ComesToAnEnd}
 use Rattle.papaya_whole.proofs.Joined.{same_joined, links_joined}

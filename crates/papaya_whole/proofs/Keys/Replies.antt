@@ -2,44 +2,44 @@
 use Rattle.std.specs.Prelude.{◌≡◌, ℕ, ◌==◌, Bool, true, false, Option, Some, if◌then◌else◌}
 use Rattle.std.specs.Int.{IsPowerOfTwo}
 use Rattle.std.proofs.Common.{inl, inr, refl, ap, sym, subst, ◌∙◌}
-use Rattle.papaya_maps.specs.Given.Seize.World.{World, with_at}
-use Rattle.papaya_maps.specs.Given.Tables.Chunks.{is_incremental}
-use Rattle.papaya_maps.specs.Given.Tables.declared.marks.TheConstants.{TOMBSTONE}
-use Rattle.papaya_maps.specs.Given.Tables.declared.node.Node.{Node}
-use Rattle.papaya_maps.specs.Given.Tables.declared.setting.Setting.{Setting}
-use Rattle.papaya_maps.specs.Given.SeizeWords.declared.fault.Fault.TheVariants.{RemoveNothing}
-use Rattle.papaya_maps.specs.Given.Raw.CallAsks.{with_absent, with_present, absent_told, present_told, told_at, replied}
-use Rattle.papaya_maps.specs.Given.Raw.CallPoints.{over, going, ending, storing, burying, at_gap}
-use Rattle.papaya_maps.specs.Given.Raw.declared.machines.answer.End.{End}
-use Rattle.papaya_maps.specs.Given.Raw.declared.machines.answer.End.TheVariants as ends
-use Rattle.papaya_maps.specs.Given.Raw.declared.machines.answer.KeyAnswer.TheVariants as answers
-use Rattle.papaya_maps.specs.Given.Raw.declared.machines.asking.Asking.{Asking}
-use Rattle.papaya_maps.specs.Given.Raw.declared.machines.asking.Asking.TheVariants as asking
-use Rattle.papaya_maps.specs.Given.Raw.declared.machines.asking.Gap.{Gap}
-use Rattle.papaya_maps.specs.Given.Raw.declared.machines.asking.Gap.TheVariants as gaps
-use Rattle.papaya_maps.specs.Given.Raw.declared.machines.asking.Reply.{Reply}
-use Rattle.papaya_maps.specs.Given.Raw.declared.machines.asking.Reply.TheVariants as reply
-use Rattle.papaya_maps.specs.Given.Raw.declared.machines.asking.Takes.{Takes}
-use Rattle.papaya_maps.specs.Given.Raw.declared.machines.asking.Takes.TheVariants as takes
-use Rattle.papaya_maps.specs.Given.Raw.declared.machines.asking.Told.{Told}
-use Rattle.papaya_maps.specs.Given.Raw.declared.machines.asking.Told.TheVariants as tells
-use Rattle.papaya_maps.specs.Given.Raw.declared.machines.call.KeyCall.{KeyCall}
-use Rattle.papaya_maps.specs.Given.Raw.declared.machines.call.Calling.{Calling}
-use Rattle.papaya_maps.specs.Given.Raw.declared.machines.call.Calling.TheVariants as at
-use Rattle.papaya_maps.specs.Given.Rule.Chart.{Chart}
-use Rattle.papaya_maps.specs.Given.Rule.Words.{Blocks}
-use Rattle.papaya_maps.specs.Given.Rule.InWorld.{IsMapIn}
-use Rattle.papaya_maps.specs.Given.Points.FactsCalls.{CallFacts}
-use Rattle.papaya_maps.specs.Given.Points.Steps.{AreLawful}
-use Rattle.papaya_maps.specs.Given.Points.Told.{IsRowOfCall}
-use Rattle.papaya_maps.proofs.Given.Points.Calls.RepliesKnow.{replies_are_taken}
-use Rattle.papaya_maps.specs.Given.Alone.Counted.{counted_end, counted_at}
-use Rattle.papaya_maps.specs.Given.Alone.FactsAloneCalls.{TablesAlone, StandsAlone}
-use Rattle.papaya_maps.specs.Given.Callers.Sights.{Sight, seen_by}
-use Rattle.papaya_maps.specs.Given.Callers.Together.{CallOnKey, OnKey, told_about, in_slot, Stands, Together}
-use Rattle.papaya_maps.proofs.Given.Callers.Together.At.{at_other, at_same}
-use Rattle.papaya_maps.proofs.Given.Callers.Together.FactsOn.{KnowsOfCall}
-use Rattle.papaya_maps.proofs.Given.Callers.Together.Replies.{replies_stand_together}
+use Rattle.papaya_waits.specs.Given.Seize.World.{World, with_at}
+use Rattle.papaya_passes.specs.Given.Tables.Chunks.{is_incremental}
+use Rattle.papaya_passes.specs.Given.Tables.declared.marks.TheConstants.{TOMBSTONE}
+use Rattle.papaya_passes.specs.Given.Tables.declared.node.Node.{Node}
+use Rattle.papaya_passes.specs.Given.Tables.declared.setting.Setting.{Setting}
+use Rattle.papaya_waits.specs.Given.SeizeWords.declared.fault.Fault.TheVariants.{RemoveNothing}
+use Rattle.papaya_passes.specs.Given.Raw.CallAsks.{with_absent, with_present, absent_told, present_told, told_at, replied}
+use Rattle.papaya_passes.specs.Given.Raw.CallPoints.{over, going, ending, storing, burying, at_gap}
+use Rattle.papaya_passes.specs.Given.Raw.declared.machines.answer.End.{End}
+use Rattle.papaya_passes.specs.Given.Raw.declared.machines.answer.End.TheVariants as ends
+use Rattle.papaya_passes.specs.Given.Raw.declared.machines.answer.KeyAnswer.TheVariants as answers
+use Rattle.papaya_passes.specs.Given.Raw.declared.machines.asking.Asking.{Asking}
+use Rattle.papaya_passes.specs.Given.Raw.declared.machines.asking.Asking.TheVariants as asking
+use Rattle.papaya_passes.specs.Given.Raw.declared.machines.asking.Gap.{Gap}
+use Rattle.papaya_passes.specs.Given.Raw.declared.machines.asking.Gap.TheVariants as gaps
+use Rattle.papaya_passes.specs.Given.Raw.declared.machines.asking.Reply.{Reply}
+use Rattle.papaya_passes.specs.Given.Raw.declared.machines.asking.Reply.TheVariants as reply
+use Rattle.papaya_passes.specs.Given.Raw.declared.machines.asking.Takes.{Takes}
+use Rattle.papaya_passes.specs.Given.Raw.declared.machines.asking.Takes.TheVariants as takes
+use Rattle.papaya_passes.specs.Given.Raw.declared.machines.asking.Told.{Told}
+use Rattle.papaya_passes.specs.Given.Raw.declared.machines.asking.Told.TheVariants as tells
+use Rattle.papaya_passes.specs.Given.Raw.declared.machines.call.KeyCall.{KeyCall}
+use Rattle.papaya_passes.specs.Given.Raw.declared.machines.call.Calling.{Calling}
+use Rattle.papaya_passes.specs.Given.Raw.declared.machines.call.Calling.TheVariants as at
+use Rattle.papaya_passes.specs.Given.Rule.Chart.{Chart}
+use Rattle.papaya_passes.specs.Given.Rule.Words.{Blocks}
+use Rattle.papaya_passes.specs.Given.Rule.InWorld.{IsMapIn}
+use Rattle.papaya_passes.specs.Given.Points.FactsCalls.{CallFacts}
+use Rattle.papaya_passes.specs.Given.Points.Steps.{AreLawful}
+use Rattle.papaya_passes.specs.Given.Points.Told.{IsRowOfCall}
+use Rattle.papaya_passes.proofs.Given.Points.Calls.RepliesKnow.{replies_are_taken}
+use Rattle.papaya_waits.specs.Given.Alone.Counted.{counted_end, counted_at}
+use Rattle.papaya_waits.specs.Given.Alone.FactsAloneCalls.{TablesAlone, StandsAlone}
+use Rattle.papaya_waits.specs.Given.Callers.Sights.{Sight, seen_by}
+use Rattle.papaya_waits.specs.Given.Callers.Together.{CallOnKey, OnKey, told_about, in_slot, Stands, Together}
+use Rattle.papaya_waits.proofs.Given.Callers.Together.At.{at_other, at_same}
+use Rattle.papaya_waits.proofs.Given.Callers.Together.FactsOn.{KnowsOfCall}
+use Rattle.papaya_waits.proofs.Given.Callers.Together.Replies.{replies_stand_together}
 use Rattle.papaya_whole.specs.Owner.{IsFirst, IsOfRoot, IsAlone}
 use Rattle.papaya_whole.specs.Whole.{RepliesLeadOn, RepliesCountNothing}
 use Rattle.papaya_whole.proofs.Fresh.Calls.{never_both}

@@ -1,30 +1,30 @@
 -- What a retaining that is alone was told to remove, its try removes.
 use Rattle.std.specs.Prelude.{◌≡◌, ◌≢◌, ℕ, ◌<◌, ◌==◌, ◌&&◌, ◌⊎◌, Bool, true, false, Some, if◌then◌else◌}
 use Rattle.std.proofs.Common.{inl, inr, ap, sym, ◌∙◌}
-use Rattle.papaya_maps.specs.Given.SeizeWords.Mem.{Mem, Took, value_at, word_at}
-use Rattle.papaya_maps.specs.Given.SeizeWords.Plan.{Steps}
-use Rattle.papaya_maps.specs.Given.SeizeWords.Word.{block_in}
-use Rattle.papaya_maps.proofs.Given.SeizeWords.OneOwner.Operations.{exchanged}
-use Rattle.papaya_maps.specs.Given.Seize.World.{World}
-use Rattle.papaya_maps.specs.Given.Tables.Marks.{has_mark}
-use Rattle.papaya_maps.specs.Given.Tables.TablePlaces.{at_place}
-use Rattle.papaya_maps.specs.Given.Tables.declared.marks.TheConstants.{COPYING, TOMBSTONE}
-use Rattle.papaya_maps.specs.Given.Tables.declared.node.Node.{Node}
-use Rattle.papaya_maps.specs.Given.Tables.declared.setting.Setting.{Setting}
-use Rattle.papaya_maps.specs.Given.Tables.declared.table.Table.{Table}
-use Rattle.papaya_maps.specs.Given.Sweeps.Sweep.{tried, tries}
-use Rattle.papaya_maps.specs.Given.Sweeps.SweepPoints.{removes, further, telling, going, at_pair, seen}
-use Rattle.papaya_maps.specs.Given.Sweeps.declared.sweep.Purpose.{Purpose}
-use Rattle.papaya_maps.specs.Given.Sweeps.declared.sweep.Purpose.TheVariants.{Walks, Clears, Retains}
-use Rattle.papaya_maps.specs.Given.Sweeps.declared.sweep.Sweep.{Sweep}
-use Rattle.papaya_maps.specs.Given.Sweeps.declared.sweep.Sweeping.TheVariants as at
-use Rattle.papaya_maps.specs.Given.Sweeps.declared.sweep.Swept.{Swept}
-use Rattle.papaya_maps.specs.Given.Rule.Chart.{Chart}
-use Rattle.papaya_maps.specs.Given.Rule.Words.{Blocks, place_word}
-use Rattle.papaya_maps.specs.Given.Rule.InWorld.{IsMapIn}
-use Rattle.papaya_maps.proofs.Given.Rule.Words.TablesSeen.{place_there}
-use Rattle.papaya_maps.specs.Given.Late.FactsSweeps.{GoesOver}
-use Rattle.papaya_maps.proofs.Given.Late.Swept.Sweeps.Moved.{Sees, Removing}
+use Rattle.papaya_waits.specs.Given.SeizeWords.Mem.{Mem, Took, value_at, word_at}
+use Rattle.papaya_waits.specs.Given.SeizeWords.Plan.{Steps}
+use Rattle.papaya_waits.specs.Given.SeizeWords.Word.{block_in}
+use Rattle.papaya_waits.proofs.Given.SeizeWords.OneOwner.Operations.{exchanged}
+use Rattle.papaya_waits.specs.Given.Seize.World.{World}
+use Rattle.papaya_passes.specs.Given.Tables.Marks.{has_mark}
+use Rattle.papaya_passes.specs.Given.Tables.TablePlaces.{at_place}
+use Rattle.papaya_passes.specs.Given.Tables.declared.marks.TheConstants.{COPYING, TOMBSTONE}
+use Rattle.papaya_passes.specs.Given.Tables.declared.node.Node.{Node}
+use Rattle.papaya_passes.specs.Given.Tables.declared.setting.Setting.{Setting}
+use Rattle.papaya_passes.specs.Given.Tables.declared.table.Table.{Table}
+use Rattle.papaya_passes.specs.Given.Sweeps.Sweep.{tried, tries}
+use Rattle.papaya_passes.specs.Given.Sweeps.SweepPoints.{removes, further, telling, going, at_pair, seen}
+use Rattle.papaya_passes.specs.Given.Sweeps.declared.sweep.Purpose.{Purpose}
+use Rattle.papaya_passes.specs.Given.Sweeps.declared.sweep.Purpose.TheVariants.{Walks, Clears, Retains}
+use Rattle.papaya_passes.specs.Given.Sweeps.declared.sweep.Sweep.{Sweep}
+use Rattle.papaya_passes.specs.Given.Sweeps.declared.sweep.Sweeping.TheVariants as at
+use Rattle.papaya_passes.specs.Given.Sweeps.declared.sweep.Swept.{Swept}
+use Rattle.papaya_passes.specs.Given.Rule.Chart.{Chart}
+use Rattle.papaya_passes.specs.Given.Rule.Words.{Blocks, place_word}
+use Rattle.papaya_passes.specs.Given.Rule.InWorld.{IsMapIn}
+use Rattle.papaya_passes.proofs.Given.Rule.Words.TablesSeen.{place_there}
+use Rattle.papaya_passes.specs.Given.Late.FactsSweeps.{GoesOver}
+use Rattle.papaya_passes.proofs.Given.Late.Swept.Sweeps.Moved.{Sees, Removing}
 use Rattle.papaya_whole.specs.LoneSweeps.{StandsThere}
 use Rattle.papaya_whole.proofs.Sweeps.Over.{further_by}
 

@@ -15,14 +15,14 @@ use Rattle.seize.specs.declared.rows.settle.Settling.TheVariants as at
 use Rattle.seize.specs.declared.rows.settle.Settled.{Settled}
 use Rattle.seize.specs.declared.rows.settle.Settled.TheVariants.{Goes, Waits}
 use Rattle.seize.specs.Settle as plans
-use Rattle.seize_alone.proofs.Given.SeizeMoves.State.Ghost.{State}
-use Rattle.seize_rule.proofs.Words.Named.{words_of, word_found, wrote, link}
-use Rattle.seize_rule.proofs.Words.Chains.{Chain, last_of, waiting}
-use Rattle.seize_rule.proofs.Words.View.{View, view, view_count}
-use Rattle.seize_rule.proofs.Words.Shows.{Extra, Shows}
-use Rattle.seize_rule.proofs.Points.Deferred.{puts_none}
-use Rattle.seize_rule.proofs.Points.Told.{Plain, Pushing, part_at, Told}
-use Rattle.seize_rule.proofs.Points.Known.{Counts as CountsKnown, bare}
+use Rattle.seize_acts.proofs.Given.SeizeMoves.State.Ghost.{State}
+use Rattle.seize_acts.proofs.Given.SeizeRule.Words.Named.{words_of, word_found, wrote, link}
+use Rattle.seize_acts.proofs.Given.SeizeRule.Words.Chains.{Chain, last_of, waiting}
+use Rattle.seize_acts.proofs.Given.SeizeRule.Words.View.{View, view, view_count}
+use Rattle.seize_acts.proofs.Given.SeizeRule.Words.Shows.{Extra, Shows}
+use Rattle.seize_acts.proofs.Given.SeizeRule.Points.Deferred.{puts_none}
+use Rattle.seize_acts.proofs.Given.SeizeRule.Points.Told.{Plain, Pushing, part_at, Told}
+use Rattle.seize_acts.proofs.Given.SeizeRule.Points.Known.{Counts as CountsKnown, bare}
 use Rattle.seize_bounds.proofs.Bounds.Hands.{chains_agree}
 use Rattle.seize_bounds.proofs.Bounds.Knows.{is_popped, known_at}
 use Rattle.seize_bounds.proofs.Bounds.Machine.{MOST}

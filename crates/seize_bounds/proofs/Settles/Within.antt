@@ -11,21 +11,21 @@ use Rattle.seize.specs.declared.rows.leave.Leaving.{Leaving}
 use Rattle.seize.specs.declared.rows.leave.Leaving.TheVariants as leaving
 use Rattle.seize.specs.Settle.{counting_down}
 use Rattle.seize.specs.World.{World, Row, Rests, Registers, Enters, Settles, Leaves, Defers, Frees, Event, Step, Steps', at_start}
-use Rattle.seize_alone.specs.Given.SeizeWaiting.Held.{count}
-use Rattle.seize_alone.proofs.Given.SeizeMoves.State.Ghost.{State, Life, is_pending}
-use Rattle.seize_rule.proofs.Words.Named.{words_of, link}
-use Rattle.seize_rule.proofs.Words.Chains.{last_of}
-use Rattle.seize_rule.proofs.Words.Shows.{lives}
-use Rattle.seize_rule.proofs.Words.Sums.{list_below}
-use Rattle.seize_rule.proofs.Words.View.{view}
-use Rattle.seize_rule.proofs.Points.Known.{Fits}
-use Rattle.seize_rule.proofs.Points.Settle.{is_over}
-use Rattle.seize_rule.proofs.Rows.Others.{steps_others}
-use Rattle.seize_rule.proofs.World.Good.{Good}
-use Rattle.seize_rule.proofs.World.Start.{start_good}
-use Rattle.seize_alone.proofs.Histories.Reached.{Reached, runs_reached}
-use Rattle.seize_alone.specs.Given.SeizeEnds.Holders.{has_batch}
-use Rattle.seize_ends.proofs.Batches.Rows.{HeldByRows, has_on, happens_held, runs_held, start_held}
+use Rattle.seize_acts.specs.Given.SeizeWaiting.Held.{count}
+use Rattle.seize_acts.proofs.Given.SeizeMoves.State.Ghost.{State, Life, is_pending}
+use Rattle.seize_acts.proofs.Given.SeizeRule.Words.Named.{words_of, link}
+use Rattle.seize_acts.proofs.Given.SeizeRule.Words.Chains.{last_of}
+use Rattle.seize_acts.proofs.Given.SeizeRule.Words.Shows.{lives}
+use Rattle.seize_acts.proofs.Given.SeizeRule.Words.Sums.{list_below}
+use Rattle.seize_acts.proofs.Given.SeizeRule.Words.View.{view}
+use Rattle.seize_acts.proofs.Given.SeizeRule.Points.Known.{Fits}
+use Rattle.seize_acts.proofs.Given.SeizeRule.Points.Settle.{is_over}
+use Rattle.seize_acts.proofs.Given.SeizeRule.Rows.Others.{steps_others}
+use Rattle.seize_acts.proofs.Given.SeizeRule.World.Good.{Good}
+use Rattle.seize_acts.proofs.Given.SeizeRule.World.Start.{start_good}
+use Rattle.seize_acts.proofs.Given.SeizeAlone.Histories.Reached.{Reached, runs_reached}
+use Rattle.seize_acts.specs.Given.SeizeEnds.Holders.{has_batch}
+use Rattle.seize_acts.proofs.Given.SeizeEnds.Batches.Rows.{HeldByRows, has_on, happens_held, runs_held, start_held}
 use Rattle.seize_acts.specs.Waits.{SettlesOn}
 use Rattle.seize_bounds.specs.Bounds.{HasTried, HasCounted, IsToTry, IsAloneOnSlot, Meanwhile, Within, BatchesAreTried, ListsAreSettled}
 use Rattle.seize_bounds.proofs.Bounds.Hands.{after_event}
@@ -40,7 +40,7 @@ use Rattle.seize_bounds.proofs.Settles.Measure.{SeenAt, HasSeen, here}
 use Rattle.seize_bounds.proofs.Settles.Others.{left_of, still_left}
 use Rattle.seize_bounds.proofs.Settles.Reclaims.{put_once}
 use Rattle.seize_bounds.proofs.Settles.Step.{Stepping}
-use Rattle.seize_rule.proofs.Points.Told.{part}
+use Rattle.seize_acts.proofs.Given.SeizeRule.Points.Told.{part}
 
 -- a row that has a batch in hand settles on its slot
 batch_on : (n s : ℕ) (row : Row) → WorksThere n row → has_batch s row ≡ true → SettlesOn s row

@@ -3,20 +3,20 @@ use Rattle.std.proofs.Common.{◌≡◌, ℕ, ◌≤◌, List, [], ◌∷◌, �
 use Rattle.std.proofs.lemmas.List.{append-nil}
 use Rattle.seize.specs.Sequence.{taken_in}
 use Rattle.seize.specs.WaitingSets.{Further, Sets, After, with_closed, giving, further_of, further_of_all}
-use Rattle.seize_waiting.specs.Held.{count, weight, weight_put}
-use Rattle.seize_waiting.specs.Changes.{kept}
-use Rattle.seize_waiting.proofs.Behind.{kept-append}
-use Rattle.seize_waiting.proofs.Bound.{one, rounds}
-use Rattle.seize_waiting.proofs.Work.{rest_given, others_put, one_given, all_given}
-use Rattle.seize_moves.proofs.State.Ghost.{State}
-use Rattle.seize_moves.proofs.State.Rule.{Inv}
-use Rattle.seize_moves.proofs.State.Moves
-use Rattle.seize_rule.proofs.Words.Apart.{put_here}
-use Rattle.seize_moves.proofs.Sets.Shown.{Models, Alike, models_alike}
-use Rattle.seize_moves.proofs.Sets.ListTaken.{drained_models, taken_alike, joined_alike}
-use Rattle.seize_moves.proofs.Sets.Working.{after_these}
-use Rattle.seize_moves.proofs.Sets.Countdown.{tail_of}
-use Rattle.seize_rule.proofs.Points.Told.{Plain, Draining}
+use Rattle.seize_ends.specs.Given.SeizeWaiting.Held.{count, weight, weight_put}
+use Rattle.seize_ends.specs.Given.SeizeWaiting.Changes.{kept}
+use Rattle.seize_ends.proofs.Given.SeizeWaiting.Behind.{kept-append}
+use Rattle.seize_ends.proofs.Given.SeizeWaiting.Bound.{one, rounds}
+use Rattle.seize_ends.proofs.Given.SeizeWaiting.Work.{rest_given, others_put, one_given, all_given}
+use Rattle.seize_ends.proofs.Given.SeizeMoves.State.Ghost.{State}
+use Rattle.seize_ends.proofs.Given.SeizeMoves.State.Rule.{Inv}
+use Rattle.seize_ends.proofs.Given.SeizeMoves.State.Moves
+use Rattle.seize_ends.proofs.Given.SeizeRule.Words.Apart.{put_here}
+use Rattle.seize_ends.proofs.Given.SeizeMoves.Sets.Shown.{Models, Alike, models_alike}
+use Rattle.seize_ends.proofs.Given.SeizeMoves.Sets.ListTaken.{drained_models, taken_alike, joined_alike}
+use Rattle.seize_ends.proofs.Given.SeizeMoves.Sets.Working.{after_these}
+use Rattle.seize_ends.proofs.Given.SeizeMoves.Sets.Countdown.{tail_of}
+use Rattle.seize_ends.proofs.Given.SeizeRule.Points.Told.{Plain, Draining}
 use Rattle.seize_sets.proofs.Follows.Work.{Setting, Plainly, Drains, BehindKept, base_on, lined_on}
 
 -- a block stands once in what is left of a batch

@@ -2,32 +2,32 @@
 use Rattle.std.specs.Prelude.{length, ◌≡◌, ℕ, suc, ◌<◌, ◌≤◌, Bool, true, false, cond, List, [], ◌∷◌, Option, None}
 use Rattle.std.specs.List.{All}
 use Rattle.std.proofs.Common.{refl, ap, sym, subst, inl, arith}
-use Rattle.papaya_callers.specs.Given.Seize.Law.{With, where_is, is_somewhere, holds, owner_of}
-use Rattle.papaya_callers.specs.Given.Seize.World.{World, InUse, IsInside, IsOnto}
-use Rattle.papaya_callers.proofs.Given.SeizeMoves.State.Logs.{reached_held}
-use Rattle.papaya_callers.proofs.Given.SeizeAlone.Histories.Reached.{Reached}
-use Rattle.papaya_callers.proofs.Given.SeizeAlone.Histories.Uses.{inside_open}
-use Rattle.papaya_callers.specs.Given.Tables.Chunks.{is_incremental}
-use Rattle.papaya_callers.specs.Given.Tables.Nodes.{deferred_word}
-use Rattle.papaya_callers.specs.Given.Tables.declared.node.Node.{Node}
-use Rattle.papaya_callers.specs.Given.Tables.declared.setting.Setting.{Setting}
-use Rattle.papaya_callers.specs.Given.Tables.declared.status.TheConstants.Status.{ABORTED}
-use Rattle.papaya_callers.specs.Given.Rule.Chart.{Chart}
-use Rattle.papaya_callers.specs.Given.Rule.InWorld.{IsMapIn}
-use Rattle.papaya_callers.specs.Given.Rule.Maps.{spot_of}
-use Rattle.papaya_callers.specs.Given.Rule.Moments.{Moments}
-use Rattle.papaya_callers.specs.Given.Rule.Moves.{Links, after, is_done_by}
-use Rattle.papaya_callers.specs.Given.Rule.Rule.{no_table}
-use Rattle.papaya_callers.specs.Given.Rule.Words.{Blocks}
-use Rattle.papaya_callers.proofs.Given.Rule.Moves.Totals.{total_none}
-use Rattle.papaya_callers.specs.Given.Points.FactsCopies.{HasDone, ClaimsNone}
-use Rattle.papaya_callers.specs.Given.Points.FactsCopiesBlocking.{HasNoShares}
-use Rattle.papaya_callers.specs.Claims.{AreFew, ClaimsFit}
-use Rattle.papaya_callers.specs.Kept.{IsUsersOwn, IsMaking, IsKeptBy, IsWithin}
-use Rattle.papaya_callers.specs.Sights.{SeesSources, IsSight}
-use Rattle.papaya_callers.specs.Together.{UnderWay, HasCall, ToClaim, CameAbout, in_slot, Together}
-use Rattle.papaya_callers.proofs.Rows.Defers.{used_stands}
-use Rattle.papaya_callers.proofs.Together.Came.{came_reached}
+use Rattle.papaya_alone.specs.Given.Seize.Law.{With, where_is, is_somewhere, holds, owner_of}
+use Rattle.papaya_alone.specs.Given.Seize.World.{World, InUse, IsInside, IsOnto}
+use Rattle.papaya_alone.proofs.Given.SeizeMoves.State.Logs.{reached_held}
+use Rattle.papaya_alone.proofs.Given.SeizeAlone.Histories.Reached.{Reached}
+use Rattle.papaya_alone.proofs.Given.SeizeAlone.Histories.Uses.{inside_open}
+use Rattle.papaya_alone.specs.Given.Tables.Chunks.{is_incremental}
+use Rattle.papaya_alone.specs.Given.Tables.Nodes.{deferred_word}
+use Rattle.papaya_alone.specs.Given.Tables.declared.node.Node.{Node}
+use Rattle.papaya_alone.specs.Given.Tables.declared.setting.Setting.{Setting}
+use Rattle.papaya_alone.specs.Given.Tables.declared.status.TheConstants.Status.{ABORTED}
+use Rattle.papaya_alone.specs.Given.Rule.Chart.{Chart}
+use Rattle.papaya_alone.specs.Given.Rule.InWorld.{IsMapIn}
+use Rattle.papaya_alone.specs.Given.Rule.Maps.{spot_of}
+use Rattle.papaya_alone.specs.Given.Rule.Moments.{Moments}
+use Rattle.papaya_alone.specs.Given.Rule.Moves.{Links, after, is_done_by}
+use Rattle.papaya_alone.specs.Given.Rule.Rule.{no_table}
+use Rattle.papaya_alone.specs.Given.Rule.Words.{Blocks}
+use Rattle.papaya_alone.proofs.Given.Rule.Moves.Totals.{total_none}
+use Rattle.papaya_alone.specs.Given.Points.FactsCopies.{HasDone, ClaimsNone}
+use Rattle.papaya_alone.specs.Given.Points.FactsCopiesBlocking.{HasNoShares}
+use Rattle.papaya_alone.specs.Given.Callers.Claims.{AreFew, ClaimsFit}
+use Rattle.papaya_alone.specs.Given.Callers.Kept.{IsUsersOwn, IsMaking, IsKeptBy, IsWithin}
+use Rattle.papaya_alone.specs.Given.Callers.Sights.{SeesSources, IsSight}
+use Rattle.papaya_alone.specs.Given.Callers.Together.{UnderWay, HasCall, ToClaim, CameAbout, in_slot, Together}
+use Rattle.papaya_alone.proofs.Given.Callers.Rows.Defers.{used_stands}
+use Rattle.papaya_alone.proofs.Given.Callers.Together.Came.{came_reached}
 
 -- what is so of turn 0 is so of each turn below 1
 at_first : (P : ℕ → Type 0) → P 0 → (t : ℕ) → t < 1 → P t

@@ -1,9 +1,9 @@
 -- A map ends.
 use Rattle.std.proofs.Common.{[], inl, inr, sym, refl, ◌∙◌, arith}
 use Rattle.seize_words.specs.declared.fault.Fault.TheVariants.{Busy}
-use Rattle.papaya_schedules.specs.After.{moment}
-use Rattle.papaya_schedules.specs.declared.event.Event.TheVariants.{EndMap}
-use Rattle.papaya_schedules.specs.declared.outcome.Outcome.TheVariants.{Refused}
+use Rattle.papaya_scheduler.specs.Given.Schedules.After.{moment}
+use Rattle.papaya_scheduler.specs.Given.Schedules.declared.event.Event.TheVariants.{EndMap}
+use Rattle.papaya_scheduler.specs.Given.Schedules.declared.outcome.Outcome.TheVariants.{Refused}
 use Rattle.papaya_scheduler.proofs.Given.Logged.KeptGiven.{given_on}
 use Rattle.papaya_scheduler.proofs.Busy.{none_quiet}
 use Rattle.papaya_scheduler.proofs.Backs.{none_came}

@@ -6,10 +6,10 @@ use Rattle.papaya_scheduler.specs.Given.Logged.Makings.{MakingRan, numbers_then}
 use Rattle.papaya_scheduler.specs.Given.Logged.Roots.{MakingFinds}
 use Rattle.papaya_scheduler.proofs.Given.Logged.KeptGiven.{stays_on}
 use Rattle.seize_words.specs.declared.fault.Fault.TheVariants.{Busy, RootsUsedUp}
-use Rattle.papaya_schedules.specs.After.{moment}
-use Rattle.papaya_schedules.specs.declared.event.Event.TheVariants.{MakeMap}
-use Rattle.papaya_schedules.specs.declared.outcome.Outcome.{Outcome}
-use Rattle.papaya_schedules.specs.declared.outcome.Outcome.TheVariants.{Refused}
+use Rattle.papaya_scheduler.specs.Given.Schedules.After.{moment}
+use Rattle.papaya_scheduler.specs.Given.Schedules.declared.event.Event.TheVariants.{MakeMap}
+use Rattle.papaya_scheduler.specs.Given.Schedules.declared.outcome.Outcome.{Outcome}
+use Rattle.papaya_scheduler.specs.Given.Schedules.declared.outcome.Outcome.TheVariants.{Refused}
 use Rattle.papaya_scheduler.specs.Mapping.{numbers_made}
 use Rattle.papaya_mapping.proofs.MapNumbers.{given_up}
 use Rattle.papaya_scheduler.proofs.Busy.{none_quiet}

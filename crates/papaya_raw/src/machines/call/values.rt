@@ -1,17 +1,17 @@
 //! The call's own pair, the pairs that it disposes of, and lookups.
 ghost use Rattle.std.specs.Prelude.{◌≡◌, ℕ};
-ghost use Rattle.seize_words.specs.Plan.{May, Steps};
+ghost use Rattle.papaya_tables.specs.Given.SeizeWords.Plan.{May, Steps};
 ghost use Rattle.papaya_raw.specs.CallPoints.{word_to, standing};
 ghost use Rattle.papaya_raw.specs.Call.{makes, drops, looked, disposed, call_plan};
 ghost use Rattle.papaya_raw.specs.declared.machines.call.Calling.TheVariants as at;
 
 use crate::machines::answer::{Called, End, KeyAnswer};
 use crate::machines::call::{Calling, KeyCall};
-use papaya_resize::{Dispose, Lookup};
+use papaya_sweeps::papaya_resize::{Dispose, Lookup};
+use papaya_tables::seize::rows::Settled;
+use papaya_tables::seize::{Machine, Progress};
+use papaya_tables::seize_words::{Fault, Link, Memory};
 use papaya_tables::{Equivalent, Node, h2};
-use seize::rows::Settled;
-use seize::{Machine, Progress};
-use seize_words::{Fault, Link, Memory};
 use std::hash::Hash;
 
 /// The word that links to a block of this number, by a hash.

@@ -3,16 +3,16 @@ use Rattle.std.specs.Prelude.{position}
 use Rattle.std.specs.List.{list_any}
 use Rattle.std.proofs.Common.{refl, sym, ap, subst, ◌∙◌, arith}
 use Rattle.std.proofs.lemmas.Result.{IfOk-weaker}
-use Rattle.papaya_scheduler.specs.Given.SeizeWords.declared.fault.Fault.TheVariants.{Busy}
-use Rattle.papaya_schedules.specs.After.{moment}
-use Rattle.papaya_schedules.specs.Handing.{is_made}
-use Rattle.papaya_schedules.specs.declared.event.Event.TheVariants.{Step}
-use Rattle.papaya_schedules.specs.declared.outcome.Outcome.TheVariants.{Refused}
-use Rattle.papaya_named.specs.Seen.{is_named}
+use Rattle.papaya_runs.specs.Given.SeizeWords.declared.fault.Fault.TheVariants.{Busy}
+use Rattle.papaya_works.specs.Given.Schedules.After.{moment}
+use Rattle.papaya_works.specs.Given.Schedules.Handing.{is_made}
+use Rattle.papaya_works.specs.Given.Schedules.declared.event.Event.TheVariants.{Step}
+use Rattle.papaya_works.specs.Given.Schedules.declared.outcome.Outcome.TheVariants.{Refused}
+use Rattle.papaya_works.specs.Given.Named.Seen.{is_named}
 use Rattle.papaya_stepping.specs.Stepping.{PlaysOn}
 use Rattle.papaya_stepping.proofs.ByName.{none_there, some_there}
 use Rattle.papaya_stepping.proofs.PlaysAgain.{step_busy}
-use Rattle.papaya_scheduler.proofs.Rights.{entry_is}
+use Rattle.papaya_works.proofs.Given.Scheduler.Rights.{entry_is}
 use Rattle.papaya_stepping.proofs.TakenBy.{plays_taken}
 use Rattle.papaya_stepping.proofs.stepping.step.Goals as goal
 

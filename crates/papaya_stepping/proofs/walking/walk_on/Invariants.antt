@@ -1,11 +1,11 @@
 -- The walk goes over places, as many at least as it has taken steps, each of which just went on.
 use Rattle.std.specs.Prelude.{◌≡◌, ◌+◌, ℕ, List}
-use Rattle.papaya_schedules.specs.Moment.{Moment}
-use Rattle.papaya_schedules.specs.Terms.{Terms}
-use Rattle.papaya_scheduler.specs.Played.{StandsAs}
+use Rattle.papaya_works.specs.Given.Schedules.Moment.{Moment}
+use Rattle.papaya_works.specs.Given.Schedules.Terms.{Terms}
+use Rattle.papaya_works.specs.Given.Scheduler.Played.{StandsAs}
 use Rattle.papaya_stepping.specs.Stepping.{IsMidWalk, IsPlaced, ReadyAt, WalkedFor, WalksFar}
 use Rattle.papaya_stepping.proofs.walking.walk_on.Given as goal
-use Rattle.papaya_scheduler.specs.Given.Executor.IsThere.{KeepsGiven}
+use Rattle.papaya_works.specs.Given.Executor.IsThere.{KeepsGiven}
 
 abbrev pub invariant-loop-steps : goal.invariant-loop-steps
 invariant-loop-steps g l =

@@ -1,10 +1,10 @@
 -- The word of the try is read, and judged.
 use Rattle.std.proofs.Common.{sym, subst}
-use Rattle.seize_words.specs.Op.{Load, Found}
-use Rattle.seize_words.specs.declared.at.At.{At}
+use Rattle.papaya_tables.specs.Given.SeizeWords.Op.{Load, Found}
+use Rattle.papaya_tables.specs.Given.SeizeWords.declared.at.At.{At}
 use Rattle.papaya_tables.specs.declared.finding.Finding.{Finding}
-use Rattle.papaya_resize.specs.Lookup.{lookup_plan, told, told_of, word_read}
-use Rattle.papaya_resize.specs.declared.lookup.Looking.TheVariants as at
+use Rattle.papaya_raw.specs.Given.Resize.Lookup.{lookup_plan, told, told_of, word_read}
+use Rattle.papaya_raw.specs.Given.Resize.declared.lookup.Looking.TheVariants as at
 use Rattle.papaya_straight.specs.Going.{LookGoes}
 use Rattle.papaya_straight.specs.Looking.{glance_at, looks}
 use Rattle.seize_straight.specs.Reaches.{ComesTo}

@@ -1,0 +1,14 @@
+-- What is so by the crates below, given on to the crates above: these list this crate in place of those.
+pub use Rattle.papaya_scenes.proofs.Given.Rule
+pub use Rattle.papaya_scenes.proofs.Given.Finishes
+pub use Rattle.papaya_scenes.proofs.Given.Reclaims
+pub use Rattle.papaya_scenes.proofs.Given.Callers
+pub use Rattle.papaya_scenes.proofs.Given.Alone
+pub use Rattle.papaya_scenes.proofs.Given.Points
+pub use Rattle.papaya_scenes.proofs.Given.Late
+pub use Rattle.papaya_scenes.proofs as Scenes
+pub use Rattle.papaya_scenes.proofs.Given.SeizeActs
+pub use Rattle.papaya_scenes.proofs.Given.SeizeRule
+pub use Rattle.papaya_scenes.proofs.Given.SeizeEnds
+pub use Rattle.papaya_scenes.proofs.Given.SeizeAlone
+pub use Rattle.papaya_scenes.proofs.Given.SeizeMoves

@@ -1,0 +1,31 @@
+-- What is so by the crates below, given on to the crates above: these list this crate in place of those.
+pub use Rattle.papaya_agrees.proofs.Given.Played
+pub use Rattle.papaya_agrees.proofs as Agrees
+pub use Rattle.papaya_agrees.proofs.Given.SeizeMoves
+pub use Rattle.papaya_agrees.proofs.Given.SeizeRule
+pub use Rattle.papaya_events.proofs.Given.SeizeAlone
+pub use Rattle.papaya_events.proofs.Given.Promises
+pub use Rattle.papaya_agrees.proofs.Given.Callers
+pub use Rattle.papaya_agrees.proofs.Given.Others
+pub use Rattle.papaya_agrees.proofs.Given.Follows
+pub use Rattle.papaya_agrees.proofs.Given.Finishes
+pub use Rattle.papaya_agrees.proofs.Given.Spots
+pub use Rattle.papaya_events.proofs.Given.Logged
+pub use Rattle.papaya_events.proofs.Given.Moments
+pub use Rattle.papaya_agrees.proofs.Given.Hands
+pub use Rattle.papaya_events.proofs.Given.Finds
+pub use Rattle.papaya_agrees.proofs.Given.Scenes
+pub use Rattle.papaya_agrees.proofs.Given.Rule
+pub use Rattle.papaya_events.proofs.Given.Works
+pub use Rattle.papaya_events.proofs.Given.Histories
+pub use Rattle.papaya_events.proofs.Given.Legal
+pub use Rattle.papaya_events.proofs.Given.Stepping
+pub use Rattle.papaya_events.proofs.Given.Purposes
+pub use Rattle.papaya_events.proofs.Given.Kept
+pub use Rattle.papaya_events.proofs.Given.Settles
+pub use Rattle.papaya_events.proofs.Given.Shards
+pub use Rattle.papaya_agrees.proofs.Given.Acts
+pub use Rattle.papaya_events.proofs.Given.Lives
+pub use Rattle.papaya_events.proofs.Given.Remains
+pub use Rattle.papaya_events.proofs.Given.Owes
+pub use Rattle.papaya_events.proofs.Given.Grows

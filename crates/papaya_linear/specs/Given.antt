@@ -1,0 +1,34 @@
+-- The words of the crates below, given on to the crates above: these list this crate in place of those.
+pub use Rattle.papaya_agrees.specs.Given.Effects
+pub use Rattle.papaya_events.specs.Given.Promises
+pub use Rattle.papaya_agrees.specs.Given.Scenes
+pub use Rattle.papaya_agrees.specs.Given.Acts
+pub use Rattle.papaya_agrees.specs as Agrees
+pub use Rattle.papaya_agrees.specs.Given.Played
+pub use Rattle.papaya_events.specs.Given.SeizeActs
+pub use Rattle.papaya_agrees.specs.Given.Teller
+pub use Rattle.papaya_agrees.specs.Given.Rule
+pub use Rattle.papaya_agrees.specs.Given.Tells
+pub use Rattle.papaya_agrees.specs.Given.Finishes
+pub use Rattle.papaya_agrees.specs.Given.Others
+pub use Rattle.papaya_agrees.specs.Given.Named
+pub use Rattle.papaya_agrees.specs.Given.Callers
+pub use Rattle.papaya_events.specs.Given.Moments
+pub use Rattle.papaya_events.specs.Given.Logged
+pub use Rattle.papaya_agrees.specs.Given.Spots
+pub use Rattle.papaya_agrees.specs.Given.Follows
+pub use Rattle.papaya_events.specs.Given.Finds
+pub use Rattle.papaya_events.specs.Given.Settles
+pub use Rattle.papaya_events.specs.Given.Shards
+pub use Rattle.papaya_events.specs.Given.Purposes
+pub use Rattle.papaya_events.specs.Given.Late
+pub use Rattle.papaya_events.specs.Given.Histories
+pub use Rattle.papaya_events.specs.Given.Legal
+pub use Rattle.papaya_agrees.specs.Given.Hands
+pub use Rattle.papaya_events.specs.Given.Values
+pub use Rattle.papaya_events.specs.Given.Works
+pub use Rattle.papaya_events.specs.Given.Grows
+pub use Rattle.papaya_events.specs.Given.Kept
+pub use Rattle.papaya_events.specs.Given.Lives
+pub use Rattle.papaya_events.specs.Given.Owes
+pub use Rattle.papaya_events.specs.Given.Remains

@@ -1,0 +1,15 @@
+-- The words of the crates below, given on to the crates above: these list this crate in place of those.
+pub use Rattle.papaya_whole.specs.Given.Sweeps
+pub use Rattle.papaya_whole.specs.Given.Raw
+pub use Rattle.papaya_whole.specs.Given.Late
+pub use Rattle.papaya_whole.specs.Given.Callers
+pub use Rattle.papaya_whole.specs.Given.Finishes
+pub use Rattle.papaya_whole.specs.Given.Resize
+pub use Rattle.papaya_whole.specs.Given.Reserves
+pub use Rattle.papaya_whole.specs.Given.Rule
+pub use Rattle.papaya_whole.specs.Given.Waits
+pub use Rattle.papaya_whole.specs.Given.SeizeEnds
+pub use Rattle.papaya_whole.specs.Given.Points
+pub use Rattle.papaya_whole.specs.Given.SeizeActs
+pub use Rattle.papaya_whole.specs.Given.SeizeWaiting
+pub use Rattle.papaya_whole.specs.Given.SeizeAlone

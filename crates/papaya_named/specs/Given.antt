@@ -1,0 +1,30 @@
+-- The words of the crates below, given on to the crates above: these list this crate in place of those.
+pub use Rattle.papaya_hands.specs.Given.Effects
+pub use Rattle.papaya_present.specs.Given.Seize
+pub use Rattle.papaya_present.specs.Given.Tables
+pub use Rattle.papaya_hands.specs.Given.Schedules
+pub use Rattle.papaya_hands.specs.Given.Finishes
+pub use Rattle.papaya_hands.specs.Given.Follows
+pub use Rattle.papaya_hands.specs.Given.Others
+pub use Rattle.papaya_hands.specs.Given.Spots
+pub use Rattle.papaya_hands.specs.Given.Scenes
+pub use Rattle.papaya_present.specs.Given.Runs
+pub use Rattle.papaya_hands.specs.Given.Raw
+pub use Rattle.papaya_hands.specs.Given.Callers
+pub use Rattle.papaya_hands.specs as Hands
+pub use Rattle.papaya_hands.specs.Given.Teller
+pub use Rattle.papaya_present.specs.Given.SeizeWords
+pub use Rattle.papaya_hands.specs.Given.SeizeWaiting
+pub use Rattle.papaya_hands.specs.Given.SeizeSets
+pub use Rattle.papaya_hands.specs.Given.SeizeEnds
+pub use Rattle.papaya_hands.specs.Given.SeizeAlone
+pub use Rattle.papaya_hands.specs.Given.Resize
+pub use Rattle.papaya_hands.specs.Given.Sweeps
+pub use Rattle.papaya_hands.specs.Given.Reserves
+pub use Rattle.papaya_hands.specs.Given.Rule
+pub use Rattle.papaya_hands.specs.Given.Points
+pub use Rattle.papaya_hands.specs.Given.Late
+pub use Rattle.papaya_hands.specs.Given.Tells
+pub use Rattle.papaya_hands.specs.Given.Alone
+pub use Rattle.papaya_hands.specs.Given.Reclaims
+pub use Rattle.papaya_hands.specs.Given.SeizeReclaims

@@ -1,0 +1,30 @@
+-- What is so by the crates below, given on to the crates above: these list this crate in place of those.
+pub use Rattle.papaya_lives.proofs.Given.Settles
+pub use Rattle.papaya_lives.proofs as Lives
+pub use Rattle.papaya_lives.proofs.Given.Scenes
+pub use Rattle.papaya_lives.proofs.Given.Follows
+pub use Rattle.papaya_lives.proofs.Given.Others
+pub use Rattle.papaya_holds.proofs.Given.SeizeMoves
+pub use Rattle.papaya_holds.proofs.Given.SeizeRule
+pub use Rattle.papaya_holds.proofs.Given.Rule
+pub use Rattle.papaya_holds.proofs.Given.Whole
+pub use Rattle.papaya_lives.proofs.Given.Hands
+pub use Rattle.papaya_lives.proofs.Given.Spots
+pub use Rattle.papaya_lives.proofs.Given.Moments
+pub use Rattle.papaya_lives.proofs.Given.Histories
+pub use Rattle.papaya_lives.proofs.Given.Reclaims
+pub use Rattle.papaya_lives.proofs.Given.SeizeReclaims
+pub use Rattle.papaya_lives.proofs.Given.Runs
+pub use Rattle.papaya_lives.proofs.Given.Named
+pub use Rattle.papaya_holds.proofs.Given.Shown
+pub use Rattle.papaya_holds.proofs.Given.Callers
+pub use Rattle.papaya_holds.proofs.Given.SeizeWords
+pub use Rattle.papaya_holds.proofs.Given.SeizeWaiting
+pub use Rattle.papaya_holds.proofs.Given.SeizeSets
+pub use Rattle.papaya_holds.proofs.Given.SeizeEnds
+pub use Rattle.papaya_holds.proofs.Given.SeizeAlone
+pub use Rattle.papaya_holds.proofs.Given.Tables
+pub use Rattle.papaya_holds.proofs.Given.Points
+pub use Rattle.papaya_holds.proofs.Given.Late
+pub use Rattle.papaya_lives.proofs.Given.Tells
+pub use Rattle.papaya_holds.proofs.Given.Finishes

@@ -1,0 +1,34 @@
+-- The words of the crates below, given on to the crates above: these list this crate in place of those.
+pub use Rattle.papaya_lives.specs.Given.Schedules
+pub use Rattle.papaya_lives.specs.Given.Effects
+pub use Rattle.papaya_lives.specs.Given.Settles
+pub use Rattle.papaya_lives.specs as Lives
+pub use Rattle.papaya_lives.specs.Given.Scenes
+pub use Rattle.papaya_holds.specs.Given.Tables
+pub use Rattle.papaya_holds.specs.Given.Rule
+pub use Rattle.papaya_holds.specs.Given.Seize
+pub use Rattle.papaya_holds.specs.Given.Raw
+pub use Rattle.papaya_lives.specs.Given.Follows
+pub use Rattle.papaya_lives.specs.Given.Hands
+pub use Rattle.papaya_lives.specs.Given.Others
+pub use Rattle.papaya_lives.specs.Given.Spots
+pub use Rattle.papaya_lives.specs.Given.Moments
+pub use Rattle.papaya_holds.specs.Given.Resize
+pub use Rattle.papaya_holds.specs.Given.Sweeps
+pub use Rattle.papaya_holds.specs.Given.Reserves
+pub use Rattle.papaya_lives.specs.Given.Tells
+pub use Rattle.papaya_lives.specs.Given.Histories
+pub use Rattle.papaya_lives.specs.Given.Runs
+pub use Rattle.papaya_lives.specs.Given.Teller
+pub use Rattle.papaya_lives.specs.Given.Reclaims
+pub use Rattle.papaya_lives.specs.Given.SeizeReclaims
+pub use Rattle.papaya_lives.specs.Given.Named
+pub use Rattle.papaya_holds.specs.Given.Shown
+pub use Rattle.papaya_holds.specs.Given.SeizeWords
+pub use Rattle.papaya_holds.specs.Given.Callers
+pub use Rattle.papaya_holds.specs.Given.Finishes
+pub use Rattle.papaya_holds.specs.Given.Points
+pub use Rattle.papaya_holds.specs.Given.SeizeWaiting
+pub use Rattle.papaya_holds.specs.Given.SeizeSets
+pub use Rattle.papaya_holds.specs.Given.SeizeAlone
+pub use Rattle.papaya_holds.specs.Given.Late

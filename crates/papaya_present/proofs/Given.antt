@@ -1,0 +1,4 @@
+-- What is so by the crates below, given on to the crates above: these list this crate in place of those.
+pub use Rattle.papaya_runs.proofs as Runs
+pub use Rattle.papaya_runs.proofs.Given.SeizeWords
+pub use Rattle.papaya_runs.proofs.Given.Tables

@@ -1,0 +1,29 @@
+-- What is so by the crates below, given on to the crates above: these list this crate in place of those.
+pub use Rattle.papaya_linear.proofs.Given.Played
+pub use Rattle.papaya_linear.proofs as Linear
+pub use Rattle.papaya_linear.proofs.Given.Finishes
+pub use Rattle.papaya_linear.proofs.Given.Spots
+pub use Rattle.papaya_linear.proofs.Given.Follows
+pub use Rattle.papaya_linear.proofs.Given.Others
+pub use Rattle.papaya_linear.proofs.Given.Callers
+pub use Rattle.papaya_linear.proofs.Given.Logged
+pub use Rattle.papaya_linear.proofs.Given.Moments
+pub use Rattle.papaya_linear.proofs.Given.Hands
+pub use Rattle.papaya_linear.proofs.Given.Finds
+pub use Rattle.papaya_linear.proofs.Given.Agrees
+pub use Rattle.papaya_linear.proofs.Given.Scenes
+pub use Rattle.papaya_linear.proofs.Given.Rule
+pub use Rattle.papaya_linear.proofs.Given.Works
+pub use Rattle.papaya_linear.proofs.Given.Histories
+pub use Rattle.papaya_linear.proofs.Given.Legal
+pub use Rattle.papaya_linear.proofs.Given.Stepping
+pub use Rattle.papaya_linear.proofs.Given.Purposes
+pub use Rattle.papaya_linear.proofs.Given.Kept
+pub use Rattle.papaya_linear.proofs.Given.Settles
+pub use Rattle.papaya_linear.proofs.Given.Shards
+pub use Rattle.papaya_linear.proofs.Given.Acts
+pub use Rattle.papaya_linear.proofs.Given.Lives
+pub use Rattle.papaya_linear.proofs.Given.Promises
+pub use Rattle.papaya_linear.proofs.Given.Remains
+pub use Rattle.papaya_linear.proofs.Given.Owes
+pub use Rattle.papaya_linear.proofs.Given.Grows

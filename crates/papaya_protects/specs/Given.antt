@@ -1,0 +1,32 @@
+-- The words of the crates below, given on to the crates above: these list this crate in place of those.
+pub use Rattle.papaya_linear.specs.Given.Finishes
+pub use Rattle.papaya_linear.specs.Given.Scenes
+pub use Rattle.papaya_linear.specs.Given.Played
+pub use Rattle.papaya_linear.specs.Given.Effects
+pub use Rattle.papaya_linear.specs.Given.Logged
+pub use Rattle.papaya_linear.specs.Given.Acts
+pub use Rattle.papaya_linear.specs.Given.Agrees
+pub use Rattle.papaya_linear.specs as Linear
+pub use Rattle.papaya_linear.specs.Given.Teller
+pub use Rattle.papaya_linear.specs.Given.Spots
+pub use Rattle.papaya_linear.specs.Given.Others
+pub use Rattle.papaya_linear.specs.Given.Moments
+pub use Rattle.papaya_linear.specs.Given.Callers
+pub use Rattle.papaya_linear.specs.Given.Follows
+pub use Rattle.papaya_linear.specs.Given.Finds
+pub use Rattle.papaya_linear.specs.Given.Named
+pub use Rattle.papaya_linear.specs.Given.Rule
+pub use Rattle.papaya_linear.specs.Given.Settles
+pub use Rattle.papaya_linear.specs.Given.Shards
+pub use Rattle.papaya_linear.specs.Given.Purposes
+pub use Rattle.papaya_linear.specs.Given.Late
+pub use Rattle.papaya_linear.specs.Given.Histories
+pub use Rattle.papaya_linear.specs.Given.Legal
+pub use Rattle.papaya_linear.specs.Given.Hands
+pub use Rattle.papaya_linear.specs.Given.Values
+pub use Rattle.papaya_linear.specs.Given.Works
+pub use Rattle.papaya_linear.specs.Given.Grows
+pub use Rattle.papaya_linear.specs.Given.Kept
+pub use Rattle.papaya_linear.specs.Given.Lives
+pub use Rattle.papaya_linear.specs.Given.Owes
+pub use Rattle.papaya_linear.specs.Given.Remains

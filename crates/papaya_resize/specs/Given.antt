@@ -1,0 +1,4 @@
+-- The words of the crates below, given on to the crates above: these list this crate in place of those.
+pub use Rattle.papaya_tables.specs.Given.SeizeWords
+pub use Rattle.papaya_tables.specs.Given.Seize
+pub use Rattle.papaya_tables.specs as Tables

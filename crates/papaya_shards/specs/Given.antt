@@ -1,0 +1,35 @@
+-- The words of the crates below, given on to the crates above: these list this crate in place of those.
+pub use Rattle.papaya_sources.specs.Given.Schedules
+pub use Rattle.papaya_sources.specs.Given.Finds
+pub use Rattle.papaya_sources.specs.Given.Tables
+pub use Rattle.papaya_sources.specs.Given.Resize
+pub use Rattle.papaya_sources.specs.Given.Reserves
+pub use Rattle.papaya_sources.specs.Given.Sweeps
+pub use Rattle.papaya_sources.specs.Given.Rule
+pub use Rattle.papaya_sources.specs.Given.Callers
+pub use Rattle.papaya_sources.specs.Given.Effects
+pub use Rattle.papaya_sources.specs.Given.Finishes
+pub use Rattle.papaya_sources.specs.Given.Follows
+pub use Rattle.papaya_sources.specs.Given.Histories
+pub use Rattle.papaya_sources.specs.Given.Named
+pub use Rattle.papaya_sources.specs.Given.Scenes
+pub use Rattle.papaya_sources.specs.Given.Runs
+pub use Rattle.papaya_sources.specs.Given.Raw
+pub use Rattle.papaya_sources.specs.Given.Hands
+pub use Rattle.papaya_sources.specs.Given.Moments
+pub use Rattle.papaya_sources.specs.Given.SeizeWords
+pub use Rattle.papaya_sources.specs.Given.Seize
+pub use Rattle.papaya_sources.specs.Given.SeizeWaiting
+pub use Rattle.papaya_sources.specs.Given.SeizeSets
+pub use Rattle.papaya_sources.specs.Given.SeizeAlone
+pub use Rattle.papaya_sources.specs.Given.Points
+pub use Rattle.papaya_sources.specs.Given.Late
+pub use Rattle.papaya_sources.specs.Given.Tells
+pub use Rattle.papaya_sources.specs.Given.Teller
+pub use Rattle.papaya_sources.specs.Given.Others
+pub use Rattle.papaya_sources.specs.Given.Spots
+pub use Rattle.papaya_sources.specs.Given.Owes
+pub use Rattle.papaya_sources.specs.Given.Settles
+pub use Rattle.papaya_sources.specs as Sources
+pub use Rattle.papaya_sources.specs.Given.Lives
+pub use Rattle.papaya_sources.specs.Given.Shown

@@ -1,0 +1,29 @@
+-- The words of the crates below, given on to the crates above: these list this crate in place of those.
+pub use Rattle.papaya_folded.specs.Given.Schedules
+pub use Rattle.papaya_folded.specs.Given.Effects
+pub use Rattle.papaya_folded.specs.Given.Logged
+pub use Rattle.papaya_folded.specs.Given.Scheduler
+pub use Rattle.papaya_folded.specs.Given.Named
+pub use Rattle.papaya_folded.specs.Given.Executor
+pub use Rattle.papaya_folded.specs.Given.Follows
+pub use Rattle.papaya_folded.specs.Given.Scenes
+pub use Rattle.papaya_folded.specs.Given.Teller
+pub use Rattle.papaya_folded.specs.Given.Hands
+pub use Rattle.papaya_folded.specs.Given.Shown
+pub use Rattle.papaya_folded.specs.Given.Owes
+pub use Rattle.papaya_folded.specs.Given.Histories
+pub use Rattle.papaya_folded.specs.Given.Moments
+pub use Rattle.papaya_folded.specs.Given.Settles
+pub use Rattle.papaya_folded.specs.Given.Kept
+pub use Rattle.papaya_folded.specs.Given.Finds
+pub use Rattle.papaya_folded.specs.Given.Models
+pub use Rattle.papaya_folded.specs.Given.Legal
+pub use Rattle.papaya_folded.specs as Folded
+pub use Rattle.papaya_folded.specs.Given.Promises
+pub use Rattle.papaya_folded.specs.Given.Remains
+pub use Rattle.papaya_folded.specs.Given.Rows
+pub use Rattle.papaya_folded.specs.Given.Reclaiming
+pub use Rattle.papaya_folded.specs.Given.Grows
+pub use Rattle.papaya_folded.specs.Given.Purposes
+pub use Rattle.papaya_folded.specs.Given.Shards
+pub use Rattle.papaya_folded.specs.Given.Lives

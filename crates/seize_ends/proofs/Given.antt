@@ -1,0 +1,4 @@
+-- What is so by the crates below, given on to the crates above: these list this crate in place of those.
+pub use Rattle.seize_rule.proofs.Given.SeizeMoves
+pub use Rattle.seize_rule.proofs as SeizeRule
+pub use Rattle.seize_rule.proofs.Given.SeizeWaiting

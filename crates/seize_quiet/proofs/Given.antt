@@ -1,0 +1,4 @@
+-- What is so by the crates below, given on to the crates above: these list this crate in place of those.
+pub use Rattle.seize_reclaims.proofs as SeizeReclaims
+pub use Rattle.seize_reclaims.proofs.Given.SeizeWords
+pub use Rattle.seize_reclaims.proofs.Given.SeizeActs
