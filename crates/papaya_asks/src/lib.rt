@@ -9,7 +9,6 @@ mod removals;
 mod updates;
 
 pub use computing::{Computed, compute};
-pub use papaya_owned;
 pub use removals::{remove, remove_if};
 pub use seize_words::{Refused, RefusedKey};
 pub use updates::{insert_with, update, update_or_insert, update_or_insert_with};

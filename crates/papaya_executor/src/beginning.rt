@@ -8,9 +8,9 @@ ghost use Rattle.papaya_scenes.specs.Scene.{Scene};
 
 use crate::executor::Executor;
 use crate::worker::{Work, Worker};
+use papaya_raw::Setting;
+use papaya_raw::machines::{Machine, NewMap};
 use papaya_scenes::callers::SLOTS;
-use papaya_scenes::papaya_raw::Setting;
-use papaya_scenes::papaya_raw::machines::{Machine, NewMap};
 use std::alloc::AllocError;
 
 /// So many callers there can be. For each further one there is no memory.

@@ -12,9 +12,9 @@ use crate::executor::Executor;
 use crate::taking::{TakenEnding, put_at, take_ending};
 use crate::telling::step_telling;
 use crate::worker::{Work, Worker};
+use papaya_raw::machines::EndMap;
+use papaya_raw::{Node, Setting};
 use papaya_scenes::callers::SLOTS;
-use papaya_scenes::papaya_raw::machines::EndMap;
-use papaya_scenes::papaya_raw::{Node, Setting};
 use seize::rows::Settled;
 use std::alloc::AllocError;
 

@@ -4,10 +4,10 @@ ghost use Rattle.papaya_executor.specs.IsThere.{IsThere};
 ghost use Rattle.papaya_scenes.specs.Scene.{at_first};
 
 use crate::worker::Worker;
+use papaya_raw::{Node, Setting};
 use papaya_scenes::callers::SLOTS;
-use papaya_scenes::papaya_raw::{Node, Setting};
-use papaya_scenes::papaya_teller::teller::Teller;
 use papaya_scenes::row::SlotUse;
+use papaya_teller::teller::Teller;
 use seize_words::Plain;
 use std::alloc::{AllocError, Global};
 

@@ -13,6 +13,3 @@ mod taking;
 pub mod telling;
 pub mod vacating;
 pub mod worker;
-
-pub use papaya_scenes;
-pub use papaya_scenes::{papaya_raw, papaya_teller};

@@ -8,9 +8,9 @@ use crate::executor::Executor;
 use crate::taking::{TakenMaking, put_at, take_making};
 use crate::telling::step_telling;
 use crate::worker::{Work, Worker};
+use papaya_raw::Setting;
+use papaya_raw::machines::NewMap;
 use papaya_scenes::callers::SLOTS;
-use papaya_scenes::papaya_raw::Setting;
-use papaya_scenes::papaya_raw::machines::NewMap;
 use seize::Progress;
 
 /// The making of a map after a step of it, unless it has ended.

@@ -7,8 +7,8 @@ ghost use Rattle.papaya_scenes.specs.Scene.{HasCall, Scene};
 use crate::executor::Executor;
 use crate::taking::{TakenCall, take_call};
 use crate::worker::{Work, Worker};
+use papaya_raw::machines::{Machine, Reply};
 use papaya_scenes::callers::SLOTS;
-use papaya_scenes::papaya_raw::machines::{Machine, Reply};
 
 impl<K: Drop, V: Drop, S> Executor<K, V, S> {
     /// Puts a call back to its place.

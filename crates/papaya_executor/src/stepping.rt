@@ -14,10 +14,10 @@ ghost use Rattle.papaya_scenes.specs.Stepping.{going_on};
 use crate::executor::Executor;
 use crate::taking::{TakenCall, take_call};
 use crate::worker::{Work, Worker};
+use papaya_raw::machines::{Machine, Progress};
+use papaya_raw::{Hashes, Node};
 use papaya_scenes::callers::SLOTS;
-use papaya_scenes::papaya_raw::machines::{Machine, Progress};
-use papaya_scenes::papaya_raw::{Hashes, Node};
-use papaya_scenes::papaya_teller::teller::Teller;
+use papaya_teller::teller::Teller;
 use seize_words::Plain;
 use std::hash::Hash;
 

@@ -9,8 +9,8 @@ ghost use Rattle.papaya_scenes.specs.Scene.{HasCall, Scene};
 use crate::executor::Executor;
 use crate::taking::{TakenCall, put_at, take_call};
 use crate::worker::{Work, Worker};
+use papaya_raw::machines::{Machine, Sweeping};
 use papaya_scenes::callers::SLOTS;
-use papaya_scenes::papaya_raw::machines::{Machine, Sweeping};
 
 /// Whether it is a walk that is ready.
 fn is_ready<K, V>(machine: &Machine<K, V>) -> bool

@@ -8,7 +8,7 @@ ghost use Rattle.papaya_scenes.specs.Given.Raw.declared.machines.machine.Machine
 ghost use Rattle.papaya_executor.specs.IsThere.{worker_of, worker_with};
 
 use crate::worker::{Work, Worker};
-use papaya_scenes::papaya_raw::machines::{EndMap, Machine, NewMap};
+use papaya_raw::machines::{EndMap, Machine, NewMap};
 use papaya_scenes::row::SlotRow;
 use std::mem;
 

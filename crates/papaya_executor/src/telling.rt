@@ -6,8 +6,8 @@ ghost use Rattle.papaya_scenes.specs.Given.Teller.Tells.{StepsTold};
 ghost use Rattle.papaya_scenes.specs.Given.Teller.declared.changed.Changed.TheVariants.{Nothing};
 
 use crate::executor::Executor;
-use papaya_scenes::papaya_raw::Node;
-use papaya_scenes::papaya_teller::teller::Teller;
+use papaya_raw::Node;
+use papaya_teller::teller::Teller;
 use seize::Machine;
 use seize_words::Plain;
 

@@ -1,5 +1,5 @@
 //! What a caller has under way.
-use papaya_scenes::papaya_raw::machines::{EndMap, Machine, NewMap};
+use papaya_raw::machines::{EndMap, Machine, NewMap};
 use papaya_scenes::row::SlotRow;
 
 /// What a caller has under way.

@@ -1,4 +1,2 @@
 //! What each effect of a call finds, as it must; and what effects leave to wait: little, each for a reason, and nothing in the end.
 #![tactic(auto)]
-
-pub use papaya_owes::{papaya_named, papaya_schedules};

@@ -2,7 +2,3 @@
 #![tactic(auto)]
 
 pub mod law;
-
-pub use papaya_legal::{
-    papaya_logged, papaya_mapping, papaya_named, papaya_scheduler, papaya_schedules,
-};

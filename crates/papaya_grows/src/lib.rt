@@ -1,5 +1,2 @@
 //! What effects of calls find: why they ask for blocks, what they have met where a table is full, which tables they link, and behind which they put pairs.
 #![tactic(auto)]
-
-pub use papaya_models::{papaya_logged, papaya_mapping, papaya_scheduler};
-pub use papaya_purposes::{papaya_named, papaya_schedules};

@@ -2,6 +2,3 @@
 #![tactic(auto)]
 
 pub mod law;
-
-pub use papaya_sifts;
-pub use papaya_sifts::{papaya_raw, papaya_shown};

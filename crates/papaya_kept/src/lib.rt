@@ -1,4 +1,2 @@
 //! What every step keeps: the invariants of a moment of a run, with what is noted, and of the scene that it shows.
 #![tactic(auto)]
-
-pub use papaya_owes::{papaya_effects, papaya_named, papaya_raw, papaya_schedules, papaya_shown};

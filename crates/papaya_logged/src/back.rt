@@ -2,10 +2,10 @@
 ghost use Rattle.std.specs.Prelude.{◌≡◌, ◌++◌, ◌<◌, vec_capacity, vec_len};
 ghost use Rattle.papaya_logged.specs.Back.{number_back, number_last, numbered, pair_back, row_back, settled_back};
 
-use papaya_reclaiming::papaya_scenes::row::RowTold;
-use papaya_remains::papaya_raw::Node;
-use papaya_remains::papaya_schedules::effect::{Effect, Thing};
+use papaya_raw::Node;
 use papaya_runs::record::Pair;
+use papaya_scenes::row::RowTold;
+use papaya_schedules::effect::{Effect, Thing};
 use seize::rows::Settled;
 
 /// The number of the pair that an effect reclaims, if it reclaims one.

@@ -10,11 +10,11 @@ ghost use Rattle.papaya_reclaiming.specs.Given.ExecutorReplying.{AsksThere, Repl
 ghost use Rattle.papaya_reclaiming.specs.Given.ScenesScene.{HasCall, Scene};
 
 use crate::logged::Logged;
-use papaya_reclaiming::papaya_scenes::callers::SLOTS;
-use papaya_remains::papaya_effects::acting::Acting;
-use papaya_remains::papaya_raw::machines::{Machine, Progress, Reply};
-use papaya_remains::papaya_raw::{Hashes, Node};
-use papaya_remains::papaya_schedules::effect::Effect;
+use papaya_effects::acting::Acting;
+use papaya_raw::machines::{Machine, Progress, Reply};
+use papaya_raw::{Hashes, Node};
+use papaya_scenes::callers::SLOTS;
+use papaya_schedules::effect::Effect;
 use std::alloc::AllocError;
 use std::hash::Hash;
 

@@ -17,11 +17,11 @@ ghost use Rattle.papaya_reclaiming.specs.Given.ScenesScene.{IsEnding, Scene};
 
 use crate::back::keep_settled;
 use crate::logged::Logged;
-use papaya_reclaiming::papaya_scenes::callers::SLOTS;
-use papaya_remains::papaya_effects::acting::Acting;
-use papaya_remains::papaya_raw::Node;
-use papaya_remains::papaya_schedules::effect::Effect;
+use papaya_effects::acting::Acting;
+use papaya_raw::Node;
 use papaya_runs::record::Pair;
+use papaya_scenes::callers::SLOTS;
+use papaya_schedules::effect::Effect;
 use seize::rows::Settled;
 use std::alloc::AllocError;
 

@@ -8,6 +8,3 @@ pub mod logged;
 pub mod makings;
 pub mod on_slots;
 pub mod reclaims;
-
-pub use papaya_reclaiming::papaya_scenes;
-pub use papaya_remains::{papaya_named, papaya_raw, papaya_schedules, papaya_shown};

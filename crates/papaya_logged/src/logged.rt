@@ -8,11 +8,11 @@ ghost use Rattle.papaya_logged.specs.Shown.{IsShown};
 ghost use Rattle.papaya_reclaiming.specs.Given.ExecutorIsThere.{KeepsGiven};
 ghost use Rattle.papaya_reclaiming.specs.Given.ScenesScene.{at_first};
 
-use papaya_reclaiming::papaya_executor::executor::Executor;
-use papaya_reclaiming::papaya_teller::changed::Changed;
-use papaya_remains::papaya_effects::acting::Acting;
-use papaya_remains::papaya_effects::notes::Notes;
-use papaya_remains::papaya_schedules::effect::Effect;
+use papaya_effects::acting::Acting;
+use papaya_effects::notes::Notes;
+use papaya_reclaiming::Executor;
+use papaya_schedules::effect::Effect;
+use papaya_teller::changed::Changed;
 use std::alloc::{AllocError, Global};
 
 /// An executor, with what is noted of its memory.

@@ -17,10 +17,10 @@ ghost use Rattle.papaya_reclaiming.specs.Given.ExecutorMakingBegins.{MakingBegin
 ghost use Rattle.papaya_reclaiming.specs.Given.ScenesScene.{IsMaking, Scene};
 
 use crate::logged::Logged;
-use papaya_reclaiming::papaya_scenes::callers::SLOTS;
-use papaya_remains::papaya_effects::acting::Acting;
-use papaya_remains::papaya_raw::Setting;
-use papaya_remains::papaya_schedules::effect::Effect;
+use papaya_effects::acting::Acting;
+use papaya_raw::Setting;
+use papaya_scenes::callers::SLOTS;
+use papaya_schedules::effect::Effect;
 use seize::Progress;
 use std::alloc::AllocError;
 

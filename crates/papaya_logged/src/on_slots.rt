@@ -19,12 +19,12 @@ ghost use Rattle.papaya_reclaiming.specs.Given.ScenesScene.{Scene};
 
 use crate::back::keep_row;
 use crate::logged::Logged;
-use papaya_reclaiming::papaya_scenes::callers::SLOTS;
-use papaya_reclaiming::papaya_scenes::row::{RowTold, SlotCall};
-use papaya_remains::papaya_effects::acting::Acting;
-use papaya_remains::papaya_raw::Node;
-use papaya_remains::papaya_schedules::effect::Effect;
+use papaya_effects::acting::Acting;
+use papaya_raw::Node;
 use papaya_runs::record::Pair;
+use papaya_scenes::callers::SLOTS;
+use papaya_scenes::row::{RowTold, SlotCall};
+use papaya_schedules::effect::Effect;
 use std::alloc::AllocError;
 
 /// Whether a row has ended, or waits.

@@ -16,11 +16,11 @@ ghost use Rattle.papaya_reclaiming.specs.Given.ScenesScene.{Scene};
 use crate::back::keep_settled;
 use crate::ends::is_done;
 use crate::logged::Logged;
+use papaya_effects::acting::Acting;
+use papaya_raw::Node;
 use papaya_reclaiming::reclaiming::Reclaiming;
-use papaya_remains::papaya_effects::acting::Acting;
-use papaya_remains::papaya_raw::Node;
-use papaya_remains::papaya_schedules::effect::Effect;
 use papaya_runs::record::Pair;
+use papaya_schedules::effect::Effect;
 use seize::rows::Settled;
 use std::alloc::AllocError;
 

@@ -10,9 +10,9 @@ ghost use Rattle.papaya_scheduler.specs.Given.ExecutorIsThere.{KeepsGiven};
 
 use papaya_runs::record::Pair;
 use papaya_runs::token::Token;
-use papaya_scheduler::papaya_schedules::outcome::Outcome;
 use papaya_scheduler::played::Played;
 use papaya_scheduler::scheduler::Scheduler;
+use papaya_schedules::outcome::Outcome;
 use std::alloc::AllocError;
 
 /// Ends a map on which no call is under way: the pairs that are still in it are reclaimed, and then its tables. What waits behind these waits behind its root from then on.

@@ -5,5 +5,6 @@ pub mod endings;
 pub mod makings;
 pub mod reclaims;
 
-pub use papaya_scheduler;
-pub use papaya_scheduler::papaya_logged;
+pub use papaya_scheduler::played::Played;
+pub use papaya_scheduler::scheduler::Scheduler;
+pub use papaya_scheduler::{Logged, NamedMap};

@@ -9,13 +9,12 @@ ghost use Rattle.papaya_scheduler.specs.Quiet.{IsQuiet};
 ghost use Rattle.papaya_scheduler.specs.Works.{WorksOnMap};
 ghost use Rattle.papaya_scheduler.specs.Given.ExecutorIsThere.{StaysGiven};
 
+use papaya_raw::{Counter, ResizeMode, Setting};
 use papaya_runs::token::Token;
-use papaya_scheduler::papaya_named::named_map::NamedMap;
-use papaya_scheduler::papaya_named::places::places_for;
-use papaya_scheduler::papaya_raw::{Counter, ResizeMode, Setting};
-use papaya_scheduler::papaya_schedules::outcome::Outcome;
 use papaya_scheduler::played::Played;
 use papaya_scheduler::scheduler::Scheduler;
+use papaya_scheduler::{NamedMap, places_for};
+use papaya_schedules::outcome::Outcome;
 use seize::Progress;
 use seize_words::Fault;
 use std::alloc::AllocError;

@@ -17,10 +17,10 @@ ghost use Rattle.papaya_scheduler.specs.Given.ExecutorIsThere.{KeepsGiven};
 ghost use Rattle.papaya_scheduler.specs.Given.ScenesScene.{Scene};
 
 use papaya_runs::record::Pair;
-use papaya_scheduler::papaya_schedules::effect::Effect;
-use papaya_scheduler::papaya_schedules::outcome::Outcome;
 use papaya_scheduler::played::Played;
 use papaya_scheduler::scheduler::Scheduler;
+use papaya_schedules::effect::Effect;
+use papaya_schedules::outcome::Outcome;
 use std::alloc::AllocError;
 
 /// Whether nobody is there but guards that were forgotten, and no call is under way.

@@ -4,10 +4,10 @@ ghost use Rattle.papaya_named.specs.Seen.{shows, takes};
 ghost use Rattle.papaya_named.specs.Telling.{value_of};
 
 use crate::kind::Kind;
-use papaya_hands::papaya_raw::Node;
-use papaya_hands::papaya_schedules::call::Reply;
 use papaya_present::crowd::HasName;
 use papaya_present::papaya_runs::token::Token;
+use papaya_raw::Node;
+use papaya_schedules::call::Reply;
 
 /// How far a call is.
 #[derive(Clone, Copy)]

@@ -2,7 +2,7 @@
 ghost use Rattle.std.specs.Prelude.{◌≡◌};
 ghost use Rattle.papaya_named.specs.Seen.{fits, kind_of, kind_on};
 
-use papaya_hands::papaya_schedules::call::{Call, OneKey, Reply};
+use papaya_schedules::call::{Call, OneKey, Reply};
 
 /// What a call is, without its keys and values.
 #[derive(Clone, Copy)]

@@ -8,5 +8,3 @@ pub mod machines;
 pub mod named_map;
 pub mod places;
 pub mod telling;
-
-pub use papaya_hands::{papaya_effects, papaya_schedules};

@@ -3,9 +3,9 @@ ghost use Rattle.std.specs.Prelude.{◌≡◌};
 ghost use Rattle.papaya_hands.specs.Given.SchedulesSequential.{key_of};
 ghost use Rattle.papaya_named.specs.Machines.{machine_for, machine_on};
 
-use papaya_hands::papaya_raw::machines::{KeyCall, Machine, Reserve, Sum, Sweep};
-use papaya_hands::papaya_raw::{Hashes, Setting};
-use papaya_hands::papaya_schedules::call::{Call, OneKey};
+use papaya_raw::machines::{KeyCall, Machine, Reserve, Sum, Sweep};
+use papaya_raw::{Hashes, Setting};
+use papaya_schedules::call::{Call, OneKey};
 
 /// The key that is handed in.
 fn key_of<K, V>(one: &OneKey<K, V>) -> &K

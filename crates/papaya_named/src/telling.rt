@@ -4,11 +4,11 @@ ghost use Rattle.papaya_hands.specs.Given.EffectsKnown.{known};
 ghost use Rattle.papaya_named.specs.Telling.{answer_of, answer_on, aborted_with, number_by, occupied_by};
 
 use crate::kind::Kind;
-use papaya_hands::papaya_effects::notes::Notes;
-use papaya_hands::papaya_effects::role::Role;
-use papaya_hands::papaya_raw::machines::{Answer as Said, KeyAnswer};
-use papaya_hands::papaya_schedules::call::Answer;
+use papaya_effects::notes::Notes;
+use papaya_effects::role::Role;
 use papaya_present::seize_words::Link;
+use papaya_raw::machines::{Answer as Said, KeyAnswer};
+use papaya_schedules::call::Answer;
 
 /// The number of the pair that a word links to.
 pub fn number_by(notes: &Notes, word: u64) -> u64

@@ -9,12 +9,10 @@ ghost use Rattle.papaya_straight.specs.Given.Raw.declared.machines.call.Calling.
 
 use crate::machines::{OnKey, Stop};
 use crate::skims::Skims;
-use papaya_straight::papaya_raw::machines::{Calling, Disposing};
-use papaya_straight::papaya_tables::{
-    Aim, Equivalent, Finding, Hashes, Node, ResizeMode, Trial, may_be, seen,
-};
-use seize::seize_words::{Look, Plain};
+use papaya_raw::machines::{Calling, Disposing};
+use papaya_tables::{Aim, Equivalent, Finding, Hashes, Node, ResizeMode, Trial, may_be, seen};
 use seize::{Machine, Progress};
+use seize_words::{Look, Plain};
 use std::hash::Hash;
 
 /// The try after one of a call with this hash, where that passes such a word.

@@ -18,14 +18,14 @@ ghost use Rattle.papaya_owned.specs.declared.machines.OnKey.{OnKey};
 ghost use Rattle.papaya_owned.specs.declared.machines.Stop.TheVariants as stop;
 
 use crate::machines::{OnKey, Stop};
+use papaya_raw::Outcome;
+use papaya_raw::machines::{Calling, Copier, Dispose, Disposing, End, KeyAnswer};
 use papaya_straight::copy_places;
-use papaya_straight::papaya_raw::Outcome;
-use papaya_straight::papaya_raw::machines::{Calling, Copier, Dispose, Disposing, End, KeyAnswer};
-use papaya_straight::papaya_tables::{Equivalent, Hashes, Node, Table};
-use papaya_straight::seize_straight::reclaims;
+use papaya_tables::{Equivalent, Hashes, Node, Table};
 use seize::rows::{Settle, Settled};
-use seize::seize_words::Plain;
 use seize::{Machine, Progress};
+use seize_straight::reclaims;
+use seize_words::Plain;
 use std::hash::Hash;
 
 /// How many steps of a machine within a call are taken at once at most.

@@ -12,10 +12,10 @@ ghost use Rattle.papaya_whole.specs.Given.Rule.Words.{Blocks};
 
 use crate::most_looks::MostLooks;
 use crate::tries::{Tried, tries};
-use papaya_straight::papaya_raw::machines::{Looking, Lookup};
-use papaya_straight::papaya_tables::{Equivalent, Node};
+use papaya_raw::machines::{Looking, Lookup};
+use papaya_tables::{Equivalent, Node};
 use seize::Progress;
-use seize::seize_words::{Link, Look, Plain};
+use seize_words::{Link, Look, Plain};
 use std::hash::Hash;
 use std::snapshot::Snapshot;
 

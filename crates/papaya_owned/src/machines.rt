@@ -2,12 +2,12 @@
 ghost use Rattle.std.specs.Prelude.{◌≡◌};
 ghost use Rattle.papaya_owned.specs.Machines.{on_key_settled, for_room_settled, refreshes_settled};
 
-use papaya_straight::papaya_raw::Outcome;
-use papaya_straight::papaya_raw::machines::{Called, KeyAnswer, KeyCall, Reserve};
-use papaya_straight::papaya_tables::{Equivalent, Hashes, Node};
+use papaya_raw::Outcome;
+use papaya_raw::machines::{Called, KeyAnswer, KeyCall, Reserve};
+use papaya_tables::{Equivalent, Hashes, Node};
 use seize::rows::{Defers, Leave, Settled};
-use seize::seize_words::Memory;
 use seize::{Machine, Progress};
+use seize_words::Memory;
 use std::hash::Hash;
 
 /// How a call on one key stops.

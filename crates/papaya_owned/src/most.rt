@@ -1,8 +1,8 @@
 //! How many steps a machine may still take. Only proofs read it.
 ghost use Rattle.papaya_owned.specs.Within.{HasLeast, has_least_prop, within};
 
-use seize::seize_words::Plain;
 use seize::{Machine, Progress};
+use seize_words::Plain;
 use std::marker::PhantomData;
 use std::snapshot::Snapshot;
 

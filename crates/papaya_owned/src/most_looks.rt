@@ -2,9 +2,9 @@
 ghost use Rattle.papaya_owned.specs.Within.{HasLeast, has_least_prop, within};
 ghost use Rattle.papaya_shown.specs.Given.Resize.Lookup.{lookup_plan};
 
-use papaya_straight::papaya_raw::machines::Lookup;
-use papaya_straight::papaya_tables::{Equivalent, Node};
-use seize::seize_words::Plain;
+use papaya_raw::machines::Lookup;
+use papaya_tables::{Equivalent, Node};
+use seize_words::Plain;
 use std::hash::Hash;
 use std::snapshot::Snapshot;
 

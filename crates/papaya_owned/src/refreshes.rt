@@ -4,10 +4,10 @@ ghost use Rattle.papaya_owned.specs.Machines.{refreshes_plan};
 
 use crate::machines::Refreshes;
 use crate::skims::Skims;
-use papaya_straight::seize_straight::reclaims;
 use seize::rows::{Defers, Leaving};
-use seize::seize_words::Plain;
 use seize::{Machine, Progress};
+use seize_straight::reclaims;
+use seize_words::Plain;
 
 impl Refreshes {
     /// Reclaims the blocks of a batch, where it stands there.

@@ -6,9 +6,9 @@ ghost use Rattle.papaya_owned.specs.declared.machines.OnKey.{OnKey as Running};
 
 use crate::machines::{OnKey, Stop};
 use crate::running::run_skimming;
-use papaya_straight::papaya_tables::{Equivalent, Hashes, Node, Setting};
 use papaya_straight::{Removed, removal_of, remove};
-use seize::seize_words::{Fault, Plain};
+use papaya_tables::{Equivalent, Hashes, Node, Setting};
+use seize_words::{Fault, Plain};
 use std::hash::Hash;
 
 /// Runs a removal to its end: as straight code, and as a machine from where that stops.

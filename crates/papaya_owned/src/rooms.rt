@@ -9,9 +9,9 @@ ghost use Rattle.seize.specs.Given.SeizeWords.declared.fault.Fault.TheVariants.{
 
 use crate::machines::ForRoom;
 use crate::running::run;
-use papaya_straight::papaya_raw::machines::Reserve;
-use papaya_straight::papaya_tables::{Hashes, Node, Setting};
-use seize::seize_words::{Fault, Plain};
+use papaya_raw::machines::Reserve;
+use papaya_tables::{Hashes, Node, Setting};
+use seize_words::{Fault, Plain};
 use std::hash::Hash;
 
 /// Makes room for so many further pairs: the table of the root has as many places as they need, beside the pairs that are there. No pair changes.

@@ -4,8 +4,8 @@ ghost use Rattle.papaya_owned.specs.Ending.{Ends, RunsTo};
 
 use crate::most::Most;
 use crate::skims::Skims;
-use seize::seize_words::{Fault, Plain};
 use seize::{Machine, Progress};
+use seize_words::{Fault, Plain};
 use std::marker::PhantomData;
 use std::snapshot::Snapshot;
 

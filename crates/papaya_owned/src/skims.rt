@@ -1,6 +1,6 @@
 //! What takes several steps at once.
-use seize::seize_words::Plain;
 use seize::{Machine, Progress};
+use seize_words::Plain;
 
 /// A machine that takes some of its steps at once, over the memory of one owner.
 pub trait Skims<T, A>: Machine<T, Progress = Progress<A>> {

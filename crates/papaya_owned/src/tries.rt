@@ -11,9 +11,9 @@ ghost use Rattle.papaya_owned.specs.Owned.{IsPairAt};
 ghost use Rattle.papaya_owned.specs.Tries.{IsMet, Nearer, TriesTo, is_there, tried_beyond};
 ghost use Rattle.papaya_owned.specs.Within.{within};
 
-use papaya_straight::papaya_raw::machines::{Looking, Lookup};
-use papaya_straight::papaya_tables::{Aim, Equivalent, Finding, Node, Table, Trial, may_be, seen};
-use seize::seize_words::{Link, Look, Plain};
+use papaya_raw::machines::{Looking, Lookup};
+use papaya_tables::{Aim, Equivalent, Finding, Node, Table, Trial, may_be, seen};
+use seize_words::{Link, Look, Plain};
 use std::hash::Hash;
 
 /// What the tries of a lookup at a table come to.

@@ -2,5 +2,6 @@
 #![tactic(auto)]
 
 pub use papaya_events::{
-    papaya_logged, papaya_mapping, papaya_named, papaya_scheduler, papaya_stepping,
+    Logged, NamedMap, Played, Scheduler, close, end_map, go, make_map, next, one_call, reclaim_all,
+    step,
 };

@@ -3,5 +3,4 @@
 
 pub mod reclaiming;
 
-pub use papaya_executor;
-pub use papaya_executor::{papaya_scenes, papaya_teller};
+pub use papaya_executor::executor::Executor;

@@ -6,7 +6,7 @@ ghost use Rattle.papaya_executor.specs.IsThere.{IsThere, KeepsGiven};
 ghost use Rattle.papaya_executor.specs.Given.ScenesScene.{Scene};
 
 use papaya_executor::executor::Executor;
-use papaya_executor::papaya_raw::Node;
+use papaya_raw::Node;
 use seize::rows::{ReclaimAll, Settled};
 
 /// All that waits is being reclaimed. It is no caller's: nobody has anything under way meanwhile.

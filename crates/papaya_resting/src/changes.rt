@@ -16,7 +16,7 @@ ghost use Rattle.papaya_asks.specs.Asking.{by_lent};
 ghost use Rattle.papaya_steady.specs.Steady.{HasOneTable};
 
 use crate::last::{Last, told_at};
-use papaya_asks::papaya_owned::{Refreshes, Stop, run_skimming};
+use papaya_owned::{Refreshes, Stop, run_skimming};
 use papaya_raw::machines::KeyAnswer;
 use papaya_tables::{Equivalent, Node, Setting};
 use seize::rows::{Leave, Leaving, Settle};

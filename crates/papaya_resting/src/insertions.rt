@@ -18,7 +18,7 @@ ghost use Rattle.papaya_resting.specs.Refreshed.{OnceRefreshed};
 use crate::changes::refresh;
 use crate::last::{Last, told_at};
 use papaya_asks::Refused;
-use papaya_asks::papaya_owned::Stop;
+use papaya_owned::Stop;
 use papaya_raw::machines::{KeyAnswer, There};
 use papaya_tables::{Hashes, Node, Setting};
 use seize_words::{Fault, Plain};

@@ -2,7 +2,7 @@
 ghost use Rattle.std.specs.Prelude.{◌≡◌, true, option_map};
 ghost use Rattle.papaya_resting.specs.Lasts.{is_named, pair_in, words_of, words_of_stop};
 
-use papaya_asks::papaya_owned::{Stop, shown_at};
+use papaya_owned::{Stop, shown_at};
 use papaya_raw::machines::KeyAnswer;
 use papaya_tables::Node;
 use seize_words::Plain;

@@ -24,7 +24,6 @@ pub use insertions::{insert, try_insert};
 pub use last::{Last, shown};
 pub use lookups::pair_of;
 pub use making::{begin, places_for};
-pub use papaya_asks;
 pub use rooms::reserve;
 pub use sweeps::{clear, retain};
 pub use testing::remove_if;

@@ -2,7 +2,7 @@
 ghost use Rattle.std.specs.Prelude.{◌≡◌, List, option_map};
 ghost use Rattle.papaya_asks.specs.Given.OwnedOwned.{Holds, found_by, hashed_by};
 
-use papaya_asks::papaya_owned::find;
+use papaya_owned::find;
 use papaya_raw::machines::Lookup;
 use papaya_tables::{Equivalent, Hashes, Node, Setting};
 use seize_words::Plain;

@@ -12,7 +12,7 @@ ghost use Rattle.papaya_holds.specs.Held.{held_in};
 ghost use Rattle.papaya_asks.specs.Given.OwnedOwned.{Holds, hashed_by};
 ghost use Rattle.papaya_asks.specs.Given.OwnedRooms.{AreTooMany, ShowTables, tables_for, tables_with};
 
-use papaya_asks::papaya_owned::run;
+use papaya_owned::run;
 use papaya_raw::machines::NewMap;
 use papaya_tables::{Node, ResizeMode, Setting, entries_for};
 use seize_words::{Fault, Plain};

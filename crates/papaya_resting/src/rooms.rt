@@ -11,7 +11,7 @@ ghost use Rattle.papaya_resting.specs.Refreshed.{OnceRefreshed};
 ghost use Rattle.seize_words.specs.declared.fault.Fault.TheVariants.{Capacity};
 
 use crate::changes::refresh;
-use papaya_asks::papaya_owned::make_room;
+use papaya_owned::make_room;
 use papaya_tables::{Node, Setting};
 use seize_words::{Fault, Plain};
 use std::hash::{BuildHasher, Hash};

@@ -7,7 +7,7 @@ ghost use Rattle.papaya_raw.specs.CallPoints.{untried};
 ghost use Rattle.papaya_raw.specs.declared.machines.call.Calling.TheVariants as at;
 ghost use Rattle.papaya_straight.specs.Storing.{calling_at};
 
-use papaya_asks::papaya_owned::{OnKey, Stop, run_skimming};
+use papaya_owned::{OnKey, Stop, run_skimming};
 use papaya_raw::machines::{There, link_to};
 use papaya_straight::{Spot, Stored, call_of};
 use papaya_tables::{Hashes, Node, Setting, Trial};

@@ -13,7 +13,7 @@ ghost use Rattle.seize_words.specs.declared.fault.Fault.TheVariants.{Capacity};
 
 use crate::changes::refresh;
 use crate::counting::count;
-use papaya_holds::papaya_sifts::{empty, sift};
+use papaya_sifts::{empty, sift};
 use papaya_tables::{Node, Setting};
 use seize_words::{Fault, Plain};
 use std::hash::{BuildHasher, Hash};

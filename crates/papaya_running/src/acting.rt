@@ -3,7 +3,7 @@ ghost use Rattle.std.specs.Prelude.{◌≡◌, IfOk};
 ghost use Rattle.papaya_schedules.specs.Entry.{is_busy};
 ghost use Rattle.papaya_running.specs.Acting.{acting_of, called_map, map_acted, traced};
 
-use papaya_pieced::papaya_scheduler::scheduler::Scheduler;
+use papaya_pieced::Scheduler;
 use papaya_runs::token::Token;
 use papaya_schedules::event::Event;
 use papaya_schedules::outcome::Outcome;

@@ -2,7 +2,7 @@
 ghost use Rattle.std.specs.Prelude.{◌≡◌, map, IfOk};
 ghost use Rattle.papaya_running.specs.Ending.{shown_of, told_map};
 
-use papaya_pieced::papaya_named::named_map::NamedMap;
+use papaya_pieced::NamedMap;
 use papaya_present::crowd::Crowd;
 use papaya_runs::record::Living;
 use papaya_tally::tally::Tally;

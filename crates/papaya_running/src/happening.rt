@@ -11,13 +11,9 @@ ghost use Rattle.papaya_pieced.specs.Given.EventsOfSetups.{KeepsSetup};
 ghost use Rattle.papaya_pieced.specs.Given.ExecutorIsThere.{KeepsGiven, StaysGiven};
 
 use crate::kinds::{CallEvent, Kind, MapEvent, SlotEvent, kind_of};
-use papaya_pieced::papaya_mapping::endings::end_map;
-use papaya_pieced::papaya_mapping::makings::make_map;
-use papaya_pieced::papaya_mapping::reclaims::{close, reclaim_all};
-use papaya_pieced::papaya_scheduler::played::Played;
-use papaya_pieced::papaya_scheduler::scheduler::Scheduler;
-use papaya_pieced::papaya_stepping::stepping::{go, one_call, step};
-use papaya_pieced::papaya_stepping::walking::next;
+use papaya_pieced::{
+    Played, Scheduler, close, end_map, go, make_map, next, one_call, reclaim_all, step,
+};
 use papaya_raw::Hashes;
 use papaya_runs::record::Pair;
 use papaya_schedules::event::Event;

@@ -5,7 +5,7 @@ ghost use Rattle.papaya_schedules.specs.Entry.{is_busy};
 ghost use Rattle.papaya_running.specs.Acting.{singles_as};
 
 use crate::acting::{Traced, is_busy};
-use papaya_pieced::papaya_scheduler::played::Played;
+use papaya_pieced::Played;
 use papaya_runs::outcome::Single;
 use papaya_schedules::effect::Effect;
 use papaya_schedules::outcome::Outcome;

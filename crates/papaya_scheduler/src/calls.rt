@@ -12,14 +12,14 @@ ghost use Rattle.papaya_rows.specs.Given.ExecutorIsThere.{KeepsGiven};
 
 use crate::played::Played;
 use crate::scheduler::Scheduler;
-use papaya_rows::papaya_named::caller::{Caller, Stands};
-use papaya_rows::papaya_named::kind::Kind;
-use papaya_rows::papaya_named::machines::machine_for;
-use papaya_rows::papaya_raw::machines::Reply as Told;
-use papaya_rows::papaya_raw::{Hashes, Setting};
-use papaya_rows::papaya_schedules::call::{Call, Reply};
-use papaya_rows::papaya_schedules::outcome::Outcome;
+use papaya_named::caller::{Caller, Stands};
+use papaya_named::kind::Kind;
+use papaya_named::machines::machine_for;
+use papaya_raw::machines::Reply as Told;
+use papaya_raw::{Hashes, Setting};
 use papaya_runs::token::Token;
+use papaya_schedules::call::{Call, Reply};
+use papaya_schedules::outcome::Outcome;
 use std::alloc::AllocError;
 use std::hash::Hash;
 

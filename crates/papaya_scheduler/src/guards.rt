@@ -13,10 +13,10 @@ ghost use Rattle.papaya_rows.specs.Given.ExecutorIsThere.{KeepsGiven};
 
 use crate::played::Played;
 use crate::scheduler::Scheduler;
-use papaya_rows::papaya_scenes::row::SlotCall;
-use papaya_rows::papaya_schedules::outcome::Outcome;
 use papaya_runs::record::Pair;
 use papaya_runs::token::Token;
+use papaya_scenes::row::SlotCall;
+use papaya_schedules::outcome::Outcome;
 use seize::states::{BATCH, HELD};
 use seize_words::{At, Fault, Look};
 use std::alloc::AllocError;

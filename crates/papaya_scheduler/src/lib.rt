@@ -10,4 +10,6 @@ pub mod setups;
 pub mod shapes;
 pub mod turns;
 
-pub use papaya_rows::{papaya_logged, papaya_named, papaya_raw, papaya_schedules};
+pub use papaya_named::named_map::NamedMap;
+pub use papaya_named::places::places_for;
+pub use papaya_rows::Logged;

@@ -1,8 +1,8 @@
 //! What an event came to: an entry of a log, without the event.
 ghost use Rattle.std.specs.Prelude.{◌≡◌, []};
 
-use papaya_rows::papaya_schedules::effect::Effect;
-use papaya_rows::papaya_schedules::outcome::Outcome;
+use papaya_schedules::effect::Effect;
+use papaya_schedules::outcome::Outcome;
 use seize_words::Fault;
 use std::alloc::Global;
 

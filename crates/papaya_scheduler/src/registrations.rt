@@ -13,11 +13,11 @@ ghost use Rattle.papaya_rows.specs.Given.ExecutorIsThere.{KeepsGiven};
 
 use crate::played::Played;
 use crate::scheduler::Scheduler;
-use papaya_rows::papaya_scenes::row::{RowTold, SlotCall};
-use papaya_rows::papaya_schedules::effect::Effect;
-use papaya_rows::papaya_schedules::outcome::Outcome;
 use papaya_runs::record::Pair;
 use papaya_runs::token::Token;
+use papaya_scenes::row::{RowTold, SlotCall};
+use papaya_schedules::effect::Effect;
+use papaya_schedules::outcome::Outcome;
 use seize_words::Fault;
 use std::alloc::AllocError;
 

@@ -14,18 +14,18 @@ ghost use Rattle.papaya_rows.specs.Given.ExecutorOnSlots.{MayBegin};
 ghost use Rattle.papaya_rows.specs.Given.ScenesScene.{Scene, at_first};
 
 use crate::played::Played;
+use papaya_named::callers::Callers;
+use papaya_named::named_map::NamedMap;
 use papaya_present::Present;
 use papaya_present::crowd::Crowd;
-use papaya_rows::papaya_logged::logged::Logged;
-use papaya_rows::papaya_named::callers::Callers;
-use papaya_rows::papaya_named::named_map::NamedMap;
-use papaya_rows::papaya_raw::{Node, Setting};
-use papaya_rows::papaya_scenes::row::{RowTold, SlotCall};
-use papaya_rows::papaya_schedules::effect::Effect;
-use papaya_rows::papaya_schedules::outcome::Outcome;
+use papaya_raw::{Node, Setting};
+use papaya_rows::Logged;
 use papaya_runs::event::Setup;
 use papaya_runs::record::Pair;
 use papaya_runs::token::Token;
+use papaya_scenes::row::{RowTold, SlotCall};
+use papaya_schedules::effect::Effect;
+use papaya_schedules::outcome::Outcome;
 use std::alloc::{AllocError, Global};
 
 /// The executor with what is noted of its memory, and who is there by name.

@@ -9,9 +9,9 @@ ghost use Rattle.papaya_rows.specs.Given.ExecutorIsThere.{KeepsGiven};
 
 use crate::played::Played;
 use crate::scheduler::Scheduler;
-use papaya_rows::papaya_schedules::outcome::Outcome;
 use papaya_runs::event::Setup;
 use papaya_runs::key_hash::KeyHash;
+use papaya_schedules::outcome::Outcome;
 use std::alloc::AllocError;
 
 impl<K: Drop, V: Drop, S> Scheduler<K, V, S> {

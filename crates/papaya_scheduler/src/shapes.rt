@@ -11,11 +11,11 @@ ghost use Rattle.papaya_scheduler.specs.Works.{WorksOnSetup};
 
 use crate::played::Played;
 use crate::scheduler::Scheduler;
-use papaya_rows::papaya_raw::{Node, Setting, Table};
-use papaya_rows::papaya_schedules::outcome::Outcome;
-use papaya_rows::papaya_shown::{root_of, table_behind};
+use papaya_raw::{Node, Setting, Table};
 use papaya_runs::outcome::TableShape;
 use papaya_runs::token::Token;
+use papaya_schedules::outcome::Outcome;
+use papaya_shown::{root_of, table_behind};
 use seize_words::Plain;
 use std::alloc::{AllocError, Global};
 

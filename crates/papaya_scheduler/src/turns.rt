@@ -8,9 +8,9 @@ ghost use Rattle.papaya_scheduler.specs.Turns.{IsMakingOut};
 
 use crate::played::Played;
 use crate::scheduler::Scheduler;
-use papaya_rows::papaya_raw::{ResizeMode, entries_for};
-use papaya_rows::papaya_schedules::event::Event;
-use papaya_rows::papaya_schedules::outcome::Outcome;
+use papaya_raw::{ResizeMode, entries_for};
+use papaya_schedules::event::Event;
+use papaya_schedules::outcome::Outcome;
 use seize_words::Fault;
 
 /// What is wrong in making such a map.

@@ -12,8 +12,8 @@ ghost use Rattle.papaya_seq_shows.specs.Given.RestingHeld.{stored_in};
 ghost use Rattle.papaya_seq_shows.specs.Maps.{HasNow, Keeps};
 
 use crate::map::HashMap;
-use papaya_seq_shows::papaya_asks::{Refused, RefusedKey};
-use papaya_seq_shows::papaya_resting::Change;
+use papaya_asks::{Refused, RefusedKey};
+use papaya_resting::Change;
 use seize_receivers::Receiver;
 use std::hash::{BuildHasher, Hash};
 
@@ -36,7 +36,7 @@ pub(crate) fn update<
     ensures hasher { map.new.hasher ≡ map.old.hasher }
     ensures keeps { Keeps (stored_in result map.new.met) map.old map.new }
 {
-    papaya_seq_shows::papaya_resting::update(
+    papaya_resting::update(
         &mut map.resting.memory,
         map.resting.setting,
         &map.hasher,
@@ -67,7 +67,7 @@ pub(crate) fn update_or_insert_with<
     ensures hasher { map.new.hasher ≡ map.old.hasher }
     ensures keeps { Keeps (stored_in result map.new.met) map.old map.new }
 {
-    papaya_seq_shows::papaya_resting::update_or_insert_with(
+    papaya_resting::update_or_insert_with(
         &mut map.resting.memory,
         map.resting.setting,
         &map.hasher,
@@ -97,7 +97,7 @@ pub(crate) fn try_insert_with<
     ensures hasher { map.new.hasher ≡ map.old.hasher }
     ensures keeps { Keeps (stored_in result map.new.met) map.old map.new }
 {
-    papaya_seq_shows::papaya_resting::try_insert_with(
+    papaya_resting::try_insert_with(
         &mut map.resting.memory,
         map.resting.setting,
         &map.hasher,
@@ -126,7 +126,7 @@ pub(crate) fn update_or_insert<
     ensures hasher { map.new.hasher ≡ map.old.hasher }
     ensures keeps { Keeps (stored_in result map.new.met) map.old map.new }
 {
-    papaya_seq_shows::papaya_resting::update_or_insert(
+    papaya_resting::update_or_insert(
         &mut map.resting.memory,
         map.resting.setting,
         &map.hasher,

@@ -33,7 +33,7 @@ pub fn take<K: Eq + Hash + Drop, V: Drop, S: BuildHasher, R: Receiver<(K, V)>, Q
     ensures hasher { map.new.hasher ≡ map.old.hasher }
     ensures keeps { Keeps [] map.old map.new }
 {
-    papaya_seq_shows::papaya_resting::remove(
+    papaya_resting::remove(
         &mut map.resting.memory,
         map.resting.setting,
         &map.hasher,

@@ -13,9 +13,9 @@ ghost use Rattle.papaya_seq_shows.specs.Maps.{HasNow, Keeps};
 
 use crate::answers::{Aborted, Compute, Present, Removed, Updated};
 use crate::map::HashMap;
+use papaya_asks::RefusedKey;
 use papaya_operation::Operation;
-use papaya_seq_shows::papaya_asks::RefusedKey;
-use papaya_seq_shows::papaya_resting::{Change, Compute as Done};
+use papaya_resting::{Change, Compute as Done};
 use seize_receivers::Receiver;
 use std::hash::{BuildHasher, Hash};
 
@@ -39,7 +39,7 @@ fn decided<
     ensures hasher { map.new.hasher ≡ map.old.hasher }
     ensures keeps { Keeps (stored_computing result map.new.met) map.old map.new }
 {
-    papaya_seq_shows::papaya_resting::compute(
+    papaya_resting::compute(
         &mut map.resting.memory,
         map.resting.setting,
         &map.hasher,

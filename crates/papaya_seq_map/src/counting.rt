@@ -15,11 +15,7 @@ impl<K: Eq + Hash, V, S: BuildHasher, R: Receiver<(K, V)>> HashMap<K, V, S, R> {
         ensures apart { IsDistinct K.eq (keys_of self.now.pairs) }
         ensures held { (waiting : List (K × V)) × IsPermutation self.now.held (self.now.pairs ++ waiting) }
     {
-        papaya_seq_shows::papaya_resting::count(
-            &self.resting.memory,
-            self.resting.setting,
-            &self.hasher,
-        )
+        papaya_resting::count(&self.resting.memory, self.resting.setting, &self.hasher)
     }
 
     /// Whether it has no pair.

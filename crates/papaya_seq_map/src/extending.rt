@@ -8,7 +8,7 @@ ghost use Rattle.papaya_seq_shows.specs.Stored.{Collects, Extends};
 
 use crate::insertions::put;
 use crate::map::HashMap;
-use papaya_seq_shows::papaya_asks::Refused;
+use papaya_asks::Refused;
 use seize_receivers::Receiver;
 use seize_words::Fault;
 use std::alloc::Global;

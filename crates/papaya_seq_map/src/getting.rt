@@ -11,8 +11,8 @@ use crate::answers::Present;
 use crate::asking;
 use crate::insertions::try_put;
 use crate::map::HashMap;
-use papaya_seq_shows::papaya_asks::{Refused, RefusedKey};
-use papaya_seq_shows::papaya_resting::Change;
+use papaya_asks::{Refused, RefusedKey};
+use papaya_resting::Change;
 use seize_receivers::Receiver;
 use std::hash::{BuildHasher, Hash};
 

@@ -13,7 +13,7 @@ ghost use Rattle.papaya_seq_shows.specs.Stored.{HasPut};
 
 use crate::answers::{OccupiedError, Present, Replaced};
 use crate::map::HashMap;
-use papaya_seq_shows::papaya_asks::Refused;
+use papaya_asks::Refused;
 use seize_receivers::Receiver;
 use seize_words::Fault;
 use std::hash::{BuildHasher, Hash};
@@ -36,7 +36,7 @@ pub fn put<K: Eq + Hash + Drop, V: Drop, S: BuildHasher, R: Receiver<(K, V)>>(
     ensures hasher { map.new.hasher ≡ map.old.hasher }
     ensures keeps { Keeps (if_stored result (key, value)) map.old map.new }
 {
-    papaya_seq_shows::papaya_resting::insert(
+    papaya_resting::insert(
         &mut map.resting.memory,
         map.resting.setting,
         &map.hasher,
@@ -65,7 +65,7 @@ pub(crate) fn try_put<K: Eq + Hash + Drop, V: Drop, S: BuildHasher, R: Receiver<
     ensures hasher { map.new.hasher ≡ map.old.hasher }
     ensures keeps { Keeps (if_tried result (key, value)) map.old map.new }
 {
-    papaya_seq_shows::papaya_resting::try_insert(
+    papaya_resting::try_insert(
         &mut map.resting.memory,
         map.resting.setting,
         &map.hasher,

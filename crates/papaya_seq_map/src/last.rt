@@ -2,7 +2,7 @@
 ghost use Rattle.std.specs.Prelude.{◌≡◌, option_map};
 
 use crate::map::HashMap;
-use papaya_seq_shows::papaya_resting::shown;
+use papaya_resting::shown;
 use seize_receivers::Receiver;
 use std::hash::{BuildHasher, Hash};
 

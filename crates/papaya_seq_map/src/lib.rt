@@ -26,9 +26,9 @@ pub use answers::{Aborted, Compute, OccupiedError, Present, Removed, Replaced, U
 pub use changes::take;
 pub use insertions::{put, store};
 pub use map::HashMap;
+pub use papaya_asks::{Refused, RefusedKey};
 pub use papaya_operation::Operation;
-pub use papaya_seq_shows::papaya_asks::{Refused, RefusedKey};
-pub use papaya_seq_shows::papaya_pairs::law;
+pub use papaya_pairs::law;
 pub use papaya_shown::{Keys, Pairs, Values};
 pub use papaya_tables::Equivalent;
 pub use seize_receivers::{Drops, Receiver};

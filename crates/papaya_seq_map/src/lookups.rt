@@ -5,7 +5,7 @@ ghost use Rattle.std.specs.Option.{option_copied};
 ghost use Rattle.papaya_seq_shows.specs.Given.RestingGiven.{found_by};
 
 use crate::map::HashMap;
-use papaya_seq_shows::papaya_resting::pair_of;
+use papaya_resting::pair_of;
 use papaya_tables::Equivalent;
 use seize_receivers::Receiver;
 use std::hash::{BuildHasher, Hash};

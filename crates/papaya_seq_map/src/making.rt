@@ -6,7 +6,7 @@ ghost use Rattle.papaya_seq_shows.specs.Given.RestingGiven.{AreTooMany, IsUnmade
 ghost use Rattle.papaya_seq_shows.specs.Maps.{LastTook};
 
 use crate::map::{HashMap, Resting};
-use papaya_seq_shows::papaya_resting::Last;
+use papaya_resting::Last;
 use seize_alone::register;
 use seize_words::{Fault, Plain};
 use std::alloc::Global;
@@ -65,10 +65,10 @@ impl<K: Eq + Hash + Drop, V: Drop, S: BuildHasher + Drop> HashMap<K, V, S> {
         ensures fault { IfErr result (IsUnmade capacity) }
         ensures hasher { IfOk result (λ map. map.hasher ≡ hasher) }
     {
-        let places = papaya_seq_shows::papaya_resting::places_for(capacity)?;
+        let places = papaya_resting::places_for(capacity)?;
         let mut memory = Plain::new(alloc, 1)?;
         let slot = register(&mut memory, true)?;
-        let setting = papaya_seq_shows::papaya_resting::begin(&mut memory, slot, places, &hasher)?;
+        let setting = papaya_resting::begin(&mut memory, slot, places, &hasher)?;
         Ok(HashMap {
             resting: Resting {
                 memory,

@@ -3,7 +3,7 @@ ghost use Rattle.std.specs.Prelude.{◌≡◌, true};
 ghost use Rattle.papaya_seq_shows.specs.Given.RestingLasts.{is_named};
 ghost use Rattle.papaya_shown.specs.Chain.{CountsTables, counts_tables_prop, root_link};
 
-use papaya_seq_shows::papaya_resting::Last;
+use papaya_resting::Last;
 use papaya_tables::{Node, Setting};
 use seize_receivers::{Drops, Receiver};
 use seize_words::Plain;

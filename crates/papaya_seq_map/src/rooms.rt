@@ -9,7 +9,7 @@ ghost use Rattle.seize_words.specs.declared.fault.Fault.TheVariants.{Capacity};
 ghost use Rattle.papaya_seq_shows.specs.Maps.{Keeps, LastTook};
 
 use crate::map::HashMap;
-use papaya_seq_shows::papaya_resting::Last;
+use papaya_resting::Last;
 use seize_receivers::Receiver;
 use seize_words::Fault;
 use std::hash::{BuildHasher, Hash};
@@ -28,7 +28,7 @@ impl<K: Eq + Hash + Drop, V: Drop, S: BuildHasher, R: Receiver<(K, V)>> HashMap<
         ensures keeps { Keeps [] self.old self.new }
     {
         self.resting.last = Last::NONE;
-        papaya_seq_shows::papaya_resting::reserve(
+        papaya_resting::reserve(
             &mut self.resting.memory,
             self.resting.setting,
             &self.hasher,

@@ -8,7 +8,7 @@ ghost use Rattle.papaya_seq_shows.specs.Given.RestingGiven.{AnswersByTest, Keeps
 ghost use Rattle.papaya_seq_shows.specs.Maps.{Keeps, LastTook};
 
 use crate::map::HashMap;
-use papaya_seq_shows::papaya_resting::Last;
+use papaya_resting::Last;
 use seize_receivers::Receiver;
 use seize_words::Fault;
 use std::hash::{BuildHasher, Hash};
@@ -28,11 +28,7 @@ impl<K: Eq + Hash + Drop, V: Drop, S: BuildHasher, R: Receiver<(K, V)>> HashMap<
         ensures keeps { Keeps [] self.old self.new }
     {
         self.resting.last = Last::NONE;
-        papaya_seq_shows::papaya_resting::clear(
-            &mut self.resting.memory,
-            self.resting.setting,
-            &self.hasher,
-        )
+        papaya_resting::clear(&mut self.resting.memory, self.resting.setting, &self.hasher)
     }
 
     /// Keeps just the pairs for which the closure answers `true`. It is called with each pair once, in which order is not said. The faults are
@@ -52,7 +48,7 @@ impl<K: Eq + Hash + Drop, V: Drop, S: BuildHasher, R: Receiver<(K, V)>> HashMap<
         ensures keeps { Keeps [] self.old self.new }
     {
         self.resting.last = Last::NONE;
-        papaya_seq_shows::papaya_resting::retain(
+        papaya_resting::retain(
             &mut self.resting.memory,
             self.resting.setting,
             &self.hasher,

@@ -12,7 +12,7 @@ ghost use Rattle.papaya_seq_map.specs.Answers.{HasRemoved, IsLeft, IsRefused};
 ghost use Rattle.papaya_seq_shows.specs.Maps.{HasNow, Keeps};
 
 use crate::map::HashMap;
-use papaya_seq_shows::papaya_resting::Change;
+use papaya_resting::Change;
 use papaya_tables::Equivalent;
 use seize_receivers::Receiver;
 use seize_words::Fault;
@@ -39,7 +39,7 @@ fn take_if<
     ensures hasher { map.new.hasher ≡ map.old.hasher }
     ensures keeps { Keeps [] map.old map.new }
 {
-    papaya_seq_shows::papaya_resting::remove_if(
+    papaya_resting::remove_if(
         &mut map.resting.memory,
         map.resting.setting,
         &map.hasher,

@@ -10,7 +10,7 @@ ghost use Rattle.papaya_seq_map.specs.Answers.{HasAdded, HasReplaced, IsLeft, Is
 use crate::answers::{Present, Updated};
 use crate::asking;
 use crate::map::HashMap;
-use papaya_seq_shows::papaya_asks::{Refused, RefusedKey};
+use papaya_asks::{Refused, RefusedKey};
 use seize_receivers::Receiver;
 use std::hash::{BuildHasher, Hash};
 

@@ -1,6 +1,2 @@
 //! What the words of a map for one owner show of its pairs, and what it has once pairs were stored in it one after another.
 #![tactic(auto)]
-
-pub use papaya_pairs;
-pub use papaya_resting;
-pub use papaya_resting::papaya_asks;

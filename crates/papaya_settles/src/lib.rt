@@ -1,4 +1,2 @@
 //! What a call under way has yet to settle: what it has to count, and what it has in hand.
 #![tactic(auto)]
-
-pub use papaya_histories::{papaya_effects, papaya_named, papaya_schedules};

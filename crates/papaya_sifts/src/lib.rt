@@ -4,6 +4,5 @@
 mod sweeping;
 mod sweeps;
 
-pub use papaya_owned::{papaya_raw, papaya_shown};
 pub use sweeping::{OverPairs, Pause};
 pub use sweeps::{empty, sift};

@@ -2,10 +2,10 @@
 ghost use Rattle.std.specs.Prelude.{◌≡◌};
 ghost use Rattle.papaya_sifts.specs.Sweeping.{over_pairs_settled};
 
-use papaya_owned::papaya_raw::machines::{Sweep, Swept};
-use papaya_owned::papaya_tables::{Hashes, Node};
-use papaya_owned::seize::{Machine, Progress};
-use papaya_owned::seize_words::Memory;
+use papaya_raw::machines::{Sweep, Swept};
+use papaya_tables::{Hashes, Node};
+use seize::{Machine, Progress};
+use seize_words::Memory;
 use std::hash::Hash;
 
 /// How a sweep stops.

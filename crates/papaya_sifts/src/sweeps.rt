@@ -9,10 +9,10 @@ ghost use Rattle.papaya_sifts.specs.Sweeping.{HasSwept};
 ghost use Rattle.papaya_owned.specs.Given.SeizeWordsDeclared.fault.Fault.TheVariants.{Capacity};
 
 use crate::sweeping::{OverPairs, Pause};
-use papaya_owned::papaya_raw::machines::Sweep;
-use papaya_owned::papaya_tables::{Hashes, Node, Setting};
-use papaya_owned::seize_words::{Fault, Plain};
 use papaya_owned::{pair_at, run};
+use papaya_raw::machines::Sweep;
+use papaya_tables::{Hashes, Node, Setting};
+use seize_words::{Fault, Plain};
 use std::hash::Hash;
 
 /// Removes all pairs. The faults are `Fault::Capacity`, where no table can follow the map's last one, and `Fault::Memory`: a growth that was under way

@@ -4,4 +4,7 @@
 pub mod stepping;
 pub mod walking;
 
-pub use papaya_works::{papaya_logged, papaya_mapping, papaya_scheduler};
+pub use papaya_mapping::endings::end_map;
+pub use papaya_mapping::makings::make_map;
+pub use papaya_mapping::reclaims::{close, reclaim_all};
+pub use papaya_mapping::{Logged, NamedMap, Played, Scheduler};

@@ -10,17 +10,16 @@ ghost use Rattle.papaya_works.specs.Given.NamedTelling.{goes_on};
 ghost use Rattle.papaya_works.specs.Given.NamedDeclared.caller.Caller.{Caller};
 ghost use Rattle.papaya_works.specs.Given.ExecutorIsThere.{KeepsGiven};
 
-use papaya_lowers::papaya_raw::machines::Progress;
-use papaya_lowers::papaya_raw::{Hashes, Node};
+use papaya_mapping::{Played, Scheduler};
+use papaya_named::caller::Stands;
+use papaya_named::callers::Callers;
+use papaya_named::telling::{answer_of, number_by};
+use papaya_raw::machines::Progress;
+use papaya_raw::{Hashes, Node};
 use papaya_runs::token::Token;
-use papaya_works::papaya_named::caller::Stands;
-use papaya_works::papaya_named::callers::Callers;
-use papaya_works::papaya_named::telling::{answer_of, number_by};
-use papaya_works::papaya_scheduler::played::Played;
-use papaya_works::papaya_scheduler::scheduler::Scheduler;
-use papaya_works::papaya_schedules::call::Call;
-use papaya_works::papaya_schedules::effect::Effect;
-use papaya_works::papaya_schedules::outcome::Outcome;
+use papaya_schedules::call::Call;
+use papaya_schedules::effect::Effect;
+use papaya_schedules::outcome::Outcome;
 use std::alloc::AllocError;
 use std::hash::Hash;
 

@@ -6,12 +6,11 @@ ghost use Rattle.papaya_stepping.specs.Stepping.{IsPlaced, MayWalk, PlaysNextAt,
 ghost use Rattle.papaya_works.specs.Given.ExecutorIsThere.{KeepsGiven};
 
 use crate::stepping::{come_to, way_of};
-use papaya_lowers::papaya_raw::machines::Progress;
-use papaya_lowers::papaya_raw::{Hashes, Node};
+use papaya_mapping::{Played, Scheduler};
+use papaya_raw::machines::Progress;
+use papaya_raw::{Hashes, Node};
 use papaya_runs::token::Token;
-use papaya_works::papaya_scheduler::played::Played;
-use papaya_works::papaya_scheduler::scheduler::Scheduler;
-use papaya_works::papaya_schedules::effect::Effect;
+use papaya_schedules::effect::Effect;
 use std::alloc::AllocError;
 use std::hash::Hash;
 
