@@ -1,0 +1,13 @@
+//! The collector: a number, a memory that threads share by its rows, and the end of all that waits there.
+#![tactic(auto)]
+
+mod collector;
+mod shared;
+
+pub use collector::Collector;
+pub use seize::IdSource;
+pub use seize_shared;
+pub use shared::Shared;
+
+#[cfg(test)]
+mod tests;
