@@ -6,7 +6,9 @@ mod shared;
 
 pub use collector::Collector;
 pub use seize::IdSource;
-pub use seize_shared;
+pub use seize_shared::{
+    Content, Guard, LocalGuard, OfRows, Owned, OwnedGuard, Registration, RootGuard, Unlinked,
+};
 pub use shared::Shared;
 
 #[cfg(test)]
