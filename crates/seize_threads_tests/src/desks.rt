@@ -7,7 +7,6 @@ use seize_blocks::{Blocks, Home};
 use seize_shared::{Desk, OfRows, Place, Registration, RootGuard};
 use std::alloc::{AllocError, Global};
 use std::marker::Brand;
-use std::mem;
 use std::test::Fail;
 
 /// How often a value was dropped: while two guards have seen it and it was retired; after one of them has ended; and after both.
@@ -81,49 +80,5 @@ fn what_a_guard_has_seen_is_there_until_the_last_one_ends(rt: HostRuntime) -> Re
         assert!(rt; times.seen);
         assert_eq!(rt; (times.both, times.one, times.none), (0, 0, 1));
     }
-    Ok(())
-}
-
-/// A guard that has seen a value is forgotten, and another slot takes the value away and retires it; answers how often it was dropped, once the desk has ended.
-fn forgets<B: Place>(blocks: &Blocks<Counted, OfRows>, drops: &Table) -> Option<u64>
-    requires fixed { blocks.now.words.fixed ≡ record { batch_size = 5; roots = 1 } }
-    requires home { blocks.now.words.id.views_name ≡ B.base }
-{
-    let mut writer = Registration::new(blocks, &CHOSEN).ok()?;
-    drop(writer.enter().put(0, Counted::of(drops, 0)?));
-    let desk = Desk::<Counted, B>::new(blocks, &CHOSEN).ok()?;
-    let mut guard = desk.enter()?;
-    let sees = guard.see(0);
-    mem::forget(guard);
-    drop(desk);
-    let takes = writer.clear(0);
-    writer.flush();
-    if sees && takes {
-        Some(dropped(drops, 0))
-    } else {
-        None
-    }
-}
-
-/// The same over one memory, which ends then.
-fn forgets_one(alloc: Global, drops: &Table) -> Result<Option<u64>, AllocError> {
-    let home = Home::<Counted, OfRows>::open(alloc, 1, 8, &CHOSEN)?;
-    Ok(forgets_here(&home.blocks, drops))
-}
-
-/// In this memory.
-fn forgets_here(blocks: &Blocks<Counted, OfRows>, drops: &Table) -> Option<u64>
-    requires { blocks.now.words.fixed ≡ record { batch_size = 5; roots = 1 } }
-{
-    forgets::<Brand>(blocks, drops)
-}
-
-#[test]
-fn what_a_forgotten_guard_of_a_desk_has_seen_is_there_until_the_memory_ends(
-    rt: HostRuntime,
-) -> Result<(), Fail> {
-    let drops = table(rt.alloc(), 1)?;
-    assert_eq!(rt; forgets_one(rt.alloc(), &drops)?, Some(0));
-    assert_eq!(rt; dropped(&drops, 0), 1);
     Ok(())
 }

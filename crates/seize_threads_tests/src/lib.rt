@@ -16,15 +16,11 @@ mod ground;
 #[cfg(test)]
 mod guards;
 #[cfg(test)]
-mod holding;
-#[cfg(test)]
 mod idle;
 #[cfg(test)]
 mod lists;
 #[cfg(test)]
 mod making;
-#[cfg(test)]
-mod many;
 #[cfg(test)]
 mod order;
 #[cfg(test)]
