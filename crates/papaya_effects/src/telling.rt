@@ -11,12 +11,12 @@ use crate::acting::Acting;
 use crate::did::Did;
 use crate::notes::Notes;
 use crate::role::Role;
+use papaya_runs::outcome::TableShape;
 use papaya_schedules::effect::{Effect, Growth, Spot, Table, Thing};
-use papaya_schedules::papaya_runs::outcome::TableShape;
-use papaya_schedules::papaya_tables::table_words::{DEFERRED, NEXT, PLACES};
-use papaya_schedules::seize::states::FIRST;
-use papaya_schedules::seize_words::{At, Link};
+use papaya_tables::table_words::{DEFERRED, NEXT, PLACES};
 use papaya_teller::changed::{Changed, Kind};
+use seize::states::FIRST;
+use seize_words::{At, Link};
 use std::alloc::AllocError;
 
 impl Acting {

@@ -12,10 +12,10 @@ use crate::caller::{Caller, Stands, value_of};
 use crate::kind::Kind;
 use papaya_present::counts::Counts;
 use papaya_present::crowd::{is_at, place_in};
-use papaya_present::papaya_runs::token::Token;
 use papaya_present::places::Places;
 use papaya_present::tally::Tally;
 use papaya_raw::Node;
+use papaya_runs::token::Token;
 use std::alloc::{AllocError, Global};
 use std::marker::Model;
 

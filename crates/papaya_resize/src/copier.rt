@@ -6,9 +6,9 @@ ghost use Rattle.papaya_resize.specs.CopierStates.{helping, copying_all, behind,
 
 use crate::new_table::NewTable;
 use crate::outcome::Outcome;
-use papaya_tables::seize::rows::Settle;
-use papaya_tables::seize_words::{Fault, Memory};
+use papaya_tables::named::Settle;
 use papaya_tables::{Hashes, Node, Probe, Setting, Table};
+use seize_words::{Fault, Memory};
 
 mod claims;
 mod counts;

@@ -12,9 +12,9 @@ ghost use Rattle.papaya_shown.specs.Coming.{pairs_to_come, can_go_on};
 
 use crate::pairs::{Pairs, Tables};
 use crate::places::{len_at, next_in};
-use papaya_rule::papaya_tables::table_words::NEXT;
-use papaya_rule::papaya_tables::{Node, Setting};
-use papaya_rule::seize_words::{At, Link, Look, Plain};
+use papaya_tables::table_words::NEXT;
+use papaya_tables::{Node, Setting};
+use seize_words::{At, Link, Look, Plain};
 
 impl<'a, K, V> Pairs<'a, K, V> {
     /// The pairs from this link on.

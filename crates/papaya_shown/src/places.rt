@@ -8,10 +8,10 @@ ghost use Rattle.papaya_rule.specs.Given.Tables.declared.table_words.TheConstant
 ghost use Rattle.papaya_shown.specs.Chain.{IsPlace, IsTableAt, CanBeRead, HasTables, CountsTables, counts_tables_prop, pair_by, pairs_at, pairs_on, places_of, word_or_none};
 ghost use Rattle.papaya_shown.specs.Lent.{shown};
 
-use papaya_rule::papaya_tables::marks::{COPYING, has};
-use papaya_rule::papaya_tables::table_words::PLACES;
-use papaya_rule::papaya_tables::{Node, Setting};
-use papaya_rule::seize_words::{At, Link, Look, Plain};
+use papaya_tables::marks::{COPYING, has};
+use papaya_tables::table_words::PLACES;
+use papaya_tables::{Node, Setting};
+use seize_words::{At, Link, Look, Plain};
 
 /// The pair at a place of the table at this link, if one is there that counts: in incremental mode one that is marked stands in a later table, too.
 fn pair_at<'a, K, V>(

@@ -9,10 +9,10 @@ ghost use Rattle.papaya_raw.specs.Given.Resize.declared.copier.Copying.TheVarian
 ghost use Rattle.papaya_straight.specs.Copying.{IsMidst, missed, placing};
 ghost use Rattle.papaya_straight.specs.Going.{CopyLeads, MayCopy};
 
-use papaya_raw::papaya_resize::{Copier, Copying, key_hash};
+use papaya_resize::{Copier, Copying, key_hash};
 use papaya_tables::marks::{BORROWED, COPIED, COPYING, has, unmarked};
-use papaya_tables::seize_words::{Link, Memory};
 use papaya_tables::{Hashes, Node, Probe, Table};
+use seize_words::{Link, Memory};
 
 /// What a try to put a pair into a table has come to.
 #[derive(Clone, Copy)]

@@ -8,9 +8,9 @@ ghost use Rattle.papaya_straight.specs.Looking.{HasGlanced, glance_at, looks, pa
 ghost use Rattle.seize_straight.specs.Reaches.{ComesTo};
 
 use papaya_raw::machines::Looking;
-use papaya_raw::papaya_resize::asks_for;
-use papaya_tables::seize_words::{At, Link, Look};
+use papaya_resize::asks_for;
 use papaya_tables::{Aim, Equivalent, Finding, Node, ResizeMode, Table, Trial, may_be, seen};
+use seize_words::{At, Link, Look};
 use std::hash::Hash;
 
 /// Where a lookup has come to.

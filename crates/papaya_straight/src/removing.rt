@@ -12,11 +12,11 @@ ghost use Rattle.papaya_straight.specs.Removing.{HasSought, past_all, removed_at
 
 use crate::disposing::{Disposed, dispose, dispose_of};
 use papaya_raw::machines::{Calling, KeyAnswer, KeyCall};
-use papaya_raw::papaya_resize::{asks_for, count};
+use papaya_resize::{asks_for, count};
 use papaya_tables::marks::TOMBSTONE;
-use papaya_tables::seize_words::{At, Link, Look, Memory};
 use papaya_tables::{Aim, Equivalent, Finding, Hashes, Node, Setting, Table, Trial, may_be, seen};
 use seize_straight::Retired;
+use seize_words::{At, Link, Look, Memory};
 use std::hash::Hash;
 
 /// A point of a call that removes the pair of a key. A pair is named by the word that links to it.

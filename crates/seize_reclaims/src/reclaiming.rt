@@ -11,7 +11,7 @@ ghost use Rattle.seize_reclaims.specs.AllReclaimed.{IsReclaiming, MayReclaimAll,
 
 use seize::Machine;
 use seize::rows::{Defers, LeftOver, ReclaimAll, Reclaiming, Settled};
-use seize::seize_words::Plain;
+use seize_words::Plain;
 
 /// Reclaims everything that waits, and gives every slot up, while no call is under way and no guard lives. By ascending slot, each
 /// active one leaves; then each slot's batch is flushed, in rounds until none is left. Last comes what was left over at the roots, by

@@ -7,8 +7,8 @@ ghost use Rattle.seize_callers.specs.Given.SeizeViews.declared.view.View.TheVari
 use crate::stay::Stay;
 use seize::rows::Defers;
 use seize_blocks::{Blocks, Seat};
-use seize_callers::seize_views::{Content, Fixed, OfRows};
 use seize_callers::{named, watcher};
+use seize_views::{Content, Fixed, OfRows};
 use seize_words::{At, Fault};
 use std::cell::Cell;
 use std::marker::{Brand, PhantomData};

@@ -13,7 +13,7 @@ use crate::stay::Stay;
 use seize::rows::Defers;
 use seize_blocks::Blocks;
 use seize_callers::Caller;
-use seize_callers::seize_views::{Content, Fixed, OfRows};
+use seize_views::{Content, Fixed, OfRows};
 use seize_words::Fault;
 use std::marker::PhantomData;
 

@@ -10,7 +10,7 @@ use crate::guard::RootGuard;
 use seize::rows::Defers;
 use seize_blocks::Blocks;
 use seize_callers::Caller;
-use seize_callers::seize_views::{Content, Fixed, OfRows};
+use seize_views::{Content, Fixed, OfRows};
 
 /// A block that was made, of its holder's alone: nobody else can reach it. It is spent, by taking it away, or by putting it at a root.
 pub struct Owned<'a, T: Defers, C: Content<T> = OfRows> {

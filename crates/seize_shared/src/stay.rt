@@ -8,7 +8,7 @@ mod roots;
 use seize::rows::Defers;
 use seize_blocks::Blocks;
 use seize_callers::Caller;
-use seize_callers::seize_views::{Content, Fixed, OfRows};
+use seize_views::{Content, Fixed, OfRows};
 use seize_words::Fault;
 
 /// A caller who holds a slot: whether its section is open, which block was seen there, 0 for none, and how many seats watch that section. The slot is given up

@@ -4,9 +4,7 @@ ghost use Rattle.papaya_raw.specs.EndMap.{ending, is_current, next_place, reads,
 ghost use Rattle.papaya_tables.specs.Given.SeizeWords.Plan.{May, Steps};
 
 use papaya_tables::marks::{COPYING, has};
-use papaya_tables::seize::rows::Settled;
-use papaya_tables::seize::{Machine, states};
-use papaya_tables::seize_words::{At, Link, Memory};
+use papaya_tables::named::{At, Link, Machine, Memory, Settled, states};
 use papaya_tables::table_words::{DEFERRED, NEXT, PLACES};
 use papaya_tables::{Node, Setting, Table};
 

@@ -5,9 +5,9 @@ ghost use Rattle.papaya_resize.specs.CopierClaims.{chunk, range_claimed, begins,
 
 use crate::copier::{Copier, Copying};
 use crate::outcome::Outcome;
-use papaya_tables::seize_words::{At, Link, Memory};
 use papaya_tables::table_words::{CLAIM, NEXT, STATUS};
 use papaya_tables::{Node, Status, Table};
+use seize_words::{At, Link, Memory};
 
 impl Copier {
     /// Reads the root.

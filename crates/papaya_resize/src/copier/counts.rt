@@ -5,9 +5,9 @@ ghost use Rattle.papaya_resize.specs.CopierCounts.{refusing, given_up, counts, t
 
 use crate::copier::{Copier, Copying};
 use crate::outcome::Outcome;
-use papaya_tables::seize_words::{Fault, Memory};
 use papaya_tables::table_words::{CLAIM, COPIED};
 use papaya_tables::{Node, Table};
+use seize_words::{Fault, Memory};
 
 impl Copier {
     /// Adds the places done to the count. Where that makes it full, the next table is promoted.

@@ -10,10 +10,10 @@ use crate::copier::{Copier, Copying};
 use crate::new_table::NewTable;
 use crate::outcome::Outcome;
 use papaya_tables::lengths::Reason;
-use papaya_tables::seize::{Machine, Progress};
-use papaya_tables::seize_words::{Link, Memory};
+use papaya_tables::named::{Machine, Progress};
 use papaya_tables::table_words::{NEXT, STATUS};
 use papaya_tables::{Node, Status, Table};
+use seize_words::{Link, Memory};
 
 impl Copier {
     /// Reads which table follows one that has no place for a pair.

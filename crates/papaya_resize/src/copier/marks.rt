@@ -6,8 +6,8 @@ ghost use Rattle.papaya_resize.specs.CopierMarks.{is_mine, is_awaited, probing, 
 use crate::copier::{Copier, Copying};
 use crate::outcome::Outcome;
 use papaya_tables::marks::{COPIED, COPYING, has};
-use papaya_tables::seize_words::{Link, Memory};
 use papaya_tables::{Hashes, Node, Probe, Table};
+use seize_words::{Link, Memory};
 
 /// The hash of the key of a pair, and 0 of a value of another kind.
 #[inline(always)]

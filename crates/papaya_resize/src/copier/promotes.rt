@@ -8,11 +8,10 @@ ghost use Rattle.papaya_resize.specs.CopierPromotes.{table_retired, promotes, an
 
 use crate::copier::{Copier, Copying};
 use crate::outcome::Outcome;
-use papaya_tables::seize::Machine;
-use papaya_tables::seize::rows::{Settle, Settled};
-use papaya_tables::seize_words::{At, Link, Memory};
+use papaya_tables::named::{Machine, Settle, Settled};
 use papaya_tables::table_words::{NEXT, STATUS};
 use papaya_tables::{Node, Status, Table};
+use seize_words::{At, Link, Memory};
 
 impl Copier {
     /// Makes the next table the root.

@@ -5,12 +5,8 @@ ghost use Rattle.papaya_sweeps.specs.Sweep.{tries, counts, disposed};
 ghost use Rattle.papaya_reserves.specs.Given.SeizeWords.Plan.{May, Steps, plan_as};
 
 use crate::sweep::{Sweep, Sweeping, Swept};
-use papaya_reserves::papaya_resize::{Dispose, count};
-use papaya_reserves::papaya_tables::Node;
-use papaya_reserves::papaya_tables::marks::TOMBSTONE;
-use papaya_reserves::seize::Machine;
-use papaya_reserves::seize::rows::Settled;
-use papaya_reserves::seize_words::Memory;
+use papaya_reserves::named::marks::TOMBSTONE;
+use papaya_reserves::named::{Dispose, Machine, Memory, Node, Settled, count};
 
 impl Sweep {
     /// Removes the pair of a word. Where another word is found, it goes on by that.

@@ -11,7 +11,7 @@ use crate::stay::Stay;
 use seize::rows::Defers;
 use seize_blocks::Seat;
 use seize_callers::Caller;
-use seize_callers::seize_views::OfRows;
+use seize_views::OfRows;
 
 impl<'a, T: Defers + Drop> Stay<'a, T> {
     /// Looks which block is at a root, and tells whether one is, where its section is open. What was seen before is not known any more.

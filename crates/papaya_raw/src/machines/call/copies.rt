@@ -7,8 +7,8 @@ ghost use Rattle.papaya_raw.specs.declared.machines.call.Calling.TheVariants as 
 
 use crate::machines::answer::{Called, End};
 use crate::machines::call::{Calling, KeyCall};
-use papaya_sweeps::papaya_resize::{Copier, Outcome};
-use papaya_tables::seize_words::Memory;
+use papaya_sweeps::named::{Copier, Outcome};
+use papaya_tables::named::Memory;
 use papaya_tables::{Equivalent, Hashes, Node, Table};
 use std::hash::Hash;
 

@@ -9,9 +9,9 @@ ghost use Rattle.papaya_raw.specs.declared.machines.call.Calling.TheVariants as 
 use crate::machines::answer::{Called, KeyAnswer, Missing, There};
 use crate::machines::asking::Gap;
 use crate::machines::call::{Calling, KeyCall};
-use papaya_sweeps::papaya_resize::{Dispose, asks_for, count};
+use papaya_sweeps::named::{Dispose, asks_for, count};
 use papaya_tables::marks::TOMBSTONE;
-use papaya_tables::seize_words::{Link, Memory};
+use papaya_tables::named::{Link, Memory};
 use papaya_tables::{Aim, Equivalent, Finding, Node, may_be, seen};
 use std::hash::Hash;
 

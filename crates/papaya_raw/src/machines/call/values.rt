@@ -7,10 +7,8 @@ ghost use Rattle.papaya_raw.specs.declared.machines.call.Calling.TheVariants as 
 
 use crate::machines::answer::{Called, End, KeyAnswer};
 use crate::machines::call::{Calling, KeyCall};
-use papaya_sweeps::papaya_resize::{Dispose, Lookup};
-use papaya_tables::seize::rows::Settled;
-use papaya_tables::seize::{Machine, Progress};
-use papaya_tables::seize_words::{Fault, Link, Memory};
+use papaya_sweeps::named::{Dispose, Lookup};
+use papaya_tables::named::{Fault, Link, Machine, Memory, Progress, Settled};
 use papaya_tables::{Equivalent, Node, h2};
 use std::hash::Hash;
 
