@@ -1,6 +1,6 @@
 //! What an operation does to pairs and tables, and what is known after it.
 ghost use Rattle.std.specs.Prelude.{◌≡◌, ◌==◌, ◌<◌, ◌+◌, ◌^◌, ◌&&◌, nat_lt, Bool, [], ◌∷◌, if◌then◌else◌, OnOk, OnErr};
-ghost use Rattle.papaya_schedules.specs.Given.Seize.declared.states.TheConstants.{FIRST};
+ghost use Rattle.papaya_schedules.specs.Given.SeizeDeclared.states.TheConstants.{FIRST};
 ghost use Rattle.papaya_schedules.specs.declared.effect.Effect.TheVariants.{Asked, Retired};
 ghost use Rattle.papaya_schedules.specs.declared.effect.Growth.TheVariants.{ABlock, ABucket};
 ghost use Rattle.papaya_effects.specs.Did.{listed};

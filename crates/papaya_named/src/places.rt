@@ -1,6 +1,6 @@
 //! With how many places a map begins.
 ghost use Rattle.std.specs.Prelude.{◌≡◌, None, Some, IfOk, IfErr};
-ghost use Rattle.papaya_present.specs.Given.Runs.Runs.{map_fault};
+ghost use Rattle.papaya_present.specs.Given.RunsRuns.{map_fault};
 ghost use Rattle.papaya_named.specs.Places.{IsFirstLen, first_places};
 
 use papaya_raw::{ResizeMode, entries_for};

@@ -1,7 +1,7 @@
 //! How a call counts what it has changed.
 ghost use Rattle.std.specs.Prelude.{ℕ};
 ghost use Rattle.papaya_tables.specs.Counts.{count_change, shard_of};
-ghost use Rattle.papaya_tables.specs.Given.SeizeWords.Op.{Add, Found};
+ghost use Rattle.papaya_tables.specs.Given.SeizeWordsOp.{Add, Found};
 
 use papaya_tables::{Counter, Setting};
 use seize_words::{At, Memory};

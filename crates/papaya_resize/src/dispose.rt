@@ -2,7 +2,7 @@
 ghost use Rattle.std.specs.Prelude.{◌≡◌};
 ghost use Rattle.papaya_resize.specs.Dispose.{disposing, standing, settled, deferred, reads, walks, dispose_plan};
 ghost use Rattle.papaya_resize.specs.declared.dispose.Disposing.TheVariants as at;
-ghost use Rattle.papaya_tables.specs.Given.SeizeWords.Plan.{May, Steps};
+ghost use Rattle.papaya_tables.specs.Given.SeizeWordsPlan.{May, Steps};
 
 use papaya_tables::marks::{BORROWED, has, link_of};
 use papaya_tables::named::{Defer, Machine, Progress, Settle, Settled};

@@ -1,6 +1,6 @@
 //! A lookup: it reads words and values, and writes nothing.
 ghost use Rattle.std.specs.Prelude.{◌≡◌};
-ghost use Rattle.papaya_tables.specs.Given.SeizeWords.Plan.{May, MaySee, Steps, Ends};
+ghost use Rattle.papaya_tables.specs.Given.SeizeWordsPlan.{May, MaySee, Steps, Ends};
 ghost use Rattle.papaya_resize.specs.Lookup.{looking, going, answered, beyond, told, table_read, word_read, roots, probes, nexts, lookup_plan, names_pair};
 
 use papaya_tables::named::Progress;

@@ -2,7 +2,7 @@
 ghost use Rattle.std.specs.Prelude.{◌≡◌};
 ghost use Rattle.papaya_resize.specs.NewMap.{opening, takes, shards, opened, unmakes, frees};
 ghost use Rattle.papaya_resize.specs.NewTable.{new_table_plan};
-ghost use Rattle.papaya_tables.specs.Given.SeizeWords.Plan.{May, Steps, plan_as};
+ghost use Rattle.papaya_tables.specs.Given.SeizeWordsPlan.{May, Steps, plan_as};
 
 use crate::new_table::NewTable;
 use papaya_tables::named::{Machine, Progress};

@@ -5,7 +5,7 @@ ghost use Rattle.papaya_rule.specs.Chart.{Chart};
 ghost use Rattle.papaya_rule.specs.Words.{Blocks};
 ghost use Rattle.papaya_shown.specs.Shown.{Stands, NoneMoves, pairs_stored};
 ghost use Rattle.std.specs.Iterator.{YieldsFirstBy, item_count};
-ghost use Rattle.papaya_rule.specs.Given.Tables.Chunks.{is_incremental};
+ghost use Rattle.papaya_rule.specs.Given.TablesChunks.{is_incremental};
 ghost use Rattle.papaya_shown.specs.Chain.{CanBeRead, HasTables, CountsTables, pairs_from_root, pairs_on, root_link};
 ghost use Rattle.papaya_shown.specs.Lent.{pair_shown};
 ghost use Rattle.papaya_shown.specs.Coming.{pairs_to_come, can_go_on};

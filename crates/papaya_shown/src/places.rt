@@ -1,10 +1,10 @@
 //! What the places of a table show.
 ghost use Rattle.std.specs.Prelude.{if◌then◌else◌, ◌==◌, ◌≡◌, ◌≢◌, ◌<◌, ◌≤◌, ◌+◌, ◌-◌, ◌^◌, ◌∷◌, [], ℕ, Bool, MatchOption, Option, Some, None};
-ghost use Rattle.papaya_rule.specs.Given.Tables.Chunks.{is_incremental};
-ghost use Rattle.papaya_rule.specs.Given.SeizeWords.Word.{block_in};
-ghost use Rattle.papaya_rule.specs.Given.SeizeWords.Mem.{word_at, value_at};
-ghost use Rattle.papaya_rule.specs.Given.SeizeWords.declared.at.At.TheVariants.{Word};
-ghost use Rattle.papaya_rule.specs.Given.Tables.declared.table_words.TheConstants.{PLACES};
+ghost use Rattle.papaya_rule.specs.Given.TablesChunks.{is_incremental};
+ghost use Rattle.papaya_rule.specs.Given.SeizeWordsWord.{block_in};
+ghost use Rattle.papaya_rule.specs.Given.SeizeWordsMem.{word_at, value_at};
+ghost use Rattle.papaya_rule.specs.Given.SeizeWordsDeclared.at.At.TheVariants.{Word};
+ghost use Rattle.papaya_rule.specs.Given.TablesDeclared.table_words.TheConstants.{PLACES};
 ghost use Rattle.papaya_shown.specs.Chain.{IsPlace, IsTableAt, CanBeRead, HasTables, CountsTables, counts_tables_prop, pair_by, pairs_at, pairs_on, places_of, word_or_none};
 ghost use Rattle.papaya_shown.specs.Lent.{shown};
 

@@ -1,8 +1,8 @@
 //! A lookup: from the root over the tries at the root's table, on a memory that can only be read, too.
 ghost use Rattle.std.specs.Prelude.{◌≡◌};
-ghost use Rattle.papaya_tables.specs.Given.SeizeWords.Plan.{MaySee, Ends};
-ghost use Rattle.papaya_raw.specs.Given.Resize.Lookup.{looking, told, told_of, word_read};
-ghost use Rattle.papaya_raw.specs.Given.Resize.declared.lookup.Looking.TheVariants as at;
+ghost use Rattle.papaya_tables.specs.Given.SeizeWordsPlan.{MaySee, Ends};
+ghost use Rattle.papaya_raw.specs.Given.ResizeLookup.{looking, told, told_of, word_read};
+ghost use Rattle.papaya_raw.specs.Given.ResizeDeclared.lookup.Looking.TheVariants as at;
 ghost use Rattle.papaya_straight.specs.Going.{LookGoes, LookReaches, MayLook};
 ghost use Rattle.papaya_straight.specs.Looking.{HasGlanced, glance_at, looks, past_tries, sight_at};
 ghost use Rattle.seize_straight.specs.Reaches.{ComesTo};

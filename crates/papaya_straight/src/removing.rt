@@ -1,6 +1,6 @@
 //! A call that removes the pair of a key: from the root to the disposal of the pair, or to the end of the tries.
 ghost use Rattle.std.specs.Prelude.{◌≡◌, ◌≢◌, Bool};
-ghost use Rattle.papaya_tables.specs.Given.SeizeWords.Plan.{MaySee, Ends};
+ghost use Rattle.papaya_tables.specs.Given.SeizeWordsPlan.{MaySee, Ends};
 ghost use Rattle.papaya_tables.specs.declared.marks.TheConstants.{TOMBSTONE as BURIED};
 ghost use Rattle.papaya_raw.specs.Call.{word_read};
 ghost use Rattle.papaya_raw.specs.CallPoints.{told, told_of, untried};

@@ -1,6 +1,6 @@
 //! A call that stores its own block: from the root to an empty place or to the pair that was there.
 ghost use Rattle.std.specs.Prelude.{◌≡◌, ◌≢◌, Bool, true};
-ghost use Rattle.papaya_tables.specs.Given.SeizeWords.Plan.{MaySee, Ends};
+ghost use Rattle.papaya_tables.specs.Given.SeizeWordsPlan.{MaySee, Ends};
 ghost use Rattle.papaya_tables.specs.declared.marks.TheConstants.{TOMBSTONE as BURIED};
 ghost use Rattle.papaya_raw.specs.Call.{word_read};
 ghost use Rattle.papaya_raw.specs.CallPoints.{told, told_of, untried};

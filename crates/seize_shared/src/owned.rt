@@ -2,9 +2,9 @@
 ghost use Rattle.std.specs.Prelude.{◌≡◌, ◌<◌, ◌^◌, None, Some, IfOk, IfErr, IfSome};
 ghost use Rattle.seize_callers.specs.Owning.{brought_by, borne_by};
 ghost use Rattle.seize_shared.specs.Lent.{IsLent};
-ghost use Rattle.seize_callers.specs.Given.SeizeViews.declared.view.Began.TheVariants.{Retirement};
-ghost use Rattle.seize_callers.specs.Given.SeizeViews.declared.view.Deed.TheVariants.{Wrote};
-ghost use Rattle.seize_callers.specs.Given.SeizeViews.declared.view.View.TheVariants.{Brings};
+ghost use Rattle.seize_callers.specs.Given.SeizeViewsDeclared.view.Began.TheVariants.{Retirement};
+ghost use Rattle.seize_callers.specs.Given.SeizeViewsDeclared.view.Deed.TheVariants.{Wrote};
+ghost use Rattle.seize_callers.specs.Given.SeizeViewsDeclared.view.View.TheVariants.{Brings};
 
 use crate::guard::RootGuard;
 use seize::rows::Defers;

@@ -1,7 +1,7 @@
 //! A slot that is held, and its section, which is open or not.
 ghost use Rattle.std.specs.Prelude.{◌≡◌, ◌<◌, ◌^◌, Some, IfOk, true, false};
 ghost use Rattle.seize_shared.specs.Standing.{standing};
-ghost use Rattle.seize_callers.specs.Given.SeizeViews.declared.view.Began.TheVariants.{Section, Trial};
+ghost use Rattle.seize_callers.specs.Given.SeizeViewsDeclared.view.Began.TheVariants.{Section, Trial};
 
 mod roots;
 

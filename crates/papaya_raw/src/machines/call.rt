@@ -1,6 +1,6 @@
 //! A call on one key: its points, and its steps.
 ghost use Rattle.std.specs.Prelude.{◌≡◌};
-ghost use Rattle.papaya_tables.specs.Given.SeizeWords.Plan.{May, Steps};
+ghost use Rattle.papaya_tables.specs.Given.SeizeWordsPlan.{May, Steps};
 ghost use Rattle.papaya_raw.specs.CallPoints.{going, over, told_answer, ending, answering};
 ghost use Rattle.papaya_raw.specs.Call.{call_plan};
 

@@ -1,12 +1,12 @@
 //! A call of a map under way, whichever it is.
 ghost use Rattle.std.specs.Prelude.{◌≡◌};
 ghost use Rattle.papaya_raw.specs.Call.{call_plan};
-ghost use Rattle.papaya_sweeps.specs.Given.Reserves.Reserve.{reserve_plan};
+ghost use Rattle.papaya_sweeps.specs.Given.ReservesReserve.{reserve_plan};
 ghost use Rattle.papaya_raw.specs.Machine.{called, reserved, swept, counted, machine_plan, sweep_replied, sweep_asked, machine_replied, machine_asked};
 ghost use Rattle.papaya_raw.specs.declared.machines.machine.Machine.TheVariants as kinds;
-ghost use Rattle.papaya_sweeps.specs.Given.Resize.Sum.{sum_plan};
+ghost use Rattle.papaya_sweeps.specs.Given.ResizeSum.{sum_plan};
 ghost use Rattle.papaya_sweeps.specs.Sweep.{sweep_plan};
-ghost use Rattle.papaya_tables.specs.Given.SeizeWords.Plan.{May, Steps, plan_as};
+ghost use Rattle.papaya_tables.specs.Given.SeizeWordsPlan.{May, Steps, plan_as};
 
 use crate::machines::asking::Reply;
 use crate::machines::call::KeyCall;

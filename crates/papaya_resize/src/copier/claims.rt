@@ -1,6 +1,6 @@
 //! The tables are known, the status is read, and a chunk is claimed.
 ghost use Rattle.std.specs.Prelude.{◌≡◌, ◌<◌};
-ghost use Rattle.papaya_tables.specs.Given.SeizeWords.Plan.{May, Steps};
+ghost use Rattle.papaya_tables.specs.Given.SeizeWordsPlan.{May, Steps};
 ghost use Rattle.papaya_resize.specs.CopierClaims.{chunk, range_claimed, begins, follows, asks, sees, claims};
 
 use crate::copier::{Copier, Copying};

@@ -1,6 +1,6 @@
 //! What is done is counted, and what can't be done is taken back.
 ghost use Rattle.std.specs.Prelude.{◌≡◌};
-ghost use Rattle.papaya_tables.specs.Given.SeizeWords.Plan.{May, Steps};
+ghost use Rattle.papaya_tables.specs.Given.SeizeWordsPlan.{May, Steps};
 ghost use Rattle.papaya_resize.specs.CopierCounts.{refusing, given_up, counts, tallies, unmarks, unclaims};
 
 use crate::copier::{Copier, Copying};

@@ -1,6 +1,6 @@
 //! A further table is looked for, where a pair has no place in one.
 ghost use Rattle.std.specs.Prelude.{◌≡◌, ℕ};
-ghost use Rattle.papaya_tables.specs.Given.SeizeWords.Plan.{May, Steps};
+ghost use Rattle.papaya_tables.specs.Given.SeizeWordsPlan.{May, Steps};
 ghost use Rattle.papaya_resize.specs.Copier.{copier_plan};
 ghost use Rattle.papaya_resize.specs.CopierStates.{standing};
 ghost use Rattle.papaya_resize.specs.declared.copier.Copying.TheVariants as at;

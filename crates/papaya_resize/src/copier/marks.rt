@@ -1,6 +1,6 @@
 //! A place is marked, and its pair is copied by the caller that marked it first.
 ghost use Rattle.std.specs.Prelude.{◌≡◌};
-ghost use Rattle.papaya_tables.specs.Given.SeizeWords.Plan.{May, Steps};
+ghost use Rattle.papaya_tables.specs.Given.SeizeWordsPlan.{May, Steps};
 ghost use Rattle.papaya_resize.specs.CopierMarks.{is_mine, is_awaited, probing, key_hash, marks, covers};
 
 use crate::copier::{Copier, Copying};

@@ -1,6 +1,6 @@
 //! A place is looked for, for a pair that is copied.
 ghost use Rattle.std.specs.Prelude.{◌≡◌};
-ghost use Rattle.papaya_tables.specs.Given.SeizeWords.Plan.{May, Steps};
+ghost use Rattle.papaya_tables.specs.Given.SeizeWordsPlan.{May, Steps};
 ghost use Rattle.papaya_resize.specs.CopierPlaces.{copied_word, next_try, pair_put, probes, puts};
 
 use crate::copier::{Copier, Copying};

@@ -1,6 +1,6 @@
 //! The next table becomes the root, and the tables before it are retired.
 ghost use Rattle.std.specs.Prelude.{◌≡◌, ℕ};
-ghost use Rattle.papaya_tables.specs.Given.SeizeWords.Plan.{May, Steps};
+ghost use Rattle.papaya_tables.specs.Given.SeizeWordsPlan.{May, Steps};
 ghost use Rattle.papaya_resize.specs.Copier.{copier_plan};
 ghost use Rattle.papaya_resize.specs.CopierStates.{standing};
 ghost use Rattle.papaya_resize.specs.declared.copier.Copying.TheVariants as at;

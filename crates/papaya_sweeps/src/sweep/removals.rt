@@ -1,8 +1,8 @@
 //! The removal of a pair: its word is exchanged, it is counted, and disposed of.
 ghost use Rattle.std.specs.Prelude.{◌≡◌};
-ghost use Rattle.papaya_reserves.specs.Given.Resize.Dispose.{dispose_plan};
+ghost use Rattle.papaya_reserves.specs.Given.ResizeDispose.{dispose_plan};
 ghost use Rattle.papaya_sweeps.specs.Sweep.{tries, counts, disposed};
-ghost use Rattle.papaya_reserves.specs.Given.SeizeWords.Plan.{May, Steps, plan_as};
+ghost use Rattle.papaya_reserves.specs.Given.SeizeWordsPlan.{May, Steps, plan_as};
 
 use crate::sweep::{Sweep, Sweeping, Swept};
 use papaya_reserves::named::marks::TOMBSTONE;

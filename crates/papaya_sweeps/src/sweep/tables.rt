@@ -1,9 +1,9 @@
 //! The table that a sweep goes over: the root, once no pair moves into a later one.
 ghost use Rattle.std.specs.Prelude.{◌≡◌};
-ghost use Rattle.papaya_reserves.specs.Given.Resize.Copier.{copier_plan};
+ghost use Rattle.papaya_reserves.specs.Given.ResizeCopier.{copier_plan};
 ghost use Rattle.papaya_sweeps.specs.Sweep.{reads, follows, copied};
 ghost use Rattle.papaya_sweeps.specs.SweepPoints.{beginning, tableless, entering};
-ghost use Rattle.papaya_reserves.specs.Given.SeizeWords.Plan.{May, Steps, plan_as};
+ghost use Rattle.papaya_reserves.specs.Given.SeizeWordsPlan.{May, Steps, plan_as};
 
 use crate::sweep::{Sweep, Sweeping, Swept};
 use papaya_reserves::named::table_words::NEXT;

@@ -1,6 +1,6 @@
 //! From table to table.
 ghost use Rattle.std.specs.Prelude.{◌≡◌, ℕ};
-ghost use Rattle.papaya_tables.specs.Given.SeizeWords.Plan.{May, MaySee, Steps, Ends};
+ghost use Rattle.papaya_tables.specs.Given.SeizeWordsPlan.{May, MaySee, Steps, Ends};
 ghost use Rattle.papaya_raw.specs.CallPoints.{tableless, at_last, entering, went_on, standing};
 ghost use Rattle.papaya_raw.specs.Call.{roots, nexts, first_made, next_made, call_plan};
 ghost use Rattle.papaya_raw.specs.declared.machines.call.Calling.TheVariants as at;
