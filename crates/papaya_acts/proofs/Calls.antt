@@ -3,48 +3,48 @@ use Rattle.std.specs.Prelude.{◌≡◌, ℕ, Bool, true, false, [], Some, None}
 use Rattle.std.specs.Option.{is_none}
 use Rattle.std.specs.Result.{is_err}
 use Rattle.std.proofs.Common.{refl, sym, ap, subst, ◌∙◌, inr}
-use Rattle.papaya_scenes.specs.Given.Seize.World.{with_at}
-use Rattle.papaya_scenes.specs.Given.SeizeActs.Answers.{Grant, then_on}
-use Rattle.papaya_scenes.proofs.Given.SeizeActs.Answers.{some, same_some, was_stepped}
-use Rattle.papaya_scenes.proofs.Given.SeizeActs.Begun.{rests_is}
-use Rattle.papaya_scenes.proofs.Given.SeizeRule.Rows.Leaving.{with_same}
-use Rattle.papaya_scenes.specs.Given.SeizeWords.Mem.{Mem}
-use Rattle.papaya_scenes.specs.Given.Tables.declared.node.Node.{Node}
-use Rattle.papaya_scenes.specs.Given.Tables.declared.node.Node.TheVariants as node
-use Rattle.papaya_scenes.specs.Given.Sweeps.declared.sweep.Sweep.{Sweep}
-use Rattle.papaya_scenes.specs.Given.Sweeps.declared.sweep.Sweeping.{Sweeping}
-use Rattle.papaya_scenes.specs.Given.Sweeps.declared.sweep.Sweeping.TheVariants as sweeping
-use Rattle.papaya_scenes.specs.Given.Raw.CallAsks.{absent_told, present_told, told_at, computing, updating, updating_or_inserting, trying_to_insert_with, removing_if}
-use Rattle.papaya_scenes.specs.Given.Raw.CallPoints.{getting, removing, inserting, trying_to_insert}
-use Rattle.papaya_scenes.specs.Given.Raw.Machine.{machine_plan, machine_replied, machine_asked, is_ready, sweep_told}
-use Rattle.papaya_scenes.specs.Given.Raw.declared.machines.asking.Asking.TheVariants as asking
-use Rattle.papaya_scenes.specs.Given.Raw.declared.machines.asking.Gap.{Gap}
-use Rattle.papaya_scenes.specs.Given.Raw.declared.machines.asking.Reply.{Reply}
-use Rattle.papaya_scenes.specs.Given.Raw.declared.machines.asking.Reply.TheVariants as reply
-use Rattle.papaya_scenes.specs.Given.Raw.declared.machines.asking.Takes.{Takes}
-use Rattle.papaya_scenes.specs.Given.Raw.declared.machines.asking.Takes.TheVariants as takes
-use Rattle.papaya_scenes.specs.Given.Raw.declared.machines.call.Calling.{Calling}
-use Rattle.papaya_scenes.specs.Given.Raw.declared.machines.call.Calling.TheVariants as at
-use Rattle.papaya_scenes.specs.Given.Raw.declared.machines.call.KeyCall.{KeyCall}
-use Rattle.papaya_scenes.specs.Given.Raw.declared.machines.machine.Machine.{Machine}
-use Rattle.papaya_scenes.specs.Given.Raw.declared.machines.machine.Machine.TheVariants as kinds
-use Rattle.papaya_scenes.specs.Given.Raw.declared.machines.progress.Progress.{Progress}
-use Rattle.papaya_scenes.specs.Given.Points.Steps.{AreLawful, told_first}
-use Rattle.papaya_scenes.specs.Given.Callers.Asked.{told_before}
-use Rattle.papaya_scenes.specs.Given.Callers.Kind.{gets, removes, inserts, tries_to_insert, computes, updates, updates_or_inserts, tries_to_insert_with, removes_if}
-use Rattle.papaya_scenes.specs.Given.Callers.Pairs.{Given, Begun, IsTold}
-use Rattle.papaya_scenes.specs.Given.Callers.Together.{UnderWay, OnKey, ForRoom, Counting, OverAll, IsBegun}
-use Rattle.papaya_scenes.specs.Given.Callers.Together as begins
-use Rattle.papaya_scenes.specs.Given.Finishes.Endings.{EndingsTogether}
-use Rattle.papaya_scenes.specs.Given.Finishes.Machines.{machine_of, MachineStepsAmong, ToldOfKind}
-use Rattle.papaya_scenes.specs.Given.Finishes.Maps.{Standing, with_call}
-use Rattle.papaya_scenes.proofs.Given.Finishes.Among.Calls.{calls_begin_among}
-use Rattle.papaya_scenes.proofs.Given.Finishes.Among.Countings.{countings_begin_among}
-use Rattle.papaya_scenes.proofs.Given.Finishes.Among.Machines.{machines_stand_among}
-use Rattle.papaya_scenes.proofs.Given.Finishes.Among.MachinesTold.{machines_told_among}
-use Rattle.papaya_scenes.proofs.Given.Finishes.Among.Rooms.{rooms_begin_among}
-use Rattle.papaya_scenes.proofs.Given.Finishes.Among.Sweeps.{sweeps_begin_among, sweeps_told_among, walks_stop_among}
-use Rattle.papaya_scenes.specs.Given.SeizeActs.Acts.{is_within}
+use Rattle.papaya_scenes.specs.Given.SeizeWorld.{with_at}
+use Rattle.papaya_scenes.specs.Given.SeizeActsAnswers.{Grant, then_on}
+use Rattle.papaya_scenes.proofs.Given.SeizeActsAnswers.{some, same_some, was_stepped}
+use Rattle.papaya_scenes.proofs.Given.SeizeActsBegun.{rests_is}
+use Rattle.papaya_scenes.proofs.Given.SeizeRuleRows.Leaving.{with_same}
+use Rattle.papaya_scenes.specs.Given.SeizeWordsMem.{Mem}
+use Rattle.papaya_scenes.specs.Given.TablesDeclared.node.Node.{Node}
+use Rattle.papaya_scenes.specs.Given.TablesDeclared.node.Node.TheVariants as node
+use Rattle.papaya_scenes.specs.Given.SweepsDeclared.sweep.Sweep.{Sweep}
+use Rattle.papaya_scenes.specs.Given.SweepsDeclared.sweep.Sweeping.{Sweeping}
+use Rattle.papaya_scenes.specs.Given.SweepsDeclared.sweep.Sweeping.TheVariants as sweeping
+use Rattle.papaya_scenes.specs.Given.RawCallAsks.{absent_told, present_told, told_at, computing, updating, updating_or_inserting, trying_to_insert_with, removing_if}
+use Rattle.papaya_scenes.specs.Given.RawCallPoints.{getting, removing, inserting, trying_to_insert}
+use Rattle.papaya_scenes.specs.Given.RawMachine.{machine_plan, machine_replied, machine_asked, is_ready, sweep_told}
+use Rattle.papaya_scenes.specs.Given.RawDeclared.machines.asking.Asking.TheVariants as asking
+use Rattle.papaya_scenes.specs.Given.RawDeclared.machines.asking.Gap.{Gap}
+use Rattle.papaya_scenes.specs.Given.RawDeclared.machines.asking.Reply.{Reply}
+use Rattle.papaya_scenes.specs.Given.RawDeclared.machines.asking.Reply.TheVariants as reply
+use Rattle.papaya_scenes.specs.Given.RawDeclared.machines.asking.Takes.{Takes}
+use Rattle.papaya_scenes.specs.Given.RawDeclared.machines.asking.Takes.TheVariants as takes
+use Rattle.papaya_scenes.specs.Given.RawDeclared.machines.call.Calling.{Calling}
+use Rattle.papaya_scenes.specs.Given.RawDeclared.machines.call.Calling.TheVariants as at
+use Rattle.papaya_scenes.specs.Given.RawDeclared.machines.call.KeyCall.{KeyCall}
+use Rattle.papaya_scenes.specs.Given.RawDeclared.machines.machine.Machine.{Machine}
+use Rattle.papaya_scenes.specs.Given.RawDeclared.machines.machine.Machine.TheVariants as kinds
+use Rattle.papaya_scenes.specs.Given.RawDeclared.machines.progress.Progress.{Progress}
+use Rattle.papaya_scenes.specs.Given.PointsSteps.{AreLawful, told_first}
+use Rattle.papaya_scenes.specs.Given.CallersAsked.{told_before}
+use Rattle.papaya_scenes.specs.Given.CallersKind.{gets, removes, inserts, tries_to_insert, computes, updates, updates_or_inserts, tries_to_insert_with, removes_if}
+use Rattle.papaya_scenes.specs.Given.CallersPairs.{Given, Begun, IsTold}
+use Rattle.papaya_scenes.specs.Given.CallersTogether.{UnderWay, OnKey, ForRoom, Counting, OverAll, IsBegun}
+use Rattle.papaya_scenes.specs.Given.CallersTogether as begins
+use Rattle.papaya_scenes.specs.Given.FinishesEndings.{EndingsTogether}
+use Rattle.papaya_scenes.specs.Given.FinishesMachines.{machine_of, MachineStepsAmong, ToldOfKind}
+use Rattle.papaya_scenes.specs.Given.FinishesMaps.{Standing, with_call}
+use Rattle.papaya_scenes.proofs.Given.FinishesAmong.Calls.{calls_begin_among}
+use Rattle.papaya_scenes.proofs.Given.FinishesAmong.Countings.{countings_begin_among}
+use Rattle.papaya_scenes.proofs.Given.FinishesAmong.Machines.{machines_stand_among}
+use Rattle.papaya_scenes.proofs.Given.FinishesAmong.MachinesTold.{machines_told_among}
+use Rattle.papaya_scenes.proofs.Given.FinishesAmong.Rooms.{rooms_begin_among}
+use Rattle.papaya_scenes.proofs.Given.FinishesAmong.Sweeps.{sweeps_begin_among, sweeps_told_among, walks_stop_among}
+use Rattle.papaya_scenes.specs.Given.SeizeActsActs.{is_within}
 use Rattle.papaya_acts.specs.Acts.{Wanted, Get, Remove, Insert, TryToInsert, Compute, Update, UpdateOrInsert, TryToInsertWith, RemoveIf, GetKeyValue, ContainsKey, GetOrInsert, GetOrInsertWith, RemoveEntry, MakeRoom, Count, GoOver, Answer, Nothing, OfCall, OfReply, OfAsking, BeginsCall, StepsCall, TellsCall, AsksCall, StopsCall, UnlessToCount, its, begun}
 use Rattle.papaya_acts.specs.Leads.{MayBe, AllStand, Led, asked_on, call_at, call_steps}
 use Rattle.papaya_acts.proofs.Tests.{some_is, inside_is, its_class}

@@ -1,15 +1,15 @@
 -- A choice of a number comes: all stand together as they did, and what ended maps have left is where it was.
 use Rattle.std.specs.Prelude.{◌≡◌, ◌⊎◌, ℕ, Bool, List, [], ◌∷◌, Option}
 use Rattle.std.proofs.Common.{inl, inr, refl}
-use Rattle.papaya_scenes.specs.Given.Seize.World.{World}
-use Rattle.papaya_scenes.specs.Given.Tables.declared.node.Node.{Node}
-use Rattle.papaya_scenes.specs.Given.Finishes.Endings.{Finishing}
-use Rattle.papaya_scenes.specs.Given.Finishes.Makings.{Beginning}
-use Rattle.papaya_scenes.specs.Given.Finishes.Maps.{Standing}
-use Rattle.papaya_scenes.proofs.Given.Finishes.Among.Choices.{choices_stand_among}
-use Rattle.papaya_scenes.specs.Given.Reclaims.Left.{IsSomebodys}
-use Rattle.papaya_scenes.specs.Given.Reclaims.Reclaims.{RootLeads}
-use Rattle.papaya_scenes.specs.Given.Seize.Further.{ListFrom}
+use Rattle.papaya_scenes.specs.Given.SeizeWorld.{World}
+use Rattle.papaya_scenes.specs.Given.TablesDeclared.node.Node.{Node}
+use Rattle.papaya_scenes.specs.Given.FinishesEndings.{Finishing}
+use Rattle.papaya_scenes.specs.Given.FinishesMakings.{Beginning}
+use Rattle.papaya_scenes.specs.Given.FinishesMaps.{Standing}
+use Rattle.papaya_scenes.proofs.Given.FinishesAmong.Choices.{choices_stand_among}
+use Rattle.papaya_scenes.specs.Given.ReclaimsLeft.{IsSomebodys}
+use Rattle.papaya_scenes.specs.Given.ReclaimsReclaims.{RootLeads}
+use Rattle.papaya_scenes.specs.Given.SeizeFurther.{ListFrom}
 use Rattle.papaya_acts.specs.Doings.{IsLeft, memory_chosen, scene_chosen}
 use Rattle.papaya_acts.specs.Leads.{AllStand}
 use Rattle.papaya_scenes.specs.Scene.{Scene}

@@ -3,39 +3,39 @@ use Rattle.std.specs.Prelude.{◌≡◌, ◌≢◌, ◌⊎◌, ℕ, suc, ◌%◌
 use Rattle.std.specs.List.{sum}
 use Rattle.std.proofs.Common.{inl, inr, refl, sym, ap, subst, ◌∙◌, arith}
 use Rattle.std.proofs.lemmas.Bool.{cases_eq}
-use Rattle.papaya_scenes.specs.Given.SeizeWords.Mem.{Took, value_at}
-use Rattle.papaya_scenes.specs.Given.SeizeWords.Plan.{Steps}
-use Rattle.papaya_scenes.specs.Given.Seize.World.{with_at}
-use Rattle.papaya_scenes.specs.Given.Seize.declared.progress.Progress.{Progress as Counted}
-use Rattle.papaya_scenes.specs.Given.Seize.declared.progress.Progress.TheVariants as counted_as
-use Rattle.papaya_scenes.specs.Given.Seize.declared.rows.settle.Settled.{Settled}
-use Rattle.papaya_scenes.specs.Given.Seize.declared.rows.settle.Settled.TheVariants as settled
-use Rattle.papaya_scenes.proofs.Given.SeizeActs.Answers.{was_stepped}
-use Rattle.papaya_scenes.proofs.Given.SeizeActs.Begun.{and_both}
-use Rattle.papaya_scenes.proofs.Given.SeizeRule.Rows.Leaving.{steps_back}
-use Rattle.papaya_scenes.specs.Given.Tables.Counts.{count_in}
-use Rattle.papaya_scenes.specs.Given.Tables.declared.node.Node.{Node}
-use Rattle.papaya_scenes.specs.Given.Tables.declared.setting.Setting.{Setting}
-use Rattle.papaya_scenes.specs.Given.Resize.Sum.{summing, sum_plan}
-use Rattle.papaya_scenes.specs.Given.Resize.declared.sum.Sum.{Sum}
-use Rattle.papaya_scenes.specs.Given.Resize.declared.sum.Summing.{Summing}
-use Rattle.papaya_scenes.specs.Given.Reserves.Reserve.{reserve_plan}
-use Rattle.papaya_scenes.specs.Given.Sweeps.Sweep.{sweep_plan}
-use Rattle.papaya_scenes.specs.Given.Raw.Call.{call_plan}
-use Rattle.papaya_scenes.specs.Given.Raw.Machine.{machine_plan, machine_replied, machine_asked, called, reserved, swept, counted}
-use Rattle.papaya_scenes.specs.Given.Raw.Progress.{of_counting}
-use Rattle.papaya_scenes.specs.Given.Raw.declared.machines.asking.Reply.{Reply}
-use Rattle.papaya_scenes.specs.Given.Raw.declared.machines.machine.Machine.{Machine}
-use Rattle.papaya_scenes.specs.Given.Raw.declared.machines.machine.Machine.TheVariants as kinds
-use Rattle.papaya_scenes.specs.Given.Raw.declared.machines.progress.Answer.TheVariants as answers
-use Rattle.papaya_scenes.specs.Given.Raw.declared.machines.progress.Progress.{Progress}
-use Rattle.papaya_scenes.specs.Given.Raw.declared.machines.progress.Progress.TheVariants as progress
-use Rattle.papaya_scenes.specs.Given.Points.FactsTables.{CountsShards, SumFacts}
-use Rattle.papaya_scenes.specs.Given.Callers.Together.{UnderWay, OnKey, ForRoom, Counting, OverAll, in_slot}
-use Rattle.papaya_scenes.proofs.Given.Callers.Together.At.{at_same, at_other}
-use Rattle.papaya_scenes.specs.Given.Finishes.Endings.{StepsOfEnding, MakingStepsAmong}
-use Rattle.papaya_scenes.specs.Given.Finishes.Machines.{machine_of, GoesOnAs}
-use Rattle.papaya_scenes.specs.Given.Finishes.Maps.{Standing, with_call}
+use Rattle.papaya_scenes.specs.Given.SeizeWordsMem.{Took, value_at}
+use Rattle.papaya_scenes.specs.Given.SeizeWordsPlan.{Steps}
+use Rattle.papaya_scenes.specs.Given.SeizeWorld.{with_at}
+use Rattle.papaya_scenes.specs.Given.SeizeDeclared.progress.Progress.{Progress as Counted}
+use Rattle.papaya_scenes.specs.Given.SeizeDeclared.progress.Progress.TheVariants as counted_as
+use Rattle.papaya_scenes.specs.Given.SeizeDeclared.rows.settle.Settled.{Settled}
+use Rattle.papaya_scenes.specs.Given.SeizeDeclared.rows.settle.Settled.TheVariants as settled
+use Rattle.papaya_scenes.proofs.Given.SeizeActsAnswers.{was_stepped}
+use Rattle.papaya_scenes.proofs.Given.SeizeActsBegun.{and_both}
+use Rattle.papaya_scenes.proofs.Given.SeizeRuleRows.Leaving.{steps_back}
+use Rattle.papaya_scenes.specs.Given.TablesCounts.{count_in}
+use Rattle.papaya_scenes.specs.Given.TablesDeclared.node.Node.{Node}
+use Rattle.papaya_scenes.specs.Given.TablesDeclared.setting.Setting.{Setting}
+use Rattle.papaya_scenes.specs.Given.ResizeSum.{summing, sum_plan}
+use Rattle.papaya_scenes.specs.Given.ResizeDeclared.sum.Sum.{Sum}
+use Rattle.papaya_scenes.specs.Given.ResizeDeclared.sum.Summing.{Summing}
+use Rattle.papaya_scenes.specs.Given.ReservesReserve.{reserve_plan}
+use Rattle.papaya_scenes.specs.Given.SweepsSweep.{sweep_plan}
+use Rattle.papaya_scenes.specs.Given.RawCall.{call_plan}
+use Rattle.papaya_scenes.specs.Given.RawMachine.{machine_plan, machine_replied, machine_asked, called, reserved, swept, counted}
+use Rattle.papaya_scenes.specs.Given.RawProgress.{of_counting}
+use Rattle.papaya_scenes.specs.Given.RawDeclared.machines.asking.Reply.{Reply}
+use Rattle.papaya_scenes.specs.Given.RawDeclared.machines.machine.Machine.{Machine}
+use Rattle.papaya_scenes.specs.Given.RawDeclared.machines.machine.Machine.TheVariants as kinds
+use Rattle.papaya_scenes.specs.Given.RawDeclared.machines.progress.Answer.TheVariants as answers
+use Rattle.papaya_scenes.specs.Given.RawDeclared.machines.progress.Progress.{Progress}
+use Rattle.papaya_scenes.specs.Given.RawDeclared.machines.progress.Progress.TheVariants as progress
+use Rattle.papaya_scenes.specs.Given.PointsFactsTables.{CountsShards, SumFacts}
+use Rattle.papaya_scenes.specs.Given.CallersTogether.{UnderWay, OnKey, ForRoom, Counting, OverAll, in_slot}
+use Rattle.papaya_scenes.proofs.Given.CallersTogether.At.{at_same, at_other}
+use Rattle.papaya_scenes.specs.Given.FinishesEndings.{StepsOfEnding, MakingStepsAmong}
+use Rattle.papaya_scenes.specs.Given.FinishesMachines.{machine_of, GoesOnAs}
+use Rattle.papaya_scenes.specs.Given.FinishesMaps.{Standing, with_call}
 use Rattle.papaya_acts.specs.Acts.{Act, Answer, OfCall, Wanted, Count, its, begun}
 use Rattle.papaya_acts.specs.Acts.{BeginsCall, StepsCall, TellsCall, AsksCall, StopsCall, BeginsMaking, StepsMaking, BeginsEnding, StepsEnding, BeginsRow, StepsRow}
 use Rattle.papaya_acts.specs.Counts.{HasRead, is_its, next_shard, read_on, shard_of_call, read_by, words_on, words_read, CountingsAddUp, CountingsAnswerTheSum}

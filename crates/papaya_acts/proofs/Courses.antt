@@ -3,43 +3,43 @@ use Rattle.std.specs.Prelude.{◌≢◌, ◌++◌, Option, Some, None, option_ma
 use Rattle.std.specs.Option.{is_none}
 use Rattle.std.proofs.Common.{◌≡◌, ℕ, Bool, true, false, [], ◌∷◌, ◌⊎◌, inl, inr, refl, ap, sym, subst, ◌∙◌}
 use Rattle.std.proofs.lemmas.Bool.{cases_eq}
-use Rattle.papaya_scenes.specs.Given.SeizeWords.Mem.{Mem}
-use Rattle.papaya_scenes.specs.Given.Seize.World.{World, Row, Rests, with_at}
-use Rattle.papaya_scenes.specs.Given.Seize.declared.progress.Progress.{Progress}
-use Rattle.papaya_scenes.specs.Given.Seize.declared.progress.Progress.TheVariants as progress
-use Rattle.papaya_scenes.specs.Given.Seize.declared.rows.settle.Settled.{Settled}
-use Rattle.papaya_scenes.specs.Given.Seize.declared.rows.settle.Settled.TheVariants as settled
-use Rattle.papaya_scenes.specs.Given.SeizeActs.Acts.{row_steps}
-use Rattle.papaya_scenes.specs.Given.SeizeActs.Answers.{Grant, stepped}
-use Rattle.papaya_scenes.proofs.Given.SeizeActs.Answers.{same_some}
-use Rattle.papaya_scenes.proofs.Given.SeizeRule.Rows.Others.{begins_others, steps_others}
-use Rattle.papaya_scenes.proofs.Given.SeizeEnds.Batches.Rows.{begins_memory}
-use Rattle.papaya_scenes.specs.Given.Tables.Nodes.{deferred_word}
-use Rattle.papaya_scenes.specs.Given.Tables.declared.node.Node.{Node}
-use Rattle.papaya_scenes.specs.Given.Tables.declared.setting.Setting.{Setting}
-use Rattle.papaya_scenes.specs.Given.Resize.NewMap.{new_map_plan}
-use Rattle.papaya_scenes.specs.Given.Resize.Sum.{summing}
-use Rattle.papaya_scenes.specs.Given.Resize.declared.new_map.NewMap.{NewMap}
-use Rattle.papaya_scenes.specs.Given.Reserves.Reserve.{reserving}
-use Rattle.papaya_scenes.specs.Given.Sweeps.SweepPoints.{sweeping}
-use Rattle.papaya_scenes.specs.Given.Raw.CallAsks.{computing, updating, updating_or_inserting, trying_to_insert_with, removing_if}
-use Rattle.papaya_scenes.specs.Given.Raw.CallPoints.{getting, removing, inserting, trying_to_insert}
-use Rattle.papaya_scenes.specs.Given.Raw.EndMap.{ending, end_map_plan}
-use Rattle.papaya_scenes.specs.Given.Raw.Machine.{machine_plan, machine_replied, machine_asked}
-use Rattle.papaya_scenes.specs.Given.Raw.declared.machines.end_map.EndMap.{EndMap}
-use Rattle.papaya_scenes.specs.Given.Raw.declared.machines.machine.Machine.{Machine}
-use Rattle.papaya_scenes.specs.Given.Raw.declared.machines.machine.Machine.TheVariants as kinds
-use Rattle.papaya_scenes.specs.Given.Raw.declared.machines.progress.Progress.{Progress as CallProgress}
-use Rattle.papaya_scenes.specs.Given.Points.Steps.{told_first}
-use Rattle.papaya_scenes.specs.Given.Callers.Together.{UnderWay, OnKey, ForRoom, Counting, OverAll, in_slot}
-use Rattle.papaya_scenes.proofs.Given.Callers.Together.At.{at_same, at_other}
-use Rattle.papaya_scenes.proofs.Given.Callers.Together.Users.{events_rows}
-use Rattle.papaya_scenes.specs.Given.Finishes.Endings.{Finishing, finishing_of, waiting_by}
-use Rattle.papaya_scenes.specs.Given.Finishes.FactsEnds.{Deed}
-use Rattle.papaya_scenes.specs.Given.Finishes.Machines.{machine_of}
-use Rattle.papaya_scenes.specs.Given.Finishes.Makings.{Beginning}
-use Rattle.papaya_scenes.specs.Given.Finishes.Maps.{Standing, IsSameMap, with_call}
-use Rattle.papaya_scenes.proofs.Given.Finishes.Among.Sweeps.{walks_stop_among}
+use Rattle.papaya_scenes.specs.Given.SeizeWordsMem.{Mem}
+use Rattle.papaya_scenes.specs.Given.SeizeWorld.{World, Row, Rests, with_at}
+use Rattle.papaya_scenes.specs.Given.SeizeDeclared.progress.Progress.{Progress}
+use Rattle.papaya_scenes.specs.Given.SeizeDeclared.progress.Progress.TheVariants as progress
+use Rattle.papaya_scenes.specs.Given.SeizeDeclared.rows.settle.Settled.{Settled}
+use Rattle.papaya_scenes.specs.Given.SeizeDeclared.rows.settle.Settled.TheVariants as settled
+use Rattle.papaya_scenes.specs.Given.SeizeActsActs.{row_steps}
+use Rattle.papaya_scenes.specs.Given.SeizeActsAnswers.{Grant, stepped}
+use Rattle.papaya_scenes.proofs.Given.SeizeActsAnswers.{same_some}
+use Rattle.papaya_scenes.proofs.Given.SeizeRuleRows.Others.{begins_others, steps_others}
+use Rattle.papaya_scenes.proofs.Given.SeizeEndsBatches.Rows.{begins_memory}
+use Rattle.papaya_scenes.specs.Given.TablesNodes.{deferred_word}
+use Rattle.papaya_scenes.specs.Given.TablesDeclared.node.Node.{Node}
+use Rattle.papaya_scenes.specs.Given.TablesDeclared.setting.Setting.{Setting}
+use Rattle.papaya_scenes.specs.Given.ResizeNewMap.{new_map_plan}
+use Rattle.papaya_scenes.specs.Given.ResizeSum.{summing}
+use Rattle.papaya_scenes.specs.Given.ResizeDeclared.new_map.NewMap.{NewMap}
+use Rattle.papaya_scenes.specs.Given.ReservesReserve.{reserving}
+use Rattle.papaya_scenes.specs.Given.SweepsSweepPoints.{sweeping}
+use Rattle.papaya_scenes.specs.Given.RawCallAsks.{computing, updating, updating_or_inserting, trying_to_insert_with, removing_if}
+use Rattle.papaya_scenes.specs.Given.RawCallPoints.{getting, removing, inserting, trying_to_insert}
+use Rattle.papaya_scenes.specs.Given.RawEndMap.{ending, end_map_plan}
+use Rattle.papaya_scenes.specs.Given.RawMachine.{machine_plan, machine_replied, machine_asked}
+use Rattle.papaya_scenes.specs.Given.RawDeclared.machines.end_map.EndMap.{EndMap}
+use Rattle.papaya_scenes.specs.Given.RawDeclared.machines.machine.Machine.{Machine}
+use Rattle.papaya_scenes.specs.Given.RawDeclared.machines.machine.Machine.TheVariants as kinds
+use Rattle.papaya_scenes.specs.Given.RawDeclared.machines.progress.Progress.{Progress as CallProgress}
+use Rattle.papaya_scenes.specs.Given.PointsSteps.{told_first}
+use Rattle.papaya_scenes.specs.Given.CallersTogether.{UnderWay, OnKey, ForRoom, Counting, OverAll, in_slot}
+use Rattle.papaya_scenes.proofs.Given.CallersTogether.At.{at_same, at_other}
+use Rattle.papaya_scenes.proofs.Given.CallersTogether.Users.{events_rows}
+use Rattle.papaya_scenes.specs.Given.FinishesEndings.{Finishing, finishing_of, waiting_by}
+use Rattle.papaya_scenes.specs.Given.FinishesFactsEnds.{Deed}
+use Rattle.papaya_scenes.specs.Given.FinishesMachines.{machine_of}
+use Rattle.papaya_scenes.specs.Given.FinishesMakings.{Beginning}
+use Rattle.papaya_scenes.specs.Given.FinishesMaps.{Standing, IsSameMap, with_call}
+use Rattle.papaya_scenes.proofs.Given.FinishesAmong.Sweeps.{walks_stop_among}
 use Rattle.papaya_scenes.specs.Making.{making_begun}
 use Rattle.papaya_acts.specs.Acts.{Act, Answer, OfCall, OfReply, OfAsking, OfMaking, OfEnding, Wanted, Get, Remove, Insert, TryToInsert, Compute, Update, UpdateOrInsert, TryToInsertWith, RemoveIf, GetKeyValue, ContainsKey, GetOrInsert, GetOrInsertWith, RemoveEntry, MakeRoom, Count, GoOver, begun}
 use Rattle.papaya_acts.specs.Acts.{BeginsCall, StepsCall, TellsCall, AsksCall, StopsCall, BeginsMaking, StepsMaking, BeginsEnding, StepsEnding, BeginsRow, StepsRow}

@@ -3,29 +3,29 @@ use Rattle.std.specs.Prelude.{◌≢◌, ◌⊎◌, ◌++◌, Option, Some, None
 use Rattle.std.proofs.Common.{◌≡◌, ℕ, Bool, List, [], ◌∷◌, inl, inr, refl, ap, sym, subst, ◌∙◌}
 use Rattle.std.proofs.lemmas.Bool.{cases_eq}
 use Rattle.std.proofs.lemmas.List.{append-nil}
-use Rattle.papaya_scenes.specs.Given.SeizeWords.Mem.{Mem}
-use Rattle.papaya_scenes.specs.Given.Seize.Law.{Ended}
-use Rattle.papaya_scenes.specs.Given.Seize.World.{World, with_at, with_effect}
-use Rattle.papaya_scenes.specs.Given.Seize.declared.progress.Progress.{Progress}
-use Rattle.papaya_scenes.specs.Given.Seize.declared.progress.Progress.TheVariants as progress
-use Rattle.papaya_scenes.specs.Given.Seize.declared.rows.settle.Settled.{Settled}
-use Rattle.papaya_scenes.specs.Given.Seize.declared.rows.settle.Settled.TheVariants as settled
-use Rattle.papaya_scenes.proofs.Given.SeizeActs.Answers.{same_some}
-use Rattle.papaya_scenes.specs.Given.Tables.declared.node.Node.{Node}
-use Rattle.papaya_scenes.specs.Given.Tables.declared.setting.Setting.{Setting}
-use Rattle.papaya_scenes.specs.Given.Resize.declared.new_map.NewMap.{NewMap}
-use Rattle.papaya_scenes.specs.Given.Raw.declared.machines.end_map.EndMap.{EndMap}
-use Rattle.papaya_scenes.proofs.Given.Callers.Together.At.{at_other, at_same}
-use Rattle.papaya_scenes.specs.Given.Callers.Together.{UnderWay}
-use Rattle.papaya_scenes.specs.Given.Finishes.Endings.{Finishing, MakingStepsAmong, StepsOfEnding, waiting_by}
-use Rattle.papaya_scenes.specs.Given.Finishes.FactsEnds.{Deed, taken_by}
-use Rattle.papaya_scenes.specs.Given.Finishes.Makings.{Beginning}
-use Rattle.papaya_scenes.specs.Given.Finishes.Maps.{Standing}
-use Rattle.papaya_scenes.specs.Given.Reclaims.Left.{GoesOnBy, IsSomebodys, LeftAmong}
-use Rattle.papaya_scenes.specs.Given.Reclaims.Reclaims.{IsRootOf, RootLeads}
-use Rattle.papaya_scenes.proofs.Given.Reclaims.Left.Calls.{machines_leave_it, guards_leave_it}
-use Rattle.papaya_scenes.proofs.Given.Reclaims.Left.Endings.{endings_begin_and_leave_it, endings_leave_it}
-use Rattle.papaya_scenes.proofs.Given.Reclaims.Left.Makings.{makings_begin_and_leave_it, makings_leave_it}
+use Rattle.papaya_scenes.specs.Given.SeizeWordsMem.{Mem}
+use Rattle.papaya_scenes.specs.Given.SeizeLaw.{Ended}
+use Rattle.papaya_scenes.specs.Given.SeizeWorld.{World, with_at, with_effect}
+use Rattle.papaya_scenes.specs.Given.SeizeDeclared.progress.Progress.{Progress}
+use Rattle.papaya_scenes.specs.Given.SeizeDeclared.progress.Progress.TheVariants as progress
+use Rattle.papaya_scenes.specs.Given.SeizeDeclared.rows.settle.Settled.{Settled}
+use Rattle.papaya_scenes.specs.Given.SeizeDeclared.rows.settle.Settled.TheVariants as settled
+use Rattle.papaya_scenes.proofs.Given.SeizeActsAnswers.{same_some}
+use Rattle.papaya_scenes.specs.Given.TablesDeclared.node.Node.{Node}
+use Rattle.papaya_scenes.specs.Given.TablesDeclared.setting.Setting.{Setting}
+use Rattle.papaya_scenes.specs.Given.ResizeDeclared.new_map.NewMap.{NewMap}
+use Rattle.papaya_scenes.specs.Given.RawDeclared.machines.end_map.EndMap.{EndMap}
+use Rattle.papaya_scenes.proofs.Given.CallersTogether.At.{at_other, at_same}
+use Rattle.papaya_scenes.specs.Given.CallersTogether.{UnderWay}
+use Rattle.papaya_scenes.specs.Given.FinishesEndings.{Finishing, MakingStepsAmong, StepsOfEnding, waiting_by}
+use Rattle.papaya_scenes.specs.Given.FinishesFactsEnds.{Deed, taken_by}
+use Rattle.papaya_scenes.specs.Given.FinishesMakings.{Beginning}
+use Rattle.papaya_scenes.specs.Given.FinishesMaps.{Standing}
+use Rattle.papaya_scenes.specs.Given.ReclaimsLeft.{GoesOnBy, IsSomebodys, LeftAmong}
+use Rattle.papaya_scenes.specs.Given.ReclaimsReclaims.{IsRootOf, RootLeads}
+use Rattle.papaya_scenes.proofs.Given.ReclaimsLeft.Calls.{machines_leave_it, guards_leave_it}
+use Rattle.papaya_scenes.proofs.Given.ReclaimsLeft.Endings.{endings_begin_and_leave_it, endings_leave_it}
+use Rattle.papaya_scenes.proofs.Given.ReclaimsLeft.Makings.{makings_begin_and_leave_it, makings_leave_it}
 use Rattle.papaya_scenes.specs.Making.{making_begun}
 use Rattle.papaya_acts.specs.Acts.{Act, Answer}
 use Rattle.papaya_acts.specs.Acts.{BeginsCall, StepsCall, TellsCall, AsksCall, StopsCall, BeginsMaking, StepsMaking, BeginsEnding, StepsEnding, BeginsRow, StepsRow}

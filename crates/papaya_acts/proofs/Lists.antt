@@ -2,40 +2,40 @@
 use Rattle.std.specs.Prelude.{◌≡◌, ◌⊎◌, ℕ, ◌<◌, ◌^◌, Bool, true, false, List, [], Option, Some, None, IsSome}
 use Rattle.std.specs.Option.{is_none}
 use Rattle.std.proofs.Common.{inl, inr, refl, sym, subst}
-use Rattle.papaya_scenes.specs.Given.SeizeWords.Mem.{word_at}
-use Rattle.papaya_scenes.specs.Given.SeizeWords.declared.at.At.TheVariants.{Slot}
-use Rattle.papaya_scenes.specs.Given.Seize.ReclaimAll.{reclaiming_all, clearing}
-use Rattle.papaya_scenes.specs.Given.Seize.World.{Use, Vacant, Outside, Inside, Changing, at_start}
-use Rattle.papaya_scenes.specs.Given.Seize.declared.rows.reclaim_all.ReclaimAll.{ReclaimAll}
-use Rattle.papaya_scenes.specs.Given.Seize.declared.rows.settle.Settled.{Settled}
-use Rattle.papaya_scenes.specs.Given.Seize.declared.rows.settle.Settled.TheVariants as settled
-use Rattle.papaya_scenes.specs.Given.Seize.declared.states.TheConstants.{HEAD}
-use Rattle.papaya_scenes.specs.Given.SeizeActs.Answers.{Grant}
-use Rattle.papaya_scenes.proofs.Given.SeizeActs.Begun.{rests_is}
-use Rattle.papaya_scenes.proofs.Given.SeizeActs.Steps.{steps_so, row_so}
-use Rattle.papaya_scenes.specs.Given.Tables.Nodes.{deferred_word}
-use Rattle.papaya_scenes.specs.Given.Tables.declared.node.Node.{Node}
-use Rattle.papaya_scenes.specs.Given.Resize.NewMap.{new_map_plan}
-use Rattle.papaya_scenes.specs.Given.Raw.EndMap.{end_map_plan}
-use Rattle.papaya_scenes.specs.Given.Raw.Machine.{machine_plan}
-use Rattle.papaya_scenes.specs.Given.Points.Steps.{AreLawful}
-use Rattle.papaya_scenes.specs.Given.Callers.Together.{UnderWay}
-use Rattle.papaya_scenes.specs.Given.Finishes.Machines.{machine_of}
-use Rattle.papaya_scenes.specs.Given.Finishes.Makings.{IsFreeRoot}
-use Rattle.papaya_scenes.specs.Given.Finishes.Maps.{Standing}
-use Rattle.papaya_scenes.proofs.Given.Finishes.Among.Begins.{no_endings_begin}
-use Rattle.papaya_scenes.proofs.Given.Finishes.Among.Machines.{machines_stand_among}
-use Rattle.papaya_scenes.proofs.Given.Finishes.Among.Makings.{makings_stand_among}
-use Rattle.papaya_scenes.proofs.Given.Finishes.Among.Own.Steps.{endings_stand}
-use Rattle.papaya_scenes.proofs.Given.Finishes.Among.Rows.{guards_stand_among}
-use Rattle.papaya_scenes.proofs.Given.Finishes.Beside.Makings.Promised.{no_makings_begin}
-use Rattle.papaya_scenes.proofs.Given.Finishes.Beside.Makings.Samples.{start_roots}
-use Rattle.papaya_scenes.proofs.Given.Finishes.Beside.Maps.Comes.{no_maps_begin}
-use Rattle.papaya_scenes.proofs.Given.Points.Making.OwnTables.{zero_at}
-use Rattle.papaya_scenes.specs.Given.Reclaims.Left.{IsSomebodys}
-use Rattle.papaya_scenes.specs.Given.Reclaims.Slots.{IsQuiet}
-use Rattle.papaya_scenes.proofs.Given.Reclaims.Left.Stays.{left_is_left_behind, nothing_is_left}
-use Rattle.papaya_scenes.proofs.Given.Reclaims.Promised.{reclaiming_begins}
+use Rattle.papaya_scenes.specs.Given.SeizeWordsMem.{word_at}
+use Rattle.papaya_scenes.specs.Given.SeizeWordsDeclared.at.At.TheVariants.{Slot}
+use Rattle.papaya_scenes.specs.Given.SeizeReclaimAll.{reclaiming_all, clearing}
+use Rattle.papaya_scenes.specs.Given.SeizeWorld.{Use, Vacant, Outside, Inside, Changing, at_start}
+use Rattle.papaya_scenes.specs.Given.SeizeDeclared.rows.reclaim_all.ReclaimAll.{ReclaimAll}
+use Rattle.papaya_scenes.specs.Given.SeizeDeclared.rows.settle.Settled.{Settled}
+use Rattle.papaya_scenes.specs.Given.SeizeDeclared.rows.settle.Settled.TheVariants as settled
+use Rattle.papaya_scenes.specs.Given.SeizeDeclared.states.TheConstants.{HEAD}
+use Rattle.papaya_scenes.specs.Given.SeizeActsAnswers.{Grant}
+use Rattle.papaya_scenes.proofs.Given.SeizeActsBegun.{rests_is}
+use Rattle.papaya_scenes.proofs.Given.SeizeActsSteps.{steps_so, row_so}
+use Rattle.papaya_scenes.specs.Given.TablesNodes.{deferred_word}
+use Rattle.papaya_scenes.specs.Given.TablesDeclared.node.Node.{Node}
+use Rattle.papaya_scenes.specs.Given.ResizeNewMap.{new_map_plan}
+use Rattle.papaya_scenes.specs.Given.RawEndMap.{end_map_plan}
+use Rattle.papaya_scenes.specs.Given.RawMachine.{machine_plan}
+use Rattle.papaya_scenes.specs.Given.PointsSteps.{AreLawful}
+use Rattle.papaya_scenes.specs.Given.CallersTogether.{UnderWay}
+use Rattle.papaya_scenes.specs.Given.FinishesMachines.{machine_of}
+use Rattle.papaya_scenes.specs.Given.FinishesMakings.{IsFreeRoot}
+use Rattle.papaya_scenes.specs.Given.FinishesMaps.{Standing}
+use Rattle.papaya_scenes.proofs.Given.FinishesAmong.Begins.{no_endings_begin}
+use Rattle.papaya_scenes.proofs.Given.FinishesAmong.Machines.{machines_stand_among}
+use Rattle.papaya_scenes.proofs.Given.FinishesAmong.Makings.{makings_stand_among}
+use Rattle.papaya_scenes.proofs.Given.FinishesAmong.Own.Steps.{endings_stand}
+use Rattle.papaya_scenes.proofs.Given.FinishesAmong.Rows.{guards_stand_among}
+use Rattle.papaya_scenes.proofs.Given.FinishesBeside.Makings.Promised.{no_makings_begin}
+use Rattle.papaya_scenes.proofs.Given.FinishesBeside.Makings.Samples.{start_roots}
+use Rattle.papaya_scenes.proofs.Given.FinishesBeside.Maps.Comes.{no_maps_begin}
+use Rattle.papaya_scenes.proofs.Given.PointsMaking.OwnTables.{zero_at}
+use Rattle.papaya_scenes.specs.Given.ReclaimsLeft.{IsSomebodys}
+use Rattle.papaya_scenes.specs.Given.ReclaimsSlots.{IsQuiet}
+use Rattle.papaya_scenes.proofs.Given.ReclaimsLeft.Stays.{left_is_left_behind, nothing_is_left}
+use Rattle.papaya_scenes.proofs.Given.ReclaimsPromised.{reclaiming_begins}
 use Rattle.papaya_acts.specs.Acts.{Act, Answer, Nothing, OfReclaiming, BeginsCall, StepsCall, TellsCall, AsksCall, StopsCall, BeginsMaking, StepsMaking, BeginsEnding, StepsEnding, BeginsRow, StepsRow}
 use Rattle.papaya_acts.specs.Doings.{Doing, Does, BeginsReclaiming, BeginsClearing, StepsReclaiming, Chooses, scene_chosen, is_vacant, IsLeft, AllAreFree, SlotsAreFree, still, Stage, MayDo, HasDone}
 use Rattle.papaya_acts.specs.Leads.{MayBe, AllStand, Led}

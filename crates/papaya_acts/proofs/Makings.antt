@@ -1,28 +1,28 @@
 -- A making or an end of a map that begins, or takes a step: all stand together then.
 use Rattle.std.specs.Prelude.{◌≡◌, ℕ, Bool, [], ◌∷◌, ◌++◌, Some, None}
 use Rattle.std.proofs.Common.{refl}
-use Rattle.papaya_scenes.specs.Given.Seize.World.{with_at, with_effect}
-use Rattle.papaya_scenes.specs.Given.Seize.Law.{Ended}
-use Rattle.papaya_scenes.specs.Given.Seize.declared.progress.Progress.{Progress}
-use Rattle.papaya_scenes.specs.Given.Seize.declared.progress.Progress.TheVariants as progress
-use Rattle.papaya_scenes.specs.Given.Seize.declared.rows.settle.Settled.{Settled}
-use Rattle.papaya_scenes.specs.Given.Seize.declared.rows.settle.Settled.TheVariants as settled
-use Rattle.papaya_scenes.specs.Given.SeizeActs.Answers.{Grant, then_on}
-use Rattle.papaya_scenes.proofs.Given.SeizeActs.Answers.{some, was_stepped}
-use Rattle.papaya_scenes.specs.Given.SeizeWords.Mem.{Mem}
-use Rattle.papaya_scenes.specs.Given.Tables.declared.node.Node.{Node}
-use Rattle.papaya_scenes.specs.Given.Tables.declared.setting.Setting.{Setting}
-use Rattle.papaya_scenes.specs.Given.Resize.NewMap.{new_map_plan}
-use Rattle.papaya_scenes.specs.Given.Resize.declared.new_map.NewMap.{NewMap}
-use Rattle.papaya_scenes.specs.Given.Raw.EndMap.{end_map_plan}
-use Rattle.papaya_scenes.specs.Given.Raw.declared.machines.end_map.EndMap.{EndMap}
-use Rattle.papaya_scenes.specs.Given.Points.Steps.{AreLawful}
-use Rattle.papaya_scenes.specs.Given.Finishes.Endings.{Finishing, MakingStepsAmong, MakingToldAmong, StepsOfEnding, FinishingTold, waiting_by}
-use Rattle.papaya_scenes.specs.Given.Finishes.Makings.{Beginning}
-use Rattle.papaya_scenes.proofs.Given.Finishes.Among.Begins.{endings_begin}
-use Rattle.papaya_scenes.proofs.Given.Finishes.Among.Makings.{makings_stand_among, makings_begin_among}
-use Rattle.papaya_scenes.proofs.Given.Finishes.Among.Own.Steps.{endings_stand}
-use Rattle.papaya_scenes.proofs.Given.Finishes.Beside.Makings.Promised.{makings_begin}
+use Rattle.papaya_scenes.specs.Given.SeizeWorld.{with_at, with_effect}
+use Rattle.papaya_scenes.specs.Given.SeizeLaw.{Ended}
+use Rattle.papaya_scenes.specs.Given.SeizeDeclared.progress.Progress.{Progress}
+use Rattle.papaya_scenes.specs.Given.SeizeDeclared.progress.Progress.TheVariants as progress
+use Rattle.papaya_scenes.specs.Given.SeizeDeclared.rows.settle.Settled.{Settled}
+use Rattle.papaya_scenes.specs.Given.SeizeDeclared.rows.settle.Settled.TheVariants as settled
+use Rattle.papaya_scenes.specs.Given.SeizeActsAnswers.{Grant, then_on}
+use Rattle.papaya_scenes.proofs.Given.SeizeActsAnswers.{some, was_stepped}
+use Rattle.papaya_scenes.specs.Given.SeizeWordsMem.{Mem}
+use Rattle.papaya_scenes.specs.Given.TablesDeclared.node.Node.{Node}
+use Rattle.papaya_scenes.specs.Given.TablesDeclared.setting.Setting.{Setting}
+use Rattle.papaya_scenes.specs.Given.ResizeNewMap.{new_map_plan}
+use Rattle.papaya_scenes.specs.Given.ResizeDeclared.new_map.NewMap.{NewMap}
+use Rattle.papaya_scenes.specs.Given.RawEndMap.{end_map_plan}
+use Rattle.papaya_scenes.specs.Given.RawDeclared.machines.end_map.EndMap.{EndMap}
+use Rattle.papaya_scenes.specs.Given.PointsSteps.{AreLawful}
+use Rattle.papaya_scenes.specs.Given.FinishesEndings.{Finishing, MakingStepsAmong, MakingToldAmong, StepsOfEnding, FinishingTold, waiting_by}
+use Rattle.papaya_scenes.specs.Given.FinishesMakings.{Beginning}
+use Rattle.papaya_scenes.proofs.Given.FinishesAmong.Begins.{endings_begin}
+use Rattle.papaya_scenes.proofs.Given.FinishesAmong.Makings.{makings_stand_among, makings_begin_among}
+use Rattle.papaya_scenes.proofs.Given.FinishesAmong.Own.Steps.{endings_stand}
+use Rattle.papaya_scenes.proofs.Given.FinishesBeside.Makings.Promised.{makings_begin}
 use Rattle.papaya_scenes.specs.Making.{making_begun}
 use Rattle.papaya_acts.specs.Acts.{Answer, Nothing, OfMaking, OfEnding, BeginsMaking, StepsMaking, BeginsEnding, StepsEnding}
 use Rattle.papaya_acts.specs.Leads.{MayBe, AllStand, Led, MakingCame, EndingCame, making_steps, ending_steps}

@@ -5,12 +5,12 @@ use Rattle.std.specs.Coded.{Coded-set, coded_bool, coded_ℕ, le_prop}
 use Rattle.std.proofs.Common.{inl, inr, refl, sym, ap, subst, arith, ◌∙◌}
 use Rattle.std.proofs.Math.Pow.{pow-lt}
 use Rattle.std.proofs.lemmas.Bool.{cases_order}
-use Rattle.papaya_scenes.specs.Given.Seize.World.{Request, Register', Enter', Leave', LeaveOwned, Refresh, Unregister', Retire, Flush, Defer'}
-use Rattle.papaya_scenes.specs.Given.Callers.Together.{UnderWay, OnKey, ForRoom, Counting, OverAll, UnlessCounts, IsOfSlots, Closes}
+use Rattle.papaya_scenes.specs.Given.SeizeWorld.{Request, Register', Enter', Leave', LeaveOwned, Refresh, Unregister', Retire, Flush, Defer'}
+use Rattle.papaya_scenes.specs.Given.CallersTogether.{UnderWay, OnKey, ForRoom, Counting, OverAll, UnlessCounts, IsOfSlots, Closes}
 use Rattle.papaya_acts.specs.Acts.{Wanted, Get, Remove, Insert, TryToInsert, Compute, Update, UpdateOrInsert, TryToInsertWith, RemoveIf, GetKeyValue, ContainsKey, GetOrInsert, GetOrInsertWith, RemoveEntry, MakeRoom, Count, GoOver, UnlessToCount}
 use Rattle.papaya_acts.specs.Acts.{Act, BeginsCall, StepsCall, TellsCall, AsksCall, StopsCall, BeginsMaking, StepsMaking, BeginsEnding, StepsEnding, BeginsRow, StepsRow}
 use Rattle.papaya_acts.specs.Doings.{Doing, Does, BeginsReclaiming, BeginsClearing, StepsReclaiming, Chooses, AllAreFree, SlotsAreFree, Stage, MayDo}
-use Rattle.papaya_scenes.specs.Given.SeizeActs.Acts.{is_within}
+use Rattle.papaya_scenes.specs.Given.SeizeActsActs.{is_within}
 use Rattle.papaya_acts.specs.Leads.{IsFree, AreFewWith, MayBe}
 use Rattle.papaya_acts.specs.Lists.{Course, Reached, LedOn, nothing_done, on_by, IsDetermined}
 use Rattle.papaya_scenes.specs.Scene.{Scene}

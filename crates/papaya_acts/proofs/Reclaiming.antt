@@ -1,17 +1,17 @@
 -- The steps of a caller that reclaims all are those of acts.
 use Rattle.std.specs.Prelude.{◌≡◌, ℕ, Bool, List, Some}
 use Rattle.std.proofs.Common.{refl}
-use Rattle.papaya_scenes.specs.Given.SeizeWords.Mem.{Mem}
-use Rattle.papaya_scenes.specs.Given.Seize.ReclaimAll.{reclaim_all_plan}
-use Rattle.papaya_scenes.specs.Given.Seize.declared.rows.reclaim_all.ReclaimAll.{ReclaimAll}
-use Rattle.papaya_scenes.specs.Given.Seize.declared.rows.settle.Settled.{Settled}
-use Rattle.papaya_scenes.specs.Given.SeizeActs.Answers.{Grant}
-use Rattle.papaya_scenes.proofs.Given.SeizeActs.Answers.{was_stepped}
-use Rattle.papaya_scenes.proofs.Given.SeizeActs.Steps.{steps_so}
-use Rattle.papaya_scenes.specs.Given.Tables.Nodes.{deferred_word, was_left}
-use Rattle.papaya_scenes.specs.Given.Tables.declared.node.Node.{Node}
-use Rattle.papaya_scenes.specs.Given.Reclaims.Reclaims.{StepsOfReclaiming}
-use Rattle.papaya_scenes.proofs.Given.Reclaims.Promised.{reclaiming_stands}
+use Rattle.papaya_scenes.specs.Given.SeizeWordsMem.{Mem}
+use Rattle.papaya_scenes.specs.Given.SeizeReclaimAll.{reclaim_all_plan}
+use Rattle.papaya_scenes.specs.Given.SeizeDeclared.rows.reclaim_all.ReclaimAll.{ReclaimAll}
+use Rattle.papaya_scenes.specs.Given.SeizeDeclared.rows.settle.Settled.{Settled}
+use Rattle.papaya_scenes.specs.Given.SeizeActsAnswers.{Grant}
+use Rattle.papaya_scenes.proofs.Given.SeizeActsAnswers.{was_stepped}
+use Rattle.papaya_scenes.proofs.Given.SeizeActsSteps.{steps_so}
+use Rattle.papaya_scenes.specs.Given.TablesNodes.{deferred_word, was_left}
+use Rattle.papaya_scenes.specs.Given.TablesDeclared.node.Node.{Node}
+use Rattle.papaya_scenes.specs.Given.ReclaimsReclaims.{StepsOfReclaiming}
+use Rattle.papaya_scenes.proofs.Given.ReclaimsPromised.{reclaiming_stands}
 use Rattle.papaya_acts.specs.Reclaiming.{reclaiming_steps, ReclaimedOn, IsReclaimingAll, ReclaimingIsByActs}
 use Rattle.papaya_acts.proofs.Tests.{some_is}
 use Rattle.papaya_scenes.specs.Scene.{Scene}

@@ -1,30 +1,30 @@
 -- What a row on a slot does to the memory, and where it stands then, is said by the memory, the row and what the memory was free to choose.
 use Rattle.std.specs.Prelude.{Option, Some}
 use Rattle.std.proofs.Common.{◌≡◌, ℕ, [], ◌∷◌, refl, ap, sym, ◌∙◌}
-use Rattle.papaya_scenes.specs.Given.SeizeWords.Mem.{Mem}
-use Rattle.papaya_scenes.specs.Given.SeizeWords.Plan.{Plan}
-use Rattle.papaya_scenes.specs.Given.Seize.Defer.{defer_plan}
-use Rattle.papaya_scenes.specs.Given.Seize.Enter.{enter_plan, unregister_plan}
-use Rattle.papaya_scenes.specs.Given.Seize.Law.{Entered}
-use Rattle.papaya_scenes.specs.Given.Seize.Leave.{leave_plan}
-use Rattle.papaya_scenes.specs.Given.Seize.Register.{register_plan}
-use Rattle.papaya_scenes.specs.Given.Seize.Settle.{settle_plan}
-use Rattle.papaya_scenes.specs.Given.Seize.World.{World, Row, Rests, Registers, Enters, Settles, Leaves, Defers, Frees, Vacant, Inside, Request, Register', Enter', Leave', LeaveOwned, Refresh, Unregister', Retire, Flush, Defer', Begins, left_row, with_use, after_step, settles_on, leaves_on, registers_on, defers_on}
-use Rattle.papaya_scenes.specs.Given.Seize.declared.progress.Progress.{Progress}
-use Rattle.papaya_scenes.specs.Given.Seize.declared.progress.Progress.TheVariants as progress
-use Rattle.papaya_scenes.specs.Given.Seize.declared.rows.defer.Defer.{Defer}
-use Rattle.papaya_scenes.specs.Given.Seize.declared.rows.enter.Enter.{Enter}
-use Rattle.papaya_scenes.specs.Given.Seize.declared.rows.enter.Unregister.{Unregister}
-use Rattle.papaya_scenes.specs.Given.Seize.declared.rows.leave.Leave.{Leave}
-use Rattle.papaya_scenes.specs.Given.Seize.declared.rows.register.Register.{Register}
-use Rattle.papaya_scenes.specs.Given.Seize.declared.rows.settle.Settle.{Settle}
-use Rattle.papaya_scenes.specs.Given.Seize.declared.rows.settle.Settled.{Settled}
-use Rattle.papaya_scenes.specs.Given.Seize.declared.rows.settle.Settled.TheVariants as settled
-use Rattle.papaya_scenes.specs.Given.SeizeActs.Acts.{row_steps}
-use Rattle.papaya_scenes.specs.Given.SeizeActs.Answers.{Grant, then_on, stepped}
-use Rattle.papaya_scenes.proofs.Given.SeizeActs.Answers.{some, same_some}
-use Rattle.papaya_scenes.proofs.Given.SeizeRule.Rows.Others.{with_here}
-use Rattle.papaya_scenes.specs.Given.Callers.Together.{IsOfSlots}
+use Rattle.papaya_scenes.specs.Given.SeizeWordsMem.{Mem}
+use Rattle.papaya_scenes.specs.Given.SeizeWordsPlan.{Plan}
+use Rattle.papaya_scenes.specs.Given.SeizeDefer.{defer_plan}
+use Rattle.papaya_scenes.specs.Given.SeizeEnter.{enter_plan, unregister_plan}
+use Rattle.papaya_scenes.specs.Given.SeizeLaw.{Entered}
+use Rattle.papaya_scenes.specs.Given.SeizeLeave.{leave_plan}
+use Rattle.papaya_scenes.specs.Given.SeizeRegister.{register_plan}
+use Rattle.papaya_scenes.specs.Given.SeizeSettle.{settle_plan}
+use Rattle.papaya_scenes.specs.Given.SeizeWorld.{World, Row, Rests, Registers, Enters, Settles, Leaves, Defers, Frees, Vacant, Inside, Request, Register', Enter', Leave', LeaveOwned, Refresh, Unregister', Retire, Flush, Defer', Begins, left_row, with_use, after_step, settles_on, leaves_on, registers_on, defers_on}
+use Rattle.papaya_scenes.specs.Given.SeizeDeclared.progress.Progress.{Progress}
+use Rattle.papaya_scenes.specs.Given.SeizeDeclared.progress.Progress.TheVariants as progress
+use Rattle.papaya_scenes.specs.Given.SeizeDeclared.rows.defer.Defer.{Defer}
+use Rattle.papaya_scenes.specs.Given.SeizeDeclared.rows.enter.Enter.{Enter}
+use Rattle.papaya_scenes.specs.Given.SeizeDeclared.rows.enter.Unregister.{Unregister}
+use Rattle.papaya_scenes.specs.Given.SeizeDeclared.rows.leave.Leave.{Leave}
+use Rattle.papaya_scenes.specs.Given.SeizeDeclared.rows.register.Register.{Register}
+use Rattle.papaya_scenes.specs.Given.SeizeDeclared.rows.settle.Settle.{Settle}
+use Rattle.papaya_scenes.specs.Given.SeizeDeclared.rows.settle.Settled.{Settled}
+use Rattle.papaya_scenes.specs.Given.SeizeDeclared.rows.settle.Settled.TheVariants as settled
+use Rattle.papaya_scenes.specs.Given.SeizeActsActs.{row_steps}
+use Rattle.papaya_scenes.specs.Given.SeizeActsAnswers.{Grant, then_on, stepped}
+use Rattle.papaya_scenes.proofs.Given.SeizeActsAnswers.{some, same_some}
+use Rattle.papaya_scenes.proofs.Given.SeizeRuleRows.Others.{with_here}
+use Rattle.papaya_scenes.specs.Given.CallersTogether.{IsOfSlots}
 
 module _ {T : Type 0} (defers : T → Option ℕ) (i : ℕ) where
   abbrev RowAlike : World T → World T → Type 0

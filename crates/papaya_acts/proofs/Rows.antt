@@ -1,14 +1,14 @@
 -- A row that begins on a slot between calls, or takes a step: all stand together then.
 use Rattle.std.specs.Prelude.{ℕ, Bool}
 use Rattle.std.proofs.Common.{refl}
-use Rattle.papaya_scenes.specs.Given.Seize.World.{Request, Begin, Step, Happens}
-use Rattle.papaya_scenes.specs.Given.SeizeActs.Acts.{row_steps, begun as row_begun}
-use Rattle.papaya_scenes.specs.Given.SeizeActs.Answers.{Grant}
-use Rattle.papaya_scenes.proofs.Given.SeizeActs.Begun.{rests_is, begun_is}
-use Rattle.papaya_scenes.proofs.Given.SeizeActs.Fine.{row_stepped}
-use Rattle.papaya_scenes.specs.Given.Tables.Nodes.{deferred_word}
-use Rattle.papaya_scenes.specs.Given.Finishes.Endings.{AllEndingsStand}
-use Rattle.papaya_scenes.proofs.Given.Finishes.Among.Rows.{guards_stand_among}
+use Rattle.papaya_scenes.specs.Given.SeizeWorld.{Request, Begin, Step, Happens}
+use Rattle.papaya_scenes.specs.Given.SeizeActsActs.{row_steps, begun as row_begun}
+use Rattle.papaya_scenes.specs.Given.SeizeActsAnswers.{Grant}
+use Rattle.papaya_scenes.proofs.Given.SeizeActsBegun.{rests_is, begun_is}
+use Rattle.papaya_scenes.proofs.Given.SeizeActsFine.{row_stepped}
+use Rattle.papaya_scenes.specs.Given.TablesNodes.{deferred_word}
+use Rattle.papaya_scenes.specs.Given.FinishesEndings.{AllEndingsStand}
+use Rattle.papaya_scenes.proofs.Given.FinishesAmong.Rows.{guards_stand_among}
 use Rattle.papaya_acts.specs.Acts.{Nothing, BeginsRow, StepsRow}
 use Rattle.papaya_acts.specs.Leads.{MayBe, AllStand, Led}
 use Rattle.papaya_acts.proofs.Tests.{some_is}

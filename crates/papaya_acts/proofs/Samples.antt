@@ -3,13 +3,13 @@ use Rattle.std.specs.Prelude.{◌≡◌, ℕ, zero, suc, ◌+◌, ◌*◌, ◌<�
 use Rattle.std.specs.Int.{IsPowerOfTwo}
 use Rattle.std.proofs.Common.{inl, inr, refl, arith, sym, ◌∙◌}
 use Rattle.std.proofs.Math.Nat.{pow-suc}
-use Rattle.papaya_scenes.specs.Given.Seize.World.{Register', with_at}
-use Rattle.papaya_scenes.specs.Given.Seize.declared.rows.reclaim_all.ReclaimAll.{ReclaimAll}
-use Rattle.papaya_scenes.specs.Given.SeizeActs.Answers.{Grant}
-use Rattle.papaya_scenes.specs.Given.Tables.Lengths.{IsTableLen}
-use Rattle.papaya_scenes.specs.Given.Tables.declared.setting.Setting.{Setting}
-use Rattle.papaya_scenes.specs.Given.Resize.declared.new_map.Opening.TheVariants as at
-use Rattle.papaya_scenes.specs.Given.Finishes.Makings.{Beginning}
+use Rattle.papaya_scenes.specs.Given.SeizeWorld.{Register', with_at}
+use Rattle.papaya_scenes.specs.Given.SeizeDeclared.rows.reclaim_all.ReclaimAll.{ReclaimAll}
+use Rattle.papaya_scenes.specs.Given.SeizeActsAnswers.{Grant}
+use Rattle.papaya_scenes.specs.Given.TablesLengths.{IsTableLen}
+use Rattle.papaya_scenes.specs.Given.TablesDeclared.setting.Setting.{Setting}
+use Rattle.papaya_scenes.specs.Given.ResizeDeclared.new_map.Opening.TheVariants as at
+use Rattle.papaya_scenes.specs.Given.FinishesMakings.{Beginning}
 use Rattle.papaya_scenes.specs.Making.{making_begun}
 use Rattle.papaya_acts.specs.Acts.{Act, Wanted, BeginsCall, StepsCall, BeginsMaking, StepsMaking, BeginsRow}
 use Rattle.papaya_acts.specs.Courses.{AreAlike}

@@ -3,19 +3,19 @@ use Rattle.std.specs.Prelude.{◌≡◌, ℕ, suc, ◌+◌, ◌%◌, ◌^◌, �
 use Rattle.std.proofs.Common.{inl, inr, refl, sym, ap, subst, ◌∙◌, arith}
 use Rattle.std.proofs.lemmas.List.Sums.{sum_by-cons}
 use Rattle.std.specs.List.{sum}
-use Rattle.papaya_scenes.specs.Given.SeizeWords.Mem.{Mem, Took, value_at}
-use Rattle.papaya_scenes.specs.Given.SeizeWords.Plan.{Now, Steps}
-use Rattle.papaya_scenes.specs.Given.SeizeWords.declared.at.At.TheVariants.{Word}
-use Rattle.papaya_scenes.proofs.Given.SeizeWords.OneOwner.Operations.{loaded}
-use Rattle.papaya_scenes.proofs.Given.SeizeWords.Plans.{ends_if}
-use Rattle.papaya_scenes.specs.Given.Seize.declared.progress.Progress.{Progress}
-use Rattle.papaya_scenes.specs.Given.Seize.declared.progress.Progress.TheVariants as progress
-use Rattle.papaya_scenes.specs.Given.Tables.Counts.{count_in}
-use Rattle.papaya_scenes.specs.Given.Tables.declared.node.Node.{Node}
-use Rattle.papaya_scenes.specs.Given.Resize.Sum.{sum_plan, plan_at, added, summed, standing}
-use Rattle.papaya_scenes.specs.Given.Resize.declared.sum.Sum.{Sum}
-use Rattle.papaya_scenes.specs.Given.Resize.declared.sum.Summing.{Summing}
-use Rattle.papaya_scenes.specs.Given.Resize.declared.sum.Summing.TheVariants as sums
+use Rattle.papaya_scenes.specs.Given.SeizeWordsMem.{Mem, Took, value_at}
+use Rattle.papaya_scenes.specs.Given.SeizeWordsPlan.{Now, Steps}
+use Rattle.papaya_scenes.specs.Given.SeizeWordsDeclared.at.At.TheVariants.{Word}
+use Rattle.papaya_scenes.proofs.Given.SeizeWordsOneOwner.Operations.{loaded}
+use Rattle.papaya_scenes.proofs.Given.SeizeWordsPlans.{ends_if}
+use Rattle.papaya_scenes.specs.Given.SeizeDeclared.progress.Progress.{Progress}
+use Rattle.papaya_scenes.specs.Given.SeizeDeclared.progress.Progress.TheVariants as progress
+use Rattle.papaya_scenes.specs.Given.TablesCounts.{count_in}
+use Rattle.papaya_scenes.specs.Given.TablesDeclared.node.Node.{Node}
+use Rattle.papaya_scenes.specs.Given.ResizeSum.{sum_plan, plan_at, added, summed, standing}
+use Rattle.papaya_scenes.specs.Given.ResizeDeclared.sum.Sum.{Sum}
+use Rattle.papaya_scenes.specs.Given.ResizeDeclared.sum.Summing.{Summing}
+use Rattle.papaya_scenes.specs.Given.ResizeDeclared.sum.Summing.TheVariants as sums
 use Rattle.papaya_acts.specs.Counts.{HasRead, listed, next_shard}
 
 module _ {K V : Type 0} (m : Mem (Node K V)) (c : Sum) (words : List ℕ) where

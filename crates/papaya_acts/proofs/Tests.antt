@@ -2,10 +2,10 @@
 use Rattle.std.specs.Prelude.{Option, Some, None}
 use Rattle.std.specs.Option.{is_none}
 use Rattle.std.proofs.Common.{◌≡◌, ℕ, ◌^◌, Bool, true, false, refl, sym, arith}
-use Rattle.papaya_scenes.specs.Given.Seize.World.{Use, Vacant, Outside, Inside, Changing, IsInside}
-use Rattle.papaya_scenes.specs.Given.SeizeActs.Acts.{is_within}
-use Rattle.papaya_scenes.specs.Given.Rule.Maps.{IsClass}
-use Rattle.papaya_scenes.specs.Given.Points.Steps.{AreLawful}
+use Rattle.papaya_scenes.specs.Given.SeizeWorld.{Use, Vacant, Outside, Inside, Changing, IsInside}
+use Rattle.papaya_scenes.specs.Given.SeizeActsActs.{is_within}
+use Rattle.papaya_scenes.specs.Given.RuleMaps.{IsClass}
+use Rattle.papaya_scenes.specs.Given.PointsSteps.{AreLawful}
 
 pub some_is : {X : Type 0} (o : Option X) → is_none o ≡ false → (x : X) × (o ≡ Some x)
 some_is None e = absurd (cc e)

@@ -2,30 +2,30 @@
 -- a call that began at this moment, and has changed nothing.
 use Rattle.std.specs.Prelude.{◌≡◌, ℕ, Bool, Option, Some}
 use Rattle.std.proofs.Common.{inl, inr, refl, ap, ◌∙◌, arith}
-use Rattle.papaya_scenes.specs.Given.SeizeWords.Mem.{Mem, Took, value_at}
-use Rattle.papaya_scenes.specs.Given.SeizeWords.Plan.{Plan, Turn, Now, Steps}
-use Rattle.papaya_scenes.specs.Given.Seize.World.{World}
-use Rattle.papaya_scenes.specs.Given.Tables.Chunks.{is_incremental}
-use Rattle.papaya_scenes.specs.Given.Tables.declared.node.Node.{Node}
-use Rattle.papaya_scenes.specs.Given.Tables.declared.setting.Setting.{Setting}
-use Rattle.papaya_scenes.specs.Given.Raw.CallPoints.{told_answer}
-use Rattle.papaya_scenes.specs.Given.Raw.declared.machines.answer.Called.{Called}
-use Rattle.papaya_scenes.specs.Given.Raw.declared.machines.answer.KeyAnswer.TheVariants as answers
-use Rattle.papaya_scenes.specs.Given.Raw.declared.machines.call.KeyCall.{KeyCall}
-use Rattle.papaya_scenes.specs.Given.Rule.Chart.{Chart}
-use Rattle.papaya_scenes.specs.Given.Rule.InWorld.{IsMapIn, Moved}
-use Rattle.papaya_scenes.specs.Given.Rule.Maps.{spot_of}
-use Rattle.papaya_scenes.specs.Given.Rule.Moves.{Move, Links, Stores, Replaces, Removes, Marks, MarksBlocking, Skips, Unmarks, Puts, Covers, PutsLate, Claims, Reclaims, Counts, GivesUp, Aborts, Promotes, Announces, after}
-use Rattle.papaya_scenes.specs.Given.Rule.Words.{Blocks}
-use Rattle.papaya_scenes.proofs.Given.Rule.World.WentTold.{went_as}
-use Rattle.papaya_scenes.specs.Given.Points.Steps.{AreLawful}
-use Rattle.papaya_scenes.specs.Given.Tells.Seen.{Seen, Unseen}
-use Rattle.papaya_scenes.specs.Given.Tells.Tells.{IsSeenAs, IsTold}
-use Rattle.papaya_scenes.proofs.Given.Tells.Promised.{still_steps_tell}
-use Rattle.papaya_scenes.proofs.Given.Callers.Sights.Seen.{map_seen}
-use Rattle.papaya_scenes.proofs.Given.Callers.Together.Fits.{map_in_slot}
-use Rattle.papaya_scenes.specs.Given.Callers.Sights.{Sight, seen_by}
-use Rattle.papaya_scenes.specs.Given.Callers.Together.{CallOnKey, UnderWay, OnKey, Together, StepsTogether, AnswersOnce, change_told, in_slot}
+use Rattle.papaya_scenes.specs.Given.SeizeWordsMem.{Mem, Took, value_at}
+use Rattle.papaya_scenes.specs.Given.SeizeWordsPlan.{Plan, Turn, Now, Steps}
+use Rattle.papaya_scenes.specs.Given.SeizeWorld.{World}
+use Rattle.papaya_scenes.specs.Given.TablesChunks.{is_incremental}
+use Rattle.papaya_scenes.specs.Given.TablesDeclared.node.Node.{Node}
+use Rattle.papaya_scenes.specs.Given.TablesDeclared.setting.Setting.{Setting}
+use Rattle.papaya_scenes.specs.Given.RawCallPoints.{told_answer}
+use Rattle.papaya_scenes.specs.Given.RawDeclared.machines.answer.Called.{Called}
+use Rattle.papaya_scenes.specs.Given.RawDeclared.machines.answer.KeyAnswer.TheVariants as answers
+use Rattle.papaya_scenes.specs.Given.RawDeclared.machines.call.KeyCall.{KeyCall}
+use Rattle.papaya_scenes.specs.Given.RuleChart.{Chart}
+use Rattle.papaya_scenes.specs.Given.RuleInWorld.{IsMapIn, Moved}
+use Rattle.papaya_scenes.specs.Given.RuleMaps.{spot_of}
+use Rattle.papaya_scenes.specs.Given.RuleMoves.{Move, Links, Stores, Replaces, Removes, Marks, MarksBlocking, Skips, Unmarks, Puts, Covers, PutsLate, Claims, Reclaims, Counts, GivesUp, Aborts, Promotes, Announces, after}
+use Rattle.papaya_scenes.specs.Given.RuleWords.{Blocks}
+use Rattle.papaya_scenes.proofs.Given.RuleWorld.WentTold.{went_as}
+use Rattle.papaya_scenes.specs.Given.PointsSteps.{AreLawful}
+use Rattle.papaya_scenes.specs.Given.TellsSeen.{Seen, Unseen}
+use Rattle.papaya_scenes.specs.Given.TellsTells.{IsSeenAs, IsTold}
+use Rattle.papaya_scenes.proofs.Given.TellsPromised.{still_steps_tell}
+use Rattle.papaya_scenes.proofs.Given.CallersSights.Seen.{map_seen}
+use Rattle.papaya_scenes.proofs.Given.CallersTogether.Fits.{map_in_slot}
+use Rattle.papaya_scenes.specs.Given.CallersSights.{Sight, seen_by}
+use Rattle.papaya_scenes.specs.Given.CallersTogether.{CallOnKey, UnderWay, OnKey, Together, StepsTogether, AnswersOnce, change_told, in_slot}
 
 -- a step that makes no change that is seen in words changes no pair of the map
 module _ {K : Type 0} (T : Type 0) (same : K → K → Bool) (hash : K → ℕ) (setting : Setting) (caller : ℕ) (c : Chart K) (blocks : Blocks) (c2 : Chart K) (blocks2 : Blocks) where

@@ -1,27 +1,27 @@
 -- An act is what one caller does at once, as plain data: it begins something, takes one step of what it has under way, or tells its call something.
 use Rattle.std.specs.Prelude.{ℕ, Bool, [], Option, Some, None, Result}
-use Rattle.papaya_scenes.specs.Given.Seize.World.{Request}
-use Rattle.papaya_scenes.specs.Given.Seize.declared.progress.Progress.{Progress as Told}
-use Rattle.papaya_scenes.specs.Given.Seize.declared.rows.settle.Settled.{Settled}
-use Rattle.papaya_scenes.specs.Given.SeizeActs.Answers.{Grant}
-use Rattle.papaya_scenes.specs.Given.Tables.declared.node.Node.{Node}
-use Rattle.papaya_scenes.specs.Given.Tables.declared.setting.Setting.{Setting}
-use Rattle.papaya_scenes.specs.Given.Resize.Sum.{summing}
-use Rattle.papaya_scenes.specs.Given.Reserves.Reserve.{reserving}
-use Rattle.papaya_scenes.specs.Given.Sweeps.declared.sweep.Purpose.{Purpose}
-use Rattle.papaya_scenes.specs.Given.Raw.CallAsks.{computing, updating, updating_or_inserting, trying_to_insert_with, removing_if}
-use Rattle.papaya_scenes.specs.Given.Raw.CallPoints.{getting, removing, inserting, trying_to_insert}
-use Rattle.papaya_scenes.specs.Given.Raw.declared.machines.asking.Reply.{Reply}
-use Rattle.papaya_scenes.specs.Given.Raw.declared.machines.call.KeyCall.{KeyCall}
-use Rattle.papaya_scenes.specs.Given.Raw.declared.machines.progress.Progress.{Progress}
-use Rattle.papaya_scenes.specs.Given.Tables.declared.node.Node.TheVariants as node
-use Rattle.papaya_scenes.specs.Given.Points.Steps.{told_first}
-use Rattle.papaya_scenes.specs.Given.Callers.Asked.{told_before}
-use Rattle.papaya_scenes.specs.Given.Callers.Kind.{gets, removes, inserts, tries_to_insert, computes, updates, updates_or_inserts, tries_to_insert_with, removes_if}
-use Rattle.papaya_scenes.specs.Given.Callers.OverAll.{begun_over_all}
-use Rattle.papaya_scenes.specs.Given.Callers.Pairs.{Given, Begun, IsTold}
-use Rattle.papaya_scenes.specs.Given.Callers.Together.{UnderWay, OnKey, ForRoom, Counting, OverAll, begun_at, in_slot}
-use Rattle.papaya_scenes.specs.Given.Finishes.Maps.{Standing}
+use Rattle.papaya_scenes.specs.Given.SeizeWorld.{Request}
+use Rattle.papaya_scenes.specs.Given.SeizeDeclared.progress.Progress.{Progress as Told}
+use Rattle.papaya_scenes.specs.Given.SeizeDeclared.rows.settle.Settled.{Settled}
+use Rattle.papaya_scenes.specs.Given.SeizeActsAnswers.{Grant}
+use Rattle.papaya_scenes.specs.Given.TablesDeclared.node.Node.{Node}
+use Rattle.papaya_scenes.specs.Given.TablesDeclared.setting.Setting.{Setting}
+use Rattle.papaya_scenes.specs.Given.ResizeSum.{summing}
+use Rattle.papaya_scenes.specs.Given.ReservesReserve.{reserving}
+use Rattle.papaya_scenes.specs.Given.SweepsDeclared.sweep.Purpose.{Purpose}
+use Rattle.papaya_scenes.specs.Given.RawCallAsks.{computing, updating, updating_or_inserting, trying_to_insert_with, removing_if}
+use Rattle.papaya_scenes.specs.Given.RawCallPoints.{getting, removing, inserting, trying_to_insert}
+use Rattle.papaya_scenes.specs.Given.RawDeclared.machines.asking.Reply.{Reply}
+use Rattle.papaya_scenes.specs.Given.RawDeclared.machines.call.KeyCall.{KeyCall}
+use Rattle.papaya_scenes.specs.Given.RawDeclared.machines.progress.Progress.{Progress}
+use Rattle.papaya_scenes.specs.Given.TablesDeclared.node.Node.TheVariants as node
+use Rattle.papaya_scenes.specs.Given.PointsSteps.{told_first}
+use Rattle.papaya_scenes.specs.Given.CallersAsked.{told_before}
+use Rattle.papaya_scenes.specs.Given.CallersKind.{gets, removes, inserts, tries_to_insert, computes, updates, updates_or_inserts, tries_to_insert_with, removes_if}
+use Rattle.papaya_scenes.specs.Given.CallersOverAll.{begun_over_all}
+use Rattle.papaya_scenes.specs.Given.CallersPairs.{Given, Begun, IsTold}
+use Rattle.papaya_scenes.specs.Given.CallersTogether.{UnderWay, OnKey, ForRoom, Counting, OverAll, begun_at, in_slot}
+use Rattle.papaya_scenes.specs.Given.FinishesMaps.{Standing}
 
 -- what a caller wants of a map
 pub data Wanted (K V : Type 0) : Type 0 where

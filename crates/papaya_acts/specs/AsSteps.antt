@@ -2,41 +2,41 @@
 use Rattle.std.specs.Result.{is_err}
 use Rattle.std.specs.Prelude.{◌≡◌, ℕ, Bool, List, Option, Some, None, Result, true, ◌++◌, [], ◌∷◌}
 use Rattle.std.specs.Option.{option_map_or}
-use Rattle.papaya_scenes.specs.Given.SeizeWords.Mem.{Mem}
-use Rattle.papaya_scenes.specs.Given.SeizeWords.Op.{Op, Out}
-use Rattle.papaya_scenes.specs.Given.SeizeWords.Plan.{Plan, Turn, Do}
-use Rattle.papaya_scenes.specs.Given.Seize.Enter.{enter_plan, unregister_plan}
-use Rattle.papaya_scenes.specs.Given.Seize.Leave.{leave_plan}
-use Rattle.papaya_scenes.specs.Given.Seize.ReclaimAll.{reclaim_all_plan}
-use Rattle.papaya_scenes.specs.Given.Seize.Register.{register_plan}
-use Rattle.papaya_scenes.specs.Given.Seize.Settle.{settle_plan}
-use Rattle.papaya_scenes.specs.Given.Seize.World.{World, with_at, Row, Rests, Registers, Enters, Settles, Leaves, Defers, Frees}
-use Rattle.papaya_scenes.specs.Given.Seize.declared.progress.Progress.{Progress}
-use Rattle.papaya_scenes.specs.Given.Seize.declared.progress.Progress.TheVariants as progress
-use Rattle.papaya_scenes.specs.Given.Seize.declared.rows.reclaim_all.ReclaimAll.{ReclaimAll}
-use Rattle.papaya_scenes.specs.Given.Seize.declared.rows.settle.Settled.{Settled}
-use Rattle.papaya_scenes.specs.Given.Seize.declared.rows.settle.Settled.TheVariants as settled
-use Rattle.papaya_scenes.specs.Given.SeizeActs.Answers.{Grant, answer, stepped}
-use Rattle.papaya_scenes.specs.Given.Tables.Nodes.{deferred_word, was_left}
-use Rattle.papaya_scenes.specs.Given.Tables.declared.node.Node.{Node}
-use Rattle.papaya_scenes.specs.Given.Tables.declared.setting.Setting.{Setting}
-use Rattle.papaya_scenes.specs.Given.Resize.NewMap.{new_map_plan}
-use Rattle.papaya_scenes.specs.Given.Resize.declared.new_map.NewMap.{NewMap}
-use Rattle.papaya_scenes.specs.Given.Raw.EndMap.{end_map_plan}
-use Rattle.papaya_scenes.specs.Given.Raw.Machine.{machine_plan}
-use Rattle.papaya_scenes.specs.Given.Raw.declared.machines.asking.Reply.{Reply}
-use Rattle.papaya_scenes.specs.Given.Raw.declared.machines.end_map.EndMap.{EndMap}
-use Rattle.papaya_scenes.specs.Given.Raw.declared.machines.progress.Progress.{Progress as CallProgress}
-use Rattle.papaya_scenes.specs.Given.Tells.Seen.{seen_of}
-use Rattle.papaya_scenes.specs.Given.Teller.Tells.{told_of}
-use Rattle.papaya_scenes.specs.Given.Teller.declared.changed.Changed.{Changed}
-use Rattle.papaya_scenes.specs.Given.Teller.declared.changed.Changed.TheVariants.{Nothing as NoChange}
-use Rattle.papaya_scenes.specs.Given.Callers.Together.{UnderWay}
-use Rattle.papaya_scenes.specs.Given.Finishes.Endings.{Finishing}
-use Rattle.papaya_scenes.specs.Given.Finishes.FactsEnds.{Deed}
-use Rattle.papaya_scenes.specs.Given.Finishes.Machines.{machine_of}
-use Rattle.papaya_scenes.specs.Given.Finishes.Makings.{Beginning}
-use Rattle.papaya_scenes.specs.Given.Finishes.Maps.{Standing, with_call}
+use Rattle.papaya_scenes.specs.Given.SeizeWordsMem.{Mem}
+use Rattle.papaya_scenes.specs.Given.SeizeWordsOp.{Op, Out}
+use Rattle.papaya_scenes.specs.Given.SeizeWordsPlan.{Plan, Turn, Do}
+use Rattle.papaya_scenes.specs.Given.SeizeEnter.{enter_plan, unregister_plan}
+use Rattle.papaya_scenes.specs.Given.SeizeLeave.{leave_plan}
+use Rattle.papaya_scenes.specs.Given.SeizeReclaimAll.{reclaim_all_plan}
+use Rattle.papaya_scenes.specs.Given.SeizeRegister.{register_plan}
+use Rattle.papaya_scenes.specs.Given.SeizeSettle.{settle_plan}
+use Rattle.papaya_scenes.specs.Given.SeizeWorld.{World, with_at, Row, Rests, Registers, Enters, Settles, Leaves, Defers, Frees}
+use Rattle.papaya_scenes.specs.Given.SeizeDeclared.progress.Progress.{Progress}
+use Rattle.papaya_scenes.specs.Given.SeizeDeclared.progress.Progress.TheVariants as progress
+use Rattle.papaya_scenes.specs.Given.SeizeDeclared.rows.reclaim_all.ReclaimAll.{ReclaimAll}
+use Rattle.papaya_scenes.specs.Given.SeizeDeclared.rows.settle.Settled.{Settled}
+use Rattle.papaya_scenes.specs.Given.SeizeDeclared.rows.settle.Settled.TheVariants as settled
+use Rattle.papaya_scenes.specs.Given.SeizeActsAnswers.{Grant, answer, stepped}
+use Rattle.papaya_scenes.specs.Given.TablesNodes.{deferred_word, was_left}
+use Rattle.papaya_scenes.specs.Given.TablesDeclared.node.Node.{Node}
+use Rattle.papaya_scenes.specs.Given.TablesDeclared.setting.Setting.{Setting}
+use Rattle.papaya_scenes.specs.Given.ResizeNewMap.{new_map_plan}
+use Rattle.papaya_scenes.specs.Given.ResizeDeclared.new_map.NewMap.{NewMap}
+use Rattle.papaya_scenes.specs.Given.RawEndMap.{end_map_plan}
+use Rattle.papaya_scenes.specs.Given.RawMachine.{machine_plan}
+use Rattle.papaya_scenes.specs.Given.RawDeclared.machines.asking.Reply.{Reply}
+use Rattle.papaya_scenes.specs.Given.RawDeclared.machines.end_map.EndMap.{EndMap}
+use Rattle.papaya_scenes.specs.Given.RawDeclared.machines.progress.Progress.{Progress as CallProgress}
+use Rattle.papaya_scenes.specs.Given.TellsSeen.{seen_of}
+use Rattle.papaya_scenes.specs.Given.TellerTells.{told_of}
+use Rattle.papaya_scenes.specs.Given.TellerDeclared.changed.Changed.{Changed}
+use Rattle.papaya_scenes.specs.Given.TellerDeclared.changed.Changed.TheVariants.{Nothing as NoChange}
+use Rattle.papaya_scenes.specs.Given.CallersTogether.{UnderWay}
+use Rattle.papaya_scenes.specs.Given.FinishesEndings.{Finishing}
+use Rattle.papaya_scenes.specs.Given.FinishesFactsEnds.{Deed}
+use Rattle.papaya_scenes.specs.Given.FinishesMachines.{machine_of}
+use Rattle.papaya_scenes.specs.Given.FinishesMakings.{Beginning}
+use Rattle.papaya_scenes.specs.Given.FinishesMaps.{Standing, with_call}
 use Rattle.papaya_acts.specs.Acts.{Act, Answer, OfCall, OfReply, OfAsking, OfMaking, OfEnding, begun}
 use Rattle.papaya_acts.specs.Acts.{BeginsCall, StepsCall, TellsCall, AsksCall, StopsCall, BeginsMaking, StepsMaking, BeginsEnding, StepsEnding, BeginsRow, StepsRow}
 use Rattle.papaya_acts.specs.Leads.{MayBe, AllStand, Led, asked_on, call_at}

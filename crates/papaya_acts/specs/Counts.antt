@@ -1,18 +1,18 @@
 -- What a counting of pairs has read of a map's counter by the end of a list of acts, and what it answers.
 use Rattle.std.specs.Prelude.{◌≡◌, ℕ, suc, ◌==◌, ◌&&◌, ◌%◌, ◌^◌, Bool, List, [], ◌∷◌, ◌++◌, length, Option, Some, None, if◌then◌else◌}
 use Rattle.std.specs.List.{sum}
-use Rattle.papaya_scenes.specs.Given.SeizeWords.Mem.{Mem, word_at}
-use Rattle.papaya_scenes.specs.Given.SeizeWords.declared.at.At.TheVariants.{Word}
-use Rattle.papaya_scenes.specs.Given.SeizeActs.Answers.{Grant}
-use Rattle.papaya_scenes.specs.Given.Tables.Counts.{count_in}
-use Rattle.papaya_scenes.specs.Given.Tables.declared.node.Node.{Node}
-use Rattle.papaya_scenes.specs.Given.Resize.declared.sum.Sum.{Sum}
-use Rattle.papaya_scenes.specs.Given.Resize.declared.sum.Summing.{Summing}
-use Rattle.papaya_scenes.specs.Given.Resize.declared.sum.Summing.TheVariants as sums
-use Rattle.papaya_scenes.specs.Given.Raw.declared.machines.progress.Answer.TheVariants as answers
-use Rattle.papaya_scenes.specs.Given.Raw.declared.machines.progress.Progress.TheVariants as progress
-use Rattle.papaya_scenes.specs.Given.Callers.Together.{UnderWay, Counting}
-use Rattle.papaya_scenes.specs.Given.Finishes.Maps.{Standing}
+use Rattle.papaya_scenes.specs.Given.SeizeWordsMem.{Mem, word_at}
+use Rattle.papaya_scenes.specs.Given.SeizeWordsDeclared.at.At.TheVariants.{Word}
+use Rattle.papaya_scenes.specs.Given.SeizeActsAnswers.{Grant}
+use Rattle.papaya_scenes.specs.Given.TablesCounts.{count_in}
+use Rattle.papaya_scenes.specs.Given.TablesDeclared.node.Node.{Node}
+use Rattle.papaya_scenes.specs.Given.ResizeDeclared.sum.Sum.{Sum}
+use Rattle.papaya_scenes.specs.Given.ResizeDeclared.sum.Summing.{Summing}
+use Rattle.papaya_scenes.specs.Given.ResizeDeclared.sum.Summing.TheVariants as sums
+use Rattle.papaya_scenes.specs.Given.RawDeclared.machines.progress.Answer.TheVariants as answers
+use Rattle.papaya_scenes.specs.Given.RawDeclared.machines.progress.Progress.TheVariants as progress
+use Rattle.papaya_scenes.specs.Given.CallersTogether.{UnderWay, Counting}
+use Rattle.papaya_scenes.specs.Given.FinishesMaps.{Standing}
 use Rattle.papaya_acts.specs.Acts.{Act, OfCall, BeginsCall, StepsCall}
 use Rattle.papaya_acts.specs.Doings.{Doing, Does, MayDo}
 use Rattle.papaya_acts.specs.Lists.{Course, Reached, LedOn, LedTo, nothing_done, on_by}

@@ -3,19 +3,19 @@
 use Rattle.std.specs.Prelude.{◌≡◌, ◌⊎◌, ℕ, ◌<◌, ◌≤◌, ◌^◌, ◌++◌, ◌∷◌, [], Bool, true, false, List, Option, Some, None}
 use Rattle.std.specs.Option.{is_none}
 use Rattle.std.proofs.Common.{inl, inr}
-use Rattle.papaya_scenes.specs.Given.SeizeWords.Mem.{Mem, word_at}
-use Rattle.papaya_scenes.specs.Given.SeizeWords.declared.at.At.TheVariants.{Slot}
-use Rattle.papaya_scenes.specs.Given.Seize.ReclaimAll.{reclaiming_all, clearing}
-use Rattle.papaya_scenes.specs.Given.Seize.World.{Use, Vacant}
-use Rattle.papaya_scenes.specs.Given.Seize.declared.rows.reclaim_all.ReclaimAll.{ReclaimAll}
-use Rattle.papaya_scenes.specs.Given.Seize.declared.rows.settle.Settled.{Settled}
-use Rattle.papaya_scenes.specs.Given.Seize.declared.rows.settle.Settled.TheVariants as settled
-use Rattle.papaya_scenes.specs.Given.Seize.declared.states.TheConstants.{HEAD, LAST_SLOT}
-use Rattle.papaya_scenes.specs.Given.SeizeActs.Acts.{rests}
-use Rattle.papaya_scenes.specs.Given.SeizeActs.Answers.{Grant, then_on}
-use Rattle.papaya_scenes.specs.Given.Tables.declared.node.Node.{Node}
-use Rattle.papaya_scenes.specs.Given.Reclaims.Left.{LeftAmong}
-use Rattle.papaya_scenes.specs.Given.Reclaims.Slots.{HasNoBatch}
+use Rattle.papaya_scenes.specs.Given.SeizeWordsMem.{Mem, word_at}
+use Rattle.papaya_scenes.specs.Given.SeizeWordsDeclared.at.At.TheVariants.{Slot}
+use Rattle.papaya_scenes.specs.Given.SeizeReclaimAll.{reclaiming_all, clearing}
+use Rattle.papaya_scenes.specs.Given.SeizeWorld.{Use, Vacant}
+use Rattle.papaya_scenes.specs.Given.SeizeDeclared.rows.reclaim_all.ReclaimAll.{ReclaimAll}
+use Rattle.papaya_scenes.specs.Given.SeizeDeclared.rows.settle.Settled.{Settled}
+use Rattle.papaya_scenes.specs.Given.SeizeDeclared.rows.settle.Settled.TheVariants as settled
+use Rattle.papaya_scenes.specs.Given.SeizeDeclared.states.TheConstants.{HEAD, LAST_SLOT}
+use Rattle.papaya_scenes.specs.Given.SeizeActsActs.{rests}
+use Rattle.papaya_scenes.specs.Given.SeizeActsAnswers.{Grant, then_on}
+use Rattle.papaya_scenes.specs.Given.TablesDeclared.node.Node.{Node}
+use Rattle.papaya_scenes.specs.Given.ReclaimsLeft.{LeftAmong}
+use Rattle.papaya_scenes.specs.Given.ReclaimsSlots.{HasNoBatch}
 use Rattle.papaya_acts.specs.Acts.{Act, Answer, Nothing, OfReclaiming}
 use Rattle.papaya_acts.specs.Leads.{MayBe, AllStand, Led}
 use Rattle.papaya_acts.specs.Reclaiming.{IsReclaimingAll, ReclaimedOn, reclaiming_steps}

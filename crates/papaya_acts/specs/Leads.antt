@@ -3,35 +3,35 @@ use Rattle.std.specs.Prelude.{◌≡◌, ◌≢◌, ◌⊎◌, ℕ, ◌+◌, ◌
 use Rattle.std.specs.Int.{IsPowerOfTwo}
 use Rattle.std.specs.Option.{is_none}
 use Rattle.std.specs.Result.{is_err}
-use Rattle.papaya_scenes.specs.Given.SeizeWords.Mem.{Mem, value_at}
-use Rattle.papaya_scenes.specs.Given.Seize.World.{World, Begin, Step, Happens, with_at}
-use Rattle.papaya_scenes.specs.Given.Seize.declared.progress.Progress.{Progress}
-use Rattle.papaya_scenes.specs.Given.Seize.declared.progress.Progress.TheVariants as progress
-use Rattle.papaya_scenes.specs.Given.Seize.declared.rows.settle.Settled.{Settled}
-use Rattle.papaya_scenes.specs.Given.Seize.declared.rows.settle.Settled.TheVariants as settled
-use Rattle.papaya_scenes.specs.Given.SeizeActs.Acts.{rests, is_within, begun as row_begun, row_steps}
-use Rattle.papaya_scenes.specs.Given.SeizeActs.Answers.{Grant, then_on, stepped}
-use Rattle.papaya_scenes.specs.Given.Tables.Chunks.{is_incremental}
-use Rattle.papaya_scenes.specs.Given.Tables.Lengths.{IsTableLen}
-use Rattle.papaya_scenes.specs.Given.Tables.Nodes.{deferred_word}
-use Rattle.papaya_scenes.specs.Given.Tables.declared.node.Node.{Node}
-use Rattle.papaya_scenes.specs.Given.Tables.declared.setting.Setting.{Setting}
-use Rattle.papaya_scenes.specs.Given.Resize.NewMap.{new_map_plan}
-use Rattle.papaya_scenes.specs.Given.Resize.declared.new_map.NewMap.{NewMap}
-use Rattle.papaya_scenes.specs.Given.Raw.EndMap.{end_map_plan}
-use Rattle.papaya_scenes.specs.Given.Raw.Machine.{machine_plan, machine_replied, machine_asked}
-use Rattle.papaya_scenes.specs.Given.Raw.declared.machines.end_map.EndMap.{EndMap}
-use Rattle.papaya_scenes.specs.Given.Raw.declared.machines.machine.Machine.{Machine}
-use Rattle.papaya_scenes.specs.Given.Raw.declared.machines.progress.Progress.{Progress as CallProgress}
-use Rattle.papaya_scenes.specs.Given.Sweeps.SweepPoints.{after_next}
-use Rattle.papaya_scenes.specs.Given.Callers.Claims.{AreFew}
-use Rattle.papaya_scenes.specs.Given.Callers.OverAll.{gone_on}
-use Rattle.papaya_scenes.specs.Given.Callers.Together.{UnderWay, OverAll, UnlessCounts, HasCall, IsOfSlots, Closes}
-use Rattle.papaya_scenes.specs.Given.Finishes.Endings.{Finishing, EndingsTogether, StepsOfEnding, MakingStepsAmong, HasFinished, waiting_by}
-use Rattle.papaya_scenes.specs.Given.Finishes.FactsEnds.{Deed, taken_by}
-use Rattle.papaya_scenes.specs.Given.Finishes.Machines.{machine_of, ToldOfKind, MachineStepsAmong}
-use Rattle.papaya_scenes.specs.Given.Finishes.Makings.{Beginning, IsMade}
-use Rattle.papaya_scenes.specs.Given.Finishes.Maps.{Standing, IsSameMap, with_call}
+use Rattle.papaya_scenes.specs.Given.SeizeWordsMem.{Mem, value_at}
+use Rattle.papaya_scenes.specs.Given.SeizeWorld.{World, Begin, Step, Happens, with_at}
+use Rattle.papaya_scenes.specs.Given.SeizeDeclared.progress.Progress.{Progress}
+use Rattle.papaya_scenes.specs.Given.SeizeDeclared.progress.Progress.TheVariants as progress
+use Rattle.papaya_scenes.specs.Given.SeizeDeclared.rows.settle.Settled.{Settled}
+use Rattle.papaya_scenes.specs.Given.SeizeDeclared.rows.settle.Settled.TheVariants as settled
+use Rattle.papaya_scenes.specs.Given.SeizeActsActs.{rests, is_within, begun as row_begun, row_steps}
+use Rattle.papaya_scenes.specs.Given.SeizeActsAnswers.{Grant, then_on, stepped}
+use Rattle.papaya_scenes.specs.Given.TablesChunks.{is_incremental}
+use Rattle.papaya_scenes.specs.Given.TablesLengths.{IsTableLen}
+use Rattle.papaya_scenes.specs.Given.TablesNodes.{deferred_word}
+use Rattle.papaya_scenes.specs.Given.TablesDeclared.node.Node.{Node}
+use Rattle.papaya_scenes.specs.Given.TablesDeclared.setting.Setting.{Setting}
+use Rattle.papaya_scenes.specs.Given.ResizeNewMap.{new_map_plan}
+use Rattle.papaya_scenes.specs.Given.ResizeDeclared.new_map.NewMap.{NewMap}
+use Rattle.papaya_scenes.specs.Given.RawEndMap.{end_map_plan}
+use Rattle.papaya_scenes.specs.Given.RawMachine.{machine_plan, machine_replied, machine_asked}
+use Rattle.papaya_scenes.specs.Given.RawDeclared.machines.end_map.EndMap.{EndMap}
+use Rattle.papaya_scenes.specs.Given.RawDeclared.machines.machine.Machine.{Machine}
+use Rattle.papaya_scenes.specs.Given.RawDeclared.machines.progress.Progress.{Progress as CallProgress}
+use Rattle.papaya_scenes.specs.Given.SweepsSweepPoints.{after_next}
+use Rattle.papaya_scenes.specs.Given.CallersClaims.{AreFew}
+use Rattle.papaya_scenes.specs.Given.CallersOverAll.{gone_on}
+use Rattle.papaya_scenes.specs.Given.CallersTogether.{UnderWay, OverAll, UnlessCounts, HasCall, IsOfSlots, Closes}
+use Rattle.papaya_scenes.specs.Given.FinishesEndings.{Finishing, EndingsTogether, StepsOfEnding, MakingStepsAmong, HasFinished, waiting_by}
+use Rattle.papaya_scenes.specs.Given.FinishesFactsEnds.{Deed, taken_by}
+use Rattle.papaya_scenes.specs.Given.FinishesMachines.{machine_of, ToldOfKind, MachineStepsAmong}
+use Rattle.papaya_scenes.specs.Given.FinishesMakings.{Beginning, IsMade}
+use Rattle.papaya_scenes.specs.Given.FinishesMaps.{Standing, IsSameMap, with_call}
 use Rattle.papaya_acts.specs.Acts.{Act, Answer, Nothing, OfCall, OfReply, OfAsking, OfMaking, OfEnding, UnlessToCount, begun}
 use Rattle.papaya_acts.specs.Acts.{BeginsCall, StepsCall, TellsCall, AsksCall, StopsCall, BeginsMaking, StepsMaking, BeginsEnding, StepsEnding, BeginsRow, StepsRow}
 use Rattle.papaya_scenes.specs.Ending.{ending_begun}

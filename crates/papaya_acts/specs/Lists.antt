@@ -1,29 +1,29 @@
 -- Lists of acts: to which scene each leads, and what is promised of it.
 use Rattle.std.specs.Prelude.{◌≡◌, ℕ, Bool, List, [], ◌∷◌, ◌++◌, Some}
 use Rattle.std.proofs.Common.{inl}
-use Rattle.papaya_scenes.specs.Given.SeizeWords.Mem.{Mem, Can, Took, value_at}
-use Rattle.papaya_scenes.specs.Given.SeizeWords.Plan.{May, Steps}
-use Rattle.papaya_scenes.specs.Given.Seize.World.{World, MayStep, Steps'}
-use Rattle.papaya_scenes.specs.Given.Seize.declared.progress.Progress.{Progress}
-use Rattle.papaya_scenes.specs.Given.Seize.declared.rows.settle.Settled.{Settled}
-use Rattle.papaya_scenes.specs.Given.SeizeActs.Acts.{row_steps}
-use Rattle.papaya_scenes.specs.Given.SeizeActs.Answers.{Grant}
-use Rattle.papaya_scenes.specs.Given.Tables.Nodes.{deferred_word}
-use Rattle.papaya_scenes.specs.Given.Tables.declared.node.Node.{Node}
-use Rattle.papaya_scenes.specs.Given.Tables.declared.setting.Setting.{Setting}
-use Rattle.papaya_scenes.specs.Given.Resize.NewMap.{new_map_plan}
-use Rattle.papaya_scenes.specs.Given.Resize.declared.new_map.NewMap.{NewMap}
-use Rattle.papaya_scenes.specs.Given.Raw.EndMap.{end_map_plan}
-use Rattle.papaya_scenes.specs.Given.Raw.Machine.{machine_plan}
-use Rattle.papaya_scenes.specs.Given.Raw.declared.machines.end_map.EndMap.{EndMap}
-use Rattle.papaya_scenes.specs.Given.Raw.declared.machines.machine.Machine.{Machine}
-use Rattle.papaya_scenes.specs.Given.Raw.declared.machines.progress.Progress.{Progress as CallProgress}
-use Rattle.papaya_scenes.specs.Given.Points.Steps.{AreLawful}
-use Rattle.papaya_scenes.specs.Given.Callers.Together.{UnderWay}
-use Rattle.papaya_scenes.specs.Given.Finishes.Endings.{Finishing}
-use Rattle.papaya_scenes.specs.Given.Finishes.Machines.{machine_of}
-use Rattle.papaya_scenes.specs.Given.Finishes.Makings.{Beginning}
-use Rattle.papaya_scenes.specs.Given.Finishes.Maps.{Standing}
+use Rattle.papaya_scenes.specs.Given.SeizeWordsMem.{Mem, Can, Took, value_at}
+use Rattle.papaya_scenes.specs.Given.SeizeWordsPlan.{May, Steps}
+use Rattle.papaya_scenes.specs.Given.SeizeWorld.{World, MayStep, Steps'}
+use Rattle.papaya_scenes.specs.Given.SeizeDeclared.progress.Progress.{Progress}
+use Rattle.papaya_scenes.specs.Given.SeizeDeclared.rows.settle.Settled.{Settled}
+use Rattle.papaya_scenes.specs.Given.SeizeActsActs.{row_steps}
+use Rattle.papaya_scenes.specs.Given.SeizeActsAnswers.{Grant}
+use Rattle.papaya_scenes.specs.Given.TablesNodes.{deferred_word}
+use Rattle.papaya_scenes.specs.Given.TablesDeclared.node.Node.{Node}
+use Rattle.papaya_scenes.specs.Given.TablesDeclared.setting.Setting.{Setting}
+use Rattle.papaya_scenes.specs.Given.ResizeNewMap.{new_map_plan}
+use Rattle.papaya_scenes.specs.Given.ResizeDeclared.new_map.NewMap.{NewMap}
+use Rattle.papaya_scenes.specs.Given.RawEndMap.{end_map_plan}
+use Rattle.papaya_scenes.specs.Given.RawMachine.{machine_plan}
+use Rattle.papaya_scenes.specs.Given.RawDeclared.machines.end_map.EndMap.{EndMap}
+use Rattle.papaya_scenes.specs.Given.RawDeclared.machines.machine.Machine.{Machine}
+use Rattle.papaya_scenes.specs.Given.RawDeclared.machines.progress.Progress.{Progress as CallProgress}
+use Rattle.papaya_scenes.specs.Given.PointsSteps.{AreLawful}
+use Rattle.papaya_scenes.specs.Given.CallersTogether.{UnderWay}
+use Rattle.papaya_scenes.specs.Given.FinishesEndings.{Finishing}
+use Rattle.papaya_scenes.specs.Given.FinishesMachines.{machine_of}
+use Rattle.papaya_scenes.specs.Given.FinishesMakings.{Beginning}
+use Rattle.papaya_scenes.specs.Given.FinishesMaps.{Standing}
 use Rattle.papaya_acts.specs.Acts.{Answer}
 use Rattle.papaya_acts.specs.Doings.{Doing, IsLeft, Stage, MayDo, HasDone}
 use Rattle.papaya_acts.specs.Leads.{AllStand, call_steps, making_steps, ending_steps}

@@ -1,15 +1,15 @@
 -- A caller reclaims all by acts: each of its steps is computed from the memory, and from what that was free to choose.
 use Rattle.std.specs.Prelude.{◌≡◌, ℕ, ◌<◌, ◌^◌, Bool, false, List, Option, Some}
 use Rattle.std.specs.Option.{is_none}
-use Rattle.papaya_scenes.specs.Given.SeizeWords.Mem.{Mem, Can, Took, value_at}
-use Rattle.papaya_scenes.specs.Given.SeizeWords.Plan.{May, Steps}
-use Rattle.papaya_scenes.specs.Given.Seize.ReclaimAll.{reclaim_all_plan}
-use Rattle.papaya_scenes.specs.Given.Seize.declared.rows.reclaim_all.ReclaimAll.{ReclaimAll}
-use Rattle.papaya_scenes.specs.Given.Seize.declared.rows.settle.Settled.{Settled}
-use Rattle.papaya_scenes.specs.Given.SeizeActs.Answers.{Grant, stepped}
-use Rattle.papaya_scenes.specs.Given.Tables.Nodes.{deferred_word, was_left}
-use Rattle.papaya_scenes.specs.Given.Tables.declared.node.Node.{Node}
-use Rattle.papaya_scenes.specs.Given.Reclaims.Reclaims.{ReclaimingTogether, StepsOfReclaiming}
+use Rattle.papaya_scenes.specs.Given.SeizeWordsMem.{Mem, Can, Took, value_at}
+use Rattle.papaya_scenes.specs.Given.SeizeWordsPlan.{May, Steps}
+use Rattle.papaya_scenes.specs.Given.SeizeReclaimAll.{reclaim_all_plan}
+use Rattle.papaya_scenes.specs.Given.SeizeDeclared.rows.reclaim_all.ReclaimAll.{ReclaimAll}
+use Rattle.papaya_scenes.specs.Given.SeizeDeclared.rows.settle.Settled.{Settled}
+use Rattle.papaya_scenes.specs.Given.SeizeActsAnswers.{Grant, stepped}
+use Rattle.papaya_scenes.specs.Given.TablesNodes.{deferred_word, was_left}
+use Rattle.papaya_scenes.specs.Given.TablesDeclared.node.Node.{Node}
+use Rattle.papaya_scenes.specs.Given.ReclaimsReclaims.{ReclaimingTogether, StepsOfReclaiming}
 use Rattle.papaya_scenes.specs.Scene.{Scene}
 
 -- what its next step comes to, if the memory may choose so

@@ -6,8 +6,8 @@ use Rattle.papaya_played.specs.Given.SeizeWordsOp.{Op, Out, Found, Stored, Excha
 use Rattle.papaya_played.specs.Given.SeizeWordsPlan.{Ends as EndsSo, plan_as}
 use Rattle.papaya_played.specs.Given.SeizeWordsDeclared.at.At.{At}
 use Rattle.papaya_played.specs.Given.SeizeWordsDeclared.at.At.TheVariants.{Root, Used, Slot, Entry, Word}
-use Rattle.papaya_tables.specs.Given.Seize.declared.progress.Progress.{Progress}
-use Rattle.papaya_tables.specs.Given.Seize.declared.progress.Progress.TheVariants as progress
+use Rattle.papaya_tables.specs.Given.SeizeDeclared.progress.Progress.{Progress}
+use Rattle.papaya_tables.specs.Given.SeizeDeclared.progress.Progress.TheVariants as progress
 use Rattle.papaya_tables.specs.declared.node.Node.{Node}
 use Rattle.papaya_tables.specs.declared.node.Node.TheVariants as node
 use Rattle.papaya_tables.specs.declared.setting.Setting.{Setting}

@@ -5,10 +5,10 @@ use Rattle.std.proofs.lemmas.Bool.{cases_eq, eq-eqb, ne_eqb}
 use Rattle.papaya_played.specs.Given.SeizeActsAnswers.{Grant}
 use Rattle.papaya_played.proofs.Given.SeizeActsAnswers.{same_some}
 use Rattle.papaya_played.specs.Given.SeizeWordsMem.{Mem}
-use Rattle.papaya_tables.specs.Given.Seize.ReclaimAll.{clearing, reclaiming_all}
-use Rattle.papaya_tables.specs.Given.Seize.World.{with_at}
-use Rattle.papaya_tables.specs.Given.Seize.declared.progress.Progress.{Progress}
-use Rattle.papaya_tables.specs.Given.Seize.declared.progress.Progress.TheVariants as progress
+use Rattle.papaya_tables.specs.Given.SeizeReclaimAll.{clearing, reclaiming_all}
+use Rattle.papaya_tables.specs.Given.SeizeWorld.{with_at}
+use Rattle.papaya_tables.specs.Given.SeizeDeclared.progress.Progress.{Progress}
+use Rattle.papaya_tables.specs.Given.SeizeDeclared.progress.Progress.TheVariants as progress
 use Rattle.papaya_tables.specs.declared.node.Node.{Node}
 use Rattle.papaya_tables.specs.declared.setting.Setting.{Setting}
 use Rattle.papaya_played.specs.Given.ResizeNewMap.{new_map_plan, opening}

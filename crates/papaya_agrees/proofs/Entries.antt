@@ -2,14 +2,14 @@
 use Rattle.std.specs.Prelude.{◌==◌, Bool, true, false, is_ok, length, if◌then◌else◌}
 use Rattle.std.proofs.Common.{◌≡◌, ℕ, List, [], ◌∷◌, refl, sym, subst}
 use Rattle.papaya_played.specs.Given.SeizeActsAnswers.{Grant}
-use Rattle.papaya_tables.specs.Given.Seize.ReclaimAll.{reclaim_all_plan}
-use Rattle.papaya_tables.specs.Given.Seize.declared.rows.leave.Leave.{Leave}
-use Rattle.papaya_tables.specs.Given.Seize.declared.rows.leave.Leaving.{Leaving}
-use Rattle.papaya_tables.specs.Given.Seize.declared.rows.leave.Leaving.TheVariants as leaves
-use Rattle.papaya_tables.specs.Given.Seize.declared.rows.register.Registering.{Registering}
-use Rattle.papaya_tables.specs.Given.Seize.declared.rows.register.Registering.TheVariants as registers
-use Rattle.papaya_tables.specs.Given.Seize.declared.rows.settle.Settled.{Settled}
-use Rattle.papaya_tables.specs.Given.Seize.declared.states.TheConstants.{ACTIVE}
+use Rattle.papaya_tables.specs.Given.SeizeReclaimAll.{reclaim_all_plan}
+use Rattle.papaya_tables.specs.Given.SeizeDeclared.rows.leave.Leave.{Leave}
+use Rattle.papaya_tables.specs.Given.SeizeDeclared.rows.leave.Leaving.{Leaving}
+use Rattle.papaya_tables.specs.Given.SeizeDeclared.rows.leave.Leaving.TheVariants as leaves
+use Rattle.papaya_tables.specs.Given.SeizeDeclared.rows.register.Registering.{Registering}
+use Rattle.papaya_tables.specs.Given.SeizeDeclared.rows.register.Registering.TheVariants as registers
+use Rattle.papaya_tables.specs.Given.SeizeDeclared.rows.settle.Settled.{Settled}
+use Rattle.papaya_tables.specs.Given.SeizeDeclared.states.TheConstants.{ACTIVE}
 use Rattle.papaya_tables.specs.Nodes.{deferred_word, was_left}
 use Rattle.papaya_played.specs.Given.ResizeNewMap.{new_map_plan}
 use Rattle.papaya_played.specs.Given.ResizeDeclared.new_map.NewMap.{NewMap}

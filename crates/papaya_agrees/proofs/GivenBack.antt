@@ -4,10 +4,10 @@ use Rattle.std.proofs.Common.{◌≡◌, ℕ, Bool, true, false, List, [], ◌�
 use Rattle.papaya_played.specs.Given.SeizeActsAnswers.{Grant, stepped}
 use Rattle.papaya_played.proofs.Given.SeizeActsAnswers.{same_some}
 use Rattle.papaya_played.specs.Given.SeizeWordsMem.{Mem}
-use Rattle.papaya_tables.specs.Given.Seize.ReclaimAll.{reclaim_all_plan}
-use Rattle.papaya_tables.specs.Given.Seize.World.{with_at}
-use Rattle.papaya_tables.specs.Given.Seize.declared.progress.Progress.{Progress}
-use Rattle.papaya_tables.specs.Given.Seize.declared.progress.Progress.TheVariants as progress
+use Rattle.papaya_tables.specs.Given.SeizeReclaimAll.{reclaim_all_plan}
+use Rattle.papaya_tables.specs.Given.SeizeWorld.{with_at}
+use Rattle.papaya_tables.specs.Given.SeizeDeclared.progress.Progress.{Progress}
+use Rattle.papaya_tables.specs.Given.SeizeDeclared.progress.Progress.TheVariants as progress
 use Rattle.papaya_tables.specs.Nodes.{deferred_word, was_left}
 use Rattle.papaya_tables.specs.declared.node.Node.{Node}
 use Rattle.papaya_tables.specs.declared.setting.Setting.{Setting}

@@ -4,13 +4,13 @@ use Rattle.std.proofs.Common.{◌≡◌, ℕ, List, [], ◌∷◌, refl, ap, sym
 use Rattle.papaya_played.specs.Given.SeizeActsActs.{row_steps}
 use Rattle.papaya_played.specs.Given.SeizeActsAnswers.{Grant}
 use Rattle.papaya_played.proofs.Given.SeizeActsAnswers.{same_some}
-use Rattle.papaya_tables.specs.Given.Seize.World.{World, Row, Rests, Begins as BeginsSo, IsInside, Request, with_at}
-use Rattle.papaya_tables.specs.Given.Seize.ReclaimAll.{reclaim_all_plan}
-use Rattle.papaya_tables.specs.Given.Seize.declared.progress.Progress.{Progress}
-use Rattle.papaya_tables.specs.Given.Seize.declared.progress.Progress.TheVariants as progress
-use Rattle.papaya_tables.specs.Given.Seize.declared.rows.reclaim_all.ReclaimAll.{ReclaimAll}
-use Rattle.papaya_tables.specs.Given.Seize.declared.rows.settle.Settled.{Settled}
-use Rattle.papaya_tables.specs.Given.Seize.declared.rows.settle.Settled.TheVariants as settled
+use Rattle.papaya_tables.specs.Given.SeizeWorld.{World, Row, Rests, Begins as BeginsSo, IsInside, Request, with_at}
+use Rattle.papaya_tables.specs.Given.SeizeReclaimAll.{reclaim_all_plan}
+use Rattle.papaya_tables.specs.Given.SeizeDeclared.progress.Progress.{Progress}
+use Rattle.papaya_tables.specs.Given.SeizeDeclared.progress.Progress.TheVariants as progress
+use Rattle.papaya_tables.specs.Given.SeizeDeclared.rows.reclaim_all.ReclaimAll.{ReclaimAll}
+use Rattle.papaya_tables.specs.Given.SeizeDeclared.rows.settle.Settled.{Settled}
+use Rattle.papaya_tables.specs.Given.SeizeDeclared.rows.settle.Settled.TheVariants as settled
 use Rattle.papaya_tables.specs.Nodes.{deferred_word, was_left}
 use Rattle.papaya_tables.specs.declared.node.Node.{Node}
 use Rattle.papaya_tables.specs.declared.setting.Setting.{Setting}

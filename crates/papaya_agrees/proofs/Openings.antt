@@ -7,9 +7,9 @@ use Rattle.papaya_played.specs.Given.SeizeWordsOp.{Out, Exchange, Exchanged, Mad
 use Rattle.papaya_played.specs.Given.SeizeWordsPlan.{Ends as EndsSo}
 use Rattle.papaya_played.specs.Given.SeizeWordsDeclared.at.At.TheVariants.{Used}
 use Rattle.papaya_played.specs.Given.SeizeWordsDeclared.fault.Fault.TheVariants.{RootsUsedUp}
-use Rattle.papaya_tables.specs.Given.Seize.declared.progress.Progress.{Progress}
-use Rattle.papaya_tables.specs.Given.Seize.declared.progress.Progress.TheVariants as progress
-use Rattle.papaya_tables.specs.Given.Seize.declared.rows.settle.Settled.{Settled}
+use Rattle.papaya_tables.specs.Given.SeizeDeclared.progress.Progress.{Progress}
+use Rattle.papaya_tables.specs.Given.SeizeDeclared.progress.Progress.TheVariants as progress
+use Rattle.papaya_tables.specs.Given.SeizeDeclared.rows.settle.Settled.{Settled}
 use Rattle.papaya_tables.specs.declared.node.Node.{Node}
 use Rattle.papaya_tables.specs.declared.setting.Setting.{Setting}
 use Rattle.papaya_tables.specs.declared.table.Table.{Table}

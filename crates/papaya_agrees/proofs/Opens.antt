@@ -4,7 +4,7 @@ use Rattle.std.specs.Option.{option_or}
 use Rattle.std.proofs.Common.{◌≡◌, ℕ, Bool, true, List, [], ◌∷◌, ◌++◌, inl, inr, refl, ap, sym, subst, ◌∙◌}
 use Rattle.std.proofs.lemmas.List.Folds.{find-append}
 use Rattle.papaya_played.proofs.Given.FollowsCalling.{is_same_is, is_same_refl}
-use Rattle.papaya_tables.specs.Given.Seize.World.{IsInside, Use}
+use Rattle.papaya_tables.specs.Given.SeizeWorld.{IsInside, Use}
 use Rattle.papaya_played.specs.Given.ScenesDeclared.row.SlotRow.{SlotRow}
 use Rattle.papaya_runs.specs.Present.{guard_of}
 use Rattle.papaya_runs.specs.Same.{is_same}

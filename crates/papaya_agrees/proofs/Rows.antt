@@ -7,24 +7,24 @@ use Rattle.papaya_played.specs.Given.SeizeActsAnswers.{Grant, stepped, then_on}
 use Rattle.papaya_played.proofs.Given.SeizeActsAnswers.{same_some, some, was_stepped}
 use Rattle.papaya_played.specs.Given.SeizeWordsMem.{Mem, Took, value_at}
 use Rattle.papaya_played.specs.Given.SeizeWordsPlan.{Plan, Steps}
-use Rattle.papaya_tables.specs.Given.Seize.Enter.{enter_plan, unregister_plan}
-use Rattle.papaya_tables.specs.Given.Seize.Law.{Entered}
-use Rattle.papaya_tables.specs.Given.Seize.Leave.{leave_plan}
-use Rattle.papaya_tables.specs.Given.Seize.Register.{plan_at, register_plan, registered}
-use Rattle.papaya_tables.specs.Given.Seize.Settle.{settle_plan}
-use Rattle.papaya_tables.specs.Given.Seize.World.{World, Rests, Use, Vacant, Outside, Inside, Changing, IsInside, after_step, left_as, leaves_on, one_less, one_more, registered_as, registered_use, registers_on, settles_on, with_at, with_use}
-use Rattle.papaya_tables.specs.Given.Seize.declared.progress.Progress.{Progress}
-use Rattle.papaya_tables.specs.Given.Seize.declared.progress.Progress.TheVariants as progress
-use Rattle.papaya_tables.specs.Given.Seize.declared.rows.leave.Leave.{Leave}
-use Rattle.papaya_tables.specs.Given.Seize.declared.rows.leave.Leaving.{Leaving}
-use Rattle.papaya_tables.specs.Given.Seize.declared.rows.leave.Leaving.TheVariants as leaves
-use Rattle.papaya_tables.specs.Given.Seize.declared.rows.register.Register.{Register}
-use Rattle.papaya_tables.specs.Given.Seize.declared.rows.register.Registering.{Registering}
-use Rattle.papaya_tables.specs.Given.Seize.declared.rows.register.Registering.TheVariants as registers
-use Rattle.papaya_tables.specs.Given.Seize.declared.rows.settle.Settle.{Settle}
-use Rattle.papaya_tables.specs.Given.Seize.declared.rows.settle.Settled.{Settled}
-use Rattle.papaya_tables.specs.Given.Seize.declared.rows.settle.Settled.TheVariants as settled
-use Rattle.papaya_tables.specs.Given.Seize.declared.states.TheConstants.{ACTIVE}
+use Rattle.papaya_tables.specs.Given.SeizeEnter.{enter_plan, unregister_plan}
+use Rattle.papaya_tables.specs.Given.SeizeLaw.{Entered}
+use Rattle.papaya_tables.specs.Given.SeizeLeave.{leave_plan}
+use Rattle.papaya_tables.specs.Given.SeizeRegister.{plan_at, register_plan, registered}
+use Rattle.papaya_tables.specs.Given.SeizeSettle.{settle_plan}
+use Rattle.papaya_tables.specs.Given.SeizeWorld.{World, Rests, Use, Vacant, Outside, Inside, Changing, IsInside, after_step, left_as, leaves_on, one_less, one_more, registered_as, registered_use, registers_on, settles_on, with_at, with_use}
+use Rattle.papaya_tables.specs.Given.SeizeDeclared.progress.Progress.{Progress}
+use Rattle.papaya_tables.specs.Given.SeizeDeclared.progress.Progress.TheVariants as progress
+use Rattle.papaya_tables.specs.Given.SeizeDeclared.rows.leave.Leave.{Leave}
+use Rattle.papaya_tables.specs.Given.SeizeDeclared.rows.leave.Leaving.{Leaving}
+use Rattle.papaya_tables.specs.Given.SeizeDeclared.rows.leave.Leaving.TheVariants as leaves
+use Rattle.papaya_tables.specs.Given.SeizeDeclared.rows.register.Register.{Register}
+use Rattle.papaya_tables.specs.Given.SeizeDeclared.rows.register.Registering.{Registering}
+use Rattle.papaya_tables.specs.Given.SeizeDeclared.rows.register.Registering.TheVariants as registers
+use Rattle.papaya_tables.specs.Given.SeizeDeclared.rows.settle.Settle.{Settle}
+use Rattle.papaya_tables.specs.Given.SeizeDeclared.rows.settle.Settled.{Settled}
+use Rattle.papaya_tables.specs.Given.SeizeDeclared.rows.settle.Settled.TheVariants as settled
+use Rattle.papaya_tables.specs.Given.SeizeDeclared.states.TheConstants.{ACTIVE}
 use Rattle.papaya_tables.specs.Nodes.{deferred_word}
 use Rattle.papaya_tables.specs.declared.node.Node.{Node}
 use Rattle.papaya_played.proofs.Given.CallersTogether.At.{at_other, at_same}

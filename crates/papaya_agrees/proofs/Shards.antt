@@ -3,11 +3,11 @@ use Rattle.std.specs.Prelude.{◌≢◌, ◌⊎◌, ◌+◌, Option, Some, None,
 use Rattle.std.proofs.Common.{◌≡◌, ℕ, Bool, inl, inr, refl, ap, sym, subst, ◌∙◌}
 use Rattle.std.proofs.lemmas.Bool.{cases_eq}
 use Rattle.papaya_played.proofs.Given.SeizeActsAnswers.{same_some}
-use Rattle.papaya_tables.specs.Given.Seize.World.{World, with_at}
-use Rattle.papaya_tables.specs.Given.Seize.declared.progress.Progress.{Progress}
-use Rattle.papaya_tables.specs.Given.Seize.declared.progress.Progress.TheVariants as progress
-use Rattle.papaya_tables.specs.Given.Seize.declared.rows.settle.Settled.{Settled}
-use Rattle.papaya_tables.specs.Given.Seize.declared.rows.settle.Settled.TheVariants as settled
+use Rattle.papaya_tables.specs.Given.SeizeWorld.{World, with_at}
+use Rattle.papaya_tables.specs.Given.SeizeDeclared.progress.Progress.{Progress}
+use Rattle.papaya_tables.specs.Given.SeizeDeclared.progress.Progress.TheVariants as progress
+use Rattle.papaya_tables.specs.Given.SeizeDeclared.rows.settle.Settled.{Settled}
+use Rattle.papaya_tables.specs.Given.SeizeDeclared.rows.settle.Settled.TheVariants as settled
 use Rattle.papaya_tables.specs.declared.node.Node.{Node}
 use Rattle.papaya_tables.specs.declared.setting.Setting.{Setting}
 use Rattle.papaya_played.specs.Given.ResizeDeclared.new_map.NewMap.{NewMap}

@@ -3,14 +3,14 @@ use Rattle.std.specs.Prelude.{◌≢◌, ◌⊎◌, ◌==◌, ◌+◌, Bool, tru
 use Rattle.std.proofs.Common.{◌≡◌, ℕ, List, [], ◌∷◌, ◌++◌, inl, inr, refl, ap, sym, subst, ◌∙◌}
 use Rattle.std.proofs.lemmas.Bool.{cases_eq}
 use Rattle.papaya_played.proofs.Given.SeizeActsAnswers.{same_some}
-use Rattle.papaya_tables.specs.Given.Seize.World.{World, Begins as BeginsSo, Vacant, Outside, Inside, Changing, IsInside, Use, Steps', one_more, with_at}
-use Rattle.papaya_tables.specs.Given.Seize.declared.rows.leave.Leave.{Leave}
-use Rattle.papaya_tables.specs.Given.Seize.declared.rows.leave.Leaving.{Leaving}
-use Rattle.papaya_tables.specs.Given.Seize.declared.rows.leave.Leaving.TheVariants as leaves
-use Rattle.papaya_tables.specs.Given.Seize.declared.rows.register.Register.{Register}
-use Rattle.papaya_tables.specs.Given.Seize.declared.rows.register.Registering.{Registering}
-use Rattle.papaya_tables.specs.Given.Seize.declared.rows.register.Registering.TheVariants as registers
-use Rattle.papaya_tables.specs.Given.Seize.declared.states.TheConstants.{ACTIVE}
+use Rattle.papaya_tables.specs.Given.SeizeWorld.{World, Begins as BeginsSo, Vacant, Outside, Inside, Changing, IsInside, Use, Steps', one_more, with_at}
+use Rattle.papaya_tables.specs.Given.SeizeDeclared.rows.leave.Leave.{Leave}
+use Rattle.papaya_tables.specs.Given.SeizeDeclared.rows.leave.Leaving.{Leaving}
+use Rattle.papaya_tables.specs.Given.SeizeDeclared.rows.leave.Leaving.TheVariants as leaves
+use Rattle.papaya_tables.specs.Given.SeizeDeclared.rows.register.Register.{Register}
+use Rattle.papaya_tables.specs.Given.SeizeDeclared.rows.register.Registering.{Registering}
+use Rattle.papaya_tables.specs.Given.SeizeDeclared.rows.register.Registering.TheVariants as registers
+use Rattle.papaya_tables.specs.Given.SeizeDeclared.states.TheConstants.{ACTIVE}
 use Rattle.papaya_tables.specs.Nodes.{deferred_word}
 use Rattle.papaya_tables.specs.declared.node.Node.{Node}
 use Rattle.papaya_played.specs.Given.CallersRows.{IsUsedAlike}

@@ -4,22 +4,22 @@ use Rattle.std.proofs.Common.{◌≡◌, ℕ, true, false, inl, inr, refl, subst
 use Rattle.papaya_played.specs.Given.SeizeActsAnswers.{Grant, stepped}
 use Rattle.papaya_played.proofs.Given.SeizeActsAnswers.{same_some}
 use Rattle.papaya_played.specs.Given.SeizeWordsMem.{Mem}
-use Rattle.papaya_tables.specs.Given.Seize.Enter.{enter_plan, unregister_plan}
-use Rattle.papaya_tables.specs.Given.Seize.Leave.{leave_plan}
-use Rattle.papaya_tables.specs.Given.Seize.ReclaimAll.{next_batch, next_head, plan_at, reclaim_all_plan, standing, within}
-use Rattle.papaya_tables.specs.Given.Seize.Register.{register_plan}
-use Rattle.papaya_tables.specs.Given.Seize.Settle.{settle_plan}
-use Rattle.papaya_tables.specs.Given.Seize.declared.rows.leave.Leave.{Leave}
-use Rattle.papaya_tables.specs.Given.Seize.declared.rows.leave.Leaving.{Leaving}
-use Rattle.papaya_tables.specs.Given.Seize.declared.rows.leave.Leaving.TheVariants as leaves
-use Rattle.papaya_tables.specs.Given.Seize.declared.rows.reclaim_all.ReclaimAll.{ReclaimAll}
-use Rattle.papaya_tables.specs.Given.Seize.declared.rows.reclaim_all.Reclaiming.{Reclaiming}
-use Rattle.papaya_tables.specs.Given.Seize.declared.rows.reclaim_all.Reclaiming.TheVariants as at
-use Rattle.papaya_tables.specs.Given.Seize.declared.rows.register.Registering.{Registering}
-use Rattle.papaya_tables.specs.Given.Seize.declared.rows.register.Registering.TheVariants as registers
-use Rattle.papaya_tables.specs.Given.Seize.declared.rows.settle.Settle.{Settle}
-use Rattle.papaya_tables.specs.Given.Seize.declared.rows.settle.Settled.{Settled}
-use Rattle.papaya_tables.specs.Given.Seize.declared.states.TheConstants.{ACTIVE}
+use Rattle.papaya_tables.specs.Given.SeizeEnter.{enter_plan, unregister_plan}
+use Rattle.papaya_tables.specs.Given.SeizeLeave.{leave_plan}
+use Rattle.papaya_tables.specs.Given.SeizeReclaimAll.{next_batch, next_head, plan_at, reclaim_all_plan, standing, within}
+use Rattle.papaya_tables.specs.Given.SeizeRegister.{register_plan}
+use Rattle.papaya_tables.specs.Given.SeizeSettle.{settle_plan}
+use Rattle.papaya_tables.specs.Given.SeizeDeclared.rows.leave.Leave.{Leave}
+use Rattle.papaya_tables.specs.Given.SeizeDeclared.rows.leave.Leaving.{Leaving}
+use Rattle.papaya_tables.specs.Given.SeizeDeclared.rows.leave.Leaving.TheVariants as leaves
+use Rattle.papaya_tables.specs.Given.SeizeDeclared.rows.reclaim_all.ReclaimAll.{ReclaimAll}
+use Rattle.papaya_tables.specs.Given.SeizeDeclared.rows.reclaim_all.Reclaiming.{Reclaiming}
+use Rattle.papaya_tables.specs.Given.SeizeDeclared.rows.reclaim_all.Reclaiming.TheVariants as at
+use Rattle.papaya_tables.specs.Given.SeizeDeclared.rows.register.Registering.{Registering}
+use Rattle.papaya_tables.specs.Given.SeizeDeclared.rows.register.Registering.TheVariants as registers
+use Rattle.papaya_tables.specs.Given.SeizeDeclared.rows.settle.Settle.{Settle}
+use Rattle.papaya_tables.specs.Given.SeizeDeclared.rows.settle.Settled.{Settled}
+use Rattle.papaya_tables.specs.Given.SeizeDeclared.states.TheConstants.{ACTIVE}
 use Rattle.papaya_tables.specs.Nodes.{deferred_word, was_left}
 use Rattle.papaya_tables.specs.declared.node.Node.{Node}
 use Rattle.papaya_played.specs.Given.TellerTells.{StepsTold}

@@ -37,9 +37,9 @@ pub use Rattle.papaya_played.specs.Given.EffectsEffects
 pub use Rattle.papaya_played.specs.Given.EffectsKnown
 pub use Rattle.papaya_played.specs.Given.EffectsDeclared
 pub use Rattle.papaya_played.specs.Given.SweepsDeclared
-pub use Rattle.papaya_tables.specs.Given.Seize.ReclaimAll as SeizeReclaimAll
-pub use Rattle.papaya_tables.specs.Given.Seize.World as SeizeWorld
-pub use Rattle.papaya_tables.specs.Given.Seize.declared as SeizeDeclared
+pub use Rattle.papaya_tables.specs.Given.SeizeReclaimAll as SeizeReclaimAll
+pub use Rattle.papaya_tables.specs.Given.SeizeWorld as SeizeWorld
+pub use Rattle.papaya_tables.specs.Given.SeizeDeclared as SeizeDeclared
 pub use Rattle.papaya_played.specs.Given.FinishesEndings
 pub use Rattle.papaya_played.specs.Given.FinishesFactsEnds
 pub use Rattle.papaya_played.specs.Given.FinishesMachines

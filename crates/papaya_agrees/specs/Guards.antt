@@ -1,9 +1,9 @@
 -- The guards of a history are the slots within sections: each by its slot's name.
 use Rattle.std.specs.Prelude.{◌≡◌, ◌⊎◌, ℕ, false, List, Option, Some, None}
 use Rattle.std.specs.List.{AllByRecursion}
-use Rattle.papaya_tables.specs.Given.Seize.World.{IsInside, Use}
-use Rattle.papaya_tables.specs.Given.Seize.declared.rows.leave.Leave.{Leave}
-use Rattle.papaya_tables.specs.Given.Seize.declared.rows.leave.Leaving.TheVariants as leaves
+use Rattle.papaya_tables.specs.Given.SeizeWorld.{IsInside, Use}
+use Rattle.papaya_tables.specs.Given.SeizeDeclared.rows.leave.Leave.{Leave}
+use Rattle.papaya_tables.specs.Given.SeizeDeclared.rows.leave.Leaving.TheVariants as leaves
 use Rattle.papaya_played.specs.Given.ScenesScene.{slot_of}
 use Rattle.papaya_played.specs.Given.ScenesDeclared.row.SlotRow.{SlotRow}
 use Rattle.papaya_played.specs.Given.ScenesDeclared.row.SlotRow.TheVariants as rows

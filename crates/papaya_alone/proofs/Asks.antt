@@ -1,21 +1,21 @@
 -- What a step comes to of a call that asks, or goes by what it was told: what is so of each such outcome is so of it.
 use Rattle.std.specs.Prelude.{◌==◌, Ok, Err}
 use Rattle.std.proofs.Common.{◌≡◌, ℕ, Bool, true, false, Option, Some, None, refl}
-use Rattle.papaya_callers.specs.Given.SeizeWords.Op.{Out, Found, Stored, Exchanged, Made, Taken, Roomed}
-use Rattle.papaya_callers.specs.Given.SeizeWords.declared.fault.Fault.TheVariants.{Memory}
-use Rattle.papaya_callers.specs.Given.Raw.CallFills.{filled, putting_by, fill_by, emptied, fills_with, given_up, asks_at as plan_of}
-use Rattle.papaya_callers.specs.Given.Raw.CallPoints.{standing, going}
-use Rattle.papaya_callers.specs.Given.Raw.Replies.{value_for, as_own}
-use Rattle.papaya_callers.specs.Given.Raw.declared.machines.answer.Called.{Called}
-use Rattle.papaya_callers.specs.Given.Raw.declared.machines.answer.Called.TheVariants.{Goes, Unstored, Asks}
-use Rattle.papaya_callers.specs.Given.Raw.declared.machines.answer.End.TheVariants as ends
-use Rattle.papaya_callers.specs.Given.Raw.declared.machines.asking.Asking.{Asking}
-use Rattle.papaya_callers.specs.Given.Raw.declared.machines.asking.Asking.TheVariants as asking
-use Rattle.papaya_callers.specs.Given.Raw.declared.machines.call.KeyCall.{KeyCall}
-use Rattle.papaya_callers.specs.Given.Raw.declared.machines.call.Calling.TheVariants as at
-use Rattle.papaya_callers.proofs.Given.Rule.Keys.Always.{Always, AlwaysOf}
-use Rattle.papaya_callers.specs.Given.Tables.declared.node.Node.{Node}
-use Rattle.papaya_callers.specs.Given.Tables.declared.node.Node.TheVariants as nodes
+use Rattle.papaya_callers.specs.Given.SeizeWordsOp.{Out, Found, Stored, Exchanged, Made, Taken, Roomed}
+use Rattle.papaya_callers.specs.Given.SeizeWordsDeclared.fault.Fault.TheVariants.{Memory}
+use Rattle.papaya_callers.specs.Given.RawCallFills.{filled, putting_by, fill_by, emptied, fills_with, given_up, asks_at as plan_of}
+use Rattle.papaya_callers.specs.Given.RawCallPoints.{standing, going}
+use Rattle.papaya_callers.specs.Given.RawReplies.{value_for, as_own}
+use Rattle.papaya_callers.specs.Given.RawDeclared.machines.answer.Called.{Called}
+use Rattle.papaya_callers.specs.Given.RawDeclared.machines.answer.Called.TheVariants.{Goes, Unstored, Asks}
+use Rattle.papaya_callers.specs.Given.RawDeclared.machines.answer.End.TheVariants as ends
+use Rattle.papaya_callers.specs.Given.RawDeclared.machines.asking.Asking.{Asking}
+use Rattle.papaya_callers.specs.Given.RawDeclared.machines.asking.Asking.TheVariants as asking
+use Rattle.papaya_callers.specs.Given.RawDeclared.machines.call.KeyCall.{KeyCall}
+use Rattle.papaya_callers.specs.Given.RawDeclared.machines.call.Calling.TheVariants as at
+use Rattle.papaya_callers.proofs.Given.RuleKeys.Always.{Always, AlwaysOf}
+use Rattle.papaya_callers.specs.Given.TablesDeclared.node.Node.{Node}
+use Rattle.papaya_callers.specs.Given.TablesDeclared.node.Node.TheVariants as nodes
 
 module _ {K V Q : Type 0} (So : KeyCall K V Q × Called (Node K V) → Type 0) (p : KeyCall K V Q)
     (still : (q : KeyCall K V Q) → q.stands ≡ p.stands → So (q, Goes)) (tries : (q : KeyCall K V Q) (word new : ℕ) → So (going q (at.Tries word new)))

@@ -1,9 +1,9 @@
 -- What a call counts, and which tables were linked since it began, on cases worked by hand.
 use Rattle.std.specs.Prelude.{◌-◌, ◌^◌}
 use Rattle.std.proofs.Common.{◌≡◌, ◌<◌, true, refl, arith}
-use Rattle.papaya_callers.specs.Given.Raw.declared.machines.answer.KeyAnswer.TheVariants.{Stored as StoredWord, Replaced as ReplacedWord, Removed as RemovedWord}
-use Rattle.papaya_callers.specs.Given.Rule.Chart.{Chart}
-use Rattle.papaya_callers.specs.Given.Rule.Words.{Blocks}
+use Rattle.papaya_callers.specs.Given.RawDeclared.machines.answer.KeyAnswer.TheVariants.{Stored as StoredWord, Replaced as ReplacedWord, Removed as RemovedWord}
+use Rattle.papaya_callers.specs.Given.RuleChart.{Chart}
+use Rattle.papaya_callers.specs.Given.RuleWords.{Blocks}
 use Rattle.papaya_alone.specs.Counted.{counted_for}
 use Rattle.papaya_alone.specs.Values.{IsLinkedSince}
 

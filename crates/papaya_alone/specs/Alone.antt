@@ -1,20 +1,20 @@
 -- What a call has changed since it began, and where no call of a map is under way, over a memory that has one owner, who is caller 0.
 use Rattle.std.specs.Prelude.{◌≡◌, ℕ, ◌+◌, ◌<◌, Bool, true, cond}
-use Rattle.papaya_callers.specs.Given.SeizeWords.Mem.{Mem}
-use Rattle.papaya_callers.specs.Given.Seize.Law.{reachable}
-use Rattle.papaya_callers.specs.Given.SeizeAlone.Alone.{History, IsHistory, at_rest}
-use Rattle.papaya_callers.specs.Given.Tables.Nodes.{deferred_word}
-use Rattle.papaya_callers.specs.Given.Tables.Chunks.{is_incremental}
-use Rattle.papaya_callers.specs.Given.Tables.declared.node.Node.{Node}
-use Rattle.papaya_callers.specs.Given.Tables.declared.setting.Setting.{Setting}
-use Rattle.papaya_callers.specs.Given.Rule.Chart.{Chart}
-use Rattle.papaya_callers.specs.Given.Rule.Lasts.{Lasts}
-use Rattle.papaya_callers.specs.Given.Rule.Words.{Blocks}
-use Rattle.papaya_callers.specs.Given.Rule.Maps.{spot_of}
-use Rattle.papaya_callers.specs.Given.Rule.InWorld.{IsMapIn}
-use Rattle.papaya_callers.specs.Given.Points.FactsCopies.{HasDone, ClaimsNone}
-use Rattle.papaya_callers.specs.Given.Points.FactsCopiesBlocking.{HasNoShares}
-use Rattle.papaya_callers.specs.Given.Points.FactsCalls.{Change, Unchanged, Stored, Replaced, Removed, Changes}
+use Rattle.papaya_callers.specs.Given.SeizeWordsMem.{Mem}
+use Rattle.papaya_callers.specs.Given.SeizeLaw.{reachable}
+use Rattle.papaya_callers.specs.Given.SeizeAloneAlone.{History, IsHistory, at_rest}
+use Rattle.papaya_callers.specs.Given.TablesNodes.{deferred_word}
+use Rattle.papaya_callers.specs.Given.TablesChunks.{is_incremental}
+use Rattle.papaya_callers.specs.Given.TablesDeclared.node.Node.{Node}
+use Rattle.papaya_callers.specs.Given.TablesDeclared.setting.Setting.{Setting}
+use Rattle.papaya_callers.specs.Given.RuleChart.{Chart}
+use Rattle.papaya_callers.specs.Given.RuleLasts.{Lasts}
+use Rattle.papaya_callers.specs.Given.RuleWords.{Blocks}
+use Rattle.papaya_callers.specs.Given.RuleMaps.{spot_of}
+use Rattle.papaya_callers.specs.Given.RuleInWorld.{IsMapIn}
+use Rattle.papaya_callers.specs.Given.PointsFactsCopies.{HasDone, ClaimsNone}
+use Rattle.papaya_callers.specs.Given.PointsFactsCopiesBlocking.{HasNoShares}
+use Rattle.papaya_callers.specs.Given.PointsFactsCalls.{Change, Unchanged, Stored, Replaced, Removed, Changes}
 use Rattle.papaya_callers.specs.Kept.{IsMaking}
 
 -- so many pairs it has stored

@@ -1,13 +1,13 @@
 -- What calls count in the shards of a map's counter.
 use Rattle.std.specs.Prelude.{◌≡◌, ℕ, suc, ◌+◌, ◌-◌, ◌%◌, ◌^◌}
-use Rattle.papaya_callers.specs.Given.SeizeWords.Mem.{Mem}
-use Rattle.papaya_callers.specs.Given.Tables.declared.setting.Setting.{Setting}
-use Rattle.papaya_callers.specs.Given.Raw.declared.machines.answer.KeyAnswer.{KeyAnswer}
-use Rattle.papaya_callers.specs.Given.Raw.declared.machines.answer.KeyAnswer.TheVariants as answers
-use Rattle.papaya_callers.specs.Given.Raw.declared.machines.answer.End.{End}
-use Rattle.papaya_callers.specs.Given.Raw.declared.machines.answer.End.TheVariants as ends
-use Rattle.papaya_callers.specs.Given.Raw.declared.machines.call.Calling.{Calling}
-use Rattle.papaya_callers.specs.Given.Raw.declared.machines.call.Calling.TheVariants as at
+use Rattle.papaya_callers.specs.Given.SeizeWordsMem.{Mem}
+use Rattle.papaya_callers.specs.Given.TablesDeclared.setting.Setting.{Setting}
+use Rattle.papaya_callers.specs.Given.RawDeclared.machines.answer.KeyAnswer.{KeyAnswer}
+use Rattle.papaya_callers.specs.Given.RawDeclared.machines.answer.KeyAnswer.TheVariants as answers
+use Rattle.papaya_callers.specs.Given.RawDeclared.machines.answer.End.{End}
+use Rattle.papaya_callers.specs.Given.RawDeclared.machines.answer.End.TheVariants as ends
+use Rattle.papaya_callers.specs.Given.RawDeclared.machines.call.Calling.{Calling}
+use Rattle.papaya_callers.specs.Given.RawDeclared.machines.call.Calling.TheVariants as at
 use Rattle.papaya_alone.specs.Counting.{shards_sum}
 
 -- added up, the shards say so much more than they did

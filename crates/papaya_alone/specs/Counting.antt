@@ -1,13 +1,13 @@
 -- How many pairs a map has, and what the shards of its counter say.
 use Rattle.std.specs.Prelude.{◌≡◌, ℕ, suc, ◌+◌, ◌-◌, ◌%◌, ◌^◌, Bool, cond, Option, Some, None}
-use Rattle.papaya_callers.specs.Given.SeizeWords.declared.at.At.TheVariants.{Word}
-use Rattle.papaya_callers.specs.Given.SeizeWords.Mem.{Mem, word_at}
-use Rattle.papaya_callers.specs.Given.Tables.Counts.{count_in}
-use Rattle.papaya_callers.specs.Given.Resize.declared.sum.Summing.{Summing}
-use Rattle.papaya_callers.specs.Given.Resize.declared.sum.Summing.TheVariants as sums
-use Rattle.papaya_callers.specs.Given.Tables.declared.setting.Setting.{Setting}
-use Rattle.papaya_callers.specs.Given.Rule.Chart.{Chart}
-use Rattle.papaya_callers.specs.Given.Rule.Rule.{total}
+use Rattle.papaya_callers.specs.Given.SeizeWordsDeclared.at.At.TheVariants.{Word}
+use Rattle.papaya_callers.specs.Given.SeizeWordsMem.{Mem, word_at}
+use Rattle.papaya_callers.specs.Given.TablesCounts.{count_in}
+use Rattle.papaya_callers.specs.Given.ResizeDeclared.sum.Summing.{Summing}
+use Rattle.papaya_callers.specs.Given.ResizeDeclared.sum.Summing.TheVariants as sums
+use Rattle.papaya_callers.specs.Given.TablesDeclared.setting.Setting.{Setting}
+use Rattle.papaya_callers.specs.Given.RuleChart.{Chart}
+use Rattle.papaya_callers.specs.Given.RuleRule.{total}
 
 -- one for a pair that is in the map, for sums
 abbrev pub one_if : Bool → ℕ

@@ -1,6 +1,6 @@
 -- Steps that come to an end.
 use Rattle.std.specs.Prelude.{◌≡◌, ℕ, List, length}
-use Rattle.papaya_callers.specs.Given.Points.Measures.{IsBelow}
+use Rattle.papaya_callers.specs.Given.PointsMeasures.{IsBelow}
 
 -- each run of steps from here on comes to an end
 pub data RunsEnd (X : Type 0) (step : X → X → Type 0) : X → Type 0 where

@@ -1,15 +1,15 @@
 -- What is known of a map where one caller alone has a part in its copying: at each point of a call, and where no call is under way.
 use Rattle.std.specs.Prelude.{◌≡◌, ℕ, Bool, true, false}
-use Rattle.papaya_callers.specs.Given.Raw.declared.machines.answer.Called.{Called}
-use Rattle.papaya_callers.specs.Given.Raw.declared.machines.answer.Called.TheVariants as called
-use Rattle.papaya_callers.specs.Given.Raw.declared.machines.answer.End.{End}
-use Rattle.papaya_callers.specs.Given.Raw.declared.machines.asking.Asking.{Asking}
-use Rattle.papaya_callers.specs.Given.Raw.declared.machines.call.KeyCall.{KeyCall}
-use Rattle.papaya_callers.specs.Given.Raw.declared.machines.call.Calling.{Calling}
-use Rattle.papaya_callers.specs.Given.Raw.declared.machines.call.Calling.TheVariants as at
-use Rattle.papaya_callers.specs.Given.Rule.Chart.{Chart}
-use Rattle.papaya_callers.specs.Given.Points.Measures.{OthersIdle}
-use Rattle.papaya_callers.specs.Given.Points.FactsAloneBlocking.{AllAborted, AllUncounted, AloneBlocking}
+use Rattle.papaya_callers.specs.Given.RawDeclared.machines.answer.Called.{Called}
+use Rattle.papaya_callers.specs.Given.RawDeclared.machines.answer.Called.TheVariants as called
+use Rattle.papaya_callers.specs.Given.RawDeclared.machines.answer.End.{End}
+use Rattle.papaya_callers.specs.Given.RawDeclared.machines.asking.Asking.{Asking}
+use Rattle.papaya_callers.specs.Given.RawDeclared.machines.call.KeyCall.{KeyCall}
+use Rattle.papaya_callers.specs.Given.RawDeclared.machines.call.Calling.{Calling}
+use Rattle.papaya_callers.specs.Given.RawDeclared.machines.call.Calling.TheVariants as at
+use Rattle.papaya_callers.specs.Given.RuleChart.{Chart}
+use Rattle.papaya_callers.specs.Given.PointsMeasures.{OthersIdle}
+use Rattle.papaya_callers.specs.Given.PointsFactsAloneBlocking.{AllAborted, AllUncounted, AloneBlocking}
 use Rattle.papaya_alone.specs.FactsAlone.{AllAnnounced, IsUncounted, AloneAt}
 
 module _ {K : Type 0} where

@@ -1,11 +1,11 @@
 -- The word of the pair that a call has taken out of the map, and whether it has unlinked a table.
 use Rattle.std.specs.Prelude.{ℕ, Bool, false}
-use Rattle.papaya_callers.specs.Given.Raw.declared.machines.answer.KeyAnswer.{KeyAnswer}
-use Rattle.papaya_callers.specs.Given.Raw.declared.machines.answer.KeyAnswer.TheVariants as answers
-use Rattle.papaya_callers.specs.Given.Raw.declared.machines.call.Calling.{Calling}
-use Rattle.papaya_callers.specs.Given.Raw.declared.machines.call.Calling.TheVariants as at
-use Rattle.papaya_callers.specs.Given.Points.Unlinked.{has_unlinked}
-use Rattle.papaya_callers.specs.Given.Points.FactsCalls.{Replaced, Removed}
+use Rattle.papaya_callers.specs.Given.RawDeclared.machines.answer.KeyAnswer.{KeyAnswer}
+use Rattle.papaya_callers.specs.Given.RawDeclared.machines.answer.KeyAnswer.TheVariants as answers
+use Rattle.papaya_callers.specs.Given.RawDeclared.machines.call.Calling.{Calling}
+use Rattle.papaya_callers.specs.Given.RawDeclared.machines.call.Calling.TheVariants as at
+use Rattle.papaya_callers.specs.Given.PointsUnlinked.{has_unlinked}
+use Rattle.papaya_callers.specs.Given.PointsFactsCalls.{Replaced, Removed}
 
 -- the word of the pair that an answer tells as taken out
 abbrev pub word_out : KeyAnswer → ℕ

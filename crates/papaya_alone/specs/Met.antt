@@ -1,29 +1,29 @@
 -- How many pairs the tries of a hash meet at a table: no more than the map has, where that table is the last.
 use Rattle.std.specs.Prelude.{◌≡◌, ◌≢◌, ℕ, suc, ◌<◌, ◌≤◌, ◌==◌, Bool, true, false, not, Option, Some, None, IfSome}
-use Rattle.papaya_callers.specs.Given.SeizeWords.Mem.{Mem, Took, value_at, word_at}
-use Rattle.papaya_callers.specs.Given.SeizeWords.Plan.{Steps}
-use Rattle.papaya_callers.specs.Given.SeizeWords.Word.{block_in}
-use Rattle.papaya_callers.specs.Given.Tables.Chunks.{is_incremental}
-use Rattle.papaya_callers.specs.Given.Tables.Lengths.{next_len, IsTableLen}
-use Rattle.papaya_callers.specs.Given.Tables.TablePlaces.{at_place}
-use Rattle.papaya_callers.specs.Given.Tables.Trials.{first_trial, with_met, next_trial}
-use Rattle.papaya_callers.specs.Given.Tables.declared.lengths.Reason.TheVariants.{Full}
-use Rattle.papaya_callers.specs.Given.Tables.declared.node.Node.{Node}
-use Rattle.papaya_callers.specs.Given.Tables.declared.resize_mode.ResizeMode.{ResizeMode}
-use Rattle.papaya_callers.specs.Given.Tables.declared.table.Table.{Table}
-use Rattle.papaya_callers.specs.Given.Tables.declared.trial.Trial.{Trial}
-use Rattle.papaya_callers.specs.Given.Resize.declared.new_table.Making.{Making}
-use Rattle.papaya_callers.specs.Given.Resize.declared.new_table.Making.TheVariants as makes
-use Rattle.papaya_callers.specs.Given.Raw.Call.{call_plan}
-use Rattle.papaya_callers.specs.Given.Raw.declared.machines.answer.Called.{Called}
-use Rattle.papaya_callers.specs.Given.Raw.declared.machines.asking.Asking.{Asking}
-use Rattle.papaya_callers.specs.Given.Raw.declared.machines.call.KeyCall.{KeyCall}
-use Rattle.papaya_callers.specs.Given.Raw.declared.machines.call.Calling.{Calling}
-use Rattle.papaya_callers.specs.Given.Raw.declared.machines.call.Calling.TheVariants as at
-use Rattle.papaya_callers.specs.Given.Rule.Chart.{Place, Holds, Chart}
-use Rattle.papaya_callers.specs.Given.Rule.Rule.{IsLawful, Rule, total}
-use Rattle.papaya_callers.specs.Given.Rule.Words.{Blocks, place_word}
-use Rattle.papaya_callers.specs.Given.Rule.Maps.{spot_at, spot_of, IsMap, IsTable, IsTrial}
+use Rattle.papaya_callers.specs.Given.SeizeWordsMem.{Mem, Took, value_at, word_at}
+use Rattle.papaya_callers.specs.Given.SeizeWordsPlan.{Steps}
+use Rattle.papaya_callers.specs.Given.SeizeWordsWord.{block_in}
+use Rattle.papaya_callers.specs.Given.TablesChunks.{is_incremental}
+use Rattle.papaya_callers.specs.Given.TablesLengths.{next_len, IsTableLen}
+use Rattle.papaya_callers.specs.Given.TablesTablePlaces.{at_place}
+use Rattle.papaya_callers.specs.Given.TablesTrials.{first_trial, with_met, next_trial}
+use Rattle.papaya_callers.specs.Given.TablesDeclared.lengths.Reason.TheVariants.{Full}
+use Rattle.papaya_callers.specs.Given.TablesDeclared.node.Node.{Node}
+use Rattle.papaya_callers.specs.Given.TablesDeclared.resize_mode.ResizeMode.{ResizeMode}
+use Rattle.papaya_callers.specs.Given.TablesDeclared.table.Table.{Table}
+use Rattle.papaya_callers.specs.Given.TablesDeclared.trial.Trial.{Trial}
+use Rattle.papaya_callers.specs.Given.ResizeDeclared.new_table.Making.{Making}
+use Rattle.papaya_callers.specs.Given.ResizeDeclared.new_table.Making.TheVariants as makes
+use Rattle.papaya_callers.specs.Given.RawCall.{call_plan}
+use Rattle.papaya_callers.specs.Given.RawDeclared.machines.answer.Called.{Called}
+use Rattle.papaya_callers.specs.Given.RawDeclared.machines.asking.Asking.{Asking}
+use Rattle.papaya_callers.specs.Given.RawDeclared.machines.call.KeyCall.{KeyCall}
+use Rattle.papaya_callers.specs.Given.RawDeclared.machines.call.Calling.{Calling}
+use Rattle.papaya_callers.specs.Given.RawDeclared.machines.call.Calling.TheVariants as at
+use Rattle.papaya_callers.specs.Given.RuleChart.{Place, Holds, Chart}
+use Rattle.papaya_callers.specs.Given.RuleRule.{IsLawful, Rule, total}
+use Rattle.papaya_callers.specs.Given.RuleWords.{Blocks, place_word}
+use Rattle.papaya_callers.specs.Given.RuleMaps.{spot_at, spot_of, IsMap, IsTable, IsTrial}
 use Rattle.papaya_alone.specs.Counting.{one_if, pairs_in}
 
 -- a pair stands at a place

@@ -1,12 +1,12 @@
 -- Which blocks are in the memory during what runs alone, and with what values: those that were there when it began, the tables that were
 -- linked since, and what was made and not linked.
 use Rattle.std.specs.Prelude.{◌≡◌, ℕ, ◌<◌, ◌≤◌, true, Some, None, ◌⊎◌}
-use Rattle.papaya_callers.specs.Given.SeizeWords.Mem.{Mem, value_at}
-use Rattle.papaya_callers.specs.Given.Resize.declared.new_map.Opening.{Opening}
-use Rattle.papaya_callers.specs.Given.Resize.declared.new_map.Opening.TheVariants as opens
-use Rattle.papaya_callers.specs.Given.Rule.Chart.{Chart}
-use Rattle.papaya_callers.specs.Given.Rule.Words.{Blocks}
-use Rattle.papaya_callers.specs.Given.Points.Made.{IsMadeBy}
+use Rattle.papaya_callers.specs.Given.SeizeWordsMem.{Mem, value_at}
+use Rattle.papaya_callers.specs.Given.ResizeDeclared.new_map.Opening.{Opening}
+use Rattle.papaya_callers.specs.Given.ResizeDeclared.new_map.Opening.TheVariants as opens
+use Rattle.papaya_callers.specs.Given.RuleChart.{Chart}
+use Rattle.papaya_callers.specs.Given.RuleWords.{Blocks}
+use Rattle.papaya_callers.specs.Given.PointsMade.{IsMadeBy}
 
 -- The memory was so, and is so.
 module _ {T : Type 0} (m0 m : Mem T) where

@@ -1,18 +1,18 @@
 -- With a root that leads nowhere, and a counter, a map without a table is there.
 use Rattle.std.specs.Prelude.{◌≡◌, ℕ, ◌≤◌, Bool, Some}
 use Rattle.std.proofs.Common.{arith}
-use Rattle.papaya_late.specs.Given.SeizeWords.declared.at.At.TheVariants.{Root, Word}
-use Rattle.papaya_late.specs.Given.SeizeWords.Mem.{value_at, word_at}
-use Rattle.papaya_late.specs.Given.Seize.World.{World}
-use Rattle.papaya_late.specs.Given.Tables.Chunks.{is_incremental}
-use Rattle.papaya_late.specs.Given.Tables.declared.node.Node.{Node}
-use Rattle.papaya_late.specs.Given.Tables.declared.node.Node.TheVariants as node
-use Rattle.papaya_late.specs.Given.Tables.declared.setting.Setting.{Setting}
-use Rattle.papaya_late.specs.Given.Rule.Rule.{no_table}
-use Rattle.papaya_late.specs.Given.Rule.Maps.{spot_of}
-use Rattle.papaya_late.specs.Given.Rule.InWorld.{IsMapIn}
+use Rattle.papaya_late.specs.Given.SeizeWordsDeclared.at.At.TheVariants.{Root, Word}
+use Rattle.papaya_late.specs.Given.SeizeWordsMem.{value_at, word_at}
+use Rattle.papaya_late.specs.Given.SeizeWorld.{World}
+use Rattle.papaya_late.specs.Given.TablesChunks.{is_incremental}
+use Rattle.papaya_late.specs.Given.TablesDeclared.node.Node.{Node}
+use Rattle.papaya_late.specs.Given.TablesDeclared.node.Node.TheVariants as node
+use Rattle.papaya_late.specs.Given.TablesDeclared.setting.Setting.{Setting}
+use Rattle.papaya_late.specs.Given.RuleRule.{no_table}
+use Rattle.papaya_late.specs.Given.RuleMaps.{spot_of}
+use Rattle.papaya_late.specs.Given.RuleInWorld.{IsMapIn}
 use Rattle.papaya_callers.specs.Together.{no_blocks}
-use Rattle.papaya_late.proofs.Given.Rule.Moves.RuleBegins.{rule_begins}
+use Rattle.papaya_late.proofs.Given.RuleMoves.RuleBegins.{rule_begins}
 
 module _ {K V : Type 0} (same : K → K → Bool) (hash : K → ℕ) where
   pub map_begins : (setting : Setting) (w : World (Node K V)) → word_at w.memory (Root setting.root) ≡ Some 0 → value_at w.memory setting.counter ≡ Some node.Shards

@@ -1,13 +1,13 @@
 -- Which blocks of a map no row of the collector takes: its users have them, or they can be reached.
 use Rattle.std.specs.Prelude.{◌≡◌, ℕ, suc, ◌<◌, ◌≤◌, true, Some, ◌⊎◌}
-use Rattle.papaya_late.specs.Given.SeizeWords.Mem.{value_at}
-use Rattle.papaya_late.specs.Given.Seize.Law.{With, where_is, holds, reachable, owner_of}
-use Rattle.papaya_late.specs.Given.Seize.World.{World, Hand, NoBlock, Making, InUse, Cutting, Handed, LeftTo, IsInside, Parting}
-use Rattle.papaya_late.specs.Given.Tables.declared.node.Node.{Node}
-use Rattle.papaya_late.specs.Given.Tables.declared.node.Node.TheVariants as node
-use Rattle.papaya_late.specs.Given.Tables.declared.setting.Setting.{Setting}
-use Rattle.papaya_late.specs.Given.Rule.Chart.{Chart}
-use Rattle.papaya_late.specs.Given.Rule.Words.{Blocks}
+use Rattle.papaya_late.specs.Given.SeizeWordsMem.{value_at}
+use Rattle.papaya_late.specs.Given.SeizeLaw.{With, where_is, holds, reachable, owner_of}
+use Rattle.papaya_late.specs.Given.SeizeWorld.{World, Hand, NoBlock, Making, InUse, Cutting, Handed, LeftTo, IsInside, Parting}
+use Rattle.papaya_late.specs.Given.TablesDeclared.node.Node.{Node}
+use Rattle.papaya_late.specs.Given.TablesDeclared.node.Node.TheVariants as node
+use Rattle.papaya_late.specs.Given.TablesDeclared.setting.Setting.{Setting}
+use Rattle.papaya_late.specs.Given.RuleChart.{Chart}
+use Rattle.papaya_late.specs.Given.RuleWords.{Blocks}
 
 -- a user has the block: it is made and not linked, in use, unlinked and not yet handed to the collector, or left over from what has ended
 abbrev pub IsUsersOwn : Hand → Type 0

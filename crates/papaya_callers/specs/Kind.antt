@@ -1,10 +1,10 @@
 -- Which kind of call one is: what it does where its key is in the map, and where it is not, and which replies it takes.
-use Rattle.papaya_late.specs.Given.Raw.declared.machines.answer.Missing.{Missing}
-use Rattle.papaya_late.specs.Given.Raw.declared.machines.answer.Missing.TheVariants as missing
-use Rattle.papaya_late.specs.Given.Raw.declared.machines.answer.There.{There}
-use Rattle.papaya_late.specs.Given.Raw.declared.machines.answer.There.TheVariants as there
-use Rattle.papaya_late.specs.Given.Raw.declared.machines.asking.Takes.{Takes}
-use Rattle.papaya_late.specs.Given.Raw.declared.machines.asking.Takes.TheVariants as replies
+use Rattle.papaya_late.specs.Given.RawDeclared.machines.answer.Missing.{Missing}
+use Rattle.papaya_late.specs.Given.RawDeclared.machines.answer.Missing.TheVariants as missing
+use Rattle.papaya_late.specs.Given.RawDeclared.machines.answer.There.{There}
+use Rattle.papaya_late.specs.Given.RawDeclared.machines.answer.There.TheVariants as there
+use Rattle.papaya_late.specs.Given.RawDeclared.machines.asking.Takes.{Takes}
+use Rattle.papaya_late.specs.Given.RawDeclared.machines.asking.Takes.TheVariants as replies
 
 pub record Kind : Type 0 where
   pub present : There

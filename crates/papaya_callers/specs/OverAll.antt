@@ -1,18 +1,18 @@
 -- A walk, a clearing or a retaining that is under way among the callers of a map: what it has come to, the rows of the collector within it, and where it
 -- is to claim places.
 use Rattle.std.specs.Prelude.{◌≡◌, ◌⊎◌, ℕ, Bool, true, false, List, [], ◌∷◌, Option, None, Some, cond}
-use Rattle.papaya_late.specs.Given.Seize.World.{Row, Rests}
-use Rattle.papaya_late.specs.Given.Tables.declared.setting.Setting.{Setting}
-use Rattle.papaya_late.specs.Given.Resize.declared.copier.Copying.TheVariants as copies
-use Rattle.papaya_late.specs.Given.Resize.declared.dispose.Disposing.TheVariants as disposes
-use Rattle.papaya_late.specs.Given.Sweeps.SweepPoints.{standing, sweeping, after_reply}
-use Rattle.papaya_late.specs.Given.Sweeps.declared.sweep.Purpose.{Purpose}
-use Rattle.papaya_late.specs.Given.Sweeps.declared.sweep.Purpose.TheVariants.{Clears, Retains}
-use Rattle.papaya_late.specs.Given.Sweeps.declared.sweep.Sweep.{Sweep}
-use Rattle.papaya_late.specs.Given.Sweeps.declared.sweep.Sweeping.{Sweeping}
-use Rattle.papaya_late.specs.Given.Sweeps.declared.sweep.Sweeping.TheVariants as at
-use Rattle.papaya_late.specs.Given.Rule.Chart.{Chart, put}
-use Rattle.papaya_late.specs.Given.Rule.Words.{Blocks}
+use Rattle.papaya_late.specs.Given.SeizeWorld.{Row, Rests}
+use Rattle.papaya_late.specs.Given.TablesDeclared.setting.Setting.{Setting}
+use Rattle.papaya_late.specs.Given.ResizeDeclared.copier.Copying.TheVariants as copies
+use Rattle.papaya_late.specs.Given.ResizeDeclared.dispose.Disposing.TheVariants as disposes
+use Rattle.papaya_late.specs.Given.SweepsSweepPoints.{standing, sweeping, after_reply}
+use Rattle.papaya_late.specs.Given.SweepsDeclared.sweep.Purpose.{Purpose}
+use Rattle.papaya_late.specs.Given.SweepsDeclared.sweep.Purpose.TheVariants.{Clears, Retains}
+use Rattle.papaya_late.specs.Given.SweepsDeclared.sweep.Sweep.{Sweep}
+use Rattle.papaya_late.specs.Given.SweepsDeclared.sweep.Sweeping.{Sweeping}
+use Rattle.papaya_late.specs.Given.SweepsDeclared.sweep.Sweeping.TheVariants as at
+use Rattle.papaya_late.specs.Given.RuleChart.{Chart, put}
+use Rattle.papaya_late.specs.Given.RuleWords.{Blocks}
 use Rattle.papaya_late.specs.Covers.{NamesPair}
 use Rattle.papaya_callers.specs.Rows.{row_of_copier, row_of_disposal, past_copying}
 

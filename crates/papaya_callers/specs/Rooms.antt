@@ -1,11 +1,11 @@
 -- A reservation that is under way among the callers of a map: the rows of the collector within it, and where it is to claim places.
 use Rattle.std.specs.Prelude.{◌≡◌, ℕ}
-use Rattle.papaya_late.specs.Given.Seize.World.{Row, Rests}
-use Rattle.papaya_late.specs.Given.Resize.declared.copier.Copying.TheVariants as copies
-use Rattle.papaya_late.specs.Given.Reserves.Reserve.{standing}
-use Rattle.papaya_late.specs.Given.Reserves.declared.reserve.Reserve.{Reserve}
-use Rattle.papaya_late.specs.Given.Reserves.declared.reserve.Reserving.{Reserving}
-use Rattle.papaya_late.specs.Given.Reserves.declared.reserve.Reserving.TheVariants as at
+use Rattle.papaya_late.specs.Given.SeizeWorld.{Row, Rests}
+use Rattle.papaya_late.specs.Given.ResizeDeclared.copier.Copying.TheVariants as copies
+use Rattle.papaya_late.specs.Given.ReservesReserve.{standing}
+use Rattle.papaya_late.specs.Given.ReservesDeclared.reserve.Reserve.{Reserve}
+use Rattle.papaya_late.specs.Given.ReservesDeclared.reserve.Reserving.{Reserving}
+use Rattle.papaya_late.specs.Given.ReservesDeclared.reserve.Reserving.TheVariants as at
 use Rattle.papaya_callers.specs.Rows.{row_of_copier, past_copying}
 
 -- a reservation that is under way, and the moment of the map at which it began

@@ -1,15 +1,15 @@
 -- The rows of the collector within a call on one key: it retires or defers a pair that it has taken out, or retires a table.
-use Rattle.papaya_late.specs.Given.Resize.CopierPromotes.{table_retired}
-use Rattle.papaya_late.specs.Given.Resize.declared.copier.Copier.{Copier}
+use Rattle.papaya_late.specs.Given.ResizeCopierPromotes.{table_retired}
+use Rattle.papaya_late.specs.Given.ResizeDeclared.copier.Copier.{Copier}
 use Rattle.std.specs.Prelude.{◌≡◌, ℕ}
-use Rattle.papaya_late.specs.Given.Seize.World.{World, Row, Rests, Registers, Enters, Settles, Leaves, Defers, Frees, Use, Vacant, Outside, Inside, Changing}
-use Rattle.papaya_late.specs.Given.Raw.declared.machines.call.KeyCall.{KeyCall}
-use Rattle.papaya_late.specs.Given.Raw.declared.machines.call.Calling.{Calling}
-use Rattle.papaya_late.specs.Given.Raw.declared.machines.call.Calling.TheVariants as at
-use Rattle.papaya_late.specs.Given.Resize.declared.copier.Copying.{Copying}
-use Rattle.papaya_late.specs.Given.Resize.declared.copier.Copying.TheVariants as copies
-use Rattle.papaya_late.specs.Given.Resize.declared.dispose.Disposing.{Disposing}
-use Rattle.papaya_late.specs.Given.Resize.declared.dispose.Disposing.TheVariants as disposes
+use Rattle.papaya_late.specs.Given.SeizeWorld.{World, Row, Rests, Registers, Enters, Settles, Leaves, Defers, Frees, Use, Vacant, Outside, Inside, Changing}
+use Rattle.papaya_late.specs.Given.RawDeclared.machines.call.KeyCall.{KeyCall}
+use Rattle.papaya_late.specs.Given.RawDeclared.machines.call.Calling.{Calling}
+use Rattle.papaya_late.specs.Given.RawDeclared.machines.call.Calling.TheVariants as at
+use Rattle.papaya_late.specs.Given.ResizeDeclared.copier.Copying.{Copying}
+use Rattle.papaya_late.specs.Given.ResizeDeclared.copier.Copying.TheVariants as copies
+use Rattle.papaya_late.specs.Given.ResizeDeclared.dispose.Disposing.{Disposing}
+use Rattle.papaya_late.specs.Given.ResizeDeclared.dispose.Disposing.TheVariants as disposes
 
 -- the row that a disposal stands at, within the section of this slot
 abbrev pub row_of_disposal : ℕ → Disposing → Row

@@ -1,8 +1,8 @@
 -- What a caller looks at: some of the tables and pairs that can be looked at, with all that it may come to from there.
-use Rattle.papaya_late.specs.Given.Tables.declared.status.TheConstants.Status.{ABORTED}
+use Rattle.papaya_late.specs.Given.TablesDeclared.status.TheConstants.Status.{ABORTED}
 use Rattle.std.specs.Prelude.{◌≡◌, ℕ, ◌<◌, ◌≤◌, Bool, true}
-use Rattle.papaya_late.specs.Given.Rule.Chart.{Phase, Holds, Chart}
-use Rattle.papaya_late.specs.Given.Rule.Words.{Blocks}
+use Rattle.papaya_late.specs.Given.RuleChart.{Phase, Holds, Chart}
+use Rattle.papaya_late.specs.Given.RuleWords.{Blocks}
 
 -- by turn, and by pair
 pub record Sight : Type 0 where

@@ -1,12 +1,12 @@
 -- What was so of a map at a moment since a call began: what it had of the call's keys, and how it was changed.
 use Rattle.std.specs.Prelude.{◌≡◌, ℕ, suc, ◌<◌, ◌≤◌, Bool, true, false, Some, ◌⊎◌}
-use Rattle.papaya_late.specs.Given.Raw.declared.machines.answer.KeyAnswer.{KeyAnswer}
-use Rattle.papaya_late.specs.Given.Raw.declared.machines.answer.KeyAnswer.TheVariants as answers
-use Rattle.papaya_late.specs.Given.Raw.declared.machines.call.Calling.{Calling}
-use Rattle.papaya_late.specs.Given.Rule.Chart.{Phase, Holds, Chart, put}
-use Rattle.papaya_late.specs.Given.Rule.Words.{Blocks, place_word}
-use Rattle.papaya_late.specs.Given.Points.FactsCalls.{Change, Unchanged, Stored, Replaced, Removed}
-use Rattle.papaya_late.specs.Given.Points.Told.{HasAnswered}
+use Rattle.papaya_late.specs.Given.RawDeclared.machines.answer.KeyAnswer.{KeyAnswer}
+use Rattle.papaya_late.specs.Given.RawDeclared.machines.answer.KeyAnswer.TheVariants as answers
+use Rattle.papaya_late.specs.Given.RawDeclared.machines.call.Calling.{Calling}
+use Rattle.papaya_late.specs.Given.RuleChart.{Phase, Holds, Chart, put}
+use Rattle.papaya_late.specs.Given.RuleWords.{Blocks, place_word}
+use Rattle.papaya_late.specs.Given.PointsFactsCalls.{Change, Unchanged, Stored, Replaced, Removed}
+use Rattle.papaya_late.specs.Given.PointsTold.{HasAnswered}
 
 module _ {K : Type 0} (hash : K → ℕ) (c : Chart K) (blocks : Blocks) (keys : K → Bool) where
   -- at this moment, the map had this pair, which has one of the keys

@@ -1,24 +1,24 @@
 -- Walks, clearings and retainings among the callers of a map: what is promised of each, whoever takes the next step.
 use Rattle.std.specs.Prelude.{◌≡◌, ℕ, ◌≤◌, ◌⊎◌, Bool, false, List, Option, None, Some}
 use Rattle.std.specs.Int.{IsPowerOfTwo}
-use Rattle.papaya_late.specs.Given.SeizeWords.Mem.{Mem, Can, Took, value_at}
-use Rattle.papaya_late.specs.Given.SeizeWords.Plan.{May, Steps}
-use Rattle.papaya_late.specs.Given.Seize.World.{World, Rests, IsInside, with_at}
-use Rattle.papaya_late.specs.Given.Tables.Chunks.{is_incremental}
-use Rattle.papaya_late.specs.Given.Tables.declared.node.Node.{Node}
-use Rattle.papaya_late.specs.Given.Tables.declared.setting.Setting.{Setting}
-use Rattle.papaya_late.specs.Given.Sweeps.Sweep.{sweep_plan}
-use Rattle.papaya_late.specs.Given.Sweeps.SweepPoints.{after_next}
-use Rattle.papaya_late.specs.Given.Sweeps.declared.sweep.Purpose.{Purpose}
-use Rattle.papaya_late.specs.Given.Sweeps.declared.sweep.Sweep.{Sweep}
-use Rattle.papaya_late.specs.Given.Sweeps.declared.sweep.Sweeping.TheVariants as at
-use Rattle.papaya_late.specs.Given.Sweeps.declared.sweep.Swept.{Swept}
-use Rattle.papaya_late.specs.Given.Sweeps.declared.sweep.Swept.TheVariants as swept
-use Rattle.papaya_late.specs.Given.Rule.Chart.{Chart}
-use Rattle.papaya_late.specs.Given.Rule.Words.{Blocks}
-use Rattle.papaya_late.specs.Given.Rule.InWorld.{Went}
-use Rattle.papaya_late.specs.Given.Rule.Moments.{Remembers}
-use Rattle.papaya_late.specs.Given.Points.Steps.{AreLawful}
+use Rattle.papaya_late.specs.Given.SeizeWordsMem.{Mem, Can, Took, value_at}
+use Rattle.papaya_late.specs.Given.SeizeWordsPlan.{May, Steps}
+use Rattle.papaya_late.specs.Given.SeizeWorld.{World, Rests, IsInside, with_at}
+use Rattle.papaya_late.specs.Given.TablesChunks.{is_incremental}
+use Rattle.papaya_late.specs.Given.TablesDeclared.node.Node.{Node}
+use Rattle.papaya_late.specs.Given.TablesDeclared.setting.Setting.{Setting}
+use Rattle.papaya_late.specs.Given.SweepsSweep.{sweep_plan}
+use Rattle.papaya_late.specs.Given.SweepsSweepPoints.{after_next}
+use Rattle.papaya_late.specs.Given.SweepsDeclared.sweep.Purpose.{Purpose}
+use Rattle.papaya_late.specs.Given.SweepsDeclared.sweep.Sweep.{Sweep}
+use Rattle.papaya_late.specs.Given.SweepsDeclared.sweep.Sweeping.TheVariants as at
+use Rattle.papaya_late.specs.Given.SweepsDeclared.sweep.Swept.{Swept}
+use Rattle.papaya_late.specs.Given.SweepsDeclared.sweep.Swept.TheVariants as swept
+use Rattle.papaya_late.specs.Given.RuleChart.{Chart}
+use Rattle.papaya_late.specs.Given.RuleWords.{Blocks}
+use Rattle.papaya_late.specs.Given.RuleInWorld.{Went}
+use Rattle.papaya_late.specs.Given.RuleMoments.{Remembers}
+use Rattle.papaya_late.specs.Given.PointsSteps.{AreLawful}
 use Rattle.papaya_late.specs.Covers.{WasSince, Came, NamesPair}
 use Rattle.papaya_late.specs.CoversSweeps.{DoneAt}
 use Rattle.papaya_late.specs.ToldSweeps.{IsRowOfSweep, word_told, SweepTold}

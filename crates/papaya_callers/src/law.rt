@@ -2,7 +2,7 @@
 ghost use Rattle.std.specs.Prelude.{ℕ, Bool};
 ghost use Rattle.papaya_callers.specs.Sweeps.{SweepsBeginTogether, SweepsStandTogether, SweepsToldTogether, SweepRowsStandTogether, WalksStopTogether};
 ghost use Rattle.papaya_callers.specs.Together.{MapBeginsTogether, BeginsTogether, CallsStandTogether, RowsStandTogether, GuardsStandTogether, RepliesStandTogether, RoomsBeginTogether, RoomsStandTogether, RoomRowsStandTogether, CountingsBeginTogether, CountingsStandTogether};
-ghost use Rattle.papaya_late.specs.Given.Tables.declared.setting.Setting.{Setting};
+ghost use Rattle.papaya_late.specs.Given.TablesDeclared.setting.Setting.{Setting};
 
 /// All stand together where a map has no table yet. Callers, any number of them, each within a critical section of its slot, have calls on one key of
 /// one map under way, in either mode, and take their steps in any order, those of the collector's rows within the calls among them. Whichever

@@ -2,5 +2,3 @@
 #![tactic(auto)]
 
 pub mod law;
-
-pub use papaya_late::papaya_raw;

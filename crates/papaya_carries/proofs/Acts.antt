@@ -1,13 +1,13 @@
 -- Whichever act is made, each block behind which something may be put is somebody's then.
 use Rattle.std.specs.Prelude.{◌++◌, Option, Some}
 use Rattle.std.proofs.Common.{◌≡◌, ℕ, Bool, List, [], ◌∷◌, refl, sym, subst}
-use Rattle.seize_acts.specs.Given.SeizeWords.Mem.{Mem}
-use Rattle.seize_acts.specs.Given.Seize.Law.{Ended}
-use Rattle.seize_acts.specs.Given.Seize.World.{with_at, with_effect}
-use Rattle.seize_acts.specs.Given.Seize.declared.progress.Progress.{Progress}
-use Rattle.seize_acts.specs.Given.Seize.declared.progress.Progress.TheVariants as progress
-use Rattle.seize_acts.specs.Given.Seize.declared.rows.settle.Settled.{Settled}
-use Rattle.seize_acts.specs.Given.Seize.declared.rows.settle.Settled.TheVariants as settled
+use Rattle.seize_acts.specs.Given.SeizeWordsMem.{Mem}
+use Rattle.seize_acts.specs.Given.SeizeLaw.{Ended}
+use Rattle.seize_acts.specs.Given.SeizeWorld.{with_at, with_effect}
+use Rattle.seize_acts.specs.Given.SeizeDeclared.progress.Progress.{Progress}
+use Rattle.seize_acts.specs.Given.SeizeDeclared.progress.Progress.TheVariants as progress
+use Rattle.seize_acts.specs.Given.SeizeDeclared.rows.settle.Settled.{Settled}
+use Rattle.seize_acts.specs.Given.SeizeDeclared.rows.settle.Settled.TheVariants as settled
 use Rattle.seize_acts.proofs.Answers.{was_stepped}
 use Rattle.papaya_acts.specs.Given.TablesDeclared.node.Node.{Node}
 use Rattle.papaya_acts.specs.Given.TablesDeclared.setting.Setting.{Setting}

@@ -2,13 +2,13 @@
 use Rattle.std.specs.Prelude.{◌*◌, ◌/◌, Some}
 use Rattle.std.proofs.Common.{◌≡◌, ℕ, suc, ◌<◌, ◌≤◌, Bool, true, false, cond, ◌⊎◌, inl, inr, refl, arith, ap, sym, subst, ◌∙◌}
 use Rattle.std.proofs.lemmas.Bool.{cases_lt}
-use Rattle.seize_acts.specs.Given.SeizeWords.declared.at.At.TheVariants.{Root, Word}
-use Rattle.seize_acts.specs.Given.SeizeWords.Mem.{Mem, Can, Took, value_at, word_at, with_word}
-use Rattle.seize_acts.specs.Given.SeizeWords.Plan.{Steps}
-use Rattle.seize_acts.proofs.Given.SeizeWords.OneOwner.Operations.{loaded, exchanged}
-use Rattle.seize_acts.proofs.Given.SeizeWords.Plans.{steps_as}
-use Rattle.seize_acts.specs.Given.Seize.Settle.{retiring}
-use Rattle.seize_acts.specs.Given.Seize.World.{World}
+use Rattle.seize_acts.specs.Given.SeizeWordsDeclared.at.At.TheVariants.{Root, Word}
+use Rattle.seize_acts.specs.Given.SeizeWordsMem.{Mem, Can, Took, value_at, word_at, with_word}
+use Rattle.seize_acts.specs.Given.SeizeWordsPlan.{Steps}
+use Rattle.seize_acts.proofs.Given.SeizeWordsOneOwner.Operations.{loaded, exchanged}
+use Rattle.seize_acts.proofs.Given.SeizeWordsPlans.{steps_as}
+use Rattle.seize_acts.specs.Given.SeizeSettle.{retiring}
+use Rattle.seize_acts.specs.Given.SeizeWorld.{World}
 use Rattle.papaya_acts.specs.Given.TablesChunks.{is_incremental}
 use Rattle.papaya_acts.specs.Given.TablesDeclared.node.Node.{Node}
 use Rattle.papaya_acts.specs.Given.TablesDeclared.setting.Setting.{Setting}

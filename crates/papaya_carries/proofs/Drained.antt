@@ -2,10 +2,10 @@
 -- by `NothingIsLost` of `seize_acts`, and by `NothingElseWaits` here.
 use Rattle.std.specs.Prelude.{Option, Some, None, ◌++◌}
 use Rattle.std.proofs.Common.{◌≡◌, ℕ, [], ◌∷◌}
-use Rattle.seize_acts.specs.Given.SeizeWords.Word.{link_to}
-use Rattle.seize_acts.specs.Given.SeizeWords.declared.at.At.TheVariants.{Root}
-use Rattle.seize_acts.specs.Given.SeizeWords.Op.{Store, Make}
-use Rattle.seize_acts.specs.Given.Seize.World.{World, Leave', Retire, Defer', at_start}
+use Rattle.seize_acts.specs.Given.SeizeWordsWord.{link_to}
+use Rattle.seize_acts.specs.Given.SeizeWordsDeclared.at.At.TheVariants.{Root}
+use Rattle.seize_acts.specs.Given.SeizeWordsOp.{Store, Make}
+use Rattle.seize_acts.specs.Given.SeizeWorld.{World, Leave', Retire, Defer', at_start}
 use Rattle.seize_acts.specs.Acts.{Begin, Operate, Links, Unlinks}
 use Rattle.seize_acts.proofs.Samples.Base.{lists, after, on, enters}
 

@@ -2,8 +2,8 @@
 use Rattle.std.specs.Prelude.{◌≢◌, Option, Some, None}
 use Rattle.std.proofs.Common.{◌≡◌, ℕ, zero, suc, ◌<◌, ◌≤◌, Bool, false, [], ◌⊎◌, inl, inr, refl, arith, ap, sym, subst, ◌∙◌}
 use Rattle.std.proofs.lemmas.Bool.{cases_eq}
-use Rattle.seize_acts.specs.Given.SeizeWords.Mem.{value_at}
-use Rattle.seize_acts.specs.Given.Seize.World.{World, Row, times, with_at}
+use Rattle.seize_acts.specs.Given.SeizeWordsMem.{value_at}
+use Rattle.seize_acts.specs.Given.SeizeWorld.{World, Row, times, with_at}
 use Rattle.seize_acts.specs.Reclaimed.{IsStillHad}
 use Rattle.papaya_acts.specs.Given.TablesDeclared.node.Node.{Node}
 use Rattle.papaya_acts.specs.Given.RuleChart.{Chart}

@@ -1,23 +1,23 @@
 -- What the first step of a row leaves of what it is to hand over: a retirement has its block still, and neither ends by it.
 use Rattle.std.specs.Prelude.{◌==◌, Option}
 use Rattle.std.proofs.Common.{◌≡◌, ℕ, refl, ap, sym, subst, ◌∙◌}
-use Rattle.seize_acts.specs.Given.SeizeWords.Mem.{Mem, Took, value_at}
-use Rattle.seize_acts.specs.Given.SeizeWords.Op.{Out, Found, Stored, Exchanged, Made, Taken, Roomed}
-use Rattle.seize_acts.specs.Given.SeizeWords.Plan.{Steps}
-use Rattle.seize_acts.proofs.Given.SeizeWords.OneOwner.Operations.{loaded}
-use Rattle.seize_acts.specs.Given.Seize.declared.progress.Progress.{Progress}
-use Rattle.seize_acts.specs.Given.Seize.declared.progress.Progress.TheVariants as progress
-use Rattle.seize_acts.specs.Given.Seize.declared.rows.defer.Defer.{Defer}
-use Rattle.seize_acts.specs.Given.Seize.declared.rows.defer.Deferring.TheVariants as at
-use Rattle.seize_acts.specs.Given.Seize.declared.rows.settle.Settle.{Settle}
-use Rattle.seize_acts.specs.Given.Seize.declared.rows.settle.Settled.{Settled}
-use Rattle.seize_acts.specs.Given.Seize.declared.rows.settle.Settled.TheVariants as settled
-use Rattle.seize_acts.specs.Given.Seize.declared.states.TheConstants.{HELD}
-use Rattle.seize_acts.specs.Given.Seize.Defer.{deferring, head_read, standing}
-use Rattle.seize_acts.specs.Given.Seize.Settle.{retiring, seen, settle_plan}
-use Rattle.seize_acts.specs.Given.Seize.World.{World, Settles, Defers, Steps', settles_on, defers_on}
-use Rattle.seize_acts.specs.Given.SeizeWords.declared.at.At.{At}
-use Rattle.seize_acts.proofs.Given.SeizeRule.Rows.Others.{with_here}
+use Rattle.seize_acts.specs.Given.SeizeWordsMem.{Mem, Took, value_at}
+use Rattle.seize_acts.specs.Given.SeizeWordsOp.{Out, Found, Stored, Exchanged, Made, Taken, Roomed}
+use Rattle.seize_acts.specs.Given.SeizeWordsPlan.{Steps}
+use Rattle.seize_acts.proofs.Given.SeizeWordsOneOwner.Operations.{loaded}
+use Rattle.seize_acts.specs.Given.SeizeDeclared.progress.Progress.{Progress}
+use Rattle.seize_acts.specs.Given.SeizeDeclared.progress.Progress.TheVariants as progress
+use Rattle.seize_acts.specs.Given.SeizeDeclared.rows.defer.Defer.{Defer}
+use Rattle.seize_acts.specs.Given.SeizeDeclared.rows.defer.Deferring.TheVariants as at
+use Rattle.seize_acts.specs.Given.SeizeDeclared.rows.settle.Settle.{Settle}
+use Rattle.seize_acts.specs.Given.SeizeDeclared.rows.settle.Settled.{Settled}
+use Rattle.seize_acts.specs.Given.SeizeDeclared.rows.settle.Settled.TheVariants as settled
+use Rattle.seize_acts.specs.Given.SeizeDeclared.states.TheConstants.{HELD}
+use Rattle.seize_acts.specs.Given.SeizeDefer.{deferring, head_read, standing}
+use Rattle.seize_acts.specs.Given.SeizeSettle.{retiring, seen, settle_plan}
+use Rattle.seize_acts.specs.Given.SeizeWorld.{World, Settles, Defers, Steps', settles_on, defers_on}
+use Rattle.seize_acts.specs.Given.SeizeWordsDeclared.at.At.{At}
+use Rattle.seize_acts.proofs.Given.SeizeRuleRows.Others.{with_here}
 use Rattle.papaya_acts.proofs.Given.RuleKeys.Always.{Always, always_if, always_steps}
 
 module _ {T : Type 0} (defers : T → Option ℕ) where

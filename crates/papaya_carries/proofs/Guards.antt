@@ -1,12 +1,12 @@
 -- Whose a block is that users have, and behind which something may be put, over rows between calls; and at rest.
 use Rattle.std.specs.Prelude.{Option, Some, None}
 use Rattle.std.proofs.Common.{◌≡◌, ◌≢◌, ◌<◌, ◌≤◌, ℕ, Bool, inl, inr, refl, arith, ap, sym, subst, ◌∙◌}
-use Rattle.seize_acts.specs.Given.SeizeWords.Mem.{Mem, value_at}
-use Rattle.seize_acts.specs.Given.Seize.World.{World, Hand, NoBlock, Making, InUse, Parting, Cutting, Handed, LeftTo, Request, Begin, Step, Happens}
+use Rattle.seize_acts.specs.Given.SeizeWordsMem.{Mem, value_at}
+use Rattle.seize_acts.specs.Given.SeizeWorld.{World, Hand, NoBlock, Making, InUse, Parting, Cutting, Handed, LeftTo, Request, Begin, Step, Happens}
 use Rattle.seize_acts.specs.Reclaimed.{IsStillHad}
-use Rattle.seize_acts.proofs.Given.SeizeRule.Rows.Others.{begins_others, steps_others}
-use Rattle.seize_acts.proofs.Given.SeizeEnds.Batches.Rows.{begins_memory}
-use Rattle.seize_acts.proofs.Given.SeizeAlone.Histories.Reached.{Reached}
+use Rattle.seize_acts.proofs.Given.SeizeRuleRows.Others.{begins_others, steps_others}
+use Rattle.seize_acts.proofs.Given.SeizeEndsBatches.Rows.{begins_memory}
+use Rattle.seize_acts.proofs.Given.SeizeAloneHistories.Reached.{Reached}
 use Rattle.papaya_acts.specs.Given.TablesNodes.{deferred_word}
 use Rattle.papaya_acts.specs.Given.TablesDeclared.node.Node.{Node}
 use Rattle.papaya_acts.specs.Given.RuleChart.{Chart}

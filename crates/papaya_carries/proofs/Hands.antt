@@ -1,19 +1,19 @@
 -- What users have after a step, and had before it, or had made: over rows, and over what a step of a call does.
 use Rattle.std.specs.Prelude.{Option, Some, None, Ok, Err, IsSome}
 use Rattle.std.proofs.Common.{◌≡◌, ℕ, ◌+◌, true, List, [], ◌∷◌, ◌⊎◌, inl, inr, refl, arith, ap, sym, subst, ◌∙◌}
-use Rattle.seize_acts.specs.Given.SeizeWords.Mem.{Mem, Took, value_at}
-use Rattle.seize_acts.specs.Given.SeizeWords.Op.{Out, Make, Found, Stored, Exchanged, Made, Taken, Roomed}
-use Rattle.seize_acts.specs.Given.Seize.declared.states.TheConstants.{LAST_SLOT}
-use Rattle.seize_acts.specs.Given.Seize.Law.{Effect, Entered, Left, Made as MadeBlock, Linked, Unlinked, Deferred, Retired, Taken as TakenBlock, Dropped, Ended, LeftOver}
-use Rattle.seize_acts.specs.Given.Seize.Sequence.{IsUsers}
-use Rattle.seize_acts.specs.Given.Seize.World.{World, Hand, NoBlock, Making, InUse, Parting, Cutting, Handed, LeftTo, MayCut, Request, Register', Enter', Leave', LeaveOwned, Refresh, Unregister', Retire, Flush, Defer', Event, Begin, Step, Makes, Drops, Links, Parts, Unlinks, Rewrites, Operates, Ends, LeavesOver, Relinks, Clears, Chooses, Begins, Happens, Runs, Steps', handed_by, made_by, with_at}
+use Rattle.seize_acts.specs.Given.SeizeWordsMem.{Mem, Took, value_at}
+use Rattle.seize_acts.specs.Given.SeizeWordsOp.{Out, Make, Found, Stored, Exchanged, Made, Taken, Roomed}
+use Rattle.seize_acts.specs.Given.SeizeDeclared.states.TheConstants.{LAST_SLOT}
+use Rattle.seize_acts.specs.Given.SeizeLaw.{Effect, Entered, Left, Made as MadeBlock, Linked, Unlinked, Deferred, Retired, Taken as TakenBlock, Dropped, Ended, LeftOver}
+use Rattle.seize_acts.specs.Given.SeizeSequence.{IsUsers}
+use Rattle.seize_acts.specs.Given.SeizeWorld.{World, Hand, NoBlock, Making, InUse, Parting, Cutting, Handed, LeftTo, MayCut, Request, Register', Enter', Leave', LeaveOwned, Refresh, Unregister', Retire, Flush, Defer', Event, Begin, Step, Makes, Drops, Links, Parts, Unlinks, Rewrites, Operates, Ends, LeavesOver, Relinks, Clears, Chooses, Begins, Happens, Runs, Steps', handed_by, made_by, with_at}
 use Rattle.seize_acts.specs.Reclaimed.{IsStillHad}
-use Rattle.seize_acts.proofs.Given.SeizeMoves.State.Ghost.{Life}
-use Rattle.seize_acts.proofs.Given.SeizeRule.Points.Aside.{HandFits, is_handed}
-use Rattle.seize_acts.proofs.Given.SeizeRule.Words.Shows.{lives}
-use Rattle.seize_acts.proofs.Given.SeizeRule.Words.There.{value_there}
-use Rattle.seize_acts.proofs.Given.SeizeAlone.Histories.NotTaken.{did}
-use Rattle.seize_acts.proofs.Given.SeizeAlone.Histories.Reached.{Reached, happens_reached}
+use Rattle.seize_acts.proofs.Given.SeizeMovesState.Ghost.{Life}
+use Rattle.seize_acts.proofs.Given.SeizeRulePoints.Aside.{HandFits, is_handed}
+use Rattle.seize_acts.proofs.Given.SeizeRuleWords.Shows.{lives}
+use Rattle.seize_acts.proofs.Given.SeizeRuleWords.There.{value_there}
+use Rattle.seize_acts.proofs.Given.SeizeAloneHistories.NotTaken.{did}
+use Rattle.seize_acts.proofs.Given.SeizeAloneHistories.Reached.{Reached, happens_reached}
 use Rattle.papaya_acts.specs.Given.TablesNodes.{deferred_word}
 use Rattle.papaya_acts.specs.Given.TablesDeclared.node.Node.{Node}
 use Rattle.papaya_acts.specs.Given.TablesDeclared.setting.Setting.{Setting}

@@ -1,9 +1,9 @@
 -- A step of a call, a reservation or a sweep in which a copier is under way is that copier's, and goes on where it goes on.
 use Rattle.std.specs.Prelude.{Some, None}
 use Rattle.std.proofs.Common.{◌≡◌, ℕ, Bool, false, refl, ap, sym, subst}
-use Rattle.seize_acts.specs.Given.SeizeWords.Mem.{Mem, Took, value_at}
-use Rattle.seize_acts.specs.Given.SeizeWords.Plan.{Steps}
-use Rattle.seize_acts.proofs.Given.SeizeRule.Rows.Leaving.{steps_back}
+use Rattle.seize_acts.specs.Given.SeizeWordsMem.{Mem, Took, value_at}
+use Rattle.seize_acts.specs.Given.SeizeWordsPlan.{Steps}
+use Rattle.seize_acts.proofs.Given.SeizeRuleRows.Leaving.{steps_back}
 use Rattle.papaya_acts.specs.Given.TablesDeclared.node.Node.{Node}
 use Rattle.papaya_acts.specs.Given.TablesDeclared.table.Table.{Table}
 use Rattle.papaya_acts.specs.Given.ResizeCopier.{copier_plan}

@@ -1,7 +1,7 @@
 -- What a copier knows, in either mode, of the tables that it copies, and of those that it has unlinked.
 use Rattle.std.specs.Prelude.{◌*◌}
 use Rattle.std.proofs.Common.{◌≡◌, ℕ, ◌<◌, ◌≤◌, Bool, true, false, cond, refl, subst}
-use Rattle.seize_acts.specs.Given.Seize.World.{World, Cutting}
+use Rattle.seize_acts.specs.Given.SeizeWorld.{World, Cutting}
 use Rattle.papaya_acts.specs.Given.TablesChunks.{is_incremental}
 use Rattle.papaya_acts.specs.Given.TablesDeclared.node.Node.{Node}
 use Rattle.papaya_acts.specs.Given.TablesDeclared.setting.Setting.{Setting}

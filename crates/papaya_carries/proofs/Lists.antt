@@ -2,14 +2,14 @@
 -- and nothing else waits then.
 use Rattle.std.specs.Prelude.{Option, Some, None, IsSome, is_some}
 use Rattle.std.proofs.Common.{◌≡◌, ℕ, Bool, List, [], ◌∷◌, inl, inr, refl, ap, sym, subst}
-use Rattle.seize_acts.specs.Given.SeizeWords.declared.at.At.TheVariants.{Slot}
-use Rattle.seize_acts.specs.Given.SeizeWords.Mem.{word_at}
-use Rattle.seize_acts.specs.Given.Seize.ReclaimAll.{reclaiming_all, clearing}
-use Rattle.seize_acts.specs.Given.Seize.World.{at_start}
-use Rattle.seize_acts.specs.Given.Seize.declared.rows.reclaim_all.ReclaimAll.{ReclaimAll}
-use Rattle.seize_acts.specs.Given.Seize.declared.rows.settle.Settled.{Settled}
-use Rattle.seize_acts.specs.Given.Seize.declared.rows.settle.Settled.TheVariants as settled
-use Rattle.seize_acts.specs.Given.Seize.declared.states.TheConstants.{HEAD}
+use Rattle.seize_acts.specs.Given.SeizeWordsDeclared.at.At.TheVariants.{Slot}
+use Rattle.seize_acts.specs.Given.SeizeWordsMem.{word_at}
+use Rattle.seize_acts.specs.Given.SeizeReclaimAll.{reclaiming_all, clearing}
+use Rattle.seize_acts.specs.Given.SeizeWorld.{at_start}
+use Rattle.seize_acts.specs.Given.SeizeDeclared.rows.reclaim_all.ReclaimAll.{ReclaimAll}
+use Rattle.seize_acts.specs.Given.SeizeDeclared.rows.settle.Settled.{Settled}
+use Rattle.seize_acts.specs.Given.SeizeDeclared.rows.settle.Settled.TheVariants as settled
+use Rattle.seize_acts.specs.Given.SeizeDeclared.states.TheConstants.{HEAD}
 use Rattle.seize_acts.specs.Answers.{Grant}
 use Rattle.seize_acts.proofs.Answers.{same_some}
 use Rattle.papaya_acts.specs.Given.TablesNodes.{deferred_word}

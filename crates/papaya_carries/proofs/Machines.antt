@@ -1,10 +1,10 @@
 -- A step of a call under way, whichever its kind, leaves each block somebody's behind which something may be put.
 use Rattle.std.specs.Prelude.{Option, Some, None}
 use Rattle.std.proofs.Common.{◌≡◌, ℕ, ◌≤◌, ◌<◌, Bool, inl, inr, refl, arith, ap, sym, subst, ◌∙◌}
-use Rattle.seize_acts.specs.Given.SeizeWords.Mem.{Mem, Took, value_at}
-use Rattle.seize_acts.specs.Given.SeizeWords.Plan.{Plan, Steps}
-use Rattle.seize_acts.specs.Given.Seize.World.{World}
-use Rattle.seize_acts.proofs.Given.SeizeRule.Rows.Leaving.{steps_back}
+use Rattle.seize_acts.specs.Given.SeizeWordsMem.{Mem, Took, value_at}
+use Rattle.seize_acts.specs.Given.SeizeWordsPlan.{Plan, Steps}
+use Rattle.seize_acts.specs.Given.SeizeWorld.{World}
+use Rattle.seize_acts.proofs.Given.SeizeRuleRows.Leaving.{steps_back}
 use Rattle.papaya_acts.specs.Given.TablesDeclared.node.Node.{Node}
 use Rattle.papaya_acts.specs.Given.ResizeDeclared.outcome.Outcome.{Outcome}
 use Rattle.papaya_acts.specs.Given.ResizeDeclared.outcome.Outcome.TheVariants as outcome

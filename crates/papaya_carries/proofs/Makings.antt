@@ -1,24 +1,24 @@
 -- A making takes a step: what users have then they had, with its value, or it is the first table of the map that stands by it.
 use Rattle.std.specs.Prelude.{◌*◌, Option, Some, Ok, Err, IsSome, is_some}
 use Rattle.std.proofs.Common.{◌≡◌, ℕ, ◌<◌, Bool, List, [], ◌∷◌, ◌⊎◌, inl, inr, refl, arith, ap, sym, subst, ◌∙◌}
-use Rattle.seize_acts.specs.Given.SeizeWords.declared.at.At.TheVariants.{Root}
-use Rattle.seize_acts.specs.Given.SeizeWords.Mem.{Mem, Took, value_at, word_at}
-use Rattle.seize_acts.specs.Given.SeizeWords.Op.{Out, Make, Found, Stored, Exchanged, Made, Taken, Roomed}
-use Rattle.seize_acts.specs.Given.Seize.Sequence.{IsUsers}
-use Rattle.seize_acts.specs.Given.Seize.World.{World, Row, Hand, NoBlock, Making, InUse, Parting, Cutting, Event, Begin, Step, Makes, Drops, Links, Parts, Unlinks, Rewrites, Operates, Ends, LeavesOver, Relinks, Clears, Chooses, Happens, Runs, made_by, with_at}
-use Rattle.seize_acts.specs.Given.Seize.declared.progress.Progress.TheVariants as progress
+use Rattle.seize_acts.specs.Given.SeizeWordsDeclared.at.At.TheVariants.{Root}
+use Rattle.seize_acts.specs.Given.SeizeWordsMem.{Mem, Took, value_at, word_at}
+use Rattle.seize_acts.specs.Given.SeizeWordsOp.{Out, Make, Found, Stored, Exchanged, Made, Taken, Roomed}
+use Rattle.seize_acts.specs.Given.SeizeSequence.{IsUsers}
+use Rattle.seize_acts.specs.Given.SeizeWorld.{World, Row, Hand, NoBlock, Making, InUse, Parting, Cutting, Event, Begin, Step, Makes, Drops, Links, Parts, Unlinks, Rewrites, Operates, Ends, LeavesOver, Relinks, Clears, Chooses, Happens, Runs, made_by, with_at}
+use Rattle.seize_acts.specs.Given.SeizeDeclared.progress.Progress.TheVariants as progress
 use Rattle.seize_acts.specs.Reclaimed.{IsStillHad}
-use Rattle.seize_acts.proofs.Given.SeizeRule.Words.Named.{made_one}
-use Rattle.seize_acts.proofs.Given.SeizeRule.Words.There.{live_pos}
-use Rattle.seize_acts.proofs.Given.SeizeRule.World.Values.{own_op_value, made_value, rewritten_value, taken_value}
-use Rattle.seize_acts.proofs.Given.SeizeEnds.Batches.Rows.{made_memory}
-use Rattle.seize_acts.proofs.Given.SeizeAlone.Histories.NotTaken.{IsHad, kept_there}
-use Rattle.seize_acts.proofs.Given.SeizeAlone.Histories.Reached.{Reached, happens_reached}
+use Rattle.seize_acts.proofs.Given.SeizeRuleWords.Named.{made_one}
+use Rattle.seize_acts.proofs.Given.SeizeRuleWords.There.{live_pos}
+use Rattle.seize_acts.proofs.Given.SeizeRuleWorld.Values.{own_op_value, made_value, rewritten_value, taken_value}
+use Rattle.seize_acts.proofs.Given.SeizeEndsBatches.Rows.{made_memory}
+use Rattle.seize_acts.proofs.Given.SeizeAloneHistories.NotTaken.{IsHad, kept_there}
+use Rattle.seize_acts.proofs.Given.SeizeAloneHistories.Reached.{Reached, happens_reached}
 use Rattle.papaya_acts.specs.Given.TablesNodes.{deferred_word}
 use Rattle.papaya_acts.specs.Given.TablesDeclared.node.Node.{Node}
 use Rattle.papaya_acts.specs.Given.ResizeDeclared.new_map.NewMap.{NewMap}
 use Rattle.papaya_acts.specs.Given.TablesDeclared.setting.Setting.{Setting}
-use Rattle.seize_acts.specs.Given.Seize.declared.progress.Progress.{Progress}
+use Rattle.seize_acts.specs.Given.SeizeDeclared.progress.Progress.{Progress}
 use Rattle.papaya_acts.specs.Given.RuleInWorld.{AllUsers, IsOut}
 use Rattle.papaya_acts.proofs.Given.RuleWords.LinksSeen.{link_some, root_leads}
 use Rattle.papaya_acts.proofs.Given.RuleWorld.Hands.{at_cases}

@@ -2,14 +2,14 @@
 use Rattle.std.specs.Prelude.{Option, Some, None}
 use Rattle.std.specs.Option.{is_none}
 use Rattle.std.proofs.Common.{◌≡◌, ℕ, ◌<◌, ◌^◌, Bool, false, List, [], ◌∷◌, refl, ap, sym, subst, ◌∙◌}
-use Rattle.seize_acts.specs.Given.SeizeWords.declared.at.At.TheVariants.{Slot}
-use Rattle.seize_acts.specs.Given.SeizeWords.Mem.{Mem, Took, value_at, word_at}
-use Rattle.seize_acts.specs.Given.SeizeWords.Plan.{Steps}
-use Rattle.seize_acts.specs.Given.Seize.ReclaimAll.{reclaiming_all, clearing, reclaim_all_plan}
-use Rattle.seize_acts.specs.Given.Seize.declared.rows.reclaim_all.ReclaimAll.{ReclaimAll}
-use Rattle.seize_acts.specs.Given.Seize.declared.rows.settle.Settled.{Settled}
-use Rattle.seize_acts.specs.Given.Seize.declared.rows.settle.Settled.TheVariants as settled
-use Rattle.seize_acts.specs.Given.Seize.declared.states.TheConstants.{HEAD}
+use Rattle.seize_acts.specs.Given.SeizeWordsDeclared.at.At.TheVariants.{Slot}
+use Rattle.seize_acts.specs.Given.SeizeWordsMem.{Mem, Took, value_at, word_at}
+use Rattle.seize_acts.specs.Given.SeizeWordsPlan.{Steps}
+use Rattle.seize_acts.specs.Given.SeizeReclaimAll.{reclaiming_all, clearing, reclaim_all_plan}
+use Rattle.seize_acts.specs.Given.SeizeDeclared.rows.reclaim_all.ReclaimAll.{ReclaimAll}
+use Rattle.seize_acts.specs.Given.SeizeDeclared.rows.settle.Settled.{Settled}
+use Rattle.seize_acts.specs.Given.SeizeDeclared.rows.settle.Settled.TheVariants as settled
+use Rattle.seize_acts.specs.Given.SeizeDeclared.states.TheConstants.{HEAD}
 use Rattle.seize_acts.specs.Acts.{rests}
 use Rattle.seize_acts.specs.Answers.{Grant, then_on}
 use Rattle.seize_acts.proofs.Answers.{same_some, was_stepped}

@@ -2,7 +2,7 @@
 use Rattle.std.specs.Prelude.{◌≢◌, ◌*◌, Option, Some}
 use Rattle.std.proofs.Common.{◌≡◌, ℕ, ◌<◌, ◌≤◌, ◌⊎◌, inl, inr, refl, arith, ap, sym, subst, ◌∙◌}
 use Rattle.std.proofs.lemmas.Bool.{cases_eq}
-use Rattle.seize_acts.specs.Given.Seize.World.{World, Rests, with_at}
+use Rattle.seize_acts.specs.Given.SeizeWorld.{World, Rests, with_at}
 use Rattle.papaya_acts.specs.Given.TablesChunks.{is_incremental}
 use Rattle.papaya_acts.specs.Given.TablesDeclared.node.Node.{Node}
 use Rattle.papaya_acts.specs.Given.ResizeDeclared.copier.Copier.{Copier}

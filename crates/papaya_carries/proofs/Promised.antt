@@ -1,8 +1,8 @@
 -- A step of a call on one key that is none of a row leaves each block somebody's behind which something may be put.
 use Rattle.std.specs.Prelude.{Option, Some, None}
 use Rattle.std.proofs.Common.{◌≡◌, ℕ, Bool, inl, inr, ◌⊎◌, sym, subst}
-use Rattle.seize_acts.specs.Given.SeizeWords.Mem.{Mem}
-use Rattle.seize_acts.specs.Given.Seize.World.{World, Rests}
+use Rattle.seize_acts.specs.Given.SeizeWordsMem.{Mem}
+use Rattle.seize_acts.specs.Given.SeizeWorld.{World, Rests}
 use Rattle.papaya_acts.specs.Given.TablesDeclared.node.Node.{Node}
 use Rattle.papaya_acts.specs.Given.ResizeDeclared.copier.Copier.{Copier}
 use Rattle.papaya_acts.specs.Given.RawDeclared.machines.call.Calling.{Calling}

@@ -2,13 +2,13 @@
 use Rattle.std.specs.Prelude.{Option, Some, None, Ok, Err, ◌==◌}
 use Rattle.std.specs.Option.{is_none}
 use Rattle.std.proofs.Common.{◌≡◌, ℕ, ◌<◌, ◌^◌, Bool, true, false, List, [], ◌∷◌, inl, inr, refl, arith, ap, subst, ◌∙◌}
-use Rattle.seize_acts.specs.Given.SeizeWords.Mem.{Mem, Can, Took, after, value_at, word_at}
-use Rattle.seize_acts.specs.Given.SeizeWords.Op.{Op, Out, Load, Store, Swap, Add, Or, Exchange, Make, Take, Rewrite, Room, Found, Stored, Exchanged, Made, Taken, Roomed}
-use Rattle.seize_acts.specs.Given.SeizeWords.Plan.{Plan, Turn, Do, May, Steps}
-use Rattle.seize_acts.specs.Given.Seize.ReclaimAll.{reclaim_all_plan}
-use Rattle.seize_acts.specs.Given.Seize.declared.rows.reclaim_all.ReclaimAll.{ReclaimAll}
-use Rattle.seize_acts.specs.Given.Seize.declared.rows.settle.Settled.{Settled}
-use Rattle.seize_acts.specs.Given.Seize.declared.rows.settle.Settled.TheVariants as settled
+use Rattle.seize_acts.specs.Given.SeizeWordsMem.{Mem, Can, Took, after, value_at, word_at}
+use Rattle.seize_acts.specs.Given.SeizeWordsOp.{Op, Out, Load, Store, Swap, Add, Or, Exchange, Make, Take, Rewrite, Room, Found, Stored, Exchanged, Made, Taken, Roomed}
+use Rattle.seize_acts.specs.Given.SeizeWordsPlan.{Plan, Turn, Do, May, Steps}
+use Rattle.seize_acts.specs.Given.SeizeReclaimAll.{reclaim_all_plan}
+use Rattle.seize_acts.specs.Given.SeizeDeclared.rows.reclaim_all.ReclaimAll.{ReclaimAll}
+use Rattle.seize_acts.specs.Given.SeizeDeclared.rows.settle.Settled.{Settled}
+use Rattle.seize_acts.specs.Given.SeizeDeclared.rows.settle.Settled.TheVariants as settled
 use Rattle.seize_acts.specs.Answers.{Grant, then_on, answer, compared, ends, exchanged, found, stored, taken, stepped}
 use Rattle.seize_acts.proofs.Answers.{was_stepped}
 use Rattle.seize_acts.proofs.Steps.{sees_end}

@@ -1,15 +1,15 @@
 -- Whose a block is that users have, and behind which something may be put, while a caller reclaims all; and what waits at its end.
 use Rattle.std.specs.Prelude.{Option}
 use Rattle.std.proofs.Common.{◌≡◌, ℕ, Bool, List, [], ◌∷◌, inl, inr, ◌⊎◌, ap, subst, ◌∙◌}
-use Rattle.seize_acts.specs.Given.SeizeWords.declared.at.At.{At}
-use Rattle.seize_acts.specs.Given.SeizeWords.declared.at.At.TheVariants.{Root, Used}
-use Rattle.seize_acts.specs.Given.SeizeWords.Mem.{Mem, value_at}
-use Rattle.seize_acts.specs.Given.SeizeWords.Op.{Store}
-use Rattle.seize_acts.specs.Given.Seize.World.{World, Hand, NoBlock, Request, Register', Enter', Leave', LeaveOwned, Refresh, Unregister', Retire, Flush, Defer', Event, Begin, Step, Happens, Runs, with_at}
+use Rattle.seize_acts.specs.Given.SeizeWordsDeclared.at.At.{At}
+use Rattle.seize_acts.specs.Given.SeizeWordsDeclared.at.At.TheVariants.{Root, Used}
+use Rattle.seize_acts.specs.Given.SeizeWordsMem.{Mem, value_at}
+use Rattle.seize_acts.specs.Given.SeizeWordsOp.{Store}
+use Rattle.seize_acts.specs.Given.SeizeWorld.{World, Hand, NoBlock, Request, Register', Enter', Leave', LeaveOwned, Refresh, Unregister', Retire, Flush, Defer', Event, Begin, Step, Happens, Runs, with_at}
 use Rattle.seize_acts.specs.Reclaimed.{IsStillHad}
-use Rattle.seize_acts.proofs.Given.SeizeEnds.Batches.Rows.{begins_memory}
-use Rattle.seize_acts.proofs.Given.SeizeRule.World.Values.{own_op_value, taken_value}
-use Rattle.seize_acts.proofs.Given.SeizeAlone.Histories.Reached.{Reached, happens_reached}
+use Rattle.seize_acts.proofs.Given.SeizeEndsBatches.Rows.{begins_memory}
+use Rattle.seize_acts.proofs.Given.SeizeRuleWorld.Values.{own_op_value, taken_value}
+use Rattle.seize_acts.proofs.Given.SeizeAloneHistories.Reached.{Reached, happens_reached}
 use Rattle.papaya_acts.specs.Given.TablesNodes.{deferred_word}
 use Rattle.papaya_acts.specs.Given.TablesDeclared.node.Node.{Node}
 use Rattle.papaya_acts.proofs.Given.RuleWorld.Hands.{at_cases}

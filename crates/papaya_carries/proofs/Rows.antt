@@ -2,14 +2,14 @@
 use Rattle.std.specs.Prelude.{◌≢◌, ◌*◌, ◌==◌, if◌then◌else◌}
 use Rattle.std.proofs.Common.{◌≡◌, ℕ, Bool, true, false, refl, arith, sym, subst}
 use Rattle.std.proofs.lemmas.Bool.{ne_eqb}
-use Rattle.seize_acts.specs.Given.SeizeWords.Mem.{Mem, Took, value_at}
-use Rattle.seize_acts.specs.Given.SeizeWords.Plan.{Steps}
-use Rattle.seize_acts.specs.Given.Seize.Settle.{settle_plan}
-use Rattle.seize_acts.specs.Given.Seize.World.{Row, Settles}
-use Rattle.seize_acts.specs.Given.Seize.declared.rows.settle.Settle.{Settle}
-use Rattle.seize_acts.specs.Given.Seize.declared.rows.settle.Settled.{Settled}
-use Rattle.seize_acts.specs.Given.Seize.declared.rows.settle.Settled.TheVariants as settled
-use Rattle.seize_acts.proofs.Given.SeizeRule.Rows.Leaving.{steps_back}
+use Rattle.seize_acts.specs.Given.SeizeWordsMem.{Mem, Took, value_at}
+use Rattle.seize_acts.specs.Given.SeizeWordsPlan.{Steps}
+use Rattle.seize_acts.specs.Given.SeizeSettle.{settle_plan}
+use Rattle.seize_acts.specs.Given.SeizeWorld.{Row, Settles}
+use Rattle.seize_acts.specs.Given.SeizeDeclared.rows.settle.Settle.{Settle}
+use Rattle.seize_acts.specs.Given.SeizeDeclared.rows.settle.Settled.{Settled}
+use Rattle.seize_acts.specs.Given.SeizeDeclared.rows.settle.Settled.TheVariants as settled
+use Rattle.seize_acts.proofs.Given.SeizeRuleRows.Leaving.{steps_back}
 use Rattle.papaya_acts.specs.Given.TablesNodes.{deferred_word}
 use Rattle.papaya_acts.specs.Given.TablesDeclared.node.Node.{Node}
 use Rattle.papaya_acts.specs.Given.TablesDeclared.table.Table.{Table}

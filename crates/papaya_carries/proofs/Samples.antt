@@ -1,9 +1,9 @@
 -- What the definitions refuse: a table that a call has unlinked and forgotten, one that its copier has come past, and rest while a map is made.
 use Rattle.std.specs.Prelude.{◌≢◌, ◌*◌, Option, Some, None}
 use Rattle.std.proofs.Common.{◌≡◌, ◌+◌, ◌≤◌, ℕ, Bool, true, List, [], inl, inr, refl, arith, ap, sym, subst, ◌∙◌}
-use Rattle.seize_acts.specs.Given.SeizeWords.Mem.{value_at}
-use Rattle.seize_acts.specs.Given.Seize.declared.rows.reclaim_all.ReclaimAll.{ReclaimAll}
-use Rattle.seize_acts.specs.Given.Seize.World.{World, Cutting, with_at}
+use Rattle.seize_acts.specs.Given.SeizeWordsMem.{value_at}
+use Rattle.seize_acts.specs.Given.SeizeDeclared.rows.reclaim_all.ReclaimAll.{ReclaimAll}
+use Rattle.seize_acts.specs.Given.SeizeWorld.{World, Cutting, with_at}
 use Rattle.seize_acts.specs.Reclaimed.{IsStillHad}
 use Rattle.papaya_acts.specs.Given.TablesChunks.{is_incremental}
 use Rattle.papaya_acts.specs.Given.TablesNodes.{deferred_word}

@@ -1,7 +1,7 @@
 -- A step of a sweep that is none of a row leaves each block somebody's behind which something may be put.
 use Rattle.std.specs.Prelude.{Option, Some}
 use Rattle.std.proofs.Common.{◌≡◌, ℕ, Bool, inl, inr, ap, subst}
-use Rattle.seize_acts.specs.Given.Seize.World.{World, Rests}
+use Rattle.seize_acts.specs.Given.SeizeWorld.{World, Rests}
 use Rattle.papaya_acts.specs.Given.TablesDeclared.node.Node.{Node}
 use Rattle.papaya_acts.specs.Given.TablesDeclared.resize_mode.ResizeMode.{ResizeMode}
 use Rattle.papaya_acts.specs.Given.ResizeDeclared.copier.Copier.{Copier}

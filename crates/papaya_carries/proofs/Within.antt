@@ -2,18 +2,18 @@
 use Rattle.std.specs.Prelude.{◌≢◌, ◌*◌, Option, Some}
 use Rattle.std.proofs.Common.{◌≡◌, ℕ, Bool, ◌⊎◌, inl, inr, refl, arith, ap, sym, subst, ◌∙◌}
 use Rattle.std.proofs.lemmas.Bool.{cases_eq}
-use Rattle.seize_acts.specs.Given.SeizeWords.Mem.{Mem, Took, value_at}
-use Rattle.seize_acts.specs.Given.SeizeWords.Plan.{Steps}
-use Rattle.seize_acts.specs.Given.SeizeWords.Word.{link_to}
-use Rattle.seize_acts.specs.Given.Seize.Defer.{deferring}
-use Rattle.seize_acts.specs.Given.Seize.Settle.{retiring}
-use Rattle.seize_acts.specs.Given.Seize.World.{World, Row, Rests, Settles, Defers, Hand, Handed, Request, Register', Enter', Leave', LeaveOwned, Refresh, Unregister', Retire, Flush, Defer', Begin, Step, Steps', Happens, with_at}
-use Rattle.seize_acts.specs.Given.Seize.declared.rows.defer.Defer.{Defer}
-use Rattle.seize_acts.specs.Given.Seize.declared.rows.settle.Settle.{Settle}
+use Rattle.seize_acts.specs.Given.SeizeWordsMem.{Mem, Took, value_at}
+use Rattle.seize_acts.specs.Given.SeizeWordsPlan.{Steps}
+use Rattle.seize_acts.specs.Given.SeizeWordsWord.{link_to}
+use Rattle.seize_acts.specs.Given.SeizeDefer.{deferring}
+use Rattle.seize_acts.specs.Given.SeizeSettle.{retiring}
+use Rattle.seize_acts.specs.Given.SeizeWorld.{World, Row, Rests, Settles, Defers, Hand, Handed, Request, Register', Enter', Leave', LeaveOwned, Refresh, Unregister', Retire, Flush, Defer', Begin, Step, Steps', Happens, with_at}
+use Rattle.seize_acts.specs.Given.SeizeDeclared.rows.defer.Defer.{Defer}
+use Rattle.seize_acts.specs.Given.SeizeDeclared.rows.settle.Settle.{Settle}
 use Rattle.seize_acts.specs.Reclaimed.{IsStillHad}
-use Rattle.seize_acts.proofs.Given.SeizeRule.Rows.Others.{with_here, begins_others, steps_others}
-use Rattle.seize_acts.proofs.Given.SeizeEnds.Batches.Rows.{begins_memory}
-use Rattle.seize_acts.proofs.Given.SeizeAlone.Histories.Reached.{Reached, happens_reached}
+use Rattle.seize_acts.proofs.Given.SeizeRuleRows.Others.{with_here, begins_others, steps_others}
+use Rattle.seize_acts.proofs.Given.SeizeEndsBatches.Rows.{begins_memory}
+use Rattle.seize_acts.proofs.Given.SeizeAloneHistories.Reached.{Reached, happens_reached}
 use Rattle.papaya_acts.specs.Given.TablesNodes.{deferred_word}
 use Rattle.papaya_acts.specs.Given.TablesDeclared.node.Node.{Node}
 use Rattle.papaya_acts.specs.Given.TablesDeclared.setting.Setting.{Setting}

@@ -1,13 +1,13 @@
 -- What is promised of lists of acts: after any of them each block behind which something may be put is somebody's, what ended maps have left is behind roots
 -- that are nobody's, and once a caller has reclaimed all, nothing waits but pairs that are deferred on linked tables.
 use Rattle.std.specs.Prelude.{◌≡◌, ◌⊎◌, ℕ, ◌<◌, ◌^◌, Bool, List, [], ◌∷◌, ◌++◌, None, IsSome}
-use Rattle.seize_acts.specs.Given.SeizeWords.declared.at.At.TheVariants.{Slot}
-use Rattle.seize_acts.specs.Given.SeizeWords.Mem.{word_at}
-use Rattle.seize_acts.specs.Given.Seize.ReclaimAll.{reclaiming_all, clearing}
-use Rattle.seize_acts.specs.Given.Seize.declared.rows.reclaim_all.ReclaimAll.{ReclaimAll}
-use Rattle.seize_acts.specs.Given.Seize.declared.rows.settle.Settled.{Settled}
-use Rattle.seize_acts.specs.Given.Seize.declared.rows.settle.Settled.TheVariants as settled
-use Rattle.seize_acts.specs.Given.Seize.declared.states.TheConstants.{HEAD}
+use Rattle.seize_acts.specs.Given.SeizeWordsDeclared.at.At.TheVariants.{Slot}
+use Rattle.seize_acts.specs.Given.SeizeWordsMem.{word_at}
+use Rattle.seize_acts.specs.Given.SeizeReclaimAll.{reclaiming_all, clearing}
+use Rattle.seize_acts.specs.Given.SeizeDeclared.rows.reclaim_all.ReclaimAll.{ReclaimAll}
+use Rattle.seize_acts.specs.Given.SeizeDeclared.rows.settle.Settled.{Settled}
+use Rattle.seize_acts.specs.Given.SeizeDeclared.rows.settle.Settled.TheVariants as settled
+use Rattle.seize_acts.specs.Given.SeizeDeclared.states.TheConstants.{HEAD}
 use Rattle.seize_acts.specs.Answers.{Grant}
 use Rattle.papaya_acts.specs.Given.TablesDeclared.node.Node.{Node}
 use Rattle.papaya_acts.specs.Given.ReclaimsDeferred.{OnlyPairsWait}

@@ -1,13 +1,13 @@
 -- What is promised of the blocks behind which something may be put: each kind of step leaves them somebody's, so that at rest they are linked tables.
 use Rattle.std.specs.Prelude.{◌≡◌, ℕ, Bool, List, Option, Some, None}
-use Rattle.seize_acts.specs.Given.SeizeWords.Mem.{Mem, Took, value_at}
-use Rattle.seize_acts.specs.Given.SeizeWords.Plan.{Steps}
-use Rattle.seize_acts.specs.Given.Seize.World.{World, Request, Begin, Step, Ends, Happens, with_at}
-use Rattle.seize_acts.specs.Given.Seize.declared.progress.Progress.{Progress}
-use Rattle.seize_acts.specs.Given.Seize.declared.progress.Progress.TheVariants as progress
-use Rattle.seize_acts.specs.Given.Seize.declared.rows.reclaim_all.ReclaimAll.{ReclaimAll}
-use Rattle.seize_acts.specs.Given.Seize.declared.rows.reclaim_all.Reclaiming.{Reclaiming}
-use Rattle.seize_acts.specs.Given.Seize.declared.rows.settle.Settled.{Settled}
+use Rattle.seize_acts.specs.Given.SeizeWordsMem.{Mem, Took, value_at}
+use Rattle.seize_acts.specs.Given.SeizeWordsPlan.{Steps}
+use Rattle.seize_acts.specs.Given.SeizeWorld.{World, Request, Begin, Step, Ends, Happens, with_at}
+use Rattle.seize_acts.specs.Given.SeizeDeclared.progress.Progress.{Progress}
+use Rattle.seize_acts.specs.Given.SeizeDeclared.progress.Progress.TheVariants as progress
+use Rattle.seize_acts.specs.Given.SeizeDeclared.rows.reclaim_all.ReclaimAll.{ReclaimAll}
+use Rattle.seize_acts.specs.Given.SeizeDeclared.rows.reclaim_all.Reclaiming.{Reclaiming}
+use Rattle.seize_acts.specs.Given.SeizeDeclared.rows.settle.Settled.{Settled}
 use Rattle.seize_acts.specs.Reclaimed.{IsStillHad}
 use Rattle.papaya_acts.specs.Given.TablesNodes.{deferred_word}
 use Rattle.papaya_acts.specs.Given.TablesDeclared.node.Node.{Node}

@@ -1,9 +1,9 @@
 -- Whose the blocks are that users have and behind which something may be put: linked tables of maps that stand, tables that a call has unlinked and is to hand
 -- over, and those of maps that end.
 use Rattle.std.specs.Prelude.{◌≡◌, ◌≢◌, ◌⊎◌, ℕ, ◌*◌, ◌<◌, ◌≤◌, false, Option, Some, None}
-use Rattle.seize_acts.specs.Given.SeizeWords.Mem.{value_at}
-use Rattle.seize_acts.specs.Given.Seize.Settle.{retiring}
-use Rattle.seize_acts.specs.Given.Seize.World.{World, Rests, times}
+use Rattle.seize_acts.specs.Given.SeizeWordsMem.{value_at}
+use Rattle.seize_acts.specs.Given.SeizeSettle.{retiring}
+use Rattle.seize_acts.specs.Given.SeizeWorld.{World, Rests, times}
 use Rattle.seize_acts.specs.Reclaimed.{IsStillHad}
 use Rattle.papaya_acts.specs.Given.TablesChunks.{is_incremental}
 use Rattle.papaya_acts.specs.Given.TablesNodes.{deferred_word}

@@ -1,6 +1,6 @@
 //! What is promised of the blocks that users have, and behind which something may be put.
 ghost use Rattle.std.specs.Prelude.{ℕ, Bool, Option};
-ghost use Rattle.seize_acts.specs.Given.Seize.World.{World};
+ghost use Rattle.seize_acts.specs.Given.SeizeWorld.{World};
 ghost use Rattle.papaya_acts.specs.Given.TablesDeclared.node.Node.{Node};
 ghost use Rattle.papaya_acts.specs.Given.CallersTogether.{UnderWay};
 ghost use Rattle.papaya_acts.specs.Given.FinishesEndings.{Finishing};

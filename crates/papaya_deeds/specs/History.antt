@@ -1,7 +1,7 @@
 -- What is promised of each entry of a history: linearizability, the life of pairs, tables and blocks, protection and sweeps, by what is promised of what an entry does.
 use Rattle.std.specs.Prelude.{◌≡◌, ◌⊎◌, ℕ, ◌+◌, ◌==◌, ◌&&◌, Bool, true, false, not, List, [], ◌∷◌, ◌++◌, filter, length, Option, Some, if◌then◌else◌}
 use Rattle.std.specs.List.{list_all, list_any}
-use Rattle.papaya_runs.specs.Given.Seize.Register.{bucket_needed}
+use Rattle.papaya_runs.specs.Given.SeizeRegister.{bucket_needed}
 use Rattle.papaya_schedules.specs.declared.call.Answer.{Answer}
 use Rattle.papaya_schedules.specs.declared.call.Answer.TheVariants.{Absent}
 use Rattle.papaya_schedules.specs.declared.call.Call.{Call}

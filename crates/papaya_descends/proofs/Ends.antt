@@ -2,25 +2,25 @@
 use Rattle.std.specs.Prelude.{Some}
 use Rattle.std.proofs.Common.{◌≡◌, ℕ, suc, ◌<◌, ◌≤◌, Bool, false, List, [], ◌∷◌, ◌++◌, length, inl, inr, refl, sym, ap, subst, ◌∙◌, arith}
 use Rattle.std.proofs.lemmas.List.{length-append}
-use Rattle.papaya_maps.specs.Given.SeizeWords.Mem.{Mem, Took, value_at}
-use Rattle.papaya_maps.specs.Given.SeizeWords.Plan.{Steps}
-use Rattle.papaya_maps.specs.Given.Seize.World.{World, times, with_at}
-use Rattle.papaya_maps.specs.Given.Seize.declared.progress.Progress.TheVariants as progress
-use Rattle.papaya_maps.specs.Given.Seize.declared.rows.settle.Settled.{Settled}
-use Rattle.papaya_maps.specs.Given.Seize.declared.rows.settle.Settled.TheVariants as settled
-use Rattle.papaya_maps.specs.Given.Tables.declared.node.Node.{Node}
-use Rattle.papaya_maps.specs.Given.Raw.EndMap.{end_map_plan}
-use Rattle.papaya_maps.specs.Given.Raw.declared.machines.end_map.EndMap.{EndMap}
-use Rattle.papaya_maps.specs.Given.Raw.declared.machines.end_map.Ending.{Ending}
-use Rattle.papaya_maps.specs.Given.Raw.declared.machines.end_map.Ending.TheVariants as at
-use Rattle.papaya_maps.proofs.Given.Points.Making.EndsSum.{sum_lowers}
-use Rattle.papaya_maps.specs.Given.Points.Measures.{IsBelow}
-use Rattle.papaya_maps.specs.Given.Points.MeasuresTables.{number_of_sum}
-use Rattle.papaya_maps.proofs.Given.Callers.Together.At.{at_same}
-use Rattle.papaya_maps.specs.Given.Resize.declared.sum.Sum.{Sum}
-use Rattle.papaya_maps.specs.Given.Finishes.Endings.{Finishing, FinishingFacts, FinishingTold, EndingsTogether, StepsOfEnding, waiting_by}
-use Rattle.papaya_maps.specs.Given.Finishes.FactsEnds.{EndingFacts, Joins, back_of, wait_before}
-use Rattle.papaya_maps.proofs.Given.Finishes.Ends.OrdersOn.{back_same}
+use Rattle.papaya_maps.specs.Given.SeizeWordsMem.{Mem, Took, value_at}
+use Rattle.papaya_maps.specs.Given.SeizeWordsPlan.{Steps}
+use Rattle.papaya_maps.specs.Given.SeizeWorld.{World, times, with_at}
+use Rattle.papaya_maps.specs.Given.SeizeDeclared.progress.Progress.TheVariants as progress
+use Rattle.papaya_maps.specs.Given.SeizeDeclared.rows.settle.Settled.{Settled}
+use Rattle.papaya_maps.specs.Given.SeizeDeclared.rows.settle.Settled.TheVariants as settled
+use Rattle.papaya_maps.specs.Given.TablesDeclared.node.Node.{Node}
+use Rattle.papaya_maps.specs.Given.RawEndMap.{end_map_plan}
+use Rattle.papaya_maps.specs.Given.RawDeclared.machines.end_map.EndMap.{EndMap}
+use Rattle.papaya_maps.specs.Given.RawDeclared.machines.end_map.Ending.{Ending}
+use Rattle.papaya_maps.specs.Given.RawDeclared.machines.end_map.Ending.TheVariants as at
+use Rattle.papaya_maps.proofs.Given.PointsMaking.EndsSum.{sum_lowers}
+use Rattle.papaya_maps.specs.Given.PointsMeasures.{IsBelow}
+use Rattle.papaya_maps.specs.Given.PointsMeasuresTables.{number_of_sum}
+use Rattle.papaya_maps.proofs.Given.CallersTogether.At.{at_same}
+use Rattle.papaya_maps.specs.Given.ResizeDeclared.sum.Sum.{Sum}
+use Rattle.papaya_maps.specs.Given.FinishesEndings.{Finishing, FinishingFacts, FinishingTold, EndingsTogether, StepsOfEnding, waiting_by}
+use Rattle.papaya_maps.specs.Given.FinishesFactsEnds.{EndingFacts, Joins, back_of, wait_before}
+use Rattle.papaya_maps.proofs.Given.FinishesEnds.OrdersOn.{back_same}
 use Rattle.papaya_maps.specs.MeasuresEnds.{stage, most_blocks, list_len, steps_left}
 use Rattle.papaya_maps.proofs.Begins.MachinesEnd.{lowered_ends}
 use Rattle.papaya_descends.specs.ComeToAnEnd.{CountingGoes, CountingsEnd, goes_on_as, HasEnd, EndGoes, EndingsEnd}

@@ -2,14 +2,14 @@
 use Rattle.std.specs.Prelude.{◌++◌, IsSome, Option, Some, None}
 use Rattle.std.proofs.Common.{◌≡◌, ℕ, ◌*◌, ◌<◌, ◌≤◌, List, [], ◌∷◌, length, refl, sym, subst, arith}
 use Rattle.std.proofs.lemmas.List.{length-append}
-use Rattle.papaya_maps.specs.Given.SeizeWords.Mem.{Mem, block_of, value_in, entry_in}
-use Rattle.papaya_maps.specs.Given.SeizeWords.declared.block.Block.{Block}
-use Rattle.papaya_maps.specs.Given.Seize.Further.{ListFrom}
-use Rattle.papaya_maps.specs.Given.Seize.World.{times}
-use Rattle.papaya_maps.specs.Given.Seize.declared.states.TheConstants.{NEXT as LINK}
-use Rattle.papaya_maps.proofs.Given.Rule.Words.WritesWords.{is_some_of}
-use Rattle.papaya_maps.proofs.Given.Finishes.Ends.CountedBlocks.{some_here, some_last, times_here}
-use Rattle.papaya_maps.proofs.Given.Finishes.Ends.Memory.{list_link}
+use Rattle.papaya_maps.specs.Given.SeizeWordsMem.{Mem, block_of, value_in, entry_in}
+use Rattle.papaya_maps.specs.Given.SeizeWordsDeclared.block.Block.{Block}
+use Rattle.papaya_maps.specs.Given.SeizeFurther.{ListFrom}
+use Rattle.papaya_maps.specs.Given.SeizeWorld.{times}
+use Rattle.papaya_maps.specs.Given.SeizeDeclared.states.TheConstants.{NEXT as LINK}
+use Rattle.papaya_maps.proofs.Given.RuleWords.WritesWords.{is_some_of}
+use Rattle.papaya_maps.proofs.Given.FinishesEnds.CountedBlocks.{some_here, some_last, times_here}
+use Rattle.papaya_maps.proofs.Given.FinishesEnds.Memory.{list_link}
 use Rattle.papaya_maps.specs.MeasuresEnds.{most_blocks, list_len}
 use Rattle.papaya_maps.proofs.Ends.BlocksFew.{blocks_few, list_few, list_len_is}
 

@@ -2,26 +2,26 @@
 use Rattle.std.specs.Prelude.{◌-◌, Option, Some, None}
 use Rattle.std.proofs.Common.{◌≡◌, ℕ, zero, suc, ◌+◌, ◌<◌, ◌≤◌, Bool, true, List, [], ◌∷◌, ◌++◌, length, map, inl, inr, refl, sym, ap, subst, ◌∙◌, arith}
 use Rattle.std.proofs.lemmas.List.{length-append}
-use Rattle.papaya_maps.specs.Given.SeizeWords.declared.at.At.TheVariants.{Entry}
-use Rattle.papaya_maps.specs.Given.SeizeWords.Mem.{Mem, Took, value_at, word_at}
-use Rattle.papaya_maps.specs.Given.SeizeWords.Plan.{Steps}
-use Rattle.papaya_maps.specs.Given.Seize.declared.states.TheConstants.{NEXT}
-use Rattle.papaya_maps.specs.Given.Seize.declared.rows.settle.Settled.{Settled}
-use Rattle.papaya_maps.specs.Given.Seize.declared.rows.settle.Settled.TheVariants as settled
-use Rattle.papaya_maps.specs.Given.Seize.Further.{FurtherAre, FurtherFrom, ListFrom}
-use Rattle.papaya_maps.specs.Given.Tables.Chunks.{is_incremental}
-use Rattle.papaya_maps.specs.Given.Tables.Nodes.{deferred_word}
-use Rattle.papaya_maps.specs.Given.Tables.declared.node.Node.{Node}
-use Rattle.papaya_maps.specs.Given.Raw.EndMap.{end_map_plan}
-use Rattle.papaya_maps.specs.Given.Raw.declared.machines.end_map.EndMap.{EndMap}
-use Rattle.papaya_maps.specs.Given.Points.Measures.{IsBelow}
-use Rattle.papaya_maps.specs.Given.Finishes.Endings.{Finishing}
-use Rattle.papaya_maps.specs.Given.Finishes.FactsEnds.{back_of}
-use Rattle.papaya_maps.specs.Given.Finishes.Orders.{given_of, pairs_of, tables_in}
-use Rattle.papaya_maps.specs.Given.Finishes.Owners.{OwnEndFacts}
-use Rattle.papaya_maps.proofs.Given.Finishes.Ends.Said.{same_some}
+use Rattle.papaya_maps.specs.Given.SeizeWordsDeclared.at.At.TheVariants.{Entry}
+use Rattle.papaya_maps.specs.Given.SeizeWordsMem.{Mem, Took, value_at, word_at}
+use Rattle.papaya_maps.specs.Given.SeizeWordsPlan.{Steps}
+use Rattle.papaya_maps.specs.Given.SeizeDeclared.states.TheConstants.{NEXT}
+use Rattle.papaya_maps.specs.Given.SeizeDeclared.rows.settle.Settled.{Settled}
+use Rattle.papaya_maps.specs.Given.SeizeDeclared.rows.settle.Settled.TheVariants as settled
+use Rattle.papaya_maps.specs.Given.SeizeFurther.{FurtherAre, FurtherFrom, ListFrom}
+use Rattle.papaya_maps.specs.Given.TablesChunks.{is_incremental}
+use Rattle.papaya_maps.specs.Given.TablesNodes.{deferred_word}
+use Rattle.papaya_maps.specs.Given.TablesDeclared.node.Node.{Node}
+use Rattle.papaya_maps.specs.Given.RawEndMap.{end_map_plan}
+use Rattle.papaya_maps.specs.Given.RawDeclared.machines.end_map.EndMap.{EndMap}
+use Rattle.papaya_maps.specs.Given.PointsMeasures.{IsBelow}
+use Rattle.papaya_maps.specs.Given.FinishesEndings.{Finishing}
+use Rattle.papaya_maps.specs.Given.FinishesFactsEnds.{back_of}
+use Rattle.papaya_maps.specs.Given.FinishesOrders.{given_of, pairs_of, tables_in}
+use Rattle.papaya_maps.specs.Given.FinishesOwners.{OwnEndFacts}
+use Rattle.papaya_maps.proofs.Given.FinishesEnds.Said.{same_some}
 use Rattle.papaya_maps.proofs.Begins.MachinesEnd.{lowered_ends}
-use Rattle.papaya_maps.specs.Given.Seize.World.{World}
+use Rattle.papaya_maps.specs.Given.SeizeWorld.{World}
 use Rattle.papaya_descends.specs.Numbers.{ahead}
 use Rattle.papaya_descends.specs.Owned.{HasOwn, OwnEndingsEnd, OwnEndingsFall, OwnGoes, goes_own, number_of_own, own_number}
 use Rattle.papaya_descends.proofs.Points.{To, falls_at}

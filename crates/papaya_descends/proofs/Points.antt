@@ -2,37 +2,37 @@
 use Rattle.std.specs.Prelude.{◌-◌, ◌%◌, ◌^◌, ◌==◌, ◌&&◌, not, Some, None, nat_lt, map, if◌then◌else◌}
 use Rattle.std.proofs.Common.{◌≡◌, ℕ, suc, ◌+◌, ◌/◌, ◌<◌, ◌≤◌, Bool, true, false, List, [], ◌∷◌, ◌++◌, length, inl, inr, refl, arith, ap, sym, subst, ◌∙◌}
 use Rattle.std.proofs.lemmas.List.{length-append}
-use Rattle.papaya_maps.specs.Given.SeizeWords.declared.at.At.TheVariants.{Root, Used, Entry, Word}
-use Rattle.papaya_maps.specs.Given.SeizeWords.Op.{Found, Taken}
-use Rattle.papaya_maps.specs.Given.SeizeWords.Mem.{Mem, Took, value_at, word_at, with_word, with_block}
-use Rattle.papaya_maps.specs.Given.SeizeWords.Plan.{Now, Seeing, Steps, Ends}
-use Rattle.papaya_maps.proofs.Given.SeizeWords.OneOwner.Operations.{loaded, stored, taken}
-use Rattle.papaya_maps.proofs.Given.SeizeWords.Plans.{ends_if}
-use Rattle.papaya_maps.specs.Given.Seize.declared.rows.settle.Settled.{Settled}
-use Rattle.papaya_maps.specs.Given.Seize.declared.rows.settle.Settled.TheVariants as settled
-use Rattle.papaya_maps.specs.Given.Seize.declared.states.TheConstants.{NEXT as LINK}
-use Rattle.papaya_maps.specs.Given.Seize.Further.{ListFrom}
-use Rattle.papaya_maps.specs.Given.Seize.World.{World, times}
-use Rattle.papaya_maps.specs.Given.Tables.Chunks.{is_incremental}
-use Rattle.papaya_maps.specs.Given.Tables.Nodes.{table_seen}
-use Rattle.papaya_maps.specs.Given.Tables.declared.node.Node.{Node}
-use Rattle.papaya_maps.specs.Given.Tables.declared.node.Node.TheVariants as node
-use Rattle.papaya_maps.specs.Given.Tables.declared.setting.Setting.{Setting}
-use Rattle.papaya_maps.specs.Given.Tables.declared.table.Table.{Table}
-use Rattle.papaya_maps.specs.Given.Tables.declared.table_words.TheConstants.{NEXT, DEFERRED, PLACES}
-use Rattle.papaya_maps.specs.Given.Raw.EndMap.{standing, next_place, is_current, root_read, word_read, given_back, next_read, list_read, follower_read, after_read, dropped, plan_at}
-use Rattle.papaya_maps.specs.Given.Raw.declared.machines.end_map.EndMap.{EndMap}
-use Rattle.papaya_maps.specs.Given.Raw.declared.machines.end_map.Ending.{Ending}
-use Rattle.papaya_maps.specs.Given.Raw.declared.machines.end_map.Ending.TheVariants as at
-use Rattle.papaya_maps.specs.Given.Rule.Chart.{Chart}
-use Rattle.papaya_maps.specs.Given.Rule.Words.{Blocks, next_word}
-use Rattle.papaya_maps.proofs.Given.Rule.Words.TablesSeen.{block_of_link}
-use Rattle.papaya_maps.specs.Given.Points.Measures.{IsBelow}
-use Rattle.papaya_maps.specs.Given.Points.Steps.{AreLawful}
-use Rattle.papaya_maps.specs.Given.Finishes.FactsEnds.{Joins, BeganIn, AtPairs, EndingFacts, EndFacts, RootAt, back_of, from_table, wait_before}
-use Rattle.papaya_maps.specs.Given.Finishes.Orders.{pairs_behind}
-use Rattle.papaya_maps.proofs.Given.Finishes.Ends.Pairs.{NextIs, next_there, next_is, next_seen}
-use Rattle.papaya_maps.proofs.Given.Finishes.Ends.Said.{same_some}
+use Rattle.papaya_maps.specs.Given.SeizeWordsDeclared.at.At.TheVariants.{Root, Used, Entry, Word}
+use Rattle.papaya_maps.specs.Given.SeizeWordsOp.{Found, Taken}
+use Rattle.papaya_maps.specs.Given.SeizeWordsMem.{Mem, Took, value_at, word_at, with_word, with_block}
+use Rattle.papaya_maps.specs.Given.SeizeWordsPlan.{Now, Seeing, Steps, Ends}
+use Rattle.papaya_maps.proofs.Given.SeizeWordsOneOwner.Operations.{loaded, stored, taken}
+use Rattle.papaya_maps.proofs.Given.SeizeWordsPlans.{ends_if}
+use Rattle.papaya_maps.specs.Given.SeizeDeclared.rows.settle.Settled.{Settled}
+use Rattle.papaya_maps.specs.Given.SeizeDeclared.rows.settle.Settled.TheVariants as settled
+use Rattle.papaya_maps.specs.Given.SeizeDeclared.states.TheConstants.{NEXT as LINK}
+use Rattle.papaya_maps.specs.Given.SeizeFurther.{ListFrom}
+use Rattle.papaya_maps.specs.Given.SeizeWorld.{World, times}
+use Rattle.papaya_maps.specs.Given.TablesChunks.{is_incremental}
+use Rattle.papaya_maps.specs.Given.TablesNodes.{table_seen}
+use Rattle.papaya_maps.specs.Given.TablesDeclared.node.Node.{Node}
+use Rattle.papaya_maps.specs.Given.TablesDeclared.node.Node.TheVariants as node
+use Rattle.papaya_maps.specs.Given.TablesDeclared.setting.Setting.{Setting}
+use Rattle.papaya_maps.specs.Given.TablesDeclared.table.Table.{Table}
+use Rattle.papaya_maps.specs.Given.TablesDeclared.table_words.TheConstants.{NEXT, DEFERRED, PLACES}
+use Rattle.papaya_maps.specs.Given.RawEndMap.{standing, next_place, is_current, root_read, word_read, given_back, next_read, list_read, follower_read, after_read, dropped, plan_at}
+use Rattle.papaya_maps.specs.Given.RawDeclared.machines.end_map.EndMap.{EndMap}
+use Rattle.papaya_maps.specs.Given.RawDeclared.machines.end_map.Ending.{Ending}
+use Rattle.papaya_maps.specs.Given.RawDeclared.machines.end_map.Ending.TheVariants as at
+use Rattle.papaya_maps.specs.Given.RuleChart.{Chart}
+use Rattle.papaya_maps.specs.Given.RuleWords.{Blocks, next_word}
+use Rattle.papaya_maps.proofs.Given.RuleWords.TablesSeen.{block_of_link}
+use Rattle.papaya_maps.specs.Given.PointsMeasures.{IsBelow}
+use Rattle.papaya_maps.specs.Given.PointsSteps.{AreLawful}
+use Rattle.papaya_maps.specs.Given.FinishesFactsEnds.{Joins, BeganIn, AtPairs, EndingFacts, EndFacts, RootAt, back_of, from_table, wait_before}
+use Rattle.papaya_maps.specs.Given.FinishesOrders.{pairs_behind}
+use Rattle.papaya_maps.proofs.Given.FinishesEnds.Pairs.{NextIs, next_there, next_is, next_seen}
+use Rattle.papaya_maps.proofs.Given.FinishesEnds.Said.{same_some}
 use Rattle.papaya_maps.specs.MeasuresEnds.{most_blocks, list_len}
 use Rattle.papaya_maps.proofs.Ends.BlocksFew.{list_len_is}
 use Rattle.papaya_descends.specs.Numbers.{ahead}

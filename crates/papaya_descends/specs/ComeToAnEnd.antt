@@ -1,22 +1,22 @@
 -- Countings and ends of maps come to their ends by their own steps, whatever others do between these.
 use Rattle.std.specs.Prelude.{◌≡◌, ℕ, Bool, [], ◌∷◌, ◌++◌, Option, Some}
-use Rattle.papaya_maps.specs.Given.SeizeWords.Mem.{Mem, Took, value_at}
-use Rattle.papaya_maps.specs.Given.SeizeWords.Plan.{Steps}
-use Rattle.papaya_maps.specs.Given.Seize.World.{World}
-use Rattle.papaya_maps.specs.Given.Seize.declared.progress.Progress.TheVariants as progress
-use Rattle.papaya_maps.specs.Given.Seize.declared.rows.settle.Settled.{Settled}
-use Rattle.papaya_maps.specs.Given.Seize.declared.rows.settle.Settled.TheVariants as settled
-use Rattle.papaya_maps.specs.Given.Tables.declared.node.Node.{Node}
-use Rattle.papaya_maps.specs.Given.Resize.Sum.{sum_plan}
-use Rattle.papaya_maps.specs.Given.Resize.declared.sum.Sum.{Sum}
-use Rattle.papaya_maps.specs.Given.Raw.EndMap.{end_map_plan}
-use Rattle.papaya_maps.specs.Given.Raw.declared.machines.end_map.EndMap.{EndMap}
-use Rattle.papaya_maps.specs.Given.Alone.Endings.{RunsEnd}
-use Rattle.papaya_maps.specs.Given.Callers.Together.{UnderWay}
-use Rattle.papaya_maps.specs.Given.Finishes.Endings.{Finishing, EndingsTogether, StepsOfEnding, waiting_by}
-use Rattle.papaya_maps.specs.Given.Finishes.FactsEnds.{Deed, taken_by}
-use Rattle.papaya_maps.specs.Given.Finishes.Makings.{Beginning}
-use Rattle.papaya_maps.specs.Given.Finishes.Maps.{Standing}
+use Rattle.papaya_maps.specs.Given.SeizeWordsMem.{Mem, Took, value_at}
+use Rattle.papaya_maps.specs.Given.SeizeWordsPlan.{Steps}
+use Rattle.papaya_maps.specs.Given.SeizeWorld.{World}
+use Rattle.papaya_maps.specs.Given.SeizeDeclared.progress.Progress.TheVariants as progress
+use Rattle.papaya_maps.specs.Given.SeizeDeclared.rows.settle.Settled.{Settled}
+use Rattle.papaya_maps.specs.Given.SeizeDeclared.rows.settle.Settled.TheVariants as settled
+use Rattle.papaya_maps.specs.Given.TablesDeclared.node.Node.{Node}
+use Rattle.papaya_maps.specs.Given.ResizeSum.{sum_plan}
+use Rattle.papaya_maps.specs.Given.ResizeDeclared.sum.Sum.{Sum}
+use Rattle.papaya_maps.specs.Given.RawEndMap.{end_map_plan}
+use Rattle.papaya_maps.specs.Given.RawDeclared.machines.end_map.EndMap.{EndMap}
+use Rattle.papaya_maps.specs.Given.AloneEndings.{RunsEnd}
+use Rattle.papaya_maps.specs.Given.CallersTogether.{UnderWay}
+use Rattle.papaya_maps.specs.Given.FinishesEndings.{Finishing, EndingsTogether, StepsOfEnding, waiting_by}
+use Rattle.papaya_maps.specs.Given.FinishesFactsEnds.{Deed, taken_by}
+use Rattle.papaya_maps.specs.Given.FinishesMakings.{Beginning}
+use Rattle.papaya_maps.specs.Given.FinishesMaps.{Standing}
 
 module _ (K V : Type 0) where
   -- a step of a counting that goes on, in whatever memory

@@ -1,13 +1,13 @@
 -- A number that each step of the end of a map lowers that goes on, whatever others do.
 use Rattle.std.specs.Prelude.{◌≡◌, ℕ, ◌-◌, false, List, [], ◌∷◌, length}
-use Rattle.papaya_maps.specs.Given.SeizeWords.Mem.{Mem}
-use Rattle.papaya_maps.specs.Given.Tables.declared.node.Node.{Node}
-use Rattle.papaya_maps.specs.Given.Raw.declared.machines.end_map.EndMap.{EndMap}
-use Rattle.papaya_maps.specs.Given.Raw.declared.machines.end_map.Ending.{Ending}
-use Rattle.papaya_maps.specs.Given.Raw.declared.machines.end_map.Ending.TheVariants as at
+use Rattle.papaya_maps.specs.Given.SeizeWordsMem.{Mem}
+use Rattle.papaya_maps.specs.Given.TablesDeclared.node.Node.{Node}
+use Rattle.papaya_maps.specs.Given.RawDeclared.machines.end_map.EndMap.{EndMap}
+use Rattle.papaya_maps.specs.Given.RawDeclared.machines.end_map.Ending.{Ending}
+use Rattle.papaya_maps.specs.Given.RawDeclared.machines.end_map.Ending.TheVariants as at
 use Rattle.papaya_maps.specs.MeasuresEnds.{stage, steps_left}
-use Rattle.papaya_maps.specs.Given.Finishes.Endings.{Finishing}
-use Rattle.papaya_maps.specs.Given.Finishes.FactsEnds.{back_of}
+use Rattle.papaya_maps.specs.Given.FinishesEndings.{Finishing}
+use Rattle.papaya_maps.specs.Given.FinishesFactsEnds.{back_of}
 
 -- the tables of a map from the one on that its end has come to
 abbrev pub tables_ahead : ℕ → EndMap → Ending → ℕ

@@ -1,21 +1,21 @@
 -- The end of a map that owns its collector: each step by which it goes on lowers a number, and so it comes to its end.
 use Rattle.std.specs.Prelude.{◌≡◌, ℕ, ◌-◌, Bool, true, List, [], ◌∷◌, ◌++◌, length, Option}
-use Rattle.papaya_maps.specs.Given.SeizeWords.Mem.{Mem, Took, value_at}
-use Rattle.papaya_maps.specs.Given.SeizeWords.Plan.{Steps}
-use Rattle.papaya_maps.specs.Given.Seize.World.{World}
-use Rattle.papaya_maps.specs.Given.Seize.declared.rows.settle.Settled.{Settled}
-use Rattle.papaya_maps.specs.Given.Seize.declared.rows.settle.Settled.TheVariants as settled
-use Rattle.papaya_maps.specs.Given.Tables.declared.node.Node.{Node}
-use Rattle.papaya_maps.specs.Given.Raw.EndMap.{end_map_plan}
-use Rattle.papaya_maps.specs.Given.Raw.declared.machines.end_map.EndMap.{EndMap}
-use Rattle.papaya_maps.specs.Given.Alone.Endings.{RunsEnd}
-use Rattle.papaya_maps.specs.Given.Points.Measures.{IsBelow}
-use Rattle.papaya_maps.specs.Given.Callers.Together.{UnderWay}
-use Rattle.papaya_maps.specs.Given.Finishes.Endings.{Finishing}
-use Rattle.papaya_maps.specs.Given.Finishes.FactsEnds.{back_of}
-use Rattle.papaya_maps.specs.Given.Finishes.Makings.{Beginning}
-use Rattle.papaya_maps.specs.Given.Finishes.Maps.{Standing}
-use Rattle.papaya_maps.specs.Given.Finishes.Owners.{OwnEnding}
+use Rattle.papaya_maps.specs.Given.SeizeWordsMem.{Mem, Took, value_at}
+use Rattle.papaya_maps.specs.Given.SeizeWordsPlan.{Steps}
+use Rattle.papaya_maps.specs.Given.SeizeWorld.{World}
+use Rattle.papaya_maps.specs.Given.SeizeDeclared.rows.settle.Settled.{Settled}
+use Rattle.papaya_maps.specs.Given.SeizeDeclared.rows.settle.Settled.TheVariants as settled
+use Rattle.papaya_maps.specs.Given.TablesDeclared.node.Node.{Node}
+use Rattle.papaya_maps.specs.Given.RawEndMap.{end_map_plan}
+use Rattle.papaya_maps.specs.Given.RawDeclared.machines.end_map.EndMap.{EndMap}
+use Rattle.papaya_maps.specs.Given.AloneEndings.{RunsEnd}
+use Rattle.papaya_maps.specs.Given.PointsMeasures.{IsBelow}
+use Rattle.papaya_maps.specs.Given.CallersTogether.{UnderWay}
+use Rattle.papaya_maps.specs.Given.FinishesEndings.{Finishing}
+use Rattle.papaya_maps.specs.Given.FinishesFactsEnds.{back_of}
+use Rattle.papaya_maps.specs.Given.FinishesMakings.{Beginning}
+use Rattle.papaya_maps.specs.Given.FinishesMaps.{Standing}
+use Rattle.papaya_maps.specs.Given.FinishesOwners.{OwnEnding}
 use Rattle.papaya_descends.specs.Numbers.{ahead}
 
 -- the blocks that are still to be reclaimed, those that tables carry, too, and what is ahead until the next one is

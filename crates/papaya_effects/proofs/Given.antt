@@ -1,2 +1,1 @@
 -- What is so by the crates below, given on to the crates above: these list this crate in place of those.
-pub use Rattle.papaya_schedules.proofs.Given.Runs

@@ -1,10 +1,10 @@
 -- What an operation does to pairs and tables: its effects, by what it has changed, by what the blocks were before, and by who made it.
 use Rattle.std.specs.Prelude.{ℕ, ◌+◌, ◌-◌, ◌==◌, ◌<◌, ◌^◌, ◌&&◌, nat_le, nat_lt, Bool, true, List, [], ◌∷◌, if◌then◌else◌}
-use Rattle.papaya_schedules.specs.Given.SeizeWords.declared.at.At.{At}
-use Rattle.papaya_schedules.specs.Given.SeizeWords.declared.at.At.TheVariants.{Root, Entry, Word}
-use Rattle.papaya_schedules.specs.Given.SeizeWords.Word.{block_in}
-use Rattle.papaya_schedules.specs.Given.Seize.declared.states.TheConstants.{FIRST}
-use Rattle.papaya_schedules.specs.Given.Tables.declared.table_words.TheConstants.{NEXT, DEFERRED, PLACES}
+use Rattle.papaya_schedules.specs.Given.SeizeWordsDeclared.at.At.{At}
+use Rattle.papaya_schedules.specs.Given.SeizeWordsDeclared.at.At.TheVariants.{Root, Entry, Word}
+use Rattle.papaya_schedules.specs.Given.SeizeWordsWord.{block_in}
+use Rattle.papaya_schedules.specs.Given.SeizeDeclared.states.TheConstants.{FIRST}
+use Rattle.papaya_schedules.specs.Given.TablesDeclared.table_words.TheConstants.{NEXT, DEFERRED, PLACES}
 use Rattle.papaya_schedules.specs.declared.effect.Effect.{Effect}
 use Rattle.papaya_schedules.specs.declared.effect.Effect.TheVariants as effect
 use Rattle.papaya_schedules.specs.declared.effect.Growth.TheVariants.{ABlock, ABucket}

@@ -6,6 +6,3 @@ pub mod did;
 pub mod notes;
 pub mod role;
 pub mod telling;
-
-pub use papaya_schedules;
-pub use papaya_schedules::papaya_raw;

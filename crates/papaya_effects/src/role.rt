@@ -1,6 +1,6 @@
 //! What a block of a run's memory is.
+use papaya_runs::outcome::TableShape;
 use papaya_schedules::effect::Table;
-use papaya_schedules::papaya_runs::outcome::TableShape;
 
 /// What a block is.
 #[derive(Clone, Copy)]

@@ -1,6 +1,6 @@
 //! What an operation does to pairs and tables, and what is known after it.
 ghost use Rattle.std.specs.Prelude.{◌≡◌, ◌==◌, ◌<◌, ◌+◌, ◌^◌, ◌&&◌, nat_lt, Bool, [], ◌∷◌, if◌then◌else◌, OnOk, OnErr};
-ghost use Rattle.papaya_schedules.specs.Given.Seize.declared.states.TheConstants.{FIRST};
+ghost use Rattle.papaya_schedules.specs.Given.SeizeDeclared.states.TheConstants.{FIRST};
 ghost use Rattle.papaya_schedules.specs.declared.effect.Effect.TheVariants.{Asked, Retired};
 ghost use Rattle.papaya_schedules.specs.declared.effect.Growth.TheVariants.{ABlock, ABucket};
 ghost use Rattle.papaya_effects.specs.Did.{listed};
@@ -11,12 +11,12 @@ use crate::acting::Acting;
 use crate::did::Did;
 use crate::notes::Notes;
 use crate::role::Role;
+use papaya_runs::outcome::TableShape;
 use papaya_schedules::effect::{Effect, Growth, Spot, Table, Thing};
-use papaya_schedules::papaya_runs::outcome::TableShape;
-use papaya_schedules::papaya_tables::table_words::{DEFERRED, NEXT, PLACES};
-use papaya_schedules::seize::states::FIRST;
-use papaya_schedules::seize_words::{At, Link};
+use papaya_tables::table_words::{DEFERRED, NEXT, PLACES};
 use papaya_teller::changed::{Changed, Kind};
+use seize::states::FIRST;
+use seize_words::{At, Link};
 use std::alloc::AllocError;
 
 impl Acting {

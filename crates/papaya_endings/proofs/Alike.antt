@@ -2,15 +2,15 @@
 use Rattle.std.specs.Prelude.{◌≡◌, ◌≤◌, ◌==◌, ◌&&◌, ℕ, Bool, true, false, not, nat_le, List, [], ◌∷◌, filter, find, length, Option, Some, None, if◌then◌else◌}
 use Rattle.std.proofs.Common.{refl, ap, sym, ◌∙◌, arith}
 use Rattle.std.proofs.lemmas.Bool.{eq-eqb}
-use Rattle.papaya_deeds.specs.Given.Schedules.declared.effect.Effect.{Effect}
-use Rattle.papaya_deeds.specs.Given.Schedules.declared.effect.Effect.TheVariants as effect
-use Rattle.papaya_deeds.specs.Given.Schedules.declared.effect.Spot.{Spot}
-use Rattle.papaya_deeds.specs.Given.Schedules.declared.effect.Table.{Table}
-use Rattle.papaya_deeds.specs.Given.Schedules.Effects.{with_effect}
-use Rattle.papaya_deeds.specs.Given.Schedules.Lists.{is_among}
-use Rattle.papaya_deeds.specs.Given.Schedules.Moment.{GivenBack, InMap, IsTaken, Left, MapThere, Moment, Place, TableThere}
-use Rattle.papaya_deeds.specs.Given.Schedules.Things.{is_before, same_table}
-use Rattle.papaya_deeds.specs.Given.Schedules.Views.{behind, first_of, first_or, is_in_map, is_linked, map_at}
+use Rattle.papaya_deeds.specs.Given.SchedulesDeclared.effect.Effect.{Effect}
+use Rattle.papaya_deeds.specs.Given.SchedulesDeclared.effect.Effect.TheVariants as effect
+use Rattle.papaya_deeds.specs.Given.SchedulesDeclared.effect.Spot.{Spot}
+use Rattle.papaya_deeds.specs.Given.SchedulesDeclared.effect.Table.{Table}
+use Rattle.papaya_deeds.specs.Given.SchedulesEffects.{with_effect}
+use Rattle.papaya_deeds.specs.Given.SchedulesLists.{is_among}
+use Rattle.papaya_deeds.specs.Given.SchedulesMoment.{GivenBack, InMap, IsTaken, Left, MapThere, Moment, Place, TableThere}
+use Rattle.papaya_deeds.specs.Given.SchedulesThings.{is_before, same_table}
+use Rattle.papaya_deeds.specs.Given.SchedulesViews.{behind, first_of, first_or, is_in_map, is_linked, map_at}
 use Rattle.papaya_protects.proofs.Given.OthersOutside.{in_map_of}
 use Rattle.papaya_protects.proofs.Given.FindsLists.{number_passes, numbers_pass}
 use Rattle.papaya_deeds.specs.History.{EndFinds, is_first_of, is_next_pair, left_tables}

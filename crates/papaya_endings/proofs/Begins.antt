@@ -3,22 +3,22 @@ use Rattle.std.specs.Prelude.{◌≡◌, ◌<◌, ◌≤◌, ◌-◌, ◌==◌, 
 use Rattle.std.proofs.Common.{refl, ap, sym, subst, ◌∙◌, arith, inl, inr}
 use Rattle.std.proofs.lemmas.Bool.{and_parts, cases_order, eq-eqb, leb-true}
 use Rattle.std.proofs.lemmas.List.Elements.{filter-append}
-use Rattle.seize_acts.specs.Given.Seize.World.{times}
-use Rattle.papaya_deeds.specs.Given.Tables.Chunks.{is_incremental}
+use Rattle.seize_acts.specs.Given.SeizeWorld.{times}
+use Rattle.papaya_deeds.specs.Given.TablesChunks.{is_incremental}
 use Rattle.papaya_protects.specs.Given.RuleChart.{Chart}
 use Rattle.papaya_protects.specs.Given.FinishesEndings.{AllPairsOnce}
 use Rattle.papaya_protects.specs.Given.FinishesMaps.{Standing}
 use Rattle.papaya_protects.specs.Given.FinishesOrders.{pairs_of}
 use Rattle.papaya_protects.proofs.Given.FinishesEnds.CountedBlocks.{some_here, some_last, some_of_first, times-append}
-use Rattle.papaya_deeds.specs.Given.Schedules.declared.effect.Effect.{Effect}
-use Rattle.papaya_deeds.specs.Given.Schedules.declared.effect.Effect.TheVariants.{Ended, Taken}
-use Rattle.papaya_deeds.specs.Given.Schedules.declared.effect.Table.{Table}
-use Rattle.papaya_deeds.specs.Given.Schedules.After.{tables_taken}
-use Rattle.papaya_deeds.specs.Given.Schedules.Handing.{in_order}
-use Rattle.papaya_deeds.specs.Given.Schedules.Moment.{GivenBack, InMap, IsLinked, IsTaken, Left, MapThere, Moment, Stage, TableThere}
-use Rattle.papaya_deeds.specs.Given.Schedules.Lists.{is_among}
-use Rattle.papaya_deeds.specs.Given.Schedules.Things.{is_before, same_table}
-use Rattle.papaya_deeds.specs.Given.Schedules.Views.{behind, chain_of, first_of, first_or, is_in_map, is_linked, tables_of}
+use Rattle.papaya_deeds.specs.Given.SchedulesDeclared.effect.Effect.{Effect}
+use Rattle.papaya_deeds.specs.Given.SchedulesDeclared.effect.Effect.TheVariants.{Ended, Taken}
+use Rattle.papaya_deeds.specs.Given.SchedulesDeclared.effect.Table.{Table}
+use Rattle.papaya_deeds.specs.Given.SchedulesAfter.{tables_taken}
+use Rattle.papaya_deeds.specs.Given.SchedulesHanding.{in_order}
+use Rattle.papaya_deeds.specs.Given.SchedulesMoment.{GivenBack, InMap, IsLinked, IsTaken, Left, MapThere, Moment, Stage, TableThere}
+use Rattle.papaya_deeds.specs.Given.SchedulesLists.{is_among}
+use Rattle.papaya_deeds.specs.Given.SchedulesThings.{is_before, same_table}
+use Rattle.papaya_deeds.specs.Given.SchedulesViews.{behind, chain_of, first_of, first_or, is_in_map, is_linked, tables_of}
 use Rattle.papaya_protects.specs.Given.EffectsKnown.{Known}
 use Rattle.papaya_protects.specs.Given.FollowsMaps.{ShowsMap, shape_at, table_of, tables_to}
 use Rattle.papaya_protects.proofs.Given.FollowsAlike.{put_elsewhere}

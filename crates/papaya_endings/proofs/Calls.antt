@@ -4,20 +4,20 @@ use Rattle.std.specs.List.{AllByRecursion, list_all}
 use Rattle.std.proofs.Common.{refl, ap, sym, subst, ◌∙◌, arith, inl, inr, eqb-true}
 use Rattle.std.proofs.lemmas.Bool.{and_parts, leb-true, ne_eqb}
 use Rattle.std.proofs.lemmas.List.Elements.{filter_passes, recursion_from_All}
-use Rattle.papaya_deeds.specs.Given.Raw.declared.machines.progress.Progress.{Progress}
-use Rattle.papaya_deeds.specs.Given.Tables.declared.node.Node.{Node}
+use Rattle.papaya_deeds.specs.Given.RawDeclared.machines.progress.Progress.{Progress}
+use Rattle.papaya_deeds.specs.Given.TablesDeclared.node.Node.{Node}
 use Rattle.papaya_protects.specs.Given.CallersTogether.{UnderWay}
-use Rattle.papaya_deeds.specs.Given.Schedules.declared.effect.Effect.{Effect}
-use Rattle.papaya_deeds.specs.Given.Schedules.declared.effect.Effect.TheVariants as effect
-use Rattle.papaya_deeds.specs.Given.Schedules.declared.effect.Table.{Table}
-use Rattle.papaya_deeds.specs.Given.Schedules.declared.effect.Thing.TheVariants.{APair, ATable}
-use Rattle.papaya_deeds.specs.Given.Schedules.Effects.{AtEachEffect, is_chunked, with_effect}
-use Rattle.papaya_deeds.specs.Given.Schedules.Entry.{ByCall, acting}
-use Rattle.papaya_deeds.specs.Given.Schedules.Handing.{is_call_effect}
-use Rattle.papaya_deeds.specs.Given.Schedules.Lives.{MayCopy}
-use Rattle.papaya_deeds.specs.Given.Schedules.Moment.{InMap, MapThere, Moment, TableThere, UnderWay as CallThere}
-use Rattle.papaya_deeds.specs.Given.Schedules.Things.{same_table}
-use Rattle.papaya_deeds.specs.Given.Schedules.Views.{first_of, first_or, is_in_map, map_at}
+use Rattle.papaya_deeds.specs.Given.SchedulesDeclared.effect.Effect.{Effect}
+use Rattle.papaya_deeds.specs.Given.SchedulesDeclared.effect.Effect.TheVariants as effect
+use Rattle.papaya_deeds.specs.Given.SchedulesDeclared.effect.Table.{Table}
+use Rattle.papaya_deeds.specs.Given.SchedulesDeclared.effect.Thing.TheVariants.{APair, ATable}
+use Rattle.papaya_deeds.specs.Given.SchedulesEffects.{AtEachEffect, is_chunked, with_effect}
+use Rattle.papaya_deeds.specs.Given.SchedulesEntry.{ByCall, acting}
+use Rattle.papaya_deeds.specs.Given.SchedulesHanding.{is_call_effect}
+use Rattle.papaya_deeds.specs.Given.SchedulesLives.{MayCopy}
+use Rattle.papaya_deeds.specs.Given.SchedulesMoment.{InMap, MapThere, Moment, TableThere, UnderWay as CallThere}
+use Rattle.papaya_deeds.specs.Given.SchedulesThings.{same_table}
+use Rattle.papaya_deeds.specs.Given.SchedulesViews.{first_of, first_or, is_in_map, map_at}
 use Rattle.papaya_protects.specs.Given.EffectsEffects.{effects_of}
 use Rattle.papaya_protects.specs.Given.EffectsKnown.{Known}
 use Rattle.papaya_protects.specs.Given.EffectsDeclared.acting.Acting.TheVariants as acts

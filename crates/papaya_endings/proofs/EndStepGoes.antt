@@ -5,19 +5,19 @@ use Rattle.std.proofs.lemmas.Bool.{cases_eq}
 use Rattle.std.proofs.lemmas.List.{append-nil}
 use Rattle.seize_acts.specs.Answers.{Grant}
 use Rattle.seize_acts.proofs.Answers.{same_some}
-use Rattle.seize_acts.specs.Given.Seize.World.{World, with_at}
-use Rattle.seize_acts.specs.Given.Seize.declared.rows.settle.Settled.{Settled}
-use Rattle.seize_acts.specs.Given.Seize.declared.rows.settle.Settled.TheVariants as settled
-use Rattle.papaya_deeds.specs.Given.Tables.declared.node.Node.{Node}
-use Rattle.papaya_deeds.specs.Given.Raw.EndMap.{end_map_plan}
-use Rattle.papaya_deeds.specs.Given.Raw.declared.machines.end_map.EndMap.{EndMap}
+use Rattle.seize_acts.specs.Given.SeizeWorld.{World, with_at}
+use Rattle.seize_acts.specs.Given.SeizeDeclared.rows.settle.Settled.{Settled}
+use Rattle.seize_acts.specs.Given.SeizeDeclared.rows.settle.Settled.TheVariants as settled
+use Rattle.papaya_deeds.specs.Given.TablesDeclared.node.Node.{Node}
+use Rattle.papaya_deeds.specs.Given.RawEndMap.{end_map_plan}
+use Rattle.papaya_deeds.specs.Given.RawDeclared.machines.end_map.EndMap.{EndMap}
 use Rattle.papaya_protects.proofs.Given.CallersTogether.At.{at_other, at_same}
 use Rattle.papaya_protects.specs.Given.FinishesEndings.{Finishing, waiting_by}
 use Rattle.papaya_protects.specs.Given.FinishesFactsEnds.{Deed as FactsDeed, taken_by as taken_of}
-use Rattle.papaya_deeds.specs.Given.Schedules.declared.effect.Effect.{Effect}
-use Rattle.papaya_deeds.specs.Given.Schedules.Effects.{AtEachEffect, with_effects}
-use Rattle.papaya_deeds.specs.Given.Schedules.Moment.{MapThere, Moment}
-use Rattle.papaya_deeds.specs.Given.Schedules.Views.{map_at, size_of}
+use Rattle.papaya_deeds.specs.Given.SchedulesDeclared.effect.Effect.{Effect}
+use Rattle.papaya_deeds.specs.Given.SchedulesEffects.{AtEachEffect, with_effects}
+use Rattle.papaya_deeds.specs.Given.SchedulesMoment.{MapThere, Moment}
+use Rattle.papaya_deeds.specs.Given.SchedulesViews.{map_at, size_of}
 use Rattle.papaya_protects.specs.Given.EffectsEffects.{effects_of, known_after, taken_by}
 use Rattle.papaya_protects.specs.Given.EffectsKnown.{Known}
 use Rattle.papaya_protects.specs.Given.EffectsDeclared.acting.Acting.TheVariants as acts

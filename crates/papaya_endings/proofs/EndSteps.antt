@@ -2,21 +2,21 @@
 use Rattle.std.specs.Prelude.{◌≡◌, ◌≢◌, ◌<◌, ◌≤◌, ◌⊎◌, ◌++◌, ℕ, Bool, false, List, [], ◌∷◌, Some, None}
 use Rattle.std.proofs.Common.{refl, ap, sym, subst, ◌∙◌, arith, inl, inr}
 use Rattle.std.proofs.lemmas.List.{append-nil, append_assoc}
-use Rattle.seize_acts.specs.Given.Seize.World.{World, times}
-use Rattle.seize_acts.specs.Given.Seize.declared.rows.settle.Settled.{Settled}
-use Rattle.seize_acts.specs.Given.Seize.declared.rows.settle.Settled.TheVariants as settled
-use Rattle.papaya_deeds.specs.Given.Tables.declared.node.Node.{Node}
-use Rattle.papaya_deeds.specs.Given.Raw.declared.machines.end_map.EndMap.{EndMap}
+use Rattle.seize_acts.specs.Given.SeizeWorld.{World, times}
+use Rattle.seize_acts.specs.Given.SeizeDeclared.rows.settle.Settled.{Settled}
+use Rattle.seize_acts.specs.Given.SeizeDeclared.rows.settle.Settled.TheVariants as settled
+use Rattle.papaya_deeds.specs.Given.TablesDeclared.node.Node.{Node}
+use Rattle.papaya_deeds.specs.Given.RawDeclared.machines.end_map.EndMap.{EndMap}
 use Rattle.papaya_protects.specs.Given.FinishesEndings.{Finishing, FinishingFacts, StepsOfEnding, waiting_by}
 use Rattle.papaya_protects.specs.Given.FinishesFactsEnds.{back_of, taken_by as taken_of}
 use Rattle.papaya_protects.proofs.Given.CallersTogether.At.{at_same}
 use Rattle.papaya_protects.proofs.Given.FinishesEnds.CountedBlocks.{later_apart, next_apart}
 use Rattle.papaya_protects.proofs.Given.FinishesEnds.OrdersOn.{back_same}
 use Rattle.papaya_protects.proofs.Given.FinishesEnds.OrdersOnce.{plain_order}
-use Rattle.papaya_deeds.specs.Given.Schedules.declared.effect.Effect.{Effect}
-use Rattle.papaya_deeds.specs.Given.Schedules.Effects.{AtEachEffect, with_effects}
-use Rattle.papaya_deeds.specs.Given.Schedules.Moment.{Moment}
-use Rattle.papaya_deeds.specs.Given.Schedules.Views.{map_at}
+use Rattle.papaya_deeds.specs.Given.SchedulesDeclared.effect.Effect.{Effect}
+use Rattle.papaya_deeds.specs.Given.SchedulesEffects.{AtEachEffect, with_effects}
+use Rattle.papaya_deeds.specs.Given.SchedulesMoment.{Moment}
+use Rattle.papaya_deeds.specs.Given.SchedulesViews.{map_at}
 use Rattle.papaya_protects.specs.Given.EffectsEffects.{effects_of, known_after, taken_by}
 use Rattle.papaya_protects.specs.Given.EffectsKnown.{Known}
 use Rattle.papaya_protects.specs.Given.EffectsDeclared.acting.Acting.TheVariants as acts

@@ -3,20 +3,20 @@ use Rattle.std.specs.Prelude.{map as mapped, ◌≡◌, ◌≢◌, ◌<◌, ◌�
 use Rattle.std.proofs.Common.{refl, ap, sym, subst, ◌∙◌, inl, inr}
 use Rattle.std.proofs.lemmas.Bool.{cases_eq}
 use Rattle.seize_acts.proofs.Answers.{same_some}
-use Rattle.seize_acts.specs.Given.Seize.World.{with_at}
-use Rattle.papaya_deeds.specs.Given.Tables.Chunks.{is_incremental}
-use Rattle.papaya_deeds.specs.Given.Raw.EndMap.{ending}
-use Rattle.papaya_deeds.specs.Given.Raw.declared.machines.end_map.EndMap.{EndMap}
+use Rattle.seize_acts.specs.Given.SeizeWorld.{with_at}
+use Rattle.papaya_deeds.specs.Given.TablesChunks.{is_incremental}
+use Rattle.papaya_deeds.specs.Given.RawEndMap.{ending}
+use Rattle.papaya_deeds.specs.Given.RawDeclared.machines.end_map.EndMap.{EndMap}
 use Rattle.papaya_protects.proofs.Given.CallersTogether.At.{at_other, at_same}
 use Rattle.papaya_protects.specs.Given.FinishesEndings.{AllPairsOnce, Finishing, finishing_of}
 use Rattle.papaya_protects.specs.Given.FinishesFactsEnds.{back_of}
 use Rattle.papaya_protects.specs.Given.FinishesMaps.{Standing}
 use Rattle.papaya_protects.specs.Given.FinishesOrders.{pairs_of}
 use Rattle.papaya_protects.specs.Given.RuleInWorld.{IsMapIn}
-use Rattle.papaya_deeds.specs.Given.Schedules.declared.effect.Effect.{Effect}
-use Rattle.papaya_deeds.specs.Given.Schedules.Effects.{with_effects}
-use Rattle.papaya_deeds.specs.Given.Schedules.Handing.{in_order}
-use Rattle.papaya_deeds.specs.Given.Schedules.Moment.{Moment}
+use Rattle.papaya_deeds.specs.Given.SchedulesDeclared.effect.Effect.{Effect}
+use Rattle.papaya_deeds.specs.Given.SchedulesEffects.{with_effects}
+use Rattle.papaya_deeds.specs.Given.SchedulesHanding.{in_order}
+use Rattle.papaya_deeds.specs.Given.SchedulesMoment.{Moment}
 use Rattle.papaya_protects.specs.Given.EffectsEffects.{taken_by}
 use Rattle.papaya_protects.specs.Given.EffectsKnown.{Known}
 use Rattle.papaya_protects.specs.Given.EffectsDeclared.acting.Acting.TheVariants as acts

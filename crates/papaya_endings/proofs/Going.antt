@@ -2,15 +2,15 @@
 use Rattle.std.specs.Prelude.{◌≡◌, ◌<◌, ◌++◌, ℕ, Bool, true, false, List, [], ◌∷◌, Some, None}
 use Rattle.std.specs.List.{AllByRecursion}
 use Rattle.std.proofs.Common.{refl, ap, sym, subst, ◌∙◌}
-use Rattle.seize_acts.specs.Given.Seize.World.{times}
+use Rattle.seize_acts.specs.Given.SeizeWorld.{times}
 use Rattle.papaya_protects.proofs.Given.FinishesEnds.CountedBlocks.{some_here, some_last}
 use Rattle.papaya_protects.specs.Given.FinishesEndings.{Finishing}
-use Rattle.papaya_deeds.specs.Given.Schedules.declared.effect.Effect.{Effect}
-use Rattle.papaya_deeds.specs.Given.Schedules.declared.effect.Table.{Table}
-use Rattle.papaya_deeds.specs.Given.Schedules.Effects.{AtEachEffect, with_effects}
-use Rattle.papaya_deeds.specs.Given.Schedules.Moment.{Moment, TableThere}
-use Rattle.papaya_deeds.specs.Given.Schedules.Things.{same_table}
-use Rattle.papaya_deeds.specs.Given.Schedules.Views.{is_in_map}
+use Rattle.papaya_deeds.specs.Given.SchedulesDeclared.effect.Effect.{Effect}
+use Rattle.papaya_deeds.specs.Given.SchedulesDeclared.effect.Table.{Table}
+use Rattle.papaya_deeds.specs.Given.SchedulesEffects.{AtEachEffect, with_effects}
+use Rattle.papaya_deeds.specs.Given.SchedulesMoment.{Moment, TableThere}
+use Rattle.papaya_deeds.specs.Given.SchedulesThings.{same_table}
+use Rattle.papaya_deeds.specs.Given.SchedulesViews.{is_in_map}
 use Rattle.papaya_protects.specs.Given.EffectsEffects.{known_after, taken_by}
 use Rattle.papaya_protects.specs.Given.EffectsKnown.{Known}
 use Rattle.papaya_protects.specs.Given.EffectsDeclared.acting.Acting.{Acting}

@@ -4,11 +4,11 @@ use Rattle.std.specs.List.{AllByRecursion}
 use Rattle.std.proofs.Common.{refl, ap, sym, ◌∙◌}
 use Rattle.std.proofs.lemmas.List.{append-nil}
 use Rattle.std.proofs.lemmas.List.Elements.{filter-append}
-use Rattle.papaya_deeds.specs.Given.Schedules.declared.effect.Table.{Table}
-use Rattle.papaya_deeds.specs.Given.Schedules.Effects.{at_stage}
-use Rattle.papaya_deeds.specs.Given.Schedules.Moment.{Stage, TableThere}
-use Rattle.papaya_deeds.specs.Given.Schedules.Things.{same_table}
-use Rattle.papaya_deeds.specs.Given.Schedules.Views.{is_linked}
+use Rattle.papaya_deeds.specs.Given.SchedulesDeclared.effect.Table.{Table}
+use Rattle.papaya_deeds.specs.Given.SchedulesEffects.{at_stage}
+use Rattle.papaya_deeds.specs.Given.SchedulesMoment.{Stage, TableThere}
+use Rattle.papaya_deeds.specs.Given.SchedulesThings.{same_table}
+use Rattle.papaya_deeds.specs.Given.SchedulesViews.{is_linked}
 
 module _ {X : Type 0} (p q : X → Bool) where
   -- one after another, two tests are one

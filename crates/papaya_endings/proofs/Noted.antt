@@ -2,15 +2,15 @@
 use Rattle.std.specs.Prelude.{◌≡◌, ◌<◌, ◌⊎◌, ◌==◌, ◌++◌, ℕ, Bool, true, false, not, cond, List, [], ◌∷◌, filter, if◌then◌else◌}
 use Rattle.std.specs.List.{AllByRecursion}
 use Rattle.std.proofs.Common.{refl, ap, sym, subst, inl, inr, eqb-true}
-use Rattle.seize_acts.specs.Given.Seize.World.{times}
+use Rattle.seize_acts.specs.Given.SeizeWorld.{times}
 use Rattle.papaya_protects.proofs.Given.FinishesEnds.CountedBlocks.{some_here, some_last}
-use Rattle.papaya_deeds.specs.Given.Schedules.declared.effect.Effect.{Effect}
-use Rattle.papaya_deeds.specs.Given.Schedules.declared.effect.Effect.TheVariants.{Ended, Taken}
-use Rattle.papaya_deeds.specs.Given.Schedules.declared.effect.Table.{Table}
-use Rattle.papaya_deeds.specs.Given.Schedules.Lists.{OneOf}
-use Rattle.papaya_deeds.specs.Given.Schedules.Moment.{GivenBack, IsTaken, Moment}
-use Rattle.papaya_deeds.specs.Given.Schedules.Things.{same_table}
-use Rattle.papaya_deeds.specs.Given.Schedules.Views.{first_of, is_in_map}
+use Rattle.papaya_deeds.specs.Given.SchedulesDeclared.effect.Effect.{Effect}
+use Rattle.papaya_deeds.specs.Given.SchedulesDeclared.effect.Effect.TheVariants.{Ended, Taken}
+use Rattle.papaya_deeds.specs.Given.SchedulesDeclared.effect.Table.{Table}
+use Rattle.papaya_deeds.specs.Given.SchedulesLists.{OneOf}
+use Rattle.papaya_deeds.specs.Given.SchedulesMoment.{GivenBack, IsTaken, Moment}
+use Rattle.papaya_deeds.specs.Given.SchedulesThings.{same_table}
+use Rattle.papaya_deeds.specs.Given.SchedulesViews.{first_of, is_in_map}
 use Rattle.papaya_protects.specs.Given.EffectsEffects.{taken_by}
 use Rattle.papaya_protects.specs.Given.EffectsKnown.{Known}
 use Rattle.papaya_protects.specs.Given.EffectsDeclared.acting.Acting.TheVariants as acts

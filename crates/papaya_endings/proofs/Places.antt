@@ -2,8 +2,8 @@
 use Rattle.std.specs.Prelude.{◌≡◌, ℕ, zero, suc, ◌≤◌, ◌⊎◌, Bool, true, false, length, if◌then◌else◌}
 use Rattle.std.proofs.Common.{refl, ap, sym, ◌∙◌, arith, inl, inr}
 use Rattle.std.proofs.lemmas.Bool.{cases_eq}
-use Rattle.papaya_deeds.specs.Given.Schedules.Moment.{Moment, Place}
-use Rattle.papaya_deeds.specs.Given.Schedules.Views.{is_in_map, places_below, size_of}
+use Rattle.papaya_deeds.specs.Given.SchedulesMoment.{Moment, Place}
+use Rattle.papaya_deeds.specs.Given.SchedulesViews.{is_in_map, places_below, size_of}
 use Rattle.papaya_endings.specs.Ends.{AlikeOf, AreStored}
 
 abbrev one_if : Bool → ℕ

@@ -2,17 +2,17 @@
 use Rattle.std.specs.Prelude.{◌≡◌, ◌≢◌, ◌<◌, ℕ, Bool, true, false, List, [], ◌∷◌, Option, Some, None, is_ok, length, if◌then◌else◌}
 use Rattle.std.proofs.Common.{refl, ap, sym, subst, ◌∙◌}
 use Rattle.seize_acts.specs.Answers.{Grant}
-use Rattle.seize_acts.specs.Given.Seize.World.{Row, times}
-use Rattle.papaya_deeds.specs.Given.Raw.Machine.{machine_asked, machine_plan, machine_replied}
-use Rattle.papaya_deeds.specs.Given.Raw.declared.machines.asking.Reply.{Reply as Told}
+use Rattle.seize_acts.specs.Given.SeizeWorld.{Row, times}
+use Rattle.papaya_deeds.specs.Given.RawMachine.{machine_asked, machine_plan, machine_replied}
+use Rattle.papaya_deeds.specs.Given.RawDeclared.machines.asking.Reply.{Reply as Told}
 use Rattle.papaya_protects.specs.Given.FinishesEndings.{Finishing, FinishingFacts}
 use Rattle.papaya_protects.specs.Given.FinishesMachines.{machine_of}
 use Rattle.papaya_protects.proofs.Given.FinishesEnds.CountedBlocks.{some_last}
 use Rattle.papaya_protects.proofs.Given.FinishesEnds.OrdersOnce.{plain_order}
-use Rattle.papaya_deeds.specs.Given.Schedules.declared.effect.Effect.{Effect}
-use Rattle.papaya_deeds.specs.Given.Schedules.declared.outcome.Outcome.TheVariants as outcome
-use Rattle.papaya_deeds.specs.Given.Schedules.Effects.{with_effects}
-use Rattle.papaya_deeds.specs.Given.Schedules.Moment.{Moment}
+use Rattle.papaya_deeds.specs.Given.SchedulesDeclared.effect.Effect.{Effect}
+use Rattle.papaya_deeds.specs.Given.SchedulesDeclared.outcome.Outcome.TheVariants as outcome
+use Rattle.papaya_deeds.specs.Given.SchedulesEffects.{with_effects}
+use Rattle.papaya_deeds.specs.Given.SchedulesMoment.{Moment}
 use Rattle.papaya_protects.specs.Given.EffectsEffects.{effects_of, known_after}
 use Rattle.papaya_protects.specs.Given.EffectsKnown.{Known}
 use Rattle.papaya_protects.specs.Given.EffectsDeclared.acting.Acting.{Acting}

@@ -2,16 +2,16 @@
 use Rattle.std.specs.Prelude.{◌≡◌, ◌≢◌, ◌≤◌, ◌<◌, ◌==◌, ◌&&◌, ℕ, nat_le, Bool, true, false, List, [], ◌∷◌, filter, length, Option, Some, None, if◌then◌else◌}
 use Rattle.std.proofs.Common.{refl, ap, sym, ◌∙◌, arith, eqb-true, length-append}
 use Rattle.std.proofs.lemmas.Bool.{ne_eqb}
-use Rattle.papaya_deeds.specs.Given.Schedules.declared.effect.Effect.{Effect}
-use Rattle.papaya_deeds.specs.Given.Schedules.declared.effect.Effect.TheVariants as effect
-use Rattle.papaya_deeds.specs.Given.Schedules.declared.effect.Spot.{Spot}
-use Rattle.papaya_deeds.specs.Given.Schedules.declared.effect.Table.{Table}
-use Rattle.papaya_deeds.specs.Given.Schedules.declared.effect.Thing.TheVariants.{APair, ATable}
-use Rattle.papaya_deeds.specs.Given.Schedules.Effects.{AtEachEffect, all_at, in_map, is_chunked, new_pair, spot_by, stored_by, with_effect, with_effects}
-use Rattle.papaya_deeds.specs.Given.Schedules.Entry.{acting}
-use Rattle.papaya_deeds.specs.Given.Schedules.Lists.{is_among, put}
-use Rattle.papaya_deeds.specs.Given.Schedules.Moment.{Behind, GivenBack, Handed, IsLinked, IsReclaimed, IsRetired, IsTaken, Left, MapThere, Moment, Out, Place, UnderWay}
-use Rattle.papaya_deeds.specs.Given.Schedules.Views.{behind, first_of, first_or, is_in_map, is_linked, tables_of}
+use Rattle.papaya_deeds.specs.Given.SchedulesDeclared.effect.Effect.{Effect}
+use Rattle.papaya_deeds.specs.Given.SchedulesDeclared.effect.Effect.TheVariants as effect
+use Rattle.papaya_deeds.specs.Given.SchedulesDeclared.effect.Spot.{Spot}
+use Rattle.papaya_deeds.specs.Given.SchedulesDeclared.effect.Table.{Table}
+use Rattle.papaya_deeds.specs.Given.SchedulesDeclared.effect.Thing.TheVariants.{APair, ATable}
+use Rattle.papaya_deeds.specs.Given.SchedulesEffects.{AtEachEffect, all_at, in_map, is_chunked, new_pair, spot_by, stored_by, with_effect, with_effects}
+use Rattle.papaya_deeds.specs.Given.SchedulesEntry.{acting}
+use Rattle.papaya_deeds.specs.Given.SchedulesLists.{is_among, put}
+use Rattle.papaya_deeds.specs.Given.SchedulesMoment.{Behind, GivenBack, Handed, IsLinked, IsReclaimed, IsRetired, IsTaken, Left, MapThere, Moment, Out, Place, UnderWay}
+use Rattle.papaya_deeds.specs.Given.SchedulesViews.{behind, first_of, first_or, is_in_map, is_linked, tables_of}
 use Rattle.papaya_protects.proofs.Given.FollowsAlike.{others_found, put_elsewhere}
 use Rattle.papaya_protects.proofs.Given.OthersOutside.{in_map_of}
 use Rattle.papaya_endings.specs.Ends.{AlikeOf, AreStored, IsOut, Spares}

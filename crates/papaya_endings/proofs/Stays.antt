@@ -1,8 +1,8 @@
 -- Wherever a list of acts has led each map that ends goes on to end, and no two ends have one map.
 use Rattle.std.specs.Prelude.{◌≡◌, ℕ, Bool, Option, Some, None}
 use Rattle.std.proofs.Common.{ap, sym, subst, ◌∙◌}
-use Rattle.seize_acts.specs.Given.Seize.declared.rows.reclaim_all.ReclaimAll.{ReclaimAll}
-use Rattle.papaya_deeds.specs.Given.Tables.declared.setting.Setting.{Setting}
+use Rattle.seize_acts.specs.Given.SeizeDeclared.rows.reclaim_all.ReclaimAll.{ReclaimAll}
+use Rattle.papaya_deeds.specs.Given.TablesDeclared.setting.Setting.{Setting}
 use Rattle.papaya_protects.specs.Given.TellerDeclared.changed.Changed.TheVariants.{Nothing as NoChange}
 use Rattle.papaya_protects.specs.Given.FinishesEndings.{Finishing}
 use Rattle.papaya_protects.specs.Given.ScenesHeld.{IsAt}

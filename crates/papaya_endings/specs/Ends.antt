@@ -1,15 +1,15 @@
 -- What is left of a map that ends: all of it is next, one after another, and then nothing of the map is there.
 use Rattle.std.specs.Prelude.{◌≡◌, ◌≢◌, ℕ, ◌≤◌, ◌<◌, true, false, List, [], length, Option, None, Some}
 use Rattle.std.specs.List.{AllByRecursion}
-use Rattle.papaya_deeds.specs.Given.Schedules.declared.effect.Effect.{Effect}
-use Rattle.papaya_deeds.specs.Given.Schedules.declared.effect.Effect.TheVariants.{Copied, Deferred, Ended, Linked, Promoted, Reclaimed, Removed, Replaced, Retired, Stored, Taken}
-use Rattle.papaya_deeds.specs.Given.Schedules.declared.effect.Table.{Table}
-use Rattle.papaya_deeds.specs.Given.Schedules.declared.effect.Thing.TheVariants.{APair, ATable}
-use Rattle.papaya_deeds.specs.Given.Schedules.Effects.{AtEachEffect, is_chunked, with_effects}
-use Rattle.papaya_deeds.specs.Given.Schedules.Lists.{is_among}
-use Rattle.papaya_deeds.specs.Given.Schedules.Moment.{Moment}
-use Rattle.papaya_deeds.specs.Given.Schedules.Things.{same_table}
-use Rattle.papaya_deeds.specs.Given.Schedules.Views.{behind, is_in_map, map_at, size_of}
+use Rattle.papaya_deeds.specs.Given.SchedulesDeclared.effect.Effect.{Effect}
+use Rattle.papaya_deeds.specs.Given.SchedulesDeclared.effect.Effect.TheVariants.{Copied, Deferred, Ended, Linked, Promoted, Reclaimed, Removed, Replaced, Retired, Stored, Taken}
+use Rattle.papaya_deeds.specs.Given.SchedulesDeclared.effect.Table.{Table}
+use Rattle.papaya_deeds.specs.Given.SchedulesDeclared.effect.Thing.TheVariants.{APair, ATable}
+use Rattle.papaya_deeds.specs.Given.SchedulesEffects.{AtEachEffect, is_chunked, with_effects}
+use Rattle.papaya_deeds.specs.Given.SchedulesLists.{is_among}
+use Rattle.papaya_deeds.specs.Given.SchedulesMoment.{Moment}
+use Rattle.papaya_deeds.specs.Given.SchedulesThings.{same_table}
+use Rattle.papaya_deeds.specs.Given.SchedulesViews.{behind, is_in_map, map_at, size_of}
 use Rattle.papaya_deeds.specs.History.{EndFinds, left_tables}
 
 module _ {K V : Type 0} (map : ℕ) where

@@ -2,8 +2,8 @@
 use Rattle.std.specs.Prelude.{◌≡◌, ◌++◌, ℕ, false, List, [], Some}
 use Rattle.papaya_protects.specs.Given.FinishesEndings.{Finishing}
 use Rattle.papaya_protects.specs.Given.FinishesFactsEnds.{back_of}
-use Rattle.papaya_deeds.specs.Given.Schedules.Moment.{MapThere, Moment}
-use Rattle.papaya_deeds.specs.Given.Schedules.Views.{map_at}
+use Rattle.papaya_deeds.specs.Given.SchedulesMoment.{MapThere, Moment}
+use Rattle.papaya_deeds.specs.Given.SchedulesViews.{map_at}
 use Rattle.papaya_protects.specs.Given.EffectsKnown.{Known}
 use Rattle.papaya_protects.specs.Given.LoggedEnds.{ended_as}
 use Rattle.papaya_endings.specs.Ends.{AreStored, EndsWell}

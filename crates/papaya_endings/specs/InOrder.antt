@@ -1,11 +1,11 @@
 -- That by the history of each list of acts a map ends in order: its pairs go by their places, table by table, and then its tables, from the root's on, and all of them have gone as it is over.
 use Rattle.std.specs.Prelude.{◌≡◌, ◌<◌, ◌^◌, ℕ, Bool, List, [], None, Some}
 use Rattle.std.specs.List.{AllByRecursion}
-use Rattle.papaya_deeds.specs.Given.Schedules.declared.effect.Effect.{Effect}
-use Rattle.papaya_deeds.specs.Given.Schedules.After.{AtEachEvent}
-use Rattle.papaya_deeds.specs.Given.Schedules.Effects.{AtEachEffect}
-use Rattle.papaya_deeds.specs.Given.Schedules.Moment.{Moment}
-use Rattle.papaya_deeds.specs.Given.Schedules.Views.{size_of}
+use Rattle.papaya_deeds.specs.Given.SchedulesDeclared.effect.Effect.{Effect}
+use Rattle.papaya_deeds.specs.Given.SchedulesAfter.{AtEachEvent}
+use Rattle.papaya_deeds.specs.Given.SchedulesEffects.{AtEachEffect}
+use Rattle.papaya_deeds.specs.Given.SchedulesMoment.{Moment}
+use Rattle.papaya_deeds.specs.Given.SchedulesViews.{size_of}
 use Rattle.papaya_protects.specs.Given.ScenesScene.{slot_of}
 use Rattle.papaya_protects.specs.Given.ActsDoings.{Doing}
 use Rattle.papaya_protects.specs.Given.ActsLists.{Course, LedTo, Reached}

@@ -3,11 +3,11 @@ use Rattle.std.specs.Prelude.{◌≡◌, ◌≢◌, ◌<◌, ◌≤◌, ◌⊎�
 use Rattle.std.proofs.Common.{sym, ap, subst, ◌∙◌, inl, inr, arith}
 use Rattle.std.proofs.lemmas.Bool.{cases_eq}
 use Rattle.seize.specs.World.{Use}
-use Rattle.papaya_scenes.specs.Given.Callers.Rows.{IsRowOn, IsUsedAlike}
-use Rattle.papaya_scenes.specs.Given.Finishes.Endings.{EndingsTogether}
-use Rattle.papaya_scenes.specs.Given.Finishes.Machines.{machine_of}
-use Rattle.papaya_scenes.specs.Given.Finishes.Makings.{Beginning}
-use Rattle.papaya_scenes.specs.Given.Finishes.Maps.{Standing}
+use Rattle.papaya_scenes.specs.Given.CallersRows.{IsRowOn, IsUsedAlike}
+use Rattle.papaya_scenes.specs.Given.FinishesEndings.{EndingsTogether}
+use Rattle.papaya_scenes.specs.Given.FinishesMachines.{machine_of}
+use Rattle.papaya_scenes.specs.Given.FinishesMakings.{Beginning}
+use Rattle.papaya_scenes.specs.Given.FinishesMaps.{Standing}
 use Rattle.papaya_executor.specs.declared.executor.Executor.{Executor}
 use Rattle.papaya_scenes.specs.declared.row.SlotUse.{SlotUse}
 use Rattle.papaya_scenes.specs.declared.row.SlotUse.TheVariants as slot_use

@@ -2,15 +2,15 @@
 use Rattle.std.specs.Prelude.{◌≡◌, ◌<◌, ◌^◌, ℕ, Bool, [], ◌∷◌, ◌++◌, length, Some, None}
 use Rattle.std.proofs.Common.{refl, sym, ap, subst, ◌∙◌}
 use Rattle.seize.specs.World.{IsInside}
-use Rattle.papaya_scenes.specs.Given.Raw.declared.machines.machine.Machine.{Machine}
-use Rattle.papaya_scenes.proofs.Given.Callers.Together.Slots.{alike_same}
-use Rattle.papaya_scenes.specs.Given.Callers.Together.{UnderWay, OnKey, ForRoom, Counting, OverAll}
-use Rattle.papaya_scenes.specs.Given.Finishes.Endings.{EndingsTogether}
-use Rattle.papaya_scenes.specs.Given.Finishes.Maps.{Standing, with_call}
-use Rattle.papaya_scenes.proofs.Given.Finishes.Among.Calls.{calls_begin_among}
-use Rattle.papaya_scenes.proofs.Given.Finishes.Among.Countings.{countings_begin_among}
-use Rattle.papaya_scenes.proofs.Given.Finishes.Among.Rooms.{rooms_begin_among}
-use Rattle.papaya_scenes.proofs.Given.Finishes.Among.Sweeps.{sweeps_begin_among}
+use Rattle.papaya_scenes.specs.Given.RawDeclared.machines.machine.Machine.{Machine}
+use Rattle.papaya_scenes.proofs.Given.CallersTogether.Slots.{alike_same}
+use Rattle.papaya_scenes.specs.Given.CallersTogether.{UnderWay, OnKey, ForRoom, Counting, OverAll}
+use Rattle.papaya_scenes.specs.Given.FinishesEndings.{EndingsTogether}
+use Rattle.papaya_scenes.specs.Given.FinishesMaps.{Standing, with_call}
+use Rattle.papaya_scenes.proofs.Given.FinishesAmong.Calls.{calls_begin_among}
+use Rattle.papaya_scenes.proofs.Given.FinishesAmong.Countings.{countings_begin_among}
+use Rattle.papaya_scenes.proofs.Given.FinishesAmong.Rooms.{rooms_begin_among}
+use Rattle.papaya_scenes.proofs.Given.FinishesAmong.Sweeps.{sweeps_begin_among}
 use Rattle.papaya_executor.specs.declared.executor.Executor.{Executor}
 use Rattle.papaya_scenes.specs.declared.callers.TheConstants.{SLOTS}
 use Rattle.papaya_executor.specs.declared.worker.Work.TheVariants as work

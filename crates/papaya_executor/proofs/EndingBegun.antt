@@ -4,14 +4,14 @@ use Rattle.std.proofs.Common.{refl, sym, ap, ◌∙◌, inl, inr, arith}
 use Rattle.std.proofs.lemmas.Bool.{cases_eq}
 use Rattle.std.proofs.lemmas.List.{get_or-set_other, get_or-set_same, length-set}
 use Rattle.seize.specs.World.{with_at}
-use Rattle.papaya_scenes.specs.Given.Tables.declared.setting.Setting.{Setting}
-use Rattle.papaya_scenes.specs.Given.Raw.EndMap.{ending}
-use Rattle.papaya_scenes.proofs.Given.Callers.Together.At.{at_other, at_same}
-use Rattle.papaya_scenes.proofs.Given.Callers.Together.Slots.{alike_same}
-use Rattle.papaya_scenes.specs.Given.Finishes.Endings.{finishing_of}
-use Rattle.papaya_scenes.specs.Given.Finishes.Machines.{machine_of}
-use Rattle.papaya_scenes.specs.Given.Finishes.Maps.{Standing}
-use Rattle.papaya_scenes.proofs.Given.Finishes.Among.Begins.{endings_begin}
+use Rattle.papaya_scenes.specs.Given.TablesDeclared.setting.Setting.{Setting}
+use Rattle.papaya_scenes.specs.Given.RawEndMap.{ending}
+use Rattle.papaya_scenes.proofs.Given.CallersTogether.At.{at_other, at_same}
+use Rattle.papaya_scenes.proofs.Given.CallersTogether.Slots.{alike_same}
+use Rattle.papaya_scenes.specs.Given.FinishesEndings.{finishing_of}
+use Rattle.papaya_scenes.specs.Given.FinishesMachines.{machine_of}
+use Rattle.papaya_scenes.specs.Given.FinishesMaps.{Standing}
+use Rattle.papaya_scenes.proofs.Given.FinishesAmong.Begins.{endings_begin}
 use Rattle.papaya_executor.specs.declared.executor.Executor.{Executor}
 use Rattle.papaya_scenes.specs.declared.callers.TheConstants.{SLOTS}
 use Rattle.papaya_executor.specs.declared.worker.Work.TheVariants as work

@@ -6,16 +6,16 @@ use Rattle.seize_words.specs.Plan.{May, Steps}
 use Rattle.seize.specs.World.{Row, Rests, with_at}
 use Rattle.seize.specs.declared.rows.settle.Settled.{Settled}
 use Rattle.seize.specs.declared.rows.settle.Settled.TheVariants as settled
-use Rattle.papaya_scenes.specs.Given.Tables.Nodes.{deferred_word}
-use Rattle.papaya_scenes.specs.Given.Tables.declared.node.Node.{Node}
-use Rattle.papaya_scenes.specs.Given.Raw.EndMap.{end_map_plan}
-use Rattle.papaya_scenes.specs.Given.Raw.declared.machines.end_map.EndMap.{EndMap}
-use Rattle.papaya_scenes.specs.Given.Teller.declared.changed.Changed.TheVariants.{Nothing}
-use Rattle.papaya_scenes.proofs.Given.Callers.Together.Slots.{between_rows, between_slots}
-use Rattle.papaya_scenes.specs.Given.Callers.Rows.{LeavesSlots}
-use Rattle.papaya_scenes.specs.Given.Finishes.Endings.{Finishing, EndingsTogether, FinishingTold, StepsOfEnding, waiting_by}
-use Rattle.papaya_scenes.specs.Given.Finishes.FactsEnds.{events_of}
-use Rattle.papaya_scenes.proofs.Given.Finishes.Among.Own.Steps.{endings_stand}
+use Rattle.papaya_scenes.specs.Given.TablesNodes.{deferred_word}
+use Rattle.papaya_scenes.specs.Given.TablesDeclared.node.Node.{Node}
+use Rattle.papaya_scenes.specs.Given.RawEndMap.{end_map_plan}
+use Rattle.papaya_scenes.specs.Given.RawDeclared.machines.end_map.EndMap.{EndMap}
+use Rattle.papaya_scenes.specs.Given.TellerDeclared.changed.Changed.TheVariants.{Nothing}
+use Rattle.papaya_scenes.proofs.Given.CallersTogether.Slots.{between_rows, between_slots}
+use Rattle.papaya_scenes.specs.Given.CallersRows.{LeavesSlots}
+use Rattle.papaya_scenes.specs.Given.FinishesEndings.{Finishing, EndingsTogether, FinishingTold, StepsOfEnding, waiting_by}
+use Rattle.papaya_scenes.specs.Given.FinishesFactsEnds.{events_of}
+use Rattle.papaya_scenes.proofs.Given.FinishesAmong.Own.Steps.{endings_stand}
 use Rattle.papaya_executor.specs.declared.executor.Executor.{Executor}
 use Rattle.papaya_executor.specs.declared.worker.Work.{Work}
 use Rattle.papaya_executor.specs.declared.worker.Work.TheVariants as work

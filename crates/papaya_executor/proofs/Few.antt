@@ -4,9 +4,9 @@ use Rattle.std.specs.List.{All, AllPairs, AllByRecursion, IsDistinct, list_any}
 use Rattle.std.proofs.Common.{refl, sym, ap, subst, ◌∙◌, inl, inr, arith}
 use Rattle.std.proofs.lemmas.Bool.{ne_eqb}
 use Rattle.std.proofs.lemmas.Map.Steps.{length-le_from_distinct_below}
-use Rattle.papaya_scenes.specs.Given.Callers.Claims.{AreFew}
-use Rattle.papaya_scenes.specs.Given.Callers.Together.{UnderWay}
-use Rattle.papaya_scenes.specs.Given.Callers.Together as callers
+use Rattle.papaya_scenes.specs.Given.CallersClaims.{AreFew}
+use Rattle.papaya_scenes.specs.Given.CallersTogether.{UnderWay}
+use Rattle.papaya_scenes.specs.Given.CallersTogether as callers
 use Rattle.papaya_executor.specs.declared.executor.Executor.{Executor}
 use Rattle.papaya_executor.proofs.Changed.{place_there, worker_is}
 use Rattle.papaya_executor.proofs.Places.{same_caller}

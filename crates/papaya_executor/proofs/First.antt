@@ -4,12 +4,12 @@ use Rattle.std.proofs.Common.{refl, sym, ap, subst, ◌∙◌, inl, inr, arith}
 use Rattle.std.proofs.lemmas.Bool.{cases_lt}
 use Rattle.std.proofs.lemmas.List.{get_or-replicate, get_or_past, length-replicate}
 use Rattle.seize.specs.World.{Rests, Vacant, at_start}
-use Rattle.papaya_scenes.specs.Given.Tables.Nodes.{deferred_word}
-use Rattle.papaya_scenes.specs.Given.Finishes.Endings.{EndingsTogether}
-use Rattle.papaya_scenes.proofs.Given.Finishes.Among.Begins.{no_endings_begin}
-use Rattle.papaya_scenes.proofs.Given.Finishes.Beside.Makings.Promised.{no_makings_begin}
-use Rattle.papaya_scenes.proofs.Given.Finishes.Beside.Makings.Samples.{start_roots}
-use Rattle.papaya_scenes.proofs.Given.Finishes.Beside.Maps.Comes.{no_maps_begin}
+use Rattle.papaya_scenes.specs.Given.TablesNodes.{deferred_word}
+use Rattle.papaya_scenes.specs.Given.FinishesEndings.{EndingsTogether}
+use Rattle.papaya_scenes.proofs.Given.FinishesAmong.Begins.{no_endings_begin}
+use Rattle.papaya_scenes.proofs.Given.FinishesBeside.Makings.Promised.{no_makings_begin}
+use Rattle.papaya_scenes.proofs.Given.FinishesBeside.Makings.Samples.{start_roots}
+use Rattle.papaya_scenes.proofs.Given.FinishesBeside.Maps.Comes.{no_maps_begin}
 use Rattle.papaya_executor.specs.declared.executor.Executor.{Executor}
 use Rattle.papaya_scenes.specs.declared.row.SlotUse.{SlotUse}
 use Rattle.papaya_scenes.specs.declared.row.SlotUse.TheVariants as slot_use

@@ -3,11 +3,11 @@ use Rattle.std.specs.Prelude.{true, false}
 use Rattle.std.proofs.Common.{◌≡◌, refl, sym, subst}
 use Rattle.seize_words.specs.Mem.{Can, Took, value_at}
 use Rattle.seize_words.specs.Plan.{Plan, May, Steps}
-use Rattle.papaya_scenes.specs.Given.Tables.declared.node.Node.{Node}
-use Rattle.papaya_scenes.specs.Given.Teller.Changed.{is_made}
-use Rattle.papaya_scenes.specs.Given.Teller.Tells.{Telling, CanTell, TookTold, StepsTold}
-use Rattle.papaya_scenes.specs.Given.Teller.declared.changed.Changed.TheVariants.{Nothing}
-use Rattle.papaya_scenes.proofs.Given.Teller.Laws.{may_with_teller, refuses_with_teller, steps_with_teller}
+use Rattle.papaya_scenes.specs.Given.TablesDeclared.node.Node.{Node}
+use Rattle.papaya_scenes.specs.Given.TellerChanged.{is_made}
+use Rattle.papaya_scenes.specs.Given.TellerTells.{Telling, CanTell, TookTold, StepsTold}
+use Rattle.papaya_scenes.specs.Given.TellerDeclared.changed.Changed.TheVariants.{Nothing}
+use Rattle.papaya_scenes.proofs.Given.TellerLaws.{may_with_teller, refuses_with_teller, steps_with_teller}
 
 module _ (K V R : Type 0) (t f : Telling K V R) (is : f ≡ record t { changed = Nothing }) (plan : Plan (Node K V) R) where
   pub may_forgotten : May Can Took value_at t.memory plan → May (CanTell K V R) (TookTold K V R) (λ t. value_at t.memory) f plan

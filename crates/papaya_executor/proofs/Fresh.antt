@@ -4,7 +4,7 @@ use Rattle.std.proofs.Common.{sym, ap, subst, ◌∙◌, inl, inr, arith}
 use Rattle.std.proofs.lemmas.Bool.{cases_lt}
 use Rattle.std.proofs.lemmas.List.{get_or_past, get_or_push, get_or_append_left, length-append}
 use Rattle.seize.specs.World.{Rests}
-use Rattle.papaya_scenes.specs.Given.Finishes.Machines.{machine_of}
+use Rattle.papaya_scenes.specs.Given.FinishesMachines.{machine_of}
 use Rattle.papaya_executor.specs.declared.executor.Executor.{Executor}
 use Rattle.papaya_scenes.specs.declared.callers.TheConstants.{SLOTS}
 use Rattle.papaya_executor.specs.declared.worker.Work.{Work}

@@ -2,13 +2,13 @@
 use Rattle.std.specs.Prelude.{◌≡◌, ◌≢◌, ◌<◌, ◌≤◌, ℕ, Bool, length, Option, Some, None, option_map, slice_index_or}
 use Rattle.std.proofs.Common.{refl, sym, ap, subst, ◌∙◌}
 use Rattle.seize.specs.World.{World, with_at}
-use Rattle.papaya_scenes.specs.Given.Tables.declared.node.Node.{Node}
-use Rattle.papaya_scenes.proofs.Given.Callers.Together.At.{at_other, at_same}
-use Rattle.papaya_scenes.specs.Given.Callers.Rows.{LeavesSlots}
-use Rattle.papaya_scenes.specs.Given.Finishes.Endings.{Finishing, EndingsTogether}
-use Rattle.papaya_scenes.specs.Given.Finishes.Machines.{machine_of}
-use Rattle.papaya_scenes.specs.Given.Finishes.Makings.{Beginning}
-use Rattle.papaya_scenes.specs.Given.Finishes.Maps.{Standing}
+use Rattle.papaya_scenes.specs.Given.TablesDeclared.node.Node.{Node}
+use Rattle.papaya_scenes.proofs.Given.CallersTogether.At.{at_other, at_same}
+use Rattle.papaya_scenes.specs.Given.CallersRows.{LeavesSlots}
+use Rattle.papaya_scenes.specs.Given.FinishesEndings.{Finishing, EndingsTogether}
+use Rattle.papaya_scenes.specs.Given.FinishesMachines.{machine_of}
+use Rattle.papaya_scenes.specs.Given.FinishesMakings.{Beginning}
+use Rattle.papaya_scenes.specs.Given.FinishesMaps.{Standing}
 use Rattle.papaya_executor.specs.declared.executor.Executor.{Executor}
 use Rattle.papaya_scenes.specs.declared.row.SlotUse.TheVariants as slot_use
 use Rattle.papaya_executor.specs.declared.worker.Work.{Work}

@@ -2,11 +2,11 @@
 use Rattle.std.specs.Prelude.{◌≡◌, ◌<◌, ◌+◌, ℕ, Bool, [], ◌∷◌, ◌++◌, length, Option, Some, None, option_map, slice_index_or}
 use Rattle.std.proofs.Common.{refl, sym, ap, ◌∙◌, arith}
 use Rattle.std.proofs.lemmas.List.{get_or_past, length-append}
-use Rattle.papaya_scenes.specs.Given.Tables.declared.setting.Setting.{Setting}
-use Rattle.papaya_scenes.proofs.Given.Callers.Together.Slots.{alike_same}
-use Rattle.papaya_scenes.specs.Given.Finishes.Makings.{Beginning}
-use Rattle.papaya_scenes.proofs.Given.Finishes.Among.Makings.{makings_begin_among}
-use Rattle.papaya_scenes.proofs.Given.Finishes.Beside.Makings.Promised.{makings_begin}
+use Rattle.papaya_scenes.specs.Given.TablesDeclared.setting.Setting.{Setting}
+use Rattle.papaya_scenes.proofs.Given.CallersTogether.Slots.{alike_same}
+use Rattle.papaya_scenes.specs.Given.FinishesMakings.{Beginning}
+use Rattle.papaya_scenes.proofs.Given.FinishesAmong.Makings.{makings_begin_among}
+use Rattle.papaya_scenes.proofs.Given.FinishesBeside.Makings.Promised.{makings_begin}
 use Rattle.papaya_executor.specs.declared.executor.Executor.{Executor}
 use Rattle.papaya_scenes.specs.declared.callers.TheConstants.{SLOTS}
 use Rattle.papaya_executor.specs.declared.worker.Work.TheVariants as work

@@ -4,16 +4,16 @@ use Rattle.std.specs.Option.{is_none}
 use Rattle.std.proofs.Common.{refl, sym, ap, subst, ◌∙◌, arith}
 use Rattle.std.proofs.lemmas.List.{length-set}
 use Rattle.seize.specs.World.{World, Row, Changing, Begin, Begins, Happens, with_at, one_more}
-use Rattle.papaya_scenes.proofs.Given.SeizeRule.Rows.Others.{with_here, with_other}
-use Rattle.papaya_scenes.specs.Given.Tables.Nodes.{deferred_word}
-use Rattle.papaya_scenes.specs.Given.Tables.declared.node.Node.{Node}
-use Rattle.papaya_scenes.specs.Given.Callers.Rows.{IsRowOn}
-use Rattle.papaya_scenes.specs.Given.Callers.Together.{UnderWay, IsOfSlots, Closes}
-use Rattle.papaya_scenes.proofs.Given.Callers.Together.Fits.{unless_so}
-use Rattle.papaya_scenes.proofs.Given.Callers.Together.Slots.{alike_more, alike_at}
-use Rattle.papaya_scenes.specs.Given.Finishes.Endings.{AllEndingsStand}
-use Rattle.papaya_scenes.specs.Given.Finishes.Machines.{machine_of}
-use Rattle.papaya_scenes.proofs.Given.Finishes.Among.Rows.{guards_stand_among}
+use Rattle.papaya_scenes.proofs.Given.SeizeRuleRows.Others.{with_here, with_other}
+use Rattle.papaya_scenes.specs.Given.TablesNodes.{deferred_word}
+use Rattle.papaya_scenes.specs.Given.TablesDeclared.node.Node.{Node}
+use Rattle.papaya_scenes.specs.Given.CallersRows.{IsRowOn}
+use Rattle.papaya_scenes.specs.Given.CallersTogether.{UnderWay, IsOfSlots, Closes}
+use Rattle.papaya_scenes.proofs.Given.CallersTogether.Fits.{unless_so}
+use Rattle.papaya_scenes.proofs.Given.CallersTogether.Slots.{alike_more, alike_at}
+use Rattle.papaya_scenes.specs.Given.FinishesEndings.{AllEndingsStand}
+use Rattle.papaya_scenes.specs.Given.FinishesMachines.{machine_of}
+use Rattle.papaya_scenes.proofs.Given.FinishesAmong.Rows.{guards_stand_among}
 use Rattle.papaya_executor.specs.declared.executor.Executor.{Executor}
 use Rattle.papaya_scenes.specs.declared.row.SlotCall.{SlotCall}
 use Rattle.papaya_scenes.specs.declared.row.SlotCall.TheVariants as call

@@ -1,15 +1,15 @@
 -- What a call is told, and what it is asked for: the executor is there again.
 use Rattle.std.specs.Prelude.{◌≡◌, ℕ, Bool, Some, None, Result, slice_set}
 use Rattle.std.proofs.Common.{refl, sym, ap, subst, ◌∙◌}
-use Rattle.papaya_scenes.specs.Given.Raw.Machine.{machine_replied, machine_asked}
-use Rattle.papaya_scenes.specs.Given.Raw.declared.machines.asking.Reply.{Reply}
-use Rattle.papaya_scenes.specs.Given.Raw.declared.machines.machine.Machine.{Machine}
-use Rattle.papaya_scenes.proofs.Given.Callers.Together.Slots.{alike_same}
-use Rattle.papaya_scenes.specs.Given.Callers.Together.{UnderWay}
-use Rattle.papaya_scenes.specs.Given.Finishes.Endings.{EndingsTogether}
-use Rattle.papaya_scenes.specs.Given.Finishes.Machines.{machine_of}
-use Rattle.papaya_scenes.specs.Given.Finishes.Maps.{with_call}
-use Rattle.papaya_scenes.proofs.Given.Finishes.Among.MachinesTold.{machines_told_among}
+use Rattle.papaya_scenes.specs.Given.RawMachine.{machine_replied, machine_asked}
+use Rattle.papaya_scenes.specs.Given.RawDeclared.machines.asking.Reply.{Reply}
+use Rattle.papaya_scenes.specs.Given.RawDeclared.machines.machine.Machine.{Machine}
+use Rattle.papaya_scenes.proofs.Given.CallersTogether.Slots.{alike_same}
+use Rattle.papaya_scenes.specs.Given.CallersTogether.{UnderWay}
+use Rattle.papaya_scenes.specs.Given.FinishesEndings.{EndingsTogether}
+use Rattle.papaya_scenes.specs.Given.FinishesMachines.{machine_of}
+use Rattle.papaya_scenes.specs.Given.FinishesMaps.{with_call}
+use Rattle.papaya_scenes.proofs.Given.FinishesAmong.MachinesTold.{machines_told_among}
 use Rattle.papaya_executor.specs.declared.executor.Executor.{Executor}
 use Rattle.papaya_executor.proofs.Changed.{is_at_on, worker_is}
 use Rattle.papaya_executor.proofs.Taken.{taken_call, through}

@@ -2,8 +2,8 @@
 use Rattle.std.specs.Prelude.{◌≡◌, ℕ, Bool, Option, Some, None, option_map}
 use Rattle.std.proofs.Common.{refl, sym, ap, subst, ◌∙◌}
 use Rattle.seize.specs.World.{Row, Rests, Step}
-use Rattle.papaya_scenes.specs.Given.Tables.declared.node.Node.{Node}
-use Rattle.papaya_scenes.specs.Given.Finishes.Machines.{machine_of}
+use Rattle.papaya_scenes.specs.Given.TablesDeclared.node.Node.{Node}
+use Rattle.papaya_scenes.specs.Given.FinishesMachines.{machine_of}
 use Rattle.papaya_scenes.specs.Held.{IsAt}
 use Rattle.papaya_scenes.specs.OnSlots.{RowLeads, row_then}
 use Rattle.papaya_scenes.specs.Scene.{Scene, IsOnSlot, row_of}

@@ -26,18 +26,18 @@ use Rattle.seize.specs.Leave as leave
 use Rattle.seize.specs.Register as register
 use Rattle.seize.specs.Settle.{settle_plan}
 use Rattle.seize.specs.World.{World, Row, Rests, Registers, Enters, Settles, Leaves, Frees, Use, Vacant, Outside, Inside, left_as, left_row, with_at, with_use, after_step, settles_on, leaves_on, registers_on, registered_use, Steps'}
-use Rattle.papaya_scenes.proofs.Given.SeizeMoves.State.Ghost.{State}
-use Rattle.papaya_scenes.proofs.Given.SeizeRule.Rows.Known.{FitsRow, FitsRegister, FitsLeave}
-use Rattle.papaya_scenes.proofs.Given.SeizeRule.Rows.Others.{with_here}
-use Rattle.papaya_scenes.proofs.Given.SeizeRule.Rows.Teams.{shares}
-use Rattle.papaya_scenes.proofs.Given.SeizeRule.Words.Shows.{Extra}
-use Rattle.papaya_scenes.proofs.Given.SeizeRule.Words.View.{view}
-use Rattle.papaya_scenes.specs.Given.Tables.Nodes.{deferred_word}
-use Rattle.papaya_scenes.specs.Given.Tables.declared.node.Node.{Node}
-use Rattle.papaya_scenes.specs.Given.Teller.declared.changed.Changed.{Changed}
-use Rattle.papaya_scenes.specs.Given.Teller.declared.changed.Changed.TheVariants.{Nothing}
-use Rattle.papaya_scenes.specs.Given.Callers.Rows.{IsRowOn, LeavesSlots}
-use Rattle.papaya_scenes.proofs.Given.Callers.Together.Slots.{alike_same, alike_at, step_leaves}
+use Rattle.papaya_scenes.proofs.Given.SeizeMovesState.Ghost.{State}
+use Rattle.papaya_scenes.proofs.Given.SeizeRuleRows.Known.{FitsRow, FitsRegister, FitsLeave}
+use Rattle.papaya_scenes.proofs.Given.SeizeRuleRows.Others.{with_here}
+use Rattle.papaya_scenes.proofs.Given.SeizeRuleRows.Teams.{shares}
+use Rattle.papaya_scenes.proofs.Given.SeizeRuleWords.Shows.{Extra}
+use Rattle.papaya_scenes.proofs.Given.SeizeRuleWords.View.{view}
+use Rattle.papaya_scenes.specs.Given.TablesNodes.{deferred_word}
+use Rattle.papaya_scenes.specs.Given.TablesDeclared.node.Node.{Node}
+use Rattle.papaya_scenes.specs.Given.TellerDeclared.changed.Changed.{Changed}
+use Rattle.papaya_scenes.specs.Given.TellerDeclared.changed.Changed.TheVariants.{Nothing}
+use Rattle.papaya_scenes.specs.Given.CallersRows.{IsRowOn, LeavesSlots}
+use Rattle.papaya_scenes.proofs.Given.CallersTogether.Slots.{alike_same, alike_at, step_leaves}
 use Rattle.papaya_executor.specs.declared.executor.Executor.{Executor}
 use Rattle.papaya_scenes.specs.declared.row.RowTold.{RowTold}
 use Rattle.papaya_scenes.specs.declared.row.SlotChange.{SlotChange}

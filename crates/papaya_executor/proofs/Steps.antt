@@ -4,16 +4,16 @@ use Rattle.std.proofs.Common.{sym, subst, inl, inr}
 use Rattle.std.proofs.lemmas.Bool.{cases_eq}
 use Rattle.seize_words.specs.Mem.{Mem, Can, Took, value_at}
 use Rattle.seize_words.specs.Plan.{May, Steps}
-use Rattle.papaya_scenes.specs.Given.Tables.declared.node.Node.{Node}
-use Rattle.papaya_scenes.specs.Given.Raw.Machine.{machine_plan}
-use Rattle.papaya_scenes.specs.Given.Raw.declared.machines.machine.Machine.{Machine}
-use Rattle.papaya_scenes.specs.Given.Raw.declared.machines.progress.Progress.{Progress}
-use Rattle.papaya_scenes.specs.Given.Teller.Tells.{StepsTold}
-use Rattle.papaya_scenes.specs.Given.Teller.declared.changed.Changed.TheVariants.{Nothing}
-use Rattle.papaya_scenes.specs.Given.Callers.Together.{UnderWay}
-use Rattle.papaya_scenes.specs.Given.Finishes.Machines.{machine_of, MachineStepsAmong}
-use Rattle.papaya_scenes.specs.Given.Finishes.Maps.{Standing}
-use Rattle.papaya_scenes.proofs.Given.Finishes.Among.Machines.{machines_stand_among}
+use Rattle.papaya_scenes.specs.Given.TablesDeclared.node.Node.{Node}
+use Rattle.papaya_scenes.specs.Given.RawMachine.{machine_plan}
+use Rattle.papaya_scenes.specs.Given.RawDeclared.machines.machine.Machine.{Machine}
+use Rattle.papaya_scenes.specs.Given.RawDeclared.machines.progress.Progress.{Progress}
+use Rattle.papaya_scenes.specs.Given.TellerTells.{StepsTold}
+use Rattle.papaya_scenes.specs.Given.TellerDeclared.changed.Changed.TheVariants.{Nothing}
+use Rattle.papaya_scenes.specs.Given.CallersTogether.{UnderWay}
+use Rattle.papaya_scenes.specs.Given.FinishesMachines.{machine_of, MachineStepsAmong}
+use Rattle.papaya_scenes.specs.Given.FinishesMaps.{Standing}
+use Rattle.papaya_scenes.proofs.Given.FinishesAmong.Machines.{machines_stand_among}
 use Rattle.papaya_executor.specs.declared.executor.Executor.{Executor}
 use Rattle.papaya_executor.proofs.Changed.{is_at_on, worker_is}
 use Rattle.papaya_executor.proofs.Taken.{through}

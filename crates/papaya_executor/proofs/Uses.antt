@@ -5,15 +5,15 @@ use Rattle.std.proofs.lemmas.Bool.{cases_eq}
 use Rattle.std.proofs.lemmas.List.{get_or-set_other, get_or-set_same}
 use Rattle.seize.specs.Law.{is_open}
 use Rattle.seize.specs.World.{Row, Rests, Registers, Enters, Settles, Leaves, Defers, Frees, Use, Outside, Inside, IsTaken, with_at}
-use Rattle.papaya_scenes.specs.Given.SeizeWaiting.Held.{same as alike, count}
-use Rattle.papaya_scenes.proofs.Given.SeizeMoves.State.Ghost.{emptied}
-use Rattle.papaya_scenes.proofs.Given.SeizeRule.Rows.Known.{works_on}
-use Rattle.papaya_scenes.proofs.Given.SeizeRule.Rows.Teams.{UseFits, shares, is_shared}
-use Rattle.papaya_scenes.proofs.Given.SeizeAlone.Histories.Reached.{Reached}
-use Rattle.papaya_scenes.specs.Given.Tables.Nodes.{deferred_word}
-use Rattle.papaya_scenes.proofs.Given.Callers.Together.At.{at_other, at_same}
-use Rattle.papaya_scenes.proofs.Given.Callers.Together.Came.{came_reached}
-use Rattle.papaya_scenes.specs.Given.Callers.Rows.{IsRowOn}
+use Rattle.papaya_scenes.specs.Given.SeizeWaitingHeld.{same as alike, count}
+use Rattle.papaya_scenes.proofs.Given.SeizeMovesState.Ghost.{emptied}
+use Rattle.papaya_scenes.proofs.Given.SeizeRuleRows.Known.{works_on}
+use Rattle.papaya_scenes.proofs.Given.SeizeRuleRows.Teams.{UseFits, shares, is_shared}
+use Rattle.papaya_scenes.proofs.Given.SeizeAloneHistories.Reached.{Reached}
+use Rattle.papaya_scenes.specs.Given.TablesNodes.{deferred_word}
+use Rattle.papaya_scenes.proofs.Given.CallersTogether.At.{at_other, at_same}
+use Rattle.papaya_scenes.proofs.Given.CallersTogether.Came.{came_reached}
+use Rattle.papaya_scenes.specs.Given.CallersRows.{IsRowOn}
 use Rattle.papaya_executor.specs.declared.executor.Executor.{Executor}
 use Rattle.papaya_scenes.specs.declared.row.SlotUse.{SlotUse}
 use Rattle.papaya_scenes.specs.declared.row.SlotUse.TheVariants as used

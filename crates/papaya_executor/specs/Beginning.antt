@@ -1,7 +1,7 @@
 -- What it leads to that a caller begins a call.
 use Rattle.std.specs.Prelude.{◌≡◌, ◌≤◌, ◌^◌, ◌⊎◌, ℕ, Bool, length}
 use Rattle.std.specs.Vec.{vec_capacity, vec_len}
-use Rattle.papaya_scenes.specs.Given.Raw.declared.machines.machine.Machine.{Machine}
+use Rattle.papaya_scenes.specs.Given.RawDeclared.machines.machine.Machine.{Machine}
 use Rattle.papaya_scenes.specs.Beginning.{BeginLeadsTo}
 use Rattle.papaya_scenes.specs.Scene.{Scene, slot_of}
 use Rattle.papaya_scenes.specs.declared.row.SlotUse.TheVariants as used

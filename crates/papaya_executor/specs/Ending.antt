@@ -2,8 +2,8 @@
 use Rattle.std.specs.Prelude.{◌≡◌, ℕ, Bool, Option, Some, None}
 use Rattle.seize.specs.declared.rows.settle.Settled.{Settled}
 use Rattle.seize.specs.declared.rows.settle.Settled.TheVariants as settled
-use Rattle.papaya_scenes.specs.Given.Tables.declared.node.Node.{Node}
-use Rattle.papaya_scenes.specs.Given.Raw.declared.machines.end_map.EndMap.{EndMap}
+use Rattle.papaya_scenes.specs.Given.TablesDeclared.node.Node.{Node}
+use Rattle.papaya_scenes.specs.Given.RawDeclared.machines.end_map.EndMap.{EndMap}
 use Rattle.papaya_scenes.specs.Ending.{EndingBeginsTo, EndingLeadsTo}
 use Rattle.papaya_scenes.specs.Scene.{Scene}
 use Rattle.papaya_executor.specs.declared.executor.Executor.{Executor}

@@ -1,10 +1,10 @@
 -- What it leads to that a caller begins to make a map.
 use Rattle.std.specs.Prelude.{◌≡◌, ◌<◌, ◌≤◌, ◌+◌, ◌^◌, ℕ, Bool, length, max}
 use Rattle.std.specs.Int.{IsPowerOfTwo}
-use Rattle.papaya_scenes.specs.Given.Tables.Lengths.{IsTableLen}
-use Rattle.papaya_scenes.specs.Given.Tables.declared.setting.Setting.{Setting}
-use Rattle.papaya_scenes.specs.Given.Points.Steps.{AreLawful}
-use Rattle.papaya_scenes.specs.Given.Finishes.Makings.{Beginning}
+use Rattle.papaya_scenes.specs.Given.TablesLengths.{IsTableLen}
+use Rattle.papaya_scenes.specs.Given.TablesDeclared.setting.Setting.{Setting}
+use Rattle.papaya_scenes.specs.Given.PointsSteps.{AreLawful}
+use Rattle.papaya_scenes.specs.Given.FinishesMakings.{Beginning}
 use Rattle.papaya_scenes.specs.Making.{making_begun, scene_making}
 use Rattle.papaya_scenes.specs.Scene.{Scene}
 use Rattle.papaya_executor.specs.declared.executor.Executor.{Executor}

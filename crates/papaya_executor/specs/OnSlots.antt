@@ -1,7 +1,7 @@
 -- What it leads to that a caller begins a row on its slot, and that it takes a step of that.
 use Rattle.std.specs.Prelude.{◌≡◌, ◌⊎◌, ℕ, Bool, Option, Some, None}
 use Rattle.seize.specs.World.{Step}
-use Rattle.papaya_scenes.specs.Given.Tables.declared.node.Node.{Node}
+use Rattle.papaya_scenes.specs.Given.TablesDeclared.node.Node.{Node}
 use Rattle.papaya_scenes.specs.OnSlots.{HappensTo, RowBeginsTo, RowSteps}
 use Rattle.papaya_scenes.specs.Rows.{begun_row, uses_begun, uses_after, change_of}
 use Rattle.papaya_scenes.specs.Scene.{Scene, IsOnSlot, slot_of}

@@ -1,6 +1,6 @@
 -- What a reply to the call of a caller leads to, and what it leads to that it is asked for a pair, or given up.
 use Rattle.std.specs.Prelude.{◌≡◌, ℕ, Bool, Option, Result}
-use Rattle.papaya_scenes.specs.Given.Raw.declared.machines.asking.Reply.{Reply}
+use Rattle.papaya_scenes.specs.Given.RawDeclared.machines.asking.Reply.{Reply}
 use Rattle.papaya_scenes.specs.Replying.{ReplyLeadsTo, AskLeadsTo, StopLeadsTo}
 use Rattle.papaya_scenes.specs.Scene.{Scene, HasCall}
 use Rattle.papaya_executor.specs.declared.executor.Executor.{Executor}

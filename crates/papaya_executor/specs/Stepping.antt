@@ -1,8 +1,8 @@
 -- What a step of a call that a caller has under way leads to.
 use Rattle.std.specs.Prelude.{ℕ, Bool}
-use Rattle.papaya_scenes.specs.Given.Tables.declared.node.Node.{Node}
-use Rattle.papaya_scenes.specs.Given.Raw.declared.machines.machine.Machine.{Machine}
-use Rattle.papaya_scenes.specs.Given.Raw.declared.machines.progress.Progress.{Progress}
+use Rattle.papaya_scenes.specs.Given.TablesDeclared.node.Node.{Node}
+use Rattle.papaya_scenes.specs.Given.RawDeclared.machines.machine.Machine.{Machine}
+use Rattle.papaya_scenes.specs.Given.RawDeclared.machines.progress.Progress.{Progress}
 use Rattle.papaya_scenes.specs.Scene.{Scene}
 use Rattle.papaya_scenes.specs.Stepping.{StepLeadsTo, StepsFrom, going_on}
 use Rattle.papaya_executor.specs.declared.executor.Executor.{Executor}

@@ -1,6 +1,6 @@
 //! The beginning of the end of a map, and a step of it.
 ghost use Rattle.std.specs.Prelude.{◌≡◌, ◌<◌, ◌+◌, ◌*◌, ℕ, Bool, length, slice_index_or, slice_set, Some, None, IfOk, IfErr, OnErr};
-ghost use Rattle.papaya_scenes.specs.Given.Tables.declared.setting.Setting.{Setting};
+ghost use Rattle.papaya_scenes.specs.Given.TablesDeclared.setting.Setting.{Setting};
 ghost use Rattle.papaya_scenes.specs.declared.callers.TheConstants.{SLOTS};
 ghost use Rattle.papaya_executor.specs.Beginning.{HasNoPlace, IsRefused};
 ghost use Rattle.papaya_executor.specs.Ending.{EndingBegins, EndsThere, ending_on};

@@ -1,7 +1,7 @@
 //! A row on a slot begins, and takes its steps.
 ghost use Rattle.std.specs.Prelude.{◌≡◌, ◌<◌, ◌+◌, ◌*◌, ℕ, Bool, length, slice_set, Some, IfOk, IfErr, OnErr};
 ghost use Rattle.seize.specs.World.{MayStep, Registers, Enters, Settles, Leaves, Frees};
-ghost use Rattle.papaya_scenes.specs.Given.Tables.Nodes.{deferred_word};
+ghost use Rattle.papaya_scenes.specs.Given.TablesNodes.{deferred_word};
 ghost use Rattle.papaya_scenes.specs.declared.row.SlotRow.{SlotRow};
 ghost use Rattle.papaya_scenes.specs.declared.row.SlotRow.TheVariants as rows;
 ghost use Rattle.papaya_executor.specs.declared.worker.Work.TheVariants.{OnSlot};

@@ -2,10 +2,10 @@
 ghost use Rattle.std.specs.Prelude.{◌≡◌, ◌<◌, true, false, length};
 ghost use Rattle.seize_words.specs.Mem.{Can, Took, value_at};
 ghost use Rattle.seize_words.specs.Plan.{May};
-ghost use Rattle.papaya_scenes.specs.Given.Raw.Machine.{machine_plan};
-ghost use Rattle.papaya_scenes.specs.Given.Teller.Changed.{is_made};
-ghost use Rattle.papaya_scenes.specs.Given.Teller.Tells.{StepsTold};
-ghost use Rattle.papaya_scenes.specs.Given.Teller.declared.changed.Changed.TheVariants.{Nothing};
+ghost use Rattle.papaya_scenes.specs.Given.RawMachine.{machine_plan};
+ghost use Rattle.papaya_scenes.specs.Given.TellerChanged.{is_made};
+ghost use Rattle.papaya_scenes.specs.Given.TellerTells.{StepsTold};
+ghost use Rattle.papaya_scenes.specs.Given.TellerDeclared.changed.Changed.TheVariants.{Nothing};
 ghost use Rattle.papaya_executor.specs.IsThere.{IsThere, KeepsGiven, worker_with};
 ghost use Rattle.papaya_executor.specs.Stepping.{SteppedAs, StepsThere};
 ghost use Rattle.papaya_scenes.specs.Scene.{HasCall, Scene};

@@ -1,6 +1,6 @@
 //! A walk is given up.
 ghost use Rattle.std.specs.Prelude.{◌≡◌, ℕ, Bool};
-ghost use Rattle.papaya_scenes.specs.Given.Raw.Machine.{machine_asked};
+ghost use Rattle.papaya_scenes.specs.Given.RawMachine.{machine_asked};
 ghost use Rattle.papaya_executor.specs.IsThere.{IsThere, KeepsGiven, worker_with};
 ghost use Rattle.papaya_executor.specs.Replying.{StopsThere};
 ghost use Rattle.papaya_scenes.specs.Replying.{unless_stopped};

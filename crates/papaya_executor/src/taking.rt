@@ -2,9 +2,9 @@
 ghost use Rattle.std.specs.Prelude.{◌≡◌, ◌<◌, ℕ, length, slice_index_or, slice_set, Some, None};
 ghost use Rattle.papaya_scenes.specs.declared.row.SlotRow.{SlotRow};
 ghost use Rattle.papaya_executor.specs.declared.worker.Work.TheVariants.{Making, Ending, OnSlot};
-ghost use Rattle.papaya_scenes.specs.Given.Resize.declared.new_map.NewMap.{NewMap};
-ghost use Rattle.papaya_scenes.specs.Given.Raw.declared.machines.end_map.EndMap.{EndMap};
-ghost use Rattle.papaya_scenes.specs.Given.Raw.declared.machines.machine.Machine.{Machine};
+ghost use Rattle.papaya_scenes.specs.Given.ResizeDeclared.new_map.NewMap.{NewMap};
+ghost use Rattle.papaya_scenes.specs.Given.RawDeclared.machines.end_map.EndMap.{EndMap};
+ghost use Rattle.papaya_scenes.specs.Given.RawDeclared.machines.machine.Machine.{Machine};
 ghost use Rattle.papaya_executor.specs.IsThere.{worker_of, worker_with};
 
 use crate::worker::{Work, Worker};

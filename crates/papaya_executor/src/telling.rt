@@ -2,8 +2,8 @@
 ghost use Rattle.std.specs.Prelude.{◌≡◌};
 ghost use Rattle.seize_words.specs.Mem.{Can, Took, value_at};
 ghost use Rattle.seize_words.specs.Plan.{May};
-ghost use Rattle.papaya_scenes.specs.Given.Teller.Tells.{StepsTold};
-ghost use Rattle.papaya_scenes.specs.Given.Teller.declared.changed.Changed.TheVariants.{Nothing};
+ghost use Rattle.papaya_scenes.specs.Given.TellerTells.{StepsTold};
+ghost use Rattle.papaya_scenes.specs.Given.TellerDeclared.changed.Changed.TheVariants.{Nothing};
 
 use crate::executor::Executor;
 use papaya_raw::Node;

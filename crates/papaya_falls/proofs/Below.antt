@@ -2,7 +2,7 @@
 use Rattle.std.specs.Prelude.{◌-◌, ◌++◌, List, [], ◌∷◌, max}
 use Rattle.std.proofs.Common.{◌≡◌, ℕ, suc, ◌<◌, ◌≤◌, ◌⊎◌, inl, inr, arith}
 use Rattle.std.proofs.lemmas.Bool.{cases_lt}
-use Rattle.papaya_late.specs.Given.Points.Measures.{IsBelow}
+use Rattle.papaya_late.specs.Given.PointsMeasures.{IsBelow}
 use Rattle.papaya_falls.specs.Room.{last_turn, tables_to_come}
 
 -- the first number does not rise, and those behind it are lower

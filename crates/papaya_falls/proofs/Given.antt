@@ -1,8 +1,28 @@
 -- What is so by the crates below, given on to the crates above: these list this crate in place of those.
-pub use Rattle.papaya_late.proofs.Given.SeizeWords
-pub use Rattle.papaya_late.proofs.Given.SeizeRule
-pub use Rattle.papaya_late.proofs.Given.Rule
-pub use Rattle.papaya_late.proofs.Given.Points
-pub use Rattle.papaya_late.proofs as Late
-pub use Rattle.papaya_late.proofs.Given.SeizeMoves
-pub use Rattle.papaya_late.proofs.Given.SeizeWaiting
+pub use Rattle.papaya_late.proofs.Given.SeizeWordsOneOwner
+pub use Rattle.papaya_late.proofs.Given.SeizeWordsPlans
+pub use Rattle.papaya_late.proofs.Given.SeizeRulePoints
+pub use Rattle.papaya_late.proofs.Given.SeizeRuleRows
+pub use Rattle.papaya_late.proofs.Given.SeizeRuleWords
+pub use Rattle.papaya_late.proofs.Given.SeizeRuleWorld
+pub use Rattle.papaya_late.proofs.Given.RuleHistory
+pub use Rattle.papaya_late.proofs.Given.RuleKeys
+pub use Rattle.papaya_late.proofs.Given.RuleLaws
+pub use Rattle.papaya_late.proofs.Given.RuleMoves
+pub use Rattle.papaya_late.proofs.Given.RuleSpared
+pub use Rattle.papaya_late.proofs.Given.RuleWords
+pub use Rattle.papaya_late.proofs.Given.RuleWorld
+pub use Rattle.papaya_late.proofs.Given.PointsCalls
+pub use Rattle.papaya_late.proofs.Given.PointsDescents
+pub use Rattle.papaya_late.proofs.Given.PointsLookups
+pub use Rattle.papaya_late.proofs.Given.PointsMaking
+pub use Rattle.papaya_late.proofs.Given.PointsMovedLasts
+pub use Rattle.papaya_late.proofs.Given.PointsSteps
+pub use Rattle.papaya_late.proofs.Given.PointsValues
+pub use Rattle.papaya_late.proofs.Copiers as LateCopiers
+pub use Rattle.papaya_late.proofs.KindsKept as LateKindsKept
+pub use Rattle.papaya_late.proofs.Plans as LatePlans
+pub use Rattle.papaya_late.proofs.Rooms as LateRooms
+pub use Rattle.papaya_late.proofs.Swept as LateSwept
+pub use Rattle.papaya_late.proofs.Given.SeizeMovesState
+pub use Rattle.papaya_late.proofs.Given.SeizeWaitingFlushes

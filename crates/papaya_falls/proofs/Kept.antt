@@ -2,16 +2,16 @@
 use Rattle.std.specs.Prelude.{None, IsSome, Ok, ◌&&◌}
 use Rattle.std.proofs.Common.{◌≡◌, ◌≢◌, ℕ, ◌<◌, Bool, true, false, cond, eqb, Option, Some, refl, ap, sym, ◌∙◌, arith}
 use Rattle.std.proofs.lemmas.Bool.{ne_eqb}
-use Rattle.papaya_late.specs.Given.SeizeWords.declared.at.At.TheVariants.{Root, Word}
-use Rattle.papaya_late.specs.Given.SeizeWords.declared.block.Block.{Block}
-use Rattle.papaya_late.specs.Given.SeizeWords.Op.{Make, Made}
-use Rattle.papaya_late.specs.Given.SeizeWords.Mem.{Mem, after, block_of, fresh, value_at, value_in, word_at, word_in, with_block, with_value, with_word, IsFreeNumber}
-use Rattle.papaya_late.proofs.Given.SeizeWords.OneOwner.AfterWrites.{block_of-with_block, block_of-made, word_at-with_word, word_at-with_value}
-use Rattle.papaya_late.specs.Given.Tables.declared.node.Node.{Node}
-use Rattle.papaya_late.specs.Given.Tables.declared.table_words.TheConstants.{NEXT}
-use Rattle.papaya_late.specs.Given.Rule.Chart.{Chart}
-use Rattle.papaya_late.specs.Given.Rule.Words.{Blocks}
-use Rattle.papaya_late.proofs.Given.Rule.Words.BlocksApart.{new_apart}
+use Rattle.papaya_late.specs.Given.SeizeWordsDeclared.at.At.TheVariants.{Root, Word}
+use Rattle.papaya_late.specs.Given.SeizeWordsDeclared.block.Block.{Block}
+use Rattle.papaya_late.specs.Given.SeizeWordsOp.{Make, Made}
+use Rattle.papaya_late.specs.Given.SeizeWordsMem.{Mem, after, block_of, fresh, value_at, value_in, word_at, word_in, with_block, with_value, with_word, IsFreeNumber}
+use Rattle.papaya_late.proofs.Given.SeizeWordsOneOwner.AfterWrites.{block_of-with_block, block_of-made, word_at-with_word, word_at-with_value}
+use Rattle.papaya_late.specs.Given.TablesDeclared.node.Node.{Node}
+use Rattle.papaya_late.specs.Given.TablesDeclared.table_words.TheConstants.{NEXT}
+use Rattle.papaya_late.specs.Given.RuleChart.{Chart}
+use Rattle.papaya_late.specs.Given.RuleWords.{Blocks}
+use Rattle.papaya_late.proofs.Given.RuleWords.BlocksApart.{new_apart}
 use Rattle.papaya_falls.proofs.Onward.{KeepsLinks, KeepsTables}
 
 module _ {K V : Type 0} (m : Mem (Node K V)) where

@@ -1,15 +1,15 @@
 -- Where a step led, the memory shows the tables that it showed, and those that it led to.
 use Rattle.std.proofs.Common.{ℕ, Bool, subst}
-use Rattle.papaya_late.specs.Given.Seize.World.{World}
-use Rattle.papaya_late.specs.Given.SeizeWords.Mem.{Mem}
-use Rattle.papaya_late.specs.Given.Tables.declared.node.Node.{Node}
-use Rattle.papaya_late.specs.Given.Tables.declared.setting.Setting.{Setting}
-use Rattle.papaya_late.specs.Given.Rule.Chart.{Chart}
-use Rattle.papaya_late.specs.Given.Rule.InWorld.{IsMapIn, Went}
-use Rattle.papaya_late.specs.Given.Rule.Maps.{spot_of, IsMap}
-use Rattle.papaya_late.specs.Given.Rule.Rule.{IsLawful}
-use Rattle.papaya_late.specs.Given.Rule.Words.{Blocks}
-use Rattle.papaya_late.proofs.Given.Points.MovedLasts.{moved_lasts}
+use Rattle.papaya_late.specs.Given.SeizeWorld.{World}
+use Rattle.papaya_late.specs.Given.SeizeWordsMem.{Mem}
+use Rattle.papaya_late.specs.Given.TablesDeclared.node.Node.{Node}
+use Rattle.papaya_late.specs.Given.TablesDeclared.setting.Setting.{Setting}
+use Rattle.papaya_late.specs.Given.RuleChart.{Chart}
+use Rattle.papaya_late.specs.Given.RuleInWorld.{IsMapIn, Went}
+use Rattle.papaya_late.specs.Given.RuleMaps.{spot_of, IsMap}
+use Rattle.papaya_late.specs.Given.RuleRule.{IsLawful}
+use Rattle.papaya_late.specs.Given.RuleWords.{Blocks}
+use Rattle.papaya_late.proofs.Given.PointsMovedLasts.{moved_lasts}
 use Rattle.papaya_falls.proofs.Onward.{Onward}
 
 -- where a step led, both memories show their tables

@@ -1,22 +1,22 @@
 -- From one moment to the next: the tables that a memory shows before a step and after it.
 use Rattle.std.proofs.Common.{◌≡◌, ◌≢◌, ℕ, zero, suc, ◌*◌, ◌/◌, ◌<◌, ◌≤◌, Bool, true, cond, Some, ◌⊎◌, inl, inr, refl, ap, sym, ◌∙◌, arith}
 use Rattle.std.proofs.lemmas.Bool.{cases_lt, lt-ltb, le-ltb, eq-eqb}
-use Rattle.papaya_late.specs.Given.SeizeWords.declared.at.At.TheVariants.{Root, Word}
-use Rattle.papaya_late.specs.Given.SeizeWords.Mem.{Mem, word_at, value_at}
-use Rattle.papaya_late.specs.Given.Tables.Chunks.{is_incremental}
-use Rattle.papaya_late.specs.Given.Tables.declared.node.Node.{Node}
-use Rattle.papaya_late.specs.Given.Tables.declared.node.Node.TheVariants as node
-use Rattle.papaya_late.specs.Given.Tables.declared.setting.Setting.{Setting}
-use Rattle.papaya_late.specs.Given.Tables.declared.table.Table.{Table}
-use Rattle.papaya_late.specs.Given.Tables.declared.table_words.TheConstants.{NEXT, CLAIM}
-use Rattle.papaya_late.specs.Given.Rule.Chart.{Chart}
-use Rattle.papaya_late.specs.Given.Rule.InWorld.{SameBlocks}
-use Rattle.papaya_late.specs.Given.Rule.Lasts.{Lasts}
-use Rattle.papaya_late.specs.Given.Rule.Links.{LeadsTo}
-use Rattle.papaya_late.specs.Given.Rule.Maps.{spot_of, IsMap, IsTable}
-use Rattle.papaya_late.specs.Given.Rule.Words.{Blocks, Shows, next_word}
-use Rattle.papaya_late.proofs.Given.Rule.Words.LinksSeen.{link_made, next_leads, root_leads}
-use Rattle.papaya_late.proofs.Given.Rule.Keys.TriesLast.{table_lasts}
+use Rattle.papaya_late.specs.Given.SeizeWordsDeclared.at.At.TheVariants.{Root, Word}
+use Rattle.papaya_late.specs.Given.SeizeWordsMem.{Mem, word_at, value_at}
+use Rattle.papaya_late.specs.Given.TablesChunks.{is_incremental}
+use Rattle.papaya_late.specs.Given.TablesDeclared.node.Node.{Node}
+use Rattle.papaya_late.specs.Given.TablesDeclared.node.Node.TheVariants as node
+use Rattle.papaya_late.specs.Given.TablesDeclared.setting.Setting.{Setting}
+use Rattle.papaya_late.specs.Given.TablesDeclared.table.Table.{Table}
+use Rattle.papaya_late.specs.Given.TablesDeclared.table_words.TheConstants.{NEXT, CLAIM}
+use Rattle.papaya_late.specs.Given.RuleChart.{Chart}
+use Rattle.papaya_late.specs.Given.RuleInWorld.{SameBlocks}
+use Rattle.papaya_late.specs.Given.RuleLasts.{Lasts}
+use Rattle.papaya_late.specs.Given.RuleLinks.{LeadsTo}
+use Rattle.papaya_late.specs.Given.RuleMaps.{spot_of, IsMap, IsTable}
+use Rattle.papaya_late.specs.Given.RuleWords.{Blocks, Shows, next_word}
+use Rattle.papaya_late.proofs.Given.RuleWords.LinksSeen.{link_made, next_leads, root_leads}
+use Rattle.papaya_late.proofs.Given.RuleKeys.TriesLast.{table_lasts}
 
 -- a map stands in the memory before and after, and what could be looked at is where it was
 pub record Onward {K V : Type 0} (same : K → K → Bool) (hash : K → ℕ) (setting : Setting) (m : Mem (Node K V)) (c : Chart K) (blocks : Blocks)

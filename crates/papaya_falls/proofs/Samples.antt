@@ -1,22 +1,22 @@
 -- What the law of the numbers forbids: wrong steps that would go on for ever.
 use Rattle.std.specs.Prelude.{◌-◌, ◌+◌, List, [], ◌∷◌}
 use Rattle.std.proofs.Common.{◌≡◌, ℕ, suc, ◌<◌, ◌⊎◌, false, inl, inr, refl, ap, subst, arith}
-use Rattle.papaya_late.specs.Given.Tables.declared.table.Table.{Table}
-use Rattle.papaya_late.specs.Given.Raw.declared.machines.asking.Asking.TheVariants as asking
-use Rattle.papaya_late.specs.Given.Raw.declared.machines.call.KeyCall.{KeyCall}
-use Rattle.papaya_late.specs.Given.Raw.declared.machines.call.Calling.TheVariants as at
-use Rattle.papaya_late.specs.Given.Tables.Chunks.{is_incremental}
-use Rattle.papaya_late.specs.Given.Resize.CopierStates.{helping}
-use Rattle.papaya_late.specs.Given.Resize.declared.copier.Copier.{Copier}
-use Rattle.papaya_late.specs.Given.Resize.declared.copier.Copying.TheVariants as copies
-use Rattle.papaya_late.specs.Given.Resize.declared.new_table.Making.TheVariants as makes
-use Rattle.papaya_late.specs.Given.Resize.declared.sum.Sum.{Sum}
-use Rattle.papaya_late.specs.Given.Reserves.declared.reserve.Reserve.{Reserve}
-use Rattle.papaya_late.specs.Given.Reserves.declared.reserve.Reserving.TheVariants as reserves
-use Rattle.papaya_late.specs.Given.Rule.Chart.{Chart}
-use Rattle.papaya_late.specs.Given.Rule.Words.{Blocks}
-use Rattle.papaya_late.specs.Given.Points.Measures.{IsBelow}
-use Rattle.papaya_late.specs.Given.Points.MeasuresTables.{number_of_sum}
+use Rattle.papaya_late.specs.Given.TablesDeclared.table.Table.{Table}
+use Rattle.papaya_late.specs.Given.RawDeclared.machines.asking.Asking.TheVariants as asking
+use Rattle.papaya_late.specs.Given.RawDeclared.machines.call.KeyCall.{KeyCall}
+use Rattle.papaya_late.specs.Given.RawDeclared.machines.call.Calling.TheVariants as at
+use Rattle.papaya_late.specs.Given.TablesChunks.{is_incremental}
+use Rattle.papaya_late.specs.Given.ResizeCopierStates.{helping}
+use Rattle.papaya_late.specs.Given.ResizeDeclared.copier.Copier.{Copier}
+use Rattle.papaya_late.specs.Given.ResizeDeclared.copier.Copying.TheVariants as copies
+use Rattle.papaya_late.specs.Given.ResizeDeclared.new_table.Making.TheVariants as makes
+use Rattle.papaya_late.specs.Given.ResizeDeclared.sum.Sum.{Sum}
+use Rattle.papaya_late.specs.Given.ReservesDeclared.reserve.Reserve.{Reserve}
+use Rattle.papaya_late.specs.Given.ReservesDeclared.reserve.Reserving.TheVariants as reserves
+use Rattle.papaya_late.specs.Given.RuleChart.{Chart}
+use Rattle.papaya_late.specs.Given.RuleWords.{Blocks}
+use Rattle.papaya_late.specs.Given.PointsMeasures.{IsBelow}
+use Rattle.papaya_late.specs.Given.PointsMeasuresTables.{number_of_sum}
 use Rattle.papaya_falls.specs.Room.{last_turn, planned, planned_in_copying, tables_to_come}
 use Rattle.papaya_falls.specs.CopiesBlocking.{number_of_copier_blocking}
 use Rattle.papaya_falls.specs.Reserves.{number_here, number_of_reserve}

@@ -1,37 +1,37 @@
 -- What is needed of the points of a call for its number: less than each point knows, and the same in a table that the root has left.
 use Rattle.std.proofs.Common.{◌≡◌, ℕ, suc, ◌*◌, ◌<◌, true, false, Some, None, ◌⊎◌}
-use Rattle.papaya_late.specs.Given.SeizeWords.Word.{block_in}
-use Rattle.papaya_late.specs.Given.SeizeWords.declared.at.At.{At}
-use Rattle.papaya_late.specs.Given.SeizeWords.declared.at.At.TheVariants.{Root, Word}
-use Rattle.papaya_late.specs.Given.SeizeWords.Mem.{Mem, word_at, value_at}
-use Rattle.papaya_late.specs.Given.Tables.Chunks.{is_incremental}
-use Rattle.papaya_late.specs.Given.Tables.Trials.{trial_at}
-use Rattle.papaya_late.specs.Given.Tables.declared.node.Node.{Node}
-use Rattle.papaya_late.specs.Given.Tables.declared.node.Node.TheVariants as node
-use Rattle.papaya_late.specs.Given.Tables.declared.setting.Setting.{Setting}
-use Rattle.papaya_late.specs.Given.Tables.declared.probe.Probe.{Probe}
-use Rattle.papaya_late.specs.Given.Tables.declared.table.Table.{Table}
-use Rattle.papaya_late.specs.Given.Tables.declared.table_words.TheConstants.{NEXT, STATUS}
-use Rattle.papaya_late.specs.Given.Raw.Replies.{value_for}
-use Rattle.papaya_late.specs.Given.Raw.declared.machines.asking.Asking.{Asking}
-use Rattle.papaya_late.specs.Given.Raw.declared.machines.asking.Asking.TheVariants as asking
-use Rattle.papaya_late.specs.Given.Raw.declared.machines.call.KeyCall.{KeyCall}
-use Rattle.papaya_late.specs.Given.Raw.declared.machines.call.Calling.{Calling}
-use Rattle.papaya_late.specs.Given.Raw.declared.machines.call.Calling.TheVariants as at
-use Rattle.papaya_late.specs.Given.Resize.declared.copier.Copier.{Copier}
-use Rattle.papaya_late.specs.Given.Resize.declared.copier.Copying.{Copying}
-use Rattle.papaya_late.specs.Given.Resize.declared.copier.Copying.TheVariants as copies
-use Rattle.papaya_late.specs.Given.Resize.declared.dispose.Dispose.{Dispose}
-use Rattle.papaya_late.specs.Given.Resize.declared.dispose.Disposing.{Disposing}
-use Rattle.papaya_late.specs.Given.Resize.declared.dispose.Disposing.TheVariants as disposes
-use Rattle.papaya_late.specs.Given.Resize.declared.lookup.Looking.{Looking}
-use Rattle.papaya_late.specs.Given.Resize.declared.lookup.Looking.TheVariants as looks
-use Rattle.papaya_late.specs.Given.Resize.declared.new_table.NewTable.{NewTable}
-use Rattle.papaya_late.specs.Given.Resize.declared.new_table.Making.{Making}
-use Rattle.papaya_late.specs.Given.Resize.declared.new_table.Making.TheVariants as makes
-use Rattle.papaya_late.specs.Given.Rule.Chart.{Chart}
-use Rattle.papaya_late.specs.Given.Rule.Words.{Blocks}
-use Rattle.papaya_late.specs.Given.Rule.Maps.{IsTable, IsTrial}
+use Rattle.papaya_late.specs.Given.SeizeWordsWord.{block_in}
+use Rattle.papaya_late.specs.Given.SeizeWordsDeclared.at.At.{At}
+use Rattle.papaya_late.specs.Given.SeizeWordsDeclared.at.At.TheVariants.{Root, Word}
+use Rattle.papaya_late.specs.Given.SeizeWordsMem.{Mem, word_at, value_at}
+use Rattle.papaya_late.specs.Given.TablesChunks.{is_incremental}
+use Rattle.papaya_late.specs.Given.TablesTrials.{trial_at}
+use Rattle.papaya_late.specs.Given.TablesDeclared.node.Node.{Node}
+use Rattle.papaya_late.specs.Given.TablesDeclared.node.Node.TheVariants as node
+use Rattle.papaya_late.specs.Given.TablesDeclared.setting.Setting.{Setting}
+use Rattle.papaya_late.specs.Given.TablesDeclared.probe.Probe.{Probe}
+use Rattle.papaya_late.specs.Given.TablesDeclared.table.Table.{Table}
+use Rattle.papaya_late.specs.Given.TablesDeclared.table_words.TheConstants.{NEXT, STATUS}
+use Rattle.papaya_late.specs.Given.RawReplies.{value_for}
+use Rattle.papaya_late.specs.Given.RawDeclared.machines.asking.Asking.{Asking}
+use Rattle.papaya_late.specs.Given.RawDeclared.machines.asking.Asking.TheVariants as asking
+use Rattle.papaya_late.specs.Given.RawDeclared.machines.call.KeyCall.{KeyCall}
+use Rattle.papaya_late.specs.Given.RawDeclared.machines.call.Calling.{Calling}
+use Rattle.papaya_late.specs.Given.RawDeclared.machines.call.Calling.TheVariants as at
+use Rattle.papaya_late.specs.Given.ResizeDeclared.copier.Copier.{Copier}
+use Rattle.papaya_late.specs.Given.ResizeDeclared.copier.Copying.{Copying}
+use Rattle.papaya_late.specs.Given.ResizeDeclared.copier.Copying.TheVariants as copies
+use Rattle.papaya_late.specs.Given.ResizeDeclared.dispose.Dispose.{Dispose}
+use Rattle.papaya_late.specs.Given.ResizeDeclared.dispose.Disposing.{Disposing}
+use Rattle.papaya_late.specs.Given.ResizeDeclared.dispose.Disposing.TheVariants as disposes
+use Rattle.papaya_late.specs.Given.ResizeDeclared.lookup.Looking.{Looking}
+use Rattle.papaya_late.specs.Given.ResizeDeclared.lookup.Looking.TheVariants as looks
+use Rattle.papaya_late.specs.Given.ResizeDeclared.new_table.NewTable.{NewTable}
+use Rattle.papaya_late.specs.Given.ResizeDeclared.new_table.Making.{Making}
+use Rattle.papaya_late.specs.Given.ResizeDeclared.new_table.Making.TheVariants as makes
+use Rattle.papaya_late.specs.Given.RuleChart.{Chart}
+use Rattle.papaya_late.specs.Given.RuleWords.{Blocks}
+use Rattle.papaya_late.specs.Given.RuleMaps.{IsTable, IsTrial}
 
 -- the place is that of a table behind another one
 abbrev pub IsBehind : At → Type 0

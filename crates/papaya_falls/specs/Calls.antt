@@ -1,16 +1,16 @@
 -- The numbers that each step of a call on one key lowers that goes on, whatever other callers do.
 use Rattle.std.specs.Prelude.{ℕ, suc, ◌+◌, ◌-◌, ◌==◌, if◌then◌else◌, List, [], ◌∷◌, ◌++◌, Option, None, Some}
-use Rattle.papaya_late.specs.Given.Raw.declared.machines.asking.Asking.{Asking}
-use Rattle.papaya_late.specs.Given.Raw.declared.machines.asking.Asking.TheVariants as asking
-use Rattle.papaya_late.specs.Given.Raw.declared.machines.call.KeyCall.{KeyCall}
-use Rattle.papaya_late.specs.Given.Raw.declared.machines.call.Calling.{Calling}
-use Rattle.papaya_late.specs.Given.Raw.declared.machines.call.Calling.TheVariants as at
-use Rattle.papaya_late.specs.Given.Rule.Chart.{Chart}
-use Rattle.papaya_late.specs.Given.Rule.Words.{Blocks, place_word}
-use Rattle.papaya_late.specs.Given.Rule.Maps.{spot_at}
-use Rattle.papaya_late.specs.Given.Points.MeasuresLooks.{number_of_lookup}
-use Rattle.papaya_late.specs.Given.Points.MeasuresTables.{number_of_new_table}
-use Rattle.papaya_late.specs.Given.Points.MeasuresDisposes.{number_of_dispose}
+use Rattle.papaya_late.specs.Given.RawDeclared.machines.asking.Asking.{Asking}
+use Rattle.papaya_late.specs.Given.RawDeclared.machines.asking.Asking.TheVariants as asking
+use Rattle.papaya_late.specs.Given.RawDeclared.machines.call.KeyCall.{KeyCall}
+use Rattle.papaya_late.specs.Given.RawDeclared.machines.call.Calling.{Calling}
+use Rattle.papaya_late.specs.Given.RawDeclared.machines.call.Calling.TheVariants as at
+use Rattle.papaya_late.specs.Given.RuleChart.{Chart}
+use Rattle.papaya_late.specs.Given.RuleWords.{Blocks, place_word}
+use Rattle.papaya_late.specs.Given.RuleMaps.{spot_at}
+use Rattle.papaya_late.specs.Given.PointsMeasuresLooks.{number_of_lookup}
+use Rattle.papaya_late.specs.Given.PointsMeasuresTables.{number_of_new_table}
+use Rattle.papaya_late.specs.Given.PointsMeasuresDisposes.{number_of_dispose}
 use Rattle.papaya_falls.specs.Room.{planned_in_call, tables_to_come}
 use Rattle.papaya_falls.specs.Copies.{number_of_copier}
 use Rattle.papaya_falls.specs.CopiesBlocking.{number_of_copier_blocking}

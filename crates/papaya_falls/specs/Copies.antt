@@ -1,14 +1,14 @@
 -- The numbers that each step of a copier lowers that goes on, in incremental mode, whatever other callers do.
 use Rattle.std.specs.Prelude.{ℕ, suc, ◌-◌, ◌==◌, cond, List, [], ◌∷◌}
-use Rattle.papaya_late.specs.Given.Resize.declared.copier.Copier.{Copier}
-use Rattle.papaya_late.specs.Given.Resize.declared.copier.Copying.{Copying as Point}
-use Rattle.papaya_late.specs.Given.Resize.declared.copier.Copying.TheVariants as at
-use Rattle.papaya_late.specs.Given.Resize.declared.new_table.Making.{Making}
-use Rattle.papaya_late.specs.Given.Resize.declared.new_table.Making.TheVariants as makes
-use Rattle.papaya_late.specs.Given.Rule.Chart.{Chart}
-use Rattle.papaya_late.specs.Given.Rule.Words.{Blocks}
-use Rattle.papaya_late.specs.Given.Points.MeasuresDisposes.{turn_of}
-use Rattle.papaya_late.specs.Given.Points.MeasuresTables.{number_of_new_table}
+use Rattle.papaya_late.specs.Given.ResizeDeclared.copier.Copier.{Copier}
+use Rattle.papaya_late.specs.Given.ResizeDeclared.copier.Copying.{Copying as Point}
+use Rattle.papaya_late.specs.Given.ResizeDeclared.copier.Copying.TheVariants as at
+use Rattle.papaya_late.specs.Given.ResizeDeclared.new_table.Making.{Making}
+use Rattle.papaya_late.specs.Given.ResizeDeclared.new_table.Making.TheVariants as makes
+use Rattle.papaya_late.specs.Given.RuleChart.{Chart}
+use Rattle.papaya_late.specs.Given.RuleWords.{Blocks}
+use Rattle.papaya_late.specs.Given.PointsMeasuresDisposes.{turn_of}
+use Rattle.papaya_late.specs.Given.PointsMeasuresTables.{number_of_new_table}
 
 -- the tables from the one on behind which a table is being made; none, once it was refused
 abbrev pub tables_from_before : ℕ → Making → ℕ

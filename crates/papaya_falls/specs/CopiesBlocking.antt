@@ -1,11 +1,11 @@
 -- The numbers that each step of a copier lowers that goes on, in blocking mode, whatever other callers do.
 use Rattle.std.specs.Prelude.{ℕ, suc, ◌-◌, ◌==◌, cond, List, [], ◌∷◌}
-use Rattle.papaya_late.specs.Given.Resize.declared.copier.Copier.{Copier}
-use Rattle.papaya_late.specs.Given.Resize.declared.copier.Copying.{Copying as Point}
-use Rattle.papaya_late.specs.Given.Resize.declared.copier.Copying.TheVariants as at
-use Rattle.papaya_late.specs.Given.Rule.Chart.{Chart}
-use Rattle.papaya_late.specs.Given.Rule.Words.{Blocks}
-use Rattle.papaya_late.specs.Given.Points.MeasuresTables.{number_of_new_table}
+use Rattle.papaya_late.specs.Given.ResizeDeclared.copier.Copier.{Copier}
+use Rattle.papaya_late.specs.Given.ResizeDeclared.copier.Copying.{Copying as Point}
+use Rattle.papaya_late.specs.Given.ResizeDeclared.copier.Copying.TheVariants as at
+use Rattle.papaya_late.specs.Given.RuleChart.{Chart}
+use Rattle.papaya_late.specs.Given.RuleWords.{Blocks}
+use Rattle.papaya_late.specs.Given.PointsMeasuresTables.{number_of_new_table}
 use Rattle.papaya_falls.specs.Copies.{no_making, old_tables}
 
 module _ {K : Type 0} (c : Chart K) (blocks : Blocks) (p : Copier) where

@@ -1,24 +1,24 @@
 -- What is promised of the number of a copier, within a call or elsewhere: each step that goes on lowers it, whatever other callers have under way.
 use Rattle.std.specs.Prelude.{◌≡◌, ℕ, Bool, true, false, List, ◌∷◌}
-use Rattle.papaya_late.specs.Given.SeizeWords.Mem.{Mem, Took, value_at}
-use Rattle.papaya_late.specs.Given.SeizeWords.Plan.{Steps}
-use Rattle.papaya_late.specs.Given.Seize.World.{World}
-use Rattle.papaya_late.specs.Given.Tables.Chunks.{is_incremental}
-use Rattle.papaya_late.specs.Given.Tables.declared.node.Node.{Node}
-use Rattle.papaya_late.specs.Given.Tables.declared.setting.Setting.{Setting}
-use Rattle.papaya_late.specs.Given.Tables.declared.table.Table.{Table}
-use Rattle.papaya_late.specs.Given.Resize.Copier.{copier_plan}
-use Rattle.papaya_late.specs.Given.Resize.declared.outcome.Outcome.{Outcome}
-use Rattle.papaya_late.specs.Given.Resize.declared.outcome.Outcome.TheVariants.{Goes, Gave}
-use Rattle.papaya_late.specs.Given.Resize.declared.copier.Copier.{Copier}
-use Rattle.papaya_late.specs.Given.Rule.Chart.{Chart}
-use Rattle.papaya_late.specs.Given.Rule.Words.{Blocks}
-use Rattle.papaya_late.specs.Given.Rule.InWorld.{IsMapIn, Went}
-use Rattle.papaya_late.specs.Given.Points.FactsCopies.{CopierFacts}
-use Rattle.papaya_late.specs.Given.Points.FactsCopiesBlocking.{CopierFactsBlocking}
-use Rattle.papaya_late.specs.Given.Points.Measures.{IsBelow}
-use Rattle.papaya_late.specs.Given.Points.Steps.{AreLawful}
-use Rattle.papaya_late.specs.Given.Points.Told.{IsRowOfCopier}
+use Rattle.papaya_late.specs.Given.SeizeWordsMem.{Mem, Took, value_at}
+use Rattle.papaya_late.specs.Given.SeizeWordsPlan.{Steps}
+use Rattle.papaya_late.specs.Given.SeizeWorld.{World}
+use Rattle.papaya_late.specs.Given.TablesChunks.{is_incremental}
+use Rattle.papaya_late.specs.Given.TablesDeclared.node.Node.{Node}
+use Rattle.papaya_late.specs.Given.TablesDeclared.setting.Setting.{Setting}
+use Rattle.papaya_late.specs.Given.TablesDeclared.table.Table.{Table}
+use Rattle.papaya_late.specs.Given.ResizeCopier.{copier_plan}
+use Rattle.papaya_late.specs.Given.ResizeDeclared.outcome.Outcome.{Outcome}
+use Rattle.papaya_late.specs.Given.ResizeDeclared.outcome.Outcome.TheVariants.{Goes, Gave}
+use Rattle.papaya_late.specs.Given.ResizeDeclared.copier.Copier.{Copier}
+use Rattle.papaya_late.specs.Given.RuleChart.{Chart}
+use Rattle.papaya_late.specs.Given.RuleWords.{Blocks}
+use Rattle.papaya_late.specs.Given.RuleInWorld.{IsMapIn, Went}
+use Rattle.papaya_late.specs.Given.PointsFactsCopies.{CopierFacts}
+use Rattle.papaya_late.specs.Given.PointsFactsCopiesBlocking.{CopierFactsBlocking}
+use Rattle.papaya_late.specs.Given.PointsMeasures.{IsBelow}
+use Rattle.papaya_late.specs.Given.PointsSteps.{AreLawful}
+use Rattle.papaya_late.specs.Given.PointsTold.{IsRowOfCopier}
 use Rattle.papaya_late.specs.LateCopies.{LateCopierFacts}
 use Rattle.papaya_falls.specs.Room.{planned_in_copying, tables_to_come}
 use Rattle.papaya_falls.specs.Copies.{number_of_copier}

@@ -1,13 +1,13 @@
 -- The numbers that each step of a reservation lowers that goes on, whatever other callers do.
 use Rattle.std.specs.Prelude.{ℕ, suc, ◌-◌, Bool, cond, List, ◌∷◌}
-use Rattle.papaya_late.specs.Given.Tables.Chunks.{is_incremental}
-use Rattle.papaya_late.specs.Given.Resize.declared.copier.Copier.{Copier}
-use Rattle.papaya_late.specs.Given.Reserves.declared.reserve.Reserve.{Reserve}
-use Rattle.papaya_late.specs.Given.Reserves.declared.reserve.Reserving.{Reserving}
-use Rattle.papaya_late.specs.Given.Reserves.declared.reserve.Reserving.TheVariants as at
-use Rattle.papaya_late.specs.Given.Rule.Chart.{Chart}
-use Rattle.papaya_late.specs.Given.Rule.Words.{Blocks}
-use Rattle.papaya_late.specs.Given.Points.MeasuresTables.{number_of_new_table, number_of_sum}
+use Rattle.papaya_late.specs.Given.TablesChunks.{is_incremental}
+use Rattle.papaya_late.specs.Given.ResizeDeclared.copier.Copier.{Copier}
+use Rattle.papaya_late.specs.Given.ReservesDeclared.reserve.Reserve.{Reserve}
+use Rattle.papaya_late.specs.Given.ReservesDeclared.reserve.Reserving.{Reserving}
+use Rattle.papaya_late.specs.Given.ReservesDeclared.reserve.Reserving.TheVariants as at
+use Rattle.papaya_late.specs.Given.RuleChart.{Chart}
+use Rattle.papaya_late.specs.Given.RuleWords.{Blocks}
+use Rattle.papaya_late.specs.Given.PointsMeasuresTables.{number_of_new_table, number_of_sum}
 use Rattle.papaya_falls.specs.Room.{planned, planned_in_copying, tables_to_come}
 use Rattle.papaya_falls.specs.Calls.{nothing_within, one_of_eight, two_of_eight}
 use Rattle.papaya_falls.specs.Copies.{number_of_copier}

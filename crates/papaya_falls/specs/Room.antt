@@ -1,11 +1,11 @@
 -- How many tables a map can still be given.
 use Rattle.std.specs.Prelude.{ℕ, suc, ◌-◌, ◌^◌, max}
-use Rattle.papaya_late.specs.Given.Raw.declared.machines.call.Calling.{Calling}
-use Rattle.papaya_late.specs.Given.Raw.declared.machines.call.Calling.TheVariants as at
-use Rattle.papaya_late.specs.Given.Resize.declared.copier.Copying.{Copying}
-use Rattle.papaya_late.specs.Given.Resize.declared.copier.Copying.TheVariants as copies
-use Rattle.papaya_late.specs.Given.Resize.declared.new_table.Making.{Making}
-use Rattle.papaya_late.specs.Given.Resize.declared.new_table.Making.TheVariants as makes
+use Rattle.papaya_late.specs.Given.RawDeclared.machines.call.Calling.{Calling}
+use Rattle.papaya_late.specs.Given.RawDeclared.machines.call.Calling.TheVariants as at
+use Rattle.papaya_late.specs.Given.ResizeDeclared.copier.Copying.{Copying}
+use Rattle.papaya_late.specs.Given.ResizeDeclared.copier.Copying.TheVariants as copies
+use Rattle.papaya_late.specs.Given.ResizeDeclared.new_table.Making.{Making}
+use Rattle.papaya_late.specs.Given.ResizeDeclared.new_table.Making.TheVariants as makes
 
 -- no table is planned behind one with this turn
 abbrev pub last_turn : ℕ

@@ -1,6 +1,6 @@
 //! What is promised of the numbers of a call on one key, of a reservation, and of a copier.
 ghost use Rattle.std.specs.Prelude.{ℕ, Bool};
-ghost use Rattle.papaya_late.specs.Given.Points.Measures.{DescentsEnd};
+ghost use Rattle.papaya_late.specs.Given.PointsMeasures.{DescentsEnd};
 ghost use Rattle.papaya_falls.specs.Falls.{CallsFall, LateCallsFall, RowsFall, NumbersAreAsMany};
 ghost use Rattle.papaya_falls.specs.FallsReserves.{ReservesFall, LateReservesFall, ReserveRowsFall, ReserveNumbersAreAsMany};
 ghost use Rattle.papaya_falls.specs.FallsWithin.{CopiersFall, BlockingCopiersFall, LateCopiersFall};

@@ -1,9 +1,9 @@
 -- Choices of free block numbers come while maps are made and end, and calls are under way on others.
 use Rattle.std.specs.Prelude.{ℕ, Bool, Option}
-use Rattle.papaya_alone.specs.Given.Seize.World.{World, Chooses, Happens}
-use Rattle.papaya_alone.specs.Given.Tables.Nodes.{deferred_word}
-use Rattle.papaya_alone.specs.Given.Tables.declared.node.Node.{Node}
-use Rattle.papaya_alone.specs.Given.Callers.Together.{UnderWay}
+use Rattle.papaya_alone.specs.Given.SeizeWorld.{World, Chooses, Happens}
+use Rattle.papaya_alone.specs.Given.TablesNodes.{deferred_word}
+use Rattle.papaya_alone.specs.Given.TablesDeclared.node.Node.{Node}
+use Rattle.papaya_alone.specs.Given.CallersTogether.{UnderWay}
 use Rattle.papaya_finishes.specs.Endings.{Finishing, EndingsTogether}
 use Rattle.papaya_finishes.specs.Makings.{Beginning}
 use Rattle.papaya_finishes.specs.Maps.{Standing}

@@ -1,19 +1,19 @@
 -- Countings of the pairs of maps, among calls, reservations, makings and ends of maps.
 use Rattle.std.specs.Prelude.{◌≡◌, ◌≢◌, ℕ, ◌⊎◌, Bool, false, Option, Some, None}
-use Rattle.papaya_alone.specs.Given.SeizeWords.Mem.{Mem, Can, Took, value_at}
-use Rattle.papaya_alone.specs.Given.SeizeWords.Plan.{May, Steps}
-use Rattle.papaya_alone.specs.Given.SeizeWords.declared.fault.Fault.{Fault}
-use Rattle.papaya_alone.specs.Given.Seize.World.{World, Rests}
-use Rattle.papaya_alone.specs.Given.Seize.declared.progress.Progress.{Progress}
-use Rattle.papaya_alone.specs.Given.Seize.declared.progress.Progress.TheVariants as progress
-use Rattle.papaya_alone.specs.Given.Tables.Chunks.{is_incremental}
-use Rattle.papaya_alone.specs.Given.Tables.declared.node.Node.{Node}
-use Rattle.papaya_alone.specs.Given.Resize.Sum.{summing, sum_plan}
-use Rattle.papaya_alone.specs.Given.Resize.declared.sum.Sum.{Sum}
+use Rattle.papaya_alone.specs.Given.SeizeWordsMem.{Mem, Can, Took, value_at}
+use Rattle.papaya_alone.specs.Given.SeizeWordsPlan.{May, Steps}
+use Rattle.papaya_alone.specs.Given.SeizeWordsDeclared.fault.Fault.{Fault}
+use Rattle.papaya_alone.specs.Given.SeizeWorld.{World, Rests}
+use Rattle.papaya_alone.specs.Given.SeizeDeclared.progress.Progress.{Progress}
+use Rattle.papaya_alone.specs.Given.SeizeDeclared.progress.Progress.TheVariants as progress
+use Rattle.papaya_alone.specs.Given.TablesChunks.{is_incremental}
+use Rattle.papaya_alone.specs.Given.TablesDeclared.node.Node.{Node}
+use Rattle.papaya_alone.specs.Given.ResizeSum.{summing, sum_plan}
+use Rattle.papaya_alone.specs.Given.ResizeDeclared.sum.Sum.{Sum}
 use Rattle.papaya_finishes.specs.Makings.{Beginning}
 use Rattle.papaya_finishes.specs.Maps.{Standing, with_call}
-use Rattle.papaya_alone.specs.Given.Callers.Claims.{AreFew}
-use Rattle.papaya_alone.specs.Given.Callers.Together.{UnderWay, Counting, HasCall, in_slot, next_of_counting}
+use Rattle.papaya_alone.specs.Given.CallersClaims.{AreFew}
+use Rattle.papaya_alone.specs.Given.CallersTogether.{UnderWay, Counting, HasCall, in_slot, next_of_counting}
 use Rattle.papaya_finishes.specs.Endings.{Finishing, EndingsTogether}
 
 module _ {K Q : Type 0} (V : Type 0) (same : K → K → Bool) (asks : Q → K → Bool) (batch_size roots : ℕ) (slot : ℕ → ℕ) where

@@ -1,36 +1,36 @@
 -- Maps that end while others have calls on other maps, and while maps are made: whoever takes the next step, all stand together.
 use Rattle.std.specs.Prelude.{◌≡◌, ◌≢◌, ℕ, ◌<◌, ◌≤◌, ◌⊎◌, Bool, false, cond, List, [], ◌∷◌, ◌++◌, Option, Some, None}
-use Rattle.papaya_alone.specs.Given.SeizeWords.Mem.{Mem, Can, Took, value_at}
-use Rattle.papaya_alone.specs.Given.SeizeWords.Plan.{May, Steps}
-use Rattle.papaya_alone.specs.Given.Seize.World.{World, Rests, Request, MayStep, Begin, Step, Ends, Happens, Runs, LeftTo, IsNotLeft, IsInside, times, with_at}
-use Rattle.papaya_alone.specs.Given.Seize.declared.rows.settle.Settled.{Settled}
-use Rattle.papaya_alone.specs.Given.Seize.declared.rows.settle.Settled.TheVariants as settled
-use Rattle.papaya_alone.specs.Given.Seize.declared.progress.Progress.{Progress}
-use Rattle.papaya_alone.specs.Given.Seize.declared.progress.Progress.TheVariants as progress
-use Rattle.papaya_alone.specs.Given.Tables.Chunks.{is_incremental}
-use Rattle.papaya_alone.specs.Given.Tables.Nodes.{deferred_word}
-use Rattle.papaya_alone.specs.Given.Tables.declared.node.Node.{Node}
-use Rattle.papaya_alone.specs.Given.Tables.declared.setting.Setting.{Setting}
-use Rattle.papaya_alone.specs.Given.Resize.NewMap.{opening, new_map_plan}
-use Rattle.papaya_alone.specs.Given.Resize.declared.new_map.NewMap.{NewMap}
-use Rattle.papaya_alone.specs.Given.Raw.Call.{call_plan}
-use Rattle.papaya_alone.specs.Given.Raw.EndMap.{ending, end_map_plan}
-use Rattle.papaya_alone.specs.Given.Raw.declared.machines.answer.Called.{Called}
-use Rattle.papaya_alone.specs.Given.Raw.declared.machines.asking.Asking.{Asking}
-use Rattle.papaya_alone.specs.Given.Raw.declared.machines.call.Calling.TheVariants as at
-use Rattle.papaya_alone.specs.Given.Raw.declared.machines.call.KeyCall.{KeyCall}
-use Rattle.papaya_alone.specs.Given.Raw.declared.machines.end_map.EndMap.{EndMap}
-use Rattle.papaya_alone.specs.Given.Rule.Chart.{Chart}
-use Rattle.papaya_alone.specs.Given.Rule.Words.{Blocks}
-use Rattle.papaya_alone.specs.Given.Points.Steps.{AreLawful}
-use Rattle.papaya_alone.specs.Given.Points.Told.{IsRowOfCall}
-use Rattle.papaya_alone.specs.Given.Callers.Kept.{IsPair}
-use Rattle.papaya_alone.specs.Given.Callers.Pairs.{Given}
-use Rattle.papaya_alone.specs.Given.Callers.Claims.{AreFew}
+use Rattle.papaya_alone.specs.Given.SeizeWordsMem.{Mem, Can, Took, value_at}
+use Rattle.papaya_alone.specs.Given.SeizeWordsPlan.{May, Steps}
+use Rattle.papaya_alone.specs.Given.SeizeWorld.{World, Rests, Request, MayStep, Begin, Step, Ends, Happens, Runs, LeftTo, IsNotLeft, IsInside, times, with_at}
+use Rattle.papaya_alone.specs.Given.SeizeDeclared.rows.settle.Settled.{Settled}
+use Rattle.papaya_alone.specs.Given.SeizeDeclared.rows.settle.Settled.TheVariants as settled
+use Rattle.papaya_alone.specs.Given.SeizeDeclared.progress.Progress.{Progress}
+use Rattle.papaya_alone.specs.Given.SeizeDeclared.progress.Progress.TheVariants as progress
+use Rattle.papaya_alone.specs.Given.TablesChunks.{is_incremental}
+use Rattle.papaya_alone.specs.Given.TablesNodes.{deferred_word}
+use Rattle.papaya_alone.specs.Given.TablesDeclared.node.Node.{Node}
+use Rattle.papaya_alone.specs.Given.TablesDeclared.setting.Setting.{Setting}
+use Rattle.papaya_alone.specs.Given.ResizeNewMap.{opening, new_map_plan}
+use Rattle.papaya_alone.specs.Given.ResizeDeclared.new_map.NewMap.{NewMap}
+use Rattle.papaya_alone.specs.Given.RawCall.{call_plan}
+use Rattle.papaya_alone.specs.Given.RawEndMap.{ending, end_map_plan}
+use Rattle.papaya_alone.specs.Given.RawDeclared.machines.answer.Called.{Called}
+use Rattle.papaya_alone.specs.Given.RawDeclared.machines.asking.Asking.{Asking}
+use Rattle.papaya_alone.specs.Given.RawDeclared.machines.call.Calling.TheVariants as at
+use Rattle.papaya_alone.specs.Given.RawDeclared.machines.call.KeyCall.{KeyCall}
+use Rattle.papaya_alone.specs.Given.RawDeclared.machines.end_map.EndMap.{EndMap}
+use Rattle.papaya_alone.specs.Given.RuleChart.{Chart}
+use Rattle.papaya_alone.specs.Given.RuleWords.{Blocks}
+use Rattle.papaya_alone.specs.Given.PointsSteps.{AreLawful}
+use Rattle.papaya_alone.specs.Given.PointsTold.{IsRowOfCall}
+use Rattle.papaya_alone.specs.Given.CallersKept.{IsPair}
+use Rattle.papaya_alone.specs.Given.CallersPairs.{Given}
+use Rattle.papaya_alone.specs.Given.CallersClaims.{AreFew}
 use Rattle.papaya_finishes.specs.Maps.{Standing, IsSameMap, with_call}
 use Rattle.papaya_finishes.specs.Makings.{Beginning, HasTaken, HasMade, MakingsTogether, StepsOfMaking, IsMade}
-use Rattle.papaya_alone.specs.Given.Callers.Sights.{seen_by}
-use Rattle.papaya_alone.specs.Given.Callers.Together.{RepliesTaken, CallOnKey, UnderWay, OnKey, UnlessCounts, HasCall, IsOfSlots, Closes, IsBegun, begun_at, next_of, change_told, StepsTogether, RowStepsTogether}
+use Rattle.papaya_alone.specs.Given.CallersSights.{seen_by}
+use Rattle.papaya_alone.specs.Given.CallersTogether.{RepliesTaken, CallOnKey, UnderWay, OnKey, UnlessCounts, HasCall, IsOfSlots, Closes, IsBegun, begun_at, next_of, change_told, StepsTogether, RowStepsTogether}
 use Rattle.papaya_finishes.specs.FactsEnds.{Deed, LeavesTable, events_of, taken_by, left_by, joined_by, Spares, RootIs, BeganIn, CarryTheirs, EndFacts, back_of, wait_before}
 use Rattle.papaya_finishes.specs.Orders.{pairs_of}
 

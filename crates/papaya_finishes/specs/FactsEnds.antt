@@ -1,29 +1,29 @@
 -- How a map ends while others take their steps: what is known at each of its points, of its own blocks, its root, and what waits behind it.
 use Rattle.std.specs.Prelude.{◌≡◌, ◌≢◌, ℕ, suc, ◌-◌, ◌*◌, ◌/◌, ◌<◌, ◌≤◌, Bool, true, false, cond, List, [], ◌∷◌, ◌++◌, map, Some, None, IsSome, ◌⊎◌}
-use Rattle.papaya_alone.specs.Given.SeizeWords.declared.at.At.{At}
-use Rattle.papaya_alone.specs.Given.SeizeWords.declared.at.At.TheVariants.{Root, Used, Entry, Word}
-use Rattle.papaya_alone.specs.Given.SeizeWords.Op.{Store}
-use Rattle.papaya_alone.specs.Given.SeizeWords.Mem.{Mem, value_at, word_at}
-use Rattle.papaya_alone.specs.Given.Seize.declared.states.TheConstants.{NEXT}
-use Rattle.papaya_alone.specs.Given.Seize.declared.rows.settle.Settled.{Settled}
-use Rattle.papaya_alone.specs.Given.Seize.declared.rows.settle.Settled.TheVariants as settled
-use Rattle.papaya_alone.specs.Given.Seize.Further.{ListFrom, FurtherAre}
-use Rattle.papaya_alone.specs.Given.Seize.Law.{With, where_is, holds, is_over, is_orphan, owner_of, Standing}
-use Rattle.papaya_alone.specs.Given.Seize.World.{World, Handed, LeftTo, InUse, IsOnto, Event, Unlinks, LeavesOver, Clears, Relinks, Drops, Operates, Runs, times}
-use Rattle.papaya_alone.specs.Given.Tables.Nodes.{deferred_word}
-use Rattle.papaya_alone.specs.Given.Tables.Chunks.{is_incremental}
-use Rattle.papaya_alone.specs.Given.Tables.declared.node.Node.{Node}
-use Rattle.papaya_alone.specs.Given.Tables.declared.node.Node.TheVariants as node
-use Rattle.papaya_alone.specs.Given.Tables.declared.setting.Setting.{Setting}
-use Rattle.papaya_alone.specs.Given.Tables.declared.table.Table.{Table}
-use Rattle.papaya_alone.specs.Given.Tables.declared.table_words.TheConstants.{DEFERRED}
-use Rattle.papaya_alone.specs.Given.Raw.declared.machines.end_map.EndMap.{EndMap}
-use Rattle.papaya_alone.specs.Given.Raw.declared.machines.end_map.Ending.{Ending}
-use Rattle.papaya_alone.specs.Given.Raw.declared.machines.end_map.Ending.TheVariants as at
-use Rattle.papaya_alone.specs.Given.Rule.Chart.{Chart}
-use Rattle.papaya_alone.specs.Given.Rule.Words.{Blocks, next_word, root_word}
-use Rattle.papaya_alone.specs.Given.Rule.InWorld.{IsMapIn}
-use Rattle.papaya_alone.specs.Given.Callers.Kept.{IsMaking, IsPairOf}
+use Rattle.papaya_alone.specs.Given.SeizeWordsDeclared.at.At.{At}
+use Rattle.papaya_alone.specs.Given.SeizeWordsDeclared.at.At.TheVariants.{Root, Used, Entry, Word}
+use Rattle.papaya_alone.specs.Given.SeizeWordsOp.{Store}
+use Rattle.papaya_alone.specs.Given.SeizeWordsMem.{Mem, value_at, word_at}
+use Rattle.papaya_alone.specs.Given.SeizeDeclared.states.TheConstants.{NEXT}
+use Rattle.papaya_alone.specs.Given.SeizeDeclared.rows.settle.Settled.{Settled}
+use Rattle.papaya_alone.specs.Given.SeizeDeclared.rows.settle.Settled.TheVariants as settled
+use Rattle.papaya_alone.specs.Given.SeizeFurther.{ListFrom, FurtherAre}
+use Rattle.papaya_alone.specs.Given.SeizeLaw.{With, where_is, holds, is_over, is_orphan, owner_of, Standing}
+use Rattle.papaya_alone.specs.Given.SeizeWorld.{World, Handed, LeftTo, InUse, IsOnto, Event, Unlinks, LeavesOver, Clears, Relinks, Drops, Operates, Runs, times}
+use Rattle.papaya_alone.specs.Given.TablesNodes.{deferred_word}
+use Rattle.papaya_alone.specs.Given.TablesChunks.{is_incremental}
+use Rattle.papaya_alone.specs.Given.TablesDeclared.node.Node.{Node}
+use Rattle.papaya_alone.specs.Given.TablesDeclared.node.Node.TheVariants as node
+use Rattle.papaya_alone.specs.Given.TablesDeclared.setting.Setting.{Setting}
+use Rattle.papaya_alone.specs.Given.TablesDeclared.table.Table.{Table}
+use Rattle.papaya_alone.specs.Given.TablesDeclared.table_words.TheConstants.{DEFERRED}
+use Rattle.papaya_alone.specs.Given.RawDeclared.machines.end_map.EndMap.{EndMap}
+use Rattle.papaya_alone.specs.Given.RawDeclared.machines.end_map.Ending.{Ending}
+use Rattle.papaya_alone.specs.Given.RawDeclared.machines.end_map.Ending.TheVariants as at
+use Rattle.papaya_alone.specs.Given.RuleChart.{Chart}
+use Rattle.papaya_alone.specs.Given.RuleWords.{Blocks, next_word, root_word}
+use Rattle.papaya_alone.specs.Given.RuleInWorld.{IsMapIn}
+use Rattle.papaya_alone.specs.Given.CallersKept.{IsMaking, IsPairOf}
 use Rattle.papaya_finishes.specs.Orders.{pairs_from, pairs_behind, tables_from, waits_from, waits_in, all_back}
 
 -- what a step of the end of a map does, beside reading

@@ -1,38 +1,38 @@
 -- A call under way as the machine that it is, whichever its kind: one promise for all, whoever takes the next step among calls, makings and ends of maps.
 use Rattle.std.specs.Prelude.{◌≡◌, ◌≢◌, ℕ, ◌⊎◌, Bool, true, false, Option, Some, None}
-use Rattle.papaya_alone.specs.Given.SeizeWords.Mem.{Mem, Can, Took, value_at}
-use Rattle.papaya_alone.specs.Given.SeizeWords.Plan.{May, Steps}
-use Rattle.papaya_alone.specs.Given.Seize.World.{World, Rests, with_at}
-use Rattle.papaya_alone.specs.Given.Seize.declared.progress.Progress.{Progress as Counted}
-use Rattle.papaya_alone.specs.Given.Tables.Chunks.{is_incremental}
-use Rattle.papaya_alone.specs.Given.Tables.declared.node.Node.{Node}
-use Rattle.papaya_alone.specs.Given.Resize.declared.outcome.Outcome.{Outcome}
-use Rattle.papaya_alone.specs.Given.Resize.declared.sum.Sum.{Sum}
-use Rattle.papaya_alone.specs.Given.Reserves.declared.reserve.Reserve.{Reserve}
-use Rattle.papaya_alone.specs.Given.Sweeps.declared.sweep.Sweep.{Sweep}
-use Rattle.papaya_alone.specs.Given.Sweeps.declared.sweep.Sweeping.TheVariants as sweeping
-use Rattle.papaya_alone.specs.Given.Sweeps.declared.sweep.Swept.{Swept}
-use Rattle.papaya_alone.specs.Given.Raw.Machine.{machine_plan, machine_replied, machine_asked}
-use Rattle.papaya_alone.specs.Given.Raw.Progress.{of_called, of_outcome, of_swept, of_counting}
-use Rattle.papaya_alone.specs.Given.Raw.declared.machines.answer.Called.{Called}
-use Rattle.papaya_alone.specs.Given.Raw.declared.machines.asking.Asking.{Asking}
-use Rattle.papaya_alone.specs.Given.Raw.declared.machines.asking.Reply.{Reply}
-use Rattle.papaya_alone.specs.Given.Raw.declared.machines.asking.Reply.TheVariants as reply
-use Rattle.papaya_alone.specs.Given.Raw.declared.machines.call.Calling.TheVariants as at
-use Rattle.papaya_alone.specs.Given.Raw.declared.machines.call.KeyCall.{KeyCall}
-use Rattle.papaya_alone.specs.Given.Raw.declared.machines.machine.Machine.{Machine}
-use Rattle.papaya_alone.specs.Given.Raw.declared.machines.machine.Machine.TheVariants as kinds
-use Rattle.papaya_alone.specs.Given.Raw.declared.machines.progress.Progress.{Progress}
-use Rattle.papaya_alone.specs.Given.Raw.declared.machines.progress.Progress.TheVariants as progress
-use Rattle.papaya_alone.specs.Given.Rule.Chart.{Chart}
-use Rattle.papaya_alone.specs.Given.Rule.Words.{Blocks}
-use Rattle.papaya_alone.specs.Given.Rule.Moments.{Remembers}
-use Rattle.papaya_alone.specs.Given.Late.Covers.{NamesPair}
-use Rattle.papaya_alone.specs.Given.Callers.OverAll.{told_of, come_to, gone_on}
-use Rattle.papaya_alone.specs.Given.Callers.Rows.{LeavesSlots}
-use Rattle.papaya_alone.specs.Given.Callers.Sights.{Sight, seen_by}
-use Rattle.papaya_alone.specs.Given.Callers.Together.{UnderWay, OnKey, ForRoom, Counting, OverAll, told_about, AsksAbout}
-use Rattle.papaya_alone.specs.Given.Callers.Together.{next_of, next_for_room, next_of_counting, next_over_all, change_told}
+use Rattle.papaya_alone.specs.Given.SeizeWordsMem.{Mem, Can, Took, value_at}
+use Rattle.papaya_alone.specs.Given.SeizeWordsPlan.{May, Steps}
+use Rattle.papaya_alone.specs.Given.SeizeWorld.{World, Rests, with_at}
+use Rattle.papaya_alone.specs.Given.SeizeDeclared.progress.Progress.{Progress as Counted}
+use Rattle.papaya_alone.specs.Given.TablesChunks.{is_incremental}
+use Rattle.papaya_alone.specs.Given.TablesDeclared.node.Node.{Node}
+use Rattle.papaya_alone.specs.Given.ResizeDeclared.outcome.Outcome.{Outcome}
+use Rattle.papaya_alone.specs.Given.ResizeDeclared.sum.Sum.{Sum}
+use Rattle.papaya_alone.specs.Given.ReservesDeclared.reserve.Reserve.{Reserve}
+use Rattle.papaya_alone.specs.Given.SweepsDeclared.sweep.Sweep.{Sweep}
+use Rattle.papaya_alone.specs.Given.SweepsDeclared.sweep.Sweeping.TheVariants as sweeping
+use Rattle.papaya_alone.specs.Given.SweepsDeclared.sweep.Swept.{Swept}
+use Rattle.papaya_alone.specs.Given.RawMachine.{machine_plan, machine_replied, machine_asked}
+use Rattle.papaya_alone.specs.Given.RawProgress.{of_called, of_outcome, of_swept, of_counting}
+use Rattle.papaya_alone.specs.Given.RawDeclared.machines.answer.Called.{Called}
+use Rattle.papaya_alone.specs.Given.RawDeclared.machines.asking.Asking.{Asking}
+use Rattle.papaya_alone.specs.Given.RawDeclared.machines.asking.Reply.{Reply}
+use Rattle.papaya_alone.specs.Given.RawDeclared.machines.asking.Reply.TheVariants as reply
+use Rattle.papaya_alone.specs.Given.RawDeclared.machines.call.Calling.TheVariants as at
+use Rattle.papaya_alone.specs.Given.RawDeclared.machines.call.KeyCall.{KeyCall}
+use Rattle.papaya_alone.specs.Given.RawDeclared.machines.machine.Machine.{Machine}
+use Rattle.papaya_alone.specs.Given.RawDeclared.machines.machine.Machine.TheVariants as kinds
+use Rattle.papaya_alone.specs.Given.RawDeclared.machines.progress.Progress.{Progress}
+use Rattle.papaya_alone.specs.Given.RawDeclared.machines.progress.Progress.TheVariants as progress
+use Rattle.papaya_alone.specs.Given.RuleChart.{Chart}
+use Rattle.papaya_alone.specs.Given.RuleWords.{Blocks}
+use Rattle.papaya_alone.specs.Given.RuleMoments.{Remembers}
+use Rattle.papaya_alone.specs.Given.LateCovers.{NamesPair}
+use Rattle.papaya_alone.specs.Given.CallersOverAll.{told_of, come_to, gone_on}
+use Rattle.papaya_alone.specs.Given.CallersRows.{LeavesSlots}
+use Rattle.papaya_alone.specs.Given.CallersSights.{Sight, seen_by}
+use Rattle.papaya_alone.specs.Given.CallersTogether.{UnderWay, OnKey, ForRoom, Counting, OverAll, told_about, AsksAbout}
+use Rattle.papaya_alone.specs.Given.CallersTogether.{next_of, next_for_room, next_of_counting, next_over_all, change_told}
 use Rattle.papaya_finishes.specs.Makings.{Beginning}
 use Rattle.papaya_finishes.specs.Maps.{Standing, IsSameMap, with_call}
 use Rattle.papaya_finishes.specs.Endings.{Finishing, EndingsTogether, StepsAmong, RowStepsAmong}

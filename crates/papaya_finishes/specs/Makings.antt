@@ -1,43 +1,43 @@
 -- Maps that are made among calls of many callers on other maps: whoever takes the next step, of a making or of a call, all stand together.
 use Rattle.std.specs.Prelude.{◌≡◌, ◌≢◌, ℕ, ◌+◌, ◌*◌, ◌<◌, ◌≤◌, ◌^◌, ◌⊎◌, Bool, false, List, max, Option, Some, None}
 use Rattle.std.specs.Int.{IsPowerOfTwo}
-use Rattle.papaya_alone.specs.Given.SeizeWords.Mem.{Mem, Can, Took, value_at, word_at}
-use Rattle.papaya_alone.specs.Given.SeizeWords.Plan.{May, Steps}
-use Rattle.papaya_alone.specs.Given.SeizeWords.declared.at.At.TheVariants.{Root, Used, Entry, Word}
-use Rattle.papaya_alone.specs.Given.Seize.declared.states.TheConstants.{NEXT}
-use Rattle.papaya_alone.specs.Given.Seize.World.{World, Making as MadeBy, LeftTo, Rests, Request, MayStep, Event, Begin, Step, Happens, Runs, IsInside, with_at}
-use Rattle.papaya_alone.specs.Given.Seize.declared.progress.Progress.{Progress}
-use Rattle.papaya_alone.specs.Given.Seize.declared.progress.Progress.TheVariants as progress
-use Rattle.papaya_alone.specs.Given.Tables.Chunks.{is_incremental}
-use Rattle.papaya_alone.specs.Given.Tables.Lengths.{IsTableLen}
-use Rattle.papaya_alone.specs.Given.Tables.Nodes.{deferred_word}
-use Rattle.papaya_alone.specs.Given.Tables.declared.node.Node.{Node}
-use Rattle.papaya_alone.specs.Given.Tables.declared.node.Node.TheVariants as node
-use Rattle.papaya_alone.specs.Given.Tables.declared.setting.Setting.{Setting}
-use Rattle.papaya_alone.specs.Given.Resize.NewMap.{at_root, with_counter, opening, new_map_plan}
-use Rattle.papaya_alone.specs.Given.Resize.declared.new_table.Making.{Making}
-use Rattle.papaya_alone.specs.Given.Resize.declared.new_table.Making.TheVariants as makes
-use Rattle.papaya_alone.specs.Given.Resize.declared.new_map.NewMap.{NewMap}
-use Rattle.papaya_alone.specs.Given.Resize.declared.new_map.Opening.{Opening}
-use Rattle.papaya_alone.specs.Given.Resize.declared.new_map.Opening.TheVariants as at
-use Rattle.papaya_alone.specs.Given.Raw.Call.{call_plan}
-use Rattle.papaya_alone.specs.Given.Raw.declared.machines.answer.Called.{Called}
-use Rattle.papaya_alone.specs.Given.Raw.declared.machines.asking.Asking.{Asking}
-use Rattle.papaya_alone.specs.Given.Raw.declared.machines.call.Calling.TheVariants as calling
-use Rattle.papaya_alone.specs.Given.Raw.declared.machines.call.KeyCall.{KeyCall}
-use Rattle.papaya_alone.specs.Given.Rule.Chart.{Chart}
-use Rattle.papaya_alone.specs.Given.Rule.InWorld.{AllUsers, IsOut}
-use Rattle.papaya_alone.specs.Given.Rule.Maps.{spot_of}
-use Rattle.papaya_alone.specs.Given.Rule.Moves.{Links, after}
-use Rattle.papaya_alone.specs.Given.Rule.Rule.{no_table}
-use Rattle.papaya_alone.specs.Given.Points.FactsTables.{NewTableFacts}
-use Rattle.papaya_alone.specs.Given.Points.Steps.{AreLawful}
-use Rattle.papaya_alone.specs.Given.Points.Told.{IsRowOfCall}
-use Rattle.papaya_alone.specs.Given.Callers.Pairs.{Given}
-use Rattle.papaya_alone.specs.Given.Callers.Claims.{AreFew}
+use Rattle.papaya_alone.specs.Given.SeizeWordsMem.{Mem, Can, Took, value_at, word_at}
+use Rattle.papaya_alone.specs.Given.SeizeWordsPlan.{May, Steps}
+use Rattle.papaya_alone.specs.Given.SeizeWordsDeclared.at.At.TheVariants.{Root, Used, Entry, Word}
+use Rattle.papaya_alone.specs.Given.SeizeDeclared.states.TheConstants.{NEXT}
+use Rattle.papaya_alone.specs.Given.SeizeWorld.{World, Making as MadeBy, LeftTo, Rests, Request, MayStep, Event, Begin, Step, Happens, Runs, IsInside, with_at}
+use Rattle.papaya_alone.specs.Given.SeizeDeclared.progress.Progress.{Progress}
+use Rattle.papaya_alone.specs.Given.SeizeDeclared.progress.Progress.TheVariants as progress
+use Rattle.papaya_alone.specs.Given.TablesChunks.{is_incremental}
+use Rattle.papaya_alone.specs.Given.TablesLengths.{IsTableLen}
+use Rattle.papaya_alone.specs.Given.TablesNodes.{deferred_word}
+use Rattle.papaya_alone.specs.Given.TablesDeclared.node.Node.{Node}
+use Rattle.papaya_alone.specs.Given.TablesDeclared.node.Node.TheVariants as node
+use Rattle.papaya_alone.specs.Given.TablesDeclared.setting.Setting.{Setting}
+use Rattle.papaya_alone.specs.Given.ResizeNewMap.{at_root, with_counter, opening, new_map_plan}
+use Rattle.papaya_alone.specs.Given.ResizeDeclared.new_table.Making.{Making}
+use Rattle.papaya_alone.specs.Given.ResizeDeclared.new_table.Making.TheVariants as makes
+use Rattle.papaya_alone.specs.Given.ResizeDeclared.new_map.NewMap.{NewMap}
+use Rattle.papaya_alone.specs.Given.ResizeDeclared.new_map.Opening.{Opening}
+use Rattle.papaya_alone.specs.Given.ResizeDeclared.new_map.Opening.TheVariants as at
+use Rattle.papaya_alone.specs.Given.RawCall.{call_plan}
+use Rattle.papaya_alone.specs.Given.RawDeclared.machines.answer.Called.{Called}
+use Rattle.papaya_alone.specs.Given.RawDeclared.machines.asking.Asking.{Asking}
+use Rattle.papaya_alone.specs.Given.RawDeclared.machines.call.Calling.TheVariants as calling
+use Rattle.papaya_alone.specs.Given.RawDeclared.machines.call.KeyCall.{KeyCall}
+use Rattle.papaya_alone.specs.Given.RuleChart.{Chart}
+use Rattle.papaya_alone.specs.Given.RuleInWorld.{AllUsers, IsOut}
+use Rattle.papaya_alone.specs.Given.RuleMaps.{spot_of}
+use Rattle.papaya_alone.specs.Given.RuleMoves.{Links, after}
+use Rattle.papaya_alone.specs.Given.RuleRule.{no_table}
+use Rattle.papaya_alone.specs.Given.PointsFactsTables.{NewTableFacts}
+use Rattle.papaya_alone.specs.Given.PointsSteps.{AreLawful}
+use Rattle.papaya_alone.specs.Given.PointsTold.{IsRowOfCall}
+use Rattle.papaya_alone.specs.Given.CallersPairs.{Given}
+use Rattle.papaya_alone.specs.Given.CallersClaims.{AreFew}
 use Rattle.papaya_finishes.specs.Maps.{Standing, IsSameMap, with_call, MapsTogether}
-use Rattle.papaya_alone.specs.Given.Callers.Sights.{seen_by}
-use Rattle.papaya_alone.specs.Given.Callers.Together.{RepliesTaken, OnKey, CallOnKey, UnderWay, UnlessCounts, HasCall, IsOfSlots, Closes, IsBegun, begun_at, next_of, change_told, no_blocks, StepsTogether, RowStepsTogether}
+use Rattle.papaya_alone.specs.Given.CallersSights.{seen_by}
+use Rattle.papaya_alone.specs.Given.CallersTogether.{RepliesTaken, OnKey, CallOnKey, UnderWay, UnlessCounts, HasCall, IsOfSlots, Closes, IsBegun, begun_at, next_of, change_told, no_blocks, StepsTogether, RowStepsTogether}
 
 -- The making of a map that is under way: the number that the map is to have, the setting that the making began with, as many places as its first
 -- table is to have, 0 for no table, the hash of its keys, and the machine. The map stands from the step on at which the machine answers.

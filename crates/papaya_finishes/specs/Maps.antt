@@ -1,30 +1,30 @@
 -- Several maps on one collector, with calls of many callers on each: whoever takes the next step, all maps stand together.
 use Rattle.std.specs.Prelude.{◌≡◌, ◌≢◌, ◌≤◌, ℕ, ◌⊎◌, Bool, false, Option, Some, None}
 use Rattle.std.specs.Int.{IsPowerOfTwo}
-use Rattle.papaya_alone.specs.Given.SeizeWords.Mem.{Mem, Can, Took, value_at, word_at}
-use Rattle.papaya_alone.specs.Given.SeizeWords.Plan.{May, Steps}
-use Rattle.papaya_alone.specs.Given.SeizeWords.declared.at.At.TheVariants.{Root, Word}
-use Rattle.papaya_alone.specs.Given.Seize.World.{World, Rests, Request, MayStep, Begin, Step, Happens, IsInside, with_at}
-use Rattle.papaya_alone.specs.Given.Tables.Nodes.{deferred_word}
-use Rattle.papaya_alone.specs.Given.Tables.Chunks.{is_incremental}
-use Rattle.papaya_alone.specs.Given.Tables.declared.node.Node.{Node}
-use Rattle.papaya_alone.specs.Given.Tables.declared.node.Node.TheVariants as node
-use Rattle.papaya_alone.specs.Given.Tables.declared.setting.Setting.{Setting}
-use Rattle.papaya_alone.specs.Given.Raw.Call.{call_plan}
-use Rattle.papaya_alone.specs.Given.Raw.declared.machines.answer.Called.{Called}
-use Rattle.papaya_alone.specs.Given.Raw.declared.machines.asking.Asking.{Asking}
-use Rattle.papaya_alone.specs.Given.Raw.declared.machines.call.Calling.TheVariants as at
-use Rattle.papaya_alone.specs.Given.Raw.declared.machines.call.KeyCall.{KeyCall}
-use Rattle.papaya_alone.specs.Given.Rule.Chart.{Chart}
-use Rattle.papaya_alone.specs.Given.Rule.Rule.{no_table}
-use Rattle.papaya_alone.specs.Given.Rule.Words.{Blocks}
-use Rattle.papaya_alone.specs.Given.Points.Steps.{AreLawful}
-use Rattle.papaya_alone.specs.Given.Points.Told.{IsRowOfCall}
-use Rattle.papaya_alone.specs.Given.Callers.Pairs.{Given}
-use Rattle.papaya_alone.specs.Given.Callers.Claims.{AreFew}
-use Rattle.papaya_alone.specs.Given.Callers.Kept.{IsMaking}
-use Rattle.papaya_alone.specs.Given.Callers.Sights.{Sight, IsPartOf, seen_by}
-use Rattle.papaya_alone.specs.Given.Callers.Together.{RepliesTaken, CallOnKey, UnderWay, OnKey, UnlessCounts, HasCall, CameAbout, IsOfSlots, Closes, IsBegun, begun_at, next_of, change_told, no_blocks, no_sight, Together, StepsTogether, RowStepsTogether}
+use Rattle.papaya_alone.specs.Given.SeizeWordsMem.{Mem, Can, Took, value_at, word_at}
+use Rattle.papaya_alone.specs.Given.SeizeWordsPlan.{May, Steps}
+use Rattle.papaya_alone.specs.Given.SeizeWordsDeclared.at.At.TheVariants.{Root, Word}
+use Rattle.papaya_alone.specs.Given.SeizeWorld.{World, Rests, Request, MayStep, Begin, Step, Happens, IsInside, with_at}
+use Rattle.papaya_alone.specs.Given.TablesNodes.{deferred_word}
+use Rattle.papaya_alone.specs.Given.TablesChunks.{is_incremental}
+use Rattle.papaya_alone.specs.Given.TablesDeclared.node.Node.{Node}
+use Rattle.papaya_alone.specs.Given.TablesDeclared.node.Node.TheVariants as node
+use Rattle.papaya_alone.specs.Given.TablesDeclared.setting.Setting.{Setting}
+use Rattle.papaya_alone.specs.Given.RawCall.{call_plan}
+use Rattle.papaya_alone.specs.Given.RawDeclared.machines.answer.Called.{Called}
+use Rattle.papaya_alone.specs.Given.RawDeclared.machines.asking.Asking.{Asking}
+use Rattle.papaya_alone.specs.Given.RawDeclared.machines.call.Calling.TheVariants as at
+use Rattle.papaya_alone.specs.Given.RawDeclared.machines.call.KeyCall.{KeyCall}
+use Rattle.papaya_alone.specs.Given.RuleChart.{Chart}
+use Rattle.papaya_alone.specs.Given.RuleRule.{no_table}
+use Rattle.papaya_alone.specs.Given.RuleWords.{Blocks}
+use Rattle.papaya_alone.specs.Given.PointsSteps.{AreLawful}
+use Rattle.papaya_alone.specs.Given.PointsTold.{IsRowOfCall}
+use Rattle.papaya_alone.specs.Given.CallersPairs.{Given}
+use Rattle.papaya_alone.specs.Given.CallersClaims.{AreFew}
+use Rattle.papaya_alone.specs.Given.CallersKept.{IsMaking}
+use Rattle.papaya_alone.specs.Given.CallersSights.{Sight, IsPartOf, seen_by}
+use Rattle.papaya_alone.specs.Given.CallersTogether.{RepliesTaken, CallOnKey, UnderWay, OnKey, UnlessCounts, HasCall, CameAbout, IsOfSlots, Closes, IsBegun, begun_at, next_of, change_told, no_blocks, no_sight, Together, StepsTogether, RowStepsTogether}
 
 -- a map that stands: its setting, the hash of its keys, its tables, the blocks that may be looked at, and what each section sees of them
 pub record Standing (K : Type 0) : Type 0 where

@@ -1,7 +1,7 @@
 -- In which order a map that ends reclaims what it has: its pairs, then table by table the pairs that a table carries and the table, then its counter.
 use Rattle.std.specs.Prelude.{ℕ, zero, suc, ◌-◌, ◌<◌, ◌≤◌, Bool, true, false, cond, List, [], ◌∷◌, ◌++◌, map, if◌then◌else◌, ◌&&◌}
-use Rattle.papaya_alone.specs.Given.Rule.Chart.{Place, Holds, Chart, is_marked}
-use Rattle.papaya_alone.specs.Given.Rule.Words.{Blocks}
+use Rattle.papaya_alone.specs.Given.RuleChart.{Place, Holds, Chart, is_marked}
+use Rattle.papaya_alone.specs.Given.RuleWords.{Blocks}
 
 -- the pair that a place reclaims: in incremental mode none that is marked, since a later table has it
 abbrev pub pair_at : Bool → Place → List ℕ

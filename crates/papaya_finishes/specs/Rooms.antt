@@ -1,19 +1,19 @@
 -- Reservations on maps, among calls, makings and ends of maps: whoever takes the next step, all stand together.
 use Rattle.std.specs.Prelude.{◌≡◌, ℕ, ◌⊎◌, Bool, false, Option, Some, None}
-use Rattle.papaya_alone.specs.Given.SeizeWords.Mem.{Mem, Can, Took, value_at}
-use Rattle.papaya_alone.specs.Given.SeizeWords.Plan.{May, Steps}
-use Rattle.papaya_alone.specs.Given.Seize.World.{World, Rests, IsInside, with_at}
-use Rattle.papaya_alone.specs.Given.Tables.Chunks.{is_incremental}
-use Rattle.papaya_alone.specs.Given.Tables.declared.node.Node.{Node}
-use Rattle.papaya_alone.specs.Given.Resize.declared.outcome.Outcome.{Outcome}
-use Rattle.papaya_alone.specs.Given.Reserves.Reserve.{reserving, reserve_plan}
-use Rattle.papaya_alone.specs.Given.Reserves.declared.reserve.Reserve.{Reserve}
-use Rattle.papaya_alone.specs.Given.Late.ToldReserves.{IsRowOfReserve}
-use Rattle.papaya_alone.specs.Given.Callers.Claims.{AreFew}
+use Rattle.papaya_alone.specs.Given.SeizeWordsMem.{Mem, Can, Took, value_at}
+use Rattle.papaya_alone.specs.Given.SeizeWordsPlan.{May, Steps}
+use Rattle.papaya_alone.specs.Given.SeizeWorld.{World, Rests, IsInside, with_at}
+use Rattle.papaya_alone.specs.Given.TablesChunks.{is_incremental}
+use Rattle.papaya_alone.specs.Given.TablesDeclared.node.Node.{Node}
+use Rattle.papaya_alone.specs.Given.ResizeDeclared.outcome.Outcome.{Outcome}
+use Rattle.papaya_alone.specs.Given.ReservesReserve.{reserving, reserve_plan}
+use Rattle.papaya_alone.specs.Given.ReservesDeclared.reserve.Reserve.{Reserve}
+use Rattle.papaya_alone.specs.Given.LateToldReserves.{IsRowOfReserve}
+use Rattle.papaya_alone.specs.Given.CallersClaims.{AreFew}
 use Rattle.papaya_finishes.specs.Makings.{Beginning}
 use Rattle.papaya_finishes.specs.Maps.{Standing, with_call}
-use Rattle.papaya_alone.specs.Given.Callers.Rooms.{CallForRoom}
-use Rattle.papaya_alone.specs.Given.Callers.Together.{UnderWay, ForRoom, HasCall, in_slot, next_for_room, RoomStepsTogether, RoomRowsTogether}
+use Rattle.papaya_alone.specs.Given.CallersRooms.{CallForRoom}
+use Rattle.papaya_alone.specs.Given.CallersTogether.{UnderWay, ForRoom, HasCall, in_slot, next_for_room, RoomStepsTogether, RoomRowsTogether}
 use Rattle.papaya_finishes.specs.Endings.{Finishing, EndingsTogether, AllEndingsStand}
 
 module _ {K Q : Type 0} (V : Type 0) (same : K → K → Bool) (asks : Q → K → Bool) (batch_size roots : ℕ) (slot : ℕ → ℕ) where

@@ -1,21 +1,21 @@
 -- Walks, clearings and retainings on maps, among calls, makings and ends of maps: whoever takes the next step, all stand together.
 use Rattle.std.specs.Prelude.{◌≡◌, ℕ, ◌⊎◌, Bool, false, Option, Some, None}
-use Rattle.papaya_alone.specs.Given.SeizeWords.Mem.{Mem, Can, Took, value_at}
-use Rattle.papaya_alone.specs.Given.SeizeWords.Plan.{May, Steps}
-use Rattle.papaya_alone.specs.Given.Seize.World.{World, Rests, IsInside, with_at}
-use Rattle.papaya_alone.specs.Given.Tables.Chunks.{is_incremental}
-use Rattle.papaya_alone.specs.Given.Tables.declared.node.Node.{Node}
-use Rattle.papaya_alone.specs.Given.Sweeps.Sweep.{sweep_plan}
-use Rattle.papaya_alone.specs.Given.Sweeps.declared.sweep.Purpose.{Purpose}
-use Rattle.papaya_alone.specs.Given.Sweeps.declared.sweep.Sweep.{Sweep}
-use Rattle.papaya_alone.specs.Given.Sweeps.declared.sweep.Sweeping.TheVariants as at
-use Rattle.papaya_alone.specs.Given.Sweeps.declared.sweep.Swept.{Swept}
-use Rattle.papaya_alone.specs.Given.Late.ToldSweeps.{IsRowOfSweep}
-use Rattle.papaya_alone.specs.Given.Callers.Claims.{AreFew}
-use Rattle.papaya_alone.specs.Given.Callers.OverAll.{CallOverAll, begun_over_all, gone_on, come_to}
-use Rattle.papaya_alone.specs.Given.Callers.Sights.{seen_by}
-use Rattle.papaya_alone.specs.Given.Callers.Sweeps.{TakesTold, SweepStepsTogether, SweepRowsTogether}
-use Rattle.papaya_alone.specs.Given.Callers.Together.{UnderWay, OverAll, HasCall, in_slot, next_over_all}
+use Rattle.papaya_alone.specs.Given.SeizeWordsMem.{Mem, Can, Took, value_at}
+use Rattle.papaya_alone.specs.Given.SeizeWordsPlan.{May, Steps}
+use Rattle.papaya_alone.specs.Given.SeizeWorld.{World, Rests, IsInside, with_at}
+use Rattle.papaya_alone.specs.Given.TablesChunks.{is_incremental}
+use Rattle.papaya_alone.specs.Given.TablesDeclared.node.Node.{Node}
+use Rattle.papaya_alone.specs.Given.SweepsSweep.{sweep_plan}
+use Rattle.papaya_alone.specs.Given.SweepsDeclared.sweep.Purpose.{Purpose}
+use Rattle.papaya_alone.specs.Given.SweepsDeclared.sweep.Sweep.{Sweep}
+use Rattle.papaya_alone.specs.Given.SweepsDeclared.sweep.Sweeping.TheVariants as at
+use Rattle.papaya_alone.specs.Given.SweepsDeclared.sweep.Swept.{Swept}
+use Rattle.papaya_alone.specs.Given.LateToldSweeps.{IsRowOfSweep}
+use Rattle.papaya_alone.specs.Given.CallersClaims.{AreFew}
+use Rattle.papaya_alone.specs.Given.CallersOverAll.{CallOverAll, begun_over_all, gone_on, come_to}
+use Rattle.papaya_alone.specs.Given.CallersSights.{seen_by}
+use Rattle.papaya_alone.specs.Given.CallersSweeps.{TakesTold, SweepStepsTogether, SweepRowsTogether}
+use Rattle.papaya_alone.specs.Given.CallersTogether.{UnderWay, OverAll, HasCall, in_slot, next_over_all}
 use Rattle.papaya_finishes.specs.Makings.{Beginning}
 use Rattle.papaya_finishes.specs.Maps.{Standing, with_call}
 use Rattle.papaya_finishes.specs.Endings.{Finishing, EndingsTogether, AllEndingsStand}

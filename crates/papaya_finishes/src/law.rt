@@ -1,8 +1,8 @@
 //! What is promised of calls on several maps, and of maps that are made and end meanwhile.
 ghost use Rattle.std.specs.Prelude.{ℕ, Bool, Option};
-ghost use Rattle.papaya_alone.specs.Given.Seize.World.{World};
-ghost use Rattle.papaya_alone.specs.Given.Tables.declared.node.Node.{Node};
-ghost use Rattle.papaya_alone.specs.Given.Callers.Together.{UnderWay};
+ghost use Rattle.papaya_alone.specs.Given.SeizeWorld.{World};
+ghost use Rattle.papaya_alone.specs.Given.TablesDeclared.node.Node.{Node};
+ghost use Rattle.papaya_alone.specs.Given.CallersTogether.{UnderWay};
 ghost use Rattle.papaya_finishes.specs.Makings.{Beginning, NoMakingsBegin, MakingsBegin, MakingsStand, CallsBeginBeside, CallsStandBeside, RepliesStandBeside, RowsStandBeside, GuardsStandBeside};
 ghost use Rattle.papaya_finishes.specs.Owners.{OwnEndingsBegin, OwnEndingsStand};
 ghost use Rattle.papaya_finishes.specs.Maps.{Standing, NoMapsBegin, MapsCome, CallsBeginInMaps, CallsStandInMaps, RepliesStandInMaps, RowsStandInMaps, GuardsStandInMaps};

@@ -3,16 +3,16 @@ use Rattle.std.specs.Prelude.{◌≡◌, ◌≢◌, ℕ, ◌+◌, ◌≤◌, ◌
 use Rattle.std.proofs.Common.{refl, ap, sym, ◌∙◌, arith, inl, inr}
 use Rattle.std.proofs.lemmas.Bool.{ne_eqb, eq-eqb, cases_eq}
 use Rattle.std.proofs.lemmas.List.Elements.{filter-append}
-use Rattle.papaya_effects.specs.Given.Runs.declared.outcome.TableShape.{TableShape}
-use Rattle.papaya_effects.specs.Given.Schedules.declared.effect.Effect.{Effect}
-use Rattle.papaya_effects.specs.Given.Schedules.declared.effect.Effect.TheVariants.{Asked, PairMade, PairGivenUp, TableMade, TableGivenUp, Linked, Promoted, Copied, Stored, Replaced, Removed, Counted, Deferred, Retired, Reclaimed, Ended, Taken}
-use Rattle.papaya_effects.specs.Given.Schedules.declared.effect.Spot.{Spot}
-use Rattle.papaya_effects.specs.Given.Schedules.declared.effect.Table.{Table}
-use Rattle.papaya_effects.specs.Given.Schedules.Entry.{acting}
-use Rattle.papaya_effects.specs.Given.Schedules.Effects.{promoted, stored_by, with_effect, with_effects}
-use Rattle.papaya_effects.specs.Given.Schedules.Lists.{put}
-use Rattle.papaya_effects.specs.Given.Schedules.Moment.{Place, InMap, Out, IsLinked, MapThere, TableThere, UnderWay, Moment}
-use Rattle.papaya_effects.specs.Given.Schedules.Views.{is_in_map, map_at, tables_of}
+use Rattle.papaya_effects.specs.Given.RunsDeclared.outcome.TableShape.{TableShape}
+use Rattle.papaya_effects.specs.Given.SchedulesDeclared.effect.Effect.{Effect}
+use Rattle.papaya_effects.specs.Given.SchedulesDeclared.effect.Effect.TheVariants.{Asked, PairMade, PairGivenUp, TableMade, TableGivenUp, Linked, Promoted, Copied, Stored, Replaced, Removed, Counted, Deferred, Retired, Reclaimed, Ended, Taken}
+use Rattle.papaya_effects.specs.Given.SchedulesDeclared.effect.Spot.{Spot}
+use Rattle.papaya_effects.specs.Given.SchedulesDeclared.effect.Table.{Table}
+use Rattle.papaya_effects.specs.Given.SchedulesEntry.{acting}
+use Rattle.papaya_effects.specs.Given.SchedulesEffects.{promoted, stored_by, with_effect, with_effects}
+use Rattle.papaya_effects.specs.Given.SchedulesLists.{put}
+use Rattle.papaya_effects.specs.Given.SchedulesMoment.{Place, InMap, Out, IsLinked, MapThere, TableThere, UnderWay, Moment}
+use Rattle.papaya_effects.specs.Given.SchedulesViews.{is_in_map, map_at, tables_of}
 
 -- the effect moves no pair, and no table
 abbrev pub is_still : Effect → Bool

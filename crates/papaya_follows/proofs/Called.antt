@@ -1,28 +1,28 @@
 -- A call that goes on after a step is what was called, as before.
 use Rattle.std.specs.Prelude.{◌≡◌, ℕ, Bool, Option, Some}
 use Rattle.std.proofs.Common.{refl, sym, subst, ◌∙◌, inl, inr}
-use Rattle.papaya_scenes.specs.Given.SeizeWords.Mem.{Mem}
-use Rattle.papaya_scenes.specs.Given.Seize.World.{World}
-use Rattle.papaya_scenes.specs.Given.Seize.declared.progress.Progress.{Progress as Counted}
-use Rattle.papaya_scenes.specs.Given.Seize.declared.progress.Progress.TheVariants as counted
-use Rattle.papaya_scenes.specs.Given.Tables.declared.node.Node.{Node}
-use Rattle.papaya_scenes.specs.Given.Resize.declared.outcome.Outcome.{Outcome}
-use Rattle.papaya_scenes.specs.Given.Resize.declared.outcome.Outcome.TheVariants as outcome
-use Rattle.papaya_scenes.specs.Given.Resize.declared.sum.Sum.{Sum}
-use Rattle.papaya_scenes.specs.Given.Sweeps.declared.sweep.Swept.{Swept}
-use Rattle.papaya_scenes.specs.Given.Sweeps.declared.sweep.Swept.TheVariants as swept
-use Rattle.papaya_scenes.specs.Given.Raw.declared.machines.answer.Called.{Called}
-use Rattle.papaya_scenes.specs.Given.Raw.declared.machines.answer.Called.TheVariants as called
-use Rattle.papaya_scenes.specs.Given.Raw.declared.machines.machine.Machine.{Machine}
-use Rattle.papaya_scenes.specs.Given.Raw.declared.machines.progress.Progress.{Progress}
-use Rattle.papaya_effects.specs.Given.Schedules.declared.call.Call.{Call}
-use Rattle.papaya_effects.specs.Given.Schedules.declared.call.Call.TheVariants as call
-use Rattle.papaya_scenes.specs.Given.Callers.OverAll.{CallOverAll}
-use Rattle.papaya_scenes.specs.Given.Callers.Rooms.{CallForRoom}
-use Rattle.papaya_scenes.specs.Given.Callers.Together.{CallOnKey, UnderWay, OnKey, ForRoom, Counting, OverAll, next_of, next_for_room, next_of_counting, next_over_all}
-use Rattle.papaya_scenes.specs.Given.Finishes.Endings.{Finishing}
-use Rattle.papaya_scenes.specs.Given.Finishes.Makings.{Beginning}
-use Rattle.papaya_scenes.specs.Given.Finishes.Maps.{Standing}
+use Rattle.papaya_scenes.specs.Given.SeizeWordsMem.{Mem}
+use Rattle.papaya_scenes.specs.Given.SeizeWorld.{World}
+use Rattle.papaya_scenes.specs.Given.SeizeDeclared.progress.Progress.{Progress as Counted}
+use Rattle.papaya_scenes.specs.Given.SeizeDeclared.progress.Progress.TheVariants as counted
+use Rattle.papaya_scenes.specs.Given.TablesDeclared.node.Node.{Node}
+use Rattle.papaya_scenes.specs.Given.ResizeDeclared.outcome.Outcome.{Outcome}
+use Rattle.papaya_scenes.specs.Given.ResizeDeclared.outcome.Outcome.TheVariants as outcome
+use Rattle.papaya_scenes.specs.Given.ResizeDeclared.sum.Sum.{Sum}
+use Rattle.papaya_scenes.specs.Given.SweepsDeclared.sweep.Swept.{Swept}
+use Rattle.papaya_scenes.specs.Given.SweepsDeclared.sweep.Swept.TheVariants as swept
+use Rattle.papaya_scenes.specs.Given.RawDeclared.machines.answer.Called.{Called}
+use Rattle.papaya_scenes.specs.Given.RawDeclared.machines.answer.Called.TheVariants as called
+use Rattle.papaya_scenes.specs.Given.RawDeclared.machines.machine.Machine.{Machine}
+use Rattle.papaya_scenes.specs.Given.RawDeclared.machines.progress.Progress.{Progress}
+use Rattle.papaya_effects.specs.Given.SchedulesDeclared.call.Call.{Call}
+use Rattle.papaya_effects.specs.Given.SchedulesDeclared.call.Call.TheVariants as call
+use Rattle.papaya_scenes.specs.Given.CallersOverAll.{CallOverAll}
+use Rattle.papaya_scenes.specs.Given.CallersRooms.{CallForRoom}
+use Rattle.papaya_scenes.specs.Given.CallersTogether.{CallOnKey, UnderWay, OnKey, ForRoom, Counting, OverAll, next_of, next_for_room, next_of_counting, next_over_all}
+use Rattle.papaya_scenes.specs.Given.FinishesEndings.{Finishing}
+use Rattle.papaya_scenes.specs.Given.FinishesMakings.{Beginning}
+use Rattle.papaya_scenes.specs.Given.FinishesMaps.{Standing}
 use Rattle.papaya_follows.specs.Calls.{IsCalled}
 use Rattle.papaya_follows.specs.Steps.{Did}
 

@@ -2,23 +2,23 @@
 use Rattle.std.specs.Prelude.{◌≡◌, ◌≢◌, ℕ, ◌+◌, ◌==◌, Bool, true, false, cond, not, ◌&&◌, List, [], ◌∷◌, length, filter, find, map, Option, Some, if◌then◌else◌, ◌⊎◌}
 use Rattle.std.proofs.Common.{refl, ap, sym, subst, ◌∙◌, arith, inl, inr}
 use Rattle.std.proofs.lemmas.Bool.{eq-eqb, cases_eq}
-use Rattle.papaya_scenes.specs.Given.Seize.World.{with_at}
-use Rattle.papaya_effects.specs.Given.Runs.Same.{is_same}
-use Rattle.papaya_scenes.specs.Given.Raw.declared.machines.asking.Reply.{Reply as MachineReply}
-use Rattle.papaya_effects.specs.Given.Schedules.declared.call.Call.{Call}
-use Rattle.papaya_effects.specs.Given.Schedules.declared.call.Reply.{Reply}
-use Rattle.papaya_effects.specs.Given.Schedules.declared.outcome.Outcome.{Outcome}
-use Rattle.papaya_effects.specs.Given.Schedules.declared.outcome.Outcome.TheVariants as outcome
-use Rattle.papaya_effects.specs.Given.Schedules.After.{asks_on, comes_to, replied, without_call}
-use Rattle.papaya_effects.specs.Given.Schedules.Beginning.{fresh_call, with_call}
-use Rattle.papaya_effects.specs.Given.Schedules.Entry.{ends_call}
-use Rattle.papaya_effects.specs.Given.Schedules.Moment.{Stands, Going, Asking, Told, IsReady, UnderWay as CallThere, Moment}
-use Rattle.papaya_effects.specs.Given.Schedules.Views.{call_of}
-use Rattle.papaya_scenes.specs.Given.Callers.OverAll.{CallOverAll}
-use Rattle.papaya_scenes.specs.Given.Callers.Together.{CallOnKey, UnderWay, OnKey, ForRoom, Counting, OverAll}
-use Rattle.papaya_scenes.proofs.Given.Callers.Together.At.{at_other, at_same}
-use Rattle.papaya_scenes.specs.Given.Finishes.Machines.{ToldOfKind}
-use Rattle.papaya_scenes.specs.Given.Finishes.Maps.{Standing, with_call as with_in}
+use Rattle.papaya_scenes.specs.Given.SeizeWorld.{with_at}
+use Rattle.papaya_effects.specs.Given.RunsSame.{is_same}
+use Rattle.papaya_scenes.specs.Given.RawDeclared.machines.asking.Reply.{Reply as MachineReply}
+use Rattle.papaya_effects.specs.Given.SchedulesDeclared.call.Call.{Call}
+use Rattle.papaya_effects.specs.Given.SchedulesDeclared.call.Reply.{Reply}
+use Rattle.papaya_effects.specs.Given.SchedulesDeclared.outcome.Outcome.{Outcome}
+use Rattle.papaya_effects.specs.Given.SchedulesDeclared.outcome.Outcome.TheVariants as outcome
+use Rattle.papaya_effects.specs.Given.SchedulesAfter.{asks_on, comes_to, replied, without_call}
+use Rattle.papaya_effects.specs.Given.SchedulesBeginning.{fresh_call, with_call}
+use Rattle.papaya_effects.specs.Given.SchedulesEntry.{ends_call}
+use Rattle.papaya_effects.specs.Given.SchedulesMoment.{Stands, Going, Asking, Told, IsReady, UnderWay as CallThere, Moment}
+use Rattle.papaya_effects.specs.Given.SchedulesViews.{call_of}
+use Rattle.papaya_scenes.specs.Given.CallersOverAll.{CallOverAll}
+use Rattle.papaya_scenes.specs.Given.CallersTogether.{CallOnKey, UnderWay, OnKey, ForRoom, Counting, OverAll}
+use Rattle.papaya_scenes.proofs.Given.CallersTogether.At.{at_other, at_same}
+use Rattle.papaya_scenes.specs.Given.FinishesMachines.{ToldOfKind}
+use Rattle.papaya_scenes.specs.Given.FinishesMaps.{Standing, with_call as with_in}
 use Rattle.papaya_effects.specs.Known.{Known}
 use Rattle.papaya_follows.specs.Blocks.{HasRole}
 use Rattle.papaya_follows.specs.Calls.{IsCalled, ShowsCalls}

@@ -2,18 +2,18 @@
 use Rattle.std.specs.Prelude.{◌≡◌, ◌≢◌, ℕ, Bool, true, false, cond, List, [], ◌∷◌, find, map, Option, Some, if◌then◌else◌, ◌⊎◌}
 use Rattle.std.proofs.Common.{refl, ap, sym, subst, ◌∙◌, inl, inr}
 use Rattle.std.proofs.lemmas.Bool.{cases_eq}
-use Rattle.papaya_scenes.specs.Given.Seize.World.{with_at}
-use Rattle.papaya_effects.specs.Given.Runs.Same.{is_same}
-use Rattle.papaya_effects.specs.Given.Schedules.declared.call.Call.{Call}
-use Rattle.papaya_effects.specs.Given.Schedules.declared.call.Call.TheVariants as call
-use Rattle.papaya_effects.specs.Given.Schedules.declared.effect.Effect.{Effect}
-use Rattle.papaya_effects.specs.Given.Schedules.declared.effect.Effect.TheVariants as effect
-use Rattle.papaya_effects.specs.Given.Schedules.Effects.{due_for, call_by, with_effect, with_effects}
-use Rattle.papaya_effects.specs.Given.Schedules.Moment.{UnderWay as CallThere, Moment}
-use Rattle.papaya_effects.specs.Given.Schedules.Views.{call_of}
-use Rattle.papaya_scenes.specs.Given.Callers.Together.{UnderWay}
-use Rattle.papaya_scenes.proofs.Given.Callers.Together.At.{at_other, at_same}
-use Rattle.papaya_scenes.specs.Given.Finishes.Maps.{with_call}
+use Rattle.papaya_scenes.specs.Given.SeizeWorld.{with_at}
+use Rattle.papaya_effects.specs.Given.RunsSame.{is_same}
+use Rattle.papaya_effects.specs.Given.SchedulesDeclared.call.Call.{Call}
+use Rattle.papaya_effects.specs.Given.SchedulesDeclared.call.Call.TheVariants as call
+use Rattle.papaya_effects.specs.Given.SchedulesDeclared.effect.Effect.{Effect}
+use Rattle.papaya_effects.specs.Given.SchedulesDeclared.effect.Effect.TheVariants as effect
+use Rattle.papaya_effects.specs.Given.SchedulesEffects.{due_for, call_by, with_effect, with_effects}
+use Rattle.papaya_effects.specs.Given.SchedulesMoment.{UnderWay as CallThere, Moment}
+use Rattle.papaya_effects.specs.Given.SchedulesViews.{call_of}
+use Rattle.papaya_scenes.specs.Given.CallersTogether.{UnderWay}
+use Rattle.papaya_scenes.proofs.Given.CallersTogether.At.{at_other, at_same}
+use Rattle.papaya_scenes.specs.Given.FinishesMaps.{with_call}
 use Rattle.papaya_follows.specs.Calls.{IsCalled, ShowsCalls}
 
 module _ {K V : Type 0} where

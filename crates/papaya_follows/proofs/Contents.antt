@@ -4,7 +4,7 @@ use Rattle.std.proofs.Common.{ap, ◌∙◌, arith}
 use Rattle.std.proofs.lemmas.List.{length-append, get_or_append_left}
 use Rattle.std.proofs.lemmas.Option.{slice_get_within, slice_get-get_or, get_or_from_slice_get}
 use Rattle.std.proofs.Math.Seq.{get_or-append_seam}
-use Rattle.papaya_effects.specs.Given.Runs.Log.{pair_at}
+use Rattle.papaya_effects.specs.Given.RunsLog.{pair_at}
 
 module _ {K V : Type 0} where
   -- what was stored has its number still

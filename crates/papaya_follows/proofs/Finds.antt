@@ -4,18 +4,18 @@ use Rattle.std.specs.List.{list_any}
 use Rattle.std.proofs.Common.{refl, ap, sym, subst, ◌∙◌, arith, inl, inr}
 use Rattle.std.proofs.lemmas.Bool.{eq-eqb, cases_eq}
 use Rattle.std.proofs.lemmas.List.{length-append}
-use Rattle.papaya_scenes.specs.Given.Tables.Chunks.{is_incremental}
-use Rattle.papaya_scenes.specs.Given.Tables.declared.table_words.TheConstants.{PLACES}
-use Rattle.papaya_effects.specs.Given.Schedules.declared.effect.Effect.{Effect}
-use Rattle.papaya_effects.specs.Given.Schedules.declared.effect.Effect.TheVariants.{Asked, PairMade, PairGivenUp, TableMade, TableGivenUp, Linked, Promoted, Copied, Stored, Replaced, Removed, Counted, Deferred, Retired, Reclaimed, Ended, Taken}
-use Rattle.papaya_effects.specs.Given.Schedules.Effects.{AtEachEffect, with_effect}
-use Rattle.papaya_effects.specs.Given.Schedules.Growing.{ComesNext}
-use Rattle.papaya_effects.specs.Given.Schedules.Lives.{IsFrom}
-use Rattle.papaya_effects.specs.Given.Schedules.Moment.{Stage, TableThere, Moment}
-use Rattle.papaya_effects.specs.Given.Schedules.Things.{same_table}
-use Rattle.papaya_effects.specs.Given.Schedules.Views.{map_at, first_or, grows_in_chunks, is_linked, first_of, tables_of, is_stage, is_place}
-use Rattle.papaya_scenes.specs.Given.Rule.Chart.{Chart}
-use Rattle.papaya_scenes.specs.Given.Finishes.Maps.{Standing}
+use Rattle.papaya_scenes.specs.Given.TablesChunks.{is_incremental}
+use Rattle.papaya_scenes.specs.Given.TablesDeclared.table_words.TheConstants.{PLACES}
+use Rattle.papaya_effects.specs.Given.SchedulesDeclared.effect.Effect.{Effect}
+use Rattle.papaya_effects.specs.Given.SchedulesDeclared.effect.Effect.TheVariants.{Asked, PairMade, PairGivenUp, TableMade, TableGivenUp, Linked, Promoted, Copied, Stored, Replaced, Removed, Counted, Deferred, Retired, Reclaimed, Ended, Taken}
+use Rattle.papaya_effects.specs.Given.SchedulesEffects.{AtEachEffect, with_effect}
+use Rattle.papaya_effects.specs.Given.SchedulesGrowing.{ComesNext}
+use Rattle.papaya_effects.specs.Given.SchedulesLives.{IsFrom}
+use Rattle.papaya_effects.specs.Given.SchedulesMoment.{Stage, TableThere, Moment}
+use Rattle.papaya_effects.specs.Given.SchedulesThings.{same_table}
+use Rattle.papaya_effects.specs.Given.SchedulesViews.{map_at, first_or, grows_in_chunks, is_linked, first_of, tables_of, is_stage, is_place}
+use Rattle.papaya_scenes.specs.Given.RuleChart.{Chart}
+use Rattle.papaya_scenes.specs.Given.FinishesMaps.{Standing}
 use Rattle.papaya_effects.specs.Effects.{spot_at}
 use Rattle.papaya_effects.specs.Known.{Known}
 use Rattle.papaya_follows.specs.Finds.{MayStandAt, MayBeRoot, FindsMap}

@@ -1,13 +1,13 @@
 -- What a step of a call has to store, by what it has changed of the pairs of its map; and that what moves no pair stores none.
 use Rattle.std.specs.Prelude.{◌≡◌, ℕ, suc, ◌<◌, true, false, List, [], ◌∷◌, Option, Some}
-use Rattle.papaya_scenes.specs.Given.SeizeWords.Mem.{Mem, value_at}
-use Rattle.papaya_scenes.specs.Given.Tables.declared.node.Node.{Node}
-use Rattle.papaya_effects.specs.Given.Schedules.declared.effect.Effect.{Effect}
-use Rattle.papaya_effects.specs.Given.Schedules.declared.effect.Effect.TheVariants.{Asked, PairMade, PairGivenUp, TableMade, TableGivenUp, Linked, Promoted, Copied, Stored, Replaced, Removed, Counted, Deferred, Retired, Reclaimed, Ended, Taken}
-use Rattle.papaya_effects.specs.Given.Schedules.Entry.{acting}
-use Rattle.papaya_effects.specs.Given.Schedules.Effects.{with_effect, AtEachEffect}
-use Rattle.papaya_effects.specs.Given.Schedules.Moment.{UnderWay, Moment}
-use Rattle.papaya_scenes.specs.Given.Rule.Chart.{Chart}
+use Rattle.papaya_scenes.specs.Given.SeizeWordsMem.{Mem, value_at}
+use Rattle.papaya_scenes.specs.Given.TablesDeclared.node.Node.{Node}
+use Rattle.papaya_effects.specs.Given.SchedulesDeclared.effect.Effect.{Effect}
+use Rattle.papaya_effects.specs.Given.SchedulesDeclared.effect.Effect.TheVariants.{Asked, PairMade, PairGivenUp, TableMade, TableGivenUp, Linked, Promoted, Copied, Stored, Replaced, Removed, Counted, Deferred, Retired, Reclaimed, Ended, Taken}
+use Rattle.papaya_effects.specs.Given.SchedulesEntry.{acting}
+use Rattle.papaya_effects.specs.Given.SchedulesEffects.{with_effect, AtEachEffect}
+use Rattle.papaya_effects.specs.Given.SchedulesMoment.{UnderWay, Moment}
+use Rattle.papaya_scenes.specs.Given.RuleChart.{Chart}
 use Rattle.papaya_follows.specs.Steps.{HasToStore, HasPair}
 use Rattle.papaya_follows.proofs.Alike.{is_still, AllStill}
 

@@ -1,19 +1,19 @@
 -- Where a step of a call leads that is none of a row: its map, and all blocks, are shown at the moment after its effects, and other maps have not changed.
 use Rattle.std.specs.Prelude.{◌≡◌, ◌≢◌, ℕ, suc, ◌+◌, ◌<◌, Bool, true, List, length, Option, Some, ◌⊎◌}
 use Rattle.std.proofs.Common.{refl, ap, sym, subst, ◌∙◌, inl}
-use Rattle.papaya_scenes.specs.Given.SeizeWords.Mem.{Mem}
-use Rattle.papaya_scenes.specs.Given.Seize.World.{World}
-use Rattle.papaya_scenes.specs.Given.Tables.declared.node.Node.{Node}
-use Rattle.papaya_effects.specs.Given.Schedules.declared.effect.Effect.{Effect}
-use Rattle.papaya_effects.specs.Given.Schedules.Effects.{AtEachEffect, with_effects}
-use Rattle.papaya_effects.specs.Given.Schedules.Moment.{Moment}
-use Rattle.papaya_scenes.specs.Given.Rule.Chart.{Chart}
-use Rattle.papaya_scenes.specs.Given.Rule.Words.{Blocks}
-use Rattle.papaya_scenes.specs.Given.Rule.InWorld.{IsMapIn, Went}
-use Rattle.papaya_scenes.specs.Given.Points.Steps.{AreLawful}
-use Rattle.papaya_scenes.specs.Given.Callers.Sights.{Sight, seen_by, IsGrown, IsSight}
-use Rattle.papaya_scenes.specs.Given.Callers.Together.{in_slot}
-use Rattle.papaya_scenes.specs.Given.Finishes.Maps.{Standing}
+use Rattle.papaya_scenes.specs.Given.SeizeWordsMem.{Mem}
+use Rattle.papaya_scenes.specs.Given.SeizeWorld.{World}
+use Rattle.papaya_scenes.specs.Given.TablesDeclared.node.Node.{Node}
+use Rattle.papaya_effects.specs.Given.SchedulesDeclared.effect.Effect.{Effect}
+use Rattle.papaya_effects.specs.Given.SchedulesEffects.{AtEachEffect, with_effects}
+use Rattle.papaya_effects.specs.Given.SchedulesMoment.{Moment}
+use Rattle.papaya_scenes.specs.Given.RuleChart.{Chart}
+use Rattle.papaya_scenes.specs.Given.RuleWords.{Blocks}
+use Rattle.papaya_scenes.specs.Given.RuleInWorld.{IsMapIn, Went}
+use Rattle.papaya_scenes.specs.Given.PointsSteps.{AreLawful}
+use Rattle.papaya_scenes.specs.Given.CallersSights.{Sight, seen_by, IsGrown, IsSight}
+use Rattle.papaya_scenes.specs.Given.CallersTogether.{in_slot}
+use Rattle.papaya_scenes.specs.Given.FinishesMaps.{Standing}
 use Rattle.papaya_effects.specs.Known.{Known}
 use Rattle.papaya_effects.specs.declared.role.Role.{Role}
 use Rattle.papaya_effects.specs.declared.role.Role.TheVariants as role

@@ -3,26 +3,26 @@ use Rattle.std.specs.Prelude.{◌≡◌, ℕ, zero, suc, ◌<◌, ◌≤◌, ◌
 use Rattle.std.proofs.Common.{refl, ap, sym, subst, ◌∙◌, arith, inl, inr}
 use Rattle.std.proofs.lemmas.Bool.{eq-eqb, cases_eq}
 use Rattle.std.proofs.lemmas.List.Elements.{filter-append}
-use Rattle.papaya_scenes.specs.Given.SeizeWords.Mem.{Mem, value_at}
-use Rattle.papaya_scenes.specs.Given.Seize.World.{World}
-use Rattle.papaya_effects.specs.Given.Runs.declared.outcome.TableShape.{TableShape}
-use Rattle.papaya_scenes.specs.Given.Tables.declared.node.Node.{Node}
-use Rattle.papaya_scenes.specs.Given.Tables.declared.node.Node.TheVariants as node
-use Rattle.papaya_effects.specs.Given.Schedules.declared.effect.Effect.{Effect}
-use Rattle.papaya_effects.specs.Given.Schedules.declared.effect.Effect.TheVariants.{Linked, Promoted}
-use Rattle.papaya_effects.specs.Given.Schedules.declared.effect.Table.{Table}
-use Rattle.papaya_effects.specs.Given.Schedules.Entry.{acting}
-use Rattle.papaya_effects.specs.Given.Schedules.Effects.{promoted, stored_by, with_effect}
-use Rattle.papaya_effects.specs.Given.Schedules.Lists.{put}
-use Rattle.papaya_effects.specs.Given.Schedules.Moment.{IsLinked, Stage, MapThere, TableThere, UnderWay, Moment}
-use Rattle.papaya_effects.specs.Given.Schedules.Views.{tables_of}
-use Rattle.papaya_scenes.specs.Given.Rule.Chart.{Chart}
-use Rattle.papaya_scenes.specs.Given.Rule.Words.{Blocks}
-use Rattle.papaya_scenes.specs.Given.Rule.InWorld.{IsMapIn, Went}
-use Rattle.papaya_scenes.specs.Given.Points.Steps.{AreLawful}
-use Rattle.papaya_scenes.specs.Given.Callers.Sights.{Sight, seen_by, IsGrown, IsSight}
-use Rattle.papaya_scenes.specs.Given.Callers.Together.{in_slot}
-use Rattle.papaya_scenes.specs.Given.Finishes.Maps.{Standing}
+use Rattle.papaya_scenes.specs.Given.SeizeWordsMem.{Mem, value_at}
+use Rattle.papaya_scenes.specs.Given.SeizeWorld.{World}
+use Rattle.papaya_effects.specs.Given.RunsDeclared.outcome.TableShape.{TableShape}
+use Rattle.papaya_scenes.specs.Given.TablesDeclared.node.Node.{Node}
+use Rattle.papaya_scenes.specs.Given.TablesDeclared.node.Node.TheVariants as node
+use Rattle.papaya_effects.specs.Given.SchedulesDeclared.effect.Effect.{Effect}
+use Rattle.papaya_effects.specs.Given.SchedulesDeclared.effect.Effect.TheVariants.{Linked, Promoted}
+use Rattle.papaya_effects.specs.Given.SchedulesDeclared.effect.Table.{Table}
+use Rattle.papaya_effects.specs.Given.SchedulesEntry.{acting}
+use Rattle.papaya_effects.specs.Given.SchedulesEffects.{promoted, stored_by, with_effect}
+use Rattle.papaya_effects.specs.Given.SchedulesLists.{put}
+use Rattle.papaya_effects.specs.Given.SchedulesMoment.{IsLinked, Stage, MapThere, TableThere, UnderWay, Moment}
+use Rattle.papaya_effects.specs.Given.SchedulesViews.{tables_of}
+use Rattle.papaya_scenes.specs.Given.RuleChart.{Chart}
+use Rattle.papaya_scenes.specs.Given.RuleWords.{Blocks}
+use Rattle.papaya_scenes.specs.Given.RuleInWorld.{IsMapIn, Went}
+use Rattle.papaya_scenes.specs.Given.PointsSteps.{AreLawful}
+use Rattle.papaya_scenes.specs.Given.CallersSights.{Sight, seen_by, IsGrown, IsSight}
+use Rattle.papaya_scenes.specs.Given.CallersTogether.{in_slot}
+use Rattle.papaya_scenes.specs.Given.FinishesMaps.{Standing}
 use Rattle.papaya_effects.specs.Known.{Known, with_role}
 use Rattle.papaya_effects.specs.declared.role.Role.{Role}
 use Rattle.papaya_effects.specs.declared.role.Role.TheVariants as role

@@ -2,18 +2,18 @@
 use Rattle.std.specs.Prelude.{◌≡◌, ◌≢◌, ℕ, ◌+◌, ◌^◌, ◌%◌, Bool, true, false, bit_or, List, [], ◌∷◌, Option, Some, None, Ok, Err, IsSome, if◌then◌else◌}
 use Rattle.std.proofs.Common.{refl, ap, sym, subst, ◌∙◌}
 use Rattle.std.proofs.lemmas.Bool.{ne_eqb}
-use Rattle.papaya_scenes.specs.Given.SeizeWords.declared.at.At.{At}
-use Rattle.papaya_scenes.specs.Given.SeizeWords.declared.at.At.TheVariants.{Word}
-use Rattle.papaya_scenes.specs.Given.SeizeWords.Mem.{Mem, same_at, block_of, value_in, word_in, value_at, word_at, with_word, fresh, after, Took}
-use Rattle.papaya_scenes.specs.Given.SeizeWords.Op.{Op, Out, Load, Store, Swap, Add, Or, Exchange, Make, Take, Rewrite, Room, Found, Stored, Exchanged, Made, Taken, Roomed}
-use Rattle.papaya_scenes.proofs.Given.SeizeWords.OneOwner.AfterWrites.{word_at-with_word, word_at-with_value, block_of-with_block, block_of-made}
-use Rattle.papaya_scenes.proofs.Given.SeizeRule.Words.Named.{block_there, same_at-true}
-use Rattle.papaya_scenes.proofs.Given.SeizeRule.World.Values.{own_op_value, taken_value, made_value, rewritten_value}
-use Rattle.papaya_scenes.proofs.Given.SeizeRule.World.Events.{missing}
-use Rattle.papaya_scenes.specs.Given.Seize.World.{World, NoBlock, Making, InUse, Parting, Cutting, Event, Begin, Step, Makes, Drops, Links, Parts, Unlinks, Rewrites, Operates, Ends, LeavesOver, Relinks, Clears, Chooses, IsOwn, IsOwnOp, Happens, Runs, made_by}
-use Rattle.papaya_scenes.specs.Given.Rule.InWorld.{IsOut, AllUsers}
-use Rattle.papaya_scenes.proofs.Given.Rule.World.Hands.{at_cases}
-use Rattle.papaya_scenes.specs.Given.Seize.Sequence.{IsUsers}
+use Rattle.papaya_scenes.specs.Given.SeizeWordsDeclared.at.At.{At}
+use Rattle.papaya_scenes.specs.Given.SeizeWordsDeclared.at.At.TheVariants.{Word}
+use Rattle.papaya_scenes.specs.Given.SeizeWordsMem.{Mem, same_at, block_of, value_in, word_in, value_at, word_at, with_word, fresh, after, Took}
+use Rattle.papaya_scenes.specs.Given.SeizeWordsOp.{Op, Out, Load, Store, Swap, Add, Or, Exchange, Make, Take, Rewrite, Room, Found, Stored, Exchanged, Made, Taken, Roomed}
+use Rattle.papaya_scenes.proofs.Given.SeizeWordsOneOwner.AfterWrites.{word_at-with_word, word_at-with_value, block_of-with_block, block_of-made}
+use Rattle.papaya_scenes.proofs.Given.SeizeRuleWords.Named.{block_there, same_at-true}
+use Rattle.papaya_scenes.proofs.Given.SeizeRuleWorld.Values.{own_op_value, taken_value, made_value, rewritten_value}
+use Rattle.papaya_scenes.proofs.Given.SeizeRuleWorld.Events.{missing}
+use Rattle.papaya_scenes.specs.Given.SeizeWorld.{World, NoBlock, Making, InUse, Parting, Cutting, Event, Begin, Step, Makes, Drops, Links, Parts, Unlinks, Rewrites, Operates, Ends, LeavesOver, Relinks, Clears, Chooses, IsOwn, IsOwnOp, Happens, Runs, made_by}
+use Rattle.papaya_scenes.specs.Given.RuleInWorld.{IsOut, AllUsers}
+use Rattle.papaya_scenes.proofs.Given.RuleWorld.Hands.{at_cases}
+use Rattle.papaya_scenes.specs.Given.SeizeSequence.{IsUsers}
 
 module _ {T : Type 0} (defers : T → Option ℕ) (b d : ℕ) where
   -- a block that was linked has its list in this word

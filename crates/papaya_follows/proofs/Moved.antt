@@ -2,39 +2,39 @@
 use Rattle.std.specs.Prelude.{◌≡◌, ◌≢◌, ℕ, zero, suc, ◌+◌, ◌*◌, ◌<◌, ◌≤◌, Bool, true, false, cond, eqb, List, [], ◌∷◌, Option, Some}
 use Rattle.std.proofs.Common.{refl, ap, sym, subst, ◌∙◌, arith, inl, inr}
 use Rattle.std.proofs.lemmas.Bool.{ne_eqb, eq-eqb, cases_eq}
-use Rattle.papaya_scenes.specs.Given.SeizeWords.declared.at.At.{At}
-use Rattle.papaya_scenes.specs.Given.SeizeWords.declared.at.At.TheVariants.{Root}
-use Rattle.papaya_scenes.specs.Given.SeizeWords.Mem.{Mem, value_at}
-use Rattle.papaya_scenes.specs.Given.SeizeWords.Word.{block_in}
-use Rattle.papaya_scenes.specs.Given.Seize.World.{World}
-use Rattle.papaya_effects.specs.Given.Runs.declared.outcome.TableShape.{TableShape}
-use Rattle.papaya_scenes.specs.Given.Tables.Chunks.{is_incremental}
-use Rattle.papaya_scenes.specs.Given.Tables.declared.marks.TheConstants.{TOMBSTONE}
-use Rattle.papaya_scenes.specs.Given.Tables.declared.node.Node.{Node}
-use Rattle.papaya_scenes.specs.Given.Tables.declared.setting.Setting.{Setting}
-use Rattle.papaya_scenes.specs.Given.Tables.declared.table_words.TheConstants.{PLACES}
-use Rattle.papaya_effects.specs.Given.Schedules.declared.effect.Effect.{Effect}
-use Rattle.papaya_effects.specs.Given.Schedules.declared.effect.Effect.TheVariants.{Copied, Stored, Replaced, Removed, Linked, Promoted}
-use Rattle.papaya_effects.specs.Given.Schedules.declared.effect.Spot.{Spot}
-use Rattle.papaya_effects.specs.Given.Schedules.Entry.{acting}
-use Rattle.papaya_effects.specs.Given.Schedules.Effects.{with_effect, AtEachEffect}
-use Rattle.papaya_effects.specs.Given.Schedules.Moment.{Moment}
-use Rattle.papaya_scenes.specs.Given.Teller.declared.changed.Changed.{Changed}
-use Rattle.papaya_scenes.specs.Given.Teller.declared.changed.Changed.TheVariants as changed
-use Rattle.papaya_scenes.specs.Given.Tells.Seen.{Seen, Wrote}
-use Rattle.papaya_scenes.specs.Given.Tells.Tells.{place_at, last_link, KeepsNames, IsQuiet, new_word, IsSeenAs, IsTold}
-use Rattle.papaya_scenes.specs.Given.Rule.Chart.{Phase, Still, Copying, Empty, Holds, Chart}
-use Rattle.papaya_scenes.specs.Given.Rule.Moves.{Move, Links, Stores, Replaces, Removes, Marks, MarksBlocking, Skips, Unmarks, Puts, Covers, PutsLate, Claims, Reclaims, Counts, GivesUp, Aborts, Promotes, Announces, Allowed, after, without}
-use Rattle.papaya_scenes.specs.Given.Rule.Words.{Blocks, byte_of, place_word}
-use Rattle.papaya_scenes.specs.Given.Rule.Maps.{spot_of}
-use Rattle.papaya_scenes.specs.Given.Rule.InWorld.{IsMapIn, Moved, Went}
-use Rattle.papaya_scenes.proofs.Given.Rule.Moves.Writes.{put_in_here}
-use Rattle.papaya_scenes.proofs.Given.Rule.Laws.{words_name_pairs, bytes_are_few}
-use Rattle.papaya_scenes.proofs.Given.Rule.Words.TablesSeen.{block_of_link}
-use Rattle.papaya_scenes.specs.Given.Points.Steps.{AreLawful}
-use Rattle.papaya_scenes.specs.Given.Callers.Sights.{Sight, seen_by, IsGrown, IsSight}
-use Rattle.papaya_scenes.specs.Given.Callers.Together.{in_slot}
-use Rattle.papaya_scenes.specs.Given.Finishes.Maps.{Standing}
+use Rattle.papaya_scenes.specs.Given.SeizeWordsDeclared.at.At.{At}
+use Rattle.papaya_scenes.specs.Given.SeizeWordsDeclared.at.At.TheVariants.{Root}
+use Rattle.papaya_scenes.specs.Given.SeizeWordsMem.{Mem, value_at}
+use Rattle.papaya_scenes.specs.Given.SeizeWordsWord.{block_in}
+use Rattle.papaya_scenes.specs.Given.SeizeWorld.{World}
+use Rattle.papaya_effects.specs.Given.RunsDeclared.outcome.TableShape.{TableShape}
+use Rattle.papaya_scenes.specs.Given.TablesChunks.{is_incremental}
+use Rattle.papaya_scenes.specs.Given.TablesDeclared.marks.TheConstants.{TOMBSTONE}
+use Rattle.papaya_scenes.specs.Given.TablesDeclared.node.Node.{Node}
+use Rattle.papaya_scenes.specs.Given.TablesDeclared.setting.Setting.{Setting}
+use Rattle.papaya_scenes.specs.Given.TablesDeclared.table_words.TheConstants.{PLACES}
+use Rattle.papaya_effects.specs.Given.SchedulesDeclared.effect.Effect.{Effect}
+use Rattle.papaya_effects.specs.Given.SchedulesDeclared.effect.Effect.TheVariants.{Copied, Stored, Replaced, Removed, Linked, Promoted}
+use Rattle.papaya_effects.specs.Given.SchedulesDeclared.effect.Spot.{Spot}
+use Rattle.papaya_effects.specs.Given.SchedulesEntry.{acting}
+use Rattle.papaya_effects.specs.Given.SchedulesEffects.{with_effect, AtEachEffect}
+use Rattle.papaya_effects.specs.Given.SchedulesMoment.{Moment}
+use Rattle.papaya_scenes.specs.Given.TellerDeclared.changed.Changed.{Changed}
+use Rattle.papaya_scenes.specs.Given.TellerDeclared.changed.Changed.TheVariants as changed
+use Rattle.papaya_scenes.specs.Given.TellsSeen.{Seen, Wrote}
+use Rattle.papaya_scenes.specs.Given.TellsTells.{place_at, last_link, KeepsNames, IsQuiet, new_word, IsSeenAs, IsTold}
+use Rattle.papaya_scenes.specs.Given.RuleChart.{Phase, Still, Copying, Empty, Holds, Chart}
+use Rattle.papaya_scenes.specs.Given.RuleMoves.{Move, Links, Stores, Replaces, Removes, Marks, MarksBlocking, Skips, Unmarks, Puts, Covers, PutsLate, Claims, Reclaims, Counts, GivesUp, Aborts, Promotes, Announces, Allowed, after, without}
+use Rattle.papaya_scenes.specs.Given.RuleWords.{Blocks, byte_of, place_word}
+use Rattle.papaya_scenes.specs.Given.RuleMaps.{spot_of}
+use Rattle.papaya_scenes.specs.Given.RuleInWorld.{IsMapIn, Moved, Went}
+use Rattle.papaya_scenes.proofs.Given.RuleMoves.Writes.{put_in_here}
+use Rattle.papaya_scenes.proofs.Given.RuleLaws.{words_name_pairs, bytes_are_few}
+use Rattle.papaya_scenes.proofs.Given.RuleWords.TablesSeen.{block_of_link}
+use Rattle.papaya_scenes.specs.Given.PointsSteps.{AreLawful}
+use Rattle.papaya_scenes.specs.Given.CallersSights.{Sight, seen_by, IsGrown, IsSight}
+use Rattle.papaya_scenes.specs.Given.CallersTogether.{in_slot}
+use Rattle.papaya_scenes.specs.Given.FinishesMaps.{Standing}
 use Rattle.papaya_effects.specs.Effects.{spot_at, effects_of, known_after}
 use Rattle.papaya_effects.specs.Known.{Known, with_pair, with_role}
 use Rattle.papaya_effects.specs.declared.acting.Acting.{Acting}

@@ -1,23 +1,23 @@
 -- A step that has left the memory as it was, and has moved nothing: each word names what it named.
 use Rattle.std.specs.Prelude.{◌≡◌, ℕ, Bool, [], Some}
 use Rattle.std.proofs.Common.{refl, sym, ◌∙◌, ap, subst, inl}
-use Rattle.papaya_scenes.specs.Given.SeizeWords.declared.at.At.{At}
-use Rattle.papaya_scenes.specs.Given.SeizeWords.declared.at.At.TheVariants.{Root, Used, Slot, Entry, Word}
-use Rattle.papaya_scenes.specs.Given.SeizeWords.Mem.{Mem, word_at}
-use Rattle.papaya_scenes.specs.Given.SeizeWords.Word.{block_in}
-use Rattle.papaya_scenes.specs.Given.Seize.World.{World}
-use Rattle.papaya_scenes.specs.Given.Tables.declared.node.Node.{Node}
-use Rattle.papaya_scenes.specs.Given.Tables.declared.setting.Setting.{Setting}
-use Rattle.papaya_scenes.specs.Given.Teller.declared.changed.Changed.{Changed}
-use Rattle.papaya_scenes.specs.Given.Teller.declared.changed.Changed.TheVariants as changed
-use Rattle.papaya_scenes.specs.Given.Tells.Tells.{KeepsNames}
-use Rattle.papaya_scenes.specs.Given.Rule.Chart.{Chart}
-use Rattle.papaya_scenes.specs.Given.Rule.Words.{Blocks}
-use Rattle.papaya_scenes.specs.Given.Rule.InWorld.{IsMapIn, IsFramed, Went}
-use Rattle.papaya_scenes.proofs.Given.Rule.World.Footprints.{framed_same}
-use Rattle.papaya_scenes.proofs.Given.Rule.Words.LinksOwn.{outs_same, known_same, links_none}
-use Rattle.papaya_scenes.proofs.Given.Rule.World.MovesKnown.{tables_same}
-use Rattle.papaya_scenes.proofs.Given.Rule.World.OthersSpared.{keeps_same}
+use Rattle.papaya_scenes.specs.Given.SeizeWordsDeclared.at.At.{At}
+use Rattle.papaya_scenes.specs.Given.SeizeWordsDeclared.at.At.TheVariants.{Root, Used, Slot, Entry, Word}
+use Rattle.papaya_scenes.specs.Given.SeizeWordsMem.{Mem, word_at}
+use Rattle.papaya_scenes.specs.Given.SeizeWordsWord.{block_in}
+use Rattle.papaya_scenes.specs.Given.SeizeWorld.{World}
+use Rattle.papaya_scenes.specs.Given.TablesDeclared.node.Node.{Node}
+use Rattle.papaya_scenes.specs.Given.TablesDeclared.setting.Setting.{Setting}
+use Rattle.papaya_scenes.specs.Given.TellerDeclared.changed.Changed.{Changed}
+use Rattle.papaya_scenes.specs.Given.TellerDeclared.changed.Changed.TheVariants as changed
+use Rattle.papaya_scenes.specs.Given.TellsTells.{KeepsNames}
+use Rattle.papaya_scenes.specs.Given.RuleChart.{Chart}
+use Rattle.papaya_scenes.specs.Given.RuleWords.{Blocks}
+use Rattle.papaya_scenes.specs.Given.RuleInWorld.{IsMapIn, IsFramed, Went}
+use Rattle.papaya_scenes.proofs.Given.RuleWorld.Footprints.{framed_same}
+use Rattle.papaya_scenes.proofs.Given.RuleWords.LinksOwn.{outs_same, known_same, links_none}
+use Rattle.papaya_scenes.proofs.Given.RuleWorld.MovesKnown.{tables_same}
+use Rattle.papaya_scenes.proofs.Given.RuleWorld.OthersSpared.{keeps_same}
 use Rattle.papaya_follows.proofs.Operations.{LeavesBy}
 
 -- it is where it was

@@ -2,19 +2,19 @@
 use Rattle.std.specs.Prelude.{◌≡◌, ◌≢◌, ℕ, Option, Some, None, Ok, Err, IsSome, if◌then◌else◌, ◌⊎◌}
 use Rattle.std.proofs.Common.{refl, ap, sym, subst, ◌∙◌, inl, inr}
 use Rattle.std.proofs.lemmas.Bool.{ne_eqb, eq-eqb, cases_eq}
-use Rattle.papaya_scenes.specs.Given.SeizeWords.declared.at.At.{At}
-use Rattle.papaya_scenes.specs.Given.SeizeWords.Mem.{Mem, block_of, value_in, value_at, word_at, with_word, fresh, Can, Took}
-use Rattle.papaya_scenes.specs.Given.SeizeWords.Op.{Op, Out, Load, Store, Swap, Add, Or, Exchange, Make, Take, Rewrite, Room, Found, Stored, Exchanged, Made, Taken, Roomed}
-use Rattle.papaya_scenes.specs.Given.SeizeWords.Plan.{Plan, Turn, Do, May}
-use Rattle.papaya_scenes.proofs.Given.SeizeWords.OneOwner.AfterWrites.{value_at-with_word, value_at-with_value, block_of-with_block, block_of-made}
-use Rattle.papaya_scenes.proofs.Given.SeizeRule.Words.Named.{block_there}
-use Rattle.papaya_scenes.specs.Given.Tables.declared.node.Node.{Node}
-use Rattle.papaya_scenes.specs.Given.Tells.Seen.{Seen, Unseen, Wrote, MadeOne, HadNoRoom, TookAway, NewValue, seen_of}
-use Rattle.papaya_scenes.proofs.Given.Tells.Kept.{seen_kept}
-use Rattle.papaya_scenes.specs.Given.Teller.Changed.{kind_of}
-use Rattle.papaya_scenes.specs.Given.Teller.Tells.{told_of, StepsTold}
-use Rattle.papaya_scenes.specs.Given.Teller.declared.changed.Changed.{Changed}
-use Rattle.papaya_scenes.specs.Given.Teller.declared.changed.Changed.TheVariants as changed
+use Rattle.papaya_scenes.specs.Given.SeizeWordsDeclared.at.At.{At}
+use Rattle.papaya_scenes.specs.Given.SeizeWordsMem.{Mem, block_of, value_in, value_at, word_at, with_word, fresh, Can, Took}
+use Rattle.papaya_scenes.specs.Given.SeizeWordsOp.{Op, Out, Load, Store, Swap, Add, Or, Exchange, Make, Take, Rewrite, Room, Found, Stored, Exchanged, Made, Taken, Roomed}
+use Rattle.papaya_scenes.specs.Given.SeizeWordsPlan.{Plan, Turn, Do, May}
+use Rattle.papaya_scenes.proofs.Given.SeizeWordsOneOwner.AfterWrites.{value_at-with_word, value_at-with_value, block_of-with_block, block_of-made}
+use Rattle.papaya_scenes.proofs.Given.SeizeRuleWords.Named.{block_there}
+use Rattle.papaya_scenes.specs.Given.TablesDeclared.node.Node.{Node}
+use Rattle.papaya_scenes.specs.Given.TellsSeen.{Seen, Unseen, Wrote, MadeOne, HadNoRoom, TookAway, NewValue, seen_of}
+use Rattle.papaya_scenes.proofs.Given.TellsKept.{seen_kept}
+use Rattle.papaya_scenes.specs.Given.TellerChanged.{kind_of}
+use Rattle.papaya_scenes.specs.Given.TellerTells.{told_of, StepsTold}
+use Rattle.papaya_scenes.specs.Given.TellerDeclared.changed.Changed.{Changed}
+use Rattle.papaya_scenes.specs.Given.TellerDeclared.changed.Changed.TheVariants as changed
 
 module _ {K V : Type 0} (m m2 : Mem (Node K V)) where
   -- a block is there, or is not, as before

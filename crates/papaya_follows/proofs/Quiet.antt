@@ -2,23 +2,23 @@
 use Rattle.std.specs.Prelude.{◌≡◌, ◌≢◌, ℕ, ◌-◌, ◌<◌, ◌≤◌, ◌==◌, Bool, true, false, List, [], Some, if◌then◌else◌, ◌⊎◌}
 use Rattle.std.proofs.Common.{refl, ap, sym, subst, ◌∙◌, arith, inl, inr}
 use Rattle.std.proofs.lemmas.Bool.{ne_eqb, eq-eqb, cases_eq, cases_lt}
-use Rattle.papaya_scenes.specs.Given.SeizeWords.declared.at.At.{At}
-use Rattle.papaya_scenes.specs.Given.SeizeWords.declared.at.At.TheVariants.{Root, Used, Slot, Entry, Word}
-use Rattle.papaya_scenes.specs.Given.SeizeWords.Mem.{Mem, value_at, word_at}
-use Rattle.papaya_scenes.specs.Given.SeizeWords.Word.{block_in}
-use Rattle.papaya_scenes.specs.Given.Seize.World.{World, Making}
-use Rattle.papaya_scenes.specs.Given.Tables.Nodes.{deferred_word}
-use Rattle.papaya_scenes.specs.Given.Tables.declared.node.Node.{Node}
-use Rattle.papaya_scenes.specs.Given.Tables.declared.node.Node.TheVariants as node
-use Rattle.papaya_scenes.specs.Given.Tables.declared.setting.Setting.{Setting}
-use Rattle.papaya_scenes.specs.Given.Tables.declared.table_words.TheConstants.{NEXT, DEFERRED, PLACES}
-use Rattle.papaya_scenes.proofs.Given.Tables.Lists.{table_list}
-use Rattle.papaya_effects.specs.Given.Schedules.declared.effect.Effect.{Effect}
-use Rattle.papaya_effects.specs.Given.Schedules.declared.effect.Table.{Table}
-use Rattle.papaya_scenes.specs.Given.Tells.Tells.{KeepsNames}
-use Rattle.papaya_scenes.specs.Given.Rule.Chart.{Chart}
-use Rattle.papaya_scenes.specs.Given.Rule.Words.{Blocks}
-use Rattle.papaya_scenes.specs.Given.Rule.InWorld.{IsOut, InFootprint, IsMapIn, Went}
+use Rattle.papaya_scenes.specs.Given.SeizeWordsDeclared.at.At.{At}
+use Rattle.papaya_scenes.specs.Given.SeizeWordsDeclared.at.At.TheVariants.{Root, Used, Slot, Entry, Word}
+use Rattle.papaya_scenes.specs.Given.SeizeWordsMem.{Mem, value_at, word_at}
+use Rattle.papaya_scenes.specs.Given.SeizeWordsWord.{block_in}
+use Rattle.papaya_scenes.specs.Given.SeizeWorld.{World, Making}
+use Rattle.papaya_scenes.specs.Given.TablesNodes.{deferred_word}
+use Rattle.papaya_scenes.specs.Given.TablesDeclared.node.Node.{Node}
+use Rattle.papaya_scenes.specs.Given.TablesDeclared.node.Node.TheVariants as node
+use Rattle.papaya_scenes.specs.Given.TablesDeclared.setting.Setting.{Setting}
+use Rattle.papaya_scenes.specs.Given.TablesDeclared.table_words.TheConstants.{NEXT, DEFERRED, PLACES}
+use Rattle.papaya_scenes.proofs.Given.TablesLists.{table_list}
+use Rattle.papaya_effects.specs.Given.SchedulesDeclared.effect.Effect.{Effect}
+use Rattle.papaya_effects.specs.Given.SchedulesDeclared.effect.Table.{Table}
+use Rattle.papaya_scenes.specs.Given.TellsTells.{KeepsNames}
+use Rattle.papaya_scenes.specs.Given.RuleChart.{Chart}
+use Rattle.papaya_scenes.specs.Given.RuleWords.{Blocks}
+use Rattle.papaya_scenes.specs.Given.RuleInWorld.{IsOut, InFootprint, IsMapIn, Went}
 use Rattle.papaya_effects.specs.Effects.{names_same, led_to, is_place, placed, spot_at, carried, followed_by, in_table, in_block, batched, named, written_by, linked_on, stored_on, in_table_on, in_block_on, written_on}
 use Rattle.papaya_effects.specs.Known.{Known}
 use Rattle.papaya_effects.specs.declared.acting.Acting.{Acting}

@@ -1,19 +1,19 @@
 -- A step of a row within a call: the moment after its effects shows the scene after it, where it takes no block away and hands over what has left its map.
 use Rattle.std.specs.Prelude.{◌&&◌, ◌≡◌, ℕ, nat_lt, Bool, true, false, List, [], ◌∷◌, Option, Some, None, length, ◌⊎◌, if◌then◌else◌}
 use Rattle.std.proofs.Common.{refl, ap, sym, subst, ◌∙◌, inl, inr}
-use Rattle.papaya_scenes.specs.Given.SeizeWords.Mem.{Mem, value_at}
-use Rattle.papaya_scenes.specs.Given.Seize.World.{World}
-use Rattle.papaya_scenes.specs.Given.Tables.declared.node.Node.{Node}
-use Rattle.papaya_scenes.specs.Given.Raw.declared.machines.progress.Progress.{Progress}
-use Rattle.papaya_effects.specs.Given.Schedules.declared.effect.Effect.{Effect}
-use Rattle.papaya_effects.specs.Given.Schedules.declared.effect.Effect.TheVariants.{Asked}
-use Rattle.papaya_effects.specs.Given.Schedules.declared.effect.Growth.TheVariants.{ABlock, ABucket}
-use Rattle.papaya_effects.specs.Given.Schedules.Effects.{with_effects}
-use Rattle.papaya_effects.specs.Given.Schedules.Moment.{Moment}
-use Rattle.papaya_scenes.specs.Given.Teller.declared.changed.Changed.{Changed}
-use Rattle.papaya_scenes.specs.Given.Teller.declared.changed.Changed.TheVariants as changed
-use Rattle.papaya_scenes.specs.Given.Callers.Together.{UnderWay, OnKey, ForRoom, Counting, OverAll, IsOneStep, Together}
-use Rattle.papaya_scenes.specs.Given.Finishes.Maps.{Standing, IsSameMap}
+use Rattle.papaya_scenes.specs.Given.SeizeWordsMem.{Mem, value_at}
+use Rattle.papaya_scenes.specs.Given.SeizeWorld.{World}
+use Rattle.papaya_scenes.specs.Given.TablesDeclared.node.Node.{Node}
+use Rattle.papaya_scenes.specs.Given.RawDeclared.machines.progress.Progress.{Progress}
+use Rattle.papaya_effects.specs.Given.SchedulesDeclared.effect.Effect.{Effect}
+use Rattle.papaya_effects.specs.Given.SchedulesDeclared.effect.Effect.TheVariants.{Asked}
+use Rattle.papaya_effects.specs.Given.SchedulesDeclared.effect.Growth.TheVariants.{ABlock, ABucket}
+use Rattle.papaya_effects.specs.Given.SchedulesEffects.{with_effects}
+use Rattle.papaya_effects.specs.Given.SchedulesMoment.{Moment}
+use Rattle.papaya_scenes.specs.Given.TellerDeclared.changed.Changed.{Changed}
+use Rattle.papaya_scenes.specs.Given.TellerDeclared.changed.Changed.TheVariants as changed
+use Rattle.papaya_scenes.specs.Given.CallersTogether.{UnderWay, OnKey, ForRoom, Counting, OverAll, IsOneStep, Together}
+use Rattle.papaya_scenes.specs.Given.FinishesMaps.{Standing, IsSameMap}
 use Rattle.papaya_effects.specs.Effects.{effects_of, known_after}
 use Rattle.papaya_effects.specs.Known.{Known}
 use Rattle.papaya_effects.specs.declared.acting.Acting.{Acting}

@@ -2,32 +2,32 @@
 use Rattle.std.specs.Prelude.{◌≡◌, ◌≢◌, ℕ, zero, suc, ◌==◌, Bool, true, false, List, [], ◌∷◌, Some, None, slice_get, if◌then◌else◌, ◌⊎◌}
 use Rattle.std.proofs.Common.{refl, ap, sym, subst, ◌∙◌, arith, inl, inr}
 use Rattle.std.proofs.lemmas.Bool.{ne_eqb, eq-eqb, cases_eq}
-use Rattle.papaya_scenes.specs.Given.SeizeWords.declared.at.At.{At}
-use Rattle.papaya_scenes.specs.Given.SeizeWords.declared.at.At.TheVariants.{Root, Used, Slot, Entry, Word}
-use Rattle.papaya_scenes.specs.Given.SeizeWords.Mem.{Mem, value_at, word_at}
-use Rattle.papaya_scenes.specs.Given.SeizeWords.Word.{block_in}
-use Rattle.papaya_scenes.specs.Given.Seize.declared.states.TheConstants.{FIRST}
-use Rattle.papaya_scenes.specs.Given.Seize.Sequence.{taken_in}
-use Rattle.papaya_scenes.specs.Given.Seize.World.{World, Hand, Handed, Request, Register', Enter', Leave', LeaveOwned, Refresh, Unregister', Retire, Flush, Defer', Begin, Steps', Happens, times}
-use Rattle.papaya_scenes.proofs.Given.SeizeAlone.Spared.Rows.{RowStepped}
-use Rattle.papaya_scenes.proofs.Given.SeizeAlone.Spared.Users.{Frames}
-use Rattle.papaya_scenes.proofs.Given.SeizeAlone.Histories.NotTaken.{did, taken_gone}
-use Rattle.papaya_scenes.proofs.Given.SeizeAlone.Histories.Reached.{Reached}
-use Rattle.papaya_scenes.proofs.Given.SeizeRule.Rows.Effects.{hand_kept}
-use Rattle.papaya_scenes.specs.Given.Tables.Nodes.{deferred_word}
-use Rattle.papaya_scenes.specs.Given.Tables.declared.node.Node.{Node}
-use Rattle.papaya_scenes.specs.Given.Tables.declared.node.Node.TheVariants as node
-use Rattle.papaya_scenes.specs.Given.Tables.declared.setting.Setting.{Setting}
-use Rattle.papaya_scenes.specs.Given.Tables.declared.table_words.TheConstants.{NEXT, DEFERRED}
-use Rattle.papaya_scenes.proofs.Given.Tables.Lists.{its_list}
-use Rattle.papaya_effects.specs.Given.Schedules.declared.effect.Effect.{Effect}
-use Rattle.papaya_effects.specs.Given.Schedules.declared.effect.Effect.TheVariants as effect
-use Rattle.papaya_effects.specs.Given.Schedules.declared.effect.Table.{Table}
-use Rattle.papaya_effects.specs.Given.Schedules.declared.effect.Thing.{Thing}
-use Rattle.papaya_effects.specs.Given.Schedules.declared.effect.Thing.TheVariants.{APair, ATable}
-use Rattle.papaya_scenes.proofs.Given.Rule.World.Hands.{at_cases}
-use Rattle.papaya_scenes.specs.Given.Callers.Together.{CameAbout, HandsOver, IsOneStep}
-use Rattle.papaya_scenes.proofs.Given.Callers.Together.Came.{came_reached, came_next}
+use Rattle.papaya_scenes.specs.Given.SeizeWordsDeclared.at.At.{At}
+use Rattle.papaya_scenes.specs.Given.SeizeWordsDeclared.at.At.TheVariants.{Root, Used, Slot, Entry, Word}
+use Rattle.papaya_scenes.specs.Given.SeizeWordsMem.{Mem, value_at, word_at}
+use Rattle.papaya_scenes.specs.Given.SeizeWordsWord.{block_in}
+use Rattle.papaya_scenes.specs.Given.SeizeDeclared.states.TheConstants.{FIRST}
+use Rattle.papaya_scenes.specs.Given.SeizeSequence.{taken_in}
+use Rattle.papaya_scenes.specs.Given.SeizeWorld.{World, Hand, Handed, Request, Register', Enter', Leave', LeaveOwned, Refresh, Unregister', Retire, Flush, Defer', Begin, Steps', Happens, times}
+use Rattle.papaya_scenes.proofs.Given.SeizeAloneSpared.Rows.{RowStepped}
+use Rattle.papaya_scenes.proofs.Given.SeizeAloneSpared.Users.{Frames}
+use Rattle.papaya_scenes.proofs.Given.SeizeAloneHistories.NotTaken.{did, taken_gone}
+use Rattle.papaya_scenes.proofs.Given.SeizeAloneHistories.Reached.{Reached}
+use Rattle.papaya_scenes.proofs.Given.SeizeRuleRows.Effects.{hand_kept}
+use Rattle.papaya_scenes.specs.Given.TablesNodes.{deferred_word}
+use Rattle.papaya_scenes.specs.Given.TablesDeclared.node.Node.{Node}
+use Rattle.papaya_scenes.specs.Given.TablesDeclared.node.Node.TheVariants as node
+use Rattle.papaya_scenes.specs.Given.TablesDeclared.setting.Setting.{Setting}
+use Rattle.papaya_scenes.specs.Given.TablesDeclared.table_words.TheConstants.{NEXT, DEFERRED}
+use Rattle.papaya_scenes.proofs.Given.TablesLists.{its_list}
+use Rattle.papaya_effects.specs.Given.SchedulesDeclared.effect.Effect.{Effect}
+use Rattle.papaya_effects.specs.Given.SchedulesDeclared.effect.Effect.TheVariants as effect
+use Rattle.papaya_effects.specs.Given.SchedulesDeclared.effect.Table.{Table}
+use Rattle.papaya_effects.specs.Given.SchedulesDeclared.effect.Thing.{Thing}
+use Rattle.papaya_effects.specs.Given.SchedulesDeclared.effect.Thing.TheVariants.{APair, ATable}
+use Rattle.papaya_scenes.proofs.Given.RuleWorld.Hands.{at_cases}
+use Rattle.papaya_scenes.specs.Given.CallersTogether.{CameAbout, HandsOver, IsOneStep}
+use Rattle.papaya_scenes.proofs.Given.CallersTogether.Came.{came_reached, came_next}
 use Rattle.papaya_effects.specs.Effects.{names_same, is_place, placed, spot_at, carried, followed_by, in_table, in_block, batched, named, written_by, led_to, linked_on, stored_on, in_block_on, written_on}
 use Rattle.papaya_effects.specs.Known.{Known}
 use Rattle.papaya_effects.specs.declared.acting.Acting.{Acting}

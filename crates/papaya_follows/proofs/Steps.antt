@@ -2,41 +2,41 @@
 use Rattle.std.specs.Prelude.{◌≡◌, ◌≢◌, ℕ, ◌<◌, Bool, List, Option, Some, None, length, ◌⊎◌}
 use Rattle.std.proofs.Common.{refl, ap, sym, subst, ◌∙◌, arith, inl, inr}
 use Rattle.std.proofs.lemmas.Bool.{cases_eq}
-use Rattle.papaya_scenes.specs.Given.SeizeWords.declared.at.At.{At}
-use Rattle.papaya_scenes.specs.Given.SeizeWords.Mem.{Mem, value_at}
-use Rattle.papaya_scenes.specs.Given.Seize.World.{World, IsInside, with_at}
-use Rattle.papaya_scenes.specs.Given.Tables.Chunks.{is_incremental}
-use Rattle.papaya_scenes.specs.Given.Tables.declared.node.Node.{Node}
-use Rattle.papaya_scenes.specs.Given.Tables.declared.setting.Setting.{Setting}
-use Rattle.papaya_scenes.specs.Given.Raw.Machine.{machine_plan}
-use Rattle.papaya_scenes.specs.Given.Raw.declared.machines.machine.Machine.{Machine}
-use Rattle.papaya_scenes.specs.Given.Raw.declared.machines.progress.Progress.{Progress}
-use Rattle.papaya_effects.specs.Given.Schedules.declared.effect.Effect.{Effect}
-use Rattle.papaya_effects.specs.Given.Schedules.declared.effect.Table.{Table}
-use Rattle.papaya_effects.specs.Given.Schedules.Effects.{AtEachEffect, with_effects}
-use Rattle.papaya_effects.specs.Given.Schedules.Moment.{Moment}
-use Rattle.papaya_effects.specs.Given.Schedules.Views.{map_at}
-use Rattle.papaya_scenes.specs.Given.Teller.declared.changed.Changed.{Changed}
-use Rattle.papaya_scenes.specs.Given.Teller.declared.changed.Changed.TheVariants as changed
-use Rattle.papaya_scenes.specs.Given.Tells.Seen.{Seen, Unseen, Wrote, seen_of}
-use Rattle.papaya_scenes.specs.Given.Tells.Tells.{IsTold}
-use Rattle.papaya_scenes.proofs.Given.Tells.Promised.{operations_tell, still_steps_tell}
-use Rattle.papaya_scenes.specs.Given.Rule.Chart.{Chart}
-use Rattle.papaya_scenes.specs.Given.Rule.Lasts.{Lasts}
-use Rattle.papaya_scenes.specs.Given.Rule.Maps.{spot_of}
-use Rattle.papaya_scenes.specs.Given.Rule.Words.{Blocks}
-use Rattle.papaya_scenes.specs.Given.Rule.InWorld.{IsIts, IsMapIn, Went}
-use Rattle.papaya_scenes.proofs.Given.Rule.World.BesideKept.{steps_spare_others}
-use Rattle.papaya_scenes.proofs.Given.Rule.World.WentTold.{went_as}
-use Rattle.papaya_scenes.specs.Given.Points.Steps.{AreLawful}
-use Rattle.papaya_scenes.proofs.Given.Points.MovedLasts.{moved_lasts}
-use Rattle.papaya_scenes.specs.Given.Callers.Sights.{Sight, seen_by, IsGrown, IsSight}
-use Rattle.papaya_scenes.specs.Given.Callers.Together.{UnderWay, UnlessCounts, OnKey, ForRoom, Counting, OverAll, in_slot, Together}
-use Rattle.papaya_scenes.proofs.Given.Callers.Sights.Seen.{map_seen}
-use Rattle.papaya_scenes.proofs.Given.Callers.Together.At.{at_other, at_same}
-use Rattle.papaya_scenes.proofs.Given.Callers.Together.Fits.{map_in_slot}
-use Rattle.papaya_scenes.specs.Given.Finishes.Machines.{machine_of, MachineStepsAmong}
-use Rattle.papaya_scenes.specs.Given.Finishes.Maps.{Standing, IsSameMap, with_call}
+use Rattle.papaya_scenes.specs.Given.SeizeWordsDeclared.at.At.{At}
+use Rattle.papaya_scenes.specs.Given.SeizeWordsMem.{Mem, value_at}
+use Rattle.papaya_scenes.specs.Given.SeizeWorld.{World, IsInside, with_at}
+use Rattle.papaya_scenes.specs.Given.TablesChunks.{is_incremental}
+use Rattle.papaya_scenes.specs.Given.TablesDeclared.node.Node.{Node}
+use Rattle.papaya_scenes.specs.Given.TablesDeclared.setting.Setting.{Setting}
+use Rattle.papaya_scenes.specs.Given.RawMachine.{machine_plan}
+use Rattle.papaya_scenes.specs.Given.RawDeclared.machines.machine.Machine.{Machine}
+use Rattle.papaya_scenes.specs.Given.RawDeclared.machines.progress.Progress.{Progress}
+use Rattle.papaya_effects.specs.Given.SchedulesDeclared.effect.Effect.{Effect}
+use Rattle.papaya_effects.specs.Given.SchedulesDeclared.effect.Table.{Table}
+use Rattle.papaya_effects.specs.Given.SchedulesEffects.{AtEachEffect, with_effects}
+use Rattle.papaya_effects.specs.Given.SchedulesMoment.{Moment}
+use Rattle.papaya_effects.specs.Given.SchedulesViews.{map_at}
+use Rattle.papaya_scenes.specs.Given.TellerDeclared.changed.Changed.{Changed}
+use Rattle.papaya_scenes.specs.Given.TellerDeclared.changed.Changed.TheVariants as changed
+use Rattle.papaya_scenes.specs.Given.TellsSeen.{Seen, Unseen, Wrote, seen_of}
+use Rattle.papaya_scenes.specs.Given.TellsTells.{IsTold}
+use Rattle.papaya_scenes.proofs.Given.TellsPromised.{operations_tell, still_steps_tell}
+use Rattle.papaya_scenes.specs.Given.RuleChart.{Chart}
+use Rattle.papaya_scenes.specs.Given.RuleLasts.{Lasts}
+use Rattle.papaya_scenes.specs.Given.RuleMaps.{spot_of}
+use Rattle.papaya_scenes.specs.Given.RuleWords.{Blocks}
+use Rattle.papaya_scenes.specs.Given.RuleInWorld.{IsIts, IsMapIn, Went}
+use Rattle.papaya_scenes.proofs.Given.RuleWorld.BesideKept.{steps_spare_others}
+use Rattle.papaya_scenes.proofs.Given.RuleWorld.WentTold.{went_as}
+use Rattle.papaya_scenes.specs.Given.PointsSteps.{AreLawful}
+use Rattle.papaya_scenes.proofs.Given.PointsMovedLasts.{moved_lasts}
+use Rattle.papaya_scenes.specs.Given.CallersSights.{Sight, seen_by, IsGrown, IsSight}
+use Rattle.papaya_scenes.specs.Given.CallersTogether.{UnderWay, UnlessCounts, OnKey, ForRoom, Counting, OverAll, in_slot, Together}
+use Rattle.papaya_scenes.proofs.Given.CallersSights.Seen.{map_seen}
+use Rattle.papaya_scenes.proofs.Given.CallersTogether.At.{at_other, at_same}
+use Rattle.papaya_scenes.proofs.Given.CallersTogether.Fits.{map_in_slot}
+use Rattle.papaya_scenes.specs.Given.FinishesMachines.{machine_of, MachineStepsAmong}
+use Rattle.papaya_scenes.specs.Given.FinishesMaps.{Standing, IsSameMap, with_call}
 use Rattle.papaya_effects.specs.Effects.{effects_of, known_after}
 use Rattle.papaya_effects.specs.Known.{Known}
 use Rattle.papaya_effects.specs.declared.acting.Acting.{Acting}

@@ -2,29 +2,29 @@
 use Rattle.std.specs.Prelude.{◌≡◌, ◌≢◌, ℕ, suc, ◌+◌, ◌<◌, ◌≤◌, Bool, true, false, cond, eqb, List, [], ◌∷◌, ◌++◌, length, Option, Some, None, ◌⊎◌}
 use Rattle.std.proofs.Common.{refl, ap, sym, subst, ◌∙◌, arith, inl, inr}
 use Rattle.std.proofs.lemmas.Bool.{ne_eqb, eq-eqb, cases_eq, cases_lt}
-use Rattle.papaya_scenes.specs.Given.SeizeWords.Mem.{Mem, value_at}
-use Rattle.papaya_scenes.specs.Given.Seize.World.{World}
-use Rattle.papaya_scenes.specs.Given.Tables.declared.node.Node.{Node}
-use Rattle.papaya_scenes.specs.Given.Tables.declared.node.Node.TheVariants as node
-use Rattle.papaya_effects.specs.Given.Runs.Log.{pair_at}
-use Rattle.papaya_effects.specs.Given.Schedules.declared.effect.Effect.{Effect}
-use Rattle.papaya_effects.specs.Given.Schedules.declared.effect.Effect.TheVariants.{Stored, Replaced, Removed}
-use Rattle.papaya_effects.specs.Given.Schedules.declared.effect.Spot.{Spot}
-use Rattle.papaya_effects.specs.Given.Schedules.Entry.{acting}
-use Rattle.papaya_effects.specs.Given.Schedules.Effects.{stored_by, with_effect}
-use Rattle.papaya_effects.specs.Given.Schedules.Lists.{put}
-use Rattle.papaya_effects.specs.Given.Schedules.Moment.{Place, Unborn, InMap, Out, Handed, Behind, Left, GivenBack, UnderWay, Moment}
-use Rattle.papaya_effects.specs.Given.Schedules.Views.{is_in_map}
-use Rattle.papaya_scenes.specs.Given.Rule.Chart.{Still, Holds, Chart, is_settled}
-use Rattle.papaya_scenes.specs.Given.Rule.Rule.{Rule}
-use Rattle.papaya_scenes.specs.Given.Rule.Moves.{Promotes, MayChange, Allowed}
-use Rattle.papaya_scenes.specs.Given.Rule.Words.{Blocks}
-use Rattle.papaya_scenes.specs.Given.Rule.InWorld.{IsMapIn, Went}
-use Rattle.papaya_scenes.proofs.Given.Rule.Laws.{current_is_known}
-use Rattle.papaya_scenes.specs.Given.Points.Steps.{AreLawful}
-use Rattle.papaya_scenes.specs.Given.Callers.Sights.{Sight, seen_by, IsGrown, IsSight}
-use Rattle.papaya_scenes.specs.Given.Callers.Together.{in_slot}
-use Rattle.papaya_scenes.specs.Given.Finishes.Maps.{Standing}
+use Rattle.papaya_scenes.specs.Given.SeizeWordsMem.{Mem, value_at}
+use Rattle.papaya_scenes.specs.Given.SeizeWorld.{World}
+use Rattle.papaya_scenes.specs.Given.TablesDeclared.node.Node.{Node}
+use Rattle.papaya_scenes.specs.Given.TablesDeclared.node.Node.TheVariants as node
+use Rattle.papaya_effects.specs.Given.RunsLog.{pair_at}
+use Rattle.papaya_effects.specs.Given.SchedulesDeclared.effect.Effect.{Effect}
+use Rattle.papaya_effects.specs.Given.SchedulesDeclared.effect.Effect.TheVariants.{Stored, Replaced, Removed}
+use Rattle.papaya_effects.specs.Given.SchedulesDeclared.effect.Spot.{Spot}
+use Rattle.papaya_effects.specs.Given.SchedulesEntry.{acting}
+use Rattle.papaya_effects.specs.Given.SchedulesEffects.{stored_by, with_effect}
+use Rattle.papaya_effects.specs.Given.SchedulesLists.{put}
+use Rattle.papaya_effects.specs.Given.SchedulesMoment.{Place, Unborn, InMap, Out, Handed, Behind, Left, GivenBack, UnderWay, Moment}
+use Rattle.papaya_effects.specs.Given.SchedulesViews.{is_in_map}
+use Rattle.papaya_scenes.specs.Given.RuleChart.{Still, Holds, Chart, is_settled}
+use Rattle.papaya_scenes.specs.Given.RuleRule.{Rule}
+use Rattle.papaya_scenes.specs.Given.RuleMoves.{Promotes, MayChange, Allowed}
+use Rattle.papaya_scenes.specs.Given.RuleWords.{Blocks}
+use Rattle.papaya_scenes.specs.Given.RuleInWorld.{IsMapIn, Went}
+use Rattle.papaya_scenes.proofs.Given.RuleLaws.{current_is_known}
+use Rattle.papaya_scenes.specs.Given.PointsSteps.{AreLawful}
+use Rattle.papaya_scenes.specs.Given.CallersSights.{Sight, seen_by, IsGrown, IsSight}
+use Rattle.papaya_scenes.specs.Given.CallersTogether.{in_slot}
+use Rattle.papaya_scenes.specs.Given.FinishesMaps.{Standing}
 use Rattle.papaya_effects.specs.Known.{Known, with_pair}
 use Rattle.papaya_effects.specs.declared.role.Role.{Role}
 use Rattle.papaya_effects.specs.declared.role.Role.TheVariants as role

@@ -1,6 +1,6 @@
 -- How a run begins: nothing is noted, and the scene has no map and no caller.
 use Rattle.std.specs.Prelude.{ℕ, Bool, List}
-use Rattle.papaya_effects.specs.Given.Schedules.Moment.{start}
+use Rattle.papaya_effects.specs.Given.SchedulesMoment.{start}
 use Rattle.papaya_effects.specs.Known.{nothing_known}
 use Rattle.papaya_follows.specs.Shows.{Shows}
 use Rattle.papaya_scenes.specs.Scene.{at_first}

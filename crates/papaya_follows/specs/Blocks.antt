@@ -1,12 +1,12 @@
 -- What the blocks of the memory are at a moment of a run, by what is noted of them.
 use Rattle.std.specs.Prelude.{◌≡◌, ◌≢◌, ℕ, List, length, Some, None}
-use Rattle.papaya_scenes.specs.Given.SeizeWords.Mem.{value_at}
-use Rattle.papaya_scenes.specs.Given.Seize.World.{World, Hand, NoBlock, Making}
-use Rattle.papaya_scenes.specs.Given.Tables.Nodes.{deferred_word}
-use Rattle.papaya_scenes.specs.Given.Tables.declared.node.Node.{Node}
-use Rattle.papaya_scenes.specs.Given.Tables.declared.node.Node.TheVariants as node
-use Rattle.papaya_effects.specs.Given.Runs.Log.{pair_at}
-use Rattle.papaya_effects.specs.Given.Schedules.Moment.{Moment}
+use Rattle.papaya_scenes.specs.Given.SeizeWordsMem.{value_at}
+use Rattle.papaya_scenes.specs.Given.SeizeWorld.{World, Hand, NoBlock, Making}
+use Rattle.papaya_scenes.specs.Given.TablesNodes.{deferred_word}
+use Rattle.papaya_scenes.specs.Given.TablesDeclared.node.Node.{Node}
+use Rattle.papaya_scenes.specs.Given.TablesDeclared.node.Node.TheVariants as node
+use Rattle.papaya_effects.specs.Given.RunsLog.{pair_at}
+use Rattle.papaya_effects.specs.Given.SchedulesMoment.{Moment}
 use Rattle.papaya_effects.specs.Known.{Known}
 use Rattle.papaya_effects.specs.declared.role.Role.{Role}
 use Rattle.papaya_effects.specs.declared.role.Role.TheVariants as role

@@ -1,14 +1,14 @@
 -- Calls between their steps: where one begins, is told a reply, or has come to an outcome, the moment shows the scene then.
 use Rattle.std.specs.Prelude.{◌≡◌, ℕ, Bool, true, false, List, Some}
-use Rattle.papaya_effects.specs.Given.Runs.Same.{is_same}
-use Rattle.papaya_effects.specs.Given.Schedules.declared.call.Reply.{Reply}
-use Rattle.papaya_effects.specs.Given.Schedules.declared.event.Event.TheVariants.{Replied}
-use Rattle.papaya_effects.specs.Given.Schedules.declared.outcome.Outcome.{Outcome}
-use Rattle.papaya_effects.specs.Given.Schedules.declared.outcome.Outcome.TheVariants.{Goes}
-use Rattle.papaya_effects.specs.Given.Schedules.After.{stepped, calls_on}
-use Rattle.papaya_effects.specs.Given.Schedules.Entry.{ends_call}
-use Rattle.papaya_effects.specs.Given.Schedules.Moment.{Moment}
-use Rattle.papaya_scenes.specs.Given.Callers.Together.{UnderWay}
+use Rattle.papaya_effects.specs.Given.RunsSame.{is_same}
+use Rattle.papaya_effects.specs.Given.SchedulesDeclared.call.Reply.{Reply}
+use Rattle.papaya_effects.specs.Given.SchedulesDeclared.event.Event.TheVariants.{Replied}
+use Rattle.papaya_effects.specs.Given.SchedulesDeclared.outcome.Outcome.{Outcome}
+use Rattle.papaya_effects.specs.Given.SchedulesDeclared.outcome.Outcome.TheVariants.{Goes}
+use Rattle.papaya_effects.specs.Given.SchedulesAfter.{stepped, calls_on}
+use Rattle.papaya_effects.specs.Given.SchedulesEntry.{ends_call}
+use Rattle.papaya_effects.specs.Given.SchedulesMoment.{Moment}
+use Rattle.papaya_scenes.specs.Given.CallersTogether.{UnderWay}
 use Rattle.papaya_effects.specs.Known.{Known}
 use Rattle.papaya_follows.specs.Shows.{Shows}
 use Rattle.papaya_scenes.specs.Scene.{Scene}

@@ -1,11 +1,11 @@
 -- The calls that are under way at a moment of a run, by those of the scene.
 use Rattle.std.specs.Prelude.{◌≡◌, ℕ, Bool, List, Option, Some}
-use Rattle.papaya_effects.specs.Given.Schedules.declared.call.Call.{Call}
-use Rattle.papaya_effects.specs.Given.Schedules.declared.call.Call.TheVariants.{On, Reserve, Clear, Retain, Len, Walk}
-use Rattle.papaya_effects.specs.Given.Schedules.Moment.{UnderWay as CallThere, Moment}
-use Rattle.papaya_effects.specs.Given.Schedules.Sequential.{key_of}
-use Rattle.papaya_effects.specs.Given.Schedules.Views.{call_of}
-use Rattle.papaya_scenes.specs.Given.Callers.Together.{UnderWay, OnKey, ForRoom, Counting, OverAll}
+use Rattle.papaya_effects.specs.Given.SchedulesDeclared.call.Call.{Call}
+use Rattle.papaya_effects.specs.Given.SchedulesDeclared.call.Call.TheVariants.{On, Reserve, Clear, Retain, Len, Walk}
+use Rattle.papaya_effects.specs.Given.SchedulesMoment.{UnderWay as CallThere, Moment}
+use Rattle.papaya_effects.specs.Given.SchedulesSequential.{key_of}
+use Rattle.papaya_effects.specs.Given.SchedulesViews.{call_of}
+use Rattle.papaya_scenes.specs.Given.CallersTogether.{UnderWay, OnKey, ForRoom, Counting, OverAll}
 
 module _ {K V : Type 0} (same : K → K → Bool) where
   -- it is what was called: on this key, for room, to count, or over the whole map

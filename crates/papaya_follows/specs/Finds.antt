@@ -1,13 +1,13 @@
 -- What an effect of a step of a call finds of the pairs and the tables of its map.
 use Rattle.std.specs.Prelude.{◌≡◌, ℕ, ◌+◌, true, length}
-use Rattle.papaya_effects.specs.Given.Schedules.declared.effect.Effect.{Effect}
-use Rattle.papaya_effects.specs.Given.Schedules.declared.effect.Effect.TheVariants.{Linked, Promoted, Stored, Replaced, Removed}
-use Rattle.papaya_effects.specs.Given.Schedules.declared.effect.Spot.{Spot}
-use Rattle.papaya_effects.specs.Given.Schedules.declared.effect.Table.{Table}
-use Rattle.papaya_effects.specs.Given.Schedules.Growing.{ComesNext}
-use Rattle.papaya_effects.specs.Given.Schedules.Lives.{IsFrom}
-use Rattle.papaya_effects.specs.Given.Schedules.Moment.{InMap, Moment}
-use Rattle.papaya_effects.specs.Given.Schedules.Views.{map_at, grows_in_chunks, is_linked, first_of, tables_of, is_stage, is_place}
+use Rattle.papaya_effects.specs.Given.SchedulesDeclared.effect.Effect.{Effect}
+use Rattle.papaya_effects.specs.Given.SchedulesDeclared.effect.Effect.TheVariants.{Linked, Promoted, Stored, Replaced, Removed}
+use Rattle.papaya_effects.specs.Given.SchedulesDeclared.effect.Spot.{Spot}
+use Rattle.papaya_effects.specs.Given.SchedulesDeclared.effect.Table.{Table}
+use Rattle.papaya_effects.specs.Given.SchedulesGrowing.{ComesNext}
+use Rattle.papaya_effects.specs.Given.SchedulesLives.{IsFrom}
+use Rattle.papaya_effects.specs.Given.SchedulesMoment.{InMap, Moment}
+use Rattle.papaya_effects.specs.Given.SchedulesViews.{map_at, grows_in_chunks, is_linked, first_of, tables_of, is_stage, is_place}
 
 module _ {K V : Type 0} (map : ℕ) (m : Moment K V) where
   -- a pair may be stored there: in a linked table from the root on; in blocking mode, in the root's

@@ -1,11 +1,11 @@
 -- What a map that stands shows at a moment of a run: its pairs, by their numbers, and its tables.
 use Rattle.std.specs.Prelude.{◌≡◌, ℕ, zero, suc, ◌<◌, ◌≤◌, true, List, [], ◌∷◌, ◌++◌, length, Some}
-use Rattle.papaya_effects.specs.Given.Runs.declared.outcome.TableShape.{TableShape}
-use Rattle.papaya_effects.specs.Given.Schedules.declared.effect.Table.{Table}
-use Rattle.papaya_effects.specs.Given.Schedules.Moment.{InMap, MapThere, Stage, IsLinked, TableThere, Moment}
-use Rattle.papaya_effects.specs.Given.Schedules.Views.{is_in_map, map_at, tables_of}
-use Rattle.papaya_scenes.specs.Given.Rule.Chart.{Chart}
-use Rattle.papaya_scenes.specs.Given.Finishes.Maps.{Standing}
+use Rattle.papaya_effects.specs.Given.RunsDeclared.outcome.TableShape.{TableShape}
+use Rattle.papaya_effects.specs.Given.SchedulesDeclared.effect.Table.{Table}
+use Rattle.papaya_effects.specs.Given.SchedulesMoment.{InMap, MapThere, Stage, IsLinked, TableThere, Moment}
+use Rattle.papaya_effects.specs.Given.SchedulesViews.{is_in_map, map_at, tables_of}
+use Rattle.papaya_scenes.specs.Given.RuleChart.{Chart}
+use Rattle.papaya_scenes.specs.Given.FinishesMaps.{Standing}
 use Rattle.papaya_effects.specs.Known.{Known}
 use Rattle.papaya_effects.specs.declared.role.Role.TheVariants as role
 

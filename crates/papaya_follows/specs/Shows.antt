@@ -1,7 +1,7 @@
 -- How a moment of a run, with what is noted of the memory, shows a scene.
 use Rattle.std.specs.Prelude.{◌≡◌, ℕ, Bool, List, Some}
-use Rattle.papaya_effects.specs.Given.Schedules.Moment.{Moment}
-use Rattle.papaya_scenes.specs.Given.Finishes.Maps.{Standing}
+use Rattle.papaya_effects.specs.Given.SchedulesMoment.{Moment}
+use Rattle.papaya_scenes.specs.Given.FinishesMaps.{Standing}
 use Rattle.papaya_effects.specs.Known.{Known}
 use Rattle.papaya_follows.specs.Blocks.{ShowsBlocks}
 use Rattle.papaya_follows.specs.Calls.{ShowsCalls}

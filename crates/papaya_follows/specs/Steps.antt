@@ -1,27 +1,27 @@
 -- Where a step of a call leads: the moment after its effects, and what is noted then, show the scene after it.
 use Rattle.std.specs.Prelude.{◌≡◌, ℕ, ◌<◌, Bool, false, List, [], ◌∷◌, Option, Some, None, ◌⊎◌}
 use Rattle.std.proofs.Common.{inl, inr}
-use Rattle.papaya_scenes.specs.Given.SeizeWords.Mem.{Mem, value_at}
-use Rattle.papaya_scenes.specs.Given.SeizeWords.Word.{block_in}
-use Rattle.papaya_scenes.specs.Given.Seize.World.{World}
-use Rattle.papaya_scenes.specs.Given.Tables.declared.node.Node.{Node}
-use Rattle.papaya_scenes.specs.Given.Tables.declared.node.Node.TheVariants as node
-use Rattle.papaya_scenes.specs.Given.Raw.declared.machines.machine.Machine.{Machine}
-use Rattle.papaya_scenes.specs.Given.Raw.declared.machines.progress.Progress.{Progress}
-use Rattle.papaya_effects.specs.Given.Schedules.declared.effect.Effect.{Effect}
-use Rattle.papaya_effects.specs.Given.Schedules.declared.effect.Effect.TheVariants.{Stored, Deferred, Retired}
-use Rattle.papaya_effects.specs.Given.Schedules.declared.effect.Thing.TheVariants.{APair, ATable}
-use Rattle.papaya_effects.specs.Given.Schedules.Entry.{acting}
-use Rattle.papaya_effects.specs.Given.Schedules.Effects.{new_pair, AtEachEffect}
-use Rattle.papaya_effects.specs.Given.Schedules.Moment.{UnderWay as CallThere, MapThere, Moment}
-use Rattle.papaya_effects.specs.Given.Schedules.Views.{is_in_a_map, map_at}
-use Rattle.papaya_scenes.specs.Given.Teller.declared.changed.Changed.{Changed}
-use Rattle.papaya_scenes.specs.Given.Teller.declared.changed.Changed.TheVariants as changed
-use Rattle.papaya_scenes.specs.Given.Callers.Together.{UnderWay, OnKey, ForRoom, Counting, OverAll}
-use Rattle.papaya_scenes.specs.Given.Finishes.Endings.{Finishing}
-use Rattle.papaya_scenes.specs.Given.Finishes.Machines.{DidOfKind}
-use Rattle.papaya_scenes.specs.Given.Finishes.Makings.{Beginning}
-use Rattle.papaya_scenes.specs.Given.Finishes.Maps.{Standing}
+use Rattle.papaya_scenes.specs.Given.SeizeWordsMem.{Mem, value_at}
+use Rattle.papaya_scenes.specs.Given.SeizeWordsWord.{block_in}
+use Rattle.papaya_scenes.specs.Given.SeizeWorld.{World}
+use Rattle.papaya_scenes.specs.Given.TablesDeclared.node.Node.{Node}
+use Rattle.papaya_scenes.specs.Given.TablesDeclared.node.Node.TheVariants as node
+use Rattle.papaya_scenes.specs.Given.RawDeclared.machines.machine.Machine.{Machine}
+use Rattle.papaya_scenes.specs.Given.RawDeclared.machines.progress.Progress.{Progress}
+use Rattle.papaya_effects.specs.Given.SchedulesDeclared.effect.Effect.{Effect}
+use Rattle.papaya_effects.specs.Given.SchedulesDeclared.effect.Effect.TheVariants.{Stored, Deferred, Retired}
+use Rattle.papaya_effects.specs.Given.SchedulesDeclared.effect.Thing.TheVariants.{APair, ATable}
+use Rattle.papaya_effects.specs.Given.SchedulesEntry.{acting}
+use Rattle.papaya_effects.specs.Given.SchedulesEffects.{new_pair, AtEachEffect}
+use Rattle.papaya_effects.specs.Given.SchedulesMoment.{UnderWay as CallThere, MapThere, Moment}
+use Rattle.papaya_effects.specs.Given.SchedulesViews.{is_in_a_map, map_at}
+use Rattle.papaya_scenes.specs.Given.TellerDeclared.changed.Changed.{Changed}
+use Rattle.papaya_scenes.specs.Given.TellerDeclared.changed.Changed.TheVariants as changed
+use Rattle.papaya_scenes.specs.Given.CallersTogether.{UnderWay, OnKey, ForRoom, Counting, OverAll}
+use Rattle.papaya_scenes.specs.Given.FinishesEndings.{Finishing}
+use Rattle.papaya_scenes.specs.Given.FinishesMachines.{DidOfKind}
+use Rattle.papaya_scenes.specs.Given.FinishesMakings.{Beginning}
+use Rattle.papaya_scenes.specs.Given.FinishesMaps.{Standing}
 use Rattle.papaya_scenes.specs.Scene.{slot_of}
 
 -- the block that a word names which was written

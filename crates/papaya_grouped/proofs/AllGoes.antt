@@ -15,8 +15,8 @@ use Rattle.papaya_drives.specs.Given.SeizeDeclared.rows.reclaim_all.ReclaimAll.{
 use Rattle.papaya_drives.specs.Given.SeizeDeclared.rows.settle.Settled.{Settled}
 use Rattle.papaya_drives.specs.Given.SeizeDeclared.rows.settle.Settled.TheVariants as settled
 use Rattle.papaya_drives.specs.Given.SeizeDeclared.states.TheConstants.{HEAD}
-use Rattle.papaya_runs.specs.Given.Tables.Nodes.{deferred_word, was_left}
-use Rattle.papaya_runs.specs.Given.Tables.declared.node.Node.{Node}
+use Rattle.papaya_runs.specs.Given.TablesNodes.{deferred_word, was_left}
+use Rattle.papaya_runs.specs.Given.TablesDeclared.node.Node.{Node}
 use Rattle.papaya_drives.specs.Given.TellerDeclared.changed.Changed.{Changed}
 use Rattle.papaya_drives.specs.Given.CallersRows.{IsRowOn}
 use Rattle.papaya_drives.specs.Given.FinishesEndings.{EndingsTogether, Finishing}

@@ -10,7 +10,7 @@ use Rattle.papaya_drives.specs.Given.SeizeDeclared.rows.register.Registering.{Re
 use Rattle.papaya_drives.specs.Given.SeizeDeclared.rows.register.Registering.TheVariants as registers
 use Rattle.papaya_drives.specs.Given.SeizeDeclared.rows.settle.Settled.{Settled}
 use Rattle.papaya_drives.specs.Given.SeizeDeclared.states.TheConstants.{ACTIVE}
-use Rattle.papaya_runs.specs.Given.Tables.declared.setting.Setting.{Setting}
+use Rattle.papaya_runs.specs.Given.TablesDeclared.setting.Setting.{Setting}
 use Rattle.papaya_drives.specs.Given.ResizeDeclared.new_map.NewMap.{NewMap}
 use Rattle.papaya_drives.specs.Given.TellerDeclared.changed.Changed.{Changed}
 use Rattle.papaya_drives.specs.Given.ScenesDeclared.row.SlotRow.{SlotRow}

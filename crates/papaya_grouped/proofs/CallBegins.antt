@@ -6,7 +6,7 @@ use Rattle.std.proofs.lemmas.Bool.{eqb-true}
 use Rattle.papaya_drives.proofs.Given.SeizeActsAnswers.{same_some}
 use Rattle.papaya_runs.specs.Same.{is_same}
 use Rattle.papaya_runs.proofs.Sames.{same_is, same_refl}
-use Rattle.papaya_runs.specs.Given.Tables.declared.setting.Setting.{Setting}
+use Rattle.papaya_runs.specs.Given.TablesDeclared.setting.Setting.{Setting}
 use Rattle.papaya_drives.specs.Given.CallersTogether.{in_slot}
 use Rattle.papaya_drives.specs.Given.FinishesMaps.{Standing}
 use Rattle.papaya_drives.specs.Given.ScenesScene.{Scene, slot_of}

@@ -5,7 +5,7 @@ use Rattle.papaya_drives.specs.Given.SeizeActsAnswers.{Grant}
 use Rattle.papaya_drives.proofs.Given.SeizeActsAnswers.{same_some}
 use Rattle.papaya_drives.specs.Given.SeizeWordsMem.{Mem}
 use Rattle.papaya_drives.specs.Given.SeizeDeclared.rows.settle.Settled.{Settled}
-use Rattle.papaya_runs.specs.Given.Tables.declared.node.Node.{Node}
+use Rattle.papaya_runs.specs.Given.TablesDeclared.node.Node.{Node}
 use Rattle.papaya_drives.specs.Given.RawEndMap.{end_map_plan, ending}
 use Rattle.papaya_drives.specs.Given.RawDeclared.machines.end_map.EndMap.{EndMap}
 use Rattle.papaya_drives.specs.Given.TellerDeclared.changed.Changed.{Changed}

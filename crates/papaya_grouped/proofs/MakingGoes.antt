@@ -13,11 +13,11 @@ use Rattle.papaya_drives.specs.Given.SeizeDeclared.progress.Progress.{Progress}
 use Rattle.papaya_drives.specs.Given.SeizeDeclared.progress.Progress.TheVariants as progress
 use Rattle.papaya_drives.proofs.Given.SeizeEndsBatches.Free.{Outcomes, plan_outcome}
 use Rattle.papaya_drives.proofs.Given.SeizeRuleRows.Leaving.{steps_back}
-use Rattle.papaya_runs.specs.Given.Tables.Lengths.{IsTableLen}
-use Rattle.papaya_runs.specs.Given.Tables.declared.node.Node.{Node}
-use Rattle.papaya_runs.specs.Given.Tables.declared.resize_mode.ResizeMode.{ResizeMode}
-use Rattle.papaya_runs.specs.Given.Tables.declared.setting.Setting.{Setting}
-use Rattle.papaya_runs.specs.Given.Tables.declared.table.Table.{Table}
+use Rattle.papaya_runs.specs.Given.TablesLengths.{IsTableLen}
+use Rattle.papaya_runs.specs.Given.TablesDeclared.node.Node.{Node}
+use Rattle.papaya_runs.specs.Given.TablesDeclared.resize_mode.ResizeMode.{ResizeMode}
+use Rattle.papaya_runs.specs.Given.TablesDeclared.setting.Setting.{Setting}
+use Rattle.papaya_runs.specs.Given.TablesDeclared.table.Table.{Table}
 use Rattle.papaya_drives.specs.Given.ResizeNewMap as new_map
 use Rattle.papaya_drives.specs.Given.ResizeNewTable.{first_table, new_table_plan}
 use Rattle.papaya_drives.specs.Given.ResizeDeclared.new_map.NewMap.{NewMap}

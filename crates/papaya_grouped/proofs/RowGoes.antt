@@ -14,7 +14,7 @@ use Rattle.papaya_drives.specs.Given.SeizeDeclared.rows.register.Register.{Regis
 use Rattle.papaya_drives.specs.Given.SeizeDeclared.rows.settle.Settle.{Settle}
 use Rattle.papaya_drives.specs.Given.SeizeDeclared.rows.settle.Settled.{Settled}
 use Rattle.papaya_drives.specs.Given.SeizeDeclared.rows.reclaim_all.ReclaimAll.{ReclaimAll}
-use Rattle.papaya_runs.specs.Given.Tables.declared.node.Node.{Node}
+use Rattle.papaya_runs.specs.Given.TablesDeclared.node.Node.{Node}
 use Rattle.papaya_drives.specs.Given.TellerDeclared.changed.Changed.{Changed}
 use Rattle.papaya_drives.specs.Given.FinishesMachines.{machine_of}
 use Rattle.papaya_drives.proofs.Given.ScenesNoCall.{none_of}

@@ -1,7 +1,7 @@
 -- A log of a run and the history of which it is the grouping, by hand. And wrong ones, each refused for its reason.
 use Rattle.std.proofs.Common.{◌≡◌, ℕ, Bool, true, false, inl, inr, List, [], ◌∷◌, refl, Some, None}
 use Rattle.std.specs.Prelude.{◌⊎◌, Option}
-use Rattle.papaya_runs.specs.Given.Tables.declared.resize_mode.ResizeMode.TheVariants.{Incremental}
+use Rattle.papaya_runs.specs.Given.TablesDeclared.resize_mode.ResizeMode.TheVariants.{Incremental}
 use Rattle.papaya_drives.specs.Given.SchedulesDeclared.call.Answer.TheVariants.{Absent}
 use Rattle.papaya_drives.specs.Given.SchedulesDeclared.call.Call.TheVariants.{On}
 use Rattle.papaya_drives.specs.Given.SchedulesDeclared.call.OneKey.TheVariants.{Get}

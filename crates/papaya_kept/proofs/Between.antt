@@ -14,15 +14,15 @@ use Rattle.papaya_owes.specs.Given.SchedulesGrowing.{only_looks}
 use Rattle.papaya_owes.specs.Given.SchedulesMoment.{Moment}
 use Rattle.papaya_owes.specs.Given.SchedulesDeclared.call.Call.{Call}
 use Rattle.papaya_owes.specs.Given.SchedulesDeclared.call.Call.TheVariants.{On, Reserve, Clear, Retain, Len, Walk}
-use Rattle.papaya_waiters.specs.Given.Points.Steps.{AreLawful}
-use Rattle.papaya_waiters.specs.Given.Late.ToldSweeps.{IsRowOfSweep}
-use Rattle.papaya_waiters.specs.Given.Callers.OverAll.{CallOverAll}
-use Rattle.papaya_waiters.specs.Given.Callers.Rooms.{CallForRoom}
-use Rattle.papaya_waiters.specs.Given.Callers.Pairs.{Given}
-use Rattle.papaya_waiters.specs.Given.Callers.Together.{UnderWay, OnKey, ForRoom, Counting, OverAll, IsBegun, Gets, Removes, Inserts, TriesToInsert, Computes, Updates, UpdatesOrInserts, TriesToInsertWith, RemovesIf}
-use Rattle.papaya_waiters.proofs.Given.Callers.Together.At.{at_same, at_other}
-use Rattle.papaya_waiters.specs.Given.Finishes.Machines.{machine_of}
-use Rattle.papaya_waiters.specs.Given.Finishes.Maps.{Standing, with_call as with_in}
+use Rattle.papaya_waiters.specs.Given.PointsSteps.{AreLawful}
+use Rattle.papaya_waiters.specs.Given.LateToldSweeps.{IsRowOfSweep}
+use Rattle.papaya_waiters.specs.Given.CallersOverAll.{CallOverAll}
+use Rattle.papaya_waiters.specs.Given.CallersRooms.{CallForRoom}
+use Rattle.papaya_waiters.specs.Given.CallersPairs.{Given}
+use Rattle.papaya_waiters.specs.Given.CallersTogether.{UnderWay, OnKey, ForRoom, Counting, OverAll, IsBegun, Gets, Removes, Inserts, TriesToInsert, Computes, Updates, UpdatesOrInserts, TriesToInsertWith, RemovesIf}
+use Rattle.papaya_waiters.proofs.Given.CallersTogether.At.{at_same, at_other}
+use Rattle.papaya_waiters.specs.Given.FinishesMachines.{machine_of}
+use Rattle.papaya_waiters.specs.Given.FinishesMaps.{Standing, with_call as with_in}
 use Rattle.papaya_owes.specs.Given.FollowsCalling.{told}
 use Rattle.papaya_owes.specs.Given.FollowsCalls.{IsCalled}
 use Rattle.papaya_owes.specs.Given.HandsCalling.{IsBegunFor}
@@ -48,7 +48,7 @@ use Rattle.papaya_owes.proofs.Given.LivesLying.{others_leave_lying}
 use Rattle.papaya_owes.proofs.Given.LivesOrder.{others_leave_order}
 use Rattle.papaya_owes.proofs.Given.LivesReclaimed.{others_leave_retired}
 use Rattle.papaya_owes.proofs.Given.LivesWaiting.{others_leave_waiting}
-use Rattle.papaya_waiters.specs.Given.Waits.Others.{copier_in, copier_in_room, copier_in_sweep, copier_of}
+use Rattle.papaya_waiters.specs.Given.WaitsOthers.{copier_in, copier_in_room, copier_in_sweep, copier_of}
 use Rattle.papaya_kept.proofs.Ends.{calls_begin_ends, calls_take_ends, walks_go_on_ends, walks_stop_ends}
 use Rattle.papaya_kept.specs.Steps.{CallsBeginKept, CallsTakeKept, WalksGoOnKept, WalksStopKept}
 use Rattle.papaya_owes.proofs.Given.ScenesMay.{standing_is}

@@ -2,16 +2,16 @@
 use Rattle.std.specs.Prelude.{Bool, true, List, Option, Some}
 use Rattle.std.specs.Int.{IsPowerOfTwo}
 use Rattle.std.proofs.Common.{◌≡◌, ℕ, inl, inr, refl, ap, sym, subst, ◌∙◌, false}
-use Rattle.papaya_waiters.specs.Given.Waits.Others.{HaveEnds, copier_in, copier_in_room, copier_in_sweep}
-use Rattle.papaya_waiters.proofs.Given.Waits.CallsEnd.{calls_keep_ends}
-use Rattle.papaya_waiters.proofs.Given.Waits.EndingCalls.{copier_then}
-use Rattle.papaya_waiters.proofs.Given.Waits.RoomsEnd.{rooms_keep_ends, sweeps_keep_ends}
+use Rattle.papaya_waiters.specs.Given.WaitsOthers.{HaveEnds, copier_in, copier_in_room, copier_in_sweep}
+use Rattle.papaya_waiters.proofs.Given.WaitsCallsEnd.{calls_keep_ends}
+use Rattle.papaya_waiters.proofs.Given.WaitsEndingCalls.{copier_then}
+use Rattle.papaya_waiters.proofs.Given.WaitsRoomsEnd.{rooms_keep_ends, sweeps_keep_ends}
 use Rattle.papaya_waiters.specs.Blocking.{HaveEndsBlocking}
 use Rattle.papaya_waiters.proofs.Likes.{IsFreshCopier, IsIdleAt, IsIdleCopier}
 use Rattle.papaya_waiters.proofs.RowsFresh.{key_row_fresh, room_row_fresh, sweep_row_fresh}
 use Rattle.papaya_waiters.proofs.Calls.{calls_keep_ends_blocking, rooms_keep_ends_blocking, sweeps_keep_ends_blocking}
-use Rattle.papaya_waiters.specs.Given.SeizeWords.Mem.{Mem, Took, value_at}
-use Rattle.papaya_waiters.specs.Given.SeizeWords.Plan.{Steps}
+use Rattle.papaya_waiters.specs.Given.SeizeWordsMem.{Mem, Took, value_at}
+use Rattle.papaya_waiters.specs.Given.SeizeWordsPlan.{Steps}
 use Rattle.papaya_owes.specs.Given.SeizeWorld.{with_at}
 use Rattle.papaya_owes.specs.Given.TablesChunks.{is_incremental}
 use Rattle.papaya_owes.specs.Given.TablesDeclared.node.Node.{Node}
@@ -41,19 +41,19 @@ use Rattle.papaya_owes.specs.Given.SweepsDeclared.sweep.Sweeping.{Sweeping}
 use Rattle.papaya_owes.specs.Given.SweepsDeclared.sweep.Sweeping.TheVariants as sweeps
 use Rattle.papaya_owes.specs.Given.RuleChart.{Chart}
 use Rattle.papaya_owes.specs.Given.RuleWords.{Blocks}
-use Rattle.papaya_waiters.specs.Given.Points.Steps.{AreLawful}
-use Rattle.papaya_waiters.specs.Given.Points.Told.{IsRowOfCall, IsRowOfCopier}
-use Rattle.papaya_waiters.specs.Given.Late.ToldReserves.{IsRowOfReserve}
-use Rattle.papaya_waiters.specs.Given.Late.ToldSweeps.{IsRowOfSweep}
+use Rattle.papaya_waiters.specs.Given.PointsSteps.{AreLawful}
+use Rattle.papaya_waiters.specs.Given.PointsTold.{IsRowOfCall, IsRowOfCopier}
+use Rattle.papaya_waiters.specs.Given.LateToldReserves.{IsRowOfReserve}
+use Rattle.papaya_waiters.specs.Given.LateToldSweeps.{IsRowOfSweep}
 use Rattle.papaya_owes.specs.Given.TellerTells.{StepsTold}
 use Rattle.papaya_owes.specs.Given.TellerDeclared.changed.Changed.TheVariants as changed
-use Rattle.papaya_waiters.specs.Given.Callers.OverAll.{CallOverAll}
-use Rattle.papaya_waiters.specs.Given.Callers.Rooms.{CallForRoom}
-use Rattle.papaya_waiters.specs.Given.Callers.Sights.{Sight}
-use Rattle.papaya_waiters.specs.Given.Callers.Together.{CallOnKey, UnderWay, OnKey, ForRoom, Counting, OverAll, Together, next_of_counting}
-use Rattle.papaya_waiters.proofs.Given.Callers.Together.At.{at_same, at_other}
+use Rattle.papaya_waiters.specs.Given.CallersOverAll.{CallOverAll}
+use Rattle.papaya_waiters.specs.Given.CallersRooms.{CallForRoom}
+use Rattle.papaya_waiters.specs.Given.CallersSights.{Sight}
+use Rattle.papaya_waiters.specs.Given.CallersTogether.{CallOnKey, UnderWay, OnKey, ForRoom, Counting, OverAll, Together, next_of_counting}
+use Rattle.papaya_waiters.proofs.Given.CallersTogether.At.{at_same, at_other}
 use Rattle.papaya_owes.specs.Given.EffectsKnown.{Known}
-use Rattle.papaya_waiters.specs.Given.Finishes.Maps.{Standing, IsSameMap}
+use Rattle.papaya_waiters.specs.Given.FinishesMaps.{Standing, IsSameMap}
 use Rattle.papaya_owes.specs.Given.FollowsShows.{Shows}
 use Rattle.papaya_owes.proofs.Given.FollowsSteps.{WentTo, went_to, DidSo, one_of}
 use Rattle.papaya_owes.proofs.Given.OthersOutcomes.{told_in}

@@ -2,8 +2,8 @@
 use Rattle.std.specs.Prelude.{Bool, true, false, List, Option, Some, None, nat_lt, if◌then◌else◌}
 use Rattle.std.proofs.Common.{◌≡◌, ℕ, ◌≤◌, ◌⊎◌, inl, inr, refl, ap, sym, subst, ◌∙◌, arith}
 use Rattle.std.proofs.lemmas.Bool.{cases_eq}
-use Rattle.papaya_waiters.specs.Given.Waits.Others.{copier_in, copier_in_room, copier_in_sweep, copier_of}
-use Rattle.papaya_waiters.proofs.Given.Waits.EndingCalls.{AllOrOwn, as_own, copier_then, keeps_still, with_own}
+use Rattle.papaya_waiters.specs.Given.WaitsOthers.{copier_in, copier_in_room, copier_in_sweep, copier_of}
+use Rattle.papaya_waiters.proofs.Given.WaitsEndingCalls.{AllOrOwn, as_own, copier_then, keeps_still, with_own}
 use Rattle.papaya_waiters.proofs.Likes.{IsFreshCopier, IsIdleCopier, idle_ends, like_keeps_blocking}
 use Rattle.papaya_owes.specs.Given.SeizeDeclared.rows.settle.Settled.{Settled}
 use Rattle.papaya_owes.specs.Given.SeizeDeclared.rows.settle.Settled.TheVariants as settled
@@ -29,13 +29,13 @@ use Rattle.papaya_owes.specs.Given.SweepsDeclared.sweep.Sweep.{Sweep}
 use Rattle.papaya_owes.specs.Given.SweepsDeclared.sweep.Sweeping.{Sweeping}
 use Rattle.papaya_owes.specs.Given.SweepsDeclared.sweep.Sweeping.TheVariants as sweeping
 use Rattle.papaya_owes.specs.Given.RuleChart.{Chart}
-use Rattle.papaya_waiters.specs.Given.Callers.Together.{UnderWay, OnKey, ForRoom, Counting, OverAll}
-use Rattle.papaya_waiters.proofs.Given.Callers.Together.At.{at_same, at_other}
-use Rattle.papaya_waiters.specs.Given.Finishes.Endings.{Finishing}
-use Rattle.papaya_waiters.specs.Given.Finishes.FactsEnds.{Deed}
-use Rattle.papaya_waiters.specs.Given.Finishes.Machines.{machine_of}
-use Rattle.papaya_waiters.specs.Given.Finishes.Makings.{Beginning, IsNewChart}
-use Rattle.papaya_waiters.specs.Given.Finishes.Maps.{Standing, IsSameMap, with_call as with_in}
+use Rattle.papaya_waiters.specs.Given.CallersTogether.{UnderWay, OnKey, ForRoom, Counting, OverAll}
+use Rattle.papaya_waiters.proofs.Given.CallersTogether.At.{at_same, at_other}
+use Rattle.papaya_waiters.specs.Given.FinishesEndings.{Finishing}
+use Rattle.papaya_waiters.specs.Given.FinishesFactsEnds.{Deed}
+use Rattle.papaya_waiters.specs.Given.FinishesMachines.{machine_of}
+use Rattle.papaya_waiters.specs.Given.FinishesMakings.{Beginning, IsNewChart}
+use Rattle.papaya_waiters.specs.Given.FinishesMaps.{Standing, IsSameMap, with_call as with_in}
 use Rattle.papaya_owes.specs.Given.FollowsCalling.{NoneNamed}
 use Rattle.papaya_owes.proofs.Given.FollowsCalling.{is_same_refl}
 use Rattle.papaya_owes.proofs.Given.FollowsSteps.{one_of}

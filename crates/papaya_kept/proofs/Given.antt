@@ -1,23 +1,23 @@
 -- What is so by the crates below, given on to the crates above: these list this crate in place of those.
-pub use Rattle.papaya_waiters.proofs.Given.SeizeWords.OneOwner as SeizeWordsOneOwner
-pub use Rattle.papaya_waiters.proofs.Given.SeizeWords.Places as SeizeWordsPlaces
+pub use Rattle.papaya_waiters.proofs.Given.SeizeWordsOneOwner as SeizeWordsOneOwner
+pub use Rattle.papaya_waiters.proofs.Given.SeizeWordsPlaces as SeizeWordsPlaces
 pub use Rattle.papaya_owes.proofs.Given.SeizeRuleWords
-pub use Rattle.papaya_waiters.proofs.Given.SeizeSets.Reclaims as SeizeSetsReclaims
-pub use Rattle.papaya_waiters.proofs.Given.SeizeSets.Slots as SeizeSetsSlots
-pub use Rattle.papaya_waiters.proofs.Given.SeizeSets.Turns as SeizeSetsTurns
-pub use Rattle.papaya_waiters.proofs.Given.SeizeEnds.Batches as SeizeEndsBatches
-pub use Rattle.papaya_waiters.proofs.Given.SeizeEnds.Rows as SeizeEndsRows
-pub use Rattle.papaya_waiters.proofs.Given.SeizeEnds.Settling as SeizeEndsSettling
-pub use Rattle.papaya_waiters.proofs.Given.SeizeAlone.Histories as SeizeAloneHistories
-pub use Rattle.papaya_waiters.proofs.Given.SeizeAlone.Laws as SeizeAloneLaws
-pub use Rattle.papaya_waiters.proofs.Given.SeizeAlone.Spared as SeizeAloneSpared
-pub use Rattle.papaya_waiters.proofs.Given.SeizeAlone.Whole as SeizeAloneWhole
-pub use Rattle.papaya_waiters.proofs.Given.SeizeActs.Waits as SeizeActsWaits
-pub use Rattle.papaya_waiters.proofs.Given.Callers.Together as CallersTogether
+pub use Rattle.papaya_waiters.proofs.Given.SeizeSetsReclaims as SeizeSetsReclaims
+pub use Rattle.papaya_waiters.proofs.Given.SeizeSetsSlots as SeizeSetsSlots
+pub use Rattle.papaya_waiters.proofs.Given.SeizeSetsTurns as SeizeSetsTurns
+pub use Rattle.papaya_waiters.proofs.Given.SeizeEndsBatches as SeizeEndsBatches
+pub use Rattle.papaya_waiters.proofs.Given.SeizeEndsRows as SeizeEndsRows
+pub use Rattle.papaya_waiters.proofs.Given.SeizeEndsSettling as SeizeEndsSettling
+pub use Rattle.papaya_waiters.proofs.Given.SeizeAloneHistories as SeizeAloneHistories
+pub use Rattle.papaya_waiters.proofs.Given.SeizeAloneLaws as SeizeAloneLaws
+pub use Rattle.papaya_waiters.proofs.Given.SeizeAloneSpared as SeizeAloneSpared
+pub use Rattle.papaya_waiters.proofs.Given.SeizeAloneWhole as SeizeAloneWhole
+pub use Rattle.papaya_waiters.proofs.Given.SeizeActsWaits as SeizeActsWaits
+pub use Rattle.papaya_waiters.proofs.Given.CallersTogether as CallersTogether
 pub use Rattle.papaya_waiters.proofs.Awaited as WaitersAwaited
 pub use Rattle.papaya_waiters.proofs.Stands as WaitersStands
-pub use Rattle.papaya_waiters.proofs.Given.Maps.Begins as MapsBegins
-pub use Rattle.papaya_waiters.proofs.Given.Maps.Ends as MapsEnds
+pub use Rattle.papaya_waiters.proofs.Given.MapsBegins as MapsBegins
+pub use Rattle.papaya_waiters.proofs.Given.MapsEnds as MapsEnds
 pub use Rattle.papaya_owes.proofs.Given.FollowsAlike
 pub use Rattle.papaya_owes.proofs.Given.FollowsCalling
 pub use Rattle.papaya_owes.proofs.Given.FollowsCalls

@@ -1,9 +1,9 @@
 -- What a call has in hand nobody else takes: a row on a slot takes what was retired, the end of a map what was in use or left over, and the making of one nothing of a map.
 use Rattle.std.specs.Prelude.{◌≡◌, ◌⊎◌, ◌<◌, ◌+◌, ℕ, Bool, true, List, Option, Some, None, is_some}
 use Rattle.std.proofs.Common.{refl, ap, sym, subst, ◌∙◌, inl, inr}
-use Rattle.papaya_waiters.specs.Given.SeizeWords.Mem.{value_at}
-use Rattle.papaya_waiters.specs.Given.SeizeWords.Word.{block_in}
-use Rattle.papaya_waiters.specs.Given.SeizeWords.declared.at.At.TheVariants.{Root, Used, Slot, Entry, Word}
+use Rattle.papaya_waiters.specs.Given.SeizeWordsMem.{value_at}
+use Rattle.papaya_waiters.specs.Given.SeizeWordsWord.{block_in}
+use Rattle.papaya_waiters.specs.Given.SeizeWordsDeclared.at.At.TheVariants.{Root, Used, Slot, Entry, Word}
 use Rattle.papaya_owes.specs.Given.SeizeLaw.{is_retired}
 use Rattle.papaya_owes.specs.Given.SeizeDeclared.progress.Progress.{Progress}
 use Rattle.papaya_owes.specs.Given.SeizeDeclared.rows.defer.Defer.{Defer}
@@ -32,8 +32,8 @@ use Rattle.papaya_owes.specs.Given.TellerDeclared.changed.Changed.{Changed}
 use Rattle.papaya_owes.specs.Given.TellerDeclared.changed.Changed.TheVariants as changed
 use Rattle.papaya_owes.specs.Given.RuleWords.{byte_of}
 use Rattle.papaya_owes.proofs.Given.RuleLaws.{words_name_pairs, bytes_are_few}
-use Rattle.papaya_waiters.specs.Given.Callers.Sights.{seen_by}
-use Rattle.papaya_waiters.specs.Given.Callers.Together.{UnderWay, CameAbout}
+use Rattle.papaya_waiters.specs.Given.CallersSights.{seen_by}
+use Rattle.papaya_waiters.specs.Given.CallersTogether.{UnderWay, CameAbout}
 use Rattle.papaya_owes.specs.Given.EffectsEffects.{known_after}
 use Rattle.papaya_owes.specs.Given.EffectsKnown.{Known}
 use Rattle.papaya_owes.specs.Given.EffectsDeclared.acting.Acting.TheVariants as acts
@@ -41,9 +41,9 @@ use Rattle.papaya_owes.specs.Given.EffectsDeclared.role.Role.{Role}
 use Rattle.papaya_owes.specs.Given.EffectsDeclared.role.Role.TheVariants as role
 use Rattle.papaya_owes.specs.Given.ScenesDeclared.row.RowTold.{RowTold}
 use Rattle.papaya_owes.specs.Given.ScenesDeclared.row.SlotRow.{SlotRow}
-use Rattle.papaya_waiters.specs.Given.Finishes.Endings.{Finishing}
-use Rattle.papaya_waiters.specs.Given.Finishes.Machines.{machine_of}
-use Rattle.papaya_waiters.specs.Given.Finishes.Makings.{Beginning}
+use Rattle.papaya_waiters.specs.Given.FinishesEndings.{Finishing}
+use Rattle.papaya_waiters.specs.Given.FinishesMachines.{machine_of}
+use Rattle.papaya_waiters.specs.Given.FinishesMakings.{Beginning}
 use Rattle.papaya_owes.specs.Given.FollowsBlocks.{HasRole}
 use Rattle.papaya_owes.proofs.Given.FollowsAlike.{put_elsewhere}
 use Rattle.papaya_owes.proofs.Given.FollowsOnward.{IsOfMap}

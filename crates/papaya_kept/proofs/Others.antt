@@ -16,9 +16,9 @@ use Rattle.papaya_owes.specs.Given.SchedulesMoment.{Moment}
 use Rattle.papaya_owes.specs.Given.EffectsEffects.{effects_of, known_after}
 use Rattle.papaya_owes.specs.Given.EffectsKnown.{Known}
 use Rattle.papaya_owes.specs.Given.EffectsDeclared.acting.Acting.TheVariants as acts
-use Rattle.papaya_waiters.specs.Given.Finishes.Endings.{Finishing}
-use Rattle.papaya_waiters.specs.Given.Finishes.FactsEnds.{Deed}
-use Rattle.papaya_waiters.specs.Given.Finishes.Makings.{Beginning}
+use Rattle.papaya_waiters.specs.Given.FinishesEndings.{Finishing}
+use Rattle.papaya_waiters.specs.Given.FinishesFactsEnds.{Deed}
+use Rattle.papaya_waiters.specs.Given.FinishesMakings.{Beginning}
 use Rattle.papaya_owes.specs.Given.OthersEndings.{ending_after}
 use Rattle.papaya_owes.specs.Given.OthersMakings.{making_after}
 use Rattle.papaya_owes.specs.Given.OthersRows.{scene_then}

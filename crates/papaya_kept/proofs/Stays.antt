@@ -6,9 +6,9 @@ use Rattle.papaya_owes.specs.Given.TablesDeclared.node.Node.{Node}
 use Rattle.papaya_owes.specs.Given.RunsSame.{is_same}
 use Rattle.papaya_owes.specs.Given.SchedulesMoment.{UnderWay as CallThere, Moment}
 use Rattle.papaya_owes.specs.Given.SchedulesViews.{call_of}
-use Rattle.papaya_waiters.specs.Given.Callers.Together.{UnderWay}
+use Rattle.papaya_waiters.specs.Given.CallersTogether.{UnderWay}
 use Rattle.papaya_owes.specs.Given.EffectsKnown.{Known}
-use Rattle.papaya_waiters.specs.Given.Finishes.Machines.{machine_of}
+use Rattle.papaya_waiters.specs.Given.FinishesMachines.{machine_of}
 use Rattle.papaya_owes.specs.Given.FollowsCalling.{come_to}
 use Rattle.papaya_owes.proofs.Aside.{stays_made}
 use Rattle.papaya_owes.proofs.Between.{made_begins, calls_come_to_made}

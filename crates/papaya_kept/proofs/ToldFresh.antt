@@ -1,10 +1,10 @@
 -- Told what it asked, no call begins a copying by that.
 use Rattle.std.specs.Prelude.{◌==◌, Bool, true, false, if◌then◌else◌}
 use Rattle.std.proofs.Common.{◌≡◌, ℕ, sym, subst}
-use Rattle.papaya_waiters.specs.Given.Waits.Others.{copier_in, copier_in_sweep}
+use Rattle.papaya_waiters.specs.Given.WaitsOthers.{copier_in, copier_in_sweep}
 use Rattle.papaya_waiters.proofs.BeginsSweeps.{quiet_none}
 use Rattle.papaya_waiters.proofs.Likes.{IsFreshCopier}
-use Rattle.papaya_waiters.specs.Given.SeizeWords.declared.fault.Fault.TheVariants.{RemoveNothing}
+use Rattle.papaya_waiters.specs.Given.SeizeWordsDeclared.fault.Fault.TheVariants.{RemoveNothing}
 use Rattle.papaya_owes.specs.Given.TablesDeclared.marks.TheConstants.{TOMBSTONE}
 use Rattle.papaya_owes.specs.Given.RawCallAsks.{absent_told, present_told, told_at, with_absent, with_present}
 use Rattle.papaya_owes.specs.Given.RawCallPoints.{at_gap, burying, ending, going, over, storing}
@@ -29,7 +29,7 @@ use Rattle.papaya_owes.specs.Given.SweepsSweepPoints.{further, reply_at}
 use Rattle.papaya_owes.specs.Given.SweepsDeclared.sweep.Sweep.{Sweep}
 use Rattle.papaya_owes.specs.Given.SweepsDeclared.sweep.Sweeping.{Sweeping}
 use Rattle.papaya_owes.specs.Given.SweepsDeclared.sweep.Sweeping.TheVariants as sweeping
-use Rattle.papaya_waiters.proofs.Given.Late.Swept.Sweeps.Stands.{quiet_further}
+use Rattle.papaya_waiters.proofs.Given.LateSwept.Sweeps.Stands.{quiet_further}
 
 module _ {K V : Type 0} where
   -- a call on one key that is told what to do copies nothing then

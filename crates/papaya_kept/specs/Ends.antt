@@ -2,9 +2,9 @@
 use Rattle.std.specs.Prelude.{◌≡◌, ℕ, Bool, cond, Option, Some}
 use Rattle.papaya_owes.specs.Given.TablesChunks.{is_incremental}
 use Rattle.papaya_owes.specs.Given.RuleChart.{Chart}
-use Rattle.papaya_waiters.specs.Given.Callers.Together.{UnderWay}
-use Rattle.papaya_waiters.specs.Given.Finishes.Maps.{Standing}
-use Rattle.papaya_waiters.specs.Given.Waits.Others.{HaveEnds}
+use Rattle.papaya_waiters.specs.Given.CallersTogether.{UnderWay}
+use Rattle.papaya_waiters.specs.Given.FinishesMaps.{Standing}
+use Rattle.papaya_waiters.specs.Given.WaitsOthers.{HaveEnds}
 use Rattle.papaya_waiters.specs.Blocking.{HaveEndsBlocking}
 use Rattle.papaya_owes.specs.Given.ScenesScene.{Scene}
 

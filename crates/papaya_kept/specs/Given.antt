@@ -1,12 +1,12 @@
 -- The words of the crates below, given on to the crates above: these list this crate in place of those.
-pub use Rattle.papaya_waiters.specs.Given.SeizeWords.Mem as SeizeWordsMem
-pub use Rattle.papaya_waiters.specs.Given.SeizeWords.Op as SeizeWordsOp
-pub use Rattle.papaya_waiters.specs.Given.SeizeWords.Place as SeizeWordsPlace
-pub use Rattle.papaya_waiters.specs.Given.SeizeWords.SlotWords as SeizeWordsSlotWords
-pub use Rattle.papaya_waiters.specs.Given.SeizeWords.Word as SeizeWordsWord
-pub use Rattle.papaya_waiters.specs.Given.SeizeWords.declared as SeizeWordsDeclared
-pub use Rattle.papaya_waiters.specs.Given.SeizeEnds.Holders as SeizeEndsHolders
-pub use Rattle.papaya_waiters.specs.Given.SeizeActs.Waits as SeizeActsWaits
+pub use Rattle.papaya_waiters.specs.Given.SeizeWordsMem as SeizeWordsMem
+pub use Rattle.papaya_waiters.specs.Given.SeizeWordsOp as SeizeWordsOp
+pub use Rattle.papaya_waiters.specs.Given.SeizeWordsPlace as SeizeWordsPlace
+pub use Rattle.papaya_waiters.specs.Given.SeizeWordsSlotWords as SeizeWordsSlotWords
+pub use Rattle.papaya_waiters.specs.Given.SeizeWordsWord as SeizeWordsWord
+pub use Rattle.papaya_waiters.specs.Given.SeizeWordsDeclared as SeizeWordsDeclared
+pub use Rattle.papaya_waiters.specs.Given.SeizeEndsHolders as SeizeEndsHolders
+pub use Rattle.papaya_waiters.specs.Given.SeizeActsWaits as SeizeActsWaits
 pub use Rattle.papaya_owes.specs.Given.TablesDeclared
 pub use Rattle.papaya_owes.specs.Given.ResizeNewMap
 pub use Rattle.papaya_owes.specs.Given.ResizeDeclared
@@ -14,15 +14,15 @@ pub use Rattle.papaya_owes.specs.Given.SweepsSweepPoints
 pub use Rattle.papaya_owes.specs.Given.SweepsDeclared
 pub use Rattle.papaya_owes.specs.Given.ReservesDeclared
 pub use Rattle.papaya_owes.specs.Given.TellsSeen
-pub use Rattle.papaya_waiters.specs.Given.Callers.Together as CallersTogether
-pub use Rattle.papaya_waiters.specs.Given.Finishes.Endings as FinishesEndings
-pub use Rattle.papaya_waiters.specs.Given.Finishes.FactsEnds as FinishesFactsEnds
-pub use Rattle.papaya_waiters.specs.Given.Finishes.Machines as FinishesMachines
-pub use Rattle.papaya_waiters.specs.Given.Finishes.Makings as FinishesMakings
-pub use Rattle.papaya_waiters.specs.Given.Finishes.Maps as FinishesMaps
-pub use Rattle.papaya_waiters.specs.Given.Maps.EndingsEnds as MapsEndingsEnds
-pub use Rattle.papaya_waiters.specs.Given.Maps.MeasuresBegins as MapsMeasuresBegins
-pub use Rattle.papaya_waiters.specs.Given.Maps.MeasuresEnds as MapsMeasuresEnds
+pub use Rattle.papaya_waiters.specs.Given.CallersTogether as CallersTogether
+pub use Rattle.papaya_waiters.specs.Given.FinishesEndings as FinishesEndings
+pub use Rattle.papaya_waiters.specs.Given.FinishesFactsEnds as FinishesFactsEnds
+pub use Rattle.papaya_waiters.specs.Given.FinishesMachines as FinishesMachines
+pub use Rattle.papaya_waiters.specs.Given.FinishesMakings as FinishesMakings
+pub use Rattle.papaya_waiters.specs.Given.FinishesMaps as FinishesMaps
+pub use Rattle.papaya_waiters.specs.Given.MapsEndingsEnds as MapsEndingsEnds
+pub use Rattle.papaya_waiters.specs.Given.MapsMeasuresBegins as MapsMeasuresBegins
+pub use Rattle.papaya_waiters.specs.Given.MapsMeasuresEnds as MapsMeasuresEnds
 pub use Rattle.papaya_owes.specs.Given.FollowsBlocks
 pub use Rattle.papaya_owes.specs.Given.FollowsCalling
 pub use Rattle.papaya_owes.specs.Given.FollowsCalls
@@ -109,5 +109,5 @@ pub use Rattle.papaya_owes.specs.Given.NamedPlaces
 pub use Rattle.papaya_owes.specs.Given.NamedSeen
 pub use Rattle.papaya_owes.specs.Given.NamedDeclared
 pub use Rattle.papaya_owes.specs.Given.ShownShown
-pub use Rattle.papaya_waiters.specs.Given.SeizeSets.Reclaims as SeizeSetsReclaims
-pub use Rattle.papaya_waiters.specs.Given.SeizeAlone.Alone as SeizeAloneAlone
+pub use Rattle.papaya_waiters.specs.Given.SeizeSetsReclaims as SeizeSetsReclaims
+pub use Rattle.papaya_waiters.specs.Given.SeizeAloneAlone as SeizeAloneAlone

@@ -15,17 +15,17 @@ use Rattle.papaya_owes.specs.Given.SchedulesBeginning.{with_call}
 use Rattle.papaya_owes.specs.Given.SchedulesEffects.{with_effects, AtEachEffect}
 use Rattle.papaya_owes.specs.Given.SchedulesEntry.{ends_call}
 use Rattle.papaya_owes.specs.Given.SchedulesMoment.{Moment, start}
-use Rattle.papaya_waiters.specs.Given.Callers.Together.{UnderWay}
+use Rattle.papaya_waiters.specs.Given.CallersTogether.{UnderWay}
 use Rattle.papaya_owes.specs.Given.EffectsEffects.{effects_of, known_after}
 use Rattle.papaya_owes.specs.Given.EffectsKnown.{Known, nothing_known}
 use Rattle.papaya_owes.specs.Given.EffectsDeclared.acting.Acting.TheVariants as acts
 use Rattle.papaya_owes.specs.Given.ScenesDeclared.row.RowTold.{RowTold}
 use Rattle.papaya_owes.specs.Given.ScenesDeclared.row.SlotCall.{SlotCall}
 use Rattle.papaya_owes.specs.Given.ScenesDeclared.row.SlotRow.{SlotRow}
-use Rattle.papaya_waiters.specs.Given.Finishes.Endings.{Finishing}
-use Rattle.papaya_waiters.specs.Given.Finishes.Machines.{machine_of}
-use Rattle.papaya_waiters.specs.Given.Finishes.Makings.{Beginning}
-use Rattle.papaya_waiters.specs.Given.Finishes.Maps.{Standing, with_call as with_in}
+use Rattle.papaya_waiters.specs.Given.FinishesEndings.{Finishing}
+use Rattle.papaya_waiters.specs.Given.FinishesMachines.{machine_of}
+use Rattle.papaya_waiters.specs.Given.FinishesMakings.{Beginning}
+use Rattle.papaya_waiters.specs.Given.FinishesMaps.{Standing, with_call as with_in}
 use Rattle.papaya_owes.specs.Given.FollowsCalling.{NoneNamed, told, come_to}
 use Rattle.papaya_owes.specs.Given.FollowsCalls.{IsCalled}
 use Rattle.papaya_owes.specs.Given.FollowsShows.{Shows}

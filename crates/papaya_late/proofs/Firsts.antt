@@ -1,26 +1,26 @@
 -- In blocking mode: a table is linked behind one that the root has left, or a first one was made too late.
 use Rattle.std.specs.Prelude.{◌≡◌, ℕ, ◌<◌, cond, eqb, Bool}
 use Rattle.std.proofs.Common.{inl, inr, refl, ap, sym, subst, ◌∙◌, arith}
-use Rattle.papaya_points.specs.Given.SeizeWords.declared.at.At.TheVariants.{Root}
-use Rattle.papaya_points.specs.Given.SeizeWords.Mem.{Mem, value_at, Can, Took}
-use Rattle.papaya_points.specs.Given.SeizeWords.Plan.{May, Steps}
-use Rattle.papaya_points.specs.Given.Seize.World.{World}
-use Rattle.papaya_points.specs.Given.Seize.declared.progress.Progress.{Progress}
-use Rattle.papaya_points.specs.Given.Seize.declared.progress.Progress.TheVariants as progress
-use Rattle.papaya_points.specs.Given.Tables.declared.node.Node.{Node}
-use Rattle.papaya_points.specs.Given.Tables.declared.setting.Setting.{Setting}
-use Rattle.papaya_points.specs.Given.Tables.declared.status.TheConstants.Status.{PENDING, PROMOTED}
-use Rattle.papaya_points.specs.Given.Tables.declared.table.Table.{Table}
-use Rattle.papaya_points.specs.Given.Resize.NewTable.{plan_at, new_table_plan}
-use Rattle.papaya_points.specs.Given.Resize.declared.new_table.NewTable.{NewTable}
-use Rattle.papaya_points.specs.Given.Resize.declared.new_table.Making.{Making as Point}
-use Rattle.papaya_points.specs.Given.Resize.declared.new_table.Making.TheVariants as makes
-use Rattle.papaya_points.specs.Given.Rule.Chart.{Chart}
-use Rattle.papaya_points.specs.Given.Rule.Words.{Blocks}
-use Rattle.papaya_points.specs.Given.Rule.Maps.{IsTable}
-use Rattle.papaya_points.specs.Given.Rule.InWorld.{IsMapIn, Went, SparesPairs}
-use Rattle.papaya_points.proofs.Given.Rule.Moves.Writes.{put_elsewhere}
-use Rattle.papaya_points.proofs.Given.Rule.World.WentStill.{went_still, spares_same}
+use Rattle.papaya_points.specs.Given.SeizeWordsDeclared.at.At.TheVariants.{Root}
+use Rattle.papaya_points.specs.Given.SeizeWordsMem.{Mem, value_at, Can, Took}
+use Rattle.papaya_points.specs.Given.SeizeWordsPlan.{May, Steps}
+use Rattle.papaya_points.specs.Given.SeizeWorld.{World}
+use Rattle.papaya_points.specs.Given.SeizeDeclared.progress.Progress.{Progress}
+use Rattle.papaya_points.specs.Given.SeizeDeclared.progress.Progress.TheVariants as progress
+use Rattle.papaya_points.specs.Given.TablesDeclared.node.Node.{Node}
+use Rattle.papaya_points.specs.Given.TablesDeclared.setting.Setting.{Setting}
+use Rattle.papaya_points.specs.Given.TablesDeclared.status.TheConstants.Status.{PENDING, PROMOTED}
+use Rattle.papaya_points.specs.Given.TablesDeclared.table.Table.{Table}
+use Rattle.papaya_points.specs.Given.ResizeNewTable.{plan_at, new_table_plan}
+use Rattle.papaya_points.specs.Given.ResizeDeclared.new_table.NewTable.{NewTable}
+use Rattle.papaya_points.specs.Given.ResizeDeclared.new_table.Making.{Making as Point}
+use Rattle.papaya_points.specs.Given.ResizeDeclared.new_table.Making.TheVariants as makes
+use Rattle.papaya_points.specs.Given.RuleChart.{Chart}
+use Rattle.papaya_points.specs.Given.RuleWords.{Blocks}
+use Rattle.papaya_points.specs.Given.RuleMaps.{IsTable}
+use Rattle.papaya_points.specs.Given.RuleInWorld.{IsMapIn, Went, SparesPairs}
+use Rattle.papaya_points.proofs.Given.RuleMoves.Writes.{put_elsewhere}
+use Rattle.papaya_points.proofs.Given.RuleWorld.WentStill.{went_still, spares_same}
 use Rattle.papaya_points.specs.FactsTables.{first_status}
 use Rattle.papaya_points.specs.Told.{OnlyLinks}
 use Rattle.papaya_points.proofs.Making.TableDrops.{may_drops, drops_tell}

@@ -4,41 +4,41 @@ use Rattle.std.specs.Prelude.{◌≡◌, ℕ, suc, ◌*◌, ◌<◌, ◌≤◌, 
 use Rattle.std.proofs.Common.{refl, ap, sym, subst, ◌∙◌, arith, inl, inr}
 use Rattle.std.proofs.lemmas.Bool.{ne_eqb}
 use Rattle.std.proofs.Math.Logic.{⊎_elim}
-use Rattle.papaya_points.specs.Given.SeizeWords.declared.at.At.{At}
-use Rattle.papaya_points.specs.Given.SeizeWords.declared.at.At.TheVariants.{Root, Word}
-use Rattle.papaya_points.specs.Given.SeizeWords.Mem.{Mem, Took, value_at, word_at, with_word}
-use Rattle.papaya_points.specs.Given.SeizeWords.Op.{Store, Exchange}
-use Rattle.papaya_points.specs.Given.SeizeWords.Plan.{Plan, Turn, Do, Now, Steps}
-use Rattle.papaya_points.proofs.Given.SeizeWords.OneOwner.AfterWrites.{word_at-with_word}
-use Rattle.papaya_points.proofs.Given.SeizeWords.OneOwner.Operations.{stored, exchanged}
-use Rattle.papaya_points.proofs.Given.SeizeRule.Words.Named.{same_at-refl}
-use Rattle.papaya_points.specs.Given.Seize.World.{World}
-use Rattle.papaya_points.specs.Given.Tables.Chunks.{is_incremental}
-use Rattle.papaya_points.specs.Given.Tables.TablePlaces.{at_word, at_place}
-use Rattle.papaya_points.specs.Given.Tables.declared.node.Node.{Node}
-use Rattle.papaya_points.specs.Given.Tables.declared.setting.Setting.{Setting}
-use Rattle.papaya_points.specs.Given.Tables.declared.status.TheConstants.Status.{ABORTED, PROMOTED}
-use Rattle.papaya_points.specs.Given.Tables.declared.table.Table.{Table}
-use Rattle.papaya_points.specs.Given.Tables.declared.table_words.TheConstants.{STATUS}
-use Rattle.papaya_points.specs.Given.Resize.CopierStates.{standing}
-use Rattle.papaya_points.specs.Given.Resize.declared.copier.Copier.{Copier}
-use Rattle.papaya_points.specs.Given.Resize.declared.copier.Copying.TheVariants as copies
-use Rattle.papaya_points.specs.Given.Raw.CallPoints.{told_answer}
-use Rattle.papaya_points.specs.Given.Raw.declared.machines.answer.Called.{Called}
-use Rattle.papaya_points.specs.Given.Raw.declared.machines.answer.KeyAnswer.TheVariants as answers
-use Rattle.papaya_points.specs.Given.Raw.declared.machines.answer.Missing.TheVariants as missing
-use Rattle.papaya_points.specs.Given.Raw.declared.machines.answer.There.{There}
-use Rattle.papaya_points.specs.Given.Raw.declared.machines.asking.Takes.{Takes}
-use Rattle.papaya_points.specs.Given.Raw.declared.machines.call.KeyCall.{KeyCall}
-use Rattle.papaya_points.specs.Given.Rule.Chart.{Chart}
+use Rattle.papaya_points.specs.Given.SeizeWordsDeclared.at.At.{At}
+use Rattle.papaya_points.specs.Given.SeizeWordsDeclared.at.At.TheVariants.{Root, Word}
+use Rattle.papaya_points.specs.Given.SeizeWordsMem.{Mem, Took, value_at, word_at, with_word}
+use Rattle.papaya_points.specs.Given.SeizeWordsOp.{Store, Exchange}
+use Rattle.papaya_points.specs.Given.SeizeWordsPlan.{Plan, Turn, Do, Now, Steps}
+use Rattle.papaya_points.proofs.Given.SeizeWordsOneOwner.AfterWrites.{word_at-with_word}
+use Rattle.papaya_points.proofs.Given.SeizeWordsOneOwner.Operations.{stored, exchanged}
+use Rattle.papaya_points.proofs.Given.SeizeRuleWords.Named.{same_at-refl}
+use Rattle.papaya_points.specs.Given.SeizeWorld.{World}
+use Rattle.papaya_points.specs.Given.TablesChunks.{is_incremental}
+use Rattle.papaya_points.specs.Given.TablesTablePlaces.{at_word, at_place}
+use Rattle.papaya_points.specs.Given.TablesDeclared.node.Node.{Node}
+use Rattle.papaya_points.specs.Given.TablesDeclared.setting.Setting.{Setting}
+use Rattle.papaya_points.specs.Given.TablesDeclared.status.TheConstants.Status.{ABORTED, PROMOTED}
+use Rattle.papaya_points.specs.Given.TablesDeclared.table.Table.{Table}
+use Rattle.papaya_points.specs.Given.TablesDeclared.table_words.TheConstants.{STATUS}
+use Rattle.papaya_points.specs.Given.ResizeCopierStates.{standing}
+use Rattle.papaya_points.specs.Given.ResizeDeclared.copier.Copier.{Copier}
+use Rattle.papaya_points.specs.Given.ResizeDeclared.copier.Copying.TheVariants as copies
+use Rattle.papaya_points.specs.Given.RawCallPoints.{told_answer}
+use Rattle.papaya_points.specs.Given.RawDeclared.machines.answer.Called.{Called}
+use Rattle.papaya_points.specs.Given.RawDeclared.machines.answer.KeyAnswer.TheVariants as answers
+use Rattle.papaya_points.specs.Given.RawDeclared.machines.answer.Missing.TheVariants as missing
+use Rattle.papaya_points.specs.Given.RawDeclared.machines.answer.There.{There}
+use Rattle.papaya_points.specs.Given.RawDeclared.machines.asking.Takes.{Takes}
+use Rattle.papaya_points.specs.Given.RawDeclared.machines.call.KeyCall.{KeyCall}
+use Rattle.papaya_points.specs.Given.RuleChart.{Chart}
 use Rattle.papaya_late.specs.Kinds.{ComesFit}
-use Rattle.papaya_points.specs.Given.Rule.Moments.{Moments}
-use Rattle.papaya_points.specs.Given.Rule.Words.{Blocks, root_word}
-use Rattle.papaya_points.specs.Given.Rule.Maps.{IsTable}
-use Rattle.papaya_points.specs.Given.Rule.InWorld.{IsMapIn, Went}
+use Rattle.papaya_points.specs.Given.RuleMoments.{Moments}
+use Rattle.papaya_points.specs.Given.RuleWords.{Blocks, root_word}
+use Rattle.papaya_points.specs.Given.RuleMaps.{IsTable}
+use Rattle.papaya_points.specs.Given.RuleInWorld.{IsMapIn, Went}
 use Rattle.papaya_points.specs.Steps.{AreLawful}
 use Rattle.papaya_late.proofs.Known.Steps.{lasts_went, others_step}
-use Rattle.papaya_points.proofs.Given.Rule.Words.TablesSeen.{block_of_link}
+use Rattle.papaya_points.proofs.Given.RuleWords.TablesSeen.{block_of_link}
 
 -- An insertion that answers that the key was missing, and that nothing changed, is refused by what an insertion may answer.
 module _ {K V Q : Type 0} where

@@ -1,10 +1,10 @@
 -- What may be answered from a table that the root has left, in tables of one place and one pair: it was removed since.
 use Rattle.std.proofs.Common.{◌≡◌, ℕ, suc, true, false, refl, eqb, arith, subst}
-use Rattle.papaya_points.specs.Given.Raw.declared.machines.answer.KeyAnswer.TheVariants as answers
-use Rattle.papaya_points.specs.Given.Rule.Chart.{Chart, Still, Holds}
-use Rattle.papaya_points.specs.Given.Rule.Moves.{Removes, Promotes, after}
-use Rattle.papaya_points.specs.Given.Rule.Words.{Blocks, place_word}
-use Rattle.papaya_points.proofs.Given.Rule.Samples.SampleResizes.{spot, counted_blocking}
+use Rattle.papaya_points.specs.Given.RawDeclared.machines.answer.KeyAnswer.TheVariants as answers
+use Rattle.papaya_points.specs.Given.RuleChart.{Chart, Still, Holds}
+use Rattle.papaya_points.specs.Given.RuleMoves.{Removes, Promotes, after}
+use Rattle.papaya_points.specs.Given.RuleWords.{Blocks, place_word}
+use Rattle.papaya_points.proofs.Given.RuleSamples.SampleResizes.{spot, counted_blocking}
 use Rattle.papaya_late.specs.Left.{Left}
 use Rattle.papaya_late.specs.Was.{HadNone, SoSince}
 

@@ -1,30 +1,30 @@
 -- Where a machine may find that no table can be made: what is to be so there, for what it finds in its memory.
 use Rattle.std.specs.Prelude.{◌≡◌, ℕ, ◌^◌, ◌<◌, ◌≤◌, Some}
-use Rattle.papaya_points.specs.Given.SeizeWords.declared.at.At.TheVariants.{Root}
-use Rattle.papaya_points.specs.Given.SeizeWords.declared.fault.Fault.{Fault}
-use Rattle.papaya_points.specs.Given.SeizeWords.declared.fault.Fault.TheVariants.{Capacity}
-use Rattle.papaya_points.specs.Given.SeizeWords.Mem.{Mem, value_at, word_at, Took}
-use Rattle.papaya_points.specs.Given.SeizeWords.Plan.{Steps}
-use Rattle.papaya_points.specs.Given.Seize.declared.progress.Progress.TheVariants as progress
-use Rattle.papaya_points.specs.Given.Tables.Lengths.{GoesByTable, NoneFollows}
-use Rattle.papaya_points.specs.Given.Tables.TablePlaces.{at_word}
-use Rattle.papaya_points.specs.Given.Tables.declared.lengths.Reason.{Reason}
-use Rattle.papaya_points.specs.Given.Tables.declared.setting.Setting.{Setting}
-use Rattle.papaya_points.specs.Given.Tables.declared.table.Table.{Table}
-use Rattle.papaya_points.specs.Given.Tables.declared.table_words.TheConstants.{NEXT}
-use Rattle.papaya_points.specs.Given.Resize.Sum.{sum_plan}
-use Rattle.papaya_points.specs.Given.Resize.declared.copier.Copier.{Copier}
-use Rattle.papaya_points.specs.Given.Resize.declared.copier.Copying.{Copying}
-use Rattle.papaya_points.specs.Given.Resize.declared.copier.Copying.TheVariants as copies
-use Rattle.papaya_points.specs.Given.Resize.declared.sum.Sum.{Sum}
-use Rattle.papaya_points.specs.Given.Reserves.Reserve.{needed}
-use Rattle.papaya_points.specs.Given.Reserves.declared.reserve.Reserve.{Reserve}
-use Rattle.papaya_points.specs.Given.Reserves.declared.reserve.Reserving.{Reserving}
-use Rattle.papaya_points.specs.Given.Reserves.declared.reserve.Reserving.TheVariants as reserves
-use Rattle.papaya_points.specs.Given.Raw.declared.machines.call.Calling.{Calling}
-use Rattle.papaya_points.specs.Given.Raw.declared.machines.call.Calling.TheVariants as calls
-use Rattle.papaya_points.specs.Given.Sweeps.declared.sweep.Sweeping.{Sweeping}
-use Rattle.papaya_points.specs.Given.Sweeps.declared.sweep.Sweeping.TheVariants as sweeps
+use Rattle.papaya_points.specs.Given.SeizeWordsDeclared.at.At.TheVariants.{Root}
+use Rattle.papaya_points.specs.Given.SeizeWordsDeclared.fault.Fault.{Fault}
+use Rattle.papaya_points.specs.Given.SeizeWordsDeclared.fault.Fault.TheVariants.{Capacity}
+use Rattle.papaya_points.specs.Given.SeizeWordsMem.{Mem, value_at, word_at, Took}
+use Rattle.papaya_points.specs.Given.SeizeWordsPlan.{Steps}
+use Rattle.papaya_points.specs.Given.SeizeDeclared.progress.Progress.TheVariants as progress
+use Rattle.papaya_points.specs.Given.TablesLengths.{GoesByTable, NoneFollows}
+use Rattle.papaya_points.specs.Given.TablesTablePlaces.{at_word}
+use Rattle.papaya_points.specs.Given.TablesDeclared.lengths.Reason.{Reason}
+use Rattle.papaya_points.specs.Given.TablesDeclared.setting.Setting.{Setting}
+use Rattle.papaya_points.specs.Given.TablesDeclared.table.Table.{Table}
+use Rattle.papaya_points.specs.Given.TablesDeclared.table_words.TheConstants.{NEXT}
+use Rattle.papaya_points.specs.Given.ResizeSum.{sum_plan}
+use Rattle.papaya_points.specs.Given.ResizeDeclared.copier.Copier.{Copier}
+use Rattle.papaya_points.specs.Given.ResizeDeclared.copier.Copying.{Copying}
+use Rattle.papaya_points.specs.Given.ResizeDeclared.copier.Copying.TheVariants as copies
+use Rattle.papaya_points.specs.Given.ResizeDeclared.sum.Sum.{Sum}
+use Rattle.papaya_points.specs.Given.ReservesReserve.{needed}
+use Rattle.papaya_points.specs.Given.ReservesDeclared.reserve.Reserve.{Reserve}
+use Rattle.papaya_points.specs.Given.ReservesDeclared.reserve.Reserving.{Reserving}
+use Rattle.papaya_points.specs.Given.ReservesDeclared.reserve.Reserving.TheVariants as reserves
+use Rattle.papaya_points.specs.Given.RawDeclared.machines.call.Calling.{Calling}
+use Rattle.papaya_points.specs.Given.RawDeclared.machines.call.Calling.TheVariants as calls
+use Rattle.papaya_points.specs.Given.SweepsDeclared.sweep.Sweeping.{Sweeping}
+use Rattle.papaya_points.specs.Given.SweepsDeclared.sweep.Sweeping.TheVariants as sweeps
 
 module _ (Is : Fault → Type 0) (Last : Table → Reason → Type 0) where
   -- where none can be made after one of these tables, the fault is such a one

@@ -1,27 +1,27 @@
 -- What a call on one key knows in a table that the root has left, in blocking mode. It has changed nothing, and will not do so there.
 use Rattle.std.specs.Prelude.{◌≡◌, ◌≢◌, ℕ, suc, ◌*◌, ◌<◌, ◌^◌, Bool, true, false, Some}
-use Rattle.papaya_points.specs.Given.SeizeWords.declared.at.At.TheVariants.{Root, Word}
-use Rattle.papaya_points.specs.Given.Seize.World.{World}
-use Rattle.papaya_points.specs.Given.Tables.Chunks.{is_incremental}
-use Rattle.papaya_points.specs.Given.Tables.declared.node.Node.{Node}
-use Rattle.papaya_points.specs.Given.Tables.declared.setting.Setting.{Setting}
-use Rattle.papaya_points.specs.Given.Tables.declared.table_words.TheConstants.{NEXT}
-use Rattle.papaya_points.specs.Given.Resize.declared.new_table.NewTable.{NewTable}
-use Rattle.papaya_points.specs.Given.Resize.declared.new_table.Making.{Making as Point}
-use Rattle.papaya_points.specs.Given.Resize.declared.new_table.Making.TheVariants as makes
-use Rattle.papaya_points.specs.Given.Raw.declared.machines.answer.There.TheVariants as there
-use Rattle.papaya_points.specs.Given.Raw.declared.machines.answer.Missing.TheVariants as missing
-use Rattle.papaya_points.specs.Given.Raw.Replies.{value_for}
-use Rattle.papaya_points.specs.Given.Raw.declared.machines.asking.Asking.{Asking}
-use Rattle.papaya_points.specs.Given.Raw.declared.machines.asking.Asking.TheVariants as asking
-use Rattle.papaya_points.specs.Given.Raw.declared.machines.asking.Gap.{Gap}
-use Rattle.papaya_points.specs.Given.Raw.declared.machines.asking.Gap.TheVariants as gaps
-use Rattle.papaya_points.specs.Given.Raw.declared.machines.call.KeyCall.{KeyCall}
-use Rattle.papaya_points.specs.Given.Raw.declared.machines.call.Calling.{Calling}
-use Rattle.papaya_points.specs.Given.Raw.declared.machines.call.Calling.TheVariants as at
-use Rattle.papaya_points.specs.Given.Rule.Chart.{Chart}
-use Rattle.papaya_points.specs.Given.Rule.Words.{Blocks}
-use Rattle.papaya_points.specs.Given.Rule.Maps.{IsTable, IsClass}
+use Rattle.papaya_points.specs.Given.SeizeWordsDeclared.at.At.TheVariants.{Root, Word}
+use Rattle.papaya_points.specs.Given.SeizeWorld.{World}
+use Rattle.papaya_points.specs.Given.TablesChunks.{is_incremental}
+use Rattle.papaya_points.specs.Given.TablesDeclared.node.Node.{Node}
+use Rattle.papaya_points.specs.Given.TablesDeclared.setting.Setting.{Setting}
+use Rattle.papaya_points.specs.Given.TablesDeclared.table_words.TheConstants.{NEXT}
+use Rattle.papaya_points.specs.Given.ResizeDeclared.new_table.NewTable.{NewTable}
+use Rattle.papaya_points.specs.Given.ResizeDeclared.new_table.Making.{Making as Point}
+use Rattle.papaya_points.specs.Given.ResizeDeclared.new_table.Making.TheVariants as makes
+use Rattle.papaya_points.specs.Given.RawDeclared.machines.answer.There.TheVariants as there
+use Rattle.papaya_points.specs.Given.RawDeclared.machines.answer.Missing.TheVariants as missing
+use Rattle.papaya_points.specs.Given.RawReplies.{value_for}
+use Rattle.papaya_points.specs.Given.RawDeclared.machines.asking.Asking.{Asking}
+use Rattle.papaya_points.specs.Given.RawDeclared.machines.asking.Asking.TheVariants as asking
+use Rattle.papaya_points.specs.Given.RawDeclared.machines.asking.Gap.{Gap}
+use Rattle.papaya_points.specs.Given.RawDeclared.machines.asking.Gap.TheVariants as gaps
+use Rattle.papaya_points.specs.Given.RawDeclared.machines.call.KeyCall.{KeyCall}
+use Rattle.papaya_points.specs.Given.RawDeclared.machines.call.Calling.{Calling}
+use Rattle.papaya_points.specs.Given.RawDeclared.machines.call.Calling.TheVariants as at
+use Rattle.papaya_points.specs.Given.RuleChart.{Chart}
+use Rattle.papaya_points.specs.Given.RuleWords.{Blocks}
+use Rattle.papaya_points.specs.Given.RuleMaps.{IsTable, IsClass}
 use Rattle.papaya_points.specs.FactsCalls.{MayAsk, Unchanged, ByReply, holding, HasIts, NamesPair, MayReplace, MayTry, IsToFill}
 use Rattle.papaya_points.specs.FactsCopiesBlocking.{HasNoShares}
 use Rattle.papaya_points.specs.FactsTables.{IsOwnTable, IsPlanned, NewTableFacts, first_status}

@@ -1,20 +1,20 @@
 -- What a copier knows, in blocking mode, once the root has left the table that it copies.
 use Rattle.std.specs.Prelude.{◌≡◌, ℕ, suc, ◌*◌, ◌<◌, ◌≤◌, Bool, true, false, Some}
-use Rattle.papaya_points.specs.Given.SeizeWords.declared.at.At.TheVariants.{Word}
-use Rattle.papaya_points.specs.Given.Seize.World.{World, Cutting}
-use Rattle.papaya_points.specs.Given.Tables.Trials.{trial_at}
-use Rattle.papaya_points.specs.Given.Tables.declared.node.Node.{Node}
-use Rattle.papaya_points.specs.Given.Tables.declared.probe.Probe.{Probe}
-use Rattle.papaya_points.specs.Given.Tables.declared.setting.Setting.{Setting}
-use Rattle.papaya_points.specs.Given.Tables.declared.status.TheConstants.Status.{ABORTED}
-use Rattle.papaya_points.specs.Given.Tables.declared.table.Table.{Table}
-use Rattle.papaya_points.specs.Given.Tables.declared.table_words.TheConstants.{NEXT}
-use Rattle.papaya_points.specs.Given.Resize.declared.copier.Copier.{Copier}
-use Rattle.papaya_points.specs.Given.Resize.declared.copier.Copying.{Copying as Point}
-use Rattle.papaya_points.specs.Given.Resize.declared.copier.Copying.TheVariants as at
-use Rattle.papaya_points.specs.Given.Rule.Chart.{Still, Copying, Holds, Chart}
-use Rattle.papaya_points.specs.Given.Rule.Words.{Blocks, place_word}
-use Rattle.papaya_points.specs.Given.Rule.Maps.{IsTable, IsTrial}
+use Rattle.papaya_points.specs.Given.SeizeWordsDeclared.at.At.TheVariants.{Word}
+use Rattle.papaya_points.specs.Given.SeizeWorld.{World, Cutting}
+use Rattle.papaya_points.specs.Given.TablesTrials.{trial_at}
+use Rattle.papaya_points.specs.Given.TablesDeclared.node.Node.{Node}
+use Rattle.papaya_points.specs.Given.TablesDeclared.probe.Probe.{Probe}
+use Rattle.papaya_points.specs.Given.TablesDeclared.setting.Setting.{Setting}
+use Rattle.papaya_points.specs.Given.TablesDeclared.status.TheConstants.Status.{ABORTED}
+use Rattle.papaya_points.specs.Given.TablesDeclared.table.Table.{Table}
+use Rattle.papaya_points.specs.Given.TablesDeclared.table_words.TheConstants.{NEXT}
+use Rattle.papaya_points.specs.Given.ResizeDeclared.copier.Copier.{Copier}
+use Rattle.papaya_points.specs.Given.ResizeDeclared.copier.Copying.{Copying as Point}
+use Rattle.papaya_points.specs.Given.ResizeDeclared.copier.Copying.TheVariants as at
+use Rattle.papaya_points.specs.Given.RuleChart.{Still, Copying, Holds, Chart}
+use Rattle.papaya_points.specs.Given.RuleWords.{Blocks, place_word}
+use Rattle.papaya_points.specs.Given.RuleMaps.{IsTable, IsTrial}
 use Rattle.papaya_points.specs.FactsTables.{NewTableFacts}
 use Rattle.papaya_points.specs.FactsDisposes.{IsToRetire}
 use Rattle.papaya_points.specs.FactsCopiesBlocking.{HasNoShares}

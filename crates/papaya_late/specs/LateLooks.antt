@@ -1,14 +1,14 @@
 -- What a lookup knows in a table that the root has left, in blocking mode.
 use Rattle.std.specs.Prelude.{◌≡◌, ℕ, Bool, true, false}
-use Rattle.papaya_points.specs.Given.Tables.declared.resize_mode.ResizeMode.{ResizeMode}
-use Rattle.papaya_points.specs.Given.Tables.declared.trial.Trial.{Trial}
-use Rattle.papaya_points.specs.Given.Resize.declared.lookup.Lookup.{Lookup}
-use Rattle.papaya_points.specs.Given.Resize.declared.lookup.Looking.{Looking}
-use Rattle.papaya_points.specs.Given.Resize.declared.lookup.Looking.TheVariants as at
-use Rattle.papaya_points.specs.Given.Rule.Chart.{Chart}
-use Rattle.papaya_points.specs.Given.Rule.Rule.{Passed}
-use Rattle.papaya_points.specs.Given.Rule.Words.{Blocks}
-use Rattle.papaya_points.specs.Given.Rule.Maps.{spot_of, IsTrial}
+use Rattle.papaya_points.specs.Given.TablesDeclared.resize_mode.ResizeMode.{ResizeMode}
+use Rattle.papaya_points.specs.Given.TablesDeclared.trial.Trial.{Trial}
+use Rattle.papaya_points.specs.Given.ResizeDeclared.lookup.Lookup.{Lookup}
+use Rattle.papaya_points.specs.Given.ResizeDeclared.lookup.Looking.{Looking}
+use Rattle.papaya_points.specs.Given.ResizeDeclared.lookup.Looking.TheVariants as at
+use Rattle.papaya_points.specs.Given.RuleChart.{Chart}
+use Rattle.papaya_points.specs.Given.RuleRule.{Passed}
+use Rattle.papaya_points.specs.Given.RuleWords.{Blocks}
+use Rattle.papaya_points.specs.Given.RuleMaps.{spot_of, IsTrial}
 use Rattle.papaya_late.specs.Left.{Left}
 
 module _ {K : Type 0} (same : K → K → Bool) (hash : K → ℕ) (keys : K → Bool) (code : ℕ) (c : Chart K) (blocks : Blocks) (began : ℕ) where

@@ -1,18 +1,18 @@
 -- What a reservation knows in a table that the root has left since it began, in blocking mode.
 use Rattle.std.specs.Prelude.{◌≡◌, ℕ, suc, Bool, false}
-use Rattle.papaya_points.specs.Given.SeizeWords.declared.at.At.TheVariants.{Word}
-use Rattle.papaya_points.specs.Given.Seize.World.{World}
-use Rattle.papaya_points.specs.Given.Tables.Chunks.{is_incremental}
-use Rattle.papaya_points.specs.Given.Tables.declared.node.Node.{Node}
-use Rattle.papaya_points.specs.Given.Tables.declared.setting.Setting.{Setting}
-use Rattle.papaya_points.specs.Given.Tables.declared.table.Table.{Table}
-use Rattle.papaya_points.specs.Given.Tables.declared.table_words.TheConstants.{NEXT}
-use Rattle.papaya_points.specs.Given.Reserves.declared.reserve.Reserve.{Reserve}
-use Rattle.papaya_points.specs.Given.Reserves.declared.reserve.Reserving.{Reserving}
-use Rattle.papaya_points.specs.Given.Reserves.declared.reserve.Reserving.TheVariants as at
-use Rattle.papaya_points.specs.Given.Rule.Chart.{Chart}
-use Rattle.papaya_points.specs.Given.Rule.Words.{Blocks}
-use Rattle.papaya_points.specs.Given.Rule.Maps.{IsTable}
+use Rattle.papaya_points.specs.Given.SeizeWordsDeclared.at.At.TheVariants.{Word}
+use Rattle.papaya_points.specs.Given.SeizeWorld.{World}
+use Rattle.papaya_points.specs.Given.TablesChunks.{is_incremental}
+use Rattle.papaya_points.specs.Given.TablesDeclared.node.Node.{Node}
+use Rattle.papaya_points.specs.Given.TablesDeclared.setting.Setting.{Setting}
+use Rattle.papaya_points.specs.Given.TablesDeclared.table.Table.{Table}
+use Rattle.papaya_points.specs.Given.TablesDeclared.table_words.TheConstants.{NEXT}
+use Rattle.papaya_points.specs.Given.ReservesDeclared.reserve.Reserve.{Reserve}
+use Rattle.papaya_points.specs.Given.ReservesDeclared.reserve.Reserving.{Reserving}
+use Rattle.papaya_points.specs.Given.ReservesDeclared.reserve.Reserving.TheVariants as at
+use Rattle.papaya_points.specs.Given.RuleChart.{Chart}
+use Rattle.papaya_points.specs.Given.RuleWords.{Blocks}
+use Rattle.papaya_points.specs.Given.RuleMaps.{IsTable}
 use Rattle.papaya_points.specs.FactsCopiesBlocking.{HasNoShares}
 use Rattle.papaya_points.specs.FactsTables.{SumFacts, NewTableFacts}
 use Rattle.papaya_late.specs.Left.{Left}

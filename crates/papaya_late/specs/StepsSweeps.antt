@@ -1,21 +1,21 @@
 -- What is promised of each step of a sweep, between any two steps of others, of its first point, and of what it is told.
 use Rattle.std.specs.Prelude.{◌≡◌, ℕ, Bool, false}
 use Rattle.std.specs.Int.{IsPowerOfTwo}
-use Rattle.papaya_points.specs.Given.SeizeWords.Mem.{Mem, Can, Took, value_at}
-use Rattle.papaya_points.specs.Given.SeizeWords.Plan.{May, Steps}
-use Rattle.papaya_points.specs.Given.Seize.World.{World}
-use Rattle.papaya_points.specs.Given.Tables.Chunks.{is_incremental}
-use Rattle.papaya_points.specs.Given.Tables.declared.node.Node.{Node}
-use Rattle.papaya_points.specs.Given.Tables.declared.setting.Setting.{Setting}
-use Rattle.papaya_points.specs.Given.Sweeps.Sweep.{sweep_plan}
-use Rattle.papaya_points.specs.Given.Sweeps.SweepPoints.{sweeping, after_next, after_reply}
-use Rattle.papaya_points.specs.Given.Sweeps.declared.sweep.Purpose.{Purpose}
-use Rattle.papaya_points.specs.Given.Sweeps.declared.sweep.Sweep.{Sweep}
-use Rattle.papaya_points.specs.Given.Sweeps.declared.sweep.Swept.{Swept}
-use Rattle.papaya_points.specs.Given.Rule.Chart.{Chart}
-use Rattle.papaya_points.specs.Given.Rule.Words.{Blocks}
-use Rattle.papaya_points.specs.Given.Rule.Moments.{Moments}
-use Rattle.papaya_points.specs.Given.Rule.InWorld.{IsMapIn, Went}
+use Rattle.papaya_points.specs.Given.SeizeWordsMem.{Mem, Can, Took, value_at}
+use Rattle.papaya_points.specs.Given.SeizeWordsPlan.{May, Steps}
+use Rattle.papaya_points.specs.Given.SeizeWorld.{World}
+use Rattle.papaya_points.specs.Given.TablesChunks.{is_incremental}
+use Rattle.papaya_points.specs.Given.TablesDeclared.node.Node.{Node}
+use Rattle.papaya_points.specs.Given.TablesDeclared.setting.Setting.{Setting}
+use Rattle.papaya_points.specs.Given.SweepsSweep.{sweep_plan}
+use Rattle.papaya_points.specs.Given.SweepsSweepPoints.{sweeping, after_next, after_reply}
+use Rattle.papaya_points.specs.Given.SweepsDeclared.sweep.Purpose.{Purpose}
+use Rattle.papaya_points.specs.Given.SweepsDeclared.sweep.Sweep.{Sweep}
+use Rattle.papaya_points.specs.Given.SweepsDeclared.sweep.Swept.{Swept}
+use Rattle.papaya_points.specs.Given.RuleChart.{Chart}
+use Rattle.papaya_points.specs.Given.RuleWords.{Blocks}
+use Rattle.papaya_points.specs.Given.RuleMoments.{Moments}
+use Rattle.papaya_points.specs.Given.RuleInWorld.{IsMapIn, Went}
 use Rattle.papaya_points.specs.FactsIdle.{IsIdle}
 use Rattle.papaya_points.specs.Steps.{AreLawful}
 use Rattle.papaya_late.specs.Left.{ClaimsAreFew}

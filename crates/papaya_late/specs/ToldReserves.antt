@@ -1,19 +1,19 @@
 -- What a step of a reservation tells, beside where it led.
 use Rattle.std.specs.Prelude.{◌≡◌, ℕ, ◌≤◌, Bool, true, cond}
-use Rattle.papaya_points.specs.Given.Seize.World.{World}
-use Rattle.papaya_points.specs.Given.Tables.Chunks.{is_incremental}
-use Rattle.papaya_points.specs.Given.Tables.declared.node.Node.{Node}
-use Rattle.papaya_points.specs.Given.Resize.declared.outcome.Outcome.{Outcome}
-use Rattle.papaya_points.specs.Given.Resize.declared.outcome.Outcome.TheVariants as outcome
-use Rattle.papaya_points.specs.Given.Tables.declared.setting.Setting.{Setting}
-use Rattle.papaya_points.specs.Given.Tables.declared.table.Table.{Table}
-use Rattle.papaya_points.specs.Given.Resize.declared.copier.Copier.{Copier}
-use Rattle.papaya_points.specs.Given.Reserves.declared.reserve.Reserve.{Reserve}
-use Rattle.papaya_points.specs.Given.Reserves.declared.reserve.Reserving.{Reserving}
-use Rattle.papaya_points.specs.Given.Reserves.declared.reserve.Reserving.TheVariants as at
-use Rattle.papaya_points.specs.Given.Rule.Chart.{Chart}
-use Rattle.papaya_points.specs.Given.Rule.Words.{Blocks}
-use Rattle.papaya_points.specs.Given.Rule.Maps.{IsTable}
+use Rattle.papaya_points.specs.Given.SeizeWorld.{World}
+use Rattle.papaya_points.specs.Given.TablesChunks.{is_incremental}
+use Rattle.papaya_points.specs.Given.TablesDeclared.node.Node.{Node}
+use Rattle.papaya_points.specs.Given.ResizeDeclared.outcome.Outcome.{Outcome}
+use Rattle.papaya_points.specs.Given.ResizeDeclared.outcome.Outcome.TheVariants as outcome
+use Rattle.papaya_points.specs.Given.TablesDeclared.setting.Setting.{Setting}
+use Rattle.papaya_points.specs.Given.TablesDeclared.table.Table.{Table}
+use Rattle.papaya_points.specs.Given.ResizeDeclared.copier.Copier.{Copier}
+use Rattle.papaya_points.specs.Given.ReservesDeclared.reserve.Reserve.{Reserve}
+use Rattle.papaya_points.specs.Given.ReservesDeclared.reserve.Reserving.{Reserving}
+use Rattle.papaya_points.specs.Given.ReservesDeclared.reserve.Reserving.TheVariants as at
+use Rattle.papaya_points.specs.Given.RuleChart.{Chart}
+use Rattle.papaya_points.specs.Given.RuleWords.{Blocks}
+use Rattle.papaya_points.specs.Given.RuleMaps.{IsTable}
 use Rattle.papaya_points.specs.Told.{IsRowOfCopier, CopierTold, CopierToldBlocking, OnlyLinks}
 use Rattle.papaya_points.specs.FactsIdle.{IsIdle}
 use Rattle.papaya_late.specs.FactsReserves.{CopiesPairs, IsEnding, ReserveFacts}

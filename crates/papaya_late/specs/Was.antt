@@ -1,9 +1,9 @@
 -- What a map had of a call's keys, at a moment.
 use Rattle.std.specs.Prelude.{◌≡◌, ℕ, ◌<◌, ◌≤◌, Bool, true, false, Some}
-use Rattle.papaya_points.specs.Given.Raw.declared.machines.answer.KeyAnswer.{KeyAnswer}
-use Rattle.papaya_points.specs.Given.Raw.declared.machines.answer.KeyAnswer.TheVariants as answers
-use Rattle.papaya_points.specs.Given.Rule.Chart.{Phase, Holds, Chart}
-use Rattle.papaya_points.specs.Given.Rule.Words.{Blocks, place_word}
+use Rattle.papaya_points.specs.Given.RawDeclared.machines.answer.KeyAnswer.{KeyAnswer}
+use Rattle.papaya_points.specs.Given.RawDeclared.machines.answer.KeyAnswer.TheVariants as answers
+use Rattle.papaya_points.specs.Given.RuleChart.{Phase, Holds, Chart}
+use Rattle.papaya_points.specs.Given.RuleWords.{Blocks, place_word}
 
 module _ {K : Type 0} (hash : K → ℕ) (c : Chart K) (blocks : Blocks) (keys : K → Bool) where
   -- at this moment, the map had this pair, which has one of the keys

@@ -1,8 +1,8 @@
 -- A call on one key stands to take a reply only where its step has said that it asks.
 use Rattle.std.specs.Prelude.{◌≡◌, ℕ, ◌==◌, Bool, true, false, Option, Some, None, Ok, Err, if◌then◌else◌}
 use Rattle.std.proofs.Common.{refl, sym, subst}
-use Rattle.papaya_deeds.specs.Given.SeizeWords.Op.{Out, Found, Stored, Exchanged, Made, Taken, Roomed}
-use Rattle.papaya_deeds.specs.Given.SeizeWords.Word.{block_in}
+use Rattle.papaya_deeds.specs.Given.SeizeWordsOp.{Out, Found, Stored, Exchanged, Made, Taken, Roomed}
+use Rattle.papaya_deeds.specs.Given.SeizeWordsWord.{block_in}
 use Rattle.papaya_agrees.specs.Given.SeizeDeclared.progress.Progress.{Progress as Counting}
 use Rattle.papaya_agrees.specs.Given.SeizeDeclared.progress.Progress.TheVariants as counting
 use Rattle.papaya_agrees.specs.Given.SeizeDeclared.rows.settle.Settled.{Settled}
@@ -16,41 +16,41 @@ use Rattle.papaya_agrees.specs.Given.TablesDeclared.marks.TheConstants.{TOMBSTON
 use Rattle.papaya_agrees.specs.Given.TablesDeclared.node.Node.{Node}
 use Rattle.papaya_agrees.specs.Given.TablesDeclared.node.Node.TheVariants as node
 use Rattle.papaya_agrees.specs.Given.TablesDeclared.table.Table.{Table}
-use Rattle.papaya_deeds.specs.Given.Resize.Copier.{copier_plan}
-use Rattle.papaya_deeds.specs.Given.Resize.CopierStates.{copying_all}
-use Rattle.papaya_deeds.specs.Given.Resize.Dispose.{dispose_plan}
-use Rattle.papaya_deeds.specs.Given.Resize.Lookup.{lookup_plan}
-use Rattle.papaya_deeds.specs.Given.Resize.NewTable.{new_table_plan}
-use Rattle.papaya_deeds.specs.Given.Resize.declared.copier.Copier.{Copier}
-use Rattle.papaya_deeds.specs.Given.Resize.declared.dispose.Dispose.{Dispose}
-use Rattle.papaya_deeds.specs.Given.Resize.declared.lookup.Lookup.{Lookup}
-use Rattle.papaya_deeds.specs.Given.Resize.declared.new_table.NewTable.{NewTable}
-use Rattle.papaya_deeds.specs.Given.Resize.declared.outcome.Outcome.{Outcome}
-use Rattle.papaya_deeds.specs.Given.Resize.declared.outcome.Outcome.TheVariants as outcome
-use Rattle.papaya_deeds.specs.Given.Raw.Answers.{ended}
-use Rattle.papaya_deeds.specs.Given.Raw.Call.{made, makes_of, root_found, next_found, dropped, key_read, pair_read, word_read, word_found, tried, looked, looks_for, first_made, next_made, disposed, helped, copied, plan_at}
-use Rattle.papaya_deeds.specs.Given.Raw.CallFills.{filled, putting_by, fill_by, emptied, fills_with, given_up, asks_at}
-use Rattle.papaya_deeds.specs.Given.Raw.CallPoints.{going, standing, over, ending, following_made, storing, burying, at_gap, gap_by, asking_at, pair_by, tableless, at_free, at_last, at_pair, told_of, entering, went_on, changed, counted, having_met}
-use Rattle.papaya_deeds.specs.Given.Raw.Replies.{value_for, as_own}
-use Rattle.papaya_deeds.specs.Given.Raw.declared.machines.answer.KeyAnswer.{KeyAnswer}
-use Rattle.papaya_deeds.specs.Given.Raw.declared.machines.answer.KeyAnswer.TheVariants as answers
-use Rattle.papaya_deeds.specs.Given.Raw.declared.machines.answer.Called.{Called}
-use Rattle.papaya_deeds.specs.Given.Raw.declared.machines.answer.Called.TheVariants as called
-use Rattle.papaya_deeds.specs.Given.Raw.declared.machines.answer.End.{End}
-use Rattle.papaya_deeds.specs.Given.Raw.declared.machines.answer.End.TheVariants as ends
-use Rattle.papaya_deeds.specs.Given.Raw.declared.machines.answer.Missing.{Missing}
-use Rattle.papaya_deeds.specs.Given.Raw.declared.machines.answer.Missing.TheVariants as missing
-use Rattle.papaya_deeds.specs.Given.Raw.declared.machines.answer.There.{There}
-use Rattle.papaya_deeds.specs.Given.Raw.declared.machines.answer.There.TheVariants as there
-use Rattle.papaya_deeds.specs.Given.Raw.declared.machines.asking.Asking.{Asking as AskingAt}
-use Rattle.papaya_deeds.specs.Given.Raw.declared.machines.asking.Asking.TheVariants as asking
-use Rattle.papaya_deeds.specs.Given.Raw.declared.machines.asking.Gap.{Gap}
-use Rattle.papaya_deeds.specs.Given.Raw.declared.machines.asking.Gap.TheVariants as gaps
-use Rattle.papaya_deeds.specs.Given.Raw.declared.machines.asking.Told.{Told}
-use Rattle.papaya_deeds.specs.Given.Raw.declared.machines.asking.Told.TheVariants as tells
-use Rattle.papaya_deeds.specs.Given.Raw.declared.machines.call.Calling.{Calling}
-use Rattle.papaya_deeds.specs.Given.Raw.declared.machines.call.Calling.TheVariants as at
-use Rattle.papaya_deeds.specs.Given.Raw.declared.machines.call.KeyCall.{KeyCall}
+use Rattle.papaya_deeds.specs.Given.ResizeCopier.{copier_plan}
+use Rattle.papaya_deeds.specs.Given.ResizeCopierStates.{copying_all}
+use Rattle.papaya_deeds.specs.Given.ResizeDispose.{dispose_plan}
+use Rattle.papaya_deeds.specs.Given.ResizeLookup.{lookup_plan}
+use Rattle.papaya_deeds.specs.Given.ResizeNewTable.{new_table_plan}
+use Rattle.papaya_deeds.specs.Given.ResizeDeclared.copier.Copier.{Copier}
+use Rattle.papaya_deeds.specs.Given.ResizeDeclared.dispose.Dispose.{Dispose}
+use Rattle.papaya_deeds.specs.Given.ResizeDeclared.lookup.Lookup.{Lookup}
+use Rattle.papaya_deeds.specs.Given.ResizeDeclared.new_table.NewTable.{NewTable}
+use Rattle.papaya_deeds.specs.Given.ResizeDeclared.outcome.Outcome.{Outcome}
+use Rattle.papaya_deeds.specs.Given.ResizeDeclared.outcome.Outcome.TheVariants as outcome
+use Rattle.papaya_deeds.specs.Given.RawAnswers.{ended}
+use Rattle.papaya_deeds.specs.Given.RawCall.{made, makes_of, root_found, next_found, dropped, key_read, pair_read, word_read, word_found, tried, looked, looks_for, first_made, next_made, disposed, helped, copied, plan_at}
+use Rattle.papaya_deeds.specs.Given.RawCallFills.{filled, putting_by, fill_by, emptied, fills_with, given_up, asks_at}
+use Rattle.papaya_deeds.specs.Given.RawCallPoints.{going, standing, over, ending, following_made, storing, burying, at_gap, gap_by, asking_at, pair_by, tableless, at_free, at_last, at_pair, told_of, entering, went_on, changed, counted, having_met}
+use Rattle.papaya_deeds.specs.Given.RawReplies.{value_for, as_own}
+use Rattle.papaya_deeds.specs.Given.RawDeclared.machines.answer.KeyAnswer.{KeyAnswer}
+use Rattle.papaya_deeds.specs.Given.RawDeclared.machines.answer.KeyAnswer.TheVariants as answers
+use Rattle.papaya_deeds.specs.Given.RawDeclared.machines.answer.Called.{Called}
+use Rattle.papaya_deeds.specs.Given.RawDeclared.machines.answer.Called.TheVariants as called
+use Rattle.papaya_deeds.specs.Given.RawDeclared.machines.answer.End.{End}
+use Rattle.papaya_deeds.specs.Given.RawDeclared.machines.answer.End.TheVariants as ends
+use Rattle.papaya_deeds.specs.Given.RawDeclared.machines.answer.Missing.{Missing}
+use Rattle.papaya_deeds.specs.Given.RawDeclared.machines.answer.Missing.TheVariants as missing
+use Rattle.papaya_deeds.specs.Given.RawDeclared.machines.answer.There.{There}
+use Rattle.papaya_deeds.specs.Given.RawDeclared.machines.answer.There.TheVariants as there
+use Rattle.papaya_deeds.specs.Given.RawDeclared.machines.asking.Asking.{Asking as AskingAt}
+use Rattle.papaya_deeds.specs.Given.RawDeclared.machines.asking.Asking.TheVariants as asking
+use Rattle.papaya_deeds.specs.Given.RawDeclared.machines.asking.Gap.{Gap}
+use Rattle.papaya_deeds.specs.Given.RawDeclared.machines.asking.Gap.TheVariants as gaps
+use Rattle.papaya_deeds.specs.Given.RawDeclared.machines.asking.Told.{Told}
+use Rattle.papaya_deeds.specs.Given.RawDeclared.machines.asking.Told.TheVariants as tells
+use Rattle.papaya_deeds.specs.Given.RawDeclared.machines.call.Calling.{Calling}
+use Rattle.papaya_deeds.specs.Given.RawDeclared.machines.call.Calling.TheVariants as at
+use Rattle.papaya_deeds.specs.Given.RawDeclared.machines.call.KeyCall.{KeyCall}
 use Rattle.papaya_events.proofs.Given.PointsCalls.Asked.{passed_so}
 use Rattle.papaya_agrees.proofs.Given.RuleKeys.Always.{Always, AlwaysOf, always_if, always_plan_as}
 

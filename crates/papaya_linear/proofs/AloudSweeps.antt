@@ -1,8 +1,8 @@
 -- A sweep stands to take a reply only where its step has said that it asks.
 use Rattle.std.specs.Prelude.{◌≡◌, ℕ, ◌==◌, ◌&&◌, Bool, true, false, Ok, Err, if◌then◌else◌}
 use Rattle.std.proofs.Common.{refl, sym, subst}
-use Rattle.papaya_deeds.specs.Given.SeizeWords.Op.{Out, Found, Stored, Exchanged, Made, Taken, Roomed}
-use Rattle.papaya_deeds.specs.Given.SeizeWords.Word.{block_in}
+use Rattle.papaya_deeds.specs.Given.SeizeWordsOp.{Out, Found, Stored, Exchanged, Made, Taken, Roomed}
+use Rattle.papaya_deeds.specs.Given.SeizeWordsWord.{block_in}
 use Rattle.papaya_agrees.specs.Given.SeizeDeclared.rows.settle.Settled.{Settled}
 use Rattle.papaya_agrees.specs.Given.SeizeDeclared.rows.settle.Settled.TheVariants as settled
 use Rattle.papaya_agrees.specs.Given.TablesMarks.{has_mark}
@@ -10,21 +10,21 @@ use Rattle.papaya_agrees.specs.Given.TablesNodes.{table_seen}
 use Rattle.papaya_agrees.specs.Given.TablesDeclared.marks.TheConstants.{COPYING}
 use Rattle.papaya_agrees.specs.Given.TablesDeclared.node.Node.{Node}
 use Rattle.papaya_agrees.specs.Given.TablesDeclared.table.Table.{Table}
-use Rattle.papaya_deeds.specs.Given.Resize.Copier.{copier_plan}
-use Rattle.papaya_deeds.specs.Given.Resize.Dispose.{dispose_plan}
-use Rattle.papaya_deeds.specs.Given.Resize.declared.copier.Copier.{Copier}
-use Rattle.papaya_deeds.specs.Given.Resize.declared.dispose.Dispose.{Dispose}
-use Rattle.papaya_deeds.specs.Given.Resize.declared.outcome.Outcome.{Outcome}
-use Rattle.papaya_deeds.specs.Given.Resize.declared.outcome.Outcome.TheVariants as outcome
-use Rattle.papaya_deeds.specs.Given.Sweeps.Sweep.{word_found, tried, disposed, root_read, next_read, copied, plan_at}
-use Rattle.papaya_deeds.specs.Given.Sweeps.SweepPoints.{removes, beginning, tableless, entering, further, told, telling, at_pair, seen}
-use Rattle.papaya_deeds.specs.Given.Sweeps.declared.sweep.Purpose.{Purpose}
-use Rattle.papaya_deeds.specs.Given.Sweeps.declared.sweep.Purpose.TheVariants.{Walks, Clears, Retains}
-use Rattle.papaya_deeds.specs.Given.Sweeps.declared.sweep.Sweep.{Sweep}
-use Rattle.papaya_deeds.specs.Given.Sweeps.declared.sweep.Sweeping.{Sweeping}
-use Rattle.papaya_deeds.specs.Given.Sweeps.declared.sweep.Sweeping.TheVariants as at
-use Rattle.papaya_deeds.specs.Given.Sweeps.declared.sweep.Swept.{Swept}
-use Rattle.papaya_deeds.specs.Given.Sweeps.declared.sweep.Swept.TheVariants as ends
+use Rattle.papaya_deeds.specs.Given.ResizeCopier.{copier_plan}
+use Rattle.papaya_deeds.specs.Given.ResizeDispose.{dispose_plan}
+use Rattle.papaya_deeds.specs.Given.ResizeDeclared.copier.Copier.{Copier}
+use Rattle.papaya_deeds.specs.Given.ResizeDeclared.dispose.Dispose.{Dispose}
+use Rattle.papaya_deeds.specs.Given.ResizeDeclared.outcome.Outcome.{Outcome}
+use Rattle.papaya_deeds.specs.Given.ResizeDeclared.outcome.Outcome.TheVariants as outcome
+use Rattle.papaya_deeds.specs.Given.SweepsSweep.{word_found, tried, disposed, root_read, next_read, copied, plan_at}
+use Rattle.papaya_deeds.specs.Given.SweepsSweepPoints.{removes, beginning, tableless, entering, further, told, telling, at_pair, seen}
+use Rattle.papaya_deeds.specs.Given.SweepsDeclared.sweep.Purpose.{Purpose}
+use Rattle.papaya_deeds.specs.Given.SweepsDeclared.sweep.Purpose.TheVariants.{Walks, Clears, Retains}
+use Rattle.papaya_deeds.specs.Given.SweepsDeclared.sweep.Sweep.{Sweep}
+use Rattle.papaya_deeds.specs.Given.SweepsDeclared.sweep.Sweeping.{Sweeping}
+use Rattle.papaya_deeds.specs.Given.SweepsDeclared.sweep.Sweeping.TheVariants as at
+use Rattle.papaya_deeds.specs.Given.SweepsDeclared.sweep.Swept.{Swept}
+use Rattle.papaya_deeds.specs.Given.SweepsDeclared.sweep.Swept.TheVariants as ends
 use Rattle.papaya_agrees.proofs.Given.RuleKeys.Always.{Always, AlwaysOf, always_if, always_plan_as}
 
 -- it takes no reply there

@@ -5,9 +5,9 @@ use Rattle.std.proofs.Common.{refl, ap, sym, subst, ◌∙◌}
 use Rattle.papaya_agrees.specs.Given.SeizeDeclared.rows.reclaim_all.ReclaimAll.{ReclaimAll}
 use Rattle.papaya_agrees.specs.Given.SeizeDeclared.rows.settle.Settled.{Settled}
 use Rattle.papaya_agrees.specs.Given.TablesDeclared.node.Node.{Node}
-use Rattle.papaya_deeds.specs.Given.Raw.Machine.{machine_asked, machine_plan, machine_replied}
-use Rattle.papaya_deeds.specs.Given.Raw.declared.machines.asking.Reply.{Reply as Told}
-use Rattle.papaya_deeds.specs.Given.Raw.declared.machines.progress.Progress.{Progress}
+use Rattle.papaya_deeds.specs.Given.RawMachine.{machine_asked, machine_plan, machine_replied}
+use Rattle.papaya_deeds.specs.Given.RawDeclared.machines.asking.Reply.{Reply as Told}
+use Rattle.papaya_deeds.specs.Given.RawDeclared.machines.progress.Progress.{Progress}
 use Rattle.papaya_agrees.specs.Given.CallersTogether.{UnderWay}
 use Rattle.papaya_agrees.specs.Given.FinishesEndings.{Finishing}
 use Rattle.papaya_agrees.specs.Given.FinishesMachines.{machine_of}
@@ -21,12 +21,12 @@ use Rattle.papaya_agrees.specs.Given.ScenesScene.{IsOnSlot, Scene, slot_of}
 use Rattle.papaya_agrees.specs.Given.ScenesStepping.{StepLeads}
 use Rattle.papaya_agrees.specs.Given.ScenesDeclared.row.RowTold.{RowTold}
 use Rattle.papaya_agrees.specs.Given.ScenesDeclared.row.SlotRow.{SlotRow}
-use Rattle.papaya_deeds.specs.Given.Schedules.declared.effect.Effect.{Effect}
-use Rattle.papaya_deeds.specs.Given.Schedules.declared.outcome.Outcome.{Outcome}
-use Rattle.papaya_deeds.specs.Given.Schedules.declared.outcome.Outcome.TheVariants as outcome
-use Rattle.papaya_deeds.specs.Given.Schedules.Effects.{with_effects}
-use Rattle.papaya_deeds.specs.Given.Schedules.Moment.{MapThere, Moment}
-use Rattle.papaya_deeds.specs.Given.Schedules.Views.{tables_of}
+use Rattle.papaya_deeds.specs.Given.SchedulesDeclared.effect.Effect.{Effect}
+use Rattle.papaya_deeds.specs.Given.SchedulesDeclared.outcome.Outcome.{Outcome}
+use Rattle.papaya_deeds.specs.Given.SchedulesDeclared.outcome.Outcome.TheVariants as outcome
+use Rattle.papaya_deeds.specs.Given.SchedulesEffects.{with_effects}
+use Rattle.papaya_deeds.specs.Given.SchedulesMoment.{MapThere, Moment}
+use Rattle.papaya_deeds.specs.Given.SchedulesViews.{tables_of}
 use Rattle.papaya_agrees.specs.Given.EffectsEffects.{effects_of, known_after}
 use Rattle.papaya_agrees.specs.Given.EffectsKnown.{Known}
 use Rattle.papaya_agrees.specs.Given.EffectsDeclared.acting.Acting.{Acting}

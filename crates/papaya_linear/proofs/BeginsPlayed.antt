@@ -4,13 +4,13 @@ use Rattle.std.proofs.Common.{refl, ap, sym, subst, ◌∙◌, inl, inr}
 use Rattle.papaya_events.proofs.Given.SeizeActsAnswers.{same_some}
 use Rattle.papaya_agrees.specs.Given.SeizeWorld.{Rests, with_at}
 use Rattle.papaya_agrees.specs.Given.TablesDeclared.setting.Setting.{Setting}
-use Rattle.papaya_deeds.specs.Given.Raw.Machine.{machine_asked}
-use Rattle.papaya_deeds.specs.Given.Raw.declared.machines.machine.Machine.{Machine}
-use Rattle.papaya_deeds.specs.Given.Raw.declared.machines.machine.Machine.TheVariants as kinds
-use Rattle.papaya_deeds.specs.Given.Sweeps.SweepPoints.{after_next, next_at}
-use Rattle.papaya_deeds.specs.Given.Sweeps.declared.sweep.Sweep.{Sweep}
-use Rattle.papaya_deeds.specs.Given.Sweeps.declared.sweep.Sweeping.{Sweeping}
-use Rattle.papaya_deeds.specs.Given.Sweeps.declared.sweep.Sweeping.TheVariants as sweeping
+use Rattle.papaya_deeds.specs.Given.RawMachine.{machine_asked}
+use Rattle.papaya_deeds.specs.Given.RawDeclared.machines.machine.Machine.{Machine}
+use Rattle.papaya_deeds.specs.Given.RawDeclared.machines.machine.Machine.TheVariants as kinds
+use Rattle.papaya_deeds.specs.Given.SweepsSweepPoints.{after_next, next_at}
+use Rattle.papaya_deeds.specs.Given.SweepsDeclared.sweep.Sweep.{Sweep}
+use Rattle.papaya_deeds.specs.Given.SweepsDeclared.sweep.Sweeping.{Sweeping}
+use Rattle.papaya_deeds.specs.Given.SweepsDeclared.sweep.Sweeping.TheVariants as sweeping
 use Rattle.papaya_agrees.specs.Given.CallersOverAll.{CallOverAll, gone_on}
 use Rattle.papaya_agrees.specs.Given.CallersTogether.{UnderWay, OnKey, ForRoom, Counting, OverAll, in_slot}
 use Rattle.papaya_agrees.specs.Given.FinishesMachines.{machine_of}
@@ -19,13 +19,13 @@ use Rattle.papaya_agrees.specs.Given.FollowsCalling.{NoneNamed}
 use Rattle.papaya_agrees.proofs.Given.FollowsCalling.{is_same_is, is_same_refl}
 use Rattle.papaya_agrees.proofs.Given.HandsAsking.{which}
 use Rattle.papaya_agrees.specs.Given.RunsSame.{is_same}
-use Rattle.papaya_deeds.specs.Given.Schedules.declared.call.Call.{Call}
-use Rattle.papaya_deeds.specs.Given.Schedules.declared.call.Call.TheVariants.{On}
-use Rattle.papaya_deeds.specs.Given.Schedules.declared.call.OneKey.TheVariants.{Compute, TryInsert}
-use Rattle.papaya_deeds.specs.Given.Schedules.declared.call.Reply.{Reply}
-use Rattle.papaya_deeds.specs.Given.Schedules.declared.outcome.Outcome.TheVariants as outcome
-use Rattle.papaya_deeds.specs.Given.Schedules.Beginning.{fresh_call}
-use Rattle.papaya_deeds.specs.Given.Schedules.Moment.{Asking}
+use Rattle.papaya_deeds.specs.Given.SchedulesDeclared.call.Call.{Call}
+use Rattle.papaya_deeds.specs.Given.SchedulesDeclared.call.Call.TheVariants.{On}
+use Rattle.papaya_deeds.specs.Given.SchedulesDeclared.call.OneKey.TheVariants.{Compute, TryInsert}
+use Rattle.papaya_deeds.specs.Given.SchedulesDeclared.call.Reply.{Reply}
+use Rattle.papaya_deeds.specs.Given.SchedulesDeclared.outcome.Outcome.TheVariants as outcome
+use Rattle.papaya_deeds.specs.Given.SchedulesBeginning.{fresh_call}
+use Rattle.papaya_deeds.specs.Given.SchedulesMoment.{Asking}
 use Rattle.papaya_agrees.specs.Given.ScenesBeginning.{Begins as BeginsSo}
 use Rattle.papaya_agrees.specs.Given.ScenesHeld.{Held, IsAt}
 use Rattle.papaya_agrees.specs.Given.ScenesReplying.{AskLeads, StopLeads, scene_with, unless_stopped}

@@ -1,13 +1,13 @@
 -- A call as an act begins it is what was called: on its key, given its pair, and over the map for its purpose.
 use Rattle.std.specs.Prelude.{◌≡◌, ℕ, Bool, Some, None}
 use Rattle.std.proofs.Common.{refl, sym, subst}
-use Rattle.papaya_deeds.specs.Given.Sweeps.declared.sweep.Purpose.TheVariants as purpose
+use Rattle.papaya_deeds.specs.Given.SweepsDeclared.sweep.Purpose.TheVariants as purpose
 use Rattle.papaya_agrees.specs.Given.CallersTogether.{UnderWay}
 use Rattle.papaya_agrees.specs.Given.FinishesMaps.{Standing}
 use Rattle.papaya_agrees.specs.Given.FollowsCalls.{IsCalled}
 use Rattle.papaya_agrees.specs.Given.HandsCalling.{IsBegunFor}
-use Rattle.papaya_deeds.specs.Given.Schedules.declared.call.Call.{Call}
-use Rattle.papaya_deeds.specs.Given.Schedules.declared.call.Call.TheVariants.{On, Reserve, Clear, Retain, Len, Walk}
+use Rattle.papaya_deeds.specs.Given.SchedulesDeclared.call.Call.{Call}
+use Rattle.papaya_deeds.specs.Given.SchedulesDeclared.call.Call.TheVariants.{On, Reserve, Clear, Retain, Len, Walk}
 use Rattle.papaya_agrees.specs.Given.ScenesScene.{slot_of}
 use Rattle.papaya_events.specs.Given.HistoriesAsCalled.{IsBegunAs}
 use Rattle.papaya_agrees.proofs.Given.NamedCalled.{begun_call, is_begun_for, is_called}

@@ -4,10 +4,10 @@ use Rattle.std.proofs.Common.{refl, ap, sym, subst, ◌∙◌}
 use Rattle.papaya_events.specs.Given.SeizeActsActs.{rests}
 use Rattle.papaya_events.specs.Given.SeizeActsAnswers.{Grant}
 use Rattle.papaya_events.proofs.Given.SeizeActsAnswers.{same_some}
-use Rattle.papaya_deeds.specs.Given.Raw.Machine.{machine_asked, machine_replied}
-use Rattle.papaya_deeds.specs.Given.Raw.declared.machines.asking.Reply.{Reply as Told}
-use Rattle.papaya_deeds.specs.Given.Raw.declared.machines.machine.Machine.{Machine}
-use Rattle.papaya_deeds.specs.Given.Raw.declared.machines.progress.Progress.{Progress}
+use Rattle.papaya_deeds.specs.Given.RawMachine.{machine_asked, machine_replied}
+use Rattle.papaya_deeds.specs.Given.RawDeclared.machines.asking.Reply.{Reply as Told}
+use Rattle.papaya_deeds.specs.Given.RawDeclared.machines.machine.Machine.{Machine}
+use Rattle.papaya_deeds.specs.Given.RawDeclared.machines.progress.Progress.{Progress}
 use Rattle.papaya_agrees.specs.Given.SeizeWorld.{Rests, Row}
 use Rattle.papaya_agrees.specs.Given.TablesDeclared.node.Node.{Node}
 use Rattle.papaya_agrees.specs.Given.CallersTogether.{UnderWay}
@@ -18,7 +18,7 @@ use Rattle.papaya_agrees.proofs.Given.ScenesNoCall.{none_is}
 use Rattle.papaya_agrees.specs.Given.ScenesHeld.{Held, IsAt}
 use Rattle.papaya_agrees.specs.Given.ScenesReplying.{StopLeads, scene_with, unless_stopped}
 use Rattle.papaya_agrees.specs.Given.ScenesScene.{Scene, slot_of}
-use Rattle.papaya_deeds.specs.Given.Schedules.declared.outcome.Outcome.TheVariants as outcome
+use Rattle.papaya_deeds.specs.Given.SchedulesDeclared.outcome.Outcome.TheVariants as outcome
 use Rattle.papaya_agrees.specs.Given.NamedMachines.{aborted_by}
 use Rattle.papaya_agrees.specs.Given.ActsActs.{Act, Answer, OfAsking, OfCall, OfReply, Wanted, begun}
 use Rattle.papaya_agrees.specs.Given.ActsActs.{BeginsCall, StepsCall, TellsCall, AsksCall, StopsCall}

@@ -2,19 +2,19 @@
 use Rattle.std.specs.Prelude.{◌≡◌, ℕ, Bool, true, false, List, [], ◌∷◌, flat_map, Option, Some, None, Ok}
 use Rattle.std.proofs.Common.{refl, arith}
 use Rattle.papaya_agrees.specs.Given.SeizeWorld.{Rests}
-use Rattle.papaya_deeds.specs.Given.Raw.Machine.{machine_replied}
+use Rattle.papaya_deeds.specs.Given.RawMachine.{machine_replied}
 use Rattle.papaya_agrees.specs.Given.CallersTogether.{UnderWay}
 use Rattle.papaya_agrees.specs.Given.FinishesMachines.{ToldOfKind, machine_of}
 use Rattle.papaya_agrees.specs.Given.FinishesMaps.{Standing, with_call as with_call_of}
-use Rattle.papaya_deeds.specs.Given.Schedules.declared.call.Call.{Call}
-use Rattle.papaya_deeds.specs.Given.Schedules.declared.call.Call.TheVariants.{On}
-use Rattle.papaya_deeds.specs.Given.Schedules.declared.call.OneKey.{OneKey}
-use Rattle.papaya_deeds.specs.Given.Schedules.declared.call.Reply.{Reply}
-use Rattle.papaya_deeds.specs.Given.Schedules.declared.outcome.Outcome.TheVariants as outcome
-use Rattle.papaya_deeds.specs.Given.Schedules.Beginning.{with_call}
-use Rattle.papaya_deeds.specs.Given.Schedules.Linearizable.{shift_of}
-use Rattle.papaya_deeds.specs.Given.Schedules.Moment.{Asking, Moment, UnderWay as CallThere}
-use Rattle.papaya_deeds.specs.Given.Schedules.Views.{call_of}
+use Rattle.papaya_deeds.specs.Given.SchedulesDeclared.call.Call.{Call}
+use Rattle.papaya_deeds.specs.Given.SchedulesDeclared.call.Call.TheVariants.{On}
+use Rattle.papaya_deeds.specs.Given.SchedulesDeclared.call.OneKey.{OneKey}
+use Rattle.papaya_deeds.specs.Given.SchedulesDeclared.call.Reply.{Reply}
+use Rattle.papaya_deeds.specs.Given.SchedulesDeclared.outcome.Outcome.TheVariants as outcome
+use Rattle.papaya_deeds.specs.Given.SchedulesBeginning.{with_call}
+use Rattle.papaya_deeds.specs.Given.SchedulesLinearizable.{shift_of}
+use Rattle.papaya_deeds.specs.Given.SchedulesMoment.{Asking, Moment, UnderWay as CallThere}
+use Rattle.papaya_deeds.specs.Given.SchedulesViews.{call_of}
 use Rattle.papaya_agrees.specs.Given.EffectsKnown.{Known}
 use Rattle.papaya_agrees.specs.Given.ScenesBeginning.{Begins as BeginsSo}
 use Rattle.papaya_agrees.specs.Given.ScenesHeld.{Held, IsAt}

@@ -2,19 +2,19 @@
 use Rattle.std.specs.Prelude.{◌≡◌, ℕ, suc, Bool, true, false, List, [], ◌∷◌, length, Option, Some, None}
 use Rattle.std.proofs.Common.{refl, ap, sym, subst, ◌∙◌, inl, inr, arith}
 use Rattle.papaya_agrees.specs.Given.TablesDeclared.node.Node.{Node}
-use Rattle.papaya_deeds.specs.Given.Raw.declared.machines.machine.Machine.{Machine}
-use Rattle.papaya_deeds.specs.Given.Raw.declared.machines.progress.Progress.{Progress}
-use Rattle.papaya_deeds.specs.Given.Raw.declared.machines.progress.Progress.TheVariants as progress
+use Rattle.papaya_deeds.specs.Given.RawDeclared.machines.machine.Machine.{Machine}
+use Rattle.papaya_deeds.specs.Given.RawDeclared.machines.progress.Progress.{Progress}
+use Rattle.papaya_deeds.specs.Given.RawDeclared.machines.progress.Progress.TheVariants as progress
 use Rattle.papaya_agrees.specs.Given.FinishesMachines.{GoesOnAs}
 use Rattle.papaya_agrees.specs.Given.CallersTogether.{UnderWay}
 use Rattle.papaya_agrees.specs.Given.RunsSame.{is_same}
-use Rattle.papaya_deeds.specs.Given.Schedules.declared.effect.Effect.{Effect}
-use Rattle.papaya_deeds.specs.Given.Schedules.declared.outcome.Outcome.{Outcome}
-use Rattle.papaya_deeds.specs.Given.Schedules.Effects.{with_effects}
-use Rattle.papaya_deeds.specs.Given.Schedules.Entry.{IfCall, ends_call}
-use Rattle.papaya_deeds.specs.Given.Schedules.Linearizable.{Linearizes}
-use Rattle.papaya_deeds.specs.Given.Schedules.Moment.{Moment, UnderWay as CallThere}
-use Rattle.papaya_deeds.specs.Given.Schedules.Views.{call_of}
+use Rattle.papaya_deeds.specs.Given.SchedulesDeclared.effect.Effect.{Effect}
+use Rattle.papaya_deeds.specs.Given.SchedulesDeclared.outcome.Outcome.{Outcome}
+use Rattle.papaya_deeds.specs.Given.SchedulesEffects.{with_effects}
+use Rattle.papaya_deeds.specs.Given.SchedulesEntry.{IfCall, ends_call}
+use Rattle.papaya_deeds.specs.Given.SchedulesLinearizable.{Linearizes}
+use Rattle.papaya_deeds.specs.Given.SchedulesMoment.{Moment, UnderWay as CallThere}
+use Rattle.papaya_deeds.specs.Given.SchedulesViews.{call_of}
 use Rattle.papaya_agrees.specs.Given.EffectsEffects.{effects_of, known_after}
 use Rattle.papaya_agrees.specs.Given.EffectsKnown.{Known}
 use Rattle.papaya_agrees.specs.Given.EffectsDeclared.acting.Acting.TheVariants as acts

@@ -1,12 +1,12 @@
 -- What a moment shows of calls it shows where one begins, takes a step, comes to something, takes a reply, goes on as a walk, or is given up.
 use Rattle.std.specs.Prelude.{◌≡◌, ℕ, Bool, true, false, List, Option, Some, Ok}
 use Rattle.std.proofs.Common.{refl, ap, sym, ◌∙◌}
-use Rattle.papaya_deeds.specs.Given.SeizeWords.declared.fault.Fault.TheVariants.{Memory}
+use Rattle.papaya_deeds.specs.Given.SeizeWordsDeclared.fault.Fault.TheVariants.{Memory}
 use Rattle.papaya_agrees.specs.Given.SeizeWorld.{Rests}
-use Rattle.papaya_deeds.specs.Given.Sweeps.SweepPoints.{after_next}
+use Rattle.papaya_deeds.specs.Given.SweepsSweepPoints.{after_next}
 use Rattle.papaya_agrees.specs.Given.TablesDeclared.node.Node.{Node}
-use Rattle.papaya_deeds.specs.Given.Raw.Machine.{machine_replied}
-use Rattle.papaya_deeds.specs.Given.Raw.declared.machines.progress.Progress.{Progress}
+use Rattle.papaya_deeds.specs.Given.RawMachine.{machine_replied}
+use Rattle.papaya_deeds.specs.Given.RawDeclared.machines.progress.Progress.{Progress}
 use Rattle.papaya_events.specs.Given.PointsFactsCalls.{Unchanged}
 use Rattle.papaya_agrees.specs.Given.CallersOverAll.{CallOverAll, gone_on}
 use Rattle.papaya_agrees.specs.Given.CallersRooms.{CallForRoom}
@@ -14,18 +14,18 @@ use Rattle.papaya_agrees.specs.Given.CallersTogether.{CallOnKey, Counting, ForRo
 use Rattle.papaya_agrees.specs.Given.FinishesMachines.{ToldOfKind, machine_of}
 use Rattle.papaya_agrees.specs.Given.FinishesMaps.{Standing, with_call as with_call_of}
 use Rattle.papaya_agrees.specs.Given.RunsSame.{is_same}
-use Rattle.papaya_deeds.specs.Given.Schedules.declared.call.Call.{Call}
-use Rattle.papaya_deeds.specs.Given.Schedules.declared.call.Call.TheVariants.{On}
-use Rattle.papaya_deeds.specs.Given.Schedules.declared.call.OneKey.{OneKey}
-use Rattle.papaya_deeds.specs.Given.Schedules.declared.call.Reply.{Reply}
-use Rattle.papaya_deeds.specs.Given.Schedules.declared.outcome.Outcome.{Outcome}
-use Rattle.papaya_deeds.specs.Given.Schedules.declared.outcome.Outcome.TheVariants.{Refused}
-use Rattle.papaya_deeds.specs.Given.Schedules.Beginning.{with_call}
-use Rattle.papaya_deeds.specs.Given.Schedules.Effects.{with_effects}
-use Rattle.papaya_deeds.specs.Given.Schedules.Entry.{ends_call}
-use Rattle.papaya_deeds.specs.Given.Schedules.Moment.{Asking, Moment, Stands, UnderWay as CallThere}
-use Rattle.papaya_deeds.specs.Given.Schedules.Transition.{Past}
-use Rattle.papaya_deeds.specs.Given.Schedules.Views.{call_of}
+use Rattle.papaya_deeds.specs.Given.SchedulesDeclared.call.Call.{Call}
+use Rattle.papaya_deeds.specs.Given.SchedulesDeclared.call.Call.TheVariants.{On}
+use Rattle.papaya_deeds.specs.Given.SchedulesDeclared.call.OneKey.{OneKey}
+use Rattle.papaya_deeds.specs.Given.SchedulesDeclared.call.Reply.{Reply}
+use Rattle.papaya_deeds.specs.Given.SchedulesDeclared.outcome.Outcome.{Outcome}
+use Rattle.papaya_deeds.specs.Given.SchedulesDeclared.outcome.Outcome.TheVariants.{Refused}
+use Rattle.papaya_deeds.specs.Given.SchedulesBeginning.{with_call}
+use Rattle.papaya_deeds.specs.Given.SchedulesEffects.{with_effects}
+use Rattle.papaya_deeds.specs.Given.SchedulesEntry.{ends_call}
+use Rattle.papaya_deeds.specs.Given.SchedulesMoment.{Asking, Moment, Stands, UnderWay as CallThere}
+use Rattle.papaya_deeds.specs.Given.SchedulesTransition.{Past}
+use Rattle.papaya_deeds.specs.Given.SchedulesViews.{call_of}
 use Rattle.papaya_agrees.specs.Given.EffectsEffects.{effects_of, known_after}
 use Rattle.papaya_agrees.specs.Given.EffectsKnown.{Known}
 use Rattle.papaya_agrees.specs.Given.EffectsDeclared.acting.Acting.TheVariants as acts

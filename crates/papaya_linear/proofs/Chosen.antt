@@ -1,8 +1,8 @@
 -- A choice of a number comes: the moment shows the scene as before, and maps come and go as before.
 use Rattle.std.specs.Prelude.{ℕ, Bool, Option}
 use Rattle.papaya_agrees.specs.Given.FollowsShows.{Shows}
-use Rattle.papaya_deeds.specs.Given.Schedules.Moment.{Moment}
-use Rattle.papaya_deeds.specs.Given.Schedules.Transition.{Past}
+use Rattle.papaya_deeds.specs.Given.SchedulesMoment.{Moment}
+use Rattle.papaya_deeds.specs.Given.SchedulesTransition.{Past}
 use Rattle.papaya_agrees.specs.Given.EffectsKnown.{Known}
 use Rattle.papaya_events.proofs.Given.LoggedChoosing.{kept_then, whole_then}
 use Rattle.papaya_agrees.specs.Given.ActsDoings.{scene_chosen}

@@ -12,9 +12,9 @@ use Rattle.papaya_agrees.specs.Given.SeizeDeclared.rows.settle.Settled.TheVarian
 use Rattle.papaya_agrees.specs.Given.TablesDeclared.node.Node.{Node}
 use Rattle.papaya_agrees.specs.Given.TablesDeclared.setting.Setting.{Setting}
 use Rattle.papaya_agrees.specs.Given.TellerDeclared.changed.Changed.{Changed}
-use Rattle.papaya_deeds.specs.Given.Resize.NewMap.{new_map_plan}
-use Rattle.papaya_deeds.specs.Given.Resize.declared.new_map.NewMap.{NewMap}
-use Rattle.papaya_deeds.specs.Given.Raw.EndMap.{ending}
+use Rattle.papaya_deeds.specs.Given.ResizeNewMap.{new_map_plan}
+use Rattle.papaya_deeds.specs.Given.ResizeDeclared.new_map.NewMap.{NewMap}
+use Rattle.papaya_deeds.specs.Given.RawEndMap.{ending}
 use Rattle.papaya_agrees.specs.Given.FinishesEndings.{Finishing, finishing_of}
 use Rattle.papaya_agrees.specs.Given.FinishesMakings.{Beginning}
 use Rattle.papaya_agrees.specs.Given.FinishesMaps.{Standing}
@@ -23,7 +23,7 @@ use Rattle.papaya_agrees.proofs.Given.ScenesMay.{may_make}
 use Rattle.papaya_agrees.specs.Given.ScenesHeld.{Held, IsAt}
 use Rattle.papaya_agrees.specs.Given.ScenesMaking.{MakingLeads, making_begun}
 use Rattle.papaya_agrees.specs.Given.ScenesScene.{HasNoCall, IsOnSlot, Scene, row_of, slot_of}
-use Rattle.papaya_deeds.specs.Given.Schedules.Moment.{Moment}
+use Rattle.papaya_deeds.specs.Given.SchedulesMoment.{Moment}
 use Rattle.papaya_agrees.specs.Given.EffectsEffects.{effects_of, known_after}
 use Rattle.papaya_agrees.specs.Given.EffectsKnown.{Known}
 use Rattle.papaya_agrees.specs.Given.EffectsDeclared.acting.Acting.TheVariants as acts

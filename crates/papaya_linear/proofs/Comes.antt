@@ -2,20 +2,20 @@
 use Rattle.std.specs.Prelude.{◌≡◌, ℕ, Bool, List, [], Option, Some}
 use Rattle.std.proofs.Common.{refl, subst}
 use Rattle.papaya_agrees.specs.Given.TablesDeclared.node.Node.{Node}
-use Rattle.papaya_deeds.specs.Given.Raw.declared.machines.answer.KeyAnswer.{KeyAnswer}
-use Rattle.papaya_deeds.specs.Given.Raw.declared.machines.answer.KeyAnswer.TheVariants as says
-use Rattle.papaya_deeds.specs.Given.Raw.declared.machines.progress.Answer.TheVariants as answers
-use Rattle.papaya_deeds.specs.Given.Raw.declared.machines.progress.Progress.{Progress}
-use Rattle.papaya_deeds.specs.Given.Raw.declared.machines.progress.Progress.TheVariants as progress
+use Rattle.papaya_deeds.specs.Given.RawDeclared.machines.answer.KeyAnswer.{KeyAnswer}
+use Rattle.papaya_deeds.specs.Given.RawDeclared.machines.answer.KeyAnswer.TheVariants as says
+use Rattle.papaya_deeds.specs.Given.RawDeclared.machines.progress.Answer.TheVariants as answers
+use Rattle.papaya_deeds.specs.Given.RawDeclared.machines.progress.Progress.{Progress}
+use Rattle.papaya_deeds.specs.Given.RawDeclared.machines.progress.Progress.TheVariants as progress
 use Rattle.papaya_agrees.specs.Given.CallersTogether.{UnderWay, OnKey, ForRoom, Counting, OverAll}
 use Rattle.papaya_agrees.specs.Given.FinishesMachines.{machine_of}
-use Rattle.papaya_deeds.specs.Given.Schedules.declared.call.Call.{Call}
-use Rattle.papaya_deeds.specs.Given.Schedules.declared.call.Call.TheVariants.{On}
-use Rattle.papaya_deeds.specs.Given.Schedules.declared.call.OneKey.{OneKey}
-use Rattle.papaya_deeds.specs.Given.Schedules.declared.call.OneKey.TheVariants.{Compute, TryInsert}
-use Rattle.papaya_deeds.specs.Given.Schedules.declared.call.Reply.TheVariants.{Aborts}
-use Rattle.papaya_deeds.specs.Given.Schedules.Moment.{UnderWay as CallThere}
-use Rattle.papaya_deeds.specs.Given.Schedules.Views.{call_of, reply_to}
+use Rattle.papaya_deeds.specs.Given.SchedulesDeclared.call.Call.{Call}
+use Rattle.papaya_deeds.specs.Given.SchedulesDeclared.call.Call.TheVariants.{On}
+use Rattle.papaya_deeds.specs.Given.SchedulesDeclared.call.OneKey.{OneKey}
+use Rattle.papaya_deeds.specs.Given.SchedulesDeclared.call.OneKey.TheVariants.{Compute, TryInsert}
+use Rattle.papaya_deeds.specs.Given.SchedulesDeclared.call.Reply.TheVariants.{Aborts}
+use Rattle.papaya_deeds.specs.Given.SchedulesMoment.{UnderWay as CallThere}
+use Rattle.papaya_deeds.specs.Given.SchedulesViews.{call_of, reply_to}
 use Rattle.papaya_agrees.specs.Given.EffectsEffects.{known_after}
 use Rattle.papaya_agrees.specs.Given.EffectsKnown.{Known}
 use Rattle.papaya_agrees.specs.Given.EffectsDeclared.acting.Acting.TheVariants as acts

@@ -8,11 +8,11 @@ use Rattle.std.proofs.lemmas.List.Folds.{find-append}
 use Rattle.papaya_agrees.specs.Given.RunsSame.{is_same}
 use Rattle.papaya_agrees.specs.Given.TablesDeclared.setting.Setting.{Setting}
 use Rattle.papaya_agrees.specs.Given.FinishesMakings.{Beginning}
-use Rattle.papaya_deeds.specs.Given.Schedules.declared.effect.Table.{Table}
-use Rattle.papaya_deeds.specs.Given.Schedules.Effects.{with_effects}
-use Rattle.papaya_deeds.specs.Given.Schedules.Moment.{MapThere, Moment, Place, TableThere}
-use Rattle.papaya_deeds.specs.Given.Schedules.Things.{same_table}
-use Rattle.papaya_deeds.specs.Given.Schedules.Views.{is_there, map_at, tables_of}
+use Rattle.papaya_deeds.specs.Given.SchedulesDeclared.effect.Table.{Table}
+use Rattle.papaya_deeds.specs.Given.SchedulesEffects.{with_effects}
+use Rattle.papaya_deeds.specs.Given.SchedulesMoment.{MapThere, Moment, Place, TableThere}
+use Rattle.papaya_deeds.specs.Given.SchedulesThings.{same_table}
+use Rattle.papaya_deeds.specs.Given.SchedulesViews.{is_there, map_at, tables_of}
 use Rattle.papaya_agrees.specs.Given.TellerDeclared.changed.Changed.{Changed}
 use Rattle.papaya_agrees.specs.Given.EffectsEffects.{effects_of, map_of}
 use Rattle.papaya_agrees.specs.Given.EffectsKnown.{Known}

@@ -6,8 +6,8 @@ use Rattle.std.proofs.Common.{refl, ap, sym, subst, ◌∙◌, arith}
 use Rattle.std.proofs.lemmas.Bool.{eq-eqb}
 use Rattle.std.proofs.lemmas.List.Elements.{All-append, All-cons}
 use Rattle.std.proofs.lemmas.List.Folds.{find-append}
-use Rattle.papaya_deeds.specs.Given.Schedules.Moment.{MapThere, Moment, TableThere}
-use Rattle.papaya_deeds.specs.Given.Schedules.Views.{map_at}
+use Rattle.papaya_deeds.specs.Given.SchedulesMoment.{MapThere, Moment, TableThere}
+use Rattle.papaya_deeds.specs.Given.SchedulesViews.{map_at}
 use Rattle.papaya_events.specs.Given.MomentsNumbers.{AreFound}
 use Rattle.papaya_events.proofs.Given.MomentsNumbers.{maps_go}
 use Rattle.papaya_events.specs.Given.RemainsNumbered.{NumbersUpTo}

@@ -8,8 +8,8 @@ use Rattle.papaya_agrees.specs.Given.SeizeWorld.{World, times, with_at}
 use Rattle.papaya_agrees.specs.Given.SeizeDeclared.rows.settle.Settled.{Settled}
 use Rattle.papaya_agrees.specs.Given.SeizeDeclared.rows.settle.Settled.TheVariants as settled
 use Rattle.papaya_agrees.specs.Given.TablesDeclared.node.Node.{Node}
-use Rattle.papaya_deeds.specs.Given.Raw.EndMap.{end_map_plan}
-use Rattle.papaya_deeds.specs.Given.Raw.declared.machines.end_map.EndMap.{EndMap}
+use Rattle.papaya_deeds.specs.Given.RawEndMap.{end_map_plan}
+use Rattle.papaya_deeds.specs.Given.RawDeclared.machines.end_map.EndMap.{EndMap}
 use Rattle.papaya_agrees.specs.Given.FinishesEndings.{Finishing, waiting_by}
 use Rattle.papaya_agrees.specs.Given.FinishesFactsEnds.{Deed as FactsDeed, taken_by as taken_of}
 use Rattle.papaya_agrees.specs.Given.FinishesMakings.{Beginning}
@@ -18,11 +18,11 @@ use Rattle.papaya_agrees.proofs.Given.ScenesMay.{may_end}
 use Rattle.papaya_agrees.specs.Given.ScenesEnding.{EndingComesTo, EndingLeads}
 use Rattle.papaya_agrees.specs.Given.ScenesHeld.{Held, IsAt}
 use Rattle.papaya_agrees.specs.Given.ScenesScene.{Scene}
-use Rattle.papaya_deeds.specs.Given.Schedules.declared.effect.Effect.{Effect}
-use Rattle.papaya_deeds.specs.Given.Schedules.declared.outcome.Outcome.{Outcome}
-use Rattle.papaya_deeds.specs.Given.Schedules.Effects.{with_effects}
-use Rattle.papaya_deeds.specs.Given.Schedules.Moment.{Moment}
-use Rattle.papaya_deeds.specs.Given.Schedules.Views.{tables_of}
+use Rattle.papaya_deeds.specs.Given.SchedulesDeclared.effect.Effect.{Effect}
+use Rattle.papaya_deeds.specs.Given.SchedulesDeclared.outcome.Outcome.{Outcome}
+use Rattle.papaya_deeds.specs.Given.SchedulesEffects.{with_effects}
+use Rattle.papaya_deeds.specs.Given.SchedulesMoment.{Moment}
+use Rattle.papaya_deeds.specs.Given.SchedulesViews.{tables_of}
 use Rattle.papaya_agrees.specs.Given.EffectsEffects.{effects_of, known_after, taken_by}
 use Rattle.papaya_agrees.specs.Given.EffectsKnown.{Known}
 use Rattle.papaya_agrees.specs.Given.EffectsDeclared.acting.Acting.TheVariants as acts

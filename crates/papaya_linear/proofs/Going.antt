@@ -2,11 +2,11 @@
 use Rattle.std.specs.Prelude.{◌≡◌, ◌==◌, ℕ, Bool, true, false, Some, None, if◌then◌else◌}
 use Rattle.std.proofs.Common.{refl, ap, sym, subst, ◌∙◌, arith, inl, inr}
 use Rattle.std.proofs.lemmas.Bool.{eq-eqb}
-use Rattle.papaya_deeds.specs.Given.SeizeWords.Mem.{Mem, value_at}
+use Rattle.papaya_deeds.specs.Given.SeizeWordsMem.{Mem, value_at}
 use Rattle.papaya_agrees.specs.Given.SeizeWorld.{times}
 use Rattle.papaya_agrees.specs.Given.TablesDeclared.node.Node.{Node}
 use Rattle.papaya_agrees.specs.Given.FinishesEndings.{Finishing, FinishingFacts}
-use Rattle.papaya_deeds.specs.Given.Schedules.Moment.{Moment}
+use Rattle.papaya_deeds.specs.Given.SchedulesMoment.{Moment}
 use Rattle.papaya_agrees.specs.Given.EffectsEffects.{known_after}
 use Rattle.papaya_agrees.specs.Given.EffectsKnown.{Known}
 use Rattle.papaya_agrees.specs.Given.EffectsDeclared.acting.Acting.{Acting}

@@ -10,8 +10,8 @@ use Rattle.papaya_agrees.specs.Given.SeizeDeclared.rows.settle.Settled.{Settled}
 use Rattle.papaya_agrees.specs.Given.SeizeDeclared.rows.settle.Settled.TheVariants as settled
 use Rattle.papaya_agrees.specs.Given.TablesDeclared.node.Node.{Node}
 use Rattle.papaya_agrees.specs.Given.TablesDeclared.setting.Setting.{Setting}
-use Rattle.papaya_deeds.specs.Given.Resize.declared.new_map.NewMap.{NewMap}
-use Rattle.papaya_deeds.specs.Given.Raw.declared.machines.end_map.EndMap.{EndMap}
+use Rattle.papaya_deeds.specs.Given.ResizeDeclared.new_map.NewMap.{NewMap}
+use Rattle.papaya_deeds.specs.Given.RawDeclared.machines.end_map.EndMap.{EndMap}
 use Rattle.papaya_agrees.specs.Given.FinishesEndings.{Finishing}
 use Rattle.papaya_agrees.specs.Given.FinishesFactsEnds.{Deed}
 use Rattle.papaya_agrees.specs.Given.FinishesMakings.{Beginning}

@@ -4,7 +4,7 @@ use Rattle.std.proofs.Common.{ap, sym, subst, ◌∙◌, inl, inr}
 use Rattle.std.proofs.lemmas.Bool.{cases_eq}
 use Rattle.papaya_agrees.specs.Given.FinishesMaps.{with_call}
 use Rattle.papaya_agrees.specs.Given.RunsSame.{is_same}
-use Rattle.papaya_deeds.specs.Given.Schedules.Moment.{Moment}
+use Rattle.papaya_deeds.specs.Given.SchedulesMoment.{Moment}
 use Rattle.papaya_deeds.specs.Deeds.{moment, named}
 use Rattle.papaya_agrees.specs.Given.PlayedPlay.{Calling, State}
 use Rattle.papaya_agrees.proofs.Given.PlayedAlike.{its_call, others_call}

@@ -2,19 +2,19 @@
 use Rattle.std.specs.Prelude.{◌≡◌, ℕ, Bool, true, Some}
 use Rattle.std.proofs.Common.{ap, sym, subst, ◌∙◌}
 use Rattle.papaya_events.specs.Given.SeizeActsAnswers.{Grant}
-use Rattle.papaya_deeds.specs.Given.SeizeWords.Mem.{Mem}
+use Rattle.papaya_deeds.specs.Given.SeizeWordsMem.{Mem}
 use Rattle.papaya_agrees.specs.Given.SeizeWorld.{Row}
 use Rattle.papaya_agrees.specs.Given.SeizeDeclared.progress.Progress.{Progress}
 use Rattle.papaya_agrees.specs.Given.TablesDeclared.node.Node.{Node}
 use Rattle.papaya_agrees.specs.Given.TablesDeclared.setting.Setting.{Setting}
-use Rattle.papaya_deeds.specs.Given.Resize.declared.new_map.NewMap.{NewMap}
+use Rattle.papaya_deeds.specs.Given.ResizeDeclared.new_map.NewMap.{NewMap}
 use Rattle.papaya_agrees.specs.Given.TellerDeclared.changed.Changed.TheVariants.{Nothing as NoChange}
 use Rattle.papaya_agrees.specs.Given.FinishesEndings.{Finishing}
 use Rattle.papaya_agrees.specs.Given.FinishesMakings.{Beginning}
 use Rattle.papaya_agrees.specs.Given.ScenesHeld.{Held, IsAt}
 use Rattle.papaya_agrees.specs.Given.ScenesMaking.{MakingLeads}
 use Rattle.papaya_agrees.specs.Given.ScenesScene.{Scene, slot_of}
-use Rattle.papaya_deeds.specs.Given.Schedules.Moment.{Moment}
+use Rattle.papaya_deeds.specs.Given.SchedulesMoment.{Moment}
 use Rattle.papaya_agrees.specs.Given.ActsActs.{Act, Answer, BeginsCall, StepsCall, TellsCall, AsksCall, StopsCall, BeginsMaking, StepsMaking, BeginsEnding, StepsEnding, BeginsRow, StepsRow, OfMaking}
 use Rattle.papaya_agrees.specs.Given.ActsAsSteps.{LeadsAs, changed_by, held_in}
 use Rattle.papaya_agrees.specs.Given.ActsLeads.{Led, MayBe}

@@ -1,7 +1,7 @@
 -- What is so of a state that is played, and of the scene to which its acts have led.
 use Rattle.std.specs.Prelude.{◌≡◌, Bool}
 use Rattle.std.proofs.Common.{sym, subst}
-use Rattle.papaya_deeds.specs.Given.Schedules.After.{AtEachEvent}
+use Rattle.papaya_deeds.specs.Given.SchedulesAfter.{AtEachEvent}
 use Rattle.papaya_agrees.specs.Given.ScenesScene.{Scene}
 use Rattle.papaya_deeds.specs.Deeds.{moment}
 use Rattle.papaya_deeds.specs.History.{IsLinearizable, past}

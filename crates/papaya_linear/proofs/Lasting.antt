@@ -1,15 +1,15 @@
 -- What a block is noted as goes on being noted while the block is there, whoever acts, if it is a pair, a table, or the counter of a map.
 use Rattle.std.specs.Prelude.{◌≡◌, ◌≢◌, ℕ, ◌==◌, Bool, true, false, None, if◌then◌else◌}
 use Rattle.std.proofs.Common.{refl, ap, subst, ◌∙◌}
-use Rattle.papaya_deeds.specs.Given.SeizeWords.declared.at.At.{At}
-use Rattle.papaya_deeds.specs.Given.SeizeWords.declared.at.At.TheVariants.{Root, Used, Slot, Entry, Word}
-use Rattle.papaya_deeds.specs.Given.SeizeWords.Mem.{Mem, value_at}
-use Rattle.papaya_deeds.specs.Given.SeizeWords.Word.{block_in}
+use Rattle.papaya_deeds.specs.Given.SeizeWordsDeclared.at.At.{At}
+use Rattle.papaya_deeds.specs.Given.SeizeWordsDeclared.at.At.TheVariants.{Root, Used, Slot, Entry, Word}
+use Rattle.papaya_deeds.specs.Given.SeizeWordsMem.{Mem, value_at}
+use Rattle.papaya_deeds.specs.Given.SeizeWordsWord.{block_in}
 use Rattle.papaya_agrees.specs.Given.SeizeWorld.{World}
 use Rattle.papaya_agrees.specs.Given.TablesDeclared.node.Node.{Node}
 use Rattle.papaya_agrees.specs.Given.TablesDeclared.table_words.TheConstants.{NEXT}
-use Rattle.papaya_deeds.specs.Given.Schedules.Lists.{put}
-use Rattle.papaya_deeds.specs.Given.Schedules.Moment.{Moment}
+use Rattle.papaya_deeds.specs.Given.SchedulesLists.{put}
+use Rattle.papaya_deeds.specs.Given.SchedulesMoment.{Moment}
 use Rattle.papaya_agrees.specs.Given.TellerDeclared.changed.Changed.{Changed}
 use Rattle.papaya_agrees.specs.Given.TellerDeclared.changed.Changed.TheVariants as changed
 use Rattle.papaya_agrees.specs.Given.EffectsEffects.{in_block_on, in_table_on, is_place, known_after, linked_on, named, names_same, stored_on, written_on}

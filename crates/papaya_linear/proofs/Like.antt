@@ -2,8 +2,8 @@
 use Rattle.std.specs.Prelude.{◌≡◌, ℕ, suc, Bool, List}
 use Rattle.std.proofs.Common.{refl, sym, subst}
 use Rattle.papaya_agrees.specs.Given.RunsPresent.{Present}
-use Rattle.papaya_deeds.specs.Given.Schedules.Moment.{Moment, Remains, Sheltered}
-use Rattle.papaya_deeds.specs.Given.Schedules.Transition.{Past, further}
+use Rattle.papaya_deeds.specs.Given.SchedulesMoment.{Moment, Remains, Sheltered}
+use Rattle.papaya_deeds.specs.Given.SchedulesTransition.{Past, further}
 use Rattle.papaya_agrees.specs.Given.EffectsKnown.{Known}
 use Rattle.papaya_agrees.specs.Given.OthersAfter.{ShowsAfter}
 use Rattle.papaya_agrees.specs.Given.OthersElsewhere.{HasSame}

@@ -4,17 +4,17 @@ use Rattle.std.proofs.Common.{refl, ap, sym, subst, ◌∙◌, inl, inr}
 use Rattle.std.proofs.lemmas.Bool.{cases_eq}
 use Rattle.papaya_events.specs.Given.SeizeActsAnswers.{Grant}
 use Rattle.papaya_events.proofs.Given.SeizeActsAnswers.{same_some}
-use Rattle.papaya_deeds.specs.Given.SeizeWords.Mem.{Mem}
+use Rattle.papaya_deeds.specs.Given.SeizeWordsMem.{Mem}
 use Rattle.papaya_agrees.specs.Given.SeizeWorld.{World, with_at}
 use Rattle.papaya_agrees.specs.Given.SeizeDeclared.progress.Progress.{Progress}
 use Rattle.papaya_agrees.specs.Given.SeizeDeclared.progress.Progress.TheVariants as progress
 use Rattle.papaya_agrees.specs.Given.TellerDeclared.changed.Changed.{Changed}
 use Rattle.papaya_agrees.specs.Given.TablesDeclared.node.Node.{Node}
 use Rattle.papaya_agrees.specs.Given.TablesDeclared.setting.Setting.{Setting}
-use Rattle.papaya_deeds.specs.Given.Resize.NewMap.{at_root, new_map_plan}
-use Rattle.papaya_deeds.specs.Given.Resize.declared.new_map.NewMap.{NewMap}
-use Rattle.papaya_deeds.specs.Given.Resize.declared.new_map.Opening.{Opening}
-use Rattle.papaya_deeds.specs.Given.Resize.declared.new_map.Opening.TheVariants as opens
+use Rattle.papaya_deeds.specs.Given.ResizeNewMap.{at_root, new_map_plan}
+use Rattle.papaya_deeds.specs.Given.ResizeDeclared.new_map.NewMap.{NewMap}
+use Rattle.papaya_deeds.specs.Given.ResizeDeclared.new_map.Opening.{Opening}
+use Rattle.papaya_deeds.specs.Given.ResizeDeclared.new_map.Opening.TheVariants as opens
 use Rattle.papaya_agrees.specs.Given.TellerTells.{StepsTold}
 use Rattle.papaya_agrees.specs.Given.TellerDeclared.changed.Changed.TheVariants as changed
 use Rattle.papaya_agrees.specs.Given.FinishesEndings.{MakingStepsAmong}
@@ -23,11 +23,11 @@ use Rattle.papaya_agrees.proofs.Given.CallersTogether.At.{at_other, at_same}
 use Rattle.papaya_agrees.specs.Given.ScenesHeld.{Held, IsAt}
 use Rattle.papaya_agrees.specs.Given.ScenesMaking.{MakingLeads}
 use Rattle.papaya_agrees.specs.Given.ScenesScene.{Scene, slot_of}
-use Rattle.papaya_deeds.specs.Given.Schedules.declared.effect.Effect.{Effect}
-use Rattle.papaya_deeds.specs.Given.Schedules.declared.outcome.Outcome.{Outcome}
-use Rattle.papaya_deeds.specs.Given.Schedules.Effects.{with_effects}
-use Rattle.papaya_deeds.specs.Given.Schedules.Moment.{MapThere, Moment}
-use Rattle.papaya_deeds.specs.Given.Schedules.Views.{tables_of}
+use Rattle.papaya_deeds.specs.Given.SchedulesDeclared.effect.Effect.{Effect}
+use Rattle.papaya_deeds.specs.Given.SchedulesDeclared.outcome.Outcome.{Outcome}
+use Rattle.papaya_deeds.specs.Given.SchedulesEffects.{with_effects}
+use Rattle.papaya_deeds.specs.Given.SchedulesMoment.{MapThere, Moment}
+use Rattle.papaya_deeds.specs.Given.SchedulesViews.{tables_of}
 use Rattle.papaya_agrees.specs.Given.EffectsEffects.{effects_of}
 use Rattle.papaya_agrees.specs.Given.EffectsKnown.{Known}
 use Rattle.papaya_agrees.specs.Given.EffectsDeclared.acting.Acting.TheVariants as acts

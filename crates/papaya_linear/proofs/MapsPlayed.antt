@@ -5,19 +5,19 @@ use Rattle.papaya_agrees.specs.Given.SeizeDeclared.progress.Progress.{Progress a
 use Rattle.papaya_agrees.specs.Given.SeizeDeclared.rows.settle.Settled.{Settled}
 use Rattle.papaya_agrees.specs.Given.TablesDeclared.node.Node.{Node}
 use Rattle.papaya_agrees.specs.Given.TablesDeclared.setting.Setting.{Setting}
-use Rattle.papaya_deeds.specs.Given.Resize.declared.new_map.NewMap.{NewMap}
+use Rattle.papaya_deeds.specs.Given.ResizeDeclared.new_map.NewMap.{NewMap}
 use Rattle.papaya_agrees.specs.Given.RunsSame.{is_same}
 use Rattle.papaya_agrees.specs.Given.FinishesEndings.{Finishing}
 use Rattle.papaya_agrees.specs.Given.FinishesFactsEnds.{taken_by as taken_of}
 use Rattle.papaya_agrees.specs.Given.FinishesMakings.{Beginning}
 use Rattle.papaya_agrees.specs.Given.FinishesMaps.{Standing}
-use Rattle.papaya_deeds.specs.Given.Schedules.declared.effect.Effect.{Effect}
-use Rattle.papaya_deeds.specs.Given.Schedules.declared.outcome.Outcome.{Outcome}
-use Rattle.papaya_deeds.specs.Given.Schedules.Beginning.{with_map}
-use Rattle.papaya_deeds.specs.Given.Schedules.Effects.{with_effects}
-use Rattle.papaya_deeds.specs.Given.Schedules.Linearizable.{shift_of}
-use Rattle.papaya_deeds.specs.Given.Schedules.Moment.{MapThere, Moment}
-use Rattle.papaya_deeds.specs.Given.Schedules.Views.{map_at, tables_of}
+use Rattle.papaya_deeds.specs.Given.SchedulesDeclared.effect.Effect.{Effect}
+use Rattle.papaya_deeds.specs.Given.SchedulesDeclared.outcome.Outcome.{Outcome}
+use Rattle.papaya_deeds.specs.Given.SchedulesBeginning.{with_map}
+use Rattle.papaya_deeds.specs.Given.SchedulesEffects.{with_effects}
+use Rattle.papaya_deeds.specs.Given.SchedulesLinearizable.{shift_of}
+use Rattle.papaya_deeds.specs.Given.SchedulesMoment.{MapThere, Moment}
+use Rattle.papaya_deeds.specs.Given.SchedulesViews.{map_at, tables_of}
 use Rattle.papaya_agrees.specs.Given.EffectsEffects.{effects_of, known_after}
 use Rattle.papaya_agrees.specs.Given.EffectsKnown.{Known}
 use Rattle.papaya_agrees.specs.Given.EffectsDeclared.acting.Acting.TheVariants as acts

@@ -2,7 +2,7 @@
 use Rattle.std.specs.Prelude.{◌≡◌, ◌==◌, ℕ, false, List, Some, None}
 use Rattle.std.proofs.Common.{ap, sym, subst, ◌∙◌, arith}
 use Rattle.papaya_agrees.specs.Given.RunsSame.{is_same}
-use Rattle.papaya_deeds.specs.Given.Schedules.Moment.{Moment}
+use Rattle.papaya_deeds.specs.Given.SchedulesMoment.{Moment}
 use Rattle.papaya_agrees.specs.Given.ScenesScene.{Scene}
 use Rattle.papaya_events.proofs.Given.MomentsNumbers.{found_of}
 use Rattle.papaya_deeds.specs.Deeds.{named}

@@ -11,10 +11,10 @@ use Rattle.papaya_agrees.specs.Given.SeizeDeclared.rows.register.Registering.{Re
 use Rattle.papaya_agrees.specs.Given.SeizeDeclared.rows.register.Registering.TheVariants as registers
 use Rattle.papaya_agrees.specs.Given.SeizeDeclared.rows.settle.Settled.{Settled}
 use Rattle.papaya_agrees.specs.Given.TablesDeclared.node.Node.{Node}
-use Rattle.papaya_deeds.specs.Given.Schedules.declared.effect.Effect.{Effect}
-use Rattle.papaya_deeds.specs.Given.Schedules.declared.outcome.Outcome.{Outcome}
-use Rattle.papaya_deeds.specs.Given.Schedules.Effects.{with_effects}
-use Rattle.papaya_deeds.specs.Given.Schedules.Moment.{Moment}
+use Rattle.papaya_deeds.specs.Given.SchedulesDeclared.effect.Effect.{Effect}
+use Rattle.papaya_deeds.specs.Given.SchedulesDeclared.outcome.Outcome.{Outcome}
+use Rattle.papaya_deeds.specs.Given.SchedulesEffects.{with_effects}
+use Rattle.papaya_deeds.specs.Given.SchedulesMoment.{Moment}
 use Rattle.papaya_agrees.specs.Given.EffectsEffects.{effects_of, known_after}
 use Rattle.papaya_agrees.specs.Given.EffectsDeclared.acting.Acting.TheVariants as acts
 use Rattle.papaya_agrees.specs.Given.OthersRows.{scene_then}

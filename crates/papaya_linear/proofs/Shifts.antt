@@ -3,13 +3,13 @@ use Rattle.std.specs.Prelude.{◌≡◌, ◌⊎◌, ◌&&◌, ℕ, Bool, true, f
 use Rattle.std.specs.List.{list_all}
 use Rattle.std.proofs.Common.{refl, ap, ◌∙◌, inl, inr}
 use Rattle.std.proofs.lemmas.Grind.{flat_map-append}
-use Rattle.papaya_deeds.specs.Given.SeizeWords.declared.at.At.TheVariants.{Root, Used, Slot, Entry, Word}
-use Rattle.papaya_deeds.specs.Given.Schedules.declared.effect.Effect.{Effect}
-use Rattle.papaya_deeds.specs.Given.Schedules.declared.effect.Effect.TheVariants as effect
-use Rattle.papaya_deeds.specs.Given.Schedules.declared.effect.Growth.TheVariants.{ABucket}
-use Rattle.papaya_deeds.specs.Given.Schedules.Handing.{is_first_making}
-use Rattle.papaya_deeds.specs.Given.Schedules.Linearizable.{shift_of}
-use Rattle.papaya_deeds.specs.Given.Schedules.Sequential.{Shift}
+use Rattle.papaya_deeds.specs.Given.SeizeWordsDeclared.at.At.TheVariants.{Root, Used, Slot, Entry, Word}
+use Rattle.papaya_deeds.specs.Given.SchedulesDeclared.effect.Effect.{Effect}
+use Rattle.papaya_deeds.specs.Given.SchedulesDeclared.effect.Effect.TheVariants as effect
+use Rattle.papaya_deeds.specs.Given.SchedulesDeclared.effect.Growth.TheVariants.{ABucket}
+use Rattle.papaya_deeds.specs.Given.SchedulesHanding.{is_first_making}
+use Rattle.papaya_deeds.specs.Given.SchedulesLinearizable.{shift_of}
+use Rattle.papaya_deeds.specs.Given.SchedulesSequential.{Shift}
 use Rattle.papaya_agrees.specs.Given.TellerDeclared.changed.Changed.{Changed}
 use Rattle.papaya_agrees.specs.Given.TellerDeclared.changed.Changed.TheVariants as changed
 use Rattle.papaya_agrees.specs.Given.EffectsEffects.{effects_of, led_to, named, names_same, taken_by}

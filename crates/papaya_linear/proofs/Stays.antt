@@ -3,8 +3,8 @@ use Rattle.std.specs.Prelude.{◌≡◌, ℕ, Bool, [], Option, option_map}
 use Rattle.std.proofs.Common.{ap, sym, subst, ◌∙◌, arith}
 use Rattle.papaya_events.specs.Given.SeizeActsAnswers.{Grant, stepped}
 use Rattle.papaya_events.proofs.Given.SeizeActsAnswers.{same_some}
-use Rattle.papaya_deeds.specs.Given.SeizeWords.Mem.{Mem}
-use Rattle.papaya_deeds.specs.Given.SeizeWords.Plan.{Plan}
+use Rattle.papaya_deeds.specs.Given.SeizeWordsMem.{Mem}
+use Rattle.papaya_deeds.specs.Given.SeizeWordsPlan.{Plan}
 use Rattle.papaya_agrees.specs.Given.SeizeReclaimAll.{reclaim_all_plan}
 use Rattle.papaya_agrees.specs.Given.SeizeDeclared.rows.reclaim_all.ReclaimAll.{ReclaimAll}
 use Rattle.papaya_agrees.specs.Given.SeizeDeclared.rows.settle.Settled.{Settled}

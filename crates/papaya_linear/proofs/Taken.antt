@@ -1,32 +1,32 @@
 -- A reply that a call on one key takes is one of its kind: a yes or no for `remove_if`, and for `compute` what is not.
 use Rattle.std.specs.Prelude.{◌≡◌, ℕ, Bool, true, false, List, Some, Ok}
 use Rattle.std.proofs.Common.{ap, subst, ◌∙◌, inl, inr}
-use Rattle.papaya_deeds.specs.Given.Raw.CallAsks.{absent_told, present_told, told_at}
-use Rattle.papaya_deeds.specs.Given.Raw.Machine.{machine_replied}
-use Rattle.papaya_deeds.specs.Given.Raw.declared.machines.asking.Asking.TheVariants as asking
-use Rattle.papaya_deeds.specs.Given.Raw.declared.machines.asking.Gap.{Gap}
-use Rattle.papaya_deeds.specs.Given.Raw.declared.machines.asking.Reply.{Reply as MachineReply}
-use Rattle.papaya_deeds.specs.Given.Raw.declared.machines.asking.Reply.TheVariants as reply
-use Rattle.papaya_deeds.specs.Given.Raw.declared.machines.asking.Takes.{Takes}
-use Rattle.papaya_deeds.specs.Given.Raw.declared.machines.asking.Takes.TheVariants as takes
-use Rattle.papaya_deeds.specs.Given.Raw.declared.machines.call.Calling.{Calling}
-use Rattle.papaya_deeds.specs.Given.Raw.declared.machines.call.Calling.TheVariants as at
-use Rattle.papaya_deeds.specs.Given.Raw.declared.machines.call.KeyCall.{KeyCall}
-use Rattle.papaya_deeds.specs.Given.Raw.declared.machines.machine.Machine.TheVariants as kinds
+use Rattle.papaya_deeds.specs.Given.RawCallAsks.{absent_told, present_told, told_at}
+use Rattle.papaya_deeds.specs.Given.RawMachine.{machine_replied}
+use Rattle.papaya_deeds.specs.Given.RawDeclared.machines.asking.Asking.TheVariants as asking
+use Rattle.papaya_deeds.specs.Given.RawDeclared.machines.asking.Gap.{Gap}
+use Rattle.papaya_deeds.specs.Given.RawDeclared.machines.asking.Reply.{Reply as MachineReply}
+use Rattle.papaya_deeds.specs.Given.RawDeclared.machines.asking.Reply.TheVariants as reply
+use Rattle.papaya_deeds.specs.Given.RawDeclared.machines.asking.Takes.{Takes}
+use Rattle.papaya_deeds.specs.Given.RawDeclared.machines.asking.Takes.TheVariants as takes
+use Rattle.papaya_deeds.specs.Given.RawDeclared.machines.call.Calling.{Calling}
+use Rattle.papaya_deeds.specs.Given.RawDeclared.machines.call.Calling.TheVariants as at
+use Rattle.papaya_deeds.specs.Given.RawDeclared.machines.call.KeyCall.{KeyCall}
+use Rattle.papaya_deeds.specs.Given.RawDeclared.machines.machine.Machine.TheVariants as kinds
 use Rattle.papaya_events.specs.Given.PointsTold.{IsRowOfCall}
 use Rattle.papaya_agrees.specs.Given.CallersAsked.{Asked}
 use Rattle.papaya_agrees.specs.Given.CallersPairs.{Given, kind_of}
 use Rattle.papaya_agrees.specs.Given.CallersSights.{seen_by}
 use Rattle.papaya_agrees.specs.Given.CallersTogether.{CallOnKey, OnKey, Stands as TogetherStands}
 use Rattle.papaya_agrees.specs.Given.FinishesMaps.{Standing}
-use Rattle.papaya_deeds.specs.Given.Schedules.declared.call.Call.{Call}
-use Rattle.papaya_deeds.specs.Given.Schedules.declared.call.Call.TheVariants.{On}
-use Rattle.papaya_deeds.specs.Given.Schedules.declared.call.OneKey.{OneKey}
-use Rattle.papaya_deeds.specs.Given.Schedules.declared.call.OneKey.TheVariants.{Compute, RemoveIf}
-use Rattle.papaya_deeds.specs.Given.Schedules.declared.call.Reply.{Reply}
-use Rattle.papaya_deeds.specs.Given.Schedules.declared.call.Reply.TheVariants.{Gives, Removes, Aborts, Decides}
-use Rattle.papaya_deeds.specs.Given.Schedules.Moment.{Moment, UnderWay as CallThere}
-use Rattle.papaya_deeds.specs.Given.Schedules.Views.{call_of}
+use Rattle.papaya_deeds.specs.Given.SchedulesDeclared.call.Call.{Call}
+use Rattle.papaya_deeds.specs.Given.SchedulesDeclared.call.Call.TheVariants.{On}
+use Rattle.papaya_deeds.specs.Given.SchedulesDeclared.call.OneKey.{OneKey}
+use Rattle.papaya_deeds.specs.Given.SchedulesDeclared.call.OneKey.TheVariants.{Compute, RemoveIf}
+use Rattle.papaya_deeds.specs.Given.SchedulesDeclared.call.Reply.{Reply}
+use Rattle.papaya_deeds.specs.Given.SchedulesDeclared.call.Reply.TheVariants.{Gives, Removes, Aborts, Decides}
+use Rattle.papaya_deeds.specs.Given.SchedulesMoment.{Moment, UnderWay as CallThere}
+use Rattle.papaya_deeds.specs.Given.SchedulesViews.{call_of}
 use Rattle.papaya_agrees.specs.Given.EffectsKnown.{Known}
 use Rattle.papaya_agrees.specs.Given.HandsAsked.{IsAskedAs, IsAskedOn, as_told, given_by}
 use Rattle.papaya_agrees.specs.Given.ScenesHeld.{Held, IsAt}

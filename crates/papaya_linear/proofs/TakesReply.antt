@@ -1,49 +1,49 @@
 -- A call takes a reply only where the step before has said that it asks: none as it begins, none once it took one, and none as a walk goes on.
 use Rattle.std.specs.Prelude.{◌≡◌, ℕ, ◌==◌, Bool, true, false, nat_lt, ◌&&◌, Option, Ok, if◌then◌else◌}
 use Rattle.std.proofs.Common.{refl, sym, subst}
-use Rattle.papaya_deeds.specs.Given.SeizeWords.Plan.{plan_as}
-use Rattle.papaya_deeds.specs.Given.SeizeWords.declared.fault.Fault.TheVariants.{RemoveNothing}
+use Rattle.papaya_deeds.specs.Given.SeizeWordsPlan.{plan_as}
+use Rattle.papaya_deeds.specs.Given.SeizeWordsDeclared.fault.Fault.TheVariants.{RemoveNothing}
 use Rattle.papaya_agrees.specs.Given.TablesDeclared.marks.TheConstants.{TOMBSTONE}
 use Rattle.papaya_agrees.specs.Given.TablesDeclared.node.Node.{Node}
 use Rattle.papaya_agrees.specs.Given.TablesDeclared.setting.Setting.{Setting}
-use Rattle.papaya_deeds.specs.Given.Resize.Sum.{sum_plan}
-use Rattle.papaya_deeds.specs.Given.Reserves.Reserve.{reserve_plan}
-use Rattle.papaya_deeds.specs.Given.Sweeps.Sweep.{plan_at as sweep_at}
-use Rattle.papaya_deeds.specs.Given.Sweeps.SweepPoints.{further, next_at, past, removes, reply_at}
-use Rattle.papaya_deeds.specs.Given.Sweeps.declared.sweep.Sweep.{Sweep}
-use Rattle.papaya_deeds.specs.Given.Sweeps.declared.sweep.Sweeping.{Sweeping}
-use Rattle.papaya_deeds.specs.Given.Sweeps.declared.sweep.Sweeping.TheVariants as sweeping
-use Rattle.papaya_deeds.specs.Given.Sweeps.declared.sweep.Swept.{Swept}
-use Rattle.papaya_deeds.specs.Given.Sweeps.declared.sweep.Swept.TheVariants as swept_as
-use Rattle.papaya_deeds.specs.Given.Raw.Call.{plan_at}
-use Rattle.papaya_deeds.specs.Given.Raw.CallAsks.{absent_told, present_told, told_at, with_absent, with_present}
-use Rattle.papaya_deeds.specs.Given.Raw.CallPoints.{at_gap, burying, ending, going, over}
-use Rattle.papaya_deeds.specs.Given.Raw.Machine.{called, counted, machine_asked, machine_replied, reserved, swept, sweep_told}
-use Rattle.papaya_deeds.specs.Given.Raw.declared.machines.answer.Called.{Called}
-use Rattle.papaya_deeds.specs.Given.Raw.declared.machines.answer.Called.TheVariants as says
-use Rattle.papaya_deeds.specs.Given.Raw.declared.machines.answer.End.{End}
-use Rattle.papaya_deeds.specs.Given.Raw.declared.machines.answer.End.TheVariants as ends
-use Rattle.papaya_deeds.specs.Given.Raw.declared.machines.answer.KeyAnswer.TheVariants as answers
-use Rattle.papaya_deeds.specs.Given.Raw.declared.machines.asking.Asking.TheVariants as asking
-use Rattle.papaya_deeds.specs.Given.Raw.declared.machines.asking.Gap.{Gap}
-use Rattle.papaya_deeds.specs.Given.Raw.declared.machines.asking.Gap.TheVariants as gaps
-use Rattle.papaya_deeds.specs.Given.Raw.declared.machines.asking.Reply.{Reply}
-use Rattle.papaya_deeds.specs.Given.Raw.declared.machines.asking.Reply.TheVariants as reply
-use Rattle.papaya_deeds.specs.Given.Raw.declared.machines.asking.Takes.{Takes}
-use Rattle.papaya_deeds.specs.Given.Raw.declared.machines.asking.Takes.TheVariants as takes
-use Rattle.papaya_deeds.specs.Given.Raw.declared.machines.asking.Told.TheVariants as tells
-use Rattle.papaya_deeds.specs.Given.Raw.declared.machines.call.Calling.{Calling}
-use Rattle.papaya_deeds.specs.Given.Raw.declared.machines.call.Calling.TheVariants as at
-use Rattle.papaya_deeds.specs.Given.Raw.declared.machines.call.KeyCall.{KeyCall}
-use Rattle.papaya_deeds.specs.Given.Raw.declared.machines.machine.Machine.{Machine}
-use Rattle.papaya_deeds.specs.Given.Raw.declared.machines.machine.Machine.TheVariants as kinds
-use Rattle.papaya_deeds.specs.Given.Raw.declared.machines.progress.Progress.{Progress}
-use Rattle.papaya_deeds.specs.Given.Raw.declared.machines.progress.Progress.TheVariants as progress
+use Rattle.papaya_deeds.specs.Given.ResizeSum.{sum_plan}
+use Rattle.papaya_deeds.specs.Given.ReservesReserve.{reserve_plan}
+use Rattle.papaya_deeds.specs.Given.SweepsSweep.{plan_at as sweep_at}
+use Rattle.papaya_deeds.specs.Given.SweepsSweepPoints.{further, next_at, past, removes, reply_at}
+use Rattle.papaya_deeds.specs.Given.SweepsDeclared.sweep.Sweep.{Sweep}
+use Rattle.papaya_deeds.specs.Given.SweepsDeclared.sweep.Sweeping.{Sweeping}
+use Rattle.papaya_deeds.specs.Given.SweepsDeclared.sweep.Sweeping.TheVariants as sweeping
+use Rattle.papaya_deeds.specs.Given.SweepsDeclared.sweep.Swept.{Swept}
+use Rattle.papaya_deeds.specs.Given.SweepsDeclared.sweep.Swept.TheVariants as swept_as
+use Rattle.papaya_deeds.specs.Given.RawCall.{plan_at}
+use Rattle.papaya_deeds.specs.Given.RawCallAsks.{absent_told, present_told, told_at, with_absent, with_present}
+use Rattle.papaya_deeds.specs.Given.RawCallPoints.{at_gap, burying, ending, going, over}
+use Rattle.papaya_deeds.specs.Given.RawMachine.{called, counted, machine_asked, machine_replied, reserved, swept, sweep_told}
+use Rattle.papaya_deeds.specs.Given.RawDeclared.machines.answer.Called.{Called}
+use Rattle.papaya_deeds.specs.Given.RawDeclared.machines.answer.Called.TheVariants as says
+use Rattle.papaya_deeds.specs.Given.RawDeclared.machines.answer.End.{End}
+use Rattle.papaya_deeds.specs.Given.RawDeclared.machines.answer.End.TheVariants as ends
+use Rattle.papaya_deeds.specs.Given.RawDeclared.machines.answer.KeyAnswer.TheVariants as answers
+use Rattle.papaya_deeds.specs.Given.RawDeclared.machines.asking.Asking.TheVariants as asking
+use Rattle.papaya_deeds.specs.Given.RawDeclared.machines.asking.Gap.{Gap}
+use Rattle.papaya_deeds.specs.Given.RawDeclared.machines.asking.Gap.TheVariants as gaps
+use Rattle.papaya_deeds.specs.Given.RawDeclared.machines.asking.Reply.{Reply}
+use Rattle.papaya_deeds.specs.Given.RawDeclared.machines.asking.Reply.TheVariants as reply
+use Rattle.papaya_deeds.specs.Given.RawDeclared.machines.asking.Takes.{Takes}
+use Rattle.papaya_deeds.specs.Given.RawDeclared.machines.asking.Takes.TheVariants as takes
+use Rattle.papaya_deeds.specs.Given.RawDeclared.machines.asking.Told.TheVariants as tells
+use Rattle.papaya_deeds.specs.Given.RawDeclared.machines.call.Calling.{Calling}
+use Rattle.papaya_deeds.specs.Given.RawDeclared.machines.call.Calling.TheVariants as at
+use Rattle.papaya_deeds.specs.Given.RawDeclared.machines.call.KeyCall.{KeyCall}
+use Rattle.papaya_deeds.specs.Given.RawDeclared.machines.machine.Machine.{Machine}
+use Rattle.papaya_deeds.specs.Given.RawDeclared.machines.machine.Machine.TheVariants as kinds
+use Rattle.papaya_deeds.specs.Given.RawDeclared.machines.progress.Progress.{Progress}
+use Rattle.papaya_deeds.specs.Given.RawDeclared.machines.progress.Progress.TheVariants as progress
 use Rattle.papaya_agrees.specs.Given.TellerDeclared.changed.Changed.TheVariants.{Nothing}
-use Rattle.papaya_deeds.specs.Given.Schedules.declared.call.Call.{Call}
-use Rattle.papaya_deeds.specs.Given.Schedules.declared.call.Call.TheVariants as calls
-use Rattle.papaya_deeds.specs.Given.Schedules.declared.call.OneKey.{OneKey}
-use Rattle.papaya_deeds.specs.Given.Schedules.declared.call.OneKey.TheVariants as one
+use Rattle.papaya_deeds.specs.Given.SchedulesDeclared.call.Call.{Call}
+use Rattle.papaya_deeds.specs.Given.SchedulesDeclared.call.Call.TheVariants as calls
+use Rattle.papaya_deeds.specs.Given.SchedulesDeclared.call.OneKey.{OneKey}
+use Rattle.papaya_deeds.specs.Given.SchedulesDeclared.call.OneKey.TheVariants as one
 use Rattle.papaya_agrees.specs.Given.ScenesHeld.{Held}
 use Rattle.papaya_agrees.specs.Given.ScenesStepping.{StepsFrom}
 use Rattle.papaya_agrees.proofs.Given.RuleKeys.Always.{always_plan_as}

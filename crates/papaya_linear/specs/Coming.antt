@@ -1,11 +1,11 @@
 -- What is so of maps that come and go as a list of acts is played: of their numbers, of those that are being made, and of those that end.
 use Rattle.std.specs.Prelude.{◌≡◌, ◌≢◌, ◌≤◌, ◌<◌, ◌⊎◌, ℕ, Bool, true, false, Option, Some, None, []}
 use Rattle.papaya_agrees.specs.Given.SeizeWorld.{times}
-use Rattle.papaya_deeds.specs.Given.Resize.NewMap.{at_root}
+use Rattle.papaya_deeds.specs.Given.ResizeNewMap.{at_root}
 use Rattle.papaya_agrees.specs.Given.FinishesEndings.{Finishing}
 use Rattle.papaya_agrees.specs.Given.FinishesMakings.{Beginning}
-use Rattle.papaya_deeds.specs.Given.Schedules.Moment.{InMap, Moment}
-use Rattle.papaya_deeds.specs.Given.Schedules.Views.{map_at, tables_of}
+use Rattle.papaya_deeds.specs.Given.SchedulesMoment.{InMap, Moment}
+use Rattle.papaya_deeds.specs.Given.SchedulesViews.{map_at, tables_of}
 use Rattle.papaya_agrees.specs.Given.EffectsKnown.{Known}
 use Rattle.papaya_agrees.specs.Given.OthersMakings.{IsNew}
 use Rattle.papaya_agrees.specs.Given.ScenesScene.{Scene}

@@ -2,7 +2,7 @@
 use Rattle.std.specs.Prelude.{◌≡◌, ◌<◌, ◌^◌, ℕ, Bool, List, Some}
 use Rattle.std.specs.List.{AllByRecursion}
 use Rattle.papaya_agrees.specs.Given.ScenesScene.{slot_of}
-use Rattle.papaya_deeds.specs.Given.Schedules.After.{AtEachEvent}
+use Rattle.papaya_deeds.specs.Given.SchedulesAfter.{AtEachEvent}
 use Rattle.papaya_agrees.specs.Given.ActsAsSteps.{IsOwn}
 use Rattle.papaya_agrees.specs.Given.ActsDoings.{Doing, Does}
 use Rattle.papaya_agrees.specs.Given.ActsLists.{Course, LedTo, Reached}

@@ -1,7 +1,7 @@
 -- What the moment of a history shows of the scene to which a list of acts has led, by which its next entry is linearizable. Callers have their numbers as names.
 use Rattle.std.specs.Prelude.{Bool}
-use Rattle.papaya_deeds.specs.Given.Schedules.Moment.{Moment}
-use Rattle.papaya_deeds.specs.Given.Schedules.Transition.{Past}
+use Rattle.papaya_deeds.specs.Given.SchedulesMoment.{Moment}
+use Rattle.papaya_deeds.specs.Given.SchedulesTransition.{Past}
 use Rattle.papaya_agrees.specs.Given.EffectsKnown.{Known}
 use Rattle.papaya_agrees.specs.Given.ScenesScene.{Scene}
 use Rattle.papaya_events.specs.Given.MomentsWhole.{ShowsWhole}

@@ -1,18 +1,18 @@
 -- What a step of a call unlinks could be reached before: it is one of the map's blocks that the caller sees, and in use, or parting.
 use Rattle.std.specs.Prelude.{◌<◌}
 use Rattle.std.proofs.Common.{◌≡◌, ◌⊎◌, ◌≤◌, ℕ, Bool, true, false, List, [], ◌∷◌, inl, inr, refl, ap, sym, subst, ◌∙◌}
-use Rattle.seize_acts.specs.Given.SeizeWords.Mem.{Mem}
-use Rattle.seize_acts.specs.Given.Seize.Law.{is_somewhere, reachable}
-use Rattle.seize_acts.specs.Given.Seize.Sequence.{IsUsers}
-use Rattle.seize_acts.specs.Given.Seize.World.{World, Hand, NoBlock, Making, InUse, Parting, Cutting, Handed, LeftTo, Event, MayCut, Happens, Runs}
-use Rattle.seize_acts.proofs.Given.SeizeAlone.Histories.Reached.{Reached, runs_reached}
+use Rattle.seize_acts.specs.Given.SeizeWordsMem.{Mem}
+use Rattle.seize_acts.specs.Given.SeizeLaw.{is_somewhere, reachable}
+use Rattle.seize_acts.specs.Given.SeizeSequence.{IsUsers}
+use Rattle.seize_acts.specs.Given.SeizeWorld.{World, Hand, NoBlock, Making, InUse, Parting, Cutting, Handed, LeftTo, Event, MayCut, Happens, Runs}
+use Rattle.seize_acts.proofs.Given.SeizeAloneHistories.Reached.{Reached, runs_reached}
 use Rattle.papaya_carries.specs.Given.TablesNodes.{deferred_word}
 use Rattle.papaya_carries.specs.Given.TablesDeclared.node.Node.{Node}
 use Rattle.papaya_carries.specs.Given.TablesDeclared.setting.Setting.{Setting}
 use Rattle.papaya_carries.specs.Given.RuleChart.{Chart}
 use Rattle.papaya_carries.specs.Given.RuleInWorld.{AllUsers, IsOut, IsItsEvent, AllIts, IsIts, IsKnownBlock, IsMapIn, Went}
 use Rattle.papaya_carries.specs.Given.RuleWords.{Blocks}
-use Rattle.papaya_reclaims.proofs.Given.Callers.Rows.Known.{known_since}
+use Rattle.papaya_reclaims.proofs.Given.CallersRows.Known.{known_since}
 use Rattle.papaya_links.specs.Tied.{unlinkings}
 use Rattle.papaya_links.proofs.Places.{IsGone, cut_standing}
 use Rattle.papaya_links.proofs.Unlinked.{IsCutOff, IsUnlinkedBy, user_event, none_again, users_cut, cut_unreached}

@@ -1,16 +1,16 @@
 -- What a section sees of a map is closed by links, and the section holds it.
 use Rattle.std.specs.Prelude.{◌^◌, Option, Some}
 use Rattle.std.proofs.Common.{◌≡◌, ◌⊎◌, ℕ, suc, ◌<◌, Bool, true, inl, inr, arith, ap, sym, subst, ◌∙◌}
-use Rattle.seize_acts.specs.Given.SeizeWords.Mem.{value_at}
-use Rattle.seize_acts.specs.Given.SeizeWords.declared.at.At.TheVariants.{Root}
-use Rattle.seize_acts.specs.Given.Seize.Law.{holds}
-use Rattle.seize_acts.specs.Given.Seize.World.{World, IsInside}
+use Rattle.seize_acts.specs.Given.SeizeWordsMem.{value_at}
+use Rattle.seize_acts.specs.Given.SeizeWordsDeclared.at.At.TheVariants.{Root}
+use Rattle.seize_acts.specs.Given.SeizeLaw.{holds}
+use Rattle.seize_acts.specs.Given.SeizeWorld.{World, IsInside}
 use Rattle.papaya_carries.specs.Given.TablesDeclared.node.Node.{Node}
 use Rattle.papaya_carries.specs.Given.RuleInWorld.{IsMapIn, IsKnownBlock}
-use Rattle.papaya_reclaims.specs.Given.Callers.Kept.{IsWithin}
-use Rattle.papaya_reclaims.specs.Given.Callers.Sights.{IsSight, seen_by}
-use Rattle.papaya_reclaims.specs.Given.Finishes.Maps.{Standing, MapsTogether}
-use Rattle.papaya_reclaims.specs.Given.Callers.Together.{UnderWay}
+use Rattle.papaya_reclaims.specs.Given.CallersKept.{IsWithin}
+use Rattle.papaya_reclaims.specs.Given.CallersSights.{IsSight, seen_by}
+use Rattle.papaya_reclaims.specs.Given.FinishesMaps.{Standing, MapsTogether}
+use Rattle.papaya_reclaims.specs.Given.CallersTogether.{UnderWay}
 use Rattle.papaya_links.specs.Lists.{ScenesAreClosed}
 use Rattle.papaya_links.specs.Tied.{Names, TableNames, AllAreClosed}
 use Rattle.papaya_links.proofs.Named.{HoldsPair, no_pair, root_first, table_names, pair_there}

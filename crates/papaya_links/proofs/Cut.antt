@@ -2,8 +2,8 @@
 use Rattle.std.specs.Prelude.{◌*◌}
 use Rattle.std.proofs.Common.{◌≡◌, ℕ, suc, ◌<◌, ◌≤◌, ◌⊎◌, Bool, true, false, cond, eqb, inl, inr, refl, arith, ap, sym, subst, ◌∙◌, eqb-true}
 use Rattle.std.proofs.lemmas.Bool.{cases_lt}
-use Rattle.seize_acts.specs.Given.Seize.World.{World, Cutting}
-use Rattle.seize_acts.specs.Given.Seize.declared.rows.settle.Settle.{Settle}
+use Rattle.seize_acts.specs.Given.SeizeWorld.{World, Cutting}
+use Rattle.seize_acts.specs.Given.SeizeDeclared.rows.settle.Settle.{Settle}
 use Rattle.papaya_carries.specs.Given.TablesChunks.{is_incremental}
 use Rattle.papaya_carries.specs.Given.TablesDeclared.node.Node.{Node}
 use Rattle.papaya_carries.specs.Given.TablesDeclared.setting.Setting.{Setting}
@@ -14,12 +14,12 @@ use Rattle.papaya_carries.specs.Given.ResizeDeclared.copier.Copying.{Copying}
 use Rattle.papaya_carries.specs.Given.ResizeDeclared.copier.Copying.TheVariants as copies
 use Rattle.papaya_carries.specs.Given.RuleChart.{Chart}
 use Rattle.papaya_carries.specs.Given.RuleWords.{Blocks}
-use Rattle.papaya_reclaims.specs.Given.Points.FactsCopies.{CopyingFacts, CopierFacts}
-use Rattle.papaya_reclaims.specs.Given.Points.FactsCopiesBlocking.{CopyingFactsBlocking, CopierFactsBlocking}
-use Rattle.papaya_reclaims.specs.Given.Points.Told.{IsRowOfCopier}
-use Rattle.papaya_reclaims.specs.Given.Late.FactsReserves.{CopiesWhole, IsEnding}
-use Rattle.papaya_reclaims.specs.Given.Late.LateCopies.{LateCopying, LateCopierFacts}
-use Rattle.papaya_reclaims.specs.Given.Callers.Rows.{past_copying}
+use Rattle.papaya_reclaims.specs.Given.PointsFactsCopies.{CopyingFacts, CopierFacts}
+use Rattle.papaya_reclaims.specs.Given.PointsFactsCopiesBlocking.{CopyingFactsBlocking, CopierFactsBlocking}
+use Rattle.papaya_reclaims.specs.Given.PointsTold.{IsRowOfCopier}
+use Rattle.papaya_reclaims.specs.Given.LateFactsReserves.{CopiesWhole, IsEnding}
+use Rattle.papaya_reclaims.specs.Given.LateLateCopies.{LateCopying, LateCopierFacts}
+use Rattle.papaya_reclaims.specs.Given.CallersRows.{past_copying}
 use Rattle.papaya_carries.specs.Theirs.{IsDueAt, IsAhead, next_of_them}
 
 module _ {K V : Type 0} (same : K → K → Bool) (hash : K → ℕ) (w : World (Node K V)) (caller : ℕ) (setting : Setting) (c : Chart K) (blocks : Blocks) where

@@ -1,25 +1,25 @@
 -- Wherever a list of acts has led, the world is tied, what one more step unlinks no links lead to, and what callers see is closed.
 use Rattle.std.specs.Prelude.{Some}
 use Rattle.std.proofs.Common.{◌≡◌, ◌⊎◌, ◌<◌, ℕ, Bool, true, false, List, inl, inr, refl, arith, ap, sym, subst, ◌∙◌}
-use Rattle.seize_acts.specs.Given.SeizeWords.Mem.{Mem, word_at}
-use Rattle.seize_acts.specs.Given.SeizeWords.declared.at.At.TheVariants.{Root, Used}
-use Rattle.seize_acts.specs.Given.Seize.Law.{reachable}
-use Rattle.seize_acts.specs.Given.Seize.World.{World, InUse, Event, Runs, with_at}
-use Rattle.seize_acts.specs.Given.Seize.declared.progress.Progress.{Progress}
-use Rattle.seize_acts.specs.Given.Seize.declared.progress.Progress.TheVariants as progress
-use Rattle.seize_acts.specs.Given.Seize.declared.rows.settle.Settled.{Settled}
-use Rattle.seize_acts.specs.Given.Seize.declared.rows.settle.Settled.TheVariants as settled
-use Rattle.seize_acts.proofs.Given.SeizeAlone.Histories.Reached.{Reached as IsReached}
+use Rattle.seize_acts.specs.Given.SeizeWordsMem.{Mem, word_at}
+use Rattle.seize_acts.specs.Given.SeizeWordsDeclared.at.At.TheVariants.{Root, Used}
+use Rattle.seize_acts.specs.Given.SeizeLaw.{reachable}
+use Rattle.seize_acts.specs.Given.SeizeWorld.{World, InUse, Event, Runs, with_at}
+use Rattle.seize_acts.specs.Given.SeizeDeclared.progress.Progress.{Progress}
+use Rattle.seize_acts.specs.Given.SeizeDeclared.progress.Progress.TheVariants as progress
+use Rattle.seize_acts.specs.Given.SeizeDeclared.rows.settle.Settled.{Settled}
+use Rattle.seize_acts.specs.Given.SeizeDeclared.rows.settle.Settled.TheVariants as settled
+use Rattle.seize_acts.proofs.Given.SeizeAloneHistories.Reached.{Reached as IsReached}
 use Rattle.papaya_carries.specs.Given.TablesNodes.{deferred_word}
 use Rattle.papaya_carries.specs.Given.TablesDeclared.node.Node.{Node}
 use Rattle.papaya_carries.specs.Given.TablesDeclared.setting.Setting.{Setting}
 use Rattle.papaya_carries.specs.Given.ResizeDeclared.new_map.NewMap.{NewMap}
-use Rattle.papaya_reclaims.specs.Given.Raw.declared.machines.end_map.EndMap.{EndMap}
-use Rattle.papaya_reclaims.proofs.Given.Callers.Together.At.{at_same}
-use Rattle.papaya_reclaims.proofs.Given.Callers.Together.Came.{came_reached}
-use Rattle.papaya_reclaims.specs.Given.Finishes.Endings.{Finishing, MakingStepsAmong, StepsOfEnding}
-use Rattle.papaya_reclaims.specs.Given.Finishes.FactsEnds.{TakesLeft, WritesRoot, events_of}
-use Rattle.papaya_reclaims.specs.Given.Finishes.Makings.{Beginning, IsFirstTable, StepsOfMaking}
+use Rattle.papaya_reclaims.specs.Given.RawDeclared.machines.end_map.EndMap.{EndMap}
+use Rattle.papaya_reclaims.proofs.Given.CallersTogether.At.{at_same}
+use Rattle.papaya_reclaims.proofs.Given.CallersTogether.Came.{came_reached}
+use Rattle.papaya_reclaims.specs.Given.FinishesEndings.{Finishing, MakingStepsAmong, StepsOfEnding}
+use Rattle.papaya_reclaims.specs.Given.FinishesFactsEnds.{TakesLeft, WritesRoot, events_of}
+use Rattle.papaya_reclaims.specs.Given.FinishesMakings.{Beginning, IsFirstTable, StepsOfMaking}
 use Rattle.papaya_reclaims.specs.Slots.{AreItsRows}
 use Rattle.papaya_carries.specs.Given.ActsActs.{Act, Answer}
 use Rattle.papaya_carries.specs.Given.ActsActs.{BeginsCall, StepsCall, TellsCall, AsksCall, StopsCall, BeginsMaking, StepsMaking, BeginsEnding, StepsEnding, BeginsRow, StepsRow}

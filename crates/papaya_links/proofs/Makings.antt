@@ -1,20 +1,20 @@
 -- What a step of a making unlinks could be reached before, and can't be then: it links its map's first table alone, and takes none away that was linked.
 use Rattle.std.specs.Prelude.{◌^◌, ◌*◌, Option, Some}
 use Rattle.std.proofs.Common.{◌≡◌, ◌⊎◌, ◌<◌, ℕ, Bool, inl, inr, arith, ap, sym, subst, ◌∙◌}
-use Rattle.seize_acts.specs.Given.SeizeWords.Mem.{Mem, word_at}
-use Rattle.seize_acts.specs.Given.SeizeWords.declared.at.At.TheVariants.{Root}
-use Rattle.seize_acts.specs.Given.Seize.World.{World, InUse, Cutting}
-use Rattle.seize_acts.specs.Given.Seize.declared.progress.Progress.{Progress}
-use Rattle.seize_acts.proofs.Given.SeizeRule.Words.There.{live_pos}
-use Rattle.seize_acts.proofs.Given.SeizeAlone.Histories.Reached.{Reached, runs_reached}
+use Rattle.seize_acts.specs.Given.SeizeWordsMem.{Mem, word_at}
+use Rattle.seize_acts.specs.Given.SeizeWordsDeclared.at.At.TheVariants.{Root}
+use Rattle.seize_acts.specs.Given.SeizeWorld.{World, InUse, Cutting}
+use Rattle.seize_acts.specs.Given.SeizeDeclared.progress.Progress.{Progress}
+use Rattle.seize_acts.proofs.Given.SeizeRuleWords.There.{live_pos}
+use Rattle.seize_acts.proofs.Given.SeizeAloneHistories.Reached.{Reached, runs_reached}
 use Rattle.papaya_carries.specs.Given.TablesNodes.{deferred_word}
 use Rattle.papaya_carries.specs.Given.TablesDeclared.node.Node.{Node}
 use Rattle.papaya_carries.specs.Given.TablesDeclared.setting.Setting.{Setting}
 use Rattle.papaya_carries.specs.Given.ResizeDeclared.new_map.NewMap.{NewMap}
 use Rattle.papaya_carries.specs.Given.RuleInWorld.{IsOut, IsMapIn}
-use Rattle.papaya_reclaims.specs.Given.Callers.Together.{UnderWay}
-use Rattle.papaya_reclaims.specs.Given.Finishes.Makings.{Beginning, IsFirstTable, StepsOfMaking}
-use Rattle.papaya_reclaims.specs.Given.Finishes.Maps.{Standing, MapsTogether}
+use Rattle.papaya_reclaims.specs.Given.CallersTogether.{UnderWay}
+use Rattle.papaya_reclaims.specs.Given.FinishesMakings.{Beginning, IsFirstTable, StepsOfMaking}
+use Rattle.papaya_reclaims.specs.Given.FinishesMaps.{Standing, MapsTogether}
 use Rattle.papaya_links.specs.Tied.{unlinkings}
 use Rattle.papaya_links.proofs.Named.{root_first}
 use Rattle.papaya_links.proofs.Places.{IsGone, gone_there}

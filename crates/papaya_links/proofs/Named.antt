@@ -3,10 +3,10 @@ use Rattle.std.specs.Prelude.{◌+◌, ◌*◌, ◌^◌, ltb, Option, Some}
 use Rattle.std.proofs.Common.{◌≡◌, ◌⊎◌, ℕ, suc, ◌<◌, Bool, true, false, cond, eqb, inl, inr, refl, arith, ap, sym, subst, ◌∙◌}
 use Rattle.std.proofs.lemmas.Bool.{eqb-false}
 use Rattle.std.proofs.lemmas.Bool.Decides.{nat_tests}
-use Rattle.seize_acts.specs.Given.SeizeWords.Mem.{value_at, word_at}
-use Rattle.seize_acts.specs.Given.SeizeWords.Word.{block_in}
-use Rattle.seize_acts.specs.Given.SeizeWords.declared.at.At.TheVariants.{Root, Word}
-use Rattle.seize_acts.specs.Given.Seize.World.{World}
+use Rattle.seize_acts.specs.Given.SeizeWordsMem.{value_at, word_at}
+use Rattle.seize_acts.specs.Given.SeizeWordsWord.{block_in}
+use Rattle.seize_acts.specs.Given.SeizeWordsDeclared.at.At.TheVariants.{Root, Word}
+use Rattle.seize_acts.specs.Given.SeizeWorld.{World}
 use Rattle.papaya_carries.specs.Given.TablesDeclared.node.Node.{Node}
 use Rattle.papaya_carries.specs.Given.TablesDeclared.node.Node.TheVariants as node
 use Rattle.papaya_carries.specs.Given.TablesDeclared.setting.Setting.{Setting}

@@ -1,34 +1,34 @@
 -- What a call, a reservation or a sweep that is under way is to hand over it has unlinked: it is not linked any more.
 use Rattle.std.specs.Prelude.{Option, Some, None}
 use Rattle.std.proofs.Common.{◌≡◌, ℕ, ◌⊎◌, Bool, false, inl, inr, refl, ap, sym, subst, ◌∙◌}
-use Rattle.seize_acts.specs.Given.Seize.World.{World, Rests, Cutting}
+use Rattle.seize_acts.specs.Given.SeizeWorld.{World, Rests, Cutting}
 use Rattle.papaya_carries.specs.Given.TablesChunks.{is_incremental}
 use Rattle.papaya_carries.specs.Given.TablesDeclared.node.Node.{Node}
 use Rattle.papaya_carries.specs.Given.ResizeDeclared.copier.Copier.{Copier}
 use Rattle.papaya_carries.specs.Given.ResizeDeclared.copier.Copying.{Copying}
 use Rattle.papaya_carries.specs.Given.ResizeDeclared.copier.Copying.TheVariants as copies
-use Rattle.papaya_reclaims.specs.Given.Reserves.declared.reserve.Reserve.{Reserve}
-use Rattle.papaya_reclaims.specs.Given.Reserves.declared.reserve.Reserving.{Reserving}
-use Rattle.papaya_reclaims.specs.Given.Reserves.declared.reserve.Reserving.TheVariants as reserving
-use Rattle.papaya_reclaims.specs.Given.Sweeps.declared.sweep.Sweep.{Sweep}
-use Rattle.papaya_reclaims.specs.Given.Sweeps.declared.sweep.Sweeping.{Sweeping}
-use Rattle.papaya_reclaims.specs.Given.Sweeps.declared.sweep.Sweeping.TheVariants as sweeping
-use Rattle.papaya_reclaims.specs.Given.Raw.declared.machines.call.Calling.{Calling}
-use Rattle.papaya_reclaims.specs.Given.Raw.declared.machines.call.Calling.TheVariants as at
-use Rattle.papaya_reclaims.specs.Given.Raw.declared.machines.call.KeyCall.{KeyCall}
-use Rattle.papaya_reclaims.specs.Given.Points.FactsCalls.{Change, Unchanged, CallFacts, CallingFacts}
-use Rattle.papaya_reclaims.specs.Given.Points.Told.{IsRowOfCopier}
-use Rattle.papaya_reclaims.specs.Given.Late.FactsReserves.{ReserveFacts, ReservingFacts}
-use Rattle.papaya_reclaims.specs.Given.Late.FactsSweeps.{CopiesTable, SweepFacts, SweepingFacts}
-use Rattle.papaya_reclaims.specs.Given.Late.LateCalls.{LateCallFacts, LateCalling}
-use Rattle.papaya_reclaims.specs.Given.Late.LateReserves.{LateReserveFacts, LateReserving}
-use Rattle.papaya_reclaims.specs.Given.Callers.OverAll.{past_sweeping, sweep_once_over}
-use Rattle.papaya_reclaims.specs.Given.Callers.Rooms.{past_room, room_once_over}
-use Rattle.papaya_reclaims.specs.Given.Callers.Rows.{past_copying, past_row, once_over, row_of_copier}
-use Rattle.papaya_reclaims.specs.Given.Callers.Sights.{seen_by}
-use Rattle.papaya_reclaims.specs.Given.Callers.Together.{UnderWay, OnKey, ForRoom, Counting, OverAll, Stands, in_slot}
-use Rattle.papaya_reclaims.specs.Given.Finishes.Endings.{Finishing}
-use Rattle.papaya_reclaims.specs.Given.Finishes.Maps.{Standing, MapsTogether}
+use Rattle.papaya_reclaims.specs.Given.ReservesDeclared.reserve.Reserve.{Reserve}
+use Rattle.papaya_reclaims.specs.Given.ReservesDeclared.reserve.Reserving.{Reserving}
+use Rattle.papaya_reclaims.specs.Given.ReservesDeclared.reserve.Reserving.TheVariants as reserving
+use Rattle.papaya_reclaims.specs.Given.SweepsDeclared.sweep.Sweep.{Sweep}
+use Rattle.papaya_reclaims.specs.Given.SweepsDeclared.sweep.Sweeping.{Sweeping}
+use Rattle.papaya_reclaims.specs.Given.SweepsDeclared.sweep.Sweeping.TheVariants as sweeping
+use Rattle.papaya_reclaims.specs.Given.RawDeclared.machines.call.Calling.{Calling}
+use Rattle.papaya_reclaims.specs.Given.RawDeclared.machines.call.Calling.TheVariants as at
+use Rattle.papaya_reclaims.specs.Given.RawDeclared.machines.call.KeyCall.{KeyCall}
+use Rattle.papaya_reclaims.specs.Given.PointsFactsCalls.{Change, Unchanged, CallFacts, CallingFacts}
+use Rattle.papaya_reclaims.specs.Given.PointsTold.{IsRowOfCopier}
+use Rattle.papaya_reclaims.specs.Given.LateFactsReserves.{ReserveFacts, ReservingFacts}
+use Rattle.papaya_reclaims.specs.Given.LateFactsSweeps.{CopiesTable, SweepFacts, SweepingFacts}
+use Rattle.papaya_reclaims.specs.Given.LateLateCalls.{LateCallFacts, LateCalling}
+use Rattle.papaya_reclaims.specs.Given.LateLateReserves.{LateReserveFacts, LateReserving}
+use Rattle.papaya_reclaims.specs.Given.CallersOverAll.{past_sweeping, sweep_once_over}
+use Rattle.papaya_reclaims.specs.Given.CallersRooms.{past_room, room_once_over}
+use Rattle.papaya_reclaims.specs.Given.CallersRows.{past_copying, past_row, once_over, row_of_copier}
+use Rattle.papaya_reclaims.specs.Given.CallersSights.{seen_by}
+use Rattle.papaya_reclaims.specs.Given.CallersTogether.{UnderWay, OnKey, ForRoom, Counting, OverAll, Stands, in_slot}
+use Rattle.papaya_reclaims.specs.Given.FinishesEndings.{Finishing}
+use Rattle.papaya_reclaims.specs.Given.FinishesMaps.{Standing, MapsTogether}
 use Rattle.papaya_carries.specs.Theirs.{IsAhead, next_of_them, copier_of_call, copier_of_room, copier_of_sweep, copier_of, IsToHandOver, IsOwed}
 use Rattle.papaya_carries.proofs.Inside.{it_is, call_row, call_row_is, room_row, room_row_is, sweep_row, sweep_row_is}
 use Rattle.papaya_carries.proofs.Owed.{one_some}

@@ -3,15 +3,15 @@
 use Rattle.std.specs.Prelude.{Option, Some, is_some}
 use Rattle.std.proofs.Common.{◌≡◌, ℕ, Bool, true, false, cond, eqb, refl, ap, sym, subst, ◌∙◌}
 use Rattle.std.proofs.lemmas.Bool.{eq-eqb}
-use Rattle.seize_acts.specs.Given.SeizeWords.Mem.{value_at}
-use Rattle.seize_acts.specs.Given.Seize.Law.{Nowhere, Standing, With, where_is}
-use Rattle.seize_acts.specs.Given.Seize.World.{World, Hand, NoBlock, Making, InUse, Parting, Cutting, Handed, LeftTo, MayCut}
+use Rattle.seize_acts.specs.Given.SeizeWordsMem.{value_at}
+use Rattle.seize_acts.specs.Given.SeizeLaw.{Nowhere, Standing, With, where_is}
+use Rattle.seize_acts.specs.Given.SeizeWorld.{World, Hand, NoBlock, Making, InUse, Parting, Cutting, Handed, LeftTo, MayCut}
 use Rattle.seize_acts.specs.Reclaimed.{IsStillHad}
-use Rattle.seize_acts.proofs.Given.SeizeMoves.State.Ghost.{Life, IsFree, IsOwned, IsLinked, IsUnlinked, IsDeferring, IsDeferred, IsPending, IsIn, IsDoomed, IsLeft, is_linked, lies_with, place_of}
-use Rattle.seize_acts.proofs.Given.SeizeRule.Points.Aside.{is_handed, HandFits, cut_stands, standing_life}
-use Rattle.seize_acts.proofs.Given.SeizeRule.Words.Shows.{CarrierIs, lives}
-use Rattle.seize_acts.proofs.Given.SeizeRule.Words.View.{list_in}
-use Rattle.seize_acts.proofs.Given.SeizeAlone.Histories.Reached.{Reached}
+use Rattle.seize_acts.proofs.Given.SeizeMovesState.Ghost.{Life, IsFree, IsOwned, IsLinked, IsUnlinked, IsDeferring, IsDeferred, IsPending, IsIn, IsDoomed, IsLeft, is_linked, lies_with, place_of}
+use Rattle.seize_acts.proofs.Given.SeizeRulePoints.Aside.{is_handed, HandFits, cut_stands, standing_life}
+use Rattle.seize_acts.proofs.Given.SeizeRuleWords.Shows.{CarrierIs, lives}
+use Rattle.seize_acts.proofs.Given.SeizeRuleWords.View.{list_in}
+use Rattle.seize_acts.proofs.Given.SeizeAloneHistories.Reached.{Reached}
 
 -- what stands is linked
 standing_linked : (life : ℕ → Life) (l : Life) → place_of life l ≡ Standing → l ≡ IsLinked

@@ -2,18 +2,18 @@
 -- while the one before still names it; a root that still leads to one that was; a section that does not see the next table.
 use Rattle.std.specs.Prelude.{Option, Some, None}
 use Rattle.std.proofs.Common.{◌≡◌, ◌≢◌, ◌<◌, ℕ, true, false, List, [], ◌∷◌, inl, inr, refl, arith, ap}
-use Rattle.seize_acts.specs.Given.SeizeWords.Mem.{Mem, word_at}
-use Rattle.seize_acts.specs.Given.SeizeWords.Word.{link_to}
-use Rattle.seize_acts.specs.Given.SeizeWords.declared.at.At.TheVariants.{Root}
-use Rattle.seize_acts.specs.Given.SeizeWords.declared.block.Block.{Block}
-use Rattle.seize_acts.specs.Given.Seize.Law.{Effect, Linked, Unlinked, Ended, is_over}
-use Rattle.seize_acts.specs.Given.Seize.World.{World, Rests, Vacant, NoBlock}
+use Rattle.seize_acts.specs.Given.SeizeWordsMem.{Mem, word_at}
+use Rattle.seize_acts.specs.Given.SeizeWordsWord.{link_to}
+use Rattle.seize_acts.specs.Given.SeizeWordsDeclared.at.At.TheVariants.{Root}
+use Rattle.seize_acts.specs.Given.SeizeWordsDeclared.block.Block.{Block}
+use Rattle.seize_acts.specs.Given.SeizeLaw.{Effect, Linked, Unlinked, Ended, is_over}
+use Rattle.seize_acts.specs.Given.SeizeWorld.{World, Rests, Vacant, NoBlock}
 use Rattle.papaya_carries.specs.Given.TablesDeclared.node.Node.{Node}
 use Rattle.papaya_carries.specs.Given.TablesDeclared.node.Node.TheVariants as node
 use Rattle.papaya_carries.specs.Given.TablesDeclared.table_words.TheConstants.{NEXT}
 use Rattle.papaya_carries.specs.Given.RuleInWorld.{IsKnownBlock}
-use Rattle.papaya_reclaims.specs.Given.Callers.Sights.{seen_by}
-use Rattle.papaya_reclaims.specs.Given.Finishes.Maps.{Standing}
+use Rattle.papaya_reclaims.specs.Given.CallersSights.{seen_by}
+use Rattle.papaya_reclaims.specs.Given.FinishesMaps.{Standing}
 use Rattle.papaya_links.specs.Tied.{TableNames, RootNames, LinksLead, IsTied, IsClosed, unlinkings, UnlinksWhatNoneNames}
 
 -- both tables are linked, and the second one is unlinked

@@ -2,23 +2,23 @@
 use Rattle.std.specs.Prelude.{Option, Some}
 use Rattle.std.proofs.Common.{◌≡◌, ◌≢◌, ◌⊎◌, ℕ, suc, Bool, true, false, cond, eqb, List, [], ◌∷◌, inl, inr, refl, ap, sym, subst, ◌∙◌}
 use Rattle.std.proofs.lemmas.Bool.{cases_eq, eq-eqb, ne_eqb}
-use Rattle.seize_acts.specs.Given.SeizeWords.Mem.{Mem}
-use Rattle.seize_acts.specs.Given.Seize.Law.{Effect, Nowhere, where_is, is_somewhere, reachable, without, Unlinked, Dropped, LeftOver}
-use Rattle.seize_acts.specs.Given.Seize.World.{World, Event, Begin, Step, MayCut, Runs}
-use Rattle.seize_acts.proofs.Given.SeizeAlone.Histories.Reached.{Reached, happens_reached}
+use Rattle.seize_acts.specs.Given.SeizeWordsMem.{Mem}
+use Rattle.seize_acts.specs.Given.SeizeLaw.{Effect, Nowhere, where_is, is_somewhere, reachable, without, Unlinked, Dropped, LeftOver}
+use Rattle.seize_acts.specs.Given.SeizeWorld.{World, Event, Begin, Step, MayCut, Runs}
+use Rattle.seize_acts.proofs.Given.SeizeAloneHistories.Reached.{Reached, happens_reached}
 use Rattle.papaya_carries.specs.Given.TablesNodes.{deferred_word}
 use Rattle.papaya_carries.specs.Given.TablesDeclared.node.Node.{Node}
 use Rattle.papaya_carries.specs.Given.TablesDeclared.setting.Setting.{Setting}
-use Rattle.papaya_reclaims.specs.Given.Raw.declared.machines.machine.Machine.{Machine}
-use Rattle.papaya_reclaims.specs.Given.Raw.declared.machines.progress.Progress.{Progress}
-use Rattle.papaya_reclaims.specs.Given.Callers.Sights.{seen_by}
-use Rattle.papaya_reclaims.specs.Given.Callers.Together.{UnderWay, OnKey, ForRoom, Counting, OverAll, IsOneStep, in_slot}
-use Rattle.papaya_reclaims.proofs.Given.Callers.Together.Came.{came_reached}
-use Rattle.papaya_reclaims.specs.Given.Finishes.Endings.{Finishing}
-use Rattle.papaya_reclaims.specs.Given.Finishes.FactsEnds.{Deed, Looks, TakesPair, LeavesTable, JoinsPair, TakesLeft, TakesCounter, WritesRoot, events_of}
-use Rattle.papaya_reclaims.specs.Given.Finishes.Machines.{DidOfKind}
-use Rattle.papaya_reclaims.specs.Given.Finishes.Makings.{Beginning}
-use Rattle.papaya_reclaims.specs.Given.Finishes.Maps.{Standing, MapsTogether}
+use Rattle.papaya_reclaims.specs.Given.RawDeclared.machines.machine.Machine.{Machine}
+use Rattle.papaya_reclaims.specs.Given.RawDeclared.machines.progress.Progress.{Progress}
+use Rattle.papaya_reclaims.specs.Given.CallersSights.{seen_by}
+use Rattle.papaya_reclaims.specs.Given.CallersTogether.{UnderWay, OnKey, ForRoom, Counting, OverAll, IsOneStep, in_slot}
+use Rattle.papaya_reclaims.proofs.Given.CallersTogether.Came.{came_reached}
+use Rattle.papaya_reclaims.specs.Given.FinishesEndings.{Finishing}
+use Rattle.papaya_reclaims.specs.Given.FinishesFactsEnds.{Deed, Looks, TakesPair, LeavesTable, JoinsPair, TakesLeft, TakesCounter, WritesRoot, events_of}
+use Rattle.papaya_reclaims.specs.Given.FinishesMachines.{DidOfKind}
+use Rattle.papaya_reclaims.specs.Given.FinishesMakings.{Beginning}
+use Rattle.papaya_reclaims.specs.Given.FinishesMaps.{Standing, MapsTogether}
 use Rattle.papaya_carries.proofs.Steps.{map_here}
 use Rattle.papaya_reclaims.specs.Slots.{AreItsRows}
 use Rattle.papaya_links.specs.Tied.{unlinkings}

@@ -2,23 +2,23 @@
 use Rattle.std.specs.Prelude.{◌^◌, Option, Some, None}
 use Rattle.std.proofs.Common.{◌≡◌, ◌⊎◌, ℕ, zero, suc, ◌<◌, ◌≤◌, Bool, cond, true, false, inl, inr, refl, arith, ap, sym, subst, ◌∙◌}
 use Rattle.std.proofs.lemmas.Bool.{ne_eqb}
-use Rattle.seize_acts.specs.Given.SeizeWords.Mem.{value_at}
-use Rattle.seize_acts.specs.Given.Seize.Law.{Place, Nowhere, Standing as Stands, With, where_is, is_somewhere, reachable, is_over}
-use Rattle.seize_acts.specs.Given.Seize.World.{World, times}
-use Rattle.seize_acts.proofs.Given.SeizeMoves.State.Logs.{reached_held}
-use Rattle.seize_acts.proofs.Given.SeizeAlone.Histories.Reached.{Reached}
-use Rattle.seize_acts.proofs.Given.SeizeAlone.Histories.Uses.{inside_open}
+use Rattle.seize_acts.specs.Given.SeizeWordsMem.{value_at}
+use Rattle.seize_acts.specs.Given.SeizeLaw.{Place, Nowhere, Standing as Stands, With, where_is, is_somewhere, reachable, is_over}
+use Rattle.seize_acts.specs.Given.SeizeWorld.{World, times}
+use Rattle.seize_acts.proofs.Given.SeizeMovesState.Logs.{reached_held}
+use Rattle.seize_acts.proofs.Given.SeizeAloneHistories.Reached.{Reached}
+use Rattle.seize_acts.proofs.Given.SeizeAloneHistories.Uses.{inside_open}
 use Rattle.papaya_carries.specs.Given.TablesNodes.{deferred_word}
 use Rattle.papaya_carries.specs.Given.TablesDeclared.node.Node.{Node}
 use Rattle.papaya_carries.specs.Given.TablesDeclared.node.Node.TheVariants as node
 use Rattle.papaya_carries.specs.Given.TablesDeclared.table_words.TheConstants.{DEFERRED}
-use Rattle.papaya_reclaims.specs.Given.Callers.Together.{UnderWay}
-use Rattle.papaya_reclaims.proofs.Given.Callers.Together.Came.{came_reached}
-use Rattle.papaya_reclaims.proofs.Given.Callers.Together.Opened.{used_reached, named_reached}
+use Rattle.papaya_reclaims.specs.Given.CallersTogether.{UnderWay}
+use Rattle.papaya_reclaims.proofs.Given.CallersTogether.Came.{came_reached}
+use Rattle.papaya_reclaims.proofs.Given.CallersTogether.Opened.{used_reached, named_reached}
 use Rattle.papaya_carries.specs.Given.RuleInWorld.{IsMapIn}
-use Rattle.papaya_reclaims.specs.Given.Finishes.Endings.{Finishing, EndingsTogether}
-use Rattle.papaya_reclaims.specs.Given.Finishes.Makings.{Beginning}
-use Rattle.papaya_reclaims.specs.Given.Finishes.Maps.{Standing}
+use Rattle.papaya_reclaims.specs.Given.FinishesEndings.{Finishing, EndingsTogether}
+use Rattle.papaya_reclaims.specs.Given.FinishesMakings.{Beginning}
+use Rattle.papaya_reclaims.specs.Given.FinishesMaps.{Standing}
 use Rattle.papaya_reclaims.specs.Deferred.{IsLinkedTable}
 use Rattle.papaya_carries.specs.Theirs.{IsTheirs, AllAreTheirs}
 use Rattle.papaya_links.specs.Lists.{ScenesAreTied}

@@ -2,15 +2,15 @@
 use Rattle.std.specs.Prelude.{Option, Ok, Err, is_some}
 use Rattle.std.proofs.Common.{◌≡◌, ◌≢◌, ◌⊎◌, ℕ, suc, Bool, true, false, cond, eqb, List, [], ◌∷◌, ◌++◌, inl, inr, refl, ap, sym, subst, ◌∙◌}
 use Rattle.std.proofs.lemmas.Bool.{cases_eq, eq-eqb, ne_eqb}
-use Rattle.seize_acts.specs.Given.SeizeWords.Mem.{Mem, Took, value_in, value_at}
-use Rattle.seize_acts.specs.Given.SeizeWords.Op.{Out, Make, Found, Stored, Exchanged, Made, Taken, Roomed}
-use Rattle.seize_acts.specs.Given.Seize.Law as law
-use Rattle.seize_acts.specs.Given.Seize.Law.{Effect, is_somewhere, reachable, Linked, Unlinked, Deferred, Dropped, Ended, LeftOver}
-use Rattle.seize_acts.specs.Given.Seize.Sequence.{IsUsers}
-use Rattle.seize_acts.specs.Given.Seize.World.{World, Hand, NoBlock, Making, InUse, Parting, Cutting, Handed, LeftTo, Request, Event, Begin, Step, Makes, Drops, Links, Parts, Unlinks, Rewrites, Operates, Ends, LeavesOver, Relinks, Clears, Chooses, MayCut, Happens, Runs, Steps', Begins, Register', Enter', Leave', LeaveOwned, Refresh, Unregister', Retire, Flush, Defer', made_by, with_at}
-use Rattle.seize_acts.proofs.Given.SeizeRule.Rows.Effects.{IsOneStep}
-use Rattle.seize_acts.proofs.Given.SeizeAlone.Histories.NotTaken.{did}
-use Rattle.seize_acts.proofs.Given.SeizeAlone.Histories.Reached.{Reached, happens_reached}
+use Rattle.seize_acts.specs.Given.SeizeWordsMem.{Mem, Took, value_in, value_at}
+use Rattle.seize_acts.specs.Given.SeizeWordsOp.{Out, Make, Found, Stored, Exchanged, Made, Taken, Roomed}
+use Rattle.seize_acts.specs.Given.SeizeLaw as law
+use Rattle.seize_acts.specs.Given.SeizeLaw.{Effect, is_somewhere, reachable, Linked, Unlinked, Deferred, Dropped, Ended, LeftOver}
+use Rattle.seize_acts.specs.Given.SeizeSequence.{IsUsers}
+use Rattle.seize_acts.specs.Given.SeizeWorld.{World, Hand, NoBlock, Making, InUse, Parting, Cutting, Handed, LeftTo, Request, Event, Begin, Step, Makes, Drops, Links, Parts, Unlinks, Rewrites, Operates, Ends, LeavesOver, Relinks, Clears, Chooses, MayCut, Happens, Runs, Steps', Begins, Register', Enter', Leave', LeaveOwned, Refresh, Unregister', Retire, Flush, Defer', made_by, with_at}
+use Rattle.seize_acts.proofs.Given.SeizeRuleRows.Effects.{IsOneStep}
+use Rattle.seize_acts.proofs.Given.SeizeAloneHistories.NotTaken.{did}
+use Rattle.seize_acts.proofs.Given.SeizeAloneHistories.Reached.{Reached, happens_reached}
 use Rattle.papaya_carries.specs.Given.RuleInWorld.{AllUsers}
 use Rattle.papaya_carries.proofs.Given.RuleWorld.Hands.{at_cases}
 use Rattle.papaya_links.specs.Tied.{unlinkings}

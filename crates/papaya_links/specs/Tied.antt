@@ -1,18 +1,18 @@
 -- What links lead to. A link is a word that names a block: that of a map's root, or one of a table, to the next table or at a place. A world is tied where
 -- whatever they lead to can be reached, as the log tells.
 use Rattle.std.specs.Prelude.{◌≡◌, ◌⊎◌, ℕ, zero, suc, ◌+◌, ◌<◌, true, false, cond, eqb, List, [], ◌∷◌, Option, Some}
-use Rattle.seize_acts.specs.Given.SeizeWords.Mem.{Mem, value_at, word_at}
-use Rattle.seize_acts.specs.Given.SeizeWords.Word.{block_in}
-use Rattle.seize_acts.specs.Given.SeizeWords.declared.at.At.{At}
-use Rattle.seize_acts.specs.Given.SeizeWords.declared.at.At.TheVariants.{Root, Word}
-use Rattle.seize_acts.specs.Given.Seize.Law.{Effect, Unlinked, reachable, is_over, holds}
-use Rattle.seize_acts.specs.Given.Seize.World.{World, IsInside}
+use Rattle.seize_acts.specs.Given.SeizeWordsMem.{Mem, value_at, word_at}
+use Rattle.seize_acts.specs.Given.SeizeWordsWord.{block_in}
+use Rattle.seize_acts.specs.Given.SeizeWordsDeclared.at.At.{At}
+use Rattle.seize_acts.specs.Given.SeizeWordsDeclared.at.At.TheVariants.{Root, Word}
+use Rattle.seize_acts.specs.Given.SeizeLaw.{Effect, Unlinked, reachable, is_over, holds}
+use Rattle.seize_acts.specs.Given.SeizeWorld.{World, IsInside}
 use Rattle.papaya_carries.specs.Given.TablesDeclared.node.Node.{Node}
 use Rattle.papaya_carries.specs.Given.TablesDeclared.node.Node.TheVariants as node
 use Rattle.papaya_carries.specs.Given.TablesDeclared.table_words.TheConstants.{NEXT, PLACES}
 use Rattle.papaya_carries.specs.Given.RuleInWorld.{IsKnownBlock}
-use Rattle.papaya_reclaims.specs.Given.Callers.Sights.{seen_by}
-use Rattle.papaya_reclaims.specs.Given.Finishes.Maps.{Standing}
+use Rattle.papaya_reclaims.specs.Given.CallersSights.{seen_by}
+use Rattle.papaya_reclaims.specs.Given.FinishesMaps.{Standing}
 
 -- the word is one of a table with so many places that links it to the next table, or stands for one of its places
 abbrev pub IsLink : ℕ → ℕ → Type 0

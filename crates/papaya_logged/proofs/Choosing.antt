@@ -1,11 +1,11 @@
 -- Where a choice of a block number comes, the executor is there as before, and the moment shows it as before.
 use Rattle.std.specs.Prelude.{◌⊎◌, ℕ, Bool, List, [], ◌∷◌, Option, Some, None}
 use Rattle.std.proofs.Common.{◌≡◌, refl, ap, inl, inr}
-use Rattle.seize.specs.Given.SeizeWords.Mem.{Mem}
+use Rattle.seize.specs.Given.SeizeWordsMem.{Mem}
 use Rattle.seize.specs.Further.{FurtherFrom, ListFrom}
 use Rattle.seize.specs.World.{World}
-use Rattle.papaya_runs.specs.Given.Tables.Nodes.{deferred_word}
-use Rattle.papaya_runs.specs.Given.Tables.declared.node.Node.{Node}
+use Rattle.papaya_runs.specs.Given.TablesNodes.{deferred_word}
+use Rattle.papaya_runs.specs.Given.TablesDeclared.node.Node.{Node}
 use Rattle.papaya_remains.specs.Given.SchedulesDeclared.effect.Table.{Table}
 use Rattle.papaya_remains.specs.Given.SchedulesMoment.{Behind, Moment}
 use Rattle.papaya_remains.specs.Given.EffectsKnown.{Known, known}

@@ -5,7 +5,7 @@ use Rattle.std.proofs.lemmas.Bool.{cases_lt}
 use Rattle.std.proofs.lemmas.Grind.{flat_map-append}
 use Rattle.std.proofs.lemmas.List.{append-nil}
 use Rattle.seize.specs.World.{times}
-use Rattle.papaya_runs.specs.Given.Tables.declared.status.TheConstants.Status.{ABORTED}
+use Rattle.papaya_runs.specs.Given.TablesDeclared.status.TheConstants.Status.{ABORTED}
 use Rattle.papaya_remains.specs.Given.SchedulesDeclared.effect.Effect.TheVariants.{Ended}
 use Rattle.papaya_remains.specs.Given.SchedulesDeclared.effect.Spot.{Spot}
 use Rattle.papaya_remains.specs.Given.SchedulesHanding.{pairs_ended, in_order}

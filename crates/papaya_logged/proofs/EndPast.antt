@@ -2,8 +2,8 @@
 use Rattle.std.specs.Prelude.{◌≡◌, ◌<◌, ◌≤◌, ◌-◌, ℕ, zero, suc, Bool, false, List, [], ◌∷◌, ◌++◌, map}
 use Rattle.std.proofs.Common.{refl, ap, ◌∙◌, arith, inl, inr}
 use Rattle.seize.specs.World.{World, InUse, LeftTo, times}
-use Rattle.papaya_runs.specs.Given.Tables.Chunks.{is_incremental}
-use Rattle.papaya_runs.specs.Given.Tables.declared.node.Node.{Node}
+use Rattle.papaya_runs.specs.Given.TablesChunks.{is_incremental}
+use Rattle.papaya_runs.specs.Given.TablesDeclared.node.Node.{Node}
 use Rattle.papaya_remains.specs.Given.RawDeclared.machines.end_map.Ending.{Ending}
 use Rattle.papaya_remains.specs.Given.RawDeclared.machines.end_map.Ending.TheVariants as at
 use Rattle.papaya_reclaiming.specs.Given.FinishesEndings.{Finishing, FinishingFacts}

@@ -1,13 +1,13 @@
 -- What a step of the end of a map tells: that it wrote a word of its root, or the link of a pair that waits, or that it took a block away. One that takes none has no effect.
 use Rattle.std.specs.Prelude.{◌≡◌, ℕ, Bool, true, false, List, [], if◌then◌else◌}
 use Rattle.std.proofs.Common.{refl, sym, subst}
-use Rattle.seize.specs.Given.SeizeWords.declared.at.At.{At}
-use Rattle.seize.specs.Given.SeizeWords.declared.at.At.TheVariants.{Root, Used, Slot, Entry, Word}
-use Rattle.seize.specs.Given.SeizeWords.Mem.{Mem}
-use Rattle.seize.specs.Given.SeizeWords.Op.{Op, Out, Load, Store, Swap, Add, Or, Exchange, Make, Take, Rewrite, Room}
-use Rattle.seize.specs.Given.SeizeWords.Plan.{Plan, Turn, Do}
+use Rattle.seize.specs.Given.SeizeWordsDeclared.at.At.{At}
+use Rattle.seize.specs.Given.SeizeWordsDeclared.at.At.TheVariants.{Root, Used, Slot, Entry, Word}
+use Rattle.seize.specs.Given.SeizeWordsMem.{Mem}
+use Rattle.seize.specs.Given.SeizeWordsOp.{Op, Out, Load, Store, Swap, Add, Or, Exchange, Make, Take, Rewrite, Room}
+use Rattle.seize.specs.Given.SeizeWordsPlan.{Plan, Turn, Do}
 use Rattle.seize.specs.declared.rows.settle.Settled.{Settled}
-use Rattle.papaya_runs.specs.Given.Tables.declared.node.Node.{Node}
+use Rattle.papaya_runs.specs.Given.TablesDeclared.node.Node.{Node}
 use Rattle.papaya_remains.specs.Given.RawEndMap.{plan_at, end_map_plan}
 use Rattle.papaya_remains.specs.Given.RawDeclared.machines.end_map.EndMap.{EndMap}
 use Rattle.papaya_remains.specs.Given.RawDeclared.machines.end_map.Ending.{Ending}

@@ -3,16 +3,16 @@ use Rattle.std.specs.Prelude.{◌≡◌, ◌≢◌, ◌⊎◌, ◌<◌, ◌≤�
 use Rattle.std.proofs.Common.{refl, ap, sym, subst, ◌∙◌, inl, inr, arith}
 use Rattle.std.proofs.lemmas.Bool.{cases_eq, cases_lt}
 use Rattle.std.proofs.lemmas.List.{append-nil, append_assoc}
-use Rattle.seize.specs.Given.SeizeWords.Mem.{Mem, value_at}
+use Rattle.seize.specs.Given.SeizeWordsMem.{Mem, value_at}
 use Rattle.seize.specs.Further.{FurtherFrom, FurtherAre}
 use Rattle.seize.specs.declared.rows.settle.Settled.{Settled}
 use Rattle.seize.specs.declared.rows.settle.Settled.TheVariants as settled
 use Rattle.seize.specs.World.{World, InUse, MayCut, Runs, times}
 use Rattle.papaya_remains.proofs.Given.SeizeAloneHistories.Reached.{Reached, runs_reached}
-use Rattle.papaya_runs.specs.Given.Tables.Chunks.{is_incremental}
-use Rattle.papaya_runs.specs.Given.Tables.Nodes.{deferred_word}
-use Rattle.papaya_runs.specs.Given.Tables.declared.node.Node.{Node}
-use Rattle.papaya_runs.specs.Given.Tables.declared.node.Node.TheVariants as node
+use Rattle.papaya_runs.specs.Given.TablesChunks.{is_incremental}
+use Rattle.papaya_runs.specs.Given.TablesNodes.{deferred_word}
+use Rattle.papaya_runs.specs.Given.TablesDeclared.node.Node.{Node}
+use Rattle.papaya_runs.specs.Given.TablesDeclared.node.Node.TheVariants as node
 use Rattle.papaya_remains.specs.Given.RawDeclared.machines.end_map.EndMap.{EndMap}
 use Rattle.papaya_remains.specs.Given.SchedulesDeclared.effect.Effect.{Effect}
 use Rattle.papaya_remains.specs.Given.SchedulesDeclared.effect.Table.{Table}

@@ -1,10 +1,10 @@
 -- How slots are used once a row has ended: each of its steps leads there.
 use Rattle.std.specs.Prelude.{◌≡◌, ℕ, ◌+◌, ◌==◌, Bool, true, false, List, slice_set, nat_lt, Option, Some, None, Ok, Err, if◌then◌else◌}
 use Rattle.std.proofs.Common.{refl, sym, ap, subst, ◌∙◌}
-use Rattle.seize.specs.Given.SeizeWords.Mem.{Mem, Took, value_at}
-use Rattle.seize.specs.Given.SeizeWords.Op.{Out, Found, Exchanged, Roomed}
-use Rattle.seize.specs.Given.SeizeWords.Plan.{Steps}
-use Rattle.seize.specs.Given.SeizeWords.declared.fault.Fault.TheVariants.{SlotsUsedUp}
+use Rattle.seize.specs.Given.SeizeWordsMem.{Mem, Took, value_at}
+use Rattle.seize.specs.Given.SeizeWordsOp.{Out, Found, Exchanged, Roomed}
+use Rattle.seize.specs.Given.SeizeWordsPlan.{Steps}
+use Rattle.seize.specs.Given.SeizeWordsDeclared.fault.Fault.TheVariants.{SlotsUsedUp}
 use Rattle.seize.specs.declared.states.TheConstants.{ACTIVE, LAST_SLOT}
 use Rattle.seize.specs.declared.progress.Progress.{Progress}
 use Rattle.seize.specs.declared.progress.Progress.TheVariants as progress
@@ -25,8 +25,8 @@ use Rattle.seize.specs.Register as register
 use Rattle.seize.specs.Settle.{settle_plan}
 use Rattle.papaya_reclaiming.proofs.Given.SeizeRuleRows.Leaving.{steps_back}
 use Rattle.papaya_remains.proofs.Given.SeizeEndsBatches.Free.{Outcomes, PlanOutcomes, plan_outcome, if_outcome}
-use Rattle.papaya_runs.specs.Given.Tables.Nodes.{deferred_word}
-use Rattle.papaya_runs.specs.Given.Tables.declared.node.Node.{Node}
+use Rattle.papaya_runs.specs.Given.TablesNodes.{deferred_word}
+use Rattle.papaya_runs.specs.Given.TablesDeclared.node.Node.{Node}
 use Rattle.papaya_reclaiming.specs.Given.TellerDeclared.changed.Changed.{Changed}
 use Rattle.papaya_reclaiming.specs.Given.TellerDeclared.changed.Changed.TheVariants.{Nothing}
 use Rattle.papaya_reclaiming.specs.Given.ScenesDeclared.row.RowTold.{RowTold}

@@ -6,9 +6,9 @@ use Rattle.std.proofs.lemmas.Bool.{cases_eq, cases_lt, eqb-true}
 use Rattle.std.proofs.lemmas.List.{get_or-take, get_or_past, length-take-le}
 use Rattle.seize.specs.declared.progress.Progress.{Progress}
 use Rattle.seize.specs.declared.progress.Progress.TheVariants as progress
-use Rattle.seize.specs.Given.SeizeWords.Mem.{Mem}
-use Rattle.papaya_runs.specs.Given.Tables.declared.node.Node.{Node}
-use Rattle.papaya_runs.specs.Given.Tables.declared.setting.Setting.{Setting}
+use Rattle.seize.specs.Given.SeizeWordsMem.{Mem}
+use Rattle.papaya_runs.specs.Given.TablesDeclared.node.Node.{Node}
+use Rattle.papaya_runs.specs.Given.TablesDeclared.setting.Setting.{Setting}
 use Rattle.papaya_remains.specs.Given.SchedulesDeclared.effect.Effect.{Effect}
 use Rattle.papaya_remains.specs.Given.SchedulesDeclared.effect.Effect.TheVariants.{Asked}
 use Rattle.papaya_remains.specs.Given.SchedulesEffects.{with_effect, with_effects}

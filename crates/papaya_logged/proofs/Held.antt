@@ -6,8 +6,8 @@ use Rattle.std.proofs.lemmas.List.{get_or_past}
 use Rattle.seize.specs.declared.progress.Progress.{Progress as Making}
 use Rattle.seize.specs.declared.rows.reclaim_all.ReclaimAll.{ReclaimAll}
 use Rattle.seize.specs.declared.rows.settle.Settled.{Settled}
-use Rattle.papaya_runs.specs.Given.Tables.declared.node.Node.{Node}
-use Rattle.papaya_runs.specs.Given.Tables.declared.setting.Setting.{Setting}
+use Rattle.papaya_runs.specs.Given.TablesDeclared.node.Node.{Node}
+use Rattle.papaya_runs.specs.Given.TablesDeclared.setting.Setting.{Setting}
 use Rattle.papaya_reclaiming.specs.Given.FinishesMaps.{Standing}
 use Rattle.papaya_remains.specs.Given.MomentsNumbers.{MapsAreBelow}
 use Rattle.papaya_remains.specs.Given.RawDeclared.machines.progress.Progress.{Progress}

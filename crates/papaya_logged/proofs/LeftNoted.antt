@@ -1,7 +1,7 @@
 -- After each step what is left over is noted as the pairs as which it was.
 use Rattle.std.specs.Prelude.{◌≡◌, ◌+◌, ℕ, Bool, List, Option, None, Some, IsSome}
 use Rattle.std.proofs.Common.{refl, sym, subst, ◌∙◌, inl, inr}
-use Rattle.seize.specs.Given.SeizeWords.Mem.{value_at}
+use Rattle.seize.specs.Given.SeizeWordsMem.{value_at}
 use Rattle.seize.specs.declared.progress.Progress.{Progress}
 use Rattle.seize.specs.declared.rows.settle.Settled.{Settled}
 use Rattle.seize.specs.declared.rows.settle.Settled.TheVariants as settled
@@ -10,9 +10,9 @@ use Rattle.seize.specs.World.{World, Hand, LeftTo, Step}
 use Rattle.papaya_reclaiming.proofs.Given.SeizeRulePoints.Aside.{HandFits}
 use Rattle.papaya_reclaiming.proofs.Given.SeizeRuleWords.There.{value_there}
 use Rattle.papaya_remains.proofs.Given.SeizeAloneHistories.Reached.{Reached, runs_reached, steps_reached}
-use Rattle.papaya_runs.specs.Given.Tables.Nodes.{deferred_word}
-use Rattle.papaya_runs.specs.Given.Tables.declared.node.Node.{Node}
-use Rattle.papaya_runs.specs.Given.Tables.declared.setting.Setting.{Setting}
+use Rattle.papaya_runs.specs.Given.TablesNodes.{deferred_word}
+use Rattle.papaya_runs.specs.Given.TablesDeclared.node.Node.{Node}
+use Rattle.papaya_runs.specs.Given.TablesDeclared.setting.Setting.{Setting}
 use Rattle.papaya_remains.specs.Given.RawDeclared.machines.progress.Progress.{Progress as CallTold}
 use Rattle.papaya_remains.specs.Given.SchedulesMoment.{Moment}
 use Rattle.papaya_reclaiming.specs.Given.CallersTogether.{UnderWay}

@@ -2,20 +2,20 @@
 use Rattle.std.specs.Prelude.{◌≡◌, ◌+◌, ◌/◌, ◌%◌, ◌^◌, ℕ, Bool, true, false, Ok, Err}
 use Rattle.std.specs.List.{list_all}
 use Rattle.std.proofs.Common.{refl, ap, subst, sym, ◌∙◌, inl, inr}
-use Rattle.seize.specs.Given.SeizeWords.declared.at.At.{At}
-use Rattle.seize.specs.Given.SeizeWords.declared.at.At.TheVariants.{Root, Used, Slot, Entry, Word}
-use Rattle.seize.specs.Given.SeizeWords.Mem.{Mem, value_at}
-use Rattle.seize.specs.Given.SeizeWords.Op.{Op, Out, Found, Stored, Exchanged, Made, Taken, Roomed, Exchange, Make}
-use Rattle.seize.specs.Given.SeizeWords.Plan.{Plan, Then, Now, Seeing, Sure, Turn, Do, Ends, then_as, plan_as}
-use Rattle.seize.proofs.Given.SeizeWords.OneOwner.Operations.{exchanged, taken}
+use Rattle.seize.specs.Given.SeizeWordsDeclared.at.At.{At}
+use Rattle.seize.specs.Given.SeizeWordsDeclared.at.At.TheVariants.{Root, Used, Slot, Entry, Word}
+use Rattle.seize.specs.Given.SeizeWordsMem.{Mem, value_at}
+use Rattle.seize.specs.Given.SeizeWordsOp.{Op, Out, Found, Stored, Exchanged, Made, Taken, Roomed, Exchange, Make}
+use Rattle.seize.specs.Given.SeizeWordsPlan.{Plan, Then, Now, Seeing, Sure, Turn, Do, Ends, then_as, plan_as}
+use Rattle.seize.proofs.Given.SeizeWordsOneOwner.Operations.{exchanged, taken}
 use Rattle.seize.specs.declared.progress.Progress.{Progress}
 use Rattle.seize.specs.declared.progress.Progress.TheVariants as progress
-use Rattle.papaya_runs.specs.Given.Tables.declared.node.Node.{Node}
-use Rattle.papaya_runs.specs.Given.Tables.declared.node.Node.TheVariants as node
-use Rattle.papaya_runs.specs.Given.Tables.declared.setting.Setting.{Setting}
-use Rattle.papaya_runs.specs.Given.Tables.declared.table.Table.{Table}
-use Rattle.papaya_runs.specs.Given.Tables.declared.table_words.TheConstants.{PLACES}
-use Rattle.papaya_runs.specs.Given.Tables.declared.lengths.Reason.{Reason}
+use Rattle.papaya_runs.specs.Given.TablesDeclared.node.Node.{Node}
+use Rattle.papaya_runs.specs.Given.TablesDeclared.node.Node.TheVariants as node
+use Rattle.papaya_runs.specs.Given.TablesDeclared.setting.Setting.{Setting}
+use Rattle.papaya_runs.specs.Given.TablesDeclared.table.Table.{Table}
+use Rattle.papaya_runs.specs.Given.TablesDeclared.table_words.TheConstants.{PLACES}
+use Rattle.papaya_runs.specs.Given.TablesDeclared.lengths.Reason.{Reason}
 use Rattle.papaya_reclaiming.specs.Given.ResizeNewMap as new_map
 use Rattle.papaya_reclaiming.specs.Given.ResizeNewTable as new_table
 use Rattle.papaya_reclaiming.specs.Given.ResizeSum as sums

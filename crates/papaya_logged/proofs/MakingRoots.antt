@@ -3,19 +3,19 @@ use Rattle.std.specs.Prelude.{◌≡◌, ◌≢◌, ◌<◌, ◌≤◌, ◌+◌,
 use Rattle.std.proofs.Common.{refl, ap, subst, sym, ◌∙◌, inl, inr, arith}
 use Rattle.std.proofs.lemmas.Bool.{cases_eq, cases_lt, eq-eqb, ne_eqb}
 use Rattle.std.proofs.lemmas.List.Folds.{list_any-append}
-use Rattle.seize.specs.Given.SeizeWords.declared.at.At.TheVariants.{Used}
-use Rattle.seize.specs.Given.SeizeWords.declared.fault.Fault.{Fault}
-use Rattle.seize.specs.Given.SeizeWords.declared.fault.Fault.TheVariants.{Memory, RootsUsedUp}
-use Rattle.seize.specs.Given.SeizeWords.Mem.{Mem, value_at, word_at}
-use Rattle.seize.specs.Given.SeizeWords.Op.{Out, Found, Stored, Exchanged, Made, Taken, Roomed, Make}
-use Rattle.seize.specs.Given.SeizeWords.Plan.{Ends}
-use Rattle.seize.proofs.Given.SeizeWords.OneOwner.Operations.{exchanged}
+use Rattle.seize.specs.Given.SeizeWordsDeclared.at.At.TheVariants.{Used}
+use Rattle.seize.specs.Given.SeizeWordsDeclared.fault.Fault.{Fault}
+use Rattle.seize.specs.Given.SeizeWordsDeclared.fault.Fault.TheVariants.{Memory, RootsUsedUp}
+use Rattle.seize.specs.Given.SeizeWordsMem.{Mem, value_at, word_at}
+use Rattle.seize.specs.Given.SeizeWordsOp.{Out, Found, Stored, Exchanged, Made, Taken, Roomed, Make}
+use Rattle.seize.specs.Given.SeizeWordsPlan.{Ends}
+use Rattle.seize.proofs.Given.SeizeWordsOneOwner.Operations.{exchanged}
 use Rattle.seize.specs.declared.progress.Progress.{Progress}
 use Rattle.seize.specs.declared.progress.Progress.TheVariants as progress
-use Rattle.papaya_runs.specs.Given.Tables.declared.node.Node.{Node}
-use Rattle.papaya_runs.specs.Given.Tables.declared.node.Node.TheVariants as node
-use Rattle.papaya_runs.specs.Given.Tables.declared.setting.Setting.{Setting}
-use Rattle.papaya_runs.specs.Given.Tables.declared.table.Table.{Table}
+use Rattle.papaya_runs.specs.Given.TablesDeclared.node.Node.{Node}
+use Rattle.papaya_runs.specs.Given.TablesDeclared.node.Node.TheVariants as node
+use Rattle.papaya_runs.specs.Given.TablesDeclared.setting.Setting.{Setting}
+use Rattle.papaya_runs.specs.Given.TablesDeclared.table.Table.{Table}
 use Rattle.papaya_reclaiming.specs.Given.ResizeNewMap as new_map
 use Rattle.papaya_reclaiming.specs.Given.ResizeNewTable as new_table
 use Rattle.papaya_reclaiming.specs.Given.ResizeDeclared.new_table.NewTable.{NewTable}

@@ -4,7 +4,7 @@ use Rattle.std.proofs.Common.{refl, ap, subst, sym, ◌∙◌, arith}
 use Rattle.seize.specs.World.{with_at}
 use Rattle.seize.specs.declared.progress.Progress.{Progress}
 use Rattle.seize.specs.declared.progress.Progress.TheVariants as progress
-use Rattle.papaya_runs.specs.Given.Tables.declared.setting.Setting.{Setting}
+use Rattle.papaya_runs.specs.Given.TablesDeclared.setting.Setting.{Setting}
 use Rattle.papaya_remains.specs.Given.SchedulesDeclared.effect.Effect.{Effect}
 use Rattle.papaya_remains.specs.Given.SchedulesBeginning.{with_map}
 use Rattle.papaya_remains.specs.Given.SchedulesEffects.{with_effects}

@@ -1,21 +1,21 @@
 -- The making of a first table: which machine it may be, and that it is refused for want of memory alone.
 use Rattle.std.specs.Prelude.{◌≡◌, ◌+◌, ◌/◌, ◌%◌, ◌^◌, ◌≤◌, nat_le, ℕ, Bool, true, false, max, Ok, Err, if◌then◌else◌}
 use Rattle.std.proofs.Common.{refl, subst, sym, arith}
-use Rattle.seize.specs.Given.SeizeWords.declared.at.At.{At}
-use Rattle.seize.specs.Given.SeizeWords.declared.at.At.TheVariants.{Root, Used, Slot, Entry, Word}
-use Rattle.seize.specs.Given.SeizeWords.declared.fault.Fault.TheVariants.{Capacity, Memory}
-use Rattle.seize.specs.Given.SeizeWords.Mem.{Mem, value_at}
-use Rattle.seize.specs.Given.SeizeWords.Op.{Out, Found, Stored, Exchanged, Made, Taken, Roomed, Make}
-use Rattle.seize.specs.Given.SeizeWords.Plan.{Ends}
-use Rattle.seize.proofs.Given.SeizeWords.OneOwner.Operations.{taken}
+use Rattle.seize.specs.Given.SeizeWordsDeclared.at.At.{At}
+use Rattle.seize.specs.Given.SeizeWordsDeclared.at.At.TheVariants.{Root, Used, Slot, Entry, Word}
+use Rattle.seize.specs.Given.SeizeWordsDeclared.fault.Fault.TheVariants.{Capacity, Memory}
+use Rattle.seize.specs.Given.SeizeWordsMem.{Mem, value_at}
+use Rattle.seize.specs.Given.SeizeWordsOp.{Out, Found, Stored, Exchanged, Made, Taken, Roomed, Make}
+use Rattle.seize.specs.Given.SeizeWordsPlan.{Ends}
+use Rattle.seize.proofs.Given.SeizeWordsOneOwner.Operations.{taken}
 use Rattle.seize.specs.declared.progress.Progress.{Progress}
 use Rattle.seize.specs.declared.progress.Progress.TheVariants as progress
-use Rattle.papaya_runs.specs.Given.Tables.declared.node.Node.{Node}
-use Rattle.papaya_runs.specs.Given.Tables.declared.node.Node.TheVariants as node
-use Rattle.papaya_runs.specs.Given.Tables.declared.setting.Setting.{Setting}
-use Rattle.papaya_runs.specs.Given.Tables.declared.table.Table.{Table}
-use Rattle.papaya_runs.specs.Given.Tables.declared.table_words.TheConstants.{PLACES}
-use Rattle.papaya_runs.specs.Given.Tables.Probes.{limit_of}
+use Rattle.papaya_runs.specs.Given.TablesDeclared.node.Node.{Node}
+use Rattle.papaya_runs.specs.Given.TablesDeclared.node.Node.TheVariants as node
+use Rattle.papaya_runs.specs.Given.TablesDeclared.setting.Setting.{Setting}
+use Rattle.papaya_runs.specs.Given.TablesDeclared.table.Table.{Table}
+use Rattle.papaya_runs.specs.Given.TablesDeclared.table_words.TheConstants.{PLACES}
+use Rattle.papaya_runs.specs.Given.TablesProbes.{limit_of}
 use Rattle.papaya_reclaiming.specs.Given.ResizeNewTable as new_table
 use Rattle.papaya_reclaiming.specs.Given.ResizeDeclared.new_table.NewTable.{NewTable}
 use Rattle.papaya_reclaiming.specs.Given.ResizeDeclared.new_table.Making.{Making}

@@ -2,10 +2,10 @@
 use Rattle.std.specs.Prelude.{◌≡◌, ◌==◌, ℕ, Bool, true, false, Some, None, Ok, Err, if◌then◌else◌}
 use Rattle.std.proofs.Common.{ap, sym, subst, ◌∙◌, inl, inr}
 use Rattle.std.proofs.lemmas.Bool.{cases_eq}
-use Rattle.seize.specs.Given.SeizeWords.Mem.{Mem, Took, value_at}
-use Rattle.seize.specs.Given.SeizeWords.Op.{Op, Out, Load, Store, Swap, Add, Or, Exchange, Make, Take, Rewrite, Room, Found, Exchanged, Made, Taken, Roomed}
-use Rattle.seize.specs.Given.SeizeWords.Plan.{Plan, Turn, Do, Now, Ends}
-use Rattle.seize.specs.Given.SeizeWords.Word.{block_in}
+use Rattle.seize.specs.Given.SeizeWordsMem.{Mem, Took, value_at}
+use Rattle.seize.specs.Given.SeizeWordsOp.{Op, Out, Load, Store, Swap, Add, Or, Exchange, Make, Take, Rewrite, Room, Found, Exchanged, Made, Taken, Roomed}
+use Rattle.seize.specs.Given.SeizeWordsPlan.{Plan, Turn, Do, Now, Ends}
+use Rattle.seize.specs.Given.SeizeWordsWord.{block_in}
 use Rattle.seize.specs.Leave as leave
 use Rattle.seize.specs.ReclaimAll as all
 use Rattle.seize.specs.Settle as settle
@@ -20,8 +20,8 @@ use Rattle.seize.specs.declared.rows.settle.Settled.{Settled}
 use Rattle.seize.specs.declared.rows.settle.Settled.TheVariants as settled
 use Rattle.seize.specs.declared.rows.settle.Settling.{Settling}
 use Rattle.seize.specs.declared.rows.settle.Settling.TheVariants as settling
-use Rattle.papaya_runs.specs.Given.Tables.Nodes.{deferred_word, was_left}
-use Rattle.papaya_runs.specs.Given.Tables.declared.node.Node.{Node}
+use Rattle.papaya_runs.specs.Given.TablesNodes.{deferred_word, was_left}
+use Rattle.papaya_runs.specs.Given.TablesDeclared.node.Node.{Node}
 use Rattle.papaya_reclaiming.specs.Given.TellsSeen.{seen_of}
 use Rattle.papaya_reclaiming.specs.Given.TellerTells.{StepsTold, told_of}
 use Rattle.papaya_reclaiming.specs.Given.TellerDeclared.changed.Changed.{Changed}

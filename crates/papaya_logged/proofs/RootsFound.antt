@@ -2,13 +2,13 @@
 use Rattle.std.specs.Prelude.{◌≡◌, ◌<◌, ◌≤◌, ◌^◌, ◌⊎◌, ℕ, Bool, true, false, List, [], ◌++◌, max, Option, Some, option_map}
 use Rattle.std.proofs.Common.{refl, ap, subst, sym, ◌∙◌, inl, inr, arith}
 use Rattle.std.proofs.lemmas.List.{append-nil, append_assoc}
-use Rattle.seize.specs.Given.SeizeWords.declared.at.At.TheVariants.{Used}
-use Rattle.seize.specs.Given.SeizeWords.Mem.{Mem, word_at}
+use Rattle.seize.specs.Given.SeizeWordsDeclared.at.At.TheVariants.{Used}
+use Rattle.seize.specs.Given.SeizeWordsMem.{Mem, word_at}
 use Rattle.seize.specs.World.{World}
 use Rattle.seize.specs.declared.progress.Progress.{Progress}
 use Rattle.seize.specs.declared.progress.Progress.TheVariants as progress
-use Rattle.papaya_runs.specs.Given.Tables.declared.node.Node.{Node}
-use Rattle.papaya_runs.specs.Given.Tables.declared.setting.Setting.{Setting}
+use Rattle.papaya_runs.specs.Given.TablesDeclared.node.Node.{Node}
+use Rattle.papaya_runs.specs.Given.TablesDeclared.setting.Setting.{Setting}
 use Rattle.papaya_reclaiming.specs.Given.ResizeNewMap.{opening}
 use Rattle.papaya_reclaiming.specs.Given.ResizeDeclared.new_map.NewMap.{NewMap}
 use Rattle.papaya_reclaiming.specs.Given.ResizeDeclared.new_map.Opening.{Opening}

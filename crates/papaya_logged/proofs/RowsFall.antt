@@ -1,8 +1,8 @@
 -- A row on a slot that goes on, and does not wait, has less to go after its step.
 use Rattle.std.specs.Prelude.{◌≡◌, ◌<◌, ℕ, suc, Bool, true, false, Option, Some}
 use Rattle.std.proofs.Common.{refl, sym, ap, subst, ◌∙◌, arith}
-use Rattle.seize.specs.Given.SeizeWords.Mem.{Mem, Took, value_at}
-use Rattle.seize.specs.Given.SeizeWords.Plan.{Steps}
+use Rattle.seize.specs.Given.SeizeWordsMem.{Mem, Took, value_at}
+use Rattle.seize.specs.Given.SeizeWordsPlan.{Steps}
 use Rattle.seize.specs.declared.progress.Progress.{Progress}
 use Rattle.seize.specs.declared.progress.Progress.TheVariants as progress
 use Rattle.seize.specs.declared.rows.enter.Enter.{Enter}
@@ -19,8 +19,8 @@ use Rattle.papaya_remains.proofs.Given.SeizeEndsRows.Among.{Came, row_steps_left
 use Rattle.papaya_remains.proofs.Given.SeizeEndsRows.Leaving.{leave_steps_left}
 use Rattle.papaya_remains.proofs.Given.SeizeEndsRows.Register.{register_to_go, register_ends}
 use Rattle.papaya_remains.proofs.Given.SeizeEndsSettling.Most.{goes_further, settle_steps_left}
-use Rattle.papaya_runs.specs.Given.Tables.Nodes.{deferred_word}
-use Rattle.papaya_runs.specs.Given.Tables.declared.node.Node.{Node}
+use Rattle.papaya_runs.specs.Given.TablesNodes.{deferred_word}
+use Rattle.papaya_runs.specs.Given.TablesDeclared.node.Node.{Node}
 use Rattle.papaya_reclaiming.specs.Given.TellerDeclared.changed.Changed.{Changed}
 use Rattle.papaya_reclaiming.specs.Given.TellerDeclared.changed.Changed.TheVariants.{Nothing}
 use Rattle.papaya_reclaiming.specs.Given.ExecutorDeclared.executor.Executor.{Executor}

@@ -3,8 +3,8 @@ use Rattle.std.specs.Prelude.{◌≡◌, ◌-◌, ℕ, Bool, List, [], ◌∷◌
 use Rattle.std.specs.List.{AllByRecursion}
 use Rattle.seize.specs.declared.rows.settle.Settled.{Settled}
 use Rattle.seize.specs.declared.rows.settle.Settled.TheVariants as settled
-use Rattle.papaya_runs.specs.Given.Tables.declared.node.Node.{Node}
-use Rattle.papaya_runs.specs.Given.Tables.declared.node.Node.TheVariants as node
+use Rattle.papaya_runs.specs.Given.TablesDeclared.node.Node.{Node}
+use Rattle.papaya_runs.specs.Given.TablesDeclared.node.Node.TheVariants as node
 use Rattle.papaya_runs.specs.declared.record.Pair.{Pair}
 use Rattle.papaya_runs.specs.Pairs.{numbers}
 use Rattle.papaya_runs.specs.Runs.{IsStored}

@@ -1,7 +1,7 @@
 -- Where the beginning and a step of a call lead, and what they do; where a call goes on by what it is told, or asked.
 use Rattle.std.specs.Prelude.{◌≡◌, ℕ, Bool, true, List, ◌++◌, Option, Some, Result, Ok}
 use Rattle.std.specs.List.{list_any}
-use Rattle.papaya_runs.specs.Given.Tables.declared.node.Node.{Node}
+use Rattle.papaya_runs.specs.Given.TablesDeclared.node.Node.{Node}
 use Rattle.papaya_remains.specs.Given.RawMachine.{machine_asked, machine_replied}
 use Rattle.papaya_remains.specs.Given.RawDeclared.machines.asking.Reply.{Reply as MachineReply}
 use Rattle.papaya_remains.specs.Given.RawDeclared.machines.machine.Machine.{Machine}

@@ -1,6 +1,6 @@
 -- A choice of a free block number joins those that are left.
 use Rattle.std.specs.Prelude.{ℕ, Bool, List, [], ◌∷◌, ◌++◌}
-use Rattle.seize.specs.Given.SeizeWords.Mem.{Mem}
+use Rattle.seize.specs.Given.SeizeWordsMem.{Mem}
 use Rattle.papaya_remains.specs.Given.SchedulesMoment.{Moment}
 use Rattle.papaya_logged.specs.Shown.{IsShown}
 use Rattle.papaya_logged.specs.declared.logged.Logged.{Logged}

@@ -1,8 +1,8 @@
 -- The words of the crates below, given on to the crates above: these list this crate in place of those.
-pub use Rattle.seize.specs.Given.SeizeWords.Mem as SeizeWordsMem
-pub use Rattle.seize.specs.Given.SeizeWords.Op as SeizeWordsOp
-pub use Rattle.seize.specs.Given.SeizeWords.Plan as SeizeWordsPlan
-pub use Rattle.seize.specs.Given.SeizeWords.declared as SeizeWordsDeclared
+pub use Rattle.seize.specs.Given.SeizeWordsMem as SeizeWordsMem
+pub use Rattle.seize.specs.Given.SeizeWordsOp as SeizeWordsOp
+pub use Rattle.seize.specs.Given.SeizeWordsPlan as SeizeWordsPlan
+pub use Rattle.seize.specs.Given.SeizeWordsDeclared as SeizeWordsDeclared
 pub use Rattle.seize.specs.Enter as SeizeEnter
 pub use Rattle.seize.specs.Leave as SeizeLeave
 pub use Rattle.seize.specs.Register as SeizeRegister
@@ -14,8 +14,8 @@ pub use Rattle.papaya_remains.specs.Given.SeizeEndsHolders
 pub use Rattle.papaya_remains.specs.Given.SeizeActsWaits
 pub use Rattle.papaya_reclaiming.specs.Given.SeizeReclaimsAllReclaimed
 pub use Rattle.papaya_reclaiming.specs.Given.SeizeReclaimsRoots
-pub use Rattle.papaya_runs.specs.Given.Tables.Nodes as TablesNodes
-pub use Rattle.papaya_runs.specs.Given.Tables.declared as TablesDeclared
+pub use Rattle.papaya_runs.specs.Given.TablesNodes as TablesNodes
+pub use Rattle.papaya_runs.specs.Given.TablesDeclared as TablesDeclared
 pub use Rattle.papaya_reclaiming.specs.Given.ResizeLookup
 pub use Rattle.papaya_reclaiming.specs.Given.ResizeNewMap
 pub use Rattle.papaya_reclaiming.specs.Given.ResizeDeclared

@@ -4,8 +4,8 @@ use Rattle.seize.specs.declared.progress.Progress.{Progress}
 use Rattle.seize.specs.declared.rows.reclaim_all.ReclaimAll.{ReclaimAll}
 use Rattle.seize.specs.declared.rows.settle.Settled.{Settled}
 use Rattle.seize.specs.ReclaimAll.{reclaiming_all, clearing}
-use Rattle.papaya_runs.specs.Given.Tables.declared.node.Node.{Node}
-use Rattle.papaya_runs.specs.Given.Tables.declared.setting.Setting.{Setting}
+use Rattle.papaya_runs.specs.Given.TablesDeclared.node.Node.{Node}
+use Rattle.papaya_runs.specs.Given.TablesDeclared.setting.Setting.{Setting}
 use Rattle.papaya_reclaiming.specs.Given.ResizeDeclared.new_map.NewMap.{NewMap}
 use Rattle.papaya_remains.specs.Given.RawDeclared.machines.end_map.EndMap.{EndMap}
 use Rattle.papaya_remains.specs.Given.SchedulesDeclared.effect.Effect.{Effect}

@@ -5,8 +5,8 @@ use Rattle.std.specs.Int.{IsPowerOfTwo}
 use Rattle.seize.specs.World.{with_at}
 use Rattle.seize.specs.declared.progress.Progress.{Progress}
 use Rattle.seize.specs.declared.progress.Progress.TheVariants as progress
-use Rattle.papaya_runs.specs.Given.Tables.Lengths.{IsTableLen}
-use Rattle.papaya_runs.specs.Given.Tables.declared.setting.Setting.{Setting}
+use Rattle.papaya_runs.specs.Given.TablesLengths.{IsTableLen}
+use Rattle.papaya_runs.specs.Given.TablesDeclared.setting.Setting.{Setting}
 use Rattle.papaya_reclaiming.specs.Given.ResizeDeclared.new_map.NewMap.{NewMap}
 use Rattle.papaya_reclaiming.specs.Given.ResizeDeclared.new_map.Opening.{Opening}
 use Rattle.papaya_reclaiming.specs.Given.ResizeDeclared.new_map.Opening.TheVariants as opens

@@ -1,11 +1,11 @@
 -- Which roots are taken, and which one the making of a map finds.
 use Rattle.std.specs.Prelude.{◌≡◌, ◌<◌, ◌≤◌, ◌^◌, ◌==◌, ◌||◌, ℕ, Bool, true, false, List, ◌++◌, max, Some, if◌then◌else◌}
-use Rattle.seize.specs.Given.SeizeWords.declared.at.At.TheVariants.{Used}
-use Rattle.seize.specs.Given.SeizeWords.declared.fault.Fault.TheVariants.{Memory, RootsUsedUp}
-use Rattle.seize.specs.Given.SeizeWords.Mem.{Mem, word_at}
+use Rattle.seize.specs.Given.SeizeWordsDeclared.at.At.TheVariants.{Used}
+use Rattle.seize.specs.Given.SeizeWordsDeclared.fault.Fault.TheVariants.{Memory, RootsUsedUp}
+use Rattle.seize.specs.Given.SeizeWordsMem.{Mem, word_at}
 use Rattle.seize.specs.declared.progress.Progress.{Progress}
 use Rattle.seize.specs.declared.progress.Progress.TheVariants as progress
-use Rattle.papaya_runs.specs.Given.Tables.declared.setting.Setting.{Setting}
+use Rattle.papaya_runs.specs.Given.TablesDeclared.setting.Setting.{Setting}
 use Rattle.papaya_reclaiming.specs.Given.ResizeNewMap.{opening}
 use Rattle.papaya_remains.specs.Given.SchedulesDeclared.effect.Effect.{Effect}
 use Rattle.papaya_remains.specs.Given.SchedulesInTurn.{has_grown}

@@ -1,7 +1,7 @@
 -- What an end of a map has left over so far is noted as the pairs that waited behind its tables as it began, in their order.
 use Rattle.std.specs.Prelude.{◌≡◌, ◌<◌, ◌≤◌, ◌-◌, ℕ, zero, suc, Bool, true, false, List, [], ◌++◌, map as each_of}
 use Rattle.seize.specs.World.{World}
-use Rattle.papaya_runs.specs.Given.Tables.declared.node.Node.{Node}
+use Rattle.papaya_runs.specs.Given.TablesDeclared.node.Node.{Node}
 use Rattle.papaya_remains.specs.Given.RawDeclared.machines.end_map.EndMap.{EndMap}
 use Rattle.papaya_reclaiming.specs.Given.RuleChart.{Chart}
 use Rattle.papaya_remains.specs.Given.SchedulesMoment.{Deferral, Moment}

@@ -4,7 +4,7 @@ ghost use Rattle.papaya_remains.specs.Given.EffectsEffects.{effects_of, known_af
 ghost use Rattle.papaya_remains.specs.Given.EffectsKnown.{known};
 ghost use Rattle.papaya_remains.specs.Given.EffectsDeclared.acting.Acting.TheVariants.{Ending};
 ghost use Rattle.papaya_remains.specs.Given.SchedulesMoment.{Moment};
-ghost use Rattle.papaya_runs.specs.Given.Tables.declared.setting.Setting.{Setting};
+ghost use Rattle.papaya_runs.specs.Given.TablesDeclared.setting.Setting.{Setting};
 ghost use Rattle.papaya_reclaiming.specs.Given.ScenesDeclared.callers.TheConstants.{SLOTS};
 ghost use Rattle.papaya_logged.specs.Back.{EndBringsBack};
 ghost use Rattle.papaya_logged.specs.Ends.{EndIsBegun, EndSteps, EndRan, EndIsOver, is_done};

@@ -3,50 +3,50 @@ use Rattle.std.specs.Prelude.{◌≡◌, ℕ, ◌≤◌, ◌==◌, Bool, true, f
 use Rattle.std.specs.Int.{IsPowerOfTwo}
 use Rattle.std.proofs.Common.{inl, inr, refl, ap, sym, subst, ◌∙◌, eqb-true}
 use Rattle.std.proofs.lemmas.Bool.{eq-eqb}
-use Rattle.papaya_finishes.specs.Given.SeizeWords.Mem.{Mem, Can, Took, value_at}
-use Rattle.papaya_finishes.specs.Given.SeizeWords.Plan.{May}
-use Rattle.papaya_finishes.specs.Given.Seize.Law.{holds}
-use Rattle.papaya_finishes.specs.Given.Seize.World.{World, Hand, NoBlock, Making, InUse, Parting, Cutting, Handed, LeftTo, IsInside}
-use Rattle.papaya_finishes.specs.Given.Tables.Chunks.{is_incremental}
-use Rattle.papaya_finishes.specs.Given.Tables.declared.node.Node.{Node}
-use Rattle.papaya_finishes.specs.Given.Tables.declared.setting.Setting.{Setting}
-use Rattle.papaya_finishes.specs.Given.Resize.Sum.{sum_plan}
-use Rattle.papaya_finishes.specs.Given.Resize.declared.sum.Sum.{Sum}
-use Rattle.papaya_finishes.specs.Given.Reserves.Reserve.{reserve_plan}
-use Rattle.papaya_finishes.specs.Given.Sweeps.Sweep.{sweep_plan}
-use Rattle.papaya_finishes.specs.Given.Raw.Call.{call_plan}
-use Rattle.papaya_finishes.specs.Given.Rule.Chart.{Chart}
-use Rattle.papaya_finishes.specs.Given.Rule.Maps.{spot_of}
-use Rattle.papaya_finishes.specs.Given.Rule.Words.{Blocks}
-use Rattle.papaya_finishes.specs.Given.Rule.InWorld.{IsHeldBy, IsMapIn}
-use Rattle.papaya_finishes.proofs.Given.Rule.History.LeavingOn.{leaves_same}
-use Rattle.papaya_finishes.proofs.Given.Rule.World.Framed.{shows_kept}
-use Rattle.papaya_finishes.proofs.Given.Rule.World.WentWrote.{HasCounter, counter_of}
-use Rattle.papaya_finishes.specs.Given.Points.FactsCalls.{Unchanged, CallFacts}
-use Rattle.papaya_finishes.specs.Given.Points.Others.{OthersStep}
-use Rattle.papaya_finishes.specs.Given.Points.Steps.{AreLawful}
-use Rattle.papaya_finishes.specs.Given.Points.Told.{IsRowOfCall}
-use Rattle.papaya_finishes.proofs.Given.Points.Calls.StepsTold.{calls_keep_the_map}
-use Rattle.papaya_finishes.proofs.Given.Points.Making.Sum.{may_sum}
-use Rattle.papaya_finishes.specs.Given.Late.FactsReserves.{ReserveFacts}
-use Rattle.papaya_finishes.specs.Given.Late.LateCalls.{LateCallFacts}
-use Rattle.papaya_finishes.specs.Given.Late.LateReserves.{LateReserveFacts}
-use Rattle.papaya_finishes.specs.Given.Late.Left.{ClaimsAreFew}
-use Rattle.papaya_finishes.specs.Given.Late.ToldReserves.{IsRowOfReserve}
-use Rattle.papaya_finishes.specs.Given.Late.ToldSweeps.{IsRowOfSweep}
-use Rattle.papaya_finishes.proofs.Given.Late.Calls.Points.{late_calls_keep_the_map}
-use Rattle.papaya_finishes.proofs.Given.Late.Copiers.Points.{late_copiers_keep_the_map}
-use Rattle.papaya_finishes.proofs.Given.Late.Lasts.Promised.{calls_know_on}
-use Rattle.papaya_finishes.proofs.Given.Late.Rooms.Laws.{reserves_keep_the_map, late_reserves_keep_the_map, reserves_know_on}
-use Rattle.papaya_finishes.proofs.Given.Late.Swept.Laws.{sweeps_keep_the_map, sweeps_know_on}
-use Rattle.papaya_finishes.specs.Given.Callers.Kept.{IsWithin}
-use Rattle.papaya_finishes.specs.Given.Callers.OverAll.{CallOverAll}
-use Rattle.papaya_finishes.specs.Given.Callers.Rooms.{CallForRoom}
-use Rattle.papaya_finishes.specs.Given.Callers.Sights.{Sight, seen_by}
-use Rattle.papaya_finishes.specs.Given.Callers.Together.{UnderWay, CallOnKey, OnKey, ForRoom, Counting, OverAll, Together, Stands, in_slot}
-use Rattle.papaya_finishes.proofs.Given.Callers.Sights.Seen.{map_seen}
-use Rattle.papaya_finishes.proofs.Given.Callers.Together.Few.{claim_few}
-use Rattle.papaya_finishes.proofs.Given.Callers.Together.Fits.{map_in_slot}
+use Rattle.papaya_finishes.specs.Given.SeizeWordsMem.{Mem, Can, Took, value_at}
+use Rattle.papaya_finishes.specs.Given.SeizeWordsPlan.{May}
+use Rattle.papaya_finishes.specs.Given.SeizeLaw.{holds}
+use Rattle.papaya_finishes.specs.Given.SeizeWorld.{World, Hand, NoBlock, Making, InUse, Parting, Cutting, Handed, LeftTo, IsInside}
+use Rattle.papaya_finishes.specs.Given.TablesChunks.{is_incremental}
+use Rattle.papaya_finishes.specs.Given.TablesDeclared.node.Node.{Node}
+use Rattle.papaya_finishes.specs.Given.TablesDeclared.setting.Setting.{Setting}
+use Rattle.papaya_finishes.specs.Given.ResizeSum.{sum_plan}
+use Rattle.papaya_finishes.specs.Given.ResizeDeclared.sum.Sum.{Sum}
+use Rattle.papaya_finishes.specs.Given.ReservesReserve.{reserve_plan}
+use Rattle.papaya_finishes.specs.Given.SweepsSweep.{sweep_plan}
+use Rattle.papaya_finishes.specs.Given.RawCall.{call_plan}
+use Rattle.papaya_finishes.specs.Given.RuleChart.{Chart}
+use Rattle.papaya_finishes.specs.Given.RuleMaps.{spot_of}
+use Rattle.papaya_finishes.specs.Given.RuleWords.{Blocks}
+use Rattle.papaya_finishes.specs.Given.RuleInWorld.{IsHeldBy, IsMapIn}
+use Rattle.papaya_finishes.proofs.Given.RuleHistory.LeavingOn.{leaves_same}
+use Rattle.papaya_finishes.proofs.Given.RuleWorld.Framed.{shows_kept}
+use Rattle.papaya_finishes.proofs.Given.RuleWorld.WentWrote.{HasCounter, counter_of}
+use Rattle.papaya_finishes.specs.Given.PointsFactsCalls.{Unchanged, CallFacts}
+use Rattle.papaya_finishes.specs.Given.PointsOthers.{OthersStep}
+use Rattle.papaya_finishes.specs.Given.PointsSteps.{AreLawful}
+use Rattle.papaya_finishes.specs.Given.PointsTold.{IsRowOfCall}
+use Rattle.papaya_finishes.proofs.Given.PointsCalls.StepsTold.{calls_keep_the_map}
+use Rattle.papaya_finishes.proofs.Given.PointsMaking.Sum.{may_sum}
+use Rattle.papaya_finishes.specs.Given.LateFactsReserves.{ReserveFacts}
+use Rattle.papaya_finishes.specs.Given.LateLateCalls.{LateCallFacts}
+use Rattle.papaya_finishes.specs.Given.LateLateReserves.{LateReserveFacts}
+use Rattle.papaya_finishes.specs.Given.LateLeft.{ClaimsAreFew}
+use Rattle.papaya_finishes.specs.Given.LateToldReserves.{IsRowOfReserve}
+use Rattle.papaya_finishes.specs.Given.LateToldSweeps.{IsRowOfSweep}
+use Rattle.papaya_finishes.proofs.Given.LateCalls.Points.{late_calls_keep_the_map}
+use Rattle.papaya_finishes.proofs.Given.LateCopiers.Points.{late_copiers_keep_the_map}
+use Rattle.papaya_finishes.proofs.Given.LateLasts.Promised.{calls_know_on}
+use Rattle.papaya_finishes.proofs.Given.LateRooms.Laws.{reserves_keep_the_map, late_reserves_keep_the_map, reserves_know_on}
+use Rattle.papaya_finishes.proofs.Given.LateSwept.Laws.{sweeps_keep_the_map, sweeps_know_on}
+use Rattle.papaya_finishes.specs.Given.CallersKept.{IsWithin}
+use Rattle.papaya_finishes.specs.Given.CallersOverAll.{CallOverAll}
+use Rattle.papaya_finishes.specs.Given.CallersRooms.{CallForRoom}
+use Rattle.papaya_finishes.specs.Given.CallersSights.{Sight, seen_by}
+use Rattle.papaya_finishes.specs.Given.CallersTogether.{UnderWay, CallOnKey, OnKey, ForRoom, Counting, OverAll, Together, Stands, in_slot}
+use Rattle.papaya_finishes.proofs.Given.CallersSights.Seen.{map_seen}
+use Rattle.papaya_finishes.proofs.Given.CallersTogether.Few.{claim_few}
+use Rattle.papaya_finishes.proofs.Given.CallersTogether.Fits.{map_in_slot}
 use Rattle.papaya_looks.specs.Looks.{IsHeldFor}
 use Rattle.papaya_looks.proofs.Restricted.{restricted, value_kept, word_kept}
 

@@ -2,32 +2,32 @@
 use Rattle.std.specs.Prelude.{◌≡◌, ℕ, Bool, Option, Some, IsSome, ◌⊎◌}
 use Rattle.std.specs.Int.{IsPowerOfTwo}
 use Rattle.std.proofs.Common.{true, inl, inr}
-use Rattle.papaya_finishes.specs.Given.SeizeWords.Mem.{Mem, Can, Took, value_at}
-use Rattle.papaya_finishes.specs.Given.SeizeWords.Plan.{May}
-use Rattle.papaya_finishes.proofs.Given.SeizeWords.Plans.{as_may}
-use Rattle.papaya_finishes.specs.Given.Seize.World.{World, IsInside}
-use Rattle.papaya_finishes.specs.Given.Tables.declared.node.Node.{Node}
-use Rattle.papaya_finishes.specs.Given.Resize.Sum.{sum_plan}
-use Rattle.papaya_finishes.specs.Given.Resize.declared.copier.Copying.{Copying}
-use Rattle.papaya_finishes.specs.Given.Resize.declared.copier.Copying.TheVariants as copies
-use Rattle.papaya_finishes.specs.Given.Resize.declared.dispose.Disposing.{Disposing}
-use Rattle.papaya_finishes.specs.Given.Resize.declared.dispose.Disposing.TheVariants as disposes
-use Rattle.papaya_finishes.specs.Given.Reserves.Reserve.{reserve_plan}
-use Rattle.papaya_finishes.specs.Given.Reserves.declared.reserve.Reserving.{Reserving}
-use Rattle.papaya_finishes.specs.Given.Reserves.declared.reserve.Reserving.TheVariants as reserving
-use Rattle.papaya_finishes.specs.Given.Sweeps.Sweep.{sweep_plan}
-use Rattle.papaya_finishes.specs.Given.Sweeps.declared.sweep.Sweeping.{Sweeping}
-use Rattle.papaya_finishes.specs.Given.Sweeps.declared.sweep.Sweeping.TheVariants as sweeping
-use Rattle.papaya_finishes.specs.Given.Raw.Call.{call_plan}
-use Rattle.papaya_finishes.specs.Given.Raw.Machine as machines
-use Rattle.papaya_finishes.specs.Given.Raw.Machine.{machine_plan}
-use Rattle.papaya_finishes.specs.Given.Raw.declared.machines.call.Calling.{Calling}
-use Rattle.papaya_finishes.specs.Given.Raw.declared.machines.call.Calling.TheVariants as at
-use Rattle.papaya_finishes.specs.Given.Points.Steps.{AreLawful}
-use Rattle.papaya_finishes.specs.Given.Points.Told.{IsRowOf, IsRowOfCopier, IsRowOfCall}
-use Rattle.papaya_finishes.specs.Given.Late.ToldReserves.{IsRowOfReserve}
-use Rattle.papaya_finishes.specs.Given.Late.ToldSweeps.{IsRowOfSweep}
-use Rattle.papaya_finishes.specs.Given.Callers.Together.{UnderWay, OnKey, ForRoom, Counting, OverAll, Together}
+use Rattle.papaya_finishes.specs.Given.SeizeWordsMem.{Mem, Can, Took, value_at}
+use Rattle.papaya_finishes.specs.Given.SeizeWordsPlan.{May}
+use Rattle.papaya_finishes.proofs.Given.SeizeWordsPlans.{as_may}
+use Rattle.papaya_finishes.specs.Given.SeizeWorld.{World, IsInside}
+use Rattle.papaya_finishes.specs.Given.TablesDeclared.node.Node.{Node}
+use Rattle.papaya_finishes.specs.Given.ResizeSum.{sum_plan}
+use Rattle.papaya_finishes.specs.Given.ResizeDeclared.copier.Copying.{Copying}
+use Rattle.papaya_finishes.specs.Given.ResizeDeclared.copier.Copying.TheVariants as copies
+use Rattle.papaya_finishes.specs.Given.ResizeDeclared.dispose.Disposing.{Disposing}
+use Rattle.papaya_finishes.specs.Given.ResizeDeclared.dispose.Disposing.TheVariants as disposes
+use Rattle.papaya_finishes.specs.Given.ReservesReserve.{reserve_plan}
+use Rattle.papaya_finishes.specs.Given.ReservesDeclared.reserve.Reserving.{Reserving}
+use Rattle.papaya_finishes.specs.Given.ReservesDeclared.reserve.Reserving.TheVariants as reserving
+use Rattle.papaya_finishes.specs.Given.SweepsSweep.{sweep_plan}
+use Rattle.papaya_finishes.specs.Given.SweepsDeclared.sweep.Sweeping.{Sweeping}
+use Rattle.papaya_finishes.specs.Given.SweepsDeclared.sweep.Sweeping.TheVariants as sweeping
+use Rattle.papaya_finishes.specs.Given.RawCall.{call_plan}
+use Rattle.papaya_finishes.specs.Given.RawMachine as machines
+use Rattle.papaya_finishes.specs.Given.RawMachine.{machine_plan}
+use Rattle.papaya_finishes.specs.Given.RawDeclared.machines.call.Calling.{Calling}
+use Rattle.papaya_finishes.specs.Given.RawDeclared.machines.call.Calling.TheVariants as at
+use Rattle.papaya_finishes.specs.Given.PointsSteps.{AreLawful}
+use Rattle.papaya_finishes.specs.Given.PointsTold.{IsRowOf, IsRowOfCopier, IsRowOfCall}
+use Rattle.papaya_finishes.specs.Given.LateToldReserves.{IsRowOfReserve}
+use Rattle.papaya_finishes.specs.Given.LateToldSweeps.{IsRowOfSweep}
+use Rattle.papaya_finishes.specs.Given.CallersTogether.{UnderWay, OnKey, ForRoom, Counting, OverAll, Together}
 use Rattle.papaya_finishes.specs.Endings.{Finishing, EndingsTogether}
 use Rattle.papaya_finishes.specs.Machines.{machine_of}
 use Rattle.papaya_finishes.specs.Makings.{Beginning}

@@ -1,41 +1,41 @@
 -- What a lookup looks at its section holds: it may take its step in a memory without all other blocks.
 use Rattle.std.specs.Prelude.{◌≡◌, ℕ, Bool, true, Option, Some, None}
 use Rattle.std.proofs.Common.{inl, inr, sym, subst, ◌∙◌}
-use Rattle.papaya_finishes.specs.Given.SeizeWords.Mem.{Mem, Can, Took, value_at}
-use Rattle.papaya_finishes.specs.Given.SeizeWords.Plan.{May, plan_as}
-use Rattle.papaya_finishes.proofs.Given.SeizeWords.Plans.{as_may}
-use Rattle.papaya_finishes.specs.Given.Seize.Law.{holds}
-use Rattle.papaya_finishes.specs.Given.Seize.World.{World, IsInside}
-use Rattle.papaya_finishes.specs.Given.Tables.Chunks.{is_incremental}
-use Rattle.papaya_finishes.specs.Given.Tables.declared.node.Node.{Node}
-use Rattle.papaya_finishes.specs.Given.Tables.declared.setting.Setting.{Setting}
-use Rattle.papaya_finishes.specs.Given.Resize.Lookup as lookup
-use Rattle.papaya_finishes.specs.Given.Resize.declared.lookup.Lookup.{Lookup}
-use Rattle.papaya_finishes.specs.Given.Resize.declared.lookup.Looking.{Looking}
-use Rattle.papaya_finishes.specs.Given.Resize.declared.lookup.Looking.TheVariants as looking
-use Rattle.papaya_finishes.specs.Given.Raw.Call.{call_plan, plan_at, looked, looks_for}
-use Rattle.papaya_finishes.specs.Given.Raw.Machine as machines
-use Rattle.papaya_finishes.specs.Given.Raw.Machine.{machine_plan}
-use Rattle.papaya_finishes.specs.Given.Raw.declared.machines.call.Calling.{Calling}
-use Rattle.papaya_finishes.specs.Given.Raw.declared.machines.call.Calling.TheVariants as at
-use Rattle.papaya_finishes.specs.Given.Raw.declared.machines.call.KeyCall.{KeyCall}
-use Rattle.papaya_finishes.specs.Given.Raw.declared.machines.machine.Machine.TheVariants as kinds
-use Rattle.papaya_finishes.specs.Given.Rule.Chart.{Chart}
-use Rattle.papaya_finishes.specs.Given.Rule.Maps.{IsMap}
-use Rattle.papaya_finishes.specs.Given.Rule.Words.{Blocks}
-use Rattle.papaya_finishes.specs.Given.Rule.InWorld.{IsMapIn}
-use Rattle.papaya_finishes.proofs.Given.Rule.World.Framed.{shows_kept}
-use Rattle.papaya_finishes.specs.Given.Points.FactsCalls.{CallFacts, CallingFacts}
-use Rattle.papaya_finishes.specs.Given.Points.Steps.{AreLawful}
-use Rattle.papaya_finishes.specs.Given.Points.Told.{IsRowOfCall}
-use Rattle.papaya_finishes.proofs.Given.Points.Calls.May.{may_looks}
-use Rattle.papaya_finishes.proofs.Given.Points.Calls.StepsTold.{lookups_tell}
-use Rattle.papaya_finishes.proofs.Given.Points.Lookups.LooksAsked.{class_asked, lookup_asked}
-use Rattle.papaya_finishes.specs.Given.Callers.Kept.{IsWithin}
-use Rattle.papaya_finishes.specs.Given.Callers.Sights.{Sight, seen_by}
-use Rattle.papaya_finishes.specs.Given.Callers.Together.{UnderWay, CallOnKey, OnKey, Together, Stands, in_slot}
-use Rattle.papaya_finishes.proofs.Given.Callers.Sights.Seen.{map_seen}
-use Rattle.papaya_finishes.proofs.Given.Callers.Together.Fits.{map_in_slot}
+use Rattle.papaya_finishes.specs.Given.SeizeWordsMem.{Mem, Can, Took, value_at}
+use Rattle.papaya_finishes.specs.Given.SeizeWordsPlan.{May, plan_as}
+use Rattle.papaya_finishes.proofs.Given.SeizeWordsPlans.{as_may}
+use Rattle.papaya_finishes.specs.Given.SeizeLaw.{holds}
+use Rattle.papaya_finishes.specs.Given.SeizeWorld.{World, IsInside}
+use Rattle.papaya_finishes.specs.Given.TablesChunks.{is_incremental}
+use Rattle.papaya_finishes.specs.Given.TablesDeclared.node.Node.{Node}
+use Rattle.papaya_finishes.specs.Given.TablesDeclared.setting.Setting.{Setting}
+use Rattle.papaya_finishes.specs.Given.ResizeLookup as lookup
+use Rattle.papaya_finishes.specs.Given.ResizeDeclared.lookup.Lookup.{Lookup}
+use Rattle.papaya_finishes.specs.Given.ResizeDeclared.lookup.Looking.{Looking}
+use Rattle.papaya_finishes.specs.Given.ResizeDeclared.lookup.Looking.TheVariants as looking
+use Rattle.papaya_finishes.specs.Given.RawCall.{call_plan, plan_at, looked, looks_for}
+use Rattle.papaya_finishes.specs.Given.RawMachine as machines
+use Rattle.papaya_finishes.specs.Given.RawMachine.{machine_plan}
+use Rattle.papaya_finishes.specs.Given.RawDeclared.machines.call.Calling.{Calling}
+use Rattle.papaya_finishes.specs.Given.RawDeclared.machines.call.Calling.TheVariants as at
+use Rattle.papaya_finishes.specs.Given.RawDeclared.machines.call.KeyCall.{KeyCall}
+use Rattle.papaya_finishes.specs.Given.RawDeclared.machines.machine.Machine.TheVariants as kinds
+use Rattle.papaya_finishes.specs.Given.RuleChart.{Chart}
+use Rattle.papaya_finishes.specs.Given.RuleMaps.{IsMap}
+use Rattle.papaya_finishes.specs.Given.RuleWords.{Blocks}
+use Rattle.papaya_finishes.specs.Given.RuleInWorld.{IsMapIn}
+use Rattle.papaya_finishes.proofs.Given.RuleWorld.Framed.{shows_kept}
+use Rattle.papaya_finishes.specs.Given.PointsFactsCalls.{CallFacts, CallingFacts}
+use Rattle.papaya_finishes.specs.Given.PointsSteps.{AreLawful}
+use Rattle.papaya_finishes.specs.Given.PointsTold.{IsRowOfCall}
+use Rattle.papaya_finishes.proofs.Given.PointsCalls.May.{may_looks}
+use Rattle.papaya_finishes.proofs.Given.PointsCalls.StepsTold.{lookups_tell}
+use Rattle.papaya_finishes.proofs.Given.PointsLookups.LooksAsked.{class_asked, lookup_asked}
+use Rattle.papaya_finishes.specs.Given.CallersKept.{IsWithin}
+use Rattle.papaya_finishes.specs.Given.CallersSights.{Sight, seen_by}
+use Rattle.papaya_finishes.specs.Given.CallersTogether.{UnderWay, CallOnKey, OnKey, Together, Stands, in_slot}
+use Rattle.papaya_finishes.proofs.Given.CallersSights.Seen.{map_seen}
+use Rattle.papaya_finishes.proofs.Given.CallersTogether.Fits.{map_in_slot}
 use Rattle.papaya_looks.specs.Blocks.{MayMake}
 use Rattle.papaya_looks.specs.Looks.{LookupsLookAtWhatIsHeld}
 use Rattle.papaya_looks.proofs.Restricted.{restricted, value_kept, word_kept, looks_kept}

@@ -2,24 +2,24 @@
 use Rattle.std.specs.Prelude.{◌≡◌, ℕ, ◌+◌, ◌%◌, ◌^◌, Bool, true, Option, Some, IsSome, ◌⊎◌}
 use Rattle.std.specs.Int.{IsPowerOfTwo}
 use Rattle.std.proofs.Common.{inl, inr, refl, ap, sym, subst, ◌∙◌}
-use Rattle.papaya_finishes.specs.Given.SeizeWords.declared.at.At.TheVariants.{Root, Used}
-use Rattle.papaya_finishes.specs.Given.SeizeWords.Mem.{Mem, Can, Took, value_at, word_at}
-use Rattle.papaya_finishes.specs.Given.SeizeWords.Plan.{Now, May}
-use Rattle.papaya_finishes.proofs.Given.SeizeWords.OneOwner.Operations.{may_exchange, may_make, may_store, may_take}
-use Rattle.papaya_finishes.proofs.Given.SeizeWords.Plans.{as_may}
-use Rattle.papaya_finishes.specs.Given.Seize.World.{World}
-use Rattle.papaya_finishes.specs.Given.Tables.declared.node.Node.{Node}
-use Rattle.papaya_finishes.specs.Given.Tables.declared.node.Node.TheVariants as node
-use Rattle.papaya_finishes.specs.Given.Tables.declared.setting.Setting.{Setting}
-use Rattle.papaya_finishes.specs.Given.Resize.NewMap.{opened, taken, made, goes, refused, plan_at, new_map_plan}
-use Rattle.papaya_finishes.specs.Given.Resize.NewTable.{new_table_plan}
-use Rattle.papaya_finishes.specs.Given.Resize.declared.new_map.Opening.{Opening}
-use Rattle.papaya_finishes.specs.Given.Resize.declared.new_map.Opening.TheVariants as at
-use Rattle.papaya_finishes.specs.Given.Rule.InWorld.{IsHeldBy, IsMapIn, KeepsBlocks}
-use Rattle.papaya_finishes.specs.Given.Rule.Rule.{no_table}
-use Rattle.papaya_finishes.proofs.Given.Points.Making.NewTable.{may_new_table}
-use Rattle.papaya_finishes.specs.Given.Callers.Together.{no_blocks}
-use Rattle.papaya_finishes.proofs.Given.Callers.MapBegins.{map_begins}
+use Rattle.papaya_finishes.specs.Given.SeizeWordsDeclared.at.At.TheVariants.{Root, Used}
+use Rattle.papaya_finishes.specs.Given.SeizeWordsMem.{Mem, Can, Took, value_at, word_at}
+use Rattle.papaya_finishes.specs.Given.SeizeWordsPlan.{Now, May}
+use Rattle.papaya_finishes.proofs.Given.SeizeWordsOneOwner.Operations.{may_exchange, may_make, may_store, may_take}
+use Rattle.papaya_finishes.proofs.Given.SeizeWordsPlans.{as_may}
+use Rattle.papaya_finishes.specs.Given.SeizeWorld.{World}
+use Rattle.papaya_finishes.specs.Given.TablesDeclared.node.Node.{Node}
+use Rattle.papaya_finishes.specs.Given.TablesDeclared.node.Node.TheVariants as node
+use Rattle.papaya_finishes.specs.Given.TablesDeclared.setting.Setting.{Setting}
+use Rattle.papaya_finishes.specs.Given.ResizeNewMap.{opened, taken, made, goes, refused, plan_at, new_map_plan}
+use Rattle.papaya_finishes.specs.Given.ResizeNewTable.{new_table_plan}
+use Rattle.papaya_finishes.specs.Given.ResizeDeclared.new_map.Opening.{Opening}
+use Rattle.papaya_finishes.specs.Given.ResizeDeclared.new_map.Opening.TheVariants as at
+use Rattle.papaya_finishes.specs.Given.RuleInWorld.{IsHeldBy, IsMapIn, KeepsBlocks}
+use Rattle.papaya_finishes.specs.Given.RuleRule.{no_table}
+use Rattle.papaya_finishes.proofs.Given.PointsMaking.NewTable.{may_new_table}
+use Rattle.papaya_finishes.specs.Given.CallersTogether.{no_blocks}
+use Rattle.papaya_finishes.proofs.Given.CallersMapBegins.{map_begins}
 use Rattle.papaya_finishes.specs.Makings.{Beginning, HasRoots, HasOwnCounter, OpeningFacts, MakingFacts}
 use Rattle.papaya_finishes.proofs.Beside.Makings.Lasts.{new_table_on}
 use Rattle.papaya_looks.specs.Blocks.{LooksAt, MayMake}

@@ -1,20 +1,20 @@
 -- Wrong plans beside the laws of what steps look at, and see: stepped in a world of a few blocks, where a law's clause is false of them.
 use Rattle.std.specs.Prelude.{◌≡◌, ℕ, zero, suc, true, [], IsSome, ◌⊎◌}
 use Rattle.std.proofs.Common.{inl, inr, refl, arith}
-use Rattle.papaya_finishes.specs.Given.SeizeWords.Mem.{Mem, Took, value_at}
-use Rattle.papaya_finishes.specs.Given.SeizeWords.Op.{Load, Found}
-use Rattle.papaya_finishes.specs.Given.SeizeWords.Plan.{Plan, Do, Now, Seeing, Steps}
-use Rattle.papaya_finishes.specs.Given.SeizeWords.declared.at.At.TheVariants.{Word}
-use Rattle.papaya_finishes.specs.Given.Seize.Law.{holds}
-use Rattle.papaya_finishes.specs.Given.Seize.World.{World, Rests, Vacant, Hand, NoBlock, Making, InUse}
-use Rattle.papaya_finishes.specs.Given.Tables.declared.node.Node.{Node}
-use Rattle.papaya_finishes.specs.Given.Raw.CallPoints.{entering, inserting}
-use Rattle.papaya_finishes.specs.Given.Raw.declared.machines.answer.Called.{Called}
-use Rattle.papaya_finishes.specs.Given.Raw.declared.machines.answer.Called.TheVariants as called
-use Rattle.papaya_finishes.specs.Given.Raw.declared.machines.call.KeyCall.{KeyCall}
-use Rattle.papaya_finishes.specs.Given.Raw.declared.machines.machine.Machine.TheVariants as kinds
-use Rattle.papaya_finishes.specs.Given.Raw.declared.machines.progress.Progress.TheVariants as progress
-use Rattle.papaya_finishes.proofs.Given.Late.Plans.FewBlocks.{setting, memory, new}
+use Rattle.papaya_finishes.specs.Given.SeizeWordsMem.{Mem, Took, value_at}
+use Rattle.papaya_finishes.specs.Given.SeizeWordsOp.{Load, Found}
+use Rattle.papaya_finishes.specs.Given.SeizeWordsPlan.{Plan, Do, Now, Seeing, Steps}
+use Rattle.papaya_finishes.specs.Given.SeizeWordsDeclared.at.At.TheVariants.{Word}
+use Rattle.papaya_finishes.specs.Given.SeizeLaw.{holds}
+use Rattle.papaya_finishes.specs.Given.SeizeWorld.{World, Rests, Vacant, Hand, NoBlock, Making, InUse}
+use Rattle.papaya_finishes.specs.Given.TablesDeclared.node.Node.{Node}
+use Rattle.papaya_finishes.specs.Given.RawCallPoints.{entering, inserting}
+use Rattle.papaya_finishes.specs.Given.RawDeclared.machines.answer.Called.{Called}
+use Rattle.papaya_finishes.specs.Given.RawDeclared.machines.answer.Called.TheVariants as called
+use Rattle.papaya_finishes.specs.Given.RawDeclared.machines.call.KeyCall.{KeyCall}
+use Rattle.papaya_finishes.specs.Given.RawDeclared.machines.machine.Machine.TheVariants as kinds
+use Rattle.papaya_finishes.specs.Given.RawDeclared.machines.progress.Progress.TheVariants as progress
+use Rattle.papaya_finishes.proofs.Given.LatePlans.FewBlocks.{setting, memory, new}
 use Rattle.papaya_looks.specs.Blocks.{LooksAt, MayMake}
 use Rattle.papaya_looks.specs.Sees.{HasSeen, GoesOn, IsOwnOf}
 use Rattle.papaya_looks.specs.Looks.{IsHeldFor}

@@ -2,13 +2,13 @@
 use Rattle.std.specs.Prelude.{◌≡◌, ℕ, zero, suc, ◌+◌, ◌-◌, ◌<◌, ◌%◌, ◌^◌, Bool, true, false, cond, bit_or, List, [], ◌∷◌, Option, Some, None, IsSome, Ok, Err, ◌⊎◌, slice_index_or, if◌then◌else◌}
 use Rattle.std.proofs.Common.{inl, inr, refl, ap, sym, subst, ◌∙◌, arith}
 use Rattle.std.proofs.lemmas.Bool.{cases_eq, eq-eqb, ne_eqb}
-use Rattle.papaya_finishes.specs.Given.SeizeWords.declared.at.At.{At}
-use Rattle.papaya_finishes.specs.Given.SeizeWords.declared.at.At.TheVariants.{Root, Used, Slot, Entry, Word}
-use Rattle.papaya_finishes.specs.Given.SeizeWords.declared.block.Block.{Block}
-use Rattle.papaya_finishes.specs.Given.SeizeWords.Mem.{Mem, Can, Took, Gives, IsFreeNumber, fresh, after, block_of, value_in, entry_in, word_in, value_at, word_at, with_word}
-use Rattle.papaya_finishes.specs.Given.SeizeWords.Op.{Op, Out, Load, Store, Swap, Add, Or, Exchange, Make, Take, Rewrite, Room, Found, Stored, Exchanged, Made, Taken, Roomed}
-use Rattle.papaya_finishes.specs.Given.SeizeWords.Plan.{Plan, Then, Turn, Do, Now, Seeing, Sure, May, MaySee}
-use Rattle.papaya_finishes.proofs.Given.SeizeWords.OneOwner.AfterWrites.{block_of-with_block, block_of-made, value_at-with_word, value_at-with_value}
+use Rattle.papaya_finishes.specs.Given.SeizeWordsDeclared.at.At.{At}
+use Rattle.papaya_finishes.specs.Given.SeizeWordsDeclared.at.At.TheVariants.{Root, Used, Slot, Entry, Word}
+use Rattle.papaya_finishes.specs.Given.SeizeWordsDeclared.block.Block.{Block}
+use Rattle.papaya_finishes.specs.Given.SeizeWordsMem.{Mem, Can, Took, Gives, IsFreeNumber, fresh, after, block_of, value_in, entry_in, word_in, value_at, word_at, with_word}
+use Rattle.papaya_finishes.specs.Given.SeizeWordsOp.{Op, Out, Load, Store, Swap, Add, Or, Exchange, Make, Take, Rewrite, Room, Found, Stored, Exchanged, Made, Taken, Roomed}
+use Rattle.papaya_finishes.specs.Given.SeizeWordsPlan.{Plan, Then, Turn, Do, Now, Seeing, Sure, May, MaySee}
+use Rattle.papaya_finishes.proofs.Given.SeizeWordsOneOwner.AfterWrites.{block_of-with_block, block_of-made, value_at-with_word, value_at-with_value}
 use Rattle.papaya_looks.specs.Blocks.{IsWordOf, IsDoneTo, Sees, LooksAt, MayMake}
 
 -- what is there is some

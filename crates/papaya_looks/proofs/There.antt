@@ -1,20 +1,20 @@
 -- What a step that may be taken looks at is there: its memory is one of which all is kept.
 use Rattle.std.specs.Prelude.{◌≡◌, ℕ, suc, Bool, true, List, [], ◌∷◌, Option, IsSome, ◌⊎◌}
 use Rattle.std.proofs.Common.{inl, inr, refl, ap, sym, subst}
-use Rattle.papaya_finishes.specs.Given.SeizeWords.declared.at.At.{At}
-use Rattle.papaya_finishes.specs.Given.SeizeWords.declared.block.Block.{Block}
-use Rattle.papaya_finishes.specs.Given.SeizeWords.Mem.{Mem, Can, Took, value_at, word_at}
-use Rattle.papaya_finishes.specs.Given.SeizeWords.Op.{Op, Load, Store, Swap, Add, Or, Exchange, Make, Take, Rewrite, Room}
-use Rattle.papaya_finishes.specs.Given.SeizeWords.Plan.{Plan, May}
-use Rattle.papaya_finishes.specs.Given.Seize.Defer.{defer_plan}
-use Rattle.papaya_finishes.specs.Given.Seize.Enter.{enter_plan, unregister_plan}
-use Rattle.papaya_finishes.specs.Given.Seize.Leave.{leave_plan}
-use Rattle.papaya_finishes.specs.Given.Seize.Register.{register_plan}
-use Rattle.papaya_finishes.specs.Given.Seize.Settle.{settle_plan}
-use Rattle.papaya_finishes.specs.Given.Seize.World.{Row, Rests, Registers, Enters, Settles, Leaves, Defers, Frees, MayStep}
-use Rattle.papaya_finishes.proofs.Given.SeizeRule.World.Kept.{rows_may}
-use Rattle.papaya_finishes.specs.Given.Tables.Nodes.{deferred_word}
-use Rattle.papaya_finishes.specs.Given.Tables.declared.node.Node.{Node}
+use Rattle.papaya_finishes.specs.Given.SeizeWordsDeclared.at.At.{At}
+use Rattle.papaya_finishes.specs.Given.SeizeWordsDeclared.block.Block.{Block}
+use Rattle.papaya_finishes.specs.Given.SeizeWordsMem.{Mem, Can, Took, value_at, word_at}
+use Rattle.papaya_finishes.specs.Given.SeizeWordsOp.{Op, Load, Store, Swap, Add, Or, Exchange, Make, Take, Rewrite, Room}
+use Rattle.papaya_finishes.specs.Given.SeizeWordsPlan.{Plan, May}
+use Rattle.papaya_finishes.specs.Given.SeizeDefer.{defer_plan}
+use Rattle.papaya_finishes.specs.Given.SeizeEnter.{enter_plan, unregister_plan}
+use Rattle.papaya_finishes.specs.Given.SeizeLeave.{leave_plan}
+use Rattle.papaya_finishes.specs.Given.SeizeRegister.{register_plan}
+use Rattle.papaya_finishes.specs.Given.SeizeSettle.{settle_plan}
+use Rattle.papaya_finishes.specs.Given.SeizeWorld.{Row, Rests, Registers, Enters, Settles, Leaves, Defers, Frees, MayStep}
+use Rattle.papaya_finishes.proofs.Given.SeizeRuleWorld.Kept.{rows_may}
+use Rattle.papaya_finishes.specs.Given.TablesNodes.{deferred_word}
+use Rattle.papaya_finishes.specs.Given.TablesDeclared.node.Node.{Node}
 use Rattle.papaya_finishes.proofs.Among.Machines.{machines_stand_among}
 use Rattle.papaya_finishes.proofs.Among.Makings.{makings_stand_among}
 use Rattle.papaya_finishes.proofs.Among.Own.Steps.{endings_stand}

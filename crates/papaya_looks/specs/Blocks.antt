@@ -1,10 +1,10 @@
 -- Which blocks a step looks at, by its plan: the one of its operation, and each one whose value it looks at then.
 use Rattle.std.specs.Prelude.{◌≡◌, ℕ, Option, Some, ◌⊎◌}
-use Rattle.papaya_finishes.specs.Given.SeizeWords.Mem.{Mem, Took, IsFreeNumber, value_at}
-use Rattle.papaya_finishes.specs.Given.SeizeWords.Op.{Op, Out, Load, Store, Swap, Add, Or, Exchange, Make, Take, Rewrite, Room}
-use Rattle.papaya_finishes.specs.Given.SeizeWords.Plan.{Plan, Then, Turn, Do, Now, Seeing, Sure}
-use Rattle.papaya_finishes.specs.Given.SeizeWords.declared.at.At.{At}
-use Rattle.papaya_finishes.specs.Given.SeizeWords.declared.at.At.TheVariants.{Entry, Word}
+use Rattle.papaya_finishes.specs.Given.SeizeWordsMem.{Mem, Took, IsFreeNumber, value_at}
+use Rattle.papaya_finishes.specs.Given.SeizeWordsOp.{Op, Out, Load, Store, Swap, Add, Or, Exchange, Make, Take, Rewrite, Room}
+use Rattle.papaya_finishes.specs.Given.SeizeWordsPlan.{Plan, Then, Turn, Do, Now, Seeing, Sure}
+use Rattle.papaya_finishes.specs.Given.SeizeWordsDeclared.at.At.{At}
+use Rattle.papaya_finishes.specs.Given.SeizeWordsDeclared.at.At.TheVariants.{Entry, Word}
 
 -- the word is this block's, or its entry's
 abbrev pub IsWordOf : ℕ → At → Type 0

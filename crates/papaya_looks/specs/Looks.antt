@@ -1,20 +1,20 @@
 -- What is promised of the blocks that a step of any call looks at.
 use Rattle.std.specs.Prelude.{◌≡◌, ℕ, Bool, true, Option, Some, IsSome, ◌⊎◌}
-use Rattle.papaya_finishes.specs.Given.SeizeWords.Mem.{value_at}
-use Rattle.papaya_finishes.specs.Given.Seize.Law.{holds}
-use Rattle.papaya_finishes.specs.Given.Seize.World.{World}
-use Rattle.papaya_finishes.specs.Given.Tables.Chunks.{is_incremental}
-use Rattle.papaya_finishes.specs.Given.Tables.declared.node.Node.{Node}
-use Rattle.papaya_finishes.specs.Given.Resize.NewMap.{new_map_plan}
-use Rattle.papaya_finishes.specs.Given.Resize.declared.lookup.Lookup.{Lookup}
-use Rattle.papaya_finishes.specs.Given.Raw.Machine.{machine_plan}
-use Rattle.papaya_finishes.specs.Given.Raw.declared.machines.call.Calling.TheVariants as at
-use Rattle.papaya_finishes.specs.Given.Raw.declared.machines.machine.Machine.TheVariants as kinds
-use Rattle.papaya_finishes.specs.Given.Rule.InWorld.{IsHeldBy}
-use Rattle.papaya_finishes.specs.Given.Points.Told.{IsRowOfCall}
-use Rattle.papaya_finishes.specs.Given.Late.ToldReserves.{IsRowOfReserve}
-use Rattle.papaya_finishes.specs.Given.Late.ToldSweeps.{IsRowOfSweep}
-use Rattle.papaya_finishes.specs.Given.Callers.Together.{UnderWay, CallOnKey, OnKey, ForRoom, Counting, OverAll}
+use Rattle.papaya_finishes.specs.Given.SeizeWordsMem.{value_at}
+use Rattle.papaya_finishes.specs.Given.SeizeLaw.{holds}
+use Rattle.papaya_finishes.specs.Given.SeizeWorld.{World}
+use Rattle.papaya_finishes.specs.Given.TablesChunks.{is_incremental}
+use Rattle.papaya_finishes.specs.Given.TablesDeclared.node.Node.{Node}
+use Rattle.papaya_finishes.specs.Given.ResizeNewMap.{new_map_plan}
+use Rattle.papaya_finishes.specs.Given.ResizeDeclared.lookup.Lookup.{Lookup}
+use Rattle.papaya_finishes.specs.Given.RawMachine.{machine_plan}
+use Rattle.papaya_finishes.specs.Given.RawDeclared.machines.call.Calling.TheVariants as at
+use Rattle.papaya_finishes.specs.Given.RawDeclared.machines.machine.Machine.TheVariants as kinds
+use Rattle.papaya_finishes.specs.Given.RuleInWorld.{IsHeldBy}
+use Rattle.papaya_finishes.specs.Given.PointsTold.{IsRowOfCall}
+use Rattle.papaya_finishes.specs.Given.LateToldReserves.{IsRowOfReserve}
+use Rattle.papaya_finishes.specs.Given.LateToldSweeps.{IsRowOfSweep}
+use Rattle.papaya_finishes.specs.Given.CallersTogether.{UnderWay, CallOnKey, OnKey, ForRoom, Counting, OverAll}
 use Rattle.papaya_finishes.specs.Endings.{Finishing, EndingsTogether}
 use Rattle.papaya_finishes.specs.Machines.{machine_of}
 use Rattle.papaya_finishes.specs.Makings.{Beginning}

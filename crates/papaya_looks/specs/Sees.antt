@@ -1,22 +1,22 @@
 -- What is promised of the blocks whose values a step of a call looks at once its operation is answered: they last until its caller's next step.
 use Rattle.std.specs.Prelude.{◌≡◌, ◌≢◌, ℕ, ◌==◌, Bool, true, false, Option, Some, ◌⊎◌}
-use Rattle.papaya_finishes.specs.Given.SeizeWords.Mem.{Mem, Took, value_at}
-use Rattle.papaya_finishes.specs.Given.SeizeWords.Op.{Out}
-use Rattle.papaya_finishes.specs.Given.SeizeWords.Plan.{Plan, Turn, Do, Ends}
-use Rattle.papaya_finishes.specs.Given.SeizeWords.Word.{block_in}
-use Rattle.papaya_finishes.specs.Given.Seize.Law.{holds}
-use Rattle.papaya_finishes.specs.Given.Seize.World.{World, Making}
-use Rattle.papaya_finishes.specs.Given.Tables.Chunks.{is_incremental}
-use Rattle.papaya_finishes.specs.Given.Tables.declared.node.Node.{Node}
-use Rattle.papaya_finishes.specs.Given.Tables.declared.node.Node.TheVariants.{Shards}
-use Rattle.papaya_finishes.specs.Given.Raw.Machine.{machine_plan}
-use Rattle.papaya_finishes.specs.Given.Raw.declared.machines.call.Calling.{Calling}
-use Rattle.papaya_finishes.specs.Given.Raw.declared.machines.call.Calling.TheVariants as at
-use Rattle.papaya_finishes.specs.Given.Raw.declared.machines.machine.Machine.{Machine}
-use Rattle.papaya_finishes.specs.Given.Raw.declared.machines.machine.Machine.TheVariants as kinds
-use Rattle.papaya_finishes.specs.Given.Raw.declared.machines.progress.Progress.{Progress}
-use Rattle.papaya_finishes.specs.Given.Raw.declared.machines.progress.Progress.TheVariants as progress
-use Rattle.papaya_finishes.specs.Given.Callers.Together.{UnderWay}
+use Rattle.papaya_finishes.specs.Given.SeizeWordsMem.{Mem, Took, value_at}
+use Rattle.papaya_finishes.specs.Given.SeizeWordsOp.{Out}
+use Rattle.papaya_finishes.specs.Given.SeizeWordsPlan.{Plan, Turn, Do, Ends}
+use Rattle.papaya_finishes.specs.Given.SeizeWordsWord.{block_in}
+use Rattle.papaya_finishes.specs.Given.SeizeLaw.{holds}
+use Rattle.papaya_finishes.specs.Given.SeizeWorld.{World, Making}
+use Rattle.papaya_finishes.specs.Given.TablesChunks.{is_incremental}
+use Rattle.papaya_finishes.specs.Given.TablesDeclared.node.Node.{Node}
+use Rattle.papaya_finishes.specs.Given.TablesDeclared.node.Node.TheVariants.{Shards}
+use Rattle.papaya_finishes.specs.Given.RawMachine.{machine_plan}
+use Rattle.papaya_finishes.specs.Given.RawDeclared.machines.call.Calling.{Calling}
+use Rattle.papaya_finishes.specs.Given.RawDeclared.machines.call.Calling.TheVariants as at
+use Rattle.papaya_finishes.specs.Given.RawDeclared.machines.machine.Machine.{Machine}
+use Rattle.papaya_finishes.specs.Given.RawDeclared.machines.machine.Machine.TheVariants as kinds
+use Rattle.papaya_finishes.specs.Given.RawDeclared.machines.progress.Progress.{Progress}
+use Rattle.papaya_finishes.specs.Given.RawDeclared.machines.progress.Progress.TheVariants as progress
+use Rattle.papaya_finishes.specs.Given.CallersTogether.{UnderWay}
 use Rattle.papaya_finishes.specs.Endings.{Finishing, EndingsTogether}
 use Rattle.papaya_finishes.specs.Machines.{machine_of}
 use Rattle.papaya_finishes.specs.Makings.{Beginning}

@@ -1,21 +1,21 @@
 -- What is promised of each step that may be taken, whatever it is one of: what it looks at is there.
 use Rattle.std.specs.Prelude.{◌≡◌, ℕ, Bool, Option, Some, IsSome, ◌⊎◌}
-use Rattle.papaya_finishes.specs.Given.SeizeWords.Mem.{Mem, Can, Took, value_at, word_at}
-use Rattle.papaya_finishes.specs.Given.SeizeWords.Op.{Op, Out}
-use Rattle.papaya_finishes.specs.Given.SeizeWords.Plan.{Plan, Then, Do, May}
-use Rattle.papaya_finishes.specs.Given.SeizeWords.declared.at.At.{At}
-use Rattle.papaya_finishes.specs.Given.Seize.Defer.{defer_plan}
-use Rattle.papaya_finishes.specs.Given.Seize.Enter.{enter_plan, unregister_plan}
-use Rattle.papaya_finishes.specs.Given.Seize.Leave.{leave_plan}
-use Rattle.papaya_finishes.specs.Given.Seize.Register.{register_plan}
-use Rattle.papaya_finishes.specs.Given.Seize.Settle.{settle_plan}
-use Rattle.papaya_finishes.specs.Given.Seize.World.{World, Row, Rests, Registers, Enters, Settles, Leaves, Defers, Frees}
-use Rattle.papaya_finishes.specs.Given.Tables.Nodes.{deferred_word}
-use Rattle.papaya_finishes.specs.Given.Tables.declared.node.Node.{Node}
-use Rattle.papaya_finishes.specs.Given.Raw.EndMap.{end_map_plan}
-use Rattle.papaya_finishes.specs.Given.Resize.NewMap.{new_map_plan}
-use Rattle.papaya_finishes.specs.Given.Raw.Machine.{machine_plan}
-use Rattle.papaya_finishes.specs.Given.Callers.Together.{UnderWay}
+use Rattle.papaya_finishes.specs.Given.SeizeWordsMem.{Mem, Can, Took, value_at, word_at}
+use Rattle.papaya_finishes.specs.Given.SeizeWordsOp.{Op, Out}
+use Rattle.papaya_finishes.specs.Given.SeizeWordsPlan.{Plan, Then, Do, May}
+use Rattle.papaya_finishes.specs.Given.SeizeWordsDeclared.at.At.{At}
+use Rattle.papaya_finishes.specs.Given.SeizeDefer.{defer_plan}
+use Rattle.papaya_finishes.specs.Given.SeizeEnter.{enter_plan, unregister_plan}
+use Rattle.papaya_finishes.specs.Given.SeizeLeave.{leave_plan}
+use Rattle.papaya_finishes.specs.Given.SeizeRegister.{register_plan}
+use Rattle.papaya_finishes.specs.Given.SeizeSettle.{settle_plan}
+use Rattle.papaya_finishes.specs.Given.SeizeWorld.{World, Row, Rests, Registers, Enters, Settles, Leaves, Defers, Frees}
+use Rattle.papaya_finishes.specs.Given.TablesNodes.{deferred_word}
+use Rattle.papaya_finishes.specs.Given.TablesDeclared.node.Node.{Node}
+use Rattle.papaya_finishes.specs.Given.RawEndMap.{end_map_plan}
+use Rattle.papaya_finishes.specs.Given.ResizeNewMap.{new_map_plan}
+use Rattle.papaya_finishes.specs.Given.RawMachine.{machine_plan}
+use Rattle.papaya_finishes.specs.Given.CallersTogether.{UnderWay}
 use Rattle.papaya_finishes.specs.Endings.{Finishing, EndingsTogether}
 use Rattle.papaya_finishes.specs.Machines.{machine_of}
 use Rattle.papaya_finishes.specs.Makings.{Beginning}

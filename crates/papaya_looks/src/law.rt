@@ -1,7 +1,7 @@
 //! What is promised of the blocks that a step looks at.
 ghost use Rattle.std.specs.Prelude.{ℕ, Bool, Option};
 ghost use Rattle.seize_acts.specs.Stays.{HeldStay};
-ghost use Rattle.papaya_finishes.specs.Given.Tables.declared.node.Node.{Node};
+ghost use Rattle.papaya_finishes.specs.Given.TablesDeclared.node.Node.{Node};
 ghost use Rattle.papaya_looks.specs.Looks.{StepsLookAtWhatIsHeld, LookupsLookAtWhatIsHeld, MakingsLookAtTheirOwn};
 ghost use Rattle.papaya_looks.specs.Sees.{StepsSeeWhatLasts, OwnPairsAreMade};
 ghost use Rattle.papaya_looks.specs.There.{BlocksAreThere, WordsAreThere, StepsLookAtWhatIsThere};

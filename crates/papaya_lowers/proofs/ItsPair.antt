@@ -2,36 +2,36 @@
 use Rattle.std.specs.Prelude.{◌≡◌, ℕ, Bool, true, Some}
 use Rattle.std.proofs.Common.{inl, inr, refl, ap, sym, subst, ◌∙◌, arith}
 use Rattle.std.proofs.lemmas.Bool.{cases_lt}
-use Rattle.papaya_whole.specs.Given.SeizeWords.Mem.{Mem, Took, value_at}
-use Rattle.papaya_whole.specs.Given.SeizeWords.Plan.{Steps}
-use Rattle.papaya_whole.specs.Given.Seize.World.{World}
-use Rattle.papaya_whole.specs.Given.Tables.Chunks.{is_incremental}
-use Rattle.papaya_whole.specs.Given.Tables.Finding.{finding}
-use Rattle.papaya_whole.specs.Given.Tables.declared.finding.Finding.{Finding}
-use Rattle.papaya_whole.specs.Given.Tables.declared.finding.Finding.TheVariants as is
-use Rattle.papaya_whole.specs.Given.Tables.declared.node.Node.{Node}
-use Rattle.papaya_whole.specs.Given.Tables.declared.setting.Setting.{Setting}
-use Rattle.papaya_whole.specs.Given.Raw.Call.{call_plan, plan_at, probes}
-use Rattle.papaya_whole.specs.Given.Raw.CallPoints.{aim_of, told_of, told}
-use Rattle.papaya_whole.specs.Given.Raw.declared.machines.answer.Called.{Called}
-use Rattle.papaya_whole.specs.Given.Raw.declared.machines.answer.Called.TheVariants as called
-use Rattle.papaya_whole.specs.Given.Raw.declared.machines.call.KeyCall.{KeyCall}
-use Rattle.papaya_whole.specs.Given.Raw.declared.machines.call.Calling.{Calling}
-use Rattle.papaya_whole.specs.Given.Raw.declared.machines.call.Calling.TheVariants as at
-use Rattle.papaya_whole.specs.Given.Rule.Chart.{Chart, Place, Copying, Holds}
-use Rattle.papaya_whole.specs.Given.Rule.InWorld.{IsMapIn}
-use Rattle.papaya_whole.specs.Given.Rule.Maps.{spot_at, spot_of, IsTrial}
-use Rattle.papaya_whole.specs.Given.Rule.Rule.{Rule}
-use Rattle.papaya_whole.specs.Given.Rule.Words.{Blocks, byte_of, place_word}
-use Rattle.papaya_whole.proofs.Given.Rule.Keys.TriesSeen.{spot_inside}
-use Rattle.papaya_whole.proofs.Given.Rule.Words.PlacesRead.{place_keyed}
-use Rattle.papaya_whole.proofs.Given.Rule.Words.PlacesShown.{are_stored, shown_block, shown_byte}
-use Rattle.papaya_whole.proofs.Given.Rule.Words.WordsSeen.{Tells, Says, SaysCopying, says}
-use Rattle.papaya_whole.specs.Given.Points.FactsCalls.{Change, Unchanged, IsCopying, Seeks, CallingFacts, CallFacts}
-use Rattle.papaya_whole.specs.Given.Points.Steps.{AreLawful}
-use Rattle.papaya_whole.proofs.Given.Points.Calls.CallsOn.{Seeking}
-use Rattle.papaya_whole.proofs.Given.Points.Calls.Probes.{probes_tell}
-use Rattle.papaya_whole.proofs.Given.Waits.CallPlans.{Continues, told_goes}
+use Rattle.papaya_whole.specs.Given.SeizeWordsMem.{Mem, Took, value_at}
+use Rattle.papaya_whole.specs.Given.SeizeWordsPlan.{Steps}
+use Rattle.papaya_whole.specs.Given.SeizeWorld.{World}
+use Rattle.papaya_whole.specs.Given.TablesChunks.{is_incremental}
+use Rattle.papaya_whole.specs.Given.TablesFinding.{finding}
+use Rattle.papaya_whole.specs.Given.TablesDeclared.finding.Finding.{Finding}
+use Rattle.papaya_whole.specs.Given.TablesDeclared.finding.Finding.TheVariants as is
+use Rattle.papaya_whole.specs.Given.TablesDeclared.node.Node.{Node}
+use Rattle.papaya_whole.specs.Given.TablesDeclared.setting.Setting.{Setting}
+use Rattle.papaya_whole.specs.Given.RawCall.{call_plan, plan_at, probes}
+use Rattle.papaya_whole.specs.Given.RawCallPoints.{aim_of, told_of, told}
+use Rattle.papaya_whole.specs.Given.RawDeclared.machines.answer.Called.{Called}
+use Rattle.papaya_whole.specs.Given.RawDeclared.machines.answer.Called.TheVariants as called
+use Rattle.papaya_whole.specs.Given.RawDeclared.machines.call.KeyCall.{KeyCall}
+use Rattle.papaya_whole.specs.Given.RawDeclared.machines.call.Calling.{Calling}
+use Rattle.papaya_whole.specs.Given.RawDeclared.machines.call.Calling.TheVariants as at
+use Rattle.papaya_whole.specs.Given.RuleChart.{Chart, Place, Copying, Holds}
+use Rattle.papaya_whole.specs.Given.RuleInWorld.{IsMapIn}
+use Rattle.papaya_whole.specs.Given.RuleMaps.{spot_at, spot_of, IsTrial}
+use Rattle.papaya_whole.specs.Given.RuleRule.{Rule}
+use Rattle.papaya_whole.specs.Given.RuleWords.{Blocks, byte_of, place_word}
+use Rattle.papaya_whole.proofs.Given.RuleKeys.TriesSeen.{spot_inside}
+use Rattle.papaya_whole.proofs.Given.RuleWords.PlacesRead.{place_keyed}
+use Rattle.papaya_whole.proofs.Given.RuleWords.PlacesShown.{are_stored, shown_block, shown_byte}
+use Rattle.papaya_whole.proofs.Given.RuleWords.WordsSeen.{Tells, Says, SaysCopying, says}
+use Rattle.papaya_whole.specs.Given.PointsFactsCalls.{Change, Unchanged, IsCopying, Seeks, CallingFacts, CallFacts}
+use Rattle.papaya_whole.specs.Given.PointsSteps.{AreLawful}
+use Rattle.papaya_whole.proofs.Given.PointsCalls.CallsOn.{Seeking}
+use Rattle.papaya_whole.proofs.Given.PointsCalls.Probes.{probes_tell}
+use Rattle.papaya_whole.proofs.Given.WaitsCallPlans.{Continues, told_goes}
 
 module _ {K V Q : Type 0} where
   -- what goes on does not wait

@@ -3,29 +3,29 @@
 use Rattle.std.specs.Prelude.{◌≡◌, ℕ, zero, suc, ◌*◌, ◌-◌, ◌<◌, ◌≤◌, ◌==◌, ◌&&◌, Bool, true, false, cond, List, ◌∷◌}
 use Rattle.std.proofs.Common.{refl, ap, sym, ◌∙◌, arith, inl, inr}
 use Rattle.std.proofs.lemmas.Bool.{eq-eqb, cases_lt}
-use Rattle.papaya_whole.specs.Given.Tables.Chunks.{is_incremental}
-use Rattle.papaya_whole.specs.Given.Resize.declared.copier.Copier.{Copier}
-use Rattle.papaya_whole.specs.Given.Resize.declared.copier.Copying.{Copying}
-use Rattle.papaya_whole.specs.Given.Resize.declared.copier.Copying.TheVariants as copies
-use Rattle.papaya_whole.specs.Given.Resize.declared.dispose.Disposing.{Disposing}
-use Rattle.papaya_whole.specs.Given.Resize.declared.dispose.Disposing.TheVariants as disposes
-use Rattle.papaya_whole.specs.Given.Raw.declared.machines.call.KeyCall.{KeyCall}
-use Rattle.papaya_whole.specs.Given.Raw.declared.machines.call.Calling.{Calling}
-use Rattle.papaya_whole.specs.Given.Raw.declared.machines.call.Calling.TheVariants as at
-use Rattle.papaya_whole.specs.Given.Reserves.declared.reserve.Reserving.{Reserving}
-use Rattle.papaya_whole.specs.Given.Reserves.declared.reserve.Reserving.TheVariants as reserves
-use Rattle.papaya_whole.specs.Given.Sweeps.declared.sweep.Sweep.{Sweep}
-use Rattle.papaya_whole.specs.Given.Sweeps.declared.sweep.Sweeping.{Sweeping}
-use Rattle.papaya_whole.specs.Given.Sweeps.declared.sweep.Sweeping.TheVariants as sweeps
-use Rattle.papaya_whole.specs.Given.Rule.Chart.{Chart}
-use Rattle.papaya_whole.specs.Given.Rule.Words.{Blocks}
-use Rattle.papaya_whole.specs.Given.Points.MeasuresDisposes.{turn_of, number_at_disposing}
-use Rattle.papaya_whole.specs.Given.Falls.Calls as calls
-use Rattle.papaya_whole.specs.Given.Falls.Copies as chunks
-use Rattle.papaya_whole.specs.Given.Falls.CopiesBlocking as blocking
-use Rattle.papaya_whole.specs.Given.Falls.Reserves as rooms
-use Rattle.papaya_whole.specs.Given.Falls.Room.{planned_in_call, tables_to_come}
-use Rattle.papaya_whole.specs.Given.Passes.Sweeps as passes
+use Rattle.papaya_whole.specs.Given.TablesChunks.{is_incremental}
+use Rattle.papaya_whole.specs.Given.ResizeDeclared.copier.Copier.{Copier}
+use Rattle.papaya_whole.specs.Given.ResizeDeclared.copier.Copying.{Copying}
+use Rattle.papaya_whole.specs.Given.ResizeDeclared.copier.Copying.TheVariants as copies
+use Rattle.papaya_whole.specs.Given.ResizeDeclared.dispose.Disposing.{Disposing}
+use Rattle.papaya_whole.specs.Given.ResizeDeclared.dispose.Disposing.TheVariants as disposes
+use Rattle.papaya_whole.specs.Given.RawDeclared.machines.call.KeyCall.{KeyCall}
+use Rattle.papaya_whole.specs.Given.RawDeclared.machines.call.Calling.{Calling}
+use Rattle.papaya_whole.specs.Given.RawDeclared.machines.call.Calling.TheVariants as at
+use Rattle.papaya_whole.specs.Given.ReservesDeclared.reserve.Reserving.{Reserving}
+use Rattle.papaya_whole.specs.Given.ReservesDeclared.reserve.Reserving.TheVariants as reserves
+use Rattle.papaya_whole.specs.Given.SweepsDeclared.sweep.Sweep.{Sweep}
+use Rattle.papaya_whole.specs.Given.SweepsDeclared.sweep.Sweeping.{Sweeping}
+use Rattle.papaya_whole.specs.Given.SweepsDeclared.sweep.Sweeping.TheVariants as sweeps
+use Rattle.papaya_whole.specs.Given.RuleChart.{Chart}
+use Rattle.papaya_whole.specs.Given.RuleWords.{Blocks}
+use Rattle.papaya_whole.specs.Given.PointsMeasuresDisposes.{turn_of, number_at_disposing}
+use Rattle.papaya_whole.specs.Given.FallsCalls as calls
+use Rattle.papaya_whole.specs.Given.FallsCopies as chunks
+use Rattle.papaya_whole.specs.Given.FallsCopiesBlocking as blocking
+use Rattle.papaya_whole.specs.Given.FallsReserves as rooms
+use Rattle.papaya_whole.specs.Given.FallsRoom.{planned_in_call, tables_to_come}
+use Rattle.papaya_whole.specs.Given.PassesSweeps as passes
 
 -- of a pair that is disposed of, nothing is left to be found
 abbrev pub DisposeLinks : Disposing → Type 0

@@ -1,30 +1,30 @@
 -- A step of a row of the collector within a call on one key: by all that can be looked at then, the numbers of the call and its row are lower.
 use Rattle.std.specs.Prelude.{◌≡◌, ℕ, ◌<◌, Bool, true, Option, Some}
 use Rattle.std.proofs.Common.{List, inl, inr, refl, ap, sym, subst, ◌∙◌}
-use Rattle.papaya_whole.specs.Given.SeizeWords.Mem.{Mem, Took, value_at}
-use Rattle.papaya_whole.specs.Given.SeizeWords.Plan.{Steps}
-use Rattle.papaya_whole.specs.Given.Seize.World.{World, Row, Settles, Defers, IsInside}
-use Rattle.papaya_whole.specs.Given.Seize.declared.rows.settle.Settled.{Settled}
-use Rattle.papaya_whole.specs.Given.Seize.declared.rows.settle.Settled.TheVariants as settled
-use Rattle.papaya_whole.proofs.Given.SeizeEnds.Settling.Most.{is_going, goes_further}
-use Rattle.papaya_whole.specs.Given.Tables.declared.node.Node.{Node}
-use Rattle.papaya_whole.specs.Given.Tables.declared.setting.Setting.{Setting}
-use Rattle.papaya_whole.specs.Given.Raw.Call.{call_plan}
-use Rattle.papaya_whole.specs.Given.Raw.declared.machines.answer.Called.{Called}
-use Rattle.papaya_whole.specs.Given.Raw.declared.machines.answer.Called.TheVariants as called
-use Rattle.papaya_whole.specs.Given.Raw.declared.machines.call.KeyCall.{KeyCall}
-use Rattle.papaya_whole.specs.Given.Rule.Chart.{Chart}
-use Rattle.papaya_whole.specs.Given.Rule.Words.{Blocks}
-use Rattle.papaya_whole.specs.Given.Points.Measures.{IsBelow}
-use Rattle.papaya_whole.specs.Given.Points.Steps.{AreLawful}
-use Rattle.papaya_whole.specs.Given.Points.Told.{IsRowOfCall}
-use Rattle.papaya_whole.specs.Given.Callers.Rows.{row_of, once_over}
-use Rattle.papaya_whole.specs.Given.Callers.Sights.{Sight, IsPartOf}
-use Rattle.papaya_whole.specs.Given.Callers.Together.{UnderWay, CallOnKey, OnKey, Together}
-use Rattle.papaya_whole.specs.Given.Falls.Calls.{number_of_call}
-use Rattle.papaya_whole.specs.Given.Falls.Falls.{GoesFurther}
-use Rattle.papaya_whole.proofs.Given.Falls.Below.{below_followed}
-use Rattle.papaya_whole.proofs.Given.Falls.Laws.{rows_fall}
+use Rattle.papaya_whole.specs.Given.SeizeWordsMem.{Mem, Took, value_at}
+use Rattle.papaya_whole.specs.Given.SeizeWordsPlan.{Steps}
+use Rattle.papaya_whole.specs.Given.SeizeWorld.{World, Row, Settles, Defers, IsInside}
+use Rattle.papaya_whole.specs.Given.SeizeDeclared.rows.settle.Settled.{Settled}
+use Rattle.papaya_whole.specs.Given.SeizeDeclared.rows.settle.Settled.TheVariants as settled
+use Rattle.papaya_whole.proofs.Given.SeizeEndsSettling.Most.{is_going, goes_further}
+use Rattle.papaya_whole.specs.Given.TablesDeclared.node.Node.{Node}
+use Rattle.papaya_whole.specs.Given.TablesDeclared.setting.Setting.{Setting}
+use Rattle.papaya_whole.specs.Given.RawCall.{call_plan}
+use Rattle.papaya_whole.specs.Given.RawDeclared.machines.answer.Called.{Called}
+use Rattle.papaya_whole.specs.Given.RawDeclared.machines.answer.Called.TheVariants as called
+use Rattle.papaya_whole.specs.Given.RawDeclared.machines.call.KeyCall.{KeyCall}
+use Rattle.papaya_whole.specs.Given.RuleChart.{Chart}
+use Rattle.papaya_whole.specs.Given.RuleWords.{Blocks}
+use Rattle.papaya_whole.specs.Given.PointsMeasures.{IsBelow}
+use Rattle.papaya_whole.specs.Given.PointsSteps.{AreLawful}
+use Rattle.papaya_whole.specs.Given.PointsTold.{IsRowOfCall}
+use Rattle.papaya_whole.specs.Given.CallersRows.{row_of, once_over}
+use Rattle.papaya_whole.specs.Given.CallersSights.{Sight, IsPartOf}
+use Rattle.papaya_whole.specs.Given.CallersTogether.{UnderWay, CallOnKey, OnKey, Together}
+use Rattle.papaya_whole.specs.Given.FallsCalls.{number_of_call}
+use Rattle.papaya_whole.specs.Given.FallsFalls.{GoesFurther}
+use Rattle.papaya_whole.proofs.Given.FallsBelow.{below_followed}
+use Rattle.papaya_whole.proofs.Given.FallsLaws.{rows_fall}
 use Rattle.papaya_whole.proofs.Rows.Account.{told_by, Account, Settling, Deferring, Over, Ends, account}
 use Rattle.papaya_lowers.proofs.Kept.{KeyLinks, key_kept}
 use Rattle.papaya_lowers.proofs.Rows.{left, with_left, settling_less, deferring_less, row_lowers}

@@ -1,61 +1,61 @@
 -- A machine that looks up a key makes one load by each step, and goes on as a lookup or answers.
 use Rattle.std.specs.Prelude.{◌≡◌, ℕ, suc, Bool, true, false, List, Option, Some, None, if◌then◌else◌}
 use Rattle.std.proofs.Common.{inl, inr, refl, ap, sym, subst, ◌∙◌, arith}
-use Rattle.papaya_whole.specs.Given.SeizeWords.Mem.{Mem, Took, value_at}
-use Rattle.papaya_whole.specs.Given.SeizeWords.Plan.{Steps, plan_as}
-use Rattle.papaya_whole.proofs.Given.SeizeRule.Rows.Leaving.{steps_back}
-use Rattle.papaya_whole.specs.Given.Seize.World.{World}
-use Rattle.papaya_whole.specs.Given.Seize.declared.progress.Progress.{Progress as Stepped}
-use Rattle.papaya_whole.specs.Given.Seize.declared.progress.Progress.TheVariants as stepped
-use Rattle.papaya_whole.specs.Given.Tables.Chunks.{is_incremental}
-use Rattle.papaya_whole.specs.Given.Tables.Finding.{finding}
-use Rattle.papaya_whole.specs.Given.Tables.Trials.{next_trial}
-use Rattle.papaya_whole.specs.Given.Tables.declared.finding.Aim.TheVariants as aims
-use Rattle.papaya_whole.specs.Given.Tables.declared.finding.Finding.{Finding}
-use Rattle.papaya_whole.specs.Given.Tables.declared.finding.Finding.TheVariants as is
-use Rattle.papaya_whole.specs.Given.Tables.declared.node.Node.{Node}
-use Rattle.papaya_whole.specs.Given.Tables.declared.resize_mode.ResizeMode.{ResizeMode}
-use Rattle.papaya_whole.specs.Given.Tables.declared.setting.Setting.{Setting}
-use Rattle.papaya_whole.specs.Given.Tables.declared.table.Table.{Table}
-use Rattle.papaya_whole.specs.Given.Tables.declared.trial.Trial.{Trial}
-use Rattle.papaya_whole.specs.Given.Resize.Lookup.{answered, going, passed, told_of, plan_at, lookup_plan}
-use Rattle.papaya_whole.specs.Given.Resize.declared.lookup.Lookup.{Lookup}
-use Rattle.papaya_whole.specs.Given.Resize.declared.lookup.Looking.{Looking}
-use Rattle.papaya_whole.specs.Given.Resize.declared.lookup.Looking.TheVariants as looks
-use Rattle.papaya_whole.specs.Given.Raw.Call.{looked, looks_for, call_plan}
-use Rattle.papaya_whole.specs.Given.Raw.Call as call
-use Rattle.papaya_whole.specs.Given.Raw.Machine as machines
-use Rattle.papaya_whole.specs.Given.Raw.Machine.{machine_plan}
-use Rattle.papaya_whole.specs.Given.Raw.declared.machines.answer.KeyAnswer.TheVariants as answers
-use Rattle.papaya_whole.specs.Given.Raw.declared.machines.call.Calling.{Calling}
-use Rattle.papaya_whole.specs.Given.Raw.declared.machines.call.Calling.TheVariants as at
-use Rattle.papaya_whole.specs.Given.Raw.declared.machines.call.KeyCall.{KeyCall}
-use Rattle.papaya_whole.specs.Given.Raw.declared.machines.machine.Machine.{Machine}
-use Rattle.papaya_whole.specs.Given.Raw.declared.machines.machine.Machine.TheVariants as kinds
-use Rattle.papaya_whole.specs.Given.Raw.declared.machines.progress.Answer.TheVariants as ends
-use Rattle.papaya_whole.specs.Given.Raw.declared.machines.progress.Progress.{Progress}
-use Rattle.papaya_whole.specs.Given.Rule.Chart.{Chart}
-use Rattle.papaya_whole.specs.Given.Rule.InWorld.{IsMapIn}
-use Rattle.papaya_whole.specs.Given.Rule.Maps.{spot_at, IsClass, IsMap, IsTrial}
-use Rattle.papaya_whole.specs.Given.Rule.Words.{Blocks, place_word}
-use Rattle.papaya_whole.proofs.Given.Rule.Keys.TriesSeen.{IsNext, next_is}
-use Rattle.papaya_whole.specs.Given.Points.FactsCalls.{CallingFacts, CallFacts}
-use Rattle.papaya_whole.specs.Given.Points.FactsLooks.{LookupFacts}
-use Rattle.papaya_whole.specs.Given.Points.MeasuresLooks.{IsLoad, HasEnded, LoadLeads, LookupLeads, HasLooked, begun, further}
-use Rattle.papaya_whole.specs.Given.Points.Steps.{AreLawful}
-use Rattle.papaya_whole.specs.Given.Points.Told.{IsRowOfCall, LookupTold}
-use Rattle.papaya_whole.proofs.Given.Points.Lookups.LooksAsked.{class_asked, lookup_asked}
-use Rattle.papaya_whole.proofs.Given.Points.Lookups.LookupsShort.{lookups_are_short}
-use Rattle.papaya_whole.proofs.Given.Points.Lookups.Points.{went_lookup_leads}
-use Rattle.papaya_whole.proofs.Given.Points.Lookups.Reads.{SeesPlace, sees_place, probes_tell}
-use Rattle.papaya_whole.specs.Given.Late.LateCalls.{LateCalling, LateCallFacts}
-use Rattle.papaya_whole.specs.Given.Late.LateLooks.{LateLooking}
-use Rattle.papaya_whole.specs.Given.Callers.Sights.{seen_by}
-use Rattle.papaya_whole.specs.Given.Callers.Together.{UnderWay, CallOnKey, OnKey, ForRoom, Counting, OverAll, in_slot, Stands, Together}
-use Rattle.papaya_whole.specs.Given.Finishes.Endings.{Finishing, EndingsTogether}
-use Rattle.papaya_whole.specs.Given.Finishes.Makings.{Beginning}
-use Rattle.papaya_whole.specs.Given.Finishes.Maps.{Standing}
-use Rattle.papaya_whole.proofs.Given.Waits.Promised.{map_of}
+use Rattle.papaya_whole.specs.Given.SeizeWordsMem.{Mem, Took, value_at}
+use Rattle.papaya_whole.specs.Given.SeizeWordsPlan.{Steps, plan_as}
+use Rattle.papaya_whole.proofs.Given.SeizeRuleRows.Leaving.{steps_back}
+use Rattle.papaya_whole.specs.Given.SeizeWorld.{World}
+use Rattle.papaya_whole.specs.Given.SeizeDeclared.progress.Progress.{Progress as Stepped}
+use Rattle.papaya_whole.specs.Given.SeizeDeclared.progress.Progress.TheVariants as stepped
+use Rattle.papaya_whole.specs.Given.TablesChunks.{is_incremental}
+use Rattle.papaya_whole.specs.Given.TablesFinding.{finding}
+use Rattle.papaya_whole.specs.Given.TablesTrials.{next_trial}
+use Rattle.papaya_whole.specs.Given.TablesDeclared.finding.Aim.TheVariants as aims
+use Rattle.papaya_whole.specs.Given.TablesDeclared.finding.Finding.{Finding}
+use Rattle.papaya_whole.specs.Given.TablesDeclared.finding.Finding.TheVariants as is
+use Rattle.papaya_whole.specs.Given.TablesDeclared.node.Node.{Node}
+use Rattle.papaya_whole.specs.Given.TablesDeclared.resize_mode.ResizeMode.{ResizeMode}
+use Rattle.papaya_whole.specs.Given.TablesDeclared.setting.Setting.{Setting}
+use Rattle.papaya_whole.specs.Given.TablesDeclared.table.Table.{Table}
+use Rattle.papaya_whole.specs.Given.TablesDeclared.trial.Trial.{Trial}
+use Rattle.papaya_whole.specs.Given.ResizeLookup.{answered, going, passed, told_of, plan_at, lookup_plan}
+use Rattle.papaya_whole.specs.Given.ResizeDeclared.lookup.Lookup.{Lookup}
+use Rattle.papaya_whole.specs.Given.ResizeDeclared.lookup.Looking.{Looking}
+use Rattle.papaya_whole.specs.Given.ResizeDeclared.lookup.Looking.TheVariants as looks
+use Rattle.papaya_whole.specs.Given.RawCall.{looked, looks_for, call_plan}
+use Rattle.papaya_whole.specs.Given.RawCall as call
+use Rattle.papaya_whole.specs.Given.RawMachine as machines
+use Rattle.papaya_whole.specs.Given.RawMachine.{machine_plan}
+use Rattle.papaya_whole.specs.Given.RawDeclared.machines.answer.KeyAnswer.TheVariants as answers
+use Rattle.papaya_whole.specs.Given.RawDeclared.machines.call.Calling.{Calling}
+use Rattle.papaya_whole.specs.Given.RawDeclared.machines.call.Calling.TheVariants as at
+use Rattle.papaya_whole.specs.Given.RawDeclared.machines.call.KeyCall.{KeyCall}
+use Rattle.papaya_whole.specs.Given.RawDeclared.machines.machine.Machine.{Machine}
+use Rattle.papaya_whole.specs.Given.RawDeclared.machines.machine.Machine.TheVariants as kinds
+use Rattle.papaya_whole.specs.Given.RawDeclared.machines.progress.Answer.TheVariants as ends
+use Rattle.papaya_whole.specs.Given.RawDeclared.machines.progress.Progress.{Progress}
+use Rattle.papaya_whole.specs.Given.RuleChart.{Chart}
+use Rattle.papaya_whole.specs.Given.RuleInWorld.{IsMapIn}
+use Rattle.papaya_whole.specs.Given.RuleMaps.{spot_at, IsClass, IsMap, IsTrial}
+use Rattle.papaya_whole.specs.Given.RuleWords.{Blocks, place_word}
+use Rattle.papaya_whole.proofs.Given.RuleKeys.TriesSeen.{IsNext, next_is}
+use Rattle.papaya_whole.specs.Given.PointsFactsCalls.{CallingFacts, CallFacts}
+use Rattle.papaya_whole.specs.Given.PointsFactsLooks.{LookupFacts}
+use Rattle.papaya_whole.specs.Given.PointsMeasuresLooks.{IsLoad, HasEnded, LoadLeads, LookupLeads, HasLooked, begun, further}
+use Rattle.papaya_whole.specs.Given.PointsSteps.{AreLawful}
+use Rattle.papaya_whole.specs.Given.PointsTold.{IsRowOfCall, LookupTold}
+use Rattle.papaya_whole.proofs.Given.PointsLookups.LooksAsked.{class_asked, lookup_asked}
+use Rattle.papaya_whole.proofs.Given.PointsLookups.LookupsShort.{lookups_are_short}
+use Rattle.papaya_whole.proofs.Given.PointsLookups.Points.{went_lookup_leads}
+use Rattle.papaya_whole.proofs.Given.PointsLookups.Reads.{SeesPlace, sees_place, probes_tell}
+use Rattle.papaya_whole.specs.Given.LateLateCalls.{LateCalling, LateCallFacts}
+use Rattle.papaya_whole.specs.Given.LateLateLooks.{LateLooking}
+use Rattle.papaya_whole.specs.Given.CallersSights.{seen_by}
+use Rattle.papaya_whole.specs.Given.CallersTogether.{UnderWay, CallOnKey, OnKey, ForRoom, Counting, OverAll, in_slot, Stands, Together}
+use Rattle.papaya_whole.specs.Given.FinishesEndings.{Finishing, EndingsTogether}
+use Rattle.papaya_whole.specs.Given.FinishesMakings.{Beginning}
+use Rattle.papaya_whole.specs.Given.FinishesMaps.{Standing}
+use Rattle.papaya_whole.proofs.Given.WaitsPromised.{map_of}
 use Rattle.papaya_lowers.specs.Looks.{LooksOn, LookupsStepByLoads}
 
 -- one that has looked has not ended

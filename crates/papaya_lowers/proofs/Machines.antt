@@ -1,55 +1,55 @@
 -- Each step by which a machine goes on lowers its numbers, whichever its kind.
 use Rattle.std.specs.Prelude.{◌≡◌, ℕ, ◌+◌, Bool, List, [], ◌∷◌, ◌++◌, length, Option, Some}
 use Rattle.std.proofs.Common.{inl, inr, refl, ap, sym, subst, ◌∙◌, length-append}
-use Rattle.papaya_whole.specs.Given.SeizeWords.Mem.{Mem, Took, value_at}
-use Rattle.papaya_whole.specs.Given.SeizeWords.Plan.{Steps}
-use Rattle.papaya_whole.proofs.Given.SeizeRule.Rows.Leaving.{steps_back}
-use Rattle.papaya_whole.specs.Given.Seize.World.{World, IsInside, with_at}
-use Rattle.papaya_whole.specs.Given.Seize.declared.progress.Progress.{Progress as Counted}
-use Rattle.papaya_whole.specs.Given.Seize.declared.progress.Progress.TheVariants as counted
-use Rattle.papaya_whole.specs.Given.Tables.declared.node.Node.{Node}
-use Rattle.papaya_whole.specs.Given.Resize.Sum.{sum_plan}
-use Rattle.papaya_whole.specs.Given.Resize.declared.outcome.Outcome.{Outcome}
-use Rattle.papaya_whole.specs.Given.Resize.declared.outcome.Outcome.TheVariants as outcome
-use Rattle.papaya_whole.specs.Given.Resize.declared.sum.Sum.{Sum}
-use Rattle.papaya_whole.specs.Given.Raw.Call.{call_plan}
-use Rattle.papaya_whole.specs.Given.Raw.Machine as machines
-use Rattle.papaya_whole.specs.Given.Raw.Machine.{machine_plan}
-use Rattle.papaya_whole.specs.Given.Raw.Progress.{of_called, of_outcome, of_swept, of_counting}
-use Rattle.papaya_whole.specs.Given.Raw.declared.machines.answer.Called.{Called}
-use Rattle.papaya_whole.specs.Given.Raw.declared.machines.answer.Called.TheVariants as called
-use Rattle.papaya_whole.specs.Given.Raw.declared.machines.call.KeyCall.{KeyCall}
-use Rattle.papaya_whole.specs.Given.Raw.declared.machines.machine.Machine.{Machine}
-use Rattle.papaya_whole.specs.Given.Raw.declared.machines.machine.Machine.TheVariants as kinds
-use Rattle.papaya_whole.specs.Given.Raw.declared.machines.progress.Progress.{Progress}
-use Rattle.papaya_whole.specs.Given.Reserves.Reserve.{reserve_plan}
-use Rattle.papaya_whole.specs.Given.Reserves.declared.reserve.Reserve.{Reserve}
-use Rattle.papaya_whole.specs.Given.Sweeps.Sweep.{sweep_plan}
-use Rattle.papaya_whole.specs.Given.Sweeps.declared.sweep.Sweep.{Sweep}
-use Rattle.papaya_whole.specs.Given.Sweeps.declared.sweep.Sweeping.{Sweeping}
-use Rattle.papaya_whole.specs.Given.Sweeps.declared.sweep.Swept.{Swept}
-use Rattle.papaya_whole.specs.Given.Sweeps.declared.sweep.Swept.TheVariants as swept
-use Rattle.papaya_whole.specs.Given.Points.Measures.{IsBelow}
-use Rattle.papaya_whole.specs.Given.Points.MeasuresTables.{number_of_sum}
-use Rattle.papaya_whole.proofs.Given.Points.Making.EndsSum.{sum_lowers}
-use Rattle.papaya_whole.specs.Given.Points.Steps.{AreLawful}
-use Rattle.papaya_whole.specs.Given.Callers.OverAll.{CallOverAll, gone_on}
-use Rattle.papaya_whole.specs.Given.Callers.Rooms.{CallForRoom}
-use Rattle.papaya_whole.specs.Given.Callers.Together.{UnderWay, UnlessCounts, CallOnKey, OnKey, ForRoom, Counting, OverAll, Together, next_of, next_for_room, next_over_all}
-use Rattle.papaya_whole.proofs.Given.Callers.Together.At.{at_same}
-use Rattle.papaya_whole.specs.Given.Finishes.Endings.{Finishing, EndingsTogether}
-use Rattle.papaya_whole.specs.Given.Finishes.Machines.{machine_of, DidOfKind, MachineStepsAmong}
-use Rattle.papaya_whole.specs.Given.Finishes.Makings.{Beginning}
-use Rattle.papaya_whole.specs.Given.Finishes.Maps.{Standing, IsSameMap, with_call}
-use Rattle.papaya_whole.specs.Given.Falls.Calls.{number_of_call}
-use Rattle.papaya_whole.specs.Given.Falls.Falls.{GoesFurther}
-use Rattle.papaya_whole.specs.Given.Falls.FallsWithin.{GoesFurther as RoomGoesFurther}
-use Rattle.papaya_whole.specs.Given.Falls.Reserves.{number_of_reserve}
-use Rattle.papaya_whole.proofs.Given.Falls.Below.{below_followed}
-use Rattle.papaya_whole.proofs.Given.Falls.Laws.{numbers_are_as_many, reserve_numbers_are_as_many}
-use Rattle.papaya_whole.specs.Given.Passes.FallsSweeps.{ComesOn}
-use Rattle.papaya_whole.specs.Given.Passes.Sweeps.{number_of_sweep}
-use Rattle.papaya_whole.proofs.Given.Passes.Laws.{sweep_numbers_are_as_many}
+use Rattle.papaya_whole.specs.Given.SeizeWordsMem.{Mem, Took, value_at}
+use Rattle.papaya_whole.specs.Given.SeizeWordsPlan.{Steps}
+use Rattle.papaya_whole.proofs.Given.SeizeRuleRows.Leaving.{steps_back}
+use Rattle.papaya_whole.specs.Given.SeizeWorld.{World, IsInside, with_at}
+use Rattle.papaya_whole.specs.Given.SeizeDeclared.progress.Progress.{Progress as Counted}
+use Rattle.papaya_whole.specs.Given.SeizeDeclared.progress.Progress.TheVariants as counted
+use Rattle.papaya_whole.specs.Given.TablesDeclared.node.Node.{Node}
+use Rattle.papaya_whole.specs.Given.ResizeSum.{sum_plan}
+use Rattle.papaya_whole.specs.Given.ResizeDeclared.outcome.Outcome.{Outcome}
+use Rattle.papaya_whole.specs.Given.ResizeDeclared.outcome.Outcome.TheVariants as outcome
+use Rattle.papaya_whole.specs.Given.ResizeDeclared.sum.Sum.{Sum}
+use Rattle.papaya_whole.specs.Given.RawCall.{call_plan}
+use Rattle.papaya_whole.specs.Given.RawMachine as machines
+use Rattle.papaya_whole.specs.Given.RawMachine.{machine_plan}
+use Rattle.papaya_whole.specs.Given.RawProgress.{of_called, of_outcome, of_swept, of_counting}
+use Rattle.papaya_whole.specs.Given.RawDeclared.machines.answer.Called.{Called}
+use Rattle.papaya_whole.specs.Given.RawDeclared.machines.answer.Called.TheVariants as called
+use Rattle.papaya_whole.specs.Given.RawDeclared.machines.call.KeyCall.{KeyCall}
+use Rattle.papaya_whole.specs.Given.RawDeclared.machines.machine.Machine.{Machine}
+use Rattle.papaya_whole.specs.Given.RawDeclared.machines.machine.Machine.TheVariants as kinds
+use Rattle.papaya_whole.specs.Given.RawDeclared.machines.progress.Progress.{Progress}
+use Rattle.papaya_whole.specs.Given.ReservesReserve.{reserve_plan}
+use Rattle.papaya_whole.specs.Given.ReservesDeclared.reserve.Reserve.{Reserve}
+use Rattle.papaya_whole.specs.Given.SweepsSweep.{sweep_plan}
+use Rattle.papaya_whole.specs.Given.SweepsDeclared.sweep.Sweep.{Sweep}
+use Rattle.papaya_whole.specs.Given.SweepsDeclared.sweep.Sweeping.{Sweeping}
+use Rattle.papaya_whole.specs.Given.SweepsDeclared.sweep.Swept.{Swept}
+use Rattle.papaya_whole.specs.Given.SweepsDeclared.sweep.Swept.TheVariants as swept
+use Rattle.papaya_whole.specs.Given.PointsMeasures.{IsBelow}
+use Rattle.papaya_whole.specs.Given.PointsMeasuresTables.{number_of_sum}
+use Rattle.papaya_whole.proofs.Given.PointsMaking.EndsSum.{sum_lowers}
+use Rattle.papaya_whole.specs.Given.PointsSteps.{AreLawful}
+use Rattle.papaya_whole.specs.Given.CallersOverAll.{CallOverAll, gone_on}
+use Rattle.papaya_whole.specs.Given.CallersRooms.{CallForRoom}
+use Rattle.papaya_whole.specs.Given.CallersTogether.{UnderWay, UnlessCounts, CallOnKey, OnKey, ForRoom, Counting, OverAll, Together, next_of, next_for_room, next_over_all}
+use Rattle.papaya_whole.proofs.Given.CallersTogether.At.{at_same}
+use Rattle.papaya_whole.specs.Given.FinishesEndings.{Finishing, EndingsTogether}
+use Rattle.papaya_whole.specs.Given.FinishesMachines.{machine_of, DidOfKind, MachineStepsAmong}
+use Rattle.papaya_whole.specs.Given.FinishesMakings.{Beginning}
+use Rattle.papaya_whole.specs.Given.FinishesMaps.{Standing, IsSameMap, with_call}
+use Rattle.papaya_whole.specs.Given.FallsCalls.{number_of_call}
+use Rattle.papaya_whole.specs.Given.FallsFalls.{GoesFurther}
+use Rattle.papaya_whole.specs.Given.FallsFallsWithin.{GoesFurther as RoomGoesFurther}
+use Rattle.papaya_whole.specs.Given.FallsReserves.{number_of_reserve}
+use Rattle.papaya_whole.proofs.Given.FallsBelow.{below_followed}
+use Rattle.papaya_whole.proofs.Given.FallsLaws.{numbers_are_as_many, reserve_numbers_are_as_many}
+use Rattle.papaya_whole.specs.Given.PassesFallsSweeps.{ComesOn}
+use Rattle.papaya_whole.specs.Given.PassesSweeps.{number_of_sweep}
+use Rattle.papaya_whole.proofs.Given.PassesLaws.{sweep_numbers_are_as_many}
 use Rattle.papaya_lowers.specs.Lowers.{GoesOn, StepsLower}
 use Rattle.papaya_lowers.specs.Numbers.{row_within, numbers_of}
 use Rattle.papaya_lowers.proofs.KeyRows.{key_row_falls}

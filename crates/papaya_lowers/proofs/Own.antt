@@ -1,41 +1,41 @@
 -- A step of a call on one key, or of a reservation, that is none of a row of the collector: by all that can be looked at of its map, its numbers are lower.
 use Rattle.std.specs.Prelude.{◌≡◌, ℕ, Bool, Option, Some}
 use Rattle.std.proofs.Common.{inl, inr, sym, subst, ◌∙◌}
-use Rattle.papaya_whole.specs.Given.SeizeWords.Mem.{Mem, Took, value_at}
-use Rattle.papaya_whole.specs.Given.SeizeWords.Plan.{Steps}
-use Rattle.papaya_whole.specs.Given.Seize.World.{World, IsInside}
-use Rattle.papaya_whole.specs.Given.Tables.declared.node.Node.{Node}
-use Rattle.papaya_whole.specs.Given.Tables.declared.setting.Setting.{Setting}
-use Rattle.papaya_whole.specs.Given.Resize.declared.outcome.Outcome.{Outcome}
-use Rattle.papaya_whole.specs.Given.Raw.Call.{call_plan}
-use Rattle.papaya_whole.specs.Given.Raw.declared.machines.answer.Called.{Called}
-use Rattle.papaya_whole.specs.Given.Raw.declared.machines.call.KeyCall.{KeyCall}
-use Rattle.papaya_whole.specs.Given.Reserves.Reserve.{reserve_plan}
-use Rattle.papaya_whole.specs.Given.Reserves.declared.reserve.Reserve.{Reserve}
-use Rattle.papaya_whole.specs.Given.Rule.Chart.{Chart}
-use Rattle.papaya_whole.specs.Given.Rule.InWorld.{IsMapIn, Went}
-use Rattle.papaya_whole.specs.Given.Rule.Maps.{IsMap}
-use Rattle.papaya_whole.specs.Given.Rule.Words.{Blocks}
-use Rattle.papaya_whole.specs.Given.Points.Measures.{IsBelow}
-use Rattle.papaya_whole.proofs.Given.Points.MovedLasts.{moved_lasts}
-use Rattle.papaya_whole.specs.Given.Points.Steps.{AreLawful}
-use Rattle.papaya_whole.specs.Given.Points.Told.{IsRowOfCall}
-use Rattle.papaya_whole.specs.Given.Late.ToldReserves.{IsRowOfReserve}
-use Rattle.papaya_whole.specs.Given.Callers.Rooms.{CallForRoom}
-use Rattle.papaya_whole.specs.Given.Callers.Sights.{Sight, seen_by, IsGrown, IsSight}
-use Rattle.papaya_whole.specs.Given.Callers.Together.{UnderWay, CallOnKey, OnKey, ForRoom, in_slot, Stands, Together, StepsTogether, RoomStepsTogether}
-use Rattle.papaya_whole.proofs.Given.Callers.Together.Fits.{map_in_slot}
-use Rattle.papaya_whole.specs.Given.Falls.Calls.{number_of_call}
-use Rattle.papaya_whole.specs.Given.Falls.Falls.{GoesFurther}
-use Rattle.papaya_whole.specs.Given.Falls.FallsWithin.{GoesFurther as RoomGoesFurther}
-use Rattle.papaya_whole.specs.Given.Falls.Reserves.{number_of_reserve}
-use Rattle.papaya_whole.proofs.Given.Falls.Calls.Facts.{call_stands}
-use Rattle.papaya_whole.proofs.Given.Falls.Calls.LateFacts.{late_call_stands}
-use Rattle.papaya_whole.proofs.Given.Falls.Calls.Points.{called_on}
-use Rattle.papaya_whole.proofs.Given.Falls.Onward.{Onward}
-use Rattle.papaya_whole.proofs.Given.Falls.Reserves.Points.{reserved_on}
-use Rattle.papaya_whole.proofs.Given.Falls.Reserves.Stands.{ReserveStands, reserve_stands, late_reserve_stands}
-use Rattle.papaya_whole.proofs.Given.Falls.Stands.{CallStands}
+use Rattle.papaya_whole.specs.Given.SeizeWordsMem.{Mem, Took, value_at}
+use Rattle.papaya_whole.specs.Given.SeizeWordsPlan.{Steps}
+use Rattle.papaya_whole.specs.Given.SeizeWorld.{World, IsInside}
+use Rattle.papaya_whole.specs.Given.TablesDeclared.node.Node.{Node}
+use Rattle.papaya_whole.specs.Given.TablesDeclared.setting.Setting.{Setting}
+use Rattle.papaya_whole.specs.Given.ResizeDeclared.outcome.Outcome.{Outcome}
+use Rattle.papaya_whole.specs.Given.RawCall.{call_plan}
+use Rattle.papaya_whole.specs.Given.RawDeclared.machines.answer.Called.{Called}
+use Rattle.papaya_whole.specs.Given.RawDeclared.machines.call.KeyCall.{KeyCall}
+use Rattle.papaya_whole.specs.Given.ReservesReserve.{reserve_plan}
+use Rattle.papaya_whole.specs.Given.ReservesDeclared.reserve.Reserve.{Reserve}
+use Rattle.papaya_whole.specs.Given.RuleChart.{Chart}
+use Rattle.papaya_whole.specs.Given.RuleInWorld.{IsMapIn, Went}
+use Rattle.papaya_whole.specs.Given.RuleMaps.{IsMap}
+use Rattle.papaya_whole.specs.Given.RuleWords.{Blocks}
+use Rattle.papaya_whole.specs.Given.PointsMeasures.{IsBelow}
+use Rattle.papaya_whole.proofs.Given.PointsMovedLasts.{moved_lasts}
+use Rattle.papaya_whole.specs.Given.PointsSteps.{AreLawful}
+use Rattle.papaya_whole.specs.Given.PointsTold.{IsRowOfCall}
+use Rattle.papaya_whole.specs.Given.LateToldReserves.{IsRowOfReserve}
+use Rattle.papaya_whole.specs.Given.CallersRooms.{CallForRoom}
+use Rattle.papaya_whole.specs.Given.CallersSights.{Sight, seen_by, IsGrown, IsSight}
+use Rattle.papaya_whole.specs.Given.CallersTogether.{UnderWay, CallOnKey, OnKey, ForRoom, in_slot, Stands, Together, StepsTogether, RoomStepsTogether}
+use Rattle.papaya_whole.proofs.Given.CallersTogether.Fits.{map_in_slot}
+use Rattle.papaya_whole.specs.Given.FallsCalls.{number_of_call}
+use Rattle.papaya_whole.specs.Given.FallsFalls.{GoesFurther}
+use Rattle.papaya_whole.specs.Given.FallsFallsWithin.{GoesFurther as RoomGoesFurther}
+use Rattle.papaya_whole.specs.Given.FallsReserves.{number_of_reserve}
+use Rattle.papaya_whole.proofs.Given.FallsCalls.Facts.{call_stands}
+use Rattle.papaya_whole.proofs.Given.FallsCalls.LateFacts.{late_call_stands}
+use Rattle.papaya_whole.proofs.Given.FallsCalls.Points.{called_on}
+use Rattle.papaya_whole.proofs.Given.FallsOnward.{Onward}
+use Rattle.papaya_whole.proofs.Given.FallsReserves.Points.{reserved_on}
+use Rattle.papaya_whole.proofs.Given.FallsReserves.Stands.{ReserveStands, reserve_stands, late_reserve_stands}
+use Rattle.papaya_whole.proofs.Given.FallsStands.{CallStands}
 use Rattle.papaya_lowers.proofs.Widened as wide
 
 module _ {K V Q : Type 0} (same : K → K → Bool) (hash : K → ℕ) (asks : Q → K → Bool) (setting : Setting) (slot : ℕ → ℕ) (lawful : AreLawful same hash)

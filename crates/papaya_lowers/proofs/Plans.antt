@@ -1,39 +1,39 @@
 -- Wrong plans beside the laws of steps. Each is stepped in a world of a few blocks, and the clause that refuses it is false of what it leaves.
 use Rattle.std.specs.Prelude.{◌≡◌, ℕ, suc, ◌<◌, List, [], ◌∷◌, length, Option, ◌⊎◌, Some, true, false, eqb}
 use Rattle.std.proofs.Common.{inl, inr, refl, ap, sym, subst, ◌∙◌, arith}
-use Rattle.papaya_whole.specs.Given.SeizeWords.Mem.{Mem, Took, value_at, word_at, with_word}
-use Rattle.papaya_whole.specs.Given.SeizeWords.Op.{Load, Store, Found, Stored}
-use Rattle.papaya_whole.specs.Given.SeizeWords.declared.at.At.TheVariants.{Root}
-use Rattle.papaya_whole.specs.Given.SeizeWords.Plan.{Plan, Do, Now, Steps}
-use Rattle.papaya_whole.proofs.Given.SeizeWords.OneOwner.Operations.{loaded, stored}
-use Rattle.papaya_whole.specs.Given.Seize.World.{World, Row, Rests, Vacant, NoBlock}
-use Rattle.papaya_whole.specs.Given.Seize.declared.progress.Progress.{Progress as Stepped}
-use Rattle.papaya_whole.specs.Given.Tables.Trials.{first_trial, place_tried}
-use Rattle.papaya_whole.specs.Given.Tables.declared.node.Node.{Node}
-use Rattle.papaya_whole.specs.Given.Tables.declared.resize_mode.ResizeMode.TheVariants.{Incremental}
-use Rattle.papaya_whole.specs.Given.Tables.declared.table.Table.{Table}
-use Rattle.papaya_whole.specs.Given.Tables.declared.trial.Trial.{Trial}
-use Rattle.papaya_whole.specs.Given.Resize.Lookup.{going, looking}
-use Rattle.papaya_whole.specs.Given.Resize.declared.lookup.Lookup.{Lookup}
-use Rattle.papaya_whole.specs.Given.Resize.declared.lookup.Looking.{Looking}
-use Rattle.papaya_whole.specs.Given.Resize.declared.lookup.Looking.TheVariants as looks
-use Rattle.papaya_whole.specs.Given.Raw.CallPoints.{entering, inserting}
-use Rattle.papaya_whole.specs.Given.Raw.declared.machines.answer.Called.{Called}
-use Rattle.papaya_whole.specs.Given.Raw.declared.machines.answer.Called.TheVariants as called
-use Rattle.papaya_whole.specs.Given.Raw.declared.machines.call.Calling.{Calling}
-use Rattle.papaya_whole.specs.Given.Raw.declared.machines.call.Calling.TheVariants as at
-use Rattle.papaya_whole.specs.Given.Raw.declared.machines.call.KeyCall.{KeyCall}
-use Rattle.papaya_whole.specs.Given.Raw.declared.machines.machine.Machine.TheVariants as kinds
-use Rattle.papaya_whole.specs.Given.Points.Measures.{IsBelow}
-use Rattle.papaya_whole.specs.Given.Points.MeasuresLooks.{LoadLeads, HasLooked, begun, further, entered}
-use Rattle.papaya_whole.proofs.Given.Late.Plans.FewBlocks.{hash, setting, chart, memory, new}
-use Rattle.papaya_whole.specs.Given.Rule.Chart.{Copying, Holds}
-use Rattle.papaya_whole.specs.Given.Callers.Rows.{row_of}
-use Rattle.papaya_whole.specs.Given.Callers.Together.{CallOnKey, OnKey, no_blocks, no_sight}
-use Rattle.papaya_whole.specs.Given.Finishes.Maps.{Standing}
-use Rattle.papaya_whole.specs.Given.SeizeActs.Waits.{SettlesOn}
-use Rattle.papaya_whole.specs.Given.Waits.Waits.{IsBeingCopied, CallAwaits, AnotherHolds}
-use Rattle.papaya_whole.specs.Given.Tables.Chunks.{is_incremental}
+use Rattle.papaya_whole.specs.Given.SeizeWordsMem.{Mem, Took, value_at, word_at, with_word}
+use Rattle.papaya_whole.specs.Given.SeizeWordsOp.{Load, Store, Found, Stored}
+use Rattle.papaya_whole.specs.Given.SeizeWordsDeclared.at.At.TheVariants.{Root}
+use Rattle.papaya_whole.specs.Given.SeizeWordsPlan.{Plan, Do, Now, Steps}
+use Rattle.papaya_whole.proofs.Given.SeizeWordsOneOwner.Operations.{loaded, stored}
+use Rattle.papaya_whole.specs.Given.SeizeWorld.{World, Row, Rests, Vacant, NoBlock}
+use Rattle.papaya_whole.specs.Given.SeizeDeclared.progress.Progress.{Progress as Stepped}
+use Rattle.papaya_whole.specs.Given.TablesTrials.{first_trial, place_tried}
+use Rattle.papaya_whole.specs.Given.TablesDeclared.node.Node.{Node}
+use Rattle.papaya_whole.specs.Given.TablesDeclared.resize_mode.ResizeMode.TheVariants.{Incremental}
+use Rattle.papaya_whole.specs.Given.TablesDeclared.table.Table.{Table}
+use Rattle.papaya_whole.specs.Given.TablesDeclared.trial.Trial.{Trial}
+use Rattle.papaya_whole.specs.Given.ResizeLookup.{going, looking}
+use Rattle.papaya_whole.specs.Given.ResizeDeclared.lookup.Lookup.{Lookup}
+use Rattle.papaya_whole.specs.Given.ResizeDeclared.lookup.Looking.{Looking}
+use Rattle.papaya_whole.specs.Given.ResizeDeclared.lookup.Looking.TheVariants as looks
+use Rattle.papaya_whole.specs.Given.RawCallPoints.{entering, inserting}
+use Rattle.papaya_whole.specs.Given.RawDeclared.machines.answer.Called.{Called}
+use Rattle.papaya_whole.specs.Given.RawDeclared.machines.answer.Called.TheVariants as called
+use Rattle.papaya_whole.specs.Given.RawDeclared.machines.call.Calling.{Calling}
+use Rattle.papaya_whole.specs.Given.RawDeclared.machines.call.Calling.TheVariants as at
+use Rattle.papaya_whole.specs.Given.RawDeclared.machines.call.KeyCall.{KeyCall}
+use Rattle.papaya_whole.specs.Given.RawDeclared.machines.machine.Machine.TheVariants as kinds
+use Rattle.papaya_whole.specs.Given.PointsMeasures.{IsBelow}
+use Rattle.papaya_whole.specs.Given.PointsMeasuresLooks.{LoadLeads, HasLooked, begun, further, entered}
+use Rattle.papaya_whole.proofs.Given.LatePlans.FewBlocks.{hash, setting, chart, memory, new}
+use Rattle.papaya_whole.specs.Given.RuleChart.{Copying, Holds}
+use Rattle.papaya_whole.specs.Given.CallersRows.{row_of}
+use Rattle.papaya_whole.specs.Given.CallersTogether.{CallOnKey, OnKey, no_blocks, no_sight}
+use Rattle.papaya_whole.specs.Given.FinishesMaps.{Standing}
+use Rattle.papaya_whole.specs.Given.SeizeActsWaits.{SettlesOn}
+use Rattle.papaya_whole.specs.Given.WaitsWaits.{IsBeingCopied, CallAwaits, AnotherHolds}
+use Rattle.papaya_whole.specs.Given.TablesChunks.{is_incremental}
 use Rattle.papaya_lowers.specs.Numbers.{row_within, numbers_of}
 use Rattle.papaya_lowers.specs.Waits.{AwaitsACopying, AwaitsItsPair}
 

@@ -1,30 +1,30 @@
 -- A step of a row of the collector within a reservation: by all that can be looked at then, the numbers of the reservation and its row are lower.
 use Rattle.std.specs.Prelude.{◌≡◌, ℕ, ◌<◌, Bool, true, Option, Some}
 use Rattle.std.proofs.Common.{List, inl, inr, refl, ap, sym, subst, ◌∙◌}
-use Rattle.papaya_whole.specs.Given.SeizeWords.Mem.{Mem, Took, value_at}
-use Rattle.papaya_whole.specs.Given.SeizeWords.Plan.{Steps}
-use Rattle.papaya_whole.specs.Given.Seize.World.{World, Row, Settles, IsInside}
-use Rattle.papaya_whole.specs.Given.Seize.declared.rows.settle.Settled.{Settled}
-use Rattle.papaya_whole.specs.Given.Seize.declared.rows.settle.Settled.TheVariants as settled
-use Rattle.papaya_whole.proofs.Given.SeizeEnds.Settling.Most.{is_going, goes_further}
-use Rattle.papaya_whole.specs.Given.Tables.Chunks.{is_incremental}
-use Rattle.papaya_whole.specs.Given.Tables.declared.node.Node.{Node}
-use Rattle.papaya_whole.specs.Given.Tables.declared.setting.Setting.{Setting}
-use Rattle.papaya_whole.specs.Given.Resize.declared.outcome.Outcome.{Outcome}
-use Rattle.papaya_whole.specs.Given.Reserves.Reserve.{reserve_plan}
-use Rattle.papaya_whole.specs.Given.Reserves.declared.reserve.Reserve.{Reserve}
-use Rattle.papaya_whole.specs.Given.Rule.Chart.{Chart}
-use Rattle.papaya_whole.specs.Given.Rule.Words.{Blocks}
-use Rattle.papaya_whole.specs.Given.Points.Measures.{IsBelow}
-use Rattle.papaya_whole.specs.Given.Points.Steps.{AreLawful}
-use Rattle.papaya_whole.specs.Given.Late.ToldReserves.{IsRowOfReserve}
-use Rattle.papaya_whole.specs.Given.Callers.Rooms.{CallForRoom, row_of_room, room_once_over}
-use Rattle.papaya_whole.specs.Given.Callers.Sights.{Sight, IsPartOf}
-use Rattle.papaya_whole.specs.Given.Callers.Together.{UnderWay, ForRoom, Together}
-use Rattle.papaya_whole.specs.Given.Falls.FallsWithin.{GoesFurther}
-use Rattle.papaya_whole.specs.Given.Falls.Reserves.{number_of_reserve}
-use Rattle.papaya_whole.proofs.Given.Falls.Below.{below_followed}
-use Rattle.papaya_whole.proofs.Given.Falls.Laws.{reserve_rows_fall}
+use Rattle.papaya_whole.specs.Given.SeizeWordsMem.{Mem, Took, value_at}
+use Rattle.papaya_whole.specs.Given.SeizeWordsPlan.{Steps}
+use Rattle.papaya_whole.specs.Given.SeizeWorld.{World, Row, Settles, IsInside}
+use Rattle.papaya_whole.specs.Given.SeizeDeclared.rows.settle.Settled.{Settled}
+use Rattle.papaya_whole.specs.Given.SeizeDeclared.rows.settle.Settled.TheVariants as settled
+use Rattle.papaya_whole.proofs.Given.SeizeEndsSettling.Most.{is_going, goes_further}
+use Rattle.papaya_whole.specs.Given.TablesChunks.{is_incremental}
+use Rattle.papaya_whole.specs.Given.TablesDeclared.node.Node.{Node}
+use Rattle.papaya_whole.specs.Given.TablesDeclared.setting.Setting.{Setting}
+use Rattle.papaya_whole.specs.Given.ResizeDeclared.outcome.Outcome.{Outcome}
+use Rattle.papaya_whole.specs.Given.ReservesReserve.{reserve_plan}
+use Rattle.papaya_whole.specs.Given.ReservesDeclared.reserve.Reserve.{Reserve}
+use Rattle.papaya_whole.specs.Given.RuleChart.{Chart}
+use Rattle.papaya_whole.specs.Given.RuleWords.{Blocks}
+use Rattle.papaya_whole.specs.Given.PointsMeasures.{IsBelow}
+use Rattle.papaya_whole.specs.Given.PointsSteps.{AreLawful}
+use Rattle.papaya_whole.specs.Given.LateToldReserves.{IsRowOfReserve}
+use Rattle.papaya_whole.specs.Given.CallersRooms.{CallForRoom, row_of_room, room_once_over}
+use Rattle.papaya_whole.specs.Given.CallersSights.{Sight, IsPartOf}
+use Rattle.papaya_whole.specs.Given.CallersTogether.{UnderWay, ForRoom, Together}
+use Rattle.papaya_whole.specs.Given.FallsFallsWithin.{GoesFurther}
+use Rattle.papaya_whole.specs.Given.FallsReserves.{number_of_reserve}
+use Rattle.papaya_whole.proofs.Given.FallsBelow.{below_followed}
+use Rattle.papaya_whole.proofs.Given.FallsLaws.{reserve_rows_fall}
 use Rattle.papaya_whole.proofs.Rooms.Account.{room_told_by, RoomAccount, RoomSettling, RoomOver, room_account}
 use Rattle.papaya_lowers.proofs.Kept.{RoomLinks, room_kept}
 use Rattle.papaya_lowers.proofs.Rows.{left, with_left, settling_less, row_lowers}

@@ -1,25 +1,25 @@
 -- A step of a row of the collector within a call lowers what the row has left to do, or, as the row ends, the numbers of the call.
 use Rattle.std.specs.Prelude.{◌≡◌, ℕ, ◌+◌, ◌<◌, true, List, [], ◌∷◌, ◌++◌, ◌⊎◌}
 use Rattle.std.proofs.Common.{inl, inr, sym, subst, arith}
-use Rattle.papaya_whole.specs.Given.SeizeWords.Mem.{Mem, Took, value_at}
-use Rattle.papaya_whole.specs.Given.SeizeWords.Plan.{Steps}
-use Rattle.papaya_whole.specs.Given.Seize.Defer.{defer_plan}
-use Rattle.papaya_whole.specs.Given.Seize.Settle.{settle_plan}
-use Rattle.papaya_whole.specs.Given.Seize.World.{World, Row, Settles, Defers}
-use Rattle.papaya_whole.specs.Given.Seize.declared.progress.Progress.{Progress}
-use Rattle.papaya_whole.specs.Given.Seize.declared.progress.Progress.TheVariants as progress
-use Rattle.papaya_whole.specs.Given.Seize.declared.rows.defer.Defer.{Defer}
-use Rattle.papaya_whole.specs.Given.Seize.declared.rows.settle.Settle.{Settle}
-use Rattle.papaya_whole.specs.Given.Seize.declared.rows.settle.Settled.{Settled}
-use Rattle.papaya_whole.specs.Given.Seize.declared.states.TheConstants.{LAST_SLOT}
-use Rattle.papaya_whole.proofs.Given.SeizeEnds.Rows.Among.{Came, row_steps_left, settles_go_lower}
-use Rattle.papaya_whole.proofs.Given.SeizeEnds.Rows.Defer.{defer_ends}
-use Rattle.papaya_whole.proofs.Given.SeizeEnds.Settling.Most.{goes_further}
-use Rattle.papaya_whole.specs.Given.Tables.Nodes.{deferred_word}
-use Rattle.papaya_whole.specs.Given.Tables.declared.node.Node.{Node}
-use Rattle.papaya_whole.specs.Given.Points.Measures.{IsBelow}
-use Rattle.papaya_whole.specs.Given.Callers.Together.{CameAbout}
-use Rattle.papaya_whole.proofs.Given.Callers.Together.Came.{came_reached}
+use Rattle.papaya_whole.specs.Given.SeizeWordsMem.{Mem, Took, value_at}
+use Rattle.papaya_whole.specs.Given.SeizeWordsPlan.{Steps}
+use Rattle.papaya_whole.specs.Given.SeizeDefer.{defer_plan}
+use Rattle.papaya_whole.specs.Given.SeizeSettle.{settle_plan}
+use Rattle.papaya_whole.specs.Given.SeizeWorld.{World, Row, Settles, Defers}
+use Rattle.papaya_whole.specs.Given.SeizeDeclared.progress.Progress.{Progress}
+use Rattle.papaya_whole.specs.Given.SeizeDeclared.progress.Progress.TheVariants as progress
+use Rattle.papaya_whole.specs.Given.SeizeDeclared.rows.defer.Defer.{Defer}
+use Rattle.papaya_whole.specs.Given.SeizeDeclared.rows.settle.Settle.{Settle}
+use Rattle.papaya_whole.specs.Given.SeizeDeclared.rows.settle.Settled.{Settled}
+use Rattle.papaya_whole.specs.Given.SeizeDeclared.states.TheConstants.{LAST_SLOT}
+use Rattle.papaya_whole.proofs.Given.SeizeEndsRows.Among.{Came, row_steps_left, settles_go_lower}
+use Rattle.papaya_whole.proofs.Given.SeizeEndsRows.Defer.{defer_ends}
+use Rattle.papaya_whole.proofs.Given.SeizeEndsSettling.Most.{goes_further}
+use Rattle.papaya_whole.specs.Given.TablesNodes.{deferred_word}
+use Rattle.papaya_whole.specs.Given.TablesDeclared.node.Node.{Node}
+use Rattle.papaya_whole.specs.Given.PointsMeasures.{IsBelow}
+use Rattle.papaya_whole.specs.Given.CallersTogether.{CameAbout}
+use Rattle.papaya_whole.proofs.Given.CallersTogether.Came.{came_reached}
 use Rattle.papaya_whole.proofs.Keys.Falls.{lower_last}
 
 -- what a row has left to do, by the memory

@@ -1,66 +1,66 @@
 -- A row of the collector that waits leaves the memory as it is, and the call that it is within where that stands.
 use Rattle.std.specs.Prelude.{◌==◌}
 use Rattle.std.proofs.Common.{◌≡◌, ℕ, Bool, ◌⊎◌, inl, inr, refl, ap, sym, subst, ◌∙◌}
-use Rattle.papaya_whole.specs.Given.SeizeWords.declared.at.At.TheVariants.{Slot}
-use Rattle.papaya_whole.specs.Given.SeizeWords.Mem.{Mem, Took, value_at}
-use Rattle.papaya_whole.specs.Given.SeizeWords.Plan.{Now, Steps}
-use Rattle.papaya_whole.proofs.Given.SeizeWords.OneOwner.Operations.{loaded}
-use Rattle.papaya_whole.proofs.Given.SeizeWords.Plans.{ends_if}
-use Rattle.papaya_whole.proofs.Given.SeizeRule.Rows.Leaving.{steps_back}
-use Rattle.papaya_whole.proofs.Given.SeizeEnds.Batches.Held.{waits_held}
-use Rattle.papaya_whole.specs.Given.Seize.Defer.{defer_plan}
-use Rattle.papaya_whole.specs.Given.Seize.Settle as settles
-use Rattle.papaya_whole.specs.Given.Seize.declared.states.TheConstants.{BATCH, HELD}
-use Rattle.papaya_whole.specs.Given.Seize.declared.progress.Progress.{Progress}
-use Rattle.papaya_whole.specs.Given.Seize.declared.progress.Progress.TheVariants as progress
-use Rattle.papaya_whole.specs.Given.Seize.declared.rows.defer.Defer.{Defer}
-use Rattle.papaya_whole.specs.Given.Seize.declared.rows.settle.Settle.{Settle}
-use Rattle.papaya_whole.specs.Given.Seize.declared.rows.settle.Settling.{Settling}
-use Rattle.papaya_whole.specs.Given.Seize.declared.rows.settle.Settling.TheVariants as settling
-use Rattle.papaya_whole.specs.Given.Seize.declared.rows.settle.Settled.{Settled}
-use Rattle.papaya_whole.specs.Given.Seize.declared.rows.settle.Settled.TheVariants as settled
-use Rattle.papaya_whole.proofs.Given.SeizeActs.Waits.{deferring_never_waits}
-use Rattle.papaya_whole.specs.Given.Tables.Nodes.{deferred_word}
-use Rattle.papaya_whole.specs.Given.Tables.declared.node.Node.{Node}
-use Rattle.papaya_whole.specs.Given.Tables.declared.table.Table.{Table}
-use Rattle.papaya_whole.specs.Given.Resize.Copier as copier
-use Rattle.papaya_whole.specs.Given.Resize.CopierPromotes.{retired}
-use Rattle.papaya_whole.specs.Given.Resize.CopierStates as copiers
-use Rattle.papaya_whole.specs.Given.Resize.Dispose as dispose
-use Rattle.papaya_whole.specs.Given.Resize.declared.copier.Copier.{Copier}
-use Rattle.papaya_whole.specs.Given.Resize.declared.copier.Copying.{Copying}
-use Rattle.papaya_whole.specs.Given.Resize.declared.copier.Copying.TheVariants as copies
-use Rattle.papaya_whole.specs.Given.Resize.declared.dispose.Dispose.{Dispose}
-use Rattle.papaya_whole.specs.Given.Resize.declared.dispose.Disposing.{Disposing}
-use Rattle.papaya_whole.specs.Given.Resize.declared.dispose.Disposing.TheVariants as disposes
-use Rattle.papaya_whole.specs.Given.Resize.declared.outcome.Outcome.{Outcome}
-use Rattle.papaya_whole.specs.Given.Resize.declared.outcome.Outcome.TheVariants as outcome
-use Rattle.papaya_whole.specs.Given.Raw.Call as call
-use Rattle.papaya_whole.specs.Given.Raw.CallPoints as points
-use Rattle.papaya_whole.specs.Given.Raw.declared.machines.answer.Called.{Called}
-use Rattle.papaya_whole.specs.Given.Raw.declared.machines.answer.Called.TheVariants as called
-use Rattle.papaya_whole.specs.Given.Raw.declared.machines.answer.KeyAnswer.{KeyAnswer}
-use Rattle.papaya_whole.specs.Given.Raw.declared.machines.call.KeyCall.{KeyCall}
-use Rattle.papaya_whole.specs.Given.Raw.declared.machines.call.Calling.{Calling}
-use Rattle.papaya_whole.specs.Given.Raw.declared.machines.call.Calling.TheVariants as at
-use Rattle.papaya_whole.specs.Given.Reserves.Reserve as reserve
-use Rattle.papaya_whole.specs.Given.Reserves.declared.reserve.Reserve.{Reserve}
-use Rattle.papaya_whole.specs.Given.Reserves.declared.reserve.Reserving.{Reserving}
-use Rattle.papaya_whole.specs.Given.Reserves.declared.reserve.Reserving.TheVariants as reserves
-use Rattle.papaya_whole.specs.Given.Sweeps.Sweep as sweep
-use Rattle.papaya_whole.specs.Given.Sweeps.SweepPoints as sweeping
-use Rattle.papaya_whole.specs.Given.Sweeps.SweepPoints.{further, telling}
-use Rattle.papaya_whole.specs.Given.Sweeps.declared.sweep.Sweep.{Sweep}
-use Rattle.papaya_whole.specs.Given.Sweeps.declared.sweep.Sweeping.{Sweeping}
-use Rattle.papaya_whole.specs.Given.Sweeps.declared.sweep.Sweeping.TheVariants as sweeps
-use Rattle.papaya_whole.specs.Given.Sweeps.declared.sweep.Swept.{Swept}
-use Rattle.papaya_whole.specs.Given.Sweeps.declared.sweep.Swept.TheVariants as swept
-use Rattle.papaya_whole.specs.Given.Points.Told.{IsRowOf, IsRowOfCopier, IsRowOfCall}
-use Rattle.papaya_whole.specs.Given.Late.ToldReserves.{IsRowOfReserve}
-use Rattle.papaya_whole.specs.Given.Late.ToldSweeps.{IsRowOfSweep}
-use Rattle.papaya_whole.proofs.Given.Callers.Together.RowSteps.{never_refused}
-use Rattle.papaya_whole.proofs.Given.Callers.Together.RowsOfCopiers.{at_retirement}
-use Rattle.papaya_whole.proofs.Given.Callers.Together.SweepRows.{at_row}
+use Rattle.papaya_whole.specs.Given.SeizeWordsDeclared.at.At.TheVariants.{Slot}
+use Rattle.papaya_whole.specs.Given.SeizeWordsMem.{Mem, Took, value_at}
+use Rattle.papaya_whole.specs.Given.SeizeWordsPlan.{Now, Steps}
+use Rattle.papaya_whole.proofs.Given.SeizeWordsOneOwner.Operations.{loaded}
+use Rattle.papaya_whole.proofs.Given.SeizeWordsPlans.{ends_if}
+use Rattle.papaya_whole.proofs.Given.SeizeRuleRows.Leaving.{steps_back}
+use Rattle.papaya_whole.proofs.Given.SeizeEndsBatches.Held.{waits_held}
+use Rattle.papaya_whole.specs.Given.SeizeDefer.{defer_plan}
+use Rattle.papaya_whole.specs.Given.SeizeSettle as settles
+use Rattle.papaya_whole.specs.Given.SeizeDeclared.states.TheConstants.{BATCH, HELD}
+use Rattle.papaya_whole.specs.Given.SeizeDeclared.progress.Progress.{Progress}
+use Rattle.papaya_whole.specs.Given.SeizeDeclared.progress.Progress.TheVariants as progress
+use Rattle.papaya_whole.specs.Given.SeizeDeclared.rows.defer.Defer.{Defer}
+use Rattle.papaya_whole.specs.Given.SeizeDeclared.rows.settle.Settle.{Settle}
+use Rattle.papaya_whole.specs.Given.SeizeDeclared.rows.settle.Settling.{Settling}
+use Rattle.papaya_whole.specs.Given.SeizeDeclared.rows.settle.Settling.TheVariants as settling
+use Rattle.papaya_whole.specs.Given.SeizeDeclared.rows.settle.Settled.{Settled}
+use Rattle.papaya_whole.specs.Given.SeizeDeclared.rows.settle.Settled.TheVariants as settled
+use Rattle.papaya_whole.proofs.Given.SeizeActsWaits.{deferring_never_waits}
+use Rattle.papaya_whole.specs.Given.TablesNodes.{deferred_word}
+use Rattle.papaya_whole.specs.Given.TablesDeclared.node.Node.{Node}
+use Rattle.papaya_whole.specs.Given.TablesDeclared.table.Table.{Table}
+use Rattle.papaya_whole.specs.Given.ResizeCopier as copier
+use Rattle.papaya_whole.specs.Given.ResizeCopierPromotes.{retired}
+use Rattle.papaya_whole.specs.Given.ResizeCopierStates as copiers
+use Rattle.papaya_whole.specs.Given.ResizeDispose as dispose
+use Rattle.papaya_whole.specs.Given.ResizeDeclared.copier.Copier.{Copier}
+use Rattle.papaya_whole.specs.Given.ResizeDeclared.copier.Copying.{Copying}
+use Rattle.papaya_whole.specs.Given.ResizeDeclared.copier.Copying.TheVariants as copies
+use Rattle.papaya_whole.specs.Given.ResizeDeclared.dispose.Dispose.{Dispose}
+use Rattle.papaya_whole.specs.Given.ResizeDeclared.dispose.Disposing.{Disposing}
+use Rattle.papaya_whole.specs.Given.ResizeDeclared.dispose.Disposing.TheVariants as disposes
+use Rattle.papaya_whole.specs.Given.ResizeDeclared.outcome.Outcome.{Outcome}
+use Rattle.papaya_whole.specs.Given.ResizeDeclared.outcome.Outcome.TheVariants as outcome
+use Rattle.papaya_whole.specs.Given.RawCall as call
+use Rattle.papaya_whole.specs.Given.RawCallPoints as points
+use Rattle.papaya_whole.specs.Given.RawDeclared.machines.answer.Called.{Called}
+use Rattle.papaya_whole.specs.Given.RawDeclared.machines.answer.Called.TheVariants as called
+use Rattle.papaya_whole.specs.Given.RawDeclared.machines.answer.KeyAnswer.{KeyAnswer}
+use Rattle.papaya_whole.specs.Given.RawDeclared.machines.call.KeyCall.{KeyCall}
+use Rattle.papaya_whole.specs.Given.RawDeclared.machines.call.Calling.{Calling}
+use Rattle.papaya_whole.specs.Given.RawDeclared.machines.call.Calling.TheVariants as at
+use Rattle.papaya_whole.specs.Given.ReservesReserve as reserve
+use Rattle.papaya_whole.specs.Given.ReservesDeclared.reserve.Reserve.{Reserve}
+use Rattle.papaya_whole.specs.Given.ReservesDeclared.reserve.Reserving.{Reserving}
+use Rattle.papaya_whole.specs.Given.ReservesDeclared.reserve.Reserving.TheVariants as reserves
+use Rattle.papaya_whole.specs.Given.SweepsSweep as sweep
+use Rattle.papaya_whole.specs.Given.SweepsSweepPoints as sweeping
+use Rattle.papaya_whole.specs.Given.SweepsSweepPoints.{further, telling}
+use Rattle.papaya_whole.specs.Given.SweepsDeclared.sweep.Sweep.{Sweep}
+use Rattle.papaya_whole.specs.Given.SweepsDeclared.sweep.Sweeping.{Sweeping}
+use Rattle.papaya_whole.specs.Given.SweepsDeclared.sweep.Sweeping.TheVariants as sweeps
+use Rattle.papaya_whole.specs.Given.SweepsDeclared.sweep.Swept.{Swept}
+use Rattle.papaya_whole.specs.Given.SweepsDeclared.sweep.Swept.TheVariants as swept
+use Rattle.papaya_whole.specs.Given.PointsTold.{IsRowOf, IsRowOfCopier, IsRowOfCall}
+use Rattle.papaya_whole.specs.Given.LateToldReserves.{IsRowOfReserve}
+use Rattle.papaya_whole.specs.Given.LateToldSweeps.{IsRowOfSweep}
+use Rattle.papaya_whole.proofs.Given.CallersTogether.RowSteps.{never_refused}
+use Rattle.papaya_whole.proofs.Given.CallersTogether.RowsOfCopiers.{at_retirement}
+use Rattle.papaya_whole.proofs.Given.CallersTogether.SweepRows.{at_row}
 use Rattle.papaya_whole.proofs.Rooms.Account.{at_room_row}
 
 module _ {K V : Type 0} (m m2 : Mem (Node K V)) where

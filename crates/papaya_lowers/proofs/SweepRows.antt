@@ -1,37 +1,37 @@
 -- A step of a row of the collector within a sweep: by all that can be looked at then, the numbers of the sweep and its row are lower.
 use Rattle.std.specs.Prelude.{◌≡◌, ℕ, ◌<◌, Bool, true, Option, Some}
 use Rattle.std.proofs.Common.{List, inl, inr, refl, ap, sym, subst, ◌∙◌}
-use Rattle.papaya_whole.specs.Given.SeizeWords.Mem.{Mem, Took, value_at}
-use Rattle.papaya_whole.specs.Given.SeizeWords.Plan.{Steps}
-use Rattle.papaya_whole.specs.Given.Seize.World.{World, Row, Settles, Defers, IsInside}
-use Rattle.papaya_whole.specs.Given.Seize.declared.rows.settle.Settled.{Settled}
-use Rattle.papaya_whole.specs.Given.Seize.declared.rows.settle.Settled.TheVariants as settled
-use Rattle.papaya_whole.proofs.Given.SeizeEnds.Settling.Most.{is_going, goes_further}
-use Rattle.papaya_whole.specs.Given.Tables.declared.node.Node.{Node}
-use Rattle.papaya_whole.specs.Given.Tables.declared.setting.Setting.{Setting}
-use Rattle.papaya_whole.specs.Given.Resize.declared.dispose.Dispose.{Dispose}
-use Rattle.papaya_whole.specs.Given.Sweeps.Sweep.{sweep_plan}
-use Rattle.papaya_whole.specs.Given.Sweeps.SweepPoints.{further}
-use Rattle.papaya_whole.specs.Given.Sweeps.declared.sweep.Sweep.{Sweep}
-use Rattle.papaya_whole.specs.Given.Sweeps.declared.sweep.Sweeping.{Sweeping}
-use Rattle.papaya_whole.specs.Given.Sweeps.declared.sweep.Sweeping.TheVariants as at
-use Rattle.papaya_whole.specs.Given.Sweeps.declared.sweep.Swept.{Swept}
-use Rattle.papaya_whole.specs.Given.Rule.Chart.{Chart}
-use Rattle.papaya_whole.specs.Given.Rule.InWorld.{IsMapIn}
-use Rattle.papaya_whole.specs.Given.Rule.Words.{Blocks}
-use Rattle.papaya_whole.specs.Given.Points.Measures.{IsBelow}
-use Rattle.papaya_whole.specs.Given.Points.Steps.{AreLawful}
-use Rattle.papaya_whole.specs.Given.Late.FactsSweeps.{CopiesPairs, GoesOver, SweepingFacts}
-use Rattle.papaya_whole.specs.Given.Late.RowsSweeps.{Rests}
-use Rattle.papaya_whole.specs.Given.Late.ToldSweeps.{IsRowOfSweep}
-use Rattle.papaya_whole.specs.Given.Callers.OverAll.{CallOverAll, row_of_sweep, past_sweeping, sweep_once_over}
-use Rattle.papaya_whole.specs.Given.Callers.Sights.{Sight, seen_by, IsPartOf}
-use Rattle.papaya_whole.specs.Given.Callers.Together.{UnderWay, OverAll, in_slot, Together}
-use Rattle.papaya_whole.proofs.Given.Callers.Together.Fits.{map_in_slot}
-use Rattle.papaya_whole.proofs.Given.Falls.Below.{below_followed}
-use Rattle.papaya_whole.specs.Given.Passes.FallsSweeps.{ComesOn}
-use Rattle.papaya_whole.specs.Given.Passes.Sweeps.{number_of_sweep}
-use Rattle.papaya_whole.proofs.Given.Passes.Laws.{sweep_rows_fall}
+use Rattle.papaya_whole.specs.Given.SeizeWordsMem.{Mem, Took, value_at}
+use Rattle.papaya_whole.specs.Given.SeizeWordsPlan.{Steps}
+use Rattle.papaya_whole.specs.Given.SeizeWorld.{World, Row, Settles, Defers, IsInside}
+use Rattle.papaya_whole.specs.Given.SeizeDeclared.rows.settle.Settled.{Settled}
+use Rattle.papaya_whole.specs.Given.SeizeDeclared.rows.settle.Settled.TheVariants as settled
+use Rattle.papaya_whole.proofs.Given.SeizeEndsSettling.Most.{is_going, goes_further}
+use Rattle.papaya_whole.specs.Given.TablesDeclared.node.Node.{Node}
+use Rattle.papaya_whole.specs.Given.TablesDeclared.setting.Setting.{Setting}
+use Rattle.papaya_whole.specs.Given.ResizeDeclared.dispose.Dispose.{Dispose}
+use Rattle.papaya_whole.specs.Given.SweepsSweep.{sweep_plan}
+use Rattle.papaya_whole.specs.Given.SweepsSweepPoints.{further}
+use Rattle.papaya_whole.specs.Given.SweepsDeclared.sweep.Sweep.{Sweep}
+use Rattle.papaya_whole.specs.Given.SweepsDeclared.sweep.Sweeping.{Sweeping}
+use Rattle.papaya_whole.specs.Given.SweepsDeclared.sweep.Sweeping.TheVariants as at
+use Rattle.papaya_whole.specs.Given.SweepsDeclared.sweep.Swept.{Swept}
+use Rattle.papaya_whole.specs.Given.RuleChart.{Chart}
+use Rattle.papaya_whole.specs.Given.RuleInWorld.{IsMapIn}
+use Rattle.papaya_whole.specs.Given.RuleWords.{Blocks}
+use Rattle.papaya_whole.specs.Given.PointsMeasures.{IsBelow}
+use Rattle.papaya_whole.specs.Given.PointsSteps.{AreLawful}
+use Rattle.papaya_whole.specs.Given.LateFactsSweeps.{CopiesPairs, GoesOver, SweepingFacts}
+use Rattle.papaya_whole.specs.Given.LateRowsSweeps.{Rests}
+use Rattle.papaya_whole.specs.Given.LateToldSweeps.{IsRowOfSweep}
+use Rattle.papaya_whole.specs.Given.CallersOverAll.{CallOverAll, row_of_sweep, past_sweeping, sweep_once_over}
+use Rattle.papaya_whole.specs.Given.CallersSights.{Sight, seen_by, IsPartOf}
+use Rattle.papaya_whole.specs.Given.CallersTogether.{UnderWay, OverAll, in_slot, Together}
+use Rattle.papaya_whole.proofs.Given.CallersTogether.Fits.{map_in_slot}
+use Rattle.papaya_whole.proofs.Given.FallsBelow.{below_followed}
+use Rattle.papaya_whole.specs.Given.PassesFallsSweeps.{ComesOn}
+use Rattle.papaya_whole.specs.Given.PassesSweeps.{number_of_sweep}
+use Rattle.papaya_whole.proofs.Given.PassesLaws.{sweep_rows_fall}
 use Rattle.papaya_whole.proofs.Sweeps.Account.{sweep_told_by, TableRetired, SweepAccount, SweepSettling, SweepDeferring, TableOver, PairOver, sweep_account}
 use Rattle.papaya_whole.proofs.Sweeps.Over.{further_by}
 use Rattle.papaya_lowers.proofs.Kept.{SweepLinks, sweep_kept}

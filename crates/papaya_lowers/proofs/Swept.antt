@@ -1,46 +1,46 @@
 -- A step of a sweep that is none of a row of the collector: by all that can be looked at of its map, its numbers are lower.
 use Rattle.std.specs.Prelude.{◌≡◌, ℕ, ◌-◌, ◌<◌, Bool, true, List, Option, Some, ◌⊎◌}
 use Rattle.std.proofs.Common.{inl, inr, refl, sym, subst, arith}
-use Rattle.papaya_whole.specs.Given.SeizeWords.Mem.{Mem, Took, value_at}
-use Rattle.papaya_whole.specs.Given.SeizeWords.Plan.{Steps}
-use Rattle.papaya_whole.proofs.Given.SeizeRule.Rows.Leaving.{steps_back}
-use Rattle.papaya_whole.specs.Given.Seize.World.{World, IsInside}
-use Rattle.papaya_whole.specs.Given.Tables.Chunks.{is_incremental}
-use Rattle.papaya_whole.specs.Given.Tables.declared.node.Node.{Node}
-use Rattle.papaya_whole.specs.Given.Tables.declared.setting.Setting.{Setting}
-use Rattle.papaya_whole.specs.Given.Tables.declared.table.Table.{Table}
-use Rattle.papaya_whole.specs.Given.Resize.Copier.{copier_plan}
-use Rattle.papaya_whole.specs.Given.Resize.Sum.{summing}
-use Rattle.papaya_whole.specs.Given.Resize.declared.copier.Copier.{Copier}
-use Rattle.papaya_whole.specs.Given.Resize.declared.dispose.Dispose.{Dispose}
-use Rattle.papaya_whole.specs.Given.Resize.declared.dispose.Disposing.{Disposing}
-use Rattle.papaya_whole.specs.Given.Resize.declared.dispose.Disposing.TheVariants as disposes
-use Rattle.papaya_whole.specs.Given.Resize.declared.outcome.Outcome.{Outcome}
-use Rattle.papaya_whole.specs.Given.Resize.declared.outcome.Outcome.TheVariants as outcome
-use Rattle.papaya_whole.specs.Given.Sweeps.Sweep.{copied, plan_at, sweep_plan}
-use Rattle.papaya_whole.specs.Given.Sweeps.declared.sweep.Sweep.{Sweep}
-use Rattle.papaya_whole.specs.Given.Sweeps.declared.sweep.Sweeping.{Sweeping}
-use Rattle.papaya_whole.specs.Given.Sweeps.declared.sweep.Sweeping.TheVariants as at
-use Rattle.papaya_whole.specs.Given.Sweeps.declared.sweep.Swept.{Swept}
-use Rattle.papaya_whole.specs.Given.Rule.Chart.{Chart}
-use Rattle.papaya_whole.specs.Given.Rule.Words.{Blocks}
-use Rattle.papaya_whole.specs.Given.Points.FactsDisposes.{DisposingFacts, DisposeFacts}
-use Rattle.papaya_whole.specs.Given.Points.Measures.{IsBelow}
-use Rattle.papaya_whole.specs.Given.Points.Steps.{AreLawful}
-use Rattle.papaya_whole.specs.Given.Late.FactsSweeps.{CopiesPairs, CopiesTable, GoesOver, SweepingFacts, SweepFacts}
-use Rattle.papaya_whole.specs.Given.Late.ToldSweeps.{IsRowOfSweep}
-use Rattle.papaya_whole.specs.Given.Callers.OverAll.{CallOverAll}
-use Rattle.papaya_whole.specs.Given.Callers.Sights.{Sight, seen_by}
-use Rattle.papaya_whole.specs.Given.Callers.Sweeps.{SweepStepsTogether}
-use Rattle.papaya_whole.specs.Given.Callers.Together.{UnderWay, OverAll, in_slot, Stands, Together}
-use Rattle.papaya_whole.specs.Given.Falls.Room.{planned_in_copying, tables_to_come}
-use Rattle.papaya_whole.proofs.Given.Falls.Onward.{Onward}
-use Rattle.papaya_whole.proofs.Given.Falls.Reserves.CopiesLower.{CopyFalls, copies_fall}
-use Rattle.papaya_whole.specs.Given.Passes.FallsSweeps.{ComesOn}
-use Rattle.papaya_whole.specs.Given.Passes.Sweeps.{numbers_at, number_of_sweep}
-use Rattle.papaya_whole.proofs.Given.Passes.Places.{entering_is}
-use Rattle.papaya_whole.proofs.Given.Passes.Points.{swept_on}
-use Rattle.papaya_whole.proofs.Given.Passes.Within.{copier_stands}
+use Rattle.papaya_whole.specs.Given.SeizeWordsMem.{Mem, Took, value_at}
+use Rattle.papaya_whole.specs.Given.SeizeWordsPlan.{Steps}
+use Rattle.papaya_whole.proofs.Given.SeizeRuleRows.Leaving.{steps_back}
+use Rattle.papaya_whole.specs.Given.SeizeWorld.{World, IsInside}
+use Rattle.papaya_whole.specs.Given.TablesChunks.{is_incremental}
+use Rattle.papaya_whole.specs.Given.TablesDeclared.node.Node.{Node}
+use Rattle.papaya_whole.specs.Given.TablesDeclared.setting.Setting.{Setting}
+use Rattle.papaya_whole.specs.Given.TablesDeclared.table.Table.{Table}
+use Rattle.papaya_whole.specs.Given.ResizeCopier.{copier_plan}
+use Rattle.papaya_whole.specs.Given.ResizeSum.{summing}
+use Rattle.papaya_whole.specs.Given.ResizeDeclared.copier.Copier.{Copier}
+use Rattle.papaya_whole.specs.Given.ResizeDeclared.dispose.Dispose.{Dispose}
+use Rattle.papaya_whole.specs.Given.ResizeDeclared.dispose.Disposing.{Disposing}
+use Rattle.papaya_whole.specs.Given.ResizeDeclared.dispose.Disposing.TheVariants as disposes
+use Rattle.papaya_whole.specs.Given.ResizeDeclared.outcome.Outcome.{Outcome}
+use Rattle.papaya_whole.specs.Given.ResizeDeclared.outcome.Outcome.TheVariants as outcome
+use Rattle.papaya_whole.specs.Given.SweepsSweep.{copied, plan_at, sweep_plan}
+use Rattle.papaya_whole.specs.Given.SweepsDeclared.sweep.Sweep.{Sweep}
+use Rattle.papaya_whole.specs.Given.SweepsDeclared.sweep.Sweeping.{Sweeping}
+use Rattle.papaya_whole.specs.Given.SweepsDeclared.sweep.Sweeping.TheVariants as at
+use Rattle.papaya_whole.specs.Given.SweepsDeclared.sweep.Swept.{Swept}
+use Rattle.papaya_whole.specs.Given.RuleChart.{Chart}
+use Rattle.papaya_whole.specs.Given.RuleWords.{Blocks}
+use Rattle.papaya_whole.specs.Given.PointsFactsDisposes.{DisposingFacts, DisposeFacts}
+use Rattle.papaya_whole.specs.Given.PointsMeasures.{IsBelow}
+use Rattle.papaya_whole.specs.Given.PointsSteps.{AreLawful}
+use Rattle.papaya_whole.specs.Given.LateFactsSweeps.{CopiesPairs, CopiesTable, GoesOver, SweepingFacts, SweepFacts}
+use Rattle.papaya_whole.specs.Given.LateToldSweeps.{IsRowOfSweep}
+use Rattle.papaya_whole.specs.Given.CallersOverAll.{CallOverAll}
+use Rattle.papaya_whole.specs.Given.CallersSights.{Sight, seen_by}
+use Rattle.papaya_whole.specs.Given.CallersSweeps.{SweepStepsTogether}
+use Rattle.papaya_whole.specs.Given.CallersTogether.{UnderWay, OverAll, in_slot, Stands, Together}
+use Rattle.papaya_whole.specs.Given.FallsRoom.{planned_in_copying, tables_to_come}
+use Rattle.papaya_whole.proofs.Given.FallsOnward.{Onward}
+use Rattle.papaya_whole.proofs.Given.FallsReserves.CopiesLower.{CopyFalls, copies_fall}
+use Rattle.papaya_whole.specs.Given.PassesFallsSweeps.{ComesOn}
+use Rattle.papaya_whole.specs.Given.PassesSweeps.{numbers_at, number_of_sweep}
+use Rattle.papaya_whole.proofs.Given.PassesPlaces.{entering_is}
+use Rattle.papaya_whole.proofs.Given.PassesPoints.{swept_on}
+use Rattle.papaya_whole.proofs.Given.PassesWithin.{copier_stands}
 use Rattle.papaya_lowers.proofs.Own as own
 use Rattle.papaya_lowers.proofs.Widened as wide
 

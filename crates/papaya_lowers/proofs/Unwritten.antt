@@ -2,49 +2,49 @@
 use Rattle.std.specs.Prelude.{◌+◌, ◌%◌, ◌^◌, ◌==◌, not, Some, bit_and, bit_or}
 use Rattle.std.proofs.Common.{◌≡◌, ℕ, Bool, true, false, refl, ap, sym, ◌∙◌, arith}
 use Rattle.std.proofs.lemmas.Bool.{eqb-false}
-use Rattle.papaya_whole.specs.Given.SeizeWords.Word.{block_in}
-use Rattle.papaya_whole.specs.Given.SeizeWords.Mem.{Mem, Took, value_at, with_word}
-use Rattle.papaya_whole.specs.Given.SeizeWords.Plan.{Steps}
-use Rattle.papaya_whole.proofs.Given.SeizeWords.OneOwner.Operations.{loaded, ored}
-use Rattle.papaya_whole.proofs.Given.SeizeRule.Rows.Leaving.{steps_back}
-use Rattle.papaya_whole.specs.Given.Tables.Marks.{has_mark}
-use Rattle.papaya_whole.specs.Given.Tables.TablePlaces.{at_word, at_place}
-use Rattle.papaya_whole.specs.Given.Tables.Trials.{place_tried}
-use Rattle.papaya_whole.specs.Given.Tables.declared.marks.TheConstants.{COPYING}
-use Rattle.papaya_whole.specs.Given.Tables.declared.node.Node.{Node}
-use Rattle.papaya_whole.specs.Given.Tables.declared.table.Table.{Table}
-use Rattle.papaya_whole.specs.Given.Tables.declared.table_words.TheConstants.{STATUS, PLACES}
-use Rattle.papaya_whole.specs.Given.Resize.Copier as copier
-use Rattle.papaya_whole.specs.Given.Resize.CopierClaims.{status_read}
-use Rattle.papaya_whole.specs.Given.Resize.CopierMarks.{marked}
-use Rattle.papaya_whole.specs.Given.Resize.declared.copier.Copier.{Copier}
-use Rattle.papaya_whole.specs.Given.Resize.declared.copier.Copying.{Copying}
-use Rattle.papaya_whole.specs.Given.Resize.declared.copier.Copying.TheVariants as copies
-use Rattle.papaya_whole.specs.Given.Resize.declared.outcome.Outcome.{Outcome}
-use Rattle.papaya_whole.specs.Given.Resize.declared.outcome.Outcome.TheVariants as outcome
-use Rattle.papaya_whole.specs.Given.Raw.Call as call
-use Rattle.papaya_whole.specs.Given.Raw.declared.machines.answer.Called.TheVariants as called
-use Rattle.papaya_whole.specs.Given.Raw.declared.machines.call.KeyCall.{KeyCall}
-use Rattle.papaya_whole.specs.Given.Raw.declared.machines.call.Calling.{Calling}
-use Rattle.papaya_whole.specs.Given.Raw.declared.machines.call.Calling.TheVariants as at
-use Rattle.papaya_whole.specs.Given.Reserves.Reserve as reserve
-use Rattle.papaya_whole.specs.Given.Reserves.declared.reserve.Reserve.{Reserve}
-use Rattle.papaya_whole.specs.Given.Reserves.declared.reserve.Reserving.{Reserving}
-use Rattle.papaya_whole.specs.Given.Reserves.declared.reserve.Reserving.TheVariants as reserves
-use Rattle.papaya_whole.specs.Given.Sweeps.Sweep as sweep
-use Rattle.papaya_whole.specs.Given.Sweeps.declared.sweep.Sweep.{Sweep}
-use Rattle.papaya_whole.specs.Given.Sweeps.declared.sweep.Sweeping.{Sweeping}
-use Rattle.papaya_whole.specs.Given.Sweeps.declared.sweep.Sweeping.TheVariants as sweeps
-use Rattle.papaya_whole.specs.Given.Sweeps.declared.sweep.Swept.TheVariants as swept
-use Rattle.papaya_whole.proofs.Given.Rule.Words.PlaceWordsMarks.{and_copying}
-use Rattle.papaya_whole.proofs.Given.Rule.Words.PlaceWordsWritten.{or_copying}
-use Rattle.papaya_whole.proofs.Given.Rule.Words.WrittenAgain.{written_again}
-use Rattle.papaya_whole.specs.Given.Points.Told.{IsRowOfCall}
-use Rattle.papaya_whole.specs.Given.Late.ToldReserves.{IsRowOfReserve}
-use Rattle.papaya_whole.specs.Given.Late.ToldSweeps.{IsRowOfSweep}
-use Rattle.papaya_whole.proofs.Given.Waits.Calls.{CallSees, call_waits}
-use Rattle.papaya_whole.proofs.Given.Waits.Copiers.{Sees}
-use Rattle.papaya_whole.proofs.Given.Waits.Copyings.{RoomSees, room_waits, SweepSees, sweep_waits}
+use Rattle.papaya_whole.specs.Given.SeizeWordsWord.{block_in}
+use Rattle.papaya_whole.specs.Given.SeizeWordsMem.{Mem, Took, value_at, with_word}
+use Rattle.papaya_whole.specs.Given.SeizeWordsPlan.{Steps}
+use Rattle.papaya_whole.proofs.Given.SeizeWordsOneOwner.Operations.{loaded, ored}
+use Rattle.papaya_whole.proofs.Given.SeizeRuleRows.Leaving.{steps_back}
+use Rattle.papaya_whole.specs.Given.TablesMarks.{has_mark}
+use Rattle.papaya_whole.specs.Given.TablesTablePlaces.{at_word, at_place}
+use Rattle.papaya_whole.specs.Given.TablesTrials.{place_tried}
+use Rattle.papaya_whole.specs.Given.TablesDeclared.marks.TheConstants.{COPYING}
+use Rattle.papaya_whole.specs.Given.TablesDeclared.node.Node.{Node}
+use Rattle.papaya_whole.specs.Given.TablesDeclared.table.Table.{Table}
+use Rattle.papaya_whole.specs.Given.TablesDeclared.table_words.TheConstants.{STATUS, PLACES}
+use Rattle.papaya_whole.specs.Given.ResizeCopier as copier
+use Rattle.papaya_whole.specs.Given.ResizeCopierClaims.{status_read}
+use Rattle.papaya_whole.specs.Given.ResizeCopierMarks.{marked}
+use Rattle.papaya_whole.specs.Given.ResizeDeclared.copier.Copier.{Copier}
+use Rattle.papaya_whole.specs.Given.ResizeDeclared.copier.Copying.{Copying}
+use Rattle.papaya_whole.specs.Given.ResizeDeclared.copier.Copying.TheVariants as copies
+use Rattle.papaya_whole.specs.Given.ResizeDeclared.outcome.Outcome.{Outcome}
+use Rattle.papaya_whole.specs.Given.ResizeDeclared.outcome.Outcome.TheVariants as outcome
+use Rattle.papaya_whole.specs.Given.RawCall as call
+use Rattle.papaya_whole.specs.Given.RawDeclared.machines.answer.Called.TheVariants as called
+use Rattle.papaya_whole.specs.Given.RawDeclared.machines.call.KeyCall.{KeyCall}
+use Rattle.papaya_whole.specs.Given.RawDeclared.machines.call.Calling.{Calling}
+use Rattle.papaya_whole.specs.Given.RawDeclared.machines.call.Calling.TheVariants as at
+use Rattle.papaya_whole.specs.Given.ReservesReserve as reserve
+use Rattle.papaya_whole.specs.Given.ReservesDeclared.reserve.Reserve.{Reserve}
+use Rattle.papaya_whole.specs.Given.ReservesDeclared.reserve.Reserving.{Reserving}
+use Rattle.papaya_whole.specs.Given.ReservesDeclared.reserve.Reserving.TheVariants as reserves
+use Rattle.papaya_whole.specs.Given.SweepsSweep as sweep
+use Rattle.papaya_whole.specs.Given.SweepsDeclared.sweep.Sweep.{Sweep}
+use Rattle.papaya_whole.specs.Given.SweepsDeclared.sweep.Sweeping.{Sweeping}
+use Rattle.papaya_whole.specs.Given.SweepsDeclared.sweep.Sweeping.TheVariants as sweeps
+use Rattle.papaya_whole.specs.Given.SweepsDeclared.sweep.Swept.TheVariants as swept
+use Rattle.papaya_whole.proofs.Given.RuleWords.PlaceWordsMarks.{and_copying}
+use Rattle.papaya_whole.proofs.Given.RuleWords.PlaceWordsWritten.{or_copying}
+use Rattle.papaya_whole.proofs.Given.RuleWords.WrittenAgain.{written_again}
+use Rattle.papaya_whole.specs.Given.PointsTold.{IsRowOfCall}
+use Rattle.papaya_whole.specs.Given.LateToldReserves.{IsRowOfReserve}
+use Rattle.papaya_whole.specs.Given.LateToldSweeps.{IsRowOfSweep}
+use Rattle.papaya_whole.proofs.Given.WaitsCalls.{CallSees, call_waits}
+use Rattle.papaya_whole.proofs.Given.WaitsCopiers.{Sees}
+use Rattle.papaya_whole.proofs.Given.WaitsCopyings.{RoomSees, room_waits, SweepSees, sweep_waits}
 
 -- a word that has the mark is as it was once that is set
 marked_word : (word : ℕ) → has_mark word COPYING ≡ true → bit_or word COPYING ≡ word

@@ -1,58 +1,58 @@
 -- A step that answers that its machine waits: for a copying, or at a row for whoever has the batch of its slot in hand; and the machine stands where it stood.
 use Rattle.std.specs.Prelude.{◌≡◌, ℕ, Bool, Option, Some, ◌⊎◌}
 use Rattle.std.proofs.Common.{inl, inr, refl, ap, sym, subst, ◌∙◌}
-use Rattle.papaya_whole.specs.Given.SeizeWords.Mem.{Mem, Took, value_at}
-use Rattle.papaya_whole.specs.Given.SeizeWords.Plan.{Steps}
-use Rattle.papaya_whole.proofs.Given.SeizeRule.Rows.Leaving.{steps_back}
-use Rattle.papaya_whole.specs.Given.Seize.World.{World, Rests}
-use Rattle.papaya_whole.specs.Given.Seize.declared.progress.Progress.{Progress as Counted}
-use Rattle.papaya_whole.specs.Given.Seize.declared.progress.Progress.TheVariants as counted
-use Rattle.papaya_whole.specs.Given.Tables.declared.node.Node.{Node}
-use Rattle.papaya_whole.specs.Given.Resize.Sum.{sum_plan}
-use Rattle.papaya_whole.specs.Given.Resize.declared.outcome.Outcome.{Outcome}
-use Rattle.papaya_whole.specs.Given.Resize.declared.outcome.Outcome.TheVariants as outcome
-use Rattle.papaya_whole.specs.Given.Resize.declared.sum.Sum.{Sum}
-use Rattle.papaya_whole.specs.Given.Raw.Call.{call_plan}
-use Rattle.papaya_whole.specs.Given.Raw.Machine as machines
-use Rattle.papaya_whole.specs.Given.Raw.Machine.{machine_plan}
-use Rattle.papaya_whole.specs.Given.Raw.Progress.{of_called, of_outcome, of_swept, of_counting}
-use Rattle.papaya_whole.specs.Given.Raw.declared.machines.answer.Called.{Called}
-use Rattle.papaya_whole.specs.Given.Raw.declared.machines.answer.Called.TheVariants as called
-use Rattle.papaya_whole.specs.Given.Raw.declared.machines.call.KeyCall.{KeyCall}
-use Rattle.papaya_whole.specs.Given.Raw.declared.machines.machine.Machine.{Machine}
-use Rattle.papaya_whole.specs.Given.Raw.declared.machines.machine.Machine.TheVariants as kinds
-use Rattle.papaya_whole.specs.Given.Raw.declared.machines.progress.Progress.{Progress}
-use Rattle.papaya_whole.specs.Given.Raw.declared.machines.progress.Progress.TheVariants as progress
-use Rattle.papaya_whole.specs.Given.Reserves.Reserve.{reserve_plan}
-use Rattle.papaya_whole.specs.Given.Reserves.declared.reserve.Reserve.{Reserve}
-use Rattle.papaya_whole.specs.Given.Reserves.declared.reserve.Reserving.{Reserving}
-use Rattle.papaya_whole.specs.Given.Reserves.declared.reserve.Reserving.TheVariants as reserving
-use Rattle.papaya_whole.specs.Given.Sweeps.Sweep.{sweep_plan}
-use Rattle.papaya_whole.specs.Given.Sweeps.declared.sweep.Sweep.{Sweep}
-use Rattle.papaya_whole.specs.Given.Sweeps.declared.sweep.Sweeping.{Sweeping}
-use Rattle.papaya_whole.specs.Given.Sweeps.declared.sweep.Sweeping.TheVariants as sweeping
-use Rattle.papaya_whole.specs.Given.Sweeps.declared.sweep.Swept.{Swept}
-use Rattle.papaya_whole.specs.Given.Sweeps.declared.sweep.Swept.TheVariants as swept
-use Rattle.papaya_whole.specs.Given.Tables.Chunks.{is_incremental}
-use Rattle.papaya_whole.specs.Given.Raw.declared.machines.call.Calling.{Calling}
-use Rattle.papaya_whole.specs.Given.Raw.declared.machines.call.Calling.TheVariants as at
-use Rattle.papaya_whole.specs.Given.Points.Told.{IsRowOfCall}
-use Rattle.papaya_whole.specs.Given.Points.Steps.{AreLawful}
-use Rattle.papaya_whole.specs.Given.Late.ToldReserves.{IsRowOfReserve}
-use Rattle.papaya_whole.specs.Given.Late.ToldSweeps.{IsRowOfSweep}
-use Rattle.papaya_whole.specs.Given.Callers.OverAll.{CallOverAll, row_of_sweep}
-use Rattle.papaya_whole.specs.Given.Callers.Rooms.{CallForRoom}
-use Rattle.papaya_whole.specs.Given.Callers.Sights.{seen_by}
-use Rattle.papaya_whole.specs.Given.Callers.Together.{UnderWay, CallOnKey, OnKey, ForRoom, Counting, OverAll, in_slot, Stands, Together}
-use Rattle.papaya_whole.proofs.Given.Callers.Together.Countings.{countings_stand_together}
-use Rattle.papaya_whole.specs.Given.Finishes.Endings.{Finishing, EndingsTogether}
-use Rattle.papaya_whole.specs.Given.Finishes.Machines.{machine_of}
-use Rattle.papaya_whole.specs.Given.Finishes.Makings.{Beginning}
-use Rattle.papaya_whole.specs.Given.Finishes.Maps.{Standing}
-use Rattle.papaya_whole.specs.Given.Waits.Waits as waits
-use Rattle.papaya_whole.specs.Given.Waits.Waits.{CallAwaits, AnotherHolds}
-use Rattle.papaya_whole.proofs.Given.Waits.Laws as laws
-use Rattle.papaya_whole.proofs.Given.Waits.Promised.{map_of}
+use Rattle.papaya_whole.specs.Given.SeizeWordsMem.{Mem, Took, value_at}
+use Rattle.papaya_whole.specs.Given.SeizeWordsPlan.{Steps}
+use Rattle.papaya_whole.proofs.Given.SeizeRuleRows.Leaving.{steps_back}
+use Rattle.papaya_whole.specs.Given.SeizeWorld.{World, Rests}
+use Rattle.papaya_whole.specs.Given.SeizeDeclared.progress.Progress.{Progress as Counted}
+use Rattle.papaya_whole.specs.Given.SeizeDeclared.progress.Progress.TheVariants as counted
+use Rattle.papaya_whole.specs.Given.TablesDeclared.node.Node.{Node}
+use Rattle.papaya_whole.specs.Given.ResizeSum.{sum_plan}
+use Rattle.papaya_whole.specs.Given.ResizeDeclared.outcome.Outcome.{Outcome}
+use Rattle.papaya_whole.specs.Given.ResizeDeclared.outcome.Outcome.TheVariants as outcome
+use Rattle.papaya_whole.specs.Given.ResizeDeclared.sum.Sum.{Sum}
+use Rattle.papaya_whole.specs.Given.RawCall.{call_plan}
+use Rattle.papaya_whole.specs.Given.RawMachine as machines
+use Rattle.papaya_whole.specs.Given.RawMachine.{machine_plan}
+use Rattle.papaya_whole.specs.Given.RawProgress.{of_called, of_outcome, of_swept, of_counting}
+use Rattle.papaya_whole.specs.Given.RawDeclared.machines.answer.Called.{Called}
+use Rattle.papaya_whole.specs.Given.RawDeclared.machines.answer.Called.TheVariants as called
+use Rattle.papaya_whole.specs.Given.RawDeclared.machines.call.KeyCall.{KeyCall}
+use Rattle.papaya_whole.specs.Given.RawDeclared.machines.machine.Machine.{Machine}
+use Rattle.papaya_whole.specs.Given.RawDeclared.machines.machine.Machine.TheVariants as kinds
+use Rattle.papaya_whole.specs.Given.RawDeclared.machines.progress.Progress.{Progress}
+use Rattle.papaya_whole.specs.Given.RawDeclared.machines.progress.Progress.TheVariants as progress
+use Rattle.papaya_whole.specs.Given.ReservesReserve.{reserve_plan}
+use Rattle.papaya_whole.specs.Given.ReservesDeclared.reserve.Reserve.{Reserve}
+use Rattle.papaya_whole.specs.Given.ReservesDeclared.reserve.Reserving.{Reserving}
+use Rattle.papaya_whole.specs.Given.ReservesDeclared.reserve.Reserving.TheVariants as reserving
+use Rattle.papaya_whole.specs.Given.SweepsSweep.{sweep_plan}
+use Rattle.papaya_whole.specs.Given.SweepsDeclared.sweep.Sweep.{Sweep}
+use Rattle.papaya_whole.specs.Given.SweepsDeclared.sweep.Sweeping.{Sweeping}
+use Rattle.papaya_whole.specs.Given.SweepsDeclared.sweep.Sweeping.TheVariants as sweeping
+use Rattle.papaya_whole.specs.Given.SweepsDeclared.sweep.Swept.{Swept}
+use Rattle.papaya_whole.specs.Given.SweepsDeclared.sweep.Swept.TheVariants as swept
+use Rattle.papaya_whole.specs.Given.TablesChunks.{is_incremental}
+use Rattle.papaya_whole.specs.Given.RawDeclared.machines.call.Calling.{Calling}
+use Rattle.papaya_whole.specs.Given.RawDeclared.machines.call.Calling.TheVariants as at
+use Rattle.papaya_whole.specs.Given.PointsTold.{IsRowOfCall}
+use Rattle.papaya_whole.specs.Given.PointsSteps.{AreLawful}
+use Rattle.papaya_whole.specs.Given.LateToldReserves.{IsRowOfReserve}
+use Rattle.papaya_whole.specs.Given.LateToldSweeps.{IsRowOfSweep}
+use Rattle.papaya_whole.specs.Given.CallersOverAll.{CallOverAll, row_of_sweep}
+use Rattle.papaya_whole.specs.Given.CallersRooms.{CallForRoom}
+use Rattle.papaya_whole.specs.Given.CallersSights.{seen_by}
+use Rattle.papaya_whole.specs.Given.CallersTogether.{UnderWay, CallOnKey, OnKey, ForRoom, Counting, OverAll, in_slot, Stands, Together}
+use Rattle.papaya_whole.proofs.Given.CallersTogether.Countings.{countings_stand_together}
+use Rattle.papaya_whole.specs.Given.FinishesEndings.{Finishing, EndingsTogether}
+use Rattle.papaya_whole.specs.Given.FinishesMachines.{machine_of}
+use Rattle.papaya_whole.specs.Given.FinishesMakings.{Beginning}
+use Rattle.papaya_whole.specs.Given.FinishesMaps.{Standing}
+use Rattle.papaya_whole.specs.Given.WaitsWaits as waits
+use Rattle.papaya_whole.specs.Given.WaitsWaits.{CallAwaits, AnotherHolds}
+use Rattle.papaya_whole.proofs.Given.WaitsLaws as laws
+use Rattle.papaya_whole.proofs.Given.WaitsPromised.{map_of}
 use Rattle.papaya_whole.proofs.Rows.Kinds.{copier_decided, row_decided}
 use Rattle.papaya_whole.proofs.Sweeps.Leads.{sweep_decided}
 use Rattle.papaya_lowers.specs.Numbers.{row_within}

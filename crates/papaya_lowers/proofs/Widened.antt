@@ -1,42 +1,42 @@
 -- What a call needs to know for its numbers it knows by all that can be looked at, too, if it knows it by what its section sees.
 use Rattle.std.specs.Prelude.{◌≡◌, ℕ, suc, ◌<◌, Bool, true, false}
 use Rattle.std.proofs.Common.{inl, inr, arith}
-use Rattle.papaya_whole.specs.Given.SeizeWords.Mem.{Mem}
-use Rattle.papaya_whole.specs.Given.SeizeWords.declared.at.At.{At}
-use Rattle.papaya_whole.specs.Given.SeizeWords.declared.at.At.TheVariants.{Root, Word}
-use Rattle.papaya_whole.specs.Given.Tables.Trials.{trial_at}
-use Rattle.papaya_whole.specs.Given.Tables.declared.node.Node.{Node}
-use Rattle.papaya_whole.specs.Given.Tables.declared.probe.Probe.{Probe}
-use Rattle.papaya_whole.specs.Given.Tables.declared.setting.Setting.{Setting}
-use Rattle.papaya_whole.specs.Given.Tables.declared.table.Table.{Table}
-use Rattle.papaya_whole.specs.Given.Tables.declared.table_words.TheConstants.{NEXT}
-use Rattle.papaya_whole.specs.Given.Tables.declared.trial.Trial.{Trial}
-use Rattle.papaya_whole.specs.Given.Resize.declared.copier.Copier.{Copier}
-use Rattle.papaya_whole.specs.Given.Resize.declared.copier.Copying.{Copying}
-use Rattle.papaya_whole.specs.Given.Resize.declared.copier.Copying.TheVariants as copies
-use Rattle.papaya_whole.specs.Given.Resize.declared.dispose.Dispose.{Dispose}
-use Rattle.papaya_whole.specs.Given.Resize.declared.dispose.Disposing.{Disposing}
-use Rattle.papaya_whole.specs.Given.Resize.declared.dispose.Disposing.TheVariants as disposes
-use Rattle.papaya_whole.specs.Given.Resize.declared.lookup.Looking.{Looking}
-use Rattle.papaya_whole.specs.Given.Resize.declared.lookup.Looking.TheVariants as looks
-use Rattle.papaya_whole.specs.Given.Resize.declared.new_table.NewTable.{NewTable}
-use Rattle.papaya_whole.specs.Given.Resize.declared.new_table.Making.{Making}
-use Rattle.papaya_whole.specs.Given.Resize.declared.new_table.Making.TheVariants as makes
-use Rattle.papaya_whole.specs.Given.Raw.declared.machines.asking.Asking.{Asking}
-use Rattle.papaya_whole.specs.Given.Raw.declared.machines.asking.Asking.TheVariants as asking
-use Rattle.papaya_whole.specs.Given.Raw.declared.machines.call.KeyCall.{KeyCall}
-use Rattle.papaya_whole.specs.Given.Raw.declared.machines.call.Calling.{Calling}
-use Rattle.papaya_whole.specs.Given.Raw.declared.machines.call.Calling.TheVariants as at
-use Rattle.papaya_whole.specs.Given.Reserves.declared.reserve.Reserve.{Reserve}
-use Rattle.papaya_whole.specs.Given.Reserves.declared.reserve.Reserving.{Reserving}
-use Rattle.papaya_whole.specs.Given.Reserves.declared.reserve.Reserving.TheVariants as reserves
-use Rattle.papaya_whole.specs.Given.Tables.Chunks.{is_incremental}
-use Rattle.papaya_whole.specs.Given.Rule.Chart.{Chart}
-use Rattle.papaya_whole.specs.Given.Rule.Maps.{IsTable, IsTrial}
-use Rattle.papaya_whole.specs.Given.Rule.Words.{Blocks}
-use Rattle.papaya_whole.specs.Given.Callers.Sights.{Sight, seen_by, IsSight}
-use Rattle.papaya_whole.proofs.Given.Falls.Reserves.Stands.{WholeStands, ReservingStands, ReserveStands}
-use Rattle.papaya_whole.proofs.Given.Falls.Stands.{IsPlaceOf, MakingStands, NewTableStands, LookingStands, DisposingStands, DisposeStands, AtPlace, HasTarget, AtTry, AtOld, CopyingStands, CopyingStandsBlocking, IsTrying, AskingStands, CallingStands, CallStands}
+use Rattle.papaya_whole.specs.Given.SeizeWordsMem.{Mem}
+use Rattle.papaya_whole.specs.Given.SeizeWordsDeclared.at.At.{At}
+use Rattle.papaya_whole.specs.Given.SeizeWordsDeclared.at.At.TheVariants.{Root, Word}
+use Rattle.papaya_whole.specs.Given.TablesTrials.{trial_at}
+use Rattle.papaya_whole.specs.Given.TablesDeclared.node.Node.{Node}
+use Rattle.papaya_whole.specs.Given.TablesDeclared.probe.Probe.{Probe}
+use Rattle.papaya_whole.specs.Given.TablesDeclared.setting.Setting.{Setting}
+use Rattle.papaya_whole.specs.Given.TablesDeclared.table.Table.{Table}
+use Rattle.papaya_whole.specs.Given.TablesDeclared.table_words.TheConstants.{NEXT}
+use Rattle.papaya_whole.specs.Given.TablesDeclared.trial.Trial.{Trial}
+use Rattle.papaya_whole.specs.Given.ResizeDeclared.copier.Copier.{Copier}
+use Rattle.papaya_whole.specs.Given.ResizeDeclared.copier.Copying.{Copying}
+use Rattle.papaya_whole.specs.Given.ResizeDeclared.copier.Copying.TheVariants as copies
+use Rattle.papaya_whole.specs.Given.ResizeDeclared.dispose.Dispose.{Dispose}
+use Rattle.papaya_whole.specs.Given.ResizeDeclared.dispose.Disposing.{Disposing}
+use Rattle.papaya_whole.specs.Given.ResizeDeclared.dispose.Disposing.TheVariants as disposes
+use Rattle.papaya_whole.specs.Given.ResizeDeclared.lookup.Looking.{Looking}
+use Rattle.papaya_whole.specs.Given.ResizeDeclared.lookup.Looking.TheVariants as looks
+use Rattle.papaya_whole.specs.Given.ResizeDeclared.new_table.NewTable.{NewTable}
+use Rattle.papaya_whole.specs.Given.ResizeDeclared.new_table.Making.{Making}
+use Rattle.papaya_whole.specs.Given.ResizeDeclared.new_table.Making.TheVariants as makes
+use Rattle.papaya_whole.specs.Given.RawDeclared.machines.asking.Asking.{Asking}
+use Rattle.papaya_whole.specs.Given.RawDeclared.machines.asking.Asking.TheVariants as asking
+use Rattle.papaya_whole.specs.Given.RawDeclared.machines.call.KeyCall.{KeyCall}
+use Rattle.papaya_whole.specs.Given.RawDeclared.machines.call.Calling.{Calling}
+use Rattle.papaya_whole.specs.Given.RawDeclared.machines.call.Calling.TheVariants as at
+use Rattle.papaya_whole.specs.Given.ReservesDeclared.reserve.Reserve.{Reserve}
+use Rattle.papaya_whole.specs.Given.ReservesDeclared.reserve.Reserving.{Reserving}
+use Rattle.papaya_whole.specs.Given.ReservesDeclared.reserve.Reserving.TheVariants as reserves
+use Rattle.papaya_whole.specs.Given.TablesChunks.{is_incremental}
+use Rattle.papaya_whole.specs.Given.RuleChart.{Chart}
+use Rattle.papaya_whole.specs.Given.RuleMaps.{IsTable, IsTrial}
+use Rattle.papaya_whole.specs.Given.RuleWords.{Blocks}
+use Rattle.papaya_whole.specs.Given.CallersSights.{Sight, seen_by, IsSight}
+use Rattle.papaya_whole.proofs.Given.FallsReserves.Stands.{WholeStands, ReservingStands, ReserveStands}
+use Rattle.papaya_whole.proofs.Given.FallsStands.{IsPlaceOf, MakingStands, NewTableStands, LookingStands, DisposingStands, DisposeStands, AtPlace, HasTarget, AtTry, AtOld, CopyingStands, CopyingStandsBlocking, IsTrying, AskingStands, CallingStands, CallStands}
 
 module _ {K V : Type 0} (setting : Setting) (m : Mem (Node K V)) (c : Chart K) (blocks : Blocks) (sight : Sight) (is_sight : IsSight c blocks sight) where
   abbrev pub seen : Blocks

@@ -1,45 +1,45 @@
 -- A call that stands at a row of the collector is within it, in a world with the same memory: the row is begun there, if it is not yet.
 use Rattle.std.specs.Prelude.{◌≡◌, ℕ, ◌==◌, Bool, true, false, Option, Some, if◌then◌else◌}
 use Rattle.std.proofs.Common.{inl, inr, refl, sym, subst, arith}
-use Rattle.papaya_whole.specs.Given.SeizeWords.Mem.{Mem}
-use Rattle.papaya_whole.specs.Given.Seize.World.{World, IsInside}
-use Rattle.papaya_whole.specs.Given.Tables.Chunks.{is_incremental}
-use Rattle.papaya_whole.specs.Given.Tables.declared.node.Node.{Node}
-use Rattle.papaya_whole.specs.Given.Tables.declared.setting.Setting.{Setting}
-use Rattle.papaya_whole.specs.Given.Resize.CopierStates as copiers
-use Rattle.papaya_whole.specs.Given.Resize.declared.copier.Copier.{Copier}
-use Rattle.papaya_whole.specs.Given.Resize.declared.copier.Copying.{Copying}
-use Rattle.papaya_whole.specs.Given.Resize.declared.copier.Copying.TheVariants as copies
-use Rattle.papaya_whole.specs.Given.Resize.declared.dispose.Disposing.{Disposing}
-use Rattle.papaya_whole.specs.Given.Resize.declared.dispose.Disposing.TheVariants as disposes
-use Rattle.papaya_whole.specs.Given.Raw.declared.machines.call.KeyCall.{KeyCall}
-use Rattle.papaya_whole.specs.Given.Raw.declared.machines.call.Calling.{Calling}
-use Rattle.papaya_whole.specs.Given.Raw.declared.machines.call.Calling.TheVariants as at
-use Rattle.papaya_whole.specs.Given.Reserves.declared.reserve.Reserving.{Reserving}
-use Rattle.papaya_whole.specs.Given.Sweeps.declared.sweep.Sweeping.{Sweeping}
-use Rattle.papaya_whole.specs.Given.Sweeps.declared.sweep.Sweeping.TheVariants as sweeps
-use Rattle.papaya_whole.specs.Given.Rule.Chart.{Chart}
-use Rattle.papaya_whole.specs.Given.Rule.Words.{Blocks}
-use Rattle.papaya_whole.specs.Given.Points.Steps.{AreLawful}
-use Rattle.papaya_whole.specs.Given.Points.Told.{IsRowOf, IsRowOfCopier, IsRowOfCall}
-use Rattle.papaya_whole.specs.Given.Late.FactsSweeps.{CopiesTable, SweepingFacts}
-use Rattle.papaya_whole.specs.Given.Late.ToldReserves.{IsRowOfReserve}
-use Rattle.papaya_whole.specs.Given.Late.ToldSweeps.{IsRowOfSweep}
-use Rattle.papaya_whole.specs.Given.Callers.OverAll.{CallOverAll, row_of_sweep, past_sweeping, sweep_once_over}
-use Rattle.papaya_whole.specs.Given.Callers.Rooms.{CallForRoom, row_of_room, past_room, room_once_over}
-use Rattle.papaya_whole.specs.Given.Callers.Rows.{row_of, past_copying, past_row, once_over}
-use Rattle.papaya_whole.specs.Given.Callers.Sights.{Sight, seen_by, IsSight}
-use Rattle.papaya_whole.specs.Given.Callers.Together.{UnderWay, CallOnKey, OnKey, ForRoom, OverAll, CameAbout, in_slot, Ground, Knows, KnowsRoom, KnowsSweep, Stands, Together}
-use Rattle.papaya_whole.proofs.Given.Callers.Together.BeginsRows.{begun_row}
-use Rattle.papaya_whole.proofs.Given.Callers.Together.RoomRows as rooms
-use Rattle.papaya_whole.proofs.Given.Callers.Together.RowsOfCopiers.{at_retirement}
-use Rattle.papaya_whole.proofs.Given.Callers.Together.SweepRows.{at_row}
-use Rattle.papaya_whole.proofs.Given.Callers.Together.SweepStepped as swept
-use Rattle.papaya_whole.proofs.Given.Falls.Calls.Facts.{call_stands}
-use Rattle.papaya_whole.proofs.Given.Falls.Calls.LateFacts.{late_call_stands}
-use Rattle.papaya_whole.proofs.Given.Falls.Reserves.Stands.{WholeStands, ReservingStands, reserve_stands, late_reserve_stands}
-use Rattle.papaya_whole.proofs.Given.Falls.Stands.{AtOld, CopyingStands, CopyingStandsBlocking, CallingStands, CallStands}
-use Rattle.papaya_whole.proofs.Given.Passes.Within.{copier_stands}
+use Rattle.papaya_whole.specs.Given.SeizeWordsMem.{Mem}
+use Rattle.papaya_whole.specs.Given.SeizeWorld.{World, IsInside}
+use Rattle.papaya_whole.specs.Given.TablesChunks.{is_incremental}
+use Rattle.papaya_whole.specs.Given.TablesDeclared.node.Node.{Node}
+use Rattle.papaya_whole.specs.Given.TablesDeclared.setting.Setting.{Setting}
+use Rattle.papaya_whole.specs.Given.ResizeCopierStates as copiers
+use Rattle.papaya_whole.specs.Given.ResizeDeclared.copier.Copier.{Copier}
+use Rattle.papaya_whole.specs.Given.ResizeDeclared.copier.Copying.{Copying}
+use Rattle.papaya_whole.specs.Given.ResizeDeclared.copier.Copying.TheVariants as copies
+use Rattle.papaya_whole.specs.Given.ResizeDeclared.dispose.Disposing.{Disposing}
+use Rattle.papaya_whole.specs.Given.ResizeDeclared.dispose.Disposing.TheVariants as disposes
+use Rattle.papaya_whole.specs.Given.RawDeclared.machines.call.KeyCall.{KeyCall}
+use Rattle.papaya_whole.specs.Given.RawDeclared.machines.call.Calling.{Calling}
+use Rattle.papaya_whole.specs.Given.RawDeclared.machines.call.Calling.TheVariants as at
+use Rattle.papaya_whole.specs.Given.ReservesDeclared.reserve.Reserving.{Reserving}
+use Rattle.papaya_whole.specs.Given.SweepsDeclared.sweep.Sweeping.{Sweeping}
+use Rattle.papaya_whole.specs.Given.SweepsDeclared.sweep.Sweeping.TheVariants as sweeps
+use Rattle.papaya_whole.specs.Given.RuleChart.{Chart}
+use Rattle.papaya_whole.specs.Given.RuleWords.{Blocks}
+use Rattle.papaya_whole.specs.Given.PointsSteps.{AreLawful}
+use Rattle.papaya_whole.specs.Given.PointsTold.{IsRowOf, IsRowOfCopier, IsRowOfCall}
+use Rattle.papaya_whole.specs.Given.LateFactsSweeps.{CopiesTable, SweepingFacts}
+use Rattle.papaya_whole.specs.Given.LateToldReserves.{IsRowOfReserve}
+use Rattle.papaya_whole.specs.Given.LateToldSweeps.{IsRowOfSweep}
+use Rattle.papaya_whole.specs.Given.CallersOverAll.{CallOverAll, row_of_sweep, past_sweeping, sweep_once_over}
+use Rattle.papaya_whole.specs.Given.CallersRooms.{CallForRoom, row_of_room, past_room, room_once_over}
+use Rattle.papaya_whole.specs.Given.CallersRows.{row_of, past_copying, past_row, once_over}
+use Rattle.papaya_whole.specs.Given.CallersSights.{Sight, seen_by, IsSight}
+use Rattle.papaya_whole.specs.Given.CallersTogether.{UnderWay, CallOnKey, OnKey, ForRoom, OverAll, CameAbout, in_slot, Ground, Knows, KnowsRoom, KnowsSweep, Stands, Together}
+use Rattle.papaya_whole.proofs.Given.CallersTogether.BeginsRows.{begun_row}
+use Rattle.papaya_whole.proofs.Given.CallersTogether.RoomRows as rooms
+use Rattle.papaya_whole.proofs.Given.CallersTogether.RowsOfCopiers.{at_retirement}
+use Rattle.papaya_whole.proofs.Given.CallersTogether.SweepRows.{at_row}
+use Rattle.papaya_whole.proofs.Given.CallersTogether.SweepStepped as swept
+use Rattle.papaya_whole.proofs.Given.FallsCalls.Facts.{call_stands}
+use Rattle.papaya_whole.proofs.Given.FallsCalls.LateFacts.{late_call_stands}
+use Rattle.papaya_whole.proofs.Given.FallsReserves.Stands.{WholeStands, ReservingStands, reserve_stands, late_reserve_stands}
+use Rattle.papaya_whole.proofs.Given.FallsStands.{AtOld, CopyingStands, CopyingStandsBlocking, CallingStands, CallStands}
+use Rattle.papaya_whole.proofs.Given.PassesWithin.{copier_stands}
 use Rattle.papaya_whole.proofs.Rooms.Account.{at_room_row}
 use Rattle.papaya_lowers.proofs.Kept.{DisposeLinks, IsKnownLink, Links, KeyLinks, RoomLinks, SweepLinks}
 use Rattle.papaya_lowers.proofs.Own as own

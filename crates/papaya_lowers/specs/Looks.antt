@@ -1,26 +1,26 @@
 -- What is promised of each step of a machine that looks up a key.
 use Rattle.std.specs.Prelude.{◌≡◌, ℕ, suc, ◌≤◌, Bool, List, Option, Some, ◌⊎◌}
-use Rattle.papaya_whole.specs.Given.SeizeWords.Mem.{Mem, Took, value_at}
-use Rattle.papaya_whole.specs.Given.SeizeWords.Plan.{Steps}
-use Rattle.papaya_whole.specs.Given.Seize.World.{World}
-use Rattle.papaya_whole.specs.Given.Tables.declared.node.Node.{Node}
-use Rattle.papaya_whole.specs.Given.Tables.declared.table.Table.{Table}
-use Rattle.papaya_whole.specs.Given.Resize.declared.lookup.Lookup.{Lookup}
-use Rattle.papaya_whole.specs.Given.Resize.declared.lookup.Looking.{Looking}
-use Rattle.papaya_whole.specs.Given.Raw.Machine.{machine_plan}
-use Rattle.papaya_whole.specs.Given.Raw.declared.machines.call.Calling.TheVariants as at
-use Rattle.papaya_whole.specs.Given.Raw.declared.machines.call.KeyCall.{KeyCall}
-use Rattle.papaya_whole.specs.Given.Raw.declared.machines.machine.Machine.{Machine}
-use Rattle.papaya_whole.specs.Given.Raw.declared.machines.machine.Machine.TheVariants as kinds
-use Rattle.papaya_whole.specs.Given.Raw.declared.machines.progress.Answer.{Answer}
-use Rattle.papaya_whole.specs.Given.Raw.declared.machines.progress.Progress.{Progress}
-use Rattle.papaya_whole.specs.Given.Raw.declared.machines.progress.Progress.TheVariants as progress
-use Rattle.papaya_whole.specs.Given.Points.MeasuresLooks.{IsLoad, HasLooked, entered, most_loads, OneBehindTheOther}
-use Rattle.papaya_whole.specs.Given.Callers.Together.{UnderWay}
-use Rattle.papaya_whole.specs.Given.Finishes.Endings.{Finishing, EndingsTogether}
-use Rattle.papaya_whole.specs.Given.Finishes.Machines.{machine_of}
-use Rattle.papaya_whole.specs.Given.Finishes.Makings.{Beginning}
-use Rattle.papaya_whole.specs.Given.Finishes.Maps.{Standing}
+use Rattle.papaya_whole.specs.Given.SeizeWordsMem.{Mem, Took, value_at}
+use Rattle.papaya_whole.specs.Given.SeizeWordsPlan.{Steps}
+use Rattle.papaya_whole.specs.Given.SeizeWorld.{World}
+use Rattle.papaya_whole.specs.Given.TablesDeclared.node.Node.{Node}
+use Rattle.papaya_whole.specs.Given.TablesDeclared.table.Table.{Table}
+use Rattle.papaya_whole.specs.Given.ResizeDeclared.lookup.Lookup.{Lookup}
+use Rattle.papaya_whole.specs.Given.ResizeDeclared.lookup.Looking.{Looking}
+use Rattle.papaya_whole.specs.Given.RawMachine.{machine_plan}
+use Rattle.papaya_whole.specs.Given.RawDeclared.machines.call.Calling.TheVariants as at
+use Rattle.papaya_whole.specs.Given.RawDeclared.machines.call.KeyCall.{KeyCall}
+use Rattle.papaya_whole.specs.Given.RawDeclared.machines.machine.Machine.{Machine}
+use Rattle.papaya_whole.specs.Given.RawDeclared.machines.machine.Machine.TheVariants as kinds
+use Rattle.papaya_whole.specs.Given.RawDeclared.machines.progress.Answer.{Answer}
+use Rattle.papaya_whole.specs.Given.RawDeclared.machines.progress.Progress.{Progress}
+use Rattle.papaya_whole.specs.Given.RawDeclared.machines.progress.Progress.TheVariants as progress
+use Rattle.papaya_whole.specs.Given.PointsMeasuresLooks.{IsLoad, HasLooked, entered, most_loads, OneBehindTheOther}
+use Rattle.papaya_whole.specs.Given.CallersTogether.{UnderWay}
+use Rattle.papaya_whole.specs.Given.FinishesEndings.{Finishing, EndingsTogether}
+use Rattle.papaya_whole.specs.Given.FinishesMachines.{machine_of}
+use Rattle.papaya_whole.specs.Given.FinishesMakings.{Beginning}
+use Rattle.papaya_whole.specs.Given.FinishesMaps.{Standing}
 
 -- the machine looks up a key, and stands here in that
 abbrev pub LooksAt : {K V Q : Type 0} → Looking → Machine K V Q → Type 0

@@ -1,19 +1,19 @@
 -- What is promised of the numbers of a call under way, whichever it is: each step by which it goes on lowers them, whatever others have under way.
 use Rattle.std.specs.Prelude.{◌≡◌, ℕ, Bool, length, Option, Some}
-use Rattle.papaya_whole.specs.Given.SeizeWords.Mem.{Mem, Took, value_at}
-use Rattle.papaya_whole.specs.Given.SeizeWords.Plan.{Steps}
-use Rattle.papaya_whole.specs.Given.Seize.World.{World, Row}
-use Rattle.papaya_whole.specs.Given.Tables.declared.node.Node.{Node}
-use Rattle.papaya_whole.specs.Given.Raw.Machine.{machine_plan}
-use Rattle.papaya_whole.specs.Given.Raw.declared.machines.machine.Machine.{Machine}
-use Rattle.papaya_whole.specs.Given.Raw.declared.machines.progress.Progress.{Progress}
-use Rattle.papaya_whole.specs.Given.Raw.declared.machines.progress.Progress.TheVariants as progress
-use Rattle.papaya_whole.specs.Given.Points.Measures.{IsBelow}
-use Rattle.papaya_whole.specs.Given.Callers.Together.{UnderWay}
-use Rattle.papaya_whole.specs.Given.Finishes.Endings.{Finishing, EndingsTogether}
-use Rattle.papaya_whole.specs.Given.Finishes.Machines.{machine_of, MachineStepsAmong}
-use Rattle.papaya_whole.specs.Given.Finishes.Makings.{Beginning}
-use Rattle.papaya_whole.specs.Given.Finishes.Maps.{Standing}
+use Rattle.papaya_whole.specs.Given.SeizeWordsMem.{Mem, Took, value_at}
+use Rattle.papaya_whole.specs.Given.SeizeWordsPlan.{Steps}
+use Rattle.papaya_whole.specs.Given.SeizeWorld.{World, Row}
+use Rattle.papaya_whole.specs.Given.TablesDeclared.node.Node.{Node}
+use Rattle.papaya_whole.specs.Given.RawMachine.{machine_plan}
+use Rattle.papaya_whole.specs.Given.RawDeclared.machines.machine.Machine.{Machine}
+use Rattle.papaya_whole.specs.Given.RawDeclared.machines.progress.Progress.{Progress}
+use Rattle.papaya_whole.specs.Given.RawDeclared.machines.progress.Progress.TheVariants as progress
+use Rattle.papaya_whole.specs.Given.PointsMeasures.{IsBelow}
+use Rattle.papaya_whole.specs.Given.CallersTogether.{UnderWay}
+use Rattle.papaya_whole.specs.Given.FinishesEndings.{Finishing, EndingsTogether}
+use Rattle.papaya_whole.specs.Given.FinishesMachines.{machine_of, MachineStepsAmong}
+use Rattle.papaya_whole.specs.Given.FinishesMakings.{Beginning}
+use Rattle.papaya_whole.specs.Given.FinishesMaps.{Standing}
 use Rattle.papaya_lowers.specs.Numbers.{numbers_of}
 
 -- A machine that tells this goes on: it has taken a step, and may have handed out a value that was reclaimed, its own pair, or the next one of a walk.

@@ -1,18 +1,18 @@
 -- The numbers of a call under way, whichever it is, as its machine, its map's tables and the memory tell them.
 use Rattle.std.specs.Prelude.{ℕ, List, [], ◌∷◌, ◌++◌}
-use Rattle.papaya_whole.specs.Given.SeizeWords.Mem.{Mem}
-use Rattle.papaya_whole.specs.Given.Seize.World.{Row, Rests}
-use Rattle.papaya_whole.specs.Given.Tables.declared.node.Node.{Node}
-use Rattle.papaya_whole.specs.Given.Raw.declared.machines.machine.Machine.{Machine}
-use Rattle.papaya_whole.specs.Given.Raw.declared.machines.machine.Machine.TheVariants as kinds
-use Rattle.papaya_whole.specs.Given.Points.MeasuresTables.{number_of_sum}
-use Rattle.papaya_whole.specs.Given.Callers.OverAll.{row_of_sweep}
-use Rattle.papaya_whole.specs.Given.Callers.Rooms.{row_of_room}
-use Rattle.papaya_whole.specs.Given.Callers.Rows.{row_of}
-use Rattle.papaya_whole.specs.Given.Finishes.Maps.{Standing}
-use Rattle.papaya_whole.specs.Given.Falls.Calls.{number_of_call}
-use Rattle.papaya_whole.specs.Given.Falls.Reserves.{number_of_reserve}
-use Rattle.papaya_whole.specs.Given.Passes.Sweeps.{number_of_sweep}
+use Rattle.papaya_whole.specs.Given.SeizeWordsMem.{Mem}
+use Rattle.papaya_whole.specs.Given.SeizeWorld.{Row, Rests}
+use Rattle.papaya_whole.specs.Given.TablesDeclared.node.Node.{Node}
+use Rattle.papaya_whole.specs.Given.RawDeclared.machines.machine.Machine.{Machine}
+use Rattle.papaya_whole.specs.Given.RawDeclared.machines.machine.Machine.TheVariants as kinds
+use Rattle.papaya_whole.specs.Given.PointsMeasuresTables.{number_of_sum}
+use Rattle.papaya_whole.specs.Given.CallersOverAll.{row_of_sweep}
+use Rattle.papaya_whole.specs.Given.CallersRooms.{row_of_room}
+use Rattle.papaya_whole.specs.Given.CallersRows.{row_of}
+use Rattle.papaya_whole.specs.Given.FinishesMaps.{Standing}
+use Rattle.papaya_whole.specs.Given.FallsCalls.{number_of_call}
+use Rattle.papaya_whole.specs.Given.FallsReserves.{number_of_reserve}
+use Rattle.papaya_whole.specs.Given.PassesSweeps.{number_of_sweep}
 
 module _ {K V Q : Type 0} where
   -- the row of the collector that a machine stands at, within the section of this slot

@@ -1,22 +1,22 @@
 -- What is promised of each step of a machine that answers that it waits.
 use Rattle.std.specs.Prelude.{◌≡◌, ℕ, Bool, true, Option, Some, ◌⊎◌}
-use Rattle.papaya_whole.specs.Given.SeizeWords.Mem.{Mem, Took, value_at}
-use Rattle.papaya_whole.specs.Given.SeizeWords.Plan.{Steps}
-use Rattle.papaya_whole.specs.Given.Seize.World.{World}
-use Rattle.papaya_whole.specs.Given.Tables.Chunks.{is_incremental}
-use Rattle.papaya_whole.specs.Given.Tables.declared.node.Node.{Node}
-use Rattle.papaya_whole.specs.Given.Raw.Machine.{machine_plan}
-use Rattle.papaya_whole.specs.Given.Raw.declared.machines.call.Calling.{Calling}
-use Rattle.papaya_whole.specs.Given.Raw.declared.machines.call.Calling.TheVariants as at
-use Rattle.papaya_whole.specs.Given.Raw.declared.machines.machine.Machine.{Machine}
-use Rattle.papaya_whole.specs.Given.Raw.declared.machines.progress.Progress.TheVariants as progress
-use Rattle.papaya_whole.specs.Given.Rule.Chart.{Copying, Holds}
-use Rattle.papaya_whole.specs.Given.Callers.Together.{UnderWay, CallOnKey, OnKey, ForRoom, Counting, OverAll}
-use Rattle.papaya_whole.specs.Given.Finishes.Endings.{Finishing, EndingsTogether}
-use Rattle.papaya_whole.specs.Given.Finishes.Machines.{machine_of}
-use Rattle.papaya_whole.specs.Given.Finishes.Makings.{Beginning}
-use Rattle.papaya_whole.specs.Given.Finishes.Maps.{Standing}
-use Rattle.papaya_whole.specs.Given.Waits.Waits.{CallAwaits, RoomAwaits, SweepAwaits, AnotherHolds}
+use Rattle.papaya_whole.specs.Given.SeizeWordsMem.{Mem, Took, value_at}
+use Rattle.papaya_whole.specs.Given.SeizeWordsPlan.{Steps}
+use Rattle.papaya_whole.specs.Given.SeizeWorld.{World}
+use Rattle.papaya_whole.specs.Given.TablesChunks.{is_incremental}
+use Rattle.papaya_whole.specs.Given.TablesDeclared.node.Node.{Node}
+use Rattle.papaya_whole.specs.Given.RawMachine.{machine_plan}
+use Rattle.papaya_whole.specs.Given.RawDeclared.machines.call.Calling.{Calling}
+use Rattle.papaya_whole.specs.Given.RawDeclared.machines.call.Calling.TheVariants as at
+use Rattle.papaya_whole.specs.Given.RawDeclared.machines.machine.Machine.{Machine}
+use Rattle.papaya_whole.specs.Given.RawDeclared.machines.progress.Progress.TheVariants as progress
+use Rattle.papaya_whole.specs.Given.RuleChart.{Copying, Holds}
+use Rattle.papaya_whole.specs.Given.CallersTogether.{UnderWay, CallOnKey, OnKey, ForRoom, Counting, OverAll}
+use Rattle.papaya_whole.specs.Given.FinishesEndings.{Finishing, EndingsTogether}
+use Rattle.papaya_whole.specs.Given.FinishesMachines.{machine_of}
+use Rattle.papaya_whole.specs.Given.FinishesMakings.{Beginning}
+use Rattle.papaya_whole.specs.Given.FinishesMaps.{Standing}
+use Rattle.papaya_whole.specs.Given.WaitsWaits.{CallAwaits, RoomAwaits, SweepAwaits, AnotherHolds}
 use Rattle.papaya_lowers.specs.Numbers.{row_within}
 
 module _ {K V Q : Type 0} where

@@ -1,6 +1,6 @@
 //! What is promised of each step of the machine that any caller has under way.
 ghost use Rattle.std.specs.Prelude.{ℕ, Bool};
-ghost use Rattle.papaya_whole.specs.Given.Points.Measures.{DescentsEnd};
+ghost use Rattle.papaya_whole.specs.Given.PointsMeasures.{DescentsEnd};
 ghost use Rattle.papaya_lowers.specs.Looks.{LookupsStepByLoads};
 ghost use Rattle.papaya_lowers.specs.Lowers.{StepsLower};
 ghost use Rattle.papaya_lowers.specs.Waits.{StepsWait};

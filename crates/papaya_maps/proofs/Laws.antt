@@ -4,7 +4,7 @@ use Rattle.papaya_maps.specs.EndingsBegins.{BeginningsLeaveLess}
 use Rattle.papaya_maps.specs.Listed.{ListsAddUp, InOneOfTwo, FirstOrBehind, WaitsBehindTables, MarkedIsSettledOrOwn}
 use Rattle.papaya_maps.specs.FaultsBegins.{FreeRootsSuffice, MemoryAloneIsRefused}
 use Rattle.papaya_maps.specs.WholeBegins.{MapsBeginAlone, MapsGoOnAlone}
-use Rattle.papaya_finishes.proofs.Given.Alone.Lone.Copies.{settled_or_own}
+use Rattle.papaya_finishes.proofs.Given.AloneLone.Copies.{settled_or_own}
 use Rattle.papaya_maps.proofs.Begins.Faults.{free_roots_suffice, memory_alone_is_refused}
 use Rattle.papaya_maps.proofs.Begins.Whole.{maps_begin_alone, maps_go_on_alone}
 use Rattle.papaya_finishes.proofs.Ends.CountedBlocks.{times-append, some_here, some_first, some_last, some_of_two, some_of_first}

@@ -1,42 +1,42 @@
 -- A call that is alone makes the table after the last one for as many pairs as the counter says.
 use Rattle.std.specs.Prelude.{◌≡◌, ℕ, ◌≤◌, Bool, Result}
 use Rattle.std.proofs.Common.{ap, sym, subst, ◌∙◌, inl, inr}
-use Rattle.papaya_finishes.specs.Given.SeizeWords.declared.fault.Fault.{Fault}
-use Rattle.papaya_finishes.specs.Given.SeizeWords.Mem.{Mem, Took, value_at}
-use Rattle.papaya_finishes.specs.Given.SeizeWords.Plan.{Steps, plan_as}
-use Rattle.papaya_finishes.proofs.Given.SeizeRule.Rows.Leaving.{steps_back}
-use Rattle.papaya_finishes.specs.Given.Seize.World.{World}
-use Rattle.papaya_finishes.specs.Given.Seize.declared.progress.Progress.{Progress}
-use Rattle.papaya_finishes.specs.Given.Seize.declared.progress.Progress.TheVariants as progress
-use Rattle.papaya_finishes.specs.Given.Tables.Lengths.{next_len}
-use Rattle.papaya_finishes.specs.Given.Tables.declared.lengths.Reason.{Reason}
-use Rattle.papaya_finishes.specs.Given.Tables.declared.lengths.Reason.TheVariants.{Full}
-use Rattle.papaya_finishes.specs.Given.Tables.declared.node.Node.{Node}
-use Rattle.papaya_finishes.specs.Given.Tables.declared.setting.Setting.{Setting}
-use Rattle.papaya_finishes.specs.Given.Tables.declared.table.Table.{Table}
-use Rattle.papaya_finishes.specs.Given.Resize.NewTable.{standing, making_of, counted, plan_at as making_at}
-use Rattle.papaya_finishes.specs.Given.Resize.Sum.{sum_plan}
-use Rattle.papaya_finishes.specs.Given.Resize.declared.new_table.NewTable.{NewTable}
-use Rattle.papaya_finishes.specs.Given.Resize.declared.new_table.Making.{Making}
-use Rattle.papaya_finishes.specs.Given.Resize.declared.new_table.Making.TheVariants as makes
-use Rattle.papaya_finishes.specs.Given.Resize.declared.sum.Sum.{Sum}
-use Rattle.papaya_finishes.specs.Given.Raw.Call.{next_made, plan_at}
-use Rattle.papaya_finishes.specs.Given.Raw.declared.machines.answer.Called.{Called}
-use Rattle.papaya_finishes.specs.Given.Raw.declared.machines.call.KeyCall.{KeyCall}
-use Rattle.papaya_finishes.specs.Given.Raw.declared.machines.call.Calling.{Calling}
-use Rattle.papaya_finishes.specs.Given.Raw.declared.machines.call.Calling.TheVariants as at
-use Rattle.papaya_finishes.specs.Given.Rule.Chart.{Chart}
-use Rattle.papaya_finishes.specs.Given.Rule.Rule.{IsLawful}
-use Rattle.papaya_finishes.specs.Given.Rule.Words.{Blocks}
-use Rattle.papaya_finishes.specs.Given.Rule.Maps.{spot_of}
-use Rattle.papaya_finishes.specs.Given.Rule.InWorld.{IsMapIn}
-use Rattle.papaya_finishes.proofs.Given.Rule.World.WentWrote.{counter_of}
-use Rattle.papaya_finishes.specs.Given.Points.FactsTables.{SumFacts}
-use Rattle.papaya_finishes.specs.Given.Points.Told.{SumTold}
-use Rattle.papaya_finishes.proofs.Given.Points.Making.Sum.{told_sum}
-use Rattle.papaya_finishes.specs.Given.Alone.Counting.{pairs_in, count_ahead}
-use Rattle.papaya_finishes.specs.Given.Alone.Met.{MetMaking}
-use Rattle.papaya_finishes.proofs.Given.Alone.Shards.Met.{goes_by_the_counter}
+use Rattle.papaya_finishes.specs.Given.SeizeWordsDeclared.fault.Fault.{Fault}
+use Rattle.papaya_finishes.specs.Given.SeizeWordsMem.{Mem, Took, value_at}
+use Rattle.papaya_finishes.specs.Given.SeizeWordsPlan.{Steps, plan_as}
+use Rattle.papaya_finishes.proofs.Given.SeizeRuleRows.Leaving.{steps_back}
+use Rattle.papaya_finishes.specs.Given.SeizeWorld.{World}
+use Rattle.papaya_finishes.specs.Given.SeizeDeclared.progress.Progress.{Progress}
+use Rattle.papaya_finishes.specs.Given.SeizeDeclared.progress.Progress.TheVariants as progress
+use Rattle.papaya_finishes.specs.Given.TablesLengths.{next_len}
+use Rattle.papaya_finishes.specs.Given.TablesDeclared.lengths.Reason.{Reason}
+use Rattle.papaya_finishes.specs.Given.TablesDeclared.lengths.Reason.TheVariants.{Full}
+use Rattle.papaya_finishes.specs.Given.TablesDeclared.node.Node.{Node}
+use Rattle.papaya_finishes.specs.Given.TablesDeclared.setting.Setting.{Setting}
+use Rattle.papaya_finishes.specs.Given.TablesDeclared.table.Table.{Table}
+use Rattle.papaya_finishes.specs.Given.ResizeNewTable.{standing, making_of, counted, plan_at as making_at}
+use Rattle.papaya_finishes.specs.Given.ResizeSum.{sum_plan}
+use Rattle.papaya_finishes.specs.Given.ResizeDeclared.new_table.NewTable.{NewTable}
+use Rattle.papaya_finishes.specs.Given.ResizeDeclared.new_table.Making.{Making}
+use Rattle.papaya_finishes.specs.Given.ResizeDeclared.new_table.Making.TheVariants as makes
+use Rattle.papaya_finishes.specs.Given.ResizeDeclared.sum.Sum.{Sum}
+use Rattle.papaya_finishes.specs.Given.RawCall.{next_made, plan_at}
+use Rattle.papaya_finishes.specs.Given.RawDeclared.machines.answer.Called.{Called}
+use Rattle.papaya_finishes.specs.Given.RawDeclared.machines.call.KeyCall.{KeyCall}
+use Rattle.papaya_finishes.specs.Given.RawDeclared.machines.call.Calling.{Calling}
+use Rattle.papaya_finishes.specs.Given.RawDeclared.machines.call.Calling.TheVariants as at
+use Rattle.papaya_finishes.specs.Given.RuleChart.{Chart}
+use Rattle.papaya_finishes.specs.Given.RuleRule.{IsLawful}
+use Rattle.papaya_finishes.specs.Given.RuleWords.{Blocks}
+use Rattle.papaya_finishes.specs.Given.RuleMaps.{spot_of}
+use Rattle.papaya_finishes.specs.Given.RuleInWorld.{IsMapIn}
+use Rattle.papaya_finishes.proofs.Given.RuleWorld.WentWrote.{counter_of}
+use Rattle.papaya_finishes.specs.Given.PointsFactsTables.{SumFacts}
+use Rattle.papaya_finishes.specs.Given.PointsTold.{SumTold}
+use Rattle.papaya_finishes.proofs.Given.PointsMaking.Sum.{told_sum}
+use Rattle.papaya_finishes.specs.Given.AloneCounting.{pairs_in, count_ahead}
+use Rattle.papaya_finishes.specs.Given.AloneMet.{MetMaking}
+use Rattle.papaya_finishes.proofs.Given.AloneShards.Met.{goes_by_the_counter}
 use Rattle.papaya_maps.specs.NextTables.{CountsOrMakes, NextTablesGoByTheCounter}
 use Rattle.papaya_maps.proofs.Reserves.Sums.{Ahead, sum_ahead}
 

@@ -1,27 +1,27 @@
 -- The beginning of a map over a memory that has one owner, who is caller 0: it takes its own steps, and begins no row of the collector.
 use Rattle.std.specs.Prelude.{◌≡◌, ℕ, ◌*◌, ◌<◌, ◌≤◌, Bool, false, Some, None, ◌⊎◌}
-use Rattle.papaya_finishes.specs.Given.SeizeWords.declared.at.At.TheVariants.{Root, Used, Word}
-use Rattle.papaya_finishes.specs.Given.SeizeWords.Mem.{Mem, value_at, word_at}
-use Rattle.papaya_finishes.specs.Given.Seize.World.{Making}
-use Rattle.papaya_finishes.specs.Given.SeizeAlone.Alone.{History, IsHistory, at_rest}
-use Rattle.papaya_finishes.specs.Given.Seize.declared.progress.Progress.{Progress}
-use Rattle.papaya_finishes.specs.Given.Seize.declared.progress.Progress.TheVariants as progress
-use Rattle.papaya_finishes.specs.Given.Tables.Nodes.{deferred_word}
-use Rattle.papaya_finishes.specs.Given.Tables.Chunks.{is_incremental}
-use Rattle.papaya_finishes.specs.Given.Resize.NewMap.{at_root, with_counter}
-use Rattle.papaya_finishes.specs.Given.Tables.declared.node.Node.{Node}
-use Rattle.papaya_finishes.specs.Given.Tables.declared.setting.Setting.{Setting}
-use Rattle.papaya_finishes.specs.Given.Resize.declared.new_map.NewMap.{NewMap}
-use Rattle.papaya_finishes.specs.Given.Resize.declared.new_map.Opening.{Opening}
-use Rattle.papaya_finishes.specs.Given.Resize.declared.new_map.Opening.TheVariants as at
-use Rattle.papaya_finishes.specs.Given.Rule.Chart.{Chart}
-use Rattle.papaya_finishes.specs.Given.Rule.Rule.{no_table}
-use Rattle.papaya_finishes.specs.Given.Rule.Words.{Blocks}
-use Rattle.papaya_finishes.specs.Given.Alone.Counting.{IsCounted}
-use Rattle.papaya_finishes.specs.Given.Alone.FactsAloneCalls.{RestsAlone}
+use Rattle.papaya_finishes.specs.Given.SeizeWordsDeclared.at.At.TheVariants.{Root, Used, Word}
+use Rattle.papaya_finishes.specs.Given.SeizeWordsMem.{Mem, value_at, word_at}
+use Rattle.papaya_finishes.specs.Given.SeizeWorld.{Making}
+use Rattle.papaya_finishes.specs.Given.SeizeAloneAlone.{History, IsHistory, at_rest}
+use Rattle.papaya_finishes.specs.Given.SeizeDeclared.progress.Progress.{Progress}
+use Rattle.papaya_finishes.specs.Given.SeizeDeclared.progress.Progress.TheVariants as progress
+use Rattle.papaya_finishes.specs.Given.TablesNodes.{deferred_word}
+use Rattle.papaya_finishes.specs.Given.TablesChunks.{is_incremental}
+use Rattle.papaya_finishes.specs.Given.ResizeNewMap.{at_root, with_counter}
+use Rattle.papaya_finishes.specs.Given.TablesDeclared.node.Node.{Node}
+use Rattle.papaya_finishes.specs.Given.TablesDeclared.setting.Setting.{Setting}
+use Rattle.papaya_finishes.specs.Given.ResizeDeclared.new_map.NewMap.{NewMap}
+use Rattle.papaya_finishes.specs.Given.ResizeDeclared.new_map.Opening.{Opening}
+use Rattle.papaya_finishes.specs.Given.ResizeDeclared.new_map.Opening.TheVariants as at
+use Rattle.papaya_finishes.specs.Given.RuleChart.{Chart}
+use Rattle.papaya_finishes.specs.Given.RuleRule.{no_table}
+use Rattle.papaya_finishes.specs.Given.RuleWords.{Blocks}
+use Rattle.papaya_finishes.specs.Given.AloneCounting.{IsCounted}
+use Rattle.papaya_finishes.specs.Given.AloneFactsAloneCalls.{RestsAlone}
 use Rattle.papaya_maps.specs.FactsBegins.{IsNew, BeginFacts, LeavesRoots}
-use Rattle.papaya_finishes.specs.Given.Alone.Alone.{MapRests}
-use Rattle.papaya_finishes.specs.Given.Alone.Values.{HasCome, IsComing, IsMadeByOpening, IsLinkedSince}
+use Rattle.papaya_finishes.specs.Given.AloneAlone.{MapRests}
+use Rattle.papaya_finishes.specs.Given.AloneValues.{HasCome, IsComing, IsMadeByOpening, IsLinkedSince}
 
 module _ {K V : Type 0} (m0 : Mem (Node K V)) where
   -- all roots are as they were

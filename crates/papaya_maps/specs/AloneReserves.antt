@@ -1,23 +1,23 @@
 -- Reservations over a memory that has one owner, who is caller 0: a reservation takes its own steps and those of the rows of the collector that
 -- retire the tables which it leaves behind, and nobody else takes any.
 use Rattle.std.specs.Prelude.{◌≡◌, ℕ, suc, ◌*◌, ◌%◌, ◌<◌, ◌≤◌, ◌^◌, cond}
-use Rattle.papaya_finishes.specs.Given.SeizeWords.Mem.{Mem}
-use Rattle.papaya_finishes.specs.Given.Seize.Settle.{retiring}
-use Rattle.papaya_finishes.specs.Given.Tables.Chunks.{is_incremental}
-use Rattle.papaya_finishes.specs.Given.Tables.Counts.{count_in}
-use Rattle.papaya_finishes.specs.Given.Reserves.Reserve.{needed}
-use Rattle.papaya_finishes.specs.Given.Resize.declared.outcome.Outcome.{Outcome}
-use Rattle.papaya_finishes.specs.Given.Resize.declared.outcome.Outcome.TheVariants as outcome
-use Rattle.papaya_finishes.specs.Given.Tables.declared.setting.Setting.{Setting}
-use Rattle.papaya_finishes.specs.Given.Resize.declared.copier.Copier.{Copier}
-use Rattle.papaya_finishes.specs.Given.Resize.declared.copier.Copying.{Copying}
-use Rattle.papaya_finishes.specs.Given.Resize.declared.copier.Copying.TheVariants as copies
-use Rattle.papaya_finishes.specs.Given.Reserves.declared.reserve.Reserve.{Reserve}
-use Rattle.papaya_finishes.specs.Given.Reserves.declared.reserve.Reserving.{Reserving}
-use Rattle.papaya_finishes.specs.Given.Reserves.declared.reserve.Reserving.TheVariants as at
-use Rattle.papaya_finishes.specs.Given.Rule.Chart.{Chart}
-use Rattle.papaya_finishes.specs.Given.Rule.Words.{Blocks}
-use Rattle.papaya_finishes.specs.Given.Alone.Counting.{shards_sum, count_ahead}
+use Rattle.papaya_finishes.specs.Given.SeizeWordsMem.{Mem}
+use Rattle.papaya_finishes.specs.Given.SeizeSettle.{retiring}
+use Rattle.papaya_finishes.specs.Given.TablesChunks.{is_incremental}
+use Rattle.papaya_finishes.specs.Given.TablesCounts.{count_in}
+use Rattle.papaya_finishes.specs.Given.ReservesReserve.{needed}
+use Rattle.papaya_finishes.specs.Given.ResizeDeclared.outcome.Outcome.{Outcome}
+use Rattle.papaya_finishes.specs.Given.ResizeDeclared.outcome.Outcome.TheVariants as outcome
+use Rattle.papaya_finishes.specs.Given.TablesDeclared.setting.Setting.{Setting}
+use Rattle.papaya_finishes.specs.Given.ResizeDeclared.copier.Copier.{Copier}
+use Rattle.papaya_finishes.specs.Given.ResizeDeclared.copier.Copying.{Copying}
+use Rattle.papaya_finishes.specs.Given.ResizeDeclared.copier.Copying.TheVariants as copies
+use Rattle.papaya_finishes.specs.Given.ReservesDeclared.reserve.Reserve.{Reserve}
+use Rattle.papaya_finishes.specs.Given.ReservesDeclared.reserve.Reserving.{Reserving}
+use Rattle.papaya_finishes.specs.Given.ReservesDeclared.reserve.Reserving.TheVariants as at
+use Rattle.papaya_finishes.specs.Given.RuleChart.{Chart}
+use Rattle.papaya_finishes.specs.Given.RuleWords.{Blocks}
+use Rattle.papaya_finishes.specs.Given.AloneCounting.{shards_sum, count_ahead}
 
 -- a counting will come to what the shards say
 abbrev pub SumsUp : {T : Type 0} → Setting → Mem T → Reserving → Type 0

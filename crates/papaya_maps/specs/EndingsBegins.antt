@@ -1,12 +1,12 @@
 -- Beginnings of maps come to an end.
 use Rattle.std.specs.Prelude.{◌<◌}
-use Rattle.papaya_finishes.specs.Given.SeizeWords.Mem.{Mem, Took, value_at}
-use Rattle.papaya_finishes.specs.Given.SeizeWords.Plan.{Steps}
-use Rattle.papaya_finishes.specs.Given.Seize.declared.progress.Progress.TheVariants as progress
-use Rattle.papaya_finishes.specs.Given.Resize.NewMap.{new_map_plan}
-use Rattle.papaya_finishes.specs.Given.Tables.declared.node.Node.{Node}
-use Rattle.papaya_finishes.specs.Given.Resize.declared.new_map.NewMap.{NewMap}
-use Rattle.papaya_finishes.specs.Given.Alone.Endings.{RunsEnd}
+use Rattle.papaya_finishes.specs.Given.SeizeWordsMem.{Mem, Took, value_at}
+use Rattle.papaya_finishes.specs.Given.SeizeWordsPlan.{Steps}
+use Rattle.papaya_finishes.specs.Given.SeizeDeclared.progress.Progress.TheVariants as progress
+use Rattle.papaya_finishes.specs.Given.ResizeNewMap.{new_map_plan}
+use Rattle.papaya_finishes.specs.Given.TablesDeclared.node.Node.{Node}
+use Rattle.papaya_finishes.specs.Given.ResizeDeclared.new_map.NewMap.{NewMap}
+use Rattle.papaya_finishes.specs.Given.AloneEndings.{RunsEnd}
 use Rattle.papaya_maps.specs.MeasuresBegins.{new_map_left}
 
 module _ (K V : Type 0) where

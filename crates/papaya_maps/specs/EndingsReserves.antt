@@ -1,13 +1,13 @@
 -- What it is that a reservation comes to an end, with the rows of the collector that it begins.
 use Rattle.std.specs.Prelude.{ℕ}
-use Rattle.papaya_finishes.specs.Given.SeizeWords.Mem.{Mem, Took, value_at}
-use Rattle.papaya_finishes.specs.Given.SeizeWords.Plan.{Steps}
-use Rattle.papaya_finishes.specs.Given.Reserves.Reserve.{reserve_plan}
-use Rattle.papaya_finishes.specs.Given.Tables.declared.node.Node.{Node}
-use Rattle.papaya_finishes.specs.Given.Resize.declared.outcome.Outcome.{Outcome}
-use Rattle.papaya_finishes.specs.Given.Resize.declared.outcome.Outcome.TheVariants as outcome
-use Rattle.papaya_finishes.specs.Given.Reserves.declared.reserve.Reserve.{Reserve}
-use Rattle.papaya_finishes.specs.Given.Alone.Endings.{RunsEnd}
+use Rattle.papaya_finishes.specs.Given.SeizeWordsMem.{Mem, Took, value_at}
+use Rattle.papaya_finishes.specs.Given.SeizeWordsPlan.{Steps}
+use Rattle.papaya_finishes.specs.Given.ReservesReserve.{reserve_plan}
+use Rattle.papaya_finishes.specs.Given.TablesDeclared.node.Node.{Node}
+use Rattle.papaya_finishes.specs.Given.ResizeDeclared.outcome.Outcome.{Outcome}
+use Rattle.papaya_finishes.specs.Given.ResizeDeclared.outcome.Outcome.TheVariants as outcome
+use Rattle.papaya_finishes.specs.Given.ReservesDeclared.reserve.Reserve.{Reserve}
+use Rattle.papaya_finishes.specs.Given.AloneEndings.{RunsEnd}
 
 -- a reservation that tells this has not ended
 abbrev pub HasMore : {T R : Type 0} → Outcome T R → Type 0

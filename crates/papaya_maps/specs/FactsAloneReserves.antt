@@ -1,16 +1,16 @@
 -- What is known of a map where one caller alone has a part in its copying, at each point of a reservation.
 use Rattle.std.specs.Prelude.{ℕ, Bool, true, false}
-use Rattle.papaya_finishes.specs.Given.Resize.declared.outcome.Outcome.{Outcome}
-use Rattle.papaya_finishes.specs.Given.Resize.declared.outcome.Outcome.TheVariants as outcome
-use Rattle.papaya_finishes.specs.Given.Resize.declared.copier.Copier.{Copier}
-use Rattle.papaya_finishes.specs.Given.Reserves.declared.reserve.Reserve.{Reserve}
-use Rattle.papaya_finishes.specs.Given.Reserves.declared.reserve.Reserving.{Reserving}
-use Rattle.papaya_finishes.specs.Given.Reserves.declared.reserve.Reserving.TheVariants as at
-use Rattle.papaya_finishes.specs.Given.Rule.Chart.{Chart}
-use Rattle.papaya_finishes.specs.Given.Points.Measures.{OthersIdle}
-use Rattle.papaya_finishes.specs.Given.Points.FactsAloneBlocking.{AloneBlocking}
-use Rattle.papaya_finishes.specs.Given.Alone.FactsAlone.{AloneAt}
-use Rattle.papaya_finishes.specs.Given.Alone.FactsAloneCalls.{TablesAlone, RestsAlone}
+use Rattle.papaya_finishes.specs.Given.ResizeDeclared.outcome.Outcome.{Outcome}
+use Rattle.papaya_finishes.specs.Given.ResizeDeclared.outcome.Outcome.TheVariants as outcome
+use Rattle.papaya_finishes.specs.Given.ResizeDeclared.copier.Copier.{Copier}
+use Rattle.papaya_finishes.specs.Given.ReservesDeclared.reserve.Reserve.{Reserve}
+use Rattle.papaya_finishes.specs.Given.ReservesDeclared.reserve.Reserving.{Reserving}
+use Rattle.papaya_finishes.specs.Given.ReservesDeclared.reserve.Reserving.TheVariants as at
+use Rattle.papaya_finishes.specs.Given.RuleChart.{Chart}
+use Rattle.papaya_finishes.specs.Given.PointsMeasures.{OthersIdle}
+use Rattle.papaya_finishes.specs.Given.PointsFactsAloneBlocking.{AloneBlocking}
+use Rattle.papaya_finishes.specs.Given.AloneFactsAlone.{AloneAt}
+use Rattle.papaya_finishes.specs.Given.AloneFactsAloneCalls.{TablesAlone, RestsAlone}
 
 module _ {K : Type 0} where
   -- what its copier knows, in the mode of the map

@@ -1,11 +1,11 @@
 -- What is promised of lists of blocks: how often a block stands in them, and what a map that ends leaves waiting.
 use Rattle.std.specs.Prelude.{◌≡◌, ◌≤◌, ◌<◌, ℕ, ◌+◌, Bool, true, false, List, ◌∷◌, ◌++◌, ◌⊎◌}
-use Rattle.papaya_finishes.specs.Given.Seize.World.{times}
-use Rattle.papaya_finishes.specs.Given.Tables.declared.setting.Setting.{Setting}
-use Rattle.papaya_finishes.specs.Given.Rule.Chart.{Chart, Place, Share, Claimed, is_marked, is_settled}
-use Rattle.papaya_finishes.specs.Given.Rule.Moves.{is_of_caller}
-use Rattle.papaya_finishes.specs.Given.Rule.Rule.{Agrees}
-use Rattle.papaya_finishes.specs.Given.Rule.Words.{Blocks}
+use Rattle.papaya_finishes.specs.Given.SeizeWorld.{times}
+use Rattle.papaya_finishes.specs.Given.TablesDeclared.setting.Setting.{Setting}
+use Rattle.papaya_finishes.specs.Given.RuleChart.{Chart, Place, Share, Claimed, is_marked, is_settled}
+use Rattle.papaya_finishes.specs.Given.RuleMoves.{is_of_caller}
+use Rattle.papaya_finishes.specs.Given.RuleRule.{Agrees}
+use Rattle.papaya_finishes.specs.Given.RuleWords.{Blocks}
 use Rattle.papaya_finishes.specs.Orders.{waits_in}
 
 -- in two lists, one behind the other, a block stands as often as in both

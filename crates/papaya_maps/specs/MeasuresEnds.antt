@@ -1,13 +1,13 @@
 -- A number that each step of the end of a map lowers, by its memory and its machine.
 use Rattle.std.specs.Prelude.{ℕ, zero, suc, ◌+◌, ◌-◌, ◌*◌, ◌/◌, ◌^◌, ◌==◌, if◌then◌else◌, List, [], ◌∷◌, length}
-use Rattle.papaya_finishes.specs.Given.SeizeWords.declared.at.At.TheVariants.{Entry}
-use Rattle.papaya_finishes.specs.Given.SeizeWords.Mem.{Mem, word_at}
-use Rattle.papaya_finishes.specs.Given.SeizeAlone.Alone.{blocks_in}
-use Rattle.papaya_finishes.specs.Given.Seize.declared.states.TheConstants.{NEXT}
-use Rattle.papaya_finishes.specs.Given.Raw.declared.machines.end_map.EndMap.{EndMap}
-use Rattle.papaya_finishes.specs.Given.Raw.declared.machines.end_map.Ending.{Ending}
-use Rattle.papaya_finishes.specs.Given.Raw.declared.machines.end_map.Ending.TheVariants as at
-use Rattle.papaya_finishes.specs.Given.Alone.Counting.{number_in}
+use Rattle.papaya_finishes.specs.Given.SeizeWordsDeclared.at.At.TheVariants.{Entry}
+use Rattle.papaya_finishes.specs.Given.SeizeWordsMem.{Mem, word_at}
+use Rattle.papaya_finishes.specs.Given.SeizeAloneAlone.{blocks_in}
+use Rattle.papaya_finishes.specs.Given.SeizeDeclared.states.TheConstants.{NEXT}
+use Rattle.papaya_finishes.specs.Given.RawDeclared.machines.end_map.EndMap.{EndMap}
+use Rattle.papaya_finishes.specs.Given.RawDeclared.machines.end_map.Ending.{Ending}
+use Rattle.papaya_finishes.specs.Given.RawDeclared.machines.end_map.Ending.TheVariants as at
+use Rattle.papaya_finishes.specs.Given.AloneCounting.{number_in}
 
 -- how far it is from its end, while it reclaims nothing: the root, the pairs of the tables, what a table carries, the table, and the root again
 abbrev pub stage : Ending → ℕ

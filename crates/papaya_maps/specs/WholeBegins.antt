@@ -1,17 +1,17 @@
 -- What is promised of the beginnings of maps over a memory that has one owner.
 use Rattle.std.specs.Prelude.{ℕ, ◌+◌, ◌^◌, ◌<◌, ◌≤◌, Bool, max}
 use Rattle.std.specs.Int.{IsPowerOfTwo}
-use Rattle.papaya_finishes.specs.Given.SeizeWords.Mem.{Mem, Can, Took, value_at}
-use Rattle.papaya_finishes.specs.Given.SeizeWords.Plan.{May, Steps}
-use Rattle.papaya_finishes.specs.Given.SeizeAlone.Alone.{History, IsHistory, at_rest}
-use Rattle.papaya_finishes.specs.Given.Seize.declared.progress.Progress.{Progress}
-use Rattle.papaya_finishes.specs.Given.Tables.Lengths.{IsTableLen}
-use Rattle.papaya_finishes.specs.Given.Resize.NewMap.{opening, new_map_plan}
-use Rattle.papaya_finishes.specs.Given.Tables.Nodes.{deferred_word}
-use Rattle.papaya_finishes.specs.Given.Tables.declared.node.Node.{Node}
-use Rattle.papaya_finishes.specs.Given.Tables.declared.setting.Setting.{Setting}
-use Rattle.papaya_finishes.specs.Given.Resize.declared.new_map.NewMap.{NewMap}
-use Rattle.papaya_finishes.specs.Given.Points.Steps.{AreLawful}
+use Rattle.papaya_finishes.specs.Given.SeizeWordsMem.{Mem, Can, Took, value_at}
+use Rattle.papaya_finishes.specs.Given.SeizeWordsPlan.{May, Steps}
+use Rattle.papaya_finishes.specs.Given.SeizeAloneAlone.{History, IsHistory, at_rest}
+use Rattle.papaya_finishes.specs.Given.SeizeDeclared.progress.Progress.{Progress}
+use Rattle.papaya_finishes.specs.Given.TablesLengths.{IsTableLen}
+use Rattle.papaya_finishes.specs.Given.ResizeNewMap.{opening, new_map_plan}
+use Rattle.papaya_finishes.specs.Given.TablesNodes.{deferred_word}
+use Rattle.papaya_finishes.specs.Given.TablesDeclared.node.Node.{Node}
+use Rattle.papaya_finishes.specs.Given.TablesDeclared.setting.Setting.{Setting}
+use Rattle.papaya_finishes.specs.Given.ResizeDeclared.new_map.NewMap.{NewMap}
+use Rattle.papaya_finishes.specs.Given.PointsSteps.{AreLawful}
 use Rattle.papaya_finishes.specs.Makings.{HasRoots}
 use Rattle.papaya_maps.specs.AloneBegins.{IsOpening, OpensTo}
 

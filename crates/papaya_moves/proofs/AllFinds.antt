@@ -4,16 +4,16 @@ use Rattle.std.specs.List.{list_all}
 use Rattle.std.proofs.Common.{refl, sym, subst}
 use Rattle.std.proofs.lemmas.Bool.{and_parts}
 use Rattle.papaya_swept.specs.Given.LegalAllEvents.{BehindAreLeft, FindsPair}
-use Rattle.seize_acts.specs.Given.Seize.declared.rows.reclaim_all.ReclaimAll.{ReclaimAll}
-use Rattle.seize_acts.specs.Given.Seize.declared.rows.settle.Settled.{Settled}
-use Rattle.papaya_deeds.specs.Given.Tables.declared.node.Node.{Node}
-use Rattle.papaya_deeds.specs.Given.Schedules.declared.effect.Effect.{Effect}
-use Rattle.papaya_deeds.specs.Given.Schedules.declared.effect.Effect.TheVariants.{Reclaimed}
-use Rattle.papaya_deeds.specs.Given.Schedules.declared.effect.Thing.TheVariants.{APair, ATable}
-use Rattle.papaya_deeds.specs.Given.Schedules.Effects.{AtEachEffect, with_effect}
-use Rattle.papaya_deeds.specs.Given.Schedules.Handing.{is_reclaiming}
-use Rattle.papaya_deeds.specs.Given.Schedules.Moment.{Moment}
-use Rattle.papaya_deeds.specs.Given.Schedules.Terms.{Terms}
+use Rattle.seize_acts.specs.Given.SeizeDeclared.rows.reclaim_all.ReclaimAll.{ReclaimAll}
+use Rattle.seize_acts.specs.Given.SeizeDeclared.rows.settle.Settled.{Settled}
+use Rattle.papaya_deeds.specs.Given.TablesDeclared.node.Node.{Node}
+use Rattle.papaya_deeds.specs.Given.SchedulesDeclared.effect.Effect.{Effect}
+use Rattle.papaya_deeds.specs.Given.SchedulesDeclared.effect.Effect.TheVariants.{Reclaimed}
+use Rattle.papaya_deeds.specs.Given.SchedulesDeclared.effect.Thing.TheVariants.{APair, ATable}
+use Rattle.papaya_deeds.specs.Given.SchedulesEffects.{AtEachEffect, with_effect}
+use Rattle.papaya_deeds.specs.Given.SchedulesHanding.{is_reclaiming}
+use Rattle.papaya_deeds.specs.Given.SchedulesMoment.{Moment}
+use Rattle.papaya_deeds.specs.Given.SchedulesTerms.{Terms}
 use Rattle.papaya_grouped.specs.Given.EffectsEffects.{effects_of}
 use Rattle.papaya_grouped.specs.Given.EffectsDeclared.acting.Acting.TheVariants as acts
 use Rattle.papaya_swept.specs.Given.FindsWaiting.{PairsArePlaced}

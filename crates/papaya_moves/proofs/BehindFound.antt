@@ -3,16 +3,16 @@ use Rattle.std.specs.Prelude.{◌≡◌, ◌⊎◌, ◌<◌, ◌+◌, ◌==◌, 
 use Rattle.std.specs.List.{list_any}
 use Rattle.std.proofs.Common.{refl, ap, sym, subst, ◌∙◌, arith, inl, inr, eqb-true}
 use Rattle.papaya_swept.specs.Given.LegalAllEvents.{BehindAreLeft}
-use Rattle.seize_acts.specs.Given.Seize.World.{LeftTo, World, times}
-use Rattle.seize_acts.specs.Given.Seize.declared.rows.reclaim_all.ReclaimAll.{ReclaimAll}
-use Rattle.seize_acts.specs.Given.Seize.declared.rows.reclaim_all.Reclaiming.{Reclaiming}
-use Rattle.seize_acts.specs.Given.Seize.declared.rows.reclaim_all.Reclaiming.TheVariants as reclaiming
-use Rattle.papaya_deeds.specs.Given.Tables.Nodes.{deferred_word}
-use Rattle.papaya_deeds.specs.Given.Tables.declared.node.Node.{Node}
-use Rattle.papaya_deeds.specs.Given.Schedules.declared.effect.Table.{Table}
-use Rattle.papaya_deeds.specs.Given.Schedules.Moment.{Behind, Deferral, GivenBack, Handed as IsHanded, InMap, Left, MapThere, Moment, Out, Place, Unborn}
-use Rattle.papaya_deeds.specs.Given.Schedules.Reclaims.{is_handed}
-use Rattle.papaya_deeds.specs.Given.Schedules.Views.{is_in_map}
+use Rattle.seize_acts.specs.Given.SeizeWorld.{LeftTo, World, times}
+use Rattle.seize_acts.specs.Given.SeizeDeclared.rows.reclaim_all.ReclaimAll.{ReclaimAll}
+use Rattle.seize_acts.specs.Given.SeizeDeclared.rows.reclaim_all.Reclaiming.{Reclaiming}
+use Rattle.seize_acts.specs.Given.SeizeDeclared.rows.reclaim_all.Reclaiming.TheVariants as reclaiming
+use Rattle.papaya_deeds.specs.Given.TablesNodes.{deferred_word}
+use Rattle.papaya_deeds.specs.Given.TablesDeclared.node.Node.{Node}
+use Rattle.papaya_deeds.specs.Given.SchedulesDeclared.effect.Table.{Table}
+use Rattle.papaya_deeds.specs.Given.SchedulesMoment.{Behind, Deferral, GivenBack, Handed as IsHanded, InMap, Left, MapThere, Moment, Out, Place, Unborn}
+use Rattle.papaya_deeds.specs.Given.SchedulesReclaims.{is_handed}
+use Rattle.papaya_deeds.specs.Given.SchedulesViews.{is_in_map}
 use Rattle.papaya_grouped.specs.Given.EffectsKnown.{Known}
 use Rattle.papaya_grouped.specs.Given.EffectsDeclared.role.Role.TheVariants as role
 use Rattle.papaya_swept.specs.Given.FindsWaiting.{is_behind_one, is_out, once_if, owed_by, put_in}

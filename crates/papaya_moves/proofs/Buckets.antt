@@ -3,20 +3,20 @@ use Rattle.std.specs.Prelude.{◌≡◌, ◌⊎◌, ◌≤◌, ◌+◌, ◌&&◌
 use Rattle.std.specs.List.{list_any}
 use Rattle.std.proofs.Common.{refl, ap, sym, subst, ◌∙◌, arith, inl, inr}
 use Rattle.std.proofs.lemmas.Bool.{cases_lt}
-use Rattle.papaya_deeds.specs.Given.SeizeWords.Mem.{Mem, Can}
-use Rattle.papaya_deeds.specs.Given.SeizeWords.Op.{Op, Out, Room}
-use Rattle.papaya_deeds.specs.Given.SeizeWords.Place.{capacity}
-use Rattle.papaya_deeds.proofs.Given.SeizeWords.Places.Words.{capacity-more, capacity_le_capacity, capacity_pos}
-use Rattle.papaya_deeds.specs.Given.Tables.declared.node.Node.{Node}
+use Rattle.papaya_deeds.specs.Given.SeizeWordsMem.{Mem, Can}
+use Rattle.papaya_deeds.specs.Given.SeizeWordsOp.{Op, Out, Room}
+use Rattle.papaya_deeds.specs.Given.SeizeWordsPlace.{capacity}
+use Rattle.papaya_deeds.proofs.Given.SeizeWordsPlaces.Words.{capacity-more, capacity_le_capacity, capacity_pos}
+use Rattle.papaya_deeds.specs.Given.TablesDeclared.node.Node.{Node}
 use Rattle.papaya_grouped.specs.Given.TellsSeen.{seen_of}
 use Rattle.papaya_grouped.specs.Given.TellerTells.{told_of}
 use Rattle.papaya_grouped.specs.Given.TellerDeclared.changed.Changed.{Changed}
 use Rattle.papaya_grouped.specs.Given.TellerDeclared.changed.Changed.TheVariants as changed
-use Rattle.papaya_deeds.specs.Given.Schedules.declared.effect.Effect.{Effect}
-use Rattle.papaya_deeds.specs.Given.Schedules.declared.effect.Effect.TheVariants.{Asked}
-use Rattle.papaya_deeds.specs.Given.Schedules.declared.effect.Growth.TheVariants.{ABucket}
-use Rattle.papaya_deeds.specs.Given.Schedules.declared.outcome.Outcome.{Outcome}
-use Rattle.papaya_deeds.specs.Given.Schedules.Handing.{asks_for_bucket}
+use Rattle.papaya_deeds.specs.Given.SchedulesDeclared.effect.Effect.{Effect}
+use Rattle.papaya_deeds.specs.Given.SchedulesDeclared.effect.Effect.TheVariants.{Asked}
+use Rattle.papaya_deeds.specs.Given.SchedulesDeclared.effect.Growth.TheVariants.{ABucket}
+use Rattle.papaya_deeds.specs.Given.SchedulesDeclared.outcome.Outcome.{Outcome}
+use Rattle.papaya_deeds.specs.Given.SchedulesHanding.{asks_for_bucket}
 use Rattle.papaya_grouped.specs.Given.EffectsEffects.{effects_of, known_after, pair_taken, table_taken}
 use Rattle.papaya_grouped.specs.Given.EffectsKnown.{Known}
 use Rattle.papaya_grouped.specs.Given.EffectsDeclared.acting.Acting.{Acting}

@@ -2,16 +2,16 @@
 use Rattle.std.specs.Prelude.{◌≡◌, ℕ, Bool, true, length, Option, is_ok}
 use Rattle.std.proofs.Common.{refl, ap, sym, subst, ◌∙◌}
 use Rattle.seize_acts.specs.Answers.{Grant}
-use Rattle.papaya_deeds.specs.Given.SeizeWords.Mem.{Mem}
-use Rattle.seize_acts.specs.Given.Seize.ReclaimAll.{reclaim_all_plan}
-use Rattle.seize_acts.specs.Given.Seize.World.{Row}
-use Rattle.seize_acts.specs.Given.Seize.declared.rows.reclaim_all.ReclaimAll.{ReclaimAll}
-use Rattle.papaya_deeds.specs.Given.Tables.Nodes.{deferred_word, was_left}
-use Rattle.papaya_deeds.specs.Given.Tables.declared.node.Node.{Node}
-use Rattle.papaya_deeds.specs.Given.Raw.EndMap.{end_map_plan}
-use Rattle.papaya_deeds.specs.Given.Raw.Machine.{machine_asked, machine_plan, machine_replied}
-use Rattle.papaya_deeds.specs.Given.Resize.NewMap.{new_map_plan}
-use Rattle.papaya_deeds.specs.Given.Schedules.declared.outcome.Outcome.TheVariants as outcome
+use Rattle.papaya_deeds.specs.Given.SeizeWordsMem.{Mem}
+use Rattle.seize_acts.specs.Given.SeizeReclaimAll.{reclaim_all_plan}
+use Rattle.seize_acts.specs.Given.SeizeWorld.{Row}
+use Rattle.seize_acts.specs.Given.SeizeDeclared.rows.reclaim_all.ReclaimAll.{ReclaimAll}
+use Rattle.papaya_deeds.specs.Given.TablesNodes.{deferred_word, was_left}
+use Rattle.papaya_deeds.specs.Given.TablesDeclared.node.Node.{Node}
+use Rattle.papaya_deeds.specs.Given.RawEndMap.{end_map_plan}
+use Rattle.papaya_deeds.specs.Given.RawMachine.{machine_asked, machine_plan, machine_replied}
+use Rattle.papaya_deeds.specs.Given.ResizeNewMap.{new_map_plan}
+use Rattle.papaya_deeds.specs.Given.SchedulesDeclared.outcome.Outcome.TheVariants as outcome
 use Rattle.papaya_grouped.specs.Given.TellerDeclared.changed.Changed.{Changed}
 use Rattle.papaya_grouped.specs.Given.TellerDeclared.changed.Changed.TheVariants.{Nothing as NoChange}
 use Rattle.papaya_grouped.specs.Given.EffectsEffects.{known_after}

@@ -2,13 +2,13 @@
 use Rattle.std.specs.Prelude.{◌≡◌, ◌≢◌, ◌==◌, ℕ, zero, suc, Bool, true, false, List, [], ◌∷◌, length, filter, if◌then◌else◌}
 use Rattle.std.proofs.Common.{refl, ap, sym, ◌∙◌, arith}
 use Rattle.std.proofs.lemmas.Bool.{eq-eqb, ne_eqb}
-use Rattle.papaya_deeds.specs.Given.Resize.declared.new_map.Opening.{Opening}
-use Rattle.papaya_deeds.specs.Given.Resize.declared.new_map.Opening.TheVariants as openings
-use Rattle.papaya_deeds.specs.Given.Schedules.declared.effect.Effect.{Effect}
-use Rattle.papaya_deeds.specs.Given.Schedules.declared.effect.Effect.TheVariants.{TableMade}
-use Rattle.papaya_deeds.specs.Given.Schedules.Handing.{is_table_made}
-use Rattle.papaya_deeds.specs.Given.Schedules.Moment.{Moment}
-use Rattle.papaya_deeds.specs.Given.Schedules.Views.{capacity_or, map_at}
+use Rattle.papaya_deeds.specs.Given.ResizeDeclared.new_map.Opening.{Opening}
+use Rattle.papaya_deeds.specs.Given.ResizeDeclared.new_map.Opening.TheVariants as openings
+use Rattle.papaya_deeds.specs.Given.SchedulesDeclared.effect.Effect.{Effect}
+use Rattle.papaya_deeds.specs.Given.SchedulesDeclared.effect.Effect.TheVariants.{TableMade}
+use Rattle.papaya_deeds.specs.Given.SchedulesHanding.{is_table_made}
+use Rattle.papaya_deeds.specs.Given.SchedulesMoment.{Moment}
+use Rattle.papaya_deeds.specs.Given.SchedulesViews.{capacity_or, map_at}
 use Rattle.papaya_swept.specs.Given.OwesMaking.{making_in_opening}
 use Rattle.papaya_swept.specs.Given.OwesTables.{table_made}
 use Rattle.papaya_swept.proofs.Given.FindsCapacities.{effects_keep_capacities}

@@ -3,8 +3,8 @@ use Rattle.std.specs.Prelude.{Bool, List, [], ◌∷◌, Option, Some}
 use Rattle.std.specs.List.{AllByRecursion}
 use Rattle.std.proofs.Common.{◌≡◌, ℕ, sym, subst, ◌∙◌}
 use Rattle.seize_acts.proofs.Answers.{same_some}
-use Rattle.papaya_deeds.specs.Given.Schedules.After.{AtEachEvent}
-use Rattle.papaya_deeds.specs.Given.Schedules.Terms.{Terms, shards_of}
+use Rattle.papaya_deeds.specs.Given.SchedulesAfter.{AtEachEvent}
+use Rattle.papaya_deeds.specs.Given.SchedulesTerms.{Terms, shards_of}
 use Rattle.papaya_grouped.specs.Given.ActsDoings.{Doing, Does, BeginsReclaiming, BeginsClearing, StepsReclaiming, Chooses}
 use Rattle.papaya_grouped.specs.Given.AgreesAgree.{Asks}
 use Rattle.papaya_grouped.specs.Given.AgreesPlaces.{AsksMaps}

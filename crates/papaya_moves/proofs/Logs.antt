@@ -2,7 +2,7 @@
 use Rattle.std.specs.Prelude.{Bool}
 use Rattle.std.proofs.Common.{ℕ, sym, subst, ◌∙◌}
 use Rattle.seize_acts.proofs.Answers.{same_some}
-use Rattle.papaya_deeds.specs.Given.Schedules.After.{AtEachEvent}
+use Rattle.papaya_deeds.specs.Given.SchedulesAfter.{AtEachEvent}
 use Rattle.papaya_grouped.specs.Given.ScenesScene.{slot_of}
 use Rattle.papaya_grouped.proofs.Given.ActsLists.{lists_determine}
 use Rattle.papaya_grouped.specs.Given.PlayedPlay.{State}

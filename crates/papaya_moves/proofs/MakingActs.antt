@@ -3,21 +3,21 @@ use Rattle.std.specs.Prelude.{◌≡◌, ◌≢◌, ◌+◌, ℕ, Bool, true, fa
 use Rattle.std.proofs.Common.{refl, ap, sym, subst, ◌∙◌}
 use Rattle.seize_acts.specs.Answers.{Grant}
 use Rattle.seize_acts.proofs.Answers.{same_some}
-use Rattle.papaya_deeds.specs.Given.SeizeWords.Mem.{Mem}
-use Rattle.seize_acts.specs.Given.Seize.World.{World, with_at}
-use Rattle.seize_acts.specs.Given.Seize.declared.progress.Progress.{Progress}
-use Rattle.seize_acts.specs.Given.Seize.declared.progress.Progress.TheVariants as progress
-use Rattle.papaya_deeds.specs.Given.Tables.declared.node.Node.{Node}
-use Rattle.papaya_deeds.specs.Given.Tables.declared.setting.Setting.{Setting}
-use Rattle.papaya_deeds.specs.Given.Resize.NewMap.{at_root, new_map_plan}
-use Rattle.papaya_deeds.specs.Given.Resize.declared.new_map.NewMap.{NewMap}
-use Rattle.papaya_deeds.specs.Given.Resize.declared.new_map.Opening.{Opening}
-use Rattle.papaya_deeds.specs.Given.Resize.declared.new_map.Opening.TheVariants as openings
-use Rattle.papaya_deeds.specs.Given.Schedules.declared.effect.Effect.{Effect}
-use Rattle.papaya_deeds.specs.Given.Schedules.Effects.{with_effects}
-use Rattle.papaya_deeds.specs.Given.Schedules.Handing.{is_table_made}
-use Rattle.papaya_deeds.specs.Given.Schedules.Moment.{Moment}
-use Rattle.papaya_deeds.specs.Given.Schedules.Views.{capacity_or, map_at, tables_of}
+use Rattle.papaya_deeds.specs.Given.SeizeWordsMem.{Mem}
+use Rattle.seize_acts.specs.Given.SeizeWorld.{World, with_at}
+use Rattle.seize_acts.specs.Given.SeizeDeclared.progress.Progress.{Progress}
+use Rattle.seize_acts.specs.Given.SeizeDeclared.progress.Progress.TheVariants as progress
+use Rattle.papaya_deeds.specs.Given.TablesDeclared.node.Node.{Node}
+use Rattle.papaya_deeds.specs.Given.TablesDeclared.setting.Setting.{Setting}
+use Rattle.papaya_deeds.specs.Given.ResizeNewMap.{at_root, new_map_plan}
+use Rattle.papaya_deeds.specs.Given.ResizeDeclared.new_map.NewMap.{NewMap}
+use Rattle.papaya_deeds.specs.Given.ResizeDeclared.new_map.Opening.{Opening}
+use Rattle.papaya_deeds.specs.Given.ResizeDeclared.new_map.Opening.TheVariants as openings
+use Rattle.papaya_deeds.specs.Given.SchedulesDeclared.effect.Effect.{Effect}
+use Rattle.papaya_deeds.specs.Given.SchedulesEffects.{with_effects}
+use Rattle.papaya_deeds.specs.Given.SchedulesHanding.{is_table_made}
+use Rattle.papaya_deeds.specs.Given.SchedulesMoment.{Moment}
+use Rattle.papaya_deeds.specs.Given.SchedulesViews.{capacity_or, map_at, tables_of}
 use Rattle.papaya_grouped.specs.Given.TellerDeclared.changed.Changed.TheVariants.{Nothing as NoChange}
 use Rattle.papaya_grouped.specs.Given.EffectsEffects.{effects_of, known_after}
 use Rattle.papaya_grouped.specs.Given.EffectsDeclared.acting.Acting.TheVariants as acts

@@ -4,25 +4,25 @@ use Rattle.std.specs.List.{list_all}
 use Rattle.std.proofs.Common.{refl, ap, sym, ◌∙◌, arith, inl, inr, length-append}
 use Rattle.std.proofs.lemmas.Bool.{ne_eqb}
 use Rattle.std.proofs.lemmas.List.Elements.{filter-append}
-use Rattle.papaya_deeds.specs.Given.SeizeWords.Mem.{Mem}
-use Rattle.seize_acts.specs.Given.Seize.declared.progress.Progress.{Progress}
-use Rattle.seize_acts.specs.Given.Seize.declared.progress.Progress.TheVariants as progress
-use Rattle.papaya_deeds.specs.Given.Tables.declared.node.Node.{Node}
-use Rattle.papaya_deeds.specs.Given.Tables.declared.setting.Setting.{Setting}
-use Rattle.papaya_deeds.specs.Given.Resize.NewMap.{plan_at}
-use Rattle.papaya_deeds.specs.Given.Resize.declared.new_map.NewMap.{NewMap}
-use Rattle.papaya_deeds.specs.Given.Resize.declared.new_map.Opening.{Opening}
-use Rattle.papaya_deeds.specs.Given.Resize.declared.new_map.Opening.TheVariants as openings
+use Rattle.papaya_deeds.specs.Given.SeizeWordsMem.{Mem}
+use Rattle.seize_acts.specs.Given.SeizeDeclared.progress.Progress.{Progress}
+use Rattle.seize_acts.specs.Given.SeizeDeclared.progress.Progress.TheVariants as progress
+use Rattle.papaya_deeds.specs.Given.TablesDeclared.node.Node.{Node}
+use Rattle.papaya_deeds.specs.Given.TablesDeclared.setting.Setting.{Setting}
+use Rattle.papaya_deeds.specs.Given.ResizeNewMap.{plan_at}
+use Rattle.papaya_deeds.specs.Given.ResizeDeclared.new_map.NewMap.{NewMap}
+use Rattle.papaya_deeds.specs.Given.ResizeDeclared.new_map.Opening.{Opening}
+use Rattle.papaya_deeds.specs.Given.ResizeDeclared.new_map.Opening.TheVariants as openings
 use Rattle.papaya_grouped.specs.Given.RuleChart.{Chart}
 use Rattle.papaya_grouped.specs.Given.TellerTells.{StepsTold}
 use Rattle.papaya_grouped.specs.Given.TellerDeclared.changed.Changed.{Changed}
 use Rattle.papaya_grouped.specs.Given.TellerDeclared.changed.Changed.TheVariants as changed
-use Rattle.papaya_deeds.specs.Given.Schedules.declared.effect.Effect.{Effect}
-use Rattle.papaya_deeds.specs.Given.Schedules.Effects.{with_effects}
-use Rattle.papaya_deeds.specs.Given.Schedules.Handing.{is_first_making, is_granted, is_table_made}
-use Rattle.papaya_deeds.specs.Given.Schedules.Moment.{Moment}
-use Rattle.papaya_deeds.specs.Given.Schedules.Transition.{worked_by}
-use Rattle.papaya_deeds.specs.Given.Schedules.Views.{capacity_or, map_at, tables_of}
+use Rattle.papaya_deeds.specs.Given.SchedulesDeclared.effect.Effect.{Effect}
+use Rattle.papaya_deeds.specs.Given.SchedulesEffects.{with_effects}
+use Rattle.papaya_deeds.specs.Given.SchedulesHanding.{is_first_making, is_granted, is_table_made}
+use Rattle.papaya_deeds.specs.Given.SchedulesMoment.{Moment}
+use Rattle.papaya_deeds.specs.Given.SchedulesTransition.{worked_by}
+use Rattle.papaya_deeds.specs.Given.SchedulesViews.{capacity_or, map_at, tables_of}
 use Rattle.papaya_grouped.specs.Given.EffectsEffects.{effects_of, known_after}
 use Rattle.papaya_grouped.specs.Given.EffectsKnown.{Known}
 use Rattle.papaya_grouped.specs.Given.EffectsDeclared.acting.Acting.TheVariants as acts

@@ -3,14 +3,14 @@ use Rattle.std.specs.Prelude.{◌≡◌, ◌≢◌, ◌==◌, ◌||◌, ℕ, Boo
 use Rattle.std.specs.List.{AllByRecursion, list_any}
 use Rattle.std.proofs.Common.{refl, ap, sym, subst, ◌∙◌, eqb-true}
 use Rattle.std.proofs.lemmas.Bool.{eq-eqb}
-use Rattle.papaya_deeds.specs.Given.Runs.Same.{is_same}
-use Rattle.papaya_deeds.specs.Given.Tables.declared.resize_mode.ResizeMode.{ResizeMode}
-use Rattle.papaya_deeds.specs.Given.Schedules.Effects.{maps_by, promoted, with_effect, with_effects}
-use Rattle.papaya_deeds.specs.Given.Schedules.Moment.{MapThere, Moment}
-use Rattle.papaya_deeds.specs.Given.Schedules.declared.effect.Effect.{Effect}
-use Rattle.papaya_deeds.specs.Given.Schedules.declared.effect.Effect.TheVariants.{Promoted}
-use Rattle.papaya_deeds.specs.Given.Schedules.declared.effect.Table.{Table}
-use Rattle.papaya_deeds.specs.Given.Schedules.declared.outcome.Outcome.{Outcome}
+use Rattle.papaya_deeds.specs.Given.RunsSame.{is_same}
+use Rattle.papaya_deeds.specs.Given.TablesDeclared.resize_mode.ResizeMode.{ResizeMode}
+use Rattle.papaya_deeds.specs.Given.SchedulesEffects.{maps_by, promoted, with_effect, with_effects}
+use Rattle.papaya_deeds.specs.Given.SchedulesMoment.{MapThere, Moment}
+use Rattle.papaya_deeds.specs.Given.SchedulesDeclared.effect.Effect.{Effect}
+use Rattle.papaya_deeds.specs.Given.SchedulesDeclared.effect.Effect.TheVariants.{Promoted}
+use Rattle.papaya_deeds.specs.Given.SchedulesDeclared.effect.Table.{Table}
+use Rattle.papaya_deeds.specs.Given.SchedulesDeclared.outcome.Outcome.{Outcome}
 use Rattle.papaya_grouped.proofs.Given.FollowsCalling.{is_same_refl}
 use Rattle.papaya_grouped.proofs.Given.AgreesLists.{all_kept}
 use Rattle.papaya_deeds.specs.Deeds.{Begins, Deed, Entry, MapComes, MapFails, MapGoes, acted_on, after, begun, caller_of, named, without_map}

@@ -1,8 +1,8 @@
 -- Each entry of a history moves on, if each finds what it must where all is in order, and all stays in order by each.
 use Rattle.std.specs.Prelude.{◌≡◌, ◌⊎◌, ℕ, List, [], ◌∷◌}
 use Rattle.std.proofs.Common.{refl, sym, subst, inl, inr}
-use Rattle.papaya_deeds.specs.Given.Schedules.After.{AtEachEvent}
-use Rattle.papaya_deeds.specs.Given.Schedules.Terms.{Terms}
+use Rattle.papaya_deeds.specs.Given.SchedulesAfter.{AtEachEvent}
+use Rattle.papaya_deeds.specs.Given.SchedulesTerms.{Terms}
 use Rattle.papaya_swept.specs.Given.FindsWithin.{AllIsInOrder}
 use Rattle.papaya_swept.proofs.Given.FindsRuns.{all_in_order_at_first}
 use Rattle.papaya_deeds.specs.Deeds.{Begins, Deed, Ends, Entry, Leaves, Makes, MapComes, MapFails, MapGoes, Opens, ReclaimsAll, Registers, Replies, Shuts, Steps, Stops, Tends, moment}

@@ -2,23 +2,23 @@
 use Rattle.std.specs.Prelude.{◌≡◌, ◌+◌, ℕ, Bool, true, length, Some}
 use Rattle.std.specs.List.{list_any}
 use Rattle.std.proofs.Common.{ap, sym, subst, ◌∙◌, inl, inr}
-use Rattle.papaya_deeds.specs.Given.SeizeWords.Mem.{Can, Took, value_at}
-use Rattle.papaya_deeds.specs.Given.SeizeWords.Plan.{May}
-use Rattle.papaya_deeds.proofs.Given.SeizeWords.Places.Words.{capacity-one_to_one}
-use Rattle.seize_acts.specs.Given.Seize.Register.{register_plan}
-use Rattle.seize_acts.specs.Given.Seize.World.{Row}
-use Rattle.seize_acts.specs.Given.Seize.declared.rows.register.Register.{Register}
-use Rattle.seize_acts.specs.Given.Seize.declared.rows.register.Registering.{Registering}
-use Rattle.seize_acts.specs.Given.Seize.declared.rows.register.Registering.TheVariants as registering
-use Rattle.seize_acts.specs.Given.Seize.declared.states.TheConstants.{LAST_SLOT}
-use Rattle.seize_acts.proofs.Given.SeizeMoves.State.Ghost.{State as Ghost}
-use Rattle.seize_acts.proofs.Given.SeizeRule.Rows.Known.{FitsRegister, FitsRow}
-use Rattle.seize_acts.proofs.Given.SeizeRule.Words.Shows.{Extra}
-use Rattle.seize_acts.proofs.Given.SeizeRule.Words.View.{view}
-use Rattle.seize_acts.proofs.Given.SeizeRule.World.Good.{Good}
-use Rattle.papaya_deeds.specs.Given.Tables.Nodes.{deferred_word}
-use Rattle.papaya_deeds.specs.Given.Tables.declared.node.Node.{Node}
-use Rattle.papaya_deeds.specs.Given.Schedules.Handing.{asks_for_bucket}
+use Rattle.papaya_deeds.specs.Given.SeizeWordsMem.{Can, Took, value_at}
+use Rattle.papaya_deeds.specs.Given.SeizeWordsPlan.{May}
+use Rattle.papaya_deeds.proofs.Given.SeizeWordsPlaces.Words.{capacity-one_to_one}
+use Rattle.seize_acts.specs.Given.SeizeRegister.{register_plan}
+use Rattle.seize_acts.specs.Given.SeizeWorld.{Row}
+use Rattle.seize_acts.specs.Given.SeizeDeclared.rows.register.Register.{Register}
+use Rattle.seize_acts.specs.Given.SeizeDeclared.rows.register.Registering.{Registering}
+use Rattle.seize_acts.specs.Given.SeizeDeclared.rows.register.Registering.TheVariants as registering
+use Rattle.seize_acts.specs.Given.SeizeDeclared.states.TheConstants.{LAST_SLOT}
+use Rattle.seize_acts.proofs.Given.SeizeMovesState.Ghost.{State as Ghost}
+use Rattle.seize_acts.proofs.Given.SeizeRuleRows.Known.{FitsRegister, FitsRow}
+use Rattle.seize_acts.proofs.Given.SeizeRuleWords.Shows.{Extra}
+use Rattle.seize_acts.proofs.Given.SeizeRuleWords.View.{view}
+use Rattle.seize_acts.proofs.Given.SeizeRuleWorld.Good.{Good}
+use Rattle.papaya_deeds.specs.Given.TablesNodes.{deferred_word}
+use Rattle.papaya_deeds.specs.Given.TablesDeclared.node.Node.{Node}
+use Rattle.papaya_deeds.specs.Given.SchedulesHanding.{asks_for_bucket}
 use Rattle.papaya_grouped.specs.Given.EffectsEffects.{effects_of}
 use Rattle.papaya_grouped.specs.Given.EffectsDeclared.acting.Acting.TheVariants as acts
 use Rattle.papaya_swept.specs.Given.RemainsSlots.{SlotsNoted}

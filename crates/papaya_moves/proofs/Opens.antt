@@ -2,15 +2,15 @@
 use Rattle.std.specs.Prelude.{◌≡◌, ℕ, Bool, Option, Some, None}
 use Rattle.std.proofs.Common.{refl, ap, sym, subst, ◌∙◌}
 use Rattle.seize_acts.proofs.Answers.{same_some}
-use Rattle.seize_acts.specs.Given.Seize.World.{World, with_at}
-use Rattle.seize_acts.specs.Given.Seize.declared.progress.Progress.{Progress}
-use Rattle.seize_acts.specs.Given.Seize.declared.progress.Progress.TheVariants as progress
-use Rattle.seize_acts.specs.Given.Seize.declared.rows.settle.Settled.{Settled}
-use Rattle.seize_acts.specs.Given.Seize.declared.rows.settle.Settled.TheVariants as settled
-use Rattle.papaya_deeds.specs.Given.Tables.declared.node.Node.{Node}
-use Rattle.papaya_deeds.specs.Given.Tables.declared.setting.Setting.{Setting}
-use Rattle.papaya_deeds.specs.Given.Raw.declared.machines.end_map.EndMap.{EndMap}
-use Rattle.papaya_deeds.specs.Given.Resize.declared.new_map.NewMap.{NewMap}
+use Rattle.seize_acts.specs.Given.SeizeWorld.{World, with_at}
+use Rattle.seize_acts.specs.Given.SeizeDeclared.progress.Progress.{Progress}
+use Rattle.seize_acts.specs.Given.SeizeDeclared.progress.Progress.TheVariants as progress
+use Rattle.seize_acts.specs.Given.SeizeDeclared.rows.settle.Settled.{Settled}
+use Rattle.seize_acts.specs.Given.SeizeDeclared.rows.settle.Settled.TheVariants as settled
+use Rattle.papaya_deeds.specs.Given.TablesDeclared.node.Node.{Node}
+use Rattle.papaya_deeds.specs.Given.TablesDeclared.setting.Setting.{Setting}
+use Rattle.papaya_deeds.specs.Given.RawDeclared.machines.end_map.EndMap.{EndMap}
+use Rattle.papaya_deeds.specs.Given.ResizeDeclared.new_map.NewMap.{NewMap}
 use Rattle.papaya_grouped.specs.Given.TellerDeclared.changed.Changed.TheVariants.{Nothing as NoChange}
 use Rattle.papaya_grouped.specs.Given.FinishesEndings.{Finishing}
 use Rattle.papaya_grouped.specs.Given.FinishesFactsEnds.{Deed}

@@ -2,15 +2,15 @@
 use Rattle.std.specs.Prelude.{◌≡◌, ℕ, Bool, true, false, List, ◌∷◌, None, if◌then◌else◌, is_ok}
 use Rattle.std.proofs.Common.{ap, sym, subst, ◌∙◌}
 use Rattle.seize_acts.specs.Answers.{Grant}
-use Rattle.seize_acts.specs.Given.Seize.World.{Row}
-use Rattle.seize_acts.specs.Given.Seize.declared.rows.settle.Settled.{Settled}
-use Rattle.papaya_deeds.specs.Given.Tables.declared.node.Node.{Node}
-use Rattle.papaya_deeds.specs.Given.Raw.Machine.{machine_asked, machine_replied}
-use Rattle.papaya_deeds.specs.Given.Schedules.After.{AtEachEvent}
-use Rattle.papaya_deeds.specs.Given.Schedules.Effects.{AtEachEffect}
-use Rattle.papaya_deeds.specs.Given.Schedules.Terms.{Terms}
-use Rattle.papaya_deeds.specs.Given.Schedules.declared.effect.Effect.{Effect}
-use Rattle.papaya_deeds.specs.Given.Schedules.declared.outcome.Outcome.{Outcome}
+use Rattle.seize_acts.specs.Given.SeizeWorld.{Row}
+use Rattle.seize_acts.specs.Given.SeizeDeclared.rows.settle.Settled.{Settled}
+use Rattle.papaya_deeds.specs.Given.TablesDeclared.node.Node.{Node}
+use Rattle.papaya_deeds.specs.Given.RawMachine.{machine_asked, machine_replied}
+use Rattle.papaya_deeds.specs.Given.SchedulesAfter.{AtEachEvent}
+use Rattle.papaya_deeds.specs.Given.SchedulesEffects.{AtEachEffect}
+use Rattle.papaya_deeds.specs.Given.SchedulesTerms.{Terms}
+use Rattle.papaya_deeds.specs.Given.SchedulesDeclared.effect.Effect.{Effect}
+use Rattle.papaya_deeds.specs.Given.SchedulesDeclared.outcome.Outcome.{Outcome}
 use Rattle.papaya_grouped.specs.Given.TellerDeclared.changed.Changed.{Changed}
 use Rattle.papaya_grouped.specs.Given.TellerDeclared.changed.Changed.TheVariants.{Nothing as NoChange}
 use Rattle.papaya_grouped.specs.Given.EffectsEffects.{effects_of}

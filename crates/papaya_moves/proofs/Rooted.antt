@@ -1,22 +1,22 @@
 -- How a step of the making of a map leaves its root: one that has it gives it up where it frees it alone; one that is refused has none then; and one that is done has it.
 use Rattle.std.specs.Prelude.{◌==◌, ◌-◌, nat_lt, Ok, Err, if◌then◌else◌}
 use Rattle.std.proofs.Common.{◌≡◌, ◌+◌, Bool, true, false, refl, ap, sym, subst}
-use Rattle.papaya_deeds.specs.Given.SeizeWords.Mem.{Mem, value_at}
-use Rattle.papaya_deeds.specs.Given.SeizeWords.Op.{Out, Exchanged, Made}
-use Rattle.papaya_deeds.specs.Given.SeizeWords.Plan.{Ends as EndsSo}
-use Rattle.papaya_deeds.specs.Given.SeizeWords.declared.fault.Fault.{Fault}
-use Rattle.papaya_deeds.specs.Given.SeizeWords.declared.fault.Fault.TheVariants.{Memory, RootsUsedUp}
-use Rattle.seize_acts.specs.Given.Seize.declared.progress.Progress.{Progress}
-use Rattle.seize_acts.specs.Given.Seize.declared.progress.Progress.TheVariants as progress
-use Rattle.papaya_deeds.specs.Given.Tables.declared.node.Node.{Node}
-use Rattle.papaya_deeds.specs.Given.Tables.declared.setting.Setting.{Setting}
-use Rattle.papaya_deeds.specs.Given.Tables.declared.table.Table.{Table}
-use Rattle.papaya_deeds.specs.Given.Resize.NewMap.{at_root, done, goes, made, opened, plan_at, refused, taken}
-use Rattle.papaya_deeds.specs.Given.Resize.NewTable.{first_table, new_table_plan}
-use Rattle.papaya_deeds.specs.Given.Resize.declared.new_map.NewMap.{NewMap}
-use Rattle.papaya_deeds.specs.Given.Resize.declared.new_map.Opening.{Opening}
-use Rattle.papaya_deeds.specs.Given.Resize.declared.new_map.Opening.TheVariants as openings
-use Rattle.papaya_deeds.specs.Given.Resize.declared.new_table.NewTable.{NewTable}
+use Rattle.papaya_deeds.specs.Given.SeizeWordsMem.{Mem, value_at}
+use Rattle.papaya_deeds.specs.Given.SeizeWordsOp.{Out, Exchanged, Made}
+use Rattle.papaya_deeds.specs.Given.SeizeWordsPlan.{Ends as EndsSo}
+use Rattle.papaya_deeds.specs.Given.SeizeWordsDeclared.fault.Fault.{Fault}
+use Rattle.papaya_deeds.specs.Given.SeizeWordsDeclared.fault.Fault.TheVariants.{Memory, RootsUsedUp}
+use Rattle.seize_acts.specs.Given.SeizeDeclared.progress.Progress.{Progress}
+use Rattle.seize_acts.specs.Given.SeizeDeclared.progress.Progress.TheVariants as progress
+use Rattle.papaya_deeds.specs.Given.TablesDeclared.node.Node.{Node}
+use Rattle.papaya_deeds.specs.Given.TablesDeclared.setting.Setting.{Setting}
+use Rattle.papaya_deeds.specs.Given.TablesDeclared.table.Table.{Table}
+use Rattle.papaya_deeds.specs.Given.ResizeNewMap.{at_root, done, goes, made, opened, plan_at, refused, taken}
+use Rattle.papaya_deeds.specs.Given.ResizeNewTable.{first_table, new_table_plan}
+use Rattle.papaya_deeds.specs.Given.ResizeDeclared.new_map.NewMap.{NewMap}
+use Rattle.papaya_deeds.specs.Given.ResizeDeclared.new_map.Opening.{Opening}
+use Rattle.papaya_deeds.specs.Given.ResizeDeclared.new_map.Opening.TheVariants as openings
+use Rattle.papaya_deeds.specs.Given.ResizeDeclared.new_table.NewTable.{NewTable}
 use Rattle.papaya_grouped.specs.Given.TellerTells.{StepsTold}
 use Rattle.papaya_grouped.specs.Given.TellerDeclared.changed.Changed.{Changed}
 use Rattle.papaya_grouped.specs.Given.TellerDeclared.changed.Changed.TheVariants as changed

@@ -3,23 +3,23 @@ use Rattle.std.specs.Prelude.{◌≡◌, ◌||◌, ℕ, Bool, true, false, List,
 use Rattle.std.specs.List.{list_all, list_any}
 use Rattle.std.proofs.Common.{refl, ap, sym, subst}
 use Rattle.std.proofs.lemmas.Bool.{and_parts}
-use Rattle.seize_acts.specs.Given.Seize.declared.rows.leave.Leave.{Leave}
-use Rattle.seize_acts.specs.Given.Seize.declared.rows.leave.Leaving.{Leaving}
-use Rattle.seize_acts.specs.Given.Seize.declared.rows.leave.Leaving.TheVariants as leaving
-use Rattle.seize_acts.specs.Given.Seize.declared.rows.register.Register.{Register}
-use Rattle.seize_acts.specs.Given.Seize.declared.rows.register.Registering.{Registering}
-use Rattle.seize_acts.specs.Given.Seize.declared.rows.register.Registering.TheVariants as registering
-use Rattle.papaya_deeds.specs.Given.Tables.declared.node.Node.{Node}
-use Rattle.papaya_deeds.specs.Given.Schedules.declared.effect.Effect.{Effect}
-use Rattle.papaya_deeds.specs.Given.Schedules.declared.effect.Effect.TheVariants.{Asked}
-use Rattle.papaya_deeds.specs.Given.Schedules.declared.effect.Growth.TheVariants.{ABucket}
-use Rattle.papaya_deeds.specs.Given.Schedules.declared.outcome.Outcome.{Outcome}
-use Rattle.papaya_deeds.specs.Given.Schedules.Effects.{AtEachEffect, with_effect}
-use Rattle.papaya_deeds.specs.Given.Schedules.Handing.{asks_for_bucket, is_reclaiming}
-use Rattle.papaya_deeds.specs.Given.Schedules.Lives.{Finds}
-use Rattle.papaya_deeds.specs.Given.Schedules.Moment.{Moment}
-use Rattle.papaya_deeds.specs.Given.Schedules.Terms.{Terms}
-use Rattle.papaya_deeds.specs.Given.Schedules.Transition.{Transition}
+use Rattle.seize_acts.specs.Given.SeizeDeclared.rows.leave.Leave.{Leave}
+use Rattle.seize_acts.specs.Given.SeizeDeclared.rows.leave.Leaving.{Leaving}
+use Rattle.seize_acts.specs.Given.SeizeDeclared.rows.leave.Leaving.TheVariants as leaving
+use Rattle.seize_acts.specs.Given.SeizeDeclared.rows.register.Register.{Register}
+use Rattle.seize_acts.specs.Given.SeizeDeclared.rows.register.Registering.{Registering}
+use Rattle.seize_acts.specs.Given.SeizeDeclared.rows.register.Registering.TheVariants as registering
+use Rattle.papaya_deeds.specs.Given.TablesDeclared.node.Node.{Node}
+use Rattle.papaya_deeds.specs.Given.SchedulesDeclared.effect.Effect.{Effect}
+use Rattle.papaya_deeds.specs.Given.SchedulesDeclared.effect.Effect.TheVariants.{Asked}
+use Rattle.papaya_deeds.specs.Given.SchedulesDeclared.effect.Growth.TheVariants.{ABucket}
+use Rattle.papaya_deeds.specs.Given.SchedulesDeclared.outcome.Outcome.{Outcome}
+use Rattle.papaya_deeds.specs.Given.SchedulesEffects.{AtEachEffect, with_effect}
+use Rattle.papaya_deeds.specs.Given.SchedulesHanding.{asks_for_bucket, is_reclaiming}
+use Rattle.papaya_deeds.specs.Given.SchedulesLives.{Finds}
+use Rattle.papaya_deeds.specs.Given.SchedulesMoment.{Moment}
+use Rattle.papaya_deeds.specs.Given.SchedulesTerms.{Terms}
+use Rattle.papaya_deeds.specs.Given.SchedulesTransition.{Transition}
 use Rattle.papaya_grouped.specs.Given.TellerDeclared.changed.Changed.TheVariants as changed
 use Rattle.papaya_grouped.specs.Given.EffectsEffects.{effects_of}
 use Rattle.papaya_grouped.specs.Given.EffectsDeclared.acting.Acting.TheVariants as acts

@@ -2,32 +2,32 @@
 use Rattle.std.specs.Prelude.{◌≡◌, ◌==◌, ℕ, true, false, List, [], if◌then◌else◌}
 use Rattle.std.specs.List.{list_all}
 use Rattle.std.proofs.Common.{refl, ap, sym, subst, ◌∙◌}
-use Rattle.papaya_deeds.specs.Given.SeizeWords.declared.at.At.TheVariants.{Slot}
-use Rattle.papaya_deeds.specs.Given.SeizeWords.Mem.{Mem}
-use Rattle.papaya_deeds.specs.Given.SeizeWords.Op.{Out, Swap, Found}
-use Rattle.seize_acts.specs.Given.Seize.Leave as leave
-use Rattle.seize_acts.specs.Given.Seize.Register as register
-use Rattle.seize_acts.specs.Given.Seize.Settle as settle
-use Rattle.seize_acts.specs.Given.Seize.declared.progress.Progress.{Progress}
-use Rattle.seize_acts.specs.Given.Seize.declared.rows.leave.Leave.{Leave}
-use Rattle.seize_acts.specs.Given.Seize.declared.rows.leave.Leaving.{Leaving}
-use Rattle.seize_acts.specs.Given.Seize.declared.rows.leave.Leaving.TheVariants as leaving
-use Rattle.seize_acts.specs.Given.Seize.declared.rows.register.Register.{Register}
-use Rattle.seize_acts.specs.Given.Seize.declared.rows.register.Registering.{Registering}
-use Rattle.seize_acts.specs.Given.Seize.declared.rows.register.Registering.TheVariants as registering
-use Rattle.seize_acts.specs.Given.Seize.declared.rows.settle.Settle.{Settle}
-use Rattle.seize_acts.specs.Given.Seize.declared.rows.settle.Settled.{Settled}
-use Rattle.seize_acts.specs.Given.Seize.declared.rows.settle.Settling.{Settling}
-use Rattle.seize_acts.specs.Given.Seize.declared.rows.settle.Settling.TheVariants as settling
-use Rattle.seize_acts.specs.Given.Seize.declared.states.TheConstants.{ACTIVE}
-use Rattle.papaya_deeds.specs.Given.Tables.Nodes.{deferred_word}
-use Rattle.papaya_deeds.specs.Given.Tables.declared.node.Node.{Node}
+use Rattle.papaya_deeds.specs.Given.SeizeWordsDeclared.at.At.TheVariants.{Slot}
+use Rattle.papaya_deeds.specs.Given.SeizeWordsMem.{Mem}
+use Rattle.papaya_deeds.specs.Given.SeizeWordsOp.{Out, Swap, Found}
+use Rattle.seize_acts.specs.Given.SeizeLeave as leave
+use Rattle.seize_acts.specs.Given.SeizeRegister as register
+use Rattle.seize_acts.specs.Given.SeizeSettle as settle
+use Rattle.seize_acts.specs.Given.SeizeDeclared.progress.Progress.{Progress}
+use Rattle.seize_acts.specs.Given.SeizeDeclared.rows.leave.Leave.{Leave}
+use Rattle.seize_acts.specs.Given.SeizeDeclared.rows.leave.Leaving.{Leaving}
+use Rattle.seize_acts.specs.Given.SeizeDeclared.rows.leave.Leaving.TheVariants as leaving
+use Rattle.seize_acts.specs.Given.SeizeDeclared.rows.register.Register.{Register}
+use Rattle.seize_acts.specs.Given.SeizeDeclared.rows.register.Registering.{Registering}
+use Rattle.seize_acts.specs.Given.SeizeDeclared.rows.register.Registering.TheVariants as registering
+use Rattle.seize_acts.specs.Given.SeizeDeclared.rows.settle.Settle.{Settle}
+use Rattle.seize_acts.specs.Given.SeizeDeclared.rows.settle.Settled.{Settled}
+use Rattle.seize_acts.specs.Given.SeizeDeclared.rows.settle.Settling.{Settling}
+use Rattle.seize_acts.specs.Given.SeizeDeclared.rows.settle.Settling.TheVariants as settling
+use Rattle.seize_acts.specs.Given.SeizeDeclared.states.TheConstants.{ACTIVE}
+use Rattle.papaya_deeds.specs.Given.TablesNodes.{deferred_word}
+use Rattle.papaya_deeds.specs.Given.TablesDeclared.node.Node.{Node}
 use Rattle.papaya_grouped.specs.Given.TellsSeen.{seen_of}
 use Rattle.papaya_grouped.specs.Given.TellerTells.{StepsTold, told_of}
 use Rattle.papaya_grouped.specs.Given.TellerDeclared.changed.Changed.{Changed}
 use Rattle.papaya_grouped.specs.Given.TellerDeclared.changed.Changed.TheVariants as changed
-use Rattle.papaya_deeds.specs.Given.Schedules.declared.effect.Effect.{Effect}
-use Rattle.papaya_deeds.specs.Given.Schedules.Handing.{asks_for_bucket, is_reclaiming}
+use Rattle.papaya_deeds.specs.Given.SchedulesDeclared.effect.Effect.{Effect}
+use Rattle.papaya_deeds.specs.Given.SchedulesHanding.{asks_for_bucket, is_reclaiming}
 use Rattle.papaya_grouped.specs.Given.EffectsEffects.{effects_of}
 use Rattle.papaya_grouped.specs.Given.EffectsKnown.{Known}
 use Rattle.papaya_grouped.specs.Given.EffectsDeclared.acting.Acting.TheVariants as acts

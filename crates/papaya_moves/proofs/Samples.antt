@@ -2,8 +2,8 @@
 mod Own
 use Rattle.std.specs.Prelude.{◌≡◌, ℕ}
 use Rattle.std.proofs.Common.{refl, arith}
-use Rattle.papaya_deeds.specs.Given.Tables.declared.resize_mode.ResizeMode.{ResizeMode}
-use Rattle.papaya_deeds.specs.Given.Tables.declared.resize_mode.ResizeMode.TheVariants.{Blocking, Incremental}
+use Rattle.papaya_deeds.specs.Given.TablesDeclared.resize_mode.ResizeMode.{ResizeMode}
+use Rattle.papaya_deeds.specs.Given.TablesDeclared.resize_mode.ResizeMode.TheVariants.{Blocking, Incremental}
 use Rattle.papaya_grouped.specs.Given.ActsActs.{Act, BeginsMaking}
 use Rattle.papaya_grouped.specs.Given.AgreesPlaces.{AsksPlaces}
 

@@ -3,15 +3,15 @@
 use Rattle.std.specs.Prelude.{◌≡◌, ℕ, max, Bool, true, false, Option, Some, None}
 use Rattle.std.proofs.Common.{refl, ap, sym, subst, ◌∙◌}
 use Rattle.seize_acts.proofs.Answers.{same_some}
-use Rattle.seize_acts.specs.Given.Seize.World.{IsInside}
-use Rattle.seize_acts.specs.Given.Seize.declared.rows.reclaim_all.ReclaimAll.{ReclaimAll}
-use Rattle.papaya_deeds.specs.Given.Tables.Lengths.{entries_of}
-use Rattle.papaya_deeds.specs.Given.Resize.declared.new_map.NewMap.{NewMap}
-use Rattle.papaya_deeds.specs.Given.Runs.Runs.{map_fault}
-use Rattle.papaya_deeds.specs.Given.Schedules.Growing.{Has}
-use Rattle.papaya_deeds.specs.Given.Schedules.Moment.{MapThere}
-use Rattle.papaya_deeds.specs.Given.Schedules.Terms.{Terms, shards_of}
-use Rattle.papaya_deeds.specs.Given.Schedules.Views.{capacity_or, map_at}
+use Rattle.seize_acts.specs.Given.SeizeWorld.{IsInside}
+use Rattle.seize_acts.specs.Given.SeizeDeclared.rows.reclaim_all.ReclaimAll.{ReclaimAll}
+use Rattle.papaya_deeds.specs.Given.TablesLengths.{entries_of}
+use Rattle.papaya_deeds.specs.Given.ResizeDeclared.new_map.NewMap.{NewMap}
+use Rattle.papaya_deeds.specs.Given.RunsRuns.{map_fault}
+use Rattle.papaya_deeds.specs.Given.SchedulesGrowing.{Has}
+use Rattle.papaya_deeds.specs.Given.SchedulesMoment.{MapThere}
+use Rattle.papaya_deeds.specs.Given.SchedulesTerms.{Terms, shards_of}
+use Rattle.papaya_deeds.specs.Given.SchedulesViews.{capacity_or, map_at}
 use Rattle.papaya_grouped.specs.Given.TellerDeclared.changed.Changed.TheVariants.{Nothing as NoChange}
 use Rattle.papaya_grouped.specs.Given.CallersTogether.{Counting, ForRoom, OnKey, OverAll, UnderWay, UnlessCounts}
 use Rattle.papaya_grouped.specs.Given.FinishesMakings.{Beginning}

@@ -1,8 +1,8 @@
 -- That a log that is by acts is the grouping of a history that keeps all that is promised of histories.
 use Rattle.std.specs.Prelude.{ℕ, Bool, List}
-use Rattle.papaya_deeds.specs.Given.Schedules.After.{AtEachEvent}
-use Rattle.papaya_deeds.specs.Given.Schedules.Entry.{Entry}
-use Rattle.papaya_deeds.specs.Given.Schedules.Terms.{Terms}
+use Rattle.papaya_deeds.specs.Given.SchedulesAfter.{AtEachEvent}
+use Rattle.papaya_deeds.specs.Given.SchedulesEntry.{Entry}
+use Rattle.papaya_deeds.specs.Given.SchedulesTerms.{Terms}
 use Rattle.papaya_grouped.specs.Given.PointsSteps.{AreLawful}
 use Rattle.papaya_grouped.specs.ByActs.{IsByActs}
 use Rattle.papaya_moves.specs.Legal.{KeepsAll}

@@ -1,8 +1,8 @@
 -- That each entry of the history of each list of acts moves on.
 use Rattle.std.specs.Prelude.{◌≡◌, ◌<◌, ◌^◌, ℕ, Bool, List, Some}
 use Rattle.std.specs.List.{AllByRecursion}
-use Rattle.papaya_deeds.specs.Given.Schedules.After.{AtEachEvent}
-use Rattle.papaya_deeds.specs.Given.Schedules.Terms.{Terms, shards_of}
+use Rattle.papaya_deeds.specs.Given.SchedulesAfter.{AtEachEvent}
+use Rattle.papaya_deeds.specs.Given.SchedulesTerms.{Terms, shards_of}
 use Rattle.papaya_grouped.specs.Given.ScenesScene.{slot_of}
 use Rattle.papaya_grouped.specs.Given.ActsDoings.{Doing}
 use Rattle.papaya_grouped.specs.Given.ActsLists.{Course, LedTo, Reached}

@@ -1,9 +1,9 @@
 -- How all stays in order from entry to entry of a history.
 use Rattle.std.specs.Prelude.{◌≡◌, ℕ, List, ◌∷◌, Some}
 use Rattle.std.specs.List.{AllByRecursion}
-use Rattle.papaya_deeds.specs.Given.Schedules.After.{AtEachEvent}
-use Rattle.papaya_deeds.specs.Given.Schedules.Moment.{Moment, UnderWay as CallThere}
-use Rattle.papaya_deeds.specs.Given.Schedules.Terms.{Terms}
+use Rattle.papaya_deeds.specs.Given.SchedulesAfter.{AtEachEvent}
+use Rattle.papaya_deeds.specs.Given.SchedulesMoment.{Moment, UnderWay as CallThere}
+use Rattle.papaya_deeds.specs.Given.SchedulesTerms.{Terms}
 use Rattle.papaya_grouped.specs.Given.CallersTogether.{UnderWay}
 use Rattle.papaya_grouped.specs.Given.FinishesMachines.{machine_of}
 use Rattle.papaya_grouped.specs.Given.FinishesMakings.{Beginning}

@@ -1,7 +1,7 @@
 -- Whose call each entry of a history is of: one begins where its caller has none under way, and each step, reply and end is of one that its caller has.
 use Rattle.std.specs.Prelude.{◌≡◌, ℕ, Bool, true, false, List}
 use Rattle.std.specs.List.{list_any}
-use Rattle.papaya_deeds.specs.Given.Runs.Same.{is_same}
+use Rattle.papaya_deeds.specs.Given.RunsSame.{is_same}
 use Rattle.papaya_deeds.specs.Deeds.{Begins, Deed, Entry, Replies, Steps, Stops, moment, named}
 
 module _ {K V : Type 0} where

@@ -1,9 +1,9 @@
 -- What is promised of an entry of a history beside what its effects find: it does what is its own, and all of that.
 use Rattle.std.specs.Prelude.{◌≡◌, true, false, List}
 use Rattle.std.specs.List.{list_all}
-use Rattle.papaya_deeds.specs.Given.Schedules.Entry.{IfCall}
-use Rattle.papaya_deeds.specs.Given.Schedules.Handing.{LeavesOf, comes_clear, is_granted}
-use Rattle.papaya_deeds.specs.Given.Schedules.Transition.{call_left, worked_by}
+use Rattle.papaya_deeds.specs.Given.SchedulesEntry.{IfCall}
+use Rattle.papaya_deeds.specs.Given.SchedulesHanding.{LeavesOf, comes_clear, is_granted}
+use Rattle.papaya_deeds.specs.Given.SchedulesTransition.{call_left, worked_by}
 use Rattle.papaya_deeds.specs.Deeds.{Entry}
 use Rattle.papaya_deeds.specs.History.{IsWhole, Refuses, may_do, transition}
 

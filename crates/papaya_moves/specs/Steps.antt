@@ -1,14 +1,14 @@
 -- What the moment of a history shows of calls, in the scene to which a list of acts has led, by which the effects of their next steps find what they must.
 use Rattle.std.specs.Prelude.{◌≡◌, ℕ, Bool, List, [], ◌∷◌, Some}
-use Rattle.papaya_deeds.specs.Given.Tables.Lengths.{entries_of}
-use Rattle.papaya_deeds.specs.Given.Schedules.After.{AtEachEvent}
-use Rattle.papaya_deeds.specs.Given.Schedules.Effects.{AtEachEffect}
-use Rattle.papaya_deeds.specs.Given.Schedules.Growing.{Has}
-use Rattle.papaya_deeds.specs.Given.Schedules.Moment.{MapThere, Moment}
-use Rattle.papaya_deeds.specs.Given.Schedules.Terms.{Terms, shards_of}
-use Rattle.papaya_deeds.specs.Given.Schedules.Transition.{Past}
-use Rattle.papaya_deeds.specs.Given.Schedules.Views.{map_at}
-use Rattle.papaya_deeds.specs.Given.Runs.Present.{guard_of}
+use Rattle.papaya_deeds.specs.Given.TablesLengths.{entries_of}
+use Rattle.papaya_deeds.specs.Given.SchedulesAfter.{AtEachEvent}
+use Rattle.papaya_deeds.specs.Given.SchedulesEffects.{AtEachEffect}
+use Rattle.papaya_deeds.specs.Given.SchedulesGrowing.{Has}
+use Rattle.papaya_deeds.specs.Given.SchedulesMoment.{MapThere, Moment}
+use Rattle.papaya_deeds.specs.Given.SchedulesTerms.{Terms, shards_of}
+use Rattle.papaya_deeds.specs.Given.SchedulesTransition.{Past}
+use Rattle.papaya_deeds.specs.Given.SchedulesViews.{map_at}
+use Rattle.papaya_deeds.specs.Given.RunsPresent.{guard_of}
 use Rattle.papaya_grouped.specs.Given.CallersTogether.{UnderWay, UnlessCounts}
 use Rattle.papaya_grouped.specs.Given.EffectsKnown.{Known}
 use Rattle.papaya_grouped.specs.Given.FinishesMakings.{Beginning}

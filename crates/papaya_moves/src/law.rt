@@ -1,6 +1,6 @@
 //! What is promised of the histories of lists of acts.
 ghost use Rattle.std.specs.Prelude.{ℕ, Bool};
-ghost use Rattle.papaya_deeds.specs.Given.Schedules.Terms.{Terms};
+ghost use Rattle.papaya_deeds.specs.Given.SchedulesTerms.{Terms};
 ghost use Rattle.papaya_moves.specs.Legal.{ListsKeepAll};
 ghost use Rattle.papaya_moves.specs.Logs.{LogsKeepAll};
 ghost use Rattle.papaya_moves.specs.Moves.{ListsMoveOn};

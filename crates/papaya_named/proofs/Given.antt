@@ -83,7 +83,7 @@ pub use Rattle.papaya_hands.proofs.Given.RuleLaws
 pub use Rattle.papaya_hands.proofs.Given.RuleMoves
 pub use Rattle.papaya_hands.proofs.Given.RuleWords
 pub use Rattle.papaya_hands.proofs.Given.RuleWorld
-pub use Rattle.papaya_present.proofs.Given.SeizeWords.OneOwner as SeizeWordsOneOwner
+pub use Rattle.papaya_present.proofs.Given.SeizeWordsOneOwner as SeizeWordsOneOwner
 pub use Rattle.papaya_hands.proofs.Given.SeizeWaitingCounts
 pub use Rattle.papaya_hands.proofs.Given.SeizeMovesMoves
 pub use Rattle.papaya_hands.proofs.Given.SeizeMovesSets
@@ -102,7 +102,7 @@ pub use Rattle.papaya_hands.proofs.Given.PointsMovedLasts
 pub use Rattle.papaya_hands.proofs.Given.PointsSteps
 pub use Rattle.papaya_hands.proofs.Given.TellsPromised
 pub use Rattle.papaya_hands.proofs.Given.FinishesEnds
-pub use Rattle.papaya_present.proofs.Given.Runs.Pairs as RunsPairs
+pub use Rattle.papaya_present.proofs.Given.RunsPairs as RunsPairs
 pub use Rattle.papaya_hands.proofs.Given.ScenesBetween
 pub use Rattle.papaya_hands.proofs.Given.ScenesGoes
 pub use Rattle.papaya_hands.proofs.Given.ScenesLeads

@@ -2,26 +2,26 @@
 pub use Rattle.papaya_hands.specs.Given.EffectsEffects
 pub use Rattle.papaya_hands.specs.Given.EffectsKnown
 pub use Rattle.papaya_hands.specs.Given.EffectsDeclared
-pub use Rattle.papaya_present.specs.Given.Seize.Defer as SeizeDefer
-pub use Rattle.papaya_present.specs.Given.Seize.Enter as SeizeEnter
-pub use Rattle.papaya_present.specs.Given.Seize.Further as SeizeFurther
-pub use Rattle.papaya_present.specs.Given.Seize.Law as SeizeLaw
-pub use Rattle.papaya_present.specs.Given.Seize.Leave as SeizeLeave
-pub use Rattle.papaya_present.specs.Given.Seize.Register as SeizeRegister
-pub use Rattle.papaya_present.specs.Given.Seize.Sequence as SeizeSequence
-pub use Rattle.papaya_present.specs.Given.Seize.Settle as SeizeSettle
-pub use Rattle.papaya_present.specs.Given.Seize.WaitingSets as SeizeWaitingSets
-pub use Rattle.papaya_present.specs.Given.Seize.World as SeizeWorld
-pub use Rattle.papaya_present.specs.Given.Seize.declared as SeizeDeclared
-pub use Rattle.papaya_present.specs.Given.Tables.Chunks as TablesChunks
-pub use Rattle.papaya_present.specs.Given.Tables.Counts as TablesCounts
-pub use Rattle.papaya_present.specs.Given.Tables.Finding as TablesFinding
-pub use Rattle.papaya_present.specs.Given.Tables.Marks as TablesMarks
-pub use Rattle.papaya_present.specs.Given.Tables.Nodes as TablesNodes
-pub use Rattle.papaya_present.specs.Given.Tables.Powers as TablesPowers
-pub use Rattle.papaya_present.specs.Given.Tables.TablePlaces as TablesTablePlaces
-pub use Rattle.papaya_present.specs.Given.Tables.Trials as TablesTrials
-pub use Rattle.papaya_present.specs.Given.Tables.declared as TablesDeclared
+pub use Rattle.papaya_present.specs.Given.SeizeDefer as SeizeDefer
+pub use Rattle.papaya_present.specs.Given.SeizeEnter as SeizeEnter
+pub use Rattle.papaya_present.specs.Given.SeizeFurther as SeizeFurther
+pub use Rattle.papaya_present.specs.Given.SeizeLaw as SeizeLaw
+pub use Rattle.papaya_present.specs.Given.SeizeLeave as SeizeLeave
+pub use Rattle.papaya_present.specs.Given.SeizeRegister as SeizeRegister
+pub use Rattle.papaya_present.specs.Given.SeizeSequence as SeizeSequence
+pub use Rattle.papaya_present.specs.Given.SeizeSettle as SeizeSettle
+pub use Rattle.papaya_present.specs.Given.SeizeWaitingSets as SeizeWaitingSets
+pub use Rattle.papaya_present.specs.Given.SeizeWorld as SeizeWorld
+pub use Rattle.papaya_present.specs.Given.SeizeDeclared as SeizeDeclared
+pub use Rattle.papaya_present.specs.Given.TablesChunks as TablesChunks
+pub use Rattle.papaya_present.specs.Given.TablesCounts as TablesCounts
+pub use Rattle.papaya_present.specs.Given.TablesFinding as TablesFinding
+pub use Rattle.papaya_present.specs.Given.TablesMarks as TablesMarks
+pub use Rattle.papaya_present.specs.Given.TablesNodes as TablesNodes
+pub use Rattle.papaya_present.specs.Given.TablesPowers as TablesPowers
+pub use Rattle.papaya_present.specs.Given.TablesTablePlaces as TablesTablePlaces
+pub use Rattle.papaya_present.specs.Given.TablesTrials as TablesTrials
+pub use Rattle.papaya_present.specs.Given.TablesDeclared as TablesDeclared
 pub use Rattle.papaya_hands.specs.Given.SchedulesAfter
 pub use Rattle.papaya_hands.specs.Given.SchedulesBeginning
 pub use Rattle.papaya_hands.specs.Given.SchedulesComing
@@ -88,13 +88,13 @@ pub use Rattle.papaya_hands.specs.Given.ScenesRows
 pub use Rattle.papaya_hands.specs.Given.ScenesScene
 pub use Rattle.papaya_hands.specs.Given.ScenesStepping
 pub use Rattle.papaya_hands.specs.Given.ScenesDeclared
-pub use Rattle.papaya_present.specs.Given.Runs.LifeCycle as RunsLifeCycle
-pub use Rattle.papaya_present.specs.Given.Runs.Log as RunsLog
-pub use Rattle.papaya_present.specs.Given.Runs.Pairs as RunsPairs
-pub use Rattle.papaya_present.specs.Given.Runs.Present as RunsPresent
-pub use Rattle.papaya_present.specs.Given.Runs.Runs as RunsRuns
-pub use Rattle.papaya_present.specs.Given.Runs.Same as RunsSame
-pub use Rattle.papaya_present.specs.Given.Runs.declared as RunsDeclared
+pub use Rattle.papaya_present.specs.Given.RunsLifeCycle as RunsLifeCycle
+pub use Rattle.papaya_present.specs.Given.RunsLog as RunsLog
+pub use Rattle.papaya_present.specs.Given.RunsPairs as RunsPairs
+pub use Rattle.papaya_present.specs.Given.RunsPresent as RunsPresent
+pub use Rattle.papaya_present.specs.Given.RunsRuns as RunsRuns
+pub use Rattle.papaya_present.specs.Given.RunsSame as RunsSame
+pub use Rattle.papaya_present.specs.Given.RunsDeclared as RunsDeclared
 pub use Rattle.papaya_hands.specs.Given.RawAnswers
 pub use Rattle.papaya_hands.specs.Given.RawCall
 pub use Rattle.papaya_hands.specs.Given.RawCallAsks
@@ -123,11 +123,11 @@ pub use Rattle.papaya_hands.specs.Shows as HandsShows
 pub use Rattle.papaya_hands.specs.Given.TellerChanged
 pub use Rattle.papaya_hands.specs.Given.TellerTells
 pub use Rattle.papaya_hands.specs.Given.TellerDeclared
-pub use Rattle.papaya_present.specs.Given.SeizeWords.Mem as SeizeWordsMem
-pub use Rattle.papaya_present.specs.Given.SeizeWords.Op as SeizeWordsOp
-pub use Rattle.papaya_present.specs.Given.SeizeWords.Plan as SeizeWordsPlan
-pub use Rattle.papaya_present.specs.Given.SeizeWords.Word as SeizeWordsWord
-pub use Rattle.papaya_present.specs.Given.SeizeWords.declared as SeizeWordsDeclared
+pub use Rattle.papaya_present.specs.Given.SeizeWordsMem as SeizeWordsMem
+pub use Rattle.papaya_present.specs.Given.SeizeWordsOp as SeizeWordsOp
+pub use Rattle.papaya_present.specs.Given.SeizeWordsPlan as SeizeWordsPlan
+pub use Rattle.papaya_present.specs.Given.SeizeWordsWord as SeizeWordsWord
+pub use Rattle.papaya_present.specs.Given.SeizeWordsDeclared as SeizeWordsDeclared
 pub use Rattle.papaya_hands.specs.Given.SeizeWaitingHeld
 pub use Rattle.papaya_hands.specs.Given.ResizeCopier
 pub use Rattle.papaya_hands.specs.Given.ResizeCopierFurther

@@ -1,6 +1,6 @@
 -- The machine of a call, what it is told, and that it is as far as is seen.
 use Rattle.std.specs.Prelude.{◌≡◌, ℕ, Option, Some, None}
-use Rattle.papaya_present.specs.Given.Tables.declared.setting.Setting.{Setting}
+use Rattle.papaya_present.specs.Given.TablesDeclared.setting.Setting.{Setting}
 use Rattle.papaya_hands.specs.Given.RawCallAsks.{computing, updating, updating_or_inserting, trying_to_insert_with, removing_if}
 use Rattle.papaya_hands.specs.Given.RawCallPoints.{getting, removing, inserting, trying_to_insert}
 use Rattle.papaya_hands.specs.Given.RawDeclared.machines.asking.Told.TheVariants.{Nothing, Value}

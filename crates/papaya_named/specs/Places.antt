@@ -1,8 +1,8 @@
 -- With how many places a map begins.
 use Rattle.std.specs.Prelude.{ℕ, ◌==◌, max, if◌then◌else◌}
 use Rattle.std.specs.Int.{IsPowerOfTwo}
-use Rattle.papaya_present.specs.Given.Tables.Lengths.{IsTableLen, places_for}
-use Rattle.papaya_present.specs.Given.Tables.Powers.{next_power}
+use Rattle.papaya_present.specs.Given.TablesLengths.{IsTableLen, places_for}
+use Rattle.papaya_present.specs.Given.TablesPowers.{next_power}
 
 -- a map can be made with so many places: 1 for none, and its first table has 8 at least
 abbrev pub IsFirstLen : ℕ → Type 0

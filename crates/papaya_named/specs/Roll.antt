@@ -4,7 +4,7 @@ use Rattle.papaya_present.specs.Counts.{count_in}
 use Rattle.papaya_present.specs.Crowd.{LeadsHome, StandsAt, kept, weigh}
 use Rattle.papaya_present.specs.declared.counts.Counts.{Counts}
 use Rattle.papaya_present.specs.declared.places.Places.{Places}
-use Rattle.papaya_present.specs.Given.Runs.Same.{is_same}
+use Rattle.papaya_present.specs.Given.RunsSame.{is_same}
 use Rattle.papaya_named.specs.Seen.{is_named}
 use Rattle.papaya_named.specs.declared.caller.Caller.{Caller}
 

@@ -1,9 +1,9 @@
 -- What is seen of calls and maps by name, in a moment of a run and in the scheduler.
 use Rattle.std.specs.Prelude.{◌≡◌, ℕ, Bool, true, false, not, ◌&&◌, List, find, position, Option, Some, None, option_map, slice_get, slice_index_or, if◌then◌else◌}
 use Rattle.std.specs.List.{list_any}
-use Rattle.papaya_present.specs.Given.Tables.declared.setting.Setting.{Setting}
-use Rattle.papaya_present.specs.Given.Runs.Present.{Present, guard_of, living_slot}
-use Rattle.papaya_present.specs.Given.Runs.Same.{is_same}
+use Rattle.papaya_present.specs.Given.TablesDeclared.setting.Setting.{Setting}
+use Rattle.papaya_present.specs.Given.RunsPresent.{Present, guard_of, living_slot}
+use Rattle.papaya_present.specs.Given.RunsSame.{is_same}
 use Rattle.papaya_hands.specs.Given.SchedulesDeclared.call.Call.{Call}
 use Rattle.papaya_hands.specs.Given.SchedulesDeclared.call.Call.TheVariants.{On, Reserve, Clear, Retain, Len, Walk}
 use Rattle.papaya_hands.specs.Given.SchedulesDeclared.call.OneKey.{OneKey}

@@ -1,8 +1,8 @@
 -- What a call is told to answer, by what its machine says.
 use Rattle.std.specs.Prelude.{ℕ, Bool, true, false, Option, Some, None}
-use Rattle.papaya_present.specs.Given.SeizeWords.Word.{block_in}
-use Rattle.papaya_present.specs.Given.Tables.declared.node.Node.{Node}
-use Rattle.papaya_present.specs.Given.Tables.declared.node.Node.TheVariants as node
+use Rattle.papaya_present.specs.Given.SeizeWordsWord.{block_in}
+use Rattle.papaya_present.specs.Given.TablesDeclared.node.Node.{Node}
+use Rattle.papaya_present.specs.Given.TablesDeclared.node.Node.TheVariants as node
 use Rattle.papaya_hands.specs.Given.RawDeclared.machines.answer.KeyAnswer.{KeyAnswer}
 use Rattle.papaya_hands.specs.Given.RawDeclared.machines.answer.KeyAnswer.TheVariants as says
 use Rattle.papaya_hands.specs.Given.RawDeclared.machines.progress.Answer.{Answer as Said}

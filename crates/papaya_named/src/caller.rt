@@ -5,8 +5,8 @@ ghost use Rattle.papaya_named.specs.Telling.{value_of};
 
 use crate::kind::Kind;
 use papaya_present::crowd::HasName;
-use papaya_present::papaya_runs::token::Token;
 use papaya_raw::Node;
+use papaya_runs::token::Token;
 use papaya_schedules::call::Reply;
 
 /// How far a call is.

@@ -1,7 +1,7 @@
 //! Callers by name, each with its call.
 ghost use Rattle.std.specs.Prelude.{◌≡◌, ◌==◌, ◌∷◌, ℕ, List, [], Some, Option, MatchOption, OnOk, is_some, length, option_copied, option_map, position, slice_get, slice_set};
 ghost use Rattle.std.specs.List.{list_any, remove};
-ghost use Rattle.papaya_present.specs.Given.Runs.Same.{is_same};
+ghost use Rattle.papaya_present.specs.Given.RunsSame.{is_same};
 ghost use Rattle.papaya_present.specs.Crowd.{IsAbsent, IsHome, LeadsHome};
 ghost use Rattle.papaya_named.specs.Roll.{IsTrimmedAt, called, name_of};
 ghost use Rattle.papaya_named.specs.Seen.{is_named};
@@ -12,10 +12,10 @@ use crate::caller::{Caller, Stands, value_of};
 use crate::kind::Kind;
 use papaya_present::counts::Counts;
 use papaya_present::crowd::{is_at, place_in};
-use papaya_present::papaya_runs::token::Token;
 use papaya_present::places::Places;
 use papaya_present::tally::Tally;
 use papaya_raw::Node;
+use papaya_runs::token::Token;
 use std::alloc::{AllocError, Global};
 use std::marker::Model;
 

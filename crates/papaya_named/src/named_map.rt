@@ -1,7 +1,7 @@
 //! Maps by name.
 
 use papaya_present::crowd::HasName;
-use papaya_present::papaya_runs::token::Token;
+use papaya_runs::token::Token;
 
 /// A map that is there.
 #[derive(Drop)]

@@ -1,10 +1,10 @@
 //! With how many places a map begins.
 ghost use Rattle.std.specs.Prelude.{◌≡◌, None, Some, IfOk, IfErr};
-ghost use Rattle.papaya_present.specs.Given.Runs.Runs.{map_fault};
+ghost use Rattle.papaya_present.specs.Given.RunsRuns.{map_fault};
 ghost use Rattle.papaya_named.specs.Places.{IsFirstLen, first_places};
 
-use papaya_present::seize_words::Fault;
 use papaya_raw::{ResizeMode, entries_for};
+use seize_words::Fault;
 
 /// The places that a map is made with, for so many pairs at least: none at all for none. The faults are ZeroChunk and Capacity.
 pub fn places_for(mode: ResizeMode, capacity: u64) -> Result<u64, Fault>

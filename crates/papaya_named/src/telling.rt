@@ -6,9 +6,9 @@ ghost use Rattle.papaya_named.specs.Telling.{answer_of, answer_on, aborted_with,
 use crate::kind::Kind;
 use papaya_effects::notes::Notes;
 use papaya_effects::role::Role;
-use papaya_present::seize_words::Link;
 use papaya_raw::machines::{Answer as Said, KeyAnswer};
 use papaya_schedules::call::Answer;
+use seize_words::Link;
 
 /// The number of the pair that a word links to.
 pub fn number_by(notes: &Notes, word: u64) -> u64

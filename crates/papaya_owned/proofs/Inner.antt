@@ -2,9 +2,9 @@
 use Rattle.std.specs.Prelude.{◌≡◌, ℕ, Bool, true, false}
 use Rattle.std.proofs.Common.{refl}
 use Rattle.std.proofs.lemmas.Bool.{true≢false, false≢true}
-use Rattle.seize.specs.Given.SeizeWords.Mem.{Mem, Can, Took, value_at}
-use Rattle.seize.specs.Given.SeizeWords.Plan.{Plan, May, Steps}
-use Rattle.seize.proofs.Given.SeizeWords.Plans.{may_as}
+use Rattle.seize.specs.Given.SeizeWordsMem.{Mem, Can, Took, value_at}
+use Rattle.seize.specs.Given.SeizeWordsPlan.{Plan, May, Steps}
+use Rattle.seize.proofs.Given.SeizeWordsPlans.{may_as}
 use Rattle.seize.proofs.StepsInto.{steps_into}
 use Rattle.seize.specs.Settle.{settle_plan}
 use Rattle.seize.specs.declared.progress.Progress.{Progress}
@@ -12,18 +12,18 @@ use Rattle.seize.specs.declared.progress.Progress.TheVariants as progress
 use Rattle.seize.specs.declared.rows.settle.Settle.{Settle}
 use Rattle.seize.specs.declared.rows.settle.Settled.{Settled}
 use Rattle.seize.specs.declared.rows.settle.Settled.TheVariants as settling
-use Rattle.papaya_straight.specs.Given.Tables.Nodes.{deferred_word}
-use Rattle.papaya_straight.specs.Given.Tables.declared.node.Node.{Node}
-use Rattle.papaya_straight.specs.Given.Tables.declared.table.Table.{Table}
-use Rattle.papaya_shown.specs.Given.Resize.Copier.{copier_plan}
-use Rattle.papaya_shown.specs.Given.Resize.Dispose.{dispose_plan, settled}
-use Rattle.papaya_shown.specs.Given.Resize.declared.copier.Copier.{Copier}
-use Rattle.papaya_shown.specs.Given.Resize.declared.dispose.Dispose.{Dispose}
-use Rattle.papaya_shown.specs.Given.Resize.declared.dispose.Disposing.TheVariants as disposal
-use Rattle.papaya_shown.specs.Given.Resize.declared.outcome.Outcome.{Outcome}
-use Rattle.papaya_shown.specs.Given.Resize.declared.outcome.Outcome.TheVariants as outcome
-use Rattle.papaya_straight.specs.Given.Raw.Call.{call_plan, disposed, helped}
-use Rattle.papaya_straight.specs.Given.Raw.declared.machines.answer.KeyAnswer.{KeyAnswer}
+use Rattle.papaya_straight.specs.Given.TablesNodes.{deferred_word}
+use Rattle.papaya_straight.specs.Given.TablesDeclared.node.Node.{Node}
+use Rattle.papaya_straight.specs.Given.TablesDeclared.table.Table.{Table}
+use Rattle.papaya_shown.specs.Given.ResizeCopier.{copier_plan}
+use Rattle.papaya_shown.specs.Given.ResizeDispose.{dispose_plan, settled}
+use Rattle.papaya_shown.specs.Given.ResizeDeclared.copier.Copier.{Copier}
+use Rattle.papaya_shown.specs.Given.ResizeDeclared.dispose.Dispose.{Dispose}
+use Rattle.papaya_shown.specs.Given.ResizeDeclared.dispose.Disposing.TheVariants as disposal
+use Rattle.papaya_shown.specs.Given.ResizeDeclared.outcome.Outcome.{Outcome}
+use Rattle.papaya_shown.specs.Given.ResizeDeclared.outcome.Outcome.TheVariants as outcome
+use Rattle.papaya_straight.specs.Given.RawCall.{call_plan, disposed, helped}
+use Rattle.papaya_straight.specs.Given.RawDeclared.machines.answer.KeyAnswer.{KeyAnswer}
 use Rattle.papaya_owned.specs.Ending.{Ends}
 use Rattle.papaya_owned.specs.Inside.{answered, has_ended, helping, retiring, takes_more}
 use Rattle.papaya_owned.specs.Machines.{on_key_after, on_key_plan}

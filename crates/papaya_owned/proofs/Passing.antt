@@ -2,27 +2,27 @@
 use Rattle.std.specs.Prelude.{◌≡◌, ◌==◌, ℕ, Bool, true, false, Option, Some, None, IfSome, IsSome, if◌then◌else◌}
 use Rattle.std.proofs.Common.{refl, sym, ◌∙◌, ap, subst}
 use Rattle.std.proofs.lemmas.Bool.{true≢false}
-use Rattle.seize.specs.Given.SeizeWords.Mem.{Mem, Can, Took, value_at, word_at}
-use Rattle.seize.specs.Given.SeizeWords.Op.{Found}
-use Rattle.seize.specs.Given.SeizeWords.Plan.{Now, May, Steps, Ends, then_as, plan_as}
-use Rattle.seize.specs.Given.SeizeWords.Word.{block_in}
-use Rattle.seize.specs.Given.SeizeWords.declared.at.At.{At}
+use Rattle.seize.specs.Given.SeizeWordsMem.{Mem, Can, Took, value_at, word_at}
+use Rattle.seize.specs.Given.SeizeWordsOp.{Found}
+use Rattle.seize.specs.Given.SeizeWordsPlan.{Now, May, Steps, Ends, then_as, plan_as}
+use Rattle.seize.specs.Given.SeizeWordsWord.{block_in}
+use Rattle.seize.specs.Given.SeizeWordsDeclared.at.At.{At}
 use Rattle.seize.specs.declared.progress.Progress.TheVariants as progress
-use Rattle.papaya_straight.specs.Given.Tables.Chunks.{is_incremental}
-use Rattle.papaya_straight.specs.Given.Tables.Finding.{finding, may_name, shut, vacant}
-use Rattle.papaya_straight.specs.Given.Tables.Trials.{place_tried, next_trial, with_met}
-use Rattle.papaya_straight.specs.Given.Tables.declared.finding.Aim.{Aim}
-use Rattle.papaya_straight.specs.Given.Tables.declared.finding.Aim.TheVariants.{Looks}
-use Rattle.papaya_straight.specs.Given.Tables.declared.finding.Finding.{Finding}
-use Rattle.papaya_straight.specs.Given.Tables.declared.finding.Finding.TheVariants as is
-use Rattle.papaya_straight.specs.Given.Tables.declared.marks.TheConstants.{COPYING}
-use Rattle.papaya_straight.specs.Given.Tables.declared.node.Node.{Node}
-use Rattle.papaya_straight.specs.Given.Tables.declared.resize_mode.ResizeMode.{ResizeMode}
-use Rattle.papaya_straight.specs.Given.Tables.declared.trial.Trial.{Trial}
-use Rattle.papaya_straight.specs.Given.Raw.Call.{pair_read, plan_at}
-use Rattle.papaya_straight.specs.Given.Raw.CallPoints.{aim_of, told, told_of, passed, having_met}
-use Rattle.papaya_straight.specs.Given.Raw.declared.machines.call.Calling.{Calling}
-use Rattle.papaya_straight.specs.Given.Raw.declared.machines.call.Calling.TheVariants as at
+use Rattle.papaya_straight.specs.Given.TablesChunks.{is_incremental}
+use Rattle.papaya_straight.specs.Given.TablesFinding.{finding, may_name, shut, vacant}
+use Rattle.papaya_straight.specs.Given.TablesTrials.{place_tried, next_trial, with_met}
+use Rattle.papaya_straight.specs.Given.TablesDeclared.finding.Aim.{Aim}
+use Rattle.papaya_straight.specs.Given.TablesDeclared.finding.Aim.TheVariants.{Looks}
+use Rattle.papaya_straight.specs.Given.TablesDeclared.finding.Finding.{Finding}
+use Rattle.papaya_straight.specs.Given.TablesDeclared.finding.Finding.TheVariants as is
+use Rattle.papaya_straight.specs.Given.TablesDeclared.marks.TheConstants.{COPYING}
+use Rattle.papaya_straight.specs.Given.TablesDeclared.node.Node.{Node}
+use Rattle.papaya_straight.specs.Given.TablesDeclared.resize_mode.ResizeMode.{ResizeMode}
+use Rattle.papaya_straight.specs.Given.TablesDeclared.trial.Trial.{Trial}
+use Rattle.papaya_straight.specs.Given.RawCall.{pair_read, plan_at}
+use Rattle.papaya_straight.specs.Given.RawCallPoints.{aim_of, told, told_of, passed, having_met}
+use Rattle.papaya_straight.specs.Given.RawDeclared.machines.call.Calling.{Calling}
+use Rattle.papaya_straight.specs.Given.RawDeclared.machines.call.Calling.TheVariants as at
 use Rattle.papaya_owned.specs.Machines.{at_trial, on_key_after, on_key_plan}
 use Rattle.papaya_owned.specs.declared.machines.OnKey.{OnKey}
 

@@ -2,10 +2,10 @@
 use Rattle.std.specs.Prelude.{◌≡◌, ℕ, Bool, true, false, Ok, Option, Result}
 use Rattle.std.proofs.Common.{refl, sym, subst}
 use denote.Ref.{Bor}
-use Rattle.seize.specs.Given.SeizeWords.Mem.{Mem, Can, Took, value_at}
-use Rattle.seize.specs.Given.SeizeWords.Plan.{Plan, Steps}
-use Rattle.seize.specs.Given.SeizeWords.declared.fault.Fault.{Fault}
-use Rattle.seize.proofs.Given.SeizeWords.Plans.{may_as}
+use Rattle.seize.specs.Given.SeizeWordsMem.{Mem, Can, Took, value_at}
+use Rattle.seize.specs.Given.SeizeWordsPlan.{Plan, Steps}
+use Rattle.seize.specs.Given.SeizeWordsDeclared.fault.Fault.{Fault}
+use Rattle.seize.proofs.Given.SeizeWordsPlans.{may_as}
 use Rattle.seize.proofs.StepsInto.{steps_into}
 use Rattle.seize.specs.declared.progress.Progress.{Progress}
 use Rattle.seize.specs.declared.progress.Progress.TheVariants as progress
@@ -15,24 +15,24 @@ use Rattle.seize.specs.declared.rows.leave.Leaving.TheVariants as leaving
 use Rattle.seize.specs.declared.rows.settle.Settle.{Settle}
 use Rattle.seize.specs.declared.rows.settle.Settled.{Settled}
 use Rattle.seize.specs.declared.rows.settle.Settled.TheVariants as settled
-use Rattle.papaya_straight.specs.Given.Tables.Nodes.{deferred_word}
-use Rattle.papaya_straight.specs.Given.Tables.declared.node.Node.{Node}
-use Rattle.papaya_straight.specs.Given.Tables.declared.table.Table.{Table}
-use Rattle.papaya_shown.specs.Given.Resize.Copier.{copier_plan}
-use Rattle.papaya_shown.specs.Given.Resize.declared.copier.Copier.{Copier}
-use Rattle.papaya_shown.specs.Given.Resize.declared.dispose.Dispose.{Dispose}
-use Rattle.papaya_shown.specs.Given.Resize.declared.outcome.Outcome.{Outcome}
-use Rattle.papaya_shown.specs.Given.Resize.declared.outcome.Outcome.TheVariants as outcome
-use Rattle.papaya_straight.specs.Given.Raw.Call.{call_plan}
-use Rattle.papaya_straight.specs.Given.Raw.declared.machines.answer.Called.{Called}
-use Rattle.papaya_straight.specs.Given.Raw.declared.machines.answer.Called.TheVariants as called
-use Rattle.papaya_straight.specs.Given.Raw.declared.machines.answer.KeyAnswer.{KeyAnswer}
-use Rattle.papaya_straight.specs.Given.Raw.declared.machines.call.KeyCall.{KeyCall}
-use Rattle.papaya_straight.specs.Given.SeizeStraight.Going.{DropGoes, DropLeads, MayDrop}
+use Rattle.papaya_straight.specs.Given.TablesNodes.{deferred_word}
+use Rattle.papaya_straight.specs.Given.TablesDeclared.node.Node.{Node}
+use Rattle.papaya_straight.specs.Given.TablesDeclared.table.Table.{Table}
+use Rattle.papaya_shown.specs.Given.ResizeCopier.{copier_plan}
+use Rattle.papaya_shown.specs.Given.ResizeDeclared.copier.Copier.{Copier}
+use Rattle.papaya_shown.specs.Given.ResizeDeclared.dispose.Dispose.{Dispose}
+use Rattle.papaya_shown.specs.Given.ResizeDeclared.outcome.Outcome.{Outcome}
+use Rattle.papaya_shown.specs.Given.ResizeDeclared.outcome.Outcome.TheVariants as outcome
+use Rattle.papaya_straight.specs.Given.RawCall.{call_plan}
+use Rattle.papaya_straight.specs.Given.RawDeclared.machines.answer.Called.{Called}
+use Rattle.papaya_straight.specs.Given.RawDeclared.machines.answer.Called.TheVariants as called
+use Rattle.papaya_straight.specs.Given.RawDeclared.machines.answer.KeyAnswer.{KeyAnswer}
+use Rattle.papaya_straight.specs.Given.RawDeclared.machines.call.KeyCall.{KeyCall}
+use Rattle.papaya_straight.specs.Given.SeizeStraightGoing.{DropGoes, DropLeads, MayDrop}
 use Rattle.papaya_straight.specs.Going.{CallGoes, CopyGoes}
-use Rattle.papaya_straight.specs.Given.SeizeStraight.Runs as Straight
-use Rattle.papaya_straight.specs.Given.SeizeStraight.Runs.{MayRun}
-use Rattle.papaya_straight.proofs.Given.SeizeStraight.Running.{by_law}
+use Rattle.papaya_straight.specs.Given.SeizeStraightRuns as Straight
+use Rattle.papaya_straight.specs.Given.SeizeStraightRuns.{MayRun}
+use Rattle.papaya_straight.proofs.Given.SeizeStraightRunning.{by_law}
 use Rattle.papaya_owned.specs.Ending.{Ends, Leads, RunsTo, none_taken, one_more, stops}
 use Rattle.papaya_owned.specs.Inside.{has_ended, helping, retiring, takes_more}
 use Rattle.papaya_owned.specs.Machines.{on_call, on_key_after, on_key_plan, refreshes_after, refreshes_plan}

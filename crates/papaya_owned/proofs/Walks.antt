@@ -2,15 +2,15 @@
 use Rattle.std.specs.Prelude.{cond}
 use Rattle.std.proofs.Common.{◌≡◌, ℕ, zero, suc, Bool, true, false, List, [], ◌∷◌, ◌++◌, Some, refl, ap, sym, subst, ◌∙◌}
 use Rattle.std.proofs.lemmas.List.{append-nil}
-use Rattle.seize.specs.Given.SeizeWords.Mem.{Mem, value_at}
-use Rattle.papaya_straight.specs.Given.Tables.Chunks.{is_incremental}
-use Rattle.papaya_straight.specs.Given.Tables.declared.node.Node.{Node}
-use Rattle.papaya_straight.specs.Given.Tables.declared.node.Node.TheVariants as node
-use Rattle.papaya_straight.specs.Given.Tables.declared.setting.Setting.{Setting}
-use Rattle.papaya_whole.specs.Given.Rule.Chart.{Chart}
-use Rattle.papaya_whole.specs.Given.Rule.Words.{Blocks}
-use Rattle.papaya_whole.specs.Given.Rule.Maps.{spot_of, IsMap}
-use Rattle.papaya_whole.proofs.Given.Maps.Rests.NoneMoves.{none_copying, claims_none}
+use Rattle.seize.specs.Given.SeizeWordsMem.{Mem, value_at}
+use Rattle.papaya_straight.specs.Given.TablesChunks.{is_incremental}
+use Rattle.papaya_straight.specs.Given.TablesDeclared.node.Node.{Node}
+use Rattle.papaya_straight.specs.Given.TablesDeclared.node.Node.TheVariants as node
+use Rattle.papaya_straight.specs.Given.TablesDeclared.setting.Setting.{Setting}
+use Rattle.papaya_whole.specs.Given.RuleChart.{Chart}
+use Rattle.papaya_whole.specs.Given.RuleWords.{Blocks}
+use Rattle.papaya_whole.specs.Given.RuleMaps.{spot_of, IsMap}
+use Rattle.papaya_whole.proofs.Given.MapsRests.NoneMoves.{none_copying, claims_none}
 use Rattle.papaya_whole.specs.Contents.{ContentsBelow}
 use Rattle.papaya_shown.specs.Chain.{pair_of}
 use Rattle.papaya_shown.specs.Shown.{Stands, NoneMoves, pairs_stored}

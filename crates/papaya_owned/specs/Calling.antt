@@ -1,16 +1,16 @@
 -- Calls on one key of one owner's map, from question to question, and how they stop.
 use Rattle.std.specs.Prelude.{ℕ, Bool, Option, None, Result, Ok, Err}
 use denote.Ref.{Bor}
-use Rattle.seize.specs.Given.SeizeWords.Mem.{Mem}
-use Rattle.seize.specs.Given.SeizeWords.declared.fault.Fault.{Fault}
-use Rattle.papaya_straight.specs.Given.Tables.declared.node.Node.{Node}
-use Rattle.papaya_straight.specs.Given.Tables.declared.setting.Setting.{Setting}
-use Rattle.papaya_straight.specs.Given.Raw.CallAsks.{replied}
-use Rattle.papaya_straight.specs.Given.Raw.declared.machines.answer.KeyAnswer.{KeyAnswer}
-use Rattle.papaya_straight.specs.Given.Raw.declared.machines.asking.Reply.{Reply}
-use Rattle.papaya_straight.specs.Given.Raw.declared.machines.call.KeyCall.{KeyCall}
-use Rattle.papaya_whole.specs.Given.Callers.Pairs.{Given}
-use Rattle.papaya_whole.specs.Given.Callers.Together.{IsBegun}
+use Rattle.seize.specs.Given.SeizeWordsMem.{Mem}
+use Rattle.seize.specs.Given.SeizeWordsDeclared.fault.Fault.{Fault}
+use Rattle.papaya_straight.specs.Given.TablesDeclared.node.Node.{Node}
+use Rattle.papaya_straight.specs.Given.TablesDeclared.setting.Setting.{Setting}
+use Rattle.papaya_straight.specs.Given.RawCallAsks.{replied}
+use Rattle.papaya_straight.specs.Given.RawDeclared.machines.answer.KeyAnswer.{KeyAnswer}
+use Rattle.papaya_straight.specs.Given.RawDeclared.machines.asking.Reply.{Reply}
+use Rattle.papaya_straight.specs.Given.RawDeclared.machines.call.KeyCall.{KeyCall}
+use Rattle.papaya_whole.specs.Given.CallersPairs.{Given}
+use Rattle.papaya_whole.specs.Given.CallersTogether.{IsBegun}
 use Rattle.papaya_owned.specs.Ending.{RunsTo}
 use Rattle.papaya_owned.specs.Machines.{on_key_plan}
 use Rattle.papaya_owned.specs.declared.machines.OnKey.{OnKey}

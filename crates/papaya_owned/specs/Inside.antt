@@ -3,15 +3,15 @@ use Rattle.std.specs.Prelude.{Bool, true, false}
 use Rattle.seize.specs.declared.rows.settle.Settle.{Settle}
 use Rattle.seize.specs.declared.rows.settle.Settled.{Settled}
 use Rattle.seize.specs.declared.rows.settle.Settled.TheVariants as settled
-use Rattle.papaya_straight.specs.Given.Tables.declared.table.Table.{Table}
-use Rattle.papaya_shown.specs.Given.Resize.declared.copier.Copier.{Copier}
-use Rattle.papaya_shown.specs.Given.Resize.declared.dispose.Dispose.{Dispose}
-use Rattle.papaya_shown.specs.Given.Resize.declared.dispose.Disposing.TheVariants as disposal
-use Rattle.papaya_shown.specs.Given.Resize.declared.outcome.Outcome.{Outcome}
-use Rattle.papaya_shown.specs.Given.Resize.declared.outcome.Outcome.TheVariants as outcome
-use Rattle.papaya_straight.specs.Given.Raw.declared.machines.answer.End.TheVariants as ends
-use Rattle.papaya_straight.specs.Given.Raw.declared.machines.answer.KeyAnswer.{KeyAnswer}
-use Rattle.papaya_straight.specs.Given.Raw.declared.machines.call.Calling.TheVariants as at
+use Rattle.papaya_straight.specs.Given.TablesDeclared.table.Table.{Table}
+use Rattle.papaya_shown.specs.Given.ResizeDeclared.copier.Copier.{Copier}
+use Rattle.papaya_shown.specs.Given.ResizeDeclared.dispose.Dispose.{Dispose}
+use Rattle.papaya_shown.specs.Given.ResizeDeclared.dispose.Disposing.TheVariants as disposal
+use Rattle.papaya_shown.specs.Given.ResizeDeclared.outcome.Outcome.{Outcome}
+use Rattle.papaya_shown.specs.Given.ResizeDeclared.outcome.Outcome.TheVariants as outcome
+use Rattle.papaya_straight.specs.Given.RawDeclared.machines.answer.End.TheVariants as ends
+use Rattle.papaya_straight.specs.Given.RawDeclared.machines.answer.KeyAnswer.{KeyAnswer}
+use Rattle.papaya_straight.specs.Given.RawDeclared.machines.call.Calling.TheVariants as at
 use Rattle.papaya_owned.specs.declared.machines.OnKey.{OnKey}
 
 module _ {K V Q S : Type 0} where

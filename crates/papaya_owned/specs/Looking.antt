@@ -1,16 +1,16 @@
 -- A lookup in the map of one owner.
 use Rattle.std.specs.Prelude.{ℕ, Bool, Option}
-use Rattle.seize.specs.Given.SeizeWords.Mem.{Mem}
-use Rattle.papaya_straight.specs.Given.Tables.declared.node.Node.{Node}
-use Rattle.papaya_straight.specs.Given.Tables.declared.table.Table.{Table}
-use Rattle.papaya_straight.specs.Given.Tables.declared.trial.Trial.{Trial}
-use Rattle.papaya_shown.specs.Given.Resize.declared.lookup.Lookup.{Lookup}
-use Rattle.papaya_shown.specs.Given.Resize.declared.lookup.Looking.TheVariants as at
-use Rattle.papaya_whole.specs.Given.Rule.Chart.{Chart}
-use Rattle.papaya_whole.specs.Given.Rule.Words.{Blocks}
-use Rattle.papaya_whole.specs.Given.Rule.Maps.{IsClass, IsMap}
-use Rattle.papaya_whole.specs.Given.Points.FactsLooks.{Answers, LookupFacts}
-use Rattle.papaya_whole.specs.Given.Points.Steps.{AreLawful}
+use Rattle.seize.specs.Given.SeizeWordsMem.{Mem}
+use Rattle.papaya_straight.specs.Given.TablesDeclared.node.Node.{Node}
+use Rattle.papaya_straight.specs.Given.TablesDeclared.table.Table.{Table}
+use Rattle.papaya_straight.specs.Given.TablesDeclared.trial.Trial.{Trial}
+use Rattle.papaya_shown.specs.Given.ResizeDeclared.lookup.Lookup.{Lookup}
+use Rattle.papaya_shown.specs.Given.ResizeDeclared.lookup.Looking.TheVariants as at
+use Rattle.papaya_whole.specs.Given.RuleChart.{Chart}
+use Rattle.papaya_whole.specs.Given.RuleWords.{Blocks}
+use Rattle.papaya_whole.specs.Given.RuleMaps.{IsClass, IsMap}
+use Rattle.papaya_whole.specs.Given.PointsFactsLooks.{Answers, LookupFacts}
+use Rattle.papaya_whole.specs.Given.PointsSteps.{AreLawful}
 
 module _ {K V : Type 0} (same : K → K → Bool) (hash : K → ℕ) (keys : K → Bool) (m : Mem (Node K V)) (c : Chart K) (blocks : Blocks) where
   -- The map stands in the memory. A lookup that was begun as this one is for keys of one class, and knows now what its point knows.

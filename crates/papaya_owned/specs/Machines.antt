@@ -1,23 +1,23 @@
 -- What a step of each machine does that one owner runs.
 use Rattle.std.specs.Prelude.{ℕ, Bool, Option, Some, None}
 use denote.Ref.{Bor}
-use Rattle.seize.specs.Given.SeizeWords.Plan.{Plan, plan_as}
+use Rattle.seize.specs.Given.SeizeWordsPlan.{Plan, plan_as}
 use Rattle.seize.specs.Leave.{leave_plan}
 use Rattle.seize.specs.declared.progress.Progress.{Progress}
 use Rattle.seize.specs.declared.progress.Progress.TheVariants as progress
 use Rattle.seize.specs.declared.rows.leave.Leave.{Leave}
 use Rattle.seize.specs.declared.rows.settle.Settled.{Settled}
 use Rattle.seize.specs.declared.rows.settle.Settled.TheVariants as settled
-use Rattle.papaya_straight.specs.Given.Tables.declared.node.Node.{Node}
-use Rattle.papaya_straight.specs.Given.Tables.declared.trial.Trial.{Trial}
-use Rattle.papaya_shown.specs.Given.Resize.declared.outcome.Outcome.{Outcome}
-use Rattle.papaya_shown.specs.Given.Resize.declared.outcome.Outcome.TheVariants as outcome
-use Rattle.papaya_whole.specs.Given.Reserves.Reserve.{reserve_plan}
-use Rattle.papaya_whole.specs.Given.Reserves.declared.reserve.Reserve.{Reserve}
-use Rattle.papaya_straight.specs.Given.Raw.Call.{call_plan}
-use Rattle.papaya_straight.specs.Given.Raw.declared.machines.answer.Called.{Called}
-use Rattle.papaya_straight.specs.Given.Raw.declared.machines.answer.Called.TheVariants as called
-use Rattle.papaya_straight.specs.Given.Raw.declared.machines.call.KeyCall.{KeyCall}
+use Rattle.papaya_straight.specs.Given.TablesDeclared.node.Node.{Node}
+use Rattle.papaya_straight.specs.Given.TablesDeclared.trial.Trial.{Trial}
+use Rattle.papaya_shown.specs.Given.ResizeDeclared.outcome.Outcome.{Outcome}
+use Rattle.papaya_shown.specs.Given.ResizeDeclared.outcome.Outcome.TheVariants as outcome
+use Rattle.papaya_whole.specs.Given.ReservesReserve.{reserve_plan}
+use Rattle.papaya_whole.specs.Given.ReservesDeclared.reserve.Reserve.{Reserve}
+use Rattle.papaya_straight.specs.Given.RawCall.{call_plan}
+use Rattle.papaya_straight.specs.Given.RawDeclared.machines.answer.Called.{Called}
+use Rattle.papaya_straight.specs.Given.RawDeclared.machines.answer.Called.TheVariants as called
+use Rattle.papaya_straight.specs.Given.RawDeclared.machines.call.KeyCall.{KeyCall}
 use Rattle.papaya_owned.specs.declared.machines.Stop.{Stop}
 use Rattle.papaya_owned.specs.declared.machines.Stop.TheVariants as stop
 use Rattle.papaya_owned.specs.declared.machines.OnKey.{OnKey}

@@ -1,30 +1,30 @@
 -- The map that one owner has in a memory of its own, between its calls, and its pairs as a list.
 use Rattle.std.specs.Prelude.{◌≡◌, ℕ, ◌%◌, ◌^◌, ◌<◌, ◌≤◌, Bool, true, List, [], ◌∷◌, ◌++◌, Result, Ok, Err, Option, Some, None, fold, if◌then◌else◌, ◌⊎◌}
 use Rattle.std.specs.Int.{IsPowerOfTwo}
-use Rattle.seize.specs.Given.SeizeWords.Mem.{Mem, value_at}
-use Rattle.seize.specs.Given.SeizeWords.Word.{block_in}
+use Rattle.seize.specs.Given.SeizeWordsMem.{Mem, value_at}
+use Rattle.seize.specs.Given.SeizeWordsWord.{block_in}
 use Rattle.seize.specs.World.{World}
-use Rattle.papaya_straight.specs.Given.Tables.declared.node.Node.{Node}
-use Rattle.papaya_straight.specs.Given.Tables.declared.node.Node.TheVariants as node
-use Rattle.papaya_straight.specs.Given.Tables.declared.setting.Setting.{Setting}
-use Rattle.papaya_straight.specs.Given.Tables.Chunks.{is_incremental}
-use Rattle.papaya_straight.specs.Given.Raw.declared.machines.answer.Called.TheVariants as called
-use Rattle.papaya_straight.specs.Given.Raw.declared.machines.answer.KeyAnswer.{KeyAnswer}
-use Rattle.papaya_straight.specs.Given.Raw.declared.machines.answer.KeyAnswer.TheVariants as answers
-use Rattle.papaya_whole.specs.Given.Rule.Chart.{Chart}
-use Rattle.papaya_whole.specs.Given.Rule.Words.{Blocks}
-use Rattle.papaya_whole.specs.Given.Points.Steps.{AreLawful}
-use Rattle.papaya_whole.specs.Given.Alone.Counting.{IsCounted}
-use Rattle.papaya_whole.specs.Given.Callers.Kind.{Kind}
-use Rattle.papaya_whole.specs.Given.Callers.Sights.{Sight}
-use Rattle.papaya_whole.specs.Given.Late.Kinds.{Fits, FaultFits, TellsFit}
+use Rattle.papaya_straight.specs.Given.TablesDeclared.node.Node.{Node}
+use Rattle.papaya_straight.specs.Given.TablesDeclared.node.Node.TheVariants as node
+use Rattle.papaya_straight.specs.Given.TablesDeclared.setting.Setting.{Setting}
+use Rattle.papaya_straight.specs.Given.TablesChunks.{is_incremental}
+use Rattle.papaya_straight.specs.Given.RawDeclared.machines.answer.Called.TheVariants as called
+use Rattle.papaya_straight.specs.Given.RawDeclared.machines.answer.KeyAnswer.{KeyAnswer}
+use Rattle.papaya_straight.specs.Given.RawDeclared.machines.answer.KeyAnswer.TheVariants as answers
+use Rattle.papaya_whole.specs.Given.RuleChart.{Chart}
+use Rattle.papaya_whole.specs.Given.RuleWords.{Blocks}
+use Rattle.papaya_whole.specs.Given.PointsSteps.{AreLawful}
+use Rattle.papaya_whole.specs.Given.AloneCounting.{IsCounted}
+use Rattle.papaya_whole.specs.Given.CallersKind.{Kind}
+use Rattle.papaya_whole.specs.Given.CallersSights.{Sight}
+use Rattle.papaya_whole.specs.Given.LateKinds.{Fits, FaultFits, TellsFit}
 use Rattle.papaya_whole.specs.Contents.{AreContents}
 use Rattle.papaya_whole.specs.Owner.{AtRest}
 use Rattle.papaya_owned.specs.Standing.{Standing, Waits}
 use Rattle.papaya_owned.specs.declared.machines.Stop.{Stop}
 use Rattle.papaya_owned.specs.declared.machines.Stop.TheVariants as stop
-use Rattle.seize.specs.Given.SeizeWords.declared.fault.Fault.{Fault}
-use Rattle.seize.specs.Given.SeizeWords.declared.fault.Fault.TheVariants.{Capacity}
+use Rattle.seize.specs.Given.SeizeWordsDeclared.fault.Fault.{Fault}
+use Rattle.seize.specs.Given.SeizeWordsDeclared.fault.Fault.TheVariants.{Capacity}
 use Rattle.papaya_shown.specs.Chain.{CannotGrowIn}
 
 -- the hash that a hasher gives to what a key writes

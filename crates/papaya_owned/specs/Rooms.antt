@@ -1,17 +1,17 @@
 -- Room for pairs in the map of one owner.
 use Rattle.std.specs.Prelude.{◌≡◌, ◌≢◌, ℕ, ◌<◌, ◌≤◌, ◌^◌, ◌⊎◌, ◌==◌, Bool, List, [], ◌∷◌, if◌then◌else◌, length, max, Result, Ok, Err, Some}
-use Rattle.seize.specs.Given.SeizeWords.Mem.{Mem, value_at, word_at}
-use Rattle.seize.specs.Given.SeizeWords.Word.{block_in}
-use Rattle.seize.specs.Given.SeizeWords.declared.at.At.TheVariants.{Root}
-use Rattle.seize.specs.Given.SeizeWords.declared.fault.Fault.{Fault}
-use Rattle.seize.specs.Given.SeizeWords.declared.fault.Fault.TheVariants.{Capacity, Memory}
-use Rattle.papaya_straight.specs.Given.Tables.Lengths.{places_for}
-use Rattle.papaya_straight.specs.Given.Tables.declared.node.Node.{Node}
-use Rattle.papaya_straight.specs.Given.Tables.declared.node.Node.TheVariants as node
-use Rattle.papaya_straight.specs.Given.Tables.declared.setting.Setting.{Setting}
+use Rattle.seize.specs.Given.SeizeWordsMem.{Mem, value_at, word_at}
+use Rattle.seize.specs.Given.SeizeWordsWord.{block_in}
+use Rattle.seize.specs.Given.SeizeWordsDeclared.at.At.TheVariants.{Root}
+use Rattle.seize.specs.Given.SeizeWordsDeclared.fault.Fault.{Fault}
+use Rattle.seize.specs.Given.SeizeWordsDeclared.fault.Fault.TheVariants.{Capacity, Memory}
+use Rattle.papaya_straight.specs.Given.TablesLengths.{places_for}
+use Rattle.papaya_straight.specs.Given.TablesDeclared.node.Node.{Node}
+use Rattle.papaya_straight.specs.Given.TablesDeclared.node.Node.TheVariants as node
+use Rattle.papaya_straight.specs.Given.TablesDeclared.setting.Setting.{Setting}
 use Rattle.papaya_shown.specs.Chain.{CannotGrowIn, CountsTables, root_link, shapes_on}
-use Rattle.papaya_whole.specs.Given.Reserves.Reserve.{needed}
-use Rattle.papaya_whole.specs.Given.Late.Faults.{IsRoom}
+use Rattle.papaya_whole.specs.Given.ReservesReserve.{needed}
+use Rattle.papaya_whole.specs.Given.LateFaults.{IsRoom}
 use Rattle.papaya_owned.specs.Owned.{Holds}
 
 -- for so many pairs no table is long enough

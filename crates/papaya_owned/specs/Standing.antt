@@ -1,9 +1,9 @@
 -- Where pairs stand in the memory of one owner: those of the map, and one that a change took out of it.
 use Rattle.std.specs.Prelude.{◌≡◌, ℕ, List, [], ◌∷◌, Some}
-use Rattle.seize.specs.Given.SeizeWords.Mem.{Mem, value_at}
+use Rattle.seize.specs.Given.SeizeWordsMem.{Mem, value_at}
 use Rattle.seize.specs.World.{times}
-use Rattle.papaya_straight.specs.Given.Tables.declared.node.Node.{Node}
-use Rattle.papaya_straight.specs.Given.Tables.declared.node.Node.TheVariants as node
+use Rattle.papaya_straight.specs.Given.TablesDeclared.node.Node.{Node}
+use Rattle.papaya_straight.specs.Given.TablesDeclared.node.Node.TheVariants as node
 
 module _ {K V : Type 0} (m : Mem (Node K V)) where
   -- each of these pairs stands in a block of its own, in the same order

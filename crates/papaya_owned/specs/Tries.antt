@@ -1,14 +1,14 @@
 -- What the tries of a lookup at one table come to.
 use Rattle.std.specs.Prelude.{◌≡◌, ◌≤◌, ℕ, Bool, true, false, Option, None, if◌then◌else◌}
-use Rattle.seize.specs.Given.SeizeWords.Mem.{Mem}
-use Rattle.papaya_straight.specs.Given.Tables.Chunks.{is_incremental}
-use Rattle.papaya_straight.specs.Given.Tables.declared.finding.Finding.{Finding}
-use Rattle.papaya_straight.specs.Given.Tables.declared.finding.Finding.TheVariants as is
-use Rattle.papaya_straight.specs.Given.Tables.declared.node.Node.{Node}
-use Rattle.papaya_straight.specs.Given.Tables.declared.table.Table.{Table}
-use Rattle.papaya_shown.specs.Given.Resize.declared.lookup.Lookup.{Lookup}
-use Rattle.papaya_whole.specs.Given.Rule.Chart.{Chart}
-use Rattle.papaya_whole.specs.Given.Rule.Words.{Blocks}
+use Rattle.seize.specs.Given.SeizeWordsMem.{Mem}
+use Rattle.papaya_straight.specs.Given.TablesChunks.{is_incremental}
+use Rattle.papaya_straight.specs.Given.TablesDeclared.finding.Finding.{Finding}
+use Rattle.papaya_straight.specs.Given.TablesDeclared.finding.Finding.TheVariants as is
+use Rattle.papaya_straight.specs.Given.TablesDeclared.node.Node.{Node}
+use Rattle.papaya_straight.specs.Given.TablesDeclared.table.Table.{Table}
+use Rattle.papaya_shown.specs.Given.ResizeDeclared.lookup.Lookup.{Lookup}
+use Rattle.papaya_whole.specs.Given.RuleChart.{Chart}
+use Rattle.papaya_whole.specs.Given.RuleWords.{Blocks}
 use Rattle.papaya_owned.specs.Looking.{LooksIn, Finds, at_next}
 use Rattle.papaya_owned.specs.Owned.{IsShownAt}
 use Rattle.papaya_owned.specs.declared.tries.Tried.{Tried}

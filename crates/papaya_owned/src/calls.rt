@@ -1,11 +1,11 @@
 //! Steps of a call on a key, several at once: tries that pass a word which can be none of the key, and steps of machines within it.
 ghost use Rattle.std.specs.Prelude.{◌≡◌, IfSome};
-ghost use Rattle.seize.specs.Given.SeizeWords.Mem.{Can, Took, value_at};
-ghost use Rattle.seize.specs.Given.SeizeWords.Plan.{May, Steps};
+ghost use Rattle.seize.specs.Given.SeizeWordsMem.{Can, Took, value_at};
+ghost use Rattle.seize.specs.Given.SeizeWordsPlan.{May, Steps};
 ghost use Rattle.seize.specs.declared.progress.Progress.TheVariants as progress;
 ghost use Rattle.papaya_owned.specs.Ending.{Ends, Leads, Strides};
 ghost use Rattle.papaya_owned.specs.Machines.{at_trial, on_key_plan};
-ghost use Rattle.papaya_straight.specs.Given.Raw.declared.machines.call.Calling.TheVariants as at;
+ghost use Rattle.papaya_straight.specs.Given.RawDeclared.machines.call.Calling.TheVariants as at;
 
 use crate::machines::{OnKey, Stop};
 use crate::skims::Skims;

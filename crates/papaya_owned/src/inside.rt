@@ -1,16 +1,16 @@
 //! Steps of the machines within a call on a key, several at once.
 ghost use Rattle.std.specs.Prelude.{◌≡◌, true, false};
-ghost use Rattle.seize.specs.Given.SeizeWords.Mem.{Mem, Took, value_at};
-ghost use Rattle.seize.specs.Given.SeizeWords.Plan.{Steps};
+ghost use Rattle.seize.specs.Given.SeizeWordsMem.{Mem, Took, value_at};
+ghost use Rattle.seize.specs.Given.SeizeWordsPlan.{Steps};
 ghost use Rattle.seize.specs.declared.progress.Progress.TheVariants as progress;
-ghost use Rattle.papaya_shown.specs.Given.Resize.Copier.{copier_plan};
-ghost use Rattle.papaya_shown.specs.Given.Resize.declared.copier.Copier.{Copier};
-ghost use Rattle.papaya_shown.specs.Given.Resize.declared.dispose.Dispose.{Dispose};
-ghost use Rattle.papaya_shown.specs.Given.Resize.declared.dispose.Disposing.TheVariants as disposal;
-ghost use Rattle.papaya_straight.specs.Given.Tables.declared.table.Table.{Table};
-ghost use Rattle.papaya_straight.specs.Given.Raw.Call.{helped};
-ghost use Rattle.papaya_straight.specs.Given.Raw.declared.machines.answer.KeyAnswer.{KeyAnswer};
-ghost use Rattle.papaya_straight.specs.Given.Raw.declared.machines.call.Calling.TheVariants as at;
+ghost use Rattle.papaya_shown.specs.Given.ResizeCopier.{copier_plan};
+ghost use Rattle.papaya_shown.specs.Given.ResizeDeclared.copier.Copier.{Copier};
+ghost use Rattle.papaya_shown.specs.Given.ResizeDeclared.dispose.Dispose.{Dispose};
+ghost use Rattle.papaya_shown.specs.Given.ResizeDeclared.dispose.Disposing.TheVariants as disposal;
+ghost use Rattle.papaya_straight.specs.Given.TablesDeclared.table.Table.{Table};
+ghost use Rattle.papaya_straight.specs.Given.RawCall.{helped};
+ghost use Rattle.papaya_straight.specs.Given.RawDeclared.machines.answer.KeyAnswer.{KeyAnswer};
+ghost use Rattle.papaya_straight.specs.Given.RawDeclared.machines.call.Calling.TheVariants as at;
 ghost use Rattle.papaya_owned.specs.Ending.{Ends, Leads, Strides};
 ghost use Rattle.papaya_owned.specs.Inside.{answered, has_ended, helping, retiring, takes_more};
 ghost use Rattle.papaya_owned.specs.Machines.{on_key_after, on_key_plan};

@@ -1,14 +1,14 @@
 //! Lookups that the owner of a map runs to their ends, over a memory that is only read.
 ghost use Rattle.std.specs.Prelude.{◌≡◌, ℕ, Option, Some, option_map};
-ghost use Rattle.seize.specs.Given.SeizeWords.Mem.{value_at};
-ghost use Rattle.seize.specs.Given.SeizeWords.Word.{block_in};
-ghost use Rattle.papaya_straight.specs.Given.Tables.declared.node.Node.TheVariants as node;
+ghost use Rattle.seize.specs.Given.SeizeWordsMem.{value_at};
+ghost use Rattle.seize.specs.Given.SeizeWordsWord.{block_in};
+ghost use Rattle.papaya_straight.specs.Given.TablesDeclared.node.Node.TheVariants as node;
 ghost use Rattle.papaya_owned.specs.Ending.{Ends};
 ghost use Rattle.papaya_owned.specs.Looking.{LooksIn, Finds};
 ghost use Rattle.papaya_owned.specs.Owned.{IsShownAt, NamesAPair};
-ghost use Rattle.papaya_shown.specs.Given.Resize.Lookup.{lookup_plan};
-ghost use Rattle.papaya_whole.specs.Given.Rule.Chart.{Chart};
-ghost use Rattle.papaya_whole.specs.Given.Rule.Words.{Blocks};
+ghost use Rattle.papaya_shown.specs.Given.ResizeLookup.{lookup_plan};
+ghost use Rattle.papaya_whole.specs.Given.RuleChart.{Chart};
+ghost use Rattle.papaya_whole.specs.Given.RuleWords.{Blocks};
 
 use crate::most_looks::MostLooks;
 use crate::tries::{Tried, tries};

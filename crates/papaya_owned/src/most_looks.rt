@@ -1,6 +1,6 @@
 //! How many steps a lookup may still take. Only proofs read it.
 ghost use Rattle.papaya_owned.specs.Within.{HasLeast, has_least_prop, within};
-ghost use Rattle.papaya_shown.specs.Given.Resize.Lookup.{lookup_plan};
+ghost use Rattle.papaya_shown.specs.Given.ResizeLookup.{lookup_plan};
 
 use papaya_raw::machines::Lookup;
 use papaya_tables::{Equivalent, Node};

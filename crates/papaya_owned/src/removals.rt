@@ -1,5 +1,5 @@
 //! Removals that the owner of a map runs to their ends.
-ghost use Rattle.papaya_straight.specs.Given.Raw.CallPoints.{removing};
+ghost use Rattle.papaya_straight.specs.Given.RawCallPoints.{removing};
 ghost use Rattle.papaya_owned.specs.Ending.{Ends, RunsTo};
 ghost use Rattle.papaya_owned.specs.Machines.{on_call, on_key_plan};
 ghost use Rattle.papaya_owned.specs.declared.machines.OnKey.{OnKey as Running};

@@ -1,11 +1,11 @@
 //! Room for further pairs in one owner's map: a reservation, run to its end.
 ghost use Rattle.std.specs.Prelude.{◌≡◌, List, length, Err};
 ghost use Rattle.papaya_owned.specs.Ending.{HasCome};
-ghost use Rattle.papaya_whole.specs.Given.Reserves.Reserve.{reserving};
+ghost use Rattle.papaya_whole.specs.Given.ReservesReserve.{reserving};
 ghost use Rattle.papaya_owned.specs.Machines.{for_room_plan};
 ghost use Rattle.papaya_owned.specs.Owned.{Holds};
 ghost use Rattle.papaya_owned.specs.Rooms.{NeedTooMany, RoomBy};
-ghost use Rattle.seize.specs.Given.SeizeWords.declared.fault.Fault.TheVariants.{Capacity};
+ghost use Rattle.seize.specs.Given.SeizeWordsDeclared.fault.Fault.TheVariants.{Capacity};
 
 use crate::machines::ForRoom;
 use crate::running::run;

@@ -1,11 +1,11 @@
 //! The tries of a lookup at one table, one after another.
 ghost use Rattle.std.specs.Prelude.{◌≡◌, ℕ, true, IfSome, IsSome, is_some, option_map};
-ghost use Rattle.seize.specs.Given.SeizeWords.Mem.{Can, Took, value_at};
-ghost use Rattle.seize.specs.Given.SeizeWords.Plan.{May, Steps};
-ghost use Rattle.papaya_straight.specs.Given.Tables.declared.node.Node.TheVariants as node;
-ghost use Rattle.papaya_shown.specs.Given.Resize.Lookup.{lookup_plan, names_pair, told_of};
-ghost use Rattle.papaya_whole.specs.Given.Rule.Chart.{Chart};
-ghost use Rattle.papaya_whole.specs.Given.Rule.Words.{Blocks};
+ghost use Rattle.seize.specs.Given.SeizeWordsMem.{Can, Took, value_at};
+ghost use Rattle.seize.specs.Given.SeizeWordsPlan.{May, Steps};
+ghost use Rattle.papaya_straight.specs.Given.TablesDeclared.node.Node.TheVariants as node;
+ghost use Rattle.papaya_shown.specs.Given.ResizeLookup.{lookup_plan, names_pair, told_of};
+ghost use Rattle.papaya_whole.specs.Given.RuleChart.{Chart};
+ghost use Rattle.papaya_whole.specs.Given.RuleWords.{Blocks};
 ghost use Rattle.papaya_owned.specs.Looking.{LooksIn, at_try};
 ghost use Rattle.papaya_owned.specs.Owned.{IsPairAt};
 ghost use Rattle.papaya_owned.specs.Tries.{IsMet, Nearer, TriesTo, is_there, tried_beyond};

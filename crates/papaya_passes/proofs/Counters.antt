@@ -2,14 +2,14 @@
 use Rattle.std.specs.Prelude.{◌&&◌, IsSome, Option}
 use Rattle.std.proofs.Common.{◌≡◌, ◌≢◌, ℕ, suc, Bool, true, false, cond, eqb, Some, ap, ◌∙◌, arith}
 use Rattle.std.proofs.lemmas.Bool.{ne_eqb}
-use Rattle.papaya_falls.specs.Given.SeizeWords.declared.at.At.TheVariants.{Root, Word}
-use Rattle.papaya_falls.specs.Given.SeizeWords.Mem.{Mem, value_at, word_at, with_word}
-use Rattle.papaya_falls.proofs.Given.SeizeWords.OneOwner.AfterWrites.{word_at-with_word}
-use Rattle.papaya_falls.specs.Given.Tables.declared.node.Node.{Node}
-use Rattle.papaya_falls.specs.Given.Tables.declared.node.Node.TheVariants as node
-use Rattle.papaya_falls.specs.Given.Tables.declared.table_words.TheConstants.{NEXT}
-use Rattle.papaya_falls.specs.Given.Rule.Chart.{Chart}
-use Rattle.papaya_falls.specs.Given.Rule.Words.{Blocks, Shows}
+use Rattle.papaya_falls.specs.Given.SeizeWordsDeclared.at.At.TheVariants.{Root, Word}
+use Rattle.papaya_falls.specs.Given.SeizeWordsMem.{Mem, value_at, word_at, with_word}
+use Rattle.papaya_falls.proofs.Given.SeizeWordsOneOwner.AfterWrites.{word_at-with_word}
+use Rattle.papaya_falls.specs.Given.TablesDeclared.node.Node.{Node}
+use Rattle.papaya_falls.specs.Given.TablesDeclared.node.Node.TheVariants as node
+use Rattle.papaya_falls.specs.Given.TablesDeclared.table_words.TheConstants.{NEXT}
+use Rattle.papaya_falls.specs.Given.RuleChart.{Chart}
+use Rattle.papaya_falls.specs.Given.RuleWords.{Blocks, Shows}
 use Rattle.papaya_falls.proofs.Onward.{KeepsLinks}
 
 module _ {K V : Type 0} {hash : K → ℕ} (root : ℕ) (c : Chart K) (blocks : Blocks) (m : Mem (Node K V)) (shows : Shows hash m c blocks root) (counter : ℕ)

@@ -1,17 +1,17 @@
 -- What a sweep that is at a place of its table knows of it, and its numbers once that place is behind it.
 use Rattle.std.proofs.Common.{◌≡◌, ℕ, suc, ◌-◌, ◌^◌, ◌<◌, ◌≤◌, Bool, true, List, ◌∷◌, ap, arith}
-use Rattle.papaya_falls.specs.Given.Seize.World.{World}
-use Rattle.papaya_falls.specs.Given.Tables.declared.node.Node.{Node}
-use Rattle.papaya_falls.specs.Given.Tables.declared.setting.Setting.{Setting}
-use Rattle.papaya_falls.specs.Given.Tables.declared.table.Table.{Table}
-use Rattle.papaya_falls.specs.Given.Sweeps.SweepPoints.{further}
-use Rattle.papaya_falls.specs.Given.Sweeps.declared.sweep.Sweep.{Sweep}
-use Rattle.papaya_falls.specs.Given.Rule.Chart.{Chart}
-use Rattle.papaya_falls.specs.Given.Rule.Words.{Blocks}
-use Rattle.papaya_falls.specs.Given.Rule.InWorld.{IsMapIn}
-use Rattle.papaya_falls.specs.Given.Points.Measures.{IsBelow}
+use Rattle.papaya_falls.specs.Given.SeizeWorld.{World}
+use Rattle.papaya_falls.specs.Given.TablesDeclared.node.Node.{Node}
+use Rattle.papaya_falls.specs.Given.TablesDeclared.setting.Setting.{Setting}
+use Rattle.papaya_falls.specs.Given.TablesDeclared.table.Table.{Table}
+use Rattle.papaya_falls.specs.Given.SweepsSweepPoints.{further}
+use Rattle.papaya_falls.specs.Given.SweepsDeclared.sweep.Sweep.{Sweep}
+use Rattle.papaya_falls.specs.Given.RuleChart.{Chart}
+use Rattle.papaya_falls.specs.Given.RuleWords.{Blocks}
+use Rattle.papaya_falls.specs.Given.RuleInWorld.{IsMapIn}
+use Rattle.papaya_falls.specs.Given.PointsMeasures.{IsBelow}
 use Rattle.papaya_falls.specs.Room.{tables_to_come}
-use Rattle.papaya_falls.specs.Given.Late.FactsSweeps.{GoesOver}
+use Rattle.papaya_falls.specs.Given.LateFactsSweeps.{GoesOver}
 use Rattle.papaya_passes.specs.Sweeps.{number_of_sweep}
 use Rattle.papaya_passes.proofs.Places.{further_below}
 

@@ -2,21 +2,21 @@
 use Rattle.std.specs.Prelude.{◌==◌, ◌&&◌, nat_lt, if◌then◌else◌}
 use Rattle.std.proofs.Common.{◌≡◌, ℕ, suc, ◌+◌, ◌-◌, ◌%◌, ◌^◌, ◌<◌, ◌≤◌, Bool, true, false, cond, List, [], ◌∷◌, inl, inr, refl, ap, subst, sym, arith}
 use Rattle.std.proofs.lemmas.Bool.{lt-ltb, eq-eqb}
-use Rattle.papaya_falls.specs.Given.SeizeWords.Word.{block_in}
-use Rattle.papaya_falls.specs.Given.Tables.Marks.{has_mark}
-use Rattle.papaya_falls.specs.Given.Tables.declared.marks.TheConstants.{COPYING}
-use Rattle.papaya_falls.specs.Given.Tables.Chunks.{is_incremental}
-use Rattle.papaya_falls.specs.Given.Tables.declared.table.Table.{Table}
-use Rattle.papaya_falls.specs.Given.Resize.CopierStates.{resting}
-use Rattle.papaya_falls.specs.Given.Resize.declared.copier.Copying.TheVariants as copies
-use Rattle.papaya_falls.specs.Given.Sweeps.SweepPoints.{removes, beginning, entering, further, telling, at_pair, seen}
-use Rattle.papaya_falls.specs.Given.Sweeps.declared.sweep.Purpose.{Purpose}
-use Rattle.papaya_falls.specs.Given.Sweeps.declared.sweep.Purpose.TheVariants.{Walks, Clears, Retains}
-use Rattle.papaya_falls.specs.Given.Sweeps.declared.sweep.Sweep.{Sweep}
-use Rattle.papaya_falls.specs.Given.Sweeps.declared.sweep.Sweeping.TheVariants as at
-use Rattle.papaya_falls.specs.Given.Rule.Chart.{Chart}
-use Rattle.papaya_falls.specs.Given.Rule.Words.{Blocks, place_word}
-use Rattle.papaya_falls.specs.Given.Points.Measures.{IsBelow}
+use Rattle.papaya_falls.specs.Given.SeizeWordsWord.{block_in}
+use Rattle.papaya_falls.specs.Given.TablesMarks.{has_mark}
+use Rattle.papaya_falls.specs.Given.TablesDeclared.marks.TheConstants.{COPYING}
+use Rattle.papaya_falls.specs.Given.TablesChunks.{is_incremental}
+use Rattle.papaya_falls.specs.Given.TablesDeclared.table.Table.{Table}
+use Rattle.papaya_falls.specs.Given.ResizeCopierStates.{resting}
+use Rattle.papaya_falls.specs.Given.ResizeDeclared.copier.Copying.TheVariants as copies
+use Rattle.papaya_falls.specs.Given.SweepsSweepPoints.{removes, beginning, entering, further, telling, at_pair, seen}
+use Rattle.papaya_falls.specs.Given.SweepsDeclared.sweep.Purpose.{Purpose}
+use Rattle.papaya_falls.specs.Given.SweepsDeclared.sweep.Purpose.TheVariants.{Walks, Clears, Retains}
+use Rattle.papaya_falls.specs.Given.SweepsDeclared.sweep.Sweep.{Sweep}
+use Rattle.papaya_falls.specs.Given.SweepsDeclared.sweep.Sweeping.TheVariants as at
+use Rattle.papaya_falls.specs.Given.RuleChart.{Chart}
+use Rattle.papaya_falls.specs.Given.RuleWords.{Blocks, place_word}
+use Rattle.papaya_falls.specs.Given.PointsMeasures.{IsBelow}
 use Rattle.papaya_falls.specs.Calls.{nothing_within}
 use Rattle.papaya_falls.specs.Room.{tables_to_come}
 use Rattle.papaya_passes.specs.Sweeps.{stale, numbers_at, number_of_sweep}

@@ -2,52 +2,52 @@
 use Rattle.std.specs.Prelude.{◌==◌, nat_lt, bit_and, if◌then◌else◌, List, [], ◌∷◌, ◌++◌}
 use Rattle.std.proofs.Common.{◌≡◌, ◌≢◌, ℕ, suc, ◌+◌, ◌-◌, ◌%◌, ◌^◌, ◌/◌, ◌<◌, ◌≤◌, Bool, true, false, cond, Some, ◌⊎◌, inl, inr, refl, ap, sym, subst, ◌∙◌, arith}
 use Rattle.std.proofs.lemmas.Bool.{le-ltb, ne_eqb}
-use Rattle.papaya_falls.specs.Given.SeizeWords.declared.at.At.TheVariants.{Root}
-use Rattle.papaya_falls.specs.Given.SeizeWords.Mem.{Mem, Took, value_at, word_at}
-use Rattle.papaya_falls.specs.Given.SeizeWords.Plan.{Now, Seeing, Steps}
-use Rattle.papaya_falls.proofs.Given.SeizeWords.OneOwner.Operations.{loaded, exchanged, added}
-use Rattle.papaya_falls.proofs.Given.SeizeWords.Plans.{ends_if}
-use Rattle.papaya_falls.proofs.Given.SeizeRule.Rows.Leaving.{steps_back}
-use Rattle.papaya_falls.specs.Given.Seize.World.{World}
-use Rattle.papaya_falls.specs.Given.Seize.declared.rows.settle.Settled.{Settled}
-use Rattle.papaya_falls.specs.Given.Seize.declared.rows.settle.Settled.TheVariants as settled
-use Rattle.papaya_falls.specs.Given.Tables.Chunks.{is_incremental}
-use Rattle.papaya_falls.specs.Given.Tables.Counts.{count_change, shard_of}
-use Rattle.papaya_falls.specs.Given.Tables.Marks.{has_mark}
-use Rattle.papaya_falls.specs.Given.Tables.Nodes.{table_seen}
-use Rattle.papaya_falls.specs.Given.Tables.TablePlaces.{at_word, at_place}
-use Rattle.papaya_falls.specs.Given.Tables.declared.marks.TheConstants.{COPYING, TOMBSTONE}
-use Rattle.papaya_falls.specs.Given.Tables.declared.node.Node.{Node}
-use Rattle.papaya_falls.specs.Given.Tables.declared.setting.Setting.{Setting}
-use Rattle.papaya_falls.specs.Given.Tables.declared.table.Table.{Table}
-use Rattle.papaya_falls.specs.Given.Tables.declared.table_words.TheConstants.{NEXT}
-use Rattle.papaya_falls.specs.Given.Resize.Copier.{copier_plan}
-use Rattle.papaya_falls.specs.Given.Resize.CopierStates.{copying_all}
-use Rattle.papaya_falls.specs.Given.Resize.Dispose.{disposing, dispose_plan}
-use Rattle.papaya_falls.specs.Given.Resize.Sum.{summing}
-use Rattle.papaya_falls.specs.Given.Resize.declared.copier.Copier.{Copier}
-use Rattle.papaya_falls.specs.Given.Resize.declared.dispose.Dispose.{Dispose}
-use Rattle.papaya_falls.specs.Given.Resize.declared.outcome.Outcome.{Outcome}
-use Rattle.papaya_falls.specs.Given.Resize.declared.outcome.Outcome.TheVariants as outcome
-use Rattle.papaya_falls.specs.Given.Sweeps.Sweep.{word_found, tried, root_read, next_read, copied, disposed, plan_at, sweep_plan}
-use Rattle.papaya_falls.specs.Given.Sweeps.SweepPoints.{removes, tableless, beginning, entering, told, telling, going, seen}
-use Rattle.papaya_falls.specs.Given.Sweeps.declared.sweep.Sweep.{Sweep}
-use Rattle.papaya_falls.specs.Given.Sweeps.declared.sweep.Sweeping.{Sweeping}
-use Rattle.papaya_falls.specs.Given.Sweeps.declared.sweep.Sweeping.TheVariants as at
-use Rattle.papaya_falls.specs.Given.Sweeps.declared.sweep.Swept.{Swept}
-use Rattle.papaya_falls.specs.Given.Rule.Chart.{Chart}
-use Rattle.papaya_falls.specs.Given.Rule.Words.{Blocks, byte_of, place_word}
-use Rattle.papaya_falls.specs.Given.Rule.Maps.{IsTable}
-use Rattle.papaya_falls.specs.Given.Rule.InWorld.{IsMapIn}
-use Rattle.papaya_falls.proofs.Given.Rule.Words.LinksRead.{link_ends}
-use Rattle.papaya_falls.proofs.Given.Rule.Words.LinksSeen.{next_leads}
-use Rattle.papaya_falls.proofs.Given.Rule.Words.PlaceWordsMarks.{has_copying}
-use Rattle.papaya_falls.proofs.Given.Rule.Words.TablesSeen.{place_there}
-use Rattle.papaya_falls.proofs.Given.Rule.Words.WritesWords.{is_some_of}
-use Rattle.papaya_falls.specs.Given.Points.FactsDisposes.{DisposeFacts}
-use Rattle.papaya_falls.specs.Given.Points.Measures.{IsBelow}
-use Rattle.papaya_falls.specs.Given.Points.MeasuresDisposes.{number_of_dispose}
-use Rattle.papaya_falls.proofs.Given.Points.Steps.CountsShards.{shard_some}
+use Rattle.papaya_falls.specs.Given.SeizeWordsDeclared.at.At.TheVariants.{Root}
+use Rattle.papaya_falls.specs.Given.SeizeWordsMem.{Mem, Took, value_at, word_at}
+use Rattle.papaya_falls.specs.Given.SeizeWordsPlan.{Now, Seeing, Steps}
+use Rattle.papaya_falls.proofs.Given.SeizeWordsOneOwner.Operations.{loaded, exchanged, added}
+use Rattle.papaya_falls.proofs.Given.SeizeWordsPlans.{ends_if}
+use Rattle.papaya_falls.proofs.Given.SeizeRuleRows.Leaving.{steps_back}
+use Rattle.papaya_falls.specs.Given.SeizeWorld.{World}
+use Rattle.papaya_falls.specs.Given.SeizeDeclared.rows.settle.Settled.{Settled}
+use Rattle.papaya_falls.specs.Given.SeizeDeclared.rows.settle.Settled.TheVariants as settled
+use Rattle.papaya_falls.specs.Given.TablesChunks.{is_incremental}
+use Rattle.papaya_falls.specs.Given.TablesCounts.{count_change, shard_of}
+use Rattle.papaya_falls.specs.Given.TablesMarks.{has_mark}
+use Rattle.papaya_falls.specs.Given.TablesNodes.{table_seen}
+use Rattle.papaya_falls.specs.Given.TablesTablePlaces.{at_word, at_place}
+use Rattle.papaya_falls.specs.Given.TablesDeclared.marks.TheConstants.{COPYING, TOMBSTONE}
+use Rattle.papaya_falls.specs.Given.TablesDeclared.node.Node.{Node}
+use Rattle.papaya_falls.specs.Given.TablesDeclared.setting.Setting.{Setting}
+use Rattle.papaya_falls.specs.Given.TablesDeclared.table.Table.{Table}
+use Rattle.papaya_falls.specs.Given.TablesDeclared.table_words.TheConstants.{NEXT}
+use Rattle.papaya_falls.specs.Given.ResizeCopier.{copier_plan}
+use Rattle.papaya_falls.specs.Given.ResizeCopierStates.{copying_all}
+use Rattle.papaya_falls.specs.Given.ResizeDispose.{disposing, dispose_plan}
+use Rattle.papaya_falls.specs.Given.ResizeSum.{summing}
+use Rattle.papaya_falls.specs.Given.ResizeDeclared.copier.Copier.{Copier}
+use Rattle.papaya_falls.specs.Given.ResizeDeclared.dispose.Dispose.{Dispose}
+use Rattle.papaya_falls.specs.Given.ResizeDeclared.outcome.Outcome.{Outcome}
+use Rattle.papaya_falls.specs.Given.ResizeDeclared.outcome.Outcome.TheVariants as outcome
+use Rattle.papaya_falls.specs.Given.SweepsSweep.{word_found, tried, root_read, next_read, copied, disposed, plan_at, sweep_plan}
+use Rattle.papaya_falls.specs.Given.SweepsSweepPoints.{removes, tableless, beginning, entering, told, telling, going, seen}
+use Rattle.papaya_falls.specs.Given.SweepsDeclared.sweep.Sweep.{Sweep}
+use Rattle.papaya_falls.specs.Given.SweepsDeclared.sweep.Sweeping.{Sweeping}
+use Rattle.papaya_falls.specs.Given.SweepsDeclared.sweep.Sweeping.TheVariants as at
+use Rattle.papaya_falls.specs.Given.SweepsDeclared.sweep.Swept.{Swept}
+use Rattle.papaya_falls.specs.Given.RuleChart.{Chart}
+use Rattle.papaya_falls.specs.Given.RuleWords.{Blocks, byte_of, place_word}
+use Rattle.papaya_falls.specs.Given.RuleMaps.{IsTable}
+use Rattle.papaya_falls.specs.Given.RuleInWorld.{IsMapIn}
+use Rattle.papaya_falls.proofs.Given.RuleWords.LinksRead.{link_ends}
+use Rattle.papaya_falls.proofs.Given.RuleWords.LinksSeen.{next_leads}
+use Rattle.papaya_falls.proofs.Given.RuleWords.PlaceWordsMarks.{has_copying}
+use Rattle.papaya_falls.proofs.Given.RuleWords.TablesSeen.{place_there}
+use Rattle.papaya_falls.proofs.Given.RuleWords.WritesWords.{is_some_of}
+use Rattle.papaya_falls.specs.Given.PointsFactsDisposes.{DisposeFacts}
+use Rattle.papaya_falls.specs.Given.PointsMeasures.{IsBelow}
+use Rattle.papaya_falls.specs.Given.PointsMeasuresDisposes.{number_of_dispose}
+use Rattle.papaya_falls.proofs.Given.PointsSteps.CountsShards.{shard_some}
 use Rattle.papaya_falls.specs.Calls.{nothing_within}
 use Rattle.papaya_falls.specs.Room.{planned_in_copying, tables_to_come}
 use Rattle.papaya_falls.proofs.Below.{below_followed}
@@ -57,9 +57,9 @@ use Rattle.papaya_falls.proofs.Copiers.CopierOn.{past_still, past_place}
 use Rattle.papaya_falls.proofs.Reserves.CopiesLower.{CopyFalls, copies_fall}
 use Rattle.papaya_falls.proofs.Within.DisposalRows.{RowGoesFurther}
 use Rattle.papaya_falls.proofs.Within.Disposals.{disposed_on, disposed_still}
-use Rattle.papaya_falls.specs.Given.Late.FactsSweeps.{GoesOver, CopiesTable, SweepingFacts, SweepFacts}
-use Rattle.papaya_falls.specs.Given.Late.ToldSweeps.{IsRowOfSweep}
-use Rattle.papaya_falls.proofs.Given.Late.Swept.Sweeps.Tables.{upto, has_next}
+use Rattle.papaya_falls.specs.Given.LateFactsSweeps.{GoesOver, CopiesTable, SweepingFacts, SweepFacts}
+use Rattle.papaya_falls.specs.Given.LateToldSweeps.{IsRowOfSweep}
+use Rattle.papaya_falls.proofs.Given.LateSwept.Sweeps.Tables.{upto, has_next}
 use Rattle.papaya_passes.specs.FallsSweeps.{ComesOn}
 use Rattle.papaya_passes.specs.Sweeps.{stale, numbers_at, number_of_sweep}
 use Rattle.papaya_passes.proofs.Counters.{keeps_counted}

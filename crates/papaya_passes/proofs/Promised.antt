@@ -1,9 +1,9 @@
 -- What is promised of the number of a sweep, over its own steps.
 use Rattle.std.proofs.Common.{◌≡◌, ℕ, Bool, length, rules}
-use Rattle.papaya_falls.specs.Given.Sweeps.declared.sweep.Sweep.{Sweep}
-use Rattle.papaya_falls.specs.Given.Sweeps.declared.sweep.Sweeping.{Sweeping}
-use Rattle.papaya_falls.specs.Given.Rule.Chart.{Chart}
-use Rattle.papaya_falls.specs.Given.Rule.Words.{Blocks}
+use Rattle.papaya_falls.specs.Given.SweepsDeclared.sweep.Sweep.{Sweep}
+use Rattle.papaya_falls.specs.Given.SweepsDeclared.sweep.Sweeping.{Sweeping}
+use Rattle.papaya_falls.specs.Given.RuleChart.{Chart}
+use Rattle.papaya_falls.specs.Given.RuleWords.{Blocks}
 use Rattle.papaya_falls.proofs.Led.{onward}
 use Rattle.papaya_passes.specs.FallsSweeps.{SweepsFall, SweepNumbersAreAsMany}
 use Rattle.papaya_passes.specs.Sweeps.{numbers_at}

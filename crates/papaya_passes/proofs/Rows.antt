@@ -1,38 +1,38 @@
 -- A row of the collector within a sweep leaves the sweep's number as it is, and its end lowers it.
 use Rattle.std.specs.Prelude.{nat_lt, ◌&&◌, if◌then◌else◌, ◌++◌}
 use Rattle.std.proofs.Common.{◌≡◌, ℕ, ◌+◌, ◌%◌, ◌^◌, Bool, true, false, [], ◌∷◌, ◌⊎◌, inl, inr, refl, ap, sym, subst, ◌∙◌}
-use Rattle.papaya_falls.specs.Given.SeizeWords.Mem.{Mem, Took, value_at}
-use Rattle.papaya_falls.specs.Given.SeizeWords.Plan.{Steps}
-use Rattle.papaya_falls.proofs.Given.SeizeRule.Rows.Leaving.{steps_back}
-use Rattle.papaya_falls.specs.Given.Seize.World.{World}
-use Rattle.papaya_falls.specs.Given.Seize.declared.rows.settle.Settled.{Settled}
-use Rattle.papaya_falls.specs.Given.Seize.declared.rows.settle.Settled.TheVariants as settled
-use Rattle.papaya_falls.specs.Given.Tables.declared.node.Node.{Node}
-use Rattle.papaya_falls.specs.Given.Tables.declared.setting.Setting.{Setting}
-use Rattle.papaya_falls.specs.Given.Tables.declared.table.Table.{Table}
-use Rattle.papaya_falls.specs.Given.Resize.Copier.{copier_plan}
-use Rattle.papaya_falls.specs.Given.Resize.Dispose.{dispose_plan}
-use Rattle.papaya_falls.specs.Given.Resize.declared.copier.Copier.{Copier}
-use Rattle.papaya_falls.specs.Given.Resize.declared.dispose.Dispose.{Dispose}
-use Rattle.papaya_falls.specs.Given.Resize.declared.outcome.Outcome.{Outcome}
-use Rattle.papaya_falls.specs.Given.Resize.declared.outcome.Outcome.TheVariants as outcome
-use Rattle.papaya_falls.specs.Given.Sweeps.Sweep.{copied, disposed, plan_at}
-use Rattle.papaya_falls.specs.Given.Sweeps.SweepPoints.{removes, further}
-use Rattle.papaya_falls.specs.Given.Sweeps.declared.sweep.Sweep.{Sweep}
-use Rattle.papaya_falls.specs.Given.Sweeps.declared.sweep.Sweeping.{Sweeping}
-use Rattle.papaya_falls.specs.Given.Sweeps.declared.sweep.Sweeping.TheVariants as at
-use Rattle.papaya_falls.specs.Given.Sweeps.declared.sweep.Swept.{Swept}
-use Rattle.papaya_falls.specs.Given.Rule.Chart.{Chart}
-use Rattle.papaya_falls.specs.Given.Rule.Words.{Blocks}
-use Rattle.papaya_falls.specs.Given.Rule.InWorld.{IsMapIn}
-use Rattle.papaya_falls.specs.Given.Points.Measures.{IsBelow}
-use Rattle.papaya_falls.specs.Given.Points.MeasuresDisposes.{number_of_dispose}
-use Rattle.papaya_falls.specs.Given.Points.Told.{IsRowOf}
+use Rattle.papaya_falls.specs.Given.SeizeWordsMem.{Mem, Took, value_at}
+use Rattle.papaya_falls.specs.Given.SeizeWordsPlan.{Steps}
+use Rattle.papaya_falls.proofs.Given.SeizeRuleRows.Leaving.{steps_back}
+use Rattle.papaya_falls.specs.Given.SeizeWorld.{World}
+use Rattle.papaya_falls.specs.Given.SeizeDeclared.rows.settle.Settled.{Settled}
+use Rattle.papaya_falls.specs.Given.SeizeDeclared.rows.settle.Settled.TheVariants as settled
+use Rattle.papaya_falls.specs.Given.TablesDeclared.node.Node.{Node}
+use Rattle.papaya_falls.specs.Given.TablesDeclared.setting.Setting.{Setting}
+use Rattle.papaya_falls.specs.Given.TablesDeclared.table.Table.{Table}
+use Rattle.papaya_falls.specs.Given.ResizeCopier.{copier_plan}
+use Rattle.papaya_falls.specs.Given.ResizeDispose.{dispose_plan}
+use Rattle.papaya_falls.specs.Given.ResizeDeclared.copier.Copier.{Copier}
+use Rattle.papaya_falls.specs.Given.ResizeDeclared.dispose.Dispose.{Dispose}
+use Rattle.papaya_falls.specs.Given.ResizeDeclared.outcome.Outcome.{Outcome}
+use Rattle.papaya_falls.specs.Given.ResizeDeclared.outcome.Outcome.TheVariants as outcome
+use Rattle.papaya_falls.specs.Given.SweepsSweep.{copied, disposed, plan_at}
+use Rattle.papaya_falls.specs.Given.SweepsSweepPoints.{removes, further}
+use Rattle.papaya_falls.specs.Given.SweepsDeclared.sweep.Sweep.{Sweep}
+use Rattle.papaya_falls.specs.Given.SweepsDeclared.sweep.Sweeping.{Sweeping}
+use Rattle.papaya_falls.specs.Given.SweepsDeclared.sweep.Sweeping.TheVariants as at
+use Rattle.papaya_falls.specs.Given.SweepsDeclared.sweep.Swept.{Swept}
+use Rattle.papaya_falls.specs.Given.RuleChart.{Chart}
+use Rattle.papaya_falls.specs.Given.RuleWords.{Blocks}
+use Rattle.papaya_falls.specs.Given.RuleInWorld.{IsMapIn}
+use Rattle.papaya_falls.specs.Given.PointsMeasures.{IsBelow}
+use Rattle.papaya_falls.specs.Given.PointsMeasuresDisposes.{number_of_dispose}
+use Rattle.papaya_falls.specs.Given.PointsTold.{IsRowOf}
 use Rattle.papaya_falls.specs.Room.{tables_to_come}
 use Rattle.papaya_falls.proofs.Within.DisposalRows.{StaysInRow, stays_in_row, none_in_row}
-use Rattle.papaya_falls.specs.Given.Late.FactsSweeps.{CopiesPairs}
-use Rattle.papaya_falls.specs.Given.Late.RowsSweeps.{Rests}
-use Rattle.papaya_falls.specs.Given.Late.ToldSweeps.{IsRowOfSweep}
+use Rattle.papaya_falls.specs.Given.LateFactsSweeps.{CopiesPairs}
+use Rattle.papaya_falls.specs.Given.LateRowsSweeps.{Rests}
+use Rattle.papaya_falls.specs.Given.LateToldSweeps.{IsRowOfSweep}
 use Rattle.papaya_passes.specs.FallsSweeps.{ComesOn, SweepRowsFall}
 use Rattle.papaya_passes.specs.Sweeps.{at_place, numbers_at, number_of_sweep}
 use Rattle.papaya_passes.proofs.Over.{further_on}

@@ -2,15 +2,15 @@
 use Rattle.std.specs.Prelude.{◌-◌, nat_lt, List, [], ◌∷◌}
 use Rattle.std.proofs.Common.{◌≡◌, ℕ, suc, ◌<◌, Bool, false, cond, ◌⊎◌, inl, inr, ap, subst, arith}
 use Rattle.std.proofs.lemmas.Bool.{lt-ltb}
-use Rattle.papaya_falls.specs.Given.Tables.Chunks.{is_incremental}
-use Rattle.papaya_falls.specs.Given.Resize.declared.copier.Copier.{Copier}
-use Rattle.papaya_falls.specs.Given.Resize.declared.copier.Copying.TheVariants as copies
-use Rattle.papaya_falls.specs.Given.Resize.declared.dispose.Dispose.{Dispose}
-use Rattle.papaya_falls.specs.Given.Sweeps.declared.sweep.Sweep.{Sweep}
-use Rattle.papaya_falls.specs.Given.Sweeps.declared.sweep.Sweeping.TheVariants as at
-use Rattle.papaya_falls.specs.Given.Rule.Chart.{Chart}
-use Rattle.papaya_falls.specs.Given.Rule.Words.{Blocks}
-use Rattle.papaya_falls.specs.Given.Points.Measures.{IsBelow}
+use Rattle.papaya_falls.specs.Given.TablesChunks.{is_incremental}
+use Rattle.papaya_falls.specs.Given.ResizeDeclared.copier.Copier.{Copier}
+use Rattle.papaya_falls.specs.Given.ResizeDeclared.copier.Copying.TheVariants as copies
+use Rattle.papaya_falls.specs.Given.ResizeDeclared.dispose.Dispose.{Dispose}
+use Rattle.papaya_falls.specs.Given.SweepsDeclared.sweep.Sweep.{Sweep}
+use Rattle.papaya_falls.specs.Given.SweepsDeclared.sweep.Sweeping.TheVariants as at
+use Rattle.papaya_falls.specs.Given.RuleChart.{Chart}
+use Rattle.papaya_falls.specs.Given.RuleWords.{Blocks}
+use Rattle.papaya_falls.specs.Given.PointsMeasures.{IsBelow}
 use Rattle.papaya_falls.specs.Reserves.{number_within}
 use Rattle.papaya_falls.specs.Room.{planned_in_copying, tables_to_come}
 use Rattle.papaya_passes.specs.Sweeps.{stale, number_of_sweep}

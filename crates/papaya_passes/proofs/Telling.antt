@@ -2,15 +2,15 @@
 use Rattle.std.specs.Prelude.{nat_lt, if◌then◌else◌}
 use Rattle.std.proofs.Common.{◌≡◌, ℕ, suc, ◌-◌, ◌<◌, ◌≤◌, Bool, true, false, ◌∷◌, ◌⊎◌, inl, inr, refl, subst, sym, arith}
 use Rattle.std.proofs.lemmas.Bool.{cases_lt}
-use Rattle.papaya_falls.specs.Given.Sweeps.SweepPoints.{next_at, reply_at}
-use Rattle.papaya_falls.specs.Given.Sweeps.declared.sweep.Sweep.{Sweep}
-use Rattle.papaya_falls.specs.Given.Sweeps.declared.sweep.Sweeping.{Sweeping}
-use Rattle.papaya_falls.specs.Given.Sweeps.declared.sweep.Sweeping.TheVariants as at
-use Rattle.papaya_falls.specs.Given.Rule.Chart.{Chart}
-use Rattle.papaya_falls.specs.Given.Rule.Words.{Blocks}
-use Rattle.papaya_falls.specs.Given.Points.Measures.{IsBelow}
+use Rattle.papaya_falls.specs.Given.SweepsSweepPoints.{next_at, reply_at}
+use Rattle.papaya_falls.specs.Given.SweepsDeclared.sweep.Sweep.{Sweep}
+use Rattle.papaya_falls.specs.Given.SweepsDeclared.sweep.Sweeping.{Sweeping}
+use Rattle.papaya_falls.specs.Given.SweepsDeclared.sweep.Sweeping.TheVariants as at
+use Rattle.papaya_falls.specs.Given.RuleChart.{Chart}
+use Rattle.papaya_falls.specs.Given.RuleWords.{Blocks}
+use Rattle.papaya_falls.specs.Given.PointsMeasures.{IsBelow}
 use Rattle.papaya_falls.specs.Room.{tables_to_come}
-use Rattle.papaya_falls.specs.Given.Late.FactsSweeps.{SweepingFacts}
+use Rattle.papaya_falls.specs.Given.LateFactsSweeps.{SweepingFacts}
 use Rattle.papaya_passes.specs.FallsSweeps.{TellingFalls}
 use Rattle.papaya_passes.specs.Sweeps.{stale, numbers_at, number_of_sweep}
 use Rattle.papaya_passes.proofs.Over.{further_on}

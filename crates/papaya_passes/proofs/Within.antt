@@ -1,35 +1,35 @@
 -- A copying within a sweep is one within a reservation: its copier knows as much, and the numbers are those.
 use Rattle.std.proofs.Common.{◌≡◌, ℕ, List, Bool, ◌⊎◌, inl, inr, ap, sym, subst, ◌∙◌}
-use Rattle.papaya_falls.specs.Given.SeizeWords.Mem.{Mem, Can, Took, value_at}
-use Rattle.papaya_falls.specs.Given.SeizeWords.Plan.{Steps}
-use Rattle.papaya_falls.proofs.Given.SeizeWords.Plans.{steps_as}
-use Rattle.papaya_falls.specs.Given.Seize.World.{World}
-use Rattle.papaya_falls.specs.Given.Seize.declared.rows.settle.Settle.{Settle}
-use Rattle.papaya_falls.specs.Given.Seize.declared.rows.settle.Settled.{Settled}
-use Rattle.papaya_falls.specs.Given.Seize.declared.rows.settle.Settled.TheVariants as settled
-use Rattle.papaya_falls.specs.Given.Tables.Chunks.{is_incremental}
-use Rattle.papaya_falls.specs.Given.Tables.declared.node.Node.{Node}
-use Rattle.papaya_falls.specs.Given.Tables.declared.setting.Setting.{Setting}
-use Rattle.papaya_falls.specs.Given.Tables.declared.table.Table.{Table}
-use Rattle.papaya_falls.specs.Given.Resize.Copier.{copier_plan}
-use Rattle.papaya_falls.specs.Given.Resize.CopierPromotes.{retired}
-use Rattle.papaya_falls.specs.Given.Resize.declared.copier.Copier.{Copier}
-use Rattle.papaya_falls.specs.Given.Resize.declared.outcome.Outcome.{Outcome}
-use Rattle.papaya_falls.specs.Given.Resize.declared.outcome.Outcome.TheVariants.{Goes, Waits, Gave, Done, Refused}
-use Rattle.papaya_falls.specs.Given.Reserves.Reserve.{copied}
-use Rattle.papaya_falls.specs.Given.Reserves.declared.reserve.Reserve.{Reserve}
-use Rattle.papaya_falls.specs.Given.Reserves.declared.reserve.Reserving.TheVariants as at
-use Rattle.papaya_falls.specs.Given.Rule.Chart.{Chart}
-use Rattle.papaya_falls.specs.Given.Rule.Words.{Blocks}
-use Rattle.papaya_falls.specs.Given.Points.Measures.{IsBelow}
-use Rattle.papaya_falls.specs.Given.Points.Told.{IsRowOfCopier}
+use Rattle.papaya_falls.specs.Given.SeizeWordsMem.{Mem, Can, Took, value_at}
+use Rattle.papaya_falls.specs.Given.SeizeWordsPlan.{Steps}
+use Rattle.papaya_falls.proofs.Given.SeizeWordsPlans.{steps_as}
+use Rattle.papaya_falls.specs.Given.SeizeWorld.{World}
+use Rattle.papaya_falls.specs.Given.SeizeDeclared.rows.settle.Settle.{Settle}
+use Rattle.papaya_falls.specs.Given.SeizeDeclared.rows.settle.Settled.{Settled}
+use Rattle.papaya_falls.specs.Given.SeizeDeclared.rows.settle.Settled.TheVariants as settled
+use Rattle.papaya_falls.specs.Given.TablesChunks.{is_incremental}
+use Rattle.papaya_falls.specs.Given.TablesDeclared.node.Node.{Node}
+use Rattle.papaya_falls.specs.Given.TablesDeclared.setting.Setting.{Setting}
+use Rattle.papaya_falls.specs.Given.TablesDeclared.table.Table.{Table}
+use Rattle.papaya_falls.specs.Given.ResizeCopier.{copier_plan}
+use Rattle.papaya_falls.specs.Given.ResizeCopierPromotes.{retired}
+use Rattle.papaya_falls.specs.Given.ResizeDeclared.copier.Copier.{Copier}
+use Rattle.papaya_falls.specs.Given.ResizeDeclared.outcome.Outcome.{Outcome}
+use Rattle.papaya_falls.specs.Given.ResizeDeclared.outcome.Outcome.TheVariants.{Goes, Waits, Gave, Done, Refused}
+use Rattle.papaya_falls.specs.Given.ReservesReserve.{copied}
+use Rattle.papaya_falls.specs.Given.ReservesDeclared.reserve.Reserve.{Reserve}
+use Rattle.papaya_falls.specs.Given.ReservesDeclared.reserve.Reserving.TheVariants as at
+use Rattle.papaya_falls.specs.Given.RuleChart.{Chart}
+use Rattle.papaya_falls.specs.Given.RuleWords.{Blocks}
+use Rattle.papaya_falls.specs.Given.PointsMeasures.{IsBelow}
+use Rattle.papaya_falls.specs.Given.PointsTold.{IsRowOfCopier}
 use Rattle.papaya_falls.specs.FallsWithin.{GoesFurther}
 use Rattle.papaya_falls.specs.Reserves.{numbers_at}
 use Rattle.papaya_falls.proofs.Calls.LateFacts.{late_copying}
 use Rattle.papaya_falls.proofs.Copiers.Rows.{in_row, retires_back}
 use Rattle.papaya_falls.proofs.Laws.{reserve_rows_fall}
 use Rattle.papaya_falls.proofs.Reserves.Stands.{WholeStands, reserve_stands}
-use Rattle.papaya_falls.specs.Given.Late.FactsSweeps.{CopiesTable}
+use Rattle.papaya_falls.specs.Given.LateFactsSweeps.{CopiesTable}
 
 -- a reservation with this copier
 abbrev pub reserve_with : Setting → Copier → Reserve

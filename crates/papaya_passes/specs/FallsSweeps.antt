@@ -1,25 +1,25 @@
 -- What is promised of the number of a sweep: each step that goes on lowers it, whatever other callers have under way.
 use Rattle.std.specs.Prelude.{◌≡◌, ◌≢◌, ℕ, Bool, length, ◌⊎◌}
-use Rattle.papaya_falls.specs.Given.SeizeWords.Mem.{Mem, Took, value_at}
-use Rattle.papaya_falls.specs.Given.SeizeWords.Plan.{Steps}
-use Rattle.papaya_falls.specs.Given.Seize.World.{World}
-use Rattle.papaya_falls.specs.Given.Tables.declared.node.Node.{Node}
-use Rattle.papaya_falls.specs.Given.Tables.declared.setting.Setting.{Setting}
-use Rattle.papaya_falls.specs.Given.Sweeps.Sweep.{sweep_plan}
-use Rattle.papaya_falls.specs.Given.Sweeps.SweepPoints.{after_next, after_reply}
-use Rattle.papaya_falls.specs.Given.Sweeps.declared.sweep.Sweep.{Sweep}
-use Rattle.papaya_falls.specs.Given.Sweeps.declared.sweep.Sweeping.{Sweeping}
-use Rattle.papaya_falls.specs.Given.Sweeps.declared.sweep.Sweeping.TheVariants as at
-use Rattle.papaya_falls.specs.Given.Sweeps.declared.sweep.Swept.{Swept}
-use Rattle.papaya_falls.specs.Given.Sweeps.declared.sweep.Swept.TheVariants as swept
-use Rattle.papaya_falls.specs.Given.Rule.Chart.{Chart}
-use Rattle.papaya_falls.specs.Given.Rule.Words.{Blocks}
-use Rattle.papaya_falls.specs.Given.Rule.InWorld.{IsMapIn, Went}
-use Rattle.papaya_falls.specs.Given.Points.Measures.{IsBelow}
-use Rattle.papaya_falls.specs.Given.Points.Steps.{AreLawful}
-use Rattle.papaya_falls.specs.Given.Late.FactsSweeps.{CopiesPairs, SweepFacts}
-use Rattle.papaya_falls.specs.Given.Late.RowsSweeps.{Rests}
-use Rattle.papaya_falls.specs.Given.Late.ToldSweeps.{IsRowOfSweep}
+use Rattle.papaya_falls.specs.Given.SeizeWordsMem.{Mem, Took, value_at}
+use Rattle.papaya_falls.specs.Given.SeizeWordsPlan.{Steps}
+use Rattle.papaya_falls.specs.Given.SeizeWorld.{World}
+use Rattle.papaya_falls.specs.Given.TablesDeclared.node.Node.{Node}
+use Rattle.papaya_falls.specs.Given.TablesDeclared.setting.Setting.{Setting}
+use Rattle.papaya_falls.specs.Given.SweepsSweep.{sweep_plan}
+use Rattle.papaya_falls.specs.Given.SweepsSweepPoints.{after_next, after_reply}
+use Rattle.papaya_falls.specs.Given.SweepsDeclared.sweep.Sweep.{Sweep}
+use Rattle.papaya_falls.specs.Given.SweepsDeclared.sweep.Sweeping.{Sweeping}
+use Rattle.papaya_falls.specs.Given.SweepsDeclared.sweep.Sweeping.TheVariants as at
+use Rattle.papaya_falls.specs.Given.SweepsDeclared.sweep.Swept.{Swept}
+use Rattle.papaya_falls.specs.Given.SweepsDeclared.sweep.Swept.TheVariants as swept
+use Rattle.papaya_falls.specs.Given.RuleChart.{Chart}
+use Rattle.papaya_falls.specs.Given.RuleWords.{Blocks}
+use Rattle.papaya_falls.specs.Given.RuleInWorld.{IsMapIn, Went}
+use Rattle.papaya_falls.specs.Given.PointsMeasures.{IsBelow}
+use Rattle.papaya_falls.specs.Given.PointsSteps.{AreLawful}
+use Rattle.papaya_falls.specs.Given.LateFactsSweeps.{CopiesPairs, SweepFacts}
+use Rattle.papaya_falls.specs.Given.LateRowsSweeps.{Rests}
+use Rattle.papaya_falls.specs.Given.LateToldSweeps.{IsRowOfSweep}
 use Rattle.papaya_passes.specs.Sweeps.{number_of_sweep}
 
 -- A step from here goes on, and may have handed out a value that was reclaimed; or it shows a pair, or comes to be asked for the next one, or to be told

@@ -1,12 +1,12 @@
 -- The numbers that each step of a sweep lowers that goes on, whatever other callers do.
 use Rattle.std.specs.Prelude.{ℕ, suc, ◌-◌, ◌==◌, cond, nat_lt, List, [], ◌∷◌, ◌++◌}
-use Rattle.papaya_falls.specs.Given.Tables.Chunks.{is_incremental}
-use Rattle.papaya_falls.specs.Given.Sweeps.declared.sweep.Sweep.{Sweep}
-use Rattle.papaya_falls.specs.Given.Sweeps.declared.sweep.Sweeping.{Sweeping}
-use Rattle.papaya_falls.specs.Given.Sweeps.declared.sweep.Sweeping.TheVariants as at
-use Rattle.papaya_falls.specs.Given.Rule.Chart.{Chart}
-use Rattle.papaya_falls.specs.Given.Rule.Words.{Blocks, place_word}
-use Rattle.papaya_falls.specs.Given.Points.MeasuresDisposes.{number_of_dispose}
+use Rattle.papaya_falls.specs.Given.TablesChunks.{is_incremental}
+use Rattle.papaya_falls.specs.Given.SweepsDeclared.sweep.Sweep.{Sweep}
+use Rattle.papaya_falls.specs.Given.SweepsDeclared.sweep.Sweeping.{Sweeping}
+use Rattle.papaya_falls.specs.Given.SweepsDeclared.sweep.Sweeping.TheVariants as at
+use Rattle.papaya_falls.specs.Given.RuleChart.{Chart}
+use Rattle.papaya_falls.specs.Given.RuleWords.{Blocks, place_word}
+use Rattle.papaya_falls.specs.Given.PointsMeasuresDisposes.{number_of_dispose}
 use Rattle.papaya_falls.specs.Calls.{nothing_within}
 use Rattle.papaya_falls.specs.Reserves.{number_within}
 use Rattle.papaya_falls.specs.Room.{planned_in_copying, tables_to_come}

@@ -1,6 +1,6 @@
 //! What is promised of the numbers of a walk, a clearing and a retaining.
 ghost use Rattle.std.specs.Prelude.{ℕ, Bool};
-ghost use Rattle.papaya_falls.specs.Given.Points.Measures.{DescentsEnd};
+ghost use Rattle.papaya_falls.specs.Given.PointsMeasures.{DescentsEnd};
 ghost use Rattle.papaya_passes.specs.FallsSweeps.{SweepsFall, TellingFalls, SweepRowsFall, SweepNumbersAreAsMany};
 
 /// In any state of a map that the rule allows, in both modes, and whatever other callers have under way, also once the root has left its table: a step

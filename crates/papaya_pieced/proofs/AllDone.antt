@@ -2,10 +2,10 @@
 use Rattle.std.specs.Prelude.{◌<◌, ◌⊎◌, ◌^◌, length, nat_lt, if◌then◌else◌}
 use Rattle.std.proofs.Common.{◌≡◌, ℕ, Bool, true, false, List, [], ◌∷◌, inl, inr, refl, sym, ap, subst, arith, ◌∙◌}
 use Rattle.std.proofs.lemmas.Bool.{ltb-false, ltb-true}
-use Rattle.papaya_tables.specs.Given.Seize.ReclaimAll.{clearing, reclaiming_all}
-use Rattle.papaya_tables.specs.Given.Seize.declared.rows.reclaim_all.ReclaimAll.{ReclaimAll}
-use Rattle.papaya_tables.specs.Given.Seize.declared.rows.settle.Settled.{Settled}
-use Rattle.papaya_tables.specs.Given.Seize.declared.rows.settle.Settled.TheVariants as settled
+use Rattle.papaya_tables.specs.Given.SeizeReclaimAll.{clearing, reclaiming_all}
+use Rattle.papaya_tables.specs.Given.SeizeDeclared.rows.reclaim_all.ReclaimAll.{ReclaimAll}
+use Rattle.papaya_tables.specs.Given.SeizeDeclared.rows.settle.Settled.{Settled}
+use Rattle.papaya_tables.specs.Given.SeizeDeclared.rows.settle.Settled.TheVariants as settled
 use Rattle.papaya_grouped.specs.Given.ScenesDeclared.callers.TheConstants.{SLOTS}
 use Rattle.papaya_grouped.specs.Given.ScenesScene.{slot_of}
 use Rattle.papaya_schedules.specs.declared.effect.Effect.{Effect}
@@ -16,7 +16,7 @@ use Rattle.papaya_schedules.specs.declared.outcome.Outcome.TheVariants as outcom
 use Rattle.papaya_schedules.specs.After.{moment}
 use Rattle.papaya_schedules.specs.Entry.{Entry}
 use Rattle.papaya_schedules.specs.Terms.{shards_of}
-use Rattle.papaya_deeds.specs.Given.SeizeWords.declared.fault.Fault.TheVariants as fault
+use Rattle.papaya_deeds.specs.Given.SeizeWordsDeclared.fault.Fault.TheVariants as fault
 use Rattle.papaya_events.specs.Given.EffectsKnown.{Known, known}
 use Rattle.papaya_grouped.specs.Given.ExecutorIsThere.{KeepsGiven}
 use Rattle.papaya_grouped.specs.Given.ExecutorDeclared.executor.Executor.{Executor}

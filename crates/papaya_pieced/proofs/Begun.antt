@@ -18,7 +18,7 @@ use Rattle.papaya_schedules.specs.Entry.{Entry, nameless}
 use Rattle.papaya_schedules.specs.Terms.{Terms, shards_of}
 use Rattle.papaya_schedules.specs.Views.{number_of}
 use Rattle.papaya_runs.specs.Stopped.{most_steps}
-use Rattle.papaya_deeds.specs.Given.SeizeWords.declared.fault.Fault.TheVariants as fault
+use Rattle.papaya_deeds.specs.Given.SeizeWordsDeclared.fault.Fault.TheVariants as fault
 use Rattle.papaya_events.specs.Given.EffectsKnown.{Known, known}
 use Rattle.papaya_grouped.specs.Given.ExecutorIsThere.{KeepsGiven, StaysGiven}
 use Rattle.papaya_grouped.specs.Given.ExecutorDeclared.executor.Executor.{Executor}

@@ -3,7 +3,7 @@ use Rattle.std.specs.Prelude.{◌≤◌, ◌==◌, Option, Some, None, option_ma
 use Rattle.std.specs.List.{remove}
 use Rattle.std.proofs.Common.{◌≡◌, ℕ, Bool, true, false, List, refl, sym, ap, subst, arith, ◌∙◌}
 use Rattle.std.proofs.lemmas.Bool.{eq-eqb}
-use Rattle.papaya_deeds.specs.Given.SeizeWords.Mem.{Mem}
+use Rattle.papaya_deeds.specs.Given.SeizeWordsMem.{Mem}
 use Rattle.papaya_tables.specs.declared.node.Node.{Node}
 use Rattle.papaya_raw.specs.declared.machines.machine.Machine.{Machine}
 use Rattle.papaya_raw.specs.declared.machines.progress.Progress.{Progress}

@@ -1,8 +1,8 @@
 -- An event by which a map ends: the list of acts goes on where the end begins, and by each of its steps.
 use Rattle.std.specs.Prelude.{◌⊎◌, Some, if◌then◌else◌}
 use Rattle.std.proofs.Common.{◌≡◌, ℕ, Bool, true, false, List, [], ◌∷◌, inl, inr, refl, sym, ap, subst, arith, ◌∙◌}
-use Rattle.papaya_tables.specs.Given.Seize.declared.rows.settle.Settled.{Settled}
-use Rattle.papaya_tables.specs.Given.Seize.declared.rows.settle.Settled.TheVariants as settled
+use Rattle.papaya_tables.specs.Given.SeizeDeclared.rows.settle.Settled.{Settled}
+use Rattle.papaya_tables.specs.Given.SeizeDeclared.rows.settle.Settled.TheVariants as settled
 use Rattle.papaya_tables.specs.declared.node.Node.{Node}
 use Rattle.papaya_grouped.specs.Given.ScenesScene.{slot_of}
 use Rattle.papaya_schedules.specs.declared.effect.Effect.{Effect}
@@ -14,7 +14,7 @@ use Rattle.papaya_schedules.specs.After.{moment}
 use Rattle.papaya_schedules.specs.Entry.{Entry}
 use Rattle.papaya_schedules.specs.Terms.{shards_of}
 use Rattle.papaya_schedules.specs.Views.{number_of}
-use Rattle.papaya_deeds.specs.Given.SeizeWords.declared.fault.Fault.{Fault}
+use Rattle.papaya_deeds.specs.Given.SeizeWordsDeclared.fault.Fault.{Fault}
 use Rattle.papaya_events.specs.Given.EffectsKnown.{Known, known}
 use Rattle.papaya_grouped.specs.Given.ExecutorIsThere.{KeepsGiven, work_of}
 use Rattle.papaya_events.specs.Given.LoggedEnds.{is_done}

@@ -6,12 +6,12 @@ use Rattle.std.proofs.lemmas.Bool.{cases_eq}
 use Rattle.std.proofs.lemmas.List.{length-take-le}
 use Rattle.papaya_events.specs.Given.SeizeActsAnswers.{Grant}
 use Rattle.papaya_events.proofs.Given.SeizeActsAnswers.{same_some}
-use Rattle.papaya_tables.specs.Given.Seize.declared.progress.Progress.{Progress}
-use Rattle.papaya_tables.specs.Given.Seize.declared.progress.Progress.TheVariants as progress
+use Rattle.papaya_tables.specs.Given.SeizeDeclared.progress.Progress.{Progress}
+use Rattle.papaya_tables.specs.Given.SeizeDeclared.progress.Progress.TheVariants as progress
 use Rattle.papaya_tables.specs.declared.resize_mode.ResizeMode.{ResizeMode}
 use Rattle.papaya_tables.specs.declared.setting.Setting.{Setting}
 use Rattle.papaya_tables.specs.Powers.{next_power}
-use Rattle.papaya_raw.specs.Given.Resize.declared.new_map.NewMap.{NewMap}
+use Rattle.papaya_raw.specs.Given.ResizeDeclared.new_map.NewMap.{NewMap}
 use Rattle.papaya_events.specs.Given.PointsSteps.{AreLawful}
 use Rattle.papaya_events.specs.Given.FinishesMakings.{Beginning}
 use Rattle.papaya_events.specs.Given.FinishesMaps.{Standing}
@@ -26,7 +26,7 @@ use Rattle.papaya_schedules.specs.declared.outcome.Outcome.TheVariants as outcom
 use Rattle.papaya_schedules.specs.After.{moment}
 use Rattle.papaya_schedules.specs.Entry.{Entry}
 use Rattle.papaya_schedules.specs.Terms.{Terms, shards_of}
-use Rattle.papaya_deeds.specs.Given.SeizeWords.declared.fault.Fault.{Fault}
+use Rattle.papaya_deeds.specs.Given.SeizeWordsDeclared.fault.Fault.{Fault}
 use Rattle.papaya_events.specs.Given.EffectsKnown.{Known, known}
 use Rattle.papaya_grouped.specs.Given.ExecutorIsThere.{IsThere, StaysGiven, making_in, work_of}
 use Rattle.papaya_grouped.specs.Given.ExecutorDeclared.executor.Executor.{Executor}

@@ -2,24 +2,24 @@
 use Rattle.std.specs.Prelude.{◌+◌, ◌==◌, Option, Some, None, Ok, Err, option_map, nat_lt, if◌then◌else◌}
 use Rattle.std.proofs.Common.{◌≡◌, ℕ, Bool, true, false, List, refl, sym, ap, subst, ◌∙◌}
 use Rattle.papaya_runs.specs.Present.{Present, guard_of, has_registration, living_slot, registration_of, guards_on}
-use Rattle.papaya_deeds.specs.Given.SeizeWords.Mem.{Mem, Took, value_at}
-use Rattle.papaya_deeds.specs.Given.SeizeWords.Op.{Out, Found, Exchanged, Roomed}
-use Rattle.papaya_deeds.specs.Given.SeizeWords.Plan.{Steps}
-use Rattle.papaya_deeds.specs.Given.SeizeWords.declared.fault.Fault.TheVariants.{SlotsUsedUp}
-use Rattle.papaya_tables.specs.Given.Seize.Leave as leave
-use Rattle.papaya_tables.specs.Given.Seize.Register as register
-use Rattle.papaya_tables.specs.Given.Seize.Settle.{settle_plan}
-use Rattle.papaya_tables.specs.Given.Seize.declared.progress.Progress.{Progress}
-use Rattle.papaya_tables.specs.Given.Seize.declared.rows.leave.Leave.{Leave}
-use Rattle.papaya_tables.specs.Given.Seize.declared.rows.leave.Leaving.{Leaving}
-use Rattle.papaya_tables.specs.Given.Seize.declared.rows.leave.Leaving.TheVariants as leaves
-use Rattle.papaya_tables.specs.Given.Seize.declared.rows.register.Register.{Register}
-use Rattle.papaya_tables.specs.Given.Seize.declared.rows.register.Registering.{Registering}
-use Rattle.papaya_tables.specs.Given.Seize.declared.rows.register.Registering.TheVariants as registers
-use Rattle.papaya_tables.specs.Given.Seize.declared.rows.settle.Settle.{Settle}
-use Rattle.papaya_tables.specs.Given.Seize.declared.rows.settle.Settled.{Settled}
-use Rattle.papaya_tables.specs.Given.Seize.declared.rows.settle.Settled.TheVariants as settled
-use Rattle.papaya_tables.specs.Given.Seize.declared.states.TheConstants.{ACTIVE, IDLE, LAST_SLOT}
+use Rattle.papaya_deeds.specs.Given.SeizeWordsMem.{Mem, Took, value_at}
+use Rattle.papaya_deeds.specs.Given.SeizeWordsOp.{Out, Found, Exchanged, Roomed}
+use Rattle.papaya_deeds.specs.Given.SeizeWordsPlan.{Steps}
+use Rattle.papaya_deeds.specs.Given.SeizeWordsDeclared.fault.Fault.TheVariants.{SlotsUsedUp}
+use Rattle.papaya_tables.specs.Given.SeizeLeave as leave
+use Rattle.papaya_tables.specs.Given.SeizeRegister as register
+use Rattle.papaya_tables.specs.Given.SeizeSettle.{settle_plan}
+use Rattle.papaya_tables.specs.Given.SeizeDeclared.progress.Progress.{Progress}
+use Rattle.papaya_tables.specs.Given.SeizeDeclared.rows.leave.Leave.{Leave}
+use Rattle.papaya_tables.specs.Given.SeizeDeclared.rows.leave.Leaving.{Leaving}
+use Rattle.papaya_tables.specs.Given.SeizeDeclared.rows.leave.Leaving.TheVariants as leaves
+use Rattle.papaya_tables.specs.Given.SeizeDeclared.rows.register.Register.{Register}
+use Rattle.papaya_tables.specs.Given.SeizeDeclared.rows.register.Registering.{Registering}
+use Rattle.papaya_tables.specs.Given.SeizeDeclared.rows.register.Registering.TheVariants as registers
+use Rattle.papaya_tables.specs.Given.SeizeDeclared.rows.settle.Settle.{Settle}
+use Rattle.papaya_tables.specs.Given.SeizeDeclared.rows.settle.Settled.{Settled}
+use Rattle.papaya_tables.specs.Given.SeizeDeclared.rows.settle.Settled.TheVariants as settled
+use Rattle.papaya_tables.specs.Given.SeizeDeclared.states.TheConstants.{ACTIVE, IDLE, LAST_SLOT}
 use Rattle.papaya_tables.specs.Nodes.{deferred_word}
 use Rattle.papaya_tables.specs.declared.node.Node.{Node}
 use Rattle.papaya_grouped.specs.Given.TellerDeclared.changed.Changed.{Changed}

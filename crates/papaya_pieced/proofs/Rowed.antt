@@ -18,8 +18,8 @@ use Rattle.papaya_schedules.specs.declared.outcome.Outcome.TheVariants as outcom
 use Rattle.papaya_schedules.specs.After.{moment}
 use Rattle.papaya_schedules.specs.Entry.{Entry}
 use Rattle.papaya_schedules.specs.Terms.{Terms, shards_of}
-use Rattle.papaya_deeds.specs.Given.SeizeWords.declared.fault.Fault.{Fault}
-use Rattle.papaya_deeds.specs.Given.SeizeWords.declared.fault.Fault.TheVariants.{Memory, SlotsUsedUp}
+use Rattle.papaya_deeds.specs.Given.SeizeWordsDeclared.fault.Fault.{Fault}
+use Rattle.papaya_deeds.specs.Given.SeizeWordsDeclared.fault.Fault.TheVariants.{Memory, SlotsUsedUp}
 use Rattle.papaya_events.specs.Given.EffectsKnown.{Known, known}
 use Rattle.papaya_grouped.specs.Given.ExecutorIsThere.{KeepsGiven, work_of}
 use Rattle.papaya_grouped.specs.Given.ExecutorOnSlots.{MayBegin, row_on}

@@ -3,7 +3,7 @@ use Rattle.std.specs.Prelude.{◌+◌, ◌++◌, Option, Some, option_map}
 use Rattle.std.proofs.Common.{◌≡◌, ℕ, Bool, false, List, refl, sym, ap, subst, ◌∙◌}
 use Rattle.papaya_events.specs.Given.SeizeActsAnswers.{Grant}
 use Rattle.papaya_events.proofs.Given.SeizeActsAnswers.{same_some}
-use Rattle.papaya_deeds.specs.Given.SeizeWords.Mem.{Mem}
+use Rattle.papaya_deeds.specs.Given.SeizeWordsMem.{Mem}
 use Rattle.papaya_tables.specs.declared.node.Node.{Node}
 use Rattle.papaya_raw.specs.Machine.{machine_plan}
 use Rattle.papaya_raw.specs.declared.machines.machine.Machine.{Machine}

@@ -15,7 +15,7 @@ use Rattle.papaya_schedules.specs.declared.outcome.Outcome.TheVariants as outcom
 use Rattle.papaya_schedules.specs.After.{moment}
 use Rattle.papaya_schedules.specs.Entry.{Entry}
 use Rattle.papaya_schedules.specs.Terms.{Terms, shards_of}
-use Rattle.papaya_deeds.specs.Given.SeizeWords.declared.fault.Fault.TheVariants as fault
+use Rattle.papaya_deeds.specs.Given.SeizeWordsDeclared.fault.Fault.TheVariants as fault
 use Rattle.papaya_events.specs.Given.EffectsKnown.{known}
 use Rattle.papaya_grouped.specs.Given.ExecutorIsThere.{IsThere, KeepsGiven, StaysGiven}
 use Rattle.papaya_grouped.specs.Given.ExecutorReplying.{StopsThere}

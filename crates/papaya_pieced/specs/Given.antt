@@ -38,8 +38,8 @@ pub use Rattle.papaya_tables.specs.Probes as TablesProbes
 pub use Rattle.papaya_tables.specs.declared as TablesDeclared
 pub use Rattle.papaya_events.specs.Given.FollowsBlocks
 pub use Rattle.papaya_events.specs.Given.SpotsUnreclaimed
-pub use Rattle.papaya_tables.specs.Given.Seize.World as SeizeWorld
-pub use Rattle.papaya_tables.specs.Given.Seize.declared as SeizeDeclared
+pub use Rattle.papaya_tables.specs.Given.SeizeWorld as SeizeWorld
+pub use Rattle.papaya_tables.specs.Given.SeizeDeclared as SeizeDeclared
 pub use Rattle.papaya_events.specs.Given.CallersTogether
 pub use Rattle.papaya_events.specs.Given.FinishesMaps
 pub use Rattle.papaya_events.specs.Given.MomentsNumbers

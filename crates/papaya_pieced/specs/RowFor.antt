@@ -1,7 +1,7 @@
 -- Which row an event works with on a slot, as far as its deeds tell it.
 use Rattle.std.specs.Prelude.{◌≡◌, false}
-use Rattle.papaya_tables.specs.Given.Seize.declared.rows.register.Registering.TheVariants as registers
-use Rattle.papaya_tables.specs.Given.Seize.declared.states.TheConstants.{IDLE}
+use Rattle.papaya_tables.specs.Given.SeizeDeclared.rows.register.Registering.TheVariants as registers
+use Rattle.papaya_tables.specs.Given.SeizeDeclared.states.TheConstants.{IDLE}
 use Rattle.papaya_grouped.specs.Given.ScenesDeclared.row.SlotRow.{SlotRow}
 use Rattle.papaya_grouped.specs.Given.ScenesDeclared.row.SlotRow.TheVariants as rows
 use Rattle.papaya_schedules.specs.declared.event.Event.{Event}

@@ -2,7 +2,7 @@
 use Rattle.std.specs.Prelude.{◌≢◌, ◌⊎◌, Option, Some, None, option_map}
 use Rattle.std.proofs.Common.{◌≡◌, ℕ, inl, inr, refl, ap, sym, ◌∙◌}
 use Rattle.std.proofs.lemmas.Bool.{cases_eq}
-use Rattle.papaya_runs.specs.Given.Seize.World.{Rests, with_at}
+use Rattle.papaya_runs.specs.Given.SeizeWorld.{Rests, with_at}
 use Rattle.papaya_acts.proofs.Given.SeizeActsAnswers.{same_some}
 use Rattle.papaya_acts.proofs.Given.CallersTogether.At.{at_same, at_other}
 use Rattle.papaya_acts.specs.Given.FinishesMaps.{with_call}

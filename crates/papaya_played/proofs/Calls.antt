@@ -3,18 +3,18 @@ use Rattle.std.specs.Prelude.{◌≢◌, ◌⊎◌, ◌++◌, length, Option, So
 use Rattle.std.specs.Option.{is_none}
 use Rattle.std.proofs.Common.{◌≡◌, ℕ, Bool, true, false, [], ◌∷◌, inl, inr, refl, ap, sym, subst, ◌∙◌}
 use Rattle.std.proofs.lemmas.Bool.{cases_eq}
-use Rattle.papaya_deeds.specs.Given.SeizeWords.Mem.{Mem}
-use Rattle.papaya_deeds.specs.Given.SeizeWords.Plan.{Plan}
-use Rattle.papaya_runs.specs.Given.Seize.World.{World, Rests, with_at}
+use Rattle.papaya_deeds.specs.Given.SeizeWordsMem.{Mem}
+use Rattle.papaya_deeds.specs.Given.SeizeWordsPlan.{Plan}
+use Rattle.papaya_runs.specs.Given.SeizeWorld.{World, Rests, with_at}
 use Rattle.papaya_acts.specs.Given.SeizeActsAnswers.{Grant, stepped, then_on}
 use Rattle.papaya_acts.proofs.Given.SeizeActsBegun.{rests_is}
-use Rattle.papaya_runs.specs.Given.Tables.declared.node.Node.{Node}
-use Rattle.papaya_runs.specs.Given.Tables.declared.setting.Setting.{Setting}
-use Rattle.papaya_deeds.specs.Given.Sweeps.declared.sweep.Purpose.TheVariants as purpose
-use Rattle.papaya_deeds.specs.Given.Raw.Machine.{machine_plan, machine_replied, machine_asked}
-use Rattle.papaya_deeds.specs.Given.Raw.declared.machines.asking.Reply.{Reply}
-use Rattle.papaya_deeds.specs.Given.Raw.declared.machines.machine.Machine.{Machine}
-use Rattle.papaya_deeds.specs.Given.Raw.declared.machines.progress.Progress.{Progress}
+use Rattle.papaya_runs.specs.Given.TablesDeclared.node.Node.{Node}
+use Rattle.papaya_runs.specs.Given.TablesDeclared.setting.Setting.{Setting}
+use Rattle.papaya_deeds.specs.Given.SweepsDeclared.sweep.Purpose.TheVariants as purpose
+use Rattle.papaya_deeds.specs.Given.RawMachine.{machine_plan, machine_replied, machine_asked}
+use Rattle.papaya_deeds.specs.Given.RawDeclared.machines.asking.Reply.{Reply}
+use Rattle.papaya_deeds.specs.Given.RawDeclared.machines.machine.Machine.{Machine}
+use Rattle.papaya_deeds.specs.Given.RawDeclared.machines.progress.Progress.{Progress}
 use Rattle.papaya_acts.specs.Given.CallersTogether.{UnderWay, in_slot}
 use Rattle.papaya_acts.specs.Given.FinishesMachines.{machine_of}
 use Rattle.papaya_acts.specs.Given.FinishesMaps.{Standing, with_call}

@@ -1,20 +1,20 @@
 -- Makings and ends of maps that are played come to where they have led.
 use Rattle.std.specs.Prelude.{◌++◌, Option, Some, None, option_map}
 use Rattle.std.proofs.Common.{◌≡◌, ℕ, Bool, false, [], ◌∷◌, refl, ap, sym, subst, ◌∙◌}
-use Rattle.papaya_deeds.specs.Given.SeizeWords.Mem.{Mem}
-use Rattle.papaya_deeds.specs.Given.SeizeWords.Plan.{Plan}
-use Rattle.papaya_runs.specs.Given.Seize.World.{World, Row, with_at}
-use Rattle.papaya_runs.specs.Given.Seize.declared.progress.Progress.{Progress}
-use Rattle.papaya_runs.specs.Given.Seize.declared.progress.Progress.TheVariants as progress
-use Rattle.papaya_runs.specs.Given.Seize.declared.rows.settle.Settled.{Settled}
-use Rattle.papaya_runs.specs.Given.Seize.declared.rows.settle.Settled.TheVariants as settled
+use Rattle.papaya_deeds.specs.Given.SeizeWordsMem.{Mem}
+use Rattle.papaya_deeds.specs.Given.SeizeWordsPlan.{Plan}
+use Rattle.papaya_runs.specs.Given.SeizeWorld.{World, Row, with_at}
+use Rattle.papaya_runs.specs.Given.SeizeDeclared.progress.Progress.{Progress}
+use Rattle.papaya_runs.specs.Given.SeizeDeclared.progress.Progress.TheVariants as progress
+use Rattle.papaya_runs.specs.Given.SeizeDeclared.rows.settle.Settled.{Settled}
+use Rattle.papaya_runs.specs.Given.SeizeDeclared.rows.settle.Settled.TheVariants as settled
 use Rattle.papaya_acts.specs.Given.SeizeActsAnswers.{Grant, stepped, then_on}
-use Rattle.papaya_runs.specs.Given.Tables.declared.node.Node.{Node}
-use Rattle.papaya_runs.specs.Given.Tables.declared.setting.Setting.{Setting}
+use Rattle.papaya_runs.specs.Given.TablesDeclared.node.Node.{Node}
+use Rattle.papaya_runs.specs.Given.TablesDeclared.setting.Setting.{Setting}
 use Rattle.papaya_acts.specs.Given.ResizeNewMap.{new_map_plan}
 use Rattle.papaya_acts.specs.Given.ResizeDeclared.new_map.NewMap.{NewMap}
-use Rattle.papaya_deeds.specs.Given.Raw.EndMap.{ending, end_map_plan}
-use Rattle.papaya_deeds.specs.Given.Raw.declared.machines.end_map.EndMap.{EndMap}
+use Rattle.papaya_deeds.specs.Given.RawEndMap.{ending, end_map_plan}
+use Rattle.papaya_deeds.specs.Given.RawDeclared.machines.end_map.EndMap.{EndMap}
 use Rattle.papaya_acts.proofs.Given.CallersTogether.Users.{events_rows}
 use Rattle.papaya_acts.specs.Given.FinishesEndings.{Finishing, StepsOfEnding, MakingStepsAmong, finishing_of, waiting_by}
 use Rattle.papaya_acts.specs.Given.FinishesMakings.{Beginning}

@@ -2,28 +2,28 @@
 use Rattle.std.specs.Prelude.{◌≢◌, ◌⊎◌, ◌<◌, ◌^◌, ◌+◌, ◌==◌, cond, not, ◌&&◌, find, map, Option, Some, None, option_map, is_ok, length, if◌then◌else◌}
 use Rattle.std.proofs.Common.{◌≡◌, ℕ, Bool, true, false, List, [], ◌∷◌, inl, inr, refl, ap, sym, subst, ◌∙◌, arith}
 use Rattle.std.proofs.lemmas.Bool.{cases_eq}
-use Rattle.papaya_runs.specs.Given.Seize.declared.progress.Progress.{Progress}
-use Rattle.papaya_runs.specs.Given.Seize.declared.progress.Progress.TheVariants as progress
-use Rattle.papaya_runs.specs.Given.Seize.declared.rows.leave.Leave.{Leave}
-use Rattle.papaya_runs.specs.Given.Seize.declared.rows.leave.Leaving.{Leaving}
-use Rattle.papaya_runs.specs.Given.Seize.declared.rows.leave.Leaving.TheVariants as leaves
-use Rattle.papaya_runs.specs.Given.Seize.declared.rows.register.Registering.{Registering}
-use Rattle.papaya_runs.specs.Given.Seize.declared.rows.register.Registering.TheVariants as registers
-use Rattle.papaya_runs.specs.Given.Seize.declared.rows.settle.Settled.{Settled}
-use Rattle.papaya_runs.specs.Given.Seize.declared.states.TheConstants.{ACTIVE}
-use Rattle.papaya_runs.specs.Given.Tables.declared.node.Node.{Node}
-use Rattle.papaya_runs.specs.Given.Tables.declared.setting.Setting.{Setting}
+use Rattle.papaya_runs.specs.Given.SeizeDeclared.progress.Progress.{Progress}
+use Rattle.papaya_runs.specs.Given.SeizeDeclared.progress.Progress.TheVariants as progress
+use Rattle.papaya_runs.specs.Given.SeizeDeclared.rows.leave.Leave.{Leave}
+use Rattle.papaya_runs.specs.Given.SeizeDeclared.rows.leave.Leaving.{Leaving}
+use Rattle.papaya_runs.specs.Given.SeizeDeclared.rows.leave.Leaving.TheVariants as leaves
+use Rattle.papaya_runs.specs.Given.SeizeDeclared.rows.register.Registering.{Registering}
+use Rattle.papaya_runs.specs.Given.SeizeDeclared.rows.register.Registering.TheVariants as registers
+use Rattle.papaya_runs.specs.Given.SeizeDeclared.rows.settle.Settled.{Settled}
+use Rattle.papaya_runs.specs.Given.SeizeDeclared.states.TheConstants.{ACTIVE}
+use Rattle.papaya_runs.specs.Given.TablesDeclared.node.Node.{Node}
+use Rattle.papaya_runs.specs.Given.TablesDeclared.setting.Setting.{Setting}
 use Rattle.papaya_acts.specs.Given.ResizeDeclared.new_map.NewMap.{NewMap}
-use Rattle.papaya_runs.specs.Given.Seize.ReclaimAll.{reclaim_all_plan}
-use Rattle.papaya_runs.specs.Given.Tables.Nodes.{deferred_word, was_left}
+use Rattle.papaya_runs.specs.Given.SeizeReclaimAll.{reclaim_all_plan}
+use Rattle.papaya_runs.specs.Given.TablesNodes.{deferred_word, was_left}
 use Rattle.papaya_acts.specs.Given.ResizeNewMap.{new_map_plan}
-use Rattle.papaya_deeds.specs.Given.Raw.EndMap.{end_map_plan}
-use Rattle.papaya_deeds.specs.Given.Raw.Machine.{machine_asked, machine_plan, machine_replied}
-use Rattle.papaya_deeds.specs.Given.Raw.declared.machines.progress.Progress.{Progress as CallProgress}
-use Rattle.papaya_deeds.specs.Given.Raw.declared.machines.progress.Progress.TheVariants as comes
+use Rattle.papaya_deeds.specs.Given.RawEndMap.{end_map_plan}
+use Rattle.papaya_deeds.specs.Given.RawMachine.{machine_asked, machine_plan, machine_replied}
+use Rattle.papaya_deeds.specs.Given.RawDeclared.machines.progress.Progress.{Progress as CallProgress}
+use Rattle.papaya_deeds.specs.Given.RawDeclared.machines.progress.Progress.TheVariants as comes
 use Rattle.papaya_acts.specs.Given.FinishesMaps.{with_call}
 use Rattle.papaya_acts.proofs.Given.CallersTogether.At.{at_other}
-use Rattle.papaya_runs.specs.Given.Seize.World.{with_at}
+use Rattle.papaya_runs.specs.Given.SeizeWorld.{with_at}
 use Rattle.papaya_acts.specs.Given.FinishesMachines.{machine_of}
 use Rattle.papaya_acts.proofs.Given.ScenesNoCall.{none_is}
 use Rattle.papaya_acts.specs.Given.ScenesReplying.{unless_stopped}
@@ -34,17 +34,17 @@ use Rattle.papaya_acts.specs.Given.ScenesStepping.{has_ended}
 use Rattle.papaya_acts.specs.Given.ScenesDeclared.row.SlotRow.{SlotRow}
 use Rattle.papaya_acts.specs.Given.ScenesDeclared.row.SlotRow.TheVariants as rows
 use Rattle.papaya_runs.specs.Same.{is_same}
-use Rattle.papaya_deeds.specs.Given.Schedules.declared.call.Call.{Call}
-use Rattle.papaya_deeds.specs.Given.Schedules.declared.call.Reply.{Reply}
-use Rattle.papaya_deeds.specs.Given.Schedules.declared.effect.Effect.{Effect}
-use Rattle.papaya_deeds.specs.Given.Schedules.declared.outcome.Outcome.{Outcome}
-use Rattle.papaya_deeds.specs.Given.Schedules.declared.outcome.Outcome.TheVariants as outcome
-use Rattle.papaya_deeds.specs.Given.Schedules.After.{comes_to, replied, without_call}
-use Rattle.papaya_deeds.specs.Given.Schedules.Beginning.{fresh_call}
-use Rattle.papaya_deeds.specs.Given.Schedules.Effects.{call_by, with_effect, with_effects}
-use Rattle.papaya_deeds.specs.Given.Schedules.Entry.{ends_call}
-use Rattle.papaya_deeds.specs.Given.Schedules.Moment.{UnderWay, Moment}
-use Rattle.papaya_deeds.specs.Given.Schedules.Views.{call_of}
+use Rattle.papaya_deeds.specs.Given.SchedulesDeclared.call.Call.{Call}
+use Rattle.papaya_deeds.specs.Given.SchedulesDeclared.call.Reply.{Reply}
+use Rattle.papaya_deeds.specs.Given.SchedulesDeclared.effect.Effect.{Effect}
+use Rattle.papaya_deeds.specs.Given.SchedulesDeclared.outcome.Outcome.{Outcome}
+use Rattle.papaya_deeds.specs.Given.SchedulesDeclared.outcome.Outcome.TheVariants as outcome
+use Rattle.papaya_deeds.specs.Given.SchedulesAfter.{comes_to, replied, without_call}
+use Rattle.papaya_deeds.specs.Given.SchedulesBeginning.{fresh_call}
+use Rattle.papaya_deeds.specs.Given.SchedulesEffects.{call_by, with_effect, with_effects}
+use Rattle.papaya_deeds.specs.Given.SchedulesEntry.{ends_call}
+use Rattle.papaya_deeds.specs.Given.SchedulesMoment.{UnderWay, Moment}
+use Rattle.papaya_deeds.specs.Given.SchedulesViews.{call_of}
 use Rattle.papaya_named.specs.Given.EffectsEffects.{effects_of, known_after}
 use Rattle.papaya_named.specs.Given.EffectsKnown.{Known}
 use Rattle.papaya_named.specs.Given.EffectsDeclared.acting.Acting.TheVariants as acting

@@ -2,7 +2,7 @@
 use Rattle.std.specs.Prelude.{◌≡◌, ℕ, zero, suc, ◌^◌, ◌*◌}
 use Rattle.std.proofs.Common.{refl, arith}
 use Rattle.std.proofs.Math.Nat.{pow-suc}
-use Rattle.papaya_runs.specs.Given.Tables.Lengths.{places_for}
+use Rattle.papaya_runs.specs.Given.TablesLengths.{places_for}
 use Rattle.papaya_played.specs.Play.{pairs_for}
 
 pub pairs_need : (k : ℕ) → places_for (pairs_for (2 ^ k)) ≡ 2 ^ k

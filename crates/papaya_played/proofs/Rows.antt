@@ -2,34 +2,34 @@
 use Rattle.std.specs.Prelude.{◌≢◌, ◌⊎◌, ◌++◌, Option, Some, None, option_map}
 use Rattle.std.proofs.Common.{◌≡◌, ℕ, Bool, [], ◌∷◌, inl, inr, refl, ap, sym, subst, ◌∙◌}
 use Rattle.std.proofs.lemmas.Bool.{cases_eq}
-use Rattle.papaya_deeds.specs.Given.SeizeWords.Mem.{Mem, after}
-use Rattle.papaya_deeds.specs.Given.SeizeWords.Op.{Op, Store}
-use Rattle.papaya_deeds.specs.Given.SeizeWords.Plan.{Plan}
-use Rattle.papaya_deeds.specs.Given.SeizeWords.declared.at.At.TheVariants.{Slot}
-use Rattle.papaya_runs.specs.Given.Seize.Enter.{enter_plan, unregister_plan}
-use Rattle.papaya_runs.specs.Given.Seize.Law.{Entered}
-use Rattle.papaya_runs.specs.Given.Seize.Leave.{leave_plan}
-use Rattle.papaya_runs.specs.Given.Seize.Register.{register_plan}
-use Rattle.papaya_runs.specs.Given.Seize.Settle.{settle_plan}
-use Rattle.papaya_runs.specs.Given.Seize.World.{World, Row, Rests, Inside, Vacant, Request, Begins, after_step, registers_on, settles_on, leaves_on, with_at, with_use}
-use Rattle.papaya_runs.specs.Given.Seize.declared.progress.Progress.{Progress}
-use Rattle.papaya_runs.specs.Given.Seize.declared.progress.Progress.TheVariants as progress
-use Rattle.papaya_runs.specs.Given.Seize.declared.rows.enter.Enter.{Enter}
-use Rattle.papaya_runs.specs.Given.Seize.declared.rows.enter.Unregister.{Unregister}
-use Rattle.papaya_runs.specs.Given.Seize.declared.rows.leave.Leave.{Leave}
-use Rattle.papaya_runs.specs.Given.Seize.declared.rows.register.Register.{Register}
-use Rattle.papaya_runs.specs.Given.Seize.declared.rows.settle.Settle.{Settle}
-use Rattle.papaya_runs.specs.Given.Seize.declared.rows.settle.Settled.{Settled}
-use Rattle.papaya_runs.specs.Given.Seize.declared.rows.settle.Settled.TheVariants as settled
-use Rattle.papaya_runs.specs.Given.Seize.declared.states.TheConstants.{ACTIVE, FREE, HEAD}
+use Rattle.papaya_deeds.specs.Given.SeizeWordsMem.{Mem, after}
+use Rattle.papaya_deeds.specs.Given.SeizeWordsOp.{Op, Store}
+use Rattle.papaya_deeds.specs.Given.SeizeWordsPlan.{Plan}
+use Rattle.papaya_deeds.specs.Given.SeizeWordsDeclared.at.At.TheVariants.{Slot}
+use Rattle.papaya_runs.specs.Given.SeizeEnter.{enter_plan, unregister_plan}
+use Rattle.papaya_runs.specs.Given.SeizeLaw.{Entered}
+use Rattle.papaya_runs.specs.Given.SeizeLeave.{leave_plan}
+use Rattle.papaya_runs.specs.Given.SeizeRegister.{register_plan}
+use Rattle.papaya_runs.specs.Given.SeizeSettle.{settle_plan}
+use Rattle.papaya_runs.specs.Given.SeizeWorld.{World, Row, Rests, Inside, Vacant, Request, Begins, after_step, registers_on, settles_on, leaves_on, with_at, with_use}
+use Rattle.papaya_runs.specs.Given.SeizeDeclared.progress.Progress.{Progress}
+use Rattle.papaya_runs.specs.Given.SeizeDeclared.progress.Progress.TheVariants as progress
+use Rattle.papaya_runs.specs.Given.SeizeDeclared.rows.enter.Enter.{Enter}
+use Rattle.papaya_runs.specs.Given.SeizeDeclared.rows.enter.Unregister.{Unregister}
+use Rattle.papaya_runs.specs.Given.SeizeDeclared.rows.leave.Leave.{Leave}
+use Rattle.papaya_runs.specs.Given.SeizeDeclared.rows.register.Register.{Register}
+use Rattle.papaya_runs.specs.Given.SeizeDeclared.rows.settle.Settle.{Settle}
+use Rattle.papaya_runs.specs.Given.SeizeDeclared.rows.settle.Settled.{Settled}
+use Rattle.papaya_runs.specs.Given.SeizeDeclared.rows.settle.Settled.TheVariants as settled
+use Rattle.papaya_runs.specs.Given.SeizeDeclared.states.TheConstants.{ACTIVE, FREE, HEAD}
 use Rattle.papaya_acts.specs.Given.SeizeActsActs.{row_steps}
 use Rattle.papaya_acts.specs.Given.SeizeActsAnswers.{Grant, answer, stepped, then_on}
 use Rattle.papaya_acts.proofs.Given.SeizeActsAnswers.{same_some, some}
 use Rattle.papaya_acts.proofs.Given.SeizeRuleRows.Others.{begins_others, steps_others, with_here}
 use Rattle.papaya_acts.proofs.Given.SeizeEndsBatches.Rows.{begins_memory}
 use Rattle.papaya_acts.proofs.Given.CallersTogether.At.{at_same, at_other}
-use Rattle.papaya_runs.specs.Given.Tables.Nodes.{deferred_word}
-use Rattle.papaya_runs.specs.Given.Tables.declared.node.Node.{Node}
+use Rattle.papaya_runs.specs.Given.TablesNodes.{deferred_word}
+use Rattle.papaya_runs.specs.Given.TablesDeclared.node.Node.{Node}
 use Rattle.papaya_acts.specs.Given.CallersTogether.{UnderWay}
 use Rattle.papaya_acts.specs.Given.FinishesMaps.{Standing, IsSameMap}
 use Rattle.papaya_acts.proofs.Given.ScenesNoCall.{no_call}

@@ -4,19 +4,19 @@ mod Ending
 use Rattle.std.specs.Prelude.{nat_eq}
 use Rattle.std.proofs.Common.{◌≡◌, ℕ, true, false, List, [], ◌∷◌, refl, Option, Some, None}
 use Rattle.std.specs.Prelude.{◌++◌, option_map}
-use Rattle.papaya_runs.specs.Given.Seize.World.{Register'}
-use Rattle.papaya_runs.specs.Given.Tables.declared.resize_mode.ResizeMode.TheVariants as mode
-use Rattle.papaya_runs.specs.Given.Tables.declared.setting.Setting.{Setting}
-use Rattle.papaya_deeds.specs.Given.Schedules.declared.call.Answer.TheVariants as answer
-use Rattle.papaya_deeds.specs.Given.Schedules.declared.call.Call.TheVariants.{On}
-use Rattle.papaya_deeds.specs.Given.Schedules.declared.call.OneKey.TheVariants as one
-use Rattle.papaya_deeds.specs.Given.Schedules.declared.effect.Effect.{Effect}
-use Rattle.papaya_deeds.specs.Given.Schedules.declared.effect.Effect.TheVariants.{Asked, PairMade, TableMade, Linked, Stored, Counted}
-use Rattle.papaya_deeds.specs.Given.Schedules.declared.effect.Growth.TheVariants.{ABlock, ABucket}
-use Rattle.papaya_deeds.specs.Given.Schedules.declared.effect.Spot.{Spot}
-use Rattle.papaya_deeds.specs.Given.Schedules.declared.effect.Table.{Table}
-use Rattle.papaya_deeds.specs.Given.Schedules.declared.outcome.Outcome.{Outcome}
-use Rattle.papaya_deeds.specs.Given.Schedules.declared.outcome.Outcome.TheVariants.{Done, Goes, Slot, Answered}
+use Rattle.papaya_runs.specs.Given.SeizeWorld.{Register'}
+use Rattle.papaya_runs.specs.Given.TablesDeclared.resize_mode.ResizeMode.TheVariants as mode
+use Rattle.papaya_runs.specs.Given.TablesDeclared.setting.Setting.{Setting}
+use Rattle.papaya_deeds.specs.Given.SchedulesDeclared.call.Answer.TheVariants as answer
+use Rattle.papaya_deeds.specs.Given.SchedulesDeclared.call.Call.TheVariants.{On}
+use Rattle.papaya_deeds.specs.Given.SchedulesDeclared.call.OneKey.TheVariants as one
+use Rattle.papaya_deeds.specs.Given.SchedulesDeclared.effect.Effect.{Effect}
+use Rattle.papaya_deeds.specs.Given.SchedulesDeclared.effect.Effect.TheVariants.{Asked, PairMade, TableMade, Linked, Stored, Counted}
+use Rattle.papaya_deeds.specs.Given.SchedulesDeclared.effect.Growth.TheVariants.{ABlock, ABucket}
+use Rattle.papaya_deeds.specs.Given.SchedulesDeclared.effect.Spot.{Spot}
+use Rattle.papaya_deeds.specs.Given.SchedulesDeclared.effect.Table.{Table}
+use Rattle.papaya_deeds.specs.Given.SchedulesDeclared.outcome.Outcome.{Outcome}
+use Rattle.papaya_deeds.specs.Given.SchedulesDeclared.outcome.Outcome.TheVariants.{Done, Goes, Slot, Answered}
 use Rattle.papaya_acts.specs.Acts.{Act, Get, Insert, BeginsCall, StepsCall, BeginsMaking, StepsMaking, BeginsRow, StepsRow}
 use Rattle.papaya_acts.specs.Doings.{Doing, Does}
 use Rattle.papaya_deeds.specs.Deeds.{Deed, Begins, Steps, Registers, Opens, MapComes, Makes, Entry}

@@ -2,20 +2,20 @@
 use Rattle.std.specs.Prelude.{Option, Some, option_map}
 use Rattle.std.specs.Option.{option_map_or}
 use Rattle.std.proofs.Common.{◌≡◌, ℕ, Bool, ap, sym, ◌∙◌}
-use Rattle.papaya_deeds.specs.Given.SeizeWords.Mem.{Mem}
-use Rattle.papaya_deeds.specs.Given.SeizeWords.Plan.{Plan}
-use Rattle.papaya_runs.specs.Given.Seize.World.{Row}
-use Rattle.papaya_runs.specs.Given.Seize.declared.progress.Progress.{Progress as Making'}
-use Rattle.papaya_runs.specs.Given.Seize.declared.rows.settle.Settled.{Settled}
-use Rattle.papaya_runs.specs.Given.Tables.declared.node.Node.{Node}
-use Rattle.papaya_runs.specs.Given.Tables.declared.setting.Setting.{Setting}
+use Rattle.papaya_deeds.specs.Given.SeizeWordsMem.{Mem}
+use Rattle.papaya_deeds.specs.Given.SeizeWordsPlan.{Plan}
+use Rattle.papaya_runs.specs.Given.SeizeWorld.{Row}
+use Rattle.papaya_runs.specs.Given.SeizeDeclared.progress.Progress.{Progress as Making'}
+use Rattle.papaya_runs.specs.Given.SeizeDeclared.rows.settle.Settled.{Settled}
+use Rattle.papaya_runs.specs.Given.TablesDeclared.node.Node.{Node}
+use Rattle.papaya_runs.specs.Given.TablesDeclared.setting.Setting.{Setting}
 use Rattle.papaya_acts.specs.Given.ResizeNewMap.{new_map_plan}
 use Rattle.papaya_acts.specs.Given.ResizeDeclared.new_map.NewMap.{NewMap}
-use Rattle.papaya_deeds.specs.Given.Raw.EndMap.{end_map_plan}
-use Rattle.papaya_deeds.specs.Given.Raw.Machine.{machine_plan}
-use Rattle.papaya_deeds.specs.Given.Raw.declared.machines.end_map.EndMap.{EndMap}
-use Rattle.papaya_deeds.specs.Given.Raw.declared.machines.machine.Machine.{Machine}
-use Rattle.papaya_deeds.specs.Given.Raw.declared.machines.progress.Progress.{Progress}
+use Rattle.papaya_deeds.specs.Given.RawEndMap.{end_map_plan}
+use Rattle.papaya_deeds.specs.Given.RawMachine.{machine_plan}
+use Rattle.papaya_deeds.specs.Given.RawDeclared.machines.end_map.EndMap.{EndMap}
+use Rattle.papaya_deeds.specs.Given.RawDeclared.machines.machine.Machine.{Machine}
+use Rattle.papaya_deeds.specs.Given.RawDeclared.machines.progress.Progress.{Progress}
 use Rattle.papaya_acts.specs.Given.TellerDeclared.changed.Changed.{Changed}
 use Rattle.papaya_acts.specs.Given.TellerDeclared.changed.Changed.TheVariants.{Nothing as NoChange}
 use Rattle.papaya_acts.specs.Given.CallersTogether.{UnderWay}

@@ -1,13 +1,13 @@
 -- The words of the crates below, given on to the crates above: these list this crate in place of those.
-pub use Rattle.papaya_deeds.specs.Given.Schedules.After as SchedulesAfter
-pub use Rattle.papaya_deeds.specs.Given.Schedules.Effects as SchedulesEffects
-pub use Rattle.papaya_deeds.specs.Given.Schedules.Entry as SchedulesEntry
-pub use Rattle.papaya_deeds.specs.Given.Schedules.Lists as SchedulesLists
-pub use Rattle.papaya_deeds.specs.Given.Schedules.Moment as SchedulesMoment
-pub use Rattle.papaya_deeds.specs.Given.Schedules.Terms as SchedulesTerms
-pub use Rattle.papaya_deeds.specs.Given.Schedules.Things as SchedulesThings
-pub use Rattle.papaya_deeds.specs.Given.Schedules.Views as SchedulesViews
-pub use Rattle.papaya_deeds.specs.Given.Schedules.declared as SchedulesDeclared
+pub use Rattle.papaya_deeds.specs.Given.SchedulesAfter as SchedulesAfter
+pub use Rattle.papaya_deeds.specs.Given.SchedulesEffects as SchedulesEffects
+pub use Rattle.papaya_deeds.specs.Given.SchedulesEntry as SchedulesEntry
+pub use Rattle.papaya_deeds.specs.Given.SchedulesLists as SchedulesLists
+pub use Rattle.papaya_deeds.specs.Given.SchedulesMoment as SchedulesMoment
+pub use Rattle.papaya_deeds.specs.Given.SchedulesTerms as SchedulesTerms
+pub use Rattle.papaya_deeds.specs.Given.SchedulesThings as SchedulesThings
+pub use Rattle.papaya_deeds.specs.Given.SchedulesViews as SchedulesViews
+pub use Rattle.papaya_deeds.specs.Given.SchedulesDeclared as SchedulesDeclared
 pub use Rattle.papaya_acts.specs.Acts as ActsActs
 pub use Rattle.papaya_acts.specs.AsSteps as ActsAsSteps
 pub use Rattle.papaya_acts.specs.Courses as ActsCourses
@@ -39,22 +39,22 @@ pub use Rattle.papaya_named.specs.Places as NamedPlaces
 pub use Rattle.papaya_named.specs.Seen as NamedSeen
 pub use Rattle.papaya_named.specs.Telling as NamedTelling
 pub use Rattle.papaya_named.specs.declared as NamedDeclared
-pub use Rattle.papaya_deeds.specs.Given.SeizeWords.Mem as SeizeWordsMem
-pub use Rattle.papaya_deeds.specs.Given.SeizeWords.Op as SeizeWordsOp
-pub use Rattle.papaya_deeds.specs.Given.SeizeWords.Plan as SeizeWordsPlan
-pub use Rattle.papaya_deeds.specs.Given.SeizeWords.Word as SeizeWordsWord
-pub use Rattle.papaya_deeds.specs.Given.SeizeWords.declared as SeizeWordsDeclared
+pub use Rattle.papaya_deeds.specs.Given.SeizeWordsMem as SeizeWordsMem
+pub use Rattle.papaya_deeds.specs.Given.SeizeWordsOp as SeizeWordsOp
+pub use Rattle.papaya_deeds.specs.Given.SeizeWordsPlan as SeizeWordsPlan
+pub use Rattle.papaya_deeds.specs.Given.SeizeWordsWord as SeizeWordsWord
+pub use Rattle.papaya_deeds.specs.Given.SeizeWordsDeclared as SeizeWordsDeclared
 pub use Rattle.papaya_acts.specs.Given.SeizeActsActs
 pub use Rattle.papaya_acts.specs.Given.SeizeActsAnswers
 pub use Rattle.papaya_acts.specs.Given.ResizeNewMap
 pub use Rattle.papaya_acts.specs.Given.ResizeNewTable
 pub use Rattle.papaya_acts.specs.Given.ResizeSum
 pub use Rattle.papaya_acts.specs.Given.ResizeDeclared
-pub use Rattle.papaya_deeds.specs.Given.Raw.CallAsks as RawCallAsks
-pub use Rattle.papaya_deeds.specs.Given.Raw.CallPoints as RawCallPoints
-pub use Rattle.papaya_deeds.specs.Given.Raw.EndMap as RawEndMap
-pub use Rattle.papaya_deeds.specs.Given.Raw.Machine as RawMachine
-pub use Rattle.papaya_deeds.specs.Given.Raw.declared as RawDeclared
+pub use Rattle.papaya_deeds.specs.Given.RawCallAsks as RawCallAsks
+pub use Rattle.papaya_deeds.specs.Given.RawCallPoints as RawCallPoints
+pub use Rattle.papaya_deeds.specs.Given.RawEndMap as RawEndMap
+pub use Rattle.papaya_deeds.specs.Given.RawMachine as RawMachine
+pub use Rattle.papaya_deeds.specs.Given.RawDeclared as RawDeclared
 pub use Rattle.papaya_named.specs.Given.EffectsEffects
 pub use Rattle.papaya_named.specs.Given.EffectsKnown
 pub use Rattle.papaya_named.specs.Given.EffectsDeclared
@@ -68,7 +68,7 @@ pub use Rattle.papaya_acts.specs.Given.CallersRooms
 pub use Rattle.papaya_acts.specs.Given.CallersRows
 pub use Rattle.papaya_acts.specs.Given.CallersSights
 pub use Rattle.papaya_acts.specs.Given.CallersTogether
-pub use Rattle.papaya_deeds.specs.Given.Sweeps.declared as SweepsDeclared
+pub use Rattle.papaya_deeds.specs.Given.SweepsDeclared as SweepsDeclared
 pub use Rattle.papaya_named.specs.Given.OthersAfter
 pub use Rattle.papaya_named.specs.Given.OthersElsewhere
 pub use Rattle.papaya_named.specs.Given.OthersEndings

@@ -5,40 +5,40 @@ use Rattle.papaya_acts.specs.Acts.{Wanted, Get, Remove, Insert, TryToInsert, Com
 use Rattle.papaya_acts.specs.AsSteps.{changed_of, row_changed}
 use Rattle.papaya_acts.specs.Doings.{Doing, Does, BeginsReclaiming, BeginsClearing, StepsReclaiming, Chooses, memory_chosen}
 use Rattle.papaya_acts.specs.Given.SeizeActsAnswers.{Grant, stepped, then_on}
-use Rattle.papaya_deeds.specs.Given.SeizeWords.Mem.{Mem}
-use Rattle.papaya_runs.specs.Given.Seize.Enter.{enter_plan, unregister_plan}
-use Rattle.papaya_runs.specs.Given.Seize.Leave.{leave_plan}
-use Rattle.papaya_runs.specs.Given.Seize.ReclaimAll.{reclaiming_all, clearing, reclaim_all_plan}
-use Rattle.papaya_runs.specs.Given.Seize.Register.{register_plan}
-use Rattle.papaya_runs.specs.Given.Seize.Settle.{settle_plan}
-use Rattle.papaya_runs.specs.Given.Seize.World.{Request, Register', Enter', Leave', LeaveOwned, Refresh, Unregister', Flush, with_at}
-use Rattle.papaya_runs.specs.Given.Seize.declared.progress.Progress.{Progress}
-use Rattle.papaya_runs.specs.Given.Seize.declared.progress.Progress.TheVariants as progress
-use Rattle.papaya_runs.specs.Given.Seize.declared.rows.leave.Leave.{Leave}
-use Rattle.papaya_runs.specs.Given.Seize.declared.rows.leave.Leaving.{Leaving}
-use Rattle.papaya_runs.specs.Given.Seize.declared.rows.leave.Leaving.TheVariants as leaves
-use Rattle.papaya_runs.specs.Given.Seize.declared.rows.reclaim_all.ReclaimAll.{ReclaimAll}
-use Rattle.papaya_runs.specs.Given.Seize.declared.rows.register.Registering.{Registering}
-use Rattle.papaya_runs.specs.Given.Seize.declared.rows.register.Registering.TheVariants as registers
-use Rattle.papaya_runs.specs.Given.Seize.declared.rows.settle.Settled.{Settled}
-use Rattle.papaya_runs.specs.Given.Seize.declared.rows.settle.Settled.TheVariants as settled
-use Rattle.papaya_runs.specs.Given.Seize.declared.states.TheConstants.{ACTIVE}
-use Rattle.papaya_runs.specs.Given.Tables.Nodes.{deferred_word, was_left}
-use Rattle.papaya_runs.specs.Given.Tables.declared.node.Node.{Node}
-use Rattle.papaya_runs.specs.Given.Tables.declared.setting.Setting.{Setting}
+use Rattle.papaya_deeds.specs.Given.SeizeWordsMem.{Mem}
+use Rattle.papaya_runs.specs.Given.SeizeEnter.{enter_plan, unregister_plan}
+use Rattle.papaya_runs.specs.Given.SeizeLeave.{leave_plan}
+use Rattle.papaya_runs.specs.Given.SeizeReclaimAll.{reclaiming_all, clearing, reclaim_all_plan}
+use Rattle.papaya_runs.specs.Given.SeizeRegister.{register_plan}
+use Rattle.papaya_runs.specs.Given.SeizeSettle.{settle_plan}
+use Rattle.papaya_runs.specs.Given.SeizeWorld.{Request, Register', Enter', Leave', LeaveOwned, Refresh, Unregister', Flush, with_at}
+use Rattle.papaya_runs.specs.Given.SeizeDeclared.progress.Progress.{Progress}
+use Rattle.papaya_runs.specs.Given.SeizeDeclared.progress.Progress.TheVariants as progress
+use Rattle.papaya_runs.specs.Given.SeizeDeclared.rows.leave.Leave.{Leave}
+use Rattle.papaya_runs.specs.Given.SeizeDeclared.rows.leave.Leaving.{Leaving}
+use Rattle.papaya_runs.specs.Given.SeizeDeclared.rows.leave.Leaving.TheVariants as leaves
+use Rattle.papaya_runs.specs.Given.SeizeDeclared.rows.reclaim_all.ReclaimAll.{ReclaimAll}
+use Rattle.papaya_runs.specs.Given.SeizeDeclared.rows.register.Registering.{Registering}
+use Rattle.papaya_runs.specs.Given.SeizeDeclared.rows.register.Registering.TheVariants as registers
+use Rattle.papaya_runs.specs.Given.SeizeDeclared.rows.settle.Settled.{Settled}
+use Rattle.papaya_runs.specs.Given.SeizeDeclared.rows.settle.Settled.TheVariants as settled
+use Rattle.papaya_runs.specs.Given.SeizeDeclared.states.TheConstants.{ACTIVE}
+use Rattle.papaya_runs.specs.Given.TablesNodes.{deferred_word, was_left}
+use Rattle.papaya_runs.specs.Given.TablesDeclared.node.Node.{Node}
+use Rattle.papaya_runs.specs.Given.TablesDeclared.setting.Setting.{Setting}
 use Rattle.papaya_acts.specs.Given.ResizeNewMap.{new_map_plan, opening}
 use Rattle.papaya_acts.specs.Given.ResizeDeclared.new_map.NewMap.{NewMap}
 use Rattle.papaya_acts.specs.Given.ResizeDeclared.new_map.Opening.{Opening}
 use Rattle.papaya_acts.specs.Given.ResizeDeclared.new_map.Opening.TheVariants as openings
-use Rattle.papaya_deeds.specs.Given.Sweeps.declared.sweep.Purpose.TheVariants as purpose
-use Rattle.papaya_deeds.specs.Given.Raw.EndMap.{ending, end_map_plan}
-use Rattle.papaya_deeds.specs.Given.Raw.Machine.{machine_plan, machine_replied, machine_asked}
-use Rattle.papaya_deeds.specs.Given.Raw.declared.machines.asking.Reply.{Reply as Told}
-use Rattle.papaya_deeds.specs.Given.Raw.declared.machines.asking.Reply.TheVariants as told
-use Rattle.papaya_deeds.specs.Given.Raw.declared.machines.end_map.EndMap.{EndMap}
-use Rattle.papaya_deeds.specs.Given.Raw.declared.machines.machine.Machine.{Machine}
-use Rattle.papaya_deeds.specs.Given.Raw.declared.machines.progress.Progress.{Progress as CallProgress}
-use Rattle.papaya_deeds.specs.Given.Raw.declared.machines.progress.Progress.TheVariants as comes
+use Rattle.papaya_deeds.specs.Given.SweepsDeclared.sweep.Purpose.TheVariants as purpose
+use Rattle.papaya_deeds.specs.Given.RawEndMap.{ending, end_map_plan}
+use Rattle.papaya_deeds.specs.Given.RawMachine.{machine_plan, machine_replied, machine_asked}
+use Rattle.papaya_deeds.specs.Given.RawDeclared.machines.asking.Reply.{Reply as Told}
+use Rattle.papaya_deeds.specs.Given.RawDeclared.machines.asking.Reply.TheVariants as told
+use Rattle.papaya_deeds.specs.Given.RawDeclared.machines.end_map.EndMap.{EndMap}
+use Rattle.papaya_deeds.specs.Given.RawDeclared.machines.machine.Machine.{Machine}
+use Rattle.papaya_deeds.specs.Given.RawDeclared.machines.progress.Progress.{Progress as CallProgress}
+use Rattle.papaya_deeds.specs.Given.RawDeclared.machines.progress.Progress.TheVariants as comes
 use Rattle.papaya_acts.specs.Given.TellerDeclared.changed.Changed.{Changed}
 use Rattle.papaya_acts.specs.Given.TellerDeclared.changed.Changed.TheVariants as changes
 use Rattle.papaya_acts.specs.Given.CallersTogether.{in_slot}
@@ -53,13 +53,13 @@ use Rattle.papaya_acts.specs.Given.ScenesDeclared.row.SlotCall.{SlotCall}
 use Rattle.papaya_acts.specs.Given.ScenesDeclared.row.SlotCall.TheVariants as slot_call
 use Rattle.papaya_acts.specs.Given.ScenesDeclared.row.SlotRow.{SlotRow}
 use Rattle.papaya_acts.specs.Given.ScenesDeclared.row.SlotRow.TheVariants as rows
-use Rattle.papaya_deeds.specs.Given.Schedules.declared.call.Call.{Call}
-use Rattle.papaya_deeds.specs.Given.Schedules.declared.call.Call.TheVariants as calls
-use Rattle.papaya_deeds.specs.Given.Schedules.declared.call.OneKey.TheVariants as one
-use Rattle.papaya_deeds.specs.Given.Schedules.declared.call.Reply.{Reply}
-use Rattle.papaya_deeds.specs.Given.Schedules.declared.call.Reply.TheVariants as reply
-use Rattle.papaya_deeds.specs.Given.Schedules.declared.outcome.Outcome.{Outcome}
-use Rattle.papaya_deeds.specs.Given.Schedules.declared.outcome.Outcome.TheVariants as outcome
+use Rattle.papaya_deeds.specs.Given.SchedulesDeclared.call.Call.{Call}
+use Rattle.papaya_deeds.specs.Given.SchedulesDeclared.call.Call.TheVariants as calls
+use Rattle.papaya_deeds.specs.Given.SchedulesDeclared.call.OneKey.TheVariants as one
+use Rattle.papaya_deeds.specs.Given.SchedulesDeclared.call.Reply.{Reply}
+use Rattle.papaya_deeds.specs.Given.SchedulesDeclared.call.Reply.TheVariants as reply
+use Rattle.papaya_deeds.specs.Given.SchedulesDeclared.outcome.Outcome.{Outcome}
+use Rattle.papaya_deeds.specs.Given.SchedulesDeclared.outcome.Outcome.TheVariants as outcome
 use Rattle.papaya_named.specs.Given.EffectsEffects.{effects_of, known_after}
 use Rattle.papaya_named.specs.Given.EffectsKnown.{Known, nothing_known}
 use Rattle.papaya_named.specs.Given.EffectsDeclared.acting.Acting.{Acting}

@@ -8,9 +8,9 @@ use Rattle.papaya_acts.specs.Given.CallersTogether.{UnderWay}
 use Rattle.papaya_acts.specs.Given.FinishesMachines.{machine_of}
 use Rattle.papaya_acts.specs.Given.FinishesMakings.{Beginning}
 use Rattle.papaya_acts.specs.Given.ResizeDeclared.new_map.NewMap.{NewMap}
-use Rattle.papaya_runs.specs.Given.Seize.World.{Row, Rests}
-use Rattle.papaya_runs.specs.Given.Seize.declared.rows.reclaim_all.ReclaimAll.{ReclaimAll}
-use Rattle.papaya_runs.specs.Given.Tables.declared.setting.Setting.{Setting}
+use Rattle.papaya_runs.specs.Given.SeizeWorld.{Row, Rests}
+use Rattle.papaya_runs.specs.Given.SeizeDeclared.rows.reclaim_all.ReclaimAll.{ReclaimAll}
+use Rattle.papaya_runs.specs.Given.TablesDeclared.setting.Setting.{Setting}
 use Rattle.papaya_acts.specs.Given.ScenesRows.{request_of}
 use Rattle.papaya_acts.specs.Given.ScenesScene.{HasNoCall, Scene, row_of, slot_of}
 use Rattle.papaya_acts.specs.Given.ScenesDeclared.row.SlotCall.{SlotCall}

@@ -1,17 +1,17 @@
 -- What the disposal of a pair knows, at each of its points.
 use Rattle.std.specs.Prelude.{◌≡◌, ◌≢◌, ℕ, suc, ◌*◌, ◌<◌, ◌≤◌, Bool, true, false}
-use Rattle.papaya_rule.specs.Given.SeizeWords.declared.at.At.TheVariants.{Word}
-use Rattle.papaya_rule.specs.Given.Seize.World.{World, Parting, Cutting}
-use Rattle.papaya_rule.specs.Given.Seize.Settle.{retiring}
-use Rattle.papaya_rule.specs.Given.Seize.Defer.{deferring}
-use Rattle.papaya_rule.specs.Given.Seize.declared.rows.settle.Settle.{Settle}
-use Rattle.papaya_rule.specs.Given.Tables.Chunks.{is_incremental}
-use Rattle.papaya_rule.specs.Given.Tables.declared.node.Node.{Node}
-use Rattle.papaya_rule.specs.Given.Tables.declared.setting.Setting.{Setting}
-use Rattle.papaya_rule.specs.Given.Tables.declared.table_words.TheConstants.{DEFERRED}
-use Rattle.papaya_rule.specs.Given.Resize.declared.dispose.Dispose.{Dispose}
-use Rattle.papaya_rule.specs.Given.Resize.declared.dispose.Disposing.{Disposing}
-use Rattle.papaya_rule.specs.Given.Resize.declared.dispose.Disposing.TheVariants as at
+use Rattle.papaya_rule.specs.Given.SeizeWordsDeclared.at.At.TheVariants.{Word}
+use Rattle.papaya_rule.specs.Given.SeizeWorld.{World, Parting, Cutting}
+use Rattle.papaya_rule.specs.Given.SeizeSettle.{retiring}
+use Rattle.papaya_rule.specs.Given.SeizeDefer.{deferring}
+use Rattle.papaya_rule.specs.Given.SeizeDeclared.rows.settle.Settle.{Settle}
+use Rattle.papaya_rule.specs.Given.TablesChunks.{is_incremental}
+use Rattle.papaya_rule.specs.Given.TablesDeclared.node.Node.{Node}
+use Rattle.papaya_rule.specs.Given.TablesDeclared.setting.Setting.{Setting}
+use Rattle.papaya_rule.specs.Given.TablesDeclared.table_words.TheConstants.{DEFERRED}
+use Rattle.papaya_rule.specs.Given.ResizeDeclared.dispose.Dispose.{Dispose}
+use Rattle.papaya_rule.specs.Given.ResizeDeclared.dispose.Disposing.{Disposing}
+use Rattle.papaya_rule.specs.Given.ResizeDeclared.dispose.Disposing.TheVariants as at
 use Rattle.papaya_rule.specs.Chart.{Phase, Holds, Chart}
 use Rattle.papaya_rule.specs.Words.{Blocks}
 use Rattle.papaya_rule.specs.Maps.{IsTable}

@@ -1,9 +1,9 @@
 -- What is so of a caller that has no part in a copying.
 use Rattle.std.specs.Prelude.{ℕ, Bool, cond}
-use Rattle.papaya_rule.specs.Given.Seize.World.{World}
-use Rattle.papaya_rule.specs.Given.Tables.Chunks.{is_incremental}
-use Rattle.papaya_rule.specs.Given.Tables.declared.node.Node.{Node}
-use Rattle.papaya_rule.specs.Given.Tables.declared.setting.Setting.{Setting}
+use Rattle.papaya_rule.specs.Given.SeizeWorld.{World}
+use Rattle.papaya_rule.specs.Given.TablesChunks.{is_incremental}
+use Rattle.papaya_rule.specs.Given.TablesDeclared.node.Node.{Node}
+use Rattle.papaya_rule.specs.Given.TablesDeclared.setting.Setting.{Setting}
 use Rattle.papaya_rule.specs.Chart.{Chart}
 use Rattle.papaya_points.specs.FactsCopies.{HasDone, ClaimsNone}
 use Rattle.papaya_points.specs.FactsCopiesBlocking.{HasNoShares}

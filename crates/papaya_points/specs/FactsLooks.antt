@@ -1,10 +1,10 @@
 -- What a lookup knows, at each of its points.
 use Rattle.std.specs.Prelude.{◌≡◌, ℕ, suc, Bool, true, false, Option, Some, None}
-use Rattle.papaya_rule.specs.Given.Tables.Chunks.{is_incremental}
-use Rattle.papaya_rule.specs.Given.Tables.declared.resize_mode.ResizeMode.{ResizeMode}
-use Rattle.papaya_rule.specs.Given.Resize.declared.lookup.Lookup.{Lookup}
-use Rattle.papaya_rule.specs.Given.Resize.declared.lookup.Looking.{Looking}
-use Rattle.papaya_rule.specs.Given.Resize.declared.lookup.Looking.TheVariants as at
+use Rattle.papaya_rule.specs.Given.TablesChunks.{is_incremental}
+use Rattle.papaya_rule.specs.Given.TablesDeclared.resize_mode.ResizeMode.{ResizeMode}
+use Rattle.papaya_rule.specs.Given.ResizeDeclared.lookup.Lookup.{Lookup}
+use Rattle.papaya_rule.specs.Given.ResizeDeclared.lookup.Looking.{Looking}
+use Rattle.papaya_rule.specs.Given.ResizeDeclared.lookup.Looking.TheVariants as at
 use Rattle.papaya_rule.specs.Chart.{Phase, Holds, Chart}
 use Rattle.papaya_rule.specs.Rule.{ShutBefore}
 use Rattle.papaya_rule.specs.Words.{Blocks, place_word}

@@ -1,10 +1,70 @@
 -- The words of the crates below, given on to the crates above: these list this crate in place of those.
-pub use Rattle.papaya_rule.specs.Given.SeizeWords
-pub use Rattle.papaya_rule.specs.Given.Seize
-pub use Rattle.papaya_rule.specs.Given.SeizeWaiting
-pub use Rattle.papaya_rule.specs.Given.Tables
-pub use Rattle.papaya_rule.specs.Given.Resize
-pub use Rattle.papaya_raw.specs.Given.Sweeps
-pub use Rattle.papaya_raw.specs.Given.Reserves
-pub use Rattle.papaya_raw.specs as Raw
-pub use Rattle.papaya_rule.specs as Rule
+pub use Rattle.papaya_rule.specs.Given.SeizeWordsMem
+pub use Rattle.papaya_rule.specs.Given.SeizeWordsOp
+pub use Rattle.papaya_rule.specs.Given.SeizeWordsPlan
+pub use Rattle.papaya_rule.specs.Given.SeizeWordsWord
+pub use Rattle.papaya_rule.specs.Given.SeizeWordsDeclared
+pub use Rattle.papaya_rule.specs.Given.SeizeDefer
+pub use Rattle.papaya_rule.specs.Given.SeizeEnter
+pub use Rattle.papaya_rule.specs.Given.SeizeFurther
+pub use Rattle.papaya_rule.specs.Given.SeizeLaw
+pub use Rattle.papaya_rule.specs.Given.SeizeLeave
+pub use Rattle.papaya_rule.specs.Given.SeizeReclaimAll
+pub use Rattle.papaya_rule.specs.Given.SeizeRegister
+pub use Rattle.papaya_rule.specs.Given.SeizeSequence
+pub use Rattle.papaya_rule.specs.Given.SeizeSettle
+pub use Rattle.papaya_rule.specs.Given.SeizeWaitingSets
+pub use Rattle.papaya_rule.specs.Given.SeizeWorld
+pub use Rattle.papaya_rule.specs.Given.SeizeDeclared
+pub use Rattle.papaya_rule.specs.Given.SeizeWaitingHeld
+pub use Rattle.papaya_rule.specs.Given.TablesChunks
+pub use Rattle.papaya_rule.specs.Given.TablesCounts
+pub use Rattle.papaya_rule.specs.Given.TablesFinding
+pub use Rattle.papaya_rule.specs.Given.TablesLengths
+pub use Rattle.papaya_rule.specs.Given.TablesMarks
+pub use Rattle.papaya_rule.specs.Given.TablesNodes
+pub use Rattle.papaya_rule.specs.Given.TablesProbes
+pub use Rattle.papaya_rule.specs.Given.TablesTablePlaces
+pub use Rattle.papaya_rule.specs.Given.TablesTrials
+pub use Rattle.papaya_rule.specs.Given.TablesDeclared
+pub use Rattle.papaya_rule.specs.Given.ResizeCopier
+pub use Rattle.papaya_rule.specs.Given.ResizeCopierClaims
+pub use Rattle.papaya_rule.specs.Given.ResizeCopierCounts
+pub use Rattle.papaya_rule.specs.Given.ResizeCopierFurther
+pub use Rattle.papaya_rule.specs.Given.ResizeCopierMarks
+pub use Rattle.papaya_rule.specs.Given.ResizeCopierPlaces
+pub use Rattle.papaya_rule.specs.Given.ResizeCopierPromotes
+pub use Rattle.papaya_rule.specs.Given.ResizeCopierStates
+pub use Rattle.papaya_rule.specs.Given.ResizeDispose
+pub use Rattle.papaya_rule.specs.Given.ResizeLookup
+pub use Rattle.papaya_rule.specs.Given.ResizeNewMap
+pub use Rattle.papaya_rule.specs.Given.ResizeNewTable
+pub use Rattle.papaya_rule.specs.Given.ResizeSum
+pub use Rattle.papaya_rule.specs.Given.ResizeDeclared
+pub use Rattle.papaya_raw.specs.Given.SweepsSweep
+pub use Rattle.papaya_raw.specs.Given.SweepsSweepPoints
+pub use Rattle.papaya_raw.specs.Given.SweepsDeclared
+pub use Rattle.papaya_raw.specs.Given.ReservesReserve
+pub use Rattle.papaya_raw.specs.Given.ReservesDeclared
+pub use Rattle.papaya_raw.specs.Answers as RawAnswers
+pub use Rattle.papaya_raw.specs.Call as RawCall
+pub use Rattle.papaya_raw.specs.CallAsks as RawCallAsks
+pub use Rattle.papaya_raw.specs.CallFills as RawCallFills
+pub use Rattle.papaya_raw.specs.CallPoints as RawCallPoints
+pub use Rattle.papaya_raw.specs.EndMap as RawEndMap
+pub use Rattle.papaya_raw.specs.Machine as RawMachine
+pub use Rattle.papaya_raw.specs.Progress as RawProgress
+pub use Rattle.papaya_raw.specs.Replies as RawReplies
+pub use Rattle.papaya_raw.specs.declared as RawDeclared
+pub use Rattle.papaya_rule.specs.Beside as RuleBeside
+pub use Rattle.papaya_rule.specs.Chart as RuleChart
+pub use Rattle.papaya_rule.specs.Counters as RuleCounters
+pub use Rattle.papaya_rule.specs.InWorld as RuleInWorld
+pub use Rattle.papaya_rule.specs.Lasts as RuleLasts
+pub use Rattle.papaya_rule.specs.Leaves as RuleLeaves
+pub use Rattle.papaya_rule.specs.Links as RuleLinks
+pub use Rattle.papaya_rule.specs.Maps as RuleMaps
+pub use Rattle.papaya_rule.specs.Moments as RuleMoments
+pub use Rattle.papaya_rule.specs.Moves as RuleMoves
+pub use Rattle.papaya_rule.specs.Rule as RuleRule
+pub use Rattle.papaya_rule.specs.Words as RuleWords

@@ -1,14 +1,14 @@
 -- What is promised of the number of loads that a lookup makes.
 use Rattle.std.specs.Prelude.{◌≡◌, ℕ, suc, Bool, List, Option}
-use Rattle.papaya_rule.specs.Given.SeizeWords.Mem.{Mem, Took, value_at}
-use Rattle.papaya_rule.specs.Given.SeizeWords.Plan.{Steps}
-use Rattle.papaya_rule.specs.Given.Seize.declared.progress.Progress.{Progress}
-use Rattle.papaya_rule.specs.Given.Seize.declared.progress.Progress.TheVariants.{Goes}
-use Rattle.papaya_rule.specs.Given.Tables.declared.node.Node.{Node}
-use Rattle.papaya_rule.specs.Given.Tables.declared.resize_mode.ResizeMode.{ResizeMode}
-use Rattle.papaya_rule.specs.Given.Tables.declared.table.Table.{Table}
-use Rattle.papaya_rule.specs.Given.Resize.Lookup.{lookup_plan}
-use Rattle.papaya_rule.specs.Given.Resize.declared.lookup.Lookup.{Lookup}
+use Rattle.papaya_rule.specs.Given.SeizeWordsMem.{Mem, Took, value_at}
+use Rattle.papaya_rule.specs.Given.SeizeWordsPlan.{Steps}
+use Rattle.papaya_rule.specs.Given.SeizeDeclared.progress.Progress.{Progress}
+use Rattle.papaya_rule.specs.Given.SeizeDeclared.progress.Progress.TheVariants.{Goes}
+use Rattle.papaya_rule.specs.Given.TablesDeclared.node.Node.{Node}
+use Rattle.papaya_rule.specs.Given.TablesDeclared.resize_mode.ResizeMode.{ResizeMode}
+use Rattle.papaya_rule.specs.Given.TablesDeclared.table.Table.{Table}
+use Rattle.papaya_rule.specs.Given.ResizeLookup.{lookup_plan}
+use Rattle.papaya_rule.specs.Given.ResizeDeclared.lookup.Lookup.{Lookup}
 use Rattle.papaya_rule.specs.Chart.{Chart}
 use Rattle.papaya_rule.specs.Words.{Blocks}
 use Rattle.papaya_rule.specs.Maps.{IsClass, IsMap}

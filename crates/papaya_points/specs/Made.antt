@@ -2,10 +2,10 @@
 use Rattle.std.specs.Prelude.{◌≡◌, ℕ, ◌/◌}
 use Rattle.papaya_raw.specs.declared.machines.call.Calling.{Calling}
 use Rattle.papaya_raw.specs.declared.machines.call.Calling.TheVariants as at
-use Rattle.papaya_rule.specs.Given.Resize.declared.copier.Copying.{Copying}
-use Rattle.papaya_rule.specs.Given.Resize.declared.copier.Copying.TheVariants as copies
-use Rattle.papaya_rule.specs.Given.Resize.declared.new_table.Making.{Making}
-use Rattle.papaya_rule.specs.Given.Resize.declared.new_table.Making.TheVariants as makes
+use Rattle.papaya_rule.specs.Given.ResizeDeclared.copier.Copying.{Copying}
+use Rattle.papaya_rule.specs.Given.ResizeDeclared.copier.Copying.TheVariants as copies
+use Rattle.papaya_rule.specs.Given.ResizeDeclared.new_table.Making.{Making}
+use Rattle.papaya_rule.specs.Given.ResizeDeclared.new_table.Making.TheVariants as makes
 
 -- the block of the table that a making has made and not linked
 abbrev pub IsMadeBy : Making → ℕ → Type 0

@@ -1,8 +1,8 @@
 -- How far the disposal of a pair is from the row that ends it.
 use Rattle.std.specs.Prelude.{ℕ, zero, suc, ◌-◌, ◌*◌, cond, ◌==◌, ◌&&◌, List, [], ◌∷◌}
-use Rattle.papaya_rule.specs.Given.Resize.declared.dispose.Dispose.{Dispose}
-use Rattle.papaya_rule.specs.Given.Resize.declared.dispose.Disposing.{Disposing}
-use Rattle.papaya_rule.specs.Given.Resize.declared.dispose.Disposing.TheVariants as at
+use Rattle.papaya_rule.specs.Given.ResizeDeclared.dispose.Dispose.{Dispose}
+use Rattle.papaya_rule.specs.Given.ResizeDeclared.dispose.Disposing.{Disposing}
+use Rattle.papaya_rule.specs.Given.ResizeDeclared.dispose.Disposing.TheVariants as at
 use Rattle.papaya_rule.specs.Chart.{Chart}
 use Rattle.papaya_rule.specs.Words.{Blocks}
 

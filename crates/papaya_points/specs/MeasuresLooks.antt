@@ -1,14 +1,14 @@
 -- How far a lookup is from its end, and how many loads it makes.
 use Rattle.std.specs.Prelude.{◌≡◌, ℕ, suc, ◌+◌, ◌-◌, ◌≤◌, List, [], ◌∷◌, Option}
-use Rattle.papaya_rule.specs.Given.SeizeWords.declared.at.At.{At}
-use Rattle.papaya_rule.specs.Given.SeizeWords.Op.{Load}
-use Rattle.papaya_rule.specs.Given.SeizeWords.Plan.{Plan, Turn, Do}
-use Rattle.papaya_rule.specs.Given.Seize.declared.progress.Progress.{Progress}
-use Rattle.papaya_rule.specs.Given.Seize.declared.progress.Progress.TheVariants as progress
-use Rattle.papaya_rule.specs.Given.Tables.declared.table.Table.{Table}
-use Rattle.papaya_rule.specs.Given.Resize.declared.lookup.Lookup.{Lookup}
-use Rattle.papaya_rule.specs.Given.Resize.declared.lookup.Looking.{Looking}
-use Rattle.papaya_rule.specs.Given.Resize.declared.lookup.Looking.TheVariants as at
+use Rattle.papaya_rule.specs.Given.SeizeWordsDeclared.at.At.{At}
+use Rattle.papaya_rule.specs.Given.SeizeWordsOp.{Load}
+use Rattle.papaya_rule.specs.Given.SeizeWordsPlan.{Plan, Turn, Do}
+use Rattle.papaya_rule.specs.Given.SeizeDeclared.progress.Progress.{Progress}
+use Rattle.papaya_rule.specs.Given.SeizeDeclared.progress.Progress.TheVariants as progress
+use Rattle.papaya_rule.specs.Given.TablesDeclared.table.Table.{Table}
+use Rattle.papaya_rule.specs.Given.ResizeDeclared.lookup.Lookup.{Lookup}
+use Rattle.papaya_rule.specs.Given.ResizeDeclared.lookup.Looking.{Looking}
+use Rattle.papaya_rule.specs.Given.ResizeDeclared.lookup.Looking.TheVariants as at
 use Rattle.papaya_rule.specs.Chart.{Chart}
 
 -- the step makes a load

@@ -1,11 +1,11 @@
 -- How far a counting, and a making of a table, are from their ends.
 use Rattle.std.specs.Prelude.{ℕ, suc, ◌-◌, List, [], ◌∷◌}
-use Rattle.papaya_rule.specs.Given.Resize.declared.sum.Sum.{Sum}
-use Rattle.papaya_rule.specs.Given.Resize.declared.sum.Summing.{Summing}
-use Rattle.papaya_rule.specs.Given.Resize.declared.sum.Summing.TheVariants as sums
-use Rattle.papaya_rule.specs.Given.Resize.declared.new_table.NewTable.{NewTable}
-use Rattle.papaya_rule.specs.Given.Resize.declared.new_table.Making.{Making}
-use Rattle.papaya_rule.specs.Given.Resize.declared.new_table.Making.TheVariants as at
+use Rattle.papaya_rule.specs.Given.ResizeDeclared.sum.Sum.{Sum}
+use Rattle.papaya_rule.specs.Given.ResizeDeclared.sum.Summing.{Summing}
+use Rattle.papaya_rule.specs.Given.ResizeDeclared.sum.Summing.TheVariants as sums
+use Rattle.papaya_rule.specs.Given.ResizeDeclared.new_table.NewTable.{NewTable}
+use Rattle.papaya_rule.specs.Given.ResizeDeclared.new_table.Making.{Making}
+use Rattle.papaya_rule.specs.Given.ResizeDeclared.new_table.Making.TheVariants as at
 
 -- how many shards are still to be read, up to the last one
 abbrev pub shards_left : ℕ → Summing → ℕ

@@ -1,7 +1,7 @@
 -- Whether a copier has unlinked tables that it has still to hand to the collector.
 use Rattle.std.specs.Prelude.{Bool, true, false}
-use Rattle.papaya_rule.specs.Given.Resize.declared.copier.Copying.{Copying}
-use Rattle.papaya_rule.specs.Given.Resize.declared.copier.Copying.TheVariants as copies
+use Rattle.papaya_rule.specs.Given.ResizeDeclared.copier.Copying.{Copying}
+use Rattle.papaya_rule.specs.Given.ResizeDeclared.copier.Copying.TheVariants as copies
 
 -- a copier has unlinked tables, and is to retire them
 abbrev pub has_unlinked : Copying → Bool

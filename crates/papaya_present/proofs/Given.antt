@@ -1,4 +1,4 @@
 -- What is so by the crates below, given on to the crates above: these list this crate in place of those.
-pub use Rattle.papaya_runs.proofs as Runs
-pub use Rattle.papaya_runs.proofs.Given.SeizeWords
-pub use Rattle.papaya_runs.proofs.Given.Tables
+pub use Rattle.papaya_runs.proofs.Laws as RunsLaws
+pub use Rattle.papaya_runs.proofs.Pairs as RunsPairs
+pub use Rattle.papaya_runs.proofs.Given.SeizeWordsOneOwner

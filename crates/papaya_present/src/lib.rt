@@ -7,6 +7,4 @@ pub mod places;
 mod present;
 pub mod tally;
 
-pub use papaya_runs;
-pub use papaya_runs::seize_words;
 pub use present::Present;

@@ -1,8 +1,8 @@
 -- So it is after each act: what was sheltered is so still, and no entry reclaims any of it.
 use Rattle.std.proofs.Common.{◌≡◌, ℕ, List, ◌∷◌, ap, sym, subst}
-use Rattle.papaya_runs.specs.Given.Seize.World.{Begins, World}
-use Rattle.papaya_runs.specs.Given.Tables.Nodes.{deferred_word}
-use Rattle.papaya_runs.specs.Given.Tables.declared.node.Node.{Node}
+use Rattle.papaya_runs.specs.Given.SeizeWorld.{Begins, World}
+use Rattle.papaya_runs.specs.Given.TablesNodes.{deferred_word}
+use Rattle.papaya_runs.specs.Given.TablesDeclared.node.Node.{Node}
 use Rattle.papaya_schedules.specs.After.{AtEachEvent}
 use Rattle.papaya_linear.specs.Given.EffectsKnown.{Known}
 use Rattle.papaya_linear.specs.Given.ScenesRows.{request_of}

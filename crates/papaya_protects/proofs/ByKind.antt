@@ -1,14 +1,14 @@
 -- Each kind of step leaves sheltered, in sections that are open, what is so.
 use Rattle.std.specs.Prelude.{◌≡◌, ℕ, Bool, List, [], Some, None, Option, flat_map}
 use Rattle.std.proofs.Common.{ap, ◌∙◌}
-use Rattle.papaya_runs.specs.Given.Seize.Law.{is_open}
-use Rattle.papaya_runs.specs.Given.Seize.World.{Runs, World}
-use Rattle.papaya_runs.specs.Given.Seize.declared.progress.Progress.{Progress}
-use Rattle.papaya_runs.specs.Given.Seize.declared.rows.settle.Settled.{Settled}
-use Rattle.papaya_runs.specs.Given.Tables.Nodes.{deferred_word}
-use Rattle.papaya_runs.specs.Given.Tables.declared.node.Node.{Node}
-use Rattle.papaya_runs.specs.Given.Tables.declared.setting.Setting.{Setting}
-use Rattle.papaya_schedules.specs.Given.Raw.declared.machines.progress.Progress.{Progress as CallProgress}
+use Rattle.papaya_runs.specs.Given.SeizeLaw.{is_open}
+use Rattle.papaya_runs.specs.Given.SeizeWorld.{Runs, World}
+use Rattle.papaya_runs.specs.Given.SeizeDeclared.progress.Progress.{Progress}
+use Rattle.papaya_runs.specs.Given.SeizeDeclared.rows.settle.Settled.{Settled}
+use Rattle.papaya_runs.specs.Given.TablesNodes.{deferred_word}
+use Rattle.papaya_runs.specs.Given.TablesDeclared.node.Node.{Node}
+use Rattle.papaya_runs.specs.Given.TablesDeclared.setting.Setting.{Setting}
+use Rattle.papaya_schedules.specs.Given.RawDeclared.machines.progress.Progress.{Progress as CallProgress}
 use Rattle.papaya_runs.specs.Present.{Present}
 use Rattle.papaya_schedules.specs.Effects.{with_effects}
 use Rattle.papaya_schedules.specs.Model.{thing_back}

@@ -2,14 +2,14 @@
 use Rattle.std.specs.Prelude.{Bool, true, false, Option, Some, None, flat_map, if◌then◌else◌}
 use Rattle.std.specs.Option.{is_none}
 use Rattle.std.proofs.Common.{◌≡◌, ℕ, List, [], refl, ap, sym, subst, ◌∙◌}
-use Rattle.papaya_runs.specs.Given.Seize.World.{World}
-use Rattle.papaya_runs.specs.Given.Seize.declared.progress.Progress.{Progress}
-use Rattle.papaya_runs.specs.Given.Seize.declared.rows.settle.Settled.{Settled}
-use Rattle.papaya_runs.specs.Given.Tables.Nodes.{deferred_word}
-use Rattle.papaya_runs.specs.Given.Tables.declared.node.Node.{Node}
-use Rattle.papaya_runs.specs.Given.Tables.declared.setting.Setting.{Setting}
-use Rattle.papaya_schedules.specs.Given.Resize.declared.new_map.NewMap.{NewMap}
-use Rattle.papaya_schedules.specs.Given.Raw.declared.machines.progress.Progress.{Progress as CallProgress}
+use Rattle.papaya_runs.specs.Given.SeizeWorld.{World}
+use Rattle.papaya_runs.specs.Given.SeizeDeclared.progress.Progress.{Progress}
+use Rattle.papaya_runs.specs.Given.SeizeDeclared.rows.settle.Settled.{Settled}
+use Rattle.papaya_runs.specs.Given.TablesNodes.{deferred_word}
+use Rattle.papaya_runs.specs.Given.TablesDeclared.node.Node.{Node}
+use Rattle.papaya_runs.specs.Given.TablesDeclared.setting.Setting.{Setting}
+use Rattle.papaya_schedules.specs.Given.ResizeDeclared.new_map.NewMap.{NewMap}
+use Rattle.papaya_schedules.specs.Given.RawDeclared.machines.progress.Progress.{Progress as CallProgress}
 use Rattle.papaya_schedules.specs.Effects.{with_effects}
 use Rattle.papaya_schedules.specs.Model.{thing_back}
 use Rattle.papaya_schedules.specs.Moment.{Moment, UnderWay as CallThere}

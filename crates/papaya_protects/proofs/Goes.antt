@@ -1,16 +1,16 @@
 -- Sections that no row of a caller ends go on over its steps.
 use Rattle.std.specs.Prelude.{◌≢◌, false}
 use Rattle.std.proofs.Common.{◌≡◌, ℕ, [], ◌∷◌, inl, inr, refl, ap, sym, subst, ◌∙◌, ◌+◌}
-use Rattle.papaya_runs.specs.Given.Seize.Law.{Deferred}
-use Rattle.papaya_runs.specs.Given.Seize.World.{Begin, Defer', Defers, Enter', Flush, Happens, IsInside, Leave', LeaveOwned, Leaves, Refresh, Register', Request, Retire, Row, Settles, Unregister', World}
-use Rattle.papaya_runs.specs.Given.Seize.declared.rows.leave.Leave.{Leave}
-use Rattle.papaya_runs.specs.Given.Seize.declared.rows.leave.Leaving.TheVariants as leaving
+use Rattle.papaya_runs.specs.Given.SeizeLaw.{Deferred}
+use Rattle.papaya_runs.specs.Given.SeizeWorld.{Begin, Defer', Defers, Enter', Flush, Happens, IsInside, Leave', LeaveOwned, Leaves, Refresh, Register', Request, Retire, Row, Settles, Unregister', World}
+use Rattle.papaya_runs.specs.Given.SeizeDeclared.rows.leave.Leave.{Leave}
+use Rattle.papaya_runs.specs.Given.SeizeDeclared.rows.leave.Leaving.TheVariants as leaving
 use Rattle.papaya_linear.proofs.Given.SeizeAloneHistories.Reached.{Reached}
 use Rattle.papaya_linear.proofs.Given.SeizeRuleRows.Known.{leaving_on, works_on}
 use Rattle.papaya_linear.proofs.Given.SeizeRuleRows.Teams.{is_shared, no_other, shares}
-use Rattle.papaya_runs.specs.Given.Tables.Nodes.{deferred_word}
-use Rattle.papaya_runs.specs.Given.Tables.declared.node.Node.{Node}
-use Rattle.papaya_runs.specs.Given.Tables.declared.setting.Setting.{Setting}
+use Rattle.papaya_runs.specs.Given.TablesNodes.{deferred_word}
+use Rattle.papaya_runs.specs.Given.TablesDeclared.node.Node.{Node}
+use Rattle.papaya_runs.specs.Given.TablesDeclared.setting.Setting.{Setting}
 use Rattle.papaya_linear.specs.Given.CallersTogether.{HandsOver, IsOneStep}
 use Rattle.papaya_linear.proofs.Given.CallersTogether.At.{at_same}
 use Rattle.papaya_linear.proofs.Given.PromisesShelters.Within.{GoOnByRows, Sections}

@@ -1,10 +1,10 @@
 -- The guards of a history whose sections are open are spared by whoever has no row beside them.
 use Rattle.std.specs.Prelude.{Option, Some, None}
 use Rattle.std.proofs.Common.{◌≡◌, ℕ, List, inl, inr, ap, sym, ◌∙◌}
-use Rattle.papaya_runs.specs.Given.Seize.World.{World}
+use Rattle.papaya_runs.specs.Given.SeizeWorld.{World}
 use Rattle.papaya_linear.proofs.Given.SeizeAloneHistories.Reached.{Reached}
-use Rattle.papaya_runs.specs.Given.Tables.Nodes.{deferred_word}
-use Rattle.papaya_runs.specs.Given.Tables.declared.node.Node.{Node}
+use Rattle.papaya_runs.specs.Given.TablesNodes.{deferred_word}
+use Rattle.papaya_runs.specs.Given.TablesDeclared.node.Node.{Node}
 use Rattle.papaya_runs.specs.Present.{Present, guard_of}
 use Rattle.papaya_runs.specs.Same.{is_same}
 use Rattle.papaya_runs.specs.declared.holders.Guard.{Guard}

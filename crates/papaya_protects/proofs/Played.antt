@@ -3,18 +3,18 @@ use Rattle.std.specs.Prelude.{Bool, true, false, Some, is_ok, length, if◌then�
 use Rattle.std.proofs.Common.{◌≡◌, ℕ, [], ◌∷◌, refl, ap, sym, subst, ◌∙◌}
 use Rattle.papaya_linear.specs.Given.SeizeActsActs.{row_steps}
 use Rattle.papaya_linear.specs.Given.SeizeActsAnswers.{Grant}
-use Rattle.papaya_runs.specs.Given.Seize.Law.{Ended}
-use Rattle.papaya_runs.specs.Given.Seize.World.{Row, World}
-use Rattle.papaya_runs.specs.Given.Seize.declared.progress.Progress.{Progress}
-use Rattle.papaya_runs.specs.Given.Seize.declared.progress.Progress.TheVariants as progress
-use Rattle.papaya_runs.specs.Given.Seize.declared.rows.settle.Settled.{Settled}
-use Rattle.papaya_runs.specs.Given.Seize.declared.rows.settle.Settled.TheVariants as settled
-use Rattle.papaya_runs.specs.Given.Tables.Nodes.{deferred_word}
-use Rattle.papaya_runs.specs.Given.Tables.declared.node.Node.{Node}
-use Rattle.papaya_runs.specs.Given.Tables.declared.setting.Setting.{Setting}
-use Rattle.papaya_schedules.specs.Given.Resize.declared.new_map.NewMap.{NewMap}
-use Rattle.papaya_schedules.specs.Given.Raw.Machine.{machine_asked, machine_replied}
-use Rattle.papaya_schedules.specs.Given.Raw.declared.machines.end_map.EndMap.{EndMap}
+use Rattle.papaya_runs.specs.Given.SeizeLaw.{Ended}
+use Rattle.papaya_runs.specs.Given.SeizeWorld.{Row, World}
+use Rattle.papaya_runs.specs.Given.SeizeDeclared.progress.Progress.{Progress}
+use Rattle.papaya_runs.specs.Given.SeizeDeclared.progress.Progress.TheVariants as progress
+use Rattle.papaya_runs.specs.Given.SeizeDeclared.rows.settle.Settled.{Settled}
+use Rattle.papaya_runs.specs.Given.SeizeDeclared.rows.settle.Settled.TheVariants as settled
+use Rattle.papaya_runs.specs.Given.TablesNodes.{deferred_word}
+use Rattle.papaya_runs.specs.Given.TablesDeclared.node.Node.{Node}
+use Rattle.papaya_runs.specs.Given.TablesDeclared.setting.Setting.{Setting}
+use Rattle.papaya_schedules.specs.Given.ResizeDeclared.new_map.NewMap.{NewMap}
+use Rattle.papaya_schedules.specs.Given.RawMachine.{machine_asked, machine_replied}
+use Rattle.papaya_schedules.specs.Given.RawDeclared.machines.end_map.EndMap.{EndMap}
 use Rattle.papaya_runs.specs.declared.holders.Guard.{Guard}
 use Rattle.papaya_schedules.specs.Moment.{Moment}
 use Rattle.papaya_schedules.specs.declared.outcome.Outcome.{Outcome}

@@ -1,21 +1,21 @@
 -- Where nothing is done to what is known, open sections that keep what they hold shelter what they did.
 use Rattle.std.proofs.Common.{◌≡◌, ℕ, false, List, refl, sym, subst}
-use Rattle.papaya_deeds.specs.Given.SeizeWords.Mem.{Mem}
-use Rattle.papaya_deeds.specs.Given.SeizeWords.Op.{Out, Exchange, Exchanged}
+use Rattle.papaya_deeds.specs.Given.SeizeWordsMem.{Mem}
+use Rattle.papaya_deeds.specs.Given.SeizeWordsOp.{Out, Exchange, Exchanged}
 use Rattle.std.specs.Prelude.{Ok}
-use Rattle.papaya_deeds.specs.Given.SeizeWords.declared.at.At.TheVariants.{Used}
-use Rattle.papaya_runs.specs.Given.Seize.declared.progress.Progress.{Progress}
-use Rattle.papaya_runs.specs.Given.Tables.declared.node.Node.{Node}
-use Rattle.papaya_runs.specs.Given.Tables.declared.setting.Setting.{Setting}
-use Rattle.papaya_schedules.specs.Given.Resize.NewMap.{plan_at}
-use Rattle.papaya_schedules.specs.Given.Resize.declared.new_map.NewMap.{NewMap}
-use Rattle.papaya_schedules.specs.Given.Resize.declared.new_map.Opening.{Opening}
-use Rattle.papaya_schedules.specs.Given.Resize.declared.new_map.Opening.TheVariants as openings
+use Rattle.papaya_deeds.specs.Given.SeizeWordsDeclared.at.At.TheVariants.{Used}
+use Rattle.papaya_runs.specs.Given.SeizeDeclared.progress.Progress.{Progress}
+use Rattle.papaya_runs.specs.Given.TablesDeclared.node.Node.{Node}
+use Rattle.papaya_runs.specs.Given.TablesDeclared.setting.Setting.{Setting}
+use Rattle.papaya_schedules.specs.Given.ResizeNewMap.{plan_at}
+use Rattle.papaya_schedules.specs.Given.ResizeDeclared.new_map.NewMap.{NewMap}
+use Rattle.papaya_schedules.specs.Given.ResizeDeclared.new_map.Opening.{Opening}
+use Rattle.papaya_schedules.specs.Given.ResizeDeclared.new_map.Opening.TheVariants as openings
 use Rattle.papaya_linear.specs.Given.TellsSeen.{seen_of}
 use Rattle.papaya_linear.specs.Given.TellerTells.{StepsTold, told_of}
 use Rattle.papaya_linear.specs.Given.TellerDeclared.changed.Changed.{Changed}
 use Rattle.papaya_linear.specs.Given.TellerDeclared.changed.Changed.TheVariants as changed
-use Rattle.papaya_runs.specs.Given.Seize.World.{World}
+use Rattle.papaya_runs.specs.Given.SeizeWorld.{World}
 use Rattle.papaya_runs.specs.Present.{Present}
 use Rattle.papaya_schedules.specs.Moment.{Moment, Sheltered}
 use Rattle.papaya_linear.specs.Given.EffectsEffects.{known_after}

@@ -2,17 +2,17 @@
 use Rattle.std.specs.Prelude.{◌≢◌, ◌==◌, ◌&&◌, nat_lt, Bool, true, false, if◌then◌else◌}
 use Rattle.std.specs.List.{AllByRecursion}
 use Rattle.std.proofs.Common.{◌≡◌, ℕ, List, [], ◌∷◌, refl, ap, sym, subst, ◌∙◌}
-use Rattle.papaya_deeds.specs.Given.SeizeWords.declared.at.At.TheVariants.{Entry as AtEntry, Root, Slot, Used, Word}
-use Rattle.papaya_runs.specs.Given.Seize.World.{IsInside, Leaves as LeavesRow, World}
-use Rattle.papaya_runs.specs.Given.Seize.declared.rows.leave.Leave.{Leave}
-use Rattle.papaya_runs.specs.Given.Seize.declared.rows.leave.Leaving.{Leaving}
-use Rattle.papaya_runs.specs.Given.Seize.declared.rows.leave.Leaving.TheVariants as leaving
-use Rattle.papaya_runs.specs.Given.Seize.declared.rows.register.Register.{Register}
-use Rattle.papaya_runs.specs.Given.Seize.declared.rows.register.Registering.{Registering}
-use Rattle.papaya_runs.specs.Given.Seize.declared.rows.register.Registering.TheVariants as registers
-use Rattle.papaya_runs.specs.Given.Seize.declared.states.TheConstants.{ACTIVE}
-use Rattle.papaya_runs.specs.Given.Tables.Nodes.{deferred_word}
-use Rattle.papaya_runs.specs.Given.Tables.declared.node.Node.{Node}
+use Rattle.papaya_deeds.specs.Given.SeizeWordsDeclared.at.At.TheVariants.{Entry as AtEntry, Root, Slot, Used, Word}
+use Rattle.papaya_runs.specs.Given.SeizeWorld.{IsInside, Leaves as LeavesRow, World}
+use Rattle.papaya_runs.specs.Given.SeizeDeclared.rows.leave.Leave.{Leave}
+use Rattle.papaya_runs.specs.Given.SeizeDeclared.rows.leave.Leaving.{Leaving}
+use Rattle.papaya_runs.specs.Given.SeizeDeclared.rows.leave.Leaving.TheVariants as leaving
+use Rattle.papaya_runs.specs.Given.SeizeDeclared.rows.register.Register.{Register}
+use Rattle.papaya_runs.specs.Given.SeizeDeclared.rows.register.Registering.{Registering}
+use Rattle.papaya_runs.specs.Given.SeizeDeclared.rows.register.Registering.TheVariants as registers
+use Rattle.papaya_runs.specs.Given.SeizeDeclared.states.TheConstants.{ACTIVE}
+use Rattle.papaya_runs.specs.Given.TablesNodes.{deferred_word}
+use Rattle.papaya_runs.specs.Given.TablesDeclared.node.Node.{Node}
 use Rattle.papaya_linear.specs.Given.TellerDeclared.changed.Changed.{Changed}
 use Rattle.papaya_linear.specs.Given.TellerDeclared.changed.Changed.TheVariants as changed
 use Rattle.papaya_runs.specs.Present.{Present, drops, enters_slot}

@@ -1,28 +1,28 @@
 -- Sections that are open, by what has happened: they go on, and hold what they held, whatever users do, and whichever row steps, but for the one that it ends.
 use Rattle.std.specs.Prelude.{Ok, Err, Option}
 use Rattle.std.proofs.Common.{◌≡◌, ℕ, true, List, [], ◌∷◌, ◌++◌, refl, ap, sym, subst, ◌∙◌, ◌+◌, arith}
-use Rattle.papaya_deeds.specs.Given.SeizeWords.Mem.{Mem}
-use Rattle.papaya_deeds.specs.Given.SeizeWords.Op.{Out, Found, Stored, Exchanged, Made, Taken, Roomed}
-use Rattle.papaya_runs.specs.Given.Seize.Law.{Deferred, Dropped, Effect, Ended, Entered, Left, LeftOver, Linked, Made as MadeBlock, Retired, Taken as TakenBlock, Unlinked, holds, is_open}
-use Rattle.papaya_runs.specs.Given.Seize.World.{Begin, Chooses, Clears, Defers, Drops, Ends, Enters, Event, Frees, Hand, Happens, Leaves, LeavesOver, Links, Makes, Making, Operates, Parts, Registers, Relinks, Rests, Rewrites, Row, Runs, Settles, Step, Steps', Unlinks, World, leave_effects, leaves_on, defers_on, made_by, register_effects, registers_on, settle_effects, settles_on}
-use Rattle.papaya_runs.specs.Given.Seize.Sequence.{IsUsers}
-use Rattle.papaya_runs.specs.Given.Seize.declared.progress.Progress.{Progress}
-use Rattle.papaya_runs.specs.Given.Seize.declared.progress.Progress.TheVariants as progress
-use Rattle.papaya_runs.specs.Given.Seize.declared.rows.defer.Defer.{Defer}
-use Rattle.papaya_runs.specs.Given.Seize.declared.rows.leave.Leave.{Leave}
-use Rattle.papaya_runs.specs.Given.Seize.declared.rows.leave.Leaving.TheVariants as leaving
-use Rattle.papaya_runs.specs.Given.Seize.declared.rows.register.Register.{Register}
-use Rattle.papaya_runs.specs.Given.Seize.declared.rows.settle.Settle.{Settle}
-use Rattle.papaya_runs.specs.Given.Seize.declared.rows.settle.Settled.{Settled}
-use Rattle.papaya_runs.specs.Given.Seize.declared.rows.settle.Settled.TheVariants as settled
-use Rattle.papaya_runs.specs.Given.Seize.declared.states.TheConstants.{LAST_SLOT}
+use Rattle.papaya_deeds.specs.Given.SeizeWordsMem.{Mem}
+use Rattle.papaya_deeds.specs.Given.SeizeWordsOp.{Out, Found, Stored, Exchanged, Made, Taken, Roomed}
+use Rattle.papaya_runs.specs.Given.SeizeLaw.{Deferred, Dropped, Effect, Ended, Entered, Left, LeftOver, Linked, Made as MadeBlock, Retired, Taken as TakenBlock, Unlinked, holds, is_open}
+use Rattle.papaya_runs.specs.Given.SeizeWorld.{Begin, Chooses, Clears, Defers, Drops, Ends, Enters, Event, Frees, Hand, Happens, Leaves, LeavesOver, Links, Makes, Making, Operates, Parts, Registers, Relinks, Rests, Rewrites, Row, Runs, Settles, Step, Steps', Unlinks, World, leave_effects, leaves_on, defers_on, made_by, register_effects, registers_on, settle_effects, settles_on}
+use Rattle.papaya_runs.specs.Given.SeizeSequence.{IsUsers}
+use Rattle.papaya_runs.specs.Given.SeizeDeclared.progress.Progress.{Progress}
+use Rattle.papaya_runs.specs.Given.SeizeDeclared.progress.Progress.TheVariants as progress
+use Rattle.papaya_runs.specs.Given.SeizeDeclared.rows.defer.Defer.{Defer}
+use Rattle.papaya_runs.specs.Given.SeizeDeclared.rows.leave.Leave.{Leave}
+use Rattle.papaya_runs.specs.Given.SeizeDeclared.rows.leave.Leaving.TheVariants as leaving
+use Rattle.papaya_runs.specs.Given.SeizeDeclared.rows.register.Register.{Register}
+use Rattle.papaya_runs.specs.Given.SeizeDeclared.rows.settle.Settle.{Settle}
+use Rattle.papaya_runs.specs.Given.SeizeDeclared.rows.settle.Settled.{Settled}
+use Rattle.papaya_runs.specs.Given.SeizeDeclared.rows.settle.Settled.TheVariants as settled
+use Rattle.papaya_runs.specs.Given.SeizeDeclared.states.TheConstants.{LAST_SLOT}
 use Rattle.papaya_linear.proofs.Given.SeizeMovesMoves.Blocks.{never_held}
 use Rattle.papaya_linear.proofs.Given.SeizeMovesState.Held.{NoneLeft, NotLeft, held_beside, held_through}
 use Rattle.papaya_linear.proofs.Given.SeizeRulePoints.Aside.{HandFits}
 use Rattle.papaya_linear.proofs.Given.SeizeRuleRows.Effects.{leave_goes_on, register_goes_on, settle_goes_on}
 use Rattle.papaya_linear.proofs.Given.SeizeAloneHistories.Reached.{Reached, happens_reached}
-use Rattle.papaya_runs.specs.Given.Tables.Nodes.{deferred_word}
-use Rattle.papaya_runs.specs.Given.Tables.declared.node.Node.{Node}
+use Rattle.papaya_runs.specs.Given.TablesNodes.{deferred_word}
+use Rattle.papaya_runs.specs.Given.TablesDeclared.node.Node.{Node}
 use Rattle.papaya_linear.specs.Given.RuleInWorld.{AllUsers}
 
 -- an open section is open still after what does not end it

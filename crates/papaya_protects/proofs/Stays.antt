@@ -2,11 +2,11 @@
 use Rattle.std.specs.Prelude.{◌≡◌, ℕ, Bool, [], Option, Some, None}
 use Rattle.std.proofs.Common.{◌∷◌, List, ap, sym, subst, ◌∙◌}
 use Rattle.papaya_linear.specs.Given.SeizeActsAnswers.{Grant}
-use Rattle.papaya_runs.specs.Given.Seize.ReclaimAll.{reclaim_all_plan}
-use Rattle.papaya_runs.specs.Given.Seize.World.{World}
-use Rattle.papaya_runs.specs.Given.Seize.declared.rows.reclaim_all.ReclaimAll.{ReclaimAll}
-use Rattle.papaya_runs.specs.Given.Tables.Nodes.{deferred_word, was_left}
-use Rattle.papaya_runs.specs.Given.Tables.declared.node.Node.{Node}
+use Rattle.papaya_runs.specs.Given.SeizeReclaimAll.{reclaim_all_plan}
+use Rattle.papaya_runs.specs.Given.SeizeWorld.{World}
+use Rattle.papaya_runs.specs.Given.SeizeDeclared.rows.reclaim_all.ReclaimAll.{ReclaimAll}
+use Rattle.papaya_runs.specs.Given.TablesNodes.{deferred_word, was_left}
+use Rattle.papaya_runs.specs.Given.TablesDeclared.node.Node.{Node}
 use Rattle.papaya_linear.specs.Given.TellerDeclared.changed.Changed.TheVariants.{Nothing as NoChange}
 use Rattle.papaya_schedules.specs.After.{AtEachEvent}
 use Rattle.papaya_schedules.specs.Moment.{Moment}

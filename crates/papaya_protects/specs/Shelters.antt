@@ -1,8 +1,8 @@
 -- What left its map while guards were there: sections that are open, by what has happened, hold it still.
 use Rattle.std.specs.Prelude.{◌≡◌, ℕ, true}
-use Rattle.papaya_runs.specs.Given.Seize.Law.{is_open}
-use Rattle.papaya_runs.specs.Given.Seize.World.{World}
-use Rattle.papaya_runs.specs.Given.Tables.declared.node.Node.{Node}
+use Rattle.papaya_runs.specs.Given.SeizeLaw.{is_open}
+use Rattle.papaya_runs.specs.Given.SeizeWorld.{World}
+use Rattle.papaya_runs.specs.Given.TablesDeclared.node.Node.{Node}
 use Rattle.papaya_schedules.specs.Moment.{Moment}
 use Rattle.papaya_linear.specs.Given.EffectsKnown.{Known}
 use Rattle.papaya_linear.specs.Given.PromisesSheltered.{AreShelteredOn, GuardsAreOn}

@@ -1,9 +1,9 @@
 -- A call on one key puts what it was told into its own block, or gives that block up: what the operation is, and what follows its answer.
 use Rattle.std.specs.Prelude.{ℕ, ◌==◌, Bool, true, false, Option, Some, None, Ok, Err}
-use Rattle.papaya_tables.specs.Given.SeizeWords.Word.{block_in}
-use Rattle.papaya_tables.specs.Given.SeizeWords.declared.fault.Fault.TheVariants.{Memory}
-use Rattle.papaya_tables.specs.Given.SeizeWords.Op.{Out, Make, Take, Rewrite, Made, Taken}
-use Rattle.papaya_tables.specs.Given.SeizeWords.Plan.{Plan, Then, Turn, Do, Now}
+use Rattle.papaya_tables.specs.Given.SeizeWordsWord.{block_in}
+use Rattle.papaya_tables.specs.Given.SeizeWordsDeclared.fault.Fault.TheVariants.{Memory}
+use Rattle.papaya_tables.specs.Given.SeizeWordsOp.{Out, Make, Take, Rewrite, Made, Taken}
+use Rattle.papaya_tables.specs.Given.SeizeWordsPlan.{Plan, Then, Turn, Do, Now}
 use Rattle.papaya_tables.specs.Nodes.{vacant}
 use Rattle.papaya_tables.specs.declared.marks.TheConstants.{TOMBSTONE}
 use Rattle.papaya_tables.specs.declared.node.Node.{Node}

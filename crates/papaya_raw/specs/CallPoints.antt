@@ -1,15 +1,15 @@
 -- A call on one key: how it goes on from one point to another.
 use Rattle.std.specs.Prelude.{ℕ, ◌+◌, ◌*◌, ◌/◌, ◌%◌, ◌^◌, ◌==◌, Bool, true, false, if◌then◌else◌, Option, Some, None}
-use Rattle.papaya_tables.specs.Given.SeizeWords.Word.{link_to, block_in}
+use Rattle.papaya_tables.specs.Given.SeizeWordsWord.{link_to, block_in}
 use Rattle.papaya_tables.specs.Chunks.{is_incremental}
 use Rattle.papaya_tables.specs.Trials.{first_trial, trial_on, with_met, found_full, next_trial}
 use Rattle.papaya_tables.specs.Finding.{finding}
-use Rattle.papaya_sweeps.specs.Given.Resize.Lookup.{looking}
+use Rattle.papaya_sweeps.specs.Given.ResizeLookup.{looking}
 use Rattle.papaya_raw.specs.Answers.{ended}
 use Rattle.papaya_raw.specs.Replies.{silent}
-use Rattle.papaya_sweeps.specs.Given.Resize.NewTable.{first_table, table_after}
-use Rattle.papaya_sweeps.specs.Given.Resize.Dispose.{disposing}
-use Rattle.papaya_sweeps.specs.Given.Resize.CopierStates.{helping, copying_all}
+use Rattle.papaya_sweeps.specs.Given.ResizeNewTable.{first_table, table_after}
+use Rattle.papaya_sweeps.specs.Given.ResizeDispose.{disposing}
+use Rattle.papaya_sweeps.specs.Given.ResizeCopierStates.{helping, copying_all}
 use Rattle.papaya_tables.specs.declared.lengths.TheConstants.{FIRST_LEN}
 use Rattle.papaya_tables.specs.declared.lengths.Reason.{Reason}
 use Rattle.papaya_tables.specs.declared.lengths.Reason.TheVariants.{Full}

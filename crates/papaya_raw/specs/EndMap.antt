@@ -1,12 +1,12 @@
 -- How a map ends: its pairs are reclaimed, then the pairs that its tables carry, its tables and its counter.
 use Rattle.std.specs.Prelude.{ℕ, ◌+◌, ◌-◌, ◌%◌, ◌^◌, ◌==◌, ◌&&◌, not, Bool, nat_lt, if◌then◌else◌}
-use Rattle.papaya_tables.specs.Given.SeizeWords.Word.{block_in}
-use Rattle.papaya_tables.specs.Given.SeizeWords.declared.at.At.TheVariants.{Root, Used, Entry, Word}
-use Rattle.papaya_tables.specs.Given.SeizeWords.Op.{Out, Load, Store, Take, Found, Taken}
-use Rattle.papaya_tables.specs.Given.SeizeWords.Plan.{Plan, Then, Turn, Do, Now, Seeing}
-use Rattle.papaya_tables.specs.Given.Seize.declared.states.TheConstants as state
-use Rattle.papaya_tables.specs.Given.Seize.declared.rows.settle.Settled.{Settled}
-use Rattle.papaya_tables.specs.Given.Seize.declared.rows.settle.Settled.TheVariants.{Goes, Gave, Done}
+use Rattle.papaya_tables.specs.Given.SeizeWordsWord.{block_in}
+use Rattle.papaya_tables.specs.Given.SeizeWordsDeclared.at.At.TheVariants.{Root, Used, Entry, Word}
+use Rattle.papaya_tables.specs.Given.SeizeWordsOp.{Out, Load, Store, Take, Found, Taken}
+use Rattle.papaya_tables.specs.Given.SeizeWordsPlan.{Plan, Then, Turn, Do, Now, Seeing}
+use Rattle.papaya_tables.specs.Given.SeizeDeclared.states.TheConstants as state
+use Rattle.papaya_tables.specs.Given.SeizeDeclared.rows.settle.Settled.{Settled}
+use Rattle.papaya_tables.specs.Given.SeizeDeclared.rows.settle.Settled.TheVariants.{Goes, Gave, Done}
 use Rattle.papaya_tables.specs.declared.setting.Setting.{Setting}
 use Rattle.papaya_tables.specs.declared.node.Node.{Node}
 use Rattle.papaya_tables.specs.declared.table_words.TheConstants.{NEXT, DEFERRED, PLACES}
@@ -15,7 +15,7 @@ use Rattle.papaya_raw.specs.declared.machines.end_map.EndMap.{EndMap}
 use Rattle.papaya_raw.specs.declared.machines.end_map.Ending.{Ending}
 use Rattle.papaya_raw.specs.declared.machines.end_map.Ending.TheVariants as at
 use Rattle.papaya_tables.specs.Chunks.{is_incremental}
-use Rattle.papaya_sweeps.specs.Given.Resize.CopierStates.{no_table}
+use Rattle.papaya_sweeps.specs.Given.ResizeCopierStates.{no_table}
 use Rattle.papaya_tables.specs.Marks.{has_mark}
 use Rattle.papaya_tables.specs.Nodes.{table_seen}
 

@@ -1,9 +1,9 @@
 -- How far a call of a map is, by what the machine of its kind says.
 use Rattle.std.specs.Prelude.{ℕ, Some}
-use Rattle.papaya_tables.specs.Given.Seize.declared.progress.Progress.{Progress as Counting}
-use Rattle.papaya_tables.specs.Given.Seize.declared.progress.Progress.TheVariants as counting
-use Rattle.papaya_sweeps.specs.Given.Resize.declared.outcome.Outcome.{Outcome}
-use Rattle.papaya_sweeps.specs.Given.Resize.declared.outcome.Outcome.TheVariants as outcome
+use Rattle.papaya_tables.specs.Given.SeizeDeclared.progress.Progress.{Progress as Counting}
+use Rattle.papaya_tables.specs.Given.SeizeDeclared.progress.Progress.TheVariants as counting
+use Rattle.papaya_sweeps.specs.Given.ResizeDeclared.outcome.Outcome.{Outcome}
+use Rattle.papaya_sweeps.specs.Given.ResizeDeclared.outcome.Outcome.TheVariants as outcome
 use Rattle.papaya_sweeps.specs.declared.sweep.Swept.{Swept}
 use Rattle.papaya_sweeps.specs.declared.sweep.Swept.TheVariants as swept
 use Rattle.papaya_raw.specs.declared.machines.answer.Called.{Called}

@@ -2,18 +2,18 @@
 use Rattle.std.specs.Prelude.{Option, ◌==◌, if◌then◌else◌}
 use Rattle.std.proofs.Common.{◌≡◌, ℕ, ◌<◌, ◌^◌, Bool, true, false, List, inl, refl, arith, eqb-true}
 use Rattle.std.proofs.lemmas.Bool.{eqb-false}
-use Rattle.papaya_finishes.specs.Given.SeizeWords.Mem.{Mem, Can, Took, value_at}
-use Rattle.papaya_finishes.specs.Given.SeizeWords.Plan.{May, Steps}
-use Rattle.papaya_finishes.specs.Given.Seize.declared.rows.settle.Settled.{Settled}
-use Rattle.papaya_finishes.specs.Given.Seize.declared.rows.settle.Settled.TheVariants as settled
-use Rattle.papaya_finishes.specs.Given.Seize.declared.rows.reclaim_all.ReclaimAll.{ReclaimAll}
-use Rattle.papaya_finishes.specs.Given.Seize.declared.rows.reclaim_all.Reclaiming.{Reclaiming}
-use Rattle.papaya_finishes.specs.Given.Seize.declared.rows.reclaim_all.Reclaiming.TheVariants as at
-use Rattle.papaya_finishes.specs.Given.Seize.ReclaimAll.{reclaiming_all, standing, plan_at}
-use Rattle.papaya_finishes.specs.Given.Seize.World.{World}
-use Rattle.papaya_finishes.specs.Given.Tables.Nodes.{deferred_word, was_left}
-use Rattle.papaya_finishes.specs.Given.Tables.declared.node.Node.{Node}
-use Rattle.papaya_finishes.specs.Given.Callers.Together.{UnderWay, CameAbout}
+use Rattle.papaya_finishes.specs.Given.SeizeWordsMem.{Mem, Can, Took, value_at}
+use Rattle.papaya_finishes.specs.Given.SeizeWordsPlan.{May, Steps}
+use Rattle.papaya_finishes.specs.Given.SeizeDeclared.rows.settle.Settled.{Settled}
+use Rattle.papaya_finishes.specs.Given.SeizeDeclared.rows.settle.Settled.TheVariants as settled
+use Rattle.papaya_finishes.specs.Given.SeizeDeclared.rows.reclaim_all.ReclaimAll.{ReclaimAll}
+use Rattle.papaya_finishes.specs.Given.SeizeDeclared.rows.reclaim_all.Reclaiming.{Reclaiming}
+use Rattle.papaya_finishes.specs.Given.SeizeDeclared.rows.reclaim_all.Reclaiming.TheVariants as at
+use Rattle.papaya_finishes.specs.Given.SeizeReclaimAll.{reclaiming_all, standing, plan_at}
+use Rattle.papaya_finishes.specs.Given.SeizeWorld.{World}
+use Rattle.papaya_finishes.specs.Given.TablesNodes.{deferred_word, was_left}
+use Rattle.papaya_finishes.specs.Given.TablesDeclared.node.Node.{Node}
+use Rattle.papaya_finishes.specs.Given.CallersTogether.{UnderWay, CameAbout}
 use Rattle.papaya_finishes.specs.Endings.{Finishing}
 use Rattle.papaya_finishes.specs.Makings.{Beginning}
 use Rattle.papaya_finishes.specs.Maps.{Standing, IsSameMap}

@@ -1,13 +1,13 @@
 -- What reclaiming all finds behind roots in a small memory, and what its definitions forbid.
 use Rattle.std.specs.Prelude.{◌≡◌, Option, None, Some}
 use Rattle.std.proofs.Common.{ℕ, suc, true, List, [], ◌∷◌, refl, arith, inl, inr}
-use Rattle.papaya_finishes.specs.Given.SeizeWords.Word.{link_to}
-use Rattle.papaya_finishes.specs.Given.SeizeWords.declared.block.Block.{Block}
-use Rattle.papaya_finishes.specs.Given.Seize.declared.rows.settle.Settled.TheVariants as settled
-use Rattle.papaya_finishes.specs.Given.Seize.World.{World, Rests, Vacant, Outside, Handed, LeftTo, Retire, Leave', Register', Begin, Step}
-use Rattle.seize_quiet.specs.Given.SeizeActs.Reclaimed.{IsStillHad}
-use Rattle.papaya_finishes.specs.Given.Tables.declared.node.Node.{Node}
-use Rattle.papaya_finishes.specs.Given.Tables.declared.node.Node.TheVariants as node
+use Rattle.papaya_finishes.specs.Given.SeizeWordsWord.{link_to}
+use Rattle.papaya_finishes.specs.Given.SeizeWordsDeclared.block.Block.{Block}
+use Rattle.papaya_finishes.specs.Given.SeizeDeclared.rows.settle.Settled.TheVariants as settled
+use Rattle.papaya_finishes.specs.Given.SeizeWorld.{World, Rests, Vacant, Outside, Handed, LeftTo, Retire, Leave', Register', Begin, Step}
+use Rattle.seize_quiet.specs.Given.SeizeActsReclaimed.{IsStillHad}
+use Rattle.papaya_finishes.specs.Given.TablesDeclared.node.Node.{Node}
+use Rattle.papaya_finishes.specs.Given.TablesDeclared.node.Node.TheVariants as node
 use Rattle.papaya_finishes.specs.Maps.{Standing}
 use Rattle.papaya_reclaims.specs.Deferred.{IsDeferredOn, OnlyPairsWait}
 use Rattle.papaya_reclaims.specs.Reclaims.{RootLeads, ReclaimingTold, AllIsReclaimed}

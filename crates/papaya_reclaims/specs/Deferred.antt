@@ -1,14 +1,14 @@
 -- What waits once all is reclaimed: pairs that maps which stand have deferred on their tables, in resizes that are unfinished.
 use Rattle.std.specs.Prelude.{◌≡◌, ℕ, suc, ◌<◌, ◌≤◌, true, List, Option, Some}
-use Rattle.papaya_finishes.specs.Given.SeizeWords.Mem.{value_at}
-use Rattle.papaya_finishes.specs.Given.Seize.Further.{FurtherAre}
-use Rattle.papaya_finishes.specs.Given.Seize.Law.{With, where_is}
-use Rattle.papaya_finishes.specs.Given.Seize.WaitingSets.{is_one_of}
-use Rattle.papaya_finishes.specs.Given.Seize.World.{World, Handed}
-use Rattle.seize_quiet.specs.Given.SeizeActs.Reclaimed.{IsStillHad}
-use Rattle.papaya_finishes.specs.Given.Tables.Nodes.{deferred_word}
-use Rattle.papaya_finishes.specs.Given.Tables.declared.node.Node.{Node}
-use Rattle.papaya_finishes.specs.Given.Callers.Kept.{IsPairOf}
+use Rattle.papaya_finishes.specs.Given.SeizeWordsMem.{value_at}
+use Rattle.papaya_finishes.specs.Given.SeizeFurther.{FurtherAre}
+use Rattle.papaya_finishes.specs.Given.SeizeLaw.{With, where_is}
+use Rattle.papaya_finishes.specs.Given.SeizeWaitingSets.{is_one_of}
+use Rattle.papaya_finishes.specs.Given.SeizeWorld.{World, Handed}
+use Rattle.seize_quiet.specs.Given.SeizeActsReclaimed.{IsStillHad}
+use Rattle.papaya_finishes.specs.Given.TablesNodes.{deferred_word}
+use Rattle.papaya_finishes.specs.Given.TablesDeclared.node.Node.{Node}
+use Rattle.papaya_finishes.specs.Given.CallersKept.{IsPairOf}
 use Rattle.papaya_finishes.specs.Maps.{Standing}
 
 module _ {K V : Type 0} (w : World (Node K V)) where

@@ -1,19 +1,19 @@
 -- What ended maps have left behind roots, while others have calls on maps that stand, and while maps are made and end: it stays there.
 use Rattle.std.specs.Prelude.{◌≡◌, ◌≢◌, ℕ, ◌<◌, ◌≤◌, ◌⊎◌, Bool, List, [], ◌++◌, Option, Some, None}
-use Rattle.papaya_finishes.specs.Given.SeizeWords.Mem.{Mem}
-use Rattle.papaya_finishes.specs.Given.Seize.declared.progress.Progress.{Progress as Counted}
-use Rattle.papaya_finishes.specs.Given.Seize.declared.progress.Progress.TheVariants as counted
-use Rattle.papaya_finishes.specs.Given.Seize.declared.rows.settle.Settled.{Settled}
-use Rattle.papaya_finishes.specs.Given.Seize.World.{World, LeftTo, Request, Begin, Step, Ends, Happens, times, with_at}
-use Rattle.seize_quiet.specs.Given.SeizeReclaims.Roots.{all_lists}
-use Rattle.papaya_finishes.specs.Given.Tables.Nodes.{deferred_word}
-use Rattle.papaya_finishes.specs.Given.Tables.declared.node.Node.{Node}
-use Rattle.papaya_finishes.specs.Given.Tables.declared.setting.Setting.{Setting}
-use Rattle.papaya_finishes.specs.Given.Resize.declared.new_map.NewMap.{NewMap}
-use Rattle.papaya_finishes.specs.Given.Raw.declared.machines.end_map.EndMap.{EndMap}
-use Rattle.papaya_finishes.specs.Given.Raw.declared.machines.machine.Machine.{Machine}
-use Rattle.papaya_finishes.specs.Given.Raw.declared.machines.progress.Progress.{Progress}
-use Rattle.papaya_finishes.specs.Given.Callers.Together.{UnderWay, IsOfSlots}
+use Rattle.papaya_finishes.specs.Given.SeizeWordsMem.{Mem}
+use Rattle.papaya_finishes.specs.Given.SeizeDeclared.progress.Progress.{Progress as Counted}
+use Rattle.papaya_finishes.specs.Given.SeizeDeclared.progress.Progress.TheVariants as counted
+use Rattle.papaya_finishes.specs.Given.SeizeDeclared.rows.settle.Settled.{Settled}
+use Rattle.papaya_finishes.specs.Given.SeizeWorld.{World, LeftTo, Request, Begin, Step, Ends, Happens, times, with_at}
+use Rattle.seize_quiet.specs.Given.SeizeReclaimsRoots.{all_lists}
+use Rattle.papaya_finishes.specs.Given.TablesNodes.{deferred_word}
+use Rattle.papaya_finishes.specs.Given.TablesDeclared.node.Node.{Node}
+use Rattle.papaya_finishes.specs.Given.TablesDeclared.setting.Setting.{Setting}
+use Rattle.papaya_finishes.specs.Given.ResizeDeclared.new_map.NewMap.{NewMap}
+use Rattle.papaya_finishes.specs.Given.RawDeclared.machines.end_map.EndMap.{EndMap}
+use Rattle.papaya_finishes.specs.Given.RawDeclared.machines.machine.Machine.{Machine}
+use Rattle.papaya_finishes.specs.Given.RawDeclared.machines.progress.Progress.{Progress}
+use Rattle.papaya_finishes.specs.Given.CallersTogether.{UnderWay, IsOfSlots}
 use Rattle.papaya_finishes.specs.Endings.{Finishing, finishing_of, waiting_by, HasFinished, EndingsTogether, StepsOfEnding, MakingToldAmong, MakingStepsAmong}
 use Rattle.papaya_finishes.specs.FactsEnds.{Deed, taken_by}
 use Rattle.papaya_finishes.specs.Machines.{MachineStepsAmong}

@@ -1,26 +1,26 @@
 -- A caller reclaims all, with any number of maps on the collector, while nothing else is under way: whichever step it takes, all stand together, and at its
 -- end nothing waits but what is deferred.
 use Rattle.std.specs.Prelude.{◌≡◌, ◌≢◌, ℕ, ◌<◌, ◌≤◌, ◌^◌, ◌⊎◌, Bool, true, List, [], ◌∷◌, ◌++◌, Option, Some, None, IsSome}
-use Rattle.papaya_finishes.specs.Given.SeizeWords.Word.{link_to}
-use Rattle.papaya_finishes.specs.Given.SeizeWords.declared.at.At.TheVariants.{Root, Used, Slot, Entry}
-use Rattle.papaya_finishes.specs.Given.SeizeWords.Mem.{Mem, Can, Took, value_at, word_at}
-use Rattle.papaya_finishes.specs.Given.SeizeWords.Plan.{May, Steps}
-use Rattle.papaya_finishes.specs.Given.Seize.declared.states.TheConstants.{HEAD, NEXT}
-use Rattle.papaya_finishes.specs.Given.Seize.declared.rows.settle.Settled.{Settled}
-use Rattle.papaya_finishes.specs.Given.Seize.declared.rows.settle.Settled.TheVariants as settled
-use Rattle.papaya_finishes.specs.Given.Seize.declared.rows.reclaim_all.ReclaimAll.{ReclaimAll}
-use Rattle.papaya_finishes.specs.Given.Seize.declared.rows.reclaim_all.Reclaiming.{Reclaiming}
-use Rattle.papaya_finishes.specs.Given.Seize.declared.rows.reclaim_all.Reclaiming.TheVariants as at
-use Rattle.papaya_finishes.specs.Given.Seize.Further.{ListFrom}
-use Rattle.papaya_finishes.specs.Given.Seize.Law.{is_retired}
-use Rattle.papaya_finishes.specs.Given.Seize.ReclaimAll.{reclaiming_all, clearing, reclaim_all_plan}
-use Rattle.papaya_finishes.specs.Given.Seize.Sequence.{taken_in}
-use Rattle.papaya_finishes.specs.Given.Seize.World.{World, LeftTo, Event, Runs, times, with_at}
-use Rattle.seize_quiet.specs.Given.SeizeReclaims.Roots.{all_lists}
-use Rattle.seize_quiet.specs.Given.SeizeActs.Reclaimed.{HasNothingLeft}
-use Rattle.papaya_finishes.specs.Given.Tables.Nodes.{deferred_word, was_left}
-use Rattle.papaya_finishes.specs.Given.Tables.declared.node.Node.{Node}
-use Rattle.papaya_finishes.specs.Given.Callers.Together.{UnderWay}
+use Rattle.papaya_finishes.specs.Given.SeizeWordsWord.{link_to}
+use Rattle.papaya_finishes.specs.Given.SeizeWordsDeclared.at.At.TheVariants.{Root, Used, Slot, Entry}
+use Rattle.papaya_finishes.specs.Given.SeizeWordsMem.{Mem, Can, Took, value_at, word_at}
+use Rattle.papaya_finishes.specs.Given.SeizeWordsPlan.{May, Steps}
+use Rattle.papaya_finishes.specs.Given.SeizeDeclared.states.TheConstants.{HEAD, NEXT}
+use Rattle.papaya_finishes.specs.Given.SeizeDeclared.rows.settle.Settled.{Settled}
+use Rattle.papaya_finishes.specs.Given.SeizeDeclared.rows.settle.Settled.TheVariants as settled
+use Rattle.papaya_finishes.specs.Given.SeizeDeclared.rows.reclaim_all.ReclaimAll.{ReclaimAll}
+use Rattle.papaya_finishes.specs.Given.SeizeDeclared.rows.reclaim_all.Reclaiming.{Reclaiming}
+use Rattle.papaya_finishes.specs.Given.SeizeDeclared.rows.reclaim_all.Reclaiming.TheVariants as at
+use Rattle.papaya_finishes.specs.Given.SeizeFurther.{ListFrom}
+use Rattle.papaya_finishes.specs.Given.SeizeLaw.{is_retired}
+use Rattle.papaya_finishes.specs.Given.SeizeReclaimAll.{reclaiming_all, clearing, reclaim_all_plan}
+use Rattle.papaya_finishes.specs.Given.SeizeSequence.{taken_in}
+use Rattle.papaya_finishes.specs.Given.SeizeWorld.{World, LeftTo, Event, Runs, times, with_at}
+use Rattle.seize_quiet.specs.Given.SeizeReclaimsRoots.{all_lists}
+use Rattle.seize_quiet.specs.Given.SeizeActsReclaimed.{HasNothingLeft}
+use Rattle.papaya_finishes.specs.Given.TablesNodes.{deferred_word, was_left}
+use Rattle.papaya_finishes.specs.Given.TablesDeclared.node.Node.{Node}
+use Rattle.papaya_finishes.specs.Given.CallersTogether.{UnderWay}
 use Rattle.papaya_finishes.specs.Endings.{Finishing, EndingsTogether}
 use Rattle.papaya_finishes.specs.FactsEnds.{TakesLeft, WritesRoot, events_of}
 use Rattle.papaya_finishes.specs.Makings.{Beginning, IsFreeRoot}

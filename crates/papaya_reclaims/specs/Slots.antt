@@ -1,10 +1,10 @@
 -- A caller reclaims all among maps: what is so of its work on slots, whatever values are, of pairs and tables.
 use Rattle.std.specs.Prelude.{ℕ, List}
-use Rattle.papaya_finishes.specs.Given.Seize.declared.rows.reclaim_all.ReclaimAll.{ReclaimAll}
-use Rattle.papaya_finishes.specs.Given.Seize.declared.rows.reclaim_all.Reclaiming.{Reclaiming}
-use Rattle.papaya_finishes.specs.Given.Seize.World.{World, Event}
-use Rattle.papaya_finishes.specs.Given.Tables.Nodes.{deferred_word}
-use Rattle.papaya_finishes.specs.Given.Tables.declared.node.Node.{Node}
+use Rattle.papaya_finishes.specs.Given.SeizeDeclared.rows.reclaim_all.ReclaimAll.{ReclaimAll}
+use Rattle.papaya_finishes.specs.Given.SeizeDeclared.rows.reclaim_all.Reclaiming.{Reclaiming}
+use Rattle.papaya_finishes.specs.Given.SeizeWorld.{World, Event}
+use Rattle.papaya_finishes.specs.Given.TablesNodes.{deferred_word}
+use Rattle.papaya_finishes.specs.Given.TablesDeclared.node.Node.{Node}
 use Rattle.seize_quiet.specs.Slots as quiet
 pub use Rattle.seize_quiet.specs.Slots.{IsForSlots, AreItsRows, AllRest, HasNoBatch, IsQuiet}
 

@@ -1,8 +1,8 @@
 //! What is promised of a caller that reclaims all.
 ghost use Rattle.std.specs.Prelude.{ℕ, Bool, Option};
-ghost use Rattle.papaya_finishes.specs.Given.Seize.World.{World};
-ghost use Rattle.papaya_finishes.specs.Given.Tables.declared.node.Node.{Node};
-ghost use Rattle.papaya_finishes.specs.Given.Callers.Together.{UnderWay};
+ghost use Rattle.papaya_finishes.specs.Given.SeizeWorld.{World};
+ghost use Rattle.papaya_finishes.specs.Given.TablesDeclared.node.Node.{Node};
+ghost use Rattle.papaya_finishes.specs.Given.CallersTogether.{UnderWay};
 ghost use Rattle.papaya_finishes.specs.Endings.{Finishing};
 ghost use Rattle.papaya_finishes.specs.Makings.{Beginning};
 ghost use Rattle.papaya_finishes.specs.Maps.{Standing};

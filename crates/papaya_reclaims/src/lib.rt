@@ -2,6 +2,3 @@
 #![tactic(auto)]
 
 pub mod law;
-
-pub use papaya_finishes::papaya_raw;
-pub use seize_quiet::{seize, seize_words};

@@ -1,3 +1,3 @@
 -- What is so by the crates below, given on to the crates above: these list this crate in place of those.
-pub use Rattle.papaya_resize.proofs.Given.SeizeWords
-pub use Rattle.papaya_resize.proofs.Given.Seize
+pub use Rattle.papaya_resize.proofs.Given.SeizeWordsPlans
+pub use Rattle.papaya_resize.proofs.Given.SeizeStepsInto

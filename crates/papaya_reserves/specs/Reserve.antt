@@ -1,19 +1,19 @@
 -- How room is made for further pairs: until the root is long enough, it is copied into the table that follows it.
 use Rattle.std.specs.Prelude.{ℕ, ◌+◌, ◌-◌, ◌^◌, ◌==◌, nat_lt, if◌then◌else◌, Result, Ok, Err}
-use Rattle.papaya_resize.specs.Given.SeizeWords.Word.{block_in}
-use Rattle.papaya_resize.specs.Given.SeizeWords.declared.at.At.TheVariants.{Root, Word}
-use Rattle.papaya_resize.specs.Given.SeizeWords.declared.fault.Fault.{Fault}
-use Rattle.papaya_resize.specs.Given.SeizeWords.declared.fault.Fault.TheVariants.{Capacity}
-use Rattle.papaya_resize.specs.Given.SeizeWords.Op.{Out, Load, Found}
-use Rattle.papaya_resize.specs.Given.SeizeWords.Plan.{Plan, Then, Turn, Do, Now, Seeing, plan_as}
-use Rattle.papaya_resize.specs.Given.Seize.declared.progress.Progress.{Progress}
-use Rattle.papaya_resize.specs.Given.Seize.declared.progress.Progress.TheVariants as progress
-use Rattle.papaya_resize.specs.Given.Tables.declared.setting.Setting.{Setting}
-use Rattle.papaya_resize.specs.Given.Tables.declared.node.Node.{Node}
+use Rattle.papaya_resize.specs.Given.SeizeWordsWord.{block_in}
+use Rattle.papaya_resize.specs.Given.SeizeWordsDeclared.at.At.TheVariants.{Root, Word}
+use Rattle.papaya_resize.specs.Given.SeizeWordsDeclared.fault.Fault.{Fault}
+use Rattle.papaya_resize.specs.Given.SeizeWordsDeclared.fault.Fault.TheVariants.{Capacity}
+use Rattle.papaya_resize.specs.Given.SeizeWordsOp.{Out, Load, Found}
+use Rattle.papaya_resize.specs.Given.SeizeWordsPlan.{Plan, Then, Turn, Do, Now, Seeing, plan_as}
+use Rattle.papaya_resize.specs.Given.SeizeDeclared.progress.Progress.{Progress}
+use Rattle.papaya_resize.specs.Given.SeizeDeclared.progress.Progress.TheVariants as progress
+use Rattle.papaya_resize.specs.Given.TablesDeclared.setting.Setting.{Setting}
+use Rattle.papaya_resize.specs.Given.TablesDeclared.node.Node.{Node}
 use Rattle.papaya_resize.specs.declared.outcome.Outcome.{Outcome}
 use Rattle.papaya_resize.specs.declared.outcome.Outcome.TheVariants.{Goes, Waits, Gave, Done, Refused}
-use Rattle.papaya_resize.specs.Given.Tables.declared.table.Table.{Table}
-use Rattle.papaya_resize.specs.Given.Tables.declared.table_words.TheConstants.{NEXT}
+use Rattle.papaya_resize.specs.Given.TablesDeclared.table.Table.{Table}
+use Rattle.papaya_resize.specs.Given.TablesDeclared.table_words.TheConstants.{NEXT}
 use Rattle.papaya_resize.specs.declared.sum.Sum.{Sum}
 use Rattle.papaya_resize.specs.declared.new_table.NewTable.{NewTable}
 use Rattle.papaya_resize.specs.declared.copier.Copier.{Copier}
@@ -22,9 +22,9 @@ use Rattle.papaya_reserves.specs.declared.reserve.Reserving.{Reserving}
 use Rattle.papaya_reserves.specs.declared.reserve.Reserving.TheVariants as at
 use Rattle.papaya_resize.specs.Copier.{copier_plan}
 use Rattle.papaya_resize.specs.CopierStates.{copying_all}
-use Rattle.papaya_resize.specs.Given.Tables.Lengths.{len_of}
+use Rattle.papaya_resize.specs.Given.TablesLengths.{len_of}
 use Rattle.papaya_resize.specs.NewTable.{first_table, table_reserved, new_table_plan}
-use Rattle.papaya_resize.specs.Given.Tables.Nodes.{table_seen}
+use Rattle.papaya_resize.specs.Given.TablesNodes.{table_seen}
 use Rattle.papaya_resize.specs.Sum.{summing, sum_plan}
 
 -- a reservation that begins

@@ -1,8 +1,7 @@
 //! Room in a map for further pairs, made ahead of them.
 #![tactic(auto)]
 
+pub mod named;
 mod reserve;
 
-pub use papaya_resize;
-pub use papaya_resize::{papaya_tables, seize, seize_words};
 pub use reserve::{Reserve, Reserving};

@@ -4,13 +4,13 @@ ghost use Rattle.papaya_resize.specs.Copier.{copier_plan};
 ghost use Rattle.papaya_resize.specs.NewTable.{new_table_plan};
 ghost use Rattle.papaya_reserves.specs.Reserve.{reserving, needed, enough, counting, copying, reads, made, summed, follows, grown, copied, reserve_plan};
 ghost use Rattle.papaya_resize.specs.Sum.{sum_plan};
-ghost use Rattle.papaya_resize.specs.Given.SeizeWords.Plan.{May, Steps, plan_as};
+ghost use Rattle.papaya_resize.specs.Given.SeizeWordsPlan.{May, Steps, plan_as};
 
-use papaya_resize::papaya_tables::lengths::{MOST_LEN, Reason, len_after};
-use papaya_resize::papaya_tables::table_words::NEXT;
-use papaya_resize::papaya_tables::{Hashes, Node, Setting, Table};
-use papaya_resize::seize::{Machine, Progress};
-use papaya_resize::seize_words::{At, Fault, Link, Memory};
+use papaya_resize::named::lengths::{MOST_LEN, Reason, len_after};
+use papaya_resize::named::table_words::NEXT;
+use papaya_resize::named::{
+    At, Fault, Hashes, Link, Machine, Memory, Node, Progress, Setting, Table,
+};
 use papaya_resize::{Copier, NewTable, Outcome, Sum};
 
 /// Where a reservation stands.

@@ -1,6 +1,6 @@
 -- How the pairs of a table are copied into the next one, which then becomes the root: what each step does.
 use Rattle.std.specs.Prelude.{ℕ}
-use Rattle.papaya_tables.specs.Given.SeizeWords.Plan.{Plan, Turn, Now}
+use Rattle.papaya_tables.specs.Given.SeizeWordsPlan.{Plan, Turn, Now}
 use Rattle.papaya_tables.specs.declared.node.Node.{Node}
 use Rattle.papaya_tables.specs.declared.table.Table.{Table}
 use Rattle.papaya_resize.specs.declared.outcome.Outcome.{Outcome}

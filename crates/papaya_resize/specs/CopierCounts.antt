@@ -1,8 +1,8 @@
 -- How a copying counts what it has done, and how it takes back what it can't do.
 use Rattle.std.specs.Prelude.{ℕ, ◌+◌, ◌%◌, ◌^◌, ◌==◌, if◌then◌else◌}
-use Rattle.papaya_tables.specs.Given.SeizeWords.declared.fault.Fault.{Fault}
-use Rattle.papaya_tables.specs.Given.SeizeWords.Op.{Out, Store, Add, Found}
-use Rattle.papaya_tables.specs.Given.SeizeWords.Plan.{Plan, Then, Do, Now}
+use Rattle.papaya_tables.specs.Given.SeizeWordsDeclared.fault.Fault.{Fault}
+use Rattle.papaya_tables.specs.Given.SeizeWordsOp.{Out, Store, Add, Found}
+use Rattle.papaya_tables.specs.Given.SeizeWordsPlan.{Plan, Then, Do, Now}
 use Rattle.papaya_tables.specs.declared.node.Node.{Node}
 use Rattle.papaya_tables.specs.declared.table.Table.{Table}
 use Rattle.papaya_tables.specs.declared.table_words.TheConstants.{CLAIM, COPIED}

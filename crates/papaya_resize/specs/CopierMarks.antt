@@ -1,8 +1,8 @@
 -- How a copying marks a place, and what it does with the word that it finds there.
 use Rattle.std.specs.Prelude.{ℕ, ◌-◌, ◌%◌, ◌==◌, ◌&&◌, Bool, true, not, if◌then◌else◌, bit_or}
-use Rattle.papaya_tables.specs.Given.SeizeWords.Word.{block_in}
-use Rattle.papaya_tables.specs.Given.SeizeWords.Op.{Out, Store, Or, Found}
-use Rattle.papaya_tables.specs.Given.SeizeWords.Plan.{Plan, Then, Do, Now, Seeing}
+use Rattle.papaya_tables.specs.Given.SeizeWordsWord.{block_in}
+use Rattle.papaya_tables.specs.Given.SeizeWordsOp.{Out, Store, Or, Found}
+use Rattle.papaya_tables.specs.Given.SeizeWordsPlan.{Plan, Then, Do, Now, Seeing}
 use Rattle.papaya_tables.specs.declared.node.Node.{Node}
 use Rattle.papaya_tables.specs.declared.node.Node.TheVariants.{Pair}
 use Rattle.papaya_tables.specs.declared.table.Table.{Table}

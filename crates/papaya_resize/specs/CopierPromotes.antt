@@ -1,13 +1,13 @@
 -- How the next table becomes the root, and how the old table and the aborted ones behind it are retired.
 use Rattle.std.specs.Prelude.{ℕ, ◌==◌, if◌then◌else◌, Ok, Err}
-use Rattle.papaya_tables.specs.Given.SeizeWords.Word.{block_in}
-use Rattle.papaya_tables.specs.Given.SeizeWords.declared.at.At.TheVariants.{Root, Word}
-use Rattle.papaya_tables.specs.Given.SeizeWords.Op.{Out, Load, Store, Exchange, Found, Exchanged}
-use Rattle.papaya_tables.specs.Given.SeizeWords.Plan.{Plan, Then, Do, Now, plan_as}
-use Rattle.papaya_tables.specs.Given.Seize.declared.rows.settle.Settle.{Settle}
-use Rattle.papaya_tables.specs.Given.Seize.declared.rows.settle.Settled.{Settled}
-use Rattle.papaya_tables.specs.Given.Seize.declared.rows.settle.Settled.TheVariants as settled
-use Rattle.papaya_tables.specs.Given.Seize.Settle.{retiring, settle_plan}
+use Rattle.papaya_tables.specs.Given.SeizeWordsWord.{block_in}
+use Rattle.papaya_tables.specs.Given.SeizeWordsDeclared.at.At.TheVariants.{Root, Word}
+use Rattle.papaya_tables.specs.Given.SeizeWordsOp.{Out, Load, Store, Exchange, Found, Exchanged}
+use Rattle.papaya_tables.specs.Given.SeizeWordsPlan.{Plan, Then, Do, Now, plan_as}
+use Rattle.papaya_tables.specs.Given.SeizeDeclared.rows.settle.Settle.{Settle}
+use Rattle.papaya_tables.specs.Given.SeizeDeclared.rows.settle.Settled.{Settled}
+use Rattle.papaya_tables.specs.Given.SeizeDeclared.rows.settle.Settled.TheVariants as settled
+use Rattle.papaya_tables.specs.Given.SeizeSettle.{retiring, settle_plan}
 use Rattle.papaya_tables.specs.declared.node.Node.{Node}
 use Rattle.papaya_tables.specs.declared.table.Table.{Table}
 use Rattle.papaya_tables.specs.declared.table_words.TheConstants.{NEXT, STATUS}

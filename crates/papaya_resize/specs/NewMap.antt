@@ -1,12 +1,12 @@
 -- How a map begins: with a root, a counter, and a table where it is to have one.
 use Rattle.std.specs.Prelude.{ℕ, ◌+◌, ◌-◌, ◌%◌, ◌^◌, ◌==◌, nat_lt, if◌then◌else◌, Ok, Err}
-use Rattle.papaya_tables.specs.Given.SeizeWords.declared.at.At.TheVariants.{Used}
-use Rattle.papaya_tables.specs.Given.SeizeWords.declared.fault.Fault.{Fault}
-use Rattle.papaya_tables.specs.Given.SeizeWords.declared.fault.Fault.TheVariants.{RootsUsedUp, Memory}
-use Rattle.papaya_tables.specs.Given.SeizeWords.Op.{Out, Store, Exchange, Make, Take, Exchanged, Made}
-use Rattle.papaya_tables.specs.Given.SeizeWords.Plan.{Plan, Then, Turn, Do, Now, plan_as}
-use Rattle.papaya_tables.specs.Given.Seize.declared.progress.Progress.{Progress}
-use Rattle.papaya_tables.specs.Given.Seize.declared.progress.Progress.TheVariants.{Goes, Waits, Done, Refused}
+use Rattle.papaya_tables.specs.Given.SeizeWordsDeclared.at.At.TheVariants.{Used}
+use Rattle.papaya_tables.specs.Given.SeizeWordsDeclared.fault.Fault.{Fault}
+use Rattle.papaya_tables.specs.Given.SeizeWordsDeclared.fault.Fault.TheVariants.{RootsUsedUp, Memory}
+use Rattle.papaya_tables.specs.Given.SeizeWordsOp.{Out, Store, Exchange, Make, Take, Exchanged, Made}
+use Rattle.papaya_tables.specs.Given.SeizeWordsPlan.{Plan, Then, Turn, Do, Now, plan_as}
+use Rattle.papaya_tables.specs.Given.SeizeDeclared.progress.Progress.{Progress}
+use Rattle.papaya_tables.specs.Given.SeizeDeclared.progress.Progress.TheVariants.{Goes, Waits, Done, Refused}
 use Rattle.papaya_tables.specs.declared.setting.Setting.{Setting}
 use Rattle.papaya_tables.specs.declared.node.Node.{Node}
 use Rattle.papaya_tables.specs.declared.node.Node.TheVariants as node

@@ -1,14 +1,14 @@
 -- How a map comes to a table: it is made, and put where it is to stand, unless another call was faster.
 use Rattle.std.specs.Prelude.{ℕ, ◌+◌, ◌%◌, ◌^◌, nat_le, if◌then◌else◌, max, Result, Ok, Err}
-use Rattle.papaya_tables.specs.Given.SeizeWords.Word.{block_in, link_to}
-use Rattle.papaya_tables.specs.Given.SeizeWords.declared.at.At.{At}
-use Rattle.papaya_tables.specs.Given.SeizeWords.declared.at.At.TheVariants.{Root, Word}
-use Rattle.papaya_tables.specs.Given.SeizeWords.declared.fault.Fault.{Fault}
-use Rattle.papaya_tables.specs.Given.SeizeWords.declared.fault.Fault.TheVariants.{Capacity, Memory}
-use Rattle.papaya_tables.specs.Given.SeizeWords.Op.{Out, Store, Exchange, Make, Take, Exchanged, Made}
-use Rattle.papaya_tables.specs.Given.SeizeWords.Plan.{Plan, Then, Turn, Do, Now, Seeing, plan_as}
-use Rattle.papaya_tables.specs.Given.Seize.declared.progress.Progress.{Progress}
-use Rattle.papaya_tables.specs.Given.Seize.declared.progress.Progress.TheVariants.{Goes, Waits, Done, Refused}
+use Rattle.papaya_tables.specs.Given.SeizeWordsWord.{block_in, link_to}
+use Rattle.papaya_tables.specs.Given.SeizeWordsDeclared.at.At.{At}
+use Rattle.papaya_tables.specs.Given.SeizeWordsDeclared.at.At.TheVariants.{Root, Word}
+use Rattle.papaya_tables.specs.Given.SeizeWordsDeclared.fault.Fault.{Fault}
+use Rattle.papaya_tables.specs.Given.SeizeWordsDeclared.fault.Fault.TheVariants.{Capacity, Memory}
+use Rattle.papaya_tables.specs.Given.SeizeWordsOp.{Out, Store, Exchange, Make, Take, Exchanged, Made}
+use Rattle.papaya_tables.specs.Given.SeizeWordsPlan.{Plan, Then, Turn, Do, Now, Seeing, plan_as}
+use Rattle.papaya_tables.specs.Given.SeizeDeclared.progress.Progress.{Progress}
+use Rattle.papaya_tables.specs.Given.SeizeDeclared.progress.Progress.TheVariants.{Goes, Waits, Done, Refused}
 use Rattle.papaya_tables.specs.declared.setting.Setting.{Setting}
 use Rattle.papaya_tables.specs.declared.node.Node.{Node}
 use Rattle.papaya_tables.specs.declared.node.Node.TheVariants as node

@@ -1,10 +1,10 @@
 -- How the pairs of a map are counted: shard by shard.
 use Rattle.std.specs.Prelude.{ℕ, ◌+◌, ◌%◌, ◌^◌, nat_lt, if◌then◌else◌}
-use Rattle.papaya_tables.specs.Given.SeizeWords.declared.at.At.TheVariants.{Word}
-use Rattle.papaya_tables.specs.Given.SeizeWords.Op.{Out, Load, Found}
-use Rattle.papaya_tables.specs.Given.SeizeWords.Plan.{Plan, Then, Turn, Do, Now}
-use Rattle.papaya_tables.specs.Given.Seize.declared.progress.Progress.{Progress}
-use Rattle.papaya_tables.specs.Given.Seize.declared.progress.Progress.TheVariants.{Goes, Done}
+use Rattle.papaya_tables.specs.Given.SeizeWordsDeclared.at.At.TheVariants.{Word}
+use Rattle.papaya_tables.specs.Given.SeizeWordsOp.{Out, Load, Found}
+use Rattle.papaya_tables.specs.Given.SeizeWordsPlan.{Plan, Then, Turn, Do, Now}
+use Rattle.papaya_tables.specs.Given.SeizeDeclared.progress.Progress.{Progress}
+use Rattle.papaya_tables.specs.Given.SeizeDeclared.progress.Progress.TheVariants.{Goes, Done}
 use Rattle.papaya_tables.specs.declared.setting.Setting.{Setting}
 use Rattle.papaya_resize.specs.declared.sum.Sum.{Sum}
 use Rattle.papaya_resize.specs.declared.sum.Summing.{Summing}

@@ -1,14 +1,14 @@
 //! The copying of a table into the one that follows it, point by point.
 ghost use Rattle.std.specs.Prelude.{◌≡◌};
-ghost use Rattle.papaya_tables.specs.Given.SeizeWords.Plan.{May, Steps};
+ghost use Rattle.papaya_tables.specs.Given.SeizeWordsPlan.{May, Steps};
 ghost use Rattle.papaya_resize.specs.Copier.{copier_plan};
 ghost use Rattle.papaya_resize.specs.CopierStates.{helping, copying_all, behind, none_left, next_place, place_done};
 
 use crate::new_table::NewTable;
 use crate::outcome::Outcome;
-use papaya_tables::seize::rows::Settle;
-use papaya_tables::seize_words::{Fault, Memory};
+use papaya_tables::named::Settle;
 use papaya_tables::{Hashes, Node, Probe, Setting, Table};
+use seize_words::{Fault, Memory};
 
 mod claims;
 mod counts;

@@ -1,10 +1,10 @@
 //! How a call counts what it has changed.
 ghost use Rattle.std.specs.Prelude.{ℕ};
 ghost use Rattle.papaya_tables.specs.Counts.{count_change, shard_of};
-ghost use Rattle.papaya_tables.specs.Given.SeizeWords.Op.{Add, Found};
+ghost use Rattle.papaya_tables.specs.Given.SeizeWordsOp.{Add, Found};
 
-use papaya_tables::seize_words::{At, Memory};
 use papaya_tables::{Counter, Setting};
+use seize_words::{At, Memory};
 
 /// Counts a change of the map in the shard of the slot: one pair less where one was removed, or one more where `removed` is 0.
 pub fn count<T, M: Memory<T>>(setting: Setting, memory: &mut M, removed: u64)

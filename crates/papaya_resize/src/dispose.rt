@@ -2,14 +2,13 @@
 ghost use Rattle.std.specs.Prelude.{◌≡◌};
 ghost use Rattle.papaya_resize.specs.Dispose.{disposing, standing, settled, deferred, reads, walks, dispose_plan};
 ghost use Rattle.papaya_resize.specs.declared.dispose.Disposing.TheVariants as at;
-ghost use Rattle.papaya_tables.specs.Given.SeizeWords.Plan.{May, Steps};
+ghost use Rattle.papaya_tables.specs.Given.SeizeWordsPlan.{May, Steps};
 
 use papaya_tables::marks::{BORROWED, has, link_of};
-use papaya_tables::seize::rows::{Defer, Settle, Settled};
-use papaya_tables::seize::{Machine, Progress};
-use papaya_tables::seize_words::{At, Link, Memory};
+use papaya_tables::named::{Defer, Machine, Progress, Settle, Settled};
 use papaya_tables::table_words::{DEFERRED, NEXT};
 use papaya_tables::{Node, ResizeMode, Setting, Table};
+use seize_words::{At, Link, Memory};
 
 /// Where a disposal stands.
 #[derive(Clone, Copy)]

@@ -1,14 +1,14 @@
 //! A lookup: it reads words and values, and writes nothing.
 ghost use Rattle.std.specs.Prelude.{◌≡◌};
-ghost use Rattle.papaya_tables.specs.Given.SeizeWords.Plan.{May, MaySee, Steps, Ends};
+ghost use Rattle.papaya_tables.specs.Given.SeizeWordsPlan.{May, MaySee, Steps, Ends};
 ghost use Rattle.papaya_resize.specs.Lookup.{looking, going, answered, beyond, told, table_read, word_read, roots, probes, nexts, lookup_plan, names_pair};
 
-use papaya_tables::seize::Progress;
-use papaya_tables::seize_words::{At, Link, Look};
+use papaya_tables::named::Progress;
 use papaya_tables::table_words::NEXT;
 use papaya_tables::{
     Aim, Equivalent, Finding, Node, Probe, ResizeMode, Table, Trial, may_be, seen,
 };
+use seize_words::{At, Link, Look};
 use std::hash::Hash;
 
 /// Where a lookup stands.

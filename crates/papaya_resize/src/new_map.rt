@@ -2,12 +2,12 @@
 ghost use Rattle.std.specs.Prelude.{◌≡◌};
 ghost use Rattle.papaya_resize.specs.NewMap.{opening, takes, shards, opened, unmakes, frees};
 ghost use Rattle.papaya_resize.specs.NewTable.{new_table_plan};
-ghost use Rattle.papaya_tables.specs.Given.SeizeWords.Plan.{May, Steps, plan_as};
+ghost use Rattle.papaya_tables.specs.Given.SeizeWordsPlan.{May, Steps, plan_as};
 
 use crate::new_table::NewTable;
-use papaya_tables::seize::{Machine, Progress};
-use papaya_tables::seize_words::{At, Fault, Memory};
+use papaya_tables::named::{Machine, Progress};
 use papaya_tables::{Counter, Node, Setting, Table};
+use seize_words::{At, Fault, Memory};
 
 /// Where the beginning of a map stands.
 #[derive(Clone, Copy)]

@@ -2,14 +2,14 @@
 ghost use Rattle.std.specs.Prelude.{◌≡◌, ◌≤◌};
 ghost use Rattle.papaya_resize.specs.NewTable.{first_table, table_after, table_reserved, making_first, making_of, following, counted, makes, promotes, links, drops};
 ghost use Rattle.papaya_resize.specs.Sum.{sum_plan};
-ghost use Rattle.papaya_tables.specs.Given.SeizeWords.Plan.{May, Steps, plan_as};
+ghost use Rattle.papaya_tables.specs.Given.SeizeWordsPlan.{May, Steps, plan_as};
 
 use crate::sum::Sum;
 use papaya_tables::lengths::{LEAST_LEN, MOST_LEN, Reason, len_after, limit_after, turn_after};
-use papaya_tables::seize::{Machine, Progress};
-use papaya_tables::seize_words::{At, Fault, Link, Memory};
+use papaya_tables::named::{Machine, Progress};
 use papaya_tables::table_words::{NEXT, PLACES, STATUS};
 use papaya_tables::{Node, Setting, Status, Table, limit};
+use seize_words::{At, Fault, Link, Memory};
 
 /// Where a making of a table stands. A table that has no block yet has the link 0.
 #[derive(Clone, Copy)]

@@ -1,6 +1,6 @@
 //! How far a machine is.
 
-use papaya_tables::seize_words::Fault;
+use seize_words::Fault;
 
 /// How far a machine is that may reclaim blocks before it answers.
 #[derive(Drop)]

@@ -1,11 +1,11 @@
 //! The counting of a map's pairs.
 ghost use Rattle.std.specs.Prelude.{◌≡◌};
 ghost use Rattle.papaya_resize.specs.Sum.{summing, adds};
-ghost use Rattle.papaya_tables.specs.Given.SeizeWords.Plan.{May, Steps};
+ghost use Rattle.papaya_tables.specs.Given.SeizeWordsPlan.{May, Steps};
 
-use papaya_tables::seize::{Machine, Progress};
-use papaya_tables::seize_words::{At, Memory};
+use papaya_tables::named::{Machine, Progress};
 use papaya_tables::{Counter, Setting};
+use seize_words::{At, Memory};
 
 /// Where a counting stands.
 #[derive(Clone, Copy)]

@@ -22,7 +22,7 @@ use Rattle.papaya_resize.specs.NewMap.{opening, new_map_plan}
 use Rattle.papaya_resize.specs.declared.new_map.NewMap.{NewMap}
 use Rattle.papaya_asks.specs.Given.PointsSteps.{AreLawful}
 use Rattle.papaya_asks.specs.Given.OwnedEnding.{Ends, RunsTo}
-use Rattle.papaya_raw.specs.Given.Reserves.Reserve.{needed, or_too_long}
+use Rattle.papaya_raw.specs.Given.ReservesReserve.{needed, or_too_long}
 use Rattle.papaya_asks.specs.Given.OwnedOwned.{Holds}
 use Rattle.papaya_asks.specs.Given.OwnedRooms.{ShowTables, tables_for, tables_with}
 use Rattle.papaya_asks.proofs.Given.OwnedOwned.Making.{Opens, Made, opens_first, opens_end, runs_made, first_refused}

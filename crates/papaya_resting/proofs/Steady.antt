@@ -8,8 +8,8 @@ use Rattle.papaya_tables.specs.declared.node.Node.{Node}
 use Rattle.papaya_tables.specs.declared.setting.Setting.{Setting}
 use Rattle.papaya_raw.specs.declared.machines.answer.KeyAnswer.{KeyAnswer}
 use Rattle.papaya_asks.specs.Given.CallersPairs.{Given, kind_of}
-use Rattle.papaya_raw.specs.Given.Sweeps.SweepPoints.{removes}
-use Rattle.papaya_raw.specs.Given.Sweeps.declared.sweep.Purpose.{Purpose}
+use Rattle.papaya_raw.specs.Given.SweepsSweepPoints.{removes}
+use Rattle.papaya_raw.specs.Given.SweepsDeclared.sweep.Purpose.{Purpose}
 use Rattle.papaya_holds.specs.Given.SiftsSweeping.{HasSwept}
 use Rattle.papaya_asks.specs.Given.OwnedCalling.{HasStopped, stop_by}
 use Rattle.papaya_asks.specs.Given.OwnedOwned.{Holds}

@@ -5,6 +5,6 @@ pub use Rattle.papaya_owned.specs.Rooms.{AreTooMany, IsUnmade}
 pub use Rattle.papaya_sifts.specs.Retaining.{AnswersByTest, AskedAlong, KeepsOf}
 pub use Rattle.papaya_owned.specs.Given.WholeContents.{HasOneEach, pair_for}
 pub use Rattle.papaya_steady.specs.Steady.{HasOneTable}
-pub use Rattle.papaya_raw.specs.Given.Reserves.Reserve as ReservesReserve
+pub use Rattle.papaya_raw.specs.Given.ReservesReserve as ReservesReserve
 pub use Rattle.papaya_raw.specs.declared as RawDeclared
 pub use Rattle.papaya_asks.specs.Closures as AsksClosures

@@ -5,7 +5,7 @@ ghost use Rattle.papaya_holds.specs.Held.{HoldsOn, held_in};
 ghost use Rattle.papaya_asks.specs.Given.OwnedOwned.{Holds, hashed_by};
 ghost use Rattle.papaya_asks.specs.Given.OwnedRooms.{CannotMakeRoom, HasRoomFor, NeedTooMany};
 ghost use Rattle.papaya_asks.specs.Given.OwnedEnding.{HasCome};
-ghost use Rattle.papaya_raw.specs.Given.Reserves.Reserve.{reserving};
+ghost use Rattle.papaya_raw.specs.Given.ReservesReserve.{reserving};
 ghost use Rattle.papaya_asks.specs.Given.OwnedMachines.{for_room_plan};
 ghost use Rattle.papaya_resting.specs.Refreshed.{OnceRefreshed};
 ghost use Rattle.seize_words.specs.declared.fault.Fault.TheVariants.{Capacity};

@@ -5,7 +5,7 @@ ghost use Rattle.papaya_asks.specs.Given.ShownChain.{CannotGrowIn};
 ghost use Rattle.papaya_holds.specs.Held.{HoldsOn, held_in};
 ghost use Rattle.papaya_asks.specs.Given.OwnedOwned.{Holds, hashed_by};
 ghost use Rattle.papaya_holds.specs.Given.SiftsRetaining.{KeepsOf};
-ghost use Rattle.papaya_raw.specs.Given.Sweeps.declared.sweep.Purpose.TheVariants.{Clears, Retains};
+ghost use Rattle.papaya_raw.specs.Given.SweepsDeclared.sweep.Purpose.TheVariants.{Clears, Retains};
 ghost use Rattle.papaya_resting.specs.Refreshed.{OnceRefreshed};
 ghost use Rattle.papaya_holds.specs.Given.SiftsSweeping.{HasSwept};
 ghost use Rattle.papaya_steady.specs.Steady.{HasOneTable};

@@ -1,6 +1,19 @@
 -- What is so by the crates below, given on to the crates above: these list this crate in place of those.
-pub use Rattle.seize_rule.proofs.Given.SeizeWords
-pub use Rattle.seize_rule.proofs.Given.SeizeWaiting
-pub use Rattle.seize_rule.proofs.Given.SeizeMoves
-pub use Rattle.seize_rule.proofs as SeizeRule
-pub use Rattle.papaya_resize.proofs.Given.Tables
+pub use Rattle.seize_rule.proofs.Given.SeizeWordsOneOwner
+pub use Rattle.seize_rule.proofs.Given.SeizeWordsPlans
+pub use Rattle.seize_rule.proofs.Given.SeizeWaitingCounts
+pub use Rattle.seize_rule.proofs.Given.SeizeWaitingFlushes
+pub use Rattle.seize_rule.proofs.Given.SeizeWaitingLaws
+pub use Rattle.seize_rule.proofs.Given.SeizeWaitingTidy
+pub use Rattle.seize_rule.proofs.Given.SeizeMovesMoves
+pub use Rattle.seize_rule.proofs.Given.SeizeMovesSets
+pub use Rattle.seize_rule.proofs.Given.SeizeMovesState
+pub use Rattle.seize_rule.proofs.Points as SeizeRulePoints
+pub use Rattle.seize_rule.proofs.Rows as SeizeRuleRows
+pub use Rattle.seize_rule.proofs.Words as SeizeRuleWords
+pub use Rattle.seize_rule.proofs.World as SeizeRuleWorld
+pub use Rattle.seize_rule.proofs.Written as SeizeRuleWritten
+pub use Rattle.papaya_resize.proofs.Given.TablesEnds
+pub use Rattle.papaya_resize.proofs.Given.TablesLists
+pub use Rattle.papaya_resize.proofs.Given.TablesPlaces
+pub use Rattle.papaya_resize.proofs.Given.TablesTableLens

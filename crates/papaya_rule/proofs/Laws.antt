@@ -1,9 +1,9 @@
 -- What the laws promise, clause by clause, as far as crates above cite it in proofs.
 use Rattle.std.proofs.Common.{ℕ, ◌/◌, Bool, ap, sym, ◌∙◌}
-use Rattle.seize_rule.specs.Given.SeizeWords.Mem.{value_at}
-use Rattle.seize_rule.specs.Given.Seize.World.{at_start}
-use Rattle.papaya_resize.specs.Given.Tables.Chunks.{is_incremental}
-use Rattle.papaya_resize.specs.Given.Tables.Nodes.{deferred_word}
+use Rattle.seize_rule.specs.Given.SeizeWordsMem.{value_at}
+use Rattle.seize_rule.specs.Given.SeizeWorld.{at_start}
+use Rattle.papaya_resize.specs.Given.TablesChunks.{is_incremental}
+use Rattle.papaya_resize.specs.Given.TablesNodes.{deferred_word}
 use Rattle.papaya_rule.specs.Known.{BytesAreFew, CurrentIsKnown, PlacesHavePairs, WordsNamePairs, WordsTellMarks, WordsWithBlocks}
 use Rattle.papaya_rule.specs.Links.{RootsLead, NextsLead, LinksHaveTables}
 use Rattle.papaya_rule.specs.Maps.{spot_of}

@@ -2,13 +2,13 @@
 use Rattle.std.specs.Prelude.{◌≡◌, ◌≢◌, ℕ, ◌+◌, ◌%◌, ◌^◌, Bool, false, cond, Option, Some, None, Ok, Err, IsSome, bit_or, if◌then◌else◌}
 use Rattle.std.proofs.Common.{refl, ap, ◌∙◌}
 use Rattle.std.proofs.lemmas.Bool.{ne_eqb}
-use Rattle.seize_rule.specs.Given.SeizeWords.declared.at.At.{At}
-use Rattle.seize_rule.specs.Given.SeizeWords.declared.at.At.TheVariants.{Root, Used, Slot, Entry, Word}
-use Rattle.seize_rule.specs.Given.SeizeWords.declared.block.Block.{Block}
-use Rattle.seize_rule.specs.Given.SeizeWords.Op.{Op, Out, Load, Store, Swap, Add, Or, Exchange, Make, Take, Rewrite, Room, Found, Stored, Exchanged, Made, Taken, Roomed}
-use Rattle.seize_rule.specs.Given.SeizeWords.Mem.{Mem, same_at, block_of, value_in, word_in, word_at, with_word, with_block, value_at, IsFreeNumber, Can, Gives, after, Took, fresh}
-use Rattle.seize_rule.specs.Given.SeizeWords.Plan.{Plan, Turn, Do, May, Steps, plan_as}
-use Rattle.seize_rule.proofs.Given.SeizeWords.OneOwner.AfterWrites.{word_at-with_word, word_at-with_value, block_of-made, block_of-with_block}
+use Rattle.seize_rule.specs.Given.SeizeWordsDeclared.at.At.{At}
+use Rattle.seize_rule.specs.Given.SeizeWordsDeclared.at.At.TheVariants.{Root, Used, Slot, Entry, Word}
+use Rattle.seize_rule.specs.Given.SeizeWordsDeclared.block.Block.{Block}
+use Rattle.seize_rule.specs.Given.SeizeWordsOp.{Op, Out, Load, Store, Swap, Add, Or, Exchange, Make, Take, Rewrite, Room, Found, Stored, Exchanged, Made, Taken, Roomed}
+use Rattle.seize_rule.specs.Given.SeizeWordsMem.{Mem, same_at, block_of, value_in, word_in, word_at, with_word, with_block, value_at, IsFreeNumber, Can, Gives, after, Took, fresh}
+use Rattle.seize_rule.specs.Given.SeizeWordsPlan.{Plan, Turn, Do, May, Steps, plan_as}
+use Rattle.seize_rule.proofs.Given.SeizeWordsOneOwner.AfterWrites.{word_at-with_word, word_at-with_value, block_of-made, block_of-with_block}
 
 -- a word of the root, or of a block
 abbrev pub IsFixed : At → Type 0

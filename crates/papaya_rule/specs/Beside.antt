@@ -1,10 +1,10 @@
 -- What a step of a caller leaves as it is: a block that is neither its own nor of its map.
 use Rattle.std.specs.Prelude.{◌≡◌, ℕ, Bool, Some}
-use Rattle.seize_rule.specs.Given.SeizeWords.Mem.{Mem, value_at}
-use Rattle.seize_rule.specs.Given.Seize.Law.{Place, Nowhere, Standing, With, where_is, owner_of, is_orphan, is_over}
-use Rattle.seize_rule.specs.Given.Seize.World.{World}
-use Rattle.papaya_resize.specs.Given.Tables.declared.node.Node.{Node}
-use Rattle.papaya_resize.specs.Given.Tables.declared.setting.Setting.{Setting}
+use Rattle.seize_rule.specs.Given.SeizeWordsMem.{Mem, value_at}
+use Rattle.seize_rule.specs.Given.SeizeLaw.{Place, Nowhere, Standing, With, where_is, owner_of, is_orphan, is_over}
+use Rattle.seize_rule.specs.Given.SeizeWorld.{World}
+use Rattle.papaya_resize.specs.Given.TablesDeclared.node.Node.{Node}
+use Rattle.papaya_resize.specs.Given.TablesDeclared.setting.Setting.{Setting}
 use Rattle.papaya_rule.specs.Chart.{Chart}
 use Rattle.papaya_rule.specs.Words.{Blocks}
 use Rattle.papaya_rule.specs.InWorld.{IsIts, Went}

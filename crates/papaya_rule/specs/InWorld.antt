@@ -1,17 +1,17 @@
 -- A map in the collector's world: who has its blocks, and what one step of a call of the map comes to there.
 use Rattle.std.specs.Prelude.{◌≡◌, ◌≢◌, ℕ, suc, ◌<◌, ◌≤◌, Bool, true, List, [], ◌∷◌, Option, Some, None, ◌⊎◌}
-use Rattle.seize_rule.specs.Given.SeizeWords.declared.at.At.{At}
-use Rattle.seize_rule.specs.Given.SeizeWords.declared.at.At.TheVariants.{Root, Entry, Word}
-use Rattle.seize_rule.specs.Given.SeizeWords.Mem.{Mem, value_at, word_at}
-use Rattle.seize_rule.specs.Given.Seize.Law.{With, where_is}
-use Rattle.seize_rule.specs.Given.Seize.World.{World, Hand, NoBlock, Making, InUse, Cutting, Handed, LeftTo, Event, Makes, Drops, Links, Parts, Unlinks, Rewrites, Operates, Chooses, Runs, Parting}
-use Rattle.seize_rule.specs.Given.Seize.Sequence.{IsUsers}
-use Rattle.papaya_resize.specs.Given.Tables.Nodes.{deferred_word}
-use Rattle.papaya_resize.specs.Given.Tables.Chunks.{is_incremental}
-use Rattle.papaya_resize.specs.Given.Tables.declared.node.Node.{Node}
-use Rattle.papaya_resize.specs.Given.Tables.declared.node.Node.TheVariants as node
-use Rattle.papaya_resize.specs.Given.Tables.declared.resize_mode.ResizeMode.{ResizeMode}
-use Rattle.papaya_resize.specs.Given.Tables.declared.setting.Setting.{Setting}
+use Rattle.seize_rule.specs.Given.SeizeWordsDeclared.at.At.{At}
+use Rattle.seize_rule.specs.Given.SeizeWordsDeclared.at.At.TheVariants.{Root, Entry, Word}
+use Rattle.seize_rule.specs.Given.SeizeWordsMem.{Mem, value_at, word_at}
+use Rattle.seize_rule.specs.Given.SeizeLaw.{With, where_is}
+use Rattle.seize_rule.specs.Given.SeizeWorld.{World, Hand, NoBlock, Making, InUse, Cutting, Handed, LeftTo, Event, Makes, Drops, Links, Parts, Unlinks, Rewrites, Operates, Chooses, Runs, Parting}
+use Rattle.seize_rule.specs.Given.SeizeSequence.{IsUsers}
+use Rattle.papaya_resize.specs.Given.TablesNodes.{deferred_word}
+use Rattle.papaya_resize.specs.Given.TablesChunks.{is_incremental}
+use Rattle.papaya_resize.specs.Given.TablesDeclared.node.Node.{Node}
+use Rattle.papaya_resize.specs.Given.TablesDeclared.node.Node.TheVariants as node
+use Rattle.papaya_resize.specs.Given.TablesDeclared.resize_mode.ResizeMode.{ResizeMode}
+use Rattle.papaya_resize.specs.Given.TablesDeclared.setting.Setting.{Setting}
 use Rattle.papaya_rule.specs.Chart.{Phase, Holds, Chart}
 use Rattle.papaya_rule.specs.Moves.{Move, after, Allowed}
 use Rattle.papaya_rule.specs.Lasts.{IsBy}

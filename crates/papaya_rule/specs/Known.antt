@@ -1,14 +1,14 @@
 -- What is promised of pairs and the words that name them: which can be looked at, and what a place's word says.
 use Rattle.std.specs.Prelude.{◌≡◌, ◌<◌, ◌^◌, ◌/◌, ℕ, Bool, true, Option, Some}
-use Rattle.seize_rule.specs.Given.SeizeWords.Mem.{Mem, value_at}
-use Rattle.seize_rule.specs.Given.SeizeWords.Word.{block_in}
-use Rattle.papaya_resize.specs.Given.Tables.declared.node.Node.{Node}
-use Rattle.papaya_resize.specs.Given.Tables.declared.node.Node.TheVariants as node
-use Rattle.papaya_resize.specs.Given.Tables.Marks.{has_mark}
-use Rattle.papaya_resize.specs.Given.Tables.declared.marks.TheConstants.{COPYING}
-use Rattle.papaya_resize.specs.Given.Tables.declared.resize_mode.ResizeMode.{ResizeMode}
-use Rattle.papaya_resize.specs.Given.Tables.Chunks.{is_incremental}
-use Rattle.papaya_resize.specs.Given.Tables.declared.setting.Setting.{Setting}
+use Rattle.seize_rule.specs.Given.SeizeWordsMem.{Mem, value_at}
+use Rattle.seize_rule.specs.Given.SeizeWordsWord.{block_in}
+use Rattle.papaya_resize.specs.Given.TablesDeclared.node.Node.{Node}
+use Rattle.papaya_resize.specs.Given.TablesDeclared.node.Node.TheVariants as node
+use Rattle.papaya_resize.specs.Given.TablesMarks.{has_mark}
+use Rattle.papaya_resize.specs.Given.TablesDeclared.marks.TheConstants.{COPYING}
+use Rattle.papaya_resize.specs.Given.TablesDeclared.resize_mode.ResizeMode.{ResizeMode}
+use Rattle.papaya_resize.specs.Given.TablesChunks.{is_incremental}
+use Rattle.papaya_resize.specs.Given.TablesDeclared.setting.Setting.{Setting}
 use Rattle.papaya_rule.specs.Maps.{spot_of, IsMap}
 use Rattle.papaya_rule.specs.Chart.{Chart, Phase, Place, Holds, is_marked}
 use Rattle.papaya_rule.specs.Rule.{Rule}

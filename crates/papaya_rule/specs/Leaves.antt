@@ -1,6 +1,6 @@
 -- What a move of another caller leaves to a caller.
 use Rattle.std.specs.Prelude.{◌≡◌, ◌≢◌, ℕ, suc, ◌<◌, ◌≤◌, Bool, true, false, ◌⊎◌}
-use Rattle.papaya_resize.specs.Given.Tables.declared.status.TheConstants.Status.{ABORTED, PROMOTED}
+use Rattle.papaya_resize.specs.Given.TablesDeclared.status.TheConstants.Status.{ABORTED, PROMOTED}
 use Rattle.papaya_rule.specs.Chart.{Phase, Still, Copying, Holds, Claimed, Counted, Lost, Chart}
 use Rattle.papaya_rule.specs.Rule.{Rule, IsLawful}
 use Rattle.papaya_rule.specs.Moves.{Move, is_of_caller, after, Allowed}

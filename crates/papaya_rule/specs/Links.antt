@@ -1,13 +1,13 @@
 -- Where the links of a map lead, and what is promised of them: the root's leads to the first table, and each table's to the one behind.
 use Rattle.std.specs.Prelude.{◌≡◌, ◌≢◌, ◌≤◌, ◌<◌, ℕ, suc, ◌*◌, ◌/◌, Bool, true, Some, ◌⊎◌}
-use Rattle.seize_rule.specs.Given.SeizeWords.declared.at.At.TheVariants.{Root}
-use Rattle.seize_rule.specs.Given.SeizeWords.Mem.{Mem, value_at, word_at}
-use Rattle.papaya_resize.specs.Given.Tables.TablePlaces.{at_word}
-use Rattle.papaya_resize.specs.Given.Tables.declared.node.Node.{Node}
-use Rattle.papaya_resize.specs.Given.Tables.declared.node.Node.TheVariants as node
-use Rattle.papaya_resize.specs.Given.Tables.declared.resize_mode.ResizeMode.{ResizeMode}
-use Rattle.papaya_resize.specs.Given.Tables.declared.table.Table.{Table}
-use Rattle.papaya_resize.specs.Given.Tables.declared.table_words.TheConstants.{NEXT}
+use Rattle.seize_rule.specs.Given.SeizeWordsDeclared.at.At.TheVariants.{Root}
+use Rattle.seize_rule.specs.Given.SeizeWordsMem.{Mem, value_at, word_at}
+use Rattle.papaya_resize.specs.Given.TablesTablePlaces.{at_word}
+use Rattle.papaya_resize.specs.Given.TablesDeclared.node.Node.{Node}
+use Rattle.papaya_resize.specs.Given.TablesDeclared.node.Node.TheVariants as node
+use Rattle.papaya_resize.specs.Given.TablesDeclared.resize_mode.ResizeMode.{ResizeMode}
+use Rattle.papaya_resize.specs.Given.TablesDeclared.table.Table.{Table}
+use Rattle.papaya_resize.specs.Given.TablesDeclared.table_words.TheConstants.{NEXT}
 use Rattle.papaya_rule.specs.Chart.{Chart}
 use Rattle.papaya_rule.specs.Maps.{IsMap, IsTable}
 use Rattle.papaya_rule.specs.Words.{Blocks, next_word}

@@ -1,12 +1,12 @@
 -- A map in its memory, between any two single operations: its tables keep the rule, and its words show them.
 use Rattle.std.specs.Prelude.{◌≡◌, ℕ, ◌+◌, ◌*◌, ◌%◌, ◌<◌, ◌≤◌, Bool, true, false, Some}
-use Rattle.seize_rule.specs.Given.SeizeWords.Mem.{Mem}
-use Rattle.papaya_resize.specs.Given.Tables.Chunks.{is_incremental}
-use Rattle.papaya_resize.specs.Given.Tables.Probes.{triangular}
-use Rattle.papaya_resize.specs.Given.Tables.declared.node.Node.{Node}
-use Rattle.papaya_resize.specs.Given.Tables.declared.resize_mode.ResizeMode.{ResizeMode}
-use Rattle.papaya_resize.specs.Given.Tables.declared.table.Table.{Table}
-use Rattle.papaya_resize.specs.Given.Tables.declared.trial.Trial.{Trial}
+use Rattle.seize_rule.specs.Given.SeizeWordsMem.{Mem}
+use Rattle.papaya_resize.specs.Given.TablesChunks.{is_incremental}
+use Rattle.papaya_resize.specs.Given.TablesProbes.{triangular}
+use Rattle.papaya_resize.specs.Given.TablesDeclared.node.Node.{Node}
+use Rattle.papaya_resize.specs.Given.TablesDeclared.resize_mode.ResizeMode.{ResizeMode}
+use Rattle.papaya_resize.specs.Given.TablesDeclared.table.Table.{Table}
+use Rattle.papaya_resize.specs.Given.TablesDeclared.trial.Trial.{Trial}
 use Rattle.papaya_rule.specs.Chart.{Chart}
 use Rattle.papaya_rule.specs.Rule.{Rule, Passed}
 use Rattle.papaya_rule.specs.Moves.{MayChange}

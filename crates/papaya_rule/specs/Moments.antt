@@ -1,6 +1,6 @@
 -- The history of a map: which pairs it had at which moment, and when the root left which table.
 use Rattle.std.specs.Prelude.{◌≡◌, ◌≢◌, ℕ, suc, ◌<◌, ◌≤◌, ◌⊎◌, Bool, true, false}
-use Rattle.papaya_resize.specs.Given.Tables.declared.status.TheConstants.Status.{ABORTED}
+use Rattle.papaya_resize.specs.Given.TablesDeclared.status.TheConstants.Status.{ABORTED}
 use Rattle.papaya_rule.specs.Chart.{Phase, Holds, Chart}
 use Rattle.papaya_rule.specs.Rule.{Rule, IsLawful, no_table}
 use Rattle.papaya_rule.specs.Moves.{Move, after, Allowed}

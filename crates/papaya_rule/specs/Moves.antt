@@ -1,6 +1,6 @@
 -- The few changes of a map's tables that the program points of all its calls come down to, and when each is made.
 use Rattle.std.specs.Prelude.{◌≡◌, ◌≢◌, ℕ, suc, ◌+◌, ◌<◌, ◌≤◌, Bool, true, false, cond, eqb, leb, ltb, ◌&&◌, Some}
-use Rattle.papaya_resize.specs.Given.Tables.declared.status.TheConstants.Status.{PENDING, ABORTED, PROMOTED}
+use Rattle.papaya_resize.specs.Given.TablesDeclared.status.TheConstants.Status.{PENDING, ABORTED, PROMOTED}
 use Rattle.papaya_rule.specs.Chart.{Phase, Still, Copying, Copied, Place, Empty, Tombstone, Holds, Share, Free, Claimed, Done, Counted, Lost, Chart, put, put_in, is_marked, is_taken}
 use Rattle.papaya_rule.specs.Rule.{total, Shut, ShutBefore, Passed, is_of, names, tried}
 

@@ -1,12 +1,12 @@
 -- The words of a map's tables.
 use Rattle.std.specs.Prelude.{◌≡◌, ℕ, suc, ◌+◌, ◌*◌, ◌/◌, ◌^◌, ◌<◌, ◌≤◌, Bool, true, cond, eqb, ltb, Option, Some, None}
-use Rattle.seize_rule.specs.Given.SeizeWords.Word.{link_word}
-use Rattle.seize_rule.specs.Given.SeizeWords.declared.at.At.TheVariants.{Root, Word}
-use Rattle.seize_rule.specs.Given.SeizeWords.Mem.{Mem, value_at, word_at}
-use Rattle.papaya_resize.specs.Given.Tables.Lengths.{IsTableLen}
-use Rattle.papaya_resize.specs.Given.Tables.declared.node.Node.{Node}
-use Rattle.papaya_resize.specs.Given.Tables.declared.node.Node.TheVariants as node
-use Rattle.papaya_resize.specs.Given.Tables.declared.table_words.TheConstants.{NEXT, CLAIM, COPIED, STATUS, PLACES}
+use Rattle.seize_rule.specs.Given.SeizeWordsWord.{link_word}
+use Rattle.seize_rule.specs.Given.SeizeWordsDeclared.at.At.TheVariants.{Root, Word}
+use Rattle.seize_rule.specs.Given.SeizeWordsMem.{Mem, value_at, word_at}
+use Rattle.papaya_resize.specs.Given.TablesLengths.{IsTableLen}
+use Rattle.papaya_resize.specs.Given.TablesDeclared.node.Node.{Node}
+use Rattle.papaya_resize.specs.Given.TablesDeclared.node.Node.TheVariants as node
+use Rattle.papaya_resize.specs.Given.TablesDeclared.table_words.TheConstants.{NEXT, CLAIM, COPIED, STATUS, PLACES}
 use Rattle.papaya_rule.specs.Chart.{Phase, Still, Copying, Copied, Place, Empty, Tombstone, Holds, Chart}
 
 -- the blocks of tables, by turn, and of pairs, by number; and which of them can still be looked at

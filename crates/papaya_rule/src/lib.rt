@@ -2,6 +2,3 @@
 #![tactic(auto)]
 
 pub mod law;
-
-pub use papaya_resize::papaya_tables;
-pub use seize_rule::seize_words;

@@ -15,7 +15,7 @@ use Rattle.seize_words.specs.SlotWords.{slot_word}
 use Rattle.seize_words.specs.declared.at.At.TheVariants.{Root, Used}
 use Rattle.papaya_schedules.specs.Moment.{start}
 use Rattle.papaya_schedules.specs.Terms.{Terms}
-use Rattle.papaya_tally.specs.Given.Effects.Known.{Known, known}
+use Rattle.papaya_tally.specs.Given.EffectsKnown.{Known, known}
 use Rattle.papaya_pieced.specs.Given.ModelsTurns.{CameByTurns}
 use Rattle.papaya_pieced.proofs.Given.ModelsTurns.{events_follow, turns_begin}
 use Rattle.papaya_pieced.proofs.Given.LegalCome.{nothing_has_come}

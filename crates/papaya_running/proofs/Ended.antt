@@ -15,8 +15,8 @@ use Rattle.papaya_schedules.specs.Moment.{Moment}
 use Rattle.papaya_schedules.specs.Runs.{Lists}
 use Rattle.papaya_schedules.specs.Terms.{Terms}
 use Rattle.papaya_schedules.specs.Views.{is_in_a_map, is_waiting}
-use Rattle.papaya_tally.specs.Given.Effects.Known.{Known, known}
-use Rattle.papaya_tally.specs.Given.Effects.declared.role.Role.TheVariants.{Free}
+use Rattle.papaya_tally.specs.Given.EffectsKnown.{Known, known}
+use Rattle.papaya_tally.specs.Given.EffectsDeclared.role.Role.TheVariants.{Free}
 use Rattle.papaya_pieced.specs.Given.SchedulerDeclared.scheduler.Scheduler.{Scheduler}
 use Rattle.papaya_running.specs.Back.{BackSoFar, ReclaimsRight, TellsBack}
 use Rattle.papaya_running.specs.Ending.{shown_of, told_map}

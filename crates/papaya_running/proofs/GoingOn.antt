@@ -16,7 +16,7 @@ use Rattle.papaya_schedules.specs.Coming.{fits_reply, shows_now}
 use Rattle.papaya_schedules.specs.InTurn.{IsKeptOut}
 use Rattle.papaya_schedules.specs.Terms.{Terms}
 use Rattle.papaya_schedules.specs.Views.{call_of}
-use Rattle.papaya_raw.specs.Given.Tables.declared.resize_mode.ResizeMode.{ResizeMode}
+use Rattle.papaya_raw.specs.Given.TablesDeclared.resize_mode.ResizeMode.{ResizeMode}
 use Rattle.papaya_pieced.specs.Given.SchedulerAllWorks.{WorksOnAll}
 use Rattle.papaya_pieced.specs.Given.SchedulerPlayed.{Began, IsDue, PlaysAt, Replies, Stops, entry_of}
 use Rattle.papaya_pieced.specs.Given.SchedulerQuiet.{StaysBusy}

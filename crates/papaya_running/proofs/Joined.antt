@@ -10,7 +10,7 @@ use Rattle.papaya_schedules.specs.Handing.{gives_all}
 use Rattle.papaya_schedules.specs.InTurn.{ComesRight}
 use Rattle.papaya_schedules.specs.Terms.{Terms}
 use Rattle.papaya_schedules.specs.Runs.{IsLegal}
-use Rattle.papaya_tally.specs.Given.Effects.Known.{known}
+use Rattle.papaya_tally.specs.Given.EffectsKnown.{known}
 use Rattle.papaya_pieced.specs.Given.FindsLittle.{ReclaimsAll, WhereAll}
 use Rattle.papaya_pieced.proofs.Given.LegalLegal.{events_are_legal}
 use Rattle.papaya_pieced.specs.Given.SchedulerPlayed.{entry_of}

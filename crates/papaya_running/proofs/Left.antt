@@ -15,9 +15,9 @@ use Rattle.papaya_schedules.specs.Moment.{Place, Moment}
 use Rattle.papaya_schedules.specs.Moment as at
 use Rattle.papaya_schedules.specs.Runs.{Lists}
 use Rattle.papaya_schedules.specs.Views.{is_in_a_map, is_waiting}
-use Rattle.papaya_tally.specs.Given.Effects.Known.{Known}
-use Rattle.papaya_tally.specs.Given.Effects.declared.role.Role.{Role}
-use Rattle.papaya_tally.specs.Given.Effects.declared.role.Role.TheVariants as role
+use Rattle.papaya_tally.specs.Given.EffectsKnown.{Known}
+use Rattle.papaya_tally.specs.Given.EffectsDeclared.role.Role.{Role}
+use Rattle.papaya_tally.specs.Given.EffectsDeclared.role.Role.TheVariants as role
 use Rattle.papaya_pieced.specs.Given.FollowsBlocks.{HasRole, ShowsBlocks}
 use Rattle.papaya_pieced.specs.Given.SpotsUnreclaimed.{ShowsUnreclaimed, is_unreclaimed}
 use Rattle.papaya_pieced.specs.Given.SeizeWorld.{World}

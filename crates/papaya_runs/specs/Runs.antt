@@ -2,8 +2,8 @@
 use Rattle.std.specs.Prelude.{◌≡◌, ℕ, zero, ◌*◌, ◌/◌, ◌^◌, nat_lt, List, Option, Some, None, if◌then◌else◌}
 use Rattle.papaya_tables.specs.declared.resize_mode.ResizeMode.{ResizeMode}
 use Rattle.papaya_tables.specs.declared.resize_mode.ResizeMode.TheVariants.{Incremental}
-use Rattle.papaya_tables.specs.Given.SeizeWords.declared.fault.Fault.{Fault}
-use Rattle.papaya_tables.specs.Given.SeizeWords.declared.fault.Fault.TheVariants.{ZeroChunk, Capacity}
+use Rattle.papaya_tables.specs.Given.SeizeWordsDeclared.fault.Fault.{Fault}
+use Rattle.papaya_tables.specs.Given.SeizeWordsDeclared.fault.Fault.TheVariants.{ZeroChunk, Capacity}
 use Rattle.papaya_runs.specs.declared.record.Pair.{Pair}
 use Rattle.papaya_runs.specs.Log.{pair_at}
 

@@ -8,5 +8,3 @@ pub mod outcome;
 pub mod pair_list;
 pub mod record;
 pub mod token;
-
-pub use papaya_tables::seize_words;

@@ -1,7 +1,7 @@
 -- What a step of the end of a map does is none of a row.
 use Rattle.std.specs.Prelude.{ℕ}
-use Rattle.papaya_reclaims.proofs.Given.SeizeAlone.Histories.UsersTurn.{AreBetween}
-use Rattle.papaya_reclaims.specs.Given.Finishes.FactsEnds.{Deed, Looks, TakesPair, LeavesTable, JoinsPair, TakesLeft, TakesCounter, WritesRoot, events_of}
+use Rattle.papaya_reclaims.proofs.Given.SeizeAloneHistories.UsersTurn.{AreBetween}
+use Rattle.papaya_reclaims.specs.Given.FinishesFactsEnds.{Deed, Looks, TakesPair, LeavesTable, JoinsPair, TakesLeft, TakesCounter, WritesRoot, events_of}
 
 pub deed_between : (T : Type 0) (i : ℕ) (deed : Deed) → AreBetween {T = T} (events_of i deed)
 deed_between T i Looks = tt

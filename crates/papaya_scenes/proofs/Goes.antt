@@ -1,13 +1,13 @@
 -- What a call goes on as after a step, and that maps go on with their settings and hashes.
 use Rattle.std.specs.Prelude.{◌≡◌, ℕ, Option, Some, None, option_map}
 use Rattle.std.proofs.Common.{refl, sym, ap, ◌∙◌}
-use Rattle.papaya_teller.specs.Given.Tables.declared.node.Node.{Node}
-use Rattle.papaya_reclaims.specs.Given.Raw.declared.machines.machine.Machine.{Machine}
-use Rattle.papaya_reclaims.specs.Given.Raw.declared.machines.progress.Progress.{Progress}
-use Rattle.papaya_reclaims.specs.Given.Raw.declared.machines.progress.Progress.TheVariants as progress
-use Rattle.papaya_reclaims.specs.Given.Callers.Together.{UnderWay}
-use Rattle.papaya_reclaims.specs.Given.Finishes.Machines.{machine_of, GoesOnAs, StandsOn}
-use Rattle.papaya_reclaims.specs.Given.Finishes.Maps.{Standing, IsSameMap}
+use Rattle.papaya_teller.specs.Given.TablesDeclared.node.Node.{Node}
+use Rattle.papaya_reclaims.specs.Given.RawDeclared.machines.machine.Machine.{Machine}
+use Rattle.papaya_reclaims.specs.Given.RawDeclared.machines.progress.Progress.{Progress}
+use Rattle.papaya_reclaims.specs.Given.RawDeclared.machines.progress.Progress.TheVariants as progress
+use Rattle.papaya_reclaims.specs.Given.CallersTogether.{UnderWay}
+use Rattle.papaya_reclaims.specs.Given.FinishesMachines.{machine_of, GoesOnAs, StandsOn}
+use Rattle.papaya_reclaims.specs.Given.FinishesMaps.{Standing, IsSameMap}
 use Rattle.papaya_scenes.specs.Stepping.{going_on}
 
 -- what goes on is the machine after the step

@@ -1,19 +1,19 @@
 -- What has led to a scene of one kind has led to one of another kind, where each of the first kind is of the second.
 use Rattle.std.specs.Prelude.{ℕ, Bool, List}
-use Rattle.papaya_reclaims.specs.Given.Seize.World.{World, Event, Begin}
-use Rattle.papaya_reclaims.specs.Given.Seize.declared.progress.Progress.{Progress as Making}
-use Rattle.papaya_reclaims.specs.Given.Seize.declared.progress.Progress.TheVariants as making
-use Rattle.papaya_reclaims.specs.Given.Seize.declared.rows.reclaim_all.ReclaimAll.{ReclaimAll}
-use Rattle.papaya_reclaims.specs.Given.Seize.declared.rows.settle.Settled.{Settled}
-use Rattle.papaya_reclaims.specs.Given.Seize.declared.rows.settle.Settled.TheVariants as settled
-use Rattle.papaya_teller.specs.Given.Tables.declared.node.Node.{Node}
-use Rattle.papaya_teller.specs.Given.Tables.declared.setting.Setting.{Setting}
-use Rattle.papaya_teller.specs.Given.Resize.declared.new_map.NewMap.{NewMap}
-use Rattle.papaya_reclaims.specs.Given.Raw.declared.machines.end_map.EndMap.{EndMap}
-use Rattle.papaya_reclaims.specs.Given.Raw.declared.machines.progress.Progress.{Progress}
-use Rattle.papaya_reclaims.specs.Given.Finishes.Endings.{Finishing}
-use Rattle.papaya_reclaims.specs.Given.Finishes.FactsEnds.{Deed}
-use Rattle.papaya_reclaims.specs.Given.Finishes.Makings.{Beginning}
+use Rattle.papaya_reclaims.specs.Given.SeizeWorld.{World, Event, Begin}
+use Rattle.papaya_reclaims.specs.Given.SeizeDeclared.progress.Progress.{Progress as Making}
+use Rattle.papaya_reclaims.specs.Given.SeizeDeclared.progress.Progress.TheVariants as making
+use Rattle.papaya_reclaims.specs.Given.SeizeDeclared.rows.reclaim_all.ReclaimAll.{ReclaimAll}
+use Rattle.papaya_reclaims.specs.Given.SeizeDeclared.rows.settle.Settled.{Settled}
+use Rattle.papaya_reclaims.specs.Given.SeizeDeclared.rows.settle.Settled.TheVariants as settled
+use Rattle.papaya_teller.specs.Given.TablesDeclared.node.Node.{Node}
+use Rattle.papaya_teller.specs.Given.TablesDeclared.setting.Setting.{Setting}
+use Rattle.papaya_teller.specs.Given.ResizeDeclared.new_map.NewMap.{NewMap}
+use Rattle.papaya_reclaims.specs.Given.RawDeclared.machines.end_map.EndMap.{EndMap}
+use Rattle.papaya_reclaims.specs.Given.RawDeclared.machines.progress.Progress.{Progress}
+use Rattle.papaya_reclaims.specs.Given.FinishesEndings.{Finishing}
+use Rattle.papaya_reclaims.specs.Given.FinishesFactsEnds.{Deed}
+use Rattle.papaya_reclaims.specs.Given.FinishesMakings.{Beginning}
 use Rattle.papaya_scenes.specs.Ending.{EndingComesToThere, EndingLeadsTo}
 use Rattle.papaya_scenes.specs.Held.{Held}
 use Rattle.papaya_scenes.specs.Making.{MakingComesToThere, MakingLeadsTo}

@@ -1,25 +1,25 @@
 -- What a caller has under way may take its next step: all that the step looks at is there.
 use Rattle.std.specs.Prelude.{◌≡◌, ℕ, Bool, List, Option, Some, None}
 use Rattle.std.proofs.Common.{refl, subst}
-use Rattle.papaya_reclaims.specs.Given.SeizeWords.Mem.{Mem, Can, Took, value_at}
-use Rattle.papaya_reclaims.specs.Given.SeizeWords.Plan.{May}
-use Rattle.papaya_reclaims.specs.Given.Seize.declared.rows.reclaim_all.ReclaimAll.{ReclaimAll}
-use Rattle.papaya_reclaims.specs.Given.Seize.ReclaimAll.{reclaim_all_plan}
-use Rattle.papaya_reclaims.specs.Given.Seize.World.{Row, MayStep}
-use Rattle.papaya_teller.specs.Given.Tables.Nodes.{deferred_word, was_left}
-use Rattle.papaya_teller.specs.Given.Tables.declared.node.Node.{Node}
-use Rattle.papaya_teller.specs.Given.Resize.NewMap.{new_map_plan}
-use Rattle.papaya_reclaims.specs.Given.Raw.EndMap.{end_map_plan}
-use Rattle.papaya_reclaims.specs.Given.Raw.Machine.{machine_plan}
-use Rattle.papaya_reclaims.specs.Given.Callers.Together.{UnderWay}
-use Rattle.papaya_reclaims.specs.Given.Finishes.Endings.{Finishing}
-use Rattle.papaya_reclaims.specs.Given.Finishes.Machines.{machine_of}
-use Rattle.papaya_reclaims.specs.Given.Finishes.Makings.{Beginning}
-use Rattle.papaya_reclaims.specs.Given.Finishes.Maps.{Standing}
-use Rattle.papaya_reclaims.proofs.Given.Finishes.Among.Machines.{machines_stand_among}
-use Rattle.papaya_reclaims.proofs.Given.Finishes.Among.Makings.{makings_stand_among}
-use Rattle.papaya_reclaims.proofs.Given.Finishes.Among.Own.Steps.{endings_stand}
-use Rattle.papaya_reclaims.proofs.Given.Finishes.Among.Rows.{guards_stand_among}
+use Rattle.papaya_reclaims.specs.Given.SeizeWordsMem.{Mem, Can, Took, value_at}
+use Rattle.papaya_reclaims.specs.Given.SeizeWordsPlan.{May}
+use Rattle.papaya_reclaims.specs.Given.SeizeDeclared.rows.reclaim_all.ReclaimAll.{ReclaimAll}
+use Rattle.papaya_reclaims.specs.Given.SeizeReclaimAll.{reclaim_all_plan}
+use Rattle.papaya_reclaims.specs.Given.SeizeWorld.{Row, MayStep}
+use Rattle.papaya_teller.specs.Given.TablesNodes.{deferred_word, was_left}
+use Rattle.papaya_teller.specs.Given.TablesDeclared.node.Node.{Node}
+use Rattle.papaya_teller.specs.Given.ResizeNewMap.{new_map_plan}
+use Rattle.papaya_reclaims.specs.Given.RawEndMap.{end_map_plan}
+use Rattle.papaya_reclaims.specs.Given.RawMachine.{machine_plan}
+use Rattle.papaya_reclaims.specs.Given.CallersTogether.{UnderWay}
+use Rattle.papaya_reclaims.specs.Given.FinishesEndings.{Finishing}
+use Rattle.papaya_reclaims.specs.Given.FinishesMachines.{machine_of}
+use Rattle.papaya_reclaims.specs.Given.FinishesMakings.{Beginning}
+use Rattle.papaya_reclaims.specs.Given.FinishesMaps.{Standing}
+use Rattle.papaya_reclaims.proofs.Given.FinishesAmong.Machines.{machines_stand_among}
+use Rattle.papaya_reclaims.proofs.Given.FinishesAmong.Makings.{makings_stand_among}
+use Rattle.papaya_reclaims.proofs.Given.FinishesAmong.Own.Steps.{endings_stand}
+use Rattle.papaya_reclaims.proofs.Given.FinishesAmong.Rows.{guards_stand_among}
 use Rattle.papaya_reclaims.proofs.Promised.{reclaiming_stands}
 use Rattle.papaya_scenes.proofs.NoCall.{none_is}
 use Rattle.papaya_scenes.specs.Held.{Held, IsAt}

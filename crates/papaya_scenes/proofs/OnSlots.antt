@@ -1,20 +1,20 @@
 -- The row that begins works on its slot, and does so after a step: a leaving keeps its slot.
 use Rattle.std.specs.Prelude.{◌≡◌, ℕ, Bool, true, false, Option, nat_lt, if◌then◌else◌}
 use Rattle.std.proofs.Common.{refl, ap, ◌∙◌}
-use Rattle.papaya_reclaims.specs.Given.SeizeWords.Mem.{Mem, Took, value_at}
-use Rattle.papaya_reclaims.specs.Given.SeizeWords.Op.{Out, Found}
-use Rattle.papaya_reclaims.specs.Given.SeizeWords.Plan.{Now, Steps, Ends}
-use Rattle.papaya_reclaims.specs.Given.Seize.declared.rows.leave.Leave.{Leave}
-use Rattle.papaya_reclaims.specs.Given.Seize.declared.rows.leave.Leaving.{Leaving}
-use Rattle.papaya_reclaims.specs.Given.Seize.declared.rows.leave.Leaving.TheVariants as leaves
-use Rattle.papaya_reclaims.specs.Given.Seize.declared.rows.settle.Settle.{Settle}
-use Rattle.papaya_reclaims.specs.Given.Seize.declared.rows.settle.Settled.{Settled}
-use Rattle.papaya_reclaims.specs.Given.Seize.declared.rows.settle.Settled.TheVariants as settled
-use Rattle.papaya_reclaims.specs.Given.Seize.declared.states.TheConstants.{ACTIVE}
-use Rattle.papaya_reclaims.specs.Given.Seize.Leave as leave
-use Rattle.papaya_reclaims.specs.Given.Seize.Settle.{counting_down, settle_plan}
-use Rattle.papaya_teller.proofs.Given.SeizeRule.Rows.Leaving.{steps_back}
-use Rattle.papaya_reclaims.specs.Given.Callers.Rows.{IsRowOn}
+use Rattle.papaya_reclaims.specs.Given.SeizeWordsMem.{Mem, Took, value_at}
+use Rattle.papaya_reclaims.specs.Given.SeizeWordsOp.{Out, Found}
+use Rattle.papaya_reclaims.specs.Given.SeizeWordsPlan.{Now, Steps, Ends}
+use Rattle.papaya_reclaims.specs.Given.SeizeDeclared.rows.leave.Leave.{Leave}
+use Rattle.papaya_reclaims.specs.Given.SeizeDeclared.rows.leave.Leaving.{Leaving}
+use Rattle.papaya_reclaims.specs.Given.SeizeDeclared.rows.leave.Leaving.TheVariants as leaves
+use Rattle.papaya_reclaims.specs.Given.SeizeDeclared.rows.settle.Settle.{Settle}
+use Rattle.papaya_reclaims.specs.Given.SeizeDeclared.rows.settle.Settled.{Settled}
+use Rattle.papaya_reclaims.specs.Given.SeizeDeclared.rows.settle.Settled.TheVariants as settled
+use Rattle.papaya_reclaims.specs.Given.SeizeDeclared.states.TheConstants.{ACTIVE}
+use Rattle.papaya_reclaims.specs.Given.SeizeLeave as leave
+use Rattle.papaya_reclaims.specs.Given.SeizeSettle.{counting_down, settle_plan}
+use Rattle.papaya_teller.proofs.Given.SeizeRuleRows.Leaving.{steps_back}
+use Rattle.papaya_reclaims.specs.Given.CallersRows.{IsRowOn}
 use Rattle.papaya_scenes.specs.Rows.{begun_row}
 use Rattle.papaya_scenes.specs.Scene.{row_of}
 use Rattle.papaya_scenes.specs.declared.row.SlotCall.{SlotCall}

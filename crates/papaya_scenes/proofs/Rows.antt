@@ -1,8 +1,8 @@
 -- Rows on slots in the world: the one that begins is there, and no two of them are one row of the world.
 use Rattle.std.specs.Prelude.{◌≡◌, ℕ, Option}
 use Rattle.std.proofs.Common.{ap, ◌∙◌}
-use Rattle.papaya_reclaims.specs.Given.Seize.World.{World, Row, Rests, Begins, with_at}
-use Rattle.papaya_teller.proofs.Given.SeizeRule.Rows.Others.{with_here}
+use Rattle.papaya_reclaims.specs.Given.SeizeWorld.{World, Row, Rests, Begins, with_at}
+use Rattle.papaya_teller.proofs.Given.SeizeRuleRows.Others.{with_here}
 use Rattle.papaya_scenes.specs.Rows.{begun_row, request_of}
 use Rattle.papaya_scenes.specs.Scene.{row_of}
 use Rattle.papaya_scenes.specs.declared.row.SlotCall.{SlotCall}

@@ -1,7 +1,7 @@
 -- A step of which is told what its one operation has changed.
-use Rattle.papaya_reclaims.specs.Given.SeizeWords.Mem.{Mem, Took, value_at}
-use Rattle.papaya_reclaims.specs.Given.SeizeWords.Plan.{Plan, Turn, Do, Steps}
-use Rattle.papaya_teller.specs.Given.Tables.declared.node.Node.{Node}
+use Rattle.papaya_reclaims.specs.Given.SeizeWordsMem.{Mem, Took, value_at}
+use Rattle.papaya_reclaims.specs.Given.SeizeWordsPlan.{Plan, Turn, Do, Steps}
+use Rattle.papaya_teller.specs.Given.TablesDeclared.node.Node.{Node}
 use Rattle.papaya_teller.specs.Tells.{StepsTold}
 use Rattle.papaya_teller.specs.declared.changed.Changed.{Changed}
 

@@ -1,13 +1,13 @@
 -- What it leads to that a caller begins a call.
 use Rattle.std.specs.Prelude.{◌≡◌, ℕ, Bool, Some}
-use Rattle.papaya_teller.specs.Given.Resize.Sum.{summing}
-use Rattle.papaya_reclaims.specs.Given.Reserves.Reserve.{reserving}
-use Rattle.papaya_reclaims.specs.Given.Sweeps.declared.sweep.Purpose.{Purpose}
-use Rattle.papaya_reclaims.specs.Given.Raw.declared.machines.machine.Machine.{Machine}
-use Rattle.papaya_reclaims.specs.Given.Callers.OverAll.{begun_over_all}
-use Rattle.papaya_reclaims.specs.Given.Callers.Together.{UnderWay, OnKey, ForRoom, Counting, OverAll, IsBegun, begun_at, in_slot}
-use Rattle.papaya_reclaims.specs.Given.Finishes.Machines.{machine_of}
-use Rattle.papaya_reclaims.specs.Given.Finishes.Maps.{Standing}
+use Rattle.papaya_teller.specs.Given.ResizeSum.{summing}
+use Rattle.papaya_reclaims.specs.Given.ReservesReserve.{reserving}
+use Rattle.papaya_reclaims.specs.Given.SweepsDeclared.sweep.Purpose.{Purpose}
+use Rattle.papaya_reclaims.specs.Given.RawDeclared.machines.machine.Machine.{Machine}
+use Rattle.papaya_reclaims.specs.Given.CallersOverAll.{begun_over_all}
+use Rattle.papaya_reclaims.specs.Given.CallersTogether.{UnderWay, OnKey, ForRoom, Counting, OverAll, IsBegun, begun_at, in_slot}
+use Rattle.papaya_reclaims.specs.Given.FinishesMachines.{machine_of}
+use Rattle.papaya_reclaims.specs.Given.FinishesMaps.{Standing}
 use Rattle.papaya_scenes.specs.Held.{Held}
 use Rattle.papaya_scenes.specs.Replying.{scene_with}
 use Rattle.papaya_scenes.specs.Scene.{Scene, slot_of}

@@ -1,19 +1,19 @@
 -- What it leads to that a caller begins to end a map, and that it takes a step of that.
 use Rattle.std.specs.Prelude.{◌≡◌, ℕ, Bool, List, [], ◌∷◌, ◌++◌, Some, None}
-use Rattle.papaya_reclaims.specs.Given.SeizeWords.Mem.{value_at}
-use Rattle.papaya_reclaims.specs.Given.Seize.Law.{Ended}
-use Rattle.papaya_reclaims.specs.Given.Seize.World.{World, with_at, with_effect}
-use Rattle.papaya_reclaims.specs.Given.Seize.declared.rows.settle.Settled.{Settled}
-use Rattle.papaya_reclaims.specs.Given.Seize.declared.rows.settle.Settled.TheVariants as settled
-use Rattle.papaya_teller.specs.Given.Tables.Chunks.{is_incremental}
-use Rattle.papaya_teller.specs.Given.Tables.declared.node.Node.{Node}
-use Rattle.papaya_reclaims.specs.Given.Raw.EndMap.{end_map_plan}
-use Rattle.papaya_reclaims.specs.Given.Raw.declared.machines.end_map.EndMap.{EndMap}
+use Rattle.papaya_reclaims.specs.Given.SeizeWordsMem.{value_at}
+use Rattle.papaya_reclaims.specs.Given.SeizeLaw.{Ended}
+use Rattle.papaya_reclaims.specs.Given.SeizeWorld.{World, with_at, with_effect}
+use Rattle.papaya_reclaims.specs.Given.SeizeDeclared.rows.settle.Settled.{Settled}
+use Rattle.papaya_reclaims.specs.Given.SeizeDeclared.rows.settle.Settled.TheVariants as settled
+use Rattle.papaya_teller.specs.Given.TablesChunks.{is_incremental}
+use Rattle.papaya_teller.specs.Given.TablesDeclared.node.Node.{Node}
+use Rattle.papaya_reclaims.specs.Given.RawEndMap.{end_map_plan}
+use Rattle.papaya_reclaims.specs.Given.RawDeclared.machines.end_map.EndMap.{EndMap}
 use Rattle.papaya_teller.specs.Tells.{StepsTold}
 use Rattle.papaya_teller.specs.declared.changed.Changed.TheVariants.{Nothing}
-use Rattle.papaya_reclaims.specs.Given.Finishes.Endings.{Finishing, finishing_of, waiting_by, AllPairsOnce, HasFinished, StepsOfEnding}
-use Rattle.papaya_reclaims.specs.Given.Finishes.FactsEnds.{Deed, taken_by}
-use Rattle.papaya_reclaims.specs.Given.Finishes.Maps.{Standing}
+use Rattle.papaya_reclaims.specs.Given.FinishesEndings.{Finishing, finishing_of, waiting_by, AllPairsOnce, HasFinished, StepsOfEnding}
+use Rattle.papaya_reclaims.specs.Given.FinishesFactsEnds.{Deed, taken_by}
+use Rattle.papaya_reclaims.specs.Given.FinishesMaps.{Standing}
 use Rattle.papaya_scenes.specs.Held.{Held, IsAt}
 use Rattle.papaya_scenes.specs.Scene.{Scene, slot_of}
 

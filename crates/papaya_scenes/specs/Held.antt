@@ -1,12 +1,12 @@
 -- What is held before and after a step, whoever takes it, and that a scene is that of it.
 use Rattle.std.specs.Prelude.{◌≡◌, ◌<◌, ◌^◌, ℕ, Bool, Some}
-use Rattle.papaya_reclaims.specs.Given.SeizeWords.Mem.{Mem}
-use Rattle.papaya_teller.specs.Given.Tables.declared.node.Node.{Node}
+use Rattle.papaya_reclaims.specs.Given.SeizeWordsMem.{Mem}
+use Rattle.papaya_teller.specs.Given.TablesDeclared.node.Node.{Node}
 use Rattle.papaya_teller.specs.declared.changed.Changed.{Changed}
-use Rattle.papaya_reclaims.specs.Given.Callers.Rows.{IsRowOn}
-use Rattle.papaya_reclaims.specs.Given.Finishes.Endings.{EndingsTogether}
-use Rattle.papaya_reclaims.specs.Given.Finishes.Makings.{Beginning}
-use Rattle.papaya_reclaims.specs.Given.Finishes.Maps.{Standing}
+use Rattle.papaya_reclaims.specs.Given.CallersRows.{IsRowOn}
+use Rattle.papaya_reclaims.specs.Given.FinishesEndings.{EndingsTogether}
+use Rattle.papaya_reclaims.specs.Given.FinishesMakings.{Beginning}
+use Rattle.papaya_reclaims.specs.Given.FinishesMaps.{Standing}
 use Rattle.papaya_scenes.specs.Scene.{Scene, slot_of}
 
 -- the memory, and what its last operation has changed; from so many blocks on a batch is tried; and there are so many roots

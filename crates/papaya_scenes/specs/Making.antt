@@ -1,17 +1,17 @@
 -- What it leads to that a caller begins to make a map, and that it takes a step of that.
 use Rattle.std.specs.Prelude.{◌≡◌, ℕ, Bool, Some, None}
-use Rattle.papaya_reclaims.specs.Given.Seize.World.{World, with_at}
-use Rattle.papaya_reclaims.specs.Given.Seize.declared.progress.Progress.{Progress}
-use Rattle.papaya_reclaims.specs.Given.Seize.declared.progress.Progress.TheVariants as progress
-use Rattle.papaya_teller.specs.Given.Tables.declared.node.Node.{Node}
-use Rattle.papaya_teller.specs.Given.Tables.declared.setting.Setting.{Setting}
-use Rattle.papaya_teller.specs.Given.Resize.NewMap.{opening, new_map_plan}
-use Rattle.papaya_teller.specs.Given.Resize.declared.new_map.NewMap.{NewMap}
+use Rattle.papaya_reclaims.specs.Given.SeizeWorld.{World, with_at}
+use Rattle.papaya_reclaims.specs.Given.SeizeDeclared.progress.Progress.{Progress}
+use Rattle.papaya_reclaims.specs.Given.SeizeDeclared.progress.Progress.TheVariants as progress
+use Rattle.papaya_teller.specs.Given.TablesDeclared.node.Node.{Node}
+use Rattle.papaya_teller.specs.Given.TablesDeclared.setting.Setting.{Setting}
+use Rattle.papaya_teller.specs.Given.ResizeNewMap.{opening, new_map_plan}
+use Rattle.papaya_teller.specs.Given.ResizeDeclared.new_map.NewMap.{NewMap}
 use Rattle.papaya_teller.specs.Tells.{StepsTold}
 use Rattle.papaya_teller.specs.declared.changed.Changed.TheVariants.{Nothing}
-use Rattle.papaya_reclaims.specs.Given.Finishes.Endings.{MakingStepsAmong}
-use Rattle.papaya_reclaims.specs.Given.Finishes.Makings.{Beginning, IsMade}
-use Rattle.papaya_reclaims.specs.Given.Finishes.Maps.{Standing}
+use Rattle.papaya_reclaims.specs.Given.FinishesEndings.{MakingStepsAmong}
+use Rattle.papaya_reclaims.specs.Given.FinishesMakings.{Beginning, IsMade}
+use Rattle.papaya_reclaims.specs.Given.FinishesMaps.{Standing}
 use Rattle.papaya_scenes.specs.Held.{Held, IsAt}
 use Rattle.papaya_scenes.specs.Scene.{Scene, slot_of}
 

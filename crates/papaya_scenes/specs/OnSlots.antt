@@ -1,24 +1,24 @@
 -- What it leads to that a caller begins a row on its slot, and that it takes a step of that.
 use Rattle.std.specs.Prelude.{◌≡◌, ℕ, Bool, Option}
-use Rattle.papaya_reclaims.specs.Given.Seize.declared.progress.Progress.{Progress}
-use Rattle.papaya_reclaims.specs.Given.Seize.declared.rows.enter.Enter.{Enter}
-use Rattle.papaya_reclaims.specs.Given.Seize.declared.rows.enter.Unregister.{Unregister}
-use Rattle.papaya_reclaims.specs.Given.Seize.declared.rows.leave.Leave.{Leave}
-use Rattle.papaya_reclaims.specs.Given.Seize.declared.rows.register.Register.{Register}
-use Rattle.papaya_reclaims.specs.Given.Seize.declared.rows.settle.Settle.{Settle}
-use Rattle.papaya_reclaims.specs.Given.Seize.declared.rows.settle.Settled.{Settled}
-use Rattle.papaya_reclaims.specs.Given.Seize.Enter.{enter_plan, unregister_plan}
-use Rattle.papaya_reclaims.specs.Given.Seize.Leave.{leave_plan}
-use Rattle.papaya_reclaims.specs.Given.Seize.Register.{register_plan}
-use Rattle.papaya_reclaims.specs.Given.Seize.Settle.{settle_plan}
-use Rattle.papaya_reclaims.specs.Given.Seize.World.{World, Row, Rests, Event, Begin, Step, Happens}
-use Rattle.papaya_reclaims.specs.Given.SeizeWords.Mem.{Mem}
-use Rattle.papaya_teller.specs.Given.Tables.Nodes.{deferred_word}
-use Rattle.papaya_teller.specs.Given.Tables.declared.node.Node.{Node}
+use Rattle.papaya_reclaims.specs.Given.SeizeDeclared.progress.Progress.{Progress}
+use Rattle.papaya_reclaims.specs.Given.SeizeDeclared.rows.enter.Enter.{Enter}
+use Rattle.papaya_reclaims.specs.Given.SeizeDeclared.rows.enter.Unregister.{Unregister}
+use Rattle.papaya_reclaims.specs.Given.SeizeDeclared.rows.leave.Leave.{Leave}
+use Rattle.papaya_reclaims.specs.Given.SeizeDeclared.rows.register.Register.{Register}
+use Rattle.papaya_reclaims.specs.Given.SeizeDeclared.rows.settle.Settle.{Settle}
+use Rattle.papaya_reclaims.specs.Given.SeizeDeclared.rows.settle.Settled.{Settled}
+use Rattle.papaya_reclaims.specs.Given.SeizeEnter.{enter_plan, unregister_plan}
+use Rattle.papaya_reclaims.specs.Given.SeizeLeave.{leave_plan}
+use Rattle.papaya_reclaims.specs.Given.SeizeRegister.{register_plan}
+use Rattle.papaya_reclaims.specs.Given.SeizeSettle.{settle_plan}
+use Rattle.papaya_reclaims.specs.Given.SeizeWorld.{World, Row, Rests, Event, Begin, Step, Happens}
+use Rattle.papaya_reclaims.specs.Given.SeizeWordsMem.{Mem}
+use Rattle.papaya_teller.specs.Given.TablesNodes.{deferred_word}
+use Rattle.papaya_teller.specs.Given.TablesDeclared.node.Node.{Node}
 use Rattle.papaya_teller.specs.Tells.{StepsTold}
 use Rattle.papaya_teller.specs.declared.changed.Changed.{Changed}
 use Rattle.papaya_teller.specs.declared.changed.Changed.TheVariants.{Nothing}
-use Rattle.papaya_reclaims.specs.Given.Finishes.Maps.{Standing, IsSameMap}
+use Rattle.papaya_reclaims.specs.Given.FinishesMaps.{Standing, IsSameMap}
 use Rattle.papaya_scenes.specs.declared.row.RowTold.{RowTold}
 use Rattle.papaya_scenes.specs.declared.row.RowTold.TheVariants as told
 use Rattle.papaya_scenes.specs.declared.row.SlotCall.{SlotCall}

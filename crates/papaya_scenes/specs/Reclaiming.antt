@@ -1,14 +1,14 @@
 -- That all is being reclaimed in what is held, and what a step of it leads to.
 use Rattle.std.specs.Prelude.{◌≡◌, ◌<◌, ◌^◌, ℕ, Bool, List, Some}
-use Rattle.papaya_reclaims.specs.Given.Seize.declared.rows.reclaim_all.ReclaimAll.{ReclaimAll}
-use Rattle.papaya_reclaims.specs.Given.Seize.declared.rows.settle.Settled.{Settled}
-use Rattle.papaya_reclaims.specs.Given.Seize.declared.rows.settle.Settled.TheVariants as settled
-use Rattle.papaya_reclaims.specs.Given.Seize.ReclaimAll.{reclaim_all_plan}
-use Rattle.papaya_teller.specs.Given.Tables.Nodes.{deferred_word, was_left}
-use Rattle.papaya_teller.specs.Given.Tables.declared.node.Node.{Node}
+use Rattle.papaya_reclaims.specs.Given.SeizeDeclared.rows.reclaim_all.ReclaimAll.{ReclaimAll}
+use Rattle.papaya_reclaims.specs.Given.SeizeDeclared.rows.settle.Settled.{Settled}
+use Rattle.papaya_reclaims.specs.Given.SeizeDeclared.rows.settle.Settled.TheVariants as settled
+use Rattle.papaya_reclaims.specs.Given.SeizeReclaimAll.{reclaim_all_plan}
+use Rattle.papaya_teller.specs.Given.TablesNodes.{deferred_word, was_left}
+use Rattle.papaya_teller.specs.Given.TablesDeclared.node.Node.{Node}
 use Rattle.papaya_teller.specs.Tells.{StepsTold}
 use Rattle.papaya_teller.specs.declared.changed.Changed.TheVariants.{Nothing}
-use Rattle.papaya_reclaims.specs.Given.Finishes.Maps.{Standing}
+use Rattle.papaya_reclaims.specs.Given.FinishesMaps.{Standing}
 use Rattle.papaya_reclaims.specs.Reclaims.{ReclaimingTogether, StepsOfReclaiming, AllIsReclaimed}
 use Rattle.papaya_scenes.specs.Held.{Held, IsAt}
 use Rattle.papaya_scenes.specs.Scene.{Scene, slot_of}

@@ -1,10 +1,10 @@
 -- What a reply to the call of a caller leads to, and what it leads to that it is asked for a pair.
 use Rattle.std.specs.Prelude.{◌≡◌, ℕ, Bool, true, false, Option, Some, None, Result}
-use Rattle.papaya_reclaims.specs.Given.Raw.Machine.{machine_replied, machine_asked}
-use Rattle.papaya_reclaims.specs.Given.Raw.declared.machines.asking.Reply.{Reply}
-use Rattle.papaya_reclaims.specs.Given.Callers.Together.{UnderWay}
-use Rattle.papaya_reclaims.specs.Given.Finishes.Machines.{machine_of, ToldOfKind}
-use Rattle.papaya_reclaims.specs.Given.Finishes.Maps.{Standing, with_call}
+use Rattle.papaya_reclaims.specs.Given.RawMachine.{machine_replied, machine_asked}
+use Rattle.papaya_reclaims.specs.Given.RawDeclared.machines.asking.Reply.{Reply}
+use Rattle.papaya_reclaims.specs.Given.CallersTogether.{UnderWay}
+use Rattle.papaya_reclaims.specs.Given.FinishesMachines.{machine_of, ToldOfKind}
+use Rattle.papaya_reclaims.specs.Given.FinishesMaps.{Standing, with_call}
 use Rattle.papaya_scenes.specs.Held.{Held, IsAt}
 use Rattle.papaya_scenes.specs.Scene.{Scene, slot_of}
 

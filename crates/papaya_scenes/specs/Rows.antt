@@ -1,18 +1,18 @@
 -- Rows on slots: the row that begins as a caller does something with its slot, what its steps tell, and how slots are used then.
 use Rattle.std.specs.Prelude.{ℕ, true, false, ◌==◌, List, slice_set, if◌then◌else◌}
-use Rattle.papaya_reclaims.specs.Given.Seize.declared.states.TheConstants.{IDLE, ACTIVE}
-use Rattle.papaya_reclaims.specs.Given.Seize.declared.progress.Progress.{Progress}
-use Rattle.papaya_reclaims.specs.Given.Seize.declared.progress.Progress.TheVariants as progress
-use Rattle.papaya_reclaims.specs.Given.Seize.declared.rows.leave.Leave.{Leave}
-use Rattle.papaya_reclaims.specs.Given.Seize.declared.rows.leave.Leaving.{Leaving}
-use Rattle.papaya_reclaims.specs.Given.Seize.declared.rows.leave.Leaving.TheVariants as leaves
-use Rattle.papaya_reclaims.specs.Given.Seize.declared.rows.register.Registering.{Registering}
-use Rattle.papaya_reclaims.specs.Given.Seize.declared.rows.register.Registering.TheVariants as registers
-use Rattle.papaya_reclaims.specs.Given.Seize.declared.rows.settle.Settled.{Settled}
-use Rattle.papaya_reclaims.specs.Given.Seize.declared.rows.settle.Settled.TheVariants as settled
-use Rattle.papaya_reclaims.specs.Given.Seize.Leave.{leaving}
-use Rattle.papaya_reclaims.specs.Given.Seize.Settle.{flushing}
-use Rattle.papaya_reclaims.specs.Given.Seize.World.{Request, Register', Enter', Leave', LeaveOwned, Refresh, Unregister', Flush}
+use Rattle.papaya_reclaims.specs.Given.SeizeDeclared.states.TheConstants.{IDLE, ACTIVE}
+use Rattle.papaya_reclaims.specs.Given.SeizeDeclared.progress.Progress.{Progress}
+use Rattle.papaya_reclaims.specs.Given.SeizeDeclared.progress.Progress.TheVariants as progress
+use Rattle.papaya_reclaims.specs.Given.SeizeDeclared.rows.leave.Leave.{Leave}
+use Rattle.papaya_reclaims.specs.Given.SeizeDeclared.rows.leave.Leaving.{Leaving}
+use Rattle.papaya_reclaims.specs.Given.SeizeDeclared.rows.leave.Leaving.TheVariants as leaves
+use Rattle.papaya_reclaims.specs.Given.SeizeDeclared.rows.register.Registering.{Registering}
+use Rattle.papaya_reclaims.specs.Given.SeizeDeclared.rows.register.Registering.TheVariants as registers
+use Rattle.papaya_reclaims.specs.Given.SeizeDeclared.rows.settle.Settled.{Settled}
+use Rattle.papaya_reclaims.specs.Given.SeizeDeclared.rows.settle.Settled.TheVariants as settled
+use Rattle.papaya_reclaims.specs.Given.SeizeLeave.{leaving}
+use Rattle.papaya_reclaims.specs.Given.SeizeSettle.{flushing}
+use Rattle.papaya_reclaims.specs.Given.SeizeWorld.{Request, Register', Enter', Leave', LeaveOwned, Refresh, Unregister', Flush}
 use Rattle.papaya_scenes.specs.declared.row.RowTold.{RowTold}
 use Rattle.papaya_scenes.specs.declared.row.RowTold.TheVariants as told
 use Rattle.papaya_scenes.specs.declared.row.SlotCall.{SlotCall}

@@ -1,13 +1,13 @@
 -- How callers, maps and a memory stand at a moment.
 use Rattle.std.specs.Prelude.{◌≡◌, ℕ, ◌%◌, true, Option, Some, None}
 use Rattle.std.specs.Option.{is_none}
-use Rattle.papaya_reclaims.specs.Given.Seize.World.{World, Row, Registers, Enters, Settles, Leaves, Frees, at_start}
-use Rattle.papaya_teller.specs.Given.Tables.Nodes.{deferred_word}
-use Rattle.papaya_teller.specs.Given.Tables.declared.node.Node.{Node}
-use Rattle.papaya_reclaims.specs.Given.Callers.Together.{UnderWay}
-use Rattle.papaya_reclaims.specs.Given.Finishes.Endings.{Finishing}
-use Rattle.papaya_reclaims.specs.Given.Finishes.Makings.{Beginning}
-use Rattle.papaya_reclaims.specs.Given.Finishes.Maps.{Standing}
+use Rattle.papaya_reclaims.specs.Given.SeizeWorld.{World, Row, Registers, Enters, Settles, Leaves, Frees, at_start}
+use Rattle.papaya_teller.specs.Given.TablesNodes.{deferred_word}
+use Rattle.papaya_teller.specs.Given.TablesDeclared.node.Node.{Node}
+use Rattle.papaya_reclaims.specs.Given.CallersTogether.{UnderWay}
+use Rattle.papaya_reclaims.specs.Given.FinishesEndings.{Finishing}
+use Rattle.papaya_reclaims.specs.Given.FinishesMakings.{Beginning}
+use Rattle.papaya_reclaims.specs.Given.FinishesMaps.{Standing}
 use Rattle.papaya_scenes.specs.declared.callers.TheConstants.{SLOTS}
 use Rattle.papaya_scenes.specs.declared.row.SlotRow.{SlotRow}
 use Rattle.papaya_scenes.specs.declared.row.SlotRow.TheVariants as rows

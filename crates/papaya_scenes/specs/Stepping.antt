@@ -1,15 +1,15 @@
 -- What a step of a call that a caller has under way leads to.
 use Rattle.std.specs.Prelude.{◌≡◌, ℕ, Bool, true, false, Option, Some, None, if◌then◌else◌}
-use Rattle.papaya_teller.specs.Given.Tables.declared.node.Node.{Node}
-use Rattle.papaya_reclaims.specs.Given.Raw.Machine.{machine_plan}
-use Rattle.papaya_reclaims.specs.Given.Raw.declared.machines.machine.Machine.{Machine}
-use Rattle.papaya_reclaims.specs.Given.Raw.declared.machines.progress.Progress.{Progress}
-use Rattle.papaya_reclaims.specs.Given.Raw.declared.machines.progress.Progress.TheVariants as progress
+use Rattle.papaya_teller.specs.Given.TablesDeclared.node.Node.{Node}
+use Rattle.papaya_reclaims.specs.Given.RawMachine.{machine_plan}
+use Rattle.papaya_reclaims.specs.Given.RawDeclared.machines.machine.Machine.{Machine}
+use Rattle.papaya_reclaims.specs.Given.RawDeclared.machines.progress.Progress.{Progress}
+use Rattle.papaya_reclaims.specs.Given.RawDeclared.machines.progress.Progress.TheVariants as progress
 use Rattle.papaya_teller.specs.Tells.{StepsTold}
 use Rattle.papaya_teller.specs.declared.changed.Changed.TheVariants.{Nothing}
-use Rattle.papaya_reclaims.specs.Given.Callers.Together.{UnderWay}
-use Rattle.papaya_reclaims.specs.Given.Finishes.Machines.{machine_of, MachineStepsAmong}
-use Rattle.papaya_reclaims.specs.Given.Finishes.Maps.{Standing, with_call}
+use Rattle.papaya_reclaims.specs.Given.CallersTogether.{UnderWay}
+use Rattle.papaya_reclaims.specs.Given.FinishesMachines.{machine_of, MachineStepsAmong}
+use Rattle.papaya_reclaims.specs.Given.FinishesMaps.{Standing, with_call}
 use Rattle.papaya_scenes.specs.Held.{Held, IsAt}
 use Rattle.papaya_scenes.specs.Scene.{Scene, slot_of}
 

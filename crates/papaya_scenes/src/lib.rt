@@ -3,6 +3,3 @@
 
 pub mod callers;
 pub mod row;
-
-pub use papaya_reclaims::papaya_raw;
-pub use papaya_teller;

@@ -2,12 +2,10 @@
 ghost use Rattle.std.specs.Prelude.{◌≡◌};
 ghost use Rattle.papaya_scenes.specs.Rows.{begun_row, change_of, left_by, taken_as, of_registering, of_settling, of_storing};
 
-use papaya_reclaims::seize::Progress;
-use papaya_reclaims::seize::rows::{
-    Enter, Leave, Leaving, Register, Registering, Settle, Settled, Unregister,
-};
-use papaya_reclaims::seize::states::ACTIVE;
-use papaya_reclaims::seize_words::Fault;
+use seize::Progress;
+use seize::rows::{Enter, Leave, Leaving, Register, Registering, Settle, Settled, Unregister};
+use seize::states::ACTIVE;
+use seize_words::Fault;
 
 /// How a slot is used.
 #[derive(Clone, Copy)]

@@ -2,7 +2,7 @@
 use Rattle.std.specs.Prelude.{◌≡◌, ◌+◌, ◌*◌, ◌&&◌, ℕ, Bool, true, false, List, ◌∷◌, length, not, position, is_some, Option, Some, None}
 use Rattle.std.specs.List.{list_any}
 use Rattle.std.proofs.Common.{refl, sym, ap, subst, ◌∙◌}
-use Rattle.papaya_runs.specs.Given.Tables.declared.setting.Setting.{Setting}
+use Rattle.papaya_runs.specs.Given.TablesDeclared.setting.Setting.{Setting}
 use Rattle.papaya_runs.specs.Present.{guard_of, living_slot}
 use Rattle.papaya_rows.specs.Given.SchedulesMoment.{Moment}
 use Rattle.papaya_rows.specs.Given.SchedulesTerms.{Terms}

@@ -6,7 +6,7 @@ use Rattle.std.proofs.lemmas.Bool.{cases_eq}
 use Rattle.std.proofs.lemmas.List.{get_or-set_other, get_or-set_same, length-set}
 use Rattle.seize_words.specs.declared.fault.Fault.TheVariants.{Busy}
 use Rattle.papaya_rows.specs.Given.SeizeEndsHolders.{has_batch}
-use Rattle.papaya_runs.specs.Given.Tables.declared.node.Node.{Node}
+use Rattle.papaya_runs.specs.Given.TablesDeclared.node.Node.{Node}
 use Rattle.papaya_runs.specs.Present.{Present, drops, guard_of, guards_on, has_registration, living_slot}
 use Rattle.papaya_rows.specs.Given.SchedulesDeclared.effect.Effect.{Effect}
 use Rattle.papaya_rows.specs.Given.SchedulesDeclared.event.Event.TheVariants.{DropGuard}

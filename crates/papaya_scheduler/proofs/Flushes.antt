@@ -8,7 +8,7 @@ use Rattle.seize_words.specs.declared.at.At.TheVariants.{Slot}
 use Rattle.seize_words.specs.declared.fault.Fault.TheVariants.{Busy}
 use Rattle.papaya_rows.proofs.Given.SeizeRuleWords.Named.{word_found, words_of}
 use Rattle.papaya_rows.specs.Given.SeizeEndsHolders.{has_batch}
-use Rattle.papaya_runs.specs.Given.Tables.declared.node.Node.{Node}
+use Rattle.papaya_runs.specs.Given.TablesDeclared.node.Node.{Node}
 use Rattle.papaya_runs.specs.Present.{guard_of, guards_slot_or, living_slot, slot_of_guard}
 use Rattle.papaya_rows.specs.Given.SchedulesDeclared.effect.Effect.{Effect}
 use Rattle.papaya_rows.specs.Given.SchedulesDeclared.event.Event.TheVariants.{Flush}

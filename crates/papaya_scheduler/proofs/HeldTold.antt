@@ -8,7 +8,7 @@ use Rattle.seize_words.specs.Mem.{Mem, word_at}
 use Rattle.seize_words.specs.declared.at.At.TheVariants.{Slot}
 use Rattle.papaya_rows.proofs.Given.SeizeRuleWords.Named.{word_found, words_of}
 use Rattle.papaya_rows.specs.Given.SeizeEndsHolders.{has_batch}
-use Rattle.papaya_runs.specs.Given.Tables.declared.node.Node.{Node}
+use Rattle.papaya_runs.specs.Given.TablesDeclared.node.Node.{Node}
 use Rattle.papaya_rows.specs.Given.RawDeclared.machines.machine.Machine.{Machine}
 use Rattle.papaya_runs.specs.Present.{guard_of, guards_slot_or, slot_of_guard}
 use Rattle.papaya_runs.specs.Same.{is_same}

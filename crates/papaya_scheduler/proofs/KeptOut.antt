@@ -3,7 +3,7 @@ use Rattle.std.specs.Prelude.{◌≡◌, ◌+◌, ◌&&◌, ◌||◌, ℕ, Bool,
 use Rattle.std.proofs.Common.{refl, sym, ap, subst, ◌∙◌}
 use Rattle.seize_words.specs.declared.fault.Fault.{Fault}
 use Rattle.seize_words.specs.declared.fault.Fault.TheVariants.{Busy}
-use Rattle.papaya_runs.specs.Given.Tables.declared.resize_mode.ResizeMode.{ResizeMode}
+use Rattle.papaya_runs.specs.Given.TablesDeclared.resize_mode.ResizeMode.{ResizeMode}
 use Rattle.papaya_runs.specs.Runs.{map_fault}
 use Rattle.papaya_runs.specs.Same.{is_same}
 use Rattle.papaya_rows.specs.Given.SchedulesDeclared.event.Event.{Event}

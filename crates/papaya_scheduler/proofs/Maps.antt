@@ -1,7 +1,7 @@
 -- Maps by name: the number that is found is the one of the moment, and the map stands.
 use Rattle.std.specs.Prelude.{◌≡◌, ℕ, Bool, true, List, find, is_some, Option, Some, None, option_map, slice_index_or}
 use Rattle.std.proofs.Common.{refl, sym, ap, subst, ◌∙◌}
-use Rattle.papaya_runs.specs.Given.Tables.declared.setting.Setting.{Setting}
+use Rattle.papaya_runs.specs.Given.TablesDeclared.setting.Setting.{Setting}
 use Rattle.papaya_runs.specs.Same.{is_same}
 use Rattle.papaya_rows.specs.Given.SchedulesMoment.{MapThere, Moment}
 use Rattle.papaya_rows.specs.Given.SchedulesTerms.{Terms}

@@ -4,7 +4,7 @@ use Rattle.std.specs.List.{AllByRecursion}
 use Rattle.std.proofs.Common.{refl, sym, ap, ◌∙◌, inl, inr, eqb-true}
 use Rattle.std.proofs.lemmas.Bool.{cases_eq}
 use Rattle.seize.specs.World.{World}
-use Rattle.papaya_runs.specs.Given.Tables.declared.setting.Setting.{Setting}
+use Rattle.papaya_runs.specs.Given.TablesDeclared.setting.Setting.{Setting}
 use Rattle.papaya_runs.specs.Present.{Present, HaveNames, guards_on}
 use Rattle.papaya_rows.specs.Given.SchedulesDeclared.effect.Effect.{Effect}
 use Rattle.papaya_rows.specs.Given.SchedulesDeclared.effect.Effect.TheVariants.{Promoted}
@@ -20,7 +20,7 @@ use Rattle.papaya_rows.specs.Given.FinishesMaps.{Standing}
 use Rattle.papaya_rows.specs.Given.LoggedShown.{IsShown}
 use Rattle.papaya_rows.specs.Given.LoggedDeclared.logged.Logged.{Logged}
 use Rattle.papaya_rows.proofs.Given.OthersQuiet.{calls_none}
-use Rattle.papaya_runs.specs.Given.Tables.declared.node.Node.{Node}
+use Rattle.papaya_runs.specs.Given.TablesDeclared.node.Node.{Node}
 use Rattle.papaya_scheduler.specs.Played.{IsUnderWay, StandsFor}
 use Rattle.papaya_rows.specs.Rows.{RowRan, used_as}
 use Rattle.papaya_rows.specs.Given.NamedSeen.{named, seen}

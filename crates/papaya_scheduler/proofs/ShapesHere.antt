@@ -6,9 +6,9 @@ use Rattle.std.proofs.lemmas.List.{map-append}
 use Rattle.std.proofs.lemmas.List.Elements.{filter-append}
 use Rattle.seize_words.specs.Mem.{Mem}
 use Rattle.seize_words.specs.declared.fault.Fault.TheVariants.{Busy}
-use Rattle.papaya_runs.specs.Given.Tables.declared.node.Node.{Node}
-use Rattle.papaya_runs.specs.Given.Tables.declared.setting.Setting.{Setting}
-use Rattle.papaya_runs.specs.Given.Tables.declared.table.Table.{Table}
+use Rattle.papaya_runs.specs.Given.TablesDeclared.node.Node.{Node}
+use Rattle.papaya_runs.specs.Given.TablesDeclared.setting.Setting.{Setting}
+use Rattle.papaya_runs.specs.Given.TablesDeclared.table.Table.{Table}
 use Rattle.papaya_rows.specs.Given.RuleChart.{Chart}
 use Rattle.papaya_rows.specs.Given.RuleMaps.{IsMap}
 use Rattle.papaya_rows.specs.Given.RuleWords.{Blocks}

@@ -9,7 +9,7 @@ use Rattle.seize.specs.declared.rows.register.Register.{Register}
 use Rattle.seize.specs.declared.rows.register.Registering.TheVariants as at
 use Rattle.papaya_rows.proofs.Given.SeizeSetsSlots.Registers.{NoneOnVacant, WhyRefused}
 use Rattle.seize.specs.Sequence.{new_slot}
-use Rattle.papaya_runs.specs.Given.Tables.declared.node.Node.{Node}
+use Rattle.papaya_runs.specs.Given.TablesDeclared.node.Node.{Node}
 use Rattle.papaya_rows.specs.Given.TellerDeclared.changed.Changed.{Changed}
 use Rattle.papaya_rows.specs.Given.TellerDeclared.changed.Changed.TheVariants as changed
 use Rattle.papaya_runs.specs.Present.{Present}

@@ -4,7 +4,7 @@ use Rattle.std.proofs.Common.{[], ◌++◌, ◌≡◌, ℕ, ◌+◌, ◌<◌, Bo
 use Rattle.std.proofs.lemmas.Bool.{cases_eq, ne_eqb}
 use Rattle.std.proofs.lemmas.List.{get_or-set_other, get_or-set_same, length-set}
 use Rattle.seize_words.specs.declared.fault.Fault.TheVariants.{Busy}
-use Rattle.papaya_runs.specs.Given.Tables.declared.node.Node.{Node}
+use Rattle.papaya_runs.specs.Given.TablesDeclared.node.Node.{Node}
 use Rattle.papaya_runs.specs.declared.holders.Registration.{Registration}
 use Rattle.papaya_runs.specs.Present.{Present, guards_on, has_registration, living_on, registration_of, slot_of_registration, unregisters}
 use Rattle.papaya_rows.specs.Given.SchedulesDeclared.effect.Effect.{Effect}

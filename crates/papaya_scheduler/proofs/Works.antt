@@ -3,8 +3,8 @@ use Rattle.std.specs.Prelude.{◌≡◌, ℕ, true, List, []}
 use Rattle.std.proofs.Common.{refl, sym, subst, inl, inr}
 use Rattle.seize.specs.declared.progress.Progress.{Progress}
 use Rattle.seize_words.specs.declared.fault.Fault.{Fault}
-use Rattle.papaya_runs.specs.Given.Tables.declared.node.Node.{Node}
-use Rattle.papaya_runs.specs.Given.Tables.declared.setting.Setting.{Setting}
+use Rattle.papaya_runs.specs.Given.TablesDeclared.node.Node.{Node}
+use Rattle.papaya_runs.specs.Given.TablesDeclared.setting.Setting.{Setting}
 use Rattle.papaya_rows.specs.Given.SchedulesDeclared.effect.Effect.{Effect}
 use Rattle.papaya_rows.specs.Given.SchedulesDeclared.event.Event.{Event}
 use Rattle.papaya_rows.specs.Given.SchedulesDeclared.outcome.Outcome.TheVariants.{Done, Refused}

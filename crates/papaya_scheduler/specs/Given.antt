@@ -1,7 +1,7 @@
 -- The words of the crates below, given on to the crates above: these list this crate in place of those.
-pub use Rattle.papaya_runs.specs.Given.Tables.Chunks as TablesChunks
-pub use Rattle.papaya_runs.specs.Given.Tables.Nodes as TablesNodes
-pub use Rattle.papaya_runs.specs.Given.Tables.declared as TablesDeclared
+pub use Rattle.papaya_runs.specs.Given.TablesChunks as TablesChunks
+pub use Rattle.papaya_runs.specs.Given.TablesNodes as TablesNodes
+pub use Rattle.papaya_runs.specs.Given.TablesDeclared as TablesDeclared
 pub use Rattle.papaya_rows.specs.Given.ResizeLookup
 pub use Rattle.papaya_rows.specs.Given.ResizeNewMap
 pub use Rattle.papaya_rows.specs.Given.ResizeDeclared

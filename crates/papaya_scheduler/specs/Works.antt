@@ -8,9 +8,9 @@ use Rattle.seize_words.specs.Mem.{word_at}
 use Rattle.seize_words.specs.declared.at.At.TheVariants as at
 use Rattle.seize_words.specs.declared.fault.Fault.{Fault}
 use Rattle.seize_words.specs.declared.fault.Fault.TheVariants.{Busy}
-use Rattle.papaya_runs.specs.Given.Tables.declared.node.Node.{Node}
-use Rattle.papaya_runs.specs.Given.Tables.declared.resize_mode.ResizeMode.{ResizeMode}
-use Rattle.papaya_runs.specs.Given.Tables.declared.setting.Setting.{Setting}
+use Rattle.papaya_runs.specs.Given.TablesDeclared.node.Node.{Node}
+use Rattle.papaya_runs.specs.Given.TablesDeclared.resize_mode.ResizeMode.{ResizeMode}
+use Rattle.papaya_runs.specs.Given.TablesDeclared.setting.Setting.{Setting}
 use Rattle.papaya_runs.specs.Runs.{map_fault}
 use Rattle.papaya_runs.specs.Present.{Present, guard_of, guards_on, living_on, living_slot, registration_of}
 use Rattle.papaya_rows.specs.Given.SchedulesDeclared.event.Event.{Event}

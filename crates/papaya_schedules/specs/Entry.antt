@@ -1,6 +1,6 @@
 -- An entry of a log: an event, what it came to, how many steps of a call it made, and what it did.
 use Rattle.std.specs.Prelude.{ℕ, Bool, true, false, List, [], ◌∷◌, Option, Some, None, option_map}
-use Rattle.papaya_raw.specs.Given.SeizeWords.declared.fault.Fault.TheVariants.{Busy}
+use Rattle.papaya_raw.specs.Given.SeizeWordsDeclared.fault.Fault.TheVariants.{Busy}
 use Rattle.papaya_schedules.specs.declared.event.Event.{Event}
 use Rattle.papaya_schedules.specs.declared.event.Event.TheVariants.{MakeMap, EndMap, Step, Go, Replied, OneCall, Next, Stop}
 use Rattle.papaya_schedules.specs.declared.outcome.Outcome.{Outcome}

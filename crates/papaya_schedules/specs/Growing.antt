@@ -1,12 +1,12 @@
 -- The tables of a map: for what memory is asked, and which table comes after which.
 use Rattle.std.specs.Prelude.{◌≡◌, ℕ, ◌+◌, ◌^◌, ◌<◌, ◌≤◌, ◌==◌, nat_le, nat_lt, Bool, true, false, not, ◌||◌, List, [], ◌∷◌, length, None, Result, Ok, Err, ◌⊎◌}
 use Rattle.std.specs.List.{list_all}
-use Rattle.papaya_raw.specs.Given.SeizeWords.declared.fault.Fault.{Fault}
-use Rattle.papaya_raw.specs.Given.Seize.Register.{MayNeedRoom}
-use Rattle.papaya_raw.specs.Given.Tables.declared.lengths.Reason.{Reason}
-use Rattle.papaya_raw.specs.Given.Tables.declared.lengths.Reason.TheVariants.{Full, Reserved, NoPlace}
-use Rattle.papaya_raw.specs.Given.Tables.Lengths.{places_for, entries_of, len_of, next_len, next_limit}
-use Rattle.papaya_raw.specs.Given.Tables.Probes.{limit_of}
+use Rattle.papaya_raw.specs.Given.SeizeWordsDeclared.fault.Fault.{Fault}
+use Rattle.papaya_raw.specs.Given.SeizeRegister.{MayNeedRoom}
+use Rattle.papaya_raw.specs.Given.TablesDeclared.lengths.Reason.{Reason}
+use Rattle.papaya_raw.specs.Given.TablesDeclared.lengths.Reason.TheVariants.{Full, Reserved, NoPlace}
+use Rattle.papaya_raw.specs.Given.TablesLengths.{places_for, entries_of, len_of, next_len, next_limit}
+use Rattle.papaya_raw.specs.Given.TablesProbes.{limit_of}
 use Rattle.papaya_runs.specs.declared.outcome.TableShape.{TableShape}
 use Rattle.papaya_schedules.specs.declared.call.Call.{Call}
 use Rattle.papaya_schedules.specs.declared.call.Call.TheVariants.{On, Reserve, Len}

@@ -1,7 +1,7 @@
 -- Which events have which effects, and that a call leaves nothing behind: what it took out it hands over, and what it made it links or gives up.
 use Rattle.std.specs.Prelude.{◌≡◌, ℕ, ◌+◌, ◌==◌, Bool, true, false, not, ◌&&◌, ◌||◌, List, [], ◌∷◌, length, filter, map, flat_map, Option, Some, None, if◌then◌else◌}
 use Rattle.std.specs.List.{list_any, list_all}
-use Rattle.papaya_raw.specs.Given.SeizeWords.declared.fault.Fault.TheVariants.{Busy, Memory}
+use Rattle.papaya_raw.specs.Given.SeizeWordsDeclared.fault.Fault.TheVariants.{Busy, Memory}
 use Rattle.papaya_runs.specs.Present.{slot_of_guard, guards_on}
 use Rattle.papaya_schedules.specs.declared.effect.Effect.{Effect}
 use Rattle.papaya_schedules.specs.declared.effect.Effect.TheVariants.{Asked, PairMade, TableMade, Linked, Reclaimed, Ended, Taken}

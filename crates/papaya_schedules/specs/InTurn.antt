@@ -1,7 +1,7 @@
 -- What each event comes to: the outcomes that are right for it, and the refusals, each in its case alone.
 use Rattle.std.specs.Prelude.{◌≡◌, ℕ, ◌==◌, nat_lt, Bool, true, false, not, ◌&&◌, List, [], length, map, Option, Some, None, is_some, is_none, if◌then◌else◌, MatchOption, MatchBool, ◌⊎◌}
 use Rattle.std.specs.List.{list_any}
-use Rattle.papaya_raw.specs.Given.SeizeWords.declared.fault.Fault.TheVariants.{SlotsUsedUp, RootsUsedUp, GuardsFull, Busy, Memory}
+use Rattle.papaya_raw.specs.Given.SeizeWordsDeclared.fault.Fault.TheVariants.{SlotsUsedUp, RootsUsedUp, GuardsFull, Busy, Memory}
 use Rattle.papaya_runs.specs.Present.{Present, slot_of_registration, slot_of_guard, guards_on, living_on}
 use Rattle.papaya_runs.specs.Runs.{map_fault, MOST_GUARDS}
 use Rattle.papaya_schedules.specs.declared.event.Event.{Event}

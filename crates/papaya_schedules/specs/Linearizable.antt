@@ -1,6 +1,6 @@
 -- Linearizability: what calls on one key do to their map, answer and ask; and which pairs sweeps remove.
 use Rattle.std.specs.Prelude.{◌≡◌, ℕ, ◌+◌, Bool, true, false, List, [], ◌∷◌, length, flat_map, Option, Some, None, ◌⊎◌}
-use Rattle.papaya_raw.specs.Given.SeizeWords.declared.fault.Fault.TheVariants.{Busy, RemoveNothing}
+use Rattle.papaya_raw.specs.Given.SeizeWordsDeclared.fault.Fault.TheVariants.{Busy, RemoveNothing}
 use Rattle.papaya_schedules.specs.declared.call.Call.{Call}
 use Rattle.papaya_schedules.specs.declared.call.Call.TheVariants.{On, Clear, Retain}
 use Rattle.papaya_schedules.specs.declared.call.OneKey.{OneKey}

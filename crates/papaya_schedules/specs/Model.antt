@@ -1,6 +1,6 @@
 -- What is reclaimed by the waiting-set model, where calls come one after another. The model knows pairs and tables by the order in which they came.
 use Rattle.std.specs.Prelude.{◌≡◌, ℕ, suc, List, [], ◌∷◌, ◌++◌, map, flat_map, Option, Some, None, if◌then◌else◌, MatchBool}
-use Rattle.papaya_raw.specs.Given.Seize.WaitingSets.{Change, Enters, Leaves, Refreshes, Retires, Flushes, Defers, Ends, ReclaimsAll, Sets, at_start, all_changed}
+use Rattle.papaya_raw.specs.Given.SeizeWaitingSets.{Change, Enters, Leaves, Refreshes, Retires, Flushes, Defers, Ends, ReclaimsAll, Sets, at_start, all_changed}
 use Rattle.papaya_runs.specs.Log.{if_first, if_only}
 use Rattle.papaya_runs.specs.Present.{slot_of_registration, slot_of_guard}
 use Rattle.papaya_schedules.specs.declared.event.Event.{Event}

@@ -1,6 +1,6 @@
 -- What is so at a moment of a run.
 use Rattle.std.specs.Prelude.{ℕ, Bool, true, false, List, [], Option}
-use Rattle.papaya_raw.specs.Given.Tables.declared.resize_mode.ResizeMode.{ResizeMode}
+use Rattle.papaya_raw.specs.Given.TablesDeclared.resize_mode.ResizeMode.{ResizeMode}
 use Rattle.papaya_runs.specs.declared.outcome.TableShape.{TableShape}
 use Rattle.papaya_runs.specs.Present.{Present, nobody}
 use Rattle.papaya_schedules.specs.declared.call.Call.{Call}

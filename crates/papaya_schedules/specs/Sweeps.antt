@@ -1,8 +1,8 @@
 -- Calls on whole maps: walks, `clear`, `retain`, `len` and `reserve`.
 use Rattle.std.specs.Prelude.{◌≡◌, ℕ, ◌+◌, ◌≤◌, Bool, true, false, not, ◌&&◌, ◌||◌, List, [], ◌∷◌, filter, length, nat_le, Option, Some, is_some, if◌then◌else◌, Result, Ok, Err}
 use Rattle.std.specs.List.{list_all, AllByRecursion}
-use Rattle.papaya_raw.specs.Given.SeizeWords.declared.fault.Fault.{Fault}
-use Rattle.papaya_raw.specs.Given.Tables.Lengths.{len_of}
+use Rattle.papaya_raw.specs.Given.SeizeWordsDeclared.fault.Fault.{Fault}
+use Rattle.papaya_raw.specs.Given.TablesLengths.{len_of}
 use Rattle.papaya_runs.specs.Log.{pair_at, is_key}
 use Rattle.papaya_schedules.specs.declared.call.Call.{Call}
 use Rattle.papaya_schedules.specs.declared.call.Call.TheVariants.{Reserve, Clear, Retain, Len, Walk}

@@ -7,7 +7,3 @@ pub mod event;
 pub mod law;
 pub mod outcome;
 pub mod record;
-
-pub use papaya_raw;
-pub use papaya_raw::{papaya_tables, seize, seize_words};
-pub use papaya_runs;

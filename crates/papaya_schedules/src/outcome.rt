@@ -1,7 +1,7 @@
 //! What an event comes to.
 use crate::call::Answer;
-use papaya_raw::seize_words::Fault;
 use papaya_runs::outcome::TableShape;
+use seize_words::Fault;
 
 /// What an event came to.
 #[derive(Drop)]

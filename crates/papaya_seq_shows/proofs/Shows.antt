@@ -13,7 +13,7 @@ use Rattle.seize_words.specs.declared.fault.Fault.TheVariants.{Capacity}
 use Rattle.papaya_tables.specs.declared.node.Node.{Node}
 use Rattle.papaya_tables.specs.declared.setting.Setting.{Setting}
 use Rattle.papaya_tables.specs.Chunks.{is_incremental}
-use Rattle.papaya_shown.specs.Given.Rule.Words.{root_word}
+use Rattle.papaya_shown.specs.Given.RuleWords.{root_word}
 use Rattle.papaya_pairs.specs.Given.OwnedRooms.{CannotMakeRoom, HasRoomFor, NeedTooMany, ShowTables}
 use Rattle.papaya_resting.specs.Given.ReservesReserve.{needed}
 use Rattle.papaya_resting.proofs.Given.{one_each_below, keeps_by_test, holds_stands, holds_moves_none, holds_pairs}

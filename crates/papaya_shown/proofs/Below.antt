@@ -1,7 +1,7 @@
 -- The numbers of the pairs of a map, in order: each is there once.
 use Rattle.std.proofs.Common.{◌≡◌, ◌≢◌, ℕ, zero, suc, ◌+◌, ◌<◌, ◌≤◌, Bool, true, false, cond, List, [], ◌∷◌, ◌++◌, ◌⊎◌, inl, inr, refl, ap, sym, ◌∙◌, arith}
 use Rattle.std.proofs.lemmas.Bool.{cases_lt, cases_order}
-use Rattle.papaya_rule.specs.Given.Seize.World.{times}
+use Rattle.papaya_rule.specs.Given.SeizeWorld.{times}
 use Rattle.papaya_rule.specs.Chart.{Chart}
 use Rattle.papaya_shown.specs.Shown.{AreOfCurrent}
 use Rattle.papaya_shown.proofs.Permuted.{times_append}

@@ -2,7 +2,7 @@
 use Rattle.std.specs.Prelude.{◌-◌, Option, None}
 use Rattle.std.proofs.Common.{◌≡◌, ℕ, zero, suc, ◌+◌, ◌<◌, ◌≤◌, List, [], ◌∷◌, ◌++◌, Some, refl, ap, sym, ◌∙◌, arith, append_assoc}
 use Rattle.std.proofs.lemmas.List.{append-nil}
-use Rattle.papaya_rule.specs.Given.Tables.declared.table.Table.{Table}
+use Rattle.papaya_rule.specs.Given.TablesDeclared.table.Table.{Table}
 use Rattle.papaya_rule.specs.Chart.{Chart}
 use Rattle.papaya_rule.specs.Words.{Blocks}
 use Rattle.papaya_shown.specs.Shown.{table_at, table_of, tables_on}

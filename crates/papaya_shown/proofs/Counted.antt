@@ -3,7 +3,7 @@ use Rattle.std.specs.Prelude.{Option, None}
 use Rattle.std.proofs.Common.{◌≡◌, ◌≢◌, ℕ, zero, suc, ◌+◌, ◌<◌, Bool, Some, ◌⊎◌, inl, inr, refl, ap, sym, ◌∙◌, arith}
 use Rattle.std.proofs.lemmas.Bool.{cases_order}
 use Rattle.papaya_rule.specs.Chart.{Chart}
-use Rattle.papaya_rule.specs.Given.Seize.World.{times}
+use Rattle.papaya_rule.specs.Given.SeizeWorld.{times}
 use Rattle.papaya_shown.proofs.Permuted.{times_append}
 use Rattle.papaya_shown.specs.Shown.{pair_there, number_there, numbers_there, numbers_from}
 

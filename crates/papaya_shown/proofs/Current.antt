@@ -5,7 +5,7 @@ use Rattle.std.proofs.Common.{◌≡◌, ℕ, suc, ◌+◌, ◌<◌, ◌≤◌, 
 use Rattle.std.proofs.lemmas.Bool.{cases_lt}
 use Rattle.papaya_rule.specs.Chart.{Empty, Chart}
 use Rattle.papaya_rule.specs.Rule.{Rule, Common, Incremental}
-use Rattle.papaya_rule.specs.Given.Seize.World.{times}
+use Rattle.papaya_rule.specs.Given.SeizeWorld.{times}
 use Rattle.papaya_shown.specs.Shown.{NoneMoves, AreOfCurrent, pair_there, numbers_from}
 use Rattle.papaya_shown.proofs.Counted.{zero_from, none_from, one_from}
 use Rattle.papaya_shown.proofs.Standing.{current_there, stands_there, one_place, one_try}

@@ -2,11 +2,11 @@
 use Rattle.std.specs.Prelude.{◌-◌}
 use Rattle.std.proofs.Common.{◌≡◌, ◌≢◌, ℕ, zero, suc, ◌<◌, Bool, List, [], ◌∷◌, ◌++◌, length, Some, ap, sym, subst, ◌∙◌, arith}
 use Rattle.std.specs.Iterator.{MakesProgress, item_count}
-use Rattle.papaya_rule.specs.Given.SeizeWords.Word.{block_in}
-use Rattle.papaya_rule.specs.Given.SeizeWords.declared.at.At.TheVariants.{Word}
-use Rattle.papaya_rule.specs.Given.SeizeWords.Mem.{Mem, value_at, word_at}
-use Rattle.papaya_rule.specs.Given.Tables.declared.node.Node.{Node}
-use Rattle.papaya_rule.specs.Given.Tables.declared.table_words.TheConstants.{NEXT}
+use Rattle.papaya_rule.specs.Given.SeizeWordsWord.{block_in}
+use Rattle.papaya_rule.specs.Given.SeizeWordsDeclared.at.At.TheVariants.{Word}
+use Rattle.papaya_rule.specs.Given.SeizeWordsMem.{Mem, value_at, word_at}
+use Rattle.papaya_rule.specs.Given.TablesDeclared.node.Node.{Node}
+use Rattle.papaya_rule.specs.Given.TablesDeclared.table_words.TheConstants.{NEXT}
 use Rattle.papaya_shown.specs.Chain.{word_or_none, places_of, behind, pairs_at, pairs_on, pairs_left, HasTables, CanBeRead, one_count}
 
 module _ {K V : Type 0} (m : Mem (Node K V)) (link : ℕ) (some : link ≢ 0) where

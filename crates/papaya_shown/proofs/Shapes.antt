@@ -1,11 +1,11 @@
 -- Where the last table of a map cannot be followed, its memory shows that.
 use Rattle.std.specs.Prelude.{◌≡◌, ℕ, zero, suc, ◌+◌, ◌-◌, ◌/◌, ◌<◌, ◌≤◌, Bool, Some}
 use Rattle.std.proofs.Common.{ap, sym, subst, inl, inr, arith}
-use Rattle.papaya_rule.specs.Given.SeizeWords.Mem.{Mem, value_at, word_at}
-use Rattle.papaya_rule.specs.Given.SeizeWords.declared.at.At.TheVariants.{Root}
-use Rattle.papaya_rule.specs.Given.Tables.Lengths.{CannotBeFollowed}
-use Rattle.papaya_rule.specs.Given.Tables.declared.node.Node.{Node}
-use Rattle.papaya_rule.specs.Given.Tables.declared.setting.Setting.{Setting}
+use Rattle.papaya_rule.specs.Given.SeizeWordsMem.{Mem, value_at, word_at}
+use Rattle.papaya_rule.specs.Given.SeizeWordsDeclared.at.At.TheVariants.{Root}
+use Rattle.papaya_rule.specs.Given.TablesLengths.{CannotBeFollowed}
+use Rattle.papaya_rule.specs.Given.TablesDeclared.node.Node.{Node}
+use Rattle.papaya_rule.specs.Given.TablesDeclared.setting.Setting.{Setting}
 use Rattle.papaya_rule.specs.Chart.{Chart}
 use Rattle.papaya_rule.specs.Words.{Blocks}
 use Rattle.papaya_rule.specs.Links.{LeadsTo}

@@ -3,17 +3,17 @@ use Rattle.std.specs.Prelude.{◌≡◌, ◌≢◌, ℕ, zero, suc, ◌+◌, ◌
 use Rattle.std.proofs.Common.{refl, ap}
 use Rattle.std.specs.Coded.{Coded-set, coded_ℕ, ×_prop, Π_prop}
 use mathlib.Core.HLevel.{Σ_prop_path}
-use Rattle.papaya_rule.specs.Given.SeizeWords.Word.{block_in}
-use Rattle.papaya_rule.specs.Given.SeizeWords.declared.at.At.TheVariants.{Root, Word}
-use Rattle.papaya_rule.specs.Given.SeizeWords.Mem.{Mem, value_at, word_at}
-use Rattle.papaya_rule.specs.Given.Tables.Chunks.{is_incremental}
-use Rattle.papaya_rule.specs.Given.Tables.Lengths.{CannotBeFollowed}
-use Rattle.papaya_rule.specs.Given.Tables.Marks.{has_mark}
-use Rattle.papaya_rule.specs.Given.Tables.declared.marks.TheConstants.{COPYING}
-use Rattle.papaya_rule.specs.Given.Tables.declared.node.Node.{Node}
-use Rattle.papaya_rule.specs.Given.Tables.declared.node.Node.TheVariants as node
-use Rattle.papaya_rule.specs.Given.Tables.declared.setting.Setting.{Setting}
-use Rattle.papaya_rule.specs.Given.Tables.declared.table_words.TheConstants.{NEXT, PLACES}
+use Rattle.papaya_rule.specs.Given.SeizeWordsWord.{block_in}
+use Rattle.papaya_rule.specs.Given.SeizeWordsDeclared.at.At.TheVariants.{Root, Word}
+use Rattle.papaya_rule.specs.Given.SeizeWordsMem.{Mem, value_at, word_at}
+use Rattle.papaya_rule.specs.Given.TablesChunks.{is_incremental}
+use Rattle.papaya_rule.specs.Given.TablesLengths.{CannotBeFollowed}
+use Rattle.papaya_rule.specs.Given.TablesMarks.{has_mark}
+use Rattle.papaya_rule.specs.Given.TablesDeclared.marks.TheConstants.{COPYING}
+use Rattle.papaya_rule.specs.Given.TablesDeclared.node.Node.{Node}
+use Rattle.papaya_rule.specs.Given.TablesDeclared.node.Node.TheVariants as node
+use Rattle.papaya_rule.specs.Given.TablesDeclared.setting.Setting.{Setting}
+use Rattle.papaya_rule.specs.Given.TablesDeclared.table_words.TheConstants.{NEXT, PLACES}
 
 absurd_prop : IsProp ⊥
 absurd_prop x y = absurd x

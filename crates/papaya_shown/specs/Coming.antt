@@ -1,8 +1,8 @@
 -- The pairs of a map that are still to come.
 use Rattle.std.specs.Prelude.{◌≡◌, ◌≢◌, ◌≤◌, List}
-use Rattle.papaya_rule.specs.Given.SeizeWords.Word.{block_in}
-use Rattle.papaya_rule.specs.Given.SeizeWords.Mem.{value_at}
-use Rattle.papaya_rule.specs.Given.Tables.Chunks.{is_incremental}
+use Rattle.papaya_rule.specs.Given.SeizeWordsWord.{block_in}
+use Rattle.papaya_rule.specs.Given.SeizeWordsMem.{value_at}
+use Rattle.papaya_rule.specs.Given.TablesChunks.{is_incremental}
 use Rattle.papaya_shown.specs.Chain.{places_of, CanBeRead, pairs_left}
 use Rattle.papaya_shown.specs.declared.pairs.Pairs.{Pairs}
 

@@ -1,12 +1,12 @@
 -- What the words of a map show of its tables and pairs.
 use Rattle.std.specs.Prelude.{◌≡◌, ◌≢◌, ℕ, suc, zero, ◌+◌, ◌^◌, ◌<◌, nat_lt, Bool, true, cond, List, [], ◌∷◌, ◌++◌, Option, Some, None, if◌then◌else◌}
 use Rattle.std.specs.Cmp.{IsEquivalence}
-use Rattle.papaya_rule.specs.Given.SeizeWords.Word.{link_to}
-use Rattle.papaya_rule.specs.Given.SeizeWords.Mem.{Mem, value_at}
-use Rattle.papaya_rule.specs.Given.Seize.World.{times}
-use Rattle.papaya_rule.specs.Given.Tables.declared.node.Node.{Node}
-use Rattle.papaya_rule.specs.Given.Tables.declared.setting.Setting.{Setting}
-use Rattle.papaya_rule.specs.Given.Tables.declared.table.Table.{Table}
+use Rattle.papaya_rule.specs.Given.SeizeWordsWord.{link_to}
+use Rattle.papaya_rule.specs.Given.SeizeWordsMem.{Mem, value_at}
+use Rattle.papaya_rule.specs.Given.SeizeWorld.{times}
+use Rattle.papaya_rule.specs.Given.TablesDeclared.node.Node.{Node}
+use Rattle.papaya_rule.specs.Given.TablesDeclared.setting.Setting.{Setting}
+use Rattle.papaya_rule.specs.Given.TablesDeclared.table.Table.{Table}
 use Rattle.papaya_rule.specs.Chart.{Chart, Still, Copying, Copied, Place, Empty, Tombstone, Holds}
 use Rattle.papaya_rule.specs.Words.{Blocks}
 use Rattle.papaya_rule.specs.Maps.{IsMap}

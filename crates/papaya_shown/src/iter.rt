@@ -5,16 +5,16 @@ ghost use Rattle.papaya_rule.specs.Chart.{Chart};
 ghost use Rattle.papaya_rule.specs.Words.{Blocks};
 ghost use Rattle.papaya_shown.specs.Shown.{Stands, NoneMoves, pairs_stored};
 ghost use Rattle.std.specs.Iterator.{YieldsFirstBy, item_count};
-ghost use Rattle.papaya_rule.specs.Given.Tables.Chunks.{is_incremental};
+ghost use Rattle.papaya_rule.specs.Given.TablesChunks.{is_incremental};
 ghost use Rattle.papaya_shown.specs.Chain.{CanBeRead, HasTables, CountsTables, pairs_from_root, pairs_on, root_link};
 ghost use Rattle.papaya_shown.specs.Lent.{pair_shown};
 ghost use Rattle.papaya_shown.specs.Coming.{pairs_to_come, can_go_on};
 
 use crate::pairs::{Pairs, Tables};
 use crate::places::{len_at, next_in};
-use papaya_rule::papaya_tables::table_words::NEXT;
-use papaya_rule::papaya_tables::{Node, Setting};
-use papaya_rule::seize_words::{At, Link, Look, Plain};
+use papaya_tables::table_words::NEXT;
+use papaya_tables::{Node, Setting};
+use seize_words::{At, Link, Look, Plain};
 
 impl<'a, K, V> Pairs<'a, K, V> {
     /// The pairs from this link on.

@@ -2,8 +2,8 @@
 ghost use Rattle.std.specs.Prelude.{◌≡◌, ⊤};
 ghost use Rattle.papaya_shown.specs.Chain.{CountsTables, counts_tables_prop};
 
-use papaya_rule::papaya_tables::{Node, Setting};
-use papaya_rule::seize_words::Plain;
+use papaya_tables::{Node, Setting};
+use seize_words::Plain;
 use std::alloc::AllocError;
 
 /// The table at a link, and all behind it. There is none where the link is 0.

@@ -1,17 +1,17 @@
 //! What the places of a table show.
 ghost use Rattle.std.specs.Prelude.{if◌then◌else◌, ◌==◌, ◌≡◌, ◌≢◌, ◌<◌, ◌≤◌, ◌+◌, ◌-◌, ◌^◌, ◌∷◌, [], ℕ, Bool, MatchOption, Option, Some, None};
-ghost use Rattle.papaya_rule.specs.Given.Tables.Chunks.{is_incremental};
-ghost use Rattle.papaya_rule.specs.Given.SeizeWords.Word.{block_in};
-ghost use Rattle.papaya_rule.specs.Given.SeizeWords.Mem.{word_at, value_at};
-ghost use Rattle.papaya_rule.specs.Given.SeizeWords.declared.at.At.TheVariants.{Word};
-ghost use Rattle.papaya_rule.specs.Given.Tables.declared.table_words.TheConstants.{PLACES};
+ghost use Rattle.papaya_rule.specs.Given.TablesChunks.{is_incremental};
+ghost use Rattle.papaya_rule.specs.Given.SeizeWordsWord.{block_in};
+ghost use Rattle.papaya_rule.specs.Given.SeizeWordsMem.{word_at, value_at};
+ghost use Rattle.papaya_rule.specs.Given.SeizeWordsDeclared.at.At.TheVariants.{Word};
+ghost use Rattle.papaya_rule.specs.Given.TablesDeclared.table_words.TheConstants.{PLACES};
 ghost use Rattle.papaya_shown.specs.Chain.{IsPlace, IsTableAt, CanBeRead, HasTables, CountsTables, counts_tables_prop, pair_by, pairs_at, pairs_on, places_of, word_or_none};
 ghost use Rattle.papaya_shown.specs.Lent.{shown};
 
-use papaya_rule::papaya_tables::marks::{COPYING, has};
-use papaya_rule::papaya_tables::table_words::PLACES;
-use papaya_rule::papaya_tables::{Node, Setting};
-use papaya_rule::seize_words::{At, Link, Look, Plain};
+use papaya_tables::marks::{COPYING, has};
+use papaya_tables::table_words::PLACES;
+use papaya_tables::{Node, Setting};
+use seize_words::{At, Link, Look, Plain};
 
 /// The pair at a place of the table at this link, if one is there that counts: in incremental mode one that is marked stands in a later table, too.
 fn pair_at<'a, K, V>(

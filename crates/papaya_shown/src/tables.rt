@@ -1,16 +1,16 @@
 //! The tables of a map, from its root on.
 ghost use Rattle.std.specs.Prelude.{◌≡◌, ◌≢◌, ◌<◌, ◌≤◌, ℕ, suc, Bool, Option, Some, None, IsSome};
-ghost use Rattle.papaya_rule.specs.Given.Tables.Nodes.{table_seen};
-ghost use Rattle.papaya_rule.specs.Given.Tables.declared.node.Node.{Node};
+ghost use Rattle.papaya_rule.specs.Given.TablesNodes.{table_seen};
+ghost use Rattle.papaya_rule.specs.Given.TablesDeclared.node.Node.{Node};
 ghost use Rattle.papaya_rule.specs.Chart.{Chart};
 ghost use Rattle.papaya_rule.specs.Words.{Blocks};
-ghost use Rattle.papaya_rule.specs.Given.SeizeWords.Word.{block_in};
-ghost use Rattle.papaya_rule.specs.Given.SeizeWords.Mem.{value_at};
+ghost use Rattle.papaya_rule.specs.Given.SeizeWordsWord.{block_in};
+ghost use Rattle.papaya_rule.specs.Given.SeizeWordsMem.{value_at};
 ghost use Rattle.papaya_shown.specs.Shown.{Stands, table_at, table_of};
 
-use papaya_rule::papaya_tables::table_words::NEXT;
-use papaya_rule::papaya_tables::{Node, Setting, Table};
-use papaya_rule::seize_words::{At, Link, Look, Plain};
+use papaya_tables::table_words::NEXT;
+use papaya_tables::{Node, Setting, Table};
+use seize_words::{At, Link, Look, Plain};
 
 /// The table that a link names, if it names one.
 fn table_at<K, V>(memory: &Plain<Node<K, V>>, link: u64) -> Option<Table>

@@ -11,8 +11,8 @@ use Rattle.papaya_works.specs.Given.SchedulesEntry.{ends_call}
 use Rattle.papaya_works.specs.Given.SchedulesMoment.{Asking, IsReady, Stands, UnderWay as CallThere, Moment}
 use Rattle.papaya_works.specs.Given.SchedulesTerms.{Terms}
 use Rattle.papaya_works.specs.Given.SchedulesViews.{call_of}
-use Rattle.papaya_lowers.specs.Given.Callers.Together.{UnderWay, OnKey}
-use Rattle.papaya_lowers.specs.Given.Finishes.Maps.{Standing}
+use Rattle.papaya_lowers.specs.Given.CallersTogether.{UnderWay, OnKey}
+use Rattle.papaya_lowers.specs.Given.FinishesMaps.{Standing}
 use Rattle.papaya_works.specs.Given.EffectsKnown.{known}
 use Rattle.papaya_works.specs.Given.FollowsCalling.{come_to}
 use Rattle.papaya_works.specs.Given.FollowsCalls.{IsCalled}

@@ -1,14 +1,14 @@
 -- What a step of any call says that goes on, by what was called.
 use Rattle.std.specs.Prelude.{◌≡◌, ℕ, Bool, List, Option, Some}
 use Rattle.std.proofs.Common.{refl}
-use Rattle.papaya_runs.specs.Given.Tables.declared.node.Node.{Node}
-use Rattle.papaya_lowers.specs.Given.Raw.declared.machines.progress.Progress.{Progress}
+use Rattle.papaya_runs.specs.Given.TablesDeclared.node.Node.{Node}
+use Rattle.papaya_lowers.specs.Given.RawDeclared.machines.progress.Progress.{Progress}
 use Rattle.papaya_works.specs.Given.SchedulesDeclared.call.Call.{Call}
 use Rattle.papaya_works.specs.Given.SchedulesDeclared.call.Call.TheVariants.{On, Reserve, Clear, Retain, Len, Walk}
 use Rattle.papaya_works.specs.Given.SchedulesMoment.{UnderWay as CallThere, Moment}
 use Rattle.papaya_works.specs.Given.SchedulesViews.{call_of}
-use Rattle.papaya_lowers.specs.Given.Callers.Together.{UnderWay, OnKey, ForRoom, Counting, OverAll}
-use Rattle.papaya_lowers.specs.Given.Finishes.Machines.{machine_of}
+use Rattle.papaya_lowers.specs.Given.CallersTogether.{UnderWay, OnKey, ForRoom, Counting, OverAll}
+use Rattle.papaya_lowers.specs.Given.FinishesMachines.{machine_of}
 use Rattle.papaya_works.specs.Given.EffectsKnown.{Known}
 use Rattle.papaya_works.specs.Given.FollowsCalls.{IsCalled}
 use Rattle.papaya_works.specs.Given.MomentsWhole.{ShowsWhole}

@@ -2,28 +2,28 @@
 use Rattle.std.specs.Prelude.{List, [], Some}
 use Rattle.std.specs.List.{list_any}
 use Rattle.std.proofs.Common.{◌≡◌, ℕ, Bool, true, refl, ap, sym, subst, ◌∙◌}
-use Rattle.papaya_runs.specs.Given.SeizeWords.Mem.{Mem}
-use Rattle.papaya_runs.specs.Given.Tables.declared.node.Node.{Node}
-use Rattle.papaya_lowers.specs.Given.Resize.declared.outcome.Outcome.{Outcome}
-use Rattle.papaya_lowers.specs.Given.Resize.declared.outcome.Outcome.TheVariants as outcome
-use Rattle.papaya_lowers.specs.Given.Reserves.Reserve.{reserve_plan}
-use Rattle.papaya_lowers.specs.Given.Reserves.declared.reserve.Reserve.{Reserve}
-use Rattle.papaya_lowers.specs.Given.Sweeps.Sweep.{sweep_plan}
-use Rattle.papaya_lowers.specs.Given.Sweeps.declared.sweep.Sweep.{Sweep}
-use Rattle.papaya_lowers.specs.Given.Sweeps.declared.sweep.Swept.{Swept}
-use Rattle.papaya_lowers.specs.Given.Sweeps.declared.sweep.Swept.TheVariants as swept
-use Rattle.papaya_lowers.specs.Given.Raw.Call.{call_plan}
-use Rattle.papaya_lowers.specs.Given.Raw.Machine.{called as of_key, reserved as of_room, swept as of_sweep}
-use Rattle.papaya_lowers.specs.Given.Raw.Progress.{of_outcome, of_swept}
-use Rattle.papaya_lowers.specs.Given.Raw.declared.machines.answer.Called.{Called}
-use Rattle.papaya_lowers.specs.Given.Raw.declared.machines.answer.Called.TheVariants as says
-use Rattle.papaya_lowers.specs.Given.Raw.declared.machines.call.KeyCall.{KeyCall}
-use Rattle.papaya_lowers.specs.Given.Raw.declared.machines.machine.Machine.{Machine}
-use Rattle.papaya_lowers.specs.Given.Raw.declared.machines.progress.Progress.{Progress}
-use Rattle.papaya_lowers.specs.Given.Raw.declared.machines.progress.Progress.TheVariants as progress
-use Rattle.papaya_lowers.specs.Given.Callers.OverAll.{CallOverAll}
-use Rattle.papaya_lowers.specs.Given.Callers.Rooms.{CallForRoom}
-use Rattle.papaya_lowers.specs.Given.Callers.Together.{CallOnKey, UnderWay, OnKey, ForRoom, Counting, OverAll}
+use Rattle.papaya_runs.specs.Given.SeizeWordsMem.{Mem}
+use Rattle.papaya_runs.specs.Given.TablesDeclared.node.Node.{Node}
+use Rattle.papaya_lowers.specs.Given.ResizeDeclared.outcome.Outcome.{Outcome}
+use Rattle.papaya_lowers.specs.Given.ResizeDeclared.outcome.Outcome.TheVariants as outcome
+use Rattle.papaya_lowers.specs.Given.ReservesReserve.{reserve_plan}
+use Rattle.papaya_lowers.specs.Given.ReservesDeclared.reserve.Reserve.{Reserve}
+use Rattle.papaya_lowers.specs.Given.SweepsSweep.{sweep_plan}
+use Rattle.papaya_lowers.specs.Given.SweepsDeclared.sweep.Sweep.{Sweep}
+use Rattle.papaya_lowers.specs.Given.SweepsDeclared.sweep.Swept.{Swept}
+use Rattle.papaya_lowers.specs.Given.SweepsDeclared.sweep.Swept.TheVariants as swept
+use Rattle.papaya_lowers.specs.Given.RawCall.{call_plan}
+use Rattle.papaya_lowers.specs.Given.RawMachine.{called as of_key, reserved as of_room, swept as of_sweep}
+use Rattle.papaya_lowers.specs.Given.RawProgress.{of_outcome, of_swept}
+use Rattle.papaya_lowers.specs.Given.RawDeclared.machines.answer.Called.{Called}
+use Rattle.papaya_lowers.specs.Given.RawDeclared.machines.answer.Called.TheVariants as says
+use Rattle.papaya_lowers.specs.Given.RawDeclared.machines.call.KeyCall.{KeyCall}
+use Rattle.papaya_lowers.specs.Given.RawDeclared.machines.machine.Machine.{Machine}
+use Rattle.papaya_lowers.specs.Given.RawDeclared.machines.progress.Progress.{Progress}
+use Rattle.papaya_lowers.specs.Given.RawDeclared.machines.progress.Progress.TheVariants as progress
+use Rattle.papaya_lowers.specs.Given.CallersOverAll.{CallOverAll}
+use Rattle.papaya_lowers.specs.Given.CallersRooms.{CallForRoom}
+use Rattle.papaya_lowers.specs.Given.CallersTogether.{CallOnKey, UnderWay, OnKey, ForRoom, Counting, OverAll}
 use Rattle.papaya_works.specs.Given.SchedulesDeclared.effect.Effect.{Effect}
 use Rattle.papaya_works.specs.Given.SchedulesMoment.{UnderWay as CallThere, Moment}
 use Rattle.papaya_works.specs.Given.SchedulesTerms.{Terms}
@@ -33,8 +33,8 @@ use Rattle.papaya_works.specs.Given.EffectsEffects.{effects_of}
 use Rattle.papaya_works.specs.Given.EffectsKnown.{known}
 use Rattle.papaya_works.specs.Given.EffectsDeclared.acting.Acting.TheVariants as acts
 use Rattle.papaya_works.specs.Given.TellerDeclared.changed.Changed.{Changed}
-use Rattle.papaya_lowers.specs.Given.Finishes.Machines.{machine_of}
-use Rattle.papaya_lowers.specs.Given.Finishes.Maps.{Standing}
+use Rattle.papaya_lowers.specs.Given.FinishesMachines.{machine_of}
+use Rattle.papaya_lowers.specs.Given.FinishesMaps.{Standing}
 use Rattle.papaya_works.specs.Given.FollowsCalls.{IsCalled}
 use Rattle.papaya_works.proofs.Given.OthersOutcomes.{told_in}
 use Rattle.papaya_works.proofs.Given.OwesTables.Hosts.{Step}

@@ -1,18 +1,18 @@
 -- A pair of a map that stands in the root, while a table is linked behind that, is the one that the finite map has of its key, and may be being copied, as the moment tells.
 use Rattle.std.specs.Prelude.{Option, Some, None, nat_le}
 use Rattle.std.proofs.Common.{◌≡◌, ℕ, suc, ◌≤◌, ◌<◌, Bool, true, refl, ap, sym, ◌∙◌, arith}
-use Rattle.papaya_runs.specs.Given.Seize.World.{World}
-use Rattle.papaya_runs.specs.Given.Tables.declared.node.Node.{Node}
-use Rattle.papaya_lowers.specs.Given.Rule.Chart.{Chart, Copying, Holds}
-use Rattle.papaya_lowers.proofs.Given.Rule.Laws.{current_is_known}
-use Rattle.papaya_lowers.specs.Given.Points.Steps.{AreLawful}
-use Rattle.papaya_lowers.specs.Given.Callers.Together.{Together}
+use Rattle.papaya_runs.specs.Given.SeizeWorld.{World}
+use Rattle.papaya_runs.specs.Given.TablesDeclared.node.Node.{Node}
+use Rattle.papaya_lowers.specs.Given.RuleChart.{Chart, Copying, Holds}
+use Rattle.papaya_lowers.proofs.Given.RuleLaws.{current_is_known}
+use Rattle.papaya_lowers.specs.Given.PointsSteps.{AreLawful}
+use Rattle.papaya_lowers.specs.Given.CallersTogether.{Together}
 use Rattle.papaya_works.specs.Given.SchedulesMoment.{Moment}
 use Rattle.papaya_works.specs.Given.SchedulesTerms.{Terms}
 use Rattle.papaya_works.specs.Given.SchedulesViews.{finite_map, first_of}
 use Rattle.papaya_works.specs.Given.SchedulesWaiting.{is_to_be_copied}
 use Rattle.papaya_works.specs.Given.EffectsKnown.{known}
-use Rattle.papaya_lowers.specs.Given.Finishes.Maps.{Standing}
+use Rattle.papaya_lowers.specs.Given.FinishesMaps.{Standing}
 use Rattle.papaya_works.specs.Given.FollowsMaps.{ShowsPairs}
 use Rattle.papaya_works.specs.Given.HistoriesHad.{Had, HadJust}
 use Rattle.papaya_works.proofs.Given.HistoriesNow.{now_had}

@@ -2,43 +2,43 @@
 use Rattle.std.specs.Prelude.{◌*◌, ◌∷◌, is_some, Option, Some, None}
 use Rattle.std.specs.List.{list_any}
 use Rattle.std.proofs.Common.{◌≡◌, ◌≢◌, ℕ, suc, ◌<◌, ◌⊎◌, inl, inr, Bool, true, false, refl, ap, sym, subst, ◌∙◌, arith}
-use Rattle.papaya_lowers.specs.Given.Waits.Others.{EndsAt, copier_in, copier_in_room, copier_in_sweep, copier_of}
+use Rattle.papaya_lowers.specs.Given.WaitsOthers.{EndsAt, copier_in, copier_in_room, copier_in_sweep, copier_of}
 use Rattle.papaya_works.proofs.Given.WaitersStands.{copier_knows as knows_at_once}
-use Rattle.papaya_runs.specs.Given.SeizeWords.Word.{block_in}
-use Rattle.papaya_runs.specs.Given.Seize.World.{World, IsInside}
-use Rattle.papaya_lowers.proofs.Given.SeizeRule.Words.There.{live_pos}
-use Rattle.papaya_runs.specs.Given.Tables.Chunks.{is_incremental}
-use Rattle.papaya_runs.specs.Given.Tables.declared.node.Node.{Node}
-use Rattle.papaya_runs.specs.Given.Tables.declared.setting.Setting.{Setting}
-use Rattle.papaya_runs.specs.Given.Tables.declared.table.Table.{Table}
-use Rattle.papaya_lowers.specs.Given.Resize.declared.copier.Copier.{Copier}
-use Rattle.papaya_lowers.specs.Given.Resize.declared.copier.Copying.{Copying}
-use Rattle.papaya_lowers.specs.Given.Resize.declared.copier.Copying.TheVariants as copies
-use Rattle.papaya_lowers.specs.Given.Raw.declared.machines.call.Calling.{Calling}
-use Rattle.papaya_lowers.specs.Given.Raw.declared.machines.call.Calling.TheVariants as at
-use Rattle.papaya_lowers.specs.Given.Reserves.declared.reserve.Reserving.{Reserving}
-use Rattle.papaya_lowers.specs.Given.Reserves.declared.reserve.Reserving.TheVariants as reserves
-use Rattle.papaya_lowers.specs.Given.Sweeps.declared.sweep.Sweep.{Sweep}
-use Rattle.papaya_lowers.specs.Given.Sweeps.declared.sweep.Sweeping.{Sweeping}
-use Rattle.papaya_lowers.specs.Given.Sweeps.declared.sweep.Sweeping.TheVariants as sweeps
-use Rattle.papaya_lowers.specs.Given.Rule.Maps.{IsTable}
-use Rattle.papaya_lowers.specs.Given.Rule.Words.{Blocks}
-use Rattle.papaya_lowers.specs.Given.Points.FactsCalls.{CallFacts, CallingFacts, Unchanged}
-use Rattle.papaya_lowers.specs.Given.Points.FactsCopies.{CopierFacts, CopyingFacts}
-use Rattle.papaya_lowers.specs.Given.Points.FactsCopiesBlocking.{CopierFactsBlocking, CopyingFactsBlocking}
-use Rattle.papaya_lowers.specs.Given.Points.Steps.{AreLawful}
-use Rattle.papaya_lowers.specs.Given.Points.Told.{IsRowOfCall, IsRowOfCopier}
-use Rattle.papaya_lowers.specs.Given.Late.FactsReserves.{CopiesWhole, IsEnding, ReservingFacts}
-use Rattle.papaya_lowers.specs.Given.Late.FactsSweeps.{SweepingFacts}
-use Rattle.papaya_lowers.specs.Given.Late.Kinds.{LooksAt}
-use Rattle.papaya_lowers.specs.Given.Late.LateCalls.{LateCallFacts}
-use Rattle.papaya_lowers.specs.Given.Late.LateCopies.{LateCopierFacts, LateCopying}
-use Rattle.papaya_lowers.specs.Given.Late.ToldReserves.{IsRowOfReserve}
-use Rattle.papaya_lowers.specs.Given.Late.ToldSweeps.{IsRowOfSweep}
-use Rattle.papaya_lowers.specs.Given.Callers.Sights.{IsSight, seen_by}
-use Rattle.papaya_lowers.specs.Given.Callers.Together.{CallOnKey, UnderWay, UnlessCounts, OnKey, ForRoom, Counting, OverAll, Together, in_slot}
-use Rattle.papaya_lowers.proofs.Given.Waits.Awaited.{HasOther}
-use Rattle.papaya_lowers.proofs.Given.Waits.Claimed.{chosen}
+use Rattle.papaya_runs.specs.Given.SeizeWordsWord.{block_in}
+use Rattle.papaya_runs.specs.Given.SeizeWorld.{World, IsInside}
+use Rattle.papaya_lowers.proofs.Given.SeizeRuleWords.There.{live_pos}
+use Rattle.papaya_runs.specs.Given.TablesChunks.{is_incremental}
+use Rattle.papaya_runs.specs.Given.TablesDeclared.node.Node.{Node}
+use Rattle.papaya_runs.specs.Given.TablesDeclared.setting.Setting.{Setting}
+use Rattle.papaya_runs.specs.Given.TablesDeclared.table.Table.{Table}
+use Rattle.papaya_lowers.specs.Given.ResizeDeclared.copier.Copier.{Copier}
+use Rattle.papaya_lowers.specs.Given.ResizeDeclared.copier.Copying.{Copying}
+use Rattle.papaya_lowers.specs.Given.ResizeDeclared.copier.Copying.TheVariants as copies
+use Rattle.papaya_lowers.specs.Given.RawDeclared.machines.call.Calling.{Calling}
+use Rattle.papaya_lowers.specs.Given.RawDeclared.machines.call.Calling.TheVariants as at
+use Rattle.papaya_lowers.specs.Given.ReservesDeclared.reserve.Reserving.{Reserving}
+use Rattle.papaya_lowers.specs.Given.ReservesDeclared.reserve.Reserving.TheVariants as reserves
+use Rattle.papaya_lowers.specs.Given.SweepsDeclared.sweep.Sweep.{Sweep}
+use Rattle.papaya_lowers.specs.Given.SweepsDeclared.sweep.Sweeping.{Sweeping}
+use Rattle.papaya_lowers.specs.Given.SweepsDeclared.sweep.Sweeping.TheVariants as sweeps
+use Rattle.papaya_lowers.specs.Given.RuleMaps.{IsTable}
+use Rattle.papaya_lowers.specs.Given.RuleWords.{Blocks}
+use Rattle.papaya_lowers.specs.Given.PointsFactsCalls.{CallFacts, CallingFacts, Unchanged}
+use Rattle.papaya_lowers.specs.Given.PointsFactsCopies.{CopierFacts, CopyingFacts}
+use Rattle.papaya_lowers.specs.Given.PointsFactsCopiesBlocking.{CopierFactsBlocking, CopyingFactsBlocking}
+use Rattle.papaya_lowers.specs.Given.PointsSteps.{AreLawful}
+use Rattle.papaya_lowers.specs.Given.PointsTold.{IsRowOfCall, IsRowOfCopier}
+use Rattle.papaya_lowers.specs.Given.LateFactsReserves.{CopiesWhole, IsEnding, ReservingFacts}
+use Rattle.papaya_lowers.specs.Given.LateFactsSweeps.{SweepingFacts}
+use Rattle.papaya_lowers.specs.Given.LateKinds.{LooksAt}
+use Rattle.papaya_lowers.specs.Given.LateLateCalls.{LateCallFacts}
+use Rattle.papaya_lowers.specs.Given.LateLateCopies.{LateCopierFacts, LateCopying}
+use Rattle.papaya_lowers.specs.Given.LateToldReserves.{IsRowOfReserve}
+use Rattle.papaya_lowers.specs.Given.LateToldSweeps.{IsRowOfSweep}
+use Rattle.papaya_lowers.specs.Given.CallersSights.{IsSight, seen_by}
+use Rattle.papaya_lowers.specs.Given.CallersTogether.{CallOnKey, UnderWay, UnlessCounts, OnKey, ForRoom, Counting, OverAll, Together, in_slot}
+use Rattle.papaya_lowers.proofs.Given.WaitsAwaited.{HasOther}
+use Rattle.papaya_lowers.proofs.Given.WaitsClaimed.{chosen}
 use Rattle.papaya_works.specs.Given.SchedulesMoment.{UnderWay as CallThere, Moment}
 use Rattle.papaya_works.specs.Given.SchedulesTerms.{Terms}
 use Rattle.papaya_works.specs.Given.SchedulesViews.{call_of}
@@ -46,8 +46,8 @@ use Rattle.papaya_works.specs.Given.SchedulesWaiting.{may_wait_for}
 use Rattle.papaya_works.specs.Given.EffectsKnown.{Known, known}
 use Rattle.papaya_works.specs.Given.EffectsDeclared.role.Role.{Role}
 use Rattle.papaya_works.specs.Given.EffectsDeclared.role.Role.TheVariants as role
-use Rattle.papaya_lowers.specs.Given.Finishes.Machines.{machine_of}
-use Rattle.papaya_lowers.specs.Given.Finishes.Maps.{Standing}
+use Rattle.papaya_lowers.specs.Given.FinishesMachines.{machine_of}
+use Rattle.papaya_lowers.specs.Given.FinishesMaps.{Standing}
 use Rattle.papaya_works.specs.Given.FollowsBlocks.{HasRole}
 use Rattle.papaya_works.specs.Given.FollowsCalls.{IsCalled}
 use Rattle.papaya_works.specs.Given.FollowsMaps.{table_of}
@@ -59,7 +59,7 @@ use Rattle.papaya_works.specs.Given.SchedulerPlayed.{StandsFor}
 use Rattle.papaya_works.specs.Given.SchedulerDeclared.scheduler.Scheduler.{Scheduler}
 use Rattle.papaya_stepping.proofs.StepSays.{the}
 use Rattle.papaya_stepping.proofs.Waiting.{IsForResizes, owing_hands, waits_for_copier, waits_for_handing}
-use Rattle.papaya_lowers.proofs.Given.Waits.Works.{OnlyLooks, works}
+use Rattle.papaya_lowers.proofs.Given.WaitsWorks.{OnlyLooks, works}
 use Rattle.papaya_works.specs.Given.ScenesScene.{slot_of}
 
 -- the row of a call that copies is its copier's

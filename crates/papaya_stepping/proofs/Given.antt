@@ -77,11 +77,11 @@ pub use Rattle.papaya_works.proofs.Given.LoggedMakingSteps
 pub use Rattle.papaya_works.proofs.Given.LoggedMakingsRun
 pub use Rattle.papaya_works.proofs.Given.LoggedReclaiming
 pub use Rattle.papaya_works.proofs.Given.LoggedReclaimsRun
-pub use Rattle.papaya_runs.proofs.Given.SeizeWords.Places as SeizeWordsPlaces
-pub use Rattle.papaya_lowers.proofs.Given.SeizeMoves.State as SeizeMovesState
-pub use Rattle.papaya_lowers.proofs.Given.SeizeRule.Rows as SeizeRuleRows
-pub use Rattle.papaya_lowers.proofs.Given.SeizeRule.World as SeizeRuleWorld
-pub use Rattle.papaya_lowers.proofs.Given.Callers.Together as CallersTogether
+pub use Rattle.papaya_runs.proofs.Given.SeizeWordsPlaces as SeizeWordsPlaces
+pub use Rattle.papaya_lowers.proofs.Given.SeizeMovesState as SeizeMovesState
+pub use Rattle.papaya_lowers.proofs.Given.SeizeRuleRows as SeizeRuleRows
+pub use Rattle.papaya_lowers.proofs.Given.SeizeRuleWorld as SeizeRuleWorld
+pub use Rattle.papaya_lowers.proofs.Given.CallersTogether as CallersTogether
 pub use Rattle.papaya_works.proofs.Given.RemainsInOrder
 pub use Rattle.papaya_works.proofs.Given.RemainsLeads
 pub use Rattle.papaya_works.proofs.Given.RemainsLists
@@ -94,11 +94,11 @@ pub use Rattle.papaya_works.proofs.Given.MappingMapsEnded
 pub use Rattle.papaya_works.proofs.Given.MappingMapsMade
 pub use Rattle.papaya_works.proofs.Given.FoldedLogs
 pub use Rattle.papaya_works.proofs.Given.FoldedSteps
-pub use Rattle.papaya_lowers.proofs.Given.Rule.Laws as RuleLaws
+pub use Rattle.papaya_lowers.proofs.Given.RuleLaws as RuleLaws
 pub use Rattle.papaya_works.proofs.Given.ExecutorFresh
 pub use Rattle.papaya_works.proofs.Given.ExecutorRowLeads
-pub use Rattle.papaya_lowers.proofs.Given.Points.Calls as PointsCalls
-pub use Rattle.papaya_lowers.proofs.Given.Points.Making as PointsMaking
+pub use Rattle.papaya_lowers.proofs.Given.PointsCalls as PointsCalls
+pub use Rattle.papaya_lowers.proofs.Given.PointsMaking as PointsMaking
 pub use Rattle.papaya_works.proofs.Given.HistoriesAnyCall
 pub use Rattle.papaya_works.proofs.Given.HistoriesAside
 pub use Rattle.papaya_works.proofs.Given.HistoriesAsking
@@ -134,7 +134,7 @@ pub use Rattle.papaya_works.proofs.Given.FindsSteps
 pub use Rattle.papaya_works.proofs.Given.FindsTables
 pub use Rattle.papaya_works.proofs.Given.FindsWaits
 pub use Rattle.papaya_runs.proofs.Sames as RunsSames
-pub use Rattle.papaya_runs.proofs.Given.Tables.Logarithms as TablesLogarithms
+pub use Rattle.papaya_runs.proofs.Given.TablesLogarithms as TablesLogarithms
 pub use Rattle.papaya_works.proofs.Given.GrowsFinding
 pub use Rattle.papaya_works.proofs.Given.GrowsLimits
 pub use Rattle.papaya_works.proofs.Given.GrowsTries
@@ -157,15 +157,15 @@ pub use Rattle.papaya_works.proofs.Given.PurposesSwept
 pub use Rattle.papaya_works.proofs.Given.PurposesTold
 pub use Rattle.papaya_works.proofs.Given.PurposesWalkWords
 pub use Rattle.papaya_works.proofs.Given.PurposesWalks
-pub use Rattle.papaya_lowers.proofs.Given.Finishes.Among as FinishesAmong
-pub use Rattle.papaya_lowers.proofs.Given.SeizeWaiting.Flushes as SeizeWaitingFlushes
-pub use Rattle.papaya_lowers.proofs.Given.SeizeEnds.Batches as SeizeEndsBatches
-pub use Rattle.papaya_lowers.proofs.Given.SeizeActs.Answers as SeizeActsAnswers
+pub use Rattle.papaya_lowers.proofs.Given.FinishesAmong as FinishesAmong
+pub use Rattle.papaya_lowers.proofs.Given.SeizeWaitingFlushes as SeizeWaitingFlushes
+pub use Rattle.papaya_lowers.proofs.Given.SeizeEndsBatches as SeizeEndsBatches
+pub use Rattle.papaya_lowers.proofs.Given.SeizeActsAnswers as SeizeActsAnswers
 pub use Rattle.papaya_works.proofs.Given.KeptBetween
 pub use Rattle.papaya_works.proofs.Given.KeptCalls
 pub use Rattle.papaya_works.proofs.Given.KeptOthers
 pub use Rattle.papaya_works.proofs.Given.KeptStays
-pub use Rattle.papaya_lowers.proofs.Given.SeizeAlone.Histories as SeizeAloneHistories
+pub use Rattle.papaya_lowers.proofs.Given.SeizeAloneHistories as SeizeAloneHistories
 pub use Rattle.papaya_works.proofs.Given.SettlesBetween
 pub use Rattle.papaya_works.proofs.Given.SettlesCalls
 pub use Rattle.papaya_works.proofs.Given.SettlesHand
@@ -189,4 +189,4 @@ pub use Rattle.papaya_works.proofs.Given.OwesReady
 pub use Rattle.papaya_works.proofs.Given.OwesShort
 pub use Rattle.papaya_works.proofs.Given.OwesTables
 pub use Rattle.papaya_works.proofs.Given.SourcesSteps
-pub use Rattle.papaya_lowers.proofs.Given.Late.KindsKept as LateKindsKept
+pub use Rattle.papaya_lowers.proofs.Given.LateKindsKept as LateKindsKept

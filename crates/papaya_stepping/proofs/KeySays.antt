@@ -1,18 +1,18 @@
 -- What a call on one key comes to by a step, by what it was called for: which calls ask, and for what each is refused.
 use Rattle.std.specs.Prelude.{◌≡◌, ℕ, true, List, Option}
 use Rattle.std.proofs.Common.{◌⊎◌, refl, inl, inr}
-use Rattle.papaya_runs.specs.Given.SeizeWords.declared.fault.Fault.{Fault}
-use Rattle.papaya_runs.specs.Given.SeizeWords.declared.fault.Fault.TheVariants.{Capacity, Memory, RemoveNothing}
-use Rattle.papaya_lowers.specs.Given.Raw.declared.machines.asking.Asking.{Asking}
-use Rattle.papaya_lowers.specs.Given.Raw.declared.machines.asking.Asking.TheVariants as asking
+use Rattle.papaya_runs.specs.Given.SeizeWordsDeclared.fault.Fault.{Fault}
+use Rattle.papaya_runs.specs.Given.SeizeWordsDeclared.fault.Fault.TheVariants.{Capacity, Memory, RemoveNothing}
+use Rattle.papaya_lowers.specs.Given.RawDeclared.machines.asking.Asking.{Asking}
+use Rattle.papaya_lowers.specs.Given.RawDeclared.machines.asking.Asking.TheVariants as asking
 use Rattle.papaya_works.specs.Given.SchedulesDeclared.call.Call.TheVariants.{On}
 use Rattle.papaya_works.specs.Given.SchedulesComing.{asks_of_key, is_compute}
 use Rattle.papaya_works.specs.Given.SchedulesDeclared.call.OneKey.{OneKey}
 use Rattle.papaya_works.specs.Given.SchedulesDeclared.call.OneKey.TheVariants.{Get, GetKeyValue, ContainsKey, Insert, TryInsert, TryInsertWith, GetOrInsert, GetOrInsertWith, Update, UpdateOrInsert, UpdateOrInsertWith, Compute, Remove, RemoveEntry, RemoveIf}
-use Rattle.papaya_lowers.specs.Given.Late.Faults.{IsRoom}
-use Rattle.papaya_lowers.specs.Given.Late.Kinds.{FaultFits, FitsAsking}
-use Rattle.papaya_lowers.specs.Given.Callers.Asked.{Asked}
-use Rattle.papaya_lowers.specs.Given.Callers.Pairs.{kind_of}
+use Rattle.papaya_lowers.specs.Given.LateFaults.{IsRoom}
+use Rattle.papaya_lowers.specs.Given.LateKinds.{FaultFits, FitsAsking}
+use Rattle.papaya_lowers.specs.Given.CallersAsked.{Asked}
+use Rattle.papaya_lowers.specs.Given.CallersPairs.{kind_of}
 use Rattle.papaya_works.specs.Given.EffectsKnown.{Known}
 use Rattle.papaya_works.specs.Given.HandsAsked.{IsQuestion, given_by}
 use Rattle.papaya_stepping.specs.Stepping.{IsFaultOn}

@@ -1,34 +1,34 @@
 -- A call that only looks does not wait: a lookup goes on or is over, and so does a counting.
 use Rattle.std.specs.Prelude.{◌≡◌, ℕ, Bool}
 use Rattle.std.proofs.Common.{refl, sym, ap, ◌∙◌}
-use Rattle.papaya_runs.specs.Given.SeizeWords.Mem.{Mem, Took, value_at}
-use Rattle.papaya_runs.specs.Given.SeizeWords.Plan.{Steps, plan_as}
-use Rattle.papaya_runs.specs.Given.Seize.declared.progress.Progress.{Progress as Counted}
-use Rattle.papaya_runs.specs.Given.Seize.declared.progress.Progress.TheVariants as counts
-use Rattle.papaya_lowers.proofs.Given.SeizeRule.Rows.Leaving.{steps_back}
-use Rattle.papaya_runs.specs.Given.Tables.declared.node.Node.{Node}
-use Rattle.papaya_lowers.specs.Given.Resize.Sum.{sum_plan}
-use Rattle.papaya_lowers.specs.Given.Resize.declared.sum.Sum.{Sum}
-use Rattle.papaya_lowers.specs.Given.Raw.Answers.{ended}
-use Rattle.papaya_lowers.specs.Given.Raw.Call.{call_plan, plan_at}
-use Rattle.papaya_lowers.specs.Given.Raw.Machine.{called, counted}
-use Rattle.papaya_lowers.specs.Given.Raw.Progress.{of_called, of_counting}
-use Rattle.papaya_lowers.specs.Given.Raw.declared.machines.answer.Called.{Called}
-use Rattle.papaya_lowers.specs.Given.Raw.declared.machines.answer.Called.TheVariants as says
-use Rattle.papaya_lowers.specs.Given.Raw.declared.machines.answer.End.{End}
-use Rattle.papaya_lowers.specs.Given.Raw.declared.machines.answer.End.TheVariants as ends
-use Rattle.papaya_lowers.specs.Given.Raw.declared.machines.call.Calling.{Calling}
-use Rattle.papaya_lowers.specs.Given.Raw.declared.machines.call.Calling.TheVariants as at
-use Rattle.papaya_lowers.specs.Given.Raw.declared.machines.call.KeyCall.{KeyCall}
-use Rattle.papaya_lowers.specs.Given.Raw.declared.machines.machine.Machine.{Machine}
-use Rattle.papaya_lowers.specs.Given.Raw.declared.machines.machine.Machine.TheVariants as kinds
-use Rattle.papaya_lowers.specs.Given.Raw.declared.machines.progress.Progress.{Progress}
-use Rattle.papaya_lowers.specs.Given.Raw.declared.machines.progress.Progress.TheVariants as progress
-use Rattle.papaya_lowers.proofs.Given.Rule.Keys.Always.{always_steps}
-use Rattle.papaya_lowers.specs.Given.Late.Kinds.{LooksAt}
+use Rattle.papaya_runs.specs.Given.SeizeWordsMem.{Mem, Took, value_at}
+use Rattle.papaya_runs.specs.Given.SeizeWordsPlan.{Steps, plan_as}
+use Rattle.papaya_runs.specs.Given.SeizeDeclared.progress.Progress.{Progress as Counted}
+use Rattle.papaya_runs.specs.Given.SeizeDeclared.progress.Progress.TheVariants as counts
+use Rattle.papaya_lowers.proofs.Given.SeizeRuleRows.Leaving.{steps_back}
+use Rattle.papaya_runs.specs.Given.TablesDeclared.node.Node.{Node}
+use Rattle.papaya_lowers.specs.Given.ResizeSum.{sum_plan}
+use Rattle.papaya_lowers.specs.Given.ResizeDeclared.sum.Sum.{Sum}
+use Rattle.papaya_lowers.specs.Given.RawAnswers.{ended}
+use Rattle.papaya_lowers.specs.Given.RawCall.{call_plan, plan_at}
+use Rattle.papaya_lowers.specs.Given.RawMachine.{called, counted}
+use Rattle.papaya_lowers.specs.Given.RawProgress.{of_called, of_counting}
+use Rattle.papaya_lowers.specs.Given.RawDeclared.machines.answer.Called.{Called}
+use Rattle.papaya_lowers.specs.Given.RawDeclared.machines.answer.Called.TheVariants as says
+use Rattle.papaya_lowers.specs.Given.RawDeclared.machines.answer.End.{End}
+use Rattle.papaya_lowers.specs.Given.RawDeclared.machines.answer.End.TheVariants as ends
+use Rattle.papaya_lowers.specs.Given.RawDeclared.machines.call.Calling.{Calling}
+use Rattle.papaya_lowers.specs.Given.RawDeclared.machines.call.Calling.TheVariants as at
+use Rattle.papaya_lowers.specs.Given.RawDeclared.machines.call.KeyCall.{KeyCall}
+use Rattle.papaya_lowers.specs.Given.RawDeclared.machines.machine.Machine.{Machine}
+use Rattle.papaya_lowers.specs.Given.RawDeclared.machines.machine.Machine.TheVariants as kinds
+use Rattle.papaya_lowers.specs.Given.RawDeclared.machines.progress.Progress.{Progress}
+use Rattle.papaya_lowers.specs.Given.RawDeclared.machines.progress.Progress.TheVariants as progress
+use Rattle.papaya_lowers.proofs.Given.RuleKeys.Always.{always_steps}
+use Rattle.papaya_lowers.specs.Given.LateKinds.{LooksAt}
 use Rattle.papaya_works.specs.Given.TellerDeclared.changed.Changed.TheVariants.{Nothing}
-use Rattle.papaya_lowers.proofs.Given.Waits.Laws.{lookups_never_wait}
-use Rattle.papaya_lowers.proofs.Given.Waits.Never.{Advances, sum_goes}
+use Rattle.papaya_lowers.proofs.Given.WaitsLaws.{lookups_never_wait}
+use Rattle.papaya_lowers.proofs.Given.WaitsNever.{Advances, sum_goes}
 use Rattle.papaya_works.specs.Given.OwesLooking.{IsLooking}
 use Rattle.papaya_works.proofs.Given.ScenesTold.{as_step}
 use Rattle.papaya_works.specs.Given.ScenesHeld.{Held}

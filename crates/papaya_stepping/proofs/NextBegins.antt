@@ -3,21 +3,21 @@ use Rattle.std.specs.Prelude.{◌≡◌, ◌≢◌, ◌⊎◌, ◌==◌, ◌&&�
 use Rattle.std.specs.List.{AllByRecursion, list_any}
 use Rattle.std.proofs.Common.{refl, sym, ap, subst, ◌∙◌, inl, inr, arith}
 use Rattle.std.proofs.lemmas.Bool.{cases_eq}
-use Rattle.papaya_lowers.specs.Given.Sweeps.SweepPoints.{next_at}
-use Rattle.papaya_lowers.specs.Given.Sweeps.declared.sweep.Purpose.{Purpose}
-use Rattle.papaya_lowers.specs.Given.Sweeps.declared.sweep.Purpose.TheVariants.{Walks}
-use Rattle.papaya_lowers.specs.Given.Sweeps.declared.sweep.Sweep.{Sweep}
-use Rattle.papaya_lowers.specs.Given.Sweeps.declared.sweep.Sweeping.{Sweeping}
-use Rattle.papaya_lowers.specs.Given.Sweeps.declared.sweep.Sweeping.TheVariants as at
-use Rattle.papaya_lowers.specs.Given.Raw.Machine.{is_ready as sweep_is_ready, machine_asked}
-use Rattle.papaya_lowers.specs.Given.Raw.declared.machines.machine.Machine.TheVariants as kinds
+use Rattle.papaya_lowers.specs.Given.SweepsSweepPoints.{next_at}
+use Rattle.papaya_lowers.specs.Given.SweepsDeclared.sweep.Purpose.{Purpose}
+use Rattle.papaya_lowers.specs.Given.SweepsDeclared.sweep.Purpose.TheVariants.{Walks}
+use Rattle.papaya_lowers.specs.Given.SweepsDeclared.sweep.Sweep.{Sweep}
+use Rattle.papaya_lowers.specs.Given.SweepsDeclared.sweep.Sweeping.{Sweeping}
+use Rattle.papaya_lowers.specs.Given.SweepsDeclared.sweep.Sweeping.TheVariants as at
+use Rattle.papaya_lowers.specs.Given.RawMachine.{is_ready as sweep_is_ready, machine_asked}
+use Rattle.papaya_lowers.specs.Given.RawDeclared.machines.machine.Machine.TheVariants as kinds
 use Rattle.papaya_runs.specs.Same.{is_same}
 use Rattle.papaya_works.specs.Given.SchedulesMoment.{Moment}
 use Rattle.papaya_works.specs.Given.SchedulesTerms.{Terms}
-use Rattle.papaya_lowers.specs.Given.Callers.Together.{UnderWay, OnKey, ForRoom, Counting, OverAll}
-use Rattle.papaya_lowers.proofs.Given.Callers.Together.At.{at_other, at_same}
-use Rattle.papaya_lowers.specs.Given.Finishes.Machines.{machine_of}
-use Rattle.papaya_lowers.specs.Given.Finishes.Maps.{Standing}
+use Rattle.papaya_lowers.specs.Given.CallersTogether.{UnderWay, OnKey, ForRoom, Counting, OverAll}
+use Rattle.papaya_lowers.proofs.Given.CallersTogether.At.{at_other, at_same}
+use Rattle.papaya_lowers.specs.Given.FinishesMachines.{machine_of}
+use Rattle.papaya_lowers.specs.Given.FinishesMaps.{Standing}
 use Rattle.papaya_works.proofs.Given.FollowsCalling.{is_same_refl}
 use Rattle.papaya_works.specs.Given.LoggedCalling.{WalkGoesOn}
 use Rattle.papaya_works.specs.Given.LoggedShown.{IsShown}

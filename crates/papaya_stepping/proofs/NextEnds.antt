@@ -2,15 +2,15 @@
 use Rattle.std.specs.Prelude.{◌≡◌, ◌+◌, ◌≤◌, ◌&&◌, ℕ, Bool, true, false, List, [], ◌++◌, find, map, position, slice_get, slice_set, sum_by, Option, Some, None, option_map}
 use Rattle.std.specs.List.{remove}
 use Rattle.std.proofs.Common.{refl, sym, ap, subst, ◌∙◌, arith}
-use Rattle.papaya_runs.specs.Given.SeizeWords.declared.fault.Fault.TheVariants.{Busy}
-use Rattle.papaya_runs.specs.Given.Tables.declared.node.Node.{Node}
-use Rattle.papaya_lowers.specs.Given.Sweeps.declared.sweep.Sweep.{Sweep}
-use Rattle.papaya_lowers.specs.Given.Sweeps.declared.sweep.Sweeping.{Sweeping}
-use Rattle.papaya_lowers.specs.Given.Raw.declared.machines.machine.Machine.{Machine}
-use Rattle.papaya_lowers.specs.Given.Raw.declared.machines.machine.Machine.TheVariants as kinds
-use Rattle.papaya_lowers.specs.Given.Raw.declared.machines.progress.Answer.TheVariants as answers
-use Rattle.papaya_lowers.specs.Given.Raw.declared.machines.progress.Progress.{Progress}
-use Rattle.papaya_lowers.specs.Given.Raw.declared.machines.progress.Progress.TheVariants as progress
+use Rattle.papaya_runs.specs.Given.SeizeWordsDeclared.fault.Fault.TheVariants.{Busy}
+use Rattle.papaya_runs.specs.Given.TablesDeclared.node.Node.{Node}
+use Rattle.papaya_lowers.specs.Given.SweepsDeclared.sweep.Sweep.{Sweep}
+use Rattle.papaya_lowers.specs.Given.SweepsDeclared.sweep.Sweeping.{Sweeping}
+use Rattle.papaya_lowers.specs.Given.RawDeclared.machines.machine.Machine.{Machine}
+use Rattle.papaya_lowers.specs.Given.RawDeclared.machines.machine.Machine.TheVariants as kinds
+use Rattle.papaya_lowers.specs.Given.RawDeclared.machines.progress.Answer.TheVariants as answers
+use Rattle.papaya_lowers.specs.Given.RawDeclared.machines.progress.Progress.{Progress}
+use Rattle.papaya_lowers.specs.Given.RawDeclared.machines.progress.Progress.TheVariants as progress
 use Rattle.papaya_runs.specs.Same.{is_same}
 use Rattle.papaya_works.specs.Given.SchedulesDeclared.call.Answer.TheVariants.{Absent}
 use Rattle.papaya_works.specs.Given.SchedulesDeclared.effect.Effect.{Effect}
@@ -26,10 +26,10 @@ use Rattle.papaya_works.specs.Given.SchedulesMoment.{Stands, UnderWay as CallThe
 use Rattle.papaya_works.specs.Given.SchedulesSteps.{MakesSteps, stands_or, weight}
 use Rattle.papaya_works.specs.Given.SchedulesTerms.{Terms}
 use Rattle.papaya_works.specs.Given.SchedulesViews.{call_of}
-use Rattle.papaya_lowers.specs.Given.Late.Faults.{RoomInSweeping}
-use Rattle.papaya_lowers.specs.Given.Callers.Together.{UnderWay}
+use Rattle.papaya_lowers.specs.Given.LateFaults.{RoomInSweeping}
+use Rattle.papaya_lowers.specs.Given.CallersTogether.{UnderWay}
 use Rattle.papaya_works.specs.Given.EffectsKnown.{Known, known}
-use Rattle.papaya_lowers.specs.Given.Finishes.Machines.{machine_of}
+use Rattle.papaya_lowers.specs.Given.FinishesMachines.{machine_of}
 use Rattle.papaya_works.specs.Given.FollowsCalling.{come_to}
 use Rattle.papaya_works.specs.Given.LoggedCalling.{CallGoesOn, WalkGoesOn, step_did}
 use Rattle.papaya_works.specs.Given.LoggedShown.{IsShown}

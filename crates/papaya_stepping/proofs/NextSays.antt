@@ -1,27 +1,27 @@
 -- What a step of a walk says that was asked for its next pair: it goes on to the next place, shows a pair, or has shown all; and it changes nothing.
 use Rattle.std.specs.Prelude.{◌≡◌, ◌<◌, ◌≤◌, ◌^◌, ◌==◌, ◌&&◌, ℕ, nat_lt, Bool, true, false, if◌then◌else◌}
 use Rattle.std.proofs.Common.{refl, sym, ap, subst, arith}
-use Rattle.papaya_runs.specs.Given.SeizeWords.Mem.{Mem, Gives, value_at}
-use Rattle.papaya_runs.specs.Given.SeizeWords.Op.{Out, Load, Found, Stored, Exchanged, Made, Taken, Roomed}
-use Rattle.papaya_runs.specs.Given.SeizeWords.Plan.{Ends, plan_as, then_as}
-use Rattle.papaya_runs.specs.Given.SeizeWords.Word.{block_in}
-use Rattle.papaya_runs.specs.Given.Tables.Marks.{has_mark}
-use Rattle.papaya_runs.specs.Given.Tables.TablePlaces.{at_place}
-use Rattle.papaya_runs.specs.Given.Tables.declared.marks.TheConstants.{COPYING}
-use Rattle.papaya_runs.specs.Given.Tables.declared.node.Node.{Node}
-use Rattle.papaya_lowers.specs.Given.Sweeps.Sweep.{plan_at, word_found}
-use Rattle.papaya_lowers.specs.Given.Sweeps.SweepPoints.{at_pair, further, past, removes, seen, standing, telling}
-use Rattle.papaya_lowers.specs.Given.Sweeps.declared.sweep.Purpose.{Purpose}
-use Rattle.papaya_lowers.specs.Given.Sweeps.declared.sweep.Purpose.TheVariants.{Walks}
-use Rattle.papaya_lowers.specs.Given.Sweeps.declared.sweep.Sweep.{Sweep}
-use Rattle.papaya_lowers.specs.Given.Sweeps.declared.sweep.Sweeping.{Sweeping}
-use Rattle.papaya_lowers.specs.Given.Sweeps.declared.sweep.Sweeping.TheVariants as at
-use Rattle.papaya_lowers.specs.Given.Raw.Machine.{swept}
-use Rattle.papaya_lowers.specs.Given.Raw.declared.machines.machine.Machine.{Machine}
-use Rattle.papaya_lowers.specs.Given.Raw.declared.machines.machine.Machine.TheVariants as kinds
-use Rattle.papaya_lowers.specs.Given.Raw.declared.machines.progress.Answer.TheVariants as answers
-use Rattle.papaya_lowers.specs.Given.Raw.declared.machines.progress.Progress.{Progress}
-use Rattle.papaya_lowers.specs.Given.Raw.declared.machines.progress.Progress.TheVariants as progress
+use Rattle.papaya_runs.specs.Given.SeizeWordsMem.{Mem, Gives, value_at}
+use Rattle.papaya_runs.specs.Given.SeizeWordsOp.{Out, Load, Found, Stored, Exchanged, Made, Taken, Roomed}
+use Rattle.papaya_runs.specs.Given.SeizeWordsPlan.{Ends, plan_as, then_as}
+use Rattle.papaya_runs.specs.Given.SeizeWordsWord.{block_in}
+use Rattle.papaya_runs.specs.Given.TablesMarks.{has_mark}
+use Rattle.papaya_runs.specs.Given.TablesTablePlaces.{at_place}
+use Rattle.papaya_runs.specs.Given.TablesDeclared.marks.TheConstants.{COPYING}
+use Rattle.papaya_runs.specs.Given.TablesDeclared.node.Node.{Node}
+use Rattle.papaya_lowers.specs.Given.SweepsSweep.{plan_at, word_found}
+use Rattle.papaya_lowers.specs.Given.SweepsSweepPoints.{at_pair, further, past, removes, seen, standing, telling}
+use Rattle.papaya_lowers.specs.Given.SweepsDeclared.sweep.Purpose.{Purpose}
+use Rattle.papaya_lowers.specs.Given.SweepsDeclared.sweep.Purpose.TheVariants.{Walks}
+use Rattle.papaya_lowers.specs.Given.SweepsDeclared.sweep.Sweep.{Sweep}
+use Rattle.papaya_lowers.specs.Given.SweepsDeclared.sweep.Sweeping.{Sweeping}
+use Rattle.papaya_lowers.specs.Given.SweepsDeclared.sweep.Sweeping.TheVariants as at
+use Rattle.papaya_lowers.specs.Given.RawMachine.{swept}
+use Rattle.papaya_lowers.specs.Given.RawDeclared.machines.machine.Machine.{Machine}
+use Rattle.papaya_lowers.specs.Given.RawDeclared.machines.machine.Machine.TheVariants as kinds
+use Rattle.papaya_lowers.specs.Given.RawDeclared.machines.progress.Answer.TheVariants as answers
+use Rattle.papaya_lowers.specs.Given.RawDeclared.machines.progress.Progress.{Progress}
+use Rattle.papaya_lowers.specs.Given.RawDeclared.machines.progress.Progress.TheVariants as progress
 use Rattle.papaya_works.specs.Given.TellerTells.{StepsTold}
 use Rattle.papaya_works.specs.Given.TellerDeclared.changed.Changed.TheVariants.{Nothing}
 use Rattle.papaya_works.specs.Given.ScenesHeld.{Held}

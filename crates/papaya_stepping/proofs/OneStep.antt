@@ -2,12 +2,12 @@
 use Rattle.std.specs.Prelude.{◌≡◌, ◌⊎◌, ◌+◌, ℕ, Bool, true, false, List, [], filter, find, map, not, position, slice_get, slice_set, Option, Some, None, if◌then◌else◌}
 use Rattle.std.specs.List.{list_any, remove}
 use Rattle.std.proofs.Common.{refl, sym, ap, subst, ◌∙◌, inl, inr}
-use Rattle.papaya_runs.specs.Given.SeizeWords.declared.fault.Fault.{Fault}
-use Rattle.papaya_runs.specs.Given.SeizeWords.declared.fault.Fault.TheVariants.{Busy, Memory}
-use Rattle.papaya_runs.specs.Given.Tables.declared.node.Node.{Node}
-use Rattle.papaya_lowers.specs.Given.Raw.declared.machines.machine.Machine.{Machine}
-use Rattle.papaya_lowers.specs.Given.Raw.declared.machines.progress.Progress.{Progress}
-use Rattle.papaya_lowers.specs.Given.Raw.declared.machines.progress.Progress.TheVariants as progress
+use Rattle.papaya_runs.specs.Given.SeizeWordsDeclared.fault.Fault.{Fault}
+use Rattle.papaya_runs.specs.Given.SeizeWordsDeclared.fault.Fault.TheVariants.{Busy, Memory}
+use Rattle.papaya_runs.specs.Given.TablesDeclared.node.Node.{Node}
+use Rattle.papaya_lowers.specs.Given.RawDeclared.machines.machine.Machine.{Machine}
+use Rattle.papaya_lowers.specs.Given.RawDeclared.machines.progress.Progress.{Progress}
+use Rattle.papaya_lowers.specs.Given.RawDeclared.machines.progress.Progress.TheVariants as progress
 use Rattle.papaya_runs.specs.Same.{is_same}
 use Rattle.papaya_works.specs.Given.SchedulesDeclared.call.Call.{Call}
 use Rattle.papaya_works.specs.Given.SchedulesDeclared.call.Call.TheVariants.{On}
@@ -22,8 +22,8 @@ use Rattle.papaya_works.specs.Given.SchedulesMoment.{Stands, Going, Asking, Told
 use Rattle.papaya_works.specs.Given.SchedulesTerms.{Terms}
 use Rattle.papaya_works.specs.Given.SchedulesViews.{call_of}
 use Rattle.papaya_works.specs.Given.SchedulesWaiting.{may_wait_for}
-use Rattle.papaya_lowers.specs.Given.Callers.Together.{UnderWay}
-use Rattle.papaya_lowers.specs.Given.Finishes.Machines.{GoesOnAs, machine_of}
+use Rattle.papaya_lowers.specs.Given.CallersTogether.{UnderWay}
+use Rattle.papaya_lowers.specs.Given.FinishesMachines.{GoesOnAs, machine_of}
 use Rattle.papaya_works.specs.Given.EffectsKnown.{Known, known}
 use Rattle.papaya_works.specs.Given.EffectsEffects.{known_after}
 use Rattle.papaya_works.specs.Given.EffectsDeclared.acting.Acting.TheVariants as acts

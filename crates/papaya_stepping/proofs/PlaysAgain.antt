@@ -1,7 +1,7 @@
 -- The events by which a call would go on that asks, or is ready, or is not there: nothing happens.
 use Rattle.std.specs.Prelude.{◌≡◌, ◌+◌, ◌&&◌, ℕ, Bool, true, false, List, [], ◌∷◌, map, position, is_some, Option, Some, None, if◌then◌else◌}
 use Rattle.std.proofs.Common.{refl, sym, ap, subst, ◌∙◌, arith}
-use Rattle.papaya_runs.specs.Given.SeizeWords.declared.fault.Fault.TheVariants.{Busy}
+use Rattle.papaya_runs.specs.Given.SeizeWordsDeclared.fault.Fault.TheVariants.{Busy}
 use Rattle.papaya_runs.specs.Same.{is_same}
 use Rattle.papaya_works.specs.Given.SchedulesDeclared.event.Event.TheVariants.{Go, Step}
 use Rattle.papaya_works.specs.Given.SchedulesDeclared.outcome.Outcome.TheVariants.{Asks, Ready, Refused}

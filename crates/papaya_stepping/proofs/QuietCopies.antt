@@ -2,40 +2,40 @@
 use Rattle.std.specs.Prelude.{◌%◌, ◌+◌, ◌^◌, bit_or, []}
 use Rattle.std.proofs.Common.{◌≡◌, ℕ, ◌⊎◌, inl, inr, Bool, true, refl, sym, ap, subst, ◌∙◌, arith}
 use Rattle.std.proofs.lemmas.Bool.{eq-eqb}
-use Rattle.papaya_runs.specs.Given.SeizeWords.declared.at.At.TheVariants.{Word}
-use Rattle.papaya_runs.specs.Given.SeizeWords.Mem.{Mem}
-use Rattle.papaya_runs.specs.Given.SeizeWords.Op.{Found}
-use Rattle.papaya_runs.specs.Given.SeizeWords.Word.{block_in}
-use Rattle.papaya_runs.specs.Given.Seize.declared.rows.settle.Settled.{Settled}
-use Rattle.papaya_runs.specs.Given.Seize.declared.rows.settle.Settled.TheVariants as settled
-use Rattle.papaya_runs.specs.Given.Tables.declared.marks.TheConstants.{COPYING}
-use Rattle.papaya_runs.specs.Given.Tables.declared.node.Node.{Node}
-use Rattle.papaya_runs.specs.Given.Tables.declared.table.Table.{Table}
-use Rattle.papaya_runs.specs.Given.Tables.declared.table_words.TheConstants.{PLACES}
-use Rattle.papaya_lowers.specs.Given.Resize.Copier.{copier_plan}
-use Rattle.papaya_lowers.specs.Given.Resize.Copier as copiers
-use Rattle.papaya_lowers.specs.Given.Resize.Dispose.{dispose_plan}
-use Rattle.papaya_lowers.specs.Given.Resize.declared.copier.Copier.{Copier}
-use Rattle.papaya_lowers.specs.Given.Resize.declared.copier.Copying.{Copying}
-use Rattle.papaya_lowers.specs.Given.Resize.declared.copier.Copying.TheVariants as copies
-use Rattle.papaya_lowers.specs.Given.Resize.declared.dispose.Dispose.{Dispose}
-use Rattle.papaya_lowers.specs.Given.Resize.declared.outcome.Outcome.{Outcome}
-use Rattle.papaya_lowers.specs.Given.Resize.declared.outcome.Outcome.TheVariants as outcome
-use Rattle.papaya_lowers.specs.Given.Reserves.Reserve as rooms
-use Rattle.papaya_lowers.specs.Given.Reserves.declared.reserve.Reserve.{Reserve}
-use Rattle.papaya_lowers.specs.Given.Reserves.declared.reserve.Reserving.{Reserving}
-use Rattle.papaya_lowers.specs.Given.Reserves.declared.reserve.Reserving.TheVariants as reserves
-use Rattle.papaya_lowers.specs.Given.Sweeps.Sweep as plans
-use Rattle.papaya_lowers.specs.Given.Sweeps.SweepPoints.{entering, further}
-use Rattle.papaya_lowers.specs.Given.Sweeps.declared.sweep.Sweep.{Sweep}
-use Rattle.papaya_lowers.specs.Given.Sweeps.declared.sweep.Swept.{Swept}
-use Rattle.papaya_lowers.specs.Given.Sweeps.declared.sweep.Swept.TheVariants as swept
-use Rattle.papaya_lowers.specs.Given.Sweeps.declared.sweep.Sweeping.{Sweeping}
-use Rattle.papaya_lowers.specs.Given.Sweeps.declared.sweep.Sweeping.TheVariants as sweeps
-use Rattle.papaya_lowers.proofs.Given.Rule.Words.PlaceWordsWritten.{or_copying}
-use Rattle.papaya_lowers.specs.Given.Rule.Chart.{Chart}
-use Rattle.papaya_lowers.specs.Given.Late.ToldReserves.{IsRowOfReserve}
-use Rattle.papaya_lowers.specs.Given.Late.ToldSweeps.{IsRowOfSweep}
+use Rattle.papaya_runs.specs.Given.SeizeWordsDeclared.at.At.TheVariants.{Word}
+use Rattle.papaya_runs.specs.Given.SeizeWordsMem.{Mem}
+use Rattle.papaya_runs.specs.Given.SeizeWordsOp.{Found}
+use Rattle.papaya_runs.specs.Given.SeizeWordsWord.{block_in}
+use Rattle.papaya_runs.specs.Given.SeizeDeclared.rows.settle.Settled.{Settled}
+use Rattle.papaya_runs.specs.Given.SeizeDeclared.rows.settle.Settled.TheVariants as settled
+use Rattle.papaya_runs.specs.Given.TablesDeclared.marks.TheConstants.{COPYING}
+use Rattle.papaya_runs.specs.Given.TablesDeclared.node.Node.{Node}
+use Rattle.papaya_runs.specs.Given.TablesDeclared.table.Table.{Table}
+use Rattle.papaya_runs.specs.Given.TablesDeclared.table_words.TheConstants.{PLACES}
+use Rattle.papaya_lowers.specs.Given.ResizeCopier.{copier_plan}
+use Rattle.papaya_lowers.specs.Given.ResizeCopier as copiers
+use Rattle.papaya_lowers.specs.Given.ResizeDispose.{dispose_plan}
+use Rattle.papaya_lowers.specs.Given.ResizeDeclared.copier.Copier.{Copier}
+use Rattle.papaya_lowers.specs.Given.ResizeDeclared.copier.Copying.{Copying}
+use Rattle.papaya_lowers.specs.Given.ResizeDeclared.copier.Copying.TheVariants as copies
+use Rattle.papaya_lowers.specs.Given.ResizeDeclared.dispose.Dispose.{Dispose}
+use Rattle.papaya_lowers.specs.Given.ResizeDeclared.outcome.Outcome.{Outcome}
+use Rattle.papaya_lowers.specs.Given.ResizeDeclared.outcome.Outcome.TheVariants as outcome
+use Rattle.papaya_lowers.specs.Given.ReservesReserve as rooms
+use Rattle.papaya_lowers.specs.Given.ReservesDeclared.reserve.Reserve.{Reserve}
+use Rattle.papaya_lowers.specs.Given.ReservesDeclared.reserve.Reserving.{Reserving}
+use Rattle.papaya_lowers.specs.Given.ReservesDeclared.reserve.Reserving.TheVariants as reserves
+use Rattle.papaya_lowers.specs.Given.SweepsSweep as plans
+use Rattle.papaya_lowers.specs.Given.SweepsSweepPoints.{entering, further}
+use Rattle.papaya_lowers.specs.Given.SweepsDeclared.sweep.Sweep.{Sweep}
+use Rattle.papaya_lowers.specs.Given.SweepsDeclared.sweep.Swept.{Swept}
+use Rattle.papaya_lowers.specs.Given.SweepsDeclared.sweep.Swept.TheVariants as swept
+use Rattle.papaya_lowers.specs.Given.SweepsDeclared.sweep.Sweeping.{Sweeping}
+use Rattle.papaya_lowers.specs.Given.SweepsDeclared.sweep.Sweeping.TheVariants as sweeps
+use Rattle.papaya_lowers.proofs.Given.RuleWords.PlaceWordsWritten.{or_copying}
+use Rattle.papaya_lowers.specs.Given.RuleChart.{Chart}
+use Rattle.papaya_lowers.specs.Given.LateToldReserves.{IsRowOfReserve}
+use Rattle.papaya_lowers.specs.Given.LateToldSweeps.{IsRowOfSweep}
 use Rattle.papaya_works.specs.Given.TellerDeclared.changed.Changed.{Changed}
 use Rattle.papaya_works.specs.Given.TellerDeclared.changed.Changed.TheVariants as changed
 use Rattle.papaya_works.specs.Given.EffectsEffects.{effects_of, in_block, named, names_same}
@@ -46,8 +46,8 @@ use Rattle.papaya_works.specs.Given.EffectsDeclared.role.Role.TheVariants as rol
 use Rattle.papaya_works.proofs.Given.OthersOutcomes.{told_in}
 use Rattle.papaya_works.specs.Given.SchedulesDeclared.effect.Table.{Table as Numbered}
 use Rattle.papaya_works.proofs.Given.OwesTables.Hosts.{Step}
-use Rattle.papaya_lowers.proofs.Given.Waits.Copyings.{SweepsOn, telling_goes}
-use Rattle.papaya_lowers.specs.Given.Waits.Waits.{CopierAwaits}
+use Rattle.papaya_lowers.proofs.Given.WaitsCopyings.{SweepsOn, telling_goes}
+use Rattle.papaya_lowers.specs.Given.WaitsWaits.{CopierAwaits}
 use Rattle.papaya_stepping.proofs.QuietWaits.{copier_quiet, dispose_quiet}
 
 -- a mark leaves what a word names

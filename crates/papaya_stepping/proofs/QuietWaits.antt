@@ -1,50 +1,50 @@
 -- A step by which a call on one key waits changes nothing: it was a load, at a try, of how a copying stands, or of the batch of its slot.
 use Rattle.std.proofs.Common.{◌≡◌, ℕ, Bool, refl, sym, ap, subst, ◌∙◌}
-use Rattle.papaya_runs.specs.Given.SeizeWords.Mem.{Mem}
-use Rattle.papaya_runs.specs.Given.Seize.Defer.{defer_plan}
-use Rattle.papaya_runs.specs.Given.Seize.Settle.{settle_plan}
-use Rattle.papaya_runs.specs.Given.Seize.Settle as settles
-use Rattle.papaya_runs.specs.Given.Seize.declared.progress.Progress.{Progress as Counted}
-use Rattle.papaya_runs.specs.Given.Seize.declared.progress.Progress.TheVariants as counts
-use Rattle.papaya_runs.specs.Given.Seize.declared.rows.defer.Defer.{Defer}
-use Rattle.papaya_runs.specs.Given.Seize.declared.rows.settle.Settle.{Settle}
-use Rattle.papaya_runs.specs.Given.Seize.declared.rows.settle.Settled.{Settled}
-use Rattle.papaya_runs.specs.Given.Seize.declared.rows.settle.Settled.TheVariants as settled
-use Rattle.papaya_runs.specs.Given.Seize.declared.rows.settle.Settling.{Settling}
-use Rattle.papaya_runs.specs.Given.Seize.declared.rows.settle.Settling.TheVariants as settling
-use Rattle.papaya_lowers.proofs.Given.SeizeEnds.Batches.Held.{waits_held}
-use Rattle.papaya_lowers.proofs.Given.SeizeActs.Waits.{deferring_never_waits}
-use Rattle.papaya_runs.specs.Given.Tables.Nodes.{deferred_word}
-use Rattle.papaya_runs.specs.Given.Tables.declared.node.Node.{Node}
-use Rattle.papaya_runs.specs.Given.Tables.declared.table.Table.{Table}
-use Rattle.papaya_lowers.specs.Given.Resize.Copier.{copier_plan}
-use Rattle.papaya_lowers.specs.Given.Resize.Copier as copiers
-use Rattle.papaya_lowers.specs.Given.Resize.CopierPromotes.{retired}
-use Rattle.papaya_lowers.specs.Given.Resize.Dispose.{dispose_plan}
-use Rattle.papaya_lowers.specs.Given.Resize.Dispose as disposes
-use Rattle.papaya_lowers.specs.Given.Resize.declared.copier.Copier.{Copier}
-use Rattle.papaya_lowers.specs.Given.Resize.declared.copier.Copying.{Copying}
-use Rattle.papaya_lowers.specs.Given.Resize.declared.copier.Copying.TheVariants as copies
-use Rattle.papaya_lowers.specs.Given.Resize.declared.dispose.Dispose.{Dispose}
-use Rattle.papaya_lowers.specs.Given.Resize.declared.dispose.Disposing.{Disposing}
-use Rattle.papaya_lowers.specs.Given.Resize.declared.dispose.Disposing.TheVariants as disposing
-use Rattle.papaya_lowers.specs.Given.Resize.declared.outcome.Outcome.{Outcome}
-use Rattle.papaya_lowers.specs.Given.Resize.declared.outcome.Outcome.TheVariants as outcome
-use Rattle.papaya_lowers.specs.Given.Raw.Call as calls
-use Rattle.papaya_lowers.specs.Given.Raw.CallPoints.{ending}
-use Rattle.papaya_lowers.specs.Given.Raw.declared.machines.answer.Called.{Called}
-use Rattle.papaya_lowers.specs.Given.Raw.declared.machines.answer.Called.TheVariants as says
-use Rattle.papaya_lowers.specs.Given.Raw.declared.machines.answer.End.{End}
-use Rattle.papaya_lowers.specs.Given.Raw.declared.machines.answer.End.TheVariants as ends
-use Rattle.papaya_lowers.specs.Given.Raw.declared.machines.answer.KeyAnswer.{KeyAnswer}
-use Rattle.papaya_lowers.specs.Given.Raw.declared.machines.call.Calling.{Calling}
-use Rattle.papaya_lowers.specs.Given.Raw.declared.machines.call.Calling.TheVariants as at
-use Rattle.papaya_lowers.specs.Given.Raw.declared.machines.call.KeyCall.{KeyCall}
-use Rattle.papaya_lowers.specs.Given.Points.Told.{IsRowOf, IsRowOfCall, IsRowOfCopier}
+use Rattle.papaya_runs.specs.Given.SeizeWordsMem.{Mem}
+use Rattle.papaya_runs.specs.Given.SeizeDefer.{defer_plan}
+use Rattle.papaya_runs.specs.Given.SeizeSettle.{settle_plan}
+use Rattle.papaya_runs.specs.Given.SeizeSettle as settles
+use Rattle.papaya_runs.specs.Given.SeizeDeclared.progress.Progress.{Progress as Counted}
+use Rattle.papaya_runs.specs.Given.SeizeDeclared.progress.Progress.TheVariants as counts
+use Rattle.papaya_runs.specs.Given.SeizeDeclared.rows.defer.Defer.{Defer}
+use Rattle.papaya_runs.specs.Given.SeizeDeclared.rows.settle.Settle.{Settle}
+use Rattle.papaya_runs.specs.Given.SeizeDeclared.rows.settle.Settled.{Settled}
+use Rattle.papaya_runs.specs.Given.SeizeDeclared.rows.settle.Settled.TheVariants as settled
+use Rattle.papaya_runs.specs.Given.SeizeDeclared.rows.settle.Settling.{Settling}
+use Rattle.papaya_runs.specs.Given.SeizeDeclared.rows.settle.Settling.TheVariants as settling
+use Rattle.papaya_lowers.proofs.Given.SeizeEndsBatches.Held.{waits_held}
+use Rattle.papaya_lowers.proofs.Given.SeizeActsWaits.{deferring_never_waits}
+use Rattle.papaya_runs.specs.Given.TablesNodes.{deferred_word}
+use Rattle.papaya_runs.specs.Given.TablesDeclared.node.Node.{Node}
+use Rattle.papaya_runs.specs.Given.TablesDeclared.table.Table.{Table}
+use Rattle.papaya_lowers.specs.Given.ResizeCopier.{copier_plan}
+use Rattle.papaya_lowers.specs.Given.ResizeCopier as copiers
+use Rattle.papaya_lowers.specs.Given.ResizeCopierPromotes.{retired}
+use Rattle.papaya_lowers.specs.Given.ResizeDispose.{dispose_plan}
+use Rattle.papaya_lowers.specs.Given.ResizeDispose as disposes
+use Rattle.papaya_lowers.specs.Given.ResizeDeclared.copier.Copier.{Copier}
+use Rattle.papaya_lowers.specs.Given.ResizeDeclared.copier.Copying.{Copying}
+use Rattle.papaya_lowers.specs.Given.ResizeDeclared.copier.Copying.TheVariants as copies
+use Rattle.papaya_lowers.specs.Given.ResizeDeclared.dispose.Dispose.{Dispose}
+use Rattle.papaya_lowers.specs.Given.ResizeDeclared.dispose.Disposing.{Disposing}
+use Rattle.papaya_lowers.specs.Given.ResizeDeclared.dispose.Disposing.TheVariants as disposing
+use Rattle.papaya_lowers.specs.Given.ResizeDeclared.outcome.Outcome.{Outcome}
+use Rattle.papaya_lowers.specs.Given.ResizeDeclared.outcome.Outcome.TheVariants as outcome
+use Rattle.papaya_lowers.specs.Given.RawCall as calls
+use Rattle.papaya_lowers.specs.Given.RawCallPoints.{ending}
+use Rattle.papaya_lowers.specs.Given.RawDeclared.machines.answer.Called.{Called}
+use Rattle.papaya_lowers.specs.Given.RawDeclared.machines.answer.Called.TheVariants as says
+use Rattle.papaya_lowers.specs.Given.RawDeclared.machines.answer.End.{End}
+use Rattle.papaya_lowers.specs.Given.RawDeclared.machines.answer.End.TheVariants as ends
+use Rattle.papaya_lowers.specs.Given.RawDeclared.machines.answer.KeyAnswer.{KeyAnswer}
+use Rattle.papaya_lowers.specs.Given.RawDeclared.machines.call.Calling.{Calling}
+use Rattle.papaya_lowers.specs.Given.RawDeclared.machines.call.Calling.TheVariants as at
+use Rattle.papaya_lowers.specs.Given.RawDeclared.machines.call.KeyCall.{KeyCall}
+use Rattle.papaya_lowers.specs.Given.PointsTold.{IsRowOf, IsRowOfCall, IsRowOfCopier}
 use Rattle.papaya_works.specs.Given.TellerDeclared.changed.Changed.{Changed}
 use Rattle.papaya_works.specs.Given.TellerDeclared.changed.Changed.TheVariants as changed
 use Rattle.papaya_works.proofs.Given.OthersOutcomes.{told_in}
-use Rattle.papaya_lowers.proofs.Given.Waits.CallPlans.{Continues, ending_goes}
+use Rattle.papaya_lowers.proofs.Given.WaitsCallPlans.{Continues, ending_goes}
 use Rattle.papaya_works.proofs.Given.OwesTables.Hosts.{Step}
 use Rattle.papaya_works.proofs.Given.ScenesTold.{as_step}
 

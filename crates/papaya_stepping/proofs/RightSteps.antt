@@ -2,8 +2,8 @@
 use Rattle.std.specs.Prelude.{◌≡◌, ◌⊎◌, ◌&&◌, ℕ, Bool, true, false, not, List, Option, Some, None}
 use Rattle.std.specs.List.{list_any}
 use Rattle.std.proofs.Common.{refl, sym, ap, subst, ◌∙◌, arith, inl, inr}
-use Rattle.papaya_runs.specs.Given.SeizeWords.declared.fault.Fault.{Fault}
-use Rattle.papaya_runs.specs.Given.SeizeWords.declared.fault.Fault.TheVariants.{Busy, Capacity, Memory, RemoveNothing}
+use Rattle.papaya_runs.specs.Given.SeizeWordsDeclared.fault.Fault.{Fault}
+use Rattle.papaya_runs.specs.Given.SeizeWordsDeclared.fault.Fault.TheVariants.{Busy, Capacity, Memory, RemoveNothing}
 use Rattle.papaya_runs.specs.Stopped.{most_steps}
 use Rattle.papaya_works.specs.Given.SchedulesDeclared.call.Call.{Call}
 use Rattle.papaya_works.specs.Given.SchedulesDeclared.call.Call.TheVariants.{On, Reserve, Clear, Retain, Len, Walk}

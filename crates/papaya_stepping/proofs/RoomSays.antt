@@ -1,31 +1,31 @@
 -- For what a call on no key is refused: for room alone, at each of its steps, and one that counts never.
 use Rattle.std.specs.Prelude.{ℕ, Bool}
 use Rattle.std.proofs.Common.{sym, subst}
-use Rattle.papaya_runs.specs.Given.SeizeWords.Mem.{Mem}
-use Rattle.papaya_runs.specs.Given.SeizeWords.Plan.{plan_as}
-use Rattle.papaya_runs.specs.Given.Seize.declared.progress.Progress.{Progress as Counted}
-use Rattle.papaya_runs.specs.Given.Seize.declared.progress.Progress.TheVariants as counts
-use Rattle.papaya_lowers.proofs.Given.SeizeRule.Rows.Leaving.{steps_back}
-use Rattle.papaya_runs.specs.Given.Tables.declared.node.Node.{Node}
-use Rattle.papaya_lowers.specs.Given.Resize.Sum.{sum_plan}
-use Rattle.papaya_lowers.specs.Given.Resize.declared.outcome.Outcome.{Outcome}
-use Rattle.papaya_lowers.specs.Given.Resize.declared.outcome.Outcome.TheVariants as outcome
-use Rattle.papaya_lowers.specs.Given.Resize.declared.sum.Sum.{Sum}
-use Rattle.papaya_lowers.specs.Given.Reserves.Reserve.{reserve_plan}
-use Rattle.papaya_lowers.specs.Given.Reserves.declared.reserve.Reserve.{Reserve}
-use Rattle.papaya_lowers.specs.Given.Sweeps.Sweep.{sweep_plan}
-use Rattle.papaya_lowers.specs.Given.Sweeps.declared.sweep.Sweep.{Sweep}
-use Rattle.papaya_lowers.specs.Given.Sweeps.declared.sweep.Swept.{Swept}
-use Rattle.papaya_lowers.specs.Given.Sweeps.declared.sweep.Swept.TheVariants as ends
-use Rattle.papaya_lowers.specs.Given.Raw.Machine.{counted, reserved, swept}
-use Rattle.papaya_lowers.specs.Given.Raw.Progress.{of_outcome, of_swept}
-use Rattle.papaya_lowers.specs.Given.Raw.declared.machines.machine.Machine.{Machine}
-use Rattle.papaya_lowers.specs.Given.Raw.declared.machines.machine.Machine.TheVariants as kinds
-use Rattle.papaya_lowers.specs.Given.Raw.declared.machines.progress.Progress.{Progress}
-use Rattle.papaya_lowers.specs.Given.Raw.declared.machines.progress.Progress.TheVariants as progress
-use Rattle.papaya_lowers.specs.Given.Late.Faults.{IsRoom, RefusesRoom, RoomInReserving, RoomInSweeping, SweepRefusesRoom}
-use Rattle.papaya_lowers.proofs.Given.Late.KindsKept.Laws.{reserves_refuse_room, sweeps_refuse_room}
-use Rattle.papaya_lowers.proofs.Given.Late.KindsKept.Rooms.Making.{CountsOn, sum_counts}
+use Rattle.papaya_runs.specs.Given.SeizeWordsMem.{Mem}
+use Rattle.papaya_runs.specs.Given.SeizeWordsPlan.{plan_as}
+use Rattle.papaya_runs.specs.Given.SeizeDeclared.progress.Progress.{Progress as Counted}
+use Rattle.papaya_runs.specs.Given.SeizeDeclared.progress.Progress.TheVariants as counts
+use Rattle.papaya_lowers.proofs.Given.SeizeRuleRows.Leaving.{steps_back}
+use Rattle.papaya_runs.specs.Given.TablesDeclared.node.Node.{Node}
+use Rattle.papaya_lowers.specs.Given.ResizeSum.{sum_plan}
+use Rattle.papaya_lowers.specs.Given.ResizeDeclared.outcome.Outcome.{Outcome}
+use Rattle.papaya_lowers.specs.Given.ResizeDeclared.outcome.Outcome.TheVariants as outcome
+use Rattle.papaya_lowers.specs.Given.ResizeDeclared.sum.Sum.{Sum}
+use Rattle.papaya_lowers.specs.Given.ReservesReserve.{reserve_plan}
+use Rattle.papaya_lowers.specs.Given.ReservesDeclared.reserve.Reserve.{Reserve}
+use Rattle.papaya_lowers.specs.Given.SweepsSweep.{sweep_plan}
+use Rattle.papaya_lowers.specs.Given.SweepsDeclared.sweep.Sweep.{Sweep}
+use Rattle.papaya_lowers.specs.Given.SweepsDeclared.sweep.Swept.{Swept}
+use Rattle.papaya_lowers.specs.Given.SweepsDeclared.sweep.Swept.TheVariants as ends
+use Rattle.papaya_lowers.specs.Given.RawMachine.{counted, reserved, swept}
+use Rattle.papaya_lowers.specs.Given.RawProgress.{of_outcome, of_swept}
+use Rattle.papaya_lowers.specs.Given.RawDeclared.machines.machine.Machine.{Machine}
+use Rattle.papaya_lowers.specs.Given.RawDeclared.machines.machine.Machine.TheVariants as kinds
+use Rattle.papaya_lowers.specs.Given.RawDeclared.machines.progress.Progress.{Progress}
+use Rattle.papaya_lowers.specs.Given.RawDeclared.machines.progress.Progress.TheVariants as progress
+use Rattle.papaya_lowers.specs.Given.LateFaults.{IsRoom, RefusesRoom, RoomInReserving, RoomInSweeping, SweepRefusesRoom}
+use Rattle.papaya_lowers.proofs.Given.LateKindsKept.Laws.{reserves_refuse_room, sweeps_refuse_room}
+use Rattle.papaya_lowers.proofs.Given.LateKindsKept.Rooms.Making.{CountsOn, sum_counts}
 use Rattle.papaya_works.specs.Given.TellerDeclared.changed.Changed.TheVariants.{Nothing}
 use Rattle.papaya_works.proofs.Given.HistoriesAsking.{always_told, always_turned}
 use Rattle.papaya_works.specs.Given.NamedMachines.{RefusedForRoom}

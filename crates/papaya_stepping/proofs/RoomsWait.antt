@@ -2,54 +2,54 @@
 use Rattle.std.specs.Prelude.{Option, Some, [], cond}
 use Rattle.std.specs.List.{list_any}
 use Rattle.std.proofs.Common.{◌≡◌, ℕ, ◌⊎◌, inl, inr, Bool, true, refl, ap, sym, subst, ◌∙◌, false}
-use Rattle.papaya_lowers.specs.Given.Waits.Waits.{AnotherHolds, CopierAwaits, RoomAwaits, SweepAwaits, row_of_sweep}
-use Rattle.papaya_lowers.specs.Given.Waits.Others.{copier_in_room, copier_in_sweep, copier_of}
+use Rattle.papaya_lowers.specs.Given.WaitsWaits.{AnotherHolds, CopierAwaits, RoomAwaits, SweepAwaits, row_of_sweep}
+use Rattle.papaya_lowers.specs.Given.WaitsOthers.{copier_in_room, copier_in_sweep, copier_of}
 use Rattle.papaya_works.proofs.Given.WaitersAwaited.{asked_at_once}
-use Rattle.papaya_runs.specs.Given.SeizeWords.Mem.{Mem, Took, value_at}
-use Rattle.papaya_runs.specs.Given.SeizeWords.Plan.{Plan, Steps}
-use Rattle.papaya_runs.specs.Given.SeizeWords.Word.{block_in}
-use Rattle.papaya_runs.specs.Given.Seize.World.{World, Row, Rests, Settles, Leaves}
-use Rattle.papaya_runs.specs.Given.Seize.declared.rows.settle.Settle.{Settle}
-use Rattle.papaya_lowers.specs.Given.SeizeEnds.Holders.{has_batch}
-use Rattle.papaya_runs.specs.Given.Tables.Chunks.{is_incremental}
-use Rattle.papaya_runs.specs.Given.Tables.declared.node.Node.{Node}
-use Rattle.papaya_runs.specs.Given.Tables.declared.setting.Setting.{Setting}
-use Rattle.papaya_lowers.specs.Given.Resize.declared.copier.Copier.{Copier}
-use Rattle.papaya_lowers.specs.Given.Resize.declared.copier.Copying.{Copying}
-use Rattle.papaya_lowers.specs.Given.Resize.declared.copier.Copying.TheVariants as copies
-use Rattle.papaya_lowers.specs.Given.Resize.declared.dispose.Dispose.{Dispose}
-use Rattle.papaya_lowers.specs.Given.Resize.declared.dispose.Disposing.{Disposing}
-use Rattle.papaya_lowers.specs.Given.Resize.declared.dispose.Disposing.TheVariants as disposing
-use Rattle.papaya_lowers.specs.Given.Resize.declared.outcome.Outcome.TheVariants as outcome
-use Rattle.papaya_lowers.specs.Given.Reserves.Reserve as rooms
-use Rattle.papaya_lowers.specs.Given.Reserves.declared.reserve.Reserve.{Reserve}
-use Rattle.papaya_lowers.specs.Given.Reserves.declared.reserve.Reserving.{Reserving}
-use Rattle.papaya_lowers.specs.Given.Reserves.declared.reserve.Reserving.TheVariants as reserves
-use Rattle.papaya_lowers.specs.Given.Sweeps.Sweep as plans
-use Rattle.papaya_lowers.specs.Given.Sweeps.declared.sweep.Sweep.{Sweep}
-use Rattle.papaya_lowers.specs.Given.Sweeps.declared.sweep.Swept.TheVariants as swept
-use Rattle.papaya_lowers.specs.Given.Sweeps.declared.sweep.Sweeping.{Sweeping}
-use Rattle.papaya_lowers.specs.Given.Sweeps.declared.sweep.Sweeping.TheVariants as sweeps
-use Rattle.papaya_lowers.specs.Given.Rule.Maps.{IsTable}
-use Rattle.papaya_lowers.specs.Given.Rule.Words.{Blocks}
-use Rattle.papaya_lowers.specs.Given.Points.FactsCopies.{CopierFacts, CopyingFacts}
-use Rattle.papaya_lowers.specs.Given.Points.FactsDisposes.{DisposeFacts, DisposingFacts}
-use Rattle.papaya_lowers.specs.Given.Points.Told.{IsRowOfCopier}
-use Rattle.papaya_lowers.specs.Given.Late.FactsReserves.{ReserveFacts, ReservingFacts, CopiesWhole, IsEnding}
-use Rattle.papaya_lowers.specs.Given.Late.FactsSweeps.{SweepFacts, SweepingFacts}
-use Rattle.papaya_lowers.specs.Given.Late.LateReserves.{LateReserveFacts, LateReserving}
-use Rattle.papaya_lowers.specs.Given.Late.ToldReserves.{IsRowOfReserve}
-use Rattle.papaya_lowers.specs.Given.Late.ToldSweeps.{IsRowOfSweep}
-use Rattle.papaya_lowers.specs.Given.Callers.OverAll.{CallOverAll, row_of_sweep as swept_row}
-use Rattle.papaya_lowers.specs.Given.Callers.Rooms.{CallForRoom, row_of_room}
-use Rattle.papaya_lowers.specs.Given.Callers.Rows.{IsRowOn, row_of_copier, row_of_disposal}
-use Rattle.papaya_lowers.specs.Given.Callers.Sights.{seen_by}
-use Rattle.papaya_lowers.specs.Given.Callers.Together.{UnderWay, ForRoom, OverAll, Together, in_slot}
-use Rattle.papaya_lowers.proofs.Given.Whole.Rows.Kinds.{copier_decided}
-use Rattle.papaya_lowers.proofs.Given.Whole.Sweeps.Leads.{sweep_decided}
-use Rattle.papaya_lowers.proofs.Given.Waits.Awaited.{by_copier}
-use Rattle.papaya_lowers.proofs.Given.Waits.Laws.{rooms_wait_for_a_copying, room_rows_wait_for_a_holder, sweeps_wait_for_a_copying, sweep_rows_wait_for_a_holder}
-use Rattle.papaya_lowers.proofs.Given.Waits.Promised.{map_of}
+use Rattle.papaya_runs.specs.Given.SeizeWordsMem.{Mem, Took, value_at}
+use Rattle.papaya_runs.specs.Given.SeizeWordsPlan.{Plan, Steps}
+use Rattle.papaya_runs.specs.Given.SeizeWordsWord.{block_in}
+use Rattle.papaya_runs.specs.Given.SeizeWorld.{World, Row, Rests, Settles, Leaves}
+use Rattle.papaya_runs.specs.Given.SeizeDeclared.rows.settle.Settle.{Settle}
+use Rattle.papaya_lowers.specs.Given.SeizeEndsHolders.{has_batch}
+use Rattle.papaya_runs.specs.Given.TablesChunks.{is_incremental}
+use Rattle.papaya_runs.specs.Given.TablesDeclared.node.Node.{Node}
+use Rattle.papaya_runs.specs.Given.TablesDeclared.setting.Setting.{Setting}
+use Rattle.papaya_lowers.specs.Given.ResizeDeclared.copier.Copier.{Copier}
+use Rattle.papaya_lowers.specs.Given.ResizeDeclared.copier.Copying.{Copying}
+use Rattle.papaya_lowers.specs.Given.ResizeDeclared.copier.Copying.TheVariants as copies
+use Rattle.papaya_lowers.specs.Given.ResizeDeclared.dispose.Dispose.{Dispose}
+use Rattle.papaya_lowers.specs.Given.ResizeDeclared.dispose.Disposing.{Disposing}
+use Rattle.papaya_lowers.specs.Given.ResizeDeclared.dispose.Disposing.TheVariants as disposing
+use Rattle.papaya_lowers.specs.Given.ResizeDeclared.outcome.Outcome.TheVariants as outcome
+use Rattle.papaya_lowers.specs.Given.ReservesReserve as rooms
+use Rattle.papaya_lowers.specs.Given.ReservesDeclared.reserve.Reserve.{Reserve}
+use Rattle.papaya_lowers.specs.Given.ReservesDeclared.reserve.Reserving.{Reserving}
+use Rattle.papaya_lowers.specs.Given.ReservesDeclared.reserve.Reserving.TheVariants as reserves
+use Rattle.papaya_lowers.specs.Given.SweepsSweep as plans
+use Rattle.papaya_lowers.specs.Given.SweepsDeclared.sweep.Sweep.{Sweep}
+use Rattle.papaya_lowers.specs.Given.SweepsDeclared.sweep.Swept.TheVariants as swept
+use Rattle.papaya_lowers.specs.Given.SweepsDeclared.sweep.Sweeping.{Sweeping}
+use Rattle.papaya_lowers.specs.Given.SweepsDeclared.sweep.Sweeping.TheVariants as sweeps
+use Rattle.papaya_lowers.specs.Given.RuleMaps.{IsTable}
+use Rattle.papaya_lowers.specs.Given.RuleWords.{Blocks}
+use Rattle.papaya_lowers.specs.Given.PointsFactsCopies.{CopierFacts, CopyingFacts}
+use Rattle.papaya_lowers.specs.Given.PointsFactsDisposes.{DisposeFacts, DisposingFacts}
+use Rattle.papaya_lowers.specs.Given.PointsTold.{IsRowOfCopier}
+use Rattle.papaya_lowers.specs.Given.LateFactsReserves.{ReserveFacts, ReservingFacts, CopiesWhole, IsEnding}
+use Rattle.papaya_lowers.specs.Given.LateFactsSweeps.{SweepFacts, SweepingFacts}
+use Rattle.papaya_lowers.specs.Given.LateLateReserves.{LateReserveFacts, LateReserving}
+use Rattle.papaya_lowers.specs.Given.LateToldReserves.{IsRowOfReserve}
+use Rattle.papaya_lowers.specs.Given.LateToldSweeps.{IsRowOfSweep}
+use Rattle.papaya_lowers.specs.Given.CallersOverAll.{CallOverAll, row_of_sweep as swept_row}
+use Rattle.papaya_lowers.specs.Given.CallersRooms.{CallForRoom, row_of_room}
+use Rattle.papaya_lowers.specs.Given.CallersRows.{IsRowOn, row_of_copier, row_of_disposal}
+use Rattle.papaya_lowers.specs.Given.CallersSights.{seen_by}
+use Rattle.papaya_lowers.specs.Given.CallersTogether.{UnderWay, ForRoom, OverAll, Together, in_slot}
+use Rattle.papaya_lowers.proofs.Given.WholeRows.Kinds.{copier_decided}
+use Rattle.papaya_lowers.proofs.Given.WholeSweeps.Leads.{sweep_decided}
+use Rattle.papaya_lowers.proofs.Given.WaitsAwaited.{by_copier}
+use Rattle.papaya_lowers.proofs.Given.WaitsLaws.{rooms_wait_for_a_copying, room_rows_wait_for_a_holder, sweeps_wait_for_a_copying, sweep_rows_wait_for_a_holder}
+use Rattle.papaya_lowers.proofs.Given.WaitsPromised.{map_of}
 use Rattle.papaya_works.specs.Given.SchedulesDeclared.effect.Table.{Table as Numbered}
 use Rattle.papaya_works.specs.Given.SchedulesMoment.{UnderWay as CallThere, Moment}
 use Rattle.papaya_works.specs.Given.SchedulesTerms.{Terms}
@@ -61,7 +61,7 @@ use Rattle.papaya_works.specs.Given.EffectsDeclared.acting.Acting.TheVariants as
 use Rattle.papaya_works.specs.Given.EffectsDeclared.role.Role.TheVariants as role
 use Rattle.papaya_works.specs.Given.TellerDeclared.changed.Changed.{Changed}
 use Rattle.papaya_works.specs.Given.TellerDeclared.changed.Changed.TheVariants as changed
-use Rattle.papaya_lowers.specs.Given.Finishes.Maps.{Standing}
+use Rattle.papaya_lowers.specs.Given.FinishesMaps.{Standing}
 use Rattle.papaya_works.specs.Given.FollowsCalls.{IsCalled}
 use Rattle.papaya_works.specs.Given.FollowsMaps.{table_of}
 use Rattle.papaya_works.proofs.Given.OwesTables.Hosts.{Step}
@@ -70,10 +70,10 @@ use Rattle.papaya_works.specs.Given.SchedulerDeclared.scheduler.Scheduler.{Sched
 use Rattle.papaya_stepping.proofs.CopiesWait.{all_together, within_section, copier_knows, is_lawful, noted_table, other_waits}
 use Rattle.papaya_stepping.proofs.QuietCopies.{IsQuiet, quiet_does, room_copier_told, room_row_quiet, sweep_copier_told, sweep_row_quiet}
 use Rattle.papaya_stepping.proofs.Waiting.{IsForResizes, room_for_resizes, sweep_for_resizes, waits_for_holder}
-use Rattle.papaya_lowers.specs.Given.Points.FactsCopiesBlocking.{CopierFactsBlocking, CopyingFactsBlocking}
-use Rattle.papaya_lowers.specs.Given.Late.LateCopies.{LateCopierFacts, LateCopying}
+use Rattle.papaya_lowers.specs.Given.PointsFactsCopiesBlocking.{CopierFactsBlocking, CopyingFactsBlocking}
+use Rattle.papaya_lowers.specs.Given.LateLateCopies.{LateCopierFacts, LateCopying}
 use Rattle.papaya_works.specs.Given.KeptEnds.{HaveEndsIn}
-use Rattle.papaya_lowers.specs.Given.SeizeActs.Waits.{SettlesOn}
+use Rattle.papaya_lowers.specs.Given.SeizeActsWaits.{SettlesOn}
 use Rattle.papaya_works.proofs.Given.ScenesTold.{as_step}
 use Rattle.papaya_works.specs.Given.ScenesScene.{slot_of}
 

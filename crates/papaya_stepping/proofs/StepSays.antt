@@ -1,25 +1,25 @@
 -- What a step of a call says, by what was called: what the call comes to, how far it is then, and that it stands where it asks that.
 use Rattle.std.specs.Prelude.{◌≡◌, ℕ, Bool, true, List, Option, Some, None, option_map}
 use Rattle.std.proofs.Common.{refl, sym, ap, subst, ◌∙◌, inl, inr}
-use Rattle.papaya_runs.specs.Given.SeizeWords.declared.fault.Fault.{Fault}
-use Rattle.papaya_runs.specs.Given.Seize.declared.progress.Progress.{Progress as Counted}
-use Rattle.papaya_runs.specs.Given.Seize.declared.progress.Progress.TheVariants as counted
-use Rattle.papaya_runs.specs.Given.Tables.declared.node.Node.{Node}
-use Rattle.papaya_lowers.specs.Given.Resize.declared.outcome.Outcome.{Outcome as Room}
-use Rattle.papaya_lowers.specs.Given.Resize.declared.outcome.Outcome.TheVariants as room
-use Rattle.papaya_lowers.specs.Given.Resize.declared.sum.Sum.{Sum}
-use Rattle.papaya_lowers.specs.Given.Reserves.declared.reserve.Reserve.{Reserve}
-use Rattle.papaya_lowers.specs.Given.Sweeps.declared.sweep.Purpose.TheVariants.{Walks}
-use Rattle.papaya_lowers.specs.Given.Sweeps.declared.sweep.Sweep.{Sweep}
-use Rattle.papaya_lowers.specs.Given.Sweeps.declared.sweep.Sweeping.{Sweeping}
-use Rattle.papaya_lowers.specs.Given.Raw.Progress.{of_called, of_counting, of_outcome}
-use Rattle.papaya_lowers.specs.Given.Raw.declared.machines.answer.Called.{Called}
-use Rattle.papaya_lowers.specs.Given.Raw.declared.machines.answer.Called.TheVariants as called
-use Rattle.papaya_lowers.specs.Given.Raw.declared.machines.call.KeyCall.{KeyCall}
-use Rattle.papaya_lowers.specs.Given.Raw.declared.machines.machine.Machine.{Machine}
-use Rattle.papaya_lowers.specs.Given.Raw.declared.machines.machine.Machine.TheVariants as kinds
-use Rattle.papaya_lowers.specs.Given.Raw.declared.machines.progress.Progress.{Progress}
-use Rattle.papaya_lowers.specs.Given.Raw.declared.machines.progress.Progress.TheVariants as progress
+use Rattle.papaya_runs.specs.Given.SeizeWordsDeclared.fault.Fault.{Fault}
+use Rattle.papaya_runs.specs.Given.SeizeDeclared.progress.Progress.{Progress as Counted}
+use Rattle.papaya_runs.specs.Given.SeizeDeclared.progress.Progress.TheVariants as counted
+use Rattle.papaya_runs.specs.Given.TablesDeclared.node.Node.{Node}
+use Rattle.papaya_lowers.specs.Given.ResizeDeclared.outcome.Outcome.{Outcome as Room}
+use Rattle.papaya_lowers.specs.Given.ResizeDeclared.outcome.Outcome.TheVariants as room
+use Rattle.papaya_lowers.specs.Given.ResizeDeclared.sum.Sum.{Sum}
+use Rattle.papaya_lowers.specs.Given.ReservesDeclared.reserve.Reserve.{Reserve}
+use Rattle.papaya_lowers.specs.Given.SweepsDeclared.sweep.Purpose.TheVariants.{Walks}
+use Rattle.papaya_lowers.specs.Given.SweepsDeclared.sweep.Sweep.{Sweep}
+use Rattle.papaya_lowers.specs.Given.SweepsDeclared.sweep.Sweeping.{Sweeping}
+use Rattle.papaya_lowers.specs.Given.RawProgress.{of_called, of_counting, of_outcome}
+use Rattle.papaya_lowers.specs.Given.RawDeclared.machines.answer.Called.{Called}
+use Rattle.papaya_lowers.specs.Given.RawDeclared.machines.answer.Called.TheVariants as called
+use Rattle.papaya_lowers.specs.Given.RawDeclared.machines.call.KeyCall.{KeyCall}
+use Rattle.papaya_lowers.specs.Given.RawDeclared.machines.machine.Machine.{Machine}
+use Rattle.papaya_lowers.specs.Given.RawDeclared.machines.machine.Machine.TheVariants as kinds
+use Rattle.papaya_lowers.specs.Given.RawDeclared.machines.progress.Progress.{Progress}
+use Rattle.papaya_lowers.specs.Given.RawDeclared.machines.progress.Progress.TheVariants as progress
 use Rattle.papaya_works.specs.Given.SchedulesDeclared.call.Call.{Call}
 use Rattle.papaya_works.specs.Given.SchedulesDeclared.call.Call.TheVariants.{On, Reserve as Reserves, Len, Walk}
 use Rattle.papaya_works.specs.Given.SchedulesDeclared.call.OneKey.{OneKey}
@@ -30,16 +30,16 @@ use Rattle.papaya_works.specs.Given.SchedulesComing.{asks_of_key}
 use Rattle.papaya_works.specs.Given.SchedulesEffects.{with_effects}
 use Rattle.papaya_works.specs.Given.SchedulesMoment.{UnderWay as CallThere, Moment}
 use Rattle.papaya_works.specs.Given.SchedulesViews.{call_of}
-use Rattle.papaya_lowers.specs.Given.Late.Faults.{RoomInReserving}
-use Rattle.papaya_lowers.specs.Given.Late.Kinds.{FaultFits, FitsAsking, FitsAt}
-use Rattle.papaya_lowers.specs.Given.Points.Told.{IsRowOfCall}
-use Rattle.papaya_lowers.specs.Given.Callers.Pairs.{Given, kind_of as kind_given}
-use Rattle.papaya_lowers.specs.Given.Callers.Rooms.{CallForRoom}
-use Rattle.papaya_lowers.specs.Given.Callers.Sights.{seen_by}
-use Rattle.papaya_lowers.specs.Given.Callers.Together.{CallOnKey, UnderWay, OnKey, ForRoom, Counting, Stands as TogetherStands, Together}
-use Rattle.papaya_lowers.proofs.Given.Callers.Together.At.{at_same}
-use Rattle.papaya_lowers.specs.Given.Finishes.Machines.{GoesOnAs, machine_of}
-use Rattle.papaya_lowers.specs.Given.Finishes.Maps.{Standing}
+use Rattle.papaya_lowers.specs.Given.LateFaults.{RoomInReserving}
+use Rattle.papaya_lowers.specs.Given.LateKinds.{FaultFits, FitsAsking, FitsAt}
+use Rattle.papaya_lowers.specs.Given.PointsTold.{IsRowOfCall}
+use Rattle.papaya_lowers.specs.Given.CallersPairs.{Given, kind_of as kind_given}
+use Rattle.papaya_lowers.specs.Given.CallersRooms.{CallForRoom}
+use Rattle.papaya_lowers.specs.Given.CallersSights.{seen_by}
+use Rattle.papaya_lowers.specs.Given.CallersTogether.{CallOnKey, UnderWay, OnKey, ForRoom, Counting, Stands as TogetherStands, Together}
+use Rattle.papaya_lowers.proofs.Given.CallersTogether.At.{at_same}
+use Rattle.papaya_lowers.specs.Given.FinishesMachines.{GoesOnAs, machine_of}
+use Rattle.papaya_lowers.specs.Given.FinishesMaps.{Standing}
 use Rattle.papaya_works.specs.Given.EffectsEffects.{effects_of, known_after}
 use Rattle.papaya_works.specs.Given.EffectsKnown.{Known}
 use Rattle.papaya_works.specs.Given.EffectsDeclared.acting.Acting.TheVariants as acts

@@ -3,18 +3,18 @@ use Rattle.std.specs.Prelude.{◌≡◌, ◌≢◌, ◌⊎◌, ◌≤◌, ◌==�
 use Rattle.std.specs.List.{AllByRecursion, list_any, remove}
 use Rattle.std.proofs.Common.{refl, sym, ap, subst, ◌∙◌, inl, inr, arith, eqb-true}
 use Rattle.std.proofs.lemmas.Bool.{cases_eq, ne_eqb}
-use Rattle.papaya_runs.specs.Given.Seize.World.{Use}
-use Rattle.papaya_runs.specs.Given.Tables.declared.node.Node.{Node}
-use Rattle.papaya_lowers.specs.Given.Raw.declared.machines.machine.Machine.{Machine}
-use Rattle.papaya_lowers.specs.Given.Raw.declared.machines.progress.Progress.{Progress}
+use Rattle.papaya_runs.specs.Given.SeizeWorld.{Use}
+use Rattle.papaya_runs.specs.Given.TablesDeclared.node.Node.{Node}
+use Rattle.papaya_lowers.specs.Given.RawDeclared.machines.machine.Machine.{Machine}
+use Rattle.papaya_lowers.specs.Given.RawDeclared.machines.progress.Progress.{Progress}
 use Rattle.papaya_runs.specs.Same.{is_same}
 use Rattle.papaya_works.specs.Given.SchedulesMoment.{Moment}
 use Rattle.papaya_works.specs.Given.SchedulesTerms.{Terms}
-use Rattle.papaya_lowers.specs.Given.Callers.Rows.{IsUsedAlike}
-use Rattle.papaya_lowers.specs.Given.Callers.Together.{UnderWay}
-use Rattle.papaya_lowers.proofs.Given.Callers.Together.At.{at_other, at_same}
-use Rattle.papaya_lowers.specs.Given.Finishes.Machines.{MachineStepsAmong, machine_of}
-use Rattle.papaya_lowers.specs.Given.Finishes.Maps.{IsSameMap, Standing}
+use Rattle.papaya_lowers.specs.Given.CallersRows.{IsUsedAlike}
+use Rattle.papaya_lowers.specs.Given.CallersTogether.{UnderWay}
+use Rattle.papaya_lowers.proofs.Given.CallersTogether.At.{at_other, at_same}
+use Rattle.papaya_lowers.specs.Given.FinishesMachines.{MachineStepsAmong, machine_of}
+use Rattle.papaya_lowers.specs.Given.FinishesMaps.{IsSameMap, Standing}
 use Rattle.papaya_works.specs.Given.ScenesDeclared.row.SlotUse.{SlotUse}
 use Rattle.papaya_works.specs.Given.ScenesDeclared.row.SlotUse.TheVariants as used
 use Rattle.papaya_works.specs.Given.FollowsCalling.{NoneNamed}

@@ -1,38 +1,38 @@
 -- What a step of a sweep says, by what it is for: a walk that has come to no pair yet goes on so, or is ready; and one that removes pairs shows none.
 use Rattle.std.specs.Prelude.{◌≡◌, ◌==◌, ◌&&◌, ℕ, nat_lt, Bool, true, false, Ok, Err, if◌then◌else◌}
 use Rattle.std.proofs.Common.{refl, sym, subst}
-use Rattle.papaya_runs.specs.Given.SeizeWords.Op.{Out, Found, Stored, Exchanged, Made, Taken, Roomed}
-use Rattle.papaya_runs.specs.Given.SeizeWords.Plan.{plan_as}
-use Rattle.papaya_runs.specs.Given.SeizeWords.Word.{block_in}
-use Rattle.papaya_runs.specs.Given.Seize.declared.rows.settle.Settled.{Settled}
-use Rattle.papaya_runs.specs.Given.Seize.declared.rows.settle.Settled.TheVariants as settled
-use Rattle.papaya_runs.specs.Given.Tables.Chunks.{is_incremental}
-use Rattle.papaya_runs.specs.Given.Tables.Marks.{has_mark}
-use Rattle.papaya_runs.specs.Given.Tables.Nodes.{table_seen}
-use Rattle.papaya_runs.specs.Given.Tables.declared.marks.TheConstants.{COPYING}
-use Rattle.papaya_runs.specs.Given.Tables.declared.node.Node.{Node}
-use Rattle.papaya_runs.specs.Given.Tables.declared.table.Table.{Table}
-use Rattle.papaya_lowers.specs.Given.Resize.Copier.{copier_plan}
-use Rattle.papaya_lowers.specs.Given.Resize.Dispose.{dispose_plan}
-use Rattle.papaya_lowers.specs.Given.Resize.declared.copier.Copier.{Copier}
-use Rattle.papaya_lowers.specs.Given.Resize.declared.dispose.Dispose.{Dispose}
-use Rattle.papaya_lowers.specs.Given.Resize.declared.outcome.Outcome.{Outcome}
-use Rattle.papaya_lowers.specs.Given.Resize.declared.outcome.Outcome.TheVariants as outcome
-use Rattle.papaya_lowers.specs.Given.Sweeps.Sweep.{copied, disposed, next_read, plan_at, root_read, tried, word_found}
-use Rattle.papaya_lowers.specs.Given.Sweeps.SweepPoints.{at_pair, beginning, entering, further, past, removes, seen, tableless, told, telling}
-use Rattle.papaya_lowers.specs.Given.Sweeps.declared.sweep.Purpose.{Purpose}
-use Rattle.papaya_lowers.specs.Given.Sweeps.declared.sweep.Purpose.TheVariants.{Walks, Clears, Retains}
-use Rattle.papaya_lowers.specs.Given.Sweeps.declared.sweep.Sweep.{Sweep}
-use Rattle.papaya_lowers.specs.Given.Sweeps.declared.sweep.Sweeping.{Sweeping}
-use Rattle.papaya_lowers.specs.Given.Sweeps.declared.sweep.Sweeping.TheVariants as at
-use Rattle.papaya_lowers.specs.Given.Sweeps.declared.sweep.Swept.{Swept}
-use Rattle.papaya_lowers.specs.Given.Sweeps.declared.sweep.Swept.TheVariants as ends
-use Rattle.papaya_lowers.specs.Given.Raw.Machine.{swept}
-use Rattle.papaya_lowers.specs.Given.Raw.declared.machines.machine.Machine.{Machine}
-use Rattle.papaya_lowers.specs.Given.Raw.declared.machines.machine.Machine.TheVariants as kinds
-use Rattle.papaya_lowers.specs.Given.Raw.declared.machines.progress.Progress.{Progress}
-use Rattle.papaya_lowers.specs.Given.Raw.declared.machines.progress.Progress.TheVariants as progress
-use Rattle.papaya_lowers.proofs.Given.Rule.Keys.Always.{Always, AlwaysOf, always_if, always_plan_as}
+use Rattle.papaya_runs.specs.Given.SeizeWordsOp.{Out, Found, Stored, Exchanged, Made, Taken, Roomed}
+use Rattle.papaya_runs.specs.Given.SeizeWordsPlan.{plan_as}
+use Rattle.papaya_runs.specs.Given.SeizeWordsWord.{block_in}
+use Rattle.papaya_runs.specs.Given.SeizeDeclared.rows.settle.Settled.{Settled}
+use Rattle.papaya_runs.specs.Given.SeizeDeclared.rows.settle.Settled.TheVariants as settled
+use Rattle.papaya_runs.specs.Given.TablesChunks.{is_incremental}
+use Rattle.papaya_runs.specs.Given.TablesMarks.{has_mark}
+use Rattle.papaya_runs.specs.Given.TablesNodes.{table_seen}
+use Rattle.papaya_runs.specs.Given.TablesDeclared.marks.TheConstants.{COPYING}
+use Rattle.papaya_runs.specs.Given.TablesDeclared.node.Node.{Node}
+use Rattle.papaya_runs.specs.Given.TablesDeclared.table.Table.{Table}
+use Rattle.papaya_lowers.specs.Given.ResizeCopier.{copier_plan}
+use Rattle.papaya_lowers.specs.Given.ResizeDispose.{dispose_plan}
+use Rattle.papaya_lowers.specs.Given.ResizeDeclared.copier.Copier.{Copier}
+use Rattle.papaya_lowers.specs.Given.ResizeDeclared.dispose.Dispose.{Dispose}
+use Rattle.papaya_lowers.specs.Given.ResizeDeclared.outcome.Outcome.{Outcome}
+use Rattle.papaya_lowers.specs.Given.ResizeDeclared.outcome.Outcome.TheVariants as outcome
+use Rattle.papaya_lowers.specs.Given.SweepsSweep.{copied, disposed, next_read, plan_at, root_read, tried, word_found}
+use Rattle.papaya_lowers.specs.Given.SweepsSweepPoints.{at_pair, beginning, entering, further, past, removes, seen, tableless, told, telling}
+use Rattle.papaya_lowers.specs.Given.SweepsDeclared.sweep.Purpose.{Purpose}
+use Rattle.papaya_lowers.specs.Given.SweepsDeclared.sweep.Purpose.TheVariants.{Walks, Clears, Retains}
+use Rattle.papaya_lowers.specs.Given.SweepsDeclared.sweep.Sweep.{Sweep}
+use Rattle.papaya_lowers.specs.Given.SweepsDeclared.sweep.Sweeping.{Sweeping}
+use Rattle.papaya_lowers.specs.Given.SweepsDeclared.sweep.Sweeping.TheVariants as at
+use Rattle.papaya_lowers.specs.Given.SweepsDeclared.sweep.Swept.{Swept}
+use Rattle.papaya_lowers.specs.Given.SweepsDeclared.sweep.Swept.TheVariants as ends
+use Rattle.papaya_lowers.specs.Given.RawMachine.{swept}
+use Rattle.papaya_lowers.specs.Given.RawDeclared.machines.machine.Machine.{Machine}
+use Rattle.papaya_lowers.specs.Given.RawDeclared.machines.machine.Machine.TheVariants as kinds
+use Rattle.papaya_lowers.specs.Given.RawDeclared.machines.progress.Progress.{Progress}
+use Rattle.papaya_lowers.specs.Given.RawDeclared.machines.progress.Progress.TheVariants as progress
+use Rattle.papaya_lowers.proofs.Given.RuleKeys.Always.{Always, AlwaysOf, always_if, always_plan_as}
 use Rattle.papaya_works.specs.Given.TellerDeclared.changed.Changed.TheVariants.{Nothing}
 use Rattle.papaya_works.proofs.Given.HistoriesAsking.{always_told, always_turned}
 use Rattle.papaya_works.specs.Given.NamedMachines.{IsBefore}

@@ -1,31 +1,31 @@
 -- What a step of a walk, a clearing or a retaining says, by what was called.
 use Rattle.std.specs.Prelude.{◌≡◌, ℕ, Bool, true, List, Option, Some}
 use Rattle.std.proofs.Common.{refl, sym, ap, subst, ◌∙◌, inl, inr}
-use Rattle.papaya_runs.specs.Given.Tables.declared.node.Node.{Node}
-use Rattle.papaya_lowers.specs.Given.Sweeps.SweepPoints.{removes}
-use Rattle.papaya_lowers.specs.Given.Sweeps.declared.sweep.Purpose.TheVariants.{Walks, Clears, Retains}
-use Rattle.papaya_lowers.specs.Given.Sweeps.declared.sweep.Sweep.{Sweep}
-use Rattle.papaya_lowers.specs.Given.Sweeps.declared.sweep.Sweeping.{Sweeping}
-use Rattle.papaya_lowers.specs.Given.Sweeps.declared.sweep.Sweeping.TheVariants as at
-use Rattle.papaya_lowers.specs.Given.Sweeps.declared.sweep.Swept.{Swept}
-use Rattle.papaya_lowers.specs.Given.Sweeps.declared.sweep.Swept.TheVariants as ends
-use Rattle.papaya_lowers.specs.Given.Raw.Progress.{of_swept}
-use Rattle.papaya_lowers.specs.Given.Raw.declared.machines.machine.Machine.{Machine}
-use Rattle.papaya_lowers.specs.Given.Raw.declared.machines.machine.Machine.TheVariants as kinds
-use Rattle.papaya_lowers.specs.Given.Raw.declared.machines.progress.Progress.{Progress}
-use Rattle.papaya_lowers.specs.Given.Raw.declared.machines.progress.Progress.TheVariants as progress
+use Rattle.papaya_runs.specs.Given.TablesDeclared.node.Node.{Node}
+use Rattle.papaya_lowers.specs.Given.SweepsSweepPoints.{removes}
+use Rattle.papaya_lowers.specs.Given.SweepsDeclared.sweep.Purpose.TheVariants.{Walks, Clears, Retains}
+use Rattle.papaya_lowers.specs.Given.SweepsDeclared.sweep.Sweep.{Sweep}
+use Rattle.papaya_lowers.specs.Given.SweepsDeclared.sweep.Sweeping.{Sweeping}
+use Rattle.papaya_lowers.specs.Given.SweepsDeclared.sweep.Sweeping.TheVariants as at
+use Rattle.papaya_lowers.specs.Given.SweepsDeclared.sweep.Swept.{Swept}
+use Rattle.papaya_lowers.specs.Given.SweepsDeclared.sweep.Swept.TheVariants as ends
+use Rattle.papaya_lowers.specs.Given.RawProgress.{of_swept}
+use Rattle.papaya_lowers.specs.Given.RawDeclared.machines.machine.Machine.{Machine}
+use Rattle.papaya_lowers.specs.Given.RawDeclared.machines.machine.Machine.TheVariants as kinds
+use Rattle.papaya_lowers.specs.Given.RawDeclared.machines.progress.Progress.{Progress}
+use Rattle.papaya_lowers.specs.Given.RawDeclared.machines.progress.Progress.TheVariants as progress
 use Rattle.papaya_works.specs.Given.SchedulesDeclared.call.Call.{Call}
 use Rattle.papaya_works.specs.Given.SchedulesDeclared.call.Call.TheVariants.{Clear, Retain, Walk}
 use Rattle.papaya_works.specs.Given.SchedulesMoment.{UnderWay as CallThere, Moment}
 use Rattle.papaya_works.specs.Given.SchedulesViews.{call_of}
-use Rattle.papaya_lowers.specs.Given.Late.Faults.{RoomInSweeping}
-use Rattle.papaya_lowers.specs.Given.Late.FactsSweeps.{SweepingFacts}
-use Rattle.papaya_lowers.specs.Given.Late.ToldSweeps.{IsRowOfSweep}
-use Rattle.papaya_lowers.specs.Given.Callers.OverAll.{CallOverAll}
-use Rattle.papaya_lowers.specs.Given.Callers.Sights.{seen_by}
-use Rattle.papaya_lowers.specs.Given.Callers.Together.{UnderWay, OverAll, Stands as TogetherStands, Together, in_slot}
-use Rattle.papaya_lowers.specs.Given.Finishes.Machines.{GoesOnAs, machine_of}
-use Rattle.papaya_lowers.specs.Given.Finishes.Maps.{Standing}
+use Rattle.papaya_lowers.specs.Given.LateFaults.{RoomInSweeping}
+use Rattle.papaya_lowers.specs.Given.LateFactsSweeps.{SweepingFacts}
+use Rattle.papaya_lowers.specs.Given.LateToldSweeps.{IsRowOfSweep}
+use Rattle.papaya_lowers.specs.Given.CallersOverAll.{CallOverAll}
+use Rattle.papaya_lowers.specs.Given.CallersSights.{seen_by}
+use Rattle.papaya_lowers.specs.Given.CallersTogether.{UnderWay, OverAll, Stands as TogetherStands, Together, in_slot}
+use Rattle.papaya_lowers.specs.Given.FinishesMachines.{GoesOnAs, machine_of}
+use Rattle.papaya_lowers.specs.Given.FinishesMaps.{Standing}
 use Rattle.papaya_works.specs.Given.EffectsKnown.{Known}
 use Rattle.papaya_works.specs.Given.HandsCalling.{AsksJust}
 use Rattle.papaya_works.specs.Given.MomentsWhole.{ShowsWhole}

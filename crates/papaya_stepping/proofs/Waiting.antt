@@ -4,13 +4,13 @@ use Rattle.std.specs.List.{list_any}
 use Rattle.std.proofs.Common.{◌≡◌, ℕ, zero, suc, ◌≤◌, ◌<◌, Bool, true, false, List, refl, sym, ap, ◌∙◌, inl, inr, arith}
 use Rattle.std.proofs.lemmas.Bool.{eq-eqb}
 use Rattle.std.proofs.lemmas.List.{length-map}
-use Rattle.papaya_runs.specs.Given.Seize.World.{Rests}
-use Rattle.papaya_lowers.specs.Given.SeizeEnds.Holders.{has_batch}
-use Rattle.papaya_runs.specs.Given.Tables.Chunks.{is_incremental}
-use Rattle.papaya_lowers.specs.Given.Raw.declared.machines.call.Calling.{Calling}
-use Rattle.papaya_lowers.specs.Given.Raw.declared.machines.call.Calling.TheVariants as at
-use Rattle.papaya_lowers.specs.Given.Rule.Chart.{Chart}
-use Rattle.papaya_lowers.specs.Given.Rule.Words.{Blocks}
+use Rattle.papaya_runs.specs.Given.SeizeWorld.{Rests}
+use Rattle.papaya_lowers.specs.Given.SeizeEndsHolders.{has_batch}
+use Rattle.papaya_runs.specs.Given.TablesChunks.{is_incremental}
+use Rattle.papaya_lowers.specs.Given.RawDeclared.machines.call.Calling.{Calling}
+use Rattle.papaya_lowers.specs.Given.RawDeclared.machines.call.Calling.TheVariants as at
+use Rattle.papaya_lowers.specs.Given.RuleChart.{Chart}
+use Rattle.papaya_lowers.specs.Given.RuleWords.{Blocks}
 use Rattle.papaya_works.specs.Given.ShownShown.{tables_on}
 use Rattle.papaya_runs.specs.Present.{slot_of_guard}
 use Rattle.papaya_runs.specs.Same.{is_same}
@@ -26,13 +26,13 @@ use Rattle.papaya_works.specs.Given.SchedulesTerms.{Terms}
 use Rattle.papaya_works.specs.Given.SchedulesSequential.{key_of}
 use Rattle.papaya_works.specs.Given.SchedulesViews.{call_of, chain_of, finite_map, first_of, first_or, grows_in_chunks, map_at, tables_of}
 use Rattle.papaya_works.specs.Given.SchedulesWaiting.{is_resizing, is_to_be_copied, may_wait_for, waits_on_map}
-use Rattle.papaya_lowers.specs.Given.Late.Kinds.{LooksAt}
-use Rattle.papaya_lowers.specs.Given.Points.Told.{IsRowOfCall}
-use Rattle.papaya_lowers.specs.Given.Callers.OverAll.{CallOverAll}
-use Rattle.papaya_lowers.specs.Given.Callers.Rooms.{CallForRoom}
-use Rattle.papaya_lowers.specs.Given.Callers.Together.{CallOnKey, UnderWay, OnKey, ForRoom, Counting, OverAll}
-use Rattle.papaya_lowers.specs.Given.Finishes.Machines.{machine_of}
-use Rattle.papaya_lowers.specs.Given.Finishes.Maps.{Standing}
+use Rattle.papaya_lowers.specs.Given.LateKinds.{LooksAt}
+use Rattle.papaya_lowers.specs.Given.PointsTold.{IsRowOfCall}
+use Rattle.papaya_lowers.specs.Given.CallersOverAll.{CallOverAll}
+use Rattle.papaya_lowers.specs.Given.CallersRooms.{CallForRoom}
+use Rattle.papaya_lowers.specs.Given.CallersTogether.{CallOnKey, UnderWay, OnKey, ForRoom, Counting, OverAll}
+use Rattle.papaya_lowers.specs.Given.FinishesMachines.{machine_of}
+use Rattle.papaya_lowers.specs.Given.FinishesMaps.{Standing}
 use Rattle.papaya_works.specs.Given.FollowsCalls.{IsCalled}
 use Rattle.papaya_works.proofs.Given.HandsCalling.{caller_is}
 use Rattle.papaya_works.specs.Given.OwesLooking.{IsLooking}

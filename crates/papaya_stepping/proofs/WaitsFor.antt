@@ -2,39 +2,39 @@
 use Rattle.std.specs.Prelude.{Option, Some}
 use Rattle.std.specs.List.{list_any}
 use Rattle.std.proofs.Common.{◌≡◌, ℕ, suc, ◌<◌, ◌⊎◌, inl, inr, Bool, true, false, refl, ap, sym, subst, ◌∙◌}
-use Rattle.papaya_lowers.specs.Given.Waits.Others.{copier_in}
-use Rattle.papaya_runs.specs.Given.SeizeWords.Mem.{Mem, Took, value_at}
-use Rattle.papaya_runs.specs.Given.SeizeWords.Plan.{Steps}
-use Rattle.papaya_runs.specs.Given.Seize.World.{World, Row}
-use Rattle.papaya_lowers.specs.Given.SeizeEnds.Holders.{has_batch}
-use Rattle.papaya_runs.specs.Given.Tables.Chunks.{is_incremental}
-use Rattle.papaya_runs.specs.Given.Tables.declared.node.Node.{Node}
-use Rattle.papaya_runs.specs.Given.Tables.declared.setting.Setting.{Setting}
-use Rattle.papaya_lowers.specs.Given.Resize.declared.copier.Copier.{Copier}
-use Rattle.papaya_lowers.specs.Given.Resize.declared.copier.Copying.{Copying}
-use Rattle.papaya_lowers.specs.Given.Resize.declared.copier.Copying.TheVariants as copies
-use Rattle.papaya_lowers.specs.Given.Raw.Call.{call_plan}
-use Rattle.papaya_lowers.specs.Given.Raw.Call as calls
-use Rattle.papaya_lowers.specs.Given.Raw.declared.machines.answer.Called.TheVariants as says
-use Rattle.papaya_lowers.specs.Given.Raw.declared.machines.call.Calling.{Calling}
-use Rattle.papaya_lowers.specs.Given.Raw.declared.machines.call.Calling.TheVariants as at
-use Rattle.papaya_lowers.specs.Given.Raw.declared.machines.call.KeyCall.{KeyCall}
-use Rattle.papaya_lowers.specs.Given.Rule.Chart.{Claimed}
-use Rattle.papaya_lowers.specs.Given.Rule.Words.{Blocks}
-use Rattle.papaya_lowers.specs.Given.Points.FactsCalls.{CallFacts, CallingFacts, IsCopying, Unchanged}
-use Rattle.papaya_lowers.specs.Given.Points.Steps.{AreLawful}
-use Rattle.papaya_lowers.specs.Given.Points.Told.{IsRowOfCall}
-use Rattle.papaya_lowers.specs.Given.Late.LateCalls.{LateCallFacts, LateCalling}
-use Rattle.papaya_lowers.specs.Given.Callers.Rows.{IsRowOn, row_of}
-use Rattle.papaya_lowers.specs.Given.Callers.Sights.{seen_by}
-use Rattle.papaya_lowers.specs.Given.Callers.Together.{CallOnKey, UnderWay, OnKey, Together, in_slot}
-use Rattle.papaya_lowers.proofs.Given.Whole.Rows.Kinds.{row_decided}
-use Rattle.papaya_lowers.specs.Given.Waits.Waits.{AnotherHolds, CallAwaits, CopierAwaits, IsBeingCopied}
-use Rattle.papaya_lowers.proofs.Given.Waits.Claimed.{pairs_are_copied_by_calls}
+use Rattle.papaya_lowers.specs.Given.WaitsOthers.{copier_in}
+use Rattle.papaya_runs.specs.Given.SeizeWordsMem.{Mem, Took, value_at}
+use Rattle.papaya_runs.specs.Given.SeizeWordsPlan.{Steps}
+use Rattle.papaya_runs.specs.Given.SeizeWorld.{World, Row}
+use Rattle.papaya_lowers.specs.Given.SeizeEndsHolders.{has_batch}
+use Rattle.papaya_runs.specs.Given.TablesChunks.{is_incremental}
+use Rattle.papaya_runs.specs.Given.TablesDeclared.node.Node.{Node}
+use Rattle.papaya_runs.specs.Given.TablesDeclared.setting.Setting.{Setting}
+use Rattle.papaya_lowers.specs.Given.ResizeDeclared.copier.Copier.{Copier}
+use Rattle.papaya_lowers.specs.Given.ResizeDeclared.copier.Copying.{Copying}
+use Rattle.papaya_lowers.specs.Given.ResizeDeclared.copier.Copying.TheVariants as copies
+use Rattle.papaya_lowers.specs.Given.RawCall.{call_plan}
+use Rattle.papaya_lowers.specs.Given.RawCall as calls
+use Rattle.papaya_lowers.specs.Given.RawDeclared.machines.answer.Called.TheVariants as says
+use Rattle.papaya_lowers.specs.Given.RawDeclared.machines.call.Calling.{Calling}
+use Rattle.papaya_lowers.specs.Given.RawDeclared.machines.call.Calling.TheVariants as at
+use Rattle.papaya_lowers.specs.Given.RawDeclared.machines.call.KeyCall.{KeyCall}
+use Rattle.papaya_lowers.specs.Given.RuleChart.{Claimed}
+use Rattle.papaya_lowers.specs.Given.RuleWords.{Blocks}
+use Rattle.papaya_lowers.specs.Given.PointsFactsCalls.{CallFacts, CallingFacts, IsCopying, Unchanged}
+use Rattle.papaya_lowers.specs.Given.PointsSteps.{AreLawful}
+use Rattle.papaya_lowers.specs.Given.PointsTold.{IsRowOfCall}
+use Rattle.papaya_lowers.specs.Given.LateLateCalls.{LateCallFacts, LateCalling}
+use Rattle.papaya_lowers.specs.Given.CallersRows.{IsRowOn, row_of}
+use Rattle.papaya_lowers.specs.Given.CallersSights.{seen_by}
+use Rattle.papaya_lowers.specs.Given.CallersTogether.{CallOnKey, UnderWay, OnKey, Together, in_slot}
+use Rattle.papaya_lowers.proofs.Given.WholeRows.Kinds.{row_decided}
+use Rattle.papaya_lowers.specs.Given.WaitsWaits.{AnotherHolds, CallAwaits, CopierAwaits, IsBeingCopied}
+use Rattle.papaya_lowers.proofs.Given.WaitsClaimed.{pairs_are_copied_by_calls}
 use Rattle.papaya_lowers.proofs.ItsPair.{waits_for_its_pair}
-use Rattle.papaya_lowers.proofs.Given.Waits.Laws.{calls_wait_for_a_copying, call_rows_wait_for_a_holder}
-use Rattle.papaya_lowers.proofs.Given.Waits.Promised.{map_of}
-use Rattle.papaya_lowers.proofs.Given.Waits.Works.{not_idle, works}
+use Rattle.papaya_lowers.proofs.Given.WaitsLaws.{calls_wait_for_a_copying, call_rows_wait_for_a_holder}
+use Rattle.papaya_lowers.proofs.Given.WaitsPromised.{map_of}
+use Rattle.papaya_lowers.proofs.Given.WaitsWorks.{not_idle, works}
 use Rattle.papaya_works.specs.Given.SchedulesDeclared.call.OneKey.{OneKey}
 use Rattle.papaya_works.specs.Given.SchedulesMoment.{UnderWay as CallThere, Moment}
 use Rattle.papaya_works.specs.Given.SchedulesSequential.{key_of}
@@ -43,7 +43,7 @@ use Rattle.papaya_works.specs.Given.SchedulesViews.{call_of, finite_map, grows_i
 use Rattle.papaya_works.specs.Given.SchedulesWaiting.{is_to_be_copied, may_wait_for, waits_on_map}
 use Rattle.papaya_works.specs.Given.TellerDeclared.changed.Changed.{Changed}
 use Rattle.papaya_works.specs.Given.TellerDeclared.changed.Changed.TheVariants as changed
-use Rattle.papaya_lowers.specs.Given.Finishes.Maps.{Standing}
+use Rattle.papaya_lowers.specs.Given.FinishesMaps.{Standing}
 use Rattle.papaya_works.specs.Given.FollowsCalls.{IsCalled}
 use Rattle.papaya_works.proofs.Given.OwesTables.Hosts.{Step}
 use Rattle.papaya_works.specs.Given.SchedulerPlayed.{StandsFor}

@@ -10,9 +10,9 @@ pub use Rattle.papaya_works.specs.Given.SchedulerReclaiming
 pub use Rattle.papaya_works.specs.Given.SchedulerWorks
 pub use Rattle.papaya_works.specs.Given.SchedulerContracts
 pub use Rattle.papaya_works.specs.Given.SchedulerDeclared
-pub use Rattle.papaya_lowers.specs.Given.Points.FactsCalls as PointsFactsCalls
-pub use Rattle.papaya_lowers.specs.Given.Points.Steps as PointsSteps
-pub use Rattle.papaya_lowers.specs.Given.Points.Told as PointsTold
+pub use Rattle.papaya_lowers.specs.Given.PointsFactsCalls as PointsFactsCalls
+pub use Rattle.papaya_lowers.specs.Given.PointsSteps as PointsSteps
+pub use Rattle.papaya_lowers.specs.Given.PointsTold as PointsTold
 pub use Rattle.papaya_works.specs.Given.FindsBounded
 pub use Rattle.papaya_works.specs.Given.FindsCapacities
 pub use Rattle.papaya_works.specs.Given.FindsDoing
@@ -25,23 +25,23 @@ pub use Rattle.papaya_works.specs.Given.FindsTables
 pub use Rattle.papaya_works.specs.Given.FindsTornDown
 pub use Rattle.papaya_works.specs.Given.FindsWaiting
 pub use Rattle.papaya_works.specs.Given.FindsWithin
-pub use Rattle.papaya_lowers.specs.Given.SeizeWaiting.Held as SeizeWaitingHeld
-pub use Rattle.papaya_runs.specs.Given.Seize.ReclaimAll as SeizeReclaimAll
-pub use Rattle.papaya_runs.specs.Given.Seize.Sequence as SeizeSequence
-pub use Rattle.papaya_runs.specs.Given.Seize.WaitingSets as SeizeWaitingSets
-pub use Rattle.papaya_runs.specs.Given.Seize.World as SeizeWorld
-pub use Rattle.papaya_runs.specs.Given.Seize.declared as SeizeDeclared
-pub use Rattle.papaya_runs.specs.Given.Tables.Chunks as TablesChunks
-pub use Rattle.papaya_runs.specs.Given.Tables.Lengths as TablesLengths
-pub use Rattle.papaya_runs.specs.Given.Tables.Nodes as TablesNodes
-pub use Rattle.papaya_runs.specs.Given.Tables.Powers as TablesPowers
-pub use Rattle.papaya_runs.specs.Given.Tables.declared as TablesDeclared
-pub use Rattle.papaya_lowers.specs.Given.Raw.Machine as RawMachine
-pub use Rattle.papaya_lowers.specs.Given.Raw.declared as RawDeclared
-pub use Rattle.papaya_lowers.specs.Given.Callers.OverAll as CallersOverAll
-pub use Rattle.papaya_lowers.specs.Given.Callers.Rooms as CallersRooms
-pub use Rattle.papaya_lowers.specs.Given.Callers.Rows as CallersRows
-pub use Rattle.papaya_lowers.specs.Given.Callers.Together as CallersTogether
+pub use Rattle.papaya_lowers.specs.Given.SeizeWaitingHeld as SeizeWaitingHeld
+pub use Rattle.papaya_runs.specs.Given.SeizeReclaimAll as SeizeReclaimAll
+pub use Rattle.papaya_runs.specs.Given.SeizeSequence as SeizeSequence
+pub use Rattle.papaya_runs.specs.Given.SeizeWaitingSets as SeizeWaitingSets
+pub use Rattle.papaya_runs.specs.Given.SeizeWorld as SeizeWorld
+pub use Rattle.papaya_runs.specs.Given.SeizeDeclared as SeizeDeclared
+pub use Rattle.papaya_runs.specs.Given.TablesChunks as TablesChunks
+pub use Rattle.papaya_runs.specs.Given.TablesLengths as TablesLengths
+pub use Rattle.papaya_runs.specs.Given.TablesNodes as TablesNodes
+pub use Rattle.papaya_runs.specs.Given.TablesPowers as TablesPowers
+pub use Rattle.papaya_runs.specs.Given.TablesDeclared as TablesDeclared
+pub use Rattle.papaya_lowers.specs.Given.RawMachine as RawMachine
+pub use Rattle.papaya_lowers.specs.Given.RawDeclared as RawDeclared
+pub use Rattle.papaya_lowers.specs.Given.CallersOverAll as CallersOverAll
+pub use Rattle.papaya_lowers.specs.Given.CallersRooms as CallersRooms
+pub use Rattle.papaya_lowers.specs.Given.CallersRows as CallersRows
+pub use Rattle.papaya_lowers.specs.Given.CallersTogether as CallersTogether
 pub use Rattle.papaya_works.specs.Given.ExecutorEnding
 pub use Rattle.papaya_works.specs.Given.ExecutorIsThere
 pub use Rattle.papaya_works.specs.Given.ExecutorMaking
@@ -60,12 +60,12 @@ pub use Rattle.papaya_works.specs.Given.HistoriesInEvent
 pub use Rattle.papaya_works.specs.Given.HistoriesOtherCalls
 pub use Rattle.papaya_works.specs.Given.HistoriesOtherMidsts
 pub use Rattle.papaya_works.specs.Given.HistoriesQuestions
-pub use Rattle.papaya_lowers.specs.Given.Finishes.Endings as FinishesEndings
-pub use Rattle.papaya_lowers.specs.Given.Finishes.FactsEnds as FinishesFactsEnds
-pub use Rattle.papaya_lowers.specs.Given.Finishes.Machines as FinishesMachines
-pub use Rattle.papaya_lowers.specs.Given.Finishes.Makings as FinishesMakings
-pub use Rattle.papaya_lowers.specs.Given.Finishes.Maps as FinishesMaps
-pub use Rattle.papaya_lowers.specs.Given.Finishes.Orders as FinishesOrders
+pub use Rattle.papaya_lowers.specs.Given.FinishesEndings as FinishesEndings
+pub use Rattle.papaya_lowers.specs.Given.FinishesFactsEnds as FinishesFactsEnds
+pub use Rattle.papaya_lowers.specs.Given.FinishesMachines as FinishesMachines
+pub use Rattle.papaya_lowers.specs.Given.FinishesMakings as FinishesMakings
+pub use Rattle.papaya_lowers.specs.Given.FinishesMaps as FinishesMaps
+pub use Rattle.papaya_lowers.specs.Given.FinishesOrders as FinishesOrders
 pub use Rattle.papaya_works.specs.Given.ModelsAlike
 pub use Rattle.papaya_works.specs.Given.ModelsCallEvents
 pub use Rattle.papaya_works.specs.Given.ModelsFollows
@@ -90,12 +90,12 @@ pub use Rattle.papaya_works.specs.Firsts as WorksFirsts
 pub use Rattle.papaya_works.specs.Makings as WorksMakings
 pub use Rattle.papaya_works.specs.Needs as WorksNeeds
 pub use Rattle.papaya_works.specs.Rows as WorksRows
-pub use Rattle.papaya_lowers.specs.Given.Rule.Chart as RuleChart
-pub use Rattle.papaya_lowers.specs.Given.Rule.InWorld as RuleInWorld
-pub use Rattle.papaya_runs.specs.Given.SeizeWords.Mem as SeizeWordsMem
-pub use Rattle.papaya_runs.specs.Given.SeizeWords.Place as SeizeWordsPlace
-pub use Rattle.papaya_runs.specs.Given.SeizeWords.SlotWords as SeizeWordsSlotWords
-pub use Rattle.papaya_runs.specs.Given.SeizeWords.declared as SeizeWordsDeclared
+pub use Rattle.papaya_lowers.specs.Given.RuleChart as RuleChart
+pub use Rattle.papaya_lowers.specs.Given.RuleInWorld as RuleInWorld
+pub use Rattle.papaya_runs.specs.Given.SeizeWordsMem as SeizeWordsMem
+pub use Rattle.papaya_runs.specs.Given.SeizeWordsPlace as SeizeWordsPlace
+pub use Rattle.papaya_runs.specs.Given.SeizeWordsSlotWords as SeizeWordsSlotWords
+pub use Rattle.papaya_runs.specs.Given.SeizeWordsDeclared as SeizeWordsDeclared
 pub use Rattle.papaya_runs.specs.Present as RunsPresent
 pub use Rattle.papaya_runs.specs.Runs as RunsRuns
 pub use Rattle.papaya_runs.specs.Same as RunsSame
@@ -122,29 +122,29 @@ pub use Rattle.papaya_works.specs.Given.RemainsNumbered
 pub use Rattle.papaya_works.specs.Given.RemainsRemains
 pub use Rattle.papaya_works.specs.Given.RemainsSlots
 pub use Rattle.papaya_works.specs.Given.RowsRows
-pub use Rattle.papaya_lowers.specs.Given.Resize.declared as ResizeDeclared
+pub use Rattle.papaya_lowers.specs.Given.ResizeDeclared as ResizeDeclared
 pub use Rattle.papaya_works.specs.Given.ReclaimingReclaiming
 pub use Rattle.papaya_works.specs.Given.GrowsCopiers
 pub use Rattle.papaya_works.specs.Given.GrowsFinding
 pub use Rattle.papaya_works.specs.Given.GrowsNexts
 pub use Rattle.papaya_works.specs.Given.GrowsTries
 pub use Rattle.papaya_works.specs.Given.KeptKept
-pub use Rattle.papaya_lowers.specs.Given.Sweeps.SweepPoints as SweepsSweepPoints
-pub use Rattle.papaya_lowers.specs.Given.Sweeps.declared as SweepsDeclared
+pub use Rattle.papaya_lowers.specs.Given.SweepsSweepPoints as SweepsSweepPoints
+pub use Rattle.papaya_lowers.specs.Given.SweepsDeclared as SweepsDeclared
 pub use Rattle.papaya_works.specs.Given.PurposesKept
 pub use Rattle.papaya_works.specs.Given.PurposesPurposes
 pub use Rattle.papaya_works.specs.Given.PurposesShards
 pub use Rattle.papaya_works.specs.Given.PurposesSwept
-pub use Rattle.papaya_lowers.specs.Given.SeizeAlone.Alone as SeizeAloneAlone
-pub use Rattle.papaya_lowers.specs.Given.SeizeActs.Acts as SeizeActsActs
-pub use Rattle.papaya_lowers.specs.Given.SeizeActs.Answers as SeizeActsAnswers
+pub use Rattle.papaya_lowers.specs.Given.SeizeAloneAlone as SeizeAloneAlone
+pub use Rattle.papaya_lowers.specs.Given.SeizeActsActs as SeizeActsActs
+pub use Rattle.papaya_lowers.specs.Given.SeizeActsAnswers as SeizeActsAnswers
 pub use Rattle.papaya_works.specs.Given.SettlesCounts
 pub use Rattle.papaya_works.specs.Given.SettlesHand
 pub use Rattle.papaya_works.specs.Given.ShardsAdds
 pub use Rattle.papaya_works.specs.Given.ShardsShardWords
-pub use Rattle.papaya_lowers.specs.Given.Late.Faults as LateFaults
-pub use Rattle.papaya_lowers.specs.Given.Late.Kinds as LateKinds
-pub use Rattle.papaya_lowers.specs.Given.Late.ToldSweeps as LateToldSweeps
+pub use Rattle.papaya_lowers.specs.Given.LateFaults as LateFaults
+pub use Rattle.papaya_lowers.specs.Given.LateKinds as LateKinds
+pub use Rattle.papaya_lowers.specs.Given.LateToldSweeps as LateToldSweeps
 pub use Rattle.papaya_works.specs.Given.LivesBehind
 pub use Rattle.papaya_works.specs.Given.LivesWaiting
 pub use Rattle.papaya_works.specs.Given.OwesEvents

@@ -2,9 +2,9 @@
 use Rattle.std.specs.Prelude.{◌≡◌, ◌≢◌, ◌+◌, ◌-◌, ℕ, Bool, true, false, nat_lt, bit_or, if◌then◌else◌, IsSome, Option, Some, Ok, Err}
 use Rattle.std.proofs.Common.{refl, sym, subst, ap, ◌∙◌}
 use Rattle.std.proofs.lemmas.Bool.{eq-eqb, lt-ltb, ne_eqb}
-use Rattle.papaya_tables.specs.Given.SeizeWords.Op.{Op, Out, Load, Store, Or, Exchange, Found, Stored, Exchanged}
-use Rattle.papaya_tables.specs.Given.SeizeWords.Plan.{MaySee, Steps}
-use Rattle.papaya_tables.specs.Given.SeizeWords.Word.{block_in}
+use Rattle.papaya_tables.specs.Given.SeizeWordsOp.{Op, Out, Load, Store, Or, Exchange, Found, Stored, Exchanged}
+use Rattle.papaya_tables.specs.Given.SeizeWordsPlan.{MaySee, Steps}
+use Rattle.papaya_tables.specs.Given.SeizeWordsWord.{block_in}
 use Rattle.papaya_tables.specs.Chunks.{is_incremental}
 use Rattle.papaya_tables.specs.Marks.{has_mark, unmarked_in}
 use Rattle.papaya_tables.specs.TablePlaces.{at_place}
@@ -13,14 +13,14 @@ use Rattle.papaya_tables.specs.declared.marks.TheConstants.{BORROWED, COPIED, CO
 use Rattle.papaya_tables.specs.declared.node.Node.{Node}
 use Rattle.papaya_tables.specs.declared.probe.Probe.{Probe}
 use Rattle.papaya_tables.specs.declared.table.Table.{Table}
-use Rattle.papaya_raw.specs.Given.Resize.Copier.{copier_plan}
-use Rattle.papaya_raw.specs.Given.Resize.CopierMarks.{is_awaited, is_mine, key_hash, marked, probing, without_copying}
-use Rattle.papaya_raw.specs.Given.Resize.CopierPlaces.{copied_word, next_try}
-use Rattle.papaya_raw.specs.Given.Resize.CopierStates.{next_place, standing}
-use Rattle.papaya_raw.specs.Given.Resize.declared.copier.Copier.{Copier}
-use Rattle.papaya_raw.specs.Given.Resize.declared.copier.Copying.{Copying}
-use Rattle.papaya_raw.specs.Given.Resize.declared.copier.Copying.TheVariants as at
-use Rattle.papaya_raw.specs.Given.Resize.declared.outcome.Outcome.TheVariants as outcome
+use Rattle.papaya_raw.specs.Given.ResizeCopier.{copier_plan}
+use Rattle.papaya_raw.specs.Given.ResizeCopierMarks.{is_awaited, is_mine, key_hash, marked, probing, without_copying}
+use Rattle.papaya_raw.specs.Given.ResizeCopierPlaces.{copied_word, next_try}
+use Rattle.papaya_raw.specs.Given.ResizeCopierStates.{next_place, standing}
+use Rattle.papaya_raw.specs.Given.ResizeDeclared.copier.Copier.{Copier}
+use Rattle.papaya_raw.specs.Given.ResizeDeclared.copier.Copying.{Copying}
+use Rattle.papaya_raw.specs.Given.ResizeDeclared.copier.Copying.TheVariants as at
+use Rattle.papaya_raw.specs.Given.ResizeDeclared.outcome.Outcome.TheVariants as outcome
 use Rattle.papaya_straight.specs.Copying.{IsMidst, further, missed, moved, one_more_done, placing}
 use Rattle.papaya_straight.specs.Going.{CopyGoes, CopyLeads, MayCopy}
 use Rattle.seize_straight.specs.Runs.{none_taken, one_more}

@@ -2,23 +2,23 @@
 use Rattle.std.specs.Prelude.{◌≡◌, ◌<◌, ◌≤◌, ℕ, Bool, true, false, Option, Some}
 use Rattle.std.proofs.Common.{refl, sym, subst, ap}
 use Rattle.std.proofs.lemmas.Bool.{false≢true, le-ltb, lt-ltb}
-use Rattle.papaya_tables.specs.Given.SeizeWords.Op.{Op, Out, Load, Found}
-use Rattle.papaya_tables.specs.Given.SeizeWords.Word.{block_in}
-use Rattle.papaya_tables.specs.Given.SeizeWords.declared.at.At.TheVariants.{Root}
-use Rattle.papaya_tables.specs.Given.Seize.Settle.{retiring, settle_plan}
-use Rattle.papaya_tables.specs.Given.Seize.declared.rows.settle.Settle.{Settle}
-use Rattle.papaya_tables.specs.Given.Seize.declared.rows.settle.Settled.{Settled}
-use Rattle.papaya_tables.specs.Given.Seize.declared.rows.settle.Settled.TheVariants as settling
+use Rattle.papaya_tables.specs.Given.SeizeWordsOp.{Op, Out, Load, Found}
+use Rattle.papaya_tables.specs.Given.SeizeWordsWord.{block_in}
+use Rattle.papaya_tables.specs.Given.SeizeWordsDeclared.at.At.TheVariants.{Root}
+use Rattle.papaya_tables.specs.Given.SeizeSettle.{retiring, settle_plan}
+use Rattle.papaya_tables.specs.Given.SeizeDeclared.rows.settle.Settle.{Settle}
+use Rattle.papaya_tables.specs.Given.SeizeDeclared.rows.settle.Settled.{Settled}
+use Rattle.papaya_tables.specs.Given.SeizeDeclared.rows.settle.Settled.TheVariants as settling
 use Rattle.papaya_tables.specs.Marks.{link_in}
 use Rattle.papaya_tables.specs.Nodes.{deferred_word, table_seen}
 use Rattle.papaya_tables.specs.declared.node.Node.{Node}
 use Rattle.papaya_tables.specs.declared.setting.Setting.{Setting}
 use Rattle.papaya_tables.specs.declared.table.Table.{Table}
-use Rattle.papaya_raw.specs.Given.Resize.Dispose.{dispose_plan, disposing, settled, start_of}
-use Rattle.papaya_raw.specs.Given.Resize.declared.dispose.Disposing.TheVariants as disposal
+use Rattle.papaya_raw.specs.Given.ResizeDispose.{dispose_plan, disposing, settled, start_of}
+use Rattle.papaya_raw.specs.Given.ResizeDeclared.dispose.Disposing.TheVariants as disposal
 use Rattle.papaya_tables.specs.declared.resize_mode.ResizeMode.{ResizeMode}
 use Rattle.papaya_tables.specs.declared.resize_mode.ResizeMode.TheVariants.{Incremental, Blocking}
-use Rattle.papaya_raw.specs.Given.Resize.declared.dispose.Dispose.{Dispose}
+use Rattle.papaya_raw.specs.Given.ResizeDeclared.dispose.Dispose.{Dispose}
 use Rattle.papaya_raw.specs.Call.{call_plan, disposed}
 use Rattle.papaya_raw.specs.declared.machines.answer.Called.TheVariants as called
 use Rattle.papaya_raw.specs.declared.machines.answer.KeyAnswer.{KeyAnswer}

@@ -1,9 +1,9 @@
 -- Steps of a machine within another one are steps of that one.
 use Rattle.std.specs.Prelude.{◌≡◌, ℕ, Option}
 use Rattle.std.proofs.Common.{sym, subst}
-use Rattle.papaya_tables.specs.Given.SeizeWords.Op.{Op, Out}
-use Rattle.papaya_tables.specs.Given.SeizeWords.Plan.{Plan, May, Steps, plan_as}
-use Rattle.papaya_tables.proofs.Given.SeizeWords.Plans.{may_as, steps_as}
+use Rattle.papaya_tables.specs.Given.SeizeWordsOp.{Op, Out}
+use Rattle.papaya_tables.specs.Given.SeizeWordsPlan.{Plan, May, Steps, plan_as}
+use Rattle.papaya_tables.proofs.Given.SeizeWordsPlans.{may_as, steps_as}
 use Rattle.seize_straight.specs.Runs.{MayRun, Leads, none_taken, one_more, Tells}
 use Rattle.seize_straight.proofs.Running.{by_law, may_step, runs_on}
 

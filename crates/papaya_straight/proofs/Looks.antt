@@ -2,17 +2,17 @@
 use Rattle.std.specs.Prelude.{◌≡◌, ◌≢◌, ℕ, Bool, IsSome, Option, Some, None}
 use Rattle.std.proofs.Common.{refl, sym, subst}
 use Rattle.std.proofs.lemmas.Bool.{ne_eqb, eq-eqb}
-use Rattle.papaya_tables.specs.Given.SeizeWords.Op.{Op, Out, Load, Found}
-use Rattle.papaya_tables.specs.Given.SeizeWords.Word.{block_in}
-use Rattle.papaya_tables.specs.Given.SeizeWords.declared.at.At.TheVariants.{Root}
-use Rattle.papaya_tables.specs.Given.Seize.declared.progress.Progress.TheVariants as progress
+use Rattle.papaya_tables.specs.Given.SeizeWordsOp.{Op, Out, Load, Found}
+use Rattle.papaya_tables.specs.Given.SeizeWordsWord.{block_in}
+use Rattle.papaya_tables.specs.Given.SeizeWordsDeclared.at.At.TheVariants.{Root}
+use Rattle.papaya_tables.specs.Given.SeizeDeclared.progress.Progress.TheVariants as progress
 use Rattle.papaya_tables.specs.Nodes.{table_seen}
 use Rattle.papaya_tables.specs.Trials.{first_trial}
 use Rattle.papaya_tables.specs.declared.node.Node.{Node}
 use Rattle.papaya_tables.specs.declared.resize_mode.ResizeMode.{ResizeMode}
 use Rattle.papaya_tables.specs.declared.trial.Trial.{Trial}
-use Rattle.papaya_raw.specs.Given.Resize.Lookup.{looking, lookup_plan}
-use Rattle.papaya_raw.specs.Given.Resize.declared.lookup.Looking.TheVariants as at
+use Rattle.papaya_raw.specs.Given.ResizeLookup.{looking, lookup_plan}
+use Rattle.papaya_raw.specs.Given.ResizeDeclared.lookup.Looking.TheVariants as at
 use Rattle.papaya_straight.specs.Going.{LookGoes, MayLook}
 use Rattle.papaya_straight.specs.Looking.{looks}
 use Rattle.seize_straight.specs.Runs.{Tells}

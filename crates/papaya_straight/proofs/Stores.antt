@@ -2,10 +2,10 @@
 use Rattle.std.specs.Prelude.{◌≡◌, ◌≢◌, ℕ, Bool, IsSome, Option, Some, Ok}
 use Rattle.std.proofs.Common.{refl, sym, subst}
 use Rattle.std.proofs.lemmas.Bool.{ne_eqb, eq-eqb}
-use Rattle.papaya_tables.specs.Given.SeizeWords.Op.{Op, Out, Load, Add, Exchange, Found, Exchanged}
-use Rattle.papaya_tables.specs.Given.SeizeWords.Plan.{Steps, Ends}
-use Rattle.papaya_tables.specs.Given.SeizeWords.Word.{block_in}
-use Rattle.papaya_tables.specs.Given.SeizeWords.declared.at.At.TheVariants.{Root}
+use Rattle.papaya_tables.specs.Given.SeizeWordsOp.{Op, Out, Load, Add, Exchange, Found, Exchanged}
+use Rattle.papaya_tables.specs.Given.SeizeWordsPlan.{Steps, Ends}
+use Rattle.papaya_tables.specs.Given.SeizeWordsWord.{block_in}
+use Rattle.papaya_tables.specs.Given.SeizeWordsDeclared.at.At.TheVariants.{Root}
 use Rattle.papaya_tables.specs.Counts.{count_change, shard_of}
 use Rattle.papaya_tables.specs.Nodes.{table_seen}
 use Rattle.papaya_tables.specs.Trials.{first_trial, place_tried}
@@ -13,7 +13,7 @@ use Rattle.papaya_tables.specs.declared.marks.TheConstants.{TOMBSTONE}
 use Rattle.papaya_tables.specs.declared.node.Node.{Node}
 use Rattle.papaya_tables.specs.declared.setting.Setting.{Setting}
 use Rattle.papaya_tables.specs.declared.trial.Trial.{Trial}
-use Rattle.papaya_raw.specs.Given.Resize.Dispose.{disposing}
+use Rattle.papaya_raw.specs.Given.ResizeDispose.{disposing}
 use Rattle.papaya_raw.specs.Call.{call_plan, word_read}
 use Rattle.papaya_raw.specs.CallPoints.{untried}
 use Rattle.papaya_raw.specs.declared.machines.answer.Called.{Called}

@@ -4,9 +4,9 @@ use Rattle.papaya_tables.specs.Chunks.{is_incremental}
 use Rattle.papaya_tables.specs.Probes.{probe_after}
 use Rattle.papaya_tables.specs.declared.probe.Probe.{Probe}
 use Rattle.papaya_tables.specs.declared.table.Table.{Table}
-use Rattle.papaya_raw.specs.Given.Resize.declared.copier.Copier.{Copier}
-use Rattle.papaya_raw.specs.Given.Resize.declared.copier.Copying.{Copying}
-use Rattle.papaya_raw.specs.Given.Resize.declared.copier.Copying.TheVariants as at
+use Rattle.papaya_raw.specs.Given.ResizeDeclared.copier.Copier.{Copier}
+use Rattle.papaya_raw.specs.Given.ResizeDeclared.copier.Copying.{Copying}
+use Rattle.papaya_raw.specs.Given.ResizeDeclared.copier.Copying.TheVariants as at
 use Rattle.papaya_straight.specs.declared.copying.Placed.{Placed}
 use Rattle.papaya_straight.specs.declared.copying.Placed.TheVariants as placed
 

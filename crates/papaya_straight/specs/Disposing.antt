@@ -1,17 +1,17 @@
 -- The disposal of a pair as straight code: where it stops.
 use Rattle.std.specs.Prelude.{ℕ, Bool, false}
-use Rattle.papaya_tables.specs.Given.Seize.declared.rows.settle.Settled.{Settled}
-use Rattle.papaya_tables.specs.Given.Seize.declared.rows.settle.Settled.TheVariants as settled
-use Rattle.papaya_tables.specs.Given.Seize.declared.rows.settle.Settle.{Settle}
+use Rattle.papaya_tables.specs.Given.SeizeDeclared.rows.settle.Settled.{Settled}
+use Rattle.papaya_tables.specs.Given.SeizeDeclared.rows.settle.Settled.TheVariants as settled
+use Rattle.papaya_tables.specs.Given.SeizeDeclared.rows.settle.Settle.{Settle}
 use Rattle.papaya_tables.specs.Marks.{has_mark, link_in}
 use Rattle.papaya_tables.specs.declared.marks.TheConstants.{BORROWED}
 use Rattle.papaya_tables.specs.declared.resize_mode.ResizeMode.{ResizeMode}
 use Rattle.papaya_tables.specs.declared.resize_mode.ResizeMode.TheVariants.{Incremental, Blocking}
 use Rattle.papaya_tables.specs.declared.setting.Setting.{Setting}
 use Rattle.papaya_tables.specs.declared.table.Table.{Table}
-use Rattle.papaya_raw.specs.Given.Resize.Dispose.{disposing}
-use Rattle.papaya_raw.specs.Given.Resize.declared.dispose.Dispose.{Dispose}
-use Rattle.papaya_raw.specs.Given.Resize.declared.dispose.Disposing.TheVariants as at
+use Rattle.papaya_raw.specs.Given.ResizeDispose.{disposing}
+use Rattle.papaya_raw.specs.Given.ResizeDeclared.dispose.Dispose.{Dispose}
+use Rattle.papaya_raw.specs.Given.ResizeDeclared.dispose.Disposing.TheVariants as at
 use Rattle.seize_straight.specs.Reaches.{Reached, At, Told}
 use Rattle.seize_straight.specs.Retiring.{settle_at}
 use Rattle.papaya_straight.specs.declared.disposing.Disposed.{Disposed}

@@ -1,4 +1,24 @@
 -- The words of the crates below, given on to the crates above: these list this crate in place of those.
-pub use Rattle.papaya_raw.specs as Raw
-pub use Rattle.papaya_tables.specs as Tables
-pub use Rattle.seize_straight.specs as SeizeStraight
+pub use Rattle.papaya_raw.specs.Answers as RawAnswers
+pub use Rattle.papaya_raw.specs.Call as RawCall
+pub use Rattle.papaya_raw.specs.CallAsks as RawCallAsks
+pub use Rattle.papaya_raw.specs.CallFills as RawCallFills
+pub use Rattle.papaya_raw.specs.CallPoints as RawCallPoints
+pub use Rattle.papaya_raw.specs.EndMap as RawEndMap
+pub use Rattle.papaya_raw.specs.Machine as RawMachine
+pub use Rattle.papaya_raw.specs.Progress as RawProgress
+pub use Rattle.papaya_raw.specs.Replies as RawReplies
+pub use Rattle.papaya_raw.specs.declared as RawDeclared
+pub use Rattle.papaya_tables.specs.Chunks as TablesChunks
+pub use Rattle.papaya_tables.specs.Counts as TablesCounts
+pub use Rattle.papaya_tables.specs.Finding as TablesFinding
+pub use Rattle.papaya_tables.specs.Lengths as TablesLengths
+pub use Rattle.papaya_tables.specs.Marks as TablesMarks
+pub use Rattle.papaya_tables.specs.Nodes as TablesNodes
+pub use Rattle.papaya_tables.specs.Powers as TablesPowers
+pub use Rattle.papaya_tables.specs.Probes as TablesProbes
+pub use Rattle.papaya_tables.specs.TablePlaces as TablesTablePlaces
+pub use Rattle.papaya_tables.specs.Trials as TablesTrials
+pub use Rattle.papaya_tables.specs.declared as TablesDeclared
+pub use Rattle.seize_straight.specs.Going as SeizeStraightGoing
+pub use Rattle.seize_straight.specs.Runs as SeizeStraightRuns

@@ -1,18 +1,18 @@
 -- Which outcomes of each machine go on, and so what may be run of it, and where that leads.
 use Rattle.std.specs.Prelude.{ℕ, Bool, Option}
-use Rattle.papaya_tables.specs.Given.SeizeWords.Op.{Op, Out}
-use Rattle.papaya_tables.specs.Given.Seize.declared.progress.Progress.{Progress}
-use Rattle.papaya_tables.specs.Given.Seize.declared.progress.Progress.TheVariants as progress
-use Rattle.papaya_tables.specs.Given.Seize.declared.rows.settle.Settled.{Settled}
+use Rattle.papaya_tables.specs.Given.SeizeWordsOp.{Op, Out}
+use Rattle.papaya_tables.specs.Given.SeizeDeclared.progress.Progress.{Progress}
+use Rattle.papaya_tables.specs.Given.SeizeDeclared.progress.Progress.TheVariants as progress
+use Rattle.papaya_tables.specs.Given.SeizeDeclared.rows.settle.Settled.{Settled}
 use Rattle.papaya_tables.specs.declared.node.Node.{Node}
-use Rattle.papaya_raw.specs.Given.Resize.Copier.{copier_plan}
-use Rattle.papaya_raw.specs.Given.Resize.declared.copier.Copier.{Copier}
-use Rattle.papaya_raw.specs.Given.Resize.Dispose.{dispose_plan}
-use Rattle.papaya_raw.specs.Given.Resize.declared.dispose.Dispose.{Dispose}
-use Rattle.papaya_raw.specs.Given.Resize.declared.outcome.Outcome.{Outcome}
-use Rattle.papaya_raw.specs.Given.Resize.declared.outcome.Outcome.TheVariants as outcome
-use Rattle.papaya_raw.specs.Given.Resize.Lookup.{lookup_plan}
-use Rattle.papaya_raw.specs.Given.Resize.declared.lookup.Lookup.{Lookup}
+use Rattle.papaya_raw.specs.Given.ResizeCopier.{copier_plan}
+use Rattle.papaya_raw.specs.Given.ResizeDeclared.copier.Copier.{Copier}
+use Rattle.papaya_raw.specs.Given.ResizeDispose.{dispose_plan}
+use Rattle.papaya_raw.specs.Given.ResizeDeclared.dispose.Dispose.{Dispose}
+use Rattle.papaya_raw.specs.Given.ResizeDeclared.outcome.Outcome.{Outcome}
+use Rattle.papaya_raw.specs.Given.ResizeDeclared.outcome.Outcome.TheVariants as outcome
+use Rattle.papaya_raw.specs.Given.ResizeLookup.{lookup_plan}
+use Rattle.papaya_raw.specs.Given.ResizeDeclared.lookup.Lookup.{Lookup}
 use Rattle.papaya_raw.specs.Call.{call_plan}
 use Rattle.papaya_raw.specs.declared.machines.answer.Called.{Called}
 use Rattle.papaya_raw.specs.declared.machines.answer.Called.TheVariants as called

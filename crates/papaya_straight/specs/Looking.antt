@@ -1,16 +1,16 @@
 -- A lookup as straight code: where it stops.
 use Rattle.std.specs.Prelude.{ℕ, if◌then◌else◌, Option, None}
-use Rattle.papaya_tables.specs.Given.SeizeWords.Plan.{Then, Ends}
-use Rattle.papaya_tables.specs.Given.Seize.declared.progress.Progress.{Progress}
-use Rattle.papaya_tables.specs.Given.Seize.declared.progress.Progress.TheVariants as progress
+use Rattle.papaya_tables.specs.Given.SeizeWordsPlan.{Then, Ends}
+use Rattle.papaya_tables.specs.Given.SeizeDeclared.progress.Progress.{Progress}
+use Rattle.papaya_tables.specs.Given.SeizeDeclared.progress.Progress.TheVariants as progress
 use Rattle.papaya_tables.specs.Chunks.{is_incremental}
 use Rattle.papaya_tables.specs.declared.node.Node.{Node}
 use Rattle.papaya_tables.specs.declared.resize_mode.ResizeMode.{ResizeMode}
 use Rattle.papaya_tables.specs.declared.table.Table.{Table}
-use Rattle.papaya_raw.specs.Given.Resize.Lookup.{looking}
-use Rattle.papaya_raw.specs.Given.Resize.declared.lookup.Lookup.{Lookup}
-use Rattle.papaya_raw.specs.Given.Resize.declared.lookup.Looking.{Looking}
-use Rattle.papaya_raw.specs.Given.Resize.declared.lookup.Looking.TheVariants as at
+use Rattle.papaya_raw.specs.Given.ResizeLookup.{looking}
+use Rattle.papaya_raw.specs.Given.ResizeDeclared.lookup.Lookup.{Lookup}
+use Rattle.papaya_raw.specs.Given.ResizeDeclared.lookup.Looking.{Looking}
+use Rattle.papaya_raw.specs.Given.ResizeDeclared.lookup.Looking.TheVariants as at
 use Rattle.papaya_straight.specs.Going.{LookGoes}
 use Rattle.seize_straight.specs.Reaches.{ComesTo, Reached, At, Told}
 use Rattle.papaya_straight.specs.declared.looking.Glance.{Glance}

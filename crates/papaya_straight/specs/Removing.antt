@@ -1,6 +1,6 @@
 -- A call that removes the pair of a key as straight code: where it stops.
 use Rattle.std.specs.Prelude.{ℕ, if◌then◌else◌, Option}
-use Rattle.papaya_tables.specs.Given.SeizeWords.Plan.{Then, Ends}
+use Rattle.papaya_tables.specs.Given.SeizeWordsPlan.{Then, Ends}
 use Rattle.papaya_tables.specs.declared.marks.TheConstants.{TOMBSTONE}
 use Rattle.papaya_tables.specs.declared.node.Node.{Node}
 use Rattle.papaya_tables.specs.Chunks.{is_incremental}

@@ -1,11 +1,11 @@
 -- A call that stores its own block as straight code: where it stops.
 use Rattle.std.specs.Prelude.{◌≡◌, ℕ, Bool, true, false, Option, None}
-use Rattle.papaya_tables.specs.Given.SeizeWords.Plan.{Then, Ends}
+use Rattle.papaya_tables.specs.Given.SeizeWordsPlan.{Then, Ends}
 use Rattle.papaya_tables.specs.declared.lengths.TheConstants.{FIRST_LEN}
 use Rattle.papaya_tables.specs.declared.node.Node.{Node}
 use Rattle.papaya_tables.specs.declared.setting.Setting.{Setting}
 use Rattle.papaya_tables.specs.declared.trial.Trial.{Trial}
-use Rattle.papaya_raw.specs.Given.Resize.NewTable.{first_table}
+use Rattle.papaya_raw.specs.Given.ResizeNewTable.{first_table}
 use Rattle.papaya_raw.specs.CallPoints.{calling}
 use Rattle.papaya_raw.specs.Replies.{silent}
 use Rattle.papaya_raw.specs.declared.machines.answer.Called.{Called}

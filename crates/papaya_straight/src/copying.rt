@@ -3,16 +3,16 @@ ghost use Rattle.std.specs.Prelude.{◌≡◌, ◌+◌, true};
 ghost use Rattle.papaya_tables.specs.Chunks.{is_incremental};
 ghost use Rattle.papaya_tables.specs.declared.marks.TheConstants.{BORROWED as LENT};
 ghost use Rattle.papaya_tables.specs.Marks.{unmarked_in};
-ghost use Rattle.papaya_raw.specs.Given.Resize.CopierMarks.{probing};
-ghost use Rattle.papaya_raw.specs.Given.Resize.CopierStates.{standing};
-ghost use Rattle.papaya_raw.specs.Given.Resize.declared.copier.Copying.TheVariants as at;
+ghost use Rattle.papaya_raw.specs.Given.ResizeCopierMarks.{probing};
+ghost use Rattle.papaya_raw.specs.Given.ResizeCopierStates.{standing};
+ghost use Rattle.papaya_raw.specs.Given.ResizeDeclared.copier.Copying.TheVariants as at;
 ghost use Rattle.papaya_straight.specs.Copying.{IsMidst, missed, placing};
 ghost use Rattle.papaya_straight.specs.Going.{CopyLeads, MayCopy};
 
-use papaya_raw::papaya_resize::{Copier, Copying, key_hash};
+use papaya_resize::{Copier, Copying, key_hash};
 use papaya_tables::marks::{BORROWED, COPIED, COPYING, has, unmarked};
-use papaya_tables::seize_words::{Link, Memory};
 use papaya_tables::{Hashes, Node, Probe, Table};
+use seize_words::{Link, Memory};
 
 /// What a try to put a pair into a table has come to.
 #[derive(Clone, Copy)]

@@ -1,16 +1,16 @@
 //! The disposal of a pair: its retirement, where no older table that can be reached names it.
 ghost use Rattle.std.specs.Prelude.{◌≡◌};
-ghost use Rattle.papaya_tables.specs.Given.Seize.Settle.{retiring};
+ghost use Rattle.papaya_tables.specs.Given.SeizeSettle.{retiring};
 ghost use Rattle.papaya_tables.specs.Marks.{link_in};
-ghost use Rattle.papaya_raw.specs.Given.Resize.Dispose.{disposing};
+ghost use Rattle.papaya_raw.specs.Given.ResizeDispose.{disposing};
 ghost use Rattle.papaya_straight.specs.Disposing.{dispose_at, disposed, is_borrowed, settling};
 ghost use Rattle.papaya_straight.specs.Going.{DisposeReaches, MayDispose};
 
-use papaya_raw::papaya_resize::{Dispose, Disposing};
+use papaya_resize::{Dispose, Disposing};
 use papaya_tables::marks::{BORROWED, has, link_of};
-use papaya_tables::seize_words::{At, Link, Look, Memory};
 use papaya_tables::{Node, ResizeMode, Setting, Table};
 use seize_straight::{Retired, retire, settle_of};
+use seize_words::{At, Link, Look, Memory};
 
 /// Where the disposal of a pair has come to.
 #[derive(Clone, Copy)]

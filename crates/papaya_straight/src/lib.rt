@@ -11,8 +11,5 @@ mod storing;
 pub use copying::{Placed, copy_places};
 pub use disposing::{Disposed, dispose, dispose_of};
 pub use looking::{Glance, Sight, look_up};
-pub use papaya_raw;
-pub use papaya_tables;
 pub use removing::{Removal, Removed, Sought, removal_of, remove};
-pub use seize_straight;
 pub use storing::{Spot, Stored, Tried, call_of, store};

@@ -1,16 +1,16 @@
 //! A lookup: from the root over the tries at the root's table, on a memory that can only be read, too.
 ghost use Rattle.std.specs.Prelude.{◌≡◌};
-ghost use Rattle.papaya_tables.specs.Given.SeizeWords.Plan.{MaySee, Ends};
-ghost use Rattle.papaya_raw.specs.Given.Resize.Lookup.{looking, told, told_of, word_read};
-ghost use Rattle.papaya_raw.specs.Given.Resize.declared.lookup.Looking.TheVariants as at;
+ghost use Rattle.papaya_tables.specs.Given.SeizeWordsPlan.{MaySee, Ends};
+ghost use Rattle.papaya_raw.specs.Given.ResizeLookup.{looking, told, told_of, word_read};
+ghost use Rattle.papaya_raw.specs.Given.ResizeDeclared.lookup.Looking.TheVariants as at;
 ghost use Rattle.papaya_straight.specs.Going.{LookGoes, LookReaches, MayLook};
 ghost use Rattle.papaya_straight.specs.Looking.{HasGlanced, glance_at, looks, past_tries, sight_at};
 ghost use Rattle.seize_straight.specs.Reaches.{ComesTo};
 
 use papaya_raw::machines::Looking;
-use papaya_raw::papaya_resize::asks_for;
-use papaya_tables::seize_words::{At, Link, Look};
+use papaya_resize::asks_for;
 use papaya_tables::{Aim, Equivalent, Finding, Node, ResizeMode, Table, Trial, may_be, seen};
+use seize_words::{At, Link, Look};
 use std::hash::Hash;
 
 /// Where a lookup has come to.

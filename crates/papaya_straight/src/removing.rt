@@ -1,6 +1,6 @@
 //! A call that removes the pair of a key: from the root to the disposal of the pair, or to the end of the tries.
 ghost use Rattle.std.specs.Prelude.{◌≡◌, ◌≢◌, Bool};
-ghost use Rattle.papaya_tables.specs.Given.SeizeWords.Plan.{MaySee, Ends};
+ghost use Rattle.papaya_tables.specs.Given.SeizeWordsPlan.{MaySee, Ends};
 ghost use Rattle.papaya_tables.specs.declared.marks.TheConstants.{TOMBSTONE as BURIED};
 ghost use Rattle.papaya_raw.specs.Call.{word_read};
 ghost use Rattle.papaya_raw.specs.CallPoints.{told, told_of, untried};
@@ -12,11 +12,11 @@ ghost use Rattle.papaya_straight.specs.Removing.{HasSought, past_all, removed_at
 
 use crate::disposing::{Disposed, dispose, dispose_of};
 use papaya_raw::machines::{Calling, KeyAnswer, KeyCall};
-use papaya_raw::papaya_resize::{asks_for, count};
+use papaya_resize::{asks_for, count};
 use papaya_tables::marks::TOMBSTONE;
-use papaya_tables::seize_words::{At, Link, Look, Memory};
 use papaya_tables::{Aim, Equivalent, Finding, Hashes, Node, Setting, Table, Trial, may_be, seen};
 use seize_straight::Retired;
+use seize_words::{At, Link, Look, Memory};
 use std::hash::Hash;
 
 /// A point of a call that removes the pair of a key. A pair is named by the word that links to it.

@@ -1,6 +1,6 @@
 //! A call that stores its own block: from the root to an empty place or to the pair that was there.
 ghost use Rattle.std.specs.Prelude.{◌≡◌, ◌≢◌, Bool, true};
-ghost use Rattle.papaya_tables.specs.Given.SeizeWords.Plan.{MaySee, Ends};
+ghost use Rattle.papaya_tables.specs.Given.SeizeWordsPlan.{MaySee, Ends};
 ghost use Rattle.papaya_tables.specs.declared.marks.TheConstants.{TOMBSTONE as BURIED};
 ghost use Rattle.papaya_raw.specs.Call.{word_read};
 ghost use Rattle.papaya_raw.specs.CallPoints.{told, told_of, untried};
@@ -13,14 +13,14 @@ use crate::disposing::{Disposed, dispose, dispose_of};
 use papaya_raw::machines::{
     Calling, End, KeyAnswer, KeyCall, Missing, Replies, Takes, There, Told, is_same_key,
 };
-use papaya_raw::papaya_resize::{NewTable, count};
+use papaya_resize::{NewTable, count};
 use papaya_tables::lengths::FIRST_LEN;
 use papaya_tables::marks::TOMBSTONE;
-use papaya_tables::seize_words::{At, Link, Look, Memory};
 use papaya_tables::{
     Aim, Equivalent, Finding, Hashes, Node, Probe, Setting, Table, Trial, may_be, seen,
 };
 use seize_straight::Retired;
+use seize_words::{At, Link, Look, Memory};
 use std::hash::Hash;
 
 /// A point of a call that stores its own block. A pair is named by the word that links to it.

@@ -1,32 +1,32 @@
 -- A walk over the pairs of a map, and the removal of all or some of them: what each step's operation is, and what follows its answer.
 use Rattle.std.specs.Prelude.{ℕ, ◌==◌, if◌then◌else◌, Ok, Err}
-use Rattle.papaya_reserves.specs.Given.SeizeWords.Word.{block_in}
-use Rattle.papaya_reserves.specs.Given.SeizeWords.declared.at.At.TheVariants.{Root}
-use Rattle.papaya_reserves.specs.Given.SeizeWords.Op.{Out, Load, Add, Exchange, Found, Exchanged}
-use Rattle.papaya_reserves.specs.Given.SeizeWords.Plan.{Plan, Then, Turn, Do, Now, Seeing, plan_as}
-use Rattle.papaya_reserves.specs.Given.Seize.declared.rows.settle.Settled.{Settled}
-use Rattle.papaya_reserves.specs.Given.Seize.declared.rows.settle.Settled.TheVariants as settling
-use Rattle.papaya_reserves.specs.Given.Tables.declared.node.Node.{Node}
-use Rattle.papaya_reserves.specs.Given.Resize.declared.outcome.Outcome.{Outcome}
-use Rattle.papaya_reserves.specs.Given.Resize.declared.outcome.Outcome.TheVariants as outcome
-use Rattle.papaya_reserves.specs.Given.Tables.declared.marks.TheConstants.{TOMBSTONE}
-use Rattle.papaya_reserves.specs.Given.Tables.declared.table.Table.{Table}
-use Rattle.papaya_reserves.specs.Given.Tables.declared.table_words.TheConstants.{NEXT}
-use Rattle.papaya_reserves.specs.Given.Resize.declared.copier.Copier.{Copier}
-use Rattle.papaya_reserves.specs.Given.Resize.declared.dispose.Dispose.{Dispose}
+use Rattle.papaya_reserves.specs.Given.SeizeWordsWord.{block_in}
+use Rattle.papaya_reserves.specs.Given.SeizeWordsDeclared.at.At.TheVariants.{Root}
+use Rattle.papaya_reserves.specs.Given.SeizeWordsOp.{Out, Load, Add, Exchange, Found, Exchanged}
+use Rattle.papaya_reserves.specs.Given.SeizeWordsPlan.{Plan, Then, Turn, Do, Now, Seeing, plan_as}
+use Rattle.papaya_reserves.specs.Given.SeizeDeclared.rows.settle.Settled.{Settled}
+use Rattle.papaya_reserves.specs.Given.SeizeDeclared.rows.settle.Settled.TheVariants as settling
+use Rattle.papaya_reserves.specs.Given.TablesDeclared.node.Node.{Node}
+use Rattle.papaya_reserves.specs.Given.ResizeDeclared.outcome.Outcome.{Outcome}
+use Rattle.papaya_reserves.specs.Given.ResizeDeclared.outcome.Outcome.TheVariants as outcome
+use Rattle.papaya_reserves.specs.Given.TablesDeclared.marks.TheConstants.{TOMBSTONE}
+use Rattle.papaya_reserves.specs.Given.TablesDeclared.table.Table.{Table}
+use Rattle.papaya_reserves.specs.Given.TablesDeclared.table_words.TheConstants.{NEXT}
+use Rattle.papaya_reserves.specs.Given.ResizeDeclared.copier.Copier.{Copier}
+use Rattle.papaya_reserves.specs.Given.ResizeDeclared.dispose.Dispose.{Dispose}
 use Rattle.papaya_sweeps.specs.declared.sweep.Sweep.{Sweep}
 use Rattle.papaya_sweeps.specs.declared.sweep.Sweeping.{Sweeping}
 use Rattle.papaya_sweeps.specs.declared.sweep.Sweeping.TheVariants as at
 use Rattle.papaya_sweeps.specs.declared.sweep.Swept.{Swept}
 use Rattle.papaya_sweeps.specs.declared.sweep.Swept.TheVariants.{Goes, Waits, Gave}
-use Rattle.papaya_reserves.specs.Given.Tables.Counts.{count_change}
-use Rattle.papaya_reserves.specs.Given.Resize.Copier.{copier_plan}
-use Rattle.papaya_reserves.specs.Given.Resize.CopierStates.{copying_all}
-use Rattle.papaya_reserves.specs.Given.Tables.Counts.{shard_of}
-use Rattle.papaya_reserves.specs.Given.Resize.Dispose.{disposing, dispose_plan}
-use Rattle.papaya_reserves.specs.Given.Tables.Nodes.{table_seen}
+use Rattle.papaya_reserves.specs.Given.TablesCounts.{count_change}
+use Rattle.papaya_reserves.specs.Given.ResizeCopier.{copier_plan}
+use Rattle.papaya_reserves.specs.Given.ResizeCopierStates.{copying_all}
+use Rattle.papaya_reserves.specs.Given.TablesCounts.{shard_of}
+use Rattle.papaya_reserves.specs.Given.ResizeDispose.{disposing, dispose_plan}
+use Rattle.papaya_reserves.specs.Given.TablesNodes.{table_seen}
 use Rattle.papaya_sweeps.specs.SweepPoints.{standing, beginning, tableless, entering, further, told, telling, going, seen}
-use Rattle.papaya_reserves.specs.Given.Tables.TablePlaces.{at_word, at_place}
+use Rattle.papaya_reserves.specs.Given.TablesTablePlaces.{at_word, at_place}
 
 module _ {T : Type 0} where
   -- the word of the place is known

@@ -1,9 +1,9 @@
 -- A walk, a clearing or a retaining: how it goes on from one point to another.
 use Rattle.std.specs.Prelude.{ℕ, ◌+◌, ◌%◌, ◌^◌, ◌==◌, ◌&&◌, Bool, true, false, nat_lt, if◌then◌else◌}
-use Rattle.papaya_reserves.specs.Given.SeizeWords.Word.{block_in}
-use Rattle.papaya_reserves.specs.Given.Tables.declared.setting.Setting.{Setting}
-use Rattle.papaya_reserves.specs.Given.Tables.declared.table.Table.{Table}
-use Rattle.papaya_reserves.specs.Given.Tables.declared.marks.TheConstants.{COPYING}
+use Rattle.papaya_reserves.specs.Given.SeizeWordsWord.{block_in}
+use Rattle.papaya_reserves.specs.Given.TablesDeclared.setting.Setting.{Setting}
+use Rattle.papaya_reserves.specs.Given.TablesDeclared.table.Table.{Table}
+use Rattle.papaya_reserves.specs.Given.TablesDeclared.marks.TheConstants.{COPYING}
 use Rattle.papaya_sweeps.specs.declared.sweep.Sweep.{Sweep}
 use Rattle.papaya_sweeps.specs.declared.sweep.Purpose.{Purpose}
 use Rattle.papaya_sweeps.specs.declared.sweep.Purpose.TheVariants.{Walks, Clears, Retains}
@@ -11,9 +11,9 @@ use Rattle.papaya_sweeps.specs.declared.sweep.Sweeping.{Sweeping}
 use Rattle.papaya_sweeps.specs.declared.sweep.Sweeping.TheVariants as at
 use Rattle.papaya_sweeps.specs.declared.sweep.Swept.{Swept}
 use Rattle.papaya_sweeps.specs.declared.sweep.Swept.TheVariants.{Goes, Ready, Pair, Asks, Done, Refused}
-use Rattle.papaya_reserves.specs.Given.Tables.Chunks.{is_incremental}
-use Rattle.papaya_reserves.specs.Given.Resize.CopierStates.{no_table}
-use Rattle.papaya_reserves.specs.Given.Tables.Marks.{has_mark}
+use Rattle.papaya_reserves.specs.Given.TablesChunks.{is_incremental}
+use Rattle.papaya_reserves.specs.Given.ResizeCopierStates.{no_table}
+use Rattle.papaya_reserves.specs.Given.TablesMarks.{has_mark}
 
 -- it removes pairs: a walk changes nothing
 abbrev pub removes : Purpose → Bool

@@ -3,11 +3,9 @@ ghost use Rattle.std.specs.Prelude.{◌≡◌};
 ghost use Rattle.papaya_sweeps.specs.Sweep.{sweep_plan};
 ghost use Rattle.papaya_sweeps.specs.SweepPoints.{removes, sweeping, after_next, after_reply, told, telling, going};
 ghost use Rattle.papaya_sweeps.specs.declared.sweep.Purpose.TheVariants.{Walks, Clears, Retains};
-ghost use Rattle.papaya_reserves.specs.Given.SeizeWords.Plan.{May, Steps};
+ghost use Rattle.papaya_reserves.specs.Given.SeizeWordsPlan.{May, Steps};
 
-use papaya_reserves::papaya_resize::{Copier, Dispose};
-use papaya_reserves::papaya_tables::{Hashes, Node, Setting, Table};
-use papaya_reserves::seize_words::{Fault, Memory};
+use papaya_reserves::named::{Copier, Dispose, Fault, Hashes, Memory, Node, Setting, Table};
 
 mod places;
 mod removals;

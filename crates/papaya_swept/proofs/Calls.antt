@@ -2,29 +2,29 @@
 use Rattle.std.specs.Prelude.{◌≡◌, ℕ, nat_lt, Bool, true, false, Option, Some, None, Ok, if◌then◌else◌}
 use Rattle.std.proofs.Common.{refl, ap, sym, subst, ◌∙◌, arith, inl, inr}
 use Rattle.seize_acts.proofs.Answers.{same_some}
-use Rattle.papaya_deeds.specs.Given.Sweeps.SweepPoints.{after_next, next_at}
-use Rattle.papaya_deeds.specs.Given.Sweeps.declared.sweep.Purpose.TheVariants as purpose
-use Rattle.papaya_deeds.specs.Given.Sweeps.declared.sweep.Sweep.{Sweep}
-use Rattle.papaya_deeds.specs.Given.Sweeps.declared.sweep.Sweeping.{Sweeping}
-use Rattle.papaya_deeds.specs.Given.Sweeps.declared.sweep.Sweeping.TheVariants as sweeping
-use Rattle.papaya_deeds.specs.Given.Tables.declared.node.Node.{Node}
-use Rattle.papaya_deeds.specs.Given.Raw.Machine.{machine_replied}
-use Rattle.papaya_deeds.specs.Given.Raw.declared.machines.progress.Progress.{Progress}
-use Rattle.papaya_deeds.specs.Given.Raw.declared.machines.progress.Progress.TheVariants as progress
+use Rattle.papaya_deeds.specs.Given.SweepsSweepPoints.{after_next, next_at}
+use Rattle.papaya_deeds.specs.Given.SweepsDeclared.sweep.Purpose.TheVariants as purpose
+use Rattle.papaya_deeds.specs.Given.SweepsDeclared.sweep.Sweep.{Sweep}
+use Rattle.papaya_deeds.specs.Given.SweepsDeclared.sweep.Sweeping.{Sweeping}
+use Rattle.papaya_deeds.specs.Given.SweepsDeclared.sweep.Sweeping.TheVariants as sweeping
+use Rattle.papaya_deeds.specs.Given.TablesDeclared.node.Node.{Node}
+use Rattle.papaya_deeds.specs.Given.RawMachine.{machine_replied}
+use Rattle.papaya_deeds.specs.Given.RawDeclared.machines.progress.Progress.{Progress}
+use Rattle.papaya_deeds.specs.Given.RawDeclared.machines.progress.Progress.TheVariants as progress
 use Rattle.papaya_endings.specs.Given.CallersOverAll.{CallOverAll, gone_on}
 use Rattle.papaya_endings.specs.Given.CallersTogether.{OverAll, UnderWay}
 use Rattle.papaya_endings.specs.Given.FinishesMachines.{ToldOfKind, machine_of}
 use Rattle.papaya_endings.specs.Given.FinishesMaps.{Standing, with_call as with_call_of}
-use Rattle.papaya_deeds.specs.Given.Schedules.declared.call.Call.{Call}
-use Rattle.papaya_deeds.specs.Given.Schedules.declared.call.Reply.{Reply}
-use Rattle.papaya_deeds.specs.Given.Schedules.declared.outcome.Outcome.{Outcome}
-use Rattle.papaya_deeds.specs.Given.Schedules.declared.outcome.Outcome.TheVariants as outcome
-use Rattle.papaya_deeds.specs.Given.Schedules.Beginning.{with_call}
-use Rattle.papaya_deeds.specs.Given.Schedules.Effects.{with_effects}
-use Rattle.papaya_deeds.specs.Given.Schedules.Entry.{ends_call}
-use Rattle.papaya_deeds.specs.Given.Schedules.Moment.{Asking, Moment, UnderWay as CallThere}
-use Rattle.papaya_deeds.specs.Given.Schedules.Transition.{Past}
-use Rattle.papaya_deeds.specs.Given.Schedules.Views.{call_of}
+use Rattle.papaya_deeds.specs.Given.SchedulesDeclared.call.Call.{Call}
+use Rattle.papaya_deeds.specs.Given.SchedulesDeclared.call.Reply.{Reply}
+use Rattle.papaya_deeds.specs.Given.SchedulesDeclared.outcome.Outcome.{Outcome}
+use Rattle.papaya_deeds.specs.Given.SchedulesDeclared.outcome.Outcome.TheVariants as outcome
+use Rattle.papaya_deeds.specs.Given.SchedulesBeginning.{with_call}
+use Rattle.papaya_deeds.specs.Given.SchedulesEffects.{with_effects}
+use Rattle.papaya_deeds.specs.Given.SchedulesEntry.{ends_call}
+use Rattle.papaya_deeds.specs.Given.SchedulesMoment.{Asking, Moment, UnderWay as CallThere}
+use Rattle.papaya_deeds.specs.Given.SchedulesTransition.{Past}
+use Rattle.papaya_deeds.specs.Given.SchedulesViews.{call_of}
 use Rattle.papaya_endings.specs.Given.EffectsEffects.{effects_of, known_after}
 use Rattle.papaya_endings.specs.Given.EffectsKnown.{Known}
 use Rattle.papaya_endings.specs.Given.EffectsDeclared.acting.Acting.TheVariants as acts

@@ -3,15 +3,15 @@ use Rattle.std.specs.Prelude.{◌≡◌, ℕ, suc, Bool, true, List, ◌∷◌, 
 use Rattle.std.proofs.Common.{refl, ap, sym, subst, ◌∙◌, arith}
 use Rattle.seize_acts.proofs.Answers.{same_some}
 use Rattle.papaya_endings.specs.Given.FinishesMaps.{Standing}
-use Rattle.papaya_deeds.specs.Given.Schedules.declared.effect.Effect.{Effect}
-use Rattle.papaya_deeds.specs.Given.Schedules.declared.outcome.Outcome.{Outcome}
-use Rattle.papaya_deeds.specs.Given.Schedules.declared.outcome.Outcome.TheVariants as outcome
-use Rattle.papaya_deeds.specs.Given.Schedules.Beginning.{with_call, with_map}
-use Rattle.papaya_deeds.specs.Given.Schedules.Effects.{with_effects}
-use Rattle.papaya_deeds.specs.Given.Schedules.Entry.{IfCall, acting}
-use Rattle.papaya_deeds.specs.Given.Schedules.Moment.{Moment, UnderWay as CallThere}
-use Rattle.papaya_deeds.specs.Given.Schedules.Terms.{Terms, shards_of}
-use Rattle.papaya_deeds.specs.Given.Schedules.Transition.{worked_by}
+use Rattle.papaya_deeds.specs.Given.SchedulesDeclared.effect.Effect.{Effect}
+use Rattle.papaya_deeds.specs.Given.SchedulesDeclared.outcome.Outcome.{Outcome}
+use Rattle.papaya_deeds.specs.Given.SchedulesDeclared.outcome.Outcome.TheVariants as outcome
+use Rattle.papaya_deeds.specs.Given.SchedulesBeginning.{with_call, with_map}
+use Rattle.papaya_deeds.specs.Given.SchedulesEffects.{with_effects}
+use Rattle.papaya_deeds.specs.Given.SchedulesEntry.{IfCall, acting}
+use Rattle.papaya_deeds.specs.Given.SchedulesMoment.{Moment, UnderWay as CallThere}
+use Rattle.papaya_deeds.specs.Given.SchedulesTerms.{Terms, shards_of}
+use Rattle.papaya_deeds.specs.Given.SchedulesTransition.{worked_by}
 use Rattle.papaya_endings.specs.Given.EffectsEffects.{effects_of, known_after}
 use Rattle.papaya_endings.specs.Given.EffectsKnown.{Known}
 use Rattle.papaya_endings.specs.Given.EffectsDeclared.acting.Acting.TheVariants as acts

@@ -1,30 +1,30 @@
 -- What is so of a history, of what is known, and of the scene to which acts have led, and stays so by each kind of step, beside what else is so of them: its entry, if there is one, is on the history then.
 use Rattle.std.specs.Prelude.{◌≡◌, ℕ, Bool, true, false, List, [], ◌∷◌, Option, Some, None, Ok}
-use Rattle.seize_acts.specs.Given.Seize.World.{Begin, Rests, Step}
-use Rattle.seize_acts.specs.Given.Seize.declared.progress.Progress.{Progress as Making}
-use Rattle.seize_acts.specs.Given.Seize.declared.progress.Progress.TheVariants as progress
-use Rattle.seize_acts.specs.Given.Seize.declared.rows.reclaim_all.ReclaimAll.{ReclaimAll}
-use Rattle.seize_acts.specs.Given.Seize.declared.rows.settle.Settled.{Settled}
-use Rattle.papaya_deeds.specs.Given.Sweeps.SweepPoints.{after_next}
-use Rattle.papaya_deeds.specs.Given.Tables.declared.node.Node.{Node}
-use Rattle.papaya_deeds.specs.Given.Tables.declared.setting.Setting.{Setting}
-use Rattle.papaya_deeds.specs.Given.Resize.declared.new_map.NewMap.{NewMap}
-use Rattle.papaya_deeds.specs.Given.Raw.Machine.{machine_replied}
-use Rattle.papaya_deeds.specs.Given.Raw.declared.machines.progress.Progress.{Progress}
+use Rattle.seize_acts.specs.Given.SeizeWorld.{Begin, Rests, Step}
+use Rattle.seize_acts.specs.Given.SeizeDeclared.progress.Progress.{Progress as Making}
+use Rattle.seize_acts.specs.Given.SeizeDeclared.progress.Progress.TheVariants as progress
+use Rattle.seize_acts.specs.Given.SeizeDeclared.rows.reclaim_all.ReclaimAll.{ReclaimAll}
+use Rattle.seize_acts.specs.Given.SeizeDeclared.rows.settle.Settled.{Settled}
+use Rattle.papaya_deeds.specs.Given.SweepsSweepPoints.{after_next}
+use Rattle.papaya_deeds.specs.Given.TablesDeclared.node.Node.{Node}
+use Rattle.papaya_deeds.specs.Given.TablesDeclared.setting.Setting.{Setting}
+use Rattle.papaya_deeds.specs.Given.ResizeDeclared.new_map.NewMap.{NewMap}
+use Rattle.papaya_deeds.specs.Given.RawMachine.{machine_replied}
+use Rattle.papaya_deeds.specs.Given.RawDeclared.machines.progress.Progress.{Progress}
 use Rattle.papaya_endings.specs.Given.CallersOverAll.{CallOverAll, gone_on}
 use Rattle.papaya_endings.specs.Given.CallersTogether.{OverAll, UnderWay}
 use Rattle.papaya_endings.specs.Given.FinishesEndings.{Finishing}
 use Rattle.papaya_endings.specs.Given.FinishesMachines.{ToldOfKind, machine_of}
 use Rattle.papaya_endings.specs.Given.FinishesMakings.{Beginning, HasMade}
 use Rattle.papaya_endings.specs.Given.FinishesMaps.{Standing, with_call}
-use Rattle.papaya_deeds.specs.Given.Schedules.declared.call.Call.{Call}
-use Rattle.papaya_deeds.specs.Given.Schedules.declared.call.Reply.{Reply}
-use Rattle.papaya_deeds.specs.Given.Schedules.declared.outcome.Outcome.{Outcome}
-use Rattle.papaya_deeds.specs.Given.Schedules.declared.outcome.Outcome.TheVariants as outcome
-use Rattle.papaya_deeds.specs.Given.Schedules.Effects.{AtEachEffect, with_effects}
-use Rattle.papaya_deeds.specs.Given.Schedules.Entry.{ends_call}
-use Rattle.papaya_deeds.specs.Given.Schedules.Moment.{Asking, MapThere, UnderWay as CallThere}
-use Rattle.papaya_deeds.specs.Given.Schedules.Views.{call_of, tables_of}
+use Rattle.papaya_deeds.specs.Given.SchedulesDeclared.call.Call.{Call}
+use Rattle.papaya_deeds.specs.Given.SchedulesDeclared.call.Reply.{Reply}
+use Rattle.papaya_deeds.specs.Given.SchedulesDeclared.outcome.Outcome.{Outcome}
+use Rattle.papaya_deeds.specs.Given.SchedulesDeclared.outcome.Outcome.TheVariants as outcome
+use Rattle.papaya_deeds.specs.Given.SchedulesEffects.{AtEachEffect, with_effects}
+use Rattle.papaya_deeds.specs.Given.SchedulesEntry.{ends_call}
+use Rattle.papaya_deeds.specs.Given.SchedulesMoment.{Asking, MapThere, UnderWay as CallThere}
+use Rattle.papaya_deeds.specs.Given.SchedulesViews.{call_of, tables_of}
 use Rattle.papaya_endings.specs.Given.EffectsEffects.{effects_of, known_after}
 use Rattle.papaya_endings.specs.Given.EffectsKnown.{Known}
 use Rattle.papaya_endings.specs.Given.EffectsDeclared.acting.Acting.TheVariants as acts

@@ -2,12 +2,12 @@
 use Rattle.std.specs.Prelude.{◌≡◌, ◌⊎◌, ℕ, Bool, true, false, List, Option, Some, None, Ok, is_ok, is_err, length, option_map}
 use Rattle.std.proofs.Common.{refl, ap, sym, subst, ◌∙◌, inl, inr}
 use Rattle.seize_acts.specs.Answers.{Grant}
-use Rattle.papaya_deeds.specs.Given.Raw.Machine.{machine_asked, machine_replied}
-use Rattle.papaya_deeds.specs.Given.Raw.declared.machines.asking.Reply.{Reply as Told}
-use Rattle.papaya_deeds.specs.Given.Raw.declared.machines.machine.Machine.{Machine}
-use Rattle.papaya_deeds.specs.Given.Raw.declared.machines.progress.Progress.{Progress}
-use Rattle.seize_acts.specs.Given.Seize.World.{Row}
-use Rattle.papaya_deeds.specs.Given.Tables.declared.node.Node.{Node}
+use Rattle.papaya_deeds.specs.Given.RawMachine.{machine_asked, machine_replied}
+use Rattle.papaya_deeds.specs.Given.RawDeclared.machines.asking.Reply.{Reply as Told}
+use Rattle.papaya_deeds.specs.Given.RawDeclared.machines.machine.Machine.{Machine}
+use Rattle.papaya_deeds.specs.Given.RawDeclared.machines.progress.Progress.{Progress}
+use Rattle.seize_acts.specs.Given.SeizeWorld.{Row}
+use Rattle.papaya_deeds.specs.Given.TablesDeclared.node.Node.{Node}
 use Rattle.papaya_endings.specs.Given.CallersTogether.{UnderWay}
 use Rattle.papaya_endings.specs.Given.FinishesMachines.{ToldOfKind, machine_of}
 use Rattle.papaya_endings.specs.Given.FinishesMaps.{with_call}
@@ -16,9 +16,9 @@ use Rattle.papaya_endings.proofs.Given.ScenesNoCall.{none_is}
 use Rattle.papaya_endings.specs.Given.ScenesHeld.{Held, IsAt}
 use Rattle.papaya_endings.specs.Given.ScenesReplying.{StopLeads, scene_with, unless_stopped}
 use Rattle.papaya_endings.specs.Given.ScenesScene.{Scene, slot_of}
-use Rattle.papaya_deeds.specs.Given.Schedules.declared.call.Reply.{Reply}
-use Rattle.papaya_deeds.specs.Given.Schedules.declared.outcome.Outcome.TheVariants as outcome
-use Rattle.papaya_deeds.specs.Given.Schedules.Moment.{Asking}
+use Rattle.papaya_deeds.specs.Given.SchedulesDeclared.call.Reply.{Reply}
+use Rattle.papaya_deeds.specs.Given.SchedulesDeclared.outcome.Outcome.TheVariants as outcome
+use Rattle.papaya_deeds.specs.Given.SchedulesMoment.{Asking}
 use Rattle.papaya_endings.specs.Given.EffectsKnown.{Known}
 use Rattle.papaya_endings.specs.Given.ValuesValues.{KeepsValue}
 use Rattle.papaya_endings.specs.Given.ActsActs.{Act, Answer, OfCall, OfReply, OfAsking, Wanted, begun}

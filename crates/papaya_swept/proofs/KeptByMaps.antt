@@ -2,15 +2,15 @@
 use Rattle.std.specs.Prelude.{◌≡◌, ℕ, Bool, true, false, List, ◌∷◌, Some, None, if◌then◌else◌}
 use Rattle.std.proofs.Common.{refl, ap, sym, subst, ◌∙◌}
 use Rattle.seize_acts.specs.Answers.{Grant}
-use Rattle.papaya_deeds.specs.Given.SeizeWords.Mem.{Mem}
-use Rattle.seize_acts.specs.Given.Seize.World.{Row}
-use Rattle.seize_acts.specs.Given.Seize.declared.progress.Progress.{Progress}
-use Rattle.seize_acts.specs.Given.Seize.declared.progress.Progress.TheVariants as making
-use Rattle.seize_acts.specs.Given.Seize.declared.rows.settle.Settled.{Settled}
-use Rattle.papaya_deeds.specs.Given.Tables.declared.node.Node.{Node}
-use Rattle.papaya_deeds.specs.Given.Tables.declared.setting.Setting.{Setting}
-use Rattle.papaya_deeds.specs.Given.Resize.NewMap.{new_map_plan}
-use Rattle.papaya_deeds.specs.Given.Resize.declared.new_map.NewMap.{NewMap}
+use Rattle.papaya_deeds.specs.Given.SeizeWordsMem.{Mem}
+use Rattle.seize_acts.specs.Given.SeizeWorld.{Row}
+use Rattle.seize_acts.specs.Given.SeizeDeclared.progress.Progress.{Progress}
+use Rattle.seize_acts.specs.Given.SeizeDeclared.progress.Progress.TheVariants as making
+use Rattle.seize_acts.specs.Given.SeizeDeclared.rows.settle.Settled.{Settled}
+use Rattle.papaya_deeds.specs.Given.TablesDeclared.node.Node.{Node}
+use Rattle.papaya_deeds.specs.Given.TablesDeclared.setting.Setting.{Setting}
+use Rattle.papaya_deeds.specs.Given.ResizeNewMap.{new_map_plan}
+use Rattle.papaya_deeds.specs.Given.ResizeDeclared.new_map.NewMap.{NewMap}
 use Rattle.papaya_endings.specs.Given.FinishesEndings.{Finishing}
 use Rattle.papaya_endings.specs.Given.FinishesMakings.{Beginning}
 use Rattle.papaya_endings.specs.Given.TellerDeclared.changed.Changed.{Changed}
@@ -19,8 +19,8 @@ use Rattle.papaya_endings.specs.Given.ScenesHeld.{Held, IsAt}
 use Rattle.papaya_endings.specs.Given.ScenesEnding.{ending_begun}
 use Rattle.papaya_endings.specs.Given.ScenesMaking.{MakingLeads, making_begun, scene_making}
 use Rattle.papaya_endings.specs.Given.ScenesScene.{Scene, slot_of}
-use Rattle.papaya_deeds.specs.Given.Schedules.Effects.{AtEachEffect, with_effects}
-use Rattle.papaya_deeds.specs.Given.Schedules.Moment.{Moment}
+use Rattle.papaya_deeds.specs.Given.SchedulesEffects.{AtEachEffect, with_effects}
+use Rattle.papaya_deeds.specs.Given.SchedulesMoment.{Moment}
 use Rattle.papaya_endings.specs.Given.EffectsEffects.{effects_of, known_after}
 use Rattle.papaya_endings.specs.Given.EffectsKnown.{Known}
 use Rattle.papaya_endings.specs.Given.EffectsDeclared.acting.Acting.TheVariants as acts

@@ -1,31 +1,31 @@
 -- What a moment shows of sweeps and counts it shows where a row begins on a slot, a map comes or goes, its making or its end begins, after each step of these, and after one by which all is reclaimed.
 use Rattle.std.specs.Prelude.{◌≡◌, ◌⊎◌, ◌≤◌, ℕ, suc, Bool, true, false, List, [], Option, Some, None}
 use Rattle.std.proofs.Common.{refl, ap, sym, subst, ◌∙◌, arith, inl, inr}
-use Rattle.papaya_deeds.specs.Given.SeizeWords.Mem.{Mem, word_at}
-use Rattle.papaya_deeds.specs.Given.SeizeWords.declared.at.At.TheVariants.{Word}
-use Rattle.seize_acts.specs.Given.Seize.ReclaimAll.{reclaim_all_plan}
-use Rattle.seize_acts.specs.Given.Seize.World.{Begin, Step}
-use Rattle.seize_acts.specs.Given.Seize.declared.progress.Progress.{Progress as Making}
-use Rattle.seize_acts.specs.Given.Seize.declared.progress.Progress.TheVariants as progress
-use Rattle.seize_acts.specs.Given.Seize.declared.rows.reclaim_all.ReclaimAll.{ReclaimAll}
-use Rattle.seize_acts.specs.Given.Seize.declared.rows.settle.Settled.{Settled}
-use Rattle.seize_acts.specs.Given.Seize.declared.rows.settle.Settled.TheVariants as settled
-use Rattle.papaya_deeds.specs.Given.Tables.Nodes.{deferred_word, was_left}
-use Rattle.papaya_deeds.specs.Given.Tables.declared.node.Node.{Node}
-use Rattle.papaya_deeds.specs.Given.Tables.declared.setting.Setting.{Setting}
+use Rattle.papaya_deeds.specs.Given.SeizeWordsMem.{Mem, word_at}
+use Rattle.papaya_deeds.specs.Given.SeizeWordsDeclared.at.At.TheVariants.{Word}
+use Rattle.seize_acts.specs.Given.SeizeReclaimAll.{reclaim_all_plan}
+use Rattle.seize_acts.specs.Given.SeizeWorld.{Begin, Step}
+use Rattle.seize_acts.specs.Given.SeizeDeclared.progress.Progress.{Progress as Making}
+use Rattle.seize_acts.specs.Given.SeizeDeclared.progress.Progress.TheVariants as progress
+use Rattle.seize_acts.specs.Given.SeizeDeclared.rows.reclaim_all.ReclaimAll.{ReclaimAll}
+use Rattle.seize_acts.specs.Given.SeizeDeclared.rows.settle.Settled.{Settled}
+use Rattle.seize_acts.specs.Given.SeizeDeclared.rows.settle.Settled.TheVariants as settled
+use Rattle.papaya_deeds.specs.Given.TablesNodes.{deferred_word, was_left}
+use Rattle.papaya_deeds.specs.Given.TablesDeclared.node.Node.{Node}
+use Rattle.papaya_deeds.specs.Given.TablesDeclared.setting.Setting.{Setting}
 use Rattle.papaya_endings.specs.Given.TellerDeclared.changed.Changed.{Changed}
 use Rattle.papaya_endings.specs.Given.CallersTogether.{UnderWay}
 use Rattle.papaya_endings.specs.Given.FinishesEndings.{Finishing}
 use Rattle.papaya_endings.specs.Given.FinishesMachines.{machine_of}
 use Rattle.papaya_endings.specs.Given.FinishesMakings.{Beginning, HasMade}
 use Rattle.papaya_endings.specs.Given.FinishesMaps.{Standing}
-use Rattle.papaya_deeds.specs.Given.Runs.Same.{is_same}
-use Rattle.papaya_deeds.specs.Given.Schedules.declared.effect.Effect.{Effect}
-use Rattle.papaya_deeds.specs.Given.Schedules.Beginning.{with_map}
-use Rattle.papaya_deeds.specs.Given.Schedules.Effects.{AtEachEffect, with_effects}
-use Rattle.papaya_deeds.specs.Given.Schedules.Moment.{MapThere, Moment, Remains}
-use Rattle.papaya_deeds.specs.Given.Schedules.Transition.{Past, further}
-use Rattle.papaya_deeds.specs.Given.Schedules.Views.{map_at, tables_of}
+use Rattle.papaya_deeds.specs.Given.RunsSame.{is_same}
+use Rattle.papaya_deeds.specs.Given.SchedulesDeclared.effect.Effect.{Effect}
+use Rattle.papaya_deeds.specs.Given.SchedulesBeginning.{with_map}
+use Rattle.papaya_deeds.specs.Given.SchedulesEffects.{AtEachEffect, with_effects}
+use Rattle.papaya_deeds.specs.Given.SchedulesMoment.{MapThere, Moment, Remains}
+use Rattle.papaya_deeds.specs.Given.SchedulesTransition.{Past, further}
+use Rattle.papaya_deeds.specs.Given.SchedulesViews.{map_at, tables_of}
 use Rattle.papaya_endings.specs.Given.EffectsEffects.{effects_of, known_after}
 use Rattle.papaya_endings.specs.Given.EffectsKnown.{Known}
 use Rattle.papaya_endings.specs.Given.EffectsDeclared.acting.Acting.TheVariants as acts

@@ -1,18 +1,18 @@
 -- The step of the making of a map by which it gets its root leaves it going on.
 use Rattle.std.specs.Prelude.{◌-◌, ◌+◌, nat_lt, Ok, Err, if◌then◌else◌}
 use Rattle.std.proofs.Common.{◌≡◌, Bool, true, false, refl, ap, sym, subst, ◌∙◌}
-use Rattle.papaya_deeds.specs.Given.SeizeWords.Mem.{Mem, value_at}
-use Rattle.papaya_deeds.specs.Given.SeizeWords.Op.{Out, Exchanged}
-use Rattle.papaya_deeds.specs.Given.SeizeWords.Plan.{Ends as EndsSo}
-use Rattle.papaya_deeds.specs.Given.SeizeWords.declared.fault.Fault.TheVariants.{RootsUsedUp}
-use Rattle.seize_acts.specs.Given.Seize.declared.progress.Progress.{Progress}
-use Rattle.seize_acts.specs.Given.Seize.declared.progress.Progress.TheVariants as progress
-use Rattle.papaya_deeds.specs.Given.Tables.declared.node.Node.{Node}
-use Rattle.papaya_deeds.specs.Given.Tables.declared.setting.Setting.{Setting}
-use Rattle.papaya_deeds.specs.Given.Resize.NewMap.{at_root, goes, plan_at, refused, taken}
-use Rattle.papaya_deeds.specs.Given.Resize.declared.new_map.NewMap.{NewMap}
-use Rattle.papaya_deeds.specs.Given.Resize.declared.new_map.Opening.{Opening}
-use Rattle.papaya_deeds.specs.Given.Resize.declared.new_map.Opening.TheVariants as openings
+use Rattle.papaya_deeds.specs.Given.SeizeWordsMem.{Mem, value_at}
+use Rattle.papaya_deeds.specs.Given.SeizeWordsOp.{Out, Exchanged}
+use Rattle.papaya_deeds.specs.Given.SeizeWordsPlan.{Ends as EndsSo}
+use Rattle.papaya_deeds.specs.Given.SeizeWordsDeclared.fault.Fault.TheVariants.{RootsUsedUp}
+use Rattle.seize_acts.specs.Given.SeizeDeclared.progress.Progress.{Progress}
+use Rattle.seize_acts.specs.Given.SeizeDeclared.progress.Progress.TheVariants as progress
+use Rattle.papaya_deeds.specs.Given.TablesDeclared.node.Node.{Node}
+use Rattle.papaya_deeds.specs.Given.TablesDeclared.setting.Setting.{Setting}
+use Rattle.papaya_deeds.specs.Given.ResizeNewMap.{at_root, goes, plan_at, refused, taken}
+use Rattle.papaya_deeds.specs.Given.ResizeDeclared.new_map.NewMap.{NewMap}
+use Rattle.papaya_deeds.specs.Given.ResizeDeclared.new_map.Opening.{Opening}
+use Rattle.papaya_deeds.specs.Given.ResizeDeclared.new_map.Opening.TheVariants as openings
 use Rattle.papaya_endings.specs.Given.TellerTells.{StepsTold}
 use Rattle.papaya_endings.specs.Given.TellerDeclared.changed.Changed.{Changed}
 use Rattle.papaya_endings.specs.Given.TellerDeclared.changed.Changed.TheVariants as changed

@@ -2,7 +2,7 @@
 use Rattle.std.specs.Prelude.{ℕ, Bool, List, [], ◌∷◌}
 use Rattle.std.specs.List.{AllByRecursion}
 use Rattle.std.proofs.Common.{refl}
-use Rattle.papaya_deeds.specs.Given.Schedules.Terms.{Terms, shards_of}
+use Rattle.papaya_deeds.specs.Given.SchedulesTerms.{Terms, shards_of}
 use Rattle.papaya_endings.specs.Given.EffectsKnown.{nothing_known}
 use Rattle.papaya_endings.specs.Given.ScenesScene.{at_first, slot_of}
 use Rattle.papaya_endings.proofs.Given.MomentsCalls.{whole_begins}

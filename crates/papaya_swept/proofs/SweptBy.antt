@@ -1,43 +1,43 @@
 -- A step of a call on a whole map does what the call is for.
 use Rattle.std.specs.Prelude.{◌≡◌, ℕ, suc, Bool, true, List, [], Option, Some}
 use Rattle.std.proofs.Common.{refl, ap, sym, subst, ◌∙◌, inl, inr}
-use Rattle.papaya_deeds.specs.Given.Tables.declared.node.Node.{Node}
-use Rattle.seize_acts.specs.Given.Seize.declared.progress.Progress.{Progress as Counted}
-use Rattle.seize_acts.specs.Given.Seize.declared.progress.Progress.TheVariants as counted
-use Rattle.papaya_deeds.specs.Given.Resize.declared.outcome.Outcome.{Outcome as Room}
-use Rattle.papaya_deeds.specs.Given.Resize.declared.outcome.Outcome.TheVariants as room
-use Rattle.papaya_deeds.specs.Given.Sweeps.declared.sweep.Purpose.{Purpose}
-use Rattle.papaya_deeds.specs.Given.Sweeps.declared.sweep.Purpose.TheVariants.{Clears, Retains, Walks}
-use Rattle.papaya_deeds.specs.Given.Sweeps.declared.sweep.Sweep.{Sweep}
-use Rattle.papaya_deeds.specs.Given.Sweeps.declared.sweep.Sweeping.TheVariants as sweeping
-use Rattle.papaya_deeds.specs.Given.Sweeps.declared.sweep.Swept.{Swept}
-use Rattle.papaya_deeds.specs.Given.Sweeps.declared.sweep.Swept.TheVariants as swept
-use Rattle.papaya_deeds.specs.Given.Raw.Progress.{of_called, of_counting, of_outcome, of_swept}
-use Rattle.papaya_deeds.specs.Given.Raw.declared.machines.answer.Called.{Called}
-use Rattle.papaya_deeds.specs.Given.Raw.declared.machines.answer.Called.TheVariants as called
-use Rattle.papaya_deeds.specs.Given.Raw.declared.machines.machine.Machine.TheVariants as kinds
-use Rattle.papaya_deeds.specs.Given.Raw.declared.machines.progress.Answer.TheVariants as answers
-use Rattle.papaya_deeds.specs.Given.Raw.declared.machines.progress.Progress.{Progress}
-use Rattle.papaya_deeds.specs.Given.Raw.declared.machines.progress.Progress.TheVariants as progress
+use Rattle.papaya_deeds.specs.Given.TablesDeclared.node.Node.{Node}
+use Rattle.seize_acts.specs.Given.SeizeDeclared.progress.Progress.{Progress as Counted}
+use Rattle.seize_acts.specs.Given.SeizeDeclared.progress.Progress.TheVariants as counted
+use Rattle.papaya_deeds.specs.Given.ResizeDeclared.outcome.Outcome.{Outcome as Room}
+use Rattle.papaya_deeds.specs.Given.ResizeDeclared.outcome.Outcome.TheVariants as room
+use Rattle.papaya_deeds.specs.Given.SweepsDeclared.sweep.Purpose.{Purpose}
+use Rattle.papaya_deeds.specs.Given.SweepsDeclared.sweep.Purpose.TheVariants.{Clears, Retains, Walks}
+use Rattle.papaya_deeds.specs.Given.SweepsDeclared.sweep.Sweep.{Sweep}
+use Rattle.papaya_deeds.specs.Given.SweepsDeclared.sweep.Sweeping.TheVariants as sweeping
+use Rattle.papaya_deeds.specs.Given.SweepsDeclared.sweep.Swept.{Swept}
+use Rattle.papaya_deeds.specs.Given.SweepsDeclared.sweep.Swept.TheVariants as swept
+use Rattle.papaya_deeds.specs.Given.RawProgress.{of_called, of_counting, of_outcome, of_swept}
+use Rattle.papaya_deeds.specs.Given.RawDeclared.machines.answer.Called.{Called}
+use Rattle.papaya_deeds.specs.Given.RawDeclared.machines.answer.Called.TheVariants as called
+use Rattle.papaya_deeds.specs.Given.RawDeclared.machines.machine.Machine.TheVariants as kinds
+use Rattle.papaya_deeds.specs.Given.RawDeclared.machines.progress.Answer.TheVariants as answers
+use Rattle.papaya_deeds.specs.Given.RawDeclared.machines.progress.Progress.{Progress}
+use Rattle.papaya_deeds.specs.Given.RawDeclared.machines.progress.Progress.TheVariants as progress
 use Rattle.papaya_endings.specs.Given.LateToldSweeps.{TellsSo}
 use Rattle.papaya_endings.specs.Given.CallersOverAll.{CallOverAll}
 use Rattle.papaya_endings.specs.Given.CallersTogether.{UnderWay, OnKey, ForRoom, Counting, OverAll}
 use Rattle.papaya_endings.specs.Given.FinishesMachines.{GoesOnAs, machine_of}
 use Rattle.papaya_endings.specs.Given.FinishesMaps.{Standing}
-use Rattle.papaya_deeds.specs.Given.Schedules.declared.call.Answer.TheVariants as answer
-use Rattle.papaya_deeds.specs.Given.Schedules.declared.call.Call.{Call}
-use Rattle.papaya_deeds.specs.Given.Schedules.declared.call.Call.TheVariants as call
-use Rattle.papaya_deeds.specs.Given.Schedules.declared.call.OneKey.{OneKey}
-use Rattle.papaya_deeds.specs.Given.Schedules.declared.effect.Effect.{Effect}
-use Rattle.papaya_deeds.specs.Given.Schedules.declared.outcome.Outcome.{Outcome}
-use Rattle.papaya_deeds.specs.Given.Schedules.declared.outcome.Outcome.TheVariants as outcome
-use Rattle.papaya_deeds.specs.Given.Schedules.Effects.{with_effects}
-use Rattle.papaya_deeds.specs.Given.Schedules.Entry.{IfCall, acting}
-use Rattle.papaya_deeds.specs.Given.Schedules.Moment.{Moment, UnderWay as CallThere}
-use Rattle.papaya_deeds.specs.Given.Schedules.Sweeps.{SweepsRight}
-use Rattle.papaya_deeds.specs.Given.Schedules.Terms.{Terms, shards_of}
-use Rattle.papaya_deeds.specs.Given.Schedules.Transition.{Past, Transition, call_left, worked_by}
-use Rattle.papaya_deeds.specs.Given.Schedules.Views.{call_of, is_in_map}
+use Rattle.papaya_deeds.specs.Given.SchedulesDeclared.call.Answer.TheVariants as answer
+use Rattle.papaya_deeds.specs.Given.SchedulesDeclared.call.Call.{Call}
+use Rattle.papaya_deeds.specs.Given.SchedulesDeclared.call.Call.TheVariants as call
+use Rattle.papaya_deeds.specs.Given.SchedulesDeclared.call.OneKey.{OneKey}
+use Rattle.papaya_deeds.specs.Given.SchedulesDeclared.effect.Effect.{Effect}
+use Rattle.papaya_deeds.specs.Given.SchedulesDeclared.outcome.Outcome.{Outcome}
+use Rattle.papaya_deeds.specs.Given.SchedulesDeclared.outcome.Outcome.TheVariants as outcome
+use Rattle.papaya_deeds.specs.Given.SchedulesEffects.{with_effects}
+use Rattle.papaya_deeds.specs.Given.SchedulesEntry.{IfCall, acting}
+use Rattle.papaya_deeds.specs.Given.SchedulesMoment.{Moment, UnderWay as CallThere}
+use Rattle.papaya_deeds.specs.Given.SchedulesSweeps.{SweepsRight}
+use Rattle.papaya_deeds.specs.Given.SchedulesTerms.{Terms, shards_of}
+use Rattle.papaya_deeds.specs.Given.SchedulesTransition.{Past, Transition, call_left, worked_by}
+use Rattle.papaya_deeds.specs.Given.SchedulesViews.{call_of, is_in_map}
 use Rattle.papaya_endings.specs.Given.EffectsEffects.{effects_of, known_after}
 use Rattle.papaya_endings.specs.Given.EffectsKnown.{Known}
 use Rattle.papaya_endings.specs.Given.EffectsDeclared.acting.Acting.TheVariants as acts

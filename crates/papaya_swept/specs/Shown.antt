@@ -2,10 +2,10 @@
 use Rattle.std.specs.Prelude.{◌≡◌, ◌<◌, ℕ, Bool, true, List, Some}
 use Rattle.papaya_endings.specs.Given.CallersTogether.{UnderWay}
 use Rattle.papaya_endings.specs.Given.FinishesMachines.{machine_of}
-use Rattle.papaya_deeds.specs.Given.Schedules.After.{AtEachEvent}
-use Rattle.papaya_deeds.specs.Given.Schedules.Moment.{Moment}
-use Rattle.papaya_deeds.specs.Given.Schedules.Terms.{Terms}
-use Rattle.papaya_deeds.specs.Given.Schedules.Transition.{Past}
+use Rattle.papaya_deeds.specs.Given.SchedulesAfter.{AtEachEvent}
+use Rattle.papaya_deeds.specs.Given.SchedulesMoment.{Moment}
+use Rattle.papaya_deeds.specs.Given.SchedulesTerms.{Terms}
+use Rattle.papaya_deeds.specs.Given.SchedulesTransition.{Past}
 use Rattle.papaya_endings.specs.Given.EffectsKnown.{Known}
 use Rattle.papaya_endings.specs.Given.ScenesScene.{Scene}
 use Rattle.papaya_endings.specs.Given.FindsWithin.{many_of}

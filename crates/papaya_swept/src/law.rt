@@ -1,6 +1,6 @@
 //! What is promised of the histories of lists of acts.
 ghost use Rattle.std.specs.Prelude.{ℕ, Bool};
-ghost use Rattle.papaya_deeds.specs.Given.Schedules.Terms.{Terms};
+ghost use Rattle.papaya_deeds.specs.Given.SchedulesTerms.{Terms};
 ghost use Rattle.papaya_swept.specs.Swept.{ListsAreSwept};
 
 /// Wherever a list of acts has led, by each entry of the history that it comes to as it is played a call on a whole map does what it is for: a walk shows pairs that

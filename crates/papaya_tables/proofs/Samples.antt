@@ -1,9 +1,9 @@
 -- The formulas by rows that were worked by hand.
 use Rattle.std.specs.Prelude.{ℕ, ◌+◌, ◌-◌, ◌*◌, ◌^◌, ◌%◌, ◌≡◌, List, [], ◌∷◌, Option, Some, None, Ok, Err, map, sum, bit_and}
 use Rattle.std.proofs.Common.{refl, inl, inr, arith}
-use Rattle.seize.specs.Given.SeizeWords.Word.{link_to}
-use Rattle.seize.specs.Given.SeizeWords.declared.at.At.TheVariants.{Word}
-use Rattle.seize.specs.Given.SeizeWords.declared.fault.Fault.TheVariants.{Capacity}
+use Rattle.seize.specs.Given.SeizeWordsWord.{link_to}
+use Rattle.seize.specs.Given.SeizeWordsDeclared.at.At.TheVariants.{Word}
+use Rattle.seize.specs.Given.SeizeWordsDeclared.fault.Fault.TheVariants.{Capacity}
 use Rattle.papaya_tables.specs.declared.lengths.Reason.TheVariants.{Full, Reserved, NoPlace}
 use Rattle.papaya_tables.specs.declared.resize_mode.ResizeMode.TheVariants.{Incremental, Blocking}
 use Rattle.papaya_tables.specs.declared.table.Table.{Table}

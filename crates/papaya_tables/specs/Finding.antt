@@ -1,6 +1,6 @@
 -- What the word of a place says of a key that is looked for.
 use Rattle.std.specs.Prelude.{ℕ, ◌/◌, ◌^◌, ◌==◌, ◌&&◌, Bool, not, if◌then◌else◌}
-use Rattle.seize.specs.Given.SeizeWords.Word.{block_in, byte_in}
+use Rattle.seize.specs.Given.SeizeWordsWord.{block_in, byte_in}
 use Rattle.papaya_tables.specs.Chunks.{is_incremental}
 use Rattle.papaya_tables.specs.Marks.{has_mark}
 use Rattle.papaya_tables.specs.declared.marks.TheConstants.{COPYING, COPIED}

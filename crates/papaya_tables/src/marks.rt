@@ -2,7 +2,7 @@
 ghost use Rattle.std.specs.Prelude.{◌≡◌};
 ghost use Rattle.papaya_tables.specs.Marks.{link_in, unmarked_in, has_mark};
 
-use seize::seize_words::Link;
+use seize::named::Link;
 
 /// The mark of a place whose copying has begun.
 pub const COPYING: u64 = 1;

@@ -4,7 +4,7 @@ ghost use Rattle.papaya_tables.specs.TablePlaces.{at_word, at_place};
 
 use crate::table::Table;
 use crate::table_words::PLACES;
-use seize::seize_words::{At, Link};
+use seize::named::{At, Link};
 
 impl Table {
     /// The name of one of its words that is no place.

@@ -7,8 +7,8 @@ use Rattle.seize_words.specs.declared.block.Block.{Block}
 use Rattle.seize_words.specs.Mem.{Mem, Took, block_of, value_at, value_in, with_block}
 use Rattle.seize_words.specs.Op.{Take, Taken}
 use Rattle.seize_words.proofs.OneOwner.AfterWrites.{block_of-with_block}
-use Rattle.papaya_effects.specs.Given.Tables.declared.node.Node.{Node}
-use Rattle.papaya_effects.specs.Given.Tables.declared.node.Node.TheVariants as node
+use Rattle.papaya_effects.specs.Given.TablesDeclared.node.Node.{Node}
+use Rattle.papaya_effects.specs.Given.TablesDeclared.node.Node.TheVariants as node
 use Rattle.papaya_runs.specs.declared.record.Pair.{Pair}
 use Rattle.papaya_effects.specs.declared.role.Role.{Role}
 use Rattle.papaya_effects.specs.declared.role.Role.TheVariants as role

@@ -1,7 +1,7 @@
 -- The pairs that are left in a memory, by what is noted of its blocks.
 use Rattle.std.specs.Prelude.{◌≡◌, ℕ, zero, suc, List, [], ◌∷◌, ◌++◌, Option, Some}
-use Rattle.papaya_effects.specs.Given.Tables.declared.node.Node.{Node}
-use Rattle.papaya_effects.specs.Given.Tables.declared.node.Node.TheVariants as node
+use Rattle.papaya_effects.specs.Given.TablesDeclared.node.Node.{Node}
+use Rattle.papaya_effects.specs.Given.TablesDeclared.node.Node.TheVariants as node
 use Rattle.papaya_runs.specs.declared.record.Pair.{Pair}
 use Rattle.papaya_effects.specs.declared.role.Role.{Role}
 use Rattle.papaya_effects.specs.declared.role.Role.TheVariants as role

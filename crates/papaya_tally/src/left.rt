@@ -1,7 +1,7 @@
 //! The pairs that are in a memory still, of those that were stored.
 ghost use Rattle.std.specs.Prelude.{◌≡◌, ◌≢◌, ◌≤◌, ℕ, Some, IfOk};
 ghost use Rattle.seize_words.specs.Mem.{value_at};
-ghost use Rattle.papaya_effects.specs.Given.Tables.declared.node.Node.TheVariants as node;
+ghost use Rattle.papaya_effects.specs.Given.TablesDeclared.node.Node.TheVariants as node;
 ghost use Rattle.papaya_effects.specs.Known.{known};
 ghost use Rattle.papaya_effects.specs.declared.role.Role.TheVariants.{Free};
 ghost use Rattle.papaya_tally.specs.Left.{HoldPairs, noted_below};

@@ -1,8 +1,8 @@
 -- What a memory that tells makes of an operation, and what it then tells.
 use Rattle.std.specs.Prelude.{◌≡◌, Bool, ◌+◌, ◌^◌, ◌%◌, ◌==◌, if◌then◌else◌, true, false, bit_or, Ok, Err}
-use Rattle.papaya_tells.specs.Given.SeizeWords.Op.{Op, Out, Store, Swap, Add, Or, Exchange, Make, Take, Room, Found, Stored, Exchanged, Made, Roomed}
-use Rattle.papaya_tells.specs.Given.Tables.declared.node.Node.{Node}
-use Rattle.papaya_tells.specs.Given.Tables.declared.node.Node.TheVariants as node
+use Rattle.papaya_tells.specs.Given.SeizeWordsOp.{Op, Out, Store, Swap, Add, Or, Exchange, Make, Take, Room, Found, Stored, Exchanged, Made, Roomed}
+use Rattle.papaya_tells.specs.Given.TablesDeclared.node.Node.{Node}
+use Rattle.papaya_tells.specs.Given.TablesDeclared.node.Node.TheVariants as node
 use Rattle.papaya_teller.specs.declared.changed.Kind.{Kind}
 use Rattle.papaya_teller.specs.declared.changed.Kind.TheVariants as kind
 use Rattle.papaya_teller.specs.declared.changed.Changed.{Changed}

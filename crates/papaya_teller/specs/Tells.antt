@@ -1,9 +1,9 @@
 -- What a memory of one owner tells of a step that is taken in it.
 use Rattle.std.specs.Prelude.{◌≡◌, true, false, is_ok}
-use Rattle.papaya_tells.specs.Given.SeizeWords.Mem.{Mem, Can, Took, value_at}
-use Rattle.papaya_tells.specs.Given.SeizeWords.Op.{Op, Out, Room, Roomed}
-use Rattle.papaya_tells.specs.Given.SeizeWords.Plan.{Plan, Turn, Do, May, Steps, Ends}
-use Rattle.papaya_tells.specs.Given.Tables.declared.node.Node.{Node}
+use Rattle.papaya_tells.specs.Given.SeizeWordsMem.{Mem, Can, Took, value_at}
+use Rattle.papaya_tells.specs.Given.SeizeWordsOp.{Op, Out, Room, Roomed}
+use Rattle.papaya_tells.specs.Given.SeizeWordsPlan.{Plan, Turn, Do, May, Steps, Ends}
+use Rattle.papaya_tells.specs.Given.TablesDeclared.node.Node.{Node}
 use Rattle.papaya_tells.specs.Seen.{Seen, Unseen, Wrote, MadeOne, HadNoRoom, TookAway, NewValue, seen_of}
 use Rattle.papaya_teller.specs.declared.changed.Changed.{Changed}
 use Rattle.papaya_teller.specs.declared.changed.Changed.TheVariants as changed

@@ -2,8 +2,8 @@
 ghost use Rattle.std.specs.Prelude.{◌≡◌};
 ghost use Rattle.papaya_teller.specs.Changed.{kind_of};
 
-use papaya_tells::papaya_tables::Node;
-use papaya_tells::seize_words::At;
+use papaya_tables::Node;
+use seize_words::At;
 
 /// What the value of a block is, without what a pair holds. A table of no places stands in a block whose pair is out.
 #[derive(Clone, Copy)]

@@ -3,8 +3,8 @@ ghost use Rattle.std.specs.Prelude.{◌≡◌, false};
 ghost use Rattle.papaya_teller.specs.declared.changed.Changed.TheVariants.{Nothing};
 
 use crate::changed::{Changed, Kind};
-use papaya_tells::papaya_tables::Node;
-use papaya_tells::seize_words::{At, Fault, Look, Memory, Refuses};
+use papaya_tables::Node;
+use seize_words::{At, Fault, Look, Memory, Refuses};
 
 /// A memory, and what its last operation has changed. It makes a store as a swap, which tells the word before. Where it is told to, it refuses each block.
 #[derive(Drop)]

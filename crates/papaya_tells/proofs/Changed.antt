@@ -1,12 +1,12 @@
 -- One word that an operation has changed, and what is seen of it.
 use Rattle.std.specs.Prelude.{◌≡◌, ◌≢◌, ℕ, ◌==◌, Bool, true, false, Option, Some, None, Ok, Err, IsSome, if◌then◌else◌}
 use Rattle.std.proofs.Common.{refl, ap, sym, subst, ◌∙◌, arith}
-use Rattle.papaya_rule.specs.Given.SeizeWords.declared.at.At.{At}
-use Rattle.papaya_rule.specs.Given.SeizeWords.declared.at.At.TheVariants.{Root, Used, Slot, Entry, Word}
-use Rattle.papaya_rule.specs.Given.SeizeWords.declared.block.Block.{Block}
-use Rattle.papaya_rule.specs.Given.SeizeWords.Mem.{Mem, same_at, block_of, word_in, word_at, value_in, value_at, with_word, with_block, fresh, IsFreeNumber, Can, after, Took}
-use Rattle.papaya_rule.specs.Given.SeizeWords.Op.{Op, Out, Load, Store, Swap, Add, Or, Exchange, Make, Take, Rewrite, Room, Found, Stored, Exchanged, Made, Taken, Roomed}
-use Rattle.papaya_rule.proofs.Given.SeizeWords.OneOwner.AfterWrites.{word_at-with_word, word_at-with_value, block_of-with_block, block_of-made}
+use Rattle.papaya_rule.specs.Given.SeizeWordsDeclared.at.At.{At}
+use Rattle.papaya_rule.specs.Given.SeizeWordsDeclared.at.At.TheVariants.{Root, Used, Slot, Entry, Word}
+use Rattle.papaya_rule.specs.Given.SeizeWordsDeclared.block.Block.{Block}
+use Rattle.papaya_rule.specs.Given.SeizeWordsMem.{Mem, same_at, block_of, word_in, word_at, value_in, value_at, with_word, with_block, fresh, IsFreeNumber, Can, after, Took}
+use Rattle.papaya_rule.specs.Given.SeizeWordsOp.{Op, Out, Load, Store, Swap, Add, Or, Exchange, Make, Take, Rewrite, Room, Found, Stored, Exchanged, Made, Taken, Roomed}
+use Rattle.papaya_rule.proofs.Given.SeizeWordsOneOwner.AfterWrites.{word_at-with_word, word_at-with_value, block_of-with_block, block_of-made}
 use Rattle.papaya_tells.specs.Seen.{Seen, Wrote, word_or, seen_of}
 
 -- names that are the same

@@ -2,15 +2,15 @@
 use Rattle.std.specs.Prelude.{◌≡◌, ◌≢◌, ℕ, ◌+◌, ◌*◌, ◌<◌, ◌≤◌, ◌^◌, Bool, true, false, eqb, Some, ◌⊎◌}
 use Rattle.std.proofs.Common.{refl, ap, sym, subst, ◌∙◌, zero, suc, inl, inr, arith}
 use Rattle.std.proofs.lemmas.Bool.{cases_lt, lt-ltb, le-ltb}
-use Rattle.papaya_rule.specs.Given.SeizeWords.declared.at.At.{At}
-use Rattle.papaya_rule.specs.Given.SeizeWords.declared.at.At.TheVariants.{Root, Word}
-use Rattle.papaya_rule.specs.Given.SeizeWords.Mem.{Mem, word_at}
-use Rattle.papaya_rule.specs.Given.SeizeWords.Word.{block_in}
-use Rattle.papaya_rule.specs.Given.Tables.Chunks.{is_incremental}
-use Rattle.papaya_rule.specs.Given.Tables.declared.marks.TheConstants.{TOMBSTONE}
-use Rattle.papaya_rule.specs.Given.Tables.declared.node.Node.{Node}
-use Rattle.papaya_rule.specs.Given.Tables.declared.setting.Setting.{Setting}
-use Rattle.papaya_rule.specs.Given.Tables.declared.table_words.TheConstants.{NEXT, PLACES}
+use Rattle.papaya_rule.specs.Given.SeizeWordsDeclared.at.At.{At}
+use Rattle.papaya_rule.specs.Given.SeizeWordsDeclared.at.At.TheVariants.{Root, Word}
+use Rattle.papaya_rule.specs.Given.SeizeWordsMem.{Mem, word_at}
+use Rattle.papaya_rule.specs.Given.SeizeWordsWord.{block_in}
+use Rattle.papaya_rule.specs.Given.TablesChunks.{is_incremental}
+use Rattle.papaya_rule.specs.Given.TablesDeclared.marks.TheConstants.{TOMBSTONE}
+use Rattle.papaya_rule.specs.Given.TablesDeclared.node.Node.{Node}
+use Rattle.papaya_rule.specs.Given.TablesDeclared.setting.Setting.{Setting}
+use Rattle.papaya_rule.specs.Given.TablesDeclared.table_words.TheConstants.{NEXT, PLACES}
 use Rattle.papaya_rule.specs.Chart.{Phase, Still, Place, Empty, Tombstone, Holds, Chart, put_in}
 use Rattle.papaya_rule.specs.Moves.{Move, Links, Stores, Replaces, Removes, Marks, MarksBlocking, Skips, Unmarks, Puts, Covers, PutsLate, Claims, Reclaims, Counts, GivesUp, Aborts, Promotes, Announces, lent_place, Allowed, after}
 use Rattle.papaya_rule.specs.Rule.{IsLawful}

@@ -1,4 +1,2 @@
 //! What the one operation of a step of a call tells of the change that it made to its map.
 #![tactic(auto)]
-
-pub use papaya_rule::{papaya_tables, seize_words};

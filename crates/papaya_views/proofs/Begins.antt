@@ -8,11 +8,11 @@ use Rattle.papaya_tables.specs.declared.setting.Setting.{Setting}
 use Rattle.papaya_raw.specs.Machine.{machine_replied}
 use Rattle.papaya_raw.specs.declared.machines.asking.Reply.{Reply}
 use Rattle.papaya_raw.specs.declared.machines.machine.Machine.{Machine}
-use Rattle.papaya_looks.specs.Given.Callers.Rows.{IsRowOn}
-use Rattle.papaya_looks.specs.Given.Callers.Together.{UnderWay}
-use Rattle.papaya_tables.specs.Given.Seize.World.{Row}
-use Rattle.papaya_looks.specs.Given.Finishes.Machines.{machine_of}
-use Rattle.papaya_looks.specs.Given.Finishes.Maps.{Standing, new_map, with_call}
+use Rattle.papaya_looks.specs.Given.CallersRows.{IsRowOn}
+use Rattle.papaya_looks.specs.Given.CallersTogether.{UnderWay}
+use Rattle.papaya_tables.specs.Given.SeizeWorld.{Row}
+use Rattle.papaya_looks.specs.Given.FinishesMachines.{machine_of}
+use Rattle.papaya_looks.specs.Given.FinishesMaps.{Standing, new_map, with_call}
 use Rattle.papaya_acts.specs.Given.ScenesScene.{Scene, slot_of}
 use Rattle.papaya_acts.specs.Acts.{Wanted, Get, Count, UnlessToCount, BeginsCall, TellsCall, begun}
 use Rattle.papaya_acts.specs.Doings.{Does, MayDo}

@@ -1,16 +1,16 @@
 -- On the slot of a seat that has nothing under way no row works.
 use Rattle.std.specs.Prelude.{Option, Some, None, eqb, cond, length}
 use Rattle.std.proofs.Common.{◌≡◌, ℕ, ◌+◌, Bool, true, false, List, [], ◌∷◌, inl, inr, refl, sym, subst, ap, arith, ◌∙◌}
-use Rattle.papaya_tables.specs.Given.Seize.Law.{is_open}
-use Rattle.papaya_tables.specs.Given.Seize.World.{Row, Rests, Registers, Enters, Settles, Leaves, Defers, Frees, Use, Outside, Inside}
-use Rattle.seize_alone.specs.Given.SeizeWaiting.Held.{count, same as is_same}
+use Rattle.papaya_tables.specs.Given.SeizeLaw.{is_open}
+use Rattle.papaya_tables.specs.Given.SeizeWorld.{Row, Rests, Registers, Enters, Settles, Leaves, Defers, Frees, Use, Outside, Inside}
+use Rattle.seize_alone.specs.Given.SeizeWaitingHeld.{count, same as is_same}
 use Rattle.papaya_tables.specs.Nodes.{deferred_word}
 use Rattle.papaya_tables.specs.declared.node.Node.{Node}
-use Rattle.papaya_looks.specs.Given.Callers.Rows.{IsRowOn}
-use Rattle.seize_alone.proofs.Given.SeizeMoves.State.Ghost.{emptied}
-use Rattle.seize_alone.proofs.Given.SeizeRule.Rows.Known.{works_on}
-use Rattle.seize_alone.proofs.Given.SeizeRule.Rows.Teams.{UseFits, shares, is_shared}
-use Rattle.papaya_looks.proofs.Given.Callers.Together.Came.{came_reached}
+use Rattle.papaya_looks.specs.Given.CallersRows.{IsRowOn}
+use Rattle.seize_alone.proofs.Given.SeizeMovesState.Ghost.{emptied}
+use Rattle.seize_alone.proofs.Given.SeizeRuleRows.Known.{works_on}
+use Rattle.seize_alone.proofs.Given.SeizeRuleRows.Teams.{UseFits, shares, is_shared}
+use Rattle.papaya_looks.proofs.Given.CallersTogether.Came.{came_reached}
 use Rattle.papaya_acts.specs.Given.ScenesScene.{Scene}
 use Rattle.seize_alone.proofs.Histories.Reached.{Reached}
 use Rattle.seize_acts.proofs.Answers.{same_some}

@@ -1,25 +1,25 @@
 -- A block that a settling is about to reclaim is the collector's, and no user changes its value.
 use Rattle.std.specs.Prelude.{Option, IsSome, Ok, Err, length}
 use Rattle.std.proofs.Common.{◌≡◌, ℕ, ◌+◌, true, List, [], ◌∷◌, refl, sym, subst, ap, ◌∙◌}
-use Rattle.seize_alone.specs.Given.SeizeWords.Op.{Out, Make, Found, Stored, Exchanged, Made, Taken, Roomed}
-use Rattle.seize_alone.specs.Given.SeizeWords.Mem.{Mem, Took, value_at}
-use Rattle.seize_alone.specs.Given.SeizeWords.Word.{block_in}
-use Rattle.seize_alone.specs.Given.Seize.declared.states.TheConstants.{LAST_SLOT}
-use Rattle.seize_alone.specs.Given.Seize.declared.rows.settle.Settle.{Settle}
-use Rattle.seize_alone.specs.Given.Seize.declared.rows.settle.Settling.{Settling}
-use Rattle.seize_alone.specs.Given.Seize.declared.rows.settle.Settling.TheVariants as at
-use Rattle.seize_alone.specs.Given.Seize.Sequence.{IsUsers}
-use Rattle.seize_alone.specs.Given.Seize.World.{World, Row, Hand, NoBlock, Making, InUse, Parting, Cutting, Handed, LeftTo, Event, Begin, Step, Makes, Drops, Links, Parts, Unlinks, Rewrites, Operates, Ends, LeavesOver, Relinks, Clears, Chooses, Happens, Runs, MayCut, made_by}
-use Rattle.seize_alone.proofs.Given.SeizeMoves.State.Ghost.{Life, IsDoomed}
-use Rattle.seize_alone.proofs.Given.SeizeMoves.Moves.Takes.{first_doomed}
-use Rattle.seize_alone.proofs.Given.SeizeRule.Points.Aside.{HandFits, is_handed}
-use Rattle.seize_alone.proofs.Given.SeizeRule.Points.Deferred.{next_left}
-use Rattle.seize_alone.proofs.Given.SeizeRule.Points.Known.{Backs, FitsAt, bare}
-use Rattle.seize_alone.proofs.Given.SeizeRule.Rows.Known.{FitsRow}
-use Rattle.seize_alone.proofs.Given.SeizeRule.Rows.Others.{with_other}
-use Rattle.seize_alone.proofs.Given.SeizeRule.Words.Named.{link-block, made_one}
-use Rattle.seize_alone.proofs.Given.SeizeRule.Words.View.{view}
-use Rattle.seize_alone.proofs.Given.SeizeRule.World.Values.{own_op_value, taken_value, made_value, rewritten_value}
+use Rattle.seize_alone.specs.Given.SeizeWordsOp.{Out, Make, Found, Stored, Exchanged, Made, Taken, Roomed}
+use Rattle.seize_alone.specs.Given.SeizeWordsMem.{Mem, Took, value_at}
+use Rattle.seize_alone.specs.Given.SeizeWordsWord.{block_in}
+use Rattle.seize_alone.specs.Given.SeizeDeclared.states.TheConstants.{LAST_SLOT}
+use Rattle.seize_alone.specs.Given.SeizeDeclared.rows.settle.Settle.{Settle}
+use Rattle.seize_alone.specs.Given.SeizeDeclared.rows.settle.Settling.{Settling}
+use Rattle.seize_alone.specs.Given.SeizeDeclared.rows.settle.Settling.TheVariants as at
+use Rattle.seize_alone.specs.Given.SeizeSequence.{IsUsers}
+use Rattle.seize_alone.specs.Given.SeizeWorld.{World, Row, Hand, NoBlock, Making, InUse, Parting, Cutting, Handed, LeftTo, Event, Begin, Step, Makes, Drops, Links, Parts, Unlinks, Rewrites, Operates, Ends, LeavesOver, Relinks, Clears, Chooses, Happens, Runs, MayCut, made_by}
+use Rattle.seize_alone.proofs.Given.SeizeMovesState.Ghost.{Life, IsDoomed}
+use Rattle.seize_alone.proofs.Given.SeizeMovesMoves.Takes.{first_doomed}
+use Rattle.seize_alone.proofs.Given.SeizeRulePoints.Aside.{HandFits, is_handed}
+use Rattle.seize_alone.proofs.Given.SeizeRulePoints.Deferred.{next_left}
+use Rattle.seize_alone.proofs.Given.SeizeRulePoints.Known.{Backs, FitsAt, bare}
+use Rattle.seize_alone.proofs.Given.SeizeRuleRows.Known.{FitsRow}
+use Rattle.seize_alone.proofs.Given.SeizeRuleRows.Others.{with_other}
+use Rattle.seize_alone.proofs.Given.SeizeRuleWords.Named.{link-block, made_one}
+use Rattle.seize_alone.proofs.Given.SeizeRuleWords.View.{view}
+use Rattle.seize_alone.proofs.Given.SeizeRuleWorld.Values.{own_op_value, taken_value, made_value, rewritten_value}
 use Rattle.seize_alone.proofs.Histories.Reached.{Reached, happens_reached}
 use Rattle.seize_views.specs.Rows.{settles_for, IsReclaiming}
 use Rattle.seize_views.specs.declared.view.Why.{Why}

@@ -2,13 +2,13 @@
 use Rattle.std.specs.Prelude.{Option, Some, None, IsSome}
 use Rattle.std.proofs.Common.{◌≡◌, ℕ, Bool, List, refl, sym, subst, ap, ◌∙◌}
 use Rattle.seize_words.specs.Mem.{value_at}
-use Rattle.papaya_tables.specs.Given.Seize.World.{Row, Event, MayStep, Handed}
-use Rattle.papaya_tables.specs.Given.Seize.declared.rows.settle.Settle.{Settle}
+use Rattle.papaya_tables.specs.Given.SeizeWorld.{Row, Event, MayStep, Handed}
+use Rattle.papaya_tables.specs.Given.SeizeDeclared.rows.settle.Settle.{Settle}
 use Rattle.papaya_tables.specs.Nodes.{deferred_word}
 use Rattle.papaya_tables.specs.declared.node.Node.{Node}
-use Rattle.papaya_looks.specs.Given.Callers.Together.{CameAbout}
-use Rattle.seize_alone.proofs.Given.SeizeRule.World.Kept.{rows_may}
-use Rattle.papaya_looks.proofs.Given.Callers.Together.Came.{came_reached}
+use Rattle.papaya_looks.specs.Given.CallersTogether.{CameAbout}
+use Rattle.seize_alone.proofs.Given.SeizeRuleWorld.Kept.{rows_may}
+use Rattle.papaya_looks.proofs.Given.CallersTogether.Came.{came_reached}
 use Rattle.papaya_acts.specs.Given.ScenesScene.{Scene}
 use Rattle.seize_bounds.specs.Bounds.{HasCounted, HasTried, IsAloneOnSlot, Meanwhile}
 use Rattle.seize_bounds.proofs.Bounds.Passing.{still_within}

@@ -2,13 +2,13 @@
 use Rattle.std.specs.Prelude.{◌≢◌, Option, Some, None}
 use Rattle.std.proofs.Common.{◌≡◌, ℕ, Bool, ◌⊎◌, inl, inr, refl, sym, subst, ap, ◌∙◌, true, false, List, [], ◌∷◌}
 use Rattle.seize_words.specs.Mem.{value_at}
-use Rattle.papaya_tables.specs.Given.Seize.Law.{holds, is_over}
-use Rattle.papaya_tables.specs.Given.Seize.World.{Row, Use, Vacant, Outside, Inside, Changing, IsInside}
+use Rattle.papaya_tables.specs.Given.SeizeLaw.{holds, is_over}
+use Rattle.papaya_tables.specs.Given.SeizeWorld.{Row, Use, Vacant, Outside, Inside, Changing, IsInside}
 use Rattle.papaya_tables.specs.Nodes.{deferred_word}
 use Rattle.papaya_tables.specs.declared.node.Node.{Node}
-use Rattle.papaya_looks.specs.Given.Callers.Rows.{IsUsedAlike, IsRowOn}
-use Rattle.papaya_looks.specs.Given.Callers.Together.{UnderWay}
-use Rattle.papaya_looks.specs.Given.Finishes.Maps.{Standing, with_call}
+use Rattle.papaya_looks.specs.Given.CallersRows.{IsUsedAlike, IsRowOn}
+use Rattle.papaya_looks.specs.Given.CallersTogether.{UnderWay}
+use Rattle.papaya_looks.specs.Given.FinishesMaps.{Standing, with_call}
 use Rattle.papaya_acts.specs.Given.ScenesScene.{Scene}
 use Rattle.seize_acts.specs.Stays.{how_many, is_end_of_owner}
 use Rattle.papaya_acts.proofs.Counts.{its_call, other_call}

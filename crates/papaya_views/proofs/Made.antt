@@ -3,8 +3,8 @@ use Rattle.std.specs.Prelude.{◌≢◌, Some}
 use Rattle.std.proofs.Common.{◌≡◌, ℕ, Bool, inl, inr, refl, sym, subst, ap, ◌∙◌}
 use Rattle.seize_words.specs.Mem.{Mem, Took, value_at}
 use Rattle.seize_words.specs.Plan.{Steps}
-use Rattle.papaya_tables.specs.Given.Seize.World.{World, Hand, Handed, Making, Step, Begin, Request, Register', Enter', Leave', LeaveOwned, Refresh, Unregister', Retire, Flush, Defer', Happens}
-use Rattle.papaya_tables.specs.Given.Seize.declared.progress.Progress.{Progress as Told}
+use Rattle.papaya_tables.specs.Given.SeizeWorld.{World, Hand, Handed, Making, Step, Begin, Request, Register', Enter', Leave', LeaveOwned, Refresh, Unregister', Retire, Flush, Defer', Happens}
+use Rattle.papaya_tables.specs.Given.SeizeDeclared.progress.Progress.{Progress as Told}
 use Rattle.papaya_tables.specs.Nodes.{deferred_word}
 use Rattle.papaya_tables.specs.declared.node.Node.{Node}
 use Rattle.papaya_tables.specs.declared.node.Node.TheVariants.{Shards}
@@ -15,13 +15,13 @@ use Rattle.papaya_raw.specs.declared.machines.machine.Machine.{Machine}
 use Rattle.papaya_raw.specs.declared.machines.progress.Progress.{Progress}
 use Rattle.papaya_acts.specs.Given.RuleInWorld.{IsHeldBy, KeepsBlocks}
 use Rattle.papaya_acts.proofs.Given.RuleWorld.OthersSpared.{held_once, keeps_same, keeps_then, keeps_handed}
-use Rattle.papaya_looks.specs.Given.Callers.Together.{UnderWay, OnKey, ForRoom, Counting, OverAll, IsOneStep, HandsOver}
-use Rattle.papaya_looks.proofs.Given.Callers.Rows.Beside.{row_keeps_blocks}
-use Rattle.papaya_looks.proofs.Given.Callers.Together.Came.{came_reached}
-use Rattle.papaya_looks.specs.Given.Finishes.Machines.{MachineStepsAmong, DidOfKind}
-use Rattle.papaya_looks.specs.Given.Finishes.Makings.{Beginning}
-use Rattle.papaya_looks.specs.Given.Finishes.Maps.{Standing}
-use Rattle.papaya_looks.proofs.Given.Finishes.Beside.Makings.Promised.{makings_went}
+use Rattle.papaya_looks.specs.Given.CallersTogether.{UnderWay, OnKey, ForRoom, Counting, OverAll, IsOneStep, HandsOver}
+use Rattle.papaya_looks.proofs.Given.CallersRows.Beside.{row_keeps_blocks}
+use Rattle.papaya_looks.proofs.Given.CallersTogether.Came.{came_reached}
+use Rattle.papaya_looks.specs.Given.FinishesMachines.{MachineStepsAmong, DidOfKind}
+use Rattle.papaya_looks.specs.Given.FinishesMakings.{Beginning}
+use Rattle.papaya_looks.specs.Given.FinishesMaps.{Standing}
+use Rattle.papaya_looks.proofs.Given.FinishesBeside.Makings.Promised.{makings_went}
 use Rattle.papaya_acts.specs.Given.ScenesScene.{Scene, slot_of}
 use Rattle.papaya_looks.specs.Sees.{IsOwnOf}
 use Rattle.papaya_looks.proofs.Sees.Made.{own_pairs_made}

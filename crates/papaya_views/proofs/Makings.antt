@@ -7,22 +7,22 @@ use Rattle.std.proofs.lemmas.Bool.{cases_eq}
 use Rattle.seize_words.specs.Mem.{Mem, Can, Took, value_at}
 use Rattle.seize_words.specs.Op.{Op, Out}
 use Rattle.seize_words.specs.Plan.{Steps, May}
-use Rattle.papaya_tables.specs.Given.Seize.World.{World, Row, Use, Rests, with_at}
-use Rattle.papaya_tables.specs.Given.Seize.declared.progress.Progress.{Progress}
-use Rattle.papaya_tables.specs.Given.Seize.declared.progress.Progress.TheVariants as progress
+use Rattle.papaya_tables.specs.Given.SeizeWorld.{World, Row, Use, Rests, with_at}
+use Rattle.papaya_tables.specs.Given.SeizeDeclared.progress.Progress.{Progress}
+use Rattle.papaya_tables.specs.Given.SeizeDeclared.progress.Progress.TheVariants as progress
 use Rattle.papaya_tables.specs.Lengths.{IsTableLen}
 use Rattle.papaya_tables.specs.Nodes.{deferred_word}
 use Rattle.papaya_tables.specs.declared.node.Node.{Node}
 use Rattle.papaya_tables.specs.declared.setting.Setting.{Setting}
 use Rattle.papaya_resize.specs.NewMap.{new_map_plan, opening}
 use Rattle.papaya_resize.specs.declared.new_map.NewMap.{NewMap}
-use Rattle.papaya_looks.specs.Given.Callers.Rows.{IsUsedAlike}
-use Rattle.papaya_looks.specs.Given.Finishes.Endings.{Finishing, MakingStepsAmong}
-use Rattle.papaya_looks.specs.Given.Finishes.Makings.{Beginning}
-use Rattle.papaya_looks.specs.Given.Finishes.Maps.{Standing}
-use Rattle.papaya_looks.proofs.Given.Callers.Together.At.{at_same, at_other}
-use Rattle.papaya_looks.proofs.Given.Callers.Together.Came.{came_reached}
-use Rattle.papaya_looks.proofs.Given.Callers.Together.Users.{events_rows, events_uses}
+use Rattle.papaya_looks.specs.Given.CallersRows.{IsUsedAlike}
+use Rattle.papaya_looks.specs.Given.FinishesEndings.{Finishing, MakingStepsAmong}
+use Rattle.papaya_looks.specs.Given.FinishesMakings.{Beginning}
+use Rattle.papaya_looks.specs.Given.FinishesMaps.{Standing}
+use Rattle.papaya_looks.proofs.Given.CallersTogether.At.{at_same, at_other}
+use Rattle.papaya_looks.proofs.Given.CallersTogether.Came.{came_reached}
+use Rattle.papaya_looks.proofs.Given.CallersTogether.Users.{events_rows, events_uses}
 use Rattle.papaya_acts.specs.Given.ScenesMaking.{making_begun}
 use Rattle.papaya_acts.specs.Given.ScenesScene.{Scene, slot_of}
 use Rattle.papaya_acts.specs.Acts.{BeginsMaking, StepsMaking}

@@ -3,9 +3,9 @@ use Rattle.std.specs.Prelude.{◌≢◌, ◌++◌, Option, Some, None, slice_get
 use Rattle.std.proofs.Common.{◌≡◌, ℕ, Bool, [], ◌∷◌, ◌⊎◌, inl, inr, refl, sym, subst, ap, ◌∙◌}
 use Rattle.std.proofs.lemmas.Bool.{cases_eq}
 use Rattle.seize_words.specs.Mem.{Mem}
-use Rattle.papaya_tables.specs.Given.Seize.World.{Use, Inside}
+use Rattle.papaya_tables.specs.Given.SeizeWorld.{Use, Inside}
 use Rattle.papaya_tables.specs.declared.node.Node.{Node}
-use Rattle.papaya_looks.specs.Given.Callers.Together.{CameAbout}
+use Rattle.papaya_looks.specs.Given.CallersTogether.{CameAbout}
 use Rattle.papaya_acts.specs.Given.ScenesScene.{Scene, slot_of}
 use Rattle.papaya_acts.specs.Acts.{Act}
 use Rattle.papaya_acts.specs.Doings.{Does, MayDo}

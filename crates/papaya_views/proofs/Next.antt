@@ -3,21 +3,21 @@ use Rattle.std.specs.Prelude.{◌≢◌, Option, Some, None}
 use Rattle.std.proofs.Common.{◌≡◌, ℕ, Bool, ◌⊎◌, inl, inr, refl, sym, subst, ap, ◌∙◌}
 use Rattle.std.proofs.lemmas.Bool.{cases_eq}
 use Rattle.seize_words.specs.Mem.{Mem}
-use Rattle.papaya_tables.specs.Given.Seize.World.{IsInside}
+use Rattle.papaya_tables.specs.Given.SeizeWorld.{IsInside}
 use Rattle.papaya_tables.specs.Nodes.{deferred_word}
 use Rattle.papaya_tables.specs.declared.node.Node.{Node}
 use Rattle.papaya_raw.specs.declared.machines.machine.Machine.{Machine}
 use Rattle.papaya_raw.specs.declared.machines.progress.Progress.{Progress}
 use Rattle.papaya_raw.specs.declared.machines.progress.Progress.TheVariants as progress
-use Rattle.papaya_looks.specs.Given.Callers.Rows.{IsRowOn}
-use Rattle.papaya_looks.specs.Given.Callers.Together.{UnderWay}
-use Rattle.papaya_looks.specs.Given.Finishes.Endings.{Finishing}
-use Rattle.papaya_looks.specs.Given.Finishes.Machines.{machine_of, MachineStepsAmong, GoesOnAs}
-use Rattle.papaya_looks.specs.Given.Finishes.Makings.{Beginning}
-use Rattle.papaya_looks.specs.Given.Finishes.Maps.{Standing, IsSameMap, with_call}
+use Rattle.papaya_looks.specs.Given.CallersRows.{IsRowOn}
+use Rattle.papaya_looks.specs.Given.CallersTogether.{UnderWay}
+use Rattle.papaya_looks.specs.Given.FinishesEndings.{Finishing}
+use Rattle.papaya_looks.specs.Given.FinishesMachines.{machine_of, MachineStepsAmong, GoesOnAs}
+use Rattle.papaya_looks.specs.Given.FinishesMakings.{Beginning}
+use Rattle.papaya_looks.specs.Given.FinishesMaps.{Standing, IsSameMap, with_call}
 use Rattle.papaya_acts.specs.Given.ScenesScene.{Scene, slot_of}
 use Rattle.papaya_acts.specs.Leads.{AllStand}
-use Rattle.papaya_looks.proofs.Given.Callers.Together.Came.{came_reached}
+use Rattle.papaya_looks.proofs.Given.CallersTogether.Came.{came_reached}
 use Rattle.seize_alone.proofs.Histories.Reached.{Reached}
 use Rattle.seize_acts.proofs.Answers.{same_some}
 use Rattle.seize_views.specs.declared.view.Has.TheVariants.{Nothing as NoBlock}

@@ -2,14 +2,14 @@
 use Rattle.std.specs.Prelude.{◌≢◌, ◌++◌, Option, Ok, Err, cond, eqb, if◌then◌else◌}
 use Rattle.std.proofs.Common.{◌≡◌, ℕ, Bool, true, false, List, [], ◌∷◌, ◌⊎◌, inl, inr, refl, sym, subst, ap, arith, ◌∙◌, ◌+◌}
 use Rattle.std.proofs.lemmas.Bool.{cases_eq, eq-eqb}
-use Rattle.seize_alone.specs.Given.SeizeWords.Op.{Out, Found, Stored, Exchanged, Made, Taken, Roomed}
-use Rattle.seize_alone.specs.Given.SeizeWords.Mem.{Mem, value_at}
-use Rattle.seize_alone.specs.Given.Seize.Law.{Effect, Entered, Left, Made as MadeBlock, Linked, Unlinked, Deferred, Retired, Taken as TakenBlock, Dropped, Ended, LeftOver, holds, is_over, owner_of}
-use Rattle.seize_alone.specs.Given.Seize.Sequence.{IsUsers}
-use Rattle.seize_alone.specs.Given.Seize.World.{World, Use, Vacant, Outside, Inside, Changing, Event, Begin, Step, Makes, Drops, Links, Parts, Unlinks, Rewrites, Operates, Ends, LeavesOver, Relinks, Clears, Chooses, Request, Retire, Defer', Happens, Runs, IsInside, made_by, with_at, one_more}
-use Rattle.seize_alone.proofs.Given.SeizeMoves.State.Held.{held_on, NoneLeft}
-use Rattle.seize_alone.proofs.Given.SeizeRule.Rows.Effects.{IsOneStep}
-use Rattle.seize_alone.proofs.Given.SeizeRule.Rows.Others.{with_here, with_other}
+use Rattle.seize_alone.specs.Given.SeizeWordsOp.{Out, Found, Stored, Exchanged, Made, Taken, Roomed}
+use Rattle.seize_alone.specs.Given.SeizeWordsMem.{Mem, value_at}
+use Rattle.seize_alone.specs.Given.SeizeLaw.{Effect, Entered, Left, Made as MadeBlock, Linked, Unlinked, Deferred, Retired, Taken as TakenBlock, Dropped, Ended, LeftOver, holds, is_over, owner_of}
+use Rattle.seize_alone.specs.Given.SeizeSequence.{IsUsers}
+use Rattle.seize_alone.specs.Given.SeizeWorld.{World, Use, Vacant, Outside, Inside, Changing, Event, Begin, Step, Makes, Drops, Links, Parts, Unlinks, Rewrites, Operates, Ends, LeavesOver, Relinks, Clears, Chooses, Request, Retire, Defer', Happens, Runs, IsInside, made_by, with_at, one_more}
+use Rattle.seize_alone.proofs.Given.SeizeMovesState.Held.{held_on, NoneLeft}
+use Rattle.seize_alone.proofs.Given.SeizeRuleRows.Effects.{IsOneStep}
+use Rattle.seize_alone.proofs.Given.SeizeRuleRows.Others.{with_here, with_other}
 use Rattle.seize_alone.proofs.Histories.Reached.{Reached, happens_reached}
 use Rattle.seize_alone.proofs.Histories.NotTaken.{IsHeld, kept_value, still_held, did}
 use Rattle.seize_acts.specs.Stays.{how_many, is_end_of, is_end_of_owner}

@@ -2,21 +2,21 @@
 use Rattle.std.specs.Prelude.{◌≢◌, Option, IsSome, length}
 use Rattle.std.proofs.Common.{◌≡◌, ℕ, ◌+◌, List, [], ◌∷◌, ◌⊎◌, inl, inr, refl, sym, subst, ap, ◌∙◌}
 use Rattle.std.proofs.lemmas.Bool.{cases_eq}
-use Rattle.seize_alone.specs.Given.SeizeWords.Mem.{Mem, value_at}
-use Rattle.seize_alone.specs.Given.SeizeWords.Word.{link_to}
-use Rattle.seize_alone.specs.Given.Seize.declared.states.TheConstants.{LAST_SLOT}
-use Rattle.seize_alone.specs.Given.Seize.declared.rows.settle.Settle.{Settle}
-use Rattle.seize_alone.specs.Given.Seize.declared.rows.settle.Settled.{Settled}
-use Rattle.seize_alone.specs.Given.Seize.declared.rows.settle.Settled.TheVariants.{Goes, Waits, Gave, Done}
-use Rattle.seize_alone.specs.Given.Seize.Sequence.{IsUsers}
-use Rattle.seize_alone.specs.Given.Seize.Settle.{retiring}
-use Rattle.seize_alone.specs.Given.Seize.World.{World, Row, Settles, Handed, Event, Begin, Step, Makes, Drops, Links, Parts, Unlinks, Rewrites, Operates, Ends, LeavesOver, Relinks, Clears, Chooses, Request, Retire, Defer', Happens, Runs, IsInside, Steps', settles_on}
-use Rattle.seize_alone.proofs.Given.SeizeRule.Points.Settle.{settle_steps, is_over}
-use Rattle.seize_alone.proofs.Given.SeizeRule.Points.Stepped.{IsGoing}
-use Rattle.seize_alone.proofs.Given.SeizeRule.Rows.Known.{FitsRow}
-use Rattle.seize_alone.proofs.Given.SeizeRule.Rows.Others.{with_here}
-use Rattle.seize_alone.proofs.Given.SeizeRule.Words.View.{view}
-use Rattle.seize_alone.proofs.Given.SeizeRule.World.Start.{words_good}
+use Rattle.seize_alone.specs.Given.SeizeWordsMem.{Mem, value_at}
+use Rattle.seize_alone.specs.Given.SeizeWordsWord.{link_to}
+use Rattle.seize_alone.specs.Given.SeizeDeclared.states.TheConstants.{LAST_SLOT}
+use Rattle.seize_alone.specs.Given.SeizeDeclared.rows.settle.Settle.{Settle}
+use Rattle.seize_alone.specs.Given.SeizeDeclared.rows.settle.Settled.{Settled}
+use Rattle.seize_alone.specs.Given.SeizeDeclared.rows.settle.Settled.TheVariants.{Goes, Waits, Gave, Done}
+use Rattle.seize_alone.specs.Given.SeizeSequence.{IsUsers}
+use Rattle.seize_alone.specs.Given.SeizeSettle.{retiring}
+use Rattle.seize_alone.specs.Given.SeizeWorld.{World, Row, Settles, Handed, Event, Begin, Step, Makes, Drops, Links, Parts, Unlinks, Rewrites, Operates, Ends, LeavesOver, Relinks, Clears, Chooses, Request, Retire, Defer', Happens, Runs, IsInside, Steps', settles_on}
+use Rattle.seize_alone.proofs.Given.SeizeRulePoints.Settle.{settle_steps, is_over}
+use Rattle.seize_alone.proofs.Given.SeizeRulePoints.Stepped.{IsGoing}
+use Rattle.seize_alone.proofs.Given.SeizeRuleRows.Known.{FitsRow}
+use Rattle.seize_alone.proofs.Given.SeizeRuleRows.Others.{with_here}
+use Rattle.seize_alone.proofs.Given.SeizeRuleWords.View.{view}
+use Rattle.seize_alone.proofs.Given.SeizeRuleWorld.Start.{words_good}
 use Rattle.seize_alone.proofs.Histories.Reached.{Reached, happens_reached}
 use Rattle.seize_acts.specs.Waits.{SettlesOn}
 use Rattle.seize_bounds.specs.Bounds.{IsOfOthers, IsAloneOnSlot, Meanwhile}

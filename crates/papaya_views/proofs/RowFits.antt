@@ -3,11 +3,11 @@ use Rattle.std.specs.Prelude.{◌≢◌, Option, Some, None}
 use Rattle.std.proofs.Common.{◌≡◌, ℕ, Bool, [], ◌⊎◌, inl, inr, refl, sym, subst, ap, ◌∙◌}
 use Rattle.std.proofs.lemmas.Bool.{cases_eq}
 use Rattle.seize_words.specs.Mem.{Mem}
-use Rattle.papaya_tables.specs.Given.Seize.World.{World, Rests, Use, Vacant, Inside, IsInside}
+use Rattle.papaya_tables.specs.Given.SeizeWorld.{World, Rests, Use, Vacant, Inside, IsInside}
 use Rattle.papaya_tables.specs.Nodes.{deferred_word}
 use Rattle.papaya_tables.specs.declared.node.Node.{Node}
-use Rattle.papaya_looks.specs.Given.Callers.Rows.{IsUsedAlike}
-use Rattle.papaya_looks.specs.Given.Finishes.Maps.{Standing, IsSameMap}
+use Rattle.papaya_looks.specs.Given.CallersRows.{IsUsedAlike}
+use Rattle.papaya_looks.specs.Given.FinishesMaps.{Standing, IsSameMap}
 use Rattle.papaya_acts.specs.Given.ScenesScene.{Scene, slot_of}
 use Rattle.papaya_acts.specs.Leads.{AllStand}
 use Rattle.seize_seats.specs.State.{State, view_of}

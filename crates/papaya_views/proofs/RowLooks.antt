@@ -1,16 +1,16 @@
 -- What a step of a call has seen that stands at a row of the collector: the block that the row is to reclaim next. And that row is the one that its caller has under way.
 use Rattle.std.proofs.Common.{◌≡◌, ℕ, Bool, true, inl, inr, refl, sym, subst, ap, ◌∙◌}
 use Rattle.seize_words.specs.Mem.{Mem}
-use Rattle.papaya_tables.specs.Given.Seize.Defer as defer
-use Rattle.papaya_tables.specs.Given.Seize.Defer.{defer_plan}
-use Rattle.papaya_tables.specs.Given.Seize.Settle.{settle_plan}
-use Rattle.papaya_tables.specs.Given.Seize.declared.progress.Progress.{Progress as Told}
-use Rattle.papaya_tables.specs.Given.Seize.declared.rows.defer.Defer.{Defer}
-use Rattle.papaya_tables.specs.Given.Seize.declared.rows.defer.Deferring.{Deferring}
-use Rattle.papaya_tables.specs.Given.Seize.declared.rows.defer.Deferring.TheVariants as deferring
-use Rattle.papaya_tables.specs.Given.Seize.declared.rows.settle.Settle.{Settle}
-use Rattle.papaya_tables.specs.Given.Seize.declared.rows.settle.Settled.{Settled}
-use Rattle.papaya_tables.specs.Given.Seize.declared.rows.settle.Settled.TheVariants as settled
+use Rattle.papaya_tables.specs.Given.SeizeDefer as defer
+use Rattle.papaya_tables.specs.Given.SeizeDefer.{defer_plan}
+use Rattle.papaya_tables.specs.Given.SeizeSettle.{settle_plan}
+use Rattle.papaya_tables.specs.Given.SeizeDeclared.progress.Progress.{Progress as Told}
+use Rattle.papaya_tables.specs.Given.SeizeDeclared.rows.defer.Defer.{Defer}
+use Rattle.papaya_tables.specs.Given.SeizeDeclared.rows.defer.Deferring.{Deferring}
+use Rattle.papaya_tables.specs.Given.SeizeDeclared.rows.defer.Deferring.TheVariants as deferring
+use Rattle.papaya_tables.specs.Given.SeizeDeclared.rows.settle.Settle.{Settle}
+use Rattle.papaya_tables.specs.Given.SeizeDeclared.rows.settle.Settled.{Settled}
+use Rattle.papaya_tables.specs.Given.SeizeDeclared.rows.settle.Settled.TheVariants as settled
 use Rattle.papaya_tables.specs.Nodes.{deferred_word}
 use Rattle.papaya_tables.specs.declared.node.Node.{Node}
 use Rattle.papaya_tables.specs.declared.table.Table.{Table}
@@ -27,18 +27,18 @@ use Rattle.papaya_resize.specs.declared.dispose.Disposing.{Disposing}
 use Rattle.papaya_resize.specs.declared.dispose.Disposing.TheVariants as disposes
 use Rattle.papaya_resize.specs.declared.outcome.Outcome.{Outcome}
 use Rattle.papaya_resize.specs.declared.outcome.Outcome.TheVariants as outcome
-use Rattle.papaya_raw.specs.Given.Reserves.Reserve as reserve
-use Rattle.papaya_raw.specs.Given.Reserves.Reserve.{reserve_plan}
-use Rattle.papaya_raw.specs.Given.Reserves.declared.reserve.Reserve.{Reserve}
-use Rattle.papaya_raw.specs.Given.Reserves.declared.reserve.Reserving.{Reserving}
-use Rattle.papaya_raw.specs.Given.Reserves.declared.reserve.Reserving.TheVariants as reserving
-use Rattle.papaya_raw.specs.Given.Sweeps.Sweep as sweep
-use Rattle.papaya_raw.specs.Given.Sweeps.Sweep.{sweep_plan}
-use Rattle.papaya_raw.specs.Given.Sweeps.declared.sweep.Sweep.{Sweep}
-use Rattle.papaya_raw.specs.Given.Sweeps.declared.sweep.Swept.{Swept}
-use Rattle.papaya_raw.specs.Given.Sweeps.declared.sweep.Swept.TheVariants as swept
-use Rattle.papaya_raw.specs.Given.Sweeps.declared.sweep.Sweeping.{Sweeping}
-use Rattle.papaya_raw.specs.Given.Sweeps.declared.sweep.Sweeping.TheVariants as sweeping
+use Rattle.papaya_raw.specs.Given.ReservesReserve as reserve
+use Rattle.papaya_raw.specs.Given.ReservesReserve.{reserve_plan}
+use Rattle.papaya_raw.specs.Given.ReservesDeclared.reserve.Reserve.{Reserve}
+use Rattle.papaya_raw.specs.Given.ReservesDeclared.reserve.Reserving.{Reserving}
+use Rattle.papaya_raw.specs.Given.ReservesDeclared.reserve.Reserving.TheVariants as reserving
+use Rattle.papaya_raw.specs.Given.SweepsSweep as sweep
+use Rattle.papaya_raw.specs.Given.SweepsSweep.{sweep_plan}
+use Rattle.papaya_raw.specs.Given.SweepsDeclared.sweep.Sweep.{Sweep}
+use Rattle.papaya_raw.specs.Given.SweepsDeclared.sweep.Swept.{Swept}
+use Rattle.papaya_raw.specs.Given.SweepsDeclared.sweep.Swept.TheVariants as swept
+use Rattle.papaya_raw.specs.Given.SweepsDeclared.sweep.Sweeping.{Sweeping}
+use Rattle.papaya_raw.specs.Given.SweepsDeclared.sweep.Sweeping.TheVariants as sweeping
 use Rattle.papaya_raw.specs.Call as call
 use Rattle.papaya_raw.specs.Call.{call_plan}
 use Rattle.papaya_raw.specs.Machine as machines

@@ -3,12 +3,12 @@ use Rattle.std.specs.Prelude.{◌≢◌, Option, Some, None}
 use Rattle.std.specs.Option.{is_none}
 use Rattle.std.proofs.Common.{◌≡◌, ℕ, ◌+◌, Bool, [], inl, inr, refl, sym, subst, ap, ◌∙◌}
 use Rattle.seize_words.specs.Mem.{Mem}
-use Rattle.papaya_tables.specs.Given.Seize.World.{World, Row, Use, Vacant, Outside, Inside, Changing, Steps', one_less}
+use Rattle.papaya_tables.specs.Given.SeizeWorld.{World, Row, Use, Vacant, Outside, Inside, Changing, Steps', one_less}
 use Rattle.papaya_tables.specs.Nodes.{deferred_word}
 use Rattle.papaya_tables.specs.declared.node.Node.{Node}
-use Rattle.papaya_looks.specs.Given.Callers.Rows.{IsUsedAlike}
-use Rattle.seize_alone.proofs.Given.SeizeRule.Rows.Known.{works_on}
-use Rattle.papaya_looks.proofs.Given.Callers.Together.Came.{came_reached}
+use Rattle.papaya_looks.specs.Given.CallersRows.{IsUsedAlike}
+use Rattle.seize_alone.proofs.Given.SeizeRuleRows.Known.{works_on}
+use Rattle.papaya_looks.proofs.Given.CallersTogether.Came.{came_reached}
 use Rattle.papaya_acts.specs.Given.ScenesScene.{Scene, slot_of}
 use Rattle.papaya_acts.specs.Acts.{StepsRow}
 use Rattle.papaya_acts.specs.Doings.{Does, MayDo}

@@ -3,15 +3,15 @@ use Rattle.std.specs.Prelude.{◌≢◌, Some, None, IsSome, slice_get, slice_se
 use Rattle.std.proofs.Common.{◌≡◌, ℕ, Bool, List, [], ◌⊎◌, inl, inr, refl, sym, subst, ap, ◌∙◌}
 use Rattle.std.proofs.lemmas.Bool.{cases_eq}
 use Rattle.seize_words.specs.Mem.{Mem, Can, Took, value_at}
-use Rattle.papaya_tables.specs.Given.Seize.World.{Rests}
-use Rattle.papaya_tables.specs.Given.Seize.declared.rows.settle.Settle.{Settle}
+use Rattle.papaya_tables.specs.Given.SeizeWorld.{Rests}
+use Rattle.papaya_tables.specs.Given.SeizeDeclared.rows.settle.Settle.{Settle}
 use Rattle.papaya_tables.specs.Nodes.{deferred_word}
 use Rattle.papaya_tables.specs.declared.node.Node.{Node}
-use Rattle.papaya_looks.specs.Given.Callers.Rows.{IsUsedAlike}
+use Rattle.papaya_looks.specs.Given.CallersRows.{IsUsedAlike}
 use Rattle.papaya_acts.specs.Given.ScenesScene.{Scene}
 use Rattle.seize_acts.proofs.Answers.{same_some}
 use Rattle.seize_seats.specs.State.{State, view_of, Goes}
-use Rattle.papaya_tables.specs.Given.Seize.Settle.{flushing}
+use Rattle.papaya_tables.specs.Given.SeizeSettle.{flushing}
 use Rattle.seize_views.specs.Begun.{IsBegun}
 use Rattle.seize_views.specs.Promises.{IsToSettle}
 use Rattle.seize_views.specs.Rows.{row_of, use_of, IsPlain, IsKnown}

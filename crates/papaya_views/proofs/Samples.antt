@@ -8,7 +8,7 @@ use Rattle.papaya_tables.specs.declared.resize_mode.ResizeMode.TheVariants.{Incr
 use Rattle.papaya_tables.specs.declared.setting.Setting.{Setting}
 use Rattle.papaya_raw.specs.declared.machines.machine.Machine.{Machine}
 use Rattle.papaya_raw.specs.declared.machines.progress.Progress.{Progress}
-use Rattle.papaya_tables.specs.Given.Seize.declared.states.TheConstants.{HEAD, ACTIVE}
+use Rattle.papaya_tables.specs.Given.SeizeDeclared.states.TheConstants.{HEAD, ACTIVE}
 use Rattle.papaya_acts.specs.Acts.{Get}
 use Rattle.seize_views.specs.declared.view.Has.TheVariants.{Nothing as NoBlock}
 use Rattle.seize_views.specs.Promises.{IsNext}

@@ -2,16 +2,16 @@
 use Rattle.std.specs.Prelude.{Some}
 use Rattle.std.proofs.Common.{◌≡◌, ℕ, Bool, List, [], ◌∷◌, inl, inr, refl, sym, subst}
 use Rattle.seize_words.specs.Mem.{Mem}
-use Rattle.papaya_tables.specs.Given.Seize.World.{World, Event, Request, Register', Enter', Leave', LeaveOwned, Refresh, Unregister', Retire, Flush, Defer', Runs}
+use Rattle.papaya_tables.specs.Given.SeizeWorld.{World, Event, Request, Register', Enter', Leave', LeaveOwned, Refresh, Unregister', Retire, Flush, Defer', Runs}
 use Rattle.papaya_tables.specs.Nodes.{deferred_word}
 use Rattle.papaya_tables.specs.declared.node.Node.{Node}
 use Rattle.papaya_tables.specs.declared.setting.Setting.{Setting}
 use Rattle.papaya_raw.specs.declared.machines.machine.Machine.{Machine}
 use Rattle.papaya_raw.specs.declared.machines.progress.Progress.{Progress}
 use Rattle.papaya_acts.specs.Given.RuleInWorld.{AllUsers}
-use Rattle.papaya_looks.specs.Given.Callers.Together.{UnderWay, OnKey, ForRoom, Counting, OverAll, IsOneStep, HandsOver}
-use Rattle.papaya_looks.specs.Given.Finishes.Machines.{MachineStepsAmong, DidOfKind}
-use Rattle.papaya_looks.specs.Given.Finishes.Maps.{Standing}
+use Rattle.papaya_looks.specs.Given.CallersTogether.{UnderWay, OnKey, ForRoom, Counting, OverAll, IsOneStep, HandsOver}
+use Rattle.papaya_looks.specs.Given.FinishesMachines.{MachineStepsAmong, DidOfKind}
+use Rattle.papaya_looks.specs.Given.FinishesMaps.{Standing}
 use Rattle.papaya_acts.specs.Given.ScenesScene.{Scene}
 use Rattle.papaya_acts.specs.Leads.{AllStand}
 use Rattle.papaya_views.proofs.Quiet.{AllOfUsers, HandsOne}

@@ -6,14 +6,14 @@ use Rattle.seize_words.specs.Mem.{Mem, value_at}
 use Rattle.seize_words.specs.Op.{Found}
 use Rattle.seize_words.specs.Plan.{Ends}
 use Rattle.seize_words.specs.Word.{block_in}
-use Rattle.papaya_tables.specs.Given.Seize.declared.states.TheConstants.{HEAD, BATCH, NEVER, ACTIVE, HELD, NEXT, LINK, FIRST, COUNT}
-use Rattle.papaya_tables.specs.Given.Seize.declared.rows.settle.Settle.{Settle}
-use Rattle.papaya_tables.specs.Given.Seize.declared.rows.settle.Settling.{Settling}
-use Rattle.papaya_tables.specs.Given.Seize.declared.rows.settle.Settling.TheVariants as at
-use Rattle.papaya_tables.specs.Given.Seize.declared.rows.settle.Settled.{Settled}
-use Rattle.papaya_tables.specs.Given.Seize.declared.rows.settle.Settled.TheVariants.{Goes}
-use Rattle.papaya_tables.specs.Given.Seize.Settle as settle
-use Rattle.papaya_tables.specs.Given.Seize.Settle.{settle_plan, plan_at}
+use Rattle.papaya_tables.specs.Given.SeizeDeclared.states.TheConstants.{HEAD, BATCH, NEVER, ACTIVE, HELD, NEXT, LINK, FIRST, COUNT}
+use Rattle.papaya_tables.specs.Given.SeizeDeclared.rows.settle.Settle.{Settle}
+use Rattle.papaya_tables.specs.Given.SeizeDeclared.rows.settle.Settling.{Settling}
+use Rattle.papaya_tables.specs.Given.SeizeDeclared.rows.settle.Settling.TheVariants as at
+use Rattle.papaya_tables.specs.Given.SeizeDeclared.rows.settle.Settled.{Settled}
+use Rattle.papaya_tables.specs.Given.SeizeDeclared.rows.settle.Settled.TheVariants.{Goes}
+use Rattle.papaya_tables.specs.Given.SeizeSettle as settle
+use Rattle.papaya_tables.specs.Given.SeizeSettle.{settle_plan, plan_at}
 use Rattle.papaya_looks.specs.Blocks.{Sees}
 use Rattle.papaya_looks.specs.Sees.{HasSeen}
 use Rattle.papaya_looks.proofs.Sees.Operations.{none_if, loads, adds, exchanges, takes}

@@ -1,7 +1,7 @@
 -- The rule starts, and seats come.
 use Rattle.std.specs.Prelude.{Some, None}
 use Rattle.std.proofs.Common.{◌≡◌, ℕ, Bool, [], ◌⊎◌, inl, inr, refl, sym, subst, ap}
-use Rattle.papaya_tables.specs.Given.Seize.World.{Use}
+use Rattle.papaya_tables.specs.Given.SeizeWorld.{Use}
 use Rattle.papaya_tables.specs.declared.node.Node.{Node}
 use Rattle.papaya_acts.specs.Given.ScenesScene.{Scene, slot_of, at_first}
 use Rattle.papaya_acts.specs.Lists.{nothing_done}

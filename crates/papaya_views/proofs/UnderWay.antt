@@ -4,8 +4,8 @@ use Rattle.std.specs.Option.{is_none}
 use Rattle.std.proofs.Common.{◌≡◌, ℕ, Bool, List, ◌⊎◌, inl, inr, sym, subst, ap, ◌∙◌, refl, true, false, [], ◌∷◌}
 use Rattle.seize_words.specs.Mem.{Mem, Can, Took, value_at}
 use Rattle.seize_words.specs.Plan.{Plan, Steps, May}
-use Rattle.papaya_tables.specs.Given.Seize.Law.{holds}
-use Rattle.papaya_tables.specs.Given.Seize.World.{IsInside}
+use Rattle.papaya_tables.specs.Given.SeizeLaw.{holds}
+use Rattle.papaya_tables.specs.Given.SeizeWorld.{IsInside}
 use Rattle.papaya_tables.specs.Chunks.{is_incremental}
 use Rattle.papaya_tables.specs.declared.node.Node.{Node}
 use Rattle.papaya_tables.specs.declared.setting.Setting.{Setting}
@@ -13,23 +13,23 @@ use Rattle.papaya_resize.specs.declared.copier.Copying.{Copying}
 use Rattle.papaya_resize.specs.declared.copier.Copying.TheVariants as copies
 use Rattle.papaya_resize.specs.declared.dispose.Disposing.{Disposing}
 use Rattle.papaya_resize.specs.declared.dispose.Disposing.TheVariants as disposes
-use Rattle.papaya_raw.specs.Given.Reserves.declared.reserve.Reserving.{Reserving}
-use Rattle.papaya_raw.specs.Given.Reserves.declared.reserve.Reserving.TheVariants as reserving
-use Rattle.papaya_raw.specs.Given.Sweeps.declared.sweep.Sweeping.{Sweeping}
-use Rattle.papaya_raw.specs.Given.Sweeps.declared.sweep.Sweeping.TheVariants as sweeping
-use Rattle.papaya_looks.specs.Given.Points.Told.{IsRowOf, IsRowOfCopier, IsRowOfCall}
-use Rattle.papaya_looks.specs.Given.Late.ToldReserves.{IsRowOfReserve}
-use Rattle.papaya_looks.specs.Given.Late.ToldSweeps.{IsRowOfSweep}
+use Rattle.papaya_raw.specs.Given.ReservesDeclared.reserve.Reserving.{Reserving}
+use Rattle.papaya_raw.specs.Given.ReservesDeclared.reserve.Reserving.TheVariants as reserving
+use Rattle.papaya_raw.specs.Given.SweepsDeclared.sweep.Sweeping.{Sweeping}
+use Rattle.papaya_raw.specs.Given.SweepsDeclared.sweep.Sweeping.TheVariants as sweeping
+use Rattle.papaya_looks.specs.Given.PointsTold.{IsRowOf, IsRowOfCopier, IsRowOfCall}
+use Rattle.papaya_looks.specs.Given.LateToldReserves.{IsRowOfReserve}
+use Rattle.papaya_looks.specs.Given.LateToldSweeps.{IsRowOfSweep}
 use Rattle.papaya_raw.specs.Machine.{machine_plan}
 use Rattle.papaya_raw.specs.declared.machines.call.Calling.{Calling}
 use Rattle.papaya_raw.specs.declared.machines.call.Calling.TheVariants as at
 use Rattle.papaya_raw.specs.declared.machines.machine.Machine.{Machine}
 use Rattle.papaya_raw.specs.declared.machines.progress.Progress.{Progress}
 use Rattle.papaya_raw.specs.declared.machines.progress.Progress.TheVariants as progress
-use Rattle.papaya_looks.specs.Given.Callers.Rows.{IsRowOn}
-use Rattle.papaya_looks.specs.Given.Callers.Together.{UnderWay, OnKey, ForRoom, Counting, OverAll}
-use Rattle.papaya_looks.specs.Given.Finishes.Machines.{machine_of}
-use Rattle.papaya_looks.specs.Given.Finishes.Maps.{Standing}
+use Rattle.papaya_looks.specs.Given.CallersRows.{IsRowOn}
+use Rattle.papaya_looks.specs.Given.CallersTogether.{UnderWay, OnKey, ForRoom, Counting, OverAll}
+use Rattle.papaya_looks.specs.Given.FinishesMachines.{machine_of}
+use Rattle.papaya_looks.specs.Given.FinishesMaps.{Standing}
 use Rattle.papaya_acts.specs.Given.ScenesScene.{Scene, slot_of}
 use Rattle.papaya_looks.specs.Looks.{IsAtRow}
 use Rattle.papaya_looks.specs.Sees.{HasSeen, GoesOn, IsOwnOf}

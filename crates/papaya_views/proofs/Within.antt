@@ -1,8 +1,8 @@
 -- Where a row within a call is to reclaim a block next, it is the row that the caller has under way.
 use Rattle.std.specs.Prelude.{Some, cond}
 use Rattle.std.proofs.Common.{◌≡◌, ℕ, Bool, true, false, inl, inr, refl, subst, ◌∙◌}
-use Rattle.papaya_tables.specs.Given.Seize.World.{World, Settles}
-use Rattle.papaya_tables.specs.Given.Seize.declared.rows.settle.Settle.{Settle}
+use Rattle.papaya_tables.specs.Given.SeizeWorld.{World, Settles}
+use Rattle.papaya_tables.specs.Given.SeizeDeclared.rows.settle.Settle.{Settle}
 use Rattle.papaya_tables.specs.Chunks.{is_incremental}
 use Rattle.papaya_tables.specs.declared.node.Node.{Node}
 use Rattle.papaya_tables.specs.declared.setting.Setting.{Setting}
@@ -12,32 +12,32 @@ use Rattle.papaya_resize.specs.declared.copier.Copying.TheVariants as copies
 use Rattle.papaya_resize.specs.declared.dispose.Dispose.{Dispose}
 use Rattle.papaya_resize.specs.declared.dispose.Disposing.{Disposing}
 use Rattle.papaya_resize.specs.declared.dispose.Disposing.TheVariants as disposes
-use Rattle.papaya_raw.specs.Given.Reserves.declared.reserve.Reserving.{Reserving}
-use Rattle.papaya_raw.specs.Given.Reserves.declared.reserve.Reserving.TheVariants as reserving
-use Rattle.papaya_raw.specs.Given.Sweeps.declared.sweep.Sweep.{Sweep}
-use Rattle.papaya_raw.specs.Given.Sweeps.declared.sweep.Sweeping.{Sweeping}
-use Rattle.papaya_raw.specs.Given.Sweeps.declared.sweep.Sweeping.TheVariants as sweeping
+use Rattle.papaya_raw.specs.Given.ReservesDeclared.reserve.Reserving.{Reserving}
+use Rattle.papaya_raw.specs.Given.ReservesDeclared.reserve.Reserving.TheVariants as reserving
+use Rattle.papaya_raw.specs.Given.SweepsDeclared.sweep.Sweep.{Sweep}
+use Rattle.papaya_raw.specs.Given.SweepsDeclared.sweep.Sweeping.{Sweeping}
+use Rattle.papaya_raw.specs.Given.SweepsDeclared.sweep.Sweeping.TheVariants as sweeping
 use Rattle.papaya_raw.specs.declared.machines.call.Calling.{Calling}
 use Rattle.papaya_raw.specs.declared.machines.call.Calling.TheVariants as at
 use Rattle.papaya_raw.specs.declared.machines.call.KeyCall.{KeyCall}
 use Rattle.papaya_acts.specs.Given.RuleChart.{Chart}
 use Rattle.papaya_acts.specs.Given.RuleWords.{Blocks}
-use Rattle.papaya_looks.specs.Given.Points.FactsCalls.{Change, CallingFacts}
-use Rattle.papaya_looks.specs.Given.Points.FactsCopies.{CopyingFacts, CopierFacts}
-use Rattle.papaya_looks.specs.Given.Points.FactsCopiesBlocking.{CopyingFactsBlocking, CopierFactsBlocking}
-use Rattle.papaya_looks.specs.Given.Points.FactsDisposes.{IsToRetire, DisposingFacts, DisposeFacts}
-use Rattle.papaya_looks.specs.Given.Late.FactsReserves.{IsEnding, CopiesWhole, ReservingFacts}
-use Rattle.papaya_looks.specs.Given.Late.FactsSweeps.{CopiesTable, SweepingFacts}
-use Rattle.papaya_looks.specs.Given.Late.LateCalls.{LateCalling}
-use Rattle.papaya_looks.specs.Given.Late.LateCopies.{LateCopying}
-use Rattle.papaya_looks.specs.Given.Late.LateReserves.{LateReserving}
-use Rattle.papaya_looks.specs.Given.Callers.OverAll.{row_of_sweep}
-use Rattle.papaya_looks.specs.Given.Callers.Rooms.{row_of_room}
-use Rattle.papaya_looks.specs.Given.Callers.Rows.{row_of_disposal, row_of_copier, row_of}
-use Rattle.papaya_looks.specs.Given.Callers.Sights.{seen_by}
-use Rattle.papaya_looks.specs.Given.Callers.Together.{UnderWay, OnKey, ForRoom, Counting, OverAll, Together, Stands, in_slot}
-use Rattle.papaya_looks.specs.Given.Finishes.Machines.{machine_of}
-use Rattle.papaya_looks.specs.Given.Finishes.Maps.{Standing}
+use Rattle.papaya_looks.specs.Given.PointsFactsCalls.{Change, CallingFacts}
+use Rattle.papaya_looks.specs.Given.PointsFactsCopies.{CopyingFacts, CopierFacts}
+use Rattle.papaya_looks.specs.Given.PointsFactsCopiesBlocking.{CopyingFactsBlocking, CopierFactsBlocking}
+use Rattle.papaya_looks.specs.Given.PointsFactsDisposes.{IsToRetire, DisposingFacts, DisposeFacts}
+use Rattle.papaya_looks.specs.Given.LateFactsReserves.{IsEnding, CopiesWhole, ReservingFacts}
+use Rattle.papaya_looks.specs.Given.LateFactsSweeps.{CopiesTable, SweepingFacts}
+use Rattle.papaya_looks.specs.Given.LateLateCalls.{LateCalling}
+use Rattle.papaya_looks.specs.Given.LateLateCopies.{LateCopying}
+use Rattle.papaya_looks.specs.Given.LateLateReserves.{LateReserving}
+use Rattle.papaya_looks.specs.Given.CallersOverAll.{row_of_sweep}
+use Rattle.papaya_looks.specs.Given.CallersRooms.{row_of_room}
+use Rattle.papaya_looks.specs.Given.CallersRows.{row_of_disposal, row_of_copier, row_of}
+use Rattle.papaya_looks.specs.Given.CallersSights.{seen_by}
+use Rattle.papaya_looks.specs.Given.CallersTogether.{UnderWay, OnKey, ForRoom, Counting, OverAll, Together, Stands, in_slot}
+use Rattle.papaya_looks.specs.Given.FinishesMachines.{machine_of}
+use Rattle.papaya_looks.specs.Given.FinishesMaps.{Standing}
 use Rattle.papaya_acts.specs.Given.ScenesScene.{Scene, slot_of}
 use Rattle.papaya_acts.specs.Leads.{AllStand}
 use Rattle.seize_views.specs.Rows.{IsReclaiming}

@@ -4,8 +4,8 @@ use Rattle.papaya_resize.specs.declared.new_map.NewMap.{NewMap}
 use Rattle.papaya_raw.specs.Machine.{machine_replied}
 use Rattle.papaya_raw.specs.declared.machines.asking.Reply.{Reply}
 use Rattle.papaya_raw.specs.declared.machines.machine.Machine.{Machine}
-use Rattle.papaya_looks.specs.Given.Finishes.Machines.{machine_of}
-use Rattle.papaya_looks.specs.Given.Finishes.Maps.{new_map}
+use Rattle.papaya_looks.specs.Given.FinishesMachines.{machine_of}
+use Rattle.papaya_looks.specs.Given.FinishesMaps.{new_map}
 use Rattle.papaya_acts.specs.Acts.{Wanted, begun}
 use Rattle.papaya_tables.specs.declared.node.Node.{Node}
 use Rattle.seize_views.specs.declared.view.Began.{Began}

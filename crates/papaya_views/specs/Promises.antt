@@ -13,11 +13,11 @@ use Rattle.papaya_raw.specs.Machine.{machine_plan}
 use Rattle.papaya_raw.specs.declared.machines.asking.Reply.{Reply}
 use Rattle.papaya_raw.specs.declared.machines.machine.Machine.{Machine}
 use Rattle.papaya_raw.specs.declared.machines.progress.Progress.{Progress}
-use Rattle.papaya_looks.specs.Given.Points.Steps.{AreLawful}
+use Rattle.papaya_looks.specs.Given.PointsSteps.{AreLawful}
 use Rattle.papaya_acts.specs.Acts.{Wanted}
 use Rattle.seize_seats.specs.Lendings.{Shown, IsValueOf}
 use Rattle.seize_seats.specs.State.{Starts, Comes, Allows, Turns, Meets}
-use Rattle.papaya_tables.specs.Given.Seize.declared.rows.settle.Settle.{Settle}
+use Rattle.papaya_tables.specs.Given.SeizeDeclared.rows.settle.Settle.{Settle}
 use Rattle.papaya_tables.specs.Nodes.{deferred_word}
 use Rattle.seize_views.specs.Promises.{op_in, op_of, IsNext, IsToSettle}
 use Rattle.seize_views.specs.declared.view.Becomes.{Becomes}

@@ -2,17 +2,17 @@
 -- under way is so there, and the blocks that it knows to be held for it are there, and last.
 use Rattle.std.specs.Prelude.{◌≡◌, ◌≢◌, ℕ, ◌+◌, ◌*◌, ◌<◌, Bool, List, [], Option, Some, None, true, false, ◌∷◌, ◌≤◌, ◌⊎◌}
 use Rattle.seize_words.specs.Mem.{value_at}
-use Rattle.papaya_tables.specs.Given.Seize.Law.{holds, is_over}
-use Rattle.papaya_tables.specs.Given.Seize.World.{World, Use, Rests, IsInside}
+use Rattle.papaya_tables.specs.Given.SeizeLaw.{holds, is_over}
+use Rattle.papaya_tables.specs.Given.SeizeWorld.{World, Use, Rests, IsInside}
 use Rattle.papaya_tables.specs.Nodes.{deferred_word}
 use Rattle.papaya_tables.specs.declared.node.Node.{Node}
 use Rattle.papaya_resize.specs.declared.new_map.NewMap.{NewMap}
 use Rattle.papaya_raw.specs.declared.machines.machine.Machine.{Machine}
-use Rattle.papaya_looks.specs.Given.Callers.Rows.{IsUsedAlike, IsRowOn}
-use Rattle.papaya_looks.specs.Given.Callers.Together.{UnderWay}
-use Rattle.papaya_looks.specs.Given.Finishes.Machines.{machine_of}
-use Rattle.papaya_looks.specs.Given.Finishes.Makings.{Beginning}
-use Rattle.papaya_looks.specs.Given.Finishes.Maps.{Standing}
+use Rattle.papaya_looks.specs.Given.CallersRows.{IsUsedAlike, IsRowOn}
+use Rattle.papaya_looks.specs.Given.CallersTogether.{UnderWay}
+use Rattle.papaya_looks.specs.Given.FinishesMachines.{machine_of}
+use Rattle.papaya_looks.specs.Given.FinishesMakings.{Beginning}
+use Rattle.papaya_looks.specs.Given.FinishesMaps.{Standing}
 use Rattle.papaya_acts.specs.Given.ScenesScene.{Scene, slot_of}
 use Rattle.papaya_acts.specs.Given.ScenesDeclared.callers.TheConstants.{SLOTS}
 use Rattle.papaya_looks.specs.Sees.{IsOwnOf}

@@ -1,8 +1,8 @@
 -- What the answer of an operation tells its seat: how far what it has under way has come, and at which blocks the step looks.
 use Rattle.std.specs.Prelude.{◌≡◌, ℕ, Bool, List, [], Option, Some, None, if◌then◌else◌}
 use Rattle.seize_words.specs.Op.{Op, Out}
-use Rattle.papaya_tables.specs.Given.Seize.declared.progress.Progress.{Progress as Told}
-use Rattle.papaya_tables.specs.Given.Seize.declared.progress.Progress.TheVariants as told_as
+use Rattle.papaya_tables.specs.Given.SeizeDeclared.progress.Progress.{Progress as Told}
+use Rattle.papaya_tables.specs.Given.SeizeDeclared.progress.Progress.TheVariants as told_as
 use Rattle.papaya_tables.specs.Chunks.{is_incremental}
 use Rattle.papaya_tables.specs.Nodes.{deferred_word}
 use Rattle.papaya_tables.specs.declared.node.Node.{Node}

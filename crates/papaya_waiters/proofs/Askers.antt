@@ -2,23 +2,23 @@
 use Rattle.std.specs.Prelude.{cond, Option, Some, None}
 use Rattle.std.proofs.Common.{◌≡◌, ◌≢◌, ℕ, ◌≤◌, ◌<◌, ◌⊎◌, inl, inr, Bool, true, false, refl, ap, sym, subst, ◌∙◌, arith}
 use Rattle.std.proofs.lemmas.Bool.{eq-eqb, lt-leb}
-use Rattle.papaya_waits.specs.Given.Seize.World.{World}
-use Rattle.papaya_waits.specs.Given.Tables.Chunks.{is_incremental}
-use Rattle.papaya_waits.specs.Given.Tables.declared.node.Node.{Node}
-use Rattle.papaya_waits.specs.Given.Tables.declared.setting.Setting.{Setting}
-use Rattle.papaya_waits.specs.Given.Tables.declared.table.Table.{Table}
-use Rattle.papaya_waits.specs.Given.Resize.declared.copier.Copier.{Copier}
-use Rattle.papaya_waits.specs.Given.Resize.declared.copier.Copying.{Copying as Point}
-use Rattle.papaya_waits.specs.Given.Resize.declared.copier.Copying.TheVariants as copies
-use Rattle.papaya_waits.specs.Given.Rule.Chart.{Chart, Share, Free, Claimed, Done, Counted, Lost}
-use Rattle.papaya_waits.specs.Given.Rule.Maps.{IsTable, spot_of}
-use Rattle.papaya_waits.specs.Given.Rule.Moves.{is_of_caller}
-use Rattle.papaya_waits.specs.Given.Rule.Rule.{Rule, is_free}
-use Rattle.papaya_waits.specs.Given.Rule.Words.{Blocks}
-use Rattle.papaya_waits.specs.Given.Points.FactsCopies.{ClaimsNone, HasDone}
-use Rattle.papaya_waits.specs.Given.Points.FactsCopiesBlocking.{HasNoShares}
-use Rattle.papaya_waits.specs.Given.Callers.Sights.{Sight}
-use Rattle.papaya_waits.specs.Given.Callers.Together.{UnderWay, Together, in_slot}
+use Rattle.papaya_waits.specs.Given.SeizeWorld.{World}
+use Rattle.papaya_waits.specs.Given.TablesChunks.{is_incremental}
+use Rattle.papaya_waits.specs.Given.TablesDeclared.node.Node.{Node}
+use Rattle.papaya_waits.specs.Given.TablesDeclared.setting.Setting.{Setting}
+use Rattle.papaya_waits.specs.Given.TablesDeclared.table.Table.{Table}
+use Rattle.papaya_waits.specs.Given.ResizeDeclared.copier.Copier.{Copier}
+use Rattle.papaya_waits.specs.Given.ResizeDeclared.copier.Copying.{Copying as Point}
+use Rattle.papaya_waits.specs.Given.ResizeDeclared.copier.Copying.TheVariants as copies
+use Rattle.papaya_waits.specs.Given.RuleChart.{Chart, Share, Free, Claimed, Done, Counted, Lost}
+use Rattle.papaya_waits.specs.Given.RuleMaps.{IsTable, spot_of}
+use Rattle.papaya_waits.specs.Given.RuleMoves.{is_of_caller}
+use Rattle.papaya_waits.specs.Given.RuleRule.{Rule, is_free}
+use Rattle.papaya_waits.specs.Given.RuleWords.{Blocks}
+use Rattle.papaya_waits.specs.Given.PointsFactsCopies.{ClaimsNone, HasDone}
+use Rattle.papaya_waits.specs.Given.PointsFactsCopiesBlocking.{HasNoShares}
+use Rattle.papaya_waits.specs.Given.CallersSights.{Sight}
+use Rattle.papaya_waits.specs.Given.CallersTogether.{UnderWay, Together, in_slot}
 use Rattle.papaya_waits.specs.Others.{EndsAt, copier_of}
 use Rattle.papaya_waits.specs.Waits.{IsUnfinished}
 use Rattle.papaya_waiters.specs.Blocking.{AbortsAt, AskersHaveOthersBlocking, HaveEndsBlocking, IsUncounted, SomeCopier, SpentAt}

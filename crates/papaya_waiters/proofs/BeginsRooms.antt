@@ -1,25 +1,25 @@
 -- A step of a reservation that stands within no copier: where it begins to copy, its copier has not found each place claimed.
 use Rattle.std.specs.Prelude.{if◌then◌else◌, ◌==◌, nat_lt, ◌^◌, None}
 use Rattle.std.proofs.Common.{◌≡◌, ℕ, Bool, true, false}
-use Rattle.papaya_waits.specs.Given.SeizeWords.Mem.{Mem, Took, value_at}
-use Rattle.papaya_waits.specs.Given.SeizeWords.Op.{Out, Found}
-use Rattle.papaya_waits.specs.Given.SeizeWords.Plan.{Steps}
-use Rattle.papaya_waits.specs.Given.SeizeWords.declared.fault.Fault.TheVariants.{Capacity}
-use Rattle.papaya_waits.specs.Given.Seize.declared.progress.Progress.{Progress}
-use Rattle.papaya_waits.specs.Given.Seize.declared.progress.Progress.TheVariants as progress
-use Rattle.papaya_waits.specs.Given.Tables.declared.node.Node.{Node}
-use Rattle.papaya_waits.specs.Given.Tables.declared.table.Table.{Table}
-use Rattle.papaya_waits.specs.Given.Resize.NewTable.{new_table_plan}
-use Rattle.papaya_waits.specs.Given.Resize.Sum.{sum_plan}
-use Rattle.papaya_waits.specs.Given.Resize.declared.new_table.NewTable.{NewTable}
-use Rattle.papaya_waits.specs.Given.Resize.declared.outcome.Outcome.{Outcome}
-use Rattle.papaya_waits.specs.Given.Resize.declared.outcome.Outcome.TheVariants as outcome
-use Rattle.papaya_waits.specs.Given.Resize.declared.sum.Sum.{Sum}
-use Rattle.papaya_waits.specs.Given.Reserves.Reserve.{standing, refusing, enough, summed, made, grown, needed, root_read, next_read, plan_at, reserve_plan}
-use Rattle.papaya_waits.specs.Given.Reserves.declared.reserve.Reserve.{Reserve}
-use Rattle.papaya_waits.specs.Given.Reserves.declared.reserve.Reserving.{Reserving}
-use Rattle.papaya_waits.specs.Given.Reserves.declared.reserve.Reserving.TheVariants as reserves
-use Rattle.papaya_waits.proofs.Given.Rule.Keys.Always.{Always, AlwaysOf, always_if, always_plan_as, always_steps}
+use Rattle.papaya_waits.specs.Given.SeizeWordsMem.{Mem, Took, value_at}
+use Rattle.papaya_waits.specs.Given.SeizeWordsOp.{Out, Found}
+use Rattle.papaya_waits.specs.Given.SeizeWordsPlan.{Steps}
+use Rattle.papaya_waits.specs.Given.SeizeWordsDeclared.fault.Fault.TheVariants.{Capacity}
+use Rattle.papaya_waits.specs.Given.SeizeDeclared.progress.Progress.{Progress}
+use Rattle.papaya_waits.specs.Given.SeizeDeclared.progress.Progress.TheVariants as progress
+use Rattle.papaya_waits.specs.Given.TablesDeclared.node.Node.{Node}
+use Rattle.papaya_waits.specs.Given.TablesDeclared.table.Table.{Table}
+use Rattle.papaya_waits.specs.Given.ResizeNewTable.{new_table_plan}
+use Rattle.papaya_waits.specs.Given.ResizeSum.{sum_plan}
+use Rattle.papaya_waits.specs.Given.ResizeDeclared.new_table.NewTable.{NewTable}
+use Rattle.papaya_waits.specs.Given.ResizeDeclared.outcome.Outcome.{Outcome}
+use Rattle.papaya_waits.specs.Given.ResizeDeclared.outcome.Outcome.TheVariants as outcome
+use Rattle.papaya_waits.specs.Given.ResizeDeclared.sum.Sum.{Sum}
+use Rattle.papaya_waits.specs.Given.ReservesReserve.{standing, refusing, enough, summed, made, grown, needed, root_read, next_read, plan_at, reserve_plan}
+use Rattle.papaya_waits.specs.Given.ReservesDeclared.reserve.Reserve.{Reserve}
+use Rattle.papaya_waits.specs.Given.ReservesDeclared.reserve.Reserving.{Reserving}
+use Rattle.papaya_waits.specs.Given.ReservesDeclared.reserve.Reserving.TheVariants as reserves
+use Rattle.papaya_waits.proofs.Given.RuleKeys.Always.{Always, AlwaysOf, always_if, always_plan_as, always_steps}
 use Rattle.papaya_waits.specs.Others.{copier_in_room}
 use Rattle.papaya_waiters.proofs.Begins.{IsNew, as_none, begun_new}
 

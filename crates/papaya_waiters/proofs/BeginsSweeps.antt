@@ -1,26 +1,26 @@
 -- A step of a walk, a clearing or a retaining that stands within no copier: where it begins to copy, its copier has not found each place claimed.
 use Rattle.std.specs.Prelude.{if◌then◌else◌, ◌==◌, ◌&&◌, Ok, Err, None, ◌/◌}
 use Rattle.std.proofs.Common.{◌≡◌, ℕ, Bool, true, false, refl}
-use Rattle.papaya_waits.specs.Given.SeizeWords.Mem.{Mem, Took, value_at}
-use Rattle.papaya_waits.specs.Given.SeizeWords.Op.{Out, Found, Exchanged}
-use Rattle.papaya_waits.specs.Given.SeizeWords.Plan.{Steps}
-use Rattle.papaya_waits.specs.Given.Seize.declared.rows.settle.Settled.{Settled}
-use Rattle.papaya_waits.specs.Given.Seize.declared.rows.settle.Settled.TheVariants as settled
-use Rattle.papaya_waits.specs.Given.Tables.Marks.{has_mark}
-use Rattle.papaya_waits.specs.Given.Tables.declared.marks.TheConstants.{COPYING}
-use Rattle.papaya_waits.specs.Given.Tables.declared.node.Node.{Node}
-use Rattle.papaya_waits.specs.Given.Resize.Dispose.{dispose_plan}
-use Rattle.papaya_waits.specs.Given.Resize.declared.dispose.Dispose.{Dispose}
-use Rattle.papaya_waits.specs.Given.Sweeps.Sweep as sweep
-use Rattle.papaya_waits.specs.Given.Sweeps.SweepPoints.{removes, further, telling, at_pair, seen}
-use Rattle.papaya_waits.specs.Given.Sweeps.declared.sweep.Purpose.{Purpose}
-use Rattle.papaya_waits.specs.Given.Sweeps.declared.sweep.Purpose.TheVariants.{Walks, Clears, Retains}
-use Rattle.papaya_waits.specs.Given.Sweeps.declared.sweep.Sweep.{Sweep}
-use Rattle.papaya_waits.specs.Given.Sweeps.declared.sweep.Sweeping.{Sweeping}
-use Rattle.papaya_waits.specs.Given.Sweeps.declared.sweep.Sweeping.TheVariants as sweeps
-use Rattle.papaya_waits.specs.Given.Sweeps.declared.sweep.Swept.{Swept}
-use Rattle.papaya_waits.proofs.Given.Rule.Keys.Always.{Always, AlwaysOf, always_if, always_steps, always_plan_as}
-use Rattle.papaya_waits.proofs.Given.Late.Swept.Sweeps.Stands.{IsQuiet, quiet_beginning, quiet_entering, quiet_further, quiet_tableless}
+use Rattle.papaya_waits.specs.Given.SeizeWordsMem.{Mem, Took, value_at}
+use Rattle.papaya_waits.specs.Given.SeizeWordsOp.{Out, Found, Exchanged}
+use Rattle.papaya_waits.specs.Given.SeizeWordsPlan.{Steps}
+use Rattle.papaya_waits.specs.Given.SeizeDeclared.rows.settle.Settled.{Settled}
+use Rattle.papaya_waits.specs.Given.SeizeDeclared.rows.settle.Settled.TheVariants as settled
+use Rattle.papaya_waits.specs.Given.TablesMarks.{has_mark}
+use Rattle.papaya_waits.specs.Given.TablesDeclared.marks.TheConstants.{COPYING}
+use Rattle.papaya_waits.specs.Given.TablesDeclared.node.Node.{Node}
+use Rattle.papaya_waits.specs.Given.ResizeDispose.{dispose_plan}
+use Rattle.papaya_waits.specs.Given.ResizeDeclared.dispose.Dispose.{Dispose}
+use Rattle.papaya_waits.specs.Given.SweepsSweep as sweep
+use Rattle.papaya_waits.specs.Given.SweepsSweepPoints.{removes, further, telling, at_pair, seen}
+use Rattle.papaya_waits.specs.Given.SweepsDeclared.sweep.Purpose.{Purpose}
+use Rattle.papaya_waits.specs.Given.SweepsDeclared.sweep.Purpose.TheVariants.{Walks, Clears, Retains}
+use Rattle.papaya_waits.specs.Given.SweepsDeclared.sweep.Sweep.{Sweep}
+use Rattle.papaya_waits.specs.Given.SweepsDeclared.sweep.Sweeping.{Sweeping}
+use Rattle.papaya_waits.specs.Given.SweepsDeclared.sweep.Sweeping.TheVariants as sweeps
+use Rattle.papaya_waits.specs.Given.SweepsDeclared.sweep.Swept.{Swept}
+use Rattle.papaya_waits.proofs.Given.RuleKeys.Always.{Always, AlwaysOf, always_if, always_steps, always_plan_as}
+use Rattle.papaya_waits.proofs.Given.LateSwept.Sweeps.Stands.{IsQuiet, quiet_beginning, quiet_entering, quiet_further, quiet_tableless}
 use Rattle.papaya_waits.specs.Others.{copier_in_sweep}
 use Rattle.papaya_waiters.proofs.Begins.{IsNew, as_none, begun_new}
 

@@ -2,60 +2,60 @@
 use Rattle.std.specs.Prelude.{◌==◌, if◌then◌else◌, Option, Some, None}
 use Rattle.std.specs.Int.{IsPowerOfTwo}
 use Rattle.std.proofs.Common.{◌≡◌, ℕ, Bool, true, ◌⊎◌, inl, inr, refl, ap, sym, subst, ◌∙◌, List, false}
-use Rattle.papaya_waits.specs.Given.SeizeWords.Mem.{Mem, Took, value_at}
-use Rattle.papaya_waits.specs.Given.SeizeWords.Plan.{Steps}
-use Rattle.papaya_waits.specs.Given.Seize.World.{World, with_at}
-use Rattle.papaya_waits.specs.Given.Tables.Chunks.{is_incremental}
-use Rattle.papaya_waits.specs.Given.Tables.declared.node.Node.{Node}
-use Rattle.papaya_waits.specs.Given.Tables.declared.setting.Setting.{Setting}
-use Rattle.papaya_waits.specs.Given.Tables.declared.table.Table.{Table}
-use Rattle.papaya_waits.specs.Given.Resize.Copier.{copier_plan}
-use Rattle.papaya_waits.specs.Given.Resize.declared.outcome.Outcome.{Outcome}
-use Rattle.papaya_waits.specs.Given.Resize.declared.outcome.Outcome.TheVariants as outcome
-use Rattle.papaya_waits.specs.Given.Resize.declared.copier.Copier.{Copier}
-use Rattle.papaya_waits.specs.Given.Raw.declared.machines.answer.Called.{Called}
-use Rattle.papaya_waits.specs.Given.Raw.declared.machines.call.KeyCall.{KeyCall}
-use Rattle.papaya_waits.specs.Given.Raw.declared.machines.call.Calling.{Calling}
-use Rattle.papaya_waits.specs.Given.Raw.declared.machines.call.Calling.TheVariants as at
-use Rattle.papaya_waits.specs.Given.Rule.Chart.{Chart}
-use Rattle.papaya_waits.specs.Given.Rule.Words.{Blocks}
-use Rattle.papaya_waits.specs.Given.Points.FactsCalls.{CallingFacts, IsCopying}
-use Rattle.papaya_waits.specs.Given.Points.Steps.{AreLawful}
-use Rattle.papaya_waits.specs.Given.Points.Told.{IsRowOfCall, IsRowOfCopier, MovedBeside, IsBeside, OnlyLinks}
-use Rattle.papaya_waits.specs.Given.Tables.declared.resize_mode.ResizeMode.{ResizeMode}
-use Rattle.papaya_waits.specs.Given.Reserves.declared.reserve.Reserve.{Reserve}
-use Rattle.papaya_waits.specs.Given.Reserves.declared.reserve.Reserving.{Reserving}
-use Rattle.papaya_waits.specs.Given.Reserves.declared.reserve.Reserving.TheVariants as reserves
-use Rattle.papaya_waits.specs.Given.Sweeps.declared.sweep.Sweep.{Sweep}
-use Rattle.papaya_waits.specs.Given.Sweeps.declared.sweep.Sweeping.{Sweeping}
-use Rattle.papaya_waits.specs.Given.Sweeps.declared.sweep.Sweeping.TheVariants as sweeps
-use Rattle.papaya_waits.specs.Given.Sweeps.declared.sweep.Swept.{Swept}
-use Rattle.papaya_waits.specs.Given.Rule.Maps.{spot_of}
-use Rattle.papaya_waits.specs.Given.Rule.Moves.{Move, Links, Removes, after, Stores, Replaces}
-use Rattle.papaya_waits.specs.Given.Points.FactsCopiesBlocking.{CopierFactsBlocking}
-use Rattle.papaya_waits.specs.Given.Late.FactsReserves.{CopiesPairs}
-use Rattle.papaya_waits.specs.Given.Late.FactsSweeps.{CopiesPairs as SweepCopies}
-use Rattle.papaya_waits.specs.Given.Late.ToldReserves.{IsRowOfReserve}
-use Rattle.papaya_waits.specs.Given.Late.ToldSweeps.{IsRowOfSweep, OnlyRemoves}
-use Rattle.papaya_waits.specs.Given.Raw.Call.{plan_at, call_plan, copied}
-use Rattle.papaya_waits.specs.Given.Raw.CallPoints.{ending, going, over}
-use Rattle.papaya_waits.specs.Given.Raw.declared.machines.answer.Called.TheVariants as called
-use Rattle.papaya_waits.specs.Given.Raw.declared.machines.answer.End.{End}
-use Rattle.papaya_waits.specs.Given.Raw.declared.machines.answer.End.TheVariants as ends
-use Rattle.papaya_waits.specs.Given.Reserves.Reserve as room_plans
-use Rattle.papaya_waits.specs.Given.Sweeps.Sweep as sweep_plans
-use Rattle.papaya_waits.specs.Given.Sweeps.SweepPoints.{entering}
-use Rattle.papaya_waits.specs.Given.Sweeps.declared.sweep.Swept.TheVariants as swept
-use Rattle.papaya_waits.specs.Given.Late.LateCalls.{LateCalling}
-use Rattle.papaya_waits.specs.Given.Late.LateCopies.{LateCopierFacts}
-use Rattle.papaya_waits.specs.Given.Callers.Sights.{Sight, seen_by}
-use Rattle.papaya_waits.specs.Given.Callers.Together.{CallOnKey, UnderWay, OnKey, Together, StepsTogether, StepTold, Fresh, Late, change_told, next_of, in_slot, ForRoom, OverAll, RoomStepsTogether, RoomTold, FreshRoom, LateRoom, next_for_room, next_over_all}
-use Rattle.papaya_waits.specs.Given.Callers.OverAll.{CallOverAll, come_to}
-use Rattle.papaya_waits.specs.Given.Callers.Rooms.{CallForRoom}
-use Rattle.papaya_waits.specs.Given.Callers.Sweeps.{SweepStepsTogether}
-use Rattle.papaya_waits.proofs.Given.SeizeRule.Rows.Leaving.{steps_back}
-use Rattle.papaya_waits.proofs.Given.Callers.Together.At.{at_same}
-use Rattle.papaya_waits.proofs.Given.Late.Swept.Sweeps.Stands.{quiet_entering}
+use Rattle.papaya_waits.specs.Given.SeizeWordsMem.{Mem, Took, value_at}
+use Rattle.papaya_waits.specs.Given.SeizeWordsPlan.{Steps}
+use Rattle.papaya_waits.specs.Given.SeizeWorld.{World, with_at}
+use Rattle.papaya_waits.specs.Given.TablesChunks.{is_incremental}
+use Rattle.papaya_waits.specs.Given.TablesDeclared.node.Node.{Node}
+use Rattle.papaya_waits.specs.Given.TablesDeclared.setting.Setting.{Setting}
+use Rattle.papaya_waits.specs.Given.TablesDeclared.table.Table.{Table}
+use Rattle.papaya_waits.specs.Given.ResizeCopier.{copier_plan}
+use Rattle.papaya_waits.specs.Given.ResizeDeclared.outcome.Outcome.{Outcome}
+use Rattle.papaya_waits.specs.Given.ResizeDeclared.outcome.Outcome.TheVariants as outcome
+use Rattle.papaya_waits.specs.Given.ResizeDeclared.copier.Copier.{Copier}
+use Rattle.papaya_waits.specs.Given.RawDeclared.machines.answer.Called.{Called}
+use Rattle.papaya_waits.specs.Given.RawDeclared.machines.call.KeyCall.{KeyCall}
+use Rattle.papaya_waits.specs.Given.RawDeclared.machines.call.Calling.{Calling}
+use Rattle.papaya_waits.specs.Given.RawDeclared.machines.call.Calling.TheVariants as at
+use Rattle.papaya_waits.specs.Given.RuleChart.{Chart}
+use Rattle.papaya_waits.specs.Given.RuleWords.{Blocks}
+use Rattle.papaya_waits.specs.Given.PointsFactsCalls.{CallingFacts, IsCopying}
+use Rattle.papaya_waits.specs.Given.PointsSteps.{AreLawful}
+use Rattle.papaya_waits.specs.Given.PointsTold.{IsRowOfCall, IsRowOfCopier, MovedBeside, IsBeside, OnlyLinks}
+use Rattle.papaya_waits.specs.Given.TablesDeclared.resize_mode.ResizeMode.{ResizeMode}
+use Rattle.papaya_waits.specs.Given.ReservesDeclared.reserve.Reserve.{Reserve}
+use Rattle.papaya_waits.specs.Given.ReservesDeclared.reserve.Reserving.{Reserving}
+use Rattle.papaya_waits.specs.Given.ReservesDeclared.reserve.Reserving.TheVariants as reserves
+use Rattle.papaya_waits.specs.Given.SweepsDeclared.sweep.Sweep.{Sweep}
+use Rattle.papaya_waits.specs.Given.SweepsDeclared.sweep.Sweeping.{Sweeping}
+use Rattle.papaya_waits.specs.Given.SweepsDeclared.sweep.Sweeping.TheVariants as sweeps
+use Rattle.papaya_waits.specs.Given.SweepsDeclared.sweep.Swept.{Swept}
+use Rattle.papaya_waits.specs.Given.RuleMaps.{spot_of}
+use Rattle.papaya_waits.specs.Given.RuleMoves.{Move, Links, Removes, after, Stores, Replaces}
+use Rattle.papaya_waits.specs.Given.PointsFactsCopiesBlocking.{CopierFactsBlocking}
+use Rattle.papaya_waits.specs.Given.LateFactsReserves.{CopiesPairs}
+use Rattle.papaya_waits.specs.Given.LateFactsSweeps.{CopiesPairs as SweepCopies}
+use Rattle.papaya_waits.specs.Given.LateToldReserves.{IsRowOfReserve}
+use Rattle.papaya_waits.specs.Given.LateToldSweeps.{IsRowOfSweep, OnlyRemoves}
+use Rattle.papaya_waits.specs.Given.RawCall.{plan_at, call_plan, copied}
+use Rattle.papaya_waits.specs.Given.RawCallPoints.{ending, going, over}
+use Rattle.papaya_waits.specs.Given.RawDeclared.machines.answer.Called.TheVariants as called
+use Rattle.papaya_waits.specs.Given.RawDeclared.machines.answer.End.{End}
+use Rattle.papaya_waits.specs.Given.RawDeclared.machines.answer.End.TheVariants as ends
+use Rattle.papaya_waits.specs.Given.ReservesReserve as room_plans
+use Rattle.papaya_waits.specs.Given.SweepsSweep as sweep_plans
+use Rattle.papaya_waits.specs.Given.SweepsSweepPoints.{entering}
+use Rattle.papaya_waits.specs.Given.SweepsDeclared.sweep.Swept.TheVariants as swept
+use Rattle.papaya_waits.specs.Given.LateLateCalls.{LateCalling}
+use Rattle.papaya_waits.specs.Given.LateLateCopies.{LateCopierFacts}
+use Rattle.papaya_waits.specs.Given.CallersSights.{Sight, seen_by}
+use Rattle.papaya_waits.specs.Given.CallersTogether.{CallOnKey, UnderWay, OnKey, Together, StepsTogether, StepTold, Fresh, Late, change_told, next_of, in_slot, ForRoom, OverAll, RoomStepsTogether, RoomTold, FreshRoom, LateRoom, next_for_room, next_over_all}
+use Rattle.papaya_waits.specs.Given.CallersOverAll.{CallOverAll, come_to}
+use Rattle.papaya_waits.specs.Given.CallersRooms.{CallForRoom}
+use Rattle.papaya_waits.specs.Given.CallersSweeps.{SweepStepsTogether}
+use Rattle.papaya_waits.proofs.Given.SeizeRuleRows.Leaving.{steps_back}
+use Rattle.papaya_waits.proofs.Given.CallersTogether.At.{at_same}
+use Rattle.papaya_waits.proofs.Given.LateSwept.Sweeps.Stands.{quiet_entering}
 use Rattle.papaya_waits.specs.Others.{copier_in, copier_in_room, copier_in_sweep}
 use Rattle.papaya_waits.proofs.EndingCalls.{copier_then}
 use Rattle.papaya_waiters.specs.Blocking.{CallsKeepEndsBlocking, HaveEndsBlocking, RoomsKeepEndsBlocking, SweepsKeepEndsBlocking}

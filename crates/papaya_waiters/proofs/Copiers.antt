@@ -2,37 +2,37 @@
 use Rattle.std.specs.Prelude.{◌^◌, cond, Some}
 use Rattle.std.specs.Int.{IsPowerOfTwo}
 use Rattle.std.proofs.Common.{◌≡◌, ℕ, ◌<◌, Bool, false, ap, sym, subst, ◌∙◌}
-use Rattle.papaya_waits.specs.Given.SeizeWords.declared.at.At.{At}
-use Rattle.papaya_waits.specs.Given.SeizeWords.declared.at.At.TheVariants.{Word}
-use Rattle.papaya_waits.specs.Given.SeizeWords.Mem.{Mem, Took, value_at, with_word, word_at}
-use Rattle.papaya_waits.specs.Given.SeizeWords.Plan.{Steps}
-use Rattle.papaya_waits.specs.Given.Seize.World.{World}
-use Rattle.papaya_waits.specs.Given.Tables.Chunks.{is_incremental}
-use Rattle.papaya_waits.specs.Given.Tables.TablePlaces.{at_word}
-use Rattle.papaya_waits.specs.Given.Tables.declared.node.Node.{Node}
-use Rattle.papaya_waits.specs.Given.Tables.declared.setting.Setting.{Setting}
-use Rattle.papaya_waits.specs.Given.Tables.declared.status.TheConstants.Status.{PROMOTED, ABORTED}
-use Rattle.papaya_waits.specs.Given.Tables.declared.table.Table.{Table}
-use Rattle.papaya_waits.specs.Given.Tables.declared.table_words.TheConstants.{STATUS}
-use Rattle.papaya_waits.specs.Given.Resize.Copier.{copier_plan, plan_at}
-use Rattle.papaya_waits.specs.Given.Resize.declared.copier.Copier.{Copier}
-use Rattle.papaya_waits.specs.Given.Resize.declared.copier.Copying.{Copying as Point}
-use Rattle.papaya_waits.specs.Given.Resize.declared.copier.Copying.TheVariants as at
-use Rattle.papaya_waits.specs.Given.Resize.declared.outcome.Outcome.{Outcome}
-use Rattle.papaya_waits.specs.Given.Rule.Chart.{Chart}
-use Rattle.papaya_waits.specs.Given.Rule.InWorld.{IsMapIn}
-use Rattle.papaya_waits.specs.Given.Rule.Maps.{IsTable, spot_of}
-use Rattle.papaya_waits.specs.Given.Rule.Rule.{IsLawful}
-use Rattle.papaya_waits.specs.Given.Rule.Words.{Blocks}
-use Rattle.papaya_waits.specs.Given.Points.FactsCopiesBlocking.{CopierFactsBlocking, CopyingFactsBlocking, HasNoShares}
-use Rattle.papaya_waits.specs.Given.Points.Told.{IsRowOfCopier}
-use Rattle.papaya_waits.proofs.Given.Callers.Claims.Knows.{fresh_knows}
-use Rattle.papaya_waits.proofs.Given.Points.Blocking.Points.{may_copier_blocking}
-use Rattle.papaya_waits.proofs.Given.Rule.Spared.{step_spares}
-use Rattle.papaya_waits.proofs.Given.Rule.Words.TablesSeen.{word_stands}
-use Rattle.papaya_waits.proofs.Given.Rule.Words.WritesWords.{is_some_of}
-use Rattle.papaya_waits.proofs.Given.SeizeWords.OneOwner.AfterWrites.{word_at-with_word}
-use Rattle.papaya_waits.proofs.Given.SeizeRule.Words.Named.{same_at-refl}
+use Rattle.papaya_waits.specs.Given.SeizeWordsDeclared.at.At.{At}
+use Rattle.papaya_waits.specs.Given.SeizeWordsDeclared.at.At.TheVariants.{Word}
+use Rattle.papaya_waits.specs.Given.SeizeWordsMem.{Mem, Took, value_at, with_word, word_at}
+use Rattle.papaya_waits.specs.Given.SeizeWordsPlan.{Steps}
+use Rattle.papaya_waits.specs.Given.SeizeWorld.{World}
+use Rattle.papaya_waits.specs.Given.TablesChunks.{is_incremental}
+use Rattle.papaya_waits.specs.Given.TablesTablePlaces.{at_word}
+use Rattle.papaya_waits.specs.Given.TablesDeclared.node.Node.{Node}
+use Rattle.papaya_waits.specs.Given.TablesDeclared.setting.Setting.{Setting}
+use Rattle.papaya_waits.specs.Given.TablesDeclared.status.TheConstants.Status.{PROMOTED, ABORTED}
+use Rattle.papaya_waits.specs.Given.TablesDeclared.table.Table.{Table}
+use Rattle.papaya_waits.specs.Given.TablesDeclared.table_words.TheConstants.{STATUS}
+use Rattle.papaya_waits.specs.Given.ResizeCopier.{copier_plan, plan_at}
+use Rattle.papaya_waits.specs.Given.ResizeDeclared.copier.Copier.{Copier}
+use Rattle.papaya_waits.specs.Given.ResizeDeclared.copier.Copying.{Copying as Point}
+use Rattle.papaya_waits.specs.Given.ResizeDeclared.copier.Copying.TheVariants as at
+use Rattle.papaya_waits.specs.Given.ResizeDeclared.outcome.Outcome.{Outcome}
+use Rattle.papaya_waits.specs.Given.RuleChart.{Chart}
+use Rattle.papaya_waits.specs.Given.RuleInWorld.{IsMapIn}
+use Rattle.papaya_waits.specs.Given.RuleMaps.{IsTable, spot_of}
+use Rattle.papaya_waits.specs.Given.RuleRule.{IsLawful}
+use Rattle.papaya_waits.specs.Given.RuleWords.{Blocks}
+use Rattle.papaya_waits.specs.Given.PointsFactsCopiesBlocking.{CopierFactsBlocking, CopyingFactsBlocking, HasNoShares}
+use Rattle.papaya_waits.specs.Given.PointsTold.{IsRowOfCopier}
+use Rattle.papaya_waits.proofs.Given.CallersClaims.Knows.{fresh_knows}
+use Rattle.papaya_waits.proofs.Given.PointsBlocking.Points.{may_copier_blocking}
+use Rattle.papaya_waits.proofs.Given.RuleSpared.{step_spares}
+use Rattle.papaya_waits.proofs.Given.RuleWords.TablesSeen.{word_stands}
+use Rattle.papaya_waits.proofs.Given.RuleWords.WritesWords.{is_some_of}
+use Rattle.papaya_waits.proofs.Given.SeizeWordsOneOwner.AfterWrites.{word_at-with_word}
+use Rattle.papaya_waits.proofs.Given.SeizeRuleWords.Named.{same_at-refl}
 use Rattle.papaya_waits.specs.Others.{EndsAt}
 use Rattle.papaya_waiters.specs.Blocking.{AbortsAt}
 use Rattle.papaya_waiters.proofs.Moves.{AllKept}

@@ -2,40 +2,40 @@
 use Rattle.std.specs.Prelude.{cond, Some}
 use Rattle.std.proofs.Common.{◌≡◌, ◌≢◌, ℕ, zero, suc, ◌+◌, ◌%◌, ◌^◌, ◌<◌, ◌≤◌, ◌==◌, ◌⊎◌, Bool, true, false, inl, inr, refl, ap, sym, subst, ◌∙◌, arith}
 use Rattle.std.proofs.lemmas.Bool.{cases_eq, eqb-false, ne_eqb}
-use Rattle.papaya_waits.specs.Given.SeizeWords.declared.at.At.{At}
-use Rattle.papaya_waits.specs.Given.SeizeWords.declared.at.At.TheVariants.{Word}
-use Rattle.papaya_waits.specs.Given.SeizeWords.Mem.{Mem, Took, value_at, with_word, word_at}
-use Rattle.papaya_waits.specs.Given.SeizeWords.Plan.{Steps}
-use Rattle.papaya_waits.specs.Given.Seize.World.{World}
-use Rattle.papaya_waits.specs.Given.Tables.Chunks.{is_incremental}
-use Rattle.papaya_waits.specs.Given.Tables.TablePlaces.{at_word}
-use Rattle.papaya_waits.specs.Given.Tables.declared.node.Node.{Node}
-use Rattle.papaya_waits.specs.Given.Tables.declared.setting.Setting.{Setting}
-use Rattle.papaya_waits.specs.Given.Tables.declared.table.Table.{Table}
-use Rattle.papaya_waits.specs.Given.Tables.declared.table_words.TheConstants.{COPIED}
-use Rattle.papaya_waits.specs.Given.Resize.Copier.{plan_at}
-use Rattle.papaya_waits.specs.Given.Resize.CopierCounts.{counted as count_told}
-use Rattle.papaya_waits.specs.Given.Resize.CopierStates.{behind}
-use Rattle.papaya_waits.specs.Given.Resize.declared.copier.Copier.{Copier}
-use Rattle.papaya_waits.specs.Given.Resize.declared.copier.Copying.TheVariants as at
-use Rattle.papaya_waits.specs.Given.Resize.declared.outcome.Outcome.{Outcome}
-use Rattle.papaya_waits.specs.Given.Resize.declared.outcome.Outcome.TheVariants.{Goes}
-use Rattle.papaya_waits.specs.Given.Rule.Chart.{Chart, Share, Free, Claimed, Done, Counted, Lost, is_counted}
-use Rattle.papaya_waits.specs.Given.Rule.InWorld.{IsMapIn}
-use Rattle.papaya_waits.specs.Given.Rule.Lasts.{IsBy}
-use Rattle.papaya_waits.specs.Given.Rule.Maps.{spot_of}
-use Rattle.papaya_waits.specs.Given.Rule.Moves.{Move, Counts, after, counted_to, with_counted}
-use Rattle.papaya_waits.specs.Given.Rule.Rule.{total}
-use Rattle.papaya_waits.specs.Given.Rule.Words.{Blocks, ShowsTable}
-use Rattle.papaya_waits.specs.Given.Points.FactsCopiesBlocking.{CopiesInto, HasDoneIn}
-use Rattle.papaya_waits.proofs.Given.Rule.Moves.Totals.{total_with_counted}
-use Rattle.papaya_waits.proofs.Given.Rule.Shares.CopiersShares.{done_fits}
-use Rattle.papaya_waits.proofs.Given.Rule.Words.TablesSeen.{len_is, word_stands}
-use Rattle.papaya_waits.proofs.Given.Rule.Words.WritesWords.{is_some_of}
-use Rattle.papaya_waits.proofs.Given.SeizeWords.OneOwner.AfterWrites.{word_at-with_word}
-use Rattle.papaya_waits.proofs.Given.SeizeWords.OneOwner.Operations.{added}
-use Rattle.papaya_waits.proofs.Given.SeizeWords.Plans.{ends_if}
-use Rattle.papaya_waits.proofs.Given.SeizeRule.Words.Named.{same_at-refl}
+use Rattle.papaya_waits.specs.Given.SeizeWordsDeclared.at.At.{At}
+use Rattle.papaya_waits.specs.Given.SeizeWordsDeclared.at.At.TheVariants.{Word}
+use Rattle.papaya_waits.specs.Given.SeizeWordsMem.{Mem, Took, value_at, with_word, word_at}
+use Rattle.papaya_waits.specs.Given.SeizeWordsPlan.{Steps}
+use Rattle.papaya_waits.specs.Given.SeizeWorld.{World}
+use Rattle.papaya_waits.specs.Given.TablesChunks.{is_incremental}
+use Rattle.papaya_waits.specs.Given.TablesTablePlaces.{at_word}
+use Rattle.papaya_waits.specs.Given.TablesDeclared.node.Node.{Node}
+use Rattle.papaya_waits.specs.Given.TablesDeclared.setting.Setting.{Setting}
+use Rattle.papaya_waits.specs.Given.TablesDeclared.table.Table.{Table}
+use Rattle.papaya_waits.specs.Given.TablesDeclared.table_words.TheConstants.{COPIED}
+use Rattle.papaya_waits.specs.Given.ResizeCopier.{plan_at}
+use Rattle.papaya_waits.specs.Given.ResizeCopierCounts.{counted as count_told}
+use Rattle.papaya_waits.specs.Given.ResizeCopierStates.{behind}
+use Rattle.papaya_waits.specs.Given.ResizeDeclared.copier.Copier.{Copier}
+use Rattle.papaya_waits.specs.Given.ResizeDeclared.copier.Copying.TheVariants as at
+use Rattle.papaya_waits.specs.Given.ResizeDeclared.outcome.Outcome.{Outcome}
+use Rattle.papaya_waits.specs.Given.ResizeDeclared.outcome.Outcome.TheVariants.{Goes}
+use Rattle.papaya_waits.specs.Given.RuleChart.{Chart, Share, Free, Claimed, Done, Counted, Lost, is_counted}
+use Rattle.papaya_waits.specs.Given.RuleInWorld.{IsMapIn}
+use Rattle.papaya_waits.specs.Given.RuleLasts.{IsBy}
+use Rattle.papaya_waits.specs.Given.RuleMaps.{spot_of}
+use Rattle.papaya_waits.specs.Given.RuleMoves.{Move, Counts, after, counted_to, with_counted}
+use Rattle.papaya_waits.specs.Given.RuleRule.{total}
+use Rattle.papaya_waits.specs.Given.RuleWords.{Blocks, ShowsTable}
+use Rattle.papaya_waits.specs.Given.PointsFactsCopiesBlocking.{CopiesInto, HasDoneIn}
+use Rattle.papaya_waits.proofs.Given.RuleMoves.Totals.{total_with_counted}
+use Rattle.papaya_waits.proofs.Given.RuleShares.CopiersShares.{done_fits}
+use Rattle.papaya_waits.proofs.Given.RuleWords.TablesSeen.{len_is, word_stands}
+use Rattle.papaya_waits.proofs.Given.RuleWords.WritesWords.{is_some_of}
+use Rattle.papaya_waits.proofs.Given.SeizeWordsOneOwner.AfterWrites.{word_at-with_word}
+use Rattle.papaya_waits.proofs.Given.SeizeWordsOneOwner.Operations.{added}
+use Rattle.papaya_waits.proofs.Given.SeizeWordsPlans.{ends_if}
+use Rattle.papaya_waits.proofs.Given.SeizeRuleWords.Named.{same_at-refl}
 use Rattle.papaya_waits.specs.Others.{EndsAt}
 use Rattle.papaya_waiters.proofs.Moves.{AllKept, counted}
 use Rattle.papaya_waiters.proofs.Reached.{MovedSo, Reached, moved, past_on, rule, shows}

@@ -1,31 +1,31 @@
 -- In blocking mode, a step of a copier whose table the root has left leaves each copying that is not over with who ends it: it has no part in one, and makes no table the root.
 use Rattle.std.specs.Prelude.{◌*◌, Some}
 use Rattle.std.proofs.Common.{◌≡◌, ℕ, ◌<◌, Bool, false, inl, inr, ap, sym, subst, ◌∙◌, arith, ◌⊎◌, refl}
-use Rattle.papaya_waits.specs.Given.SeizeWords.declared.at.At.TheVariants.{Root}
-use Rattle.papaya_waits.specs.Given.SeizeWords.Mem.{Can, Mem, Took, value_at, word_at}
-use Rattle.papaya_waits.specs.Given.SeizeWords.Plan.{May, Steps}
-use Rattle.papaya_waits.specs.Given.Late.LateCopies.{CopiesLate, LateCopierFacts, LateCopying}
-use Rattle.papaya_waits.specs.Given.Resize.Copier.{copier_plan, plan_at}
-use Rattle.papaya_waits.specs.Given.Resize.CopierPromotes.{promoted}
-use Rattle.papaya_waits.specs.Given.Seize.World.{World}
-use Rattle.papaya_waits.specs.Given.Tables.Chunks.{is_incremental}
-use Rattle.papaya_waits.specs.Given.Tables.declared.node.Node.{Node}
-use Rattle.papaya_waits.specs.Given.Tables.declared.setting.Setting.{Setting}
-use Rattle.papaya_waits.specs.Given.Resize.declared.copier.Copier.{Copier}
-use Rattle.papaya_waits.specs.Given.Resize.declared.copier.Copying.TheVariants as at
-use Rattle.papaya_waits.specs.Given.Rule.Chart.{Chart}
-use Rattle.papaya_waits.specs.Given.Rule.Words.{Blocks}
-use Rattle.papaya_waits.specs.Given.Points.FactsCopiesBlocking.{HasNoShares}
-use Rattle.papaya_waits.specs.Given.Points.Told.{IsRowOfCopier}
-use Rattle.papaya_waits.specs.Given.Tables.declared.status.TheConstants.Status.{PROMOTED}
-use Rattle.papaya_waits.specs.Given.Tables.declared.table.Table.{Table}
-use Rattle.papaya_waits.specs.Given.Resize.declared.copier.Copying.{Copying as Point}
-use Rattle.papaya_waits.specs.Given.Rule.Maps.{IsTable}
-use Rattle.papaya_waits.specs.Given.Rule.InWorld.{IsMapIn}
-use Rattle.papaya_waits.specs.Given.Resize.declared.outcome.Outcome.{Outcome}
-use Rattle.papaya_waits.proofs.Given.Callers.Claims.Knows.{late_knows}
-use Rattle.papaya_waits.proofs.Given.SeizeWords.OneOwner.Operations.{exchanged}
-use Rattle.papaya_waits.proofs.Given.Rule.Spared.{step_spares}
+use Rattle.papaya_waits.specs.Given.SeizeWordsDeclared.at.At.TheVariants.{Root}
+use Rattle.papaya_waits.specs.Given.SeizeWordsMem.{Can, Mem, Took, value_at, word_at}
+use Rattle.papaya_waits.specs.Given.SeizeWordsPlan.{May, Steps}
+use Rattle.papaya_waits.specs.Given.LateLateCopies.{CopiesLate, LateCopierFacts, LateCopying}
+use Rattle.papaya_waits.specs.Given.ResizeCopier.{copier_plan, plan_at}
+use Rattle.papaya_waits.specs.Given.ResizeCopierPromotes.{promoted}
+use Rattle.papaya_waits.specs.Given.SeizeWorld.{World}
+use Rattle.papaya_waits.specs.Given.TablesChunks.{is_incremental}
+use Rattle.papaya_waits.specs.Given.TablesDeclared.node.Node.{Node}
+use Rattle.papaya_waits.specs.Given.TablesDeclared.setting.Setting.{Setting}
+use Rattle.papaya_waits.specs.Given.ResizeDeclared.copier.Copier.{Copier}
+use Rattle.papaya_waits.specs.Given.ResizeDeclared.copier.Copying.TheVariants as at
+use Rattle.papaya_waits.specs.Given.RuleChart.{Chart}
+use Rattle.papaya_waits.specs.Given.RuleWords.{Blocks}
+use Rattle.papaya_waits.specs.Given.PointsFactsCopiesBlocking.{HasNoShares}
+use Rattle.papaya_waits.specs.Given.PointsTold.{IsRowOfCopier}
+use Rattle.papaya_waits.specs.Given.TablesDeclared.status.TheConstants.Status.{PROMOTED}
+use Rattle.papaya_waits.specs.Given.TablesDeclared.table.Table.{Table}
+use Rattle.papaya_waits.specs.Given.ResizeDeclared.copier.Copying.{Copying as Point}
+use Rattle.papaya_waits.specs.Given.RuleMaps.{IsTable}
+use Rattle.papaya_waits.specs.Given.RuleInWorld.{IsMapIn}
+use Rattle.papaya_waits.specs.Given.ResizeDeclared.outcome.Outcome.{Outcome}
+use Rattle.papaya_waits.proofs.Given.CallersClaims.Knows.{late_knows}
+use Rattle.papaya_waits.proofs.Given.SeizeWordsOneOwner.Operations.{exchanged}
+use Rattle.papaya_waits.proofs.Given.RuleSpared.{step_spares}
 use Rattle.papaya_waits.specs.Others.{EndsAt}
 use Rattle.papaya_waiters.specs.Blocking.{AbortsAt}
 use Rattle.papaya_waiters.proofs.Moves.{AllKept, none_either}

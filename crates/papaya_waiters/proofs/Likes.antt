@@ -1,12 +1,12 @@
 -- In blocking mode, a call that begins, is told, goes on in the same tables, or has ended, leaves each copying that is not over with who ends it.
 use Rattle.std.specs.Prelude.{Option, Some, None}
 use Rattle.std.proofs.Common.{◌≡◌, ◌≢◌, ℕ, ◌⊎◌, inl, inr, refl, sym, subst}
-use Rattle.papaya_waits.specs.Given.Seize.World.{with_at}
-use Rattle.papaya_waits.specs.Given.Resize.declared.copier.Copier.{Copier}
-use Rattle.papaya_waits.specs.Given.Resize.declared.copier.Copying.TheVariants as at
-use Rattle.papaya_waits.specs.Given.Rule.Chart.{Chart}
-use Rattle.papaya_waits.specs.Given.Resize.declared.copier.Copying.{Copying as Point}
-use Rattle.papaya_waits.specs.Given.Callers.Together.{UnderWay}
+use Rattle.papaya_waits.specs.Given.SeizeWorld.{with_at}
+use Rattle.papaya_waits.specs.Given.ResizeDeclared.copier.Copier.{Copier}
+use Rattle.papaya_waits.specs.Given.ResizeDeclared.copier.Copying.TheVariants as at
+use Rattle.papaya_waits.specs.Given.RuleChart.{Chart}
+use Rattle.papaya_waits.specs.Given.ResizeDeclared.copier.Copying.{Copying as Point}
+use Rattle.papaya_waits.specs.Given.CallersTogether.{UnderWay}
 use Rattle.papaya_waits.proofs.EndingCalls.{AnotherAt, OwnEnds, copier_then}
 use Rattle.papaya_waits.specs.Others.{copier_of, EndsAt}
 use Rattle.papaya_waiters.specs.Blocking.{AbortsAt, HaveEndsBlocking, SpentAt}

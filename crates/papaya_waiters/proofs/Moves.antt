@@ -2,12 +2,12 @@
 use Rattle.std.specs.Prelude.{cond, eqb, leb, ltb, ◌&&◌, ◌+◌}
 use Rattle.std.proofs.Common.{◌≡◌, ◌≢◌, ℕ, ◌<◌, ◌≤◌, ◌⊎◌, inl, inr, Bool, true, false, refl, ap, sym, subst, ◌∙◌, arith, eqb-true}
 use Rattle.std.proofs.lemmas.Bool.{cases_lt, eq-eqb, ne_eqb}
-use Rattle.papaya_waits.specs.Given.Tables.declared.status.TheConstants.Status.{PENDING, PROMOTED, ABORTED}
-use Rattle.papaya_waits.specs.Given.Rule.Chart.{Chart, Share, Free, Claimed, Done, Counted, Lost, put, put_in}
-use Rattle.papaya_waits.specs.Given.Rule.Maps.{spot_of}
-use Rattle.papaya_waits.specs.Given.Rule.Moves.{Move, Links, Stores, Replaces, Removes, Marks, MarksBlocking, Skips, Unmarks, Puts, Covers, PutsLate, Claims, Reclaims, Counts, GivesUp, Aborts, Promotes, Announces, Allowed, after, with_counted, with_lost, is_of_caller}
-use Rattle.papaya_waits.specs.Given.Rule.Lasts.{IsBy}
-use Rattle.papaya_waits.specs.Given.Rule.Rule.{Rule}
+use Rattle.papaya_waits.specs.Given.TablesDeclared.status.TheConstants.Status.{PENDING, PROMOTED, ABORTED}
+use Rattle.papaya_waits.specs.Given.RuleChart.{Chart, Share, Free, Claimed, Done, Counted, Lost, put, put_in}
+use Rattle.papaya_waits.specs.Given.RuleMaps.{spot_of}
+use Rattle.papaya_waits.specs.Given.RuleMoves.{Move, Links, Stores, Replaces, Removes, Marks, MarksBlocking, Skips, Unmarks, Puts, Covers, PutsLate, Claims, Reclaims, Counts, GivesUp, Aborts, Promotes, Announces, Allowed, after, with_counted, with_lost, is_of_caller}
+use Rattle.papaya_waits.specs.Given.RuleLasts.{IsBy}
+use Rattle.papaya_waits.specs.Given.RuleRule.{Rule}
 use Rattle.papaya_waits.specs.Waits.{IsUnfinished}
 use Rattle.papaya_waits.proofs.Endings.{OthersEnd}
 use Rattle.papaya_waiters.specs.Blocking.{IsUncounted}

@@ -2,14 +2,14 @@
 use Rattle.std.specs.Prelude.{Option, Some, None}
 use Rattle.std.proofs.Common.{◌≡◌, ◌≢◌, ℕ, ◌<◌, ◌⊎◌, inl, inr, refl, ap, sym, subst, ◌∙◌}
 use Rattle.std.proofs.lemmas.Bool.{cases_eq}
-use Rattle.papaya_waits.specs.Given.Seize.World.{with_at}
-use Rattle.papaya_waits.specs.Given.Resize.declared.copier.Copier.{Copier}
-use Rattle.papaya_waits.specs.Given.Resize.declared.copier.Copying.TheVariants as at
-use Rattle.papaya_waits.specs.Given.Rule.Chart.{Chart}
-use Rattle.papaya_waits.specs.Given.Resize.declared.copier.Copying.{Copying as Point}
-use Rattle.papaya_waits.specs.Given.Resize.CopierStates.{behind}
-use Rattle.papaya_waits.specs.Given.Callers.Together.{UnderWay}
-use Rattle.papaya_waits.proofs.Given.Callers.Together.At.{at_other, at_same}
+use Rattle.papaya_waits.specs.Given.SeizeWorld.{with_at}
+use Rattle.papaya_waits.specs.Given.ResizeDeclared.copier.Copier.{Copier}
+use Rattle.papaya_waits.specs.Given.ResizeDeclared.copier.Copying.TheVariants as at
+use Rattle.papaya_waits.specs.Given.RuleChart.{Chart}
+use Rattle.papaya_waits.specs.Given.ResizeDeclared.copier.Copying.{Copying as Point}
+use Rattle.papaya_waits.specs.Given.ResizeCopierStates.{behind}
+use Rattle.papaya_waits.specs.Given.CallersTogether.{UnderWay}
+use Rattle.papaya_waits.proofs.Given.CallersTogether.At.{at_other, at_same}
 use Rattle.papaya_waits.proofs.Endings.{OthersEnd}
 use Rattle.papaya_waits.proofs.EndingCalls.{AnotherAt, OwnEnds, copier_then}
 use Rattle.papaya_waits.specs.Others.{copier_of, EndsAt}

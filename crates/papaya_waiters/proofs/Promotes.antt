@@ -1,29 +1,29 @@
 -- In blocking mode, a copier that makes its target the root is to say so then, and each other copying that is not over has who ends it on.
 use Rattle.std.specs.Prelude.{◌*◌, cond, Some}
 use Rattle.std.proofs.Common.{◌≡◌, ℕ, ◌<◌, Bool, false, inl, inr, ap, sym, ◌∙◌, arith}
-use Rattle.papaya_waits.specs.Given.SeizeWords.declared.at.At.TheVariants.{Root}
-use Rattle.papaya_waits.specs.Given.SeizeWords.Mem.{Mem, Took, value_at, with_word, word_at}
-use Rattle.papaya_waits.specs.Given.SeizeWords.Plan.{Steps}
-use Rattle.papaya_waits.specs.Given.Seize.World.{World}
-use Rattle.papaya_waits.specs.Given.Tables.Chunks.{is_incremental}
-use Rattle.papaya_waits.specs.Given.Tables.declared.node.Node.{Node}
-use Rattle.papaya_waits.specs.Given.Tables.declared.setting.Setting.{Setting}
-use Rattle.papaya_waits.specs.Given.Tables.declared.table.Table.{Table}
-use Rattle.papaya_waits.specs.Given.Resize.Copier.{plan_at}
-use Rattle.papaya_waits.specs.Given.Resize.CopierPromotes.{promoted}
-use Rattle.papaya_waits.specs.Given.Resize.CopierStates.{standing}
-use Rattle.papaya_waits.specs.Given.Resize.declared.copier.Copier.{Copier}
-use Rattle.papaya_waits.specs.Given.Resize.declared.copier.Copying.TheVariants as at
-use Rattle.papaya_waits.specs.Given.Resize.declared.outcome.Outcome.{Outcome}
-use Rattle.papaya_waits.specs.Given.Resize.declared.outcome.Outcome.TheVariants.{Goes}
-use Rattle.papaya_waits.specs.Given.Rule.Chart.{Chart}
-use Rattle.papaya_waits.specs.Given.Rule.InWorld.{IsMapIn}
-use Rattle.papaya_waits.specs.Given.Rule.Words.{Blocks, Shows}
-use Rattle.papaya_waits.specs.Given.Points.FactsCopiesBlocking.{RestsIn}
-use Rattle.papaya_waits.proofs.Given.Rule.Words.WritesWords.{is_some_of}
-use Rattle.papaya_waits.proofs.Given.SeizeWords.OneOwner.AfterWrites.{word_at-with_word}
-use Rattle.papaya_waits.proofs.Given.SeizeWords.OneOwner.Operations.{exchanged}
-use Rattle.papaya_waits.proofs.Given.SeizeRule.Words.Named.{same_at-refl}
+use Rattle.papaya_waits.specs.Given.SeizeWordsDeclared.at.At.TheVariants.{Root}
+use Rattle.papaya_waits.specs.Given.SeizeWordsMem.{Mem, Took, value_at, with_word, word_at}
+use Rattle.papaya_waits.specs.Given.SeizeWordsPlan.{Steps}
+use Rattle.papaya_waits.specs.Given.SeizeWorld.{World}
+use Rattle.papaya_waits.specs.Given.TablesChunks.{is_incremental}
+use Rattle.papaya_waits.specs.Given.TablesDeclared.node.Node.{Node}
+use Rattle.papaya_waits.specs.Given.TablesDeclared.setting.Setting.{Setting}
+use Rattle.papaya_waits.specs.Given.TablesDeclared.table.Table.{Table}
+use Rattle.papaya_waits.specs.Given.ResizeCopier.{plan_at}
+use Rattle.papaya_waits.specs.Given.ResizeCopierPromotes.{promoted}
+use Rattle.papaya_waits.specs.Given.ResizeCopierStates.{standing}
+use Rattle.papaya_waits.specs.Given.ResizeDeclared.copier.Copier.{Copier}
+use Rattle.papaya_waits.specs.Given.ResizeDeclared.copier.Copying.TheVariants as at
+use Rattle.papaya_waits.specs.Given.ResizeDeclared.outcome.Outcome.{Outcome}
+use Rattle.papaya_waits.specs.Given.ResizeDeclared.outcome.Outcome.TheVariants.{Goes}
+use Rattle.papaya_waits.specs.Given.RuleChart.{Chart}
+use Rattle.papaya_waits.specs.Given.RuleInWorld.{IsMapIn}
+use Rattle.papaya_waits.specs.Given.RuleWords.{Blocks, Shows}
+use Rattle.papaya_waits.specs.Given.PointsFactsCopiesBlocking.{RestsIn}
+use Rattle.papaya_waits.proofs.Given.RuleWords.WritesWords.{is_some_of}
+use Rattle.papaya_waits.proofs.Given.SeizeWordsOneOwner.AfterWrites.{word_at-with_word}
+use Rattle.papaya_waits.proofs.Given.SeizeWordsOneOwner.Operations.{exchanged}
+use Rattle.papaya_waits.proofs.Given.SeizeRuleWords.Named.{same_at-refl}
 use Rattle.papaya_waits.specs.Others.{EndsAt}
 use Rattle.papaya_waiters.specs.Blocking.{AbortsAt}
 use Rattle.papaya_waiters.proofs.Moves.{AllKept}

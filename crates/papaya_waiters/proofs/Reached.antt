@@ -3,23 +3,23 @@
 use Rattle.std.specs.Prelude.{◌*◌, cond, Some}
 use Rattle.std.proofs.Common.{◌≡◌, ◌≢◌, ℕ, suc, ◌<◌, ◌≤◌, ◌⊎◌, inl, inr, Bool, true, false, ap, sym, subst, ◌∙◌, arith}
 use Rattle.std.proofs.lemmas.Bool.{ne_eqb}
-use Rattle.papaya_waits.specs.Given.SeizeWords.declared.at.At.TheVariants.{Root, Word}
-use Rattle.papaya_waits.specs.Given.SeizeWords.Mem.{Mem, word_at}
-use Rattle.papaya_waits.specs.Given.Seize.World.{World}
-use Rattle.papaya_waits.specs.Given.Tables.Chunks.{is_incremental}
-use Rattle.papaya_waits.specs.Given.Tables.declared.node.Node.{Node}
-use Rattle.papaya_waits.specs.Given.Tables.declared.setting.Setting.{Setting}
-use Rattle.papaya_waits.specs.Given.Tables.declared.status.TheConstants.Status.{PROMOTED, ABORTED}
-use Rattle.papaya_waits.specs.Given.Tables.declared.table_words.TheConstants.{STATUS}
-use Rattle.papaya_waits.specs.Given.Resize.declared.copier.Copier.{Copier}
-use Rattle.papaya_waits.specs.Given.Resize.declared.copier.Copying.TheVariants as copies
-use Rattle.papaya_waits.specs.Given.Rule.Chart.{Chart}
-use Rattle.papaya_waits.specs.Given.Rule.InWorld.{IsMapIn, Moved, SameBlocks, SparesTables}
-use Rattle.papaya_waits.specs.Given.Rule.Lasts.{IsBy}
-use Rattle.papaya_waits.specs.Given.Rule.Maps.{spot_of}
-use Rattle.papaya_waits.specs.Given.Rule.Moves.{Move, Links, Promotes, Allowed, after, is_of_caller}
-use Rattle.papaya_waits.specs.Given.Rule.Rule.{Rule}
-use Rattle.papaya_waits.specs.Given.Rule.Words.{Blocks, Shows, ShowsTable}
+use Rattle.papaya_waits.specs.Given.SeizeWordsDeclared.at.At.TheVariants.{Root, Word}
+use Rattle.papaya_waits.specs.Given.SeizeWordsMem.{Mem, word_at}
+use Rattle.papaya_waits.specs.Given.SeizeWorld.{World}
+use Rattle.papaya_waits.specs.Given.TablesChunks.{is_incremental}
+use Rattle.papaya_waits.specs.Given.TablesDeclared.node.Node.{Node}
+use Rattle.papaya_waits.specs.Given.TablesDeclared.setting.Setting.{Setting}
+use Rattle.papaya_waits.specs.Given.TablesDeclared.status.TheConstants.Status.{PROMOTED, ABORTED}
+use Rattle.papaya_waits.specs.Given.TablesDeclared.table_words.TheConstants.{STATUS}
+use Rattle.papaya_waits.specs.Given.ResizeDeclared.copier.Copier.{Copier}
+use Rattle.papaya_waits.specs.Given.ResizeDeclared.copier.Copying.TheVariants as copies
+use Rattle.papaya_waits.specs.Given.RuleChart.{Chart}
+use Rattle.papaya_waits.specs.Given.RuleInWorld.{IsMapIn, Moved, SameBlocks, SparesTables}
+use Rattle.papaya_waits.specs.Given.RuleLasts.{IsBy}
+use Rattle.papaya_waits.specs.Given.RuleMaps.{spot_of}
+use Rattle.papaya_waits.specs.Given.RuleMoves.{Move, Links, Promotes, Allowed, after, is_of_caller}
+use Rattle.papaya_waits.specs.Given.RuleRule.{Rule}
+use Rattle.papaya_waits.specs.Given.RuleWords.{Blocks, Shows, ShowsTable}
 use Rattle.papaya_waits.specs.Others.{EndsAt}
 use Rattle.papaya_waiters.specs.Blocking.{AbortsAt}
 use Rattle.papaya_waiters.proofs.Moves.{AllKept, aside, discharged, promoted}

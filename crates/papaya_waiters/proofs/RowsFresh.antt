@@ -1,54 +1,54 @@
 -- In blocking mode, after a step of a row the copier within which a call stands has not found each place claimed.
 use Rattle.std.specs.Prelude.{if◌then◌else◌, Option, Some, None, ◌==◌}
 use Rattle.std.proofs.Common.{◌≡◌, ℕ, Bool, true, inl, inr, refl, ap, sym, subst, List, false}
-use Rattle.papaya_waits.specs.Given.SeizeWords.Mem.{Mem, Took, value_at}
-use Rattle.papaya_waits.specs.Given.SeizeWords.Plan.{Steps}
-use Rattle.papaya_waits.specs.Given.Seize.World.{World}
-use Rattle.papaya_waits.specs.Given.Tables.Chunks.{is_incremental}
-use Rattle.papaya_waits.specs.Given.Tables.declared.node.Node.{Node}
-use Rattle.papaya_waits.specs.Given.Tables.declared.setting.Setting.{Setting}
-use Rattle.papaya_waits.specs.Given.Tables.declared.table.Table.{Table}
-use Rattle.papaya_waits.specs.Given.Resize.Copier.{copier_plan, plan_at as copying_at}
-use Rattle.papaya_waits.specs.Given.Resize.declared.outcome.Outcome.{Outcome}
-use Rattle.papaya_waits.specs.Given.Resize.declared.copier.Copier.{Copier}
-use Rattle.papaya_waits.specs.Given.Raw.declared.machines.answer.Called.{Called}
-use Rattle.papaya_waits.specs.Given.Raw.declared.machines.call.KeyCall.{KeyCall}
-use Rattle.papaya_waits.specs.Given.Raw.declared.machines.call.Calling.{Calling}
-use Rattle.papaya_waits.specs.Given.Raw.declared.machines.call.Calling.TheVariants as at
-use Rattle.papaya_waits.specs.Given.Rule.Chart.{Chart}
-use Rattle.papaya_waits.specs.Given.Rule.Words.{Blocks}
-use Rattle.papaya_waits.specs.Given.Points.FactsCalls.{CallingFacts}
-use Rattle.papaya_waits.specs.Given.Points.Told.{IsRowOfCall, IsRowOfCopier}
-use Rattle.papaya_waits.specs.Given.Reserves.declared.reserve.Reserve.{Reserve}
-use Rattle.papaya_waits.specs.Given.Reserves.declared.reserve.Reserving.{Reserving}
-use Rattle.papaya_waits.specs.Given.Reserves.declared.reserve.Reserving.TheVariants as reserves
-use Rattle.papaya_waits.specs.Given.Sweeps.declared.sweep.Sweep.{Sweep}
-use Rattle.papaya_waits.specs.Given.Sweeps.declared.sweep.Sweeping.{Sweeping}
-use Rattle.papaya_waits.specs.Given.Sweeps.declared.sweep.Sweeping.TheVariants as sweeps
-use Rattle.papaya_waits.specs.Given.Sweeps.declared.sweep.Swept.{Swept}
-use Rattle.papaya_waits.specs.Given.Late.ToldReserves.{IsRowOfReserve}
-use Rattle.papaya_waits.specs.Given.Late.ToldSweeps.{IsRowOfSweep}
-use Rattle.papaya_waits.specs.Given.Raw.Call.{plan_at, call_plan, copied}
-use Rattle.papaya_waits.specs.Given.Raw.declared.machines.answer.Called.TheVariants as called
-use Rattle.papaya_waits.specs.Given.Reserves.Reserve as room_plans
-use Rattle.papaya_waits.specs.Given.Sweeps.Sweep as sweep_plans
-use Rattle.papaya_waits.specs.Given.Sweeps.declared.sweep.Swept.TheVariants as swept
-use Rattle.papaya_waits.specs.Given.Late.LateCalls.{LateCalling}
-use Rattle.papaya_waits.specs.Given.Resize.declared.copier.Copying.{Copying as Point}
-use Rattle.papaya_waits.specs.Given.Resize.declared.copier.Copying.TheVariants as copies
-use Rattle.papaya_waits.specs.Given.Resize.CopierPromotes.{retired, table_retired}
-use Rattle.papaya_waits.specs.Given.Seize.Settle.{settle_plan}
-use Rattle.papaya_waits.specs.Given.Seize.declared.rows.settle.Settle.{Settle}
-use Rattle.papaya_waits.specs.Given.Seize.declared.rows.settle.Settled.{Settled}
-use Rattle.papaya_waits.specs.Given.Seize.declared.rows.settle.Settled.TheVariants as settled
-use Rattle.papaya_waits.specs.Given.Tables.Nodes.{deferred_word}
-use Rattle.papaya_waits.specs.Given.Callers.Sights.{Sight, seen_by}
-use Rattle.papaya_waits.specs.Given.Callers.Together.{CallOnKey, UnderWay, OnKey, Together, in_slot, ForRoom, OverAll}
-use Rattle.papaya_waits.specs.Given.Callers.OverAll.{CallOverAll}
-use Rattle.papaya_waits.specs.Given.Callers.Rooms.{CallForRoom}
-use Rattle.papaya_waits.specs.Given.Callers.Rows.{once_over, past_row}
-use Rattle.papaya_waits.proofs.Given.SeizeRule.Rows.Leaving.{steps_back}
-use Rattle.papaya_waits.proofs.Given.Rule.Keys.Always.{always_plan_as, always_steps}
+use Rattle.papaya_waits.specs.Given.SeizeWordsMem.{Mem, Took, value_at}
+use Rattle.papaya_waits.specs.Given.SeizeWordsPlan.{Steps}
+use Rattle.papaya_waits.specs.Given.SeizeWorld.{World}
+use Rattle.papaya_waits.specs.Given.TablesChunks.{is_incremental}
+use Rattle.papaya_waits.specs.Given.TablesDeclared.node.Node.{Node}
+use Rattle.papaya_waits.specs.Given.TablesDeclared.setting.Setting.{Setting}
+use Rattle.papaya_waits.specs.Given.TablesDeclared.table.Table.{Table}
+use Rattle.papaya_waits.specs.Given.ResizeCopier.{copier_plan, plan_at as copying_at}
+use Rattle.papaya_waits.specs.Given.ResizeDeclared.outcome.Outcome.{Outcome}
+use Rattle.papaya_waits.specs.Given.ResizeDeclared.copier.Copier.{Copier}
+use Rattle.papaya_waits.specs.Given.RawDeclared.machines.answer.Called.{Called}
+use Rattle.papaya_waits.specs.Given.RawDeclared.machines.call.KeyCall.{KeyCall}
+use Rattle.papaya_waits.specs.Given.RawDeclared.machines.call.Calling.{Calling}
+use Rattle.papaya_waits.specs.Given.RawDeclared.machines.call.Calling.TheVariants as at
+use Rattle.papaya_waits.specs.Given.RuleChart.{Chart}
+use Rattle.papaya_waits.specs.Given.RuleWords.{Blocks}
+use Rattle.papaya_waits.specs.Given.PointsFactsCalls.{CallingFacts}
+use Rattle.papaya_waits.specs.Given.PointsTold.{IsRowOfCall, IsRowOfCopier}
+use Rattle.papaya_waits.specs.Given.ReservesDeclared.reserve.Reserve.{Reserve}
+use Rattle.papaya_waits.specs.Given.ReservesDeclared.reserve.Reserving.{Reserving}
+use Rattle.papaya_waits.specs.Given.ReservesDeclared.reserve.Reserving.TheVariants as reserves
+use Rattle.papaya_waits.specs.Given.SweepsDeclared.sweep.Sweep.{Sweep}
+use Rattle.papaya_waits.specs.Given.SweepsDeclared.sweep.Sweeping.{Sweeping}
+use Rattle.papaya_waits.specs.Given.SweepsDeclared.sweep.Sweeping.TheVariants as sweeps
+use Rattle.papaya_waits.specs.Given.SweepsDeclared.sweep.Swept.{Swept}
+use Rattle.papaya_waits.specs.Given.LateToldReserves.{IsRowOfReserve}
+use Rattle.papaya_waits.specs.Given.LateToldSweeps.{IsRowOfSweep}
+use Rattle.papaya_waits.specs.Given.RawCall.{plan_at, call_plan, copied}
+use Rattle.papaya_waits.specs.Given.RawDeclared.machines.answer.Called.TheVariants as called
+use Rattle.papaya_waits.specs.Given.ReservesReserve as room_plans
+use Rattle.papaya_waits.specs.Given.SweepsSweep as sweep_plans
+use Rattle.papaya_waits.specs.Given.SweepsDeclared.sweep.Swept.TheVariants as swept
+use Rattle.papaya_waits.specs.Given.LateLateCalls.{LateCalling}
+use Rattle.papaya_waits.specs.Given.ResizeDeclared.copier.Copying.{Copying as Point}
+use Rattle.papaya_waits.specs.Given.ResizeDeclared.copier.Copying.TheVariants as copies
+use Rattle.papaya_waits.specs.Given.ResizeCopierPromotes.{retired, table_retired}
+use Rattle.papaya_waits.specs.Given.SeizeSettle.{settle_plan}
+use Rattle.papaya_waits.specs.Given.SeizeDeclared.rows.settle.Settle.{Settle}
+use Rattle.papaya_waits.specs.Given.SeizeDeclared.rows.settle.Settled.{Settled}
+use Rattle.papaya_waits.specs.Given.SeizeDeclared.rows.settle.Settled.TheVariants as settled
+use Rattle.papaya_waits.specs.Given.TablesNodes.{deferred_word}
+use Rattle.papaya_waits.specs.Given.CallersSights.{Sight, seen_by}
+use Rattle.papaya_waits.specs.Given.CallersTogether.{CallOnKey, UnderWay, OnKey, Together, in_slot, ForRoom, OverAll}
+use Rattle.papaya_waits.specs.Given.CallersOverAll.{CallOverAll}
+use Rattle.papaya_waits.specs.Given.CallersRooms.{CallForRoom}
+use Rattle.papaya_waits.specs.Given.CallersRows.{once_over, past_row}
+use Rattle.papaya_waits.proofs.Given.SeizeRuleRows.Leaving.{steps_back}
+use Rattle.papaya_waits.proofs.Given.RuleKeys.Always.{always_plan_as, always_steps}
 use Rattle.papaya_waits.specs.Others.{copier_of, copier_in, copier_in_room, copier_in_sweep}
 use Rattle.papaya_waits.proofs.EndingCalls.{copier_then}
 use Rattle.papaya_waiters.specs.Blocking.{HaveEndsBlocking, SpentAt}

@@ -2,44 +2,44 @@
 use Rattle.std.specs.Prelude.{if◌then◌else◌, ℕ, ◌+◌, ◌-◌, ◌%◌, ◌/◌, ◌^◌, ◌==◌, nat_lt, cond, eqb, Bool, true, false, Ok, Err, Some}
 use Rattle.std.proofs.Common.{◌≡◌, ◌<◌, ◌≤◌, ◌⊎◌, inl, inr, refl, ap, sym, subst, ◌∙◌, arith, eqb-true}
 use Rattle.std.proofs.lemmas.Bool.{ltb-false, ne_eqb}
-use Rattle.papaya_waits.specs.Given.SeizeWords.Op.{Out, Found, Exchanged}
-use Rattle.papaya_waits.specs.Given.SeizeWords.Mem.{Mem, Took, value_at, with_word, word_at}
-use Rattle.papaya_waits.specs.Given.SeizeWords.Plan.{Steps, Now}
-use Rattle.papaya_waits.specs.Given.Seize.declared.progress.Progress.{Progress}
-use Rattle.papaya_waits.specs.Given.Seize.declared.progress.Progress.TheVariants as progress
-use Rattle.papaya_waits.specs.Given.Resize.Copier.{plan_at, copier_plan}
-use Rattle.papaya_waits.specs.Given.Resize.CopierClaims.{chunk, claim_read, claimed, status_read}
-use Rattle.papaya_waits.specs.Given.Resize.CopierCounts.{counted}
-use Rattle.papaya_waits.specs.Given.Resize.CopierFurther.{replacement_read, remade}
-use Rattle.papaya_waits.specs.Given.Resize.CopierMarks.{is_mine, is_awaited, marked}
-use Rattle.papaya_waits.specs.Given.Resize.CopierPlaces.{next_try, pair_put, place_read, put_told}
-use Rattle.papaya_waits.specs.Given.Resize.CopierPromotes.{promoted, successor_read}
-use Rattle.papaya_waits.specs.Given.Resize.CopierStates.{behind, none_left, next_place, place_done, standing}
-use Rattle.papaya_waits.specs.Given.Resize.NewTable.{new_table_plan}
-use Rattle.papaya_waits.specs.Given.Resize.declared.new_table.NewTable.{NewTable}
-use Rattle.papaya_waits.specs.Given.Resize.declared.outcome.Outcome.{Outcome}
-use Rattle.papaya_waits.specs.Given.Resize.declared.outcome.Outcome.TheVariants.{Goes, Waits}
-use Rattle.papaya_waits.specs.Given.Tables.declared.probe.Probe.{Probe}
-use Rattle.papaya_waits.specs.Given.Tables.declared.table_words.TheConstants.{CLAIM}
-use Rattle.papaya_waits.specs.Given.Rule.Moves.{Move, Links, Stores, Replaces, Removes, Marks, MarksBlocking, Skips, Unmarks, Puts, Covers, PutsLate, Claims, Reclaims, Counts, GivesUp, Aborts, Promotes, Announces, Allowed, after}
-use Rattle.papaya_waits.specs.Given.Seize.World.{World}
-use Rattle.papaya_waits.specs.Given.Tables.Chunks.{is_incremental}
-use Rattle.papaya_waits.specs.Given.Tables.declared.node.Node.{Node}
-use Rattle.papaya_waits.specs.Given.Tables.declared.setting.Setting.{Setting}
-use Rattle.papaya_waits.specs.Given.Resize.declared.copier.Copier.{Copier}
-use Rattle.papaya_waits.specs.Given.Resize.declared.copier.Copying.TheVariants as at
-use Rattle.papaya_waits.specs.Given.Rule.Chart.{Chart}
-use Rattle.papaya_waits.specs.Given.Rule.Words.{Blocks}
-use Rattle.papaya_waits.specs.Given.Tables.declared.status.TheConstants.Status.{PROMOTED, ABORTED}
-use Rattle.papaya_waits.specs.Given.Rule.Maps.{spot_of}
-use Rattle.papaya_waits.specs.Given.Rule.Rule.{Rule}
-use Rattle.papaya_waits.specs.Given.Tables.declared.table.Table.{Table}
-use Rattle.papaya_waits.specs.Given.Resize.declared.copier.Copying.{Copying as Point}
-use Rattle.papaya_waits.specs.Given.Tables.TablePlaces.{at_word}
-use Rattle.papaya_waits.proofs.Given.SeizeWords.OneOwner.Operations.{added, loaded}
-use Rattle.papaya_waits.proofs.Given.SeizeWords.Plans.{ends_if}
-use Rattle.papaya_waits.proofs.Given.Rule.Keys.Always.{Always, AlwaysOf, always_if, always_plan_as, always_steps}
-use Rattle.papaya_waits.proofs.Given.Callers.Claims.Knows.{CopierKnows}
+use Rattle.papaya_waits.specs.Given.SeizeWordsOp.{Out, Found, Exchanged}
+use Rattle.papaya_waits.specs.Given.SeizeWordsMem.{Mem, Took, value_at, with_word, word_at}
+use Rattle.papaya_waits.specs.Given.SeizeWordsPlan.{Steps, Now}
+use Rattle.papaya_waits.specs.Given.SeizeDeclared.progress.Progress.{Progress}
+use Rattle.papaya_waits.specs.Given.SeizeDeclared.progress.Progress.TheVariants as progress
+use Rattle.papaya_waits.specs.Given.ResizeCopier.{plan_at, copier_plan}
+use Rattle.papaya_waits.specs.Given.ResizeCopierClaims.{chunk, claim_read, claimed, status_read}
+use Rattle.papaya_waits.specs.Given.ResizeCopierCounts.{counted}
+use Rattle.papaya_waits.specs.Given.ResizeCopierFurther.{replacement_read, remade}
+use Rattle.papaya_waits.specs.Given.ResizeCopierMarks.{is_mine, is_awaited, marked}
+use Rattle.papaya_waits.specs.Given.ResizeCopierPlaces.{next_try, pair_put, place_read, put_told}
+use Rattle.papaya_waits.specs.Given.ResizeCopierPromotes.{promoted, successor_read}
+use Rattle.papaya_waits.specs.Given.ResizeCopierStates.{behind, none_left, next_place, place_done, standing}
+use Rattle.papaya_waits.specs.Given.ResizeNewTable.{new_table_plan}
+use Rattle.papaya_waits.specs.Given.ResizeDeclared.new_table.NewTable.{NewTable}
+use Rattle.papaya_waits.specs.Given.ResizeDeclared.outcome.Outcome.{Outcome}
+use Rattle.papaya_waits.specs.Given.ResizeDeclared.outcome.Outcome.TheVariants.{Goes, Waits}
+use Rattle.papaya_waits.specs.Given.TablesDeclared.probe.Probe.{Probe}
+use Rattle.papaya_waits.specs.Given.TablesDeclared.table_words.TheConstants.{CLAIM}
+use Rattle.papaya_waits.specs.Given.RuleMoves.{Move, Links, Stores, Replaces, Removes, Marks, MarksBlocking, Skips, Unmarks, Puts, Covers, PutsLate, Claims, Reclaims, Counts, GivesUp, Aborts, Promotes, Announces, Allowed, after}
+use Rattle.papaya_waits.specs.Given.SeizeWorld.{World}
+use Rattle.papaya_waits.specs.Given.TablesChunks.{is_incremental}
+use Rattle.papaya_waits.specs.Given.TablesDeclared.node.Node.{Node}
+use Rattle.papaya_waits.specs.Given.TablesDeclared.setting.Setting.{Setting}
+use Rattle.papaya_waits.specs.Given.ResizeDeclared.copier.Copier.{Copier}
+use Rattle.papaya_waits.specs.Given.ResizeDeclared.copier.Copying.TheVariants as at
+use Rattle.papaya_waits.specs.Given.RuleChart.{Chart}
+use Rattle.papaya_waits.specs.Given.RuleWords.{Blocks}
+use Rattle.papaya_waits.specs.Given.TablesDeclared.status.TheConstants.Status.{PROMOTED, ABORTED}
+use Rattle.papaya_waits.specs.Given.RuleMaps.{spot_of}
+use Rattle.papaya_waits.specs.Given.RuleRule.{Rule}
+use Rattle.papaya_waits.specs.Given.TablesDeclared.table.Table.{Table}
+use Rattle.papaya_waits.specs.Given.ResizeDeclared.copier.Copying.{Copying as Point}
+use Rattle.papaya_waits.specs.Given.TablesTablePlaces.{at_word}
+use Rattle.papaya_waits.proofs.Given.SeizeWordsOneOwner.Operations.{added, loaded}
+use Rattle.papaya_waits.proofs.Given.SeizeWordsPlans.{ends_if}
+use Rattle.papaya_waits.proofs.Given.RuleKeys.Always.{Always, AlwaysOf, always_if, always_plan_as, always_steps}
+use Rattle.papaya_waits.proofs.Given.CallersClaims.Knows.{CopierKnows}
 use Rattle.papaya_waiters.specs.Blocking.{SpentAt}
 use Rattle.papaya_waiters.proofs.Reached.{rule}
 

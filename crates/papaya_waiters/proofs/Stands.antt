@@ -1,34 +1,34 @@
 -- In blocking mode: what a call knows of the copier within which it stands, and that one within none has no part in a copying; whichever kind of call it is.
 use Rattle.std.specs.Prelude.{Option, Some, None}
 use Rattle.std.proofs.Common.{◌≡◌, ℕ, ◌⊎◌, inl, inr, Bool, true, false, subst}
-use Rattle.papaya_waits.specs.Given.Late.FactsReserves.{CopiesPairs, CopiesWhole, IsEnding, ReservingFacts}
-use Rattle.papaya_waits.specs.Given.Late.FactsSweeps.{CopiesPairs as SweepCopies, SweepingFacts}
-use Rattle.papaya_waits.specs.Given.Seize.World.{World}
-use Rattle.papaya_waits.specs.Given.Tables.Chunks.{is_incremental}
-use Rattle.papaya_waits.specs.Given.Tables.declared.node.Node.{Node}
-use Rattle.papaya_waits.specs.Given.Tables.declared.setting.Setting.{Setting}
-use Rattle.papaya_waits.specs.Given.Resize.declared.copier.Copier.{Copier}
-use Rattle.papaya_waits.specs.Given.Raw.declared.machines.call.Calling.{Calling}
-use Rattle.papaya_waits.specs.Given.Raw.declared.machines.call.Calling.TheVariants as at
-use Rattle.papaya_waits.specs.Given.Reserves.declared.reserve.Reserving.{Reserving}
-use Rattle.papaya_waits.specs.Given.Reserves.declared.reserve.Reserving.TheVariants as reserves
-use Rattle.papaya_waits.specs.Given.Sweeps.declared.sweep.Sweep.{Sweep}
-use Rattle.papaya_waits.specs.Given.Sweeps.declared.sweep.Sweeping.{Sweeping}
-use Rattle.papaya_waits.specs.Given.Sweeps.declared.sweep.Sweeping.TheVariants as sweeps
-use Rattle.papaya_waits.specs.Given.Rule.Chart.{Chart}
-use Rattle.papaya_waits.specs.Given.Rule.Words.{Blocks}
-use Rattle.papaya_waits.specs.Given.Points.FactsCalls.{CallingFacts, IsCopying}
-use Rattle.papaya_waits.specs.Given.Points.FactsCopies.{ClaimsNone, CopierFacts, HasDone}
-use Rattle.papaya_waits.specs.Given.Points.FactsCopiesBlocking.{CopierFactsBlocking, HasNoShares}
-use Rattle.papaya_waits.specs.Given.Points.FactsIdle.{IsIdle}
-use Rattle.papaya_waits.specs.Given.Points.Told.{IsRowOfCall, IsRowOfCopier}
-use Rattle.papaya_waits.specs.Given.Late.LateCalls.{LateCalling}
-use Rattle.papaya_waits.specs.Given.Late.LateCopies.{LateCopierFacts}
-use Rattle.papaya_waits.specs.Given.Late.LateReserves.{LateReserving}
-use Rattle.papaya_waits.specs.Given.Late.ToldReserves.{IsRowOfReserve}
-use Rattle.papaya_waits.specs.Given.Late.ToldSweeps.{IsRowOfSweep}
-use Rattle.papaya_waits.specs.Given.Callers.Sights.{Sight, seen_by}
-use Rattle.papaya_waits.specs.Given.Callers.Together.{CallOnKey, UnderWay, OnKey, ForRoom, Counting, OverAll, Together, in_slot}
+use Rattle.papaya_waits.specs.Given.LateFactsReserves.{CopiesPairs, CopiesWhole, IsEnding, ReservingFacts}
+use Rattle.papaya_waits.specs.Given.LateFactsSweeps.{CopiesPairs as SweepCopies, SweepingFacts}
+use Rattle.papaya_waits.specs.Given.SeizeWorld.{World}
+use Rattle.papaya_waits.specs.Given.TablesChunks.{is_incremental}
+use Rattle.papaya_waits.specs.Given.TablesDeclared.node.Node.{Node}
+use Rattle.papaya_waits.specs.Given.TablesDeclared.setting.Setting.{Setting}
+use Rattle.papaya_waits.specs.Given.ResizeDeclared.copier.Copier.{Copier}
+use Rattle.papaya_waits.specs.Given.RawDeclared.machines.call.Calling.{Calling}
+use Rattle.papaya_waits.specs.Given.RawDeclared.machines.call.Calling.TheVariants as at
+use Rattle.papaya_waits.specs.Given.ReservesDeclared.reserve.Reserving.{Reserving}
+use Rattle.papaya_waits.specs.Given.ReservesDeclared.reserve.Reserving.TheVariants as reserves
+use Rattle.papaya_waits.specs.Given.SweepsDeclared.sweep.Sweep.{Sweep}
+use Rattle.papaya_waits.specs.Given.SweepsDeclared.sweep.Sweeping.{Sweeping}
+use Rattle.papaya_waits.specs.Given.SweepsDeclared.sweep.Sweeping.TheVariants as sweeps
+use Rattle.papaya_waits.specs.Given.RuleChart.{Chart}
+use Rattle.papaya_waits.specs.Given.RuleWords.{Blocks}
+use Rattle.papaya_waits.specs.Given.PointsFactsCalls.{CallingFacts, IsCopying}
+use Rattle.papaya_waits.specs.Given.PointsFactsCopies.{ClaimsNone, CopierFacts, HasDone}
+use Rattle.papaya_waits.specs.Given.PointsFactsCopiesBlocking.{CopierFactsBlocking, HasNoShares}
+use Rattle.papaya_waits.specs.Given.PointsFactsIdle.{IsIdle}
+use Rattle.papaya_waits.specs.Given.PointsTold.{IsRowOfCall, IsRowOfCopier}
+use Rattle.papaya_waits.specs.Given.LateLateCalls.{LateCalling}
+use Rattle.papaya_waits.specs.Given.LateLateCopies.{LateCopierFacts}
+use Rattle.papaya_waits.specs.Given.LateLateReserves.{LateReserving}
+use Rattle.papaya_waits.specs.Given.LateToldReserves.{IsRowOfReserve}
+use Rattle.papaya_waits.specs.Given.LateToldSweeps.{IsRowOfSweep}
+use Rattle.papaya_waits.specs.Given.CallersSights.{Sight, seen_by}
+use Rattle.papaya_waits.specs.Given.CallersTogether.{CallOnKey, UnderWay, OnKey, ForRoom, Counting, OverAll, Together, in_slot}
 use Rattle.papaya_waits.specs.Others.{copier_in, copier_in_room, copier_in_sweep, copier_of}
 use Rattle.papaya_waiters.proofs.Askers.{chosen}
 

@@ -2,42 +2,42 @@
 use Rattle.std.specs.Prelude.{if◌then◌else◌, Option, Some, None}
 use Rattle.std.specs.Int.{IsPowerOfTwo}
 use Rattle.std.proofs.Common.{◌≡◌, ◌≢◌, ℕ, ◌<◌, ◌≤◌, ◌⊎◌, inl, inr, Bool, true, false, refl, ap, sym, subst, ◌∙◌, arith}
-use Rattle.papaya_waits.specs.Given.SeizeWords.Mem.{Can, Mem, Took, value_at, word_at}
-use Rattle.papaya_waits.specs.Given.SeizeWords.Plan.{May, Steps}
-use Rattle.papaya_waits.specs.Given.SeizeWords.declared.at.At.TheVariants.{Word}
-use Rattle.papaya_waits.specs.Given.Seize.World.{World, IsInside, with_at}
-use Rattle.papaya_waits.specs.Given.Resize.Copier.{copier_plan, plan_at}
-use Rattle.papaya_waits.specs.Given.Resize.CopierStates.{behind, none_left, standing}
-use Rattle.papaya_waits.specs.Given.Resize.declared.outcome.Outcome.{Outcome}
-use Rattle.papaya_waits.specs.Given.Resize.declared.outcome.Outcome.TheVariants.{Goes}
-use Rattle.papaya_waits.specs.Given.Tables.TablePlaces.{at_word}
-use Rattle.papaya_waits.specs.Given.Tables.declared.table_words.TheConstants.{CLAIM, COPIED}
-use Rattle.papaya_waits.specs.Given.Rule.Moments.{Moments}
-use Rattle.papaya_waits.specs.Given.Points.Steps.{AreLawful}
-use Rattle.papaya_waits.specs.Given.Late.LateCopies.{CopiesLate, LateCopierFacts, LateCopying}
-use Rattle.papaya_waits.specs.Given.Points.FactsCopiesBlocking.{CopiesInto, CopierFactsBlocking, CopyingFactsBlocking, HasDoneIn, RestsIn}
-use Rattle.papaya_waits.specs.Given.Tables.Chunks.{is_incremental}
-use Rattle.papaya_waits.specs.Given.Tables.declared.node.Node.{Node}
-use Rattle.papaya_waits.specs.Given.Tables.declared.setting.Setting.{Setting}
-use Rattle.papaya_waits.specs.Given.Resize.declared.copier.Copier.{Copier}
-use Rattle.papaya_waits.specs.Given.Resize.declared.copier.Copying.TheVariants as at
-use Rattle.papaya_waits.specs.Given.Rule.Chart.{Chart}
-use Rattle.papaya_waits.specs.Given.Rule.Words.{Blocks}
-use Rattle.papaya_waits.specs.Given.Points.Told.{IsRowOfCopier}
-use Rattle.papaya_waits.specs.Given.Rule.Maps.{spot_of, IsTable}
-use Rattle.papaya_waits.specs.Given.Rule.Rule.{Rule}
-use Rattle.papaya_waits.specs.Given.Tables.declared.table.Table.{Table}
-use Rattle.papaya_waits.specs.Given.Resize.declared.copier.Copying.{Copying as Point}
-use Rattle.papaya_waits.specs.Given.Rule.InWorld.{IsMapIn}
-use Rattle.papaya_waits.specs.Given.Resize.NewTable.{counted}
-use Rattle.papaya_waits.specs.Given.Callers.Sights.{Sight, seen_by}
-use Rattle.papaya_waits.specs.Given.Callers.Together.{UnderWay, Together, in_slot}
-use Rattle.papaya_waits.proofs.Given.Points.Blocking.Points.{may_copier_blocking}
-use Rattle.papaya_waits.proofs.Given.Late.Copiers.Points.{may_late_copier}
-use Rattle.papaya_waits.proofs.Given.Rule.Spared.{step_spares}
-use Rattle.papaya_waits.proofs.Given.Rule.Words.TablesSeen.{len_is, word_stands}
-use Rattle.papaya_waits.proofs.Given.Callers.Together.Few.{claim_few}
-use Rattle.papaya_waits.proofs.Given.Callers.Claims.Knows.{CopierKnows, fresh_knows, late_knows}
+use Rattle.papaya_waits.specs.Given.SeizeWordsMem.{Can, Mem, Took, value_at, word_at}
+use Rattle.papaya_waits.specs.Given.SeizeWordsPlan.{May, Steps}
+use Rattle.papaya_waits.specs.Given.SeizeWordsDeclared.at.At.TheVariants.{Word}
+use Rattle.papaya_waits.specs.Given.SeizeWorld.{World, IsInside, with_at}
+use Rattle.papaya_waits.specs.Given.ResizeCopier.{copier_plan, plan_at}
+use Rattle.papaya_waits.specs.Given.ResizeCopierStates.{behind, none_left, standing}
+use Rattle.papaya_waits.specs.Given.ResizeDeclared.outcome.Outcome.{Outcome}
+use Rattle.papaya_waits.specs.Given.ResizeDeclared.outcome.Outcome.TheVariants.{Goes}
+use Rattle.papaya_waits.specs.Given.TablesTablePlaces.{at_word}
+use Rattle.papaya_waits.specs.Given.TablesDeclared.table_words.TheConstants.{CLAIM, COPIED}
+use Rattle.papaya_waits.specs.Given.RuleMoments.{Moments}
+use Rattle.papaya_waits.specs.Given.PointsSteps.{AreLawful}
+use Rattle.papaya_waits.specs.Given.LateLateCopies.{CopiesLate, LateCopierFacts, LateCopying}
+use Rattle.papaya_waits.specs.Given.PointsFactsCopiesBlocking.{CopiesInto, CopierFactsBlocking, CopyingFactsBlocking, HasDoneIn, RestsIn}
+use Rattle.papaya_waits.specs.Given.TablesChunks.{is_incremental}
+use Rattle.papaya_waits.specs.Given.TablesDeclared.node.Node.{Node}
+use Rattle.papaya_waits.specs.Given.TablesDeclared.setting.Setting.{Setting}
+use Rattle.papaya_waits.specs.Given.ResizeDeclared.copier.Copier.{Copier}
+use Rattle.papaya_waits.specs.Given.ResizeDeclared.copier.Copying.TheVariants as at
+use Rattle.papaya_waits.specs.Given.RuleChart.{Chart}
+use Rattle.papaya_waits.specs.Given.RuleWords.{Blocks}
+use Rattle.papaya_waits.specs.Given.PointsTold.{IsRowOfCopier}
+use Rattle.papaya_waits.specs.Given.RuleMaps.{spot_of, IsTable}
+use Rattle.papaya_waits.specs.Given.RuleRule.{Rule}
+use Rattle.papaya_waits.specs.Given.TablesDeclared.table.Table.{Table}
+use Rattle.papaya_waits.specs.Given.ResizeDeclared.copier.Copying.{Copying as Point}
+use Rattle.papaya_waits.specs.Given.RuleInWorld.{IsMapIn}
+use Rattle.papaya_waits.specs.Given.ResizeNewTable.{counted}
+use Rattle.papaya_waits.specs.Given.CallersSights.{Sight, seen_by}
+use Rattle.papaya_waits.specs.Given.CallersTogether.{UnderWay, Together, in_slot}
+use Rattle.papaya_waits.proofs.Given.PointsBlocking.Points.{may_copier_blocking}
+use Rattle.papaya_waits.proofs.Given.LateCopiers.Points.{may_late_copier}
+use Rattle.papaya_waits.proofs.Given.RuleSpared.{step_spares}
+use Rattle.papaya_waits.proofs.Given.RuleWords.TablesSeen.{len_is, word_stands}
+use Rattle.papaya_waits.proofs.Given.CallersTogether.Few.{claim_few}
+use Rattle.papaya_waits.proofs.Given.CallersClaims.Knows.{CopierKnows, fresh_knows, late_knows}
 use Rattle.papaya_waits.proofs.EndingCalls.{AnotherAt, OwnEnds, copier_then}
 use Rattle.papaya_waits.proofs.Promised.{map_of}
 use Rattle.papaya_waits.specs.Others.{copier_of, EndsAt}

@@ -2,35 +2,35 @@
 use Rattle.std.specs.Prelude.{if◌then◌else◌, ℕ, ◌+◌, ◌-◌, ◌%◌, ◌/◌, ◌^◌, ◌==◌, nat_lt, cond, eqb, Bool, true, false, Ok, Err}
 use Rattle.std.proofs.Common.{◌≡◌, ◌≢◌, zero, suc, ◌<◌, ◌≤◌, ◌⊎◌, inl, inr, refl, ap, sym, subst, ◌∙◌, arith, eqb-true}
 use Rattle.std.proofs.lemmas.Bool.{cases_eq, eq-eqb, lt-ltb, ne_eqb}
-use Rattle.papaya_waits.specs.Given.SeizeWords.Op.{Out, Found, Exchanged}
-use Rattle.papaya_waits.specs.Given.SeizeWords.Mem.{Mem, Took, value_at}
-use Rattle.papaya_waits.specs.Given.SeizeWords.Plan.{Steps, Now}
-use Rattle.papaya_waits.specs.Given.Resize.Copier.{plan_at, copier_plan}
-use Rattle.papaya_waits.specs.Given.Resize.CopierMarks.{is_mine, is_awaited, marked, mine_marked, to}
-use Rattle.papaya_waits.specs.Given.Resize.CopierPlaces.{next_try, pair_put, place_read, put_told}
-use Rattle.papaya_waits.specs.Given.Resize.CopierStates.{next_place, place_done, behind}
-use Rattle.papaya_waits.specs.Given.Resize.declared.outcome.Outcome.{Outcome}
-use Rattle.papaya_waits.specs.Given.Resize.declared.outcome.Outcome.TheVariants.{Goes, Waits}
-use Rattle.papaya_waits.specs.Given.Tables.declared.probe.Probe.{Probe}
-use Rattle.papaya_waits.specs.Given.Rule.Chart.{Chart, Share, Free, Claimed, Done, Counted, Lost}
-use Rattle.papaya_waits.specs.Given.Rule.Moves.{Counts, GivesUp, Allowed, after, counted_to, is_done_by, is_of_caller, with_counted, with_lost}
-use Rattle.papaya_waits.specs.Given.Rule.Rule.{total, Rule}
-use Rattle.papaya_waits.specs.Given.Points.FactsCopiesBlocking.{ClaimsRange, CopierFactsBlocking, CopiesInto, CopyingFactsBlocking, HasDoneIn}
-use Rattle.papaya_waits.specs.Given.Late.LateCopies.{LateCopierFacts, LateCopying}
-use Rattle.papaya_waits.specs.Given.Seize.World.{World}
-use Rattle.papaya_waits.specs.Given.Tables.Chunks.{is_incremental}
-use Rattle.papaya_waits.specs.Given.Tables.declared.node.Node.{Node}
-use Rattle.papaya_waits.specs.Given.Tables.declared.setting.Setting.{Setting}
-use Rattle.papaya_waits.specs.Given.Resize.declared.copier.Copier.{Copier}
-use Rattle.papaya_waits.specs.Given.Resize.declared.copier.Copying.TheVariants as at
-use Rattle.papaya_waits.specs.Given.Rule.Words.{Blocks}
-use Rattle.papaya_waits.specs.Given.Rule.Maps.{spot_of, IsTable}
-use Rattle.papaya_waits.specs.Given.Tables.declared.table.Table.{Table}
-use Rattle.papaya_waits.specs.Given.Resize.declared.copier.Copying.{Copying as Point}
-use Rattle.papaya_waits.specs.Given.Rule.InWorld.{IsMapIn}
-use Rattle.papaya_waits.proofs.Given.Rule.Moves.Totals.{total_none}
-use Rattle.papaya_waits.proofs.Given.Rule.Shares.CopiersShares.{done_fits}
-use Rattle.papaya_waits.proofs.Given.Rule.Keys.Always.{Always, always_if, always_steps}
+use Rattle.papaya_waits.specs.Given.SeizeWordsOp.{Out, Found, Exchanged}
+use Rattle.papaya_waits.specs.Given.SeizeWordsMem.{Mem, Took, value_at}
+use Rattle.papaya_waits.specs.Given.SeizeWordsPlan.{Steps, Now}
+use Rattle.papaya_waits.specs.Given.ResizeCopier.{plan_at, copier_plan}
+use Rattle.papaya_waits.specs.Given.ResizeCopierMarks.{is_mine, is_awaited, marked, mine_marked, to}
+use Rattle.papaya_waits.specs.Given.ResizeCopierPlaces.{next_try, pair_put, place_read, put_told}
+use Rattle.papaya_waits.specs.Given.ResizeCopierStates.{next_place, place_done, behind}
+use Rattle.papaya_waits.specs.Given.ResizeDeclared.outcome.Outcome.{Outcome}
+use Rattle.papaya_waits.specs.Given.ResizeDeclared.outcome.Outcome.TheVariants.{Goes, Waits}
+use Rattle.papaya_waits.specs.Given.TablesDeclared.probe.Probe.{Probe}
+use Rattle.papaya_waits.specs.Given.RuleChart.{Chart, Share, Free, Claimed, Done, Counted, Lost}
+use Rattle.papaya_waits.specs.Given.RuleMoves.{Counts, GivesUp, Allowed, after, counted_to, is_done_by, is_of_caller, with_counted, with_lost}
+use Rattle.papaya_waits.specs.Given.RuleRule.{total, Rule}
+use Rattle.papaya_waits.specs.Given.PointsFactsCopiesBlocking.{ClaimsRange, CopierFactsBlocking, CopiesInto, CopyingFactsBlocking, HasDoneIn}
+use Rattle.papaya_waits.specs.Given.LateLateCopies.{LateCopierFacts, LateCopying}
+use Rattle.papaya_waits.specs.Given.SeizeWorld.{World}
+use Rattle.papaya_waits.specs.Given.TablesChunks.{is_incremental}
+use Rattle.papaya_waits.specs.Given.TablesDeclared.node.Node.{Node}
+use Rattle.papaya_waits.specs.Given.TablesDeclared.setting.Setting.{Setting}
+use Rattle.papaya_waits.specs.Given.ResizeDeclared.copier.Copier.{Copier}
+use Rattle.papaya_waits.specs.Given.ResizeDeclared.copier.Copying.TheVariants as at
+use Rattle.papaya_waits.specs.Given.RuleWords.{Blocks}
+use Rattle.papaya_waits.specs.Given.RuleMaps.{spot_of, IsTable}
+use Rattle.papaya_waits.specs.Given.TablesDeclared.table.Table.{Table}
+use Rattle.papaya_waits.specs.Given.ResizeDeclared.copier.Copying.{Copying as Point}
+use Rattle.papaya_waits.specs.Given.RuleInWorld.{IsMapIn}
+use Rattle.papaya_waits.proofs.Given.RuleMoves.Totals.{total_none}
+use Rattle.papaya_waits.proofs.Given.RuleShares.CopiersShares.{done_fits}
+use Rattle.papaya_waits.proofs.Given.RuleKeys.Always.{Always, always_if, always_steps}
 use Rattle.papaya_waits.proofs.Endings.{OthersEnd}
 use Rattle.papaya_waits.specs.Others.{EndsAt}
 use Rattle.papaya_waiters.specs.Blocking.{AbortsAt, IsUncounted}

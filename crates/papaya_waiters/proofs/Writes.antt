@@ -2,33 +2,33 @@
 use Rattle.std.specs.Prelude.{◌==◌, ◌&&◌, ◌%◌}
 use Rattle.std.proofs.Common.{◌≡◌, ◌≢◌, ℕ, suc, ◌+◌, ◌/◌, ◌^◌, ◌<◌, Bool, true, false, refl, ap, sym, subst, ◌∙◌, arith}
 use Rattle.std.proofs.lemmas.Bool.{ne_eqb}
-use Rattle.papaya_waits.specs.Given.SeizeWords.declared.at.At.{At}
-use Rattle.papaya_waits.specs.Given.SeizeWords.declared.at.At.TheVariants.{Root, Word}
-use Rattle.papaya_waits.specs.Given.SeizeWords.Mem.{same_at}
-use Rattle.papaya_waits.specs.Given.Seize.World.{World}
-use Rattle.papaya_waits.specs.Given.Resize.Sum.{sum_plan, plan_at as sum_at}
-use Rattle.papaya_waits.specs.Given.Resize.NewTable.{counted, new_table_plan, plan_at as making_at}
-use Rattle.papaya_waits.specs.Given.Resize.Copier.{copier_plan, plan_at as copying_at}
-use Rattle.papaya_waits.specs.Given.Resize.CopierFurther.{remade}
-use Rattle.papaya_waits.specs.Given.Tables.declared.node.Node.{Node}
-use Rattle.papaya_waits.specs.Given.Tables.declared.setting.Setting.{Setting}
-use Rattle.papaya_waits.specs.Given.Tables.declared.table.Table.{Table}
-use Rattle.papaya_waits.specs.Given.Tables.declared.table_words.TheConstants.{NEXT, CLAIM, COPIED, STATUS, PLACES}
-use Rattle.papaya_waits.specs.Given.Resize.declared.sum.Sum.{Sum}
-use Rattle.papaya_waits.specs.Given.Resize.declared.sum.Summing.{Summing}
-use Rattle.papaya_waits.specs.Given.Resize.declared.sum.Summing.TheVariants as sums
-use Rattle.papaya_waits.specs.Given.Resize.declared.new_table.NewTable.{NewTable}
-use Rattle.papaya_waits.specs.Given.Resize.declared.new_table.Making.{Making}
-use Rattle.papaya_waits.specs.Given.Resize.declared.new_table.Making.TheVariants as makes
-use Rattle.papaya_waits.specs.Given.Resize.declared.copier.Copier.{Copier}
-use Rattle.papaya_waits.specs.Given.Resize.declared.copier.Copying.{Copying as Point}
-use Rattle.papaya_waits.specs.Given.Resize.declared.copier.Copying.TheVariants as at
-use Rattle.papaya_waits.specs.Given.Rule.Chart.{Chart}
-use Rattle.papaya_waits.specs.Given.Rule.InWorld.{IsMapIn, IsOut}
-use Rattle.papaya_waits.specs.Given.Rule.Words.{Blocks}
-use Rattle.papaya_waits.specs.Given.Points.FactsTables.{IsOwnTable, NewTableFacts, MakingFacts}
-use Rattle.papaya_waits.proofs.Given.Rule.Spared.{IsBeside, PlanSpares, spares_as}
-use Rattle.papaya_waits.proofs.Given.Callers.Claims.Knows.{CopierKnows}
+use Rattle.papaya_waits.specs.Given.SeizeWordsDeclared.at.At.{At}
+use Rattle.papaya_waits.specs.Given.SeizeWordsDeclared.at.At.TheVariants.{Root, Word}
+use Rattle.papaya_waits.specs.Given.SeizeWordsMem.{same_at}
+use Rattle.papaya_waits.specs.Given.SeizeWorld.{World}
+use Rattle.papaya_waits.specs.Given.ResizeSum.{sum_plan, plan_at as sum_at}
+use Rattle.papaya_waits.specs.Given.ResizeNewTable.{counted, new_table_plan, plan_at as making_at}
+use Rattle.papaya_waits.specs.Given.ResizeCopier.{copier_plan, plan_at as copying_at}
+use Rattle.papaya_waits.specs.Given.ResizeCopierFurther.{remade}
+use Rattle.papaya_waits.specs.Given.TablesDeclared.node.Node.{Node}
+use Rattle.papaya_waits.specs.Given.TablesDeclared.setting.Setting.{Setting}
+use Rattle.papaya_waits.specs.Given.TablesDeclared.table.Table.{Table}
+use Rattle.papaya_waits.specs.Given.TablesDeclared.table_words.TheConstants.{NEXT, CLAIM, COPIED, STATUS, PLACES}
+use Rattle.papaya_waits.specs.Given.ResizeDeclared.sum.Sum.{Sum}
+use Rattle.papaya_waits.specs.Given.ResizeDeclared.sum.Summing.{Summing}
+use Rattle.papaya_waits.specs.Given.ResizeDeclared.sum.Summing.TheVariants as sums
+use Rattle.papaya_waits.specs.Given.ResizeDeclared.new_table.NewTable.{NewTable}
+use Rattle.papaya_waits.specs.Given.ResizeDeclared.new_table.Making.{Making}
+use Rattle.papaya_waits.specs.Given.ResizeDeclared.new_table.Making.TheVariants as makes
+use Rattle.papaya_waits.specs.Given.ResizeDeclared.copier.Copier.{Copier}
+use Rattle.papaya_waits.specs.Given.ResizeDeclared.copier.Copying.{Copying as Point}
+use Rattle.papaya_waits.specs.Given.ResizeDeclared.copier.Copying.TheVariants as at
+use Rattle.papaya_waits.specs.Given.RuleChart.{Chart}
+use Rattle.papaya_waits.specs.Given.RuleInWorld.{IsMapIn, IsOut}
+use Rattle.papaya_waits.specs.Given.RuleWords.{Blocks}
+use Rattle.papaya_waits.specs.Given.PointsFactsTables.{IsOwnTable, NewTableFacts, MakingFacts}
+use Rattle.papaya_waits.proofs.Given.RuleSpared.{IsBeside, PlanSpares, spares_as}
+use Rattle.papaya_waits.proofs.Given.CallersClaims.Knows.{CopierKnows}
 
 -- the count of a table is no other word of one
 other_field : (a b field : ℕ) → COPIED ≢ field → same_at (Word a COPIED) (Word b field) ≡ false

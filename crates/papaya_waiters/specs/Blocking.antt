@@ -1,38 +1,38 @@
 -- In blocking mode: that each copying that is not over has who goes on with it, who ends it, or who gives it up; and which call a call waits for then.
 use Rattle.std.specs.Prelude.{◌≡◌, ◌≢◌, ℕ, ◌<◌, ◌≤◌, ◌⊎◌, Bool, true, false, Option, Some}
 use Rattle.std.specs.Int.{IsPowerOfTwo}
-use Rattle.papaya_waits.specs.Given.Seize.World.{World, with_at}
-use Rattle.papaya_waits.specs.Given.Tables.Chunks.{is_incremental}
-use Rattle.papaya_waits.specs.Given.Tables.declared.node.Node.{Node}
-use Rattle.papaya_waits.specs.Given.Tables.declared.setting.Setting.{Setting}
-use Rattle.papaya_waits.specs.Given.Resize.declared.copier.Copier.{Copier}
-use Rattle.papaya_waits.specs.Given.Resize.declared.copier.Copying.{Copying as Point}
-use Rattle.papaya_waits.specs.Given.Resize.declared.copier.Copying.TheVariants as copies
-use Rattle.papaya_waits.specs.Given.Rule.Chart.{Chart, Counted, Lost}
-use Rattle.papaya_waits.specs.Given.Rule.Maps.{IsTable}
-use Rattle.papaya_waits.specs.Given.Rule.Moves.{is_of_caller}
-use Rattle.papaya_waits.specs.Given.Rule.Words.{Blocks}
-use Rattle.papaya_waits.specs.Given.Points.FactsCopiesBlocking.{HasNoShares}
-use Rattle.papaya_waits.specs.Given.SeizeWords.Mem.{Mem, Took, value_at}
-use Rattle.papaya_waits.specs.Given.SeizeWords.Plan.{Steps}
-use Rattle.papaya_waits.specs.Given.Resize.declared.outcome.Outcome.{Outcome}
-use Rattle.papaya_waits.specs.Given.Raw.Call.{call_plan}
-use Rattle.papaya_waits.specs.Given.Raw.declared.machines.answer.Called.{Called}
-use Rattle.papaya_waits.specs.Given.Raw.declared.machines.call.KeyCall.{KeyCall}
-use Rattle.papaya_waits.specs.Given.Reserves.Reserve.{reserve_plan}
-use Rattle.papaya_waits.specs.Given.Reserves.declared.reserve.Reserve.{Reserve}
-use Rattle.papaya_waits.specs.Given.Sweeps.Sweep.{sweep_plan}
-use Rattle.papaya_waits.specs.Given.Sweeps.declared.sweep.Sweep.{Sweep}
-use Rattle.papaya_waits.specs.Given.Sweeps.declared.sweep.Swept.{Swept}
-use Rattle.papaya_waits.specs.Given.Points.Steps.{AreLawful}
-use Rattle.papaya_waits.specs.Given.Points.Told.{IsRowOfCall}
-use Rattle.papaya_waits.specs.Given.Late.ToldReserves.{IsRowOfReserve}
-use Rattle.papaya_waits.specs.Given.Late.ToldSweeps.{IsRowOfSweep}
-use Rattle.papaya_waits.specs.Given.Callers.Sights.{Sight}
-use Rattle.papaya_waits.specs.Given.Callers.Together.{UnderWay, Together, in_slot, CallOnKey, OnKey, ForRoom, OverAll, StepsTogether, RoomStepsTogether, change_told, next_of, next_for_room, next_over_all}
-use Rattle.papaya_waits.specs.Given.Callers.OverAll.{CallOverAll, come_to}
-use Rattle.papaya_waits.specs.Given.Callers.Rooms.{CallForRoom}
-use Rattle.papaya_waits.specs.Given.Callers.Sweeps.{SweepStepsTogether}
+use Rattle.papaya_waits.specs.Given.SeizeWorld.{World, with_at}
+use Rattle.papaya_waits.specs.Given.TablesChunks.{is_incremental}
+use Rattle.papaya_waits.specs.Given.TablesDeclared.node.Node.{Node}
+use Rattle.papaya_waits.specs.Given.TablesDeclared.setting.Setting.{Setting}
+use Rattle.papaya_waits.specs.Given.ResizeDeclared.copier.Copier.{Copier}
+use Rattle.papaya_waits.specs.Given.ResizeDeclared.copier.Copying.{Copying as Point}
+use Rattle.papaya_waits.specs.Given.ResizeDeclared.copier.Copying.TheVariants as copies
+use Rattle.papaya_waits.specs.Given.RuleChart.{Chart, Counted, Lost}
+use Rattle.papaya_waits.specs.Given.RuleMaps.{IsTable}
+use Rattle.papaya_waits.specs.Given.RuleMoves.{is_of_caller}
+use Rattle.papaya_waits.specs.Given.RuleWords.{Blocks}
+use Rattle.papaya_waits.specs.Given.PointsFactsCopiesBlocking.{HasNoShares}
+use Rattle.papaya_waits.specs.Given.SeizeWordsMem.{Mem, Took, value_at}
+use Rattle.papaya_waits.specs.Given.SeizeWordsPlan.{Steps}
+use Rattle.papaya_waits.specs.Given.ResizeDeclared.outcome.Outcome.{Outcome}
+use Rattle.papaya_waits.specs.Given.RawCall.{call_plan}
+use Rattle.papaya_waits.specs.Given.RawDeclared.machines.answer.Called.{Called}
+use Rattle.papaya_waits.specs.Given.RawDeclared.machines.call.KeyCall.{KeyCall}
+use Rattle.papaya_waits.specs.Given.ReservesReserve.{reserve_plan}
+use Rattle.papaya_waits.specs.Given.ReservesDeclared.reserve.Reserve.{Reserve}
+use Rattle.papaya_waits.specs.Given.SweepsSweep.{sweep_plan}
+use Rattle.papaya_waits.specs.Given.SweepsDeclared.sweep.Sweep.{Sweep}
+use Rattle.papaya_waits.specs.Given.SweepsDeclared.sweep.Swept.{Swept}
+use Rattle.papaya_waits.specs.Given.PointsSteps.{AreLawful}
+use Rattle.papaya_waits.specs.Given.PointsTold.{IsRowOfCall}
+use Rattle.papaya_waits.specs.Given.LateToldReserves.{IsRowOfReserve}
+use Rattle.papaya_waits.specs.Given.LateToldSweeps.{IsRowOfSweep}
+use Rattle.papaya_waits.specs.Given.CallersSights.{Sight}
+use Rattle.papaya_waits.specs.Given.CallersTogether.{UnderWay, Together, in_slot, CallOnKey, OnKey, ForRoom, OverAll, StepsTogether, RoomStepsTogether, change_told, next_of, next_for_room, next_over_all}
+use Rattle.papaya_waits.specs.Given.CallersOverAll.{CallOverAll, come_to}
+use Rattle.papaya_waits.specs.Given.CallersRooms.{CallForRoom}
+use Rattle.papaya_waits.specs.Given.CallersSweeps.{SweepStepsTogether}
 use Rattle.papaya_waits.specs.Others.{EndsAt, copier_of}
 use Rattle.papaya_waits.specs.Waits.{IsUnfinished}
 

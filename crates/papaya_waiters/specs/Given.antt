@@ -1,12 +1,30 @@
 -- The words of the crates below, given on to the crates above: these list this crate in place of those.
-pub use Rattle.papaya_waits.specs.Given.Callers
-pub use Rattle.papaya_waits.specs.Given.Finishes
-pub use Rattle.papaya_waits.specs as Waits
-pub use Rattle.papaya_waits.specs.Given.SeizeWords
-pub use Rattle.papaya_waits.specs.Given.SeizeEnds
-pub use Rattle.papaya_waits.specs.Given.SeizeActs
-pub use Rattle.papaya_waits.specs.Given.Points
-pub use Rattle.papaya_waits.specs.Given.Late
-pub use Rattle.papaya_waits.specs.Given.Maps
-pub use Rattle.papaya_waits.specs.Given.SeizeSets
-pub use Rattle.papaya_waits.specs.Given.SeizeAlone
+pub use Rattle.papaya_waits.specs.Given.CallersOverAll
+pub use Rattle.papaya_waits.specs.Given.CallersPairs
+pub use Rattle.papaya_waits.specs.Given.CallersRooms
+pub use Rattle.papaya_waits.specs.Given.CallersSights
+pub use Rattle.papaya_waits.specs.Given.CallersTogether
+pub use Rattle.papaya_waits.specs.Given.FinishesEndings
+pub use Rattle.papaya_waits.specs.Given.FinishesFactsEnds
+pub use Rattle.papaya_waits.specs.Given.FinishesMachines
+pub use Rattle.papaya_waits.specs.Given.FinishesMakings
+pub use Rattle.papaya_waits.specs.Given.FinishesMaps
+pub use Rattle.papaya_waits.specs.Others as WaitsOthers
+pub use Rattle.papaya_waits.specs.Given.SeizeWordsMem
+pub use Rattle.papaya_waits.specs.Given.SeizeWordsOp
+pub use Rattle.papaya_waits.specs.Given.SeizeWordsPlace
+pub use Rattle.papaya_waits.specs.Given.SeizeWordsPlan
+pub use Rattle.papaya_waits.specs.Given.SeizeWordsSlotWords
+pub use Rattle.papaya_waits.specs.Given.SeizeWordsWord
+pub use Rattle.papaya_waits.specs.Given.SeizeWordsDeclared
+pub use Rattle.papaya_waits.specs.Given.SeizeEndsHolders
+pub use Rattle.papaya_waits.specs.Given.SeizeActsWaits
+pub use Rattle.papaya_waits.specs.Given.PointsSteps
+pub use Rattle.papaya_waits.specs.Given.PointsTold
+pub use Rattle.papaya_waits.specs.Given.LateToldReserves
+pub use Rattle.papaya_waits.specs.Given.LateToldSweeps
+pub use Rattle.papaya_waits.specs.Given.MapsEndingsEnds
+pub use Rattle.papaya_waits.specs.Given.MapsMeasuresBegins
+pub use Rattle.papaya_waits.specs.Given.MapsMeasuresEnds
+pub use Rattle.papaya_waits.specs.Given.SeizeSetsReclaims
+pub use Rattle.papaya_waits.specs.Given.SeizeAloneAlone

@@ -1,6 +1,6 @@
 //! What is promised of calls that wait for a copying where all pairs are copied at once.
 ghost use Rattle.std.specs.Prelude.{ℕ, Bool};
-ghost use Rattle.papaya_waits.specs.Given.Tables.declared.setting.Setting.{Setting};
+ghost use Rattle.papaya_waits.specs.Given.TablesDeclared.setting.Setting.{Setting};
 ghost use Rattle.papaya_waiters.specs.Blocking.{AskersHaveOthersBlocking, CallsKeepEndsBlocking, RoomsKeepEndsBlocking, SweepsKeepEndsBlocking};
 
 /// In blocking mode, let each copying that is not over have a place that is not counted, or a call that is to end it, and, if a place of it was given up, a call that is to give

@@ -2,24 +2,24 @@
 use Rattle.std.specs.Prelude.{◌≢◌, cond, Option, Some, None}
 use Rattle.std.proofs.Common.{◌≡◌, ℕ, suc, ◌<◌, ◌⊎◌, inl, inr, Bool, true, false, refl, ap, sym, subst, ◌∙◌, arith}
 use Rattle.std.proofs.lemmas.Bool.{eq-eqb}
-use Rattle.seize_acts.specs.Given.Seize.World.{World}
-use Rattle.papaya_maps.specs.Given.Tables.Chunks.{is_incremental}
-use Rattle.papaya_maps.specs.Given.Tables.declared.node.Node.{Node}
-use Rattle.papaya_maps.specs.Given.Tables.declared.setting.Setting.{Setting}
-use Rattle.papaya_maps.specs.Given.Tables.declared.table.Table.{Table}
-use Rattle.papaya_maps.specs.Given.Resize.declared.copier.Copier.{Copier}
-use Rattle.papaya_maps.specs.Given.Resize.declared.copier.Copying.{Copying as Point}
-use Rattle.papaya_maps.specs.Given.Resize.declared.copier.Copying.TheVariants as copies
-use Rattle.papaya_maps.specs.Given.Rule.Chart.{Still, Copying, Copied, Place, Empty, Tombstone, Holds, Share, Free, Claimed, Done, Counted, Lost, Chart, is_marked, is_settled}
-use Rattle.papaya_maps.specs.Given.Rule.Maps.{spot_of}
-use Rattle.papaya_maps.specs.Given.Rule.Moves.{is_done_by}
-use Rattle.papaya_maps.specs.Given.Rule.Rule.{Agrees, Rule}
-use Rattle.papaya_maps.specs.Given.Rule.Words.{Blocks}
-use Rattle.papaya_maps.proofs.Given.Rule.Shares.LastsShares.{total_zero}
-use Rattle.papaya_maps.specs.Given.Points.FactsCopies.{CopyingFacts, ClaimsNone, HasDone}
-use Rattle.papaya_maps.specs.Given.Points.FactsCopiesBlocking.{HasNoShares}
-use Rattle.papaya_maps.specs.Given.Callers.Sights.{Sight}
-use Rattle.papaya_maps.specs.Given.Callers.Together.{UnderWay, Together, in_slot}
+use Rattle.seize_acts.specs.Given.SeizeWorld.{World}
+use Rattle.papaya_maps.specs.Given.TablesChunks.{is_incremental}
+use Rattle.papaya_maps.specs.Given.TablesDeclared.node.Node.{Node}
+use Rattle.papaya_maps.specs.Given.TablesDeclared.setting.Setting.{Setting}
+use Rattle.papaya_maps.specs.Given.TablesDeclared.table.Table.{Table}
+use Rattle.papaya_maps.specs.Given.ResizeDeclared.copier.Copier.{Copier}
+use Rattle.papaya_maps.specs.Given.ResizeDeclared.copier.Copying.{Copying as Point}
+use Rattle.papaya_maps.specs.Given.ResizeDeclared.copier.Copying.TheVariants as copies
+use Rattle.papaya_maps.specs.Given.RuleChart.{Still, Copying, Copied, Place, Empty, Tombstone, Holds, Share, Free, Claimed, Done, Counted, Lost, Chart, is_marked, is_settled}
+use Rattle.papaya_maps.specs.Given.RuleMaps.{spot_of}
+use Rattle.papaya_maps.specs.Given.RuleMoves.{is_done_by}
+use Rattle.papaya_maps.specs.Given.RuleRule.{Agrees, Rule}
+use Rattle.papaya_maps.specs.Given.RuleWords.{Blocks}
+use Rattle.papaya_maps.proofs.Given.RuleShares.LastsShares.{total_zero}
+use Rattle.papaya_maps.specs.Given.PointsFactsCopies.{CopyingFacts, ClaimsNone, HasDone}
+use Rattle.papaya_maps.specs.Given.PointsFactsCopiesBlocking.{HasNoShares}
+use Rattle.papaya_maps.specs.Given.CallersSights.{Sight}
+use Rattle.papaya_maps.specs.Given.CallersTogether.{UnderWay, Together, in_slot}
 use Rattle.papaya_waits.specs.Others.{IsToCount, IsOpen, EndsAt, HaveEnds, AskersHaveOthers, copier_of}
 use Rattle.papaya_waits.specs.Waits.{IsUnfinished}
 use Rattle.papaya_waits.proofs.Claimed.{chosen}

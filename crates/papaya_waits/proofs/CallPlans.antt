@@ -1,58 +1,58 @@
 -- The points of a call on one key at which it goes on, or ends, whatever the memory is.
 use Rattle.std.specs.Prelude.{◌==◌, if◌then◌else◌, Ok, Err, Option, Some, None}
 use Rattle.std.proofs.Common.{◌≡◌, ◌≢◌, ℕ, Bool, true, false, refl}
-use Rattle.seize_acts.specs.Given.SeizeWords.Word.{block_in}
-use Rattle.seize_acts.specs.Given.SeizeWords.Op.{Out, Found, Made, Taken, Exchanged}
-use Rattle.seize_acts.proofs.Given.SeizeWords.OneOwner.Operations.{loaded}
-use Rattle.seize_acts.specs.Given.Seize.declared.progress.Progress.{Progress}
-use Rattle.seize_acts.specs.Given.Seize.declared.progress.Progress.TheVariants as progress
-use Rattle.seize_acts.specs.Given.Seize.declared.rows.settle.Settled.{Settled}
-use Rattle.seize_acts.specs.Given.Seize.declared.rows.settle.Settled.TheVariants as settled
-use Rattle.papaya_maps.specs.Given.Tables.Chunks.{is_incremental}
-use Rattle.papaya_maps.specs.Given.Tables.Finding.{finding, may_name}
-use Rattle.papaya_maps.specs.Given.Tables.Trials.{next_trial, with_met}
-use Rattle.papaya_maps.specs.Given.Tables.declared.finding.Finding.{Finding}
-use Rattle.papaya_maps.specs.Given.Tables.declared.finding.Finding.TheVariants as is
-use Rattle.papaya_maps.specs.Given.Tables.declared.marks.TheConstants.{TOMBSTONE}
-use Rattle.papaya_maps.specs.Given.Tables.declared.node.Node.{Node}
-use Rattle.papaya_maps.specs.Given.Tables.declared.node.Node.TheVariants as nodes
-use Rattle.papaya_maps.specs.Given.Tables.declared.table.Table.{Table}
-use Rattle.papaya_maps.specs.Given.Tables.declared.trial.Trial.{Trial}
-use Rattle.papaya_maps.specs.Given.Raw.Answers.{ended}
-use Rattle.papaya_maps.specs.Given.Raw.Call.{have_one_key, made, makes_of, root_found, next_found, dropped, key_read, pair_read, tried, looked, looks_for, first_made, next_made, disposed, plan_at}
-use Rattle.papaya_maps.specs.Given.Raw.CallFills.{filled, putting_by, fill_by, emptied, fills_with, given_up, asks_at}
-use Rattle.papaya_maps.specs.Given.Raw.CallPoints.{aim_of, standing, going, over, ending, storing, at_gap, gap_by, pair_by, tableless, at_free, at_end, at_last, at_pair, passed, told_of, told, went_on, changed, counted, having_met}
-use Rattle.papaya_maps.specs.Given.Raw.declared.machines.answer.KeyAnswer.{KeyAnswer}
-use Rattle.papaya_maps.specs.Given.Raw.declared.machines.answer.Called.{Called}
-use Rattle.papaya_maps.specs.Given.Raw.declared.machines.answer.Called.TheVariants as called
-use Rattle.papaya_maps.specs.Given.Raw.declared.machines.answer.End.{End}
-use Rattle.papaya_maps.specs.Given.Raw.declared.machines.answer.End.TheVariants as ends
-use Rattle.papaya_maps.specs.Given.Raw.declared.machines.answer.Missing.{Missing}
-use Rattle.papaya_maps.specs.Given.Raw.declared.machines.answer.Missing.TheVariants as missing
-use Rattle.papaya_maps.specs.Given.Raw.declared.machines.answer.There.{There}
-use Rattle.papaya_maps.specs.Given.Raw.declared.machines.answer.There.TheVariants as there
-use Rattle.papaya_maps.specs.Given.Raw.declared.machines.asking.Asking.{Asking}
-use Rattle.papaya_maps.specs.Given.Raw.declared.machines.asking.Asking.TheVariants as asking
-use Rattle.papaya_maps.specs.Given.Raw.declared.machines.asking.Gap.{Gap}
-use Rattle.papaya_maps.specs.Given.Raw.declared.machines.asking.Gap.TheVariants as gaps
-use Rattle.papaya_maps.specs.Given.Raw.declared.machines.asking.Told.{Told}
-use Rattle.papaya_maps.specs.Given.Raw.declared.machines.asking.Told.TheVariants as tells
-use Rattle.papaya_maps.specs.Given.Raw.declared.machines.call.KeyCall.{KeyCall}
-use Rattle.papaya_maps.specs.Given.Raw.declared.machines.call.Calling.{Calling}
-use Rattle.papaya_maps.specs.Given.Raw.declared.machines.call.Calling.TheVariants as at
-use Rattle.papaya_maps.specs.Given.Raw.Replies.{value_for, as_own}
-use Rattle.papaya_maps.specs.Given.Resize.CopierStates.{helping, copying_all}
-use Rattle.papaya_maps.specs.Given.Resize.Dispose.{disposing, dispose_plan}
-use Rattle.papaya_maps.specs.Given.Tables.Nodes.{table_seen}
-use Rattle.papaya_maps.specs.Given.Raw.declared.machines.answer.KeyAnswer.TheVariants as answers
-use Rattle.papaya_maps.specs.Given.Resize.Lookup.{names_pair, lookup_plan}
-use Rattle.papaya_maps.specs.Given.Resize.NewTable.{new_table_plan}
-use Rattle.papaya_maps.specs.Given.Resize.declared.dispose.Dispose.{Dispose}
-use Rattle.papaya_maps.specs.Given.Resize.declared.lookup.Lookup.{Lookup}
-use Rattle.papaya_maps.specs.Given.Resize.declared.new_table.NewTable.{NewTable}
-use Rattle.papaya_maps.specs.Given.Points.Told.{IsRowOf}
-use Rattle.papaya_maps.proofs.Given.Rule.Keys.Always.{Always, AlwaysOf, always_if}
-use Rattle.papaya_maps.specs.Given.Raw.CallPoints.{asking_at, burying, entering, following_made, answering}
+use Rattle.seize_acts.specs.Given.SeizeWordsWord.{block_in}
+use Rattle.seize_acts.specs.Given.SeizeWordsOp.{Out, Found, Made, Taken, Exchanged}
+use Rattle.seize_acts.proofs.Given.SeizeWordsOneOwner.Operations.{loaded}
+use Rattle.seize_acts.specs.Given.SeizeDeclared.progress.Progress.{Progress}
+use Rattle.seize_acts.specs.Given.SeizeDeclared.progress.Progress.TheVariants as progress
+use Rattle.seize_acts.specs.Given.SeizeDeclared.rows.settle.Settled.{Settled}
+use Rattle.seize_acts.specs.Given.SeizeDeclared.rows.settle.Settled.TheVariants as settled
+use Rattle.papaya_maps.specs.Given.TablesChunks.{is_incremental}
+use Rattle.papaya_maps.specs.Given.TablesFinding.{finding, may_name}
+use Rattle.papaya_maps.specs.Given.TablesTrials.{next_trial, with_met}
+use Rattle.papaya_maps.specs.Given.TablesDeclared.finding.Finding.{Finding}
+use Rattle.papaya_maps.specs.Given.TablesDeclared.finding.Finding.TheVariants as is
+use Rattle.papaya_maps.specs.Given.TablesDeclared.marks.TheConstants.{TOMBSTONE}
+use Rattle.papaya_maps.specs.Given.TablesDeclared.node.Node.{Node}
+use Rattle.papaya_maps.specs.Given.TablesDeclared.node.Node.TheVariants as nodes
+use Rattle.papaya_maps.specs.Given.TablesDeclared.table.Table.{Table}
+use Rattle.papaya_maps.specs.Given.TablesDeclared.trial.Trial.{Trial}
+use Rattle.papaya_maps.specs.Given.RawAnswers.{ended}
+use Rattle.papaya_maps.specs.Given.RawCall.{have_one_key, made, makes_of, root_found, next_found, dropped, key_read, pair_read, tried, looked, looks_for, first_made, next_made, disposed, plan_at}
+use Rattle.papaya_maps.specs.Given.RawCallFills.{filled, putting_by, fill_by, emptied, fills_with, given_up, asks_at}
+use Rattle.papaya_maps.specs.Given.RawCallPoints.{aim_of, standing, going, over, ending, storing, at_gap, gap_by, pair_by, tableless, at_free, at_end, at_last, at_pair, passed, told_of, told, went_on, changed, counted, having_met}
+use Rattle.papaya_maps.specs.Given.RawDeclared.machines.answer.KeyAnswer.{KeyAnswer}
+use Rattle.papaya_maps.specs.Given.RawDeclared.machines.answer.Called.{Called}
+use Rattle.papaya_maps.specs.Given.RawDeclared.machines.answer.Called.TheVariants as called
+use Rattle.papaya_maps.specs.Given.RawDeclared.machines.answer.End.{End}
+use Rattle.papaya_maps.specs.Given.RawDeclared.machines.answer.End.TheVariants as ends
+use Rattle.papaya_maps.specs.Given.RawDeclared.machines.answer.Missing.{Missing}
+use Rattle.papaya_maps.specs.Given.RawDeclared.machines.answer.Missing.TheVariants as missing
+use Rattle.papaya_maps.specs.Given.RawDeclared.machines.answer.There.{There}
+use Rattle.papaya_maps.specs.Given.RawDeclared.machines.answer.There.TheVariants as there
+use Rattle.papaya_maps.specs.Given.RawDeclared.machines.asking.Asking.{Asking}
+use Rattle.papaya_maps.specs.Given.RawDeclared.machines.asking.Asking.TheVariants as asking
+use Rattle.papaya_maps.specs.Given.RawDeclared.machines.asking.Gap.{Gap}
+use Rattle.papaya_maps.specs.Given.RawDeclared.machines.asking.Gap.TheVariants as gaps
+use Rattle.papaya_maps.specs.Given.RawDeclared.machines.asking.Told.{Told}
+use Rattle.papaya_maps.specs.Given.RawDeclared.machines.asking.Told.TheVariants as tells
+use Rattle.papaya_maps.specs.Given.RawDeclared.machines.call.KeyCall.{KeyCall}
+use Rattle.papaya_maps.specs.Given.RawDeclared.machines.call.Calling.{Calling}
+use Rattle.papaya_maps.specs.Given.RawDeclared.machines.call.Calling.TheVariants as at
+use Rattle.papaya_maps.specs.Given.RawReplies.{value_for, as_own}
+use Rattle.papaya_maps.specs.Given.ResizeCopierStates.{helping, copying_all}
+use Rattle.papaya_maps.specs.Given.ResizeDispose.{disposing, dispose_plan}
+use Rattle.papaya_maps.specs.Given.TablesNodes.{table_seen}
+use Rattle.papaya_maps.specs.Given.RawDeclared.machines.answer.KeyAnswer.TheVariants as answers
+use Rattle.papaya_maps.specs.Given.ResizeLookup.{names_pair, lookup_plan}
+use Rattle.papaya_maps.specs.Given.ResizeNewTable.{new_table_plan}
+use Rattle.papaya_maps.specs.Given.ResizeDeclared.dispose.Dispose.{Dispose}
+use Rattle.papaya_maps.specs.Given.ResizeDeclared.lookup.Lookup.{Lookup}
+use Rattle.papaya_maps.specs.Given.ResizeDeclared.new_table.NewTable.{NewTable}
+use Rattle.papaya_maps.specs.Given.PointsTold.{IsRowOf}
+use Rattle.papaya_maps.proofs.Given.RuleKeys.Always.{Always, AlwaysOf, always_if}
+use Rattle.papaya_maps.specs.Given.RawCallPoints.{asking_at, burying, entering, following_made, answering}
 use Rattle.papaya_waits.proofs.Never.{Advances, Settles, always_within, lookup_goes, new_table_goes, dispose_goes}
 
 -- it goes on, or has ended, or asks

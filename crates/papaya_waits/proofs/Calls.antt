@@ -2,39 +2,39 @@
 use Rattle.std.specs.Prelude.{◌==◌, ◌&&◌, if◌then◌else◌, Option, Some, None}
 use Rattle.std.proofs.Common.{◌≡◌, ◌≢◌, ℕ, Bool, true, false, inl, inr, refl, ap, sym, subst, ◌∙◌}
 use Rattle.std.proofs.lemmas.Bool.{eqb-false}
-use Rattle.seize_acts.specs.Given.SeizeWords.Word.{block_in}
-use Rattle.seize_acts.specs.Given.SeizeWords.Mem.{Mem, Took, value_at, word_at}
-use Rattle.seize_acts.specs.Given.SeizeWords.Plan.{Now, Ends, Steps}
-use Rattle.seize_acts.proofs.Given.SeizeWords.OneOwner.Operations.{loaded}
-use Rattle.seize_acts.proofs.Given.SeizeWords.Plans.{ends_if}
-use Rattle.seize_acts.proofs.Given.SeizeRule.Rows.Leaving.{steps_back}
-use Rattle.papaya_maps.specs.Given.Tables.Chunks.{is_incremental}
-use Rattle.papaya_maps.specs.Given.Tables.Finding.{finding, may_name, vacant, shut, marked}
-use Rattle.papaya_maps.specs.Given.Tables.Marks.{has_mark}
-use Rattle.papaya_maps.specs.Given.Tables.Trials.{place_tried}
-use Rattle.papaya_maps.specs.Given.Tables.declared.finding.Aim.{Aim}
-use Rattle.papaya_maps.specs.Given.Tables.declared.finding.Aim.TheVariants.{Looks, Changes, Stores}
-use Rattle.papaya_maps.specs.Given.Tables.declared.finding.Finding.{Finding}
-use Rattle.papaya_maps.specs.Given.Tables.declared.finding.Finding.TheVariants as is
-use Rattle.papaya_maps.specs.Given.Tables.declared.marks.TheConstants.{COPYING, COPIED}
-use Rattle.papaya_maps.specs.Given.Tables.declared.node.Node.{Node}
-use Rattle.papaya_maps.specs.Given.Tables.declared.resize_mode.ResizeMode.{ResizeMode}
-use Rattle.papaya_maps.specs.Given.Tables.declared.table.Table.{Table}
-use Rattle.papaya_maps.specs.Given.Raw.Call.{have_one_key, key_read, pair_read, word_found, helped, copied, plan_at, call_plan}
-use Rattle.papaya_maps.specs.Given.Raw.CallPoints.{aim_of, standing, told_of, told}
-use Rattle.papaya_maps.specs.Given.Raw.declared.machines.answer.Called.{Called}
-use Rattle.papaya_maps.specs.Given.Raw.declared.machines.answer.Called.TheVariants as called
-use Rattle.papaya_maps.specs.Given.Raw.declared.machines.answer.End.TheVariants as ends
-use Rattle.papaya_maps.specs.Given.Raw.declared.machines.call.KeyCall.{KeyCall}
-use Rattle.papaya_maps.specs.Given.Raw.declared.machines.call.Calling.{Calling}
-use Rattle.papaya_maps.specs.Given.Raw.declared.machines.call.Calling.TheVariants as at
-use Rattle.papaya_maps.specs.Given.Resize.Copier.{copier_plan}
-use Rattle.papaya_maps.specs.Given.Resize.Lookup.{names_pair}
-use Rattle.papaya_maps.specs.Given.Resize.declared.copier.Copier.{Copier}
-use Rattle.papaya_maps.specs.Given.Resize.declared.outcome.Outcome.{Outcome}
-use Rattle.papaya_maps.specs.Given.Resize.declared.outcome.Outcome.TheVariants as outcome
-use Rattle.papaya_maps.specs.Given.Points.Told.{IsRowOfCall}
-use Rattle.papaya_maps.proofs.Given.Rule.Keys.Always.{always_steps}
+use Rattle.seize_acts.specs.Given.SeizeWordsWord.{block_in}
+use Rattle.seize_acts.specs.Given.SeizeWordsMem.{Mem, Took, value_at, word_at}
+use Rattle.seize_acts.specs.Given.SeizeWordsPlan.{Now, Ends, Steps}
+use Rattle.seize_acts.proofs.Given.SeizeWordsOneOwner.Operations.{loaded}
+use Rattle.seize_acts.proofs.Given.SeizeWordsPlans.{ends_if}
+use Rattle.seize_acts.proofs.Given.SeizeRuleRows.Leaving.{steps_back}
+use Rattle.papaya_maps.specs.Given.TablesChunks.{is_incremental}
+use Rattle.papaya_maps.specs.Given.TablesFinding.{finding, may_name, vacant, shut, marked}
+use Rattle.papaya_maps.specs.Given.TablesMarks.{has_mark}
+use Rattle.papaya_maps.specs.Given.TablesTrials.{place_tried}
+use Rattle.papaya_maps.specs.Given.TablesDeclared.finding.Aim.{Aim}
+use Rattle.papaya_maps.specs.Given.TablesDeclared.finding.Aim.TheVariants.{Looks, Changes, Stores}
+use Rattle.papaya_maps.specs.Given.TablesDeclared.finding.Finding.{Finding}
+use Rattle.papaya_maps.specs.Given.TablesDeclared.finding.Finding.TheVariants as is
+use Rattle.papaya_maps.specs.Given.TablesDeclared.marks.TheConstants.{COPYING, COPIED}
+use Rattle.papaya_maps.specs.Given.TablesDeclared.node.Node.{Node}
+use Rattle.papaya_maps.specs.Given.TablesDeclared.resize_mode.ResizeMode.{ResizeMode}
+use Rattle.papaya_maps.specs.Given.TablesDeclared.table.Table.{Table}
+use Rattle.papaya_maps.specs.Given.RawCall.{have_one_key, key_read, pair_read, word_found, helped, copied, plan_at, call_plan}
+use Rattle.papaya_maps.specs.Given.RawCallPoints.{aim_of, standing, told_of, told}
+use Rattle.papaya_maps.specs.Given.RawDeclared.machines.answer.Called.{Called}
+use Rattle.papaya_maps.specs.Given.RawDeclared.machines.answer.Called.TheVariants as called
+use Rattle.papaya_maps.specs.Given.RawDeclared.machines.answer.End.TheVariants as ends
+use Rattle.papaya_maps.specs.Given.RawDeclared.machines.call.KeyCall.{KeyCall}
+use Rattle.papaya_maps.specs.Given.RawDeclared.machines.call.Calling.{Calling}
+use Rattle.papaya_maps.specs.Given.RawDeclared.machines.call.Calling.TheVariants as at
+use Rattle.papaya_maps.specs.Given.ResizeCopier.{copier_plan}
+use Rattle.papaya_maps.specs.Given.ResizeLookup.{names_pair}
+use Rattle.papaya_maps.specs.Given.ResizeDeclared.copier.Copier.{Copier}
+use Rattle.papaya_maps.specs.Given.ResizeDeclared.outcome.Outcome.{Outcome}
+use Rattle.papaya_maps.specs.Given.ResizeDeclared.outcome.Outcome.TheVariants as outcome
+use Rattle.papaya_maps.specs.Given.PointsTold.{IsRowOfCall}
+use Rattle.papaya_maps.proofs.Given.RuleKeys.Always.{always_steps}
 use Rattle.papaya_waits.proofs.CallPlans.{Continues, ending_goes, told_goes, goes_at}
 use Rattle.papaya_waits.proofs.Copiers.{Sees, copier_waits}
 

@@ -2,14 +2,14 @@
 use Rattle.std.specs.Prelude.{cond, Option, Some, None}
 use Rattle.std.proofs.Common.{◌≡◌, ℕ, suc, ◌<◌, ◌≤◌, ◌⊎◌, inl, inr, Bool, true, false, refl, ap, subst, arith}
 use Rattle.std.proofs.lemmas.Bool.{cases_lt}
-use Rattle.papaya_maps.specs.Given.Tables.Chunks.{is_incremental}
-use Rattle.papaya_maps.specs.Given.Tables.declared.setting.Setting.{Setting}
-use Rattle.papaya_maps.specs.Given.Rule.Chart.{Copying, Holds, Share, Free, Claimed, Done, Counted, Lost, Chart, is_marked, is_settled}
-use Rattle.papaya_maps.specs.Given.Rule.Maps.{spot_of}
-use Rattle.papaya_maps.specs.Given.Rule.Rule.{Agrees, Rule}
-use Rattle.papaya_maps.specs.Given.Points.FactsCopies.{ClaimsNone, HasDone}
-use Rattle.papaya_maps.specs.Given.Points.FactsCopiesBlocking.{HasNoShares}
-use Rattle.papaya_maps.specs.Given.Callers.Together.{UnderWay, in_slot}
+use Rattle.papaya_maps.specs.Given.TablesChunks.{is_incremental}
+use Rattle.papaya_maps.specs.Given.TablesDeclared.setting.Setting.{Setting}
+use Rattle.papaya_maps.specs.Given.RuleChart.{Copying, Holds, Share, Free, Claimed, Done, Counted, Lost, Chart, is_marked, is_settled}
+use Rattle.papaya_maps.specs.Given.RuleMaps.{spot_of}
+use Rattle.papaya_maps.specs.Given.RuleRule.{Agrees, Rule}
+use Rattle.papaya_maps.specs.Given.PointsFactsCopies.{ClaimsNone, HasDone}
+use Rattle.papaya_maps.specs.Given.PointsFactsCopiesBlocking.{HasNoShares}
+use Rattle.papaya_maps.specs.Given.CallersTogether.{UnderWay, in_slot}
 use Rattle.papaya_waits.specs.Others.{PairsAreCopiedByCalls}
 
 -- one of two, where the choice is made

@@ -2,39 +2,39 @@
 use Rattle.std.specs.Prelude.{◌==◌, ◌%◌, ◌+◌, ◌^◌, ◌&&◌, not, nat_lt, if◌then◌else◌, Ok, Err, bit_or}
 use Rattle.std.proofs.Common.{◌≡◌, ◌≢◌, ℕ, ◌/◌, Bool, true, false, Some, refl, ap}
 use Rattle.std.proofs.lemmas.Bool.{eqb-false}
-use Rattle.seize_acts.specs.Given.SeizeWords.Word.{block_in}
-use Rattle.seize_acts.specs.Given.SeizeWords.Mem.{Mem, Took, value_at, word_at, with_word}
-use Rattle.seize_acts.specs.Given.SeizeWords.Op.{Out, Found, Exchanged}
-use Rattle.seize_acts.specs.Given.SeizeWords.Plan.{Now, Seeing, Ends, Steps}
-use Rattle.seize_acts.proofs.Given.SeizeWords.OneOwner.Operations.{loaded, ored}
-use Rattle.seize_acts.specs.Given.Seize.declared.progress.Progress.{Progress}
-use Rattle.seize_acts.specs.Given.Seize.declared.progress.Progress.TheVariants as progress
-use Rattle.papaya_maps.specs.Given.Tables.Chunks.{is_incremental}
-use Rattle.papaya_maps.specs.Given.Tables.Marks.{has_mark}
-use Rattle.papaya_maps.specs.Given.Tables.TablePlaces.{at_word, at_place}
-use Rattle.papaya_maps.specs.Given.Tables.declared.marks.TheConstants.{COPYING, COPIED}
-use Rattle.papaya_maps.specs.Given.Tables.declared.node.Node.{Node}
-use Rattle.papaya_maps.specs.Given.Tables.declared.probe.Probe.{Probe}
-use Rattle.papaya_maps.specs.Given.Tables.declared.status.TheConstants.Status.{PROMOTED, ABORTED}
-use Rattle.papaya_maps.specs.Given.Tables.declared.table.Table.{Table}
-use Rattle.papaya_maps.specs.Given.Tables.declared.table_words.TheConstants.{STATUS}
-use Rattle.papaya_maps.specs.Given.Resize.Copier.{copier_plan, plan_at}
-use Rattle.papaya_maps.specs.Given.Resize.CopierClaims.{root_read, next_read, status_read, claim_read, claimed}
-use Rattle.papaya_maps.specs.Given.Resize.CopierCounts.{counted}
-use Rattle.papaya_maps.specs.Given.Resize.CopierFurther.{further_read, grown, replacement_read, remade}
-use Rattle.papaya_maps.specs.Given.Resize.CopierMarks.{is_mine, is_awaited, without_copying, probing, key_hash, marked, mine_marked, to}
-use Rattle.papaya_maps.specs.Given.Resize.CopierPlaces.{place_read, put_told}
-use Rattle.papaya_maps.specs.Given.Resize.CopierPromotes.{promoted, successor_read}
-use Rattle.papaya_maps.specs.Given.Resize.CopierStates.{standing, next_place, place_done}
-use Rattle.papaya_maps.specs.Given.Resize.NewTable.{new_table_plan}
-use Rattle.papaya_maps.specs.Given.Resize.declared.copier.Copier.{Copier}
-use Rattle.papaya_maps.specs.Given.Resize.declared.copier.Copying.{Copying as Point}
-use Rattle.papaya_maps.specs.Given.Resize.declared.copier.Copying.TheVariants as at
-use Rattle.papaya_maps.specs.Given.Resize.declared.new_table.NewTable.{NewTable}
-use Rattle.papaya_maps.specs.Given.Resize.declared.outcome.Outcome.{Outcome}
-use Rattle.papaya_maps.specs.Given.Resize.declared.outcome.Outcome.TheVariants as outcome
-use Rattle.papaya_maps.proofs.Given.Rule.Keys.Always.{Always, AlwaysOf, always_if, always_steps}
-use Rattle.papaya_maps.specs.Given.Points.Told.{IsRowOfCopier}
+use Rattle.seize_acts.specs.Given.SeizeWordsWord.{block_in}
+use Rattle.seize_acts.specs.Given.SeizeWordsMem.{Mem, Took, value_at, word_at, with_word}
+use Rattle.seize_acts.specs.Given.SeizeWordsOp.{Out, Found, Exchanged}
+use Rattle.seize_acts.specs.Given.SeizeWordsPlan.{Now, Seeing, Ends, Steps}
+use Rattle.seize_acts.proofs.Given.SeizeWordsOneOwner.Operations.{loaded, ored}
+use Rattle.seize_acts.specs.Given.SeizeDeclared.progress.Progress.{Progress}
+use Rattle.seize_acts.specs.Given.SeizeDeclared.progress.Progress.TheVariants as progress
+use Rattle.papaya_maps.specs.Given.TablesChunks.{is_incremental}
+use Rattle.papaya_maps.specs.Given.TablesMarks.{has_mark}
+use Rattle.papaya_maps.specs.Given.TablesTablePlaces.{at_word, at_place}
+use Rattle.papaya_maps.specs.Given.TablesDeclared.marks.TheConstants.{COPYING, COPIED}
+use Rattle.papaya_maps.specs.Given.TablesDeclared.node.Node.{Node}
+use Rattle.papaya_maps.specs.Given.TablesDeclared.probe.Probe.{Probe}
+use Rattle.papaya_maps.specs.Given.TablesDeclared.status.TheConstants.Status.{PROMOTED, ABORTED}
+use Rattle.papaya_maps.specs.Given.TablesDeclared.table.Table.{Table}
+use Rattle.papaya_maps.specs.Given.TablesDeclared.table_words.TheConstants.{STATUS}
+use Rattle.papaya_maps.specs.Given.ResizeCopier.{copier_plan, plan_at}
+use Rattle.papaya_maps.specs.Given.ResizeCopierClaims.{root_read, next_read, status_read, claim_read, claimed}
+use Rattle.papaya_maps.specs.Given.ResizeCopierCounts.{counted}
+use Rattle.papaya_maps.specs.Given.ResizeCopierFurther.{further_read, grown, replacement_read, remade}
+use Rattle.papaya_maps.specs.Given.ResizeCopierMarks.{is_mine, is_awaited, without_copying, probing, key_hash, marked, mine_marked, to}
+use Rattle.papaya_maps.specs.Given.ResizeCopierPlaces.{place_read, put_told}
+use Rattle.papaya_maps.specs.Given.ResizeCopierPromotes.{promoted, successor_read}
+use Rattle.papaya_maps.specs.Given.ResizeCopierStates.{standing, next_place, place_done}
+use Rattle.papaya_maps.specs.Given.ResizeNewTable.{new_table_plan}
+use Rattle.papaya_maps.specs.Given.ResizeDeclared.copier.Copier.{Copier}
+use Rattle.papaya_maps.specs.Given.ResizeDeclared.copier.Copying.{Copying as Point}
+use Rattle.papaya_maps.specs.Given.ResizeDeclared.copier.Copying.TheVariants as at
+use Rattle.papaya_maps.specs.Given.ResizeDeclared.new_table.NewTable.{NewTable}
+use Rattle.papaya_maps.specs.Given.ResizeDeclared.outcome.Outcome.{Outcome}
+use Rattle.papaya_maps.specs.Given.ResizeDeclared.outcome.Outcome.TheVariants as outcome
+use Rattle.papaya_maps.proofs.Given.RuleKeys.Always.{Always, AlwaysOf, always_if, always_steps}
+use Rattle.papaya_maps.specs.Given.PointsTold.{IsRowOfCopier}
 use Rattle.papaya_waits.proofs.Never.{Advances, always_within, new_table_goes}
 
 -- it goes on, or has ended

@@ -3,38 +3,38 @@
 use Rattle.std.specs.Prelude.{if◌then◌else◌, ◌==◌, ◌*◌, cond, Some}
 use Rattle.std.proofs.Common.{◌≡◌, ◌≢◌, ℕ, suc, ◌+◌, ◌%◌, ◌^◌, ◌<◌, ◌⊎◌, inl, inr, Bool, true, false, refl, ap, sym, subst, ◌∙◌, arith, eq-or-lt_of_le}
 use Rattle.std.proofs.lemmas.Bool.{eq-eqb, ne_eqb}
-use Rattle.seize_acts.specs.Given.SeizeWords.Mem.{Mem, Took, value_at, word_at, with_word}
-use Rattle.seize_acts.specs.Given.SeizeWords.Plan.{Steps, Ends}
-use Rattle.seize_acts.specs.Given.SeizeWords.declared.at.At.TheVariants.{Root}
-use Rattle.seize_acts.proofs.Given.SeizeWords.OneOwner.Operations.{added, exchanged}
-use Rattle.seize_acts.specs.Given.Seize.World.{World}
-use Rattle.papaya_maps.specs.Given.Tables.Chunks.{is_incremental}
-use Rattle.papaya_maps.specs.Given.Tables.TablePlaces.{at_word}
-use Rattle.papaya_maps.specs.Given.Tables.declared.node.Node.{Node}
-use Rattle.papaya_maps.specs.Given.Tables.declared.setting.Setting.{Setting}
-use Rattle.papaya_maps.specs.Given.Tables.declared.table.Table.{Table}
-use Rattle.papaya_maps.specs.Given.Tables.declared.table_words.TheConstants.{COPIED}
-use Rattle.papaya_maps.specs.Given.Resize.Copier.{plan_at, copier_plan}
-use Rattle.papaya_maps.specs.Given.Resize.CopierCounts.{counts, counted, to}
-use Rattle.papaya_maps.specs.Given.Resize.CopierPromotes.{promotes, promoted}
-use Rattle.papaya_maps.specs.Given.Resize.CopierStates.{standing, behind}
-use Rattle.papaya_maps.specs.Given.Resize.declared.outcome.Outcome.{Outcome}
-use Rattle.papaya_maps.specs.Given.Resize.declared.outcome.Outcome.TheVariants.{Goes}
-use Rattle.papaya_maps.specs.Given.Resize.declared.copier.Copier.{Copier}
-use Rattle.papaya_maps.specs.Given.Resize.declared.copier.Copying.{Copying as Point}
-use Rattle.papaya_maps.specs.Given.Resize.declared.copier.Copying.TheVariants as at
-use Rattle.papaya_maps.specs.Given.Rule.Chart.{Share, Chart, is_counted}
-use Rattle.papaya_maps.specs.Given.Rule.InWorld.{IsMapIn}
-use Rattle.papaya_maps.specs.Given.Rule.Maps.{spot_of}
-use Rattle.papaya_maps.specs.Given.Rule.Moves.{Counts, after, with_counted}
-use Rattle.papaya_maps.specs.Given.Rule.Rule.{Rule, total}
-use Rattle.papaya_maps.specs.Given.Rule.Words.{Blocks}
-use Rattle.papaya_maps.proofs.Given.Rule.Moves.Totals.{total_with_counted}
-use Rattle.papaya_maps.proofs.Given.Rule.Words.TablesSeen.{len_is}
-use Rattle.papaya_maps.proofs.Given.Rule.World.WentIncremental.{rule_incremental}
-use Rattle.papaya_maps.specs.Given.Points.FactsCopies.{CopyingFacts, CopierFacts}
-use Rattle.papaya_maps.specs.Given.Points.ToldMoves.{MovedAt, MovedPromotes}
-use Rattle.papaya_maps.proofs.Given.Points.Copiers.CopiersCounted.{copied_word, no_wrap}
+use Rattle.seize_acts.specs.Given.SeizeWordsMem.{Mem, Took, value_at, word_at, with_word}
+use Rattle.seize_acts.specs.Given.SeizeWordsPlan.{Steps, Ends}
+use Rattle.seize_acts.specs.Given.SeizeWordsDeclared.at.At.TheVariants.{Root}
+use Rattle.seize_acts.proofs.Given.SeizeWordsOneOwner.Operations.{added, exchanged}
+use Rattle.seize_acts.specs.Given.SeizeWorld.{World}
+use Rattle.papaya_maps.specs.Given.TablesChunks.{is_incremental}
+use Rattle.papaya_maps.specs.Given.TablesTablePlaces.{at_word}
+use Rattle.papaya_maps.specs.Given.TablesDeclared.node.Node.{Node}
+use Rattle.papaya_maps.specs.Given.TablesDeclared.setting.Setting.{Setting}
+use Rattle.papaya_maps.specs.Given.TablesDeclared.table.Table.{Table}
+use Rattle.papaya_maps.specs.Given.TablesDeclared.table_words.TheConstants.{COPIED}
+use Rattle.papaya_maps.specs.Given.ResizeCopier.{plan_at, copier_plan}
+use Rattle.papaya_maps.specs.Given.ResizeCopierCounts.{counts, counted, to}
+use Rattle.papaya_maps.specs.Given.ResizeCopierPromotes.{promotes, promoted}
+use Rattle.papaya_maps.specs.Given.ResizeCopierStates.{standing, behind}
+use Rattle.papaya_maps.specs.Given.ResizeDeclared.outcome.Outcome.{Outcome}
+use Rattle.papaya_maps.specs.Given.ResizeDeclared.outcome.Outcome.TheVariants.{Goes}
+use Rattle.papaya_maps.specs.Given.ResizeDeclared.copier.Copier.{Copier}
+use Rattle.papaya_maps.specs.Given.ResizeDeclared.copier.Copying.{Copying as Point}
+use Rattle.papaya_maps.specs.Given.ResizeDeclared.copier.Copying.TheVariants as at
+use Rattle.papaya_maps.specs.Given.RuleChart.{Share, Chart, is_counted}
+use Rattle.papaya_maps.specs.Given.RuleInWorld.{IsMapIn}
+use Rattle.papaya_maps.specs.Given.RuleMaps.{spot_of}
+use Rattle.papaya_maps.specs.Given.RuleMoves.{Counts, after, with_counted}
+use Rattle.papaya_maps.specs.Given.RuleRule.{Rule, total}
+use Rattle.papaya_maps.specs.Given.RuleWords.{Blocks}
+use Rattle.papaya_maps.proofs.Given.RuleMoves.Totals.{total_with_counted}
+use Rattle.papaya_maps.proofs.Given.RuleWords.TablesSeen.{len_is}
+use Rattle.papaya_maps.proofs.Given.RuleWorld.WentIncremental.{rule_incremental}
+use Rattle.papaya_maps.specs.Given.PointsFactsCopies.{CopyingFacts, CopierFacts}
+use Rattle.papaya_maps.specs.Given.PointsToldMoves.{MovedAt, MovedPromotes}
+use Rattle.papaya_maps.proofs.Given.PointsCopiers.CopiersCounted.{copied_word, no_wrap}
 use Rattle.papaya_waits.specs.Others.{IsToCount, IsOpen, EndsAt}
 use Rattle.papaya_waits.proofs.Endings as endings
 use Rattle.papaya_waits.proofs.Endings.{left_over, OthersEnd, AllOr, AllEnd}

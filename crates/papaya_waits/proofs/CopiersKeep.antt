@@ -2,31 +2,31 @@
 use Rattle.std.specs.Prelude.{Option, Some, None}
 use Rattle.std.specs.Int.{IsPowerOfTwo}
 use Rattle.std.proofs.Common.{◌≡◌, ℕ, Bool, true, ◌⊎◌, subst}
-use Rattle.seize_acts.specs.Given.SeizeWords.Mem.{Mem, Took, value_at}
-use Rattle.seize_acts.specs.Given.SeizeWords.Plan.{Steps}
-use Rattle.seize_acts.specs.Given.Seize.World.{World, with_at}
-use Rattle.papaya_maps.specs.Given.Tables.Chunks.{is_incremental}
-use Rattle.papaya_maps.specs.Given.Tables.declared.node.Node.{Node}
-use Rattle.papaya_maps.specs.Given.Tables.declared.setting.Setting.{Setting}
-use Rattle.papaya_maps.specs.Given.Tables.declared.table.Table.{Table}
-use Rattle.papaya_maps.specs.Given.Resize.Copier.{copier_plan}
-use Rattle.papaya_maps.specs.Given.Resize.declared.outcome.Outcome.{Outcome}
-use Rattle.papaya_maps.specs.Given.Resize.declared.outcome.Outcome.TheVariants as outcome
-use Rattle.papaya_maps.specs.Given.Resize.declared.copier.Copier.{Copier}
-use Rattle.papaya_maps.specs.Given.Resize.declared.copier.Copying.TheVariants as copies
-use Rattle.papaya_maps.specs.Given.Rule.Chart.{Chart}
-use Rattle.papaya_maps.specs.Given.Rule.InWorld.{IsMapIn}
-use Rattle.papaya_maps.specs.Given.Rule.Maps.{spot_of}
-use Rattle.papaya_maps.specs.Given.Rule.Moves.{Move, after}
-use Rattle.papaya_maps.specs.Given.Rule.Words.{Blocks}
-use Rattle.papaya_maps.proofs.Given.Rule.World.WentIncremental.{rule_incremental}
-use Rattle.papaya_maps.specs.Given.Points.FactsCopies.{CopierFacts}
-use Rattle.papaya_maps.specs.Given.Points.Steps.{AreLawful}
-use Rattle.papaya_maps.specs.Given.Points.Told.{IsBeside, IsRowOfCopier}
-use Rattle.papaya_maps.specs.Given.Points.ToldMoves.{MovedAt}
-use Rattle.papaya_maps.proofs.Given.Points.Copiers.CopiersWrote.{CopierMoved}
-use Rattle.papaya_maps.proofs.Given.Points.Copiers.Points.{went_copier_moved}
-use Rattle.papaya_maps.specs.Given.Callers.Together.{UnderWay}
+use Rattle.seize_acts.specs.Given.SeizeWordsMem.{Mem, Took, value_at}
+use Rattle.seize_acts.specs.Given.SeizeWordsPlan.{Steps}
+use Rattle.seize_acts.specs.Given.SeizeWorld.{World, with_at}
+use Rattle.papaya_maps.specs.Given.TablesChunks.{is_incremental}
+use Rattle.papaya_maps.specs.Given.TablesDeclared.node.Node.{Node}
+use Rattle.papaya_maps.specs.Given.TablesDeclared.setting.Setting.{Setting}
+use Rattle.papaya_maps.specs.Given.TablesDeclared.table.Table.{Table}
+use Rattle.papaya_maps.specs.Given.ResizeCopier.{copier_plan}
+use Rattle.papaya_maps.specs.Given.ResizeDeclared.outcome.Outcome.{Outcome}
+use Rattle.papaya_maps.specs.Given.ResizeDeclared.outcome.Outcome.TheVariants as outcome
+use Rattle.papaya_maps.specs.Given.ResizeDeclared.copier.Copier.{Copier}
+use Rattle.papaya_maps.specs.Given.ResizeDeclared.copier.Copying.TheVariants as copies
+use Rattle.papaya_maps.specs.Given.RuleChart.{Chart}
+use Rattle.papaya_maps.specs.Given.RuleInWorld.{IsMapIn}
+use Rattle.papaya_maps.specs.Given.RuleMaps.{spot_of}
+use Rattle.papaya_maps.specs.Given.RuleMoves.{Move, after}
+use Rattle.papaya_maps.specs.Given.RuleWords.{Blocks}
+use Rattle.papaya_maps.proofs.Given.RuleWorld.WentIncremental.{rule_incremental}
+use Rattle.papaya_maps.specs.Given.PointsFactsCopies.{CopierFacts}
+use Rattle.papaya_maps.specs.Given.PointsSteps.{AreLawful}
+use Rattle.papaya_maps.specs.Given.PointsTold.{IsBeside, IsRowOfCopier}
+use Rattle.papaya_maps.specs.Given.PointsToldMoves.{MovedAt}
+use Rattle.papaya_maps.proofs.Given.PointsCopiers.CopiersWrote.{CopierMoved}
+use Rattle.papaya_maps.proofs.Given.PointsCopiers.Points.{went_copier_moved}
+use Rattle.papaya_maps.specs.Given.CallersTogether.{UnderWay}
 use Rattle.papaya_waits.specs.Others.{HaveEnds}
 use Rattle.papaya_waits.proofs.CopiersEnd.{copier_ends}
 use Rattle.papaya_waits.proofs.EndingCalls.{AnotherAt, copier_then, keeps_beside, keeps_copying}

@@ -1,47 +1,47 @@
 -- A reservation and a sweep wait within their copyings, or within rows of the collector: so their plans say, whatever the memory is.
 use Rattle.std.specs.Prelude.{◌==◌, ◌&&◌, nat_lt, if◌then◌else◌, Ok, Err}
 use Rattle.std.proofs.Common.{◌≡◌, ℕ, ◌^◌, Bool, true, false, ap, sym, subst, ◌∙◌}
-use Rattle.seize_acts.specs.Given.SeizeWords.Word.{block_in}
-use Rattle.seize_acts.specs.Given.SeizeWords.declared.fault.Fault.TheVariants.{Capacity}
-use Rattle.seize_acts.specs.Given.SeizeWords.Mem.{Mem, Took, value_at}
-use Rattle.seize_acts.specs.Given.SeizeWords.Op.{Out, Found, Exchanged}
-use Rattle.seize_acts.specs.Given.SeizeWords.Plan.{Steps}
-use Rattle.seize_acts.proofs.Given.SeizeRule.Rows.Leaving.{steps_back}
-use Rattle.seize_acts.specs.Given.Seize.declared.progress.Progress.{Progress}
-use Rattle.seize_acts.specs.Given.Seize.declared.progress.Progress.TheVariants as progress
-use Rattle.seize_acts.specs.Given.Seize.declared.rows.settle.Settled.{Settled}
-use Rattle.seize_acts.specs.Given.Seize.declared.rows.settle.Settled.TheVariants as settled
-use Rattle.papaya_maps.specs.Given.Tables.Marks.{has_mark}
-use Rattle.papaya_maps.specs.Given.Tables.Nodes.{table_seen}
-use Rattle.papaya_maps.specs.Given.Tables.declared.marks.TheConstants.{COPYING}
-use Rattle.papaya_maps.specs.Given.Tables.declared.node.Node.{Node}
-use Rattle.papaya_maps.specs.Given.Tables.declared.table.Table.{Table}
-use Rattle.papaya_maps.specs.Given.Resize.Copier.{copier_plan}
-use Rattle.papaya_maps.specs.Given.Resize.Dispose.{dispose_plan}
-use Rattle.papaya_maps.specs.Given.Resize.NewTable.{new_table_plan}
-use Rattle.papaya_maps.specs.Given.Resize.Sum.{sum_plan}
-use Rattle.papaya_maps.specs.Given.Resize.declared.copier.Copier.{Copier}
-use Rattle.papaya_maps.specs.Given.Resize.declared.dispose.Dispose.{Dispose}
-use Rattle.papaya_maps.specs.Given.Resize.declared.new_table.NewTable.{NewTable}
-use Rattle.papaya_maps.specs.Given.Resize.declared.outcome.Outcome.{Outcome}
-use Rattle.papaya_maps.specs.Given.Resize.declared.outcome.Outcome.TheVariants as outcome
-use Rattle.papaya_maps.specs.Given.Resize.declared.sum.Sum.{Sum}
-use Rattle.papaya_maps.specs.Given.Reserves.Reserve as reserve
-use Rattle.papaya_maps.specs.Given.Reserves.declared.reserve.Reserve.{Reserve}
-use Rattle.papaya_maps.specs.Given.Reserves.declared.reserve.Reserving.{Reserving}
-use Rattle.papaya_maps.specs.Given.Reserves.declared.reserve.Reserving.TheVariants as reserves
-use Rattle.papaya_maps.specs.Given.Sweeps.Sweep as sweep
-use Rattle.papaya_maps.specs.Given.Sweeps.SweepPoints.{removes, standing, further, tableless, beginning, entering, telling, told, at_pair, seen}
-use Rattle.papaya_maps.specs.Given.Sweeps.declared.sweep.Purpose.{Purpose}
-use Rattle.papaya_maps.specs.Given.Sweeps.declared.sweep.Purpose.TheVariants.{Walks, Clears, Retains}
-use Rattle.papaya_maps.specs.Given.Sweeps.declared.sweep.Sweep.{Sweep}
-use Rattle.papaya_maps.specs.Given.Sweeps.declared.sweep.Sweeping.{Sweeping}
-use Rattle.papaya_maps.specs.Given.Sweeps.declared.sweep.Sweeping.TheVariants as sweeps
-use Rattle.papaya_maps.specs.Given.Sweeps.declared.sweep.Swept.{Swept}
-use Rattle.papaya_maps.specs.Given.Sweeps.declared.sweep.Swept.TheVariants as swept
-use Rattle.papaya_maps.proofs.Given.Rule.Keys.Always.{Always, AlwaysOf, always_if, always_steps}
-use Rattle.papaya_maps.specs.Given.Late.ToldReserves.{IsRowOfReserve}
-use Rattle.papaya_maps.specs.Given.Late.ToldSweeps.{IsRowOfSweep}
+use Rattle.seize_acts.specs.Given.SeizeWordsWord.{block_in}
+use Rattle.seize_acts.specs.Given.SeizeWordsDeclared.fault.Fault.TheVariants.{Capacity}
+use Rattle.seize_acts.specs.Given.SeizeWordsMem.{Mem, Took, value_at}
+use Rattle.seize_acts.specs.Given.SeizeWordsOp.{Out, Found, Exchanged}
+use Rattle.seize_acts.specs.Given.SeizeWordsPlan.{Steps}
+use Rattle.seize_acts.proofs.Given.SeizeRuleRows.Leaving.{steps_back}
+use Rattle.seize_acts.specs.Given.SeizeDeclared.progress.Progress.{Progress}
+use Rattle.seize_acts.specs.Given.SeizeDeclared.progress.Progress.TheVariants as progress
+use Rattle.seize_acts.specs.Given.SeizeDeclared.rows.settle.Settled.{Settled}
+use Rattle.seize_acts.specs.Given.SeizeDeclared.rows.settle.Settled.TheVariants as settled
+use Rattle.papaya_maps.specs.Given.TablesMarks.{has_mark}
+use Rattle.papaya_maps.specs.Given.TablesNodes.{table_seen}
+use Rattle.papaya_maps.specs.Given.TablesDeclared.marks.TheConstants.{COPYING}
+use Rattle.papaya_maps.specs.Given.TablesDeclared.node.Node.{Node}
+use Rattle.papaya_maps.specs.Given.TablesDeclared.table.Table.{Table}
+use Rattle.papaya_maps.specs.Given.ResizeCopier.{copier_plan}
+use Rattle.papaya_maps.specs.Given.ResizeDispose.{dispose_plan}
+use Rattle.papaya_maps.specs.Given.ResizeNewTable.{new_table_plan}
+use Rattle.papaya_maps.specs.Given.ResizeSum.{sum_plan}
+use Rattle.papaya_maps.specs.Given.ResizeDeclared.copier.Copier.{Copier}
+use Rattle.papaya_maps.specs.Given.ResizeDeclared.dispose.Dispose.{Dispose}
+use Rattle.papaya_maps.specs.Given.ResizeDeclared.new_table.NewTable.{NewTable}
+use Rattle.papaya_maps.specs.Given.ResizeDeclared.outcome.Outcome.{Outcome}
+use Rattle.papaya_maps.specs.Given.ResizeDeclared.outcome.Outcome.TheVariants as outcome
+use Rattle.papaya_maps.specs.Given.ResizeDeclared.sum.Sum.{Sum}
+use Rattle.papaya_maps.specs.Given.ReservesReserve as reserve
+use Rattle.papaya_maps.specs.Given.ReservesDeclared.reserve.Reserve.{Reserve}
+use Rattle.papaya_maps.specs.Given.ReservesDeclared.reserve.Reserving.{Reserving}
+use Rattle.papaya_maps.specs.Given.ReservesDeclared.reserve.Reserving.TheVariants as reserves
+use Rattle.papaya_maps.specs.Given.SweepsSweep as sweep
+use Rattle.papaya_maps.specs.Given.SweepsSweepPoints.{removes, standing, further, tableless, beginning, entering, telling, told, at_pair, seen}
+use Rattle.papaya_maps.specs.Given.SweepsDeclared.sweep.Purpose.{Purpose}
+use Rattle.papaya_maps.specs.Given.SweepsDeclared.sweep.Purpose.TheVariants.{Walks, Clears, Retains}
+use Rattle.papaya_maps.specs.Given.SweepsDeclared.sweep.Sweep.{Sweep}
+use Rattle.papaya_maps.specs.Given.SweepsDeclared.sweep.Sweeping.{Sweeping}
+use Rattle.papaya_maps.specs.Given.SweepsDeclared.sweep.Sweeping.TheVariants as sweeps
+use Rattle.papaya_maps.specs.Given.SweepsDeclared.sweep.Swept.{Swept}
+use Rattle.papaya_maps.specs.Given.SweepsDeclared.sweep.Swept.TheVariants as swept
+use Rattle.papaya_maps.proofs.Given.RuleKeys.Always.{Always, AlwaysOf, always_if, always_steps}
+use Rattle.papaya_maps.specs.Given.LateToldReserves.{IsRowOfReserve}
+use Rattle.papaya_maps.specs.Given.LateToldSweeps.{IsRowOfSweep}
 use Rattle.papaya_waits.proofs.Copiers.{Proceeds, Sees, copier_waits}
 use Rattle.papaya_waits.proofs.Never.{Advances, Settles, always_within, sum_goes, new_table_goes, dispose_goes}
 

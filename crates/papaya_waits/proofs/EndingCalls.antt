@@ -2,13 +2,13 @@
 use Rattle.std.specs.Prelude.{Option, Some, None}
 use Rattle.std.proofs.Common.{◌≡◌, ◌≢◌, ℕ, ◌⊎◌, inl, inr, Bool, true, false, refl, sym, subst, ◌∙◌, eqb-true, eqb}
 use Rattle.std.proofs.lemmas.Bool.{eq-eqb}
-use Rattle.seize_acts.specs.Given.Seize.World.{with_at}
-use Rattle.papaya_maps.specs.Given.Resize.declared.copier.Copier.{Copier}
-use Rattle.papaya_maps.specs.Given.Resize.declared.copier.Copying.{Copying as Point}
-use Rattle.papaya_maps.specs.Given.Resize.declared.copier.Copying.TheVariants as at
-use Rattle.papaya_maps.specs.Given.Rule.Chart.{Chart}
-use Rattle.papaya_maps.specs.Given.Callers.Together.{UnderWay}
-use Rattle.papaya_maps.proofs.Given.Callers.Together.At.{at_other, at_same}
+use Rattle.seize_acts.specs.Given.SeizeWorld.{with_at}
+use Rattle.papaya_maps.specs.Given.ResizeDeclared.copier.Copier.{Copier}
+use Rattle.papaya_maps.specs.Given.ResizeDeclared.copier.Copying.{Copying as Point}
+use Rattle.papaya_maps.specs.Given.ResizeDeclared.copier.Copying.TheVariants as at
+use Rattle.papaya_maps.specs.Given.RuleChart.{Chart}
+use Rattle.papaya_maps.specs.Given.CallersTogether.{UnderWay}
+use Rattle.papaya_maps.proofs.Given.CallersTogether.At.{at_other, at_same}
 use Rattle.papaya_waits.specs.Others.{IsOpen, EndsAt, HaveEnds, copier_of}
 use Rattle.papaya_waits.proofs.Endings.{OthersEnd, AllOr, AllEnd, weaker}
 

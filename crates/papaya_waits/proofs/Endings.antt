@@ -2,17 +2,17 @@
 use Rattle.std.specs.Prelude.{cond, eqb}
 use Rattle.std.proofs.Common.{◌≡◌, ◌≢◌, ℕ, zero, suc, ◌<◌, ◌≤◌, ◌⊎◌, inl, inr, Bool, true, false, refl, ap, sym, subst, ◌∙◌, arith, eqb-true}
 use Rattle.std.proofs.lemmas.Bool.{cases_lt, eq-eqb, ne_eqb}
-use Rattle.papaya_maps.specs.Given.Tables.declared.status.TheConstants.Status.{PENDING, ABORTED, PROMOTED}
-use Rattle.papaya_maps.specs.Given.Resize.CopierStates.{standing}
-use Rattle.papaya_maps.specs.Given.Resize.declared.copier.Copier.{Copier}
-use Rattle.papaya_maps.specs.Given.Resize.declared.copier.Copying.{Copying as Point}
-use Rattle.papaya_maps.specs.Given.Resize.declared.copier.Copying.TheVariants as at
-use Rattle.papaya_maps.specs.Given.Rule.Chart.{Place, Empty, Tombstone, Holds, Share, Free, Claimed, Done, Counted, Lost, Chart, put_in, is_counted}
-use Rattle.papaya_maps.specs.Given.Rule.Maps.{spot_of}
-use Rattle.papaya_maps.specs.Given.Rule.Moves.{Move, Links, Stores, Replaces, Removes, Marks, Unmarks, Puts, Covers, Reclaims, Counts, Promotes, Announces, after, share_of, with_counted}
-use Rattle.papaya_maps.specs.Given.Rule.Rule.{Agrees, Rule, total}
-use Rattle.papaya_maps.specs.Given.Points.Told.{IsBeside}
-use Rattle.papaya_maps.specs.Given.Points.ToldMoves.{IsPlain, MovedPlain}
+use Rattle.papaya_maps.specs.Given.TablesDeclared.status.TheConstants.Status.{PENDING, ABORTED, PROMOTED}
+use Rattle.papaya_maps.specs.Given.ResizeCopierStates.{standing}
+use Rattle.papaya_maps.specs.Given.ResizeDeclared.copier.Copier.{Copier}
+use Rattle.papaya_maps.specs.Given.ResizeDeclared.copier.Copying.{Copying as Point}
+use Rattle.papaya_maps.specs.Given.ResizeDeclared.copier.Copying.TheVariants as at
+use Rattle.papaya_maps.specs.Given.RuleChart.{Place, Empty, Tombstone, Holds, Share, Free, Claimed, Done, Counted, Lost, Chart, put_in, is_counted}
+use Rattle.papaya_maps.specs.Given.RuleMaps.{spot_of}
+use Rattle.papaya_maps.specs.Given.RuleMoves.{Move, Links, Stores, Replaces, Removes, Marks, Unmarks, Puts, Covers, Reclaims, Counts, Promotes, Announces, after, share_of, with_counted}
+use Rattle.papaya_maps.specs.Given.RuleRule.{Agrees, Rule, total}
+use Rattle.papaya_maps.specs.Given.PointsTold.{IsBeside}
+use Rattle.papaya_maps.specs.Given.PointsToldMoves.{IsPlain, MovedPlain}
 use Rattle.papaya_waits.specs.Others.{IsToCount, IsOpen, EndsAt}
 use Rattle.papaya_waits.specs.Waits.{IsUnfinished}
 

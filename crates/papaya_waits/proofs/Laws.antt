@@ -1,6 +1,6 @@
 -- What the laws promise, clause by clause, for the crates above.
 use Rattle.std.proofs.Common.{ℕ, Bool}
-use Rattle.papaya_maps.specs.Given.Tables.declared.setting.Setting.{Setting}
+use Rattle.papaya_maps.specs.Given.TablesDeclared.setting.Setting.{Setting}
 use Rattle.papaya_waits.specs.Promises.{CallsWaitForACopying, RoomsWaitForACopying, SweepsWaitForACopying, LookupsNeverWait, CallRowsWaitForAHolder, RoomRowsWaitForAHolder, SweepRowsWaitForAHolder}
 use Rattle.papaya_waits.proofs.Promised as promised
 use Rattle.papaya_waits.proofs.RowsPromised as rows

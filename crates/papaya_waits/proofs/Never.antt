@@ -1,41 +1,41 @@
 -- Machines within calls that never wait, whatever the memory is: lookups, countings, makings of tables, and disposals before their rows.
 use Rattle.std.specs.Prelude.{◌/◌, ◌==◌, nat_lt, if◌then◌else◌, Ok, Err, Option, Some, None}
 use Rattle.std.proofs.Common.{ℕ, Bool, true, false}
-use Rattle.seize_acts.specs.Given.SeizeWords.Op.{Out, Found, Made, Exchanged}
-use Rattle.seize_acts.specs.Given.SeizeWords.Plan.{Plan, Then, Turn, Do, Now, Seeing, Sure, then_as, plan_as}
-use Rattle.seize_acts.specs.Given.Seize.declared.progress.Progress.{Progress}
-use Rattle.seize_acts.specs.Given.Seize.declared.progress.Progress.TheVariants as progress
-use Rattle.seize_acts.specs.Given.Seize.declared.rows.settle.Settled.{Settled}
-use Rattle.seize_acts.specs.Given.Seize.declared.rows.settle.Settled.TheVariants as settled
-use Rattle.papaya_maps.specs.Given.Tables.Chunks.{is_incremental}
-use Rattle.papaya_maps.specs.Given.Tables.Finding.{finding, may_name}
-use Rattle.papaya_maps.specs.Given.Tables.Nodes.{table_seen}
-use Rattle.papaya_maps.specs.Given.Tables.Trials.{next_trial}
-use Rattle.papaya_maps.specs.Given.Tables.declared.finding.Aim.TheVariants.{Looks}
-use Rattle.papaya_maps.specs.Given.Tables.declared.finding.Finding.{Finding}
-use Rattle.papaya_maps.specs.Given.Tables.declared.finding.Finding.TheVariants as is
-use Rattle.papaya_maps.specs.Given.Tables.declared.lengths.Reason.{Reason}
-use Rattle.papaya_maps.specs.Given.Tables.declared.node.Node.{Node}
-use Rattle.papaya_maps.specs.Given.Tables.declared.table.Table.{Table}
-use Rattle.papaya_maps.specs.Given.Tables.declared.trial.Trial.{Trial}
-use Rattle.papaya_maps.specs.Given.Resize.Lookup as lookups
-use Rattle.papaya_maps.specs.Given.Resize.Sum as sums
-use Rattle.papaya_maps.specs.Given.Resize.NewTable as tables
-use Rattle.papaya_maps.specs.Given.Resize.Dispose as disposals
-use Rattle.papaya_maps.specs.Given.Resize.declared.dispose.Dispose.{Dispose}
-use Rattle.papaya_maps.specs.Given.Resize.declared.dispose.Disposing.{Disposing}
-use Rattle.papaya_maps.specs.Given.Resize.declared.dispose.Disposing.TheVariants as disposing
-use Rattle.papaya_maps.specs.Given.Resize.declared.lookup.Lookup.{Lookup}
-use Rattle.papaya_maps.specs.Given.Resize.declared.lookup.Looking.{Looking}
-use Rattle.papaya_maps.specs.Given.Resize.declared.lookup.Looking.TheVariants as looking
-use Rattle.papaya_maps.specs.Given.Resize.declared.new_table.NewTable.{NewTable}
-use Rattle.papaya_maps.specs.Given.Resize.declared.new_table.Making.{Making}
-use Rattle.papaya_maps.specs.Given.Resize.declared.new_table.Making.TheVariants as making
-use Rattle.papaya_maps.specs.Given.Resize.declared.sum.Sum.{Sum}
-use Rattle.papaya_maps.specs.Given.Resize.declared.sum.Summing.{Summing}
-use Rattle.papaya_maps.specs.Given.Resize.declared.sum.Summing.TheVariants as summing
-use Rattle.papaya_maps.specs.Given.Points.Told.{IsRowOf}
-use Rattle.papaya_maps.proofs.Given.Rule.Keys.Always.{Always, AlwaysOf, always_if}
+use Rattle.seize_acts.specs.Given.SeizeWordsOp.{Out, Found, Made, Exchanged}
+use Rattle.seize_acts.specs.Given.SeizeWordsPlan.{Plan, Then, Turn, Do, Now, Seeing, Sure, then_as, plan_as}
+use Rattle.seize_acts.specs.Given.SeizeDeclared.progress.Progress.{Progress}
+use Rattle.seize_acts.specs.Given.SeizeDeclared.progress.Progress.TheVariants as progress
+use Rattle.seize_acts.specs.Given.SeizeDeclared.rows.settle.Settled.{Settled}
+use Rattle.seize_acts.specs.Given.SeizeDeclared.rows.settle.Settled.TheVariants as settled
+use Rattle.papaya_maps.specs.Given.TablesChunks.{is_incremental}
+use Rattle.papaya_maps.specs.Given.TablesFinding.{finding, may_name}
+use Rattle.papaya_maps.specs.Given.TablesNodes.{table_seen}
+use Rattle.papaya_maps.specs.Given.TablesTrials.{next_trial}
+use Rattle.papaya_maps.specs.Given.TablesDeclared.finding.Aim.TheVariants.{Looks}
+use Rattle.papaya_maps.specs.Given.TablesDeclared.finding.Finding.{Finding}
+use Rattle.papaya_maps.specs.Given.TablesDeclared.finding.Finding.TheVariants as is
+use Rattle.papaya_maps.specs.Given.TablesDeclared.lengths.Reason.{Reason}
+use Rattle.papaya_maps.specs.Given.TablesDeclared.node.Node.{Node}
+use Rattle.papaya_maps.specs.Given.TablesDeclared.table.Table.{Table}
+use Rattle.papaya_maps.specs.Given.TablesDeclared.trial.Trial.{Trial}
+use Rattle.papaya_maps.specs.Given.ResizeLookup as lookups
+use Rattle.papaya_maps.specs.Given.ResizeSum as sums
+use Rattle.papaya_maps.specs.Given.ResizeNewTable as tables
+use Rattle.papaya_maps.specs.Given.ResizeDispose as disposals
+use Rattle.papaya_maps.specs.Given.ResizeDeclared.dispose.Dispose.{Dispose}
+use Rattle.papaya_maps.specs.Given.ResizeDeclared.dispose.Disposing.{Disposing}
+use Rattle.papaya_maps.specs.Given.ResizeDeclared.dispose.Disposing.TheVariants as disposing
+use Rattle.papaya_maps.specs.Given.ResizeDeclared.lookup.Lookup.{Lookup}
+use Rattle.papaya_maps.specs.Given.ResizeDeclared.lookup.Looking.{Looking}
+use Rattle.papaya_maps.specs.Given.ResizeDeclared.lookup.Looking.TheVariants as looking
+use Rattle.papaya_maps.specs.Given.ResizeDeclared.new_table.NewTable.{NewTable}
+use Rattle.papaya_maps.specs.Given.ResizeDeclared.new_table.Making.{Making}
+use Rattle.papaya_maps.specs.Given.ResizeDeclared.new_table.Making.TheVariants as making
+use Rattle.papaya_maps.specs.Given.ResizeDeclared.sum.Sum.{Sum}
+use Rattle.papaya_maps.specs.Given.ResizeDeclared.sum.Summing.{Summing}
+use Rattle.papaya_maps.specs.Given.ResizeDeclared.sum.Summing.TheVariants as summing
+use Rattle.papaya_maps.specs.Given.PointsTold.{IsRowOf}
+use Rattle.papaya_maps.proofs.Given.RuleKeys.Always.{Always, AlwaysOf, always_if}
 
 -- what is so of each outcome within is so, turned, of each outcome of the whole
 module _ {T A B : Type 0} (Q : A → Type 0) (P : B → Type 0) (f : A → B) (turned : (a : A) → Q a → P (f a)) where

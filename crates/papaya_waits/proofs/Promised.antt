@@ -1,48 +1,48 @@
 -- What is promised of each step that answers that its call waits for a copying.
 use Rattle.std.specs.Prelude.{Option, Some}
 use Rattle.std.proofs.Common.{◌≡◌, ℕ, ◌<◌, Bool, true, false, cond, ◌⊎◌, inl, inr, refl, ap, sym, subst, ◌∙◌, arith}
-use Rattle.seize_acts.specs.Given.SeizeWords.Mem.{Took, value_at}
-use Rattle.seize_acts.specs.Given.SeizeWords.Plan.{Steps}
-use Rattle.seize_acts.specs.Given.Seize.World.{World, Rests, IsInside}
-use Rattle.papaya_maps.specs.Given.Tables.Chunks.{is_incremental}
-use Rattle.papaya_maps.specs.Given.Tables.declared.node.Node.{Node}
-use Rattle.papaya_maps.specs.Given.Tables.declared.setting.Setting.{Setting}
-use Rattle.papaya_maps.specs.Given.Tables.declared.table.Table.{Table}
-use Rattle.papaya_maps.specs.Given.Resize.declared.copier.Copier.{Copier}
-use Rattle.papaya_maps.specs.Given.Resize.declared.copier.Copying.{Copying as Point}
-use Rattle.papaya_maps.specs.Given.Resize.declared.copier.Copying.TheVariants as copies
-use Rattle.papaya_maps.specs.Given.Raw.Call.{plan_at}
-use Rattle.papaya_maps.specs.Given.Raw.declared.machines.answer.Called.{Called}
-use Rattle.papaya_maps.specs.Given.Raw.declared.machines.call.KeyCall.{KeyCall}
-use Rattle.papaya_maps.specs.Given.Raw.declared.machines.call.Calling.{Calling}
-use Rattle.papaya_maps.specs.Given.Raw.declared.machines.call.Calling.TheVariants as at
-use Rattle.papaya_maps.specs.Given.Reserves.declared.reserve.Reserving.{Reserving}
-use Rattle.papaya_maps.specs.Given.Reserves.declared.reserve.Reserving.TheVariants as reserves
-use Rattle.papaya_maps.specs.Given.Sweeps.declared.sweep.Sweep.{Sweep}
-use Rattle.papaya_maps.specs.Given.Sweeps.declared.sweep.Sweeping.{Sweeping}
-use Rattle.papaya_maps.specs.Given.Sweeps.declared.sweep.Sweeping.TheVariants as sweeps
-use Rattle.papaya_maps.specs.Given.Rule.Chart.{Chart}
-use Rattle.papaya_maps.specs.Given.Rule.Words.{Blocks, place_word}
-use Rattle.papaya_maps.specs.Given.Rule.Maps.{IsTrial}
-use Rattle.papaya_maps.specs.Given.Rule.InWorld.{IsMapIn}
-use Rattle.papaya_maps.proofs.Given.Rule.Keys.TriesSeen.{spot_inside}
-use Rattle.papaya_maps.proofs.Given.Rule.Words.TablesSeen.{place_there}
-use Rattle.papaya_maps.specs.Given.Points.FactsCalls.{Change, Unchanged, CallingFacts, CallFacts}
-use Rattle.papaya_maps.specs.Given.Points.FactsCopies.{CopyingFacts, CopierFacts}
-use Rattle.papaya_maps.specs.Given.Points.FactsCopiesBlocking.{CopierFactsBlocking}
-use Rattle.papaya_maps.specs.Given.Points.Told.{IsRowOfCall}
-use Rattle.papaya_maps.specs.Given.Late.LateCalls.{LateCalling, LateCallFacts}
-use Rattle.papaya_maps.specs.Given.Late.LateCopies.{LateCopierFacts}
-use Rattle.papaya_maps.specs.Given.Late.FactsReserves.{IsEnding, CopiesWhole, ReservingFacts, ReserveFacts}
-use Rattle.papaya_maps.specs.Given.Late.LateReserves.{LateReserving, LateReserveFacts}
-use Rattle.papaya_maps.specs.Given.Late.ToldReserves.{IsRowOfReserve}
-use Rattle.papaya_maps.specs.Given.Late.FactsSweeps.{SweepingFacts}
-use Rattle.papaya_maps.specs.Given.Callers.Rooms.{row_of_room, room_once_over}
-use Rattle.papaya_maps.specs.Given.Callers.Rows.{row_of, once_over}
-use Rattle.papaya_maps.specs.Given.Callers.Sights.{Sight, seen_by}
-use Rattle.papaya_maps.specs.Given.Callers.Together.{CallOnKey, UnderWay, OnKey, ForRoom, Knows, KnowsRoom, Together, in_slot}
-use Rattle.papaya_maps.proofs.Given.Callers.Sights.Seen.{map_seen}
-use Rattle.papaya_maps.proofs.Given.Callers.Together.Fits.{map_in_slot}
+use Rattle.seize_acts.specs.Given.SeizeWordsMem.{Took, value_at}
+use Rattle.seize_acts.specs.Given.SeizeWordsPlan.{Steps}
+use Rattle.seize_acts.specs.Given.SeizeWorld.{World, Rests, IsInside}
+use Rattle.papaya_maps.specs.Given.TablesChunks.{is_incremental}
+use Rattle.papaya_maps.specs.Given.TablesDeclared.node.Node.{Node}
+use Rattle.papaya_maps.specs.Given.TablesDeclared.setting.Setting.{Setting}
+use Rattle.papaya_maps.specs.Given.TablesDeclared.table.Table.{Table}
+use Rattle.papaya_maps.specs.Given.ResizeDeclared.copier.Copier.{Copier}
+use Rattle.papaya_maps.specs.Given.ResizeDeclared.copier.Copying.{Copying as Point}
+use Rattle.papaya_maps.specs.Given.ResizeDeclared.copier.Copying.TheVariants as copies
+use Rattle.papaya_maps.specs.Given.RawCall.{plan_at}
+use Rattle.papaya_maps.specs.Given.RawDeclared.machines.answer.Called.{Called}
+use Rattle.papaya_maps.specs.Given.RawDeclared.machines.call.KeyCall.{KeyCall}
+use Rattle.papaya_maps.specs.Given.RawDeclared.machines.call.Calling.{Calling}
+use Rattle.papaya_maps.specs.Given.RawDeclared.machines.call.Calling.TheVariants as at
+use Rattle.papaya_maps.specs.Given.ReservesDeclared.reserve.Reserving.{Reserving}
+use Rattle.papaya_maps.specs.Given.ReservesDeclared.reserve.Reserving.TheVariants as reserves
+use Rattle.papaya_maps.specs.Given.SweepsDeclared.sweep.Sweep.{Sweep}
+use Rattle.papaya_maps.specs.Given.SweepsDeclared.sweep.Sweeping.{Sweeping}
+use Rattle.papaya_maps.specs.Given.SweepsDeclared.sweep.Sweeping.TheVariants as sweeps
+use Rattle.papaya_maps.specs.Given.RuleChart.{Chart}
+use Rattle.papaya_maps.specs.Given.RuleWords.{Blocks, place_word}
+use Rattle.papaya_maps.specs.Given.RuleMaps.{IsTrial}
+use Rattle.papaya_maps.specs.Given.RuleInWorld.{IsMapIn}
+use Rattle.papaya_maps.proofs.Given.RuleKeys.TriesSeen.{spot_inside}
+use Rattle.papaya_maps.proofs.Given.RuleWords.TablesSeen.{place_there}
+use Rattle.papaya_maps.specs.Given.PointsFactsCalls.{Change, Unchanged, CallingFacts, CallFacts}
+use Rattle.papaya_maps.specs.Given.PointsFactsCopies.{CopyingFacts, CopierFacts}
+use Rattle.papaya_maps.specs.Given.PointsFactsCopiesBlocking.{CopierFactsBlocking}
+use Rattle.papaya_maps.specs.Given.PointsTold.{IsRowOfCall}
+use Rattle.papaya_maps.specs.Given.LateLateCalls.{LateCalling, LateCallFacts}
+use Rattle.papaya_maps.specs.Given.LateLateCopies.{LateCopierFacts}
+use Rattle.papaya_maps.specs.Given.LateFactsReserves.{IsEnding, CopiesWhole, ReservingFacts, ReserveFacts}
+use Rattle.papaya_maps.specs.Given.LateLateReserves.{LateReserving, LateReserveFacts}
+use Rattle.papaya_maps.specs.Given.LateToldReserves.{IsRowOfReserve}
+use Rattle.papaya_maps.specs.Given.LateFactsSweeps.{SweepingFacts}
+use Rattle.papaya_maps.specs.Given.CallersRooms.{row_of_room, room_once_over}
+use Rattle.papaya_maps.specs.Given.CallersRows.{row_of, once_over}
+use Rattle.papaya_maps.specs.Given.CallersSights.{Sight, seen_by}
+use Rattle.papaya_maps.specs.Given.CallersTogether.{CallOnKey, UnderWay, OnKey, ForRoom, Knows, KnowsRoom, Together, in_slot}
+use Rattle.papaya_maps.proofs.Given.CallersSights.Seen.{map_seen}
+use Rattle.papaya_maps.proofs.Given.CallersTogether.Fits.{map_in_slot}
 use Rattle.papaya_waits.specs.Promises.{CallsWaitForACopying, RoomsWaitForACopying, SweepsWaitForACopying, LookupsNeverWait}
 use Rattle.papaya_waits.specs.Waits.{IsBeingCopied, CopierAwaits, CallAwaits, RoomAwaits, SweepAwaits}
 use Rattle.papaya_waits.proofs.CallPlans.{Continues, looks_goes}
@@ -50,7 +50,7 @@ use Rattle.papaya_waits.proofs.Calls.{SeesPair, CallSees, call_waits}
 use Rattle.papaya_waits.proofs.Copiers.{Sees}
 use Rattle.papaya_waits.proofs.Copyings.{RoomSees, room_waits, SweepSees, sweep_waits}
 use Rattle.papaya_waits.proofs.Shown.{copying_shown, copier_shown, copier_shown_blocking, copier_shown_late}
-use Rattle.papaya_maps.proofs.Given.Rule.Keys.Always.{always_steps}
+use Rattle.papaya_maps.proofs.Given.RuleKeys.Always.{always_steps}
 
 mode_of : (s setting : Setting) (b : Bool) → s ≡ setting → is_incremental setting.mode ≡ b → is_incremental s.mode ≡ b
 mode_of s setting b is mode = ap (λ (x : Setting). is_incremental x.mode) is ∙ mode

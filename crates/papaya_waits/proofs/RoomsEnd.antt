@@ -2,47 +2,47 @@
 use Rattle.std.specs.Prelude.{Option, Some, None}
 use Rattle.std.specs.Int.{IsPowerOfTwo}
 use Rattle.std.proofs.Common.{◌≡◌, ℕ, Bool, true, List, ◌⊎◌, inl, inr, refl, ap, sym, subst, ◌∙◌}
-use Rattle.seize_acts.specs.Given.SeizeWords.Mem.{Mem, Took, value_at}
-use Rattle.seize_acts.specs.Given.SeizeWords.Plan.{Steps}
-use Rattle.seize_acts.specs.Given.Seize.World.{World, with_at}
-use Rattle.seize_acts.proofs.Given.SeizeRule.Rows.Leaving.{steps_back}
-use Rattle.papaya_maps.specs.Given.Tables.Chunks.{is_incremental}
-use Rattle.papaya_maps.specs.Given.Tables.declared.node.Node.{Node}
-use Rattle.papaya_maps.specs.Given.Tables.declared.resize_mode.ResizeMode.{ResizeMode}
-use Rattle.papaya_maps.specs.Given.Tables.declared.setting.Setting.{Setting}
-use Rattle.papaya_maps.specs.Given.Tables.declared.table.Table.{Table}
-use Rattle.papaya_maps.specs.Given.Resize.Copier.{copier_plan}
-use Rattle.papaya_maps.specs.Given.Resize.declared.outcome.Outcome.{Outcome}
-use Rattle.papaya_maps.specs.Given.Resize.declared.outcome.Outcome.TheVariants as outcome
-use Rattle.papaya_maps.specs.Given.Resize.declared.copier.Copier.{Copier}
-use Rattle.papaya_maps.specs.Given.Reserves.Reserve as room_plans
-use Rattle.papaya_maps.specs.Given.Reserves.declared.reserve.Reserve.{Reserve}
-use Rattle.papaya_maps.specs.Given.Reserves.declared.reserve.Reserving.{Reserving}
-use Rattle.papaya_maps.specs.Given.Reserves.declared.reserve.Reserving.TheVariants as reserves
-use Rattle.papaya_maps.specs.Given.Sweeps.Sweep as sweep_plans
-use Rattle.papaya_maps.specs.Given.Sweeps.declared.sweep.Sweep.{Sweep}
-use Rattle.papaya_maps.specs.Given.Sweeps.declared.sweep.Sweeping.{Sweeping}
-use Rattle.papaya_maps.specs.Given.Sweeps.declared.sweep.Sweeping.TheVariants as sweeps
-use Rattle.papaya_maps.specs.Given.Sweeps.declared.sweep.Swept.{Swept}
-use Rattle.papaya_maps.specs.Given.Rule.Chart.{Chart}
-use Rattle.papaya_maps.specs.Given.Rule.InWorld.{IsMapIn}
-use Rattle.papaya_maps.specs.Given.Rule.Maps.{spot_of}
-use Rattle.papaya_maps.specs.Given.Rule.Moves.{Move, Links, Removes, after}
-use Rattle.papaya_maps.specs.Given.Rule.Words.{Blocks}
-use Rattle.papaya_maps.specs.Given.Points.FactsCopies.{CopierFacts}
-use Rattle.papaya_maps.specs.Given.Points.FactsCopiesBlocking.{CopierFactsBlocking}
-use Rattle.papaya_maps.specs.Given.Points.Steps.{AreLawful}
-use Rattle.papaya_maps.specs.Given.Points.Told.{IsBeside, OnlyLinks}
-use Rattle.papaya_maps.specs.Given.Late.FactsReserves.{CopiesPairs, CopiesWhole, IsEnding, ReservingFacts, ReserveFacts}
-use Rattle.papaya_maps.specs.Given.Late.FactsSweeps.{CopiesPairs as SweepCopies, SweepingFacts}
-use Rattle.papaya_maps.specs.Given.Late.LateReserves.{LateReserveFacts}
-use Rattle.papaya_maps.specs.Given.Late.ToldReserves.{IsRowOfReserve}
-use Rattle.papaya_maps.specs.Given.Late.ToldSweeps.{IsRowOfSweep, OnlyRemoves}
-use Rattle.papaya_maps.specs.Given.Callers.OverAll.{CallOverAll, come_to}
-use Rattle.papaya_maps.specs.Given.Callers.Rooms.{CallForRoom}
-use Rattle.papaya_maps.specs.Given.Callers.Sights.{Sight, seen_by}
-use Rattle.papaya_maps.specs.Given.Callers.Sweeps.{SweepStepsTogether}
-use Rattle.papaya_maps.specs.Given.Callers.Together.{UnderWay, ForRoom, OverAll, Together, RoomStepsTogether, RoomTold, FreshRoom, LateRoom, next_for_room, next_over_all, in_slot}
+use Rattle.seize_acts.specs.Given.SeizeWordsMem.{Mem, Took, value_at}
+use Rattle.seize_acts.specs.Given.SeizeWordsPlan.{Steps}
+use Rattle.seize_acts.specs.Given.SeizeWorld.{World, with_at}
+use Rattle.seize_acts.proofs.Given.SeizeRuleRows.Leaving.{steps_back}
+use Rattle.papaya_maps.specs.Given.TablesChunks.{is_incremental}
+use Rattle.papaya_maps.specs.Given.TablesDeclared.node.Node.{Node}
+use Rattle.papaya_maps.specs.Given.TablesDeclared.resize_mode.ResizeMode.{ResizeMode}
+use Rattle.papaya_maps.specs.Given.TablesDeclared.setting.Setting.{Setting}
+use Rattle.papaya_maps.specs.Given.TablesDeclared.table.Table.{Table}
+use Rattle.papaya_maps.specs.Given.ResizeCopier.{copier_plan}
+use Rattle.papaya_maps.specs.Given.ResizeDeclared.outcome.Outcome.{Outcome}
+use Rattle.papaya_maps.specs.Given.ResizeDeclared.outcome.Outcome.TheVariants as outcome
+use Rattle.papaya_maps.specs.Given.ResizeDeclared.copier.Copier.{Copier}
+use Rattle.papaya_maps.specs.Given.ReservesReserve as room_plans
+use Rattle.papaya_maps.specs.Given.ReservesDeclared.reserve.Reserve.{Reserve}
+use Rattle.papaya_maps.specs.Given.ReservesDeclared.reserve.Reserving.{Reserving}
+use Rattle.papaya_maps.specs.Given.ReservesDeclared.reserve.Reserving.TheVariants as reserves
+use Rattle.papaya_maps.specs.Given.SweepsSweep as sweep_plans
+use Rattle.papaya_maps.specs.Given.SweepsDeclared.sweep.Sweep.{Sweep}
+use Rattle.papaya_maps.specs.Given.SweepsDeclared.sweep.Sweeping.{Sweeping}
+use Rattle.papaya_maps.specs.Given.SweepsDeclared.sweep.Sweeping.TheVariants as sweeps
+use Rattle.papaya_maps.specs.Given.SweepsDeclared.sweep.Swept.{Swept}
+use Rattle.papaya_maps.specs.Given.RuleChart.{Chart}
+use Rattle.papaya_maps.specs.Given.RuleInWorld.{IsMapIn}
+use Rattle.papaya_maps.specs.Given.RuleMaps.{spot_of}
+use Rattle.papaya_maps.specs.Given.RuleMoves.{Move, Links, Removes, after}
+use Rattle.papaya_maps.specs.Given.RuleWords.{Blocks}
+use Rattle.papaya_maps.specs.Given.PointsFactsCopies.{CopierFacts}
+use Rattle.papaya_maps.specs.Given.PointsFactsCopiesBlocking.{CopierFactsBlocking}
+use Rattle.papaya_maps.specs.Given.PointsSteps.{AreLawful}
+use Rattle.papaya_maps.specs.Given.PointsTold.{IsBeside, OnlyLinks}
+use Rattle.papaya_maps.specs.Given.LateFactsReserves.{CopiesPairs, CopiesWhole, IsEnding, ReservingFacts, ReserveFacts}
+use Rattle.papaya_maps.specs.Given.LateFactsSweeps.{CopiesPairs as SweepCopies, SweepingFacts}
+use Rattle.papaya_maps.specs.Given.LateLateReserves.{LateReserveFacts}
+use Rattle.papaya_maps.specs.Given.LateToldReserves.{IsRowOfReserve}
+use Rattle.papaya_maps.specs.Given.LateToldSweeps.{IsRowOfSweep, OnlyRemoves}
+use Rattle.papaya_maps.specs.Given.CallersOverAll.{CallOverAll, come_to}
+use Rattle.papaya_maps.specs.Given.CallersRooms.{CallForRoom}
+use Rattle.papaya_maps.specs.Given.CallersSights.{Sight, seen_by}
+use Rattle.papaya_maps.specs.Given.CallersSweeps.{SweepStepsTogether}
+use Rattle.papaya_maps.specs.Given.CallersTogether.{UnderWay, ForRoom, OverAll, Together, RoomStepsTogether, RoomTold, FreshRoom, LateRoom, next_for_room, next_over_all, in_slot}
 use Rattle.papaya_waits.specs.Others.{HaveEnds, copier_in_room, copier_in_sweep, RoomsKeepEnds, SweepsKeepEnds}
 use Rattle.papaya_waits.proofs.Claimed.{chosen}
 use Rattle.papaya_waits.proofs.CopiersKeep.{beside_keeps, copier_keeps}

@@ -1,35 +1,35 @@
 -- A row of the collector within a call waits only while another row has the batch of its slot in hand.
 use Rattle.std.proofs.Common.{◌≡◌, ℕ, ◌⊎◌, refl, ap, sym, ◌∙◌}
-use Rattle.seize_acts.specs.Given.SeizeWords.Mem.{Mem, Took, value_at}
-use Rattle.seize_acts.specs.Given.SeizeWords.Plan.{Steps}
-use Rattle.seize_acts.proofs.Given.SeizeRule.Rows.Leaving.{steps_back}
-use Rattle.seize_acts.specs.Given.Seize.Defer.{defer_plan}
-use Rattle.seize_acts.specs.Given.Seize.Settle.{settle_plan}
-use Rattle.seize_acts.specs.Given.Seize.World.{World, Row, Rests, Settles}
-use Rattle.seize_acts.specs.Given.Seize.declared.progress.Progress.{Progress}
-use Rattle.seize_acts.specs.Given.Seize.declared.progress.Progress.TheVariants as progress
-use Rattle.seize_acts.specs.Given.Seize.declared.rows.defer.Defer.{Defer}
-use Rattle.seize_acts.specs.Given.Seize.declared.rows.settle.Settle.{Settle}
-use Rattle.seize_acts.specs.Given.Seize.declared.rows.settle.Settled.{Settled}
-use Rattle.seize_acts.specs.Given.Seize.declared.rows.settle.Settled.TheVariants as settled
+use Rattle.seize_acts.specs.Given.SeizeWordsMem.{Mem, Took, value_at}
+use Rattle.seize_acts.specs.Given.SeizeWordsPlan.{Steps}
+use Rattle.seize_acts.proofs.Given.SeizeRuleRows.Leaving.{steps_back}
+use Rattle.seize_acts.specs.Given.SeizeDefer.{defer_plan}
+use Rattle.seize_acts.specs.Given.SeizeSettle.{settle_plan}
+use Rattle.seize_acts.specs.Given.SeizeWorld.{World, Row, Rests, Settles}
+use Rattle.seize_acts.specs.Given.SeizeDeclared.progress.Progress.{Progress}
+use Rattle.seize_acts.specs.Given.SeizeDeclared.progress.Progress.TheVariants as progress
+use Rattle.seize_acts.specs.Given.SeizeDeclared.rows.defer.Defer.{Defer}
+use Rattle.seize_acts.specs.Given.SeizeDeclared.rows.settle.Settle.{Settle}
+use Rattle.seize_acts.specs.Given.SeizeDeclared.rows.settle.Settled.{Settled}
+use Rattle.seize_acts.specs.Given.SeizeDeclared.rows.settle.Settled.TheVariants as settled
 use Rattle.seize_acts.proofs.Waits.{settling_waits_for_a_holder, deferring_never_waits}
-use Rattle.papaya_maps.specs.Given.Tables.Nodes.{deferred_word}
-use Rattle.papaya_maps.specs.Given.Tables.declared.node.Node.{Node}
-use Rattle.papaya_maps.specs.Given.Tables.declared.table.Table.{Table}
-use Rattle.papaya_maps.specs.Given.Resize.Copier.{copier_plan, plan_at as copier_at}
-use Rattle.papaya_maps.specs.Given.Resize.CopierPromotes.{retired}
-use Rattle.papaya_maps.specs.Given.Resize.Dispose.{dispose_plan, plan_at as dispose_at, settled as settled_on, deferred as deferred_on}
-use Rattle.papaya_maps.specs.Given.Resize.declared.copier.Copier.{Copier}
-use Rattle.papaya_maps.specs.Given.Resize.declared.copier.Copying.{Copying as Point}
-use Rattle.papaya_maps.specs.Given.Resize.declared.copier.Copying.TheVariants as copies
-use Rattle.papaya_maps.specs.Given.Resize.declared.dispose.Dispose.{Dispose}
-use Rattle.papaya_maps.specs.Given.Resize.declared.dispose.Disposing.{Disposing}
-use Rattle.papaya_maps.specs.Given.Resize.declared.dispose.Disposing.TheVariants as disposes
-use Rattle.papaya_maps.specs.Given.Resize.declared.outcome.Outcome.{Outcome}
-use Rattle.papaya_maps.specs.Given.Resize.declared.outcome.Outcome.TheVariants as outcome
-use Rattle.papaya_maps.specs.Given.Points.Told.{IsRowOf, IsRowOfCopier}
-use Rattle.papaya_maps.specs.Given.Callers.Rows.{row_of_disposal, row_of_copier}
-use Rattle.papaya_maps.specs.Given.Callers.Together.{CameAbout}
+use Rattle.papaya_maps.specs.Given.TablesNodes.{deferred_word}
+use Rattle.papaya_maps.specs.Given.TablesDeclared.node.Node.{Node}
+use Rattle.papaya_maps.specs.Given.TablesDeclared.table.Table.{Table}
+use Rattle.papaya_maps.specs.Given.ResizeCopier.{copier_plan, plan_at as copier_at}
+use Rattle.papaya_maps.specs.Given.ResizeCopierPromotes.{retired}
+use Rattle.papaya_maps.specs.Given.ResizeDispose.{dispose_plan, plan_at as dispose_at, settled as settled_on, deferred as deferred_on}
+use Rattle.papaya_maps.specs.Given.ResizeDeclared.copier.Copier.{Copier}
+use Rattle.papaya_maps.specs.Given.ResizeDeclared.copier.Copying.{Copying as Point}
+use Rattle.papaya_maps.specs.Given.ResizeDeclared.copier.Copying.TheVariants as copies
+use Rattle.papaya_maps.specs.Given.ResizeDeclared.dispose.Dispose.{Dispose}
+use Rattle.papaya_maps.specs.Given.ResizeDeclared.dispose.Disposing.{Disposing}
+use Rattle.papaya_maps.specs.Given.ResizeDeclared.dispose.Disposing.TheVariants as disposes
+use Rattle.papaya_maps.specs.Given.ResizeDeclared.outcome.Outcome.{Outcome}
+use Rattle.papaya_maps.specs.Given.ResizeDeclared.outcome.Outcome.TheVariants as outcome
+use Rattle.papaya_maps.specs.Given.PointsTold.{IsRowOf, IsRowOfCopier}
+use Rattle.papaya_maps.specs.Given.CallersRows.{row_of_disposal, row_of_copier}
+use Rattle.papaya_maps.specs.Given.CallersTogether.{CameAbout}
 use Rattle.papaya_waits.specs.Waits.{AnotherHolds}
 
 module _ {K V : Type 0} (hash : K → ℕ) (batch_size : ℕ) (w : World (Node K V)) (came : CameAbout batch_size w) (i slot : ℕ) (m2 : Mem (Node K V)) where

@@ -2,26 +2,26 @@
 use Rattle.std.specs.Prelude.{◌*◌, cond, Option, Some}
 use Rattle.std.proofs.Common.{◌≡◌, ◌≢◌, ℕ, suc, ◌<◌, ◌≤◌, ◌⊎◌, inl, inr, Bool, true, false, refl, ap, sym, subst, ◌∙◌, arith}
 use Rattle.std.proofs.lemmas.Bool.{cases_lt, ne_eqb}
-use Rattle.seize_acts.specs.Given.SeizeWords.declared.at.At.TheVariants.{Root, Word}
-use Rattle.seize_acts.specs.Given.SeizeWords.Mem.{Mem, word_at}
-use Rattle.seize_acts.specs.Given.Seize.World.{World}
-use Rattle.papaya_maps.specs.Given.Tables.Chunks.{is_incremental}
-use Rattle.papaya_maps.specs.Given.Tables.declared.node.Node.{Node}
-use Rattle.papaya_maps.specs.Given.Tables.declared.setting.Setting.{Setting}
-use Rattle.papaya_maps.specs.Given.Tables.declared.table_words.TheConstants.{COPIED, STATUS}
-use Rattle.papaya_maps.specs.Given.Resize.declared.copier.Copier.{Copier}
-use Rattle.papaya_maps.specs.Given.Resize.declared.copier.Copying.{Copying as Point}
-use Rattle.papaya_maps.specs.Given.Resize.declared.copier.Copying.TheVariants as at
-use Rattle.papaya_maps.specs.Given.Rule.Chart.{Share, Lost, Chart, is_counted}
-use Rattle.papaya_maps.specs.Given.Rule.InWorld.{IsMapIn, Moved, SameBlocks, SparesTables}
-use Rattle.papaya_maps.specs.Given.Rule.Lasts.{Lasts}
-use Rattle.papaya_maps.specs.Given.Rule.Maps.{spot_of}
-use Rattle.papaya_maps.specs.Given.Rule.Moves.{Move, Links, Promotes, after, Allowed}
-use Rattle.papaya_maps.specs.Given.Rule.Rule.{Agrees, IsLawful, Rule, total}
-use Rattle.papaya_maps.specs.Given.Rule.Words.{Blocks, Shows, ShowsTable}
-use Rattle.papaya_maps.proofs.Given.Rule.Moves.Totals.{total_full}
-use Rattle.papaya_maps.proofs.Given.Points.MovedLasts.{moved_lasts}
-use Rattle.papaya_maps.specs.Given.Callers.Together.{UnderWay}
+use Rattle.seize_acts.specs.Given.SeizeWordsDeclared.at.At.TheVariants.{Root, Word}
+use Rattle.seize_acts.specs.Given.SeizeWordsMem.{Mem, word_at}
+use Rattle.seize_acts.specs.Given.SeizeWorld.{World}
+use Rattle.papaya_maps.specs.Given.TablesChunks.{is_incremental}
+use Rattle.papaya_maps.specs.Given.TablesDeclared.node.Node.{Node}
+use Rattle.papaya_maps.specs.Given.TablesDeclared.setting.Setting.{Setting}
+use Rattle.papaya_maps.specs.Given.TablesDeclared.table_words.TheConstants.{COPIED, STATUS}
+use Rattle.papaya_maps.specs.Given.ResizeDeclared.copier.Copier.{Copier}
+use Rattle.papaya_maps.specs.Given.ResizeDeclared.copier.Copying.{Copying as Point}
+use Rattle.papaya_maps.specs.Given.ResizeDeclared.copier.Copying.TheVariants as at
+use Rattle.papaya_maps.specs.Given.RuleChart.{Share, Lost, Chart, is_counted}
+use Rattle.papaya_maps.specs.Given.RuleInWorld.{IsMapIn, Moved, SameBlocks, SparesTables}
+use Rattle.papaya_maps.specs.Given.RuleLasts.{Lasts}
+use Rattle.papaya_maps.specs.Given.RuleMaps.{spot_of}
+use Rattle.papaya_maps.specs.Given.RuleMoves.{Move, Links, Promotes, after, Allowed}
+use Rattle.papaya_maps.specs.Given.RuleRule.{Agrees, IsLawful, Rule, total}
+use Rattle.papaya_maps.specs.Given.RuleWords.{Blocks, Shows, ShowsTable}
+use Rattle.papaya_maps.proofs.Given.RuleMoves.Totals.{total_full}
+use Rattle.papaya_maps.proofs.Given.PointsMovedLasts.{moved_lasts}
+use Rattle.papaya_maps.specs.Given.CallersTogether.{UnderWay}
 use Rattle.papaya_waits.specs.Others.{IsToCount, IsOpen, EndsAt, HaveEnds, copier_of}
 use Rattle.papaya_waits.proofs.Endings.{some_left}
 

@@ -1,12 +1,12 @@
 -- What the law of waiting forbids.
 use Rattle.std.proofs.Common.{◌≡◌, ℕ, Bool, true, false}
-use Rattle.papaya_maps.specs.Given.Tables.declared.status.TheConstants.Status.{PROMOTED, ABORTED}
-use Rattle.papaya_maps.specs.Given.Raw.declared.machines.call.KeyCall.{KeyCall}
-use Rattle.papaya_maps.specs.Given.Raw.declared.machines.call.Calling.TheVariants as at
-use Rattle.papaya_maps.specs.Given.Resize.declared.copier.Copier.{Copier}
-use Rattle.papaya_maps.specs.Given.Resize.declared.copier.Copying.TheVariants as copies
-use Rattle.papaya_maps.specs.Given.Resize.declared.lookup.Lookup.{Lookup}
-use Rattle.papaya_maps.specs.Given.Rule.Chart.{Still, Copied, Holds, Tombstone, Chart}
+use Rattle.papaya_maps.specs.Given.TablesDeclared.status.TheConstants.Status.{PROMOTED, ABORTED}
+use Rattle.papaya_maps.specs.Given.RawDeclared.machines.call.KeyCall.{KeyCall}
+use Rattle.papaya_maps.specs.Given.RawDeclared.machines.call.Calling.TheVariants as at
+use Rattle.papaya_maps.specs.Given.ResizeDeclared.copier.Copier.{Copier}
+use Rattle.papaya_maps.specs.Given.ResizeDeclared.copier.Copying.TheVariants as copies
+use Rattle.papaya_maps.specs.Given.ResizeDeclared.lookup.Lookup.{Lookup}
+use Rattle.papaya_maps.specs.Given.RuleChart.{Still, Copied, Holds, Tombstone, Chart}
 use Rattle.papaya_waits.specs.Waits.{IsUnfinished, IsBeingCopied, CopierAwaits, CallAwaits}
 
 module _ {K : Type 0} (c : Chart K) (t i n : ℕ) (borrowed : Bool) where

@@ -1,28 +1,28 @@
 -- What a call that waits has seen in the memory is so in the tables that the memory shows.
 use Rattle.std.proofs.Common.{◌≡◌, ◌≢◌, ℕ, suc, ◌<◌, ◌≤◌, ◌⊎◌, inl, inr, Bool, true, false, refl, ap, sym, subst, ◌∙◌, arith}
 use Rattle.std.proofs.lemmas.Bool.{cases_lt}
-use Rattle.seize_acts.specs.Given.SeizeWords.Word.{block_in}
-use Rattle.seize_acts.specs.Given.Seize.World.{World}
-use Rattle.papaya_maps.specs.Given.Tables.Chunks.{is_incremental}
-use Rattle.papaya_maps.specs.Given.Tables.Marks.{has_mark}
-use Rattle.papaya_maps.specs.Given.Tables.declared.marks.TheConstants.{COPYING, COPIED}
-use Rattle.papaya_maps.specs.Given.Tables.declared.node.Node.{Node}
-use Rattle.papaya_maps.specs.Given.Tables.declared.setting.Setting.{Setting}
-use Rattle.papaya_maps.specs.Given.Tables.declared.table.Table.{Table}
-use Rattle.papaya_maps.specs.Given.Resize.declared.copier.Copier.{Copier}
-use Rattle.papaya_maps.specs.Given.Resize.declared.copier.Copying.{Copying as Point}
-use Rattle.papaya_maps.specs.Given.Resize.declared.copier.Copying.TheVariants as at
-use Rattle.papaya_maps.specs.Given.Rule.Chart.{Phase, Still, Copying, Copied, Place, Holds, Chart}
-use Rattle.papaya_maps.specs.Given.Rule.Words.{Blocks, byte_of, place_word}
-use Rattle.papaya_maps.specs.Given.Rule.Rule.{Rule}
-use Rattle.papaya_maps.specs.Given.Rule.Maps.{spot_of, IsTable}
-use Rattle.papaya_maps.specs.Given.Rule.InWorld.{IsMapIn}
-use Rattle.papaya_maps.proofs.Given.Rule.Words.PlaceWordsMarks.{has_copying, pair_copied}
-use Rattle.papaya_maps.proofs.Given.Rule.Words.PlaceWordsRead.{word-pair}
-use Rattle.papaya_maps.proofs.Given.Rule.Words.TablesSeen.{place_there, status_there}
-use Rattle.papaya_maps.specs.Given.Points.FactsCopies.{CopyingFacts, CopierFacts}
-use Rattle.papaya_maps.specs.Given.Points.FactsCopiesBlocking.{CopyingFactsBlocking, CopierFactsBlocking}
-use Rattle.papaya_maps.specs.Given.Late.LateCopies.{LateCopying, LateCopierFacts}
+use Rattle.seize_acts.specs.Given.SeizeWordsWord.{block_in}
+use Rattle.seize_acts.specs.Given.SeizeWorld.{World}
+use Rattle.papaya_maps.specs.Given.TablesChunks.{is_incremental}
+use Rattle.papaya_maps.specs.Given.TablesMarks.{has_mark}
+use Rattle.papaya_maps.specs.Given.TablesDeclared.marks.TheConstants.{COPYING, COPIED}
+use Rattle.papaya_maps.specs.Given.TablesDeclared.node.Node.{Node}
+use Rattle.papaya_maps.specs.Given.TablesDeclared.setting.Setting.{Setting}
+use Rattle.papaya_maps.specs.Given.TablesDeclared.table.Table.{Table}
+use Rattle.papaya_maps.specs.Given.ResizeDeclared.copier.Copier.{Copier}
+use Rattle.papaya_maps.specs.Given.ResizeDeclared.copier.Copying.{Copying as Point}
+use Rattle.papaya_maps.specs.Given.ResizeDeclared.copier.Copying.TheVariants as at
+use Rattle.papaya_maps.specs.Given.RuleChart.{Phase, Still, Copying, Copied, Place, Holds, Chart}
+use Rattle.papaya_maps.specs.Given.RuleWords.{Blocks, byte_of, place_word}
+use Rattle.papaya_maps.specs.Given.RuleRule.{Rule}
+use Rattle.papaya_maps.specs.Given.RuleMaps.{spot_of, IsTable}
+use Rattle.papaya_maps.specs.Given.RuleInWorld.{IsMapIn}
+use Rattle.papaya_maps.proofs.Given.RuleWords.PlaceWordsMarks.{has_copying, pair_copied}
+use Rattle.papaya_maps.proofs.Given.RuleWords.PlaceWordsRead.{word-pair}
+use Rattle.papaya_maps.proofs.Given.RuleWords.TablesSeen.{place_there, status_there}
+use Rattle.papaya_maps.specs.Given.PointsFactsCopies.{CopyingFacts, CopierFacts}
+use Rattle.papaya_maps.specs.Given.PointsFactsCopiesBlocking.{CopyingFactsBlocking, CopierFactsBlocking}
+use Rattle.papaya_maps.specs.Given.LateLateCopies.{LateCopying, LateCopierFacts}
 use Rattle.papaya_waits.specs.Waits.{IsUnfinished, IsBeingCopied, CopierAwaits}
 use Rattle.papaya_waits.proofs.Copiers.{SeesCopying, SeesPending, Sees}
 

@@ -1,25 +1,25 @@
 -- In incremental mode, a call whose caller has claimed a place, or has copied one and not counted it, is none that only looks.
 use Rattle.std.specs.Prelude.{Option, Some}
 use Rattle.std.proofs.Common.{◌≡◌, ℕ, suc, ◌<◌, ◌⊎◌, inl, inr, Bool, true, refl, sym, arith}
-use Rattle.seize_acts.specs.Given.Seize.World.{World}
-use Rattle.papaya_maps.specs.Given.Tables.Chunks.{is_incremental}
-use Rattle.papaya_maps.specs.Given.Tables.declared.node.Node.{Node}
-use Rattle.papaya_maps.specs.Given.Tables.declared.setting.Setting.{Setting}
-use Rattle.papaya_maps.specs.Given.Raw.declared.machines.call.Calling.{Calling}
-use Rattle.papaya_maps.specs.Given.Raw.declared.machines.call.Calling.TheVariants as at
-use Rattle.papaya_maps.specs.Given.Rule.Chart.{Claimed, Done, Chart}
-use Rattle.papaya_maps.specs.Given.Rule.Moves.{is_done_by}
-use Rattle.papaya_maps.specs.Given.Rule.Words.{Blocks}
-use Rattle.papaya_maps.proofs.Given.Rule.Shares.LastsShares.{total_zero}
-use Rattle.papaya_maps.specs.Given.Points.FactsCalls.{CallFacts, IsCopying, Unchanged}
-use Rattle.papaya_maps.specs.Given.Points.FactsCopies.{ClaimsNone, HasDone}
-use Rattle.papaya_maps.specs.Given.Points.FactsCopiesBlocking.{HasNoShares}
-use Rattle.papaya_maps.specs.Given.Points.FactsIdle.{IsIdle}
-use Rattle.papaya_maps.specs.Given.Points.Told.{IsRowOfCall}
-use Rattle.papaya_maps.specs.Given.Late.Kinds.{LooksAt}
-use Rattle.papaya_maps.specs.Given.Late.LateCalls.{LateCallFacts}
-use Rattle.papaya_maps.specs.Given.Callers.Sights.{Sight, seen_by}
-use Rattle.papaya_maps.specs.Given.Callers.Together.{UnderWay, OnKey, ForRoom, Counting, OverAll, Together, in_slot}
+use Rattle.seize_acts.specs.Given.SeizeWorld.{World}
+use Rattle.papaya_maps.specs.Given.TablesChunks.{is_incremental}
+use Rattle.papaya_maps.specs.Given.TablesDeclared.node.Node.{Node}
+use Rattle.papaya_maps.specs.Given.TablesDeclared.setting.Setting.{Setting}
+use Rattle.papaya_maps.specs.Given.RawDeclared.machines.call.Calling.{Calling}
+use Rattle.papaya_maps.specs.Given.RawDeclared.machines.call.Calling.TheVariants as at
+use Rattle.papaya_maps.specs.Given.RuleChart.{Claimed, Done, Chart}
+use Rattle.papaya_maps.specs.Given.RuleMoves.{is_done_by}
+use Rattle.papaya_maps.specs.Given.RuleWords.{Blocks}
+use Rattle.papaya_maps.proofs.Given.RuleShares.LastsShares.{total_zero}
+use Rattle.papaya_maps.specs.Given.PointsFactsCalls.{CallFacts, IsCopying, Unchanged}
+use Rattle.papaya_maps.specs.Given.PointsFactsCopies.{ClaimsNone, HasDone}
+use Rattle.papaya_maps.specs.Given.PointsFactsCopiesBlocking.{HasNoShares}
+use Rattle.papaya_maps.specs.Given.PointsFactsIdle.{IsIdle}
+use Rattle.papaya_maps.specs.Given.PointsTold.{IsRowOfCall}
+use Rattle.papaya_maps.specs.Given.LateKinds.{LooksAt}
+use Rattle.papaya_maps.specs.Given.LateLateCalls.{LateCallFacts}
+use Rattle.papaya_maps.specs.Given.CallersSights.{Sight, seen_by}
+use Rattle.papaya_maps.specs.Given.CallersTogether.{UnderWay, OnKey, ForRoom, Counting, OverAll, Together, in_slot}
 use Rattle.papaya_waits.proofs.Askers.{done_one}
 use Rattle.papaya_waits.proofs.Claimed.{chosen}
 

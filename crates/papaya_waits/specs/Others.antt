@@ -1,42 +1,42 @@
 -- Which call another one waits for, in incremental mode: who copies a pair that is being copied, and who goes on with a copying that is not over.
 use Rattle.std.specs.Prelude.{◌≡◌, ◌≢◌, ℕ, suc, ◌<◌, ◌≤◌, ◌⊎◌, Bool, true, Option, Some, None}
 use Rattle.std.specs.Int.{IsPowerOfTwo}
-use Rattle.seize_acts.specs.Given.SeizeWords.Mem.{Mem, Took, value_at}
-use Rattle.seize_acts.specs.Given.SeizeWords.Plan.{Steps}
-use Rattle.seize_acts.specs.Given.Seize.World.{World, with_at}
-use Rattle.papaya_maps.specs.Given.Tables.Chunks.{is_incremental}
-use Rattle.papaya_maps.specs.Given.Tables.declared.node.Node.{Node}
-use Rattle.papaya_maps.specs.Given.Tables.declared.setting.Setting.{Setting}
-use Rattle.papaya_maps.specs.Given.Resize.declared.outcome.Outcome.{Outcome}
-use Rattle.papaya_maps.specs.Given.Resize.declared.copier.Copier.{Copier}
-use Rattle.papaya_maps.specs.Given.Resize.declared.copier.Copying.{Copying as Point}
-use Rattle.papaya_maps.specs.Given.Resize.declared.copier.Copying.TheVariants as copies
-use Rattle.papaya_maps.specs.Given.Raw.Call.{call_plan}
-use Rattle.papaya_maps.specs.Given.Raw.declared.machines.answer.Called.{Called}
-use Rattle.papaya_maps.specs.Given.Raw.declared.machines.call.KeyCall.{KeyCall}
-use Rattle.papaya_maps.specs.Given.Raw.declared.machines.call.Calling.{Calling}
-use Rattle.papaya_maps.specs.Given.Raw.declared.machines.call.Calling.TheVariants as at
-use Rattle.papaya_maps.specs.Given.Reserves.Reserve.{reserve_plan}
-use Rattle.papaya_maps.specs.Given.Reserves.declared.reserve.Reserve.{Reserve}
-use Rattle.papaya_maps.specs.Given.Reserves.declared.reserve.Reserving.{Reserving}
-use Rattle.papaya_maps.specs.Given.Reserves.declared.reserve.Reserving.TheVariants as reserves
-use Rattle.papaya_maps.specs.Given.Sweeps.Sweep.{sweep_plan}
-use Rattle.papaya_maps.specs.Given.Sweeps.declared.sweep.Sweep.{Sweep}
-use Rattle.papaya_maps.specs.Given.Sweeps.declared.sweep.Swept.{Swept}
-use Rattle.papaya_maps.specs.Given.Sweeps.declared.sweep.Sweeping.{Sweeping}
-use Rattle.papaya_maps.specs.Given.Sweeps.declared.sweep.Sweeping.TheVariants as sweeps
-use Rattle.papaya_maps.specs.Given.Rule.Chart.{Chart, Share, Claimed, Done, Counted, Lost}
-use Rattle.papaya_maps.specs.Given.Rule.Words.{Blocks}
-use Rattle.papaya_maps.specs.Given.Points.FactsCopies.{CopyingFacts}
-use Rattle.papaya_maps.specs.Given.Points.Steps.{AreLawful}
-use Rattle.papaya_maps.specs.Given.Points.Told.{IsRowOfCall}
-use Rattle.papaya_maps.specs.Given.Late.ToldReserves.{IsRowOfReserve}
-use Rattle.papaya_maps.specs.Given.Late.ToldSweeps.{IsRowOfSweep}
-use Rattle.papaya_maps.specs.Given.Callers.OverAll.{CallOverAll, come_to}
-use Rattle.papaya_maps.specs.Given.Callers.Rooms.{CallForRoom}
-use Rattle.papaya_maps.specs.Given.Callers.Sights.{Sight}
-use Rattle.papaya_maps.specs.Given.Callers.Sweeps.{SweepStepsTogether}
-use Rattle.papaya_maps.specs.Given.Callers.Together.{CallOnKey, UnderWay, OnKey, ForRoom, Counting, OverAll, Together, StepsTogether, RoomStepsTogether, change_told, next_of, next_for_room, next_over_all, in_slot}
+use Rattle.seize_acts.specs.Given.SeizeWordsMem.{Mem, Took, value_at}
+use Rattle.seize_acts.specs.Given.SeizeWordsPlan.{Steps}
+use Rattle.seize_acts.specs.Given.SeizeWorld.{World, with_at}
+use Rattle.papaya_maps.specs.Given.TablesChunks.{is_incremental}
+use Rattle.papaya_maps.specs.Given.TablesDeclared.node.Node.{Node}
+use Rattle.papaya_maps.specs.Given.TablesDeclared.setting.Setting.{Setting}
+use Rattle.papaya_maps.specs.Given.ResizeDeclared.outcome.Outcome.{Outcome}
+use Rattle.papaya_maps.specs.Given.ResizeDeclared.copier.Copier.{Copier}
+use Rattle.papaya_maps.specs.Given.ResizeDeclared.copier.Copying.{Copying as Point}
+use Rattle.papaya_maps.specs.Given.ResizeDeclared.copier.Copying.TheVariants as copies
+use Rattle.papaya_maps.specs.Given.RawCall.{call_plan}
+use Rattle.papaya_maps.specs.Given.RawDeclared.machines.answer.Called.{Called}
+use Rattle.papaya_maps.specs.Given.RawDeclared.machines.call.KeyCall.{KeyCall}
+use Rattle.papaya_maps.specs.Given.RawDeclared.machines.call.Calling.{Calling}
+use Rattle.papaya_maps.specs.Given.RawDeclared.machines.call.Calling.TheVariants as at
+use Rattle.papaya_maps.specs.Given.ReservesReserve.{reserve_plan}
+use Rattle.papaya_maps.specs.Given.ReservesDeclared.reserve.Reserve.{Reserve}
+use Rattle.papaya_maps.specs.Given.ReservesDeclared.reserve.Reserving.{Reserving}
+use Rattle.papaya_maps.specs.Given.ReservesDeclared.reserve.Reserving.TheVariants as reserves
+use Rattle.papaya_maps.specs.Given.SweepsSweep.{sweep_plan}
+use Rattle.papaya_maps.specs.Given.SweepsDeclared.sweep.Sweep.{Sweep}
+use Rattle.papaya_maps.specs.Given.SweepsDeclared.sweep.Swept.{Swept}
+use Rattle.papaya_maps.specs.Given.SweepsDeclared.sweep.Sweeping.{Sweeping}
+use Rattle.papaya_maps.specs.Given.SweepsDeclared.sweep.Sweeping.TheVariants as sweeps
+use Rattle.papaya_maps.specs.Given.RuleChart.{Chart, Share, Claimed, Done, Counted, Lost}
+use Rattle.papaya_maps.specs.Given.RuleWords.{Blocks}
+use Rattle.papaya_maps.specs.Given.PointsFactsCopies.{CopyingFacts}
+use Rattle.papaya_maps.specs.Given.PointsSteps.{AreLawful}
+use Rattle.papaya_maps.specs.Given.PointsTold.{IsRowOfCall}
+use Rattle.papaya_maps.specs.Given.LateToldReserves.{IsRowOfReserve}
+use Rattle.papaya_maps.specs.Given.LateToldSweeps.{IsRowOfSweep}
+use Rattle.papaya_maps.specs.Given.CallersOverAll.{CallOverAll, come_to}
+use Rattle.papaya_maps.specs.Given.CallersRooms.{CallForRoom}
+use Rattle.papaya_maps.specs.Given.CallersSights.{Sight}
+use Rattle.papaya_maps.specs.Given.CallersSweeps.{SweepStepsTogether}
+use Rattle.papaya_maps.specs.Given.CallersTogether.{CallOnKey, UnderWay, OnKey, ForRoom, Counting, OverAll, Together, StepsTogether, RoomStepsTogether, change_told, next_of, next_for_room, next_over_all, in_slot}
 use Rattle.papaya_waits.specs.Waits.{IsUnfinished, IsBeingCopied}
 
 -- it is not yet counted

@@ -1,35 +1,35 @@
 -- What is promised of each step that answers that its call waits.
 use Rattle.std.specs.Prelude.{◌≡◌, ◌≢◌, ℕ, Bool, Option, Some, ◌⊎◌}
-use Rattle.seize_acts.specs.Given.SeizeWords.Mem.{Mem, Took, value_at}
-use Rattle.seize_acts.specs.Given.SeizeWords.Plan.{Steps}
-use Rattle.seize_acts.specs.Given.Seize.World.{World, Rests}
-use Rattle.papaya_maps.specs.Given.Tables.Chunks.{is_incremental}
-use Rattle.papaya_maps.specs.Given.Tables.declared.node.Node.{Node}
-use Rattle.papaya_maps.specs.Given.Tables.declared.setting.Setting.{Setting}
-use Rattle.papaya_maps.specs.Given.Resize.declared.lookup.Lookup.{Lookup}
-use Rattle.papaya_maps.specs.Given.Resize.declared.outcome.Outcome.TheVariants as outcome
-use Rattle.papaya_maps.specs.Given.Raw.Call.{call_plan}
-use Rattle.papaya_maps.specs.Given.Raw.declared.machines.answer.Called.{Called}
-use Rattle.papaya_maps.specs.Given.Raw.declared.machines.answer.Called.TheVariants as called
-use Rattle.papaya_maps.specs.Given.Raw.declared.machines.call.KeyCall.{KeyCall}
-use Rattle.papaya_maps.specs.Given.Raw.declared.machines.call.Calling.TheVariants as at
-use Rattle.papaya_maps.specs.Given.Reserves.Reserve.{reserve_plan}
-use Rattle.papaya_maps.specs.Given.Reserves.declared.reserve.Reserve.{Reserve}
-use Rattle.papaya_maps.specs.Given.Sweeps.Sweep.{sweep_plan}
-use Rattle.papaya_maps.specs.Given.Sweeps.declared.sweep.Sweep.{Sweep}
-use Rattle.papaya_maps.specs.Given.Sweeps.declared.sweep.Swept.TheVariants as swept
-use Rattle.papaya_maps.specs.Given.Rule.Chart.{Chart}
-use Rattle.papaya_maps.specs.Given.Rule.Words.{Blocks}
-use Rattle.papaya_maps.specs.Given.Rule.InWorld.{IsMapIn}
-use Rattle.papaya_maps.specs.Given.Points.Steps.{AreLawful}
-use Rattle.papaya_maps.specs.Given.Points.Told.{IsRowOfCall}
-use Rattle.papaya_maps.specs.Given.Late.ToldReserves.{IsRowOfReserve}
-use Rattle.papaya_maps.specs.Given.Late.FactsSweeps.{SweepFacts}
-use Rattle.papaya_maps.specs.Given.Late.ToldSweeps.{IsRowOfSweep}
-use Rattle.papaya_maps.specs.Given.Callers.Rooms.{CallForRoom, row_of_room}
-use Rattle.papaya_maps.specs.Given.Callers.Rows.{row_of}
-use Rattle.papaya_maps.specs.Given.Callers.Sights.{Sight}
-use Rattle.papaya_maps.specs.Given.Callers.Together.{CallOnKey, UnderWay, OnKey, ForRoom, CameAbout, Together}
+use Rattle.seize_acts.specs.Given.SeizeWordsMem.{Mem, Took, value_at}
+use Rattle.seize_acts.specs.Given.SeizeWordsPlan.{Steps}
+use Rattle.seize_acts.specs.Given.SeizeWorld.{World, Rests}
+use Rattle.papaya_maps.specs.Given.TablesChunks.{is_incremental}
+use Rattle.papaya_maps.specs.Given.TablesDeclared.node.Node.{Node}
+use Rattle.papaya_maps.specs.Given.TablesDeclared.setting.Setting.{Setting}
+use Rattle.papaya_maps.specs.Given.ResizeDeclared.lookup.Lookup.{Lookup}
+use Rattle.papaya_maps.specs.Given.ResizeDeclared.outcome.Outcome.TheVariants as outcome
+use Rattle.papaya_maps.specs.Given.RawCall.{call_plan}
+use Rattle.papaya_maps.specs.Given.RawDeclared.machines.answer.Called.{Called}
+use Rattle.papaya_maps.specs.Given.RawDeclared.machines.answer.Called.TheVariants as called
+use Rattle.papaya_maps.specs.Given.RawDeclared.machines.call.KeyCall.{KeyCall}
+use Rattle.papaya_maps.specs.Given.RawDeclared.machines.call.Calling.TheVariants as at
+use Rattle.papaya_maps.specs.Given.ReservesReserve.{reserve_plan}
+use Rattle.papaya_maps.specs.Given.ReservesDeclared.reserve.Reserve.{Reserve}
+use Rattle.papaya_maps.specs.Given.SweepsSweep.{sweep_plan}
+use Rattle.papaya_maps.specs.Given.SweepsDeclared.sweep.Sweep.{Sweep}
+use Rattle.papaya_maps.specs.Given.SweepsDeclared.sweep.Swept.TheVariants as swept
+use Rattle.papaya_maps.specs.Given.RuleChart.{Chart}
+use Rattle.papaya_maps.specs.Given.RuleWords.{Blocks}
+use Rattle.papaya_maps.specs.Given.RuleInWorld.{IsMapIn}
+use Rattle.papaya_maps.specs.Given.PointsSteps.{AreLawful}
+use Rattle.papaya_maps.specs.Given.PointsTold.{IsRowOfCall}
+use Rattle.papaya_maps.specs.Given.LateToldReserves.{IsRowOfReserve}
+use Rattle.papaya_maps.specs.Given.LateFactsSweeps.{SweepFacts}
+use Rattle.papaya_maps.specs.Given.LateToldSweeps.{IsRowOfSweep}
+use Rattle.papaya_maps.specs.Given.CallersRooms.{CallForRoom, row_of_room}
+use Rattle.papaya_maps.specs.Given.CallersRows.{row_of}
+use Rattle.papaya_maps.specs.Given.CallersSights.{Sight}
+use Rattle.papaya_maps.specs.Given.CallersTogether.{CallOnKey, UnderWay, OnKey, ForRoom, CameAbout, Together}
 use Rattle.papaya_waits.specs.Waits.{CallAwaits, RoomAwaits, SweepAwaits, row_of_sweep, AnotherHolds}
 
 module _ {K Q : Type 0} (V : Type 0) (same : K → K → Bool) (hash : K → ℕ) (asks : Q → K → Bool) (setting : Setting) (slot : ℕ → ℕ) where

@@ -1,20 +1,20 @@
 -- What is so of a map while a call waits, at each point at which one may.
 use Rattle.std.specs.Prelude.{◌≡◌, ◌≢◌, ℕ, Bool, true, false}
-use Rattle.papaya_maps.specs.Given.Tables.declared.status.TheConstants.Status.{PROMOTED, ABORTED}
-use Rattle.papaya_maps.specs.Given.Resize.declared.copier.Copier.{Copier}
-use Rattle.papaya_maps.specs.Given.Resize.declared.copier.Copying.{Copying as Point}
-use Rattle.papaya_maps.specs.Given.Resize.declared.copier.Copying.TheVariants as copies
-use Rattle.papaya_maps.specs.Given.Raw.declared.machines.call.KeyCall.{KeyCall}
-use Rattle.papaya_maps.specs.Given.Raw.declared.machines.call.Calling.{Calling}
-use Rattle.papaya_maps.specs.Given.Raw.declared.machines.call.Calling.TheVariants as at
-use Rattle.papaya_maps.specs.Given.Reserves.declared.reserve.Reserving.{Reserving}
-use Rattle.papaya_maps.specs.Given.Reserves.declared.reserve.Reserving.TheVariants as reserves
-use Rattle.papaya_maps.specs.Given.Sweeps.declared.sweep.Sweeping.{Sweeping}
-use Rattle.papaya_maps.specs.Given.Sweeps.declared.sweep.Sweeping.TheVariants as sweeps
-use Rattle.papaya_maps.specs.Given.Rule.Chart.{Copying, Holds, Chart}
-use Rattle.seize_acts.specs.Given.Seize.World.{World, Row, Rests}
+use Rattle.papaya_maps.specs.Given.TablesDeclared.status.TheConstants.Status.{PROMOTED, ABORTED}
+use Rattle.papaya_maps.specs.Given.ResizeDeclared.copier.Copier.{Copier}
+use Rattle.papaya_maps.specs.Given.ResizeDeclared.copier.Copying.{Copying as Point}
+use Rattle.papaya_maps.specs.Given.ResizeDeclared.copier.Copying.TheVariants as copies
+use Rattle.papaya_maps.specs.Given.RawDeclared.machines.call.KeyCall.{KeyCall}
+use Rattle.papaya_maps.specs.Given.RawDeclared.machines.call.Calling.{Calling}
+use Rattle.papaya_maps.specs.Given.RawDeclared.machines.call.Calling.TheVariants as at
+use Rattle.papaya_maps.specs.Given.ReservesDeclared.reserve.Reserving.{Reserving}
+use Rattle.papaya_maps.specs.Given.ReservesDeclared.reserve.Reserving.TheVariants as reserves
+use Rattle.papaya_maps.specs.Given.SweepsDeclared.sweep.Sweeping.{Sweeping}
+use Rattle.papaya_maps.specs.Given.SweepsDeclared.sweep.Sweeping.TheVariants as sweeps
+use Rattle.papaya_maps.specs.Given.RuleChart.{Copying, Holds, Chart}
+use Rattle.seize_acts.specs.Given.SeizeWorld.{World, Row, Rests}
 use Rattle.seize_acts.specs.Waits.{SettlesOn, AnotherHas}
-use Rattle.papaya_maps.specs.Given.Callers.Rows.{row_of_disposal, row_of_copier}
+use Rattle.papaya_maps.specs.Given.CallersRows.{row_of_disposal, row_of_copier}
 
 module _ {K : Type 0} (c : Chart K) where
   -- the copying into the table with this turn is under way: that table is neither promoted nor given up

@@ -1,6 +1,6 @@
 //! What is promised of each step of a call that answers that it waits.
 ghost use Rattle.std.specs.Prelude.{ℕ, Bool};
-ghost use Rattle.papaya_maps.specs.Given.Tables.declared.setting.Setting.{Setting};
+ghost use Rattle.papaya_maps.specs.Given.TablesDeclared.setting.Setting.{Setting};
 ghost use Rattle.papaya_waits.specs.Others.{PairsAreCopiedByCalls, AskersHaveOthers, CallsKeepEnds, RoomsKeepEnds, SweepsKeepEnds};
 ghost use Rattle.papaya_waits.specs.Promises.{CallsWaitForACopying, RoomsWaitForACopying, SweepsWaitForACopying, LookupsNeverWait, CallRowsWaitForAHolder, RoomRowsWaitForAHolder, SweepRowsWaitForAHolder};
 

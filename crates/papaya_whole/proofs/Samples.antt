@@ -1,12 +1,12 @@
 -- The words on lists of pairs, and what answers tell by them, on cases worked by hand.
 use Rattle.std.specs.Prelude.{◌≡◌, ℕ, List, [], ◌∷◌, Some, None, eqb}
 use Rattle.std.proofs.Common.{refl, ap}
-use Rattle.papaya_waits.specs.Given.SeizeWords.Mem.{Mem}
-use Rattle.papaya_passes.specs.Given.Tables.declared.node.Node.{Node}
-use Rattle.papaya_passes.specs.Given.Raw.declared.machines.answer.KeyAnswer.TheVariants as answers
-use Rattle.papaya_passes.specs.Given.Rule.Chart.{Chart}
-use Rattle.papaya_passes.specs.Given.Rule.Words.{Blocks}
-use Rattle.papaya_waits.specs.Given.Callers.Pairs.{Given}
+use Rattle.papaya_waits.specs.Given.SeizeWordsMem.{Mem}
+use Rattle.papaya_passes.specs.Given.TablesDeclared.node.Node.{Node}
+use Rattle.papaya_passes.specs.Given.RawDeclared.machines.answer.KeyAnswer.TheVariants as answers
+use Rattle.papaya_passes.specs.Given.RuleChart.{Chart}
+use Rattle.papaya_passes.specs.Given.RuleWords.{Blocks}
+use Rattle.papaya_waits.specs.Given.CallersPairs.{Given}
 use Rattle.papaya_whole.specs.Contents.{pair_for, without, HasOneEach}
 use Rattle.papaya_whole.specs.AtEnd.{AnswersSo}
 

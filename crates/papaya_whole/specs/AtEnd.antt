@@ -1,19 +1,19 @@
 -- What a whole call on one key answers, and what the list of the map's pairs is then.
 use Rattle.std.specs.Prelude.{◌≡◌, ℕ, Bool, true, List, [], ◌∷◌, ◌++◌, Some, None}
-use Rattle.papaya_waits.specs.Given.SeizeWords.Mem.{Mem, value_at}
-use Rattle.papaya_waits.specs.Given.Seize.World.{World}
-use Rattle.papaya_passes.specs.Given.Tables.declared.node.Node.{Node}
-use Rattle.papaya_passes.specs.Given.Tables.declared.node.Node.TheVariants as node
-use Rattle.papaya_passes.specs.Given.Tables.declared.setting.Setting.{Setting}
-use Rattle.papaya_passes.specs.Given.Raw.declared.machines.answer.KeyAnswer.{KeyAnswer}
-use Rattle.papaya_passes.specs.Given.Raw.declared.machines.answer.KeyAnswer.TheVariants as answers
-use Rattle.papaya_passes.specs.Given.Rule.Chart.{Phase, Holds, Still, Chart}
-use Rattle.papaya_passes.specs.Given.Rule.Words.{Blocks, place_word}
-use Rattle.papaya_passes.specs.Given.Rule.InWorld.{IsMapIn}
-use Rattle.papaya_passes.specs.Given.Points.FactsCalls.{Stored, Replaced, Removed}
-use Rattle.papaya_passes.specs.Given.Points.Steps.{AreLawful}
-use Rattle.papaya_waits.specs.Given.Callers.Pairs.{Given, StoresGiven}
-use Rattle.papaya_waits.specs.Given.Callers.Together.{CallOnKey, AnswersOnce}
+use Rattle.papaya_waits.specs.Given.SeizeWordsMem.{Mem, value_at}
+use Rattle.papaya_waits.specs.Given.SeizeWorld.{World}
+use Rattle.papaya_passes.specs.Given.TablesDeclared.node.Node.{Node}
+use Rattle.papaya_passes.specs.Given.TablesDeclared.node.Node.TheVariants as node
+use Rattle.papaya_passes.specs.Given.TablesDeclared.setting.Setting.{Setting}
+use Rattle.papaya_passes.specs.Given.RawDeclared.machines.answer.KeyAnswer.{KeyAnswer}
+use Rattle.papaya_passes.specs.Given.RawDeclared.machines.answer.KeyAnswer.TheVariants as answers
+use Rattle.papaya_passes.specs.Given.RuleChart.{Phase, Holds, Still, Chart}
+use Rattle.papaya_passes.specs.Given.RuleWords.{Blocks, place_word}
+use Rattle.papaya_passes.specs.Given.RuleInWorld.{IsMapIn}
+use Rattle.papaya_passes.specs.Given.PointsFactsCalls.{Stored, Replaced, Removed}
+use Rattle.papaya_passes.specs.Given.PointsSteps.{AreLawful}
+use Rattle.papaya_waits.specs.Given.CallersPairs.{Given, StoresGiven}
+use Rattle.papaya_waits.specs.Given.CallersTogether.{CallOnKey, AnswersOnce}
 use Rattle.papaya_whole.specs.Contents.{pair_for, without, AreContents, HasRun, HasPairFor}
 
 -- By an answer: from the pairs xs, the map has come to the pairs ys. What was stored is what the call was given, or was told,

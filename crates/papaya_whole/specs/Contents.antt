@@ -1,21 +1,21 @@
 -- The pairs of a map as a list, in the order in which they were stored, and the words on such lists.
 use Rattle.std.specs.Prelude.{◌≡◌, ℕ, zero, suc, ◌<◌, ◌≤◌, Bool, true, cond, List, [], ◌∷◌, ◌++◌, Option, Some, None, if◌then◌else◌}
-use Rattle.papaya_waits.specs.Given.SeizeWords.Mem.{Mem, value_at}
-use Rattle.papaya_passes.specs.Given.Tables.declared.node.Node.{Node}
-use Rattle.papaya_passes.specs.Given.Tables.declared.node.Node.TheVariants as node
-use Rattle.papaya_passes.specs.Given.Raw.declared.machines.answer.KeyAnswer.{KeyAnswer}
-use Rattle.papaya_passes.specs.Given.Raw.declared.machines.answer.KeyAnswer.TheVariants as answers
-use Rattle.papaya_passes.specs.Given.Rule.Chart.{Phase, Holds, Chart}
-use Rattle.papaya_passes.specs.Given.Rule.Words.{Blocks, place_word}
-use Rattle.papaya_passes.specs.Given.Rule.Moments.{Moments}
-use Rattle.papaya_passes.specs.Given.Tables.Chunks.{is_incremental}
-use Rattle.papaya_waits.specs.Given.Callers.Since.{SoSince}
-use Rattle.papaya_passes.specs.Given.Rule.InWorld.{IsMapIn}
-use Rattle.papaya_passes.specs.Given.Points.FactsCalls.{Change, Unchanged, Stored, Replaced, Removed}
-use Rattle.papaya_passes.specs.Given.Points.Steps.{AreLawful}
-use Rattle.papaya_waits.specs.Given.Alone.Alone.{HasChanged}
-use Rattle.papaya_passes.specs.Given.Tables.declared.setting.Setting.{Setting}
-use Rattle.papaya_waits.specs.Given.Seize.World.{World}
+use Rattle.papaya_waits.specs.Given.SeizeWordsMem.{Mem, value_at}
+use Rattle.papaya_passes.specs.Given.TablesDeclared.node.Node.{Node}
+use Rattle.papaya_passes.specs.Given.TablesDeclared.node.Node.TheVariants as node
+use Rattle.papaya_passes.specs.Given.RawDeclared.machines.answer.KeyAnswer.{KeyAnswer}
+use Rattle.papaya_passes.specs.Given.RawDeclared.machines.answer.KeyAnswer.TheVariants as answers
+use Rattle.papaya_passes.specs.Given.RuleChart.{Phase, Holds, Chart}
+use Rattle.papaya_passes.specs.Given.RuleWords.{Blocks, place_word}
+use Rattle.papaya_passes.specs.Given.RuleMoments.{Moments}
+use Rattle.papaya_passes.specs.Given.TablesChunks.{is_incremental}
+use Rattle.papaya_waits.specs.Given.CallersSince.{SoSince}
+use Rattle.papaya_passes.specs.Given.RuleInWorld.{IsMapIn}
+use Rattle.papaya_passes.specs.Given.PointsFactsCalls.{Change, Unchanged, Stored, Replaced, Removed}
+use Rattle.papaya_passes.specs.Given.PointsSteps.{AreLawful}
+use Rattle.papaya_waits.specs.Given.AloneAlone.{HasChanged}
+use Rattle.papaya_passes.specs.Given.TablesDeclared.setting.Setting.{Setting}
+use Rattle.papaya_waits.specs.Given.SeizeWorld.{World}
 
 module _ {K V : Type 0} (same : K → K → Bool) where
   -- the pair of a key's class

@@ -1,17 +1,17 @@
 -- A retaining that is told to keep just the pairs that pass a test: what it leaves of the list. And the list of the pairs that a walk has shown.
 use Rattle.std.specs.Prelude.{◌≡◌, ℕ, ◌<◌, Bool, true, cond, List, [], ◌∷◌, filter, IsPermutation, Some}
-use Rattle.papaya_waits.specs.Given.SeizeWords.Mem.{Mem, value_at}
-use Rattle.papaya_waits.specs.Given.Seize.World.{World}
-use Rattle.papaya_passes.specs.Given.Tables.declared.node.Node.{Node}
-use Rattle.papaya_passes.specs.Given.Tables.declared.node.Node.TheVariants as node
-use Rattle.papaya_passes.specs.Given.Tables.declared.setting.Setting.{Setting}
-use Rattle.papaya_passes.specs.Given.Sweeps.declared.sweep.Purpose.TheVariants.{Walks, Retains}
-use Rattle.papaya_passes.specs.Given.Sweeps.declared.sweep.Sweeping.TheVariants as at
-use Rattle.papaya_passes.specs.Given.Rule.Chart.{Chart}
-use Rattle.papaya_passes.specs.Given.Rule.Words.{Blocks}
-use Rattle.papaya_passes.specs.Given.Rule.InWorld.{IsMapIn}
-use Rattle.papaya_passes.specs.Given.Late.Covers.{times, Came}
-use Rattle.papaya_waits.specs.Given.Callers.OverAll.{CallOverAll}
+use Rattle.papaya_waits.specs.Given.SeizeWordsMem.{Mem, value_at}
+use Rattle.papaya_waits.specs.Given.SeizeWorld.{World}
+use Rattle.papaya_passes.specs.Given.TablesDeclared.node.Node.{Node}
+use Rattle.papaya_passes.specs.Given.TablesDeclared.node.Node.TheVariants as node
+use Rattle.papaya_passes.specs.Given.TablesDeclared.setting.Setting.{Setting}
+use Rattle.papaya_passes.specs.Given.SweepsDeclared.sweep.Purpose.TheVariants.{Walks, Retains}
+use Rattle.papaya_passes.specs.Given.SweepsDeclared.sweep.Sweeping.TheVariants as at
+use Rattle.papaya_passes.specs.Given.RuleChart.{Chart}
+use Rattle.papaya_passes.specs.Given.RuleWords.{Blocks}
+use Rattle.papaya_passes.specs.Given.RuleInWorld.{IsMapIn}
+use Rattle.papaya_passes.specs.Given.LateCovers.{times, Came}
+use Rattle.papaya_waits.specs.Given.CallersOverAll.{CallOverAll}
 use Rattle.papaya_whole.specs.Contents.{AreContents}
 use Rattle.papaya_whole.specs.LoneSweeps.{goes_once}
 use Rattle.papaya_whole.specs.SweptPairs.{HasSwept, is_done}

@@ -1,12 +1,12 @@
 -- The last table of a map, where no table can follow it: for that alone a call that one owner runs is refused for the length of a table.
 use Rattle.std.specs.Prelude.{◌≡◌, ◌⊎◌, ℕ, suc, ◌^◌, ◌<◌}
-use Rattle.papaya_waits.specs.Given.SeizeWords.declared.fault.Fault.{Fault}
-use Rattle.papaya_waits.specs.Given.SeizeWords.declared.fault.Fault.TheVariants.{Capacity}
-use Rattle.papaya_passes.specs.Given.Tables.Lengths.{CannotBeFollowed, GoesByTable}
-use Rattle.papaya_passes.specs.Given.Tables.declared.lengths.Reason.{Reason}
-use Rattle.papaya_passes.specs.Given.Tables.declared.table.Table.{Table}
-use Rattle.papaya_passes.specs.Given.Reserves.Reserve.{needed}
-use Rattle.papaya_passes.specs.Given.Rule.Chart.{Chart}
+use Rattle.papaya_waits.specs.Given.SeizeWordsDeclared.fault.Fault.{Fault}
+use Rattle.papaya_waits.specs.Given.SeizeWordsDeclared.fault.Fault.TheVariants.{Capacity}
+use Rattle.papaya_passes.specs.Given.TablesLengths.{CannotBeFollowed, GoesByTable}
+use Rattle.papaya_passes.specs.Given.TablesDeclared.lengths.Reason.{Reason}
+use Rattle.papaya_passes.specs.Given.TablesDeclared.table.Table.{Table}
+use Rattle.papaya_passes.specs.Given.ReservesReserve.{needed}
+use Rattle.papaya_passes.specs.Given.RuleChart.{Chart}
 
 module _ {K : Type 0} (c : Chart K) where
   -- the last table of the map cannot be followed

@@ -1,15 +1,15 @@
 -- What is so at each point of a sweep where one caller alone has a part in the copying of its map: nobody else copies, and it goes over the table of the root.
 use Rattle.std.specs.Prelude.{◌≡◌, ℕ, suc, ◌<◌, ◌≤◌, Bool, true, false, List, []}
-use Rattle.papaya_passes.specs.Given.Sweeps.declared.sweep.Purpose.{Purpose}
-use Rattle.papaya_passes.specs.Given.Sweeps.declared.sweep.Purpose.TheVariants.{Walks, Clears, Retains}
-use Rattle.papaya_passes.specs.Given.Sweeps.declared.sweep.Sweep.{Sweep}
-use Rattle.papaya_passes.specs.Given.Sweeps.declared.sweep.Sweeping.{Sweeping}
-use Rattle.papaya_passes.specs.Given.Sweeps.declared.sweep.Sweeping.TheVariants as at
-use Rattle.papaya_passes.specs.Given.Rule.Chart.{Still, Holds, Chart}
-use Rattle.papaya_passes.specs.Given.Rule.Words.{Blocks, place_word}
-use Rattle.papaya_passes.specs.Given.Points.Measures.{OthersIdle}
-use Rattle.papaya_waits.specs.Given.Alone.FactsAloneCalls.{TablesAlone}
-use Rattle.papaya_waits.specs.Given.Maps.FactsAloneReserves.{CopierAlone}
+use Rattle.papaya_passes.specs.Given.SweepsDeclared.sweep.Purpose.{Purpose}
+use Rattle.papaya_passes.specs.Given.SweepsDeclared.sweep.Purpose.TheVariants.{Walks, Clears, Retains}
+use Rattle.papaya_passes.specs.Given.SweepsDeclared.sweep.Sweep.{Sweep}
+use Rattle.papaya_passes.specs.Given.SweepsDeclared.sweep.Sweeping.{Sweeping}
+use Rattle.papaya_passes.specs.Given.SweepsDeclared.sweep.Sweeping.TheVariants as at
+use Rattle.papaya_passes.specs.Given.RuleChart.{Still, Holds, Chart}
+use Rattle.papaya_passes.specs.Given.RuleWords.{Blocks, place_word}
+use Rattle.papaya_passes.specs.Given.PointsMeasures.{OthersIdle}
+use Rattle.papaya_waits.specs.Given.AloneFactsAloneCalls.{TablesAlone}
+use Rattle.papaya_waits.specs.Given.MapsFactsAloneReserves.{CopierAlone}
 
 -- it has come to no place of a table
 abbrev pub IsBefore : Sweeping → Type 0

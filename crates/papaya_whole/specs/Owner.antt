@@ -1,21 +1,21 @@
 -- One owner of a map's memory, who is caller 0: where it has no call under way, and where it has one, alone.
 use Rattle.std.specs.Prelude.{◌≡◌, ◌≢◌, ℕ, ◌⊎◌, Bool, Option, Some, None}
 use Rattle.std.proofs.Common.{inl, inr}
-use Rattle.papaya_waits.specs.Given.Seize.World.{World, Rests, IsInside}
-use Rattle.papaya_passes.specs.Given.Tables.Chunks.{is_incremental}
-use Rattle.papaya_passes.specs.Given.Tables.declared.node.Node.{Node}
-use Rattle.papaya_passes.specs.Given.Tables.declared.setting.Setting.{Setting}
-use Rattle.papaya_passes.specs.Given.Rule.Chart.{Chart}
-use Rattle.papaya_passes.specs.Given.Rule.Words.{Blocks}
-use Rattle.papaya_waits.specs.Given.Alone.FactsAloneCalls.{IsLone, RestsAlone}
-use Rattle.papaya_waits.specs.Given.Maps.FactsAloneReserves.{IsLoneReserve}
-use Rattle.papaya_passes.specs.Given.Sweeps.declared.sweep.Sweep.{Sweep}
-use Rattle.papaya_passes.specs.Given.Sweeps.declared.sweep.Sweeping.{Sweeping}
-use Rattle.papaya_passes.specs.Given.Sweeps.declared.sweep.Sweeping.TheVariants as sweeps
-use Rattle.papaya_passes.specs.Given.Late.FactsSweeps.{SweepingFacts}
-use Rattle.papaya_waits.specs.Given.Callers.Sights.{Sight, seen_by}
-use Rattle.papaya_waits.specs.Given.Callers.OverAll.{sweep_once_over}
-use Rattle.papaya_waits.specs.Given.Callers.Together.{UnderWay, OnKey, ForRoom, Counting, OverAll, in_slot, Stands, Together}
+use Rattle.papaya_waits.specs.Given.SeizeWorld.{World, Rests, IsInside}
+use Rattle.papaya_passes.specs.Given.TablesChunks.{is_incremental}
+use Rattle.papaya_passes.specs.Given.TablesDeclared.node.Node.{Node}
+use Rattle.papaya_passes.specs.Given.TablesDeclared.setting.Setting.{Setting}
+use Rattle.papaya_passes.specs.Given.RuleChart.{Chart}
+use Rattle.papaya_passes.specs.Given.RuleWords.{Blocks}
+use Rattle.papaya_waits.specs.Given.AloneFactsAloneCalls.{IsLone, RestsAlone}
+use Rattle.papaya_waits.specs.Given.MapsFactsAloneReserves.{IsLoneReserve}
+use Rattle.papaya_passes.specs.Given.SweepsDeclared.sweep.Sweep.{Sweep}
+use Rattle.papaya_passes.specs.Given.SweepsDeclared.sweep.Sweeping.{Sweeping}
+use Rattle.papaya_passes.specs.Given.SweepsDeclared.sweep.Sweeping.TheVariants as sweeps
+use Rattle.papaya_passes.specs.Given.LateFactsSweeps.{SweepingFacts}
+use Rattle.papaya_waits.specs.Given.CallersSights.{Sight, seen_by}
+use Rattle.papaya_waits.specs.Given.CallersOverAll.{sweep_once_over}
+use Rattle.papaya_waits.specs.Given.CallersTogether.{UnderWay, OnKey, ForRoom, Counting, OverAll, in_slot, Stands, Together}
 use Rattle.papaya_whole.specs.LoneSweeps.{IsLoneSweep, IsOverRoot}
 
 -- it is the first of the two

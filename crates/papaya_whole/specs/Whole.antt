@@ -1,42 +1,42 @@
 -- What is promised of whole calls for one owner: where each begins, where each of its steps leads, and that its steps come to an end.
 use Rattle.std.specs.Prelude.{◌≡◌, ℕ, ◌^◌, ◌<◌, ◌≤◌, Bool, Some, true}
 use Rattle.std.specs.Int.{IsPowerOfTwo}
-use Rattle.papaya_waits.specs.Given.SeizeWords.Mem.{Mem, Can, Took, value_at, word_at}
-use Rattle.papaya_waits.specs.Given.SeizeWords.Plan.{May, Steps}
-use Rattle.papaya_waits.specs.Given.SeizeWords.declared.at.At.TheVariants.{Root, Word}
-use Rattle.papaya_waits.specs.Given.SeizeWords.declared.fault.Fault.{Fault}
-use Rattle.papaya_waits.specs.Given.SeizeWords.declared.fault.Fault.TheVariants.{RemoveNothing}
-use Rattle.papaya_waits.specs.Given.Seize.World.{World, Rests, IsInside}
-use Rattle.papaya_passes.specs.Given.Tables.declared.node.Node.{Node}
-use Rattle.papaya_passes.specs.Given.Tables.declared.setting.Setting.{Setting}
-use Rattle.papaya_passes.specs.Given.Raw.Call.{call_plan}
-use Rattle.papaya_passes.specs.Given.Raw.declared.machines.answer.Called.{Called}
-use Rattle.papaya_passes.specs.Given.Raw.declared.machines.answer.Called.TheVariants as called
-use Rattle.papaya_passes.specs.Given.Raw.declared.machines.asking.Asking.{Asking}
-use Rattle.papaya_passes.specs.Given.Raw.declared.machines.call.KeyCall.{KeyCall}
-use Rattle.papaya_passes.specs.Given.Raw.declared.machines.call.Calling.TheVariants as at
-use Rattle.papaya_passes.specs.Given.Rule.Chart.{Chart}
-use Rattle.papaya_passes.specs.Given.Rule.Maps.{spot_of}
-use Rattle.papaya_passes.specs.Given.Rule.Rule.{Rule, no_table}
-use Rattle.papaya_passes.specs.Given.Rule.InWorld.{IsMapIn}
-use Rattle.papaya_passes.specs.Given.Raw.CallAsks.{replied}
-use Rattle.papaya_passes.specs.Given.Raw.declared.machines.asking.Reply.{Reply}
-use Rattle.papaya_passes.specs.Given.Raw.declared.machines.answer.KeyAnswer.{KeyAnswer}
-use Rattle.papaya_passes.specs.Given.Tables.declared.node.Node.TheVariants as node
-use Rattle.papaya_passes.specs.Given.Tables.Chunks.{is_incremental}
+use Rattle.papaya_waits.specs.Given.SeizeWordsMem.{Mem, Can, Took, value_at, word_at}
+use Rattle.papaya_waits.specs.Given.SeizeWordsPlan.{May, Steps}
+use Rattle.papaya_waits.specs.Given.SeizeWordsDeclared.at.At.TheVariants.{Root, Word}
+use Rattle.papaya_waits.specs.Given.SeizeWordsDeclared.fault.Fault.{Fault}
+use Rattle.papaya_waits.specs.Given.SeizeWordsDeclared.fault.Fault.TheVariants.{RemoveNothing}
+use Rattle.papaya_waits.specs.Given.SeizeWorld.{World, Rests, IsInside}
+use Rattle.papaya_passes.specs.Given.TablesDeclared.node.Node.{Node}
+use Rattle.papaya_passes.specs.Given.TablesDeclared.setting.Setting.{Setting}
+use Rattle.papaya_passes.specs.Given.RawCall.{call_plan}
+use Rattle.papaya_passes.specs.Given.RawDeclared.machines.answer.Called.{Called}
+use Rattle.papaya_passes.specs.Given.RawDeclared.machines.answer.Called.TheVariants as called
+use Rattle.papaya_passes.specs.Given.RawDeclared.machines.asking.Asking.{Asking}
+use Rattle.papaya_passes.specs.Given.RawDeclared.machines.call.KeyCall.{KeyCall}
+use Rattle.papaya_passes.specs.Given.RawDeclared.machines.call.Calling.TheVariants as at
+use Rattle.papaya_passes.specs.Given.RuleChart.{Chart}
+use Rattle.papaya_passes.specs.Given.RuleMaps.{spot_of}
+use Rattle.papaya_passes.specs.Given.RuleRule.{Rule, no_table}
+use Rattle.papaya_passes.specs.Given.RuleInWorld.{IsMapIn}
+use Rattle.papaya_passes.specs.Given.RawCallAsks.{replied}
+use Rattle.papaya_passes.specs.Given.RawDeclared.machines.asking.Reply.{Reply}
+use Rattle.papaya_passes.specs.Given.RawDeclared.machines.answer.KeyAnswer.{KeyAnswer}
+use Rattle.papaya_passes.specs.Given.TablesDeclared.node.Node.TheVariants as node
+use Rattle.papaya_passes.specs.Given.TablesChunks.{is_incremental}
 use Rattle.papaya_whole.specs.Contents.{HasRun}
-use Rattle.papaya_passes.specs.Given.Rule.Words.{Blocks}
-use Rattle.papaya_passes.specs.Given.Points.FactsCalls.{Change, Unchanged}
-use Rattle.papaya_passes.specs.Given.Points.Steps.{AreLawful}
-use Rattle.papaya_waits.specs.Given.Alone.Alone.{HasChanged}
-use Rattle.papaya_waits.specs.Given.Alone.Counted.{HasAdded, counted_for, counted_at}
-use Rattle.papaya_waits.specs.Given.Alone.Counting.{IsCounted}
-use Rattle.papaya_waits.specs.Given.Alone.Endings.{RunsEnd}
-use Rattle.papaya_waits.specs.Given.Callers.Kept.{IsMaking}
-use Rattle.papaya_waits.specs.Given.Callers.Pairs.{Given, HandsBack, RemovesNone}
-use Rattle.papaya_waits.specs.Given.Callers.Sights.{Sight, seen_by}
-use Rattle.papaya_waits.specs.Given.Callers.Together.{CallOnKey, OnKey, CameAbout, no_blocks, no_sight, in_slot, IsBegun, begun_at, AnswersOnce, IsReclaimed, RepliesTaken}
-use Rattle.papaya_passes.specs.Given.Late.Faults.{CallRefusesSo, StandsInCalling}
+use Rattle.papaya_passes.specs.Given.RuleWords.{Blocks}
+use Rattle.papaya_passes.specs.Given.PointsFactsCalls.{Change, Unchanged}
+use Rattle.papaya_passes.specs.Given.PointsSteps.{AreLawful}
+use Rattle.papaya_waits.specs.Given.AloneAlone.{HasChanged}
+use Rattle.papaya_waits.specs.Given.AloneCounted.{HasAdded, counted_for, counted_at}
+use Rattle.papaya_waits.specs.Given.AloneCounting.{IsCounted}
+use Rattle.papaya_waits.specs.Given.AloneEndings.{RunsEnd}
+use Rattle.papaya_waits.specs.Given.CallersKept.{IsMaking}
+use Rattle.papaya_waits.specs.Given.CallersPairs.{Given, HandsBack, RemovesNone}
+use Rattle.papaya_waits.specs.Given.CallersSights.{Sight, seen_by}
+use Rattle.papaya_waits.specs.Given.CallersTogether.{CallOnKey, OnKey, CameAbout, no_blocks, no_sight, in_slot, IsBegun, begun_at, AnswersOnce, IsReclaimed, RepliesTaken}
+use Rattle.papaya_passes.specs.Given.LateFaults.{CallRefusesSo, StandsInCalling}
 use Rattle.papaya_whole.specs.Limits.{IsForTheLast, IsTheLast}
 use Rattle.papaya_whole.specs.Owner.{AtRest, IsAlone}
 

@@ -1,37 +1,37 @@
 -- What is promised of whole reservations and countings for one owner.
 use Rattle.std.specs.Prelude.{◌≡◌, ℕ, suc, ◌%◌, ◌^◌, ◌≤◌, Bool, true, List, length}
 use Rattle.std.specs.Int.{IsPowerOfTwo}
-use Rattle.papaya_waits.specs.Given.SeizeWords.Mem.{Mem, Can, Took, value_at}
-use Rattle.papaya_waits.specs.Given.SeizeWords.Plan.{May, Steps}
-use Rattle.papaya_waits.specs.Given.Seize.World.{World}
-use Rattle.papaya_waits.specs.Given.Seize.declared.progress.Progress.{Progress}
-use Rattle.papaya_waits.specs.Given.Seize.declared.progress.Progress.TheVariants as progress
-use Rattle.papaya_passes.specs.Given.Tables.declared.node.Node.{Node}
-use Rattle.papaya_passes.specs.Given.Tables.declared.setting.Setting.{Setting}
-use Rattle.papaya_passes.specs.Given.Resize.Sum.{summing, sum_plan}
-use Rattle.papaya_passes.specs.Given.Resize.declared.outcome.Outcome.{Outcome}
-use Rattle.papaya_passes.specs.Given.Resize.declared.outcome.Outcome.TheVariants as outcome
-use Rattle.papaya_passes.specs.Given.Resize.declared.sum.Sum.{Sum}
-use Rattle.papaya_passes.specs.Given.Reserves.Reserve.{reserving, reserve_plan}
-use Rattle.papaya_passes.specs.Given.Reserves.declared.reserve.Reserve.{Reserve}
-use Rattle.papaya_passes.specs.Given.Rule.Chart.{Chart}
-use Rattle.papaya_passes.specs.Given.Rule.Words.{Blocks}
-use Rattle.papaya_passes.specs.Given.Rule.Maps.{spot_of}
-use Rattle.papaya_passes.specs.Given.Rule.Rule.{Rule}
-use Rattle.papaya_passes.specs.Given.Tables.Chunks.{is_incremental}
-use Rattle.papaya_passes.specs.Given.Tables.Counts.{count_in}
-use Rattle.papaya_passes.specs.Given.Points.FactsCalls.{Unchanged}
-use Rattle.papaya_waits.specs.Given.Alone.Counted.{HasAdded}
-use Rattle.papaya_waits.specs.Given.Alone.Counting.{IsCounted, count_ahead, shards_sum}
-use Rattle.papaya_passes.specs.Given.Rule.InWorld.{IsMapIn}
+use Rattle.papaya_waits.specs.Given.SeizeWordsMem.{Mem, Can, Took, value_at}
+use Rattle.papaya_waits.specs.Given.SeizeWordsPlan.{May, Steps}
+use Rattle.papaya_waits.specs.Given.SeizeWorld.{World}
+use Rattle.papaya_waits.specs.Given.SeizeDeclared.progress.Progress.{Progress}
+use Rattle.papaya_waits.specs.Given.SeizeDeclared.progress.Progress.TheVariants as progress
+use Rattle.papaya_passes.specs.Given.TablesDeclared.node.Node.{Node}
+use Rattle.papaya_passes.specs.Given.TablesDeclared.setting.Setting.{Setting}
+use Rattle.papaya_passes.specs.Given.ResizeSum.{summing, sum_plan}
+use Rattle.papaya_passes.specs.Given.ResizeDeclared.outcome.Outcome.{Outcome}
+use Rattle.papaya_passes.specs.Given.ResizeDeclared.outcome.Outcome.TheVariants as outcome
+use Rattle.papaya_passes.specs.Given.ResizeDeclared.sum.Sum.{Sum}
+use Rattle.papaya_passes.specs.Given.ReservesReserve.{reserving, reserve_plan}
+use Rattle.papaya_passes.specs.Given.ReservesDeclared.reserve.Reserve.{Reserve}
+use Rattle.papaya_passes.specs.Given.RuleChart.{Chart}
+use Rattle.papaya_passes.specs.Given.RuleWords.{Blocks}
+use Rattle.papaya_passes.specs.Given.RuleMaps.{spot_of}
+use Rattle.papaya_passes.specs.Given.RuleRule.{Rule}
+use Rattle.papaya_passes.specs.Given.TablesChunks.{is_incremental}
+use Rattle.papaya_passes.specs.Given.TablesCounts.{count_in}
+use Rattle.papaya_passes.specs.Given.PointsFactsCalls.{Unchanged}
+use Rattle.papaya_waits.specs.Given.AloneCounted.{HasAdded}
+use Rattle.papaya_waits.specs.Given.AloneCounting.{IsCounted, count_ahead, shards_sum}
+use Rattle.papaya_passes.specs.Given.RuleInWorld.{IsMapIn}
 use Rattle.papaya_whole.specs.Contents.{AreContents, HasRun}
-use Rattle.papaya_passes.specs.Given.Points.Steps.{AreLawful}
-use Rattle.papaya_waits.specs.Given.Maps.AloneReserves.{SumsUp, LooksAtRoot, KeepsToRoot}
-use Rattle.papaya_waits.specs.Given.Maps.EndingsReserves.{ComesToAnEnd}
-use Rattle.papaya_waits.specs.Given.Callers.Rooms.{CallForRoom}
-use Rattle.papaya_waits.specs.Given.Callers.Sights.{Sight}
-use Rattle.papaya_waits.specs.Given.Callers.Together.{ForRoom, Counting, in_slot, IsReclaimed}
-use Rattle.papaya_passes.specs.Given.Late.Faults.{RefusesSo, StandsInReserving}
+use Rattle.papaya_passes.specs.Given.PointsSteps.{AreLawful}
+use Rattle.papaya_waits.specs.Given.MapsAloneReserves.{SumsUp, LooksAtRoot, KeepsToRoot}
+use Rattle.papaya_waits.specs.Given.MapsEndingsReserves.{ComesToAnEnd}
+use Rattle.papaya_waits.specs.Given.CallersRooms.{CallForRoom}
+use Rattle.papaya_waits.specs.Given.CallersSights.{Sight}
+use Rattle.papaya_waits.specs.Given.CallersTogether.{ForRoom, Counting, in_slot, IsReclaimed}
+use Rattle.papaya_passes.specs.Given.LateFaults.{RefusesSo, StandsInReserving}
 use Rattle.papaya_whole.specs.Limits.{IsForRoom, IsTheLast}
 use Rattle.papaya_whole.specs.Owner.{AtRest, IsAlone}
 

@@ -1,34 +1,34 @@
 -- What is promised of whole sweeps for one owner: walks, clearings and retainings.
 use Rattle.std.specs.Prelude.{◌≡◌, ◌⊎◌, ℕ, ◌<◌, ◌≤◌, ◌%◌, ◌^◌, ◌+◌, suc, Bool, true, List, ◌∷◌, Some}
 use Rattle.std.specs.Int.{IsPowerOfTwo}
-use Rattle.papaya_waits.specs.Given.SeizeWords.Mem.{Mem, Can, Took, value_at}
-use Rattle.papaya_waits.specs.Given.SeizeWords.Plan.{May, Steps}
-use Rattle.papaya_waits.specs.Given.SeizeWords.Word.{block_in}
-use Rattle.papaya_waits.specs.Given.SeizeWords.declared.fault.Fault.{Fault}
-use Rattle.papaya_waits.specs.Given.Seize.World.{World}
-use Rattle.papaya_passes.specs.Given.Tables.Chunks.{is_incremental}
-use Rattle.papaya_passes.specs.Given.Tables.declared.node.Node.{Node}
-use Rattle.papaya_passes.specs.Given.Tables.declared.node.Node.TheVariants as node
-use Rattle.papaya_passes.specs.Given.Tables.declared.setting.Setting.{Setting}
-use Rattle.papaya_passes.specs.Given.Sweeps.Sweep.{sweep_plan}
-use Rattle.papaya_passes.specs.Given.Sweeps.SweepPoints.{sweeping, after_next, after_reply}
-use Rattle.papaya_passes.specs.Given.Sweeps.declared.sweep.Purpose.{Purpose}
-use Rattle.papaya_passes.specs.Given.Sweeps.declared.sweep.Sweep.{Sweep}
-use Rattle.papaya_passes.specs.Given.Sweeps.declared.sweep.Sweeping.{Sweeping}
-use Rattle.papaya_passes.specs.Given.Sweeps.declared.sweep.Sweeping.TheVariants as at
-use Rattle.papaya_passes.specs.Given.Sweeps.declared.sweep.Swept.{Swept}
-use Rattle.papaya_passes.specs.Given.Sweeps.declared.sweep.Swept.TheVariants as swept
-use Rattle.papaya_passes.specs.Given.Rule.Chart.{Phase, Holds, Chart}
-use Rattle.papaya_passes.specs.Given.Rule.Words.{Blocks, place_word}
-use Rattle.papaya_passes.specs.Given.Points.Steps.{AreLawful}
-use Rattle.papaya_waits.specs.Given.Alone.Counting.{pairs_in, shards_sum, IsCounted}
-use Rattle.papaya_waits.specs.Given.Alone.Endings.{RunsEnd}
-use Rattle.papaya_passes.specs.Given.Late.Covers.{times, Came}
+use Rattle.papaya_waits.specs.Given.SeizeWordsMem.{Mem, Can, Took, value_at}
+use Rattle.papaya_waits.specs.Given.SeizeWordsPlan.{May, Steps}
+use Rattle.papaya_waits.specs.Given.SeizeWordsWord.{block_in}
+use Rattle.papaya_waits.specs.Given.SeizeWordsDeclared.fault.Fault.{Fault}
+use Rattle.papaya_waits.specs.Given.SeizeWorld.{World}
+use Rattle.papaya_passes.specs.Given.TablesChunks.{is_incremental}
+use Rattle.papaya_passes.specs.Given.TablesDeclared.node.Node.{Node}
+use Rattle.papaya_passes.specs.Given.TablesDeclared.node.Node.TheVariants as node
+use Rattle.papaya_passes.specs.Given.TablesDeclared.setting.Setting.{Setting}
+use Rattle.papaya_passes.specs.Given.SweepsSweep.{sweep_plan}
+use Rattle.papaya_passes.specs.Given.SweepsSweepPoints.{sweeping, after_next, after_reply}
+use Rattle.papaya_passes.specs.Given.SweepsDeclared.sweep.Purpose.{Purpose}
+use Rattle.papaya_passes.specs.Given.SweepsDeclared.sweep.Sweep.{Sweep}
+use Rattle.papaya_passes.specs.Given.SweepsDeclared.sweep.Sweeping.{Sweeping}
+use Rattle.papaya_passes.specs.Given.SweepsDeclared.sweep.Sweeping.TheVariants as at
+use Rattle.papaya_passes.specs.Given.SweepsDeclared.sweep.Swept.{Swept}
+use Rattle.papaya_passes.specs.Given.SweepsDeclared.sweep.Swept.TheVariants as swept
+use Rattle.papaya_passes.specs.Given.RuleChart.{Phase, Holds, Chart}
+use Rattle.papaya_passes.specs.Given.RuleWords.{Blocks, place_word}
+use Rattle.papaya_passes.specs.Given.PointsSteps.{AreLawful}
+use Rattle.papaya_waits.specs.Given.AloneCounting.{pairs_in, shards_sum, IsCounted}
+use Rattle.papaya_waits.specs.Given.AloneEndings.{RunsEnd}
+use Rattle.papaya_passes.specs.Given.LateCovers.{times, Came}
 pub use Rattle.papaya_passes.specs.FallsSweeps.{ComesOn}
-use Rattle.papaya_waits.specs.Given.Callers.OverAll.{CallOverAll, begun_over_all, gone_on, come_to, told_of, RemovesTold}
-use Rattle.papaya_waits.specs.Given.Callers.Sights.{Sight}
-use Rattle.papaya_waits.specs.Given.Callers.Together.{OverAll, in_slot, IsReclaimed}
-use Rattle.papaya_passes.specs.Given.Late.Faults.{StandsInSweeping, SweepRefusesSo}
+use Rattle.papaya_waits.specs.Given.CallersOverAll.{CallOverAll, begun_over_all, gone_on, come_to, told_of, RemovesTold}
+use Rattle.papaya_waits.specs.Given.CallersSights.{Sight}
+use Rattle.papaya_waits.specs.Given.CallersTogether.{OverAll, in_slot, IsReclaimed}
+use Rattle.papaya_passes.specs.Given.LateFaults.{StandsInSweeping, SweepRefusesSo}
 use Rattle.papaya_whole.specs.Limits.{IsForTheLast, IsTheLast}
 use Rattle.papaya_whole.specs.LoneSweeps.{goes_once}
 use Rattle.papaya_whole.specs.Owner.{AtRest, IsAlone}

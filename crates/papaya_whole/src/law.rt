@@ -1,11 +1,11 @@
 //! What is promised of whole calls for one owner of a map's memory.
 ghost use Rattle.std.specs.Prelude.{ℕ, Bool, List};
-ghost use Rattle.papaya_waits.specs.Given.SeizeWords.Mem.{Mem};
-ghost use Rattle.papaya_passes.specs.Given.Tables.declared.node.Node.{Node};
-ghost use Rattle.papaya_passes.specs.Given.Rule.Chart.{Chart};
-ghost use Rattle.papaya_passes.specs.Given.Rule.Words.{Blocks};
-ghost use Rattle.papaya_waits.specs.Given.Callers.OverAll.{CallOverAll};
-ghost use Rattle.papaya_passes.specs.Given.Tables.declared.setting.Setting.{Setting};
+ghost use Rattle.papaya_waits.specs.Given.SeizeWordsMem.{Mem};
+ghost use Rattle.papaya_passes.specs.Given.TablesDeclared.node.Node.{Node};
+ghost use Rattle.papaya_passes.specs.Given.RuleChart.{Chart};
+ghost use Rattle.papaya_passes.specs.Given.RuleWords.{Blocks};
+ghost use Rattle.papaya_waits.specs.Given.CallersOverAll.{CallOverAll};
+ghost use Rattle.papaya_passes.specs.Given.TablesDeclared.setting.Setting.{Setting};
 ghost use Rattle.papaya_whole.specs.Whole.{MapBeginsAtRest, RepliesCountNothing, CountsAtEnd, CountsWhereUnchanged, CallsBeginAlone, CallsGoOnAlone, RepliesLeadOn, CallsComeToAnEnd};
 ghost use Rattle.papaya_whole.specs.Contents.{ContentsAre, RunsBegin, ContentsFollow, AnswersOfPairs};
 ghost use Rattle.papaya_whole.specs.AtEnd.{AnswersTellThePairs};

@@ -4,6 +4,7 @@
 mod collector;
 pub mod ids;
 mod machine;
+pub mod named;
 mod progress;
 pub mod reclaim;
 pub mod rows;
@@ -13,5 +14,4 @@ pub use collector::Collector;
 pub use ids::IdSource;
 pub use machine::Machine;
 pub use progress::Progress;
-pub use seize_words;
 pub use seize_words::{At, Fault, Link, Look, Memory, Plain};

@@ -1,39 +1,39 @@
 -- A row rests after so many steps, or waits, while nobody else steps: each of its steps that does not wait leaves it less to go.
 use Rattle.std.specs.Prelude.{Option, ◌==◌, if◌then◌else◌}
 use Rattle.std.proofs.Common.{◌≡◌, ℕ, zero, suc, ◌+◌, ◌<◌, ◌≤◌, Bool, true, false, List, ◌⊎◌, inl, inr, refl, arith, ap, sym, subst, ◌∙◌}
-use Rattle.seize_alone.specs.Given.SeizeWords.declared.at.At.TheVariants.{Slot}
-use Rattle.seize_alone.specs.Given.SeizeWords.Mem.{Mem, Took, value_at}
-use Rattle.seize_alone.specs.Given.SeizeWords.Plan.{Steps, Ends, Now}
-use Rattle.seize_alone.proofs.Given.SeizeWords.OneOwner.Operations.{loaded}
-use Rattle.seize_alone.specs.Given.Seize.declared.states.TheConstants.{BATCH, HELD, LAST_SLOT}
-use Rattle.seize_alone.specs.Given.Seize.declared.progress.Progress.{Progress}
-use Rattle.seize_alone.specs.Given.Seize.declared.progress.Progress.TheVariants as progress
-use Rattle.seize_alone.specs.Given.Seize.declared.rows.settle.Settle.{Settle}
-use Rattle.seize_alone.specs.Given.Seize.declared.rows.settle.Settling.{Settling}
-use Rattle.seize_alone.specs.Given.Seize.declared.rows.settle.Settling.TheVariants as at
-use Rattle.seize_alone.specs.Given.Seize.declared.rows.settle.Settled.{Settled}
-use Rattle.seize_alone.specs.Given.Seize.declared.rows.settle.Settled.TheVariants as settled
-use Rattle.seize_alone.specs.Given.Seize.declared.rows.leave.Leave.{Leave}
-use Rattle.seize_alone.specs.Given.Seize.declared.rows.leave.Leaving.{Leaving}
-use Rattle.seize_alone.specs.Given.Seize.declared.rows.leave.Leaving.TheVariants as leaving
-use Rattle.seize_alone.specs.Given.Seize.declared.rows.defer.Defer.{Defer}
-use Rattle.seize_alone.specs.Given.Seize.declared.rows.register.Register.{Register}
-use Rattle.seize_alone.specs.Given.Seize.Settle.{plan_at, seen, settle_plan}
-use Rattle.seize_alone.specs.Given.Seize.Settle as plans
-use Rattle.seize_alone.specs.Given.Seize.Leave.{leave_plan, standing}
-use Rattle.seize_alone.specs.Given.Seize.Register.{register_plan}
-use Rattle.seize_alone.specs.Given.Seize.World as world
-use Rattle.seize_alone.specs.Given.Seize.World.{World, Row, Rests, Registers, Enters, Settles, Leaves, Defers, Frees, Event, Runs, Steps', settles_on, leaves_on, registers_on, defers_on, at_start}
-use Rattle.seize_alone.proofs.Given.SeizeRule.Rows.Others.{with_here}
-use Rattle.seize_alone.proofs.Given.SeizeRule.Rows.SizesKept.{happens_sized}
-use Rattle.seize_alone.proofs.Given.SeizeRule.World.Kept.{happens_good}
-use Rattle.seize_alone.proofs.Given.SeizeRule.World.Start.{start_good}
-use Rattle.seize_alone.proofs.Given.SeizeEnds.Batches.Held.{waits_held}
-use Rattle.seize_alone.proofs.Given.SeizeEnds.Rows.Among.{Came, row_steps_left, settles_go_lower, leaves_go_lower}
-use Rattle.seize_alone.proofs.Given.SeizeEnds.Rows.Defer.{Lower, defer_to_go, defer_ends}
-use Rattle.seize_alone.proofs.Given.SeizeEnds.Rows.Leaving.{leave_steps_left}
-use Rattle.seize_alone.proofs.Given.SeizeEnds.Rows.Register.{register_to_go, register_ends}
-use Rattle.seize_alone.proofs.Given.SeizeEnds.Settling.Most.{goes_further, settle_steps_left}
+use Rattle.seize_alone.specs.Given.SeizeWordsDeclared.at.At.TheVariants.{Slot}
+use Rattle.seize_alone.specs.Given.SeizeWordsMem.{Mem, Took, value_at}
+use Rattle.seize_alone.specs.Given.SeizeWordsPlan.{Steps, Ends, Now}
+use Rattle.seize_alone.proofs.Given.SeizeWordsOneOwner.Operations.{loaded}
+use Rattle.seize_alone.specs.Given.SeizeDeclared.states.TheConstants.{BATCH, HELD, LAST_SLOT}
+use Rattle.seize_alone.specs.Given.SeizeDeclared.progress.Progress.{Progress}
+use Rattle.seize_alone.specs.Given.SeizeDeclared.progress.Progress.TheVariants as progress
+use Rattle.seize_alone.specs.Given.SeizeDeclared.rows.settle.Settle.{Settle}
+use Rattle.seize_alone.specs.Given.SeizeDeclared.rows.settle.Settling.{Settling}
+use Rattle.seize_alone.specs.Given.SeizeDeclared.rows.settle.Settling.TheVariants as at
+use Rattle.seize_alone.specs.Given.SeizeDeclared.rows.settle.Settled.{Settled}
+use Rattle.seize_alone.specs.Given.SeizeDeclared.rows.settle.Settled.TheVariants as settled
+use Rattle.seize_alone.specs.Given.SeizeDeclared.rows.leave.Leave.{Leave}
+use Rattle.seize_alone.specs.Given.SeizeDeclared.rows.leave.Leaving.{Leaving}
+use Rattle.seize_alone.specs.Given.SeizeDeclared.rows.leave.Leaving.TheVariants as leaving
+use Rattle.seize_alone.specs.Given.SeizeDeclared.rows.defer.Defer.{Defer}
+use Rattle.seize_alone.specs.Given.SeizeDeclared.rows.register.Register.{Register}
+use Rattle.seize_alone.specs.Given.SeizeSettle.{plan_at, seen, settle_plan}
+use Rattle.seize_alone.specs.Given.SeizeSettle as plans
+use Rattle.seize_alone.specs.Given.SeizeLeave.{leave_plan, standing}
+use Rattle.seize_alone.specs.Given.SeizeRegister.{register_plan}
+use Rattle.seize_alone.specs.Given.SeizeWorld as world
+use Rattle.seize_alone.specs.Given.SeizeWorld.{World, Row, Rests, Registers, Enters, Settles, Leaves, Defers, Frees, Event, Runs, Steps', settles_on, leaves_on, registers_on, defers_on, at_start}
+use Rattle.seize_alone.proofs.Given.SeizeRuleRows.Others.{with_here}
+use Rattle.seize_alone.proofs.Given.SeizeRuleRows.SizesKept.{happens_sized}
+use Rattle.seize_alone.proofs.Given.SeizeRuleWorld.Kept.{happens_good}
+use Rattle.seize_alone.proofs.Given.SeizeRuleWorld.Start.{start_good}
+use Rattle.seize_alone.proofs.Given.SeizeEndsBatches.Held.{waits_held}
+use Rattle.seize_alone.proofs.Given.SeizeEndsRows.Among.{Came, row_steps_left, settles_go_lower, leaves_go_lower}
+use Rattle.seize_alone.proofs.Given.SeizeEndsRows.Defer.{Lower, defer_to_go, defer_ends}
+use Rattle.seize_alone.proofs.Given.SeizeEndsRows.Leaving.{leave_steps_left}
+use Rattle.seize_alone.proofs.Given.SeizeEndsRows.Register.{register_to_go, register_ends}
+use Rattle.seize_alone.proofs.Given.SeizeEndsSettling.Most.{goes_further, settle_steps_left}
 use Rattle.seize_alone.proofs.Histories.Reached.{runs_reached}
 use Rattle.seize_acts.specs.Ends.{RestsOrWaitsWithin, RowsRestOrWait, RowsFall}
 use Rattle.seize_acts.proofs.Waits.{leave_waits}

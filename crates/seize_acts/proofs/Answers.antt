@@ -2,13 +2,13 @@
 use Rattle.std.specs.Prelude.{Option, Some, None, Ok, Err, ◌==◌, ◌&&◌, nat_lt, length}
 use Rattle.std.proofs.Common.{◌≡◌, ℕ, ◌+◌, ◌^◌, ◌<◌, Bool, true, false, refl, sym, subst, arith}
 use Rattle.std.specs.Option.{is_none}
-use Rattle.seize_alone.specs.Given.SeizeWords.declared.at.At.{At}
-use Rattle.seize_alone.specs.Given.SeizeWords.declared.block.Block.{Block}
-use Rattle.seize_alone.specs.Given.SeizeWords.declared.fault.Fault.TheVariants.{Memory}
-use Rattle.seize_alone.specs.Given.SeizeWords.Op.{Op, Out, Load, Store, Swap, Add, Or, Exchange, Make, Take, Rewrite, Room, Found, Stored, Made, Taken, Roomed}
-use Rattle.seize_alone.specs.Given.SeizeWords.Mem.{Mem, Gives, Took, after, value_at, word_at, block_of, IsFreeNumber}
-use Rattle.seize_alone.specs.Given.SeizeWords.Place.{capacity}
-use Rattle.seize_alone.specs.Given.SeizeWords.Plan.{Plan, Then, Turn, Do, Now, Seeing, Sure, Ends, Steps}
+use Rattle.seize_alone.specs.Given.SeizeWordsDeclared.at.At.{At}
+use Rattle.seize_alone.specs.Given.SeizeWordsDeclared.block.Block.{Block}
+use Rattle.seize_alone.specs.Given.SeizeWordsDeclared.fault.Fault.TheVariants.{Memory}
+use Rattle.seize_alone.specs.Given.SeizeWordsOp.{Op, Out, Load, Store, Swap, Add, Or, Exchange, Make, Take, Rewrite, Room, Found, Stored, Made, Taken, Roomed}
+use Rattle.seize_alone.specs.Given.SeizeWordsMem.{Mem, Gives, Took, after, value_at, word_at, block_of, IsFreeNumber}
+use Rattle.seize_alone.specs.Given.SeizeWordsPlace.{capacity}
+use Rattle.seize_alone.specs.Given.SeizeWordsPlan.{Plan, Then, Turn, Do, Now, Seeing, Sure, Ends, Steps}
 use Rattle.seize_acts.specs.Answers.{Grant, then_on, given, found, stored, compared, exchanged, taken, is_free, answer, ends, stepped}
 
 pub some : {X Y : Type 0} (o : Option X) (f : X → Option Y) (y : Y) → then_on o f ≡ Some y → (x : X) × (o ≡ Some x) × (f x ≡ Some y)

@@ -1,12 +1,12 @@
 -- The tests of an act are the conditions under which the world lets it happen.
 use Rattle.std.specs.Prelude.{not, Option, Some, None, ◌==◌, ◌&&◌, ◌||◌, if◌then◌else◌}
 use Rattle.std.proofs.Common.{◌≡◌, ℕ, zero, suc, Bool, true, false, refl, sym, ap, arith, ◌∙◌, ◌⊎◌, inl, inr}
-use Rattle.seize_alone.specs.Given.SeizeWords.declared.at.At.{At}
-use Rattle.seize_alone.specs.Given.SeizeWords.declared.at.At.TheVariants as name
-use Rattle.seize_alone.specs.Given.SeizeWords.Mem.{Mem, value_at}
-use Rattle.seize_alone.specs.Given.Seize.declared.states.TheConstants.{NEXT}
-use Rattle.seize_alone.specs.Given.Seize.Law.{holds}
-use Rattle.seize_alone.specs.Given.Seize.World.{World, Row, Rests, Use, Vacant, Outside, Inside, Changing, Hand, NoBlock, Making, InUse, Parting, Cutting, Handed, LeftTo, Request, Register', Enter', Leave', LeaveOwned, Refresh, Unregister', Retire, Flush, Defer', Begins, IsOwn, IsInside, IsNotLeft, IsTaken, HasListWord, MayCut}
+use Rattle.seize_alone.specs.Given.SeizeWordsDeclared.at.At.{At}
+use Rattle.seize_alone.specs.Given.SeizeWordsDeclared.at.At.TheVariants as name
+use Rattle.seize_alone.specs.Given.SeizeWordsMem.{Mem, value_at}
+use Rattle.seize_alone.specs.Given.SeizeDeclared.states.TheConstants.{NEXT}
+use Rattle.seize_alone.specs.Given.SeizeLaw.{holds}
+use Rattle.seize_alone.specs.Given.SeizeWorld.{World, Row, Rests, Use, Vacant, Outside, Inside, Changing, Hand, NoBlock, Making, InUse, Parting, Cutting, Handed, LeftTo, Request, Register', Enter', Leave', LeaveOwned, Refresh, Unregister', Retire, Flush, Defer', Begins, IsOwn, IsInside, IsNotLeft, IsTaken, HasListWord, MayCut}
 use Rattle.seize_acts.specs.Acts as act
 use Rattle.seize_acts.proofs.Answers.{same_some, given_is}
 

@@ -1,37 +1,37 @@
 -- A row that is alone under way comes to its end: each of its steps leaves it less to go.
 use Rattle.std.specs.Prelude.{Option, Some, None, IsSome, Ok, Err, ◌==◌, if◌then◌else◌}
 use Rattle.std.proofs.Common.{◌≡◌, ℕ, zero, suc, ◌+◌, ◌<◌, ◌≤◌, Bool, true, false, [], ◌∷◌, inl, inr, refl, arith, ap, sym, subst, ◌∙◌}
-use Rattle.seize_alone.specs.Given.SeizeWords.Op.{Op, Out, Load, Store, Swap, Add, Or, Exchange, Make, Take, Rewrite, Room, Found, Stored, Made, Taken, Roomed}
-use Rattle.seize_alone.specs.Given.SeizeWords.Mem.{Mem, Can, Took, after, value_at, word_at}
-use Rattle.seize_alone.specs.Given.SeizeWords.Plan.{Plan, Turn, Do, May, Steps}
-use Rattle.seize_alone.specs.Given.Seize.declared.states.TheConstants.{LAST_SLOT}
-use Rattle.seize_alone.specs.Given.Seize.declared.progress.Progress.{Progress}
-use Rattle.seize_alone.specs.Given.Seize.declared.progress.Progress.TheVariants as progress
-use Rattle.seize_alone.specs.Given.Seize.declared.rows.settle.Settle.{Settle}
-use Rattle.seize_alone.specs.Given.Seize.declared.rows.settle.Settled.{Settled}
-use Rattle.seize_alone.specs.Given.Seize.declared.rows.settle.Settled.TheVariants as settled
-use Rattle.seize_alone.specs.Given.Seize.declared.rows.leave.Leave.{Leave}
-use Rattle.seize_alone.specs.Given.Seize.declared.rows.defer.Defer.{Defer}
-use Rattle.seize_alone.specs.Given.Seize.declared.rows.register.Register.{Register}
-use Rattle.seize_alone.specs.Given.Seize.Settle.{settle_plan}
-use Rattle.seize_alone.specs.Given.Seize.Leave.{leave_plan}
-use Rattle.seize_alone.specs.Given.Seize.Defer.{defer_plan}
-use Rattle.seize_alone.specs.Given.Seize.Register.{register_plan}
-use Rattle.seize_alone.specs.Given.Seize.Enter.{enter_plan, unregister_plan}
-use Rattle.seize_alone.specs.Given.Seize.Law.{Entered}
-use Rattle.seize_alone.specs.Given.Seize.World as world
-use Rattle.seize_alone.specs.Given.Seize.World.{World, Row, Rests, Registers, Enters, Settles, Leaves, Defers, Frees, Steps', MayStep, settles_on, leaves_on, registers_on, defers_on, at_start}
-use Rattle.seize_alone.proofs.Given.SeizeRule.Rows.Others.{with_here}
-use Rattle.seize_alone.proofs.Given.SeizeRule.World.Kept.{row_may}
-use Rattle.seize_alone.proofs.Given.SeizeRule.World.Rested.{Lone, steps_lone}
-use Rattle.seize_alone.proofs.Given.SeizeRule.World.Start.{start_good}
-use Rattle.seize_alone.proofs.Given.SeizeRule.Words.View.{view}
-use Rattle.seize_alone.proofs.Given.SeizeEnds.Batches.Held.{HoldsAlone}
-use Rattle.seize_alone.proofs.Given.SeizeEnds.Batches.Rows.{HeldByRows, happens_held, runs_held, start_held, settles_alone}
-use Rattle.seize_alone.proofs.Given.SeizeEnds.Rows.Register.{register_to_go, register_ends}
-use Rattle.seize_alone.proofs.Given.SeizeEnds.Rows.Lone.{leave_to_go, settles_lower, leaves_lower}
-use Rattle.seize_alone.proofs.Given.SeizeEnds.Rows.Defer.{Lower, defer_to_go, defer_ends}
-use Rattle.seize_alone.proofs.Given.SeizeEnds.Settling.Most.{settle_to_go}
+use Rattle.seize_alone.specs.Given.SeizeWordsOp.{Op, Out, Load, Store, Swap, Add, Or, Exchange, Make, Take, Rewrite, Room, Found, Stored, Made, Taken, Roomed}
+use Rattle.seize_alone.specs.Given.SeizeWordsMem.{Mem, Can, Took, after, value_at, word_at}
+use Rattle.seize_alone.specs.Given.SeizeWordsPlan.{Plan, Turn, Do, May, Steps}
+use Rattle.seize_alone.specs.Given.SeizeDeclared.states.TheConstants.{LAST_SLOT}
+use Rattle.seize_alone.specs.Given.SeizeDeclared.progress.Progress.{Progress}
+use Rattle.seize_alone.specs.Given.SeizeDeclared.progress.Progress.TheVariants as progress
+use Rattle.seize_alone.specs.Given.SeizeDeclared.rows.settle.Settle.{Settle}
+use Rattle.seize_alone.specs.Given.SeizeDeclared.rows.settle.Settled.{Settled}
+use Rattle.seize_alone.specs.Given.SeizeDeclared.rows.settle.Settled.TheVariants as settled
+use Rattle.seize_alone.specs.Given.SeizeDeclared.rows.leave.Leave.{Leave}
+use Rattle.seize_alone.specs.Given.SeizeDeclared.rows.defer.Defer.{Defer}
+use Rattle.seize_alone.specs.Given.SeizeDeclared.rows.register.Register.{Register}
+use Rattle.seize_alone.specs.Given.SeizeSettle.{settle_plan}
+use Rattle.seize_alone.specs.Given.SeizeLeave.{leave_plan}
+use Rattle.seize_alone.specs.Given.SeizeDefer.{defer_plan}
+use Rattle.seize_alone.specs.Given.SeizeRegister.{register_plan}
+use Rattle.seize_alone.specs.Given.SeizeEnter.{enter_plan, unregister_plan}
+use Rattle.seize_alone.specs.Given.SeizeLaw.{Entered}
+use Rattle.seize_alone.specs.Given.SeizeWorld as world
+use Rattle.seize_alone.specs.Given.SeizeWorld.{World, Row, Rests, Registers, Enters, Settles, Leaves, Defers, Frees, Steps', MayStep, settles_on, leaves_on, registers_on, defers_on, at_start}
+use Rattle.seize_alone.proofs.Given.SeizeRuleRows.Others.{with_here}
+use Rattle.seize_alone.proofs.Given.SeizeRuleWorld.Kept.{row_may}
+use Rattle.seize_alone.proofs.Given.SeizeRuleWorld.Rested.{Lone, steps_lone}
+use Rattle.seize_alone.proofs.Given.SeizeRuleWorld.Start.{start_good}
+use Rattle.seize_alone.proofs.Given.SeizeRuleWords.View.{view}
+use Rattle.seize_alone.proofs.Given.SeizeEndsBatches.Held.{HoldsAlone}
+use Rattle.seize_alone.proofs.Given.SeizeEndsBatches.Rows.{HeldByRows, happens_held, runs_held, start_held, settles_alone}
+use Rattle.seize_alone.proofs.Given.SeizeEndsRows.Register.{register_to_go, register_ends}
+use Rattle.seize_alone.proofs.Given.SeizeEndsRows.Lone.{leave_to_go, settles_lower, leaves_lower}
+use Rattle.seize_alone.proofs.Given.SeizeEndsRows.Defer.{Lower, defer_to_go, defer_ends}
+use Rattle.seize_alone.proofs.Given.SeizeEndsSettling.Most.{settle_to_go}
 use Rattle.seize_alone.proofs.Histories.Reached.{runs_reached}
 use Rattle.seize_acts.specs.Answers.{Grant, then_on, exchanged, compared, taken, found, stored, answer, ends, stepped}
 use Rattle.seize_acts.specs.Acts.{Step, became, row_steps, turns, turned, rests}

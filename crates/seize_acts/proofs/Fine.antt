@@ -1,19 +1,19 @@
 -- An act is one event of the world or a few, taken one after another.
 use Rattle.std.specs.Prelude.{Option, Some, None, Ok, Err, if◌then◌else◌, ◌++◌, ◌&&◌}
 use Rattle.std.proofs.Common.{◌≡◌, ℕ, zero, suc, Bool, true, false, List, [], ◌∷◌, refl, sym, subst, ◌∙◌, ◌⊎◌, inl, inr}
-use Rattle.seize_alone.specs.Given.SeizeWords.declared.at.At.{At}
-use Rattle.seize_alone.specs.Given.SeizeWords.declared.at.At.TheVariants as name
-use Rattle.seize_alone.specs.Given.SeizeWords.Op.{Op, Out, Load, Store, Swap, Add, Or, Exchange, Make, Take, Rewrite, Room, Found, Stored, Exchanged, Made, Taken, Roomed}
-use Rattle.seize_alone.specs.Given.SeizeWords.Mem.{Mem, Gives, after, value_at}
-use Rattle.seize_alone.specs.Given.Seize.declared.states.TheConstants.{NEXT}
-use Rattle.seize_alone.specs.Given.Seize.declared.progress.Progress.{Progress}
-use Rattle.seize_alone.specs.Given.Seize.declared.rows.enter.Enter.{Enter}
-use Rattle.seize_alone.specs.Given.Seize.declared.rows.enter.Unregister.{Unregister}
-use Rattle.seize_alone.specs.Given.Seize.Enter.{enter_plan, unregister_plan}
-use Rattle.seize_alone.specs.Given.Seize.Further.{FurtherAre}
-use Rattle.seize_alone.specs.Given.Seize.Law.{Entered, is_orphan}
-use Rattle.seize_alone.specs.Given.Seize.World.{World, Row, Rests, Registers, Enters, Settles, Leaves, Defers, Frees, Vacant, Inside, LeftTo, Making, Event, Steps', Happens, Runs, IsOnto, MayClear, with_use}
-use Rattle.seize_alone.specs.Given.Seize.World as world
+use Rattle.seize_alone.specs.Given.SeizeWordsDeclared.at.At.{At}
+use Rattle.seize_alone.specs.Given.SeizeWordsDeclared.at.At.TheVariants as name
+use Rattle.seize_alone.specs.Given.SeizeWordsOp.{Op, Out, Load, Store, Swap, Add, Or, Exchange, Make, Take, Rewrite, Room, Found, Stored, Exchanged, Made, Taken, Roomed}
+use Rattle.seize_alone.specs.Given.SeizeWordsMem.{Mem, Gives, after, value_at}
+use Rattle.seize_alone.specs.Given.SeizeDeclared.states.TheConstants.{NEXT}
+use Rattle.seize_alone.specs.Given.SeizeDeclared.progress.Progress.{Progress}
+use Rattle.seize_alone.specs.Given.SeizeDeclared.rows.enter.Enter.{Enter}
+use Rattle.seize_alone.specs.Given.SeizeDeclared.rows.enter.Unregister.{Unregister}
+use Rattle.seize_alone.specs.Given.SeizeEnter.{enter_plan, unregister_plan}
+use Rattle.seize_alone.specs.Given.SeizeFurther.{FurtherAre}
+use Rattle.seize_alone.specs.Given.SeizeLaw.{Entered, is_orphan}
+use Rattle.seize_alone.specs.Given.SeizeWorld.{World, Row, Rests, Registers, Enters, Settles, Leaves, Defers, Frees, Vacant, Inside, LeftTo, Making, Event, Steps', Happens, Runs, IsOnto, MayClear, with_use}
+use Rattle.seize_alone.specs.Given.SeizeWorld as world
 use Rattle.seize_acts.specs.Answers.{Grant, then_on, answer, stepped}
 use Rattle.seize_acts.specs.Acts.{Act, Change, AllDid, AllMayChange, MayChange}
 use Rattle.seize_acts.specs.Acts as act

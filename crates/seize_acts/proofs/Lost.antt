@@ -1,30 +1,30 @@
 -- Nothing that was handed to the collector is lost: where no row is under way it is in a batch, or on the list of a block that is there.
 use Rattle.std.specs.Prelude.{Option, Some, None}
 use Rattle.std.proofs.Common.{◌≡◌, ℕ, ◌+◌, Bool, true, false, List, [], ◌∷◌, length, ◌⊎◌, inl, inr, refl, arith, ap, sym, subst, ◌∙◌}
-use Rattle.seize_alone.specs.Given.SeizeWords.declared.at.At.TheVariants.{Entry, Word}
-use Rattle.seize_alone.specs.Given.SeizeWords.Mem.{value_at, word_at}
-use Rattle.seize_alone.specs.Given.Seize.declared.states.TheConstants.{LAST_SLOT, NEXT}
-use Rattle.seize_alone.specs.Given.Seize.Law.{is_retired}
-use Rattle.seize_alone.specs.Given.Seize.WaitingSets.{is_one_of}
-use Rattle.seize_alone.specs.Given.Seize.Further.{FurtherFrom, FurtherAre}
-use Rattle.seize_alone.specs.Given.Seize.World.{World, Row, Rests, Hand, NoBlock, Making, InUse, Parting, Cutting, Handed, LeftTo, at_start}
+use Rattle.seize_alone.specs.Given.SeizeWordsDeclared.at.At.TheVariants.{Entry, Word}
+use Rattle.seize_alone.specs.Given.SeizeWordsMem.{value_at, word_at}
+use Rattle.seize_alone.specs.Given.SeizeDeclared.states.TheConstants.{LAST_SLOT, NEXT}
+use Rattle.seize_alone.specs.Given.SeizeLaw.{is_retired}
+use Rattle.seize_alone.specs.Given.SeizeWaitingSets.{is_one_of}
+use Rattle.seize_alone.specs.Given.SeizeFurther.{FurtherFrom, FurtherAre}
+use Rattle.seize_alone.specs.Given.SeizeWorld.{World, Row, Rests, Hand, NoBlock, Making, InUse, Parting, Cutting, Handed, LeftTo, at_start}
 use Rattle.seize_acts.specs.Laws.{IsPutBehind, NothingIsLost}
 use Rattle.seize_acts.specs.Reclaimed.{IsStillHad, IsPutBehindOthers}
-use Rattle.seize_alone.proofs.Given.SeizeMoves.State.Ghost.{Life, IsFree, IsOwned, IsLinked, IsUnlinked, IsDeferring, IsDeferred, IsPending, IsIn, IsDoomed, IsLeft, State, lies_with, can_carry}
-use Rattle.seize_alone.proofs.Given.SeizeRule.Points.Aside.{HandFits}
-use Rattle.seize_alone.proofs.Given.SeizeRule.Words.Chains.{Chain}
-use Rattle.seize_alone.proofs.Given.SeizeRule.Words.Lists.{list_from, some_word, deferred_of}
-use Rattle.seize_alone.proofs.Given.SeizeRule.Words.Shows.{DeferredIs, DrainedIs, CarrierIs, lives}
-use Rattle.seize_alone.proofs.Given.SeizeRule.Words.View.{view, list_in}
-use Rattle.seize_alone.proofs.Given.SeizeRule.Words.Named.{word_found}
-use Rattle.seize_alone.proofs.Given.SeizeRule.Words.There.{entry_there, list_there, value_there}
-use Rattle.seize_alone.proofs.Given.SeizeRule.Rows.Known.{Idles, FitsRow}
-use Rattle.seize_alone.proofs.Given.SeizeRule.World.Good.{Good}
-use Rattle.seize_alone.proofs.Given.SeizeRule.World.Kept.{runs_good}
-use Rattle.seize_alone.proofs.Given.SeizeRule.World.Start.{start_good}
+use Rattle.seize_alone.proofs.Given.SeizeMovesState.Ghost.{Life, IsFree, IsOwned, IsLinked, IsUnlinked, IsDeferring, IsDeferred, IsPending, IsIn, IsDoomed, IsLeft, State, lies_with, can_carry}
+use Rattle.seize_alone.proofs.Given.SeizeRulePoints.Aside.{HandFits}
+use Rattle.seize_alone.proofs.Given.SeizeRuleWords.Chains.{Chain}
+use Rattle.seize_alone.proofs.Given.SeizeRuleWords.Lists.{list_from, some_word, deferred_of}
+use Rattle.seize_alone.proofs.Given.SeizeRuleWords.Shows.{DeferredIs, DrainedIs, CarrierIs, lives}
+use Rattle.seize_alone.proofs.Given.SeizeRuleWords.View.{view, list_in}
+use Rattle.seize_alone.proofs.Given.SeizeRuleWords.Named.{word_found}
+use Rattle.seize_alone.proofs.Given.SeizeRuleWords.There.{entry_there, list_there, value_there}
+use Rattle.seize_alone.proofs.Given.SeizeRuleRows.Known.{Idles, FitsRow}
+use Rattle.seize_alone.proofs.Given.SeizeRuleWorld.Good.{Good}
+use Rattle.seize_alone.proofs.Given.SeizeRuleWorld.Kept.{runs_good}
+use Rattle.seize_alone.proofs.Given.SeizeRuleWorld.Start.{start_good}
 use Rattle.seize_acts.proofs.Fine.{all_fine}
 use Rattle.std.proofs.lemmas.Bool.{eq-eqb}
-use Rattle.seize_alone.specs.Given.SeizeWaiting.Held.{count}
+use Rattle.seize_alone.specs.Given.SeizeWaitingHeld.{count}
 
 counted_in : (b : ℕ) (l : List ℕ) → (count b l ≡ 0 → ⊥) → is_one_of b l ≡ true
 counted_in b [] ne = absurd (ne refl)

@@ -2,19 +2,19 @@
 use Rattle.std.specs.Prelude.{Option, Some, None, if◌then◌else◌}
 use Rattle.std.proofs.Common.{◌≡◌, ℕ, ◌+◌, ◌≤◌, Bool, true, false, eqb, eqb-true, List, [], ◌∷◌, length, ◌⊎◌, inl, inr, refl, arith, ap, sym, subst, ◌∙◌}
 use Rattle.std.proofs.lemmas.Bool.{eqb-false}
-use Rattle.seize_alone.specs.Given.SeizeWords.declared.fault.Fault.{Fault}
-use Rattle.seize_alone.specs.Given.SeizeWords.declared.fault.Fault.TheVariants.{SlotsUsedUp, Memory}
-use Rattle.seize_alone.specs.Given.SeizeWords.Mem.{Mem}
-use Rattle.seize_alone.specs.Given.SeizeWords.Place.{capacity}
-use Rattle.seize_alone.specs.Given.Seize.declared.states.TheConstants.{LAST_SLOT}
-use Rattle.seize_alone.specs.Given.Seize.declared.progress.Progress.TheVariants as progress
-use Rattle.seize_alone.specs.Given.Seize.Register.{register_plan}
-use Rattle.seize_alone.specs.Given.Seize.World.{World, Row, Rests, Registers, Enters, Settles, Leaves, Defers, Frees, Request, at_start}
-use Rattle.seize_alone.specs.Given.Seize.World as world
-use Rattle.seize_alone.proofs.Given.SeizeRule.Words.View.{view}
-use Rattle.seize_alone.proofs.Given.SeizeRule.Rows.Others.{begins_others}
-use Rattle.seize_alone.proofs.Given.SeizeRule.World.Start.{start_good}
-use Rattle.seize_alone.proofs.Given.SeizeEnds.Batches.Rows.{begins_memory}
+use Rattle.seize_alone.specs.Given.SeizeWordsDeclared.fault.Fault.{Fault}
+use Rattle.seize_alone.specs.Given.SeizeWordsDeclared.fault.Fault.TheVariants.{SlotsUsedUp, Memory}
+use Rattle.seize_alone.specs.Given.SeizeWordsMem.{Mem}
+use Rattle.seize_alone.specs.Given.SeizeWordsPlace.{capacity}
+use Rattle.seize_alone.specs.Given.SeizeDeclared.states.TheConstants.{LAST_SLOT}
+use Rattle.seize_alone.specs.Given.SeizeDeclared.progress.Progress.TheVariants as progress
+use Rattle.seize_alone.specs.Given.SeizeRegister.{register_plan}
+use Rattle.seize_alone.specs.Given.SeizeWorld.{World, Row, Rests, Registers, Enters, Settles, Leaves, Defers, Frees, Request, at_start}
+use Rattle.seize_alone.specs.Given.SeizeWorld as world
+use Rattle.seize_alone.proofs.Given.SeizeRuleWords.View.{view}
+use Rattle.seize_alone.proofs.Given.SeizeRuleRows.Others.{begins_others}
+use Rattle.seize_alone.proofs.Given.SeizeRuleWorld.Start.{start_good}
+use Rattle.seize_alone.proofs.Given.SeizeEndsBatches.Rows.{begins_memory}
 use Rattle.seize_alone.proofs.Histories.Reached.{Reached, happens_reached, runs_reached}
 use Rattle.seize_acts.specs.Answers.{Grant, then_on, stepped}
 use Rattle.seize_acts.specs.Acts.{Act, Begin, Step, Operate, Choose, AllDid, Did, became, begun, row_answered, steps, rests}

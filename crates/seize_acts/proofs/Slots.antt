@@ -1,19 +1,19 @@
 -- The slots taken at some time are the first ones.
 use Rattle.std.specs.Prelude.{Option, Some, None}
 use Rattle.std.proofs.Common.{◌≡◌, ℕ, zero, suc, ◌+◌, ◌<◌, ◌≤◌, Bool, true, false, refl, arith, ap, sym, ◌∙◌}
-use Rattle.seize_alone.specs.Given.SeizeWords.declared.at.At.TheVariants as name
-use Rattle.seize_alone.specs.Given.SeizeWords.Mem.{word_at}
-use Rattle.seize_alone.specs.Given.Seize.declared.states.TheConstants.{HEAD, LAST_SLOT}
-use Rattle.seize_alone.specs.Given.Seize.World.{World, SlotsTaken, at_start}
-use Rattle.seize_alone.proofs.Given.SeizeMoves.State.Ghost.{Head, Never, Free, Idle, Active, is_never}
-use Rattle.seize_alone.proofs.Given.SeizeMoves.State.Rule.{Prefix}
-use Rattle.seize_alone.proofs.Given.SeizeRule.Words.View.{view}
-use Rattle.seize_alone.proofs.Given.SeizeRule.Words.Named.{has, word_found}
-use Rattle.seize_alone.proofs.Given.SeizeRule.Words.Shows.{HeadIs}
-use Rattle.seize_alone.proofs.Given.SeizeRule.Points.Try.{never_word}
-use Rattle.seize_alone.proofs.Given.SeizeRule.World.Good.{Good}
-use Rattle.seize_alone.proofs.Given.SeizeRule.World.Start.{start_good, words_good}
-use Rattle.seize_alone.proofs.Given.SeizeRule.World.Kept.{runs_good}
+use Rattle.seize_alone.specs.Given.SeizeWordsDeclared.at.At.TheVariants as name
+use Rattle.seize_alone.specs.Given.SeizeWordsMem.{word_at}
+use Rattle.seize_alone.specs.Given.SeizeDeclared.states.TheConstants.{HEAD, LAST_SLOT}
+use Rattle.seize_alone.specs.Given.SeizeWorld.{World, SlotsTaken, at_start}
+use Rattle.seize_alone.proofs.Given.SeizeMovesState.Ghost.{Head, Never, Free, Idle, Active, is_never}
+use Rattle.seize_alone.proofs.Given.SeizeMovesState.Rule.{Prefix}
+use Rattle.seize_alone.proofs.Given.SeizeRuleWords.View.{view}
+use Rattle.seize_alone.proofs.Given.SeizeRuleWords.Named.{has, word_found}
+use Rattle.seize_alone.proofs.Given.SeizeRuleWords.Shows.{HeadIs}
+use Rattle.seize_alone.proofs.Given.SeizeRulePoints.Try.{never_word}
+use Rattle.seize_alone.proofs.Given.SeizeRuleWorld.Good.{Good}
+use Rattle.seize_alone.proofs.Given.SeizeRuleWorld.Start.{start_good, words_good}
+use Rattle.seize_alone.proofs.Given.SeizeRuleWorld.Kept.{runs_good}
 use Rattle.seize_acts.specs.Laws.{SlotsAreFirst}
 use Rattle.seize_acts.proofs.Fine.{all_fine}
 

@@ -1,25 +1,25 @@
 -- What an open section holds is there, and stays with its value and its number.
 use Rattle.std.specs.Prelude.{Option, IsSome, Ok, Err}
 use Rattle.std.proofs.Common.{◌≡◌, ℕ, ◌+◌, ◌≤◌, Bool, true, false, List, [], ◌∷◌, inl, inr, refl, arith, ap, sym, subst, ◌∙◌}
-use Rattle.seize_alone.specs.Given.SeizeWords.Op.{Out, Store, Found, Stored, Exchanged, Made as OutMade, Taken as OutTaken, Roomed}
-use Rattle.seize_alone.specs.Given.SeizeWords.Mem.{Mem, Took, value_at}
-use Rattle.seize_alone.specs.Given.SeizeWords.declared.at.At.TheVariants.{Entry}
-use Rattle.seize_alone.proofs.Given.SeizeWords.OneOwner.AfterWrites.{value_at-with_word}
-use Rattle.seize_alone.specs.Given.Seize.declared.states.TheConstants.{LAST_SLOT, NEXT}
-use Rattle.seize_alone.specs.Given.Seize.Law.{Effect, Made, Linked, Unlinked, Deferred, Dropped, Ended, LeftOver, holds, is_over, owner_of, IsSound}
-use Rattle.seize_alone.specs.Given.Seize.World.{World, Event, Begin, Step, Makes, Drops, Links, Parts, Unlinks, Rewrites, Operates, Ends, LeavesOver, Relinks, Clears, Chooses, Request, Hand, Making, LeftTo, Begins, Happens, Runs, MayClear, Register', Enter', Leave', LeaveOwned, Refresh, Unregister', Retire, Flush, Defer', at_start, made_by}
-use Rattle.seize_alone.proofs.Given.SeizeMoves.State.Ghost.{IsOwned, IsLeft}
-use Rattle.seize_alone.proofs.Given.SeizeMoves.Moves.Blocks.{never_held}
-use Rattle.seize_alone.proofs.Given.SeizeRule.Words.There.{entry_there}
-use Rattle.seize_alone.proofs.Given.SeizeRule.Points.Aside.{HandFits}
-use Rattle.seize_alone.proofs.Given.SeizeRule.World.Start.{start_good}
-use Rattle.seize_alone.proofs.Given.SeizeEnds.Batches.Rows.{begins_memory, made_memory}
+use Rattle.seize_alone.specs.Given.SeizeWordsOp.{Out, Store, Found, Stored, Exchanged, Made as OutMade, Taken as OutTaken, Roomed}
+use Rattle.seize_alone.specs.Given.SeizeWordsMem.{Mem, Took, value_at}
+use Rattle.seize_alone.specs.Given.SeizeWordsDeclared.at.At.TheVariants.{Entry}
+use Rattle.seize_alone.proofs.Given.SeizeWordsOneOwner.AfterWrites.{value_at-with_word}
+use Rattle.seize_alone.specs.Given.SeizeDeclared.states.TheConstants.{LAST_SLOT, NEXT}
+use Rattle.seize_alone.specs.Given.SeizeLaw.{Effect, Made, Linked, Unlinked, Deferred, Dropped, Ended, LeftOver, holds, is_over, owner_of, IsSound}
+use Rattle.seize_alone.specs.Given.SeizeWorld.{World, Event, Begin, Step, Makes, Drops, Links, Parts, Unlinks, Rewrites, Operates, Ends, LeavesOver, Relinks, Clears, Chooses, Request, Hand, Making, LeftTo, Begins, Happens, Runs, MayClear, Register', Enter', Leave', LeaveOwned, Refresh, Unregister', Retire, Flush, Defer', at_start, made_by}
+use Rattle.seize_alone.proofs.Given.SeizeMovesState.Ghost.{IsOwned, IsLeft}
+use Rattle.seize_alone.proofs.Given.SeizeMovesMoves.Blocks.{never_held}
+use Rattle.seize_alone.proofs.Given.SeizeRuleWords.There.{entry_there}
+use Rattle.seize_alone.proofs.Given.SeizeRulePoints.Aside.{HandFits}
+use Rattle.seize_alone.proofs.Given.SeizeRuleWorld.Start.{start_good}
+use Rattle.seize_alone.proofs.Given.SeizeEndsBatches.Rows.{begins_memory, made_memory}
 use Rattle.seize_alone.proofs.Histories.Reached.{Reached, happens_reached, runs_reached}
 use Rattle.seize_alone.proofs.Histories.NotTaken.{IsHeld, kept_there, kept_value, did}
 use Rattle.seize_acts.specs.Stays.{how_many, is_end_of, is_end_of_owner, is_making_of, HeldAreThere, HeldStay, GoesOn}
 use Rattle.seize_acts.proofs.Fine.{all_fine}
 use Rattle.seize_acts.proofs.Stays.Log.{Stays, Adds, how_many_grows, adds_stays, row_adds}
-use Rattle.seize_alone.proofs.Given.SeizeRule.World.Values.{own_op_value, taken_value, made_value, rewritten_value}
+use Rattle.seize_alone.proofs.Given.SeizeRuleWorld.Values.{own_op_value, taken_value, made_value, rewritten_value}
 pub mod Log
 
 module _ {T : Type 0} (defers : T → Option ℕ) (size : ℕ) where

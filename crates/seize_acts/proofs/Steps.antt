@@ -2,19 +2,19 @@
 use Rattle.std.specs.Prelude.{Option, Some, None, Ok, Err, ◌&&◌, nat_lt, if◌then◌else◌}
 use Rattle.std.proofs.Common.{◌≡◌, ℕ, zero, suc, IsSome, ◌<◌, ◌^◌, Bool, true, false, [], ◌∷◌, refl, sym, subst, ap, arith, ◌∙◌}
 use Rattle.std.specs.Option.{is_none}
-use Rattle.seize_alone.specs.Given.SeizeWords.declared.block.Block.{Block}
-use Rattle.seize_alone.specs.Given.SeizeWords.Op.{Op, Out, Load, Store, Swap, Add, Or, Exchange, Make, Take, Rewrite, Room, Found, Stored, Exchanged, Made, Taken, Roomed}
-use Rattle.seize_alone.specs.Given.SeizeWords.Mem.{Mem, Gives, Took, Can, after, value_at, block_of, IsFreeNumber}
-use Rattle.seize_alone.specs.Given.SeizeWords.Plan.{Plan, Then, Turn, Do, Now, Seeing, Sure, Ends, Steps, May, MaySee}
-use Rattle.seize_alone.specs.Given.Seize.Settle.{settle_plan}
-use Rattle.seize_alone.specs.Given.Seize.Leave.{leave_plan}
-use Rattle.seize_alone.specs.Given.Seize.Defer.{defer_plan}
-use Rattle.seize_alone.specs.Given.Seize.Register.{register_plan}
-use Rattle.seize_alone.specs.Given.Seize.Enter.{enter_plan, unregister_plan}
-use Rattle.seize_alone.specs.Given.Seize.Law.{Entered}
-use Rattle.seize_alone.specs.Given.Seize.World as world
-use Rattle.seize_alone.specs.Given.Seize.World.{World, Row, Rests, Registers, Enters, Settles, Leaves, Defers, Frees, Steps', MayStep, at_start}
-use Rattle.seize_alone.proofs.Given.SeizeRule.World.Kept.{rows_may}
+use Rattle.seize_alone.specs.Given.SeizeWordsDeclared.block.Block.{Block}
+use Rattle.seize_alone.specs.Given.SeizeWordsOp.{Op, Out, Load, Store, Swap, Add, Or, Exchange, Make, Take, Rewrite, Room, Found, Stored, Exchanged, Made, Taken, Roomed}
+use Rattle.seize_alone.specs.Given.SeizeWordsMem.{Mem, Gives, Took, Can, after, value_at, block_of, IsFreeNumber}
+use Rattle.seize_alone.specs.Given.SeizeWordsPlan.{Plan, Then, Turn, Do, Now, Seeing, Sure, Ends, Steps, May, MaySee}
+use Rattle.seize_alone.specs.Given.SeizeSettle.{settle_plan}
+use Rattle.seize_alone.specs.Given.SeizeLeave.{leave_plan}
+use Rattle.seize_alone.specs.Given.SeizeDefer.{defer_plan}
+use Rattle.seize_alone.specs.Given.SeizeRegister.{register_plan}
+use Rattle.seize_alone.specs.Given.SeizeEnter.{enter_plan, unregister_plan}
+use Rattle.seize_alone.specs.Given.SeizeLaw.{Entered}
+use Rattle.seize_alone.specs.Given.SeizeWorld as world
+use Rattle.seize_alone.specs.Given.SeizeWorld.{World, Row, Rests, Registers, Enters, Settles, Leaves, Defers, Frees, Steps', MayStep, at_start}
+use Rattle.seize_alone.proofs.Given.SeizeRuleWorld.Kept.{rows_may}
 use Rattle.seize_acts.specs.Answers.{Grant, then_on, given, is_free, answer, ends, stepped, is_turn}
 use Rattle.seize_acts.specs.Acts.{row_steps, turned, turns}
 use Rattle.seize_acts.specs.Laws.{StepsAreActs}

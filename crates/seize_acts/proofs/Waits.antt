@@ -2,51 +2,51 @@
 use Rattle.std.specs.Prelude.{Option, Some, None, Ok, Err, if◌then◌else◌, nat_lt}
 use Rattle.std.proofs.Common.{◌≡◌, ℕ, ◌+◌, ◌<◌, Bool, true, false, cond, eqb, length, refl, arith, ap, sym, subst, ◌∙◌, ◌⊎◌, inl, inr}
 use Rattle.std.proofs.lemmas.Bool.{ne_eqb}
-use Rattle.seize_alone.specs.Given.SeizeWords.Mem.{Mem, Took, value_at, with_word}
-use Rattle.seize_alone.specs.Given.SeizeWords.Op.{Out, Found, Exchanged, Roomed}
-use Rattle.seize_alone.specs.Given.SeizeWords.declared.at.At.TheVariants.{Slot}
-use Rattle.seize_alone.specs.Given.SeizeWords.Plan.{Steps, Ends, Now}
-use Rattle.seize_alone.specs.Given.SeizeWords.declared.fault.Fault.TheVariants.{SlotsUsedUp}
-use Rattle.seize_alone.proofs.Given.SeizeWords.OneOwner.Operations.{stored, swapped}
-use Rattle.seize_alone.specs.Given.Seize.declared.states.TheConstants.{HEAD, BATCH, ACTIVE, FREE, HELD, LAST_SLOT}
-use Rattle.seize_alone.specs.Given.Seize.declared.progress.Progress.{Progress}
-use Rattle.seize_alone.specs.Given.Seize.declared.progress.Progress.TheVariants as progress
-use Rattle.seize_alone.specs.Given.Seize.declared.rows.settle.Settle.{Settle}
-use Rattle.seize_alone.specs.Given.Seize.declared.rows.settle.Settling.{Settling}
-use Rattle.seize_alone.specs.Given.Seize.declared.rows.settle.Settling.TheVariants as at
-use Rattle.seize_alone.specs.Given.Seize.declared.rows.settle.Settled.{Settled}
-use Rattle.seize_alone.specs.Given.Seize.declared.rows.settle.Settled.TheVariants as settled
-use Rattle.seize_alone.specs.Given.Seize.declared.rows.leave.Leave.{Leave}
-use Rattle.seize_alone.specs.Given.Seize.declared.rows.leave.Leaving.{Leaving}
-use Rattle.seize_alone.specs.Given.Seize.declared.rows.leave.Leaving.TheVariants as leaving
-use Rattle.seize_alone.specs.Given.Seize.declared.rows.defer.Defer.{Defer}
-use Rattle.seize_alone.specs.Given.Seize.declared.rows.defer.Deferring.{Deferring}
-use Rattle.seize_alone.specs.Given.Seize.declared.rows.defer.Deferring.TheVariants as deferring
-use Rattle.seize_alone.specs.Given.Seize.declared.rows.register.Register.{Register}
-use Rattle.seize_alone.specs.Given.Seize.declared.rows.register.Registering.{Registering}
-use Rattle.seize_alone.specs.Given.Seize.declared.rows.register.Registering.TheVariants as registering
-use Rattle.seize_alone.specs.Given.Seize.Settle.{settle_plan, counting_down}
-use Rattle.seize_alone.specs.Given.Seize.Leave as leave
-use Rattle.seize_alone.specs.Given.Seize.Leave.{leave_plan}
-use Rattle.seize_alone.specs.Given.Seize.Defer as defer
-use Rattle.seize_alone.specs.Given.Seize.Register as registers
-use Rattle.seize_alone.specs.Given.Seize.Enter.{enter_plan, unregister_plan}
-use Rattle.seize_alone.specs.Given.Seize.World.{World, Row, Rests, Registers, Enters, Settles, Leaves, Defers, Frees, at_start}
-use Rattle.seize_alone.proofs.Given.SeizeMoves.State.Ghost.{State}
-use Rattle.seize_alone.proofs.Given.SeizeRule.Words.Chains.{last_of}
-use Rattle.seize_alone.proofs.Given.SeizeRule.Words.Named.{link, words_of}
-use Rattle.seize_alone.proofs.Given.SeizeRule.Words.View.{View, view}
-use Rattle.seize_alone.proofs.Given.SeizeRule.Words.Shows.{Extra, batch_word}
-use Rattle.seize_alone.proofs.Given.SeizeRule.Points.Known.{FitsAt, Fits, FirstsOf, MayHold, bare}
-use Rattle.seize_alone.proofs.Given.SeizeRule.Rows.Known.{FitsRow, FitsLeave}
-use Rattle.seize_alone.proofs.Given.SeizeRule.Rows.Leaving.{steps_back}
-use Rattle.seize_alone.proofs.Given.SeizeRule.World.Good.{Good}
-use Rattle.seize_alone.proofs.Given.SeizeRule.World.Start.{start_good}
-use Rattle.seize_alone.proofs.Given.SeizeRule.World.Kept.{runs_good}
-use Rattle.seize_alone.specs.Given.SeizeEnds.Holders.{settle_has, leaving_has, has_batch}
-use Rattle.seize_alone.proofs.Given.SeizeEnds.Batches.Free.{Outcomes, PlanOutcomes, plan_outcome}
-use Rattle.seize_alone.proofs.Given.SeizeEnds.Batches.Held.{waits_held}
-use Rattle.seize_alone.proofs.Given.SeizeEnds.Batches.Rows.{HeldByRows, has_on, runs_held, start_held}
+use Rattle.seize_alone.specs.Given.SeizeWordsMem.{Mem, Took, value_at, with_word}
+use Rattle.seize_alone.specs.Given.SeizeWordsOp.{Out, Found, Exchanged, Roomed}
+use Rattle.seize_alone.specs.Given.SeizeWordsDeclared.at.At.TheVariants.{Slot}
+use Rattle.seize_alone.specs.Given.SeizeWordsPlan.{Steps, Ends, Now}
+use Rattle.seize_alone.specs.Given.SeizeWordsDeclared.fault.Fault.TheVariants.{SlotsUsedUp}
+use Rattle.seize_alone.proofs.Given.SeizeWordsOneOwner.Operations.{stored, swapped}
+use Rattle.seize_alone.specs.Given.SeizeDeclared.states.TheConstants.{HEAD, BATCH, ACTIVE, FREE, HELD, LAST_SLOT}
+use Rattle.seize_alone.specs.Given.SeizeDeclared.progress.Progress.{Progress}
+use Rattle.seize_alone.specs.Given.SeizeDeclared.progress.Progress.TheVariants as progress
+use Rattle.seize_alone.specs.Given.SeizeDeclared.rows.settle.Settle.{Settle}
+use Rattle.seize_alone.specs.Given.SeizeDeclared.rows.settle.Settling.{Settling}
+use Rattle.seize_alone.specs.Given.SeizeDeclared.rows.settle.Settling.TheVariants as at
+use Rattle.seize_alone.specs.Given.SeizeDeclared.rows.settle.Settled.{Settled}
+use Rattle.seize_alone.specs.Given.SeizeDeclared.rows.settle.Settled.TheVariants as settled
+use Rattle.seize_alone.specs.Given.SeizeDeclared.rows.leave.Leave.{Leave}
+use Rattle.seize_alone.specs.Given.SeizeDeclared.rows.leave.Leaving.{Leaving}
+use Rattle.seize_alone.specs.Given.SeizeDeclared.rows.leave.Leaving.TheVariants as leaving
+use Rattle.seize_alone.specs.Given.SeizeDeclared.rows.defer.Defer.{Defer}
+use Rattle.seize_alone.specs.Given.SeizeDeclared.rows.defer.Deferring.{Deferring}
+use Rattle.seize_alone.specs.Given.SeizeDeclared.rows.defer.Deferring.TheVariants as deferring
+use Rattle.seize_alone.specs.Given.SeizeDeclared.rows.register.Register.{Register}
+use Rattle.seize_alone.specs.Given.SeizeDeclared.rows.register.Registering.{Registering}
+use Rattle.seize_alone.specs.Given.SeizeDeclared.rows.register.Registering.TheVariants as registering
+use Rattle.seize_alone.specs.Given.SeizeSettle.{settle_plan, counting_down}
+use Rattle.seize_alone.specs.Given.SeizeLeave as leave
+use Rattle.seize_alone.specs.Given.SeizeLeave.{leave_plan}
+use Rattle.seize_alone.specs.Given.SeizeDefer as defer
+use Rattle.seize_alone.specs.Given.SeizeRegister as registers
+use Rattle.seize_alone.specs.Given.SeizeEnter.{enter_plan, unregister_plan}
+use Rattle.seize_alone.specs.Given.SeizeWorld.{World, Row, Rests, Registers, Enters, Settles, Leaves, Defers, Frees, at_start}
+use Rattle.seize_alone.proofs.Given.SeizeMovesState.Ghost.{State}
+use Rattle.seize_alone.proofs.Given.SeizeRuleWords.Chains.{last_of}
+use Rattle.seize_alone.proofs.Given.SeizeRuleWords.Named.{link, words_of}
+use Rattle.seize_alone.proofs.Given.SeizeRuleWords.View.{View, view}
+use Rattle.seize_alone.proofs.Given.SeizeRuleWords.Shows.{Extra, batch_word}
+use Rattle.seize_alone.proofs.Given.SeizeRulePoints.Known.{FitsAt, Fits, FirstsOf, MayHold, bare}
+use Rattle.seize_alone.proofs.Given.SeizeRuleRows.Known.{FitsRow, FitsLeave}
+use Rattle.seize_alone.proofs.Given.SeizeRuleRows.Leaving.{steps_back}
+use Rattle.seize_alone.proofs.Given.SeizeRuleWorld.Good.{Good}
+use Rattle.seize_alone.proofs.Given.SeizeRuleWorld.Start.{start_good}
+use Rattle.seize_alone.proofs.Given.SeizeRuleWorld.Kept.{runs_good}
+use Rattle.seize_alone.specs.Given.SeizeEndsHolders.{settle_has, leaving_has, has_batch}
+use Rattle.seize_alone.proofs.Given.SeizeEndsBatches.Free.{Outcomes, PlanOutcomes, plan_outcome}
+use Rattle.seize_alone.proofs.Given.SeizeEndsBatches.Held.{waits_held}
+use Rattle.seize_alone.proofs.Given.SeizeEndsBatches.Rows.{HeldByRows, has_on, runs_held, start_held}
 use Rattle.seize_acts.specs.Answers.{Grant}
 use Rattle.seize_acts.specs.Waits.{SettlesOn, Waits, AnotherHas, RowsWaitForAHolder, SettlingWaitsForAHolder, DeferringNeverWaits}
 use Rattle.seize_acts.proofs.Answers.{was_stepped}

@@ -1,21 +1,21 @@
 -- An act is what one caller does at once: one operation on the memory, and what belongs to it. A list of acts, the newest last, determines the world after it.
 use Rattle.std.specs.Prelude.{◌≡◌, ℕ, zero, suc, ◌==◌, ◌&&◌, ◌||◌, ◌++◌, not, Bool, true, false, List, [], ◌∷◌, Option, Some, None, Ok, if◌then◌else◌, nat_lt}
-use Rattle.seize_alone.specs.Given.SeizeWords.Word.{link_to, block_in}
-use Rattle.seize_alone.specs.Given.SeizeWords.declared.at.At.{At}
-use Rattle.seize_alone.specs.Given.SeizeWords.declared.at.At.TheVariants.{Root, Used, Slot, Entry, Word}
-use Rattle.seize_alone.specs.Given.SeizeWords.Op.{Op, Out, Load, Store, Swap, Add, Or, Exchange, Make, Take, Rewrite, Room, Made}
-use Rattle.seize_alone.specs.Given.SeizeWords.Mem.{Mem, after, value_at, word_at}
-use Rattle.seize_alone.specs.Given.SeizeWords.Plan.{Plan}
-use Rattle.seize_alone.specs.Given.Seize.declared.states.TheConstants.{IDLE, ACTIVE, NEXT}
-use Rattle.seize_alone.specs.Given.Seize.declared.rows.register.Registering.TheVariants as registering
-use Rattle.seize_alone.specs.Given.Seize.Law.{Entered, Made as MadeBlock, Linked, Unlinked, Dropped, Deferred, Ended, LeftOver, holds, is_orphan}
-use Rattle.seize_alone.specs.Given.Seize.Further.{FurtherAre}
-use Rattle.seize_alone.specs.Given.Seize.Settle.{retiring, flushing, settle_plan}
-use Rattle.seize_alone.specs.Given.Seize.Leave.{leaving as leaving_slot, leave_plan}
-use Rattle.seize_alone.specs.Given.Seize.Defer.{deferring, defer_plan}
-use Rattle.seize_alone.specs.Given.Seize.Register.{register_plan}
-use Rattle.seize_alone.specs.Given.Seize.Enter.{enter_plan, unregister_plan}
-use Rattle.seize_alone.specs.Given.Seize.World.{World, Row, Rests, Registers, Enters, Settles, Leaves, Defers, Frees, Use, Vacant, Outside, Inside, Changing, Hand, NoBlock, Making, InUse, Parting, Cutting, Handed, LeftTo, Request, Register', Enter', Leave', LeaveOwned, Refresh, Unregister', Retire, Flush, Defer', IsOnto, MayClear, with_row, with_use, with_hand, with_effect, one_more, all_left_to, after_step, settles_on, leaves_on, registers_on, defers_on}
+use Rattle.seize_alone.specs.Given.SeizeWordsWord.{link_to, block_in}
+use Rattle.seize_alone.specs.Given.SeizeWordsDeclared.at.At.{At}
+use Rattle.seize_alone.specs.Given.SeizeWordsDeclared.at.At.TheVariants.{Root, Used, Slot, Entry, Word}
+use Rattle.seize_alone.specs.Given.SeizeWordsOp.{Op, Out, Load, Store, Swap, Add, Or, Exchange, Make, Take, Rewrite, Room, Made}
+use Rattle.seize_alone.specs.Given.SeizeWordsMem.{Mem, after, value_at, word_at}
+use Rattle.seize_alone.specs.Given.SeizeWordsPlan.{Plan}
+use Rattle.seize_alone.specs.Given.SeizeDeclared.states.TheConstants.{IDLE, ACTIVE, NEXT}
+use Rattle.seize_alone.specs.Given.SeizeDeclared.rows.register.Registering.TheVariants as registering
+use Rattle.seize_alone.specs.Given.SeizeLaw.{Entered, Made as MadeBlock, Linked, Unlinked, Dropped, Deferred, Ended, LeftOver, holds, is_orphan}
+use Rattle.seize_alone.specs.Given.SeizeFurther.{FurtherAre}
+use Rattle.seize_alone.specs.Given.SeizeSettle.{retiring, flushing, settle_plan}
+use Rattle.seize_alone.specs.Given.SeizeLeave.{leaving as leaving_slot, leave_plan}
+use Rattle.seize_alone.specs.Given.SeizeDefer.{deferring, defer_plan}
+use Rattle.seize_alone.specs.Given.SeizeRegister.{register_plan}
+use Rattle.seize_alone.specs.Given.SeizeEnter.{enter_plan, unregister_plan}
+use Rattle.seize_alone.specs.Given.SeizeWorld.{World, Row, Rests, Registers, Enters, Settles, Leaves, Defers, Frees, Use, Vacant, Outside, Inside, Changing, Hand, NoBlock, Making, InUse, Parting, Cutting, Handed, LeftTo, Request, Register', Enter', Leave', LeaveOwned, Refresh, Unregister', Retire, Flush, Defer', IsOnto, MayClear, with_row, with_use, with_hand, with_effect, one_more, all_left_to, after_step, settles_on, leaves_on, registers_on, defers_on}
 use Rattle.seize_acts.specs.Answers.{Grant, then_on, given, answer, stepped, answered, is_turn}
 
 -- what an operation of a user does beside its word

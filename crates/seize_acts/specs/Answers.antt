@@ -1,11 +1,11 @@
 -- The answer of an operation, and the outcome of a step, computed from a memory and from what it was free to choose.
 use Rattle.std.specs.Prelude.{ℕ, ◌==◌, ◌^◌, ◌+◌, ◌&&◌, Bool, true, false, Option, Some, None, Ok, Err, nat_lt, length}
 use Rattle.std.specs.Option.{is_none}
-use Rattle.seize_alone.specs.Given.SeizeWords.declared.fault.Fault.TheVariants.{Memory}
-use Rattle.seize_alone.specs.Given.SeizeWords.Op.{Op, Out, Load, Store, Swap, Add, Or, Exchange, Make, Take, Rewrite, Room, Found, Stored, Exchanged, Made, Taken, Roomed}
-use Rattle.seize_alone.specs.Given.SeizeWords.Mem.{Mem, after, value_at, word_at, block_of}
-use Rattle.seize_alone.specs.Given.SeizeWords.Place.{capacity}
-use Rattle.seize_alone.specs.Given.SeizeWords.Plan.{Plan, Then, Turn, Do, Now, Seeing, Sure}
+use Rattle.seize_alone.specs.Given.SeizeWordsDeclared.fault.Fault.TheVariants.{Memory}
+use Rattle.seize_alone.specs.Given.SeizeWordsOp.{Op, Out, Load, Store, Swap, Add, Or, Exchange, Make, Take, Rewrite, Room, Found, Stored, Exchanged, Made, Taken, Roomed}
+use Rattle.seize_alone.specs.Given.SeizeWordsMem.{Mem, after, value_at, word_at, block_of}
+use Rattle.seize_alone.specs.Given.SeizeWordsPlace.{capacity}
+use Rattle.seize_alone.specs.Given.SeizeWordsPlan.{Plan, Then, Turn, Do, Now, Seeing, Sure}
 
 -- f of what is there, if anything is
 abbrev pub then_on : {X Y : Type 0} → Option X → (X → Option Y) → Option Y

@@ -1,7 +1,7 @@
 -- When a row comes to its end.
 use Rattle.std.specs.Prelude.{◌≡◌, ℕ, zero, suc, ◌<◌, List, Option, Some, ◌⊎◌}
-use Rattle.seize_alone.specs.Given.SeizeWords.Mem.{Mem}
-use Rattle.seize_alone.specs.Given.Seize.World.{World, Row, Rests, Event, Runs, Steps', at_start}
+use Rattle.seize_alone.specs.Given.SeizeWordsMem.{Mem}
+use Rattle.seize_alone.specs.Given.SeizeWorld.{World, Row, Rests, Event, Runs, Steps', at_start}
 use Rattle.seize_acts.specs.Answers.{Grant}
 use Rattle.seize_acts.specs.Acts.{Act, Step, AllDid, became}
 

@@ -1,10 +1,10 @@
 -- What is promised over every list of acts.
 use Rattle.std.specs.Prelude.{◌≡◌, ℕ, ◌+◌, ◌<◌, ◌≤◌, ◌*◌, ◌-◌, ◌^◌, true, List, Option, Some, ◌⊎◌, length, max}
-use Rattle.seize_alone.specs.Given.Seize.declared.states.TheConstants.{LAST_SLOT}
-use Rattle.seize_alone.specs.Given.Seize.Law.{IsSound, is_retired}
-use Rattle.seize_alone.specs.Given.Seize.Further.{FurtherAre}
-use Rattle.seize_alone.specs.Given.Seize.WaitingSets.{is_one_of}
-use Rattle.seize_alone.specs.Given.Seize.World.{World, Rests, Handed, MayStep, IsOutside, SlotsTaken, Steps', times, at_start}
+use Rattle.seize_alone.specs.Given.SeizeDeclared.states.TheConstants.{LAST_SLOT}
+use Rattle.seize_alone.specs.Given.SeizeLaw.{IsSound, is_retired}
+use Rattle.seize_alone.specs.Given.SeizeFurther.{FurtherAre}
+use Rattle.seize_alone.specs.Given.SeizeWaitingSets.{is_one_of}
+use Rattle.seize_alone.specs.Given.SeizeWorld.{World, Rests, Handed, MayStep, IsOutside, SlotsTaken, Steps', times, at_start}
 use Rattle.seize_acts.specs.Answers.{Grant}
 use Rattle.seize_acts.specs.Acts.{Act, Step, AllDid, became, row_steps, turned}
 

@@ -1,12 +1,12 @@
 -- Everything can be reclaimed.
 use Rattle.std.specs.Prelude.{◌≡◌, ℕ, ◌<◌, ◌≤◌, ◌^◌, ◌==◌, Bool, true, false, List, [], ◌∷◌, Option, Some}
-use Rattle.seize_alone.specs.Given.SeizeWords.declared.at.At.TheVariants.{Slot}
-use Rattle.seize_alone.specs.Given.SeizeWords.Mem.{word_at}
-use Rattle.seize_alone.specs.Given.Seize.declared.states.TheConstants.{BATCH, LAST_SLOT}
-use Rattle.seize_alone.specs.Given.Seize.Law.{is_retired}
-use Rattle.seize_alone.specs.Given.Seize.WaitingSets.{is_one_of}
-use Rattle.seize_alone.specs.Given.Seize.Further.{FurtherAre}
-use Rattle.seize_alone.specs.Given.Seize.World.{World, Rests, Vacant, Hand, InUse, Parting, Cutting, Handed, Register', Leave', Flush, Unregister', at_start}
+use Rattle.seize_alone.specs.Given.SeizeWordsDeclared.at.At.TheVariants.{Slot}
+use Rattle.seize_alone.specs.Given.SeizeWordsMem.{word_at}
+use Rattle.seize_alone.specs.Given.SeizeDeclared.states.TheConstants.{BATCH, LAST_SLOT}
+use Rattle.seize_alone.specs.Given.SeizeLaw.{is_retired}
+use Rattle.seize_alone.specs.Given.SeizeWaitingSets.{is_one_of}
+use Rattle.seize_alone.specs.Given.SeizeFurther.{FurtherAre}
+use Rattle.seize_alone.specs.Given.SeizeWorld.{World, Rests, Vacant, Hand, InUse, Parting, Cutting, Handed, Register', Leave', Flush, Unregister', at_start}
 use Rattle.seize_acts.specs.Acts.{Act, Begin, Step, AllDid}
 
 -- This caller registers without entering, leaves a slot, flushes it or gives it up, or goes on with such a row.

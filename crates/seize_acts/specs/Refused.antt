@@ -1,21 +1,21 @@
 -- When a registration is refused.
 use Rattle.std.specs.Prelude.{◌≡◌, ℕ, ◌+◌, ◌≤◌, false, List, [], ◌∷◌, Option, Some, Err, ◌⊎◌, length}
-use Rattle.seize_alone.specs.Given.SeizeWords.declared.at.At.TheVariants.{Slot}
-use Rattle.seize_alone.specs.Given.SeizeWords.declared.fault.Fault.{Fault}
-use Rattle.seize_alone.specs.Given.SeizeWords.declared.fault.Fault.TheVariants.{SlotsUsedUp, Memory}
-use Rattle.seize_alone.specs.Given.SeizeWords.Op.{Roomed}
-use Rattle.seize_alone.specs.Given.SeizeWords.Mem.{Mem, word_at}
-use Rattle.seize_alone.specs.Given.SeizeWords.Place.{capacity}
-use Rattle.seize_alone.specs.Given.Seize.declared.states.TheConstants.{HEAD, LAST_SLOT}
-use Rattle.seize_alone.specs.Given.Seize.declared.progress.Progress.TheVariants as progress
-use Rattle.seize_alone.specs.Given.Seize.declared.rows.defer.Defer.{Defer}
-use Rattle.seize_alone.specs.Given.Seize.declared.rows.register.Register.{Register}
-use Rattle.seize_alone.specs.Given.Seize.declared.rows.enter.Enter.{Enter}
-use Rattle.seize_alone.specs.Given.Seize.declared.rows.enter.Unregister.{Unregister}
-use Rattle.seize_alone.specs.Given.Seize.Defer.{defer_plan}
-use Rattle.seize_alone.specs.Given.Seize.Register.{can_be_taken, register_plan}
-use Rattle.seize_alone.specs.Given.Seize.Enter.{enter_plan, unregister_plan}
-use Rattle.seize_alone.specs.Given.Seize.World.{World, Row, Rests, Registers, Enters, Settles, Leaves, Defers, Frees, Register', at_start}
+use Rattle.seize_alone.specs.Given.SeizeWordsDeclared.at.At.TheVariants.{Slot}
+use Rattle.seize_alone.specs.Given.SeizeWordsDeclared.fault.Fault.{Fault}
+use Rattle.seize_alone.specs.Given.SeizeWordsDeclared.fault.Fault.TheVariants.{SlotsUsedUp, Memory}
+use Rattle.seize_alone.specs.Given.SeizeWordsOp.{Roomed}
+use Rattle.seize_alone.specs.Given.SeizeWordsMem.{Mem, word_at}
+use Rattle.seize_alone.specs.Given.SeizeWordsPlace.{capacity}
+use Rattle.seize_alone.specs.Given.SeizeDeclared.states.TheConstants.{HEAD, LAST_SLOT}
+use Rattle.seize_alone.specs.Given.SeizeDeclared.progress.Progress.TheVariants as progress
+use Rattle.seize_alone.specs.Given.SeizeDeclared.rows.defer.Defer.{Defer}
+use Rattle.seize_alone.specs.Given.SeizeDeclared.rows.register.Register.{Register}
+use Rattle.seize_alone.specs.Given.SeizeDeclared.rows.enter.Enter.{Enter}
+use Rattle.seize_alone.specs.Given.SeizeDeclared.rows.enter.Unregister.{Unregister}
+use Rattle.seize_alone.specs.Given.SeizeDefer.{defer_plan}
+use Rattle.seize_alone.specs.Given.SeizeRegister.{can_be_taken, register_plan}
+use Rattle.seize_alone.specs.Given.SeizeEnter.{enter_plan, unregister_plan}
+use Rattle.seize_alone.specs.Given.SeizeWorld.{World, Row, Rests, Registers, Enters, Settles, Leaves, Defers, Frees, Register', at_start}
 use Rattle.seize_acts.specs.Answers.{Grant, stepped}
 use Rattle.seize_acts.specs.Acts.{Act, Begin, Step, Operate, Choose, Did, AllDid, begun, told}
 

@@ -1,8 +1,8 @@
 -- What a critical section holds stays.
 use Rattle.std.specs.Prelude.{◌≡◌, ℕ, ◌+◌, ◌==◌, Bool, true, false, List, [], ◌∷◌, Option, IsSome, if◌then◌else◌}
-use Rattle.seize_alone.specs.Given.SeizeWords.Mem.{value_at}
-use Rattle.seize_alone.specs.Given.Seize.Law.{Effect, Left, Made, Ended, holds, is_over, owner_of}
-use Rattle.seize_alone.specs.Given.Seize.World.{World, at_start}
+use Rattle.seize_alone.specs.Given.SeizeWordsMem.{value_at}
+use Rattle.seize_alone.specs.Given.SeizeLaw.{Effect, Left, Made, Ended, holds, is_over, owner_of}
+use Rattle.seize_alone.specs.Given.SeizeWorld.{World, at_start}
 use Rattle.seize_acts.specs.Acts.{Act, AllDid}
 
 -- how many of these effects are such

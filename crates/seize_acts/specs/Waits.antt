@@ -1,22 +1,22 @@
 -- When a row waits.
 use Rattle.std.specs.Prelude.{◌≡◌, ℕ, true, List, Option, Some, ◌⊎◌}
-use Rattle.seize_alone.specs.Given.SeizeWords.Mem.{Mem, Took, value_at}
-use Rattle.seize_alone.specs.Given.SeizeWords.Plan.{Steps}
-use Rattle.seize_alone.specs.Given.Seize.declared.progress.Progress.TheVariants as progress
-use Rattle.seize_alone.specs.Given.Seize.declared.rows.settle.Settle.{Settle}
-use Rattle.seize_alone.specs.Given.Seize.declared.rows.settle.Settled.TheVariants as settled
-use Rattle.seize_alone.specs.Given.Seize.declared.rows.leave.Leave.{Leave}
-use Rattle.seize_alone.specs.Given.Seize.declared.rows.defer.Defer.{Defer}
-use Rattle.seize_alone.specs.Given.Seize.declared.rows.register.Register.{Register}
-use Rattle.seize_alone.specs.Given.Seize.declared.rows.enter.Enter.{Enter}
-use Rattle.seize_alone.specs.Given.Seize.declared.rows.enter.Unregister.{Unregister}
-use Rattle.seize_alone.specs.Given.Seize.Settle.{settle_plan}
-use Rattle.seize_alone.specs.Given.Seize.Leave.{leave_plan}
-use Rattle.seize_alone.specs.Given.Seize.Defer.{defer_plan}
-use Rattle.seize_alone.specs.Given.Seize.Register.{register_plan}
-use Rattle.seize_alone.specs.Given.Seize.Enter.{enter_plan, unregister_plan}
-use Rattle.seize_alone.specs.Given.Seize.World.{World, Row, Rests, Registers, Enters, Settles, Leaves, Defers, Frees, Event, Runs, at_start}
-use Rattle.seize_alone.specs.Given.SeizeEnds.Holders.{has_batch}
+use Rattle.seize_alone.specs.Given.SeizeWordsMem.{Mem, Took, value_at}
+use Rattle.seize_alone.specs.Given.SeizeWordsPlan.{Steps}
+use Rattle.seize_alone.specs.Given.SeizeDeclared.progress.Progress.TheVariants as progress
+use Rattle.seize_alone.specs.Given.SeizeDeclared.rows.settle.Settle.{Settle}
+use Rattle.seize_alone.specs.Given.SeizeDeclared.rows.settle.Settled.TheVariants as settled
+use Rattle.seize_alone.specs.Given.SeizeDeclared.rows.leave.Leave.{Leave}
+use Rattle.seize_alone.specs.Given.SeizeDeclared.rows.defer.Defer.{Defer}
+use Rattle.seize_alone.specs.Given.SeizeDeclared.rows.register.Register.{Register}
+use Rattle.seize_alone.specs.Given.SeizeDeclared.rows.enter.Enter.{Enter}
+use Rattle.seize_alone.specs.Given.SeizeDeclared.rows.enter.Unregister.{Unregister}
+use Rattle.seize_alone.specs.Given.SeizeSettle.{settle_plan}
+use Rattle.seize_alone.specs.Given.SeizeLeave.{leave_plan}
+use Rattle.seize_alone.specs.Given.SeizeDefer.{defer_plan}
+use Rattle.seize_alone.specs.Given.SeizeRegister.{register_plan}
+use Rattle.seize_alone.specs.Given.SeizeEnter.{enter_plan, unregister_plan}
+use Rattle.seize_alone.specs.Given.SeizeWorld.{World, Row, Rests, Registers, Enters, Settles, Leaves, Defers, Frees, Event, Runs, at_start}
+use Rattle.seize_alone.specs.Given.SeizeEndsHolders.{has_batch}
 use Rattle.seize_acts.specs.Answers.{Grant, stepped}
 use Rattle.seize_acts.specs.Acts.{Act, AllDid}
 

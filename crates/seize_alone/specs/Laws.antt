@@ -9,7 +9,7 @@ use Rattle.seize.specs.World.{Use, Vacant, Outside, IsInside, Hand, NoBlock, Han
 use Rattle.seize.specs.declared.states.TheConstants.{HEAD, IDLE, LAST_SLOT}
 use Rattle.seize_alone.specs.Alone.{History, IsHistory, IsMidway, AreValues, given_back, nothing_yet, row_of}
 use Rattle.seize_alone.specs.declared.calls.WholeCall.{WholeCall}
-use Rattle.seize_sets.specs.Given.SeizeWaiting.Held.{count, Every, all_held}
+use Rattle.seize_sets.specs.Given.SeizeWaitingHeld.{count, Every, all_held}
 
 -- the waiting sets after what has happened
 abbrev pub sets_after : ℕ → History → Sets

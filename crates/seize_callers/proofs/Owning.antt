@@ -6,7 +6,7 @@ use Rattle.seize_words.specs.Op.{Op, Swap, Exchange, Make, Take, Found, Exchange
 use Rattle.seize_words.specs.Word.{block_in, link_to}
 use Rattle.seize_words.specs.declared.at.At.TheVariants.{Root}
 use Rattle.seize.specs.World.{HasListWord}
-use Rattle.seize_views.proofs.Given.SeizeActs.Answers.{same_some}
+use Rattle.seize_views.proofs.Given.SeizeActsAnswers.{same_some}
 use Rattle.seize_seats.specs.Lendings.{Shown, IsValueOf}
 use Rattle.seize_seats.specs.State.{Allows, Meets}
 use Rattle.seize_views.specs.Begun.{Hands}

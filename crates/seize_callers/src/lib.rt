@@ -7,4 +7,3 @@ pub mod errands;
 mod within;
 
 pub use caller::{Caller, named, watcher};
-pub use seize_views;

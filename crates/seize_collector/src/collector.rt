@@ -3,7 +3,7 @@ ghost use Rattle.std.specs.Prelude.{◌≡◌, ◌≤◌, ◌^◌, ◌==◌, IfO
 ghost use Rattle.std.proofs.Common.{rules};
 ghost use Rattle.std.specs.Cmp.Rules.{comparing};
 ghost use Rattle.seize.specs.Collector.{made_by, root_of};
-ghost use Rattle.seize.specs.Given.SeizeWords.declared.fault.Fault.TheVariants.{Memory};
+ghost use Rattle.seize.specs.Given.SeizeWordsDeclared.fault.Fault.TheVariants.{Memory};
 ghost use Rattle.seize.specs.Ids.{given, following};
 ghost use Rattle.seize_collector.specs.Made.{IsMade};
 

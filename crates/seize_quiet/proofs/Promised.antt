@@ -1,14 +1,14 @@
 -- The promises of the work on slots but that it ends.
 use Rattle.std.specs.Prelude.{Option}
 use Rattle.std.proofs.Common.{◌≡◌, ℕ, ◌<◌, ◌^◌, Bool, refl, arith}
-use Rattle.seize_reclaims.specs.Given.SeizeWords.Mem.{Mem, Can, Took, value_at}
-use Rattle.seize_reclaims.specs.Given.SeizeWords.Plan.{May, Steps}
-use Rattle.seize_reclaims.specs.Given.Seize.declared.rows.settle.Settled.{Settled}
-use Rattle.seize_reclaims.specs.Given.Seize.declared.rows.reclaim_all.ReclaimAll.{ReclaimAll}
-use Rattle.seize_reclaims.specs.Given.Seize.declared.rows.reclaim_all.Reclaiming.{Reclaiming}
-use Rattle.seize_reclaims.specs.Given.Seize.declared.rows.reclaim_all.Reclaiming.TheVariants as at
-use Rattle.seize_reclaims.specs.Given.Seize.ReclaimAll.{plan_at}
-use Rattle.seize_reclaims.specs.Given.Seize.World.{World}
+use Rattle.seize_reclaims.specs.Given.SeizeWordsMem.{Mem, Can, Took, value_at}
+use Rattle.seize_reclaims.specs.Given.SeizeWordsPlan.{May, Steps}
+use Rattle.seize_reclaims.specs.Given.SeizeDeclared.rows.settle.Settled.{Settled}
+use Rattle.seize_reclaims.specs.Given.SeizeDeclared.rows.reclaim_all.ReclaimAll.{ReclaimAll}
+use Rattle.seize_reclaims.specs.Given.SeizeDeclared.rows.reclaim_all.Reclaiming.{Reclaiming}
+use Rattle.seize_reclaims.specs.Given.SeizeDeclared.rows.reclaim_all.Reclaiming.TheVariants as at
+use Rattle.seize_reclaims.specs.Given.SeizeReclaimAll.{plan_at}
+use Rattle.seize_reclaims.specs.Given.SeizeWorld.{World}
 use Rattle.seize_quiet.specs.Slots.{Came, StageAt, Led}
 use Rattle.seize_quiet.specs.Promises.{IsOnSlots, SlotsBegin, SlotsLead, NothingWaits}
 use Rattle.seize_quiet.proofs.Slots.Facts.{nothing_left as none_left}

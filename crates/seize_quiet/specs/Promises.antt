@@ -1,16 +1,16 @@
 -- What is promised of a caller that reclaims all that waits: that it may begin, and take each step of its work on slots, what these come to, and that they end.
 use Rattle.std.specs.Prelude.{◌≡◌, ℕ, zero, suc, ◌<◌, ◌^◌, Bool, Option, None, IsSome}
-use Rattle.seize_reclaims.specs.Given.SeizeWords.declared.at.At.TheVariants.{Slot}
-use Rattle.seize_reclaims.specs.Given.SeizeWords.Mem.{Mem, Can, Took, value_at, word_at}
-use Rattle.seize_reclaims.specs.Given.SeizeWords.Plan.{May, Steps}
-use Rattle.seize_reclaims.specs.Given.Seize.declared.states.TheConstants.{HEAD}
-use Rattle.seize_reclaims.specs.Given.Seize.declared.rows.settle.Settled.{Settled}
-use Rattle.seize_reclaims.specs.Given.Seize.declared.rows.reclaim_all.ReclaimAll.{ReclaimAll}
-use Rattle.seize_reclaims.specs.Given.Seize.declared.rows.reclaim_all.Reclaiming.{Reclaiming}
-use Rattle.seize_reclaims.specs.Given.Seize.declared.rows.reclaim_all.Reclaiming.TheVariants as at
-use Rattle.seize_reclaims.specs.Given.Seize.ReclaimAll.{reclaiming_all, reclaim_all_plan}
-use Rattle.seize_reclaims.specs.Given.Seize.World.{World}
-use Rattle.seize_reclaims.specs.Given.SeizeActs.Reclaimed.{HasNothingLeft}
+use Rattle.seize_reclaims.specs.Given.SeizeWordsDeclared.at.At.TheVariants.{Slot}
+use Rattle.seize_reclaims.specs.Given.SeizeWordsMem.{Mem, Can, Took, value_at, word_at}
+use Rattle.seize_reclaims.specs.Given.SeizeWordsPlan.{May, Steps}
+use Rattle.seize_reclaims.specs.Given.SeizeDeclared.states.TheConstants.{HEAD}
+use Rattle.seize_reclaims.specs.Given.SeizeDeclared.rows.settle.Settled.{Settled}
+use Rattle.seize_reclaims.specs.Given.SeizeDeclared.rows.reclaim_all.ReclaimAll.{ReclaimAll}
+use Rattle.seize_reclaims.specs.Given.SeizeDeclared.rows.reclaim_all.Reclaiming.{Reclaiming}
+use Rattle.seize_reclaims.specs.Given.SeizeDeclared.rows.reclaim_all.Reclaiming.TheVariants as at
+use Rattle.seize_reclaims.specs.Given.SeizeReclaimAll.{reclaiming_all, reclaim_all_plan}
+use Rattle.seize_reclaims.specs.Given.SeizeWorld.{World}
+use Rattle.seize_reclaims.specs.Given.SeizeActsReclaimed.{HasNothingLeft}
 use Rattle.seize_quiet.specs.Slots.{AllRest, IsQuiet, Came, Stage, Led}
 
 -- it works on slots

@@ -1,18 +1,18 @@
 -- A caller reclaims all, after whatever others did before it, step by step: its work on slots is one row after another, which leaves nothing that waits.
 use Rattle.std.specs.Prelude.{◌≡◌, ℕ, ◌+◌, ◌<◌, ◌≤◌, Bool, true, false, List, [], ◌∷◌, ◌++◌, Option, Some, None, IsSome}
 use Rattle.std.specs.List.{AllByRecursion}
-use Rattle.seize_reclaims.specs.Given.SeizeWords.declared.at.At.TheVariants.{Slot}
-use Rattle.seize_reclaims.specs.Given.SeizeWords.Mem.{Mem, value_at, word_at}
-use Rattle.seize_reclaims.specs.Given.Seize.declared.states.TheConstants.{HEAD, BATCH, FREE, LAST_SLOT}
-use Rattle.seize_reclaims.specs.Given.Seize.declared.rows.settle.Settled.{Settled}
-use Rattle.seize_reclaims.specs.Given.Seize.declared.rows.settle.Settled.TheVariants as settled
-use Rattle.seize_reclaims.specs.Given.Seize.declared.rows.reclaim_all.ReclaimAll.{ReclaimAll}
-use Rattle.seize_reclaims.specs.Given.Seize.declared.rows.reclaim_all.Reclaiming.{Reclaiming}
-use Rattle.seize_reclaims.specs.Given.Seize.declared.rows.reclaim_all.Reclaiming.TheVariants as at
-use Rattle.seize_reclaims.specs.Given.Seize.Law.{is_retired}
-use Rattle.seize_reclaims.specs.Given.Seize.Sequence.{Calls, IsBetween, taken_in}
-use Rattle.seize_reclaims.specs.Given.Seize.World.{World, Row, Rests, Settles, Leaves, Vacant, Outside, Request, Register', Leave', Flush, Unregister', Event, Begin, Step, Begins, Steps', Runs, at_start}
-use Rattle.seize_reclaims.specs.Given.SeizeAlone.Alone.{TakesSteps}
+use Rattle.seize_reclaims.specs.Given.SeizeWordsDeclared.at.At.TheVariants.{Slot}
+use Rattle.seize_reclaims.specs.Given.SeizeWordsMem.{Mem, value_at, word_at}
+use Rattle.seize_reclaims.specs.Given.SeizeDeclared.states.TheConstants.{HEAD, BATCH, FREE, LAST_SLOT}
+use Rattle.seize_reclaims.specs.Given.SeizeDeclared.rows.settle.Settled.{Settled}
+use Rattle.seize_reclaims.specs.Given.SeizeDeclared.rows.settle.Settled.TheVariants as settled
+use Rattle.seize_reclaims.specs.Given.SeizeDeclared.rows.reclaim_all.ReclaimAll.{ReclaimAll}
+use Rattle.seize_reclaims.specs.Given.SeizeDeclared.rows.reclaim_all.Reclaiming.{Reclaiming}
+use Rattle.seize_reclaims.specs.Given.SeizeDeclared.rows.reclaim_all.Reclaiming.TheVariants as at
+use Rattle.seize_reclaims.specs.Given.SeizeLaw.{is_retired}
+use Rattle.seize_reclaims.specs.Given.SeizeSequence.{Calls, IsBetween, taken_in}
+use Rattle.seize_reclaims.specs.Given.SeizeWorld.{World, Row, Rests, Settles, Leaves, Vacant, Outside, Request, Register', Leave', Flush, Unregister', Event, Begin, Step, Begins, Steps', Runs, at_start}
+use Rattle.seize_reclaims.specs.Given.SeizeAloneAlone.{TakesSteps}
 
 -- a row that takes a slot again, leaves one, flushes it or gives it up
 abbrev pub IsForSlots : Request → Type 0

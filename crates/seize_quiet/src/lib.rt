@@ -4,4 +4,3 @@
 mod law;
 
 pub use law::slots_are_given_up;
-pub use seize_reclaims::{seize, seize_words};

@@ -1,9 +1,9 @@
 -- Everything that waits is reclaimed, as a whole call over a memory that has one owner, who is caller 0.
 use Rattle.std.specs.Prelude.{◌≡◌, ◌≢◌, ◌⊎◌, ℕ, zero, suc, ◌+◌, ◌-◌, ◌*◌, ◌<◌, ◌^◌, Bool, true, false, List, [], ◌∷◌, ◌++◌, Option, Some, None, IsSome, if◌then◌else◌}
-use Rattle.seize.specs.Given.SeizeWords.Word.{block_in}
-use Rattle.seize.specs.Given.SeizeWords.declared.at.At.TheVariants.{Root, Slot}
-use Rattle.seize.specs.Given.SeizeWords.Mem.{Mem, Took, value_at, word_at}
-use Rattle.seize.specs.Given.SeizeWords.Plan.{Steps}
+use Rattle.seize.specs.Given.SeizeWordsWord.{block_in}
+use Rattle.seize.specs.Given.SeizeWordsDeclared.at.At.TheVariants.{Root, Slot}
+use Rattle.seize.specs.Given.SeizeWordsMem.{Mem, Took, value_at, word_at}
+use Rattle.seize.specs.Given.SeizeWordsPlan.{Steps}
 use Rattle.seize.specs.declared.states.TheConstants.{HEAD, LAST_SLOT}
 use Rattle.seize.specs.declared.rows.settle.Settled.{Settled}
 use Rattle.seize.specs.declared.rows.settle.Settled.TheVariants.{Goes, Waits, Gave, Done}
@@ -14,8 +14,8 @@ use Rattle.seize.specs.Law.{reachable, where_is, is_retired}
 use Rattle.seize.specs.ReclaimAll.{reclaiming_all, clearing, reclaim_all_plan}
 use Rattle.seize.specs.WaitingSets.{Sets, After, all_changed, all_reclaimed, at_start as sets_at_start}
 use Rattle.seize.specs.World.{Vacant, times}
-use Rattle.seize_acts.specs.Given.SeizeSets.Reclaims.{NothingWaits}
-use Rattle.seize_acts.specs.Given.SeizeAlone.Alone.{IsOfUsers, History, IsHistory, AreValues, Spares, SameLeft}
+use Rattle.seize_acts.specs.Given.SeizeSetsReclaims.{NothingWaits}
+use Rattle.seize_acts.specs.Given.SeizeAloneAlone.{IsOfUsers, History, IsHistory, AreValues, Spares, SameLeft}
 use Rattle.seize_reclaims.specs.Roots.{LeftAt, IsCleared}
 
 -- the block can be reached, or a caller has it

@@ -1,9 +1,9 @@
 -- What is promised where all that waits is reclaimed, beside the call itself: that it comes to its end, what it reclaims, and the lists behind the roots.
 use Rattle.std.specs.Prelude.{◌≡◌, ℕ, ◌<◌, Bool, List, ◌++◌, Option}
-use Rattle.seize.specs.Given.SeizeWords.Mem.{Mem}
+use Rattle.seize.specs.Given.SeizeWordsMem.{Mem}
 use Rattle.seize.specs.World.{times}
 use Rattle.seize.specs.declared.rows.reclaim_all.ReclaimAll.{ReclaimAll}
-use Rattle.seize_acts.specs.Given.SeizeAlone.Alone.{History, AreValues}
+use Rattle.seize_acts.specs.Given.SeizeAloneAlone.{History, AreValues}
 use Rattle.seize_reclaims.specs.AllReclaimed.{all, MayReclaimAll, IsReclaiming, IsAllReclaimed, OnlyReclaims}
 use Rattle.seize_reclaims.specs.Roots.{LeftAt, all_lists, all_cleared}
 

@@ -1,15 +1,15 @@
 -- What ended maps left behind the roots is reclaimed, as a whole call over a memory that has one owner, who is caller 0.
 use Rattle.std.specs.Prelude.{◌≡◌, ◌≢◌, ℕ, zero, suc, ◌<◌, ◌≤◌, Bool, true, false, List, [], ◌∷◌, ◌++◌, Option, Some, None, IsSome}
-use Rattle.seize.specs.Given.SeizeWords.Word.{block_in, link_to}
-use Rattle.seize.specs.Given.SeizeWords.declared.at.At.TheVariants.{Root, Used, Entry}
-use Rattle.seize.specs.Given.SeizeWords.Mem.{Mem, value_at, word_at, block_of}
+use Rattle.seize.specs.Given.SeizeWordsWord.{block_in, link_to}
+use Rattle.seize.specs.Given.SeizeWordsDeclared.at.At.TheVariants.{Root, Used, Entry}
+use Rattle.seize.specs.Given.SeizeWordsMem.{Mem, value_at, word_at, block_of}
 use Rattle.seize.specs.declared.states.TheConstants.{NEXT}
 use Rattle.seize.specs.declared.rows.reclaim_all.ReclaimAll.{ReclaimAll}
 use Rattle.seize.specs.declared.rows.reclaim_all.Reclaiming.{Reclaiming}
 use Rattle.seize.specs.declared.rows.reclaim_all.Reclaiming.TheVariants as at
 use Rattle.seize.specs.Further.{ListFrom}
 use Rattle.seize.specs.World.{LeftTo, Vacant, times}
-use Rattle.seize_acts.specs.Given.SeizeAlone.Alone.{History, IsHistory, AreValues, cleared}
+use Rattle.seize_acts.specs.Given.SeizeAloneAlone.{History, IsHistory, AreValues, cleared}
 
 -- the blocks that the roots below this number lead to, by ascending root
 abbrev pub all_lists : (ℕ → List ℕ) → ℕ → List ℕ

@@ -5,5 +5,3 @@ pub mod law;
 mod reclaiming;
 
 pub use reclaiming::ReclaimingAll;
-pub use seize;
-pub use seize::seize_words;

@@ -1,17 +1,17 @@
 //! Everything that waits is reclaimed, over a memory that has one owner.
 ghost use Rattle.std.specs.Prelude.{◌≡◌, ◌≢◌, ℕ, ◌<◌, ◌≤◌, List, [], IsSome, None, false};
-ghost use Rattle.seize.specs.Given.SeizeWords.Mem.{Mem, word_at};
-ghost use Rattle.seize.specs.Given.SeizeWords.declared.at.At.TheVariants.{Slot};
+ghost use Rattle.seize.specs.Given.SeizeWordsMem.{Mem, word_at};
+ghost use Rattle.seize.specs.Given.SeizeWordsDeclared.at.At.TheVariants.{Slot};
 ghost use Rattle.seize.specs.declared.states.TheConstants.{HEAD};
 ghost use Rattle.seize.specs.declared.rows.reclaim_all.Reclaiming.TheVariants.{Flushes};
 ghost use Rattle.seize.specs.declared.rows.settle.Settle.{Settle};
 ghost use Rattle.seize.specs.World.{Vacant, Flush, Settles};
-ghost use Rattle.seize_acts.specs.Given.SeizeAlone.Alone.{History, IsMidway, blocks_in, given_back};
+ghost use Rattle.seize_acts.specs.Given.SeizeAloneAlone.{History, IsMidway, blocks_in, given_back};
 ghost use Rattle.seize_reclaims.specs.AllReclaimed.{IsReclaiming, MayReclaimAll, ReclaimsOn, RowEnds, is_flushing, is_within, sets_in, weight_at};
 
 use seize::Machine;
 use seize::rows::{Defers, LeftOver, ReclaimAll, Reclaiming, Settled};
-use seize::seize_words::Plain;
+use seize_words::Plain;
 
 /// Reclaims everything that waits, and gives every slot up, while no call is under way and no guard lives. By ascending slot, each
 /// active one leaves; then each slot's batch is flushed, in rounds until none is left. Last comes what was left over at the roots, by

@@ -2,5 +2,3 @@
 #![tactic(auto)]
 
 pub mod law;
-
-pub use seize_words;

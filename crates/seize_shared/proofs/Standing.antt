@@ -2,14 +2,14 @@
 use Rattle.std.specs.Prelude.{Some, None, ◌==◌, if◌then◌else◌}
 use Rattle.std.proofs.Common.{◌≡◌, ℕ, Bool, true, false, inl, inr, refl, ap, sym, subst, ◌∙◌}
 use Rattle.std.proofs.lemmas.Bool.{eqb-false, ne_eqb, cases_eq}
-use Rattle.seize_callers.proofs.Given.SeizeActs.Answers.{same_some}
+use Rattle.seize_callers.proofs.Given.SeizeActsAnswers.{same_some}
 use Rattle.seize_shared.specs.Standing.{standing}
-use Rattle.seize_callers.specs.Given.SeizeViews.Told.{seen_as}
-use Rattle.seize_callers.specs.Given.SeizeViews.Promises.{IsLooking, IsTaker}
-use Rattle.seize_callers.specs.Given.SeizeViews.declared.view.View.{View}
-use Rattle.seize_callers.specs.Given.SeizeViews.declared.view.View.TheVariants.{Rests, Registers, Outside, Owes, Enters, Inside, Settles, Leaves, Left, Frees, Brings, Bears, Watches, Busy}
-use Rattle.seize_callers.specs.Given.SeizeViews.declared.view.Has.{Has}
-use Rattle.seize_callers.specs.Given.SeizeViews.declared.view.Has.TheVariants.{Nothing, Made, Seen, Both, Cut}
+use Rattle.seize_callers.specs.Given.SeizeViewsTold.{seen_as}
+use Rattle.seize_callers.specs.Given.SeizeViewsPromises.{IsLooking, IsTaker}
+use Rattle.seize_callers.specs.Given.SeizeViewsDeclared.view.View.{View}
+use Rattle.seize_callers.specs.Given.SeizeViewsDeclared.view.View.TheVariants.{Rests, Registers, Outside, Owes, Enters, Inside, Settles, Leaves, Left, Frees, Brings, Bears, Watches, Busy}
+use Rattle.seize_callers.specs.Given.SeizeViewsDeclared.view.Has.{Has}
+use Rattle.seize_callers.specs.Given.SeizeViewsDeclared.view.Has.TheVariants.{Nothing, Made, Seen, Both, Cut}
 
 abbrev Standing : Type 0
 Standing = ℕ × Bool × ℕ

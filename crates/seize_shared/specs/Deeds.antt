@@ -1,7 +1,7 @@
 -- What who has a slot has done last at a root.
 use Rattle.std.specs.Prelude.{ℕ, Option, Some, None, ◌==◌, if◌then◌else◌}
-use Rattle.seize_callers.specs.Given.SeizeViews.declared.view.Deed.{Deed}
-use Rattle.seize_callers.specs.Given.SeizeViews.declared.view.Deed.TheVariants.{Wrote}
+use Rattle.seize_callers.specs.Given.SeizeViewsDeclared.view.Deed.{Deed}
+use Rattle.seize_callers.specs.Given.SeizeViewsDeclared.view.Deed.TheVariants.{Wrote}
 
 module _ {T : Type 0} where
   -- it has put a value there: where, and which

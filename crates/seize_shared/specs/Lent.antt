@@ -1,9 +1,9 @@
 -- What a seat is lent.
 use Rattle.std.specs.Prelude.{ℕ, Option}
 use Rattle.seize_seats.specs.Lendings.{IsValueOf}
-use Rattle.seize_callers.specs.Given.SeizeViews.Notes.{NotedHolds}
-use Rattle.seize_callers.specs.Given.SeizeViews.declared.view.Fixed.{Fixed}
-use Rattle.seize_callers.specs.Given.SeizeViews.declared.view.Noted.{Noted}
+use Rattle.seize_callers.specs.Given.SeizeViewsNotes.{NotedHolds}
+use Rattle.seize_callers.specs.Given.SeizeViewsDeclared.view.Fixed.{Fixed}
+use Rattle.seize_callers.specs.Given.SeizeViewsDeclared.view.Noted.{Noted}
 
 -- the value of this block, as it is while the seat knows what it knows
 abbrev pub IsLent : {T : Type 0} → (T → Option ℕ) → Fixed → ℕ → Noted T → ℕ → T → Type 0

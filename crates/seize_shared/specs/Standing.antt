@@ -1,8 +1,8 @@
 -- How a seat stands that has a slot and no block in its hand.
 use Rattle.std.specs.Prelude.{ℕ, Bool, true, false, Option, Some, None, ◌==◌, if◌then◌else◌}
-use Rattle.seize_callers.specs.Given.SeizeViews.declared.view.View.{View}
-use Rattle.seize_callers.specs.Given.SeizeViews.declared.view.View.TheVariants.{Outside, Inside}
-use Rattle.seize_callers.specs.Given.SeizeViews.declared.view.Has.TheVariants.{Nothing, Seen}
+use Rattle.seize_callers.specs.Given.SeizeViewsDeclared.view.View.{View}
+use Rattle.seize_callers.specs.Given.SeizeViewsDeclared.view.View.TheVariants.{Outside, Inside}
+use Rattle.seize_callers.specs.Given.SeizeViewsDeclared.view.Has.TheVariants.{Nothing, Seen}
 
 -- the slot; whether its section is open; and which block it has seen there, 0 for none
 abbrev pub standing : {T : Type 0} → View T → Option (ℕ × Bool × ℕ)

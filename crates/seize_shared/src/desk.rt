@@ -1,14 +1,14 @@
 //! A slot of which several guards have the section open: it begins with the first of them, and ends with the last.
 ghost use Rattle.std.specs.Prelude.{◌≡◌, ◌≢◌, ◌<◌, ◌^◌, ℕ, true, false, IfOk, IfSome, IfNone, unwrap_or};
 ghost use Rattle.seize_shared.specs.Lent.{IsLent};
-ghost use Rattle.seize_callers.specs.Given.SeizeViews.declared.view.Deed.TheVariants.{Looked};
-ghost use Rattle.seize_callers.specs.Given.SeizeViews.declared.view.View.TheVariants.{Rests, Watches};
+ghost use Rattle.seize_callers.specs.Given.SeizeViewsDeclared.view.Deed.TheVariants.{Looked};
+ghost use Rattle.seize_callers.specs.Given.SeizeViewsDeclared.view.View.TheVariants.{Rests, Watches};
 
 use crate::stay::Stay;
 use seize::rows::Defers;
 use seize_blocks::{Blocks, Seat};
-use seize_callers::seize_views::{Content, Fixed, OfRows};
 use seize_callers::{named, watcher};
+use seize_views::{Content, Fixed, OfRows};
 use seize_words::{At, Fault};
 use std::cell::Cell;
 use std::marker::{Brand, PhantomData};

@@ -2,18 +2,18 @@
 ghost use Rattle.std.specs.Prelude.{◌≡◌, ◌≢◌, ◌<◌, ◌^◌, ◌⊎◌, ℕ, Bool, None, Some, IfOk, IfErr, IfNone, IfSome, true, false};
 ghost use Rattle.seize_callers.specs.Owning.{borne_by};
 ghost use Rattle.seize_shared.specs.Deeds.{has_put, has_taken};
-ghost use Rattle.seize_callers.specs.Given.SeizeViews.declared.view.Began.{Began};
-ghost use Rattle.seize_callers.specs.Given.SeizeViews.declared.view.Began.TheVariants.{Retirement, Section, Trial};
-ghost use Rattle.seize_callers.specs.Given.SeizeViews.declared.view.Deed.{Deed};
-ghost use Rattle.seize_callers.specs.Given.SeizeViews.declared.view.Deed.TheVariants.{Looked, Wrote};
-ghost use Rattle.seize_callers.specs.Given.SeizeViews.declared.view.View.TheVariants.{Rests};
+ghost use Rattle.seize_callers.specs.Given.SeizeViewsDeclared.view.Began.{Began};
+ghost use Rattle.seize_callers.specs.Given.SeizeViewsDeclared.view.Began.TheVariants.{Retirement, Section, Trial};
+ghost use Rattle.seize_callers.specs.Given.SeizeViewsDeclared.view.Deed.{Deed};
+ghost use Rattle.seize_callers.specs.Given.SeizeViewsDeclared.view.Deed.TheVariants.{Looked, Wrote};
+ghost use Rattle.seize_callers.specs.Given.SeizeViewsDeclared.view.View.TheVariants.{Rests};
 
 use crate::owned::Unlinked;
 use crate::stay::Stay;
 use seize::rows::Defers;
 use seize_blocks::Blocks;
 use seize_callers::Caller;
-use seize_callers::seize_views::{Content, Fixed, OfRows};
+use seize_views::{Content, Fixed, OfRows};
 use seize_words::Fault;
 use std::marker::PhantomData;
 

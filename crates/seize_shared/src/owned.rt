@@ -2,15 +2,15 @@
 ghost use Rattle.std.specs.Prelude.{◌≡◌, ◌<◌, ◌^◌, None, Some, IfOk, IfErr, IfSome};
 ghost use Rattle.seize_callers.specs.Owning.{brought_by, borne_by};
 ghost use Rattle.seize_shared.specs.Lent.{IsLent};
-ghost use Rattle.seize_callers.specs.Given.SeizeViews.declared.view.Began.TheVariants.{Retirement};
-ghost use Rattle.seize_callers.specs.Given.SeizeViews.declared.view.Deed.TheVariants.{Wrote};
-ghost use Rattle.seize_callers.specs.Given.SeizeViews.declared.view.View.TheVariants.{Brings};
+ghost use Rattle.seize_callers.specs.Given.SeizeViewsDeclared.view.Began.TheVariants.{Retirement};
+ghost use Rattle.seize_callers.specs.Given.SeizeViewsDeclared.view.Deed.TheVariants.{Wrote};
+ghost use Rattle.seize_callers.specs.Given.SeizeViewsDeclared.view.View.TheVariants.{Brings};
 
 use crate::guard::RootGuard;
 use seize::rows::Defers;
 use seize_blocks::Blocks;
 use seize_callers::Caller;
-use seize_callers::seize_views::{Content, Fixed, OfRows};
+use seize_views::{Content, Fixed, OfRows};
 
 /// A block that was made, of its holder's alone: nobody else can reach it. It is spent, by taking it away, or by putting it at a root.
 pub struct Owned<'a, T: Defers, C: Content<T> = OfRows> {

@@ -1,14 +1,14 @@
 //! A slot that is held, and its section, which is open or not.
 ghost use Rattle.std.specs.Prelude.{◌≡◌, ◌<◌, ◌^◌, Some, IfOk, true, false};
 ghost use Rattle.seize_shared.specs.Standing.{standing};
-ghost use Rattle.seize_callers.specs.Given.SeizeViews.declared.view.Began.TheVariants.{Section, Trial};
+ghost use Rattle.seize_callers.specs.Given.SeizeViewsDeclared.view.Began.TheVariants.{Section, Trial};
 
 mod roots;
 
 use seize::rows::Defers;
 use seize_blocks::Blocks;
 use seize_callers::Caller;
-use seize_callers::seize_views::{Content, Fixed, OfRows};
+use seize_views::{Content, Fixed, OfRows};
 use seize_words::Fault;
 
 /// A caller who holds a slot: whether its section is open, which block was seen there, 0 for none, and how many seats watch that section. The slot is given up

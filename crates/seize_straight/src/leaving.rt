@@ -7,8 +7,8 @@ ghost use Rattle.seize_straight.specs.Reaches.{Reaches};
 ghost use Rattle.seize_straight.specs.Runs.{MayRun};
 
 use seize::rows::{Defers, Leave, Leaving, Settle};
-use seize::seize_words::{At, Memory};
 use seize::states::{ACTIVE, FREE, HEAD};
+use seize_words::{At, Memory};
 
 /// Where the end of a section has come to.
 #[derive(Clone, Copy)]

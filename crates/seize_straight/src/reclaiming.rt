@@ -5,8 +5,8 @@ ghost use Rattle.seize_straight.specs.Going.{DropLeads, MayDrop, MaySettle};
 ghost use Rattle.seize_straight.specs.Reclaiming.{Reclaims};
 
 use seize::rows::{Defers, Settle, Settling};
-use seize::seize_words::{At, Link, Look, Memory};
 use seize::states::NEXT;
+use seize_words::{At, Link, Look, Memory};
 
 /// How many blocks are reclaimed at once at most.
 const MANY: u64 = 1_000;

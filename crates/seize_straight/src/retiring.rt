@@ -6,8 +6,8 @@ ghost use Rattle.seize_straight.specs.Going.{MaySettle, SettleReaches};
 ghost use Rattle.seize_straight.specs.Retiring.{grown, holding, retired, settle_at};
 
 use seize::rows::{Defers, Settle, Settling};
-use seize::seize_words::{At, Link, Memory};
 use seize::states::{BATCH, COUNT, FIRST, HELD, NEXT};
+use seize_words::{At, Link, Memory};
 
 /// Where the retirement of a block has come to. A block is named by its link, 0 where there is none.
 #[derive(Clone, Copy)]

@@ -6,7 +6,7 @@ use Rattle.seize_words.specs.Mem.{Mem, Took}
 use Rattle.seize_words.specs.Op.{Make, Made}
 use Rattle.seize.specs.World.{Use, Inside, Cutting, IsTaken, HasListWord}
 use Rattle.seize_alone.specs.Alone.{History, IsHistory, SlotsAre, TellsSlot, nothing_yet, registered, made, linked, unlinked}
-use Rattle.seize_alone.proofs.Given.SeizeRule.Rows.Others.{with_here}
+use Rattle.seize_alone.proofs.Given.SeizeRuleRows.Others.{with_here}
 use Rattle.seize_alone.proofs.Histories.Users.{made_history, linked_history, unlinked_history, start_history}
 use Rattle.seize_tests.specs.Section.{IsInside}
 

@@ -3,7 +3,7 @@ use Rattle.std.specs.Prelude.{Option, Some, None}
 use Rattle.std.proofs.Common.{◌≡◌, ℕ, refl, subst, ap, ◌∙◌}
 use Rattle.seize.specs.World.{World, Row, Use}
 use Rattle.seize.specs.World as world
-use Rattle.seize_bounds.specs.Given.SeizeActs.Waits.{SettlesOn}
+use Rattle.seize_bounds.specs.Given.SeizeActsWaits.{SettlesOn}
 use Rattle.seize_bounds.specs.Bounds.{IsAloneOnSlot}
 use Rattle.seize_views.specs.Rows.{row_of, use_of, used_for}
 use Rattle.seize_views.specs.declared.view.View.{View}

@@ -7,7 +7,7 @@ use Rattle.seize.specs.declared.rows.settle.Settle.{Settle}
 use Rattle.seize.specs.Settle.{retiring, flushing}
 use Rattle.seize.specs.World.{World, Use, at_start}
 use Rattle.seize.specs.World as world
-use Rattle.seize_bounds.proofs.Given.SeizeActs.Answers.{same_some}
+use Rattle.seize_bounds.proofs.Given.SeizeActsAnswers.{same_some}
 use Rattle.seize_seats.specs.State.{State, view_of, joined, Comes, Starts}
 use Rattle.seize_views.specs.Rows.{TurnsTo, row_of, use_of, hand_of, IsCut, IsKnown, Fits, IsBounded, Holds, Keeps}
 use Rattle.seize_views.specs.Begun.{IsBegun}

@@ -9,11 +9,11 @@ use Rattle.seize.specs.declared.rows.settle.Settle.{Settle}
 use Rattle.seize.specs.Settle.{retiring, flushing}
 use Rattle.seize.specs.World.{World, Row, Use, Hand, Begin, Happens, Request, Register', Enter', Leave', Refresh, Unregister', Retire, Flush, IsTaken, one_more, with_at, with_row, with_use, with_hand}
 use Rattle.seize.specs.World as world
-use Rattle.seize_bounds.proofs.Given.SeizeRule.Rows.Others.{with_here, with_other}
-use Rattle.seize_bounds.specs.Given.SeizeActs.Acts.{is_inside, is_outside, is_taken, is_cutting}
-use Rattle.seize_bounds.specs.Given.SeizeActs.Acts as acts
-use Rattle.seize_bounds.specs.Given.SeizeActs.Answers.{given}
-use Rattle.seize_bounds.specs.Given.SeizeActs.Waits.{SettlesOn}
+use Rattle.seize_bounds.proofs.Given.SeizeRuleRows.Others.{with_here, with_other}
+use Rattle.seize_bounds.specs.Given.SeizeActsActs.{is_inside, is_outside, is_taken, is_cutting}
+use Rattle.seize_bounds.specs.Given.SeizeActsActs as acts
+use Rattle.seize_bounds.specs.Given.SeizeActsAnswers.{given}
+use Rattle.seize_bounds.specs.Given.SeizeActsWaits.{SettlesOn}
 use Rattle.seize_bounds.specs.Bounds.{IsToTry, IsAloneOnSlot, TriesWithin}
 use Rattle.seize_bounds.proofs.Settles.Within.{batches_are_tried}
 use Rattle.seize_views.specs.Begun.{IsBegun}

@@ -7,14 +7,14 @@ use Rattle.seize_words.specs.Op.{Op, Out, Make, Take, Found, Stored, Exchanged, 
 use Rattle.seize.specs.Law.{Dropped}
 use Rattle.seize.specs.World.{World, Hand, Makes, Drops, HasListWord, made_by, with_hand, with_effect}
 use Rattle.seize.specs.World as world
-use Rattle.seize_bounds.proofs.Given.SeizeMoves.State.Held.{held_beside}
-use Rattle.seize_bounds.proofs.Given.SeizeRule.Rows.Others.{with_here, with_other}
-use Rattle.seize_bounds.proofs.Given.SeizeRule.Words.Named.{made_one, taken_one}
-use Rattle.seize_bounds.proofs.Given.SeizeRule.World.Values.{taken_value, made_value}
-use Rattle.seize_bounds.specs.Given.SeizeAlone.Alone.{IsOfUsers}
-use Rattle.seize_bounds.proofs.Given.SeizeAlone.Histories.Reached.{Reached}
-use Rattle.seize_bounds.proofs.Given.SeizeAlone.Histories.NotTaken.{IsHad, IsHeld, kept_there}
-use Rattle.seize_bounds.proofs.Given.SeizeActs.Answers.{same_some}
+use Rattle.seize_bounds.proofs.Given.SeizeMovesState.Held.{held_beside}
+use Rattle.seize_bounds.proofs.Given.SeizeRuleRows.Others.{with_here, with_other}
+use Rattle.seize_bounds.proofs.Given.SeizeRuleWords.Named.{made_one, taken_one}
+use Rattle.seize_bounds.proofs.Given.SeizeRuleWorld.Values.{taken_value, made_value}
+use Rattle.seize_bounds.specs.Given.SeizeAloneAlone.{IsOfUsers}
+use Rattle.seize_bounds.proofs.Given.SeizeAloneHistories.Reached.{Reached}
+use Rattle.seize_bounds.proofs.Given.SeizeAloneHistories.NotTaken.{IsHad, IsHeld, kept_there}
+use Rattle.seize_bounds.proofs.Given.SeizeActsAnswers.{same_some}
 use Rattle.seize_seats.specs.State.{State, view_of}
 use Rattle.seize_views.specs.Rows.{Leads}
 use Rattle.seize_views.specs.Rows.{had_in, hand_of, IsMade, IsInHand, Holds}

@@ -3,9 +3,9 @@ use Rattle.std.specs.Prelude.{◌++◌, Option}
 use Rattle.std.proofs.Common.{◌≡◌, ℕ, ◌+◌, List, [], ◌∷◌, refl, sym, subst}
 use Rattle.seize.specs.declared.states.TheConstants.{LAST_SLOT}
 use Rattle.seize.specs.World.{World, Hand, Event, Happens, Runs, at_start}
-use Rattle.seize_bounds.proofs.Given.SeizeRule.World.Start.{start_good}
-use Rattle.seize_bounds.specs.Given.SeizeAlone.Alone.{IsOfUsers}
-use Rattle.seize_bounds.proofs.Given.SeizeAlone.Histories.Reached.{Reached, runs_reached}
+use Rattle.seize_bounds.proofs.Given.SeizeRuleWorld.Start.{start_good}
+use Rattle.seize_bounds.specs.Given.SeizeAloneAlone.{IsOfUsers}
+use Rattle.seize_bounds.proofs.Given.SeizeAloneHistories.Reached.{Reached, runs_reached}
 use Rattle.seize_views.specs.Rows.{Came}
 use Rattle.seize_views.specs.declared.view.Fixed.{Fixed}
 

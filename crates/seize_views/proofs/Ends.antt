@@ -15,7 +15,7 @@ use Rattle.seize.specs.Leave.{standing, settled as leave_settled}
 use Rattle.seize.specs.Settle.{settle_plan, plan_at}
 use Rattle.seize.specs.World.{World, Use, one_less, settles_on, leaves_on}
 use Rattle.seize.specs.World as world
-use Rattle.seize_bounds.proofs.Given.SeizeRule.Rows.Others.{with_here}
+use Rattle.seize_bounds.proofs.Given.SeizeRuleRows.Others.{with_here}
 use Rattle.seize_views.specs.Begun.{left_with}
 use Rattle.seize_views.specs.Rows.{row_of, use_of, used_for, hand_of, leave_of, counting, IsPlain, IsShort, IsKnown, IsBounded}
 use Rattle.seize_views.specs.declared.view.View.{View}

@@ -5,7 +5,7 @@ use Rattle.seize_words.specs.Op.{Op, Store, Swap}
 use Rattle.seize_words.specs.declared.at.At.TheVariants.{Slot}
 use Rattle.seize.specs.declared.states.TheConstants.{HEAD, FREE, ACTIVE}
 use Rattle.seize.specs.World.{World, Use}
-use Rattle.seize_bounds.proofs.Given.SeizeActs.Answers.{same_some}
+use Rattle.seize_bounds.proofs.Given.SeizeActsAnswers.{same_some}
 use Rattle.seize_views.specs.Rows.{head_of}
 use Rattle.seize_views.specs.Told.{told}
 use Rattle.seize_views.specs.Promises.{op_of, RowsGoOn}

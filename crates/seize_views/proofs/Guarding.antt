@@ -8,8 +8,8 @@ use Rattle.seize_words.specs.Op.{Op, Out, Load, Found, Stored, Exchanged, Made a
 use Rattle.seize_words.specs.declared.at.At.TheVariants.{Root}
 use Rattle.seize.specs.Law.{holds}
 use Rattle.seize.specs.World.{World}
-use Rattle.seize_bounds.proofs.Given.SeizeAlone.Histories.NotTaken.{IsHeld, kept_there}
-use Rattle.seize_bounds.proofs.Given.SeizeActs.Answers.{same_some}
+use Rattle.seize_bounds.proofs.Given.SeizeAloneHistories.NotTaken.{IsHeld, kept_there}
+use Rattle.seize_bounds.proofs.Given.SeizeActsAnswers.{same_some}
 use Rattle.seize_seats.specs.State.{State, view_of, Allows}
 use Rattle.seize_seats.specs.Lendings.{Shown}
 use Rattle.seize_views.specs.Rows.{Leads, RootsNameLinked, Holds}

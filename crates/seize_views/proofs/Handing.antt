@@ -3,7 +3,7 @@ use Rattle.std.specs.Prelude.{◌≢◌, Option, Some, None, slice_get, slice_se
 use Rattle.std.proofs.Common.{◌≡◌, ℕ, ◌⊎◌, inl, inr, refl, sym, subst, ap, ◌∙◌}
 use Rattle.std.proofs.lemmas.Bool.{cases_eq}
 use Rattle.seize.specs.World.{World}
-use Rattle.seize_bounds.proofs.Given.SeizeActs.Answers.{same_some}
+use Rattle.seize_bounds.proofs.Given.SeizeActsAnswers.{same_some}
 use Rattle.seize_seats.specs.State.{State, view_of, Meets}
 use Rattle.seize_views.specs.Begun.{Hands}
 use Rattle.seize_views.specs.Promises.{BorneAreHandedOn}

@@ -5,10 +5,10 @@ use Rattle.seize_words.specs.Mem.{Mem, Can, Took}
 use Rattle.seize_words.specs.Op.{Op, Out}
 use Rattle.seize.specs.declared.states.TheConstants.{LAST_SLOT}
 use Rattle.seize.specs.World.{World, Row, Rests, Use, Vacant, InUse, Event, Begin, Request, Register', Enter', Leave', LeaveOwned, Refresh, Unregister', Retire, Flush, Defer', Runs, Steps', Happens, MayStep, at_start, one_less}
-use Rattle.seize_bounds.proofs.Given.SeizeRule.World.Kept.{rows_may}
-use Rattle.seize_bounds.proofs.Given.SeizeAlone.Histories.Reached.{Reached}
-use Rattle.seize_bounds.specs.Given.SeizeActs.Acts.{begun}
-use Rattle.seize_bounds.specs.Given.SeizeActs.Waits.{SettlesOn}
+use Rattle.seize_bounds.proofs.Given.SeizeRuleWorld.Kept.{rows_may}
+use Rattle.seize_bounds.proofs.Given.SeizeAloneHistories.Reached.{Reached}
+use Rattle.seize_bounds.specs.Given.SeizeActsActs.{begun}
+use Rattle.seize_bounds.specs.Given.SeizeActsWaits.{SettlesOn}
 use Rattle.seize_bounds.specs.Bounds.{IsAloneOnSlot}
 use Rattle.seize_views.specs.Rows.{row_of, use_of, hand_of, IsPlain, IsShort, IsKnown, IsBounded}
 use Rattle.seize_views.specs.declared.view.View.{View}

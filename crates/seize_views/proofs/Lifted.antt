@@ -4,7 +4,7 @@ use Rattle.std.proofs.Common.{◌≡◌, ℕ, inl, inr, sym, subst, ◌∙◌}
 use Rattle.seize_words.specs.Mem.{Mem, Can, Took}
 use Rattle.seize_words.specs.Op.{Op, Out}
 use Rattle.seize.specs.World.{World, Use}
-use Rattle.seize_bounds.specs.Given.SeizeActs.Waits.{SettlesOn}
+use Rattle.seize_bounds.specs.Given.SeizeActsWaits.{SettlesOn}
 use Rattle.seize_seats.specs.State.{State, view_of}
 use Rattle.seize_views.specs.Rows.{use_of, IsUsed, Holds, Leads}
 use Rattle.seize_views.specs.declared.view.View.{View}

@@ -15,7 +15,7 @@ use Rattle.seize.specs.declared.rows.settle.Settled.{Settled}
 use Rattle.seize.specs.Settle as settle
 use Rattle.seize.specs.Settle.{settle_plan, plan_at, standing, drained_first}
 use Rattle.seize.specs.World.{World}
-use Rattle.seize_bounds.proofs.Given.SeizeActs.Answers.{same_some}
+use Rattle.seize_bounds.proofs.Given.SeizeActsAnswers.{same_some}
 use Rattle.seize_seats.specs.State.{State, view_of}
 use Rattle.seize_seats.specs.Lendings.{Shown}
 use Rattle.seize_views.specs.Promises.{LookedAreShown}

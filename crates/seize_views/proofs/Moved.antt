@@ -6,10 +6,10 @@ use Rattle.seize_words.specs.Mem.{Mem, value_at}
 use Rattle.seize.specs.Law.{holds, is_over}
 use Rattle.seize.specs.World.{World, Row, Use, Hand, Vacant, Event, MayStep, IsInside}
 use Rattle.seize.specs.World as world
-use Rattle.seize_bounds.proofs.Given.SeizeRule.World.Kept.{rows_may}
-use Rattle.seize_bounds.specs.Given.SeizeAlone.Alone.{IsOfUsers}
-use Rattle.seize_bounds.proofs.Given.SeizeAlone.Histories.NotTaken.{IsHad, kept_there}
-use Rattle.seize_bounds.proofs.Given.SeizeActs.Answers.{same_some}
+use Rattle.seize_bounds.proofs.Given.SeizeRuleWorld.Kept.{rows_may}
+use Rattle.seize_bounds.specs.Given.SeizeAloneAlone.{IsOfUsers}
+use Rattle.seize_bounds.proofs.Given.SeizeAloneHistories.NotTaken.{IsHad, kept_there}
+use Rattle.seize_bounds.proofs.Given.SeizeActsAnswers.{same_some}
 use Rattle.seize_seats.specs.State.{State, view_of}
 use Rattle.seize_bounds.specs.Bounds.{HasCounted, HasTried, IsAloneOnSlot, Meanwhile}
 use Rattle.seize_views.specs.Rows.{Leads}

@@ -14,7 +14,7 @@ use Rattle.seize.specs.Leave.{standing}
 use Rattle.seize.specs.Law.{Entered}
 use Rattle.seize.specs.World.{World, Row, Use, Step, Steps', after_step, with_use, leaves_on}
 use Rattle.seize.specs.World as world
-use Rattle.seize_bounds.proofs.Given.SeizeRule.Rows.Others.{with_here, with_other}
+use Rattle.seize_bounds.proofs.Given.SeizeRuleRows.Others.{with_here, with_other}
 use Rattle.seize_views.specs.Rows.{row_of, leave_of, head_of}
 use Rattle.seize_views.specs.Told.{list_taken, told}
 use Rattle.seize_views.specs.declared.view.Becomes.{Becomes}
@@ -22,7 +22,7 @@ use Rattle.seize_views.specs.declared.view.View.TheVariants.{Rests, Enters, Insi
 use Rattle.seize_views.specs.declared.view.Has.TheVariants.{Nothing}
 use Rattle.seize_views.specs.declared.view.Why.TheVariants.{Ending}
 use Rattle.seize_views.specs.declared.view.Fixed.{Fixed}
-use Rattle.seize_bounds.specs.Given.SeizeActs.Waits.{SettlesOn}
+use Rattle.seize_bounds.specs.Given.SeizeActsWaits.{SettlesOn}
 use Rattle.seize_bounds.specs.Bounds.{IsAloneOnSlot}
 use Rattle.seize_bounds.proofs.Settles.Within.{lists_are_settled}
 use Rattle.seize_views.proofs.InWorld.{IsLikeness, HasRow, GoesTo, MayMake, came_on, may, same_slot, stays_on}

@@ -12,11 +12,11 @@ use Rattle.seize.specs.declared.rows.settle.Settling.TheVariants as at
 use Rattle.seize.specs.Settle.{settle_plan, plan_at}
 use Rattle.seize.specs.Leave.{settled}
 use Rattle.seize.specs.World.{MayStep}
-use Rattle.seize_bounds.proofs.Given.SeizeMoves.State.Ghost.{State}
-use Rattle.seize_bounds.proofs.Given.SeizeRule.Points.Known.{Fits}
-use Rattle.seize_bounds.proofs.Given.SeizeRule.Rows.Known.{FitsRow}
-use Rattle.seize_bounds.proofs.Given.SeizeRule.Words.Shows.{Extra}
-use Rattle.seize_bounds.proofs.Given.SeizeRule.Words.View.{View}
+use Rattle.seize_bounds.proofs.Given.SeizeMovesState.Ghost.{State}
+use Rattle.seize_bounds.proofs.Given.SeizeRulePoints.Known.{Fits}
+use Rattle.seize_bounds.proofs.Given.SeizeRuleRows.Known.{FitsRow}
+use Rattle.seize_bounds.proofs.Given.SeizeRuleWords.Shows.{Extra}
+use Rattle.seize_bounds.proofs.Given.SeizeRuleWords.View.{View}
 use Rattle.seize_views.specs.Rows.{counting, settles_for, IsReclaiming}
 use Rattle.seize_views.specs.declared.view.Why.{Why}
 use Rattle.seize_views.specs.declared.view.Why.TheVariants.{Retiring, Ending}

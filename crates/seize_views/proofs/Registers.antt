@@ -14,14 +14,14 @@ use Rattle.seize.specs.declared.rows.register.Registering.TheVariants as at
 use Rattle.seize.specs.Register.{register_plan, plan_at, begun, looked, widened, taken, further, taking, going, refused, registered, can_be_taken, bucket_needed}
 use Rattle.seize.specs.World.{World, Row, Use, Vacant, registers_on, registered_use, registered_as, register_effects, after_step, at_start}
 use Rattle.seize.specs.World as world
-use Rattle.seize_bounds.proofs.Given.SeizeEnds.Batches.Rows.{registers_memory}
-use Rattle.seize_bounds.proofs.Given.SeizeRule.Words.Named.{word_found}
-use Rattle.seize_bounds.proofs.Given.SeizeRule.Words.View.{view}
-use Rattle.seize_bounds.proofs.Given.SeizeRule.Rows.Others.{with_here}
-use Rattle.seize_bounds.proofs.Given.SeizeRule.Rows.Known.{FitsRow, FitsRegister}
-use Rattle.seize_bounds.proofs.Given.SeizeRule.Rows.Register.{taken_use}
-use Rattle.seize_bounds.proofs.Given.SeizeAlone.Histories.Reached.{Reached}
-use Rattle.seize_bounds.proofs.Given.SeizeActs.Answers.{same_some}
+use Rattle.seize_bounds.proofs.Given.SeizeEndsBatches.Rows.{registers_memory}
+use Rattle.seize_bounds.proofs.Given.SeizeRuleWords.Named.{word_found}
+use Rattle.seize_bounds.proofs.Given.SeizeRuleWords.View.{view}
+use Rattle.seize_bounds.proofs.Given.SeizeRuleRows.Others.{with_here}
+use Rattle.seize_bounds.proofs.Given.SeizeRuleRows.Known.{FitsRow, FitsRegister}
+use Rattle.seize_bounds.proofs.Given.SeizeRuleRows.Register.{taken_use}
+use Rattle.seize_bounds.proofs.Given.SeizeAloneHistories.Reached.{Reached}
+use Rattle.seize_bounds.proofs.Given.SeizeActsAnswers.{same_some}
 use Rattle.seize_views.specs.Rows.{hand_of, use_of, row_of, IsSeeking, IsPlain, IsShort, IsKnown, IsBounded}
 use Rattle.seize_views.specs.Told.{left_by, ComesTo, told}
 use Rattle.seize_views.specs.Promises.{op_in}

@@ -9,13 +9,13 @@ use Rattle.seize_words.specs.declared.at.At.TheVariants.{Root}
 use Rattle.seize.specs.Law.{Effect, Linked, holds, is_over, is_open, reachable, is_somewhere}
 use Rattle.seize.specs.World.{World, Use, Hand, Links, IsInside, with_hand, with_effect}
 use Rattle.seize.specs.World as world
-use Rattle.seize_bounds.proofs.Given.SeizeMoves.State.Ghost.{Life, IsLinked, emptied, place_of}
-use Rattle.seize_bounds.proofs.Given.SeizeRule.Points.Aside.{HandFits}
-use Rattle.seize_bounds.proofs.Given.SeizeMoves.State.Held.{held_on}
-use Rattle.seize_bounds.proofs.Given.SeizeMoves.State.Logs.{reached_held}
-use Rattle.seize_bounds.proofs.Given.SeizeRule.Rows.Others.{with_here, with_other}
-use Rattle.seize_bounds.proofs.Given.SeizeRule.Rows.Teams.{UseFits}
-use Rattle.seize_bounds.proofs.Given.SeizeAlone.Histories.Reached.{Reached}
+use Rattle.seize_bounds.proofs.Given.SeizeMovesState.Ghost.{Life, IsLinked, emptied, place_of}
+use Rattle.seize_bounds.proofs.Given.SeizeRulePoints.Aside.{HandFits}
+use Rattle.seize_bounds.proofs.Given.SeizeMovesState.Held.{held_on}
+use Rattle.seize_bounds.proofs.Given.SeizeMovesState.Logs.{reached_held}
+use Rattle.seize_bounds.proofs.Given.SeizeRuleRows.Others.{with_here, with_other}
+use Rattle.seize_bounds.proofs.Given.SeizeRuleRows.Teams.{UseFits}
+use Rattle.seize_bounds.proofs.Given.SeizeAloneHistories.Reached.{Reached}
 use Rattle.seize_seats.specs.State.{State, view_of}
 use Rattle.seize_views.specs.Rows.{Leads, TurnsTo}
 use Rattle.seize_views.specs.Rows.{had_in, IsMade, IsInHand, RootsNameLinked, Holds}

@@ -17,18 +17,18 @@ use Rattle.seize.specs.Settle.{settle_plan, plan_at}
 use Rattle.seize.specs.Leave.{standing, settled as leave_settled}
 use Rattle.seize.specs.World.{World, Row, Use, Steps', settles_on, leaves_on, with_at}
 use Rattle.seize.specs.World as world
-use Rattle.seize_bounds.proofs.Given.SeizeRule.Words.View.{view}
-use Rattle.seize_bounds.proofs.Given.SeizeRule.Rows.Others.{with_here}
-use Rattle.seize_bounds.proofs.Given.SeizeRule.Rows.Known.{FitsRow}
-use Rattle.seize_bounds.proofs.Given.SeizeRule.Points.Known.{Fits as FitsSettle}
-use Rattle.seize_bounds.proofs.Given.SeizeRule.Points.Stepped.{IsGoing}
-use Rattle.seize_bounds.proofs.Given.SeizeRule.Points.Settle.{is_over, settle_steps}
-use Rattle.seize_bounds.proofs.Given.SeizeRule.World.Start.{words_good}
+use Rattle.seize_bounds.proofs.Given.SeizeRuleWords.View.{view}
+use Rattle.seize_bounds.proofs.Given.SeizeRuleRows.Others.{with_here}
+use Rattle.seize_bounds.proofs.Given.SeizeRuleRows.Known.{FitsRow}
+use Rattle.seize_bounds.proofs.Given.SeizeRulePoints.Known.{Fits as FitsSettle}
+use Rattle.seize_bounds.proofs.Given.SeizeRulePoints.Stepped.{IsGoing}
+use Rattle.seize_bounds.proofs.Given.SeizeRulePoints.Settle.{is_over, settle_steps}
+use Rattle.seize_bounds.proofs.Given.SeizeRuleWorld.Start.{words_good}
 use Rattle.seize_straight.specs.Going.{DropGoes}
-use Rattle.seize_bounds.proofs.Given.SeizeAlone.Histories.Reached.{Reached}
-use Rattle.seize_bounds.proofs.Given.SeizeActs.Answers.{same_some, ended}
-use Rattle.seize_bounds.proofs.Given.SeizeActs.Steps.{sees_end}
-use Rattle.seize_bounds.proofs.Given.SeizeEnds.Batches.Rows.{settles_memory}
+use Rattle.seize_bounds.proofs.Given.SeizeAloneHistories.Reached.{Reached}
+use Rattle.seize_bounds.proofs.Given.SeizeActsAnswers.{same_some, ended}
+use Rattle.seize_bounds.proofs.Given.SeizeActsSteps.{sees_end}
+use Rattle.seize_bounds.proofs.Given.SeizeEndsBatches.Rows.{settles_memory}
 use Rattle.seize_bounds.specs.Bounds.{HasCounted, HasTried, IsAloneOnSlot, SettlesWithin, TriesWithin}
 use Rattle.seize_views.specs.Rows.{settles_for, used_for, leave_of, counting, IsLooked, IsBounded}
 use Rattle.seize_views.specs.Told.{shown_by, FollowsBy, told}

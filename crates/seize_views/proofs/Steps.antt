@@ -10,13 +10,13 @@ use Rattle.seize.specs.Sequence.{taken_in}
 use Rattle.seize.specs.Law.{Effect, Entered, Left as LeftSlot, Made, Linked, Unlinked, Deferred, Retired, Taken, Dropped, Ended, LeftOver, holds, is_over}
 use Rattle.seize.specs.World.{World, Row, Use, Hand, Vacant, Begin, Step, Request, Steps', Happens, times}
 use Rattle.seize.specs.World as world
-use Rattle.seize_bounds.proofs.Given.SeizeRule.Rows.Effects.{IsOneStep}
-use Rattle.seize_bounds.proofs.Given.SeizeRule.Rows.Known.{works_on, registering_on}
-use Rattle.seize_bounds.specs.Given.SeizeAlone.Alone.{IsOfUsers}
-use Rattle.seize_bounds.proofs.Given.SeizeAlone.Spared.Rows.{RowStepped}
-use Rattle.seize_bounds.proofs.Given.SeizeAlone.Histories.Reached.{Reached}
-use Rattle.seize_bounds.proofs.Given.SeizeAlone.Histories.NotTaken.{IsHad, still_held, kept_hand, taken_gone, did}
-use Rattle.seize_bounds.proofs.Given.SeizeAlone.Histories.Uses.{uses_kept}
+use Rattle.seize_bounds.proofs.Given.SeizeRuleRows.Effects.{IsOneStep}
+use Rattle.seize_bounds.proofs.Given.SeizeRuleRows.Known.{works_on, registering_on}
+use Rattle.seize_bounds.specs.Given.SeizeAloneAlone.{IsOfUsers}
+use Rattle.seize_bounds.proofs.Given.SeizeAloneSpared.Rows.{RowStepped}
+use Rattle.seize_bounds.proofs.Given.SeizeAloneHistories.Reached.{Reached}
+use Rattle.seize_bounds.proofs.Given.SeizeAloneHistories.NotTaken.{IsHad, still_held, kept_hand, taken_gone, did}
+use Rattle.seize_bounds.proofs.Given.SeizeAloneHistories.Uses.{uses_kept}
 use Rattle.seize_seats.specs.State.{State, view_of}
 use Rattle.seize_views.specs.Rows.{row_of, use_of, hand_of, used_for, IsSeeking, IsShort, IsUsed, RootsNameLinked, Fits, IsBounded, Holds}
 use Rattle.seize_views.specs.declared.view.View.{View}

@@ -8,11 +8,11 @@ use Rattle.seize.specs.Law.{Effect, holds, is_over}
 use Rattle.seize.specs.Sequence.{IsBetween}
 use Rattle.seize.specs.World.{World, Row, Use, Hand, Event, Happens, with_at}
 use Rattle.seize.specs.World as world
-use Rattle.seize_bounds.proofs.Given.SeizeMoves.State.Ghost.{IsOwned}
-use Rattle.seize_bounds.proofs.Given.SeizeMoves.Moves.Blocks.{never_held}
-use Rattle.seize_bounds.proofs.Given.SeizeRule.Points.Aside.{HandFits}
-use Rattle.seize_bounds.proofs.Given.SeizeRule.Rows.Others.{with_other, users_rows}
-use Rattle.seize_bounds.proofs.Given.SeizeAlone.Histories.Reached.{Reached}
+use Rattle.seize_bounds.proofs.Given.SeizeMovesState.Ghost.{IsOwned}
+use Rattle.seize_bounds.proofs.Given.SeizeMovesMoves.Blocks.{never_held}
+use Rattle.seize_bounds.proofs.Given.SeizeRulePoints.Aside.{HandFits}
+use Rattle.seize_bounds.proofs.Given.SeizeRuleRows.Others.{with_other, users_rows}
+use Rattle.seize_bounds.proofs.Given.SeizeAloneHistories.Reached.{Reached}
 use Rattle.seize_seats.specs.State.{State, view_of}
 use Rattle.seize_bounds.specs.Bounds.{IsOfOthers, IsAloneOnSlot}
 use Rattle.seize_views.specs.Rows.{Leads}

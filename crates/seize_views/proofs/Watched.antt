@@ -5,7 +5,7 @@ use Rattle.std.proofs.lemmas.Bool.{cases_eq, eq-eqb}
 use Rattle.seize.specs.Law.{Effect, holds}
 use Rattle.seize.specs.World.{World, Use, IsInside}
 use Rattle.seize.specs.World as world
-use Rattle.seize_bounds.proofs.Given.SeizeActs.Answers.{same_some}
+use Rattle.seize_bounds.proofs.Given.SeizeActsAnswers.{same_some}
 use Rattle.seize_seats.specs.State.{State, view_of}
 use Rattle.seize_views.specs.Rows.{Holds, HeldStay, IsUsed, use_of}
 use Rattle.seize_views.specs.Watched.{one, open_at, is_watching, IsOwn, watchers, watching, Stays, AreWatched}

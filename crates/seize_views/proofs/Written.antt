@@ -9,10 +9,10 @@ use Rattle.seize_words.specs.declared.at.At.TheVariants.{Root}
 use Rattle.seize.specs.Law.{Unlinked}
 use Rattle.seize.specs.World.{World, Hand, Operates, Unlinks, MayCut, IsOwnOp, with_at, with_hand, with_effect}
 use Rattle.seize.specs.World as world
-use Rattle.seize_bounds.proofs.Given.SeizeMoves.State.Held.{held_on}
-use Rattle.seize_bounds.proofs.Given.SeizeRule.Rows.Others.{with_here, with_other}
-use Rattle.seize_bounds.proofs.Given.SeizeRule.World.Values.{own_op_value}
-use Rattle.seize_bounds.proofs.Given.SeizeActs.Answers.{same_some}
+use Rattle.seize_bounds.proofs.Given.SeizeMovesState.Held.{held_on}
+use Rattle.seize_bounds.proofs.Given.SeizeRuleRows.Others.{with_here, with_other}
+use Rattle.seize_bounds.proofs.Given.SeizeRuleWorld.Values.{own_op_value}
+use Rattle.seize_bounds.proofs.Given.SeizeActsAnswers.{same_some}
 use Rattle.seize_seats.specs.State.{State, view_of}
 use Rattle.seize_views.specs.Rows.{Leads}
 use Rattle.seize_views.specs.Rows.{RootsNameLinked, Came, Holds}

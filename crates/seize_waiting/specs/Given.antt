@@ -1,2 +1,4 @@
 -- The words of the crates below, given on to the crates above: these list this crate in place of those.
-pub use Rattle.seize.specs as Seize
+pub use Rattle.seize.specs.Law as SeizeLaw
+pub use Rattle.seize.specs.Sequence as SeizeSequence
+pub use Rattle.seize.specs.WaitingSets as SeizeWaitingSets

@@ -3,21 +3,21 @@ use Rattle.std.specs.Prelude.{◌≢◌, Option, Some, Result}
 use Rattle.std.specs.Result.{is_err}
 use Rattle.std.proofs.Common.{◌≡◌, ◌⊎◌, ℕ, Bool, true, inl, inr, refl, sym, ap, subst, ◌∙◌}
 use Rattle.std.proofs.lemmas.Bool.{cases_eq}
-use Rattle.papaya_scenes.specs.Given.SeizeWords.Plan.{Plan}
-use Rattle.papaya_scenes.specs.Given.SeizeActs.Answers.{Grant, then_on}
-use Rattle.papaya_scenes.proofs.Given.SeizeActs.Answers.{same_some}
-use Rattle.papaya_scenes.specs.Given.Tables.declared.node.Node.{Node}
-use Rattle.papaya_scenes.specs.Given.Raw.Machine.{machine_plan, machine_replied, machine_asked}
-use Rattle.papaya_scenes.specs.Given.Raw.declared.machines.asking.Reply.{Reply}
-use Rattle.papaya_scenes.specs.Given.Raw.declared.machines.machine.Machine.{Machine}
-use Rattle.papaya_scenes.specs.Given.Raw.declared.machines.progress.Progress.{Progress}
-use Rattle.papaya_scenes.specs.Given.Points.Steps.{AreLawful}
-use Rattle.papaya_scenes.specs.Given.Teller.declared.changed.Changed.{Changed}
-use Rattle.papaya_scenes.specs.Given.Teller.declared.changed.Changed.TheVariants.{Nothing as NoChange}
-use Rattle.papaya_scenes.specs.Given.Callers.Together.{UnderWay}
-use Rattle.papaya_scenes.specs.Given.Callers.Together as begins
-use Rattle.papaya_scenes.specs.Given.Finishes.Machines.{machine_of, MachineStepsAmong, ToldOfKind}
-use Rattle.papaya_scenes.specs.Given.Finishes.Maps.{Standing, with_call}
+use Rattle.papaya_scenes.specs.Given.SeizeWordsPlan.{Plan}
+use Rattle.papaya_scenes.specs.Given.SeizeActsAnswers.{Grant, then_on}
+use Rattle.papaya_scenes.proofs.Given.SeizeActsAnswers.{same_some}
+use Rattle.papaya_scenes.specs.Given.TablesDeclared.node.Node.{Node}
+use Rattle.papaya_scenes.specs.Given.RawMachine.{machine_plan, machine_replied, machine_asked}
+use Rattle.papaya_scenes.specs.Given.RawDeclared.machines.asking.Reply.{Reply}
+use Rattle.papaya_scenes.specs.Given.RawDeclared.machines.machine.Machine.{Machine}
+use Rattle.papaya_scenes.specs.Given.RawDeclared.machines.progress.Progress.{Progress}
+use Rattle.papaya_scenes.specs.Given.PointsSteps.{AreLawful}
+use Rattle.papaya_scenes.specs.Given.TellerDeclared.changed.Changed.{Changed}
+use Rattle.papaya_scenes.specs.Given.TellerDeclared.changed.Changed.TheVariants.{Nothing as NoChange}
+use Rattle.papaya_scenes.specs.Given.CallersTogether.{UnderWay}
+use Rattle.papaya_scenes.specs.Given.CallersTogether as begins
+use Rattle.papaya_scenes.specs.Given.FinishesMachines.{machine_of, MachineStepsAmong, ToldOfKind}
+use Rattle.papaya_scenes.specs.Given.FinishesMaps.{Standing, with_call}
 use Rattle.papaya_acts.specs.Acts.{Answer, Wanted, Get, Remove, Insert, TryToInsert, Compute, Update, UpdateOrInsert, TryToInsertWith, RemoveIf, GetKeyValue, ContainsKey, GetOrInsert, GetOrInsertWith, RemoveEntry, MakeRoom, Count, GoOver, begun}
 use Rattle.papaya_acts.specs.Acts.{Act, BeginsCall, StepsCall, TellsCall, AsksCall, StopsCall}
 use Rattle.papaya_acts.specs.AsSteps.{LeadsAs, changed_by, changed_of, held_in}

@@ -2,35 +2,35 @@
 use Rattle.std.specs.Prelude.{◌≢◌, ◌++◌, Option, Some, None}
 use Rattle.std.proofs.Common.{◌≡◌, ◌⊎◌, ℕ, Bool, [], ◌∷◌, inl, inr, refl, sym, ap, subst, ◌∙◌}
 use Rattle.std.proofs.lemmas.Bool.{cases_eq}
-use Rattle.papaya_scenes.specs.Given.SeizeWords.Mem.{Mem}
-use Rattle.papaya_scenes.specs.Given.SeizeWords.Plan.{Plan}
-use Rattle.papaya_scenes.specs.Given.Seize.Law.{Ended}
-use Rattle.papaya_scenes.specs.Given.Seize.World.{Row, with_at, with_effect}
-use Rattle.papaya_scenes.specs.Given.Seize.declared.progress.Progress.{Progress}
-use Rattle.papaya_scenes.specs.Given.Seize.declared.progress.Progress.TheVariants as progress
-use Rattle.papaya_scenes.specs.Given.Seize.declared.rows.settle.Settled.{Settled}
-use Rattle.papaya_scenes.specs.Given.Seize.declared.rows.settle.Settled.TheVariants as settled
-use Rattle.papaya_scenes.specs.Given.SeizeActs.Answers.{Grant}
-use Rattle.papaya_scenes.proofs.Given.SeizeActs.Answers.{same_some}
-use Rattle.papaya_scenes.specs.Given.Tables.Chunks.{is_incremental}
-use Rattle.papaya_scenes.specs.Given.Tables.Nodes.{deferred_word}
-use Rattle.papaya_scenes.specs.Given.Tables.declared.node.Node.{Node}
-use Rattle.papaya_scenes.specs.Given.Tables.declared.setting.Setting.{Setting}
-use Rattle.papaya_scenes.specs.Given.Resize.NewMap.{new_map_plan}
-use Rattle.papaya_scenes.specs.Given.Resize.declared.new_map.NewMap.{NewMap}
-use Rattle.papaya_scenes.specs.Given.Raw.EndMap.{end_map_plan}
-use Rattle.papaya_scenes.specs.Given.Raw.declared.machines.end_map.EndMap.{EndMap}
-use Rattle.papaya_scenes.specs.Given.Teller.Tells.{StepsTold}
-use Rattle.papaya_scenes.specs.Given.Teller.declared.changed.Changed.{Changed}
-use Rattle.papaya_scenes.specs.Given.Teller.declared.changed.Changed.TheVariants.{Nothing as NoChange}
-use Rattle.papaya_scenes.specs.Given.Callers.Rows.{IsRowOn}
-use Rattle.papaya_scenes.proofs.Given.Callers.Together.At.{at_same, at_other}
-use Rattle.papaya_scenes.proofs.Given.Callers.Together.Slots.{all_between, between_rows}
-use Rattle.papaya_scenes.specs.Given.Finishes.Endings.{AllPairsOnce, Finishing, StepsOfEnding, MakingStepsAmong, waiting_by}
-use Rattle.papaya_scenes.specs.Given.Finishes.FactsEnds.{events_of}
-use Rattle.papaya_scenes.specs.Given.Finishes.Makings.{Beginning}
-use Rattle.papaya_scenes.specs.Given.Finishes.Maps.{Standing}
-use Rattle.papaya_scenes.proofs.Given.Finishes.Among.Begins.{endings_begin}
+use Rattle.papaya_scenes.specs.Given.SeizeWordsMem.{Mem}
+use Rattle.papaya_scenes.specs.Given.SeizeWordsPlan.{Plan}
+use Rattle.papaya_scenes.specs.Given.SeizeLaw.{Ended}
+use Rattle.papaya_scenes.specs.Given.SeizeWorld.{Row, with_at, with_effect}
+use Rattle.papaya_scenes.specs.Given.SeizeDeclared.progress.Progress.{Progress}
+use Rattle.papaya_scenes.specs.Given.SeizeDeclared.progress.Progress.TheVariants as progress
+use Rattle.papaya_scenes.specs.Given.SeizeDeclared.rows.settle.Settled.{Settled}
+use Rattle.papaya_scenes.specs.Given.SeizeDeclared.rows.settle.Settled.TheVariants as settled
+use Rattle.papaya_scenes.specs.Given.SeizeActsAnswers.{Grant}
+use Rattle.papaya_scenes.proofs.Given.SeizeActsAnswers.{same_some}
+use Rattle.papaya_scenes.specs.Given.TablesChunks.{is_incremental}
+use Rattle.papaya_scenes.specs.Given.TablesNodes.{deferred_word}
+use Rattle.papaya_scenes.specs.Given.TablesDeclared.node.Node.{Node}
+use Rattle.papaya_scenes.specs.Given.TablesDeclared.setting.Setting.{Setting}
+use Rattle.papaya_scenes.specs.Given.ResizeNewMap.{new_map_plan}
+use Rattle.papaya_scenes.specs.Given.ResizeDeclared.new_map.NewMap.{NewMap}
+use Rattle.papaya_scenes.specs.Given.RawEndMap.{end_map_plan}
+use Rattle.papaya_scenes.specs.Given.RawDeclared.machines.end_map.EndMap.{EndMap}
+use Rattle.papaya_scenes.specs.Given.TellerTells.{StepsTold}
+use Rattle.papaya_scenes.specs.Given.TellerDeclared.changed.Changed.{Changed}
+use Rattle.papaya_scenes.specs.Given.TellerDeclared.changed.Changed.TheVariants.{Nothing as NoChange}
+use Rattle.papaya_scenes.specs.Given.CallersRows.{IsRowOn}
+use Rattle.papaya_scenes.proofs.Given.CallersTogether.At.{at_same, at_other}
+use Rattle.papaya_scenes.proofs.Given.CallersTogether.Slots.{all_between, between_rows}
+use Rattle.papaya_scenes.specs.Given.FinishesEndings.{AllPairsOnce, Finishing, StepsOfEnding, MakingStepsAmong, waiting_by}
+use Rattle.papaya_scenes.specs.Given.FinishesFactsEnds.{events_of}
+use Rattle.papaya_scenes.specs.Given.FinishesMakings.{Beginning}
+use Rattle.papaya_scenes.specs.Given.FinishesMaps.{Standing}
+use Rattle.papaya_scenes.proofs.Given.FinishesAmong.Begins.{endings_begin}
 use Rattle.papaya_acts.specs.Acts.{Act, Answer, OfMaking, OfEnding, BeginsMaking, StepsMaking, BeginsEnding, StepsEnding}
 use Rattle.papaya_acts.specs.AsSteps.{EndedTo, LeadsAs, MadeTo, changed_by, changed_of, held_in}
 use Rattle.papaya_acts.specs.Leads.{AllStand, Led, MakingCame, EndingCame, MayBe, making_steps, ending_steps}

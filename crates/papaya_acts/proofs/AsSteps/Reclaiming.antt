@@ -1,17 +1,17 @@
 -- A step of a caller that reclaims all leads where a step of its kind does.
 use Rattle.std.specs.Prelude.{Some}
 use Rattle.std.proofs.Common.{◌≡◌, ℕ, Bool, List, refl, sym, ap, subst, ◌∙◌}
-use Rattle.papaya_scenes.specs.Given.SeizeWords.Plan.{Plan}
-use Rattle.papaya_scenes.specs.Given.Seize.ReclaimAll.{reclaim_all_plan}
-use Rattle.papaya_scenes.specs.Given.Seize.declared.rows.reclaim_all.ReclaimAll.{ReclaimAll}
-use Rattle.papaya_scenes.specs.Given.Seize.declared.rows.settle.Settled.{Settled}
-use Rattle.papaya_scenes.specs.Given.Seize.declared.rows.settle.Settled.TheVariants as settled
-use Rattle.papaya_scenes.specs.Given.SeizeActs.Answers.{Grant}
-use Rattle.papaya_scenes.specs.Given.Tables.Nodes.{deferred_word, was_left}
-use Rattle.papaya_scenes.specs.Given.Tables.declared.node.Node.{Node}
-use Rattle.papaya_scenes.specs.Given.Teller.declared.changed.Changed.{Changed}
-use Rattle.papaya_scenes.specs.Given.Callers.Rows.{IsRowOn}
-use Rattle.papaya_scenes.specs.Given.Finishes.Maps.{Standing}
+use Rattle.papaya_scenes.specs.Given.SeizeWordsPlan.{Plan}
+use Rattle.papaya_scenes.specs.Given.SeizeReclaimAll.{reclaim_all_plan}
+use Rattle.papaya_scenes.specs.Given.SeizeDeclared.rows.reclaim_all.ReclaimAll.{ReclaimAll}
+use Rattle.papaya_scenes.specs.Given.SeizeDeclared.rows.settle.Settled.{Settled}
+use Rattle.papaya_scenes.specs.Given.SeizeDeclared.rows.settle.Settled.TheVariants as settled
+use Rattle.papaya_scenes.specs.Given.SeizeActsAnswers.{Grant}
+use Rattle.papaya_scenes.specs.Given.TablesNodes.{deferred_word, was_left}
+use Rattle.papaya_scenes.specs.Given.TablesDeclared.node.Node.{Node}
+use Rattle.papaya_scenes.specs.Given.TellerDeclared.changed.Changed.{Changed}
+use Rattle.papaya_scenes.specs.Given.CallersRows.{IsRowOn}
+use Rattle.papaya_scenes.specs.Given.FinishesMaps.{Standing}
 use Rattle.papaya_acts.specs.AsSteps.{ReclaimingLeadsAsSteps, changed_of, held_in}
 use Rattle.papaya_acts.specs.Reclaiming.{ReclaimedOn}
 use Rattle.papaya_acts.proofs.AsSteps.There.{held_as}

@@ -2,39 +2,39 @@
 use Rattle.std.specs.Prelude.{◌≢◌, Option, Some}
 use Rattle.std.specs.Option.{option_map_or}
 use Rattle.std.proofs.Common.{◌≡◌, ℕ, Bool, [], ◌∷◌, refl, sym, ap, subst, ◌∙◌}
-use Rattle.papaya_scenes.specs.Given.SeizeWords.Mem.{Mem, Took, value_at}
-use Rattle.papaya_scenes.specs.Given.SeizeWords.Plan.{Plan, Steps}
-use Rattle.papaya_scenes.specs.Given.Seize.Enter.{enter_plan, unregister_plan}
-use Rattle.papaya_scenes.specs.Given.Seize.Law.{Entered}
-use Rattle.papaya_scenes.specs.Given.Seize.Leave.{leave_plan}
-use Rattle.papaya_scenes.specs.Given.Seize.Register.{register_plan}
-use Rattle.papaya_scenes.specs.Given.Seize.Settle.{settle_plan}
-use Rattle.papaya_scenes.specs.Given.Seize.World.{World, Row, Rests, Registers, Enters, Settles, Leaves, Defers, Frees, Inside, Vacant, Request, Begin, Step, Happens, Steps', after_step, left_row, registers_on, settles_on, leaves_on, with_at, with_use}
-use Rattle.papaya_scenes.specs.Given.Seize.declared.progress.Progress.{Progress}
-use Rattle.papaya_scenes.specs.Given.Seize.declared.progress.Progress.TheVariants as progress
-use Rattle.papaya_scenes.specs.Given.Seize.declared.rows.enter.Enter.{Enter}
-use Rattle.papaya_scenes.specs.Given.Seize.declared.rows.enter.Unregister.{Unregister}
-use Rattle.papaya_scenes.specs.Given.Seize.declared.rows.leave.Leave.{Leave}
-use Rattle.papaya_scenes.specs.Given.Seize.declared.rows.register.Register.{Register}
-use Rattle.papaya_scenes.specs.Given.Seize.declared.rows.settle.Settle.{Settle}
-use Rattle.papaya_scenes.specs.Given.Seize.declared.rows.settle.Settled.{Settled}
-use Rattle.papaya_scenes.specs.Given.Seize.declared.rows.settle.Settled.TheVariants as settled
-use Rattle.papaya_scenes.specs.Given.SeizeActs.Acts.{row_steps}
-use Rattle.papaya_scenes.specs.Given.SeizeActs.Answers.{Grant, stepped, then_on}
-use Rattle.papaya_scenes.proofs.Given.SeizeActs.Answers.{same_some, some, was_stepped}
-use Rattle.papaya_scenes.proofs.Given.SeizeRule.Rows.Others.{begins_others, steps_others, with_here}
-use Rattle.papaya_scenes.proofs.Given.SeizeRule.Rows.Teams.{shares}
-use Rattle.papaya_scenes.proofs.Given.SeizeEnds.Batches.Rows.{begins_memory}
-use Rattle.papaya_scenes.specs.Given.Tables.Nodes.{deferred_word}
-use Rattle.papaya_scenes.specs.Given.Tables.declared.node.Node.{Node}
-use Rattle.papaya_scenes.specs.Given.Teller.Tells.{StepsTold}
-use Rattle.papaya_scenes.specs.Given.Teller.declared.changed.Changed.{Changed}
-use Rattle.papaya_scenes.specs.Given.Teller.declared.changed.Changed.TheVariants.{Nothing as NoChange}
-use Rattle.papaya_scenes.specs.Given.Callers.Rows.{IsRowOn}
-use Rattle.papaya_scenes.specs.Given.Callers.Together.{CameAbout}
-use Rattle.papaya_scenes.proofs.Given.Callers.Together.Came.{came_reached}
-use Rattle.papaya_scenes.proofs.Given.Callers.Together.Slots.{step_leaves}
-use Rattle.papaya_scenes.specs.Given.Finishes.Maps.{Standing, IsSameMap}
+use Rattle.papaya_scenes.specs.Given.SeizeWordsMem.{Mem, Took, value_at}
+use Rattle.papaya_scenes.specs.Given.SeizeWordsPlan.{Plan, Steps}
+use Rattle.papaya_scenes.specs.Given.SeizeEnter.{enter_plan, unregister_plan}
+use Rattle.papaya_scenes.specs.Given.SeizeLaw.{Entered}
+use Rattle.papaya_scenes.specs.Given.SeizeLeave.{leave_plan}
+use Rattle.papaya_scenes.specs.Given.SeizeRegister.{register_plan}
+use Rattle.papaya_scenes.specs.Given.SeizeSettle.{settle_plan}
+use Rattle.papaya_scenes.specs.Given.SeizeWorld.{World, Row, Rests, Registers, Enters, Settles, Leaves, Defers, Frees, Inside, Vacant, Request, Begin, Step, Happens, Steps', after_step, left_row, registers_on, settles_on, leaves_on, with_at, with_use}
+use Rattle.papaya_scenes.specs.Given.SeizeDeclared.progress.Progress.{Progress}
+use Rattle.papaya_scenes.specs.Given.SeizeDeclared.progress.Progress.TheVariants as progress
+use Rattle.papaya_scenes.specs.Given.SeizeDeclared.rows.enter.Enter.{Enter}
+use Rattle.papaya_scenes.specs.Given.SeizeDeclared.rows.enter.Unregister.{Unregister}
+use Rattle.papaya_scenes.specs.Given.SeizeDeclared.rows.leave.Leave.{Leave}
+use Rattle.papaya_scenes.specs.Given.SeizeDeclared.rows.register.Register.{Register}
+use Rattle.papaya_scenes.specs.Given.SeizeDeclared.rows.settle.Settle.{Settle}
+use Rattle.papaya_scenes.specs.Given.SeizeDeclared.rows.settle.Settled.{Settled}
+use Rattle.papaya_scenes.specs.Given.SeizeDeclared.rows.settle.Settled.TheVariants as settled
+use Rattle.papaya_scenes.specs.Given.SeizeActsActs.{row_steps}
+use Rattle.papaya_scenes.specs.Given.SeizeActsAnswers.{Grant, stepped, then_on}
+use Rattle.papaya_scenes.proofs.Given.SeizeActsAnswers.{same_some, some, was_stepped}
+use Rattle.papaya_scenes.proofs.Given.SeizeRuleRows.Others.{begins_others, steps_others, with_here}
+use Rattle.papaya_scenes.proofs.Given.SeizeRuleRows.Teams.{shares}
+use Rattle.papaya_scenes.proofs.Given.SeizeEndsBatches.Rows.{begins_memory}
+use Rattle.papaya_scenes.specs.Given.TablesNodes.{deferred_word}
+use Rattle.papaya_scenes.specs.Given.TablesDeclared.node.Node.{Node}
+use Rattle.papaya_scenes.specs.Given.TellerTells.{StepsTold}
+use Rattle.papaya_scenes.specs.Given.TellerDeclared.changed.Changed.{Changed}
+use Rattle.papaya_scenes.specs.Given.TellerDeclared.changed.Changed.TheVariants.{Nothing as NoChange}
+use Rattle.papaya_scenes.specs.Given.CallersRows.{IsRowOn}
+use Rattle.papaya_scenes.specs.Given.CallersTogether.{CameAbout}
+use Rattle.papaya_scenes.proofs.Given.CallersTogether.Came.{came_reached}
+use Rattle.papaya_scenes.proofs.Given.CallersTogether.Slots.{step_leaves}
+use Rattle.papaya_scenes.specs.Given.FinishesMaps.{Standing, IsSameMap}
 use Rattle.papaya_acts.specs.Acts.{Act, Answer, BeginsRow, StepsRow}
 use Rattle.papaya_acts.specs.AsSteps.{LeadsAs, changed_by, changed_of, held_in, row_changed, row_told}
 use Rattle.papaya_acts.specs.Leads.{AllStand, Led, MayBe}

@@ -2,13 +2,13 @@
 use Rattle.std.proofs.Common.{◌≡◌, refl, ap, subst}
 use Rattle.std.specs.Prelude.{Option, Some}
 use Rattle.std.specs.Option.{option_map_or}
-use Rattle.papaya_scenes.specs.Given.SeizeWords.Mem.{Mem, after, value_at}
-use Rattle.papaya_scenes.specs.Given.SeizeWords.Plan.{Plan, Turn, Do}
-use Rattle.papaya_scenes.specs.Given.SeizeActs.Answers.{Grant, answer, ends, stepped, then_on}
-use Rattle.papaya_scenes.proofs.Given.SeizeActs.Answers.{answer_gives, ended, same_some, some}
-use Rattle.papaya_scenes.specs.Given.Tables.declared.node.Node.{Node}
-use Rattle.papaya_scenes.specs.Given.Teller.Tells.{StepsTold}
-use Rattle.papaya_scenes.specs.Given.Teller.declared.changed.Changed.TheVariants.{Nothing as NoChange}
+use Rattle.papaya_scenes.specs.Given.SeizeWordsMem.{Mem, after, value_at}
+use Rattle.papaya_scenes.specs.Given.SeizeWordsPlan.{Plan, Turn, Do}
+use Rattle.papaya_scenes.specs.Given.SeizeActsAnswers.{Grant, answer, ends, stepped, then_on}
+use Rattle.papaya_scenes.proofs.Given.SeizeActsAnswers.{answer_gives, ended, same_some, some}
+use Rattle.papaya_scenes.specs.Given.TablesDeclared.node.Node.{Node}
+use Rattle.papaya_scenes.specs.Given.TellerTells.{StepsTold}
+use Rattle.papaya_scenes.specs.Given.TellerDeclared.changed.Changed.TheVariants.{Nothing as NoChange}
 use Rattle.papaya_acts.specs.AsSteps.{changed_as, changed_of}
 
 module _ {K V R : Type 0} (m : Mem (Node K V)) (g : Grant) where

@@ -1,14 +1,14 @@
 -- What a call has changed since it was begun, and what it has answered, after one step more.
 use Rattle.std.proofs.Common.{◌≡◌, ◌≢◌, ℕ, suc, ◌+◌, ◌≤◌, ◌<◌, Bool, true, false, cond, eqb, ◌⊎◌, inl, inr, refl, arith, ap, sym, subst, ◌∙◌}
 use Rattle.std.proofs.lemmas.Bool.{cases_lt, eq-eqb, ne_eqb}
-use Rattle.papaya_callers.specs.Given.Tables.Chunks.{is_incremental}
-use Rattle.papaya_callers.specs.Given.Tables.declared.setting.Setting.{Setting}
-use Rattle.papaya_callers.specs.Given.Rule.Chart.{Chart, put}
-use Rattle.papaya_callers.specs.Given.Rule.Rule.{Rule}
-use Rattle.papaya_callers.specs.Given.Rule.Lasts.{Lasts}
-use Rattle.papaya_callers.specs.Given.Rule.Maps.{spot_of, IsAbsent, IsPair}
-use Rattle.papaya_callers.specs.Given.Rule.InWorld.{Moved}
-use Rattle.papaya_callers.specs.Given.Points.FactsCalls.{Change, Unchanged, Stored, Replaced, Removed, Changes}
+use Rattle.papaya_callers.specs.Given.TablesChunks.{is_incremental}
+use Rattle.papaya_callers.specs.Given.TablesDeclared.setting.Setting.{Setting}
+use Rattle.papaya_callers.specs.Given.RuleChart.{Chart, put}
+use Rattle.papaya_callers.specs.Given.RuleRule.{Rule}
+use Rattle.papaya_callers.specs.Given.RuleLasts.{Lasts}
+use Rattle.papaya_callers.specs.Given.RuleMaps.{spot_of, IsAbsent, IsPair}
+use Rattle.papaya_callers.specs.Given.RuleInWorld.{Moved}
+use Rattle.papaya_callers.specs.Given.PointsFactsCalls.{Change, Unchanged, Stored, Replaced, Removed, Changes}
 use Rattle.papaya_alone.specs.Alone.{HasChanged, pairs_stored}
 use Rattle.papaya_callers.proofs.Rows.Known.{moved_makes}
 use Rattle.papaya_alone.proofs.Calls.LastsOn.{lasts_on}

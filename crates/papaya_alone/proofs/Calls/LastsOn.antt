@@ -1,7 +1,7 @@
 -- What lasts from one state of the tables to the next, and from that one to a third, lasts from the first to the third.
 use Rattle.std.proofs.Common.{ℕ, Bool, ap, ◌∙◌, arith}
-use Rattle.papaya_callers.specs.Given.Rule.Chart.{Chart, is_marked}
-use Rattle.papaya_callers.specs.Given.Rule.Lasts.{Lasts}
+use Rattle.papaya_callers.specs.Given.RuleChart.{Chart, is_marked}
+use Rattle.papaya_callers.specs.Given.RuleLasts.{Lasts}
 
 module _ {K : Type 0} (same : K → K → Bool) (spot : ℕ → K → ℕ → ℕ) (incremental : Bool) (a b c : Chart K) where
   pub lasts_on : Lasts same spot incremental a b → Lasts same spot incremental b c → Lasts same spot incremental a c

@@ -1,14 +1,14 @@
 -- A map stands as well by what of it can be reached: the tables from its root on, and pairs.
 use Rattle.std.proofs.Common.{◌≡◌, ℕ, ◌<◌, Bool, true, false, cond, inl, inr, refl, ap, ◌∙◌}
-use Rattle.papaya_callers.specs.Given.Seize.Law.{reachable, is_somewhere}
-use Rattle.papaya_callers.specs.Given.Seize.World.{World, InUse}
-use Rattle.papaya_callers.proofs.Given.SeizeAlone.Histories.Reached.{Reached}
-use Rattle.papaya_callers.specs.Given.Tables.Nodes.{deferred_word}
-use Rattle.papaya_callers.specs.Given.Tables.declared.node.Node.{Node}
-use Rattle.papaya_callers.specs.Given.Tables.declared.setting.Setting.{Setting}
-use Rattle.papaya_callers.specs.Given.Rule.Chart.{Chart}
-use Rattle.papaya_callers.specs.Given.Rule.Words.{Blocks}
-use Rattle.papaya_callers.specs.Given.Rule.InWorld.{IsReached, IsMapIn}
+use Rattle.papaya_callers.specs.Given.SeizeLaw.{reachable, is_somewhere}
+use Rattle.papaya_callers.specs.Given.SeizeWorld.{World, InUse}
+use Rattle.papaya_callers.proofs.Given.SeizeAloneHistories.Reached.{Reached}
+use Rattle.papaya_callers.specs.Given.TablesNodes.{deferred_word}
+use Rattle.papaya_callers.specs.Given.TablesDeclared.node.Node.{Node}
+use Rattle.papaya_callers.specs.Given.TablesDeclared.setting.Setting.{Setting}
+use Rattle.papaya_callers.specs.Given.RuleChart.{Chart}
+use Rattle.papaya_callers.specs.Given.RuleWords.{Blocks}
+use Rattle.papaya_callers.specs.Given.RuleInWorld.{IsReached, IsMapIn}
 use Rattle.papaya_callers.proofs.Rows.Forgotten.{Forgets}
 use Rattle.papaya_callers.proofs.Rows.Defers.{used_stands, standing_stands}
 use Rattle.papaya_callers.proofs.Rows.Forgets.{known_from, known_later, known_still, forgotten_in, old_later}

@@ -1,19 +1,19 @@
 -- The turn of the root, over one step: it grows by a promotion alone, and where the root's word stays, so does the turn.
 use Rattle.std.specs.Prelude.{◌*◌, Some}
 use Rattle.std.proofs.Common.{◌≡◌, ℕ, zero, suc, ◌<◌, Bool, cond, ◌⊎◌, inl, inr, refl, arith, ap, sym, subst, ◌∙◌}
-use Rattle.papaya_callers.specs.Given.Seize.World.{World}
-use Rattle.papaya_callers.specs.Given.Tables.Chunks.{is_incremental}
-use Rattle.papaya_callers.specs.Given.Tables.declared.node.Node.{Node}
-use Rattle.papaya_callers.specs.Given.Tables.declared.setting.Setting.{Setting}
-use Rattle.papaya_callers.specs.Given.Rule.Chart.{Chart}
-use Rattle.papaya_callers.specs.Given.Rule.Rule.{Rule}
-use Rattle.papaya_callers.specs.Given.Rule.Moves.{Move, Links, Stores, Replaces, Removes, Marks, MarksBlocking, Skips, Unmarks, Puts, Covers, PutsLate, Claims, Reclaims, Counts, GivesUp, Aborts, Promotes, Announces, Allowed, after}
-use Rattle.papaya_callers.specs.Given.Rule.Words.{Blocks, root_word}
-use Rattle.papaya_callers.specs.Given.Rule.Maps.{spot_of}
-use Rattle.papaya_callers.specs.Given.Rule.InWorld.{Moved, SameBlocks, IsMapIn}
-use Rattle.papaya_callers.specs.Given.Rule.Links.{IsLinkTo}
-use Rattle.papaya_callers.proofs.Given.Rule.Words.LinksSeen.{link_made, root_leads}
-use Rattle.papaya_callers.proofs.Given.Rule.World.RootSpared.{RootStays}
+use Rattle.papaya_callers.specs.Given.SeizeWorld.{World}
+use Rattle.papaya_callers.specs.Given.TablesChunks.{is_incremental}
+use Rattle.papaya_callers.specs.Given.TablesDeclared.node.Node.{Node}
+use Rattle.papaya_callers.specs.Given.TablesDeclared.setting.Setting.{Setting}
+use Rattle.papaya_callers.specs.Given.RuleChart.{Chart}
+use Rattle.papaya_callers.specs.Given.RuleRule.{Rule}
+use Rattle.papaya_callers.specs.Given.RuleMoves.{Move, Links, Stores, Replaces, Removes, Marks, MarksBlocking, Skips, Unmarks, Puts, Covers, PutsLate, Claims, Reclaims, Counts, GivesUp, Aborts, Promotes, Announces, Allowed, after}
+use Rattle.papaya_callers.specs.Given.RuleWords.{Blocks, root_word}
+use Rattle.papaya_callers.specs.Given.RuleMaps.{spot_of}
+use Rattle.papaya_callers.specs.Given.RuleInWorld.{Moved, SameBlocks, IsMapIn}
+use Rattle.papaya_callers.specs.Given.RuleLinks.{IsLinkTo}
+use Rattle.papaya_callers.proofs.Given.RuleWords.LinksSeen.{link_made, root_leads}
+use Rattle.papaya_callers.proofs.Given.RuleWorld.RootSpared.{RootStays}
 
 -- what the root has passed was made
 pub before_made : {K : Type 0} (same : K → K → Bool) (spot : ℕ → K → ℕ → ℕ) (incremental : Bool) (c : Chart K) → Rule same spot incremental c → (t : ℕ) → t < c.first → t < c.past

@@ -1,61 +1,61 @@
 -- What a call waits for: a pair that is being copied, and what a machine within it waits for. And where it begins to copy.
-use Rattle.papaya_callers.specs.Given.Raw.Answers.{ended}
-use Rattle.papaya_callers.specs.Given.Raw.Call.{copied, disposed, first_made, helped, looked, next_made}
-use Rattle.papaya_callers.specs.Given.Raw.CallPoints.{answering, asking_at, at_free, at_last, at_pair, changed, counted, ending, entering, following_made, going, passed, standing, tableless, told_of, went_on, having_met}
-use Rattle.papaya_callers.specs.Given.Tables.Chunks.{is_incremental}
-use Rattle.papaya_callers.specs.Given.Resize.CopierStates.{copying_all, helping}
-use Rattle.papaya_callers.specs.Given.Resize.Dispose.{disposing}
-use Rattle.papaya_callers.specs.Given.Tables.Finding.{finding}
-use Rattle.papaya_callers.specs.Given.Tables.Trials.{next_trial, with_met}
-use Rattle.papaya_callers.specs.Given.Raw.declared.machines.answer.KeyAnswer.{KeyAnswer}
-use Rattle.papaya_callers.specs.Given.Raw.declared.machines.answer.Called.{Called}
-use Rattle.papaya_callers.specs.Given.Raw.declared.machines.answer.Called.TheVariants.{Waits, Unstored, Asks}
-use Rattle.papaya_callers.specs.Given.Raw.declared.machines.answer.End.{End}
-use Rattle.papaya_callers.specs.Given.Raw.declared.machines.answer.Missing.{Missing}
-use Rattle.papaya_callers.specs.Given.Raw.declared.machines.answer.There.{There}
-use Rattle.papaya_callers.specs.Given.Raw.declared.machines.call.KeyCall.{KeyCall}
-use Rattle.papaya_callers.specs.Given.Raw.declared.machines.call.Calling.{Calling}
-use Rattle.papaya_callers.specs.Given.Resize.declared.copier.Copier.{Copier}
-use Rattle.papaya_callers.specs.Given.Resize.declared.dispose.Dispose.{Dispose}
-use Rattle.papaya_callers.specs.Given.Tables.declared.finding.Aim.{Aim}
-use Rattle.papaya_callers.specs.Given.Tables.declared.finding.Aim.TheVariants.{Changes, Looks, Stores}
-use Rattle.papaya_callers.specs.Given.Tables.declared.finding.Finding.{Finding}
-use Rattle.papaya_callers.specs.Given.Resize.declared.lookup.Lookup.{Lookup}
-use Rattle.papaya_callers.specs.Given.Resize.declared.new_table.NewTable.{NewTable}
-use Rattle.papaya_callers.specs.Given.Tables.declared.marks.TheConstants.{TOMBSTONE}
-use Rattle.papaya_callers.specs.Given.Tables.declared.node.Node.{Node}
-use Rattle.papaya_callers.specs.Given.Resize.declared.outcome.Outcome.{Outcome}
-use Rattle.papaya_callers.specs.Given.Tables.declared.resize_mode.ResizeMode.{ResizeMode}
-use Rattle.papaya_callers.specs.Given.Tables.declared.resize_mode.ResizeMode.TheVariants.{Blocking, Incremental}
-use Rattle.papaya_callers.specs.Given.Tables.declared.setting.Setting.{Setting}
-use Rattle.papaya_callers.specs.Given.Tables.declared.table.Table.{Table}
-use Rattle.papaya_callers.proofs.Given.Rule.Words.PlaceWords.{HasBlock, HasByte}
-use Rattle.papaya_callers.proofs.Given.Rule.Words.PlaceWordsFinding.{finding-tombstone, finding-copied, finding-copying, finding-other, finding-still}
-use Rattle.papaya_callers.specs.Given.Rule.Chart.{Tombstone, Copied, Copying, Empty, Holds, Place, Still}
-use Rattle.papaya_callers.specs.Given.Rule.Words.{word_of}
-use Rattle.papaya_callers.specs.Given.Seize.declared.progress.Progress.{Progress}
-use Rattle.papaya_callers.specs.Given.Seize.declared.rows.settle.Settled.{Settled}
-use Rattle.papaya_callers.proofs.Given.SeizeWords.OneOwner.Operations.{loaded}
+use Rattle.papaya_callers.specs.Given.RawAnswers.{ended}
+use Rattle.papaya_callers.specs.Given.RawCall.{copied, disposed, first_made, helped, looked, next_made}
+use Rattle.papaya_callers.specs.Given.RawCallPoints.{answering, asking_at, at_free, at_last, at_pair, changed, counted, ending, entering, following_made, going, passed, standing, tableless, told_of, went_on, having_met}
+use Rattle.papaya_callers.specs.Given.TablesChunks.{is_incremental}
+use Rattle.papaya_callers.specs.Given.ResizeCopierStates.{copying_all, helping}
+use Rattle.papaya_callers.specs.Given.ResizeDispose.{disposing}
+use Rattle.papaya_callers.specs.Given.TablesFinding.{finding}
+use Rattle.papaya_callers.specs.Given.TablesTrials.{next_trial, with_met}
+use Rattle.papaya_callers.specs.Given.RawDeclared.machines.answer.KeyAnswer.{KeyAnswer}
+use Rattle.papaya_callers.specs.Given.RawDeclared.machines.answer.Called.{Called}
+use Rattle.papaya_callers.specs.Given.RawDeclared.machines.answer.Called.TheVariants.{Waits, Unstored, Asks}
+use Rattle.papaya_callers.specs.Given.RawDeclared.machines.answer.End.{End}
+use Rattle.papaya_callers.specs.Given.RawDeclared.machines.answer.Missing.{Missing}
+use Rattle.papaya_callers.specs.Given.RawDeclared.machines.answer.There.{There}
+use Rattle.papaya_callers.specs.Given.RawDeclared.machines.call.KeyCall.{KeyCall}
+use Rattle.papaya_callers.specs.Given.RawDeclared.machines.call.Calling.{Calling}
+use Rattle.papaya_callers.specs.Given.ResizeDeclared.copier.Copier.{Copier}
+use Rattle.papaya_callers.specs.Given.ResizeDeclared.dispose.Dispose.{Dispose}
+use Rattle.papaya_callers.specs.Given.TablesDeclared.finding.Aim.{Aim}
+use Rattle.papaya_callers.specs.Given.TablesDeclared.finding.Aim.TheVariants.{Changes, Looks, Stores}
+use Rattle.papaya_callers.specs.Given.TablesDeclared.finding.Finding.{Finding}
+use Rattle.papaya_callers.specs.Given.ResizeDeclared.lookup.Lookup.{Lookup}
+use Rattle.papaya_callers.specs.Given.ResizeDeclared.new_table.NewTable.{NewTable}
+use Rattle.papaya_callers.specs.Given.TablesDeclared.marks.TheConstants.{TOMBSTONE}
+use Rattle.papaya_callers.specs.Given.TablesDeclared.node.Node.{Node}
+use Rattle.papaya_callers.specs.Given.ResizeDeclared.outcome.Outcome.{Outcome}
+use Rattle.papaya_callers.specs.Given.TablesDeclared.resize_mode.ResizeMode.{ResizeMode}
+use Rattle.papaya_callers.specs.Given.TablesDeclared.resize_mode.ResizeMode.TheVariants.{Blocking, Incremental}
+use Rattle.papaya_callers.specs.Given.TablesDeclared.setting.Setting.{Setting}
+use Rattle.papaya_callers.specs.Given.TablesDeclared.table.Table.{Table}
+use Rattle.papaya_callers.proofs.Given.RuleWords.PlaceWords.{HasBlock, HasByte}
+use Rattle.papaya_callers.proofs.Given.RuleWords.PlaceWordsFinding.{finding-tombstone, finding-copied, finding-copying, finding-other, finding-still}
+use Rattle.papaya_callers.specs.Given.RuleChart.{Tombstone, Copied, Copying, Empty, Holds, Place, Still}
+use Rattle.papaya_callers.specs.Given.RuleWords.{word_of}
+use Rattle.papaya_callers.specs.Given.SeizeDeclared.progress.Progress.{Progress}
+use Rattle.papaya_callers.specs.Given.SeizeDeclared.rows.settle.Settled.{Settled}
+use Rattle.papaya_callers.proofs.Given.SeizeWordsOneOwner.Operations.{loaded}
 use Rattle.std.proofs.Common.{◌≡◌, ◌≢◌, ℕ, Bool, true, false, Option, Some, None, refl, sym, subst, ◌∙◌}
 use Rattle.std.specs.Prelude.{◌==◌, if◌then◌else◌}
-use Rattle.papaya_callers.specs.Given.Raw.declared.machines.call.Calling.TheVariants as at
-use Rattle.papaya_callers.specs.Given.Resize.declared.outcome.Outcome.TheVariants as outcome
-use Rattle.papaya_callers.specs.Given.Raw.declared.machines.answer.End.TheVariants as ends
-use Rattle.papaya_callers.specs.Given.Seize.declared.progress.Progress.TheVariants as progress
-use Rattle.papaya_callers.specs.Given.Seize.declared.rows.settle.Settled.TheVariants as settled
-use Rattle.papaya_callers.specs.Given.Raw.declared.machines.answer.KeyAnswer.TheVariants as answers
-use Rattle.papaya_callers.specs.Given.Raw.declared.machines.answer.Missing.TheVariants as missing
-use Rattle.papaya_callers.specs.Given.Tables.declared.finding.Finding.TheVariants as is
-use Rattle.papaya_callers.specs.Given.Raw.declared.machines.answer.There.TheVariants as there
-use Rattle.papaya_callers.proofs.Given.Points.Calls.Asked.{asking_so, asking_of_so, passed_so}
-use Rattle.papaya_callers.specs.Given.Raw.CallFills.{asks_at as plan_of}
+use Rattle.papaya_callers.specs.Given.RawDeclared.machines.call.Calling.TheVariants as at
+use Rattle.papaya_callers.specs.Given.ResizeDeclared.outcome.Outcome.TheVariants as outcome
+use Rattle.papaya_callers.specs.Given.RawDeclared.machines.answer.End.TheVariants as ends
+use Rattle.papaya_callers.specs.Given.SeizeDeclared.progress.Progress.TheVariants as progress
+use Rattle.papaya_callers.specs.Given.SeizeDeclared.rows.settle.Settled.TheVariants as settled
+use Rattle.papaya_callers.specs.Given.RawDeclared.machines.answer.KeyAnswer.TheVariants as answers
+use Rattle.papaya_callers.specs.Given.RawDeclared.machines.answer.Missing.TheVariants as missing
+use Rattle.papaya_callers.specs.Given.TablesDeclared.finding.Finding.TheVariants as is
+use Rattle.papaya_callers.specs.Given.RawDeclared.machines.answer.There.TheVariants as there
+use Rattle.papaya_callers.proofs.Given.PointsCalls.Asked.{asking_so, asking_of_so, passed_so}
+use Rattle.papaya_callers.specs.Given.RawCallFills.{asks_at as plan_of}
 use Rattle.papaya_alone.proofs.Asks.{asks_so}
-use Rattle.papaya_callers.specs.Given.Raw.declared.machines.asking.Asking.{Asking}
-use Rattle.papaya_callers.specs.Given.Raw.declared.machines.asking.Asking.TheVariants as asking
-use Rattle.papaya_callers.specs.Given.Raw.declared.machines.asking.Gap.{Gap}
-use Rattle.papaya_callers.specs.Given.Raw.declared.machines.asking.Gap.TheVariants as gaps
-use Rattle.papaya_callers.proofs.Given.Rule.Keys.Always.{AlwaysOf}
-use Rattle.papaya_callers.specs.Given.SeizeWords.declared.fault.Fault.TheVariants.{Memory}
+use Rattle.papaya_callers.specs.Given.RawDeclared.machines.asking.Asking.{Asking}
+use Rattle.papaya_callers.specs.Given.RawDeclared.machines.asking.Asking.TheVariants as asking
+use Rattle.papaya_callers.specs.Given.RawDeclared.machines.asking.Gap.{Gap}
+use Rattle.papaya_callers.specs.Given.RawDeclared.machines.asking.Gap.TheVariants as gaps
+use Rattle.papaya_callers.proofs.Given.RuleKeys.Always.{AlwaysOf}
+use Rattle.papaya_callers.specs.Given.SeizeWordsDeclared.fault.Fault.TheVariants.{Memory}
 
 -- a pair is found that is being copied
 pub copying_place : (block byte : ℕ → ℕ) (mode : ResizeMode) (aim : Aim) (place : Place) (same : Bool) → HasBlock block place → HasByte byte place

@@ -1,25 +1,25 @@
 -- What a call does beside its copying leaves all to a caller that is alone: what is known of the tables, and that the others are idle.
 use Rattle.std.proofs.Common.{◌≡◌, ℕ, zero, suc, ◌<◌, Bool, true, false, inl, inr, refl, sym, subst, arith}
-use Rattle.papaya_callers.specs.Given.Tables.Chunks.{is_incremental}
-use Rattle.papaya_callers.specs.Given.Resize.CopierStates.{helping, copying_all}
-use Rattle.papaya_callers.specs.Given.Tables.declared.resize_mode.ResizeMode.{ResizeMode}
-use Rattle.papaya_callers.specs.Given.Tables.declared.setting.Setting.{Setting}
-use Rattle.papaya_callers.specs.Given.Tables.declared.table.Table.{Table}
-use Rattle.papaya_callers.specs.Given.Resize.declared.copier.Copier.{Copier}
-use Rattle.papaya_callers.specs.Given.Raw.declared.machines.call.Calling.{Calling}
-use Rattle.papaya_callers.specs.Given.Raw.declared.machines.call.Calling.TheVariants as at
-use Rattle.papaya_callers.specs.Given.Rule.Chart.{Chart}
-use Rattle.papaya_callers.specs.Given.Rule.Rule.{Rule, no_table}
-use Rattle.papaya_callers.specs.Given.Rule.Moves.{Move, Links, Stores, Replaces, Removes, Marks, MarksBlocking, Skips, Unmarks, Puts, Covers, PutsLate, Claims, Reclaims, Counts, GivesUp, Aborts, Promotes, Announces, after}
-use Rattle.papaya_callers.specs.Given.Rule.Lasts.{IsBy}
-use Rattle.papaya_callers.specs.Given.Rule.Maps.{spot_of}
-use Rattle.papaya_callers.specs.Given.Points.FactsAloneBlocking.{AllAborted, AllUncounted, AloneBlocking}
-use Rattle.papaya_callers.specs.Given.Points.FactsCalls.{IsCopying}
-use Rattle.papaya_callers.specs.Given.Points.Measures.{OthersIdle}
-use Rattle.papaya_callers.specs.Given.Points.Told.{IsBeside, MovedBeside, OnlyLinks}
-use Rattle.papaya_callers.proofs.Given.Points.Steps.AloneCharts.{aborted_begins, uncounted_begins, idle_after, links_alone}
-use Rattle.papaya_callers.proofs.Given.Points.Calls.Making.{links_beside}
-use Rattle.papaya_callers.proofs.Given.Rule.Moves.RuleBegins.{rule_begins}
+use Rattle.papaya_callers.specs.Given.TablesChunks.{is_incremental}
+use Rattle.papaya_callers.specs.Given.ResizeCopierStates.{helping, copying_all}
+use Rattle.papaya_callers.specs.Given.TablesDeclared.resize_mode.ResizeMode.{ResizeMode}
+use Rattle.papaya_callers.specs.Given.TablesDeclared.setting.Setting.{Setting}
+use Rattle.papaya_callers.specs.Given.TablesDeclared.table.Table.{Table}
+use Rattle.papaya_callers.specs.Given.ResizeDeclared.copier.Copier.{Copier}
+use Rattle.papaya_callers.specs.Given.RawDeclared.machines.call.Calling.{Calling}
+use Rattle.papaya_callers.specs.Given.RawDeclared.machines.call.Calling.TheVariants as at
+use Rattle.papaya_callers.specs.Given.RuleChart.{Chart}
+use Rattle.papaya_callers.specs.Given.RuleRule.{Rule, no_table}
+use Rattle.papaya_callers.specs.Given.RuleMoves.{Move, Links, Stores, Replaces, Removes, Marks, MarksBlocking, Skips, Unmarks, Puts, Covers, PutsLate, Claims, Reclaims, Counts, GivesUp, Aborts, Promotes, Announces, after}
+use Rattle.papaya_callers.specs.Given.RuleLasts.{IsBy}
+use Rattle.papaya_callers.specs.Given.RuleMaps.{spot_of}
+use Rattle.papaya_callers.specs.Given.PointsFactsAloneBlocking.{AllAborted, AllUncounted, AloneBlocking}
+use Rattle.papaya_callers.specs.Given.PointsFactsCalls.{IsCopying}
+use Rattle.papaya_callers.specs.Given.PointsMeasures.{OthersIdle}
+use Rattle.papaya_callers.specs.Given.PointsTold.{IsBeside, MovedBeside, OnlyLinks}
+use Rattle.papaya_callers.proofs.Given.PointsSteps.AloneCharts.{aborted_begins, uncounted_begins, idle_after, links_alone}
+use Rattle.papaya_callers.proofs.Given.PointsCalls.Making.{links_beside}
+use Rattle.papaya_callers.proofs.Given.RuleMoves.RuleBegins.{rule_begins}
 use Rattle.papaya_alone.specs.FactsAlone.{AloneAt}
 use Rattle.papaya_alone.specs.FactsAloneCalls.{TablesAlone, StandsAlone, RestsAlone}
 use Rattle.papaya_alone.proofs.Lone.Moves.{alone_before, idle_kept, plain_kept, first_kept}

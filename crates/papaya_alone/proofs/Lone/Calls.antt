@@ -1,77 +1,77 @@
 -- A call that is alone never waits: no pair of its key is being copied by another, and no machine within it waits.
-use Rattle.papaya_callers.specs.Given.Tables.Counts.{count_change}
-use Rattle.papaya_callers.specs.Given.Raw.Answers.{ended}
-use Rattle.papaya_callers.specs.Given.Raw.Call.{call_plan, copied, disposed, dropped, first_made, have_one_key, helped, looked, looks_for, key_read, made, makes_of, next_found, next_made, pair_read, plan_at, root_found, tried, word_found, word_read}
-use Rattle.papaya_callers.specs.Given.Raw.CallPoints.{aim_of, at_last, changed, counted, entering, tableless, told, went_on}
-use Rattle.papaya_callers.specs.Given.Tables.Chunks.{is_incremental}
-use Rattle.papaya_callers.specs.Given.Resize.Copier.{copier_plan}
-use Rattle.papaya_callers.specs.Given.Resize.Dispose.{dispose_plan}
-use Rattle.papaya_callers.specs.Given.Tables.Finding.{finding, may_name}
-use Rattle.papaya_callers.specs.Given.Resize.Lookup.{lookup_plan, names_pair}
-use Rattle.papaya_callers.specs.Given.Resize.NewTable.{new_table_plan}
-use Rattle.papaya_callers.specs.Given.Tables.Nodes.{table_seen}
-use Rattle.papaya_callers.specs.Given.Tables.TablePlaces.{at_word}
-use Rattle.papaya_callers.specs.Given.Tables.Trials.{place_tried}
-use Rattle.papaya_callers.specs.Given.Raw.declared.machines.answer.Called.{Called}
-use Rattle.papaya_callers.specs.Given.Raw.declared.machines.call.KeyCall.{KeyCall}
-use Rattle.papaya_callers.specs.Given.Raw.declared.machines.call.Calling.{Calling}
-use Rattle.papaya_callers.specs.Given.Resize.declared.copier.Copier.{Copier}
-use Rattle.papaya_callers.specs.Given.Resize.declared.dispose.Dispose.{Dispose}
-use Rattle.papaya_callers.specs.Given.Resize.declared.lookup.Lookup.{Lookup}
-use Rattle.papaya_callers.specs.Given.Resize.declared.new_table.NewTable.{NewTable}
-use Rattle.papaya_callers.specs.Given.Tables.declared.node.Node.{Node}
-use Rattle.papaya_callers.specs.Given.Resize.declared.outcome.Outcome.{Outcome}
-use Rattle.papaya_callers.specs.Given.Tables.declared.setting.Setting.{Setting}
-use Rattle.papaya_callers.specs.Given.Tables.declared.table.Table.{Table}
-use Rattle.papaya_callers.specs.Given.Tables.declared.table_words.TheConstants.{NEXT}
-use Rattle.papaya_callers.proofs.Given.Points.Calls.CallsOn.{Seeking}
-use Rattle.papaya_callers.proofs.Given.Points.Lookups.LooksAsked.{class_asked, lookup_asked}
-use Rattle.papaya_callers.proofs.Given.Rule.Words.PlacesShown.{shown_block, shown_byte}
-use Rattle.papaya_callers.proofs.Given.Points.Calls.Tries.{found_is}
-use Rattle.papaya_callers.proofs.Given.Points.Blocking.Points.{went_copier_blocking_alone}
-use Rattle.papaya_callers.proofs.Given.Points.Disposals.Points.{went_dispose_lowers}
-use Rattle.papaya_callers.proofs.Given.Points.Making.NewTable.{went_new_table_lowers}
-use Rattle.papaya_callers.proofs.Given.Rule.Keys.TriesSeen.{spot_inside}
-use Rattle.papaya_callers.specs.Given.Rule.Chart.{Chart, Copying, Holds, is_marked, is_settled}
-use Rattle.papaya_callers.specs.Given.Points.FactsAloneBlocking.{LeadsAlone}
-use Rattle.papaya_callers.specs.Given.Points.FactsCalls.{CallFacts, CallingFacts, Change, HasIts, IsCopying, Seeks, Unchanged}
-use Rattle.papaya_callers.specs.Given.Points.FactsCopies.{ClaimsNone, HasDone}
-use Rattle.papaya_callers.specs.Given.Points.FactsCopiesBlocking.{HasNoShares}
-use Rattle.papaya_callers.specs.Given.Rule.InWorld.{IsMapIn}
-use Rattle.papaya_callers.specs.Given.Rule.Maps.{IsTrial, spot_at, spot_of}
-use Rattle.papaya_callers.specs.Given.Points.Measures.{OthersIdle}
-use Rattle.papaya_callers.specs.Given.Rule.Rule.{Agrees, IsLawful, Rule}
-use Rattle.papaya_callers.specs.Given.Points.Told.{DisposeTold, IsRowOfCall, LookupTold, NewTableTold}
-use Rattle.papaya_callers.specs.Given.Rule.Words.{Blocks, byte_of, place_word}
+use Rattle.papaya_callers.specs.Given.TablesCounts.{count_change}
+use Rattle.papaya_callers.specs.Given.RawAnswers.{ended}
+use Rattle.papaya_callers.specs.Given.RawCall.{call_plan, copied, disposed, dropped, first_made, have_one_key, helped, looked, looks_for, key_read, made, makes_of, next_found, next_made, pair_read, plan_at, root_found, tried, word_found, word_read}
+use Rattle.papaya_callers.specs.Given.RawCallPoints.{aim_of, at_last, changed, counted, entering, tableless, told, went_on}
+use Rattle.papaya_callers.specs.Given.TablesChunks.{is_incremental}
+use Rattle.papaya_callers.specs.Given.ResizeCopier.{copier_plan}
+use Rattle.papaya_callers.specs.Given.ResizeDispose.{dispose_plan}
+use Rattle.papaya_callers.specs.Given.TablesFinding.{finding, may_name}
+use Rattle.papaya_callers.specs.Given.ResizeLookup.{lookup_plan, names_pair}
+use Rattle.papaya_callers.specs.Given.ResizeNewTable.{new_table_plan}
+use Rattle.papaya_callers.specs.Given.TablesNodes.{table_seen}
+use Rattle.papaya_callers.specs.Given.TablesTablePlaces.{at_word}
+use Rattle.papaya_callers.specs.Given.TablesTrials.{place_tried}
+use Rattle.papaya_callers.specs.Given.RawDeclared.machines.answer.Called.{Called}
+use Rattle.papaya_callers.specs.Given.RawDeclared.machines.call.KeyCall.{KeyCall}
+use Rattle.papaya_callers.specs.Given.RawDeclared.machines.call.Calling.{Calling}
+use Rattle.papaya_callers.specs.Given.ResizeDeclared.copier.Copier.{Copier}
+use Rattle.papaya_callers.specs.Given.ResizeDeclared.dispose.Dispose.{Dispose}
+use Rattle.papaya_callers.specs.Given.ResizeDeclared.lookup.Lookup.{Lookup}
+use Rattle.papaya_callers.specs.Given.ResizeDeclared.new_table.NewTable.{NewTable}
+use Rattle.papaya_callers.specs.Given.TablesDeclared.node.Node.{Node}
+use Rattle.papaya_callers.specs.Given.ResizeDeclared.outcome.Outcome.{Outcome}
+use Rattle.papaya_callers.specs.Given.TablesDeclared.setting.Setting.{Setting}
+use Rattle.papaya_callers.specs.Given.TablesDeclared.table.Table.{Table}
+use Rattle.papaya_callers.specs.Given.TablesDeclared.table_words.TheConstants.{NEXT}
+use Rattle.papaya_callers.proofs.Given.PointsCalls.CallsOn.{Seeking}
+use Rattle.papaya_callers.proofs.Given.PointsLookups.LooksAsked.{class_asked, lookup_asked}
+use Rattle.papaya_callers.proofs.Given.RuleWords.PlacesShown.{shown_block, shown_byte}
+use Rattle.papaya_callers.proofs.Given.PointsCalls.Tries.{found_is}
+use Rattle.papaya_callers.proofs.Given.PointsBlocking.Points.{went_copier_blocking_alone}
+use Rattle.papaya_callers.proofs.Given.PointsDisposals.Points.{went_dispose_lowers}
+use Rattle.papaya_callers.proofs.Given.PointsMaking.NewTable.{went_new_table_lowers}
+use Rattle.papaya_callers.proofs.Given.RuleKeys.TriesSeen.{spot_inside}
+use Rattle.papaya_callers.specs.Given.RuleChart.{Chart, Copying, Holds, is_marked, is_settled}
+use Rattle.papaya_callers.specs.Given.PointsFactsAloneBlocking.{LeadsAlone}
+use Rattle.papaya_callers.specs.Given.PointsFactsCalls.{CallFacts, CallingFacts, Change, HasIts, IsCopying, Seeks, Unchanged}
+use Rattle.papaya_callers.specs.Given.PointsFactsCopies.{ClaimsNone, HasDone}
+use Rattle.papaya_callers.specs.Given.PointsFactsCopiesBlocking.{HasNoShares}
+use Rattle.papaya_callers.specs.Given.RuleInWorld.{IsMapIn}
+use Rattle.papaya_callers.specs.Given.RuleMaps.{IsTrial, spot_at, spot_of}
+use Rattle.papaya_callers.specs.Given.PointsMeasures.{OthersIdle}
+use Rattle.papaya_callers.specs.Given.RuleRule.{Agrees, IsLawful, Rule}
+use Rattle.papaya_callers.specs.Given.PointsTold.{DisposeTold, IsRowOfCall, LookupTold, NewTableTold}
+use Rattle.papaya_callers.specs.Given.RuleWords.{Blocks, byte_of, place_word}
 use Rattle.papaya_alone.proofs.Lone.Copier.{helper_goes}
 use Rattle.papaya_alone.proofs.Lone.Copies.{settled_or_own}
-use Rattle.papaya_callers.proofs.Given.Points.Lookups.Points.{went_lookup}
+use Rattle.papaya_callers.proofs.Given.PointsLookups.Points.{went_lookup}
 use Rattle.papaya_alone.specs.FactsAloneCalls.{StandsAlone}
-use Rattle.papaya_callers.proofs.Given.SeizeRule.Rows.Leaving.{steps_back}
-use Rattle.papaya_callers.specs.Given.Seize.World.{World}
-use Rattle.papaya_callers.specs.Given.Seize.declared.progress.Progress.{Progress}
-use Rattle.papaya_callers.specs.Given.Seize.declared.rows.settle.Settled.{Settled}
-use Rattle.papaya_callers.proofs.Given.SeizeWords.OneOwner.Operations.{loaded, exchanged, added, made as made_by_step, taken}
-use Rattle.papaya_callers.proofs.Given.SeizeWords.Plans.{ends_if}
-use Rattle.papaya_callers.specs.Given.SeizeWords.Mem.{Mem, Took, value_at}
-use Rattle.papaya_callers.specs.Given.SeizeWords.Plan.{Ends, Now, Seeing, Steps}
-use Rattle.papaya_callers.specs.Given.SeizeWords.declared.at.At.{At}
-use Rattle.papaya_callers.specs.Given.SeizeWords.declared.at.At.TheVariants.{Root, Word}
+use Rattle.papaya_callers.proofs.Given.SeizeRuleRows.Leaving.{steps_back}
+use Rattle.papaya_callers.specs.Given.SeizeWorld.{World}
+use Rattle.papaya_callers.specs.Given.SeizeDeclared.progress.Progress.{Progress}
+use Rattle.papaya_callers.specs.Given.SeizeDeclared.rows.settle.Settled.{Settled}
+use Rattle.papaya_callers.proofs.Given.SeizeWordsOneOwner.Operations.{loaded, exchanged, added, made as made_by_step, taken}
+use Rattle.papaya_callers.proofs.Given.SeizeWordsPlans.{ends_if}
+use Rattle.papaya_callers.specs.Given.SeizeWordsMem.{Mem, Took, value_at}
+use Rattle.papaya_callers.specs.Given.SeizeWordsPlan.{Ends, Now, Seeing, Steps}
+use Rattle.papaya_callers.specs.Given.SeizeWordsDeclared.at.At.{At}
+use Rattle.papaya_callers.specs.Given.SeizeWordsDeclared.at.At.TheVariants.{Root, Word}
 use Rattle.std.proofs.Common.{◌≡◌, ◌≢◌, ℕ, suc, ◌/◌, ◌<◌, ◌≤◌, ◌^◌, Bool, true, false, cond, Option, Some, None, ◌⊎◌, inl, inr, refl, ap, sym, subst, ◌∙◌, arith}
 use Rattle.std.proofs.lemmas.Bool.{cases_lt}
 use Rattle.std.specs.Int.{IsPowerOfTwo}
 use Rattle.std.specs.Prelude.{bit_and, ◌==◌, if◌then◌else◌}
-use Rattle.papaya_callers.specs.Given.Raw.declared.machines.call.Calling.TheVariants as at
-use Rattle.papaya_callers.specs.Given.Raw.declared.machines.answer.End.TheVariants as ends
-use Rattle.papaya_callers.specs.Given.Tables.declared.finding.Finding.TheVariants as is
-use Rattle.papaya_callers.specs.Given.SeizeWords.declared.fault.Fault.TheVariants.{Memory}
-use Rattle.papaya_callers.specs.Given.Tables.declared.node.Node.TheVariants as nodes
-use Rattle.papaya_callers.specs.Given.Resize.declared.outcome.Outcome.TheVariants as outcome
-use Rattle.papaya_callers.specs.Given.Seize.declared.progress.Progress.TheVariants as progress
-use Rattle.papaya_callers.specs.Given.Seize.declared.rows.settle.Settled.TheVariants as settled
-use Rattle.papaya_callers.specs.Given.Points.FactsIdle.{IsIdle}
+use Rattle.papaya_callers.specs.Given.RawDeclared.machines.call.Calling.TheVariants as at
+use Rattle.papaya_callers.specs.Given.RawDeclared.machines.answer.End.TheVariants as ends
+use Rattle.papaya_callers.specs.Given.TablesDeclared.finding.Finding.TheVariants as is
+use Rattle.papaya_callers.specs.Given.SeizeWordsDeclared.fault.Fault.TheVariants.{Memory}
+use Rattle.papaya_callers.specs.Given.TablesDeclared.node.Node.TheVariants as nodes
+use Rattle.papaya_callers.specs.Given.ResizeDeclared.outcome.Outcome.TheVariants as outcome
+use Rattle.papaya_callers.specs.Given.SeizeDeclared.progress.Progress.TheVariants as progress
+use Rattle.papaya_callers.specs.Given.SeizeDeclared.rows.settle.Settled.TheVariants as settled
+use Rattle.papaya_callers.specs.Given.PointsFactsIdle.{IsIdle}
 use Rattle.papaya_alone.proofs.Lone.Awaits.{IsFresh, Proceeds, On, copying_place, ended_on, tableless_on, last_on, following_on, changed_on, counted_on, told_on, looked_on, first_on, next_on, helped_on, copied_on, disposed_on, asks_on}
-use Rattle.papaya_callers.proofs.Given.Rule.Keys.Always.{always_steps}
+use Rattle.papaya_callers.proofs.Given.RuleKeys.Always.{always_steps}
 
 module _ {K V Q : Type 0} (same : K → K → Bool) (hash : K → ℕ) (asks : Q → K → Bool) (lawful : IsLawful same (spot_of hash)) (fits : (k : K) → hash k < 2 ^ 64)
     (setting : Setting) (initial_is : IsPowerOfTwo setting.initial) (w : World (Node K V)) (caller : ℕ) (c : Chart K) (blocks : Blocks) (keys : K → Bool)

@@ -1,43 +1,43 @@
 -- In incremental mode, a copier waits for no place that it need not, and for no status that it need not: a helper never waits, nor does one that is alone.
 use Rattle.std.specs.Int.{IsPowerOfTwo}
 use Rattle.std.proofs.Common.{◌≡◌, ◌≢◌, ℕ, suc, ◌^◌, ◌<◌, Bool, true, false, ◌⊎◌, inl, inr, ap}
-use Rattle.papaya_callers.specs.Given.SeizeWords.Mem.{Mem, value_at, Took}
-use Rattle.papaya_callers.specs.Given.SeizeWords.Plan.{Steps}
-use Rattle.papaya_callers.proofs.Given.SeizeWords.OneOwner.Operations.{exchanged}
-use Rattle.papaya_callers.specs.Given.Seize.World.{World}
-use Rattle.papaya_callers.specs.Given.Seize.declared.progress.Progress.{Progress}
-use Rattle.papaya_callers.specs.Given.Seize.declared.progress.Progress.TheVariants as progress
-use Rattle.papaya_callers.specs.Given.Tables.Chunks.{is_incremental}
-use Rattle.papaya_callers.specs.Given.Resize.Copier.{plan_at, copier_plan}
-use Rattle.papaya_callers.specs.Given.Resize.CopierPlaces.{put_told, copied_word, next_try, pair_put}
-use Rattle.papaya_callers.specs.Given.Resize.CopierFurther.{grown}
-use Rattle.papaya_callers.specs.Given.Resize.CopierCounts.{refusing}
-use Rattle.papaya_callers.specs.Given.Resize.CopierMarks.{probing}
-use Rattle.papaya_callers.specs.Given.Resize.CopierStates.{standing}
-use Rattle.papaya_callers.specs.Given.Tables.declared.table_words.TheConstants.{NEXT}
-use Rattle.papaya_callers.specs.Given.SeizeWords.declared.at.At.TheVariants.{Word}
-use Rattle.papaya_callers.specs.Given.Tables.TablePlaces.{at_place}
-use Rattle.papaya_callers.specs.Given.Tables.declared.node.Node.{Node}
-use Rattle.papaya_callers.specs.Given.Resize.declared.outcome.Outcome.{Outcome}
-use Rattle.papaya_callers.specs.Given.Resize.declared.outcome.Outcome.TheVariants.{Goes, Waits}
-use Rattle.papaya_callers.specs.Given.Tables.declared.setting.Setting.{Setting}
-use Rattle.papaya_callers.specs.Given.Tables.declared.table.Table.{Table}
-use Rattle.papaya_callers.specs.Given.Resize.declared.copier.Copier.{Copier}
-use Rattle.papaya_callers.specs.Given.Resize.declared.copier.Copying.{Copying as Point}
-use Rattle.papaya_callers.specs.Given.Resize.declared.copier.Copying.TheVariants as at
-use Rattle.papaya_callers.specs.Given.Resize.declared.new_table.NewTable.{NewTable}
-use Rattle.papaya_callers.specs.Given.Rule.Chart.{Chart}
-use Rattle.papaya_callers.specs.Given.Rule.Rule.{IsLawful}
-use Rattle.papaya_callers.specs.Given.Rule.Words.{Blocks}
-use Rattle.papaya_callers.specs.Given.Rule.Maps.{spot_of}
-use Rattle.papaya_callers.specs.Given.Rule.InWorld.{IsMapIn}
-use Rattle.papaya_callers.specs.Given.Points.FactsCopies.{CopyingFacts, CopierFacts}
-use Rattle.papaya_callers.specs.Given.Points.Told.{NewTableTold, IsRowOfCopier}
-use Rattle.papaya_callers.specs.Given.Points.Measures.{OthersIdle}
-use Rattle.papaya_callers.proofs.Given.Points.Copiers.Grows.{went_grown}
-use Rattle.papaya_callers.proofs.Given.Points.Copiers.Marks.{awaited_whole}
-use Rattle.papaya_callers.proofs.Given.Points.Copiers.Passes.{comes_passes}
-use Rattle.papaya_callers.proofs.Given.Points.Copiers.Probes.{comes_probes}
+use Rattle.papaya_callers.specs.Given.SeizeWordsMem.{Mem, value_at, Took}
+use Rattle.papaya_callers.specs.Given.SeizeWordsPlan.{Steps}
+use Rattle.papaya_callers.proofs.Given.SeizeWordsOneOwner.Operations.{exchanged}
+use Rattle.papaya_callers.specs.Given.SeizeWorld.{World}
+use Rattle.papaya_callers.specs.Given.SeizeDeclared.progress.Progress.{Progress}
+use Rattle.papaya_callers.specs.Given.SeizeDeclared.progress.Progress.TheVariants as progress
+use Rattle.papaya_callers.specs.Given.TablesChunks.{is_incremental}
+use Rattle.papaya_callers.specs.Given.ResizeCopier.{plan_at, copier_plan}
+use Rattle.papaya_callers.specs.Given.ResizeCopierPlaces.{put_told, copied_word, next_try, pair_put}
+use Rattle.papaya_callers.specs.Given.ResizeCopierFurther.{grown}
+use Rattle.papaya_callers.specs.Given.ResizeCopierCounts.{refusing}
+use Rattle.papaya_callers.specs.Given.ResizeCopierMarks.{probing}
+use Rattle.papaya_callers.specs.Given.ResizeCopierStates.{standing}
+use Rattle.papaya_callers.specs.Given.TablesDeclared.table_words.TheConstants.{NEXT}
+use Rattle.papaya_callers.specs.Given.SeizeWordsDeclared.at.At.TheVariants.{Word}
+use Rattle.papaya_callers.specs.Given.TablesTablePlaces.{at_place}
+use Rattle.papaya_callers.specs.Given.TablesDeclared.node.Node.{Node}
+use Rattle.papaya_callers.specs.Given.ResizeDeclared.outcome.Outcome.{Outcome}
+use Rattle.papaya_callers.specs.Given.ResizeDeclared.outcome.Outcome.TheVariants.{Goes, Waits}
+use Rattle.papaya_callers.specs.Given.TablesDeclared.setting.Setting.{Setting}
+use Rattle.papaya_callers.specs.Given.TablesDeclared.table.Table.{Table}
+use Rattle.papaya_callers.specs.Given.ResizeDeclared.copier.Copier.{Copier}
+use Rattle.papaya_callers.specs.Given.ResizeDeclared.copier.Copying.{Copying as Point}
+use Rattle.papaya_callers.specs.Given.ResizeDeclared.copier.Copying.TheVariants as at
+use Rattle.papaya_callers.specs.Given.ResizeDeclared.new_table.NewTable.{NewTable}
+use Rattle.papaya_callers.specs.Given.RuleChart.{Chart}
+use Rattle.papaya_callers.specs.Given.RuleRule.{IsLawful}
+use Rattle.papaya_callers.specs.Given.RuleWords.{Blocks}
+use Rattle.papaya_callers.specs.Given.RuleMaps.{spot_of}
+use Rattle.papaya_callers.specs.Given.RuleInWorld.{IsMapIn}
+use Rattle.papaya_callers.specs.Given.PointsFactsCopies.{CopyingFacts, CopierFacts}
+use Rattle.papaya_callers.specs.Given.PointsTold.{NewTableTold, IsRowOfCopier}
+use Rattle.papaya_callers.specs.Given.PointsMeasures.{OthersIdle}
+use Rattle.papaya_callers.proofs.Given.PointsCopiers.Grows.{went_grown}
+use Rattle.papaya_callers.proofs.Given.PointsCopiers.Marks.{awaited_whole}
+use Rattle.papaya_callers.proofs.Given.PointsCopiers.Passes.{comes_passes}
+use Rattle.papaya_callers.proofs.Given.PointsCopiers.Probes.{comes_probes}
 use Rattle.papaya_alone.specs.FactsAlone.{AloneAt, FactsAlone}
 use Rattle.papaya_alone.proofs.Lone.Copies.{awaits_no_place, awaits_no_status}
 use Rattle.papaya_alone.proofs.Lone.CopierSteps.{LeadsOn, WaitsFor, AwaitsPlace, AwaitsStatus, leads_begins, leads_follows, leads_asks, leads_sees, leads_claims, leads_marks, leads_covers, leads_counts, leads_tallies, leads_unmarks, leads_unclaims, leads_promotes, leads_announces, leads_succeeds}

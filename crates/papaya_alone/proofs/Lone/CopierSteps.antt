@@ -1,29 +1,29 @@
 -- In incremental mode, each step of a copier that looks for no place: where it goes on, or what it waits for.
 use Rattle.std.specs.Prelude.{◌==◌, ◌/◌, nat_lt, if◌then◌else◌, Some, bit_or}
 use Rattle.std.proofs.Common.{◌≡◌, ℕ, ◌+◌, ◌%◌, ◌^◌, Bool, true, false, ◌⊎◌, inl, inr, refl}
-use Rattle.papaya_callers.specs.Given.SeizeWords.declared.at.At.TheVariants.{Root, Word}
-use Rattle.papaya_callers.specs.Given.SeizeWords.declared.fault.Fault.{Fault}
-use Rattle.papaya_callers.specs.Given.SeizeWords.Mem.{Mem, Took, value_at, word_at, with_word}
-use Rattle.papaya_callers.specs.Given.SeizeWords.Plan.{Steps, Ends, Now, Seeing}
-use Rattle.papaya_callers.proofs.Given.SeizeWords.OneOwner.Operations.{loaded, stored, added, ored, exchanged}
-use Rattle.papaya_callers.proofs.Given.SeizeWords.Plans.{ends_if}
-use Rattle.papaya_callers.specs.Given.Tables.Nodes.{table_seen}
-use Rattle.papaya_callers.specs.Given.Tables.TablePlaces.{at_word, at_place}
-use Rattle.papaya_callers.specs.Given.Resize.CopierStates.{standing, behind, none_left, next_place, place_done}
-use Rattle.papaya_callers.specs.Given.Resize.CopierClaims.{begins, follows, asks, sees, claims, root_read, next_read, status_read, claim_read, claimed, chunk, range_claimed, to}
-use Rattle.papaya_callers.specs.Given.Resize.CopierMarks.{marks, covers, marked as place_marked, mine_marked, is_mine, is_awaited, probing, without_copying, key_hash}
-use Rattle.papaya_callers.specs.Given.Resize.CopierCounts.{counts, tallies, unmarks, unclaims, counted, given_up}
-use Rattle.papaya_callers.specs.Given.Resize.CopierPromotes.{promotes, announces, succeeds, promoted, successor_read, retiring_table, also_retired}
-use Rattle.papaya_callers.specs.Given.Tables.declared.marks.TheConstants.{COPYING, COPIED}
-use Rattle.papaya_callers.specs.Given.Tables.declared.node.Node.{Node}
-use Rattle.papaya_callers.specs.Given.Resize.declared.outcome.Outcome.{Outcome}
-use Rattle.papaya_callers.specs.Given.Resize.declared.outcome.Outcome.TheVariants.{Goes, Waits}
-use Rattle.papaya_callers.specs.Given.Tables.declared.status.TheConstants.Status.{ABORTED, PROMOTED}
-use Rattle.papaya_callers.specs.Given.Tables.declared.table.Table.{Table}
-use Rattle.papaya_callers.specs.Given.Tables.declared.table_words.TheConstants.{NEXT, CLAIM, STATUS, COPIED as COUNT}
-use Rattle.papaya_callers.specs.Given.Resize.declared.copier.Copier.{Copier}
-use Rattle.papaya_callers.specs.Given.Resize.declared.copier.Copying.{Copying as Point}
-use Rattle.papaya_callers.specs.Given.Resize.declared.copier.Copying.TheVariants as at
+use Rattle.papaya_callers.specs.Given.SeizeWordsDeclared.at.At.TheVariants.{Root, Word}
+use Rattle.papaya_callers.specs.Given.SeizeWordsDeclared.fault.Fault.{Fault}
+use Rattle.papaya_callers.specs.Given.SeizeWordsMem.{Mem, Took, value_at, word_at, with_word}
+use Rattle.papaya_callers.specs.Given.SeizeWordsPlan.{Steps, Ends, Now, Seeing}
+use Rattle.papaya_callers.proofs.Given.SeizeWordsOneOwner.Operations.{loaded, stored, added, ored, exchanged}
+use Rattle.papaya_callers.proofs.Given.SeizeWordsPlans.{ends_if}
+use Rattle.papaya_callers.specs.Given.TablesNodes.{table_seen}
+use Rattle.papaya_callers.specs.Given.TablesTablePlaces.{at_word, at_place}
+use Rattle.papaya_callers.specs.Given.ResizeCopierStates.{standing, behind, none_left, next_place, place_done}
+use Rattle.papaya_callers.specs.Given.ResizeCopierClaims.{begins, follows, asks, sees, claims, root_read, next_read, status_read, claim_read, claimed, chunk, range_claimed, to}
+use Rattle.papaya_callers.specs.Given.ResizeCopierMarks.{marks, covers, marked as place_marked, mine_marked, is_mine, is_awaited, probing, without_copying, key_hash}
+use Rattle.papaya_callers.specs.Given.ResizeCopierCounts.{counts, tallies, unmarks, unclaims, counted, given_up}
+use Rattle.papaya_callers.specs.Given.ResizeCopierPromotes.{promotes, announces, succeeds, promoted, successor_read, retiring_table, also_retired}
+use Rattle.papaya_callers.specs.Given.TablesDeclared.marks.TheConstants.{COPYING, COPIED}
+use Rattle.papaya_callers.specs.Given.TablesDeclared.node.Node.{Node}
+use Rattle.papaya_callers.specs.Given.ResizeDeclared.outcome.Outcome.{Outcome}
+use Rattle.papaya_callers.specs.Given.ResizeDeclared.outcome.Outcome.TheVariants.{Goes, Waits}
+use Rattle.papaya_callers.specs.Given.TablesDeclared.status.TheConstants.Status.{ABORTED, PROMOTED}
+use Rattle.papaya_callers.specs.Given.TablesDeclared.table.Table.{Table}
+use Rattle.papaya_callers.specs.Given.TablesDeclared.table_words.TheConstants.{NEXT, CLAIM, STATUS, COPIED as COUNT}
+use Rattle.papaya_callers.specs.Given.ResizeDeclared.copier.Copier.{Copier}
+use Rattle.papaya_callers.specs.Given.ResizeDeclared.copier.Copying.{Copying as Point}
+use Rattle.papaya_callers.specs.Given.ResizeDeclared.copier.Copying.TheVariants as at
 use Rattle.papaya_alone.proofs.Lone.QuietPoints.{GoesTo, quiet_none_left, quiet_next}
 
 module _ {K V : Type 0} (p : Copier) (m m2 : Mem (Node K V)) (end : Copier × Outcome (Node K V) Table) where

@@ -2,32 +2,32 @@
 use Rattle.std.specs.Prelude.{◌==◌, ◌&&◌, ◌/◌, not, eqb}
 use Rattle.std.proofs.Common.{◌≡◌, ℕ, zero, suc, ◌+◌, ◌^◌, ◌<◌, Bool, true, false, cond, ◌⊎◌, inl, inr, eq-or-lt_of_le, refl, ap, sym, subst, ◌∙◌, arith}
 use Rattle.std.proofs.lemmas.Bool.{eq-eqb, eqb-true, eqb-false}
-use Rattle.papaya_callers.specs.Given.SeizeWords.Mem.{Mem}
-use Rattle.papaya_callers.specs.Given.Seize.World.{World}
-use Rattle.papaya_callers.specs.Given.Tables.Chunks.{is_incremental}
-use Rattle.papaya_callers.specs.Given.Resize.CopierMarks.{is_mine}
-use Rattle.papaya_callers.specs.Given.Tables.Marks.{has_mark}
-use Rattle.papaya_callers.specs.Given.Tables.declared.marks.TheConstants.{COPIED}
-use Rattle.papaya_callers.specs.Given.Tables.declared.node.Node.{Node}
-use Rattle.papaya_callers.specs.Given.Resize.declared.outcome.Outcome.{Outcome}
-use Rattle.papaya_callers.specs.Given.Tables.declared.setting.Setting.{Setting}
-use Rattle.papaya_callers.specs.Given.Tables.declared.status.TheConstants.Status.{PROMOTED}
-use Rattle.papaya_callers.specs.Given.Tables.declared.table.Table.{Table}
-use Rattle.papaya_callers.specs.Given.Resize.declared.copier.Copier.{Copier}
-use Rattle.papaya_callers.specs.Given.Resize.declared.copier.Copying.TheVariants as at
-use Rattle.papaya_callers.specs.Given.Rule.Chart.{Still, Copying, Copied, Place, Empty, Tombstone, Holds, Share, Free, Claimed, Done, Counted, Lost, Chart, is_marked, is_settled, is_counted}
-use Rattle.papaya_callers.specs.Given.Rule.Rule.{Rule, Agrees, total}
-use Rattle.papaya_callers.specs.Given.Rule.Moves.{is_of_caller, is_done_by, with_counted}
-use Rattle.papaya_callers.specs.Given.Rule.Words.{Blocks, byte_of, word_of, place_word}
-use Rattle.papaya_callers.specs.Given.Rule.Maps.{spot_of}
-use Rattle.papaya_callers.specs.Given.Rule.InWorld.{IsMapIn}
-use Rattle.papaya_callers.specs.Given.Points.FactsCopies.{CopyingFacts}
-use Rattle.papaya_callers.specs.Given.Points.Measures.{OthersIdle}
-use Rattle.papaya_callers.proofs.Given.Points.Copiers.Marks.{settled_marked, is_word, mine_is}
-use Rattle.papaya_callers.proofs.Given.Rule.Words.PlaceWordsMarks.{pair_copied}
-use Rattle.papaya_callers.proofs.Given.Rule.Moves.Totals.{total_with_counted}
-use Rattle.papaya_callers.proofs.Given.Rule.Words.TablesSeen.{status_there}
-use Rattle.papaya_callers.proofs.Given.Rule.World.WentIncremental.{rule_incremental}
+use Rattle.papaya_callers.specs.Given.SeizeWordsMem.{Mem}
+use Rattle.papaya_callers.specs.Given.SeizeWorld.{World}
+use Rattle.papaya_callers.specs.Given.TablesChunks.{is_incremental}
+use Rattle.papaya_callers.specs.Given.ResizeCopierMarks.{is_mine}
+use Rattle.papaya_callers.specs.Given.TablesMarks.{has_mark}
+use Rattle.papaya_callers.specs.Given.TablesDeclared.marks.TheConstants.{COPIED}
+use Rattle.papaya_callers.specs.Given.TablesDeclared.node.Node.{Node}
+use Rattle.papaya_callers.specs.Given.ResizeDeclared.outcome.Outcome.{Outcome}
+use Rattle.papaya_callers.specs.Given.TablesDeclared.setting.Setting.{Setting}
+use Rattle.papaya_callers.specs.Given.TablesDeclared.status.TheConstants.Status.{PROMOTED}
+use Rattle.papaya_callers.specs.Given.TablesDeclared.table.Table.{Table}
+use Rattle.papaya_callers.specs.Given.ResizeDeclared.copier.Copier.{Copier}
+use Rattle.papaya_callers.specs.Given.ResizeDeclared.copier.Copying.TheVariants as at
+use Rattle.papaya_callers.specs.Given.RuleChart.{Still, Copying, Copied, Place, Empty, Tombstone, Holds, Share, Free, Claimed, Done, Counted, Lost, Chart, is_marked, is_settled, is_counted}
+use Rattle.papaya_callers.specs.Given.RuleRule.{Rule, Agrees, total}
+use Rattle.papaya_callers.specs.Given.RuleMoves.{is_of_caller, is_done_by, with_counted}
+use Rattle.papaya_callers.specs.Given.RuleWords.{Blocks, byte_of, word_of, place_word}
+use Rattle.papaya_callers.specs.Given.RuleMaps.{spot_of}
+use Rattle.papaya_callers.specs.Given.RuleInWorld.{IsMapIn}
+use Rattle.papaya_callers.specs.Given.PointsFactsCopies.{CopyingFacts}
+use Rattle.papaya_callers.specs.Given.PointsMeasures.{OthersIdle}
+use Rattle.papaya_callers.proofs.Given.PointsCopiers.Marks.{settled_marked, is_word, mine_is}
+use Rattle.papaya_callers.proofs.Given.RuleWords.PlaceWordsMarks.{pair_copied}
+use Rattle.papaya_callers.proofs.Given.RuleMoves.Totals.{total_with_counted}
+use Rattle.papaya_callers.proofs.Given.RuleWords.TablesSeen.{status_there}
+use Rattle.papaya_callers.proofs.Given.RuleWorld.WentIncremental.{rule_incremental}
 use Rattle.papaya_alone.specs.FactsAlone.{AllAnnounced, IsUncounted}
 use Rattle.papaya_alone.proofs.Lone.CopierSteps.{AwaitsPlace, AwaitsStatus}
 

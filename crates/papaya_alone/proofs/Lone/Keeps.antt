@@ -1,39 +1,39 @@
 -- In incremental mode, a copier that is alone stays so with each of its steps that is no row of the collector, and at its end.
 use Rattle.std.specs.Int.{IsPowerOfTwo}
 use Rattle.std.proofs.Common.{◌≡◌, ◌≢◌, ℕ, suc, ◌<◌, Bool, true, false, ◌⊎◌, inl, inr, ap, sym, subst, arith}
-use Rattle.papaya_callers.specs.Given.SeizeWords.Mem.{Mem, value_at, Took}
-use Rattle.papaya_callers.specs.Given.SeizeWords.Plan.{Steps}
-use Rattle.papaya_callers.proofs.Given.SeizeWords.OneOwner.Operations.{exchanged}
-use Rattle.papaya_callers.proofs.Given.SeizeRule.Rows.Leaving.{steps_back}
-use Rattle.papaya_callers.specs.Given.Seize.World.{World}
-use Rattle.papaya_callers.specs.Given.Tables.Chunks.{is_incremental}
-use Rattle.papaya_callers.specs.Given.Resize.Copier.{plan_at}
-use Rattle.papaya_callers.specs.Given.Resize.CopierFurther.{grown}
-use Rattle.papaya_callers.specs.Given.Resize.CopierMarks.{probing}
-use Rattle.papaya_callers.specs.Given.Resize.CopierPlaces.{put_told, copied_word, next_try, pair_put}
-use Rattle.papaya_callers.specs.Given.Resize.CopierStates.{standing}
-use Rattle.papaya_callers.specs.Given.Resize.NewTable.{table_after, new_table_plan}
-use Rattle.papaya_callers.specs.Given.Tables.TablePlaces.{at_place}
-use Rattle.papaya_callers.specs.Given.Tables.declared.lengths.Reason.TheVariants.{NoPlace}
-use Rattle.papaya_callers.specs.Given.Tables.declared.node.Node.{Node}
-use Rattle.papaya_callers.specs.Given.Resize.declared.outcome.Outcome.{Outcome}
-use Rattle.papaya_callers.specs.Given.Resize.declared.outcome.Outcome.TheVariants.{Goes}
-use Rattle.papaya_callers.specs.Given.Resize.declared.outcome.Outcome.TheVariants as outcome
-use Rattle.papaya_callers.specs.Given.Tables.declared.setting.Setting.{Setting}
-use Rattle.papaya_callers.specs.Given.Tables.declared.table.Table.{Table}
-use Rattle.papaya_callers.specs.Given.Resize.declared.copier.Copier.{Copier}
-use Rattle.papaya_callers.specs.Given.Resize.declared.copier.Copying.{Copying as Point}
-use Rattle.papaya_callers.specs.Given.Resize.declared.copier.Copying.TheVariants as at
-use Rattle.papaya_callers.specs.Given.Rule.Chart.{Chart, Empty}
-use Rattle.papaya_callers.specs.Given.Rule.Words.{Blocks}
-use Rattle.papaya_callers.specs.Given.Rule.Maps.{IsTable}
-use Rattle.papaya_callers.specs.Given.Rule.InWorld.{IsMapIn}
-use Rattle.papaya_callers.specs.Given.Points.FactsCopies.{CopyingFacts}
-use Rattle.papaya_callers.specs.Given.Points.Measures.{OthersIdle}
-use Rattle.papaya_callers.specs.Given.Points.Told.{CopierTold, IsRowOfCopier}
-use Rattle.papaya_callers.specs.Given.Points.ToldMoves.{MovedPlain, MovedAt}
-use Rattle.papaya_callers.proofs.Given.Points.Copiers.Passes.{comes_passes}
-use Rattle.papaya_callers.proofs.Given.Points.Copiers.Probes.{place_here, comes_probes}
+use Rattle.papaya_callers.specs.Given.SeizeWordsMem.{Mem, value_at, Took}
+use Rattle.papaya_callers.specs.Given.SeizeWordsPlan.{Steps}
+use Rattle.papaya_callers.proofs.Given.SeizeWordsOneOwner.Operations.{exchanged}
+use Rattle.papaya_callers.proofs.Given.SeizeRuleRows.Leaving.{steps_back}
+use Rattle.papaya_callers.specs.Given.SeizeWorld.{World}
+use Rattle.papaya_callers.specs.Given.TablesChunks.{is_incremental}
+use Rattle.papaya_callers.specs.Given.ResizeCopier.{plan_at}
+use Rattle.papaya_callers.specs.Given.ResizeCopierFurther.{grown}
+use Rattle.papaya_callers.specs.Given.ResizeCopierMarks.{probing}
+use Rattle.papaya_callers.specs.Given.ResizeCopierPlaces.{put_told, copied_word, next_try, pair_put}
+use Rattle.papaya_callers.specs.Given.ResizeCopierStates.{standing}
+use Rattle.papaya_callers.specs.Given.ResizeNewTable.{table_after, new_table_plan}
+use Rattle.papaya_callers.specs.Given.TablesTablePlaces.{at_place}
+use Rattle.papaya_callers.specs.Given.TablesDeclared.lengths.Reason.TheVariants.{NoPlace}
+use Rattle.papaya_callers.specs.Given.TablesDeclared.node.Node.{Node}
+use Rattle.papaya_callers.specs.Given.ResizeDeclared.outcome.Outcome.{Outcome}
+use Rattle.papaya_callers.specs.Given.ResizeDeclared.outcome.Outcome.TheVariants.{Goes}
+use Rattle.papaya_callers.specs.Given.ResizeDeclared.outcome.Outcome.TheVariants as outcome
+use Rattle.papaya_callers.specs.Given.TablesDeclared.setting.Setting.{Setting}
+use Rattle.papaya_callers.specs.Given.TablesDeclared.table.Table.{Table}
+use Rattle.papaya_callers.specs.Given.ResizeDeclared.copier.Copier.{Copier}
+use Rattle.papaya_callers.specs.Given.ResizeDeclared.copier.Copying.{Copying as Point}
+use Rattle.papaya_callers.specs.Given.ResizeDeclared.copier.Copying.TheVariants as at
+use Rattle.papaya_callers.specs.Given.RuleChart.{Chart, Empty}
+use Rattle.papaya_callers.specs.Given.RuleWords.{Blocks}
+use Rattle.papaya_callers.specs.Given.RuleMaps.{IsTable}
+use Rattle.papaya_callers.specs.Given.RuleInWorld.{IsMapIn}
+use Rattle.papaya_callers.specs.Given.PointsFactsCopies.{CopyingFacts}
+use Rattle.papaya_callers.specs.Given.PointsMeasures.{OthersIdle}
+use Rattle.papaya_callers.specs.Given.PointsTold.{CopierTold, IsRowOfCopier}
+use Rattle.papaya_callers.specs.Given.PointsToldMoves.{MovedPlain, MovedAt}
+use Rattle.papaya_callers.proofs.Given.PointsCopiers.Passes.{comes_passes}
+use Rattle.papaya_callers.proofs.Given.PointsCopiers.Probes.{place_here, comes_probes}
 use Rattle.papaya_alone.specs.FactsAlone.{AllAnnounced, IsUncounted, AloneAt, FactsAlone}
 use Rattle.papaya_alone.proofs.Lone.CopierSteps.{AwaitsPlace, AwaitsStatus, leads_begins, leads_follows, leads_asks, leads_sees, leads_claims, leads_marks, leads_covers, leads_counts, leads_tallies, leads_unmarks, leads_unclaims, leads_promotes, leads_announces, leads_succeeds}
 use Rattle.papaya_alone.proofs.Lone.QuietPoints.{IsQuiet}

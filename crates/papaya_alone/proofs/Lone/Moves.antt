@@ -1,17 +1,17 @@
 -- In incremental mode, what a caller that is alone knows of the tables is so after its own changes of them.
 use Rattle.std.proofs.Common.{◌≡◌, ◌≢◌, ℕ, suc, ◌<◌, ◌≤◌, Bool, true, false, cond, eqb, ◌⊎◌, inl, inr, eq-or-lt_of_le, refl, ap, sym, ◌∙◌, arith}
 use Rattle.std.proofs.lemmas.Bool.{eq-eqb, eqb-false}
-use Rattle.papaya_callers.specs.Given.Tables.declared.status.TheConstants.Status.{PENDING, PROMOTED}
-use Rattle.papaya_callers.specs.Given.Rule.Chart.{Counted, Chart, put, is_counted}
-use Rattle.papaya_callers.specs.Given.Rule.Rule.{Rule, no_table, total}
-use Rattle.papaya_callers.specs.Given.Rule.Moves.{Move, Links, Stores, Replaces, Removes, Marks, MarksBlocking, Skips, Unmarks, Puts, Covers, PutsLate, Claims, Reclaims, Counts, GivesUp, Aborts, Promotes, Announces, is_of_caller, after}
-use Rattle.papaya_callers.specs.Given.Rule.Lasts.{IsBy}
-use Rattle.papaya_callers.specs.Given.Rule.Maps.{spot_of}
-use Rattle.papaya_callers.specs.Given.Points.Measures.{OthersIdle}
-use Rattle.papaya_callers.specs.Given.Points.ToldMoves.{IsPlain}
-use Rattle.papaya_callers.proofs.Given.Rule.Moves.SharesGiven.{none_given}
-use Rattle.papaya_callers.proofs.Given.Rule.Moves.Totals.{total_counted_le, total_full, total_none}
-use Rattle.papaya_callers.proofs.Given.Rule.Moves.Writes.{put_here, put_elsewhere}
+use Rattle.papaya_callers.specs.Given.TablesDeclared.status.TheConstants.Status.{PENDING, PROMOTED}
+use Rattle.papaya_callers.specs.Given.RuleChart.{Counted, Chart, put, is_counted}
+use Rattle.papaya_callers.specs.Given.RuleRule.{Rule, no_table, total}
+use Rattle.papaya_callers.specs.Given.RuleMoves.{Move, Links, Stores, Replaces, Removes, Marks, MarksBlocking, Skips, Unmarks, Puts, Covers, PutsLate, Claims, Reclaims, Counts, GivesUp, Aborts, Promotes, Announces, is_of_caller, after}
+use Rattle.papaya_callers.specs.Given.RuleLasts.{IsBy}
+use Rattle.papaya_callers.specs.Given.RuleMaps.{spot_of}
+use Rattle.papaya_callers.specs.Given.PointsMeasures.{OthersIdle}
+use Rattle.papaya_callers.specs.Given.PointsToldMoves.{IsPlain}
+use Rattle.papaya_callers.proofs.Given.RuleMoves.SharesGiven.{none_given}
+use Rattle.papaya_callers.proofs.Given.RuleMoves.Totals.{total_counted_le, total_full, total_none}
+use Rattle.papaya_callers.proofs.Given.RuleMoves.Writes.{put_here, put_elsewhere}
 use Rattle.papaya_alone.specs.FactsAlone.{AllAnnounced, AllAnnouncedBut, IsUncounted}
 
 module _ {K : Type 0} (same : K → K → Bool) (hash : K → ℕ) (caller : ℕ) (c : Chart K) where

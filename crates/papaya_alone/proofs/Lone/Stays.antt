@@ -2,44 +2,44 @@
 use Rattle.std.specs.Int.{IsPowerOfTwo}
 use Rattle.std.specs.Prelude.{◌==◌, if◌then◌else◌}
 use Rattle.std.proofs.Common.{◌≡◌, ◌≢◌, ℕ, ◌^◌, ◌<◌, Bool, true, false, refl, sym, subst, ◌∙◌, arith}
-use Rattle.papaya_callers.specs.Given.SeizeWords.Mem.{Mem, Took, value_at}
-use Rattle.papaya_callers.specs.Given.SeizeWords.Plan.{Steps}
-use Rattle.papaya_callers.proofs.Given.SeizeRule.Rows.Leaving.{steps_back}
-use Rattle.papaya_callers.specs.Given.Seize.World.{World}
-use Rattle.papaya_callers.specs.Given.Raw.Call.{helped, helps, copied, copies, plan_at, call_plan}
-use Rattle.papaya_callers.specs.Given.Raw.CallPoints.{ending, over, going}
-use Rattle.papaya_callers.specs.Given.Tables.Chunks.{is_incremental}
-use Rattle.papaya_callers.specs.Given.Resize.Copier.{copier_plan}
-use Rattle.papaya_callers.specs.Given.Raw.declared.machines.answer.End.{End}
-use Rattle.papaya_callers.specs.Given.Raw.declared.machines.answer.End.TheVariants as ends
-use Rattle.papaya_callers.specs.Given.Raw.declared.machines.answer.Called.{Called}
-use Rattle.papaya_callers.specs.Given.Raw.declared.machines.call.KeyCall.{KeyCall}
-use Rattle.papaya_callers.specs.Given.Raw.declared.machines.call.Calling.{Calling}
-use Rattle.papaya_callers.specs.Given.Raw.declared.machines.call.Calling.TheVariants as at
-use Rattle.papaya_callers.specs.Given.Resize.declared.copier.Copier.{Copier}
-use Rattle.papaya_callers.specs.Given.Tables.declared.node.Node.{Node}
-use Rattle.papaya_callers.specs.Given.Resize.declared.outcome.Outcome.{Outcome}
-use Rattle.papaya_callers.specs.Given.Resize.declared.outcome.Outcome.TheVariants as outcome
-use Rattle.papaya_callers.specs.Given.Tables.declared.setting.Setting.{Setting}
-use Rattle.papaya_callers.specs.Given.Tables.declared.table.Table.{Table}
-use Rattle.papaya_callers.specs.Given.Raw.declared.machines.answer.Called.TheVariants as called
-use Rattle.papaya_callers.specs.Given.Rule.Chart.{Chart}
-use Rattle.papaya_callers.specs.Given.Rule.Rule.{IsLawful}
-use Rattle.papaya_callers.specs.Given.Rule.Words.{Blocks}
-use Rattle.papaya_callers.specs.Given.Rule.Maps.{spot_of}
-use Rattle.papaya_callers.specs.Given.Rule.InWorld.{IsMapIn, Went, SparesPairs}
-use Rattle.papaya_callers.specs.Given.Points.FactsAloneBlocking.{AloneBlocking, LeadsAlone}
-use Rattle.papaya_callers.specs.Given.Points.Measures.{OthersIdle}
-use Rattle.papaya_callers.specs.Given.Points.FactsCalls.{Unchanged, Change, IsCopying, Seeks, CallingFacts, CallFacts}
-use Rattle.papaya_callers.specs.Given.Points.Told.{CopierTold, IsRowOfCall, CallTold}
-use Rattle.papaya_callers.specs.Given.Points.ToldMoves.{MovedAt}
-use Rattle.papaya_callers.proofs.Given.Points.Copiers.CopiersWhole.{whole_stays}
-use Rattle.papaya_callers.proofs.Given.Points.Copiers.CopierWent.{CopierTells}
-use Rattle.papaya_callers.proofs.Given.Points.Calls.Copies.{helped_told, copied_told}
-use Rattle.papaya_callers.proofs.Given.Points.Calls.Points.{went_call}
-use Rattle.papaya_callers.proofs.Given.Points.Copiers.Points.{went_copier_moved}
-use Rattle.papaya_callers.proofs.Given.Points.Blocking.Points.{went_copier_blocking_alone}
-use Rattle.papaya_callers.proofs.Given.Rule.World.WentTold.{went_as}
+use Rattle.papaya_callers.specs.Given.SeizeWordsMem.{Mem, Took, value_at}
+use Rattle.papaya_callers.specs.Given.SeizeWordsPlan.{Steps}
+use Rattle.papaya_callers.proofs.Given.SeizeRuleRows.Leaving.{steps_back}
+use Rattle.papaya_callers.specs.Given.SeizeWorld.{World}
+use Rattle.papaya_callers.specs.Given.RawCall.{helped, helps, copied, copies, plan_at, call_plan}
+use Rattle.papaya_callers.specs.Given.RawCallPoints.{ending, over, going}
+use Rattle.papaya_callers.specs.Given.TablesChunks.{is_incremental}
+use Rattle.papaya_callers.specs.Given.ResizeCopier.{copier_plan}
+use Rattle.papaya_callers.specs.Given.RawDeclared.machines.answer.End.{End}
+use Rattle.papaya_callers.specs.Given.RawDeclared.machines.answer.End.TheVariants as ends
+use Rattle.papaya_callers.specs.Given.RawDeclared.machines.answer.Called.{Called}
+use Rattle.papaya_callers.specs.Given.RawDeclared.machines.call.KeyCall.{KeyCall}
+use Rattle.papaya_callers.specs.Given.RawDeclared.machines.call.Calling.{Calling}
+use Rattle.papaya_callers.specs.Given.RawDeclared.machines.call.Calling.TheVariants as at
+use Rattle.papaya_callers.specs.Given.ResizeDeclared.copier.Copier.{Copier}
+use Rattle.papaya_callers.specs.Given.TablesDeclared.node.Node.{Node}
+use Rattle.papaya_callers.specs.Given.ResizeDeclared.outcome.Outcome.{Outcome}
+use Rattle.papaya_callers.specs.Given.ResizeDeclared.outcome.Outcome.TheVariants as outcome
+use Rattle.papaya_callers.specs.Given.TablesDeclared.setting.Setting.{Setting}
+use Rattle.papaya_callers.specs.Given.TablesDeclared.table.Table.{Table}
+use Rattle.papaya_callers.specs.Given.RawDeclared.machines.answer.Called.TheVariants as called
+use Rattle.papaya_callers.specs.Given.RuleChart.{Chart}
+use Rattle.papaya_callers.specs.Given.RuleRule.{IsLawful}
+use Rattle.papaya_callers.specs.Given.RuleWords.{Blocks}
+use Rattle.papaya_callers.specs.Given.RuleMaps.{spot_of}
+use Rattle.papaya_callers.specs.Given.RuleInWorld.{IsMapIn, Went, SparesPairs}
+use Rattle.papaya_callers.specs.Given.PointsFactsAloneBlocking.{AloneBlocking, LeadsAlone}
+use Rattle.papaya_callers.specs.Given.PointsMeasures.{OthersIdle}
+use Rattle.papaya_callers.specs.Given.PointsFactsCalls.{Unchanged, Change, IsCopying, Seeks, CallingFacts, CallFacts}
+use Rattle.papaya_callers.specs.Given.PointsTold.{CopierTold, IsRowOfCall, CallTold}
+use Rattle.papaya_callers.specs.Given.PointsToldMoves.{MovedAt}
+use Rattle.papaya_callers.proofs.Given.PointsCopiers.CopiersWhole.{whole_stays}
+use Rattle.papaya_callers.proofs.Given.PointsCopiers.CopierWent.{CopierTells}
+use Rattle.papaya_callers.proofs.Given.PointsCalls.Copies.{helped_told, copied_told}
+use Rattle.papaya_callers.proofs.Given.PointsCalls.Points.{went_call}
+use Rattle.papaya_callers.proofs.Given.PointsCopiers.Points.{went_copier_moved}
+use Rattle.papaya_callers.proofs.Given.PointsBlocking.Points.{went_copier_blocking_alone}
+use Rattle.papaya_callers.proofs.Given.RuleWorld.WentTold.{went_as}
 use Rattle.papaya_alone.specs.FactsAlone.{FactsAlone}
 use Rattle.papaya_alone.specs.FactsAloneCalls.{TablesAlone, StandsAlone, IsLone, RestsAlone, LeadsLone}
 use Rattle.papaya_alone.proofs.Lone.Copier.{helper_goes}

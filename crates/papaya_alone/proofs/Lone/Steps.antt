@@ -2,46 +2,46 @@
 use Rattle.std.specs.Prelude.{◌==◌, nat_lt, if◌then◌else◌, Some}
 use Rattle.std.proofs.Common.{◌≡◌, ℕ, suc, ◌+◌, ◌-◌, ◌%◌, ◌^◌, ◌<◌, Bool, true, false, ◌⊎◌, inl, inr, refl, ap, sym, subst, ◌∙◌, arith}
 use Rattle.std.proofs.lemmas.Bool.{eqb-false}
-use Rattle.papaya_callers.specs.Given.SeizeWords.Mem.{Mem, value_at, word_at, with_word, Took}
-use Rattle.papaya_callers.specs.Given.SeizeWords.Plan.{Steps, Ends}
-use Rattle.papaya_callers.proofs.Given.SeizeWords.OneOwner.Operations.{added}
-use Rattle.papaya_callers.specs.Given.Seize.World.{World}
-use Rattle.papaya_callers.specs.Given.Seize.declared.progress.Progress.{Progress}
-use Rattle.papaya_callers.specs.Given.Seize.declared.progress.Progress.TheVariants as progress
-use Rattle.papaya_callers.specs.Given.Tables.Chunks.{is_incremental}
-use Rattle.papaya_callers.specs.Given.Resize.CopierCounts.{counts, counted, tallies, to}
-use Rattle.papaya_callers.specs.Given.Resize.CopierFurther.{grown}
-use Rattle.papaya_callers.specs.Given.Resize.CopierPlaces.{next_try, pair_put}
-use Rattle.papaya_callers.specs.Given.Resize.CopierStates.{standing, behind, place_done}
-use Rattle.papaya_callers.specs.Given.Tables.Probes.{probe_after}
-use Rattle.papaya_callers.specs.Given.Tables.TablePlaces.{at_word}
-use Rattle.papaya_callers.specs.Given.Tables.declared.node.Node.{Node}
-use Rattle.papaya_callers.specs.Given.Resize.declared.outcome.Outcome.{Outcome}
-use Rattle.papaya_callers.specs.Given.Resize.declared.outcome.Outcome.TheVariants.{Goes, Waits}
-use Rattle.papaya_callers.specs.Given.SeizeWords.declared.fault.Fault.{Fault}
-use Rattle.papaya_callers.specs.Given.Tables.declared.probe.Probe.{Probe}
-use Rattle.papaya_callers.specs.Given.Tables.declared.setting.Setting.{Setting}
-use Rattle.papaya_callers.specs.Given.Tables.declared.table.Table.{Table}
-use Rattle.papaya_callers.specs.Given.Tables.declared.table_words.TheConstants.{COPIED}
-use Rattle.papaya_callers.specs.Given.Tables.declared.status.TheConstants.Status.{PROMOTED}
-use Rattle.papaya_callers.specs.Given.Resize.declared.copier.Copier.{Copier}
-use Rattle.papaya_callers.specs.Given.Resize.declared.copier.Copying.{Copying as Point}
-use Rattle.papaya_callers.specs.Given.Resize.declared.copier.Copying.TheVariants as at
-use Rattle.papaya_callers.specs.Given.Resize.declared.new_table.NewTable.{NewTable}
-use Rattle.papaya_callers.specs.Given.Rule.Chart.{Chart, put}
-use Rattle.papaya_callers.proofs.Given.Rule.Moves.Counts.{counted_behind}
-use Rattle.papaya_callers.specs.Given.Rule.Moves.{counted_to, Counts, after}
-use Rattle.papaya_callers.specs.Given.Rule.Words.{Blocks}
-use Rattle.papaya_callers.specs.Given.Rule.Maps.{spot_of}
-use Rattle.papaya_callers.specs.Given.Rule.InWorld.{IsMapIn}
-use Rattle.papaya_callers.specs.Given.Points.FactsCopies.{CopyingFacts, CopierFacts}
-use Rattle.papaya_callers.specs.Given.Points.Measures.{OthersIdle}
-use Rattle.papaya_callers.specs.Given.Points.Told.{CopierTold}
-use Rattle.papaya_callers.specs.Given.Points.ToldMoves.{MovedPlain, MovedCounts, MovedPromotes, MovedAnnounces}
-use Rattle.papaya_callers.proofs.Given.Points.Copiers.CopiersCounted.{copied_word as count_there, count_fits, no_wrap}
-use Rattle.papaya_callers.proofs.Given.Rule.Words.TablesSeen.{len_is}
-use Rattle.papaya_callers.proofs.Given.Rule.World.WentIncremental.{rule_incremental}
-use Rattle.papaya_callers.proofs.Given.Rule.Moves.Writes.{put_here}
+use Rattle.papaya_callers.specs.Given.SeizeWordsMem.{Mem, value_at, word_at, with_word, Took}
+use Rattle.papaya_callers.specs.Given.SeizeWordsPlan.{Steps, Ends}
+use Rattle.papaya_callers.proofs.Given.SeizeWordsOneOwner.Operations.{added}
+use Rattle.papaya_callers.specs.Given.SeizeWorld.{World}
+use Rattle.papaya_callers.specs.Given.SeizeDeclared.progress.Progress.{Progress}
+use Rattle.papaya_callers.specs.Given.SeizeDeclared.progress.Progress.TheVariants as progress
+use Rattle.papaya_callers.specs.Given.TablesChunks.{is_incremental}
+use Rattle.papaya_callers.specs.Given.ResizeCopierCounts.{counts, counted, tallies, to}
+use Rattle.papaya_callers.specs.Given.ResizeCopierFurther.{grown}
+use Rattle.papaya_callers.specs.Given.ResizeCopierPlaces.{next_try, pair_put}
+use Rattle.papaya_callers.specs.Given.ResizeCopierStates.{standing, behind, place_done}
+use Rattle.papaya_callers.specs.Given.TablesProbes.{probe_after}
+use Rattle.papaya_callers.specs.Given.TablesTablePlaces.{at_word}
+use Rattle.papaya_callers.specs.Given.TablesDeclared.node.Node.{Node}
+use Rattle.papaya_callers.specs.Given.ResizeDeclared.outcome.Outcome.{Outcome}
+use Rattle.papaya_callers.specs.Given.ResizeDeclared.outcome.Outcome.TheVariants.{Goes, Waits}
+use Rattle.papaya_callers.specs.Given.SeizeWordsDeclared.fault.Fault.{Fault}
+use Rattle.papaya_callers.specs.Given.TablesDeclared.probe.Probe.{Probe}
+use Rattle.papaya_callers.specs.Given.TablesDeclared.setting.Setting.{Setting}
+use Rattle.papaya_callers.specs.Given.TablesDeclared.table.Table.{Table}
+use Rattle.papaya_callers.specs.Given.TablesDeclared.table_words.TheConstants.{COPIED}
+use Rattle.papaya_callers.specs.Given.TablesDeclared.status.TheConstants.Status.{PROMOTED}
+use Rattle.papaya_callers.specs.Given.ResizeDeclared.copier.Copier.{Copier}
+use Rattle.papaya_callers.specs.Given.ResizeDeclared.copier.Copying.{Copying as Point}
+use Rattle.papaya_callers.specs.Given.ResizeDeclared.copier.Copying.TheVariants as at
+use Rattle.papaya_callers.specs.Given.ResizeDeclared.new_table.NewTable.{NewTable}
+use Rattle.papaya_callers.specs.Given.RuleChart.{Chart, put}
+use Rattle.papaya_callers.proofs.Given.RuleMoves.Counts.{counted_behind}
+use Rattle.papaya_callers.specs.Given.RuleMoves.{counted_to, Counts, after}
+use Rattle.papaya_callers.specs.Given.RuleWords.{Blocks}
+use Rattle.papaya_callers.specs.Given.RuleMaps.{spot_of}
+use Rattle.papaya_callers.specs.Given.RuleInWorld.{IsMapIn}
+use Rattle.papaya_callers.specs.Given.PointsFactsCopies.{CopyingFacts, CopierFacts}
+use Rattle.papaya_callers.specs.Given.PointsMeasures.{OthersIdle}
+use Rattle.papaya_callers.specs.Given.PointsTold.{CopierTold}
+use Rattle.papaya_callers.specs.Given.PointsToldMoves.{MovedPlain, MovedCounts, MovedPromotes, MovedAnnounces}
+use Rattle.papaya_callers.proofs.Given.PointsCopiers.CopiersCounted.{copied_word as count_there, count_fits, no_wrap}
+use Rattle.papaya_callers.proofs.Given.RuleWords.TablesSeen.{len_is}
+use Rattle.papaya_callers.proofs.Given.RuleWorld.WentIncremental.{rule_incremental}
+use Rattle.papaya_callers.proofs.Given.RuleMoves.Writes.{put_here}
 use Rattle.papaya_alone.specs.FactsAlone.{AllAnnounced, AllAnnouncedBut, IsUncounted, AloneAt, FactsAlone}
 use Rattle.papaya_alone.proofs.Lone.Moves.{idle_kept, plain_own, plain_kept, promoted_kept, announced_kept, uncounted_of}
 use Rattle.papaya_alone.proofs.Lone.CopierSteps.{LeadsOn, WaitsFor}

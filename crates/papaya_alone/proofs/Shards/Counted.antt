@@ -1,39 +1,39 @@
 -- A step of a call that is none of a row of the collector: the shards say so much more as the call has counted.
 use Rattle.std.specs.Prelude.{◌≡◌, ℕ, suc, ◌+◌, ◌%◌, ◌^◌, Bool, Some, bit_and}
 use Rattle.std.proofs.Common.{refl, ap, sym, subst}
-use Rattle.papaya_callers.specs.Given.SeizeWords.declared.at.At.{At}
-use Rattle.papaya_callers.specs.Given.SeizeWords.declared.at.At.TheVariants.{Word}
-use Rattle.papaya_callers.specs.Given.SeizeWords.declared.fault.Fault.{Fault}
-use Rattle.papaya_callers.specs.Given.SeizeWords.Mem.{Mem, Can, Took, value_at, word_at, with_word}
-use Rattle.papaya_callers.specs.Given.SeizeWords.Plan.{Now, May, Steps}
-use Rattle.papaya_callers.proofs.Given.SeizeWords.OneOwner.Operations.{added}
-use Rattle.papaya_callers.specs.Given.Seize.World.{World}
-use Rattle.papaya_callers.specs.Given.Tables.Counts.{count_change}
-use Rattle.papaya_callers.specs.Given.Raw.Call.{call_plan, plan_at, disposed}
-use Rattle.papaya_callers.specs.Given.Raw.CallPoints.{counted}
-use Rattle.papaya_callers.specs.Given.Resize.Dispose as dispose
-use Rattle.papaya_callers.specs.Given.Tables.declared.node.Node.{Node}
-use Rattle.papaya_callers.specs.Given.Tables.declared.setting.Setting.{Setting}
-use Rattle.papaya_callers.specs.Given.Raw.declared.machines.answer.KeyAnswer.{KeyAnswer}
-use Rattle.papaya_callers.specs.Given.Raw.declared.machines.answer.Called.{Called}
-use Rattle.papaya_callers.specs.Given.Raw.declared.machines.answer.Called.TheVariants as called
-use Rattle.papaya_callers.specs.Given.Raw.declared.machines.call.KeyCall.{KeyCall}
-use Rattle.papaya_callers.specs.Given.Raw.declared.machines.call.Calling.{Calling}
-use Rattle.papaya_callers.specs.Given.Raw.declared.machines.call.Calling.TheVariants as at
-use Rattle.papaya_callers.specs.Given.Resize.declared.dispose.Dispose.{Dispose}
-use Rattle.papaya_callers.specs.Given.Resize.declared.dispose.Disposing.{Disposing}
-use Rattle.papaya_callers.specs.Given.Resize.declared.dispose.Disposing.TheVariants as disposes
-use Rattle.papaya_callers.specs.Given.Rule.Chart.{Chart}
-use Rattle.papaya_callers.specs.Given.Rule.Words.{Blocks}
-use Rattle.papaya_callers.specs.Given.Rule.InWorld.{IsMapIn}
-use Rattle.papaya_callers.specs.Given.Points.FactsCalls.{Change, Seeks, CallFacts}
-use Rattle.papaya_callers.specs.Given.Points.Told.{IsRowOf, IsRowOfCall}
+use Rattle.papaya_callers.specs.Given.SeizeWordsDeclared.at.At.{At}
+use Rattle.papaya_callers.specs.Given.SeizeWordsDeclared.at.At.TheVariants.{Word}
+use Rattle.papaya_callers.specs.Given.SeizeWordsDeclared.fault.Fault.{Fault}
+use Rattle.papaya_callers.specs.Given.SeizeWordsMem.{Mem, Can, Took, value_at, word_at, with_word}
+use Rattle.papaya_callers.specs.Given.SeizeWordsPlan.{Now, May, Steps}
+use Rattle.papaya_callers.proofs.Given.SeizeWordsOneOwner.Operations.{added}
+use Rattle.papaya_callers.specs.Given.SeizeWorld.{World}
+use Rattle.papaya_callers.specs.Given.TablesCounts.{count_change}
+use Rattle.papaya_callers.specs.Given.RawCall.{call_plan, plan_at, disposed}
+use Rattle.papaya_callers.specs.Given.RawCallPoints.{counted}
+use Rattle.papaya_callers.specs.Given.ResizeDispose as dispose
+use Rattle.papaya_callers.specs.Given.TablesDeclared.node.Node.{Node}
+use Rattle.papaya_callers.specs.Given.TablesDeclared.setting.Setting.{Setting}
+use Rattle.papaya_callers.specs.Given.RawDeclared.machines.answer.KeyAnswer.{KeyAnswer}
+use Rattle.papaya_callers.specs.Given.RawDeclared.machines.answer.Called.{Called}
+use Rattle.papaya_callers.specs.Given.RawDeclared.machines.answer.Called.TheVariants as called
+use Rattle.papaya_callers.specs.Given.RawDeclared.machines.call.KeyCall.{KeyCall}
+use Rattle.papaya_callers.specs.Given.RawDeclared.machines.call.Calling.{Calling}
+use Rattle.papaya_callers.specs.Given.RawDeclared.machines.call.Calling.TheVariants as at
+use Rattle.papaya_callers.specs.Given.ResizeDeclared.dispose.Dispose.{Dispose}
+use Rattle.papaya_callers.specs.Given.ResizeDeclared.dispose.Disposing.{Disposing}
+use Rattle.papaya_callers.specs.Given.ResizeDeclared.dispose.Disposing.TheVariants as disposes
+use Rattle.papaya_callers.specs.Given.RuleChart.{Chart}
+use Rattle.papaya_callers.specs.Given.RuleWords.{Blocks}
+use Rattle.papaya_callers.specs.Given.RuleInWorld.{IsMapIn}
+use Rattle.papaya_callers.specs.Given.PointsFactsCalls.{Change, Seeks, CallFacts}
+use Rattle.papaya_callers.specs.Given.PointsTold.{IsRowOf, IsRowOfCall}
 use Rattle.papaya_alone.specs.Counting.{shards_sum}
 use Rattle.papaya_alone.specs.Counted.{HasAdded, counted_for, counted_end, counted_at}
 use Rattle.papaya_alone.proofs.Shards.Counts.{CountsLater, RefusedAt, Says, none_at, later_says, counts_says, disposes_says, drops_says, over_says}
 use Rattle.papaya_alone.proofs.Shards.Sums.{shard_added, added_same, added_more}
 use Rattle.papaya_alone.proofs.Spared.Shards.{shards_spared}
-use Rattle.papaya_callers.proofs.Given.Rule.Spared.{PlanSpares, spares_as}
+use Rattle.papaya_callers.proofs.Given.RuleSpared.{PlanSpares, spares_as}
 use Rattle.papaya_alone.proofs.Spared.Steps.{shards_same}
 
 module _ {K V Q : Type 0} (same : K → K → Bool) (hash : K → ℕ) (asks : Q → K → Bool) (w : World (Node K V)) (caller : ℕ) (setting : Setting) (c : Chart K) (blocks : Blocks) (keys : K → Bool)

@@ -1,53 +1,53 @@
 -- What a call has counted, from one step to the next: nothing, until it knows its answer.
 use Rattle.std.specs.Prelude.{◌==◌, ◌-◌, ◌^◌, Option, Some, None, Ok, Err, if◌then◌else◌}
 use Rattle.std.proofs.Common.{◌≡◌, ℕ, Bool, true, false, refl, ap, sym, subst, ◌∙◌}
-use Rattle.papaya_callers.specs.Given.SeizeWords.Mem.{Mem, value_at, Took}
-use Rattle.papaya_callers.specs.Given.SeizeWords.Op.{Out, Found, Stored, Exchanged, Made, Taken, Roomed}
-use Rattle.papaya_callers.specs.Given.SeizeWords.Plan.{Steps}
-use Rattle.papaya_callers.specs.Given.Seize.declared.progress.Progress.{Progress}
-use Rattle.papaya_callers.specs.Given.Seize.declared.progress.Progress.TheVariants as progress
-use Rattle.papaya_callers.specs.Given.Seize.declared.rows.settle.Settled.{Settled}
-use Rattle.papaya_callers.specs.Given.Seize.declared.rows.settle.Settled.TheVariants as settled
-use Rattle.papaya_callers.specs.Given.Tables.Counts.{count_change}
-use Rattle.papaya_callers.specs.Given.Raw.Answers.{ended}
-use Rattle.papaya_callers.specs.Given.Raw.Call.{made, makes_of, root_found, next_found, dropped, key_read, pair_read, word_read, word_found, tried, looked, looks_for, first_made, next_made, disposed, helped, copied, plan_at}
-use Rattle.papaya_callers.specs.Given.Raw.CallPoints.{going, standing, over, ending, tableless, at_free, following_made, asking_at, at_last, at_pair, told_of, entering, went_on, changed, counted, having_met}
-use Rattle.papaya_callers.specs.Given.Tables.Chunks.{is_incremental}
-use Rattle.papaya_callers.specs.Given.Resize.Copier.{copier_plan}
-use Rattle.papaya_callers.specs.Given.Resize.CopierStates.{copying_all}
-use Rattle.papaya_callers.specs.Given.Resize.Dispose.{disposing, dispose_plan}
-use Rattle.papaya_callers.specs.Given.Tables.Finding.{may_name}
-use Rattle.papaya_callers.specs.Given.Resize.Lookup.{lookup_plan}
-use Rattle.papaya_callers.specs.Given.Resize.NewTable.{new_table_plan}
-use Rattle.papaya_callers.specs.Given.Tables.Trials.{next_trial, with_met}
-use Rattle.papaya_callers.specs.Given.Tables.declared.marks.TheConstants.{TOMBSTONE}
-use Rattle.papaya_callers.specs.Given.Tables.declared.node.Node.{Node}
-use Rattle.papaya_callers.specs.Given.Resize.declared.outcome.Outcome.{Outcome}
-use Rattle.papaya_callers.specs.Given.Resize.declared.outcome.Outcome.TheVariants as outcome
-use Rattle.papaya_callers.specs.Given.Tables.declared.table.Table.{Table}
-use Rattle.papaya_callers.specs.Given.Raw.declared.machines.answer.KeyAnswer.{KeyAnswer}
-use Rattle.papaya_callers.specs.Given.Raw.declared.machines.answer.KeyAnswer.TheVariants as answers
-use Rattle.papaya_callers.specs.Given.Raw.declared.machines.answer.Called.{Called}
-use Rattle.papaya_callers.specs.Given.Raw.declared.machines.answer.Called.TheVariants as called
-use Rattle.papaya_callers.specs.Given.Raw.declared.machines.answer.End.{End}
-use Rattle.papaya_callers.specs.Given.Raw.declared.machines.answer.End.TheVariants as ends
-use Rattle.papaya_callers.specs.Given.Raw.declared.machines.answer.Missing.{Missing}
-use Rattle.papaya_callers.specs.Given.Raw.declared.machines.answer.Missing.TheVariants as missing
-use Rattle.papaya_callers.specs.Given.Raw.declared.machines.answer.There.{There}
-use Rattle.papaya_callers.specs.Given.Raw.declared.machines.answer.There.TheVariants as there
-use Rattle.papaya_callers.specs.Given.Raw.declared.machines.asking.Gap.{Gap}
-use Rattle.papaya_callers.specs.Given.Raw.declared.machines.asking.Gap.TheVariants as gaps
-use Rattle.papaya_callers.specs.Given.Raw.declared.machines.call.KeyCall.{KeyCall}
-use Rattle.papaya_callers.specs.Given.Raw.declared.machines.call.Calling.{Calling}
-use Rattle.papaya_callers.specs.Given.Raw.declared.machines.call.Calling.TheVariants as at
-use Rattle.papaya_callers.specs.Given.Resize.declared.copier.Copier.{Copier}
-use Rattle.papaya_callers.specs.Given.Resize.declared.dispose.Dispose.{Dispose}
-use Rattle.papaya_callers.specs.Given.Tables.declared.finding.Finding.{Finding}
-use Rattle.papaya_callers.specs.Given.Tables.declared.finding.Finding.TheVariants as finds
-use Rattle.papaya_callers.specs.Given.Resize.declared.lookup.Lookup.{Lookup}
-use Rattle.papaya_callers.specs.Given.Resize.declared.new_table.NewTable.{NewTable}
-use Rattle.papaya_callers.proofs.Given.Points.Calls.Asked.{asking_so, asking_of_so, passed_so}
-use Rattle.papaya_callers.proofs.Given.Rule.Keys.Always.{Always, AlwaysOf, always_if, always_plan_as, always_steps}
+use Rattle.papaya_callers.specs.Given.SeizeWordsMem.{Mem, value_at, Took}
+use Rattle.papaya_callers.specs.Given.SeizeWordsOp.{Out, Found, Stored, Exchanged, Made, Taken, Roomed}
+use Rattle.papaya_callers.specs.Given.SeizeWordsPlan.{Steps}
+use Rattle.papaya_callers.specs.Given.SeizeDeclared.progress.Progress.{Progress}
+use Rattle.papaya_callers.specs.Given.SeizeDeclared.progress.Progress.TheVariants as progress
+use Rattle.papaya_callers.specs.Given.SeizeDeclared.rows.settle.Settled.{Settled}
+use Rattle.papaya_callers.specs.Given.SeizeDeclared.rows.settle.Settled.TheVariants as settled
+use Rattle.papaya_callers.specs.Given.TablesCounts.{count_change}
+use Rattle.papaya_callers.specs.Given.RawAnswers.{ended}
+use Rattle.papaya_callers.specs.Given.RawCall.{made, makes_of, root_found, next_found, dropped, key_read, pair_read, word_read, word_found, tried, looked, looks_for, first_made, next_made, disposed, helped, copied, plan_at}
+use Rattle.papaya_callers.specs.Given.RawCallPoints.{going, standing, over, ending, tableless, at_free, following_made, asking_at, at_last, at_pair, told_of, entering, went_on, changed, counted, having_met}
+use Rattle.papaya_callers.specs.Given.TablesChunks.{is_incremental}
+use Rattle.papaya_callers.specs.Given.ResizeCopier.{copier_plan}
+use Rattle.papaya_callers.specs.Given.ResizeCopierStates.{copying_all}
+use Rattle.papaya_callers.specs.Given.ResizeDispose.{disposing, dispose_plan}
+use Rattle.papaya_callers.specs.Given.TablesFinding.{may_name}
+use Rattle.papaya_callers.specs.Given.ResizeLookup.{lookup_plan}
+use Rattle.papaya_callers.specs.Given.ResizeNewTable.{new_table_plan}
+use Rattle.papaya_callers.specs.Given.TablesTrials.{next_trial, with_met}
+use Rattle.papaya_callers.specs.Given.TablesDeclared.marks.TheConstants.{TOMBSTONE}
+use Rattle.papaya_callers.specs.Given.TablesDeclared.node.Node.{Node}
+use Rattle.papaya_callers.specs.Given.ResizeDeclared.outcome.Outcome.{Outcome}
+use Rattle.papaya_callers.specs.Given.ResizeDeclared.outcome.Outcome.TheVariants as outcome
+use Rattle.papaya_callers.specs.Given.TablesDeclared.table.Table.{Table}
+use Rattle.papaya_callers.specs.Given.RawDeclared.machines.answer.KeyAnswer.{KeyAnswer}
+use Rattle.papaya_callers.specs.Given.RawDeclared.machines.answer.KeyAnswer.TheVariants as answers
+use Rattle.papaya_callers.specs.Given.RawDeclared.machines.answer.Called.{Called}
+use Rattle.papaya_callers.specs.Given.RawDeclared.machines.answer.Called.TheVariants as called
+use Rattle.papaya_callers.specs.Given.RawDeclared.machines.answer.End.{End}
+use Rattle.papaya_callers.specs.Given.RawDeclared.machines.answer.End.TheVariants as ends
+use Rattle.papaya_callers.specs.Given.RawDeclared.machines.answer.Missing.{Missing}
+use Rattle.papaya_callers.specs.Given.RawDeclared.machines.answer.Missing.TheVariants as missing
+use Rattle.papaya_callers.specs.Given.RawDeclared.machines.answer.There.{There}
+use Rattle.papaya_callers.specs.Given.RawDeclared.machines.answer.There.TheVariants as there
+use Rattle.papaya_callers.specs.Given.RawDeclared.machines.asking.Gap.{Gap}
+use Rattle.papaya_callers.specs.Given.RawDeclared.machines.asking.Gap.TheVariants as gaps
+use Rattle.papaya_callers.specs.Given.RawDeclared.machines.call.KeyCall.{KeyCall}
+use Rattle.papaya_callers.specs.Given.RawDeclared.machines.call.Calling.{Calling}
+use Rattle.papaya_callers.specs.Given.RawDeclared.machines.call.Calling.TheVariants as at
+use Rattle.papaya_callers.specs.Given.ResizeDeclared.copier.Copier.{Copier}
+use Rattle.papaya_callers.specs.Given.ResizeDeclared.dispose.Dispose.{Dispose}
+use Rattle.papaya_callers.specs.Given.TablesDeclared.finding.Finding.{Finding}
+use Rattle.papaya_callers.specs.Given.TablesDeclared.finding.Finding.TheVariants as finds
+use Rattle.papaya_callers.specs.Given.ResizeDeclared.lookup.Lookup.{Lookup}
+use Rattle.papaya_callers.specs.Given.ResizeDeclared.new_table.NewTable.{NewTable}
+use Rattle.papaya_callers.proofs.Given.PointsCalls.Asked.{asking_so, asking_of_so, passed_so}
+use Rattle.papaya_callers.proofs.Given.RuleKeys.Always.{Always, AlwaysOf, always_if, always_plan_as, always_steps}
 use Rattle.papaya_alone.proofs.Asks.{asks_so}
 use Rattle.papaya_alone.specs.Counted.{counted_for, counted_end, counted_at}
 

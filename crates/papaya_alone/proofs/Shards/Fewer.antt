@@ -1,6 +1,6 @@
 -- Numbers that are told apart by what they lead to are no more than those that they lead to.
 use Rattle.std.proofs.Common.{◌≡◌, ℕ, zero, suc, ◌<◌, ◌≤◌, Bool, true, false, cond, eqb, eqb-true, refl, arith, sym, subst}
-use Rattle.papaya_callers.specs.Given.Rule.Rule.{total}
+use Rattle.papaya_callers.specs.Given.RuleRule.{total}
 use Rattle.papaya_alone.specs.Counting.{one_if}
 
 -- f without this one

@@ -2,27 +2,27 @@
 use Rattle.std.specs.Prelude.{◌==◌, if◌then◌else◌, nat_lt, IfSome}
 use Rattle.std.proofs.Common.{◌≡◌, ◌≢◌, ℕ, suc, ◌+◌, ◌-◌, ◌%◌, ◌^◌, ◌<◌, ◌≤◌, Bool, true, false, cond, Option, Some, None, inl, inr, refl, ap, sym, subst, ◌∙◌, arith}
 use Rattle.std.proofs.lemmas.Bool.{cases_eq, true≢false}
-use Rattle.papaya_callers.specs.Given.SeizeWords.Mem.{Mem, word_at}
-use Rattle.papaya_callers.specs.Given.SeizeWords.Word.{block_in}
-use Rattle.papaya_callers.specs.Given.Tables.Chunks.{is_incremental}
-use Rattle.papaya_callers.specs.Given.Tables.Lengths.{IsTableLen}
-use Rattle.papaya_callers.specs.Given.Tables.Probes.{place_at, probe_after}
-use Rattle.papaya_callers.specs.Given.Tables.TablePlaces.{at_place}
-use Rattle.papaya_callers.specs.Given.Tables.Trials.{with_met, next_trial}
-use Rattle.papaya_callers.specs.Given.Tables.declared.node.Node.{Node}
-use Rattle.papaya_callers.specs.Given.Tables.declared.resize_mode.ResizeMode.{ResizeMode}
-use Rattle.papaya_callers.specs.Given.Tables.declared.status.TheConstants.Status.{ABORTED}
-use Rattle.papaya_callers.specs.Given.Tables.declared.table.Table.{Table}
-use Rattle.papaya_callers.specs.Given.Tables.declared.trial.Trial.{Trial}
-use Rattle.papaya_callers.specs.Given.Raw.declared.machines.call.KeyCall.{KeyCall}
-use Rattle.papaya_callers.proofs.Given.Tables.Places.{has_distinct_places}
-use Rattle.papaya_callers.proofs.Given.Tables.TableLens.{go_by_the_counter}
-use Rattle.papaya_callers.specs.Given.Rule.Chart.{Phase, Copied, Place, Empty, Tombstone, Holds, Share, Chart, is_marked}
-use Rattle.papaya_callers.specs.Given.Rule.Rule.{IsLawful, Agrees, Rule, is_of}
-use Rattle.papaya_callers.specs.Given.Rule.Words.{Blocks, word_of, byte_of, place_word}
-use Rattle.papaya_callers.specs.Given.Rule.Maps.{spot_at, spot_of, IsMap, IsTable}
-use Rattle.papaya_callers.proofs.Given.Rule.Keys.TriesSeen.{spot_inside}
-use Rattle.papaya_callers.proofs.Given.Rule.Words.TablesSeen.{place_there}
+use Rattle.papaya_callers.specs.Given.SeizeWordsMem.{Mem, word_at}
+use Rattle.papaya_callers.specs.Given.SeizeWordsWord.{block_in}
+use Rattle.papaya_callers.specs.Given.TablesChunks.{is_incremental}
+use Rattle.papaya_callers.specs.Given.TablesLengths.{IsTableLen}
+use Rattle.papaya_callers.specs.Given.TablesProbes.{place_at, probe_after}
+use Rattle.papaya_callers.specs.Given.TablesTablePlaces.{at_place}
+use Rattle.papaya_callers.specs.Given.TablesTrials.{with_met, next_trial}
+use Rattle.papaya_callers.specs.Given.TablesDeclared.node.Node.{Node}
+use Rattle.papaya_callers.specs.Given.TablesDeclared.resize_mode.ResizeMode.{ResizeMode}
+use Rattle.papaya_callers.specs.Given.TablesDeclared.status.TheConstants.Status.{ABORTED}
+use Rattle.papaya_callers.specs.Given.TablesDeclared.table.Table.{Table}
+use Rattle.papaya_callers.specs.Given.TablesDeclared.trial.Trial.{Trial}
+use Rattle.papaya_callers.specs.Given.RawDeclared.machines.call.KeyCall.{KeyCall}
+use Rattle.papaya_callers.proofs.Given.TablesPlaces.{has_distinct_places}
+use Rattle.papaya_callers.proofs.Given.TablesTableLens.{go_by_the_counter}
+use Rattle.papaya_callers.specs.Given.RuleChart.{Phase, Copied, Place, Empty, Tombstone, Holds, Share, Chart, is_marked}
+use Rattle.papaya_callers.specs.Given.RuleRule.{IsLawful, Agrees, Rule, is_of}
+use Rattle.papaya_callers.specs.Given.RuleWords.{Blocks, word_of, byte_of, place_word}
+use Rattle.papaya_callers.specs.Given.RuleMaps.{spot_at, spot_of, IsMap, IsTable}
+use Rattle.papaya_callers.proofs.Given.RuleKeys.TriesSeen.{spot_inside}
+use Rattle.papaya_callers.proofs.Given.RuleWords.TablesSeen.{place_there}
 use Rattle.papaya_alone.specs.Counting.{one_if, pairs_in}
 use Rattle.papaya_alone.specs.Met.{has_pair, met_in, MetPairsAreFew, TriesMeetPairs, names_block, words_met, WordsSayWhatStands, MeetsNoMore, GoesByTheCounterAlone, IsAtTry}
 use Rattle.papaya_alone.proofs.Shards.Fewer.{no_more}

@@ -2,74 +2,74 @@
 use Rattle.std.specs.Prelude.{◌==◌, ◌-◌, ◌%◌, ◌^◌, nat_le, nat_lt, not, Option, Some, None, Result, Ok, Err, if◌then◌else◌, max}
 use Rattle.std.proofs.Common.{◌≡◌, ◌≢◌, ℕ, suc, ◌+◌, ◌≤◌, inl, inr, Bool, true, false, refl, ap, sym, subst, arith}
 use Rattle.std.proofs.lemmas.Bool.{ltb-true}
-use Rattle.papaya_callers.specs.Given.SeizeWords.declared.at.At.{At}
-use Rattle.papaya_callers.specs.Given.SeizeWords.declared.at.At.TheVariants as names
-use Rattle.papaya_callers.specs.Given.SeizeWords.declared.fault.Fault.{Fault}
-use Rattle.papaya_callers.specs.Given.SeizeWords.declared.fault.Fault.TheVariants.{Memory, Capacity}
-use Rattle.papaya_callers.specs.Given.SeizeWords.Mem.{Mem, value_at, word_at, Took}
-use Rattle.papaya_callers.specs.Given.SeizeWords.Op.{Out, Found, Stored, Exchanged, Made, Taken, Roomed}
-use Rattle.papaya_callers.specs.Given.SeizeWords.Plan.{Steps, plan_as}
-use Rattle.papaya_callers.specs.Given.SeizeWords.Word.{block_in}
-use Rattle.papaya_callers.proofs.Given.SeizeWords.OneOwner.Operations.{loaded, exchanged}
-use Rattle.papaya_callers.proofs.Given.SeizeRule.Rows.Leaving.{steps_back}
-use Rattle.papaya_callers.specs.Given.Seize.declared.progress.Progress.{Progress}
-use Rattle.papaya_callers.specs.Given.Seize.declared.progress.Progress.TheVariants as progress
-use Rattle.papaya_callers.specs.Given.Seize.declared.rows.settle.Settled.{Settled}
-use Rattle.papaya_callers.specs.Given.Seize.declared.rows.settle.Settled.TheVariants as settled
-use Rattle.papaya_callers.specs.Given.Tables.Chunks.{is_incremental}
-use Rattle.papaya_callers.specs.Given.Tables.Finding.{may_name}
-use Rattle.papaya_callers.specs.Given.Tables.Nodes.{table_seen}
-use Rattle.papaya_callers.specs.Given.Tables.Lengths.{next_len, next_limit, next_turn}
-use Rattle.papaya_callers.specs.Given.Tables.Probes.{probe_after}
-use Rattle.papaya_callers.specs.Given.Tables.TablePlaces.{at_place, at_word}
-use Rattle.papaya_callers.specs.Given.Tables.Trials.{place_tried, with_met}
-use Rattle.papaya_callers.specs.Given.Tables.declared.finding.Finding.{Finding}
-use Rattle.papaya_callers.specs.Given.Tables.declared.finding.Finding.TheVariants as finds
-use Rattle.papaya_callers.specs.Given.Tables.declared.lengths.Reason.{Reason}
-use Rattle.papaya_callers.specs.Given.Tables.declared.marks.TheConstants.{TOMBSTONE}
-use Rattle.papaya_callers.specs.Given.Tables.declared.node.Node.{Node}
-use Rattle.papaya_callers.specs.Given.Tables.declared.table.Table.{Table}
-use Rattle.papaya_callers.specs.Given.Tables.declared.table_words.TheConstants.{NEXT}
-use Rattle.papaya_callers.specs.Given.Resize.Copier.{copier_plan}
-use Rattle.papaya_callers.specs.Given.Resize.CopierStates.{copying_all, helping}
-use Rattle.papaya_callers.specs.Given.Resize.Dispose.{disposing, dispose_plan}
-use Rattle.papaya_callers.specs.Given.Resize.Lookup.{lookup_plan}
-use Rattle.papaya_callers.specs.Given.Resize.NewTable as making
-use Rattle.papaya_callers.specs.Given.Resize.NewTable.{new_table_plan}
-use Rattle.papaya_callers.specs.Given.Resize.Sum as summing
-use Rattle.papaya_callers.specs.Given.Resize.declared.copier.Copier.{Copier}
-use Rattle.papaya_callers.specs.Given.Resize.declared.dispose.Dispose.{Dispose}
-use Rattle.papaya_callers.specs.Given.Resize.declared.lookup.Lookup.{Lookup}
-use Rattle.papaya_callers.specs.Given.Resize.declared.new_table.NewTable.{NewTable}
-use Rattle.papaya_callers.specs.Given.Resize.declared.new_table.Making.{Making}
-use Rattle.papaya_callers.specs.Given.Resize.declared.new_table.Making.TheVariants as makes
-use Rattle.papaya_callers.specs.Given.Resize.declared.outcome.Outcome.{Outcome}
-use Rattle.papaya_callers.specs.Given.Resize.declared.outcome.Outcome.TheVariants as outcome
-use Rattle.papaya_callers.specs.Given.Resize.declared.sum.Sum.{Sum}
-use Rattle.papaya_callers.specs.Given.Resize.declared.sum.Summing.{Summing}
-use Rattle.papaya_callers.specs.Given.Resize.declared.sum.Summing.TheVariants as sums
-use Rattle.papaya_callers.specs.Given.Raw.Call.{made, makes_of, root_found, next_read, next_found, dropped, key_read, pair_read, word_read, word_found, tried, looked, looks_for, first_made, next_made, disposed, helped, copied, plan_at}
-use Rattle.papaya_callers.specs.Given.Raw.CallPoints.{going, standing, over, ending, tableless, at_free, following_made, asking_at, gap_by, at_last, at_pair, passed, halted, told_of, entering, went_on, changed, counted, having_met}
-use Rattle.papaya_callers.specs.Given.Raw.declared.machines.answer.Called.{Called}
-use Rattle.papaya_callers.specs.Given.Raw.declared.machines.answer.Called.TheVariants as called
-use Rattle.papaya_callers.specs.Given.Raw.declared.machines.answer.End.{End}
-use Rattle.papaya_callers.specs.Given.Raw.declared.machines.answer.End.TheVariants as ends
-use Rattle.papaya_callers.specs.Given.Raw.declared.machines.answer.KeyAnswer.{KeyAnswer}
-use Rattle.papaya_callers.specs.Given.Raw.declared.machines.answer.KeyAnswer.TheVariants as answers
-use Rattle.papaya_callers.specs.Given.Raw.declared.machines.answer.Missing.{Missing}
-use Rattle.papaya_callers.specs.Given.Raw.declared.machines.answer.Missing.TheVariants as missing
-use Rattle.papaya_callers.specs.Given.Raw.declared.machines.answer.There.{There}
-use Rattle.papaya_callers.specs.Given.Raw.declared.machines.answer.There.TheVariants as there
-use Rattle.papaya_callers.specs.Given.Raw.declared.machines.asking.Asking.{Asking}
-use Rattle.papaya_callers.specs.Given.Raw.declared.machines.asking.Gap.TheVariants as gaps
-use Rattle.papaya_callers.specs.Given.Raw.declared.machines.asking.Told.{Told}
-use Rattle.papaya_callers.specs.Given.Raw.declared.machines.asking.Told.TheVariants as tells
-use Rattle.papaya_callers.specs.Given.Raw.declared.machines.call.KeyCall.{KeyCall}
-use Rattle.papaya_callers.specs.Given.Raw.declared.machines.call.Calling.{Calling}
-use Rattle.papaya_callers.specs.Given.Raw.declared.machines.call.Calling.TheVariants as at
-use Rattle.papaya_callers.proofs.Given.Points.Calls.Asked.{asking_so, asking_of_so, beyond_so}
-use Rattle.papaya_callers.specs.Given.Rule.Maps.{spot_at}
-use Rattle.papaya_callers.proofs.Given.Rule.Keys.Always.{Always, AlwaysOf, always_if, always_ends, always_plan_as, always_steps}
+use Rattle.papaya_callers.specs.Given.SeizeWordsDeclared.at.At.{At}
+use Rattle.papaya_callers.specs.Given.SeizeWordsDeclared.at.At.TheVariants as names
+use Rattle.papaya_callers.specs.Given.SeizeWordsDeclared.fault.Fault.{Fault}
+use Rattle.papaya_callers.specs.Given.SeizeWordsDeclared.fault.Fault.TheVariants.{Memory, Capacity}
+use Rattle.papaya_callers.specs.Given.SeizeWordsMem.{Mem, value_at, word_at, Took}
+use Rattle.papaya_callers.specs.Given.SeizeWordsOp.{Out, Found, Stored, Exchanged, Made, Taken, Roomed}
+use Rattle.papaya_callers.specs.Given.SeizeWordsPlan.{Steps, plan_as}
+use Rattle.papaya_callers.specs.Given.SeizeWordsWord.{block_in}
+use Rattle.papaya_callers.proofs.Given.SeizeWordsOneOwner.Operations.{loaded, exchanged}
+use Rattle.papaya_callers.proofs.Given.SeizeRuleRows.Leaving.{steps_back}
+use Rattle.papaya_callers.specs.Given.SeizeDeclared.progress.Progress.{Progress}
+use Rattle.papaya_callers.specs.Given.SeizeDeclared.progress.Progress.TheVariants as progress
+use Rattle.papaya_callers.specs.Given.SeizeDeclared.rows.settle.Settled.{Settled}
+use Rattle.papaya_callers.specs.Given.SeizeDeclared.rows.settle.Settled.TheVariants as settled
+use Rattle.papaya_callers.specs.Given.TablesChunks.{is_incremental}
+use Rattle.papaya_callers.specs.Given.TablesFinding.{may_name}
+use Rattle.papaya_callers.specs.Given.TablesNodes.{table_seen}
+use Rattle.papaya_callers.specs.Given.TablesLengths.{next_len, next_limit, next_turn}
+use Rattle.papaya_callers.specs.Given.TablesProbes.{probe_after}
+use Rattle.papaya_callers.specs.Given.TablesTablePlaces.{at_place, at_word}
+use Rattle.papaya_callers.specs.Given.TablesTrials.{place_tried, with_met}
+use Rattle.papaya_callers.specs.Given.TablesDeclared.finding.Finding.{Finding}
+use Rattle.papaya_callers.specs.Given.TablesDeclared.finding.Finding.TheVariants as finds
+use Rattle.papaya_callers.specs.Given.TablesDeclared.lengths.Reason.{Reason}
+use Rattle.papaya_callers.specs.Given.TablesDeclared.marks.TheConstants.{TOMBSTONE}
+use Rattle.papaya_callers.specs.Given.TablesDeclared.node.Node.{Node}
+use Rattle.papaya_callers.specs.Given.TablesDeclared.table.Table.{Table}
+use Rattle.papaya_callers.specs.Given.TablesDeclared.table_words.TheConstants.{NEXT}
+use Rattle.papaya_callers.specs.Given.ResizeCopier.{copier_plan}
+use Rattle.papaya_callers.specs.Given.ResizeCopierStates.{copying_all, helping}
+use Rattle.papaya_callers.specs.Given.ResizeDispose.{disposing, dispose_plan}
+use Rattle.papaya_callers.specs.Given.ResizeLookup.{lookup_plan}
+use Rattle.papaya_callers.specs.Given.ResizeNewTable as making
+use Rattle.papaya_callers.specs.Given.ResizeNewTable.{new_table_plan}
+use Rattle.papaya_callers.specs.Given.ResizeSum as summing
+use Rattle.papaya_callers.specs.Given.ResizeDeclared.copier.Copier.{Copier}
+use Rattle.papaya_callers.specs.Given.ResizeDeclared.dispose.Dispose.{Dispose}
+use Rattle.papaya_callers.specs.Given.ResizeDeclared.lookup.Lookup.{Lookup}
+use Rattle.papaya_callers.specs.Given.ResizeDeclared.new_table.NewTable.{NewTable}
+use Rattle.papaya_callers.specs.Given.ResizeDeclared.new_table.Making.{Making}
+use Rattle.papaya_callers.specs.Given.ResizeDeclared.new_table.Making.TheVariants as makes
+use Rattle.papaya_callers.specs.Given.ResizeDeclared.outcome.Outcome.{Outcome}
+use Rattle.papaya_callers.specs.Given.ResizeDeclared.outcome.Outcome.TheVariants as outcome
+use Rattle.papaya_callers.specs.Given.ResizeDeclared.sum.Sum.{Sum}
+use Rattle.papaya_callers.specs.Given.ResizeDeclared.sum.Summing.{Summing}
+use Rattle.papaya_callers.specs.Given.ResizeDeclared.sum.Summing.TheVariants as sums
+use Rattle.papaya_callers.specs.Given.RawCall.{made, makes_of, root_found, next_read, next_found, dropped, key_read, pair_read, word_read, word_found, tried, looked, looks_for, first_made, next_made, disposed, helped, copied, plan_at}
+use Rattle.papaya_callers.specs.Given.RawCallPoints.{going, standing, over, ending, tableless, at_free, following_made, asking_at, gap_by, at_last, at_pair, passed, halted, told_of, entering, went_on, changed, counted, having_met}
+use Rattle.papaya_callers.specs.Given.RawDeclared.machines.answer.Called.{Called}
+use Rattle.papaya_callers.specs.Given.RawDeclared.machines.answer.Called.TheVariants as called
+use Rattle.papaya_callers.specs.Given.RawDeclared.machines.answer.End.{End}
+use Rattle.papaya_callers.specs.Given.RawDeclared.machines.answer.End.TheVariants as ends
+use Rattle.papaya_callers.specs.Given.RawDeclared.machines.answer.KeyAnswer.{KeyAnswer}
+use Rattle.papaya_callers.specs.Given.RawDeclared.machines.answer.KeyAnswer.TheVariants as answers
+use Rattle.papaya_callers.specs.Given.RawDeclared.machines.answer.Missing.{Missing}
+use Rattle.papaya_callers.specs.Given.RawDeclared.machines.answer.Missing.TheVariants as missing
+use Rattle.papaya_callers.specs.Given.RawDeclared.machines.answer.There.{There}
+use Rattle.papaya_callers.specs.Given.RawDeclared.machines.answer.There.TheVariants as there
+use Rattle.papaya_callers.specs.Given.RawDeclared.machines.asking.Asking.{Asking}
+use Rattle.papaya_callers.specs.Given.RawDeclared.machines.asking.Gap.TheVariants as gaps
+use Rattle.papaya_callers.specs.Given.RawDeclared.machines.asking.Told.{Told}
+use Rattle.papaya_callers.specs.Given.RawDeclared.machines.asking.Told.TheVariants as tells
+use Rattle.papaya_callers.specs.Given.RawDeclared.machines.call.KeyCall.{KeyCall}
+use Rattle.papaya_callers.specs.Given.RawDeclared.machines.call.Calling.{Calling}
+use Rattle.papaya_callers.specs.Given.RawDeclared.machines.call.Calling.TheVariants as at
+use Rattle.papaya_callers.proofs.Given.PointsCalls.Asked.{asking_so, asking_of_so, beyond_so}
+use Rattle.papaya_callers.specs.Given.RuleMaps.{spot_at}
+use Rattle.papaya_callers.proofs.Given.RuleKeys.Always.{Always, AlwaysOf, always_if, always_ends, always_plan_as, always_steps}
 use Rattle.papaya_alone.specs.Counting.{one_if}
 use Rattle.papaya_alone.specs.Met.{names_block, words_met, IsTrying, HasMet, MetMaking, MetAt, CallsMeetPairs}
 use Rattle.papaya_alone.proofs.Shards.Met.{AtSpot, at_spot_of}

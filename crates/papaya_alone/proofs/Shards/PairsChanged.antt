@@ -2,21 +2,21 @@
 use Rattle.std.specs.Prelude.{◌-◌}
 use Rattle.std.proofs.Common.{◌≡◌, ◌≢◌, ℕ, suc, ◌+◌, ◌%◌, ◌^◌, ◌<◌, ◌≤◌, ◌⊎◌, Bool, true, false, cond, inl, inr, refl, ap, sym, subst, ◌∙◌, arith, Some}
 use Rattle.std.proofs.lemmas.Bool.{cases_lt, eq-eqb, ne_eqb}
-use Rattle.papaya_callers.specs.Given.SeizeWords.Mem.{Mem}
-use Rattle.papaya_callers.specs.Given.Seize.World.{World}
-use Rattle.papaya_callers.specs.Given.Tables.Chunks.{is_incremental}
-use Rattle.papaya_callers.specs.Given.Tables.declared.node.Node.{Node}
-use Rattle.papaya_callers.specs.Given.Tables.declared.setting.Setting.{Setting}
-use Rattle.papaya_callers.specs.Given.Raw.declared.machines.answer.KeyAnswer.{KeyAnswer}
-use Rattle.papaya_callers.specs.Given.Raw.declared.machines.answer.KeyAnswer.TheVariants as answers
-use Rattle.papaya_callers.specs.Given.Rule.Chart.{Chart, put}
-use Rattle.papaya_callers.specs.Given.Rule.Rule.{Rule, total}
-use Rattle.papaya_callers.specs.Given.Rule.Words.{Blocks}
-use Rattle.papaya_callers.specs.Given.Rule.Maps.{spot_of}
-use Rattle.papaya_callers.specs.Given.Rule.InWorld.{IsMapIn}
-use Rattle.papaya_callers.specs.Given.Points.FactsCalls.{Change, Unchanged, Stored, Replaced, Removed, AnswersOf, Tells, Changes}
-use Rattle.papaya_callers.proofs.Given.Rule.World.Hands.{current_known}
-use Rattle.papaya_callers.proofs.Given.Rule.Moves.Totals.{total_same}
+use Rattle.papaya_callers.specs.Given.SeizeWordsMem.{Mem}
+use Rattle.papaya_callers.specs.Given.SeizeWorld.{World}
+use Rattle.papaya_callers.specs.Given.TablesChunks.{is_incremental}
+use Rattle.papaya_callers.specs.Given.TablesDeclared.node.Node.{Node}
+use Rattle.papaya_callers.specs.Given.TablesDeclared.setting.Setting.{Setting}
+use Rattle.papaya_callers.specs.Given.RawDeclared.machines.answer.KeyAnswer.{KeyAnswer}
+use Rattle.papaya_callers.specs.Given.RawDeclared.machines.answer.KeyAnswer.TheVariants as answers
+use Rattle.papaya_callers.specs.Given.RuleChart.{Chart, put}
+use Rattle.papaya_callers.specs.Given.RuleRule.{Rule, total}
+use Rattle.papaya_callers.specs.Given.RuleWords.{Blocks}
+use Rattle.papaya_callers.specs.Given.RuleMaps.{spot_of}
+use Rattle.papaya_callers.specs.Given.RuleInWorld.{IsMapIn}
+use Rattle.papaya_callers.specs.Given.PointsFactsCalls.{Change, Unchanged, Stored, Replaced, Removed, AnswersOf, Tells, Changes}
+use Rattle.papaya_callers.proofs.Given.RuleWorld.Hands.{current_known}
+use Rattle.papaya_callers.proofs.Given.RuleMoves.Totals.{total_same}
 use Rattle.papaya_alone.specs.Counting.{one_if, pairs_in, shards_sum, IsCounted}
 use Rattle.papaya_alone.specs.Counted.{HasAdded, counted_for}
 use Rattle.papaya_alone.specs.Alone.{HasChanged}

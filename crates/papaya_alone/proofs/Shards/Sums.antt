@@ -3,14 +3,14 @@ use Rattle.std.specs.Prelude.{◌==◌, ◌&&◌, bit_and}
 use Rattle.std.proofs.Common.{◌≡◌, ◌≢◌, ℕ, zero, suc, ◌+◌, ◌%◌, ◌^◌, ◌<◌, ◌≤◌, Bool, true, false, cond, inl, inr, refl, ap, sym, subst, ◌∙◌, arith, Option, Some}
 use Rattle.std.proofs.lemmas.Bool.{cases_lt, cases_eq, eq-eqb, ne_eqb}
 use Rattle.std.proofs.lemmas.Nat.{and_le_r}
-use Rattle.papaya_callers.specs.Given.SeizeWords.declared.at.At.{At}
-use Rattle.papaya_callers.specs.Given.SeizeWords.declared.at.At.TheVariants.{Word}
-use Rattle.papaya_callers.specs.Given.SeizeWords.Mem.{Mem, same_at, word_at, with_word}
-use Rattle.papaya_callers.proofs.Given.SeizeWords.OneOwner.AfterWrites.{word_at-with_word}
-use Rattle.papaya_callers.specs.Given.Tables.declared.setting.Setting.{Setting}
-use Rattle.papaya_callers.specs.Given.Rule.Rule.{total}
-use Rattle.papaya_callers.proofs.Given.Rule.Moves.Totals.{total_same}
-use Rattle.papaya_callers.proofs.Given.Rule.Words.WritesWords.{is_some_of}
+use Rattle.papaya_callers.specs.Given.SeizeWordsDeclared.at.At.{At}
+use Rattle.papaya_callers.specs.Given.SeizeWordsDeclared.at.At.TheVariants.{Word}
+use Rattle.papaya_callers.specs.Given.SeizeWordsMem.{Mem, same_at, word_at, with_word}
+use Rattle.papaya_callers.proofs.Given.SeizeWordsOneOwner.AfterWrites.{word_at-with_word}
+use Rattle.papaya_callers.specs.Given.TablesDeclared.setting.Setting.{Setting}
+use Rattle.papaya_callers.specs.Given.RuleRule.{total}
+use Rattle.papaya_callers.proofs.Given.RuleMoves.Totals.{total_same}
+use Rattle.papaya_callers.proofs.Given.RuleWords.WritesWords.{is_some_of}
 use Rattle.papaya_alone.specs.Counting.{number_in, shards_sum}
 use Rattle.papaya_alone.specs.Counted.{HasAdded}
 

@@ -3,43 +3,43 @@
 use Rattle.std.specs.Prelude.{◌≡◌, ℕ, suc, ◌==◌, ◌&&◌, ◌+◌, ◌/◌, ◌<◌, Bool, true, false, Some}
 use Rattle.std.proofs.Common.{refl, ap, sym, subst, arith}
 use Rattle.std.proofs.lemmas.Bool.{ne_eqb}
-use Rattle.papaya_callers.specs.Given.SeizeWords.declared.at.At.{At}
-use Rattle.papaya_callers.specs.Given.SeizeWords.declared.at.At.TheVariants.{Root, Used, Slot, Entry, Word}
-use Rattle.papaya_callers.specs.Given.SeizeWords.Mem.{same_at, value_at}
-use Rattle.papaya_callers.specs.Given.Seize.World.{World, Making}
-use Rattle.papaya_callers.specs.Given.Resize.Sum.{sum_plan, plan_at as sum_at}
-use Rattle.papaya_callers.specs.Given.Resize.NewTable.{counted, new_table_plan, plan_at as making_at}
-use Rattle.papaya_callers.specs.Given.Resize.Copier.{copier_plan, plan_at as copying_at}
-use Rattle.papaya_callers.specs.Given.Resize.CopierFurther.{remade}
-use Rattle.papaya_callers.specs.Given.Resize.Lookup.{lookup_plan, plan_at as looking_at}
-use Rattle.papaya_callers.specs.Given.Tables.TablePlaces.{at_word, at_place}
-use Rattle.papaya_callers.specs.Given.Tables.declared.node.Node.{Node}
-use Rattle.papaya_callers.specs.Given.Tables.declared.node.Node.TheVariants as node
-use Rattle.papaya_callers.specs.Given.Tables.declared.setting.Setting.{Setting}
-use Rattle.papaya_callers.specs.Given.Tables.declared.table.Table.{Table}
-use Rattle.papaya_callers.specs.Given.Tables.declared.table_words.TheConstants.{NEXT, CLAIM, COPIED, STATUS, PLACES}
-use Rattle.papaya_callers.specs.Given.Resize.declared.sum.Sum.{Sum}
-use Rattle.papaya_callers.specs.Given.Resize.declared.sum.Summing.{Summing}
-use Rattle.papaya_callers.specs.Given.Resize.declared.sum.Summing.TheVariants as sums
-use Rattle.papaya_callers.specs.Given.Resize.declared.lookup.Lookup.{Lookup}
-use Rattle.papaya_callers.specs.Given.Resize.declared.lookup.Looking.{Looking}
-use Rattle.papaya_callers.specs.Given.Resize.declared.lookup.Looking.TheVariants as looks
-use Rattle.papaya_callers.specs.Given.Resize.declared.new_table.NewTable.{NewTable}
-use Rattle.papaya_callers.specs.Given.Resize.declared.new_table.Making.{Making as Point}
-use Rattle.papaya_callers.specs.Given.Resize.declared.new_table.Making.TheVariants as makes
-use Rattle.papaya_callers.specs.Given.Resize.declared.copier.Copier.{Copier}
-use Rattle.papaya_callers.specs.Given.Resize.declared.copier.Copying.{Copying}
-use Rattle.papaya_callers.specs.Given.Resize.declared.copier.Copying.TheVariants as copies
-use Rattle.papaya_callers.specs.Given.Rule.Chart.{Chart}
-use Rattle.papaya_callers.specs.Given.Rule.Words.{Blocks}
-use Rattle.papaya_callers.specs.Given.Rule.Maps.{IsTable}
-use Rattle.papaya_callers.specs.Given.Rule.InWorld.{IsMapIn}
-use Rattle.papaya_callers.specs.Given.Points.FactsTables.{IsOwnTable, NewTableFacts, MakingFacts}
-use Rattle.papaya_callers.specs.Given.Points.FactsCopiesBlocking.{CopyingFactsBlocking}
-use Rattle.papaya_callers.specs.Given.Points.Told.{IsRowOfCopier}
-use Rattle.papaya_callers.proofs.Given.Rule.Words.TablesSeen.{word_stands, place_stands}
-use Rattle.papaya_callers.proofs.Given.Rule.Keys.TriesSeen.{spot_inside}
-use Rattle.papaya_callers.proofs.Given.Rule.Spared.{IsFixed, IsBeside, PlanSpares, spares_as}
+use Rattle.papaya_callers.specs.Given.SeizeWordsDeclared.at.At.{At}
+use Rattle.papaya_callers.specs.Given.SeizeWordsDeclared.at.At.TheVariants.{Root, Used, Slot, Entry, Word}
+use Rattle.papaya_callers.specs.Given.SeizeWordsMem.{same_at, value_at}
+use Rattle.papaya_callers.specs.Given.SeizeWorld.{World, Making}
+use Rattle.papaya_callers.specs.Given.ResizeSum.{sum_plan, plan_at as sum_at}
+use Rattle.papaya_callers.specs.Given.ResizeNewTable.{counted, new_table_plan, plan_at as making_at}
+use Rattle.papaya_callers.specs.Given.ResizeCopier.{copier_plan, plan_at as copying_at}
+use Rattle.papaya_callers.specs.Given.ResizeCopierFurther.{remade}
+use Rattle.papaya_callers.specs.Given.ResizeLookup.{lookup_plan, plan_at as looking_at}
+use Rattle.papaya_callers.specs.Given.TablesTablePlaces.{at_word, at_place}
+use Rattle.papaya_callers.specs.Given.TablesDeclared.node.Node.{Node}
+use Rattle.papaya_callers.specs.Given.TablesDeclared.node.Node.TheVariants as node
+use Rattle.papaya_callers.specs.Given.TablesDeclared.setting.Setting.{Setting}
+use Rattle.papaya_callers.specs.Given.TablesDeclared.table.Table.{Table}
+use Rattle.papaya_callers.specs.Given.TablesDeclared.table_words.TheConstants.{NEXT, CLAIM, COPIED, STATUS, PLACES}
+use Rattle.papaya_callers.specs.Given.ResizeDeclared.sum.Sum.{Sum}
+use Rattle.papaya_callers.specs.Given.ResizeDeclared.sum.Summing.{Summing}
+use Rattle.papaya_callers.specs.Given.ResizeDeclared.sum.Summing.TheVariants as sums
+use Rattle.papaya_callers.specs.Given.ResizeDeclared.lookup.Lookup.{Lookup}
+use Rattle.papaya_callers.specs.Given.ResizeDeclared.lookup.Looking.{Looking}
+use Rattle.papaya_callers.specs.Given.ResizeDeclared.lookup.Looking.TheVariants as looks
+use Rattle.papaya_callers.specs.Given.ResizeDeclared.new_table.NewTable.{NewTable}
+use Rattle.papaya_callers.specs.Given.ResizeDeclared.new_table.Making.{Making as Point}
+use Rattle.papaya_callers.specs.Given.ResizeDeclared.new_table.Making.TheVariants as makes
+use Rattle.papaya_callers.specs.Given.ResizeDeclared.copier.Copier.{Copier}
+use Rattle.papaya_callers.specs.Given.ResizeDeclared.copier.Copying.{Copying}
+use Rattle.papaya_callers.specs.Given.ResizeDeclared.copier.Copying.TheVariants as copies
+use Rattle.papaya_callers.specs.Given.RuleChart.{Chart}
+use Rattle.papaya_callers.specs.Given.RuleWords.{Blocks}
+use Rattle.papaya_callers.specs.Given.RuleMaps.{IsTable}
+use Rattle.papaya_callers.specs.Given.RuleInWorld.{IsMapIn}
+use Rattle.papaya_callers.specs.Given.PointsFactsTables.{IsOwnTable, NewTableFacts, MakingFacts}
+use Rattle.papaya_callers.specs.Given.PointsFactsCopiesBlocking.{CopyingFactsBlocking}
+use Rattle.papaya_callers.specs.Given.PointsTold.{IsRowOfCopier}
+use Rattle.papaya_callers.proofs.Given.RuleWords.TablesSeen.{word_stands, place_stands}
+use Rattle.papaya_callers.proofs.Given.RuleKeys.TriesSeen.{spot_inside}
+use Rattle.papaya_callers.proofs.Given.RuleSpared.{IsFixed, IsBeside, PlanSpares, spares_as}
 
 module _ {K V : Type 0} (same : K → K → Bool) (hash : K → ℕ) (w : World (Node K V)) (caller : ℕ) (setting : Setting) (c : Chart K) (blocks : Blocks) (x : At) where
   -- it is no word of a table but the link to the next one, and none of a block of the caller's own, which is no counter

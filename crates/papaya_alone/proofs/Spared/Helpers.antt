@@ -1,29 +1,29 @@
 -- Which words a copier leaves as they are, in incremental mode: no other ones than in blocking mode.
 use Rattle.std.specs.Prelude.{◌≡◌, ℕ, suc, ◌<◌, Bool, true, false}
 use Rattle.std.proofs.Common.{sym, subst, arith}
-use Rattle.papaya_callers.specs.Given.SeizeWords.declared.at.At.{At}
-use Rattle.papaya_callers.specs.Given.SeizeWords.declared.at.At.TheVariants.{Root, Word}
-use Rattle.papaya_callers.specs.Given.SeizeWords.Mem.{same_at}
-use Rattle.papaya_callers.specs.Given.Seize.World.{World}
-use Rattle.papaya_callers.specs.Given.Resize.NewTable.{new_table_plan}
-use Rattle.papaya_callers.specs.Given.Resize.Copier.{copier_plan, plan_at}
-use Rattle.papaya_callers.specs.Given.Resize.CopierFurther.{grown}
-use Rattle.papaya_callers.specs.Given.Tables.TablePlaces.{at_word, at_place}
-use Rattle.papaya_callers.specs.Given.Tables.declared.node.Node.{Node}
-use Rattle.papaya_callers.specs.Given.Tables.declared.setting.Setting.{Setting}
-use Rattle.papaya_callers.specs.Given.Tables.declared.table.Table.{Table}
-use Rattle.papaya_callers.specs.Given.Tables.declared.table_words.TheConstants.{NEXT, CLAIM, COPIED, STATUS}
-use Rattle.papaya_callers.specs.Given.Resize.declared.copier.Copier.{Copier}
-use Rattle.papaya_callers.specs.Given.Resize.declared.copier.Copying.{Copying}
-use Rattle.papaya_callers.specs.Given.Resize.declared.copier.Copying.TheVariants as copies
-use Rattle.papaya_callers.specs.Given.Rule.Chart.{Chart}
-use Rattle.papaya_callers.specs.Given.Rule.Words.{Blocks}
-use Rattle.papaya_callers.specs.Given.Rule.Maps.{IsTable}
-use Rattle.papaya_callers.specs.Given.Rule.InWorld.{IsMapIn}
-use Rattle.papaya_callers.specs.Given.Points.FactsCopies.{CopyingFacts}
-use Rattle.papaya_callers.specs.Given.Points.Told.{IsRowOfCopier}
-use Rattle.papaya_callers.proofs.Given.Rule.Keys.TriesSeen.{spot_inside}
-use Rattle.papaya_callers.proofs.Given.Rule.Spared.{PlanSpares, spares_as}
+use Rattle.papaya_callers.specs.Given.SeizeWordsDeclared.at.At.{At}
+use Rattle.papaya_callers.specs.Given.SeizeWordsDeclared.at.At.TheVariants.{Root, Word}
+use Rattle.papaya_callers.specs.Given.SeizeWordsMem.{same_at}
+use Rattle.papaya_callers.specs.Given.SeizeWorld.{World}
+use Rattle.papaya_callers.specs.Given.ResizeNewTable.{new_table_plan}
+use Rattle.papaya_callers.specs.Given.ResizeCopier.{copier_plan, plan_at}
+use Rattle.papaya_callers.specs.Given.ResizeCopierFurther.{grown}
+use Rattle.papaya_callers.specs.Given.TablesTablePlaces.{at_word, at_place}
+use Rattle.papaya_callers.specs.Given.TablesDeclared.node.Node.{Node}
+use Rattle.papaya_callers.specs.Given.TablesDeclared.setting.Setting.{Setting}
+use Rattle.papaya_callers.specs.Given.TablesDeclared.table.Table.{Table}
+use Rattle.papaya_callers.specs.Given.TablesDeclared.table_words.TheConstants.{NEXT, CLAIM, COPIED, STATUS}
+use Rattle.papaya_callers.specs.Given.ResizeDeclared.copier.Copier.{Copier}
+use Rattle.papaya_callers.specs.Given.ResizeDeclared.copier.Copying.{Copying}
+use Rattle.papaya_callers.specs.Given.ResizeDeclared.copier.Copying.TheVariants as copies
+use Rattle.papaya_callers.specs.Given.RuleChart.{Chart}
+use Rattle.papaya_callers.specs.Given.RuleWords.{Blocks}
+use Rattle.papaya_callers.specs.Given.RuleMaps.{IsTable}
+use Rattle.papaya_callers.specs.Given.RuleInWorld.{IsMapIn}
+use Rattle.papaya_callers.specs.Given.PointsFactsCopies.{CopyingFacts}
+use Rattle.papaya_callers.specs.Given.PointsTold.{IsRowOfCopier}
+use Rattle.papaya_callers.proofs.Given.RuleKeys.TriesSeen.{spot_inside}
+use Rattle.papaya_callers.proofs.Given.RuleSpared.{PlanSpares, spares_as}
 use Rattle.papaya_alone.proofs.Spared.Calls.{IsApart, in_table, in_place, new_table_spares}
 
 module _ {K V : Type 0} (same : K → K → Bool) (hash : K → ℕ) (w : World (Node K V)) (caller : ℕ) (setting : Setting) (c : Chart K) (blocks : Blocks) (x : At)

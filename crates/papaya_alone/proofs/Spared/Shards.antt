@@ -2,19 +2,19 @@
 use Rattle.std.specs.Prelude.{◌≡◌, ◌≢◌, ℕ, suc, ◌==◌, ◌&&◌, ◌<◌, Bool, true, false}
 use Rattle.std.proofs.Common.{ap, sym, ◌∙◌, arith}
 use Rattle.std.proofs.lemmas.Bool.{ne_eqb}
-use Rattle.papaya_callers.specs.Given.SeizeWords.declared.at.At.TheVariants.{Word}
-use Rattle.papaya_callers.specs.Given.SeizeWords.Mem.{Mem, Can, Took, same_at, value_at, word_at}
-use Rattle.papaya_callers.specs.Given.SeizeWords.Plan.{Plan, May, Steps}
-use Rattle.papaya_callers.specs.Given.Seize.World.{World}
-use Rattle.papaya_callers.specs.Given.Tables.declared.node.Node.{Node}
-use Rattle.papaya_callers.specs.Given.Tables.declared.setting.Setting.{Setting}
-use Rattle.papaya_callers.specs.Given.Tables.declared.table_words.TheConstants.{NEXT}
-use Rattle.papaya_callers.specs.Given.Rule.Chart.{Chart}
-use Rattle.papaya_callers.specs.Given.Rule.Words.{Blocks}
-use Rattle.papaya_callers.specs.Given.Rule.InWorld.{IsMapIn}
+use Rattle.papaya_callers.specs.Given.SeizeWordsDeclared.at.At.TheVariants.{Word}
+use Rattle.papaya_callers.specs.Given.SeizeWordsMem.{Mem, Can, Took, same_at, value_at, word_at}
+use Rattle.papaya_callers.specs.Given.SeizeWordsPlan.{Plan, May, Steps}
+use Rattle.papaya_callers.specs.Given.SeizeWorld.{World}
+use Rattle.papaya_callers.specs.Given.TablesDeclared.node.Node.{Node}
+use Rattle.papaya_callers.specs.Given.TablesDeclared.setting.Setting.{Setting}
+use Rattle.papaya_callers.specs.Given.TablesDeclared.table_words.TheConstants.{NEXT}
+use Rattle.papaya_callers.specs.Given.RuleChart.{Chart}
+use Rattle.papaya_callers.specs.Given.RuleWords.{Blocks}
+use Rattle.papaya_callers.specs.Given.RuleInWorld.{IsMapIn}
 use Rattle.papaya_alone.specs.Counting.{shards_sum}
 use Rattle.papaya_alone.proofs.Shards.Sums.{shards_words}
-use Rattle.papaya_callers.proofs.Given.Rule.Spared.{PlanSpares, step_spares}
+use Rattle.papaya_callers.proofs.Given.RuleSpared.{PlanSpares, step_spares}
 use Rattle.papaya_alone.proofs.Spared.Calls.{IsApart}
 
 module _ {K V : Type 0} (same : K → K → Bool) (hash : K → ℕ) (w : World (Node K V)) (setting : Setting) (c : Chart K) (blocks : Blocks) (map : IsMapIn same hash setting w c blocks) where

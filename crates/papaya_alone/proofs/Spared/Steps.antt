@@ -1,37 +1,37 @@
 -- A step of a call before it has changed its map leaves the shards of the counter.
 use Rattle.std.specs.Prelude.{◌≡◌, ◌≢◌, ℕ, suc, ◌<◌, ◌==◌, Bool, true, false, Option, Some, None}
 use Rattle.std.proofs.Common.{refl, sym, subst, inl, inr, arith}
-use Rattle.papaya_callers.specs.Given.SeizeWords.declared.at.At.{At}
-use Rattle.papaya_callers.specs.Given.SeizeWords.declared.at.At.TheVariants.{Root, Word}
-use Rattle.papaya_callers.specs.Given.SeizeWords.Mem.{Mem, Can, Took, same_at, value_at}
-use Rattle.papaya_callers.specs.Given.SeizeWords.Plan.{May, Steps}
-use Rattle.papaya_callers.specs.Given.SeizeWords.Word.{block_in}
-use Rattle.papaya_callers.specs.Given.Seize.World.{World}
-use Rattle.papaya_callers.specs.Given.Raw.Call.{call_plan, plan_at, makes_of, looks_for, looked, first_made, next_made, copied, helped}
-use Rattle.papaya_callers.specs.Given.Resize.NewTable.{new_table_plan}
-use Rattle.papaya_callers.specs.Given.Resize.Lookup.{lookup_plan}
-use Rattle.papaya_callers.specs.Given.Resize.Copier.{copier_plan}
-use Rattle.papaya_callers.specs.Given.Tables.declared.node.Node.{Node}
-use Rattle.papaya_callers.specs.Given.Tables.declared.setting.Setting.{Setting}
-use Rattle.papaya_callers.specs.Given.Tables.declared.table_words.TheConstants.{NEXT}
-use Rattle.papaya_callers.specs.Given.Raw.CallFills.{putting_by, fill_by, fills_with}
-use Rattle.papaya_callers.specs.Given.Raw.Replies.{value_for, as_own}
-use Rattle.papaya_callers.specs.Given.Raw.declared.machines.answer.Called.{Called}
-use Rattle.papaya_callers.specs.Given.Raw.declared.machines.asking.Asking.{Asking}
-use Rattle.papaya_callers.specs.Given.Raw.declared.machines.asking.Asking.TheVariants as asking
-use Rattle.papaya_callers.specs.Given.Raw.declared.machines.call.KeyCall.{KeyCall}
-use Rattle.papaya_callers.specs.Given.Raw.declared.machines.call.Calling.{Calling}
-use Rattle.papaya_callers.specs.Given.Raw.declared.machines.call.Calling.TheVariants as at
-use Rattle.papaya_callers.specs.Given.Rule.Chart.{Chart}
-use Rattle.papaya_callers.specs.Given.Rule.Words.{Blocks}
-use Rattle.papaya_callers.specs.Given.Rule.InWorld.{IsMapIn}
-use Rattle.papaya_callers.specs.Given.Points.FactsCalls.{Change, Holding, ByReply, HasOwn, Seeks, CallingFacts, CallFacts}
-use Rattle.papaya_callers.specs.Given.Points.Told.{IsRowOfCall}
-use Rattle.papaya_callers.proofs.Given.Points.Calls.Probes.{own_block}
-use Rattle.papaya_callers.proofs.Given.Rule.Keys.TriesSeen.{spot_inside}
+use Rattle.papaya_callers.specs.Given.SeizeWordsDeclared.at.At.{At}
+use Rattle.papaya_callers.specs.Given.SeizeWordsDeclared.at.At.TheVariants.{Root, Word}
+use Rattle.papaya_callers.specs.Given.SeizeWordsMem.{Mem, Can, Took, same_at, value_at}
+use Rattle.papaya_callers.specs.Given.SeizeWordsPlan.{May, Steps}
+use Rattle.papaya_callers.specs.Given.SeizeWordsWord.{block_in}
+use Rattle.papaya_callers.specs.Given.SeizeWorld.{World}
+use Rattle.papaya_callers.specs.Given.RawCall.{call_plan, plan_at, makes_of, looks_for, looked, first_made, next_made, copied, helped}
+use Rattle.papaya_callers.specs.Given.ResizeNewTable.{new_table_plan}
+use Rattle.papaya_callers.specs.Given.ResizeLookup.{lookup_plan}
+use Rattle.papaya_callers.specs.Given.ResizeCopier.{copier_plan}
+use Rattle.papaya_callers.specs.Given.TablesDeclared.node.Node.{Node}
+use Rattle.papaya_callers.specs.Given.TablesDeclared.setting.Setting.{Setting}
+use Rattle.papaya_callers.specs.Given.TablesDeclared.table_words.TheConstants.{NEXT}
+use Rattle.papaya_callers.specs.Given.RawCallFills.{putting_by, fill_by, fills_with}
+use Rattle.papaya_callers.specs.Given.RawReplies.{value_for, as_own}
+use Rattle.papaya_callers.specs.Given.RawDeclared.machines.answer.Called.{Called}
+use Rattle.papaya_callers.specs.Given.RawDeclared.machines.asking.Asking.{Asking}
+use Rattle.papaya_callers.specs.Given.RawDeclared.machines.asking.Asking.TheVariants as asking
+use Rattle.papaya_callers.specs.Given.RawDeclared.machines.call.KeyCall.{KeyCall}
+use Rattle.papaya_callers.specs.Given.RawDeclared.machines.call.Calling.{Calling}
+use Rattle.papaya_callers.specs.Given.RawDeclared.machines.call.Calling.TheVariants as at
+use Rattle.papaya_callers.specs.Given.RuleChart.{Chart}
+use Rattle.papaya_callers.specs.Given.RuleWords.{Blocks}
+use Rattle.papaya_callers.specs.Given.RuleInWorld.{IsMapIn}
+use Rattle.papaya_callers.specs.Given.PointsFactsCalls.{Change, Holding, ByReply, HasOwn, Seeks, CallingFacts, CallFacts}
+use Rattle.papaya_callers.specs.Given.PointsTold.{IsRowOfCall}
+use Rattle.papaya_callers.proofs.Given.PointsCalls.Probes.{own_block}
+use Rattle.papaya_callers.proofs.Given.RuleKeys.TriesSeen.{spot_inside}
 use Rattle.papaya_alone.specs.Counting.{shards_sum}
 use Rattle.papaya_alone.proofs.Spared.Shards.{counter_apart, counter_no_next, shards_spared}
-use Rattle.papaya_callers.proofs.Given.Rule.Spared.{IsBeside, PlanSpares, spares_as}
+use Rattle.papaya_callers.proofs.Given.RuleSpared.{IsBeside, PlanSpares, spares_as}
 use Rattle.papaya_alone.proofs.Spared.Calls.{IsApart, in_place, new_table_spares, lookup_spares, copier_spares}
 use Rattle.papaya_alone.proofs.Spared.Helpers.{helper_spares}
 

@@ -1,10 +1,10 @@
 -- What has come to the memory, from one step to the next.
 use Rattle.std.specs.Prelude.{◌≡◌, ℕ, Option, Some, None, ◌⊎◌}
 use Rattle.std.proofs.Common.{refl, sym, ◌∙◌, inl, inr}
-use Rattle.papaya_callers.specs.Given.SeizeWords.Mem.{Mem, value_at}
+use Rattle.papaya_callers.specs.Given.SeizeWordsMem.{Mem, value_at}
 use Rattle.papaya_alone.specs.Values.{HasCome, IsComing}
-use Rattle.papaya_callers.proofs.Given.Points.Values.Kept.{SameValues}
-use Rattle.papaya_callers.proofs.Given.Points.Values.Left.{Leaves}
+use Rattle.papaya_callers.proofs.Given.PointsValues.Kept.{SameValues}
+use Rattle.papaya_callers.proofs.Given.PointsValues.Left.{Leaves}
 
 module _ {T : Type 0} (m0 m : Mem T) (Came Mine : ℕ → Type 0) (old : IsComing m0 m Came Mine) where
   -- nobody has a block of his own

@@ -2,19 +2,19 @@
 use Rattle.std.specs.Prelude.{◌≡◌, ◌≢◌, ℕ, ◌/◌, ◌<◌, ◌^◌, ◌==◌, Bool, true, false, List, Option, Some, None, if◌then◌else◌, ◌⊎◌}
 use Rattle.std.proofs.Common.{refl, ap, ◌∙◌, inl, eqb-true}
 use Rattle.std.proofs.lemmas.Bool.{eqb-false}
-use Rattle.papaya_late.specs.Given.SeizeWords.Word.{block_in}
-use Rattle.papaya_late.specs.Given.SeizeWords.Mem.{Mem, value_at}
-use Rattle.papaya_late.specs.Given.Tables.declared.node.Node.{Node}
-use Rattle.papaya_late.specs.Given.Tables.declared.node.Node.TheVariants as node
-use Rattle.papaya_late.specs.Given.Raw.Replies.{value_told, owned, value_for, as_own, back, back_present, with_back}
-use Rattle.papaya_late.specs.Given.Raw.declared.machines.asking.Replies.{Replies}
-use Rattle.papaya_late.specs.Given.Raw.declared.machines.asking.Reply.TheVariants as reply
-use Rattle.papaya_late.specs.Given.Raw.declared.machines.asking.Told.{Told}
-use Rattle.papaya_late.specs.Given.Raw.declared.machines.asking.Told.TheVariants as tells
-use Rattle.papaya_late.specs.Given.Raw.declared.machines.call.Calling.TheVariants as at
-use Rattle.papaya_late.specs.Given.Rule.Chart.{Chart}
-use Rattle.papaya_late.specs.Given.Rule.Words.{Blocks, Shows}
-use Rattle.papaya_late.specs.Given.Points.FactsCalls.{RepliesFit}
+use Rattle.papaya_late.specs.Given.SeizeWordsWord.{block_in}
+use Rattle.papaya_late.specs.Given.SeizeWordsMem.{Mem, value_at}
+use Rattle.papaya_late.specs.Given.TablesDeclared.node.Node.{Node}
+use Rattle.papaya_late.specs.Given.TablesDeclared.node.Node.TheVariants as node
+use Rattle.papaya_late.specs.Given.RawReplies.{value_told, owned, value_for, as_own, back, back_present, with_back}
+use Rattle.papaya_late.specs.Given.RawDeclared.machines.asking.Replies.{Replies}
+use Rattle.papaya_late.specs.Given.RawDeclared.machines.asking.Reply.TheVariants as reply
+use Rattle.papaya_late.specs.Given.RawDeclared.machines.asking.Told.{Told}
+use Rattle.papaya_late.specs.Given.RawDeclared.machines.asking.Told.TheVariants as tells
+use Rattle.papaya_late.specs.Given.RawDeclared.machines.call.Calling.TheVariants as at
+use Rattle.papaya_late.specs.Given.RuleChart.{Chart}
+use Rattle.papaya_late.specs.Given.RuleWords.{Blocks, Shows}
+use Rattle.papaya_late.specs.Given.PointsFactsCalls.{RepliesFit}
 use Rattle.papaya_callers.specs.Asked.{Asked, last_told, OwnHasTold, Recalls, IsAsTold, DoesTold}
 use Rattle.papaya_callers.proofs.Asked.Stays.{Stays, word_on, recalls_on}
 use Rattle.papaya_callers.proofs.Asked.By.{IsNamed, recalls_word}

@@ -1,16 +1,16 @@
 -- A call that asks begins: it has been told nothing yet, but maybe what to store where its key is missing.
 use Rattle.std.specs.Prelude.{◌≡◌, ◌≢◌, ℕ, Option, Some, None}
 use Rattle.std.proofs.Common.{refl, ap, arith}
-use Rattle.papaya_late.specs.Given.SeizeWords.Mem.{Mem}
-use Rattle.papaya_late.specs.Given.Tables.declared.node.Node.{Node}
-use Rattle.papaya_late.specs.Given.Raw.Replies.{untold}
-use Rattle.papaya_late.specs.Given.Raw.declared.machines.asking.Reply.TheVariants as reply
-use Rattle.papaya_late.specs.Given.Raw.declared.machines.asking.Takes.{Takes}
-use Rattle.papaya_late.specs.Given.Raw.declared.machines.asking.Takes.TheVariants as takes
-use Rattle.papaya_late.specs.Given.Raw.declared.machines.asking.Told.TheVariants as tells
-use Rattle.papaya_late.specs.Given.Rule.Chart.{Chart}
-use Rattle.papaya_late.specs.Given.Rule.Words.{Blocks}
-use Rattle.papaya_late.specs.Given.Points.Steps.{told_first}
+use Rattle.papaya_late.specs.Given.SeizeWordsMem.{Mem}
+use Rattle.papaya_late.specs.Given.TablesDeclared.node.Node.{Node}
+use Rattle.papaya_late.specs.Given.RawReplies.{untold}
+use Rattle.papaya_late.specs.Given.RawDeclared.machines.asking.Reply.TheVariants as reply
+use Rattle.papaya_late.specs.Given.RawDeclared.machines.asking.Takes.{Takes}
+use Rattle.papaya_late.specs.Given.RawDeclared.machines.asking.Takes.TheVariants as takes
+use Rattle.papaya_late.specs.Given.RawDeclared.machines.asking.Told.TheVariants as tells
+use Rattle.papaya_late.specs.Given.RuleChart.{Chart}
+use Rattle.papaya_late.specs.Given.RuleWords.{Blocks}
+use Rattle.papaya_late.specs.Given.PointsSteps.{told_first}
 use Rattle.papaya_callers.specs.Asked.{told_before, IsAsTold}
 
 one_value : {V : Type 0} (v v2 : V) → tells.Value v ≡ tells.Value v2 → v ≡ v2

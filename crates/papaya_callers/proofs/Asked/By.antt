@@ -1,21 +1,21 @@
 -- What a call does by what it remembers of its replies is what it was told: the word names the pair that it remembers.
 use Rattle.std.specs.Prelude.{◌≡◌, ◌≢◌, ℕ, ◌/◌, ◌<◌, ◌^◌, Bool, List, Option, Some, None, ◌⊎◌}
 use Rattle.std.proofs.Common.{ap, sym, ◌∙◌, inl, inr, arith}
-use Rattle.papaya_late.specs.Given.SeizeWords.Word.{block_in}
-use Rattle.papaya_late.specs.Given.SeizeWords.Mem.{Mem}
-use Rattle.papaya_late.specs.Given.Seize.World.{World}
-use Rattle.papaya_late.specs.Given.Tables.declared.node.Node.{Node}
-use Rattle.papaya_late.specs.Given.Tables.declared.setting.Setting.{Setting}
-use Rattle.papaya_late.specs.Given.Raw.declared.machines.asking.Asking.TheVariants as asking
-use Rattle.papaya_late.specs.Given.Raw.declared.machines.asking.Replies.{Replies}
-use Rattle.papaya_late.specs.Given.Raw.declared.machines.call.KeyCall.{KeyCall}
-use Rattle.papaya_late.specs.Given.Raw.declared.machines.call.Calling.{Calling}
-use Rattle.papaya_late.specs.Given.Raw.declared.machines.call.Calling.TheVariants as at
-use Rattle.papaya_late.specs.Given.Rule.Chart.{Phase, Still, Holds, Chart}
-use Rattle.papaya_late.specs.Given.Rule.Words.{Blocks, Shows, byte_of, place_word}
-use Rattle.papaya_late.proofs.Given.Rule.Words.PlaceWords.{pair_block}
-use Rattle.papaya_late.proofs.Given.Rule.Words.PlacesShown.{byte_of-few}
-use Rattle.papaya_late.specs.Given.Points.FactsCalls.{Change, Unchanged, NamesPair, MayReplace, MayTry, CallingFacts}
+use Rattle.papaya_late.specs.Given.SeizeWordsWord.{block_in}
+use Rattle.papaya_late.specs.Given.SeizeWordsMem.{Mem}
+use Rattle.papaya_late.specs.Given.SeizeWorld.{World}
+use Rattle.papaya_late.specs.Given.TablesDeclared.node.Node.{Node}
+use Rattle.papaya_late.specs.Given.TablesDeclared.setting.Setting.{Setting}
+use Rattle.papaya_late.specs.Given.RawDeclared.machines.asking.Asking.TheVariants as asking
+use Rattle.papaya_late.specs.Given.RawDeclared.machines.asking.Replies.{Replies}
+use Rattle.papaya_late.specs.Given.RawDeclared.machines.call.KeyCall.{KeyCall}
+use Rattle.papaya_late.specs.Given.RawDeclared.machines.call.Calling.{Calling}
+use Rattle.papaya_late.specs.Given.RawDeclared.machines.call.Calling.TheVariants as at
+use Rattle.papaya_late.specs.Given.RuleChart.{Phase, Still, Holds, Chart}
+use Rattle.papaya_late.specs.Given.RuleWords.{Blocks, Shows, byte_of, place_word}
+use Rattle.papaya_late.proofs.Given.RuleWords.PlaceWords.{pair_block}
+use Rattle.papaya_late.proofs.Given.RuleWords.PlacesShown.{byte_of-few}
+use Rattle.papaya_late.specs.Given.PointsFactsCalls.{Change, Unchanged, NamesPair, MayReplace, MayTry, CallingFacts}
 use Rattle.papaya_late.specs.LateCalls.{LateCalling}
 use Rattle.papaya_callers.specs.Asked.{Asked, IsThere, IsWordOf, Recalls, IsAsTold, DoesTold}
 use Rattle.papaya_callers.proofs.Asked.Goes.{DoesBy}

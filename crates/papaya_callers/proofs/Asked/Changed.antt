@@ -2,21 +2,21 @@
 use Rattle.std.specs.Prelude.{◌≡◌, ◌≢◌, ℕ, ◌/◌, ◌<◌, ◌^◌, ◌==◌, Bool, true, false, List, Option, Some, None, if◌then◌else◌}
 use Rattle.std.proofs.Common.{refl, ap, sym, subst, inl, inr, arith, eqb-true}
 use Rattle.std.proofs.lemmas.Bool.{eqb-false}
-use Rattle.papaya_late.specs.Given.SeizeWords.Mem.{value_at}
-use Rattle.papaya_late.specs.Given.Seize.World.{World}
-use Rattle.papaya_late.specs.Given.Tables.declared.marks.TheConstants.{TOMBSTONE}
-use Rattle.papaya_late.specs.Given.Tables.declared.node.Node.{Node}
-use Rattle.papaya_late.specs.Given.Tables.declared.setting.Setting.{Setting}
-use Rattle.papaya_late.specs.Given.Resize.Dispose.{disposing}
-use Rattle.papaya_late.specs.Given.Raw.CallPoints.{going, changed}
-use Rattle.papaya_late.specs.Given.Raw.declared.machines.answer.Called.{Called}
-use Rattle.papaya_late.specs.Given.Raw.declared.machines.answer.KeyAnswer.TheVariants as answers
-use Rattle.papaya_late.specs.Given.Raw.declared.machines.call.KeyCall.{KeyCall}
-use Rattle.papaya_late.specs.Given.Raw.declared.machines.call.Calling.TheVariants as at
-use Rattle.papaya_late.specs.Given.Rule.Chart.{Still, Holds, Chart}
-use Rattle.papaya_late.specs.Given.Rule.Words.{Blocks, Shows, place_word}
-use Rattle.papaya_late.specs.Given.Points.FactsCalls.{Change, Unchanged, Stored, Replaced, Removed, Tells, CallingFacts}
-use Rattle.papaya_late.specs.Given.Points.Told.{CallFactsAfter}
+use Rattle.papaya_late.specs.Given.SeizeWordsMem.{value_at}
+use Rattle.papaya_late.specs.Given.SeizeWorld.{World}
+use Rattle.papaya_late.specs.Given.TablesDeclared.marks.TheConstants.{TOMBSTONE}
+use Rattle.papaya_late.specs.Given.TablesDeclared.node.Node.{Node}
+use Rattle.papaya_late.specs.Given.TablesDeclared.setting.Setting.{Setting}
+use Rattle.papaya_late.specs.Given.ResizeDispose.{disposing}
+use Rattle.papaya_late.specs.Given.RawCallPoints.{going, changed}
+use Rattle.papaya_late.specs.Given.RawDeclared.machines.answer.Called.{Called}
+use Rattle.papaya_late.specs.Given.RawDeclared.machines.answer.KeyAnswer.TheVariants as answers
+use Rattle.papaya_late.specs.Given.RawDeclared.machines.call.KeyCall.{KeyCall}
+use Rattle.papaya_late.specs.Given.RawDeclared.machines.call.Calling.TheVariants as at
+use Rattle.papaya_late.specs.Given.RuleChart.{Still, Holds, Chart}
+use Rattle.papaya_late.specs.Given.RuleWords.{Blocks, Shows, place_word}
+use Rattle.papaya_late.specs.Given.PointsFactsCalls.{Change, Unchanged, Stored, Replaced, Removed, Tells, CallingFacts}
+use Rattle.papaya_late.specs.Given.PointsTold.{CallFactsAfter}
 use Rattle.papaya_callers.specs.Asked.{Asked, IsThere, HasTold, ChangesTold, IsWordOf, OwnHasTold, IsToRemove, DoesTold}
 use Rattle.papaya_callers.proofs.Asked.Stays.{ToldTo, has_on}
 use Rattle.papaya_callers.proofs.Asked.By.{block_of_word, some_word, one_pair}

@@ -2,38 +2,38 @@
 use Rattle.std.specs.Prelude.{◌≡◌, ◌≢◌, ℕ, ◌/◌, ◌<◌, ◌^◌, ◌==◌, Bool, List, Option, Some, None, if◌then◌else◌, ◌⊎◌, true, false}
 use Rattle.std.proofs.Common.{refl, ap, sym, subst, ◌∙◌, inl, inr, arith}
 use Rattle.std.proofs.lemmas.Bool.{eq-eqb, ne_eqb}
-use Rattle.papaya_late.specs.Given.SeizeWords.Word.{block_in}
-use Rattle.papaya_late.specs.Given.SeizeWords.Mem.{Mem, value_at, with_value, with_block, Took}
-use Rattle.papaya_late.specs.Given.SeizeWords.Op.{Taken}
-use Rattle.papaya_late.specs.Given.SeizeWords.declared.fault.Fault.TheVariants.{Memory}
-use Rattle.papaya_late.specs.Given.SeizeWords.Plan.{Steps, Ends}
-use Rattle.papaya_late.proofs.Given.SeizeWords.OneOwner.AfterWrites.{value_at-with_value}
-use Rattle.papaya_late.proofs.Given.SeizeWords.OneOwner.Operations.{made as made_by_step, taken, rewritten}
-use Rattle.papaya_late.specs.Given.Seize.World.{World}
-use Rattle.papaya_late.specs.Given.Tables.Nodes.{vacant}
-use Rattle.papaya_late.specs.Given.Raw.CallFills.{taken_back, filled, putting_by, fill_by, emptied, fills_with, fills, given_up, gives_up}
-use Rattle.papaya_late.specs.Given.Raw.CallPoints.{word_to, standing, going}
-use Rattle.papaya_late.specs.Given.Raw.Replies.{owned, value_for, as_own, with_back}
-use Rattle.papaya_late.specs.Given.Tables.declared.marks.TheConstants.{TOMBSTONE}
-use Rattle.papaya_late.specs.Given.Tables.declared.node.Node.{Node}
-use Rattle.papaya_late.specs.Given.Tables.declared.node.Node.TheVariants as node
-use Rattle.papaya_late.specs.Given.Tables.declared.setting.Setting.{Setting}
-use Rattle.papaya_late.specs.Given.Raw.declared.machines.answer.Called.{Called}
-use Rattle.papaya_late.specs.Given.Raw.declared.machines.answer.Called.TheVariants.{Unstored}
-use Rattle.papaya_late.specs.Given.Raw.declared.machines.answer.End.{End}
-use Rattle.papaya_late.specs.Given.Raw.declared.machines.answer.End.TheVariants as ends
-use Rattle.papaya_late.specs.Given.Raw.declared.machines.asking.Asking.TheVariants as asking
-use Rattle.papaya_late.specs.Given.Raw.declared.machines.asking.Told.{Told}
-use Rattle.papaya_late.specs.Given.Raw.declared.machines.asking.Told.TheVariants as tells
-use Rattle.papaya_late.specs.Given.Raw.declared.machines.call.KeyCall.{KeyCall}
-use Rattle.papaya_late.specs.Given.Raw.declared.machines.call.Calling.{Calling}
-use Rattle.papaya_late.specs.Given.Raw.declared.machines.call.Calling.TheVariants as at
-use Rattle.papaya_late.specs.Given.Rule.Chart.{Chart}
-use Rattle.papaya_late.specs.Given.Rule.Words.{Blocks, Shows}
-use Rattle.papaya_late.proofs.Given.Rule.Words.WritesWords.{is_some_of}
-use Rattle.papaya_late.specs.Given.Points.FactsCalls.{Change, Unchanged, RepliesFit, Holding, ByReply, holding, IsOwnPair, IsVacant, HasKey, HasOwn, HasIts, IsToFill}
-use Rattle.papaya_late.proofs.Given.Points.Calls.Probes.{own_block, own_value}
-use Rattle.papaya_late.proofs.Given.Points.Values.Left.{made_here}
+use Rattle.papaya_late.specs.Given.SeizeWordsWord.{block_in}
+use Rattle.papaya_late.specs.Given.SeizeWordsMem.{Mem, value_at, with_value, with_block, Took}
+use Rattle.papaya_late.specs.Given.SeizeWordsOp.{Taken}
+use Rattle.papaya_late.specs.Given.SeizeWordsDeclared.fault.Fault.TheVariants.{Memory}
+use Rattle.papaya_late.specs.Given.SeizeWordsPlan.{Steps, Ends}
+use Rattle.papaya_late.proofs.Given.SeizeWordsOneOwner.AfterWrites.{value_at-with_value}
+use Rattle.papaya_late.proofs.Given.SeizeWordsOneOwner.Operations.{made as made_by_step, taken, rewritten}
+use Rattle.papaya_late.specs.Given.SeizeWorld.{World}
+use Rattle.papaya_late.specs.Given.TablesNodes.{vacant}
+use Rattle.papaya_late.specs.Given.RawCallFills.{taken_back, filled, putting_by, fill_by, emptied, fills_with, fills, given_up, gives_up}
+use Rattle.papaya_late.specs.Given.RawCallPoints.{word_to, standing, going}
+use Rattle.papaya_late.specs.Given.RawReplies.{owned, value_for, as_own, with_back}
+use Rattle.papaya_late.specs.Given.TablesDeclared.marks.TheConstants.{TOMBSTONE}
+use Rattle.papaya_late.specs.Given.TablesDeclared.node.Node.{Node}
+use Rattle.papaya_late.specs.Given.TablesDeclared.node.Node.TheVariants as node
+use Rattle.papaya_late.specs.Given.TablesDeclared.setting.Setting.{Setting}
+use Rattle.papaya_late.specs.Given.RawDeclared.machines.answer.Called.{Called}
+use Rattle.papaya_late.specs.Given.RawDeclared.machines.answer.Called.TheVariants.{Unstored}
+use Rattle.papaya_late.specs.Given.RawDeclared.machines.answer.End.{End}
+use Rattle.papaya_late.specs.Given.RawDeclared.machines.answer.End.TheVariants as ends
+use Rattle.papaya_late.specs.Given.RawDeclared.machines.asking.Asking.TheVariants as asking
+use Rattle.papaya_late.specs.Given.RawDeclared.machines.asking.Told.{Told}
+use Rattle.papaya_late.specs.Given.RawDeclared.machines.asking.Told.TheVariants as tells
+use Rattle.papaya_late.specs.Given.RawDeclared.machines.call.KeyCall.{KeyCall}
+use Rattle.papaya_late.specs.Given.RawDeclared.machines.call.Calling.{Calling}
+use Rattle.papaya_late.specs.Given.RawDeclared.machines.call.Calling.TheVariants as at
+use Rattle.papaya_late.specs.Given.RuleChart.{Chart}
+use Rattle.papaya_late.specs.Given.RuleWords.{Blocks, Shows}
+use Rattle.papaya_late.proofs.Given.RuleWords.WritesWords.{is_some_of}
+use Rattle.papaya_late.specs.Given.PointsFactsCalls.{Change, Unchanged, RepliesFit, Holding, ByReply, holding, IsOwnPair, IsVacant, HasKey, HasOwn, HasIts, IsToFill}
+use Rattle.papaya_late.proofs.Given.PointsCalls.Probes.{own_block, own_value}
+use Rattle.papaya_late.proofs.Given.PointsValues.Left.{made_here}
 use Rattle.papaya_callers.specs.Asked.{Asked, ChangesTold, IsWordOf, IsToRemove, IsAsTold}
 use Rattle.papaya_callers.proofs.Asked.Stays.{Stays, ToldTo, word_on}
 use Rattle.papaya_callers.proofs.Asked.By.{IsNamed}

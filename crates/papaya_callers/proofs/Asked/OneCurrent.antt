@@ -2,8 +2,8 @@
 use Rattle.std.specs.Cmp.{IsEquivalence}
 use Rattle.std.proofs.Common.{◌≡◌, ◌≢◌, ℕ, ◌<◌, ◌≤◌, Bool, true, false, ◌⊎◌, inl, inr, ap, sym, ◌∙◌}
 use Rattle.std.proofs.lemmas.Bool.{cases_order}
-use Rattle.papaya_late.specs.Given.Rule.Chart.{Phase, Copying, Copied, Holds, Chart}
-use Rattle.papaya_late.specs.Given.Rule.Rule.{Rule, Shut, IsMoving, is_of}
+use Rattle.papaya_late.specs.Given.RuleChart.{Phase, Copying, Copied, Holds, Chart}
+use Rattle.papaya_late.specs.Given.RuleRule.{Rule, Shut, IsMoving, is_of}
 
 module _ {K : Type 0} (same : K → K → Bool) (spot : ℕ → K → ℕ → ℕ) (classes : IsEquivalence same) (c : Chart K) where
   -- a place has one pair

@@ -1,20 +1,20 @@
 -- A call's own block, where it has yet to change the map: it is there, and nobody else has it.
 use Rattle.std.specs.Prelude.{◌≡◌, ◌≢◌, ℕ, ◌/◌, ◌<◌, ◌^◌, Bool, Some, ◌⊎◌}
 use Rattle.std.proofs.Common.{ap, ◌∙◌, inl, inr, arith}
-use Rattle.papaya_late.specs.Given.SeizeWords.Mem.{value_at}
-use Rattle.papaya_late.specs.Given.Seize.World.{World, Making}
-use Rattle.papaya_late.specs.Given.Tables.declared.node.Node.{Node}
-use Rattle.papaya_late.specs.Given.Tables.declared.node.Node.TheVariants as node
-use Rattle.papaya_late.specs.Given.Tables.declared.setting.Setting.{Setting}
-use Rattle.papaya_late.specs.Given.Raw.declared.machines.asking.Asking.TheVariants as asking
-use Rattle.papaya_late.specs.Given.Raw.declared.machines.call.KeyCall.{KeyCall}
-use Rattle.papaya_late.specs.Given.Raw.declared.machines.call.Calling.{Calling}
-use Rattle.papaya_late.specs.Given.Raw.declared.machines.call.Calling.TheVariants as at
-use Rattle.papaya_late.specs.Given.Rule.Chart.{Chart}
-use Rattle.papaya_late.specs.Given.Rule.Words.{Blocks}
-use Rattle.papaya_late.specs.Given.Points.FactsCalls.{Change, Unchanged, IsOwnPair, IsVacant, HasIts, IsToFill, CallingFacts}
-use Rattle.papaya_late.proofs.Given.Points.Calls.Probes.{own_block}
-use Rattle.papaya_late.proofs.Given.Points.Values.Seeks.{HasNoneOr, its_or}
+use Rattle.papaya_late.specs.Given.SeizeWordsMem.{value_at}
+use Rattle.papaya_late.specs.Given.SeizeWorld.{World, Making}
+use Rattle.papaya_late.specs.Given.TablesDeclared.node.Node.{Node}
+use Rattle.papaya_late.specs.Given.TablesDeclared.node.Node.TheVariants as node
+use Rattle.papaya_late.specs.Given.TablesDeclared.setting.Setting.{Setting}
+use Rattle.papaya_late.specs.Given.RawDeclared.machines.asking.Asking.TheVariants as asking
+use Rattle.papaya_late.specs.Given.RawDeclared.machines.call.KeyCall.{KeyCall}
+use Rattle.papaya_late.specs.Given.RawDeclared.machines.call.Calling.{Calling}
+use Rattle.papaya_late.specs.Given.RawDeclared.machines.call.Calling.TheVariants as at
+use Rattle.papaya_late.specs.Given.RuleChart.{Chart}
+use Rattle.papaya_late.specs.Given.RuleWords.{Blocks}
+use Rattle.papaya_late.specs.Given.PointsFactsCalls.{Change, Unchanged, IsOwnPair, IsVacant, HasIts, IsToFill, CallingFacts}
+use Rattle.papaya_late.proofs.Given.PointsCalls.Probes.{own_block}
+use Rattle.papaya_late.proofs.Given.PointsValues.Seeks.{HasNoneOr, its_or}
 use Rattle.papaya_late.specs.LateCalls.{LateCalling}
 use Rattle.papaya_callers.proofs.Asked.Stays.{HasYet}
 

@@ -2,31 +2,31 @@
 use Rattle.std.specs.Prelude.{◌≡◌, ℕ, ◌<◌, ◌^◌, ◌==◌, Bool, true, false, List, ◌∷◌, Option, Some, None, Result, Ok, Err, if◌then◌else◌, ◌⊎◌}
 use Rattle.std.proofs.Common.{refl, ap, sym, subst, inl, inr}
 use Rattle.std.proofs.lemmas.Bool.{eq-eqb}
-use Rattle.papaya_late.specs.Given.SeizeWords.Word.{block_in}
-use Rattle.papaya_late.specs.Given.SeizeWords.declared.fault.Fault.TheVariants.{RemoveNothing}
-use Rattle.papaya_late.specs.Given.SeizeWords.Mem.{Mem}
-use Rattle.papaya_late.specs.Given.Tables.declared.marks.TheConstants.{TOMBSTONE}
-use Rattle.papaya_late.specs.Given.Tables.declared.node.Node.{Node}
-use Rattle.papaya_late.specs.Given.Raw.CallAsks.{with_absent, with_present, absent_told, present_told, told_at, replied}
-use Rattle.papaya_late.specs.Given.Raw.CallPoints.{going, over, ending, burying, at_gap}
-use Rattle.papaya_late.specs.Given.Raw.declared.machines.answer.End.{End}
-use Rattle.papaya_late.specs.Given.Raw.declared.machines.answer.End.TheVariants as ends
-use Rattle.papaya_late.specs.Given.Raw.declared.machines.answer.KeyAnswer.TheVariants as answers
-use Rattle.papaya_late.specs.Given.Raw.declared.machines.asking.Asking.{Asking}
-use Rattle.papaya_late.specs.Given.Raw.declared.machines.asking.Asking.TheVariants as asking
-use Rattle.papaya_late.specs.Given.Raw.declared.machines.asking.Gap.{Gap}
-use Rattle.papaya_late.specs.Given.Raw.declared.machines.asking.Gap.TheVariants as gaps
-use Rattle.papaya_late.specs.Given.Raw.declared.machines.asking.Reply.{Reply}
-use Rattle.papaya_late.specs.Given.Raw.declared.machines.asking.Reply.TheVariants as reply
-use Rattle.papaya_late.specs.Given.Raw.declared.machines.asking.Takes.{Takes}
-use Rattle.papaya_late.specs.Given.Raw.declared.machines.asking.Takes.TheVariants as takes
-use Rattle.papaya_late.specs.Given.Raw.declared.machines.asking.Told.TheVariants as tells
-use Rattle.papaya_late.specs.Given.Raw.declared.machines.call.KeyCall.{KeyCall}
-use Rattle.papaya_late.specs.Given.Raw.declared.machines.call.Calling.{Calling}
-use Rattle.papaya_late.specs.Given.Raw.declared.machines.call.Calling.TheVariants as at
-use Rattle.papaya_late.specs.Given.Rule.Chart.{Still, Chart}
-use Rattle.papaya_late.specs.Given.Rule.Words.{Blocks, Shows}
-use Rattle.papaya_late.specs.Given.Points.FactsCalls.{Change, Unchanged, RepliesFit}
+use Rattle.papaya_late.specs.Given.SeizeWordsWord.{block_in}
+use Rattle.papaya_late.specs.Given.SeizeWordsDeclared.fault.Fault.TheVariants.{RemoveNothing}
+use Rattle.papaya_late.specs.Given.SeizeWordsMem.{Mem}
+use Rattle.papaya_late.specs.Given.TablesDeclared.marks.TheConstants.{TOMBSTONE}
+use Rattle.papaya_late.specs.Given.TablesDeclared.node.Node.{Node}
+use Rattle.papaya_late.specs.Given.RawCallAsks.{with_absent, with_present, absent_told, present_told, told_at, replied}
+use Rattle.papaya_late.specs.Given.RawCallPoints.{going, over, ending, burying, at_gap}
+use Rattle.papaya_late.specs.Given.RawDeclared.machines.answer.End.{End}
+use Rattle.papaya_late.specs.Given.RawDeclared.machines.answer.End.TheVariants as ends
+use Rattle.papaya_late.specs.Given.RawDeclared.machines.answer.KeyAnswer.TheVariants as answers
+use Rattle.papaya_late.specs.Given.RawDeclared.machines.asking.Asking.{Asking}
+use Rattle.papaya_late.specs.Given.RawDeclared.machines.asking.Asking.TheVariants as asking
+use Rattle.papaya_late.specs.Given.RawDeclared.machines.asking.Gap.{Gap}
+use Rattle.papaya_late.specs.Given.RawDeclared.machines.asking.Gap.TheVariants as gaps
+use Rattle.papaya_late.specs.Given.RawDeclared.machines.asking.Reply.{Reply}
+use Rattle.papaya_late.specs.Given.RawDeclared.machines.asking.Reply.TheVariants as reply
+use Rattle.papaya_late.specs.Given.RawDeclared.machines.asking.Takes.{Takes}
+use Rattle.papaya_late.specs.Given.RawDeclared.machines.asking.Takes.TheVariants as takes
+use Rattle.papaya_late.specs.Given.RawDeclared.machines.asking.Told.TheVariants as tells
+use Rattle.papaya_late.specs.Given.RawDeclared.machines.call.KeyCall.{KeyCall}
+use Rattle.papaya_late.specs.Given.RawDeclared.machines.call.Calling.{Calling}
+use Rattle.papaya_late.specs.Given.RawDeclared.machines.call.Calling.TheVariants as at
+use Rattle.papaya_late.specs.Given.RuleChart.{Still, Chart}
+use Rattle.papaya_late.specs.Given.RuleWords.{Blocks, Shows}
+use Rattle.papaya_late.specs.Given.PointsFactsCalls.{Change, Unchanged, RepliesFit}
 use Rattle.papaya_callers.specs.Asked.{Asked, last_told, IsToLeave, ChangesTold, IsWordOf, IsAsTold, EndsTold, KeepsTold}
 use Rattle.papaya_callers.proofs.Asked.By.{block_of_word}
 

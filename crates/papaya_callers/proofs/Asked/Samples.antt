@@ -2,15 +2,15 @@
 -- have come.
 use Rattle.std.specs.Prelude.{◌≢◌, Bool, List, ◌∷◌, [], Some, None}
 use Rattle.std.proofs.Common.{◌≡◌, ℕ, inl, inr, refl, arith}
-use Rattle.papaya_late.specs.Given.SeizeWords.Mem.{Mem, value_at}
-use Rattle.papaya_late.specs.Given.Tables.declared.node.Node.{Node}
-use Rattle.papaya_late.specs.Given.Tables.declared.node.Node.TheVariants as node
-use Rattle.papaya_late.specs.Given.Raw.declared.machines.answer.KeyAnswer.TheVariants as answers
-use Rattle.papaya_late.specs.Given.Raw.declared.machines.asking.Reply.{Reply}
-use Rattle.papaya_late.specs.Given.Raw.declared.machines.asking.Reply.TheVariants as reply
-use Rattle.papaya_late.specs.Given.Rule.Chart.{Still, Holds, Chart}
-use Rattle.papaya_late.specs.Given.Rule.Words.{Blocks, place_word}
-use Rattle.papaya_late.specs.Given.Points.FactsCalls.{Change, Stored, Replaced, Removed}
+use Rattle.papaya_late.specs.Given.SeizeWordsMem.{Mem, value_at}
+use Rattle.papaya_late.specs.Given.TablesDeclared.node.Node.{Node}
+use Rattle.papaya_late.specs.Given.TablesDeclared.node.Node.TheVariants as node
+use Rattle.papaya_late.specs.Given.RawDeclared.machines.answer.KeyAnswer.TheVariants as answers
+use Rattle.papaya_late.specs.Given.RawDeclared.machines.asking.Reply.{Reply}
+use Rattle.papaya_late.specs.Given.RawDeclared.machines.asking.Reply.TheVariants as reply
+use Rattle.papaya_late.specs.Given.RuleChart.{Still, Holds, Chart}
+use Rattle.papaya_late.specs.Given.RuleWords.{Blocks, place_word}
+use Rattle.papaya_late.specs.Given.PointsFactsCalls.{Change, Stored, Replaced, Removed}
 use Rattle.papaya_callers.specs.Asked.{Asked, IsThere, ChangesTold, AnswersTold}
 use Rattle.papaya_callers.specs.Kind.{Kind, computes, updates, updates_or_inserts, tries_to_insert, tries_to_insert_with, removes_if}
 use Rattle.papaya_callers.specs.Pairs.{Begun, IsTold, AsksFirst, HandsBack}

@@ -1,42 +1,42 @@
 -- A step of a call that asks, in its own table: it goes on by what it was told, and what it changes is what it was told to change.
 use Rattle.std.specs.Prelude.{◌≡◌, ◌≢◌, ℕ, ◌/◌, ◌<◌, ◌^◌, ◌==◌, Bool, true, false, List, Option, if◌then◌else◌}
 use Rattle.std.proofs.Common.{refl, sym, subst, ◌∙◌, inl, inr}
-use Rattle.papaya_late.specs.Given.SeizeWords.Mem.{Can, Took, value_at}
-use Rattle.papaya_late.specs.Given.SeizeWords.Plan.{May, Steps}
-use Rattle.papaya_late.proofs.Given.SeizeWords.OneOwner.Operations.{taken}
-use Rattle.papaya_late.specs.Given.Seize.World.{World}
-use Rattle.papaya_late.specs.Given.Tables.declared.marks.TheConstants.{TOMBSTONE}
-use Rattle.papaya_late.specs.Given.Tables.declared.node.Node.{Node}
-use Rattle.papaya_late.specs.Given.Tables.declared.setting.Setting.{Setting}
-use Rattle.papaya_late.specs.Given.Resize.Dispose.{disposing}
-use Rattle.papaya_late.specs.Given.Raw.Answers.{ended}
-use Rattle.papaya_late.specs.Given.Raw.Call.{dropped, call_plan, plan_at}
-use Rattle.papaya_late.specs.Given.Raw.CallPoints.{standing, going, changed}
-use Rattle.papaya_late.specs.Given.Raw.declared.machines.answer.Called.{Called}
-use Rattle.papaya_late.specs.Given.Raw.declared.machines.answer.Called.TheVariants as called
-use Rattle.papaya_late.specs.Given.Raw.declared.machines.answer.End.{End}
-use Rattle.papaya_late.specs.Given.Raw.declared.machines.answer.End.TheVariants as ends
-use Rattle.papaya_late.specs.Given.Raw.declared.machines.answer.KeyAnswer.{KeyAnswer}
-use Rattle.papaya_late.specs.Given.Raw.declared.machines.answer.KeyAnswer.TheVariants as answers
-use Rattle.papaya_late.specs.Given.Raw.declared.machines.answer.There.{There}
-use Rattle.papaya_late.specs.Given.Raw.declared.machines.answer.There.TheVariants as there
-use Rattle.papaya_late.specs.Given.Raw.declared.machines.answer.Missing.{Missing}
-use Rattle.papaya_late.specs.Given.Raw.declared.machines.answer.Missing.TheVariants as missing
-use Rattle.papaya_late.specs.Given.Raw.declared.machines.asking.Asking.TheVariants as asking
-use Rattle.papaya_late.specs.Given.Raw.declared.machines.asking.Takes.{Takes}
-use Rattle.papaya_late.specs.Given.Raw.declared.machines.asking.Takes.TheVariants as takes
-use Rattle.papaya_late.specs.Given.Raw.declared.machines.call.KeyCall.{KeyCall}
-use Rattle.papaya_late.specs.Given.Raw.declared.machines.call.Calling.{Calling}
-use Rattle.papaya_late.specs.Given.Raw.declared.machines.call.Calling.TheVariants as at
-use Rattle.papaya_late.specs.Given.Rule.Chart.{Chart}
-use Rattle.papaya_late.specs.Given.Rule.Words.{Blocks}
-use Rattle.papaya_late.specs.Given.Rule.InWorld.{IsMapIn}
-use Rattle.papaya_late.specs.Given.Points.FactsCalls.{Change, Unchanged, Stored, Replaced, Removed, MayStore, Seeks, Tells, CallingFacts, CallFacts}
-use Rattle.papaya_late.specs.Given.Points.Told.{HasAnswered, IsRowOfCall, CallFactsAfter, CallTold}
-use Rattle.papaya_late.proofs.Given.Points.Values.Kept.{SameValues}
-use Rattle.papaya_late.proofs.Given.Points.Values.Own.{IsDropping, NoneMoved, SeeksOn, seeks_on}
-use Rattle.papaya_late.proofs.Given.Points.Values.Seeks.{look_unchanged}
-use Rattle.papaya_late.proofs.Given.Points.Values.Sought.{IsSought, IsAhead, IsLook, GoesSeeking}
+use Rattle.papaya_late.specs.Given.SeizeWordsMem.{Can, Took, value_at}
+use Rattle.papaya_late.specs.Given.SeizeWordsPlan.{May, Steps}
+use Rattle.papaya_late.proofs.Given.SeizeWordsOneOwner.Operations.{taken}
+use Rattle.papaya_late.specs.Given.SeizeWorld.{World}
+use Rattle.papaya_late.specs.Given.TablesDeclared.marks.TheConstants.{TOMBSTONE}
+use Rattle.papaya_late.specs.Given.TablesDeclared.node.Node.{Node}
+use Rattle.papaya_late.specs.Given.TablesDeclared.setting.Setting.{Setting}
+use Rattle.papaya_late.specs.Given.ResizeDispose.{disposing}
+use Rattle.papaya_late.specs.Given.RawAnswers.{ended}
+use Rattle.papaya_late.specs.Given.RawCall.{dropped, call_plan, plan_at}
+use Rattle.papaya_late.specs.Given.RawCallPoints.{standing, going, changed}
+use Rattle.papaya_late.specs.Given.RawDeclared.machines.answer.Called.{Called}
+use Rattle.papaya_late.specs.Given.RawDeclared.machines.answer.Called.TheVariants as called
+use Rattle.papaya_late.specs.Given.RawDeclared.machines.answer.End.{End}
+use Rattle.papaya_late.specs.Given.RawDeclared.machines.answer.End.TheVariants as ends
+use Rattle.papaya_late.specs.Given.RawDeclared.machines.answer.KeyAnswer.{KeyAnswer}
+use Rattle.papaya_late.specs.Given.RawDeclared.machines.answer.KeyAnswer.TheVariants as answers
+use Rattle.papaya_late.specs.Given.RawDeclared.machines.answer.There.{There}
+use Rattle.papaya_late.specs.Given.RawDeclared.machines.answer.There.TheVariants as there
+use Rattle.papaya_late.specs.Given.RawDeclared.machines.answer.Missing.{Missing}
+use Rattle.papaya_late.specs.Given.RawDeclared.machines.answer.Missing.TheVariants as missing
+use Rattle.papaya_late.specs.Given.RawDeclared.machines.asking.Asking.TheVariants as asking
+use Rattle.papaya_late.specs.Given.RawDeclared.machines.asking.Takes.{Takes}
+use Rattle.papaya_late.specs.Given.RawDeclared.machines.asking.Takes.TheVariants as takes
+use Rattle.papaya_late.specs.Given.RawDeclared.machines.call.KeyCall.{KeyCall}
+use Rattle.papaya_late.specs.Given.RawDeclared.machines.call.Calling.{Calling}
+use Rattle.papaya_late.specs.Given.RawDeclared.machines.call.Calling.TheVariants as at
+use Rattle.papaya_late.specs.Given.RuleChart.{Chart}
+use Rattle.papaya_late.specs.Given.RuleWords.{Blocks}
+use Rattle.papaya_late.specs.Given.RuleInWorld.{IsMapIn}
+use Rattle.papaya_late.specs.Given.PointsFactsCalls.{Change, Unchanged, Stored, Replaced, Removed, MayStore, Seeks, Tells, CallingFacts, CallFacts}
+use Rattle.papaya_late.specs.Given.PointsTold.{HasAnswered, IsRowOfCall, CallFactsAfter, CallTold}
+use Rattle.papaya_late.proofs.Given.PointsValues.Kept.{SameValues}
+use Rattle.papaya_late.proofs.Given.PointsValues.Own.{IsDropping, NoneMoved, SeeksOn, seeks_on}
+use Rattle.papaya_late.proofs.Given.PointsValues.Seeks.{look_unchanged}
+use Rattle.papaya_late.proofs.Given.PointsValues.Sought.{IsSought, IsAhead, IsLook, GoesSeeking}
 use Rattle.papaya_callers.specs.Asked.{Asked, ChangesTold, IsAsTold, DoesTold, EndsTold, OverTold, KeepsTold}
 use Rattle.papaya_callers.proofs.Asked.Stays.{Stays, HasYet, ToldTo, as_told_on, changes_on, ends_on, does_on}
 use Rattle.papaya_callers.proofs.Asked.Own.{IsMine, mine_at}

@@ -1,36 +1,36 @@
 -- A step of a call that asks, where it seeks: it goes on by what it remembers of its replies, or changes the map.
 use Rattle.std.specs.Prelude.{◌≡◌, ◌≢◌, ℕ, ◌==◌, Bool, true, false, Option, Some, None, Err, ◌⊎◌}
 use Rattle.std.proofs.Common.{refl, sym, subst, inl, inr}
-use Rattle.papaya_late.specs.Given.SeizeWords.declared.at.At.TheVariants.{Root}
-use Rattle.papaya_late.specs.Given.SeizeWords.Op.{Found, Exchanged}
-use Rattle.papaya_late.specs.Given.SeizeWords.Mem.{Mem, Took, value_at, word_at}
-use Rattle.papaya_late.specs.Given.SeizeWords.Plan.{Steps}
-use Rattle.papaya_late.proofs.Given.SeizeWords.OneOwner.Operations.{loaded, exchanged}
-use Rattle.papaya_late.proofs.Given.SeizeRule.Rows.Leaving.{steps_back}
-use Rattle.papaya_late.specs.Given.Raw.Call.{root_found, next_found, word_found, tried, first_made, next_made, helped, copied, plan_at}
-use Rattle.papaya_late.specs.Given.Raw.CallPoints.{changed}
-use Rattle.papaya_late.specs.Given.Resize.Copier.{copier_plan}
-use Rattle.papaya_late.specs.Given.Resize.NewTable.{new_table_plan}
-use Rattle.papaya_late.specs.Given.Tables.TablePlaces.{at_word}
-use Rattle.papaya_late.specs.Given.Tables.Trials.{place_tried}
-use Rattle.papaya_late.specs.Given.Tables.declared.node.Node.{Node}
-use Rattle.papaya_late.specs.Given.Tables.declared.table_words.TheConstants.{NEXT}
-use Rattle.papaya_late.specs.Given.Raw.declared.machines.answer.Called.{Called}
-use Rattle.papaya_late.specs.Given.Raw.declared.machines.answer.Called.TheVariants.{Asks}
-use Rattle.papaya_late.specs.Given.Raw.declared.machines.answer.Missing.{Missing}
-use Rattle.papaya_late.specs.Given.Raw.declared.machines.answer.There.{There}
-use Rattle.papaya_late.specs.Given.Raw.declared.machines.asking.Asking.TheVariants as asking
-use Rattle.papaya_late.specs.Given.Raw.declared.machines.asking.Takes.{Takes}
-use Rattle.papaya_late.specs.Given.Raw.declared.machines.asking.Takes.TheVariants as takes
-use Rattle.papaya_late.specs.Given.Raw.declared.machines.call.KeyCall.{KeyCall}
-use Rattle.papaya_late.specs.Given.Raw.declared.machines.call.Calling.{Calling}
-use Rattle.papaya_late.specs.Given.Raw.declared.machines.call.Calling.TheVariants as at
+use Rattle.papaya_late.specs.Given.SeizeWordsDeclared.at.At.TheVariants.{Root}
+use Rattle.papaya_late.specs.Given.SeizeWordsOp.{Found, Exchanged}
+use Rattle.papaya_late.specs.Given.SeizeWordsMem.{Mem, Took, value_at, word_at}
+use Rattle.papaya_late.specs.Given.SeizeWordsPlan.{Steps}
+use Rattle.papaya_late.proofs.Given.SeizeWordsOneOwner.Operations.{loaded, exchanged}
+use Rattle.papaya_late.proofs.Given.SeizeRuleRows.Leaving.{steps_back}
+use Rattle.papaya_late.specs.Given.RawCall.{root_found, next_found, word_found, tried, first_made, next_made, helped, copied, plan_at}
+use Rattle.papaya_late.specs.Given.RawCallPoints.{changed}
+use Rattle.papaya_late.specs.Given.ResizeCopier.{copier_plan}
+use Rattle.papaya_late.specs.Given.ResizeNewTable.{new_table_plan}
+use Rattle.papaya_late.specs.Given.TablesTablePlaces.{at_word}
+use Rattle.papaya_late.specs.Given.TablesTrials.{place_tried}
+use Rattle.papaya_late.specs.Given.TablesDeclared.node.Node.{Node}
+use Rattle.papaya_late.specs.Given.TablesDeclared.table_words.TheConstants.{NEXT}
+use Rattle.papaya_late.specs.Given.RawDeclared.machines.answer.Called.{Called}
+use Rattle.papaya_late.specs.Given.RawDeclared.machines.answer.Called.TheVariants.{Asks}
+use Rattle.papaya_late.specs.Given.RawDeclared.machines.answer.Missing.{Missing}
+use Rattle.papaya_late.specs.Given.RawDeclared.machines.answer.There.{There}
+use Rattle.papaya_late.specs.Given.RawDeclared.machines.asking.Asking.TheVariants as asking
+use Rattle.papaya_late.specs.Given.RawDeclared.machines.asking.Takes.{Takes}
+use Rattle.papaya_late.specs.Given.RawDeclared.machines.asking.Takes.TheVariants as takes
+use Rattle.papaya_late.specs.Given.RawDeclared.machines.call.KeyCall.{KeyCall}
+use Rattle.papaya_late.specs.Given.RawDeclared.machines.call.Calling.{Calling}
+use Rattle.papaya_late.specs.Given.RawDeclared.machines.call.Calling.TheVariants as at
 use Rattle.papaya_late.specs.Faults.{RoomInMaking, RoomInCopying}
 use Rattle.papaya_late.specs.Kinds.{FitsAt}
 use Rattle.papaya_late.proofs.KindsKept.Rooms.Copying.{copier_rooms}
 use Rattle.papaya_late.proofs.KindsKept.Rooms.Making.{new_table_rooms}
-use Rattle.papaya_late.specs.Given.Points.FactsCalls.{MayStore}
-use Rattle.papaya_late.proofs.Given.Points.Values.Copying.{all_then, all_if}
+use Rattle.papaya_late.specs.Given.PointsFactsCalls.{MayStore}
+use Rattle.papaya_late.proofs.Given.PointsValues.Copying.{all_then, all_if}
 use Rattle.papaya_callers.proofs.Asked.Goes.{AsksThere, AsksMissing, asks_both, GoesBy, tableless_by, last_by, read_by, went_on_by, first_by, next_by, helped_by, copied_by}
 
 -- where a call that asks seeks, with its own block and its replies as they are

@@ -1,54 +1,54 @@
 -- A step of a call comes to the claiming of places only within its copying.
 use Rattle.std.specs.Prelude.{ℕ, ◌==◌, if◌then◌else◌, Bool, true, false, Option, Some, None, Ok, Err}
-use Rattle.papaya_late.specs.Given.SeizeWords.Mem.{Mem, value_at, Took}
-use Rattle.papaya_late.specs.Given.SeizeWords.Op.{Out, Found, Exchanged, Made, Taken}
-use Rattle.papaya_late.specs.Given.SeizeWords.Plan.{Then, Steps}
-use Rattle.papaya_late.specs.Given.Seize.declared.progress.Progress.{Progress}
-use Rattle.papaya_late.specs.Given.Seize.declared.progress.Progress.TheVariants as progress
-use Rattle.papaya_late.specs.Given.Seize.declared.rows.settle.Settled.{Settled}
-use Rattle.papaya_late.specs.Given.Seize.declared.rows.settle.Settled.TheVariants as settled
-use Rattle.papaya_late.specs.Given.Tables.Chunks.{is_incremental}
-use Rattle.papaya_late.specs.Given.Tables.Finding.{may_name}
-use Rattle.papaya_late.specs.Given.Tables.Trials.{next_trial, with_met}
-use Rattle.papaya_late.specs.Given.Resize.CopierStates.{copying_all, resting}
-use Rattle.papaya_late.specs.Given.Resize.Dispose.{dispose_plan}
-use Rattle.papaya_late.specs.Given.Resize.Lookup.{lookup_plan}
-use Rattle.papaya_late.specs.Given.Resize.NewTable.{new_table_plan}
-use Rattle.papaya_late.specs.Given.Raw.Call.{made, makes_of, root_found, next_found, dropped, key_read, pair_read, word_read, word_found, tried, looked, looks_for, first_made, next_made, disposed, copied, plan_at, call_plan}
-use Rattle.papaya_late.specs.Given.Raw.CallFills.{filled, putting_by, fill_by, emptied, fills_with, fills, given_up, asks_at}
-use Rattle.papaya_late.specs.Given.Raw.CallPoints.{ending, asking_at, tableless, at_free, at_last, at_pair, told_of, went_on, changed, counted, having_met}
-use Rattle.papaya_late.specs.Given.Tables.declared.finding.Finding.{Finding}
-use Rattle.papaya_late.specs.Given.Tables.declared.finding.Finding.TheVariants as finds
-use Rattle.papaya_late.specs.Given.Tables.declared.marks.TheConstants.{TOMBSTONE}
-use Rattle.papaya_late.specs.Given.Tables.declared.node.Node.{Node}
-use Rattle.papaya_late.specs.Given.Tables.declared.node.Node.TheVariants as node
-use Rattle.papaya_late.specs.Given.Tables.declared.setting.Setting.{Setting}
-use Rattle.papaya_late.specs.Given.Tables.declared.table.Table.{Table}
-use Rattle.papaya_late.specs.Given.Resize.declared.copier.Copier.{Copier}
-use Rattle.papaya_late.specs.Given.Resize.declared.copier.Copying.TheVariants as copies
-use Rattle.papaya_late.specs.Given.Resize.declared.dispose.Dispose.{Dispose}
-use Rattle.papaya_late.specs.Given.Resize.declared.lookup.Lookup.{Lookup}
-use Rattle.papaya_late.specs.Given.Resize.declared.new_table.NewTable.{NewTable}
-use Rattle.papaya_late.specs.Given.Resize.declared.outcome.Outcome.{Outcome}
-use Rattle.papaya_late.specs.Given.Resize.declared.outcome.Outcome.TheVariants as outcome
-use Rattle.papaya_late.specs.Given.Raw.declared.machines.answer.KeyAnswer.{KeyAnswer}
-use Rattle.papaya_late.specs.Given.Raw.declared.machines.answer.End.{End}
-use Rattle.papaya_late.specs.Given.Raw.declared.machines.answer.Called.{Called}
-use Rattle.papaya_late.specs.Given.Raw.declared.machines.answer.Missing.{Missing}
-use Rattle.papaya_late.specs.Given.Raw.declared.machines.answer.Missing.TheVariants as missing
-use Rattle.papaya_late.specs.Given.Raw.declared.machines.answer.There.{There}
-use Rattle.papaya_late.specs.Given.Raw.declared.machines.answer.There.TheVariants as there
-use Rattle.papaya_late.specs.Given.Raw.Replies.{value_for}
-use Rattle.papaya_late.specs.Given.Raw.declared.machines.asking.Asking.{Asking}
-use Rattle.papaya_late.specs.Given.Raw.declared.machines.asking.Asking.TheVariants as asking
-use Rattle.papaya_late.specs.Given.Raw.declared.machines.asking.Gap.{Gap}
-use Rattle.papaya_late.specs.Given.Raw.declared.machines.asking.Gap.TheVariants as gaps
-use Rattle.papaya_late.specs.Given.Raw.declared.machines.call.KeyCall.{KeyCall}
-use Rattle.papaya_late.specs.Given.Raw.declared.machines.call.Calling.{Calling}
-use Rattle.papaya_late.specs.Given.Raw.declared.machines.call.Calling.TheVariants as at
-use Rattle.papaya_late.proofs.Given.Rule.Keys.Always.{Always, AlwaysOf, always_if, always_plan_as, always_steps}
-use Rattle.papaya_late.specs.Given.Points.FactsCalls.{IsCopying}
-use Rattle.papaya_late.proofs.Given.Points.Calls.Asked.{asking_so, asking_of_so, passed_so}
+use Rattle.papaya_late.specs.Given.SeizeWordsMem.{Mem, value_at, Took}
+use Rattle.papaya_late.specs.Given.SeizeWordsOp.{Out, Found, Exchanged, Made, Taken}
+use Rattle.papaya_late.specs.Given.SeizeWordsPlan.{Then, Steps}
+use Rattle.papaya_late.specs.Given.SeizeDeclared.progress.Progress.{Progress}
+use Rattle.papaya_late.specs.Given.SeizeDeclared.progress.Progress.TheVariants as progress
+use Rattle.papaya_late.specs.Given.SeizeDeclared.rows.settle.Settled.{Settled}
+use Rattle.papaya_late.specs.Given.SeizeDeclared.rows.settle.Settled.TheVariants as settled
+use Rattle.papaya_late.specs.Given.TablesChunks.{is_incremental}
+use Rattle.papaya_late.specs.Given.TablesFinding.{may_name}
+use Rattle.papaya_late.specs.Given.TablesTrials.{next_trial, with_met}
+use Rattle.papaya_late.specs.Given.ResizeCopierStates.{copying_all, resting}
+use Rattle.papaya_late.specs.Given.ResizeDispose.{dispose_plan}
+use Rattle.papaya_late.specs.Given.ResizeLookup.{lookup_plan}
+use Rattle.papaya_late.specs.Given.ResizeNewTable.{new_table_plan}
+use Rattle.papaya_late.specs.Given.RawCall.{made, makes_of, root_found, next_found, dropped, key_read, pair_read, word_read, word_found, tried, looked, looks_for, first_made, next_made, disposed, copied, plan_at, call_plan}
+use Rattle.papaya_late.specs.Given.RawCallFills.{filled, putting_by, fill_by, emptied, fills_with, fills, given_up, asks_at}
+use Rattle.papaya_late.specs.Given.RawCallPoints.{ending, asking_at, tableless, at_free, at_last, at_pair, told_of, went_on, changed, counted, having_met}
+use Rattle.papaya_late.specs.Given.TablesDeclared.finding.Finding.{Finding}
+use Rattle.papaya_late.specs.Given.TablesDeclared.finding.Finding.TheVariants as finds
+use Rattle.papaya_late.specs.Given.TablesDeclared.marks.TheConstants.{TOMBSTONE}
+use Rattle.papaya_late.specs.Given.TablesDeclared.node.Node.{Node}
+use Rattle.papaya_late.specs.Given.TablesDeclared.node.Node.TheVariants as node
+use Rattle.papaya_late.specs.Given.TablesDeclared.setting.Setting.{Setting}
+use Rattle.papaya_late.specs.Given.TablesDeclared.table.Table.{Table}
+use Rattle.papaya_late.specs.Given.ResizeDeclared.copier.Copier.{Copier}
+use Rattle.papaya_late.specs.Given.ResizeDeclared.copier.Copying.TheVariants as copies
+use Rattle.papaya_late.specs.Given.ResizeDeclared.dispose.Dispose.{Dispose}
+use Rattle.papaya_late.specs.Given.ResizeDeclared.lookup.Lookup.{Lookup}
+use Rattle.papaya_late.specs.Given.ResizeDeclared.new_table.NewTable.{NewTable}
+use Rattle.papaya_late.specs.Given.ResizeDeclared.outcome.Outcome.{Outcome}
+use Rattle.papaya_late.specs.Given.ResizeDeclared.outcome.Outcome.TheVariants as outcome
+use Rattle.papaya_late.specs.Given.RawDeclared.machines.answer.KeyAnswer.{KeyAnswer}
+use Rattle.papaya_late.specs.Given.RawDeclared.machines.answer.End.{End}
+use Rattle.papaya_late.specs.Given.RawDeclared.machines.answer.Called.{Called}
+use Rattle.papaya_late.specs.Given.RawDeclared.machines.answer.Missing.{Missing}
+use Rattle.papaya_late.specs.Given.RawDeclared.machines.answer.Missing.TheVariants as missing
+use Rattle.papaya_late.specs.Given.RawDeclared.machines.answer.There.{There}
+use Rattle.papaya_late.specs.Given.RawDeclared.machines.answer.There.TheVariants as there
+use Rattle.papaya_late.specs.Given.RawReplies.{value_for}
+use Rattle.papaya_late.specs.Given.RawDeclared.machines.asking.Asking.{Asking}
+use Rattle.papaya_late.specs.Given.RawDeclared.machines.asking.Asking.TheVariants as asking
+use Rattle.papaya_late.specs.Given.RawDeclared.machines.asking.Gap.{Gap}
+use Rattle.papaya_late.specs.Given.RawDeclared.machines.asking.Gap.TheVariants as gaps
+use Rattle.papaya_late.specs.Given.RawDeclared.machines.call.KeyCall.{KeyCall}
+use Rattle.papaya_late.specs.Given.RawDeclared.machines.call.Calling.{Calling}
+use Rattle.papaya_late.specs.Given.RawDeclared.machines.call.Calling.TheVariants as at
+use Rattle.papaya_late.proofs.Given.RuleKeys.Always.{Always, AlwaysOf, always_if, always_plan_as, always_steps}
+use Rattle.papaya_late.specs.Given.PointsFactsCalls.{IsCopying}
+use Rattle.papaya_late.proofs.Given.PointsCalls.Asked.{asking_so, asking_of_so, passed_so}
 use Rattle.papaya_callers.proofs.Claims.Copiers.{IsOther}
 
 -- it is not to claim places next

@@ -2,14 +2,14 @@
 use Rattle.std.specs.Prelude.{◌≢◌, ◌<◌, ◌+◌, cond}
 use Rattle.std.proofs.lemmas.Bool.{ne_eqb}
 use Rattle.std.proofs.Common.{◌≡◌, ℕ, ◌≤◌, Bool, inl, inr, refl, ap, sym, subst, ◌∙◌, arith}
-use Rattle.papaya_late.specs.Given.Tables.Chunks.{is_incremental}
-use Rattle.papaya_late.specs.Given.Tables.declared.resize_mode.ResizeMode.{ResizeMode}
-use Rattle.papaya_late.specs.Given.Rule.Chart.{Chart}
-use Rattle.papaya_late.specs.Given.Rule.Rule.{Rule}
-use Rattle.papaya_late.specs.Given.Rule.Moves.{Move, Links, Stores, Replaces, Removes, Claims, Reclaims, Allowed, after}
-use Rattle.papaya_late.specs.Given.Rule.Maps.{spot_of}
-use Rattle.papaya_late.specs.Given.Rule.InWorld.{Moved}
-use Rattle.papaya_late.specs.Given.Points.Told.{IsBeside, MovedBeside}
+use Rattle.papaya_late.specs.Given.TablesChunks.{is_incremental}
+use Rattle.papaya_late.specs.Given.TablesDeclared.resize_mode.ResizeMode.{ResizeMode}
+use Rattle.papaya_late.specs.Given.RuleChart.{Chart}
+use Rattle.papaya_late.specs.Given.RuleRule.{Rule}
+use Rattle.papaya_late.specs.Given.RuleMoves.{Move, Links, Stores, Replaces, Removes, Claims, Reclaims, Allowed, after}
+use Rattle.papaya_late.specs.Given.RuleMaps.{spot_of}
+use Rattle.papaya_late.specs.Given.RuleInWorld.{Moved}
+use Rattle.papaya_late.specs.Given.PointsTold.{IsBeside, MovedBeside}
 
 module _ {K : Type 0} (spot : ℕ → K → ℕ → ℕ) (incremental : Bool) (c : Chart K) where
   past_after : (move : Move K) → c.past ≤ (after spot incremental move c).past

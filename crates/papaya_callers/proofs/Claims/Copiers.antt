@@ -1,38 +1,38 @@
 -- A step of a copier comes to the claiming of places from the look at the claim alone.
 use Rattle.std.specs.Prelude.{ℕ, ◌+◌, ◌-◌, ◌%◌, ◌/◌, ◌^◌, ◌==◌, nat_lt, if◌then◌else◌, Bool, true, false, Ok, Err}
 use Rattle.std.proofs.Common.{◌≡◌, refl, sym, subst}
-use Rattle.papaya_late.specs.Given.SeizeWords.Mem.{Mem, value_at, with_word, Took}
-use Rattle.papaya_late.specs.Given.SeizeWords.Op.{Out, Found, Exchanged}
-use Rattle.papaya_late.specs.Given.SeizeWords.Plan.{Steps}
-use Rattle.papaya_late.specs.Given.Seize.World.{World}
-use Rattle.papaya_late.specs.Given.Seize.declared.progress.Progress.{Progress}
-use Rattle.papaya_late.specs.Given.Seize.declared.progress.Progress.TheVariants as progress
-use Rattle.papaya_late.proofs.Given.SeizeWords.OneOwner.Operations.{added}
-use Rattle.papaya_late.specs.Given.Resize.Copier.{plan_at, copier_plan}
-use Rattle.papaya_late.specs.Given.Resize.CopierClaims.{chunk, claimed, status_read}
-use Rattle.papaya_late.specs.Given.Resize.CopierCounts.{counted}
-use Rattle.papaya_late.specs.Given.Resize.CopierFurther.{replacement_read, remade}
-use Rattle.papaya_late.specs.Given.Resize.CopierMarks.{is_mine, is_awaited, marked}
-use Rattle.papaya_late.specs.Given.Resize.CopierPlaces.{next_try, pair_put, place_read, put_told}
-use Rattle.papaya_late.specs.Given.Resize.CopierPromotes.{promoted, successor_read}
-use Rattle.papaya_late.specs.Given.Resize.CopierStates.{behind, none_left, next_place, place_done}
-use Rattle.papaya_late.specs.Given.Resize.NewTable.{new_table_plan}
-use Rattle.papaya_late.specs.Given.Tables.Chunks.{is_incremental}
-use Rattle.papaya_late.specs.Given.Tables.TablePlaces.{at_word}
-use Rattle.papaya_late.specs.Given.Tables.declared.node.Node.{Node}
-use Rattle.papaya_late.specs.Given.Tables.declared.probe.Probe.{Probe}
-use Rattle.papaya_late.specs.Given.Tables.declared.setting.Setting.{Setting}
-use Rattle.papaya_late.specs.Given.Tables.declared.status.TheConstants.Status.{PROMOTED, ABORTED}
-use Rattle.papaya_late.specs.Given.Tables.declared.table.Table.{Table}
-use Rattle.papaya_late.specs.Given.Tables.declared.table_words.TheConstants.{CLAIM}
-use Rattle.papaya_late.specs.Given.Resize.declared.outcome.Outcome.{Outcome}
-use Rattle.papaya_late.specs.Given.Resize.declared.copier.Copier.{Copier}
-use Rattle.papaya_late.specs.Given.Resize.declared.copier.Copying.{Copying as Point}
-use Rattle.papaya_late.specs.Given.Resize.declared.copier.Copying.TheVariants as at
-use Rattle.papaya_late.specs.Given.Resize.declared.new_table.NewTable.{NewTable}
-use Rattle.papaya_late.specs.Given.Rule.Chart.{Chart}
-use Rattle.papaya_late.specs.Given.Rule.Words.{Blocks}
-use Rattle.papaya_late.proofs.Given.Rule.Keys.Always.{Always, AlwaysOf, always_if, always_ends, always_plan_as, always_steps}
+use Rattle.papaya_late.specs.Given.SeizeWordsMem.{Mem, value_at, with_word, Took}
+use Rattle.papaya_late.specs.Given.SeizeWordsOp.{Out, Found, Exchanged}
+use Rattle.papaya_late.specs.Given.SeizeWordsPlan.{Steps}
+use Rattle.papaya_late.specs.Given.SeizeWorld.{World}
+use Rattle.papaya_late.specs.Given.SeizeDeclared.progress.Progress.{Progress}
+use Rattle.papaya_late.specs.Given.SeizeDeclared.progress.Progress.TheVariants as progress
+use Rattle.papaya_late.proofs.Given.SeizeWordsOneOwner.Operations.{added}
+use Rattle.papaya_late.specs.Given.ResizeCopier.{plan_at, copier_plan}
+use Rattle.papaya_late.specs.Given.ResizeCopierClaims.{chunk, claimed, status_read}
+use Rattle.papaya_late.specs.Given.ResizeCopierCounts.{counted}
+use Rattle.papaya_late.specs.Given.ResizeCopierFurther.{replacement_read, remade}
+use Rattle.papaya_late.specs.Given.ResizeCopierMarks.{is_mine, is_awaited, marked}
+use Rattle.papaya_late.specs.Given.ResizeCopierPlaces.{next_try, pair_put, place_read, put_told}
+use Rattle.papaya_late.specs.Given.ResizeCopierPromotes.{promoted, successor_read}
+use Rattle.papaya_late.specs.Given.ResizeCopierStates.{behind, none_left, next_place, place_done}
+use Rattle.papaya_late.specs.Given.ResizeNewTable.{new_table_plan}
+use Rattle.papaya_late.specs.Given.TablesChunks.{is_incremental}
+use Rattle.papaya_late.specs.Given.TablesTablePlaces.{at_word}
+use Rattle.papaya_late.specs.Given.TablesDeclared.node.Node.{Node}
+use Rattle.papaya_late.specs.Given.TablesDeclared.probe.Probe.{Probe}
+use Rattle.papaya_late.specs.Given.TablesDeclared.setting.Setting.{Setting}
+use Rattle.papaya_late.specs.Given.TablesDeclared.status.TheConstants.Status.{PROMOTED, ABORTED}
+use Rattle.papaya_late.specs.Given.TablesDeclared.table.Table.{Table}
+use Rattle.papaya_late.specs.Given.TablesDeclared.table_words.TheConstants.{CLAIM}
+use Rattle.papaya_late.specs.Given.ResizeDeclared.outcome.Outcome.{Outcome}
+use Rattle.papaya_late.specs.Given.ResizeDeclared.copier.Copier.{Copier}
+use Rattle.papaya_late.specs.Given.ResizeDeclared.copier.Copying.{Copying as Point}
+use Rattle.papaya_late.specs.Given.ResizeDeclared.copier.Copying.TheVariants as at
+use Rattle.papaya_late.specs.Given.ResizeDeclared.new_table.NewTable.{NewTable}
+use Rattle.papaya_late.specs.Given.RuleChart.{Chart}
+use Rattle.papaya_late.specs.Given.RuleWords.{Blocks}
+use Rattle.papaya_late.proofs.Given.RuleKeys.Always.{Always, AlwaysOf, always_if, always_ends, always_plan_as, always_steps}
 use Rattle.papaya_callers.proofs.Claims.Knows.{CopierKnows}
 
 -- it is not to claim places next

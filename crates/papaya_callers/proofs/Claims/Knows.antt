@@ -1,23 +1,23 @@
 -- What a copier knows of the tables that it works at, whether the root is still the one that it copies or has left it: as much as tells which words it
 -- writes, and which claims it sees.
 use Rattle.std.proofs.Common.{◌≡◌, ℕ, suc, ◌^◌, ◌<◌, Bool, arith}
-use Rattle.papaya_late.specs.Given.SeizeWords.declared.at.At.TheVariants.{Word}
-use Rattle.papaya_late.specs.Given.Seize.World.{World}
-use Rattle.papaya_late.specs.Given.Tables.declared.node.Node.{Node}
-use Rattle.papaya_late.specs.Given.Tables.declared.setting.Setting.{Setting}
-use Rattle.papaya_late.specs.Given.Tables.declared.table.Table.{Table}
-use Rattle.papaya_late.specs.Given.Tables.declared.table_words.TheConstants.{NEXT}
-use Rattle.papaya_late.specs.Given.Resize.declared.copier.Copier.{Copier}
-use Rattle.papaya_late.specs.Given.Resize.declared.copier.Copying.{Copying as Point}
-use Rattle.papaya_late.specs.Given.Resize.declared.copier.Copying.TheVariants as at
-use Rattle.papaya_late.specs.Given.Rule.Chart.{Chart}
-use Rattle.papaya_late.specs.Given.Rule.InWorld.{IsMapIn}
-use Rattle.papaya_late.specs.Given.Rule.Maps.{IsTable, spot_at}
-use Rattle.papaya_late.specs.Given.Rule.Words.{Blocks}
-use Rattle.papaya_late.proofs.Given.Rule.Keys.TriesSeen.{spot_inside}
-use Rattle.papaya_late.specs.Given.Points.FactsTables.{NewTableFacts}
-use Rattle.papaya_late.specs.Given.Points.FactsCopiesBlocking.{CopyingFactsBlocking}
-use Rattle.papaya_late.specs.Given.Points.Told.{IsRowOfCopier}
+use Rattle.papaya_late.specs.Given.SeizeWordsDeclared.at.At.TheVariants.{Word}
+use Rattle.papaya_late.specs.Given.SeizeWorld.{World}
+use Rattle.papaya_late.specs.Given.TablesDeclared.node.Node.{Node}
+use Rattle.papaya_late.specs.Given.TablesDeclared.setting.Setting.{Setting}
+use Rattle.papaya_late.specs.Given.TablesDeclared.table.Table.{Table}
+use Rattle.papaya_late.specs.Given.TablesDeclared.table_words.TheConstants.{NEXT}
+use Rattle.papaya_late.specs.Given.ResizeDeclared.copier.Copier.{Copier}
+use Rattle.papaya_late.specs.Given.ResizeDeclared.copier.Copying.{Copying as Point}
+use Rattle.papaya_late.specs.Given.ResizeDeclared.copier.Copying.TheVariants as at
+use Rattle.papaya_late.specs.Given.RuleChart.{Chart}
+use Rattle.papaya_late.specs.Given.RuleInWorld.{IsMapIn}
+use Rattle.papaya_late.specs.Given.RuleMaps.{IsTable, spot_at}
+use Rattle.papaya_late.specs.Given.RuleWords.{Blocks}
+use Rattle.papaya_late.proofs.Given.RuleKeys.TriesSeen.{spot_inside}
+use Rattle.papaya_late.specs.Given.PointsFactsTables.{NewTableFacts}
+use Rattle.papaya_late.specs.Given.PointsFactsCopiesBlocking.{CopyingFactsBlocking}
+use Rattle.papaya_late.specs.Given.PointsTold.{IsRowOfCopier}
 use Rattle.papaya_late.specs.LateCopies.{LateCopying}
 
 module _ {K V : Type 0} (w : World (Node K V)) (caller : ℕ) (setting : Setting) (c : Chart K) (blocks : Blocks) where

@@ -1,27 +1,27 @@
 -- What one step of a call does to claims, in blocking mode.
 use Rattle.std.proofs.Common.{◌≡◌, ℕ, ◌+◌, ◌^◌, ◌<◌, ◌≤◌, Bool, false, ◌⊎◌, inl, inr, refl, ap, sym, subst}
-use Rattle.papaya_late.specs.Given.SeizeWords.Mem.{Mem, Can, Took, value_at}
-use Rattle.papaya_late.specs.Given.SeizeWords.Plan.{May, Steps}
-use Rattle.papaya_late.specs.Given.Seize.World.{World}
-use Rattle.papaya_late.specs.Given.Tables.Chunks.{is_incremental}
-use Rattle.papaya_late.specs.Given.Tables.declared.node.Node.{Node}
-use Rattle.papaya_late.specs.Given.Tables.declared.setting.Setting.{Setting}
-use Rattle.papaya_late.specs.Given.Tables.declared.table.Table.{Table}
-use Rattle.papaya_late.specs.Given.Resize.Copier.{copier_plan}
-use Rattle.papaya_late.specs.Given.Resize.declared.copier.Copier.{Copier}
-use Rattle.papaya_late.specs.Given.Resize.declared.copier.Copying.TheVariants as copies
-use Rattle.papaya_late.specs.Given.Resize.declared.outcome.Outcome.{Outcome}
-use Rattle.papaya_late.specs.Given.Resize.declared.outcome.Outcome.TheVariants as outcome
-use Rattle.papaya_late.specs.Given.Raw.Call.{copied, plan_at, call_plan}
-use Rattle.papaya_late.specs.Given.Raw.declared.machines.answer.Called.{Called}
-use Rattle.papaya_late.specs.Given.Raw.declared.machines.call.KeyCall.{KeyCall}
-use Rattle.papaya_late.specs.Given.Raw.declared.machines.call.Calling.{Calling}
-use Rattle.papaya_late.specs.Given.Raw.declared.machines.call.Calling.TheVariants as at
-use Rattle.papaya_late.specs.Given.Rule.Chart.{Chart}
-use Rattle.papaya_late.specs.Given.Rule.InWorld.{IsMapIn, Went}
-use Rattle.papaya_late.specs.Given.Rule.Words.{Blocks}
-use Rattle.papaya_late.specs.Given.Points.FactsCalls.{IsCopying, Change, Unchanged, CallingFacts, CallFacts}
-use Rattle.papaya_late.specs.Given.Points.Told.{IsRowOfCall, MovedBeside}
+use Rattle.papaya_late.specs.Given.SeizeWordsMem.{Mem, Can, Took, value_at}
+use Rattle.papaya_late.specs.Given.SeizeWordsPlan.{May, Steps}
+use Rattle.papaya_late.specs.Given.SeizeWorld.{World}
+use Rattle.papaya_late.specs.Given.TablesChunks.{is_incremental}
+use Rattle.papaya_late.specs.Given.TablesDeclared.node.Node.{Node}
+use Rattle.papaya_late.specs.Given.TablesDeclared.setting.Setting.{Setting}
+use Rattle.papaya_late.specs.Given.TablesDeclared.table.Table.{Table}
+use Rattle.papaya_late.specs.Given.ResizeCopier.{copier_plan}
+use Rattle.papaya_late.specs.Given.ResizeDeclared.copier.Copier.{Copier}
+use Rattle.papaya_late.specs.Given.ResizeDeclared.copier.Copying.TheVariants as copies
+use Rattle.papaya_late.specs.Given.ResizeDeclared.outcome.Outcome.{Outcome}
+use Rattle.papaya_late.specs.Given.ResizeDeclared.outcome.Outcome.TheVariants as outcome
+use Rattle.papaya_late.specs.Given.RawCall.{copied, plan_at, call_plan}
+use Rattle.papaya_late.specs.Given.RawDeclared.machines.answer.Called.{Called}
+use Rattle.papaya_late.specs.Given.RawDeclared.machines.call.KeyCall.{KeyCall}
+use Rattle.papaya_late.specs.Given.RawDeclared.machines.call.Calling.{Calling}
+use Rattle.papaya_late.specs.Given.RawDeclared.machines.call.Calling.TheVariants as at
+use Rattle.papaya_late.specs.Given.RuleChart.{Chart}
+use Rattle.papaya_late.specs.Given.RuleInWorld.{IsMapIn, Went}
+use Rattle.papaya_late.specs.Given.RuleWords.{Blocks}
+use Rattle.papaya_late.specs.Given.PointsFactsCalls.{IsCopying, Change, Unchanged, CallingFacts, CallFacts}
+use Rattle.papaya_late.specs.Given.PointsTold.{IsRowOfCall, MovedBeside}
 use Rattle.papaya_late.specs.LateCalls.{LateCallFacts, LateCalling}
 use Rattle.papaya_callers.specs.Claims.{IsToClaim, ClaimsBy}
 use Rattle.papaya_callers.proofs.Claims.Within as within

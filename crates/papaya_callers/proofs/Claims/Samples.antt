@@ -2,11 +2,11 @@
 use Rattle.std.specs.Prelude.{[], ◌∷◌}
 use Rattle.std.proofs.Common.{◌≡◌, ℕ, ◌+◌, ◌*◌, ◌<◌, ◌^◌, refl, arith}
 use Rattle.std.proofs.lemmas.List.Elements.{All-cons}
-use Rattle.papaya_late.specs.Given.Resize.CopierStates.{standing}
-use Rattle.papaya_late.specs.Given.Resize.declared.copier.Copier.{Copier}
-use Rattle.papaya_late.specs.Given.Resize.declared.copier.Copying.TheVariants as copies
-use Rattle.papaya_late.specs.Given.Raw.declared.machines.call.Calling.TheVariants as at
-use Rattle.papaya_late.specs.Given.Rule.Chart.{Chart}
+use Rattle.papaya_late.specs.Given.ResizeCopierStates.{standing}
+use Rattle.papaya_late.specs.Given.ResizeDeclared.copier.Copier.{Copier}
+use Rattle.papaya_late.specs.Given.ResizeDeclared.copier.Copying.TheVariants as copies
+use Rattle.papaya_late.specs.Given.RawDeclared.machines.call.Calling.TheVariants as at
+use Rattle.papaya_late.specs.Given.RuleChart.{Chart}
 use Rattle.papaya_callers.specs.Claims.{IsToClaim, ClaimsFit, ClaimsBy}
 
 at_its_bound : {K : Type 0} (c : Chart K) (IsTo : ℕ → ℕ → Type 0) (t i : ℕ) → t < c.past → c.claim t ≡ 2 ^ 48 + 4096 * 2 ^ 32 → IsTo t i → ClaimsFit c IsTo → ⊥

@@ -2,33 +2,33 @@
 -- has left it comes to ask about none.
 use Rattle.std.specs.Prelude.{◌≡◌, ◌≢◌, ℕ, ◌<◌, ◌^◌, ◌⊎◌, Bool, true, false, List, Option, Some, None}
 use Rattle.std.proofs.Common.{refl, ap, sym, subst, ◌∙◌, inl, inr}
-use Rattle.papaya_late.specs.Given.SeizeWords.Mem.{word_at}
-use Rattle.papaya_late.specs.Given.SeizeWords.Word.{block_in}
-use Rattle.papaya_late.specs.Given.Seize.World.{World}
-use Rattle.papaya_late.specs.Given.Tables.Chunks.{is_incremental}
-use Rattle.papaya_late.specs.Given.Tables.Marks.{has_mark}
-use Rattle.papaya_late.specs.Given.Tables.TablePlaces.{at_place}
-use Rattle.papaya_late.specs.Given.Tables.Trials.{place_tried}
-use Rattle.papaya_late.specs.Given.Tables.declared.marks.TheConstants.{COPYING}
-use Rattle.papaya_late.specs.Given.Tables.declared.node.Node.{Node}
-use Rattle.papaya_late.specs.Given.Tables.declared.setting.Setting.{Setting}
-use Rattle.papaya_late.specs.Given.Tables.declared.trial.Trial.{Trial}
-use Rattle.papaya_late.specs.Given.Raw.declared.machines.answer.KeyAnswer.TheVariants as answers
-use Rattle.papaya_late.specs.Given.Raw.declared.machines.asking.Asking.TheVariants as asking
-use Rattle.papaya_late.specs.Given.Raw.declared.machines.asking.Replies.{Replies}
-use Rattle.papaya_late.specs.Given.Raw.declared.machines.asking.Reply.{Reply}
-use Rattle.papaya_late.specs.Given.Raw.declared.machines.asking.Takes.TheVariants as takes
-use Rattle.papaya_late.specs.Given.Raw.declared.machines.asking.Told.TheVariants as tells
-use Rattle.papaya_late.specs.Given.Raw.declared.machines.call.Calling.TheVariants as at
-use Rattle.papaya_late.specs.Given.Rule.Chart.{Still, Holds, Chart, is_marked}
-use Rattle.papaya_late.specs.Given.Rule.Rule.{IsLawful, Rule, is_of}
-use Rattle.papaya_late.specs.Given.Rule.Words.{Blocks, byte_of, place_word}
-use Rattle.papaya_late.specs.Given.Rule.Maps.{spot_at, spot_of, IsClass}
-use Rattle.papaya_late.specs.Given.Rule.InWorld.{IsMapIn}
-use Rattle.papaya_late.proofs.Given.Rule.Laws.{current_is_known, words_tell_marks}
-use Rattle.papaya_late.proofs.Given.Rule.Keys.TriesSeen.{spot_inside}
-use Rattle.papaya_late.proofs.Given.Rule.Words.TablesSeen.{place_there}
-use Rattle.papaya_late.specs.Given.Points.FactsCalls.{Change, AnswersOf, NamesPair}
+use Rattle.papaya_late.specs.Given.SeizeWordsMem.{word_at}
+use Rattle.papaya_late.specs.Given.SeizeWordsWord.{block_in}
+use Rattle.papaya_late.specs.Given.SeizeWorld.{World}
+use Rattle.papaya_late.specs.Given.TablesChunks.{is_incremental}
+use Rattle.papaya_late.specs.Given.TablesMarks.{has_mark}
+use Rattle.papaya_late.specs.Given.TablesTablePlaces.{at_place}
+use Rattle.papaya_late.specs.Given.TablesTrials.{place_tried}
+use Rattle.papaya_late.specs.Given.TablesDeclared.marks.TheConstants.{COPYING}
+use Rattle.papaya_late.specs.Given.TablesDeclared.node.Node.{Node}
+use Rattle.papaya_late.specs.Given.TablesDeclared.setting.Setting.{Setting}
+use Rattle.papaya_late.specs.Given.TablesDeclared.trial.Trial.{Trial}
+use Rattle.papaya_late.specs.Given.RawDeclared.machines.answer.KeyAnswer.TheVariants as answers
+use Rattle.papaya_late.specs.Given.RawDeclared.machines.asking.Asking.TheVariants as asking
+use Rattle.papaya_late.specs.Given.RawDeclared.machines.asking.Replies.{Replies}
+use Rattle.papaya_late.specs.Given.RawDeclared.machines.asking.Reply.{Reply}
+use Rattle.papaya_late.specs.Given.RawDeclared.machines.asking.Takes.TheVariants as takes
+use Rattle.papaya_late.specs.Given.RawDeclared.machines.asking.Told.TheVariants as tells
+use Rattle.papaya_late.specs.Given.RawDeclared.machines.call.Calling.TheVariants as at
+use Rattle.papaya_late.specs.Given.RuleChart.{Still, Holds, Chart, is_marked}
+use Rattle.papaya_late.specs.Given.RuleRule.{IsLawful, Rule, is_of}
+use Rattle.papaya_late.specs.Given.RuleWords.{Blocks, byte_of, place_word}
+use Rattle.papaya_late.specs.Given.RuleMaps.{spot_at, spot_of, IsClass}
+use Rattle.papaya_late.specs.Given.RuleInWorld.{IsMapIn}
+use Rattle.papaya_late.proofs.Given.RuleLaws.{current_is_known, words_tell_marks}
+use Rattle.papaya_late.proofs.Given.RuleKeys.TriesSeen.{spot_inside}
+use Rattle.papaya_late.proofs.Given.RuleWords.TablesSeen.{place_there}
+use Rattle.papaya_late.specs.Given.PointsFactsCalls.{Change, AnswersOf, NamesPair}
 use Rattle.papaya_late.specs.LateLooks.{IsLateTrial}
 use Rattle.papaya_callers.specs.Asked.{Asked, last_told}
 use Rattle.papaya_callers.specs.AskedOnce.{WasAsked, HasGone, IsOfKeys, IsRecalled, AskedAt}

@@ -1,19 +1,19 @@
 -- What users and rows do puts nothing behind a block, and leaves what lies there. Behind one that its maker has there is nothing.
 use Rattle.std.specs.Prelude.{Option, Ok, Err}
 use Rattle.std.proofs.Common.{◌≡◌, ℕ, Bool, true, false, cond, eqb, List, [], ◌∷◌, refl, arith, ap, sym, subst, ◌∙◌}
-use Rattle.papaya_late.specs.Given.SeizeWords.Op.{Out, Make, Found, Stored, Exchanged, Made, Taken, Roomed}
-use Rattle.papaya_late.specs.Given.SeizeWords.Mem.{Mem, Took, value_at}
-use Rattle.papaya_late.specs.Given.Seize.Law.{Place, Nowhere, Standing, With, without, where_is, is_somewhere, owner_of}
-use Rattle.papaya_late.specs.Given.Seize.Sequence.{IsUsers}
-use Rattle.papaya_late.specs.Given.Seize.World.{World, Hand, Making, Handed, Event, Begin, Step, Makes, Drops, Links, Parts, Unlinks, Rewrites, Operates, Ends, LeavesOver, Relinks, Clears, Chooses, Happens, Runs, Steps', made_by}
-use Rattle.papaya_late.proofs.Given.SeizeMoves.State.Ghost.{Life, IsOwned, is_linked, place_of}
-use Rattle.papaya_late.proofs.Given.SeizeRule.Points.Aside.{HandFits}
-use Rattle.papaya_late.proofs.Given.SeizeRule.Rows.Effects.{owner_kept, place_kept}
-use Rattle.papaya_late.proofs.Given.SeizeRule.World.Values.{own_op_value, taken_value, made_value, rewritten_value}
+use Rattle.papaya_late.specs.Given.SeizeWordsOp.{Out, Make, Found, Stored, Exchanged, Made, Taken, Roomed}
+use Rattle.papaya_late.specs.Given.SeizeWordsMem.{Mem, Took, value_at}
+use Rattle.papaya_late.specs.Given.SeizeLaw.{Place, Nowhere, Standing, With, without, where_is, is_somewhere, owner_of}
+use Rattle.papaya_late.specs.Given.SeizeSequence.{IsUsers}
+use Rattle.papaya_late.specs.Given.SeizeWorld.{World, Hand, Making, Handed, Event, Begin, Step, Makes, Drops, Links, Parts, Unlinks, Rewrites, Operates, Ends, LeavesOver, Relinks, Clears, Chooses, Happens, Runs, Steps', made_by}
+use Rattle.papaya_late.proofs.Given.SeizeMovesState.Ghost.{Life, IsOwned, is_linked, place_of}
+use Rattle.papaya_late.proofs.Given.SeizeRulePoints.Aside.{HandFits}
+use Rattle.papaya_late.proofs.Given.SeizeRuleRows.Effects.{owner_kept, place_kept}
+use Rattle.papaya_late.proofs.Given.SeizeRuleWorld.Values.{own_op_value, taken_value, made_value, rewritten_value}
 use Rattle.seize_alone.proofs.Histories.NotTaken.{CanBeReached, did, kept_there, kept_value}
 use Rattle.seize_alone.proofs.Histories.Reached.{Reached, happens_reached}
-use Rattle.papaya_late.specs.Given.Tables.declared.node.Node.{Node}
-use Rattle.papaya_late.specs.Given.Rule.InWorld.{AllUsers}
+use Rattle.papaya_late.specs.Given.TablesDeclared.node.Node.{Node}
+use Rattle.papaya_late.specs.Given.RuleInWorld.{AllUsers}
 use Rattle.papaya_callers.specs.Kept.{IsPairOf}
 
 -- what carries a block is linked, and so its maker doesn't have it

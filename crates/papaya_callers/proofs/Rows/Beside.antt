@@ -1,13 +1,13 @@
 -- What a step of a row, whoever takes it, leaves to callers: the blocks that they have made, those in use, and those that they have unlinked.
 use Rattle.std.proofs.Common.{◌≡◌, ℕ, inl, sym, subst, ◌∙◌}
-use Rattle.papaya_late.specs.Given.SeizeWords.Mem.{value_at, word_at}
-use Rattle.papaya_late.specs.Given.SeizeWords.declared.at.At.TheVariants.{Word}
-use Rattle.papaya_late.specs.Given.Seize.World.{World, Making, Cutting, Steps', Hand, NoBlock, InUse, Handed, LeftTo, Parting}
+use Rattle.papaya_late.specs.Given.SeizeWordsMem.{value_at, word_at}
+use Rattle.papaya_late.specs.Given.SeizeWordsDeclared.at.At.TheVariants.{Word}
+use Rattle.papaya_late.specs.Given.SeizeWorld.{World, Making, Cutting, Steps', Hand, NoBlock, InUse, Handed, LeftTo, Parting}
 use Rattle.seize_alone.proofs.Histories.NotTaken.{did, not_taken, kept_value, kept_hand}
 use Rattle.seize_alone.proofs.Histories.Reached.{Reached}
-use Rattle.papaya_late.specs.Given.Tables.Nodes.{deferred_word}
-use Rattle.papaya_late.specs.Given.Tables.declared.node.Node.{Node}
-use Rattle.papaya_late.specs.Given.Rule.InWorld.{IsHeldBy, KeepsBlocks}
+use Rattle.papaya_late.specs.Given.TablesNodes.{deferred_word}
+use Rattle.papaya_late.specs.Given.TablesDeclared.node.Node.{Node}
+use Rattle.papaya_late.specs.Given.RuleInWorld.{IsHeldBy, KeepsBlocks}
 use Rattle.papaya_callers.specs.Kept.{IsUsersOwn, IsMaking}
 use Rattle.papaya_callers.proofs.Rows.Keep.{kept_block}
 

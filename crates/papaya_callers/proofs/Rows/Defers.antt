@@ -2,21 +2,21 @@
 use Rattle.std.specs.Prelude.{Option}
 use Rattle.std.proofs.Common.{◌≡◌, ◌≢◌, ℕ, suc, ◌<◌, ◌≤◌, Bool, true, false, cond, ◌∷◌, inl, inr, refl, arith, ap, sym, subst, ◌∙◌}
 use Rattle.std.proofs.lemmas.Bool.{cases_eq, eq-eqb, ne_eqb}
-use Rattle.papaya_late.specs.Given.Seize.Law.{Place, Standing, Nowhere, With, Deferred, where_is, is_standing}
-use Rattle.papaya_late.specs.Given.Seize.World.{World, Row, Use, Hand, InUse, Parting, Handed, Defer', Begins, with_at}
-use Rattle.papaya_late.proofs.Given.SeizeMoves.State.Ghost.{place_of}
-use Rattle.papaya_late.proofs.Given.SeizeRule.Points.Aside.{HandFits, IsStanding, standing_life}
+use Rattle.papaya_late.specs.Given.SeizeLaw.{Place, Standing, Nowhere, With, Deferred, where_is, is_standing}
+use Rattle.papaya_late.specs.Given.SeizeWorld.{World, Row, Use, Hand, InUse, Parting, Handed, Defer', Begins, with_at}
+use Rattle.papaya_late.proofs.Given.SeizeMovesState.Ghost.{place_of}
+use Rattle.papaya_late.proofs.Given.SeizeRulePoints.Aside.{HandFits, IsStanding, standing_life}
 use Rattle.seize_alone.proofs.Histories.Reached.{Reached}
-use Rattle.papaya_late.specs.Given.Tables.Nodes.{deferred_word}
-use Rattle.papaya_late.specs.Given.Tables.declared.node.Node.{Node}
-use Rattle.papaya_late.specs.Given.Tables.declared.setting.Setting.{Setting}
-use Rattle.papaya_late.specs.Given.Rule.Chart.{Phase, Holds, Chart}
-use Rattle.papaya_late.specs.Given.Rule.Words.{Blocks}
-use Rattle.papaya_late.specs.Given.Rule.InWorld.{IsOut, StandsIn, IsReached, IsMapIn}
-use Rattle.papaya_late.specs.Given.Points.FactsDisposes.{StandsBefore, StandsNowhere}
-use Rattle.papaya_late.proofs.Given.Rule.World.Hands.{Hands, at_cases, hand_kept, standing_kept, current_known, named_known}
-use Rattle.papaya_late.proofs.Given.Rule.Words.TablesSeen.{pair_apart}
-use Rattle.papaya_late.proofs.Given.Rule.World.WentWrote.{map_in, counter_of}
+use Rattle.papaya_late.specs.Given.TablesNodes.{deferred_word}
+use Rattle.papaya_late.specs.Given.TablesDeclared.node.Node.{Node}
+use Rattle.papaya_late.specs.Given.TablesDeclared.setting.Setting.{Setting}
+use Rattle.papaya_late.specs.Given.RuleChart.{Phase, Holds, Chart}
+use Rattle.papaya_late.specs.Given.RuleWords.{Blocks}
+use Rattle.papaya_late.specs.Given.RuleInWorld.{IsOut, StandsIn, IsReached, IsMapIn}
+use Rattle.papaya_late.specs.Given.PointsFactsDisposes.{StandsBefore, StandsNowhere}
+use Rattle.papaya_late.proofs.Given.RuleWorld.Hands.{Hands, at_cases, hand_kept, standing_kept, current_known, named_known}
+use Rattle.papaya_late.proofs.Given.RuleWords.TablesSeen.{pair_apart}
+use Rattle.papaya_late.proofs.Given.RuleWorld.WentWrote.{map_in, counter_of}
 
 -- what is in use, or parting, can be reached from a root
 stands_at : {T : Type 0} (defers : T → Option ℕ) (size : ℕ) (w : World T) → Reached defers size w → (b : ℕ) (hand : Hand) → w.hand b ≡ hand → IsStanding hand → where_is b w.log ≡ Standing

@@ -1,9 +1,9 @@
 -- Blocks that nobody looks at any more may be forgotten.
 use Rattle.std.proofs.Common.{◌≡◌, ℕ, ◌<◌, ◌≤◌, Bool, true}
-use Rattle.papaya_late.specs.Given.SeizeWords.Mem.{Mem}
-use Rattle.papaya_late.specs.Given.Tables.declared.node.Node.{Node}
-use Rattle.papaya_late.specs.Given.Rule.Chart.{Chart, Phase, Holds}
-use Rattle.papaya_late.specs.Given.Rule.Words.{Blocks, ShowsTable, Shows}
+use Rattle.papaya_late.specs.Given.SeizeWordsMem.{Mem}
+use Rattle.papaya_late.specs.Given.TablesDeclared.node.Node.{Node}
+use Rattle.papaya_late.specs.Given.RuleChart.{Chart, Phase, Holds}
+use Rattle.papaya_late.specs.Given.RuleWords.{Blocks, ShowsTable, Shows}
 
 -- what is still known was known, and it is enough
 pub record Forgets {K : Type 0} (c : Chart K) (blocks : Blocks) (table_known pair_known : ℕ → Bool) : Type 0 where

@@ -2,20 +2,20 @@
 use Rattle.std.specs.Prelude.{Bool, false, Some, None, Option, IsSome, if◌then◌else◌}
 use Rattle.std.proofs.Common.{◌≡◌, ℕ, ◌+◌, List, [], ◌∷◌, ◌++◌, refl, ap, sym, subst, ◌∙◌}
 use Rattle.std.proofs.lemmas.Bool.{eq-eqb}
-use Rattle.papaya_late.specs.Given.SeizeWords.Mem.{Mem, block_of, value_in, value_at, with_block, Took}
-use Rattle.papaya_late.specs.Given.SeizeWords.Plan.{Steps}
-use Rattle.papaya_late.proofs.Given.SeizeWords.OneOwner.AfterWrites.{block_of-with_block}
-use Rattle.papaya_late.proofs.Given.SeizeRule.Words.Named.{block_there}
-use Rattle.papaya_late.specs.Given.Seize.Law.{Effect, holds, IsSound}
-use Rattle.papaya_late.specs.Given.Seize.Sequence.{taken_in}
-use Rattle.papaya_late.specs.Given.Seize.Settle.{settle_plan}
-use Rattle.papaya_late.specs.Given.Seize.World.{World, Row, Settles, Steps', times, settle_effects, settles_on}
-use Rattle.papaya_late.specs.Given.Seize.declared.rows.settle.Settle.{Settle}
-use Rattle.papaya_late.specs.Given.Seize.declared.rows.settle.Settling.{Settling}
-use Rattle.papaya_late.specs.Given.Seize.declared.rows.settle.Settling.TheVariants as at
-use Rattle.papaya_late.specs.Given.Seize.declared.rows.settle.Settled.TheVariants.{Gave}
-use Rattle.papaya_late.proofs.Given.SeizeRule.Rows.Effects.{settle_one, taken_hand}
-use Rattle.papaya_late.proofs.Given.SeizeRule.Rows.Taken.{settle_tells}
+use Rattle.papaya_late.specs.Given.SeizeWordsMem.{Mem, block_of, value_in, value_at, with_block, Took}
+use Rattle.papaya_late.specs.Given.SeizeWordsPlan.{Steps}
+use Rattle.papaya_late.proofs.Given.SeizeWordsOneOwner.AfterWrites.{block_of-with_block}
+use Rattle.papaya_late.proofs.Given.SeizeRuleWords.Named.{block_there}
+use Rattle.papaya_late.specs.Given.SeizeLaw.{Effect, holds, IsSound}
+use Rattle.papaya_late.specs.Given.SeizeSequence.{taken_in}
+use Rattle.papaya_late.specs.Given.SeizeSettle.{settle_plan}
+use Rattle.papaya_late.specs.Given.SeizeWorld.{World, Row, Settles, Steps', times, settle_effects, settles_on}
+use Rattle.papaya_late.specs.Given.SeizeDeclared.rows.settle.Settle.{Settle}
+use Rattle.papaya_late.specs.Given.SeizeDeclared.rows.settle.Settling.{Settling}
+use Rattle.papaya_late.specs.Given.SeizeDeclared.rows.settle.Settling.TheVariants as at
+use Rattle.papaya_late.specs.Given.SeizeDeclared.rows.settle.Settled.TheVariants.{Gave}
+use Rattle.papaya_late.proofs.Given.SeizeRuleRows.Effects.{settle_one, taken_hand}
+use Rattle.papaya_late.proofs.Given.SeizeRuleRows.Taken.{settle_tells}
 use Rattle.seize_alone.proofs.Histories.Reached.{Reached, steps_reached}
 use Rattle.papaya_callers.specs.Together.{IsReclaimed}
 

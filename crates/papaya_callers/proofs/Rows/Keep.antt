@@ -1,24 +1,24 @@
 -- A step of a row keeps the map that its collector is used for, and all blocks of it that are kept.
 use Rattle.std.specs.Prelude.{slice_get}
 use Rattle.std.proofs.Common.{◌≡◌, ℕ, ◌<◌, Bool, true, List, ap, sym, subst, ◌∙◌, inl, inr}
-use Rattle.papaya_late.specs.Given.SeizeWords.declared.at.At.TheVariants.{Word}
-use Rattle.papaya_late.specs.Given.SeizeWords.Mem.{value_at, word_at}
-use Rattle.papaya_late.specs.Given.Seize.Law.{With, where_is, is_somewhere}
-use Rattle.papaya_late.specs.Given.Seize.World.{World, Hand, NoBlock, Making, InUse, Cutting, Handed, LeftTo, IsOwn, Steps', Parting}
+use Rattle.papaya_late.specs.Given.SeizeWordsDeclared.at.At.TheVariants.{Word}
+use Rattle.papaya_late.specs.Given.SeizeWordsMem.{value_at, word_at}
+use Rattle.papaya_late.specs.Given.SeizeLaw.{With, where_is, is_somewhere}
+use Rattle.papaya_late.specs.Given.SeizeWorld.{World, Hand, NoBlock, Making, InUse, Cutting, Handed, LeftTo, IsOwn, Steps', Parting}
 use Rattle.seize_alone.specs.Alone.{IsOfUsers}
 use Rattle.seize_alone.proofs.Histories.NotTaken.{IsKept, CanBeReached, IsHad, did, kept_value, kept_word, kept_hand, still_reached}
 use Rattle.seize_alone.proofs.Histories.Reached.{Reached}
-use Rattle.papaya_late.proofs.Given.SeizeRule.Rows.Effects.{place_kept}
-use Rattle.papaya_late.specs.Given.Tables.Nodes.{deferred_word}
-use Rattle.papaya_late.specs.Given.Tables.declared.node.Node.{Node}
-use Rattle.papaya_late.specs.Given.Tables.declared.node.Node.TheVariants as node
-use Rattle.papaya_late.specs.Given.Tables.declared.setting.Setting.{Setting}
-use Rattle.papaya_late.specs.Given.Rule.Chart.{Chart}
-use Rattle.papaya_late.specs.Given.Rule.Words.{Blocks}
-use Rattle.papaya_late.specs.Given.Rule.InWorld.{IsOut, StandsIn, IsReached, IsMapIn}
-use Rattle.papaya_late.proofs.Given.Rule.World.Framed.{Frames, shows_framed}
-use Rattle.papaya_late.proofs.Given.Rule.World.Hands.{Hands}
-use Rattle.papaya_late.proofs.Given.Rule.World.WentWrote.{HasCounter, map_in, own_word}
+use Rattle.papaya_late.proofs.Given.SeizeRuleRows.Effects.{place_kept}
+use Rattle.papaya_late.specs.Given.TablesNodes.{deferred_word}
+use Rattle.papaya_late.specs.Given.TablesDeclared.node.Node.{Node}
+use Rattle.papaya_late.specs.Given.TablesDeclared.node.Node.TheVariants as node
+use Rattle.papaya_late.specs.Given.TablesDeclared.setting.Setting.{Setting}
+use Rattle.papaya_late.specs.Given.RuleChart.{Chart}
+use Rattle.papaya_late.specs.Given.RuleWords.{Blocks}
+use Rattle.papaya_late.specs.Given.RuleInWorld.{IsOut, StandsIn, IsReached, IsMapIn}
+use Rattle.papaya_late.proofs.Given.RuleWorld.Framed.{Frames, shows_framed}
+use Rattle.papaya_late.proofs.Given.RuleWorld.Hands.{Hands}
+use Rattle.papaya_late.proofs.Given.RuleWorld.WentWrote.{HasCounter, map_in, own_word}
 use Rattle.papaya_callers.specs.Kept.{IsUsersOwn, IsKeptBlock}
 
 module _ {K V : Type 0} (w : World (Node K V)) where

@@ -1,14 +1,14 @@
 -- What a move makes: tables behind all others, and pairs of the map. So what is known after it was known before, or is in use.
 use Rattle.std.proofs.Common.{◌≡◌, ℕ, zero, suc, ◌<◌, ◌≤◌, Bool, true, cond, ◌⊎◌, inl, inr, refl, arith, ap, sym, subst, ◌∙◌}
 use Rattle.std.proofs.lemmas.Bool.{cases_lt, eq-eqb}
-use Rattle.papaya_late.specs.Given.Tables.Chunks.{is_incremental}
-use Rattle.papaya_late.specs.Given.Tables.declared.resize_mode.ResizeMode.{ResizeMode}
-use Rattle.papaya_late.specs.Given.Rule.Chart.{Chart, put}
-use Rattle.papaya_late.specs.Given.Rule.Rule.{Rule}
-use Rattle.papaya_late.specs.Given.Rule.Moves.{Move, Links, Stores, Replaces, Removes, Marks, MarksBlocking, Skips, Unmarks, Puts, Covers, PutsLate, Claims, Reclaims, Counts, GivesUp, Aborts, Promotes, Announces, after, Allowed}
-use Rattle.papaya_late.specs.Given.Rule.Words.{Blocks}
-use Rattle.papaya_late.specs.Given.Rule.Maps.{spot_of}
-use Rattle.papaya_late.specs.Given.Rule.InWorld.{Moved, SameBlocks, KnownSince}
+use Rattle.papaya_late.specs.Given.TablesChunks.{is_incremental}
+use Rattle.papaya_late.specs.Given.TablesDeclared.resize_mode.ResizeMode.{ResizeMode}
+use Rattle.papaya_late.specs.Given.RuleChart.{Chart, put}
+use Rattle.papaya_late.specs.Given.RuleRule.{Rule}
+use Rattle.papaya_late.specs.Given.RuleMoves.{Move, Links, Stores, Replaces, Removes, Marks, MarksBlocking, Skips, Unmarks, Puts, Covers, PutsLate, Claims, Reclaims, Counts, GivesUp, Aborts, Promotes, Announces, after, Allowed}
+use Rattle.papaya_late.specs.Given.RuleWords.{Blocks}
+use Rattle.papaya_late.specs.Given.RuleMaps.{spot_of}
+use Rattle.papaya_late.specs.Given.RuleInWorld.{Moved, SameBlocks, KnownSince}
 
 module _ {K : Type 0} (same : K → K → Bool) (spot : ℕ → K → ℕ → ℕ) (incremental : Bool) (c : Chart K) (rule : Rule same spot incremental c) where
   pub record Makes (c2 : Chart K) : Type 0 where

@@ -1,14 +1,14 @@
 -- A block is retired that its caller has unlinked: the map stands as it stood.
 use Rattle.std.proofs.Common.{◌≡◌, ℕ, Bool, inl, inr, refl, sym, subst}
-use Rattle.papaya_late.specs.Given.Seize.World.{World, Row, Use, Hand, InUse, Handed, Retire, Begins, with_at}
-use Rattle.papaya_late.specs.Given.Tables.Nodes.{deferred_word}
-use Rattle.papaya_late.specs.Given.Tables.declared.node.Node.{Node}
-use Rattle.papaya_late.specs.Given.Tables.declared.setting.Setting.{Setting}
-use Rattle.papaya_late.specs.Given.Rule.Chart.{Chart}
-use Rattle.papaya_late.specs.Given.Rule.Words.{Blocks}
-use Rattle.papaya_late.specs.Given.Rule.InWorld.{IsOut, StandsIn, IsReached, IsMapIn}
-use Rattle.papaya_late.proofs.Given.Rule.World.Hands.{at_cases}
-use Rattle.papaya_late.proofs.Given.Rule.World.WentWrote.{map_in, counter_of}
+use Rattle.papaya_late.specs.Given.SeizeWorld.{World, Row, Use, Hand, InUse, Handed, Retire, Begins, with_at}
+use Rattle.papaya_late.specs.Given.TablesNodes.{deferred_word}
+use Rattle.papaya_late.specs.Given.TablesDeclared.node.Node.{Node}
+use Rattle.papaya_late.specs.Given.TablesDeclared.setting.Setting.{Setting}
+use Rattle.papaya_late.specs.Given.RuleChart.{Chart}
+use Rattle.papaya_late.specs.Given.RuleWords.{Blocks}
+use Rattle.papaya_late.specs.Given.RuleInWorld.{IsOut, StandsIn, IsReached, IsMapIn}
+use Rattle.papaya_late.proofs.Given.RuleWorld.Hands.{at_cases}
+use Rattle.papaya_late.proofs.Given.RuleWorld.WentWrote.{map_in, counter_of}
 
 module _ {K V : Type 0} (same : K → K → Bool) (hash : K → ℕ) (setting : Setting) (w : World (Node K V)) (c : Chart K) (blocks : Blocks) (map : IsMapIn same hash setting w c blocks)
     (i s b : ℕ) (w2 : World (Node K V)) (begins : Begins deferred_word setting.batch_size i (Retire s b) w w2) where

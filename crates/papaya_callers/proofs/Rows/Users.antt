@@ -1,27 +1,27 @@
 -- What users do, where every row rests, leaves a call within its section.
 use Rattle.std.specs.Prelude.{Some, Ok, Err}
 use Rattle.std.proofs.Common.{◌≡◌, ℕ, ◌<◌, ◌≤◌, Bool, true, List, [], ◌∷◌, ◌⊎◌, inl, inr, refl, ap, sym, subst}
-use Rattle.papaya_late.specs.Given.SeizeWords.Op.{Out, Found, Stored, Exchanged, Made, Taken, Roomed}
-use Rattle.papaya_late.specs.Given.SeizeWords.Mem.{Mem, value_at}
-use Rattle.papaya_late.specs.Given.Seize.Law.{holds, is_somewhere}
-use Rattle.papaya_late.specs.Given.Seize.World.{World, Use, Hand, NoBlock, Making, InUse, Cutting, Handed, LeftTo, Event, Begin, Step, Makes, Drops, Links, Unlinks, Rewrites, Operates, LeavesOver, Relinks, Clears, Chooses, Happens, Runs, IsInside, made_by, Parts, Parting, Ends}
-use Rattle.papaya_late.specs.Given.Seize.Sequence.{IsUsers}
-use Rattle.papaya_late.proofs.Given.SeizeMoves.State.Logs.{reached_held}
+use Rattle.papaya_late.specs.Given.SeizeWordsOp.{Out, Found, Stored, Exchanged, Made, Taken, Roomed}
+use Rattle.papaya_late.specs.Given.SeizeWordsMem.{Mem, value_at}
+use Rattle.papaya_late.specs.Given.SeizeLaw.{holds, is_somewhere}
+use Rattle.papaya_late.specs.Given.SeizeWorld.{World, Use, Hand, NoBlock, Making, InUse, Cutting, Handed, LeftTo, Event, Begin, Step, Makes, Drops, Links, Unlinks, Rewrites, Operates, LeavesOver, Relinks, Clears, Chooses, Happens, Runs, IsInside, made_by, Parts, Parting, Ends}
+use Rattle.papaya_late.specs.Given.SeizeSequence.{IsUsers}
+use Rattle.papaya_late.proofs.Given.SeizeMovesState.Logs.{reached_held}
 use Rattle.seize_alone.proofs.Histories.NotTaken.{nobodys}
 use Rattle.seize_alone.proofs.Histories.Uses.{inside_open}
 use Rattle.seize_alone.proofs.Histories.UsersTurn.{AreUsers, users_uses}
 use Rattle.seize_alone.proofs.Histories.Reached.{Reached, happens_reached, runs_reached}
-use Rattle.papaya_late.specs.Given.Tables.Nodes.{deferred_word}
-use Rattle.papaya_late.specs.Given.Tables.declared.node.Node.{Node}
-use Rattle.papaya_late.specs.Given.Tables.declared.setting.Setting.{Setting}
-use Rattle.papaya_late.specs.Given.Rule.Chart.{Chart}
-use Rattle.papaya_late.specs.Given.Rule.Words.{Blocks}
-use Rattle.papaya_late.specs.Given.Rule.InWorld.{KnownSince, IsMapIn, AllUsers}
-use Rattle.papaya_late.proofs.Given.Rule.World.Hands.{at_cases}
+use Rattle.papaya_late.specs.Given.TablesNodes.{deferred_word}
+use Rattle.papaya_late.specs.Given.TablesDeclared.node.Node.{Node}
+use Rattle.papaya_late.specs.Given.TablesDeclared.setting.Setting.{Setting}
+use Rattle.papaya_late.specs.Given.RuleChart.{Chart}
+use Rattle.papaya_late.specs.Given.RuleWords.{Blocks}
+use Rattle.papaya_late.specs.Given.RuleInWorld.{KnownSince, IsMapIn, AllUsers}
+use Rattle.papaya_late.proofs.Given.RuleWorld.Hands.{at_cases}
 use Rattle.papaya_callers.specs.Kept.{IsUsersOwn, IsMaking, IsWithin}
 use Rattle.papaya_callers.proofs.Rows.Defers.{used_stands}
 use Rattle.papaya_callers.proofs.Rows.UsersHeld.{still_holds, events_inside}
-use Rattle.papaya_late.specs.Given.Rule.Counters.{SparesCounter}
+use Rattle.papaya_late.specs.Given.RuleCounters.{SparesCounter}
 
 pub all_users : {T : Type 0} (events : List (Event T)) → AllUsers events → AreUsers events
 all_users [] u = tt

@@ -1,20 +1,20 @@
 -- What users do keeps, within an open section, all blocks of a map: also what a table deferred that is unlinked.
 use Rattle.std.specs.Prelude.{Ok, Err}
 use Rattle.std.proofs.Common.{◌≡◌, ℕ, true, List, [], ◌∷◌, sym, subst, ap, ◌∙◌, ◌+◌}
-use Rattle.papaya_late.specs.Given.SeizeWords.Op.{Out, Found, Stored, Exchanged, Made, Taken, Roomed}
-use Rattle.papaya_late.specs.Given.SeizeWords.Mem.{Mem}
-use Rattle.papaya_late.specs.Given.Seize.Law.{Linked, Unlinked, holds}
-use Rattle.papaya_late.specs.Given.Seize.World.{World, Use, Event, Begin, Step, Makes, Drops, Links, Unlinks, Rewrites, Operates, LeavesOver, Relinks, Clears, Chooses, Happens, Runs, IsInside, made_by, Making, Hand, Parts, Ends}
-use Rattle.papaya_late.specs.Given.Seize.Sequence.{IsUsers}
-use Rattle.papaya_late.proofs.Given.SeizeMoves.State.Held.{held_on, held_beside}
+use Rattle.papaya_late.specs.Given.SeizeWordsOp.{Out, Found, Stored, Exchanged, Made, Taken, Roomed}
+use Rattle.papaya_late.specs.Given.SeizeWordsMem.{Mem}
+use Rattle.papaya_late.specs.Given.SeizeLaw.{Linked, Unlinked, holds}
+use Rattle.papaya_late.specs.Given.SeizeWorld.{World, Use, Event, Begin, Step, Makes, Drops, Links, Unlinks, Rewrites, Operates, LeavesOver, Relinks, Clears, Chooses, Happens, Runs, IsInside, made_by, Making, Hand, Parts, Ends}
+use Rattle.papaya_late.specs.Given.SeizeSequence.{IsUsers}
+use Rattle.papaya_late.proofs.Given.SeizeMovesState.Held.{held_on, held_beside}
 use Rattle.seize_alone.proofs.Histories.UsersTurn.{users_uses}
 use Rattle.seize_alone.proofs.Histories.Reached.{Reached}
-use Rattle.papaya_late.specs.Given.Tables.Nodes.{deferred_word}
-use Rattle.papaya_late.specs.Given.Tables.declared.node.Node.{Node}
-use Rattle.papaya_late.specs.Given.Rule.InWorld.{AllUsers}
-use Rattle.papaya_late.proofs.Given.SeizeMoves.Moves.Blocks.{never_held}
-use Rattle.papaya_late.proofs.Given.SeizeRule.Points.Aside.{HandFits}
-use Rattle.papaya_late.specs.Given.Seize.declared.states.TheConstants.{LAST_SLOT}
+use Rattle.papaya_late.specs.Given.TablesNodes.{deferred_word}
+use Rattle.papaya_late.specs.Given.TablesDeclared.node.Node.{Node}
+use Rattle.papaya_late.specs.Given.RuleInWorld.{AllUsers}
+use Rattle.papaya_late.proofs.Given.SeizeMovesMoves.Blocks.{never_held}
+use Rattle.papaya_late.proofs.Given.SeizeRulePoints.Aside.{HandFits}
+use Rattle.papaya_late.specs.Given.SeizeDeclared.states.TheConstants.{LAST_SLOT}
 
 module _ {K V : Type 0} (size : ℕ) (w : World (Node K V)) (r : Reached deferred_word size w) (slot : ℕ) (inside : IsInside (w.uses slot)) (x : ℕ) where
   made_held : (i : ℕ) (m : Mem (Node K V)) (out : Out (Node K V)) → holds slot x w.log ≡ true → holds slot x (made_by deferred_word w i m out).log ≡ true

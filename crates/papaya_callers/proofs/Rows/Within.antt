@@ -1,14 +1,14 @@
 -- A step of a row leaves a caller within its section.
 use Rattle.std.proofs.Common.{ℕ, sym, subst}
-use Rattle.papaya_late.specs.Given.Seize.World.{World, Use, Vacant, Outside, Inside, Changing, IsTaken, IsInside, Steps'}
+use Rattle.papaya_late.specs.Given.SeizeWorld.{World, Use, Vacant, Outside, Inside, Changing, IsTaken, IsInside, Steps'}
 use Rattle.seize_alone.proofs.Histories.NotTaken.{still_held}
 use Rattle.seize_alone.proofs.Histories.Reached.{Reached}
 use Rattle.seize_alone.proofs.Histories.Uses.{inside_kept}
-use Rattle.papaya_late.specs.Given.Tables.Nodes.{deferred_word}
-use Rattle.papaya_late.specs.Given.Tables.declared.node.Node.{Node}
-use Rattle.papaya_late.specs.Given.Tables.declared.setting.Setting.{Setting}
-use Rattle.papaya_late.specs.Given.Rule.Chart.{Chart}
-use Rattle.papaya_late.specs.Given.Rule.Words.{Blocks}
+use Rattle.papaya_late.specs.Given.TablesNodes.{deferred_word}
+use Rattle.papaya_late.specs.Given.TablesDeclared.node.Node.{Node}
+use Rattle.papaya_late.specs.Given.TablesDeclared.setting.Setting.{Setting}
+use Rattle.papaya_late.specs.Given.RuleChart.{Chart}
+use Rattle.papaya_late.specs.Given.RuleWords.{Blocks}
 use Rattle.papaya_callers.specs.Kept.{IsMaking, IsWithin}
 use Rattle.papaya_callers.proofs.Rows.Beside.{users_hand, making_own}
 

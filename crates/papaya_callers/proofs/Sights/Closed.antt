@@ -1,10 +1,10 @@
 -- What a place names after a move its table named before, or the root did, or the table did that it was linked behind, or it is new.
 use Rattle.std.specs.Prelude.{◌≡◌, ℕ, ◌<◌, Bool, false, ◌⊎◌}
 use Rattle.std.proofs.Common.{sym, subst, ◌∙◌, inl, inr}
-use Rattle.papaya_late.specs.Given.Tables.declared.status.TheConstants.Status.{ABORTED}
-use Rattle.papaya_late.specs.Given.Rule.Chart.{Phase, Still, Copying, Copied, Place, Empty, Tombstone, Holds, Chart, put_in}
-use Rattle.papaya_late.specs.Given.Rule.Moves.{Move, Links, Stores, Replaces, Removes, Marks, MarksBlocking, Skips, Unmarks, Puts, Covers, PutsLate, Claims, Reclaims, Counts, GivesUp, Aborts, Promotes, Announces, marked, still_place, copied_place, lent_place, after, Allowed}
-use Rattle.papaya_late.proofs.Given.Rule.Moves.Writes.{put_in_cases}
+use Rattle.papaya_late.specs.Given.TablesDeclared.status.TheConstants.Status.{ABORTED}
+use Rattle.papaya_late.specs.Given.RuleChart.{Phase, Still, Copying, Copied, Place, Empty, Tombstone, Holds, Chart, put_in}
+use Rattle.papaya_late.specs.Given.RuleMoves.{Move, Links, Stores, Replaces, Removes, Marks, MarksBlocking, Skips, Unmarks, Puts, Covers, PutsLate, Claims, Reclaims, Counts, GivesUp, Aborts, Promotes, Announces, marked, still_place, copied_place, lent_place, after, Allowed}
+use Rattle.papaya_late.proofs.Given.RuleMoves.Writes.{put_in_cases}
 
 module _ {K : Type 0} (same : K → K → Bool) (spot : ℕ → K → ℕ → ℕ) (incremental : Bool) (c : Chart K) where
   -- the table was aborted, and the one names the pair that was the root as it was linked

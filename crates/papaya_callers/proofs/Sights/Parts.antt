@@ -1,8 +1,8 @@
 -- What may be looked at of a map, less and less.
 use Rattle.std.specs.Prelude.{ℕ}
 use Rattle.std.proofs.Common.{refl, ◌∙◌}
-use Rattle.papaya_late.specs.Given.Rule.Chart.{Chart}
-use Rattle.papaya_late.specs.Given.Rule.Words.{Blocks}
+use Rattle.papaya_late.specs.Given.RuleChart.{Chart}
+use Rattle.papaya_late.specs.Given.RuleWords.{Blocks}
 use Rattle.papaya_callers.specs.Sights.{IsPartOf}
 
 module _ {K : Type 0} (c : Chart K) where

@@ -1,10 +1,10 @@
 -- What is refused as a sight: in a map of one table with one place, then of the one pair in it, and then behind a table that was aborted.
 use Rattle.std.specs.Prelude.{ℕ, leb}
 use Rattle.std.proofs.Common.{true, false, refl, arith}
-use Rattle.papaya_late.specs.Given.Rule.Chart.{Still, Chart}
-use Rattle.papaya_late.specs.Given.Rule.Moves.{Links, Skips, Claims, Counts, GivesUp, Aborts, Promotes, after}
-use Rattle.papaya_late.specs.Given.Rule.Words.{Blocks}
-use Rattle.papaya_late.proofs.Given.Rule.Samples.SampleResizes.{spot, rooted, stored}
+use Rattle.papaya_late.specs.Given.RuleChart.{Still, Chart}
+use Rattle.papaya_late.specs.Given.RuleMoves.{Links, Skips, Claims, Counts, GivesUp, Aborts, Promotes, after}
+use Rattle.papaya_late.specs.Given.RuleWords.{Blocks}
+use Rattle.papaya_late.proofs.Given.RuleSamples.SampleResizes.{spot, rooted, stored}
 use Rattle.papaya_callers.specs.Sights.{IsSight}
 use Rattle.papaya_callers.specs.Together.{no_sight}
 

@@ -3,16 +3,16 @@ use Rattle.std.specs.Prelude.{◌≡◌, ℕ, zero, suc, ◌<◌, ◌≤◌, Boo
 use Rattle.std.proofs.Common.{refl, ap, sym, subst, ◌∙◌, inl, inr, arith}
 use Rattle.std.proofs.lemmas.Bool.{cases_lt, cases_eq}
 use Rattle.std.proofs.lemmas.Bool.Decides.{nat_tests}
-use Rattle.papaya_late.specs.Given.Tables.Chunks.{is_incremental}
-use Rattle.papaya_late.specs.Given.Tables.declared.resize_mode.ResizeMode.{ResizeMode}
-use Rattle.papaya_late.specs.Given.Tables.declared.status.TheConstants.Status.{PENDING, ABORTED, PROMOTED}
-use Rattle.papaya_late.specs.Given.Rule.Chart.{Chart}
-use Rattle.papaya_late.specs.Given.Rule.Rule.{Rule}
-use Rattle.papaya_late.specs.Given.Rule.Moves.{Move, Links, Stores, Replaces, Removes, Marks, MarksBlocking, Skips, Unmarks, Puts, Covers, PutsLate, Claims, Reclaims, Counts, GivesUp, Aborts, Promotes, Announces, after, Allowed}
-use Rattle.papaya_late.specs.Given.Rule.Moments.{Moments, Remembers}
-use Rattle.papaya_late.specs.Given.Rule.Maps.{spot_of}
-use Rattle.papaya_late.specs.Given.Rule.InWorld.{Moved}
-use Rattle.papaya_late.proofs.Given.Rule.Moves.Writes.{put_cases}
+use Rattle.papaya_late.specs.Given.TablesChunks.{is_incremental}
+use Rattle.papaya_late.specs.Given.TablesDeclared.resize_mode.ResizeMode.{ResizeMode}
+use Rattle.papaya_late.specs.Given.TablesDeclared.status.TheConstants.Status.{PENDING, ABORTED, PROMOTED}
+use Rattle.papaya_late.specs.Given.RuleChart.{Chart}
+use Rattle.papaya_late.specs.Given.RuleRule.{Rule}
+use Rattle.papaya_late.specs.Given.RuleMoves.{Move, Links, Stores, Replaces, Removes, Marks, MarksBlocking, Skips, Unmarks, Puts, Covers, PutsLate, Claims, Reclaims, Counts, GivesUp, Aborts, Promotes, Announces, after, Allowed}
+use Rattle.papaya_late.specs.Given.RuleMoments.{Moments, Remembers}
+use Rattle.papaya_late.specs.Given.RuleMaps.{spot_of}
+use Rattle.papaya_late.specs.Given.RuleInWorld.{Moved}
+use Rattle.papaya_late.proofs.Given.RuleMoves.Writes.{put_cases}
 use Rattle.papaya_callers.specs.Sights.{SeesSources}
 
 -- one of two, by a bound

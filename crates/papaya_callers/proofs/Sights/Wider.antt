@@ -3,24 +3,24 @@ use Rattle.std.specs.Prelude.{◌≡◌, ◌≢◌, ℕ, suc, ◌+◌, ◌*◌, 
 use Rattle.std.proofs.Common.{refl, ap, sym, subst, ◌∙◌, inl, inr, arith}
 use Rattle.std.proofs.lemmas.Bool.{cases_lt}
 use Rattle.std.proofs.lemmas.Bool.Decides.{nat_tests}
-use Rattle.papaya_late.specs.Given.SeizeWords.declared.at.At.TheVariants.{Root, Word}
-use Rattle.papaya_late.specs.Given.SeizeWords.Mem.{Mem, value_at, word_at}
-use Rattle.papaya_late.specs.Given.Seize.Law.{With, where_is}
-use Rattle.papaya_late.specs.Given.Seize.World.{World, Making}
-use Rattle.papaya_late.specs.Given.Tables.Chunks.{is_incremental}
-use Rattle.papaya_late.specs.Given.Tables.declared.node.Node.{Node}
-use Rattle.papaya_late.specs.Given.Tables.declared.node.Node.TheVariants as node
-use Rattle.papaya_late.specs.Given.Tables.declared.setting.Setting.{Setting}
-use Rattle.papaya_late.specs.Given.Tables.declared.table_words.TheConstants.{NEXT, CLAIM, COPIED, STATUS, PLACES}
-use Rattle.papaya_late.specs.Given.Rule.Chart.{Phase, Copying, Place, Empty, Tombstone, Holds, Chart}
-use Rattle.papaya_late.specs.Given.Rule.Moves.{Move, Links, Stores, Replaces, Removes, Marks, MarksBlocking, Skips, Unmarks, Puts, Covers, PutsLate, Claims, Reclaims, Counts, GivesUp, Aborts, Promotes, Announces, after, Allowed}
-use Rattle.papaya_late.specs.Given.Rule.Words.{Blocks, byte_of, word_of, next_word, root_word, place_word, ShowsTable, Shows}
-use Rattle.papaya_late.specs.Given.Rule.Maps.{spot_of}
-use Rattle.papaya_late.specs.Given.Rule.InWorld.{IsOut, StandsIn, IsReached, IsMapIn, InFootprint, Moved, Went}
-use Rattle.papaya_late.specs.Given.Rule.Lasts.{Lasts}
-use Rattle.papaya_late.specs.Given.Rule.Moments.{Moments, Remembers}
-use Rattle.papaya_late.proofs.Given.Rule.Words.BlocksApart.{values_apart}
-use Rattle.papaya_late.proofs.Given.Rule.World.Hands.{current_known}
+use Rattle.papaya_late.specs.Given.SeizeWordsDeclared.at.At.TheVariants.{Root, Word}
+use Rattle.papaya_late.specs.Given.SeizeWordsMem.{Mem, value_at, word_at}
+use Rattle.papaya_late.specs.Given.SeizeLaw.{With, where_is}
+use Rattle.papaya_late.specs.Given.SeizeWorld.{World, Making}
+use Rattle.papaya_late.specs.Given.TablesChunks.{is_incremental}
+use Rattle.papaya_late.specs.Given.TablesDeclared.node.Node.{Node}
+use Rattle.papaya_late.specs.Given.TablesDeclared.node.Node.TheVariants as node
+use Rattle.papaya_late.specs.Given.TablesDeclared.setting.Setting.{Setting}
+use Rattle.papaya_late.specs.Given.TablesDeclared.table_words.TheConstants.{NEXT, CLAIM, COPIED, STATUS, PLACES}
+use Rattle.papaya_late.specs.Given.RuleChart.{Phase, Copying, Place, Empty, Tombstone, Holds, Chart}
+use Rattle.papaya_late.specs.Given.RuleMoves.{Move, Links, Stores, Replaces, Removes, Marks, MarksBlocking, Skips, Unmarks, Puts, Covers, PutsLate, Claims, Reclaims, Counts, GivesUp, Aborts, Promotes, Announces, after, Allowed}
+use Rattle.papaya_late.specs.Given.RuleWords.{Blocks, byte_of, word_of, next_word, root_word, place_word, ShowsTable, Shows}
+use Rattle.papaya_late.specs.Given.RuleMaps.{spot_of}
+use Rattle.papaya_late.specs.Given.RuleInWorld.{IsOut, StandsIn, IsReached, IsMapIn, InFootprint, Moved, Went}
+use Rattle.papaya_late.specs.Given.RuleLasts.{Lasts}
+use Rattle.papaya_late.specs.Given.RuleMoments.{Moments, Remembers}
+use Rattle.papaya_late.proofs.Given.RuleWords.BlocksApart.{values_apart}
+use Rattle.papaya_late.proofs.Given.RuleWorld.Hands.{current_known}
 use Rattle.papaya_callers.proofs.Sights.Closed.{Named, names_before}
 use Rattle.papaya_callers.proofs.Sights.Sources.{below, above, sources_then}
 use Rattle.papaya_callers.specs.Sights.{SeesSources, Sight, IsGrown, IsSight}

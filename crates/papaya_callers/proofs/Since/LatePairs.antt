@@ -1,33 +1,33 @@
 -- A step of a call in a table that the root has left keeps track of the pair that it was begun with.
 use Rattle.std.specs.Prelude.{◌==◌, if◌then◌else◌, Option}
 use Rattle.std.proofs.Common.{◌≡◌, ℕ, ◌/◌, ◌<◌, ◌^◌, Bool, true, false, Some, ◌⊎◌, inl, inr, sym, ap, subst, ◌∙◌}
-use Rattle.papaya_late.specs.Given.SeizeWords.Mem.{Mem, Can, Took, value_at}
-use Rattle.papaya_late.specs.Given.SeizeWords.Plan.{May, Steps}
-use Rattle.papaya_late.specs.Given.Seize.World.{World}
-use Rattle.papaya_late.specs.Given.Tables.declared.marks.TheConstants.{TOMBSTONE}
-use Rattle.papaya_late.specs.Given.Tables.declared.node.Node.{Node}
-use Rattle.papaya_late.specs.Given.Tables.declared.node.Node.TheVariants as node
-use Rattle.papaya_late.specs.Given.Tables.declared.setting.Setting.{Setting}
-use Rattle.papaya_late.specs.Given.Resize.Dispose.{disposing}
-use Rattle.papaya_late.specs.Given.Raw.Call.{call_plan}
-use Rattle.papaya_late.specs.Given.Raw.CallPoints.{changed, going}
-use Rattle.papaya_late.specs.Given.Raw.declared.machines.answer.Called.{Called}
-use Rattle.papaya_late.specs.Given.Raw.declared.machines.answer.Called.TheVariants as called
-use Rattle.papaya_late.specs.Given.Raw.declared.machines.answer.KeyAnswer.TheVariants as answers
-use Rattle.papaya_late.specs.Given.Raw.declared.machines.call.KeyCall.{KeyCall}
-use Rattle.papaya_late.specs.Given.Raw.declared.machines.call.Calling.{Calling}
-use Rattle.papaya_late.specs.Given.Raw.declared.machines.call.Calling.TheVariants as at
-use Rattle.papaya_late.specs.Given.Rule.Chart.{Chart}
-use Rattle.papaya_late.specs.Given.Rule.Words.{Blocks}
-use Rattle.papaya_late.specs.Given.Points.FactsCalls.{Unchanged, MayStore, CallFacts}
-use Rattle.papaya_late.specs.Given.Points.Told.{IsRowOfCall}
-use Rattle.papaya_late.proofs.Given.Points.Calls.Probes.{own_value}
-use Rattle.papaya_late.proofs.Given.Points.Values.Own.{IsDropping, NoneMoved, SeeksOn}
-use Rattle.papaya_late.proofs.Given.Points.Values.Seeks.{HasNoneOr, its_or, sought_own}
-use Rattle.papaya_late.proofs.Given.Points.Values.Sought.{IsSought, IsAhead, kept_of, GoesSeeking}
-use Rattle.papaya_late.proofs.Given.Points.Values.Never.{never_fills, sought_kept}
-use Rattle.papaya_late.specs.Given.Raw.declared.machines.asking.Replies.{Replies}
-use Rattle.papaya_late.specs.Given.Raw.declared.machines.asking.Takes.TheVariants as takes
+use Rattle.papaya_late.specs.Given.SeizeWordsMem.{Mem, Can, Took, value_at}
+use Rattle.papaya_late.specs.Given.SeizeWordsPlan.{May, Steps}
+use Rattle.papaya_late.specs.Given.SeizeWorld.{World}
+use Rattle.papaya_late.specs.Given.TablesDeclared.marks.TheConstants.{TOMBSTONE}
+use Rattle.papaya_late.specs.Given.TablesDeclared.node.Node.{Node}
+use Rattle.papaya_late.specs.Given.TablesDeclared.node.Node.TheVariants as node
+use Rattle.papaya_late.specs.Given.TablesDeclared.setting.Setting.{Setting}
+use Rattle.papaya_late.specs.Given.ResizeDispose.{disposing}
+use Rattle.papaya_late.specs.Given.RawCall.{call_plan}
+use Rattle.papaya_late.specs.Given.RawCallPoints.{changed, going}
+use Rattle.papaya_late.specs.Given.RawDeclared.machines.answer.Called.{Called}
+use Rattle.papaya_late.specs.Given.RawDeclared.machines.answer.Called.TheVariants as called
+use Rattle.papaya_late.specs.Given.RawDeclared.machines.answer.KeyAnswer.TheVariants as answers
+use Rattle.papaya_late.specs.Given.RawDeclared.machines.call.KeyCall.{KeyCall}
+use Rattle.papaya_late.specs.Given.RawDeclared.machines.call.Calling.{Calling}
+use Rattle.papaya_late.specs.Given.RawDeclared.machines.call.Calling.TheVariants as at
+use Rattle.papaya_late.specs.Given.RuleChart.{Chart}
+use Rattle.papaya_late.specs.Given.RuleWords.{Blocks}
+use Rattle.papaya_late.specs.Given.PointsFactsCalls.{Unchanged, MayStore, CallFacts}
+use Rattle.papaya_late.specs.Given.PointsTold.{IsRowOfCall}
+use Rattle.papaya_late.proofs.Given.PointsCalls.Probes.{own_value}
+use Rattle.papaya_late.proofs.Given.PointsValues.Own.{IsDropping, NoneMoved, SeeksOn}
+use Rattle.papaya_late.proofs.Given.PointsValues.Seeks.{HasNoneOr, its_or, sought_own}
+use Rattle.papaya_late.proofs.Given.PointsValues.Sought.{IsSought, IsAhead, kept_of, GoesSeeking}
+use Rattle.papaya_late.proofs.Given.PointsValues.Never.{never_fills, sought_kept}
+use Rattle.papaya_late.specs.Given.RawDeclared.machines.asking.Replies.{Replies}
+use Rattle.papaya_late.specs.Given.RawDeclared.machines.asking.Takes.TheVariants as takes
 use Rattle.papaya_late.specs.LateCalls.{LateCalling, LateCallFacts}
 use Rattle.papaya_late.specs.LateTold.{LateAfter}
 use Rattle.papaya_late.proofs.Values.Own.{late_never_asks, late_seeks_on}

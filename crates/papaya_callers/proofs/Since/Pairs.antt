@@ -1,48 +1,48 @@
 -- A step of a call keeps track of the pair that it was begun with.
 use Rattle.std.specs.Prelude.{◌==◌, if◌then◌else◌, Option, Some}
 use Rattle.std.proofs.Common.{◌≡◌, ◌≢◌, ℕ, ◌<◌, ◌≤◌, ◌/◌, ◌^◌, Bool, true, false, inl, inr, refl, sym, ap, subst, arith, ◌∙◌}
-use Rattle.papaya_late.specs.Given.SeizeWords.Mem.{Can, Took, value_at, Mem}
-use Rattle.papaya_late.specs.Given.SeizeWords.Plan.{May, Steps}
-use Rattle.papaya_late.proofs.Given.SeizeWords.OneOwner.Operations.{made as made_by_step, taken}
-use Rattle.papaya_late.specs.Given.Seize.World.{World}
-use Rattle.papaya_late.specs.Given.Tables.declared.marks.TheConstants.{TOMBSTONE}
-use Rattle.papaya_late.specs.Given.Tables.declared.node.Node.{Node}
-use Rattle.papaya_late.specs.Given.Tables.declared.node.Node.TheVariants as node
-use Rattle.papaya_late.specs.Given.Tables.declared.setting.Setting.{Setting}
-use Rattle.papaya_late.specs.Given.Resize.Dispose.{disposing, dispose_plan}
-use Rattle.papaya_late.specs.Given.Resize.declared.dispose.Dispose.{Dispose}
-use Rattle.papaya_late.specs.Given.Seize.declared.rows.settle.Settled.{Settled}
-use Rattle.papaya_late.specs.Given.Seize.declared.rows.settle.Settled.TheVariants as settled
-use Rattle.papaya_late.specs.Given.Raw.Call.{call_plan, plan_at, makes_of, made, drops, dropped, disposed}
-use Rattle.papaya_late.specs.Given.Raw.Answers.{ended}
-use Rattle.papaya_late.specs.Given.Raw.CallPoints.{changed, counted, going, over}
-use Rattle.papaya_late.specs.Given.Raw.declared.machines.answer.Called.{Called}
-use Rattle.papaya_late.specs.Given.Raw.declared.machines.answer.Called.TheVariants as called
-use Rattle.papaya_late.specs.Given.Raw.declared.machines.answer.End.{End}
-use Rattle.papaya_late.specs.Given.Raw.declared.machines.answer.End.TheVariants as ends
-use Rattle.papaya_late.specs.Given.Raw.declared.machines.answer.KeyAnswer.{KeyAnswer}
-use Rattle.papaya_late.specs.Given.Raw.declared.machines.answer.KeyAnswer.TheVariants as answers
-use Rattle.papaya_late.specs.Given.Raw.declared.machines.call.KeyCall.{KeyCall}
-use Rattle.papaya_late.specs.Given.Raw.declared.machines.call.Calling.{Calling}
-use Rattle.papaya_late.specs.Given.Raw.declared.machines.call.Calling.TheVariants as at
-use Rattle.papaya_late.specs.Given.Rule.Chart.{Still, Holds, Chart}
-use Rattle.papaya_late.specs.Given.Rule.Words.{Blocks, place_word, byte_of}
-use Rattle.papaya_late.specs.Given.Rule.InWorld.{IsOut, IsMapIn, IsFramed, SameBlocks}
-use Rattle.papaya_late.proofs.Given.Rule.Words.PlaceWords.{pair_block}
-use Rattle.papaya_late.proofs.Given.Rule.Words.PlacesShown.{byte_of-few}
-use Rattle.papaya_late.specs.Given.Points.FactsCalls.{Change, Unchanged, Stored, Replaced, Removed, IsOwnPair, Seeks, Tells, CallingFacts, CallFacts}
-use Rattle.papaya_late.specs.Given.Points.Told.{HasAnswered, IsRowOfCall, CallFactsAfter, CallTold}
-use Rattle.papaya_late.proofs.Given.Rule.Keys.Always.{always_plan_as, always_steps}
-use Rattle.papaya_late.proofs.Given.Points.Calls.Probes.{own_block, own_value}
-use Rattle.papaya_late.proofs.Given.Points.Values.Kept.{SameValues}
-use Rattle.papaya_late.proofs.Given.Points.Values.Left.{made_here}
-use Rattle.papaya_late.proofs.Given.Points.Calls.Holdings.{never_asks}
-use Rattle.papaya_late.proofs.Given.Points.Values.Never.{never_fills}
-use Rattle.papaya_late.proofs.Given.Points.Values.Sought.{IsSought, IsAhead, kept_of, GoesSeeking, IsLook}
-use Rattle.papaya_late.specs.Given.Raw.declared.machines.asking.Replies.{Replies}
-use Rattle.papaya_late.specs.Given.Raw.declared.machines.asking.Takes.TheVariants as takes
-use Rattle.papaya_late.proofs.Given.Points.Values.Seeks.{HasNoneOr, sought_own, look_unchanged}
-use Rattle.papaya_late.proofs.Given.Points.Values.Own.{IsDropping, NoneMoved, SeeksOn, seeks_on}
+use Rattle.papaya_late.specs.Given.SeizeWordsMem.{Can, Took, value_at, Mem}
+use Rattle.papaya_late.specs.Given.SeizeWordsPlan.{May, Steps}
+use Rattle.papaya_late.proofs.Given.SeizeWordsOneOwner.Operations.{made as made_by_step, taken}
+use Rattle.papaya_late.specs.Given.SeizeWorld.{World}
+use Rattle.papaya_late.specs.Given.TablesDeclared.marks.TheConstants.{TOMBSTONE}
+use Rattle.papaya_late.specs.Given.TablesDeclared.node.Node.{Node}
+use Rattle.papaya_late.specs.Given.TablesDeclared.node.Node.TheVariants as node
+use Rattle.papaya_late.specs.Given.TablesDeclared.setting.Setting.{Setting}
+use Rattle.papaya_late.specs.Given.ResizeDispose.{disposing, dispose_plan}
+use Rattle.papaya_late.specs.Given.ResizeDeclared.dispose.Dispose.{Dispose}
+use Rattle.papaya_late.specs.Given.SeizeDeclared.rows.settle.Settled.{Settled}
+use Rattle.papaya_late.specs.Given.SeizeDeclared.rows.settle.Settled.TheVariants as settled
+use Rattle.papaya_late.specs.Given.RawCall.{call_plan, plan_at, makes_of, made, drops, dropped, disposed}
+use Rattle.papaya_late.specs.Given.RawAnswers.{ended}
+use Rattle.papaya_late.specs.Given.RawCallPoints.{changed, counted, going, over}
+use Rattle.papaya_late.specs.Given.RawDeclared.machines.answer.Called.{Called}
+use Rattle.papaya_late.specs.Given.RawDeclared.machines.answer.Called.TheVariants as called
+use Rattle.papaya_late.specs.Given.RawDeclared.machines.answer.End.{End}
+use Rattle.papaya_late.specs.Given.RawDeclared.machines.answer.End.TheVariants as ends
+use Rattle.papaya_late.specs.Given.RawDeclared.machines.answer.KeyAnswer.{KeyAnswer}
+use Rattle.papaya_late.specs.Given.RawDeclared.machines.answer.KeyAnswer.TheVariants as answers
+use Rattle.papaya_late.specs.Given.RawDeclared.machines.call.KeyCall.{KeyCall}
+use Rattle.papaya_late.specs.Given.RawDeclared.machines.call.Calling.{Calling}
+use Rattle.papaya_late.specs.Given.RawDeclared.machines.call.Calling.TheVariants as at
+use Rattle.papaya_late.specs.Given.RuleChart.{Still, Holds, Chart}
+use Rattle.papaya_late.specs.Given.RuleWords.{Blocks, place_word, byte_of}
+use Rattle.papaya_late.specs.Given.RuleInWorld.{IsOut, IsMapIn, IsFramed, SameBlocks}
+use Rattle.papaya_late.proofs.Given.RuleWords.PlaceWords.{pair_block}
+use Rattle.papaya_late.proofs.Given.RuleWords.PlacesShown.{byte_of-few}
+use Rattle.papaya_late.specs.Given.PointsFactsCalls.{Change, Unchanged, Stored, Replaced, Removed, IsOwnPair, Seeks, Tells, CallingFacts, CallFacts}
+use Rattle.papaya_late.specs.Given.PointsTold.{HasAnswered, IsRowOfCall, CallFactsAfter, CallTold}
+use Rattle.papaya_late.proofs.Given.RuleKeys.Always.{always_plan_as, always_steps}
+use Rattle.papaya_late.proofs.Given.PointsCalls.Probes.{own_block, own_value}
+use Rattle.papaya_late.proofs.Given.PointsValues.Kept.{SameValues}
+use Rattle.papaya_late.proofs.Given.PointsValues.Left.{made_here}
+use Rattle.papaya_late.proofs.Given.PointsCalls.Holdings.{never_asks}
+use Rattle.papaya_late.proofs.Given.PointsValues.Never.{never_fills}
+use Rattle.papaya_late.proofs.Given.PointsValues.Sought.{IsSought, IsAhead, kept_of, GoesSeeking, IsLook}
+use Rattle.papaya_late.specs.Given.RawDeclared.machines.asking.Replies.{Replies}
+use Rattle.papaya_late.specs.Given.RawDeclared.machines.asking.Takes.TheVariants as takes
+use Rattle.papaya_late.proofs.Given.PointsValues.Seeks.{HasNoneOr, sought_own, look_unchanged}
+use Rattle.papaya_late.proofs.Given.PointsValues.Own.{IsDropping, NoneMoved, SeeksOn, seeks_on}
 use Rattle.papaya_callers.specs.Pairs.{IsItsPair, StoresIt, HasIt, KeepsIt}
 
 -- it hands no pair back

@@ -1,25 +1,25 @@
 -- The pair that a call was begun with stays where it is, over steps of others.
 use Rattle.std.specs.Prelude.{Option}
 use Rattle.std.proofs.Common.{◌≡◌, ℕ, ◌<◌, ◌^◌, Bool, inl, inr, sym, ap, subst, arith, ◌∙◌, refl}
-use Rattle.papaya_late.specs.Given.SeizeWords.Mem.{Mem, value_at}
-use Rattle.papaya_late.specs.Given.Seize.World.{World}
-use Rattle.papaya_late.specs.Given.Tables.declared.node.Node.{Node}
-use Rattle.papaya_late.specs.Given.Tables.declared.setting.Setting.{Setting}
-use Rattle.papaya_late.specs.Given.Raw.declared.machines.answer.KeyAnswer.{KeyAnswer}
-use Rattle.papaya_late.specs.Given.Raw.declared.machines.answer.KeyAnswer.TheVariants as answers
-use Rattle.papaya_late.specs.Given.Raw.declared.machines.call.KeyCall.{KeyCall}
-use Rattle.papaya_late.specs.Given.Raw.declared.machines.call.Calling.{Calling}
-use Rattle.papaya_late.specs.Given.Raw.declared.machines.call.Calling.TheVariants as at
-use Rattle.papaya_late.specs.Given.Rule.Chart.{Chart}
-use Rattle.papaya_late.specs.Given.Rule.Words.{Blocks}
-use Rattle.papaya_late.specs.Given.Rule.InWorld.{IsHeldBy}
-use Rattle.papaya_late.specs.Given.Points.FactsCalls.{Change, Unchanged, Stored, Replaced, Removed, CallFacts}
-use Rattle.papaya_late.proofs.Given.Points.Calls.Probes.{own_block}
-use Rattle.papaya_late.specs.Given.Points.Others.{OthersStep}
-use Rattle.papaya_late.proofs.Given.Points.Values.Sought.{IsAhead, IsLook}
-use Rattle.papaya_late.proofs.Given.Points.Values.Never.{never_fills}
-use Rattle.papaya_late.specs.Given.Raw.declared.machines.asking.Takes.TheVariants as takes
-use Rattle.papaya_late.proofs.Given.Points.Values.Seeks.{HasNoneOr, sought_own}
+use Rattle.papaya_late.specs.Given.SeizeWordsMem.{Mem, value_at}
+use Rattle.papaya_late.specs.Given.SeizeWorld.{World}
+use Rattle.papaya_late.specs.Given.TablesDeclared.node.Node.{Node}
+use Rattle.papaya_late.specs.Given.TablesDeclared.setting.Setting.{Setting}
+use Rattle.papaya_late.specs.Given.RawDeclared.machines.answer.KeyAnswer.{KeyAnswer}
+use Rattle.papaya_late.specs.Given.RawDeclared.machines.answer.KeyAnswer.TheVariants as answers
+use Rattle.papaya_late.specs.Given.RawDeclared.machines.call.KeyCall.{KeyCall}
+use Rattle.papaya_late.specs.Given.RawDeclared.machines.call.Calling.{Calling}
+use Rattle.papaya_late.specs.Given.RawDeclared.machines.call.Calling.TheVariants as at
+use Rattle.papaya_late.specs.Given.RuleChart.{Chart}
+use Rattle.papaya_late.specs.Given.RuleWords.{Blocks}
+use Rattle.papaya_late.specs.Given.RuleInWorld.{IsHeldBy}
+use Rattle.papaya_late.specs.Given.PointsFactsCalls.{Change, Unchanged, Stored, Replaced, Removed, CallFacts}
+use Rattle.papaya_late.proofs.Given.PointsCalls.Probes.{own_block}
+use Rattle.papaya_late.specs.Given.PointsOthers.{OthersStep}
+use Rattle.papaya_late.proofs.Given.PointsValues.Sought.{IsAhead, IsLook}
+use Rattle.papaya_late.proofs.Given.PointsValues.Never.{never_fills}
+use Rattle.papaya_late.specs.Given.RawDeclared.machines.asking.Takes.TheVariants as takes
+use Rattle.papaya_late.proofs.Given.PointsValues.Seeks.{HasNoneOr, sought_own}
 use Rattle.papaya_late.specs.LateCalls.{LateCallFacts}
 use Rattle.papaya_callers.proofs.Since.LatePairs.{late_own}
 use Rattle.papaya_callers.specs.Pairs.{IsItsPair, StoresIt, HasIt, KeepsIt}

@@ -1,10 +1,10 @@
 -- What is refused of an answer, and of a change, since a call began: in a map of one place, whose one pair, with key 7, was stored at its first moment.
 use Rattle.std.proofs.Common.{◌≡◌, ℕ, Bool, true, refl, subst, eqb, arith}
-use Rattle.papaya_late.specs.Given.Raw.declared.machines.answer.KeyAnswer.TheVariants.{Absent}
-use Rattle.papaya_late.specs.Given.Rule.Words.{Blocks}
-use Rattle.papaya_late.specs.Given.Points.FactsCalls.{Stored, Removed}
+use Rattle.papaya_late.specs.Given.RawDeclared.machines.answer.KeyAnswer.TheVariants.{Absent}
+use Rattle.papaya_late.specs.Given.RuleWords.{Blocks}
+use Rattle.papaya_late.specs.Given.PointsFactsCalls.{Stored, Removed}
 use Rattle.papaya_callers.specs.Since.{HadNone, WasChanged, SoSince}
-use Rattle.papaya_late.proofs.Given.Rule.Samples.SampleResizes.{rooted, stored}
+use Rattle.papaya_late.proofs.Given.RuleSamples.SampleResizes.{rooted, stored}
 
 module _ (blocks : Blocks) where
   abbrev keys : ℕ → Bool

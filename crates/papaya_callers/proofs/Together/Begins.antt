@@ -3,35 +3,35 @@ use Rattle.papaya_callers.specs.Asked.{last_told, told_before}
 use Rattle.papaya_callers.specs.Kind.{gets, removes, inserts, tries_to_insert, computes, updates, updates_or_inserts, tries_to_insert_with, removes_if}
 use Rattle.papaya_callers.specs.Pairs.{Given, Begun, IsTold, RemovesNone, KeepsGiven}
 use Rattle.papaya_late.specs.Kinds.{ToldFits}
-use Rattle.papaya_late.specs.Given.Raw.Replies.{untold}
-use Rattle.papaya_late.specs.Given.Raw.declared.machines.asking.Reply.TheVariants as reply
-use Rattle.papaya_late.specs.Given.Raw.declared.machines.asking.Takes.{Takes}
-use Rattle.papaya_late.specs.Given.Raw.declared.machines.asking.Told.{Told}
-use Rattle.papaya_late.specs.Given.Raw.declared.machines.asking.Told.TheVariants as tells
+use Rattle.papaya_late.specs.Given.RawReplies.{untold}
+use Rattle.papaya_late.specs.Given.RawDeclared.machines.asking.Reply.TheVariants as reply
+use Rattle.papaya_late.specs.Given.RawDeclared.machines.asking.Takes.{Takes}
+use Rattle.papaya_late.specs.Given.RawDeclared.machines.asking.Told.{Told}
+use Rattle.papaya_late.specs.Given.RawDeclared.machines.asking.Told.TheVariants as tells
 use Rattle.papaya_callers.proofs.Asked.Begins.{begun_told}
 use Rattle.papaya_callers.proofs.Once.Stays.{begun_once}
-use Rattle.papaya_late.specs.Given.Raw.declared.machines.asking.Takes.TheVariants as takes
+use Rattle.papaya_late.specs.Given.RawDeclared.machines.asking.Takes.TheVariants as takes
 use Rattle.std.specs.Prelude.{◌≤◌, ◌≡◌, ℕ, Bool, [], Option, Some, None}
 use Rattle.std.proofs.Common.{refl, arith, subst, inl}
-use Rattle.papaya_late.specs.Given.Seize.World.{World, with_at}
+use Rattle.papaya_late.specs.Given.SeizeWorld.{World, with_at}
 use Rattle.papaya_callers.specs.Claims.{IsToClaim}
 use Rattle.papaya_callers.specs.Together.{ClaimsInto, OnKey, UnderWay, in_slot, Together, IsBegun, Gets, Removes, Inserts, TriesToInsert, Computes, Updates, UpdatesOrInserts, TriesToInsertWith, RemovesIf, begun_at, BeginsTogether}
-use Rattle.papaya_late.specs.Given.Tables.declared.node.Node.{Node}
-use Rattle.papaya_late.specs.Given.Tables.declared.node.Node.TheVariants as node
-use Rattle.papaya_late.specs.Given.Tables.declared.setting.Setting.{Setting}
-use Rattle.papaya_late.specs.Given.Raw.CallPoints.{getting, removing, inserting, trying_to_insert}
-use Rattle.papaya_late.specs.Given.Raw.CallAsks.{computing, updating, updating_or_inserting, trying_to_insert_with, removing_if}
-use Rattle.papaya_late.specs.Given.Raw.declared.machines.answer.KeyAnswer.{KeyAnswer}
-use Rattle.papaya_late.specs.Given.Raw.declared.machines.call.KeyCall.{KeyCall}
-use Rattle.papaya_late.specs.Given.Rule.Chart.{Chart}
-use Rattle.papaya_late.specs.Given.Rule.Words.{Blocks}
-use Rattle.papaya_late.specs.Given.Points.FactsCalls.{Unchanged, CallFacts}
-use Rattle.papaya_late.specs.Given.Points.Told.{HasAnswered}
-use Rattle.papaya_late.specs.Given.Points.Steps.{told_first}
+use Rattle.papaya_late.specs.Given.TablesDeclared.node.Node.{Node}
+use Rattle.papaya_late.specs.Given.TablesDeclared.node.Node.TheVariants as node
+use Rattle.papaya_late.specs.Given.TablesDeclared.setting.Setting.{Setting}
+use Rattle.papaya_late.specs.Given.RawCallPoints.{getting, removing, inserting, trying_to_insert}
+use Rattle.papaya_late.specs.Given.RawCallAsks.{computing, updating, updating_or_inserting, trying_to_insert_with, removing_if}
+use Rattle.papaya_late.specs.Given.RawDeclared.machines.answer.KeyAnswer.{KeyAnswer}
+use Rattle.papaya_late.specs.Given.RawDeclared.machines.call.KeyCall.{KeyCall}
+use Rattle.papaya_late.specs.Given.RuleChart.{Chart}
+use Rattle.papaya_late.specs.Given.RuleWords.{Blocks}
+use Rattle.papaya_late.specs.Given.PointsFactsCalls.{Unchanged, CallFacts}
+use Rattle.papaya_late.specs.Given.PointsTold.{HasAnswered}
+use Rattle.papaya_late.specs.Given.PointsSteps.{told_first}
 use Rattle.papaya_callers.specs.Sights.{Sight, seen_by}
 use Rattle.papaya_callers.proofs.Together.Few.{few_begun}
 use Rattle.papaya_callers.proofs.Together.Fits.{fits_some, fits_of, stands_by}
-use Rattle.papaya_late.proofs.Given.Points.Calls.StepsTold.{calls_begin, asking_calls_begin}
+use Rattle.papaya_late.proofs.Given.PointsCalls.StepsTold.{calls_begin, asking_calls_begin}
 
 -- It remembers no reply, and has no block of its own: it is of its kind, where its first point is. It was told nothing of a pair, and not to remove what is
 -- not there.

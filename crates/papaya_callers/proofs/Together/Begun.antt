@@ -1,22 +1,22 @@
 -- A caller whose call stands at a row of the collector begins it: all others stand, and the caller is within the row.
-use Rattle.papaya_late.specs.Given.SeizeWords.Mem.{Mem, value_at}
+use Rattle.papaya_late.specs.Given.SeizeWordsMem.{Mem, value_at}
 use Rattle.std.specs.Prelude.{◌≡◌, ◌≢◌, ℕ, ◌*◌, ◌<◌, Bool, true, Option, Some, None}
 use Rattle.std.proofs.Common.{false, refl, ap, sym, subst, ◌∙◌, inl, inr}
 use Rattle.std.proofs.lemmas.Bool.{cases_eq}
-use Rattle.papaya_late.specs.Given.Seize.declared.rows.settle.Settle.{Settle}
-use Rattle.papaya_late.specs.Given.Seize.Law.{holds, owner_of}
-use Rattle.papaya_late.specs.Given.Seize.Settle.{retiring}
-use Rattle.papaya_late.specs.Given.Seize.World.{World, Row, Use, one_more, Rests, Settles, Cutting, Begin, Request, Retire, Begins, Happens, IsInside, IsOnto, with_at}
-use Rattle.papaya_late.proofs.Given.SeizeRule.Rows.Leaving.{with_same}
-use Rattle.papaya_late.proofs.Given.SeizeRule.Rows.Others.{with_here, with_other}
-use Rattle.papaya_late.specs.Given.Tables.Nodes.{deferred_word}
-use Rattle.papaya_late.specs.Given.Tables.declared.node.Node.{Node}
-use Rattle.papaya_late.specs.Given.Tables.declared.setting.Setting.{Setting}
-use Rattle.papaya_late.specs.Given.Rule.Chart.{Chart}
-use Rattle.papaya_late.specs.Given.Rule.Words.{Blocks}
-use Rattle.papaya_late.specs.Given.Rule.InWorld.{IsHeldBy}
-use Rattle.papaya_late.specs.Given.Points.FactsDisposes.{IsToRetire}
-use Rattle.papaya_late.specs.Given.Points.Steps.{AreLawful}
+use Rattle.papaya_late.specs.Given.SeizeDeclared.rows.settle.Settle.{Settle}
+use Rattle.papaya_late.specs.Given.SeizeLaw.{holds, owner_of}
+use Rattle.papaya_late.specs.Given.SeizeSettle.{retiring}
+use Rattle.papaya_late.specs.Given.SeizeWorld.{World, Row, Use, one_more, Rests, Settles, Cutting, Begin, Request, Retire, Begins, Happens, IsInside, IsOnto, with_at}
+use Rattle.papaya_late.proofs.Given.SeizeRuleRows.Leaving.{with_same}
+use Rattle.papaya_late.proofs.Given.SeizeRuleRows.Others.{with_here, with_other}
+use Rattle.papaya_late.specs.Given.TablesNodes.{deferred_word}
+use Rattle.papaya_late.specs.Given.TablesDeclared.node.Node.{Node}
+use Rattle.papaya_late.specs.Given.TablesDeclared.setting.Setting.{Setting}
+use Rattle.papaya_late.specs.Given.RuleChart.{Chart}
+use Rattle.papaya_late.specs.Given.RuleWords.{Blocks}
+use Rattle.papaya_late.specs.Given.RuleInWorld.{IsHeldBy}
+use Rattle.papaya_late.specs.Given.PointsFactsDisposes.{IsToRetire}
+use Rattle.papaya_late.specs.Given.PointsSteps.{AreLawful}
 use Rattle.papaya_callers.specs.Rows.{IsRowOn, IsUsedAlike}
 use Rattle.papaya_callers.specs.Sights.{Sight, seen_by}
 use Rattle.papaya_callers.specs.Together.{ClaimsInto, Ground, UnderWay, HasCall, PutsWithin, in_slot, HandsOver, Together, Stands, IsReclaimed}

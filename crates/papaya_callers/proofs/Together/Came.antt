@@ -1,15 +1,15 @@
 -- A world that came about from the start, what happens next, and what no row there does.
 use Rattle.std.specs.Prelude.{Option, Some, None}
-use Rattle.papaya_late.specs.Given.SeizeWords.Mem.{value_at}
-use Rattle.papaya_late.specs.Given.Tables.declared.node.Node.TheVariants as node
+use Rattle.papaya_late.specs.Given.SeizeWordsMem.{value_at}
+use Rattle.papaya_late.specs.Given.TablesDeclared.node.Node.TheVariants as node
 use Rattle.std.proofs.Common.{◌≡◌, ap, sym, ◌∙◌, ℕ, ◌+◌, List, [], ◌∷◌, ◌++◌, refl, subst}
-use Rattle.papaya_late.specs.Given.Seize.declared.states.TheConstants.{LAST_SLOT}
-use Rattle.papaya_late.specs.Given.Seize.World.{World, Making, Event, Happens, Runs, IsOnto, at_start}
-use Rattle.papaya_late.proofs.Given.SeizeRule.World.Start.{start_good}
+use Rattle.papaya_late.specs.Given.SeizeDeclared.states.TheConstants.{LAST_SLOT}
+use Rattle.papaya_late.specs.Given.SeizeWorld.{World, Making, Event, Happens, Runs, IsOnto, at_start}
+use Rattle.papaya_late.proofs.Given.SeizeRuleWorld.Start.{start_good}
 use Rattle.seize_alone.proofs.Histories.Onto.{AllListsHeld, start_lists_held, runs_lists_held, onto_not_made, onto_listed}
 use Rattle.seize_alone.proofs.Histories.Reached.{Reached, runs_reached}
-use Rattle.papaya_late.specs.Given.Tables.Nodes.{deferred_word}
-use Rattle.papaya_late.specs.Given.Tables.declared.node.Node.{Node}
+use Rattle.papaya_late.specs.Given.TablesNodes.{deferred_word}
+use Rattle.papaya_late.specs.Given.TablesDeclared.node.Node.{Node}
 use Rattle.papaya_callers.specs.Together.{CameAbout}
 
 module _ {K V : Type 0} (size : ℕ) where

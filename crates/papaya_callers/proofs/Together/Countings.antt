@@ -1,21 +1,21 @@
 -- A counting of the pairs among the calls on its map: it begins, and takes its steps, each of which changes nothing.
 use Rattle.std.specs.Prelude.{◌≡◌, ◌≢◌, ℕ, Option, Some, None, Bool}
 use Rattle.std.proofs.Common.{refl, subst, arith, ◌≤◌}
-use Rattle.papaya_late.specs.Given.SeizeWords.declared.fault.Fault.{Fault}
-use Rattle.papaya_late.specs.Given.Seize.World.{World, Rests, with_at}
-use Rattle.papaya_late.specs.Given.Seize.declared.progress.Progress.{Progress}
-use Rattle.papaya_late.specs.Given.Seize.declared.progress.Progress.TheVariants as progress
-use Rattle.papaya_late.specs.Given.Tables.declared.node.Node.{Node}
-use Rattle.papaya_late.specs.Given.Tables.declared.setting.Setting.{Setting}
-use Rattle.papaya_late.specs.Given.Resize.Sum.{summing}
-use Rattle.papaya_late.specs.Given.Resize.declared.sum.Sum.{Sum}
-use Rattle.papaya_late.specs.Given.Rule.Chart.{Chart}
-use Rattle.papaya_late.specs.Given.Rule.Words.{Blocks}
-use Rattle.papaya_late.proofs.Given.Rule.World.WentWrote.{counter_of}
-use Rattle.papaya_late.specs.Given.Points.FactsIdle.{IsIdle}
-use Rattle.papaya_late.specs.Given.Points.FactsTables.{SumFacts}
-use Rattle.papaya_late.specs.Given.Points.Told.{SumTold}
-use Rattle.papaya_late.proofs.Given.Points.Making.Sum.{may_sum, told_sum}
+use Rattle.papaya_late.specs.Given.SeizeWordsDeclared.fault.Fault.{Fault}
+use Rattle.papaya_late.specs.Given.SeizeWorld.{World, Rests, with_at}
+use Rattle.papaya_late.specs.Given.SeizeDeclared.progress.Progress.{Progress}
+use Rattle.papaya_late.specs.Given.SeizeDeclared.progress.Progress.TheVariants as progress
+use Rattle.papaya_late.specs.Given.TablesDeclared.node.Node.{Node}
+use Rattle.papaya_late.specs.Given.TablesDeclared.setting.Setting.{Setting}
+use Rattle.papaya_late.specs.Given.ResizeSum.{summing}
+use Rattle.papaya_late.specs.Given.ResizeDeclared.sum.Sum.{Sum}
+use Rattle.papaya_late.specs.Given.RuleChart.{Chart}
+use Rattle.papaya_late.specs.Given.RuleWords.{Blocks}
+use Rattle.papaya_late.proofs.Given.RuleWorld.WentWrote.{counter_of}
+use Rattle.papaya_late.specs.Given.PointsFactsIdle.{IsIdle}
+use Rattle.papaya_late.specs.Given.PointsFactsTables.{SumFacts}
+use Rattle.papaya_late.specs.Given.PointsTold.{SumTold}
+use Rattle.papaya_late.proofs.Given.PointsMaking.Sum.{may_sum, told_sum}
 use Rattle.papaya_callers.specs.Sights.{Sight, seen_by}
 use Rattle.papaya_callers.specs.Together.{UnderWay, Counting, ClaimsInto, HasCall, next_of_counting, in_slot, Together, CountingsBeginTogether, CountingsStandTogether}
 use Rattle.papaya_callers.proofs.Together.Few.{few_begun, few_with, few_without}

@@ -2,29 +2,29 @@
 use Rattle.std.specs.Prelude.{◌≡◌, ◌≢◌, ℕ, suc, ◌*◌, ◌<◌, ◌≤◌, Bool, true, cond, eqb, ◌∷◌, Option}
 use Rattle.std.proofs.Common.{false, refl, ap, sym, subst, ◌∙◌, inl, inr, arith}
 use Rattle.std.proofs.lemmas.Bool.{cases_lt, eq-eqb, ne_eqb}
-use Rattle.papaya_late.specs.Given.SeizeWords.declared.at.At.TheVariants.{Word}
-use Rattle.papaya_late.specs.Given.Seize.declared.rows.defer.Defer.{Defer}
-use Rattle.papaya_late.specs.Given.Seize.Defer.{deferring}
-use Rattle.papaya_late.specs.Given.Seize.Law.{With, Nowhere, Deferred, where_is, is_standing, holds}
-use Rattle.papaya_late.specs.Given.Seize.World.{World, Row, Rests, Settles, Defers, Hand, Begin, Defer', Begins, IsInside, IsNotLeft, MayCut, one_more}
-use Rattle.papaya_late.proofs.Given.SeizeMoves.State.Held.{held_on}
-use Rattle.papaya_late.proofs.Given.SeizeRule.Rows.Others.{with_here, with_other}
-use Rattle.papaya_late.proofs.Given.Tables.Lists.{table_list}
-use Rattle.papaya_late.specs.Given.Tables.Nodes.{deferred_word}
-use Rattle.papaya_late.specs.Given.Tables.declared.node.Node.{Node}
-use Rattle.papaya_late.specs.Given.Tables.declared.node.Node.TheVariants as node
-use Rattle.papaya_late.specs.Given.Tables.declared.setting.Setting.{Setting}
-use Rattle.papaya_late.specs.Given.Tables.declared.table_words.TheConstants.{DEFERRED}
-use Rattle.papaya_late.specs.Given.Resize.Dispose as dispose
-use Rattle.papaya_late.specs.Given.Resize.declared.dispose.Dispose.{Dispose}
-use Rattle.papaya_late.specs.Given.Resize.declared.dispose.Disposing.{Disposing}
-use Rattle.papaya_late.specs.Given.Resize.declared.dispose.Disposing.TheVariants as disposes
-use Rattle.papaya_late.specs.Given.Rule.Chart.{Chart}
-use Rattle.papaya_late.specs.Given.Rule.Words.{Blocks}
-use Rattle.papaya_late.specs.Given.Rule.InWorld.{IsOut, IsHeldBy, IsMapIn}
-use Rattle.papaya_late.specs.Given.Points.FactsDisposes.{DisposeFacts}
-use Rattle.papaya_late.specs.Given.Points.Told.{IsRowOf}
-use Rattle.papaya_late.specs.Given.Points.Steps.{AreLawful}
+use Rattle.papaya_late.specs.Given.SeizeWordsDeclared.at.At.TheVariants.{Word}
+use Rattle.papaya_late.specs.Given.SeizeDeclared.rows.defer.Defer.{Defer}
+use Rattle.papaya_late.specs.Given.SeizeDefer.{deferring}
+use Rattle.papaya_late.specs.Given.SeizeLaw.{With, Nowhere, Deferred, where_is, is_standing, holds}
+use Rattle.papaya_late.specs.Given.SeizeWorld.{World, Row, Rests, Settles, Defers, Hand, Begin, Defer', Begins, IsInside, IsNotLeft, MayCut, one_more}
+use Rattle.papaya_late.proofs.Given.SeizeMovesState.Held.{held_on}
+use Rattle.papaya_late.proofs.Given.SeizeRuleRows.Others.{with_here, with_other}
+use Rattle.papaya_late.proofs.Given.TablesLists.{table_list}
+use Rattle.papaya_late.specs.Given.TablesNodes.{deferred_word}
+use Rattle.papaya_late.specs.Given.TablesDeclared.node.Node.{Node}
+use Rattle.papaya_late.specs.Given.TablesDeclared.node.Node.TheVariants as node
+use Rattle.papaya_late.specs.Given.TablesDeclared.setting.Setting.{Setting}
+use Rattle.papaya_late.specs.Given.TablesDeclared.table_words.TheConstants.{DEFERRED}
+use Rattle.papaya_late.specs.Given.ResizeDispose as dispose
+use Rattle.papaya_late.specs.Given.ResizeDeclared.dispose.Dispose.{Dispose}
+use Rattle.papaya_late.specs.Given.ResizeDeclared.dispose.Disposing.{Disposing}
+use Rattle.papaya_late.specs.Given.ResizeDeclared.dispose.Disposing.TheVariants as disposes
+use Rattle.papaya_late.specs.Given.RuleChart.{Chart}
+use Rattle.papaya_late.specs.Given.RuleWords.{Blocks}
+use Rattle.papaya_late.specs.Given.RuleInWorld.{IsOut, IsHeldBy, IsMapIn}
+use Rattle.papaya_late.specs.Given.PointsFactsDisposes.{DisposeFacts}
+use Rattle.papaya_late.specs.Given.PointsTold.{IsRowOf}
+use Rattle.papaya_late.specs.Given.PointsSteps.{AreLawful}
 use Rattle.papaya_callers.specs.Kept.{IsPairOf}
 use Rattle.papaya_callers.specs.Rows.{row_of_disposal, IsRowOn}
 use Rattle.papaya_callers.specs.Sights.{Sight, seen_by}

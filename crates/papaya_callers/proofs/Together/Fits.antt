@@ -9,35 +9,35 @@ use Rattle.papaya_callers.proofs.Since.Given.{given_as}
 use Rattle.std.specs.Prelude.{◌≡◌, ◌≢◌, ℕ, Bool, false, List, Option, Some, None, ◌⊎◌}
 use Rattle.std.proofs.Common.{◌∙◌, refl, ap, sym, subst, inl, inr, arith}
 use Rattle.std.proofs.lemmas.Bool.{cases_eq}
-use Rattle.papaya_late.specs.Given.Seize.World.{World, Rests, Use, IsInside, IsOnto, with_at}
-use Rattle.papaya_late.specs.Given.Rule.InWorld.{IsMapIn, Moved}
+use Rattle.papaya_late.specs.Given.SeizeWorld.{World, Rests, Use, IsInside, IsOnto, with_at}
+use Rattle.papaya_late.specs.Given.RuleInWorld.{IsMapIn, Moved}
 use Rattle.papaya_callers.specs.Rows.{once_over}
-use Rattle.papaya_late.specs.Given.Reserves.declared.reserve.Reserve.{Reserve}
+use Rattle.papaya_late.specs.Given.ReservesDeclared.reserve.Reserve.{Reserve}
 use Rattle.papaya_late.specs.FactsReserves.{ReserveFacts}
 use Rattle.papaya_late.specs.LateReserves.{LateReserveFacts}
 use Rattle.papaya_late.proofs.Rooms.Lasts.Reserves.{reserves_on}
 use Rattle.papaya_callers.specs.Rooms.{room_once_over}
-use Rattle.papaya_late.specs.Given.Sweeps.declared.sweep.Purpose.{Purpose}
-use Rattle.papaya_late.specs.Given.Sweeps.declared.sweep.Sweep.{Sweep}
-use Rattle.papaya_late.specs.Given.Sweeps.declared.sweep.Sweeping.{Sweeping}
-use Rattle.papaya_late.specs.Given.Sweeps.declared.sweep.Sweeping.TheVariants as at
+use Rattle.papaya_late.specs.Given.SweepsDeclared.sweep.Purpose.{Purpose}
+use Rattle.papaya_late.specs.Given.SweepsDeclared.sweep.Sweep.{Sweep}
+use Rattle.papaya_late.specs.Given.SweepsDeclared.sweep.Sweeping.{Sweeping}
+use Rattle.papaya_late.specs.Given.SweepsDeclared.sweep.Sweeping.TheVariants as at
 use Rattle.papaya_late.proofs.Swept.Covers.Kept.{names_on, kept_moved}
 use Rattle.papaya_late.proofs.Swept.Lasts.Sweeps.{knows_then}
 use Rattle.papaya_callers.specs.OverAll.{Verdict, CallOverAll, sweep_once_over, TriesTold}
 use Rattle.papaya_callers.specs.Together.{OverAll, KnowsSweep, Counting, ForRoom, KnowsRoom, OnKey, CallOnKey, UnderWay, UnlessCounts, HasCall, PutsWithin, in_slot, StayFew, Knows, Stands, Ground, Together}
-use Rattle.papaya_late.specs.Given.Tables.Chunks.{is_incremental}
-use Rattle.papaya_late.specs.Given.Tables.declared.node.Node.{Node}
-use Rattle.papaya_late.specs.Given.Tables.declared.setting.Setting.{Setting}
-use Rattle.papaya_late.specs.Given.Raw.declared.machines.call.KeyCall.{KeyCall}
-use Rattle.papaya_late.specs.Given.Rule.Chart.{Chart}
-use Rattle.papaya_late.specs.Given.Rule.Words.{Blocks}
-use Rattle.papaya_late.specs.Given.Rule.Moments.{Moments}
-use Rattle.papaya_late.specs.Given.Points.FactsIdle.{IsIdle}
-use Rattle.papaya_late.specs.Given.Points.Steps.{AreLawful}
+use Rattle.papaya_late.specs.Given.TablesChunks.{is_incremental}
+use Rattle.papaya_late.specs.Given.TablesDeclared.node.Node.{Node}
+use Rattle.papaya_late.specs.Given.TablesDeclared.setting.Setting.{Setting}
+use Rattle.papaya_late.specs.Given.RawDeclared.machines.call.KeyCall.{KeyCall}
+use Rattle.papaya_late.specs.Given.RuleChart.{Chart}
+use Rattle.papaya_late.specs.Given.RuleWords.{Blocks}
+use Rattle.papaya_late.specs.Given.RuleMoments.{Moments}
+use Rattle.papaya_late.specs.Given.PointsFactsIdle.{IsIdle}
+use Rattle.papaya_late.specs.Given.PointsSteps.{AreLawful}
 use Rattle.papaya_late.proofs.Lasts.Copiers.{ClaimsStayFew}
 use Rattle.papaya_callers.specs.Sights.{Sight, seen_by}
-use Rattle.papaya_late.specs.Given.Points.Others.{OthersStep}
-use Rattle.papaya_late.specs.Given.Raw.declared.machines.answer.KeyAnswer.TheVariants as answers
+use Rattle.papaya_late.specs.Given.PointsOthers.{OthersStep}
+use Rattle.papaya_late.specs.Given.RawDeclared.machines.answer.KeyAnswer.TheVariants as answers
 use Rattle.papaya_callers.proofs.Since.Began.{since_on, so_since_on}
 use Rattle.papaya_callers.proofs.Together.At.{at_other, at_same}
 use Rattle.papaya_callers.proofs.Together.FactsOn.{idle_on, KnowsOfCall, call_knows_on}

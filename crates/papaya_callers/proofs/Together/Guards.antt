@@ -1,17 +1,17 @@
 -- Calls of many callers stand together while others register, enter, leave, refresh, flush and give up their slots.
 use Rattle.std.specs.Prelude.{◌≡◌, ◌≢◌, ℕ, ◌+◌, Bool, Option, Some, None}
 use Rattle.std.proofs.Common.{refl, ap, sym, subst, ◌∙◌}
-use Rattle.papaya_late.specs.Given.Seize.declared.states.TheConstants.{LAST_SLOT}
-use Rattle.papaya_late.specs.Given.Seize.World.{World, Row, Use, Outside, Changing, Begin, Request, Register', Enter', Leave', LeaveOwned, Refresh, Unregister', Retire, Flush, Defer', Happens, IsInside, IsOnto, with_at, one_more}
-use Rattle.papaya_late.proofs.Given.SeizeRule.Rows.Others.{with_other}
-use Rattle.papaya_late.proofs.Given.SeizeRule.World.Kept.{row_may}
-use Rattle.papaya_late.specs.Given.Tables.Nodes.{deferred_word}
-use Rattle.papaya_late.specs.Given.Tables.declared.node.Node.{Node}
-use Rattle.papaya_late.specs.Given.Tables.declared.setting.Setting.{Setting}
-use Rattle.papaya_late.specs.Given.Rule.Chart.{Chart}
-use Rattle.papaya_late.specs.Given.Rule.Words.{Blocks}
-use Rattle.papaya_late.specs.Given.Points.Steps.{AreLawful}
-use Rattle.papaya_late.proofs.Given.Rule.World.Hands.{at_cases}
+use Rattle.papaya_late.specs.Given.SeizeDeclared.states.TheConstants.{LAST_SLOT}
+use Rattle.papaya_late.specs.Given.SeizeWorld.{World, Row, Use, Outside, Changing, Begin, Request, Register', Enter', Leave', LeaveOwned, Refresh, Unregister', Retire, Flush, Defer', Happens, IsInside, IsOnto, with_at, one_more}
+use Rattle.papaya_late.proofs.Given.SeizeRuleRows.Others.{with_other}
+use Rattle.papaya_late.proofs.Given.SeizeRuleWorld.Kept.{row_may}
+use Rattle.papaya_late.specs.Given.TablesNodes.{deferred_word}
+use Rattle.papaya_late.specs.Given.TablesDeclared.node.Node.{Node}
+use Rattle.papaya_late.specs.Given.TablesDeclared.setting.Setting.{Setting}
+use Rattle.papaya_late.specs.Given.RuleChart.{Chart}
+use Rattle.papaya_late.specs.Given.RuleWords.{Blocks}
+use Rattle.papaya_late.specs.Given.PointsSteps.{AreLawful}
+use Rattle.papaya_late.proofs.Given.RuleWorld.Hands.{at_cases}
 use Rattle.papaya_callers.specs.Sights.{Sight}
 use Rattle.papaya_callers.specs.Together.{UnderWay, UnlessCounts, CameAbout, IsOfSlots, Closes, Together, AllStand, GuardsStandTogether}
 use Rattle.papaya_callers.proofs.Together.Came.{came_reached, came_next}

@@ -2,22 +2,22 @@
 use Rattle.std.specs.Prelude.{◌≡◌, ◌≢◌, ℕ, suc, ◌<◌, ◌≤◌, Bool, true, List, Option}
 use Rattle.std.proofs.Common.{refl, ap, sym, subst, ◌∙◌, inl, inr}
 use Rattle.std.proofs.lemmas.Bool.{cases_eq}
-use Rattle.papaya_late.specs.Given.Seize.Law.{Effect, With, where_is, is_somewhere, holds, owner_of}
-use Rattle.papaya_late.specs.Given.Seize.World.{World, Row, Use, Vacant, Outside, Inside, Changing, Handed, IsInside, one_more, with_at}
-use Rattle.papaya_late.proofs.Given.SeizeRule.Rows.Others.{with_other}
-use Rattle.papaya_late.specs.Given.Tables.Chunks.{is_incremental}
-use Rattle.papaya_late.specs.Given.Tables.declared.node.Node.{Node}
-use Rattle.papaya_late.specs.Given.Tables.declared.setting.Setting.{Setting}
-use Rattle.papaya_late.specs.Given.Rule.Chart.{Chart}
-use Rattle.papaya_late.specs.Given.Rule.Words.{Blocks}
-use Rattle.papaya_late.specs.Given.Rule.Maps.{spot_of}
-use Rattle.papaya_late.specs.Given.Rule.InWorld.{IsHeldBy, IsMapIn}
-use Rattle.papaya_late.specs.Given.Points.FactsIdle.{IsIdle}
-use Rattle.papaya_late.specs.Given.Points.Steps.{AreLawful}
-use Rattle.papaya_late.proofs.Given.Rule.World.Hands.{at_cases, hand_kept}
-use Rattle.papaya_late.proofs.Given.Rule.History.LeavingOn.{leaves_same}
-use Rattle.papaya_late.proofs.Given.Rule.World.OthersSpared.{held_once, keeps_handed}
-use Rattle.papaya_late.specs.Given.Points.Others.{OthersStep}
+use Rattle.papaya_late.specs.Given.SeizeLaw.{Effect, With, where_is, is_somewhere, holds, owner_of}
+use Rattle.papaya_late.specs.Given.SeizeWorld.{World, Row, Use, Vacant, Outside, Inside, Changing, Handed, IsInside, one_more, with_at}
+use Rattle.papaya_late.proofs.Given.SeizeRuleRows.Others.{with_other}
+use Rattle.papaya_late.specs.Given.TablesChunks.{is_incremental}
+use Rattle.papaya_late.specs.Given.TablesDeclared.node.Node.{Node}
+use Rattle.papaya_late.specs.Given.TablesDeclared.setting.Setting.{Setting}
+use Rattle.papaya_late.specs.Given.RuleChart.{Chart}
+use Rattle.papaya_late.specs.Given.RuleWords.{Blocks}
+use Rattle.papaya_late.specs.Given.RuleMaps.{spot_of}
+use Rattle.papaya_late.specs.Given.RuleInWorld.{IsHeldBy, IsMapIn}
+use Rattle.papaya_late.specs.Given.PointsFactsIdle.{IsIdle}
+use Rattle.papaya_late.specs.Given.PointsSteps.{AreLawful}
+use Rattle.papaya_late.proofs.Given.RuleWorld.Hands.{at_cases, hand_kept}
+use Rattle.papaya_late.proofs.Given.RuleHistory.LeavingOn.{leaves_same}
+use Rattle.papaya_late.proofs.Given.RuleWorld.OthersSpared.{held_once, keeps_handed}
+use Rattle.papaya_late.specs.Given.PointsOthers.{OthersStep}
 use Rattle.papaya_callers.specs.Kept.{IsUsersOwn, IsMaking, IsKeptBy, IsWithin, IsPairOf, BehindIsOwned}
 use Rattle.papaya_callers.specs.Sights.{Sight, seen_by}
 use Rattle.papaya_callers.specs.Together.{Ground, UnderWay, in_slot, CameAbout, Together}

@@ -1,10 +1,10 @@
 -- Slots that somebody is inside, as a test.
 use Rattle.std.proofs.Common.{◌≡◌, ℕ, ◌+◌, ◌<◌, Bool, true, false, inl, inr, refl, ap}
 use Rattle.std.proofs.lemmas.Bool.{cases_lt}
-use Rattle.papaya_late.specs.Given.Seize.declared.states.TheConstants.{LAST_SLOT}
-use Rattle.papaya_late.specs.Given.Seize.World.{World, Use, Vacant, Outside, Inside, Changing, IsInside}
-use Rattle.papaya_late.proofs.Given.SeizeMoves.State.Ghost.{Never, emptied}
-use Rattle.papaya_late.proofs.Given.SeizeRule.Rows.Teams.{UseFits}
+use Rattle.papaya_late.specs.Given.SeizeDeclared.states.TheConstants.{LAST_SLOT}
+use Rattle.papaya_late.specs.Given.SeizeWorld.{World, Use, Vacant, Outside, Inside, Changing, IsInside}
+use Rattle.papaya_late.proofs.Given.SeizeMovesState.Ghost.{Never, emptied}
+use Rattle.papaya_late.proofs.Given.SeizeRuleRows.Teams.{UseFits}
 use Rattle.seize_alone.proofs.Histories.Reached.{Reached}
 use Rattle.std.specs.Prelude.{Option}
 

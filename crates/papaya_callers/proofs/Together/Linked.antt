@@ -2,15 +2,15 @@
 use Rattle.std.specs.Prelude.{◌≡◌, suc, ◌≤◌, ◌<◌, ℕ, Bool, Option, ◌⊎◌}
 use Rattle.std.proofs.Common.{ap, subst, ◌∙◌, inl, inr, arith}
 use Rattle.std.proofs.lemmas.Bool.{cases_lt}
-use Rattle.papaya_late.specs.Given.SeizeWords.Mem.{Mem, value_at}
-use Rattle.papaya_late.specs.Given.Seize.Law.{With, where_is, owner_of}
-use Rattle.papaya_late.specs.Given.Seize.World.{World, Row, Making, IsOnto}
-use Rattle.papaya_late.specs.Given.Tables.Nodes.{deferred_word}
-use Rattle.papaya_late.specs.Given.Tables.declared.node.Node.{Node}
-use Rattle.papaya_late.specs.Given.Tables.declared.setting.Setting.{Setting}
-use Rattle.papaya_late.specs.Given.Rule.Chart.{Chart}
-use Rattle.papaya_late.specs.Given.Rule.Words.{Blocks}
-use Rattle.papaya_late.specs.Given.Rule.InWorld.{Went}
+use Rattle.papaya_late.specs.Given.SeizeWordsMem.{Mem, value_at}
+use Rattle.papaya_late.specs.Given.SeizeLaw.{With, where_is, owner_of}
+use Rattle.papaya_late.specs.Given.SeizeWorld.{World, Row, Making, IsOnto}
+use Rattle.papaya_late.specs.Given.TablesNodes.{deferred_word}
+use Rattle.papaya_late.specs.Given.TablesDeclared.node.Node.{Node}
+use Rattle.papaya_late.specs.Given.TablesDeclared.setting.Setting.{Setting}
+use Rattle.papaya_late.specs.Given.RuleChart.{Chart}
+use Rattle.papaya_late.specs.Given.RuleWords.{Blocks}
+use Rattle.papaya_late.specs.Given.RuleInWorld.{Went}
 use Rattle.papaya_callers.specs.Kept.{IsPairOf, BehindIsOwned}
 use Rattle.papaya_callers.specs.Together.{UnderWay, HasCall, PutsWithin, CameAbout}
 use Rattle.papaya_callers.proofs.Rows.Behind.{carrier_not_made, events_back, pair_on}

@@ -2,14 +2,14 @@
 use Rattle.std.specs.Prelude.{length, ◌≢◌, ℕ, ◌≤◌, ◌^◌, Bool, true, false, cond, List, [], ◌∷◌}
 use Rattle.std.specs.List.{All, AllPairs}
 use Rattle.std.proofs.Common.{refl, arith}
-use Rattle.papaya_late.specs.Given.Seize.World.{World}
-use Rattle.papaya_late.specs.Given.Tables.declared.node.Node.{Node}
-use Rattle.papaya_late.specs.Given.Tables.Chunks.{is_incremental}
-use Rattle.papaya_late.specs.Given.Tables.declared.setting.Setting.{Setting}
-use Rattle.papaya_late.specs.Given.Points.FactsCopies.{HasDone, ClaimsNone}
-use Rattle.papaya_late.specs.Given.Points.FactsCopiesBlocking.{HasNoShares}
-use Rattle.papaya_late.specs.Given.Rule.Rule.{no_table}
-use Rattle.papaya_late.proofs.Given.Rule.History.History.{history_begins}
+use Rattle.papaya_late.specs.Given.SeizeWorld.{World}
+use Rattle.papaya_late.specs.Given.TablesDeclared.node.Node.{Node}
+use Rattle.papaya_late.specs.Given.TablesChunks.{is_incremental}
+use Rattle.papaya_late.specs.Given.TablesDeclared.setting.Setting.{Setting}
+use Rattle.papaya_late.specs.Given.PointsFactsCopies.{HasDone, ClaimsNone}
+use Rattle.papaya_late.specs.Given.PointsFactsCopiesBlocking.{HasNoShares}
+use Rattle.papaya_late.specs.Given.RuleRule.{no_table}
+use Rattle.papaya_late.proofs.Given.RuleHistory.History.{history_begins}
 use Rattle.papaya_callers.specs.Together.{HasCall, ToClaim, in_slot, no_blocks, MapBeginsTogether}
 use Rattle.papaya_callers.proofs.Claims.Fit.{fits_none}
 use Rattle.papaya_callers.proofs.MapBegins.{map_begins}

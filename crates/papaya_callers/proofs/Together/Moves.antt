@@ -2,12 +2,12 @@
 use Rattle.std.specs.Prelude.{ltb, ◌≤◌, ◌≡◌, ◌≢◌, ℕ, Bool, true, false, cond, Option}
 use Rattle.std.proofs.Common.{◌∙◌, refl, arith, ap, sym, subst, inl, inr, ◌<◌}
 use Rattle.std.proofs.lemmas.Bool.{cases_lt}
-use Rattle.papaya_late.specs.Given.SeizeWords.Mem.{Mem, value_at}
-use Rattle.papaya_late.specs.Given.Seize.Law.{owner_of}
-use Rattle.papaya_late.specs.Given.Seize.World.{World, Row, Rests, IsInside, with_at}
+use Rattle.papaya_late.specs.Given.SeizeWordsMem.{Mem, value_at}
+use Rattle.papaya_late.specs.Given.SeizeLaw.{owner_of}
+use Rattle.papaya_late.specs.Given.SeizeWorld.{World, Row, Rests, IsInside, with_at}
 use Rattle.seize_alone.proofs.Histories.Reached.{Reached}
-use Rattle.papaya_late.specs.Given.Tables.Nodes.{deferred_word}
-use Rattle.papaya_late.specs.Given.Rule.InWorld.{IsMapIn, KnownSince, Went, IsOut}
+use Rattle.papaya_late.specs.Given.TablesNodes.{deferred_word}
+use Rattle.papaya_late.specs.Given.RuleInWorld.{IsMapIn, KnownSince, Went, IsOut}
 use Rattle.papaya_callers.specs.Kept.{IsWithin, IsKeptBy, AllKeptBy, AllOwned}
 use Rattle.papaya_callers.specs.Together.{UnderWay, in_slot, StayFew, Ground, Together}
 use Rattle.papaya_callers.proofs.Rows.Keep.{used_kept}
@@ -17,23 +17,23 @@ use Rattle.papaya_callers.proofs.Rows.Users.{users_within}
 use Rattle.papaya_callers.proofs.Sights.Seen.{map_seen}
 use Rattle.papaya_callers.proofs.Together.Came.{came_reached, came_on}
 use Rattle.papaya_callers.proofs.Together.Users.{events_rows, inside_on, inside_back, kept_on}
-use Rattle.papaya_late.specs.Given.Tables.Chunks.{is_incremental}
-use Rattle.papaya_late.specs.Given.Tables.declared.node.Node.{Node}
-use Rattle.papaya_late.specs.Given.Tables.declared.setting.Setting.{Setting}
-use Rattle.papaya_late.specs.Given.Rule.Chart.{Chart}
-use Rattle.papaya_late.specs.Given.Rule.Words.{Blocks}
-use Rattle.papaya_late.specs.Given.Rule.Moments.{Moments, Remembers}
-use Rattle.papaya_late.specs.Given.Points.FactsIdle.{IsIdle}
-use Rattle.papaya_late.specs.Given.Points.Steps.{AreLawful}
-use Rattle.papaya_late.specs.Given.Rule.Lasts.{Lasts}
-use Rattle.papaya_late.proofs.Given.Rule.World.CounterSpared.{spares_counter}
+use Rattle.papaya_late.specs.Given.TablesChunks.{is_incremental}
+use Rattle.papaya_late.specs.Given.TablesDeclared.node.Node.{Node}
+use Rattle.papaya_late.specs.Given.TablesDeclared.setting.Setting.{Setting}
+use Rattle.papaya_late.specs.Given.RuleChart.{Chart}
+use Rattle.papaya_late.specs.Given.RuleWords.{Blocks}
+use Rattle.papaya_late.specs.Given.RuleMoments.{Moments, Remembers}
+use Rattle.papaya_late.specs.Given.PointsFactsIdle.{IsIdle}
+use Rattle.papaya_late.specs.Given.PointsSteps.{AreLawful}
+use Rattle.papaya_late.specs.Given.RuleLasts.{Lasts}
+use Rattle.papaya_late.proofs.Given.RuleWorld.CounterSpared.{spares_counter}
 use Rattle.papaya_late.proofs.Lasts.Copiers.{ClaimsStayFew}
-use Rattle.papaya_late.specs.Given.Rule.Maps.{spot_of}
+use Rattle.papaya_late.specs.Given.RuleMaps.{spot_of}
 use Rattle.papaya_callers.specs.Sights.{Sight, seen_by, IsGrown, IsSight}
-use Rattle.papaya_late.specs.Given.Points.Others.{OthersStep}
+use Rattle.papaya_late.specs.Given.PointsOthers.{OthersStep}
 use Rattle.papaya_late.proofs.Known.Steps.{moments_on, remembers_went, lasts_went, others_step}
-use Rattle.papaya_late.proofs.Given.Rule.History.LeavingOn.{leaves_same}
-use Rattle.papaya_late.proofs.Given.Rule.World.OthersSpared.{keeps_same}
+use Rattle.papaya_late.proofs.Given.RuleHistory.LeavingOn.{leaves_same}
+use Rattle.papaya_late.proofs.Given.RuleWorld.OthersSpared.{keeps_same}
 use Rattle.papaya_callers.proofs.Sights.Sources.{below, above}
 use Rattle.papaya_callers.proofs.Sights.Wider.{wider, is_wider, table_agrees, pair_agrees, stands_wider, sources_wider, closed_then}
 use Rattle.papaya_callers.proofs.Together.Few.{claim_few}

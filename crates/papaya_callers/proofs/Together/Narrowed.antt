@@ -2,22 +2,22 @@
 use Rattle.std.specs.Prelude.{◌≡◌, ℕ, ◌+◌, ◌<◌, ◌≤◌, ltb, Bool, true, false, cond, Option, Some, ◌⊎◌}
 use Rattle.std.proofs.Common.{refl, ap, ◌∙◌, inl, inr, arith}
 use Rattle.std.proofs.lemmas.Bool.Decides.{nat_tests}
-use Rattle.papaya_late.specs.Given.Seize.declared.states.TheConstants.{LAST_SLOT}
-use Rattle.papaya_late.specs.Given.Seize.Law.{reachable}
-use Rattle.papaya_late.specs.Given.Seize.World.{World, Row, Use, IsInside, IsOnto}
+use Rattle.papaya_late.specs.Given.SeizeDeclared.states.TheConstants.{LAST_SLOT}
+use Rattle.papaya_late.specs.Given.SeizeLaw.{reachable}
+use Rattle.papaya_late.specs.Given.SeizeWorld.{World, Row, Use, IsInside, IsOnto}
 use Rattle.seize_alone.proofs.Histories.Reached.{Reached}
-use Rattle.papaya_late.specs.Given.Tables.Chunks.{is_incremental}
-use Rattle.papaya_late.specs.Given.Tables.Nodes.{deferred_word}
-use Rattle.papaya_late.specs.Given.Tables.declared.node.Node.{Node}
-use Rattle.papaya_late.specs.Given.Tables.declared.setting.Setting.{Setting}
-use Rattle.papaya_late.specs.Given.Rule.Chart.{Chart}
-use Rattle.papaya_late.specs.Given.Rule.Words.{Blocks}
-use Rattle.papaya_late.specs.Given.Rule.Maps.{spot_of}
-use Rattle.papaya_late.specs.Given.Rule.InWorld.{IsMapIn}
-use Rattle.papaya_late.specs.Given.Points.Steps.{AreLawful}
-use Rattle.papaya_late.proofs.Given.Rule.History.LeavingOn.{leaves_same}
-use Rattle.papaya_late.proofs.Given.Rule.World.OthersSpared.{keeps_same}
-use Rattle.papaya_late.specs.Given.Points.Others.{OthersStep}
+use Rattle.papaya_late.specs.Given.TablesChunks.{is_incremental}
+use Rattle.papaya_late.specs.Given.TablesNodes.{deferred_word}
+use Rattle.papaya_late.specs.Given.TablesDeclared.node.Node.{Node}
+use Rattle.papaya_late.specs.Given.TablesDeclared.setting.Setting.{Setting}
+use Rattle.papaya_late.specs.Given.RuleChart.{Chart}
+use Rattle.papaya_late.specs.Given.RuleWords.{Blocks}
+use Rattle.papaya_late.specs.Given.RuleMaps.{spot_of}
+use Rattle.papaya_late.specs.Given.RuleInWorld.{IsMapIn}
+use Rattle.papaya_late.specs.Given.PointsSteps.{AreLawful}
+use Rattle.papaya_late.proofs.Given.RuleHistory.LeavingOn.{leaves_same}
+use Rattle.papaya_late.proofs.Given.RuleWorld.OthersSpared.{keeps_same}
+use Rattle.papaya_late.specs.Given.PointsOthers.{OthersStep}
 use Rattle.papaya_callers.specs.Kept.{IsKeptBy, IsWithin}
 use Rattle.papaya_callers.specs.Sights.{SeesSources, Sight, seen_by, IsSight}
 use Rattle.papaya_callers.specs.Together.{UnderWay, UnlessCounts, in_slot, CameAbout, Stands, Together, AllStand}

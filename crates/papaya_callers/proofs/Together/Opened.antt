@@ -2,21 +2,21 @@
 use Rattle.std.specs.Prelude.{◌≡◌, ◌≢◌, ℕ, ◌<◌, ◌≤◌, ltb, Bool, true, false, cond, Option, Some, None}
 use Rattle.std.proofs.Common.{refl, ap, sym, subst, ◌∙◌, inl, inr, arith}
 use Rattle.std.proofs.lemmas.Bool.Decides.{nat_tests}
-use Rattle.papaya_late.specs.Given.Seize.Law.{is_somewhere, reachable, holds}
-use Rattle.papaya_late.specs.Given.Seize.World.{World, Step, Steps', InUse, IsInside}
-use Rattle.papaya_late.proofs.Given.SeizeMoves.State.Logs.{reached_held}
+use Rattle.papaya_late.specs.Given.SeizeLaw.{is_somewhere, reachable, holds}
+use Rattle.papaya_late.specs.Given.SeizeWorld.{World, Step, Steps', InUse, IsInside}
+use Rattle.papaya_late.proofs.Given.SeizeMovesState.Logs.{reached_held}
 use Rattle.seize_alone.proofs.Histories.Reached.{Reached}
 use Rattle.seize_alone.proofs.Histories.Uses.{inside_open}
-use Rattle.papaya_late.specs.Given.Tables.Chunks.{is_incremental}
-use Rattle.papaya_late.specs.Given.Tables.Nodes.{deferred_word}
-use Rattle.papaya_late.specs.Given.Tables.declared.node.Node.{Node}
-use Rattle.papaya_late.specs.Given.Tables.declared.setting.Setting.{Setting}
-use Rattle.papaya_late.specs.Given.Rule.Chart.{Phase, Holds, Chart}
-use Rattle.papaya_late.specs.Given.Rule.Words.{Blocks}
-use Rattle.papaya_late.specs.Given.Rule.InWorld.{IsReached, IsMapIn}
-use Rattle.papaya_late.specs.Given.Rule.Maps.{spot_of}
-use Rattle.papaya_late.specs.Given.Rule.Moments.{Moments}
-use Rattle.papaya_late.specs.Given.Points.Steps.{AreLawful}
+use Rattle.papaya_late.specs.Given.TablesChunks.{is_incremental}
+use Rattle.papaya_late.specs.Given.TablesNodes.{deferred_word}
+use Rattle.papaya_late.specs.Given.TablesDeclared.node.Node.{Node}
+use Rattle.papaya_late.specs.Given.TablesDeclared.setting.Setting.{Setting}
+use Rattle.papaya_late.specs.Given.RuleChart.{Phase, Holds, Chart}
+use Rattle.papaya_late.specs.Given.RuleWords.{Blocks}
+use Rattle.papaya_late.specs.Given.RuleInWorld.{IsReached, IsMapIn}
+use Rattle.papaya_late.specs.Given.RuleMaps.{spot_of}
+use Rattle.papaya_late.specs.Given.RuleMoments.{Moments}
+use Rattle.papaya_late.specs.Given.PointsSteps.{AreLawful}
 use Rattle.papaya_callers.proofs.Sights.Parts.{part_same}
 use Rattle.papaya_callers.specs.Kept.{IsWithin}
 use Rattle.papaya_callers.specs.Sights.{Sight, seen_by, IsSight}

@@ -1,37 +1,37 @@
 -- A call that asks is told what to do: all calls stand together then, and it knows its next point.
 use Rattle.std.specs.Prelude.{List, Option, Some, None, Result, Ok, Err}
 use Rattle.std.proofs.Common.{◌≡◌, ◌≢◌, ℕ, Bool, true, false, ◌==◌, if◌then◌else◌, ◌⊎◌, inl, inr, refl, sym, subst, ◌∙◌}
-use Rattle.papaya_late.specs.Given.SeizeWords.Mem.{Mem}
-use Rattle.papaya_late.specs.Given.Seize.World.{World, Rests, with_at}
-use Rattle.papaya_late.specs.Given.Tables.declared.marks.TheConstants.{TOMBSTONE}
-use Rattle.papaya_late.specs.Given.Tables.declared.node.Node.{Node}
-use Rattle.papaya_late.specs.Given.Tables.declared.setting.Setting.{Setting}
-use Rattle.papaya_late.specs.Given.Raw.CallAsks.{with_absent, with_present, told_at, replied}
-use Rattle.papaya_late.specs.Given.Raw.CallPoints.{going, over, ending, burying, storing, at_gap}
-use Rattle.papaya_late.specs.Given.Raw.declared.machines.answer.End.{End}
-use Rattle.papaya_late.specs.Given.Raw.declared.machines.answer.KeyAnswer.{KeyAnswer}
-use Rattle.papaya_late.specs.Given.Raw.declared.machines.answer.KeyAnswer.TheVariants as answers
-use Rattle.papaya_late.specs.Given.Raw.declared.machines.asking.Asking.{Asking}
-use Rattle.papaya_late.specs.Given.Raw.declared.machines.asking.Asking.TheVariants as asking
-use Rattle.papaya_late.specs.Given.Raw.declared.machines.asking.Gap.{Gap}
-use Rattle.papaya_late.specs.Given.Raw.declared.machines.asking.Gap.TheVariants as gaps
-use Rattle.papaya_late.specs.Given.Raw.declared.machines.asking.Reply.{Reply}
-use Rattle.papaya_late.specs.Given.Raw.declared.machines.asking.Reply.TheVariants as reply
-use Rattle.papaya_late.specs.Given.Raw.declared.machines.asking.Takes.TheVariants as takes
-use Rattle.papaya_late.specs.Given.Raw.declared.machines.asking.Told.{Told}
-use Rattle.papaya_late.specs.Given.Raw.declared.machines.asking.Told.TheVariants as tells
-use Rattle.papaya_late.specs.Given.Raw.declared.machines.call.KeyCall.{KeyCall}
-use Rattle.papaya_late.specs.Given.Raw.declared.machines.call.Calling.{Calling}
-use Rattle.papaya_late.specs.Given.Raw.declared.machines.call.Calling.TheVariants as at
-use Rattle.papaya_late.specs.Given.Rule.Chart.{Still, Chart}
-use Rattle.papaya_late.specs.Given.Rule.InWorld.{IsMapIn}
-use Rattle.papaya_late.specs.Given.Rule.Words.{Blocks}
-use Rattle.papaya_late.specs.Given.Points.FactsCalls.{Change, Unchanged, RepliesFit, NamesPair, Seeks, CallingFacts, CallFacts}
+use Rattle.papaya_late.specs.Given.SeizeWordsMem.{Mem}
+use Rattle.papaya_late.specs.Given.SeizeWorld.{World, Rests, with_at}
+use Rattle.papaya_late.specs.Given.TablesDeclared.marks.TheConstants.{TOMBSTONE}
+use Rattle.papaya_late.specs.Given.TablesDeclared.node.Node.{Node}
+use Rattle.papaya_late.specs.Given.TablesDeclared.setting.Setting.{Setting}
+use Rattle.papaya_late.specs.Given.RawCallAsks.{with_absent, with_present, told_at, replied}
+use Rattle.papaya_late.specs.Given.RawCallPoints.{going, over, ending, burying, storing, at_gap}
+use Rattle.papaya_late.specs.Given.RawDeclared.machines.answer.End.{End}
+use Rattle.papaya_late.specs.Given.RawDeclared.machines.answer.KeyAnswer.{KeyAnswer}
+use Rattle.papaya_late.specs.Given.RawDeclared.machines.answer.KeyAnswer.TheVariants as answers
+use Rattle.papaya_late.specs.Given.RawDeclared.machines.asking.Asking.{Asking}
+use Rattle.papaya_late.specs.Given.RawDeclared.machines.asking.Asking.TheVariants as asking
+use Rattle.papaya_late.specs.Given.RawDeclared.machines.asking.Gap.{Gap}
+use Rattle.papaya_late.specs.Given.RawDeclared.machines.asking.Gap.TheVariants as gaps
+use Rattle.papaya_late.specs.Given.RawDeclared.machines.asking.Reply.{Reply}
+use Rattle.papaya_late.specs.Given.RawDeclared.machines.asking.Reply.TheVariants as reply
+use Rattle.papaya_late.specs.Given.RawDeclared.machines.asking.Takes.TheVariants as takes
+use Rattle.papaya_late.specs.Given.RawDeclared.machines.asking.Told.{Told}
+use Rattle.papaya_late.specs.Given.RawDeclared.machines.asking.Told.TheVariants as tells
+use Rattle.papaya_late.specs.Given.RawDeclared.machines.call.KeyCall.{KeyCall}
+use Rattle.papaya_late.specs.Given.RawDeclared.machines.call.Calling.{Calling}
+use Rattle.papaya_late.specs.Given.RawDeclared.machines.call.Calling.TheVariants as at
+use Rattle.papaya_late.specs.Given.RuleChart.{Still, Chart}
+use Rattle.papaya_late.specs.Given.RuleInWorld.{IsMapIn}
+use Rattle.papaya_late.specs.Given.RuleWords.{Blocks}
+use Rattle.papaya_late.specs.Given.PointsFactsCalls.{Change, Unchanged, RepliesFit, NamesPair, Seeks, CallingFacts, CallFacts}
 use Rattle.papaya_late.specs.LateCalls.{LateCalling, LateCallFacts}
-use Rattle.papaya_late.specs.Given.Points.Told.{HasAnswered, IsRowOfCall}
-use Rattle.papaya_late.proofs.Given.Points.Calls.Holdings.{never_asks}
-use Rattle.papaya_late.proofs.Given.Points.Calls.RepliesKnow.{replies_are_taken}
-use Rattle.papaya_late.proofs.Given.Points.Calls.RepliesTaken.{replied_so}
+use Rattle.papaya_late.specs.Given.PointsTold.{HasAnswered, IsRowOfCall}
+use Rattle.papaya_late.proofs.Given.PointsCalls.Holdings.{never_asks}
+use Rattle.papaya_late.proofs.Given.PointsCalls.RepliesKnow.{replies_are_taken}
+use Rattle.papaya_late.proofs.Given.PointsCalls.RepliesTaken.{replied_so}
 use Rattle.papaya_late.proofs.Calls.Replies.{late_replies_are_taken}
 use Rattle.papaya_late.proofs.Values.Own.{late_never_asks}
 use Rattle.papaya_callers.specs.Claims.{IsToClaim}

@@ -2,24 +2,24 @@
 use Rattle.std.specs.Prelude.{Option, if◌then◌else◌}
 use Rattle.std.proofs.Common.{◌≡◌, ◌≢◌, ℕ, suc, ◌*◌, ◌<◌, ◌≤◌, Bool, true, inl, inr, ap, sym, subst, arith}
 use Rattle.std.proofs.lemmas.Bool.{cases_lt, ne_eqb}
-use Rattle.papaya_late.specs.Given.Seize.declared.rows.settle.Settle.{Settle}
-use Rattle.papaya_late.specs.Given.Seize.World.{World, Row, Use, Making, Cutting, Handed, with_at}
-use Rattle.papaya_late.specs.Given.Tables.declared.node.Node.{Node}
-use Rattle.papaya_late.specs.Given.Tables.declared.setting.Setting.{Setting}
-use Rattle.papaya_late.specs.Given.Resize.CopierPromotes.{table_retired}
-use Rattle.papaya_late.specs.Given.Resize.CopierStates as copiers
-use Rattle.papaya_late.specs.Given.Resize.declared.copier.Copier.{Copier}
-use Rattle.papaya_late.specs.Given.Resize.declared.copier.Copying.TheVariants as copies
-use Rattle.papaya_late.specs.Given.Raw.CallPoints as points
-use Rattle.papaya_late.specs.Given.Raw.declared.machines.call.KeyCall.{KeyCall}
-use Rattle.papaya_late.specs.Given.Raw.declared.machines.call.Calling.TheVariants as at
-use Rattle.papaya_late.specs.Given.Rule.Chart.{Chart}
-use Rattle.papaya_late.specs.Given.Rule.InWorld.{IsMapIn}
-use Rattle.papaya_late.specs.Given.Rule.Words.{Blocks}
-use Rattle.papaya_late.proofs.Given.Rule.World.Hands.{hand_kept}
-use Rattle.papaya_late.specs.Given.Points.FactsCalls.{Change, Unchanged, Holding, Apart, InBlock, ByReply, holding, IsOwnPair, HasOwn, HasIts, CallFacts}
-use Rattle.papaya_late.specs.Given.Points.FactsCopiesBlocking.{CopyingFactsBlocking, CopierFactsBlocking}
-use Rattle.papaya_late.specs.Given.Points.FactsDisposes.{IsToRetire}
+use Rattle.papaya_late.specs.Given.SeizeDeclared.rows.settle.Settle.{Settle}
+use Rattle.papaya_late.specs.Given.SeizeWorld.{World, Row, Use, Making, Cutting, Handed, with_at}
+use Rattle.papaya_late.specs.Given.TablesDeclared.node.Node.{Node}
+use Rattle.papaya_late.specs.Given.TablesDeclared.setting.Setting.{Setting}
+use Rattle.papaya_late.specs.Given.ResizeCopierPromotes.{table_retired}
+use Rattle.papaya_late.specs.Given.ResizeCopierStates as copiers
+use Rattle.papaya_late.specs.Given.ResizeDeclared.copier.Copier.{Copier}
+use Rattle.papaya_late.specs.Given.ResizeDeclared.copier.Copying.TheVariants as copies
+use Rattle.papaya_late.specs.Given.RawCallPoints as points
+use Rattle.papaya_late.specs.Given.RawDeclared.machines.call.KeyCall.{KeyCall}
+use Rattle.papaya_late.specs.Given.RawDeclared.machines.call.Calling.TheVariants as at
+use Rattle.papaya_late.specs.Given.RuleChart.{Chart}
+use Rattle.papaya_late.specs.Given.RuleInWorld.{IsMapIn}
+use Rattle.papaya_late.specs.Given.RuleWords.{Blocks}
+use Rattle.papaya_late.proofs.Given.RuleWorld.Hands.{hand_kept}
+use Rattle.papaya_late.specs.Given.PointsFactsCalls.{Change, Unchanged, Holding, Apart, InBlock, ByReply, holding, IsOwnPair, HasOwn, HasIts, CallFacts}
+use Rattle.papaya_late.specs.Given.PointsFactsCopiesBlocking.{CopyingFactsBlocking, CopierFactsBlocking}
+use Rattle.papaya_late.specs.Given.PointsFactsDisposes.{IsToRetire}
 use Rattle.papaya_late.specs.LateCalls.{LateCallFacts}
 use Rattle.papaya_late.specs.LateCopies.{LateCopying, LateCopierFacts}
 use Rattle.papaya_callers.proofs.Together.FactsOn.{KnowsOfCall}

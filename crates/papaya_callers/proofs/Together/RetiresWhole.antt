@@ -2,21 +2,21 @@
 -- to know.
 use Rattle.std.specs.Prelude.{◌≡◌, ℕ, ◌<◌, cond, Bool, true, false}
 use Rattle.std.proofs.Common.{sym, subst, arith, refl}
-use Rattle.papaya_late.specs.Given.Seize.declared.rows.settle.Settle.{Settle}
-use Rattle.papaya_late.specs.Given.Seize.World.{World, Row, Use}
-use Rattle.papaya_late.specs.Given.Tables.Chunks.{is_incremental}
-use Rattle.papaya_late.specs.Given.Tables.declared.node.Node.{Node}
-use Rattle.papaya_late.specs.Given.Tables.declared.setting.Setting.{Setting}
-use Rattle.papaya_late.specs.Given.Resize.CopierPromotes as retiring
-use Rattle.papaya_late.specs.Given.Resize.CopierStates as copiers
-use Rattle.papaya_late.specs.Given.Resize.declared.copier.Copier.{Copier}
-use Rattle.papaya_late.specs.Given.Resize.declared.copier.Copying.TheVariants as copies
-use Rattle.papaya_late.specs.Given.Rule.Chart.{Chart}
-use Rattle.papaya_late.specs.Given.Rule.Words.{Blocks}
-use Rattle.papaya_late.specs.Given.Rule.InWorld.{IsMapIn}
-use Rattle.papaya_late.specs.Given.Points.FactsCopies.{CopierFacts}
-use Rattle.papaya_late.specs.Given.Points.FactsCopiesBlocking.{CopierFactsBlocking}
-use Rattle.papaya_late.specs.Given.Points.FactsDisposes.{IsToRetire}
+use Rattle.papaya_late.specs.Given.SeizeDeclared.rows.settle.Settle.{Settle}
+use Rattle.papaya_late.specs.Given.SeizeWorld.{World, Row, Use}
+use Rattle.papaya_late.specs.Given.TablesChunks.{is_incremental}
+use Rattle.papaya_late.specs.Given.TablesDeclared.node.Node.{Node}
+use Rattle.papaya_late.specs.Given.TablesDeclared.setting.Setting.{Setting}
+use Rattle.papaya_late.specs.Given.ResizeCopierPromotes as retiring
+use Rattle.papaya_late.specs.Given.ResizeCopierStates as copiers
+use Rattle.papaya_late.specs.Given.ResizeDeclared.copier.Copier.{Copier}
+use Rattle.papaya_late.specs.Given.ResizeDeclared.copier.Copying.TheVariants as copies
+use Rattle.papaya_late.specs.Given.RuleChart.{Chart}
+use Rattle.papaya_late.specs.Given.RuleWords.{Blocks}
+use Rattle.papaya_late.specs.Given.RuleInWorld.{IsMapIn}
+use Rattle.papaya_late.specs.Given.PointsFactsCopies.{CopierFacts}
+use Rattle.papaya_late.specs.Given.PointsFactsCopiesBlocking.{CopierFactsBlocking}
+use Rattle.papaya_late.specs.Given.PointsFactsDisposes.{IsToRetire}
 use Rattle.papaya_late.specs.LateCopies.{LateCopierFacts}
 use Rattle.papaya_late.specs.FactsReserves.{IsEnding, CopiesWhole}
 use Rattle.papaya_callers.proofs.Together.RetiresBlocking.{handed_over, copier_past, late_copier_past}

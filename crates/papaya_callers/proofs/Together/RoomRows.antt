@@ -1,32 +1,32 @@
 -- A reservation that is within a row of the collector, or stands at one, takes the row's next step: all stand together.
 use Rattle.std.specs.Prelude.{◌≡◌, ℕ, Bool, Option, Some, None}
 use Rattle.std.proofs.Common.{ap, sym, subst, ◌∙◌, inl, inr, refl}
-use Rattle.papaya_late.specs.Given.SeizeWords.Mem.{Mem, Can, Took, value_at}
-use Rattle.papaya_late.specs.Given.SeizeWords.Plan.{May, Steps, plan_as}
-use Rattle.papaya_late.proofs.Given.SeizeWords.Plans.{as_may}
-use Rattle.papaya_late.specs.Given.Seize.declared.rows.settle.Settle.{Settle}
-use Rattle.papaya_late.specs.Given.Seize.declared.rows.settle.Settled.{Settled}
-use Rattle.papaya_late.specs.Given.Seize.declared.rows.settle.Settled.TheVariants as settled
-use Rattle.papaya_late.specs.Given.Seize.Settle.{settle_plan}
-use Rattle.papaya_late.specs.Given.Seize.World.{World, Rests, Settles, Step, Happens, IsInside, with_at}
-use Rattle.papaya_late.proofs.Given.SeizeRule.Rows.Leaving.{steps_back}
-use Rattle.papaya_late.proofs.Given.SeizeRule.Rows.Teams.{shares}
-use Rattle.papaya_late.specs.Given.Tables.Nodes.{deferred_word}
-use Rattle.papaya_late.specs.Given.Tables.declared.node.Node.{Node}
-use Rattle.papaya_late.specs.Given.Tables.declared.setting.Setting.{Setting}
-use Rattle.papaya_late.specs.Given.Tables.declared.table.Table.{Table}
-use Rattle.papaya_late.specs.Given.Resize.CopierPromotes as retiring
-use Rattle.papaya_late.specs.Given.Resize.Copier as copier
-use Rattle.papaya_late.specs.Given.Resize.CopierStates as copiers
-use Rattle.papaya_late.specs.Given.Resize.declared.copier.Copier.{Copier}
-use Rattle.papaya_late.specs.Given.Resize.declared.copier.Copying.{Copying}
-use Rattle.papaya_late.specs.Given.Resize.declared.copier.Copying.TheVariants as copies
-use Rattle.papaya_late.specs.Given.Resize.declared.outcome.Outcome.{Outcome}
-use Rattle.papaya_late.specs.Given.Resize.declared.outcome.Outcome.TheVariants as outcome
-use Rattle.papaya_late.specs.Given.Rule.Chart.{Chart}
-use Rattle.papaya_late.specs.Given.Rule.Words.{Blocks}
-use Rattle.papaya_late.specs.Given.Points.Told.{IsRowOfCopier}
-use Rattle.papaya_late.specs.Given.Points.Steps.{AreLawful}
+use Rattle.papaya_late.specs.Given.SeizeWordsMem.{Mem, Can, Took, value_at}
+use Rattle.papaya_late.specs.Given.SeizeWordsPlan.{May, Steps, plan_as}
+use Rattle.papaya_late.proofs.Given.SeizeWordsPlans.{as_may}
+use Rattle.papaya_late.specs.Given.SeizeDeclared.rows.settle.Settle.{Settle}
+use Rattle.papaya_late.specs.Given.SeizeDeclared.rows.settle.Settled.{Settled}
+use Rattle.papaya_late.specs.Given.SeizeDeclared.rows.settle.Settled.TheVariants as settled
+use Rattle.papaya_late.specs.Given.SeizeSettle.{settle_plan}
+use Rattle.papaya_late.specs.Given.SeizeWorld.{World, Rests, Settles, Step, Happens, IsInside, with_at}
+use Rattle.papaya_late.proofs.Given.SeizeRuleRows.Leaving.{steps_back}
+use Rattle.papaya_late.proofs.Given.SeizeRuleRows.Teams.{shares}
+use Rattle.papaya_late.specs.Given.TablesNodes.{deferred_word}
+use Rattle.papaya_late.specs.Given.TablesDeclared.node.Node.{Node}
+use Rattle.papaya_late.specs.Given.TablesDeclared.setting.Setting.{Setting}
+use Rattle.papaya_late.specs.Given.TablesDeclared.table.Table.{Table}
+use Rattle.papaya_late.specs.Given.ResizeCopierPromotes as retiring
+use Rattle.papaya_late.specs.Given.ResizeCopier as copier
+use Rattle.papaya_late.specs.Given.ResizeCopierStates as copiers
+use Rattle.papaya_late.specs.Given.ResizeDeclared.copier.Copier.{Copier}
+use Rattle.papaya_late.specs.Given.ResizeDeclared.copier.Copying.{Copying}
+use Rattle.papaya_late.specs.Given.ResizeDeclared.copier.Copying.TheVariants as copies
+use Rattle.papaya_late.specs.Given.ResizeDeclared.outcome.Outcome.{Outcome}
+use Rattle.papaya_late.specs.Given.ResizeDeclared.outcome.Outcome.TheVariants as outcome
+use Rattle.papaya_late.specs.Given.RuleChart.{Chart}
+use Rattle.papaya_late.specs.Given.RuleWords.{Blocks}
+use Rattle.papaya_late.specs.Given.PointsTold.{IsRowOfCopier}
+use Rattle.papaya_late.specs.Given.PointsSteps.{AreLawful}
 use Rattle.papaya_callers.specs.Rows.{row_of_copier, past_copying}
 use Rattle.papaya_callers.specs.Sights.{Sight, seen_by}
 use Rattle.papaya_callers.proofs.Together.Few.{room_row_claims_none, few_with, retired_claims_none}
@@ -35,16 +35,16 @@ use Rattle.papaya_callers.proofs.Together.RowsOfCopiers.{at_retirement}
 use Rattle.papaya_callers.proofs.Together.RowSteps.{RowCame, settle_may, settle_came, settle_gives}
 use Rattle.papaya_callers.proofs.Together.Fits.{map_in_slot, knows_room_on, fits_some, stands_by}
 use Rattle.std.specs.Prelude.{Bool, ◌⊎◌}
-use Rattle.papaya_late.specs.Given.Seize.World.{Row}
-use Rattle.papaya_late.specs.Given.Reserves.Reserve as reserves
-use Rattle.papaya_late.specs.Given.Reserves.Reserve.{reserve_plan}
-use Rattle.papaya_late.specs.Given.Reserves.declared.reserve.Reserve.{Reserve}
-use Rattle.papaya_late.specs.Given.Reserves.declared.reserve.Reserving.{Reserving}
-use Rattle.papaya_late.specs.Given.Reserves.declared.reserve.Reserving.TheVariants as at
+use Rattle.papaya_late.specs.Given.SeizeWorld.{Row}
+use Rattle.papaya_late.specs.Given.ReservesReserve as reserves
+use Rattle.papaya_late.specs.Given.ReservesReserve.{reserve_plan}
+use Rattle.papaya_late.specs.Given.ReservesDeclared.reserve.Reserve.{Reserve}
+use Rattle.papaya_late.specs.Given.ReservesDeclared.reserve.Reserving.{Reserving}
+use Rattle.papaya_late.specs.Given.ReservesDeclared.reserve.Reserving.TheVariants as at
 use Rattle.papaya_late.specs.FactsReserves.{ReserveFacts}
 use Rattle.papaya_late.specs.LateReserves.{LateReserveFacts}
 use Rattle.papaya_late.specs.ToldReserves.{IsRowOfReserve}
-use Rattle.papaya_late.specs.Given.Rule.InWorld.{IsMapIn}
+use Rattle.papaya_late.specs.Given.RuleInWorld.{IsMapIn}
 use Rattle.papaya_callers.specs.Rooms.{CallForRoom, row_of_room, past_room, room_once_over, RoomClaims}
 use Rattle.papaya_callers.proofs.Sights.Seen.{map_seen}
 use Rattle.papaya_callers.proofs.Together.Came.{came_reached}

@@ -1,24 +1,24 @@
 -- A reservation among the calls on its map: it begins, and takes each step that is none of a row, and all stand together.
 use Rattle.std.specs.Prelude.{◌≡◌, ◌⊎◌, ℕ, ◌≤◌, Bool, false, Option, Some}
 use Rattle.std.proofs.Common.{◌∙◌, arith, subst, inl, inr}
-use Rattle.papaya_late.specs.Given.SeizeWords.Mem.{Mem, Can, Took, value_at}
-use Rattle.papaya_late.specs.Given.SeizeWords.Plan.{May, Steps}
-use Rattle.papaya_late.specs.Given.Seize.World.{World, Rests, IsInside, with_at}
-use Rattle.papaya_late.specs.Given.Tables.Chunks.{is_incremental}
-use Rattle.papaya_late.specs.Given.Tables.declared.node.Node.{Node}
-use Rattle.papaya_late.specs.Given.Tables.declared.setting.Setting.{Setting}
-use Rattle.papaya_late.specs.Given.Resize.declared.outcome.Outcome.{Outcome}
-use Rattle.papaya_late.specs.Given.Resize.declared.outcome.Outcome.TheVariants as outcome
-use Rattle.papaya_late.specs.Given.Reserves.Reserve.{reserving, reserve_plan}
-use Rattle.papaya_late.specs.Given.Reserves.declared.reserve.Reserve.{Reserve}
-use Rattle.papaya_late.specs.Given.Rule.Chart.{Chart}
-use Rattle.papaya_late.specs.Given.Rule.Words.{Blocks}
-use Rattle.papaya_late.specs.Given.Rule.InWorld.{IsMapIn, Went}
-use Rattle.papaya_late.specs.Given.Rule.Moments.{Remembers}
-use Rattle.papaya_late.proofs.Given.Rule.World.WentTold.{went_as}
-use Rattle.papaya_late.specs.Given.Points.FactsIdle.{IsIdle}
-use Rattle.papaya_late.specs.Given.Points.Steps.{AreLawful}
-use Rattle.papaya_late.specs.Given.Points.Told.{OnlyLinks}
+use Rattle.papaya_late.specs.Given.SeizeWordsMem.{Mem, Can, Took, value_at}
+use Rattle.papaya_late.specs.Given.SeizeWordsPlan.{May, Steps}
+use Rattle.papaya_late.specs.Given.SeizeWorld.{World, Rests, IsInside, with_at}
+use Rattle.papaya_late.specs.Given.TablesChunks.{is_incremental}
+use Rattle.papaya_late.specs.Given.TablesDeclared.node.Node.{Node}
+use Rattle.papaya_late.specs.Given.TablesDeclared.setting.Setting.{Setting}
+use Rattle.papaya_late.specs.Given.ResizeDeclared.outcome.Outcome.{Outcome}
+use Rattle.papaya_late.specs.Given.ResizeDeclared.outcome.Outcome.TheVariants as outcome
+use Rattle.papaya_late.specs.Given.ReservesReserve.{reserving, reserve_plan}
+use Rattle.papaya_late.specs.Given.ReservesDeclared.reserve.Reserve.{Reserve}
+use Rattle.papaya_late.specs.Given.RuleChart.{Chart}
+use Rattle.papaya_late.specs.Given.RuleWords.{Blocks}
+use Rattle.papaya_late.specs.Given.RuleInWorld.{IsMapIn, Went}
+use Rattle.papaya_late.specs.Given.RuleMoments.{Remembers}
+use Rattle.papaya_late.proofs.Given.RuleWorld.WentTold.{went_as}
+use Rattle.papaya_late.specs.Given.PointsFactsIdle.{IsIdle}
+use Rattle.papaya_late.specs.Given.PointsSteps.{AreLawful}
+use Rattle.papaya_late.specs.Given.PointsTold.{OnlyLinks}
 use Rattle.papaya_late.specs.FactsReserves.{CopiesPairs, ReserveFacts}
 use Rattle.papaya_late.specs.LateReserves.{LateReserveFacts}
 use Rattle.papaya_late.specs.LateToldReserves.{LateReserveAfter}

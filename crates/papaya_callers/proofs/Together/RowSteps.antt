@@ -1,41 +1,41 @@
 -- What one step of a retirement or of a deferral comes to among many callers.
 use Rattle.std.specs.Prelude.{◌/◌, ◌+◌, ◌≡◌, ◌≢◌, ℕ, Bool, Option}
 use Rattle.std.proofs.Common.{refl, ap, sym, subst, inl, inr}
-use Rattle.papaya_late.specs.Given.SeizeWords.Mem.{Mem, Can, Took, value_at}
-use Rattle.papaya_late.specs.Given.SeizeWords.Plan.{May, Steps}
-use Rattle.papaya_late.proofs.Given.SeizeWords.OneOwner.Operations.{loaded, stored, exchanged}
-use Rattle.papaya_late.specs.Given.SeizeWords.declared.fault.Fault.{Fault}
-use Rattle.papaya_late.specs.Given.SeizeWords.declared.at.At.TheVariants.{Entry}
-use Rattle.papaya_late.specs.Given.Seize.declared.states.TheConstants.{LAST_SLOT, NEXT}
-use Rattle.papaya_late.specs.Given.Seize.declared.progress.Progress.{Progress}
-use Rattle.papaya_late.specs.Given.Seize.declared.progress.Progress.TheVariants as progress
-use Rattle.papaya_late.specs.Given.Seize.declared.rows.defer.Defer.{Defer}
-use Rattle.papaya_late.specs.Given.Seize.declared.rows.defer.Deferring.{Deferring}
-use Rattle.papaya_late.specs.Given.Seize.declared.rows.defer.Deferring.TheVariants as deferring
-use Rattle.papaya_late.specs.Given.Seize.declared.rows.settle.Settle.{Settle}
-use Rattle.papaya_late.specs.Given.Seize.declared.rows.settle.Settled.{Settled}
-use Rattle.papaya_late.specs.Given.Seize.declared.rows.settle.Settled.TheVariants as settled
-use Rattle.papaya_late.specs.Given.Seize.Defer as defer
-use Rattle.papaya_late.specs.Given.Seize.Settle.{settle_plan}
-use Rattle.papaya_late.specs.Given.Seize.World.{World, Row, Rests, Settles, Defers, Use, Vacant, Outside, Inside, Changing, Step, Happens, Steps', IsInside, one_less, with_at, settles_on, defers_on}
-use Rattle.papaya_late.proofs.Given.SeizeRule.Rows.Others.{with_here}
-use Rattle.papaya_late.proofs.Given.SeizeRule.World.Kept.{row_may}
+use Rattle.papaya_late.specs.Given.SeizeWordsMem.{Mem, Can, Took, value_at}
+use Rattle.papaya_late.specs.Given.SeizeWordsPlan.{May, Steps}
+use Rattle.papaya_late.proofs.Given.SeizeWordsOneOwner.Operations.{loaded, stored, exchanged}
+use Rattle.papaya_late.specs.Given.SeizeWordsDeclared.fault.Fault.{Fault}
+use Rattle.papaya_late.specs.Given.SeizeWordsDeclared.at.At.TheVariants.{Entry}
+use Rattle.papaya_late.specs.Given.SeizeDeclared.states.TheConstants.{LAST_SLOT, NEXT}
+use Rattle.papaya_late.specs.Given.SeizeDeclared.progress.Progress.{Progress}
+use Rattle.papaya_late.specs.Given.SeizeDeclared.progress.Progress.TheVariants as progress
+use Rattle.papaya_late.specs.Given.SeizeDeclared.rows.defer.Defer.{Defer}
+use Rattle.papaya_late.specs.Given.SeizeDeclared.rows.defer.Deferring.{Deferring}
+use Rattle.papaya_late.specs.Given.SeizeDeclared.rows.defer.Deferring.TheVariants as deferring
+use Rattle.papaya_late.specs.Given.SeizeDeclared.rows.settle.Settle.{Settle}
+use Rattle.papaya_late.specs.Given.SeizeDeclared.rows.settle.Settled.{Settled}
+use Rattle.papaya_late.specs.Given.SeizeDeclared.rows.settle.Settled.TheVariants as settled
+use Rattle.papaya_late.specs.Given.SeizeDefer as defer
+use Rattle.papaya_late.specs.Given.SeizeSettle.{settle_plan}
+use Rattle.papaya_late.specs.Given.SeizeWorld.{World, Row, Rests, Settles, Defers, Use, Vacant, Outside, Inside, Changing, Step, Happens, Steps', IsInside, one_less, with_at, settles_on, defers_on}
+use Rattle.papaya_late.proofs.Given.SeizeRuleRows.Others.{with_here}
+use Rattle.papaya_late.proofs.Given.SeizeRuleWorld.Kept.{row_may}
 use Rattle.seize_alone.proofs.Histories.Uses.{inside_kept}
-use Rattle.papaya_late.specs.Given.Tables.Nodes.{deferred_word}
-use Rattle.papaya_late.specs.Given.Tables.declared.node.Node.{Node}
-use Rattle.papaya_late.specs.Given.Tables.declared.setting.Setting.{Setting}
-use Rattle.papaya_late.specs.Given.Raw.declared.machines.call.KeyCall.{KeyCall}
-use Rattle.papaya_late.specs.Given.Rule.Chart.{Chart}
-use Rattle.papaya_late.specs.Given.Rule.Words.{Blocks}
-use Rattle.papaya_late.specs.Given.Points.Steps.{AreLawful}
-use Rattle.papaya_late.proofs.Given.Rule.World.Hands.{at_cases}
+use Rattle.papaya_late.specs.Given.TablesNodes.{deferred_word}
+use Rattle.papaya_late.specs.Given.TablesDeclared.node.Node.{Node}
+use Rattle.papaya_late.specs.Given.TablesDeclared.setting.Setting.{Setting}
+use Rattle.papaya_late.specs.Given.RawDeclared.machines.call.KeyCall.{KeyCall}
+use Rattle.papaya_late.specs.Given.RuleChart.{Chart}
+use Rattle.papaya_late.specs.Given.RuleWords.{Blocks}
+use Rattle.papaya_late.specs.Given.PointsSteps.{AreLawful}
+use Rattle.papaya_late.proofs.Given.RuleWorld.Hands.{at_cases}
 use Rattle.papaya_callers.specs.Sights.{Sight, seen_by}
 use Rattle.papaya_callers.specs.Together.{in_slot, CallOnKey, Ground, UnderWay, PutsWithin, IsReclaimed, Knows, Together}
 use Rattle.papaya_callers.proofs.Rows.Gives.{gives}
 use Rattle.papaya_callers.proofs.Together.Came.{came_reached}
 use Rattle.papaya_callers.proofs.Together.Rows.{part2, others_step, ground_row, puts2, knows_row, others_row}
-use Rattle.papaya_late.specs.Given.Points.Others.{OthersStep}
-use Rattle.papaya_late.specs.Given.Rule.InWorld.{IsMapIn}
+use Rattle.papaya_late.specs.Given.PointsOthers.{OthersStep}
+use Rattle.papaya_late.specs.Given.RuleInWorld.{IsMapIn}
 use Rattle.papaya_callers.proofs.Together.Fits.{Fits}
 
 -- the row after a step of a retirement, and of a deferral

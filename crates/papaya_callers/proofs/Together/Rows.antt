@@ -1,26 +1,26 @@
 -- A step of a row of the collector leaves the map, and what is looked at of it, to all callers as they were.
 use Rattle.std.specs.Prelude.{◌≡◌, ◌≢◌, ℕ, Bool, true, Option}
 use Rattle.std.proofs.Common.{refl, ap, sym, subst, ◌∙◌, inl, inr, ◌<◌}
-use Rattle.papaya_late.specs.Given.Seize.Law.{owner_of}
-use Rattle.papaya_late.specs.Given.Seize.World.{World, Step, Steps', IsInside}
-use Rattle.papaya_late.proofs.Given.SeizeRule.Rows.Effects.{owner_kept}
+use Rattle.papaya_late.specs.Given.SeizeLaw.{owner_of}
+use Rattle.papaya_late.specs.Given.SeizeWorld.{World, Step, Steps', IsInside}
+use Rattle.papaya_late.proofs.Given.SeizeRuleRows.Effects.{owner_kept}
 use Rattle.seize_alone.proofs.Histories.NotTaken.{IsKept, IsHeld, did, still_held, kept_value}
 use Rattle.seize_alone.proofs.Histories.Onto.{steps_onto}
 use Rattle.seize_alone.proofs.Histories.Reached.{Reached}
 use Rattle.seize_alone.proofs.Histories.Uses.{inside_kept}
-use Rattle.papaya_late.specs.Given.Tables.Chunks.{is_incremental}
-use Rattle.papaya_late.specs.Given.Tables.Nodes.{deferred_word}
-use Rattle.papaya_late.specs.Given.Tables.declared.node.Node.{Node}
-use Rattle.papaya_late.specs.Given.Tables.declared.setting.Setting.{Setting}
-use Rattle.papaya_late.specs.Given.Raw.declared.machines.call.KeyCall.{KeyCall}
-use Rattle.papaya_late.specs.Given.Rule.Chart.{Chart}
-use Rattle.papaya_late.specs.Given.Rule.Words.{Blocks}
-use Rattle.papaya_late.specs.Given.Rule.Maps.{spot_of}
-use Rattle.papaya_late.specs.Given.Rule.InWorld.{IsMapIn}
-use Rattle.papaya_late.specs.Given.Points.FactsIdle.{IsIdle}
-use Rattle.papaya_late.specs.Given.Points.Steps.{AreLawful}
-use Rattle.papaya_late.proofs.Given.Rule.History.LeavingOn.{leaves_same}
-use Rattle.papaya_late.specs.Given.Points.Others.{OthersStep}
+use Rattle.papaya_late.specs.Given.TablesChunks.{is_incremental}
+use Rattle.papaya_late.specs.Given.TablesNodes.{deferred_word}
+use Rattle.papaya_late.specs.Given.TablesDeclared.node.Node.{Node}
+use Rattle.papaya_late.specs.Given.TablesDeclared.setting.Setting.{Setting}
+use Rattle.papaya_late.specs.Given.RawDeclared.machines.call.KeyCall.{KeyCall}
+use Rattle.papaya_late.specs.Given.RuleChart.{Chart}
+use Rattle.papaya_late.specs.Given.RuleWords.{Blocks}
+use Rattle.papaya_late.specs.Given.RuleMaps.{spot_of}
+use Rattle.papaya_late.specs.Given.RuleInWorld.{IsMapIn}
+use Rattle.papaya_late.specs.Given.PointsFactsIdle.{IsIdle}
+use Rattle.papaya_late.specs.Given.PointsSteps.{AreLawful}
+use Rattle.papaya_late.proofs.Given.RuleHistory.LeavingOn.{leaves_same}
+use Rattle.papaya_late.specs.Given.PointsOthers.{OthersStep}
 use Rattle.papaya_callers.specs.Kept.{IsMaking, IsKeptBy, IsWithin, AllOwned, BehindIsOwned}
 use Rattle.papaya_callers.specs.Sights.{Sight, seen_by}
 use Rattle.papaya_callers.specs.Together.{CallOnKey, Ground, UnderWay, PutsWithin, in_slot, Knows, Together}

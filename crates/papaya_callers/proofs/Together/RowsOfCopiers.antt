@@ -1,9 +1,9 @@
 -- A copier that stands at a row of the collector retires a table.
 use Rattle.std.specs.Prelude.{ℕ}
-use Rattle.papaya_late.specs.Given.Seize.declared.rows.settle.Settle.{Settle}
-use Rattle.papaya_late.specs.Given.Resize.declared.copier.Copying.{Copying}
-use Rattle.papaya_late.specs.Given.Resize.declared.copier.Copying.TheVariants as copies
-use Rattle.papaya_late.specs.Given.Points.Told.{IsRowOfCopier}
+use Rattle.papaya_late.specs.Given.SeizeDeclared.rows.settle.Settle.{Settle}
+use Rattle.papaya_late.specs.Given.ResizeDeclared.copier.Copying.{Copying}
+use Rattle.papaya_late.specs.Given.ResizeDeclared.copier.Copying.TheVariants as copies
+use Rattle.papaya_late.specs.Given.PointsTold.{IsRowOfCopier}
 
 pub at_retirement : (P : Copying → Type 0) → ((settle : Settle) (rest : ℕ) → P (copies.Retires settle rest)) → (x : Copying) → IsRowOfCopier x → P x
 at_retirement P r (copies.Retires settle rest) row = r settle rest

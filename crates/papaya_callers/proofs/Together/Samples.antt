@@ -1,12 +1,12 @@
 -- What is refused among many callers.
 use Rattle.std.specs.Prelude.{◌≡◌, ◌≢◌, ◌<◌, ◌≤◌, ℕ, suc, Bool, true, false, Option, Some, None}
 use Rattle.std.proofs.Common.{subst, arith}
-use Rattle.papaya_late.specs.Given.Seize.Law.{With, where_is, holds, owner_of}
-use Rattle.papaya_late.specs.Given.Seize.World.{World, Changing, IsInside, IsOnto}
-use Rattle.papaya_late.specs.Given.Tables.declared.node.Node.{Node}
-use Rattle.papaya_late.specs.Given.Tables.declared.setting.Setting.{Setting}
-use Rattle.papaya_late.specs.Given.Rule.Chart.{Chart}
-use Rattle.papaya_late.specs.Given.Rule.Words.{Blocks}
+use Rattle.papaya_late.specs.Given.SeizeLaw.{With, where_is, holds, owner_of}
+use Rattle.papaya_late.specs.Given.SeizeWorld.{World, Changing, IsInside, IsOnto}
+use Rattle.papaya_late.specs.Given.TablesDeclared.node.Node.{Node}
+use Rattle.papaya_late.specs.Given.TablesDeclared.setting.Setting.{Setting}
+use Rattle.papaya_late.specs.Given.RuleChart.{Chart}
+use Rattle.papaya_late.specs.Given.RuleWords.{Blocks}
 use Rattle.papaya_callers.specs.Sights.{Sight}
 use Rattle.papaya_callers.specs.Together.{CallOnKey, UnderWay, OnKey, IsReclaimed, Together}
 

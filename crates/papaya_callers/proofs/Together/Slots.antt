@@ -1,34 +1,34 @@
 -- What a step of a row that retires or defers a block leaves of slots: each is used as it was, and the row works on its own on.
 use Rattle.std.specs.Prelude.{Option}
 use Rattle.std.proofs.Common.{◌≡◌, ℕ, ◌+◌, true, List, [], ◌∷◌, ap, sym, subst, ◌∙◌, refl}
-use Rattle.papaya_late.specs.Given.SeizeWords.Mem.{Mem}
-use Rattle.papaya_late.specs.Given.Seize.declared.states.TheConstants.{LAST_SLOT}
-use Rattle.papaya_late.specs.Given.Seize.declared.progress.Progress.{Progress}
-use Rattle.papaya_late.specs.Given.Seize.declared.progress.Progress.TheVariants as progress
-use Rattle.papaya_late.specs.Given.Seize.declared.rows.settle.Settle.{Settle}
-use Rattle.papaya_late.specs.Given.Seize.declared.rows.settle.Settled.{Settled}
-use Rattle.papaya_late.specs.Given.Seize.declared.rows.settle.Settled.TheVariants as settled
-use Rattle.papaya_late.specs.Given.Seize.declared.rows.defer.Defer.{Defer}
-use Rattle.papaya_late.specs.Given.Seize.World.{World, Row, Rests, Registers, Enters, Settles, Leaves, Defers, Frees, Use, Vacant, Outside, Inside, Changing, Event, Runs, Steps', with_at, one_more, one_less, settles_on, defers_on}
-use Rattle.papaya_late.proofs.Given.SeizeMoves.State.Ghost.{State}
-use Rattle.papaya_late.proofs.Given.SeizeRule.Rows.Others.{users_rows}
-use Rattle.papaya_late.proofs.Given.SeizeRule.Rows.Teams.{shares}
-use Rattle.papaya_late.proofs.Given.SeizeRule.Rows.Told.{RowTold, SettleGoes, SettleEnds, LeaveSwaps, LeaveGoes, LeaveSettled, LeaveEnds, RegisterLooks, RegisterRefused, RegisterTakes, RegisterEnters, EntersSlot, FreesSlot, DeferGoes, DeferPushes, DeferEnds}
-use Rattle.papaya_late.proofs.Given.SeizeRule.World.Kept.{steps_next}
+use Rattle.papaya_late.specs.Given.SeizeWordsMem.{Mem}
+use Rattle.papaya_late.specs.Given.SeizeDeclared.states.TheConstants.{LAST_SLOT}
+use Rattle.papaya_late.specs.Given.SeizeDeclared.progress.Progress.{Progress}
+use Rattle.papaya_late.specs.Given.SeizeDeclared.progress.Progress.TheVariants as progress
+use Rattle.papaya_late.specs.Given.SeizeDeclared.rows.settle.Settle.{Settle}
+use Rattle.papaya_late.specs.Given.SeizeDeclared.rows.settle.Settled.{Settled}
+use Rattle.papaya_late.specs.Given.SeizeDeclared.rows.settle.Settled.TheVariants as settled
+use Rattle.papaya_late.specs.Given.SeizeDeclared.rows.defer.Defer.{Defer}
+use Rattle.papaya_late.specs.Given.SeizeWorld.{World, Row, Rests, Registers, Enters, Settles, Leaves, Defers, Frees, Use, Vacant, Outside, Inside, Changing, Event, Runs, Steps', with_at, one_more, one_less, settles_on, defers_on}
+use Rattle.papaya_late.proofs.Given.SeizeMovesState.Ghost.{State}
+use Rattle.papaya_late.proofs.Given.SeizeRuleRows.Others.{users_rows}
+use Rattle.papaya_late.proofs.Given.SeizeRuleRows.Teams.{shares}
+use Rattle.papaya_late.proofs.Given.SeizeRuleRows.Told.{RowTold, SettleGoes, SettleEnds, LeaveSwaps, LeaveGoes, LeaveSettled, LeaveEnds, RegisterLooks, RegisterRefused, RegisterTakes, RegisterEnters, EntersSlot, FreesSlot, DeferGoes, DeferPushes, DeferEnds}
+use Rattle.papaya_late.proofs.Given.SeizeRuleWorld.Kept.{steps_next}
 use Rattle.seize_alone.proofs.Histories.Reached.{Reached}
 use Rattle.seize_alone.proofs.Histories.UsersTurn.{AreBetween, users_between, between_uses}
-use Rattle.papaya_late.specs.Given.Resize.declared.copier.Copying.{Copying}
-use Rattle.papaya_late.specs.Given.Resize.declared.dispose.Disposing.{Disposing}
-use Rattle.papaya_late.specs.Given.Resize.declared.dispose.Disposing.TheVariants as disposes
-use Rattle.papaya_late.specs.Given.Reserves.declared.reserve.Reserving.{Reserving}
-use Rattle.papaya_late.specs.Given.Reserves.declared.reserve.Reserving.TheVariants as reserving
-use Rattle.papaya_late.specs.Given.Sweeps.declared.sweep.Sweeping.{Sweeping}
-use Rattle.papaya_late.specs.Given.Sweeps.declared.sweep.Sweeping.TheVariants as sweeping
-use Rattle.papaya_late.specs.Given.Raw.declared.machines.call.Calling.{Calling}
-use Rattle.papaya_late.specs.Given.Raw.declared.machines.call.Calling.TheVariants as calls
-use Rattle.papaya_late.specs.Given.Rule.InWorld.{AllUsers}
-use Rattle.papaya_late.proofs.Given.Rule.World.Hands.{at_cases}
-use Rattle.papaya_late.specs.Given.Points.Told.{IsRowOf, IsRowOfCopier, IsRowOfCall}
+use Rattle.papaya_late.specs.Given.ResizeDeclared.copier.Copying.{Copying}
+use Rattle.papaya_late.specs.Given.ResizeDeclared.dispose.Disposing.{Disposing}
+use Rattle.papaya_late.specs.Given.ResizeDeclared.dispose.Disposing.TheVariants as disposes
+use Rattle.papaya_late.specs.Given.ReservesDeclared.reserve.Reserving.{Reserving}
+use Rattle.papaya_late.specs.Given.ReservesDeclared.reserve.Reserving.TheVariants as reserving
+use Rattle.papaya_late.specs.Given.SweepsDeclared.sweep.Sweeping.{Sweeping}
+use Rattle.papaya_late.specs.Given.SweepsDeclared.sweep.Sweeping.TheVariants as sweeping
+use Rattle.papaya_late.specs.Given.RawDeclared.machines.call.Calling.{Calling}
+use Rattle.papaya_late.specs.Given.RawDeclared.machines.call.Calling.TheVariants as calls
+use Rattle.papaya_late.specs.Given.RuleInWorld.{AllUsers}
+use Rattle.papaya_late.proofs.Given.RuleWorld.Hands.{at_cases}
+use Rattle.papaya_late.specs.Given.PointsTold.{IsRowOf, IsRowOfCopier, IsRowOfCall}
 use Rattle.papaya_late.specs.ToldReserves.{IsRowOfReserve}
 use Rattle.papaya_late.specs.ToldSweeps.{IsRowOfSweep}
 use Rattle.papaya_callers.specs.OverAll.{row_of_sweep}

@@ -12,44 +12,44 @@ use Rattle.papaya_callers.proofs.Asked.Stays.{Stays}
 use Rattle.papaya_callers.proofs.Once.Stays.{once_to}
 use Rattle.papaya_callers.proofs.Once.Steps.{once_after}
 use Rattle.papaya_callers.proofs.Once.LateSteps.{late_once_after}
-use Rattle.papaya_late.proofs.Given.Points.Values.Sought.{IsLook}
+use Rattle.papaya_late.proofs.Given.PointsValues.Sought.{IsLook}
 use Rattle.papaya_callers.proofs.Asked.Walks.{RoomsAt, rooms_at}
 use Rattle.papaya_callers.proofs.Since.Began.{so_since_on}
 use Rattle.papaya_callers.proofs.Since.Given.{GivenTo, fit_of, given_to}
 use Rattle.papaya_late.proofs.KindsKept.Laws.{calls_keep_their_kind}
 use Rattle.papaya_late.specs.Kinds.{ComesFit}
 use Rattle.papaya_callers.specs.Kind.{Kind}
-use Rattle.papaya_late.specs.Given.Raw.declared.machines.answer.KeyAnswer.TheVariants as answers
-use Rattle.papaya_late.specs.Given.SeizeWords.declared.fault.Fault.{Fault}
-use Rattle.papaya_late.proofs.Given.Points.Values.Never.{never_asks_on}
+use Rattle.papaya_late.specs.Given.RawDeclared.machines.answer.KeyAnswer.TheVariants as answers
+use Rattle.papaya_late.specs.Given.SeizeWordsDeclared.fault.Fault.{Fault}
+use Rattle.papaya_late.proofs.Given.PointsValues.Never.{never_asks_on}
 use Rattle.std.specs.Prelude.{suc, ◌≡◌, ℕ, Bool, false, Option, Some}
 use Rattle.std.proofs.Common.{◌∙◌, arith, sym, subst, inl, inr}
-use Rattle.papaya_late.specs.Given.SeizeWords.Mem.{Mem, Can, Took, value_at}
-use Rattle.papaya_late.specs.Given.SeizeWords.Plan.{May, Steps}
-use Rattle.papaya_late.specs.Given.Seize.World.{World, Rests, IsInside, with_at}
-use Rattle.papaya_late.specs.Given.Raw.Call.{call_plan}
-use Rattle.papaya_late.specs.Given.Rule.InWorld.{IsMapIn, Went, IsFramed}
+use Rattle.papaya_late.specs.Given.SeizeWordsMem.{Mem, Can, Took, value_at}
+use Rattle.papaya_late.specs.Given.SeizeWordsPlan.{May, Steps}
+use Rattle.papaya_late.specs.Given.SeizeWorld.{World, Rests, IsInside, with_at}
+use Rattle.papaya_late.specs.Given.RawCall.{call_plan}
+use Rattle.papaya_late.specs.Given.RuleInWorld.{IsMapIn, Went, IsFramed}
 use Rattle.papaya_callers.specs.Together.{UnderWay, CallOnKey, OnKey, ClaimsInto, next_of, in_slot, StayFew, Knows, Stands, Together, StepTold, Fresh, Late, change_told, StepsTogether, CallsStandTogether, AnswersOnce, RefusesOnce}
-use Rattle.papaya_late.specs.Given.Tables.Chunks.{is_incremental}
-use Rattle.papaya_late.specs.Given.Tables.declared.node.Node.{Node}
-use Rattle.papaya_late.specs.Given.Tables.declared.setting.Setting.{Setting}
-use Rattle.papaya_late.specs.Given.Raw.declared.machines.answer.KeyAnswer.{KeyAnswer}
-use Rattle.papaya_late.specs.Given.Raw.declared.machines.answer.Called.{Called}
-use Rattle.papaya_late.specs.Given.Raw.declared.machines.answer.Called.TheVariants as called
-use Rattle.papaya_late.specs.Given.Raw.declared.machines.call.KeyCall.{KeyCall}
-use Rattle.papaya_late.specs.Given.Rule.Chart.{Chart}
-use Rattle.papaya_late.specs.Given.Rule.Words.{Blocks}
-use Rattle.papaya_late.specs.Given.Rule.Moments.{Moments, Remembers}
-use Rattle.papaya_late.specs.Given.Points.FactsCalls.{Change, Unchanged, CallFacts}
-use Rattle.papaya_late.specs.Given.Points.Told.{HasAnswered, CallTold, IsRowOfCall}
-use Rattle.papaya_late.specs.Given.Points.Steps.{AreLawful}
-use Rattle.papaya_late.specs.Given.Rule.Lasts.{Lasts}
-use Rattle.papaya_late.proofs.Given.Rule.World.WentTold.{went_as}
+use Rattle.papaya_late.specs.Given.TablesChunks.{is_incremental}
+use Rattle.papaya_late.specs.Given.TablesDeclared.node.Node.{Node}
+use Rattle.papaya_late.specs.Given.TablesDeclared.setting.Setting.{Setting}
+use Rattle.papaya_late.specs.Given.RawDeclared.machines.answer.KeyAnswer.{KeyAnswer}
+use Rattle.papaya_late.specs.Given.RawDeclared.machines.answer.Called.{Called}
+use Rattle.papaya_late.specs.Given.RawDeclared.machines.answer.Called.TheVariants as called
+use Rattle.papaya_late.specs.Given.RawDeclared.machines.call.KeyCall.{KeyCall}
+use Rattle.papaya_late.specs.Given.RuleChart.{Chart}
+use Rattle.papaya_late.specs.Given.RuleWords.{Blocks}
+use Rattle.papaya_late.specs.Given.RuleMoments.{Moments, Remembers}
+use Rattle.papaya_late.specs.Given.PointsFactsCalls.{Change, Unchanged, CallFacts}
+use Rattle.papaya_late.specs.Given.PointsTold.{HasAnswered, CallTold, IsRowOfCall}
+use Rattle.papaya_late.specs.Given.PointsSteps.{AreLawful}
+use Rattle.papaya_late.specs.Given.RuleLasts.{Lasts}
+use Rattle.papaya_late.proofs.Given.RuleWorld.WentTold.{went_as}
 use Rattle.papaya_late.specs.LateCalls.{LateCallFacts}
 use Rattle.papaya_late.specs.LateTold.{LateTold}
 use Rattle.papaya_late.proofs.Calls.Points.{late_calls_keep_the_map}
 use Rattle.papaya_late.proofs.Copiers.Points.{late_copiers_keep_the_map}
-use Rattle.papaya_late.specs.Given.Rule.Maps.{spot_of}
+use Rattle.papaya_late.specs.Given.RuleMaps.{spot_of}
 use Rattle.papaya_callers.specs.Since.{SoSince, Since}
 use Rattle.papaya_callers.specs.Sights.{Sight, seen_by}
 use Rattle.papaya_late.proofs.Known.Steps.{lasts_went, others_step}
@@ -59,7 +59,7 @@ use Rattle.papaya_callers.proofs.Claims.Promised.{claims_by}
 use Rattle.papaya_callers.proofs.Together.FactsOn.{KnowsOfCall}
 use Rattle.papaya_callers.proofs.Together.Fits.{Fits, fits_some, fits_none, knows_on}
 use Rattle.papaya_callers.proofs.Together.Told.{KnowsAfter, since_told, answers_told, refuses_told, after_told, beside_told}
-use Rattle.papaya_late.proofs.Given.Points.Calls.StepsTold.{calls_keep_the_map}
+use Rattle.papaya_late.proofs.Given.PointsCalls.StepsTold.{calls_keep_the_map}
 
 module _ {K V Q : Type 0} (same : K → K → Bool) (hash : K → ℕ) (asks : Q → K → Bool) (setting : Setting) (slot : ℕ → ℕ) where
   abbrev Stand : World (Node K V) → Chart K → Blocks → (ℕ → Sight) → (ℕ → Option (UnderWay K V Q)) → Type 0

@@ -1,46 +1,46 @@
 -- A walk, a clearing or a retaining that is within a row of the collector, or stands at one, takes the row's next step: all stand together.
 use Rattle.std.specs.Prelude.{◌≡◌, ◌+◌, ◌%◌, ◌^◌, ◌&&◌, ℕ, Bool, true, false, nat_lt, Option, None, Some, if◌then◌else◌}
 use Rattle.std.proofs.Common.{sym, subst, inl, inr, refl}
-use Rattle.papaya_late.specs.Given.SeizeWords.Mem.{Mem, Can, Took, value_at}
-use Rattle.papaya_late.specs.Given.SeizeWords.Plan.{May, Steps, plan_as}
-use Rattle.papaya_late.proofs.Given.SeizeWords.Plans.{as_may}
-use Rattle.papaya_late.specs.Given.Seize.declared.progress.Progress.{Progress}
-use Rattle.papaya_late.specs.Given.Seize.declared.progress.Progress.TheVariants as progress
-use Rattle.papaya_late.specs.Given.Seize.declared.rows.defer.Defer.{Defer}
-use Rattle.papaya_late.specs.Given.Seize.declared.rows.settle.Settle.{Settle}
-use Rattle.papaya_late.specs.Given.Seize.declared.rows.settle.Settled.{Settled}
-use Rattle.papaya_late.specs.Given.Seize.declared.rows.settle.Settled.TheVariants as settled
-use Rattle.papaya_late.specs.Given.Seize.Defer.{defer_plan}
-use Rattle.papaya_late.specs.Given.Seize.Settle.{settle_plan}
-use Rattle.papaya_late.specs.Given.Seize.World.{World, Row, Rests, Settles, Defers, Step, Happens, IsInside, with_at}
-use Rattle.papaya_late.proofs.Given.SeizeRule.Rows.Leaving.{steps_back}
-use Rattle.papaya_late.specs.Given.Tables.Nodes.{deferred_word}
-use Rattle.papaya_late.specs.Given.Tables.declared.node.Node.{Node}
-use Rattle.papaya_late.specs.Given.Tables.declared.setting.Setting.{Setting}
-use Rattle.papaya_late.specs.Given.Tables.declared.table.Table.{Table}
-use Rattle.papaya_late.specs.Given.Resize.Dispose as dispose
-use Rattle.papaya_late.specs.Given.Resize.CopierPromotes as retiring
-use Rattle.papaya_late.specs.Given.Resize.Copier as copier
-use Rattle.papaya_late.specs.Given.Resize.CopierStates as copiers
-use Rattle.papaya_late.specs.Given.Resize.declared.copier.Copier.{Copier}
-use Rattle.papaya_late.specs.Given.Resize.declared.copier.Copying.{Copying}
-use Rattle.papaya_late.specs.Given.Resize.declared.copier.Copying.TheVariants as copies
-use Rattle.papaya_late.specs.Given.Resize.declared.dispose.Dispose.{Dispose}
-use Rattle.papaya_late.specs.Given.Resize.declared.dispose.Disposing.{Disposing}
-use Rattle.papaya_late.specs.Given.Resize.declared.dispose.Disposing.TheVariants as disposes
-use Rattle.papaya_late.specs.Given.Resize.declared.outcome.Outcome.{Outcome}
-use Rattle.papaya_late.specs.Given.Sweeps.Sweep as sweeps
-use Rattle.papaya_late.specs.Given.Sweeps.SweepPoints.{removes, standing, past, further, telling}
-use Rattle.papaya_late.specs.Given.Sweeps.declared.sweep.Sweep.{Sweep}
-use Rattle.papaya_late.specs.Given.Sweeps.declared.sweep.Sweeping.{Sweeping}
-use Rattle.papaya_late.specs.Given.Sweeps.declared.sweep.Sweeping.TheVariants as at
-use Rattle.papaya_late.specs.Given.Sweeps.declared.sweep.Swept.{Swept}
-use Rattle.papaya_late.specs.Given.Sweeps.declared.sweep.Swept.TheVariants as swept
-use Rattle.papaya_late.specs.Given.Rule.Chart.{Chart}
-use Rattle.papaya_late.specs.Given.Rule.Words.{Blocks}
-use Rattle.papaya_late.specs.Given.Rule.InWorld.{IsMapIn}
-use Rattle.papaya_late.specs.Given.Points.Told.{IsRowOf, IsRowOfCopier}
-use Rattle.papaya_late.specs.Given.Points.Steps.{AreLawful}
+use Rattle.papaya_late.specs.Given.SeizeWordsMem.{Mem, Can, Took, value_at}
+use Rattle.papaya_late.specs.Given.SeizeWordsPlan.{May, Steps, plan_as}
+use Rattle.papaya_late.proofs.Given.SeizeWordsPlans.{as_may}
+use Rattle.papaya_late.specs.Given.SeizeDeclared.progress.Progress.{Progress}
+use Rattle.papaya_late.specs.Given.SeizeDeclared.progress.Progress.TheVariants as progress
+use Rattle.papaya_late.specs.Given.SeizeDeclared.rows.defer.Defer.{Defer}
+use Rattle.papaya_late.specs.Given.SeizeDeclared.rows.settle.Settle.{Settle}
+use Rattle.papaya_late.specs.Given.SeizeDeclared.rows.settle.Settled.{Settled}
+use Rattle.papaya_late.specs.Given.SeizeDeclared.rows.settle.Settled.TheVariants as settled
+use Rattle.papaya_late.specs.Given.SeizeDefer.{defer_plan}
+use Rattle.papaya_late.specs.Given.SeizeSettle.{settle_plan}
+use Rattle.papaya_late.specs.Given.SeizeWorld.{World, Row, Rests, Settles, Defers, Step, Happens, IsInside, with_at}
+use Rattle.papaya_late.proofs.Given.SeizeRuleRows.Leaving.{steps_back}
+use Rattle.papaya_late.specs.Given.TablesNodes.{deferred_word}
+use Rattle.papaya_late.specs.Given.TablesDeclared.node.Node.{Node}
+use Rattle.papaya_late.specs.Given.TablesDeclared.setting.Setting.{Setting}
+use Rattle.papaya_late.specs.Given.TablesDeclared.table.Table.{Table}
+use Rattle.papaya_late.specs.Given.ResizeDispose as dispose
+use Rattle.papaya_late.specs.Given.ResizeCopierPromotes as retiring
+use Rattle.papaya_late.specs.Given.ResizeCopier as copier
+use Rattle.papaya_late.specs.Given.ResizeCopierStates as copiers
+use Rattle.papaya_late.specs.Given.ResizeDeclared.copier.Copier.{Copier}
+use Rattle.papaya_late.specs.Given.ResizeDeclared.copier.Copying.{Copying}
+use Rattle.papaya_late.specs.Given.ResizeDeclared.copier.Copying.TheVariants as copies
+use Rattle.papaya_late.specs.Given.ResizeDeclared.dispose.Dispose.{Dispose}
+use Rattle.papaya_late.specs.Given.ResizeDeclared.dispose.Disposing.{Disposing}
+use Rattle.papaya_late.specs.Given.ResizeDeclared.dispose.Disposing.TheVariants as disposes
+use Rattle.papaya_late.specs.Given.ResizeDeclared.outcome.Outcome.{Outcome}
+use Rattle.papaya_late.specs.Given.SweepsSweep as sweeps
+use Rattle.papaya_late.specs.Given.SweepsSweepPoints.{removes, standing, past, further, telling}
+use Rattle.papaya_late.specs.Given.SweepsDeclared.sweep.Sweep.{Sweep}
+use Rattle.papaya_late.specs.Given.SweepsDeclared.sweep.Sweeping.{Sweeping}
+use Rattle.papaya_late.specs.Given.SweepsDeclared.sweep.Sweeping.TheVariants as at
+use Rattle.papaya_late.specs.Given.SweepsDeclared.sweep.Swept.{Swept}
+use Rattle.papaya_late.specs.Given.SweepsDeclared.sweep.Swept.TheVariants as swept
+use Rattle.papaya_late.specs.Given.RuleChart.{Chart}
+use Rattle.papaya_late.specs.Given.RuleWords.{Blocks}
+use Rattle.papaya_late.specs.Given.RuleInWorld.{IsMapIn}
+use Rattle.papaya_late.specs.Given.PointsTold.{IsRowOf, IsRowOfCopier}
+use Rattle.papaya_late.specs.Given.PointsSteps.{AreLawful}
 use Rattle.papaya_late.specs.Covers.{Came}
 use Rattle.papaya_late.specs.FactsSweeps.{CopiesPairs}
 use Rattle.papaya_late.specs.ToldSweeps.{word_told, IsRowOfSweep}

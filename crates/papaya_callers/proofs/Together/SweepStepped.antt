@@ -1,33 +1,33 @@
 -- A walk, a clearing or a retaining that stands at a row of the collector begins it, and takes each step of it: all stand together.
 use Rattle.std.specs.Prelude.{◌≡◌, ℕ, Bool, Option}
 use Rattle.std.proofs.Common.{ap, sym, subst, ◌∙◌, inl, inr, refl}
-use Rattle.papaya_late.specs.Given.SeizeWords.Mem.{Mem, Can, Took, value_at}
-use Rattle.papaya_late.specs.Given.SeizeWords.Plan.{May, Steps}
-use Rattle.papaya_late.specs.Given.Seize.World.{World, Settles, Rests, IsInside}
-use Rattle.papaya_late.proofs.Given.SeizeRule.Rows.Teams.{shares}
-use Rattle.papaya_late.specs.Given.Tables.Nodes.{deferred_word}
-use Rattle.papaya_late.specs.Given.Tables.declared.node.Node.{Node}
-use Rattle.papaya_late.specs.Given.Tables.declared.setting.Setting.{Setting}
-use Rattle.papaya_late.specs.Given.Resize.CopierPromotes as retiring
-use Rattle.papaya_late.specs.Given.Resize.CopierStates as copiers
-use Rattle.papaya_late.specs.Given.Resize.Dispose as dispose
-use Rattle.papaya_late.specs.Given.Resize.declared.copier.Copier.{Copier}
-use Rattle.papaya_late.specs.Given.Resize.declared.copier.Copying.{Copying}
-use Rattle.papaya_late.specs.Given.Resize.declared.copier.Copying.TheVariants as copies
-use Rattle.papaya_late.specs.Given.Resize.declared.dispose.Dispose.{Dispose}
-use Rattle.papaya_late.specs.Given.Resize.declared.dispose.Disposing.{Disposing}
-use Rattle.papaya_late.specs.Given.Resize.declared.dispose.Disposing.TheVariants as disposes
-use Rattle.papaya_late.specs.Given.Seize.declared.rows.settle.Settle.{Settle}
-use Rattle.papaya_late.specs.Given.Sweeps.Sweep.{sweep_plan}
-use Rattle.papaya_late.specs.Given.Sweeps.SweepPoints.{standing}
-use Rattle.papaya_late.specs.Given.Sweeps.declared.sweep.Sweep.{Sweep}
-use Rattle.papaya_late.specs.Given.Sweeps.declared.sweep.Sweeping.{Sweeping}
-use Rattle.papaya_late.specs.Given.Sweeps.declared.sweep.Sweeping.TheVariants as at
-use Rattle.papaya_late.specs.Given.Sweeps.declared.sweep.Swept.{Swept}
-use Rattle.papaya_late.specs.Given.Rule.Chart.{Chart}
-use Rattle.papaya_late.specs.Given.Rule.Words.{Blocks}
-use Rattle.papaya_late.specs.Given.Points.Told.{IsRowOf}
-use Rattle.papaya_late.specs.Given.Points.Steps.{AreLawful}
+use Rattle.papaya_late.specs.Given.SeizeWordsMem.{Mem, Can, Took, value_at}
+use Rattle.papaya_late.specs.Given.SeizeWordsPlan.{May, Steps}
+use Rattle.papaya_late.specs.Given.SeizeWorld.{World, Settles, Rests, IsInside}
+use Rattle.papaya_late.proofs.Given.SeizeRuleRows.Teams.{shares}
+use Rattle.papaya_late.specs.Given.TablesNodes.{deferred_word}
+use Rattle.papaya_late.specs.Given.TablesDeclared.node.Node.{Node}
+use Rattle.papaya_late.specs.Given.TablesDeclared.setting.Setting.{Setting}
+use Rattle.papaya_late.specs.Given.ResizeCopierPromotes as retiring
+use Rattle.papaya_late.specs.Given.ResizeCopierStates as copiers
+use Rattle.papaya_late.specs.Given.ResizeDispose as dispose
+use Rattle.papaya_late.specs.Given.ResizeDeclared.copier.Copier.{Copier}
+use Rattle.papaya_late.specs.Given.ResizeDeclared.copier.Copying.{Copying}
+use Rattle.papaya_late.specs.Given.ResizeDeclared.copier.Copying.TheVariants as copies
+use Rattle.papaya_late.specs.Given.ResizeDeclared.dispose.Dispose.{Dispose}
+use Rattle.papaya_late.specs.Given.ResizeDeclared.dispose.Disposing.{Disposing}
+use Rattle.papaya_late.specs.Given.ResizeDeclared.dispose.Disposing.TheVariants as disposes
+use Rattle.papaya_late.specs.Given.SeizeDeclared.rows.settle.Settle.{Settle}
+use Rattle.papaya_late.specs.Given.SweepsSweep.{sweep_plan}
+use Rattle.papaya_late.specs.Given.SweepsSweepPoints.{standing}
+use Rattle.papaya_late.specs.Given.SweepsDeclared.sweep.Sweep.{Sweep}
+use Rattle.papaya_late.specs.Given.SweepsDeclared.sweep.Sweeping.{Sweeping}
+use Rattle.papaya_late.specs.Given.SweepsDeclared.sweep.Sweeping.TheVariants as at
+use Rattle.papaya_late.specs.Given.SweepsDeclared.sweep.Swept.{Swept}
+use Rattle.papaya_late.specs.Given.RuleChart.{Chart}
+use Rattle.papaya_late.specs.Given.RuleWords.{Blocks}
+use Rattle.papaya_late.specs.Given.PointsTold.{IsRowOf}
+use Rattle.papaya_late.specs.Given.PointsSteps.{AreLawful}
 use Rattle.papaya_late.specs.FactsSweeps.{CopiesTable}
 use Rattle.papaya_late.specs.ToldSweeps.{IsRowOfSweep}
 use Rattle.papaya_callers.specs.OverAll.{CallOverAll, row_of_sweep, past_sweeping}

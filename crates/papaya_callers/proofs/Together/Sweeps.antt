@@ -1,27 +1,27 @@
 -- A walk, a clearing or a retaining among the calls on its map: it begins, and takes each step that is none of a row, and all stand together.
 use Rattle.std.specs.Prelude.{◌≡◌, ◌⊎◌, ℕ, ◌≤◌, Bool, false, List, Option, Some, None}
 use Rattle.std.proofs.Common.{◌∙◌, ap, refl, sym, arith, subst, inl, inr}
-use Rattle.papaya_late.specs.Given.SeizeWords.Mem.{Mem, Can, Took, value_at}
-use Rattle.papaya_late.specs.Given.SeizeWords.Plan.{May, Steps}
-use Rattle.papaya_late.specs.Given.Seize.World.{World, Rests, IsInside, with_at}
-use Rattle.papaya_late.specs.Given.Tables.Chunks.{is_incremental}
-use Rattle.papaya_late.specs.Given.Tables.declared.node.Node.{Node}
-use Rattle.papaya_late.specs.Given.Tables.declared.setting.Setting.{Setting}
-use Rattle.papaya_late.specs.Given.Sweeps.Sweep.{sweep_plan}
-use Rattle.papaya_late.specs.Given.Sweeps.SweepPoints.{removes}
-use Rattle.papaya_late.specs.Given.Sweeps.declared.sweep.Purpose.{Purpose}
-use Rattle.papaya_late.specs.Given.Sweeps.declared.sweep.Purpose.TheVariants.{Walks, Clears, Retains}
-use Rattle.papaya_late.specs.Given.Sweeps.declared.sweep.Sweep.{Sweep}
-use Rattle.papaya_late.specs.Given.Sweeps.declared.sweep.Sweeping.{Sweeping}
-use Rattle.papaya_late.specs.Given.Sweeps.declared.sweep.Sweeping.TheVariants as at
-use Rattle.papaya_late.specs.Given.Sweeps.declared.sweep.Swept.{Swept}
-use Rattle.papaya_late.specs.Given.Sweeps.declared.sweep.Swept.TheVariants as swept
-use Rattle.papaya_late.specs.Given.Rule.Chart.{Still, Chart}
-use Rattle.papaya_late.specs.Given.Rule.Words.{Blocks}
-use Rattle.papaya_late.specs.Given.Rule.InWorld.{IsMapIn, Went}
-use Rattle.papaya_late.specs.Given.Rule.Moments.{Remembers}
-use Rattle.papaya_late.proofs.Given.Rule.World.WentTold.{went_as}
-use Rattle.papaya_late.specs.Given.Points.Steps.{AreLawful}
+use Rattle.papaya_late.specs.Given.SeizeWordsMem.{Mem, Can, Took, value_at}
+use Rattle.papaya_late.specs.Given.SeizeWordsPlan.{May, Steps}
+use Rattle.papaya_late.specs.Given.SeizeWorld.{World, Rests, IsInside, with_at}
+use Rattle.papaya_late.specs.Given.TablesChunks.{is_incremental}
+use Rattle.papaya_late.specs.Given.TablesDeclared.node.Node.{Node}
+use Rattle.papaya_late.specs.Given.TablesDeclared.setting.Setting.{Setting}
+use Rattle.papaya_late.specs.Given.SweepsSweep.{sweep_plan}
+use Rattle.papaya_late.specs.Given.SweepsSweepPoints.{removes}
+use Rattle.papaya_late.specs.Given.SweepsDeclared.sweep.Purpose.{Purpose}
+use Rattle.papaya_late.specs.Given.SweepsDeclared.sweep.Purpose.TheVariants.{Walks, Clears, Retains}
+use Rattle.papaya_late.specs.Given.SweepsDeclared.sweep.Sweep.{Sweep}
+use Rattle.papaya_late.specs.Given.SweepsDeclared.sweep.Sweeping.{Sweeping}
+use Rattle.papaya_late.specs.Given.SweepsDeclared.sweep.Sweeping.TheVariants as at
+use Rattle.papaya_late.specs.Given.SweepsDeclared.sweep.Swept.{Swept}
+use Rattle.papaya_late.specs.Given.SweepsDeclared.sweep.Swept.TheVariants as swept
+use Rattle.papaya_late.specs.Given.RuleChart.{Still, Chart}
+use Rattle.papaya_late.specs.Given.RuleWords.{Blocks}
+use Rattle.papaya_late.specs.Given.RuleInWorld.{IsMapIn, Went}
+use Rattle.papaya_late.specs.Given.RuleMoments.{Remembers}
+use Rattle.papaya_late.proofs.Given.RuleWorld.WentTold.{went_as}
+use Rattle.papaya_late.specs.Given.PointsSteps.{AreLawful}
 use Rattle.papaya_late.specs.Covers.{Came, NamesPair, CoversAt}
 use Rattle.papaya_late.specs.CoversSweeps.{DoneAt, CoversOn}
 use Rattle.papaya_late.specs.FactsSweeps.{CopiesPairs, SweepingFacts, SweepFacts}

@@ -1,19 +1,19 @@
 -- A sweep among the calls on its map is asked for the next pair, or told whether to keep a pair: all stand together.
 use Rattle.std.specs.Prelude.{◌≡◌, ℕ, Bool, true, false, nat_lt, List, ◌∷◌, Option, Some, None, cond, if◌then◌else◌}
 use Rattle.std.proofs.Common.{◌∙◌, ap, refl, sym, subst, inl, inr}
-use Rattle.papaya_late.specs.Given.Seize.World.{World, Rests, with_at}
-use Rattle.papaya_late.proofs.Given.SeizeRule.Rows.Leaving.{with_same}
-use Rattle.papaya_late.specs.Given.Tables.declared.node.Node.{Node}
-use Rattle.papaya_late.specs.Given.Tables.declared.setting.Setting.{Setting}
-use Rattle.papaya_late.specs.Given.Sweeps.SweepPoints.{next_at, reply_at, standing, further}
-use Rattle.papaya_late.specs.Given.Sweeps.declared.sweep.Purpose.{Purpose}
-use Rattle.papaya_late.specs.Given.Sweeps.declared.sweep.Sweep.{Sweep}
-use Rattle.papaya_late.specs.Given.Sweeps.declared.sweep.Sweeping.{Sweeping}
-use Rattle.papaya_late.specs.Given.Sweeps.declared.sweep.Sweeping.TheVariants as at
-use Rattle.papaya_late.specs.Given.Rule.Chart.{Chart}
-use Rattle.papaya_late.specs.Given.Rule.Words.{Blocks}
-use Rattle.papaya_late.specs.Given.Rule.InWorld.{IsMapIn}
-use Rattle.papaya_late.specs.Given.Points.Steps.{AreLawful}
+use Rattle.papaya_late.specs.Given.SeizeWorld.{World, Rests, with_at}
+use Rattle.papaya_late.proofs.Given.SeizeRuleRows.Leaving.{with_same}
+use Rattle.papaya_late.specs.Given.TablesDeclared.node.Node.{Node}
+use Rattle.papaya_late.specs.Given.TablesDeclared.setting.Setting.{Setting}
+use Rattle.papaya_late.specs.Given.SweepsSweepPoints.{next_at, reply_at, standing, further}
+use Rattle.papaya_late.specs.Given.SweepsDeclared.sweep.Purpose.{Purpose}
+use Rattle.papaya_late.specs.Given.SweepsDeclared.sweep.Sweep.{Sweep}
+use Rattle.papaya_late.specs.Given.SweepsDeclared.sweep.Sweeping.{Sweeping}
+use Rattle.papaya_late.specs.Given.SweepsDeclared.sweep.Sweeping.TheVariants as at
+use Rattle.papaya_late.specs.Given.RuleChart.{Chart}
+use Rattle.papaya_late.specs.Given.RuleWords.{Blocks}
+use Rattle.papaya_late.specs.Given.RuleInWorld.{IsMapIn}
+use Rattle.papaya_late.specs.Given.PointsSteps.{AreLawful}
 use Rattle.papaya_late.specs.Covers.{NamesPair, CoversAt}
 use Rattle.papaya_late.specs.CoversSweeps.{DoneReplied}
 use Rattle.papaya_late.specs.FactsSweeps.{CopiesPairs, SweepFacts}

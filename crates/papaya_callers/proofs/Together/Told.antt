@@ -1,27 +1,27 @@
 -- What a step of a call tells, in its table or in one that the root has left: what the call knows then, what was so since it began, and its answer.
 use Rattle.std.specs.Prelude.{◌≡◌, ℕ, ◌<◌, ◌≤◌, ◌^◌, ◌⊎◌, Bool, false, cond}
 use Rattle.std.proofs.Common.{refl, sym, subst, inl, inr, arith}
-use Rattle.papaya_late.specs.Given.SeizeWords.declared.fault.Fault.{Fault}
-use Rattle.papaya_late.specs.Given.Seize.World.{World}
-use Rattle.papaya_late.specs.Given.Tables.Chunks.{is_incremental}
-use Rattle.papaya_late.specs.Given.Tables.declared.node.Node.{Node}
-use Rattle.papaya_late.specs.Given.Tables.declared.setting.Setting.{Setting}
-use Rattle.papaya_late.specs.Given.Raw.declared.machines.answer.KeyAnswer.{KeyAnswer}
-use Rattle.papaya_late.specs.Given.Raw.declared.machines.answer.KeyAnswer.TheVariants as answers
-use Rattle.papaya_late.specs.Given.Raw.declared.machines.answer.Called.{Called}
-use Rattle.papaya_late.specs.Given.Raw.declared.machines.answer.Called.TheVariants as called
-use Rattle.papaya_late.specs.Given.Raw.declared.machines.call.KeyCall.{KeyCall}
-use Rattle.papaya_late.specs.Given.Rule.Chart.{Chart}
-use Rattle.papaya_late.specs.Given.Rule.Words.{Blocks}
-use Rattle.papaya_late.specs.Given.Rule.Maps.{spot_of}
-use Rattle.papaya_late.specs.Given.Rule.InWorld.{IsMapIn, Moved, SameBlocks}
-use Rattle.papaya_late.specs.Given.Rule.Lasts.{Lasts}
-use Rattle.papaya_late.specs.Given.Rule.Moments.{Moments, Remembers}
-use Rattle.papaya_late.specs.Given.Points.FactsCalls.{IsCopying, Change, Unchanged, Tells, CallFacts}
-use Rattle.papaya_late.specs.Given.Points.FactsCopies.{HasDone, ClaimsNone}
-use Rattle.papaya_late.specs.Given.Points.FactsCopiesBlocking.{HasNoShares}
-use Rattle.papaya_late.specs.Given.Points.FactsIdle.{IsIdle}
-use Rattle.papaya_late.specs.Given.Points.Told.{HasAnswered, CallFactsAfter, MovedBeside}
+use Rattle.papaya_late.specs.Given.SeizeWordsDeclared.fault.Fault.{Fault}
+use Rattle.papaya_late.specs.Given.SeizeWorld.{World}
+use Rattle.papaya_late.specs.Given.TablesChunks.{is_incremental}
+use Rattle.papaya_late.specs.Given.TablesDeclared.node.Node.{Node}
+use Rattle.papaya_late.specs.Given.TablesDeclared.setting.Setting.{Setting}
+use Rattle.papaya_late.specs.Given.RawDeclared.machines.answer.KeyAnswer.{KeyAnswer}
+use Rattle.papaya_late.specs.Given.RawDeclared.machines.answer.KeyAnswer.TheVariants as answers
+use Rattle.papaya_late.specs.Given.RawDeclared.machines.answer.Called.{Called}
+use Rattle.papaya_late.specs.Given.RawDeclared.machines.answer.Called.TheVariants as called
+use Rattle.papaya_late.specs.Given.RawDeclared.machines.call.KeyCall.{KeyCall}
+use Rattle.papaya_late.specs.Given.RuleChart.{Chart}
+use Rattle.papaya_late.specs.Given.RuleWords.{Blocks}
+use Rattle.papaya_late.specs.Given.RuleMaps.{spot_of}
+use Rattle.papaya_late.specs.Given.RuleInWorld.{IsMapIn, Moved, SameBlocks}
+use Rattle.papaya_late.specs.Given.RuleLasts.{Lasts}
+use Rattle.papaya_late.specs.Given.RuleMoments.{Moments, Remembers}
+use Rattle.papaya_late.specs.Given.PointsFactsCalls.{IsCopying, Change, Unchanged, Tells, CallFacts}
+use Rattle.papaya_late.specs.Given.PointsFactsCopies.{HasDone, ClaimsNone}
+use Rattle.papaya_late.specs.Given.PointsFactsCopiesBlocking.{HasNoShares}
+use Rattle.papaya_late.specs.Given.PointsFactsIdle.{IsIdle}
+use Rattle.papaya_late.specs.Given.PointsTold.{HasAnswered, CallFactsAfter, MovedBeside}
 use Rattle.papaya_late.specs.LateCalls.{LateCallFacts}
 use Rattle.papaya_late.specs.LateTold.{LateAfter, LateTold}
 use Rattle.papaya_callers.specs.Pairs.{RemovesNone}

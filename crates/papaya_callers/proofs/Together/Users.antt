@@ -1,16 +1,16 @@
 -- What users do leaves rows and slots as they are, and keeps all that is kept.
 use Rattle.std.specs.Prelude.{Some}
 use Rattle.std.proofs.Common.{◌≡◌, ℕ, List, [], ◌∷◌, ap, sym, subst, ◌∙◌, inl, inr}
-use Rattle.papaya_late.specs.Given.SeizeWords.Mem.{value_at}
-use Rattle.papaya_late.specs.Given.Seize.World.{World, Use, Event, Runs, IsInside}
-use Rattle.papaya_late.proofs.Given.SeizeMoves.State.Logs.{reached_held}
-use Rattle.papaya_late.proofs.Given.SeizeRule.Rows.Others.{users_rows}
+use Rattle.papaya_late.specs.Given.SeizeWordsMem.{value_at}
+use Rattle.papaya_late.specs.Given.SeizeWorld.{World, Use, Event, Runs, IsInside}
+use Rattle.papaya_late.proofs.Given.SeizeMovesState.Logs.{reached_held}
+use Rattle.papaya_late.proofs.Given.SeizeRuleRows.Others.{users_rows}
 use Rattle.seize_alone.proofs.Histories.Reached.{Reached, runs_reached}
 use Rattle.seize_alone.proofs.Histories.Uses.{inside_open}
 use Rattle.seize_alone.proofs.Histories.UsersTurn.{users_between, users_uses}
-use Rattle.papaya_late.specs.Given.Tables.Nodes.{deferred_word}
-use Rattle.papaya_late.specs.Given.Tables.declared.node.Node.{Node}
-use Rattle.papaya_late.specs.Given.Rule.InWorld.{AllUsers}
+use Rattle.papaya_late.specs.Given.TablesNodes.{deferred_word}
+use Rattle.papaya_late.specs.Given.TablesDeclared.node.Node.{Node}
+use Rattle.papaya_late.specs.Given.RuleInWorld.{AllUsers}
 use Rattle.papaya_callers.specs.Kept.{IsKeptBy}
 use Rattle.papaya_callers.proofs.Rows.Users.{events_hold, own_not_handed, events_not_handed, own_there}
 

@@ -1,32 +1,32 @@
 -- A call that asks fills its own block, or gives it up, at the try where it stays.
 use Rattle.std.specs.Prelude.{◌+◌, ◌-◌, ◌==◌, Option, None, Some}
 use Rattle.std.proofs.Common.{◌≡◌, ℕ, suc, ◌<◌, Bool, true, false, inl, inr, refl, ap, sym, subst, arith}
-use Rattle.papaya_late.specs.Given.SeizeWords.Word.{block_in}
-use Rattle.papaya_late.specs.Given.SeizeWords.Mem.{Mem, Took, value_at, with_value, with_block}
-use Rattle.papaya_late.specs.Given.SeizeWords.Op.{Taken}
-use Rattle.papaya_late.specs.Given.SeizeWords.Plan.{Ends, Steps}
-use Rattle.papaya_late.proofs.Given.SeizeWords.OneOwner.Operations.{made as made_by_step, rewritten, taken}
-use Rattle.papaya_late.specs.Given.Tables.Nodes.{vacant}
-use Rattle.papaya_late.specs.Given.Tables.declared.marks.TheConstants.{TOMBSTONE}
-use Rattle.papaya_late.specs.Given.Tables.declared.node.Node.{Node}
-use Rattle.papaya_late.specs.Given.Tables.declared.node.Node.TheVariants as node
-use Rattle.papaya_late.specs.Given.Tables.declared.setting.Setting.{Setting}
-use Rattle.papaya_late.specs.Given.Raw.CallFills.{taken_back, filled, putting_by, fill_by, emptied, fills_with, fills, given_up, gives_up, asks_at}
-use Rattle.papaya_late.specs.Given.Raw.CallPoints.{word_to, going}
-use Rattle.papaya_late.specs.Given.Raw.Replies.{value_for, as_own, back, back_present, with_back}
-use Rattle.papaya_late.specs.Given.Raw.declared.machines.answer.Called.{Called}
-use Rattle.papaya_late.specs.Given.Raw.declared.machines.asking.Asking.{Asking}
-use Rattle.papaya_late.specs.Given.Raw.declared.machines.asking.Asking.TheVariants as asking
-use Rattle.papaya_late.specs.Given.Raw.declared.machines.asking.Replies.{Replies}
-use Rattle.papaya_late.specs.Given.Raw.declared.machines.asking.Told.{Told}
-use Rattle.papaya_late.specs.Given.Raw.declared.machines.asking.Told.TheVariants as tells
-use Rattle.papaya_late.specs.Given.Raw.declared.machines.call.KeyCall.{KeyCall}
-use Rattle.papaya_late.specs.Given.Raw.declared.machines.call.Calling.TheVariants as at
-use Rattle.papaya_late.specs.Given.Rule.Chart.{Chart}
-use Rattle.papaya_late.specs.Given.Rule.Maps.{IsTrial}
-use Rattle.papaya_late.specs.Given.Rule.Words.{Blocks}
-use Rattle.papaya_late.proofs.Given.Rule.Words.WritesWords.{is_some_of}
-use Rattle.papaya_late.specs.Given.Points.Measures.{IsBelow}
+use Rattle.papaya_late.specs.Given.SeizeWordsWord.{block_in}
+use Rattle.papaya_late.specs.Given.SeizeWordsMem.{Mem, Took, value_at, with_value, with_block}
+use Rattle.papaya_late.specs.Given.SeizeWordsOp.{Taken}
+use Rattle.papaya_late.specs.Given.SeizeWordsPlan.{Ends, Steps}
+use Rattle.papaya_late.proofs.Given.SeizeWordsOneOwner.Operations.{made as made_by_step, rewritten, taken}
+use Rattle.papaya_late.specs.Given.TablesNodes.{vacant}
+use Rattle.papaya_late.specs.Given.TablesDeclared.marks.TheConstants.{TOMBSTONE}
+use Rattle.papaya_late.specs.Given.TablesDeclared.node.Node.{Node}
+use Rattle.papaya_late.specs.Given.TablesDeclared.node.Node.TheVariants as node
+use Rattle.papaya_late.specs.Given.TablesDeclared.setting.Setting.{Setting}
+use Rattle.papaya_late.specs.Given.RawCallFills.{taken_back, filled, putting_by, fill_by, emptied, fills_with, fills, given_up, gives_up, asks_at}
+use Rattle.papaya_late.specs.Given.RawCallPoints.{word_to, going}
+use Rattle.papaya_late.specs.Given.RawReplies.{value_for, as_own, back, back_present, with_back}
+use Rattle.papaya_late.specs.Given.RawDeclared.machines.answer.Called.{Called}
+use Rattle.papaya_late.specs.Given.RawDeclared.machines.asking.Asking.{Asking}
+use Rattle.papaya_late.specs.Given.RawDeclared.machines.asking.Asking.TheVariants as asking
+use Rattle.papaya_late.specs.Given.RawDeclared.machines.asking.Replies.{Replies}
+use Rattle.papaya_late.specs.Given.RawDeclared.machines.asking.Told.{Told}
+use Rattle.papaya_late.specs.Given.RawDeclared.machines.asking.Told.TheVariants as tells
+use Rattle.papaya_late.specs.Given.RawDeclared.machines.call.KeyCall.{KeyCall}
+use Rattle.papaya_late.specs.Given.RawDeclared.machines.call.Calling.TheVariants as at
+use Rattle.papaya_late.specs.Given.RuleChart.{Chart}
+use Rattle.papaya_late.specs.Given.RuleMaps.{IsTrial}
+use Rattle.papaya_late.specs.Given.RuleWords.{Blocks}
+use Rattle.papaya_late.proofs.Given.RuleWords.WritesWords.{is_some_of}
+use Rattle.papaya_late.specs.Given.PointsMeasures.{IsBelow}
 use Rattle.papaya_falls.specs.Room.{tables_to_come}
 use Rattle.papaya_falls.specs.Calls.{to_empty, stale, trying, number_at_asking, number_of_call}
 use Rattle.papaya_falls.specs.Falls.{GoesFurther}

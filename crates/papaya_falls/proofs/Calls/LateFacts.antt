@@ -1,27 +1,27 @@
 -- So does a call in a table that the root has left, in blocking mode.
 use Rattle.std.proofs.Common.{◌≡◌, ℕ, suc, ◌^◌, ◌<◌, Bool, false, inl, refl, ap, subst, sym, ◌∙◌, arith}
-use Rattle.papaya_late.specs.Given.SeizeWords.declared.at.At.TheVariants.{Root, Word}
-use Rattle.papaya_late.specs.Given.Seize.World.{World}
-use Rattle.papaya_late.specs.Given.Tables.Chunks.{is_incremental}
-use Rattle.papaya_late.specs.Given.Tables.declared.node.Node.{Node}
-use Rattle.papaya_late.specs.Given.Tables.declared.setting.Setting.{Setting}
-use Rattle.papaya_late.specs.Given.Tables.declared.table_words.TheConstants.{NEXT}
-use Rattle.papaya_late.specs.Given.Raw.declared.machines.asking.Asking.{Asking}
-use Rattle.papaya_late.specs.Given.Raw.declared.machines.asking.Asking.TheVariants as asking
-use Rattle.papaya_late.specs.Given.Raw.declared.machines.call.KeyCall.{KeyCall}
-use Rattle.papaya_late.specs.Given.Raw.declared.machines.call.Calling.{Calling}
-use Rattle.papaya_late.specs.Given.Raw.declared.machines.call.Calling.TheVariants as at
-use Rattle.papaya_late.specs.Given.Resize.declared.copier.Copier.{Copier}
-use Rattle.papaya_late.specs.Given.Resize.declared.copier.Copying.{Copying}
-use Rattle.papaya_late.specs.Given.Resize.declared.copier.Copying.TheVariants as copies
-use Rattle.papaya_late.specs.Given.Resize.declared.lookup.Looking.{Looking}
-use Rattle.papaya_late.specs.Given.Resize.declared.lookup.Looking.TheVariants as looks
-use Rattle.papaya_late.specs.Given.Resize.declared.new_table.NewTable.{NewTable}
-use Rattle.papaya_late.specs.Given.Resize.declared.new_table.Making.{Making}
-use Rattle.papaya_late.specs.Given.Resize.declared.new_table.Making.TheVariants as makes
-use Rattle.papaya_late.specs.Given.Rule.Chart.{Chart}
-use Rattle.papaya_late.specs.Given.Rule.Words.{Blocks}
-use Rattle.papaya_late.specs.Given.Points.FactsCalls.{Unchanged}
+use Rattle.papaya_late.specs.Given.SeizeWordsDeclared.at.At.TheVariants.{Root, Word}
+use Rattle.papaya_late.specs.Given.SeizeWorld.{World}
+use Rattle.papaya_late.specs.Given.TablesChunks.{is_incremental}
+use Rattle.papaya_late.specs.Given.TablesDeclared.node.Node.{Node}
+use Rattle.papaya_late.specs.Given.TablesDeclared.setting.Setting.{Setting}
+use Rattle.papaya_late.specs.Given.TablesDeclared.table_words.TheConstants.{NEXT}
+use Rattle.papaya_late.specs.Given.RawDeclared.machines.asking.Asking.{Asking}
+use Rattle.papaya_late.specs.Given.RawDeclared.machines.asking.Asking.TheVariants as asking
+use Rattle.papaya_late.specs.Given.RawDeclared.machines.call.KeyCall.{KeyCall}
+use Rattle.papaya_late.specs.Given.RawDeclared.machines.call.Calling.{Calling}
+use Rattle.papaya_late.specs.Given.RawDeclared.machines.call.Calling.TheVariants as at
+use Rattle.papaya_late.specs.Given.ResizeDeclared.copier.Copier.{Copier}
+use Rattle.papaya_late.specs.Given.ResizeDeclared.copier.Copying.{Copying}
+use Rattle.papaya_late.specs.Given.ResizeDeclared.copier.Copying.TheVariants as copies
+use Rattle.papaya_late.specs.Given.ResizeDeclared.lookup.Looking.{Looking}
+use Rattle.papaya_late.specs.Given.ResizeDeclared.lookup.Looking.TheVariants as looks
+use Rattle.papaya_late.specs.Given.ResizeDeclared.new_table.NewTable.{NewTable}
+use Rattle.papaya_late.specs.Given.ResizeDeclared.new_table.Making.{Making}
+use Rattle.papaya_late.specs.Given.ResizeDeclared.new_table.Making.TheVariants as makes
+use Rattle.papaya_late.specs.Given.RuleChart.{Chart}
+use Rattle.papaya_late.specs.Given.RuleWords.{Blocks}
+use Rattle.papaya_late.specs.Given.PointsFactsCalls.{Unchanged}
 use Rattle.papaya_late.specs.LateCalls.{LateFirst, LateFirstFacts, LateAsking, LateCalling, LateCallFacts}
 use Rattle.papaya_late.specs.LateCopies.{LateCopying}
 use Rattle.papaya_late.specs.LateLooks.{LateLooking}

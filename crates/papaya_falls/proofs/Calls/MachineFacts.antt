@@ -1,32 +1,32 @@
 -- The machines within a call know what is needed for their numbers.
 use Rattle.std.proofs.Common.{◌≡◌, ℕ, suc, Bool, inl, inr, ap, ◌∙◌, arith}
-use Rattle.papaya_late.specs.Given.SeizeWords.declared.at.At.{At}
-use Rattle.papaya_late.specs.Given.SeizeWords.declared.at.At.TheVariants.{Root, Used, Slot, Entry, Word}
-use Rattle.papaya_late.specs.Given.Seize.World.{World}
-use Rattle.papaya_late.specs.Given.Tables.declared.node.Node.{Node}
-use Rattle.papaya_late.specs.Given.Tables.declared.resize_mode.ResizeMode.{ResizeMode}
-use Rattle.papaya_late.specs.Given.Tables.declared.setting.Setting.{Setting}
-use Rattle.papaya_late.specs.Given.Tables.declared.status.TheConstants.Status.{PENDING}
-use Rattle.papaya_late.specs.Given.Tables.declared.table.Table.{Table}
-use Rattle.papaya_late.specs.Given.Tables.declared.table_words.TheConstants.{NEXT}
-use Rattle.papaya_late.specs.Given.Resize.declared.copier.Copier.{Copier}
-use Rattle.papaya_late.specs.Given.Resize.declared.copier.Copying.{Copying}
-use Rattle.papaya_late.specs.Given.Resize.declared.copier.Copying.TheVariants as copies
-use Rattle.papaya_late.specs.Given.Resize.declared.dispose.Dispose.{Dispose}
-use Rattle.papaya_late.specs.Given.Resize.declared.dispose.Disposing.{Disposing}
-use Rattle.papaya_late.specs.Given.Resize.declared.dispose.Disposing.TheVariants as disposes
-use Rattle.papaya_late.specs.Given.Resize.declared.lookup.Looking.{Looking}
-use Rattle.papaya_late.specs.Given.Resize.declared.lookup.Looking.TheVariants as looks
-use Rattle.papaya_late.specs.Given.Resize.declared.new_table.NewTable.{NewTable}
-use Rattle.papaya_late.specs.Given.Resize.declared.new_table.Making.{Making}
-use Rattle.papaya_late.specs.Given.Resize.declared.new_table.Making.TheVariants as makes
-use Rattle.papaya_late.specs.Given.Rule.Chart.{Chart}
-use Rattle.papaya_late.specs.Given.Rule.Words.{Blocks}
-use Rattle.papaya_late.specs.Given.Points.FactsCopies.{CopyingFacts}
-use Rattle.papaya_late.specs.Given.Points.FactsCopiesBlocking.{CopyingFactsBlocking}
-use Rattle.papaya_late.specs.Given.Points.FactsDisposes.{DisposingFacts, DisposeFacts}
-use Rattle.papaya_late.specs.Given.Points.FactsLooks.{LookingFacts}
-use Rattle.papaya_late.specs.Given.Points.FactsTables.{StandsAs, IsLinkOf, MakingFacts, NewTableFacts}
+use Rattle.papaya_late.specs.Given.SeizeWordsDeclared.at.At.{At}
+use Rattle.papaya_late.specs.Given.SeizeWordsDeclared.at.At.TheVariants.{Root, Used, Slot, Entry, Word}
+use Rattle.papaya_late.specs.Given.SeizeWorld.{World}
+use Rattle.papaya_late.specs.Given.TablesDeclared.node.Node.{Node}
+use Rattle.papaya_late.specs.Given.TablesDeclared.resize_mode.ResizeMode.{ResizeMode}
+use Rattle.papaya_late.specs.Given.TablesDeclared.setting.Setting.{Setting}
+use Rattle.papaya_late.specs.Given.TablesDeclared.status.TheConstants.Status.{PENDING}
+use Rattle.papaya_late.specs.Given.TablesDeclared.table.Table.{Table}
+use Rattle.papaya_late.specs.Given.TablesDeclared.table_words.TheConstants.{NEXT}
+use Rattle.papaya_late.specs.Given.ResizeDeclared.copier.Copier.{Copier}
+use Rattle.papaya_late.specs.Given.ResizeDeclared.copier.Copying.{Copying}
+use Rattle.papaya_late.specs.Given.ResizeDeclared.copier.Copying.TheVariants as copies
+use Rattle.papaya_late.specs.Given.ResizeDeclared.dispose.Dispose.{Dispose}
+use Rattle.papaya_late.specs.Given.ResizeDeclared.dispose.Disposing.{Disposing}
+use Rattle.papaya_late.specs.Given.ResizeDeclared.dispose.Disposing.TheVariants as disposes
+use Rattle.papaya_late.specs.Given.ResizeDeclared.lookup.Looking.{Looking}
+use Rattle.papaya_late.specs.Given.ResizeDeclared.lookup.Looking.TheVariants as looks
+use Rattle.papaya_late.specs.Given.ResizeDeclared.new_table.NewTable.{NewTable}
+use Rattle.papaya_late.specs.Given.ResizeDeclared.new_table.Making.{Making}
+use Rattle.papaya_late.specs.Given.ResizeDeclared.new_table.Making.TheVariants as makes
+use Rattle.papaya_late.specs.Given.RuleChart.{Chart}
+use Rattle.papaya_late.specs.Given.RuleWords.{Blocks}
+use Rattle.papaya_late.specs.Given.PointsFactsCopies.{CopyingFacts}
+use Rattle.papaya_late.specs.Given.PointsFactsCopiesBlocking.{CopyingFactsBlocking}
+use Rattle.papaya_late.specs.Given.PointsFactsDisposes.{DisposingFacts, DisposeFacts}
+use Rattle.papaya_late.specs.Given.PointsFactsLooks.{LookingFacts}
+use Rattle.papaya_late.specs.Given.PointsFactsTables.{StandsAs, IsLinkOf, MakingFacts, NewTableFacts}
 use Rattle.papaya_falls.proofs.Stands.{IsBehind, IsPlaceOf, MakingStands, NewTableStands, LookingStands, DisposingStands, DisposeStands, CopyingStands, CopyingStandsBlocking}
 
 -- a table that stands behind another one has its turn

@@ -1,47 +1,47 @@
 -- Each step of a call that goes on, and is none of a row of the collector, leads to lower numbers.
 use Rattle.std.specs.Prelude.{◌/◌, ◌==◌, bit_and, if◌then◌else◌, ◌∷◌, Option, None, Some}
 use Rattle.std.proofs.Common.{◌≡◌, ℕ, suc, ◌-◌, ◌^◌, ◌<◌, Bool, true, false, inl, inr, refl, ap, sym, subst, arith}
-use Rattle.papaya_late.specs.Given.SeizeWords.declared.at.At.TheVariants.{Root, Word}
-use Rattle.papaya_late.specs.Given.SeizeWords.Mem.{Mem, Took, value_at}
-use Rattle.papaya_late.specs.Given.SeizeWords.Plan.{Now, Seeing, Steps, Turn}
-use Rattle.papaya_late.proofs.Given.SeizeWords.OneOwner.Operations.{loaded, added, made as made_by_step, taken}
-use Rattle.papaya_late.proofs.Given.SeizeWords.Plans.{ends_if}
-use Rattle.papaya_late.proofs.Given.SeizeRule.Rows.Leaving.{steps_back}
-use Rattle.papaya_late.specs.Given.Tables.Counts.{count_change}
-use Rattle.papaya_late.specs.Given.Tables.Chunks.{is_incremental}
-use Rattle.papaya_late.specs.Given.Tables.Nodes.{table_seen}
-use Rattle.papaya_late.specs.Given.Tables.TablePlaces.{at_word}
-use Rattle.papaya_late.specs.Given.Tables.declared.lengths.TheConstants.{FIRST_LEN}
-use Rattle.papaya_late.specs.Given.Tables.declared.node.Node.{Node}
-use Rattle.papaya_late.specs.Given.Tables.declared.setting.Setting.{Setting}
-use Rattle.papaya_late.specs.Given.Tables.declared.table.Table.{Table}
-use Rattle.papaya_late.specs.Given.Tables.declared.table_words.TheConstants.{NEXT}
-use Rattle.papaya_late.specs.Given.Raw.Answers.{ended}
-use Rattle.papaya_late.specs.Given.Raw.Call.{makes_of, makes, made, root_found, roots, next_found, nexts, dropped, drops, counts, looked, looks_for, looks, first_made, next_made, disposed, helped, copied, plan_at, call_plan}
-use Rattle.papaya_late.specs.Given.Raw.CallPoints.{going, asking_at, tableless, at_last, following_made, entering, went_on, counted, answering}
-use Rattle.papaya_late.specs.Given.Raw.declared.machines.answer.KeyAnswer.TheVariants as answers
-use Rattle.papaya_late.specs.Given.Raw.declared.machines.answer.Missing.{Missing}
-use Rattle.papaya_late.specs.Given.Raw.declared.machines.answer.Missing.TheVariants as missing
-use Rattle.papaya_late.specs.Given.Raw.declared.machines.answer.End.{End}
-use Rattle.papaya_late.specs.Given.Raw.declared.machines.answer.End.TheVariants as ends
-use Rattle.papaya_late.specs.Given.Raw.declared.machines.answer.Called.{Called}
-use Rattle.papaya_late.specs.Given.Raw.declared.machines.asking.Gap.TheVariants as gaps
-use Rattle.papaya_late.specs.Given.Raw.declared.machines.call.KeyCall.{KeyCall}
-use Rattle.papaya_late.specs.Given.Raw.declared.machines.call.Calling.{Calling}
-use Rattle.papaya_late.specs.Given.Raw.declared.machines.call.Calling.TheVariants as at
-use Rattle.papaya_late.specs.Given.Resize.Copier.{copier_plan}
-use Rattle.papaya_late.specs.Given.Resize.Dispose.{disposing, dispose_plan}
-use Rattle.papaya_late.specs.Given.Resize.Lookup.{lookup_plan}
-use Rattle.papaya_late.specs.Given.Resize.NewTable.{first_table, new_table_plan}
-use Rattle.papaya_late.specs.Given.Resize.declared.lookup.Lookup.{Lookup}
-use Rattle.papaya_late.specs.Given.Rule.Chart.{Chart}
-use Rattle.papaya_late.specs.Given.Rule.Maps.{IsTable}
-use Rattle.papaya_late.specs.Given.Rule.Words.{Blocks}
-use Rattle.papaya_late.proofs.Given.Rule.Words.LinksRead.{link_ends}
-use Rattle.papaya_late.proofs.Given.Rule.Words.LinksSeen.{next_leads}
-use Rattle.papaya_late.proofs.Given.Points.Making.EndsNewTable.{new_table_lowers}
-use Rattle.papaya_late.specs.Given.Points.Measures.{IsBelow}
-use Rattle.papaya_late.specs.Given.Points.Told.{IsRowOfCall}
+use Rattle.papaya_late.specs.Given.SeizeWordsDeclared.at.At.TheVariants.{Root, Word}
+use Rattle.papaya_late.specs.Given.SeizeWordsMem.{Mem, Took, value_at}
+use Rattle.papaya_late.specs.Given.SeizeWordsPlan.{Now, Seeing, Steps, Turn}
+use Rattle.papaya_late.proofs.Given.SeizeWordsOneOwner.Operations.{loaded, added, made as made_by_step, taken}
+use Rattle.papaya_late.proofs.Given.SeizeWordsPlans.{ends_if}
+use Rattle.papaya_late.proofs.Given.SeizeRuleRows.Leaving.{steps_back}
+use Rattle.papaya_late.specs.Given.TablesCounts.{count_change}
+use Rattle.papaya_late.specs.Given.TablesChunks.{is_incremental}
+use Rattle.papaya_late.specs.Given.TablesNodes.{table_seen}
+use Rattle.papaya_late.specs.Given.TablesTablePlaces.{at_word}
+use Rattle.papaya_late.specs.Given.TablesDeclared.lengths.TheConstants.{FIRST_LEN}
+use Rattle.papaya_late.specs.Given.TablesDeclared.node.Node.{Node}
+use Rattle.papaya_late.specs.Given.TablesDeclared.setting.Setting.{Setting}
+use Rattle.papaya_late.specs.Given.TablesDeclared.table.Table.{Table}
+use Rattle.papaya_late.specs.Given.TablesDeclared.table_words.TheConstants.{NEXT}
+use Rattle.papaya_late.specs.Given.RawAnswers.{ended}
+use Rattle.papaya_late.specs.Given.RawCall.{makes_of, makes, made, root_found, roots, next_found, nexts, dropped, drops, counts, looked, looks_for, looks, first_made, next_made, disposed, helped, copied, plan_at, call_plan}
+use Rattle.papaya_late.specs.Given.RawCallPoints.{going, asking_at, tableless, at_last, following_made, entering, went_on, counted, answering}
+use Rattle.papaya_late.specs.Given.RawDeclared.machines.answer.KeyAnswer.TheVariants as answers
+use Rattle.papaya_late.specs.Given.RawDeclared.machines.answer.Missing.{Missing}
+use Rattle.papaya_late.specs.Given.RawDeclared.machines.answer.Missing.TheVariants as missing
+use Rattle.papaya_late.specs.Given.RawDeclared.machines.answer.End.{End}
+use Rattle.papaya_late.specs.Given.RawDeclared.machines.answer.End.TheVariants as ends
+use Rattle.papaya_late.specs.Given.RawDeclared.machines.answer.Called.{Called}
+use Rattle.papaya_late.specs.Given.RawDeclared.machines.asking.Gap.TheVariants as gaps
+use Rattle.papaya_late.specs.Given.RawDeclared.machines.call.KeyCall.{KeyCall}
+use Rattle.papaya_late.specs.Given.RawDeclared.machines.call.Calling.{Calling}
+use Rattle.papaya_late.specs.Given.RawDeclared.machines.call.Calling.TheVariants as at
+use Rattle.papaya_late.specs.Given.ResizeCopier.{copier_plan}
+use Rattle.papaya_late.specs.Given.ResizeDispose.{disposing, dispose_plan}
+use Rattle.papaya_late.specs.Given.ResizeLookup.{lookup_plan}
+use Rattle.papaya_late.specs.Given.ResizeNewTable.{first_table, new_table_plan}
+use Rattle.papaya_late.specs.Given.ResizeDeclared.lookup.Lookup.{Lookup}
+use Rattle.papaya_late.specs.Given.RuleChart.{Chart}
+use Rattle.papaya_late.specs.Given.RuleMaps.{IsTable}
+use Rattle.papaya_late.specs.Given.RuleWords.{Blocks}
+use Rattle.papaya_late.proofs.Given.RuleWords.LinksRead.{link_ends}
+use Rattle.papaya_late.proofs.Given.RuleWords.LinksSeen.{next_leads}
+use Rattle.papaya_late.proofs.Given.PointsMaking.EndsNewTable.{new_table_lowers}
+use Rattle.papaya_late.specs.Given.PointsMeasures.{IsBelow}
+use Rattle.papaya_late.specs.Given.PointsTold.{IsRowOfCall}
 use Rattle.papaya_falls.specs.Room.{planned, tables_to_come}
 use Rattle.papaya_falls.specs.Calls.{nothing_within, number_at, number_of_call}
 use Rattle.papaya_falls.specs.Falls.{GoesFurther}

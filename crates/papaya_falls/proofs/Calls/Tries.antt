@@ -2,43 +2,43 @@
 use Rattle.std.specs.Prelude.{◌+◌, ◌==◌, List, ◌∷◌, if◌then◌else◌}
 use Rattle.std.proofs.Common.{◌≡◌, ℕ, suc, ◌<◌, ◌≤◌, Bool, true, false, Option, Some, None, inl, inr, refl, ap, sym, ◌∙◌, arith}
 use Rattle.std.proofs.lemmas.Bool.{eq-eqb}
-use Rattle.papaya_late.specs.Given.SeizeWords.Word.{block_in}
-use Rattle.papaya_late.specs.Given.Tables.Chunks.{is_incremental}
-use Rattle.papaya_late.specs.Given.Tables.Finding.{finding}
-use Rattle.papaya_late.specs.Given.Tables.Trials.{next_trial, with_met}
-use Rattle.papaya_late.specs.Given.Tables.declared.finding.Aim.TheVariants.{Stores}
-use Rattle.papaya_late.specs.Given.Tables.declared.finding.Finding.{Finding}
-use Rattle.papaya_late.specs.Given.Tables.declared.finding.Finding.TheVariants as is
-use Rattle.papaya_late.specs.Given.Tables.declared.marks.TheConstants.{TOMBSTONE}
-use Rattle.papaya_late.specs.Given.Tables.declared.node.Node.{Node}
-use Rattle.papaya_late.specs.Given.Tables.declared.resize_mode.ResizeMode.{ResizeMode}
-use Rattle.papaya_late.specs.Given.Tables.declared.resize_mode.ResizeMode.TheVariants.{Incremental, Blocking}
-use Rattle.papaya_late.specs.Given.Tables.declared.table.Table.{Table}
-use Rattle.papaya_late.specs.Given.Tables.declared.trial.Trial.{Trial}
-use Rattle.papaya_late.specs.Given.Raw.Answers.{ended}
-use Rattle.papaya_late.specs.Given.Raw.CallPoints.{aim_of, going, ending, storing, burying, at_gap, gap_by, asking_at, pair_by, asking_of, told, told_of, at_free, at_end, at_pair, passed, halted}
-use Rattle.papaya_late.specs.Given.Raw.declared.machines.answer.KeyAnswer.TheVariants as answers
-use Rattle.papaya_late.specs.Given.Raw.declared.machines.answer.There.{There}
-use Rattle.papaya_late.specs.Given.Raw.declared.machines.answer.There.TheVariants as there
-use Rattle.papaya_late.specs.Given.Raw.declared.machines.answer.Missing.{Missing}
-use Rattle.papaya_late.specs.Given.Raw.declared.machines.answer.Missing.TheVariants as missing
-use Rattle.papaya_late.specs.Given.Raw.declared.machines.answer.End.{End}
-use Rattle.papaya_late.specs.Given.Raw.declared.machines.answer.End.TheVariants as ends
-use Rattle.papaya_late.specs.Given.Raw.declared.machines.answer.Called.{Called}
-use Rattle.papaya_late.specs.Given.Raw.declared.machines.asking.Asking.TheVariants as asking
-use Rattle.papaya_late.specs.Given.Raw.declared.machines.asking.Gap.{Gap}
-use Rattle.papaya_late.specs.Given.Raw.declared.machines.asking.Gap.TheVariants as gaps
-use Rattle.papaya_late.specs.Given.Raw.declared.machines.asking.Told.{Told}
-use Rattle.papaya_late.specs.Given.Raw.declared.machines.asking.Told.TheVariants as tells
-use Rattle.papaya_late.specs.Given.Raw.declared.machines.call.KeyCall.{KeyCall}
-use Rattle.papaya_late.specs.Given.Raw.declared.machines.call.Calling.TheVariants as at
-use Rattle.papaya_late.specs.Given.Rule.Chart.{Still, Copying, Copied, Place, Empty, Tombstone, Holds, Chart}
-use Rattle.papaya_late.specs.Given.Rule.Maps.{spot_at, IsTrial}
-use Rattle.papaya_late.specs.Given.Rule.Words.{Blocks, word_of, byte_of, place_word}
-use Rattle.papaya_late.proofs.Given.Rule.Keys.TriesSeen.{IsNext, next_met}
-use Rattle.papaya_late.proofs.Given.Rule.Words.PlaceWords.{HasBlock, HasByte}
-use Rattle.papaya_late.proofs.Given.Rule.Words.PlaceWordsFinding.{finding-tombstone, finding-other, finding-still, finding-copying, finding-copied}
-use Rattle.papaya_late.specs.Given.Points.Measures.{IsBelow}
+use Rattle.papaya_late.specs.Given.SeizeWordsWord.{block_in}
+use Rattle.papaya_late.specs.Given.TablesChunks.{is_incremental}
+use Rattle.papaya_late.specs.Given.TablesFinding.{finding}
+use Rattle.papaya_late.specs.Given.TablesTrials.{next_trial, with_met}
+use Rattle.papaya_late.specs.Given.TablesDeclared.finding.Aim.TheVariants.{Stores}
+use Rattle.papaya_late.specs.Given.TablesDeclared.finding.Finding.{Finding}
+use Rattle.papaya_late.specs.Given.TablesDeclared.finding.Finding.TheVariants as is
+use Rattle.papaya_late.specs.Given.TablesDeclared.marks.TheConstants.{TOMBSTONE}
+use Rattle.papaya_late.specs.Given.TablesDeclared.node.Node.{Node}
+use Rattle.papaya_late.specs.Given.TablesDeclared.resize_mode.ResizeMode.{ResizeMode}
+use Rattle.papaya_late.specs.Given.TablesDeclared.resize_mode.ResizeMode.TheVariants.{Incremental, Blocking}
+use Rattle.papaya_late.specs.Given.TablesDeclared.table.Table.{Table}
+use Rattle.papaya_late.specs.Given.TablesDeclared.trial.Trial.{Trial}
+use Rattle.papaya_late.specs.Given.RawAnswers.{ended}
+use Rattle.papaya_late.specs.Given.RawCallPoints.{aim_of, going, ending, storing, burying, at_gap, gap_by, asking_at, pair_by, asking_of, told, told_of, at_free, at_end, at_pair, passed, halted}
+use Rattle.papaya_late.specs.Given.RawDeclared.machines.answer.KeyAnswer.TheVariants as answers
+use Rattle.papaya_late.specs.Given.RawDeclared.machines.answer.There.{There}
+use Rattle.papaya_late.specs.Given.RawDeclared.machines.answer.There.TheVariants as there
+use Rattle.papaya_late.specs.Given.RawDeclared.machines.answer.Missing.{Missing}
+use Rattle.papaya_late.specs.Given.RawDeclared.machines.answer.Missing.TheVariants as missing
+use Rattle.papaya_late.specs.Given.RawDeclared.machines.answer.End.{End}
+use Rattle.papaya_late.specs.Given.RawDeclared.machines.answer.End.TheVariants as ends
+use Rattle.papaya_late.specs.Given.RawDeclared.machines.answer.Called.{Called}
+use Rattle.papaya_late.specs.Given.RawDeclared.machines.asking.Asking.TheVariants as asking
+use Rattle.papaya_late.specs.Given.RawDeclared.machines.asking.Gap.{Gap}
+use Rattle.papaya_late.specs.Given.RawDeclared.machines.asking.Gap.TheVariants as gaps
+use Rattle.papaya_late.specs.Given.RawDeclared.machines.asking.Told.{Told}
+use Rattle.papaya_late.specs.Given.RawDeclared.machines.asking.Told.TheVariants as tells
+use Rattle.papaya_late.specs.Given.RawDeclared.machines.call.KeyCall.{KeyCall}
+use Rattle.papaya_late.specs.Given.RawDeclared.machines.call.Calling.TheVariants as at
+use Rattle.papaya_late.specs.Given.RuleChart.{Still, Copying, Copied, Place, Empty, Tombstone, Holds, Chart}
+use Rattle.papaya_late.specs.Given.RuleMaps.{spot_at, IsTrial}
+use Rattle.papaya_late.specs.Given.RuleWords.{Blocks, word_of, byte_of, place_word}
+use Rattle.papaya_late.proofs.Given.RuleKeys.TriesSeen.{IsNext, next_met}
+use Rattle.papaya_late.proofs.Given.RuleWords.PlaceWords.{HasBlock, HasByte}
+use Rattle.papaya_late.proofs.Given.RuleWords.PlaceWordsFinding.{finding-tombstone, finding-other, finding-still, finding-copying, finding-copied}
+use Rattle.papaya_late.specs.Given.PointsMeasures.{IsBelow}
 use Rattle.papaya_falls.specs.Calls.{to_empty, stale, trying, number_of_call}
 use Rattle.papaya_falls.specs.Falls.{GoesFurther}
 use Rattle.papaya_falls.proofs.Calls.TrySeen.{at_try_is}

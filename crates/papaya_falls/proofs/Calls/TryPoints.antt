@@ -1,32 +1,32 @@
 -- A call at a try reads its word, or tries to exchange it.
 use Rattle.std.specs.Prelude.{◌==◌, if◌then◌else◌, List, ◌∷◌, Option, None, Some}
 use Rattle.std.proofs.Common.{◌≡◌, ℕ, suc, ◌-◌, ◌^◌, ◌<◌, Bool, true, false, inl, inr, ap, sym, subst, arith}
-use Rattle.papaya_late.specs.Given.SeizeWords.Mem.{Mem, Took, value_at, word_at}
-use Rattle.papaya_late.specs.Given.SeizeWords.Plan.{Ends, Now, Steps}
-use Rattle.papaya_late.proofs.Given.SeizeWords.OneOwner.Operations.{loaded, exchanged}
-use Rattle.papaya_late.proofs.Given.SeizeWords.Plans.{ends_if}
-use Rattle.papaya_late.specs.Given.Tables.Chunks.{is_incremental}
-use Rattle.papaya_late.specs.Given.Tables.Finding.{may_name}
-use Rattle.papaya_late.specs.Given.Tables.Trials.{place_tried}
-use Rattle.papaya_late.specs.Given.Tables.declared.marks.TheConstants.{TOMBSTONE}
-use Rattle.papaya_late.specs.Given.Tables.declared.node.Node.{Node}
-use Rattle.papaya_late.specs.Given.Tables.declared.setting.Setting.{Setting}
-use Rattle.papaya_late.specs.Given.Raw.Call.{have_one_key, key_read, pair_read, word_read, word_found, probes, tried, tries}
-use Rattle.papaya_late.specs.Given.Raw.CallPoints.{going, changed, told}
-use Rattle.papaya_late.specs.Given.Raw.declared.machines.answer.KeyAnswer.TheVariants as answers
-use Rattle.papaya_late.specs.Given.Raw.declared.machines.answer.Called.{Called}
-use Rattle.papaya_late.specs.Given.Raw.declared.machines.call.KeyCall.{KeyCall}
-use Rattle.papaya_late.specs.Given.Raw.declared.machines.call.Calling.{Calling}
-use Rattle.papaya_late.specs.Given.Raw.declared.machines.call.Calling.TheVariants as at
-use Rattle.papaya_late.specs.Given.Resize.Dispose.{disposing}
-use Rattle.papaya_late.specs.Given.Resize.Lookup.{names_pair}
-use Rattle.papaya_late.specs.Given.Rule.Chart.{Chart}
-use Rattle.papaya_late.specs.Given.Rule.Maps.{spot_at, IsTrial}
-use Rattle.papaya_late.specs.Given.Rule.Words.{Blocks, place_word}
-use Rattle.papaya_late.proofs.Given.Rule.Keys.TriesSeen.{next_is}
-use Rattle.papaya_late.proofs.Given.Rule.Words.PlacesShown.{shown_block, shown_byte, are_stored}
-use Rattle.papaya_late.specs.Given.Rule.Maps.{spot_of}
-use Rattle.papaya_late.specs.Given.Points.Measures.{IsBelow}
+use Rattle.papaya_late.specs.Given.SeizeWordsMem.{Mem, Took, value_at, word_at}
+use Rattle.papaya_late.specs.Given.SeizeWordsPlan.{Ends, Now, Steps}
+use Rattle.papaya_late.proofs.Given.SeizeWordsOneOwner.Operations.{loaded, exchanged}
+use Rattle.papaya_late.proofs.Given.SeizeWordsPlans.{ends_if}
+use Rattle.papaya_late.specs.Given.TablesChunks.{is_incremental}
+use Rattle.papaya_late.specs.Given.TablesFinding.{may_name}
+use Rattle.papaya_late.specs.Given.TablesTrials.{place_tried}
+use Rattle.papaya_late.specs.Given.TablesDeclared.marks.TheConstants.{TOMBSTONE}
+use Rattle.papaya_late.specs.Given.TablesDeclared.node.Node.{Node}
+use Rattle.papaya_late.specs.Given.TablesDeclared.setting.Setting.{Setting}
+use Rattle.papaya_late.specs.Given.RawCall.{have_one_key, key_read, pair_read, word_read, word_found, probes, tried, tries}
+use Rattle.papaya_late.specs.Given.RawCallPoints.{going, changed, told}
+use Rattle.papaya_late.specs.Given.RawDeclared.machines.answer.KeyAnswer.TheVariants as answers
+use Rattle.papaya_late.specs.Given.RawDeclared.machines.answer.Called.{Called}
+use Rattle.papaya_late.specs.Given.RawDeclared.machines.call.KeyCall.{KeyCall}
+use Rattle.papaya_late.specs.Given.RawDeclared.machines.call.Calling.{Calling}
+use Rattle.papaya_late.specs.Given.RawDeclared.machines.call.Calling.TheVariants as at
+use Rattle.papaya_late.specs.Given.ResizeDispose.{disposing}
+use Rattle.papaya_late.specs.Given.ResizeLookup.{names_pair}
+use Rattle.papaya_late.specs.Given.RuleChart.{Chart}
+use Rattle.papaya_late.specs.Given.RuleMaps.{spot_at, IsTrial}
+use Rattle.papaya_late.specs.Given.RuleWords.{Blocks, place_word}
+use Rattle.papaya_late.proofs.Given.RuleKeys.TriesSeen.{next_is}
+use Rattle.papaya_late.proofs.Given.RuleWords.PlacesShown.{shown_block, shown_byte, are_stored}
+use Rattle.papaya_late.specs.Given.RuleMaps.{spot_of}
+use Rattle.papaya_late.specs.Given.PointsMeasures.{IsBelow}
 use Rattle.papaya_falls.specs.Room.{tables_to_come}
 use Rattle.papaya_falls.specs.Calls.{nothing_within, trying, number_at, number_of_call}
 use Rattle.papaya_falls.specs.Falls.{GoesFurther}

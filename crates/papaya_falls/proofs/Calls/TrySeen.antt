@@ -2,19 +2,19 @@
 use Rattle.std.specs.Prelude.{◌+◌, ◌==◌, if◌then◌else◌}
 use Rattle.std.proofs.Common.{◌≡◌, ◌≢◌, ℕ, ◌<◌, Bool, Some, ap, sym, ◌∙◌, arith}
 use Rattle.std.proofs.lemmas.Bool.{ne_eqb}
-use Rattle.papaya_late.specs.Given.SeizeWords.Mem.{Mem, word_at}
-use Rattle.papaya_late.specs.Given.Tables.Trials.{place_tried}
-use Rattle.papaya_late.specs.Given.Tables.declared.node.Node.{Node}
-use Rattle.papaya_late.specs.Given.Tables.declared.setting.Setting.{Setting}
-use Rattle.papaya_late.specs.Given.Tables.declared.table.Table.{Table}
-use Rattle.papaya_late.specs.Given.Tables.declared.table_words.TheConstants.{PLACES}
-use Rattle.papaya_late.specs.Given.Tables.declared.trial.Trial.{Trial}
-use Rattle.papaya_late.specs.Given.Raw.declared.machines.call.KeyCall.{KeyCall}
-use Rattle.papaya_late.specs.Given.Rule.Chart.{Chart}
-use Rattle.papaya_late.specs.Given.Rule.Maps.{spot_at, IsMap, IsTrial}
-use Rattle.papaya_late.specs.Given.Rule.Words.{Blocks, place_word}
-use Rattle.papaya_late.proofs.Given.Rule.Keys.TriesSeen.{spot_inside}
-use Rattle.papaya_late.proofs.Given.Rule.Words.TablesSeen.{place_stands, place_there}
+use Rattle.papaya_late.specs.Given.SeizeWordsMem.{Mem, word_at}
+use Rattle.papaya_late.specs.Given.TablesTrials.{place_tried}
+use Rattle.papaya_late.specs.Given.TablesDeclared.node.Node.{Node}
+use Rattle.papaya_late.specs.Given.TablesDeclared.setting.Setting.{Setting}
+use Rattle.papaya_late.specs.Given.TablesDeclared.table.Table.{Table}
+use Rattle.papaya_late.specs.Given.TablesDeclared.table_words.TheConstants.{PLACES}
+use Rattle.papaya_late.specs.Given.TablesDeclared.trial.Trial.{Trial}
+use Rattle.papaya_late.specs.Given.RawDeclared.machines.call.KeyCall.{KeyCall}
+use Rattle.papaya_late.specs.Given.RuleChart.{Chart}
+use Rattle.papaya_late.specs.Given.RuleMaps.{spot_at, IsMap, IsTrial}
+use Rattle.papaya_late.specs.Given.RuleWords.{Blocks, place_word}
+use Rattle.papaya_late.proofs.Given.RuleKeys.TriesSeen.{spot_inside}
+use Rattle.papaya_late.proofs.Given.RuleWords.TablesSeen.{place_stands, place_there}
 use Rattle.papaya_falls.specs.Calls.{stale}
 use Rattle.papaya_falls.proofs.Onward.{Onward, KeepsTables, table_on}
 

@@ -2,32 +2,32 @@
 use Rattle.std.specs.Prelude.{◌+◌, ◌%◌, ◌&&◌, nat_lt, if◌then◌else◌}
 use Rattle.std.proofs.Common.{◌≡◌, ℕ, ◌-◌, ◌^◌, ◌<◌, ◌≤◌, Bool, true, false, cond, eqb, Some, inl, inr, refl, ap, sym, ◌∙◌, arith}
 use Rattle.std.proofs.lemmas.Bool.{eq-eqb, ltb-true}
-use Rattle.papaya_late.specs.Given.SeizeWords.declared.at.At.{At}
-use Rattle.papaya_late.specs.Given.SeizeWords.declared.at.At.TheVariants.{Word}
-use Rattle.papaya_late.specs.Given.SeizeWords.Mem.{Mem, Took, value_at, word_at, with_word}
-use Rattle.papaya_late.specs.Given.SeizeWords.Plan.{Ends, Steps}
-use Rattle.papaya_late.proofs.Given.SeizeWords.OneOwner.AfterWrites.{word_at-with_word}
-use Rattle.papaya_late.proofs.Given.SeizeWords.OneOwner.Operations.{added}
-use Rattle.papaya_late.specs.Given.Tables.Chunks.{is_incremental, chunk_of}
-use Rattle.papaya_late.specs.Given.Tables.TablePlaces.{at_word}
-use Rattle.papaya_late.specs.Given.Tables.declared.node.Node.{Node}
-use Rattle.papaya_late.specs.Given.Tables.declared.resize_mode.ResizeMode.{ResizeMode}
-use Rattle.papaya_late.specs.Given.Tables.declared.resize_mode.ResizeMode.TheVariants.{Incremental, Blocking}
-use Rattle.papaya_late.specs.Given.Tables.declared.setting.Setting.{Setting}
-use Rattle.papaya_late.specs.Given.Tables.declared.table.Table.{Table}
-use Rattle.papaya_late.specs.Given.Tables.declared.table_words.TheConstants.{CLAIM}
-use Rattle.papaya_late.specs.Given.Resize.CopierStates.{none_left}
-use Rattle.papaya_late.specs.Given.Resize.CopierClaims.{claims, claimed, chunk, range_claimed, to}
-use Rattle.papaya_late.specs.Given.Resize.declared.outcome.Outcome.{Outcome}
-use Rattle.papaya_late.specs.Given.Resize.declared.outcome.Outcome.TheVariants.{Goes}
-use Rattle.papaya_late.specs.Given.Resize.declared.copier.Copier.{Copier}
-use Rattle.papaya_late.specs.Given.Resize.declared.copier.Copying.{Copying as Point}
-use Rattle.papaya_late.specs.Given.Resize.declared.copier.Copying.TheVariants as at
-use Rattle.papaya_late.specs.Given.Rule.Chart.{Chart}
-use Rattle.papaya_late.specs.Given.Rule.Maps.{IsTable}
-use Rattle.papaya_late.specs.Given.Rule.Words.{Blocks}
-use Rattle.papaya_late.proofs.Given.Rule.Words.TablesSeen.{claim_there, word_stands}
-use Rattle.papaya_late.proofs.Given.Rule.Words.WritesWords.{is_some_of}
+use Rattle.papaya_late.specs.Given.SeizeWordsDeclared.at.At.{At}
+use Rattle.papaya_late.specs.Given.SeizeWordsDeclared.at.At.TheVariants.{Word}
+use Rattle.papaya_late.specs.Given.SeizeWordsMem.{Mem, Took, value_at, word_at, with_word}
+use Rattle.papaya_late.specs.Given.SeizeWordsPlan.{Ends, Steps}
+use Rattle.papaya_late.proofs.Given.SeizeWordsOneOwner.AfterWrites.{word_at-with_word}
+use Rattle.papaya_late.proofs.Given.SeizeWordsOneOwner.Operations.{added}
+use Rattle.papaya_late.specs.Given.TablesChunks.{is_incremental, chunk_of}
+use Rattle.papaya_late.specs.Given.TablesTablePlaces.{at_word}
+use Rattle.papaya_late.specs.Given.TablesDeclared.node.Node.{Node}
+use Rattle.papaya_late.specs.Given.TablesDeclared.resize_mode.ResizeMode.{ResizeMode}
+use Rattle.papaya_late.specs.Given.TablesDeclared.resize_mode.ResizeMode.TheVariants.{Incremental, Blocking}
+use Rattle.papaya_late.specs.Given.TablesDeclared.setting.Setting.{Setting}
+use Rattle.papaya_late.specs.Given.TablesDeclared.table.Table.{Table}
+use Rattle.papaya_late.specs.Given.TablesDeclared.table_words.TheConstants.{CLAIM}
+use Rattle.papaya_late.specs.Given.ResizeCopierStates.{none_left}
+use Rattle.papaya_late.specs.Given.ResizeCopierClaims.{claims, claimed, chunk, range_claimed, to}
+use Rattle.papaya_late.specs.Given.ResizeDeclared.outcome.Outcome.{Outcome}
+use Rattle.papaya_late.specs.Given.ResizeDeclared.outcome.Outcome.TheVariants.{Goes}
+use Rattle.papaya_late.specs.Given.ResizeDeclared.copier.Copier.{Copier}
+use Rattle.papaya_late.specs.Given.ResizeDeclared.copier.Copying.{Copying as Point}
+use Rattle.papaya_late.specs.Given.ResizeDeclared.copier.Copying.TheVariants as at
+use Rattle.papaya_late.specs.Given.RuleChart.{Chart}
+use Rattle.papaya_late.specs.Given.RuleMaps.{IsTable}
+use Rattle.papaya_late.specs.Given.RuleWords.{Blocks}
+use Rattle.papaya_late.proofs.Given.RuleWords.TablesSeen.{claim_there, word_stands}
+use Rattle.papaya_late.proofs.Given.RuleWords.WritesWords.{is_some_of}
 use Rattle.papaya_falls.specs.CopiesBlocking.{number_at, number_of_copier_blocking, targets}
 use Rattle.papaya_falls.proofs.Onward.{Onward}
 use Rattle.papaya_falls.proofs.Copiers.Claims.{claim_is}

@@ -1,17 +1,17 @@
 -- Which steps of a copier leave the last table, and the claim of its target, as they were.
 use Rattle.std.specs.Prelude.{◌+◌, ◌/◌, ◌%◌, IsSome, Bool}
 use Rattle.std.proofs.Common.{◌≡◌, ◌≢◌, ℕ, ◌^◌, ◌<◌, Some, ap, sym, ◌∙◌, arith}
-use Rattle.papaya_late.specs.Given.SeizeWords.declared.at.At.TheVariants.{Root, Word}
-use Rattle.papaya_late.specs.Given.SeizeWords.Mem.{Mem, word_at, with_word}
-use Rattle.papaya_late.proofs.Given.SeizeWords.OneOwner.AfterWrites.{word_at-with_word}
-use Rattle.papaya_late.specs.Given.Tables.TablePlaces.{at_place, at_word}
-use Rattle.papaya_late.specs.Given.Tables.declared.node.Node.{Node}
-use Rattle.papaya_late.specs.Given.Tables.declared.setting.Setting.{Setting}
-use Rattle.papaya_late.specs.Given.Tables.declared.table.Table.{Table}
-use Rattle.papaya_late.specs.Given.Tables.declared.table_words.TheConstants.{NEXT, CLAIM, PLACES}
-use Rattle.papaya_late.specs.Given.Rule.Chart.{Chart}
-use Rattle.papaya_late.specs.Given.Rule.Maps.{IsTable}
-use Rattle.papaya_late.specs.Given.Rule.Words.{Blocks}
+use Rattle.papaya_late.specs.Given.SeizeWordsDeclared.at.At.TheVariants.{Root, Word}
+use Rattle.papaya_late.specs.Given.SeizeWordsMem.{Mem, word_at, with_word}
+use Rattle.papaya_late.proofs.Given.SeizeWordsOneOwner.AfterWrites.{word_at-with_word}
+use Rattle.papaya_late.specs.Given.TablesTablePlaces.{at_place, at_word}
+use Rattle.papaya_late.specs.Given.TablesDeclared.node.Node.{Node}
+use Rattle.papaya_late.specs.Given.TablesDeclared.setting.Setting.{Setting}
+use Rattle.papaya_late.specs.Given.TablesDeclared.table.Table.{Table}
+use Rattle.papaya_late.specs.Given.TablesDeclared.table_words.TheConstants.{NEXT, CLAIM, PLACES}
+use Rattle.papaya_late.specs.Given.RuleChart.{Chart}
+use Rattle.papaya_late.specs.Given.RuleMaps.{IsTable}
+use Rattle.papaya_late.specs.Given.RuleWords.{Blocks}
 use Rattle.papaya_falls.proofs.Onward.{Onward, claim_on}
 use Rattle.papaya_falls.proofs.Kept.{other_word}
 use Rattle.papaya_falls.proofs.Copiers.CopierOn.{past_still, past_word, past_place, past_root}

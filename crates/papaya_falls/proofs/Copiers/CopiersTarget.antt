@@ -1,38 +1,38 @@
 -- A copier of a whole table copies into the same one from its first step to its last, but where that is given up.
 use Rattle.std.specs.Prelude.{◌≡◌, ℕ, ◌+◌, ◌%◌, ◌^◌, ◌-◌, ◌/◌, ◌==◌, Bool, true, false, nat_lt, Ok, Err, if◌then◌else◌}
 use Rattle.std.proofs.Common.{refl}
-use Rattle.papaya_late.specs.Given.SeizeWords.Mem.{Mem, value_at, Took}
-use Rattle.papaya_late.specs.Given.SeizeWords.Op.{Out, Found, Stored, Exchanged, Made, Taken, Roomed}
-use Rattle.papaya_late.specs.Given.SeizeWords.Plan.{Then, Steps}
-use Rattle.papaya_late.specs.Given.Seize.declared.progress.Progress.{Progress}
-use Rattle.papaya_late.specs.Given.Seize.declared.progress.Progress.TheVariants as progress
-use Rattle.papaya_late.specs.Given.Seize.declared.rows.settle.Settle.{Settle}
-use Rattle.papaya_late.specs.Given.Seize.declared.rows.settle.Settled.{Settled}
-use Rattle.papaya_late.specs.Given.Seize.declared.rows.settle.Settled.TheVariants as settled
-use Rattle.papaya_late.specs.Given.Seize.Settle.{settle_plan}
-use Rattle.papaya_late.specs.Given.SeizeWords.declared.fault.Fault.{Fault}
-use Rattle.papaya_late.specs.Given.Tables.Probes.{probe_after}
-use Rattle.papaya_late.specs.Given.Tables.Chunks.{is_incremental}
-use Rattle.papaya_late.specs.Given.Tables.Nodes.{deferred_word}
-use Rattle.papaya_late.specs.Given.Resize.NewTable.{new_table_plan}
-use Rattle.papaya_late.specs.Given.Resize.Copier.{plan_at, copier_plan}
-use Rattle.papaya_late.specs.Given.Resize.CopierStates.{standing, behind, none_left, next_place, place_done}
-use Rattle.papaya_late.specs.Given.Resize.CopierPlaces.{next_try, place_read, put_told}
-use Rattle.papaya_late.specs.Given.Resize.CopierMarks.{is_mine, is_awaited, mine_marked, marked}
-use Rattle.papaya_late.specs.Given.Resize.CopierClaims.{status_read, claim_read, claimed}
-use Rattle.papaya_late.specs.Given.Resize.CopierCounts.{refusing, counted}
-use Rattle.papaya_late.specs.Given.Resize.CopierFurther.{further_read, grown}
-use Rattle.papaya_late.specs.Given.Resize.CopierPromotes.{promoted, table_retired, successor_read, retired}
-use Rattle.papaya_late.specs.Given.Tables.declared.node.Node.{Node}
-use Rattle.papaya_late.specs.Given.Resize.declared.outcome.Outcome.{Outcome}
-use Rattle.papaya_late.specs.Given.Tables.declared.probe.Probe.{Probe}
-use Rattle.papaya_late.specs.Given.Tables.declared.status.TheConstants.Status.{PROMOTED, ABORTED}
-use Rattle.papaya_late.specs.Given.Tables.declared.table.Table.{Table}
-use Rattle.papaya_late.specs.Given.Resize.declared.copier.Copier.{Copier}
-use Rattle.papaya_late.specs.Given.Resize.declared.copier.Copying.{Copying}
-use Rattle.papaya_late.specs.Given.Resize.declared.copier.Copying.TheVariants as at
-use Rattle.papaya_late.specs.Given.Resize.declared.new_table.NewTable.{NewTable}
-use Rattle.papaya_late.proofs.Given.Rule.Keys.Always.{Always, AlwaysOf, always_if, always_plan_as, always_steps}
+use Rattle.papaya_late.specs.Given.SeizeWordsMem.{Mem, value_at, Took}
+use Rattle.papaya_late.specs.Given.SeizeWordsOp.{Out, Found, Stored, Exchanged, Made, Taken, Roomed}
+use Rattle.papaya_late.specs.Given.SeizeWordsPlan.{Then, Steps}
+use Rattle.papaya_late.specs.Given.SeizeDeclared.progress.Progress.{Progress}
+use Rattle.papaya_late.specs.Given.SeizeDeclared.progress.Progress.TheVariants as progress
+use Rattle.papaya_late.specs.Given.SeizeDeclared.rows.settle.Settle.{Settle}
+use Rattle.papaya_late.specs.Given.SeizeDeclared.rows.settle.Settled.{Settled}
+use Rattle.papaya_late.specs.Given.SeizeDeclared.rows.settle.Settled.TheVariants as settled
+use Rattle.papaya_late.specs.Given.SeizeSettle.{settle_plan}
+use Rattle.papaya_late.specs.Given.SeizeWordsDeclared.fault.Fault.{Fault}
+use Rattle.papaya_late.specs.Given.TablesProbes.{probe_after}
+use Rattle.papaya_late.specs.Given.TablesChunks.{is_incremental}
+use Rattle.papaya_late.specs.Given.TablesNodes.{deferred_word}
+use Rattle.papaya_late.specs.Given.ResizeNewTable.{new_table_plan}
+use Rattle.papaya_late.specs.Given.ResizeCopier.{plan_at, copier_plan}
+use Rattle.papaya_late.specs.Given.ResizeCopierStates.{standing, behind, none_left, next_place, place_done}
+use Rattle.papaya_late.specs.Given.ResizeCopierPlaces.{next_try, place_read, put_told}
+use Rattle.papaya_late.specs.Given.ResizeCopierMarks.{is_mine, is_awaited, mine_marked, marked}
+use Rattle.papaya_late.specs.Given.ResizeCopierClaims.{status_read, claim_read, claimed}
+use Rattle.papaya_late.specs.Given.ResizeCopierCounts.{refusing, counted}
+use Rattle.papaya_late.specs.Given.ResizeCopierFurther.{further_read, grown}
+use Rattle.papaya_late.specs.Given.ResizeCopierPromotes.{promoted, table_retired, successor_read, retired}
+use Rattle.papaya_late.specs.Given.TablesDeclared.node.Node.{Node}
+use Rattle.papaya_late.specs.Given.ResizeDeclared.outcome.Outcome.{Outcome}
+use Rattle.papaya_late.specs.Given.TablesDeclared.probe.Probe.{Probe}
+use Rattle.papaya_late.specs.Given.TablesDeclared.status.TheConstants.Status.{PROMOTED, ABORTED}
+use Rattle.papaya_late.specs.Given.TablesDeclared.table.Table.{Table}
+use Rattle.papaya_late.specs.Given.ResizeDeclared.copier.Copier.{Copier}
+use Rattle.papaya_late.specs.Given.ResizeDeclared.copier.Copying.{Copying}
+use Rattle.papaya_late.specs.Given.ResizeDeclared.copier.Copying.TheVariants as at
+use Rattle.papaya_late.specs.Given.ResizeDeclared.new_table.NewTable.{NewTable}
+use Rattle.papaya_late.proofs.Given.RuleKeys.Always.{Always, AlwaysOf, always_if, always_plan_as, always_steps}
 
 -- it copies into the table that it has
 abbrev pub keeps_target : Copying → Bool

@@ -1,41 +1,41 @@
 -- In incremental mode, each step of a copier that goes on lowers its number, whatever other callers do.
 use Rattle.std.specs.Prelude.{◌+◌, ◌/◌, ◌%◌, ◌==◌, nat_lt, if◌then◌else◌, bit_or}
 use Rattle.std.proofs.Common.{◌≡◌, ℕ, ◌-◌, ◌^◌, ◌<◌, Bool, true, false, inl, inr, refl, ap, sym, subst, arith}
-use Rattle.papaya_late.specs.Given.SeizeWords.declared.at.At.TheVariants.{Root, Word}
-use Rattle.papaya_late.specs.Given.SeizeWords.declared.fault.Fault.{Fault}
-use Rattle.papaya_late.specs.Given.SeizeWords.Mem.{Mem, Took, value_at, with_word}
-use Rattle.papaya_late.specs.Given.SeizeWords.Plan.{Ends, Now, Seeing, Steps}
-use Rattle.papaya_late.proofs.Given.SeizeWords.OneOwner.Operations.{loaded, stored, added, ored, exchanged}
-use Rattle.papaya_late.proofs.Given.SeizeWords.Plans.{ends_if}
-use Rattle.papaya_late.specs.Given.Tables.Chunks.{is_incremental}
-use Rattle.papaya_late.specs.Given.Tables.Nodes.{table_seen}
-use Rattle.papaya_late.specs.Given.Tables.TablePlaces.{at_word, at_place}
-use Rattle.papaya_late.specs.Given.Tables.declared.marks.TheConstants.{COPYING, COPIED}
-use Rattle.papaya_late.specs.Given.Tables.declared.node.Node.{Node}
-use Rattle.papaya_late.specs.Given.Tables.declared.probe.Probe.{Probe}
-use Rattle.papaya_late.specs.Given.Tables.declared.setting.Setting.{Setting}
-use Rattle.papaya_late.specs.Given.Tables.declared.status.TheConstants.Status.{ABORTED, PROMOTED}
-use Rattle.papaya_late.specs.Given.Tables.declared.table.Table.{Table}
-use Rattle.papaya_late.specs.Given.Tables.declared.table_words.TheConstants.{NEXT, CLAIM, STATUS, COPIED as COUNT}
-use Rattle.papaya_late.specs.Given.Resize.Copier.{plan_at, copier_plan}
-use Rattle.papaya_late.specs.Given.Resize.CopierStates.{standing, behind, none_left, next_place, place_done}
-use Rattle.papaya_late.specs.Given.Resize.CopierClaims.{begins, follows, asks, sees, claims, root_read, next_read, status_read, claim_read, claimed, chunk, range_claimed, to}
-use Rattle.papaya_late.specs.Given.Resize.CopierMarks.{marks, covers, marked as place_marked, mine_marked, is_mine, is_awaited, probing, without_copying, key_hash}
-use Rattle.papaya_late.specs.Given.Resize.CopierPlaces.{probes, puts, place_read, put_told, copied_word, next_try, pair_put}
-use Rattle.papaya_late.specs.Given.Resize.CopierCounts.{counts, tallies, unmarks, unclaims, counted, given_up}
-use Rattle.papaya_late.specs.Given.Resize.CopierPromotes.{promotes, announces, promoted, successor_read, retiring_table, also_retired}
-use Rattle.papaya_late.specs.Given.Resize.declared.outcome.Outcome.{Outcome}
-use Rattle.papaya_late.specs.Given.Resize.declared.outcome.Outcome.TheVariants.{Goes, Waits}
-use Rattle.papaya_late.specs.Given.Resize.declared.copier.Copier.{Copier}
-use Rattle.papaya_late.specs.Given.Resize.declared.copier.Copying.{Copying as Point}
-use Rattle.papaya_late.specs.Given.Resize.declared.copier.Copying.TheVariants as at
-use Rattle.papaya_late.specs.Given.Rule.Chart.{Chart}
-use Rattle.papaya_late.specs.Given.Rule.Maps.{IsTable}
-use Rattle.papaya_late.specs.Given.Rule.Words.{Blocks}
-use Rattle.papaya_late.proofs.Given.Rule.Keys.TriesSeen.{spot_inside}
-use Rattle.papaya_late.proofs.Given.Rule.Words.TablesSeen.{place_there, claim_there, status_there}
-use Rattle.papaya_late.proofs.Given.Rule.Words.WritesWords.{is_some_of}
-use Rattle.papaya_late.specs.Given.Points.Told.{IsRowOfCopier}
+use Rattle.papaya_late.specs.Given.SeizeWordsDeclared.at.At.TheVariants.{Root, Word}
+use Rattle.papaya_late.specs.Given.SeizeWordsDeclared.fault.Fault.{Fault}
+use Rattle.papaya_late.specs.Given.SeizeWordsMem.{Mem, Took, value_at, with_word}
+use Rattle.papaya_late.specs.Given.SeizeWordsPlan.{Ends, Now, Seeing, Steps}
+use Rattle.papaya_late.proofs.Given.SeizeWordsOneOwner.Operations.{loaded, stored, added, ored, exchanged}
+use Rattle.papaya_late.proofs.Given.SeizeWordsPlans.{ends_if}
+use Rattle.papaya_late.specs.Given.TablesChunks.{is_incremental}
+use Rattle.papaya_late.specs.Given.TablesNodes.{table_seen}
+use Rattle.papaya_late.specs.Given.TablesTablePlaces.{at_word, at_place}
+use Rattle.papaya_late.specs.Given.TablesDeclared.marks.TheConstants.{COPYING, COPIED}
+use Rattle.papaya_late.specs.Given.TablesDeclared.node.Node.{Node}
+use Rattle.papaya_late.specs.Given.TablesDeclared.probe.Probe.{Probe}
+use Rattle.papaya_late.specs.Given.TablesDeclared.setting.Setting.{Setting}
+use Rattle.papaya_late.specs.Given.TablesDeclared.status.TheConstants.Status.{ABORTED, PROMOTED}
+use Rattle.papaya_late.specs.Given.TablesDeclared.table.Table.{Table}
+use Rattle.papaya_late.specs.Given.TablesDeclared.table_words.TheConstants.{NEXT, CLAIM, STATUS, COPIED as COUNT}
+use Rattle.papaya_late.specs.Given.ResizeCopier.{plan_at, copier_plan}
+use Rattle.papaya_late.specs.Given.ResizeCopierStates.{standing, behind, none_left, next_place, place_done}
+use Rattle.papaya_late.specs.Given.ResizeCopierClaims.{begins, follows, asks, sees, claims, root_read, next_read, status_read, claim_read, claimed, chunk, range_claimed, to}
+use Rattle.papaya_late.specs.Given.ResizeCopierMarks.{marks, covers, marked as place_marked, mine_marked, is_mine, is_awaited, probing, without_copying, key_hash}
+use Rattle.papaya_late.specs.Given.ResizeCopierPlaces.{probes, puts, place_read, put_told, copied_word, next_try, pair_put}
+use Rattle.papaya_late.specs.Given.ResizeCopierCounts.{counts, tallies, unmarks, unclaims, counted, given_up}
+use Rattle.papaya_late.specs.Given.ResizeCopierPromotes.{promotes, announces, promoted, successor_read, retiring_table, also_retired}
+use Rattle.papaya_late.specs.Given.ResizeDeclared.outcome.Outcome.{Outcome}
+use Rattle.papaya_late.specs.Given.ResizeDeclared.outcome.Outcome.TheVariants.{Goes, Waits}
+use Rattle.papaya_late.specs.Given.ResizeDeclared.copier.Copier.{Copier}
+use Rattle.papaya_late.specs.Given.ResizeDeclared.copier.Copying.{Copying as Point}
+use Rattle.papaya_late.specs.Given.ResizeDeclared.copier.Copying.TheVariants as at
+use Rattle.papaya_late.specs.Given.RuleChart.{Chart}
+use Rattle.papaya_late.specs.Given.RuleMaps.{IsTable}
+use Rattle.papaya_late.specs.Given.RuleWords.{Blocks}
+use Rattle.papaya_late.proofs.Given.RuleKeys.TriesSeen.{spot_inside}
+use Rattle.papaya_late.proofs.Given.RuleWords.TablesSeen.{place_there, claim_there, status_there}
+use Rattle.papaya_late.proofs.Given.RuleWords.WritesWords.{is_some_of}
+use Rattle.papaya_late.specs.Given.PointsTold.{IsRowOfCopier}
 use Rattle.papaya_falls.specs.Copies.{number_at, number_of_copier}
 use Rattle.papaya_falls.proofs.Onward.{Onward}
 use Rattle.papaya_falls.proofs.Stands.{CopyingStands, AtPlace, AtTry}

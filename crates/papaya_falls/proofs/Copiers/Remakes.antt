@@ -1,35 +1,35 @@
 -- In blocking mode, how a copier comes to another table, where its target was given up.
 use Rattle.std.proofs.Common.{◌≡◌, ℕ, suc, ◌-◌, Bool, inl, inr, refl, ap, arith}
-use Rattle.papaya_late.specs.Given.SeizeWords.declared.at.At.TheVariants.{Word}
-use Rattle.papaya_late.specs.Given.SeizeWords.Mem.{Mem, Took, value_at}
-use Rattle.papaya_late.specs.Given.SeizeWords.Plan.{Steps}
-use Rattle.papaya_late.proofs.Given.SeizeWords.OneOwner.Operations.{loaded}
-use Rattle.papaya_late.proofs.Given.SeizeRule.Rows.Leaving.{steps_back}
-use Rattle.papaya_late.specs.Given.Seize.declared.progress.Progress.{Progress}
-use Rattle.papaya_late.specs.Given.Seize.declared.progress.Progress.TheVariants as progress
-use Rattle.papaya_late.specs.Given.Tables.TablePlaces.{at_word}
-use Rattle.papaya_late.specs.Given.Tables.declared.lengths.Reason.TheVariants.{NoPlace}
-use Rattle.papaya_late.specs.Given.Tables.declared.node.Node.{Node}
-use Rattle.papaya_late.specs.Given.Tables.declared.setting.Setting.{Setting}
-use Rattle.papaya_late.specs.Given.Tables.declared.table.Table.{Table}
-use Rattle.papaya_late.specs.Given.Tables.declared.table_words.TheConstants.{NEXT}
-use Rattle.papaya_late.specs.Given.Resize.CopierStates.{standing}
-use Rattle.papaya_late.specs.Given.Resize.CopierFurther.{replaces, remakes, remade, replacement_read, anew}
-use Rattle.papaya_late.specs.Given.Resize.NewTable.{table_after, new_table_plan}
-use Rattle.papaya_late.specs.Given.Resize.declared.outcome.Outcome.{Outcome}
-use Rattle.papaya_late.specs.Given.Resize.declared.outcome.Outcome.TheVariants.{Goes}
-use Rattle.papaya_late.specs.Given.Resize.declared.copier.Copier.{Copier}
-use Rattle.papaya_late.specs.Given.Resize.declared.copier.Copying.{Copying as Point}
-use Rattle.papaya_late.specs.Given.Resize.declared.copier.Copying.TheVariants as at
-use Rattle.papaya_late.specs.Given.Resize.declared.new_table.NewTable.{NewTable}
-use Rattle.papaya_late.specs.Given.Rule.Chart.{Chart}
-use Rattle.papaya_late.specs.Given.Rule.Maps.{IsTable}
-use Rattle.papaya_late.specs.Given.Rule.Words.{Blocks}
-use Rattle.papaya_late.proofs.Given.Rule.Words.LinksRead.{link_ends}
-use Rattle.papaya_late.proofs.Given.Rule.Words.LinksSeen.{next_leads}
-use Rattle.papaya_late.proofs.Given.Points.Making.EndsNewTable.{new_table_lowers}
-use Rattle.papaya_late.specs.Given.Points.Measures.{IsBelow}
-use Rattle.papaya_late.specs.Given.Points.MeasuresTables.{number_of_new_table}
+use Rattle.papaya_late.specs.Given.SeizeWordsDeclared.at.At.TheVariants.{Word}
+use Rattle.papaya_late.specs.Given.SeizeWordsMem.{Mem, Took, value_at}
+use Rattle.papaya_late.specs.Given.SeizeWordsPlan.{Steps}
+use Rattle.papaya_late.proofs.Given.SeizeWordsOneOwner.Operations.{loaded}
+use Rattle.papaya_late.proofs.Given.SeizeRuleRows.Leaving.{steps_back}
+use Rattle.papaya_late.specs.Given.SeizeDeclared.progress.Progress.{Progress}
+use Rattle.papaya_late.specs.Given.SeizeDeclared.progress.Progress.TheVariants as progress
+use Rattle.papaya_late.specs.Given.TablesTablePlaces.{at_word}
+use Rattle.papaya_late.specs.Given.TablesDeclared.lengths.Reason.TheVariants.{NoPlace}
+use Rattle.papaya_late.specs.Given.TablesDeclared.node.Node.{Node}
+use Rattle.papaya_late.specs.Given.TablesDeclared.setting.Setting.{Setting}
+use Rattle.papaya_late.specs.Given.TablesDeclared.table.Table.{Table}
+use Rattle.papaya_late.specs.Given.TablesDeclared.table_words.TheConstants.{NEXT}
+use Rattle.papaya_late.specs.Given.ResizeCopierStates.{standing}
+use Rattle.papaya_late.specs.Given.ResizeCopierFurther.{replaces, remakes, remade, replacement_read, anew}
+use Rattle.papaya_late.specs.Given.ResizeNewTable.{table_after, new_table_plan}
+use Rattle.papaya_late.specs.Given.ResizeDeclared.outcome.Outcome.{Outcome}
+use Rattle.papaya_late.specs.Given.ResizeDeclared.outcome.Outcome.TheVariants.{Goes}
+use Rattle.papaya_late.specs.Given.ResizeDeclared.copier.Copier.{Copier}
+use Rattle.papaya_late.specs.Given.ResizeDeclared.copier.Copying.{Copying as Point}
+use Rattle.papaya_late.specs.Given.ResizeDeclared.copier.Copying.TheVariants as at
+use Rattle.papaya_late.specs.Given.ResizeDeclared.new_table.NewTable.{NewTable}
+use Rattle.papaya_late.specs.Given.RuleChart.{Chart}
+use Rattle.papaya_late.specs.Given.RuleMaps.{IsTable}
+use Rattle.papaya_late.specs.Given.RuleWords.{Blocks}
+use Rattle.papaya_late.proofs.Given.RuleWords.LinksRead.{link_ends}
+use Rattle.papaya_late.proofs.Given.RuleWords.LinksSeen.{next_leads}
+use Rattle.papaya_late.proofs.Given.PointsMaking.EndsNewTable.{new_table_lowers}
+use Rattle.papaya_late.specs.Given.PointsMeasures.{IsBelow}
+use Rattle.papaya_late.specs.Given.PointsMeasuresTables.{number_of_new_table}
 use Rattle.papaya_falls.specs.CopiesBlocking.{number_at, number_of_copier_blocking, targets}
 use Rattle.papaya_falls.proofs.Onward.{Onward}
 use Rattle.papaya_falls.proofs.Stands.{NewTableStands}

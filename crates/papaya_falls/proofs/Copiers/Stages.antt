@@ -2,19 +2,19 @@
 use Rattle.std.specs.Prelude.{◌+◌, ◌==◌, ◌%◌, nat_lt, if◌then◌else◌, List, ◌∷◌}
 use Rattle.std.proofs.Common.{◌≡◌, ℕ, suc, ◌-◌, ◌^◌, ◌<◌, Bool, true, false, inl, inr, refl, arith}
 use Rattle.std.proofs.lemmas.Bool.{ltb-true}
-use Rattle.papaya_late.specs.Given.SeizeWords.declared.fault.Fault.{Fault}
-use Rattle.papaya_late.specs.Given.Tables.Chunks.{is_incremental}
-use Rattle.papaya_late.specs.Given.Tables.Probes.{probe_after}
-use Rattle.papaya_late.specs.Given.Tables.declared.probe.Probe.{Probe}
-use Rattle.papaya_late.specs.Given.Tables.declared.table.Table.{Table}
-use Rattle.papaya_late.specs.Given.Resize.CopierStates.{standing, behind, none_left, next_place}
-use Rattle.papaya_late.specs.Given.Resize.CopierCounts.{refusing}
-use Rattle.papaya_late.specs.Given.Resize.CopierPlaces.{next_try}
-use Rattle.papaya_late.specs.Given.Resize.declared.copier.Copier.{Copier}
-use Rattle.papaya_late.specs.Given.Resize.declared.copier.Copying.TheVariants as at
-use Rattle.papaya_late.specs.Given.Rule.Chart.{Chart}
-use Rattle.papaya_late.specs.Given.Rule.Words.{Blocks}
-use Rattle.papaya_late.specs.Given.Points.Measures.{IsBelow}
+use Rattle.papaya_late.specs.Given.SeizeWordsDeclared.fault.Fault.{Fault}
+use Rattle.papaya_late.specs.Given.TablesChunks.{is_incremental}
+use Rattle.papaya_late.specs.Given.TablesProbes.{probe_after}
+use Rattle.papaya_late.specs.Given.TablesDeclared.probe.Probe.{Probe}
+use Rattle.papaya_late.specs.Given.TablesDeclared.table.Table.{Table}
+use Rattle.papaya_late.specs.Given.ResizeCopierStates.{standing, behind, none_left, next_place}
+use Rattle.papaya_late.specs.Given.ResizeCopierCounts.{refusing}
+use Rattle.papaya_late.specs.Given.ResizeCopierPlaces.{next_try}
+use Rattle.papaya_late.specs.Given.ResizeDeclared.copier.Copier.{Copier}
+use Rattle.papaya_late.specs.Given.ResizeDeclared.copier.Copying.TheVariants as at
+use Rattle.papaya_late.specs.Given.RuleChart.{Chart}
+use Rattle.papaya_late.specs.Given.RuleWords.{Blocks}
+use Rattle.papaya_late.specs.Given.PointsMeasures.{IsBelow}
 use Rattle.papaya_falls.specs.Room.{planned_in_copying}
 use Rattle.papaya_falls.specs.Copies.{number_of_copier}
 

@@ -2,17 +2,17 @@
 use Rattle.std.specs.Prelude.{nat_le, nat_lt, if◌then◌else◌, max, Result, Ok, Err}
 use Rattle.std.proofs.Common.{◌≡◌, ℕ, ◌+◌, ◌-◌, ◌^◌, ◌<◌, ◌≤◌, Bool, true, false, refl, sym, subst, arith}
 use Rattle.std.proofs.lemmas.Bool.{ltb-true}
-use Rattle.papaya_late.specs.Given.SeizeWords.declared.fault.Fault.{Fault}
-use Rattle.papaya_late.specs.Given.SeizeWords.declared.fault.Fault.TheVariants.{Capacity}
-use Rattle.papaya_late.specs.Given.Tables.Lengths.{next_limit, next_turn, next_len}
-use Rattle.papaya_late.specs.Given.Tables.declared.lengths.Reason.{Reason}
-use Rattle.papaya_late.specs.Given.Tables.declared.lengths.Reason.TheVariants.{NoPlace}
-use Rattle.papaya_late.specs.Given.Tables.declared.setting.Setting.{Setting}
-use Rattle.papaya_late.specs.Given.Tables.declared.table.Table.{Table}
-use Rattle.papaya_late.specs.Given.Resize.NewTable.{planned as with_turn, following, making_of, begun_for, first_table, table_after}
-use Rattle.papaya_late.specs.Given.Resize.declared.new_table.Making.{Making}
-use Rattle.papaya_late.specs.Given.Resize.declared.new_table.Making.TheVariants as at
-use Rattle.papaya_late.specs.Given.Tables.Probes.{limit_of}
+use Rattle.papaya_late.specs.Given.SeizeWordsDeclared.fault.Fault.{Fault}
+use Rattle.papaya_late.specs.Given.SeizeWordsDeclared.fault.Fault.TheVariants.{Capacity}
+use Rattle.papaya_late.specs.Given.TablesLengths.{next_limit, next_turn, next_len}
+use Rattle.papaya_late.specs.Given.TablesDeclared.lengths.Reason.{Reason}
+use Rattle.papaya_late.specs.Given.TablesDeclared.lengths.Reason.TheVariants.{NoPlace}
+use Rattle.papaya_late.specs.Given.TablesDeclared.setting.Setting.{Setting}
+use Rattle.papaya_late.specs.Given.TablesDeclared.table.Table.{Table}
+use Rattle.papaya_late.specs.Given.ResizeNewTable.{planned as with_turn, following, making_of, begun_for, first_table, table_after}
+use Rattle.papaya_late.specs.Given.ResizeDeclared.new_table.Making.{Making}
+use Rattle.papaya_late.specs.Given.ResizeDeclared.new_table.Making.TheVariants as at
+use Rattle.papaya_late.specs.Given.TablesProbes.{limit_of}
 use Rattle.papaya_falls.specs.Room.{last_turn, planned}
 use Rattle.papaya_falls.specs.Copies.{tables_from_before}
 

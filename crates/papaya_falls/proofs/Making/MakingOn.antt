@@ -2,39 +2,39 @@
 use Rattle.std.specs.Prelude.{◌/◌, ◌%◌, ◌&&◌, max}
 use Rattle.std.proofs.Common.{◌≡◌, ℕ, zero, suc, ◌+◌, ◌-◌, ◌*◌, ◌^◌, ◌<◌, ◌≤◌, Bool, true, cond, eqb, Some, ◌⊎◌, inl, inr, refl, ap, sym, subst, ◌∙◌, arith}
 use Rattle.std.proofs.lemmas.Bool.{eq-eqb}
-use Rattle.papaya_late.specs.Given.SeizeWords.declared.at.At.{At}
-use Rattle.papaya_late.specs.Given.SeizeWords.declared.at.At.TheVariants.{Root, Used, Slot, Entry, Word}
-use Rattle.papaya_late.specs.Given.SeizeWords.Mem.{Mem, Took, value_at, word_at, with_word}
-use Rattle.papaya_late.specs.Given.SeizeWords.Plan.{Now, Steps}
-use Rattle.papaya_late.proofs.Given.SeizeWords.OneOwner.AfterWrites.{word_at-with_word}
-use Rattle.papaya_late.proofs.Given.SeizeWords.OneOwner.Operations.{loaded, stored, exchanged, made as make_made, taken}
-use Rattle.papaya_late.proofs.Given.SeizeRule.Rows.Leaving.{steps_back}
-use Rattle.papaya_late.specs.Given.Seize.declared.progress.Progress.{Progress}
-use Rattle.papaya_late.specs.Given.Seize.declared.progress.Progress.TheVariants as progress
-use Rattle.papaya_late.specs.Given.Tables.Lengths.{next_len}
-use Rattle.papaya_late.specs.Given.Tables.Nodes.{table_seen}
-use Rattle.papaya_late.specs.Given.Tables.declared.lengths.Reason.{Reason}
-use Rattle.papaya_late.specs.Given.Tables.declared.node.Node.{Node}
-use Rattle.papaya_late.specs.Given.Tables.declared.node.Node.TheVariants as node
-use Rattle.papaya_late.specs.Given.Tables.declared.setting.Setting.{Setting}
-use Rattle.papaya_late.specs.Given.Tables.declared.status.TheConstants.Status.{PROMOTED}
-use Rattle.papaya_late.specs.Given.Tables.declared.table.Table.{Table}
-use Rattle.papaya_late.specs.Given.Tables.declared.table_words.TheConstants.{NEXT, STATUS, PLACES}
-use Rattle.papaya_late.specs.Given.Resize.NewTable.{goes, counted, after_making, with_block, made, linked, other, plan_at, new_table_plan}
-use Rattle.papaya_late.specs.Given.Resize.Sum.{added, plan_at as sum_at, sum_plan}
-use Rattle.papaya_late.specs.Given.Resize.declared.sum.Sum.{Sum}
-use Rattle.papaya_late.specs.Given.Resize.declared.sum.Summing.{Summing}
-use Rattle.papaya_late.specs.Given.Resize.declared.sum.Summing.TheVariants as sums
-use Rattle.papaya_late.specs.Given.Resize.declared.new_table.NewTable.{NewTable}
-use Rattle.papaya_late.specs.Given.Resize.declared.new_table.Making.{Making}
-use Rattle.papaya_late.specs.Given.Resize.declared.new_table.Making.TheVariants as at
-use Rattle.papaya_late.specs.Given.Rule.Chart.{Chart}
-use Rattle.papaya_late.specs.Given.Rule.Links.{LeadsTo}
-use Rattle.papaya_late.specs.Given.Rule.Words.{Blocks}
-use Rattle.papaya_late.proofs.Given.Rule.Words.LinksRead.{link_table}
-use Rattle.papaya_late.proofs.Given.Rule.Words.LinksSeen.{root_leads}
-use Rattle.papaya_late.proofs.Given.Rule.Words.TablesSeen.{turn_is}
-use Rattle.papaya_late.proofs.Given.Rule.Words.WritesWords.{at_word_block, is_some_of}
+use Rattle.papaya_late.specs.Given.SeizeWordsDeclared.at.At.{At}
+use Rattle.papaya_late.specs.Given.SeizeWordsDeclared.at.At.TheVariants.{Root, Used, Slot, Entry, Word}
+use Rattle.papaya_late.specs.Given.SeizeWordsMem.{Mem, Took, value_at, word_at, with_word}
+use Rattle.papaya_late.specs.Given.SeizeWordsPlan.{Now, Steps}
+use Rattle.papaya_late.proofs.Given.SeizeWordsOneOwner.AfterWrites.{word_at-with_word}
+use Rattle.papaya_late.proofs.Given.SeizeWordsOneOwner.Operations.{loaded, stored, exchanged, made as make_made, taken}
+use Rattle.papaya_late.proofs.Given.SeizeRuleRows.Leaving.{steps_back}
+use Rattle.papaya_late.specs.Given.SeizeDeclared.progress.Progress.{Progress}
+use Rattle.papaya_late.specs.Given.SeizeDeclared.progress.Progress.TheVariants as progress
+use Rattle.papaya_late.specs.Given.TablesLengths.{next_len}
+use Rattle.papaya_late.specs.Given.TablesNodes.{table_seen}
+use Rattle.papaya_late.specs.Given.TablesDeclared.lengths.Reason.{Reason}
+use Rattle.papaya_late.specs.Given.TablesDeclared.node.Node.{Node}
+use Rattle.papaya_late.specs.Given.TablesDeclared.node.Node.TheVariants as node
+use Rattle.papaya_late.specs.Given.TablesDeclared.setting.Setting.{Setting}
+use Rattle.papaya_late.specs.Given.TablesDeclared.status.TheConstants.Status.{PROMOTED}
+use Rattle.papaya_late.specs.Given.TablesDeclared.table.Table.{Table}
+use Rattle.papaya_late.specs.Given.TablesDeclared.table_words.TheConstants.{NEXT, STATUS, PLACES}
+use Rattle.papaya_late.specs.Given.ResizeNewTable.{goes, counted, after_making, with_block, made, linked, other, plan_at, new_table_plan}
+use Rattle.papaya_late.specs.Given.ResizeSum.{added, plan_at as sum_at, sum_plan}
+use Rattle.papaya_late.specs.Given.ResizeDeclared.sum.Sum.{Sum}
+use Rattle.papaya_late.specs.Given.ResizeDeclared.sum.Summing.{Summing}
+use Rattle.papaya_late.specs.Given.ResizeDeclared.sum.Summing.TheVariants as sums
+use Rattle.papaya_late.specs.Given.ResizeDeclared.new_table.NewTable.{NewTable}
+use Rattle.papaya_late.specs.Given.ResizeDeclared.new_table.Making.{Making}
+use Rattle.papaya_late.specs.Given.ResizeDeclared.new_table.Making.TheVariants as at
+use Rattle.papaya_late.specs.Given.RuleChart.{Chart}
+use Rattle.papaya_late.specs.Given.RuleLinks.{LeadsTo}
+use Rattle.papaya_late.specs.Given.RuleWords.{Blocks}
+use Rattle.papaya_late.proofs.Given.RuleWords.LinksRead.{link_table}
+use Rattle.papaya_late.proofs.Given.RuleWords.LinksSeen.{root_leads}
+use Rattle.papaya_late.proofs.Given.RuleWords.TablesSeen.{turn_is}
+use Rattle.papaya_late.proofs.Given.RuleWords.WritesWords.{at_word_block, is_some_of}
 use Rattle.papaya_falls.specs.Room.{last_turn, planned}
 use Rattle.papaya_falls.specs.Copies.{tables_from_before}
 use Rattle.papaya_falls.proofs.Onward.{Onward, grows, known_on, past_kept, links_kept, value_before, value_after, behind_none, some_behind}

@@ -1,26 +1,26 @@
 -- A step of a reservation's copying that goes on, or ends it, leads to lower numbers, whatever other callers do.
 use Rattle.std.specs.Prelude.{◌-◌, ◌==◌, if◌then◌else◌}
 use Rattle.std.proofs.Common.{◌≡◌, ℕ, Bool, true, false, List, ◌∷◌, inl, inr, refl, ap, sym, subst, ◌∙◌, arith}
-use Rattle.papaya_late.specs.Given.SeizeWords.Mem.{Mem, Took, value_at}
-use Rattle.papaya_late.specs.Given.SeizeWords.Plan.{Steps}
-use Rattle.papaya_late.specs.Given.Seize.declared.rows.settle.Settle.{Settle}
-use Rattle.papaya_late.specs.Given.Tables.declared.node.Node.{Node}
-use Rattle.papaya_late.specs.Given.Tables.declared.setting.Setting.{Setting}
-use Rattle.papaya_late.specs.Given.Tables.declared.table.Table.{Table}
-use Rattle.papaya_late.specs.Given.Resize.Copier.{copier_plan}
-use Rattle.papaya_late.specs.Given.Resize.CopierPromotes.{table_retired}
-use Rattle.papaya_late.specs.Given.Resize.CopierStates as copying
-use Rattle.papaya_late.specs.Given.Resize.declared.copier.Copier.{Copier}
-use Rattle.papaya_late.specs.Given.Resize.declared.copier.Copying.{Copying}
-use Rattle.papaya_late.specs.Given.Resize.declared.copier.Copying.TheVariants as copies
-use Rattle.papaya_late.specs.Given.Resize.declared.outcome.Outcome.{Outcome}
-use Rattle.papaya_late.specs.Given.Resize.declared.outcome.Outcome.TheVariants as outcome
-use Rattle.papaya_late.specs.Given.Resize.declared.sum.Sum.{Sum}
-use Rattle.papaya_late.specs.Given.Reserves.declared.reserve.Reserving.TheVariants as at
-use Rattle.papaya_late.specs.Given.Rule.Chart.{Chart}
-use Rattle.papaya_late.specs.Given.Rule.Words.{Blocks}
-use Rattle.papaya_late.specs.Given.Points.Measures.{IsBelow}
-use Rattle.papaya_late.specs.Given.Points.Told.{IsRowOfCopier}
+use Rattle.papaya_late.specs.Given.SeizeWordsMem.{Mem, Took, value_at}
+use Rattle.papaya_late.specs.Given.SeizeWordsPlan.{Steps}
+use Rattle.papaya_late.specs.Given.SeizeDeclared.rows.settle.Settle.{Settle}
+use Rattle.papaya_late.specs.Given.TablesDeclared.node.Node.{Node}
+use Rattle.papaya_late.specs.Given.TablesDeclared.setting.Setting.{Setting}
+use Rattle.papaya_late.specs.Given.TablesDeclared.table.Table.{Table}
+use Rattle.papaya_late.specs.Given.ResizeCopier.{copier_plan}
+use Rattle.papaya_late.specs.Given.ResizeCopierPromotes.{table_retired}
+use Rattle.papaya_late.specs.Given.ResizeCopierStates as copying
+use Rattle.papaya_late.specs.Given.ResizeDeclared.copier.Copier.{Copier}
+use Rattle.papaya_late.specs.Given.ResizeDeclared.copier.Copying.{Copying}
+use Rattle.papaya_late.specs.Given.ResizeDeclared.copier.Copying.TheVariants as copies
+use Rattle.papaya_late.specs.Given.ResizeDeclared.outcome.Outcome.{Outcome}
+use Rattle.papaya_late.specs.Given.ResizeDeclared.outcome.Outcome.TheVariants as outcome
+use Rattle.papaya_late.specs.Given.ResizeDeclared.sum.Sum.{Sum}
+use Rattle.papaya_late.specs.Given.ReservesDeclared.reserve.Reserving.TheVariants as at
+use Rattle.papaya_late.specs.Given.RuleChart.{Chart}
+use Rattle.papaya_late.specs.Given.RuleWords.{Blocks}
+use Rattle.papaya_late.specs.Given.PointsMeasures.{IsBelow}
+use Rattle.papaya_late.specs.Given.PointsTold.{IsRowOfCopier}
 use Rattle.papaya_falls.specs.Copies.{number_at, number_of_copier}
 use Rattle.papaya_falls.specs.CopiesBlocking.{number_at as blocking_at, number_of_copier_blocking, targets}
 use Rattle.papaya_falls.proofs.Onward.{Onward}

@@ -1,24 +1,24 @@
 -- Each step of a reservation that is none of a row and goes on leads to lower numbers.
 use Rattle.std.proofs.Common.{ℕ, Bool, sym, subst}
-use Rattle.papaya_late.specs.Given.SeizeWords.Mem.{Mem, Took, value_at}
-use Rattle.papaya_late.specs.Given.SeizeWords.Plan.{Steps}
-use Rattle.papaya_late.proofs.Given.SeizeRule.Rows.Leaving.{steps_back}
-use Rattle.papaya_late.specs.Given.Tables.Chunks.{is_incremental}
-use Rattle.papaya_late.specs.Given.Tables.declared.node.Node.{Node}
-use Rattle.papaya_late.specs.Given.Tables.declared.setting.Setting.{Setting}
-use Rattle.papaya_late.specs.Given.Tables.declared.table.Table.{Table}
-use Rattle.papaya_late.specs.Given.Resize.Copier.{copier_plan}
-use Rattle.papaya_late.specs.Given.Resize.Sum.{summing}
-use Rattle.papaya_late.specs.Given.Resize.declared.copier.Copier.{Copier}
-use Rattle.papaya_late.specs.Given.Resize.declared.outcome.Outcome.{Outcome}
-use Rattle.papaya_late.specs.Given.Resize.declared.outcome.Outcome.TheVariants as outcome
-use Rattle.papaya_late.specs.Given.Reserves.Reserve.{copied, plan_at, reserve_plan}
-use Rattle.papaya_late.specs.Given.Reserves.declared.reserve.Reserve.{Reserve}
-use Rattle.papaya_late.specs.Given.Reserves.declared.reserve.Reserving.{Reserving}
-use Rattle.papaya_late.specs.Given.Reserves.declared.reserve.Reserving.TheVariants as at
-use Rattle.papaya_late.specs.Given.Rule.Chart.{Chart}
-use Rattle.papaya_late.specs.Given.Rule.Words.{Blocks}
-use Rattle.papaya_late.specs.Given.Points.Measures.{IsBelow}
+use Rattle.papaya_late.specs.Given.SeizeWordsMem.{Mem, Took, value_at}
+use Rattle.papaya_late.specs.Given.SeizeWordsPlan.{Steps}
+use Rattle.papaya_late.proofs.Given.SeizeRuleRows.Leaving.{steps_back}
+use Rattle.papaya_late.specs.Given.TablesChunks.{is_incremental}
+use Rattle.papaya_late.specs.Given.TablesDeclared.node.Node.{Node}
+use Rattle.papaya_late.specs.Given.TablesDeclared.setting.Setting.{Setting}
+use Rattle.papaya_late.specs.Given.TablesDeclared.table.Table.{Table}
+use Rattle.papaya_late.specs.Given.ResizeCopier.{copier_plan}
+use Rattle.papaya_late.specs.Given.ResizeSum.{summing}
+use Rattle.papaya_late.specs.Given.ResizeDeclared.copier.Copier.{Copier}
+use Rattle.papaya_late.specs.Given.ResizeDeclared.outcome.Outcome.{Outcome}
+use Rattle.papaya_late.specs.Given.ResizeDeclared.outcome.Outcome.TheVariants as outcome
+use Rattle.papaya_late.specs.Given.ReservesReserve.{copied, plan_at, reserve_plan}
+use Rattle.papaya_late.specs.Given.ReservesDeclared.reserve.Reserve.{Reserve}
+use Rattle.papaya_late.specs.Given.ReservesDeclared.reserve.Reserving.{Reserving}
+use Rattle.papaya_late.specs.Given.ReservesDeclared.reserve.Reserving.TheVariants as at
+use Rattle.papaya_late.specs.Given.RuleChart.{Chart}
+use Rattle.papaya_late.specs.Given.RuleWords.{Blocks}
+use Rattle.papaya_late.specs.Given.PointsMeasures.{IsBelow}
 use Rattle.papaya_late.specs.ToldReserves.{IsRowOfReserve}
 use Rattle.papaya_falls.specs.FallsWithin.{GoesFurther}
 use Rattle.papaya_falls.specs.Reserves.{number_of_reserve}

@@ -1,38 +1,38 @@
 -- Each step of a lookup writes nothing, and leaves fewer tables, or fewer tries at the same one.
 use Rattle.std.specs.Prelude.{◌/◌, ◌==◌, if◌then◌else◌, Option, None, Some}
 use Rattle.std.proofs.Common.{◌≡◌, ℕ, suc, ◌-◌, Bool, true, false, inl, inr, ap, sym, subst, arith}
-use Rattle.papaya_late.specs.Given.SeizeWords.declared.at.At.TheVariants.{Root}
-use Rattle.papaya_late.specs.Given.SeizeWords.Mem.{Mem, Took, value_at}
-use Rattle.papaya_late.specs.Given.SeizeWords.Plan.{Now, Seeing, Steps}
-use Rattle.papaya_late.proofs.Given.SeizeWords.OneOwner.Operations.{loaded}
-use Rattle.papaya_late.proofs.Given.SeizeWords.Plans.{ends_if}
-use Rattle.papaya_late.specs.Given.Seize.declared.progress.Progress.{Progress}
-use Rattle.papaya_late.specs.Given.Seize.declared.progress.Progress.TheVariants as progress
-use Rattle.papaya_late.specs.Given.Tables.Chunks.{is_incremental}
-use Rattle.papaya_late.specs.Given.Tables.Finding.{finding, may_name}
-use Rattle.papaya_late.specs.Given.Tables.Nodes.{table_seen}
-use Rattle.papaya_late.specs.Given.Tables.TablePlaces.{at_word}
-use Rattle.papaya_late.specs.Given.Tables.Trials.{first_trial, next_trial, place_tried}
-use Rattle.papaya_late.specs.Given.Tables.declared.finding.Aim.TheVariants.{Looks}
-use Rattle.papaya_late.specs.Given.Tables.declared.finding.Finding.{Finding}
-use Rattle.papaya_late.specs.Given.Tables.declared.finding.Finding.TheVariants as is
-use Rattle.papaya_late.specs.Given.Tables.declared.node.Node.{Node}
-use Rattle.papaya_late.specs.Given.Tables.declared.setting.Setting.{Setting}
-use Rattle.papaya_late.specs.Given.Tables.declared.table.Table.{Table}
-use Rattle.papaya_late.specs.Given.Tables.declared.table_words.TheConstants.{NEXT}
-use Rattle.papaya_late.specs.Given.Tables.declared.trial.Trial.{Trial}
-use Rattle.papaya_late.specs.Given.Resize.Lookup.{going, answered, passed, told_of, told, names_pair, link_found, word_found, plan_at, lookup_plan}
-use Rattle.papaya_late.specs.Given.Resize.declared.lookup.Lookup.{Lookup}
-use Rattle.papaya_late.specs.Given.Resize.declared.lookup.Looking.{Looking}
-use Rattle.papaya_late.specs.Given.Resize.declared.lookup.Looking.TheVariants as at
-use Rattle.papaya_late.specs.Given.Rule.Chart.{Chart}
-use Rattle.papaya_late.specs.Given.Rule.Maps.{IsTrial}
-use Rattle.papaya_late.specs.Given.Rule.Words.{Blocks}
-use Rattle.papaya_late.proofs.Given.Rule.Keys.TriesSeen.{IsNext, next_is}
-use Rattle.papaya_late.proofs.Given.Rule.Words.LinksRead.{link_ends}
-use Rattle.papaya_late.proofs.Given.Rule.Words.LinksSeen.{next_leads}
-use Rattle.papaya_late.specs.Given.Points.Measures.{IsBelow}
-use Rattle.papaya_late.specs.Given.Points.MeasuresLooks.{number_at_looking, number_of_lookup}
+use Rattle.papaya_late.specs.Given.SeizeWordsDeclared.at.At.TheVariants.{Root}
+use Rattle.papaya_late.specs.Given.SeizeWordsMem.{Mem, Took, value_at}
+use Rattle.papaya_late.specs.Given.SeizeWordsPlan.{Now, Seeing, Steps}
+use Rattle.papaya_late.proofs.Given.SeizeWordsOneOwner.Operations.{loaded}
+use Rattle.papaya_late.proofs.Given.SeizeWordsPlans.{ends_if}
+use Rattle.papaya_late.specs.Given.SeizeDeclared.progress.Progress.{Progress}
+use Rattle.papaya_late.specs.Given.SeizeDeclared.progress.Progress.TheVariants as progress
+use Rattle.papaya_late.specs.Given.TablesChunks.{is_incremental}
+use Rattle.papaya_late.specs.Given.TablesFinding.{finding, may_name}
+use Rattle.papaya_late.specs.Given.TablesNodes.{table_seen}
+use Rattle.papaya_late.specs.Given.TablesTablePlaces.{at_word}
+use Rattle.papaya_late.specs.Given.TablesTrials.{first_trial, next_trial, place_tried}
+use Rattle.papaya_late.specs.Given.TablesDeclared.finding.Aim.TheVariants.{Looks}
+use Rattle.papaya_late.specs.Given.TablesDeclared.finding.Finding.{Finding}
+use Rattle.papaya_late.specs.Given.TablesDeclared.finding.Finding.TheVariants as is
+use Rattle.papaya_late.specs.Given.TablesDeclared.node.Node.{Node}
+use Rattle.papaya_late.specs.Given.TablesDeclared.setting.Setting.{Setting}
+use Rattle.papaya_late.specs.Given.TablesDeclared.table.Table.{Table}
+use Rattle.papaya_late.specs.Given.TablesDeclared.table_words.TheConstants.{NEXT}
+use Rattle.papaya_late.specs.Given.TablesDeclared.trial.Trial.{Trial}
+use Rattle.papaya_late.specs.Given.ResizeLookup.{going, answered, passed, told_of, told, names_pair, link_found, word_found, plan_at, lookup_plan}
+use Rattle.papaya_late.specs.Given.ResizeDeclared.lookup.Lookup.{Lookup}
+use Rattle.papaya_late.specs.Given.ResizeDeclared.lookup.Looking.{Looking}
+use Rattle.papaya_late.specs.Given.ResizeDeclared.lookup.Looking.TheVariants as at
+use Rattle.papaya_late.specs.Given.RuleChart.{Chart}
+use Rattle.papaya_late.specs.Given.RuleMaps.{IsTrial}
+use Rattle.papaya_late.specs.Given.RuleWords.{Blocks}
+use Rattle.papaya_late.proofs.Given.RuleKeys.TriesSeen.{IsNext, next_is}
+use Rattle.papaya_late.proofs.Given.RuleWords.LinksRead.{link_ends}
+use Rattle.papaya_late.proofs.Given.RuleWords.LinksSeen.{next_leads}
+use Rattle.papaya_late.specs.Given.PointsMeasures.{IsBelow}
+use Rattle.papaya_late.specs.Given.PointsMeasuresLooks.{number_at_looking, number_of_lookup}
 use Rattle.papaya_falls.proofs.Kept.{keeps_still}
 use Rattle.papaya_falls.proofs.Onward.{Onward, past_kept}
 use Rattle.papaya_falls.proofs.Stands.{LookingStands}

@@ -2,31 +2,31 @@
 use Rattle.std.specs.Prelude.{◌≢◌, cond, Option, Some, None}
 use Rattle.std.proofs.Common.{◌≡◌, ℕ, suc, ◌<◌, ◌≤◌, Bool, true, false, List, [], ◌⊎◌, inl, inr, refl, arith, ap, sym, subst, ◌∙◌}
 use Rattle.std.proofs.lemmas.Bool.{cases_lt, ne_eqb}
-use Rattle.papaya_alone.specs.Given.SeizeWords.declared.at.At.TheVariants.{Used}
-use Rattle.papaya_alone.specs.Given.SeizeWords.Mem.{word_at}
-use Rattle.papaya_alone.specs.Given.Seize.Law.{Ended, where_is, is_orphan, is_over, is_standing, owner_of}
-use Rattle.papaya_alone.specs.Given.Seize.World.{World, IsOnto, Ends, Happens, with_at, with_effect}
-use Rattle.papaya_alone.proofs.Given.SeizeAlone.Histories.Further.{behind_it}
-use Rattle.papaya_alone.proofs.Given.SeizeAlone.Histories.Reached.{Reached}
-use Rattle.papaya_alone.specs.Given.Tables.Chunks.{is_incremental}
-use Rattle.papaya_alone.specs.Given.Tables.Nodes.{deferred_word}
-use Rattle.papaya_alone.specs.Given.Tables.declared.node.Node.{Node}
-use Rattle.papaya_alone.specs.Given.Tables.declared.node.Node.TheVariants as node
-use Rattle.papaya_alone.specs.Given.Rule.Chart.{Claimed}
-use Rattle.papaya_alone.proofs.Given.Rule.Laws.{current_is_known}
-use Rattle.papaya_alone.specs.Given.Points.FactsCopies.{HasDone, ClaimsNone}
-use Rattle.papaya_alone.specs.Given.Points.FactsCopiesBlocking.{HasNoShares}
+use Rattle.papaya_alone.specs.Given.SeizeWordsDeclared.at.At.TheVariants.{Used}
+use Rattle.papaya_alone.specs.Given.SeizeWordsMem.{word_at}
+use Rattle.papaya_alone.specs.Given.SeizeLaw.{Ended, where_is, is_orphan, is_over, is_standing, owner_of}
+use Rattle.papaya_alone.specs.Given.SeizeWorld.{World, IsOnto, Ends, Happens, with_at, with_effect}
+use Rattle.papaya_alone.proofs.Given.SeizeAloneHistories.Further.{behind_it}
+use Rattle.papaya_alone.proofs.Given.SeizeAloneHistories.Reached.{Reached}
+use Rattle.papaya_alone.specs.Given.TablesChunks.{is_incremental}
+use Rattle.papaya_alone.specs.Given.TablesNodes.{deferred_word}
+use Rattle.papaya_alone.specs.Given.TablesDeclared.node.Node.{Node}
+use Rattle.papaya_alone.specs.Given.TablesDeclared.node.Node.TheVariants as node
+use Rattle.papaya_alone.specs.Given.RuleChart.{Claimed}
+use Rattle.papaya_alone.proofs.Given.RuleLaws.{current_is_known}
+use Rattle.papaya_alone.specs.Given.PointsFactsCopies.{HasDone, ClaimsNone}
+use Rattle.papaya_alone.specs.Given.PointsFactsCopiesBlocking.{HasNoShares}
 use Rattle.papaya_finishes.specs.Makings.{Beginning, HasTaken, HasMade}
 use Rattle.papaya_finishes.specs.Maps.{Standing}
-use Rattle.papaya_alone.specs.Given.Callers.Together.{UnderWay, CameAbout, in_slot, Together}
+use Rattle.papaya_alone.specs.Given.CallersTogether.{UnderWay, CameAbout, in_slot, Together}
 use Rattle.papaya_finishes.proofs.Beside.Endings.Begins.{without_it, makings_stand_without}
 use Rattle.papaya_finishes.proofs.Beside.Makings.Steps.{one_made, two_made}
 use Rattle.papaya_finishes.proofs.Beside.Maps.All.{one_of}
-use Rattle.papaya_alone.proofs.Given.Callers.Rows.Defers.{used_stands}
-use Rattle.papaya_alone.proofs.Given.Callers.Together.Came.{came_reached, came_next, none_onto_pair}
+use Rattle.papaya_alone.proofs.Given.CallersRows.Defers.{used_stands}
+use Rattle.papaya_alone.proofs.Given.CallersTogether.Came.{came_reached, came_next, none_onto_pair}
 use Rattle.papaya_finishes.specs.Endings.{Finishing, HasCounter, AllPairsOnce, FinishingFacts, finishing_of, EndingsTogether, NoEndingsBegin, EndingsBegin}
 use Rattle.papaya_finishes.specs.FactsEnds.{HasBehind, StandsFree, MayEnd}
-use Rattle.papaya_alone.specs.Given.Points.Steps.{AreLawful}
+use Rattle.papaya_alone.specs.Given.PointsSteps.{AreLawful}
 use Rattle.papaya_finishes.proofs.Among.LeftAlone.{table_counter, pair_counter, facts_alone}
 use Rattle.papaya_finishes.proofs.Ends.Lasts.{IsLeftAlone}
 use Rattle.papaya_finishes.proofs.Ends.OrdersOn.{before_none}

@@ -1,12 +1,12 @@
 -- Ends of maps go on as they were where somebody else has taken a step that spares them.
 use Rattle.std.specs.Prelude.{◌≢◌, Option, Some, None}
 use Rattle.std.proofs.Common.{◌≡◌, ℕ, zero, suc, Bool, refl, arith, ap, ◌∙◌}
-use Rattle.papaya_alone.specs.Given.Seize.World.{World, times}
-use Rattle.papaya_alone.specs.Given.Tables.declared.node.Node.{Node}
-use Rattle.papaya_alone.specs.Given.Tables.declared.setting.Setting.{Setting}
+use Rattle.papaya_alone.specs.Given.SeizeWorld.{World, times}
+use Rattle.papaya_alone.specs.Given.TablesDeclared.node.Node.{Node}
+use Rattle.papaya_alone.specs.Given.TablesDeclared.setting.Setting.{Setting}
 use Rattle.papaya_finishes.specs.Makings.{Beginning, HasTaken, HasMade, MakingsTogether}
 use Rattle.papaya_finishes.specs.Maps.{Standing}
-use Rattle.papaya_alone.specs.Given.Callers.Together.{UnderWay}
+use Rattle.papaya_alone.specs.Given.CallersTogether.{UnderWay}
 use Rattle.papaya_finishes.proofs.Beside.Endings.Spares.{SparesEnd}
 use Rattle.papaya_finishes.specs.Endings.{Finishing, HasCounter, EndingsTogether}
 use Rattle.papaya_finishes.proofs.Among.LeftAlone.{facts_on}

@@ -1,16 +1,16 @@
 -- A step of a call on a map that stands, or a reply to one, spares each end of another one.
 use Rattle.std.specs.Prelude.{◌≢◌, Option, Some, None}
 use Rattle.std.proofs.Common.{◌≡◌, ℕ, Bool, ap, sym, subst, ◌∙◌}
-use Rattle.papaya_alone.specs.Given.SeizeWords.Mem.{Mem}
-use Rattle.papaya_alone.specs.Given.Seize.World.{World, IsInside}
-use Rattle.papaya_alone.specs.Given.Tables.declared.node.Node.{Node}
-use Rattle.papaya_alone.specs.Given.Rule.Chart.{Chart}
-use Rattle.papaya_alone.specs.Given.Rule.InWorld.{Went}
-use Rattle.papaya_alone.specs.Given.Rule.Words.{Blocks}
+use Rattle.papaya_alone.specs.Given.SeizeWordsMem.{Mem}
+use Rattle.papaya_alone.specs.Given.SeizeWorld.{World, IsInside}
+use Rattle.papaya_alone.specs.Given.TablesDeclared.node.Node.{Node}
+use Rattle.papaya_alone.specs.Given.RuleChart.{Chart}
+use Rattle.papaya_alone.specs.Given.RuleInWorld.{Went}
+use Rattle.papaya_alone.specs.Given.RuleWords.{Blocks}
 use Rattle.papaya_finishes.specs.Makings.{Beginning, MakingsTogether}
 use Rattle.papaya_finishes.specs.Maps.{Standing, with_call}
-use Rattle.papaya_alone.specs.Given.Callers.Sights.{seen_by}
-use Rattle.papaya_alone.specs.Given.Callers.Together.{OnKey, UnderWay, in_slot}
+use Rattle.papaya_alone.specs.Given.CallersSights.{seen_by}
+use Rattle.papaya_alone.specs.Given.CallersTogether.{OnKey, UnderWay, in_slot}
 use Rattle.papaya_finishes.proofs.Beside.Endings.Calls.{call_spares_end}
 use Rattle.papaya_finishes.proofs.Beside.Endings.Spares.{SparesEnd}
 use Rattle.papaya_finishes.proofs.Beside.Makings.CallSteps.{call_elsewhere, calls_stand_beside, replies_stand_beside, calls_begin_beside, settings}

@@ -1,14 +1,14 @@
 -- A choice of a free block number leaves each map, each making and each end as it was.
 use Rattle.std.specs.Prelude.{ℕ, Bool, [], ◌∷◌, ◌++◌, Option, Some}
 use Rattle.std.proofs.Common.{◌≡◌, refl, sym, subst}
-use Rattle.papaya_alone.specs.Given.Seize.World.{World, Chooses}
-use Rattle.papaya_alone.specs.Given.Tables.declared.node.Node.{Node}
-use Rattle.papaya_alone.specs.Given.Tables.declared.setting.Setting.{Setting}
-use Rattle.papaya_alone.specs.Given.Rule.Chart.{Chart}
-use Rattle.papaya_alone.specs.Given.Rule.InWorld.{KeepsBlocks}
-use Rattle.papaya_alone.specs.Given.Rule.Words.{Blocks}
-use Rattle.papaya_alone.specs.Given.Callers.Together.{UnderWay, CameAbout, Together}
-use Rattle.papaya_alone.proofs.Given.Callers.Together.Came.{came_next}
+use Rattle.papaya_alone.specs.Given.SeizeWorld.{World, Chooses}
+use Rattle.papaya_alone.specs.Given.TablesDeclared.node.Node.{Node}
+use Rattle.papaya_alone.specs.Given.TablesDeclared.setting.Setting.{Setting}
+use Rattle.papaya_alone.specs.Given.RuleChart.{Chart}
+use Rattle.papaya_alone.specs.Given.RuleInWorld.{KeepsBlocks}
+use Rattle.papaya_alone.specs.Given.RuleWords.{Blocks}
+use Rattle.papaya_alone.specs.Given.CallersTogether.{UnderWay, CameAbout, Together}
+use Rattle.papaya_alone.proofs.Given.CallersTogether.Came.{came_next}
 use Rattle.papaya_finishes.specs.Choices.{ChoicesStandAmong}
 use Rattle.papaya_finishes.specs.Endings.{Finishing, EndingsTogether}
 use Rattle.papaya_finishes.specs.Makings.{Beginning, MakingsTogether}

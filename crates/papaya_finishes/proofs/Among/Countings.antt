@@ -3,8 +3,8 @@ use Rattle.std.proofs.Common.{ℕ, Bool, ap, sym, ◌∙◌}
 use Rattle.papaya_finishes.proofs.Beside.Makings.CallSteps.{makings_with_call, no_maker}
 use Rattle.papaya_finishes.proofs.Beside.Maps.All.{maps_with_call}
 use Rattle.papaya_finishes.proofs.Beside.Maps.Steps.{no_other}
-use Rattle.papaya_alone.specs.Given.Callers.Together.{Counting}
-use Rattle.papaya_alone.proofs.Given.Callers.Together.Countings.{countings_begin_together, countings_stand_together}
+use Rattle.papaya_alone.specs.Given.CallersTogether.{Counting}
+use Rattle.papaya_alone.proofs.Given.CallersTogether.Countings.{countings_begin_together, countings_stand_together}
 use Rattle.papaya_finishes.specs.Countings.{CountingsBeginAmong, CountingsStandAmong}
 use Rattle.papaya_finishes.proofs.Among.Calls.{no_ender, endings_with_call}
 

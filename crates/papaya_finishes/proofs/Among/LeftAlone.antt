@@ -2,22 +2,22 @@
 use Rattle.std.specs.Prelude.{◌≢◌, cond, map, Some}
 use Rattle.std.proofs.Common.{◌≡◌, ℕ, ◌<◌, ◌≤◌, Bool, true, false, List, [], ◌∷◌, inl, inr, refl, arith, ap, sym, subst, ◌∙◌}
 use Rattle.std.proofs.lemmas.Bool.{cases_lt}
-use Rattle.papaya_alone.specs.Given.SeizeWords.Mem.{Mem, value_at, word_at}
-use Rattle.papaya_alone.specs.Given.SeizeWords.declared.at.At.TheVariants.{Root, Used}
-use Rattle.papaya_alone.specs.Given.Seize.World.{World, times}
-use Rattle.papaya_alone.specs.Given.Tables.Chunks.{is_incremental}
-use Rattle.papaya_alone.proofs.Given.Tables.Lists.{its_list}
-use Rattle.papaya_alone.specs.Given.Tables.Nodes.{deferred_word}
-use Rattle.papaya_alone.specs.Given.Tables.declared.node.Node.{Node}
-use Rattle.papaya_alone.specs.Given.Tables.declared.table_words.TheConstants.{DEFERRED}
-use Rattle.papaya_alone.specs.Given.Raw.declared.machines.end_map.Ending.{Ending}
-use Rattle.papaya_alone.specs.Given.Raw.declared.machines.end_map.Ending.TheVariants as at
-use Rattle.papaya_alone.specs.Given.Tables.declared.setting.Setting.{Setting}
-use Rattle.papaya_alone.specs.Given.Rule.Chart.{Chart}
-use Rattle.papaya_alone.specs.Given.Rule.Words.{Blocks, root_word}
-use Rattle.papaya_alone.specs.Given.Callers.Kept.{IsMaking, IsPair}
-use Rattle.papaya_alone.specs.Given.Callers.Together.{CameAbout}
-use Rattle.papaya_alone.proofs.Given.Callers.Rows.Behind.{pair_on}
+use Rattle.papaya_alone.specs.Given.SeizeWordsMem.{Mem, value_at, word_at}
+use Rattle.papaya_alone.specs.Given.SeizeWordsDeclared.at.At.TheVariants.{Root, Used}
+use Rattle.papaya_alone.specs.Given.SeizeWorld.{World, times}
+use Rattle.papaya_alone.specs.Given.TablesChunks.{is_incremental}
+use Rattle.papaya_alone.proofs.Given.TablesLists.{its_list}
+use Rattle.papaya_alone.specs.Given.TablesNodes.{deferred_word}
+use Rattle.papaya_alone.specs.Given.TablesDeclared.node.Node.{Node}
+use Rattle.papaya_alone.specs.Given.TablesDeclared.table_words.TheConstants.{DEFERRED}
+use Rattle.papaya_alone.specs.Given.RawDeclared.machines.end_map.Ending.{Ending}
+use Rattle.papaya_alone.specs.Given.RawDeclared.machines.end_map.Ending.TheVariants as at
+use Rattle.papaya_alone.specs.Given.TablesDeclared.setting.Setting.{Setting}
+use Rattle.papaya_alone.specs.Given.RuleChart.{Chart}
+use Rattle.papaya_alone.specs.Given.RuleWords.{Blocks, root_word}
+use Rattle.papaya_alone.specs.Given.CallersKept.{IsMaking, IsPair}
+use Rattle.papaya_alone.specs.Given.CallersTogether.{CameAbout}
+use Rattle.papaya_alone.proofs.Given.CallersRows.Behind.{pair_on}
 use Rattle.papaya_finishes.proofs.Beside.Endings.Spares.{IsUsedOf, IsSpared, SparesEnd}
 use Rattle.papaya_finishes.specs.Endings.{Finishing, HasCounter, FinishingFacts}
 use Rattle.papaya_finishes.specs.FactsEnds.{RootAt, CarryTheirs, EndingFacts, back_of, from_table}

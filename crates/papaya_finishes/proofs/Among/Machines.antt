@@ -1,65 +1,65 @@
 -- The next step of a call under way, whichever its kind, as that of its machine.
 use Rattle.std.specs.Prelude.{◌≡◌, ◌≢◌, ◌⊎◌, ℕ, Bool, Option, Some, None}
 use Rattle.std.proofs.Common.{List, refl, sym, subst, ap, ◌∙◌, inl, inr, arith}
-use Rattle.papaya_alone.specs.Given.SeizeWords.Mem.{Mem, Can, Took, value_at}
-use Rattle.papaya_alone.specs.Given.SeizeWords.declared.fault.Fault.{Fault}
-use Rattle.papaya_alone.specs.Given.SeizeWords.Plan.{Plan, May, Steps, plan_as}
-use Rattle.papaya_alone.proofs.Given.SeizeWords.Plans.{as_may}
-use Rattle.papaya_alone.proofs.Given.SeizeRule.Rows.Leaving.{steps_back}
-use Rattle.papaya_alone.proofs.Given.SeizeRule.Rows.Others.{begins_others, steps_others}
-use Rattle.papaya_alone.specs.Given.Seize.World.{World, Row, Rests, Event, Runs, with_at}
-use Rattle.papaya_alone.specs.Given.Seize.declared.progress.Progress.{Progress as Counted}
-use Rattle.papaya_alone.specs.Given.Seize.declared.progress.Progress.TheVariants as counted
-use Rattle.papaya_alone.specs.Given.Tables.Chunks.{is_incremental}
-use Rattle.papaya_alone.specs.Given.Tables.Nodes.{deferred_word}
-use Rattle.papaya_alone.specs.Given.Tables.declared.node.Node.{Node}
-use Rattle.papaya_alone.specs.Given.Tables.declared.setting.Setting.{Setting}
-use Rattle.papaya_alone.specs.Given.Resize.Sum.{sum_plan}
-use Rattle.papaya_alone.specs.Given.Resize.declared.copier.Copying.{Copying}
-use Rattle.papaya_alone.specs.Given.Resize.declared.copier.Copying.TheVariants as copies
-use Rattle.papaya_alone.specs.Given.Resize.declared.dispose.Disposing.{Disposing}
-use Rattle.papaya_alone.specs.Given.Resize.declared.dispose.Disposing.TheVariants as disposes
-use Rattle.papaya_alone.specs.Given.Resize.declared.outcome.Outcome.{Outcome}
-use Rattle.papaya_alone.specs.Given.Resize.declared.outcome.Outcome.TheVariants as outcome
-use Rattle.papaya_alone.specs.Given.Resize.declared.sum.Sum.{Sum}
-use Rattle.papaya_alone.specs.Given.Reserves.Reserve.{reserve_plan}
-use Rattle.papaya_alone.specs.Given.Reserves.declared.reserve.Reserve.{Reserve}
-use Rattle.papaya_alone.specs.Given.Reserves.declared.reserve.Reserving.{Reserving}
-use Rattle.papaya_alone.specs.Given.Reserves.declared.reserve.Reserving.TheVariants as reserving
-use Rattle.papaya_alone.specs.Given.Sweeps.Sweep.{sweep_plan}
-use Rattle.papaya_alone.specs.Given.Sweeps.declared.sweep.Sweep.{Sweep}
-use Rattle.papaya_alone.specs.Given.Sweeps.declared.sweep.Sweeping.{Sweeping}
-use Rattle.papaya_alone.specs.Given.Sweeps.declared.sweep.Sweeping.TheVariants as sweeping
-use Rattle.papaya_alone.specs.Given.Sweeps.declared.sweep.Swept.{Swept}
-use Rattle.papaya_alone.specs.Given.Sweeps.declared.sweep.Swept.TheVariants as swept
-use Rattle.papaya_alone.specs.Given.Raw.Call.{call_plan}
-use Rattle.papaya_alone.specs.Given.Raw.Machine as machines
-use Rattle.papaya_alone.specs.Given.Raw.Machine.{machine_plan}
-use Rattle.papaya_alone.specs.Given.Raw.Progress.{of_called, of_outcome, of_swept, of_counting}
-use Rattle.papaya_alone.specs.Given.Raw.declared.machines.answer.Called.{Called}
-use Rattle.papaya_alone.specs.Given.Raw.declared.machines.answer.Called.TheVariants as called
-use Rattle.papaya_alone.specs.Given.Raw.declared.machines.call.KeyCall.{KeyCall}
-use Rattle.papaya_alone.specs.Given.Raw.declared.machines.call.Calling.{Calling}
-use Rattle.papaya_alone.specs.Given.Raw.declared.machines.call.Calling.TheVariants as at
-use Rattle.papaya_alone.specs.Given.Raw.declared.machines.machine.Machine.{Machine}
-use Rattle.papaya_alone.specs.Given.Raw.declared.machines.machine.Machine.TheVariants as kinds
-use Rattle.papaya_alone.specs.Given.Raw.declared.machines.progress.Progress.{Progress}
-use Rattle.papaya_alone.specs.Given.Rule.Chart.{Chart}
-use Rattle.papaya_alone.specs.Given.Rule.InWorld.{AllUsers}
-use Rattle.papaya_alone.specs.Given.Rule.Moments.{Remembers}
-use Rattle.papaya_alone.specs.Given.Points.Told.{IsRowOf, IsRowOfCopier, IsRowOfCall}
-use Rattle.papaya_alone.specs.Given.Late.ToldReserves.{IsRowOfReserve}
-use Rattle.papaya_alone.specs.Given.Late.ToldSweeps.{IsRowOfSweep}
-use Rattle.papaya_alone.proofs.Given.Callers.Sights.Parts.{part_same}
-use Rattle.papaya_alone.specs.Given.Callers.OverAll.{CallOverAll, gone_on}
-use Rattle.papaya_alone.specs.Given.Callers.Rooms.{CallForRoom}
-use Rattle.papaya_alone.specs.Given.Callers.Rows.{LeavesSlots}
-use Rattle.papaya_alone.specs.Given.Callers.Sights.{seen_by}
-use Rattle.papaya_alone.specs.Given.Callers.Together.{UnderWay, OnKey, ForRoom, Counting, OverAll, CallOnKey, Stands, IsOneStep, next_of, next_for_room, next_of_counting, next_over_all}
+use Rattle.papaya_alone.specs.Given.SeizeWordsMem.{Mem, Can, Took, value_at}
+use Rattle.papaya_alone.specs.Given.SeizeWordsDeclared.fault.Fault.{Fault}
+use Rattle.papaya_alone.specs.Given.SeizeWordsPlan.{Plan, May, Steps, plan_as}
+use Rattle.papaya_alone.proofs.Given.SeizeWordsPlans.{as_may}
+use Rattle.papaya_alone.proofs.Given.SeizeRuleRows.Leaving.{steps_back}
+use Rattle.papaya_alone.proofs.Given.SeizeRuleRows.Others.{begins_others, steps_others}
+use Rattle.papaya_alone.specs.Given.SeizeWorld.{World, Row, Rests, Event, Runs, with_at}
+use Rattle.papaya_alone.specs.Given.SeizeDeclared.progress.Progress.{Progress as Counted}
+use Rattle.papaya_alone.specs.Given.SeizeDeclared.progress.Progress.TheVariants as counted
+use Rattle.papaya_alone.specs.Given.TablesChunks.{is_incremental}
+use Rattle.papaya_alone.specs.Given.TablesNodes.{deferred_word}
+use Rattle.papaya_alone.specs.Given.TablesDeclared.node.Node.{Node}
+use Rattle.papaya_alone.specs.Given.TablesDeclared.setting.Setting.{Setting}
+use Rattle.papaya_alone.specs.Given.ResizeSum.{sum_plan}
+use Rattle.papaya_alone.specs.Given.ResizeDeclared.copier.Copying.{Copying}
+use Rattle.papaya_alone.specs.Given.ResizeDeclared.copier.Copying.TheVariants as copies
+use Rattle.papaya_alone.specs.Given.ResizeDeclared.dispose.Disposing.{Disposing}
+use Rattle.papaya_alone.specs.Given.ResizeDeclared.dispose.Disposing.TheVariants as disposes
+use Rattle.papaya_alone.specs.Given.ResizeDeclared.outcome.Outcome.{Outcome}
+use Rattle.papaya_alone.specs.Given.ResizeDeclared.outcome.Outcome.TheVariants as outcome
+use Rattle.papaya_alone.specs.Given.ResizeDeclared.sum.Sum.{Sum}
+use Rattle.papaya_alone.specs.Given.ReservesReserve.{reserve_plan}
+use Rattle.papaya_alone.specs.Given.ReservesDeclared.reserve.Reserve.{Reserve}
+use Rattle.papaya_alone.specs.Given.ReservesDeclared.reserve.Reserving.{Reserving}
+use Rattle.papaya_alone.specs.Given.ReservesDeclared.reserve.Reserving.TheVariants as reserving
+use Rattle.papaya_alone.specs.Given.SweepsSweep.{sweep_plan}
+use Rattle.papaya_alone.specs.Given.SweepsDeclared.sweep.Sweep.{Sweep}
+use Rattle.papaya_alone.specs.Given.SweepsDeclared.sweep.Sweeping.{Sweeping}
+use Rattle.papaya_alone.specs.Given.SweepsDeclared.sweep.Sweeping.TheVariants as sweeping
+use Rattle.papaya_alone.specs.Given.SweepsDeclared.sweep.Swept.{Swept}
+use Rattle.papaya_alone.specs.Given.SweepsDeclared.sweep.Swept.TheVariants as swept
+use Rattle.papaya_alone.specs.Given.RawCall.{call_plan}
+use Rattle.papaya_alone.specs.Given.RawMachine as machines
+use Rattle.papaya_alone.specs.Given.RawMachine.{machine_plan}
+use Rattle.papaya_alone.specs.Given.RawProgress.{of_called, of_outcome, of_swept, of_counting}
+use Rattle.papaya_alone.specs.Given.RawDeclared.machines.answer.Called.{Called}
+use Rattle.papaya_alone.specs.Given.RawDeclared.machines.answer.Called.TheVariants as called
+use Rattle.papaya_alone.specs.Given.RawDeclared.machines.call.KeyCall.{KeyCall}
+use Rattle.papaya_alone.specs.Given.RawDeclared.machines.call.Calling.{Calling}
+use Rattle.papaya_alone.specs.Given.RawDeclared.machines.call.Calling.TheVariants as at
+use Rattle.papaya_alone.specs.Given.RawDeclared.machines.machine.Machine.{Machine}
+use Rattle.papaya_alone.specs.Given.RawDeclared.machines.machine.Machine.TheVariants as kinds
+use Rattle.papaya_alone.specs.Given.RawDeclared.machines.progress.Progress.{Progress}
+use Rattle.papaya_alone.specs.Given.RuleChart.{Chart}
+use Rattle.papaya_alone.specs.Given.RuleInWorld.{AllUsers}
+use Rattle.papaya_alone.specs.Given.RuleMoments.{Remembers}
+use Rattle.papaya_alone.specs.Given.PointsTold.{IsRowOf, IsRowOfCopier, IsRowOfCall}
+use Rattle.papaya_alone.specs.Given.LateToldReserves.{IsRowOfReserve}
+use Rattle.papaya_alone.specs.Given.LateToldSweeps.{IsRowOfSweep}
+use Rattle.papaya_alone.proofs.Given.CallersSights.Parts.{part_same}
+use Rattle.papaya_alone.specs.Given.CallersOverAll.{CallOverAll, gone_on}
+use Rattle.papaya_alone.specs.Given.CallersRooms.{CallForRoom}
+use Rattle.papaya_alone.specs.Given.CallersRows.{LeavesSlots}
+use Rattle.papaya_alone.specs.Given.CallersSights.{seen_by}
+use Rattle.papaya_alone.specs.Given.CallersTogether.{UnderWay, OnKey, ForRoom, Counting, OverAll, CallOnKey, Stands, IsOneStep, next_of, next_for_room, next_of_counting, next_over_all}
 use Rattle.papaya_finishes.specs.Makings.{Beginning}
 use Rattle.papaya_finishes.specs.Maps.{Standing, IsSameMap, with_call}
-use Rattle.papaya_alone.proofs.Given.Callers.Together.At.{at_other, at_same}
-use Rattle.papaya_alone.proofs.Given.Callers.Together.Slots.{alike_same, all_between, between_rows, between_slots}
+use Rattle.papaya_alone.proofs.Given.CallersTogether.At.{at_other, at_same}
+use Rattle.papaya_alone.proofs.Given.CallersTogether.Slots.{alike_same, all_between, between_rows, between_slots}
 use Rattle.papaya_finishes.specs.Endings.{Finishing, EndingsTogether, StepsAmong, RowStepsAmong}
 use Rattle.papaya_finishes.specs.Rooms.{RoomStepsAmong, RoomRowsAmong}
 use Rattle.papaya_finishes.specs.Sweeps.{SweepStepsAmong, SweepRowsAmong}

@@ -1,25 +1,25 @@
 -- A call under way is told something as the machine that it is, or asked for the next pair: all stand together.
 use Rattle.std.specs.Prelude.{◌≡◌, ℕ, Bool, true, false, Option, Some}
 use Rattle.std.proofs.Common.{refl, ap, sym, subst, ◌∙◌, inl, inr}
-use Rattle.papaya_alone.specs.Given.Seize.World.{World, with_at}
-use Rattle.papaya_alone.proofs.Given.SeizeRule.Rows.Leaving.{with_same}
-use Rattle.papaya_alone.specs.Given.Tables.declared.node.Node.{Node}
-use Rattle.papaya_alone.specs.Given.Sweeps.SweepPoints.{after_next}
-use Rattle.papaya_alone.specs.Given.Sweeps.declared.sweep.Sweeping.{Sweeping}
-use Rattle.papaya_alone.specs.Given.Sweeps.declared.sweep.Sweeping.TheVariants as sweeping
-use Rattle.papaya_alone.specs.Given.Raw.CallAsks.{told_at}
-use Rattle.papaya_alone.specs.Given.Raw.Machine.{sweep_told, machine_replied}
-use Rattle.papaya_alone.specs.Given.Raw.declared.machines.asking.Asking.{Asking}
-use Rattle.papaya_alone.specs.Given.Raw.declared.machines.asking.Reply.{Reply}
-use Rattle.papaya_alone.specs.Given.Raw.declared.machines.asking.Reply.TheVariants as reply
-use Rattle.papaya_alone.specs.Given.Raw.declared.machines.call.Calling.{Calling}
-use Rattle.papaya_alone.specs.Given.Raw.declared.machines.call.Calling.TheVariants as at
-use Rattle.papaya_alone.specs.Given.Raw.declared.machines.machine.Machine.{Machine}
-use Rattle.papaya_alone.specs.Given.Raw.declared.machines.machine.Machine.TheVariants as kinds
-use Rattle.papaya_alone.specs.Given.Callers.OverAll.{CallOverAll, gone_on, told_of}
-use Rattle.papaya_alone.specs.Given.Callers.Sights.{seen_by}
-use Rattle.papaya_alone.specs.Given.Callers.Sweeps.{TakesTold}
-use Rattle.papaya_alone.specs.Given.Callers.Together.{UnderWay, OnKey, ForRoom, Counting, OverAll, CallOnKey, told_about}
+use Rattle.papaya_alone.specs.Given.SeizeWorld.{World, with_at}
+use Rattle.papaya_alone.proofs.Given.SeizeRuleRows.Leaving.{with_same}
+use Rattle.papaya_alone.specs.Given.TablesDeclared.node.Node.{Node}
+use Rattle.papaya_alone.specs.Given.SweepsSweepPoints.{after_next}
+use Rattle.papaya_alone.specs.Given.SweepsDeclared.sweep.Sweeping.{Sweeping}
+use Rattle.papaya_alone.specs.Given.SweepsDeclared.sweep.Sweeping.TheVariants as sweeping
+use Rattle.papaya_alone.specs.Given.RawCallAsks.{told_at}
+use Rattle.papaya_alone.specs.Given.RawMachine.{sweep_told, machine_replied}
+use Rattle.papaya_alone.specs.Given.RawDeclared.machines.asking.Asking.{Asking}
+use Rattle.papaya_alone.specs.Given.RawDeclared.machines.asking.Reply.{Reply}
+use Rattle.papaya_alone.specs.Given.RawDeclared.machines.asking.Reply.TheVariants as reply
+use Rattle.papaya_alone.specs.Given.RawDeclared.machines.call.Calling.{Calling}
+use Rattle.papaya_alone.specs.Given.RawDeclared.machines.call.Calling.TheVariants as at
+use Rattle.papaya_alone.specs.Given.RawDeclared.machines.machine.Machine.{Machine}
+use Rattle.papaya_alone.specs.Given.RawDeclared.machines.machine.Machine.TheVariants as kinds
+use Rattle.papaya_alone.specs.Given.CallersOverAll.{CallOverAll, gone_on, told_of}
+use Rattle.papaya_alone.specs.Given.CallersSights.{seen_by}
+use Rattle.papaya_alone.specs.Given.CallersSweeps.{TakesTold}
+use Rattle.papaya_alone.specs.Given.CallersTogether.{UnderWay, OnKey, ForRoom, Counting, OverAll, CallOnKey, told_about}
 use Rattle.papaya_finishes.specs.Makings.{Beginning}
 use Rattle.papaya_finishes.specs.Maps.{Standing, with_call}
 use Rattle.papaya_finishes.specs.Endings.{Finishing, EndingsTogether}

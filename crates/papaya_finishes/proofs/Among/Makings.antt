@@ -1,24 +1,24 @@
 -- A step of a making spares each end of a map, and takes neither its root nor its counter.
 use Rattle.std.specs.Prelude.{◌≢◌, Option, Some, None}
 use Rattle.std.proofs.Common.{◌≡◌, ℕ, zero, suc, Bool, refl, arith, ap, sym, subst, ◌∙◌, inl, inr}
-use Rattle.papaya_alone.specs.Given.SeizeWords.declared.at.At.TheVariants.{Used}
-use Rattle.papaya_alone.specs.Given.SeizeWords.Mem.{Mem, value_at, word_at}
-use Rattle.papaya_alone.specs.Given.Seize.World.{World, times, with_at}
-use Rattle.papaya_alone.specs.Given.Seize.declared.progress.Progress.{Progress}
-use Rattle.papaya_alone.specs.Given.Seize.declared.progress.Progress.TheVariants as progress
-use Rattle.papaya_alone.specs.Given.Tables.declared.node.Node.{Node}
-use Rattle.papaya_alone.specs.Given.Tables.declared.setting.Setting.{Setting}
-use Rattle.papaya_alone.specs.Given.Resize.declared.new_map.NewMap.{NewMap}
+use Rattle.papaya_alone.specs.Given.SeizeWordsDeclared.at.At.TheVariants.{Used}
+use Rattle.papaya_alone.specs.Given.SeizeWordsMem.{Mem, value_at, word_at}
+use Rattle.papaya_alone.specs.Given.SeizeWorld.{World, times, with_at}
+use Rattle.papaya_alone.specs.Given.SeizeDeclared.progress.Progress.{Progress}
+use Rattle.papaya_alone.specs.Given.SeizeDeclared.progress.Progress.TheVariants as progress
+use Rattle.papaya_alone.specs.Given.TablesDeclared.node.Node.{Node}
+use Rattle.papaya_alone.specs.Given.TablesDeclared.setting.Setting.{Setting}
+use Rattle.papaya_alone.specs.Given.ResizeDeclared.new_map.NewMap.{NewMap}
 use Rattle.papaya_finishes.specs.Makings.{Beginning, HasTaken, HasMade, MakingsTogether, MakingTold}
 use Rattle.papaya_finishes.specs.Maps.{Standing}
-use Rattle.papaya_alone.specs.Given.Callers.Together.{UnderWay}
+use Rattle.papaya_alone.specs.Given.CallersTogether.{UnderWay}
 use Rattle.papaya_finishes.proofs.Beside.Endings.Makings.{making_spares_end}
 use Rattle.papaya_finishes.proofs.Beside.Makings.Promised.{makings_went}
 use Rattle.papaya_finishes.proofs.Beside.Makings.Steps.{one_made, making_leads}
 use Rattle.papaya_finishes.proofs.Beside.Makings.Went.{IsOwnRoot, IsOwnCounter, GoesTo, MakingWent}
 use Rattle.papaya_finishes.proofs.Beside.Maps.All.{one_of}
 use Rattle.papaya_finishes.proofs.Beside.Maps.Comes.{each_at}
-use Rattle.papaya_alone.proofs.Given.Callers.Together.At.{at_other}
+use Rattle.papaya_alone.proofs.Given.CallersTogether.At.{at_other}
 use Rattle.papaya_finishes.specs.Endings.{Finishing, HasCounter, EndingsTogether, MakingsBeginAmong, MakingToldAmong, MakingStepsAmong, MakingsStandAmong}
 use Rattle.papaya_finishes.proofs.Among.Beside.{IsSparedEnd, endings_on}
 use Rattle.papaya_finishes.proofs.Among.LeftAlone.{root_taken}

@@ -2,18 +2,18 @@
 use Rattle.std.specs.Prelude.{Option, Some, None}
 use Rattle.std.proofs.Common.{◌≡◌, ℕ, ◌≤◌, Bool, true, List, [], ◌∷◌, ◌++◌, inl, inr, refl, arith, sym, subst, ◌∙◌}
 use Rattle.std.proofs.lemmas.Bool.{cases_eq}
-use Rattle.papaya_alone.specs.Given.SeizeWords.Mem.{Mem}
-use Rattle.papaya_alone.specs.Given.Seize.declared.rows.settle.Settled.{Settled}
-use Rattle.papaya_alone.specs.Given.Seize.declared.rows.settle.Settled.TheVariants as settled
-use Rattle.papaya_alone.specs.Given.Seize.World.{World, Runs, times, with_at}
-use Rattle.papaya_alone.proofs.Given.SeizeAlone.Histories.Uses.{none_held}
-use Rattle.papaya_alone.specs.Given.Tables.Nodes.{deferred_word}
-use Rattle.papaya_alone.specs.Given.Tables.declared.node.Node.{Node}
-use Rattle.papaya_alone.specs.Given.Raw.declared.machines.end_map.EndMap.{EndMap}
-use Rattle.papaya_alone.specs.Given.Raw.declared.machines.end_map.Ending.{Ending}
-use Rattle.papaya_alone.specs.Given.Callers.Together.{UnderWay, CameAbout, Together}
-use Rattle.papaya_alone.proofs.Given.Callers.Together.At.{at_other, at_same}
-use Rattle.papaya_alone.proofs.Given.Callers.Together.Came.{came_on, came_reached}
+use Rattle.papaya_alone.specs.Given.SeizeWordsMem.{Mem}
+use Rattle.papaya_alone.specs.Given.SeizeDeclared.rows.settle.Settled.{Settled}
+use Rattle.papaya_alone.specs.Given.SeizeDeclared.rows.settle.Settled.TheVariants as settled
+use Rattle.papaya_alone.specs.Given.SeizeWorld.{World, Runs, times, with_at}
+use Rattle.papaya_alone.proofs.Given.SeizeAloneHistories.Uses.{none_held}
+use Rattle.papaya_alone.specs.Given.TablesNodes.{deferred_word}
+use Rattle.papaya_alone.specs.Given.TablesDeclared.node.Node.{Node}
+use Rattle.papaya_alone.specs.Given.RawDeclared.machines.end_map.EndMap.{EndMap}
+use Rattle.papaya_alone.specs.Given.RawDeclared.machines.end_map.Ending.{Ending}
+use Rattle.papaya_alone.specs.Given.CallersTogether.{UnderWay, CameAbout, Together}
+use Rattle.papaya_alone.proofs.Given.CallersTogether.At.{at_other, at_same}
+use Rattle.papaya_alone.proofs.Given.CallersTogether.Came.{came_on, came_reached}
 use Rattle.papaya_finishes.specs.Endings.{Finishing, EndingsTogether}
 use Rattle.papaya_finishes.specs.FactsEnds.{events_of, RootIs, MayEnd, EndingFacts, EndFacts, HasEnded, EndTold, EndWent}
 use Rattle.papaya_finishes.specs.Makings.{Beginning, HasRoots}

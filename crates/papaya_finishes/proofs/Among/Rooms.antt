@@ -1,14 +1,14 @@
 -- Reservations among calls, makings and ends of maps.
 use Rattle.std.proofs.Common.{ℕ, Bool, ap, sym, ◌∙◌}
-use Rattle.papaya_alone.specs.Given.Callers.Together.{ForRoom, next_for_room}
+use Rattle.papaya_alone.specs.Given.CallersTogether.{ForRoom, next_for_room}
 use Rattle.papaya_finishes.proofs.Beside.Makings.Beside.{makings_on}
 use Rattle.papaya_finishes.proofs.Beside.Makings.CallSteps.{call_leaves, makings_with_call, no_maker, nones, settings, still_alone}
 use Rattle.papaya_finishes.proofs.Beside.Makings.RowSteps as makings
 use Rattle.papaya_finishes.proofs.Beside.Maps.All.{maps_with_call}
 use Rattle.papaya_finishes.proofs.Beside.Maps.Rows.{row_all_together}
 use Rattle.papaya_finishes.proofs.Beside.Maps.Steps.{all_together, others_stand}
-use Rattle.papaya_alone.proofs.Given.Callers.Together.RoomRows.{room_rows_stand_together}
-use Rattle.papaya_alone.proofs.Given.Callers.Together.Rooms.{rooms_begin_together, rooms_stand_together}
+use Rattle.papaya_alone.proofs.Given.CallersTogether.RoomRows.{room_rows_stand_together}
+use Rattle.papaya_alone.proofs.Given.CallersTogether.Rooms.{rooms_begin_together, rooms_stand_together}
 use Rattle.papaya_finishes.specs.Rooms.{RoomsBeginAmong, RoomsStandAmong, RoomRowsStandAmong}
 use Rattle.papaya_finishes.proofs.Among.Beside.{endings_same}
 use Rattle.papaya_finishes.proofs.Among.Calls.{no_ender, ender_alone, endings_with_call, call_spares}

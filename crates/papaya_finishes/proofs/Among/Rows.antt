@@ -1,12 +1,12 @@
 -- A step of a row, within a call or between calls, spares each end of a map.
 use Rattle.std.specs.Prelude.{Option, Some, None}
 use Rattle.std.proofs.Common.{◌≡◌, ℕ, Bool, refl, subst}
-use Rattle.papaya_alone.specs.Given.Seize.World.{World, Request, Begin, Step, Happens}
-use Rattle.papaya_alone.specs.Given.Tables.Nodes.{deferred_word}
-use Rattle.papaya_alone.specs.Given.Tables.declared.node.Node.{Node}
+use Rattle.papaya_alone.specs.Given.SeizeWorld.{World, Request, Begin, Step, Happens}
+use Rattle.papaya_alone.specs.Given.TablesNodes.{deferred_word}
+use Rattle.papaya_alone.specs.Given.TablesDeclared.node.Node.{Node}
 use Rattle.papaya_finishes.specs.Makings.{Beginning, AllMakingsStand}
 use Rattle.papaya_finishes.specs.Maps.{Standing}
-use Rattle.papaya_alone.specs.Given.Callers.Together.{OnKey, UnderWay, IsOfSlots, IsOneStep}
+use Rattle.papaya_alone.specs.Given.CallersTogether.{OnKey, UnderWay, IsOfSlots, IsOneStep}
 use Rattle.papaya_finishes.proofs.Beside.Endings.Rows.{step_spares_end, slots_spare_end, one_step_spares_end}
 use Rattle.papaya_finishes.proofs.Beside.Endings.Spares.{SparesEnd}
 use Rattle.papaya_finishes.proofs.Beside.Makings.RowSteps.{same_setting, rows_stand_beside, guards_stand_beside}

@@ -1,14 +1,14 @@
 -- Ends of maps among others: what is refused of them.
 use Rattle.std.specs.Prelude.{Option, Some}
 use Rattle.std.proofs.Common.{◌≡◌, ℕ, ◌<◌, Bool, false, List, [], ◌∷◌, arith, sym, subst, ◌∙◌}
-use Rattle.papaya_alone.specs.Given.SeizeWords.declared.at.At.TheVariants.{Root, Entry}
-use Rattle.papaya_alone.specs.Given.SeizeWords.Mem.{Mem, word_at}
-use Rattle.papaya_alone.specs.Given.Seize.declared.states.TheConstants.{NEXT}
-use Rattle.papaya_alone.specs.Given.Seize.World.{World, NoBlock, times}
-use Rattle.papaya_alone.specs.Given.Tables.declared.node.Node.{Node}
+use Rattle.papaya_alone.specs.Given.SeizeWordsDeclared.at.At.TheVariants.{Root, Entry}
+use Rattle.papaya_alone.specs.Given.SeizeWordsMem.{Mem, word_at}
+use Rattle.papaya_alone.specs.Given.SeizeDeclared.states.TheConstants.{NEXT}
+use Rattle.papaya_alone.specs.Given.SeizeWorld.{World, NoBlock, times}
+use Rattle.papaya_alone.specs.Given.TablesDeclared.node.Node.{Node}
 use Rattle.papaya_finishes.specs.Makings.{Beginning}
 use Rattle.papaya_finishes.specs.Maps.{Standing}
-use Rattle.papaya_alone.specs.Given.Callers.Together.{UnderWay}
+use Rattle.papaya_alone.specs.Given.CallersTogether.{UnderWay}
 use Rattle.papaya_finishes.specs.Endings.{Finishing, HasFinished, EndingsTogether}
 use Rattle.papaya_finishes.specs.FactsEnds.{RootIs}
 use Rattle.papaya_finishes.proofs.Ends.OrdersOn.{counter_later}

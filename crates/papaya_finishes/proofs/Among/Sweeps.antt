@@ -1,11 +1,11 @@
 -- Walks, clearings and retainings among calls, makings and ends of maps.
 use Rattle.std.specs.Prelude.{Option, Some, None}
 use Rattle.std.proofs.Common.{◌≡◌, ℕ, Bool, ap, sym, ◌∙◌}
-use Rattle.papaya_alone.specs.Given.Seize.World.{World, with_at}
-use Rattle.papaya_alone.specs.Given.Tables.declared.node.Node.{Node}
-use Rattle.papaya_alone.specs.Given.Sweeps.SweepPoints.{after_next}
-use Rattle.papaya_alone.specs.Given.Callers.OverAll.{CallOverAll, come_to, gone_on, told_of}
-use Rattle.papaya_alone.specs.Given.Callers.Together.{UnderWay, OverAll, next_over_all, Together}
+use Rattle.papaya_alone.specs.Given.SeizeWorld.{World, with_at}
+use Rattle.papaya_alone.specs.Given.TablesDeclared.node.Node.{Node}
+use Rattle.papaya_alone.specs.Given.SweepsSweepPoints.{after_next}
+use Rattle.papaya_alone.specs.Given.CallersOverAll.{CallOverAll, come_to, gone_on, told_of}
+use Rattle.papaya_alone.specs.Given.CallersTogether.{UnderWay, OverAll, next_over_all, Together}
 use Rattle.papaya_finishes.specs.Makings.{Beginning}
 use Rattle.papaya_finishes.specs.Maps.{Standing, with_call}
 use Rattle.papaya_finishes.proofs.Beside.Makings.Beside.{makings_on}
@@ -14,9 +14,9 @@ use Rattle.papaya_finishes.proofs.Beside.Makings.RowSteps as makings
 use Rattle.papaya_finishes.proofs.Beside.Maps.All.{maps_with_call}
 use Rattle.papaya_finishes.proofs.Beside.Maps.Rows.{row_all_together}
 use Rattle.papaya_finishes.proofs.Beside.Maps.Steps.{all_together, no_other, others_stand}
-use Rattle.papaya_alone.proofs.Given.Callers.Together.SweepStepped.{sweep_rows_stand_together}
-use Rattle.papaya_alone.proofs.Given.Callers.Together.Sweeps.{sweeps_begin_together, sweeps_stand_together}
-use Rattle.papaya_alone.proofs.Given.Callers.Together.SweepsTold.{sweeps_told_together, walks_stop_together}
+use Rattle.papaya_alone.proofs.Given.CallersTogether.SweepStepped.{sweep_rows_stand_together}
+use Rattle.papaya_alone.proofs.Given.CallersTogether.Sweeps.{sweeps_begin_together, sweeps_stand_together}
+use Rattle.papaya_alone.proofs.Given.CallersTogether.SweepsTold.{sweeps_told_together, walks_stop_together}
 use Rattle.papaya_finishes.specs.Endings.{Finishing, EndingsTogether}
 use Rattle.papaya_finishes.specs.Sweeps.{SweepsBeginAmong, SweepsStandAmong, SweepsToldAmong, SweepRowsStandAmong, WalksStopAmong}
 use Rattle.papaya_finishes.proofs.Among.Beside.{endings_same}

@@ -2,15 +2,15 @@
 use Rattle.std.specs.Prelude.{◌-◌, map}
 use Rattle.std.proofs.Common.{◌≡◌, ℕ, suc, ◌<◌, ◌≤◌, Bool, List, [], ◌∷◌, ◌++◌, ◌⊎◌, inl, inr, refl, arith, ap, sym, ◌∙◌}
 use Rattle.std.proofs.lemmas.List.{append-nil, append_assoc}
-use Rattle.papaya_alone.specs.Given.Seize.World.{World, times}
-use Rattle.papaya_alone.specs.Given.Tables.Chunks.{is_incremental}
-use Rattle.papaya_alone.specs.Given.Tables.declared.node.Node.{Node}
-use Rattle.papaya_alone.specs.Given.Tables.declared.setting.Setting.{Setting}
-use Rattle.papaya_alone.specs.Given.Raw.declared.machines.end_map.EndMap.{EndMap}
-use Rattle.papaya_alone.specs.Given.Raw.declared.machines.end_map.Ending.{Ending}
-use Rattle.papaya_alone.specs.Given.Raw.declared.machines.end_map.Ending.TheVariants as at
-use Rattle.papaya_alone.specs.Given.Rule.Chart.{Chart}
-use Rattle.papaya_alone.specs.Given.Rule.Words.{Blocks}
+use Rattle.papaya_alone.specs.Given.SeizeWorld.{World, times}
+use Rattle.papaya_alone.specs.Given.TablesChunks.{is_incremental}
+use Rattle.papaya_alone.specs.Given.TablesDeclared.node.Node.{Node}
+use Rattle.papaya_alone.specs.Given.TablesDeclared.setting.Setting.{Setting}
+use Rattle.papaya_alone.specs.Given.RawDeclared.machines.end_map.EndMap.{EndMap}
+use Rattle.papaya_alone.specs.Given.RawDeclared.machines.end_map.Ending.{Ending}
+use Rattle.papaya_alone.specs.Given.RawDeclared.machines.end_map.Ending.TheVariants as at
+use Rattle.papaya_alone.specs.Given.RuleChart.{Chart}
+use Rattle.papaya_alone.specs.Given.RuleWords.{Blocks}
 use Rattle.papaya_finishes.specs.Orders.{pairs_from, pairs_behind, pairs_of}
 use Rattle.papaya_finishes.specs.FactsEnds.{EndingFacts, EndFacts, back_of, from_table}
 use Rattle.papaya_finishes.proofs.Ends.CountedBlocks.{later_apart, some_last, some_here}

@@ -3,29 +3,29 @@ use Rattle.std.specs.Prelude.{◌≢◌, Option, Some, ◌==◌, if◌then◌els
 use Rattle.std.proofs.Common.{◌≡◌, ℕ, suc, ◌*◌, ◌/◌, ◌<◌, Bool, true, false, List, [], ◌∷◌, ◌++◌, ◌⊎◌, inl, inr, refl, arith, ap, sym, subst, ◌∙◌, eqb-true}
 use Rattle.std.proofs.lemmas.List.{append-nil}
 use Rattle.std.proofs.lemmas.Bool.{eqb-false}
-use Rattle.papaya_alone.specs.Given.SeizeWords.declared.at.At.TheVariants.{Word}
-use Rattle.papaya_alone.specs.Given.SeizeWords.Op.{Found}
-use Rattle.papaya_alone.specs.Given.SeizeWords.Mem.{Mem, Can, Took, value_at, word_at}
-use Rattle.papaya_alone.specs.Given.SeizeWords.Plan.{Now, May, MaySee, Steps, Ends}
-use Rattle.papaya_alone.proofs.Given.SeizeWords.OneOwner.Operations.{may_load, loaded}
-use Rattle.papaya_alone.specs.Given.Seize.declared.rows.settle.Settled.{Settled}
-use Rattle.papaya_alone.specs.Given.Seize.declared.rows.settle.Settled.TheVariants as settled
-use Rattle.papaya_alone.specs.Given.Seize.Further.{ListFrom, FurtherFrom}
-use Rattle.papaya_alone.specs.Given.Seize.World.{World, Cutting, times, MayCut}
-use Rattle.papaya_alone.proofs.Given.Tables.Lists.{table_list}
-use Rattle.papaya_alone.specs.Given.Tables.Nodes.{deferred_word}
-use Rattle.papaya_alone.specs.Given.Raw.EndMap.{standing, carries, list_read}
-use Rattle.papaya_alone.specs.Given.Tables.declared.node.Node.{Node}
-use Rattle.papaya_alone.specs.Given.Tables.declared.setting.Setting.{Setting}
-use Rattle.papaya_alone.specs.Given.Tables.declared.table.Table.{Table}
-use Rattle.papaya_alone.specs.Given.Tables.declared.table_words.TheConstants.{DEFERRED}
-use Rattle.papaya_alone.specs.Given.Raw.declared.machines.end_map.EndMap.{EndMap}
-use Rattle.papaya_alone.specs.Given.Raw.declared.machines.end_map.Ending.TheVariants as at
-use Rattle.papaya_alone.specs.Given.Rule.Chart.{Chart}
-use Rattle.papaya_alone.specs.Given.Rule.Words.{Blocks}
-use Rattle.papaya_alone.specs.Given.Points.Steps.{AreLawful}
-use Rattle.papaya_alone.proofs.Given.Rule.Words.TablesSeen.{block_of_link}
-use Rattle.papaya_alone.proofs.Given.Rule.Words.WritesWords.{is_some_of}
+use Rattle.papaya_alone.specs.Given.SeizeWordsDeclared.at.At.TheVariants.{Word}
+use Rattle.papaya_alone.specs.Given.SeizeWordsOp.{Found}
+use Rattle.papaya_alone.specs.Given.SeizeWordsMem.{Mem, Can, Took, value_at, word_at}
+use Rattle.papaya_alone.specs.Given.SeizeWordsPlan.{Now, May, MaySee, Steps, Ends}
+use Rattle.papaya_alone.proofs.Given.SeizeWordsOneOwner.Operations.{may_load, loaded}
+use Rattle.papaya_alone.specs.Given.SeizeDeclared.rows.settle.Settled.{Settled}
+use Rattle.papaya_alone.specs.Given.SeizeDeclared.rows.settle.Settled.TheVariants as settled
+use Rattle.papaya_alone.specs.Given.SeizeFurther.{ListFrom, FurtherFrom}
+use Rattle.papaya_alone.specs.Given.SeizeWorld.{World, Cutting, times, MayCut}
+use Rattle.papaya_alone.proofs.Given.TablesLists.{table_list}
+use Rattle.papaya_alone.specs.Given.TablesNodes.{deferred_word}
+use Rattle.papaya_alone.specs.Given.RawEndMap.{standing, carries, list_read}
+use Rattle.papaya_alone.specs.Given.TablesDeclared.node.Node.{Node}
+use Rattle.papaya_alone.specs.Given.TablesDeclared.setting.Setting.{Setting}
+use Rattle.papaya_alone.specs.Given.TablesDeclared.table.Table.{Table}
+use Rattle.papaya_alone.specs.Given.TablesDeclared.table_words.TheConstants.{DEFERRED}
+use Rattle.papaya_alone.specs.Given.RawDeclared.machines.end_map.EndMap.{EndMap}
+use Rattle.papaya_alone.specs.Given.RawDeclared.machines.end_map.Ending.TheVariants as at
+use Rattle.papaya_alone.specs.Given.RuleChart.{Chart}
+use Rattle.papaya_alone.specs.Given.RuleWords.{Blocks}
+use Rattle.papaya_alone.specs.Given.PointsSteps.{AreLawful}
+use Rattle.papaya_alone.proofs.Given.RuleWords.TablesSeen.{block_of_link}
+use Rattle.papaya_alone.proofs.Given.RuleWords.WritesWords.{is_some_of}
 use Rattle.papaya_finishes.specs.Orders.{given_of, waits_of}
 use Rattle.papaya_finishes.specs.FactsEnds.{LeavesTable, IsJoined, RootAt, HasBehind, IsTableYet, Since, BeganIn, IsAt, EndFacts, EndTold, EndWent, back_of, from_table, wait_before}
 use Rattle.papaya_finishes.proofs.Ends.CountedBlocks.{later_apart}

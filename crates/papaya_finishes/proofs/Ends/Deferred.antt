@@ -2,26 +2,26 @@
 use Rattle.std.specs.Prelude.{Option, Some, None, IsSome, ◌==◌, if◌then◌else◌}
 use Rattle.std.proofs.Common.{◌≡◌, ℕ, suc, ◌*◌, ◌/◌, ◌<◌, Bool, true, false, List, [], ◌∷◌, ◌++◌, ◌⊎◌, inl, inr, refl, arith, ap, sym, subst, ◌∙◌}
 use Rattle.std.proofs.lemmas.List.{append_assoc}
-use Rattle.papaya_alone.specs.Given.SeizeWords.declared.at.At.TheVariants.{Entry}
-use Rattle.papaya_alone.specs.Given.SeizeWords.Op.{Found, Stored}
-use Rattle.papaya_alone.specs.Given.SeizeWords.Mem.{Mem, Can, Took, value_at, word_at, with_word, with_block}
-use Rattle.papaya_alone.specs.Given.SeizeWords.Plan.{Now, May, MaySee, Steps, Ends}
-use Rattle.papaya_alone.proofs.Given.SeizeWords.OneOwner.Operations.{may_load, loaded, may_store, stored, may_take, taken}
-use Rattle.papaya_alone.specs.Given.Seize.declared.states.TheConstants.{NEXT}
-use Rattle.papaya_alone.specs.Given.Seize.declared.rows.settle.Settled.{Settled}
-use Rattle.papaya_alone.specs.Given.Seize.declared.rows.settle.Settled.TheVariants as settled
-use Rattle.papaya_alone.specs.Given.Seize.Further.{ListFrom}
-use Rattle.papaya_alone.specs.Given.Seize.World.{World, NoBlock, LeftTo, times}
-use Rattle.papaya_alone.specs.Given.Raw.EndMap.{standing, joins, follows, follower_read, gives, given_back}
-use Rattle.papaya_alone.specs.Given.Tables.declared.node.Node.{Node}
-use Rattle.papaya_alone.specs.Given.Tables.declared.setting.Setting.{Setting}
-use Rattle.papaya_alone.specs.Given.Raw.declared.machines.end_map.EndMap.{EndMap}
-use Rattle.papaya_alone.specs.Given.Raw.declared.machines.end_map.Ending.TheVariants as at
-use Rattle.papaya_alone.specs.Given.Rule.Chart.{Chart}
-use Rattle.papaya_alone.specs.Given.Rule.Words.{Blocks}
-use Rattle.papaya_alone.specs.Given.Points.Steps.{AreLawful}
-use Rattle.papaya_alone.proofs.Given.Rule.Words.TablesSeen.{block_of_link}
-use Rattle.papaya_alone.proofs.Given.Rule.Words.WritesWords.{is_some_of}
+use Rattle.papaya_alone.specs.Given.SeizeWordsDeclared.at.At.TheVariants.{Entry}
+use Rattle.papaya_alone.specs.Given.SeizeWordsOp.{Found, Stored}
+use Rattle.papaya_alone.specs.Given.SeizeWordsMem.{Mem, Can, Took, value_at, word_at, with_word, with_block}
+use Rattle.papaya_alone.specs.Given.SeizeWordsPlan.{Now, May, MaySee, Steps, Ends}
+use Rattle.papaya_alone.proofs.Given.SeizeWordsOneOwner.Operations.{may_load, loaded, may_store, stored, may_take, taken}
+use Rattle.papaya_alone.specs.Given.SeizeDeclared.states.TheConstants.{NEXT}
+use Rattle.papaya_alone.specs.Given.SeizeDeclared.rows.settle.Settled.{Settled}
+use Rattle.papaya_alone.specs.Given.SeizeDeclared.rows.settle.Settled.TheVariants as settled
+use Rattle.papaya_alone.specs.Given.SeizeFurther.{ListFrom}
+use Rattle.papaya_alone.specs.Given.SeizeWorld.{World, NoBlock, LeftTo, times}
+use Rattle.papaya_alone.specs.Given.RawEndMap.{standing, joins, follows, follower_read, gives, given_back}
+use Rattle.papaya_alone.specs.Given.TablesDeclared.node.Node.{Node}
+use Rattle.papaya_alone.specs.Given.TablesDeclared.setting.Setting.{Setting}
+use Rattle.papaya_alone.specs.Given.RawDeclared.machines.end_map.EndMap.{EndMap}
+use Rattle.papaya_alone.specs.Given.RawDeclared.machines.end_map.Ending.TheVariants as at
+use Rattle.papaya_alone.specs.Given.RuleChart.{Chart}
+use Rattle.papaya_alone.specs.Given.RuleWords.{Blocks}
+use Rattle.papaya_alone.specs.Given.PointsSteps.{AreLawful}
+use Rattle.papaya_alone.proofs.Given.RuleWords.TablesSeen.{block_of_link}
+use Rattle.papaya_alone.proofs.Given.RuleWords.WritesWords.{is_some_of}
 use Rattle.papaya_finishes.specs.FactsEnds.{Looks, JoinsPair, TakesLeft, RootAt, Since, BeganIn, IsAt, Gives, Joins, IsToJoin, EndFacts, EndTold, EndWent, back_of, from_table, wait_before}
 use Rattle.papaya_finishes.proofs.Ends.CountedBlocks.{times-append, times_here, some_first, some_last, some_here, next_apart, one_more}
 use Rattle.papaya_finishes.proofs.Ends.Known.{back_once, went_still, went_away}

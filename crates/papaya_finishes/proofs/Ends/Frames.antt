@@ -2,13 +2,13 @@
 use Rattle.std.specs.Prelude.{◌≢◌, Some, None, IsSome}
 use Rattle.std.proofs.Common.{◌≡◌, ℕ, ◌<◌, Bool, cond, List, [], ◌∷◌, inl, inr, refl, arith, ap, subst, ◌∙◌}
 use Rattle.std.proofs.lemmas.Bool.{ne_eqb}
-use Rattle.papaya_alone.specs.Given.SeizeWords.declared.at.At.TheVariants.{Root, Used, Entry}
-use Rattle.papaya_alone.specs.Given.SeizeWords.Mem.{value_at, word_at, with_word, with_block}
-use Rattle.papaya_alone.proofs.Given.SeizeWords.OneOwner.AfterWrites.{word_at-with_word}
-use Rattle.papaya_alone.specs.Given.Seize.declared.states.TheConstants.{NEXT}
-use Rattle.papaya_alone.specs.Given.Seize.Law.{holds}
-use Rattle.papaya_alone.specs.Given.Seize.World.{World, NoBlock, times}
-use Rattle.papaya_alone.specs.Given.Tables.declared.setting.Setting.{Setting}
+use Rattle.papaya_alone.specs.Given.SeizeWordsDeclared.at.At.TheVariants.{Root, Used, Entry}
+use Rattle.papaya_alone.specs.Given.SeizeWordsMem.{value_at, word_at, with_word, with_block}
+use Rattle.papaya_alone.proofs.Given.SeizeWordsOneOwner.AfterWrites.{word_at-with_word}
+use Rattle.papaya_alone.specs.Given.SeizeDeclared.states.TheConstants.{NEXT}
+use Rattle.papaya_alone.specs.Given.SeizeLaw.{holds}
+use Rattle.papaya_alone.specs.Given.SeizeWorld.{World, NoBlock, times}
+use Rattle.papaya_alone.specs.Given.TablesDeclared.setting.Setting.{Setting}
 use Rattle.papaya_finishes.specs.FactsEnds.{Looks, TakesPair, LeavesTable, JoinsPair, TakesLeft, TakesCounter, WritesRoot, Spares}
 use Rattle.papaya_finishes.proofs.Ends.CountedBlocks.{times_here, some_of_first}
 use Rattle.papaya_finishes.proofs.Ends.Memory.{taken_value, taken_word, taken_link, taken_gone, linked_value, linked_word, linked_other}

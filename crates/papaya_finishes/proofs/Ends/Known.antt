@@ -1,23 +1,23 @@
 -- What is known while a map ends: its tables that are still there, and the worlds that its steps lead to.
 use Rattle.std.specs.Prelude.{Option, Some, None}
 use Rattle.std.proofs.Common.{◌≡◌, ℕ, ◌<◌, ◌≤◌, Bool, true, false, List, [], refl, arith, ap, sym, subst, ◌∙◌, inl, ◌⊎◌}
-use Rattle.papaya_alone.specs.Given.SeizeWords.declared.at.At.TheVariants.{Word}
-use Rattle.papaya_alone.specs.Given.SeizeWords.Op.{Taken}
-use Rattle.papaya_alone.specs.Given.SeizeWords.Mem.{Mem, value_at, word_at, with_block}
-use Rattle.papaya_alone.specs.Given.Seize.declared.rows.settle.Settled.{Settled}
-use Rattle.papaya_alone.specs.Given.Seize.Further.{FurtherFrom}
-use Rattle.papaya_alone.specs.Given.Seize.World.{World, Cutting, LeftTo, times, MayClear, MayCut}
-use Rattle.papaya_alone.specs.Given.Tables.Nodes.{deferred_word}
-use Rattle.papaya_alone.specs.Given.Tables.declared.node.Node.{Node}
-use Rattle.papaya_alone.specs.Given.Tables.declared.node.Node.TheVariants as node
-use Rattle.papaya_alone.specs.Given.Tables.declared.setting.Setting.{Setting}
-use Rattle.papaya_alone.specs.Given.Tables.declared.table_words.TheConstants.{NEXT}
-use Rattle.papaya_alone.specs.Given.Raw.declared.machines.end_map.EndMap.{EndMap}
-use Rattle.papaya_alone.specs.Given.Rule.Chart.{Chart}
-use Rattle.papaya_alone.specs.Given.Rule.Words.{Blocks, ShowsTable, next_word}
-use Rattle.papaya_alone.specs.Given.Rule.Maps.{IsTable}
-use Rattle.papaya_alone.proofs.Given.Rule.Words.WritesWords.{is_some_of}
-use Rattle.papaya_alone.specs.Given.Points.Steps.{AreLawful}
+use Rattle.papaya_alone.specs.Given.SeizeWordsDeclared.at.At.TheVariants.{Word}
+use Rattle.papaya_alone.specs.Given.SeizeWordsOp.{Taken}
+use Rattle.papaya_alone.specs.Given.SeizeWordsMem.{Mem, value_at, word_at, with_block}
+use Rattle.papaya_alone.specs.Given.SeizeDeclared.rows.settle.Settled.{Settled}
+use Rattle.papaya_alone.specs.Given.SeizeFurther.{FurtherFrom}
+use Rattle.papaya_alone.specs.Given.SeizeWorld.{World, Cutting, LeftTo, times, MayClear, MayCut}
+use Rattle.papaya_alone.specs.Given.TablesNodes.{deferred_word}
+use Rattle.papaya_alone.specs.Given.TablesDeclared.node.Node.{Node}
+use Rattle.papaya_alone.specs.Given.TablesDeclared.node.Node.TheVariants as node
+use Rattle.papaya_alone.specs.Given.TablesDeclared.setting.Setting.{Setting}
+use Rattle.papaya_alone.specs.Given.TablesDeclared.table_words.TheConstants.{NEXT}
+use Rattle.papaya_alone.specs.Given.RawDeclared.machines.end_map.EndMap.{EndMap}
+use Rattle.papaya_alone.specs.Given.RuleChart.{Chart}
+use Rattle.papaya_alone.specs.Given.RuleWords.{Blocks, ShowsTable, next_word}
+use Rattle.papaya_alone.specs.Given.RuleMaps.{IsTable}
+use Rattle.papaya_alone.proofs.Given.RuleWords.WritesWords.{is_some_of}
+use Rattle.papaya_alone.specs.Given.PointsSteps.{AreLawful}
 use Rattle.papaya_finishes.specs.FactsEnds.{IsFresh, Looks, TakesPair, TakesLeft, IsOverStill, IsUsedYet, Since, BeganIn, IsAt, EndTold, EndWent, back_of}
 use Rattle.papaya_finishes.proofs.Ends.CountedBlocks.{some_here}
 use Rattle.papaya_finishes.proofs.Ends.Worlds.{cut, over, away, over_left, hand_here}

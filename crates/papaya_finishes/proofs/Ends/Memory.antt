@@ -2,15 +2,15 @@
 use Rattle.std.specs.Prelude.{Option, Some, None, IsSome, ◌≢◌, if◌then◌else◌}
 use Rattle.std.proofs.Common.{◌≡◌, ℕ, ◌<◌, Bool, List, [], ◌∷◌, ◌++◌, refl, arith, ap, sym, subst, ◌∙◌, ◌⊎◌, inl, inr, eq-eqb}
 use Rattle.std.proofs.lemmas.Bool.{ne_eqb}
-use Rattle.papaya_alone.specs.Given.SeizeWords.declared.block.Block.{Block}
-use Rattle.papaya_alone.specs.Given.SeizeWords.declared.at.At.TheVariants.{Entry, Word}
-use Rattle.papaya_alone.specs.Given.SeizeWords.Mem.{Mem, block_of, value_in, entry_in, word_in, value_at, word_at, with_word, with_block}
-use Rattle.papaya_alone.proofs.Given.SeizeWords.OneOwner.AfterWrites.{block_of-with_block, word_at-with_word, value_at-with_word}
-use Rattle.papaya_alone.specs.Given.Seize.declared.states.TheConstants.{NEXT}
-use Rattle.papaya_alone.specs.Given.Seize.Further.{ListFrom}
-use Rattle.papaya_alone.specs.Given.Seize.World.{times}
-use Rattle.papaya_alone.proofs.Given.SeizeRule.Words.Named.{block_there}
-use Rattle.papaya_alone.proofs.Given.Rule.Words.WritesWords.{is_some_of}
+use Rattle.papaya_alone.specs.Given.SeizeWordsDeclared.block.Block.{Block}
+use Rattle.papaya_alone.specs.Given.SeizeWordsDeclared.at.At.TheVariants.{Entry, Word}
+use Rattle.papaya_alone.specs.Given.SeizeWordsMem.{Mem, block_of, value_in, entry_in, word_in, value_at, word_at, with_word, with_block}
+use Rattle.papaya_alone.proofs.Given.SeizeWordsOneOwner.AfterWrites.{block_of-with_block, word_at-with_word, value_at-with_word}
+use Rattle.papaya_alone.specs.Given.SeizeDeclared.states.TheConstants.{NEXT}
+use Rattle.papaya_alone.specs.Given.SeizeFurther.{ListFrom}
+use Rattle.papaya_alone.specs.Given.SeizeWorld.{times}
+use Rattle.papaya_alone.proofs.Given.SeizeRuleWords.Named.{block_there}
+use Rattle.papaya_alone.proofs.Given.RuleWords.WritesWords.{is_some_of}
 use Rattle.papaya_finishes.proofs.Ends.CountedBlocks.{times_here, times_other, some_last, some_here, some_of_first}
 
 module _ {T : Type 0} (m : Mem T) (b : ℕ) (some : IsSome (value_at m b)) where

@@ -2,13 +2,13 @@
 use Rattle.std.specs.Prelude.{◌-◌, map, ◌≢◌}
 use Rattle.std.proofs.Common.{◌≡◌, ℕ, zero, suc, ◌+◌, ◌<◌, ◌≤◌, Bool, true, false, cond, List, [], ◌∷◌, ◌++◌, refl, arith, ap, sym, subst, ◌∙◌, ◌⊎◌, inl, inr}
 use Rattle.std.proofs.lemmas.List.{append-nil, append_assoc}
-use Rattle.papaya_alone.specs.Given.Tables.Chunks.{is_incremental}
-use Rattle.papaya_alone.specs.Given.Tables.declared.setting.Setting.{Setting}
-use Rattle.papaya_alone.specs.Given.Rule.Chart.{Chart}
-use Rattle.papaya_alone.specs.Given.Rule.Words.{Blocks}
+use Rattle.papaya_alone.specs.Given.TablesChunks.{is_incremental}
+use Rattle.papaya_alone.specs.Given.TablesDeclared.setting.Setting.{Setting}
+use Rattle.papaya_alone.specs.Given.RuleChart.{Chart}
+use Rattle.papaya_alone.specs.Given.RuleWords.{Blocks}
 use Rattle.papaya_finishes.specs.Orders.{pair_at, with_pairs, given_of, waits_of, pairs_from, pairs_in, pairs_behind, tables_in, waits_in, pairs_of}
 use Rattle.papaya_finishes.specs.FactsEnds.{back_of, from_table, from_place, wait_before}
-use Rattle.papaya_alone.specs.Given.Seize.World.{times}
+use Rattle.papaya_alone.specs.Given.SeizeWorld.{times}
 use Rattle.papaya_finishes.proofs.Ends.CountedBlocks.{some_last, some_first, some_here, some_of_two}
 use Rattle.std.proofs.lemmas.Bool.{cases_eq}
 

@@ -1,25 +1,25 @@
 -- No block is reclaimed twice as a map ends, nor does one wait that is reclaimed.
 use Rattle.std.specs.Prelude.{◌-◌, ◌==◌, map, if◌then◌else◌, Option, Some, None}
 use Rattle.std.proofs.Common.{◌≡◌, ℕ, zero, suc, ◌+◌, ◌<◌, ◌≤◌, Bool, true, false, cond, List, [], ◌∷◌, ◌++◌, ◌⊎◌, inl, inr, refl, arith, ap, sym, subst, ◌∙◌, eqb-true}
-use Rattle.papaya_alone.specs.Given.Seize.Law.{With, where_is}
-use Rattle.papaya_alone.specs.Given.Seize.World.{World, Hand, NoBlock, Making, InUse, Cutting, Handed, LeftTo, times, Parting}
-use Rattle.papaya_alone.specs.Given.Tables.Chunks.{is_incremental}
-use Rattle.papaya_alone.specs.Given.Tables.declared.node.Node.{Node}
-use Rattle.papaya_alone.specs.Given.Tables.declared.node.Node.TheVariants as node
-use Rattle.papaya_alone.specs.Given.Tables.declared.setting.Setting.{Setting}
-use Rattle.papaya_alone.specs.Given.SeizeWords.Mem.{value_at}
-use Rattle.papaya_alone.specs.Given.Rule.Chart.{Phase, Holds, Chart}
-use Rattle.papaya_alone.specs.Given.Rule.Rule.{IsHome}
-use Rattle.papaya_alone.specs.Given.Rule.Words.{Blocks}
-use Rattle.papaya_alone.specs.Given.Rule.Maps.{spot_of}
-use Rattle.papaya_alone.specs.Given.Points.Steps.{AreLawful}
-use Rattle.papaya_alone.specs.Given.Callers.Kept.{IsUsersOwn, IsMaking}
+use Rattle.papaya_alone.specs.Given.SeizeLaw.{With, where_is}
+use Rattle.papaya_alone.specs.Given.SeizeWorld.{World, Hand, NoBlock, Making, InUse, Cutting, Handed, LeftTo, times, Parting}
+use Rattle.papaya_alone.specs.Given.TablesChunks.{is_incremental}
+use Rattle.papaya_alone.specs.Given.TablesDeclared.node.Node.{Node}
+use Rattle.papaya_alone.specs.Given.TablesDeclared.node.Node.TheVariants as node
+use Rattle.papaya_alone.specs.Given.TablesDeclared.setting.Setting.{Setting}
+use Rattle.papaya_alone.specs.Given.SeizeWordsMem.{value_at}
+use Rattle.papaya_alone.specs.Given.RuleChart.{Phase, Holds, Chart}
+use Rattle.papaya_alone.specs.Given.RuleRule.{IsHome}
+use Rattle.papaya_alone.specs.Given.RuleWords.{Blocks}
+use Rattle.papaya_alone.specs.Given.RuleMaps.{spot_of}
+use Rattle.papaya_alone.specs.Given.PointsSteps.{AreLawful}
+use Rattle.papaya_alone.specs.Given.CallersKept.{IsUsersOwn, IsMaking}
 use Rattle.papaya_finishes.specs.Orders.{given_of, waits_of, pairs_of, tables_in, waits_in}
-use Rattle.papaya_alone.specs.Given.Rule.InWorld.{IsMapIn}
+use Rattle.papaya_alone.specs.Given.RuleInWorld.{IsMapIn}
 use Rattle.papaya_finishes.specs.FactsEnds.{HasBehind, back_of, wait_from}
 use Rattle.papaya_finishes.proofs.Ends.CountedBlocks.{times-append, times_here, some_of_two, some_of_first, some_here}
 use Rattle.std.proofs.lemmas.Bool.{cases_lt}
-use Rattle.papaya_alone.proofs.Given.Callers.Rows.Beside.{making_own}
+use Rattle.papaya_alone.proofs.Given.CallersRows.Beside.{making_own}
 use Rattle.papaya_finishes.proofs.Ends.OrdersPairs.{pairs_once, pairs_current}
 
 -- the blocks of numbers that have blocks of their own

@@ -1,12 +1,12 @@
 -- Which pairs a map that ends reclaims: each one of its own once, and no other.
 use Rattle.std.specs.Prelude.{◌≢◌, ◌-◌, ◌==◌, if◌then◌else◌, ◌&&◌, Some}
 use Rattle.std.proofs.Common.{◌≡◌, ℕ, zero, suc, ◌+◌, ◌<◌, ◌≤◌, Bool, true, false, cond, List, [], ◌∷◌, ◌++◌, ◌⊎◌, inl, inr, refl, arith, ap, sym, subst, ◌∙◌}
-use Rattle.papaya_alone.specs.Given.Seize.World.{times}
-use Rattle.papaya_alone.specs.Given.Tables.declared.status.TheConstants.Status.{ABORTED}
-use Rattle.papaya_alone.specs.Given.Rule.Chart.{Phase, Still, Copying, Copied, Place, Empty, Tombstone, Holds, Share, Free, Claimed, Done, Counted, Lost, Chart, is_marked}
-use Rattle.papaya_alone.specs.Given.Rule.Rule.{IsHome, Incremental, Blocking, Rule, Agrees, is_of}
-use Rattle.papaya_alone.specs.Given.Rule.Maps.{spot_of}
-use Rattle.papaya_alone.specs.Given.Points.Steps.{AreLawful}
+use Rattle.papaya_alone.specs.Given.SeizeWorld.{times}
+use Rattle.papaya_alone.specs.Given.TablesDeclared.status.TheConstants.Status.{ABORTED}
+use Rattle.papaya_alone.specs.Given.RuleChart.{Phase, Still, Copying, Copied, Place, Empty, Tombstone, Holds, Share, Free, Claimed, Done, Counted, Lost, Chart, is_marked}
+use Rattle.papaya_alone.specs.Given.RuleRule.{IsHome, Incremental, Blocking, Rule, Agrees, is_of}
+use Rattle.papaya_alone.specs.Given.RuleMaps.{spot_of}
+use Rattle.papaya_alone.specs.Given.PointsSteps.{AreLawful}
 use Rattle.papaya_finishes.specs.Orders.{pair_at, with_pairs, pairs_from, pairs_in, pairs_of}
 use Rattle.papaya_finishes.proofs.Ends.CountedBlocks.{times-append, some_of_two, some_of_first, some_here, some_first, some_last}
 use Rattle.std.proofs.lemmas.Bool.{cases_lt, cases_eq}

@@ -2,36 +2,36 @@
 use Rattle.std.specs.Prelude.{◌≢◌, ◌-◌, ◌%◌, Some, None, IsSome, ◌==◌, ◌&&◌, not, nat_lt, if◌then◌else◌, map}
 use Rattle.std.proofs.Common.{◌≡◌, ℕ, zero, suc, ◌+◌, ◌*◌, ◌/◌, ◌^◌, ◌<◌, ◌≤◌, Bool, true, false, cond, List, [], ◌∷◌, ◌++◌, ◌⊎◌, inl, inr, refl, arith, ap, sym, subst, ◌∙◌, eqb-true}
 use Rattle.std.proofs.lemmas.Bool.{cases_lt}
-use Rattle.papaya_alone.specs.Given.SeizeWords.declared.at.At.{At}
-use Rattle.papaya_alone.specs.Given.SeizeWords.declared.at.At.TheVariants.{Root, Word}
-use Rattle.papaya_alone.specs.Given.SeizeWords.Op.{Found}
-use Rattle.papaya_alone.specs.Given.SeizeWords.Mem.{Mem, Can, Took, value_at, word_at, with_block}
-use Rattle.papaya_alone.specs.Given.SeizeWords.Plan.{Now, Seeing, May, MaySee, Steps, Ends}
-use Rattle.papaya_alone.proofs.Given.SeizeWords.OneOwner.Operations.{may_load, loaded, may_take, taken}
-use Rattle.papaya_alone.proofs.Given.SeizeWords.Plans.{see_if, ends_if}
-use Rattle.papaya_alone.specs.Given.Seize.declared.rows.settle.Settled.{Settled}
-use Rattle.papaya_alone.specs.Given.Seize.declared.rows.settle.Settled.TheVariants as settled
-use Rattle.papaya_alone.specs.Given.Seize.World.{World, times}
-use Rattle.papaya_alone.specs.Given.Tables.Nodes.{table_seen}
-use Rattle.papaya_alone.specs.Given.Tables.Chunks.{is_incremental}
-use Rattle.papaya_alone.specs.Given.Tables.Marks.{has_mark}
-use Rattle.papaya_alone.specs.Given.Raw.EndMap.{standing, next_place, is_current, reads, root_read, words, word_read, takes, given_back, nexts, next_read}
-use Rattle.papaya_alone.specs.Given.Tables.declared.marks.TheConstants.{COPYING}
-use Rattle.papaya_alone.specs.Given.Tables.declared.node.Node.{Node}
-use Rattle.papaya_alone.specs.Given.Tables.declared.node.Node.TheVariants as node
-use Rattle.papaya_alone.specs.Given.Tables.declared.setting.Setting.{Setting}
-use Rattle.papaya_alone.specs.Given.Tables.declared.table.Table.{Table}
-use Rattle.papaya_alone.specs.Given.Tables.declared.table_words.TheConstants.{NEXT, DEFERRED, PLACES}
-use Rattle.papaya_alone.specs.Given.Raw.declared.machines.end_map.EndMap.{EndMap}
-use Rattle.papaya_alone.specs.Given.Raw.declared.machines.end_map.Ending.TheVariants as at
-use Rattle.papaya_alone.specs.Given.Rule.Chart.{Phase, Holds, Chart}
-use Rattle.papaya_alone.specs.Given.Rule.Words.{Blocks, place_word, root_word, next_word, byte_of}
-use Rattle.papaya_alone.specs.Given.Points.Steps.{AreLawful}
-use Rattle.papaya_alone.specs.Given.Rule.Links.{LeadsTo}
-use Rattle.papaya_alone.proofs.Given.Rule.Words.LinksSeen.{root_leads}
-use Rattle.papaya_alone.proofs.Given.Rule.Words.TablesSeen.{place_stands, block_of_link}
-use Rattle.papaya_alone.proofs.Given.Rule.Words.WritesWords.{is_some_of}
-use Rattle.papaya_alone.proofs.Given.Rule.Words.PlacesShown.{byte_of-few}
+use Rattle.papaya_alone.specs.Given.SeizeWordsDeclared.at.At.{At}
+use Rattle.papaya_alone.specs.Given.SeizeWordsDeclared.at.At.TheVariants.{Root, Word}
+use Rattle.papaya_alone.specs.Given.SeizeWordsOp.{Found}
+use Rattle.papaya_alone.specs.Given.SeizeWordsMem.{Mem, Can, Took, value_at, word_at, with_block}
+use Rattle.papaya_alone.specs.Given.SeizeWordsPlan.{Now, Seeing, May, MaySee, Steps, Ends}
+use Rattle.papaya_alone.proofs.Given.SeizeWordsOneOwner.Operations.{may_load, loaded, may_take, taken}
+use Rattle.papaya_alone.proofs.Given.SeizeWordsPlans.{see_if, ends_if}
+use Rattle.papaya_alone.specs.Given.SeizeDeclared.rows.settle.Settled.{Settled}
+use Rattle.papaya_alone.specs.Given.SeizeDeclared.rows.settle.Settled.TheVariants as settled
+use Rattle.papaya_alone.specs.Given.SeizeWorld.{World, times}
+use Rattle.papaya_alone.specs.Given.TablesNodes.{table_seen}
+use Rattle.papaya_alone.specs.Given.TablesChunks.{is_incremental}
+use Rattle.papaya_alone.specs.Given.TablesMarks.{has_mark}
+use Rattle.papaya_alone.specs.Given.RawEndMap.{standing, next_place, is_current, reads, root_read, words, word_read, takes, given_back, nexts, next_read}
+use Rattle.papaya_alone.specs.Given.TablesDeclared.marks.TheConstants.{COPYING}
+use Rattle.papaya_alone.specs.Given.TablesDeclared.node.Node.{Node}
+use Rattle.papaya_alone.specs.Given.TablesDeclared.node.Node.TheVariants as node
+use Rattle.papaya_alone.specs.Given.TablesDeclared.setting.Setting.{Setting}
+use Rattle.papaya_alone.specs.Given.TablesDeclared.table.Table.{Table}
+use Rattle.papaya_alone.specs.Given.TablesDeclared.table_words.TheConstants.{NEXT, DEFERRED, PLACES}
+use Rattle.papaya_alone.specs.Given.RawDeclared.machines.end_map.EndMap.{EndMap}
+use Rattle.papaya_alone.specs.Given.RawDeclared.machines.end_map.Ending.TheVariants as at
+use Rattle.papaya_alone.specs.Given.RuleChart.{Phase, Holds, Chart}
+use Rattle.papaya_alone.specs.Given.RuleWords.{Blocks, place_word, root_word, next_word, byte_of}
+use Rattle.papaya_alone.specs.Given.PointsSteps.{AreLawful}
+use Rattle.papaya_alone.specs.Given.RuleLinks.{LeadsTo}
+use Rattle.papaya_alone.proofs.Given.RuleWords.LinksSeen.{root_leads}
+use Rattle.papaya_alone.proofs.Given.RuleWords.TablesSeen.{place_stands, block_of_link}
+use Rattle.papaya_alone.proofs.Given.RuleWords.WritesWords.{is_some_of}
+use Rattle.papaya_alone.proofs.Given.RuleWords.PlacesShown.{byte_of-few}
 use Rattle.papaya_finishes.specs.Orders.{pair_at, pairs_behind, pairs_from}
 use Rattle.papaya_finishes.specs.FactsEnds.{Looks, TakesPair, RootAt, IsOverStill, IsUsedYet, Since, BeganIn, AtPairs, EndingFacts, EndFacts, EndTold, EndWent, back_of, from_table, from_place, table_of, wait_before}
 use Rattle.papaya_finishes.proofs.Ends.CountedBlocks.{next_apart, later_apart, one_more, some_here, some_last}

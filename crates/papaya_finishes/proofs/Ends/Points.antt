@@ -1,20 +1,20 @@
 -- Each step of the end of a map: it may be taken, what it does, and what is known where it leads.
 use Rattle.std.proofs.Common.{◌≡◌, ℕ, suc, ◌≤◌, ◌<◌, Bool, true, cond, List, [], inl, inr, refl, arith, ap, sym, subst, ◌∙◌}
 use Rattle.std.proofs.lemmas.Bool.{eq-eqb}
-use Rattle.papaya_alone.specs.Given.SeizeWords.Mem.{Mem, Can, Took, value_at}
-use Rattle.papaya_alone.specs.Given.SeizeWords.Plan.{May, Steps}
-use Rattle.papaya_alone.specs.Given.Seize.declared.rows.settle.Settled.{Settled}
-use Rattle.papaya_alone.specs.Given.Seize.Law.{Ended, Standing, Place, owner_of, where_is, is_orphan, is_over, is_standing}
-use Rattle.papaya_alone.specs.Given.Seize.World.{World, times, with_effect}
-use Rattle.papaya_alone.specs.Given.Raw.EndMap.{ending, plan_at, end_map_plan}
-use Rattle.papaya_alone.specs.Given.Tables.declared.node.Node.{Node}
-use Rattle.papaya_alone.specs.Given.Tables.declared.setting.Setting.{Setting}
-use Rattle.papaya_alone.specs.Given.Raw.declared.machines.end_map.EndMap.{EndMap}
-use Rattle.papaya_alone.specs.Given.Raw.declared.machines.end_map.Ending.{Ending}
-use Rattle.papaya_alone.specs.Given.Raw.declared.machines.end_map.Ending.TheVariants as at
-use Rattle.papaya_alone.specs.Given.Rule.Chart.{Chart}
-use Rattle.papaya_alone.specs.Given.Rule.Words.{Blocks}
-use Rattle.papaya_alone.specs.Given.Points.Steps.{AreLawful}
+use Rattle.papaya_alone.specs.Given.SeizeWordsMem.{Mem, Can, Took, value_at}
+use Rattle.papaya_alone.specs.Given.SeizeWordsPlan.{May, Steps}
+use Rattle.papaya_alone.specs.Given.SeizeDeclared.rows.settle.Settled.{Settled}
+use Rattle.papaya_alone.specs.Given.SeizeLaw.{Ended, Standing, Place, owner_of, where_is, is_orphan, is_over, is_standing}
+use Rattle.papaya_alone.specs.Given.SeizeWorld.{World, times, with_effect}
+use Rattle.papaya_alone.specs.Given.RawEndMap.{ending, plan_at, end_map_plan}
+use Rattle.papaya_alone.specs.Given.TablesDeclared.node.Node.{Node}
+use Rattle.papaya_alone.specs.Given.TablesDeclared.setting.Setting.{Setting}
+use Rattle.papaya_alone.specs.Given.RawDeclared.machines.end_map.EndMap.{EndMap}
+use Rattle.papaya_alone.specs.Given.RawDeclared.machines.end_map.Ending.{Ending}
+use Rattle.papaya_alone.specs.Given.RawDeclared.machines.end_map.Ending.TheVariants as at
+use Rattle.papaya_alone.specs.Given.RuleChart.{Chart}
+use Rattle.papaya_alone.specs.Given.RuleWords.{Blocks}
+use Rattle.papaya_alone.specs.Given.PointsSteps.{AreLawful}
 use Rattle.papaya_finishes.specs.FactsEnds.{RootAt, HasBehind, IsOverStill, Since, BeganIn, MayEnd, EndingFacts, EndFacts, EndWent, wait_before}
 use Rattle.papaya_finishes.proofs.Ends.OrdersOn.{before_none}
 use Rattle.papaya_finishes.proofs.Ends.Pairs.{may_reads, went_reads, may_words, went_words, may_takes, went_takes, may_nexts, went_nexts}

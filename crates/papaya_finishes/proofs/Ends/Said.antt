@@ -1,12 +1,12 @@
 -- What the words of a table say: the pair of a place, and the link to the next table.
 use Rattle.std.specs.Prelude.{◌-◌, Some, ◌==◌, ◌&&◌, not, nat_lt, if◌then◌else◌, ltb}
 use Rattle.std.proofs.Common.{◌≡◌, ℕ, suc, ◌+◌, ◌*◌, ◌/◌, ◌<◌, ◌≤◌, Bool, true, false, cond, [], ◌∷◌, ◌⊎◌, inl, inr, refl, arith, ap, ◌∙◌}
-use Rattle.papaya_alone.specs.Given.Tables.Marks.{has_mark}
-use Rattle.papaya_alone.specs.Given.Tables.declared.marks.TheConstants.{COPYING}
-use Rattle.papaya_alone.specs.Given.Rule.Chart.{Phase, Place, Empty, Tombstone, Holds, Chart, is_marked}
-use Rattle.papaya_alone.specs.Given.Rule.Words.{Blocks, next_word, word_of}
-use Rattle.papaya_alone.proofs.Given.Rule.Words.PlaceWords.{empty_block, tombstone_block, pair_block}
-use Rattle.papaya_alone.proofs.Given.Rule.Words.PlaceWordsMarks.{has_copying}
+use Rattle.papaya_alone.specs.Given.TablesMarks.{has_mark}
+use Rattle.papaya_alone.specs.Given.TablesDeclared.marks.TheConstants.{COPYING}
+use Rattle.papaya_alone.specs.Given.RuleChart.{Phase, Place, Empty, Tombstone, Holds, Chart, is_marked}
+use Rattle.papaya_alone.specs.Given.RuleWords.{Blocks, next_word, word_of}
+use Rattle.papaya_alone.proofs.Given.RuleWords.PlaceWords.{empty_block, tombstone_block, pair_block}
+use Rattle.papaya_alone.proofs.Given.RuleWords.PlaceWordsMarks.{has_copying}
 use Rattle.papaya_finishes.specs.Orders.{pair_at}
 
 -- what a word says of the pair of a place

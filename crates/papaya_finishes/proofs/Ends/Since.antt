@@ -2,16 +2,16 @@
 use Rattle.std.specs.Prelude.{◌≢◌, Some}
 use Rattle.std.proofs.Common.{◌≡◌, ℕ, zero, suc, ◌+◌, ◌<◌, ◌≤◌, Bool, true, false, List, [], ◌∷◌, ◌++◌, inl, inr, refl, arith, ap, sym, subst, ◌∙◌}
 use Rattle.std.proofs.lemmas.Bool.{cases_eq}
-use Rattle.papaya_alone.specs.Given.SeizeWords.Mem.{value_at}
-use Rattle.papaya_alone.specs.Given.Seize.Law.{With, holds}
-use Rattle.papaya_alone.specs.Given.Seize.World.{World, Row, Hand, InUse, Handed, LeftTo, IsOnto, times}
-use Rattle.papaya_alone.specs.Given.Tables.declared.node.Node.{Node}
-use Rattle.papaya_alone.specs.Given.Tables.declared.node.Node.TheVariants as node
-use Rattle.papaya_alone.specs.Given.Tables.declared.setting.Setting.{Setting}
-use Rattle.papaya_alone.specs.Given.Rule.Chart.{Chart}
-use Rattle.papaya_alone.specs.Given.Rule.Words.{Blocks}
-use Rattle.papaya_alone.specs.Given.Points.Steps.{AreLawful}
-use Rattle.papaya_alone.specs.Given.Callers.Kept.{IsMaking}
+use Rattle.papaya_alone.specs.Given.SeizeWordsMem.{value_at}
+use Rattle.papaya_alone.specs.Given.SeizeLaw.{With, holds}
+use Rattle.papaya_alone.specs.Given.SeizeWorld.{World, Row, Hand, InUse, Handed, LeftTo, IsOnto, times}
+use Rattle.papaya_alone.specs.Given.TablesDeclared.node.Node.{Node}
+use Rattle.papaya_alone.specs.Given.TablesDeclared.node.Node.TheVariants as node
+use Rattle.papaya_alone.specs.Given.TablesDeclared.setting.Setting.{Setting}
+use Rattle.papaya_alone.specs.Given.RuleChart.{Chart}
+use Rattle.papaya_alone.specs.Given.RuleWords.{Blocks}
+use Rattle.papaya_alone.specs.Given.PointsSteps.{AreLawful}
+use Rattle.papaya_alone.specs.Given.CallersKept.{IsMaking}
 use Rattle.papaya_finishes.specs.Orders.{waits_of}
 use Rattle.papaya_finishes.specs.FactsEnds.{Deed, LeavesTable, taken_by, left_by, cut_by, joined_by, Spares, HasBehind, IsTableYet, Since, BeganIn, wait_before}
 use Rattle.papaya_finishes.proofs.Ends.CountedBlocks.{times-append, some_here, some_of_first}

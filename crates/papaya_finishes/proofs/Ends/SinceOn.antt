@@ -1,20 +1,20 @@
 -- What was so since a map began to end is so in another world, where its own blocks and those that wait are as they were.
 use Rattle.std.specs.Prelude.{◌≢◌, Option, Some, None, IsSome}
 use Rattle.std.proofs.Common.{◌≡◌, ℕ, ◌<◌, ◌≤◌, Bool, true, false, List, [], refl, arith, sym, subst, ap, ◌∙◌}
-use Rattle.papaya_alone.specs.Given.SeizeWords.declared.at.At.TheVariants.{Word}
-use Rattle.papaya_alone.specs.Given.SeizeWords.Mem.{value_at, word_at}
-use Rattle.papaya_alone.specs.Given.Seize.Further.{FurtherFrom}
-use Rattle.papaya_alone.specs.Given.Seize.Law.{With, holds, is_orphan, is_over, owner_of}
-use Rattle.papaya_alone.specs.Given.Seize.World.{World, Handed, IsOnto, times}
-use Rattle.papaya_alone.proofs.Given.SeizeAlone.Histories.Reached.{Reached}
-use Rattle.papaya_alone.specs.Given.Tables.Nodes.{deferred_word}
-use Rattle.papaya_alone.specs.Given.Tables.declared.node.Node.{Node}
-use Rattle.papaya_alone.specs.Given.Tables.declared.setting.Setting.{Setting}
-use Rattle.papaya_alone.specs.Given.Tables.declared.table_words.TheConstants.{DEFERRED}
-use Rattle.papaya_alone.specs.Given.Rule.Chart.{Chart}
-use Rattle.papaya_alone.specs.Given.Rule.Words.{Blocks}
-use Rattle.papaya_alone.specs.Given.Callers.Kept.{IsMaking}
-use Rattle.papaya_alone.proofs.Given.Callers.Rows.Behind.{behind_handed, pair_on}
+use Rattle.papaya_alone.specs.Given.SeizeWordsDeclared.at.At.TheVariants.{Word}
+use Rattle.papaya_alone.specs.Given.SeizeWordsMem.{value_at, word_at}
+use Rattle.papaya_alone.specs.Given.SeizeFurther.{FurtherFrom}
+use Rattle.papaya_alone.specs.Given.SeizeLaw.{With, holds, is_orphan, is_over, owner_of}
+use Rattle.papaya_alone.specs.Given.SeizeWorld.{World, Handed, IsOnto, times}
+use Rattle.papaya_alone.proofs.Given.SeizeAloneHistories.Reached.{Reached}
+use Rattle.papaya_alone.specs.Given.TablesNodes.{deferred_word}
+use Rattle.papaya_alone.specs.Given.TablesDeclared.node.Node.{Node}
+use Rattle.papaya_alone.specs.Given.TablesDeclared.setting.Setting.{Setting}
+use Rattle.papaya_alone.specs.Given.TablesDeclared.table_words.TheConstants.{DEFERRED}
+use Rattle.papaya_alone.specs.Given.RuleChart.{Chart}
+use Rattle.papaya_alone.specs.Given.RuleWords.{Blocks}
+use Rattle.papaya_alone.specs.Given.CallersKept.{IsMaking}
+use Rattle.papaya_alone.proofs.Given.CallersRows.Behind.{behind_handed, pair_on}
 use Rattle.papaya_finishes.specs.FactsEnds.{Deed, Looks, TakesPair, LeavesTable, JoinsPair, TakesLeft, TakesCounter, WritesRoot, CarryTheirs, IsItsDeed, taken_by, left_by, cut_by, joined_by, Spares, HasBehind, IsOverStill, IsTableYet, Since, wait_before}
 use Rattle.papaya_finishes.proofs.Ends.CountedBlocks.{times_other}
 use Rattle.papaya_finishes.proofs.Ends.Memory.{list_kept}

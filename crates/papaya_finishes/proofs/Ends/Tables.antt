@@ -2,30 +2,30 @@
 use Rattle.std.specs.Prelude.{Some, None, IsSome, ◌==◌}
 use Rattle.std.proofs.Common.{◌≡◌, ℕ, suc, ◌*◌, ◌/◌, ◌<◌, ◌≤◌, Bool, true, false, List, [], ◌∷◌, ◌++◌, ◌⊎◌, inl, inr, refl, arith, ap, sym, subst, ◌∙◌}
 use Rattle.std.proofs.lemmas.Bool.{cases_lt}
-use Rattle.papaya_alone.specs.Given.SeizeWords.declared.at.At.TheVariants.{Word}
-use Rattle.papaya_alone.specs.Given.SeizeWords.Op.{Taken}
-use Rattle.papaya_alone.specs.Given.SeizeWords.Mem.{Mem, Can, Took, value_at, word_at, with_block}
-use Rattle.papaya_alone.specs.Given.SeizeWords.Plan.{Now, Seeing, May, MaySee, Steps, Ends}
-use Rattle.papaya_alone.proofs.Given.SeizeWords.OneOwner.Operations.{may_load, loaded, may_take, taken}
-use Rattle.papaya_alone.proofs.Given.SeizeWords.Plans.{see_if, ends_if}
-use Rattle.papaya_alone.specs.Given.Seize.declared.rows.settle.Settled.{Settled}
-use Rattle.papaya_alone.specs.Given.Seize.declared.rows.settle.Settled.TheVariants as settled
-use Rattle.papaya_alone.specs.Given.Seize.World.{World, Hand, NoBlock, Making, InUse, Cutting, Handed, LeftTo, times, Parting}
-use Rattle.papaya_alone.specs.Given.Tables.Nodes.{table_seen}
-use Rattle.papaya_alone.specs.Given.Raw.EndMap.{standing, afters, after_read, drops, dropped, shards, given_back}
-use Rattle.papaya_alone.specs.Given.Tables.declared.node.Node.{Node}
-use Rattle.papaya_alone.specs.Given.Tables.declared.node.Node.TheVariants as node
-use Rattle.papaya_alone.specs.Given.Tables.declared.setting.Setting.{Setting}
-use Rattle.papaya_alone.specs.Given.Tables.declared.table.Table.{Table}
-use Rattle.papaya_alone.specs.Given.Tables.declared.table_words.TheConstants.{NEXT}
-use Rattle.papaya_alone.specs.Given.Raw.declared.machines.end_map.EndMap.{EndMap}
-use Rattle.papaya_alone.specs.Given.Raw.declared.machines.end_map.Ending.TheVariants as at
-use Rattle.papaya_alone.specs.Given.Rule.Chart.{Chart}
-use Rattle.papaya_alone.specs.Given.Rule.Words.{Blocks, next_word}
-use Rattle.papaya_alone.specs.Given.Points.Steps.{AreLawful}
-use Rattle.papaya_alone.proofs.Given.Rule.Words.TablesSeen.{block_of_link}
-use Rattle.papaya_alone.proofs.Given.Rule.Words.WritesWords.{is_some_of}
-use Rattle.papaya_alone.specs.Given.Callers.Kept.{IsMaking}
+use Rattle.papaya_alone.specs.Given.SeizeWordsDeclared.at.At.TheVariants.{Word}
+use Rattle.papaya_alone.specs.Given.SeizeWordsOp.{Taken}
+use Rattle.papaya_alone.specs.Given.SeizeWordsMem.{Mem, Can, Took, value_at, word_at, with_block}
+use Rattle.papaya_alone.specs.Given.SeizeWordsPlan.{Now, Seeing, May, MaySee, Steps, Ends}
+use Rattle.papaya_alone.proofs.Given.SeizeWordsOneOwner.Operations.{may_load, loaded, may_take, taken}
+use Rattle.papaya_alone.proofs.Given.SeizeWordsPlans.{see_if, ends_if}
+use Rattle.papaya_alone.specs.Given.SeizeDeclared.rows.settle.Settled.{Settled}
+use Rattle.papaya_alone.specs.Given.SeizeDeclared.rows.settle.Settled.TheVariants as settled
+use Rattle.papaya_alone.specs.Given.SeizeWorld.{World, Hand, NoBlock, Making, InUse, Cutting, Handed, LeftTo, times, Parting}
+use Rattle.papaya_alone.specs.Given.TablesNodes.{table_seen}
+use Rattle.papaya_alone.specs.Given.RawEndMap.{standing, afters, after_read, drops, dropped, shards, given_back}
+use Rattle.papaya_alone.specs.Given.TablesDeclared.node.Node.{Node}
+use Rattle.papaya_alone.specs.Given.TablesDeclared.node.Node.TheVariants as node
+use Rattle.papaya_alone.specs.Given.TablesDeclared.setting.Setting.{Setting}
+use Rattle.papaya_alone.specs.Given.TablesDeclared.table.Table.{Table}
+use Rattle.papaya_alone.specs.Given.TablesDeclared.table_words.TheConstants.{NEXT}
+use Rattle.papaya_alone.specs.Given.RawDeclared.machines.end_map.EndMap.{EndMap}
+use Rattle.papaya_alone.specs.Given.RawDeclared.machines.end_map.Ending.TheVariants as at
+use Rattle.papaya_alone.specs.Given.RuleChart.{Chart}
+use Rattle.papaya_alone.specs.Given.RuleWords.{Blocks, next_word}
+use Rattle.papaya_alone.specs.Given.PointsSteps.{AreLawful}
+use Rattle.papaya_alone.proofs.Given.RuleWords.TablesSeen.{block_of_link}
+use Rattle.papaya_alone.proofs.Given.RuleWords.WritesWords.{is_some_of}
+use Rattle.papaya_alone.specs.Given.CallersKept.{IsMaking}
 use Rattle.papaya_finishes.specs.FactsEnds.{Looks, TakesLeft, TakesCounter, RootAt, IsJoined, IsTableYet, Since, BeganIn, IsAt, EndFacts, EndTold, EndWent, back_of, from_table, wait_before}
 use Rattle.papaya_finishes.proofs.Ends.CountedBlocks.{next_apart, later_apart, one_more}
 use Rattle.papaya_finishes.proofs.Ends.Known.{back_once, table_value, table_next, went_still, went_away}

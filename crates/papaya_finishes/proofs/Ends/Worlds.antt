@@ -2,10 +2,10 @@
 use Rattle.std.specs.Prelude.{◌≢◌, None, ◌==◌, ◌||◌, if◌then◌else◌}
 use Rattle.std.proofs.Common.{◌≡◌, ℕ, ◌<◌, Bool, true, false, cond, eqb, List, [], ◌∷◌, refl, arith, ap, subst, ◌∙◌, eqb-true}
 use Rattle.std.proofs.lemmas.Bool.{eq-eqb, ne_eqb, eqb-false}
-use Rattle.papaya_alone.specs.Given.SeizeWords.Mem.{with_block}
-use Rattle.papaya_alone.specs.Given.Seize.Law.{Nowhere, Standing, Unlinked, Dropped, LeftOver, Place, With, where_is, holds, without}
-use Rattle.papaya_alone.specs.Given.Seize.WaitingSets.{is_one_of}
-use Rattle.papaya_alone.specs.Given.Seize.World.{World, NoBlock, Cutting, LeftTo, times, with_at, all_left_to, with_hand, with_effect}
+use Rattle.papaya_alone.specs.Given.SeizeWordsMem.{with_block}
+use Rattle.papaya_alone.specs.Given.SeizeLaw.{Nowhere, Standing, Unlinked, Dropped, LeftOver, Place, With, where_is, holds, without}
+use Rattle.papaya_alone.specs.Given.SeizeWaitingSets.{is_one_of}
+use Rattle.papaya_alone.specs.Given.SeizeWorld.{World, NoBlock, Cutting, LeftTo, times, with_at, all_left_to, with_hand, with_effect}
 use Rattle.papaya_finishes.proofs.Ends.CountedBlocks.{times_here, times_other}
 
 -- one of a list stands there

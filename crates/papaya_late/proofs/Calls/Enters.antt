@@ -1,21 +1,21 @@
 -- A call enters a table that is the root's, or was since it began.
 use Rattle.std.specs.Prelude.{◌≡◌, ℕ, suc, Bool, true, false, if◌then◌else◌}
 use Rattle.std.proofs.Common.{ap, sym, subst, ◌∙◌, inl, inr, arith}
-use Rattle.papaya_points.specs.Given.Seize.World.{World}
-use Rattle.papaya_points.specs.Given.Tables.Chunks.{is_incremental}
-use Rattle.papaya_points.specs.Given.Tables.Trials.{trial_on}
-use Rattle.papaya_points.specs.Given.Tables.declared.node.Node.{Node}
-use Rattle.papaya_points.specs.Given.Tables.declared.setting.Setting.{Setting}
-use Rattle.papaya_points.specs.Given.Tables.declared.table.Table.{Table}
-use Rattle.papaya_points.specs.Given.Resize.CopierStates.{helping, copying_all}
-use Rattle.papaya_points.specs.Given.Raw.CallPoints.{going, entering, went_on}
-use Rattle.papaya_points.specs.Given.Raw.declared.machines.call.KeyCall.{KeyCall}
-use Rattle.papaya_points.specs.Given.Raw.declared.machines.call.Calling.TheVariants as at
-use Rattle.papaya_points.specs.Given.Rule.Chart.{Chart}
-use Rattle.papaya_points.specs.Given.Rule.Rule.{IsLawful}
-use Rattle.papaya_points.specs.Given.Rule.Words.{Blocks}
-use Rattle.papaya_points.specs.Given.Rule.Maps.{spot_of, IsTable, IsMap}
-use Rattle.papaya_points.proofs.Given.Rule.Keys.TriesSeen.{on_is}
+use Rattle.papaya_points.specs.Given.SeizeWorld.{World}
+use Rattle.papaya_points.specs.Given.TablesChunks.{is_incremental}
+use Rattle.papaya_points.specs.Given.TablesTrials.{trial_on}
+use Rattle.papaya_points.specs.Given.TablesDeclared.node.Node.{Node}
+use Rattle.papaya_points.specs.Given.TablesDeclared.setting.Setting.{Setting}
+use Rattle.papaya_points.specs.Given.TablesDeclared.table.Table.{Table}
+use Rattle.papaya_points.specs.Given.ResizeCopierStates.{helping, copying_all}
+use Rattle.papaya_points.specs.Given.RawCallPoints.{going, entering, went_on}
+use Rattle.papaya_points.specs.Given.RawDeclared.machines.call.KeyCall.{KeyCall}
+use Rattle.papaya_points.specs.Given.RawDeclared.machines.call.Calling.TheVariants as at
+use Rattle.papaya_points.specs.Given.RuleChart.{Chart}
+use Rattle.papaya_points.specs.Given.RuleRule.{IsLawful}
+use Rattle.papaya_points.specs.Given.RuleWords.{Blocks}
+use Rattle.papaya_points.specs.Given.RuleMaps.{spot_of, IsTable, IsMap}
+use Rattle.papaya_points.proofs.Given.RuleKeys.TriesSeen.{on_is}
 use Rattle.papaya_points.proofs.Calls.CallsOn.{Seeking}
 use Rattle.papaya_points.proofs.Calls.CallsTables.{enters_root}
 use Rattle.papaya_late.specs.Left.{Left, Entered}

@@ -1,31 +1,31 @@
 -- A call that asks in a table that the root has left, puts what it was told into its own block, or gives that block up.
 use Rattle.std.specs.Prelude.{◌≡◌, ℕ, Bool, false, Option, Some, None}
 use Rattle.std.proofs.Common.{refl, ap, sym, subst, ◌∙◌, inl, inr}
-use Rattle.papaya_points.specs.Given.SeizeWords.Mem.{Mem, value_at, Took}
-use Rattle.papaya_points.specs.Given.SeizeWords.Plan.{Turn, Now, Steps}
-use Rattle.papaya_points.specs.Given.Seize.World.{World}
-use Rattle.papaya_points.specs.Given.Raw.CallFills.{fills, gives_up}
-use Rattle.papaya_points.specs.Given.Raw.CallPoints.{standing, going}
-use Rattle.papaya_points.specs.Given.Raw.Replies.{value_for}
-use Rattle.papaya_points.specs.Given.Tables.Chunks.{is_incremental}
-use Rattle.papaya_points.specs.Given.Tables.declared.marks.TheConstants.{TOMBSTONE}
-use Rattle.papaya_points.specs.Given.Tables.declared.node.Node.{Node}
-use Rattle.papaya_points.specs.Given.Tables.declared.setting.Setting.{Setting}
-use Rattle.papaya_points.specs.Given.Raw.declared.machines.answer.End.TheVariants as ends
-use Rattle.papaya_points.specs.Given.Raw.declared.machines.answer.Called.{Called}
-use Rattle.papaya_points.specs.Given.Raw.declared.machines.answer.Called.TheVariants.{Asks, Unstored}
-use Rattle.papaya_points.specs.Given.Raw.declared.machines.asking.Asking.{Asking}
-use Rattle.papaya_points.specs.Given.Raw.declared.machines.asking.Asking.TheVariants as asking
-use Rattle.papaya_points.specs.Given.Raw.declared.machines.asking.Takes.{Takes}
-use Rattle.papaya_points.specs.Given.Raw.declared.machines.asking.Replies.{Replies}
-use Rattle.papaya_points.specs.Given.Raw.declared.machines.call.KeyCall.{KeyCall}
-use Rattle.papaya_points.specs.Given.Raw.declared.machines.call.Calling.TheVariants as at
-use Rattle.papaya_points.specs.Given.SeizeWords.declared.fault.Fault.TheVariants.{Memory}
-use Rattle.papaya_points.specs.Given.Rule.Chart.{Chart}
-use Rattle.papaya_points.specs.Given.Rule.Words.{Blocks}
-use Rattle.papaya_points.specs.Given.Rule.InWorld.{IsMapIn}
+use Rattle.papaya_points.specs.Given.SeizeWordsMem.{Mem, value_at, Took}
+use Rattle.papaya_points.specs.Given.SeizeWordsPlan.{Turn, Now, Steps}
+use Rattle.papaya_points.specs.Given.SeizeWorld.{World}
+use Rattle.papaya_points.specs.Given.RawCallFills.{fills, gives_up}
+use Rattle.papaya_points.specs.Given.RawCallPoints.{standing, going}
+use Rattle.papaya_points.specs.Given.RawReplies.{value_for}
+use Rattle.papaya_points.specs.Given.TablesChunks.{is_incremental}
+use Rattle.papaya_points.specs.Given.TablesDeclared.marks.TheConstants.{TOMBSTONE}
+use Rattle.papaya_points.specs.Given.TablesDeclared.node.Node.{Node}
+use Rattle.papaya_points.specs.Given.TablesDeclared.setting.Setting.{Setting}
+use Rattle.papaya_points.specs.Given.RawDeclared.machines.answer.End.TheVariants as ends
+use Rattle.papaya_points.specs.Given.RawDeclared.machines.answer.Called.{Called}
+use Rattle.papaya_points.specs.Given.RawDeclared.machines.answer.Called.TheVariants.{Asks, Unstored}
+use Rattle.papaya_points.specs.Given.RawDeclared.machines.asking.Asking.{Asking}
+use Rattle.papaya_points.specs.Given.RawDeclared.machines.asking.Asking.TheVariants as asking
+use Rattle.papaya_points.specs.Given.RawDeclared.machines.asking.Takes.{Takes}
+use Rattle.papaya_points.specs.Given.RawDeclared.machines.asking.Replies.{Replies}
+use Rattle.papaya_points.specs.Given.RawDeclared.machines.call.KeyCall.{KeyCall}
+use Rattle.papaya_points.specs.Given.RawDeclared.machines.call.Calling.TheVariants as at
+use Rattle.papaya_points.specs.Given.SeizeWordsDeclared.fault.Fault.TheVariants.{Memory}
+use Rattle.papaya_points.specs.Given.RuleChart.{Chart}
+use Rattle.papaya_points.specs.Given.RuleWords.{Blocks}
+use Rattle.papaya_points.specs.Given.RuleInWorld.{IsMapIn}
 use Rattle.papaya_points.specs.FactsCalls.{Unchanged, MayStore, RepliesFit, ByReply, holding, IsOwnPair, HasIts, NamesPair, MayReplace, MayTry, IsToFill}
-use Rattle.papaya_points.proofs.Given.Rule.World.WentStill.{went_still}
+use Rattle.papaya_points.proofs.Given.RuleWorld.WentStill.{went_still}
 use Rattle.papaya_points.proofs.Calls.CallsOn.{Seeking}
 use Rattle.papaya_points.proofs.Calls.FillSteps as steps
 use Rattle.papaya_points.proofs.MovedLasts.{idle_in}

@@ -1,38 +1,38 @@
 -- What a call does by what it finds at its try, in a table that the root has left.
 use Rattle.std.specs.Prelude.{◌≡◌, ℕ, suc, ◌^◌, ◌<◌, Bool, true, false, Option, Some, None, if◌then◌else◌}
 use Rattle.std.proofs.Common.{refl, ap, sym, subst, ◌∙◌, inl, inr}
-use Rattle.papaya_points.specs.Given.Seize.World.{World}
-use Rattle.papaya_points.specs.Given.Tables.Chunks.{is_incremental}
-use Rattle.papaya_points.specs.Given.Tables.Finding.{finding}
-use Rattle.papaya_points.specs.Given.Tables.Trials.{next_trial, with_met}
-use Rattle.papaya_points.specs.Given.Tables.declared.marks.TheConstants.{TOMBSTONE}
-use Rattle.papaya_points.specs.Given.Tables.declared.node.Node.{Node}
-use Rattle.papaya_points.specs.Given.Tables.declared.setting.Setting.{Setting}
-use Rattle.papaya_points.specs.Given.Tables.declared.trial.Trial.{Trial}
-use Rattle.papaya_points.specs.Given.Tables.declared.finding.Finding.{Finding}
-use Rattle.papaya_points.specs.Given.Tables.declared.finding.Finding.TheVariants as is
-use Rattle.papaya_points.specs.Given.Raw.CallPoints.{aim_of, going, told, told_of, at_free, at_end, at_pair, beyond, passed}
-use Rattle.papaya_points.specs.Given.Raw.declared.machines.answer.There.{There}
-use Rattle.papaya_points.specs.Given.Raw.declared.machines.answer.There.TheVariants as there
-use Rattle.papaya_points.specs.Given.Raw.declared.machines.answer.Missing.{Missing}
-use Rattle.papaya_points.specs.Given.Raw.declared.machines.answer.Missing.TheVariants as missing
-use Rattle.papaya_points.specs.Given.Raw.declared.machines.answer.KeyAnswer.TheVariants as answers
-use Rattle.papaya_points.specs.Given.Raw.declared.machines.answer.Called.{Called}
-use Rattle.papaya_points.specs.Given.Raw.declared.machines.asking.Gap.TheVariants as gaps
-use Rattle.papaya_points.specs.Given.Raw.declared.machines.call.KeyCall.{KeyCall}
-use Rattle.papaya_points.specs.Given.Raw.declared.machines.call.Calling.TheVariants as at
-use Rattle.papaya_points.specs.Given.Rule.Chart.{Phase, Still, Place, Holds, Chart, is_taken}
-use Rattle.papaya_points.specs.Given.Rule.Rule.{IsLawful, Passed, Rule}
-use Rattle.papaya_points.specs.Given.Rule.Words.{Blocks, byte_of, place_word}
-use Rattle.papaya_points.specs.Given.Rule.Maps.{spot_at, spot_of, IsTrial}
-use Rattle.papaya_points.specs.Given.Rule.InWorld.{IsMapIn}
-use Rattle.papaya_points.specs.Given.Rule.Moments.{Moments}
-use Rattle.papaya_points.proofs.Given.Rule.Words.PlaceWords.{HasBlock}
-use Rattle.papaya_points.proofs.Given.Rule.Words.PlacesShown.{AreStored, are_stored, shown_block, shown_byte, shown_known}
-use Rattle.papaya_points.proofs.Given.Rule.Words.PlacesRead.{place_keyed}
-use Rattle.papaya_points.proofs.Given.Rule.Words.WordsSeen.{HasKey, Tells, Says, SaysFree, SaysPassed, SaysThere, says}
-use Rattle.papaya_points.proofs.Given.Rule.Keys.TriesSeen.{IsNext, next_is, trial_met}
-use Rattle.papaya_points.proofs.Given.Rule.Keys.ClassesSeen.{passed_further}
+use Rattle.papaya_points.specs.Given.SeizeWorld.{World}
+use Rattle.papaya_points.specs.Given.TablesChunks.{is_incremental}
+use Rattle.papaya_points.specs.Given.TablesFinding.{finding}
+use Rattle.papaya_points.specs.Given.TablesTrials.{next_trial, with_met}
+use Rattle.papaya_points.specs.Given.TablesDeclared.marks.TheConstants.{TOMBSTONE}
+use Rattle.papaya_points.specs.Given.TablesDeclared.node.Node.{Node}
+use Rattle.papaya_points.specs.Given.TablesDeclared.setting.Setting.{Setting}
+use Rattle.papaya_points.specs.Given.TablesDeclared.trial.Trial.{Trial}
+use Rattle.papaya_points.specs.Given.TablesDeclared.finding.Finding.{Finding}
+use Rattle.papaya_points.specs.Given.TablesDeclared.finding.Finding.TheVariants as is
+use Rattle.papaya_points.specs.Given.RawCallPoints.{aim_of, going, told, told_of, at_free, at_end, at_pair, beyond, passed}
+use Rattle.papaya_points.specs.Given.RawDeclared.machines.answer.There.{There}
+use Rattle.papaya_points.specs.Given.RawDeclared.machines.answer.There.TheVariants as there
+use Rattle.papaya_points.specs.Given.RawDeclared.machines.answer.Missing.{Missing}
+use Rattle.papaya_points.specs.Given.RawDeclared.machines.answer.Missing.TheVariants as missing
+use Rattle.papaya_points.specs.Given.RawDeclared.machines.answer.KeyAnswer.TheVariants as answers
+use Rattle.papaya_points.specs.Given.RawDeclared.machines.answer.Called.{Called}
+use Rattle.papaya_points.specs.Given.RawDeclared.machines.asking.Gap.TheVariants as gaps
+use Rattle.papaya_points.specs.Given.RawDeclared.machines.call.KeyCall.{KeyCall}
+use Rattle.papaya_points.specs.Given.RawDeclared.machines.call.Calling.TheVariants as at
+use Rattle.papaya_points.specs.Given.RuleChart.{Phase, Still, Place, Holds, Chart, is_taken}
+use Rattle.papaya_points.specs.Given.RuleRule.{IsLawful, Passed, Rule}
+use Rattle.papaya_points.specs.Given.RuleWords.{Blocks, byte_of, place_word}
+use Rattle.papaya_points.specs.Given.RuleMaps.{spot_at, spot_of, IsTrial}
+use Rattle.papaya_points.specs.Given.RuleInWorld.{IsMapIn}
+use Rattle.papaya_points.specs.Given.RuleMoments.{Moments}
+use Rattle.papaya_points.proofs.Given.RuleWords.PlaceWords.{HasBlock}
+use Rattle.papaya_points.proofs.Given.RuleWords.PlacesShown.{AreStored, are_stored, shown_block, shown_byte, shown_known}
+use Rattle.papaya_points.proofs.Given.RuleWords.PlacesRead.{place_keyed}
+use Rattle.papaya_points.proofs.Given.RuleWords.WordsSeen.{HasKey, Tells, Says, SaysFree, SaysPassed, SaysThere, says}
+use Rattle.papaya_points.proofs.Given.RuleKeys.TriesSeen.{IsNext, next_is, trial_met}
+use Rattle.papaya_points.proofs.Given.RuleKeys.ClassesSeen.{passed_further}
 use Rattle.papaya_points.proofs.Calls.CallsOn.{Seeking, seeking_at}
 use Rattle.papaya_points.specs.FactsCalls.{Unchanged, NamesPair}
 use Rattle.papaya_points.proofs.Calls.Holdings.{pair_missing, pair_there, none_removes}

@@ -1,28 +1,28 @@
 -- How a call goes on from a table that the root has left: what it knows where it comes to.
 use Rattle.std.specs.Prelude.{◌≡◌, ℕ, ◌==◌, Bool, true, false, cond, Option, if◌then◌else◌}
 use Rattle.std.proofs.Common.{refl, sym, subst, inl, inr}
-use Rattle.papaya_points.specs.Given.SeizeWords.Mem.{Mem}
-use Rattle.papaya_points.specs.Given.Seize.World.{World}
-use Rattle.papaya_points.specs.Given.SeizeWords.declared.fault.Fault.{Fault}
-use Rattle.papaya_points.specs.Given.Raw.Answers.{ended}
-use Rattle.papaya_points.specs.Given.Raw.CallPoints.{standing, going, over, told_answer, ending, answering}
-use Rattle.papaya_points.specs.Given.Tables.Chunks.{is_incremental}
-use Rattle.papaya_points.specs.Given.Tables.declared.node.Node.{Node}
-use Rattle.papaya_points.specs.Given.Tables.declared.setting.Setting.{Setting}
-use Rattle.papaya_points.specs.Given.Tables.declared.trial.Trial.{Trial}
-use Rattle.papaya_points.specs.Given.Raw.declared.machines.answer.KeyAnswer.{KeyAnswer}
-use Rattle.papaya_points.specs.Given.Raw.declared.machines.answer.End.{End}
-use Rattle.papaya_points.specs.Given.Raw.declared.machines.answer.End.TheVariants as ends
-use Rattle.papaya_points.specs.Given.Raw.declared.machines.answer.Called.{Called}
-use Rattle.papaya_points.specs.Given.Raw.declared.machines.answer.Called.TheVariants.{Asks}
-use Rattle.papaya_points.specs.Given.Raw.declared.machines.asking.Asking.{Asking}
-use Rattle.papaya_points.specs.Given.Raw.declared.machines.call.KeyCall.{KeyCall}
-use Rattle.papaya_points.specs.Given.Raw.declared.machines.call.Calling.{Calling}
-use Rattle.papaya_points.specs.Given.Raw.declared.machines.call.Calling.TheVariants as at
-use Rattle.papaya_points.specs.Given.Rule.Chart.{Chart}
-use Rattle.papaya_points.specs.Given.Rule.Words.{Blocks}
-use Rattle.papaya_points.specs.Given.Rule.InWorld.{IsMapIn, Went}
-use Rattle.papaya_points.proofs.Given.Rule.World.WentStill.{went_still}
+use Rattle.papaya_points.specs.Given.SeizeWordsMem.{Mem}
+use Rattle.papaya_points.specs.Given.SeizeWorld.{World}
+use Rattle.papaya_points.specs.Given.SeizeWordsDeclared.fault.Fault.{Fault}
+use Rattle.papaya_points.specs.Given.RawAnswers.{ended}
+use Rattle.papaya_points.specs.Given.RawCallPoints.{standing, going, over, told_answer, ending, answering}
+use Rattle.papaya_points.specs.Given.TablesChunks.{is_incremental}
+use Rattle.papaya_points.specs.Given.TablesDeclared.node.Node.{Node}
+use Rattle.papaya_points.specs.Given.TablesDeclared.setting.Setting.{Setting}
+use Rattle.papaya_points.specs.Given.TablesDeclared.trial.Trial.{Trial}
+use Rattle.papaya_points.specs.Given.RawDeclared.machines.answer.KeyAnswer.{KeyAnswer}
+use Rattle.papaya_points.specs.Given.RawDeclared.machines.answer.End.{End}
+use Rattle.papaya_points.specs.Given.RawDeclared.machines.answer.End.TheVariants as ends
+use Rattle.papaya_points.specs.Given.RawDeclared.machines.answer.Called.{Called}
+use Rattle.papaya_points.specs.Given.RawDeclared.machines.answer.Called.TheVariants.{Asks}
+use Rattle.papaya_points.specs.Given.RawDeclared.machines.asking.Asking.{Asking}
+use Rattle.papaya_points.specs.Given.RawDeclared.machines.call.KeyCall.{KeyCall}
+use Rattle.papaya_points.specs.Given.RawDeclared.machines.call.Calling.{Calling}
+use Rattle.papaya_points.specs.Given.RawDeclared.machines.call.Calling.TheVariants as at
+use Rattle.papaya_points.specs.Given.RuleChart.{Chart}
+use Rattle.papaya_points.specs.Given.RuleWords.{Blocks}
+use Rattle.papaya_points.specs.Given.RuleInWorld.{IsMapIn, Went}
+use Rattle.papaya_points.proofs.Given.RuleWorld.WentStill.{went_still}
 use Rattle.papaya_points.specs.FactsCalls.{IsCopying, holding}
 use Rattle.papaya_points.specs.FactsCopies.{HasDone, ClaimsNone}
 use Rattle.papaya_points.specs.FactsCopiesBlocking.{HasNoShares}

@@ -1,27 +1,27 @@
 -- A call reads the word of its try, or tries to replace it, in a table that the root has left: all that stands there is marked.
 use Rattle.std.specs.Prelude.{◌≡◌, ℕ, ◌^◌, ◌<◌, Bool, true, false, Some}
 use Rattle.std.proofs.Common.{ap, subst, ◌∙◌, inl, inr}
-use Rattle.papaya_points.specs.Given.SeizeWords.Mem.{Mem, value_at, word_at, Took}
-use Rattle.papaya_points.specs.Given.SeizeWords.Plan.{Steps}
-use Rattle.papaya_points.proofs.Given.SeizeWords.OneOwner.Operations.{exchanged}
-use Rattle.papaya_points.specs.Given.Seize.World.{World}
-use Rattle.papaya_points.specs.Given.Tables.Chunks.{is_incremental}
-use Rattle.papaya_points.specs.Given.Tables.Marks.{has_mark}
-use Rattle.papaya_points.specs.Given.Tables.Trials.{place_tried}
-use Rattle.papaya_points.specs.Given.Tables.declared.marks.TheConstants.{COPYING}
-use Rattle.papaya_points.specs.Given.Tables.declared.node.Node.{Node}
-use Rattle.papaya_points.specs.Given.Tables.declared.setting.Setting.{Setting}
-use Rattle.papaya_points.specs.Given.Raw.Call.{probes, tries, tried}
-use Rattle.papaya_points.specs.Given.Raw.declared.machines.answer.Called.{Called}
-use Rattle.papaya_points.specs.Given.Raw.declared.machines.call.KeyCall.{KeyCall}
-use Rattle.papaya_points.specs.Given.Rule.Chart.{Still, Holds, Chart}
-use Rattle.papaya_points.specs.Given.Rule.Rule.{IsLawful, Passed, Rule}
-use Rattle.papaya_points.specs.Given.Rule.Words.{Blocks, byte_of}
-use Rattle.papaya_points.specs.Given.Rule.Maps.{spot_at, spot_of, IsTrial}
-use Rattle.papaya_points.specs.Given.Rule.InWorld.{IsMapIn}
-use Rattle.papaya_points.specs.Given.Rule.Moments.{Moments}
-use Rattle.papaya_points.proofs.Given.Rule.Words.PlaceWordsMarks.{has_copying}
-use Rattle.papaya_points.proofs.Given.Rule.Keys.TriesSeen.{spot_inside}
+use Rattle.papaya_points.specs.Given.SeizeWordsMem.{Mem, value_at, word_at, Took}
+use Rattle.papaya_points.specs.Given.SeizeWordsPlan.{Steps}
+use Rattle.papaya_points.proofs.Given.SeizeWordsOneOwner.Operations.{exchanged}
+use Rattle.papaya_points.specs.Given.SeizeWorld.{World}
+use Rattle.papaya_points.specs.Given.TablesChunks.{is_incremental}
+use Rattle.papaya_points.specs.Given.TablesMarks.{has_mark}
+use Rattle.papaya_points.specs.Given.TablesTrials.{place_tried}
+use Rattle.papaya_points.specs.Given.TablesDeclared.marks.TheConstants.{COPYING}
+use Rattle.papaya_points.specs.Given.TablesDeclared.node.Node.{Node}
+use Rattle.papaya_points.specs.Given.TablesDeclared.setting.Setting.{Setting}
+use Rattle.papaya_points.specs.Given.RawCall.{probes, tries, tried}
+use Rattle.papaya_points.specs.Given.RawDeclared.machines.answer.Called.{Called}
+use Rattle.papaya_points.specs.Given.RawDeclared.machines.call.KeyCall.{KeyCall}
+use Rattle.papaya_points.specs.Given.RuleChart.{Still, Holds, Chart}
+use Rattle.papaya_points.specs.Given.RuleRule.{IsLawful, Passed, Rule}
+use Rattle.papaya_points.specs.Given.RuleWords.{Blocks, byte_of}
+use Rattle.papaya_points.specs.Given.RuleMaps.{spot_at, spot_of, IsTrial}
+use Rattle.papaya_points.specs.Given.RuleInWorld.{IsMapIn}
+use Rattle.papaya_points.specs.Given.RuleMoments.{Moments}
+use Rattle.papaya_points.proofs.Given.RuleWords.PlaceWordsMarks.{has_copying}
+use Rattle.papaya_points.proofs.Given.RuleKeys.TriesSeen.{spot_inside}
 use Rattle.papaya_points.specs.FactsCalls.{Unchanged, NamesPair, MayTry}
 use Rattle.papaya_points.proofs.Calls.CallsOn.{Seeking}
 use Rattle.papaya_points.proofs.Calls.Probes.{probes_tell, read_tells}

@@ -2,38 +2,38 @@
 use Rattle.std.specs.Prelude.{Some}
 use Rattle.std.proofs.Common.{◌≡◌, ◌≢◌, ℕ, ◌+◌, ◌%◌, ◌^◌, ◌==◌, Bool, true, false, cond, ◌⊎◌, inl, inr, refl, ap, sym, ◌∙◌, arith}
 use Rattle.std.proofs.lemmas.Bool.{ne_eqb, le-ltb}
-use Rattle.papaya_points.specs.Given.SeizeWords.declared.at.At.{At}
-use Rattle.papaya_points.specs.Given.SeizeWords.Mem.{Mem, Took, value_at, word_at, with_word}
-use Rattle.papaya_points.specs.Given.SeizeWords.Op.{Add, Found}
-use Rattle.papaya_points.specs.Given.SeizeWords.Plan.{Steps}
-use Rattle.papaya_points.proofs.Given.SeizeWords.OneOwner.Operations.{added, stored}
-use Rattle.papaya_points.proofs.Given.SeizeWords.Plans.{ends_if}
-use Rattle.papaya_points.specs.Given.Seize.World.{World}
-use Rattle.papaya_points.specs.Given.Tables.Chunks.{is_incremental}
-use Rattle.papaya_points.specs.Given.Tables.TablePlaces.{at_word}
-use Rattle.papaya_points.specs.Given.Tables.declared.node.Node.{Node}
-use Rattle.papaya_points.specs.Given.Tables.declared.setting.Setting.{Setting}
-use Rattle.papaya_points.specs.Given.Tables.declared.status.TheConstants.Status.{ABORTED}
-use Rattle.papaya_points.specs.Given.Tables.declared.table.Table.{Table}
-use Rattle.papaya_points.specs.Given.Tables.declared.table_words.TheConstants.{COPIED, STATUS}
-use Rattle.papaya_points.specs.Given.Resize.CopierCounts.{counts, counted}
-use Rattle.papaya_points.specs.Given.Resize.CopierFurther.{aborts, to}
-use Rattle.papaya_points.specs.Given.Resize.CopierStates.{standing, behind}
-use Rattle.papaya_points.specs.Given.Resize.declared.copier.Copier.{Copier}
-use Rattle.papaya_points.specs.Given.Resize.declared.copier.Copying.TheVariants as at
-use Rattle.papaya_points.specs.Given.Resize.declared.outcome.Outcome.{Outcome}
-use Rattle.papaya_points.specs.Given.Resize.declared.outcome.Outcome.TheVariants.{Goes}
-use Rattle.papaya_points.specs.Given.Rule.Chart.{Chart}
-use Rattle.papaya_points.specs.Given.Rule.InWorld.{IsMapIn}
-use Rattle.papaya_points.specs.Given.Rule.Maps.{spot_of}
-use Rattle.papaya_points.specs.Given.Rule.Moves.{counted_to, Counts, is_of_caller, after}
-use Rattle.papaya_points.specs.Given.Rule.Rule.{IsLawful}
-use Rattle.papaya_points.specs.Given.Rule.Words.{Blocks, Shows}
-use Rattle.papaya_points.proofs.Given.Rule.Words.OwnWords.{own_at_word}
-use Rattle.papaya_points.proofs.Given.Rule.Words.TablesSeen.{word_stands}
-use Rattle.papaya_points.proofs.Given.Rule.Words.WritesWords.{is_some_of}
-use Rattle.papaya_points.proofs.Given.Rule.Words.WrittenAgain.{written_again}
-use Rattle.papaya_points.proofs.Given.Rule.World.Hands.{Hands}
+use Rattle.papaya_points.specs.Given.SeizeWordsDeclared.at.At.{At}
+use Rattle.papaya_points.specs.Given.SeizeWordsMem.{Mem, Took, value_at, word_at, with_word}
+use Rattle.papaya_points.specs.Given.SeizeWordsOp.{Add, Found}
+use Rattle.papaya_points.specs.Given.SeizeWordsPlan.{Steps}
+use Rattle.papaya_points.proofs.Given.SeizeWordsOneOwner.Operations.{added, stored}
+use Rattle.papaya_points.proofs.Given.SeizeWordsPlans.{ends_if}
+use Rattle.papaya_points.specs.Given.SeizeWorld.{World}
+use Rattle.papaya_points.specs.Given.TablesChunks.{is_incremental}
+use Rattle.papaya_points.specs.Given.TablesTablePlaces.{at_word}
+use Rattle.papaya_points.specs.Given.TablesDeclared.node.Node.{Node}
+use Rattle.papaya_points.specs.Given.TablesDeclared.setting.Setting.{Setting}
+use Rattle.papaya_points.specs.Given.TablesDeclared.status.TheConstants.Status.{ABORTED}
+use Rattle.papaya_points.specs.Given.TablesDeclared.table.Table.{Table}
+use Rattle.papaya_points.specs.Given.TablesDeclared.table_words.TheConstants.{COPIED, STATUS}
+use Rattle.papaya_points.specs.Given.ResizeCopierCounts.{counts, counted}
+use Rattle.papaya_points.specs.Given.ResizeCopierFurther.{aborts, to}
+use Rattle.papaya_points.specs.Given.ResizeCopierStates.{standing, behind}
+use Rattle.papaya_points.specs.Given.ResizeDeclared.copier.Copier.{Copier}
+use Rattle.papaya_points.specs.Given.ResizeDeclared.copier.Copying.TheVariants as at
+use Rattle.papaya_points.specs.Given.ResizeDeclared.outcome.Outcome.{Outcome}
+use Rattle.papaya_points.specs.Given.ResizeDeclared.outcome.Outcome.TheVariants.{Goes}
+use Rattle.papaya_points.specs.Given.RuleChart.{Chart}
+use Rattle.papaya_points.specs.Given.RuleInWorld.{IsMapIn}
+use Rattle.papaya_points.specs.Given.RuleMaps.{spot_of}
+use Rattle.papaya_points.specs.Given.RuleMoves.{counted_to, Counts, is_of_caller, after}
+use Rattle.papaya_points.specs.Given.RuleRule.{IsLawful}
+use Rattle.papaya_points.specs.Given.RuleWords.{Blocks, Shows}
+use Rattle.papaya_points.proofs.Given.RuleWords.OwnWords.{own_at_word}
+use Rattle.papaya_points.proofs.Given.RuleWords.TablesSeen.{word_stands}
+use Rattle.papaya_points.proofs.Given.RuleWords.WritesWords.{is_some_of}
+use Rattle.papaya_points.proofs.Given.RuleWords.WrittenAgain.{written_again}
+use Rattle.papaya_points.proofs.Given.RuleWorld.Hands.{Hands}
 use Rattle.papaya_points.specs.FactsCopiesBlocking.{HasNoShares}
 use Rattle.papaya_points.proofs.Blocking.Targets.{copied_is, copied_shows}
 use Rattle.papaya_late.specs.LateCopies.{CopiesLate, CopiesAborted, LateCopying}

@@ -2,33 +2,33 @@
 use Rattle.std.specs.Prelude.{Some}
 use Rattle.std.proofs.Common.{◌≡◌, ◌≢◌, ℕ, ◌*◌, ◌/◌, ◌<◌, Bool, false, cond, inl, inr, refl, ap, ◌∙◌, arith}
 use Rattle.std.proofs.lemmas.Bool.{eq-eqb, ne_eqb}
-use Rattle.papaya_points.specs.Given.SeizeWords.declared.at.At.TheVariants.{Root, Word}
-use Rattle.papaya_points.specs.Given.SeizeWords.Mem.{Mem, Can, Took, value_at, word_at, with_word}
-use Rattle.papaya_points.specs.Given.SeizeWords.Op.{Store, Stored}
-use Rattle.papaya_points.specs.Given.SeizeWords.Plan.{May, Steps}
-use Rattle.papaya_points.proofs.Given.SeizeWords.OneOwner.Operations.{stored, loaded, may_exchange, exchanged}
-use Rattle.papaya_points.specs.Given.Seize.World.{World}
-use Rattle.papaya_points.specs.Given.Tables.Chunks.{is_incremental}
-use Rattle.papaya_points.specs.Given.Tables.TablePlaces.{at_word}
-use Rattle.papaya_points.specs.Given.Tables.declared.node.Node.{Node}
-use Rattle.papaya_points.specs.Given.Tables.declared.setting.Setting.{Setting}
-use Rattle.papaya_points.specs.Given.Tables.declared.status.TheConstants.Status.{PROMOTED}
-use Rattle.papaya_points.specs.Given.Tables.declared.table.Table.{Table}
-use Rattle.papaya_points.specs.Given.Tables.declared.table_words.TheConstants.{NEXT, STATUS}
-use Rattle.papaya_points.specs.Given.Resize.CopierPromotes.{to, also_retired, retiring_table, promoted, promotes, announces, successor_read, succeeds}
-use Rattle.papaya_points.specs.Given.Resize.CopierStates.{standing, behind}
-use Rattle.papaya_points.specs.Given.Resize.declared.copier.Copier.{Copier}
-use Rattle.papaya_points.specs.Given.Resize.declared.copier.Copying.TheVariants as at
-use Rattle.papaya_points.specs.Given.Resize.declared.outcome.Outcome.{Outcome}
-use Rattle.papaya_points.specs.Given.Resize.declared.outcome.Outcome.TheVariants.{Goes}
-use Rattle.papaya_points.specs.Given.Rule.Chart.{Chart, put}
-use Rattle.papaya_points.specs.Given.Rule.InWorld.{IsMapIn}
-use Rattle.papaya_points.specs.Given.Rule.Maps.{spot_of, IsTable}
-use Rattle.papaya_points.specs.Given.Rule.Moves.{Announces, after}
-use Rattle.papaya_points.specs.Given.Rule.Rule.{IsLawful}
-use Rattle.papaya_points.specs.Given.Rule.Words.{Blocks}
-use Rattle.papaya_points.proofs.Given.Rule.Words.OwnWords.{own_at_word}
-use Rattle.papaya_points.proofs.Given.Rule.Words.WritesWords.{is_some_of}
+use Rattle.papaya_points.specs.Given.SeizeWordsDeclared.at.At.TheVariants.{Root, Word}
+use Rattle.papaya_points.specs.Given.SeizeWordsMem.{Mem, Can, Took, value_at, word_at, with_word}
+use Rattle.papaya_points.specs.Given.SeizeWordsOp.{Store, Stored}
+use Rattle.papaya_points.specs.Given.SeizeWordsPlan.{May, Steps}
+use Rattle.papaya_points.proofs.Given.SeizeWordsOneOwner.Operations.{stored, loaded, may_exchange, exchanged}
+use Rattle.papaya_points.specs.Given.SeizeWorld.{World}
+use Rattle.papaya_points.specs.Given.TablesChunks.{is_incremental}
+use Rattle.papaya_points.specs.Given.TablesTablePlaces.{at_word}
+use Rattle.papaya_points.specs.Given.TablesDeclared.node.Node.{Node}
+use Rattle.papaya_points.specs.Given.TablesDeclared.setting.Setting.{Setting}
+use Rattle.papaya_points.specs.Given.TablesDeclared.status.TheConstants.Status.{PROMOTED}
+use Rattle.papaya_points.specs.Given.TablesDeclared.table.Table.{Table}
+use Rattle.papaya_points.specs.Given.TablesDeclared.table_words.TheConstants.{NEXT, STATUS}
+use Rattle.papaya_points.specs.Given.ResizeCopierPromotes.{to, also_retired, retiring_table, promoted, promotes, announces, successor_read, succeeds}
+use Rattle.papaya_points.specs.Given.ResizeCopierStates.{standing, behind}
+use Rattle.papaya_points.specs.Given.ResizeDeclared.copier.Copier.{Copier}
+use Rattle.papaya_points.specs.Given.ResizeDeclared.copier.Copying.TheVariants as at
+use Rattle.papaya_points.specs.Given.ResizeDeclared.outcome.Outcome.{Outcome}
+use Rattle.papaya_points.specs.Given.ResizeDeclared.outcome.Outcome.TheVariants.{Goes}
+use Rattle.papaya_points.specs.Given.RuleChart.{Chart, put}
+use Rattle.papaya_points.specs.Given.RuleInWorld.{IsMapIn}
+use Rattle.papaya_points.specs.Given.RuleMaps.{spot_of, IsTable}
+use Rattle.papaya_points.specs.Given.RuleMoves.{Announces, after}
+use Rattle.papaya_points.specs.Given.RuleRule.{IsLawful}
+use Rattle.papaya_points.specs.Given.RuleWords.{Blocks}
+use Rattle.papaya_points.proofs.Given.RuleWords.OwnWords.{own_at_word}
+use Rattle.papaya_points.proofs.Given.RuleWords.WritesWords.{is_some_of}
 use Rattle.papaya_points.proofs.Copiers.CopierMoves.{table_again}
 use Rattle.papaya_points.proofs.Blocking.Successors.{next_read, is_to_retire, rest_between, rest_last}
 use Rattle.papaya_points.proofs.Blocking.Targets.{status_is, status_shows}

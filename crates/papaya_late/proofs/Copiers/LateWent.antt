@@ -2,30 +2,30 @@
 use Rattle.std.specs.Prelude.{IsSome}
 use Rattle.std.proofs.Common.{◌≡◌, ◌≢◌, ℕ, ◌<◌, ◌≤◌, Bool, false, inl, inr, refl, ap, sym, subst, ◌∙◌, arith}
 use Rattle.std.proofs.lemmas.Bool.{cases_eq}
-use Rattle.papaya_points.specs.Given.SeizeWords.declared.at.At.{At}
-use Rattle.papaya_points.specs.Given.SeizeWords.Op.{Op, Out}
-use Rattle.papaya_points.specs.Given.SeizeWords.Mem.{Mem, Gives, word_at, with_word, after as mem_after}
-use Rattle.papaya_points.specs.Given.Seize.World.{World}
-use Rattle.papaya_points.specs.Given.Tables.Chunks.{is_incremental}
-use Rattle.papaya_points.specs.Given.Tables.declared.node.Node.{Node}
-use Rattle.papaya_points.specs.Given.Tables.declared.setting.Setting.{Setting}
-use Rattle.papaya_points.specs.Given.Tables.declared.status.TheConstants.Status.{ABORTED}
-use Rattle.papaya_points.specs.Given.Tables.declared.table.Table.{Table}
-use Rattle.papaya_points.specs.Given.Resize.declared.copier.Copier.{Copier}
-use Rattle.papaya_points.specs.Given.Resize.declared.outcome.Outcome.{Outcome}
-use Rattle.papaya_points.specs.Given.Resize.declared.outcome.Outcome.TheVariants.{Goes}
-use Rattle.papaya_points.specs.Given.Rule.Chart.{Chart}
-use Rattle.papaya_points.specs.Given.Rule.Rule.{IsLawful}
-use Rattle.papaya_points.specs.Given.Rule.Lasts.{IsBy}
-use Rattle.papaya_points.specs.Given.Rule.Moves.{Move, after, Allowed}
-use Rattle.papaya_points.specs.Given.Rule.Words.{Blocks, Shows}
-use Rattle.papaya_points.specs.Given.Rule.Maps.{spot_of, IsTable}
-use Rattle.papaya_points.specs.Given.Rule.InWorld.{IsMapIn, SparesPairs, Went}
-use Rattle.papaya_points.proofs.Given.Rule.World.Footprints.{MayWriteBy}
-use Rattle.papaya_points.proofs.Given.Rule.World.Hands.{Hands}
-use Rattle.papaya_points.proofs.Given.Rule.World.MovesKnown.{IsOfKnown}
-use Rattle.papaya_points.proofs.Given.Rule.World.WentStill.{went_still, spares_same, spares_written}
-use Rattle.papaya_points.proofs.Given.Rule.World.WentWrote.{went_moved}
+use Rattle.papaya_points.specs.Given.SeizeWordsDeclared.at.At.{At}
+use Rattle.papaya_points.specs.Given.SeizeWordsOp.{Op, Out}
+use Rattle.papaya_points.specs.Given.SeizeWordsMem.{Mem, Gives, word_at, with_word, after as mem_after}
+use Rattle.papaya_points.specs.Given.SeizeWorld.{World}
+use Rattle.papaya_points.specs.Given.TablesChunks.{is_incremental}
+use Rattle.papaya_points.specs.Given.TablesDeclared.node.Node.{Node}
+use Rattle.papaya_points.specs.Given.TablesDeclared.setting.Setting.{Setting}
+use Rattle.papaya_points.specs.Given.TablesDeclared.status.TheConstants.Status.{ABORTED}
+use Rattle.papaya_points.specs.Given.TablesDeclared.table.Table.{Table}
+use Rattle.papaya_points.specs.Given.ResizeDeclared.copier.Copier.{Copier}
+use Rattle.papaya_points.specs.Given.ResizeDeclared.outcome.Outcome.{Outcome}
+use Rattle.papaya_points.specs.Given.ResizeDeclared.outcome.Outcome.TheVariants.{Goes}
+use Rattle.papaya_points.specs.Given.RuleChart.{Chart}
+use Rattle.papaya_points.specs.Given.RuleRule.{IsLawful}
+use Rattle.papaya_points.specs.Given.RuleLasts.{IsBy}
+use Rattle.papaya_points.specs.Given.RuleMoves.{Move, after, Allowed}
+use Rattle.papaya_points.specs.Given.RuleWords.{Blocks, Shows}
+use Rattle.papaya_points.specs.Given.RuleMaps.{spot_of, IsTable}
+use Rattle.papaya_points.specs.Given.RuleInWorld.{IsMapIn, SparesPairs, Went}
+use Rattle.papaya_points.proofs.Given.RuleWorld.Footprints.{MayWriteBy}
+use Rattle.papaya_points.proofs.Given.RuleWorld.Hands.{Hands}
+use Rattle.papaya_points.proofs.Given.RuleWorld.MovesKnown.{IsOfKnown}
+use Rattle.papaya_points.proofs.Given.RuleWorld.WentStill.{went_still, spares_same, spares_written}
+use Rattle.papaya_points.proofs.Given.RuleWorld.WentWrote.{went_moved}
 use Rattle.papaya_points.proofs.Copiers.CopierMoves.{table_again}
 use Rattle.papaya_points.specs.FactsCopiesBlocking.{HasNoShares}
 use Rattle.papaya_late.specs.Left.{Left}

@@ -1,32 +1,32 @@
 -- A copier marks a place of its source, which the root has left: it was marked, and stays as it is.
 use Rattle.std.specs.Prelude.{Some, bit_or}
 use Rattle.std.proofs.Common.{◌≡◌, ◌≢◌, ℕ, ◌+◌, ◌^◌, ◌<◌, Bool, true, false, inl, inr, refl, ap, sym, subst, ◌∙◌, arith}
-use Rattle.papaya_points.specs.Given.SeizeWords.declared.at.At.{At}
-use Rattle.papaya_points.specs.Given.SeizeWords.Mem.{Mem, Can, Took, value_at, with_word}
-use Rattle.papaya_points.specs.Given.SeizeWords.Plan.{May, Steps}
-use Rattle.papaya_points.specs.Given.Seize.World.{World}
-use Rattle.papaya_points.specs.Given.Tables.Chunks.{is_incremental}
-use Rattle.papaya_points.specs.Given.Tables.TablePlaces.{at_place}
-use Rattle.papaya_points.specs.Given.Tables.declared.marks.TheConstants.{COPYING}
-use Rattle.papaya_points.specs.Given.Tables.declared.node.Node.{Node}
-use Rattle.papaya_points.specs.Given.Tables.declared.setting.Setting.{Setting}
-use Rattle.papaya_points.specs.Given.Tables.declared.table.Table.{Table}
-use Rattle.papaya_points.specs.Given.Tables.declared.table_words.TheConstants.{PLACES}
-use Rattle.papaya_points.specs.Given.Resize.CopierMarks.{without_copying, probing, marks}
-use Rattle.papaya_points.specs.Given.Resize.CopierStates.{place_done}
-use Rattle.papaya_points.specs.Given.Resize.declared.copier.Copier.{Copier}
-use Rattle.papaya_points.specs.Given.Resize.declared.outcome.Outcome.{Outcome}
-use Rattle.papaya_points.specs.Given.Resize.declared.outcome.Outcome.TheVariants.{Goes}
-use Rattle.papaya_points.specs.Given.Rule.Chart.{Phase, Still, Copying, Copied, Place, Empty, Tombstone, Holds, Chart, is_marked}
-use Rattle.papaya_points.specs.Given.Rule.InWorld.{IsMapIn}
-use Rattle.papaya_points.specs.Given.Rule.Maps.{spot_of}
-use Rattle.papaya_points.specs.Given.Rule.Moves.{marked}
-use Rattle.papaya_points.specs.Given.Rule.Rule.{Rule}
-use Rattle.papaya_points.specs.Given.Rule.Words.{Blocks, byte_of, place_word}
-use Rattle.papaya_points.proofs.Given.Rule.Keys.TriesSeen.{first_is}
-use Rattle.papaya_points.proofs.Given.Rule.Words.PlaceWordsWritten.{word-marked, without_copying-copying}
-use Rattle.papaya_points.proofs.Given.Rule.Words.TablesSeen.{place_stands}
-use Rattle.papaya_points.proofs.Given.Rule.Words.WrittenAgain.{written_again}
+use Rattle.papaya_points.specs.Given.SeizeWordsDeclared.at.At.{At}
+use Rattle.papaya_points.specs.Given.SeizeWordsMem.{Mem, Can, Took, value_at, with_word}
+use Rattle.papaya_points.specs.Given.SeizeWordsPlan.{May, Steps}
+use Rattle.papaya_points.specs.Given.SeizeWorld.{World}
+use Rattle.papaya_points.specs.Given.TablesChunks.{is_incremental}
+use Rattle.papaya_points.specs.Given.TablesTablePlaces.{at_place}
+use Rattle.papaya_points.specs.Given.TablesDeclared.marks.TheConstants.{COPYING}
+use Rattle.papaya_points.specs.Given.TablesDeclared.node.Node.{Node}
+use Rattle.papaya_points.specs.Given.TablesDeclared.setting.Setting.{Setting}
+use Rattle.papaya_points.specs.Given.TablesDeclared.table.Table.{Table}
+use Rattle.papaya_points.specs.Given.TablesDeclared.table_words.TheConstants.{PLACES}
+use Rattle.papaya_points.specs.Given.ResizeCopierMarks.{without_copying, probing, marks}
+use Rattle.papaya_points.specs.Given.ResizeCopierStates.{place_done}
+use Rattle.papaya_points.specs.Given.ResizeDeclared.copier.Copier.{Copier}
+use Rattle.papaya_points.specs.Given.ResizeDeclared.outcome.Outcome.{Outcome}
+use Rattle.papaya_points.specs.Given.ResizeDeclared.outcome.Outcome.TheVariants.{Goes}
+use Rattle.papaya_points.specs.Given.RuleChart.{Phase, Still, Copying, Copied, Place, Empty, Tombstone, Holds, Chart, is_marked}
+use Rattle.papaya_points.specs.Given.RuleInWorld.{IsMapIn}
+use Rattle.papaya_points.specs.Given.RuleMaps.{spot_of}
+use Rattle.papaya_points.specs.Given.RuleMoves.{marked}
+use Rattle.papaya_points.specs.Given.RuleRule.{Rule}
+use Rattle.papaya_points.specs.Given.RuleWords.{Blocks, byte_of, place_word}
+use Rattle.papaya_points.proofs.Given.RuleKeys.TriesSeen.{first_is}
+use Rattle.papaya_points.proofs.Given.RuleWords.PlaceWordsWritten.{word-marked, without_copying-copying}
+use Rattle.papaya_points.proofs.Given.RuleWords.TablesSeen.{place_stands}
+use Rattle.papaya_points.proofs.Given.RuleWords.WrittenAgain.{written_again}
 use Rattle.papaya_points.proofs.Blocking.Sources.{may_mark as may_mark_source, mark_tells}
 use Rattle.papaya_late.specs.LateCopies.{CopiesLate, CopiesAborted, HasRange, WorksLate}
 use Rattle.papaya_late.proofs.Copiers.LateDone.{late_goes_on}

@@ -1,24 +1,24 @@
 -- Each step of a copier whose source the root has left: it may be taken, and where it leads; but for those of the rows that retire its tables.
 use Rattle.std.specs.Int.{IsPowerOfTwo}
 use Rattle.std.proofs.Common.{◌≡◌, ℕ, ◌^◌, ◌<◌, Bool, false}
-use Rattle.papaya_points.specs.Given.SeizeWords.Mem.{Mem, Can, Took, value_at}
-use Rattle.papaya_points.specs.Given.SeizeWords.Plan.{May, Steps}
-use Rattle.papaya_points.specs.Given.Seize.World.{World}
-use Rattle.papaya_points.specs.Given.Tables.Chunks.{is_incremental}
-use Rattle.papaya_points.specs.Given.Tables.declared.node.Node.{Node}
-use Rattle.papaya_points.specs.Given.Tables.declared.setting.Setting.{Setting}
-use Rattle.papaya_points.specs.Given.Tables.declared.table.Table.{Table}
-use Rattle.papaya_points.specs.Given.Resize.Copier.{plan_at, copier_plan}
-use Rattle.papaya_points.specs.Given.Resize.declared.copier.Copier.{Copier}
-use Rattle.papaya_points.specs.Given.Resize.declared.copier.Copying.{Copying as Point}
-use Rattle.papaya_points.specs.Given.Resize.declared.copier.Copying.TheVariants as at
-use Rattle.papaya_points.specs.Given.Resize.declared.outcome.Outcome.{Outcome}
-use Rattle.papaya_points.specs.Given.Rule.Chart.{Chart}
-use Rattle.papaya_points.specs.Given.Rule.InWorld.{IsMapIn}
-use Rattle.papaya_points.specs.Given.Rule.Maps.{spot_of}
-use Rattle.papaya_points.specs.Given.Rule.Moments.{Moments}
-use Rattle.papaya_points.specs.Given.Rule.Rule.{IsLawful}
-use Rattle.papaya_points.specs.Given.Rule.Words.{Blocks}
+use Rattle.papaya_points.specs.Given.SeizeWordsMem.{Mem, Can, Took, value_at}
+use Rattle.papaya_points.specs.Given.SeizeWordsPlan.{May, Steps}
+use Rattle.papaya_points.specs.Given.SeizeWorld.{World}
+use Rattle.papaya_points.specs.Given.TablesChunks.{is_incremental}
+use Rattle.papaya_points.specs.Given.TablesDeclared.node.Node.{Node}
+use Rattle.papaya_points.specs.Given.TablesDeclared.setting.Setting.{Setting}
+use Rattle.papaya_points.specs.Given.TablesDeclared.table.Table.{Table}
+use Rattle.papaya_points.specs.Given.ResizeCopier.{plan_at, copier_plan}
+use Rattle.papaya_points.specs.Given.ResizeDeclared.copier.Copier.{Copier}
+use Rattle.papaya_points.specs.Given.ResizeDeclared.copier.Copying.{Copying as Point}
+use Rattle.papaya_points.specs.Given.ResizeDeclared.copier.Copying.TheVariants as at
+use Rattle.papaya_points.specs.Given.ResizeDeclared.outcome.Outcome.{Outcome}
+use Rattle.papaya_points.specs.Given.RuleChart.{Chart}
+use Rattle.papaya_points.specs.Given.RuleInWorld.{IsMapIn}
+use Rattle.papaya_points.specs.Given.RuleMaps.{spot_of}
+use Rattle.papaya_points.specs.Given.RuleMoments.{Moments}
+use Rattle.papaya_points.specs.Given.RuleRule.{IsLawful}
+use Rattle.papaya_points.specs.Given.RuleWords.{Blocks}
 use Rattle.papaya_points.specs.Told.{IsRowOfCopier}
 use Rattle.papaya_points.proofs.Blocking.Placing.{may_probe, may_put}
 use Rattle.papaya_points.proofs.Blocking.Successors.{may_succeed}

@@ -2,32 +2,32 @@
 use Rattle.std.specs.Prelude.{Some}
 use Rattle.std.proofs.Common.{◌≡◌, ℕ, suc, ◌/◌, ◌<◌, ◌==◌, Bool, true, false, ◌⊎◌, inl, inr, refl, sym, ◌∙◌, arith}
 use Rattle.std.proofs.lemmas.Bool.{eqb-true}
-use Rattle.papaya_points.specs.Given.SeizeWords.Mem.{Mem, Took, value_at, word_at}
-use Rattle.papaya_points.specs.Given.SeizeWords.Plan.{Steps}
-use Rattle.papaya_points.proofs.Given.SeizeWords.OneOwner.Operations.{loaded}
-use Rattle.papaya_points.proofs.Given.SeizeWords.Plans.{ends_if}
-use Rattle.papaya_points.specs.Given.Seize.World.{World}
-use Rattle.papaya_points.specs.Given.Tables.Nodes.{table_seen}
-use Rattle.papaya_points.specs.Given.Tables.TablePlaces.{at_word}
-use Rattle.papaya_points.specs.Given.Tables.declared.lengths.Reason.TheVariants.{NoPlace}
-use Rattle.papaya_points.specs.Given.Tables.declared.node.Node.{Node}
-use Rattle.papaya_points.specs.Given.Tables.declared.setting.Setting.{Setting}
-use Rattle.papaya_points.specs.Given.Tables.declared.table.Table.{Table}
-use Rattle.papaya_points.specs.Given.Tables.declared.table_words.TheConstants.{NEXT}
-use Rattle.papaya_points.specs.Given.Resize.CopierFurther.{anew, replacement_read, replaces}
-use Rattle.papaya_points.specs.Given.Resize.CopierStates.{standing}
-use Rattle.papaya_points.specs.Given.Resize.NewTable.{table_after}
-use Rattle.papaya_points.specs.Given.Resize.declared.copier.Copier.{Copier}
-use Rattle.papaya_points.specs.Given.Resize.declared.copier.Copying.TheVariants as at
-use Rattle.papaya_points.specs.Given.Resize.declared.outcome.Outcome.{Outcome}
-use Rattle.papaya_points.specs.Given.Resize.declared.outcome.Outcome.TheVariants.{Goes}
-use Rattle.papaya_points.specs.Given.Rule.Chart.{Chart}
-use Rattle.papaya_points.specs.Given.Rule.InWorld.{IsMapIn}
-use Rattle.papaya_points.specs.Given.Rule.Links.{IsLinkTo}
-use Rattle.papaya_points.specs.Given.Rule.Moments.{Moments}
-use Rattle.papaya_points.specs.Given.Rule.Words.{Blocks}
-use Rattle.papaya_points.proofs.Given.Rule.Words.LinksSeen.{link_made}
-use Rattle.papaya_points.proofs.Given.Rule.Words.TablesSeen.{link_not_zero}
+use Rattle.papaya_points.specs.Given.SeizeWordsMem.{Mem, Took, value_at, word_at}
+use Rattle.papaya_points.specs.Given.SeizeWordsPlan.{Steps}
+use Rattle.papaya_points.proofs.Given.SeizeWordsOneOwner.Operations.{loaded}
+use Rattle.papaya_points.proofs.Given.SeizeWordsPlans.{ends_if}
+use Rattle.papaya_points.specs.Given.SeizeWorld.{World}
+use Rattle.papaya_points.specs.Given.TablesNodes.{table_seen}
+use Rattle.papaya_points.specs.Given.TablesTablePlaces.{at_word}
+use Rattle.papaya_points.specs.Given.TablesDeclared.lengths.Reason.TheVariants.{NoPlace}
+use Rattle.papaya_points.specs.Given.TablesDeclared.node.Node.{Node}
+use Rattle.papaya_points.specs.Given.TablesDeclared.setting.Setting.{Setting}
+use Rattle.papaya_points.specs.Given.TablesDeclared.table.Table.{Table}
+use Rattle.papaya_points.specs.Given.TablesDeclared.table_words.TheConstants.{NEXT}
+use Rattle.papaya_points.specs.Given.ResizeCopierFurther.{anew, replacement_read, replaces}
+use Rattle.papaya_points.specs.Given.ResizeCopierStates.{standing}
+use Rattle.papaya_points.specs.Given.ResizeNewTable.{table_after}
+use Rattle.papaya_points.specs.Given.ResizeDeclared.copier.Copier.{Copier}
+use Rattle.papaya_points.specs.Given.ResizeDeclared.copier.Copying.TheVariants as at
+use Rattle.papaya_points.specs.Given.ResizeDeclared.outcome.Outcome.{Outcome}
+use Rattle.papaya_points.specs.Given.ResizeDeclared.outcome.Outcome.TheVariants.{Goes}
+use Rattle.papaya_points.specs.Given.RuleChart.{Chart}
+use Rattle.papaya_points.specs.Given.RuleInWorld.{IsMapIn}
+use Rattle.papaya_points.specs.Given.RuleLinks.{IsLinkTo}
+use Rattle.papaya_points.specs.Given.RuleMoments.{Moments}
+use Rattle.papaya_points.specs.Given.RuleWords.{Blocks}
+use Rattle.papaya_points.proofs.Given.RuleWords.LinksSeen.{link_made}
+use Rattle.papaya_points.proofs.Given.RuleWords.TablesSeen.{link_not_zero}
 use Rattle.papaya_points.proofs.Blocking.Targets.{leads_on, table_behind}
 use Rattle.papaya_late.specs.LateCopies.{CopiesLate, CopiesAborted}
 use Rattle.papaya_late.proofs.Copiers.LateWent.{LateCame, late_goes, aborted_behind}

@@ -1,40 +1,40 @@
 -- A copier whose source the root has left looks for a place for a pair in its target, which was aborted, and puts it there.
 use Rattle.std.specs.Prelude.{Some, None, nat_lt, if◌then◌else◌, Ok}
 use Rattle.std.proofs.Common.{◌≡◌, ℕ, suc, ◌-◌, ◌<◌, ◌==◌, Bool, true, false, ◌⊎◌, inl, inr, refl, ap, sym, subst, ◌∙◌, arith}
-use Rattle.papaya_points.specs.Given.SeizeWords.declared.at.At.{At}
-use Rattle.papaya_points.specs.Given.SeizeWords.Mem.{Mem, Took, value_at, word_at, with_word}
-use Rattle.papaya_points.specs.Given.SeizeWords.Op.{Exchange, Exchanged}
-use Rattle.papaya_points.specs.Given.SeizeWords.Plan.{Steps}
-use Rattle.papaya_points.proofs.Given.SeizeWords.OneOwner.Operations.{loaded, exchanged}
-use Rattle.papaya_points.proofs.Given.SeizeWords.Plans.{ends_if}
-use Rattle.papaya_points.specs.Given.Seize.World.{World}
-use Rattle.papaya_points.specs.Given.Tables.Chunks.{is_incremental}
-use Rattle.papaya_points.specs.Given.Tables.Marks.{unmarked_in}
-use Rattle.papaya_points.specs.Given.Tables.Probes.{probe_after}
-use Rattle.papaya_points.specs.Given.Tables.TablePlaces.{at_place}
-use Rattle.papaya_points.specs.Given.Tables.Trials.{trial_at}
-use Rattle.papaya_points.specs.Given.Tables.declared.node.Node.{Node}
-use Rattle.papaya_points.specs.Given.Tables.declared.probe.Probe.{Probe}
-use Rattle.papaya_points.specs.Given.Tables.declared.setting.Setting.{Setting}
-use Rattle.papaya_points.specs.Given.Tables.declared.table.Table.{Table}
-use Rattle.papaya_points.specs.Given.Resize.CopierPlaces.{copied_word, next_try, pair_put, place_read, probes, put_told, puts}
-use Rattle.papaya_points.specs.Given.Resize.CopierStates.{standing}
-use Rattle.papaya_points.specs.Given.Resize.declared.copier.Copier.{Copier}
-use Rattle.papaya_points.specs.Given.Resize.declared.copier.Copying.{Copying as Point}
-use Rattle.papaya_points.specs.Given.Resize.declared.copier.Copying.TheVariants as at
-use Rattle.papaya_points.specs.Given.Resize.declared.outcome.Outcome.{Outcome}
-use Rattle.papaya_points.specs.Given.Resize.declared.outcome.Outcome.TheVariants.{Goes}
-use Rattle.papaya_points.specs.Given.Rule.Chart.{Phase, Still, Copying, Place, Holds, Chart}
-use Rattle.papaya_points.specs.Given.Rule.InWorld.{IsMapIn}
-use Rattle.papaya_points.specs.Given.Rule.Maps.{spot_of, IsTrial}
-use Rattle.papaya_points.specs.Given.Rule.Moves.{PutsLate, after, Allowed}
-use Rattle.papaya_points.specs.Given.Rule.Rule.{IsLawful}
-use Rattle.papaya_points.specs.Given.Rule.Words.{Blocks, byte_of, place_word, Shows}
-use Rattle.papaya_points.proofs.Given.Rule.Keys.TriesSeen.{IsNext, next_is}
-use Rattle.papaya_points.proofs.Given.Rule.Moves.Writes.{put_in_elsewhere}
-use Rattle.papaya_points.proofs.Given.Rule.Words.PlaceWordsWritten.{word-unmarked}
-use Rattle.papaya_points.proofs.Given.Rule.Words.WritesWords.{is_some_of}
-use Rattle.papaya_points.proofs.Given.Rule.World.Hands.{Hands}
+use Rattle.papaya_points.specs.Given.SeizeWordsDeclared.at.At.{At}
+use Rattle.papaya_points.specs.Given.SeizeWordsMem.{Mem, Took, value_at, word_at, with_word}
+use Rattle.papaya_points.specs.Given.SeizeWordsOp.{Exchange, Exchanged}
+use Rattle.papaya_points.specs.Given.SeizeWordsPlan.{Steps}
+use Rattle.papaya_points.proofs.Given.SeizeWordsOneOwner.Operations.{loaded, exchanged}
+use Rattle.papaya_points.proofs.Given.SeizeWordsPlans.{ends_if}
+use Rattle.papaya_points.specs.Given.SeizeWorld.{World}
+use Rattle.papaya_points.specs.Given.TablesChunks.{is_incremental}
+use Rattle.papaya_points.specs.Given.TablesMarks.{unmarked_in}
+use Rattle.papaya_points.specs.Given.TablesProbes.{probe_after}
+use Rattle.papaya_points.specs.Given.TablesTablePlaces.{at_place}
+use Rattle.papaya_points.specs.Given.TablesTrials.{trial_at}
+use Rattle.papaya_points.specs.Given.TablesDeclared.node.Node.{Node}
+use Rattle.papaya_points.specs.Given.TablesDeclared.probe.Probe.{Probe}
+use Rattle.papaya_points.specs.Given.TablesDeclared.setting.Setting.{Setting}
+use Rattle.papaya_points.specs.Given.TablesDeclared.table.Table.{Table}
+use Rattle.papaya_points.specs.Given.ResizeCopierPlaces.{copied_word, next_try, pair_put, place_read, probes, put_told, puts}
+use Rattle.papaya_points.specs.Given.ResizeCopierStates.{standing}
+use Rattle.papaya_points.specs.Given.ResizeDeclared.copier.Copier.{Copier}
+use Rattle.papaya_points.specs.Given.ResizeDeclared.copier.Copying.{Copying as Point}
+use Rattle.papaya_points.specs.Given.ResizeDeclared.copier.Copying.TheVariants as at
+use Rattle.papaya_points.specs.Given.ResizeDeclared.outcome.Outcome.{Outcome}
+use Rattle.papaya_points.specs.Given.ResizeDeclared.outcome.Outcome.TheVariants.{Goes}
+use Rattle.papaya_points.specs.Given.RuleChart.{Phase, Still, Copying, Place, Holds, Chart}
+use Rattle.papaya_points.specs.Given.RuleInWorld.{IsMapIn}
+use Rattle.papaya_points.specs.Given.RuleMaps.{spot_of, IsTrial}
+use Rattle.papaya_points.specs.Given.RuleMoves.{PutsLate, after, Allowed}
+use Rattle.papaya_points.specs.Given.RuleRule.{IsLawful}
+use Rattle.papaya_points.specs.Given.RuleWords.{Blocks, byte_of, place_word, Shows}
+use Rattle.papaya_points.proofs.Given.RuleKeys.TriesSeen.{IsNext, next_is}
+use Rattle.papaya_points.proofs.Given.RuleMoves.Writes.{put_in_elsewhere}
+use Rattle.papaya_points.proofs.Given.RuleWords.PlaceWordsWritten.{word-unmarked}
+use Rattle.papaya_points.proofs.Given.RuleWords.WritesWords.{is_some_of}
+use Rattle.papaya_points.proofs.Given.RuleWorld.Hands.{Hands}
 use Rattle.papaya_points.proofs.Blocking.Placing.{try_inside, try_word, try_empty, may_write_try, put_shows}
 use Rattle.papaya_late.specs.LateCopies.{CopiesLate, CopiesAborted, WorksLate}
 use Rattle.papaya_late.proofs.Copiers.LateDone.{late_goes_on}

@@ -1,29 +1,29 @@
 -- In incremental mode: what a call on one key knows at its point it knows after steps of others.
 use Rattle.std.specs.Prelude.{◌≡◌, ℕ, suc, ◌<◌, Bool, true, false, cond}
 use Rattle.std.proofs.Common.{refl, sym, subst, inl, inr, arith}
-use Rattle.papaya_points.specs.Given.Seize.World.{World}
-use Rattle.papaya_points.specs.Given.SeizeWords.declared.at.At.TheVariants.{Root}
-use Rattle.papaya_points.specs.Given.Tables.Chunks.{is_incremental}
-use Rattle.papaya_points.specs.Given.Tables.declared.node.Node.{Node}
-use Rattle.papaya_points.specs.Given.Tables.declared.setting.Setting.{Setting}
-use Rattle.papaya_points.specs.Given.Resize.declared.lookup.Lookup.{Lookup}
-use Rattle.papaya_points.specs.Given.Resize.declared.lookup.Looking.{Looking}
-use Rattle.papaya_points.specs.Given.Resize.declared.lookup.Looking.TheVariants as looks
-use Rattle.papaya_points.specs.Given.Resize.declared.dispose.Dispose.{Dispose}
-use Rattle.papaya_points.specs.Given.Raw.declared.machines.asking.Asking.{Asking}
-use Rattle.papaya_points.specs.Given.Raw.declared.machines.asking.Asking.TheVariants as asking
-use Rattle.papaya_points.specs.Given.Raw.declared.machines.asking.Gap.{Gap}
-use Rattle.papaya_points.specs.Given.Raw.declared.machines.asking.Gap.TheVariants as gaps
-use Rattle.papaya_points.specs.Given.Raw.declared.machines.call.KeyCall.{KeyCall}
-use Rattle.papaya_points.specs.Given.Raw.declared.machines.call.Calling.{Calling}
-use Rattle.papaya_points.specs.Given.Raw.declared.machines.call.Calling.TheVariants as at
-use Rattle.papaya_points.specs.Given.Rule.Chart.{Chart}
-use Rattle.papaya_points.specs.Given.Rule.Rule.{IsLawful, Rule, ShutBefore}
-use Rattle.papaya_points.specs.Given.Rule.Words.{Blocks}
-use Rattle.papaya_points.specs.Given.Rule.Maps.{spot_of}
-use Rattle.papaya_points.specs.Given.Rule.InWorld.{IsMapIn}
+use Rattle.papaya_points.specs.Given.SeizeWorld.{World}
+use Rattle.papaya_points.specs.Given.SeizeWordsDeclared.at.At.TheVariants.{Root}
+use Rattle.papaya_points.specs.Given.TablesChunks.{is_incremental}
+use Rattle.papaya_points.specs.Given.TablesDeclared.node.Node.{Node}
+use Rattle.papaya_points.specs.Given.TablesDeclared.setting.Setting.{Setting}
+use Rattle.papaya_points.specs.Given.ResizeDeclared.lookup.Lookup.{Lookup}
+use Rattle.papaya_points.specs.Given.ResizeDeclared.lookup.Looking.{Looking}
+use Rattle.papaya_points.specs.Given.ResizeDeclared.lookup.Looking.TheVariants as looks
+use Rattle.papaya_points.specs.Given.ResizeDeclared.dispose.Dispose.{Dispose}
+use Rattle.papaya_points.specs.Given.RawDeclared.machines.asking.Asking.{Asking}
+use Rattle.papaya_points.specs.Given.RawDeclared.machines.asking.Asking.TheVariants as asking
+use Rattle.papaya_points.specs.Given.RawDeclared.machines.asking.Gap.{Gap}
+use Rattle.papaya_points.specs.Given.RawDeclared.machines.asking.Gap.TheVariants as gaps
+use Rattle.papaya_points.specs.Given.RawDeclared.machines.call.KeyCall.{KeyCall}
+use Rattle.papaya_points.specs.Given.RawDeclared.machines.call.Calling.{Calling}
+use Rattle.papaya_points.specs.Given.RawDeclared.machines.call.Calling.TheVariants as at
+use Rattle.papaya_points.specs.Given.RuleChart.{Chart}
+use Rattle.papaya_points.specs.Given.RuleRule.{IsLawful, Rule, ShutBefore}
+use Rattle.papaya_points.specs.Given.RuleWords.{Blocks}
+use Rattle.papaya_points.specs.Given.RuleMaps.{spot_of}
+use Rattle.papaya_points.specs.Given.RuleInWorld.{IsMapIn}
 use Rattle.papaya_points.specs.FactsLooks.{LookingFacts, LookupFacts}
-use Rattle.papaya_points.specs.Given.Rule.Leaves.{Leaves}
+use Rattle.papaya_points.specs.Given.RuleLeaves.{Leaves}
 use Rattle.papaya_points.specs.FactsDisposes.{DisposeFacts}
 use Rattle.papaya_points.specs.FactsCopies.{HasDone, ClaimsNone}
 use Rattle.papaya_points.specs.FactsCopiesBlocking.{HasNoShares}

@@ -2,31 +2,31 @@
 use Rattle.std.specs.Prelude.{◌≡◌, ℕ, suc, ◌*◌, ◌<◌, ◌≤◌, Bool, true, false, Some}
 use Rattle.std.proofs.Common.{refl, ap, sym, subst, ◌∙◌, inl, inr, arith}
 use Rattle.std.proofs.lemmas.Bool.{cases_lt}
-use Rattle.papaya_points.specs.Given.SeizeWords.Mem.{value_at}
-use Rattle.papaya_points.specs.Given.Seize.World.{World, Cutting}
-use Rattle.papaya_points.specs.Given.Seize.Settle.{retiring}
-use Rattle.papaya_points.specs.Given.Seize.declared.rows.settle.Settle.{Settle}
-use Rattle.papaya_points.specs.Given.Tables.Chunks.{is_incremental}
-use Rattle.papaya_points.specs.Given.Tables.declared.node.Node.{Node}
-use Rattle.papaya_points.specs.Given.Tables.declared.node.Node.TheVariants as node
-use Rattle.papaya_points.specs.Given.Tables.declared.setting.Setting.{Setting}
-use Rattle.papaya_points.specs.Given.Tables.declared.probe.Probe.{Probe}
-use Rattle.papaya_points.specs.Given.Tables.declared.table.Table.{Table}
-use Rattle.papaya_points.specs.Given.Resize.declared.copier.Copier.{Copier}
-use Rattle.papaya_points.specs.Given.Resize.declared.copier.Copying.{Copying as Point}
-use Rattle.papaya_points.specs.Given.Resize.declared.copier.Copying.TheVariants as at
-use Rattle.papaya_points.specs.Given.Rule.Chart.{Phase, Still, Copying, Place, Empty, Tombstone, Holds, Counted, Chart, is_taken}
-use Rattle.papaya_points.specs.Given.Rule.Rule.{IsLawful, Rule, Shut, is_of, names}
-use Rattle.papaya_points.specs.Given.Rule.Moves.{is_of_caller, Taken, NamedInRootAlone}
-use Rattle.papaya_points.specs.Given.Rule.Words.{Blocks}
-use Rattle.papaya_points.specs.Given.Rule.Maps.{spot_of, IsTable}
-use Rattle.papaya_points.specs.Given.Rule.InWorld.{IsHeldBy}
-use Rattle.papaya_points.specs.Given.Rule.Leaves.{Leaves, StandsAlike}
+use Rattle.papaya_points.specs.Given.SeizeWordsMem.{value_at}
+use Rattle.papaya_points.specs.Given.SeizeWorld.{World, Cutting}
+use Rattle.papaya_points.specs.Given.SeizeSettle.{retiring}
+use Rattle.papaya_points.specs.Given.SeizeDeclared.rows.settle.Settle.{Settle}
+use Rattle.papaya_points.specs.Given.TablesChunks.{is_incremental}
+use Rattle.papaya_points.specs.Given.TablesDeclared.node.Node.{Node}
+use Rattle.papaya_points.specs.Given.TablesDeclared.node.Node.TheVariants as node
+use Rattle.papaya_points.specs.Given.TablesDeclared.setting.Setting.{Setting}
+use Rattle.papaya_points.specs.Given.TablesDeclared.probe.Probe.{Probe}
+use Rattle.papaya_points.specs.Given.TablesDeclared.table.Table.{Table}
+use Rattle.papaya_points.specs.Given.ResizeDeclared.copier.Copier.{Copier}
+use Rattle.papaya_points.specs.Given.ResizeDeclared.copier.Copying.{Copying as Point}
+use Rattle.papaya_points.specs.Given.ResizeDeclared.copier.Copying.TheVariants as at
+use Rattle.papaya_points.specs.Given.RuleChart.{Phase, Still, Copying, Place, Empty, Tombstone, Holds, Counted, Chart, is_taken}
+use Rattle.papaya_points.specs.Given.RuleRule.{IsLawful, Rule, Shut, is_of, names}
+use Rattle.papaya_points.specs.Given.RuleMoves.{is_of_caller, Taken, NamedInRootAlone}
+use Rattle.papaya_points.specs.Given.RuleWords.{Blocks}
+use Rattle.papaya_points.specs.Given.RuleMaps.{spot_of, IsTable}
+use Rattle.papaya_points.specs.Given.RuleInWorld.{IsHeldBy}
+use Rattle.papaya_points.specs.Given.RuleLeaves.{Leaves, StandsAlike}
 use Rattle.papaya_points.specs.FactsDisposes.{IsToRetire}
 use Rattle.papaya_points.specs.FactsCopies.{Copies, HasDone, ClaimsNone, HasSettled, InRange, Works, LooksFor, Tries, Refuses, HasUnlinked, CopyingFacts, CopierFacts}
 use Rattle.papaya_points.specs.Others.{OthersStep}
 use Rattle.papaya_late.proofs.Known.Tables.{made_on, first_on, len_on, key_on, table_on, trial_on, word_on, table_known_on, table_block_on, next_table_on}
-use Rattle.papaya_points.proofs.Given.Rule.Shares.LastsShares.{claimed_own, root_on, mine_on, mine_back, done_on, claims_none_on, idle_done, idle_claims, spent, root_of_done}
+use Rattle.papaya_points.proofs.Given.RuleShares.LastsShares.{claimed_own, root_on, mine_on, mine_back, done_on, claims_none_on, idle_done, idle_claims, spent, root_of_done}
 
 module _ {K V : Type 0} (same : K → K → Bool) (hash : K → ℕ) (lawful : IsLawful same (spot_of hash)) (setting : Setting) (bits : is_incremental setting.mode ≡ true) (caller : ℕ) (w w2 : World (Node K V)) (c c2 : Chart K)
     (blocks blocks2 : Blocks) (rule : Rule same (spot_of hash) true c)

@@ -1,12 +1,12 @@
 -- What a caller knows of pairs that it can look at, and of those that it took out, lasts over steps of others, in either mode.
 use Rattle.std.specs.Prelude.{◌≡◌, ℕ, ◌<◌, Bool, true}
 use Rattle.std.proofs.Common.{refl, ap, sym, subst, ◌∙◌}
-use Rattle.papaya_points.specs.Given.Seize.World.{World, Parting, Cutting}
-use Rattle.papaya_points.specs.Given.Tables.declared.node.Node.{Node}
-use Rattle.papaya_points.specs.Given.Tables.declared.setting.Setting.{Setting}
-use Rattle.papaya_points.specs.Given.Rule.Chart.{Still, Holds, Chart}
-use Rattle.papaya_points.specs.Given.Rule.Words.{Blocks, place_word}
-use Rattle.papaya_points.specs.Given.Rule.InWorld.{IsHeldBy, IsMapIn}
+use Rattle.papaya_points.specs.Given.SeizeWorld.{World, Parting, Cutting}
+use Rattle.papaya_points.specs.Given.TablesDeclared.node.Node.{Node}
+use Rattle.papaya_points.specs.Given.TablesDeclared.setting.Setting.{Setting}
+use Rattle.papaya_points.specs.Given.RuleChart.{Still, Holds, Chart}
+use Rattle.papaya_points.specs.Given.RuleWords.{Blocks, place_word}
+use Rattle.papaya_points.specs.Given.RuleInWorld.{IsHeldBy, IsMapIn}
 use Rattle.papaya_points.specs.FactsDisposes.{HasLeft}
 use Rattle.papaya_points.specs.Others.{OthersStep}
 use Rattle.papaya_late.proofs.Known.Tables.{stored_on, word_on}

@@ -1,23 +1,23 @@
 -- A step of one caller is to all others what such a step is to be.
 use Rattle.std.specs.Prelude.{◌≢◌, ℕ, Bool}
 use Rattle.std.proofs.Common.{◌∙◌, ap, inl, inr, subst, sym}
-use Rattle.papaya_points.specs.Given.SeizeWords.Mem.{Mem, value_at}
-use Rattle.papaya_points.specs.Given.Seize.World.{World}
-use Rattle.papaya_points.specs.Given.Tables.Chunks.{is_incremental}
-use Rattle.papaya_points.specs.Given.Tables.declared.node.Node.{Node}
-use Rattle.papaya_points.specs.Given.Tables.declared.setting.Setting.{Setting}
-use Rattle.papaya_points.specs.Given.Rule.Chart.{Chart}
-use Rattle.papaya_points.specs.Given.Rule.Words.{Blocks}
-use Rattle.papaya_points.specs.Given.Rule.Maps.{spot_of}
-use Rattle.papaya_points.specs.Given.Rule.InWorld.{IsMapIn, Moved, Went, IsOut}
-use Rattle.papaya_points.specs.Given.Rule.Lasts.{Lasts}
-use Rattle.papaya_points.specs.Given.Rule.Moments.{Moments, Remembers}
-use Rattle.papaya_points.specs.Given.Rule.Leaves.{Leaves}
+use Rattle.papaya_points.specs.Given.SeizeWordsMem.{Mem, value_at}
+use Rattle.papaya_points.specs.Given.SeizeWorld.{World}
+use Rattle.papaya_points.specs.Given.TablesChunks.{is_incremental}
+use Rattle.papaya_points.specs.Given.TablesDeclared.node.Node.{Node}
+use Rattle.papaya_points.specs.Given.TablesDeclared.setting.Setting.{Setting}
+use Rattle.papaya_points.specs.Given.RuleChart.{Chart}
+use Rattle.papaya_points.specs.Given.RuleWords.{Blocks}
+use Rattle.papaya_points.specs.Given.RuleMaps.{spot_of}
+use Rattle.papaya_points.specs.Given.RuleInWorld.{IsMapIn, Moved, Went, IsOut}
+use Rattle.papaya_points.specs.Given.RuleLasts.{Lasts}
+use Rattle.papaya_points.specs.Given.RuleMoments.{Moments, Remembers}
+use Rattle.papaya_points.specs.Given.RuleLeaves.{Leaves}
 use Rattle.papaya_points.specs.Others.{OthersStep}
 use Rattle.papaya_points.specs.Steps.{AreLawful}
-use Rattle.papaya_points.proofs.Given.Rule.History.History.{history_kept}
-use Rattle.papaya_points.proofs.Given.Rule.History.Leaving.{moves_leave}
-use Rattle.papaya_points.proofs.Given.Rule.History.LeavingOn.{leaves_same}
+use Rattle.papaya_points.proofs.Given.RuleHistory.History.{history_kept}
+use Rattle.papaya_points.proofs.Given.RuleHistory.Leaving.{moves_leave}
+use Rattle.papaya_points.proofs.Given.RuleHistory.LeavingOn.{leaves_same}
 use Rattle.papaya_points.proofs.MovedLasts.{moved_lasts}
 
 module _ {K V : Type 0} (same : K → K → Bool) (hash : K → ℕ) (setting : Setting) where

@@ -1,27 +1,27 @@
 -- In incremental mode: what steps of others leave of what a call knows of tables, of its tries, and of its own blocks.
 use Rattle.std.specs.Prelude.{◌≡◌, ℕ, ◌*◌, ◌<◌, ◌≤◌, Bool, true, false, cond, Option}
 use Rattle.std.proofs.Common.{refl, ap, sym, subst, ◌∙◌, inl, inr, arith}
-use Rattle.papaya_points.specs.Given.SeizeWords.declared.at.At.{At}
-use Rattle.papaya_points.specs.Given.SeizeWords.declared.at.At.TheVariants.{Root, Used, Slot, Entry, Word}
-use Rattle.papaya_points.specs.Given.SeizeWords.Mem.{word_at}
-use Rattle.papaya_points.specs.Given.Seize.World.{World}
-use Rattle.papaya_points.specs.Given.Tables.Chunks.{is_incremental}
-use Rattle.papaya_points.specs.Given.Tables.declared.node.Node.{Node}
-use Rattle.papaya_points.specs.Given.Tables.declared.setting.Setting.{Setting}
-use Rattle.papaya_points.specs.Given.Tables.declared.status.TheConstants.Status.{ABORTED}
-use Rattle.papaya_points.specs.Given.Tables.declared.table.Table.{Table}
-use Rattle.papaya_points.specs.Given.Tables.declared.trial.Trial.{Trial}
-use Rattle.papaya_points.specs.Given.Tables.declared.table_words.TheConstants.{NEXT}
-use Rattle.papaya_points.specs.Given.Resize.declared.new_table.NewTable.{NewTable}
-use Rattle.papaya_points.specs.Given.Resize.declared.new_table.Making.{Making as Point}
-use Rattle.papaya_points.specs.Given.Resize.declared.new_table.Making.TheVariants as at
-use Rattle.papaya_points.specs.Given.Rule.Chart.{Phase, Holds, Chart, is_taken}
-use Rattle.papaya_points.specs.Given.Rule.Rule.{Passed, ShutBefore, names}
-use Rattle.papaya_points.specs.Given.Rule.Moves.{MayChange}
-use Rattle.papaya_points.specs.Given.Rule.Words.{Blocks, byte_of, word_of, place_word}
-use Rattle.papaya_points.specs.Given.Rule.Maps.{spot_of, IsTable, IsTrial, NoneBefore}
-use Rattle.papaya_points.specs.Given.Rule.InWorld.{IsHeldBy}
-use Rattle.papaya_points.specs.Given.Rule.Leaves.{Leaves}
+use Rattle.papaya_points.specs.Given.SeizeWordsDeclared.at.At.{At}
+use Rattle.papaya_points.specs.Given.SeizeWordsDeclared.at.At.TheVariants.{Root, Used, Slot, Entry, Word}
+use Rattle.papaya_points.specs.Given.SeizeWordsMem.{word_at}
+use Rattle.papaya_points.specs.Given.SeizeWorld.{World}
+use Rattle.papaya_points.specs.Given.TablesChunks.{is_incremental}
+use Rattle.papaya_points.specs.Given.TablesDeclared.node.Node.{Node}
+use Rattle.papaya_points.specs.Given.TablesDeclared.setting.Setting.{Setting}
+use Rattle.papaya_points.specs.Given.TablesDeclared.status.TheConstants.Status.{ABORTED}
+use Rattle.papaya_points.specs.Given.TablesDeclared.table.Table.{Table}
+use Rattle.papaya_points.specs.Given.TablesDeclared.trial.Trial.{Trial}
+use Rattle.papaya_points.specs.Given.TablesDeclared.table_words.TheConstants.{NEXT}
+use Rattle.papaya_points.specs.Given.ResizeDeclared.new_table.NewTable.{NewTable}
+use Rattle.papaya_points.specs.Given.ResizeDeclared.new_table.Making.{Making as Point}
+use Rattle.papaya_points.specs.Given.ResizeDeclared.new_table.Making.TheVariants as at
+use Rattle.papaya_points.specs.Given.RuleChart.{Phase, Holds, Chart, is_taken}
+use Rattle.papaya_points.specs.Given.RuleRule.{Passed, ShutBefore, names}
+use Rattle.papaya_points.specs.Given.RuleMoves.{MayChange}
+use Rattle.papaya_points.specs.Given.RuleWords.{Blocks, byte_of, word_of, place_word}
+use Rattle.papaya_points.specs.Given.RuleMaps.{spot_of, IsTable, IsTrial, NoneBefore}
+use Rattle.papaya_points.specs.Given.RuleInWorld.{IsHeldBy}
+use Rattle.papaya_points.specs.Given.RuleLeaves.{Leaves}
 use Rattle.papaya_points.specs.FactsTables.{IsLinkOf, StandsAs, IsMadeFor, IsOwnTable, MakingFacts, NewTableFacts}
 use Rattle.papaya_points.specs.Others.{OthersStep}
 

@@ -1,26 +1,26 @@
 -- In blocking mode: what a copier knows lasts over steps of others. Where the root leaves the table that it copies, it knows what is to be known then.
 use Rattle.std.proofs.Common.{◌≡◌, ℕ, suc, ◌*◌, ◌^◌, ◌<◌, ◌≤◌, Bool, true, false, ◌⊎◌, inl, inr, refl, arith, ap, sym, subst, ◌∙◌}
 use Rattle.std.proofs.lemmas.Bool.{cases_lt, eq-eqb}
-use Rattle.papaya_points.specs.Given.Seize.World.{World, Cutting}
-use Rattle.papaya_points.specs.Given.Seize.declared.rows.settle.Settle.{Settle}
-use Rattle.papaya_points.specs.Given.Seize.Settle.{retiring}
-use Rattle.papaya_points.specs.Given.Tables.Chunks.{is_incremental}
-use Rattle.papaya_points.specs.Given.Tables.Trials.{trial_at}
-use Rattle.papaya_points.specs.Given.Tables.declared.node.Node.{Node}
-use Rattle.papaya_points.specs.Given.Tables.declared.probe.Probe.{Probe}
-use Rattle.papaya_points.specs.Given.Tables.declared.setting.Setting.{Setting}
-use Rattle.papaya_points.specs.Given.Tables.declared.status.TheConstants.Status.{ABORTED}
-use Rattle.papaya_points.specs.Given.Tables.declared.table.Table.{Table}
-use Rattle.papaya_points.specs.Given.Resize.declared.copier.Copier.{Copier}
-use Rattle.papaya_points.specs.Given.Resize.declared.copier.Copying.{Copying as Point}
-use Rattle.papaya_points.specs.Given.Resize.declared.copier.Copying.TheVariants as at
-use Rattle.papaya_points.specs.Given.Rule.Chart.{Still, Copying, Holds, Claimed, Chart, is_marked, is_taken}
-use Rattle.papaya_points.specs.Given.Rule.Rule.{Rule, total}
-use Rattle.papaya_points.specs.Given.Rule.Moves.{is_of_caller, is_done_by, Taken}
-use Rattle.papaya_points.specs.Given.Rule.Words.{Blocks, place_word}
-use Rattle.papaya_points.specs.Given.Rule.Maps.{spot_of, IsTable}
-use Rattle.papaya_points.specs.Given.Rule.Moments.{Moments}
-use Rattle.papaya_points.specs.Given.Rule.InWorld.{IsHeldBy, IsMapIn}
+use Rattle.papaya_points.specs.Given.SeizeWorld.{World, Cutting}
+use Rattle.papaya_points.specs.Given.SeizeDeclared.rows.settle.Settle.{Settle}
+use Rattle.papaya_points.specs.Given.SeizeSettle.{retiring}
+use Rattle.papaya_points.specs.Given.TablesChunks.{is_incremental}
+use Rattle.papaya_points.specs.Given.TablesTrials.{trial_at}
+use Rattle.papaya_points.specs.Given.TablesDeclared.node.Node.{Node}
+use Rattle.papaya_points.specs.Given.TablesDeclared.probe.Probe.{Probe}
+use Rattle.papaya_points.specs.Given.TablesDeclared.setting.Setting.{Setting}
+use Rattle.papaya_points.specs.Given.TablesDeclared.status.TheConstants.Status.{ABORTED}
+use Rattle.papaya_points.specs.Given.TablesDeclared.table.Table.{Table}
+use Rattle.papaya_points.specs.Given.ResizeDeclared.copier.Copier.{Copier}
+use Rattle.papaya_points.specs.Given.ResizeDeclared.copier.Copying.{Copying as Point}
+use Rattle.papaya_points.specs.Given.ResizeDeclared.copier.Copying.TheVariants as at
+use Rattle.papaya_points.specs.Given.RuleChart.{Still, Copying, Holds, Claimed, Chart, is_marked, is_taken}
+use Rattle.papaya_points.specs.Given.RuleRule.{Rule, total}
+use Rattle.papaya_points.specs.Given.RuleMoves.{is_of_caller, is_done_by, Taken}
+use Rattle.papaya_points.specs.Given.RuleWords.{Blocks, place_word}
+use Rattle.papaya_points.specs.Given.RuleMaps.{spot_of, IsTable}
+use Rattle.papaya_points.specs.Given.RuleMoments.{Moments}
+use Rattle.papaya_points.specs.Given.RuleInWorld.{IsHeldBy, IsMapIn}
 use Rattle.papaya_points.specs.FactsDisposes.{IsToRetire}
 use Rattle.papaya_points.specs.FactsCopiesBlocking.{HasNoShares, CopiesInto, HasDoneIn, ClaimsRange, ClaimsNoneIn, RestsIn, WorksIn, TriesIn, HasUnlinkedFrom, CopyingFactsBlocking, CopierFactsBlocking}
 use Rattle.papaya_late.proofs.Known.Tables.{key_on, len_on, table_known_on, table_block_on, table_on, trial_on, word_on}

@@ -1,11 +1,11 @@
 -- In blocking mode: what steps of others leave of a caller's shares.
 use Rattle.std.proofs.Common.{◌≡◌, ℕ, zero, suc, ◌<◌, Bool, true, false, cond, inl, inr, refl, arith, ap, sym, ◌∙◌}
 use Rattle.std.proofs.lemmas.Bool.{cases_lt}
-use Rattle.papaya_points.specs.Given.Rule.Chart.{Share, Free, Claimed, Done, Counted, Lost, Chart}
-use Rattle.papaya_points.specs.Given.Rule.Rule.{total}
-use Rattle.papaya_points.specs.Given.Rule.Moves.{is_of_caller, is_done_by}
-use Rattle.papaya_points.specs.Given.Rule.Leaves.{Leaves}
-use Rattle.papaya_points.proofs.Given.Rule.Moves.Totals.{total_same}
+use Rattle.papaya_points.specs.Given.RuleChart.{Share, Free, Claimed, Done, Counted, Lost, Chart}
+use Rattle.papaya_points.specs.Given.RuleRule.{total}
+use Rattle.papaya_points.specs.Given.RuleMoves.{is_of_caller, is_done_by}
+use Rattle.papaya_points.specs.Given.RuleLeaves.{Leaves}
+use Rattle.papaya_points.proofs.Given.RuleMoves.Totals.{total_same}
 
 module _ (caller : ℕ) where
   done_none : (s : Share) → is_of_caller caller s ≡ false → is_done_by caller s ≡ 0

@@ -1,14 +1,14 @@
 -- A table that the root has left names the pairs that the map had then: what is found there was so at that moment.
 use Rattle.std.proofs.Common.{◌≡◌, ℕ, suc, Bool, true, false, Some, refl, ap, ◌∙◌}
-use Rattle.papaya_points.specs.Given.Raw.declared.machines.answer.KeyAnswer.TheVariants as answers
-use Rattle.papaya_points.specs.Given.Rule.Chart.{Phase, Holds, Chart, is_taken}
-use Rattle.papaya_points.specs.Given.Rule.Rule.{IsLawful, Passed, Rule, is_of}
-use Rattle.papaya_points.specs.Given.Rule.Words.{Blocks, place_word}
-use Rattle.papaya_points.specs.Given.Rule.Maps.{spot_at, spot_of, IsClass}
-use Rattle.papaya_points.specs.Given.Rule.Moments.{Moments, Names}
-use Rattle.papaya_points.proofs.Given.Rule.Moves.Shuts.{none_at_end}
-use Rattle.papaya_points.proofs.Given.Rule.Keys.ClassesFound.{none_at_untaken}
-use Rattle.papaya_points.proofs.Given.Rule.Keys.ClassesSeen.{is_of_keys, tried_is}
+use Rattle.papaya_points.specs.Given.RawDeclared.machines.answer.KeyAnswer.TheVariants as answers
+use Rattle.papaya_points.specs.Given.RuleChart.{Phase, Holds, Chart, is_taken}
+use Rattle.papaya_points.specs.Given.RuleRule.{IsLawful, Passed, Rule, is_of}
+use Rattle.papaya_points.specs.Given.RuleWords.{Blocks, place_word}
+use Rattle.papaya_points.specs.Given.RuleMaps.{spot_at, spot_of, IsClass}
+use Rattle.papaya_points.specs.Given.RuleMoments.{Moments, Names}
+use Rattle.papaya_points.proofs.Given.RuleMoves.Shuts.{none_at_end}
+use Rattle.papaya_points.proofs.Given.RuleKeys.ClassesFound.{none_at_untaken}
+use Rattle.papaya_points.proofs.Given.RuleKeys.ClassesSeen.{is_of_keys, tried_is}
 use Rattle.papaya_late.specs.Left.{Left}
 use Rattle.papaya_late.specs.Was.{HadNone, SoSince}
 

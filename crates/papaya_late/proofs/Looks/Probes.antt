@@ -1,30 +1,30 @@
 -- A lookup reads the word of a try in a table that the root has left.
 use Rattle.std.specs.Prelude.{if◌then◌else◌}
 use Rattle.std.proofs.Common.{◌≡◌, ℕ, suc, ◌^◌, ◌<◌, Bool, true, false, Option, Some, None, inl, inr, refl, ap, sym, subst, ◌∙◌}
-use Rattle.papaya_points.specs.Given.SeizeWords.Mem.{Mem, value_at, Took}
-use Rattle.papaya_points.specs.Given.SeizeWords.Plan.{Steps}
-use Rattle.papaya_points.specs.Given.Seize.declared.progress.Progress.{Progress}
-use Rattle.papaya_points.specs.Given.Tables.Chunks.{is_incremental}
-use Rattle.papaya_points.specs.Given.Tables.Finding.{finding}
-use Rattle.papaya_points.specs.Given.Tables.Trials.{next_trial}
-use Rattle.papaya_points.specs.Given.Tables.declared.node.Node.{Node}
-use Rattle.papaya_points.specs.Given.Tables.declared.resize_mode.ResizeMode.{ResizeMode}
-use Rattle.papaya_points.specs.Given.Tables.declared.finding.Aim.TheVariants.{Looks}
-use Rattle.papaya_points.specs.Given.Tables.declared.finding.Finding.{Finding}
-use Rattle.papaya_points.specs.Given.Tables.declared.finding.Finding.TheVariants as is
-use Rattle.papaya_points.specs.Given.Tables.declared.trial.Trial.{Trial}
-use Rattle.papaya_points.specs.Given.Resize.Lookup.{answered, going, beyond, passed, told_of, told, probes}
-use Rattle.papaya_points.specs.Given.Resize.declared.lookup.Lookup.{Lookup}
-use Rattle.papaya_points.specs.Given.Resize.declared.lookup.Looking.TheVariants as at
-use Rattle.papaya_points.specs.Given.Rule.Chart.{Place, Chart, is_taken}
-use Rattle.papaya_points.specs.Given.Rule.Rule.{IsLawful, Passed, Rule}
-use Rattle.papaya_points.specs.Given.Rule.Words.{Blocks, place_word}
-use Rattle.papaya_points.specs.Given.Rule.Maps.{spot_at, spot_of, IsClass, IsMap, IsTrial}
-use Rattle.papaya_points.specs.Given.Rule.Moments.{Moments}
-use Rattle.papaya_points.proofs.Given.Rule.Words.PlacesShown.{AreStored, are_stored, shown_byte, shown_known}
-use Rattle.papaya_points.proofs.Given.Rule.Words.WordsSeen.{Tells, Says, says}
-use Rattle.papaya_points.proofs.Given.Rule.Keys.TriesSeen.{IsNext, next_is}
-use Rattle.papaya_points.proofs.Given.Rule.Keys.ClassesSeen.{passed_further}
+use Rattle.papaya_points.specs.Given.SeizeWordsMem.{Mem, value_at, Took}
+use Rattle.papaya_points.specs.Given.SeizeWordsPlan.{Steps}
+use Rattle.papaya_points.specs.Given.SeizeDeclared.progress.Progress.{Progress}
+use Rattle.papaya_points.specs.Given.TablesChunks.{is_incremental}
+use Rattle.papaya_points.specs.Given.TablesFinding.{finding}
+use Rattle.papaya_points.specs.Given.TablesTrials.{next_trial}
+use Rattle.papaya_points.specs.Given.TablesDeclared.node.Node.{Node}
+use Rattle.papaya_points.specs.Given.TablesDeclared.resize_mode.ResizeMode.{ResizeMode}
+use Rattle.papaya_points.specs.Given.TablesDeclared.finding.Aim.TheVariants.{Looks}
+use Rattle.papaya_points.specs.Given.TablesDeclared.finding.Finding.{Finding}
+use Rattle.papaya_points.specs.Given.TablesDeclared.finding.Finding.TheVariants as is
+use Rattle.papaya_points.specs.Given.TablesDeclared.trial.Trial.{Trial}
+use Rattle.papaya_points.specs.Given.ResizeLookup.{answered, going, beyond, passed, told_of, told, probes}
+use Rattle.papaya_points.specs.Given.ResizeDeclared.lookup.Lookup.{Lookup}
+use Rattle.papaya_points.specs.Given.ResizeDeclared.lookup.Looking.TheVariants as at
+use Rattle.papaya_points.specs.Given.RuleChart.{Place, Chart, is_taken}
+use Rattle.papaya_points.specs.Given.RuleRule.{IsLawful, Passed, Rule}
+use Rattle.papaya_points.specs.Given.RuleWords.{Blocks, place_word}
+use Rattle.papaya_points.specs.Given.RuleMaps.{spot_at, spot_of, IsClass, IsMap, IsTrial}
+use Rattle.papaya_points.specs.Given.RuleMoments.{Moments}
+use Rattle.papaya_points.proofs.Given.RuleWords.PlacesShown.{AreStored, are_stored, shown_byte, shown_known}
+use Rattle.papaya_points.proofs.Given.RuleWords.WordsSeen.{Tells, Says, says}
+use Rattle.papaya_points.proofs.Given.RuleKeys.TriesSeen.{IsNext, next_is}
+use Rattle.papaya_points.proofs.Given.RuleKeys.ClassesSeen.{passed_further}
 use Rattle.papaya_points.proofs.Lookups.Reads.{SeesPlace, sees_place, probes_tell}
 use Rattle.papaya_late.specs.Left.{Left}
 use Rattle.papaya_late.specs.LateLooks.{LateLookupFacts}

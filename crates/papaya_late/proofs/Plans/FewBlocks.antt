@@ -3,40 +3,40 @@
 use Rattle.std.specs.Prelude.{◌≡◌, ℕ, zero, suc, ◌+◌, ◌<◌, ◌≤◌, true, false, eqb, [], ◌∷◌, Some, None, Ok, Err, replicate}
 use Rattle.std.proofs.Common.{refl, arith}
 use Rattle.std.proofs.lemmas.Cmp.{nat_eq_equiv}
-use Rattle.papaya_points.specs.Given.SeizeWords.Mem.{Mem, Took, value_at, word_at, with_word}
-use Rattle.papaya_points.specs.Given.SeizeWords.Op.{Stored, Exchanged}
-use Rattle.papaya_points.specs.Given.SeizeWords.Plan.{Steps}
-use Rattle.papaya_points.specs.Given.SeizeWords.declared.at.At.TheVariants.{Root, Word}
-use Rattle.papaya_points.specs.Given.Seize.World.{World, Rests, Vacant, Hand, NoBlock, Making, InUse}
-use Rattle.papaya_points.specs.Given.Tables.declared.node.Node.{Node}
-use Rattle.papaya_points.specs.Given.Tables.declared.node.Node.TheVariants as node
-use Rattle.papaya_points.specs.Given.Tables.declared.resize_mode.ResizeMode.TheVariants.{Incremental}
-use Rattle.papaya_points.specs.Given.Tables.declared.setting.Setting.{Setting}
-use Rattle.papaya_points.specs.Given.Tables.declared.status.TheConstants.Status.{ABORTED}
-use Rattle.papaya_points.specs.Given.Tables.declared.table.Table.{Table}
-use Rattle.papaya_points.specs.Given.Tables.declared.table_words.TheConstants.{STATUS, PLACES}
-use Rattle.papaya_points.specs.Given.Tables.Lengths.{IsTableLen}
-use Rattle.papaya_points.specs.Given.Resize.CopierStates.{standing, resting}
-use Rattle.papaya_points.specs.Given.Resize.declared.copier.Copier.{Copier}
-use Rattle.papaya_points.specs.Given.Resize.declared.copier.Copying.TheVariants as copies
-use Rattle.papaya_points.specs.Given.Raw.CallPoints.{entering, inserting, told_answer}
-use Rattle.papaya_points.specs.Given.Raw.declared.machines.answer.Called.{Called}
-use Rattle.papaya_points.specs.Given.Raw.declared.machines.answer.KeyAnswer.TheVariants as answers
-use Rattle.papaya_points.specs.Given.Raw.declared.machines.answer.Missing.TheVariants as missing
-use Rattle.papaya_points.specs.Given.Raw.declared.machines.answer.There.TheVariants as there
-use Rattle.papaya_points.specs.Given.Raw.declared.machines.asking.Takes.TheVariants as takes
-use Rattle.papaya_points.specs.Given.Raw.declared.machines.call.KeyCall.{KeyCall}
-use Rattle.papaya_points.specs.Given.Rule.Chart.{Chart, Counted}
-use Rattle.papaya_points.specs.Given.Rule.InWorld.{IsOut, IsMapIn, Went}
-use Rattle.papaya_points.specs.Given.Rule.Maps.{IsTable, spot_of}
-use Rattle.papaya_points.specs.Given.Rule.Moments.{Moments}
-use Rattle.papaya_points.specs.Given.Rule.Moves.{Move, Links, Marks, Counts, Promotes, Announces, Allowed, after}
-use Rattle.papaya_points.specs.Given.Rule.Rule.{Rule, no_table}
-use Rattle.papaya_points.specs.Given.Rule.Words.{Blocks, Shows, ShowsTable, place_word}
-use Rattle.papaya_points.proofs.Given.Rule.History.History.{history_begins, history_kept}
-use Rattle.papaya_points.proofs.Given.Rule.Keys.TriesSeen.{spot_inside}
-use Rattle.papaya_points.proofs.Given.Rule.Moves.Promised.{moves_keep}
-use Rattle.papaya_points.proofs.Given.Rule.Moves.RuleBegins.{rule_begins}
+use Rattle.papaya_points.specs.Given.SeizeWordsMem.{Mem, Took, value_at, word_at, with_word}
+use Rattle.papaya_points.specs.Given.SeizeWordsOp.{Stored, Exchanged}
+use Rattle.papaya_points.specs.Given.SeizeWordsPlan.{Steps}
+use Rattle.papaya_points.specs.Given.SeizeWordsDeclared.at.At.TheVariants.{Root, Word}
+use Rattle.papaya_points.specs.Given.SeizeWorld.{World, Rests, Vacant, Hand, NoBlock, Making, InUse}
+use Rattle.papaya_points.specs.Given.TablesDeclared.node.Node.{Node}
+use Rattle.papaya_points.specs.Given.TablesDeclared.node.Node.TheVariants as node
+use Rattle.papaya_points.specs.Given.TablesDeclared.resize_mode.ResizeMode.TheVariants.{Incremental}
+use Rattle.papaya_points.specs.Given.TablesDeclared.setting.Setting.{Setting}
+use Rattle.papaya_points.specs.Given.TablesDeclared.status.TheConstants.Status.{ABORTED}
+use Rattle.papaya_points.specs.Given.TablesDeclared.table.Table.{Table}
+use Rattle.papaya_points.specs.Given.TablesDeclared.table_words.TheConstants.{STATUS, PLACES}
+use Rattle.papaya_points.specs.Given.TablesLengths.{IsTableLen}
+use Rattle.papaya_points.specs.Given.ResizeCopierStates.{standing, resting}
+use Rattle.papaya_points.specs.Given.ResizeDeclared.copier.Copier.{Copier}
+use Rattle.papaya_points.specs.Given.ResizeDeclared.copier.Copying.TheVariants as copies
+use Rattle.papaya_points.specs.Given.RawCallPoints.{entering, inserting, told_answer}
+use Rattle.papaya_points.specs.Given.RawDeclared.machines.answer.Called.{Called}
+use Rattle.papaya_points.specs.Given.RawDeclared.machines.answer.KeyAnswer.TheVariants as answers
+use Rattle.papaya_points.specs.Given.RawDeclared.machines.answer.Missing.TheVariants as missing
+use Rattle.papaya_points.specs.Given.RawDeclared.machines.answer.There.TheVariants as there
+use Rattle.papaya_points.specs.Given.RawDeclared.machines.asking.Takes.TheVariants as takes
+use Rattle.papaya_points.specs.Given.RawDeclared.machines.call.KeyCall.{KeyCall}
+use Rattle.papaya_points.specs.Given.RuleChart.{Chart, Counted}
+use Rattle.papaya_points.specs.Given.RuleInWorld.{IsOut, IsMapIn, Went}
+use Rattle.papaya_points.specs.Given.RuleMaps.{IsTable, spot_of}
+use Rattle.papaya_points.specs.Given.RuleMoments.{Moments}
+use Rattle.papaya_points.specs.Given.RuleMoves.{Move, Links, Marks, Counts, Promotes, Announces, Allowed, after}
+use Rattle.papaya_points.specs.Given.RuleRule.{Rule, no_table}
+use Rattle.papaya_points.specs.Given.RuleWords.{Blocks, Shows, ShowsTable, place_word}
+use Rattle.papaya_points.proofs.Given.RuleHistory.History.{history_begins, history_kept}
+use Rattle.papaya_points.proofs.Given.RuleKeys.TriesSeen.{spot_inside}
+use Rattle.papaya_points.proofs.Given.RuleMoves.Promised.{moves_keep}
+use Rattle.papaya_points.proofs.Given.RuleMoves.RuleBegins.{rule_begins}
 use Rattle.papaya_late.specs.Kinds.{ComesFit}
 use Rattle.papaya_points.specs.Steps.{AreLawful}
 use Rattle.papaya_late.proofs.Plans.{answers_at_once, tries_nothing, forgets_its_pair, stores_nothing, lowers, lowers_the_root, gives_up, aborts_a_promoted}

@@ -1,35 +1,35 @@
 -- A call in a table that the root has left keeps its own block, and no value becomes another one.
 use Rattle.std.proofs.Common.{◌≡◌, ℕ, ◌/◌, suc, Bool, Some, None, inl, inr, refl, ap, sym, subst, ◌∙◌}
-use Rattle.papaya_points.specs.Given.SeizeWords.declared.at.At.TheVariants.{Word}
-use Rattle.papaya_points.specs.Given.SeizeWords.Mem.{Mem, Can, Took, value_at}
-use Rattle.papaya_points.specs.Given.SeizeWords.Plan.{May, Steps}
-use Rattle.papaya_points.proofs.Given.SeizeWords.OneOwner.Operations.{taken}
-use Rattle.papaya_points.specs.Given.Seize.World.{World}
-use Rattle.papaya_points.specs.Given.Seize.declared.progress.Progress.{Progress}
-use Rattle.papaya_points.proofs.Given.SeizeRule.Rows.Leaving.{steps_back}
-use Rattle.papaya_points.specs.Given.Tables.declared.node.Node.{Node}
-use Rattle.papaya_points.specs.Given.Tables.declared.setting.Setting.{Setting}
-use Rattle.papaya_points.specs.Given.Tables.declared.table.Table.{Table}
-use Rattle.papaya_points.specs.Given.Tables.declared.table_words.TheConstants.{NEXT}
-use Rattle.papaya_points.specs.Given.Resize.NewTable.{new_table_plan, other}
-use Rattle.papaya_points.specs.Given.Resize.NewTable as new
-use Rattle.papaya_points.specs.Given.Resize.declared.copier.Copier.{Copier}
-use Rattle.papaya_points.specs.Given.Resize.declared.copier.Copying.{Copying as Point}
-use Rattle.papaya_points.specs.Given.Resize.declared.copier.Copying.TheVariants as copies
-use Rattle.papaya_points.specs.Given.Resize.declared.new_table.NewTable.{NewTable}
-use Rattle.papaya_points.specs.Given.Resize.declared.new_table.Making.{Making}
-use Rattle.papaya_points.specs.Given.Resize.declared.new_table.Making.TheVariants as makes
-use Rattle.papaya_points.specs.Given.Raw.Call.{first_made, plan_at}
-use Rattle.papaya_points.specs.Given.Raw.declared.machines.answer.Called.{Called}
-use Rattle.papaya_points.specs.Given.Raw.declared.machines.asking.Asking.{Asking}
-use Rattle.papaya_points.specs.Given.Raw.declared.machines.asking.Asking.TheVariants as asking
-use Rattle.papaya_points.specs.Given.Raw.declared.machines.asking.Takes.{Takes}
-use Rattle.papaya_points.specs.Given.Raw.declared.machines.asking.Takes.TheVariants as takes
-use Rattle.papaya_points.specs.Given.Raw.declared.machines.call.KeyCall.{KeyCall}
-use Rattle.papaya_points.specs.Given.Raw.declared.machines.call.Calling.{Calling}
-use Rattle.papaya_points.specs.Given.Raw.declared.machines.call.Calling.TheVariants as at
-use Rattle.papaya_points.specs.Given.Rule.Chart.{Chart}
-use Rattle.papaya_points.specs.Given.Rule.Words.{Blocks}
+use Rattle.papaya_points.specs.Given.SeizeWordsDeclared.at.At.TheVariants.{Word}
+use Rattle.papaya_points.specs.Given.SeizeWordsMem.{Mem, Can, Took, value_at}
+use Rattle.papaya_points.specs.Given.SeizeWordsPlan.{May, Steps}
+use Rattle.papaya_points.proofs.Given.SeizeWordsOneOwner.Operations.{taken}
+use Rattle.papaya_points.specs.Given.SeizeWorld.{World}
+use Rattle.papaya_points.specs.Given.SeizeDeclared.progress.Progress.{Progress}
+use Rattle.papaya_points.proofs.Given.SeizeRuleRows.Leaving.{steps_back}
+use Rattle.papaya_points.specs.Given.TablesDeclared.node.Node.{Node}
+use Rattle.papaya_points.specs.Given.TablesDeclared.setting.Setting.{Setting}
+use Rattle.papaya_points.specs.Given.TablesDeclared.table.Table.{Table}
+use Rattle.papaya_points.specs.Given.TablesDeclared.table_words.TheConstants.{NEXT}
+use Rattle.papaya_points.specs.Given.ResizeNewTable.{new_table_plan, other}
+use Rattle.papaya_points.specs.Given.ResizeNewTable as new
+use Rattle.papaya_points.specs.Given.ResizeDeclared.copier.Copier.{Copier}
+use Rattle.papaya_points.specs.Given.ResizeDeclared.copier.Copying.{Copying as Point}
+use Rattle.papaya_points.specs.Given.ResizeDeclared.copier.Copying.TheVariants as copies
+use Rattle.papaya_points.specs.Given.ResizeDeclared.new_table.NewTable.{NewTable}
+use Rattle.papaya_points.specs.Given.ResizeDeclared.new_table.Making.{Making}
+use Rattle.papaya_points.specs.Given.ResizeDeclared.new_table.Making.TheVariants as makes
+use Rattle.papaya_points.specs.Given.RawCall.{first_made, plan_at}
+use Rattle.papaya_points.specs.Given.RawDeclared.machines.answer.Called.{Called}
+use Rattle.papaya_points.specs.Given.RawDeclared.machines.asking.Asking.{Asking}
+use Rattle.papaya_points.specs.Given.RawDeclared.machines.asking.Asking.TheVariants as asking
+use Rattle.papaya_points.specs.Given.RawDeclared.machines.asking.Takes.{Takes}
+use Rattle.papaya_points.specs.Given.RawDeclared.machines.asking.Takes.TheVariants as takes
+use Rattle.papaya_points.specs.Given.RawDeclared.machines.call.KeyCall.{KeyCall}
+use Rattle.papaya_points.specs.Given.RawDeclared.machines.call.Calling.{Calling}
+use Rattle.papaya_points.specs.Given.RawDeclared.machines.call.Calling.TheVariants as at
+use Rattle.papaya_points.specs.Given.RuleChart.{Chart}
+use Rattle.papaya_points.specs.Given.RuleWords.{Blocks}
 use Rattle.papaya_points.specs.FactsCalls.{Unchanged, MayStore, holding}
 use Rattle.papaya_points.specs.Told.{IsRowOfCall}
 use Rattle.papaya_points.proofs.Calls.Holdings.{never_missing, never_there, never_told}

@@ -1,10 +1,10 @@
 -- After a step by which all is reclaimed what the collector has is handed over, or waits; and what is told to be handed over it has, and that waits behind nothing.
 use Rattle.std.specs.Prelude.{◌≡◌, ◌⊎◌, ℕ, ◌+◌, zero, suc, Bool, List, [], ◌∷◌, Option, Some, None, IsSome, if◌then◌else◌}
 use Rattle.std.proofs.Common.{refl, ap, sym, subst, ◌∙◌, inl, inr, arith}
-use Rattle.seize.specs.Given.SeizeWords.Op.{Store}
-use Rattle.seize.specs.Given.SeizeWords.declared.at.At.TheVariants.{Root, Used}
-use Rattle.seize.specs.Given.SeizeWords.Mem.{value_at}
-use Rattle.seize.specs.Given.SeizeWords.Word.{block_in}
+use Rattle.seize.specs.Given.SeizeWordsOp.{Store}
+use Rattle.seize.specs.Given.SeizeWordsDeclared.at.At.TheVariants.{Root, Used}
+use Rattle.seize.specs.Given.SeizeWordsMem.{value_at}
+use Rattle.seize.specs.Given.SeizeWordsWord.{block_in}
 use Rattle.seize.specs.Sequence.{taken_in}
 use Rattle.seize.specs.declared.rows.reclaim_all.ReclaimAll.{ReclaimAll}
 use Rattle.seize.specs.declared.rows.settle.Settled.{Settled}
@@ -15,8 +15,8 @@ use Rattle.papaya_reclaiming.proofs.Given.SeizeRuleWords.There.{value_there}
 use Rattle.papaya_remains.proofs.Given.SeizeAloneHistories.NotTaken.{did}
 use Rattle.papaya_remains.proofs.Given.SeizeAloneHistories.Reached.{Reached, happens_reached}
 use Rattle.papaya_remains.proofs.Given.SeizeAloneSpared.Rows.{RowStepped}
-use Rattle.papaya_runs.specs.Given.Tables.Nodes.{deferred_word}
-use Rattle.papaya_runs.specs.Given.Tables.declared.node.Node.{Node}
+use Rattle.papaya_runs.specs.Given.TablesNodes.{deferred_word}
+use Rattle.papaya_runs.specs.Given.TablesDeclared.node.Node.{Node}
 use Rattle.papaya_remains.specs.Given.SchedulesDeclared.effect.Effect.{Effect}
 use Rattle.papaya_remains.specs.Given.SchedulesEffects.{with_effects}
 use Rattle.papaya_remains.specs.Given.SchedulesMoment.{Moment}

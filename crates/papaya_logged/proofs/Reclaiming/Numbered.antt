@@ -1,13 +1,13 @@
 -- A step by which all is reclaimed leaves numbers of maps below the executor's count, and slots noted.
 use Rattle.std.specs.Prelude.{ℕ, Bool, List, None}
 use Rattle.std.proofs.Common.{sym, subst, inl, inr}
-use Rattle.seize.specs.Given.SeizeWords.declared.at.At.TheVariants.{Root, Used}
-use Rattle.seize.specs.Given.SeizeWords.Word.{block_in}
+use Rattle.seize.specs.Given.SeizeWordsDeclared.at.At.TheVariants.{Root, Used}
+use Rattle.seize.specs.Given.SeizeWordsWord.{block_in}
 use Rattle.seize.specs.ReclaimAll.{reclaim_all_plan}
 use Rattle.seize.specs.declared.rows.reclaim_all.ReclaimAll.{ReclaimAll}
 use Rattle.seize.specs.declared.rows.settle.Settled.{Settled}
-use Rattle.papaya_runs.specs.Given.Tables.Nodes.{deferred_word, was_left}
-use Rattle.papaya_runs.specs.Given.Tables.declared.node.Node.{Node}
+use Rattle.papaya_runs.specs.Given.TablesNodes.{deferred_word, was_left}
+use Rattle.papaya_runs.specs.Given.TablesDeclared.node.Node.{Node}
 use Rattle.papaya_remains.specs.Given.SchedulesDeclared.effect.Effect.{Effect}
 use Rattle.papaya_remains.specs.Given.SchedulesEffects.{with_effects}
 use Rattle.papaya_remains.specs.Given.SchedulesMoment.{Moment}

@@ -1,16 +1,16 @@
 -- A moment shows the scene after a step by which all is reclaimed: nobody has a call, a making or an end under way.
 use Rattle.std.specs.Prelude.{◌≡◌, ℕ, Bool, true, false, List, [], Option, Some, None, IsSome, ◌⊎◌, if◌then◌else◌}
 use Rattle.std.proofs.Common.{refl, ap, sym, subst, ◌∙◌, inl, inr}
-use Rattle.seize.specs.Given.SeizeWords.declared.at.At.TheVariants.{Root, Used}
-use Rattle.seize.specs.Given.SeizeWords.Mem.{Mem, value_at}
-use Rattle.seize.specs.Given.SeizeWords.Word.{block_in}
+use Rattle.seize.specs.Given.SeizeWordsDeclared.at.At.TheVariants.{Root, Used}
+use Rattle.seize.specs.Given.SeizeWordsMem.{Mem, value_at}
+use Rattle.seize.specs.Given.SeizeWordsWord.{block_in}
 use Rattle.seize.specs.declared.rows.reclaim_all.ReclaimAll.{ReclaimAll}
 use Rattle.seize.specs.declared.rows.settle.Settled.{Settled}
 use Rattle.seize.specs.ReclaimAll.{reclaim_all_plan}
 use Rattle.seize.specs.World.{World, Hand, Event, Runs}
 use Rattle.papaya_remains.proofs.Given.SeizeAloneHistories.Reached.{Reached, runs_reached}
-use Rattle.papaya_runs.specs.Given.Tables.Nodes.{deferred_word, was_left}
-use Rattle.papaya_runs.specs.Given.Tables.declared.node.Node.{Node}
+use Rattle.papaya_runs.specs.Given.TablesNodes.{deferred_word, was_left}
+use Rattle.papaya_runs.specs.Given.TablesDeclared.node.Node.{Node}
 use Rattle.papaya_remains.specs.Given.SchedulesDeclared.effect.Effect.{Effect}
 use Rattle.papaya_remains.specs.Given.SchedulesEffects.{with_effects, AtEachEffect}
 use Rattle.papaya_remains.specs.Given.SchedulesMoment.{Moment}

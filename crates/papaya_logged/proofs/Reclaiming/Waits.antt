@@ -2,9 +2,9 @@
 -- table it takes what waits behind that off the list.
 use Rattle.std.specs.Prelude.{◌≡◌, ◌⊎◌, ℕ, zero, suc, ◌+◌, nat_lt, ◌&&◌, Bool, true, false, not, List, [], ◌∷◌, Option, Some, None, IsSome, if◌then◌else◌}
 use Rattle.std.proofs.Common.{refl, ap, sym, subst, ◌∙◌, inl, inr, arith}
-use Rattle.seize.specs.Given.SeizeWords.declared.at.At.TheVariants.{Root, Used, Slot, Entry, Word}
-use Rattle.seize.specs.Given.SeizeWords.Mem.{value_at}
-use Rattle.seize.specs.Given.SeizeWords.Op.{Store}
+use Rattle.seize.specs.Given.SeizeWordsDeclared.at.At.TheVariants.{Root, Used, Slot, Entry, Word}
+use Rattle.seize.specs.Given.SeizeWordsMem.{value_at}
+use Rattle.seize.specs.Given.SeizeWordsOp.{Store}
 use Rattle.seize.specs.declared.rows.reclaim_all.ReclaimAll.{ReclaimAll}
 use Rattle.seize.specs.declared.rows.settle.Settled.{Settled}
 use Rattle.seize.specs.declared.states.TheConstants.{LAST_SLOT}
@@ -15,8 +15,8 @@ use Rattle.papaya_reclaiming.proofs.Given.SeizeRuleWords.There.{value_there}
 use Rattle.papaya_remains.proofs.Given.SeizeAloneHistories.NotTaken.{did, taken_gone}
 use Rattle.papaya_remains.proofs.Given.SeizeAloneHistories.Reached.{Reached, happens_reached}
 use Rattle.papaya_remains.proofs.Given.SeizeAloneSpared.Rows.{RowStepped}
-use Rattle.papaya_runs.specs.Given.Tables.Nodes.{deferred_word}
-use Rattle.papaya_runs.specs.Given.Tables.declared.node.Node.{Node}
+use Rattle.papaya_runs.specs.Given.TablesNodes.{deferred_word}
+use Rattle.papaya_runs.specs.Given.TablesDeclared.node.Node.{Node}
 use Rattle.papaya_remains.specs.Given.SchedulesDeclared.effect.Effect.{Effect}
 use Rattle.papaya_remains.specs.Given.SchedulesDeclared.effect.Effect.TheVariants.{Asked}
 use Rattle.papaya_remains.specs.Given.SchedulesDeclared.effect.Growth.TheVariants.{ABucket}

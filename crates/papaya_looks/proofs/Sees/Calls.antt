@@ -2,46 +2,46 @@
 use Rattle.std.specs.Prelude.{◌==◌, ◌/◌, ◌^◌, ◌<◌, Option, Some, None, if◌then◌else◌}
 use Rattle.std.proofs.Common.{◌≡◌, ℕ, suc, Bool, true, false, ◌⊎◌, inl, inr, refl, sym, subst, ap, arith, ◌∙◌}
 use Rattle.std.proofs.lemmas.Bool.{ne_eqb}
-use Rattle.papaya_finishes.specs.Given.SeizeWords.declared.at.At.TheVariants.{Root, Word}
-use Rattle.papaya_finishes.specs.Given.SeizeWords.Mem.{Mem, value_at, word_at}
-use Rattle.papaya_finishes.specs.Given.SeizeWords.Op.{Taken}
-use Rattle.papaya_finishes.specs.Given.SeizeWords.Plan.{Then, Now, Ends}
-use Rattle.papaya_finishes.specs.Given.Seize.Law.{holds}
-use Rattle.papaya_finishes.specs.Given.Seize.World.{World}
-use Rattle.papaya_finishes.specs.Given.Tables.Chunks.{is_incremental}
-use Rattle.papaya_finishes.specs.Given.Tables.Finding.{may_name}
-use Rattle.papaya_finishes.specs.Given.Tables.Nodes.{table_seen, vacant}
-use Rattle.papaya_finishes.specs.Given.Tables.TablePlaces.{at_word, at_place}
-use Rattle.papaya_finishes.specs.Given.Tables.Trials.{place_tried}
-use Rattle.papaya_finishes.specs.Given.Tables.declared.node.Node.{Node}
-use Rattle.papaya_finishes.specs.Given.Tables.declared.node.Node.TheVariants as node
-use Rattle.papaya_finishes.specs.Given.Tables.declared.setting.Setting.{Setting}
-use Rattle.papaya_finishes.specs.Given.Tables.declared.table_words.TheConstants.{NEXT}
-use Rattle.papaya_finishes.specs.Given.Resize.Copier.{copier_plan}
-use Rattle.papaya_finishes.specs.Given.Resize.Dispose.{dispose_plan}
-use Rattle.papaya_finishes.specs.Given.Resize.NewTable.{new_table_plan}
-use Rattle.papaya_finishes.specs.Given.Resize.declared.lookup.Lookup.{Lookup}
-use Rattle.papaya_finishes.specs.Given.Raw.Call as call
-use Rattle.papaya_finishes.specs.Given.Raw.Call.{call_plan, plan_at, pair_read, key_read, word_read}
-use Rattle.papaya_finishes.specs.Given.Raw.CallFills as fills
-use Rattle.papaya_finishes.specs.Given.Raw.CallPoints.{entering, went_on, told, tableless, at_last}
-use Rattle.papaya_finishes.specs.Given.Raw.Replies.{value_for, as_own}
-use Rattle.papaya_finishes.specs.Given.Raw.declared.machines.answer.Called.{Called}
-use Rattle.papaya_finishes.specs.Given.Raw.declared.machines.asking.Asking.{Asking}
-use Rattle.papaya_finishes.specs.Given.Raw.declared.machines.asking.Asking.TheVariants as asking
-use Rattle.papaya_finishes.specs.Given.Raw.declared.machines.call.Calling.{Calling}
-use Rattle.papaya_finishes.specs.Given.Raw.declared.machines.call.Calling.TheVariants as at
-use Rattle.papaya_finishes.specs.Given.Raw.declared.machines.call.KeyCall.{KeyCall}
-use Rattle.papaya_finishes.specs.Given.Rule.Chart.{Chart}
-use Rattle.papaya_finishes.specs.Given.Rule.Words.{Blocks, place_word}
-use Rattle.papaya_finishes.specs.Given.Rule.Maps.{spot_at, spot_of, IsTrial}
-use Rattle.papaya_finishes.specs.Given.Rule.InWorld.{IsMapIn}
-use Rattle.papaya_finishes.proofs.Given.Rule.Keys.TriesSeen.{spot_inside}
-use Rattle.papaya_finishes.proofs.Given.Rule.Words.PlacesShown.{are_stored}
-use Rattle.papaya_finishes.proofs.Given.Rule.Words.TablesSeen.{place_there}
-use Rattle.papaya_finishes.specs.Given.Points.FactsCalls.{Change, Holding, Apart, InBlock, ByReply, holding, HasOwn, IsOwnPair, CallingFacts, CallFacts}
-use Rattle.papaya_finishes.specs.Given.Points.Told.{IsRowOfCall}
-use Rattle.papaya_finishes.specs.Given.Callers.Kept.{IsWithin}
+use Rattle.papaya_finishes.specs.Given.SeizeWordsDeclared.at.At.TheVariants.{Root, Word}
+use Rattle.papaya_finishes.specs.Given.SeizeWordsMem.{Mem, value_at, word_at}
+use Rattle.papaya_finishes.specs.Given.SeizeWordsOp.{Taken}
+use Rattle.papaya_finishes.specs.Given.SeizeWordsPlan.{Then, Now, Ends}
+use Rattle.papaya_finishes.specs.Given.SeizeLaw.{holds}
+use Rattle.papaya_finishes.specs.Given.SeizeWorld.{World}
+use Rattle.papaya_finishes.specs.Given.TablesChunks.{is_incremental}
+use Rattle.papaya_finishes.specs.Given.TablesFinding.{may_name}
+use Rattle.papaya_finishes.specs.Given.TablesNodes.{table_seen, vacant}
+use Rattle.papaya_finishes.specs.Given.TablesTablePlaces.{at_word, at_place}
+use Rattle.papaya_finishes.specs.Given.TablesTrials.{place_tried}
+use Rattle.papaya_finishes.specs.Given.TablesDeclared.node.Node.{Node}
+use Rattle.papaya_finishes.specs.Given.TablesDeclared.node.Node.TheVariants as node
+use Rattle.papaya_finishes.specs.Given.TablesDeclared.setting.Setting.{Setting}
+use Rattle.papaya_finishes.specs.Given.TablesDeclared.table_words.TheConstants.{NEXT}
+use Rattle.papaya_finishes.specs.Given.ResizeCopier.{copier_plan}
+use Rattle.papaya_finishes.specs.Given.ResizeDispose.{dispose_plan}
+use Rattle.papaya_finishes.specs.Given.ResizeNewTable.{new_table_plan}
+use Rattle.papaya_finishes.specs.Given.ResizeDeclared.lookup.Lookup.{Lookup}
+use Rattle.papaya_finishes.specs.Given.RawCall as call
+use Rattle.papaya_finishes.specs.Given.RawCall.{call_plan, plan_at, pair_read, key_read, word_read}
+use Rattle.papaya_finishes.specs.Given.RawCallFills as fills
+use Rattle.papaya_finishes.specs.Given.RawCallPoints.{entering, went_on, told, tableless, at_last}
+use Rattle.papaya_finishes.specs.Given.RawReplies.{value_for, as_own}
+use Rattle.papaya_finishes.specs.Given.RawDeclared.machines.answer.Called.{Called}
+use Rattle.papaya_finishes.specs.Given.RawDeclared.machines.asking.Asking.{Asking}
+use Rattle.papaya_finishes.specs.Given.RawDeclared.machines.asking.Asking.TheVariants as asking
+use Rattle.papaya_finishes.specs.Given.RawDeclared.machines.call.Calling.{Calling}
+use Rattle.papaya_finishes.specs.Given.RawDeclared.machines.call.Calling.TheVariants as at
+use Rattle.papaya_finishes.specs.Given.RawDeclared.machines.call.KeyCall.{KeyCall}
+use Rattle.papaya_finishes.specs.Given.RuleChart.{Chart}
+use Rattle.papaya_finishes.specs.Given.RuleWords.{Blocks, place_word}
+use Rattle.papaya_finishes.specs.Given.RuleMaps.{spot_at, spot_of, IsTrial}
+use Rattle.papaya_finishes.specs.Given.RuleInWorld.{IsMapIn}
+use Rattle.papaya_finishes.proofs.Given.RuleKeys.TriesSeen.{spot_inside}
+use Rattle.papaya_finishes.proofs.Given.RuleWords.PlacesShown.{are_stored}
+use Rattle.papaya_finishes.proofs.Given.RuleWords.TablesSeen.{place_there}
+use Rattle.papaya_finishes.specs.Given.PointsFactsCalls.{Change, Holding, Apart, InBlock, ByReply, holding, HasOwn, IsOwnPair, CallingFacts, CallFacts}
+use Rattle.papaya_finishes.specs.Given.PointsTold.{IsRowOfCall}
+use Rattle.papaya_finishes.specs.Given.CallersKept.{IsWithin}
 use Rattle.papaya_looks.specs.Blocks.{Sees}
 use Rattle.papaya_looks.specs.Sees.{HasSeen}
 use Rattle.papaya_looks.proofs.Sees.Copiers.{root_link, next_link, copier_sees}

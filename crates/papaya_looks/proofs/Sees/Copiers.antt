@@ -2,45 +2,45 @@
 use Rattle.std.specs.Prelude.{◌==◌, ◌/◌, ◌%◌, ◌+◌, ◌^◌, ◌<◌, nat_lt, Option, Some}
 use Rattle.std.proofs.Common.{◌≡◌, ℕ, suc, Bool, true, false, inl, inr, sym, subst, ap, arith, ◌∙◌}
 use Rattle.std.proofs.lemmas.Bool.{eqb-false}
-use Rattle.papaya_finishes.specs.Given.SeizeWords.declared.at.At.TheVariants.{Root, Word}
-use Rattle.papaya_finishes.specs.Given.SeizeWords.Mem.{Mem, value_at, word_at}
-use Rattle.papaya_finishes.specs.Given.Seize.Law.{holds}
-use Rattle.papaya_finishes.specs.Given.Seize.World.{World}
-use Rattle.papaya_finishes.specs.Given.Tables.Nodes.{table_seen}
-use Rattle.papaya_finishes.specs.Given.Tables.TablePlaces.{at_word, at_place}
-use Rattle.papaya_finishes.specs.Given.Tables.declared.marks.TheConstants.{COPYING}
-use Rattle.papaya_finishes.specs.Given.Tables.declared.node.Node.{Node}
-use Rattle.papaya_finishes.specs.Given.Tables.declared.probe.Probe.{Probe}
-use Rattle.papaya_finishes.specs.Given.Tables.declared.setting.Setting.{Setting}
-use Rattle.papaya_finishes.specs.Given.Tables.declared.status.TheConstants.Status.{ABORTED, PROMOTED}
-use Rattle.papaya_finishes.specs.Given.Tables.declared.table.Table.{Table}
-use Rattle.papaya_finishes.specs.Given.Tables.declared.table_words.TheConstants.{NEXT, STATUS, CLAIM, COPIED}
-use Rattle.papaya_finishes.specs.Given.Resize.Copier as copier
-use Rattle.papaya_finishes.specs.Given.Resize.Copier.{copier_plan}
-use Rattle.papaya_finishes.specs.Given.Resize.CopierClaims as claims
-use Rattle.papaya_finishes.specs.Given.Resize.CopierCounts as counts
-use Rattle.papaya_finishes.specs.Given.Resize.CopierFurther as further
-use Rattle.papaya_finishes.specs.Given.Resize.CopierMarks as marks
-use Rattle.papaya_finishes.specs.Given.Resize.CopierPlaces as places
-use Rattle.papaya_finishes.specs.Given.Resize.CopierPromotes as promotes
-use Rattle.papaya_finishes.specs.Given.Resize.NewTable.{new_table_plan}
-use Rattle.papaya_finishes.specs.Given.Resize.declared.copier.Copier.{Copier}
-use Rattle.papaya_finishes.specs.Given.Resize.declared.copier.Copying.{Copying}
-use Rattle.papaya_finishes.specs.Given.Resize.declared.copier.Copying.TheVariants as at
-use Rattle.papaya_finishes.specs.Given.Resize.declared.outcome.Outcome.{Outcome}
-use Rattle.papaya_finishes.specs.Given.Resize.declared.outcome.Outcome.TheVariants.{Goes}
-use Rattle.papaya_finishes.specs.Given.Rule.Chart.{Chart}
-use Rattle.papaya_finishes.specs.Given.Rule.Links.{LeadsTo}
-use Rattle.papaya_finishes.specs.Given.Rule.Words.{Blocks, place_word}
-use Rattle.papaya_finishes.specs.Given.Rule.Maps.{spot_of, IsTable}
-use Rattle.papaya_finishes.specs.Given.Rule.InWorld.{IsMapIn}
-use Rattle.papaya_finishes.specs.Given.Tables.Chunks.{is_incremental}
-use Rattle.papaya_finishes.proofs.Given.Rule.Words.LinksSeen.{link_made, root_leads, next_leads}
-use Rattle.papaya_finishes.proofs.Given.Rule.Words.PlacesShown.{are_stored}
-use Rattle.papaya_finishes.proofs.Given.Rule.Words.TablesSeen.{place_there}
-use Rattle.papaya_finishes.specs.Given.Points.FactsCopies.{CopyingFacts, CopierFacts}
-use Rattle.papaya_finishes.specs.Given.Points.Told.{IsRowOfCopier}
-use Rattle.papaya_finishes.specs.Given.Callers.Kept.{IsWithin}
+use Rattle.papaya_finishes.specs.Given.SeizeWordsDeclared.at.At.TheVariants.{Root, Word}
+use Rattle.papaya_finishes.specs.Given.SeizeWordsMem.{Mem, value_at, word_at}
+use Rattle.papaya_finishes.specs.Given.SeizeLaw.{holds}
+use Rattle.papaya_finishes.specs.Given.SeizeWorld.{World}
+use Rattle.papaya_finishes.specs.Given.TablesNodes.{table_seen}
+use Rattle.papaya_finishes.specs.Given.TablesTablePlaces.{at_word, at_place}
+use Rattle.papaya_finishes.specs.Given.TablesDeclared.marks.TheConstants.{COPYING}
+use Rattle.papaya_finishes.specs.Given.TablesDeclared.node.Node.{Node}
+use Rattle.papaya_finishes.specs.Given.TablesDeclared.probe.Probe.{Probe}
+use Rattle.papaya_finishes.specs.Given.TablesDeclared.setting.Setting.{Setting}
+use Rattle.papaya_finishes.specs.Given.TablesDeclared.status.TheConstants.Status.{ABORTED, PROMOTED}
+use Rattle.papaya_finishes.specs.Given.TablesDeclared.table.Table.{Table}
+use Rattle.papaya_finishes.specs.Given.TablesDeclared.table_words.TheConstants.{NEXT, STATUS, CLAIM, COPIED}
+use Rattle.papaya_finishes.specs.Given.ResizeCopier as copier
+use Rattle.papaya_finishes.specs.Given.ResizeCopier.{copier_plan}
+use Rattle.papaya_finishes.specs.Given.ResizeCopierClaims as claims
+use Rattle.papaya_finishes.specs.Given.ResizeCopierCounts as counts
+use Rattle.papaya_finishes.specs.Given.ResizeCopierFurther as further
+use Rattle.papaya_finishes.specs.Given.ResizeCopierMarks as marks
+use Rattle.papaya_finishes.specs.Given.ResizeCopierPlaces as places
+use Rattle.papaya_finishes.specs.Given.ResizeCopierPromotes as promotes
+use Rattle.papaya_finishes.specs.Given.ResizeNewTable.{new_table_plan}
+use Rattle.papaya_finishes.specs.Given.ResizeDeclared.copier.Copier.{Copier}
+use Rattle.papaya_finishes.specs.Given.ResizeDeclared.copier.Copying.{Copying}
+use Rattle.papaya_finishes.specs.Given.ResizeDeclared.copier.Copying.TheVariants as at
+use Rattle.papaya_finishes.specs.Given.ResizeDeclared.outcome.Outcome.{Outcome}
+use Rattle.papaya_finishes.specs.Given.ResizeDeclared.outcome.Outcome.TheVariants.{Goes}
+use Rattle.papaya_finishes.specs.Given.RuleChart.{Chart}
+use Rattle.papaya_finishes.specs.Given.RuleLinks.{LeadsTo}
+use Rattle.papaya_finishes.specs.Given.RuleWords.{Blocks, place_word}
+use Rattle.papaya_finishes.specs.Given.RuleMaps.{spot_of, IsTable}
+use Rattle.papaya_finishes.specs.Given.RuleInWorld.{IsMapIn}
+use Rattle.papaya_finishes.specs.Given.TablesChunks.{is_incremental}
+use Rattle.papaya_finishes.proofs.Given.RuleWords.LinksSeen.{link_made, root_leads, next_leads}
+use Rattle.papaya_finishes.proofs.Given.RuleWords.PlacesShown.{are_stored}
+use Rattle.papaya_finishes.proofs.Given.RuleWords.TablesSeen.{place_there}
+use Rattle.papaya_finishes.specs.Given.PointsFactsCopies.{CopyingFacts, CopierFacts}
+use Rattle.papaya_finishes.specs.Given.PointsTold.{IsRowOfCopier}
+use Rattle.papaya_finishes.specs.Given.CallersKept.{IsWithin}
 use Rattle.papaya_looks.specs.Sees.{HasSeen}
 use Rattle.papaya_looks.proofs.Sees.Held.{table_held, sees_link, pair_held}
 use Rattle.papaya_looks.proofs.Sees.Operations.{none_if, loads, adds, ors, exchanges}

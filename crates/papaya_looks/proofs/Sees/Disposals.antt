@@ -1,28 +1,28 @@
 -- A disposal that stands at no row has seen the table of the root, which its section holds.
 use Rattle.std.specs.Prelude.{◌==◌, ◌/◌, ◌^◌, ◌<◌, nat_lt, Some}
 use Rattle.std.proofs.Common.{◌≡◌, ℕ, Bool, true, inl, inr, sym, subst, ap, arith, ◌∙◌}
-use Rattle.papaya_finishes.specs.Given.SeizeWords.declared.at.At.TheVariants.{Root, Word}
-use Rattle.papaya_finishes.specs.Given.SeizeWords.Mem.{Mem, value_at, word_at}
-use Rattle.papaya_finishes.specs.Given.SeizeWords.Op.{Found}
-use Rattle.papaya_finishes.specs.Given.Seize.Law.{holds}
-use Rattle.papaya_finishes.specs.Given.Seize.World.{World}
-use Rattle.papaya_finishes.specs.Given.Seize.declared.rows.settle.Settled.{Settled}
-use Rattle.papaya_finishes.specs.Given.Tables.Nodes.{table_seen}
-use Rattle.papaya_finishes.specs.Given.Tables.declared.node.Node.{Node}
-use Rattle.papaya_finishes.specs.Given.Tables.declared.setting.Setting.{Setting}
-use Rattle.papaya_finishes.specs.Given.Tables.declared.table.Table.{Table}
-use Rattle.papaya_finishes.specs.Given.Tables.declared.table_words.TheConstants.{NEXT}
-use Rattle.papaya_finishes.specs.Given.Resize.Dispose as dispose
-use Rattle.papaya_finishes.specs.Given.Resize.Dispose.{dispose_plan}
-use Rattle.papaya_finishes.specs.Given.Resize.declared.dispose.Dispose.{Dispose}
-use Rattle.papaya_finishes.specs.Given.Resize.declared.dispose.Disposing.{Disposing}
-use Rattle.papaya_finishes.specs.Given.Resize.declared.dispose.Disposing.TheVariants as at
-use Rattle.papaya_finishes.specs.Given.Rule.Chart.{Chart}
-use Rattle.papaya_finishes.specs.Given.Rule.Words.{Blocks}
-use Rattle.papaya_finishes.specs.Given.Rule.InWorld.{IsMapIn}
-use Rattle.papaya_finishes.specs.Given.Points.FactsDisposes.{DisposeFacts}
-use Rattle.papaya_finishes.specs.Given.Points.Told.{IsRowOf}
-use Rattle.papaya_finishes.specs.Given.Callers.Kept.{IsWithin}
+use Rattle.papaya_finishes.specs.Given.SeizeWordsDeclared.at.At.TheVariants.{Root, Word}
+use Rattle.papaya_finishes.specs.Given.SeizeWordsMem.{Mem, value_at, word_at}
+use Rattle.papaya_finishes.specs.Given.SeizeWordsOp.{Found}
+use Rattle.papaya_finishes.specs.Given.SeizeLaw.{holds}
+use Rattle.papaya_finishes.specs.Given.SeizeWorld.{World}
+use Rattle.papaya_finishes.specs.Given.SeizeDeclared.rows.settle.Settled.{Settled}
+use Rattle.papaya_finishes.specs.Given.TablesNodes.{table_seen}
+use Rattle.papaya_finishes.specs.Given.TablesDeclared.node.Node.{Node}
+use Rattle.papaya_finishes.specs.Given.TablesDeclared.setting.Setting.{Setting}
+use Rattle.papaya_finishes.specs.Given.TablesDeclared.table.Table.{Table}
+use Rattle.papaya_finishes.specs.Given.TablesDeclared.table_words.TheConstants.{NEXT}
+use Rattle.papaya_finishes.specs.Given.ResizeDispose as dispose
+use Rattle.papaya_finishes.specs.Given.ResizeDispose.{dispose_plan}
+use Rattle.papaya_finishes.specs.Given.ResizeDeclared.dispose.Dispose.{Dispose}
+use Rattle.papaya_finishes.specs.Given.ResizeDeclared.dispose.Disposing.{Disposing}
+use Rattle.papaya_finishes.specs.Given.ResizeDeclared.dispose.Disposing.TheVariants as at
+use Rattle.papaya_finishes.specs.Given.RuleChart.{Chart}
+use Rattle.papaya_finishes.specs.Given.RuleWords.{Blocks}
+use Rattle.papaya_finishes.specs.Given.RuleInWorld.{IsMapIn}
+use Rattle.papaya_finishes.specs.Given.PointsFactsDisposes.{DisposeFacts}
+use Rattle.papaya_finishes.specs.Given.PointsTold.{IsRowOf}
+use Rattle.papaya_finishes.specs.Given.CallersKept.{IsWithin}
 use Rattle.papaya_looks.specs.Blocks.{Sees}
 use Rattle.papaya_looks.specs.Sees.{HasSeen}
 use Rattle.papaya_looks.proofs.Sees.Copiers.{root_held}

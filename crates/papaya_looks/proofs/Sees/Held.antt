@@ -2,21 +2,21 @@
 use Rattle.std.specs.Prelude.{◌≢◌, ◌==◌, ◌/◌, ◌<◌, ◌^◌, ◌&&◌, not, Option, if◌then◌else◌}
 use Rattle.std.proofs.Common.{◌≡◌, ℕ, Bool, true, false, ◌⊎◌, inl, inr, refl, sym, subst, ap, arith, ◌∙◌}
 use Rattle.std.proofs.lemmas.Bool.{eq-eqb, eqb-false}
-use Rattle.papaya_finishes.specs.Given.SeizeWords.Mem.{Mem}
-use Rattle.papaya_finishes.specs.Given.SeizeWords.Plan.{Now, Seeing}
-use Rattle.papaya_finishes.specs.Given.Seize.Law.{holds}
-use Rattle.papaya_finishes.specs.Given.Seize.World.{World}
-use Rattle.papaya_finishes.specs.Given.Tables.Finding.{may_name}
-use Rattle.papaya_finishes.specs.Given.SeizeWords.Word.{byte_in}
-use Rattle.papaya_finishes.specs.Given.Tables.declared.node.Node.{Node}
-use Rattle.papaya_finishes.specs.Given.Tables.declared.setting.Setting.{Setting}
-use Rattle.papaya_finishes.specs.Given.Rule.Chart.{Place, Chart}
-use Rattle.papaya_finishes.specs.Given.Rule.Links.{LeadsTo, IsLinkTo}
-use Rattle.papaya_finishes.specs.Given.Rule.Words.{Blocks, Shows, place_word, byte_of}
-use Rattle.papaya_finishes.proofs.Given.Rule.Words.PlaceWords.{pair_block}
-use Rattle.papaya_finishes.proofs.Given.Rule.Words.PlaceWordsRead.{word-pair}
-use Rattle.papaya_finishes.proofs.Given.Rule.Words.PlacesShown.{AreStored, byte_of-few}
-use Rattle.papaya_finishes.specs.Given.Callers.Kept.{IsWithin}
+use Rattle.papaya_finishes.specs.Given.SeizeWordsMem.{Mem}
+use Rattle.papaya_finishes.specs.Given.SeizeWordsPlan.{Now, Seeing}
+use Rattle.papaya_finishes.specs.Given.SeizeLaw.{holds}
+use Rattle.papaya_finishes.specs.Given.SeizeWorld.{World}
+use Rattle.papaya_finishes.specs.Given.TablesFinding.{may_name}
+use Rattle.papaya_finishes.specs.Given.SeizeWordsWord.{byte_in}
+use Rattle.papaya_finishes.specs.Given.TablesDeclared.node.Node.{Node}
+use Rattle.papaya_finishes.specs.Given.TablesDeclared.setting.Setting.{Setting}
+use Rattle.papaya_finishes.specs.Given.RuleChart.{Place, Chart}
+use Rattle.papaya_finishes.specs.Given.RuleLinks.{LeadsTo, IsLinkTo}
+use Rattle.papaya_finishes.specs.Given.RuleWords.{Blocks, Shows, place_word, byte_of}
+use Rattle.papaya_finishes.proofs.Given.RuleWords.PlaceWords.{pair_block}
+use Rattle.papaya_finishes.proofs.Given.RuleWords.PlaceWordsRead.{word-pair}
+use Rattle.papaya_finishes.proofs.Given.RuleWords.PlacesShown.{AreStored, byte_of-few}
+use Rattle.papaya_finishes.specs.Given.CallersKept.{IsWithin}
 use Rattle.papaya_looks.specs.Blocks.{Sees}
 use Rattle.papaya_looks.proofs.Sees.Plans.{sees_if, sees_one}
 

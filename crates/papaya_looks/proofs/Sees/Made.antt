@@ -1,14 +1,14 @@
 -- The own pair of a call is in the hands of its caller, who has made its block.
 use Rattle.std.specs.Prelude.{◌≢◌, ◌/◌, Option, Some}
 use Rattle.std.proofs.Common.{◌≡◌, ℕ, Bool, inl, inr, sym, subst}
-use Rattle.papaya_finishes.specs.Given.SeizeWords.Mem.{value_at}
-use Rattle.papaya_finishes.specs.Given.Seize.World.{World, Making}
-use Rattle.papaya_finishes.specs.Given.Tables.declared.node.Node.{Node}
-use Rattle.papaya_finishes.specs.Given.Tables.declared.node.Node.TheVariants.{Shards}
-use Rattle.papaya_finishes.specs.Given.Tables.declared.setting.Setting.{Setting}
-use Rattle.papaya_finishes.specs.Given.Rule.Words.{Blocks}
-use Rattle.papaya_finishes.specs.Given.Callers.Sights.{seen_by}
-use Rattle.papaya_finishes.specs.Given.Callers.Together.{UnderWay, OnKey, ForRoom, Counting, OverAll, Together, Stands, in_slot}
+use Rattle.papaya_finishes.specs.Given.SeizeWordsMem.{value_at}
+use Rattle.papaya_finishes.specs.Given.SeizeWorld.{World, Making}
+use Rattle.papaya_finishes.specs.Given.TablesDeclared.node.Node.{Node}
+use Rattle.papaya_finishes.specs.Given.TablesDeclared.node.Node.TheVariants.{Shards}
+use Rattle.papaya_finishes.specs.Given.TablesDeclared.setting.Setting.{Setting}
+use Rattle.papaya_finishes.specs.Given.RuleWords.{Blocks}
+use Rattle.papaya_finishes.specs.Given.CallersSights.{seen_by}
+use Rattle.papaya_finishes.specs.Given.CallersTogether.{UnderWay, OnKey, ForRoom, Counting, OverAll, Together, Stands, in_slot}
 use Rattle.papaya_finishes.specs.Endings.{Finishing, EndingsTogether}
 use Rattle.papaya_finishes.specs.Machines.{machine_of}
 use Rattle.papaya_finishes.specs.Makings.{Beginning}

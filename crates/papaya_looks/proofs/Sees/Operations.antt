@@ -1,10 +1,10 @@
 -- What has been seen after an operation, by what that has answered.
 use Rattle.std.specs.Prelude.{Option, Some, Ok, Err, if◌then◌else◌}
 use Rattle.std.proofs.Common.{◌≡◌, ℕ, Bool, true, false, ◌⊎◌, inl, inr}
-use Rattle.papaya_finishes.specs.Given.SeizeWords.declared.at.At.{At}
-use Rattle.papaya_finishes.specs.Given.SeizeWords.Mem.{Mem, value_at, word_at}
-use Rattle.papaya_finishes.specs.Given.SeizeWords.Op.{Out, Load, Add, Or, Exchange, Make, Take, Rewrite, Found, Stored, Exchanged, Made, Taken, Roomed}
-use Rattle.papaya_finishes.specs.Given.SeizeWords.Plan.{Then, Do, Ends}
+use Rattle.papaya_finishes.specs.Given.SeizeWordsDeclared.at.At.{At}
+use Rattle.papaya_finishes.specs.Given.SeizeWordsMem.{Mem, value_at, word_at}
+use Rattle.papaya_finishes.specs.Given.SeizeWordsOp.{Out, Load, Add, Or, Exchange, Make, Take, Rewrite, Found, Stored, Exchanged, Made, Taken, Roomed}
+use Rattle.papaya_finishes.specs.Given.SeizeWordsPlan.{Then, Do, Ends}
 use Rattle.papaya_looks.specs.Blocks.{Sees}
 use Rattle.papaya_looks.specs.Sees.{HasSeen}
 

@@ -2,44 +2,44 @@
 use Rattle.std.specs.Prelude.{◌≢◌, ◌==◌, ◌/◌, ◌^◌, ◌<◌, Option, Some, None, if◌then◌else◌}
 use Rattle.std.proofs.Common.{◌≡◌, ℕ, Bool, true, false, inl, inr, refl, sym, subst, ap, arith, ◌∙◌}
 use Rattle.std.proofs.lemmas.Bool.{eq-eqb}
-use Rattle.papaya_finishes.specs.Given.SeizeWords.Mem.{value_at}
-use Rattle.papaya_finishes.specs.Given.Seize.World.{World, Making}
-use Rattle.papaya_finishes.specs.Given.Tables.Nodes.{vacant}
-use Rattle.papaya_finishes.specs.Given.Tables.Chunks.{is_incremental}
-use Rattle.papaya_finishes.specs.Given.Tables.Finding.{finding}
-use Rattle.papaya_finishes.specs.Given.Tables.Trials.{next_trial, with_met}
-use Rattle.papaya_finishes.specs.Given.Tables.declared.finding.Finding.{Finding}
-use Rattle.papaya_finishes.specs.Given.Tables.declared.finding.Finding.TheVariants as is
-use Rattle.papaya_finishes.specs.Given.Tables.declared.marks.TheConstants.{TOMBSTONE}
-use Rattle.papaya_finishes.specs.Given.Tables.declared.node.Node.{Node}
-use Rattle.papaya_finishes.specs.Given.Tables.declared.node.Node.TheVariants.{Pair, Shards}
-use Rattle.papaya_finishes.specs.Given.Tables.declared.setting.Setting.{Setting}
-use Rattle.papaya_finishes.specs.Given.Tables.declared.trial.Trial.{Trial}
-use Rattle.papaya_finishes.specs.Given.Raw.CallPoints.{going, over, ending, storing, burying, at_gap, gap_by, pair_by, at_free, at_end, beyond, at_pair, having_met, passed, halted, told_of, told, aim_of}
-use Rattle.papaya_finishes.specs.Given.Raw.declared.machines.answer.Called.{Called}
-use Rattle.papaya_finishes.specs.Given.Raw.declared.machines.answer.Called.TheVariants as called
-use Rattle.papaya_finishes.specs.Given.Raw.declared.machines.answer.End.{End}
-use Rattle.papaya_finishes.specs.Given.Raw.declared.machines.answer.End.TheVariants as ends
-use Rattle.papaya_finishes.specs.Given.Raw.declared.machines.answer.KeyAnswer.TheVariants as answers
-use Rattle.papaya_finishes.specs.Given.Raw.declared.machines.answer.Missing.{Missing}
-use Rattle.papaya_finishes.specs.Given.Raw.declared.machines.answer.Missing.TheVariants as missing
-use Rattle.papaya_finishes.specs.Given.Raw.declared.machines.answer.There.{There}
-use Rattle.papaya_finishes.specs.Given.Raw.declared.machines.answer.There.TheVariants as there
-use Rattle.papaya_finishes.specs.Given.Raw.declared.machines.asking.Asking.{Asking}
-use Rattle.papaya_finishes.specs.Given.Raw.declared.machines.asking.Asking.TheVariants as asking
-use Rattle.papaya_finishes.specs.Given.Raw.declared.machines.asking.Gap.{Gap}
-use Rattle.papaya_finishes.specs.Given.Raw.declared.machines.asking.Gap.TheVariants as gaps
-use Rattle.papaya_finishes.specs.Given.Raw.declared.machines.asking.Told.{Told}
-use Rattle.papaya_finishes.specs.Given.Raw.declared.machines.asking.Told.TheVariants as tells
-use Rattle.papaya_finishes.specs.Given.Raw.declared.machines.call.Calling.{Calling}
-use Rattle.papaya_finishes.specs.Given.Raw.declared.machines.call.Calling.TheVariants as at
-use Rattle.papaya_finishes.specs.Given.Raw.declared.machines.call.KeyCall.{KeyCall}
-use Rattle.papaya_finishes.specs.Given.Rule.Chart.{Chart}
-use Rattle.papaya_finishes.specs.Given.Rule.Words.{Blocks}
-use Rattle.papaya_finishes.specs.Given.Points.FactsCalls.{Change, Unchanged, Holding, Apart, InBlock, ByReply, holding, HasOwn, HasIts, IsOwnPair, IsVacant, CallingFacts, AskingFacts}
-use Rattle.papaya_finishes.specs.Given.Points.Told.{IsRowOfCall}
-use Rattle.papaya_finishes.specs.Given.Late.LateCalls.{LateAsking, LateCalling}
-use Rattle.papaya_finishes.proofs.Given.Points.Calls.Probes.{own_block}
+use Rattle.papaya_finishes.specs.Given.SeizeWordsMem.{value_at}
+use Rattle.papaya_finishes.specs.Given.SeizeWorld.{World, Making}
+use Rattle.papaya_finishes.specs.Given.TablesNodes.{vacant}
+use Rattle.papaya_finishes.specs.Given.TablesChunks.{is_incremental}
+use Rattle.papaya_finishes.specs.Given.TablesFinding.{finding}
+use Rattle.papaya_finishes.specs.Given.TablesTrials.{next_trial, with_met}
+use Rattle.papaya_finishes.specs.Given.TablesDeclared.finding.Finding.{Finding}
+use Rattle.papaya_finishes.specs.Given.TablesDeclared.finding.Finding.TheVariants as is
+use Rattle.papaya_finishes.specs.Given.TablesDeclared.marks.TheConstants.{TOMBSTONE}
+use Rattle.papaya_finishes.specs.Given.TablesDeclared.node.Node.{Node}
+use Rattle.papaya_finishes.specs.Given.TablesDeclared.node.Node.TheVariants.{Pair, Shards}
+use Rattle.papaya_finishes.specs.Given.TablesDeclared.setting.Setting.{Setting}
+use Rattle.papaya_finishes.specs.Given.TablesDeclared.trial.Trial.{Trial}
+use Rattle.papaya_finishes.specs.Given.RawCallPoints.{going, over, ending, storing, burying, at_gap, gap_by, pair_by, at_free, at_end, beyond, at_pair, having_met, passed, halted, told_of, told, aim_of}
+use Rattle.papaya_finishes.specs.Given.RawDeclared.machines.answer.Called.{Called}
+use Rattle.papaya_finishes.specs.Given.RawDeclared.machines.answer.Called.TheVariants as called
+use Rattle.papaya_finishes.specs.Given.RawDeclared.machines.answer.End.{End}
+use Rattle.papaya_finishes.specs.Given.RawDeclared.machines.answer.End.TheVariants as ends
+use Rattle.papaya_finishes.specs.Given.RawDeclared.machines.answer.KeyAnswer.TheVariants as answers
+use Rattle.papaya_finishes.specs.Given.RawDeclared.machines.answer.Missing.{Missing}
+use Rattle.papaya_finishes.specs.Given.RawDeclared.machines.answer.Missing.TheVariants as missing
+use Rattle.papaya_finishes.specs.Given.RawDeclared.machines.answer.There.{There}
+use Rattle.papaya_finishes.specs.Given.RawDeclared.machines.answer.There.TheVariants as there
+use Rattle.papaya_finishes.specs.Given.RawDeclared.machines.asking.Asking.{Asking}
+use Rattle.papaya_finishes.specs.Given.RawDeclared.machines.asking.Asking.TheVariants as asking
+use Rattle.papaya_finishes.specs.Given.RawDeclared.machines.asking.Gap.{Gap}
+use Rattle.papaya_finishes.specs.Given.RawDeclared.machines.asking.Gap.TheVariants as gaps
+use Rattle.papaya_finishes.specs.Given.RawDeclared.machines.asking.Told.{Told}
+use Rattle.papaya_finishes.specs.Given.RawDeclared.machines.asking.Told.TheVariants as tells
+use Rattle.papaya_finishes.specs.Given.RawDeclared.machines.call.Calling.{Calling}
+use Rattle.papaya_finishes.specs.Given.RawDeclared.machines.call.Calling.TheVariants as at
+use Rattle.papaya_finishes.specs.Given.RawDeclared.machines.call.KeyCall.{KeyCall}
+use Rattle.papaya_finishes.specs.Given.RuleChart.{Chart}
+use Rattle.papaya_finishes.specs.Given.RuleWords.{Blocks}
+use Rattle.papaya_finishes.specs.Given.PointsFactsCalls.{Change, Unchanged, Holding, Apart, InBlock, ByReply, holding, HasOwn, HasIts, IsOwnPair, IsVacant, CallingFacts, AskingFacts}
+use Rattle.papaya_finishes.specs.Given.PointsTold.{IsRowOfCall}
+use Rattle.papaya_finishes.specs.Given.LateLateCalls.{LateAsking, LateCalling}
+use Rattle.papaya_finishes.proofs.Given.PointsCalls.Probes.{own_block}
 use Rattle.papaya_looks.specs.Sees.{IsToStore}
 
 -- further steps are needed

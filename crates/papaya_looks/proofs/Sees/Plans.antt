@@ -1,8 +1,8 @@
 -- What a step has seen, it has seen through each machine that it is a step of.
 use Rattle.std.specs.Prelude.{Option, if◌then◌else◌}
 use Rattle.std.proofs.Common.{◌≡◌, ℕ, Bool, true, false, ◌⊎◌, inl, inr, refl}
-use Rattle.papaya_finishes.specs.Given.SeizeWords.Mem.{Mem, value_at}
-use Rattle.papaya_finishes.specs.Given.SeizeWords.Plan.{Plan, Then, Turn, Do, Now, Seeing, Sure, Ends, plan_as, then_as}
+use Rattle.papaya_finishes.specs.Given.SeizeWordsMem.{Mem, value_at}
+use Rattle.papaya_finishes.specs.Given.SeizeWordsPlan.{Plan, Then, Turn, Do, Now, Seeing, Sure, Ends, plan_as, then_as}
 use Rattle.papaya_looks.specs.Blocks.{Sees}
 use Rattle.papaya_looks.specs.Sees.{HasSeen}
 

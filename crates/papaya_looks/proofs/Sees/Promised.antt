@@ -1,40 +1,40 @@
 -- What a step of any call has seen at no row lasts, where pairs move in incremental mode.
 use Rattle.std.specs.Prelude.{◌==◌, ◌/◌, Option, Some}
 use Rattle.std.proofs.Common.{◌≡◌, ℕ, Bool, true, ◌⊎◌, inl, inr, sym, subst, ap, ◌∙◌}
-use Rattle.papaya_finishes.specs.Given.SeizeWords.Mem.{Mem}
-use Rattle.papaya_finishes.specs.Given.SeizeWords.Plan.{Plan, Turn, Do}
-use Rattle.papaya_finishes.specs.Given.Seize.Law.{holds}
-use Rattle.papaya_finishes.specs.Given.Seize.World.{World, IsInside}
-use Rattle.papaya_finishes.specs.Given.Tables.Chunks.{is_incremental}
-use Rattle.papaya_finishes.specs.Given.Tables.declared.node.Node.{Node}
-use Rattle.papaya_finishes.specs.Given.Tables.declared.setting.Setting.{Setting}
-use Rattle.papaya_finishes.specs.Given.Resize.Sum.{sum_plan}
-use Rattle.papaya_finishes.specs.Given.Resize.declared.lookup.Lookup.{Lookup}
-use Rattle.papaya_finishes.specs.Given.Reserves.Reserve.{reserve_plan}
-use Rattle.papaya_finishes.specs.Given.Sweeps.Sweep.{sweep_plan}
-use Rattle.papaya_finishes.specs.Given.Raw.Call.{call_plan}
-use Rattle.papaya_finishes.specs.Given.Raw.Machine as machines
-use Rattle.papaya_finishes.specs.Given.Raw.Machine.{machine_plan}
-use Rattle.papaya_finishes.specs.Given.Raw.Progress.{of_called}
-use Rattle.papaya_finishes.specs.Given.Raw.declared.machines.answer.Called.{Called}
-use Rattle.papaya_finishes.specs.Given.Raw.declared.machines.answer.Called.TheVariants as called
-use Rattle.papaya_finishes.specs.Given.Raw.declared.machines.call.Calling.TheVariants as at
-use Rattle.papaya_finishes.specs.Given.Raw.declared.machines.call.KeyCall.{KeyCall}
-use Rattle.papaya_finishes.specs.Given.Raw.declared.machines.machine.Machine.{Machine}
-use Rattle.papaya_finishes.specs.Given.Raw.declared.machines.machine.Machine.TheVariants as kinds
-use Rattle.papaya_finishes.specs.Given.Raw.declared.machines.progress.Progress.{Progress}
-use Rattle.papaya_finishes.specs.Given.Rule.Words.{Blocks}
-use Rattle.papaya_finishes.specs.Given.Rule.InWorld.{IsMapIn}
-use Rattle.papaya_finishes.specs.Given.Points.FactsCalls.{CallFacts}
-use Rattle.papaya_finishes.specs.Given.Points.Steps.{AreLawful}
-use Rattle.papaya_finishes.specs.Given.Points.Told.{IsRowOfCall}
-use Rattle.papaya_finishes.specs.Given.Late.ToldReserves.{IsRowOfReserve}
-use Rattle.papaya_finishes.specs.Given.Late.ToldSweeps.{IsRowOfSweep}
-use Rattle.papaya_finishes.specs.Given.Callers.Kept.{IsWithin}
-use Rattle.papaya_finishes.specs.Given.Callers.OverAll.{CallOverAll}
-use Rattle.papaya_finishes.specs.Given.Callers.Rooms.{CallForRoom}
-use Rattle.papaya_finishes.specs.Given.Callers.Sights.{seen_by}
-use Rattle.papaya_finishes.specs.Given.Callers.Together.{UnderWay, CallOnKey, OnKey, ForRoom, Counting, OverAll, Together, Stands, in_slot}
+use Rattle.papaya_finishes.specs.Given.SeizeWordsMem.{Mem}
+use Rattle.papaya_finishes.specs.Given.SeizeWordsPlan.{Plan, Turn, Do}
+use Rattle.papaya_finishes.specs.Given.SeizeLaw.{holds}
+use Rattle.papaya_finishes.specs.Given.SeizeWorld.{World, IsInside}
+use Rattle.papaya_finishes.specs.Given.TablesChunks.{is_incremental}
+use Rattle.papaya_finishes.specs.Given.TablesDeclared.node.Node.{Node}
+use Rattle.papaya_finishes.specs.Given.TablesDeclared.setting.Setting.{Setting}
+use Rattle.papaya_finishes.specs.Given.ResizeSum.{sum_plan}
+use Rattle.papaya_finishes.specs.Given.ResizeDeclared.lookup.Lookup.{Lookup}
+use Rattle.papaya_finishes.specs.Given.ReservesReserve.{reserve_plan}
+use Rattle.papaya_finishes.specs.Given.SweepsSweep.{sweep_plan}
+use Rattle.papaya_finishes.specs.Given.RawCall.{call_plan}
+use Rattle.papaya_finishes.specs.Given.RawMachine as machines
+use Rattle.papaya_finishes.specs.Given.RawMachine.{machine_plan}
+use Rattle.papaya_finishes.specs.Given.RawProgress.{of_called}
+use Rattle.papaya_finishes.specs.Given.RawDeclared.machines.answer.Called.{Called}
+use Rattle.papaya_finishes.specs.Given.RawDeclared.machines.answer.Called.TheVariants as called
+use Rattle.papaya_finishes.specs.Given.RawDeclared.machines.call.Calling.TheVariants as at
+use Rattle.papaya_finishes.specs.Given.RawDeclared.machines.call.KeyCall.{KeyCall}
+use Rattle.papaya_finishes.specs.Given.RawDeclared.machines.machine.Machine.{Machine}
+use Rattle.papaya_finishes.specs.Given.RawDeclared.machines.machine.Machine.TheVariants as kinds
+use Rattle.papaya_finishes.specs.Given.RawDeclared.machines.progress.Progress.{Progress}
+use Rattle.papaya_finishes.specs.Given.RuleWords.{Blocks}
+use Rattle.papaya_finishes.specs.Given.RuleInWorld.{IsMapIn}
+use Rattle.papaya_finishes.specs.Given.PointsFactsCalls.{CallFacts}
+use Rattle.papaya_finishes.specs.Given.PointsSteps.{AreLawful}
+use Rattle.papaya_finishes.specs.Given.PointsTold.{IsRowOfCall}
+use Rattle.papaya_finishes.specs.Given.LateToldReserves.{IsRowOfReserve}
+use Rattle.papaya_finishes.specs.Given.LateToldSweeps.{IsRowOfSweep}
+use Rattle.papaya_finishes.specs.Given.CallersKept.{IsWithin}
+use Rattle.papaya_finishes.specs.Given.CallersOverAll.{CallOverAll}
+use Rattle.papaya_finishes.specs.Given.CallersRooms.{CallForRoom}
+use Rattle.papaya_finishes.specs.Given.CallersSights.{seen_by}
+use Rattle.papaya_finishes.specs.Given.CallersTogether.{UnderWay, CallOnKey, OnKey, ForRoom, Counting, OverAll, Together, Stands, in_slot}
 use Rattle.papaya_finishes.specs.Endings.{Finishing, EndingsTogether}
 use Rattle.papaya_finishes.specs.Machines.{machine_of}
 use Rattle.papaya_finishes.specs.Makings.{Beginning}

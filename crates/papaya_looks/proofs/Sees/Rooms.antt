@@ -1,49 +1,49 @@
 -- A reservation, a walk, a clearing or a retaining that stands at no row has seen what its section holds, where pairs move in incremental mode.
 use Rattle.std.specs.Prelude.{◌/◌, ◌^◌, ◌<◌, Some, cond}
 use Rattle.std.proofs.Common.{◌≡◌, ℕ, suc, Bool, true, inl, inr, sym, subst, ap, ◌∙◌}
-use Rattle.papaya_finishes.specs.Given.SeizeWords.declared.at.At.TheVariants.{Root, Word}
-use Rattle.papaya_finishes.specs.Given.SeizeWords.Mem.{Mem, value_at, word_at}
-use Rattle.papaya_finishes.specs.Given.Seize.Law.{holds}
-use Rattle.papaya_finishes.specs.Given.Seize.World.{World}
-use Rattle.papaya_finishes.specs.Given.Tables.Chunks.{is_incremental}
-use Rattle.papaya_finishes.specs.Given.Tables.Nodes.{table_seen}
-use Rattle.papaya_finishes.specs.Given.Tables.TablePlaces.{at_word, at_place}
-use Rattle.papaya_finishes.specs.Given.Tables.declared.marks.TheConstants.{TOMBSTONE}
-use Rattle.papaya_finishes.specs.Given.Tables.declared.node.Node.{Node}
-use Rattle.papaya_finishes.specs.Given.Tables.declared.setting.Setting.{Setting}
-use Rattle.papaya_finishes.specs.Given.Tables.declared.table.Table.{Table}
-use Rattle.papaya_finishes.specs.Given.Tables.declared.table_words.TheConstants.{NEXT}
-use Rattle.papaya_finishes.specs.Given.Resize.Copier.{copier_plan}
-use Rattle.papaya_finishes.specs.Given.Resize.Dispose.{dispose_plan}
-use Rattle.papaya_finishes.specs.Given.Resize.CopierStates.{copying_all}
-use Rattle.papaya_finishes.specs.Given.Resize.NewTable.{new_table_plan}
-use Rattle.papaya_finishes.specs.Given.Resize.Sum.{sum_plan}
-use Rattle.papaya_finishes.specs.Given.Resize.declared.copier.Copier.{Copier}
-use Rattle.papaya_finishes.specs.Given.Resize.declared.outcome.Outcome.{Outcome}
-use Rattle.papaya_finishes.specs.Given.Resize.declared.outcome.Outcome.TheVariants.{Goes}
-use Rattle.papaya_finishes.specs.Given.Reserves.Reserve as reserve
-use Rattle.papaya_finishes.specs.Given.Reserves.Reserve.{reserve_plan}
-use Rattle.papaya_finishes.specs.Given.Reserves.declared.reserve.Reserve.{Reserve}
-use Rattle.papaya_finishes.specs.Given.Reserves.declared.reserve.Reserving.{Reserving}
-use Rattle.papaya_finishes.specs.Given.Reserves.declared.reserve.Reserving.TheVariants as reserving
-use Rattle.papaya_finishes.specs.Given.Sweeps.Sweep as sweep
-use Rattle.papaya_finishes.specs.Given.Sweeps.Sweep.{sweep_plan}
-use Rattle.papaya_finishes.specs.Given.Sweeps.SweepPoints as sweep_points
-use Rattle.papaya_finishes.specs.Given.Sweeps.declared.sweep.Sweep.{Sweep}
-use Rattle.papaya_finishes.specs.Given.Sweeps.declared.sweep.Sweeping.{Sweeping}
-use Rattle.papaya_finishes.specs.Given.Sweeps.declared.sweep.Sweeping.TheVariants as sweeping
-use Rattle.papaya_finishes.specs.Given.Sweeps.declared.sweep.Swept.{Swept}
-use Rattle.papaya_finishes.specs.Given.Rule.Chart.{Chart}
-use Rattle.papaya_finishes.specs.Given.Rule.Words.{Blocks}
-use Rattle.papaya_finishes.specs.Given.Rule.InWorld.{IsMapIn}
-use Rattle.papaya_finishes.specs.Given.Points.FactsCopies.{CopierFacts}
-use Rattle.papaya_finishes.specs.Given.Points.FactsCopiesBlocking.{CopierFactsBlocking}
-use Rattle.papaya_finishes.specs.Given.Points.Told.{IsRowOfCopier}
-use Rattle.papaya_finishes.specs.Given.Late.FactsReserves.{IsEnding, CopiesWhole, ReservingFacts, ReserveFacts}
-use Rattle.papaya_finishes.specs.Given.Late.FactsSweeps.{CopiesTable, SweepingFacts, SweepFacts}
-use Rattle.papaya_finishes.specs.Given.Late.ToldReserves.{IsRowOfReserve}
-use Rattle.papaya_finishes.specs.Given.Late.ToldSweeps.{IsRowOfSweep}
-use Rattle.papaya_finishes.specs.Given.Callers.Kept.{IsWithin}
+use Rattle.papaya_finishes.specs.Given.SeizeWordsDeclared.at.At.TheVariants.{Root, Word}
+use Rattle.papaya_finishes.specs.Given.SeizeWordsMem.{Mem, value_at, word_at}
+use Rattle.papaya_finishes.specs.Given.SeizeLaw.{holds}
+use Rattle.papaya_finishes.specs.Given.SeizeWorld.{World}
+use Rattle.papaya_finishes.specs.Given.TablesChunks.{is_incremental}
+use Rattle.papaya_finishes.specs.Given.TablesNodes.{table_seen}
+use Rattle.papaya_finishes.specs.Given.TablesTablePlaces.{at_word, at_place}
+use Rattle.papaya_finishes.specs.Given.TablesDeclared.marks.TheConstants.{TOMBSTONE}
+use Rattle.papaya_finishes.specs.Given.TablesDeclared.node.Node.{Node}
+use Rattle.papaya_finishes.specs.Given.TablesDeclared.setting.Setting.{Setting}
+use Rattle.papaya_finishes.specs.Given.TablesDeclared.table.Table.{Table}
+use Rattle.papaya_finishes.specs.Given.TablesDeclared.table_words.TheConstants.{NEXT}
+use Rattle.papaya_finishes.specs.Given.ResizeCopier.{copier_plan}
+use Rattle.papaya_finishes.specs.Given.ResizeDispose.{dispose_plan}
+use Rattle.papaya_finishes.specs.Given.ResizeCopierStates.{copying_all}
+use Rattle.papaya_finishes.specs.Given.ResizeNewTable.{new_table_plan}
+use Rattle.papaya_finishes.specs.Given.ResizeSum.{sum_plan}
+use Rattle.papaya_finishes.specs.Given.ResizeDeclared.copier.Copier.{Copier}
+use Rattle.papaya_finishes.specs.Given.ResizeDeclared.outcome.Outcome.{Outcome}
+use Rattle.papaya_finishes.specs.Given.ResizeDeclared.outcome.Outcome.TheVariants.{Goes}
+use Rattle.papaya_finishes.specs.Given.ReservesReserve as reserve
+use Rattle.papaya_finishes.specs.Given.ReservesReserve.{reserve_plan}
+use Rattle.papaya_finishes.specs.Given.ReservesDeclared.reserve.Reserve.{Reserve}
+use Rattle.papaya_finishes.specs.Given.ReservesDeclared.reserve.Reserving.{Reserving}
+use Rattle.papaya_finishes.specs.Given.ReservesDeclared.reserve.Reserving.TheVariants as reserving
+use Rattle.papaya_finishes.specs.Given.SweepsSweep as sweep
+use Rattle.papaya_finishes.specs.Given.SweepsSweep.{sweep_plan}
+use Rattle.papaya_finishes.specs.Given.SweepsSweepPoints as sweep_points
+use Rattle.papaya_finishes.specs.Given.SweepsDeclared.sweep.Sweep.{Sweep}
+use Rattle.papaya_finishes.specs.Given.SweepsDeclared.sweep.Sweeping.{Sweeping}
+use Rattle.papaya_finishes.specs.Given.SweepsDeclared.sweep.Sweeping.TheVariants as sweeping
+use Rattle.papaya_finishes.specs.Given.SweepsDeclared.sweep.Swept.{Swept}
+use Rattle.papaya_finishes.specs.Given.RuleChart.{Chart}
+use Rattle.papaya_finishes.specs.Given.RuleWords.{Blocks}
+use Rattle.papaya_finishes.specs.Given.RuleInWorld.{IsMapIn}
+use Rattle.papaya_finishes.specs.Given.PointsFactsCopies.{CopierFacts}
+use Rattle.papaya_finishes.specs.Given.PointsFactsCopiesBlocking.{CopierFactsBlocking}
+use Rattle.papaya_finishes.specs.Given.PointsTold.{IsRowOfCopier}
+use Rattle.papaya_finishes.specs.Given.LateFactsReserves.{IsEnding, CopiesWhole, ReservingFacts, ReserveFacts}
+use Rattle.papaya_finishes.specs.Given.LateFactsSweeps.{CopiesTable, SweepingFacts, SweepFacts}
+use Rattle.papaya_finishes.specs.Given.LateToldReserves.{IsRowOfReserve}
+use Rattle.papaya_finishes.specs.Given.LateToldSweeps.{IsRowOfSweep}
+use Rattle.papaya_finishes.specs.Given.CallersKept.{IsWithin}
 use Rattle.papaya_looks.specs.Sees.{HasSeen}
 use Rattle.papaya_looks.proofs.Sees.Copiers.{root_link, next_link, copier_sees}
 use Rattle.papaya_looks.proofs.Sees.Disposals.{dispose_sees}

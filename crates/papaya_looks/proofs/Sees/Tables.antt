@@ -1,30 +1,30 @@
 -- The making of a table has seen only another call's table, which its section holds; a counting sees nothing.
 use Rattle.std.specs.Prelude.{ℕ, ◌/◌, nat_lt}
 use Rattle.std.proofs.Common.{◌≡◌, true, inl, inr, sym, subst}
-use Rattle.papaya_finishes.specs.Given.SeizeWords.declared.at.At.{At}
-use Rattle.papaya_finishes.specs.Given.SeizeWords.declared.at.At.TheVariants.{Word}
-use Rattle.papaya_finishes.specs.Given.SeizeWords.Mem.{Mem, value_at}
-use Rattle.papaya_finishes.specs.Given.Seize.Law.{holds}
-use Rattle.papaya_finishes.specs.Given.Seize.World.{World}
-use Rattle.papaya_finishes.specs.Given.Seize.declared.progress.Progress.{Progress}
-use Rattle.papaya_finishes.specs.Given.Tables.Nodes.{table_seen}
-use Rattle.papaya_finishes.specs.Given.Tables.declared.node.Node.{Node}
-use Rattle.papaya_finishes.specs.Given.Tables.declared.setting.Setting.{Setting}
-use Rattle.papaya_finishes.specs.Given.Tables.declared.table.Table.{Table}
-use Rattle.papaya_finishes.specs.Given.Resize.NewTable as new_table
-use Rattle.papaya_finishes.specs.Given.Resize.NewTable.{new_table_plan}
-use Rattle.papaya_finishes.specs.Given.Resize.Sum as sum
-use Rattle.papaya_finishes.specs.Given.Resize.Sum.{sum_plan}
-use Rattle.papaya_finishes.specs.Given.Resize.declared.new_table.Making.{Making}
-use Rattle.papaya_finishes.specs.Given.Resize.declared.new_table.Making.TheVariants as at
-use Rattle.papaya_finishes.specs.Given.Resize.declared.new_table.NewTable.{NewTable}
-use Rattle.papaya_finishes.specs.Given.Resize.declared.sum.Sum.{Sum}
-use Rattle.papaya_finishes.specs.Given.Resize.declared.sum.Summing.{Summing}
-use Rattle.papaya_finishes.specs.Given.Resize.declared.sum.Summing.TheVariants as summing
-use Rattle.papaya_finishes.specs.Given.Rule.Chart.{Chart}
-use Rattle.papaya_finishes.specs.Given.Rule.Words.{Blocks}
-use Rattle.papaya_finishes.specs.Given.Points.FactsTables.{MakingFacts, NewTableFacts}
-use Rattle.papaya_finishes.specs.Given.Callers.Kept.{IsWithin}
+use Rattle.papaya_finishes.specs.Given.SeizeWordsDeclared.at.At.{At}
+use Rattle.papaya_finishes.specs.Given.SeizeWordsDeclared.at.At.TheVariants.{Word}
+use Rattle.papaya_finishes.specs.Given.SeizeWordsMem.{Mem, value_at}
+use Rattle.papaya_finishes.specs.Given.SeizeLaw.{holds}
+use Rattle.papaya_finishes.specs.Given.SeizeWorld.{World}
+use Rattle.papaya_finishes.specs.Given.SeizeDeclared.progress.Progress.{Progress}
+use Rattle.papaya_finishes.specs.Given.TablesNodes.{table_seen}
+use Rattle.papaya_finishes.specs.Given.TablesDeclared.node.Node.{Node}
+use Rattle.papaya_finishes.specs.Given.TablesDeclared.setting.Setting.{Setting}
+use Rattle.papaya_finishes.specs.Given.TablesDeclared.table.Table.{Table}
+use Rattle.papaya_finishes.specs.Given.ResizeNewTable as new_table
+use Rattle.papaya_finishes.specs.Given.ResizeNewTable.{new_table_plan}
+use Rattle.papaya_finishes.specs.Given.ResizeSum as sum
+use Rattle.papaya_finishes.specs.Given.ResizeSum.{sum_plan}
+use Rattle.papaya_finishes.specs.Given.ResizeDeclared.new_table.Making.{Making}
+use Rattle.papaya_finishes.specs.Given.ResizeDeclared.new_table.Making.TheVariants as at
+use Rattle.papaya_finishes.specs.Given.ResizeDeclared.new_table.NewTable.{NewTable}
+use Rattle.papaya_finishes.specs.Given.ResizeDeclared.sum.Sum.{Sum}
+use Rattle.papaya_finishes.specs.Given.ResizeDeclared.sum.Summing.{Summing}
+use Rattle.papaya_finishes.specs.Given.ResizeDeclared.sum.Summing.TheVariants as summing
+use Rattle.papaya_finishes.specs.Given.RuleChart.{Chart}
+use Rattle.papaya_finishes.specs.Given.RuleWords.{Blocks}
+use Rattle.papaya_finishes.specs.Given.PointsFactsTables.{MakingFacts, NewTableFacts}
+use Rattle.papaya_finishes.specs.Given.CallersKept.{IsWithin}
 use Rattle.papaya_looks.specs.Sees.{HasSeen}
 use Rattle.papaya_looks.proofs.Sees.Held.{table_held}
 use Rattle.papaya_looks.proofs.Sees.Operations.{none_if, loads, exchanges, makes}

@@ -2,37 +2,37 @@
 use Rattle.std.specs.Prelude.{◌≡◌, ℕ, ◌+◌, ◌-◌, ◌/◌, ◌%◌, ◌^◌, ◌<◌, ◌==◌, Bool, true, false, max, nat_le, nat_lt, if◌then◌else◌, [], ◌∷◌, Result, Ok, Err}
 use Rattle.std.proofs.Common.{refl, sym, subst, inl, inr, arith}
 use Rattle.std.proofs.lemmas.Bool.{ltb-true}
-use Rattle.papaya_finishes.specs.Given.SeizeWords.Mem.{Mem, Took, value_at}
-use Rattle.papaya_finishes.specs.Given.SeizeWords.Plan.{Now, Steps}
-use Rattle.papaya_finishes.specs.Given.SeizeWords.declared.at.At.{At}
-use Rattle.papaya_finishes.specs.Given.SeizeWords.declared.at.At.TheVariants.{Root, Used, Slot, Entry, Word}
-use Rattle.papaya_finishes.specs.Given.SeizeWords.declared.fault.Fault.{Fault}
-use Rattle.papaya_finishes.specs.Given.SeizeWords.declared.fault.Fault.TheVariants.{Capacity, RootsUsedUp}
-use Rattle.papaya_finishes.proofs.Given.SeizeWords.OneOwner.Operations.{stored, exchanged, made as make_made, taken}
-use Rattle.papaya_finishes.proofs.Given.SeizeRule.Rows.Leaving.{steps_back}
-use Rattle.papaya_finishes.specs.Given.Seize.declared.progress.Progress.{Progress}
-use Rattle.papaya_finishes.specs.Given.Seize.declared.progress.Progress.TheVariants as progress
-use Rattle.papaya_finishes.specs.Given.Tables.Lengths.{next_len, next_limit, next_turn}
-use Rattle.papaya_finishes.specs.Given.Resize.NewTable.{planned, goes, counted, following, making_of, making_first, after_making, with_block, first_table, made, linked, other, plan_at, new_table_plan}
-use Rattle.papaya_finishes.specs.Given.Resize.NewMap as map
-use Rattle.papaya_finishes.specs.Given.Tables.Probes.{limit_of}
-use Rattle.papaya_finishes.specs.Given.Resize.Sum.{sum_plan}
-use Rattle.papaya_finishes.specs.Given.Tables.declared.lengths.Reason.{Reason}
-use Rattle.papaya_finishes.specs.Given.Tables.declared.node.Node.{Node}
-use Rattle.papaya_finishes.specs.Given.Tables.declared.node.Node.TheVariants as node
-use Rattle.papaya_finishes.specs.Given.Tables.declared.setting.Setting.{Setting}
-use Rattle.papaya_finishes.specs.Given.Tables.declared.status.TheConstants.Status.{PROMOTED}
-use Rattle.papaya_finishes.specs.Given.Tables.declared.table.Table.{Table}
-use Rattle.papaya_finishes.specs.Given.Tables.declared.table_words.TheConstants.{STATUS, PLACES}
-use Rattle.papaya_finishes.specs.Given.Resize.declared.sum.Sum.{Sum}
-use Rattle.papaya_finishes.specs.Given.Resize.declared.new_table.NewTable.{NewTable}
-use Rattle.papaya_finishes.specs.Given.Resize.declared.new_table.Making.{Making}
-use Rattle.papaya_finishes.specs.Given.Resize.declared.new_table.Making.TheVariants as at
-use Rattle.papaya_finishes.specs.Given.Resize.declared.new_map.NewMap.{NewMap}
-use Rattle.papaya_finishes.specs.Given.Resize.declared.new_map.Opening.{Opening}
-use Rattle.papaya_finishes.specs.Given.Resize.declared.new_map.Opening.TheVariants as opens
-use Rattle.papaya_finishes.specs.Given.Points.MeasuresTables.{shards_left}
-use Rattle.papaya_finishes.proofs.Given.Points.Making.EndsSum.{sum_lowers}
+use Rattle.papaya_finishes.specs.Given.SeizeWordsMem.{Mem, Took, value_at}
+use Rattle.papaya_finishes.specs.Given.SeizeWordsPlan.{Now, Steps}
+use Rattle.papaya_finishes.specs.Given.SeizeWordsDeclared.at.At.{At}
+use Rattle.papaya_finishes.specs.Given.SeizeWordsDeclared.at.At.TheVariants.{Root, Used, Slot, Entry, Word}
+use Rattle.papaya_finishes.specs.Given.SeizeWordsDeclared.fault.Fault.{Fault}
+use Rattle.papaya_finishes.specs.Given.SeizeWordsDeclared.fault.Fault.TheVariants.{Capacity, RootsUsedUp}
+use Rattle.papaya_finishes.proofs.Given.SeizeWordsOneOwner.Operations.{stored, exchanged, made as make_made, taken}
+use Rattle.papaya_finishes.proofs.Given.SeizeRuleRows.Leaving.{steps_back}
+use Rattle.papaya_finishes.specs.Given.SeizeDeclared.progress.Progress.{Progress}
+use Rattle.papaya_finishes.specs.Given.SeizeDeclared.progress.Progress.TheVariants as progress
+use Rattle.papaya_finishes.specs.Given.TablesLengths.{next_len, next_limit, next_turn}
+use Rattle.papaya_finishes.specs.Given.ResizeNewTable.{planned, goes, counted, following, making_of, making_first, after_making, with_block, first_table, made, linked, other, plan_at, new_table_plan}
+use Rattle.papaya_finishes.specs.Given.ResizeNewMap as map
+use Rattle.papaya_finishes.specs.Given.TablesProbes.{limit_of}
+use Rattle.papaya_finishes.specs.Given.ResizeSum.{sum_plan}
+use Rattle.papaya_finishes.specs.Given.TablesDeclared.lengths.Reason.{Reason}
+use Rattle.papaya_finishes.specs.Given.TablesDeclared.node.Node.{Node}
+use Rattle.papaya_finishes.specs.Given.TablesDeclared.node.Node.TheVariants as node
+use Rattle.papaya_finishes.specs.Given.TablesDeclared.setting.Setting.{Setting}
+use Rattle.papaya_finishes.specs.Given.TablesDeclared.status.TheConstants.Status.{PROMOTED}
+use Rattle.papaya_finishes.specs.Given.TablesDeclared.table.Table.{Table}
+use Rattle.papaya_finishes.specs.Given.TablesDeclared.table_words.TheConstants.{STATUS, PLACES}
+use Rattle.papaya_finishes.specs.Given.ResizeDeclared.sum.Sum.{Sum}
+use Rattle.papaya_finishes.specs.Given.ResizeDeclared.new_table.NewTable.{NewTable}
+use Rattle.papaya_finishes.specs.Given.ResizeDeclared.new_table.Making.{Making}
+use Rattle.papaya_finishes.specs.Given.ResizeDeclared.new_table.Making.TheVariants as at
+use Rattle.papaya_finishes.specs.Given.ResizeDeclared.new_map.NewMap.{NewMap}
+use Rattle.papaya_finishes.specs.Given.ResizeDeclared.new_map.Opening.{Opening}
+use Rattle.papaya_finishes.specs.Given.ResizeDeclared.new_map.Opening.TheVariants as opens
+use Rattle.papaya_finishes.specs.Given.PointsMeasuresTables.{shards_left}
+use Rattle.papaya_finishes.proofs.Given.PointsMaking.EndsSum.{sum_lowers}
 use Rattle.papaya_maps.specs.EndingsBegins.{NewMapGoes, BeginningsEnd, BeginningsLeaveLess}
 use Rattle.papaya_maps.specs.MeasuresBegins.{making_left, new_map_left, opening_left}
 use Rattle.papaya_maps.proofs.Begins.MachinesEnd.{lowered_ends}

@@ -2,30 +2,30 @@
 use Rattle.std.specs.Prelude.{◌==◌, ◌/◌, ◌%◌, nat_le, max, if◌then◌else◌}
 use Rattle.std.proofs.Common.{◌≡◌, ℕ, ◌+◌, ◌≤◌, ◌^◌, Bool, true, false, inl, inr, refl, sym, ap, subst, ◌∙◌}
 use Rattle.std.proofs.lemmas.Bool.{le-leb}
-use Rattle.papaya_finishes.specs.Given.SeizeWords.declared.at.At.{At}
-use Rattle.papaya_finishes.specs.Given.SeizeWords.declared.at.At.TheVariants.{Root, Used, Word}
-use Rattle.papaya_finishes.specs.Given.SeizeWords.declared.fault.Fault.TheVariants.{Capacity, Memory}
-use Rattle.papaya_finishes.specs.Given.SeizeWords.Mem.{Mem, Took, value_at, with_word}
-use Rattle.papaya_finishes.specs.Given.SeizeWords.Plan.{Now, Steps}
-use Rattle.papaya_finishes.proofs.Given.SeizeWords.OneOwner.Operations.{stored, exchanged, made as make_made, taken}
-use Rattle.papaya_finishes.proofs.Given.SeizeRule.Rows.Leaving.{steps_back}
-use Rattle.papaya_finishes.specs.Given.Seize.declared.progress.Progress.{Progress}
-use Rattle.papaya_finishes.specs.Given.Seize.declared.progress.Progress.TheVariants as progress
-use Rattle.papaya_finishes.specs.Given.Resize.NewMap as opening
-use Rattle.papaya_finishes.specs.Given.Resize.NewTable.{planned, goes, first_table, with_block, after_making, made, linked, other, plan_at, new_table_plan}
-use Rattle.papaya_finishes.specs.Given.Tables.Probes.{limit_of}
-use Rattle.papaya_finishes.specs.Given.Tables.declared.node.Node.{Node}
-use Rattle.papaya_finishes.specs.Given.Tables.declared.node.Node.TheVariants as node
-use Rattle.papaya_finishes.specs.Given.Tables.declared.setting.Setting.{Setting}
-use Rattle.papaya_finishes.specs.Given.Tables.declared.status.TheConstants.Status.{PROMOTED}
-use Rattle.papaya_finishes.specs.Given.Tables.declared.table.Table.{Table}
-use Rattle.papaya_finishes.specs.Given.Tables.declared.table_words.TheConstants.{STATUS, PLACES}
-use Rattle.papaya_finishes.specs.Given.Resize.declared.new_table.NewTable.{NewTable}
-use Rattle.papaya_finishes.specs.Given.Resize.declared.new_table.Making.{Making}
-use Rattle.papaya_finishes.specs.Given.Resize.declared.new_table.Making.TheVariants as makes
-use Rattle.papaya_finishes.specs.Given.Resize.declared.new_map.NewMap.{NewMap}
-use Rattle.papaya_finishes.specs.Given.Resize.declared.new_map.Opening.{Opening}
-use Rattle.papaya_finishes.specs.Given.Resize.declared.new_map.Opening.TheVariants as at
+use Rattle.papaya_finishes.specs.Given.SeizeWordsDeclared.at.At.{At}
+use Rattle.papaya_finishes.specs.Given.SeizeWordsDeclared.at.At.TheVariants.{Root, Used, Word}
+use Rattle.papaya_finishes.specs.Given.SeizeWordsDeclared.fault.Fault.TheVariants.{Capacity, Memory}
+use Rattle.papaya_finishes.specs.Given.SeizeWordsMem.{Mem, Took, value_at, with_word}
+use Rattle.papaya_finishes.specs.Given.SeizeWordsPlan.{Now, Steps}
+use Rattle.papaya_finishes.proofs.Given.SeizeWordsOneOwner.Operations.{stored, exchanged, made as make_made, taken}
+use Rattle.papaya_finishes.proofs.Given.SeizeRuleRows.Leaving.{steps_back}
+use Rattle.papaya_finishes.specs.Given.SeizeDeclared.progress.Progress.{Progress}
+use Rattle.papaya_finishes.specs.Given.SeizeDeclared.progress.Progress.TheVariants as progress
+use Rattle.papaya_finishes.specs.Given.ResizeNewMap as opening
+use Rattle.papaya_finishes.specs.Given.ResizeNewTable.{planned, goes, first_table, with_block, after_making, made, linked, other, plan_at, new_table_plan}
+use Rattle.papaya_finishes.specs.Given.TablesProbes.{limit_of}
+use Rattle.papaya_finishes.specs.Given.TablesDeclared.node.Node.{Node}
+use Rattle.papaya_finishes.specs.Given.TablesDeclared.node.Node.TheVariants as node
+use Rattle.papaya_finishes.specs.Given.TablesDeclared.setting.Setting.{Setting}
+use Rattle.papaya_finishes.specs.Given.TablesDeclared.status.TheConstants.Status.{PROMOTED}
+use Rattle.papaya_finishes.specs.Given.TablesDeclared.table.Table.{Table}
+use Rattle.papaya_finishes.specs.Given.TablesDeclared.table_words.TheConstants.{STATUS, PLACES}
+use Rattle.papaya_finishes.specs.Given.ResizeDeclared.new_table.NewTable.{NewTable}
+use Rattle.papaya_finishes.specs.Given.ResizeDeclared.new_table.Making.{Making}
+use Rattle.papaya_finishes.specs.Given.ResizeDeclared.new_table.Making.TheVariants as makes
+use Rattle.papaya_finishes.specs.Given.ResizeDeclared.new_map.NewMap.{NewMap}
+use Rattle.papaya_finishes.specs.Given.ResizeDeclared.new_map.Opening.{Opening}
+use Rattle.papaya_finishes.specs.Given.ResizeDeclared.new_map.Opening.TheVariants as at
 use Rattle.papaya_maps.specs.FaultsBegins.{IsFirst, IsForRoot, NeedsMemoryAlone, NeedsOn, FreeRootsSuffice, MemoryAloneIsRefused}
 
 module _ {K V : Type 0} (m : Mem (Node K V)) where

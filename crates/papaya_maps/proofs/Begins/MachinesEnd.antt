@@ -1,8 +1,8 @@
 -- Machines come to an end: a counting and a making of a table whatever others do, a lookup where no other caller takes a step.
 use Rattle.std.proofs.Common.{◌≡◌, ℕ, List, length, refl, ap, subst, ◌∙◌}
-use Rattle.papaya_finishes.specs.Given.Points.Measures.{IsBelow, EndsFrom, ends}
-use Rattle.papaya_finishes.specs.Given.Alone.Endings.{RunsEnd, runs_end, StepsLower}
-use Rattle.papaya_finishes.proofs.Given.Points.Descents.{descents_end}
+use Rattle.papaya_finishes.specs.Given.PointsMeasures.{IsBelow, EndsFrom, ends}
+use Rattle.papaya_finishes.specs.Given.AloneEndings.{RunsEnd, runs_end, StepsLower}
+use Rattle.papaya_finishes.proofs.Given.PointsDescents.{descents_end}
 
 module _ (X : Type 0) (step : X → X → Type 0) (number : X → List ℕ) (lower : StepsLower X step number) where
   from : (x : X) (xs : List ℕ) → number x ≡ xs → EndsFrom xs → RunsEnd X step x

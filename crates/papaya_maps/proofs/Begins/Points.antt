@@ -2,19 +2,19 @@
 use Rattle.std.specs.Prelude.{◌≡◌, ℕ, ◌+◌, ◌^◌, ◌<◌, ◌≤◌, Bool, max}
 use Rattle.std.specs.Int.{IsPowerOfTwo}
 use Rattle.std.proofs.Common.{refl, sym, subst}
-use Rattle.papaya_finishes.specs.Given.SeizeWords.Mem.{Mem, value_at, Can, Took}
-use Rattle.papaya_finishes.specs.Given.SeizeWords.Plan.{May, Steps}
-use Rattle.papaya_finishes.specs.Given.Seize.World.{World}
-use Rattle.papaya_finishes.specs.Given.Seize.declared.progress.Progress.{Progress}
-use Rattle.papaya_finishes.specs.Given.Tables.Lengths.{IsTableLen}
-use Rattle.papaya_finishes.specs.Given.Resize.NewMap.{opening, plan_at, new_map_plan}
-use Rattle.papaya_finishes.specs.Given.Tables.declared.node.Node.{Node}
-use Rattle.papaya_finishes.specs.Given.Tables.declared.setting.Setting.{Setting}
-use Rattle.papaya_finishes.specs.Given.Resize.declared.new_map.NewMap.{NewMap}
-use Rattle.papaya_finishes.specs.Given.Resize.declared.new_map.Opening.{Opening}
-use Rattle.papaya_finishes.specs.Given.Resize.declared.new_map.Opening.TheVariants as at
-use Rattle.papaya_finishes.specs.Given.Rule.Rule.{IsLawful}
-use Rattle.papaya_finishes.specs.Given.Rule.Maps.{spot_of}
+use Rattle.papaya_finishes.specs.Given.SeizeWordsMem.{Mem, value_at, Can, Took}
+use Rattle.papaya_finishes.specs.Given.SeizeWordsPlan.{May, Steps}
+use Rattle.papaya_finishes.specs.Given.SeizeWorld.{World}
+use Rattle.papaya_finishes.specs.Given.SeizeDeclared.progress.Progress.{Progress}
+use Rattle.papaya_finishes.specs.Given.TablesLengths.{IsTableLen}
+use Rattle.papaya_finishes.specs.Given.ResizeNewMap.{opening, plan_at, new_map_plan}
+use Rattle.papaya_finishes.specs.Given.TablesDeclared.node.Node.{Node}
+use Rattle.papaya_finishes.specs.Given.TablesDeclared.setting.Setting.{Setting}
+use Rattle.papaya_finishes.specs.Given.ResizeDeclared.new_map.NewMap.{NewMap}
+use Rattle.papaya_finishes.specs.Given.ResizeDeclared.new_map.Opening.{Opening}
+use Rattle.papaya_finishes.specs.Given.ResizeDeclared.new_map.Opening.TheVariants as at
+use Rattle.papaya_finishes.specs.Given.RuleRule.{IsLawful}
+use Rattle.papaya_finishes.specs.Given.RuleMaps.{spot_of}
 use Rattle.papaya_finishes.specs.Makings.{HasRoots}
 use Rattle.papaya_maps.specs.FactsBegins.{OpeningFacts, BeginFacts, BeginTold, BeginWent}
 use Rattle.papaya_maps.proofs.Begins.Roots.{begin_still, may_takes, went_takes, may_frees, went_frees}

@@ -2,26 +2,26 @@
 use Rattle.std.specs.Prelude.{◌≡◌, ℕ, ◌+◌, ◌-◌, ◌<◌, Bool, true, false, cond, nat_lt, [], ◌∷◌, Some, Ok, IsSome, if◌then◌else◌}
 use Rattle.std.proofs.Common.{refl, ap, sym, subst, ◌∙◌, inl, inr, arith}
 use Rattle.std.proofs.lemmas.Bool.{eq-eqb, ne_eqb}
-use Rattle.papaya_finishes.specs.Given.SeizeWords.declared.at.At.TheVariants.{Root, Used}
-use Rattle.papaya_finishes.specs.Given.SeizeWords.declared.fault.Fault.{Fault}
-use Rattle.papaya_finishes.specs.Given.SeizeWords.declared.fault.Fault.TheVariants.{RootsUsedUp}
-use Rattle.papaya_finishes.specs.Given.SeizeWords.Op.{Op, Out, Store, Exchange, Stored, Exchanged}
-use Rattle.papaya_finishes.specs.Given.SeizeWords.Mem.{Mem, value_at, word_at, with_word, Can, Took}
-use Rattle.papaya_finishes.specs.Given.SeizeWords.Plan.{Now, May, Steps}
-use Rattle.papaya_finishes.proofs.Given.SeizeWords.OneOwner.AfterWrites.{word_at-with_word}
-use Rattle.papaya_finishes.proofs.Given.SeizeWords.OneOwner.Operations.{may_exchange, exchanged, may_store, stored}
-use Rattle.papaya_finishes.specs.Given.Seize.World.{World, Operates, IsOwnOp}
-use Rattle.papaya_finishes.specs.Given.Tables.Nodes.{deferred_word}
-use Rattle.papaya_finishes.specs.Given.Seize.declared.progress.Progress.{Progress}
-use Rattle.papaya_finishes.specs.Given.Seize.declared.progress.Progress.TheVariants as progress
-use Rattle.papaya_finishes.specs.Given.Resize.NewMap.{at_root, standing, next_root, taken, takes, refused, frees}
-use Rattle.papaya_finishes.specs.Given.Tables.declared.node.Node.{Node}
-use Rattle.papaya_finishes.specs.Given.Tables.declared.setting.Setting.{Setting}
-use Rattle.papaya_finishes.specs.Given.Resize.declared.new_map.NewMap.{NewMap}
-use Rattle.papaya_finishes.specs.Given.Resize.declared.new_map.Opening.{Opening}
-use Rattle.papaya_finishes.specs.Given.Resize.declared.new_map.Opening.TheVariants as at
-use Rattle.papaya_finishes.proofs.Given.Rule.World.WentStill.{spares_same, spares_written}
-use Rattle.papaya_finishes.proofs.Given.Rule.Words.WritesWords.{is_some_of}
+use Rattle.papaya_finishes.specs.Given.SeizeWordsDeclared.at.At.TheVariants.{Root, Used}
+use Rattle.papaya_finishes.specs.Given.SeizeWordsDeclared.fault.Fault.{Fault}
+use Rattle.papaya_finishes.specs.Given.SeizeWordsDeclared.fault.Fault.TheVariants.{RootsUsedUp}
+use Rattle.papaya_finishes.specs.Given.SeizeWordsOp.{Op, Out, Store, Exchange, Stored, Exchanged}
+use Rattle.papaya_finishes.specs.Given.SeizeWordsMem.{Mem, value_at, word_at, with_word, Can, Took}
+use Rattle.papaya_finishes.specs.Given.SeizeWordsPlan.{Now, May, Steps}
+use Rattle.papaya_finishes.proofs.Given.SeizeWordsOneOwner.AfterWrites.{word_at-with_word}
+use Rattle.papaya_finishes.proofs.Given.SeizeWordsOneOwner.Operations.{may_exchange, exchanged, may_store, stored}
+use Rattle.papaya_finishes.specs.Given.SeizeWorld.{World, Operates, IsOwnOp}
+use Rattle.papaya_finishes.specs.Given.TablesNodes.{deferred_word}
+use Rattle.papaya_finishes.specs.Given.SeizeDeclared.progress.Progress.{Progress}
+use Rattle.papaya_finishes.specs.Given.SeizeDeclared.progress.Progress.TheVariants as progress
+use Rattle.papaya_finishes.specs.Given.ResizeNewMap.{at_root, standing, next_root, taken, takes, refused, frees}
+use Rattle.papaya_finishes.specs.Given.TablesDeclared.node.Node.{Node}
+use Rattle.papaya_finishes.specs.Given.TablesDeclared.setting.Setting.{Setting}
+use Rattle.papaya_finishes.specs.Given.ResizeDeclared.new_map.NewMap.{NewMap}
+use Rattle.papaya_finishes.specs.Given.ResizeDeclared.new_map.Opening.{Opening}
+use Rattle.papaya_finishes.specs.Given.ResizeDeclared.new_map.Opening.TheVariants as at
+use Rattle.papaya_finishes.proofs.Given.RuleWorld.WentStill.{spares_same, spares_written}
+use Rattle.papaya_finishes.proofs.Given.RuleWords.WritesWords.{is_some_of}
 use Rattle.papaya_maps.specs.FactsBegins.{OpeningFacts, BeginFacts, LeavesRoots, BeginTold, BeginWent}
 
 module _ {K V : Type 0} (same : K → K → Bool) (hash : K → ℕ) (caller : ℕ) (setting : Setting) (w : World (Node K V)) where

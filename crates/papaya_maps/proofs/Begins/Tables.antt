@@ -3,54 +3,54 @@ use Rattle.std.specs.Prelude.{◌≡◌, ◌≢◌, ℕ, ◌+◌, ◌%◌, ◌^�
 use Rattle.std.specs.Int.{IsPowerOfTwo}
 use Rattle.std.proofs.Common.{refl, ap, sym, subst, ◌∙◌, inl, inr, arith}
 use Rattle.std.proofs.lemmas.Bool.{eq-eqb, eqb-true}
-use Rattle.papaya_finishes.specs.Given.SeizeWords.declared.at.At.TheVariants.{Root, Used}
-use Rattle.papaya_finishes.specs.Given.SeizeWords.declared.fault.Fault.{Fault}
-use Rattle.papaya_finishes.specs.Given.SeizeWords.declared.fault.Fault.TheVariants.{Memory}
-use Rattle.papaya_finishes.specs.Given.SeizeWords.Op.{Make, Made, Taken}
-use Rattle.papaya_finishes.specs.Given.SeizeWords.Mem.{Mem, block_of, value_in, word_in, value_at, word_at, with_block, IsFreeNumber, fresh, Can, Took, after as mem_after}
-use Rattle.papaya_finishes.specs.Given.SeizeWords.Plan.{Now, May, Steps, plan_as}
-use Rattle.papaya_finishes.proofs.Given.SeizeWords.OneOwner.AfterWrites.{block_of-made}
-use Rattle.papaya_finishes.proofs.Given.SeizeWords.OneOwner.Operations.{may_make, made as make_made, may_take, taken}
-use Rattle.papaya_finishes.proofs.Given.SeizeWords.Plans.{as_may}
-use Rattle.papaya_finishes.proofs.Given.SeizeRule.Rows.Leaving.{steps_back}
-use Rattle.papaya_finishes.specs.Given.Seize.Law.{Dropped}
-use Rattle.papaya_finishes.specs.Given.Seize.World.{World, Hand, NoBlock, Making, Makes, Drops, Runs, with_hand, with_effect, made_by}
-use Rattle.papaya_finishes.specs.Given.Seize.declared.progress.Progress.{Progress}
-use Rattle.papaya_finishes.specs.Given.Seize.declared.progress.Progress.TheVariants as progress
-use Rattle.papaya_finishes.specs.Given.Tables.Chunks.{is_incremental}
-use Rattle.papaya_finishes.specs.Given.Tables.Nodes.{deferred_word}
-use Rattle.papaya_finishes.specs.Given.Resize.NewMap.{with_counter, at_root, goes, done, with_shards, made, shards, opened, unmakes}
-use Rattle.papaya_finishes.specs.Given.Resize.NewTable.{first_table, new_table_plan}
-use Rattle.papaya_finishes.specs.Given.Tables.declared.node.Node.{Node}
-use Rattle.papaya_finishes.specs.Given.Tables.declared.node.Node.TheVariants as node
-use Rattle.papaya_finishes.specs.Given.Tables.declared.setting.Setting.{Setting}
-use Rattle.papaya_finishes.specs.Given.Tables.declared.table.Table.{Table}
-use Rattle.papaya_finishes.specs.Given.Resize.declared.new_table.NewTable.{NewTable}
-use Rattle.papaya_finishes.specs.Given.Resize.declared.new_map.NewMap.{NewMap}
-use Rattle.papaya_finishes.specs.Given.Resize.declared.new_map.Opening.TheVariants as at
-use Rattle.papaya_finishes.specs.Given.Tables.Chunks.{is_incremental}
-use Rattle.papaya_finishes.specs.Given.Rule.Chart.{Chart}
-use Rattle.papaya_finishes.specs.Given.Rule.Rule.{IsLawful, no_table}
-use Rattle.papaya_finishes.specs.Given.Rule.Moves.{Links, after as chart_after}
-use Rattle.papaya_finishes.specs.Given.Rule.Words.{Blocks}
-use Rattle.papaya_finishes.specs.Given.Rule.Maps.{spot_of}
-use Rattle.papaya_finishes.specs.Given.Rule.InWorld.{IsMapIn}
-use Rattle.papaya_finishes.specs.Given.Points.FactsTables.{NewTableFacts}
-use Rattle.papaya_finishes.specs.Given.Points.Told.{NewTableTold, LinksLast}
-use Rattle.papaya_finishes.proofs.Given.Rule.World.CounterSpared.{spares_counter}
-use Rattle.papaya_finishes.proofs.Given.Rule.World.Hands.{at_cases}
-use Rattle.papaya_finishes.proofs.Given.Points.Making.OwnTables.{zero_at}
-use Rattle.papaya_finishes.proofs.Given.Points.Making.NewTable.{links_current, only_links, may_new_table, went_new_table_lowers}
-use Rattle.papaya_finishes.proofs.Given.Rule.World.WentStill.{spares_made, spares_taken}
-use Rattle.papaya_finishes.proofs.Given.Rule.Words.WritesWords.{is_some_of}
+use Rattle.papaya_finishes.specs.Given.SeizeWordsDeclared.at.At.TheVariants.{Root, Used}
+use Rattle.papaya_finishes.specs.Given.SeizeWordsDeclared.fault.Fault.{Fault}
+use Rattle.papaya_finishes.specs.Given.SeizeWordsDeclared.fault.Fault.TheVariants.{Memory}
+use Rattle.papaya_finishes.specs.Given.SeizeWordsOp.{Make, Made, Taken}
+use Rattle.papaya_finishes.specs.Given.SeizeWordsMem.{Mem, block_of, value_in, word_in, value_at, word_at, with_block, IsFreeNumber, fresh, Can, Took, after as mem_after}
+use Rattle.papaya_finishes.specs.Given.SeizeWordsPlan.{Now, May, Steps, plan_as}
+use Rattle.papaya_finishes.proofs.Given.SeizeWordsOneOwner.AfterWrites.{block_of-made}
+use Rattle.papaya_finishes.proofs.Given.SeizeWordsOneOwner.Operations.{may_make, made as make_made, may_take, taken}
+use Rattle.papaya_finishes.proofs.Given.SeizeWordsPlans.{as_may}
+use Rattle.papaya_finishes.proofs.Given.SeizeRuleRows.Leaving.{steps_back}
+use Rattle.papaya_finishes.specs.Given.SeizeLaw.{Dropped}
+use Rattle.papaya_finishes.specs.Given.SeizeWorld.{World, Hand, NoBlock, Making, Makes, Drops, Runs, with_hand, with_effect, made_by}
+use Rattle.papaya_finishes.specs.Given.SeizeDeclared.progress.Progress.{Progress}
+use Rattle.papaya_finishes.specs.Given.SeizeDeclared.progress.Progress.TheVariants as progress
+use Rattle.papaya_finishes.specs.Given.TablesChunks.{is_incremental}
+use Rattle.papaya_finishes.specs.Given.TablesNodes.{deferred_word}
+use Rattle.papaya_finishes.specs.Given.ResizeNewMap.{with_counter, at_root, goes, done, with_shards, made, shards, opened, unmakes}
+use Rattle.papaya_finishes.specs.Given.ResizeNewTable.{first_table, new_table_plan}
+use Rattle.papaya_finishes.specs.Given.TablesDeclared.node.Node.{Node}
+use Rattle.papaya_finishes.specs.Given.TablesDeclared.node.Node.TheVariants as node
+use Rattle.papaya_finishes.specs.Given.TablesDeclared.setting.Setting.{Setting}
+use Rattle.papaya_finishes.specs.Given.TablesDeclared.table.Table.{Table}
+use Rattle.papaya_finishes.specs.Given.ResizeDeclared.new_table.NewTable.{NewTable}
+use Rattle.papaya_finishes.specs.Given.ResizeDeclared.new_map.NewMap.{NewMap}
+use Rattle.papaya_finishes.specs.Given.ResizeDeclared.new_map.Opening.TheVariants as at
+use Rattle.papaya_finishes.specs.Given.TablesChunks.{is_incremental}
+use Rattle.papaya_finishes.specs.Given.RuleChart.{Chart}
+use Rattle.papaya_finishes.specs.Given.RuleRule.{IsLawful, no_table}
+use Rattle.papaya_finishes.specs.Given.RuleMoves.{Links, after as chart_after}
+use Rattle.papaya_finishes.specs.Given.RuleWords.{Blocks}
+use Rattle.papaya_finishes.specs.Given.RuleMaps.{spot_of}
+use Rattle.papaya_finishes.specs.Given.RuleInWorld.{IsMapIn}
+use Rattle.papaya_finishes.specs.Given.PointsFactsTables.{NewTableFacts}
+use Rattle.papaya_finishes.specs.Given.PointsTold.{NewTableTold, LinksLast}
+use Rattle.papaya_finishes.proofs.Given.RuleWorld.CounterSpared.{spares_counter}
+use Rattle.papaya_finishes.proofs.Given.RuleWorld.Hands.{at_cases}
+use Rattle.papaya_finishes.proofs.Given.PointsMaking.OwnTables.{zero_at}
+use Rattle.papaya_finishes.proofs.Given.PointsMaking.NewTable.{links_current, only_links, may_new_table, went_new_table_lowers}
+use Rattle.papaya_finishes.proofs.Given.RuleWorld.WentStill.{spares_made, spares_taken}
+use Rattle.papaya_finishes.proofs.Given.RuleWords.WritesWords.{is_some_of}
 use Rattle.papaya_maps.specs.FactsBegins.{IsNew, OpeningFacts, BeginFacts, BeginTold, BeginWent}
-use Rattle.papaya_finishes.proofs.Given.Alone.Lone.Beside.{rests_first, rests_linked}
-use Rattle.papaya_finishes.proofs.Given.Callers.MapBegins.{map_begins}
-use Rattle.papaya_finishes.specs.Given.Callers.Together.{no_blocks}
+use Rattle.papaya_finishes.proofs.Given.AloneLone.Beside.{rests_first, rests_linked}
+use Rattle.papaya_finishes.proofs.Given.CallersMapBegins.{map_begins}
+use Rattle.papaya_finishes.specs.Given.CallersTogether.{no_blocks}
 use Rattle.papaya_maps.proofs.Begins.TableRoots.{LeavesRootsBut, leaves_roots}
 use Rattle.papaya_maps.proofs.Begins.Roots.{begin_still, begin_at}
 use Rattle.papaya_finishes.proofs.Beside.Makings.FirstLengths.{LensTo, first_len, lens_told}
-use Rattle.papaya_finishes.proofs.Given.Late.Rooms.Making.FirstBegins.{first_table_begins}
+use Rattle.papaya_finishes.proofs.Given.LateRooms.Making.FirstBegins.{first_table_begins}
 
 module _ {K V : Type 0} (same : K → K → Bool) (hash : K → ℕ) where
   module _ (caller : ℕ) (setting : Setting) (w : World (Node K V)) (n : NewMap) (f : BeginFacts same hash caller w setting n) where

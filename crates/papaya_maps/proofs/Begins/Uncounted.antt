@@ -2,37 +2,37 @@
 use Rattle.std.specs.Prelude.{◌==◌, ◌-◌, nat_lt, if◌then◌else◌}
 use Rattle.std.proofs.Common.{◌≡◌, ℕ, suc, ◌+◌, ◌%◌, ◌^◌, ◌<◌, ◌≤◌, Bool, true, false, Some, Ok, inl, inr, refl, arith, ap, sym, subst, ◌∙◌}
 use Rattle.std.proofs.lemmas.Bool.{eq-eqb}
-use Rattle.papaya_finishes.specs.Given.SeizeWords.declared.at.At.TheVariants.{Root, Used, Word}
-use Rattle.papaya_finishes.specs.Given.SeizeWords.declared.fault.Fault.TheVariants.{RootsUsedUp, Memory}
-use Rattle.papaya_finishes.specs.Given.SeizeWords.Op.{Make, Made}
-use Rattle.papaya_finishes.specs.Given.SeizeWords.Mem.{Mem, Can, Took, value_at, word_at, word_in, block_of, IsFreeNumber, fresh, after}
-use Rattle.papaya_finishes.specs.Given.SeizeWords.Plan.{Now, May, Steps}
-use Rattle.papaya_finishes.proofs.Given.SeizeWords.OneOwner.AfterWrites.{block_of-made}
-use Rattle.papaya_finishes.proofs.Given.SeizeWords.OneOwner.Operations.{exchanged, stored, made as make_made, taken}
-use Rattle.papaya_finishes.proofs.Given.SeizeWords.Plans.{may_as}
-use Rattle.papaya_finishes.proofs.Given.SeizeRule.Rows.Leaving.{steps_back}
-use Rattle.papaya_finishes.specs.Given.Seize.World.{World}
-use Rattle.papaya_finishes.specs.Given.Seize.declared.progress.Progress.{Progress}
-use Rattle.papaya_finishes.specs.Given.Seize.declared.progress.Progress.TheVariants as progress
-use Rattle.papaya_finishes.specs.Given.Resize.NewMap.{at_root, with_counter, next_root, taken as root_taken, with_shards, made, opened, refused, done, goes, plan_at, new_map_plan}
-use Rattle.papaya_finishes.specs.Given.Resize.NewTable.{first_table, new_table_plan}
-use Rattle.papaya_finishes.specs.Given.Tables.declared.node.Node.{Node}
-use Rattle.papaya_finishes.specs.Given.Tables.declared.node.Node.TheVariants as node
-use Rattle.papaya_finishes.specs.Given.Tables.declared.setting.Setting.{Setting}
-use Rattle.papaya_finishes.specs.Given.Tables.declared.table.Table.{Table}
-use Rattle.papaya_finishes.specs.Given.Resize.declared.new_map.NewMap.{NewMap}
-use Rattle.papaya_finishes.specs.Given.Resize.declared.new_map.Opening.{Opening}
-use Rattle.papaya_finishes.specs.Given.Resize.declared.new_map.Opening.TheVariants as at
-use Rattle.papaya_finishes.specs.Given.Resize.declared.new_table.NewTable.{NewTable}
-use Rattle.papaya_finishes.specs.Given.Rule.Chart.{Chart}
-use Rattle.papaya_finishes.specs.Given.Rule.Rule.{no_table}
-use Rattle.papaya_finishes.proofs.Given.Points.Making.OwnTables.{zero_at}
-use Rattle.papaya_finishes.proofs.Given.Rule.Moves.Totals.{total_none}
-use Rattle.papaya_finishes.specs.Given.Alone.Counting.{number_in, one_if, pairs_in, shards_sum, IsCounted}
+use Rattle.papaya_finishes.specs.Given.SeizeWordsDeclared.at.At.TheVariants.{Root, Used, Word}
+use Rattle.papaya_finishes.specs.Given.SeizeWordsDeclared.fault.Fault.TheVariants.{RootsUsedUp, Memory}
+use Rattle.papaya_finishes.specs.Given.SeizeWordsOp.{Make, Made}
+use Rattle.papaya_finishes.specs.Given.SeizeWordsMem.{Mem, Can, Took, value_at, word_at, word_in, block_of, IsFreeNumber, fresh, after}
+use Rattle.papaya_finishes.specs.Given.SeizeWordsPlan.{Now, May, Steps}
+use Rattle.papaya_finishes.proofs.Given.SeizeWordsOneOwner.AfterWrites.{block_of-made}
+use Rattle.papaya_finishes.proofs.Given.SeizeWordsOneOwner.Operations.{exchanged, stored, made as make_made, taken}
+use Rattle.papaya_finishes.proofs.Given.SeizeWordsPlans.{may_as}
+use Rattle.papaya_finishes.proofs.Given.SeizeRuleRows.Leaving.{steps_back}
+use Rattle.papaya_finishes.specs.Given.SeizeWorld.{World}
+use Rattle.papaya_finishes.specs.Given.SeizeDeclared.progress.Progress.{Progress}
+use Rattle.papaya_finishes.specs.Given.SeizeDeclared.progress.Progress.TheVariants as progress
+use Rattle.papaya_finishes.specs.Given.ResizeNewMap.{at_root, with_counter, next_root, taken as root_taken, with_shards, made, opened, refused, done, goes, plan_at, new_map_plan}
+use Rattle.papaya_finishes.specs.Given.ResizeNewTable.{first_table, new_table_plan}
+use Rattle.papaya_finishes.specs.Given.TablesDeclared.node.Node.{Node}
+use Rattle.papaya_finishes.specs.Given.TablesDeclared.node.Node.TheVariants as node
+use Rattle.papaya_finishes.specs.Given.TablesDeclared.setting.Setting.{Setting}
+use Rattle.papaya_finishes.specs.Given.TablesDeclared.table.Table.{Table}
+use Rattle.papaya_finishes.specs.Given.ResizeDeclared.new_map.NewMap.{NewMap}
+use Rattle.papaya_finishes.specs.Given.ResizeDeclared.new_map.Opening.{Opening}
+use Rattle.papaya_finishes.specs.Given.ResizeDeclared.new_map.Opening.TheVariants as at
+use Rattle.papaya_finishes.specs.Given.ResizeDeclared.new_table.NewTable.{NewTable}
+use Rattle.papaya_finishes.specs.Given.RuleChart.{Chart}
+use Rattle.papaya_finishes.specs.Given.RuleRule.{no_table}
+use Rattle.papaya_finishes.proofs.Given.PointsMaking.OwnTables.{zero_at}
+use Rattle.papaya_finishes.proofs.Given.RuleMoves.Totals.{total_none}
+use Rattle.papaya_finishes.specs.Given.AloneCounting.{number_in, one_if, pairs_in, shards_sum, IsCounted}
 use Rattle.papaya_maps.specs.FactsBegins.{OpeningFacts, BeginFacts}
 use Rattle.papaya_maps.specs.AloneBegins.{IsUncounted, UncountedAt}
-use Rattle.papaya_finishes.proofs.Given.Alone.Spared.Shards.{counter_apart, shard_stays}
-use Rattle.papaya_finishes.proofs.Given.Alone.Spared.Calls.{new_table_spares}
+use Rattle.papaya_finishes.proofs.Given.AloneSpared.Shards.{counter_apart, shard_stays}
+use Rattle.papaya_finishes.proofs.Given.AloneSpared.Calls.{new_table_spares}
 
 -- the shards say that there is no pair
 no_count : (s p : ℕ) → s ≡ 0 → p ≡ 0 → s % 2 ^ 64 ≡ p

@@ -1,38 +1,38 @@
 -- Which blocks are in the memory after each step of the beginning of a map that runs alone.
 use Rattle.std.specs.Prelude.{◌==◌, ◌-◌, ◌%◌, nat_lt, max, if◌then◌else◌}
 use Rattle.std.proofs.Common.{◌≡◌, ℕ, ◌+◌, ◌*◌, ◌^◌, ◌<◌, Bool, true, false, Some, inl, inr, ◌⊎◌, refl, arith, ap, sym, subst, ◌∙◌}
-use Rattle.papaya_finishes.specs.Given.SeizeWords.declared.at.At.{At}
-use Rattle.papaya_finishes.specs.Given.SeizeWords.declared.at.At.TheVariants.{Root, Used}
-use Rattle.papaya_finishes.specs.Given.SeizeWords.declared.fault.Fault.TheVariants.{RootsUsedUp, Memory}
-use Rattle.papaya_finishes.specs.Given.SeizeWords.Mem.{Mem, Can, Took, value_at, word_at}
-use Rattle.papaya_finishes.specs.Given.SeizeWords.Plan.{Now, May, Steps}
-use Rattle.papaya_finishes.proofs.Given.SeizeWords.OneOwner.Operations.{exchanged, stored, made as make_made, taken}
-use Rattle.papaya_finishes.proofs.Given.SeizeWords.Plans.{may_as}
-use Rattle.papaya_finishes.proofs.Given.SeizeRule.Rows.Leaving.{steps_back}
-use Rattle.papaya_finishes.specs.Given.Seize.World.{World}
-use Rattle.papaya_finishes.specs.Given.Seize.declared.progress.Progress.{Progress}
-use Rattle.papaya_finishes.specs.Given.Seize.declared.progress.Progress.TheVariants as progress
-use Rattle.papaya_finishes.specs.Given.Resize.NewMap.{at_root, with_counter, next_root, taken as root_taken, with_shards, made, opened, refused, done, goes, plan_at, new_map_plan}
-use Rattle.papaya_finishes.specs.Given.Resize.NewTable.{first_table, new_table_plan}
-use Rattle.papaya_finishes.specs.Given.Tables.declared.node.Node.{Node}
-use Rattle.papaya_finishes.specs.Given.Tables.declared.node.Node.TheVariants as node
-use Rattle.papaya_finishes.specs.Given.Tables.declared.setting.Setting.{Setting}
-use Rattle.papaya_finishes.specs.Given.Tables.declared.table.Table.{Table}
-use Rattle.papaya_finishes.specs.Given.Resize.declared.new_map.NewMap.{NewMap}
-use Rattle.papaya_finishes.specs.Given.Resize.declared.new_map.Opening.{Opening}
-use Rattle.papaya_finishes.specs.Given.Resize.declared.new_map.Opening.TheVariants as at
-use Rattle.papaya_finishes.specs.Given.Resize.declared.new_table.NewTable.{NewTable}
-use Rattle.papaya_finishes.specs.Given.Rule.Rule.{no_table}
-use Rattle.papaya_finishes.specs.Given.Rule.Words.{Blocks}
-use Rattle.papaya_finishes.specs.Given.Points.FactsTables.{IsLinkOf, NewTableFacts}
+use Rattle.papaya_finishes.specs.Given.SeizeWordsDeclared.at.At.{At}
+use Rattle.papaya_finishes.specs.Given.SeizeWordsDeclared.at.At.TheVariants.{Root, Used}
+use Rattle.papaya_finishes.specs.Given.SeizeWordsDeclared.fault.Fault.TheVariants.{RootsUsedUp, Memory}
+use Rattle.papaya_finishes.specs.Given.SeizeWordsMem.{Mem, Can, Took, value_at, word_at}
+use Rattle.papaya_finishes.specs.Given.SeizeWordsPlan.{Now, May, Steps}
+use Rattle.papaya_finishes.proofs.Given.SeizeWordsOneOwner.Operations.{exchanged, stored, made as make_made, taken}
+use Rattle.papaya_finishes.proofs.Given.SeizeWordsPlans.{may_as}
+use Rattle.papaya_finishes.proofs.Given.SeizeRuleRows.Leaving.{steps_back}
+use Rattle.papaya_finishes.specs.Given.SeizeWorld.{World}
+use Rattle.papaya_finishes.specs.Given.SeizeDeclared.progress.Progress.{Progress}
+use Rattle.papaya_finishes.specs.Given.SeizeDeclared.progress.Progress.TheVariants as progress
+use Rattle.papaya_finishes.specs.Given.ResizeNewMap.{at_root, with_counter, next_root, taken as root_taken, with_shards, made, opened, refused, done, goes, plan_at, new_map_plan}
+use Rattle.papaya_finishes.specs.Given.ResizeNewTable.{first_table, new_table_plan}
+use Rattle.papaya_finishes.specs.Given.TablesDeclared.node.Node.{Node}
+use Rattle.papaya_finishes.specs.Given.TablesDeclared.node.Node.TheVariants as node
+use Rattle.papaya_finishes.specs.Given.TablesDeclared.setting.Setting.{Setting}
+use Rattle.papaya_finishes.specs.Given.TablesDeclared.table.Table.{Table}
+use Rattle.papaya_finishes.specs.Given.ResizeDeclared.new_map.NewMap.{NewMap}
+use Rattle.papaya_finishes.specs.Given.ResizeDeclared.new_map.Opening.{Opening}
+use Rattle.papaya_finishes.specs.Given.ResizeDeclared.new_map.Opening.TheVariants as at
+use Rattle.papaya_finishes.specs.Given.ResizeDeclared.new_table.NewTable.{NewTable}
+use Rattle.papaya_finishes.specs.Given.RuleRule.{no_table}
+use Rattle.papaya_finishes.specs.Given.RuleWords.{Blocks}
+use Rattle.papaya_finishes.specs.Given.PointsFactsTables.{IsLinkOf, NewTableFacts}
 use Rattle.papaya_maps.specs.FactsBegins.{OpeningFacts, BeginFacts, BeginTold}
-use Rattle.papaya_finishes.specs.Given.Points.Made.{IsMadeBy}
-use Rattle.papaya_finishes.specs.Given.Alone.Values.{IsComing, IsMadeByOpening}
+use Rattle.papaya_finishes.specs.Given.PointsMade.{IsMadeBy}
+use Rattle.papaya_finishes.specs.Given.AloneValues.{IsComing, IsMadeByOpening}
 use Rattle.papaya_maps.specs.AloneBegins.{HasSameValues, IsAtRoot, HasLinked}
-use Rattle.papaya_finishes.proofs.Given.Alone.Values.Come.{has_come, comes_on, comes_same, values_same}
-use Rattle.papaya_finishes.proofs.Given.Points.Values.Kept.{SameValues, plain_keeps}
-use Rattle.papaya_finishes.proofs.Given.Points.Values.Left.{Leaves, leaves_made, leaves_taken, leaves_beside}
-use Rattle.papaya_finishes.proofs.Given.Points.Values.Making.{MadeAfter, IsLinkedNow, none_made, first_made_none, making_leaves}
+use Rattle.papaya_finishes.proofs.Given.AloneValues.Come.{has_come, comes_on, comes_same, values_same}
+use Rattle.papaya_finishes.proofs.Given.PointsValues.Kept.{SameValues, plain_keeps}
+use Rattle.papaya_finishes.proofs.Given.PointsValues.Left.{Leaves, leaves_made, leaves_taken, leaves_beside}
+use Rattle.papaya_finishes.proofs.Given.PointsValues.Making.{MadeAfter, IsLinkedNow, none_made, first_made_none, making_leaves}
 
 module _ {K V : Type 0} (m0 m2 : Mem (Node K V)) where
   -- the blocks after a step

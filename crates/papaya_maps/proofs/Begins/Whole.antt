@@ -3,53 +3,53 @@ use Rattle.std.specs.Prelude.{◌==◌, ◌-◌, ◌%◌, nat_lt, if◌then◌el
 use Rattle.std.specs.Int.{IsPowerOfTwo}
 use Rattle.std.proofs.Common.{◌≡◌, ℕ, suc, ◌+◌, ◌*◌, ◌^◌, ◌<◌, Bool, true, false, cond, Some, ◌⊎◌, inl, inr, refl, arith, ap, sym, subst, ◌∙◌}
 use Rattle.std.proofs.lemmas.Bool.{cases_eq}
-use Rattle.papaya_finishes.specs.Given.SeizeWords.declared.at.At.TheVariants.{Root, Used}
-use Rattle.papaya_finishes.specs.Given.SeizeWords.declared.fault.Fault.TheVariants.{RootsUsedUp}
-use Rattle.papaya_finishes.specs.Given.SeizeWords.Mem.{Mem, Can, Took, value_at, word_at}
-use Rattle.papaya_finishes.specs.Given.SeizeWords.Plan.{Now, May, Steps}
-use Rattle.papaya_finishes.proofs.Given.SeizeWords.OneOwner.Operations.{exchanged, stored, made as make_made, taken}
-use Rattle.papaya_finishes.proofs.Given.SeizeRule.Rows.Leaving.{steps_back}
-use Rattle.papaya_finishes.proofs.Given.SeizeAlone.Histories.Reached.{Reached, history_reached}
-use Rattle.papaya_finishes.proofs.Given.SeizeAlone.Histories.UsersTurn.{users_turn}
-use Rattle.papaya_finishes.specs.Given.Seize.World.{World}
-use Rattle.papaya_finishes.specs.Given.SeizeAlone.Alone.{History, IsHistory, at_rest}
-use Rattle.papaya_finishes.specs.Given.Seize.declared.progress.Progress.{Progress}
-use Rattle.papaya_finishes.specs.Given.Seize.declared.progress.Progress.TheVariants as progress
-use Rattle.papaya_finishes.specs.Given.Tables.Chunks.{is_incremental}
-use Rattle.papaya_finishes.specs.Given.Resize.NewMap.{at_root, with_counter, next_root, taken as root_taken, with_shards, made, opened, refused, done, goes, plan_at, new_map_plan}
-use Rattle.papaya_finishes.specs.Given.Resize.NewTable.{first_table, new_table_plan}
-use Rattle.papaya_finishes.specs.Given.Tables.Nodes.{deferred_word}
-use Rattle.papaya_finishes.specs.Given.Tables.declared.node.Node.{Node}
-use Rattle.papaya_finishes.specs.Given.Tables.declared.node.Node.TheVariants as node
-use Rattle.papaya_finishes.specs.Given.Tables.declared.setting.Setting.{Setting}
-use Rattle.papaya_finishes.specs.Given.Tables.declared.table.Table.{Table}
-use Rattle.papaya_finishes.specs.Given.Resize.declared.new_map.NewMap.{NewMap}
-use Rattle.papaya_finishes.specs.Given.Resize.declared.new_map.Opening.{Opening}
-use Rattle.papaya_finishes.specs.Given.Resize.declared.new_map.Opening.TheVariants as at
-use Rattle.papaya_finishes.specs.Given.Resize.declared.new_table.NewTable.{NewTable}
-use Rattle.papaya_finishes.specs.Given.Rule.Chart.{Free, Chart}
-use Rattle.papaya_finishes.specs.Given.Rule.Moves.{is_of_caller, is_done_by}
-use Rattle.papaya_finishes.specs.Given.Rule.Rule.{no_table}
-use Rattle.papaya_finishes.specs.Given.Rule.Words.{Blocks}
-use Rattle.papaya_finishes.specs.Given.Rule.InWorld.{IsMapIn}
-use Rattle.papaya_finishes.specs.Given.Points.FactsCopies.{HasDone, ClaimsNone}
-use Rattle.papaya_finishes.specs.Given.Points.FactsCopiesBlocking.{HasNoShares}
-use Rattle.papaya_finishes.specs.Given.Points.Steps.{AreLawful}
-use Rattle.papaya_finishes.proofs.Given.Rule.Keys.Always.{always_steps}
-use Rattle.papaya_finishes.proofs.Given.Rule.Moves.Totals.{total_none}
-use Rattle.papaya_finishes.proofs.Given.Rule.Words.LinksSeen.{link_some, root_leads}
+use Rattle.papaya_finishes.specs.Given.SeizeWordsDeclared.at.At.TheVariants.{Root, Used}
+use Rattle.papaya_finishes.specs.Given.SeizeWordsDeclared.fault.Fault.TheVariants.{RootsUsedUp}
+use Rattle.papaya_finishes.specs.Given.SeizeWordsMem.{Mem, Can, Took, value_at, word_at}
+use Rattle.papaya_finishes.specs.Given.SeizeWordsPlan.{Now, May, Steps}
+use Rattle.papaya_finishes.proofs.Given.SeizeWordsOneOwner.Operations.{exchanged, stored, made as make_made, taken}
+use Rattle.papaya_finishes.proofs.Given.SeizeRuleRows.Leaving.{steps_back}
+use Rattle.papaya_finishes.proofs.Given.SeizeAloneHistories.Reached.{Reached, history_reached}
+use Rattle.papaya_finishes.proofs.Given.SeizeAloneHistories.UsersTurn.{users_turn}
+use Rattle.papaya_finishes.specs.Given.SeizeWorld.{World}
+use Rattle.papaya_finishes.specs.Given.SeizeAloneAlone.{History, IsHistory, at_rest}
+use Rattle.papaya_finishes.specs.Given.SeizeDeclared.progress.Progress.{Progress}
+use Rattle.papaya_finishes.specs.Given.SeizeDeclared.progress.Progress.TheVariants as progress
+use Rattle.papaya_finishes.specs.Given.TablesChunks.{is_incremental}
+use Rattle.papaya_finishes.specs.Given.ResizeNewMap.{at_root, with_counter, next_root, taken as root_taken, with_shards, made, opened, refused, done, goes, plan_at, new_map_plan}
+use Rattle.papaya_finishes.specs.Given.ResizeNewTable.{first_table, new_table_plan}
+use Rattle.papaya_finishes.specs.Given.TablesNodes.{deferred_word}
+use Rattle.papaya_finishes.specs.Given.TablesDeclared.node.Node.{Node}
+use Rattle.papaya_finishes.specs.Given.TablesDeclared.node.Node.TheVariants as node
+use Rattle.papaya_finishes.specs.Given.TablesDeclared.setting.Setting.{Setting}
+use Rattle.papaya_finishes.specs.Given.TablesDeclared.table.Table.{Table}
+use Rattle.papaya_finishes.specs.Given.ResizeDeclared.new_map.NewMap.{NewMap}
+use Rattle.papaya_finishes.specs.Given.ResizeDeclared.new_map.Opening.{Opening}
+use Rattle.papaya_finishes.specs.Given.ResizeDeclared.new_map.Opening.TheVariants as at
+use Rattle.papaya_finishes.specs.Given.ResizeDeclared.new_table.NewTable.{NewTable}
+use Rattle.papaya_finishes.specs.Given.RuleChart.{Free, Chart}
+use Rattle.papaya_finishes.specs.Given.RuleMoves.{is_of_caller, is_done_by}
+use Rattle.papaya_finishes.specs.Given.RuleRule.{no_table}
+use Rattle.papaya_finishes.specs.Given.RuleWords.{Blocks}
+use Rattle.papaya_finishes.specs.Given.RuleInWorld.{IsMapIn}
+use Rattle.papaya_finishes.specs.Given.PointsFactsCopies.{HasDone, ClaimsNone}
+use Rattle.papaya_finishes.specs.Given.PointsFactsCopiesBlocking.{HasNoShares}
+use Rattle.papaya_finishes.specs.Given.PointsSteps.{AreLawful}
+use Rattle.papaya_finishes.proofs.Given.RuleKeys.Always.{always_steps}
+use Rattle.papaya_finishes.proofs.Given.RuleMoves.Totals.{total_none}
+use Rattle.papaya_finishes.proofs.Given.RuleWords.LinksSeen.{link_some, root_leads}
 use Rattle.papaya_maps.specs.FactsBegins.{IsNew, HasBegun, LeavesRoots, OpeningFacts, BeginTold, BeginWent}
-use Rattle.papaya_finishes.specs.Given.Callers.Kept.{IsMaking}
-use Rattle.papaya_finishes.specs.Given.Alone.Alone.{IsIdleNow}
+use Rattle.papaya_finishes.specs.Given.CallersKept.{IsMaking}
+use Rattle.papaya_finishes.specs.Given.AloneAlone.{IsIdleNow}
 use Rattle.papaya_maps.specs.AloneBegins.{HasSameRoots, HasTaken, RootsAt, IsAtRoot, IsUncounted, IsOpening, HasOpened, OpensTo}
-use Rattle.papaya_finishes.specs.Given.Alone.Values.{IsComing, IsLinkedSince}
+use Rattle.papaya_finishes.specs.Given.AloneValues.{IsComing, IsLinkedSince}
 use Rattle.papaya_maps.specs.WholeBegins.{MapsBeginAlone, MapsGoOnAlone}
 use Rattle.papaya_maps.proofs.Begins.Length.{keeps_len}
 use Rattle.papaya_maps.proofs.Begins.Uncounted.{UncountedTo, uncounted_none, opens_uncounted}
-use Rattle.papaya_finishes.proofs.Given.Alone.Calls.Rests.{reached_on, reached_in, tables_reached, pairs_reached}
-use Rattle.papaya_finishes.proofs.Given.Callers.Rows.Users.{all_users}
+use Rattle.papaya_finishes.proofs.Given.AloneCalls.Rests.{reached_on, reached_in, tables_reached, pairs_reached}
+use Rattle.papaya_finishes.proofs.Given.CallersRows.Users.{all_users}
 use Rattle.papaya_maps.proofs.Begins.Points.{begin_facts, may_new_map, went_new_map}
-use Rattle.papaya_finishes.proofs.Given.Alone.Values.Come.{none_coming}
+use Rattle.papaya_finishes.proofs.Given.AloneValues.Come.{none_coming}
 use Rattle.papaya_maps.proofs.Begins.Values.{OpensWith, opens_with}
 
 module _ {K V : Type 0} (same : K → K → Bool) (hash : K → ℕ) (m0 m m2 : Mem (Node K V)) where

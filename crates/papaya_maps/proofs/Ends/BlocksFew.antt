@@ -2,16 +2,16 @@
 use Rattle.std.specs.Prelude.{Option, Some, None, IsSome, ◌==◌, ◌/◌, ◌-◌, if◌then◌else◌}
 use Rattle.std.proofs.Common.{◌≡◌, ℕ, zero, suc, ◌+◌, ◌*◌, ◌<◌, ◌≤◌, Bool, true, false, List, [], ◌∷◌, length, refl, ap, sym, subst, ◌∙◌, arith}
 use Rattle.std.proofs.lemmas.List.{length-set}
-use Rattle.papaya_finishes.specs.Given.SeizeWords.declared.at.At.{At}
-use Rattle.papaya_finishes.specs.Given.SeizeWords.declared.at.At.TheVariants.{Root, Used, Slot, Entry, Word}
-use Rattle.papaya_finishes.specs.Given.SeizeWords.Mem.{Mem, value_at, word_at, with_block, with_word}
-use Rattle.papaya_finishes.specs.Given.Seize.declared.states.TheConstants.{NEXT}
-use Rattle.papaya_finishes.specs.Given.SeizeAlone.Alone.{number_of, blocks_in}
-use Rattle.papaya_finishes.specs.Given.Seize.Further.{ListFrom}
-use Rattle.papaya_finishes.specs.Given.Seize.World.{times}
-use Rattle.papaya_finishes.proofs.Given.SeizeAlone.Spared.Fewer.{take_fewer}
-use Rattle.papaya_finishes.proofs.Given.Rule.Words.TablesSeen.{block_of_link}
-use Rattle.papaya_finishes.specs.Given.Alone.Counting.{number_in}
+use Rattle.papaya_finishes.specs.Given.SeizeWordsDeclared.at.At.{At}
+use Rattle.papaya_finishes.specs.Given.SeizeWordsDeclared.at.At.TheVariants.{Root, Used, Slot, Entry, Word}
+use Rattle.papaya_finishes.specs.Given.SeizeWordsMem.{Mem, value_at, word_at, with_block, with_word}
+use Rattle.papaya_finishes.specs.Given.SeizeDeclared.states.TheConstants.{NEXT}
+use Rattle.papaya_finishes.specs.Given.SeizeAloneAlone.{number_of, blocks_in}
+use Rattle.papaya_finishes.specs.Given.SeizeFurther.{ListFrom}
+use Rattle.papaya_finishes.specs.Given.SeizeWorld.{times}
+use Rattle.papaya_finishes.proofs.Given.SeizeAloneSpared.Fewer.{take_fewer}
+use Rattle.papaya_finishes.proofs.Given.RuleWords.TablesSeen.{block_of_link}
+use Rattle.papaya_finishes.specs.Given.AloneCounting.{number_in}
 use Rattle.papaya_maps.specs.MeasuresEnds.{list_len, most_blocks}
 use Rattle.papaya_finishes.proofs.Ends.CountedBlocks.{times_here, some_here, some_last}
 use Rattle.papaya_finishes.proofs.Ends.Memory.{taken_value}

@@ -4,39 +4,39 @@ use Rattle.std.proofs.Common.{◌≡◌, ℕ, suc, ◌+◌, ◌*◌, ◌/◌, �
 use Rattle.std.proofs.Math.Nat.{mul-le-mul_right}
 use Rattle.std.proofs.lemmas.Bool.{cases_lt}
 use Rattle.std.proofs.lemmas.List.{length-append}
-use Rattle.papaya_finishes.specs.Given.SeizeWords.declared.at.At.{At}
-use Rattle.papaya_finishes.specs.Given.SeizeWords.declared.at.At.TheVariants.{Root, Used, Entry, Word}
-use Rattle.papaya_finishes.specs.Given.SeizeWords.Op.{Found, Taken}
-use Rattle.papaya_finishes.specs.Given.SeizeWords.Mem.{Mem, Can, Took, block_of, value_in, entry_in, value_at, word_at, with_word, with_block}
-use Rattle.papaya_finishes.specs.Given.SeizeWords.declared.block.Block.{Block}
-use Rattle.papaya_finishes.specs.Given.SeizeWords.Plan.{Now, Seeing, May, Steps, Ends}
-use Rattle.papaya_finishes.proofs.Given.SeizeWords.OneOwner.Operations.{loaded, stored, taken}
-use Rattle.papaya_finishes.proofs.Given.SeizeWords.Plans.{ends_if}
-use Rattle.papaya_finishes.specs.Given.SeizeAlone.Alone.{blocks_in}
-use Rattle.papaya_finishes.specs.Given.Seize.declared.rows.settle.Settled.{Settled}
-use Rattle.papaya_finishes.specs.Given.Seize.declared.rows.settle.Settled.TheVariants as settled
-use Rattle.papaya_finishes.specs.Given.Seize.declared.states.TheConstants.{NEXT as LINK}
-use Rattle.papaya_finishes.specs.Given.Seize.Further.{ListFrom}
-use Rattle.papaya_finishes.specs.Given.Seize.World.{World, times}
-use Rattle.papaya_finishes.proofs.Given.SeizeAlone.Spared.Fewer.{take_fewer, plan_fewer}
-use Rattle.papaya_finishes.proofs.Given.SeizeRule.Words.Kept.{IsQuietPlan}
-use Rattle.papaya_finishes.specs.Given.Tables.Nodes.{table_seen}
-use Rattle.papaya_finishes.specs.Given.Tables.Chunks.{is_incremental}
-use Rattle.papaya_finishes.specs.Given.Raw.EndMap.{standing, next_place, is_current, root_read, word_read, given_back, next_read, list_read, follower_read, after_read, dropped, plan_at, end_map_plan}
-use Rattle.papaya_finishes.specs.Given.Tables.declared.node.Node.{Node}
-use Rattle.papaya_finishes.specs.Given.Tables.declared.node.Node.TheVariants as node
-use Rattle.papaya_finishes.specs.Given.Tables.declared.setting.Setting.{Setting}
-use Rattle.papaya_finishes.specs.Given.Tables.declared.table.Table.{Table}
-use Rattle.papaya_finishes.specs.Given.Tables.declared.table_words.TheConstants.{NEXT, DEFERRED, PLACES}
-use Rattle.papaya_finishes.specs.Given.Raw.declared.machines.end_map.EndMap.{EndMap}
-use Rattle.papaya_finishes.specs.Given.Raw.declared.machines.end_map.Ending.{Ending}
-use Rattle.papaya_finishes.specs.Given.Raw.declared.machines.end_map.Ending.TheVariants as at
-use Rattle.papaya_finishes.specs.Given.Rule.Chart.{Chart}
-use Rattle.papaya_finishes.specs.Given.Rule.Words.{Blocks, next_word}
-use Rattle.papaya_finishes.specs.Given.Points.Steps.{AreLawful}
-use Rattle.papaya_finishes.specs.Given.Points.Measures.{IsBelow}
-use Rattle.papaya_finishes.proofs.Given.Rule.Words.TablesSeen.{block_of_link}
-use Rattle.papaya_finishes.proofs.Given.Rule.Words.WritesWords.{is_some_of}
+use Rattle.papaya_finishes.specs.Given.SeizeWordsDeclared.at.At.{At}
+use Rattle.papaya_finishes.specs.Given.SeizeWordsDeclared.at.At.TheVariants.{Root, Used, Entry, Word}
+use Rattle.papaya_finishes.specs.Given.SeizeWordsOp.{Found, Taken}
+use Rattle.papaya_finishes.specs.Given.SeizeWordsMem.{Mem, Can, Took, block_of, value_in, entry_in, value_at, word_at, with_word, with_block}
+use Rattle.papaya_finishes.specs.Given.SeizeWordsDeclared.block.Block.{Block}
+use Rattle.papaya_finishes.specs.Given.SeizeWordsPlan.{Now, Seeing, May, Steps, Ends}
+use Rattle.papaya_finishes.proofs.Given.SeizeWordsOneOwner.Operations.{loaded, stored, taken}
+use Rattle.papaya_finishes.proofs.Given.SeizeWordsPlans.{ends_if}
+use Rattle.papaya_finishes.specs.Given.SeizeAloneAlone.{blocks_in}
+use Rattle.papaya_finishes.specs.Given.SeizeDeclared.rows.settle.Settled.{Settled}
+use Rattle.papaya_finishes.specs.Given.SeizeDeclared.rows.settle.Settled.TheVariants as settled
+use Rattle.papaya_finishes.specs.Given.SeizeDeclared.states.TheConstants.{NEXT as LINK}
+use Rattle.papaya_finishes.specs.Given.SeizeFurther.{ListFrom}
+use Rattle.papaya_finishes.specs.Given.SeizeWorld.{World, times}
+use Rattle.papaya_finishes.proofs.Given.SeizeAloneSpared.Fewer.{take_fewer, plan_fewer}
+use Rattle.papaya_finishes.proofs.Given.SeizeRuleWords.Kept.{IsQuietPlan}
+use Rattle.papaya_finishes.specs.Given.TablesNodes.{table_seen}
+use Rattle.papaya_finishes.specs.Given.TablesChunks.{is_incremental}
+use Rattle.papaya_finishes.specs.Given.RawEndMap.{standing, next_place, is_current, root_read, word_read, given_back, next_read, list_read, follower_read, after_read, dropped, plan_at, end_map_plan}
+use Rattle.papaya_finishes.specs.Given.TablesDeclared.node.Node.{Node}
+use Rattle.papaya_finishes.specs.Given.TablesDeclared.node.Node.TheVariants as node
+use Rattle.papaya_finishes.specs.Given.TablesDeclared.setting.Setting.{Setting}
+use Rattle.papaya_finishes.specs.Given.TablesDeclared.table.Table.{Table}
+use Rattle.papaya_finishes.specs.Given.TablesDeclared.table_words.TheConstants.{NEXT, DEFERRED, PLACES}
+use Rattle.papaya_finishes.specs.Given.RawDeclared.machines.end_map.EndMap.{EndMap}
+use Rattle.papaya_finishes.specs.Given.RawDeclared.machines.end_map.Ending.{Ending}
+use Rattle.papaya_finishes.specs.Given.RawDeclared.machines.end_map.Ending.TheVariants as at
+use Rattle.papaya_finishes.specs.Given.RuleChart.{Chart}
+use Rattle.papaya_finishes.specs.Given.RuleWords.{Blocks, next_word}
+use Rattle.papaya_finishes.specs.Given.PointsSteps.{AreLawful}
+use Rattle.papaya_finishes.specs.Given.PointsMeasures.{IsBelow}
+use Rattle.papaya_finishes.proofs.Given.RuleWords.TablesSeen.{block_of_link}
+use Rattle.papaya_finishes.proofs.Given.RuleWords.WritesWords.{is_some_of}
 use Rattle.papaya_maps.specs.EndingsEnds.{HasMore}
 use Rattle.papaya_finishes.specs.FactsEnds.{Gives, Joins, BeganIn, AtPairs, EndingFacts, EndFacts, RootAt, back_of, from_table, wait_before}
 use Rattle.papaya_finishes.specs.Orders.{pairs_behind}

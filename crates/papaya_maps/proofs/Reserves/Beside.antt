@@ -3,43 +3,43 @@
 use Rattle.std.specs.Prelude.{◌^◌, ◌<◌, cond}
 use Rattle.std.specs.Int.{IsPowerOfTwo}
 use Rattle.std.proofs.Common.{◌≡◌, ◌≢◌, ℕ, Bool, true, false, refl, sym, subst}
-use Rattle.papaya_finishes.specs.Given.SeizeWords.Mem.{Mem, value_at, Took}
-use Rattle.papaya_finishes.specs.Given.SeizeWords.Plan.{Steps}
-use Rattle.papaya_finishes.specs.Given.Seize.World.{World}
-use Rattle.papaya_finishes.specs.Given.Tables.Chunks.{is_incremental}
-use Rattle.papaya_finishes.specs.Given.Resize.Copier.{copier_plan}
-use Rattle.papaya_finishes.specs.Given.Resize.CopierStates.{copying_all}
-use Rattle.papaya_finishes.specs.Given.Reserves.Reserve.{copied}
-use Rattle.papaya_finishes.specs.Given.Tables.declared.node.Node.{Node}
-use Rattle.papaya_finishes.specs.Given.Resize.declared.outcome.Outcome.{Outcome}
-use Rattle.papaya_finishes.specs.Given.Resize.declared.outcome.Outcome.TheVariants as outcome
-use Rattle.papaya_finishes.specs.Given.Tables.declared.setting.Setting.{Setting}
-use Rattle.papaya_finishes.specs.Given.Tables.declared.table.Table.{Table}
-use Rattle.papaya_finishes.specs.Given.Resize.declared.copier.Copier.{Copier}
-use Rattle.papaya_finishes.specs.Given.Reserves.declared.reserve.Reserve.{Reserve}
-use Rattle.papaya_finishes.specs.Given.Reserves.declared.reserve.Reserving.{Reserving}
-use Rattle.papaya_finishes.specs.Given.Reserves.declared.reserve.Reserving.TheVariants as at
-use Rattle.papaya_finishes.specs.Given.Rule.Chart.{Chart}
-use Rattle.papaya_finishes.specs.Given.Rule.Rule.{Rule, IsLawful}
-use Rattle.papaya_finishes.specs.Given.Rule.Words.{Blocks}
-use Rattle.papaya_finishes.specs.Given.Rule.Maps.{spot_of}
-use Rattle.papaya_finishes.specs.Given.Rule.InWorld.{IsMapIn}
-use Rattle.papaya_finishes.specs.Given.Points.FactsCopies.{CopierFacts}
-use Rattle.papaya_finishes.specs.Given.Points.FactsCopiesBlocking.{CopierFactsBlocking}
-use Rattle.papaya_finishes.specs.Given.Points.Measures.{OthersIdle}
-use Rattle.papaya_finishes.specs.Given.Points.FactsAloneBlocking.{AloneBlocking, LeadsAlone}
-use Rattle.papaya_finishes.specs.Given.Points.Told.{IsRowOfCopier, CopierTold, CopierToldBlocking, OnlyLinks}
-use Rattle.papaya_finishes.specs.Given.Points.ToldMoves.{MovedAt}
-use Rattle.papaya_finishes.proofs.Given.Points.Calls.Making.{links_beside}
-use Rattle.papaya_finishes.specs.Given.Late.FactsReserves.{CopiesPairs, IsEnding, CopiesWhole, ReservingFacts}
-use Rattle.papaya_finishes.specs.Given.Late.ToldReserves.{EndsAtRoot, WholeTold, IsRowOfReserve}
-use Rattle.papaya_finishes.proofs.Given.Late.Rooms.Reserves.Moved.{IsFresh, Proceeds, CopierMoves, ReserveMoves}
-use Rattle.papaya_finishes.specs.Given.Alone.FactsAlone.{FactsAlone}
-use Rattle.papaya_finishes.specs.Given.Alone.FactsAloneCalls.{TablesAlone, RestsAlone}
-use Rattle.papaya_finishes.proofs.Given.Alone.Lone.Beside.{alone_begins, beside_idle, beside_tables}
-use Rattle.papaya_finishes.proofs.Given.Alone.Lone.Copier.{alone_goes}
-use Rattle.papaya_finishes.proofs.Given.Alone.Lone.Keeps.{kept_at}
-use Rattle.papaya_finishes.proofs.Given.Alone.Lone.QuietPoints.{IsQuiet, quiet_alone}
+use Rattle.papaya_finishes.specs.Given.SeizeWordsMem.{Mem, value_at, Took}
+use Rattle.papaya_finishes.specs.Given.SeizeWordsPlan.{Steps}
+use Rattle.papaya_finishes.specs.Given.SeizeWorld.{World}
+use Rattle.papaya_finishes.specs.Given.TablesChunks.{is_incremental}
+use Rattle.papaya_finishes.specs.Given.ResizeCopier.{copier_plan}
+use Rattle.papaya_finishes.specs.Given.ResizeCopierStates.{copying_all}
+use Rattle.papaya_finishes.specs.Given.ReservesReserve.{copied}
+use Rattle.papaya_finishes.specs.Given.TablesDeclared.node.Node.{Node}
+use Rattle.papaya_finishes.specs.Given.ResizeDeclared.outcome.Outcome.{Outcome}
+use Rattle.papaya_finishes.specs.Given.ResizeDeclared.outcome.Outcome.TheVariants as outcome
+use Rattle.papaya_finishes.specs.Given.TablesDeclared.setting.Setting.{Setting}
+use Rattle.papaya_finishes.specs.Given.TablesDeclared.table.Table.{Table}
+use Rattle.papaya_finishes.specs.Given.ResizeDeclared.copier.Copier.{Copier}
+use Rattle.papaya_finishes.specs.Given.ReservesDeclared.reserve.Reserve.{Reserve}
+use Rattle.papaya_finishes.specs.Given.ReservesDeclared.reserve.Reserving.{Reserving}
+use Rattle.papaya_finishes.specs.Given.ReservesDeclared.reserve.Reserving.TheVariants as at
+use Rattle.papaya_finishes.specs.Given.RuleChart.{Chart}
+use Rattle.papaya_finishes.specs.Given.RuleRule.{Rule, IsLawful}
+use Rattle.papaya_finishes.specs.Given.RuleWords.{Blocks}
+use Rattle.papaya_finishes.specs.Given.RuleMaps.{spot_of}
+use Rattle.papaya_finishes.specs.Given.RuleInWorld.{IsMapIn}
+use Rattle.papaya_finishes.specs.Given.PointsFactsCopies.{CopierFacts}
+use Rattle.papaya_finishes.specs.Given.PointsFactsCopiesBlocking.{CopierFactsBlocking}
+use Rattle.papaya_finishes.specs.Given.PointsMeasures.{OthersIdle}
+use Rattle.papaya_finishes.specs.Given.PointsFactsAloneBlocking.{AloneBlocking, LeadsAlone}
+use Rattle.papaya_finishes.specs.Given.PointsTold.{IsRowOfCopier, CopierTold, CopierToldBlocking, OnlyLinks}
+use Rattle.papaya_finishes.specs.Given.PointsToldMoves.{MovedAt}
+use Rattle.papaya_finishes.proofs.Given.PointsCalls.Making.{links_beside}
+use Rattle.papaya_finishes.specs.Given.LateFactsReserves.{CopiesPairs, IsEnding, CopiesWhole, ReservingFacts}
+use Rattle.papaya_finishes.specs.Given.LateToldReserves.{EndsAtRoot, WholeTold, IsRowOfReserve}
+use Rattle.papaya_finishes.proofs.Given.LateRooms.Reserves.Moved.{IsFresh, Proceeds, CopierMoves, ReserveMoves}
+use Rattle.papaya_finishes.specs.Given.AloneFactsAlone.{FactsAlone}
+use Rattle.papaya_finishes.specs.Given.AloneFactsAloneCalls.{TablesAlone, RestsAlone}
+use Rattle.papaya_finishes.proofs.Given.AloneLone.Beside.{alone_begins, beside_idle, beside_tables}
+use Rattle.papaya_finishes.proofs.Given.AloneLone.Copier.{alone_goes}
+use Rattle.papaya_finishes.proofs.Given.AloneLone.Keeps.{kept_at}
+use Rattle.papaya_finishes.proofs.Given.AloneLone.QuietPoints.{IsQuiet, quiet_alone}
 use Rattle.papaya_maps.specs.FactsAloneReserves.{CopierAlone, ReservesAlone, IsLoneReserve, LeadsReserve}
 
 -- where a step of its copier leads: it never waits

@@ -1,33 +1,33 @@
 -- Where no table is to be retired, each step of a copier but the promotion leads to a point where none is, either; and what its target is like stays
 -- so, where it goes to no further one.
 use Rattle.std.specs.Prelude.{ℕ, ◌+◌, ◌-◌, ◌/◌, ◌%◌, ◌^◌, ◌==◌, Bool, true, false, nat_lt, Ok, Err, if◌then◌else◌}
-use Rattle.papaya_finishes.specs.Given.SeizeWords.Mem.{Mem, value_at, Took}
-use Rattle.papaya_finishes.specs.Given.SeizeWords.Op.{Out, Found, Stored, Exchanged, Made, Taken, Roomed}
-use Rattle.papaya_finishes.specs.Given.SeizeWords.Plan.{Then, Steps}
-use Rattle.papaya_finishes.specs.Given.SeizeWords.declared.fault.Fault.{Fault}
-use Rattle.papaya_finishes.specs.Given.Seize.declared.progress.Progress.{Progress}
-use Rattle.papaya_finishes.specs.Given.Seize.declared.progress.Progress.TheVariants as progress
-use Rattle.papaya_finishes.specs.Given.Tables.Chunks.{is_incremental}
-use Rattle.papaya_finishes.specs.Given.Resize.NewTable.{new_table_plan}
-use Rattle.papaya_finishes.specs.Given.Tables.Probes.{probe_after}
-use Rattle.papaya_finishes.specs.Given.Resize.Copier.{plan_at}
-use Rattle.papaya_finishes.specs.Given.Resize.CopierStates.{standing, behind, none_left, next_place, place_done}
-use Rattle.papaya_finishes.specs.Given.Resize.CopierPlaces.{next_try, place_read, put_told}
-use Rattle.papaya_finishes.specs.Given.Resize.CopierMarks.{is_mine, is_awaited, mine_marked, marked}
-use Rattle.papaya_finishes.specs.Given.Resize.CopierClaims.{root_read, next_read, status_read, claim_read, claimed}
-use Rattle.papaya_finishes.specs.Given.Resize.CopierCounts.{refusing, counted}
-use Rattle.papaya_finishes.specs.Given.Resize.CopierFurther.{further_read, grown, replacement_read, remade}
-use Rattle.papaya_finishes.specs.Given.Tables.declared.node.Node.{Node}
-use Rattle.papaya_finishes.specs.Given.Resize.declared.outcome.Outcome.{Outcome}
-use Rattle.papaya_finishes.specs.Given.Resize.declared.outcome.Outcome.TheVariants as outcome
-use Rattle.papaya_finishes.specs.Given.Tables.declared.probe.Probe.{Probe}
-use Rattle.papaya_finishes.specs.Given.Tables.declared.status.TheConstants.Status.{PROMOTED, ABORTED}
-use Rattle.papaya_finishes.specs.Given.Tables.declared.table.Table.{Table}
-use Rattle.papaya_finishes.specs.Given.Resize.declared.copier.Copier.{Copier}
-use Rattle.papaya_finishes.specs.Given.Resize.declared.copier.Copying.{Copying}
-use Rattle.papaya_finishes.specs.Given.Resize.declared.copier.Copying.TheVariants as at
-use Rattle.papaya_finishes.specs.Given.Resize.declared.new_table.NewTable.{NewTable}
-use Rattle.papaya_finishes.proofs.Given.Rule.Keys.Always.{Always, AlwaysOf, always_if, always_plan_as, always_steps}
+use Rattle.papaya_finishes.specs.Given.SeizeWordsMem.{Mem, value_at, Took}
+use Rattle.papaya_finishes.specs.Given.SeizeWordsOp.{Out, Found, Stored, Exchanged, Made, Taken, Roomed}
+use Rattle.papaya_finishes.specs.Given.SeizeWordsPlan.{Then, Steps}
+use Rattle.papaya_finishes.specs.Given.SeizeWordsDeclared.fault.Fault.{Fault}
+use Rattle.papaya_finishes.specs.Given.SeizeDeclared.progress.Progress.{Progress}
+use Rattle.papaya_finishes.specs.Given.SeizeDeclared.progress.Progress.TheVariants as progress
+use Rattle.papaya_finishes.specs.Given.TablesChunks.{is_incremental}
+use Rattle.papaya_finishes.specs.Given.ResizeNewTable.{new_table_plan}
+use Rattle.papaya_finishes.specs.Given.TablesProbes.{probe_after}
+use Rattle.papaya_finishes.specs.Given.ResizeCopier.{plan_at}
+use Rattle.papaya_finishes.specs.Given.ResizeCopierStates.{standing, behind, none_left, next_place, place_done}
+use Rattle.papaya_finishes.specs.Given.ResizeCopierPlaces.{next_try, place_read, put_told}
+use Rattle.papaya_finishes.specs.Given.ResizeCopierMarks.{is_mine, is_awaited, mine_marked, marked}
+use Rattle.papaya_finishes.specs.Given.ResizeCopierClaims.{root_read, next_read, status_read, claim_read, claimed}
+use Rattle.papaya_finishes.specs.Given.ResizeCopierCounts.{refusing, counted}
+use Rattle.papaya_finishes.specs.Given.ResizeCopierFurther.{further_read, grown, replacement_read, remade}
+use Rattle.papaya_finishes.specs.Given.TablesDeclared.node.Node.{Node}
+use Rattle.papaya_finishes.specs.Given.ResizeDeclared.outcome.Outcome.{Outcome}
+use Rattle.papaya_finishes.specs.Given.ResizeDeclared.outcome.Outcome.TheVariants as outcome
+use Rattle.papaya_finishes.specs.Given.TablesDeclared.probe.Probe.{Probe}
+use Rattle.papaya_finishes.specs.Given.TablesDeclared.status.TheConstants.Status.{PROMOTED, ABORTED}
+use Rattle.papaya_finishes.specs.Given.TablesDeclared.table.Table.{Table}
+use Rattle.papaya_finishes.specs.Given.ResizeDeclared.copier.Copier.{Copier}
+use Rattle.papaya_finishes.specs.Given.ResizeDeclared.copier.Copying.{Copying}
+use Rattle.papaya_finishes.specs.Given.ResizeDeclared.copier.Copying.TheVariants as at
+use Rattle.papaya_finishes.specs.Given.ResizeDeclared.new_table.NewTable.{NewTable}
+use Rattle.papaya_finishes.proofs.Given.RuleKeys.Always.{Always, AlwaysOf, always_if, always_plan_as, always_steps}
 
 -- no table is to be retired
 abbrev pub RetiresNone : Copying → Type 0

@@ -1,36 +1,36 @@
 -- A step of a reservation that is none of a row of the collector leaves what the shards say.
 use Rattle.std.specs.Prelude.{◌≡◌, ℕ, suc, Bool, true, false, cond}
 use Rattle.std.proofs.Common.{refl}
-use Rattle.papaya_finishes.specs.Given.SeizeWords.declared.at.At.TheVariants.{Root, Word}
-use Rattle.papaya_finishes.specs.Given.SeizeWords.Mem.{Mem, Can, Took, value_at}
-use Rattle.papaya_finishes.specs.Given.SeizeWords.Plan.{May, Steps}
-use Rattle.papaya_finishes.specs.Given.Seize.World.{World}
-use Rattle.papaya_finishes.specs.Given.Tables.Chunks.{is_incremental}
-use Rattle.papaya_finishes.specs.Given.Resize.Copier.{copier_plan}
-use Rattle.papaya_finishes.specs.Given.Resize.NewTable.{new_table_plan}
-use Rattle.papaya_finishes.specs.Given.Reserves.Reserve.{made, summed, grown, copied, plan_at, reserve_plan}
-use Rattle.papaya_finishes.specs.Given.Resize.Sum.{sum_plan}
-use Rattle.papaya_finishes.specs.Given.Tables.declared.node.Node.{Node}
-use Rattle.papaya_finishes.specs.Given.Resize.declared.outcome.Outcome.{Outcome}
-use Rattle.papaya_finishes.specs.Given.Tables.declared.setting.Setting.{Setting}
-use Rattle.papaya_finishes.specs.Given.Tables.declared.table_words.TheConstants.{NEXT}
-use Rattle.papaya_finishes.specs.Given.Resize.declared.copier.Copier.{Copier}
-use Rattle.papaya_finishes.specs.Given.Reserves.declared.reserve.Reserve.{Reserve}
-use Rattle.papaya_finishes.specs.Given.Reserves.declared.reserve.Reserving.{Reserving}
-use Rattle.papaya_finishes.specs.Given.Reserves.declared.reserve.Reserving.TheVariants as at
-use Rattle.papaya_finishes.specs.Given.Rule.Chart.{Chart}
-use Rattle.papaya_finishes.specs.Given.Rule.Words.{Blocks}
-use Rattle.papaya_finishes.specs.Given.Rule.InWorld.{IsMapIn}
-use Rattle.papaya_finishes.specs.Given.Points.FactsCopies.{CopierFacts}
-use Rattle.papaya_finishes.specs.Given.Points.FactsCopiesBlocking.{CopierFactsBlocking}
-use Rattle.papaya_finishes.specs.Given.Points.Told.{IsRowOfCopier}
-use Rattle.papaya_finishes.specs.Given.Alone.Counting.{shards_sum}
-use Rattle.papaya_finishes.specs.Given.Late.FactsReserves.{IsEnding, ReservingFacts, ReserveFacts}
-use Rattle.papaya_finishes.specs.Given.Late.ToldReserves.{IsRowOfReserve}
-use Rattle.papaya_finishes.proofs.Given.Alone.Spared.Shards.{counter_apart, counter_no_next, shards_spared}
-use Rattle.papaya_finishes.proofs.Given.Rule.Spared.{PlanSpares, spares_as}
-use Rattle.papaya_finishes.proofs.Given.Alone.Spared.Calls.{IsApart, new_table_spares, sum_spares, copier_spares}
-use Rattle.papaya_finishes.proofs.Given.Alone.Spared.Helpers.{helper_spares}
+use Rattle.papaya_finishes.specs.Given.SeizeWordsDeclared.at.At.TheVariants.{Root, Word}
+use Rattle.papaya_finishes.specs.Given.SeizeWordsMem.{Mem, Can, Took, value_at}
+use Rattle.papaya_finishes.specs.Given.SeizeWordsPlan.{May, Steps}
+use Rattle.papaya_finishes.specs.Given.SeizeWorld.{World}
+use Rattle.papaya_finishes.specs.Given.TablesChunks.{is_incremental}
+use Rattle.papaya_finishes.specs.Given.ResizeCopier.{copier_plan}
+use Rattle.papaya_finishes.specs.Given.ResizeNewTable.{new_table_plan}
+use Rattle.papaya_finishes.specs.Given.ReservesReserve.{made, summed, grown, copied, plan_at, reserve_plan}
+use Rattle.papaya_finishes.specs.Given.ResizeSum.{sum_plan}
+use Rattle.papaya_finishes.specs.Given.TablesDeclared.node.Node.{Node}
+use Rattle.papaya_finishes.specs.Given.ResizeDeclared.outcome.Outcome.{Outcome}
+use Rattle.papaya_finishes.specs.Given.TablesDeclared.setting.Setting.{Setting}
+use Rattle.papaya_finishes.specs.Given.TablesDeclared.table_words.TheConstants.{NEXT}
+use Rattle.papaya_finishes.specs.Given.ResizeDeclared.copier.Copier.{Copier}
+use Rattle.papaya_finishes.specs.Given.ReservesDeclared.reserve.Reserve.{Reserve}
+use Rattle.papaya_finishes.specs.Given.ReservesDeclared.reserve.Reserving.{Reserving}
+use Rattle.papaya_finishes.specs.Given.ReservesDeclared.reserve.Reserving.TheVariants as at
+use Rattle.papaya_finishes.specs.Given.RuleChart.{Chart}
+use Rattle.papaya_finishes.specs.Given.RuleWords.{Blocks}
+use Rattle.papaya_finishes.specs.Given.RuleInWorld.{IsMapIn}
+use Rattle.papaya_finishes.specs.Given.PointsFactsCopies.{CopierFacts}
+use Rattle.papaya_finishes.specs.Given.PointsFactsCopiesBlocking.{CopierFactsBlocking}
+use Rattle.papaya_finishes.specs.Given.PointsTold.{IsRowOfCopier}
+use Rattle.papaya_finishes.specs.Given.AloneCounting.{shards_sum}
+use Rattle.papaya_finishes.specs.Given.LateFactsReserves.{IsEnding, ReservingFacts, ReserveFacts}
+use Rattle.papaya_finishes.specs.Given.LateToldReserves.{IsRowOfReserve}
+use Rattle.papaya_finishes.proofs.Given.AloneSpared.Shards.{counter_apart, counter_no_next, shards_spared}
+use Rattle.papaya_finishes.proofs.Given.RuleSpared.{PlanSpares, spares_as}
+use Rattle.papaya_finishes.proofs.Given.AloneSpared.Calls.{IsApart, new_table_spares, sum_spares, copier_spares}
+use Rattle.papaya_finishes.proofs.Given.AloneSpared.Helpers.{helper_spares}
 
 module _ {K V : Type 0} (same : K → K → Bool) (hash : K → ℕ) (w : World (Node K V)) (setting : Setting) (c : Chart K) (blocks : Blocks) (map : IsMapIn same hash setting w c blocks) where
   module _ (shard : ℕ) where

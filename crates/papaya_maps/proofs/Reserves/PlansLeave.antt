@@ -1,13 +1,13 @@
 -- A step whose operation writes no root leaves the roots as they are.
 use Rattle.std.specs.Prelude.{◌+◌, ◌%◌, ◌^◌, bit_or}
 use Rattle.std.proofs.Common.{◌≡◌, ℕ, ap, inl, inr, refl, ◌∙◌}
-use Rattle.papaya_finishes.specs.Given.SeizeWords.declared.at.At.{At}
-use Rattle.papaya_finishes.specs.Given.SeizeWords.declared.at.At.TheVariants.{Root, Used, Slot, Entry, Word}
-use Rattle.papaya_finishes.specs.Given.SeizeWords.Mem.{Mem, value_at, with_word, Took}
-use Rattle.papaya_finishes.specs.Given.SeizeWords.Op.{Load, Store, Swap, Add, Or, Exchange, Make, Take, Rewrite, Room}
-use Rattle.papaya_finishes.specs.Given.SeizeWords.Plan.{Plan, Turn, Do, Steps, plan_as}
-use Rattle.papaya_finishes.proofs.Given.SeizeWords.OneOwner.Operations.{loaded, stored, swapped, added, ored, exchanged, made, taken, rewritten, roomed}
-use Rattle.papaya_finishes.proofs.Given.Rule.World.RootSpared.{IsNoRoot}
+use Rattle.papaya_finishes.specs.Given.SeizeWordsDeclared.at.At.{At}
+use Rattle.papaya_finishes.specs.Given.SeizeWordsDeclared.at.At.TheVariants.{Root, Used, Slot, Entry, Word}
+use Rattle.papaya_finishes.specs.Given.SeizeWordsMem.{Mem, value_at, with_word, Took}
+use Rattle.papaya_finishes.specs.Given.SeizeWordsOp.{Load, Store, Swap, Add, Or, Exchange, Make, Take, Rewrite, Room}
+use Rattle.papaya_finishes.specs.Given.SeizeWordsPlan.{Plan, Turn, Do, Steps, plan_as}
+use Rattle.papaya_finishes.proofs.Given.SeizeWordsOneOwner.Operations.{loaded, stored, swapped, added, ored, exchanged, made, taken, rewritten, roomed}
+use Rattle.papaya_finishes.proofs.Given.RuleWorld.RootSpared.{IsNoRoot}
 
 module _ {T : Type 0} where
   abbrev pub WritesNoRoot : {R : Type 0} → Plan T R → Type 0

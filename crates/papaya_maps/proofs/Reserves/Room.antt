@@ -1,40 +1,40 @@
 -- What a reservation counts: what the shards say, and at its end the root has the places for that.
 use Rattle.std.specs.Prelude.{◌==◌, ◌-◌, nat_lt, if◌then◌else◌}
 use Rattle.std.proofs.Common.{◌≡◌, ℕ, suc, ◌+◌, ◌%◌, ◌^◌, ◌<◌, ◌≤◌, Bool, true, false, refl, arith, ap, sym, subst, ◌∙◌}
-use Rattle.papaya_finishes.specs.Given.SeizeWords.declared.fault.Fault.TheVariants.{Capacity}
-use Rattle.papaya_finishes.specs.Given.SeizeWords.Mem.{Mem, Took, value_at}
-use Rattle.papaya_finishes.specs.Given.SeizeWords.Op.{Out, Found, Stored, Exchanged, Made, Taken, Roomed}
-use Rattle.papaya_finishes.specs.Given.SeizeWords.Plan.{Steps}
-use Rattle.papaya_finishes.proofs.Given.SeizeRule.Rows.Leaving.{steps_back}
-use Rattle.papaya_finishes.specs.Given.Seize.World.{World}
-use Rattle.papaya_finishes.specs.Given.Seize.declared.progress.Progress.{Progress}
-use Rattle.papaya_finishes.specs.Given.Seize.declared.progress.Progress.TheVariants as progress
-use Rattle.papaya_finishes.specs.Given.Resize.Copier.{copier_plan}
-use Rattle.papaya_finishes.specs.Given.Tables.Counts.{count_in}
-use Rattle.papaya_finishes.specs.Given.Resize.NewTable.{new_table_plan}
-use Rattle.papaya_finishes.specs.Given.Reserves.Reserve.{standing, needed, refusing, summed, made, grown, copied, root_read, next_read, plan_at, reserve_plan}
-use Rattle.papaya_finishes.specs.Given.Resize.Sum.{sum_plan}
-use Rattle.papaya_finishes.specs.Given.Tables.declared.node.Node.{Node}
-use Rattle.papaya_finishes.specs.Given.Resize.declared.outcome.Outcome.{Outcome}
-use Rattle.papaya_finishes.specs.Given.Resize.declared.outcome.Outcome.TheVariants as outcome
-use Rattle.papaya_finishes.specs.Given.Tables.declared.setting.Setting.{Setting}
-use Rattle.papaya_finishes.specs.Given.Tables.declared.table.Table.{Table}
-use Rattle.papaya_finishes.specs.Given.Resize.declared.copier.Copier.{Copier}
-use Rattle.papaya_finishes.specs.Given.Resize.declared.new_table.NewTable.{NewTable}
-use Rattle.papaya_finishes.specs.Given.Resize.declared.sum.Sum.{Sum}
-use Rattle.papaya_finishes.specs.Given.Resize.declared.sum.Summing.TheVariants as sums
-use Rattle.papaya_finishes.specs.Given.Reserves.declared.reserve.Reserve.{Reserve}
-use Rattle.papaya_finishes.specs.Given.Reserves.declared.reserve.Reserving.{Reserving}
-use Rattle.papaya_finishes.specs.Given.Reserves.declared.reserve.Reserving.TheVariants as at
-use Rattle.papaya_finishes.specs.Given.Rule.Chart.{Chart}
-use Rattle.papaya_finishes.specs.Given.Rule.Words.{Blocks}
-use Rattle.papaya_finishes.specs.Given.Rule.InWorld.{IsMapIn}
-use Rattle.papaya_finishes.specs.Given.Points.Told.{SumTold}
-use Rattle.papaya_finishes.proofs.Given.Rule.Keys.Always.{Always, AlwaysOf, always_if, always_plan_as, always_steps}
-use Rattle.papaya_finishes.proofs.Given.Points.Making.Sum.{told_sum}
-use Rattle.papaya_finishes.proofs.Given.Rule.World.WentWrote.{counter_of}
-use Rattle.papaya_finishes.specs.Given.Alone.Counting.{shards_sum, count_ahead}
-use Rattle.papaya_finishes.specs.Given.Late.FactsReserves.{ReservingFacts, ReserveFacts}
+use Rattle.papaya_finishes.specs.Given.SeizeWordsDeclared.fault.Fault.TheVariants.{Capacity}
+use Rattle.papaya_finishes.specs.Given.SeizeWordsMem.{Mem, Took, value_at}
+use Rattle.papaya_finishes.specs.Given.SeizeWordsOp.{Out, Found, Stored, Exchanged, Made, Taken, Roomed}
+use Rattle.papaya_finishes.specs.Given.SeizeWordsPlan.{Steps}
+use Rattle.papaya_finishes.proofs.Given.SeizeRuleRows.Leaving.{steps_back}
+use Rattle.papaya_finishes.specs.Given.SeizeWorld.{World}
+use Rattle.papaya_finishes.specs.Given.SeizeDeclared.progress.Progress.{Progress}
+use Rattle.papaya_finishes.specs.Given.SeizeDeclared.progress.Progress.TheVariants as progress
+use Rattle.papaya_finishes.specs.Given.ResizeCopier.{copier_plan}
+use Rattle.papaya_finishes.specs.Given.TablesCounts.{count_in}
+use Rattle.papaya_finishes.specs.Given.ResizeNewTable.{new_table_plan}
+use Rattle.papaya_finishes.specs.Given.ReservesReserve.{standing, needed, refusing, summed, made, grown, copied, root_read, next_read, plan_at, reserve_plan}
+use Rattle.papaya_finishes.specs.Given.ResizeSum.{sum_plan}
+use Rattle.papaya_finishes.specs.Given.TablesDeclared.node.Node.{Node}
+use Rattle.papaya_finishes.specs.Given.ResizeDeclared.outcome.Outcome.{Outcome}
+use Rattle.papaya_finishes.specs.Given.ResizeDeclared.outcome.Outcome.TheVariants as outcome
+use Rattle.papaya_finishes.specs.Given.TablesDeclared.setting.Setting.{Setting}
+use Rattle.papaya_finishes.specs.Given.TablesDeclared.table.Table.{Table}
+use Rattle.papaya_finishes.specs.Given.ResizeDeclared.copier.Copier.{Copier}
+use Rattle.papaya_finishes.specs.Given.ResizeDeclared.new_table.NewTable.{NewTable}
+use Rattle.papaya_finishes.specs.Given.ResizeDeclared.sum.Sum.{Sum}
+use Rattle.papaya_finishes.specs.Given.ResizeDeclared.sum.Summing.TheVariants as sums
+use Rattle.papaya_finishes.specs.Given.ReservesDeclared.reserve.Reserve.{Reserve}
+use Rattle.papaya_finishes.specs.Given.ReservesDeclared.reserve.Reserving.{Reserving}
+use Rattle.papaya_finishes.specs.Given.ReservesDeclared.reserve.Reserving.TheVariants as at
+use Rattle.papaya_finishes.specs.Given.RuleChart.{Chart}
+use Rattle.papaya_finishes.specs.Given.RuleWords.{Blocks}
+use Rattle.papaya_finishes.specs.Given.RuleInWorld.{IsMapIn}
+use Rattle.papaya_finishes.specs.Given.PointsTold.{SumTold}
+use Rattle.papaya_finishes.proofs.Given.RuleKeys.Always.{Always, AlwaysOf, always_if, always_plan_as, always_steps}
+use Rattle.papaya_finishes.proofs.Given.PointsMaking.Sum.{told_sum}
+use Rattle.papaya_finishes.proofs.Given.RuleWorld.WentWrote.{counter_of}
+use Rattle.papaya_finishes.specs.Given.AloneCounting.{shards_sum, count_ahead}
+use Rattle.papaya_finishes.specs.Given.LateFactsReserves.{ReservingFacts, ReserveFacts}
 use Rattle.papaya_maps.specs.AloneReserves.{SumsUp}
 use Rattle.papaya_maps.proofs.Reserves.Sums.{Ahead, sum_ahead}
 

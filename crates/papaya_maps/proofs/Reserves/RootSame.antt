@@ -1,18 +1,18 @@
 -- Where a step leaves the word of the root as it is, the root is the same table.
 use Rattle.std.proofs.Common.{◌≡◌, ℕ, zero, suc, ◌*◌, ◌<◌, Bool, true, Some, inl, inr, refl, arith, ap, sym, ◌∙◌}
-use Rattle.papaya_finishes.specs.Given.SeizeWords.declared.at.At.TheVariants.{Root}
-use Rattle.papaya_finishes.specs.Given.SeizeWords.Mem.{word_at}
-use Rattle.papaya_finishes.specs.Given.Seize.World.{World}
-use Rattle.papaya_finishes.specs.Given.Tables.Chunks.{is_incremental}
-use Rattle.papaya_finishes.specs.Given.Tables.declared.node.Node.{Node}
-use Rattle.papaya_finishes.specs.Given.Tables.declared.setting.Setting.{Setting}
-use Rattle.papaya_finishes.specs.Given.Rule.Chart.{Chart}
-use Rattle.papaya_finishes.specs.Given.Rule.Lasts.{Lasts}
-use Rattle.papaya_finishes.specs.Given.Rule.Words.{Blocks, root_word}
-use Rattle.papaya_finishes.specs.Given.Rule.Maps.{spot_of}
-use Rattle.papaya_finishes.specs.Given.Rule.InWorld.{SameBlocks, IsMapIn}
-use Rattle.papaya_finishes.specs.Given.Rule.Links.{LeadsTo}
-use Rattle.papaya_finishes.proofs.Given.Rule.Words.LinksSeen.{root_leads}
+use Rattle.papaya_finishes.specs.Given.SeizeWordsDeclared.at.At.TheVariants.{Root}
+use Rattle.papaya_finishes.specs.Given.SeizeWordsMem.{word_at}
+use Rattle.papaya_finishes.specs.Given.SeizeWorld.{World}
+use Rattle.papaya_finishes.specs.Given.TablesChunks.{is_incremental}
+use Rattle.papaya_finishes.specs.Given.TablesDeclared.node.Node.{Node}
+use Rattle.papaya_finishes.specs.Given.TablesDeclared.setting.Setting.{Setting}
+use Rattle.papaya_finishes.specs.Given.RuleChart.{Chart}
+use Rattle.papaya_finishes.specs.Given.RuleLasts.{Lasts}
+use Rattle.papaya_finishes.specs.Given.RuleWords.{Blocks, root_word}
+use Rattle.papaya_finishes.specs.Given.RuleMaps.{spot_of}
+use Rattle.papaya_finishes.specs.Given.RuleInWorld.{SameBlocks, IsMapIn}
+use Rattle.papaya_finishes.specs.Given.RuleLinks.{LeadsTo}
+use Rattle.papaya_finishes.proofs.Given.RuleWords.LinksSeen.{root_leads}
 
 module _ {K V : Type 0} (same : K → K → Bool) (hash : K → ℕ) (setting : Setting) (w : World (Node K V)) (c : Chart K) (blocks : Blocks) (map : IsMapIn same hash setting w c blocks) where
   -- what the word of the root names is the root

@@ -1,21 +1,21 @@
 -- The steps that write no root: those of a making of a table behind another one, and those of a copier but the promotion.
 use Rattle.std.proofs.Common.{◌≡◌, ℕ, sym, subst}
-use Rattle.papaya_finishes.specs.Given.SeizeWords.declared.at.At.TheVariants.{Word}
-use Rattle.papaya_finishes.specs.Given.Resize.Copier.{plan_at}
-use Rattle.papaya_finishes.specs.Given.Resize.CopierFurther.{grown, remade}
-use Rattle.papaya_finishes.specs.Given.Resize.NewTable as new
-use Rattle.papaya_finishes.specs.Given.Resize.Sum as summing
-use Rattle.papaya_finishes.specs.Given.Resize.declared.copier.Copier.{Copier}
-use Rattle.papaya_finishes.specs.Given.Resize.declared.copier.Copying.{Copying}
-use Rattle.papaya_finishes.specs.Given.Resize.declared.copier.Copying.TheVariants as at
-use Rattle.papaya_finishes.specs.Given.Resize.declared.new_table.NewTable.{NewTable}
-use Rattle.papaya_finishes.specs.Given.Resize.declared.new_table.Making.{Making}
-use Rattle.papaya_finishes.specs.Given.Resize.declared.new_table.Making.TheVariants as makes
-use Rattle.papaya_finishes.specs.Given.Resize.declared.sum.Sum.{Sum}
-use Rattle.papaya_finishes.specs.Given.Resize.declared.sum.Summing.{Summing}
-use Rattle.papaya_finishes.specs.Given.Resize.declared.sum.Summing.TheVariants as sums
-use Rattle.papaya_finishes.specs.Given.Tables.declared.node.Node.{Node}
-use Rattle.papaya_finishes.proofs.Given.Rule.World.RootSpared.{IsNoRoot}
+use Rattle.papaya_finishes.specs.Given.SeizeWordsDeclared.at.At.TheVariants.{Word}
+use Rattle.papaya_finishes.specs.Given.ResizeCopier.{plan_at}
+use Rattle.papaya_finishes.specs.Given.ResizeCopierFurther.{grown, remade}
+use Rattle.papaya_finishes.specs.Given.ResizeNewTable as new
+use Rattle.papaya_finishes.specs.Given.ResizeSum as summing
+use Rattle.papaya_finishes.specs.Given.ResizeDeclared.copier.Copier.{Copier}
+use Rattle.papaya_finishes.specs.Given.ResizeDeclared.copier.Copying.{Copying}
+use Rattle.papaya_finishes.specs.Given.ResizeDeclared.copier.Copying.TheVariants as at
+use Rattle.papaya_finishes.specs.Given.ResizeDeclared.new_table.NewTable.{NewTable}
+use Rattle.papaya_finishes.specs.Given.ResizeDeclared.new_table.Making.{Making}
+use Rattle.papaya_finishes.specs.Given.ResizeDeclared.new_table.Making.TheVariants as makes
+use Rattle.papaya_finishes.specs.Given.ResizeDeclared.sum.Sum.{Sum}
+use Rattle.papaya_finishes.specs.Given.ResizeDeclared.sum.Summing.{Summing}
+use Rattle.papaya_finishes.specs.Given.ResizeDeclared.sum.Summing.TheVariants as sums
+use Rattle.papaya_finishes.specs.Given.TablesDeclared.node.Node.{Node}
+use Rattle.papaya_finishes.proofs.Given.RuleWorld.RootSpared.{IsNoRoot}
 use Rattle.papaya_maps.proofs.Reserves.CopiersOn.{PromotesNone}
 use Rattle.papaya_maps.proofs.Reserves.PlansLeave.{WritesNoRoot, no_root_as}
 

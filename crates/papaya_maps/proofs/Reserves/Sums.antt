@@ -2,22 +2,22 @@
 use Rattle.std.specs.Prelude.{◌≡◌, ℕ, suc, ◌+◌, ◌-◌, ◌%◌, ◌^◌, ◌<◌, ◌≤◌, false, nat_lt, Some}
 use Rattle.std.proofs.Common.{refl, ap, sym, subst, ◌∙◌, arith, inl, inr}
 use Rattle.std.proofs.lemmas.Bool.{ltb-true}
-use Rattle.papaya_finishes.specs.Given.SeizeWords.declared.at.At.TheVariants.{Word}
-use Rattle.papaya_finishes.specs.Given.SeizeWords.Mem.{Mem, Took, word_at, value_at}
-use Rattle.papaya_finishes.specs.Given.SeizeWords.Plan.{Steps}
-use Rattle.papaya_finishes.proofs.Given.SeizeWords.OneOwner.Operations.{loaded}
-use Rattle.papaya_finishes.proofs.Given.SeizeWords.Plans.{ends_if}
-use Rattle.papaya_finishes.specs.Given.Seize.declared.progress.Progress.{Progress}
-use Rattle.papaya_finishes.specs.Given.Seize.declared.progress.Progress.TheVariants as progress
-use Rattle.papaya_finishes.specs.Given.Tables.Counts.{count_in}
-use Rattle.papaya_finishes.specs.Given.Resize.Sum.{sum_plan, added, plan_at as sum_at}
-use Rattle.papaya_finishes.specs.Given.Tables.declared.setting.Setting.{Setting}
-use Rattle.papaya_finishes.specs.Given.Resize.declared.sum.Sum.{Sum}
-use Rattle.papaya_finishes.specs.Given.Resize.declared.sum.Summing.{Summing}
-use Rattle.papaya_finishes.specs.Given.Resize.declared.sum.Summing.TheVariants as sums
-use Rattle.papaya_finishes.specs.Given.Points.FactsTables.{CountsShards}
-use Rattle.papaya_finishes.specs.Given.Alone.Counting.{count_ahead, number_in, shards_sum}
-use Rattle.papaya_finishes.proofs.Given.Alone.Shards.Sums.{total_more}
+use Rattle.papaya_finishes.specs.Given.SeizeWordsDeclared.at.At.TheVariants.{Word}
+use Rattle.papaya_finishes.specs.Given.SeizeWordsMem.{Mem, Took, word_at, value_at}
+use Rattle.papaya_finishes.specs.Given.SeizeWordsPlan.{Steps}
+use Rattle.papaya_finishes.proofs.Given.SeizeWordsOneOwner.Operations.{loaded}
+use Rattle.papaya_finishes.proofs.Given.SeizeWordsPlans.{ends_if}
+use Rattle.papaya_finishes.specs.Given.SeizeDeclared.progress.Progress.{Progress}
+use Rattle.papaya_finishes.specs.Given.SeizeDeclared.progress.Progress.TheVariants as progress
+use Rattle.papaya_finishes.specs.Given.TablesCounts.{count_in}
+use Rattle.papaya_finishes.specs.Given.ResizeSum.{sum_plan, added, plan_at as sum_at}
+use Rattle.papaya_finishes.specs.Given.TablesDeclared.setting.Setting.{Setting}
+use Rattle.papaya_finishes.specs.Given.ResizeDeclared.sum.Sum.{Sum}
+use Rattle.papaya_finishes.specs.Given.ResizeDeclared.sum.Summing.{Summing}
+use Rattle.papaya_finishes.specs.Given.ResizeDeclared.sum.Summing.TheVariants as sums
+use Rattle.papaya_finishes.specs.Given.PointsFactsTables.{CountsShards}
+use Rattle.papaya_finishes.specs.Given.AloneCounting.{count_ahead, number_in, shards_sum}
+use Rattle.papaya_finishes.proofs.Given.AloneShards.Sums.{total_more}
 
 -- a remainder of a part
 mod_part : (a b : ℕ) → (a % 2 ^ 64 + b) % 2 ^ 64 ≡ (a + b) % 2 ^ 64

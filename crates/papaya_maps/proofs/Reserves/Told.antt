@@ -2,50 +2,50 @@
 use Rattle.std.specs.Prelude.{◌^◌, nat_lt, slice_get, List, if◌then◌else◌}
 use Rattle.std.proofs.lemmas.Bool.{eq-eqb}
 use Rattle.std.proofs.Common.{◌≡◌, ◌≢◌, ℕ, zero, suc, ◌*◌, ◌<◌, ◌≤◌, Bool, true, false, cond, Some, inl, inr, refl, arith, ap, sym, subst, ◌∙◌}
-use Rattle.papaya_finishes.specs.Given.SeizeWords.declared.fault.Fault.TheVariants.{Capacity}
-use Rattle.papaya_finishes.specs.Given.SeizeWords.declared.at.At.TheVariants.{Root}
-use Rattle.papaya_finishes.specs.Given.SeizeWords.Mem.{Mem, value_at, word_at, Took}
-use Rattle.papaya_finishes.specs.Given.SeizeWords.Plan.{Steps}
-use Rattle.papaya_finishes.proofs.Given.SeizeWords.OneOwner.Operations.{loaded, exchanged}
-use Rattle.papaya_finishes.proofs.Given.SeizeRule.Rows.Leaving.{steps_back}
-use Rattle.papaya_finishes.specs.Given.Seize.World.{World}
-use Rattle.papaya_finishes.specs.Given.Seize.declared.progress.Progress.{Progress}
-use Rattle.papaya_finishes.specs.Given.Seize.declared.progress.Progress.TheVariants as progress
-use Rattle.papaya_finishes.specs.Given.Tables.Chunks.{is_incremental}
-use Rattle.papaya_finishes.specs.Given.Resize.Copier.{copier_plan}
-use Rattle.papaya_finishes.specs.Given.Resize.CopierStates.{copying_all, resting}
-use Rattle.papaya_finishes.specs.Given.Resize.NewTable as new
-use Rattle.papaya_finishes.specs.Given.Reserves.Reserve.{standing, counting, copying, needed, refusing, summed, made, grown, copied, root_read, next_read, plan_at}
-use Rattle.papaya_finishes.specs.Given.Resize.Sum.{sum_plan}
-use Rattle.papaya_finishes.specs.Given.Tables.TablePlaces.{at_word}
-use Rattle.papaya_finishes.specs.Given.Resize.declared.new_table.Making.{Making}
-use Rattle.papaya_finishes.specs.Given.Resize.declared.new_table.Making.TheVariants as makes
-use Rattle.papaya_finishes.specs.Given.Tables.declared.node.Node.{Node}
-use Rattle.papaya_finishes.specs.Given.Resize.declared.outcome.Outcome.{Outcome}
-use Rattle.papaya_finishes.specs.Given.Resize.declared.outcome.Outcome.TheVariants as outcome
-use Rattle.papaya_finishes.specs.Given.Tables.declared.setting.Setting.{Setting}
-use Rattle.papaya_finishes.specs.Given.Tables.declared.table.Table.{Table}
-use Rattle.papaya_finishes.specs.Given.Tables.declared.table_words.TheConstants.{NEXT}
-use Rattle.papaya_finishes.specs.Given.Resize.declared.copier.Copier.{Copier}
-use Rattle.papaya_finishes.specs.Given.Resize.declared.copier.Copying.TheVariants as copies
-use Rattle.papaya_finishes.specs.Given.Resize.declared.new_table.NewTable.{NewTable}
-use Rattle.papaya_finishes.specs.Given.Resize.declared.sum.Sum.{Sum}
-use Rattle.papaya_finishes.specs.Given.Reserves.declared.reserve.Reserve.{Reserve}
-use Rattle.papaya_finishes.specs.Given.Reserves.declared.reserve.Reserving.{Reserving}
-use Rattle.papaya_finishes.specs.Given.Reserves.declared.reserve.Reserving.TheVariants as at
-use Rattle.papaya_finishes.specs.Given.Rule.Chart.{Chart}
-use Rattle.papaya_finishes.specs.Given.Rule.Lasts.{Lasts}
-use Rattle.papaya_finishes.specs.Given.Rule.Words.{Blocks}
-use Rattle.papaya_finishes.specs.Given.Rule.Maps.{spot_of, IsTable}
-use Rattle.papaya_finishes.specs.Given.Rule.InWorld.{Moved, SameBlocks, IsMapIn}
-use Rattle.papaya_finishes.specs.Given.Points.FactsCopies.{CopierFacts}
-use Rattle.papaya_finishes.specs.Given.Points.FactsCopiesBlocking.{CopierFactsBlocking}
-use Rattle.papaya_finishes.proofs.Given.Rule.Words.LinksRead.{link_ends}
-use Rattle.papaya_finishes.proofs.Given.Rule.Words.LinksSeen.{root_leads, next_leads}
-use Rattle.papaya_finishes.specs.Given.Late.FactsReserves.{IsEnding, CopiesWhole, ReservingFacts, ReserveFacts}
-use Rattle.papaya_finishes.specs.Given.Late.ToldReserves.{ReserveAfter, IsRowOfReserve}
+use Rattle.papaya_finishes.specs.Given.SeizeWordsDeclared.fault.Fault.TheVariants.{Capacity}
+use Rattle.papaya_finishes.specs.Given.SeizeWordsDeclared.at.At.TheVariants.{Root}
+use Rattle.papaya_finishes.specs.Given.SeizeWordsMem.{Mem, value_at, word_at, Took}
+use Rattle.papaya_finishes.specs.Given.SeizeWordsPlan.{Steps}
+use Rattle.papaya_finishes.proofs.Given.SeizeWordsOneOwner.Operations.{loaded, exchanged}
+use Rattle.papaya_finishes.proofs.Given.SeizeRuleRows.Leaving.{steps_back}
+use Rattle.papaya_finishes.specs.Given.SeizeWorld.{World}
+use Rattle.papaya_finishes.specs.Given.SeizeDeclared.progress.Progress.{Progress}
+use Rattle.papaya_finishes.specs.Given.SeizeDeclared.progress.Progress.TheVariants as progress
+use Rattle.papaya_finishes.specs.Given.TablesChunks.{is_incremental}
+use Rattle.papaya_finishes.specs.Given.ResizeCopier.{copier_plan}
+use Rattle.papaya_finishes.specs.Given.ResizeCopierStates.{copying_all, resting}
+use Rattle.papaya_finishes.specs.Given.ResizeNewTable as new
+use Rattle.papaya_finishes.specs.Given.ReservesReserve.{standing, counting, copying, needed, refusing, summed, made, grown, copied, root_read, next_read, plan_at}
+use Rattle.papaya_finishes.specs.Given.ResizeSum.{sum_plan}
+use Rattle.papaya_finishes.specs.Given.TablesTablePlaces.{at_word}
+use Rattle.papaya_finishes.specs.Given.ResizeDeclared.new_table.Making.{Making}
+use Rattle.papaya_finishes.specs.Given.ResizeDeclared.new_table.Making.TheVariants as makes
+use Rattle.papaya_finishes.specs.Given.TablesDeclared.node.Node.{Node}
+use Rattle.papaya_finishes.specs.Given.ResizeDeclared.outcome.Outcome.{Outcome}
+use Rattle.papaya_finishes.specs.Given.ResizeDeclared.outcome.Outcome.TheVariants as outcome
+use Rattle.papaya_finishes.specs.Given.TablesDeclared.setting.Setting.{Setting}
+use Rattle.papaya_finishes.specs.Given.TablesDeclared.table.Table.{Table}
+use Rattle.papaya_finishes.specs.Given.TablesDeclared.table_words.TheConstants.{NEXT}
+use Rattle.papaya_finishes.specs.Given.ResizeDeclared.copier.Copier.{Copier}
+use Rattle.papaya_finishes.specs.Given.ResizeDeclared.copier.Copying.TheVariants as copies
+use Rattle.papaya_finishes.specs.Given.ResizeDeclared.new_table.NewTable.{NewTable}
+use Rattle.papaya_finishes.specs.Given.ResizeDeclared.sum.Sum.{Sum}
+use Rattle.papaya_finishes.specs.Given.ReservesDeclared.reserve.Reserve.{Reserve}
+use Rattle.papaya_finishes.specs.Given.ReservesDeclared.reserve.Reserving.{Reserving}
+use Rattle.papaya_finishes.specs.Given.ReservesDeclared.reserve.Reserving.TheVariants as at
+use Rattle.papaya_finishes.specs.Given.RuleChart.{Chart}
+use Rattle.papaya_finishes.specs.Given.RuleLasts.{Lasts}
+use Rattle.papaya_finishes.specs.Given.RuleWords.{Blocks}
+use Rattle.papaya_finishes.specs.Given.RuleMaps.{spot_of, IsTable}
+use Rattle.papaya_finishes.specs.Given.RuleInWorld.{Moved, SameBlocks, IsMapIn}
+use Rattle.papaya_finishes.specs.Given.PointsFactsCopies.{CopierFacts}
+use Rattle.papaya_finishes.specs.Given.PointsFactsCopiesBlocking.{CopierFactsBlocking}
+use Rattle.papaya_finishes.proofs.Given.RuleWords.LinksRead.{link_ends}
+use Rattle.papaya_finishes.proofs.Given.RuleWords.LinksSeen.{root_leads, next_leads}
+use Rattle.papaya_finishes.specs.Given.LateFactsReserves.{IsEnding, CopiesWhole, ReservingFacts, ReserveFacts}
+use Rattle.papaya_finishes.specs.Given.LateToldReserves.{ReserveAfter, IsRowOfReserve}
 use Rattle.papaya_maps.specs.AloneReserves.{RetiresFrom, IsNear, ReservingAlone}
-use Rattle.papaya_finishes.proofs.Given.Callers.Rows.Known.{moved_makes}
+use Rattle.papaya_finishes.proofs.Given.CallersRows.Known.{moved_makes}
 use Rattle.papaya_maps.proofs.Reserves.PlansLeave.{plan_roots, no_root_as}
 use Rattle.papaya_maps.proofs.Reserves.Knows.{knows_tables, copier_setting}
 use Rattle.papaya_maps.proofs.Reserves.Left.{CopiesTo}

@@ -1,9 +1,9 @@
 -- Where one caller alone may have a part in a copying, and has none, no pair is on its way in incremental mode.
 use Rattle.std.proofs.Common.{◌≡◌, ◌≢◌, ℕ, suc, ◌<◌, ◌≤◌, Bool, true, false, cond, ◌⊎◌, inl, inr, refl, ap}
 use Rattle.std.proofs.lemmas.Bool.{cases_lt}
-use Rattle.papaya_finishes.specs.Given.Rule.Chart.{Chart, Copying, Empty, Holds, Claimed, is_marked, is_settled}
-use Rattle.papaya_finishes.specs.Given.Rule.Rule.{Rule}
-use Rattle.papaya_finishes.specs.Given.Points.Measures.{OthersIdle}
+use Rattle.papaya_finishes.specs.Given.RuleChart.{Chart, Copying, Empty, Holds, Claimed, is_marked, is_settled}
+use Rattle.papaya_finishes.specs.Given.RuleRule.{Rule}
+use Rattle.papaya_finishes.specs.Given.PointsMeasures.{OthersIdle}
 use Rattle.papaya_maps.proofs.Laws.{marked_is_settled_or_own}
 
 module _ {K : Type 0} (same : K → K → Bool) (spot : ℕ → K → ℕ → ℕ) (c : Chart K) (idle : OthersIdle 0 c) where

@@ -2,18 +2,18 @@
 use Rattle.std.specs.Prelude.{◌≡◌, ◌==◌, ℕ, true, false, List, [], Some, None, if◌then◌else◌}
 use Rattle.std.specs.List.{AllByRecursion, list_any}
 use Rattle.std.proofs.Common.{arith}
-use Rattle.papaya_deeds.specs.Given.Runs.Same.{is_same}
-use Rattle.papaya_deeds.specs.Given.Schedules.declared.call.Call.{Call}
-use Rattle.papaya_deeds.specs.Given.Schedules.declared.call.Reply.{Reply}
-use Rattle.papaya_deeds.specs.Given.Schedules.declared.event.Event.{Event}
-use Rattle.papaya_deeds.specs.Given.Schedules.declared.event.Event.TheVariants as event
-use Rattle.papaya_deeds.specs.Given.Schedules.declared.outcome.Outcome.{Outcome}
-use Rattle.papaya_deeds.specs.Given.Schedules.declared.outcome.Outcome.TheVariants as outcome
-use Rattle.papaya_deeds.specs.Given.Schedules.After.{after, stepped, without_call}
-use Rattle.papaya_deeds.specs.Given.Schedules.Beginning.{with_call}
-use Rattle.papaya_deeds.specs.Given.Schedules.Entry.{Entry, ends_call}
-use Rattle.papaya_deeds.specs.Given.Schedules.Moment.{MapThere, Moment, TableThere, UnderWay as CallThere}
-use Rattle.papaya_deeds.specs.Given.Schedules.Reclaims.{is_kept}
+use Rattle.papaya_deeds.specs.Given.RunsSame.{is_same}
+use Rattle.papaya_deeds.specs.Given.SchedulesDeclared.call.Call.{Call}
+use Rattle.papaya_deeds.specs.Given.SchedulesDeclared.call.Reply.{Reply}
+use Rattle.papaya_deeds.specs.Given.SchedulesDeclared.event.Event.{Event}
+use Rattle.papaya_deeds.specs.Given.SchedulesDeclared.event.Event.TheVariants as event
+use Rattle.papaya_deeds.specs.Given.SchedulesDeclared.outcome.Outcome.{Outcome}
+use Rattle.papaya_deeds.specs.Given.SchedulesDeclared.outcome.Outcome.TheVariants as outcome
+use Rattle.papaya_deeds.specs.Given.SchedulesAfter.{after, stepped, without_call}
+use Rattle.papaya_deeds.specs.Given.SchedulesBeginning.{with_call}
+use Rattle.papaya_deeds.specs.Given.SchedulesEntry.{Entry, ends_call}
+use Rattle.papaya_deeds.specs.Given.SchedulesMoment.{MapThere, Moment, TableThere, UnderWay as CallThere}
+use Rattle.papaya_deeds.specs.Given.SchedulesReclaims.{is_kept}
 use Rattle.papaya_swept.specs.Given.FindsEvents.{EndedOwesNone}
 use Rattle.papaya_swept.specs.Given.FindsTables.{TablesAreInOrder}
 use Rattle.papaya_swept.specs.Given.FindsWaiting.{PairsArePlaced}

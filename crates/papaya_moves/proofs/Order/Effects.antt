@@ -3,17 +3,17 @@ use Rattle.std.specs.Prelude.{◌≡◌, ◌<◌, ◌==◌, ℕ, nat_le, Bool, t
 use Rattle.std.specs.List.{AllByRecursion, list_all, list_any}
 use Rattle.std.proofs.Common.{refl, ap, sym, subst, ◌∙◌}
 use Rattle.std.proofs.lemmas.Bool.{and_from, and_parts}
-use Rattle.papaya_deeds.specs.Given.Schedules.declared.effect.Effect.{Effect}
-use Rattle.papaya_deeds.specs.Given.Schedules.declared.effect.Effect.TheVariants as effect
-use Rattle.papaya_deeds.specs.Given.Schedules.declared.effect.Table.{Table}
-use Rattle.papaya_deeds.specs.Given.Schedules.Effects.{AtEachEffect, with_effects}
-use Rattle.papaya_deeds.specs.Given.Schedules.Handing.{asks_for_bucket}
-use Rattle.papaya_deeds.specs.Given.Schedules.InTurn.{is_growth}
-use Rattle.papaya_deeds.specs.Given.Schedules.Lives.{EventFinds}
-use Rattle.papaya_deeds.specs.Given.Schedules.Moment.{Moment, TableThere}
-use Rattle.papaya_deeds.specs.Given.Schedules.Terms.{Terms}
-use Rattle.papaya_deeds.specs.Given.Schedules.Things.{same_table}
-use Rattle.papaya_deeds.specs.Given.Schedules.Views.{chain_of, first_of, is_linked, is_stage, tables_of}
+use Rattle.papaya_deeds.specs.Given.SchedulesDeclared.effect.Effect.{Effect}
+use Rattle.papaya_deeds.specs.Given.SchedulesDeclared.effect.Effect.TheVariants as effect
+use Rattle.papaya_deeds.specs.Given.SchedulesDeclared.effect.Table.{Table}
+use Rattle.papaya_deeds.specs.Given.SchedulesEffects.{AtEachEffect, with_effects}
+use Rattle.papaya_deeds.specs.Given.SchedulesHanding.{asks_for_bucket}
+use Rattle.papaya_deeds.specs.Given.SchedulesInTurn.{is_growth}
+use Rattle.papaya_deeds.specs.Given.SchedulesLives.{EventFinds}
+use Rattle.papaya_deeds.specs.Given.SchedulesMoment.{Moment, TableThere}
+use Rattle.papaya_deeds.specs.Given.SchedulesTerms.{Terms}
+use Rattle.papaya_deeds.specs.Given.SchedulesThings.{same_table}
+use Rattle.papaya_deeds.specs.Given.SchedulesViews.{chain_of, first_of, is_linked, is_stage, tables_of}
 use Rattle.papaya_swept.specs.Given.FindsLife.{StoresOne}
 use Rattle.papaya_swept.specs.Given.FindsWithin.{AllIsInOrder, HasItsMap}
 use Rattle.papaya_swept.proofs.Given.LegalGrowths.{growths_leave}

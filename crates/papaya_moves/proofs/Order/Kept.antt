@@ -4,21 +4,21 @@ use Rattle.std.specs.List.{AllByRecursion}
 use Rattle.std.proofs.Common.{refl, ap, sym, subst, ◌∙◌}
 use Rattle.seize_acts.proofs.Answers.{same_some}
 use Rattle.papaya_swept.proofs.Given.LateKindsKept.Laws.{told_sweeps_refuse_room}
-use Rattle.seize_acts.specs.Given.Seize.World.{Step}
-use Rattle.seize_acts.specs.Given.Seize.declared.progress.Progress.{Progress as Making}
-use Rattle.seize_acts.specs.Given.Seize.declared.progress.Progress.TheVariants as making
-use Rattle.papaya_deeds.specs.Given.Tables.declared.setting.Setting.{Setting}
-use Rattle.papaya_deeds.specs.Given.Schedules.declared.outcome.Outcome.{Outcome}
-use Rattle.papaya_deeds.specs.Given.Schedules.declared.outcome.Outcome.TheVariants as outcome
-use Rattle.papaya_deeds.specs.Given.Raw.Machine.{machine_asked}
-use Rattle.papaya_deeds.specs.Given.Schedules.declared.effect.Effect.{Effect}
-use Rattle.papaya_deeds.specs.Given.Schedules.Beginning.{fresh_call}
-use Rattle.papaya_deeds.specs.Given.Schedules.After.{replied}
-use Rattle.papaya_deeds.specs.Given.Schedules.Effects.{with_effects}
-use Rattle.papaya_deeds.specs.Given.Schedules.Entry.{IfCall, ends_call}
-use Rattle.papaya_deeds.specs.Given.Schedules.Moment.{MapThere, Moment, UnderWay as CallThere}
-use Rattle.papaya_deeds.specs.Given.Schedules.Terms.{Terms}
-use Rattle.papaya_deeds.specs.Given.Schedules.Views.{call_of}
+use Rattle.seize_acts.specs.Given.SeizeWorld.{Step}
+use Rattle.seize_acts.specs.Given.SeizeDeclared.progress.Progress.{Progress as Making}
+use Rattle.seize_acts.specs.Given.SeizeDeclared.progress.Progress.TheVariants as making
+use Rattle.papaya_deeds.specs.Given.TablesDeclared.setting.Setting.{Setting}
+use Rattle.papaya_deeds.specs.Given.SchedulesDeclared.outcome.Outcome.{Outcome}
+use Rattle.papaya_deeds.specs.Given.SchedulesDeclared.outcome.Outcome.TheVariants as outcome
+use Rattle.papaya_deeds.specs.Given.RawMachine.{machine_asked}
+use Rattle.papaya_deeds.specs.Given.SchedulesDeclared.effect.Effect.{Effect}
+use Rattle.papaya_deeds.specs.Given.SchedulesBeginning.{fresh_call}
+use Rattle.papaya_deeds.specs.Given.SchedulesAfter.{replied}
+use Rattle.papaya_deeds.specs.Given.SchedulesEffects.{with_effects}
+use Rattle.papaya_deeds.specs.Given.SchedulesEntry.{IfCall, ends_call}
+use Rattle.papaya_deeds.specs.Given.SchedulesMoment.{MapThere, Moment, UnderWay as CallThere}
+use Rattle.papaya_deeds.specs.Given.SchedulesTerms.{Terms}
+use Rattle.papaya_deeds.specs.Given.SchedulesViews.{call_of}
 use Rattle.papaya_grouped.specs.Given.CallersTogether.{OverAll, UnderWay}
 use Rattle.papaya_grouped.specs.Given.EffectsEffects.{effects_of, known_after}
 use Rattle.papaya_grouped.specs.Given.EffectsKnown.{Known}

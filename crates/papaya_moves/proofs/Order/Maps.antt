@@ -5,12 +5,12 @@ use Rattle.std.proofs.Common.{refl, ap, sym, subst, ◌∙◌, arith}
 use Rattle.std.proofs.lemmas.Bool.{and_parts, eq-eqb, leb-true, le-leb, or_left}
 use Rattle.std.proofs.lemmas.List.Elements.{All-from_recursion, recursion_from_All}
 use Rattle.std.proofs.lemmas.List.Folds.{list_any-append}
-use Rattle.papaya_deeds.specs.Given.Runs.Same.{is_same}
-use Rattle.papaya_deeds.specs.Given.Schedules.Moment.{InMap, MapThere, Moment, TableThere, UnderWay as CallThere}
-use Rattle.papaya_deeds.specs.Given.Schedules.Reclaims.{is_kept}
-use Rattle.papaya_deeds.specs.Given.Schedules.Things.{same_table}
-use Rattle.papaya_deeds.specs.Given.Schedules.Views.{first_of, first_or, is_linked, map_at, tables_of}
-use Rattle.papaya_deeds.specs.Given.Schedules.Beginning.{with_map}
+use Rattle.papaya_deeds.specs.Given.RunsSame.{is_same}
+use Rattle.papaya_deeds.specs.Given.SchedulesMoment.{InMap, MapThere, Moment, TableThere, UnderWay as CallThere}
+use Rattle.papaya_deeds.specs.Given.SchedulesReclaims.{is_kept}
+use Rattle.papaya_deeds.specs.Given.SchedulesThings.{same_table}
+use Rattle.papaya_deeds.specs.Given.SchedulesViews.{first_of, first_or, is_linked, map_at, tables_of}
+use Rattle.papaya_deeds.specs.Given.SchedulesBeginning.{with_map}
 use Rattle.papaya_swept.specs.Given.FindsTables.{TablesAreInOrder}
 use Rattle.papaya_swept.specs.Given.FindsWaiting.{PairsArePlaced}
 use Rattle.papaya_swept.specs.Given.FindsWithin.{AllIsInOrder, HasItsMap, many_of}

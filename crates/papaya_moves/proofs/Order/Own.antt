@@ -1,8 +1,8 @@
 -- Steps, replies and ends of calls find the calls that they are of; and what rows do is of no call.
 use Rattle.std.specs.Prelude.{◌≡◌, ℕ, true, List, Some}
-use Rattle.papaya_deeds.specs.Given.Runs.Same.{is_same}
-use Rattle.papaya_deeds.specs.Given.Schedules.Moment.{UnderWay as CallThere}
-use Rattle.papaya_deeds.specs.Given.Schedules.Views.{call_of}
+use Rattle.papaya_deeds.specs.Given.RunsSame.{is_same}
+use Rattle.papaya_deeds.specs.Given.SchedulesMoment.{UnderWay as CallThere}
+use Rattle.papaya_deeds.specs.Given.SchedulesViews.{call_of}
 use Rattle.papaya_swept.proofs.Given.FindsGrown.{found_any}
 use Rattle.papaya_deeds.specs.Deeds.{Deed, Entry, Leaves, Opens, ReclaimsAll, Registers, Shuts, Tends, moment, named}
 use Rattle.papaya_swept.proofs.Given.LinearRowsPlayed.{IsOfRow}

@@ -3,16 +3,16 @@ use Rattle.std.specs.Prelude.{◌≡◌, ℕ, Bool, true, false, List, [], Optio
 use Rattle.std.proofs.Common.{refl, ap, sym, ◌∙◌, inl, inr}
 use Rattle.papaya_swept.specs.Given.LateFaults.{RoomInSweeping}
 use Rattle.papaya_swept.proofs.Given.LateKindsKept.Laws.{told_sweeps_refuse_room}
-use Rattle.papaya_deeds.specs.Given.Tables.declared.node.Node.{Node}
-use Rattle.papaya_deeds.specs.Given.Sweeps.declared.sweep.Sweeping.{Sweeping}
-use Rattle.papaya_deeds.specs.Given.Sweeps.declared.sweep.Sweeping.TheVariants as sweeping
-use Rattle.papaya_deeds.specs.Given.Raw.Machine.{machine_asked, machine_replied, sweep_told}
-use Rattle.papaya_deeds.specs.Given.Raw.declared.machines.asking.Reply.{Reply as MachineReply}
-use Rattle.papaya_deeds.specs.Given.Raw.declared.machines.asking.Reply.TheVariants as reply
-use Rattle.papaya_deeds.specs.Given.Raw.declared.machines.machine.Machine.{Machine}
-use Rattle.papaya_deeds.specs.Given.Raw.declared.machines.machine.Machine.TheVariants as kinds
-use Rattle.papaya_deeds.specs.Given.Raw.declared.machines.progress.Progress.{Progress}
-use Rattle.papaya_deeds.specs.Given.Raw.declared.machines.progress.Progress.TheVariants as progress
+use Rattle.papaya_deeds.specs.Given.TablesDeclared.node.Node.{Node}
+use Rattle.papaya_deeds.specs.Given.SweepsDeclared.sweep.Sweeping.{Sweeping}
+use Rattle.papaya_deeds.specs.Given.SweepsDeclared.sweep.Sweeping.TheVariants as sweeping
+use Rattle.papaya_deeds.specs.Given.RawMachine.{machine_asked, machine_replied, sweep_told}
+use Rattle.papaya_deeds.specs.Given.RawDeclared.machines.asking.Reply.{Reply as MachineReply}
+use Rattle.papaya_deeds.specs.Given.RawDeclared.machines.asking.Reply.TheVariants as reply
+use Rattle.papaya_deeds.specs.Given.RawDeclared.machines.machine.Machine.{Machine}
+use Rattle.papaya_deeds.specs.Given.RawDeclared.machines.machine.Machine.TheVariants as kinds
+use Rattle.papaya_deeds.specs.Given.RawDeclared.machines.progress.Progress.{Progress}
+use Rattle.papaya_deeds.specs.Given.RawDeclared.machines.progress.Progress.TheVariants as progress
 use Rattle.papaya_grouped.specs.Given.CallersTogether.{UnderWay}
 use Rattle.papaya_grouped.specs.Given.EffectsKnown.{Known}
 use Rattle.papaya_grouped.specs.Given.FinishesMachines.{GoesOnAs, machine_of}

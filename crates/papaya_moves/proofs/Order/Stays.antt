@@ -3,23 +3,23 @@ use Rattle.std.specs.Prelude.{◌≡◌, ◌≢◌, ◌==◌, ◌≤◌, ◌<◌
 use Rattle.std.specs.List.{AllByRecursion, list_any}
 use Rattle.std.proofs.Common.{refl, ap, sym, subst, ◌∙◌, arith}
 use Rattle.std.proofs.lemmas.Bool.{eq-eqb}
-use Rattle.papaya_deeds.specs.Given.Runs.Same.{is_same}
-use Rattle.papaya_deeds.specs.Given.Tables.declared.resize_mode.ResizeMode.{ResizeMode}
-use Rattle.papaya_deeds.specs.Given.Schedules.declared.call.Call.{Call}
-use Rattle.papaya_deeds.specs.Given.Schedules.declared.call.Reply.{Reply}
-use Rattle.papaya_deeds.specs.Given.Schedules.declared.effect.Effect.{Effect}
-use Rattle.papaya_deeds.specs.Given.Schedules.declared.event.Event.TheVariants as event
-use Rattle.papaya_deeds.specs.Given.Schedules.declared.outcome.Outcome.{Outcome}
-use Rattle.papaya_deeds.specs.Given.Schedules.declared.outcome.Outcome.TheVariants as outcome
-use Rattle.papaya_deeds.specs.Given.Schedules.After.{stepped, without_call, after as after_event}
-use Rattle.papaya_deeds.specs.Given.Schedules.Beginning.{with_call}
-use Rattle.papaya_deeds.specs.Given.Schedules.Effects.{with_effects}
-use Rattle.papaya_deeds.specs.Given.Schedules.Entry.{IfCall}
-use Rattle.papaya_deeds.specs.Given.Schedules.Handing.{moments_since}
-use Rattle.papaya_deeds.specs.Given.Schedules.Lives.{EventFinds, Finds}
-use Rattle.papaya_deeds.specs.Given.Schedules.Moment.{InMap, MapThere, Moment, Place, TableThere, UnderWay as CallThere}
-use Rattle.papaya_deeds.specs.Given.Schedules.Terms.{Terms}
-use Rattle.papaya_deeds.specs.Given.Schedules.Views.{call_of, first_of, is_in_map, is_linked, map_at}
+use Rattle.papaya_deeds.specs.Given.RunsSame.{is_same}
+use Rattle.papaya_deeds.specs.Given.TablesDeclared.resize_mode.ResizeMode.{ResizeMode}
+use Rattle.papaya_deeds.specs.Given.SchedulesDeclared.call.Call.{Call}
+use Rattle.papaya_deeds.specs.Given.SchedulesDeclared.call.Reply.{Reply}
+use Rattle.papaya_deeds.specs.Given.SchedulesDeclared.effect.Effect.{Effect}
+use Rattle.papaya_deeds.specs.Given.SchedulesDeclared.event.Event.TheVariants as event
+use Rattle.papaya_deeds.specs.Given.SchedulesDeclared.outcome.Outcome.{Outcome}
+use Rattle.papaya_deeds.specs.Given.SchedulesDeclared.outcome.Outcome.TheVariants as outcome
+use Rattle.papaya_deeds.specs.Given.SchedulesAfter.{stepped, without_call, after as after_event}
+use Rattle.papaya_deeds.specs.Given.SchedulesBeginning.{with_call}
+use Rattle.papaya_deeds.specs.Given.SchedulesEffects.{with_effects}
+use Rattle.papaya_deeds.specs.Given.SchedulesEntry.{IfCall}
+use Rattle.papaya_deeds.specs.Given.SchedulesHanding.{moments_since}
+use Rattle.papaya_deeds.specs.Given.SchedulesLives.{EventFinds, Finds}
+use Rattle.papaya_deeds.specs.Given.SchedulesMoment.{InMap, MapThere, Moment, Place, TableThere, UnderWay as CallThere}
+use Rattle.papaya_deeds.specs.Given.SchedulesTerms.{Terms}
+use Rattle.papaya_deeds.specs.Given.SchedulesViews.{call_of, first_of, is_in_map, is_linked, map_at}
 use Rattle.papaya_swept.specs.Given.FindsLife.{StoresOne}
 use Rattle.papaya_swept.specs.Given.FindsWaiting.{is_unborn}
 use Rattle.papaya_swept.specs.Given.FindsWithin.{ActsOn, AllIsInOrder, many_of}

@@ -3,13 +3,13 @@ use Rattle.std.specs.Prelude.{◌≡◌, ◌+◌, ℕ, Bool, true, false, not, L
 use Rattle.std.specs.List.{AllByRecursion, list_any}
 use Rattle.std.proofs.Common.{refl, ap, sym, ◌∙◌, inl, inr}
 use Rattle.std.proofs.lemmas.Bool.{cases_eq}
-use Rattle.papaya_deeds.specs.Given.Runs.Same.{is_same}
-use Rattle.papaya_deeds.specs.Given.Schedules.declared.effect.Effect.{Effect}
-use Rattle.papaya_deeds.specs.Given.Schedules.declared.outcome.Outcome.{Outcome}
-use Rattle.papaya_deeds.specs.Given.Schedules.After.{comes_to, stepped, without_call}
-use Rattle.papaya_deeds.specs.Given.Schedules.Effects.{call_by, calls_by, with_effect, with_effects}
-use Rattle.papaya_deeds.specs.Given.Schedules.Entry.{ends_call}
-use Rattle.papaya_deeds.specs.Given.Schedules.Moment.{Moment, UnderWay as CallThere}
+use Rattle.papaya_deeds.specs.Given.RunsSame.{is_same}
+use Rattle.papaya_deeds.specs.Given.SchedulesDeclared.effect.Effect.{Effect}
+use Rattle.papaya_deeds.specs.Given.SchedulesDeclared.outcome.Outcome.{Outcome}
+use Rattle.papaya_deeds.specs.Given.SchedulesAfter.{comes_to, stepped, without_call}
+use Rattle.papaya_deeds.specs.Given.SchedulesEffects.{call_by, calls_by, with_effect, with_effects}
+use Rattle.papaya_deeds.specs.Given.SchedulesEntry.{ends_call}
+use Rattle.papaya_deeds.specs.Given.SchedulesMoment.{Moment, UnderWay as CallThere}
 use Rattle.papaya_grouped.specs.Given.CallersTogether.{UnderWay}
 use Rattle.papaya_grouped.specs.Given.FinishesMaps.{with_call}
 use Rattle.papaya_grouped.specs.Given.FollowsCalling.{NoneNamed}

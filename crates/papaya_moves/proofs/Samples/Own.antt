@@ -1,11 +1,11 @@
 -- Whose call an entry is of: one that is looked up and answered; and wrong histories, each refused for its reason.
 use Rattle.std.specs.Prelude.{◌≡◌, ℕ, Bool, true, false, List, [], ◌∷◌}
 use Rattle.std.proofs.Common.{refl}
-use Rattle.papaya_deeds.specs.Given.Schedules.declared.call.Answer.TheVariants as answer
-use Rattle.papaya_deeds.specs.Given.Schedules.declared.call.Call.TheVariants.{On}
-use Rattle.papaya_deeds.specs.Given.Schedules.declared.call.OneKey.TheVariants.{Get}
-use Rattle.papaya_deeds.specs.Given.Schedules.declared.outcome.Outcome.{Outcome}
-use Rattle.papaya_deeds.specs.Given.Schedules.declared.outcome.Outcome.TheVariants.{Answered, Goes}
+use Rattle.papaya_deeds.specs.Given.SchedulesDeclared.call.Answer.TheVariants as answer
+use Rattle.papaya_deeds.specs.Given.SchedulesDeclared.call.Call.TheVariants.{On}
+use Rattle.papaya_deeds.specs.Given.SchedulesDeclared.call.OneKey.TheVariants.{Get}
+use Rattle.papaya_deeds.specs.Given.SchedulesDeclared.outcome.Outcome.{Outcome}
+use Rattle.papaya_deeds.specs.Given.SchedulesDeclared.outcome.Outcome.TheVariants.{Answered, Goes}
 use Rattle.papaya_deeds.specs.Deeds.{Begins, Deed, Entry, Steps}
 use Rattle.papaya_moves.specs.Own.{IsOfItsCall}
 

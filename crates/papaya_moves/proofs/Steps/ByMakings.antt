@@ -1,13 +1,13 @@
 -- What a moment shows of steps of calls it shows, too, where the making of a map begins, as its map comes, and after each of its steps.
 use Rattle.std.specs.Prelude.{◌≡◌, ◌⊎◌, ℕ, Bool, List, Option, Some, None}
 use Rattle.std.proofs.Common.{refl, ap, sym, ◌∙◌, inl, inr}
-use Rattle.seize_acts.specs.Given.Seize.declared.progress.Progress.{Progress as Making}
-use Rattle.papaya_deeds.specs.Given.Tables.declared.setting.Setting.{Setting}
-use Rattle.papaya_deeds.specs.Given.Schedules.declared.effect.Effect.{Effect}
-use Rattle.papaya_deeds.specs.Given.Schedules.Effects.{with_effects}
-use Rattle.papaya_deeds.specs.Given.Schedules.Moment.{MapThere, Moment}
-use Rattle.papaya_deeds.specs.Given.Schedules.Transition.{Past}
-use Rattle.papaya_deeds.specs.Given.Schedules.Views.{map_at}
+use Rattle.seize_acts.specs.Given.SeizeDeclared.progress.Progress.{Progress as Making}
+use Rattle.papaya_deeds.specs.Given.TablesDeclared.setting.Setting.{Setting}
+use Rattle.papaya_deeds.specs.Given.SchedulesDeclared.effect.Effect.{Effect}
+use Rattle.papaya_deeds.specs.Given.SchedulesEffects.{with_effects}
+use Rattle.papaya_deeds.specs.Given.SchedulesMoment.{MapThere, Moment}
+use Rattle.papaya_deeds.specs.Given.SchedulesTransition.{Past}
+use Rattle.papaya_deeds.specs.Given.SchedulesViews.{map_at}
 use Rattle.papaya_grouped.specs.Given.EffectsEffects.{effects_of, known_after}
 use Rattle.papaya_grouped.specs.Given.EffectsKnown.{Known}
 use Rattle.papaya_grouped.specs.Given.EffectsDeclared.acting.Acting.TheVariants as acts

@@ -2,25 +2,25 @@
 use Rattle.std.specs.Prelude.{◌≡◌, ◌+◌, ℕ, Bool, true, false, List, [], ◌∷◌, Option, Some}
 use Rattle.std.proofs.Common.{refl, ap, sym, subst, ◌∙◌, arith, inl, inr}
 use Rattle.seize_acts.proofs.Answers.{same_some}
-use Rattle.papaya_deeds.specs.Given.Tables.declared.node.Node.{Node}
-use Rattle.papaya_deeds.specs.Given.Resize.declared.new_table.NewTable.{NewTable}
-use Rattle.papaya_deeds.specs.Given.Resize.declared.sum.Sum.{Sum}
-use Rattle.papaya_deeds.specs.Given.Raw.declared.machines.progress.Progress.{Progress}
-use Rattle.papaya_deeds.specs.Given.Runs.Present.{guard_of, guards_slot_or, slot_of_guard}
-use Rattle.papaya_deeds.specs.Given.Runs.Same.{is_same}
-use Rattle.papaya_deeds.specs.Given.Schedules.declared.call.Call.{Call}
-use Rattle.papaya_deeds.specs.Given.Schedules.declared.call.Call.TheVariants as call
-use Rattle.papaya_deeds.specs.Given.Schedules.declared.effect.Effect.{Effect}
-use Rattle.papaya_deeds.specs.Given.Schedules.declared.outcome.Outcome.{Outcome}
-use Rattle.papaya_deeds.specs.Given.Schedules.Effects.{AtEachEffect}
-use Rattle.papaya_deeds.specs.Given.Schedules.Entry.{ByCall}
-use Rattle.papaya_deeds.specs.Given.Schedules.Growing.{HasNext, only_looks}
-use Rattle.papaya_deeds.specs.Given.Schedules.Handing.{moments_since}
-use Rattle.papaya_deeds.specs.Given.Schedules.Lists.{OneOf}
-use Rattle.papaya_deeds.specs.Given.Schedules.Lives.{Finds}
-use Rattle.papaya_deeds.specs.Given.Schedules.Moment.{Moment, UnderWay as CallThere}
-use Rattle.papaya_deeds.specs.Given.Schedules.Terms.{Terms, shards_of}
-use Rattle.papaya_deeds.specs.Given.Schedules.Views.{call_of}
+use Rattle.papaya_deeds.specs.Given.TablesDeclared.node.Node.{Node}
+use Rattle.papaya_deeds.specs.Given.ResizeDeclared.new_table.NewTable.{NewTable}
+use Rattle.papaya_deeds.specs.Given.ResizeDeclared.sum.Sum.{Sum}
+use Rattle.papaya_deeds.specs.Given.RawDeclared.machines.progress.Progress.{Progress}
+use Rattle.papaya_deeds.specs.Given.RunsPresent.{guard_of, guards_slot_or, slot_of_guard}
+use Rattle.papaya_deeds.specs.Given.RunsSame.{is_same}
+use Rattle.papaya_deeds.specs.Given.SchedulesDeclared.call.Call.{Call}
+use Rattle.papaya_deeds.specs.Given.SchedulesDeclared.call.Call.TheVariants as call
+use Rattle.papaya_deeds.specs.Given.SchedulesDeclared.effect.Effect.{Effect}
+use Rattle.papaya_deeds.specs.Given.SchedulesDeclared.outcome.Outcome.{Outcome}
+use Rattle.papaya_deeds.specs.Given.SchedulesEffects.{AtEachEffect}
+use Rattle.papaya_deeds.specs.Given.SchedulesEntry.{ByCall}
+use Rattle.papaya_deeds.specs.Given.SchedulesGrowing.{HasNext, only_looks}
+use Rattle.papaya_deeds.specs.Given.SchedulesHanding.{moments_since}
+use Rattle.papaya_deeds.specs.Given.SchedulesLists.{OneOf}
+use Rattle.papaya_deeds.specs.Given.SchedulesLives.{Finds}
+use Rattle.papaya_deeds.specs.Given.SchedulesMoment.{Moment, UnderWay as CallThere}
+use Rattle.papaya_deeds.specs.Given.SchedulesTerms.{Terms, shards_of}
+use Rattle.papaya_deeds.specs.Given.SchedulesViews.{call_of}
 use Rattle.papaya_grouped.specs.Given.CallersTogether.{Counting, ForRoom, OnKey, OverAll, UnderWay, UnlessCounts}
 use Rattle.papaya_grouped.specs.Given.EffectsEffects.{effects_of}
 use Rattle.papaya_grouped.specs.Given.EffectsKnown.{Known}

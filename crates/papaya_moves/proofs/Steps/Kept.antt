@@ -2,20 +2,20 @@
 use Rattle.std.specs.Prelude.{◌≡◌, ◌⊎◌, ◌<◌, ℕ, Bool, true, List, [], ◌∷◌, length, Option, Some, None}
 use Rattle.std.proofs.Common.{refl, ap, sym, subst, ◌∙◌, arith, inl, inr}
 use Rattle.seize_acts.proofs.Answers.{same_some}
-use Rattle.seize_acts.specs.Given.Seize.World.{Step}
-use Rattle.seize_acts.specs.Given.Seize.declared.progress.Progress.{Progress as Making}
-use Rattle.seize_acts.specs.Given.Seize.declared.progress.Progress.TheVariants as progress
-use Rattle.papaya_deeds.specs.Given.Tables.Lengths.{entries_of}
-use Rattle.papaya_deeds.specs.Given.Tables.declared.setting.Setting.{Setting}
-use Rattle.papaya_deeds.specs.Given.Schedules.declared.effect.Effect.{Effect}
-use Rattle.papaya_deeds.specs.Given.Schedules.declared.outcome.Outcome.{Outcome}
-use Rattle.papaya_deeds.specs.Given.Schedules.declared.outcome.Outcome.TheVariants as outcome
-use Rattle.papaya_deeds.specs.Given.Schedules.Beginning.{with_call, with_map}
-use Rattle.papaya_deeds.specs.Given.Schedules.Effects.{with_effects}
-use Rattle.papaya_deeds.specs.Given.Schedules.Growing.{Has}
-use Rattle.papaya_deeds.specs.Given.Schedules.Moment.{MapThere, Moment, UnderWay as CallThere}
-use Rattle.papaya_deeds.specs.Given.Schedules.Terms.{Terms}
-use Rattle.papaya_deeds.specs.Given.Schedules.Views.{capacity_or, map_at}
+use Rattle.seize_acts.specs.Given.SeizeWorld.{Step}
+use Rattle.seize_acts.specs.Given.SeizeDeclared.progress.Progress.{Progress as Making}
+use Rattle.seize_acts.specs.Given.SeizeDeclared.progress.Progress.TheVariants as progress
+use Rattle.papaya_deeds.specs.Given.TablesLengths.{entries_of}
+use Rattle.papaya_deeds.specs.Given.TablesDeclared.setting.Setting.{Setting}
+use Rattle.papaya_deeds.specs.Given.SchedulesDeclared.effect.Effect.{Effect}
+use Rattle.papaya_deeds.specs.Given.SchedulesDeclared.outcome.Outcome.{Outcome}
+use Rattle.papaya_deeds.specs.Given.SchedulesDeclared.outcome.Outcome.TheVariants as outcome
+use Rattle.papaya_deeds.specs.Given.SchedulesBeginning.{with_call, with_map}
+use Rattle.papaya_deeds.specs.Given.SchedulesEffects.{with_effects}
+use Rattle.papaya_deeds.specs.Given.SchedulesGrowing.{Has}
+use Rattle.papaya_deeds.specs.Given.SchedulesMoment.{MapThere, Moment, UnderWay as CallThere}
+use Rattle.papaya_deeds.specs.Given.SchedulesTerms.{Terms}
+use Rattle.papaya_deeds.specs.Given.SchedulesViews.{capacity_or, map_at}
 use Rattle.papaya_grouped.specs.Given.CallersTogether.{OverAll}
 use Rattle.papaya_grouped.specs.Given.EffectsEffects.{effects_of, known_after}
 use Rattle.papaya_grouped.specs.Given.EffectsKnown.{Known}

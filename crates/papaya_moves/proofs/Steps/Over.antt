@@ -1,9 +1,9 @@
 -- What a moment shows of steps of calls it shows, too, where an entry is over, with that on the history; and so where no entry comes.
 use Rattle.std.specs.Prelude.{◌≡◌, ◌≤◌, ℕ, Bool, Some}
 use Rattle.std.proofs.Common.{ap, sym, subst}
-use Rattle.papaya_deeds.specs.Given.Schedules.Moment.{Moment, UnderWay as CallThere}
-use Rattle.papaya_deeds.specs.Given.Schedules.Transition.{Past, further}
-use Rattle.papaya_deeds.specs.Given.Schedules.Views.{call_of}
+use Rattle.papaya_deeds.specs.Given.SchedulesMoment.{Moment, UnderWay as CallThere}
+use Rattle.papaya_deeds.specs.Given.SchedulesTransition.{Past, further}
+use Rattle.papaya_deeds.specs.Given.SchedulesViews.{call_of}
 use Rattle.papaya_grouped.specs.Given.CallersTogether.{UnderWay}
 use Rattle.papaya_grouped.specs.Given.EffectsKnown.{Known}
 use Rattle.papaya_grouped.specs.Given.FollowsShows.{Shows}

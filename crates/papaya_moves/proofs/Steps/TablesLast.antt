@@ -2,7 +2,7 @@
 use Rattle.std.specs.Prelude.{◌≤◌, ◌==◌, nat_lt, ℕ, Bool, true, false, List, [], ◌∷◌, length, if◌then◌else◌}
 use Rattle.std.specs.List.{AllByRecursion}
 use Rattle.std.proofs.Common.{◌≡◌, refl, arith}
-use Rattle.papaya_deeds.specs.Given.Schedules.Moment.{Moment, start}
+use Rattle.papaya_deeds.specs.Given.SchedulesMoment.{Moment, start}
 use Rattle.papaya_swept.specs.Given.FindsWithin.{many_of}
 use Rattle.papaya_swept.specs.Given.GrowsTries.{TablesLast}
 use Rattle.papaya_swept.proofs.Given.FindsGrows.Steps.{tables_have_been}

@@ -1,8 +1,8 @@
 -- What is kept of callers, where one comes, changes or leaves.
 use Rattle.std.specs.Prelude.{◌==◌, slice_index, slice_set, Option, Some, None, if◌then◌else◌}
 use Rattle.std.proofs.Common.{◌≡◌, ℕ, ◌+◌, ◌≤◌, ◌⊎◌, inl, inr, Bool, true, false, List, [], ◌∷◌, ◌++◌, length, refl, sym, ap, subst, arith, ◌∙◌}
-use Rattle.papaya_present.specs.Given.Runs.Same.{is_same}
-use Rattle.papaya_present.proofs.Given.Runs.Laws.{same_tells}
+use Rattle.papaya_present.specs.Given.RunsSame.{is_same}
+use Rattle.papaya_present.proofs.Given.RunsLaws.{same_tells}
 use Rattle.papaya_present.specs.Counts.{count_in}
 use Rattle.papaya_present.specs.Crowd.{IsAbsent, LeadsHome, StandsAt, kept, weigh}
 use Rattle.papaya_present.specs.Places.{IsElsewhere, place_of}

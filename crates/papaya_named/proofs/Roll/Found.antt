@@ -2,7 +2,7 @@
 use Rattle.std.specs.Prelude.{is_some, position, slice_get, slice_set, MatchOption, Option, Some, None}
 use Rattle.std.specs.List.{remove}
 use Rattle.std.proofs.Common.{◌≡◌, ℕ, List, sym, ap, ◌∙◌}
-use Rattle.papaya_present.proofs.Given.Runs.Laws.{same_tells}
+use Rattle.papaya_present.proofs.Given.RunsLaws.{same_tells}
 use Rattle.papaya_present.specs.Crowd.{IsAbsent, IsHome, LeadsHome, StandsAt}
 use Rattle.papaya_present.specs.declared.places.Places.{Places}
 use Rattle.papaya_present.proofs.Crowds.Homes.{home_alone}

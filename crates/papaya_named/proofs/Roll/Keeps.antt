@@ -1,7 +1,7 @@
 -- What a call keeps once its pair was not stored.
 use Rattle.std.specs.Prelude.{Option}
 use Rattle.std.proofs.Common.{◌≡◌, refl}
-use Rattle.papaya_present.specs.Given.Tables.declared.node.Node.{Node}
+use Rattle.papaya_present.specs.Given.TablesDeclared.node.Node.{Node}
 use Rattle.papaya_named.specs.Telling.{kept, kept_by, value_of}
 use Rattle.papaya_named.specs.declared.callers.Keeps.TheVariants.{Unstored}
 use Rattle.papaya_named.specs.declared.kind.Kind.{Kind}

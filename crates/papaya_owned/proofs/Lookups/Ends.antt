@@ -1,40 +1,40 @@
 -- A lookup comes to its end, and takes its steps over a memory that is lent.
 use Rattle.std.specs.Prelude.{◌≡◌, ◌≢◌, ◌⊎◌, ℕ, ◌<◌, Bool, Option, List, length}
 use Rattle.std.proofs.Common.{refl, sym, ◌∙◌, ap, subst, arith, inl, inr}
-use Rattle.seize.specs.Given.SeizeWords.Mem.{Mem, Can, Took, Gives, value_at}
-use Rattle.seize.specs.Given.SeizeWords.Op.{Op, Out, Load}
-use Rattle.seize.specs.Given.SeizeWords.Plan.{Then, Do, Turn, Now, May, MaySee, Steps, Ends as Comes}
-use Rattle.seize.specs.Given.SeizeWords.declared.at.At.{At}
-use Rattle.seize.specs.Given.SeizeWords.declared.fault.Fault.{Fault}
-use Rattle.seize.specs.Given.SeizeWords.declared.lent.Lent.{Lent}
+use Rattle.seize.specs.Given.SeizeWordsMem.{Mem, Can, Took, Gives, value_at}
+use Rattle.seize.specs.Given.SeizeWordsOp.{Op, Out, Load}
+use Rattle.seize.specs.Given.SeizeWordsPlan.{Then, Do, Turn, Now, May, MaySee, Steps, Ends as Comes}
+use Rattle.seize.specs.Given.SeizeWordsDeclared.at.At.{At}
+use Rattle.seize.specs.Given.SeizeWordsDeclared.fault.Fault.{Fault}
+use Rattle.seize.specs.Given.SeizeWordsDeclared.lent.Lent.{Lent}
 use Rattle.seize.specs.declared.progress.Progress.{Progress}
 use Rattle.seize.specs.declared.progress.Progress.TheVariants as progress
-use Rattle.papaya_straight.specs.Given.Tables.declared.node.Node.{Node}
-use Rattle.papaya_straight.specs.Given.Tables.declared.resize_mode.ResizeMode.{ResizeMode}
-use Rattle.papaya_straight.specs.Given.Tables.declared.setting.Setting.{Setting}
-use Rattle.papaya_shown.specs.Given.Resize.Lookup.{lookup_plan, plan_at, link_found, word_found}
-use Rattle.papaya_straight.specs.Given.Tables.Trials.{place_tried}
-use Rattle.papaya_straight.specs.Given.Tables.TablePlaces.{at_word}
-use Rattle.papaya_straight.specs.Given.Tables.declared.table_words.TheConstants.{NEXT}
-use Rattle.seize.specs.Given.SeizeWords.declared.at.At.TheVariants.{Root}
-use Rattle.papaya_shown.specs.Given.Resize.declared.lookup.Lookup.{Lookup}
-use Rattle.papaya_shown.specs.Given.Resize.declared.lookup.Looking.{Looking}
-use Rattle.papaya_shown.specs.Given.Resize.declared.lookup.Looking.TheVariants as at
-use Rattle.papaya_whole.specs.Given.Rule.Chart.{Chart}
-use Rattle.papaya_whole.specs.Given.Rule.InWorld.{SameBlocks}
-use Rattle.papaya_whole.specs.Given.Rule.Lasts.{Lasts}
-use Rattle.papaya_whole.specs.Given.Rule.Maps.{spot_of}
-use Rattle.papaya_whole.specs.Given.Rule.Words.{Blocks}
-use Rattle.papaya_straight.specs.Given.Tables.Chunks.{is_incremental}
-use Rattle.papaya_whole.specs.Given.Points.FactsLooks.{LookingFacts}
-use Rattle.papaya_whole.specs.Given.Points.Measures.{IsBelow, EndsFrom, ends}
-use Rattle.papaya_whole.specs.Given.Points.MeasuresLooks.{number_of_lookup, number_at_looking}
-use Rattle.papaya_whole.specs.Given.Points.Told.{LookupTold}
-use Rattle.papaya_whole.proofs.Given.Points.Calls.StepsTold.{lookups_tell}
-use Rattle.papaya_whole.proofs.Given.Points.Descents.{descents_end}
-use Rattle.papaya_whole.proofs.Given.Falls.Onward.{Onward}
-use Rattle.papaya_whole.proofs.Given.Falls.Stands.{LookingStands}
-use Rattle.papaya_whole.proofs.Given.Falls.Within.Lookups.{looked_on}
+use Rattle.papaya_straight.specs.Given.TablesDeclared.node.Node.{Node}
+use Rattle.papaya_straight.specs.Given.TablesDeclared.resize_mode.ResizeMode.{ResizeMode}
+use Rattle.papaya_straight.specs.Given.TablesDeclared.setting.Setting.{Setting}
+use Rattle.papaya_shown.specs.Given.ResizeLookup.{lookup_plan, plan_at, link_found, word_found}
+use Rattle.papaya_straight.specs.Given.TablesTrials.{place_tried}
+use Rattle.papaya_straight.specs.Given.TablesTablePlaces.{at_word}
+use Rattle.papaya_straight.specs.Given.TablesDeclared.table_words.TheConstants.{NEXT}
+use Rattle.seize.specs.Given.SeizeWordsDeclared.at.At.TheVariants.{Root}
+use Rattle.papaya_shown.specs.Given.ResizeDeclared.lookup.Lookup.{Lookup}
+use Rattle.papaya_shown.specs.Given.ResizeDeclared.lookup.Looking.{Looking}
+use Rattle.papaya_shown.specs.Given.ResizeDeclared.lookup.Looking.TheVariants as at
+use Rattle.papaya_whole.specs.Given.RuleChart.{Chart}
+use Rattle.papaya_whole.specs.Given.RuleInWorld.{SameBlocks}
+use Rattle.papaya_whole.specs.Given.RuleLasts.{Lasts}
+use Rattle.papaya_whole.specs.Given.RuleMaps.{spot_of}
+use Rattle.papaya_whole.specs.Given.RuleWords.{Blocks}
+use Rattle.papaya_straight.specs.Given.TablesChunks.{is_incremental}
+use Rattle.papaya_whole.specs.Given.PointsFactsLooks.{LookingFacts}
+use Rattle.papaya_whole.specs.Given.PointsMeasures.{IsBelow, EndsFrom, ends}
+use Rattle.papaya_whole.specs.Given.PointsMeasuresLooks.{number_of_lookup, number_at_looking}
+use Rattle.papaya_whole.specs.Given.PointsTold.{LookupTold}
+use Rattle.papaya_whole.proofs.Given.PointsCalls.StepsTold.{lookups_tell}
+use Rattle.papaya_whole.proofs.Given.PointsDescents.{descents_end}
+use Rattle.papaya_whole.proofs.Given.FallsOnward.{Onward}
+use Rattle.papaya_whole.proofs.Given.FallsStands.{LookingStands}
+use Rattle.papaya_whole.proofs.Given.FallsWithin.Lookups.{looked_on}
 use Rattle.papaya_owned.specs.Ending.{GoesOn, Ends, all_end}
 use Rattle.papaya_owned.specs.Looking.{LooksIn}
 use Rattle.papaya_owned.specs.Within.{IsLeast, within}

@@ -1,16 +1,16 @@
 -- What a lookup has found is there, and shows one pair.
 use Rattle.std.specs.Prelude.{◌≡◌, ℕ, ◌≤◌, Bool, true, false, cond, List, [], Option, Some, None, IsSome, IfSome, option_map}
 use Rattle.std.proofs.Common.{refl, sym, ◌∙◌, ap, arith}
-use Rattle.seize.specs.Given.SeizeWords.Mem.{Mem, value_at}
-use Rattle.papaya_straight.specs.Given.Tables.Chunks.{is_incremental}
-use Rattle.papaya_straight.specs.Given.Tables.declared.node.Node.{Node}
-use Rattle.papaya_straight.specs.Given.Tables.declared.node.Node.TheVariants as node
-use Rattle.papaya_shown.specs.Given.Resize.declared.lookup.Lookup.{Lookup}
-use Rattle.papaya_whole.specs.Given.Rule.Chart.{Chart}
-use Rattle.papaya_whole.specs.Given.Rule.Words.{Blocks}
-use Rattle.papaya_whole.specs.Given.Rule.Maps.{spot_of}
-use Rattle.papaya_whole.proofs.Given.Rule.Moves.Links.{linked_there}
-use Rattle.papaya_whole.proofs.Given.Callers.Asked.By.{block_of_word}
+use Rattle.seize.specs.Given.SeizeWordsMem.{Mem, value_at}
+use Rattle.papaya_straight.specs.Given.TablesChunks.{is_incremental}
+use Rattle.papaya_straight.specs.Given.TablesDeclared.node.Node.{Node}
+use Rattle.papaya_straight.specs.Given.TablesDeclared.node.Node.TheVariants as node
+use Rattle.papaya_shown.specs.Given.ResizeDeclared.lookup.Lookup.{Lookup}
+use Rattle.papaya_whole.specs.Given.RuleChart.{Chart}
+use Rattle.papaya_whole.specs.Given.RuleWords.{Blocks}
+use Rattle.papaya_whole.specs.Given.RuleMaps.{spot_of}
+use Rattle.papaya_whole.proofs.Given.RuleMoves.Links.{linked_there}
+use Rattle.papaya_whole.proofs.Given.CallersAsked.By.{block_of_word}
 use Rattle.papaya_owned.specs.Looking.{LooksIn, Finds}
 use Rattle.papaya_owned.specs.Owned.{IsPairAt, IsShownAt, IsWordOf, found_by}
 

@@ -2,29 +2,29 @@
 use Rattle.std.specs.Prelude.{◌≡◌, ◌≤◌, ◌<◌, ◌-◌, ◌⊎◌, ℕ, suc, Bool, true, false, [], ◌∷◌, Option, Some, None, IsSome, nat_lt, if◌then◌else◌}
 use Rattle.std.proofs.Common.{refl, sym, ◌∙◌, ap, subst, arith, inl, ⊎_elim}
 use Rattle.std.proofs.lemmas.Bool.{false≢true, cases_lt}
-use Rattle.seize.specs.Given.SeizeWords.Mem.{Mem, Can, Took, value_at, word_at}
-use Rattle.seize.specs.Given.SeizeWords.Op.{Found}
-use Rattle.seize.specs.Given.SeizeWords.Plan.{Plan, Then, Now, Seeing, May, MaySee, Steps, Ends as Comes}
-use Rattle.seize.specs.Given.SeizeWords.Word.{block_in}
-use Rattle.seize.specs.Given.SeizeWords.declared.at.At.{At}
+use Rattle.seize.specs.Given.SeizeWordsMem.{Mem, Can, Took, value_at, word_at}
+use Rattle.seize.specs.Given.SeizeWordsOp.{Found}
+use Rattle.seize.specs.Given.SeizeWordsPlan.{Plan, Then, Now, Seeing, May, MaySee, Steps, Ends as Comes}
+use Rattle.seize.specs.Given.SeizeWordsWord.{block_in}
+use Rattle.seize.specs.Given.SeizeWordsDeclared.at.At.{At}
 use Rattle.seize.specs.declared.progress.Progress.{Progress}
 use Rattle.seize.specs.declared.progress.Progress.TheVariants as progress
-use Rattle.papaya_straight.specs.Given.Tables.Finding.{finding, may_name}
-use Rattle.papaya_straight.specs.Given.Tables.Chunks.{is_incremental}
-use Rattle.papaya_straight.specs.Given.Tables.Trials.{place_tried, next_trial}
-use Rattle.papaya_straight.specs.Given.Tables.declared.finding.Aim.TheVariants.{Looks}
-use Rattle.papaya_straight.specs.Given.Tables.declared.finding.Finding.{Finding}
-use Rattle.papaya_straight.specs.Given.Tables.declared.finding.Finding.TheVariants as is
-use Rattle.papaya_straight.specs.Given.Tables.declared.node.Node.{Node}
-use Rattle.papaya_straight.specs.Given.Tables.declared.table.Table.{Table}
-use Rattle.papaya_straight.specs.Given.Tables.declared.trial.Trial.{Trial}
-use Rattle.papaya_straight.specs.Given.Tables.Probes.{probe_after}
-use Rattle.papaya_shown.specs.Given.Resize.Lookup.{lookup_plan, names_pair, told, told_of, passed, beyond, answered, going}
-use Rattle.papaya_shown.specs.Given.Resize.declared.lookup.Lookup.{Lookup}
-use Rattle.papaya_shown.specs.Given.Resize.declared.lookup.Looking.TheVariants as at
-use Rattle.papaya_whole.specs.Given.Rule.Chart.{Chart}
-use Rattle.papaya_whole.specs.Given.Rule.Words.{Blocks}
-use Rattle.papaya_whole.specs.Given.Points.Measures.{IsBelow}
+use Rattle.papaya_straight.specs.Given.TablesFinding.{finding, may_name}
+use Rattle.papaya_straight.specs.Given.TablesChunks.{is_incremental}
+use Rattle.papaya_straight.specs.Given.TablesTrials.{place_tried, next_trial}
+use Rattle.papaya_straight.specs.Given.TablesDeclared.finding.Aim.TheVariants.{Looks}
+use Rattle.papaya_straight.specs.Given.TablesDeclared.finding.Finding.{Finding}
+use Rattle.papaya_straight.specs.Given.TablesDeclared.finding.Finding.TheVariants as is
+use Rattle.papaya_straight.specs.Given.TablesDeclared.node.Node.{Node}
+use Rattle.papaya_straight.specs.Given.TablesDeclared.table.Table.{Table}
+use Rattle.papaya_straight.specs.Given.TablesDeclared.trial.Trial.{Trial}
+use Rattle.papaya_straight.specs.Given.TablesProbes.{probe_after}
+use Rattle.papaya_shown.specs.Given.ResizeLookup.{lookup_plan, names_pair, told, told_of, passed, beyond, answered, going}
+use Rattle.papaya_shown.specs.Given.ResizeDeclared.lookup.Lookup.{Lookup}
+use Rattle.papaya_shown.specs.Given.ResizeDeclared.lookup.Looking.TheVariants as at
+use Rattle.papaya_whole.specs.Given.RuleChart.{Chart}
+use Rattle.papaya_whole.specs.Given.RuleWords.{Blocks}
+use Rattle.papaya_whole.specs.Given.PointsMeasures.{IsBelow}
 use Rattle.papaya_owned.specs.Looking.{LooksIn, Finds, at_try, at_next}
 use Rattle.papaya_owned.specs.Tries.{Nearer, TriesTo, tried_beyond}
 use Rattle.papaya_owned.specs.Ending.{GoesOn}

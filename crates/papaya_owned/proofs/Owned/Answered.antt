@@ -2,36 +2,36 @@
 use Rattle.std.specs.Prelude.{◌≡◌, ◌≢◌, ℕ, ◌+◌, ◌%◌, ◌^◌, ◌<◌, ◌⊎◌, Bool, true, false, List, [], ◌∷◌, ◌++◌, Option, Some, None}
 use Rattle.std.proofs.Common.{refl, sym, ◌∙◌, ap, subst, arith, inl, inr}
 use denote.Ref.{Bor}
-use Rattle.seize.specs.Given.SeizeWords.Mem.{Mem, value_at}
-use Rattle.seize.specs.Given.SeizeWords.Word.{block_in}
-use Rattle.seize.specs.Given.SeizeWords.declared.fault.Fault.{Fault}
-use Rattle.seize.specs.Given.SeizeWords.declared.fault.Fault.TheVariants.{Capacity}
+use Rattle.seize.specs.Given.SeizeWordsMem.{Mem, value_at}
+use Rattle.seize.specs.Given.SeizeWordsWord.{block_in}
+use Rattle.seize.specs.Given.SeizeWordsDeclared.fault.Fault.{Fault}
+use Rattle.seize.specs.Given.SeizeWordsDeclared.fault.Fault.TheVariants.{Capacity}
 use Rattle.seize.specs.World.{World}
-use Rattle.papaya_straight.specs.Given.Tables.declared.lengths.Reason.{Reason}
-use Rattle.papaya_straight.specs.Given.Tables.declared.node.Node.{Node}
-use Rattle.papaya_straight.specs.Given.Tables.declared.node.Node.TheVariants as node
-use Rattle.papaya_straight.specs.Given.Tables.declared.setting.Setting.{Setting}
-use Rattle.papaya_straight.specs.Given.Tables.declared.table.Table.{Table}
+use Rattle.papaya_straight.specs.Given.TablesDeclared.lengths.Reason.{Reason}
+use Rattle.papaya_straight.specs.Given.TablesDeclared.node.Node.{Node}
+use Rattle.papaya_straight.specs.Given.TablesDeclared.node.Node.TheVariants as node
+use Rattle.papaya_straight.specs.Given.TablesDeclared.setting.Setting.{Setting}
+use Rattle.papaya_straight.specs.Given.TablesDeclared.table.Table.{Table}
 use Rattle.papaya_shown.specs.Chain.{CannotGrowIn}
-use Rattle.papaya_straight.specs.Given.Raw.declared.machines.answer.KeyAnswer.{KeyAnswer}
-use Rattle.papaya_straight.specs.Given.Raw.declared.machines.answer.KeyAnswer.TheVariants as answers
-use Rattle.papaya_straight.specs.Given.Raw.declared.machines.asking.Reply.TheVariants as reply
-use Rattle.papaya_straight.specs.Given.Raw.declared.machines.call.KeyCall.{KeyCall}
-use Rattle.papaya_whole.specs.Given.Rule.Chart.{Chart, Phase, Holds as HoldsPair, Still, put}
-use Rattle.papaya_whole.specs.Given.Rule.Words.{Blocks, Shows, place_word}
-use Rattle.papaya_whole.specs.Given.Rule.InWorld.{IsMapIn}
-use Rattle.papaya_whole.proofs.Given.Rule.Moves.Writes.{put_here, put_elsewhere}
-use Rattle.papaya_whole.proofs.Given.Rule.World.Hands.{current_known}
-use Rattle.papaya_whole.specs.Given.Points.FactsCalls.{Change, Unchanged, Stored, Replaced, Removed, Tells}
-use Rattle.papaya_whole.specs.Given.Alone.Alone.{HasChanged}
-use Rattle.papaya_whole.specs.Given.Alone.Counted.{HasAdded, counted_at}
-use Rattle.papaya_whole.specs.Given.Late.Faults.{StandsInCalling}
-use Rattle.papaya_whole.specs.Given.Late.Kinds.{MayPut}
-use Rattle.papaya_whole.specs.Given.Callers.Asked.{last_told, LeavesPair, LeavesNone}
-use Rattle.papaya_whole.specs.Given.Callers.Pairs.{Given, Begun, IsTold, kind_of, StoresGiven, LeavesGiven}
-use Rattle.papaya_whole.specs.Given.Callers.Since.{SoSince}
-use Rattle.papaya_whole.specs.Given.Callers.Together.{IsBegun, Gets, Removes, Inserts, TriesToInsert, Computes, Updates, UpdatesOrInserts, TriesToInsertWith, RemovesIf, in_slot}
-use Rattle.papaya_whole.proofs.Given.Callers.Asked.By.{block_of_word}
+use Rattle.papaya_straight.specs.Given.RawDeclared.machines.answer.KeyAnswer.{KeyAnswer}
+use Rattle.papaya_straight.specs.Given.RawDeclared.machines.answer.KeyAnswer.TheVariants as answers
+use Rattle.papaya_straight.specs.Given.RawDeclared.machines.asking.Reply.TheVariants as reply
+use Rattle.papaya_straight.specs.Given.RawDeclared.machines.call.KeyCall.{KeyCall}
+use Rattle.papaya_whole.specs.Given.RuleChart.{Chart, Phase, Holds as HoldsPair, Still, put}
+use Rattle.papaya_whole.specs.Given.RuleWords.{Blocks, Shows, place_word}
+use Rattle.papaya_whole.specs.Given.RuleInWorld.{IsMapIn}
+use Rattle.papaya_whole.proofs.Given.RuleMoves.Writes.{put_here, put_elsewhere}
+use Rattle.papaya_whole.proofs.Given.RuleWorld.Hands.{current_known}
+use Rattle.papaya_whole.specs.Given.PointsFactsCalls.{Change, Unchanged, Stored, Replaced, Removed, Tells}
+use Rattle.papaya_whole.specs.Given.AloneAlone.{HasChanged}
+use Rattle.papaya_whole.specs.Given.AloneCounted.{HasAdded, counted_at}
+use Rattle.papaya_whole.specs.Given.LateFaults.{StandsInCalling}
+use Rattle.papaya_whole.specs.Given.LateKinds.{MayPut}
+use Rattle.papaya_whole.specs.Given.CallersAsked.{last_told, LeavesPair, LeavesNone}
+use Rattle.papaya_whole.specs.Given.CallersPairs.{Given, Begun, IsTold, kind_of, StoresGiven, LeavesGiven}
+use Rattle.papaya_whole.specs.Given.CallersSince.{SoSince}
+use Rattle.papaya_whole.specs.Given.CallersTogether.{IsBegun, Gets, Removes, Inserts, TriesToInsert, Computes, Updates, UpdatesOrInserts, TriesToInsertWith, RemovesIf, in_slot}
+use Rattle.papaya_whole.proofs.Given.CallersAsked.By.{block_of_word}
 use Rattle.papaya_whole.specs.AtEnd.{AnswersSo}
 use Rattle.papaya_whole.specs.Limits.{IsForTheLast, IsTheLast}
 use Rattle.papaya_whole.specs.Contents.{ContentsBelow, AreContents, HasRun, pair_for, without}

@@ -3,15 +3,15 @@ use Rattle.std.specs.Prelude.{◌≡◌, ℕ, zero, suc, ◌+◌, ◌-◌, ◌*�
 use Rattle.std.proofs.Common.{sym, ◌∙◌, ap, subst, arith, ⊎_elim, eqb, ltb}
 use Rattle.std.proofs.lemmas.Bool.Decides.{nat_tests}
 use Rattle.std.proofs.lemmas.Bool.{cases_lt, eqb-true, false_from_ne_true}
-use Rattle.seize.specs.Given.SeizeWords.Mem.{Mem, word_at}
-use Rattle.seize.specs.Given.SeizeWords.declared.at.At.TheVariants.{Word}
-use Rattle.papaya_straight.specs.Given.Tables.declared.table_words.TheConstants.{NEXT, PLACES}
-use Rattle.papaya_straight.specs.Given.Tables.declared.node.Node.{Node}
-use Rattle.papaya_whole.specs.Given.Rule.Chart.{Chart, Phase, Place, Empty, Holds}
-use Rattle.papaya_whole.specs.Given.Rule.Maps.{spot_of}
-use Rattle.papaya_whole.specs.Given.Rule.Rule.{Rule}
-use Rattle.papaya_whole.specs.Given.Rule.Words.{Blocks, Shows, place_word}
-use Rattle.papaya_whole.proofs.Given.Callers.Asked.By.{block_of_word}
+use Rattle.seize.specs.Given.SeizeWordsMem.{Mem, word_at}
+use Rattle.seize.specs.Given.SeizeWordsDeclared.at.At.TheVariants.{Word}
+use Rattle.papaya_straight.specs.Given.TablesDeclared.table_words.TheConstants.{NEXT, PLACES}
+use Rattle.papaya_straight.specs.Given.TablesDeclared.node.Node.{Node}
+use Rattle.papaya_whole.specs.Given.RuleChart.{Chart, Phase, Place, Empty, Holds}
+use Rattle.papaya_whole.specs.Given.RuleMaps.{spot_of}
+use Rattle.papaya_whole.specs.Given.RuleRule.{Rule}
+use Rattle.papaya_whole.specs.Given.RuleWords.{Blocks, Shows, place_word}
+use Rattle.papaya_whole.proofs.Given.CallersAsked.By.{block_of_word}
 
 same_word : (x y : ℕ) → ◌≡◌ {A = Option ℕ} (Some x) (Some y) → x ≡ y
 same_word x y e = cc e

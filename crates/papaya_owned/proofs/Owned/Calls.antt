@@ -2,18 +2,18 @@
 use Rattle.std.specs.Prelude.{◌≡◌, ℕ, Bool, true, List, Option, None, Result, Ok, Err}
 use Rattle.std.proofs.Common.{refl}
 use denote.Ref.{Bor}
-use Rattle.seize.specs.Given.SeizeWords.Mem.{Mem}
-use Rattle.seize.specs.Given.SeizeWords.declared.fault.Fault.{Fault}
-use Rattle.papaya_straight.specs.Given.Tables.declared.node.Node.{Node}
-use Rattle.papaya_straight.specs.Given.Tables.declared.setting.Setting.{Setting}
-use Rattle.papaya_straight.specs.Given.Raw.declared.machines.answer.KeyAnswer.{KeyAnswer}
-use Rattle.papaya_straight.specs.Given.Raw.declared.machines.answer.KeyAnswer.TheVariants as answers
-use Rattle.papaya_straight.specs.Given.Raw.declared.machines.call.KeyCall.{KeyCall}
-use Rattle.papaya_whole.specs.Given.Alone.Counted.{counted_at}
-use Rattle.papaya_whole.specs.Given.Late.Kinds.{MayPut}
-use Rattle.papaya_whole.specs.Given.Callers.Pairs.{Begun}
-use Rattle.papaya_whole.specs.Given.Callers.Kind.{Kind}
-use Rattle.papaya_whole.specs.Given.Callers.Together.{IsBegun}
+use Rattle.seize.specs.Given.SeizeWordsMem.{Mem}
+use Rattle.seize.specs.Given.SeizeWordsDeclared.fault.Fault.{Fault}
+use Rattle.papaya_straight.specs.Given.TablesDeclared.node.Node.{Node}
+use Rattle.papaya_straight.specs.Given.TablesDeclared.setting.Setting.{Setting}
+use Rattle.papaya_straight.specs.Given.RawDeclared.machines.answer.KeyAnswer.{KeyAnswer}
+use Rattle.papaya_straight.specs.Given.RawDeclared.machines.answer.KeyAnswer.TheVariants as answers
+use Rattle.papaya_straight.specs.Given.RawDeclared.machines.call.KeyCall.{KeyCall}
+use Rattle.papaya_whole.specs.Given.AloneCounted.{counted_at}
+use Rattle.papaya_whole.specs.Given.LateKinds.{MayPut}
+use Rattle.papaya_whole.specs.Given.CallersPairs.{Begun}
+use Rattle.papaya_whole.specs.Given.CallersKind.{Kind}
+use Rattle.papaya_whole.specs.Given.CallersTogether.{IsBegun}
 use Rattle.papaya_owned.specs.Owned.{Holds, AnswersBy, EndsBy}
 use Rattle.papaya_owned.specs.declared.machines.OnKey.{OnKey}
 use Rattle.papaya_owned.specs.declared.machines.Stop.{Stop}

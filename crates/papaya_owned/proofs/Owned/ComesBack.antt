@@ -3,29 +3,29 @@ use Rattle.std.specs.Prelude.{◌≡◌, ℕ, Bool, Option, Some, Result, ◌⊎
 use Rattle.std.specs.Int.{IsPowerOfTwo}
 use Rattle.std.proofs.Common.{refl, sym, subst, inl, inr}
 use denote.Ref.{Bor}
-use Rattle.seize.specs.Given.SeizeWords.Mem.{Mem, Took, value_at}
-use Rattle.seize.specs.Given.SeizeWords.Plan.{Plan, Steps}
-use Rattle.seize.specs.Given.SeizeWords.declared.fault.Fault.{Fault}
+use Rattle.seize.specs.Given.SeizeWordsMem.{Mem, Took, value_at}
+use Rattle.seize.specs.Given.SeizeWordsPlan.{Plan, Steps}
+use Rattle.seize.specs.Given.SeizeWordsDeclared.fault.Fault.{Fault}
 use Rattle.seize.specs.declared.progress.Progress.{Progress}
-use Rattle.papaya_straight.specs.Given.Tables.Chunks.{is_incremental}
-use Rattle.papaya_straight.specs.Given.Tables.declared.node.Node.{Node}
-use Rattle.papaya_straight.specs.Given.Tables.declared.setting.Setting.{Setting}
-use Rattle.papaya_straight.specs.Given.Raw.Answers.{ended}
-use Rattle.papaya_straight.specs.Given.Raw.Call.{call_plan, plan_at}
-use Rattle.papaya_straight.specs.Given.Raw.declared.machines.answer.Called.{Called}
-use Rattle.papaya_straight.specs.Given.Raw.declared.machines.answer.Called.TheVariants as called
-use Rattle.papaya_straight.specs.Given.Raw.declared.machines.answer.End.{End}
-use Rattle.papaya_straight.specs.Given.Raw.declared.machines.answer.End.TheVariants as ends
-use Rattle.papaya_straight.specs.Given.Raw.declared.machines.call.KeyCall.{KeyCall}
-use Rattle.papaya_straight.specs.Given.Raw.declared.machines.call.Calling.{Calling}
-use Rattle.papaya_straight.specs.Given.Raw.declared.machines.call.Calling.TheVariants as at
-use Rattle.papaya_whole.specs.Given.Rule.Chart.{Chart}
-use Rattle.papaya_whole.specs.Given.Rule.Maps.{spot_of}
-use Rattle.papaya_whole.specs.Given.Rule.Rule.{Rule}
-use Rattle.papaya_whole.specs.Given.Rule.Words.{Blocks}
-use Rattle.papaya_whole.specs.Given.Points.Steps.{AreLawful}
-use Rattle.papaya_whole.specs.Given.Callers.Kind.{Kind}
-use Rattle.papaya_whole.specs.Given.Callers.Pairs.{Begun}
+use Rattle.papaya_straight.specs.Given.TablesChunks.{is_incremental}
+use Rattle.papaya_straight.specs.Given.TablesDeclared.node.Node.{Node}
+use Rattle.papaya_straight.specs.Given.TablesDeclared.setting.Setting.{Setting}
+use Rattle.papaya_straight.specs.Given.RawAnswers.{ended}
+use Rattle.papaya_straight.specs.Given.RawCall.{call_plan, plan_at}
+use Rattle.papaya_straight.specs.Given.RawDeclared.machines.answer.Called.{Called}
+use Rattle.papaya_straight.specs.Given.RawDeclared.machines.answer.Called.TheVariants as called
+use Rattle.papaya_straight.specs.Given.RawDeclared.machines.answer.End.{End}
+use Rattle.papaya_straight.specs.Given.RawDeclared.machines.answer.End.TheVariants as ends
+use Rattle.papaya_straight.specs.Given.RawDeclared.machines.call.KeyCall.{KeyCall}
+use Rattle.papaya_straight.specs.Given.RawDeclared.machines.call.Calling.{Calling}
+use Rattle.papaya_straight.specs.Given.RawDeclared.machines.call.Calling.TheVariants as at
+use Rattle.papaya_whole.specs.Given.RuleChart.{Chart}
+use Rattle.papaya_whole.specs.Given.RuleMaps.{spot_of}
+use Rattle.papaya_whole.specs.Given.RuleRule.{Rule}
+use Rattle.papaya_whole.specs.Given.RuleWords.{Blocks}
+use Rattle.papaya_whole.specs.Given.PointsSteps.{AreLawful}
+use Rattle.papaya_whole.specs.Given.CallersKind.{Kind}
+use Rattle.papaya_whole.specs.Given.CallersPairs.{Begun}
 use Rattle.papaya_owned.specs.Ending.{RunsTo}
 use Rattle.papaya_owned.specs.Machines.{on_key_settled, on_key_plan}
 use Rattle.papaya_owned.specs.Owned.{ComesBack}

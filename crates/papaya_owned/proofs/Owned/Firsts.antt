@@ -2,19 +2,19 @@
 use Rattle.std.specs.Prelude.{◌≡◌, ℕ, zero, suc, ◌≤◌, max, Bool, List, [], ◌∷◌, if◌then◌else◌, Some}
 use Rattle.std.proofs.Common.{refl, sym, ◌∙◌, ap, subst, arith, inl, inr}
 use Rattle.std.proofs.lemmas.Bool.{eq-eqb, ne_eqb}
-use Rattle.seize.specs.Given.SeizeWords.Mem.{Mem, word_at}
-use Rattle.seize.specs.Given.SeizeWords.declared.at.At.TheVariants.{Root}
-use Rattle.papaya_straight.specs.Given.Tables.declared.node.Node.{Node}
-use Rattle.papaya_straight.specs.Given.Tables.declared.setting.Setting.{Setting}
+use Rattle.seize.specs.Given.SeizeWordsMem.{Mem, word_at}
+use Rattle.seize.specs.Given.SeizeWordsDeclared.at.At.TheVariants.{Root}
+use Rattle.papaya_straight.specs.Given.TablesDeclared.node.Node.{Node}
+use Rattle.papaya_straight.specs.Given.TablesDeclared.setting.Setting.{Setting}
 use Rattle.papaya_shown.specs.Chain.{CountsTables, behind, shape_of, shapes_on, word_or_none}
 use Rattle.papaya_shown.specs.Shown.{Stands}
 use Rattle.papaya_shown.proofs.Chains.{behind_leads}
 use Rattle.papaya_shown.proofs.Links.{root_leads_on}
-use Rattle.papaya_whole.specs.Given.Rule.Chart.{Chart}
-use Rattle.papaya_whole.specs.Given.Rule.Links.{LeadsTo}
-use Rattle.papaya_whole.specs.Given.Rule.Words.{Blocks, root_word}
-use Rattle.papaya_whole.proofs.Given.Rule.Laws.{links_have_tables}
-use Rattle.papaya_whole.specs.Given.Finishes.Makings.{IsNewChart}
+use Rattle.papaya_whole.specs.Given.RuleChart.{Chart}
+use Rattle.papaya_whole.specs.Given.RuleLinks.{LeadsTo}
+use Rattle.papaya_whole.specs.Given.RuleWords.{Blocks, root_word}
+use Rattle.papaya_whole.proofs.Given.RuleLaws.{links_have_tables}
+use Rattle.papaya_whole.specs.Given.FinishesMakings.{IsNewChart}
 use Rattle.papaya_owned.specs.Owned.{Holds}
 use Rattle.papaya_owned.specs.Rooms.{ShowTables, tables_with}
 use Rattle.papaya_owned.proofs.Walks.{holds_stands}

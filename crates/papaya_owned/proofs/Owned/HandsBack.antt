@@ -2,47 +2,47 @@
 use Rattle.std.specs.Prelude.{◌==◌, ◌^◌, ◌<◌, Option, Some, None, Ok, Err, if◌then◌else◌}
 use Rattle.std.proofs.Common.{◌≡◌, ◌≢◌, ℕ, Bool, true, false, refl, sym, subst, arith, eqb-true}
 use Rattle.std.proofs.lemmas.Bool.{eqb-false}
-use Rattle.seize.specs.Given.SeizeWords.Mem.{Mem, value_at, Took}
-use Rattle.seize.specs.Given.SeizeWords.Op.{Out, Found, Stored, Exchanged, Made, Taken, Roomed}
-use Rattle.seize.specs.Given.SeizeWords.Plan.{Steps}
+use Rattle.seize.specs.Given.SeizeWordsMem.{Mem, value_at, Took}
+use Rattle.seize.specs.Given.SeizeWordsOp.{Out, Found, Stored, Exchanged, Made, Taken, Roomed}
+use Rattle.seize.specs.Given.SeizeWordsPlan.{Steps}
 use Rattle.seize.specs.declared.progress.Progress.{Progress}
 use Rattle.seize.specs.declared.progress.Progress.TheVariants as progress
 use Rattle.seize.specs.declared.rows.settle.Settled.{Settled}
 use Rattle.seize.specs.declared.rows.settle.Settled.TheVariants as settled
-use Rattle.papaya_straight.specs.Given.Raw.Answers.{ended}
-use Rattle.papaya_straight.specs.Given.Raw.Call.{makes_of, root_found, next_found, dropped, key_read, pair_read, word_read, word_found, tried, first_made, next_made, disposed, helped, copied, plan_at}
-use Rattle.papaya_straight.specs.Given.Raw.CallPoints.{word_to, going, standing, over, ending, tableless, at_free, at_last, at_pair, told_of, entering, went_on, changed, counted, having_met}
-use Rattle.papaya_straight.specs.Given.Tables.Chunks.{is_incremental}
-use Rattle.papaya_shown.specs.Given.Resize.Copier.{copier_plan}
-use Rattle.papaya_shown.specs.Given.Resize.CopierStates.{copying_all}
-use Rattle.papaya_shown.specs.Given.Resize.Dispose.{disposing, dispose_plan}
-use Rattle.papaya_straight.specs.Given.Tables.Finding.{may_name}
-use Rattle.papaya_shown.specs.Given.Resize.NewTable.{new_table_plan}
-use Rattle.papaya_straight.specs.Given.Tables.Trials.{next_trial, with_met}
-use Rattle.papaya_straight.specs.Given.Tables.declared.marks.TheConstants.{TOMBSTONE}
-use Rattle.papaya_straight.specs.Given.Tables.declared.node.Node.{Node}
-use Rattle.papaya_shown.specs.Given.Resize.declared.outcome.Outcome.{Outcome}
-use Rattle.papaya_shown.specs.Given.Resize.declared.outcome.Outcome.TheVariants as outcome
-use Rattle.papaya_straight.specs.Given.Tables.declared.table.Table.{Table}
-use Rattle.papaya_straight.specs.Given.Raw.declared.machines.answer.KeyAnswer.{KeyAnswer}
-use Rattle.papaya_straight.specs.Given.Raw.declared.machines.answer.KeyAnswer.TheVariants as answers
-use Rattle.papaya_straight.specs.Given.Raw.declared.machines.answer.Called.{Called}
-use Rattle.papaya_straight.specs.Given.Raw.declared.machines.answer.Called.TheVariants as called
-use Rattle.papaya_straight.specs.Given.Raw.declared.machines.answer.End.{End}
-use Rattle.papaya_straight.specs.Given.Raw.declared.machines.answer.End.TheVariants as ends
-use Rattle.papaya_straight.specs.Given.Raw.declared.machines.answer.Missing.TheVariants as missing
-use Rattle.papaya_straight.specs.Given.Raw.declared.machines.answer.There.{There}
-use Rattle.papaya_straight.specs.Given.Raw.declared.machines.answer.There.TheVariants as there
-use Rattle.papaya_straight.specs.Given.Raw.declared.machines.call.KeyCall.{KeyCall}
-use Rattle.papaya_straight.specs.Given.Raw.declared.machines.call.Calling.{Calling}
-use Rattle.papaya_straight.specs.Given.Raw.declared.machines.call.Calling.TheVariants as at
-use Rattle.papaya_shown.specs.Given.Resize.declared.copier.Copier.{Copier}
-use Rattle.papaya_shown.specs.Given.Resize.declared.dispose.Dispose.{Dispose}
-use Rattle.papaya_straight.specs.Given.Tables.declared.finding.Finding.{Finding}
-use Rattle.papaya_straight.specs.Given.Tables.declared.finding.Finding.TheVariants as finds
-use Rattle.papaya_shown.specs.Given.Resize.declared.new_table.NewTable.{NewTable}
-use Rattle.papaya_whole.proofs.Given.Points.Calls.Asked.{passed_so}
-use Rattle.papaya_whole.proofs.Given.Rule.Keys.Always.{Always, AlwaysOf, always_if, always_plan_as, always_steps}
+use Rattle.papaya_straight.specs.Given.RawAnswers.{ended}
+use Rattle.papaya_straight.specs.Given.RawCall.{makes_of, root_found, next_found, dropped, key_read, pair_read, word_read, word_found, tried, first_made, next_made, disposed, helped, copied, plan_at}
+use Rattle.papaya_straight.specs.Given.RawCallPoints.{word_to, going, standing, over, ending, tableless, at_free, at_last, at_pair, told_of, entering, went_on, changed, counted, having_met}
+use Rattle.papaya_straight.specs.Given.TablesChunks.{is_incremental}
+use Rattle.papaya_shown.specs.Given.ResizeCopier.{copier_plan}
+use Rattle.papaya_shown.specs.Given.ResizeCopierStates.{copying_all}
+use Rattle.papaya_shown.specs.Given.ResizeDispose.{disposing, dispose_plan}
+use Rattle.papaya_straight.specs.Given.TablesFinding.{may_name}
+use Rattle.papaya_shown.specs.Given.ResizeNewTable.{new_table_plan}
+use Rattle.papaya_straight.specs.Given.TablesTrials.{next_trial, with_met}
+use Rattle.papaya_straight.specs.Given.TablesDeclared.marks.TheConstants.{TOMBSTONE}
+use Rattle.papaya_straight.specs.Given.TablesDeclared.node.Node.{Node}
+use Rattle.papaya_shown.specs.Given.ResizeDeclared.outcome.Outcome.{Outcome}
+use Rattle.papaya_shown.specs.Given.ResizeDeclared.outcome.Outcome.TheVariants as outcome
+use Rattle.papaya_straight.specs.Given.TablesDeclared.table.Table.{Table}
+use Rattle.papaya_straight.specs.Given.RawDeclared.machines.answer.KeyAnswer.{KeyAnswer}
+use Rattle.papaya_straight.specs.Given.RawDeclared.machines.answer.KeyAnswer.TheVariants as answers
+use Rattle.papaya_straight.specs.Given.RawDeclared.machines.answer.Called.{Called}
+use Rattle.papaya_straight.specs.Given.RawDeclared.machines.answer.Called.TheVariants as called
+use Rattle.papaya_straight.specs.Given.RawDeclared.machines.answer.End.{End}
+use Rattle.papaya_straight.specs.Given.RawDeclared.machines.answer.End.TheVariants as ends
+use Rattle.papaya_straight.specs.Given.RawDeclared.machines.answer.Missing.TheVariants as missing
+use Rattle.papaya_straight.specs.Given.RawDeclared.machines.answer.There.{There}
+use Rattle.papaya_straight.specs.Given.RawDeclared.machines.answer.There.TheVariants as there
+use Rattle.papaya_straight.specs.Given.RawDeclared.machines.call.KeyCall.{KeyCall}
+use Rattle.papaya_straight.specs.Given.RawDeclared.machines.call.Calling.{Calling}
+use Rattle.papaya_straight.specs.Given.RawDeclared.machines.call.Calling.TheVariants as at
+use Rattle.papaya_shown.specs.Given.ResizeDeclared.copier.Copier.{Copier}
+use Rattle.papaya_shown.specs.Given.ResizeDeclared.dispose.Dispose.{Dispose}
+use Rattle.papaya_straight.specs.Given.TablesDeclared.finding.Finding.{Finding}
+use Rattle.papaya_straight.specs.Given.TablesDeclared.finding.Finding.TheVariants as finds
+use Rattle.papaya_shown.specs.Given.ResizeDeclared.new_table.NewTable.{NewTable}
+use Rattle.papaya_whole.proofs.Given.PointsCalls.Asked.{passed_so}
+use Rattle.papaya_whole.proofs.Given.RuleKeys.Always.{Always, AlwaysOf, always_if, always_plan_as, always_steps}
 use Rattle.papaya_owned.specs.Owned.{PutsIt}
 
 -- it puts the pair into the map, or leaves the one that is there

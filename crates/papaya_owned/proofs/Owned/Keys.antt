@@ -3,39 +3,39 @@ use Rattle.std.specs.Prelude.{◌≡◌, ℕ, ◌^◌, ◌<◌, ◌≤◌, Bool,
 use Rattle.std.specs.Int.{IsPowerOfTwo}
 use Rattle.std.proofs.Common.{refl, sym, ◌∙◌, ap, subst, arith}
 use denote.Ref.{Bor}
-use Rattle.seize.specs.Given.SeizeWords.Mem.{Mem, Can, Took, value_at}
-use Rattle.seize.specs.Given.SeizeWords.Op.{Op, Out}
-use Rattle.seize.specs.Given.SeizeWords.Plan.{Plan, Then, Turn, Do, Now, Seeing, Sure, May, MaySee, Steps, plan_as, then_as}
-use Rattle.seize.specs.Given.SeizeWords.declared.fault.Fault.{Fault}
-use Rattle.seize.specs.Given.SeizeWords.declared.fault.Fault.TheVariants.{RemoveNothing}
+use Rattle.seize.specs.Given.SeizeWordsMem.{Mem, Can, Took, value_at}
+use Rattle.seize.specs.Given.SeizeWordsOp.{Op, Out}
+use Rattle.seize.specs.Given.SeizeWordsPlan.{Plan, Then, Turn, Do, Now, Seeing, Sure, May, MaySee, Steps, plan_as, then_as}
+use Rattle.seize.specs.Given.SeizeWordsDeclared.fault.Fault.{Fault}
+use Rattle.seize.specs.Given.SeizeWordsDeclared.fault.Fault.TheVariants.{RemoveNothing}
 use Rattle.seize.specs.World.{World}
 use Rattle.seize.specs.declared.progress.Progress.{Progress}
-use Rattle.papaya_whole.proofs.Given.SeizeRule.Rows.Leaving.{steps_back}
-use Rattle.papaya_straight.specs.Given.Tables.Chunks.{is_incremental}
-use Rattle.papaya_straight.specs.Given.Tables.declared.node.Node.{Node}
-use Rattle.papaya_straight.specs.Given.Tables.declared.setting.Setting.{Setting}
-use Rattle.papaya_straight.specs.Given.Raw.Call.{call_plan}
-use Rattle.papaya_straight.specs.Given.Raw.declared.machines.answer.Called.{Called}
-use Rattle.papaya_straight.specs.Given.Raw.declared.machines.answer.Called.TheVariants as called
-use Rattle.papaya_straight.specs.Given.Raw.declared.machines.answer.KeyAnswer.{KeyAnswer}
-use Rattle.papaya_straight.specs.Given.Raw.declared.machines.asking.Asking.{Asking}
-use Rattle.papaya_straight.specs.Given.Raw.declared.machines.call.KeyCall.{KeyCall}
-use Rattle.papaya_straight.specs.Given.Raw.declared.machines.call.Calling.TheVariants as points
-use Rattle.papaya_whole.specs.Given.Rule.Chart.{Chart}
-use Rattle.papaya_whole.specs.Given.Rule.Maps.{spot_of}
-use Rattle.papaya_whole.specs.Given.Rule.Rule.{Rule}
-use Rattle.papaya_whole.specs.Given.Rule.Words.{Blocks}
-use Rattle.papaya_whole.specs.Given.Points.FactsCalls.{Change, Unchanged}
-use Rattle.papaya_whole.specs.Given.Points.Steps.{AreLawful}
-use Rattle.papaya_whole.specs.Given.Alone.Counted.{HasAdded, counted_at, counted_for}
-use Rattle.papaya_whole.specs.Given.Alone.Endings.{RunsEnd, runs_end}
-use Rattle.papaya_whole.specs.Given.Callers.Pairs.{Given, RemovesNone, kind_of}
-use Rattle.papaya_whole.specs.Given.Late.Faults.{StandsInCalling}
-use Rattle.papaya_whole.specs.Given.Late.Kinds.{IsFit, ComesFit, FaultFits, TellsFit}
-use Rattle.papaya_whole.proofs.Given.Late.KindsKept.Laws.{calls_keep_their_kind}
-use Rattle.papaya_whole.specs.Given.Callers.Sights.{Sight}
-use Rattle.papaya_whole.specs.Given.Callers.Together.{CallOnKey, OnKey as OnKeyOf, AnswersOnce, in_slot}
-use Rattle.papaya_whole.specs.Given.Rule.InWorld.{IsMapIn}
+use Rattle.papaya_whole.proofs.Given.SeizeRuleRows.Leaving.{steps_back}
+use Rattle.papaya_straight.specs.Given.TablesChunks.{is_incremental}
+use Rattle.papaya_straight.specs.Given.TablesDeclared.node.Node.{Node}
+use Rattle.papaya_straight.specs.Given.TablesDeclared.setting.Setting.{Setting}
+use Rattle.papaya_straight.specs.Given.RawCall.{call_plan}
+use Rattle.papaya_straight.specs.Given.RawDeclared.machines.answer.Called.{Called}
+use Rattle.papaya_straight.specs.Given.RawDeclared.machines.answer.Called.TheVariants as called
+use Rattle.papaya_straight.specs.Given.RawDeclared.machines.answer.KeyAnswer.{KeyAnswer}
+use Rattle.papaya_straight.specs.Given.RawDeclared.machines.asking.Asking.{Asking}
+use Rattle.papaya_straight.specs.Given.RawDeclared.machines.call.KeyCall.{KeyCall}
+use Rattle.papaya_straight.specs.Given.RawDeclared.machines.call.Calling.TheVariants as points
+use Rattle.papaya_whole.specs.Given.RuleChart.{Chart}
+use Rattle.papaya_whole.specs.Given.RuleMaps.{spot_of}
+use Rattle.papaya_whole.specs.Given.RuleRule.{Rule}
+use Rattle.papaya_whole.specs.Given.RuleWords.{Blocks}
+use Rattle.papaya_whole.specs.Given.PointsFactsCalls.{Change, Unchanged}
+use Rattle.papaya_whole.specs.Given.PointsSteps.{AreLawful}
+use Rattle.papaya_whole.specs.Given.AloneCounted.{HasAdded, counted_at, counted_for}
+use Rattle.papaya_whole.specs.Given.AloneEndings.{RunsEnd, runs_end}
+use Rattle.papaya_whole.specs.Given.CallersPairs.{Given, RemovesNone, kind_of}
+use Rattle.papaya_whole.specs.Given.LateFaults.{StandsInCalling}
+use Rattle.papaya_whole.specs.Given.LateKinds.{IsFit, ComesFit, FaultFits, TellsFit}
+use Rattle.papaya_whole.proofs.Given.LateKindsKept.Laws.{calls_keep_their_kind}
+use Rattle.papaya_whole.specs.Given.CallersSights.{Sight}
+use Rattle.papaya_whole.specs.Given.CallersTogether.{CallOnKey, OnKey as OnKeyOf, AnswersOnce, in_slot}
+use Rattle.papaya_whole.specs.Given.RuleInWorld.{IsMapIn}
 use Rattle.papaya_whole.specs.Contents.{HasRun}
 use Rattle.papaya_whole.specs.Limits.{IsForTheLast, IsTheLast}
 use Rattle.papaya_whole.specs.Owner.{AtRest, IsAlone}

@@ -3,10 +3,10 @@ use Rattle.std.specs.Cmp.{IsEquivalence}
 use Rattle.std.specs.Prelude.{◌%◌, fold}
 use Rattle.std.proofs.Common.{◌≡◌, ℕ, ◌+◌, ◌<◌, ◌^◌, Bool, true, List, ap, arith, sym, ◌∙◌}
 use Rattle.std.proofs.Math.Nat.{mod-lt}
-use Rattle.papaya_straight.proofs.Given.Tables.Classes.{asked_equal, one_class}
-use Rattle.papaya_straight.specs.Given.Tables.Probes.{triangular}
-use Rattle.papaya_whole.specs.Given.Rule.Maps.{IsClass, spot_at}
-use Rattle.papaya_whole.specs.Given.Points.Steps.{AreLawful}
+use Rattle.papaya_straight.proofs.Given.TablesClasses.{asked_equal, one_class}
+use Rattle.papaya_straight.specs.Given.TablesProbes.{triangular}
+use Rattle.papaya_whole.specs.Given.RuleMaps.{IsClass, spot_at}
+use Rattle.papaya_whole.specs.Given.PointsSteps.{AreLawful}
 use Rattle.papaya_owned.specs.Owned.{hashed_by}
 
 module _ {K S H : Type 0} (eq : K → K → Bool) (finish : H → ℕ) (write : H → List ℕ → H) (build : S → H) (input : K → List (List ℕ)) (hasher : S) where

@@ -1,24 +1,24 @@
 -- What a lookup finds is the pair of its keys in the list.
 use Rattle.std.specs.Prelude.{◌≡◌, ℕ, zero, suc, Bool, true, false, List, [], ◌∷◌, ◌++◌, Option, Some, None, if◌then◌else◌}
 use Rattle.std.proofs.Common.{refl, sym, ◌∙◌, ap, subst, inl, inr}
-use Rattle.seize.specs.Given.SeizeWords.Mem.{Mem, value_at}
-use Rattle.seize.specs.Given.SeizeWords.Word.{block_in}
+use Rattle.seize.specs.Given.SeizeWordsMem.{Mem, value_at}
+use Rattle.seize.specs.Given.SeizeWordsWord.{block_in}
 use Rattle.seize.specs.World.{World}
-use Rattle.papaya_straight.specs.Given.Tables.declared.node.Node.{Node}
-use Rattle.papaya_straight.specs.Given.Tables.declared.node.Node.TheVariants as node
-use Rattle.papaya_straight.specs.Given.Tables.declared.setting.Setting.{Setting}
-use Rattle.papaya_shown.specs.Given.Resize.Lookup.{looking}
-use Rattle.papaya_whole.specs.Given.Rule.Chart.{Chart}
-use Rattle.papaya_whole.specs.Given.Rule.Words.{Blocks}
-use Rattle.papaya_whole.specs.Given.Rule.Maps.{IsClass, IsAbsent, IsMap}
-use Rattle.papaya_whole.specs.Given.Rule.InWorld.{IsMapIn}
-use Rattle.papaya_whole.specs.Given.Points.Steps.{AreLawful}
-use Rattle.papaya_whole.proofs.Given.Points.Calls.StepsTold.{lookups_begin}
-use Rattle.papaya_whole.proofs.Given.Callers.Asked.By.{block_of_word}
+use Rattle.papaya_straight.specs.Given.TablesDeclared.node.Node.{Node}
+use Rattle.papaya_straight.specs.Given.TablesDeclared.node.Node.TheVariants as node
+use Rattle.papaya_straight.specs.Given.TablesDeclared.setting.Setting.{Setting}
+use Rattle.papaya_shown.specs.Given.ResizeLookup.{looking}
+use Rattle.papaya_whole.specs.Given.RuleChart.{Chart}
+use Rattle.papaya_whole.specs.Given.RuleWords.{Blocks}
+use Rattle.papaya_whole.specs.Given.RuleMaps.{IsClass, IsAbsent, IsMap}
+use Rattle.papaya_whole.specs.Given.RuleInWorld.{IsMapIn}
+use Rattle.papaya_whole.specs.Given.PointsSteps.{AreLawful}
+use Rattle.papaya_whole.proofs.Given.PointsCalls.StepsTold.{lookups_begin}
+use Rattle.papaya_whole.proofs.Given.CallersAsked.By.{block_of_word}
 use Rattle.papaya_whole.specs.Contents.{ContentsBelow, pair_for, without}
 use Rattle.papaya_whole.proofs.Contents.Answers.{present_below}
 use Rattle.papaya_whole.proofs.Contents.Below.{decided, ends_with, as_before, has_pair, same_key}
-use Rattle.papaya_whole.proofs.Given.Rule.World.Hands.{current_known}
+use Rattle.papaya_whole.proofs.Given.RuleWorld.Hands.{current_known}
 use Rattle.papaya_owned.specs.Looking.{LooksIn, Finds}
 use Rattle.papaya_owned.specs.Owned.{Holds, IsWordOf, found_by, left_by}
 

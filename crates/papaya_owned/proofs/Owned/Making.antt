@@ -2,46 +2,46 @@
 use Rattle.std.specs.Prelude.{◌≡◌, ℕ, zero, suc, ◌+◌, ◌^◌, ◌<◌, ◌≤◌, max, Bool, true, false, List, [], ◌∷◌, ◌++◌, Option, Some, None, Result, Ok, Err, IfErr}
 use Rattle.std.specs.Int.{IsPowerOfTwo}
 use Rattle.std.proofs.Common.{refl, sym, ◌∙◌, ap, subst, arith, inl, inr, ⊎_elim}
-use Rattle.seize.specs.Given.SeizeWords.Mem.{Mem, Can, Took, value_at, word_at}
-use Rattle.seize.specs.Given.SeizeWords.Plan.{May, Steps}
-use Rattle.seize.specs.Given.SeizeWords.declared.at.At.TheVariants.{Root, Used}
-use Rattle.seize.specs.Given.SeizeWords.declared.fault.Fault.{Fault}
-use Rattle.seize.specs.Given.SeizeWords.declared.fault.Fault.TheVariants.{Memory}
+use Rattle.seize.specs.Given.SeizeWordsMem.{Mem, Can, Took, value_at, word_at}
+use Rattle.seize.specs.Given.SeizeWordsPlan.{May, Steps}
+use Rattle.seize.specs.Given.SeizeWordsDeclared.at.At.TheVariants.{Root, Used}
+use Rattle.seize.specs.Given.SeizeWordsDeclared.fault.Fault.{Fault}
+use Rattle.seize.specs.Given.SeizeWordsDeclared.fault.Fault.TheVariants.{Memory}
 use Rattle.seize.specs.Sequence.{Turn, Whole, Between, TakesTurns, RunsOn}
 use Rattle.seize.specs.WaitingSets.{Change}
 use Rattle.seize.specs.World.{World, Event, Begin, Step, Runs, Rests, IsInside, at_start}
 use Rattle.seize.specs.declared.progress.Progress.{Progress}
 use Rattle.seize.specs.declared.progress.Progress.TheVariants as progress
-use Rattle.papaya_whole.specs.Given.SeizeAlone.Alone.{History, IsHistory, at_rest}
-use Rattle.papaya_straight.specs.Given.Tables.Lengths.{IsTableLen}
-use Rattle.papaya_straight.specs.Given.Tables.Nodes.{deferred_word}
-use Rattle.papaya_straight.specs.Given.Tables.Chunks.{is_incremental}
-use Rattle.papaya_straight.specs.Given.Tables.declared.node.Node.{Node}
-use Rattle.papaya_straight.specs.Given.Tables.declared.setting.Setting.{Setting}
-use Rattle.papaya_shown.specs.Given.Resize.NewMap.{at_root, with_counter, opening, new_map_plan}
-use Rattle.papaya_shown.specs.Given.Resize.declared.new_map.NewMap.{NewMap}
-use Rattle.papaya_whole.specs.Given.Rule.Chart.{Chart}
-use Rattle.papaya_whole.specs.Given.Rule.Rule.{no_table}
-use Rattle.papaya_whole.proofs.Given.Rule.Moves.Totals.{total_none}
-use Rattle.papaya_whole.specs.Given.Points.Steps.{AreLawful}
-use Rattle.papaya_whole.proofs.Given.Points.Making.NewTable.{links_current}
-use Rattle.papaya_whole.specs.Given.Alone.Counting.{IsCounted, one_if, pairs_in}
-use Rattle.papaya_whole.specs.Given.Alone.FactsAloneCalls.{RestsAlone}
-use Rattle.papaya_whole.proofs.Given.Alone.Lone.Beside.{rests_linked}
-use Rattle.papaya_whole.specs.Given.Callers.Together.{CameAbout, Together}
-use Rattle.papaya_whole.specs.Given.Callers.Sights.{Sight}
-use Rattle.papaya_whole.specs.Given.Rule.Words.{Blocks}
-use Rattle.papaya_whole.specs.Given.Points.Told.{OnlyLinks}
+use Rattle.papaya_whole.specs.Given.SeizeAloneAlone.{History, IsHistory, at_rest}
+use Rattle.papaya_straight.specs.Given.TablesLengths.{IsTableLen}
+use Rattle.papaya_straight.specs.Given.TablesNodes.{deferred_word}
+use Rattle.papaya_straight.specs.Given.TablesChunks.{is_incremental}
+use Rattle.papaya_straight.specs.Given.TablesDeclared.node.Node.{Node}
+use Rattle.papaya_straight.specs.Given.TablesDeclared.setting.Setting.{Setting}
+use Rattle.papaya_shown.specs.Given.ResizeNewMap.{at_root, with_counter, opening, new_map_plan}
+use Rattle.papaya_shown.specs.Given.ResizeDeclared.new_map.NewMap.{NewMap}
+use Rattle.papaya_whole.specs.Given.RuleChart.{Chart}
+use Rattle.papaya_whole.specs.Given.RuleRule.{no_table}
+use Rattle.papaya_whole.proofs.Given.RuleMoves.Totals.{total_none}
+use Rattle.papaya_whole.specs.Given.PointsSteps.{AreLawful}
+use Rattle.papaya_whole.proofs.Given.PointsMaking.NewTable.{links_current}
+use Rattle.papaya_whole.specs.Given.AloneCounting.{IsCounted, one_if, pairs_in}
+use Rattle.papaya_whole.specs.Given.AloneFactsAloneCalls.{RestsAlone}
+use Rattle.papaya_whole.proofs.Given.AloneLone.Beside.{rests_linked}
+use Rattle.papaya_whole.specs.Given.CallersTogether.{CameAbout, Together}
+use Rattle.papaya_whole.specs.Given.CallersSights.{Sight}
+use Rattle.papaya_whole.specs.Given.RuleWords.{Blocks}
+use Rattle.papaya_whole.specs.Given.PointsTold.{OnlyLinks}
 use Rattle.papaya_whole.proofs.Contents.Below.{none_last}
-use Rattle.papaya_whole.proofs.Given.Callers.Together.Users.{events_uses, events_rows}
-use Rattle.papaya_whole.specs.Given.Finishes.Makings.{Beginning, HasRoots, IsNewChart, MakingsTogether, StepsOfMaking}
-use Rattle.papaya_whole.specs.Given.Finishes.Maps.{Standing}
-use Rattle.papaya_whole.proofs.Given.Finishes.Beside.Makings.Promised.{no_makings_begin, makings_begin, makings_stand}
-use Rattle.papaya_whole.proofs.Given.Finishes.Beside.Maps.Comes.{no_maps_begin}
-use Rattle.papaya_whole.specs.Given.Maps.AloneBegins.{IsOpening, OpensTo}
-use Rattle.papaya_whole.specs.Given.Maps.FaultsBegins.{NeedsMemoryAlone, NeedsOn}
-use Rattle.papaya_whole.specs.Given.Maps.MeasuresBegins.{new_map_left}
-use Rattle.papaya_whole.proofs.Given.Maps.Laws.{maps_may_begin, maps_go_on, beginnings_come_nearer, free_roots_are_enough, only_memory_is_refused}
+use Rattle.papaya_whole.proofs.Given.CallersTogether.Users.{events_uses, events_rows}
+use Rattle.papaya_whole.specs.Given.FinishesMakings.{Beginning, HasRoots, IsNewChart, MakingsTogether, StepsOfMaking}
+use Rattle.papaya_whole.specs.Given.FinishesMaps.{Standing}
+use Rattle.papaya_whole.proofs.Given.FinishesBeside.Makings.Promised.{no_makings_begin, makings_begin, makings_stand}
+use Rattle.papaya_whole.proofs.Given.FinishesBeside.Maps.Comes.{no_maps_begin}
+use Rattle.papaya_whole.specs.Given.MapsAloneBegins.{IsOpening, OpensTo}
+use Rattle.papaya_whole.specs.Given.MapsFaultsBegins.{NeedsMemoryAlone, NeedsOn}
+use Rattle.papaya_whole.specs.Given.MapsMeasuresBegins.{new_map_left}
+use Rattle.papaya_whole.proofs.Given.MapsLaws.{maps_may_begin, maps_go_on, beginnings_come_nearer, free_roots_are_enough, only_memory_is_refused}
 use Rattle.papaya_whole.specs.Contents.{ContentsBelow}
 use Rattle.papaya_whole.specs.Owner.{AtRest}
 use Rattle.papaya_owned.specs.Ending.{GoesOn, Tells, Ends, all_end, RunsTo, stops, goes}

@@ -2,7 +2,7 @@
 use Rattle.std.specs.Int.{IsPowerOfTwo}
 use Rattle.std.specs.Prelude.{max}
 use Rattle.std.proofs.Common.{◌≡◌, ℕ, ◌≤◌, ◌^◌, ◌⊎◌, inl, inr, refl, sym, subst, arith}
-use Rattle.papaya_straight.specs.Given.Tables.Lengths.{IsTableLen}
+use Rattle.papaya_straight.specs.Given.TablesLengths.{IsTableLen}
 
 one_of : (a b : ℕ) → (max a b ≡ a) ⊎ (max a b ≡ b)
 one_of a b = grind arith

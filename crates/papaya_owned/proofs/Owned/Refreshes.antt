@@ -3,12 +3,12 @@ use Rattle.std.specs.Prelude.{◌≡◌, ◌≢◌, ℕ, zero, suc, ◌+◌, ◌
 use Rattle.std.proofs.Common.{refl, sym, ◌∙◌, ap, subst, arith, inl, inr, eqb}
 use Rattle.std.specs.Prelude.{cond}
 use Rattle.std.proofs.lemmas.Bool.{eqb-true, eqb-false, eq-eqb, false_from_ne_true}
-use Rattle.seize.specs.Given.SeizeWords.Mem.{Mem, Can, Took, value_at, with_word}
-use Rattle.seize.specs.Given.SeizeWords.Plan.{Plan, Now, May, Steps}
-use Rattle.seize.specs.Given.SeizeWords.declared.at.At.TheVariants.{Slot}
-use Rattle.seize.specs.Given.SeizeWords.declared.fault.Fault.{Fault}
-use Rattle.seize.proofs.Given.SeizeWords.OneOwner.Operations.{swapped, stored}
-use Rattle.seize.proofs.Given.SeizeWords.Plans.{ends_if}
+use Rattle.seize.specs.Given.SeizeWordsMem.{Mem, Can, Took, value_at, with_word}
+use Rattle.seize.specs.Given.SeizeWordsPlan.{Plan, Now, May, Steps}
+use Rattle.seize.specs.Given.SeizeWordsDeclared.at.At.TheVariants.{Slot}
+use Rattle.seize.specs.Given.SeizeWordsDeclared.fault.Fault.{Fault}
+use Rattle.seize.proofs.Given.SeizeWordsOneOwner.Operations.{swapped, stored}
+use Rattle.seize.proofs.Given.SeizeWordsPlans.{ends_if}
 use Rattle.seize.specs.Leave.{leave_plan, plan_at as leave_plan_at, list_taken, settled, counted_down, standing, leaving as leaving_slot}
 use Rattle.seize.specs.Settle.{settle_plan, counting_down}
 use Rattle.seize.specs.World.{World, Row, Rests, Leaves, Refresh, Steps', MayStep, IsInside, Vacant, Outside, Inside, Changing, Use, leaves_on, left_as, left_row, with_row, with_use, at_start}
@@ -20,32 +20,32 @@ use Rattle.seize.specs.declared.rows.settle.Settle.{Settle}
 use Rattle.seize.specs.declared.rows.settle.Settled.{Settled}
 use Rattle.seize.specs.declared.rows.settle.Settled.TheVariants as settling
 use Rattle.seize.specs.declared.states.TheConstants.{ACTIVE, HEAD, FREE, LAST_SLOT}
-use Rattle.papaya_whole.proofs.Given.SeizeRule.Rows.Leaving.{steps_back}
-use Rattle.papaya_whole.proofs.Given.SeizeRule.Rows.Others.{with_here, with_other}
-use Rattle.papaya_whole.proofs.Given.SeizeRule.Rows.Teams.{UseFits}
-use Rattle.papaya_whole.proofs.Given.SeizeRule.Rows.Known.{works_on}
-use Rattle.papaya_whole.proofs.Given.SeizeMoves.State.Ghost.{Head}
-use Rattle.papaya_whole.specs.Given.SeizeWaiting.Held.{count, same as same_number}
-use Rattle.papaya_whole.proofs.Given.SeizeAlone.Histories.Reached.{Reached}
-use Rattle.papaya_whole.proofs.Given.SeizeRule.World.Start.{start_good}
-use Rattle.papaya_whole.proofs.Given.SeizeAlone.Histories.NotTaken.{kept_value}
-use Rattle.papaya_whole.proofs.Given.SeizeEnds.Batches.Rows.{HeldByRows, start_held, runs_held}
-use Rattle.papaya_whole.proofs.Given.SeizeEnds.Rows.Lone.{leave_to_go, leaves_lower}
-use Rattle.papaya_whole.proofs.Given.SeizeEnds.Settling.Most.{is_going}
-use Rattle.papaya_straight.specs.Given.Tables.Nodes.{deferred_word}
-use Rattle.papaya_straight.specs.Given.Tables.Chunks.{is_incremental}
-use Rattle.papaya_straight.specs.Given.Tables.declared.node.Node.{Node}
-use Rattle.papaya_straight.specs.Given.Tables.declared.setting.Setting.{Setting}
-use Rattle.papaya_whole.specs.Given.Rule.InWorld.{IsMapIn}
-use Rattle.papaya_whole.specs.Given.Rule.Words.{Blocks}
-use Rattle.papaya_whole.specs.Given.Alone.Counted.{HasAdded}
-use Rattle.papaya_whole.specs.Given.Alone.Counting.{IsCounted}
-use Rattle.papaya_whole.specs.Given.Callers.Sights.{Sight}
-use Rattle.papaya_whole.specs.Given.Callers.Together.{Together, AllStand}
-use Rattle.papaya_whole.proofs.Given.Callers.Rows.Keep.{kept_block, used_kept}
-use Rattle.papaya_whole.proofs.Given.Callers.Together.Came.{came_reached}
-use Rattle.papaya_whole.proofs.Given.Callers.Together.Guards.{guards_stand_together}
-use Rattle.papaya_whole.proofs.Given.Callers.Together.Rows.{map2}
+use Rattle.papaya_whole.proofs.Given.SeizeRuleRows.Leaving.{steps_back}
+use Rattle.papaya_whole.proofs.Given.SeizeRuleRows.Others.{with_here, with_other}
+use Rattle.papaya_whole.proofs.Given.SeizeRuleRows.Teams.{UseFits}
+use Rattle.papaya_whole.proofs.Given.SeizeRuleRows.Known.{works_on}
+use Rattle.papaya_whole.proofs.Given.SeizeMovesState.Ghost.{Head}
+use Rattle.papaya_whole.specs.Given.SeizeWaitingHeld.{count, same as same_number}
+use Rattle.papaya_whole.proofs.Given.SeizeAloneHistories.Reached.{Reached}
+use Rattle.papaya_whole.proofs.Given.SeizeRuleWorld.Start.{start_good}
+use Rattle.papaya_whole.proofs.Given.SeizeAloneHistories.NotTaken.{kept_value}
+use Rattle.papaya_whole.proofs.Given.SeizeEndsBatches.Rows.{HeldByRows, start_held, runs_held}
+use Rattle.papaya_whole.proofs.Given.SeizeEndsRows.Lone.{leave_to_go, leaves_lower}
+use Rattle.papaya_whole.proofs.Given.SeizeEndsSettling.Most.{is_going}
+use Rattle.papaya_straight.specs.Given.TablesNodes.{deferred_word}
+use Rattle.papaya_straight.specs.Given.TablesChunks.{is_incremental}
+use Rattle.papaya_straight.specs.Given.TablesDeclared.node.Node.{Node}
+use Rattle.papaya_straight.specs.Given.TablesDeclared.setting.Setting.{Setting}
+use Rattle.papaya_whole.specs.Given.RuleInWorld.{IsMapIn}
+use Rattle.papaya_whole.specs.Given.RuleWords.{Blocks}
+use Rattle.papaya_whole.specs.Given.AloneCounted.{HasAdded}
+use Rattle.papaya_whole.specs.Given.AloneCounting.{IsCounted}
+use Rattle.papaya_whole.specs.Given.CallersSights.{Sight}
+use Rattle.papaya_whole.specs.Given.CallersTogether.{Together, AllStand}
+use Rattle.papaya_whole.proofs.Given.CallersRows.Keep.{kept_block, used_kept}
+use Rattle.papaya_whole.proofs.Given.CallersTogether.Came.{came_reached}
+use Rattle.papaya_whole.proofs.Given.CallersTogether.Guards.{guards_stand_together}
+use Rattle.papaya_whole.proofs.Given.CallersTogether.Rows.{map2}
 use Rattle.papaya_whole.proofs.Contents.Below.{below_stays}
 use Rattle.papaya_whole.proofs.Rows.Shards.{row_shards}
 use Rattle.papaya_owned.specs.Ending.{Ends, all_end, RunsTo}

@@ -3,36 +3,36 @@ use Rattle.std.specs.Prelude.{◌≡◌, ℕ, suc, ◌+◌, ◌-◌, ◌*◌, �
 use Rattle.std.proofs.Common.{refl, sym, ◌∙◌, ap, subst, arith, inl, inr}
 use Rattle.std.proofs.lemmas.Bool.{ne_eqb}
 use denote.Ref.{Bor}
-use Rattle.seize.specs.Given.SeizeWords.Mem.{Mem, Can, Took, value_at, word_at}
-use Rattle.seize.specs.Given.SeizeWords.Plan.{Plan, May, Steps}
-use Rattle.seize.specs.Given.SeizeWords.Word.{block_in}
-use Rattle.seize.specs.Given.SeizeWords.declared.at.At.TheVariants.{Root}
-use Rattle.seize.specs.Given.SeizeWords.declared.fault.Fault.{Fault}
+use Rattle.seize.specs.Given.SeizeWordsMem.{Mem, Can, Took, value_at, word_at}
+use Rattle.seize.specs.Given.SeizeWordsPlan.{Plan, May, Steps}
+use Rattle.seize.specs.Given.SeizeWordsWord.{block_in}
+use Rattle.seize.specs.Given.SeizeWordsDeclared.at.At.TheVariants.{Root}
+use Rattle.seize.specs.Given.SeizeWordsDeclared.fault.Fault.{Fault}
 use Rattle.seize.specs.World.{World}
 use Rattle.seize.specs.declared.progress.Progress.{Progress}
-use Rattle.papaya_whole.proofs.Given.SeizeRule.Rows.Leaving.{steps_back}
-use Rattle.papaya_straight.specs.Given.Tables.Counts.{count_in}
-use Rattle.papaya_straight.specs.Given.Tables.declared.node.Node.{Node}
-use Rattle.papaya_straight.specs.Given.Tables.declared.node.Node.TheVariants as node
-use Rattle.papaya_straight.specs.Given.Tables.declared.setting.Setting.{Setting}
-use Rattle.papaya_shown.specs.Given.Resize.declared.outcome.Outcome.{Outcome}
-use Rattle.papaya_shown.specs.Given.Resize.declared.outcome.Outcome.TheVariants as outcome
-use Rattle.papaya_whole.specs.Given.Reserves.Reserve.{needed, reserving, reserve_plan}
-use Rattle.papaya_whole.specs.Given.Reserves.declared.reserve.Reserve.{Reserve}
-use Rattle.papaya_whole.specs.Given.Rule.Chart.{Chart}
-use Rattle.papaya_whole.specs.Given.Rule.Words.{Blocks}
-use Rattle.papaya_whole.specs.Given.Rule.InWorld.{IsMapIn}
-use Rattle.papaya_whole.specs.Given.Points.FactsCalls.{Unchanged}
-use Rattle.papaya_whole.specs.Given.Alone.Counted.{HasAdded}
-use Rattle.papaya_whole.specs.Given.Alone.Counting.{IsCounted, shards_sum}
-use Rattle.papaya_whole.specs.Given.Alone.Endings.{RunsEnd, runs_end}
-use Rattle.papaya_whole.specs.Given.Late.Faults.{IsRoom, RoomInReserving, RefusesRoom, RefusesSo, StandsInReserving}
-use Rattle.papaya_whole.proofs.Given.Late.KindsKept.Laws.{reserves_refuse_room, reserves_ask_on}
-use Rattle.papaya_whole.specs.Given.Maps.AloneReserves.{LooksAtRoot, SumsUp, RootHasPlaces}
-use Rattle.papaya_whole.specs.Given.Maps.EndingsReserves.{HasMore, StepsOn}
-use Rattle.papaya_whole.specs.Given.Callers.Sights.{Sight}
-use Rattle.papaya_whole.specs.Given.Callers.Together.{ForRoom as ForRoomOf, in_slot}
-use Rattle.papaya_whole.specs.Given.Callers.Rooms.{CallForRoom}
+use Rattle.papaya_whole.proofs.Given.SeizeRuleRows.Leaving.{steps_back}
+use Rattle.papaya_straight.specs.Given.TablesCounts.{count_in}
+use Rattle.papaya_straight.specs.Given.TablesDeclared.node.Node.{Node}
+use Rattle.papaya_straight.specs.Given.TablesDeclared.node.Node.TheVariants as node
+use Rattle.papaya_straight.specs.Given.TablesDeclared.setting.Setting.{Setting}
+use Rattle.papaya_shown.specs.Given.ResizeDeclared.outcome.Outcome.{Outcome}
+use Rattle.papaya_shown.specs.Given.ResizeDeclared.outcome.Outcome.TheVariants as outcome
+use Rattle.papaya_whole.specs.Given.ReservesReserve.{needed, reserving, reserve_plan}
+use Rattle.papaya_whole.specs.Given.ReservesDeclared.reserve.Reserve.{Reserve}
+use Rattle.papaya_whole.specs.Given.RuleChart.{Chart}
+use Rattle.papaya_whole.specs.Given.RuleWords.{Blocks}
+use Rattle.papaya_whole.specs.Given.RuleInWorld.{IsMapIn}
+use Rattle.papaya_whole.specs.Given.PointsFactsCalls.{Unchanged}
+use Rattle.papaya_whole.specs.Given.AloneCounted.{HasAdded}
+use Rattle.papaya_whole.specs.Given.AloneCounting.{IsCounted, shards_sum}
+use Rattle.papaya_whole.specs.Given.AloneEndings.{RunsEnd, runs_end}
+use Rattle.papaya_whole.specs.Given.LateFaults.{IsRoom, RoomInReserving, RefusesRoom, RefusesSo, StandsInReserving}
+use Rattle.papaya_whole.proofs.Given.LateKindsKept.Laws.{reserves_refuse_room, reserves_ask_on}
+use Rattle.papaya_whole.specs.Given.MapsAloneReserves.{LooksAtRoot, SumsUp, RootHasPlaces}
+use Rattle.papaya_whole.specs.Given.MapsEndingsReserves.{HasMore, StepsOn}
+use Rattle.papaya_whole.specs.Given.CallersSights.{Sight}
+use Rattle.papaya_whole.specs.Given.CallersTogether.{ForRoom as ForRoomOf, in_slot}
+use Rattle.papaya_whole.specs.Given.CallersRooms.{CallForRoom}
 use Rattle.papaya_whole.specs.Contents.{AreContents, ContentsBelow, HasRun}
 use Rattle.papaya_whole.specs.Limits.{LastEnds, IsForRoom, IsTheLast}
 use Rattle.papaya_whole.specs.Owner.{AtRest, IsAlone}

@@ -1,16 +1,16 @@
 -- Each pair of the map stands in a block of its own.
 use Rattle.std.specs.Prelude.{◌≡◌, ◌≢◌, ℕ, zero, suc, ◌<◌, Bool, true, false, cond, List, [], ◌∷◌, ◌++◌, Some}
 use Rattle.std.proofs.Common.{refl, sym, ◌∙◌, ap, subst, arith, inl, inr}
-use Rattle.seize.specs.Given.SeizeWords.Mem.{Mem, value_at}
+use Rattle.seize.specs.Given.SeizeWordsMem.{Mem, value_at}
 use Rattle.seize.specs.World.{times}
-use Rattle.papaya_straight.specs.Given.Tables.declared.node.Node.{Node}
-use Rattle.papaya_straight.specs.Given.Tables.declared.node.Node.TheVariants as node
-use Rattle.papaya_straight.specs.Given.Tables.declared.setting.Setting.{Setting}
-use Rattle.papaya_whole.specs.Given.Rule.Chart.{Chart}
-use Rattle.papaya_whole.specs.Given.Rule.InWorld.{IsMapIn}
-use Rattle.papaya_whole.specs.Given.Rule.Words.{Blocks}
-use Rattle.papaya_whole.proofs.Given.Rule.World.Hands.{current_known}
-use Rattle.papaya_whole.proofs.Given.Finishes.Ends.CountedBlocks.{times-append, times_here, times_other}
+use Rattle.papaya_straight.specs.Given.TablesDeclared.node.Node.{Node}
+use Rattle.papaya_straight.specs.Given.TablesDeclared.node.Node.TheVariants as node
+use Rattle.papaya_straight.specs.Given.TablesDeclared.setting.Setting.{Setting}
+use Rattle.papaya_whole.specs.Given.RuleChart.{Chart}
+use Rattle.papaya_whole.specs.Given.RuleInWorld.{IsMapIn}
+use Rattle.papaya_whole.specs.Given.RuleWords.{Blocks}
+use Rattle.papaya_whole.proofs.Given.RuleWorld.Hands.{current_known}
+use Rattle.papaya_whole.proofs.Given.FinishesEnds.CountedBlocks.{times-append, times_here, times_other}
 use Rattle.papaya_whole.specs.Contents.{ContentsBelow}
 use Rattle.papaya_whole.proofs.Contents.Below.{ends_with, as_before, decided}
 use Rattle.papaya_owned.specs.Owned.{Holds}

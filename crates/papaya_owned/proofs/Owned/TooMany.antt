@@ -3,46 +3,46 @@ use Rattle.std.specs.Prelude.{◌≡◌, ℕ, zero, suc, ◌+◌, ◌^◌, ◌<�
 use Rattle.std.proofs.Common.{refl, sym, ◌∙◌, ap, subst, arith, inl, inr}
 use Rattle.std.proofs.lemmas.Bool.{lt-ltb, lt-leb}
 use denote.Ref.{Bor}
-use Rattle.seize.specs.Given.SeizeWords.Mem.{Mem, Took, value_at}
-use Rattle.seize.specs.Given.SeizeWords.Plan.{Steps}
-use Rattle.seize.specs.Given.SeizeWords.declared.at.At.TheVariants.{Root}
-use Rattle.seize.specs.Given.SeizeWords.declared.fault.Fault.{Fault}
-use Rattle.seize.specs.Given.SeizeWords.declared.fault.Fault.TheVariants.{Capacity}
-use Rattle.seize.specs.Given.SeizeWords.Op.{Found}
-use Rattle.seize.proofs.Given.SeizeWords.OneOwner.Operations.{loaded}
+use Rattle.seize.specs.Given.SeizeWordsMem.{Mem, Took, value_at}
+use Rattle.seize.specs.Given.SeizeWordsPlan.{Steps}
+use Rattle.seize.specs.Given.SeizeWordsDeclared.at.At.TheVariants.{Root}
+use Rattle.seize.specs.Given.SeizeWordsDeclared.fault.Fault.{Fault}
+use Rattle.seize.specs.Given.SeizeWordsDeclared.fault.Fault.TheVariants.{Capacity}
+use Rattle.seize.specs.Given.SeizeWordsOp.{Found}
+use Rattle.seize.proofs.Given.SeizeWordsOneOwner.Operations.{loaded}
 use Rattle.seize.specs.declared.progress.Progress.{Progress}
 use Rattle.seize.specs.declared.progress.Progress.TheVariants as progress
-use Rattle.papaya_whole.proofs.Given.SeizeRule.Rows.Leaving.{steps_back}
-use Rattle.papaya_straight.proofs.Given.Tables.TableLens.{have_table_lens}
-use Rattle.papaya_straight.specs.Given.Tables.Lengths.{IsTableLen, places_for}
-use Rattle.papaya_straight.specs.Given.Tables.declared.node.Node.{Node}
-use Rattle.papaya_straight.specs.Given.Tables.declared.node.Node.TheVariants as node
-use Rattle.papaya_straight.specs.Given.Tables.declared.setting.Setting.{Setting}
-use Rattle.papaya_straight.specs.Given.Tables.declared.table.Table.{Table}
-use Rattle.papaya_shown.specs.Given.Resize.NewTable.{first_table, making_first, new_table_plan, plan_at as making_at, planned}
-use Rattle.papaya_straight.specs.Given.Tables.Powers.{next_power}
-use Rattle.papaya_straight.specs.Given.Tables.Probes.{limit_of}
-use Rattle.papaya_shown.specs.Given.Resize.Sum.{sum_plan}
-use Rattle.papaya_shown.specs.Given.Resize.declared.new_table.Making.{Making}
-use Rattle.papaya_shown.specs.Given.Resize.declared.new_table.Making.TheVariants as makes
-use Rattle.papaya_shown.specs.Given.Resize.declared.new_table.NewTable.{NewTable}
-use Rattle.papaya_shown.specs.Given.Resize.declared.outcome.Outcome.{Outcome}
-use Rattle.papaya_shown.specs.Given.Resize.declared.outcome.Outcome.TheVariants as outcome
-use Rattle.papaya_shown.specs.Given.Resize.declared.sum.Sum.{Sum}
-use Rattle.papaya_whole.specs.Given.Reserves.Reserve.{enough, made, needed, or_too_long, plan_at, refusing, reserve_plan, reserving, root_read, standing, summed}
-use Rattle.papaya_whole.specs.Given.Reserves.declared.reserve.Reserve.{Reserve}
-use Rattle.papaya_whole.specs.Given.Reserves.declared.reserve.Reserving.{Reserving}
-use Rattle.papaya_whole.specs.Given.Reserves.declared.reserve.Reserving.TheVariants as at
-use Rattle.papaya_whole.specs.Given.Rule.Chart.{Chart}
-use Rattle.papaya_whole.specs.Given.Rule.Words.{Blocks}
-use Rattle.papaya_whole.specs.Given.Callers.Sights.{seen_by}
-use Rattle.papaya_whole.specs.Given.Points.FactsTables.{SumFacts}
-use Rattle.papaya_whole.specs.Given.Late.FactsReserves.{ReservingFacts}
-use Rattle.papaya_whole.specs.Given.Late.ToldReserves.{IsRowOfReserve}
-use Rattle.papaya_whole.specs.Given.Maps.AloneReserves.{LooksAtRoot, SumsUp}
-use Rattle.papaya_whole.proofs.Given.Rule.Keys.Always.{always_ends, always_steps}
-use Rattle.papaya_whole.proofs.Given.Late.KindsKept.Rooms.Making.{CountsOn, always_where, sum_counts}
-use Rattle.papaya_whole.proofs.Given.Maps.Reserves.Sums.{Ahead, sum_ahead}
+use Rattle.papaya_whole.proofs.Given.SeizeRuleRows.Leaving.{steps_back}
+use Rattle.papaya_straight.proofs.Given.TablesTableLens.{have_table_lens}
+use Rattle.papaya_straight.specs.Given.TablesLengths.{IsTableLen, places_for}
+use Rattle.papaya_straight.specs.Given.TablesDeclared.node.Node.{Node}
+use Rattle.papaya_straight.specs.Given.TablesDeclared.node.Node.TheVariants as node
+use Rattle.papaya_straight.specs.Given.TablesDeclared.setting.Setting.{Setting}
+use Rattle.papaya_straight.specs.Given.TablesDeclared.table.Table.{Table}
+use Rattle.papaya_shown.specs.Given.ResizeNewTable.{first_table, making_first, new_table_plan, plan_at as making_at, planned}
+use Rattle.papaya_straight.specs.Given.TablesPowers.{next_power}
+use Rattle.papaya_straight.specs.Given.TablesProbes.{limit_of}
+use Rattle.papaya_shown.specs.Given.ResizeSum.{sum_plan}
+use Rattle.papaya_shown.specs.Given.ResizeDeclared.new_table.Making.{Making}
+use Rattle.papaya_shown.specs.Given.ResizeDeclared.new_table.Making.TheVariants as makes
+use Rattle.papaya_shown.specs.Given.ResizeDeclared.new_table.NewTable.{NewTable}
+use Rattle.papaya_shown.specs.Given.ResizeDeclared.outcome.Outcome.{Outcome}
+use Rattle.papaya_shown.specs.Given.ResizeDeclared.outcome.Outcome.TheVariants as outcome
+use Rattle.papaya_shown.specs.Given.ResizeDeclared.sum.Sum.{Sum}
+use Rattle.papaya_whole.specs.Given.ReservesReserve.{enough, made, needed, or_too_long, plan_at, refusing, reserve_plan, reserving, root_read, standing, summed}
+use Rattle.papaya_whole.specs.Given.ReservesDeclared.reserve.Reserve.{Reserve}
+use Rattle.papaya_whole.specs.Given.ReservesDeclared.reserve.Reserving.{Reserving}
+use Rattle.papaya_whole.specs.Given.ReservesDeclared.reserve.Reserving.TheVariants as at
+use Rattle.papaya_whole.specs.Given.RuleChart.{Chart}
+use Rattle.papaya_whole.specs.Given.RuleWords.{Blocks}
+use Rattle.papaya_whole.specs.Given.CallersSights.{seen_by}
+use Rattle.papaya_whole.specs.Given.PointsFactsTables.{SumFacts}
+use Rattle.papaya_whole.specs.Given.LateFactsReserves.{ReservingFacts}
+use Rattle.papaya_whole.specs.Given.LateToldReserves.{IsRowOfReserve}
+use Rattle.papaya_whole.specs.Given.MapsAloneReserves.{LooksAtRoot, SumsUp}
+use Rattle.papaya_whole.proofs.Given.RuleKeys.Always.{always_ends, always_steps}
+use Rattle.papaya_whole.proofs.Given.LateKindsKept.Rooms.Making.{CountsOn, always_where, sum_counts}
+use Rattle.papaya_whole.proofs.Given.MapsReserves.Sums.{Ahead, sum_ahead}
 use Rattle.papaya_whole.specs.Contents.{ContentsBelow}
 use Rattle.papaya_whole.proofs.Contents.Below.{below_stays}
 use Rattle.papaya_whole.proofs.Rooms.Own.{knows_here}

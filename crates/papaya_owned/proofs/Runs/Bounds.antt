@@ -2,11 +2,11 @@
 use Rattle.std.specs.Prelude.{◌≡◌, ◌≢◌, ℕ, zero, suc, ◌+◌, ◌<◌, ◌≤◌, ◌==◌, ◌&&◌, ◌^◌, Bool, true, false, cond, length, Option, Some, None, Ok, Err}
 use Rattle.std.proofs.Common.{refl, sym, ◌∙◌, ap, arith, ⊎_elim}
 use Rattle.std.proofs.lemmas.Bool.{eqb-true, eqb-false, false≢true, cases_lt}
-use Rattle.seize.specs.Given.SeizeWords.Mem.{Mem, Gives, block_of, value_at, word_at}
-use Rattle.seize.specs.Given.SeizeWords.Op.{Op, Out, Load, Store, Swap, Add, Or, Exchange, Make, Take, Rewrite, Room, Found, Stored, Exchanged, Made, Taken, Roomed}
-use Rattle.seize.specs.Given.SeizeWords.Place.{capacity}
-use Rattle.seize.specs.Given.SeizeWords.Plan.{Then, Now, Seeing, Sure, Ends}
-use Rattle.seize.specs.Given.SeizeWords.declared.fault.Fault.TheVariants.{Memory}
+use Rattle.seize.specs.Given.SeizeWordsMem.{Mem, Gives, block_of, value_at, word_at}
+use Rattle.seize.specs.Given.SeizeWordsOp.{Op, Out, Load, Store, Swap, Add, Or, Exchange, Make, Take, Rewrite, Room, Found, Stored, Exchanged, Made, Taken, Roomed}
+use Rattle.seize.specs.Given.SeizeWordsPlace.{capacity}
+use Rattle.seize.specs.Given.SeizeWordsPlan.{Then, Now, Seeing, Sure, Ends}
+use Rattle.seize.specs.Given.SeizeWordsDeclared.fault.Fault.TheVariants.{Memory}
 use Rattle.papaya_owned.specs.Within.{of_some, all_below, is_free, of_answers, of_ends}
 
 pub both : (a b : Bool) → a ≡ true → b ≡ true → (a && b) ≡ true

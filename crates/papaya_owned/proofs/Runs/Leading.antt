@@ -1,9 +1,9 @@
 -- What is so of a machine is so, too, where some steps that go on have led from there.
 use Rattle.std.specs.Prelude.{◌≡◌, ◌<◌, ◌≤◌, ℕ, true, Result}
 use Rattle.std.proofs.Common.{sym, ◌∙◌, ap, subst, arith}
-use Rattle.seize.specs.Given.SeizeWords.Mem.{Mem}
-use Rattle.seize.specs.Given.SeizeWords.Plan.{Plan}
-use Rattle.seize.specs.Given.SeizeWords.declared.fault.Fault.{Fault}
+use Rattle.seize.specs.Given.SeizeWordsMem.{Mem}
+use Rattle.seize.specs.Given.SeizeWordsPlan.{Plan}
+use Rattle.seize.specs.Given.SeizeWordsDeclared.fault.Fault.{Fault}
 use Rattle.seize.specs.declared.progress.Progress.{Progress}
 use Rattle.papaya_owned.specs.Ending.{Ends, GoesOn, Tells, Leads, Strides, none_taken, one_more, RunsTo, goes, stops}
 use Rattle.papaya_owned.specs.Within.{IsLeast, within}

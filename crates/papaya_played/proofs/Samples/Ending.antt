@@ -1,14 +1,14 @@
 -- A short list of acts, played: a map ends with its pair; one is refused as it is made, and one is made without a table.
 use Rattle.std.specs.Prelude.{◌++◌, replicate}
 use Rattle.std.proofs.Common.{◌≡◌, ℕ, true, List, [], ◌∷◌, refl, Some, None}
-use Rattle.papaya_deeds.specs.Given.SeizeWords.declared.fault.Fault.TheVariants.{Memory}
-use Rattle.papaya_runs.specs.Given.Seize.World.{Leave'}
-use Rattle.papaya_runs.specs.Given.Tables.declared.resize_mode.ResizeMode.TheVariants as mode
-use Rattle.papaya_runs.specs.Given.Tables.declared.setting.Setting.{Setting}
-use Rattle.papaya_deeds.specs.Given.Schedules.declared.effect.Effect.TheVariants.{Asked, Ended, Taken}
-use Rattle.papaya_deeds.specs.Given.Schedules.declared.effect.Growth.TheVariants.{ABlock}
-use Rattle.papaya_deeds.specs.Given.Schedules.declared.outcome.Outcome.TheVariants.{Done, Goes, Refused}
-use Rattle.papaya_deeds.specs.Given.Schedules.Views.{size_of, tables_of}
+use Rattle.papaya_deeds.specs.Given.SeizeWordsDeclared.fault.Fault.TheVariants.{Memory}
+use Rattle.papaya_runs.specs.Given.SeizeWorld.{Leave'}
+use Rattle.papaya_runs.specs.Given.TablesDeclared.resize_mode.ResizeMode.TheVariants as mode
+use Rattle.papaya_runs.specs.Given.TablesDeclared.setting.Setting.{Setting}
+use Rattle.papaya_deeds.specs.Given.SchedulesDeclared.effect.Effect.TheVariants.{Asked, Ended, Taken}
+use Rattle.papaya_deeds.specs.Given.SchedulesDeclared.effect.Growth.TheVariants.{ABlock}
+use Rattle.papaya_deeds.specs.Given.SchedulesDeclared.outcome.Outcome.TheVariants.{Done, Goes, Refused}
+use Rattle.papaya_deeds.specs.Given.SchedulesViews.{size_of, tables_of}
 use Rattle.papaya_acts.specs.Acts.{BeginsMaking, StepsMaking, BeginsEnding, StepsEnding, BeginsRow, StepsRow}
 use Rattle.papaya_deeds.specs.Deeds.{Shuts, Leaves, MapComes, Makes, MapFails, Ends, MapGoes, Entry, moment}
 use Rattle.papaya_played.proofs.Samples.{Doings, does, entry, finds, first, found, given, history_of}

@@ -1,14 +1,14 @@
 -- A short list of acts, played: a pair is removed, waits for the section that is open, and is reclaimed as that ends, or by who reclaims all.
 use Rattle.std.specs.Prelude.{◌++◌, replicate}
 use Rattle.std.proofs.Common.{◌≡◌, ℕ, true, false, List, [], ◌∷◌, refl, Some, None}
-use Rattle.papaya_runs.specs.Given.Seize.World.{Leave'}
-use Rattle.papaya_deeds.specs.Given.Schedules.declared.call.Answer.TheVariants as answer
-use Rattle.papaya_deeds.specs.Given.Schedules.declared.call.Call.TheVariants.{On}
-use Rattle.papaya_deeds.specs.Given.Schedules.declared.call.OneKey.TheVariants as one
-use Rattle.papaya_deeds.specs.Given.Schedules.declared.effect.Effect.TheVariants.{Counted, Removed, Retired, Reclaimed}
-use Rattle.papaya_deeds.specs.Given.Schedules.declared.effect.Thing.TheVariants.{APair}
-use Rattle.papaya_deeds.specs.Given.Schedules.declared.outcome.Outcome.TheVariants.{Done, Goes, Answered}
-use Rattle.papaya_deeds.specs.Given.Schedules.Moment.{Handed, GivenBack}
+use Rattle.papaya_runs.specs.Given.SeizeWorld.{Leave'}
+use Rattle.papaya_deeds.specs.Given.SchedulesDeclared.call.Answer.TheVariants as answer
+use Rattle.papaya_deeds.specs.Given.SchedulesDeclared.call.Call.TheVariants.{On}
+use Rattle.papaya_deeds.specs.Given.SchedulesDeclared.call.OneKey.TheVariants as one
+use Rattle.papaya_deeds.specs.Given.SchedulesDeclared.effect.Effect.TheVariants.{Counted, Removed, Retired, Reclaimed}
+use Rattle.papaya_deeds.specs.Given.SchedulesDeclared.effect.Thing.TheVariants.{APair}
+use Rattle.papaya_deeds.specs.Given.SchedulesDeclared.outcome.Outcome.TheVariants.{Done, Goes, Answered}
+use Rattle.papaya_deeds.specs.Given.SchedulesMoment.{Handed, GivenBack}
 use Rattle.papaya_acts.specs.Acts.{Remove, BeginsCall, StepsCall, BeginsRow, StepsRow}
 use Rattle.papaya_acts.specs.Doings.{BeginsReclaiming, StepsReclaiming}
 use Rattle.papaya_deeds.specs.Deeds.{Begins, Steps, Shuts, Leaves, ReclaimsAll, Entry, moment, named}

@@ -1,23 +1,23 @@
 -- In blocking mode, a copier tries a place of its target for a pair, whichever table it copies.
 use Rattle.std.specs.Prelude.{Some}
 use Rattle.std.proofs.Common.{◌≡◌, ℕ, ◌+◌, ◌<◌, ◌==◌, Bool, true, false, ap, sym, subst, ◌∙◌}
-use Rattle.papaya_rule.specs.Given.SeizeWords.declared.at.At.{At}
-use Rattle.papaya_rule.specs.Given.SeizeWords.declared.at.At.TheVariants.{Word}
-use Rattle.papaya_rule.specs.Given.SeizeWords.Mem.{Can, Took, value_at, word_at, with_word}
-use Rattle.papaya_rule.specs.Given.SeizeWords.Plan.{May}
-use Rattle.papaya_rule.proofs.Given.SeizeWords.OneOwner.Operations.{may_load, may_exchange}
-use Rattle.papaya_rule.proofs.Given.SeizeWords.Plans.{see_if}
-use Rattle.papaya_rule.specs.Given.Seize.World.{World}
-use Rattle.papaya_rule.specs.Given.Tables.Chunks.{is_incremental}
-use Rattle.papaya_rule.specs.Given.Tables.TablePlaces.{at_place}
-use Rattle.papaya_rule.specs.Given.Tables.Trials.{trial_at}
-use Rattle.papaya_rule.specs.Given.Tables.declared.node.Node.{Node}
-use Rattle.papaya_rule.specs.Given.Tables.declared.probe.Probe.{Probe}
-use Rattle.papaya_rule.specs.Given.Tables.declared.setting.Setting.{Setting}
-use Rattle.papaya_rule.specs.Given.Tables.declared.table.Table.{Table}
-use Rattle.papaya_rule.specs.Given.Tables.declared.table_words.TheConstants.{PLACES}
-use Rattle.papaya_rule.specs.Given.Resize.CopierPlaces.{copied_word, place_read, probes, put_told, puts}
-use Rattle.papaya_rule.specs.Given.Resize.declared.copier.Copier.{Copier}
+use Rattle.papaya_rule.specs.Given.SeizeWordsDeclared.at.At.{At}
+use Rattle.papaya_rule.specs.Given.SeizeWordsDeclared.at.At.TheVariants.{Word}
+use Rattle.papaya_rule.specs.Given.SeizeWordsMem.{Can, Took, value_at, word_at, with_word}
+use Rattle.papaya_rule.specs.Given.SeizeWordsPlan.{May}
+use Rattle.papaya_rule.proofs.Given.SeizeWordsOneOwner.Operations.{may_load, may_exchange}
+use Rattle.papaya_rule.proofs.Given.SeizeWordsPlans.{see_if}
+use Rattle.papaya_rule.specs.Given.SeizeWorld.{World}
+use Rattle.papaya_rule.specs.Given.TablesChunks.{is_incremental}
+use Rattle.papaya_rule.specs.Given.TablesTablePlaces.{at_place}
+use Rattle.papaya_rule.specs.Given.TablesTrials.{trial_at}
+use Rattle.papaya_rule.specs.Given.TablesDeclared.node.Node.{Node}
+use Rattle.papaya_rule.specs.Given.TablesDeclared.probe.Probe.{Probe}
+use Rattle.papaya_rule.specs.Given.TablesDeclared.setting.Setting.{Setting}
+use Rattle.papaya_rule.specs.Given.TablesDeclared.table.Table.{Table}
+use Rattle.papaya_rule.specs.Given.TablesDeclared.table_words.TheConstants.{PLACES}
+use Rattle.papaya_rule.specs.Given.ResizeCopierPlaces.{copied_word, place_read, probes, put_told, puts}
+use Rattle.papaya_rule.specs.Given.ResizeDeclared.copier.Copier.{Copier}
 use Rattle.papaya_rule.specs.Chart.{Phase, Place, Empty, Holds, Chart, put_in}
 use Rattle.papaya_rule.specs.InWorld.{IsMapIn}
 use Rattle.papaya_rule.specs.Maps.{spot_at, spot_of, IsTrial}

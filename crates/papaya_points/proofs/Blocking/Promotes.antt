@@ -2,22 +2,22 @@
 use Rattle.std.specs.Prelude.{Some, Ok, ◌*◌}
 use Rattle.std.proofs.Common.{◌≡◌, ℕ, suc, ◌-◌, ◌<◌, Bool, false, cond, inl, inr, refl, ap, ap₂, sym, subst, ◌∙◌, arith}
 use Rattle.std.proofs.lemmas.Bool.{ne_eqb}
-use Rattle.papaya_rule.specs.Given.SeizeWords.declared.at.At.TheVariants.{Root}
-use Rattle.papaya_rule.specs.Given.SeizeWords.Mem.{Mem, Can, Took, value_at, word_at, with_word}
-use Rattle.papaya_rule.specs.Given.SeizeWords.Op.{Exchange, Exchanged}
-use Rattle.papaya_rule.specs.Given.SeizeWords.Plan.{May, Steps}
-use Rattle.papaya_rule.proofs.Given.SeizeWords.OneOwner.Operations.{may_exchange, exchanged}
-use Rattle.papaya_rule.specs.Given.Seize.World.{World}
-use Rattle.papaya_rule.specs.Given.Tables.Chunks.{is_incremental}
-use Rattle.papaya_rule.specs.Given.Resize.CopierStates.{standing}
-use Rattle.papaya_rule.specs.Given.Resize.CopierPromotes.{promoted, promotes}
-use Rattle.papaya_rule.specs.Given.Tables.declared.node.Node.{Node}
-use Rattle.papaya_rule.specs.Given.Resize.declared.outcome.Outcome.{Outcome}
-use Rattle.papaya_rule.specs.Given.Resize.declared.outcome.Outcome.TheVariants.{Goes}
-use Rattle.papaya_rule.specs.Given.Tables.declared.setting.Setting.{Setting}
-use Rattle.papaya_rule.specs.Given.Tables.declared.table.Table.{Table}
-use Rattle.papaya_rule.specs.Given.Resize.declared.copier.Copier.{Copier}
-use Rattle.papaya_rule.specs.Given.Resize.declared.copier.Copying.TheVariants as at
+use Rattle.papaya_rule.specs.Given.SeizeWordsDeclared.at.At.TheVariants.{Root}
+use Rattle.papaya_rule.specs.Given.SeizeWordsMem.{Mem, Can, Took, value_at, word_at, with_word}
+use Rattle.papaya_rule.specs.Given.SeizeWordsOp.{Exchange, Exchanged}
+use Rattle.papaya_rule.specs.Given.SeizeWordsPlan.{May, Steps}
+use Rattle.papaya_rule.proofs.Given.SeizeWordsOneOwner.Operations.{may_exchange, exchanged}
+use Rattle.papaya_rule.specs.Given.SeizeWorld.{World}
+use Rattle.papaya_rule.specs.Given.TablesChunks.{is_incremental}
+use Rattle.papaya_rule.specs.Given.ResizeCopierStates.{standing}
+use Rattle.papaya_rule.specs.Given.ResizeCopierPromotes.{promoted, promotes}
+use Rattle.papaya_rule.specs.Given.TablesDeclared.node.Node.{Node}
+use Rattle.papaya_rule.specs.Given.ResizeDeclared.outcome.Outcome.{Outcome}
+use Rattle.papaya_rule.specs.Given.ResizeDeclared.outcome.Outcome.TheVariants.{Goes}
+use Rattle.papaya_rule.specs.Given.TablesDeclared.setting.Setting.{Setting}
+use Rattle.papaya_rule.specs.Given.TablesDeclared.table.Table.{Table}
+use Rattle.papaya_rule.specs.Given.ResizeDeclared.copier.Copier.{Copier}
+use Rattle.papaya_rule.specs.Given.ResizeDeclared.copier.Copying.TheVariants as at
 use Rattle.papaya_rule.specs.Chart.{Counted, Chart}
 use Rattle.papaya_rule.specs.Rule.{Rule, IsLawful}
 use Rattle.papaya_rule.specs.Moves.{passing, Promotes, Allowed}

@@ -2,24 +2,24 @@
 use Rattle.std.specs.Prelude.{nat_lt, if◌then◌else◌}
 use Rattle.std.proofs.Common.{◌≡◌, ◌≢◌, ℕ, ◌≤◌, ◌==◌, Bool, true, false, ◌⊎◌, inl, inr, refl, ap, sym, subst, ◌∙◌, arith}
 use Rattle.std.proofs.lemmas.Bool.{ltb-true, ltb-false, eqb-true, eqb-false}
-use Rattle.papaya_rule.specs.Given.SeizeWords.Mem.{Mem, Took, value_at}
-use Rattle.papaya_rule.specs.Given.SeizeWords.Plan.{Now, Steps, Ends}
-use Rattle.papaya_rule.proofs.Given.SeizeWords.OneOwner.Operations.{loaded}
-use Rattle.papaya_rule.proofs.Given.SeizeWords.Plans.{ends_if}
-use Rattle.papaya_rule.specs.Given.Seize.World.{World}
-use Rattle.papaya_rule.specs.Given.Tables.declared.node.Node.{Node}
-use Rattle.papaya_rule.specs.Given.Resize.declared.outcome.Outcome.{Outcome}
-use Rattle.papaya_rule.specs.Given.Resize.declared.outcome.Outcome.TheVariants.{Goes, Waits}
-use Rattle.papaya_rule.specs.Given.Tables.declared.setting.Setting.{Setting}
-use Rattle.papaya_rule.specs.Given.Tables.declared.status.TheConstants.Status.{ABORTED, PROMOTED}
-use Rattle.papaya_rule.specs.Given.Tables.declared.table.Table.{Table}
-use Rattle.papaya_rule.specs.Given.Tables.declared.table_words.TheConstants.{CLAIM, STATUS}
-use Rattle.papaya_rule.specs.Given.Resize.declared.copier.Copier.{Copier}
-use Rattle.papaya_rule.specs.Given.Resize.declared.copier.Copying.{Copying as Point}
-use Rattle.papaya_rule.specs.Given.Resize.declared.copier.Copying.TheVariants as at
-use Rattle.papaya_rule.specs.Given.Tables.TablePlaces.{at_word}
-use Rattle.papaya_rule.specs.Given.Resize.CopierStates.{standing, none_left}
-use Rattle.papaya_rule.specs.Given.Resize.CopierClaims.{asks, sees, status_read, claim_read, to}
+use Rattle.papaya_rule.specs.Given.SeizeWordsMem.{Mem, Took, value_at}
+use Rattle.papaya_rule.specs.Given.SeizeWordsPlan.{Now, Steps, Ends}
+use Rattle.papaya_rule.proofs.Given.SeizeWordsOneOwner.Operations.{loaded}
+use Rattle.papaya_rule.proofs.Given.SeizeWordsPlans.{ends_if}
+use Rattle.papaya_rule.specs.Given.SeizeWorld.{World}
+use Rattle.papaya_rule.specs.Given.TablesDeclared.node.Node.{Node}
+use Rattle.papaya_rule.specs.Given.ResizeDeclared.outcome.Outcome.{Outcome}
+use Rattle.papaya_rule.specs.Given.ResizeDeclared.outcome.Outcome.TheVariants.{Goes, Waits}
+use Rattle.papaya_rule.specs.Given.TablesDeclared.setting.Setting.{Setting}
+use Rattle.papaya_rule.specs.Given.TablesDeclared.status.TheConstants.Status.{ABORTED, PROMOTED}
+use Rattle.papaya_rule.specs.Given.TablesDeclared.table.Table.{Table}
+use Rattle.papaya_rule.specs.Given.TablesDeclared.table_words.TheConstants.{CLAIM, STATUS}
+use Rattle.papaya_rule.specs.Given.ResizeDeclared.copier.Copier.{Copier}
+use Rattle.papaya_rule.specs.Given.ResizeDeclared.copier.Copying.{Copying as Point}
+use Rattle.papaya_rule.specs.Given.ResizeDeclared.copier.Copying.TheVariants as at
+use Rattle.papaya_rule.specs.Given.TablesTablePlaces.{at_word}
+use Rattle.papaya_rule.specs.Given.ResizeCopierStates.{standing, none_left}
+use Rattle.papaya_rule.specs.Given.ResizeCopierClaims.{asks, sees, status_read, claim_read, to}
 use Rattle.papaya_rule.specs.Chart.{Chart}
 use Rattle.papaya_rule.specs.Words.{Blocks}
 use Rattle.papaya_rule.specs.InWorld.{IsMapIn}
@@ -27,7 +27,7 @@ use Rattle.papaya_points.specs.FactsCopiesBlocking.{RestsIn, CopyingFactsBlockin
 use Rattle.papaya_rule.specs.Rule.{Rule}
 use Rattle.papaya_rule.specs.Maps.{spot_of}
 use Rattle.papaya_points.specs.FactsAloneBlocking.{AloneBlocking}
-use Rattle.papaya_rule.specs.Given.Tables.Chunks.{is_incremental}
+use Rattle.papaya_rule.specs.Given.TablesChunks.{is_incremental}
 use Rattle.papaya_points.proofs.Steps.AloneCharts.{never_waits}
 use Rattle.papaya_points.proofs.Copiers.CopierWent.{CopierCame, copier_still, copier_goes}
 use Rattle.papaya_rule.proofs.Words.TablesSeen.{len_is, turn_is}

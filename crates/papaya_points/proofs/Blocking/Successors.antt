@@ -2,18 +2,18 @@
 use Rattle.std.specs.Prelude.{Some}
 use Rattle.std.proofs.Common.{◌≡◌, ◌≢◌, ℕ, suc, ◌*◌, ◌/◌, ◌<◌, ◌≤◌, ◌==◌, Bool, true, false, cond, refl, ap, ◌∙◌, arith}
 use Rattle.std.proofs.lemmas.Bool.{eq-eqb, ne_eqb, lt-ltb}
-use Rattle.papaya_rule.specs.Given.SeizeWords.declared.at.At.TheVariants.{Word}
-use Rattle.papaya_rule.specs.Given.SeizeWords.Mem.{Can, Took, value_at, word_at}
-use Rattle.papaya_rule.specs.Given.SeizeWords.Plan.{May}
-use Rattle.papaya_rule.proofs.Given.SeizeWords.OneOwner.Operations.{may_load}
-use Rattle.papaya_rule.specs.Given.Seize.Settle.{retiring}
-use Rattle.papaya_rule.specs.Given.Seize.World.{World, Cutting}
-use Rattle.papaya_rule.specs.Given.Tables.declared.node.Node.{Node}
-use Rattle.papaya_rule.specs.Given.Tables.declared.setting.Setting.{Setting}
-use Rattle.papaya_rule.specs.Given.Tables.declared.table.Table.{Table}
-use Rattle.papaya_rule.specs.Given.Tables.declared.table_words.TheConstants.{NEXT}
-use Rattle.papaya_rule.specs.Given.Resize.CopierPromotes.{also_retired, successor_read, succeeds}
-use Rattle.papaya_rule.specs.Given.Resize.declared.copier.Copier.{Copier}
+use Rattle.papaya_rule.specs.Given.SeizeWordsDeclared.at.At.TheVariants.{Word}
+use Rattle.papaya_rule.specs.Given.SeizeWordsMem.{Can, Took, value_at, word_at}
+use Rattle.papaya_rule.specs.Given.SeizeWordsPlan.{May}
+use Rattle.papaya_rule.proofs.Given.SeizeWordsOneOwner.Operations.{may_load}
+use Rattle.papaya_rule.specs.Given.SeizeSettle.{retiring}
+use Rattle.papaya_rule.specs.Given.SeizeWorld.{World, Cutting}
+use Rattle.papaya_rule.specs.Given.TablesDeclared.node.Node.{Node}
+use Rattle.papaya_rule.specs.Given.TablesDeclared.setting.Setting.{Setting}
+use Rattle.papaya_rule.specs.Given.TablesDeclared.table.Table.{Table}
+use Rattle.papaya_rule.specs.Given.TablesDeclared.table_words.TheConstants.{NEXT}
+use Rattle.papaya_rule.specs.Given.ResizeCopierPromotes.{also_retired, successor_read, succeeds}
+use Rattle.papaya_rule.specs.Given.ResizeDeclared.copier.Copier.{Copier}
 use Rattle.papaya_rule.specs.Chart.{Chart}
 use Rattle.papaya_rule.specs.InWorld.{IsMapIn}
 use Rattle.papaya_rule.specs.Maps.{IsTable}

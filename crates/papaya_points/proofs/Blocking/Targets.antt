@@ -2,29 +2,29 @@
 use Rattle.std.specs.Prelude.{Some, IsSome, nat_lt}
 use Rattle.std.proofs.Common.{◌≡◌, ◌≢◌, ℕ, suc, ◌+◌, ◌/◌, ◌%◌, ◌^◌, ◌<◌, ◌≤◌, ◌==◌, Bool, false, sym, subst, arith}
 use Rattle.std.proofs.lemmas.Bool.{eqb-false}
-use Rattle.papaya_rule.specs.Given.SeizeWords.declared.at.At.{At}
-use Rattle.papaya_rule.specs.Given.SeizeWords.declared.at.At.TheVariants.{Word}
-use Rattle.papaya_rule.specs.Given.SeizeWords.Mem.{Can, Took, value_at, word_at, with_word}
-use Rattle.papaya_rule.specs.Given.SeizeWords.Plan.{May}
-use Rattle.papaya_rule.proofs.Given.SeizeWords.OneOwner.Operations.{may_add, may_load, may_store}
-use Rattle.papaya_rule.proofs.Given.SeizeWords.Plans.{see_if}
-use Rattle.papaya_rule.specs.Given.Seize.World.{World}
-use Rattle.papaya_rule.specs.Given.Tables.Chunks.{chunk_of, is_incremental}
-use Rattle.papaya_rule.specs.Given.Tables.Nodes.{table_seen}
-use Rattle.papaya_rule.specs.Given.Tables.TablePlaces.{at_word}
-use Rattle.papaya_rule.specs.Given.Tables.declared.node.Node.{Node}
-use Rattle.papaya_rule.specs.Given.Tables.declared.resize_mode.ResizeMode.{ResizeMode}
-use Rattle.papaya_rule.specs.Given.Tables.declared.resize_mode.ResizeMode.TheVariants.{Incremental, Blocking}
-use Rattle.papaya_rule.specs.Given.Tables.declared.setting.Setting.{Setting}
-use Rattle.papaya_rule.specs.Given.Tables.declared.status.TheConstants.Status.{ABORTED, PROMOTED}
-use Rattle.papaya_rule.specs.Given.Tables.declared.table_words.TheConstants.{NEXT, CLAIM, COPIED, STATUS}
-use Rattle.papaya_rule.specs.Given.Resize.CopierClaims.{chunk, asks, status_read, sees, claim_read, claims, claimed}
-use Rattle.papaya_rule.specs.Given.Resize.CopierCounts.{counts, counted}
-use Rattle.papaya_rule.specs.Given.Resize.CopierFurther.{aborts, replacement_read, replaces, to}
-use Rattle.papaya_rule.specs.Given.Resize.CopierPromotes.{announces}
-use Rattle.papaya_rule.specs.Given.Resize.CopierStates.{standing}
-use Rattle.papaya_rule.specs.Given.Resize.declared.copier.Copier.{Copier}
-use Rattle.papaya_rule.specs.Given.Resize.declared.copier.Copying.TheVariants as at
+use Rattle.papaya_rule.specs.Given.SeizeWordsDeclared.at.At.{At}
+use Rattle.papaya_rule.specs.Given.SeizeWordsDeclared.at.At.TheVariants.{Word}
+use Rattle.papaya_rule.specs.Given.SeizeWordsMem.{Can, Took, value_at, word_at, with_word}
+use Rattle.papaya_rule.specs.Given.SeizeWordsPlan.{May}
+use Rattle.papaya_rule.proofs.Given.SeizeWordsOneOwner.Operations.{may_add, may_load, may_store}
+use Rattle.papaya_rule.proofs.Given.SeizeWordsPlans.{see_if}
+use Rattle.papaya_rule.specs.Given.SeizeWorld.{World}
+use Rattle.papaya_rule.specs.Given.TablesChunks.{chunk_of, is_incremental}
+use Rattle.papaya_rule.specs.Given.TablesNodes.{table_seen}
+use Rattle.papaya_rule.specs.Given.TablesTablePlaces.{at_word}
+use Rattle.papaya_rule.specs.Given.TablesDeclared.node.Node.{Node}
+use Rattle.papaya_rule.specs.Given.TablesDeclared.resize_mode.ResizeMode.{ResizeMode}
+use Rattle.papaya_rule.specs.Given.TablesDeclared.resize_mode.ResizeMode.TheVariants.{Incremental, Blocking}
+use Rattle.papaya_rule.specs.Given.TablesDeclared.setting.Setting.{Setting}
+use Rattle.papaya_rule.specs.Given.TablesDeclared.status.TheConstants.Status.{ABORTED, PROMOTED}
+use Rattle.papaya_rule.specs.Given.TablesDeclared.table_words.TheConstants.{NEXT, CLAIM, COPIED, STATUS}
+use Rattle.papaya_rule.specs.Given.ResizeCopierClaims.{chunk, asks, status_read, sees, claim_read, claims, claimed}
+use Rattle.papaya_rule.specs.Given.ResizeCopierCounts.{counts, counted}
+use Rattle.papaya_rule.specs.Given.ResizeCopierFurther.{aborts, replacement_read, replaces, to}
+use Rattle.papaya_rule.specs.Given.ResizeCopierPromotes.{announces}
+use Rattle.papaya_rule.specs.Given.ResizeCopierStates.{standing}
+use Rattle.papaya_rule.specs.Given.ResizeDeclared.copier.Copier.{Copier}
+use Rattle.papaya_rule.specs.Given.ResizeDeclared.copier.Copying.TheVariants as at
 use Rattle.papaya_rule.specs.Chart.{Share, Chart, put}
 use Rattle.papaya_rule.specs.InWorld.{IsMapIn}
 use Rattle.papaya_rule.specs.Links.{IsLinkTo, LeadsTo}

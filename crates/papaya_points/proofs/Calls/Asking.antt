@@ -2,16 +2,16 @@
 use Rattle.std.specs.Prelude.{◌≡◌, ◌≢◌, ℕ, ◌/◌, ◌^◌, ◌<◌, ◌==◌, Bool, true, false, Some, None, max, if◌then◌else◌}
 use Rattle.std.proofs.Common.{refl, ap, sym, subst, ◌∙◌, inl, inr, arith}
 use Rattle.std.proofs.lemmas.Bool.{eqb-true, eqb-false, ne_eqb}
-use Rattle.papaya_rule.specs.Given.SeizeWords.Word.{block_in}
-use Rattle.papaya_rule.specs.Given.Seize.World.{World}
+use Rattle.papaya_rule.specs.Given.SeizeWordsWord.{block_in}
+use Rattle.papaya_rule.specs.Given.SeizeWorld.{World}
 use Rattle.papaya_raw.specs.CallPoints.{going, standing, following_made, storing, burying, at_gap, gap_by, asking_at, pair_by, asking_of}
 use Rattle.papaya_raw.specs.Replies.{value_told, value_for}
-use Rattle.papaya_rule.specs.Given.Resize.NewTable.{first_table}
-use Rattle.papaya_rule.specs.Given.Tables.Lengths.{IsTableLen}
-use Rattle.papaya_rule.specs.Given.Tables.declared.lengths.TheConstants.{FIRST_LEN}
-use Rattle.papaya_rule.specs.Given.Tables.declared.marks.TheConstants.{TOMBSTONE}
-use Rattle.papaya_rule.specs.Given.Tables.declared.node.Node.{Node}
-use Rattle.papaya_rule.specs.Given.Tables.declared.setting.Setting.{Setting}
+use Rattle.papaya_rule.specs.Given.ResizeNewTable.{first_table}
+use Rattle.papaya_rule.specs.Given.TablesLengths.{IsTableLen}
+use Rattle.papaya_rule.specs.Given.TablesDeclared.lengths.TheConstants.{FIRST_LEN}
+use Rattle.papaya_rule.specs.Given.TablesDeclared.marks.TheConstants.{TOMBSTONE}
+use Rattle.papaya_rule.specs.Given.TablesDeclared.node.Node.{Node}
+use Rattle.papaya_rule.specs.Given.TablesDeclared.setting.Setting.{Setting}
 use Rattle.papaya_raw.specs.declared.machines.answer.Called.{Called}
 use Rattle.papaya_raw.specs.declared.machines.answer.Called.TheVariants.{Asks}
 use Rattle.papaya_raw.specs.declared.machines.answer.Missing.TheVariants as missing

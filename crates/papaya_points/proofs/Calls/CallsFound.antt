@@ -1,20 +1,20 @@
 -- What a call does by what it finds at the place of its try.
 use Rattle.std.specs.Prelude.{◌≡◌, ◌≢◌, ℕ, suc, ◌^◌, ◌<◌, Bool, true, false, cond, Option, Some, None, if◌then◌else◌}
 use Rattle.std.proofs.Common.{refl, ap, sym, subst, ◌∙◌, inl, inr}
-use Rattle.papaya_rule.specs.Given.Seize.World.{World}
-use Rattle.papaya_rule.specs.Given.Tables.Chunks.{is_incremental}
+use Rattle.papaya_rule.specs.Given.SeizeWorld.{World}
+use Rattle.papaya_rule.specs.Given.TablesChunks.{is_incremental}
 use Rattle.papaya_raw.specs.CallPoints.{aim_of, going, told, told_of, at_free, at_end, at_pair, beyond, passed, halted}
-use Rattle.papaya_rule.specs.Given.Tables.Finding.{finding}
-use Rattle.papaya_rule.specs.Given.Tables.Trials.{next_trial, with_met}
-use Rattle.papaya_rule.specs.Given.Tables.declared.marks.TheConstants.{TOMBSTONE}
-use Rattle.papaya_rule.specs.Given.Tables.declared.node.Node.{Node}
-use Rattle.papaya_rule.specs.Given.Tables.declared.resize_mode.ResizeMode.{ResizeMode}
-use Rattle.papaya_rule.specs.Given.Tables.declared.resize_mode.ResizeMode.TheVariants.{Incremental, Blocking}
-use Rattle.papaya_rule.specs.Given.Tables.declared.setting.Setting.{Setting}
-use Rattle.papaya_rule.specs.Given.Tables.declared.trial.Trial.{Trial}
-use Rattle.papaya_rule.specs.Given.Tables.declared.finding.Aim.TheVariants.{Looks, Changes, Stores}
-use Rattle.papaya_rule.specs.Given.Tables.declared.finding.Finding.{Finding}
-use Rattle.papaya_rule.specs.Given.Tables.declared.finding.Finding.TheVariants as is
+use Rattle.papaya_rule.specs.Given.TablesFinding.{finding}
+use Rattle.papaya_rule.specs.Given.TablesTrials.{next_trial, with_met}
+use Rattle.papaya_rule.specs.Given.TablesDeclared.marks.TheConstants.{TOMBSTONE}
+use Rattle.papaya_rule.specs.Given.TablesDeclared.node.Node.{Node}
+use Rattle.papaya_rule.specs.Given.TablesDeclared.resize_mode.ResizeMode.{ResizeMode}
+use Rattle.papaya_rule.specs.Given.TablesDeclared.resize_mode.ResizeMode.TheVariants.{Incremental, Blocking}
+use Rattle.papaya_rule.specs.Given.TablesDeclared.setting.Setting.{Setting}
+use Rattle.papaya_rule.specs.Given.TablesDeclared.trial.Trial.{Trial}
+use Rattle.papaya_rule.specs.Given.TablesDeclared.finding.Aim.TheVariants.{Looks, Changes, Stores}
+use Rattle.papaya_rule.specs.Given.TablesDeclared.finding.Finding.{Finding}
+use Rattle.papaya_rule.specs.Given.TablesDeclared.finding.Finding.TheVariants as is
 use Rattle.papaya_raw.specs.declared.machines.answer.There.{There}
 use Rattle.papaya_raw.specs.declared.machines.answer.There.TheVariants as there
 use Rattle.papaya_raw.specs.declared.machines.answer.Missing.{Missing}

@@ -1,21 +1,21 @@
 -- A call helps a resize, or copies a whole table.
 use Rattle.std.specs.Prelude.{◌≡◌, ℕ, suc, ◌<◌, Bool, true, false, cond}
 use Rattle.std.proofs.Common.{refl, sym, subst}
-use Rattle.papaya_rule.specs.Given.SeizeWords.Mem.{Mem, value_at, Took}
-use Rattle.papaya_rule.specs.Given.SeizeWords.Plan.{Steps}
-use Rattle.papaya_rule.proofs.Given.SeizeRule.Rows.Leaving.{steps_back}
-use Rattle.papaya_rule.specs.Given.Seize.World.{World}
-use Rattle.papaya_rule.specs.Given.Tables.Chunks.{is_incremental}
+use Rattle.papaya_rule.specs.Given.SeizeWordsMem.{Mem, value_at, Took}
+use Rattle.papaya_rule.specs.Given.SeizeWordsPlan.{Steps}
+use Rattle.papaya_rule.proofs.Given.SeizeRuleRows.Leaving.{steps_back}
+use Rattle.papaya_rule.specs.Given.SeizeWorld.{World}
+use Rattle.papaya_rule.specs.Given.TablesChunks.{is_incremental}
 use Rattle.papaya_raw.specs.Call.{helped, helps, copied, copies}
-use Rattle.papaya_rule.specs.Given.Resize.Copier.{copier_plan}
-use Rattle.papaya_rule.specs.Given.Tables.declared.node.Node.{Node}
-use Rattle.papaya_rule.specs.Given.Resize.declared.outcome.Outcome.{Outcome}
-use Rattle.papaya_rule.specs.Given.Resize.declared.outcome.Outcome.TheVariants as outcome
-use Rattle.papaya_rule.specs.Given.Tables.declared.setting.Setting.{Setting}
-use Rattle.papaya_rule.specs.Given.Tables.declared.table.Table.{Table}
+use Rattle.papaya_rule.specs.Given.ResizeCopier.{copier_plan}
+use Rattle.papaya_rule.specs.Given.TablesDeclared.node.Node.{Node}
+use Rattle.papaya_rule.specs.Given.ResizeDeclared.outcome.Outcome.{Outcome}
+use Rattle.papaya_rule.specs.Given.ResizeDeclared.outcome.Outcome.TheVariants as outcome
+use Rattle.papaya_rule.specs.Given.TablesDeclared.setting.Setting.{Setting}
+use Rattle.papaya_rule.specs.Given.TablesDeclared.table.Table.{Table}
 use Rattle.papaya_raw.specs.declared.machines.answer.Called.{Called}
 use Rattle.papaya_raw.specs.declared.machines.call.KeyCall.{KeyCall}
-use Rattle.papaya_rule.specs.Given.Resize.declared.copier.Copier.{Copier}
+use Rattle.papaya_rule.specs.Given.ResizeDeclared.copier.Copier.{Copier}
 use Rattle.papaya_rule.specs.Chart.{Chart}
 use Rattle.papaya_rule.specs.Rule.{IsLawful, ShutBefore}
 use Rattle.papaya_rule.specs.Lasts.{Lasts}

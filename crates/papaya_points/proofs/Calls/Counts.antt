@@ -2,17 +2,17 @@
 use Rattle.std.specs.Prelude.{◌≡◌, ◌≢◌, ℕ, ◌^◌, ◌<◌, Bool, bit_and, if◌then◌else◌}
 use Rattle.std.proofs.Common.{false, refl, ap, sym, subst, ◌∙◌, inl, inr, arith}
 use Rattle.std.proofs.lemmas.Bool.{eq-eqb, ne_eqb}
-use Rattle.papaya_rule.specs.Given.SeizeWords.declared.at.At.TheVariants.{Word}
-use Rattle.papaya_rule.specs.Given.SeizeWords.Mem.{Mem, value_at, Can, Took}
-use Rattle.papaya_rule.specs.Given.SeizeWords.Plan.{Now, May, Steps}
-use Rattle.papaya_rule.proofs.Given.SeizeWords.OneOwner.Operations.{may_add, added}
-use Rattle.papaya_rule.specs.Given.Seize.World.{World}
-use Rattle.papaya_rule.specs.Given.Tables.Counts.{count_change}
+use Rattle.papaya_rule.specs.Given.SeizeWordsDeclared.at.At.TheVariants.{Word}
+use Rattle.papaya_rule.specs.Given.SeizeWordsMem.{Mem, value_at, Can, Took}
+use Rattle.papaya_rule.specs.Given.SeizeWordsPlan.{Now, May, Steps}
+use Rattle.papaya_rule.proofs.Given.SeizeWordsOneOwner.Operations.{may_add, added}
+use Rattle.papaya_rule.specs.Given.SeizeWorld.{World}
+use Rattle.papaya_rule.specs.Given.TablesCounts.{count_change}
 use Rattle.papaya_raw.specs.Call.{counts}
 use Rattle.papaya_raw.specs.CallPoints.{going, over, counted}
-use Rattle.papaya_rule.specs.Given.Resize.Dispose.{disposing}
-use Rattle.papaya_rule.specs.Given.Tables.declared.node.Node.{Node}
-use Rattle.papaya_rule.specs.Given.Tables.declared.setting.Setting.{Setting}
+use Rattle.papaya_rule.specs.Given.ResizeDispose.{disposing}
+use Rattle.papaya_rule.specs.Given.TablesDeclared.node.Node.{Node}
+use Rattle.papaya_rule.specs.Given.TablesDeclared.setting.Setting.{Setting}
 use Rattle.papaya_raw.specs.declared.machines.answer.KeyAnswer.{KeyAnswer}
 use Rattle.papaya_raw.specs.declared.machines.answer.KeyAnswer.TheVariants as answers
 use Rattle.papaya_raw.specs.declared.machines.answer.Called.{Called}

@@ -2,21 +2,21 @@
 use Rattle.std.specs.Prelude.{◌≡◌, ◌≢◌, ℕ, ◌==◌, ◌^◌, ◌<◌, Bool, Option, Some, None, Ok, Err, if◌then◌else◌}
 use Rattle.std.proofs.Common.{refl, ap, sym, subst, ◌∙◌, inl, inr, arith}
 use Rattle.std.proofs.lemmas.Bool.{eq-eqb, ne_eqb}
-use Rattle.papaya_rule.specs.Given.SeizeWords.Word.{block_in}
-use Rattle.papaya_rule.specs.Given.SeizeWords.Mem.{Mem, block_of, value_in, value_at, with_value, with_block, fresh, Can, Took}
-use Rattle.papaya_rule.specs.Given.SeizeWords.Op.{Out, Make, Rewrite, Found, Stored, Exchanged, Made, Taken, Roomed}
-use Rattle.papaya_rule.specs.Given.SeizeWords.Plan.{Do, May, MaySee, Steps, Ends}
-use Rattle.papaya_rule.proofs.Given.SeizeWords.OneOwner.AfterWrites.{block_of-made, value_at-with_value}
-use Rattle.papaya_rule.proofs.Given.SeizeWords.OneOwner.Operations.{may_make, made as made_by_step, may_take, taken, rewritten}
-use Rattle.papaya_rule.specs.Given.Seize.World.{World, Making}
-use Rattle.papaya_rule.specs.Given.Tables.Nodes.{vacant}
+use Rattle.papaya_rule.specs.Given.SeizeWordsWord.{block_in}
+use Rattle.papaya_rule.specs.Given.SeizeWordsMem.{Mem, block_of, value_in, value_at, with_value, with_block, fresh, Can, Took}
+use Rattle.papaya_rule.specs.Given.SeizeWordsOp.{Out, Make, Rewrite, Found, Stored, Exchanged, Made, Taken, Roomed}
+use Rattle.papaya_rule.specs.Given.SeizeWordsPlan.{Do, May, MaySee, Steps, Ends}
+use Rattle.papaya_rule.proofs.Given.SeizeWordsOneOwner.AfterWrites.{block_of-made, value_at-with_value}
+use Rattle.papaya_rule.proofs.Given.SeizeWordsOneOwner.Operations.{may_make, made as made_by_step, may_take, taken, rewritten}
+use Rattle.papaya_rule.specs.Given.SeizeWorld.{World, Making}
+use Rattle.papaya_rule.specs.Given.TablesNodes.{vacant}
 use Rattle.papaya_raw.specs.CallFills.{taken_back, filled, putting_by, fill_by, emptied, fills_with, fills, given_up, gives_up}
 use Rattle.papaya_raw.specs.CallPoints.{word_to, standing, going}
 use Rattle.papaya_raw.specs.Replies.{value_for, as_own, with_back}
-use Rattle.papaya_rule.specs.Given.Tables.declared.marks.TheConstants.{TOMBSTONE}
-use Rattle.papaya_rule.specs.Given.Tables.declared.node.Node.{Node}
-use Rattle.papaya_rule.specs.Given.Tables.declared.node.Node.TheVariants as node
-use Rattle.papaya_rule.specs.Given.Tables.declared.setting.Setting.{Setting}
+use Rattle.papaya_rule.specs.Given.TablesDeclared.marks.TheConstants.{TOMBSTONE}
+use Rattle.papaya_rule.specs.Given.TablesDeclared.node.Node.{Node}
+use Rattle.papaya_rule.specs.Given.TablesDeclared.node.Node.TheVariants as node
+use Rattle.papaya_rule.specs.Given.TablesDeclared.setting.Setting.{Setting}
 use Rattle.papaya_raw.specs.declared.machines.answer.End.TheVariants as ends
 use Rattle.papaya_raw.specs.declared.machines.answer.Missing.{Missing}
 use Rattle.papaya_raw.specs.declared.machines.answer.Called.{Called}
@@ -27,7 +27,7 @@ use Rattle.papaya_raw.specs.declared.machines.asking.Takes.TheVariants as takes
 use Rattle.papaya_raw.specs.declared.machines.asking.Replies.{Replies}
 use Rattle.papaya_raw.specs.declared.machines.call.KeyCall.{KeyCall}
 use Rattle.papaya_raw.specs.declared.machines.call.Calling.TheVariants as at
-use Rattle.papaya_rule.specs.Given.SeizeWords.declared.fault.Fault.TheVariants.{Memory}
+use Rattle.papaya_rule.specs.Given.SeizeWordsDeclared.fault.Fault.TheVariants.{Memory}
 use Rattle.papaya_rule.specs.Chart.{Chart}
 use Rattle.papaya_rule.specs.Words.{Blocks}
 use Rattle.papaya_rule.specs.InWorld.{IsMapIn, Went}

@@ -2,18 +2,18 @@
 use Rattle.std.specs.Prelude.{◌≡◌, ℕ, ◌/◌, ◌^◌, ◌<◌, Bool, Some, None, if◌then◌else◌}
 use Rattle.std.proofs.Common.{refl, ap, sym, subst, ◌∙◌, inl, inr, arith}
 use Rattle.std.proofs.lemmas.Bool.{eq-eqb}
-use Rattle.papaya_rule.specs.Given.SeizeWords.Mem.{Mem, block_of, value_in, value_at, IsFreeNumber, fresh, Can, Took}
-use Rattle.papaya_rule.specs.Given.SeizeWords.Plan.{Turn, Do, Now, May, Steps}
-use Rattle.papaya_rule.specs.Given.SeizeWords.Op.{Make}
-use Rattle.papaya_rule.proofs.Given.SeizeWords.OneOwner.AfterWrites.{block_of-made}
-use Rattle.papaya_rule.proofs.Given.SeizeWords.OneOwner.Operations.{may_make, made as made_by_step, may_take, taken}
-use Rattle.papaya_rule.specs.Given.Seize.World.{World, Making}
+use Rattle.papaya_rule.specs.Given.SeizeWordsMem.{Mem, block_of, value_in, value_at, IsFreeNumber, fresh, Can, Took}
+use Rattle.papaya_rule.specs.Given.SeizeWordsPlan.{Turn, Do, Now, May, Steps}
+use Rattle.papaya_rule.specs.Given.SeizeWordsOp.{Make}
+use Rattle.papaya_rule.proofs.Given.SeizeWordsOneOwner.AfterWrites.{block_of-made}
+use Rattle.papaya_rule.proofs.Given.SeizeWordsOneOwner.Operations.{may_make, made as made_by_step, may_take, taken}
+use Rattle.papaya_rule.specs.Given.SeizeWorld.{World, Making}
 use Rattle.papaya_raw.specs.Answers.{ended}
 use Rattle.papaya_raw.specs.CallPoints.{word_to, standing, going}
 use Rattle.papaya_raw.specs.Call.{makes_of, makes, made, drops, dropped}
-use Rattle.papaya_rule.specs.Given.Tables.declared.node.Node.{Node}
-use Rattle.papaya_rule.specs.Given.Tables.declared.node.Node.TheVariants as node
-use Rattle.papaya_rule.specs.Given.Tables.declared.setting.Setting.{Setting}
+use Rattle.papaya_rule.specs.Given.TablesDeclared.node.Node.{Node}
+use Rattle.papaya_rule.specs.Given.TablesDeclared.node.Node.TheVariants as node
+use Rattle.papaya_rule.specs.Given.TablesDeclared.setting.Setting.{Setting}
 use Rattle.papaya_raw.specs.declared.machines.answer.Missing.{Missing}
 use Rattle.papaya_raw.specs.declared.machines.answer.End.{End}
 use Rattle.papaya_raw.specs.declared.machines.answer.End.TheVariants as ends
@@ -23,7 +23,7 @@ use Rattle.papaya_raw.specs.declared.machines.answer.Called.{Called}
 use Rattle.papaya_raw.specs.declared.machines.answer.Called.TheVariants.{Unstored}
 use Rattle.papaya_raw.specs.declared.machines.call.KeyCall.{KeyCall}
 use Rattle.papaya_raw.specs.declared.machines.call.Calling.TheVariants as at
-use Rattle.papaya_rule.specs.Given.SeizeWords.declared.fault.Fault.TheVariants.{Memory}
+use Rattle.papaya_rule.specs.Given.SeizeWordsDeclared.fault.Fault.TheVariants.{Memory}
 use Rattle.papaya_rule.specs.Chart.{Chart}
 use Rattle.papaya_rule.specs.Words.{Blocks}
 use Rattle.papaya_rule.specs.InWorld.{IsMapIn, Went}

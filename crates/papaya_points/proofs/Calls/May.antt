@@ -1,22 +1,22 @@
 -- A call may take its step, where the machine inside it may.
 use Rattle.std.specs.Prelude.{◌≡◌, ℕ, Bool, Option, Some}
 use Rattle.std.proofs.Common.{sym, subst}
-use Rattle.papaya_rule.specs.Given.SeizeWords.Mem.{Mem, value_at, Can, Took}
-use Rattle.papaya_rule.specs.Given.SeizeWords.Plan.{May}
-use Rattle.papaya_rule.proofs.Given.SeizeWords.Plans.{as_may}
+use Rattle.papaya_rule.specs.Given.SeizeWordsMem.{Mem, value_at, Can, Took}
+use Rattle.papaya_rule.specs.Given.SeizeWordsPlan.{May}
+use Rattle.papaya_rule.proofs.Given.SeizeWordsPlans.{as_may}
 use Rattle.papaya_raw.specs.Call.{looked, looks, looks_for, first_made, firsts, next_made, allocs, disposed, disposes, helped, helps, copied, copies}
-use Rattle.papaya_rule.specs.Given.Resize.Copier.{copier_plan}
-use Rattle.papaya_rule.specs.Given.Resize.Dispose.{dispose_plan}
-use Rattle.papaya_rule.specs.Given.Resize.Lookup.{lookup_plan}
-use Rattle.papaya_rule.specs.Given.Resize.NewTable.{new_table_plan}
-use Rattle.papaya_rule.specs.Given.Tables.declared.node.Node.{Node}
-use Rattle.papaya_rule.specs.Given.Tables.declared.table.Table.{Table}
+use Rattle.papaya_rule.specs.Given.ResizeCopier.{copier_plan}
+use Rattle.papaya_rule.specs.Given.ResizeDispose.{dispose_plan}
+use Rattle.papaya_rule.specs.Given.ResizeLookup.{lookup_plan}
+use Rattle.papaya_rule.specs.Given.ResizeNewTable.{new_table_plan}
+use Rattle.papaya_rule.specs.Given.TablesDeclared.node.Node.{Node}
+use Rattle.papaya_rule.specs.Given.TablesDeclared.table.Table.{Table}
 use Rattle.papaya_raw.specs.declared.machines.answer.KeyAnswer.{KeyAnswer}
 use Rattle.papaya_raw.specs.declared.machines.call.KeyCall.{KeyCall}
-use Rattle.papaya_rule.specs.Given.Resize.declared.copier.Copier.{Copier}
-use Rattle.papaya_rule.specs.Given.Resize.declared.dispose.Dispose.{Dispose}
-use Rattle.papaya_rule.specs.Given.Resize.declared.lookup.Lookup.{Lookup}
-use Rattle.papaya_rule.specs.Given.Resize.declared.new_table.NewTable.{NewTable}
+use Rattle.papaya_rule.specs.Given.ResizeDeclared.copier.Copier.{Copier}
+use Rattle.papaya_rule.specs.Given.ResizeDeclared.dispose.Dispose.{Dispose}
+use Rattle.papaya_rule.specs.Given.ResizeDeclared.lookup.Lookup.{Lookup}
+use Rattle.papaya_rule.specs.Given.ResizeDeclared.new_table.NewTable.{NewTable}
 
 module _ {K V Q : Type 0} (m : Mem (Node K V)) (p : KeyCall K V Q) where
   pub may_looks : (asks : Q → K → Bool) (l : Lookup) (q : Q) → p.asked ≡ Some q → May Can Took value_at m (lookup_plan (asks q) l) → May Can Took value_at m (looks asks p l)

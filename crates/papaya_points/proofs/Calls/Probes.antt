@@ -1,23 +1,23 @@
 -- A call reads the word of its try.
 use Rattle.std.specs.Prelude.{◌≡◌, ℕ, ◌/◌, ◌^◌, ◌<◌, Bool, true, false, Option, None, Some, IsSome}
 use Rattle.std.proofs.Common.{refl, ap, sym, subst, ◌∙◌, inl, inr, arith}
-use Rattle.papaya_rule.specs.Given.SeizeWords.Mem.{Mem, value_at, word_at, Can, Took}
-use Rattle.papaya_rule.specs.Given.SeizeWords.Plan.{Now, May, MaySee, Steps, Ends}
-use Rattle.papaya_rule.proofs.Given.SeizeWords.OneOwner.Operations.{may_load, loaded}
-use Rattle.papaya_rule.proofs.Given.SeizeWords.Plans.{see_if, ends_if}
-use Rattle.papaya_rule.specs.Given.Seize.World.{World}
-use Rattle.papaya_rule.specs.Given.Tables.Chunks.{is_incremental}
+use Rattle.papaya_rule.specs.Given.SeizeWordsMem.{Mem, value_at, word_at, Can, Took}
+use Rattle.papaya_rule.specs.Given.SeizeWordsPlan.{Now, May, MaySee, Steps, Ends}
+use Rattle.papaya_rule.proofs.Given.SeizeWordsOneOwner.Operations.{may_load, loaded}
+use Rattle.papaya_rule.proofs.Given.SeizeWordsPlans.{see_if, ends_if}
+use Rattle.papaya_rule.specs.Given.SeizeWorld.{World}
+use Rattle.papaya_rule.specs.Given.TablesChunks.{is_incremental}
 use Rattle.papaya_raw.specs.Call.{have_one_key, key_read, pair_read, word_read, word_found, probes}
 use Rattle.papaya_raw.specs.CallPoints.{told}
-use Rattle.papaya_rule.specs.Given.Tables.Finding.{may_name}
-use Rattle.papaya_rule.specs.Given.Resize.Lookup.{names_pair}
-use Rattle.papaya_rule.specs.Given.Tables.Trials.{place_tried}
-use Rattle.papaya_rule.specs.Given.Tables.declared.node.Node.{Node}
-use Rattle.papaya_rule.specs.Given.Tables.declared.node.Node.TheVariants as node
-use Rattle.papaya_rule.specs.Given.Tables.declared.setting.Setting.{Setting}
+use Rattle.papaya_rule.specs.Given.TablesFinding.{may_name}
+use Rattle.papaya_rule.specs.Given.ResizeLookup.{names_pair}
+use Rattle.papaya_rule.specs.Given.TablesTrials.{place_tried}
+use Rattle.papaya_rule.specs.Given.TablesDeclared.node.Node.{Node}
+use Rattle.papaya_rule.specs.Given.TablesDeclared.node.Node.TheVariants as node
+use Rattle.papaya_rule.specs.Given.TablesDeclared.setting.Setting.{Setting}
 use Rattle.papaya_raw.specs.declared.machines.answer.Called.{Called}
 use Rattle.papaya_raw.specs.declared.machines.call.KeyCall.{KeyCall}
-use Rattle.papaya_rule.specs.Given.Tables.TablePlaces.{at_place}
+use Rattle.papaya_rule.specs.Given.TablesTablePlaces.{at_place}
 use Rattle.papaya_rule.specs.Chart.{Chart}
 use Rattle.papaya_rule.specs.Rule.{IsLawful}
 use Rattle.papaya_rule.specs.Words.{Blocks, place_word}

@@ -1,14 +1,14 @@
 -- A call removes the pair that stands at its try.
 use Rattle.std.specs.Prelude.{◌≡◌, ℕ, ◌^◌, ◌<◌, Bool, true, false, Some}
 use Rattle.std.proofs.Common.{refl, ◌∙◌, inr}
-use Rattle.papaya_rule.specs.Given.SeizeWords.Mem.{Mem, word_at, with_word}
-use Rattle.papaya_rule.specs.Given.Seize.World.{World}
-use Rattle.papaya_rule.specs.Given.Tables.Chunks.{is_incremental}
+use Rattle.papaya_rule.specs.Given.SeizeWordsMem.{Mem, word_at, with_word}
+use Rattle.papaya_rule.specs.Given.SeizeWorld.{World}
+use Rattle.papaya_rule.specs.Given.TablesChunks.{is_incremental}
 use Rattle.papaya_raw.specs.CallPoints.{going, changed}
-use Rattle.papaya_rule.specs.Given.Tables.Trials.{place_tried}
-use Rattle.papaya_rule.specs.Given.Tables.declared.marks.TheConstants.{TOMBSTONE}
-use Rattle.papaya_rule.specs.Given.Tables.declared.node.Node.{Node}
-use Rattle.papaya_rule.specs.Given.Tables.declared.setting.Setting.{Setting}
+use Rattle.papaya_rule.specs.Given.TablesTrials.{place_tried}
+use Rattle.papaya_rule.specs.Given.TablesDeclared.marks.TheConstants.{TOMBSTONE}
+use Rattle.papaya_rule.specs.Given.TablesDeclared.node.Node.{Node}
+use Rattle.papaya_rule.specs.Given.TablesDeclared.setting.Setting.{Setting}
 use Rattle.papaya_raw.specs.declared.machines.call.KeyCall.{KeyCall}
 use Rattle.papaya_raw.specs.declared.machines.call.Calling.TheVariants as at
 use Rattle.papaya_rule.specs.Chart.{Still, Holds, Chart}

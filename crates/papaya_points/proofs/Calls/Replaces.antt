@@ -2,20 +2,20 @@
 use Rattle.std.specs.Prelude.{suc, ◌≡◌, ◌≢◌, ℕ, ◌+◌, ◌^◌, ◌<◌, ◌≤◌, ◌==◌, Bool, true, false, cond, eqb, [], ◌∷◌, Some, if◌then◌else◌}
 use Rattle.std.proofs.Common.{refl, ap, sym, subst, ◌∙◌, inl, inr, arith}
 use Rattle.std.proofs.lemmas.Bool.{eq-eqb}
-use Rattle.papaya_rule.specs.Given.SeizeWords.declared.at.At.TheVariants.{Word}
-use Rattle.papaya_rule.specs.Given.SeizeWords.Mem.{Mem, word_at, with_word}
-use Rattle.papaya_rule.specs.Given.Seize.Law.{Unlinked}
-use Rattle.papaya_rule.specs.Given.Seize.World.{Hand, Making, World, InUse, Parting, Cutting, Parts, Unlinks, with_at, MayCut}
-use Rattle.papaya_rule.specs.Given.Tables.Chunks.{is_incremental}
+use Rattle.papaya_rule.specs.Given.SeizeWordsDeclared.at.At.TheVariants.{Word}
+use Rattle.papaya_rule.specs.Given.SeizeWordsMem.{Mem, word_at, with_word}
+use Rattle.papaya_rule.specs.Given.SeizeLaw.{Unlinked}
+use Rattle.papaya_rule.specs.Given.SeizeWorld.{Hand, Making, World, InUse, Parting, Cutting, Parts, Unlinks, with_at, MayCut}
+use Rattle.papaya_rule.specs.Given.TablesChunks.{is_incremental}
 use Rattle.papaya_raw.specs.CallPoints.{going, changed}
-use Rattle.papaya_rule.specs.Given.Tables.Trials.{place_tried}
-use Rattle.papaya_rule.specs.Given.Tables.declared.marks.TheConstants.{TOMBSTONE}
-use Rattle.papaya_rule.specs.Given.Tables.declared.node.Node.{Node}
-use Rattle.papaya_rule.specs.Given.Tables.declared.setting.Setting.{Setting}
-use Rattle.papaya_rule.specs.Given.Tables.declared.table_words.TheConstants.{PLACES}
+use Rattle.papaya_rule.specs.Given.TablesTrials.{place_tried}
+use Rattle.papaya_rule.specs.Given.TablesDeclared.marks.TheConstants.{TOMBSTONE}
+use Rattle.papaya_rule.specs.Given.TablesDeclared.node.Node.{Node}
+use Rattle.papaya_rule.specs.Given.TablesDeclared.setting.Setting.{Setting}
+use Rattle.papaya_rule.specs.Given.TablesDeclared.table_words.TheConstants.{PLACES}
 use Rattle.papaya_raw.specs.declared.machines.call.KeyCall.{KeyCall}
 use Rattle.papaya_raw.specs.declared.machines.call.Calling.TheVariants as at
-use Rattle.papaya_rule.proofs.Given.SeizeRule.Rows.Others.{with_here}
+use Rattle.papaya_rule.proofs.Given.SeizeRuleRows.Others.{with_here}
 use Rattle.papaya_rule.specs.Chart.{Phase, Still, Place, Holds, Chart, put}
 use Rattle.papaya_rule.specs.Rule.{IsLawful}
 use Rattle.papaya_rule.specs.Moves.{after, Allowed, without}
@@ -35,9 +35,9 @@ use Rattle.papaya_points.proofs.Calls.CallsFound.{inside}
 use Rattle.papaya_points.proofs.Calls.Makes.{CallWent}
 use Rattle.papaya_points.proofs.Calls.Tries.{went_changed}
 use Rattle.std.proofs.lemmas.Bool.{ne_eqb}
-use Rattle.papaya_rule.specs.Given.Seize.Law.{Linked}
-use Rattle.papaya_rule.specs.Given.Seize.World.{Links}
-use Rattle.papaya_rule.specs.Given.Resize.Dispose.{disposing}
+use Rattle.papaya_rule.specs.Given.SeizeLaw.{Linked}
+use Rattle.papaya_rule.specs.Given.SeizeWorld.{Links}
+use Rattle.papaya_rule.specs.Given.ResizeDispose.{disposing}
 use Rattle.papaya_raw.specs.declared.machines.answer.KeyAnswer.TheVariants as answers
 use Rattle.papaya_raw.specs.declared.machines.answer.Called.{Called}
 use Rattle.papaya_rule.specs.Rule.{is_of}

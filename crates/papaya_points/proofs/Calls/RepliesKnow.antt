@@ -2,14 +2,14 @@
 use Rattle.std.specs.Prelude.{◌≡◌, ◌≢◌, ℕ, ◌==◌, ◌/◌, Bool, true, false, Option, if◌then◌else◌}
 use Rattle.std.specs.Int.{IsPowerOfTwo}
 use Rattle.std.proofs.Common.{refl, ap, sym, subst, inl, inr}
-use Rattle.papaya_rule.specs.Given.SeizeWords.declared.fault.Fault.TheVariants.{RemoveNothing}
-use Rattle.papaya_rule.specs.Given.Seize.World.{World}
+use Rattle.papaya_rule.specs.Given.SeizeWordsDeclared.fault.Fault.TheVariants.{RemoveNothing}
+use Rattle.papaya_rule.specs.Given.SeizeWorld.{World}
 use Rattle.papaya_raw.specs.CallAsks.{with_absent, with_present}
 use Rattle.papaya_raw.specs.CallPoints.{going, over, ending, burying, storing, following_made, at_gap}
 use Rattle.papaya_raw.specs.Replies.{value_told}
-use Rattle.papaya_rule.specs.Given.Tables.declared.marks.TheConstants.{TOMBSTONE}
-use Rattle.papaya_rule.specs.Given.Tables.declared.node.Node.{Node}
-use Rattle.papaya_rule.specs.Given.Tables.declared.setting.Setting.{Setting}
+use Rattle.papaya_rule.specs.Given.TablesDeclared.marks.TheConstants.{TOMBSTONE}
+use Rattle.papaya_rule.specs.Given.TablesDeclared.node.Node.{Node}
+use Rattle.papaya_rule.specs.Given.TablesDeclared.setting.Setting.{Setting}
 use Rattle.papaya_raw.specs.declared.machines.answer.Called.{Called}
 use Rattle.papaya_raw.specs.declared.machines.answer.Called.TheVariants.{Goes}
 use Rattle.papaya_raw.specs.declared.machines.answer.End.{End}

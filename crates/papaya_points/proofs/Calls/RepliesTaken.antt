@@ -1,7 +1,7 @@
 -- Where a call goes on that is told something: what is so of each state that it may come to is so of that one.
 use Rattle.std.specs.Prelude.{◌≡◌, ◌≢◌, ℕ}
 use Rattle.std.proofs.Common.{refl, sym, subst}
-use Rattle.papaya_rule.specs.Given.SeizeWords.declared.fault.Fault.TheVariants.{RemoveNothing}
+use Rattle.papaya_rule.specs.Given.SeizeWordsDeclared.fault.Fault.TheVariants.{RemoveNothing}
 use Rattle.papaya_raw.specs.CallAsks.{with_absent, with_present, absent_told, present_told, told_at, replied}
 use Rattle.papaya_raw.specs.CallPoints.{standing, ending, answering, burying, at_gap}
 use Rattle.papaya_raw.specs.declared.machines.answer.End.TheVariants as ends

@@ -1,17 +1,17 @@
 -- A call tries to replace the word of its try.
 use Rattle.std.specs.Prelude.{◌≡◌, ℕ, ◌^◌, ◌<◌, Bool, false, Some}
 use Rattle.std.proofs.Common.{ap, sym, ◌∙◌, inl, inr}
-use Rattle.papaya_rule.specs.Given.SeizeWords.Mem.{Mem, value_at, word_at, with_word, Took}
-use Rattle.papaya_rule.specs.Given.SeizeWords.Plan.{Steps}
-use Rattle.papaya_rule.proofs.Given.SeizeWords.OneOwner.Operations.{exchanged}
-use Rattle.papaya_rule.specs.Given.Seize.World.{World}
-use Rattle.papaya_rule.specs.Given.Tables.Chunks.{is_incremental}
+use Rattle.papaya_rule.specs.Given.SeizeWordsMem.{Mem, value_at, word_at, with_word, Took}
+use Rattle.papaya_rule.specs.Given.SeizeWordsPlan.{Steps}
+use Rattle.papaya_rule.proofs.Given.SeizeWordsOneOwner.Operations.{exchanged}
+use Rattle.papaya_rule.specs.Given.SeizeWorld.{World}
+use Rattle.papaya_rule.specs.Given.TablesChunks.{is_incremental}
 use Rattle.papaya_raw.specs.Call.{tries, tried}
 use Rattle.papaya_raw.specs.CallPoints.{changed}
-use Rattle.papaya_rule.specs.Given.Tables.Trials.{place_tried}
-use Rattle.papaya_rule.specs.Given.Tables.declared.marks.TheConstants.{TOMBSTONE}
-use Rattle.papaya_rule.specs.Given.Tables.declared.node.Node.{Node}
-use Rattle.papaya_rule.specs.Given.Tables.declared.setting.Setting.{Setting}
+use Rattle.papaya_rule.specs.Given.TablesTrials.{place_tried}
+use Rattle.papaya_rule.specs.Given.TablesDeclared.marks.TheConstants.{TOMBSTONE}
+use Rattle.papaya_rule.specs.Given.TablesDeclared.node.Node.{Node}
+use Rattle.papaya_rule.specs.Given.TablesDeclared.setting.Setting.{Setting}
 use Rattle.papaya_raw.specs.declared.machines.answer.Called.{Called}
 use Rattle.papaya_raw.specs.declared.machines.call.KeyCall.{KeyCall}
 use Rattle.papaya_rule.specs.Chart.{Empty, Chart}

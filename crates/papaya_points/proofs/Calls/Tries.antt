@@ -1,20 +1,20 @@
 -- A call replaces the word of its try: what of that is the same whatever it writes.
 use Rattle.std.specs.Prelude.{◌≤◌, ◌≡◌, ◌≢◌, ℕ, ◌+◌, ◌^◌, ◌<◌, Bool, false, List, Some, IsSome}
 use Rattle.std.proofs.Common.{ap, ◌∙◌}
-use Rattle.papaya_rule.specs.Given.SeizeWords.declared.at.At.TheVariants.{Word}
-use Rattle.papaya_rule.specs.Given.SeizeWords.Mem.{Mem, value_at, word_at, with_word, Can, Took}
-use Rattle.papaya_rule.specs.Given.SeizeWords.Plan.{May}
-use Rattle.papaya_rule.proofs.Given.SeizeWords.OneOwner.Operations.{may_exchange}
-use Rattle.papaya_rule.specs.Given.Seize.Law.{Effect}
-use Rattle.papaya_rule.specs.Given.Seize.World.{Making, World, Hand, Event, Runs}
-use Rattle.papaya_rule.specs.Given.Tables.Chunks.{is_incremental}
+use Rattle.papaya_rule.specs.Given.SeizeWordsDeclared.at.At.TheVariants.{Word}
+use Rattle.papaya_rule.specs.Given.SeizeWordsMem.{Mem, value_at, word_at, with_word, Can, Took}
+use Rattle.papaya_rule.specs.Given.SeizeWordsPlan.{May}
+use Rattle.papaya_rule.proofs.Given.SeizeWordsOneOwner.Operations.{may_exchange}
+use Rattle.papaya_rule.specs.Given.SeizeLaw.{Effect}
+use Rattle.papaya_rule.specs.Given.SeizeWorld.{Making, World, Hand, Event, Runs}
+use Rattle.papaya_rule.specs.Given.TablesChunks.{is_incremental}
 use Rattle.papaya_raw.specs.Call.{tries, tried}
-use Rattle.papaya_rule.specs.Given.Tables.Nodes.{deferred_word}
-use Rattle.papaya_rule.specs.Given.Tables.TablePlaces.{at_place}
-use Rattle.papaya_rule.specs.Given.Tables.Trials.{place_tried}
-use Rattle.papaya_rule.specs.Given.Tables.declared.node.Node.{Node}
-use Rattle.papaya_rule.specs.Given.Tables.declared.setting.Setting.{Setting}
-use Rattle.papaya_rule.specs.Given.Tables.declared.table_words.TheConstants.{PLACES}
+use Rattle.papaya_rule.specs.Given.TablesNodes.{deferred_word}
+use Rattle.papaya_rule.specs.Given.TablesTablePlaces.{at_place}
+use Rattle.papaya_rule.specs.Given.TablesTrials.{place_tried}
+use Rattle.papaya_rule.specs.Given.TablesDeclared.node.Node.{Node}
+use Rattle.papaya_rule.specs.Given.TablesDeclared.setting.Setting.{Setting}
+use Rattle.papaya_rule.specs.Given.TablesDeclared.table_words.TheConstants.{PLACES}
 use Rattle.papaya_raw.specs.declared.machines.call.KeyCall.{KeyCall}
 use Rattle.papaya_rule.specs.Chart.{Chart}
 use Rattle.papaya_rule.specs.Rule.{IsLawful}

@@ -1,21 +1,21 @@
 -- In incremental mode, what a copier knows that tries the places of a pair's key in later tables.
 use Rattle.std.specs.Prelude.{◌-◌, nat_lt, if◌then◌else◌, Some, None}
 use Rattle.std.proofs.Common.{◌≡◌, ℕ, suc, ◌<◌, Bool, true, false, ap, ◌∙◌, arith}
-use Rattle.papaya_rule.specs.Given.Seize.World.{World}
-use Rattle.papaya_rule.specs.Given.Tables.Lengths.{IsTableLen}
-use Rattle.papaya_rule.specs.Given.Tables.Chunks.{is_incremental}
-use Rattle.papaya_rule.specs.Given.Resize.CopierStates.{standing}
-use Rattle.papaya_rule.specs.Given.Resize.CopierMarks.{probing}
-use Rattle.papaya_rule.specs.Given.Resize.CopierPlaces.{next_try}
-use Rattle.papaya_rule.specs.Given.Tables.Probes.{probe_from, probe_after}
-use Rattle.papaya_rule.specs.Given.Tables.Trials.{trial_at}
-use Rattle.papaya_rule.specs.Given.Tables.declared.node.Node.{Node}
-use Rattle.papaya_rule.specs.Given.Tables.declared.probe.Probe.{Probe}
-use Rattle.papaya_rule.specs.Given.Tables.declared.setting.Setting.{Setting}
-use Rattle.papaya_rule.specs.Given.Tables.declared.table.Table.{Table}
-use Rattle.papaya_rule.specs.Given.Resize.declared.copier.Copier.{Copier}
-use Rattle.papaya_rule.specs.Given.Resize.declared.copier.Copying.{Copying as Point}
-use Rattle.papaya_rule.specs.Given.Resize.declared.copier.Copying.TheVariants as at
+use Rattle.papaya_rule.specs.Given.SeizeWorld.{World}
+use Rattle.papaya_rule.specs.Given.TablesLengths.{IsTableLen}
+use Rattle.papaya_rule.specs.Given.TablesChunks.{is_incremental}
+use Rattle.papaya_rule.specs.Given.ResizeCopierStates.{standing}
+use Rattle.papaya_rule.specs.Given.ResizeCopierMarks.{probing}
+use Rattle.papaya_rule.specs.Given.ResizeCopierPlaces.{next_try}
+use Rattle.papaya_rule.specs.Given.TablesProbes.{probe_from, probe_after}
+use Rattle.papaya_rule.specs.Given.TablesTrials.{trial_at}
+use Rattle.papaya_rule.specs.Given.TablesDeclared.node.Node.{Node}
+use Rattle.papaya_rule.specs.Given.TablesDeclared.probe.Probe.{Probe}
+use Rattle.papaya_rule.specs.Given.TablesDeclared.setting.Setting.{Setting}
+use Rattle.papaya_rule.specs.Given.TablesDeclared.table.Table.{Table}
+use Rattle.papaya_rule.specs.Given.ResizeDeclared.copier.Copier.{Copier}
+use Rattle.papaya_rule.specs.Given.ResizeDeclared.copier.Copying.{Copying as Point}
+use Rattle.papaya_rule.specs.Given.ResizeDeclared.copier.Copying.TheVariants as at
 use Rattle.papaya_rule.specs.Chart.{Chart, is_taken}
 use Rattle.papaya_rule.specs.Rule.{tried}
 use Rattle.papaya_rule.specs.Moves.{Taken}

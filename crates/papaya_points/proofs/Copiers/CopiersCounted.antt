@@ -2,19 +2,19 @@
 use Rattle.std.specs.Prelude.{Some}
 use Rattle.std.proofs.Common.{◌≡◌, ℕ, suc, ◌+◌, ◌%◌, ◌^◌, ◌≤◌, Bool, true, cond, eqb, refl, ap, sym, subst, ◌∙◌, arith}
 use Rattle.std.proofs.lemmas.Bool.{eq-eqb}
-use Rattle.papaya_rule.specs.Given.SeizeWords.declared.at.At.{At}
-use Rattle.papaya_rule.specs.Given.SeizeWords.declared.at.At.TheVariants.{Word}
-use Rattle.papaya_rule.specs.Given.SeizeWords.Mem.{Mem, word_at, with_word}
-use Rattle.papaya_rule.specs.Given.SeizeWords.Op.{Add, Found}
-use Rattle.papaya_rule.specs.Given.Seize.World.{World}
-use Rattle.papaya_rule.specs.Given.Tables.Chunks.{is_incremental}
-use Rattle.papaya_rule.specs.Given.Tables.TablePlaces.{at_word}
-use Rattle.papaya_rule.specs.Given.Tables.declared.node.Node.{Node}
-use Rattle.papaya_rule.specs.Given.Tables.declared.table.Table.{Table}
-use Rattle.papaya_rule.specs.Given.Tables.declared.table_words.TheConstants.{COPIED}
-use Rattle.papaya_rule.specs.Given.Resize.declared.outcome.Outcome.{Outcome}
-use Rattle.papaya_rule.specs.Given.Tables.declared.setting.Setting.{Setting}
-use Rattle.papaya_rule.specs.Given.Resize.declared.copier.Copier.{Copier}
+use Rattle.papaya_rule.specs.Given.SeizeWordsDeclared.at.At.{At}
+use Rattle.papaya_rule.specs.Given.SeizeWordsDeclared.at.At.TheVariants.{Word}
+use Rattle.papaya_rule.specs.Given.SeizeWordsMem.{Mem, word_at, with_word}
+use Rattle.papaya_rule.specs.Given.SeizeWordsOp.{Add, Found}
+use Rattle.papaya_rule.specs.Given.SeizeWorld.{World}
+use Rattle.papaya_rule.specs.Given.TablesChunks.{is_incremental}
+use Rattle.papaya_rule.specs.Given.TablesTablePlaces.{at_word}
+use Rattle.papaya_rule.specs.Given.TablesDeclared.node.Node.{Node}
+use Rattle.papaya_rule.specs.Given.TablesDeclared.table.Table.{Table}
+use Rattle.papaya_rule.specs.Given.TablesDeclared.table_words.TheConstants.{COPIED}
+use Rattle.papaya_rule.specs.Given.ResizeDeclared.outcome.Outcome.{Outcome}
+use Rattle.papaya_rule.specs.Given.TablesDeclared.setting.Setting.{Setting}
+use Rattle.papaya_rule.specs.Given.ResizeDeclared.copier.Copier.{Copier}
 use Rattle.papaya_rule.specs.Chart.{Share, Claimed, Chart, put}
 use Rattle.papaya_rule.specs.Rule.{IsLawful, total}
 use Rattle.papaya_rule.proofs.Moves.Counts.{counted_behind}

@@ -1,37 +1,37 @@
 -- A copier copies a whole table, or does not, from its first step to its last; and it has unlinked no table until it promotes one.
 use Rattle.std.specs.Prelude.{◌≡◌, ℕ, ◌+◌, ◌%◌, ◌^◌, ◌-◌, ◌/◌, ◌==◌, Bool, true, false, nat_lt, Ok, Err, if◌then◌else◌}
 use Rattle.std.proofs.Common.{◌⊎◌, inl, inr, refl}
-use Rattle.papaya_rule.specs.Given.SeizeWords.Mem.{Mem, value_at, Took}
-use Rattle.papaya_rule.specs.Given.SeizeWords.Op.{Out, Found, Stored, Exchanged, Made, Taken, Roomed}
-use Rattle.papaya_rule.specs.Given.SeizeWords.Plan.{Then, Steps}
-use Rattle.papaya_rule.specs.Given.Seize.declared.progress.Progress.{Progress}
-use Rattle.papaya_rule.specs.Given.Seize.declared.progress.Progress.TheVariants as progress
-use Rattle.papaya_rule.specs.Given.Seize.declared.rows.settle.Settle.{Settle}
-use Rattle.papaya_rule.specs.Given.Seize.declared.rows.settle.Settled.{Settled}
-use Rattle.papaya_rule.specs.Given.Seize.declared.rows.settle.Settled.TheVariants as settled
-use Rattle.papaya_rule.specs.Given.Seize.Settle.{settle_plan}
-use Rattle.papaya_rule.specs.Given.SeizeWords.declared.fault.Fault.{Fault}
-use Rattle.papaya_rule.specs.Given.Tables.Probes.{probe_after}
-use Rattle.papaya_rule.specs.Given.Tables.Chunks.{is_incremental}
-use Rattle.papaya_rule.specs.Given.Tables.Nodes.{deferred_word}
-use Rattle.papaya_rule.specs.Given.Resize.NewTable.{new_table_plan}
-use Rattle.papaya_rule.specs.Given.Resize.Copier.{plan_at, copier_plan}
-use Rattle.papaya_rule.specs.Given.Resize.CopierStates.{standing, behind, none_left, next_place, place_done}
-use Rattle.papaya_rule.specs.Given.Resize.CopierPlaces.{next_try, place_read, put_told}
-use Rattle.papaya_rule.specs.Given.Resize.CopierMarks.{is_mine, is_awaited, mine_marked, marked}
-use Rattle.papaya_rule.specs.Given.Resize.CopierClaims.{root_read, next_read, status_read, claim_read, claimed}
-use Rattle.papaya_rule.specs.Given.Resize.CopierCounts.{refusing, counted}
-use Rattle.papaya_rule.specs.Given.Resize.CopierFurther.{further_read, grown, replacement_read, remade}
-use Rattle.papaya_rule.specs.Given.Resize.CopierPromotes.{promoted, table_retired, successor_read, retired}
-use Rattle.papaya_rule.specs.Given.Tables.declared.node.Node.{Node}
-use Rattle.papaya_rule.specs.Given.Resize.declared.outcome.Outcome.{Outcome}
-use Rattle.papaya_rule.specs.Given.Tables.declared.probe.Probe.{Probe}
-use Rattle.papaya_rule.specs.Given.Tables.declared.status.TheConstants.Status.{PROMOTED, ABORTED}
-use Rattle.papaya_rule.specs.Given.Tables.declared.table.Table.{Table}
-use Rattle.papaya_rule.specs.Given.Resize.declared.copier.Copier.{Copier}
-use Rattle.papaya_rule.specs.Given.Resize.declared.copier.Copying.{Copying}
-use Rattle.papaya_rule.specs.Given.Resize.declared.copier.Copying.TheVariants as at
-use Rattle.papaya_rule.specs.Given.Resize.declared.new_table.NewTable.{NewTable}
+use Rattle.papaya_rule.specs.Given.SeizeWordsMem.{Mem, value_at, Took}
+use Rattle.papaya_rule.specs.Given.SeizeWordsOp.{Out, Found, Stored, Exchanged, Made, Taken, Roomed}
+use Rattle.papaya_rule.specs.Given.SeizeWordsPlan.{Then, Steps}
+use Rattle.papaya_rule.specs.Given.SeizeDeclared.progress.Progress.{Progress}
+use Rattle.papaya_rule.specs.Given.SeizeDeclared.progress.Progress.TheVariants as progress
+use Rattle.papaya_rule.specs.Given.SeizeDeclared.rows.settle.Settle.{Settle}
+use Rattle.papaya_rule.specs.Given.SeizeDeclared.rows.settle.Settled.{Settled}
+use Rattle.papaya_rule.specs.Given.SeizeDeclared.rows.settle.Settled.TheVariants as settled
+use Rattle.papaya_rule.specs.Given.SeizeSettle.{settle_plan}
+use Rattle.papaya_rule.specs.Given.SeizeWordsDeclared.fault.Fault.{Fault}
+use Rattle.papaya_rule.specs.Given.TablesProbes.{probe_after}
+use Rattle.papaya_rule.specs.Given.TablesChunks.{is_incremental}
+use Rattle.papaya_rule.specs.Given.TablesNodes.{deferred_word}
+use Rattle.papaya_rule.specs.Given.ResizeNewTable.{new_table_plan}
+use Rattle.papaya_rule.specs.Given.ResizeCopier.{plan_at, copier_plan}
+use Rattle.papaya_rule.specs.Given.ResizeCopierStates.{standing, behind, none_left, next_place, place_done}
+use Rattle.papaya_rule.specs.Given.ResizeCopierPlaces.{next_try, place_read, put_told}
+use Rattle.papaya_rule.specs.Given.ResizeCopierMarks.{is_mine, is_awaited, mine_marked, marked}
+use Rattle.papaya_rule.specs.Given.ResizeCopierClaims.{root_read, next_read, status_read, claim_read, claimed}
+use Rattle.papaya_rule.specs.Given.ResizeCopierCounts.{refusing, counted}
+use Rattle.papaya_rule.specs.Given.ResizeCopierFurther.{further_read, grown, replacement_read, remade}
+use Rattle.papaya_rule.specs.Given.ResizeCopierPromotes.{promoted, table_retired, successor_read, retired}
+use Rattle.papaya_rule.specs.Given.TablesDeclared.node.Node.{Node}
+use Rattle.papaya_rule.specs.Given.ResizeDeclared.outcome.Outcome.{Outcome}
+use Rattle.papaya_rule.specs.Given.TablesDeclared.probe.Probe.{Probe}
+use Rattle.papaya_rule.specs.Given.TablesDeclared.status.TheConstants.Status.{PROMOTED, ABORTED}
+use Rattle.papaya_rule.specs.Given.TablesDeclared.table.Table.{Table}
+use Rattle.papaya_rule.specs.Given.ResizeDeclared.copier.Copier.{Copier}
+use Rattle.papaya_rule.specs.Given.ResizeDeclared.copier.Copying.{Copying}
+use Rattle.papaya_rule.specs.Given.ResizeDeclared.copier.Copying.TheVariants as at
+use Rattle.papaya_rule.specs.Given.ResizeDeclared.new_table.NewTable.{NewTable}
 use Rattle.papaya_points.specs.Unlinked.{has_unlinked}
 use Rattle.papaya_points.proofs.Steps.RootSteps.{is_promoting}
 use Rattle.papaya_rule.proofs.Keys.Always.{Always, AlwaysOf, always_if, always_plan_as, always_steps}

@@ -1,24 +1,24 @@
 -- A copier, in incremental mode, counts what it has done: in turn, or before it takes its mark back.
 use Rattle.std.specs.Prelude.{if◌then◌else◌, ◌==◌}
 use Rattle.std.proofs.Common.{◌≡◌, ℕ, suc, ◌+◌, ◌%◌, ◌^◌, ◌<◌, Bool, true, false, ◌⊎◌, inl, inr, refl, ap, sym, subst, ◌∙◌, arith, eqb-true}
-use Rattle.papaya_rule.specs.Given.SeizeWords.declared.fault.Fault.{Fault}
-use Rattle.papaya_rule.specs.Given.SeizeWords.Mem.{Mem, Can, Took, value_at, with_word}
-use Rattle.papaya_rule.specs.Given.SeizeWords.Plan.{May, Steps, Ends}
-use Rattle.papaya_rule.proofs.Given.SeizeWords.OneOwner.Operations.{may_add, added}
-use Rattle.papaya_rule.proofs.Given.SeizeWords.Plans.{see_if}
-use Rattle.papaya_rule.specs.Given.Seize.World.{World}
-use Rattle.papaya_rule.specs.Given.Tables.Chunks.{is_incremental}
-use Rattle.papaya_rule.specs.Given.Resize.CopierCounts.{counts, counted, tallies, to}
-use Rattle.papaya_rule.specs.Given.Resize.CopierStates.{behind}
-use Rattle.papaya_rule.specs.Given.Tables.TablePlaces.{at_word}
-use Rattle.papaya_rule.specs.Given.Tables.declared.node.Node.{Node}
-use Rattle.papaya_rule.specs.Given.Tables.declared.table.Table.{Table}
-use Rattle.papaya_rule.specs.Given.Tables.declared.table_words.TheConstants.{COPIED}
-use Rattle.papaya_rule.specs.Given.Resize.declared.outcome.Outcome.{Outcome}
-use Rattle.papaya_rule.specs.Given.Resize.declared.outcome.Outcome.TheVariants.{Goes}
-use Rattle.papaya_rule.specs.Given.Tables.declared.setting.Setting.{Setting}
-use Rattle.papaya_rule.specs.Given.Resize.declared.copier.Copier.{Copier}
-use Rattle.papaya_rule.specs.Given.Resize.declared.copier.Copying.TheVariants as at
+use Rattle.papaya_rule.specs.Given.SeizeWordsDeclared.fault.Fault.{Fault}
+use Rattle.papaya_rule.specs.Given.SeizeWordsMem.{Mem, Can, Took, value_at, with_word}
+use Rattle.papaya_rule.specs.Given.SeizeWordsPlan.{May, Steps, Ends}
+use Rattle.papaya_rule.proofs.Given.SeizeWordsOneOwner.Operations.{may_add, added}
+use Rattle.papaya_rule.proofs.Given.SeizeWordsPlans.{see_if}
+use Rattle.papaya_rule.specs.Given.SeizeWorld.{World}
+use Rattle.papaya_rule.specs.Given.TablesChunks.{is_incremental}
+use Rattle.papaya_rule.specs.Given.ResizeCopierCounts.{counts, counted, tallies, to}
+use Rattle.papaya_rule.specs.Given.ResizeCopierStates.{behind}
+use Rattle.papaya_rule.specs.Given.TablesTablePlaces.{at_word}
+use Rattle.papaya_rule.specs.Given.TablesDeclared.node.Node.{Node}
+use Rattle.papaya_rule.specs.Given.TablesDeclared.table.Table.{Table}
+use Rattle.papaya_rule.specs.Given.TablesDeclared.table_words.TheConstants.{COPIED}
+use Rattle.papaya_rule.specs.Given.ResizeDeclared.outcome.Outcome.{Outcome}
+use Rattle.papaya_rule.specs.Given.ResizeDeclared.outcome.Outcome.TheVariants.{Goes}
+use Rattle.papaya_rule.specs.Given.TablesDeclared.setting.Setting.{Setting}
+use Rattle.papaya_rule.specs.Given.ResizeDeclared.copier.Copier.{Copier}
+use Rattle.papaya_rule.specs.Given.ResizeDeclared.copier.Copying.TheVariants as at
 use Rattle.papaya_rule.specs.Chart.{Counted, Claimed, Chart}
 use Rattle.papaya_rule.specs.Rule.{IsLawful}
 use Rattle.papaya_rule.specs.Moves.{with_counted}

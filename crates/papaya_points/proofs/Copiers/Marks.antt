@@ -2,29 +2,29 @@
 use Rattle.std.specs.Prelude.{Option, Some, IsSome, bit_or, if◌then◌else◌, ◌==◌, ◌&&◌, not}
 use Rattle.std.proofs.Common.{◌≡◌, ◌≢◌, ℕ, suc, ◌+◌, ◌/◌, ◌^◌, ◌<◌, Bool, true, false, ◌⊎◌, inl, inr, refl, ap, sym, subst, ◌∙◌, arith, eq-or-lt_of_le}
 use Rattle.std.proofs.lemmas.Bool.{eqb-false, ne_eqb}
-use Rattle.papaya_rule.specs.Given.SeizeWords.declared.at.At.{At}
-use Rattle.papaya_rule.specs.Given.SeizeWords.Mem.{Mem, Can, Took, value_at, word_at, with_word}
-use Rattle.papaya_rule.specs.Given.SeizeWords.Op.{Found}
-use Rattle.papaya_rule.specs.Given.SeizeWords.Plan.{May, Steps, Ends, Now}
-use Rattle.papaya_rule.proofs.Given.SeizeWords.OneOwner.AfterWrites.{value_at-with_word}
-use Rattle.papaya_rule.proofs.Given.SeizeWords.OneOwner.Operations.{may_or, ored}
-use Rattle.papaya_rule.proofs.Given.SeizeWords.Plans.{see_if}
-use Rattle.papaya_rule.specs.Given.Seize.World.{World}
-use Rattle.papaya_rule.specs.Given.Tables.Chunks.{is_incremental}
-use Rattle.papaya_rule.specs.Given.Resize.CopierMarks.{marks, marked as place_marked, is_mine, is_awaited, mine_marked, to}
-use Rattle.papaya_rule.specs.Given.Resize.CopierStates.{next_place}
-use Rattle.papaya_rule.specs.Given.Tables.Marks.{has_mark}
-use Rattle.papaya_rule.specs.Given.Tables.TablePlaces.{at_place}
-use Rattle.papaya_rule.specs.Given.Tables.declared.marks.TheConstants.{COPYING, COPIED}
-use Rattle.papaya_rule.specs.Given.Tables.declared.node.Node.{Node}
-use Rattle.papaya_rule.specs.Given.Tables.declared.node.Node.TheVariants as node
-use Rattle.papaya_rule.specs.Given.Tables.declared.table.Table.{Table}
-use Rattle.papaya_rule.specs.Given.Tables.declared.table_words.TheConstants.{PLACES}
-use Rattle.papaya_rule.specs.Given.Resize.declared.outcome.Outcome.{Outcome}
-use Rattle.papaya_rule.specs.Given.Resize.declared.outcome.Outcome.TheVariants.{Goes, Waits}
-use Rattle.papaya_rule.specs.Given.Tables.declared.setting.Setting.{Setting}
-use Rattle.papaya_rule.specs.Given.Resize.declared.copier.Copier.{Copier}
-use Rattle.papaya_rule.specs.Given.Resize.declared.copier.Copying.TheVariants as at
+use Rattle.papaya_rule.specs.Given.SeizeWordsDeclared.at.At.{At}
+use Rattle.papaya_rule.specs.Given.SeizeWordsMem.{Mem, Can, Took, value_at, word_at, with_word}
+use Rattle.papaya_rule.specs.Given.SeizeWordsOp.{Found}
+use Rattle.papaya_rule.specs.Given.SeizeWordsPlan.{May, Steps, Ends, Now}
+use Rattle.papaya_rule.proofs.Given.SeizeWordsOneOwner.AfterWrites.{value_at-with_word}
+use Rattle.papaya_rule.proofs.Given.SeizeWordsOneOwner.Operations.{may_or, ored}
+use Rattle.papaya_rule.proofs.Given.SeizeWordsPlans.{see_if}
+use Rattle.papaya_rule.specs.Given.SeizeWorld.{World}
+use Rattle.papaya_rule.specs.Given.TablesChunks.{is_incremental}
+use Rattle.papaya_rule.specs.Given.ResizeCopierMarks.{marks, marked as place_marked, is_mine, is_awaited, mine_marked, to}
+use Rattle.papaya_rule.specs.Given.ResizeCopierStates.{next_place}
+use Rattle.papaya_rule.specs.Given.TablesMarks.{has_mark}
+use Rattle.papaya_rule.specs.Given.TablesTablePlaces.{at_place}
+use Rattle.papaya_rule.specs.Given.TablesDeclared.marks.TheConstants.{COPYING, COPIED}
+use Rattle.papaya_rule.specs.Given.TablesDeclared.node.Node.{Node}
+use Rattle.papaya_rule.specs.Given.TablesDeclared.node.Node.TheVariants as node
+use Rattle.papaya_rule.specs.Given.TablesDeclared.table.Table.{Table}
+use Rattle.papaya_rule.specs.Given.TablesDeclared.table_words.TheConstants.{PLACES}
+use Rattle.papaya_rule.specs.Given.ResizeDeclared.outcome.Outcome.{Outcome}
+use Rattle.papaya_rule.specs.Given.ResizeDeclared.outcome.Outcome.TheVariants.{Goes, Waits}
+use Rattle.papaya_rule.specs.Given.TablesDeclared.setting.Setting.{Setting}
+use Rattle.papaya_rule.specs.Given.ResizeDeclared.copier.Copier.{Copier}
+use Rattle.papaya_rule.specs.Given.ResizeDeclared.copier.Copying.TheVariants as at
 use Rattle.papaya_rule.specs.Chart.{Still, Copying, Copied, Place, Empty, Tombstone, Holds, Chart, is_marked, is_settled}
 use Rattle.papaya_rule.specs.Rule.{IsLawful}
 use Rattle.papaya_rule.specs.Moves.{marked}

@@ -2,23 +2,23 @@
 use Rattle.std.specs.Prelude.{◌==◌, Some, IsSome}
 use Rattle.std.proofs.Common.{◌≡◌, ◌≢◌, ℕ, ◌<◌, Bool, true, false, ◌⊎◌, inl, inr, refl, ap, sym, subst, ◌∙◌}
 use Rattle.std.proofs.lemmas.Bool.{eqb-false}
-use Rattle.papaya_rule.specs.Given.SeizeWords.Mem.{Mem, value_at, word_at, Can, Took}
-use Rattle.papaya_rule.specs.Given.SeizeWords.Plan.{May, Steps}
-use Rattle.papaya_rule.proofs.Given.SeizeWords.OneOwner.Operations.{may_load, loaded}
-use Rattle.papaya_rule.proofs.Given.SeizeWords.Plans.{see_if, ends_if}
-use Rattle.papaya_rule.specs.Given.Seize.World.{World}
-use Rattle.papaya_rule.specs.Given.Tables.Chunks.{is_incremental}
-use Rattle.papaya_rule.specs.Given.Resize.CopierStates.{standing}
-use Rattle.papaya_rule.specs.Given.Resize.CopierPlaces.{next_try, place_read, probes, to}
-use Rattle.papaya_rule.specs.Given.Tables.TablePlaces.{at_place}
-use Rattle.papaya_rule.specs.Given.Tables.declared.node.Node.{Node}
-use Rattle.papaya_rule.specs.Given.Resize.declared.outcome.Outcome.{Outcome}
-use Rattle.papaya_rule.specs.Given.Resize.declared.outcome.Outcome.TheVariants.{Goes}
-use Rattle.papaya_rule.specs.Given.Tables.declared.probe.Probe.{Probe}
-use Rattle.papaya_rule.specs.Given.Tables.declared.setting.Setting.{Setting}
-use Rattle.papaya_rule.specs.Given.Tables.declared.table.Table.{Table}
-use Rattle.papaya_rule.specs.Given.Resize.declared.copier.Copier.{Copier}
-use Rattle.papaya_rule.specs.Given.Resize.declared.copier.Copying.TheVariants as at
+use Rattle.papaya_rule.specs.Given.SeizeWordsMem.{Mem, value_at, word_at, Can, Took}
+use Rattle.papaya_rule.specs.Given.SeizeWordsPlan.{May, Steps}
+use Rattle.papaya_rule.proofs.Given.SeizeWordsOneOwner.Operations.{may_load, loaded}
+use Rattle.papaya_rule.proofs.Given.SeizeWordsPlans.{see_if, ends_if}
+use Rattle.papaya_rule.specs.Given.SeizeWorld.{World}
+use Rattle.papaya_rule.specs.Given.TablesChunks.{is_incremental}
+use Rattle.papaya_rule.specs.Given.ResizeCopierStates.{standing}
+use Rattle.papaya_rule.specs.Given.ResizeCopierPlaces.{next_try, place_read, probes, to}
+use Rattle.papaya_rule.specs.Given.TablesTablePlaces.{at_place}
+use Rattle.papaya_rule.specs.Given.TablesDeclared.node.Node.{Node}
+use Rattle.papaya_rule.specs.Given.ResizeDeclared.outcome.Outcome.{Outcome}
+use Rattle.papaya_rule.specs.Given.ResizeDeclared.outcome.Outcome.TheVariants.{Goes}
+use Rattle.papaya_rule.specs.Given.TablesDeclared.probe.Probe.{Probe}
+use Rattle.papaya_rule.specs.Given.TablesDeclared.setting.Setting.{Setting}
+use Rattle.papaya_rule.specs.Given.TablesDeclared.table.Table.{Table}
+use Rattle.papaya_rule.specs.Given.ResizeDeclared.copier.Copier.{Copier}
+use Rattle.papaya_rule.specs.Given.ResizeDeclared.copier.Copying.TheVariants as at
 use Rattle.papaya_rule.specs.Chart.{Chart, Place, Empty}
 use Rattle.papaya_rule.specs.Rule.{tried}
 use Rattle.papaya_rule.specs.Words.{Blocks, place_word}

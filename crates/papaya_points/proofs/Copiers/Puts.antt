@@ -1,29 +1,29 @@
 -- In incremental mode, a copier puts its pair into an empty place of a later table, unless another caller was faster.
 use Rattle.std.specs.Prelude.{◌+◌, if◌then◌else◌, Some, Ok}
 use Rattle.std.proofs.Common.{◌≡◌, ◌≢◌, ℕ, ◌<◌, ◌≤◌, Bool, true, false, ◌⊎◌, inl, inr, refl, ap, ap₂, sym, subst, ◌∙◌, arith}
-use Rattle.papaya_rule.specs.Given.SeizeWords.declared.at.At.{At}
-use Rattle.papaya_rule.specs.Given.SeizeWords.declared.at.At.TheVariants.{Word}
-use Rattle.papaya_rule.specs.Given.SeizeWords.Mem.{Mem, value_at, word_at, with_word, Can, Took}
-use Rattle.papaya_rule.specs.Given.SeizeWords.Op.{Exchange, Exchanged}
-use Rattle.papaya_rule.specs.Given.SeizeWords.Plan.{May, Steps}
-use Rattle.papaya_rule.proofs.Given.SeizeWords.OneOwner.Operations.{may_exchange, exchanged}
-use Rattle.papaya_rule.specs.Given.Seize.World.{World, InUse, IsOwn}
-use Rattle.papaya_rule.specs.Given.Tables.Chunks.{is_incremental}
-use Rattle.papaya_rule.specs.Given.Tables.Marks.{unmarked_in}
-use Rattle.papaya_rule.specs.Given.Tables.Nodes.{deferred_word}
-use Rattle.papaya_rule.specs.Given.Resize.CopierStates.{standing, place_done}
-use Rattle.papaya_rule.specs.Given.Resize.CopierPlaces.{copied_word, next_try, pair_put, put_told, puts}
-use Rattle.papaya_rule.specs.Given.Tables.TablePlaces.{at_place}
-use Rattle.papaya_rule.specs.Given.Tables.declared.marks.TheConstants.{BORROWED}
-use Rattle.papaya_rule.specs.Given.Tables.declared.node.Node.{Node}
-use Rattle.papaya_rule.specs.Given.Resize.declared.outcome.Outcome.{Outcome}
-use Rattle.papaya_rule.specs.Given.Resize.declared.outcome.Outcome.TheVariants.{Goes}
-use Rattle.papaya_rule.specs.Given.Tables.declared.probe.Probe.{Probe}
-use Rattle.papaya_rule.specs.Given.Tables.declared.setting.Setting.{Setting}
-use Rattle.papaya_rule.specs.Given.Tables.declared.table.Table.{Table}
-use Rattle.papaya_rule.specs.Given.Tables.declared.table_words.TheConstants.{PLACES}
-use Rattle.papaya_rule.specs.Given.Resize.declared.copier.Copier.{Copier}
-use Rattle.papaya_rule.specs.Given.Resize.declared.copier.Copying.TheVariants as at
+use Rattle.papaya_rule.specs.Given.SeizeWordsDeclared.at.At.{At}
+use Rattle.papaya_rule.specs.Given.SeizeWordsDeclared.at.At.TheVariants.{Word}
+use Rattle.papaya_rule.specs.Given.SeizeWordsMem.{Mem, value_at, word_at, with_word, Can, Took}
+use Rattle.papaya_rule.specs.Given.SeizeWordsOp.{Exchange, Exchanged}
+use Rattle.papaya_rule.specs.Given.SeizeWordsPlan.{May, Steps}
+use Rattle.papaya_rule.proofs.Given.SeizeWordsOneOwner.Operations.{may_exchange, exchanged}
+use Rattle.papaya_rule.specs.Given.SeizeWorld.{World, InUse, IsOwn}
+use Rattle.papaya_rule.specs.Given.TablesChunks.{is_incremental}
+use Rattle.papaya_rule.specs.Given.TablesMarks.{unmarked_in}
+use Rattle.papaya_rule.specs.Given.TablesNodes.{deferred_word}
+use Rattle.papaya_rule.specs.Given.ResizeCopierStates.{standing, place_done}
+use Rattle.papaya_rule.specs.Given.ResizeCopierPlaces.{copied_word, next_try, pair_put, put_told, puts}
+use Rattle.papaya_rule.specs.Given.TablesTablePlaces.{at_place}
+use Rattle.papaya_rule.specs.Given.TablesDeclared.marks.TheConstants.{BORROWED}
+use Rattle.papaya_rule.specs.Given.TablesDeclared.node.Node.{Node}
+use Rattle.papaya_rule.specs.Given.ResizeDeclared.outcome.Outcome.{Outcome}
+use Rattle.papaya_rule.specs.Given.ResizeDeclared.outcome.Outcome.TheVariants.{Goes}
+use Rattle.papaya_rule.specs.Given.TablesDeclared.probe.Probe.{Probe}
+use Rattle.papaya_rule.specs.Given.TablesDeclared.setting.Setting.{Setting}
+use Rattle.papaya_rule.specs.Given.TablesDeclared.table.Table.{Table}
+use Rattle.papaya_rule.specs.Given.TablesDeclared.table_words.TheConstants.{PLACES}
+use Rattle.papaya_rule.specs.Given.ResizeDeclared.copier.Copier.{Copier}
+use Rattle.papaya_rule.specs.Given.ResizeDeclared.copier.Copying.TheVariants as at
 use Rattle.papaya_rule.specs.Chart.{Phase, Still, Copying, Chart, Place, Empty, Holds, put_in, is_settled}
 use Rattle.papaya_rule.specs.Rule.{Rule, IsLawful}
 use Rattle.papaya_rule.specs.Moves.{Puts, Allowed, after, lent_place}

@@ -1,22 +1,22 @@
 -- A copier, in incremental mode, that is refused takes its mark back.
 use Rattle.std.specs.Prelude.{IsSome}
 use Rattle.std.proofs.Common.{◌≡◌, ◌≢◌, ℕ, suc, ◌<◌, Bool, true, refl, ap, sym, subst, ◌∙◌, arith}
-use Rattle.papaya_rule.specs.Given.SeizeWords.declared.fault.Fault.{Fault}
-use Rattle.papaya_rule.specs.Given.SeizeWords.Mem.{Mem, Can, Took, value_at, word_at, with_word}
-use Rattle.papaya_rule.specs.Given.SeizeWords.Op.{Store, Stored}
-use Rattle.papaya_rule.specs.Given.SeizeWords.Plan.{May, Steps}
-use Rattle.papaya_rule.proofs.Given.SeizeWords.OneOwner.Operations.{may_store, stored}
-use Rattle.papaya_rule.specs.Given.Seize.World.{World}
-use Rattle.papaya_rule.specs.Given.Tables.Chunks.{is_incremental}
-use Rattle.papaya_rule.specs.Given.Resize.CopierCounts.{unmarks, to}
-use Rattle.papaya_rule.specs.Given.Resize.CopierStates.{standing}
-use Rattle.papaya_rule.specs.Given.Tables.TablePlaces.{at_place}
-use Rattle.papaya_rule.specs.Given.Tables.declared.node.Node.{Node}
-use Rattle.papaya_rule.specs.Given.Tables.declared.table.Table.{Table}
-use Rattle.papaya_rule.specs.Given.Resize.declared.outcome.Outcome.{Outcome}
-use Rattle.papaya_rule.specs.Given.Tables.declared.setting.Setting.{Setting}
-use Rattle.papaya_rule.specs.Given.Resize.declared.copier.Copier.{Copier}
-use Rattle.papaya_rule.specs.Given.Resize.declared.copier.Copying.TheVariants as at
+use Rattle.papaya_rule.specs.Given.SeizeWordsDeclared.fault.Fault.{Fault}
+use Rattle.papaya_rule.specs.Given.SeizeWordsMem.{Mem, Can, Took, value_at, word_at, with_word}
+use Rattle.papaya_rule.specs.Given.SeizeWordsOp.{Store, Stored}
+use Rattle.papaya_rule.specs.Given.SeizeWordsPlan.{May, Steps}
+use Rattle.papaya_rule.proofs.Given.SeizeWordsOneOwner.Operations.{may_store, stored}
+use Rattle.papaya_rule.specs.Given.SeizeWorld.{World}
+use Rattle.papaya_rule.specs.Given.TablesChunks.{is_incremental}
+use Rattle.papaya_rule.specs.Given.ResizeCopierCounts.{unmarks, to}
+use Rattle.papaya_rule.specs.Given.ResizeCopierStates.{standing}
+use Rattle.papaya_rule.specs.Given.TablesTablePlaces.{at_place}
+use Rattle.papaya_rule.specs.Given.TablesDeclared.node.Node.{Node}
+use Rattle.papaya_rule.specs.Given.TablesDeclared.table.Table.{Table}
+use Rattle.papaya_rule.specs.Given.ResizeDeclared.outcome.Outcome.{Outcome}
+use Rattle.papaya_rule.specs.Given.TablesDeclared.setting.Setting.{Setting}
+use Rattle.papaya_rule.specs.Given.ResizeDeclared.copier.Copier.{Copier}
+use Rattle.papaya_rule.specs.Given.ResizeDeclared.copier.Copying.TheVariants as at
 use Rattle.papaya_rule.specs.Chart.{Phase, Still, Copying, Place, Holds, Free, Claimed, Chart, put_in}
 use Rattle.papaya_rule.specs.Rule.{IsLawful, total, is_of, names}
 use Rattle.papaya_rule.specs.Moves.{Unmarks, still_place, is_done_by}

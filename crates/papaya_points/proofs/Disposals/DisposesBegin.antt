@@ -1,18 +1,18 @@
 -- A disposal begins: what it knows of the pair of the word that was taken out.
 use Rattle.std.specs.Prelude.{◌≡◌, ℕ, ◌*◌, ◌^◌, ◌<◌, Bool, true, false, cond, if◌then◌else◌}
 use Rattle.std.proofs.Common.{refl, ap, ◌∙◌}
-use Rattle.papaya_rule.specs.Given.Seize.World.{World, Parting, Cutting}
-use Rattle.papaya_rule.specs.Given.Seize.Settle.{retiring}
-use Rattle.papaya_rule.specs.Given.Tables.Chunks.{is_incremental}
-use Rattle.papaya_rule.specs.Given.Resize.Dispose.{retires, start_of, disposing}
-use Rattle.papaya_rule.specs.Given.Tables.Marks.{link_in, has_mark}
-use Rattle.papaya_rule.specs.Given.Tables.declared.marks.TheConstants.{BORROWED}
-use Rattle.papaya_rule.specs.Given.Tables.declared.node.Node.{Node}
-use Rattle.papaya_rule.specs.Given.Tables.declared.resize_mode.ResizeMode.{ResizeMode}
-use Rattle.papaya_rule.specs.Given.Tables.declared.resize_mode.ResizeMode.TheVariants.{Incremental, Blocking}
-use Rattle.papaya_rule.specs.Given.Tables.declared.setting.Setting.{Setting}
-use Rattle.papaya_rule.specs.Given.Tables.declared.table.Table.{Table}
-use Rattle.papaya_rule.specs.Given.Resize.declared.dispose.Disposing.TheVariants as at
+use Rattle.papaya_rule.specs.Given.SeizeWorld.{World, Parting, Cutting}
+use Rattle.papaya_rule.specs.Given.SeizeSettle.{retiring}
+use Rattle.papaya_rule.specs.Given.TablesChunks.{is_incremental}
+use Rattle.papaya_rule.specs.Given.ResizeDispose.{retires, start_of, disposing}
+use Rattle.papaya_rule.specs.Given.TablesMarks.{link_in, has_mark}
+use Rattle.papaya_rule.specs.Given.TablesDeclared.marks.TheConstants.{BORROWED}
+use Rattle.papaya_rule.specs.Given.TablesDeclared.node.Node.{Node}
+use Rattle.papaya_rule.specs.Given.TablesDeclared.resize_mode.ResizeMode.{ResizeMode}
+use Rattle.papaya_rule.specs.Given.TablesDeclared.resize_mode.ResizeMode.TheVariants.{Incremental, Blocking}
+use Rattle.papaya_rule.specs.Given.TablesDeclared.setting.Setting.{Setting}
+use Rattle.papaya_rule.specs.Given.TablesDeclared.table.Table.{Table}
+use Rattle.papaya_rule.specs.Given.ResizeDeclared.dispose.Disposing.TheVariants as at
 use Rattle.papaya_rule.specs.Chart.{Still, Holds, Chart}
 use Rattle.papaya_rule.specs.Words.{Blocks, byte_of, place_word}
 use Rattle.papaya_rule.specs.Maps.{IsTable}

@@ -2,25 +2,25 @@
 use Rattle.std.proofs.Common.{refl, ap, sym, subst, ◌∙◌, inl, inr, arith}
 use Rattle.std.proofs.lemmas.Bool.{ltb-true, ltb-false}
 use Rattle.std.specs.Prelude.{◌≡◌, ℕ, ◌*◌, ◌/◌, ◌≤◌, Bool, true, false, nat_lt, Some, ◌⊎◌}
-use Rattle.papaya_rule.proofs.Given.SeizeWords.OneOwner.Operations.{may_load, loaded}
-use Rattle.papaya_rule.proofs.Given.SeizeWords.Plans.{see_if, ends_if}
-use Rattle.papaya_rule.specs.Given.SeizeWords.Mem.{Mem, Can, Took, value_at, word_at}
-use Rattle.papaya_rule.specs.Given.SeizeWords.Plan.{May, Steps, Ends}
-use Rattle.papaya_rule.specs.Given.SeizeWords.declared.at.At.TheVariants.{Root}
-use Rattle.papaya_rule.proofs.Given.SeizeRule.Rows.Others.{with_here}
-use Rattle.papaya_rule.specs.Given.Seize.Law.{Unlinked}
-use Rattle.papaya_rule.specs.Given.Seize.Settle.{retiring}
-use Rattle.papaya_rule.specs.Given.Seize.World.{World, Cutting, with_hand, with_effect}
-use Rattle.papaya_rule.specs.Given.Seize.declared.rows.settle.Settled.{Settled}
-use Rattle.papaya_rule.specs.Given.Seize.declared.rows.settle.Settled.TheVariants.{Goes}
-use Rattle.papaya_rule.specs.Given.Resize.Dispose.{retires, standing, goes, compared, root_read, reads}
-use Rattle.papaya_rule.specs.Given.Tables.Nodes.{table_seen}
-use Rattle.papaya_rule.specs.Given.Resize.declared.dispose.Dispose.{Dispose}
-use Rattle.papaya_rule.specs.Given.Resize.declared.dispose.Disposing.{Disposing}
-use Rattle.papaya_rule.specs.Given.Resize.declared.dispose.Disposing.TheVariants as at
-use Rattle.papaya_rule.specs.Given.Tables.declared.node.Node.{Node}
-use Rattle.papaya_rule.specs.Given.Tables.declared.setting.Setting.{Setting}
-use Rattle.papaya_rule.specs.Given.Tables.declared.table.Table.{Table}
+use Rattle.papaya_rule.proofs.Given.SeizeWordsOneOwner.Operations.{may_load, loaded}
+use Rattle.papaya_rule.proofs.Given.SeizeWordsPlans.{see_if, ends_if}
+use Rattle.papaya_rule.specs.Given.SeizeWordsMem.{Mem, Can, Took, value_at, word_at}
+use Rattle.papaya_rule.specs.Given.SeizeWordsPlan.{May, Steps, Ends}
+use Rattle.papaya_rule.specs.Given.SeizeWordsDeclared.at.At.TheVariants.{Root}
+use Rattle.papaya_rule.proofs.Given.SeizeRuleRows.Others.{with_here}
+use Rattle.papaya_rule.specs.Given.SeizeLaw.{Unlinked}
+use Rattle.papaya_rule.specs.Given.SeizeSettle.{retiring}
+use Rattle.papaya_rule.specs.Given.SeizeWorld.{World, Cutting, with_hand, with_effect}
+use Rattle.papaya_rule.specs.Given.SeizeDeclared.rows.settle.Settled.{Settled}
+use Rattle.papaya_rule.specs.Given.SeizeDeclared.rows.settle.Settled.TheVariants.{Goes}
+use Rattle.papaya_rule.specs.Given.ResizeDispose.{retires, standing, goes, compared, root_read, reads}
+use Rattle.papaya_rule.specs.Given.TablesNodes.{table_seen}
+use Rattle.papaya_rule.specs.Given.ResizeDeclared.dispose.Dispose.{Dispose}
+use Rattle.papaya_rule.specs.Given.ResizeDeclared.dispose.Disposing.{Disposing}
+use Rattle.papaya_rule.specs.Given.ResizeDeclared.dispose.Disposing.TheVariants as at
+use Rattle.papaya_rule.specs.Given.TablesDeclared.node.Node.{Node}
+use Rattle.papaya_rule.specs.Given.TablesDeclared.setting.Setting.{Setting}
+use Rattle.papaya_rule.specs.Given.TablesDeclared.table.Table.{Table}
 use Rattle.papaya_rule.specs.Chart.{Chart}
 use Rattle.papaya_points.specs.FactsDisposes.{StandsBefore, StandsNowhere, DisposingFacts, DisposeFacts}
 use Rattle.papaya_rule.specs.InWorld.{IsMapIn, Went, SparesPairs}

@@ -2,25 +2,25 @@
 use Rattle.std.specs.Prelude.{◌==◌, IsSome}
 use Rattle.std.proofs.Common.{◌≡◌, ℕ, suc, ◌/◌, ◌≤◌, Bool, true, false, Option, Some, None, ◌⊎◌, inl, inr, refl, ap, sym, subst, ◌∙◌, eqb-true}
 use Rattle.std.proofs.lemmas.Bool.{eqb-false}
-use Rattle.papaya_rule.specs.Given.SeizeWords.declared.at.At.TheVariants.{Root}
-use Rattle.papaya_rule.specs.Given.SeizeWords.Mem.{Mem, value_at, word_at, Can, Took}
-use Rattle.papaya_rule.specs.Given.SeizeWords.Plan.{May, MaySee, Steps, Ends, Now, Seeing}
-use Rattle.papaya_rule.proofs.Given.SeizeWords.OneOwner.Operations.{may_load, loaded}
-use Rattle.papaya_rule.proofs.Given.SeizeWords.Plans.{see_if, ends_if}
-use Rattle.papaya_rule.specs.Given.Seize.declared.progress.Progress.{Progress}
-use Rattle.papaya_rule.specs.Given.Tables.Chunks.{is_incremental}
-use Rattle.papaya_rule.specs.Given.Resize.Lookup.{answered, going, table_read, link_found, roots, nexts}
-use Rattle.papaya_rule.specs.Given.Tables.Nodes.{table_seen}
-use Rattle.papaya_rule.specs.Given.Tables.TablePlaces.{at_word}
-use Rattle.papaya_rule.specs.Given.Tables.Trials.{first_trial}
-use Rattle.papaya_rule.specs.Given.Tables.declared.node.Node.{Node}
-use Rattle.papaya_rule.specs.Given.Tables.declared.resize_mode.ResizeMode.{ResizeMode}
-use Rattle.papaya_rule.specs.Given.Tables.declared.table.Table.{Table}
-use Rattle.papaya_rule.specs.Given.Tables.declared.table_words.TheConstants.{NEXT}
-use Rattle.papaya_rule.specs.Given.Resize.declared.lookup.Lookup.{Lookup}
-use Rattle.papaya_rule.specs.Given.Resize.declared.lookup.Looking.{Looking}
-use Rattle.papaya_rule.specs.Given.Resize.declared.lookup.Looking.TheVariants as at
-use Rattle.papaya_rule.specs.Given.Tables.declared.trial.Trial.{Trial}
+use Rattle.papaya_rule.specs.Given.SeizeWordsDeclared.at.At.TheVariants.{Root}
+use Rattle.papaya_rule.specs.Given.SeizeWordsMem.{Mem, value_at, word_at, Can, Took}
+use Rattle.papaya_rule.specs.Given.SeizeWordsPlan.{May, MaySee, Steps, Ends, Now, Seeing}
+use Rattle.papaya_rule.proofs.Given.SeizeWordsOneOwner.Operations.{may_load, loaded}
+use Rattle.papaya_rule.proofs.Given.SeizeWordsPlans.{see_if, ends_if}
+use Rattle.papaya_rule.specs.Given.SeizeDeclared.progress.Progress.{Progress}
+use Rattle.papaya_rule.specs.Given.TablesChunks.{is_incremental}
+use Rattle.papaya_rule.specs.Given.ResizeLookup.{answered, going, table_read, link_found, roots, nexts}
+use Rattle.papaya_rule.specs.Given.TablesNodes.{table_seen}
+use Rattle.papaya_rule.specs.Given.TablesTablePlaces.{at_word}
+use Rattle.papaya_rule.specs.Given.TablesTrials.{first_trial}
+use Rattle.papaya_rule.specs.Given.TablesDeclared.node.Node.{Node}
+use Rattle.papaya_rule.specs.Given.TablesDeclared.resize_mode.ResizeMode.{ResizeMode}
+use Rattle.papaya_rule.specs.Given.TablesDeclared.table.Table.{Table}
+use Rattle.papaya_rule.specs.Given.TablesDeclared.table_words.TheConstants.{NEXT}
+use Rattle.papaya_rule.specs.Given.ResizeDeclared.lookup.Lookup.{Lookup}
+use Rattle.papaya_rule.specs.Given.ResizeDeclared.lookup.Looking.{Looking}
+use Rattle.papaya_rule.specs.Given.ResizeDeclared.lookup.Looking.TheVariants as at
+use Rattle.papaya_rule.specs.Given.TablesDeclared.trial.Trial.{Trial}
 use Rattle.papaya_rule.specs.Chart.{Chart}
 use Rattle.papaya_rule.specs.Rule.{IsLawful, ShutBefore}
 use Rattle.papaya_rule.specs.Words.{Blocks, root_word, next_word}

@@ -1,13 +1,13 @@
 -- How many loads a lookup makes: one for the root, and in each table that it enters one for each try and one for the link to the table behind.
 use Rattle.std.specs.Prelude.{◌≡◌, ℕ, suc, ◌+◌, ◌≤◌, Bool, List, [], ◌∷◌, Option}
 use Rattle.std.proofs.Common.{refl, ap, sym, subst, ◌∙◌, arith}
-use Rattle.papaya_rule.specs.Given.Seize.declared.progress.Progress.{Progress}
-use Rattle.papaya_rule.specs.Given.Seize.declared.progress.Progress.TheVariants as progress
-use Rattle.papaya_rule.specs.Given.Tables.declared.table.Table.{Table}
-use Rattle.papaya_rule.specs.Given.Resize.declared.lookup.Lookup.{Lookup}
-use Rattle.papaya_rule.specs.Given.Resize.declared.lookup.Looking.{Looking}
-use Rattle.papaya_rule.specs.Given.Resize.declared.lookup.Looking.TheVariants as at
-use Rattle.papaya_rule.specs.Given.Resize.Lookup.{plan_at}
+use Rattle.papaya_rule.specs.Given.SeizeDeclared.progress.Progress.{Progress}
+use Rattle.papaya_rule.specs.Given.SeizeDeclared.progress.Progress.TheVariants as progress
+use Rattle.papaya_rule.specs.Given.TablesDeclared.table.Table.{Table}
+use Rattle.papaya_rule.specs.Given.ResizeDeclared.lookup.Lookup.{Lookup}
+use Rattle.papaya_rule.specs.Given.ResizeDeclared.lookup.Looking.{Looking}
+use Rattle.papaya_rule.specs.Given.ResizeDeclared.lookup.Looking.TheVariants as at
+use Rattle.papaya_rule.specs.Given.ResizeLookup.{plan_at}
 use Rattle.papaya_points.specs.MeasuresLooks.{IsLoad, HasEnded, LoadLeads, LookupLeads, entered, HasLooked, begun, further, most_loads, OneBehindTheOther, LookupsAreShort}
 use Rattle.papaya_points.specs.Looks.{LookupsLoad, LookupsLookOn}
 use Rattle.papaya_points.proofs.Lookups.Points.{went_lookup_leads}

@@ -1,23 +1,23 @@
 -- A lookup reads the word of a try, and goes on by what stands there.
 use Rattle.std.specs.Prelude.{if◌then◌else◌}
 use Rattle.std.proofs.Common.{◌≡◌, ℕ, suc, ◌^◌, ◌<◌, ◌≤◌, Bool, true, false, Option, Some, None, inl, inr, refl, ap, sym, subst, ◌∙◌, arith}
-use Rattle.papaya_rule.specs.Given.SeizeWords.Mem.{Mem, value_at, Took}
-use Rattle.papaya_rule.specs.Given.SeizeWords.Plan.{Steps}
-use Rattle.papaya_rule.specs.Given.Seize.declared.progress.Progress.{Progress}
-use Rattle.papaya_rule.specs.Given.Tables.Chunks.{is_incremental}
-use Rattle.papaya_rule.specs.Given.Tables.Finding.{finding}
-use Rattle.papaya_rule.specs.Given.Resize.Lookup.{answered, going, beyond, passed, told_of, told, probes}
-use Rattle.papaya_rule.specs.Given.Tables.Trials.{next_trial}
-use Rattle.papaya_rule.specs.Given.Tables.declared.node.Node.{Node}
-use Rattle.papaya_rule.specs.Given.Tables.declared.resize_mode.ResizeMode.{ResizeMode}
-use Rattle.papaya_rule.specs.Given.Tables.declared.table.Table.{Table}
-use Rattle.papaya_rule.specs.Given.Tables.declared.finding.Aim.TheVariants.{Looks}
-use Rattle.papaya_rule.specs.Given.Tables.declared.finding.Finding.{Finding}
-use Rattle.papaya_rule.specs.Given.Tables.declared.finding.Finding.TheVariants as is
-use Rattle.papaya_rule.specs.Given.Resize.declared.lookup.Lookup.{Lookup}
-use Rattle.papaya_rule.specs.Given.Resize.declared.lookup.Looking.{Looking}
-use Rattle.papaya_rule.specs.Given.Resize.declared.lookup.Looking.TheVariants as at
-use Rattle.papaya_rule.specs.Given.Tables.declared.trial.Trial.{Trial}
+use Rattle.papaya_rule.specs.Given.SeizeWordsMem.{Mem, value_at, Took}
+use Rattle.papaya_rule.specs.Given.SeizeWordsPlan.{Steps}
+use Rattle.papaya_rule.specs.Given.SeizeDeclared.progress.Progress.{Progress}
+use Rattle.papaya_rule.specs.Given.TablesChunks.{is_incremental}
+use Rattle.papaya_rule.specs.Given.TablesFinding.{finding}
+use Rattle.papaya_rule.specs.Given.ResizeLookup.{answered, going, beyond, passed, told_of, told, probes}
+use Rattle.papaya_rule.specs.Given.TablesTrials.{next_trial}
+use Rattle.papaya_rule.specs.Given.TablesDeclared.node.Node.{Node}
+use Rattle.papaya_rule.specs.Given.TablesDeclared.resize_mode.ResizeMode.{ResizeMode}
+use Rattle.papaya_rule.specs.Given.TablesDeclared.table.Table.{Table}
+use Rattle.papaya_rule.specs.Given.TablesDeclared.finding.Aim.TheVariants.{Looks}
+use Rattle.papaya_rule.specs.Given.TablesDeclared.finding.Finding.{Finding}
+use Rattle.papaya_rule.specs.Given.TablesDeclared.finding.Finding.TheVariants as is
+use Rattle.papaya_rule.specs.Given.ResizeDeclared.lookup.Lookup.{Lookup}
+use Rattle.papaya_rule.specs.Given.ResizeDeclared.lookup.Looking.{Looking}
+use Rattle.papaya_rule.specs.Given.ResizeDeclared.lookup.Looking.TheVariants as at
+use Rattle.papaya_rule.specs.Given.TablesDeclared.trial.Trial.{Trial}
 use Rattle.papaya_rule.specs.Chart.{Chart}
 use Rattle.papaya_rule.specs.Rule.{IsLawful, Rule}
 use Rattle.papaya_rule.specs.Words.{Blocks, place_word}

@@ -1,20 +1,20 @@
 -- A lookup reads the word of a try: what it sees there.
 use Rattle.std.specs.Prelude.{IsSome}
 use Rattle.std.proofs.Common.{◌≡◌, ℕ, ◌/◌, ◌^◌, ◌<◌, Bool, true, false, Option, Some, ◌⊎◌, inl, inr, refl, ap, sym, subst, ◌∙◌}
-use Rattle.papaya_rule.specs.Given.SeizeWords.Mem.{Mem, value_at, word_at, Can, Took}
-use Rattle.papaya_rule.specs.Given.SeizeWords.Plan.{May, MaySee, Steps, Ends, Now, Seeing}
-use Rattle.papaya_rule.proofs.Given.SeizeWords.OneOwner.Operations.{may_load, loaded}
-use Rattle.papaya_rule.proofs.Given.SeizeWords.Plans.{see_if, ends_if}
-use Rattle.papaya_rule.specs.Given.Seize.declared.progress.Progress.{Progress}
-use Rattle.papaya_rule.specs.Given.Tables.Lengths.{IsTableLen}
-use Rattle.papaya_rule.specs.Given.Tables.Finding.{may_name}
-use Rattle.papaya_rule.specs.Given.Resize.Lookup.{told, names_pair, word_read, word_found, probes}
-use Rattle.papaya_rule.specs.Given.Tables.TablePlaces.{at_place}
-use Rattle.papaya_rule.specs.Given.Tables.Trials.{place_tried}
-use Rattle.papaya_rule.specs.Given.Tables.declared.node.Node.{Node}
-use Rattle.papaya_rule.specs.Given.Tables.declared.resize_mode.ResizeMode.{ResizeMode}
-use Rattle.papaya_rule.specs.Given.Resize.declared.lookup.Lookup.{Lookup}
-use Rattle.papaya_rule.specs.Given.Tables.declared.trial.Trial.{Trial}
+use Rattle.papaya_rule.specs.Given.SeizeWordsMem.{Mem, value_at, word_at, Can, Took}
+use Rattle.papaya_rule.specs.Given.SeizeWordsPlan.{May, MaySee, Steps, Ends, Now, Seeing}
+use Rattle.papaya_rule.proofs.Given.SeizeWordsOneOwner.Operations.{may_load, loaded}
+use Rattle.papaya_rule.proofs.Given.SeizeWordsPlans.{see_if, ends_if}
+use Rattle.papaya_rule.specs.Given.SeizeDeclared.progress.Progress.{Progress}
+use Rattle.papaya_rule.specs.Given.TablesLengths.{IsTableLen}
+use Rattle.papaya_rule.specs.Given.TablesFinding.{may_name}
+use Rattle.papaya_rule.specs.Given.ResizeLookup.{told, names_pair, word_read, word_found, probes}
+use Rattle.papaya_rule.specs.Given.TablesTablePlaces.{at_place}
+use Rattle.papaya_rule.specs.Given.TablesTrials.{place_tried}
+use Rattle.papaya_rule.specs.Given.TablesDeclared.node.Node.{Node}
+use Rattle.papaya_rule.specs.Given.TablesDeclared.resize_mode.ResizeMode.{ResizeMode}
+use Rattle.papaya_rule.specs.Given.ResizeDeclared.lookup.Lookup.{Lookup}
+use Rattle.papaya_rule.specs.Given.TablesDeclared.trial.Trial.{Trial}
 use Rattle.papaya_rule.specs.Chart.{Place, Chart}
 use Rattle.papaya_rule.specs.Words.{Blocks, place_word}
 use Rattle.papaya_rule.specs.Maps.{spot_at, spot_of, IsClass, IsMap, IsTrial}

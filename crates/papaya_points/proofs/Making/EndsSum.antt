@@ -2,17 +2,17 @@
 use Rattle.std.specs.Prelude.{◌≡◌, ℕ, suc, ◌+◌, ◌-◌, ◌<◌, true, nat_lt}
 use Rattle.std.proofs.Common.{sym, subst, inl, inr, arith}
 use Rattle.std.proofs.lemmas.Bool.{ltb-true}
-use Rattle.papaya_rule.specs.Given.SeizeWords.Mem.{Mem, Took, value_at}
-use Rattle.papaya_rule.specs.Given.SeizeWords.Plan.{Steps}
-use Rattle.papaya_rule.specs.Given.SeizeWords.declared.at.At.TheVariants.{Word}
-use Rattle.papaya_rule.proofs.Given.SeizeWords.OneOwner.Operations.{loaded}
-use Rattle.papaya_rule.proofs.Given.SeizeWords.Plans.{ends_if}
-use Rattle.papaya_rule.specs.Given.Seize.declared.progress.Progress.{Progress}
-use Rattle.papaya_rule.specs.Given.Seize.declared.progress.Progress.TheVariants as progress
-use Rattle.papaya_rule.specs.Given.Resize.declared.sum.Sum.{Sum}
-use Rattle.papaya_rule.specs.Given.Resize.declared.sum.Summing.{Summing}
-use Rattle.papaya_rule.specs.Given.Resize.declared.sum.Summing.TheVariants as sums
-use Rattle.papaya_rule.specs.Given.Resize.Sum.{added, plan_at, sum_plan}
+use Rattle.papaya_rule.specs.Given.SeizeWordsMem.{Mem, Took, value_at}
+use Rattle.papaya_rule.specs.Given.SeizeWordsPlan.{Steps}
+use Rattle.papaya_rule.specs.Given.SeizeWordsDeclared.at.At.TheVariants.{Word}
+use Rattle.papaya_rule.proofs.Given.SeizeWordsOneOwner.Operations.{loaded}
+use Rattle.papaya_rule.proofs.Given.SeizeWordsPlans.{ends_if}
+use Rattle.papaya_rule.specs.Given.SeizeDeclared.progress.Progress.{Progress}
+use Rattle.papaya_rule.specs.Given.SeizeDeclared.progress.Progress.TheVariants as progress
+use Rattle.papaya_rule.specs.Given.ResizeDeclared.sum.Sum.{Sum}
+use Rattle.papaya_rule.specs.Given.ResizeDeclared.sum.Summing.{Summing}
+use Rattle.papaya_rule.specs.Given.ResizeDeclared.sum.Summing.TheVariants as sums
+use Rattle.papaya_rule.specs.Given.ResizeSum.{added, plan_at, sum_plan}
 use Rattle.papaya_points.specs.Measures.{IsBelow}
 use Rattle.papaya_points.specs.MeasuresTables.{shards_left, number_of_sum}
 

@@ -4,18 +4,18 @@ use Rattle.std.proofs.Common.{refl, ap, sym, subst, ◌∙◌, arith}
 use Rattle.std.proofs.lemmas.Bool.{eq-eqb, ne_eqb}
 use Rattle.std.proofs.lemmas.List.{get_or-replicate, length-replicate}
 use Rattle.std.proofs.lemmas.Option.{slice_get-get_or}
-use Rattle.papaya_rule.specs.Given.SeizeWords.declared.at.At.TheVariants.{Word}
-use Rattle.papaya_rule.specs.Given.SeizeWords.Op.{Make, Made}
-use Rattle.papaya_rule.specs.Given.SeizeWords.Mem.{block_of, value_in, word_in, word_at, with_word, IsFreeNumber, fresh, after as mem_after}
-use Rattle.papaya_rule.proofs.Given.SeizeWords.OneOwner.AfterWrites.{block_of-made, word_at-with_word, value_at-with_word}
-use Rattle.papaya_rule.specs.Given.Seize.World.{World, Making, made_by}
-use Rattle.papaya_rule.specs.Given.Tables.Nodes.{deferred_word}
-use Rattle.papaya_rule.specs.Given.Resize.NewTable.{with_block}
-use Rattle.papaya_rule.specs.Given.Tables.declared.node.Node.{Node}
-use Rattle.papaya_rule.specs.Given.Tables.declared.node.Node.TheVariants as node
-use Rattle.papaya_rule.specs.Given.Tables.declared.status.TheConstants.Status.{PENDING}
-use Rattle.papaya_rule.specs.Given.Tables.declared.table.Table.{Table}
-use Rattle.papaya_rule.specs.Given.Tables.declared.table_words.TheConstants.{STATUS, PLACES}
+use Rattle.papaya_rule.specs.Given.SeizeWordsDeclared.at.At.TheVariants.{Word}
+use Rattle.papaya_rule.specs.Given.SeizeWordsOp.{Make, Made}
+use Rattle.papaya_rule.specs.Given.SeizeWordsMem.{block_of, value_in, word_in, word_at, with_word, IsFreeNumber, fresh, after as mem_after}
+use Rattle.papaya_rule.proofs.Given.SeizeWordsOneOwner.AfterWrites.{block_of-made, word_at-with_word, value_at-with_word}
+use Rattle.papaya_rule.specs.Given.SeizeWorld.{World, Making, made_by}
+use Rattle.papaya_rule.specs.Given.TablesNodes.{deferred_word}
+use Rattle.papaya_rule.specs.Given.ResizeNewTable.{with_block}
+use Rattle.papaya_rule.specs.Given.TablesDeclared.node.Node.{Node}
+use Rattle.papaya_rule.specs.Given.TablesDeclared.node.Node.TheVariants as node
+use Rattle.papaya_rule.specs.Given.TablesDeclared.status.TheConstants.Status.{PENDING}
+use Rattle.papaya_rule.specs.Given.TablesDeclared.table.Table.{Table}
+use Rattle.papaya_rule.specs.Given.TablesDeclared.table_words.TheConstants.{STATUS, PLACES}
 use Rattle.papaya_points.specs.FactsTables.{IsOwnTable}
 use Rattle.papaya_rule.proofs.World.Hands.{at_cases}
 use Rattle.papaya_rule.proofs.Words.WritesWords.{is_some_of}

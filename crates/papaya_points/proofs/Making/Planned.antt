@@ -2,20 +2,20 @@
 use Rattle.std.specs.Prelude.{◌≡◌, ℕ, suc, ◌-◌, ◌^◌, ◌<◌, ◌≤◌, ◌==◌, ◌&&◌, Bool, true, false, nat_le, if◌then◌else◌, max, min, Result, Ok, Err, IfOk}
 use Rattle.std.specs.Int.{IsPowerOfTwo}
 use Rattle.std.proofs.Common.{refl, sym, subst, ◌∙◌, arith}
-use Rattle.papaya_rule.specs.Given.SeizeWords.declared.at.At.{At}
-use Rattle.papaya_rule.specs.Given.SeizeWords.declared.fault.Fault.{Fault}
-use Rattle.papaya_rule.specs.Given.Seize.World.{World}
-use Rattle.papaya_rule.specs.Given.Tables.Lengths.{next_len, is_crowded, next_limit, next_turn, IsTableLen}
-use Rattle.papaya_rule.specs.Given.Tables.Probes.{limit_of}
-use Rattle.papaya_rule.specs.Given.Resize.NewTable.{planned, following, making_of}
-use Rattle.papaya_rule.specs.Given.Tables.declared.lengths.Reason.{Reason}
-use Rattle.papaya_rule.specs.Given.Tables.declared.lengths.Reason.TheVariants.{Full, Reserved, NoPlace}
-use Rattle.papaya_rule.specs.Given.Tables.declared.node.Node.{Node}
-use Rattle.papaya_rule.specs.Given.Tables.declared.setting.Setting.{Setting}
-use Rattle.papaya_rule.specs.Given.Tables.declared.table.Table.{Table}
-use Rattle.papaya_rule.specs.Given.Resize.declared.new_table.Making.{Making as Point}
-use Rattle.papaya_rule.specs.Given.Resize.declared.new_table.Making.TheVariants as at
-use Rattle.papaya_rule.proofs.Given.Tables.TableLens.{have_table_lens}
+use Rattle.papaya_rule.specs.Given.SeizeWordsDeclared.at.At.{At}
+use Rattle.papaya_rule.specs.Given.SeizeWordsDeclared.fault.Fault.{Fault}
+use Rattle.papaya_rule.specs.Given.SeizeWorld.{World}
+use Rattle.papaya_rule.specs.Given.TablesLengths.{next_len, is_crowded, next_limit, next_turn, IsTableLen}
+use Rattle.papaya_rule.specs.Given.TablesProbes.{limit_of}
+use Rattle.papaya_rule.specs.Given.ResizeNewTable.{planned, following, making_of}
+use Rattle.papaya_rule.specs.Given.TablesDeclared.lengths.Reason.{Reason}
+use Rattle.papaya_rule.specs.Given.TablesDeclared.lengths.Reason.TheVariants.{Full, Reserved, NoPlace}
+use Rattle.papaya_rule.specs.Given.TablesDeclared.node.Node.{Node}
+use Rattle.papaya_rule.specs.Given.TablesDeclared.setting.Setting.{Setting}
+use Rattle.papaya_rule.specs.Given.TablesDeclared.table.Table.{Table}
+use Rattle.papaya_rule.specs.Given.ResizeDeclared.new_table.Making.{Making as Point}
+use Rattle.papaya_rule.specs.Given.ResizeDeclared.new_table.Making.TheVariants as at
+use Rattle.papaya_rule.proofs.Given.TablesTableLens.{have_table_lens}
 use Rattle.papaya_rule.specs.Chart.{Chart}
 use Rattle.papaya_rule.specs.Words.{Blocks}
 use Rattle.papaya_points.specs.FactsTables.{MakingFacts}

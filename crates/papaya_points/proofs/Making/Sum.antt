@@ -1,18 +1,18 @@
 -- The steps of a counting: each reads one shard.
 use Rattle.std.specs.Prelude.{◌≡◌, ℕ, ◌+◌, ◌≤◌, true, nat_lt, IsSome}
 use Rattle.std.proofs.Common.{refl, ap, sym, subst, inl, inr, arith}
-use Rattle.papaya_rule.specs.Given.SeizeWords.Mem.{Mem, Can, Took, value_at, word_at}
-use Rattle.papaya_rule.specs.Given.SeizeWords.Plan.{May, Steps}
-use Rattle.papaya_rule.specs.Given.SeizeWords.declared.at.At.TheVariants.{Word}
-use Rattle.papaya_rule.proofs.Given.SeizeWords.OneOwner.Operations.{may_load, loaded}
-use Rattle.papaya_rule.proofs.Given.SeizeWords.Plans.{see_if, ends_if}
-use Rattle.papaya_rule.specs.Given.Seize.declared.progress.Progress.{Progress}
-use Rattle.papaya_rule.specs.Given.Tables.declared.node.Node.{Node}
-use Rattle.papaya_rule.specs.Given.Tables.declared.setting.Setting.{Setting}
-use Rattle.papaya_rule.specs.Given.Resize.declared.sum.Sum.{Sum}
-use Rattle.papaya_rule.specs.Given.Resize.declared.sum.Summing.{Summing}
-use Rattle.papaya_rule.specs.Given.Resize.declared.sum.Summing.TheVariants as sums
-use Rattle.papaya_rule.specs.Given.Resize.Sum.{added, plan_at, sum_plan}
+use Rattle.papaya_rule.specs.Given.SeizeWordsMem.{Mem, Can, Took, value_at, word_at}
+use Rattle.papaya_rule.specs.Given.SeizeWordsPlan.{May, Steps}
+use Rattle.papaya_rule.specs.Given.SeizeWordsDeclared.at.At.TheVariants.{Word}
+use Rattle.papaya_rule.proofs.Given.SeizeWordsOneOwner.Operations.{may_load, loaded}
+use Rattle.papaya_rule.proofs.Given.SeizeWordsPlans.{see_if, ends_if}
+use Rattle.papaya_rule.specs.Given.SeizeDeclared.progress.Progress.{Progress}
+use Rattle.papaya_rule.specs.Given.TablesDeclared.node.Node.{Node}
+use Rattle.papaya_rule.specs.Given.TablesDeclared.setting.Setting.{Setting}
+use Rattle.papaya_rule.specs.Given.ResizeDeclared.sum.Sum.{Sum}
+use Rattle.papaya_rule.specs.Given.ResizeDeclared.sum.Summing.{Summing}
+use Rattle.papaya_rule.specs.Given.ResizeDeclared.sum.Summing.TheVariants as sums
+use Rattle.papaya_rule.specs.Given.ResizeSum.{added, plan_at, sum_plan}
 use Rattle.papaya_points.specs.FactsTables.{CountsShards, SumFacts}
 use Rattle.papaya_points.specs.Told.{SumTold}
 use Rattle.papaya_rule.proofs.World.WentWrote.{HasCounter}

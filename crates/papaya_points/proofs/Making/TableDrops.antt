@@ -1,20 +1,20 @@
 -- The step of a making of a table that takes it away, since another table was linked there.
 use Rattle.std.specs.Prelude.{◌≡◌, ℕ, ◌*◌, ◌/◌, ◌<◌, Bool, true, ◌∷◌, Some, None, IsSome}
 use Rattle.std.proofs.Common.{refl, ap, sym, subst, ◌∙◌, inl, arith}
-use Rattle.papaya_rule.specs.Given.SeizeWords.Mem.{Mem, Can, Took, value_at, with_block}
-use Rattle.papaya_rule.specs.Given.SeizeWords.Plan.{May, MaySee, Ends, Steps}
-use Rattle.papaya_rule.specs.Given.SeizeWords.declared.at.At.{At}
-use Rattle.papaya_rule.proofs.Given.SeizeWords.OneOwner.Operations.{may_take, taken}
-use Rattle.papaya_rule.specs.Given.Seize.Law.{Dropped}
-use Rattle.papaya_rule.specs.Given.Seize.World.{World, NoBlock}
-use Rattle.papaya_rule.specs.Given.Seize.declared.progress.Progress.{Progress}
-use Rattle.papaya_rule.specs.Given.Tables.Nodes.{table_seen}
-use Rattle.papaya_rule.specs.Given.Resize.NewTable.{done, other, drops}
-use Rattle.papaya_rule.specs.Given.Tables.declared.node.Node.{Node}
-use Rattle.papaya_rule.specs.Given.Tables.declared.node.Node.TheVariants as node
-use Rattle.papaya_rule.specs.Given.Tables.declared.setting.Setting.{Setting}
-use Rattle.papaya_rule.specs.Given.Tables.declared.table.Table.{Table}
-use Rattle.papaya_rule.specs.Given.Resize.declared.new_table.NewTable.{NewTable}
+use Rattle.papaya_rule.specs.Given.SeizeWordsMem.{Mem, Can, Took, value_at, with_block}
+use Rattle.papaya_rule.specs.Given.SeizeWordsPlan.{May, MaySee, Ends, Steps}
+use Rattle.papaya_rule.specs.Given.SeizeWordsDeclared.at.At.{At}
+use Rattle.papaya_rule.proofs.Given.SeizeWordsOneOwner.Operations.{may_take, taken}
+use Rattle.papaya_rule.specs.Given.SeizeLaw.{Dropped}
+use Rattle.papaya_rule.specs.Given.SeizeWorld.{World, NoBlock}
+use Rattle.papaya_rule.specs.Given.SeizeDeclared.progress.Progress.{Progress}
+use Rattle.papaya_rule.specs.Given.TablesNodes.{table_seen}
+use Rattle.papaya_rule.specs.Given.ResizeNewTable.{done, other, drops}
+use Rattle.papaya_rule.specs.Given.TablesDeclared.node.Node.{Node}
+use Rattle.papaya_rule.specs.Given.TablesDeclared.node.Node.TheVariants as node
+use Rattle.papaya_rule.specs.Given.TablesDeclared.setting.Setting.{Setting}
+use Rattle.papaya_rule.specs.Given.TablesDeclared.table.Table.{Table}
+use Rattle.papaya_rule.specs.Given.ResizeDeclared.new_table.NewTable.{NewTable}
 use Rattle.papaya_rule.specs.Chart.{Chart}
 use Rattle.papaya_rule.specs.Words.{Blocks}
 use Rattle.papaya_rule.specs.Maps.{IsTable}

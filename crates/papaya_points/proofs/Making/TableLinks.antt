@@ -2,27 +2,27 @@
 use Rattle.std.specs.Prelude.{◌≡◌, ◌≢◌, ℕ, suc, ◌+◌, ◌*◌, ◌<◌, ◌≤◌, Bool, true, false, cond, eqb, [], ◌∷◌, Some, Ok, IsSome}
 use Rattle.std.proofs.Common.{refl, ap, sym, subst, ◌∙◌, inl, inr, arith}
 use Rattle.std.proofs.lemmas.Bool.{eq-eqb, ne_eqb, cases_lt}
-use Rattle.papaya_rule.specs.Given.SeizeWords.Op.{Exchange, Exchanged}
-use Rattle.papaya_rule.specs.Given.SeizeWords.Mem.{Mem, Can, Took, value_at, word_at, with_word}
-use Rattle.papaya_rule.specs.Given.SeizeWords.Plan.{May, Steps}
-use Rattle.papaya_rule.specs.Given.SeizeWords.declared.at.At.{At}
-use Rattle.papaya_rule.specs.Given.SeizeWords.declared.at.At.TheVariants.{Root, Word}
-use Rattle.papaya_rule.proofs.Given.SeizeWords.OneOwner.AfterWrites.{value_at-with_word}
-use Rattle.papaya_rule.proofs.Given.SeizeWords.OneOwner.Operations.{may_exchange, exchanged}
-use Rattle.papaya_rule.specs.Given.Seize.Law.{Linked}
-use Rattle.papaya_rule.specs.Given.Seize.World.{World, InUse, IsOwn, Links as LinksBlock, with_hand, with_effect}
-use Rattle.papaya_rule.specs.Given.Seize.declared.progress.Progress.{Progress}
-use Rattle.papaya_rule.specs.Given.Tables.Chunks.{is_incremental}
-use Rattle.papaya_rule.specs.Given.Tables.Nodes.{deferred_word}
-use Rattle.papaya_rule.specs.Given.Resize.NewTable.{goes, done, linked, links}
-use Rattle.papaya_rule.specs.Given.Tables.declared.node.Node.{Node}
-use Rattle.papaya_rule.specs.Given.Tables.declared.node.Node.TheVariants as node
-use Rattle.papaya_rule.specs.Given.Tables.declared.setting.Setting.{Setting}
-use Rattle.papaya_rule.specs.Given.Tables.declared.status.TheConstants.Status.{PENDING, ABORTED, PROMOTED}
-use Rattle.papaya_rule.specs.Given.Tables.declared.table.Table.{Table}
-use Rattle.papaya_rule.specs.Given.Tables.declared.table_words.TheConstants.{NEXT, CLAIM, COPIED, STATUS, PLACES}
-use Rattle.papaya_rule.specs.Given.Resize.declared.new_table.NewTable.{NewTable}
-use Rattle.papaya_rule.specs.Given.Resize.declared.new_table.Making.TheVariants as at
+use Rattle.papaya_rule.specs.Given.SeizeWordsOp.{Exchange, Exchanged}
+use Rattle.papaya_rule.specs.Given.SeizeWordsMem.{Mem, Can, Took, value_at, word_at, with_word}
+use Rattle.papaya_rule.specs.Given.SeizeWordsPlan.{May, Steps}
+use Rattle.papaya_rule.specs.Given.SeizeWordsDeclared.at.At.{At}
+use Rattle.papaya_rule.specs.Given.SeizeWordsDeclared.at.At.TheVariants.{Root, Word}
+use Rattle.papaya_rule.proofs.Given.SeizeWordsOneOwner.AfterWrites.{value_at-with_word}
+use Rattle.papaya_rule.proofs.Given.SeizeWordsOneOwner.Operations.{may_exchange, exchanged}
+use Rattle.papaya_rule.specs.Given.SeizeLaw.{Linked}
+use Rattle.papaya_rule.specs.Given.SeizeWorld.{World, InUse, IsOwn, Links as LinksBlock, with_hand, with_effect}
+use Rattle.papaya_rule.specs.Given.SeizeDeclared.progress.Progress.{Progress}
+use Rattle.papaya_rule.specs.Given.TablesChunks.{is_incremental}
+use Rattle.papaya_rule.specs.Given.TablesNodes.{deferred_word}
+use Rattle.papaya_rule.specs.Given.ResizeNewTable.{goes, done, linked, links}
+use Rattle.papaya_rule.specs.Given.TablesDeclared.node.Node.{Node}
+use Rattle.papaya_rule.specs.Given.TablesDeclared.node.Node.TheVariants as node
+use Rattle.papaya_rule.specs.Given.TablesDeclared.setting.Setting.{Setting}
+use Rattle.papaya_rule.specs.Given.TablesDeclared.status.TheConstants.Status.{PENDING, ABORTED, PROMOTED}
+use Rattle.papaya_rule.specs.Given.TablesDeclared.table.Table.{Table}
+use Rattle.papaya_rule.specs.Given.TablesDeclared.table_words.TheConstants.{NEXT, CLAIM, COPIED, STATUS, PLACES}
+use Rattle.papaya_rule.specs.Given.ResizeDeclared.new_table.NewTable.{NewTable}
+use Rattle.papaya_rule.specs.Given.ResizeDeclared.new_table.Making.TheVariants as at
 use Rattle.papaya_rule.specs.Chart.{put, Chart}
 use Rattle.papaya_rule.specs.Rule.{IsLawful, Rule}
 use Rattle.papaya_rule.specs.Moves.{Links, after, Allowed}

@@ -2,33 +2,33 @@
 use Rattle.std.specs.Prelude.{◌≡◌, ℕ, suc, ◌+◌, ◌/◌, ◌%◌, ◌^◌, Bool, [], IsSome}
 use Rattle.std.specs.Int.{IsPowerOfTwo}
 use Rattle.std.proofs.Common.{refl, ap, sym, subst, ◌∙◌, inl, inr, arith}
-use Rattle.papaya_rule.specs.Given.SeizeWords.Op.{Store, Stored}
-use Rattle.papaya_rule.specs.Given.SeizeWords.Mem.{Mem, Can, Took, value_at, word_at, with_word}
-use Rattle.papaya_rule.specs.Given.SeizeWords.Plan.{Now, May, Steps, plan_as}
-use Rattle.papaya_rule.specs.Given.SeizeWords.declared.at.At.{At}
-use Rattle.papaya_rule.specs.Given.SeizeWords.declared.at.At.TheVariants.{Root, Word}
-use Rattle.papaya_rule.proofs.Given.SeizeWords.OneOwner.Operations.{may_store, stored, may_make, made as make_made}
-use Rattle.papaya_rule.proofs.Given.SeizeWords.Plans.{as_may}
-use Rattle.papaya_rule.proofs.Given.SeizeRule.Rows.Leaving.{steps_back}
-use Rattle.papaya_rule.specs.Given.Seize.World.{World, IsOwn}
-use Rattle.papaya_rule.specs.Given.Seize.declared.progress.Progress.{Progress}
-use Rattle.papaya_rule.specs.Given.Seize.declared.progress.Progress.TheVariants as progress
-use Rattle.papaya_rule.specs.Given.Tables.Nodes.{deferred_word}
-use Rattle.papaya_rule.specs.Given.Tables.Lengths.{next_len, IsTableLen}
-use Rattle.papaya_rule.specs.Given.Resize.NewTable.{standing, goes, counted, with_block, after_making, made, makes, promotes, making_of}
-use Rattle.papaya_rule.specs.Given.Resize.Sum.{sum_plan}
-use Rattle.papaya_rule.proofs.Given.Tables.Lists.{its_list, has_list_word}
-use Rattle.papaya_rule.specs.Given.Tables.declared.lengths.Reason.{Reason}
-use Rattle.papaya_rule.specs.Given.Tables.declared.node.Node.{Node}
-use Rattle.papaya_rule.specs.Given.Tables.declared.node.Node.TheVariants as node
-use Rattle.papaya_rule.specs.Given.Tables.declared.setting.Setting.{Setting}
-use Rattle.papaya_rule.specs.Given.Tables.declared.status.TheConstants.Status.{PENDING, PROMOTED}
-use Rattle.papaya_rule.specs.Given.Tables.declared.table.Table.{Table}
-use Rattle.papaya_rule.specs.Given.Tables.declared.table_words.TheConstants.{NEXT, STATUS, PLACES}
-use Rattle.papaya_rule.specs.Given.Resize.declared.sum.Sum.{Sum}
-use Rattle.papaya_rule.specs.Given.Resize.declared.new_table.NewTable.{NewTable}
-use Rattle.papaya_rule.specs.Given.Resize.declared.new_table.Making.{Making as Point}
-use Rattle.papaya_rule.specs.Given.Resize.declared.new_table.Making.TheVariants as at
+use Rattle.papaya_rule.specs.Given.SeizeWordsOp.{Store, Stored}
+use Rattle.papaya_rule.specs.Given.SeizeWordsMem.{Mem, Can, Took, value_at, word_at, with_word}
+use Rattle.papaya_rule.specs.Given.SeizeWordsPlan.{Now, May, Steps, plan_as}
+use Rattle.papaya_rule.specs.Given.SeizeWordsDeclared.at.At.{At}
+use Rattle.papaya_rule.specs.Given.SeizeWordsDeclared.at.At.TheVariants.{Root, Word}
+use Rattle.papaya_rule.proofs.Given.SeizeWordsOneOwner.Operations.{may_store, stored, may_make, made as make_made}
+use Rattle.papaya_rule.proofs.Given.SeizeWordsPlans.{as_may}
+use Rattle.papaya_rule.proofs.Given.SeizeRuleRows.Leaving.{steps_back}
+use Rattle.papaya_rule.specs.Given.SeizeWorld.{World, IsOwn}
+use Rattle.papaya_rule.specs.Given.SeizeDeclared.progress.Progress.{Progress}
+use Rattle.papaya_rule.specs.Given.SeizeDeclared.progress.Progress.TheVariants as progress
+use Rattle.papaya_rule.specs.Given.TablesNodes.{deferred_word}
+use Rattle.papaya_rule.specs.Given.TablesLengths.{next_len, IsTableLen}
+use Rattle.papaya_rule.specs.Given.ResizeNewTable.{standing, goes, counted, with_block, after_making, made, makes, promotes, making_of}
+use Rattle.papaya_rule.specs.Given.ResizeSum.{sum_plan}
+use Rattle.papaya_rule.proofs.Given.TablesLists.{its_list, has_list_word}
+use Rattle.papaya_rule.specs.Given.TablesDeclared.lengths.Reason.{Reason}
+use Rattle.papaya_rule.specs.Given.TablesDeclared.node.Node.{Node}
+use Rattle.papaya_rule.specs.Given.TablesDeclared.node.Node.TheVariants as node
+use Rattle.papaya_rule.specs.Given.TablesDeclared.setting.Setting.{Setting}
+use Rattle.papaya_rule.specs.Given.TablesDeclared.status.TheConstants.Status.{PENDING, PROMOTED}
+use Rattle.papaya_rule.specs.Given.TablesDeclared.table.Table.{Table}
+use Rattle.papaya_rule.specs.Given.TablesDeclared.table_words.TheConstants.{NEXT, STATUS, PLACES}
+use Rattle.papaya_rule.specs.Given.ResizeDeclared.sum.Sum.{Sum}
+use Rattle.papaya_rule.specs.Given.ResizeDeclared.new_table.NewTable.{NewTable}
+use Rattle.papaya_rule.specs.Given.ResizeDeclared.new_table.Making.{Making as Point}
+use Rattle.papaya_rule.specs.Given.ResizeDeclared.new_table.Making.TheVariants as at
 use Rattle.papaya_rule.specs.Chart.{Chart}
 use Rattle.papaya_rule.specs.Words.{Blocks}
 use Rattle.papaya_rule.specs.Maps.{IsTable}

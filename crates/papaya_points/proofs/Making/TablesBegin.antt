@@ -2,21 +2,21 @@
 use Rattle.std.specs.Prelude.{◌≡◌, ℕ, suc, ◌^◌, ◌<◌, nat_le, cond, max, Ok}
 use Rattle.std.specs.Int.{IsPowerOfTwo}
 use Rattle.std.proofs.Common.{refl, ap, sym, subst, inl, inr, arith}
-use Rattle.papaya_rule.specs.Given.SeizeWords.declared.at.At.TheVariants.{Root, Word}
-use Rattle.papaya_rule.specs.Given.Seize.World.{World}
-use Rattle.papaya_rule.specs.Given.Tables.Chunks.{is_incremental}
-use Rattle.papaya_rule.specs.Given.Tables.Lengths.{next_turn, IsTableLen}
-use Rattle.papaya_rule.specs.Given.Tables.Probes.{limit_of}
-use Rattle.papaya_rule.specs.Given.Resize.NewTable.{planned, making_of, first_table, behind, begun_for, table_after, table_reserved}
-use Rattle.papaya_rule.specs.Given.Tables.declared.lengths.Reason.{Reason}
-use Rattle.papaya_rule.specs.Given.Tables.declared.lengths.Reason.TheVariants.{Full, Reserved, NoPlace}
-use Rattle.papaya_rule.specs.Given.Tables.declared.node.Node.{Node}
-use Rattle.papaya_rule.specs.Given.Tables.declared.setting.Setting.{Setting}
-use Rattle.papaya_rule.specs.Given.Tables.declared.status.TheConstants.Status.{ABORTED}
-use Rattle.papaya_rule.specs.Given.Tables.declared.table.Table.{Table}
-use Rattle.papaya_rule.specs.Given.Tables.declared.table_words.TheConstants.{NEXT}
-use Rattle.papaya_rule.specs.Given.Resize.declared.new_table.Making.{Making as Point}
-use Rattle.papaya_rule.specs.Given.Resize.declared.new_table.Making.TheVariants as at
+use Rattle.papaya_rule.specs.Given.SeizeWordsDeclared.at.At.TheVariants.{Root, Word}
+use Rattle.papaya_rule.specs.Given.SeizeWorld.{World}
+use Rattle.papaya_rule.specs.Given.TablesChunks.{is_incremental}
+use Rattle.papaya_rule.specs.Given.TablesLengths.{next_turn, IsTableLen}
+use Rattle.papaya_rule.specs.Given.TablesProbes.{limit_of}
+use Rattle.papaya_rule.specs.Given.ResizeNewTable.{planned, making_of, first_table, behind, begun_for, table_after, table_reserved}
+use Rattle.papaya_rule.specs.Given.TablesDeclared.lengths.Reason.{Reason}
+use Rattle.papaya_rule.specs.Given.TablesDeclared.lengths.Reason.TheVariants.{Full, Reserved, NoPlace}
+use Rattle.papaya_rule.specs.Given.TablesDeclared.node.Node.{Node}
+use Rattle.papaya_rule.specs.Given.TablesDeclared.setting.Setting.{Setting}
+use Rattle.papaya_rule.specs.Given.TablesDeclared.status.TheConstants.Status.{ABORTED}
+use Rattle.papaya_rule.specs.Given.TablesDeclared.table.Table.{Table}
+use Rattle.papaya_rule.specs.Given.TablesDeclared.table_words.TheConstants.{NEXT}
+use Rattle.papaya_rule.specs.Given.ResizeDeclared.new_table.Making.{Making as Point}
+use Rattle.papaya_rule.specs.Given.ResizeDeclared.new_table.Making.TheVariants as at
 use Rattle.papaya_rule.specs.Chart.{Chart}
 use Rattle.papaya_rule.specs.Words.{Blocks}
 use Rattle.papaya_rule.specs.Maps.{IsTable}

@@ -2,7 +2,7 @@
 use Rattle.std.proofs.Common.{◌≡◌, ◌≢◌, ℕ, zero, suc, ◌+◌, ◌<◌, ◌≤◌, Bool, true, false, cond, eqb, leb, ltb, ◌&&◌, ◌⊎◌, inl, inr, refl, ap, sym, subst, ◌∙◌, arith}
 use Rattle.std.proofs.lemmas.Bool.{cases_eq, cases_lt, eq-eqb, ne_eqb, lt-leb}
 use Rattle.std.proofs.lemmas.Bool.Decides.{eqb_tells}
-use Rattle.papaya_rule.specs.Given.Tables.declared.status.TheConstants.Status.{PROMOTED, ABORTED}
+use Rattle.papaya_rule.specs.Given.TablesDeclared.status.TheConstants.Status.{PROMOTED, ABORTED}
 use Rattle.papaya_rule.specs.Chart.{Share, Free, Claimed, Done, Counted, Lost, Chart, put, put_in, is_counted}
 use Rattle.papaya_rule.specs.Rule.{Rule, no_table, total, is_free}
 use Rattle.papaya_rule.proofs.Moves.Counts.{counted_behind}

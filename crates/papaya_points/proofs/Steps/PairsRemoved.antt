@@ -1,17 +1,17 @@
 -- A caller removes a pair that stands unmarked at a place, in a table in which its key may change: what follows, whoever does so.
 use Rattle.std.specs.Prelude.{◌≡◌, ◌≢◌, ℕ, ◌+◌, ◌^◌, ◌<◌, ◌≤◌, Bool, true, false, cond, [], ◌∷◌, Some}
 use Rattle.std.proofs.Common.{arith, refl, ap, sym, subst, ◌∙◌, inr}
-use Rattle.papaya_rule.specs.Given.SeizeWords.declared.at.At.{At}
-use Rattle.papaya_rule.specs.Given.SeizeWords.declared.at.At.TheVariants.{Word}
-use Rattle.papaya_rule.specs.Given.SeizeWords.Mem.{Mem, word_at, with_word}
-use Rattle.papaya_rule.specs.Given.Seize.Law.{Unlinked}
-use Rattle.papaya_rule.specs.Given.Seize.World.{World, Hand, InUse, Parting, Cutting, Parts, Unlinks, with_at, MayCut}
-use Rattle.papaya_rule.specs.Given.Tables.Chunks.{is_incremental}
-use Rattle.papaya_rule.specs.Given.Tables.declared.marks.TheConstants.{TOMBSTONE}
-use Rattle.papaya_rule.specs.Given.Tables.declared.node.Node.{Node}
-use Rattle.papaya_rule.specs.Given.Tables.declared.setting.Setting.{Setting}
-use Rattle.papaya_rule.specs.Given.Tables.declared.table_words.TheConstants.{PLACES}
-use Rattle.papaya_rule.proofs.Given.SeizeRule.Rows.Others.{with_here}
+use Rattle.papaya_rule.specs.Given.SeizeWordsDeclared.at.At.{At}
+use Rattle.papaya_rule.specs.Given.SeizeWordsDeclared.at.At.TheVariants.{Word}
+use Rattle.papaya_rule.specs.Given.SeizeWordsMem.{Mem, word_at, with_word}
+use Rattle.papaya_rule.specs.Given.SeizeLaw.{Unlinked}
+use Rattle.papaya_rule.specs.Given.SeizeWorld.{World, Hand, InUse, Parting, Cutting, Parts, Unlinks, with_at, MayCut}
+use Rattle.papaya_rule.specs.Given.TablesChunks.{is_incremental}
+use Rattle.papaya_rule.specs.Given.TablesDeclared.marks.TheConstants.{TOMBSTONE}
+use Rattle.papaya_rule.specs.Given.TablesDeclared.node.Node.{Node}
+use Rattle.papaya_rule.specs.Given.TablesDeclared.setting.Setting.{Setting}
+use Rattle.papaya_rule.specs.Given.TablesDeclared.table_words.TheConstants.{PLACES}
+use Rattle.papaya_rule.proofs.Given.SeizeRuleRows.Others.{with_here}
 use Rattle.papaya_rule.specs.Chart.{Phase, Still, Place, Tombstone, Holds, Chart, put, put_in}
 use Rattle.papaya_rule.specs.Rule.{IsLawful, is_of}
 use Rattle.papaya_rule.specs.Moves.{Removes, after, Allowed, MayChange, without}

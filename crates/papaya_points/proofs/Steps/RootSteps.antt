@@ -1,39 +1,39 @@
 -- No step of a call writes the root of a map that has one, but the exchange that promotes a table.
 use Rattle.std.specs.Prelude.{◌==◌, Option, Some, None}
 use Rattle.std.proofs.Common.{◌≡◌, ℕ, Bool, true, false, inl, inr, refl}
-use Rattle.papaya_rule.specs.Given.SeizeWords.Mem.{Mem, value_at, Took}
-use Rattle.papaya_rule.specs.Given.SeizeWords.Plan.{Steps}
+use Rattle.papaya_rule.specs.Given.SeizeWordsMem.{Mem, value_at, Took}
+use Rattle.papaya_rule.specs.Given.SeizeWordsPlan.{Steps}
 use Rattle.papaya_raw.specs.Call.{looked, looks_for, makes_of, first_made, next_made, helped, copied, disposed, plan_at as call_plan_at}
 use Rattle.papaya_raw.specs.CallFills.{putting_by, fill_by, fills_with, asks_at}
 use Rattle.papaya_raw.specs.Replies.{value_for}
-use Rattle.papaya_rule.specs.Given.Resize.Copier.{plan_at as copier_plan_at}
-use Rattle.papaya_rule.specs.Given.Resize.CopierFurther.{grown, remade}
-use Rattle.papaya_rule.specs.Given.Resize.Dispose.{plan_at as dispose_plan_at}
-use Rattle.papaya_rule.specs.Given.Resize.Lookup.{plan_at as lookup_plan_at, lookup_plan}
-use Rattle.papaya_rule.specs.Given.Resize.NewTable.{counted, plan_at as new_table_plan_at, new_table_plan}
-use Rattle.papaya_rule.specs.Given.Resize.Sum.{plan_at as sum_plan_at, sum_plan}
-use Rattle.papaya_rule.specs.Given.Tables.declared.node.Node.{Node}
+use Rattle.papaya_rule.specs.Given.ResizeCopier.{plan_at as copier_plan_at}
+use Rattle.papaya_rule.specs.Given.ResizeCopierFurther.{grown, remade}
+use Rattle.papaya_rule.specs.Given.ResizeDispose.{plan_at as dispose_plan_at}
+use Rattle.papaya_rule.specs.Given.ResizeLookup.{plan_at as lookup_plan_at, lookup_plan}
+use Rattle.papaya_rule.specs.Given.ResizeNewTable.{counted, plan_at as new_table_plan_at, new_table_plan}
+use Rattle.papaya_rule.specs.Given.ResizeSum.{plan_at as sum_plan_at, sum_plan}
+use Rattle.papaya_rule.specs.Given.TablesDeclared.node.Node.{Node}
 use Rattle.papaya_raw.specs.declared.machines.answer.Called.{Called}
 use Rattle.papaya_raw.specs.declared.machines.asking.Asking.{Asking}
 use Rattle.papaya_raw.specs.declared.machines.asking.Asking.TheVariants as asking
 use Rattle.papaya_raw.specs.declared.machines.call.KeyCall.{KeyCall}
 use Rattle.papaya_raw.specs.declared.machines.call.Calling.{Calling}
 use Rattle.papaya_raw.specs.declared.machines.call.Calling.TheVariants as at
-use Rattle.papaya_rule.specs.Given.Resize.declared.copier.Copier.{Copier}
-use Rattle.papaya_rule.specs.Given.Resize.declared.copier.Copying.{Copying}
-use Rattle.papaya_rule.specs.Given.Resize.declared.copier.Copying.TheVariants as copies
-use Rattle.papaya_rule.specs.Given.Resize.declared.dispose.Dispose.{Dispose}
-use Rattle.papaya_rule.specs.Given.Resize.declared.dispose.Disposing.{Disposing}
-use Rattle.papaya_rule.specs.Given.Resize.declared.dispose.Disposing.TheVariants as disposes
-use Rattle.papaya_rule.specs.Given.Resize.declared.lookup.Lookup.{Lookup}
-use Rattle.papaya_rule.specs.Given.Resize.declared.lookup.Looking.{Looking}
-use Rattle.papaya_rule.specs.Given.Resize.declared.lookup.Looking.TheVariants as looks
-use Rattle.papaya_rule.specs.Given.Resize.declared.new_table.NewTable.{NewTable}
-use Rattle.papaya_rule.specs.Given.Resize.declared.new_table.Making.{Making}
-use Rattle.papaya_rule.specs.Given.Resize.declared.new_table.Making.TheVariants as making
-use Rattle.papaya_rule.specs.Given.Resize.declared.sum.Sum.{Sum}
-use Rattle.papaya_rule.specs.Given.Resize.declared.sum.Summing.{Summing}
-use Rattle.papaya_rule.specs.Given.Resize.declared.sum.Summing.TheVariants as sums
+use Rattle.papaya_rule.specs.Given.ResizeDeclared.copier.Copier.{Copier}
+use Rattle.papaya_rule.specs.Given.ResizeDeclared.copier.Copying.{Copying}
+use Rattle.papaya_rule.specs.Given.ResizeDeclared.copier.Copying.TheVariants as copies
+use Rattle.papaya_rule.specs.Given.ResizeDeclared.dispose.Dispose.{Dispose}
+use Rattle.papaya_rule.specs.Given.ResizeDeclared.dispose.Disposing.{Disposing}
+use Rattle.papaya_rule.specs.Given.ResizeDeclared.dispose.Disposing.TheVariants as disposes
+use Rattle.papaya_rule.specs.Given.ResizeDeclared.lookup.Lookup.{Lookup}
+use Rattle.papaya_rule.specs.Given.ResizeDeclared.lookup.Looking.{Looking}
+use Rattle.papaya_rule.specs.Given.ResizeDeclared.lookup.Looking.TheVariants as looks
+use Rattle.papaya_rule.specs.Given.ResizeDeclared.new_table.NewTable.{NewTable}
+use Rattle.papaya_rule.specs.Given.ResizeDeclared.new_table.Making.{Making}
+use Rattle.papaya_rule.specs.Given.ResizeDeclared.new_table.Making.TheVariants as making
+use Rattle.papaya_rule.specs.Given.ResizeDeclared.sum.Sum.{Sum}
+use Rattle.papaya_rule.specs.Given.ResizeDeclared.sum.Summing.{Summing}
+use Rattle.papaya_rule.specs.Given.ResizeDeclared.sum.Summing.TheVariants as sums
 use Rattle.papaya_points.specs.Told.{IsRowOf, IsRowOfCopier, IsRowOfCall}
 use Rattle.papaya_rule.proofs.World.RootSpared.{PlanSparesRoot, spares_as, RootStays, step_stays}
 

@@ -1,9 +1,9 @@
 -- A pair that was replaced or removed has left the map. In incremental mode a borrowed one stands in older tables alone; each other one is named by no table that is linked.
 use Rattle.std.proofs.Common.{◌≡◌, ◌≢◌, ℕ, ◌<◌, ◌≤◌, Bool, true, false, cond, ◌⊎◌, inl, inr, ap, sym, ◌∙◌, eq-or-lt_of_le, arith}
-use Rattle.papaya_rule.specs.Given.Seize.World.{World}
-use Rattle.papaya_rule.specs.Given.Tables.declared.node.Node.{Node}
-use Rattle.papaya_rule.specs.Given.Tables.declared.setting.Setting.{Setting}
-use Rattle.papaya_rule.specs.Given.Tables.declared.status.TheConstants.Status.{ABORTED}
+use Rattle.papaya_rule.specs.Given.SeizeWorld.{World}
+use Rattle.papaya_rule.specs.Given.TablesDeclared.node.Node.{Node}
+use Rattle.papaya_rule.specs.Given.TablesDeclared.setting.Setting.{Setting}
+use Rattle.papaya_rule.specs.Given.TablesDeclared.status.TheConstants.Status.{ABORTED}
 use Rattle.papaya_rule.specs.Chart.{Phase, Still, Copying, Place, Tombstone, Holds, Chart, put_in}
 use Rattle.papaya_rule.specs.Rule.{IsLawful, is_of, Rule}
 use Rattle.papaya_rule.specs.Moves.{Replaces, Removes, after, MayChange}

@@ -1,11 +1,11 @@
 -- A pair that was taken out of the map, and that no linked table names, is unlinked.
 use Rattle.std.specs.Prelude.{◌≡◌, ◌≢◌, ℕ, ◌<◌, ◌≤◌, Bool, true, false, [], ◌∷◌}
 use Rattle.std.proofs.Common.{refl, ap, sym, ◌∙◌, inl, inr, subst}
-use Rattle.papaya_rule.specs.Given.SeizeWords.Mem.{Mem}
-use Rattle.papaya_rule.specs.Given.Seize.Law.{Unlinked}
-use Rattle.papaya_rule.specs.Given.Seize.World.{World, Parting, Cutting, Unlinks, with_hand, with_effect, MayCut}
-use Rattle.papaya_rule.specs.Given.Tables.declared.node.Node.{Node}
-use Rattle.papaya_rule.specs.Given.Tables.declared.setting.Setting.{Setting}
+use Rattle.papaya_rule.specs.Given.SeizeWordsMem.{Mem}
+use Rattle.papaya_rule.specs.Given.SeizeLaw.{Unlinked}
+use Rattle.papaya_rule.specs.Given.SeizeWorld.{World, Parting, Cutting, Unlinks, with_hand, with_effect, MayCut}
+use Rattle.papaya_rule.specs.Given.TablesDeclared.node.Node.{Node}
+use Rattle.papaya_rule.specs.Given.TablesDeclared.setting.Setting.{Setting}
 use Rattle.papaya_rule.specs.Chart.{Phase, Holds, Chart}
 use Rattle.papaya_rule.specs.Words.{Blocks}
 use Rattle.papaya_rule.specs.InWorld.{IsMapIn, IsHeldBy, IsFramed, Went, SparesPairs}

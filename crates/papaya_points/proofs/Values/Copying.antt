@@ -1,34 +1,34 @@
 -- What a copier leaves of the blocks: it makes a table where it needs a further one, and none elsewhere.
 use Rattle.std.specs.Prelude.{ℕ, ◌+◌, ◌-◌, ◌/◌, ◌%◌, ◌^◌, ◌==◌, Bool, true, false, Option, Ok, Err, nat_lt, bit_or, if◌then◌else◌}
 use Rattle.std.proofs.Common.{sym, subst, inl, inr}
-use Rattle.papaya_rule.specs.Given.SeizeWords.declared.at.At.TheVariants.{Root, Word}
-use Rattle.papaya_rule.specs.Given.SeizeWords.declared.fault.Fault.{Fault}
-use Rattle.papaya_rule.specs.Given.SeizeWords.Op.{Found, Exchanged}
-use Rattle.papaya_rule.specs.Given.SeizeWords.Mem.{Mem, Took, value_at, with_word}
-use Rattle.papaya_rule.specs.Given.SeizeWords.Plan.{Then, Now, Seeing, Sure, Steps, Ends}
-use Rattle.papaya_rule.proofs.Given.SeizeWords.OneOwner.Operations.{loaded, stored, added, ored, exchanged}
-use Rattle.papaya_rule.specs.Given.Tables.Chunks.{is_incremental}
-use Rattle.papaya_rule.specs.Given.Resize.Copier.{plan_at}
-use Rattle.papaya_rule.specs.Given.Resize.CopierClaims.{chunk, root_read, next_read, status_read, claim_read, claimed}
-use Rattle.papaya_rule.specs.Given.Resize.CopierCounts.{to, refusing, given_up, counted}
-use Rattle.papaya_rule.specs.Given.Resize.CopierFurther.{further_read, replacement_read}
-use Rattle.papaya_rule.specs.Given.Resize.CopierMarks.{is_mine, is_awaited, marked}
-use Rattle.papaya_rule.specs.Given.Resize.CopierPlaces.{copied_word, next_try, pair_put, place_read, put_told}
-use Rattle.papaya_rule.specs.Given.Resize.CopierPromotes.{promoted, successor_read}
-use Rattle.papaya_rule.specs.Given.Resize.CopierStates.{standing, behind, none_left, next_place, place_done}
-use Rattle.papaya_rule.specs.Given.Tables.Probes.{probe_after}
-use Rattle.papaya_rule.specs.Given.Tables.TablePlaces.{at_word, at_place}
-use Rattle.papaya_rule.specs.Given.Tables.declared.marks.TheConstants.{COPYING, COPIED}
-use Rattle.papaya_rule.specs.Given.Tables.declared.lengths.Reason.TheVariants.{NoPlace}
-use Rattle.papaya_rule.specs.Given.Tables.declared.node.Node.{Node}
-use Rattle.papaya_rule.specs.Given.Tables.declared.status.TheConstants.Status.{ABORTED, PROMOTED}
-use Rattle.papaya_rule.specs.Given.Resize.declared.outcome.Outcome.{Outcome}
-use Rattle.papaya_rule.specs.Given.Tables.declared.probe.Probe.{Probe}
-use Rattle.papaya_rule.specs.Given.Tables.declared.table.Table.{Table}
-use Rattle.papaya_rule.specs.Given.Tables.declared.table_words.TheConstants.{NEXT, CLAIM, STATUS, COPIED as COUNT}
-use Rattle.papaya_rule.specs.Given.Resize.declared.copier.Copier.{Copier}
-use Rattle.papaya_rule.specs.Given.Resize.declared.copier.Copying.{Copying as Point}
-use Rattle.papaya_rule.specs.Given.Resize.declared.copier.Copying.TheVariants as at
+use Rattle.papaya_rule.specs.Given.SeizeWordsDeclared.at.At.TheVariants.{Root, Word}
+use Rattle.papaya_rule.specs.Given.SeizeWordsDeclared.fault.Fault.{Fault}
+use Rattle.papaya_rule.specs.Given.SeizeWordsOp.{Found, Exchanged}
+use Rattle.papaya_rule.specs.Given.SeizeWordsMem.{Mem, Took, value_at, with_word}
+use Rattle.papaya_rule.specs.Given.SeizeWordsPlan.{Then, Now, Seeing, Sure, Steps, Ends}
+use Rattle.papaya_rule.proofs.Given.SeizeWordsOneOwner.Operations.{loaded, stored, added, ored, exchanged}
+use Rattle.papaya_rule.specs.Given.TablesChunks.{is_incremental}
+use Rattle.papaya_rule.specs.Given.ResizeCopier.{plan_at}
+use Rattle.papaya_rule.specs.Given.ResizeCopierClaims.{chunk, root_read, next_read, status_read, claim_read, claimed}
+use Rattle.papaya_rule.specs.Given.ResizeCopierCounts.{to, refusing, given_up, counted}
+use Rattle.papaya_rule.specs.Given.ResizeCopierFurther.{further_read, replacement_read}
+use Rattle.papaya_rule.specs.Given.ResizeCopierMarks.{is_mine, is_awaited, marked}
+use Rattle.papaya_rule.specs.Given.ResizeCopierPlaces.{copied_word, next_try, pair_put, place_read, put_told}
+use Rattle.papaya_rule.specs.Given.ResizeCopierPromotes.{promoted, successor_read}
+use Rattle.papaya_rule.specs.Given.ResizeCopierStates.{standing, behind, none_left, next_place, place_done}
+use Rattle.papaya_rule.specs.Given.TablesProbes.{probe_after}
+use Rattle.papaya_rule.specs.Given.TablesTablePlaces.{at_word, at_place}
+use Rattle.papaya_rule.specs.Given.TablesDeclared.marks.TheConstants.{COPYING, COPIED}
+use Rattle.papaya_rule.specs.Given.TablesDeclared.lengths.Reason.TheVariants.{NoPlace}
+use Rattle.papaya_rule.specs.Given.TablesDeclared.node.Node.{Node}
+use Rattle.papaya_rule.specs.Given.TablesDeclared.status.TheConstants.Status.{ABORTED, PROMOTED}
+use Rattle.papaya_rule.specs.Given.ResizeDeclared.outcome.Outcome.{Outcome}
+use Rattle.papaya_rule.specs.Given.TablesDeclared.probe.Probe.{Probe}
+use Rattle.papaya_rule.specs.Given.TablesDeclared.table.Table.{Table}
+use Rattle.papaya_rule.specs.Given.TablesDeclared.table_words.TheConstants.{NEXT, CLAIM, STATUS, COPIED as COUNT}
+use Rattle.papaya_rule.specs.Given.ResizeDeclared.copier.Copier.{Copier}
+use Rattle.papaya_rule.specs.Given.ResizeDeclared.copier.Copying.{Copying as Point}
+use Rattle.papaya_rule.specs.Given.ResizeDeclared.copier.Copying.TheVariants as at
 use Rattle.papaya_points.specs.Made.{IsMadeByCopier}
 use Rattle.papaya_points.proofs.Values.Kept.{IsPlainStep}
 use Rattle.papaya_points.proofs.Values.Making.{MadeNone, none_made, next_made_none}

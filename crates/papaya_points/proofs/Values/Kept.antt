@@ -1,12 +1,12 @@
 -- A step that makes no block, takes none away and rewrites no value leaves the values of all blocks.
 use Rattle.std.specs.Prelude.{◌≡◌, ℕ, ◌+◌, ◌%◌, ◌^◌, IsSome, bit_or}
 use Rattle.std.proofs.Common.{refl, ap, ◌∙◌, inl, inr}
-use Rattle.papaya_rule.specs.Given.SeizeWords.declared.at.At.{At}
-use Rattle.papaya_rule.specs.Given.SeizeWords.Op.{Op, Out, Load, Store, Swap, Add, Or, Exchange, Make, Take, Rewrite, Room}
-use Rattle.papaya_rule.specs.Given.SeizeWords.Mem.{Mem, Can, Took, value_at, word_at, with_word}
-use Rattle.papaya_rule.specs.Given.SeizeWords.Plan.{Plan, Then, Turn, Do, Now, May, Steps, plan_as}
-use Rattle.papaya_rule.proofs.Given.SeizeWords.OneOwner.AfterWrites.{value_at-with_word}
-use Rattle.papaya_rule.proofs.Given.SeizeWords.OneOwner.Operations.{loaded, stored, swapped, added, ored, exchanged}
+use Rattle.papaya_rule.specs.Given.SeizeWordsDeclared.at.At.{At}
+use Rattle.papaya_rule.specs.Given.SeizeWordsOp.{Op, Out, Load, Store, Swap, Add, Or, Exchange, Make, Take, Rewrite, Room}
+use Rattle.papaya_rule.specs.Given.SeizeWordsMem.{Mem, Can, Took, value_at, word_at, with_word}
+use Rattle.papaya_rule.specs.Given.SeizeWordsPlan.{Plan, Then, Turn, Do, Now, May, Steps, plan_as}
+use Rattle.papaya_rule.proofs.Given.SeizeWordsOneOwner.AfterWrites.{value_at-with_word}
+use Rattle.papaya_rule.proofs.Given.SeizeWordsOneOwner.Operations.{loaded, stored, swapped, added, ored, exchanged}
 
 module _ {T : Type 0} where
   -- the operation makes no block, takes none away and rewrites no value

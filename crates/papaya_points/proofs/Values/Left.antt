@@ -2,10 +2,10 @@
 use Rattle.std.specs.Prelude.{◌≡◌, ◌≢◌, ℕ, Bool, true, false, Option, Some, None, Ok, ◌⊎◌, cond, eqb}
 use Rattle.std.proofs.Common.{refl, ap, sym, subst, ◌∙◌, inl, inr}
 use Rattle.std.proofs.lemmas.Bool.{cases_eq, eq-eqb, ne_eqb}
-use Rattle.papaya_rule.specs.Given.SeizeWords.Op.{Make, Made}
-use Rattle.papaya_rule.specs.Given.SeizeWords.Mem.{Mem, block_of, value_in, value_at, with_block, IsFreeNumber, fresh, after as mem_after}
-use Rattle.papaya_rule.proofs.Given.SeizeWords.OneOwner.AfterWrites.{block_of-made, block_of-with_block}
-use Rattle.papaya_rule.proofs.Given.SeizeRule.Words.Named.{block_there}
+use Rattle.papaya_rule.specs.Given.SeizeWordsOp.{Make, Made}
+use Rattle.papaya_rule.specs.Given.SeizeWordsMem.{Mem, block_of, value_in, value_at, with_block, IsFreeNumber, fresh, after as mem_after}
+use Rattle.papaya_rule.proofs.Given.SeizeWordsOneOwner.AfterWrites.{block_of-made, block_of-with_block}
+use Rattle.papaya_rule.proofs.Given.SeizeRuleWords.Named.{block_there}
 use Rattle.papaya_rule.proofs.Words.WritesWords.{is_some_of}
 use Rattle.papaya_points.proofs.Values.Kept.{SameValues}
 

@@ -1,36 +1,36 @@
 -- What a making of a table leaves of the blocks: the one that it makes is its own until it is linked, or taken away.
 use Rattle.std.specs.Prelude.{◌≡◌, ℕ, ◌+◌, ◌*◌, ◌/◌, ◌%◌, ◌^◌, ◌<◌, Bool, true, false, cond, Result, Ok, Err, Some, nat_le, max, if◌then◌else◌}
 use Rattle.std.proofs.Common.{refl, ap, sym, subst, ◌∙◌, inl, inr, arith}
-use Rattle.papaya_rule.specs.Given.SeizeWords.declared.at.At.{At}
-use Rattle.papaya_rule.specs.Given.SeizeWords.declared.at.At.TheVariants.{Root, Used, Slot, Entry, Word}
-use Rattle.papaya_rule.specs.Given.SeizeWords.declared.fault.Fault.{Fault}
-use Rattle.papaya_rule.specs.Given.SeizeWords.declared.fault.Fault.TheVariants.{Capacity}
-use Rattle.papaya_rule.specs.Given.SeizeWords.Mem.{Mem, Can, Took, value_at, word_at, with_word}
-use Rattle.papaya_rule.specs.Given.SeizeWords.Plan.{Now, May, Steps}
-use Rattle.papaya_rule.proofs.Given.SeizeWords.OneOwner.AfterWrites.{word_at-with_word}
-use Rattle.papaya_rule.proofs.Given.SeizeWords.OneOwner.Operations.{stored, exchanged, taken, made as made_by_step}
-use Rattle.papaya_rule.specs.Given.Seize.World.{World, Making}
-use Rattle.papaya_rule.specs.Given.Seize.declared.progress.Progress.{Progress}
-use Rattle.papaya_rule.specs.Given.Seize.declared.progress.Progress.TheVariants as progress
-use Rattle.papaya_rule.proofs.Given.SeizeRule.Rows.Leaving.{steps_back}
-use Rattle.papaya_rule.proofs.Given.SeizeRule.Words.Named.{same_at-refl}
-use Rattle.papaya_rule.specs.Given.Tables.Nodes.{table_seen}
-use Rattle.papaya_rule.specs.Given.Tables.Lengths.{next_limit, next_turn}
-use Rattle.papaya_rule.specs.Given.Resize.NewTable.{planned, making_first, following, making_of, counted, with_block, after_making, made, other, linked, goes, done, plan_at, new_table_plan}
-use Rattle.papaya_rule.specs.Given.Resize.Sum.{sum_plan, plan_at as sum_plan_at}
-use Rattle.papaya_rule.specs.Given.Tables.declared.lengths.Reason.{Reason}
-use Rattle.papaya_rule.specs.Given.Tables.declared.node.Node.{Node}
-use Rattle.papaya_rule.specs.Given.Tables.declared.node.Node.TheVariants as node
-use Rattle.papaya_rule.specs.Given.Tables.declared.setting.Setting.{Setting}
-use Rattle.papaya_rule.specs.Given.Tables.declared.status.TheConstants.Status.{PROMOTED}
-use Rattle.papaya_rule.specs.Given.Tables.declared.table.Table.{Table}
-use Rattle.papaya_rule.specs.Given.Tables.declared.table_words.TheConstants.{STATUS, PLACES}
-use Rattle.papaya_rule.specs.Given.Resize.declared.sum.Sum.{Sum}
-use Rattle.papaya_rule.specs.Given.Resize.declared.sum.Summing.{Summing}
-use Rattle.papaya_rule.specs.Given.Resize.declared.sum.Summing.TheVariants as sums
-use Rattle.papaya_rule.specs.Given.Resize.declared.new_table.NewTable.{NewTable}
-use Rattle.papaya_rule.specs.Given.Resize.declared.new_table.Making.{Making as Point}
-use Rattle.papaya_rule.specs.Given.Resize.declared.new_table.Making.TheVariants as at
+use Rattle.papaya_rule.specs.Given.SeizeWordsDeclared.at.At.{At}
+use Rattle.papaya_rule.specs.Given.SeizeWordsDeclared.at.At.TheVariants.{Root, Used, Slot, Entry, Word}
+use Rattle.papaya_rule.specs.Given.SeizeWordsDeclared.fault.Fault.{Fault}
+use Rattle.papaya_rule.specs.Given.SeizeWordsDeclared.fault.Fault.TheVariants.{Capacity}
+use Rattle.papaya_rule.specs.Given.SeizeWordsMem.{Mem, Can, Took, value_at, word_at, with_word}
+use Rattle.papaya_rule.specs.Given.SeizeWordsPlan.{Now, May, Steps}
+use Rattle.papaya_rule.proofs.Given.SeizeWordsOneOwner.AfterWrites.{word_at-with_word}
+use Rattle.papaya_rule.proofs.Given.SeizeWordsOneOwner.Operations.{stored, exchanged, taken, made as made_by_step}
+use Rattle.papaya_rule.specs.Given.SeizeWorld.{World, Making}
+use Rattle.papaya_rule.specs.Given.SeizeDeclared.progress.Progress.{Progress}
+use Rattle.papaya_rule.specs.Given.SeizeDeclared.progress.Progress.TheVariants as progress
+use Rattle.papaya_rule.proofs.Given.SeizeRuleRows.Leaving.{steps_back}
+use Rattle.papaya_rule.proofs.Given.SeizeRuleWords.Named.{same_at-refl}
+use Rattle.papaya_rule.specs.Given.TablesNodes.{table_seen}
+use Rattle.papaya_rule.specs.Given.TablesLengths.{next_limit, next_turn}
+use Rattle.papaya_rule.specs.Given.ResizeNewTable.{planned, making_first, following, making_of, counted, with_block, after_making, made, other, linked, goes, done, plan_at, new_table_plan}
+use Rattle.papaya_rule.specs.Given.ResizeSum.{sum_plan, plan_at as sum_plan_at}
+use Rattle.papaya_rule.specs.Given.TablesDeclared.lengths.Reason.{Reason}
+use Rattle.papaya_rule.specs.Given.TablesDeclared.node.Node.{Node}
+use Rattle.papaya_rule.specs.Given.TablesDeclared.node.Node.TheVariants as node
+use Rattle.papaya_rule.specs.Given.TablesDeclared.setting.Setting.{Setting}
+use Rattle.papaya_rule.specs.Given.TablesDeclared.status.TheConstants.Status.{PROMOTED}
+use Rattle.papaya_rule.specs.Given.TablesDeclared.table.Table.{Table}
+use Rattle.papaya_rule.specs.Given.TablesDeclared.table_words.TheConstants.{STATUS, PLACES}
+use Rattle.papaya_rule.specs.Given.ResizeDeclared.sum.Sum.{Sum}
+use Rattle.papaya_rule.specs.Given.ResizeDeclared.sum.Summing.{Summing}
+use Rattle.papaya_rule.specs.Given.ResizeDeclared.sum.Summing.TheVariants as sums
+use Rattle.papaya_rule.specs.Given.ResizeDeclared.new_table.NewTable.{NewTable}
+use Rattle.papaya_rule.specs.Given.ResizeDeclared.new_table.Making.{Making as Point}
+use Rattle.papaya_rule.specs.Given.ResizeDeclared.new_table.Making.TheVariants as at
 use Rattle.papaya_rule.specs.Chart.{Chart}
 use Rattle.papaya_rule.specs.Words.{Blocks}
 use Rattle.papaya_points.specs.FactsTables.{IsOwnTable, IsLinkOf, MakingFacts, NewTableFacts, first_status}

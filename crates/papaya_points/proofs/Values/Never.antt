@@ -1,22 +1,22 @@
 -- A call that never asks was told nothing, and is not: its replies stay as they are, whatever its step finds.
 use Rattle.std.specs.Prelude.{◌≡◌, ℕ, ◌/◌, ◌==◌, Bool, true, false, bit_and, if◌then◌else◌}
 use Rattle.std.proofs.Common.{refl, ap, sym, subst, ◌∙◌, inl, inr}
-use Rattle.papaya_rule.specs.Given.SeizeWords.declared.at.At.TheVariants.{Word}
-use Rattle.papaya_rule.specs.Given.SeizeWords.Mem.{Mem, Can, Took, value_at}
-use Rattle.papaya_rule.specs.Given.SeizeWords.Plan.{Now, May, Steps}
-use Rattle.papaya_rule.proofs.Given.SeizeWords.OneOwner.Operations.{made as made_by_step, taken, added}
-use Rattle.papaya_rule.proofs.Given.SeizeRule.Rows.Leaving.{steps_back}
-use Rattle.papaya_rule.specs.Given.Seize.World.{World}
-use Rattle.papaya_rule.specs.Given.Seize.declared.rows.settle.Settled.{Settled}
-use Rattle.papaya_rule.specs.Given.Seize.declared.rows.settle.Settled.TheVariants as settled
-use Rattle.papaya_rule.specs.Given.Tables.Counts.{count_change}
-use Rattle.papaya_rule.specs.Given.Tables.declared.node.Node.{Node}
-use Rattle.papaya_rule.specs.Given.Tables.declared.node.Node.TheVariants as node
-use Rattle.papaya_rule.specs.Given.Tables.declared.marks.TheConstants.{TOMBSTONE}
-use Rattle.papaya_rule.specs.Given.Tables.declared.setting.Setting.{Setting}
-use Rattle.papaya_rule.specs.Given.Resize.Copier.{copier_plan}
-use Rattle.papaya_rule.specs.Given.Resize.Dispose.{disposing, dispose_plan}
-use Rattle.papaya_rule.specs.Given.Resize.declared.dispose.Dispose.{Dispose}
+use Rattle.papaya_rule.specs.Given.SeizeWordsDeclared.at.At.TheVariants.{Word}
+use Rattle.papaya_rule.specs.Given.SeizeWordsMem.{Mem, Can, Took, value_at}
+use Rattle.papaya_rule.specs.Given.SeizeWordsPlan.{Now, May, Steps}
+use Rattle.papaya_rule.proofs.Given.SeizeWordsOneOwner.Operations.{made as made_by_step, taken, added}
+use Rattle.papaya_rule.proofs.Given.SeizeRuleRows.Leaving.{steps_back}
+use Rattle.papaya_rule.specs.Given.SeizeWorld.{World}
+use Rattle.papaya_rule.specs.Given.SeizeDeclared.rows.settle.Settled.{Settled}
+use Rattle.papaya_rule.specs.Given.SeizeDeclared.rows.settle.Settled.TheVariants as settled
+use Rattle.papaya_rule.specs.Given.TablesCounts.{count_change}
+use Rattle.papaya_rule.specs.Given.TablesDeclared.node.Node.{Node}
+use Rattle.papaya_rule.specs.Given.TablesDeclared.node.Node.TheVariants as node
+use Rattle.papaya_rule.specs.Given.TablesDeclared.marks.TheConstants.{TOMBSTONE}
+use Rattle.papaya_rule.specs.Given.TablesDeclared.setting.Setting.{Setting}
+use Rattle.papaya_rule.specs.Given.ResizeCopier.{copier_plan}
+use Rattle.papaya_rule.specs.Given.ResizeDispose.{disposing, dispose_plan}
+use Rattle.papaya_rule.specs.Given.ResizeDeclared.dispose.Dispose.{Dispose}
 use Rattle.papaya_raw.specs.Answers.{ended}
 use Rattle.papaya_raw.specs.Call.{makes_of, made, drops, dropped, disposed, helped, copied, plan_at, call_plan}
 use Rattle.papaya_raw.specs.CallPoints.{going, over, changed, counted}

@@ -3,14 +3,14 @@ use Rattle.std.specs.Prelude.{◌≡◌, ℕ, ◌==◌, Bool, true, false, Optio
 use Rattle.std.proofs.Common.{refl, ap, eqb-true}
 use Rattle.papaya_raw.specs.Call.{key_read, pair_read, word_read, have_one_key}
 use Rattle.papaya_raw.specs.CallPoints.{aim_of, going, over, ending, tableless, at_free, following_made, asking_at, at_last, at_pair, halted, told_of, told, entering, went_on, having_met}
-use Rattle.papaya_rule.specs.Given.Tables.Chunks.{is_incremental}
-use Rattle.papaya_rule.specs.Given.Resize.CopierStates.{helping, copying_all}
-use Rattle.papaya_rule.specs.Given.Tables.Finding.{finding, may_name}
-use Rattle.papaya_rule.specs.Given.Resize.Lookup.{names_pair}
-use Rattle.papaya_rule.specs.Given.Tables.Trials.{next_trial, with_met}
-use Rattle.papaya_rule.specs.Given.Tables.declared.lengths.TheConstants.{FIRST_LEN}
-use Rattle.papaya_rule.specs.Given.Tables.declared.node.Node.{Node}
-use Rattle.papaya_rule.specs.Given.Tables.declared.table.Table.{Table}
+use Rattle.papaya_rule.specs.Given.TablesChunks.{is_incremental}
+use Rattle.papaya_rule.specs.Given.ResizeCopierStates.{helping, copying_all}
+use Rattle.papaya_rule.specs.Given.TablesFinding.{finding, may_name}
+use Rattle.papaya_rule.specs.Given.ResizeLookup.{names_pair}
+use Rattle.papaya_rule.specs.Given.TablesTrials.{next_trial, with_met}
+use Rattle.papaya_rule.specs.Given.TablesDeclared.lengths.TheConstants.{FIRST_LEN}
+use Rattle.papaya_rule.specs.Given.TablesDeclared.node.Node.{Node}
+use Rattle.papaya_rule.specs.Given.TablesDeclared.table.Table.{Table}
 use Rattle.papaya_raw.specs.declared.machines.answer.KeyAnswer.{KeyAnswer}
 use Rattle.papaya_raw.specs.declared.machines.answer.KeyAnswer.TheVariants as answers
 use Rattle.papaya_raw.specs.declared.machines.answer.Called.{Called}
@@ -28,9 +28,9 @@ use Rattle.papaya_raw.specs.declared.machines.asking.Gap.TheVariants as gaps
 use Rattle.papaya_raw.specs.declared.machines.call.KeyCall.{KeyCall}
 use Rattle.papaya_raw.specs.declared.machines.call.Calling.{Calling}
 use Rattle.papaya_raw.specs.declared.machines.call.Calling.TheVariants as at
-use Rattle.papaya_rule.specs.Given.Resize.declared.copier.Copier.{Copier}
-use Rattle.papaya_rule.specs.Given.Tables.declared.finding.Finding.{Finding}
-use Rattle.papaya_rule.specs.Given.Tables.declared.finding.Finding.TheVariants as is
+use Rattle.papaya_rule.specs.Given.ResizeDeclared.copier.Copier.{Copier}
+use Rattle.papaya_rule.specs.Given.TablesDeclared.finding.Finding.{Finding}
+use Rattle.papaya_rule.specs.Given.TablesDeclared.finding.Finding.TheVariants as is
 use Rattle.papaya_points.specs.Made.{IsMadeByCall}
 use Rattle.papaya_points.proofs.Calls.Asked.{asking_so, asking_of_so, passed_so}
 use Rattle.papaya_points.proofs.Values.Making.{MadeNone, none_made, first_made_none}

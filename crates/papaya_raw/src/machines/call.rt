@@ -1,13 +1,13 @@
 //! A call on one key: its points, and its steps.
 ghost use Rattle.std.specs.Prelude.{◌≡◌};
-ghost use Rattle.papaya_tables.specs.Given.SeizeWords.Plan.{May, Steps};
+ghost use Rattle.papaya_tables.specs.Given.SeizeWordsPlan.{May, Steps};
 ghost use Rattle.papaya_raw.specs.CallPoints.{going, over, told_answer, ending, answering};
 ghost use Rattle.papaya_raw.specs.Call.{call_plan};
 
 use crate::machines::answer::{Called, End, KeyAnswer, Missing, There};
 use crate::machines::asking::{Asking, Replies};
-use papaya_sweeps::papaya_resize::{Copier, Dispose, Lookup, NewTable};
-use papaya_tables::seize_words::Memory;
+use papaya_sweeps::named::{Copier, Dispose, Lookup, NewTable};
+use papaya_tables::named::Memory;
 use papaya_tables::{Equivalent, Hashes, Node, Setting, Table, Trial};
 use std::hash::Hash;
 

@@ -1,12 +1,10 @@
 //! The end of a map.
 ghost use Rattle.std.specs.Prelude.{◌≡◌};
 ghost use Rattle.papaya_raw.specs.EndMap.{ending, is_current, next_place, reads, words, takes, nexts, carries, joins, follows, gives, afters, drops, shards, sets, frees};
-ghost use Rattle.papaya_tables.specs.Given.SeizeWords.Plan.{May, Steps};
+ghost use Rattle.papaya_tables.specs.Given.SeizeWordsPlan.{May, Steps};
 
 use papaya_tables::marks::{COPYING, has};
-use papaya_tables::seize::rows::Settled;
-use papaya_tables::seize::{Machine, states};
-use papaya_tables::seize_words::{At, Link, Memory};
+use papaya_tables::named::{At, Link, Machine, Memory, Settled, states};
 use papaya_tables::table_words::{DEFERRED, NEXT, PLACES};
 use papaya_tables::{Node, Setting, Table};
 

@@ -1,20 +1,19 @@
 //! A call of a map under way, whichever it is.
 ghost use Rattle.std.specs.Prelude.{◌≡◌};
 ghost use Rattle.papaya_raw.specs.Call.{call_plan};
-ghost use Rattle.papaya_sweeps.specs.Given.Reserves.Reserve.{reserve_plan};
+ghost use Rattle.papaya_sweeps.specs.Given.ReservesReserve.{reserve_plan};
 ghost use Rattle.papaya_raw.specs.Machine.{called, reserved, swept, counted, machine_plan, sweep_replied, sweep_asked, machine_replied, machine_asked};
 ghost use Rattle.papaya_raw.specs.declared.machines.machine.Machine.TheVariants as kinds;
-ghost use Rattle.papaya_sweeps.specs.Given.Resize.Sum.{sum_plan};
+ghost use Rattle.papaya_sweeps.specs.Given.ResizeSum.{sum_plan};
 ghost use Rattle.papaya_sweeps.specs.Sweep.{sweep_plan};
-ghost use Rattle.papaya_tables.specs.Given.SeizeWords.Plan.{May, Steps, plan_as};
+ghost use Rattle.papaya_tables.specs.Given.SeizeWordsPlan.{May, Steps, plan_as};
 
 use crate::machines::asking::Reply;
 use crate::machines::call::KeyCall;
 use crate::machines::progress::Progress;
-use papaya_sweeps::papaya_reserves::Reserve;
-use papaya_sweeps::papaya_resize::Sum;
+use papaya_sweeps::named::{Reserve, Sum};
 use papaya_sweeps::{Sweep, Sweeping};
-use papaya_tables::seize_words::Memory;
+use papaya_tables::named::Memory;
 use papaya_tables::{Equivalent, Hashes, Node};
 use std::hash::Hash;
 
@@ -59,7 +58,7 @@ impl<K, V, Q> Machine<K, V, Q> {
         requires { May M.can M.took M.shown memory.old (plan_as (counted {K = K} {V = V} {Q = Q}) (sum_plan sum.old)) }
         ensures { Steps M.took M.shown memory.old (plan_as (counted {K = K} {V = V} {Q = Q}) (sum_plan sum.old)) memory.new (kinds.Count sum.new, result) }
     {
-        let progress = papaya_tables::seize::Machine::step(sum, memory);
+        let progress = papaya_tables::named::Machine::step(sum, memory);
         Progress::of_counting(progress)
     }
 

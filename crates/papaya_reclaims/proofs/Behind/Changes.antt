@@ -2,32 +2,32 @@
 use Rattle.std.specs.Prelude.{◌≢◌, Option, Some, None, IsSome, ◌==◌, if◌then◌else◌, cond}
 use Rattle.std.proofs.Common.{◌≡◌, ℕ, suc, ◌/◌, ◌<◌, ◌^◌, Bool, true, false, List, [], ◌∷◌, ◌⊎◌, inl, inr, refl, arith, ap, sym, subst, ◌∙◌, eqb-true}
 use Rattle.std.proofs.lemmas.Bool.{cases_eq, eqb-false, eq-eqb}
-use Rattle.papaya_finishes.specs.Given.SeizeWords.Word.{block_in, link_to}
-use Rattle.papaya_finishes.specs.Given.SeizeWords.Op.{Stored, Taken, Take}
-use Rattle.papaya_finishes.specs.Given.SeizeWords.declared.at.At.TheVariants.{Root, Used, Entry}
-use Rattle.papaya_finishes.specs.Given.SeizeWords.Mem.{Mem, Can, Took, value_at, word_at, with_word, with_block}
-use Rattle.papaya_finishes.specs.Given.SeizeWords.Plan.{Do, Now, Ends, May, MaySee, Steps}
-use Rattle.papaya_finishes.proofs.Given.SeizeWords.OneOwner.AfterWrites.{word_at-with_word}
-use Rattle.papaya_finishes.proofs.Given.SeizeWords.OneOwner.Operations.{may_store, may_take, stored, taken}
-use Rattle.papaya_finishes.proofs.Given.SeizeWords.Plans.{ends_if}
-use Rattle.papaya_finishes.specs.Given.Seize.declared.states.TheConstants.{NEXT}
-use Rattle.papaya_finishes.specs.Given.Seize.declared.rows.settle.Settled.{Settled}
-use Rattle.papaya_finishes.specs.Given.Seize.declared.rows.settle.Settled.TheVariants as settled
-use Rattle.papaya_finishes.specs.Given.Seize.declared.rows.reclaim_all.ReclaimAll.{ReclaimAll}
-use Rattle.papaya_finishes.specs.Given.Seize.declared.rows.reclaim_all.Reclaiming.{Reclaiming}
-use Rattle.papaya_finishes.specs.Given.Seize.declared.rows.reclaim_all.Reclaiming.TheVariants as at
-use Rattle.papaya_finishes.specs.Given.Seize.Further.{ListFrom}
-use Rattle.papaya_finishes.specs.Given.Seize.Law.{holds}
-use Rattle.papaya_finishes.specs.Given.Seize.ReclaimAll.{standing, next_root, to, given_back, takes, empties, unuses}
-use Rattle.papaya_finishes.specs.Given.Seize.World.{World, Hand, Use, LeftTo, IsOutside, Runs, times}
-use Rattle.papaya_finishes.proofs.Given.SeizeRule.Words.Named.{link-block}
-use Rattle.papaya_finishes.proofs.Given.SeizeAlone.Histories.Uses.{none_held}
-use Rattle.papaya_finishes.specs.Given.Tables.Nodes.{deferred_word}
-use Rattle.papaya_finishes.specs.Given.Tables.declared.node.Node.{Node}
-use Rattle.papaya_finishes.specs.Given.Tables.declared.resize_mode.ResizeMode.TheVariants.{Blocking}
-use Rattle.papaya_finishes.specs.Given.Tables.declared.setting.Setting.{Setting}
-use Rattle.papaya_finishes.specs.Given.Callers.Together.{UnderWay, CameAbout}
-use Rattle.papaya_finishes.proofs.Given.Callers.Together.Came.{came_reached, came_on}
+use Rattle.papaya_finishes.specs.Given.SeizeWordsWord.{block_in, link_to}
+use Rattle.papaya_finishes.specs.Given.SeizeWordsOp.{Stored, Taken, Take}
+use Rattle.papaya_finishes.specs.Given.SeizeWordsDeclared.at.At.TheVariants.{Root, Used, Entry}
+use Rattle.papaya_finishes.specs.Given.SeizeWordsMem.{Mem, Can, Took, value_at, word_at, with_word, with_block}
+use Rattle.papaya_finishes.specs.Given.SeizeWordsPlan.{Do, Now, Ends, May, MaySee, Steps}
+use Rattle.papaya_finishes.proofs.Given.SeizeWordsOneOwner.AfterWrites.{word_at-with_word}
+use Rattle.papaya_finishes.proofs.Given.SeizeWordsOneOwner.Operations.{may_store, may_take, stored, taken}
+use Rattle.papaya_finishes.proofs.Given.SeizeWordsPlans.{ends_if}
+use Rattle.papaya_finishes.specs.Given.SeizeDeclared.states.TheConstants.{NEXT}
+use Rattle.papaya_finishes.specs.Given.SeizeDeclared.rows.settle.Settled.{Settled}
+use Rattle.papaya_finishes.specs.Given.SeizeDeclared.rows.settle.Settled.TheVariants as settled
+use Rattle.papaya_finishes.specs.Given.SeizeDeclared.rows.reclaim_all.ReclaimAll.{ReclaimAll}
+use Rattle.papaya_finishes.specs.Given.SeizeDeclared.rows.reclaim_all.Reclaiming.{Reclaiming}
+use Rattle.papaya_finishes.specs.Given.SeizeDeclared.rows.reclaim_all.Reclaiming.TheVariants as at
+use Rattle.papaya_finishes.specs.Given.SeizeFurther.{ListFrom}
+use Rattle.papaya_finishes.specs.Given.SeizeLaw.{holds}
+use Rattle.papaya_finishes.specs.Given.SeizeReclaimAll.{standing, next_root, to, given_back, takes, empties, unuses}
+use Rattle.papaya_finishes.specs.Given.SeizeWorld.{World, Hand, Use, LeftTo, IsOutside, Runs, times}
+use Rattle.papaya_finishes.proofs.Given.SeizeRuleWords.Named.{link-block}
+use Rattle.papaya_finishes.proofs.Given.SeizeAloneHistories.Uses.{none_held}
+use Rattle.papaya_finishes.specs.Given.TablesNodes.{deferred_word}
+use Rattle.papaya_finishes.specs.Given.TablesDeclared.node.Node.{Node}
+use Rattle.papaya_finishes.specs.Given.TablesDeclared.resize_mode.ResizeMode.TheVariants.{Blocking}
+use Rattle.papaya_finishes.specs.Given.TablesDeclared.setting.Setting.{Setting}
+use Rattle.papaya_finishes.specs.Given.CallersTogether.{UnderWay, CameAbout}
+use Rattle.papaya_finishes.proofs.Given.CallersTogether.Came.{came_reached, came_on}
 use Rattle.papaya_finishes.specs.Endings.{Finishing}
 use Rattle.papaya_finishes.specs.FactsEnds.{TakesLeft, WritesRoot, events_of, Spares}
 use Rattle.papaya_finishes.specs.Makings.{Beginning}

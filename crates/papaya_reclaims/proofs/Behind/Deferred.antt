@@ -1,16 +1,16 @@
 -- What is put behind the tables of maps that stand, while nobody has a call on one, are pairs of theirs, in resizes that are unfinished.
 use Rattle.std.specs.Prelude.{Option, Some, None}
 use Rattle.std.proofs.Common.{◌≡◌, ℕ, zero, suc, ◌<◌, ◌≤◌, Bool, true, List, refl, arith, sym, subst, ◌∙◌}
-use Rattle.papaya_finishes.specs.Given.SeizeWords.declared.at.At.TheVariants.{Word}
-use Rattle.papaya_finishes.specs.Given.SeizeWords.Mem.{value_at, word_at}
-use Rattle.papaya_finishes.specs.Given.Seize.Further.{ListFrom, FurtherFrom, FurtherAre}
-use Rattle.papaya_finishes.specs.Given.Seize.WaitingSets.{is_one_of}
-use Rattle.papaya_finishes.specs.Given.Seize.World.{World, times}
-use Rattle.seize_quiet.specs.Given.SeizeActs.Reclaimed.{IsStillHad}
-use Rattle.seize_quiet.proofs.Given.SeizeReclaims.Roots.Once.{list_once}
-use Rattle.papaya_finishes.specs.Given.Tables.Nodes.{deferred_word}
-use Rattle.papaya_finishes.specs.Given.Tables.declared.node.Node.{Node}
-use Rattle.papaya_finishes.specs.Given.Callers.Together.{UnderWay, Together}
+use Rattle.papaya_finishes.specs.Given.SeizeWordsDeclared.at.At.TheVariants.{Word}
+use Rattle.papaya_finishes.specs.Given.SeizeWordsMem.{value_at, word_at}
+use Rattle.papaya_finishes.specs.Given.SeizeFurther.{ListFrom, FurtherFrom, FurtherAre}
+use Rattle.papaya_finishes.specs.Given.SeizeWaitingSets.{is_one_of}
+use Rattle.papaya_finishes.specs.Given.SeizeWorld.{World, times}
+use Rattle.seize_quiet.specs.Given.SeizeActsReclaimed.{IsStillHad}
+use Rattle.seize_quiet.proofs.Given.SeizeReclaimsRoots.Once.{list_once}
+use Rattle.papaya_finishes.specs.Given.TablesNodes.{deferred_word}
+use Rattle.papaya_finishes.specs.Given.TablesDeclared.node.Node.{Node}
+use Rattle.papaya_finishes.specs.Given.CallersTogether.{UnderWay, Together}
 use Rattle.papaya_finishes.specs.Endings.{Finishing}
 use Rattle.papaya_finishes.specs.FactsEnds.{HasBehind}
 use Rattle.papaya_finishes.specs.Makings.{Beginning}

@@ -2,18 +2,18 @@
 use Rattle.std.specs.Prelude.{Option, Some, None, slice_get}
 use Rattle.std.proofs.Common.{◌≡◌, ℕ, zero, suc, ◌<◌, ◌≤◌, Bool, List, [], ◌∷◌, ◌⊎◌, inl, inr, refl, arith, ap, sym, subst, ◌∙◌}
 use Rattle.std.proofs.lemmas.Bool.{cases_eq}
-use Rattle.papaya_finishes.specs.Given.SeizeWords.declared.at.At.TheVariants.{Root, Used, Entry}
-use Rattle.papaya_finishes.specs.Given.SeizeWords.Mem.{Mem, value_at, word_at}
-use Rattle.papaya_finishes.specs.Given.Seize.declared.states.TheConstants.{NEXT}
-use Rattle.papaya_finishes.specs.Given.Seize.World.{World, LeftTo, Request, Register', Leave', Flush, Unregister', Enter', LeaveOwned, Refresh, Retire, Defer', Event, Begin, Step, Happens, Runs, times}
-use Rattle.papaya_finishes.proofs.Given.SeizeEnds.Batches.Rows.{begins_memory}
-use Rattle.papaya_finishes.proofs.Given.SeizeAlone.Histories.NotTaken.{did}
-use Rattle.seize_quiet.specs.Given.SeizeReclaims.Roots.{all_lists}
-use Rattle.papaya_finishes.specs.Given.Tables.Nodes.{deferred_word}
-use Rattle.papaya_finishes.specs.Given.Tables.declared.node.Node.{Node}
-use Rattle.papaya_finishes.proofs.Given.Callers.Sights.Parts.{part_same, part_then}
-use Rattle.papaya_finishes.specs.Given.Callers.Together.{UnderWay, CameAbout, IsOfSlots}
-use Rattle.papaya_finishes.proofs.Given.Callers.Together.Came.{came_reached}
+use Rattle.papaya_finishes.specs.Given.SeizeWordsDeclared.at.At.TheVariants.{Root, Used, Entry}
+use Rattle.papaya_finishes.specs.Given.SeizeWordsMem.{Mem, value_at, word_at}
+use Rattle.papaya_finishes.specs.Given.SeizeDeclared.states.TheConstants.{NEXT}
+use Rattle.papaya_finishes.specs.Given.SeizeWorld.{World, LeftTo, Request, Register', Leave', Flush, Unregister', Enter', LeaveOwned, Refresh, Retire, Defer', Event, Begin, Step, Happens, Runs, times}
+use Rattle.papaya_finishes.proofs.Given.SeizeEndsBatches.Rows.{begins_memory}
+use Rattle.papaya_finishes.proofs.Given.SeizeAloneHistories.NotTaken.{did}
+use Rattle.seize_quiet.specs.Given.SeizeReclaimsRoots.{all_lists}
+use Rattle.papaya_finishes.specs.Given.TablesNodes.{deferred_word}
+use Rattle.papaya_finishes.specs.Given.TablesDeclared.node.Node.{Node}
+use Rattle.papaya_finishes.proofs.Given.CallersSights.Parts.{part_same, part_then}
+use Rattle.papaya_finishes.specs.Given.CallersTogether.{UnderWay, CameAbout, IsOfSlots}
+use Rattle.papaya_finishes.proofs.Given.CallersTogether.Came.{came_reached}
 use Rattle.papaya_finishes.specs.Endings.{Finishing}
 use Rattle.papaya_finishes.specs.Makings.{Beginning}
 use Rattle.papaya_finishes.specs.Maps.{Standing, IsSameMap}

@@ -2,11 +2,11 @@
 use Rattle.std.specs.Prelude.{◌≢◌}
 use Rattle.std.proofs.Common.{◌≡◌, ℕ, zero, suc, ◌+◌, ◌<◌, ◌≤◌, List, [], ◌∷◌, ◌++◌, inl, inr, refl, arith, ap, ◌∙◌}
 use Rattle.std.proofs.lemmas.Bool.{cases_eq}
-use Rattle.papaya_finishes.specs.Given.SeizeWords.Mem.{Mem}
-use Rattle.papaya_finishes.specs.Given.Seize.Further.{ListFrom}
-use Rattle.papaya_finishes.specs.Given.Seize.World.{times, with_at}
-use Rattle.papaya_finishes.proofs.Given.SeizeRule.Rows.Others.{with_here, with_other}
-use Rattle.seize_quiet.specs.Given.SeizeReclaims.Roots.{all_lists}
+use Rattle.papaya_finishes.specs.Given.SeizeWordsMem.{Mem}
+use Rattle.papaya_finishes.specs.Given.SeizeFurther.{ListFrom}
+use Rattle.papaya_finishes.specs.Given.SeizeWorld.{times, with_at}
+use Rattle.papaya_finishes.proofs.Given.SeizeRuleRows.Others.{with_here, with_other}
+use Rattle.seize_quiet.specs.Given.SeizeReclaimsRoots.{all_lists}
 use Rattle.papaya_finishes.proofs.Ends.CountedBlocks.{times-append}
 use Rattle.papaya_reclaims.proofs.Behind.Kept.{in_all}
 

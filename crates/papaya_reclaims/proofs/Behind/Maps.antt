@@ -2,21 +2,21 @@
 use Rattle.std.specs.Prelude.{◌≢◌, Option, Some, None}
 use Rattle.std.proofs.Common.{◌≡◌, ℕ, zero, suc, ◌<◌, Bool, inl, inr, refl, arith, ap, sym, subst, ◌∙◌}
 use Rattle.std.proofs.lemmas.Bool.{cases_eq}
-use Rattle.papaya_finishes.specs.Given.SeizeWords.Mem.{value_at}
-use Rattle.papaya_finishes.specs.Given.Seize.Law.{With, is_somewhere, where_is}
-use Rattle.papaya_finishes.specs.Given.Seize.World.{World, Row, Use, LeftTo, IsInside, IsOnto, times}
-use Rattle.papaya_finishes.specs.Given.Tables.Nodes.{deferred_word}
-use Rattle.papaya_finishes.specs.Given.Tables.declared.node.Node.{Node}
-use Rattle.papaya_finishes.specs.Given.Tables.declared.setting.Setting.{Setting}
-use Rattle.papaya_finishes.specs.Given.Rule.Chart.{Chart}
-use Rattle.papaya_finishes.specs.Given.Rule.Words.{Blocks}
-use Rattle.papaya_finishes.specs.Given.Rule.InWorld.{IsOut, IsKnownBlock}
-use Rattle.papaya_finishes.specs.Given.Points.Steps.{AreLawful}
-use Rattle.papaya_finishes.specs.Given.Callers.Kept.{IsMaking, IsUsersOwn, IsKeptBy}
-use Rattle.papaya_finishes.specs.Given.Callers.Sights.{Sight}
-use Rattle.papaya_finishes.specs.Given.Callers.Together.{UnderWay, CameAbout, Together}
-use Rattle.papaya_finishes.proofs.Given.Callers.Rows.Behind.{behind_handed}
-use Rattle.papaya_finishes.proofs.Given.Callers.Together.Came.{came_reached}
+use Rattle.papaya_finishes.specs.Given.SeizeWordsMem.{value_at}
+use Rattle.papaya_finishes.specs.Given.SeizeLaw.{With, is_somewhere, where_is}
+use Rattle.papaya_finishes.specs.Given.SeizeWorld.{World, Row, Use, LeftTo, IsInside, IsOnto, times}
+use Rattle.papaya_finishes.specs.Given.TablesNodes.{deferred_word}
+use Rattle.papaya_finishes.specs.Given.TablesDeclared.node.Node.{Node}
+use Rattle.papaya_finishes.specs.Given.TablesDeclared.setting.Setting.{Setting}
+use Rattle.papaya_finishes.specs.Given.RuleChart.{Chart}
+use Rattle.papaya_finishes.specs.Given.RuleWords.{Blocks}
+use Rattle.papaya_finishes.specs.Given.RuleInWorld.{IsOut, IsKnownBlock}
+use Rattle.papaya_finishes.specs.Given.PointsSteps.{AreLawful}
+use Rattle.papaya_finishes.specs.Given.CallersKept.{IsMaking, IsUsersOwn, IsKeptBy}
+use Rattle.papaya_finishes.specs.Given.CallersSights.{Sight}
+use Rattle.papaya_finishes.specs.Given.CallersTogether.{UnderWay, CameAbout, Together}
+use Rattle.papaya_finishes.proofs.Given.CallersRows.Behind.{behind_handed}
+use Rattle.papaya_finishes.proofs.Given.CallersTogether.Came.{came_reached}
 use Rattle.papaya_finishes.specs.Endings.{Finishing}
 use Rattle.papaya_finishes.specs.FactsEnds.{Deed, taken_by, left_by, cut_by, Spares}
 use Rattle.papaya_finishes.specs.Makings.{Beginning, HasRoots, MakingsTogether}

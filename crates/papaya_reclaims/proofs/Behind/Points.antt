@@ -2,30 +2,30 @@
 use Rattle.std.specs.Prelude.{Option, Some, IsSome, nat_lt, ◌==◌, if◌then◌else◌, cond, eqb}
 use Rattle.std.proofs.Common.{◌≡◌, ℕ, suc, ◌+◌, ◌-◌, ◌*◌, ◌/◌, ◌<◌, ◌≤◌, ◌^◌, Bool, true, false, List, [], ◌∷◌, ◌⊎◌, inl, inr, refl, arith, ap, sym, subst, ◌∙◌, eqb-true}
 use Rattle.std.proofs.lemmas.Bool.{cases_eq, eqb-false}
-use Rattle.papaya_finishes.specs.Given.SeizeWords.Word.{block_in}
-use Rattle.papaya_finishes.specs.Given.SeizeWords.declared.at.At.TheVariants.{Root, Used, Entry}
-use Rattle.papaya_finishes.specs.Given.SeizeWords.Mem.{Mem, Can, Took, value_at, word_at}
-use Rattle.papaya_finishes.specs.Given.SeizeWords.Plan.{Turn, Now, Seeing, Ends, May, MaySee, Steps}
-use Rattle.papaya_finishes.proofs.Given.SeizeWords.OneOwner.Operations.{may_load, loaded}
-use Rattle.papaya_finishes.proofs.Given.SeizeWords.Plans.{see_if, ends_if}
-use Rattle.papaya_finishes.specs.Given.Seize.declared.states.TheConstants.{NEXT}
-use Rattle.papaya_finishes.specs.Given.Seize.declared.rows.settle.Settled.{Settled}
-use Rattle.papaya_finishes.specs.Given.Seize.declared.rows.settle.Settled.TheVariants as settled
-use Rattle.papaya_finishes.specs.Given.Seize.declared.rows.reclaim_all.ReclaimAll.{ReclaimAll}
-use Rattle.papaya_finishes.specs.Given.Seize.declared.rows.reclaim_all.Reclaiming.{Reclaiming}
-use Rattle.papaya_finishes.specs.Given.Seize.declared.rows.reclaim_all.Reclaiming.TheVariants as at
-use Rattle.papaya_finishes.specs.Given.Seize.Further.{ListFrom}
-use Rattle.papaya_finishes.specs.Given.Seize.ReclaimAll.{standing, next_root, to, left_there, root_read, roots as roots_plan, next_read, nexts}
-use Rattle.papaya_finishes.specs.Given.Seize.World.{World}
-use Rattle.papaya_finishes.proofs.Given.SeizeRule.Words.Named.{link-block}
-use Rattle.papaya_finishes.specs.Given.Tables.Nodes.{deferred_word, was_left}
-use Rattle.papaya_finishes.specs.Given.Tables.declared.node.Node.{Node}
-use Rattle.papaya_finishes.specs.Given.Tables.declared.node.Node.TheVariants as node
-use Rattle.papaya_finishes.specs.Given.Tables.declared.setting.Setting.{Setting}
-use Rattle.papaya_finishes.specs.Given.Rule.Chart.{Chart}
-use Rattle.papaya_finishes.specs.Given.Rule.InWorld.{IsMapIn}
-use Rattle.papaya_finishes.specs.Given.Rule.Words.{Blocks, root_word}
-use Rattle.papaya_finishes.specs.Given.Callers.Together.{UnderWay, CameAbout}
+use Rattle.papaya_finishes.specs.Given.SeizeWordsWord.{block_in}
+use Rattle.papaya_finishes.specs.Given.SeizeWordsDeclared.at.At.TheVariants.{Root, Used, Entry}
+use Rattle.papaya_finishes.specs.Given.SeizeWordsMem.{Mem, Can, Took, value_at, word_at}
+use Rattle.papaya_finishes.specs.Given.SeizeWordsPlan.{Turn, Now, Seeing, Ends, May, MaySee, Steps}
+use Rattle.papaya_finishes.proofs.Given.SeizeWordsOneOwner.Operations.{may_load, loaded}
+use Rattle.papaya_finishes.proofs.Given.SeizeWordsPlans.{see_if, ends_if}
+use Rattle.papaya_finishes.specs.Given.SeizeDeclared.states.TheConstants.{NEXT}
+use Rattle.papaya_finishes.specs.Given.SeizeDeclared.rows.settle.Settled.{Settled}
+use Rattle.papaya_finishes.specs.Given.SeizeDeclared.rows.settle.Settled.TheVariants as settled
+use Rattle.papaya_finishes.specs.Given.SeizeDeclared.rows.reclaim_all.ReclaimAll.{ReclaimAll}
+use Rattle.papaya_finishes.specs.Given.SeizeDeclared.rows.reclaim_all.Reclaiming.{Reclaiming}
+use Rattle.papaya_finishes.specs.Given.SeizeDeclared.rows.reclaim_all.Reclaiming.TheVariants as at
+use Rattle.papaya_finishes.specs.Given.SeizeFurther.{ListFrom}
+use Rattle.papaya_finishes.specs.Given.SeizeReclaimAll.{standing, next_root, to, left_there, root_read, roots as roots_plan, next_read, nexts}
+use Rattle.papaya_finishes.specs.Given.SeizeWorld.{World}
+use Rattle.papaya_finishes.proofs.Given.SeizeRuleWords.Named.{link-block}
+use Rattle.papaya_finishes.specs.Given.TablesNodes.{deferred_word, was_left}
+use Rattle.papaya_finishes.specs.Given.TablesDeclared.node.Node.{Node}
+use Rattle.papaya_finishes.specs.Given.TablesDeclared.node.Node.TheVariants as node
+use Rattle.papaya_finishes.specs.Given.TablesDeclared.setting.Setting.{Setting}
+use Rattle.papaya_finishes.specs.Given.RuleChart.{Chart}
+use Rattle.papaya_finishes.specs.Given.RuleInWorld.{IsMapIn}
+use Rattle.papaya_finishes.specs.Given.RuleWords.{Blocks, root_word}
+use Rattle.papaya_finishes.specs.Given.CallersTogether.{UnderWay, CameAbout}
 use Rattle.papaya_finishes.specs.Endings.{Finishing}
 use Rattle.papaya_finishes.specs.Makings.{Beginning, IsFreeRoot}
 use Rattle.papaya_finishes.specs.Maps.{Standing}

@@ -1,24 +1,24 @@
 -- Each step of reclaiming all on roots leaves fewer points before it, or fewer blocks.
 use Rattle.std.specs.Prelude.{Option, Some, None, nat_lt, ◌==◌, if◌then◌else◌, IsSome}
 use Rattle.std.proofs.Common.{◌≡◌, ℕ, ◌+◌, ◌-◌, ◌*◌, ◌<◌, ◌≤◌, Bool, true, false, ◌⊎◌, inl, inr, refl, arith, ap, sym, subst}
-use Rattle.papaya_finishes.specs.Given.SeizeWords.declared.at.At.TheVariants as name
-use Rattle.papaya_finishes.specs.Given.SeizeWords.Mem.{Mem, Took, value_at, with_block}
-use Rattle.papaya_finishes.specs.Given.SeizeWords.Plan.{Ends, Steps, Now, Seeing}
-use Rattle.papaya_finishes.specs.Given.SeizeWords.Word.{block_in}
-use Rattle.papaya_finishes.proofs.Given.SeizeWords.OneOwner.Operations.{loaded, stored, taken}
-use Rattle.papaya_finishes.specs.Given.Seize.declared.states.TheConstants.{NEXT}
-use Rattle.papaya_finishes.specs.Given.Seize.declared.rows.settle.Settled.{Settled}
-use Rattle.papaya_finishes.specs.Given.Seize.declared.rows.settle.Settled.TheVariants as settled
-use Rattle.papaya_finishes.specs.Given.Seize.declared.rows.reclaim_all.ReclaimAll.{ReclaimAll}
-use Rattle.papaya_finishes.specs.Given.Seize.declared.rows.reclaim_all.Reclaiming.{Reclaiming}
-use Rattle.papaya_finishes.specs.Given.Seize.declared.rows.reclaim_all.Reclaiming.TheVariants as at
-use Rattle.papaya_finishes.specs.Given.Seize.ReclaimAll.{standing, next_root, to, left_there, root_read, next_read, given_back, plan_at}
-use Rattle.papaya_finishes.specs.Given.SeizeAlone.Alone.{blocks_in}
-use Rattle.papaya_finishes.proofs.Given.SeizeAlone.Spared.Fewer.{take_fewer}
-use Rattle.seize_quiet.specs.Given.SeizeReclaims.AllReclaimed.{weight_at}
-use Rattle.seize_quiet.proofs.Given.SeizeReclaims.AllReclaimed.Weights.{weight}
-use Rattle.papaya_finishes.specs.Given.Tables.Nodes.{deferred_word, was_left}
-use Rattle.papaya_finishes.specs.Given.Tables.declared.node.Node.{Node}
+use Rattle.papaya_finishes.specs.Given.SeizeWordsDeclared.at.At.TheVariants as name
+use Rattle.papaya_finishes.specs.Given.SeizeWordsMem.{Mem, Took, value_at, with_block}
+use Rattle.papaya_finishes.specs.Given.SeizeWordsPlan.{Ends, Steps, Now, Seeing}
+use Rattle.papaya_finishes.specs.Given.SeizeWordsWord.{block_in}
+use Rattle.papaya_finishes.proofs.Given.SeizeWordsOneOwner.Operations.{loaded, stored, taken}
+use Rattle.papaya_finishes.specs.Given.SeizeDeclared.states.TheConstants.{NEXT}
+use Rattle.papaya_finishes.specs.Given.SeizeDeclared.rows.settle.Settled.{Settled}
+use Rattle.papaya_finishes.specs.Given.SeizeDeclared.rows.settle.Settled.TheVariants as settled
+use Rattle.papaya_finishes.specs.Given.SeizeDeclared.rows.reclaim_all.ReclaimAll.{ReclaimAll}
+use Rattle.papaya_finishes.specs.Given.SeizeDeclared.rows.reclaim_all.Reclaiming.{Reclaiming}
+use Rattle.papaya_finishes.specs.Given.SeizeDeclared.rows.reclaim_all.Reclaiming.TheVariants as at
+use Rattle.papaya_finishes.specs.Given.SeizeReclaimAll.{standing, next_root, to, left_there, root_read, next_read, given_back, plan_at}
+use Rattle.papaya_finishes.specs.Given.SeizeAloneAlone.{blocks_in}
+use Rattle.papaya_finishes.proofs.Given.SeizeAloneSpared.Fewer.{take_fewer}
+use Rattle.seize_quiet.specs.Given.SeizeReclaimsAllReclaimed.{weight_at}
+use Rattle.seize_quiet.proofs.Given.SeizeReclaimsAllReclaimed.Weights.{weight}
+use Rattle.papaya_finishes.specs.Given.TablesNodes.{deferred_word, was_left}
+use Rattle.papaya_finishes.specs.Given.TablesDeclared.node.Node.{Node}
 
 -- it works on this root, or is over
 abbrev pub IsOnRoots : ℕ → Reclaiming → Type 0

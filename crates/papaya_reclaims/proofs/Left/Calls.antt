@@ -2,18 +2,18 @@
 use Rattle.std.specs.Prelude.{◌≢◌, Option, Some, None}
 use Rattle.std.proofs.Common.{◌≡◌, ℕ, suc, Bool, inl, inr, arith, ap, sym, subst, ◌∙◌}
 use Rattle.std.proofs.lemmas.Bool.{cases_eq}
-use Rattle.papaya_finishes.specs.Given.SeizeWords.declared.at.At.TheVariants.{Root, Used}
-use Rattle.papaya_finishes.specs.Given.SeizeWords.Mem.{Mem, word_at}
-use Rattle.papaya_finishes.specs.Given.Seize.World.{World, IsInside}
-use Rattle.papaya_finishes.specs.Given.Tables.declared.node.Node.{Node}
-use Rattle.papaya_finishes.specs.Given.Tables.declared.setting.Setting.{Setting}
-use Rattle.papaya_finishes.specs.Given.Raw.declared.machines.machine.Machine.{Machine}
-use Rattle.papaya_finishes.specs.Given.Raw.declared.machines.progress.Progress.{Progress}
-use Rattle.papaya_finishes.specs.Given.Rule.Chart.{Chart}
-use Rattle.papaya_finishes.specs.Given.Rule.InWorld.{Went}
-use Rattle.papaya_finishes.specs.Given.Rule.Words.{Blocks}
-use Rattle.papaya_finishes.specs.Given.Callers.Sights.{seen_by}
-use Rattle.papaya_finishes.specs.Given.Callers.Together.{UnderWay, OnKey, ForRoom, Counting, OverAll, IsOneStep, in_slot}
+use Rattle.papaya_finishes.specs.Given.SeizeWordsDeclared.at.At.TheVariants.{Root, Used}
+use Rattle.papaya_finishes.specs.Given.SeizeWordsMem.{Mem, word_at}
+use Rattle.papaya_finishes.specs.Given.SeizeWorld.{World, IsInside}
+use Rattle.papaya_finishes.specs.Given.TablesDeclared.node.Node.{Node}
+use Rattle.papaya_finishes.specs.Given.TablesDeclared.setting.Setting.{Setting}
+use Rattle.papaya_finishes.specs.Given.RawDeclared.machines.machine.Machine.{Machine}
+use Rattle.papaya_finishes.specs.Given.RawDeclared.machines.progress.Progress.{Progress}
+use Rattle.papaya_finishes.specs.Given.RuleChart.{Chart}
+use Rattle.papaya_finishes.specs.Given.RuleInWorld.{Went}
+use Rattle.papaya_finishes.specs.Given.RuleWords.{Blocks}
+use Rattle.papaya_finishes.specs.Given.CallersSights.{seen_by}
+use Rattle.papaya_finishes.specs.Given.CallersTogether.{UnderWay, OnKey, ForRoom, Counting, OverAll, IsOneStep, in_slot}
 use Rattle.papaya_finishes.specs.Endings.{Finishing, EndingsTogether}
 use Rattle.papaya_finishes.specs.Machines.{DidOfKind, StandsOn}
 use Rattle.papaya_finishes.specs.Makings.{Beginning}

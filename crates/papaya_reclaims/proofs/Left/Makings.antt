@@ -2,20 +2,20 @@
 use Rattle.std.specs.Prelude.{◌≢◌, Option, Some, None, ◌/◌}
 use Rattle.std.proofs.Common.{◌≡◌, ℕ, ◌<◌, Bool, false, List, [], ◌∷◌, ◌⊎◌, inl, inr, refl, arith, ap, sym, subst, ◌∙◌}
 use Rattle.std.proofs.lemmas.Bool.{cases_eq}
-use Rattle.papaya_finishes.specs.Given.SeizeWords.Word.{block_in}
-use Rattle.papaya_finishes.specs.Given.SeizeWords.declared.fault.Fault.{Fault}
-use Rattle.papaya_finishes.specs.Given.SeizeWords.declared.at.At.TheVariants.{Root, Used}
-use Rattle.papaya_finishes.specs.Given.SeizeWords.Mem.{Mem, value_at, word_at}
-use Rattle.papaya_finishes.specs.Given.Seize.declared.progress.Progress.{Progress}
-use Rattle.papaya_finishes.specs.Given.Seize.declared.progress.Progress.TheVariants as progress
-use Rattle.papaya_finishes.specs.Given.Seize.World.{World, times, with_at}
-use Rattle.papaya_finishes.proofs.Given.SeizeRule.Words.Named.{link-block}
-use Rattle.papaya_finishes.specs.Given.Tables.Nodes.{was_left}
-use Rattle.papaya_finishes.specs.Given.Tables.declared.node.Node.{Node}
-use Rattle.papaya_finishes.specs.Given.Tables.declared.setting.Setting.{Setting}
-use Rattle.papaya_finishes.specs.Given.Resize.declared.new_map.NewMap.{NewMap}
-use Rattle.papaya_finishes.specs.Given.Callers.Together.{UnderWay}
-use Rattle.papaya_finishes.proofs.Given.Callers.Together.At.{at_other, at_same}
+use Rattle.papaya_finishes.specs.Given.SeizeWordsWord.{block_in}
+use Rattle.papaya_finishes.specs.Given.SeizeWordsDeclared.fault.Fault.{Fault}
+use Rattle.papaya_finishes.specs.Given.SeizeWordsDeclared.at.At.TheVariants.{Root, Used}
+use Rattle.papaya_finishes.specs.Given.SeizeWordsMem.{Mem, value_at, word_at}
+use Rattle.papaya_finishes.specs.Given.SeizeDeclared.progress.Progress.{Progress}
+use Rattle.papaya_finishes.specs.Given.SeizeDeclared.progress.Progress.TheVariants as progress
+use Rattle.papaya_finishes.specs.Given.SeizeWorld.{World, times, with_at}
+use Rattle.papaya_finishes.proofs.Given.SeizeRuleWords.Named.{link-block}
+use Rattle.papaya_finishes.specs.Given.TablesNodes.{was_left}
+use Rattle.papaya_finishes.specs.Given.TablesDeclared.node.Node.{Node}
+use Rattle.papaya_finishes.specs.Given.TablesDeclared.setting.Setting.{Setting}
+use Rattle.papaya_finishes.specs.Given.ResizeDeclared.new_map.NewMap.{NewMap}
+use Rattle.papaya_finishes.specs.Given.CallersTogether.{UnderWay}
+use Rattle.papaya_finishes.proofs.Given.CallersTogether.At.{at_other, at_same}
 use Rattle.papaya_finishes.specs.Endings.{Finishing, EndingsTogether, MakingStepsAmong}
 use Rattle.papaya_finishes.specs.Makings.{Beginning, HasTaken, HasComeTo, KeepsIts, LeavesRest, IsTakenRoot}
 use Rattle.papaya_finishes.specs.Maps.{Standing}

@@ -1,11 +1,11 @@
 -- What is left over and the roots that are nobody's are as they were: what is behind roots stays.
 use Rattle.std.specs.Prelude.{Option, Some}
 use Rattle.std.proofs.Common.{◌≡◌, ℕ, zero, suc, ◌<◌, List, [], ◌∷◌, ◌⊎◌, inl, inr, refl, arith}
-use Rattle.papaya_finishes.specs.Given.SeizeWords.declared.at.At.TheVariants.{Used}
-use Rattle.papaya_finishes.specs.Given.SeizeWords.Mem.{word_at}
-use Rattle.papaya_finishes.specs.Given.Seize.World.{World, times}
-use Rattle.seize_quiet.specs.Given.SeizeReclaims.Roots.{all_lists}
-use Rattle.papaya_finishes.specs.Given.Tables.declared.node.Node.{Node}
+use Rattle.papaya_finishes.specs.Given.SeizeWordsDeclared.at.At.TheVariants.{Used}
+use Rattle.papaya_finishes.specs.Given.SeizeWordsMem.{word_at}
+use Rattle.papaya_finishes.specs.Given.SeizeWorld.{World, times}
+use Rattle.seize_quiet.specs.Given.SeizeReclaimsRoots.{all_lists}
+use Rattle.papaya_finishes.specs.Given.TablesDeclared.node.Node.{Node}
 use Rattle.papaya_finishes.specs.Endings.{Finishing}
 use Rattle.papaya_finishes.specs.Makings.{Beginning}
 use Rattle.papaya_finishes.specs.Maps.{Standing}

@@ -1,13 +1,13 @@
 //! The tables are known, the status is read, and a chunk is claimed.
 ghost use Rattle.std.specs.Prelude.{◌≡◌, ◌<◌};
-ghost use Rattle.papaya_tables.specs.Given.SeizeWords.Plan.{May, Steps};
+ghost use Rattle.papaya_tables.specs.Given.SeizeWordsPlan.{May, Steps};
 ghost use Rattle.papaya_resize.specs.CopierClaims.{chunk, range_claimed, begins, follows, asks, sees, claims};
 
 use crate::copier::{Copier, Copying};
 use crate::outcome::Outcome;
-use papaya_tables::seize_words::{At, Link, Memory};
 use papaya_tables::table_words::{CLAIM, NEXT, STATUS};
 use papaya_tables::{Node, Status, Table};
+use seize_words::{At, Link, Memory};
 
 impl Copier {
     /// Reads the root.

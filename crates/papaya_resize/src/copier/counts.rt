@@ -1,13 +1,13 @@
 //! What is done is counted, and what can't be done is taken back.
 ghost use Rattle.std.specs.Prelude.{◌≡◌};
-ghost use Rattle.papaya_tables.specs.Given.SeizeWords.Plan.{May, Steps};
+ghost use Rattle.papaya_tables.specs.Given.SeizeWordsPlan.{May, Steps};
 ghost use Rattle.papaya_resize.specs.CopierCounts.{refusing, given_up, counts, tallies, unmarks, unclaims};
 
 use crate::copier::{Copier, Copying};
 use crate::outcome::Outcome;
-use papaya_tables::seize_words::{Fault, Memory};
 use papaya_tables::table_words::{CLAIM, COPIED};
 use papaya_tables::{Node, Table};
+use seize_words::{Fault, Memory};
 
 impl Copier {
     /// Adds the places done to the count. Where that makes it full, the next table is promoted.

@@ -1,6 +1,6 @@
 //! A further table is looked for, where a pair has no place in one.
 ghost use Rattle.std.specs.Prelude.{◌≡◌, ℕ};
-ghost use Rattle.papaya_tables.specs.Given.SeizeWords.Plan.{May, Steps};
+ghost use Rattle.papaya_tables.specs.Given.SeizeWordsPlan.{May, Steps};
 ghost use Rattle.papaya_resize.specs.Copier.{copier_plan};
 ghost use Rattle.papaya_resize.specs.CopierStates.{standing};
 ghost use Rattle.papaya_resize.specs.declared.copier.Copying.TheVariants as at;
@@ -10,10 +10,10 @@ use crate::copier::{Copier, Copying};
 use crate::new_table::NewTable;
 use crate::outcome::Outcome;
 use papaya_tables::lengths::Reason;
-use papaya_tables::seize::{Machine, Progress};
-use papaya_tables::seize_words::{Link, Memory};
+use papaya_tables::named::{Machine, Progress};
 use papaya_tables::table_words::{NEXT, STATUS};
 use papaya_tables::{Node, Status, Table};
+use seize_words::{Link, Memory};
 
 impl Copier {
     /// Reads which table follows one that has no place for a pair.

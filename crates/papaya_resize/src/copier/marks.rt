@@ -1,13 +1,13 @@
 //! A place is marked, and its pair is copied by the caller that marked it first.
 ghost use Rattle.std.specs.Prelude.{◌≡◌};
-ghost use Rattle.papaya_tables.specs.Given.SeizeWords.Plan.{May, Steps};
+ghost use Rattle.papaya_tables.specs.Given.SeizeWordsPlan.{May, Steps};
 ghost use Rattle.papaya_resize.specs.CopierMarks.{is_mine, is_awaited, probing, key_hash, marks, covers};
 
 use crate::copier::{Copier, Copying};
 use crate::outcome::Outcome;
 use papaya_tables::marks::{COPIED, COPYING, has};
-use papaya_tables::seize_words::{Link, Memory};
 use papaya_tables::{Hashes, Node, Probe, Table};
+use seize_words::{Link, Memory};
 
 /// The hash of the key of a pair, and 0 of a value of another kind.
 #[inline(always)]

@@ -1,13 +1,13 @@
 //! A place is looked for, for a pair that is copied.
 ghost use Rattle.std.specs.Prelude.{◌≡◌};
-ghost use Rattle.papaya_tables.specs.Given.SeizeWords.Plan.{May, Steps};
+ghost use Rattle.papaya_tables.specs.Given.SeizeWordsPlan.{May, Steps};
 ghost use Rattle.papaya_resize.specs.CopierPlaces.{copied_word, next_try, pair_put, probes, puts};
 
 use crate::copier::{Copier, Copying};
 use crate::outcome::Outcome;
 use papaya_tables::marks::{BORROWED, unmarked};
-use papaya_tables::seize_words::Memory;
 use papaya_tables::{Node, Probe, Table};
+use seize_words::Memory;
 
 impl Copier {
     /// The word of a copied pair. In incremental mode it says that the pair stands in an older table, too.

@@ -1,6 +1,6 @@
 //! The next table becomes the root, and the tables before it are retired.
 ghost use Rattle.std.specs.Prelude.{◌≡◌, ℕ};
-ghost use Rattle.papaya_tables.specs.Given.SeizeWords.Plan.{May, Steps};
+ghost use Rattle.papaya_tables.specs.Given.SeizeWordsPlan.{May, Steps};
 ghost use Rattle.papaya_resize.specs.Copier.{copier_plan};
 ghost use Rattle.papaya_resize.specs.CopierStates.{standing};
 ghost use Rattle.papaya_resize.specs.declared.copier.Copying.TheVariants as at;
@@ -8,11 +8,10 @@ ghost use Rattle.papaya_resize.specs.CopierPromotes.{table_retired, promotes, an
 
 use crate::copier::{Copier, Copying};
 use crate::outcome::Outcome;
-use papaya_tables::seize::Machine;
-use papaya_tables::seize::rows::{Settle, Settled};
-use papaya_tables::seize_words::{At, Link, Memory};
+use papaya_tables::named::{Machine, Settle, Settled};
 use papaya_tables::table_words::{NEXT, STATUS};
 use papaya_tables::{Node, Status, Table};
+use seize_words::{At, Link, Memory};
 
 impl Copier {
     /// Makes the next table the root.

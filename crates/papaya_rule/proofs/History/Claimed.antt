@@ -3,7 +3,7 @@ use Rattle.std.specs.Prelude.{leb}
 use Rattle.std.proofs.Common.{◌≡◌, ◌≢◌, ℕ, zero, suc, ◌+◌, ◌<◌, ◌≤◌, Bool, false, cond, eqb, ◌⊎◌, inl, inr, refl, arith, ap, sym, subst, ◌∙◌}
 use Rattle.std.proofs.lemmas.Bool.{cases_lt, cases_eq}
 use Rattle.std.proofs.lemmas.Bool.Decides.{nat_tests}
-use Rattle.papaya_resize.specs.Given.Tables.declared.status.TheConstants.Status.{PENDING, ABORTED, PROMOTED}
+use Rattle.papaya_resize.specs.Given.TablesDeclared.status.TheConstants.Status.{PENDING, ABORTED, PROMOTED}
 use Rattle.papaya_rule.specs.Chart.{Chart, Lost, put}
 use Rattle.papaya_rule.specs.Rule.{Rule, Common, is_free}
 use Rattle.papaya_rule.specs.Moves.{Move, Links, Stores, Replaces, Removes, Marks, MarksBlocking, Skips, Unmarks, Puts, Covers, PutsLate, Claims, Reclaims, Counts, GivesUp, Aborts, Promotes, Announces, after, Allowed}

@@ -3,7 +3,7 @@ use Rattle.std.specs.Prelude.{leb, ltb, ◌&&◌}
 use Rattle.std.proofs.Common.{◌≡◌, ◌≢◌, ℕ, suc, ◌+◌, ◌<◌, ◌≤◌, Bool, true, false, cond, eqb, ◌⊎◌, inl, inr, refl, arith, ap, sym, ◌∙◌}
 use Rattle.std.proofs.lemmas.Bool.{cases_lt, cases_eq}
 use Rattle.std.proofs.lemmas.Bool.Decides.{nat_tests}
-use Rattle.papaya_resize.specs.Given.Tables.declared.status.TheConstants.Status.{PENDING, ABORTED, PROMOTED}
+use Rattle.papaya_resize.specs.Given.TablesDeclared.status.TheConstants.Status.{PENDING, ABORTED, PROMOTED}
 use Rattle.papaya_rule.specs.Chart.{Place, Empty, Tombstone, Holds, Share, Free, Claimed, Done, Counted, Lost, Chart, put, put_in}
 use Rattle.papaya_rule.specs.Rule.{Common, Rule}
 use Rattle.papaya_rule.specs.Moves.{Move, Links, Stores, Replaces, Removes, Marks, MarksBlocking, Skips, Unmarks, Puts, Covers, PutsLate, Claims, Reclaims, Counts, GivesUp, Aborts, Promotes, Announces, is_of_caller, with_counted, with_lost, claimed, without, after, Allowed}

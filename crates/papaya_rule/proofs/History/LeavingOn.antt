@@ -1,7 +1,7 @@
 -- What steps of others leave to a caller they leave one after another.
 use Rattle.std.proofs.Common.{◌≡◌, ℕ, suc, ◌<◌, ◌≤◌, Bool, true, false, ◌⊎◌, inl, inr, refl, arith, ap, sym, subst, ◌∙◌}
 use Rattle.std.proofs.lemmas.Bool.{cases_lt, eq-eqb}
-use Rattle.papaya_resize.specs.Given.Tables.declared.status.TheConstants.Status.{ABORTED}
+use Rattle.papaya_resize.specs.Given.TablesDeclared.status.TheConstants.Status.{ABORTED}
 use Rattle.papaya_rule.specs.Chart.{Copying, Holds, Claimed, Chart, is_marked, Lost}
 use Rattle.papaya_rule.specs.Moves.{is_of_caller}
 use Rattle.papaya_rule.specs.Lasts.{Lasts}

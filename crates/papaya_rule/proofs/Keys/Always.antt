@@ -1,9 +1,9 @@
 -- What is so of each outcome that a step can come to, whatever it finds.
 use Rattle.std.specs.Prelude.{ℕ, Bool, true, false, Option, if◌then◌else◌}
 use Rattle.std.proofs.Common.{sym, subst}
-use Rattle.seize_rule.specs.Given.SeizeWords.Mem.{Mem, value_at, Took}
-use Rattle.seize_rule.specs.Given.SeizeWords.Op.{Out}
-use Rattle.seize_rule.specs.Given.SeizeWords.Plan.{Plan, Then, Turn, Do, Now, Seeing, Sure, Steps, Ends, then_as, plan_as}
+use Rattle.seize_rule.specs.Given.SeizeWordsMem.{Mem, value_at, Took}
+use Rattle.seize_rule.specs.Given.SeizeWordsOp.{Out}
+use Rattle.seize_rule.specs.Given.SeizeWordsPlan.{Plan, Then, Turn, Do, Now, Seeing, Sure, Steps, Ends, then_as, plan_as}
 
 module _ {T R : Type 0} (P : R → Type 0) where
   -- this is so of each outcome of a rest

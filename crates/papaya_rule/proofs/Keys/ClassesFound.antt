@@ -1,8 +1,8 @@
 -- Whether the map has a pair of the keys that are looked for: it has none where their try is free, and has the one that is found.
 use Rattle.std.proofs.Common.{◌≡◌, ◌≢◌, ℕ, ◌<◌, ◌≤◌, Bool, true, false, ◌⊎◌, inl, inr, refl, ap, sym, ◌∙◌}
 use Rattle.std.proofs.lemmas.Bool.{cases_lt, cases_order}
-use Rattle.papaya_resize.specs.Given.Tables.declared.status.TheConstants.Status.{ABORTED}
-use Rattle.papaya_resize.specs.Given.Tables.declared.finding.Aim.{Aim}
+use Rattle.papaya_resize.specs.Given.TablesDeclared.status.TheConstants.Status.{ABORTED}
+use Rattle.papaya_resize.specs.Given.TablesDeclared.finding.Aim.{Aim}
 use Rattle.papaya_rule.specs.Chart.{Phase, Copied, Place, Empty, Holds, Chart, is_taken, is_settled}
 use Rattle.papaya_rule.specs.Rule.{IsLawful, is_of, tried, Passed, IsHome, Common, Rule}
 use Rattle.papaya_rule.specs.Maps.{spot_at, spot_of, IsClass, NoneBefore, IsAbsent, IsPair}

@@ -1,6 +1,6 @@
 -- What a machine knows of its tries lasts, whatever moves are made.
 use Rattle.std.proofs.Common.{◌≡◌, ℕ, ◌*◌, ◌≤◌, Bool, true, ap, sym, ◌∙◌, arith}
-use Rattle.papaya_resize.specs.Given.Tables.declared.table.Table.{Table}
+use Rattle.papaya_resize.specs.Given.TablesDeclared.table.Table.{Table}
 use Rattle.papaya_rule.specs.Chart.{Chart}
 use Rattle.papaya_rule.specs.Rule.{ShutBefore}
 use Rattle.papaya_rule.specs.Lasts.{Lasts}

@@ -4,13 +4,13 @@ use Rattle.std.proofs.Math.Nat.{mod-lt}
 use Rattle.std.proofs.Math.Pow.{pow_mono}
 use Rattle.std.specs.Prelude.{nat_lt, if◌then◌else◌}
 use Rattle.std.proofs.lemmas.Bool.{cases_lt, ltb-true, ltb-false}
-use Rattle.papaya_resize.specs.Given.Tables.Lengths.{IsTableLen}
-use Rattle.papaya_resize.specs.Given.Tables.Probes.{triangular, probe_from, probe_after, place_at}
-use Rattle.papaya_resize.specs.Given.Tables.Trials.{first_trial, trial_on, next_trial}
-use Rattle.papaya_resize.specs.Given.Tables.declared.probe.Probe.{Probe}
-use Rattle.papaya_resize.specs.Given.Tables.declared.table.Table.{Table}
-use Rattle.papaya_resize.specs.Given.Tables.declared.trial.Trial.{Trial}
-use Rattle.papaya_resize.proofs.Given.Tables.Places.{place-start, place-next}
+use Rattle.papaya_resize.specs.Given.TablesLengths.{IsTableLen}
+use Rattle.papaya_resize.specs.Given.TablesProbes.{triangular, probe_from, probe_after, place_at}
+use Rattle.papaya_resize.specs.Given.TablesTrials.{first_trial, trial_on, next_trial}
+use Rattle.papaya_resize.specs.Given.TablesDeclared.probe.Probe.{Probe}
+use Rattle.papaya_resize.specs.Given.TablesDeclared.table.Table.{Table}
+use Rattle.papaya_resize.specs.Given.TablesDeclared.trial.Trial.{Trial}
+use Rattle.papaya_resize.proofs.Given.TablesPlaces.{place-start, place-next}
 use Rattle.papaya_rule.specs.Chart.{Chart}
 use Rattle.papaya_rule.specs.Words.{Blocks}
 use Rattle.papaya_rule.specs.Maps.{spot_at, IsTable, IsTrial}

@@ -1,6 +1,6 @@
 -- In blocking mode, a table in which a pair found no place is given up.
 use Rattle.std.proofs.Common.{◌≡◌, ℕ, ◌<◌, Bool, true, false, eqb, refl, arith}
-use Rattle.papaya_resize.specs.Given.Tables.declared.status.TheConstants.Status.{ABORTED}
+use Rattle.papaya_resize.specs.Given.TablesDeclared.status.TheConstants.Status.{ABORTED}
 use Rattle.papaya_rule.specs.Chart.{Lost, Chart, put}
 use Rattle.papaya_rule.specs.Rule.{IsLawful, Common, Rule}
 use Rattle.papaya_rule.specs.Moves.{Aborts, after, Allowed}

@@ -1,6 +1,6 @@
 -- The status of a table says that it is the root, or was.
 use Rattle.std.proofs.Common.{ℕ, Bool, true, false, refl, arith}
-use Rattle.papaya_resize.specs.Given.Tables.declared.status.TheConstants.Status.{PROMOTED}
+use Rattle.papaya_resize.specs.Given.TablesDeclared.status.TheConstants.Status.{PROMOTED}
 use Rattle.papaya_rule.specs.Chart.{Chart, put}
 use Rattle.papaya_rule.specs.Rule.{IsLawful, Common, Rule}
 use Rattle.papaya_rule.specs.Moves.{Announces, after, Allowed}

@@ -1,7 +1,7 @@
 -- In blocking mode, a caller claims so many places of the root, to copy them.
 use Rattle.std.proofs.Common.{◌≡◌, ◌≢◌, ℕ, ◌+◌, ◌<◌, Bool, true, false, cond, eqb, leb, ltb, ◌&&◌, refl, arith, ap, sym, ◌∙◌, subst}
 use Rattle.std.proofs.lemmas.Bool.Decides.{nat_tests}
-use Rattle.papaya_resize.specs.Given.Tables.declared.status.TheConstants.Status.{ABORTED}
+use Rattle.papaya_resize.specs.Given.TablesDeclared.status.TheConstants.Status.{ABORTED}
 use Rattle.papaya_rule.specs.Chart.{Phase, Copying, Holds, Share, Free, Claimed, Lost, Chart, put, is_counted}
 use Rattle.papaya_rule.specs.Rule.{is_past, is_over, is_free, Common, Blocking, Rule, IsLawful}
 use Rattle.papaya_rule.specs.Moves.{Claims, claimed, is_of_caller, after, Allowed}

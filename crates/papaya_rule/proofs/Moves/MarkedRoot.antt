@@ -1,6 +1,6 @@
 -- A place of the root is marked, and shares change, where pairs move in blocking mode: the rule stays.
 use Rattle.std.proofs.Common.{◌≡◌, ◌≢◌, ℕ, suc, ◌<◌, ◌≤◌, Bool, true, false, ◌⊎◌, inl, inr, refl, arith, ap, sym, ◌∙◌, subst}
-use Rattle.papaya_resize.specs.Given.Tables.declared.status.TheConstants.Status.{ABORTED}
+use Rattle.papaya_resize.specs.Given.TablesDeclared.status.TheConstants.Status.{ABORTED}
 use Rattle.papaya_rule.specs.Chart.{Phase, Still, Copying, Copied, Holds, Share, Free, Lost, Chart, is_marked, is_counted}
 use Rattle.papaya_rule.specs.Rule.{is_past, is_over, is_free, OnPath, Common, Blocking, Rule}
 use Rattle.papaya_rule.specs.Lasts.{Lasts}

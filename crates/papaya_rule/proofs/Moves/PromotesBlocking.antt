@@ -1,7 +1,7 @@
 -- In blocking mode, the last table becomes the root once each place of the root is copied into it and counted.
 use Rattle.std.proofs.Common.{◌≡◌, ◌≢◌, ℕ, suc, ◌<◌, ◌≤◌, Bool, true, false, inl, inr, refl, arith, subst, sym, ap}
 use Rattle.std.proofs.lemmas.Bool.{cases_lt}
-use Rattle.papaya_resize.specs.Given.Tables.declared.status.TheConstants.Status.{ABORTED}
+use Rattle.papaya_resize.specs.Given.TablesDeclared.status.TheConstants.Status.{ABORTED}
 use Rattle.papaya_rule.specs.Chart.{Phase, Still, Copying, Copied, Holds, Chart, is_marked}
 use Rattle.papaya_rule.specs.Rule.{Common, Blocking, Rule, IsLawful, is_past}
 use Rattle.papaya_rule.specs.Moves.{Promotes, after, Allowed}

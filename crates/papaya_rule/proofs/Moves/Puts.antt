@@ -1,6 +1,6 @@
 -- The pair of a place of the root is put into an empty place of a later table: what this keeps in both modes.
 use Rattle.std.proofs.Common.{◌≡◌, ◌≢◌, ℕ, ◌<◌, ◌≤◌, Bool, true, false, Some, refl, subst, arith, ap}
-use Rattle.papaya_resize.specs.Given.Tables.declared.status.TheConstants.Status.{ABORTED}
+use Rattle.papaya_resize.specs.Given.TablesDeclared.status.TheConstants.Status.{ABORTED}
 use Rattle.papaya_rule.specs.Chart.{Phase, Still, Copied, Place, Empty, Holds, Share, Chart, put_in, is_counted, is_taken}
 use Rattle.papaya_rule.specs.Rule.{Common, OnPath, IsHome, Shut, is_of, total}
 use Rattle.papaya_rule.specs.Lasts.{Lasts}

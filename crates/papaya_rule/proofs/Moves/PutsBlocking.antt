@@ -1,6 +1,6 @@
 -- In blocking mode, a caller puts the pair of a place that it has claimed into the table that it copies into.
 use Rattle.std.proofs.Common.{◌≡◌, ◌≢◌, ℕ, ◌<◌, Bool, true, false, refl, ap, sym, arith}
-use Rattle.papaya_resize.specs.Given.Tables.declared.status.TheConstants.Status.{ABORTED}
+use Rattle.papaya_resize.specs.Given.TablesDeclared.status.TheConstants.Status.{ABORTED}
 use Rattle.papaya_rule.specs.Chart.{Phase, Still, Copying, Place, Tombstone, Holds, Done, Chart, put_in, is_marked, is_counted}
 use Rattle.papaya_rule.specs.Rule.{Rule, IsLawful, is_over, is_past}
 use Rattle.papaya_rule.specs.Moves.{Puts, Allowed, lent_place}

@@ -1,7 +1,7 @@
 -- Classes of keys and the places of one, and what it means that a table is shut for one.
 use Rattle.std.proofs.Common.{◌≡◌, ◌≢◌, ℕ, zero, suc, ◌<◌, ◌≤◌, Bool, true, false, Option, Some, None, ◌⊎◌, inl, inr, refl, ap, sym, ◌∙◌, arith}
 use Rattle.std.proofs.lemmas.Bool.{cases_lt, cases_order}
-use Rattle.papaya_resize.specs.Given.Tables.declared.status.TheConstants.Status.{ABORTED}
+use Rattle.papaya_resize.specs.Given.TablesDeclared.status.TheConstants.Status.{ABORTED}
 use Rattle.papaya_rule.specs.Chart.{Phase, Copied, Place, Empty, Tombstone, Holds, Chart, is_settled, is_taken}
 use Rattle.papaya_rule.specs.Rule.{IsLawful, is_of, tried, Passed, OnPath, WasCopied, Full, Shut, Common, Rule}
 

@@ -1,7 +1,7 @@
 -- Where a pair that is not marked may be taken out, it stands nowhere else, but copied in older tables.
 use Rattle.std.proofs.Common.{◌≡◌, ◌≢◌, ℕ, ◌<◌, ◌≤◌, Bool, true, false, ◌⊎◌, inl, inr, ap, sym, ◌∙◌, arith}
 use Rattle.std.proofs.lemmas.Bool.{cases_order}
-use Rattle.papaya_resize.specs.Given.Tables.declared.status.TheConstants.Status.{ABORTED}
+use Rattle.papaya_resize.specs.Given.TablesDeclared.status.TheConstants.Status.{ABORTED}
 use Rattle.papaya_rule.specs.Chart.{Phase, Still, Copying, Copied, Holds, Chart}
 use Rattle.papaya_rule.specs.Rule.{IsLawful, is_of, Shut, IsMoving, Common, Incremental, Blocking}
 use Rattle.papaya_rule.proofs.Stores.Exchanges.{StoodStill, stands_within}

@@ -1,6 +1,6 @@
 -- What the rules of history and of what is left to others refuse, in tables of one place and one pair.
 use Rattle.std.proofs.Common.{◌≡◌, ℕ, true, false, refl, ap, inl, inr, eqb, arith}
-use Rattle.papaya_resize.specs.Given.Tables.declared.status.TheConstants.Status.{ABORTED, PROMOTED}
+use Rattle.papaya_resize.specs.Given.TablesDeclared.status.TheConstants.Status.{ABORTED, PROMOTED}
 use Rattle.papaya_rule.specs.Chart.{Chart, put, put_in, Empty}
 use Rattle.papaya_rule.specs.Moves.{Removes, Promotes, Announces, after}
 use Rattle.papaya_rule.specs.Moments.{Moments}

@@ -1,7 +1,7 @@
 -- What a copier knows of its shares and its tables, after the places, shares and words beside them have become others.
 use Rattle.std.proofs.Common.{◌≡◌, ◌≢◌, ℕ, ◌+◌, ◌<◌, Bool, true, refl, sym, subst, arith, inl, inr}
 use Rattle.std.proofs.lemmas.Bool.{cases_eq, eq-eqb, ne_eqb}
-use Rattle.papaya_resize.specs.Given.Tables.declared.table.Table.{Table}
+use Rattle.papaya_resize.specs.Given.TablesDeclared.table.Table.{Table}
 use Rattle.papaya_rule.specs.Chart.{Place, Share, Claimed, Done, Chart, put_in, is_settled}
 use Rattle.papaya_rule.specs.Rule.{total}
 use Rattle.papaya_rule.specs.Moves.{is_done_by, NamedInRootAlone}

@@ -1,14 +1,14 @@
 -- A place of the root is written, and keeps its pair: what the memory shows then, and who has the blocks.
 use Rattle.std.proofs.Common.{◌≡◌, ℕ, ◌+◌, ◌<◌, Bool, true, refl, sym, subst, arith}
-use Rattle.seize_rule.specs.Given.SeizeWords.declared.at.At.{At}
-use Rattle.seize_rule.specs.Given.SeizeWords.declared.at.At.TheVariants.{Word}
-use Rattle.seize_rule.specs.Given.SeizeWords.Mem.{with_word}
-use Rattle.seize_rule.specs.Given.Seize.World.{World}
-use Rattle.papaya_resize.specs.Given.Tables.TablePlaces.{at_place}
-use Rattle.papaya_resize.specs.Given.Tables.declared.node.Node.{Node}
-use Rattle.papaya_resize.specs.Given.Tables.declared.setting.Setting.{Setting}
-use Rattle.papaya_resize.specs.Given.Tables.declared.table.Table.{Table}
-use Rattle.papaya_resize.specs.Given.Tables.declared.table_words.TheConstants.{PLACES}
+use Rattle.seize_rule.specs.Given.SeizeWordsDeclared.at.At.{At}
+use Rattle.seize_rule.specs.Given.SeizeWordsDeclared.at.At.TheVariants.{Word}
+use Rattle.seize_rule.specs.Given.SeizeWordsMem.{with_word}
+use Rattle.seize_rule.specs.Given.SeizeWorld.{World}
+use Rattle.papaya_resize.specs.Given.TablesTablePlaces.{at_place}
+use Rattle.papaya_resize.specs.Given.TablesDeclared.node.Node.{Node}
+use Rattle.papaya_resize.specs.Given.TablesDeclared.setting.Setting.{Setting}
+use Rattle.papaya_resize.specs.Given.TablesDeclared.table.Table.{Table}
+use Rattle.papaya_resize.specs.Given.TablesDeclared.table_words.TheConstants.{PLACES}
 use Rattle.papaya_rule.specs.Chart.{Phase, Place, Holds, Share, Chart, put_in}
 use Rattle.papaya_rule.specs.Words.{Blocks, Shows, place_word}
 use Rattle.papaya_rule.specs.Maps.{IsTable}

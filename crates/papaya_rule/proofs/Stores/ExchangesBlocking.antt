@@ -1,6 +1,6 @@
 -- Where pairs move in blocking mode, the rule holds after a pair was exchanged.
 use Rattle.std.proofs.Common.{◌≡◌, ◌≢◌, ℕ, suc, ◌<◌, Bool, true, false, Option, ◌⊎◌, inl, inr, refl, ap, sym, ◌∙◌, arith}
-use Rattle.papaya_resize.specs.Given.Tables.declared.status.TheConstants.Status.{ABORTED}
+use Rattle.papaya_resize.specs.Given.TablesDeclared.status.TheConstants.Status.{ABORTED}
 use Rattle.papaya_rule.specs.Chart.{Phase, Still, Copying, Copied, Place, Holds, Chart, is_marked}
 use Rattle.papaya_rule.specs.Rule.{IsLawful, is_past, is_over, Common, Blocking, Rule}
 use Rattle.papaya_rule.specs.Lasts.{Lasts}

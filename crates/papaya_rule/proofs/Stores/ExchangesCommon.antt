@@ -1,7 +1,7 @@
 -- What holds of the tables in both modes holds after a pair was exchanged.
 use Rattle.std.proofs.Common.{◌≡◌, ◌≢◌, ℕ, ◌<◌, ◌≤◌, Bool, true, false, Option, Some, ◌⊎◌, inl, inr, ap, sym, ◌∙◌, subst, arith}
 use Rattle.std.proofs.lemmas.Bool.{cases_lt}
-use Rattle.papaya_resize.specs.Given.Tables.declared.status.TheConstants.Status.{ABORTED}
+use Rattle.papaya_resize.specs.Given.TablesDeclared.status.TheConstants.Status.{ABORTED}
 use Rattle.papaya_rule.specs.Chart.{Phase, Still, Copied, Place, Holds, Chart, is_marked, is_taken}
 use Rattle.papaya_rule.specs.Rule.{IsLawful, is_of, OnPath, IsHome, Common}
 use Rattle.papaya_rule.proofs.Stores.Exchanges.{StoodStill, Exchanges, exchanged, stands_within, owner, of_new}

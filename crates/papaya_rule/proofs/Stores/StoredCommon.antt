@@ -1,6 +1,6 @@
 -- After a pair of a class was stored at a try behind those that are passed: the rule of both modes.
 use Rattle.std.proofs.Common.{◌≡◌, ◌≢◌, ℕ, ◌<◌, ◌≤◌, Bool, true, false, Some, ◌⊎◌, inl, inr, ap, sym, ◌∙◌, subst}
-use Rattle.papaya_resize.specs.Given.Tables.declared.status.TheConstants.Status.{ABORTED}
+use Rattle.papaya_resize.specs.Given.TablesDeclared.status.TheConstants.Status.{ABORTED}
 use Rattle.papaya_rule.specs.Chart.{Phase, Empty, Holds, Chart}
 use Rattle.papaya_rule.specs.Rule.{IsLawful, is_of, Passed, OnPath, IsHome, Common}
 use Rattle.papaya_rule.proofs.Moves.Shuts.{of_class, key_class, none_at_open}

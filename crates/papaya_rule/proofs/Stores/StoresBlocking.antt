@@ -1,6 +1,6 @@
 -- A pair of a class is stored, where pairs move in blocking mode.
 use Rattle.std.proofs.Common.{◌≡◌, ◌≢◌, ℕ, suc, ◌<◌, ◌≤◌, Bool, true, false, ◌⊎◌, inl, inr, refl, ap, sym, ◌∙◌, arith}
-use Rattle.papaya_resize.specs.Given.Tables.declared.status.TheConstants.Status.{ABORTED}
+use Rattle.papaya_resize.specs.Given.TablesDeclared.status.TheConstants.Status.{ABORTED}
 use Rattle.papaya_rule.specs.Chart.{Phase, Still, Copying, Copied, Empty, Holds, Chart, is_marked}
 use Rattle.papaya_rule.specs.Rule.{IsLawful, is_past, is_over, Passed, Blocking, Rule}
 use Rattle.papaya_rule.specs.Moves.{Stores, Allowed}

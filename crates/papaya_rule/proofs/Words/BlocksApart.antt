@@ -1,7 +1,7 @@
 -- Blocks with different values are different, and a block with a value has no free number.
 use Rattle.std.specs.Prelude.{◌≡◌, ◌≢◌, ℕ, Some}
 use Rattle.std.proofs.Common.{ap, subst}
-use Rattle.seize_rule.specs.Given.SeizeWords.Mem.{Mem, value_in, value_at, IsFreeNumber}
+use Rattle.seize_rule.specs.Given.SeizeWordsMem.{Mem, value_in, value_at, IsFreeNumber}
 
 module _ {T : Type 0} (m : Mem T) where
   pub values_apart : (a b : ℕ) (x y : T) → value_at m a ≡ Some x → value_at m b ≡ Some y → x ≢ y → a ≢ b

@@ -2,9 +2,9 @@
 use Rattle.std.specs.Prelude.{◌≡◌, ℕ, Bool, true, cond, Some}
 use Rattle.std.proofs.Common.{refl, ap, sym, subst, ◌∙◌, arith}
 use Rattle.std.proofs.lemmas.Bool.{eq-eqb}
-use Rattle.seize_rule.specs.Given.SeizeWords.Mem.{Mem, value_at, IsFreeNumber}
-use Rattle.seize_rule.specs.Given.Seize.World.{World, Hand, Making, with_at}
-use Rattle.papaya_resize.specs.Given.Tables.declared.node.Node.{Node}
+use Rattle.seize_rule.specs.Given.SeizeWordsMem.{Mem, value_at, IsFreeNumber}
+use Rattle.seize_rule.specs.Given.SeizeWorld.{World, Hand, Making, with_at}
+use Rattle.papaya_resize.specs.Given.TablesDeclared.node.Node.{Node}
 use Rattle.papaya_rule.specs.Chart.{Chart, put}
 use Rattle.papaya_rule.specs.Rule.{Common}
 use Rattle.papaya_rule.specs.Moves.{Move, Links, Stores, Replaces, Removes, Marks, MarksBlocking, Skips, Unmarks, Puts, Covers, PutsLate, Claims, Reclaims, Counts, GivesUp, Aborts, Promotes, Announces, without, after}

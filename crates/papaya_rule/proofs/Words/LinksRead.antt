@@ -2,12 +2,12 @@
 use Rattle.std.specs.Prelude.{◌≡◌, ℕ, ◌/◌, ◌≤◌, ◌==◌, true, false, Some, IsSome, if◌then◌else◌}
 use Rattle.std.proofs.Common.{sym, subst, ◌∙◌, inl, inr, eqb-true}
 use Rattle.std.proofs.lemmas.Bool.{eqb-false}
-use Rattle.seize_rule.specs.Given.SeizeWords.Mem.{Mem, value_at}
-use Rattle.seize_rule.specs.Given.SeizeWords.Plan.{Now, Seeing, MaySee, Ends}
-use Rattle.seize_rule.proofs.Given.SeizeWords.Plans.{see_if, ends_if}
-use Rattle.papaya_resize.specs.Given.Tables.Nodes.{table_seen}
-use Rattle.papaya_resize.specs.Given.Tables.declared.node.Node.{Node}
-use Rattle.papaya_resize.specs.Given.Tables.declared.table.Table.{Table}
+use Rattle.seize_rule.specs.Given.SeizeWordsMem.{Mem, value_at}
+use Rattle.seize_rule.specs.Given.SeizeWordsPlan.{Now, Seeing, MaySee, Ends}
+use Rattle.seize_rule.proofs.Given.SeizeWordsPlans.{see_if, ends_if}
+use Rattle.papaya_resize.specs.Given.TablesNodes.{table_seen}
+use Rattle.papaya_resize.specs.Given.TablesDeclared.node.Node.{Node}
+use Rattle.papaya_resize.specs.Given.TablesDeclared.table.Table.{Table}
 use Rattle.papaya_rule.specs.Chart.{Chart}
 use Rattle.papaya_rule.specs.Words.{Blocks, Shows}
 use Rattle.papaya_rule.specs.Maps.{IsTable}

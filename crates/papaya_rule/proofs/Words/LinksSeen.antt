@@ -1,13 +1,13 @@
 -- Where the links of a map lead: the root's to the first table, and each table's to the one behind.
 use Rattle.std.proofs.Common.{◌≡◌, ℕ, zero, suc, ◌*◌, ◌<◌, ◌≤◌, Bool, true, cond, Some, ◌⊎◌, inl, inr, refl, ap, sym, ◌∙◌, arith, ◌≢◌}
 use Rattle.std.proofs.lemmas.Bool.{cases_lt, cases_order, lt-ltb, le-ltb, eq-eqb, ne_eqb}
-use Rattle.seize_rule.specs.Given.SeizeWords.declared.at.At.TheVariants.{Root}
-use Rattle.seize_rule.specs.Given.SeizeWords.Mem.{Mem, word_at}
-use Rattle.papaya_resize.specs.Given.Tables.TablePlaces.{at_word}
-use Rattle.papaya_resize.specs.Given.Tables.declared.node.Node.{Node}
-use Rattle.papaya_resize.specs.Given.Tables.declared.resize_mode.ResizeMode.{ResizeMode}
-use Rattle.papaya_resize.specs.Given.Tables.declared.table.Table.{Table}
-use Rattle.papaya_resize.specs.Given.Tables.declared.table_words.TheConstants.{NEXT}
+use Rattle.seize_rule.specs.Given.SeizeWordsDeclared.at.At.TheVariants.{Root}
+use Rattle.seize_rule.specs.Given.SeizeWordsMem.{Mem, word_at}
+use Rattle.papaya_resize.specs.Given.TablesTablePlaces.{at_word}
+use Rattle.papaya_resize.specs.Given.TablesDeclared.node.Node.{Node}
+use Rattle.papaya_resize.specs.Given.TablesDeclared.resize_mode.ResizeMode.{ResizeMode}
+use Rattle.papaya_resize.specs.Given.TablesDeclared.table.Table.{Table}
+use Rattle.papaya_resize.specs.Given.TablesDeclared.table_words.TheConstants.{NEXT}
 use Rattle.papaya_rule.specs.Chart.{Chart}
 use Rattle.papaya_rule.specs.Words.{Blocks, next_word, root_word}
 use Rattle.papaya_rule.specs.Links.{IsLinkTo, LeadsTo}

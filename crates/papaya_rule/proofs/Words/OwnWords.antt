@@ -1,13 +1,13 @@
 -- The words of a map's tables are its own, but for the heads of their lists: they may be written.
 use Rattle.std.proofs.Common.{refl, inl, ◌≡◌, true, ◌≢◌, sym, subst, arith}
 use Rattle.std.specs.Prelude.{ℕ, ◌+◌, ◌<◌, Bool}
-use Rattle.seize_rule.specs.Given.SeizeWords.declared.at.At.TheVariants.{Word}
-use Rattle.seize_rule.specs.Given.Seize.World.{World}
-use Rattle.papaya_resize.specs.Given.Tables.TablePlaces.{at_word, at_place}
-use Rattle.papaya_resize.specs.Given.Tables.declared.node.Node.{Node}
-use Rattle.papaya_resize.specs.Given.Tables.declared.setting.Setting.{Setting}
-use Rattle.papaya_resize.specs.Given.Tables.declared.table.Table.{Table}
-use Rattle.papaya_resize.specs.Given.Tables.declared.table_words.TheConstants.{DEFERRED, PLACES}
+use Rattle.seize_rule.specs.Given.SeizeWordsDeclared.at.At.TheVariants.{Word}
+use Rattle.seize_rule.specs.Given.SeizeWorld.{World}
+use Rattle.papaya_resize.specs.Given.TablesTablePlaces.{at_word, at_place}
+use Rattle.papaya_resize.specs.Given.TablesDeclared.node.Node.{Node}
+use Rattle.papaya_resize.specs.Given.TablesDeclared.setting.Setting.{Setting}
+use Rattle.papaya_resize.specs.Given.TablesDeclared.table.Table.{Table}
+use Rattle.papaya_resize.specs.Given.TablesDeclared.table_words.TheConstants.{DEFERRED, PLACES}
 use Rattle.papaya_rule.specs.Chart.{Chart}
 use Rattle.papaya_rule.specs.InWorld.{IsMapIn}
 use Rattle.papaya_rule.specs.Maps.{IsTable}

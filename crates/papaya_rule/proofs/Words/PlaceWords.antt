@@ -1,8 +1,8 @@
 -- The parts of a place's word: its block, its byte, its marks and its link.
 use Rattle.std.specs.Prelude.{◌≡◌, ℕ, ◌*◌, ◌<◌, Bool, true, false}
 use Rattle.std.proofs.Common.{refl, arith}
-use Rattle.seize_rule.specs.Given.SeizeWords.Word.{block_in, byte_in, marks_in, link_word}
-use Rattle.papaya_resize.specs.Given.Tables.Marks.{link_in}
+use Rattle.seize_rule.specs.Given.SeizeWordsWord.{block_in, byte_in, marks_in, link_word}
+use Rattle.papaya_resize.specs.Given.TablesMarks.{link_in}
 use Rattle.papaya_rule.specs.Chart.{Phase, Still, Copying, Copied, Place, Empty, Tombstone, Holds}
 use Rattle.papaya_rule.specs.Words.{mark_bits, word_of}
 

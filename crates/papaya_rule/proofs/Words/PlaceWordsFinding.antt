@@ -2,15 +2,15 @@
 use Rattle.std.specs.Prelude.{◌≡◌, ℕ, ◌/◌, ◌^◌, ◌<◌, ◌==◌, ◌&&◌, Bool, true, false, not, if◌then◌else◌}
 use Rattle.std.proofs.Common.{refl, arith, ap, ◌∙◌}
 use Rattle.std.proofs.lemmas.Bool.{ne_eqb}
-use Rattle.seize_rule.specs.Given.SeizeWords.Word.{block_in, byte_in}
-use Rattle.papaya_resize.specs.Given.Tables.Chunks.{is_incremental}
-use Rattle.papaya_resize.specs.Given.Tables.Marks.{has_mark}
-use Rattle.papaya_resize.specs.Given.Tables.Finding.{finding, vacant, named, marked, may_name}
-use Rattle.papaya_resize.specs.Given.Tables.declared.marks.TheConstants.{COPYING}
-use Rattle.papaya_resize.specs.Given.Tables.declared.resize_mode.ResizeMode.{ResizeMode}
-use Rattle.papaya_resize.specs.Given.Tables.declared.finding.Aim.{Aim}
-use Rattle.papaya_resize.specs.Given.Tables.declared.finding.Finding.{Finding}
-use Rattle.papaya_resize.specs.Given.Tables.declared.finding.Finding.TheVariants as is
+use Rattle.seize_rule.specs.Given.SeizeWordsWord.{block_in, byte_in}
+use Rattle.papaya_resize.specs.Given.TablesChunks.{is_incremental}
+use Rattle.papaya_resize.specs.Given.TablesMarks.{has_mark}
+use Rattle.papaya_resize.specs.Given.TablesFinding.{finding, vacant, named, marked, may_name}
+use Rattle.papaya_resize.specs.Given.TablesDeclared.marks.TheConstants.{COPYING}
+use Rattle.papaya_resize.specs.Given.TablesDeclared.resize_mode.ResizeMode.{ResizeMode}
+use Rattle.papaya_resize.specs.Given.TablesDeclared.finding.Aim.{Aim}
+use Rattle.papaya_resize.specs.Given.TablesDeclared.finding.Finding.{Finding}
+use Rattle.papaya_resize.specs.Given.TablesDeclared.finding.Finding.TheVariants as is
 use Rattle.papaya_rule.specs.Chart.{Phase, Still, Copying, Copied, Empty, Tombstone, Holds, is_marked, is_settled}
 use Rattle.papaya_rule.specs.Words.{word_of}
 use Rattle.papaya_rule.proofs.Words.PlaceWords.{pair_block, pair_byte}

@@ -2,9 +2,9 @@
 use Rattle.std.specs.Prelude.{◌≡◌, ℕ, ◌*◌, ◌/◌, ◌%◌, ◌<◌, ◌==◌, Bool, true, false, not, bit_and}
 use Rattle.std.proofs.Common.{refl, arith, ap, ◌∙◌}
 use Rattle.std.proofs.lemmas.Nat.Bits.{and_pow}
-use Rattle.seize_rule.specs.Given.SeizeWords.Word.{link_word}
-use Rattle.papaya_resize.specs.Given.Tables.Marks.{has_mark}
-use Rattle.papaya_resize.specs.Given.Tables.declared.marks.TheConstants.{COPYING, COPIED, BORROWED}
+use Rattle.seize_rule.specs.Given.SeizeWordsWord.{link_word}
+use Rattle.papaya_resize.specs.Given.TablesMarks.{has_mark}
+use Rattle.papaya_resize.specs.Given.TablesDeclared.marks.TheConstants.{COPYING, COPIED, BORROWED}
 use Rattle.papaya_rule.specs.Chart.{Phase, Still, Copying, Copied, Place, Empty, Tombstone, Holds, is_marked, is_settled}
 use Rattle.papaya_rule.specs.Words.{word_of}
 

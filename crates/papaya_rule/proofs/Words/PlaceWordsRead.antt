@@ -1,7 +1,7 @@
 -- What stands in a place, from its word.
 use Rattle.std.specs.Prelude.{◌≡◌, ℕ, ◌/◌, ◌%◌, ◌<◌, ◌≤◌, ◌==◌, if◌then◌else◌, Bool, true, false}
 use Rattle.std.proofs.Common.{refl, arith, ap, ◌∙◌, sym}
-use Rattle.papaya_resize.specs.Given.Tables.declared.marks.TheConstants.{COPYING, TOMBSTONE}
+use Rattle.papaya_resize.specs.Given.TablesDeclared.marks.TheConstants.{COPYING, TOMBSTONE}
 use Rattle.papaya_rule.specs.Chart.{Phase, Still, Copying, Copied, Place, Empty, Tombstone, Holds}
 use Rattle.papaya_rule.specs.Words.{mark_bits, word_of}
 use Rattle.papaya_rule.proofs.Words.PlaceWords.{HasBlock, HasByte, IsApart, pair_block, pair_marks}

@@ -2,10 +2,10 @@
 use Rattle.std.specs.Prelude.{◌≡◌, ℕ, ◌+◌, ◌-◌, ◌*◌, ◌/◌, ◌%◌, ◌<◌, Bool, true, false, bit_or}
 use Rattle.std.proofs.Common.{refl, arith, ap, ◌∙◌}
 use Rattle.std.specs.Int.Bits.{or_add_and}
-use Rattle.seize_rule.specs.Given.SeizeWords.Word.{link_word}
-use Rattle.papaya_resize.specs.Given.Tables.Marks.{unmarked_in}
+use Rattle.seize_rule.specs.Given.SeizeWordsWord.{link_word}
+use Rattle.papaya_resize.specs.Given.TablesMarks.{unmarked_in}
 use Rattle.papaya_resize.specs.CopierMarks.{without_copying}
-use Rattle.papaya_resize.specs.Given.Tables.declared.marks.TheConstants.{COPYING, COPIED, BORROWED}
+use Rattle.papaya_resize.specs.Given.TablesDeclared.marks.TheConstants.{COPYING, COPIED, BORROWED}
 use Rattle.papaya_rule.specs.Chart.{Phase, Still, Copying, Copied, Place, Empty, Tombstone, Holds}
 use Rattle.papaya_rule.specs.Moves.{marked}
 use Rattle.papaya_rule.specs.Words.{mark_bits, word_of}

@@ -2,11 +2,11 @@
 use Rattle.std.specs.Prelude.{◌==◌, ◌/◌, ◌^◌, IsSome}
 use Rattle.std.proofs.Common.{◌≡◌, ℕ, ◌<◌, Bool, true, false, Some, refl, ap, sym, ◌∙◌}
 use Rattle.std.proofs.lemmas.Bool.{eq-eqb}
-use Rattle.seize_rule.specs.Given.SeizeWords.Mem.{Mem, value_at}
-use Rattle.papaya_resize.specs.Given.Tables.Finding.{may_name}
+use Rattle.seize_rule.specs.Given.SeizeWordsMem.{Mem, value_at}
+use Rattle.papaya_resize.specs.Given.TablesFinding.{may_name}
 use Rattle.papaya_resize.specs.Lookup.{names_pair}
-use Rattle.papaya_resize.specs.Given.Tables.declared.node.Node.{Node}
-use Rattle.papaya_resize.specs.Given.Tables.declared.node.Node.TheVariants as node
+use Rattle.papaya_resize.specs.Given.TablesDeclared.node.Node.{Node}
+use Rattle.papaya_resize.specs.Given.TablesDeclared.node.Node.TheVariants as node
 use Rattle.papaya_rule.specs.Chart.{Phase, Place, Empty, Tombstone, Holds, Chart}
 use Rattle.papaya_rule.specs.Words.{Blocks, byte_of, place_word, Shows}
 use Rattle.papaya_rule.specs.Maps.{IsClass}

@@ -1,8 +1,8 @@
 -- What a memory that shows a map says of the words of its places.
 use Rattle.std.specs.Prelude.{◌≡◌, ℕ, ◌^◌, ◌<◌, Bool, true, Option, Some, None}
 use Rattle.std.proofs.Common.{arith}
-use Rattle.seize_rule.specs.Given.SeizeWords.Mem.{Mem}
-use Rattle.papaya_resize.specs.Given.Tables.declared.node.Node.{Node}
+use Rattle.seize_rule.specs.Given.SeizeWordsMem.{Mem}
+use Rattle.papaya_resize.specs.Given.TablesDeclared.node.Node.{Node}
 use Rattle.papaya_rule.specs.Chart.{Phase, Place, Holds, Chart}
 use Rattle.papaya_rule.specs.Words.{Blocks, byte_of, Shows}
 use Rattle.papaya_rule.specs.Rule.{Common}

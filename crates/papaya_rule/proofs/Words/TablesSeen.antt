@@ -1,15 +1,15 @@
 -- What a machine reads of a table that can be looked at: its value, its words, and the links that lead to it and behind it.
 use Rattle.std.specs.Prelude.{Some, IsSome}
 use Rattle.std.proofs.Common.{◌≡◌, ℕ, ◌+◌, ◌*◌, ◌/◌, ◌<◌, true, ap, ◌∙◌, arith, ◌≢◌}
-use Rattle.seize_rule.specs.Given.SeizeWords.declared.at.At.{At}
-use Rattle.seize_rule.specs.Given.SeizeWords.declared.at.At.TheVariants.{Word}
-use Rattle.seize_rule.specs.Given.SeizeWords.Mem.{Mem, value_at, word_at}
-use Rattle.papaya_resize.specs.Given.Tables.Nodes.{table_seen}
-use Rattle.papaya_resize.specs.Given.Tables.TablePlaces.{at_word, at_place}
-use Rattle.papaya_resize.specs.Given.Tables.declared.node.Node.{Node}
-use Rattle.papaya_resize.specs.Given.Tables.declared.node.Node.TheVariants as node
-use Rattle.papaya_resize.specs.Given.Tables.declared.table.Table.{Table}
-use Rattle.papaya_resize.specs.Given.Tables.declared.table_words.TheConstants.{NEXT, CLAIM, COPIED, STATUS, PLACES}
+use Rattle.seize_rule.specs.Given.SeizeWordsDeclared.at.At.{At}
+use Rattle.seize_rule.specs.Given.SeizeWordsDeclared.at.At.TheVariants.{Word}
+use Rattle.seize_rule.specs.Given.SeizeWordsMem.{Mem, value_at, word_at}
+use Rattle.papaya_resize.specs.Given.TablesNodes.{table_seen}
+use Rattle.papaya_resize.specs.Given.TablesTablePlaces.{at_word, at_place}
+use Rattle.papaya_resize.specs.Given.TablesDeclared.node.Node.{Node}
+use Rattle.papaya_resize.specs.Given.TablesDeclared.node.Node.TheVariants as node
+use Rattle.papaya_resize.specs.Given.TablesDeclared.table.Table.{Table}
+use Rattle.papaya_resize.specs.Given.TablesDeclared.table_words.TheConstants.{NEXT, CLAIM, COPIED, STATUS, PLACES}
 use Rattle.papaya_rule.specs.Chart.{Chart}
 use Rattle.papaya_rule.specs.Words.{Blocks, next_word, place_word, ShowsTable, Shows}
 use Rattle.papaya_rule.specs.Maps.{IsTable}

@@ -1,14 +1,14 @@
 -- What is found at a place, by its word, says what stands in it.
 use Rattle.std.proofs.Common.{◌≡◌, ◌≢◌, ℕ, Bool, true, false, Option, Some, ◌⊎◌, inl, inr, refl, sym, subst, ◌<◌}
-use Rattle.papaya_resize.specs.Given.Tables.Chunks.{is_incremental}
+use Rattle.papaya_resize.specs.Given.TablesChunks.{is_incremental}
 use Rattle.std.specs.Prelude.{if◌then◌else◌}
-use Rattle.papaya_resize.specs.Given.Tables.Finding.{finding, marked}
-use Rattle.papaya_resize.specs.Given.Tables.declared.resize_mode.ResizeMode.{ResizeMode}
-use Rattle.papaya_resize.specs.Given.Tables.declared.resize_mode.ResizeMode.TheVariants.{Incremental, Blocking}
-use Rattle.papaya_resize.specs.Given.Tables.declared.finding.Aim.{Aim}
-use Rattle.papaya_resize.specs.Given.Tables.declared.finding.Aim.TheVariants.{Looks, Changes, Stores}
-use Rattle.papaya_resize.specs.Given.Tables.declared.finding.Finding.{Finding}
-use Rattle.papaya_resize.specs.Given.Tables.declared.finding.Finding.TheVariants as is
+use Rattle.papaya_resize.specs.Given.TablesFinding.{finding, marked}
+use Rattle.papaya_resize.specs.Given.TablesDeclared.resize_mode.ResizeMode.{ResizeMode}
+use Rattle.papaya_resize.specs.Given.TablesDeclared.resize_mode.ResizeMode.TheVariants.{Incremental, Blocking}
+use Rattle.papaya_resize.specs.Given.TablesDeclared.finding.Aim.{Aim}
+use Rattle.papaya_resize.specs.Given.TablesDeclared.finding.Aim.TheVariants.{Looks, Changes, Stores}
+use Rattle.papaya_resize.specs.Given.TablesDeclared.finding.Finding.{Finding}
+use Rattle.papaya_resize.specs.Given.TablesDeclared.finding.Finding.TheVariants as is
 use Rattle.papaya_rule.specs.Chart.{Phase, Still, Copying, Copied, Place, Empty, Tombstone, Holds, is_marked, is_taken}
 use Rattle.papaya_rule.specs.Words.{word_of}
 use Rattle.papaya_rule.proofs.Words.PlaceWords.{HasBlock, HasByte}

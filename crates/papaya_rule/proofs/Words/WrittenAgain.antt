@@ -2,10 +2,10 @@
 use Rattle.std.specs.Prelude.{Option, Some, None, List, [], ◌∷◌, length, slice_get, slice_set, slice_index_or, if◌then◌else◌, ◌-◌}
 use Rattle.std.proofs.Common.{◌≡◌, ℕ, zero, suc, ◌<◌, refl, ap, sym, ◌∙◌, arith}
 use Rattle.std.proofs.lemmas.Bool.{ne_eqb}
-use Rattle.seize_rule.specs.Given.SeizeWords.declared.at.At.TheVariants.{Word}
-use Rattle.seize_rule.specs.Given.SeizeWords.declared.block.Block.{Block}
-use Rattle.seize_rule.specs.Given.SeizeWords.Mem.{Mem, block_of, word_in, with_word_in, word_at, with_word}
-use Rattle.seize_rule.proofs.Given.SeizeWords.OneOwner.AfterWrites.{placed}
+use Rattle.seize_rule.specs.Given.SeizeWordsDeclared.at.At.TheVariants.{Word}
+use Rattle.seize_rule.specs.Given.SeizeWordsDeclared.block.Block.{Block}
+use Rattle.seize_rule.specs.Given.SeizeWordsMem.{Mem, block_of, word_in, with_word_in, word_at, with_word}
+use Rattle.seize_rule.proofs.Given.SeizeWordsOneOwner.AfterWrites.{placed}
 
 set_found : {X : Type 0} (xs : List X) (i : ℕ) (x : X) → slice_get xs i ≡ Some x → slice_set xs i x ≡ xs
 set_found [] i x is = absurd (cc)

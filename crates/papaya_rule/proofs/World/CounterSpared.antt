@@ -1,11 +1,11 @@
 -- A block that a caller makes, links or takes away is not the counter of a map, so no step of a call takes that from its maker.
 use Rattle.std.specs.Prelude.{◌≡◌, ◌≢◌, ℕ, Bool, Some}
 use Rattle.std.proofs.Common.{sym, subst, inl, inr, ◌∙◌}
-use Rattle.seize_rule.specs.Given.SeizeWords.Mem.{Mem, value_at, IsFreeNumber}
-use Rattle.seize_rule.specs.Given.Seize.World.{World, Making}
-use Rattle.papaya_resize.specs.Given.Tables.declared.node.Node.{Node}
-use Rattle.papaya_resize.specs.Given.Tables.declared.node.Node.TheVariants as node
-use Rattle.papaya_resize.specs.Given.Tables.declared.setting.Setting.{Setting}
+use Rattle.seize_rule.specs.Given.SeizeWordsMem.{Mem, value_at, IsFreeNumber}
+use Rattle.seize_rule.specs.Given.SeizeWorld.{World, Making}
+use Rattle.papaya_resize.specs.Given.TablesDeclared.node.Node.{Node}
+use Rattle.papaya_resize.specs.Given.TablesDeclared.node.Node.TheVariants as node
+use Rattle.papaya_resize.specs.Given.TablesDeclared.setting.Setting.{Setting}
 use Rattle.papaya_rule.specs.Chart.{Chart}
 use Rattle.papaya_rule.specs.Words.{Blocks}
 use Rattle.papaya_rule.specs.Counters.{SparesCounter}

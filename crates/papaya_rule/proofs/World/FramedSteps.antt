@@ -2,14 +2,14 @@
 use Rattle.std.specs.Prelude.{Some, None, Ok, IsSome, ◌&&◌, slice_get}
 use Rattle.std.proofs.Common.{◌≡◌, ◌≢◌, ℕ, ◌<◌, Bool, true, false, cond, eqb, refl, ap, sym, ◌∙◌}
 use Rattle.std.proofs.lemmas.Bool.{ne_eqb, eqb-true}
-use Rattle.seize_rule.specs.Given.SeizeWords.Op.{Make, Made}
-use Rattle.seize_rule.specs.Given.SeizeWords.declared.at.At.{At}
-use Rattle.seize_rule.specs.Given.SeizeWords.declared.at.At.TheVariants.{Root, Used, Slot, Entry, Word}
-use Rattle.seize_rule.specs.Given.SeizeWords.Mem.{Mem, block_of, value_in, word_in, value_at, word_at, with_word, with_block, IsFreeNumber, fresh, after}
-use Rattle.seize_rule.proofs.Given.SeizeWords.OneOwner.AfterWrites.{block_of-with_block, block_of-made, word_at-with_word, value_at-with_word}
+use Rattle.seize_rule.specs.Given.SeizeWordsOp.{Make, Made}
+use Rattle.seize_rule.specs.Given.SeizeWordsDeclared.at.At.{At}
+use Rattle.seize_rule.specs.Given.SeizeWordsDeclared.at.At.TheVariants.{Root, Used, Slot, Entry, Word}
+use Rattle.seize_rule.specs.Given.SeizeWordsMem.{Mem, block_of, value_in, word_in, value_at, word_at, with_word, with_block, IsFreeNumber, fresh, after}
+use Rattle.seize_rule.proofs.Given.SeizeWordsOneOwner.AfterWrites.{block_of-with_block, block_of-made, word_at-with_word, value_at-with_word}
 use Rattle.seize_rule.proofs.Words.Named.{block_there}
-use Rattle.papaya_resize.specs.Given.Tables.declared.node.Node.{Node}
-use Rattle.papaya_resize.specs.Given.Tables.declared.table_words.TheConstants.{DEFERRED}
+use Rattle.papaya_resize.specs.Given.TablesDeclared.node.Node.{Node}
+use Rattle.papaya_resize.specs.Given.TablesDeclared.table_words.TheConstants.{DEFERRED}
 use Rattle.papaya_rule.specs.Chart.{Chart}
 use Rattle.papaya_rule.specs.Words.{Blocks, Shows}
 use Rattle.papaya_rule.proofs.World.Framed.{Frames}

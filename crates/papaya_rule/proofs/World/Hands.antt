@@ -2,12 +2,12 @@
 use Rattle.std.specs.Prelude.{◌≡◌, ◌≢◌, ℕ, ◌<◌, ◌≤◌, Bool, true, false, cond, List, ◌∷◌, ◌⊎◌}
 use Rattle.std.proofs.Common.{refl, sym, subst, ◌∙◌, inl, inr, arith}
 use Rattle.std.proofs.lemmas.Bool.{cases_eq, eq-eqb, ne_eqb}
-use Rattle.seize_rule.specs.Given.SeizeWords.Mem.{Mem}
-use Rattle.seize_rule.specs.Given.Seize.Law.{Effect, Linked, Unlinked, With, where_is}
-use Rattle.seize_rule.specs.Given.Seize.World.{World, Hand, Making, InUse, Parting, Cutting, Handed, with_at, with_hand, with_effect}
-use Rattle.papaya_resize.specs.Given.Tables.Chunks.{is_incremental}
-use Rattle.papaya_resize.specs.Given.Tables.declared.node.Node.{Node}
-use Rattle.papaya_resize.specs.Given.Tables.declared.setting.Setting.{Setting}
+use Rattle.seize_rule.specs.Given.SeizeWordsMem.{Mem}
+use Rattle.seize_rule.specs.Given.SeizeLaw.{Effect, Linked, Unlinked, With, where_is}
+use Rattle.seize_rule.specs.Given.SeizeWorld.{World, Hand, Making, InUse, Parting, Cutting, Handed, with_at, with_hand, with_effect}
+use Rattle.papaya_resize.specs.Given.TablesChunks.{is_incremental}
+use Rattle.papaya_resize.specs.Given.TablesDeclared.node.Node.{Node}
+use Rattle.papaya_resize.specs.Given.TablesDeclared.setting.Setting.{Setting}
 use Rattle.papaya_rule.specs.Chart.{Phase, Holds, Chart}
 use Rattle.papaya_rule.specs.Rule.{Rule}
 use Rattle.papaya_rule.specs.Words.{Blocks, Shows}

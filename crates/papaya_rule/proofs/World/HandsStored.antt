@@ -2,12 +2,12 @@
 use Rattle.std.specs.Prelude.{◌≡◌, ◌≢◌, ℕ, suc, ◌<◌, ◌≤◌, Bool, true, false, cond, eqb, ◌⊎◌}
 use Rattle.std.proofs.Common.{refl, ap, sym, subst, inl, inr, arith, eqb-true}
 use Rattle.std.proofs.lemmas.Bool.{eqb-false}
-use Rattle.seize_rule.specs.Given.Seize.Law.{With, Unlinked, where_is}
-use Rattle.seize_rule.specs.Given.Seize.World.{World, InUse, Parting, Cutting, Handed, with_hand, with_effect}
-use Rattle.seize_rule.specs.Given.SeizeWords.Mem.{Mem, value_at}
-use Rattle.papaya_resize.specs.Given.Tables.Chunks.{is_incremental}
-use Rattle.papaya_resize.specs.Given.Tables.declared.node.Node.{Node}
-use Rattle.papaya_resize.specs.Given.Tables.declared.setting.Setting.{Setting}
+use Rattle.seize_rule.specs.Given.SeizeLaw.{With, Unlinked, where_is}
+use Rattle.seize_rule.specs.Given.SeizeWorld.{World, InUse, Parting, Cutting, Handed, with_hand, with_effect}
+use Rattle.seize_rule.specs.Given.SeizeWordsMem.{Mem, value_at}
+use Rattle.papaya_resize.specs.Given.TablesChunks.{is_incremental}
+use Rattle.papaya_resize.specs.Given.TablesDeclared.node.Node.{Node}
+use Rattle.papaya_resize.specs.Given.TablesDeclared.setting.Setting.{Setting}
 use Rattle.papaya_rule.specs.Chart.{Phase, Still, Place, Empty, Tombstone, Holds, Chart, put_in}
 use Rattle.papaya_rule.specs.Rule.{Rule}
 use Rattle.papaya_rule.specs.Moves.{Removes, after, with_pair, without}

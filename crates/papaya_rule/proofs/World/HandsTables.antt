@@ -2,12 +2,12 @@
 use Rattle.std.specs.Prelude.{◌≡◌, ℕ, ◌*◌, ◌<◌, Bool, true}
 use Rattle.std.proofs.Common.{refl, ap, sym, subst, ◌∙◌, inl, inr, arith}
 use Rattle.std.proofs.lemmas.Bool.{cases_eq}
-use Rattle.seize_rule.specs.Given.Seize.Law.{With}
-use Rattle.seize_rule.specs.Given.Seize.World.{World, InUse}
-use Rattle.papaya_resize.specs.Given.Tables.Chunks.{is_incremental}
-use Rattle.papaya_resize.specs.Given.Tables.declared.node.Node.{Node}
-use Rattle.papaya_resize.specs.Given.Tables.declared.setting.Setting.{Setting}
-use Rattle.papaya_resize.specs.Given.Tables.declared.table.Table.{Table}
+use Rattle.seize_rule.specs.Given.SeizeLaw.{With}
+use Rattle.seize_rule.specs.Given.SeizeWorld.{World, InUse}
+use Rattle.papaya_resize.specs.Given.TablesChunks.{is_incremental}
+use Rattle.papaya_resize.specs.Given.TablesDeclared.node.Node.{Node}
+use Rattle.papaya_resize.specs.Given.TablesDeclared.setting.Setting.{Setting}
+use Rattle.papaya_resize.specs.Given.TablesDeclared.table.Table.{Table}
 use Rattle.papaya_rule.specs.Chart.{Chart, put}
 use Rattle.papaya_rule.specs.Rule.{Common}
 use Rattle.papaya_rule.specs.Moves.{Links, after}

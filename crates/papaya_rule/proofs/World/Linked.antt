@@ -2,13 +2,13 @@
 use Rattle.std.specs.Prelude.{Some}
 use Rattle.std.proofs.Common.{◌≡◌, ◌≢◌, ℕ, suc, ◌+◌, ◌^◌, ◌<◌, ◌≤◌, Bool, true, false, cond, eqb, ltb, refl, ap, sym, subst, ◌∙◌, arith, eqb-true, inl, inr}
 use Rattle.std.proofs.lemmas.Bool.{eq-eqb, ne_eqb, eqb-false, cases_eq}
-use Rattle.seize_rule.specs.Given.SeizeWords.declared.at.At.TheVariants.{Root, Word}
-use Rattle.seize_rule.specs.Given.SeizeWords.Mem.{Mem, value_at, word_at}
-use Rattle.papaya_resize.specs.Given.Tables.Lengths.{IsTableLen}
-use Rattle.papaya_resize.specs.Given.Tables.declared.node.Node.{Node}
-use Rattle.papaya_resize.specs.Given.Tables.declared.node.Node.TheVariants as node
-use Rattle.papaya_resize.specs.Given.Tables.declared.status.TheConstants.Status.{PENDING, PROMOTED}
-use Rattle.papaya_resize.specs.Given.Tables.declared.table_words.TheConstants.{NEXT, CLAIM, COPIED, STATUS, PLACES}
+use Rattle.seize_rule.specs.Given.SeizeWordsDeclared.at.At.TheVariants.{Root, Word}
+use Rattle.seize_rule.specs.Given.SeizeWordsMem.{Mem, value_at, word_at}
+use Rattle.papaya_resize.specs.Given.TablesLengths.{IsTableLen}
+use Rattle.papaya_resize.specs.Given.TablesDeclared.node.Node.{Node}
+use Rattle.papaya_resize.specs.Given.TablesDeclared.node.Node.TheVariants as node
+use Rattle.papaya_resize.specs.Given.TablesDeclared.status.TheConstants.Status.{PENDING, PROMOTED}
+use Rattle.papaya_resize.specs.Given.TablesDeclared.table_words.TheConstants.{NEXT, CLAIM, COPIED, STATUS, PLACES}
 use Rattle.papaya_rule.specs.Chart.{Chart, Phase, Empty, Holds, put}
 use Rattle.papaya_rule.specs.Moves.{Links, after}
 use Rattle.papaya_rule.specs.Words.{Blocks, ShowsTable, Shows, next_word, root_word, place_word}

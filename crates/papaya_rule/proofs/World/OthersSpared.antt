@@ -2,15 +2,15 @@
 use Rattle.std.specs.Prelude.{◌≡◌, ◌≢◌, ℕ, Bool, cond, eqb, ◌&&◌, Some, None, Ok, IsSome}
 use Rattle.std.proofs.Common.{refl, ap, sym, subst, ◌∙◌, inl, inr}
 use Rattle.std.proofs.lemmas.Bool.{cases_eq, ne_eqb}
-use Rattle.seize_rule.specs.Given.SeizeWords.declared.at.At.{At}
-use Rattle.seize_rule.specs.Given.SeizeWords.declared.at.At.TheVariants.{Root, Used, Slot, Entry, Word}
-use Rattle.seize_rule.specs.Given.SeizeWords.Op.{Make, Made}
-use Rattle.seize_rule.specs.Given.SeizeWords.Mem.{Mem, block_of, value_in, word_in, value_at, word_at, with_word, with_block, IsFreeNumber, fresh, after as mem_after}
-use Rattle.seize_rule.proofs.Given.SeizeWords.OneOwner.AfterWrites.{block_of-with_block, block_of-made, word_at-with_word, value_at-with_word}
+use Rattle.seize_rule.specs.Given.SeizeWordsDeclared.at.At.{At}
+use Rattle.seize_rule.specs.Given.SeizeWordsDeclared.at.At.TheVariants.{Root, Used, Slot, Entry, Word}
+use Rattle.seize_rule.specs.Given.SeizeWordsOp.{Make, Made}
+use Rattle.seize_rule.specs.Given.SeizeWordsMem.{Mem, block_of, value_in, word_in, value_at, word_at, with_word, with_block, IsFreeNumber, fresh, after as mem_after}
+use Rattle.seize_rule.proofs.Given.SeizeWordsOneOwner.AfterWrites.{block_of-with_block, block_of-made, word_at-with_word, value_at-with_word}
 use Rattle.seize_rule.proofs.Words.Named.{block_there}
-use Rattle.seize_rule.specs.Given.Seize.World.{World, Hand, NoBlock, Making, InUse, Parting, Cutting, Handed, LeftTo, with_at}
-use Rattle.papaya_resize.specs.Given.Tables.declared.node.Node.{Node}
-use Rattle.papaya_resize.specs.Given.Tables.declared.node.Node.TheVariants as node
+use Rattle.seize_rule.specs.Given.SeizeWorld.{World, Hand, NoBlock, Making, InUse, Parting, Cutting, Handed, LeftTo, with_at}
+use Rattle.papaya_resize.specs.Given.TablesDeclared.node.Node.{Node}
+use Rattle.papaya_resize.specs.Given.TablesDeclared.node.Node.TheVariants as node
 use Rattle.papaya_rule.specs.InWorld.{IsHeldBy, IsOut, KeepsBlocks}
 use Rattle.papaya_rule.proofs.Words.BlocksApart.{new_apart}
 use Rattle.papaya_rule.proofs.World.Hands.{at_cases}

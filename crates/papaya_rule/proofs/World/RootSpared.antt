@@ -2,11 +2,11 @@
 use Rattle.std.specs.Prelude.{Ok, Err, Some, slice_get, slice_set}
 use Rattle.std.proofs.Common.{◌≡◌, ◌≢◌, ℕ, List, [], ◌∷◌, zero, suc, ◌⊎◌, inl, inr, refl, ap, sym, subst, ◌∙◌}
 use Rattle.std.proofs.lemmas.Bool.{cases_eq}
-use Rattle.seize_rule.specs.Given.SeizeWords.declared.at.At.{At}
-use Rattle.seize_rule.specs.Given.SeizeWords.declared.at.At.TheVariants.{Root, Used, Slot, Entry, Word}
-use Rattle.seize_rule.specs.Given.SeizeWords.Mem.{Mem, value_at, word_at, with_word, after, Took}
-use Rattle.seize_rule.specs.Given.SeizeWords.Op.{Op, Out, Load, Store, Swap, Add, Or, Exchange, Make, Take, Rewrite, Room, Found, Stored, Exchanged, Made, Taken, Roomed}
-use Rattle.seize_rule.specs.Given.SeizeWords.Plan.{Plan, Turn, Do, Steps, plan_as}
+use Rattle.seize_rule.specs.Given.SeizeWordsDeclared.at.At.{At}
+use Rattle.seize_rule.specs.Given.SeizeWordsDeclared.at.At.TheVariants.{Root, Used, Slot, Entry, Word}
+use Rattle.seize_rule.specs.Given.SeizeWordsMem.{Mem, value_at, word_at, with_word, after, Took}
+use Rattle.seize_rule.specs.Given.SeizeWordsOp.{Op, Out, Load, Store, Swap, Add, Or, Exchange, Make, Take, Rewrite, Room, Found, Stored, Exchanged, Made, Taken, Roomed}
+use Rattle.seize_rule.specs.Given.SeizeWordsPlan.{Plan, Turn, Do, Steps, plan_as}
 
 -- the name of no root
 abbrev pub IsNoRoot : At → Type 0

@@ -1,7 +1,7 @@
 -- Where a pair still stands that was taken out of the map: in incremental mode in older tables alone, copied, and nowhere if it wasn't borrowed;
 -- at once in aborted tables alone, and in those before the root.
 use Rattle.std.proofs.Common.{◌≡◌, ◌≢◌, ℕ, ◌<◌, ◌≤◌, Bool, true, false, ◌⊎◌, inl, inr, refl, sym, subst, eq-or-lt_of_le, arith}
-use Rattle.papaya_resize.specs.Given.Tables.declared.status.TheConstants.Status.{ABORTED}
+use Rattle.papaya_resize.specs.Given.TablesDeclared.status.TheConstants.Status.{ABORTED}
 use Rattle.papaya_rule.specs.Chart.{Phase, Still, Copied, Place, Tombstone, Holds, Chart, put_in}
 use Rattle.papaya_rule.specs.Rule.{IsLawful, is_of, Rule}
 use Rattle.papaya_rule.specs.Moves.{Replaces, Removes, after, MayChange}

@@ -1,13 +1,13 @@
 -- In incremental mode, a step of a call that wrote a word of a table by an allowed move.
 use Rattle.std.specs.Prelude.{◌≡◌, ℕ, Bool, true, IsSome}
 use Rattle.std.proofs.Common.{subst}
-use Rattle.seize_rule.specs.Given.SeizeWords.declared.at.At.{At}
-use Rattle.seize_rule.specs.Given.SeizeWords.Op.{Op, Out}
-use Rattle.seize_rule.specs.Given.SeizeWords.Mem.{Mem, word_at, with_word, Gives, after as mem_after}
-use Rattle.seize_rule.specs.Given.Seize.World.{World}
-use Rattle.papaya_resize.specs.Given.Tables.Chunks.{is_incremental}
-use Rattle.papaya_resize.specs.Given.Tables.declared.node.Node.{Node}
-use Rattle.papaya_resize.specs.Given.Tables.declared.setting.Setting.{Setting}
+use Rattle.seize_rule.specs.Given.SeizeWordsDeclared.at.At.{At}
+use Rattle.seize_rule.specs.Given.SeizeWordsOp.{Op, Out}
+use Rattle.seize_rule.specs.Given.SeizeWordsMem.{Mem, word_at, with_word, Gives, after as mem_after}
+use Rattle.seize_rule.specs.Given.SeizeWorld.{World}
+use Rattle.papaya_resize.specs.Given.TablesChunks.{is_incremental}
+use Rattle.papaya_resize.specs.Given.TablesDeclared.node.Node.{Node}
+use Rattle.papaya_resize.specs.Given.TablesDeclared.setting.Setting.{Setting}
 use Rattle.papaya_rule.specs.Chart.{Chart}
 use Rattle.papaya_rule.specs.Rule.{Rule, IsLawful}
 use Rattle.papaya_rule.specs.Moves.{Move, after, Allowed}

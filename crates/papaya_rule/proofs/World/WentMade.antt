@@ -2,17 +2,17 @@
 use Rattle.std.specs.Prelude.{◌≡◌, ◌≢◌, ℕ, ◌<◌, ◌^◌, Bool, [], ◌∷◌, Some, None, Ok, IsSome, cond}
 use Rattle.std.proofs.Common.{subst, refl, ap, sym, ◌∙◌, inl}
 use Rattle.std.proofs.lemmas.Bool.{ne_eqb}
-use Rattle.seize_rule.specs.Given.SeizeWords.Op.{Make, Made, Taken}
-use Rattle.seize_rule.specs.Given.SeizeWords.Mem.{Mem, block_of, value_at, with_block, IsFreeNumber, fresh, after as mem_after}
-use Rattle.seize_rule.proofs.Given.SeizeWords.OneOwner.AfterWrites.{block_of-with_block, block_of-made}
+use Rattle.seize_rule.specs.Given.SeizeWordsOp.{Make, Made, Taken}
+use Rattle.seize_rule.specs.Given.SeizeWordsMem.{Mem, block_of, value_at, with_block, IsFreeNumber, fresh, after as mem_after}
+use Rattle.seize_rule.proofs.Given.SeizeWordsOneOwner.AfterWrites.{block_of-with_block, block_of-made}
 use Rattle.seize_rule.proofs.Words.Named.{block_there}
-use Rattle.seize_rule.specs.Given.Seize.Law as law
-use Rattle.seize_rule.specs.Given.Seize.Law.{Dropped}
-use Rattle.seize_rule.specs.Given.Seize.World.{World, NoBlock, Making, Makes, Drops, HasListWord, with_hand, with_effect, made_by}
-use Rattle.papaya_resize.specs.Given.Tables.Nodes.{deferred_word}
-use Rattle.papaya_resize.specs.Given.Tables.declared.node.Node.{Node}
-use Rattle.papaya_resize.specs.Given.Tables.declared.node.Node.TheVariants as node
-use Rattle.papaya_resize.specs.Given.Tables.declared.setting.Setting.{Setting}
+use Rattle.seize_rule.specs.Given.SeizeLaw as law
+use Rattle.seize_rule.specs.Given.SeizeLaw.{Dropped}
+use Rattle.seize_rule.specs.Given.SeizeWorld.{World, NoBlock, Making, Makes, Drops, HasListWord, with_hand, with_effect, made_by}
+use Rattle.papaya_resize.specs.Given.TablesNodes.{deferred_word}
+use Rattle.papaya_resize.specs.Given.TablesDeclared.node.Node.{Node}
+use Rattle.papaya_resize.specs.Given.TablesDeclared.node.Node.TheVariants as node
+use Rattle.papaya_resize.specs.Given.TablesDeclared.setting.Setting.{Setting}
 use Rattle.papaya_rule.specs.Chart.{Chart}
 use Rattle.papaya_rule.specs.Words.{Blocks}
 use Rattle.papaya_rule.specs.InWorld.{IsFramed, IsMapIn, Went}

@@ -2,16 +2,16 @@
 use Rattle.std.specs.Prelude.{◌≡◌, ◌≢◌, ℕ, zero, suc, Bool, [], ◌∷◌, Option, Some, None, IsSome, if◌then◌else◌}
 use Rattle.std.proofs.Common.{arith, subst, refl, ap, sym, ◌∙◌, inl, inr}
 use Rattle.std.proofs.lemmas.Bool.{ne_eqb, eq-eqb, cases_eq}
-use Rattle.seize_rule.specs.Given.SeizeWords.declared.at.At.TheVariants.{Root, Word}
-use Rattle.seize_rule.specs.Given.SeizeWords.Mem.{Mem, value_at, with_value}
-use Rattle.seize_rule.proofs.Given.SeizeWords.OneOwner.AfterWrites.{word_at-with_value, value_at-with_value}
-use Rattle.seize_rule.specs.Given.Seize.World.{World, Making, Rewrites}
-use Rattle.papaya_resize.specs.Given.Tables.Nodes.{deferred_word}
-use Rattle.papaya_resize.proofs.Given.Tables.Lists.{table_list}
-use Rattle.papaya_resize.specs.Given.Tables.declared.node.Node.{Node}
-use Rattle.papaya_resize.specs.Given.Tables.declared.node.Node.TheVariants as node
-use Rattle.papaya_resize.specs.Given.Tables.declared.setting.Setting.{Setting}
-use Rattle.papaya_resize.specs.Given.Tables.declared.table_words.TheConstants.{DEFERRED}
+use Rattle.seize_rule.specs.Given.SeizeWordsDeclared.at.At.TheVariants.{Root, Word}
+use Rattle.seize_rule.specs.Given.SeizeWordsMem.{Mem, value_at, with_value}
+use Rattle.seize_rule.proofs.Given.SeizeWordsOneOwner.AfterWrites.{word_at-with_value, value_at-with_value}
+use Rattle.seize_rule.specs.Given.SeizeWorld.{World, Making, Rewrites}
+use Rattle.papaya_resize.specs.Given.TablesNodes.{deferred_word}
+use Rattle.papaya_resize.proofs.Given.TablesLists.{table_list}
+use Rattle.papaya_resize.specs.Given.TablesDeclared.node.Node.{Node}
+use Rattle.papaya_resize.specs.Given.TablesDeclared.node.Node.TheVariants as node
+use Rattle.papaya_resize.specs.Given.TablesDeclared.setting.Setting.{Setting}
+use Rattle.papaya_resize.specs.Given.TablesDeclared.table_words.TheConstants.{DEFERRED}
 use Rattle.papaya_rule.specs.Chart.{Chart}
 use Rattle.papaya_rule.specs.Words.{Blocks}
 use Rattle.papaya_rule.specs.InWorld.{IsHeldBy, KeepsBlocks, StaysTable, IsFramed, IsMapIn, Went}

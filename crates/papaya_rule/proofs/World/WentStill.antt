@@ -2,17 +2,17 @@
 use Rattle.std.specs.Prelude.{◌≡◌, ◌≢◌, ℕ, Bool, cond, List, [], Some, None, Ok, IsSome}
 use Rattle.std.proofs.Common.{refl, ap, sym, subst, ◌∙◌, inl}
 use Rattle.std.proofs.lemmas.Bool.{ne_eqb}
-use Rattle.seize_rule.specs.Given.SeizeWords.declared.at.At.{At}
-use Rattle.seize_rule.specs.Given.SeizeWords.Op.{Make, Made}
-use Rattle.seize_rule.specs.Given.SeizeWords.Mem.{Mem, block_of, value_in, value_at, word_at, with_word, with_block, IsFreeNumber, fresh, after as mem_after}
-use Rattle.seize_rule.proofs.Given.SeizeWords.OneOwner.AfterWrites.{block_of-with_block, block_of-made, value_at-with_word}
+use Rattle.seize_rule.specs.Given.SeizeWordsDeclared.at.At.{At}
+use Rattle.seize_rule.specs.Given.SeizeWordsOp.{Make, Made}
+use Rattle.seize_rule.specs.Given.SeizeWordsMem.{Mem, block_of, value_in, value_at, word_at, with_word, with_block, IsFreeNumber, fresh, after as mem_after}
+use Rattle.seize_rule.proofs.Given.SeizeWordsOneOwner.AfterWrites.{block_of-with_block, block_of-made, value_at-with_word}
 use Rattle.seize_rule.proofs.Words.Named.{block_there}
-use Rattle.seize_rule.specs.Given.Seize.Law.{Effect}
-use Rattle.seize_rule.specs.Given.Seize.World.{World, Hand, Making, with_at, made_by}
-use Rattle.papaya_resize.specs.Given.Tables.Nodes.{deferred_word}
-use Rattle.papaya_resize.specs.Given.Tables.declared.node.Node.{Node}
-use Rattle.papaya_resize.specs.Given.Tables.declared.node.Node.TheVariants as node
-use Rattle.papaya_resize.specs.Given.Tables.declared.setting.Setting.{Setting}
+use Rattle.seize_rule.specs.Given.SeizeLaw.{Effect}
+use Rattle.seize_rule.specs.Given.SeizeWorld.{World, Hand, Making, with_at, made_by}
+use Rattle.papaya_resize.specs.Given.TablesNodes.{deferred_word}
+use Rattle.papaya_resize.specs.Given.TablesDeclared.node.Node.{Node}
+use Rattle.papaya_resize.specs.Given.TablesDeclared.node.Node.TheVariants as node
+use Rattle.papaya_resize.specs.Given.TablesDeclared.setting.Setting.{Setting}
 use Rattle.papaya_rule.specs.Chart.{Chart}
 use Rattle.papaya_rule.specs.Words.{Blocks}
 use Rattle.papaya_rule.specs.InWorld.{IsMapIn, IsFramed, Went, SparesPairs}

@@ -1,9 +1,9 @@
 -- What is told of a step, told otherwise.
 use Rattle.std.specs.Prelude.{ℕ, Bool}
-use Rattle.seize_rule.specs.Given.SeizeWords.Mem.{Mem}
-use Rattle.seize_rule.specs.Given.Seize.World.{World}
-use Rattle.papaya_resize.specs.Given.Tables.declared.node.Node.{Node}
-use Rattle.papaya_resize.specs.Given.Tables.declared.setting.Setting.{Setting}
+use Rattle.seize_rule.specs.Given.SeizeWordsMem.{Mem}
+use Rattle.seize_rule.specs.Given.SeizeWorld.{World}
+use Rattle.papaya_resize.specs.Given.TablesDeclared.node.Node.{Node}
+use Rattle.papaya_resize.specs.Given.TablesDeclared.setting.Setting.{Setting}
 use Rattle.papaya_rule.specs.Chart.{Chart}
 use Rattle.papaya_rule.specs.Words.{Blocks}
 use Rattle.papaya_rule.specs.InWorld.{IsMapIn, Moved, SameBlocks, Went}

@@ -1,19 +1,19 @@
 -- A step of a call that wrote a word of its map, made a block of its own, or took one away.
 use Rattle.std.specs.Prelude.{◌≡◌, ◌≢◌, ℕ, ◌<◌, ◌≤◌, Bool, true, false, List, [], ◌∷◌, Some, IsSome, cond}
 use Rattle.std.proofs.Common.{refl, ap, sym, subst, ◌∙◌, inr, arith}
-use Rattle.seize_rule.specs.Given.SeizeWords.declared.at.At.{At}
-use Rattle.seize_rule.specs.Given.SeizeWords.declared.at.At.TheVariants.{Word}
-use Rattle.seize_rule.specs.Given.SeizeWords.Op.{Op, Out}
-use Rattle.seize_rule.specs.Given.SeizeWords.Mem.{Mem, same_at, block_of, value_in, word_in, value_at, word_at, with_word, Took, Gives, after as mem_after}
-use Rattle.seize_rule.proofs.Given.SeizeWords.OneOwner.AfterWrites.{word_at-with_word, value_at-with_word}
-use Rattle.seize_rule.specs.Given.Seize.World.{World, Event, Operates, IsOwn, IsOwnOp, Runs}
-use Rattle.papaya_resize.specs.Given.Tables.Chunks.{is_incremental}
-use Rattle.papaya_resize.specs.Given.Tables.Nodes.{deferred_word}
-use Rattle.papaya_resize.specs.Given.Tables.declared.node.Node.{Node}
-use Rattle.papaya_resize.specs.Given.Tables.declared.node.Node.TheVariants as node
-use Rattle.papaya_resize.specs.Given.Tables.declared.setting.Setting.{Setting}
-use Rattle.papaya_resize.specs.Given.Tables.declared.table_words.TheConstants.{DEFERRED}
-use Rattle.papaya_resize.proofs.Given.Tables.Lists.{its_list}
+use Rattle.seize_rule.specs.Given.SeizeWordsDeclared.at.At.{At}
+use Rattle.seize_rule.specs.Given.SeizeWordsDeclared.at.At.TheVariants.{Word}
+use Rattle.seize_rule.specs.Given.SeizeWordsOp.{Op, Out}
+use Rattle.seize_rule.specs.Given.SeizeWordsMem.{Mem, same_at, block_of, value_in, word_in, value_at, word_at, with_word, Took, Gives, after as mem_after}
+use Rattle.seize_rule.proofs.Given.SeizeWordsOneOwner.AfterWrites.{word_at-with_word, value_at-with_word}
+use Rattle.seize_rule.specs.Given.SeizeWorld.{World, Event, Operates, IsOwn, IsOwnOp, Runs}
+use Rattle.papaya_resize.specs.Given.TablesChunks.{is_incremental}
+use Rattle.papaya_resize.specs.Given.TablesNodes.{deferred_word}
+use Rattle.papaya_resize.specs.Given.TablesDeclared.node.Node.{Node}
+use Rattle.papaya_resize.specs.Given.TablesDeclared.node.Node.TheVariants as node
+use Rattle.papaya_resize.specs.Given.TablesDeclared.setting.Setting.{Setting}
+use Rattle.papaya_resize.specs.Given.TablesDeclared.table_words.TheConstants.{DEFERRED}
+use Rattle.papaya_resize.proofs.Given.TablesLists.{its_list}
 use Rattle.papaya_rule.specs.Chart.{Chart}
 use Rattle.papaya_rule.specs.Rule.{IsLawful}
 use Rattle.papaya_rule.specs.Moves.{Move, after, Allowed}

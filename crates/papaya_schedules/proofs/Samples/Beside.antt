@@ -1,8 +1,8 @@
 -- Calls beside one another: which runs of two callers are right, and which are wrong.
 use Rattle.std.specs.Prelude.{codes, nat_eq}
 use Rattle.std.proofs.Common.{◌≡◌, ◌≤◌, ℕ, false, List, [], ◌∷◌, inl, inr, refl, arith, Some}
-use Rattle.papaya_raw.specs.Given.SeizeWords.declared.fault.Fault.TheVariants.{ZeroChunk, Busy, Memory}
-use Rattle.papaya_raw.specs.Given.Tables.declared.resize_mode.ResizeMode.TheVariants.{Incremental}
+use Rattle.papaya_raw.specs.Given.SeizeWordsDeclared.fault.Fault.TheVariants.{ZeroChunk, Busy, Memory}
+use Rattle.papaya_raw.specs.Given.TablesDeclared.resize_mode.ResizeMode.TheVariants.{Incremental}
 use Rattle.papaya_schedules.specs.declared.call.Call.TheVariants.{On}
 use Rattle.papaya_schedules.specs.declared.call.OneKey.TheVariants.{Get, Insert, Remove, Compute}
 use Rattle.papaya_schedules.specs.declared.call.Reply.TheVariants.{Gives}

@@ -1,9 +1,9 @@
 -- A map in blocking mode: a copy finds no place in the next table, and the root comes to the one after it. And wrong runs.
 use Rattle.std.specs.Prelude.{codes}
 use Rattle.std.proofs.Common.{◌≡◌, ◌≤◌, ℕ, List, [], ◌∷◌, ◌++◌, inl, refl, arith}
-use Rattle.papaya_raw.specs.Given.SeizeWords.declared.fault.Fault.TheVariants.{Memory}
-use Rattle.papaya_raw.specs.Given.Tables.declared.lengths.Reason.TheVariants.{Full, NoPlace}
-use Rattle.papaya_raw.specs.Given.Tables.declared.resize_mode.ResizeMode.TheVariants.{Blocking}
+use Rattle.papaya_raw.specs.Given.SeizeWordsDeclared.fault.Fault.TheVariants.{Memory}
+use Rattle.papaya_raw.specs.Given.TablesDeclared.lengths.Reason.TheVariants.{Full, NoPlace}
+use Rattle.papaya_raw.specs.Given.TablesDeclared.resize_mode.ResizeMode.TheVariants.{Blocking}
 use Rattle.papaya_schedules.specs.declared.call.Call.TheVariants.{On}
 use Rattle.papaya_schedules.specs.declared.call.OneKey.TheVariants.{Get, Insert, Remove}
 use Rattle.papaya_schedules.specs.declared.call.Answer.TheVariants as answer

@@ -1,14 +1,14 @@
 -- Reservations, growths and refusals: each in its case alone. And wrong runs.
 use Rattle.std.specs.Prelude.{codes, nat_eq, ◌+◌, ◌%◌, ◌^◌, nat_le, max, if◌then◌else◌}
 use Rattle.std.proofs.Common.{◌≡◌, ◌≤◌, ℕ, Bool, true, false, List, [], ◌∷◌, ◌++◌, inl, inr, refl, arith, Ok, Err}
-use Rattle.papaya_raw.specs.Given.SeizeWords.declared.fault.Fault.TheVariants.{Capacity, SlotsUsedUp, Memory}
-use Rattle.papaya_raw.specs.Given.Tables.declared.lengths.Reason.TheVariants.{Full, Reserved, NoPlace}
-use Rattle.papaya_raw.specs.Given.Seize.Register.{MayNeedRoom}
-use Rattle.papaya_raw.specs.Given.Tables.Counts.{count_in}
-use Rattle.papaya_raw.specs.Given.Tables.Lengths.{by_count, len_of, next_len}
+use Rattle.papaya_raw.specs.Given.SeizeWordsDeclared.fault.Fault.TheVariants.{Capacity, SlotsUsedUp, Memory}
+use Rattle.papaya_raw.specs.Given.TablesDeclared.lengths.Reason.TheVariants.{Full, Reserved, NoPlace}
+use Rattle.papaya_raw.specs.Given.SeizeRegister.{MayNeedRoom}
+use Rattle.papaya_raw.specs.Given.TablesCounts.{count_in}
+use Rattle.papaya_raw.specs.Given.TablesLengths.{by_count, len_of, next_len}
 use Rattle.papaya_runs.specs.declared.outcome.TableShape.{TableShape}
 use Rattle.papaya_schedules.specs.Growing.{Has, IsNextShape}
-use Rattle.papaya_raw.specs.Given.Tables.declared.resize_mode.ResizeMode.TheVariants.{Incremental}
+use Rattle.papaya_raw.specs.Given.TablesDeclared.resize_mode.ResizeMode.TheVariants.{Incremental}
 use Rattle.papaya_schedules.specs.Beginning.{fresh_call}
 use Rattle.papaya_schedules.specs.Moment.{UnderWay, TableThere, IsLinked, Moment, start}
 use Rattle.papaya_schedules.specs.declared.call.Call.TheVariants.{On, Reserve, Len}

@@ -1,7 +1,7 @@
 -- Calls that are stopped in their midst: one on a key may have changed its map once, a sweep many times, and either says so. And wrong runs.
 use Rattle.std.specs.Prelude.{codes, nat_eq}
 use Rattle.std.proofs.Common.{◌≡◌, ℕ, false, List, [], ◌∷◌, inl, inr, refl, arith, Some}
-use Rattle.papaya_raw.specs.Given.SeizeWords.declared.fault.Fault.TheVariants.{Busy, Memory}
+use Rattle.papaya_raw.specs.Given.SeizeWordsDeclared.fault.Fault.TheVariants.{Busy, Memory}
 use Rattle.papaya_schedules.specs.declared.call.Call.TheVariants.{On, Clear}
 use Rattle.papaya_schedules.specs.declared.call.OneKey.TheVariants.{Get, Insert}
 use Rattle.papaya_schedules.specs.declared.call.Answer.TheVariants as answer

@@ -2,11 +2,11 @@
 ghost use Rattle.std.specs.Prelude.{◌≡◌};
 ghost use Rattle.papaya_sweeps.specs.Sweep.{words};
 ghost use Rattle.papaya_sweeps.specs.SweepPoints.{past, further, at_pair, seen};
-ghost use Rattle.papaya_reserves.specs.Given.SeizeWords.Plan.{May, Steps};
+ghost use Rattle.papaya_reserves.specs.Given.SeizeWordsPlan.{May, Steps};
 
 use crate::sweep::{Purpose, Sweep, Sweeping, Swept};
-use papaya_reserves::papaya_tables::marks::{COPYING, has};
-use papaya_reserves::seize_words::{Link, Memory};
+use papaya_reserves::named::marks::{COPYING, has};
+use papaya_reserves::named::{Link, Memory};
 
 impl Sweep {
     /// Has its place behind it.

@@ -1,16 +1,12 @@
 //! The removal of a pair: its word is exchanged, it is counted, and disposed of.
 ghost use Rattle.std.specs.Prelude.{◌≡◌};
-ghost use Rattle.papaya_reserves.specs.Given.Resize.Dispose.{dispose_plan};
+ghost use Rattle.papaya_reserves.specs.Given.ResizeDispose.{dispose_plan};
 ghost use Rattle.papaya_sweeps.specs.Sweep.{tries, counts, disposed};
-ghost use Rattle.papaya_reserves.specs.Given.SeizeWords.Plan.{May, Steps, plan_as};
+ghost use Rattle.papaya_reserves.specs.Given.SeizeWordsPlan.{May, Steps, plan_as};
 
 use crate::sweep::{Sweep, Sweeping, Swept};
-use papaya_reserves::papaya_resize::{Dispose, count};
-use papaya_reserves::papaya_tables::Node;
-use papaya_reserves::papaya_tables::marks::TOMBSTONE;
-use papaya_reserves::seize::Machine;
-use papaya_reserves::seize::rows::Settled;
-use papaya_reserves::seize_words::Memory;
+use papaya_reserves::named::marks::TOMBSTONE;
+use papaya_reserves::named::{Dispose, Machine, Memory, Node, Settled, count};
 
 impl Sweep {
     /// Removes the pair of a word. Where another word is found, it goes on by that.

@@ -1,15 +1,13 @@
 //! The table that a sweep goes over: the root, once no pair moves into a later one.
 ghost use Rattle.std.specs.Prelude.{◌≡◌};
-ghost use Rattle.papaya_reserves.specs.Given.Resize.Copier.{copier_plan};
+ghost use Rattle.papaya_reserves.specs.Given.ResizeCopier.{copier_plan};
 ghost use Rattle.papaya_sweeps.specs.Sweep.{reads, follows, copied};
 ghost use Rattle.papaya_sweeps.specs.SweepPoints.{beginning, tableless, entering};
-ghost use Rattle.papaya_reserves.specs.Given.SeizeWords.Plan.{May, Steps, plan_as};
+ghost use Rattle.papaya_reserves.specs.Given.SeizeWordsPlan.{May, Steps, plan_as};
 
 use crate::sweep::{Sweep, Sweeping, Swept};
-use papaya_reserves::papaya_resize::{Copier, Outcome};
-use papaya_reserves::papaya_tables::table_words::NEXT;
-use papaya_reserves::papaya_tables::{Hashes, Node, Table};
-use papaya_reserves::seize_words::{At, Link, Memory};
+use papaya_reserves::named::table_words::NEXT;
+use papaya_reserves::named::{At, Copier, Hashes, Link, Memory, Node, Outcome, Table};
 
 impl Sweep {
     /// Goes over its table from the first place on. A walk waits until it is asked for a pair.

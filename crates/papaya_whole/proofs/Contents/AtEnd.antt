@@ -2,20 +2,20 @@
 use Rattle.std.specs.Prelude.{◌≡◌, ℕ, Bool, true, false, cond, List, [], ◌∷◌, ◌++◌}
 use Rattle.std.proofs.Common.{refl, ap, subst, ◌∙◌, inl, inr}
 use Rattle.std.proofs.lemmas.Bool.{eq-eqb}
-use Rattle.papaya_waits.specs.Given.SeizeWords.Mem.{value_at}
-use Rattle.papaya_waits.specs.Given.Seize.World.{World}
-use Rattle.papaya_passes.specs.Given.Tables.declared.node.Node.{Node}
-use Rattle.papaya_passes.specs.Given.Tables.declared.setting.Setting.{Setting}
-use Rattle.papaya_passes.specs.Given.Raw.declared.machines.answer.KeyAnswer.{KeyAnswer}
-use Rattle.papaya_passes.specs.Given.Raw.declared.machines.answer.KeyAnswer.TheVariants as answers
-use Rattle.papaya_passes.specs.Given.Rule.Chart.{Still, Chart, put}
-use Rattle.papaya_passes.specs.Given.Rule.Words.{Blocks}
-use Rattle.papaya_passes.specs.Given.Rule.InWorld.{IsMapIn}
-use Rattle.papaya_passes.specs.Given.Points.FactsCalls.{Change, Unchanged, Stored, Replaced, Removed, Tells}
-use Rattle.papaya_passes.specs.Given.Points.Steps.{AreLawful}
-use Rattle.papaya_waits.specs.Given.Callers.Pairs.{StoresGiven}
-use Rattle.papaya_waits.specs.Given.Callers.Since.{SoSince}
-use Rattle.papaya_waits.specs.Given.Callers.Together.{CallOnKey, in_slot}
+use Rattle.papaya_waits.specs.Given.SeizeWordsMem.{value_at}
+use Rattle.papaya_waits.specs.Given.SeizeWorld.{World}
+use Rattle.papaya_passes.specs.Given.TablesDeclared.node.Node.{Node}
+use Rattle.papaya_passes.specs.Given.TablesDeclared.setting.Setting.{Setting}
+use Rattle.papaya_passes.specs.Given.RawDeclared.machines.answer.KeyAnswer.{KeyAnswer}
+use Rattle.papaya_passes.specs.Given.RawDeclared.machines.answer.KeyAnswer.TheVariants as answers
+use Rattle.papaya_passes.specs.Given.RuleChart.{Still, Chart, put}
+use Rattle.papaya_passes.specs.Given.RuleWords.{Blocks}
+use Rattle.papaya_passes.specs.Given.RuleInWorld.{IsMapIn}
+use Rattle.papaya_passes.specs.Given.PointsFactsCalls.{Change, Unchanged, Stored, Replaced, Removed, Tells}
+use Rattle.papaya_passes.specs.Given.PointsSteps.{AreLawful}
+use Rattle.papaya_waits.specs.Given.CallersPairs.{StoresGiven}
+use Rattle.papaya_waits.specs.Given.CallersSince.{SoSince}
+use Rattle.papaya_waits.specs.Given.CallersTogether.{CallOnKey, in_slot}
 use Rattle.papaya_whole.specs.Contents.{without, AreContents, HasRun, IsOfPairs}
 use Rattle.papaya_whole.specs.AtEnd.{AnswersSo, AnswersTellThePairs}
 use Rattle.papaya_whole.proofs.Contents.Answers.{answers_of_pairs}

@@ -1,14 +1,14 @@
 -- The list of a map's pairs is as long as the map has pairs, and a counting comes to that.
 use Rattle.std.specs.Prelude.{◌≡◌, ℕ, zero, suc, ◌+◌, ◌-◌, ◌%◌, ◌^◌, ◌≤◌, List, [], ◌∷◌, ◌++◌, length, Bool}
 use Rattle.std.proofs.Common.{refl, ap, sym, ◌∙◌, inl, inr, arith}
-use Rattle.papaya_waits.specs.Given.SeizeWords.Mem.{Mem}
-use Rattle.papaya_passes.specs.Given.Tables.Counts.{count_in}
-use Rattle.papaya_passes.specs.Given.Tables.declared.node.Node.{Node}
-use Rattle.papaya_passes.specs.Given.Rule.Chart.{Chart}
-use Rattle.papaya_passes.specs.Given.Rule.Rule.{total}
-use Rattle.papaya_passes.specs.Given.Rule.Words.{Blocks}
-use Rattle.papaya_waits.specs.Given.Alone.Counting.{one_if, pairs_in, shards_sum}
-use Rattle.papaya_waits.proofs.Given.Alone.Shards.PairsChanged.{few_pairs_there}
+use Rattle.papaya_waits.specs.Given.SeizeWordsMem.{Mem}
+use Rattle.papaya_passes.specs.Given.TablesCounts.{count_in}
+use Rattle.papaya_passes.specs.Given.TablesDeclared.node.Node.{Node}
+use Rattle.papaya_passes.specs.Given.RuleChart.{Chart}
+use Rattle.papaya_passes.specs.Given.RuleRule.{total}
+use Rattle.papaya_passes.specs.Given.RuleWords.{Blocks}
+use Rattle.papaya_waits.specs.Given.AloneCounting.{one_if, pairs_in, shards_sum}
+use Rattle.papaya_waits.proofs.Given.AloneShards.PairsChanged.{few_pairs_there}
 use Rattle.papaya_whole.specs.Contents.{ContentsBelow}
 use Rattle.papaya_whole.specs.WholeRooms.{CountingsComeTo}
 use Rattle.papaya_whole.proofs.Contents.Below.{ends_with, as_before, decided}

@@ -2,29 +2,29 @@
 use Rattle.std.specs.Prelude.{◌≡◌, ◌≢◌, ℕ, suc, ◌<◌, ◌≤◌, ◌⊎◌, Bool, true, false, cond, eqb}
 use Rattle.std.proofs.Common.{refl, ap, sym, subst, ◌∙◌, inl, inr, arith}
 use Rattle.std.proofs.lemmas.Bool.{cases_lt, ne_eqb}
-use Rattle.papaya_waits.specs.Given.SeizeWords.Mem.{Mem, value_at}
-use Rattle.papaya_waits.specs.Given.Seize.World.{World, Steps'}
-use Rattle.papaya_waits.proofs.Given.SeizeAlone.Histories.NotTaken.{kept_value}
-use Rattle.papaya_passes.specs.Given.Tables.Chunks.{is_incremental}
-use Rattle.papaya_passes.specs.Given.Tables.Nodes.{deferred_word}
-use Rattle.papaya_passes.specs.Given.Tables.declared.node.Node.{Node}
-use Rattle.papaya_passes.specs.Given.Tables.declared.setting.Setting.{Setting}
-use Rattle.papaya_passes.specs.Given.Rule.Chart.{Chart, put}
-use Rattle.papaya_passes.specs.Given.Rule.Maps.{spot_of}
-use Rattle.papaya_passes.specs.Given.Rule.Words.{Blocks}
-use Rattle.papaya_passes.specs.Given.Rule.InWorld.{IsMapIn, IsOut, Moved, Went}
-use Rattle.papaya_passes.specs.Given.Rule.Moments.{Moments, Remembers}
-use Rattle.papaya_passes.specs.Given.Rule.Moves.{Move, Links, Stores, Replaces, Removes, Marks, MarksBlocking, Skips, Unmarks, Puts, Covers, PutsLate, Claims, Reclaims, Counts, GivesUp, Aborts, Promotes, Announces, after}
-use Rattle.papaya_passes.specs.Given.Tables.declared.resize_mode.ResizeMode.{ResizeMode}
-use Rattle.papaya_passes.proofs.Given.Rule.World.Hands.{current_known}
-use Rattle.papaya_passes.specs.Given.Points.FactsCalls.{Change, Unchanged, Stored, Replaced, Removed, Changes}
-use Rattle.papaya_passes.specs.Given.Points.Steps.{AreLawful}
-use Rattle.papaya_passes.proofs.Given.Points.MovedLasts.{moved_lasts}
-use Rattle.papaya_passes.proofs.Given.Rule.Moves.Lasting.{beside_lasts}
-use Rattle.papaya_waits.specs.Given.Alone.Alone.{HasChanged}
-use Rattle.papaya_waits.specs.Given.Callers.Together.{CameAbout}
-use Rattle.papaya_waits.proofs.Given.Callers.Rows.Keep.{kept_block, used_kept}
-use Rattle.papaya_waits.proofs.Given.Callers.Together.Came.{came_reached}
+use Rattle.papaya_waits.specs.Given.SeizeWordsMem.{Mem, value_at}
+use Rattle.papaya_waits.specs.Given.SeizeWorld.{World, Steps'}
+use Rattle.papaya_waits.proofs.Given.SeizeAloneHistories.NotTaken.{kept_value}
+use Rattle.papaya_passes.specs.Given.TablesChunks.{is_incremental}
+use Rattle.papaya_passes.specs.Given.TablesNodes.{deferred_word}
+use Rattle.papaya_passes.specs.Given.TablesDeclared.node.Node.{Node}
+use Rattle.papaya_passes.specs.Given.TablesDeclared.setting.Setting.{Setting}
+use Rattle.papaya_passes.specs.Given.RuleChart.{Chart, put}
+use Rattle.papaya_passes.specs.Given.RuleMaps.{spot_of}
+use Rattle.papaya_passes.specs.Given.RuleWords.{Blocks}
+use Rattle.papaya_passes.specs.Given.RuleInWorld.{IsMapIn, IsOut, Moved, Went}
+use Rattle.papaya_passes.specs.Given.RuleMoments.{Moments, Remembers}
+use Rattle.papaya_passes.specs.Given.RuleMoves.{Move, Links, Stores, Replaces, Removes, Marks, MarksBlocking, Skips, Unmarks, Puts, Covers, PutsLate, Claims, Reclaims, Counts, GivesUp, Aborts, Promotes, Announces, after}
+use Rattle.papaya_passes.specs.Given.TablesDeclared.resize_mode.ResizeMode.{ResizeMode}
+use Rattle.papaya_passes.proofs.Given.RuleWorld.Hands.{current_known}
+use Rattle.papaya_passes.specs.Given.PointsFactsCalls.{Change, Unchanged, Stored, Replaced, Removed, Changes}
+use Rattle.papaya_passes.specs.Given.PointsSteps.{AreLawful}
+use Rattle.papaya_passes.proofs.Given.PointsMovedLasts.{moved_lasts}
+use Rattle.papaya_passes.proofs.Given.RuleMoves.Lasting.{beside_lasts}
+use Rattle.papaya_waits.specs.Given.AloneAlone.{HasChanged}
+use Rattle.papaya_waits.specs.Given.CallersTogether.{CameAbout}
+use Rattle.papaya_waits.proofs.Given.CallersRows.Keep.{kept_block, used_kept}
+use Rattle.papaya_waits.proofs.Given.CallersTogether.Came.{came_reached}
 use Rattle.papaya_whole.specs.Contents.{KeepsPairs, StillSince, HasRun, RunsBegin}
 
 -- where one pair is taken out, what there is was there before

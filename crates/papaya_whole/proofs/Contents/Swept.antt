@@ -2,17 +2,17 @@
 use Rattle.std.specs.Prelude.{◌≡◌, ℕ, ◌+◌, ◌<◌, ◌≤◌, Bool, true, false, cond, nat_lt, List, Contains, Some}
 use Rattle.std.proofs.Common.{refl, ap, sym, subst, ◌∙◌, inl, inr, arith}
 use Rattle.std.proofs.lemmas.Bool.{cases_lt}
-use Rattle.papaya_waits.specs.Given.SeizeWords.Mem.{Mem, value_at}
-use Rattle.papaya_passes.specs.Given.Tables.declared.node.Node.{Node}
-use Rattle.papaya_passes.specs.Given.Tables.declared.node.Node.TheVariants as node
-use Rattle.papaya_passes.specs.Given.Sweeps.declared.sweep.Purpose.{Purpose}
-use Rattle.papaya_passes.specs.Given.Sweeps.declared.sweep.Purpose.TheVariants.{Walks, Clears, Retains}
-use Rattle.papaya_passes.specs.Given.Sweeps.declared.sweep.Sweeping.{Sweeping}
-use Rattle.papaya_passes.specs.Given.Sweeps.declared.sweep.Sweeping.TheVariants as at
-use Rattle.papaya_passes.specs.Given.Rule.Chart.{Chart}
-use Rattle.papaya_passes.specs.Given.Rule.Words.{Blocks}
-use Rattle.papaya_passes.specs.Given.Late.Covers.{times, IsKept, Came}
-use Rattle.papaya_waits.specs.Given.Callers.OverAll.{CallOverAll}
+use Rattle.papaya_waits.specs.Given.SeizeWordsMem.{Mem, value_at}
+use Rattle.papaya_passes.specs.Given.TablesDeclared.node.Node.{Node}
+use Rattle.papaya_passes.specs.Given.TablesDeclared.node.Node.TheVariants as node
+use Rattle.papaya_passes.specs.Given.SweepsDeclared.sweep.Purpose.{Purpose}
+use Rattle.papaya_passes.specs.Given.SweepsDeclared.sweep.Purpose.TheVariants.{Walks, Clears, Retains}
+use Rattle.papaya_passes.specs.Given.SweepsDeclared.sweep.Sweeping.{Sweeping}
+use Rattle.papaya_passes.specs.Given.SweepsDeclared.sweep.Sweeping.TheVariants as at
+use Rattle.papaya_passes.specs.Given.RuleChart.{Chart}
+use Rattle.papaya_passes.specs.Given.RuleWords.{Blocks}
+use Rattle.papaya_passes.specs.Given.LateCovers.{times, IsKept, Came}
+use Rattle.papaya_waits.specs.Given.CallersOverAll.{CallOverAll}
 use Rattle.papaya_whole.specs.LoneSweeps.{IsBefore, goes_once}
 use Rattle.papaya_whole.specs.SweptPairs.{about_to_go, gone_since, HasSwept, NumberedBelow, AreNumbered, those, is_done, left_by, SweptBegins, ContentsBetween, ShownIsInIt, AsksOnce, RefusedKeepsAll, SweepsLeave}
 use Rattle.papaya_whole.proofs.Contents.Below.{decided}

@@ -2,39 +2,39 @@
 use Rattle.std.specs.Prelude.{◌≡◌, ℕ, suc, ◌*◌, ◌<◌, ◌≤◌, Bool, true, false, cond}
 use Rattle.std.proofs.Common.{refl, ap, sym, subst, ◌∙◌, arith}
 use Rattle.std.proofs.lemmas.Bool.{ne_eqb}
-use Rattle.papaya_waits.specs.Given.SeizeWords.declared.at.At.TheVariants.{Root}
-use Rattle.papaya_waits.specs.Given.Seize.World.{World}
-use Rattle.papaya_passes.specs.Given.Tables.Chunks.{is_incremental}
-use Rattle.papaya_passes.specs.Given.Tables.declared.node.Node.{Node}
-use Rattle.papaya_passes.specs.Given.Tables.declared.setting.Setting.{Setting}
-use Rattle.papaya_passes.specs.Given.Tables.declared.table.Table.{Table}
-use Rattle.papaya_passes.specs.Given.Resize.declared.copier.Copier.{Copier}
-use Rattle.papaya_passes.specs.Given.Resize.declared.copier.Copying.{Copying}
-use Rattle.papaya_passes.specs.Given.Resize.declared.copier.Copying.TheVariants as copies
-use Rattle.papaya_passes.specs.Given.Resize.declared.lookup.Looking.{Looking}
-use Rattle.papaya_passes.specs.Given.Resize.declared.lookup.Looking.TheVariants as looks
-use Rattle.papaya_passes.specs.Given.Resize.declared.new_table.Making.{Making}
-use Rattle.papaya_passes.specs.Given.Resize.declared.new_table.Making.TheVariants as makes
-use Rattle.papaya_passes.specs.Given.Raw.declared.machines.asking.Asking.{Asking}
-use Rattle.papaya_passes.specs.Given.Raw.declared.machines.asking.Asking.TheVariants as asking
-use Rattle.papaya_passes.specs.Given.Raw.declared.machines.asking.Gap.{Gap}
-use Rattle.papaya_passes.specs.Given.Raw.declared.machines.asking.Gap.TheVariants as gaps
-use Rattle.papaya_passes.specs.Given.Raw.declared.machines.call.KeyCall.{KeyCall}
-use Rattle.papaya_passes.specs.Given.Raw.declared.machines.call.Calling.{Calling}
-use Rattle.papaya_passes.specs.Given.Raw.declared.machines.call.Calling.TheVariants as at
-use Rattle.papaya_passes.specs.Given.Rule.Chart.{Chart}
-use Rattle.papaya_passes.specs.Given.Rule.Words.{Blocks, root_word}
-use Rattle.papaya_passes.specs.Given.Rule.Maps.{spot_of, IsTable}
-use Rattle.papaya_passes.specs.Given.Rule.Rule.{ShutBefore}
-use Rattle.papaya_passes.specs.Given.Rule.InWorld.{IsMapIn}
-use Rattle.papaya_passes.specs.Given.Points.FactsTables.{MakingFacts}
-use Rattle.papaya_passes.specs.Given.Points.FactsLooks.{LookingFacts}
-use Rattle.papaya_passes.specs.Given.Points.FactsCopiesBlocking.{CopiesInto, CopyingFactsBlocking}
-use Rattle.papaya_passes.specs.Given.Points.FactsCalls.{Change, AtTry, ShutUpTo, GapFacts, AskingFacts, CallingFacts, CallFacts}
-use Rattle.papaya_passes.specs.Given.Late.Left.{Left}
-use Rattle.papaya_passes.specs.Given.Late.LateLooks.{IsLateTrial, LateLooking}
-use Rattle.papaya_passes.specs.Given.Late.LateCopies.{CopiesLate, LateCopying}
-use Rattle.papaya_passes.specs.Given.Late.LateCalls.{LateFirst, LateGap, LateAsking, LateCalling, LateCallFacts}
+use Rattle.papaya_waits.specs.Given.SeizeWordsDeclared.at.At.TheVariants.{Root}
+use Rattle.papaya_waits.specs.Given.SeizeWorld.{World}
+use Rattle.papaya_passes.specs.Given.TablesChunks.{is_incremental}
+use Rattle.papaya_passes.specs.Given.TablesDeclared.node.Node.{Node}
+use Rattle.papaya_passes.specs.Given.TablesDeclared.setting.Setting.{Setting}
+use Rattle.papaya_passes.specs.Given.TablesDeclared.table.Table.{Table}
+use Rattle.papaya_passes.specs.Given.ResizeDeclared.copier.Copier.{Copier}
+use Rattle.papaya_passes.specs.Given.ResizeDeclared.copier.Copying.{Copying}
+use Rattle.papaya_passes.specs.Given.ResizeDeclared.copier.Copying.TheVariants as copies
+use Rattle.papaya_passes.specs.Given.ResizeDeclared.lookup.Looking.{Looking}
+use Rattle.papaya_passes.specs.Given.ResizeDeclared.lookup.Looking.TheVariants as looks
+use Rattle.papaya_passes.specs.Given.ResizeDeclared.new_table.Making.{Making}
+use Rattle.papaya_passes.specs.Given.ResizeDeclared.new_table.Making.TheVariants as makes
+use Rattle.papaya_passes.specs.Given.RawDeclared.machines.asking.Asking.{Asking}
+use Rattle.papaya_passes.specs.Given.RawDeclared.machines.asking.Asking.TheVariants as asking
+use Rattle.papaya_passes.specs.Given.RawDeclared.machines.asking.Gap.{Gap}
+use Rattle.papaya_passes.specs.Given.RawDeclared.machines.asking.Gap.TheVariants as gaps
+use Rattle.papaya_passes.specs.Given.RawDeclared.machines.call.KeyCall.{KeyCall}
+use Rattle.papaya_passes.specs.Given.RawDeclared.machines.call.Calling.{Calling}
+use Rattle.papaya_passes.specs.Given.RawDeclared.machines.call.Calling.TheVariants as at
+use Rattle.papaya_passes.specs.Given.RuleChart.{Chart}
+use Rattle.papaya_passes.specs.Given.RuleWords.{Blocks, root_word}
+use Rattle.papaya_passes.specs.Given.RuleMaps.{spot_of, IsTable}
+use Rattle.papaya_passes.specs.Given.RuleRule.{ShutBefore}
+use Rattle.papaya_passes.specs.Given.RuleInWorld.{IsMapIn}
+use Rattle.papaya_passes.specs.Given.PointsFactsTables.{MakingFacts}
+use Rattle.papaya_passes.specs.Given.PointsFactsLooks.{LookingFacts}
+use Rattle.papaya_passes.specs.Given.PointsFactsCopiesBlocking.{CopiesInto, CopyingFactsBlocking}
+use Rattle.papaya_passes.specs.Given.PointsFactsCalls.{Change, AtTry, ShutUpTo, GapFacts, AskingFacts, CallingFacts, CallFacts}
+use Rattle.papaya_passes.specs.Given.LateLeft.{Left}
+use Rattle.papaya_passes.specs.Given.LateLateLooks.{IsLateTrial, LateLooking}
+use Rattle.papaya_passes.specs.Given.LateLateCopies.{CopiesLate, LateCopying}
+use Rattle.papaya_passes.specs.Given.LateLateCalls.{LateFirst, LateGap, LateAsking, LateCalling, LateCallFacts}
 
 -- the same tables, by what may be looked at in two ways
 module _ {K V : Type 0} (same : K → K → Bool) (hash : K → ℕ) (setting : Setting) (blocking : is_incremental setting.mode ≡ false) (w : World (Node K V)) (caller : ℕ) (c : Chart K)

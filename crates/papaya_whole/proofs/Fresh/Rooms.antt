@@ -1,21 +1,21 @@
 -- No reservation knows both what its point says in the root's table, and what is to be known in one that the root has left.
 use Rattle.std.specs.Prelude.{◌≡◌, ℕ, ◌≤◌, Bool, true, false, cond}
 use Rattle.std.proofs.Common.{subst}
-use Rattle.papaya_waits.specs.Given.Seize.World.{World}
-use Rattle.papaya_passes.specs.Given.Tables.Chunks.{is_incremental}
-use Rattle.papaya_passes.specs.Given.Tables.declared.node.Node.{Node}
-use Rattle.papaya_passes.specs.Given.Tables.declared.setting.Setting.{Setting}
-use Rattle.papaya_passes.specs.Given.Resize.declared.copier.Copier.{Copier}
-use Rattle.papaya_passes.specs.Given.Reserves.declared.reserve.Reserve.{Reserve}
-use Rattle.papaya_passes.specs.Given.Reserves.declared.reserve.Reserving.{Reserving}
-use Rattle.papaya_passes.specs.Given.Reserves.declared.reserve.Reserving.TheVariants as at
-use Rattle.papaya_passes.specs.Given.Rule.Chart.{Chart}
-use Rattle.papaya_passes.specs.Given.Rule.Words.{Blocks}
-use Rattle.papaya_passes.specs.Given.Rule.InWorld.{IsMapIn}
-use Rattle.papaya_passes.specs.Given.Points.FactsCopies.{CopierFacts}
-use Rattle.papaya_passes.specs.Given.Points.FactsCopiesBlocking.{CopierFactsBlocking}
-use Rattle.papaya_passes.specs.Given.Late.FactsReserves.{IsRoot, IsEnding, CopiesWhole, ReservingFacts, ReserveFacts}
-use Rattle.papaya_passes.specs.Given.Late.LateReserves.{LateReserving, LateReserveFacts}
+use Rattle.papaya_waits.specs.Given.SeizeWorld.{World}
+use Rattle.papaya_passes.specs.Given.TablesChunks.{is_incremental}
+use Rattle.papaya_passes.specs.Given.TablesDeclared.node.Node.{Node}
+use Rattle.papaya_passes.specs.Given.TablesDeclared.setting.Setting.{Setting}
+use Rattle.papaya_passes.specs.Given.ResizeDeclared.copier.Copier.{Copier}
+use Rattle.papaya_passes.specs.Given.ReservesDeclared.reserve.Reserve.{Reserve}
+use Rattle.papaya_passes.specs.Given.ReservesDeclared.reserve.Reserving.{Reserving}
+use Rattle.papaya_passes.specs.Given.ReservesDeclared.reserve.Reserving.TheVariants as at
+use Rattle.papaya_passes.specs.Given.RuleChart.{Chart}
+use Rattle.papaya_passes.specs.Given.RuleWords.{Blocks}
+use Rattle.papaya_passes.specs.Given.RuleInWorld.{IsMapIn}
+use Rattle.papaya_passes.specs.Given.PointsFactsCopies.{CopierFacts}
+use Rattle.papaya_passes.specs.Given.PointsFactsCopiesBlocking.{CopierFactsBlocking}
+use Rattle.papaya_passes.specs.Given.LateFactsReserves.{IsRoot, IsEnding, CopiesWhole, ReservingFacts, ReserveFacts}
+use Rattle.papaya_passes.specs.Given.LateLateReserves.{LateReserving, LateReserveFacts}
 use Rattle.papaya_whole.proofs.Fresh.Calls.{table_none, copying_none, making_none}
 
 module _ {K V : Type 0} (same : K → K → Bool) (hash : K → ℕ) (setting : Setting) (w : World (Node K V)) (caller : ℕ) (c : Chart K) (blocks : Blocks) where

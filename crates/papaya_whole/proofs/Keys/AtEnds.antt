@@ -1,20 +1,20 @@
 -- A map that begins rests; and where a call has answered, the shards say how many pairs the map has.
 use Rattle.std.specs.Prelude.{◌≡◌, ℕ, Bool, None}
 use Rattle.std.proofs.Common.{inl, inr, refl, subst}
-use Rattle.papaya_passes.specs.Given.Tables.Chunks.{is_incremental}
-use Rattle.papaya_passes.specs.Given.Tables.declared.setting.Setting.{Setting}
-use Rattle.papaya_passes.specs.Given.Raw.declared.machines.answer.KeyAnswer.{KeyAnswer}
-use Rattle.papaya_passes.specs.Given.Raw.declared.machines.answer.KeyAnswer.TheVariants as answers
-use Rattle.papaya_passes.specs.Given.Rule.Chart.{Chart}
-use Rattle.papaya_passes.specs.Given.Rule.Words.{Blocks}
-use Rattle.papaya_passes.specs.Given.Points.FactsCalls.{Change, Unchanged}
-use Rattle.papaya_waits.specs.Given.Alone.Counted.{HasAdded, counted_for}
-use Rattle.papaya_waits.specs.Given.Alone.Alone.{HasChanged}
-use Rattle.papaya_waits.proofs.Given.Alone.Lone.Beside.{rests_first}
-use Rattle.papaya_waits.proofs.Given.Alone.Shards.PairsChanged.{counted_then, counted_unchanged}
-use Rattle.papaya_waits.specs.Given.Callers.Since.{WasSo}
-use Rattle.papaya_waits.specs.Given.Callers.Together.{in_slot}
-use Rattle.papaya_waits.proofs.Given.Callers.Together.MapStands.{map_begins_together}
+use Rattle.papaya_passes.specs.Given.TablesChunks.{is_incremental}
+use Rattle.papaya_passes.specs.Given.TablesDeclared.setting.Setting.{Setting}
+use Rattle.papaya_passes.specs.Given.RawDeclared.machines.answer.KeyAnswer.{KeyAnswer}
+use Rattle.papaya_passes.specs.Given.RawDeclared.machines.answer.KeyAnswer.TheVariants as answers
+use Rattle.papaya_passes.specs.Given.RuleChart.{Chart}
+use Rattle.papaya_passes.specs.Given.RuleWords.{Blocks}
+use Rattle.papaya_passes.specs.Given.PointsFactsCalls.{Change, Unchanged}
+use Rattle.papaya_waits.specs.Given.AloneCounted.{HasAdded, counted_for}
+use Rattle.papaya_waits.specs.Given.AloneAlone.{HasChanged}
+use Rattle.papaya_waits.proofs.Given.AloneLone.Beside.{rests_first}
+use Rattle.papaya_waits.proofs.Given.AloneShards.PairsChanged.{counted_then, counted_unchanged}
+use Rattle.papaya_waits.specs.Given.CallersSince.{WasSo}
+use Rattle.papaya_waits.specs.Given.CallersTogether.{in_slot}
+use Rattle.papaya_waits.proofs.Given.CallersTogether.MapStands.{map_begins_together}
 use Rattle.papaya_whole.specs.Whole.{MapBeginsAtRest, CountsAtEnd, CountsWhereUnchanged}
 
 -- an answer that was so at a moment counts nothing

@@ -2,24 +2,24 @@
 use Rattle.std.specs.Prelude.{◌≡◌, ℕ, ◌<◌, ◌≤◌, ◌^◌, ◌⊎◌, Bool, length, slice_index_or, Option, Some, None}
 use Rattle.std.proofs.Common.{inl, inr, refl, sym, ◌∙◌, arith}
 use Rattle.std.proofs.lemmas.Bool.{cases_lt}
-use Rattle.papaya_waits.specs.Given.Seize.World.{World, Rests, with_at}
-use Rattle.papaya_passes.specs.Given.Tables.Chunks.{is_incremental}
-use Rattle.papaya_passes.specs.Given.Tables.declared.node.Node.{Node}
-use Rattle.papaya_passes.specs.Given.Tables.declared.setting.Setting.{Setting}
-use Rattle.papaya_passes.specs.Given.Raw.declared.machines.call.KeyCall.{KeyCall}
-use Rattle.papaya_passes.specs.Given.Rule.Chart.{Chart}
-use Rattle.papaya_passes.specs.Given.Rule.Words.{Blocks}
-use Rattle.papaya_passes.specs.Given.Points.Steps.{AreLawful}
-use Rattle.papaya_passes.specs.Given.Late.LateCalls.{LateCallFacts}
-use Rattle.papaya_waits.specs.Given.Alone.FactsAloneCalls.{TablesAlone, StandsAlone}
-use Rattle.papaya_waits.specs.Given.Callers.Claims.{AreFew}
-use Rattle.papaya_waits.specs.Given.Callers.Pairs.{Given}
-use Rattle.papaya_waits.specs.Given.Callers.Rows.{row_of}
-use Rattle.papaya_waits.specs.Given.Callers.Sights.{Sight, seen_by}
-use Rattle.papaya_waits.specs.Given.Callers.Together.{UnderWay, CallOnKey, OnKey, HasCall, IsBegun, Gets, Removes, Inserts, TriesToInsert, Computes, Updates, UpdatesOrInserts, TriesToInsertWith, RemovesIf, begun_at, in_slot, Stands, Together}
-use Rattle.papaya_waits.proofs.Given.Callers.Together.At.{at_other, at_same}
-use Rattle.papaya_waits.proofs.Given.Callers.Together.Begins.{begins_together}
-use Rattle.papaya_waits.proofs.Given.Callers.Together.FactsOn.{KnowsOfCall}
+use Rattle.papaya_waits.specs.Given.SeizeWorld.{World, Rests, with_at}
+use Rattle.papaya_passes.specs.Given.TablesChunks.{is_incremental}
+use Rattle.papaya_passes.specs.Given.TablesDeclared.node.Node.{Node}
+use Rattle.papaya_passes.specs.Given.TablesDeclared.setting.Setting.{Setting}
+use Rattle.papaya_passes.specs.Given.RawDeclared.machines.call.KeyCall.{KeyCall}
+use Rattle.papaya_passes.specs.Given.RuleChart.{Chart}
+use Rattle.papaya_passes.specs.Given.RuleWords.{Blocks}
+use Rattle.papaya_passes.specs.Given.PointsSteps.{AreLawful}
+use Rattle.papaya_passes.specs.Given.LateLateCalls.{LateCallFacts}
+use Rattle.papaya_waits.specs.Given.AloneFactsAloneCalls.{TablesAlone, StandsAlone}
+use Rattle.papaya_waits.specs.Given.CallersClaims.{AreFew}
+use Rattle.papaya_waits.specs.Given.CallersPairs.{Given}
+use Rattle.papaya_waits.specs.Given.CallersRows.{row_of}
+use Rattle.papaya_waits.specs.Given.CallersSights.{Sight, seen_by}
+use Rattle.papaya_waits.specs.Given.CallersTogether.{UnderWay, CallOnKey, OnKey, HasCall, IsBegun, Gets, Removes, Inserts, TriesToInsert, Computes, Updates, UpdatesOrInserts, TriesToInsertWith, RemovesIf, begun_at, in_slot, Stands, Together}
+use Rattle.papaya_waits.proofs.Given.CallersTogether.At.{at_other, at_same}
+use Rattle.papaya_waits.proofs.Given.CallersTogether.Begins.{begins_together}
+use Rattle.papaya_waits.proofs.Given.CallersTogether.FactsOn.{KnowsOfCall}
 use Rattle.papaya_whole.specs.Owner.{IsFirst, IsOfRoot, AtRest, IsAlone}
 use Rattle.papaya_whole.specs.Whole.{CallsBeginAlone}
 use Rattle.papaya_whole.proofs.Rows.Standing.{no_row_rests}

@@ -1,12 +1,12 @@
 -- Where a call has answered, it has counted what its answer tells.
 use Rattle.std.specs.Prelude.{◌≡◌}
 use Rattle.std.proofs.Common.{ap, sym}
-use Rattle.papaya_passes.specs.Given.Raw.declared.machines.answer.KeyAnswer.{KeyAnswer}
-use Rattle.papaya_passes.specs.Given.Raw.declared.machines.asking.Asking.TheVariants as asking
-use Rattle.papaya_passes.specs.Given.Raw.declared.machines.call.Calling.{Calling}
-use Rattle.papaya_passes.specs.Given.Raw.declared.machines.call.Calling.TheVariants as at
-use Rattle.papaya_passes.specs.Given.Points.Told.{HasAnswered}
-use Rattle.papaya_waits.specs.Given.Alone.Counted.{counted_for, counted_end, counted_at}
+use Rattle.papaya_passes.specs.Given.RawDeclared.machines.answer.KeyAnswer.{KeyAnswer}
+use Rattle.papaya_passes.specs.Given.RawDeclared.machines.asking.Asking.TheVariants as asking
+use Rattle.papaya_passes.specs.Given.RawDeclared.machines.call.Calling.{Calling}
+use Rattle.papaya_passes.specs.Given.RawDeclared.machines.call.Calling.TheVariants as at
+use Rattle.papaya_passes.specs.Given.PointsTold.{HasAnswered}
+use Rattle.papaya_waits.specs.Given.AloneCounted.{counted_for, counted_end, counted_at}
 
 pub answered_counted : (answer : KeyAnswer) (stands : Calling) → HasAnswered answer stands → counted_at stands ≡ counted_for answer
 answered_counted answer (at.Drops end) a = ap counted_end a

@@ -2,24 +2,24 @@
 use Rattle.std.specs.Prelude.{◌≡◌, ℕ, Bool, List, length}
 use Rattle.std.specs.Int.{IsPowerOfTwo}
 use Rattle.std.proofs.Common.{inl, inr, refl, ap, sym, subst, ◌∙◌}
-use Rattle.papaya_waits.specs.Given.SeizeWords.Mem.{Mem, Took, value_at}
-use Rattle.papaya_waits.specs.Given.SeizeWords.Plan.{Steps}
-use Rattle.papaya_waits.specs.Given.Seize.World.{World}
-use Rattle.papaya_passes.specs.Given.Tables.declared.node.Node.{Node}
-use Rattle.papaya_passes.specs.Given.Tables.declared.setting.Setting.{Setting}
-use Rattle.papaya_passes.specs.Given.Raw.Call.{call_plan}
-use Rattle.papaya_passes.specs.Given.Raw.declared.machines.answer.Called.{Called}
-use Rattle.papaya_passes.specs.Given.Raw.declared.machines.answer.Called.TheVariants as called
-use Rattle.papaya_passes.specs.Given.Raw.declared.machines.call.KeyCall.{KeyCall}
-use Rattle.papaya_passes.specs.Given.Rule.Chart.{Chart}
-use Rattle.papaya_passes.specs.Given.Rule.Words.{Blocks}
-use Rattle.papaya_passes.specs.Given.Points.Measures.{IsBelow, EndsFrom, ends}
-use Rattle.papaya_passes.specs.Given.Points.Steps.{AreLawful}
-use Rattle.papaya_passes.specs.Given.Points.Told.{IsRowOfCall}
-use Rattle.papaya_passes.proofs.Given.Points.Descents.{descents_end}
-use Rattle.papaya_waits.specs.Given.Alone.Endings.{runs_end}
-use Rattle.papaya_waits.specs.Given.Callers.Sights.{Sight, seen_by}
-use Rattle.papaya_waits.specs.Given.Callers.Together.{CallOnKey, OnKey}
+use Rattle.papaya_waits.specs.Given.SeizeWordsMem.{Mem, Took, value_at}
+use Rattle.papaya_waits.specs.Given.SeizeWordsPlan.{Steps}
+use Rattle.papaya_waits.specs.Given.SeizeWorld.{World}
+use Rattle.papaya_passes.specs.Given.TablesDeclared.node.Node.{Node}
+use Rattle.papaya_passes.specs.Given.TablesDeclared.setting.Setting.{Setting}
+use Rattle.papaya_passes.specs.Given.RawCall.{call_plan}
+use Rattle.papaya_passes.specs.Given.RawDeclared.machines.answer.Called.{Called}
+use Rattle.papaya_passes.specs.Given.RawDeclared.machines.answer.Called.TheVariants as called
+use Rattle.papaya_passes.specs.Given.RawDeclared.machines.call.KeyCall.{KeyCall}
+use Rattle.papaya_passes.specs.Given.RuleChart.{Chart}
+use Rattle.papaya_passes.specs.Given.RuleWords.{Blocks}
+use Rattle.papaya_passes.specs.Given.PointsMeasures.{IsBelow, EndsFrom, ends}
+use Rattle.papaya_passes.specs.Given.PointsSteps.{AreLawful}
+use Rattle.papaya_passes.specs.Given.PointsTold.{IsRowOfCall}
+use Rattle.papaya_passes.proofs.Given.PointsDescents.{descents_end}
+use Rattle.papaya_waits.specs.Given.AloneEndings.{runs_end}
+use Rattle.papaya_waits.specs.Given.CallersSights.{Sight, seen_by}
+use Rattle.papaya_waits.specs.Given.CallersTogether.{CallOnKey, OnKey}
 use Rattle.papaya_whole.specs.Owner.{IsAlone}
 use Rattle.papaya_whole.specs.Whole.{then_so, GoesOn, ComesToAnEnd, Leads, CallsComeToAnEnd}
 use Rattle.papaya_whole.proofs.Keys.Falls.{number_all, all_as_many, own_falls, over_ends}

@@ -2,35 +2,35 @@
 use Rattle.std.specs.Prelude.{◌≡◌, ℕ, ◌+◌, ◌<◌, Bool, List, [], ◌∷◌, ◌++◌, length}
 use Rattle.std.specs.Int.{IsPowerOfTwo}
 use Rattle.std.proofs.Common.{inl, inr, refl, ap, subst, ◌∙◌, length-append}
-use Rattle.papaya_waits.specs.Given.SeizeWords.Mem.{Mem, Took, value_at}
-use Rattle.papaya_waits.specs.Given.SeizeWords.Plan.{Steps}
-use Rattle.papaya_waits.specs.Given.Seize.World.{World, Row, Settles, Defers}
-use Rattle.papaya_waits.proofs.Given.SeizeEnds.Rows.Defer.{defer_to_go}
-use Rattle.papaya_waits.proofs.Given.SeizeEnds.Settling.Most.{settle_to_go}
-use Rattle.papaya_passes.specs.Given.Tables.Nodes.{deferred_word}
-use Rattle.papaya_passes.specs.Given.Tables.declared.node.Node.{Node}
-use Rattle.papaya_passes.specs.Given.Tables.declared.setting.Setting.{Setting}
-use Rattle.papaya_passes.specs.Given.Raw.Call.{call_plan, plan_at}
-use Rattle.papaya_passes.specs.Given.Raw.declared.machines.answer.Called.{Called}
-use Rattle.papaya_passes.specs.Given.Raw.declared.machines.answer.Called.TheVariants as called
-use Rattle.papaya_passes.specs.Given.Raw.declared.machines.answer.End.{End}
-use Rattle.papaya_passes.specs.Given.Raw.declared.machines.answer.End.TheVariants as over
-use Rattle.papaya_passes.specs.Given.Raw.declared.machines.call.KeyCall.{KeyCall}
-use Rattle.papaya_passes.specs.Given.Raw.declared.machines.call.Calling.{Calling}
-use Rattle.papaya_passes.specs.Given.Raw.declared.machines.call.Calling.TheVariants as at
-use Rattle.papaya_passes.specs.Given.Rule.Chart.{Chart}
-use Rattle.papaya_passes.specs.Given.Rule.Words.{Blocks}
-use Rattle.papaya_passes.specs.Given.Rule.InWorld.{Went}
-use Rattle.papaya_passes.specs.Given.Points.FactsCalls.{Change}
-use Rattle.papaya_passes.specs.Given.Points.Measures.{IsBelow}
-use Rattle.papaya_passes.specs.Given.Points.Steps.{AreLawful}
-use Rattle.papaya_passes.specs.Given.Points.Told.{IsRowOfCall}
-use Rattle.papaya_waits.specs.Given.Alone.Endings.{runs_end}
-use Rattle.papaya_passes.specs.Given.Falls.Calls.{number_of_call}
-use Rattle.papaya_passes.proofs.Given.Falls.Laws.{calls_fall, numbers_are_as_many}
-use Rattle.papaya_waits.specs.Given.Callers.Rows.{row_of}
-use Rattle.papaya_waits.specs.Given.Callers.Sights.{Sight, seen_by}
-use Rattle.papaya_waits.specs.Given.Callers.Together.{CallOnKey, OnKey}
+use Rattle.papaya_waits.specs.Given.SeizeWordsMem.{Mem, Took, value_at}
+use Rattle.papaya_waits.specs.Given.SeizeWordsPlan.{Steps}
+use Rattle.papaya_waits.specs.Given.SeizeWorld.{World, Row, Settles, Defers}
+use Rattle.papaya_waits.proofs.Given.SeizeEndsRows.Defer.{defer_to_go}
+use Rattle.papaya_waits.proofs.Given.SeizeEndsSettling.Most.{settle_to_go}
+use Rattle.papaya_passes.specs.Given.TablesNodes.{deferred_word}
+use Rattle.papaya_passes.specs.Given.TablesDeclared.node.Node.{Node}
+use Rattle.papaya_passes.specs.Given.TablesDeclared.setting.Setting.{Setting}
+use Rattle.papaya_passes.specs.Given.RawCall.{call_plan, plan_at}
+use Rattle.papaya_passes.specs.Given.RawDeclared.machines.answer.Called.{Called}
+use Rattle.papaya_passes.specs.Given.RawDeclared.machines.answer.Called.TheVariants as called
+use Rattle.papaya_passes.specs.Given.RawDeclared.machines.answer.End.{End}
+use Rattle.papaya_passes.specs.Given.RawDeclared.machines.answer.End.TheVariants as over
+use Rattle.papaya_passes.specs.Given.RawDeclared.machines.call.KeyCall.{KeyCall}
+use Rattle.papaya_passes.specs.Given.RawDeclared.machines.call.Calling.{Calling}
+use Rattle.papaya_passes.specs.Given.RawDeclared.machines.call.Calling.TheVariants as at
+use Rattle.papaya_passes.specs.Given.RuleChart.{Chart}
+use Rattle.papaya_passes.specs.Given.RuleWords.{Blocks}
+use Rattle.papaya_passes.specs.Given.RuleInWorld.{Went}
+use Rattle.papaya_passes.specs.Given.PointsFactsCalls.{Change}
+use Rattle.papaya_passes.specs.Given.PointsMeasures.{IsBelow}
+use Rattle.papaya_passes.specs.Given.PointsSteps.{AreLawful}
+use Rattle.papaya_passes.specs.Given.PointsTold.{IsRowOfCall}
+use Rattle.papaya_waits.specs.Given.AloneEndings.{runs_end}
+use Rattle.papaya_passes.specs.Given.FallsCalls.{number_of_call}
+use Rattle.papaya_passes.proofs.Given.FallsLaws.{calls_fall, numbers_are_as_many}
+use Rattle.papaya_waits.specs.Given.CallersRows.{row_of}
+use Rattle.papaya_waits.specs.Given.CallersSights.{Sight, seen_by}
+use Rattle.papaya_waits.specs.Given.CallersTogether.{CallOnKey, OnKey}
 use Rattle.papaya_whole.specs.Owner.{IsAlone}
 use Rattle.papaya_whole.specs.Whole.{then_so, GoesOn, ComesToAnEnd}
 use Rattle.papaya_whole.proofs.Joined.{same_joined, links_joined}

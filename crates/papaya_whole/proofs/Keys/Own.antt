@@ -3,46 +3,46 @@ use Rattle.std.specs.Prelude.{◌≡◌, ℕ, ◌<◌, Bool, Option, Some, None}
 use Rattle.std.specs.Int.{IsPowerOfTwo}
 use Rattle.std.proofs.Common.{inl, inr, refl, ap, sym, subst, ◌∙◌, true}
 use Rattle.std.proofs.lemmas.Bool.{cases_eq, cases_lt}
-use Rattle.papaya_waits.specs.Given.SeizeWords.Mem.{Mem, Can, Took, value_at}
-use Rattle.papaya_waits.specs.Given.SeizeWords.Plan.{May, Steps}
-use Rattle.papaya_waits.specs.Given.Seize.World.{World, Row, Rests, IsInside, with_at}
-use Rattle.papaya_waits.proofs.Given.SeizeAlone.Histories.Reached.{Reached}
-use Rattle.papaya_passes.specs.Given.Tables.Chunks.{is_incremental}
-use Rattle.papaya_passes.specs.Given.Tables.Nodes.{deferred_word}
-use Rattle.papaya_passes.specs.Given.Tables.declared.node.Node.{Node}
-use Rattle.papaya_passes.specs.Given.Tables.declared.setting.Setting.{Setting}
-use Rattle.papaya_passes.specs.Given.Raw.Call.{call_plan}
-use Rattle.papaya_passes.specs.Given.Raw.declared.machines.answer.Called.{Called}
-use Rattle.papaya_passes.specs.Given.Raw.declared.machines.answer.Called.TheVariants as called
-use Rattle.papaya_passes.specs.Given.Raw.declared.machines.call.KeyCall.{KeyCall}
-use Rattle.papaya_passes.specs.Given.Rule.Chart.{Chart}
-use Rattle.papaya_passes.specs.Given.Rule.Words.{Blocks}
-use Rattle.papaya_passes.specs.Given.Rule.InWorld.{IsMapIn, IsOut, Went}
-use Rattle.papaya_passes.proofs.Given.Rule.World.WentTold.{went_as}
-use Rattle.papaya_passes.specs.Given.Points.FactsCalls.{CallFacts}
-use Rattle.papaya_passes.specs.Given.Points.Steps.{AreLawful}
-use Rattle.papaya_passes.specs.Given.Points.Told.{IsRowOfCall, CallFactsAfter, CallTold}
-use Rattle.papaya_passes.proofs.Given.Points.Calls.StepsTold.{calls_keep_the_map}
-use Rattle.papaya_waits.specs.Given.Alone.FactsAloneCalls.{IsLone, RestsAlone, LeadsLone}
-use Rattle.papaya_waits.proofs.Given.Alone.Lone.Stays.{LoneWent, went_call_lone}
-use Rattle.papaya_waits.specs.Given.Callers.Sights.{Sight, seen_by}
-use Rattle.papaya_waits.specs.Given.Callers.Together.{UnderWay, CallOnKey, OnKey, next_of, in_slot, Knows, Stands, Together, StepsTogether}
-use Rattle.papaya_waits.proofs.Given.Callers.Sights.Seen.{map_seen}
-use Rattle.papaya_waits.proofs.Given.Callers.Together.At.{at_other, at_same}
-use Rattle.papaya_waits.proofs.Given.Callers.Together.Came.{came_reached}
-use Rattle.papaya_waits.proofs.Given.Callers.Together.FactsOn.{KnowsOfCall}
-use Rattle.papaya_waits.proofs.Given.Callers.Together.Fits.{map_in_slot}
-use Rattle.papaya_waits.proofs.Given.Callers.Together.Stand.{fresh_leads}
-use Rattle.papaya_waits.proofs.Given.Callers.Together.Users.{events_rows, inside_on}
+use Rattle.papaya_waits.specs.Given.SeizeWordsMem.{Mem, Can, Took, value_at}
+use Rattle.papaya_waits.specs.Given.SeizeWordsPlan.{May, Steps}
+use Rattle.papaya_waits.specs.Given.SeizeWorld.{World, Row, Rests, IsInside, with_at}
+use Rattle.papaya_waits.proofs.Given.SeizeAloneHistories.Reached.{Reached}
+use Rattle.papaya_passes.specs.Given.TablesChunks.{is_incremental}
+use Rattle.papaya_passes.specs.Given.TablesNodes.{deferred_word}
+use Rattle.papaya_passes.specs.Given.TablesDeclared.node.Node.{Node}
+use Rattle.papaya_passes.specs.Given.TablesDeclared.setting.Setting.{Setting}
+use Rattle.papaya_passes.specs.Given.RawCall.{call_plan}
+use Rattle.papaya_passes.specs.Given.RawDeclared.machines.answer.Called.{Called}
+use Rattle.papaya_passes.specs.Given.RawDeclared.machines.answer.Called.TheVariants as called
+use Rattle.papaya_passes.specs.Given.RawDeclared.machines.call.KeyCall.{KeyCall}
+use Rattle.papaya_passes.specs.Given.RuleChart.{Chart}
+use Rattle.papaya_passes.specs.Given.RuleWords.{Blocks}
+use Rattle.papaya_passes.specs.Given.RuleInWorld.{IsMapIn, IsOut, Went}
+use Rattle.papaya_passes.proofs.Given.RuleWorld.WentTold.{went_as}
+use Rattle.papaya_passes.specs.Given.PointsFactsCalls.{CallFacts}
+use Rattle.papaya_passes.specs.Given.PointsSteps.{AreLawful}
+use Rattle.papaya_passes.specs.Given.PointsTold.{IsRowOfCall, CallFactsAfter, CallTold}
+use Rattle.papaya_passes.proofs.Given.PointsCalls.StepsTold.{calls_keep_the_map}
+use Rattle.papaya_waits.specs.Given.AloneFactsAloneCalls.{IsLone, RestsAlone, LeadsLone}
+use Rattle.papaya_waits.proofs.Given.AloneLone.Stays.{LoneWent, went_call_lone}
+use Rattle.papaya_waits.specs.Given.CallersSights.{Sight, seen_by}
+use Rattle.papaya_waits.specs.Given.CallersTogether.{UnderWay, CallOnKey, OnKey, next_of, in_slot, Knows, Stands, Together, StepsTogether}
+use Rattle.papaya_waits.proofs.Given.CallersSights.Seen.{map_seen}
+use Rattle.papaya_waits.proofs.Given.CallersTogether.At.{at_other, at_same}
+use Rattle.papaya_waits.proofs.Given.CallersTogether.Came.{came_reached}
+use Rattle.papaya_waits.proofs.Given.CallersTogether.FactsOn.{KnowsOfCall}
+use Rattle.papaya_waits.proofs.Given.CallersTogether.Fits.{map_in_slot}
+use Rattle.papaya_waits.proofs.Given.CallersTogether.Stand.{fresh_leads}
+use Rattle.papaya_waits.proofs.Given.CallersTogether.Users.{events_rows, inside_on}
 use Rattle.papaya_whole.specs.Owner.{IsFirst, IsOfRoot, AtRest, IsAlone}
 use Rattle.papaya_whole.specs.Whole.{then_so, Leads, StepLeads}
-use Rattle.papaya_passes.proofs.Given.Points.MovedLasts.{moved_lasts}
-use Rattle.papaya_waits.proofs.Given.Alone.Calls.Changes.{changed_on}
-use Rattle.papaya_waits.proofs.Given.Callers.Sights.Sources.{below, above}
+use Rattle.papaya_passes.proofs.Given.PointsMovedLasts.{moved_lasts}
+use Rattle.papaya_waits.proofs.Given.AloneCalls.Changes.{changed_on}
+use Rattle.papaya_waits.proofs.Given.CallersSights.Sources.{below, above}
 use Rattle.papaya_whole.proofs.Contents.Runs.{were_told, went_keeps, run_on, still_on}
-use Rattle.papaya_waits.specs.Given.SeizeWords.declared.fault.Fault.{Fault}
-use Rattle.papaya_waits.specs.Given.Alone.Counted.{HasAdded, counted_at}
-use Rattle.papaya_waits.proofs.Given.Alone.Shards.Counted.{counted_on}
+use Rattle.papaya_waits.specs.Given.SeizeWordsDeclared.fault.Fault.{Fault}
+use Rattle.papaya_waits.specs.Given.AloneCounted.{HasAdded, counted_at}
+use Rattle.papaya_waits.proofs.Given.AloneShards.Counted.{counted_on}
 use Rattle.papaya_whole.proofs.Fresh.Calls.{never_both}
 use Rattle.papaya_whole.proofs.Keys.Counted.{answered_counted}
 use Rattle.papaya_whole.proofs.Limits.Keys.{call_ends}

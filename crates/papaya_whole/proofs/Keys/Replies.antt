@@ -2,44 +2,44 @@
 use Rattle.std.specs.Prelude.{◌≡◌, ℕ, ◌==◌, Bool, true, false, Option, Some, if◌then◌else◌}
 use Rattle.std.specs.Int.{IsPowerOfTwo}
 use Rattle.std.proofs.Common.{inl, inr, refl, ap, sym, subst, ◌∙◌}
-use Rattle.papaya_waits.specs.Given.Seize.World.{World, with_at}
-use Rattle.papaya_passes.specs.Given.Tables.Chunks.{is_incremental}
-use Rattle.papaya_passes.specs.Given.Tables.declared.marks.TheConstants.{TOMBSTONE}
-use Rattle.papaya_passes.specs.Given.Tables.declared.node.Node.{Node}
-use Rattle.papaya_passes.specs.Given.Tables.declared.setting.Setting.{Setting}
-use Rattle.papaya_waits.specs.Given.SeizeWords.declared.fault.Fault.TheVariants.{RemoveNothing}
-use Rattle.papaya_passes.specs.Given.Raw.CallAsks.{with_absent, with_present, absent_told, present_told, told_at, replied}
-use Rattle.papaya_passes.specs.Given.Raw.CallPoints.{over, going, ending, storing, burying, at_gap}
-use Rattle.papaya_passes.specs.Given.Raw.declared.machines.answer.End.{End}
-use Rattle.papaya_passes.specs.Given.Raw.declared.machines.answer.End.TheVariants as ends
-use Rattle.papaya_passes.specs.Given.Raw.declared.machines.answer.KeyAnswer.TheVariants as answers
-use Rattle.papaya_passes.specs.Given.Raw.declared.machines.asking.Asking.{Asking}
-use Rattle.papaya_passes.specs.Given.Raw.declared.machines.asking.Asking.TheVariants as asking
-use Rattle.papaya_passes.specs.Given.Raw.declared.machines.asking.Gap.{Gap}
-use Rattle.papaya_passes.specs.Given.Raw.declared.machines.asking.Gap.TheVariants as gaps
-use Rattle.papaya_passes.specs.Given.Raw.declared.machines.asking.Reply.{Reply}
-use Rattle.papaya_passes.specs.Given.Raw.declared.machines.asking.Reply.TheVariants as reply
-use Rattle.papaya_passes.specs.Given.Raw.declared.machines.asking.Takes.{Takes}
-use Rattle.papaya_passes.specs.Given.Raw.declared.machines.asking.Takes.TheVariants as takes
-use Rattle.papaya_passes.specs.Given.Raw.declared.machines.asking.Told.{Told}
-use Rattle.papaya_passes.specs.Given.Raw.declared.machines.asking.Told.TheVariants as tells
-use Rattle.papaya_passes.specs.Given.Raw.declared.machines.call.KeyCall.{KeyCall}
-use Rattle.papaya_passes.specs.Given.Raw.declared.machines.call.Calling.{Calling}
-use Rattle.papaya_passes.specs.Given.Raw.declared.machines.call.Calling.TheVariants as at
-use Rattle.papaya_passes.specs.Given.Rule.Chart.{Chart}
-use Rattle.papaya_passes.specs.Given.Rule.Words.{Blocks}
-use Rattle.papaya_passes.specs.Given.Rule.InWorld.{IsMapIn}
-use Rattle.papaya_passes.specs.Given.Points.FactsCalls.{CallFacts}
-use Rattle.papaya_passes.specs.Given.Points.Steps.{AreLawful}
-use Rattle.papaya_passes.specs.Given.Points.Told.{IsRowOfCall}
-use Rattle.papaya_passes.proofs.Given.Points.Calls.RepliesKnow.{replies_are_taken}
-use Rattle.papaya_waits.specs.Given.Alone.Counted.{counted_end, counted_at}
-use Rattle.papaya_waits.specs.Given.Alone.FactsAloneCalls.{TablesAlone, StandsAlone}
-use Rattle.papaya_waits.specs.Given.Callers.Sights.{Sight, seen_by}
-use Rattle.papaya_waits.specs.Given.Callers.Together.{CallOnKey, OnKey, told_about, in_slot, Stands, Together}
-use Rattle.papaya_waits.proofs.Given.Callers.Together.At.{at_other, at_same}
-use Rattle.papaya_waits.proofs.Given.Callers.Together.FactsOn.{KnowsOfCall}
-use Rattle.papaya_waits.proofs.Given.Callers.Together.Replies.{replies_stand_together}
+use Rattle.papaya_waits.specs.Given.SeizeWorld.{World, with_at}
+use Rattle.papaya_passes.specs.Given.TablesChunks.{is_incremental}
+use Rattle.papaya_passes.specs.Given.TablesDeclared.marks.TheConstants.{TOMBSTONE}
+use Rattle.papaya_passes.specs.Given.TablesDeclared.node.Node.{Node}
+use Rattle.papaya_passes.specs.Given.TablesDeclared.setting.Setting.{Setting}
+use Rattle.papaya_waits.specs.Given.SeizeWordsDeclared.fault.Fault.TheVariants.{RemoveNothing}
+use Rattle.papaya_passes.specs.Given.RawCallAsks.{with_absent, with_present, absent_told, present_told, told_at, replied}
+use Rattle.papaya_passes.specs.Given.RawCallPoints.{over, going, ending, storing, burying, at_gap}
+use Rattle.papaya_passes.specs.Given.RawDeclared.machines.answer.End.{End}
+use Rattle.papaya_passes.specs.Given.RawDeclared.machines.answer.End.TheVariants as ends
+use Rattle.papaya_passes.specs.Given.RawDeclared.machines.answer.KeyAnswer.TheVariants as answers
+use Rattle.papaya_passes.specs.Given.RawDeclared.machines.asking.Asking.{Asking}
+use Rattle.papaya_passes.specs.Given.RawDeclared.machines.asking.Asking.TheVariants as asking
+use Rattle.papaya_passes.specs.Given.RawDeclared.machines.asking.Gap.{Gap}
+use Rattle.papaya_passes.specs.Given.RawDeclared.machines.asking.Gap.TheVariants as gaps
+use Rattle.papaya_passes.specs.Given.RawDeclared.machines.asking.Reply.{Reply}
+use Rattle.papaya_passes.specs.Given.RawDeclared.machines.asking.Reply.TheVariants as reply
+use Rattle.papaya_passes.specs.Given.RawDeclared.machines.asking.Takes.{Takes}
+use Rattle.papaya_passes.specs.Given.RawDeclared.machines.asking.Takes.TheVariants as takes
+use Rattle.papaya_passes.specs.Given.RawDeclared.machines.asking.Told.{Told}
+use Rattle.papaya_passes.specs.Given.RawDeclared.machines.asking.Told.TheVariants as tells
+use Rattle.papaya_passes.specs.Given.RawDeclared.machines.call.KeyCall.{KeyCall}
+use Rattle.papaya_passes.specs.Given.RawDeclared.machines.call.Calling.{Calling}
+use Rattle.papaya_passes.specs.Given.RawDeclared.machines.call.Calling.TheVariants as at
+use Rattle.papaya_passes.specs.Given.RuleChart.{Chart}
+use Rattle.papaya_passes.specs.Given.RuleWords.{Blocks}
+use Rattle.papaya_passes.specs.Given.RuleInWorld.{IsMapIn}
+use Rattle.papaya_passes.specs.Given.PointsFactsCalls.{CallFacts}
+use Rattle.papaya_passes.specs.Given.PointsSteps.{AreLawful}
+use Rattle.papaya_passes.specs.Given.PointsTold.{IsRowOfCall}
+use Rattle.papaya_passes.proofs.Given.PointsCalls.RepliesKnow.{replies_are_taken}
+use Rattle.papaya_waits.specs.Given.AloneCounted.{counted_end, counted_at}
+use Rattle.papaya_waits.specs.Given.AloneFactsAloneCalls.{TablesAlone, StandsAlone}
+use Rattle.papaya_waits.specs.Given.CallersSights.{Sight, seen_by}
+use Rattle.papaya_waits.specs.Given.CallersTogether.{CallOnKey, OnKey, told_about, in_slot, Stands, Together}
+use Rattle.papaya_waits.proofs.Given.CallersTogether.At.{at_other, at_same}
+use Rattle.papaya_waits.proofs.Given.CallersTogether.FactsOn.{KnowsOfCall}
+use Rattle.papaya_waits.proofs.Given.CallersTogether.Replies.{replies_stand_together}
 use Rattle.papaya_whole.specs.Owner.{IsFirst, IsOfRoot, IsAlone}
 use Rattle.papaya_whole.specs.Whole.{RepliesLeadOn, RepliesCountNothing}
 use Rattle.papaya_whole.proofs.Fresh.Calls.{never_both}

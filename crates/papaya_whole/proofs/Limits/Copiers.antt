@@ -2,32 +2,32 @@
 -- the last still.
 use Rattle.std.specs.Prelude.{◌≡◌, ℕ, suc, ◌^◌, ◌≤◌, Bool}
 use Rattle.std.proofs.Common.{ap, sym, subst, ◌∙◌, arith}
-use Rattle.papaya_waits.specs.Given.SeizeWords.Mem.{Mem}
-use Rattle.papaya_waits.specs.Given.SeizeWords.declared.at.At.TheVariants.{Word}
-use Rattle.papaya_waits.specs.Given.SeizeWords.declared.fault.Fault.TheVariants.{Memory}
-use Rattle.papaya_waits.specs.Given.Seize.World.{World}
-use Rattle.papaya_passes.specs.Given.Tables.Chunks.{is_incremental}
-use Rattle.papaya_passes.specs.Given.Tables.Lengths.{CannotBeFollowed}
-use Rattle.papaya_passes.specs.Given.Tables.declared.node.Node.{Node}
-use Rattle.papaya_passes.specs.Given.Tables.declared.setting.Setting.{Setting}
-use Rattle.papaya_passes.specs.Given.Tables.declared.table.Table.{Table}
-use Rattle.papaya_passes.specs.Given.Tables.declared.table_words.TheConstants.{NEXT}
-use Rattle.papaya_passes.specs.Given.Resize.Copier.{copier_plan}
-use Rattle.papaya_passes.specs.Given.Resize.declared.copier.Copier.{Copier}
-use Rattle.papaya_passes.specs.Given.Resize.declared.copier.Copying.{Copying}
-use Rattle.papaya_passes.specs.Given.Resize.declared.copier.Copying.TheVariants as copies
-use Rattle.papaya_passes.specs.Given.Rule.Chart.{Chart}
-use Rattle.papaya_passes.specs.Given.Rule.Words.{Blocks}
-use Rattle.papaya_passes.specs.Given.Rule.Lasts.{Lasts}
-use Rattle.papaya_passes.specs.Given.Rule.Maps.{spot_of, IsTable}
-use Rattle.papaya_passes.specs.Given.Rule.InWorld.{IsMapIn}
-use Rattle.papaya_passes.specs.Given.Points.FactsCopies.{CopyingFacts, CopierFacts}
-use Rattle.papaya_passes.specs.Given.Points.Told.{IsRowOfCopier}
-use Rattle.papaya_passes.specs.Given.Late.Ends.{EndsSo, EndsInCopying}
-use Rattle.papaya_waits.proofs.Given.Callers.Given.Tables.Ends.{only_the_last_ends}
-use Rattle.papaya_passes.proofs.Given.Rule.Spared.{PlanSpares}
-use Rattle.papaya_passes.proofs.Given.Rule.Words.TablesSeen.{len_is, turn_is}
-use Rattle.papaya_passes.proofs.Given.Late.KindsKept.Rooms.Bound.{BoundCopying, Keeps}
+use Rattle.papaya_waits.specs.Given.SeizeWordsMem.{Mem}
+use Rattle.papaya_waits.specs.Given.SeizeWordsDeclared.at.At.TheVariants.{Word}
+use Rattle.papaya_waits.specs.Given.SeizeWordsDeclared.fault.Fault.TheVariants.{Memory}
+use Rattle.papaya_waits.specs.Given.SeizeWorld.{World}
+use Rattle.papaya_passes.specs.Given.TablesChunks.{is_incremental}
+use Rattle.papaya_passes.specs.Given.TablesLengths.{CannotBeFollowed}
+use Rattle.papaya_passes.specs.Given.TablesDeclared.node.Node.{Node}
+use Rattle.papaya_passes.specs.Given.TablesDeclared.setting.Setting.{Setting}
+use Rattle.papaya_passes.specs.Given.TablesDeclared.table.Table.{Table}
+use Rattle.papaya_passes.specs.Given.TablesDeclared.table_words.TheConstants.{NEXT}
+use Rattle.papaya_passes.specs.Given.ResizeCopier.{copier_plan}
+use Rattle.papaya_passes.specs.Given.ResizeDeclared.copier.Copier.{Copier}
+use Rattle.papaya_passes.specs.Given.ResizeDeclared.copier.Copying.{Copying}
+use Rattle.papaya_passes.specs.Given.ResizeDeclared.copier.Copying.TheVariants as copies
+use Rattle.papaya_passes.specs.Given.RuleChart.{Chart}
+use Rattle.papaya_passes.specs.Given.RuleWords.{Blocks}
+use Rattle.papaya_passes.specs.Given.RuleLasts.{Lasts}
+use Rattle.papaya_passes.specs.Given.RuleMaps.{spot_of, IsTable}
+use Rattle.papaya_passes.specs.Given.RuleInWorld.{IsMapIn}
+use Rattle.papaya_passes.specs.Given.PointsFactsCopies.{CopyingFacts, CopierFacts}
+use Rattle.papaya_passes.specs.Given.PointsTold.{IsRowOfCopier}
+use Rattle.papaya_passes.specs.Given.LateEnds.{EndsSo, EndsInCopying}
+use Rattle.papaya_waits.proofs.Given.CallersGiven.Tables.Ends.{only_the_last_ends}
+use Rattle.papaya_passes.proofs.Given.RuleSpared.{PlanSpares}
+use Rattle.papaya_passes.proofs.Given.RuleWords.TablesSeen.{len_is, turn_is}
+use Rattle.papaya_passes.proofs.Given.LateKindsKept.Rooms.Bound.{BoundCopying, Keeps}
 use Rattle.papaya_whole.specs.Limits.{LastEnds, IsForTheLast, IsTheLast}
 use Rattle.papaya_whole.proofs.Limits.Past.{is_last}
 use Rattle.papaya_whole.proofs.Limits.Spares.{HasPlace, ReadsLast, copier_spares}

@@ -2,40 +2,40 @@
 -- one is the last still; and the length is refused only where that one cannot be followed.
 use Rattle.std.specs.Prelude.{◌≡◌, ℕ, suc, ◌^◌, ◌≤◌, Bool, true}
 use Rattle.std.proofs.Common.{refl, ap, sym, subst, ◌∙◌}
-use Rattle.papaya_waits.specs.Given.SeizeWords.Mem.{Mem, Can, Took, value_at}
-use Rattle.papaya_waits.specs.Given.SeizeWords.Plan.{May, Steps}
-use Rattle.papaya_waits.specs.Given.SeizeWords.Word.{block_in}
-use Rattle.papaya_waits.specs.Given.SeizeWords.declared.at.At.TheVariants.{Word}
-use Rattle.papaya_waits.specs.Given.Seize.World.{World}
-use Rattle.papaya_passes.specs.Given.Tables.Chunks.{is_incremental}
-use Rattle.papaya_passes.specs.Given.Tables.declared.node.Node.{Node}
-use Rattle.papaya_passes.specs.Given.Tables.declared.setting.Setting.{Setting}
-use Rattle.papaya_passes.specs.Given.Tables.declared.table.Table.{Table}
-use Rattle.papaya_passes.specs.Given.Tables.declared.table_words.TheConstants.{NEXT}
-use Rattle.papaya_passes.specs.Given.Resize.Copier.{copier_plan}
-use Rattle.papaya_passes.specs.Given.Resize.NewTable.{new_table_plan}
-use Rattle.papaya_passes.specs.Given.Resize.declared.copier.Copier.{Copier}
-use Rattle.papaya_passes.specs.Given.Raw.Call.{call_plan, first_made, helped, next_made, plan_at}
-use Rattle.papaya_passes.specs.Given.Raw.declared.machines.answer.Called.{Called}
-use Rattle.papaya_passes.specs.Given.Raw.declared.machines.answer.End.TheVariants as ends
-use Rattle.papaya_passes.specs.Given.Raw.declared.machines.asking.Asking.TheVariants as asking
-use Rattle.papaya_passes.specs.Given.Raw.declared.machines.asking.Gap.TheVariants as gaps
-use Rattle.papaya_passes.specs.Given.Raw.declared.machines.call.KeyCall.{KeyCall}
-use Rattle.papaya_passes.specs.Given.Raw.declared.machines.call.Calling.{Calling}
-use Rattle.papaya_passes.specs.Given.Raw.declared.machines.call.Calling.TheVariants as at
-use Rattle.papaya_passes.specs.Given.Rule.Chart.{Chart}
-use Rattle.papaya_passes.specs.Given.Rule.Words.{Blocks}
-use Rattle.papaya_passes.specs.Given.Rule.Lasts.{Lasts}
-use Rattle.papaya_passes.specs.Given.Rule.Maps.{spot_of}
-use Rattle.papaya_passes.specs.Given.Rule.InWorld.{IsMapIn, SameBlocks}
-use Rattle.papaya_passes.specs.Given.Points.FactsCalls.{Change, IsOwnPair, CallingFacts, CallFacts}
-use Rattle.papaya_passes.specs.Given.Points.Told.{IsRowOfCall}
-use Rattle.papaya_passes.specs.Given.Late.Ends.{EndsInCalling}
-use Rattle.papaya_passes.specs.Given.Late.Faults.{CallRefusesSo, StandsInCalling}
-use Rattle.papaya_passes.proofs.Given.Rule.Spared.{PlanSpares, spares_as, step_spares}
-use Rattle.papaya_passes.proofs.Given.Points.Calls.Probes.{own_block}
-use Rattle.papaya_passes.proofs.Given.Late.KindsKept.Rooms.Bound.{BoundCalling, Keeps, calling_on}
-use Rattle.papaya_passes.proofs.Given.Late.KindsKept.Rooms.Calling.{key_as}
+use Rattle.papaya_waits.specs.Given.SeizeWordsMem.{Mem, Can, Took, value_at}
+use Rattle.papaya_waits.specs.Given.SeizeWordsPlan.{May, Steps}
+use Rattle.papaya_waits.specs.Given.SeizeWordsWord.{block_in}
+use Rattle.papaya_waits.specs.Given.SeizeWordsDeclared.at.At.TheVariants.{Word}
+use Rattle.papaya_waits.specs.Given.SeizeWorld.{World}
+use Rattle.papaya_passes.specs.Given.TablesChunks.{is_incremental}
+use Rattle.papaya_passes.specs.Given.TablesDeclared.node.Node.{Node}
+use Rattle.papaya_passes.specs.Given.TablesDeclared.setting.Setting.{Setting}
+use Rattle.papaya_passes.specs.Given.TablesDeclared.table.Table.{Table}
+use Rattle.papaya_passes.specs.Given.TablesDeclared.table_words.TheConstants.{NEXT}
+use Rattle.papaya_passes.specs.Given.ResizeCopier.{copier_plan}
+use Rattle.papaya_passes.specs.Given.ResizeNewTable.{new_table_plan}
+use Rattle.papaya_passes.specs.Given.ResizeDeclared.copier.Copier.{Copier}
+use Rattle.papaya_passes.specs.Given.RawCall.{call_plan, first_made, helped, next_made, plan_at}
+use Rattle.papaya_passes.specs.Given.RawDeclared.machines.answer.Called.{Called}
+use Rattle.papaya_passes.specs.Given.RawDeclared.machines.answer.End.TheVariants as ends
+use Rattle.papaya_passes.specs.Given.RawDeclared.machines.asking.Asking.TheVariants as asking
+use Rattle.papaya_passes.specs.Given.RawDeclared.machines.asking.Gap.TheVariants as gaps
+use Rattle.papaya_passes.specs.Given.RawDeclared.machines.call.KeyCall.{KeyCall}
+use Rattle.papaya_passes.specs.Given.RawDeclared.machines.call.Calling.{Calling}
+use Rattle.papaya_passes.specs.Given.RawDeclared.machines.call.Calling.TheVariants as at
+use Rattle.papaya_passes.specs.Given.RuleChart.{Chart}
+use Rattle.papaya_passes.specs.Given.RuleWords.{Blocks}
+use Rattle.papaya_passes.specs.Given.RuleLasts.{Lasts}
+use Rattle.papaya_passes.specs.Given.RuleMaps.{spot_of}
+use Rattle.papaya_passes.specs.Given.RuleInWorld.{IsMapIn, SameBlocks}
+use Rattle.papaya_passes.specs.Given.PointsFactsCalls.{Change, IsOwnPair, CallingFacts, CallFacts}
+use Rattle.papaya_passes.specs.Given.PointsTold.{IsRowOfCall}
+use Rattle.papaya_passes.specs.Given.LateEnds.{EndsInCalling}
+use Rattle.papaya_passes.specs.Given.LateFaults.{CallRefusesSo, StandsInCalling}
+use Rattle.papaya_passes.proofs.Given.RuleSpared.{PlanSpares, spares_as, step_spares}
+use Rattle.papaya_passes.proofs.Given.PointsCalls.Probes.{own_block}
+use Rattle.papaya_passes.proofs.Given.LateKindsKept.Rooms.Bound.{BoundCalling, Keeps, calling_on}
+use Rattle.papaya_passes.proofs.Given.LateKindsKept.Rooms.Calling.{key_as}
 use Rattle.papaya_whole.specs.Limits.{IsForTheLast, IsTheLast}
 use Rattle.papaya_whole.proofs.Limits.Copiers.{copier_bounds, copier_keeps, ends_so, keeps_where, last_then, memory_is_other, row_copier}
 use Rattle.papaya_whole.proofs.Limits.Past.{is_last, its_link, known, made, past_same}

@@ -2,23 +2,23 @@
 use Rattle.std.specs.Prelude.{◌≡◌, ℕ, suc, ◌*◌, ◌<◌, ◌≤◌, Bool, true, cond, Some}
 use Rattle.std.proofs.Common.{refl, ap, ◌∙◌, inl, inr, arith}
 use Rattle.std.proofs.lemmas.Bool.{le-ltb}
-use Rattle.papaya_waits.specs.Given.SeizeWords.Mem.{word_at}
-use Rattle.papaya_waits.specs.Given.SeizeWords.declared.at.At.TheVariants.{Word}
-use Rattle.papaya_waits.specs.Given.Seize.World.{World}
-use Rattle.papaya_passes.specs.Given.Tables.Chunks.{is_incremental}
-use Rattle.papaya_passes.specs.Given.Tables.TablePlaces.{at_word}
-use Rattle.papaya_passes.specs.Given.Tables.declared.node.Node.{Node}
-use Rattle.papaya_passes.specs.Given.Tables.declared.setting.Setting.{Setting}
-use Rattle.papaya_passes.specs.Given.Tables.declared.table.Table.{Table}
-use Rattle.papaya_passes.specs.Given.Tables.declared.table_words.TheConstants.{NEXT}
-use Rattle.papaya_passes.specs.Given.Rule.Chart.{Chart}
-use Rattle.papaya_passes.specs.Given.Rule.Words.{Blocks}
-use Rattle.papaya_passes.specs.Given.Rule.Lasts.{Lasts}
-use Rattle.papaya_passes.specs.Given.Rule.Links.{LeadsTo}
-use Rattle.papaya_passes.specs.Given.Rule.Maps.{spot_of, IsTable}
-use Rattle.papaya_passes.specs.Given.Rule.InWorld.{IsMapIn, SameBlocks}
-use Rattle.papaya_passes.proofs.Given.Rule.Words.LinksSeen.{next_leads}
-use Rattle.papaya_passes.proofs.Given.Rule.Words.TablesSeen.{word_stands}
+use Rattle.papaya_waits.specs.Given.SeizeWordsMem.{word_at}
+use Rattle.papaya_waits.specs.Given.SeizeWordsDeclared.at.At.TheVariants.{Word}
+use Rattle.papaya_waits.specs.Given.SeizeWorld.{World}
+use Rattle.papaya_passes.specs.Given.TablesChunks.{is_incremental}
+use Rattle.papaya_passes.specs.Given.TablesTablePlaces.{at_word}
+use Rattle.papaya_passes.specs.Given.TablesDeclared.node.Node.{Node}
+use Rattle.papaya_passes.specs.Given.TablesDeclared.setting.Setting.{Setting}
+use Rattle.papaya_passes.specs.Given.TablesDeclared.table.Table.{Table}
+use Rattle.papaya_passes.specs.Given.TablesDeclared.table_words.TheConstants.{NEXT}
+use Rattle.papaya_passes.specs.Given.RuleChart.{Chart}
+use Rattle.papaya_passes.specs.Given.RuleWords.{Blocks}
+use Rattle.papaya_passes.specs.Given.RuleLasts.{Lasts}
+use Rattle.papaya_passes.specs.Given.RuleLinks.{LeadsTo}
+use Rattle.papaya_passes.specs.Given.RuleMaps.{spot_of, IsTable}
+use Rattle.papaya_passes.specs.Given.RuleInWorld.{IsMapIn, SameBlocks}
+use Rattle.papaya_passes.proofs.Given.RuleWords.LinksSeen.{next_leads}
+use Rattle.papaya_passes.proofs.Given.RuleWords.TablesSeen.{word_stands}
 
 module _ {K V : Type 0} (same : K → K → Bool) (hash : K → ℕ) (setting : Setting) (w : World (Node K V)) (c : Chart K) (blocks : Blocks) (map : IsMapIn same hash setting w c blocks) where
   -- no table is behind one whose link is 0

@@ -2,45 +2,45 @@
 -- further pairs need more places than a table can have.
 use Rattle.std.specs.Prelude.{◌≡◌, ◌⊎◌, ℕ, suc, ◌%◌, ◌^◌, ◌<◌, ◌≤◌, Bool, true, cond}
 use Rattle.std.proofs.Common.{refl, sym, subst, ◌∙◌, inl, inr}
-use Rattle.papaya_waits.specs.Given.SeizeWords.Mem.{Mem, Can, Took, value_at}
-use Rattle.papaya_waits.specs.Given.SeizeWords.Plan.{May, Steps}
-use Rattle.papaya_waits.specs.Given.SeizeWords.declared.at.At.TheVariants.{Word}
-use Rattle.papaya_waits.specs.Given.SeizeWords.declared.fault.Fault.{Fault}
-use Rattle.papaya_waits.specs.Given.SeizeWords.declared.fault.Fault.TheVariants.{Capacity, Memory}
-use Rattle.papaya_waits.specs.Given.Seize.World.{World}
-use Rattle.papaya_waits.specs.Given.Seize.declared.progress.Progress.TheVariants as progress
-use Rattle.papaya_passes.specs.Given.Tables.Chunks.{is_incremental}
-use Rattle.papaya_passes.specs.Given.Tables.Counts.{count_in}
-use Rattle.papaya_passes.specs.Given.Tables.declared.node.Node.{Node}
-use Rattle.papaya_passes.specs.Given.Tables.declared.setting.Setting.{Setting}
-use Rattle.papaya_passes.specs.Given.Tables.declared.table_words.TheConstants.{NEXT}
-use Rattle.papaya_passes.specs.Given.Resize.Copier.{copier_plan}
-use Rattle.papaya_passes.specs.Given.Resize.NewTable.{new_table_plan}
-use Rattle.papaya_passes.specs.Given.Resize.declared.copier.Copier.{Copier}
-use Rattle.papaya_passes.specs.Given.Resize.declared.copier.Copying.{Copying}
-use Rattle.papaya_passes.specs.Given.Resize.declared.copier.Copying.TheVariants as copies
-use Rattle.papaya_passes.specs.Given.Resize.declared.outcome.Outcome.{Outcome}
-use Rattle.papaya_passes.specs.Given.Reserves.Reserve.{copied, grown, made, needed, plan_at, reserve_plan}
-use Rattle.papaya_passes.specs.Given.Reserves.declared.reserve.Reserve.{Reserve}
-use Rattle.papaya_passes.specs.Given.Reserves.declared.reserve.Reserving.{Reserving}
-use Rattle.papaya_passes.specs.Given.Reserves.declared.reserve.Reserving.TheVariants as at
-use Rattle.papaya_passes.specs.Given.Rule.Chart.{Chart}
-use Rattle.papaya_passes.specs.Given.Rule.Words.{Blocks}
-use Rattle.papaya_passes.specs.Given.Rule.Lasts.{Lasts}
-use Rattle.papaya_passes.specs.Given.Rule.Maps.{spot_of}
-use Rattle.papaya_passes.specs.Given.Rule.InWorld.{IsMapIn, SameBlocks}
-use Rattle.papaya_passes.specs.Given.Points.FactsCopies.{CopierFacts}
-use Rattle.papaya_passes.specs.Given.Points.FactsCopiesBlocking.{CopierFactsBlocking}
-use Rattle.papaya_waits.specs.Given.Alone.Counting.{shards_sum}
-use Rattle.papaya_passes.specs.Given.Late.Ends.{EndsSo, EndsInCopying, EndsInReserving}
-use Rattle.papaya_passes.specs.Given.Late.FactsReserves.{CopiesWhole, IsEnding, ReservingFacts, ReserveFacts}
-use Rattle.papaya_passes.specs.Given.Late.Faults.{StandsInReserving}
-use Rattle.papaya_passes.specs.Given.Late.ToldReserves.{IsRowOfReserve}
-use Rattle.papaya_waits.specs.Given.Maps.AloneReserves.{SumsUp}
-use Rattle.papaya_passes.proofs.Given.Rule.Spared.{PlanSpares, spares_as, step_spares}
-use Rattle.papaya_passes.proofs.Given.Late.KindsKept.Rooms.Bound.{BoundReserving, Keeps, reserving_on}
-use Rattle.papaya_passes.proofs.Given.Late.KindsKept.Rooms.Reserving.{ReservesAs, reserve_as}
-use Rattle.papaya_waits.proofs.Given.Maps.Reserves.Sums.{sum_ahead}
+use Rattle.papaya_waits.specs.Given.SeizeWordsMem.{Mem, Can, Took, value_at}
+use Rattle.papaya_waits.specs.Given.SeizeWordsPlan.{May, Steps}
+use Rattle.papaya_waits.specs.Given.SeizeWordsDeclared.at.At.TheVariants.{Word}
+use Rattle.papaya_waits.specs.Given.SeizeWordsDeclared.fault.Fault.{Fault}
+use Rattle.papaya_waits.specs.Given.SeizeWordsDeclared.fault.Fault.TheVariants.{Capacity, Memory}
+use Rattle.papaya_waits.specs.Given.SeizeWorld.{World}
+use Rattle.papaya_waits.specs.Given.SeizeDeclared.progress.Progress.TheVariants as progress
+use Rattle.papaya_passes.specs.Given.TablesChunks.{is_incremental}
+use Rattle.papaya_passes.specs.Given.TablesCounts.{count_in}
+use Rattle.papaya_passes.specs.Given.TablesDeclared.node.Node.{Node}
+use Rattle.papaya_passes.specs.Given.TablesDeclared.setting.Setting.{Setting}
+use Rattle.papaya_passes.specs.Given.TablesDeclared.table_words.TheConstants.{NEXT}
+use Rattle.papaya_passes.specs.Given.ResizeCopier.{copier_plan}
+use Rattle.papaya_passes.specs.Given.ResizeNewTable.{new_table_plan}
+use Rattle.papaya_passes.specs.Given.ResizeDeclared.copier.Copier.{Copier}
+use Rattle.papaya_passes.specs.Given.ResizeDeclared.copier.Copying.{Copying}
+use Rattle.papaya_passes.specs.Given.ResizeDeclared.copier.Copying.TheVariants as copies
+use Rattle.papaya_passes.specs.Given.ResizeDeclared.outcome.Outcome.{Outcome}
+use Rattle.papaya_passes.specs.Given.ReservesReserve.{copied, grown, made, needed, plan_at, reserve_plan}
+use Rattle.papaya_passes.specs.Given.ReservesDeclared.reserve.Reserve.{Reserve}
+use Rattle.papaya_passes.specs.Given.ReservesDeclared.reserve.Reserving.{Reserving}
+use Rattle.papaya_passes.specs.Given.ReservesDeclared.reserve.Reserving.TheVariants as at
+use Rattle.papaya_passes.specs.Given.RuleChart.{Chart}
+use Rattle.papaya_passes.specs.Given.RuleWords.{Blocks}
+use Rattle.papaya_passes.specs.Given.RuleLasts.{Lasts}
+use Rattle.papaya_passes.specs.Given.RuleMaps.{spot_of}
+use Rattle.papaya_passes.specs.Given.RuleInWorld.{IsMapIn, SameBlocks}
+use Rattle.papaya_passes.specs.Given.PointsFactsCopies.{CopierFacts}
+use Rattle.papaya_passes.specs.Given.PointsFactsCopiesBlocking.{CopierFactsBlocking}
+use Rattle.papaya_waits.specs.Given.AloneCounting.{shards_sum}
+use Rattle.papaya_passes.specs.Given.LateEnds.{EndsSo, EndsInCopying, EndsInReserving}
+use Rattle.papaya_passes.specs.Given.LateFactsReserves.{CopiesWhole, IsEnding, ReservingFacts, ReserveFacts}
+use Rattle.papaya_passes.specs.Given.LateFaults.{StandsInReserving}
+use Rattle.papaya_passes.specs.Given.LateToldReserves.{IsRowOfReserve}
+use Rattle.papaya_waits.specs.Given.MapsAloneReserves.{SumsUp}
+use Rattle.papaya_passes.proofs.Given.RuleSpared.{PlanSpares, spares_as, step_spares}
+use Rattle.papaya_passes.proofs.Given.LateKindsKept.Rooms.Bound.{BoundReserving, Keeps, reserving_on}
+use Rattle.papaya_passes.proofs.Given.LateKindsKept.Rooms.Reserving.{ReservesAs, reserve_as}
+use Rattle.papaya_waits.proofs.Given.MapsReserves.Sums.{sum_ahead}
 use Rattle.papaya_whole.specs.Limits.{LastEnds, IsForTheLast, IsForRoom, IsTheLast}
 use Rattle.papaya_whole.proofs.Limits.Copiers.{copier_bounds, copier_keeps, ends_so, keeps_where, last_then, memory_is_other, row_copier}
 use Rattle.papaya_whole.proofs.Limits.Past.{is_last, its_link, past_same}

@@ -2,29 +2,29 @@
 use Rattle.std.specs.Prelude.{◌≡◌, ℕ, ◌+◌, ◌%◌, ◌^◌, ◌<◌, ◌&&◌, ◌==◌, Bool, true, false}
 use Rattle.std.proofs.Common.{refl, ap, ◌∙◌, arith}
 use Rattle.std.proofs.lemmas.Bool.{ne_eqb}
-use Rattle.papaya_waits.specs.Given.SeizeWords.Mem.{same_at}
-use Rattle.papaya_waits.specs.Given.SeizeWords.Word.{block_in}
-use Rattle.papaya_waits.specs.Given.SeizeWords.declared.at.At.{At}
-use Rattle.papaya_waits.specs.Given.SeizeWords.declared.at.At.TheVariants.{Word}
-use Rattle.papaya_passes.specs.Given.Tables.declared.node.Node.{Node}
-use Rattle.papaya_passes.specs.Given.Tables.declared.table_words.TheConstants.{NEXT, CLAIM, COPIED, PLACES}
-use Rattle.papaya_passes.specs.Given.Resize.Copier.{plan_at}
-use Rattle.papaya_passes.specs.Given.Resize.CopierFurther.{grown, remade}
-use Rattle.papaya_passes.specs.Given.Resize.NewTable as tables
-use Rattle.papaya_passes.specs.Given.Resize.NewTable.{new_table_plan}
-use Rattle.papaya_passes.specs.Given.Resize.Sum as counts
-use Rattle.papaya_passes.specs.Given.Resize.Sum.{sum_plan}
-use Rattle.papaya_passes.specs.Given.Resize.declared.copier.Copier.{Copier}
-use Rattle.papaya_passes.specs.Given.Resize.declared.copier.Copying.{Copying}
-use Rattle.papaya_passes.specs.Given.Resize.declared.copier.Copying.TheVariants as copies
-use Rattle.papaya_passes.specs.Given.Resize.declared.new_table.NewTable.{NewTable}
-use Rattle.papaya_passes.specs.Given.Resize.declared.new_table.Making.{Making}
-use Rattle.papaya_passes.specs.Given.Resize.declared.new_table.Making.TheVariants as makes
-use Rattle.papaya_passes.specs.Given.Resize.declared.sum.Sum.{Sum}
-use Rattle.papaya_passes.specs.Given.Resize.declared.sum.Summing.{Summing}
-use Rattle.papaya_passes.specs.Given.Resize.declared.sum.Summing.TheVariants as sums
-use Rattle.papaya_passes.proofs.Given.Rule.Spared.{PlanSpares, spares_as}
-use Rattle.papaya_passes.proofs.Given.Late.KindsKept.Rooms.Bound.{BoundMaking, BoundCopying}
+use Rattle.papaya_waits.specs.Given.SeizeWordsMem.{same_at}
+use Rattle.papaya_waits.specs.Given.SeizeWordsWord.{block_in}
+use Rattle.papaya_waits.specs.Given.SeizeWordsDeclared.at.At.{At}
+use Rattle.papaya_waits.specs.Given.SeizeWordsDeclared.at.At.TheVariants.{Word}
+use Rattle.papaya_passes.specs.Given.TablesDeclared.node.Node.{Node}
+use Rattle.papaya_passes.specs.Given.TablesDeclared.table_words.TheConstants.{NEXT, CLAIM, COPIED, PLACES}
+use Rattle.papaya_passes.specs.Given.ResizeCopier.{plan_at}
+use Rattle.papaya_passes.specs.Given.ResizeCopierFurther.{grown, remade}
+use Rattle.papaya_passes.specs.Given.ResizeNewTable as tables
+use Rattle.papaya_passes.specs.Given.ResizeNewTable.{new_table_plan}
+use Rattle.papaya_passes.specs.Given.ResizeSum as counts
+use Rattle.papaya_passes.specs.Given.ResizeSum.{sum_plan}
+use Rattle.papaya_passes.specs.Given.ResizeDeclared.copier.Copier.{Copier}
+use Rattle.papaya_passes.specs.Given.ResizeDeclared.copier.Copying.{Copying}
+use Rattle.papaya_passes.specs.Given.ResizeDeclared.copier.Copying.TheVariants as copies
+use Rattle.papaya_passes.specs.Given.ResizeDeclared.new_table.NewTable.{NewTable}
+use Rattle.papaya_passes.specs.Given.ResizeDeclared.new_table.Making.{Making}
+use Rattle.papaya_passes.specs.Given.ResizeDeclared.new_table.Making.TheVariants as makes
+use Rattle.papaya_passes.specs.Given.ResizeDeclared.sum.Sum.{Sum}
+use Rattle.papaya_passes.specs.Given.ResizeDeclared.sum.Summing.{Summing}
+use Rattle.papaya_passes.specs.Given.ResizeDeclared.sum.Summing.TheVariants as sums
+use Rattle.papaya_passes.proofs.Given.RuleSpared.{PlanSpares, spares_as}
+use Rattle.papaya_passes.proofs.Given.LateKindsKept.Rooms.Bound.{BoundMaking, BoundCopying}
 
 -- a copier stands so that a fault is known, or that it reads whether a table is behind another one
 abbrev pub ReadsLast : Copying → Type 0

@@ -1,35 +1,35 @@
 -- A step of a sweep that is alone, in incremental mode: it is refused for the length of a table only where the last table cannot be followed.
 use Rattle.std.specs.Prelude.{◌≡◌, ℕ, suc, ◌^◌, ◌≤◌, Bool, true, cond}
 use Rattle.std.proofs.Common.{refl, sym, subst}
-use Rattle.papaya_waits.specs.Given.SeizeWords.Mem.{Mem, Can, Took, value_at}
-use Rattle.papaya_waits.specs.Given.SeizeWords.Plan.{May, Steps}
-use Rattle.papaya_waits.specs.Given.SeizeWords.declared.at.At.TheVariants.{Word}
-use Rattle.papaya_waits.specs.Given.Seize.World.{World}
-use Rattle.papaya_passes.specs.Given.Tables.Chunks.{is_incremental}
-use Rattle.papaya_passes.specs.Given.Tables.declared.node.Node.{Node}
-use Rattle.papaya_passes.specs.Given.Tables.declared.setting.Setting.{Setting}
-use Rattle.papaya_passes.specs.Given.Tables.declared.table_words.TheConstants.{NEXT}
-use Rattle.papaya_passes.specs.Given.Resize.Copier.{copier_plan}
-use Rattle.papaya_passes.specs.Given.Resize.declared.copier.Copier.{Copier}
-use Rattle.papaya_passes.specs.Given.Sweeps.Sweep.{copied, plan_at, sweep_plan}
-use Rattle.papaya_passes.specs.Given.Sweeps.declared.sweep.Sweep.{Sweep}
-use Rattle.papaya_passes.specs.Given.Sweeps.declared.sweep.Sweeping.{Sweeping}
-use Rattle.papaya_passes.specs.Given.Sweeps.declared.sweep.Sweeping.TheVariants as at
-use Rattle.papaya_passes.specs.Given.Sweeps.declared.sweep.Swept.{Swept}
-use Rattle.papaya_passes.specs.Given.Rule.Chart.{Chart}
-use Rattle.papaya_passes.specs.Given.Rule.Words.{Blocks}
-use Rattle.papaya_passes.specs.Given.Rule.Lasts.{Lasts}
-use Rattle.papaya_passes.specs.Given.Rule.Maps.{spot_of}
-use Rattle.papaya_passes.specs.Given.Rule.InWorld.{IsMapIn, SameBlocks}
-use Rattle.papaya_passes.specs.Given.Points.FactsCopies.{CopierFacts}
-use Rattle.papaya_passes.specs.Given.Points.FactsCopiesBlocking.{CopierFactsBlocking}
-use Rattle.papaya_passes.specs.Given.Late.Ends.{EndsInSweeping}
-use Rattle.papaya_passes.specs.Given.Late.FactsReserves.{IsEnding}
-use Rattle.papaya_passes.specs.Given.Late.Faults.{StandsInSweeping, SweepRefusesSo}
-use Rattle.papaya_passes.specs.Given.Late.ToldSweeps.{IsRowOfSweep}
-use Rattle.papaya_passes.proofs.Given.Rule.Spared.{PlanSpares, spares_as, step_spares}
-use Rattle.papaya_passes.proofs.Given.Late.KindsKept.Rooms.Bound.{BoundSweeping, Keeps, sweeping_on}
-use Rattle.papaya_passes.proofs.Given.Late.KindsKept.Rooms.Sweeping.{sweep_as}
+use Rattle.papaya_waits.specs.Given.SeizeWordsMem.{Mem, Can, Took, value_at}
+use Rattle.papaya_waits.specs.Given.SeizeWordsPlan.{May, Steps}
+use Rattle.papaya_waits.specs.Given.SeizeWordsDeclared.at.At.TheVariants.{Word}
+use Rattle.papaya_waits.specs.Given.SeizeWorld.{World}
+use Rattle.papaya_passes.specs.Given.TablesChunks.{is_incremental}
+use Rattle.papaya_passes.specs.Given.TablesDeclared.node.Node.{Node}
+use Rattle.papaya_passes.specs.Given.TablesDeclared.setting.Setting.{Setting}
+use Rattle.papaya_passes.specs.Given.TablesDeclared.table_words.TheConstants.{NEXT}
+use Rattle.papaya_passes.specs.Given.ResizeCopier.{copier_plan}
+use Rattle.papaya_passes.specs.Given.ResizeDeclared.copier.Copier.{Copier}
+use Rattle.papaya_passes.specs.Given.SweepsSweep.{copied, plan_at, sweep_plan}
+use Rattle.papaya_passes.specs.Given.SweepsDeclared.sweep.Sweep.{Sweep}
+use Rattle.papaya_passes.specs.Given.SweepsDeclared.sweep.Sweeping.{Sweeping}
+use Rattle.papaya_passes.specs.Given.SweepsDeclared.sweep.Sweeping.TheVariants as at
+use Rattle.papaya_passes.specs.Given.SweepsDeclared.sweep.Swept.{Swept}
+use Rattle.papaya_passes.specs.Given.RuleChart.{Chart}
+use Rattle.papaya_passes.specs.Given.RuleWords.{Blocks}
+use Rattle.papaya_passes.specs.Given.RuleLasts.{Lasts}
+use Rattle.papaya_passes.specs.Given.RuleMaps.{spot_of}
+use Rattle.papaya_passes.specs.Given.RuleInWorld.{IsMapIn, SameBlocks}
+use Rattle.papaya_passes.specs.Given.PointsFactsCopies.{CopierFacts}
+use Rattle.papaya_passes.specs.Given.PointsFactsCopiesBlocking.{CopierFactsBlocking}
+use Rattle.papaya_passes.specs.Given.LateEnds.{EndsInSweeping}
+use Rattle.papaya_passes.specs.Given.LateFactsReserves.{IsEnding}
+use Rattle.papaya_passes.specs.Given.LateFaults.{StandsInSweeping, SweepRefusesSo}
+use Rattle.papaya_passes.specs.Given.LateToldSweeps.{IsRowOfSweep}
+use Rattle.papaya_passes.proofs.Given.RuleSpared.{PlanSpares, spares_as, step_spares}
+use Rattle.papaya_passes.proofs.Given.LateKindsKept.Rooms.Bound.{BoundSweeping, Keeps, sweeping_on}
+use Rattle.papaya_passes.proofs.Given.LateKindsKept.Rooms.Sweeping.{sweep_as}
 use Rattle.papaya_whole.specs.Limits.{IsForTheLast, IsTheLast}
 use Rattle.papaya_whole.proofs.Fresh.Sweeps.{CopiesRoot}
 use Rattle.papaya_whole.proofs.Limits.Copiers.{copier_bounds, copier_keeps, keeps_where, memory_is_other, row_copier}

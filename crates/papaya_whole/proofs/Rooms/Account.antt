@@ -1,43 +1,43 @@
 -- What a step of a row is to the reservation that it is within, and that it is of the root's table once the row is over.
 use Rattle.std.specs.Prelude.{◌==◌, if◌then◌else◌}
 use Rattle.std.proofs.Common.{◌≡◌, ℕ, ◌≤◌, Bool, true, false, refl, arith, ap, sym, subst, ◌∙◌}
-use Rattle.papaya_waits.specs.Given.SeizeWords.Mem.{Mem, Took, value_at}
-use Rattle.papaya_waits.specs.Given.SeizeWords.Plan.{Steps, plan_as}
-use Rattle.papaya_waits.specs.Given.Seize.declared.rows.settle.Settle.{Settle}
-use Rattle.papaya_waits.specs.Given.Seize.declared.rows.settle.Settled.{Settled}
-use Rattle.papaya_waits.specs.Given.Seize.declared.rows.settle.Settled.TheVariants as settled
-use Rattle.papaya_waits.specs.Given.Seize.Settle.{settle_plan}
-use Rattle.papaya_waits.specs.Given.Seize.World.{World, Rests, Settles}
-use Rattle.papaya_waits.proofs.Given.SeizeEnds.Settling.Most.{is_going}
-use Rattle.papaya_passes.proofs.Given.SeizeRule.Rows.Leaving.{steps_back}
-use Rattle.papaya_passes.specs.Given.Tables.Chunks.{is_incremental}
-use Rattle.papaya_passes.specs.Given.Tables.Nodes.{deferred_word}
-use Rattle.papaya_passes.specs.Given.Tables.declared.node.Node.{Node}
-use Rattle.papaya_passes.specs.Given.Tables.declared.setting.Setting.{Setting}
-use Rattle.papaya_passes.specs.Given.Resize.CopierPromotes as retiring
-use Rattle.papaya_passes.specs.Given.Resize.Copier as copier
-use Rattle.papaya_passes.specs.Given.Resize.CopierStates as copiers
-use Rattle.papaya_passes.specs.Given.Resize.declared.copier.Copier.{Copier}
-use Rattle.papaya_passes.specs.Given.Resize.declared.copier.Copying.{Copying}
-use Rattle.papaya_passes.specs.Given.Resize.declared.copier.Copying.TheVariants as copies
-use Rattle.papaya_passes.specs.Given.Resize.declared.outcome.Outcome.{Outcome}
-use Rattle.papaya_passes.specs.Given.Resize.declared.outcome.Outcome.TheVariants as outcome
-use Rattle.papaya_passes.specs.Given.Reserves.Reserve.{standing, copied, reserve_plan, plan_at}
-use Rattle.papaya_passes.specs.Given.Reserves.declared.reserve.Reserve.{Reserve}
-use Rattle.papaya_passes.specs.Given.Reserves.declared.reserve.Reserving.{Reserving}
-use Rattle.papaya_passes.specs.Given.Reserves.declared.reserve.Reserving.TheVariants as at
-use Rattle.papaya_passes.specs.Given.Rule.Chart.{Chart}
-use Rattle.papaya_passes.specs.Given.Rule.Words.{Blocks}
-use Rattle.papaya_passes.specs.Given.Points.Told.{IsRowOfCopier}
-use Rattle.papaya_passes.specs.Given.Late.FactsReserves.{ReservingFacts}
-use Rattle.papaya_passes.specs.Given.Late.LateReserves.{LateReserving}
-use Rattle.papaya_passes.specs.Given.Late.ToldReserves.{IsRowOfReserve}
-use Rattle.papaya_waits.specs.Given.Maps.AloneReserves.{LooksAtRoot, SumsUp}
-use Rattle.papaya_waits.specs.Given.Maps.FactsAloneReserves.{CopierAlone, ReservesAlone}
-use Rattle.papaya_waits.specs.Given.Callers.Rows.{row_of_copier, past_copying}
-use Rattle.papaya_waits.specs.Given.Callers.Rooms.{row_of_room, past_room, room_once_over}
-use Rattle.papaya_waits.proofs.Given.Callers.Together.RowsOfCopiers.{at_retirement}
-use Rattle.papaya_passes.specs.Given.Falls.Reserves.{number_of_reserve}
+use Rattle.papaya_waits.specs.Given.SeizeWordsMem.{Mem, Took, value_at}
+use Rattle.papaya_waits.specs.Given.SeizeWordsPlan.{Steps, plan_as}
+use Rattle.papaya_waits.specs.Given.SeizeDeclared.rows.settle.Settle.{Settle}
+use Rattle.papaya_waits.specs.Given.SeizeDeclared.rows.settle.Settled.{Settled}
+use Rattle.papaya_waits.specs.Given.SeizeDeclared.rows.settle.Settled.TheVariants as settled
+use Rattle.papaya_waits.specs.Given.SeizeSettle.{settle_plan}
+use Rattle.papaya_waits.specs.Given.SeizeWorld.{World, Rests, Settles}
+use Rattle.papaya_waits.proofs.Given.SeizeEndsSettling.Most.{is_going}
+use Rattle.papaya_passes.proofs.Given.SeizeRuleRows.Leaving.{steps_back}
+use Rattle.papaya_passes.specs.Given.TablesChunks.{is_incremental}
+use Rattle.papaya_passes.specs.Given.TablesNodes.{deferred_word}
+use Rattle.papaya_passes.specs.Given.TablesDeclared.node.Node.{Node}
+use Rattle.papaya_passes.specs.Given.TablesDeclared.setting.Setting.{Setting}
+use Rattle.papaya_passes.specs.Given.ResizeCopierPromotes as retiring
+use Rattle.papaya_passes.specs.Given.ResizeCopier as copier
+use Rattle.papaya_passes.specs.Given.ResizeCopierStates as copiers
+use Rattle.papaya_passes.specs.Given.ResizeDeclared.copier.Copier.{Copier}
+use Rattle.papaya_passes.specs.Given.ResizeDeclared.copier.Copying.{Copying}
+use Rattle.papaya_passes.specs.Given.ResizeDeclared.copier.Copying.TheVariants as copies
+use Rattle.papaya_passes.specs.Given.ResizeDeclared.outcome.Outcome.{Outcome}
+use Rattle.papaya_passes.specs.Given.ResizeDeclared.outcome.Outcome.TheVariants as outcome
+use Rattle.papaya_passes.specs.Given.ReservesReserve.{standing, copied, reserve_plan, plan_at}
+use Rattle.papaya_passes.specs.Given.ReservesDeclared.reserve.Reserve.{Reserve}
+use Rattle.papaya_passes.specs.Given.ReservesDeclared.reserve.Reserving.{Reserving}
+use Rattle.papaya_passes.specs.Given.ReservesDeclared.reserve.Reserving.TheVariants as at
+use Rattle.papaya_passes.specs.Given.RuleChart.{Chart}
+use Rattle.papaya_passes.specs.Given.RuleWords.{Blocks}
+use Rattle.papaya_passes.specs.Given.PointsTold.{IsRowOfCopier}
+use Rattle.papaya_passes.specs.Given.LateFactsReserves.{ReservingFacts}
+use Rattle.papaya_passes.specs.Given.LateLateReserves.{LateReserving}
+use Rattle.papaya_passes.specs.Given.LateToldReserves.{IsRowOfReserve}
+use Rattle.papaya_waits.specs.Given.MapsAloneReserves.{LooksAtRoot, SumsUp}
+use Rattle.papaya_waits.specs.Given.MapsFactsAloneReserves.{CopierAlone, ReservesAlone}
+use Rattle.papaya_waits.specs.Given.CallersRows.{row_of_copier, past_copying}
+use Rattle.papaya_waits.specs.Given.CallersRooms.{row_of_room, past_room, room_once_over}
+use Rattle.papaya_waits.proofs.Given.CallersTogether.RowsOfCopiers.{at_retirement}
+use Rattle.papaya_passes.specs.Given.FallsReserves.{number_of_reserve}
 use Rattle.papaya_whole.proofs.Fresh.Rooms.{whole_blocking}
 use Rattle.papaya_whole.proofs.Rows.Standing.{copier_row, target_here, target_over, late_now, late_over}
 

@@ -2,23 +2,23 @@
 use Rattle.std.specs.Prelude.{◌≡◌, ◌≢◌, ℕ, Bool, Some, None}
 use Rattle.std.proofs.Common.{inl, inr, refl, ap, ◌∙◌}
 use Rattle.std.proofs.lemmas.Bool.{cases_eq}
-use Rattle.papaya_waits.specs.Given.Seize.World.{World, Rests, with_at}
-use Rattle.papaya_waits.specs.Given.Seize.declared.progress.Progress.{Progress}
-use Rattle.papaya_waits.specs.Given.SeizeWords.declared.fault.Fault.{Fault}
-use Rattle.papaya_waits.specs.Given.Seize.declared.progress.Progress.TheVariants as progress
-use Rattle.papaya_passes.specs.Given.Tables.declared.node.Node.{Node}
-use Rattle.papaya_passes.specs.Given.Tables.declared.setting.Setting.{Setting}
-use Rattle.papaya_passes.specs.Given.Resize.Sum.{summing}
-use Rattle.papaya_passes.specs.Given.Resize.declared.sum.Sum.{Sum}
-use Rattle.papaya_passes.specs.Given.Rule.Chart.{Chart}
-use Rattle.papaya_passes.specs.Given.Rule.Words.{Blocks}
-use Rattle.papaya_waits.specs.Given.Callers.Sights.{Sight, seen_by}
-use Rattle.papaya_waits.specs.Given.Callers.Together.{Counting, next_of_counting, in_slot, Stands, Together}
-use Rattle.papaya_waits.proofs.Given.Callers.Together.At.{at_other, at_same}
-use Rattle.papaya_waits.proofs.Given.Callers.Together.Countings.{countings_begin_together, countings_stand_together}
+use Rattle.papaya_waits.specs.Given.SeizeWorld.{World, Rests, with_at}
+use Rattle.papaya_waits.specs.Given.SeizeDeclared.progress.Progress.{Progress}
+use Rattle.papaya_waits.specs.Given.SeizeWordsDeclared.fault.Fault.{Fault}
+use Rattle.papaya_waits.specs.Given.SeizeDeclared.progress.Progress.TheVariants as progress
+use Rattle.papaya_passes.specs.Given.TablesDeclared.node.Node.{Node}
+use Rattle.papaya_passes.specs.Given.TablesDeclared.setting.Setting.{Setting}
+use Rattle.papaya_passes.specs.Given.ResizeSum.{summing}
+use Rattle.papaya_passes.specs.Given.ResizeDeclared.sum.Sum.{Sum}
+use Rattle.papaya_passes.specs.Given.RuleChart.{Chart}
+use Rattle.papaya_passes.specs.Given.RuleWords.{Blocks}
+use Rattle.papaya_waits.specs.Given.CallersSights.{Sight, seen_by}
+use Rattle.papaya_waits.specs.Given.CallersTogether.{Counting, next_of_counting, in_slot, Stands, Together}
+use Rattle.papaya_waits.proofs.Given.CallersTogether.At.{at_other, at_same}
+use Rattle.papaya_waits.proofs.Given.CallersTogether.Countings.{countings_begin_together, countings_stand_together}
 use Rattle.papaya_whole.specs.Owner.{IsOfRoot, AtRest, IsAlone}
-use Rattle.papaya_passes.specs.Given.Points.FactsTables.{SumFacts}
-use Rattle.papaya_waits.proofs.Given.Maps.Reserves.Sums.{Ahead, sum_ahead}
+use Rattle.papaya_passes.specs.Given.PointsFactsTables.{SumFacts}
+use Rattle.papaya_waits.proofs.Given.MapsReserves.Sums.{Ahead, sum_ahead}
 use Rattle.papaya_whole.specs.WholeRooms.{CountLeads, ComesTo, CountingsBeginAlone, CountingsGoOnAlone}
 use Rattle.papaya_whole.proofs.Keys.Begins.{one_few}
 

@@ -3,54 +3,54 @@ use Rattle.std.specs.Prelude.{◌≡◌, ℕ, suc, ◌⊎◌, Bool, Option, Some
 use Rattle.std.specs.Int.{IsPowerOfTwo}
 use Rattle.std.proofs.Common.{inl, inr, refl, ap, sym, subst, ◌∙◌}
 use Rattle.std.proofs.lemmas.Bool.{cases_eq}
-use Rattle.papaya_waits.specs.Given.SeizeWords.Mem.{Mem, Can, Took, value_at}
-use Rattle.papaya_waits.specs.Given.SeizeWords.Plan.{May, Steps}
-use Rattle.papaya_waits.specs.Given.Seize.World.{World, Row, Rests, IsInside, with_at}
-use Rattle.papaya_passes.specs.Given.Tables.Chunks.{is_incremental}
-use Rattle.papaya_passes.specs.Given.Tables.declared.node.Node.{Node}
-use Rattle.papaya_passes.specs.Given.Tables.declared.setting.Setting.{Setting}
-use Rattle.papaya_passes.specs.Given.Resize.declared.outcome.Outcome.{Outcome}
-use Rattle.papaya_passes.specs.Given.Resize.declared.outcome.Outcome.TheVariants as outcome
-use Rattle.papaya_passes.specs.Given.Reserves.Reserve.{reserve_plan}
-use Rattle.papaya_passes.specs.Given.Reserves.declared.reserve.Reserve.{Reserve}
-use Rattle.papaya_passes.specs.Given.Reserves.declared.reserve.Reserving.{Reserving}
-use Rattle.papaya_passes.specs.Given.Reserves.declared.reserve.Reserving.TheVariants as at
-use Rattle.papaya_passes.specs.Given.Rule.Chart.{Chart}
-use Rattle.papaya_passes.specs.Given.Rule.Words.{Blocks}
-use Rattle.papaya_passes.specs.Given.Rule.InWorld.{IsMapIn, Went}
-use Rattle.papaya_passes.specs.Given.Points.Measures.{IsBelow}
-use Rattle.papaya_passes.specs.Given.Points.Steps.{AreLawful}
-use Rattle.papaya_passes.specs.Given.Points.Told.{OnlyLinks}
-use Rattle.papaya_passes.specs.Given.Late.FactsReserves.{CopiesPairs, ReserveFacts}
-use Rattle.papaya_passes.specs.Given.Late.LateReserves.{LateReserveFacts}
-use Rattle.papaya_passes.specs.Given.Late.ToldReserves.{ReserveTold, ReserveAfter, IsRowOfReserve}
-use Rattle.papaya_passes.proofs.Given.Late.Rooms.Laws.{reserves_keep_the_map}
-use Rattle.papaya_passes.proofs.Given.Late.Rooms.Reserves.Moved.{ReserveMoves}
-use Rattle.papaya_passes.proofs.Given.Late.Rooms.Reserves.On.{ReserveWent}
-use Rattle.papaya_passes.proofs.Given.Late.Rooms.Reserves.Points.{went_reserve}
-use Rattle.papaya_waits.specs.Given.Alone.FactsAloneCalls.{RestsAlone}
-use Rattle.papaya_waits.specs.Given.Maps.FactsAloneReserves.{IsLoneReserve, LeadsReserve}
-use Rattle.papaya_waits.proofs.Given.Maps.Reserves.AtRoot.{keeps_to_root}
-use Rattle.papaya_waits.proofs.Given.Maps.Reserves.Beside.{reserve_leads}
-use Rattle.papaya_passes.specs.Given.Falls.Reserves.{number_of_reserve}
-use Rattle.papaya_passes.proofs.Given.Falls.Laws.{reserves_fall}
-use Rattle.papaya_waits.specs.Given.Callers.Rooms.{CallForRoom}
-use Rattle.papaya_waits.specs.Given.Callers.Sights.{Sight, seen_by}
-use Rattle.papaya_waits.specs.Given.Callers.Together.{UnderWay, ForRoom, next_for_room, in_slot, KnowsRoom, Stands, Together, RoomTold, FreshRoom, RoomStepsTogether}
-use Rattle.papaya_waits.proofs.Given.Callers.Sights.Seen.{map_seen}
-use Rattle.papaya_waits.proofs.Given.Callers.Sights.Sources.{below}
-use Rattle.papaya_waits.proofs.Given.Callers.Together.At.{at_other, at_same}
-use Rattle.papaya_waits.proofs.Given.Callers.Together.Came.{came_reached}
-use Rattle.papaya_waits.proofs.Given.Callers.Together.Fits.{map_in_slot}
-use Rattle.papaya_waits.proofs.Given.Callers.Together.Rooms.{room_leads}
-use Rattle.papaya_waits.proofs.Given.Callers.Together.Users.{events_rows, inside_on}
-use Rattle.papaya_passes.specs.Given.Points.FactsCalls.{Unchanged}
-use Rattle.papaya_passes.proofs.Given.Points.MovedLasts.{moved_lasts}
-use Rattle.papaya_waits.proofs.Given.Alone.Calls.Changes.{changed_on}
+use Rattle.papaya_waits.specs.Given.SeizeWordsMem.{Mem, Can, Took, value_at}
+use Rattle.papaya_waits.specs.Given.SeizeWordsPlan.{May, Steps}
+use Rattle.papaya_waits.specs.Given.SeizeWorld.{World, Row, Rests, IsInside, with_at}
+use Rattle.papaya_passes.specs.Given.TablesChunks.{is_incremental}
+use Rattle.papaya_passes.specs.Given.TablesDeclared.node.Node.{Node}
+use Rattle.papaya_passes.specs.Given.TablesDeclared.setting.Setting.{Setting}
+use Rattle.papaya_passes.specs.Given.ResizeDeclared.outcome.Outcome.{Outcome}
+use Rattle.papaya_passes.specs.Given.ResizeDeclared.outcome.Outcome.TheVariants as outcome
+use Rattle.papaya_passes.specs.Given.ReservesReserve.{reserve_plan}
+use Rattle.papaya_passes.specs.Given.ReservesDeclared.reserve.Reserve.{Reserve}
+use Rattle.papaya_passes.specs.Given.ReservesDeclared.reserve.Reserving.{Reserving}
+use Rattle.papaya_passes.specs.Given.ReservesDeclared.reserve.Reserving.TheVariants as at
+use Rattle.papaya_passes.specs.Given.RuleChart.{Chart}
+use Rattle.papaya_passes.specs.Given.RuleWords.{Blocks}
+use Rattle.papaya_passes.specs.Given.RuleInWorld.{IsMapIn, Went}
+use Rattle.papaya_passes.specs.Given.PointsMeasures.{IsBelow}
+use Rattle.papaya_passes.specs.Given.PointsSteps.{AreLawful}
+use Rattle.papaya_passes.specs.Given.PointsTold.{OnlyLinks}
+use Rattle.papaya_passes.specs.Given.LateFactsReserves.{CopiesPairs, ReserveFacts}
+use Rattle.papaya_passes.specs.Given.LateLateReserves.{LateReserveFacts}
+use Rattle.papaya_passes.specs.Given.LateToldReserves.{ReserveTold, ReserveAfter, IsRowOfReserve}
+use Rattle.papaya_passes.proofs.Given.LateRooms.Laws.{reserves_keep_the_map}
+use Rattle.papaya_passes.proofs.Given.LateRooms.Reserves.Moved.{ReserveMoves}
+use Rattle.papaya_passes.proofs.Given.LateRooms.Reserves.On.{ReserveWent}
+use Rattle.papaya_passes.proofs.Given.LateRooms.Reserves.Points.{went_reserve}
+use Rattle.papaya_waits.specs.Given.AloneFactsAloneCalls.{RestsAlone}
+use Rattle.papaya_waits.specs.Given.MapsFactsAloneReserves.{IsLoneReserve, LeadsReserve}
+use Rattle.papaya_waits.proofs.Given.MapsReserves.AtRoot.{keeps_to_root}
+use Rattle.papaya_waits.proofs.Given.MapsReserves.Beside.{reserve_leads}
+use Rattle.papaya_passes.specs.Given.FallsReserves.{number_of_reserve}
+use Rattle.papaya_passes.proofs.Given.FallsLaws.{reserves_fall}
+use Rattle.papaya_waits.specs.Given.CallersRooms.{CallForRoom}
+use Rattle.papaya_waits.specs.Given.CallersSights.{Sight, seen_by}
+use Rattle.papaya_waits.specs.Given.CallersTogether.{UnderWay, ForRoom, next_for_room, in_slot, KnowsRoom, Stands, Together, RoomTold, FreshRoom, RoomStepsTogether}
+use Rattle.papaya_waits.proofs.Given.CallersSights.Seen.{map_seen}
+use Rattle.papaya_waits.proofs.Given.CallersSights.Sources.{below}
+use Rattle.papaya_waits.proofs.Given.CallersTogether.At.{at_other, at_same}
+use Rattle.papaya_waits.proofs.Given.CallersTogether.Came.{came_reached}
+use Rattle.papaya_waits.proofs.Given.CallersTogether.Fits.{map_in_slot}
+use Rattle.papaya_waits.proofs.Given.CallersTogether.Rooms.{room_leads}
+use Rattle.papaya_waits.proofs.Given.CallersTogether.Users.{events_rows, inside_on}
+use Rattle.papaya_passes.specs.Given.PointsFactsCalls.{Unchanged}
+use Rattle.papaya_passes.proofs.Given.PointsMovedLasts.{moved_lasts}
+use Rattle.papaya_waits.proofs.Given.AloneCalls.Changes.{changed_on}
 use Rattle.papaya_whole.proofs.Contents.Runs.{went_keeps, run_on, still_on}
-use Rattle.papaya_waits.specs.Given.Alone.Counting.{shards_sum}
-use Rattle.papaya_waits.proofs.Given.Alone.Shards.Sums.{added_same}
-use Rattle.papaya_waits.proofs.Given.Maps.Reserves.Counted.{reserve_counts_none}
+use Rattle.papaya_waits.specs.Given.AloneCounting.{shards_sum}
+use Rattle.papaya_waits.proofs.Given.AloneShards.Sums.{added_same}
+use Rattle.papaya_waits.proofs.Given.MapsReserves.Counted.{reserve_counts_none}
 use Rattle.papaya_whole.specs.Owner.{IsFirst, IsOfRoot, AtRest, IsAlone}
 use Rattle.papaya_whole.specs.WholeRooms.{room_so, RoomLeads, RoomStepLeads}
 use Rattle.papaya_whole.proofs.Joined.{same_joined, links_joined}

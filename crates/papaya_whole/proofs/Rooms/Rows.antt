@@ -1,44 +1,44 @@
 -- A step of a row within a reservation that is alone: it does not wait, and the reservation is alone still, with less left to do.
 use Rattle.std.specs.Prelude.{◌≡◌, ◌≢◌, ℕ, ◌⊎◌, Bool, true, false, List, [], ◌∷◌, ◌++◌, Option, Some}
 use Rattle.std.proofs.Common.{inl, inr, refl, ap, sym, subst, ◌∙◌, arith}
-use Rattle.papaya_waits.specs.Given.SeizeWords.Mem.{Mem, Can, Took, value_at}
-use Rattle.papaya_waits.specs.Given.SeizeWords.Plan.{May, Steps}
-use Rattle.papaya_waits.specs.Given.Seize.declared.rows.settle.Settle.{Settle}
-use Rattle.papaya_waits.specs.Given.Seize.declared.rows.settle.Settled.{Settled}
-use Rattle.papaya_waits.specs.Given.Seize.declared.rows.settle.Settled.TheVariants as settled
-use Rattle.papaya_waits.specs.Given.Seize.Settle.{settle_plan}
-use Rattle.papaya_waits.specs.Given.Seize.World.{World, Row, Rests, Settles, IsInside, with_at}
-use Rattle.papaya_waits.proofs.Given.SeizeEnds.Settling.Most.{is_going}
-use Rattle.papaya_passes.proofs.Given.SeizeRule.Rows.Others.{steps_others}
-use Rattle.papaya_passes.specs.Given.Tables.Chunks.{is_incremental}
-use Rattle.papaya_passes.specs.Given.Tables.Nodes.{deferred_word}
-use Rattle.papaya_passes.specs.Given.Tables.declared.node.Node.{Node}
-use Rattle.papaya_passes.specs.Given.Tables.declared.setting.Setting.{Setting}
-use Rattle.papaya_passes.specs.Given.Resize.declared.outcome.Outcome.{Outcome}
-use Rattle.papaya_passes.specs.Given.Resize.declared.outcome.Outcome.TheVariants as outcome
-use Rattle.papaya_passes.specs.Given.Reserves.Reserve.{reserve_plan}
-use Rattle.papaya_passes.specs.Given.Reserves.declared.reserve.Reserve.{Reserve}
-use Rattle.papaya_passes.specs.Given.Rule.Chart.{Chart}
-use Rattle.papaya_passes.specs.Given.Rule.Words.{Blocks}
-use Rattle.papaya_passes.specs.Given.Points.Measures.{IsBelow}
-use Rattle.papaya_passes.specs.Given.Points.Steps.{AreLawful}
-use Rattle.papaya_passes.specs.Given.Late.FactsReserves.{ReserveFacts}
-use Rattle.papaya_passes.specs.Given.Late.LateReserves.{LateReserveFacts}
-use Rattle.papaya_passes.specs.Given.Late.ToldReserves.{IsRowOfReserve}
-use Rattle.papaya_waits.specs.Given.Maps.AloneReserves.{LooksAtRoot, SumsUp, KeepsToRoot}
-use Rattle.papaya_waits.specs.Given.Maps.EndingsReserves.{HasMore}
-use Rattle.papaya_waits.specs.Given.Maps.FactsAloneReserves.{IsLoneReserve, ReservesAlone}
-use Rattle.papaya_passes.specs.Given.Falls.Reserves.{number_of_reserve}
-use Rattle.papaya_passes.proofs.Given.Falls.Laws.{reserve_rows_fall}
-use Rattle.papaya_waits.specs.Given.Callers.Rooms.{CallForRoom, row_of_room, room_once_over}
-use Rattle.papaya_waits.specs.Given.Callers.Sights.{Sight, seen_by}
-use Rattle.papaya_waits.specs.Given.Callers.Together.{UnderWay, ForRoom, next_for_room, in_slot, IsReclaimed, Stands, Together, RoomRowsTogether}
-use Rattle.papaya_waits.proofs.Given.Callers.Together.At.{at_other, at_same}
-use Rattle.papaya_waits.proofs.Given.Callers.Together.Begun as begun
-use Rattle.papaya_waits.proofs.Given.Callers.Together.Few.{room_row_claims_none}
-use Rattle.papaya_waits.proofs.Given.Callers.Together.RoomRows.{begins_at, room_rows_stand_together}
-use Rattle.papaya_passes.specs.Given.Points.FactsCalls.{Unchanged}
-use Rattle.papaya_waits.specs.Given.Alone.Counted.{HasAdded}
+use Rattle.papaya_waits.specs.Given.SeizeWordsMem.{Mem, Can, Took, value_at}
+use Rattle.papaya_waits.specs.Given.SeizeWordsPlan.{May, Steps}
+use Rattle.papaya_waits.specs.Given.SeizeDeclared.rows.settle.Settle.{Settle}
+use Rattle.papaya_waits.specs.Given.SeizeDeclared.rows.settle.Settled.{Settled}
+use Rattle.papaya_waits.specs.Given.SeizeDeclared.rows.settle.Settled.TheVariants as settled
+use Rattle.papaya_waits.specs.Given.SeizeSettle.{settle_plan}
+use Rattle.papaya_waits.specs.Given.SeizeWorld.{World, Row, Rests, Settles, IsInside, with_at}
+use Rattle.papaya_waits.proofs.Given.SeizeEndsSettling.Most.{is_going}
+use Rattle.papaya_passes.proofs.Given.SeizeRuleRows.Others.{steps_others}
+use Rattle.papaya_passes.specs.Given.TablesChunks.{is_incremental}
+use Rattle.papaya_passes.specs.Given.TablesNodes.{deferred_word}
+use Rattle.papaya_passes.specs.Given.TablesDeclared.node.Node.{Node}
+use Rattle.papaya_passes.specs.Given.TablesDeclared.setting.Setting.{Setting}
+use Rattle.papaya_passes.specs.Given.ResizeDeclared.outcome.Outcome.{Outcome}
+use Rattle.papaya_passes.specs.Given.ResizeDeclared.outcome.Outcome.TheVariants as outcome
+use Rattle.papaya_passes.specs.Given.ReservesReserve.{reserve_plan}
+use Rattle.papaya_passes.specs.Given.ReservesDeclared.reserve.Reserve.{Reserve}
+use Rattle.papaya_passes.specs.Given.RuleChart.{Chart}
+use Rattle.papaya_passes.specs.Given.RuleWords.{Blocks}
+use Rattle.papaya_passes.specs.Given.PointsMeasures.{IsBelow}
+use Rattle.papaya_passes.specs.Given.PointsSteps.{AreLawful}
+use Rattle.papaya_passes.specs.Given.LateFactsReserves.{ReserveFacts}
+use Rattle.papaya_passes.specs.Given.LateLateReserves.{LateReserveFacts}
+use Rattle.papaya_passes.specs.Given.LateToldReserves.{IsRowOfReserve}
+use Rattle.papaya_waits.specs.Given.MapsAloneReserves.{LooksAtRoot, SumsUp, KeepsToRoot}
+use Rattle.papaya_waits.specs.Given.MapsEndingsReserves.{HasMore}
+use Rattle.papaya_waits.specs.Given.MapsFactsAloneReserves.{IsLoneReserve, ReservesAlone}
+use Rattle.papaya_passes.specs.Given.FallsReserves.{number_of_reserve}
+use Rattle.papaya_passes.proofs.Given.FallsLaws.{reserve_rows_fall}
+use Rattle.papaya_waits.specs.Given.CallersRooms.{CallForRoom, row_of_room, room_once_over}
+use Rattle.papaya_waits.specs.Given.CallersSights.{Sight, seen_by}
+use Rattle.papaya_waits.specs.Given.CallersTogether.{UnderWay, ForRoom, next_for_room, in_slot, IsReclaimed, Stands, Together, RoomRowsTogether}
+use Rattle.papaya_waits.proofs.Given.CallersTogether.At.{at_other, at_same}
+use Rattle.papaya_waits.proofs.Given.CallersTogether.Begun as begun
+use Rattle.papaya_waits.proofs.Given.CallersTogether.Few.{room_row_claims_none}
+use Rattle.papaya_waits.proofs.Given.CallersTogether.RoomRows.{begins_at, room_rows_stand_together}
+use Rattle.papaya_passes.specs.Given.PointsFactsCalls.{Unchanged}
+use Rattle.papaya_waits.specs.Given.AloneCounted.{HasAdded}
 use Rattle.papaya_whole.proofs.Rows.Shards.{row_shards}
 use Rattle.papaya_whole.specs.Contents.{KeepsPairs}
 use Rattle.papaya_whole.proofs.Contents.Runs.{row_keeps, run_on}

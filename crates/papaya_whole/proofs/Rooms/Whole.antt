@@ -2,34 +2,34 @@
 use Rattle.std.specs.Prelude.{◌≡◌, ℕ, ◌⊎◌, Bool, List, length, [], ◌∷◌, ◌+◌, Option, Some}
 use Rattle.std.proofs.Common.{inl, inr, refl, ap, sym, subst, ◌∙◌, length-append}
 use Rattle.std.specs.Int.{IsPowerOfTwo}
-use Rattle.papaya_waits.specs.Given.SeizeWords.Mem.{Mem, Can, Took, value_at}
-use Rattle.papaya_waits.specs.Given.SeizeWords.Plan.{May, Steps}
-use Rattle.papaya_waits.specs.Given.Seize.World.{World, with_at}
-use Rattle.papaya_passes.specs.Given.Tables.declared.node.Node.{Node}
-use Rattle.papaya_passes.specs.Given.Tables.declared.setting.Setting.{Setting}
-use Rattle.papaya_passes.specs.Given.Resize.declared.outcome.Outcome.{Outcome}
-use Rattle.papaya_passes.specs.Given.Resize.declared.outcome.Outcome.TheVariants as outcome
-use Rattle.papaya_passes.specs.Given.Reserves.Reserve.{reserving, reserve_plan}
-use Rattle.papaya_passes.specs.Given.Reserves.declared.reserve.Reserve.{Reserve}
-use Rattle.papaya_passes.specs.Given.Reserves.declared.reserve.Reserving.{Reserving}
-use Rattle.papaya_passes.specs.Given.Reserves.declared.reserve.Reserving.TheVariants as at
-use Rattle.papaya_passes.specs.Given.Rule.Chart.{Chart}
-use Rattle.papaya_passes.specs.Given.Rule.Words.{Blocks}
-use Rattle.papaya_passes.specs.Given.Points.Measures.{IsBelow, EndsFrom, ends}
-use Rattle.papaya_passes.specs.Given.Points.Steps.{AreLawful}
-use Rattle.papaya_passes.proofs.Given.Points.Descents.{descents_end}
-use Rattle.papaya_waits.specs.Given.Alone.Endings.{runs_end}
-use Rattle.papaya_passes.specs.Given.Late.FactsReserves.{ReserveFacts}
-use Rattle.papaya_passes.specs.Given.Late.LateReserves.{LateReserveFacts}
-use Rattle.papaya_passes.specs.Given.Late.ToldReserves.{IsRowOfReserve}
-use Rattle.papaya_waits.specs.Given.Maps.EndingsReserves.{HasMore, ComesToAnEnd}
-use Rattle.papaya_passes.specs.Given.Falls.Reserves.{number_of_reserve}
-use Rattle.papaya_passes.proofs.Given.Falls.Laws.{reserve_numbers_are_as_many}
-use Rattle.papaya_waits.specs.Given.Callers.Rooms.{CallForRoom, row_of_room}
-use Rattle.papaya_waits.specs.Given.Callers.Sights.{Sight, seen_by}
-use Rattle.papaya_waits.specs.Given.Callers.Together.{UnderWay, ForRoom, in_slot, Stands, Together}
-use Rattle.papaya_waits.proofs.Given.Callers.Together.At.{at_other, at_same}
-use Rattle.papaya_waits.proofs.Given.Callers.Together.Rooms.{rooms_begin_together}
+use Rattle.papaya_waits.specs.Given.SeizeWordsMem.{Mem, Can, Took, value_at}
+use Rattle.papaya_waits.specs.Given.SeizeWordsPlan.{May, Steps}
+use Rattle.papaya_waits.specs.Given.SeizeWorld.{World, with_at}
+use Rattle.papaya_passes.specs.Given.TablesDeclared.node.Node.{Node}
+use Rattle.papaya_passes.specs.Given.TablesDeclared.setting.Setting.{Setting}
+use Rattle.papaya_passes.specs.Given.ResizeDeclared.outcome.Outcome.{Outcome}
+use Rattle.papaya_passes.specs.Given.ResizeDeclared.outcome.Outcome.TheVariants as outcome
+use Rattle.papaya_passes.specs.Given.ReservesReserve.{reserving, reserve_plan}
+use Rattle.papaya_passes.specs.Given.ReservesDeclared.reserve.Reserve.{Reserve}
+use Rattle.papaya_passes.specs.Given.ReservesDeclared.reserve.Reserving.{Reserving}
+use Rattle.papaya_passes.specs.Given.ReservesDeclared.reserve.Reserving.TheVariants as at
+use Rattle.papaya_passes.specs.Given.RuleChart.{Chart}
+use Rattle.papaya_passes.specs.Given.RuleWords.{Blocks}
+use Rattle.papaya_passes.specs.Given.PointsMeasures.{IsBelow, EndsFrom, ends}
+use Rattle.papaya_passes.specs.Given.PointsSteps.{AreLawful}
+use Rattle.papaya_passes.proofs.Given.PointsDescents.{descents_end}
+use Rattle.papaya_waits.specs.Given.AloneEndings.{runs_end}
+use Rattle.papaya_passes.specs.Given.LateFactsReserves.{ReserveFacts}
+use Rattle.papaya_passes.specs.Given.LateLateReserves.{LateReserveFacts}
+use Rattle.papaya_passes.specs.Given.LateToldReserves.{IsRowOfReserve}
+use Rattle.papaya_waits.specs.Given.MapsEndingsReserves.{HasMore, ComesToAnEnd}
+use Rattle.papaya_passes.specs.Given.FallsReserves.{number_of_reserve}
+use Rattle.papaya_passes.proofs.Given.FallsLaws.{reserve_numbers_are_as_many}
+use Rattle.papaya_waits.specs.Given.CallersRooms.{CallForRoom, row_of_room}
+use Rattle.papaya_waits.specs.Given.CallersSights.{Sight, seen_by}
+use Rattle.papaya_waits.specs.Given.CallersTogether.{UnderWay, ForRoom, in_slot, Stands, Together}
+use Rattle.papaya_waits.proofs.Given.CallersTogether.At.{at_other, at_same}
+use Rattle.papaya_waits.proofs.Given.CallersTogether.Rooms.{rooms_begin_together}
 use Rattle.papaya_whole.specs.Owner.{IsFirst, IsOfRoot, AtRest, IsAlone}
 use Rattle.papaya_whole.specs.WholeRooms.{room_so, RoomLeads, RoomStepLeads, RoomsBeginAlone, RoomsGoOnAlone, RoomsComeToAnEnd}
 use Rattle.papaya_whole.proofs.Keys.Begins.{one_few}

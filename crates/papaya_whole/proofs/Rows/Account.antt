@@ -1,49 +1,49 @@
 -- What a step of a row is to the call that it is within: the call stays where it was but for the row, or the row is over.
 use Rattle.std.specs.Prelude.{◌==◌, if◌then◌else◌}
 use Rattle.std.proofs.Common.{◌≡◌, ◌≢◌, ℕ, Bool, true, false, refl, ap, sym, subst, ◌∙◌}
-use Rattle.papaya_waits.specs.Given.SeizeWords.Mem.{Mem, Took, value_at}
-use Rattle.papaya_waits.specs.Given.SeizeWords.Plan.{Steps, plan_as}
-use Rattle.papaya_waits.specs.Given.Seize.declared.progress.Progress.{Progress}
-use Rattle.papaya_waits.specs.Given.Seize.declared.progress.Progress.TheVariants as progress
-use Rattle.papaya_waits.specs.Given.Seize.declared.rows.defer.Defer.{Defer}
-use Rattle.papaya_waits.specs.Given.Seize.declared.rows.settle.Settle.{Settle}
-use Rattle.papaya_waits.specs.Given.Seize.declared.rows.settle.Settled.{Settled}
-use Rattle.papaya_waits.specs.Given.Seize.declared.rows.settle.Settled.TheVariants as settled
-use Rattle.papaya_waits.specs.Given.Seize.Defer.{defer_plan}
-use Rattle.papaya_waits.specs.Given.Seize.Settle.{settle_plan}
-use Rattle.papaya_waits.specs.Given.Seize.World.{Settles, Defers}
-use Rattle.papaya_passes.proofs.Given.SeizeRule.Rows.Leaving.{steps_back}
-use Rattle.papaya_passes.specs.Given.Tables.Nodes.{deferred_word}
-use Rattle.papaya_passes.specs.Given.Tables.declared.node.Node.{Node}
-use Rattle.papaya_passes.specs.Given.Tables.declared.table.Table.{Table}
-use Rattle.papaya_passes.specs.Given.Resize.Dispose as dispose
-use Rattle.papaya_passes.specs.Given.Resize.CopierPromotes as retiring
-use Rattle.papaya_passes.specs.Given.Resize.Copier as copier
-use Rattle.papaya_passes.specs.Given.Resize.CopierStates as copiers
-use Rattle.papaya_passes.specs.Given.Resize.declared.copier.Copier.{Copier}
-use Rattle.papaya_passes.specs.Given.Resize.declared.copier.Copying.{Copying}
-use Rattle.papaya_passes.specs.Given.Resize.declared.copier.Copying.TheVariants as copies
-use Rattle.papaya_passes.specs.Given.Resize.declared.dispose.Dispose.{Dispose}
-use Rattle.papaya_passes.specs.Given.Resize.declared.dispose.Disposing.{Disposing}
-use Rattle.papaya_passes.specs.Given.Resize.declared.dispose.Disposing.TheVariants as disposes
-use Rattle.papaya_passes.specs.Given.Raw.Call.{call_plan, plan_at, disposed, helped, copied}
-use Rattle.papaya_passes.specs.Given.Raw.CallPoints as points
-use Rattle.papaya_passes.specs.Given.Raw.declared.machines.answer.KeyAnswer.{KeyAnswer}
-use Rattle.papaya_passes.specs.Given.Raw.declared.machines.answer.Called.{Called}
-use Rattle.papaya_passes.specs.Given.Raw.declared.machines.answer.Called.TheVariants as called
-use Rattle.papaya_passes.specs.Given.Raw.declared.machines.call.KeyCall.{KeyCall}
-use Rattle.papaya_passes.specs.Given.Raw.declared.machines.call.Calling.{Calling}
-use Rattle.papaya_passes.specs.Given.Raw.declared.machines.call.Calling.TheVariants as at
-use Rattle.papaya_passes.specs.Given.Rule.Chart.{Chart}
-use Rattle.papaya_passes.specs.Given.Rule.Words.{Blocks}
-use Rattle.papaya_passes.specs.Given.Points.Told.{IsRowOf, IsRowOfCopier, IsRowOfCall}
-use Rattle.papaya_waits.specs.Given.Alone.Counted.{counted_for, counted_at}
-use Rattle.papaya_waits.specs.Given.Alone.FactsAloneCalls.{TablesAlone, StandsAlone}
-use Rattle.papaya_waits.specs.Given.Callers.Rows.{row_of_disposal, row_of_copier, row_of, past_copying, past_row, once_over}
-use Rattle.papaya_waits.proofs.Given.Callers.Together.RowSteps.{never_refused}
-use Rattle.papaya_waits.proofs.Given.Callers.Together.RowsOfCopiers.{at_retirement}
-use Rattle.papaya_passes.specs.Given.Falls.Calls.{number_of_call}
-use Rattle.papaya_waits.proofs.Given.SeizeEnds.Settling.Most.{is_going}
+use Rattle.papaya_waits.specs.Given.SeizeWordsMem.{Mem, Took, value_at}
+use Rattle.papaya_waits.specs.Given.SeizeWordsPlan.{Steps, plan_as}
+use Rattle.papaya_waits.specs.Given.SeizeDeclared.progress.Progress.{Progress}
+use Rattle.papaya_waits.specs.Given.SeizeDeclared.progress.Progress.TheVariants as progress
+use Rattle.papaya_waits.specs.Given.SeizeDeclared.rows.defer.Defer.{Defer}
+use Rattle.papaya_waits.specs.Given.SeizeDeclared.rows.settle.Settle.{Settle}
+use Rattle.papaya_waits.specs.Given.SeizeDeclared.rows.settle.Settled.{Settled}
+use Rattle.papaya_waits.specs.Given.SeizeDeclared.rows.settle.Settled.TheVariants as settled
+use Rattle.papaya_waits.specs.Given.SeizeDefer.{defer_plan}
+use Rattle.papaya_waits.specs.Given.SeizeSettle.{settle_plan}
+use Rattle.papaya_waits.specs.Given.SeizeWorld.{Settles, Defers}
+use Rattle.papaya_passes.proofs.Given.SeizeRuleRows.Leaving.{steps_back}
+use Rattle.papaya_passes.specs.Given.TablesNodes.{deferred_word}
+use Rattle.papaya_passes.specs.Given.TablesDeclared.node.Node.{Node}
+use Rattle.papaya_passes.specs.Given.TablesDeclared.table.Table.{Table}
+use Rattle.papaya_passes.specs.Given.ResizeDispose as dispose
+use Rattle.papaya_passes.specs.Given.ResizeCopierPromotes as retiring
+use Rattle.papaya_passes.specs.Given.ResizeCopier as copier
+use Rattle.papaya_passes.specs.Given.ResizeCopierStates as copiers
+use Rattle.papaya_passes.specs.Given.ResizeDeclared.copier.Copier.{Copier}
+use Rattle.papaya_passes.specs.Given.ResizeDeclared.copier.Copying.{Copying}
+use Rattle.papaya_passes.specs.Given.ResizeDeclared.copier.Copying.TheVariants as copies
+use Rattle.papaya_passes.specs.Given.ResizeDeclared.dispose.Dispose.{Dispose}
+use Rattle.papaya_passes.specs.Given.ResizeDeclared.dispose.Disposing.{Disposing}
+use Rattle.papaya_passes.specs.Given.ResizeDeclared.dispose.Disposing.TheVariants as disposes
+use Rattle.papaya_passes.specs.Given.RawCall.{call_plan, plan_at, disposed, helped, copied}
+use Rattle.papaya_passes.specs.Given.RawCallPoints as points
+use Rattle.papaya_passes.specs.Given.RawDeclared.machines.answer.KeyAnswer.{KeyAnswer}
+use Rattle.papaya_passes.specs.Given.RawDeclared.machines.answer.Called.{Called}
+use Rattle.papaya_passes.specs.Given.RawDeclared.machines.answer.Called.TheVariants as called
+use Rattle.papaya_passes.specs.Given.RawDeclared.machines.call.KeyCall.{KeyCall}
+use Rattle.papaya_passes.specs.Given.RawDeclared.machines.call.Calling.{Calling}
+use Rattle.papaya_passes.specs.Given.RawDeclared.machines.call.Calling.TheVariants as at
+use Rattle.papaya_passes.specs.Given.RuleChart.{Chart}
+use Rattle.papaya_passes.specs.Given.RuleWords.{Blocks}
+use Rattle.papaya_passes.specs.Given.PointsTold.{IsRowOf, IsRowOfCopier, IsRowOfCall}
+use Rattle.papaya_waits.specs.Given.AloneCounted.{counted_for, counted_at}
+use Rattle.papaya_waits.specs.Given.AloneFactsAloneCalls.{TablesAlone, StandsAlone}
+use Rattle.papaya_waits.specs.Given.CallersRows.{row_of_disposal, row_of_copier, row_of, past_copying, past_row, once_over}
+use Rattle.papaya_waits.proofs.Given.CallersTogether.RowSteps.{never_refused}
+use Rattle.papaya_waits.proofs.Given.CallersTogether.RowsOfCopiers.{at_retirement}
+use Rattle.papaya_passes.specs.Given.FallsCalls.{number_of_call}
+use Rattle.papaya_waits.proofs.Given.SeizeEndsSettling.Most.{is_going}
 
 -- what a call tells by a step of a retirement within it
 abbrev pub told_by : {T : Type 0} → Settled T → Called T

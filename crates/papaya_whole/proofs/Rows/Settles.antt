@@ -1,34 +1,34 @@
 -- A row of the collector that is alone under way, in a world that came about from the start: no step of it waits, and each that goes on leaves less to do.
 use Rattle.std.specs.Prelude.{◌≢◌, ◌==◌}
 use Rattle.std.proofs.Common.{◌≡◌, ℕ, ◌+◌, ◌<◌, true, refl, ap, subst, inl, inr, arith}
-use Rattle.papaya_waits.specs.Given.SeizeWords.Mem.{Mem, Took, value_at}
-use Rattle.papaya_waits.specs.Given.SeizeWords.Plan.{Now, Steps}
-use Rattle.papaya_waits.specs.Given.SeizeWords.declared.at.At.TheVariants.{Slot}
-use Rattle.papaya_waits.proofs.Given.SeizeWords.Plans.{ends_if}
-use Rattle.papaya_waits.proofs.Given.SeizeWords.OneOwner.Operations.{loaded}
-use Rattle.papaya_waits.specs.Given.Seize.declared.states.TheConstants.{LAST_SLOT, BATCH, HELD}
-use Rattle.papaya_waits.specs.Given.Seize.declared.progress.Progress.{Progress}
-use Rattle.papaya_waits.specs.Given.Seize.declared.rows.defer.Defer.{Defer}
-use Rattle.papaya_waits.specs.Given.Seize.declared.rows.settle.Settle.{Settle}
-use Rattle.papaya_waits.specs.Given.Seize.declared.rows.settle.Settling.{Settling}
-use Rattle.papaya_waits.specs.Given.Seize.declared.rows.settle.Settling.TheVariants as at
-use Rattle.papaya_waits.specs.Given.Seize.declared.rows.settle.Settled.{Settled}
-use Rattle.papaya_waits.specs.Given.Seize.declared.rows.settle.Settled.TheVariants as settled
-use Rattle.papaya_waits.specs.Given.Seize.Settle as plans
-use Rattle.papaya_waits.specs.Given.Seize.Defer.{defer_plan}
-use Rattle.papaya_waits.specs.Given.Seize.World.{World, Rests, Settles, Defers, at_start}
-use Rattle.papaya_passes.proofs.Given.SeizeRule.World.Rested.{Lone}
-use Rattle.papaya_passes.proofs.Given.SeizeRule.World.Start.{start_good}
-use Rattle.papaya_waits.proofs.Given.SeizeAlone.Histories.Reached.{Reached}
-use Rattle.papaya_waits.proofs.Given.SeizeEnds.Batches.Held.{waits_held}
-use Rattle.papaya_waits.proofs.Given.SeizeEnds.Batches.Rows.{HeldByRows, start_held, runs_held, settles_alone}
-use Rattle.papaya_waits.proofs.Given.SeizeEnds.Rows.Defer.{Lower, defer_to_go, defer_ends}
-use Rattle.papaya_waits.proofs.Given.SeizeEnds.Rows.Lone.{settles_lower}
-use Rattle.papaya_waits.proofs.Given.SeizeEnds.Settling.Most.{is_going, settle_to_go}
-use Rattle.papaya_passes.specs.Given.Tables.Nodes.{deferred_word}
-use Rattle.papaya_passes.specs.Given.Tables.declared.node.Node.{Node}
-use Rattle.papaya_waits.specs.Given.Callers.Together.{CameAbout}
-use Rattle.papaya_waits.proofs.Given.Callers.Together.Came.{came_reached}
+use Rattle.papaya_waits.specs.Given.SeizeWordsMem.{Mem, Took, value_at}
+use Rattle.papaya_waits.specs.Given.SeizeWordsPlan.{Now, Steps}
+use Rattle.papaya_waits.specs.Given.SeizeWordsDeclared.at.At.TheVariants.{Slot}
+use Rattle.papaya_waits.proofs.Given.SeizeWordsPlans.{ends_if}
+use Rattle.papaya_waits.proofs.Given.SeizeWordsOneOwner.Operations.{loaded}
+use Rattle.papaya_waits.specs.Given.SeizeDeclared.states.TheConstants.{LAST_SLOT, BATCH, HELD}
+use Rattle.papaya_waits.specs.Given.SeizeDeclared.progress.Progress.{Progress}
+use Rattle.papaya_waits.specs.Given.SeizeDeclared.rows.defer.Defer.{Defer}
+use Rattle.papaya_waits.specs.Given.SeizeDeclared.rows.settle.Settle.{Settle}
+use Rattle.papaya_waits.specs.Given.SeizeDeclared.rows.settle.Settling.{Settling}
+use Rattle.papaya_waits.specs.Given.SeizeDeclared.rows.settle.Settling.TheVariants as at
+use Rattle.papaya_waits.specs.Given.SeizeDeclared.rows.settle.Settled.{Settled}
+use Rattle.papaya_waits.specs.Given.SeizeDeclared.rows.settle.Settled.TheVariants as settled
+use Rattle.papaya_waits.specs.Given.SeizeSettle as plans
+use Rattle.papaya_waits.specs.Given.SeizeDefer.{defer_plan}
+use Rattle.papaya_waits.specs.Given.SeizeWorld.{World, Rests, Settles, Defers, at_start}
+use Rattle.papaya_passes.proofs.Given.SeizeRuleWorld.Rested.{Lone}
+use Rattle.papaya_passes.proofs.Given.SeizeRuleWorld.Start.{start_good}
+use Rattle.papaya_waits.proofs.Given.SeizeAloneHistories.Reached.{Reached}
+use Rattle.papaya_waits.proofs.Given.SeizeEndsBatches.Held.{waits_held}
+use Rattle.papaya_waits.proofs.Given.SeizeEndsBatches.Rows.{HeldByRows, start_held, runs_held, settles_alone}
+use Rattle.papaya_waits.proofs.Given.SeizeEndsRows.Defer.{Lower, defer_to_go, defer_ends}
+use Rattle.papaya_waits.proofs.Given.SeizeEndsRows.Lone.{settles_lower}
+use Rattle.papaya_waits.proofs.Given.SeizeEndsSettling.Most.{is_going, settle_to_go}
+use Rattle.papaya_passes.specs.Given.TablesNodes.{deferred_word}
+use Rattle.papaya_passes.specs.Given.TablesDeclared.node.Node.{Node}
+use Rattle.papaya_waits.specs.Given.CallersTogether.{CameAbout}
+use Rattle.papaya_waits.proofs.Given.CallersTogether.Came.{came_reached}
 
 module _ {K V : Type 0} (size : ℕ) (w : World (Node K V)) (came : CameAbout size w) where
   reached : Reached deferred_word size w

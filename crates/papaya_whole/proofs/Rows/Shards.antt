@@ -1,22 +1,22 @@
 -- A step of a row leaves the shards of the map's counter as they are.
 use Rattle.std.specs.Prelude.{ℕ, suc, Bool}
 use Rattle.std.proofs.Common.{inl}
-use Rattle.papaya_waits.specs.Given.SeizeWords.Mem.{Mem}
-use Rattle.papaya_waits.specs.Given.Seize.World.{World, Hand, NoBlock, Making, InUse, Cutting, Handed, LeftTo, Steps', Parting}
-use Rattle.papaya_waits.proofs.Given.SeizeAlone.Histories.NotTaken.{kept_word}
-use Rattle.papaya_passes.specs.Given.Tables.Nodes.{deferred_word}
-use Rattle.papaya_passes.specs.Given.Tables.declared.node.Node.{Node}
-use Rattle.papaya_passes.specs.Given.Tables.declared.node.Node.TheVariants as node
-use Rattle.papaya_passes.specs.Given.Tables.declared.setting.Setting.{Setting}
-use Rattle.papaya_passes.specs.Given.Rule.Chart.{Chart}
-use Rattle.papaya_passes.specs.Given.Rule.Words.{Blocks}
-use Rattle.papaya_passes.specs.Given.Rule.InWorld.{IsMapIn}
-use Rattle.papaya_waits.specs.Given.Alone.Counted.{HasAdded}
-use Rattle.papaya_waits.proofs.Given.Alone.Shards.Sums.{shards_words, added_same}
-use Rattle.papaya_waits.specs.Given.Callers.Kept.{IsUsersOwn, IsMaking}
-use Rattle.papaya_waits.specs.Given.Callers.Together.{CameAbout}
-use Rattle.papaya_waits.proofs.Given.Callers.Rows.Keep.{kept_block}
-use Rattle.papaya_waits.proofs.Given.Callers.Together.Came.{came_reached}
+use Rattle.papaya_waits.specs.Given.SeizeWordsMem.{Mem}
+use Rattle.papaya_waits.specs.Given.SeizeWorld.{World, Hand, NoBlock, Making, InUse, Cutting, Handed, LeftTo, Steps', Parting}
+use Rattle.papaya_waits.proofs.Given.SeizeAloneHistories.NotTaken.{kept_word}
+use Rattle.papaya_passes.specs.Given.TablesNodes.{deferred_word}
+use Rattle.papaya_passes.specs.Given.TablesDeclared.node.Node.{Node}
+use Rattle.papaya_passes.specs.Given.TablesDeclared.node.Node.TheVariants as node
+use Rattle.papaya_passes.specs.Given.TablesDeclared.setting.Setting.{Setting}
+use Rattle.papaya_passes.specs.Given.RuleChart.{Chart}
+use Rattle.papaya_passes.specs.Given.RuleWords.{Blocks}
+use Rattle.papaya_passes.specs.Given.RuleInWorld.{IsMapIn}
+use Rattle.papaya_waits.specs.Given.AloneCounted.{HasAdded}
+use Rattle.papaya_waits.proofs.Given.AloneShards.Sums.{shards_words, added_same}
+use Rattle.papaya_waits.specs.Given.CallersKept.{IsUsersOwn, IsMaking}
+use Rattle.papaya_waits.specs.Given.CallersTogether.{CameAbout}
+use Rattle.papaya_waits.proofs.Given.CallersRows.Keep.{kept_block}
+use Rattle.papaya_waits.proofs.Given.CallersTogether.Came.{came_reached}
 
 makers_own : (h : Hand) → IsMaking h → IsUsersOwn h
 makers_own (Making i) making = tt

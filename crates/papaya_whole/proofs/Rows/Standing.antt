@@ -1,33 +1,33 @@
 -- Where a call stands at a row of the collector: it does not rest there, and once the row is over it knows what is to be known in the root's table.
 use Rattle.std.specs.Prelude.{◌≡◌, ℕ, ◌==◌, Bool, true, false, if◌then◌else◌}
 use Rattle.std.proofs.Common.{ap, arith}
-use Rattle.papaya_waits.specs.Given.Seize.World.{World, Rests}
-use Rattle.papaya_passes.specs.Given.Tables.declared.node.Node.{Node}
-use Rattle.papaya_passes.specs.Given.Tables.declared.setting.Setting.{Setting}
-use Rattle.papaya_passes.specs.Given.Tables.declared.table.Table.{Table}
-use Rattle.papaya_passes.specs.Given.Resize.CopierStates.{standing}
-use Rattle.papaya_passes.specs.Given.Resize.declared.copier.Copier.{Copier}
-use Rattle.papaya_passes.specs.Given.Resize.declared.copier.Copying.{Copying}
-use Rattle.papaya_passes.specs.Given.Resize.declared.copier.Copying.TheVariants as copies
-use Rattle.papaya_passes.specs.Given.Resize.declared.dispose.Dispose.{Dispose}
-use Rattle.papaya_passes.specs.Given.Resize.declared.dispose.Disposing.{Disposing}
-use Rattle.papaya_waits.specs.Given.Seize.declared.rows.settle.Settle.{Settle}
-use Rattle.papaya_passes.specs.Given.Raw.declared.machines.answer.KeyAnswer.{KeyAnswer}
-use Rattle.papaya_passes.specs.Given.Resize.declared.dispose.Disposing.TheVariants as disposes
-use Rattle.papaya_passes.specs.Given.Raw.declared.machines.call.KeyCall.{KeyCall}
-use Rattle.papaya_passes.specs.Given.Raw.declared.machines.call.Calling.{Calling}
-use Rattle.papaya_passes.specs.Given.Raw.declared.machines.call.Calling.TheVariants as at
-use Rattle.papaya_passes.specs.Given.Rule.Chart.{Chart}
-use Rattle.papaya_passes.specs.Given.Rule.Maps.{IsTable}
-use Rattle.papaya_passes.specs.Given.Rule.Words.{Blocks}
-use Rattle.papaya_passes.specs.Given.Points.FactsCalls.{Change, CallingFacts}
-use Rattle.papaya_passes.specs.Given.Points.FactsCopiesBlocking.{CopyingFactsBlocking}
-use Rattle.papaya_passes.specs.Given.Points.Told.{IsRowOf, IsRowOfCopier, IsRowOfCall}
-use Rattle.papaya_passes.specs.Given.Late.Left.{Left}
-use Rattle.papaya_passes.specs.Given.Late.LateCopies.{LateCopying}
-use Rattle.papaya_passes.specs.Given.Late.LateCalls.{LateCalling}
-use Rattle.papaya_waits.specs.Given.Callers.Rows.{row_of_disposal, row_of_copier, row_of, past_copying, past_row}
-use Rattle.papaya_waits.proofs.Given.Callers.Together.RowsOfCopiers.{at_retirement}
+use Rattle.papaya_waits.specs.Given.SeizeWorld.{World, Rests}
+use Rattle.papaya_passes.specs.Given.TablesDeclared.node.Node.{Node}
+use Rattle.papaya_passes.specs.Given.TablesDeclared.setting.Setting.{Setting}
+use Rattle.papaya_passes.specs.Given.TablesDeclared.table.Table.{Table}
+use Rattle.papaya_passes.specs.Given.ResizeCopierStates.{standing}
+use Rattle.papaya_passes.specs.Given.ResizeDeclared.copier.Copier.{Copier}
+use Rattle.papaya_passes.specs.Given.ResizeDeclared.copier.Copying.{Copying}
+use Rattle.papaya_passes.specs.Given.ResizeDeclared.copier.Copying.TheVariants as copies
+use Rattle.papaya_passes.specs.Given.ResizeDeclared.dispose.Dispose.{Dispose}
+use Rattle.papaya_passes.specs.Given.ResizeDeclared.dispose.Disposing.{Disposing}
+use Rattle.papaya_waits.specs.Given.SeizeDeclared.rows.settle.Settle.{Settle}
+use Rattle.papaya_passes.specs.Given.RawDeclared.machines.answer.KeyAnswer.{KeyAnswer}
+use Rattle.papaya_passes.specs.Given.ResizeDeclared.dispose.Disposing.TheVariants as disposes
+use Rattle.papaya_passes.specs.Given.RawDeclared.machines.call.KeyCall.{KeyCall}
+use Rattle.papaya_passes.specs.Given.RawDeclared.machines.call.Calling.{Calling}
+use Rattle.papaya_passes.specs.Given.RawDeclared.machines.call.Calling.TheVariants as at
+use Rattle.papaya_passes.specs.Given.RuleChart.{Chart}
+use Rattle.papaya_passes.specs.Given.RuleMaps.{IsTable}
+use Rattle.papaya_passes.specs.Given.RuleWords.{Blocks}
+use Rattle.papaya_passes.specs.Given.PointsFactsCalls.{Change, CallingFacts}
+use Rattle.papaya_passes.specs.Given.PointsFactsCopiesBlocking.{CopyingFactsBlocking}
+use Rattle.papaya_passes.specs.Given.PointsTold.{IsRowOf, IsRowOfCopier, IsRowOfCall}
+use Rattle.papaya_passes.specs.Given.LateLeft.{Left}
+use Rattle.papaya_passes.specs.Given.LateLateCopies.{LateCopying}
+use Rattle.papaya_passes.specs.Given.LateLateCalls.{LateCalling}
+use Rattle.papaya_waits.specs.Given.CallersRows.{row_of_disposal, row_of_copier, row_of, past_copying, past_row}
+use Rattle.papaya_waits.proofs.Given.CallersTogether.RowsOfCopiers.{at_retirement}
 use Rattle.papaya_whole.proofs.Rows.Account.{TargetIs}
 
 -- the points of a call at which it stands at a row

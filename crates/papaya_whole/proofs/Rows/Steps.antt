@@ -2,52 +2,52 @@
 use Rattle.std.specs.Prelude.{◌≡◌, ◌≢◌, ℕ, ◌<◌, Bool, Option, Some, None}
 use Rattle.std.proofs.Common.{true, inl, inr, refl, ap, sym, subst, ◌∙◌}
 use Rattle.std.proofs.lemmas.Bool.{cases_eq}
-use Rattle.papaya_waits.specs.Given.SeizeWords.Mem.{Mem, Can, Took, value_at}
-use Rattle.papaya_waits.specs.Given.SeizeWords.Plan.{May, Steps}
-use Rattle.papaya_waits.specs.Given.Seize.declared.progress.Progress.{Progress}
-use Rattle.papaya_waits.specs.Given.Seize.declared.progress.Progress.TheVariants as deferred
-use Rattle.papaya_waits.specs.Given.Seize.declared.rows.defer.Defer.{Defer}
-use Rattle.papaya_waits.specs.Given.Seize.declared.rows.settle.Settle.{Settle}
-use Rattle.papaya_waits.specs.Given.Seize.declared.rows.settle.Settled.{Settled}
-use Rattle.papaya_waits.specs.Given.Seize.declared.rows.settle.Settled.TheVariants as settled
-use Rattle.papaya_waits.specs.Given.Seize.Defer.{defer_plan}
-use Rattle.papaya_waits.specs.Given.Seize.Settle.{settle_plan}
-use Rattle.papaya_waits.specs.Given.Seize.World.{World, Rests, Settles, Defers, IsInside, with_at}
-use Rattle.papaya_waits.proofs.Given.SeizeAlone.Histories.NotTaken.{IsKept, IsHeld, kept_value}
-use Rattle.papaya_waits.proofs.Given.SeizeAlone.Histories.Uses.{inside_kept}
-use Rattle.papaya_waits.proofs.Given.SeizeEnds.Settling.Most.{is_going}
-use Rattle.papaya_passes.proofs.Given.SeizeRule.Rows.Others.{steps_others}
-use Rattle.papaya_passes.specs.Given.Tables.Chunks.{is_incremental}
-use Rattle.papaya_passes.specs.Given.Tables.Nodes.{deferred_word}
-use Rattle.papaya_passes.specs.Given.Tables.declared.node.Node.{Node}
-use Rattle.papaya_passes.specs.Given.Tables.declared.setting.Setting.{Setting}
-use Rattle.papaya_passes.specs.Given.Raw.Call.{call_plan}
-use Rattle.papaya_passes.specs.Given.Raw.declared.machines.answer.KeyAnswer.{KeyAnswer}
-use Rattle.papaya_passes.specs.Given.Raw.declared.machines.answer.Called.{Called}
-use Rattle.papaya_passes.specs.Given.Raw.declared.machines.answer.Called.TheVariants as called
-use Rattle.papaya_passes.specs.Given.Raw.declared.machines.call.KeyCall.{KeyCall}
-use Rattle.papaya_passes.specs.Given.Rule.Chart.{Chart}
-use Rattle.papaya_passes.specs.Given.Rule.InWorld.{IsMapIn}
-use Rattle.papaya_passes.specs.Given.Rule.Words.{Blocks}
-use Rattle.papaya_passes.specs.Given.Points.Steps.{AreLawful}
-use Rattle.papaya_passes.specs.Given.Points.Told.{IsRowOfCall}
-use Rattle.papaya_waits.specs.Given.Alone.FactsAloneCalls.{TablesAlone, StandsAlone, IsLone}
-use Rattle.papaya_passes.specs.Given.Late.LateCalls.{LateCallFacts}
-use Rattle.papaya_waits.specs.Given.Callers.Kept.{IsKeptBy}
-use Rattle.papaya_waits.specs.Given.Callers.Rows.{past_row, once_over}
-use Rattle.papaya_waits.specs.Given.Callers.Sights.{Sight, seen_by}
-use Rattle.papaya_waits.specs.Given.Callers.Together.{UnderWay, CallOnKey, OnKey, HasCall, next_of, in_slot, Stands}
-use Rattle.papaya_waits.proofs.Given.Callers.Together.At.{at_other, at_same}
-use Rattle.papaya_waits.proofs.Given.Callers.Rows.Keep.{kept_block}
-use Rattle.papaya_waits.proofs.Given.Callers.Sights.Seen.{map_seen}
-use Rattle.papaya_waits.proofs.Given.Callers.Together.Came.{came_reached}
-use Rattle.papaya_waits.proofs.Given.Callers.Together.FactsOn.{KnowsOfCall}
-use Rattle.papaya_waits.proofs.Given.Callers.Together.Fits.{map_in_slot}
-use Rattle.papaya_waits.proofs.Given.Callers.Together.WithinRows as rows
-use Rattle.papaya_waits.specs.Given.Alone.Counted.{HasAdded, counted_for, counted_at}
-use Rattle.papaya_waits.specs.Given.SeizeWords.declared.fault.Fault.{Fault}
-use Rattle.papaya_passes.specs.Given.Raw.declared.machines.call.Calling.{Calling}
-use Rattle.papaya_passes.specs.Given.Raw.declared.machines.call.Calling.TheVariants as at
+use Rattle.papaya_waits.specs.Given.SeizeWordsMem.{Mem, Can, Took, value_at}
+use Rattle.papaya_waits.specs.Given.SeizeWordsPlan.{May, Steps}
+use Rattle.papaya_waits.specs.Given.SeizeDeclared.progress.Progress.{Progress}
+use Rattle.papaya_waits.specs.Given.SeizeDeclared.progress.Progress.TheVariants as deferred
+use Rattle.papaya_waits.specs.Given.SeizeDeclared.rows.defer.Defer.{Defer}
+use Rattle.papaya_waits.specs.Given.SeizeDeclared.rows.settle.Settle.{Settle}
+use Rattle.papaya_waits.specs.Given.SeizeDeclared.rows.settle.Settled.{Settled}
+use Rattle.papaya_waits.specs.Given.SeizeDeclared.rows.settle.Settled.TheVariants as settled
+use Rattle.papaya_waits.specs.Given.SeizeDefer.{defer_plan}
+use Rattle.papaya_waits.specs.Given.SeizeSettle.{settle_plan}
+use Rattle.papaya_waits.specs.Given.SeizeWorld.{World, Rests, Settles, Defers, IsInside, with_at}
+use Rattle.papaya_waits.proofs.Given.SeizeAloneHistories.NotTaken.{IsKept, IsHeld, kept_value}
+use Rattle.papaya_waits.proofs.Given.SeizeAloneHistories.Uses.{inside_kept}
+use Rattle.papaya_waits.proofs.Given.SeizeEndsSettling.Most.{is_going}
+use Rattle.papaya_passes.proofs.Given.SeizeRuleRows.Others.{steps_others}
+use Rattle.papaya_passes.specs.Given.TablesChunks.{is_incremental}
+use Rattle.papaya_passes.specs.Given.TablesNodes.{deferred_word}
+use Rattle.papaya_passes.specs.Given.TablesDeclared.node.Node.{Node}
+use Rattle.papaya_passes.specs.Given.TablesDeclared.setting.Setting.{Setting}
+use Rattle.papaya_passes.specs.Given.RawCall.{call_plan}
+use Rattle.papaya_passes.specs.Given.RawDeclared.machines.answer.KeyAnswer.{KeyAnswer}
+use Rattle.papaya_passes.specs.Given.RawDeclared.machines.answer.Called.{Called}
+use Rattle.papaya_passes.specs.Given.RawDeclared.machines.answer.Called.TheVariants as called
+use Rattle.papaya_passes.specs.Given.RawDeclared.machines.call.KeyCall.{KeyCall}
+use Rattle.papaya_passes.specs.Given.RuleChart.{Chart}
+use Rattle.papaya_passes.specs.Given.RuleInWorld.{IsMapIn}
+use Rattle.papaya_passes.specs.Given.RuleWords.{Blocks}
+use Rattle.papaya_passes.specs.Given.PointsSteps.{AreLawful}
+use Rattle.papaya_passes.specs.Given.PointsTold.{IsRowOfCall}
+use Rattle.papaya_waits.specs.Given.AloneFactsAloneCalls.{TablesAlone, StandsAlone, IsLone}
+use Rattle.papaya_passes.specs.Given.LateLateCalls.{LateCallFacts}
+use Rattle.papaya_waits.specs.Given.CallersKept.{IsKeptBy}
+use Rattle.papaya_waits.specs.Given.CallersRows.{past_row, once_over}
+use Rattle.papaya_waits.specs.Given.CallersSights.{Sight, seen_by}
+use Rattle.papaya_waits.specs.Given.CallersTogether.{UnderWay, CallOnKey, OnKey, HasCall, next_of, in_slot, Stands}
+use Rattle.papaya_waits.proofs.Given.CallersTogether.At.{at_other, at_same}
+use Rattle.papaya_waits.proofs.Given.CallersRows.Keep.{kept_block}
+use Rattle.papaya_waits.proofs.Given.CallersSights.Seen.{map_seen}
+use Rattle.papaya_waits.proofs.Given.CallersTogether.Came.{came_reached}
+use Rattle.papaya_waits.proofs.Given.CallersTogether.FactsOn.{KnowsOfCall}
+use Rattle.papaya_waits.proofs.Given.CallersTogether.Fits.{map_in_slot}
+use Rattle.papaya_waits.proofs.Given.CallersTogether.WithinRows as rows
+use Rattle.papaya_waits.specs.Given.AloneCounted.{HasAdded, counted_for, counted_at}
+use Rattle.papaya_waits.specs.Given.SeizeWordsDeclared.fault.Fault.{Fault}
+use Rattle.papaya_passes.specs.Given.RawDeclared.machines.call.Calling.{Calling}
+use Rattle.papaya_passes.specs.Given.RawDeclared.machines.call.Calling.TheVariants as at
 use Rattle.papaya_whole.proofs.Rows.Shards.{row_shards}
 use Rattle.papaya_whole.specs.Contents.{KeepsPairs}
 use Rattle.papaya_whole.proofs.Contents.Runs.{row_keeps, run_on}

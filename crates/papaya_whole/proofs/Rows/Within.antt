@@ -1,19 +1,19 @@
 -- A call that is alone, at a row of the collector: the row is begun, if it is not yet, and what the call knows once it is over is of the root's table.
 use Rattle.std.specs.Prelude.{◌≡◌, ◌≢◌, ℕ, Bool}
 use Rattle.std.proofs.Common.{inl, inr, refl, ◌∙◌}
-use Rattle.papaya_waits.specs.Given.Seize.World.{World, Rests, IsInside}
-use Rattle.papaya_passes.specs.Given.Tables.declared.node.Node.{Node}
-use Rattle.papaya_passes.specs.Given.Tables.declared.setting.Setting.{Setting}
-use Rattle.papaya_passes.specs.Given.Rule.Chart.{Chart}
-use Rattle.papaya_passes.specs.Given.Rule.Words.{Blocks}
-use Rattle.papaya_passes.specs.Given.Points.Steps.{AreLawful}
-use Rattle.papaya_passes.specs.Given.Points.Told.{IsRowOfCall}
-use Rattle.papaya_waits.specs.Given.Callers.Rows.{row_of, once_over}
-use Rattle.papaya_waits.specs.Given.Callers.Sights.{Sight, seen_by}
-use Rattle.papaya_waits.specs.Given.Callers.Together.{CallOnKey, OnKey, in_slot, IsReclaimed, Knows, Stands, Together}
-use Rattle.papaya_waits.proofs.Given.Callers.Together.Begun as begun
-use Rattle.papaya_waits.proofs.Given.Callers.Together.BeginsRows.{begun_row, begun_together}
-use Rattle.papaya_waits.proofs.Given.Callers.Together.FactsOn.{KnowsOfCall}
+use Rattle.papaya_waits.specs.Given.SeizeWorld.{World, Rests, IsInside}
+use Rattle.papaya_passes.specs.Given.TablesDeclared.node.Node.{Node}
+use Rattle.papaya_passes.specs.Given.TablesDeclared.setting.Setting.{Setting}
+use Rattle.papaya_passes.specs.Given.RuleChart.{Chart}
+use Rattle.papaya_passes.specs.Given.RuleWords.{Blocks}
+use Rattle.papaya_passes.specs.Given.PointsSteps.{AreLawful}
+use Rattle.papaya_passes.specs.Given.PointsTold.{IsRowOfCall}
+use Rattle.papaya_waits.specs.Given.CallersRows.{row_of, once_over}
+use Rattle.papaya_waits.specs.Given.CallersSights.{Sight, seen_by}
+use Rattle.papaya_waits.specs.Given.CallersTogether.{CallOnKey, OnKey, in_slot, IsReclaimed, Knows, Stands, Together}
+use Rattle.papaya_waits.proofs.Given.CallersTogether.Begun as begun
+use Rattle.papaya_waits.proofs.Given.CallersTogether.BeginsRows.{begun_row, begun_together}
+use Rattle.papaya_waits.proofs.Given.CallersTogether.FactsOn.{KnowsOfCall}
 use Rattle.papaya_whole.specs.Owner.{IsFirst, IsOfRoot, IsAlone}
 use Rattle.papaya_whole.proofs.Rows.Account.{TargetIs}
 use Rattle.papaya_whole.proofs.Rows.Standing.{target_at, target_past}

@@ -1,49 +1,49 @@
 -- What a step of a row is to the sweep that it is within: it disposes of the pair that the sweep has removed, or retires a table that it has copied.
 use Rattle.std.specs.Prelude.{◌==◌, if◌then◌else◌}
 use Rattle.std.proofs.Common.{◌≡◌, ◌≢◌, ℕ, Bool, true, false, refl, ap, sym, subst, ◌∙◌}
-use Rattle.papaya_waits.specs.Given.SeizeWords.Mem.{Mem, Took, value_at}
-use Rattle.papaya_waits.specs.Given.SeizeWords.Plan.{Steps, plan_as}
-use Rattle.papaya_waits.specs.Given.Seize.declared.progress.Progress.{Progress}
-use Rattle.papaya_waits.specs.Given.Seize.declared.progress.Progress.TheVariants as progress
-use Rattle.papaya_waits.specs.Given.Seize.declared.rows.defer.Defer.{Defer}
-use Rattle.papaya_waits.specs.Given.Seize.declared.rows.settle.Settle.{Settle}
-use Rattle.papaya_waits.specs.Given.Seize.declared.rows.settle.Settled.{Settled}
-use Rattle.papaya_waits.specs.Given.Seize.declared.rows.settle.Settled.TheVariants as settled
-use Rattle.papaya_waits.specs.Given.Seize.Defer.{defer_plan}
-use Rattle.papaya_waits.specs.Given.Seize.Settle.{settle_plan}
-use Rattle.papaya_waits.specs.Given.Seize.World.{Rests, Settles, Defers}
-use Rattle.papaya_waits.proofs.Given.SeizeEnds.Settling.Most.{is_going}
-use Rattle.papaya_passes.proofs.Given.SeizeRule.Rows.Leaving.{steps_back}
-use Rattle.papaya_passes.specs.Given.Tables.Nodes.{deferred_word}
-use Rattle.papaya_passes.specs.Given.Tables.declared.node.Node.{Node}
-use Rattle.papaya_passes.specs.Given.Resize.Dispose as dispose
-use Rattle.papaya_passes.specs.Given.Resize.CopierPromotes as retiring
-use Rattle.papaya_passes.specs.Given.Resize.Copier as copier
-use Rattle.papaya_passes.specs.Given.Resize.CopierStates as copiers
-use Rattle.papaya_passes.specs.Given.Resize.declared.copier.Copier.{Copier}
-use Rattle.papaya_passes.specs.Given.Resize.declared.copier.Copying.{Copying}
-use Rattle.papaya_passes.specs.Given.Resize.declared.copier.Copying.TheVariants as copies
-use Rattle.papaya_passes.specs.Given.Resize.declared.dispose.Dispose.{Dispose}
-use Rattle.papaya_passes.specs.Given.Resize.declared.dispose.Disposing.{Disposing}
-use Rattle.papaya_passes.specs.Given.Resize.declared.dispose.Disposing.TheVariants as disposes
-use Rattle.papaya_passes.specs.Given.Sweeps.Sweep.{disposed, copied, plan_at, sweep_plan}
-use Rattle.papaya_passes.specs.Given.Sweeps.SweepPoints.{standing, further, telling}
-use Rattle.papaya_passes.specs.Given.Sweeps.declared.sweep.Sweep.{Sweep}
-use Rattle.papaya_passes.specs.Given.Sweeps.declared.sweep.Sweeping.{Sweeping}
-use Rattle.papaya_passes.specs.Given.Sweeps.declared.sweep.Sweeping.TheVariants as at
-use Rattle.papaya_passes.specs.Given.Sweeps.declared.sweep.Swept.{Swept}
-use Rattle.papaya_passes.specs.Given.Sweeps.declared.sweep.Swept.TheVariants as swept
-use Rattle.papaya_passes.specs.Given.Rule.Chart.{Chart}
-use Rattle.papaya_passes.specs.Given.Rule.Words.{Blocks}
-use Rattle.papaya_passes.specs.Given.Points.Told.{IsRowOf, IsRowOfCopier}
-use Rattle.papaya_passes.specs.Given.Late.ToldSweeps.{IsRowOfSweep}
-use Rattle.papaya_waits.specs.Given.Maps.FactsAloneReserves.{CopierAlone}
+use Rattle.papaya_waits.specs.Given.SeizeWordsMem.{Mem, Took, value_at}
+use Rattle.papaya_waits.specs.Given.SeizeWordsPlan.{Steps, plan_as}
+use Rattle.papaya_waits.specs.Given.SeizeDeclared.progress.Progress.{Progress}
+use Rattle.papaya_waits.specs.Given.SeizeDeclared.progress.Progress.TheVariants as progress
+use Rattle.papaya_waits.specs.Given.SeizeDeclared.rows.defer.Defer.{Defer}
+use Rattle.papaya_waits.specs.Given.SeizeDeclared.rows.settle.Settle.{Settle}
+use Rattle.papaya_waits.specs.Given.SeizeDeclared.rows.settle.Settled.{Settled}
+use Rattle.papaya_waits.specs.Given.SeizeDeclared.rows.settle.Settled.TheVariants as settled
+use Rattle.papaya_waits.specs.Given.SeizeDefer.{defer_plan}
+use Rattle.papaya_waits.specs.Given.SeizeSettle.{settle_plan}
+use Rattle.papaya_waits.specs.Given.SeizeWorld.{Rests, Settles, Defers}
+use Rattle.papaya_waits.proofs.Given.SeizeEndsSettling.Most.{is_going}
+use Rattle.papaya_passes.proofs.Given.SeizeRuleRows.Leaving.{steps_back}
+use Rattle.papaya_passes.specs.Given.TablesNodes.{deferred_word}
+use Rattle.papaya_passes.specs.Given.TablesDeclared.node.Node.{Node}
+use Rattle.papaya_passes.specs.Given.ResizeDispose as dispose
+use Rattle.papaya_passes.specs.Given.ResizeCopierPromotes as retiring
+use Rattle.papaya_passes.specs.Given.ResizeCopier as copier
+use Rattle.papaya_passes.specs.Given.ResizeCopierStates as copiers
+use Rattle.papaya_passes.specs.Given.ResizeDeclared.copier.Copier.{Copier}
+use Rattle.papaya_passes.specs.Given.ResizeDeclared.copier.Copying.{Copying}
+use Rattle.papaya_passes.specs.Given.ResizeDeclared.copier.Copying.TheVariants as copies
+use Rattle.papaya_passes.specs.Given.ResizeDeclared.dispose.Dispose.{Dispose}
+use Rattle.papaya_passes.specs.Given.ResizeDeclared.dispose.Disposing.{Disposing}
+use Rattle.papaya_passes.specs.Given.ResizeDeclared.dispose.Disposing.TheVariants as disposes
+use Rattle.papaya_passes.specs.Given.SweepsSweep.{disposed, copied, plan_at, sweep_plan}
+use Rattle.papaya_passes.specs.Given.SweepsSweepPoints.{standing, further, telling}
+use Rattle.papaya_passes.specs.Given.SweepsDeclared.sweep.Sweep.{Sweep}
+use Rattle.papaya_passes.specs.Given.SweepsDeclared.sweep.Sweeping.{Sweeping}
+use Rattle.papaya_passes.specs.Given.SweepsDeclared.sweep.Sweeping.TheVariants as at
+use Rattle.papaya_passes.specs.Given.SweepsDeclared.sweep.Swept.{Swept}
+use Rattle.papaya_passes.specs.Given.SweepsDeclared.sweep.Swept.TheVariants as swept
+use Rattle.papaya_passes.specs.Given.RuleChart.{Chart}
+use Rattle.papaya_passes.specs.Given.RuleWords.{Blocks}
+use Rattle.papaya_passes.specs.Given.PointsTold.{IsRowOf, IsRowOfCopier}
+use Rattle.papaya_passes.specs.Given.LateToldSweeps.{IsRowOfSweep}
+use Rattle.papaya_waits.specs.Given.MapsFactsAloneReserves.{CopierAlone}
 use Rattle.papaya_passes.specs.Sweeps.{number_of_sweep}
-use Rattle.papaya_waits.specs.Given.Callers.OverAll.{row_of_sweep, past_sweeping, sweep_once_over}
-use Rattle.papaya_waits.specs.Given.Callers.Rows.{row_of_disposal, row_of_copier, past_copying}
-use Rattle.papaya_waits.proofs.Given.Callers.Together.RowSteps.{never_refused}
-use Rattle.papaya_waits.proofs.Given.Callers.Together.RowsOfCopiers.{at_retirement}
-use Rattle.papaya_waits.proofs.Given.Callers.Together.SweepRows.{at_row}
+use Rattle.papaya_waits.specs.Given.CallersOverAll.{row_of_sweep, past_sweeping, sweep_once_over}
+use Rattle.papaya_waits.specs.Given.CallersRows.{row_of_disposal, row_of_copier, past_copying}
+use Rattle.papaya_waits.proofs.Given.CallersTogether.RowSteps.{never_refused}
+use Rattle.papaya_waits.proofs.Given.CallersTogether.RowsOfCopiers.{at_retirement}
+use Rattle.papaya_waits.proofs.Given.CallersTogether.SweepRows.{at_row}
 use Rattle.papaya_whole.specs.LoneSweeps.{IsBefore, SweepsAlone, OverRoot}
 use Rattle.papaya_whole.specs.WholeSweeps.{uncounted}
 use Rattle.papaya_whole.proofs.Rows.Standing.{disposal_row, copier_row}

@@ -1,17 +1,17 @@
 -- Where the owner rests, a sweep of any purpose begins alone.
 use Rattle.std.specs.Prelude.{◌≡◌, ℕ, Bool, Option, Some}
 use Rattle.std.proofs.Common.{inl, inr, refl, ◌∙◌}
-use Rattle.papaya_waits.specs.Given.Seize.World.{World, with_at}
-use Rattle.papaya_passes.specs.Given.Tables.declared.node.Node.{Node}
-use Rattle.papaya_passes.specs.Given.Tables.declared.setting.Setting.{Setting}
-use Rattle.papaya_passes.specs.Given.Sweeps.declared.sweep.Purpose.{Purpose}
-use Rattle.papaya_passes.specs.Given.Rule.Chart.{Chart}
-use Rattle.papaya_passes.specs.Given.Rule.Words.{Blocks}
-use Rattle.papaya_waits.specs.Given.Callers.OverAll.{CallOverAll, begun_over_all}
-use Rattle.papaya_waits.specs.Given.Callers.Sights.{Sight, seen_by}
-use Rattle.papaya_waits.specs.Given.Callers.Together.{UnderWay, OverAll, in_slot, Stands, Together}
-use Rattle.papaya_waits.proofs.Given.Callers.Together.At.{at_other, at_same}
-use Rattle.papaya_waits.proofs.Given.Callers.Together.Sweeps.{sweeps_begin_together}
+use Rattle.papaya_waits.specs.Given.SeizeWorld.{World, with_at}
+use Rattle.papaya_passes.specs.Given.TablesDeclared.node.Node.{Node}
+use Rattle.papaya_passes.specs.Given.TablesDeclared.setting.Setting.{Setting}
+use Rattle.papaya_passes.specs.Given.SweepsDeclared.sweep.Purpose.{Purpose}
+use Rattle.papaya_passes.specs.Given.RuleChart.{Chart}
+use Rattle.papaya_passes.specs.Given.RuleWords.{Blocks}
+use Rattle.papaya_waits.specs.Given.CallersOverAll.{CallOverAll, begun_over_all}
+use Rattle.papaya_waits.specs.Given.CallersSights.{Sight, seen_by}
+use Rattle.papaya_waits.specs.Given.CallersTogether.{UnderWay, OverAll, in_slot, Stands, Together}
+use Rattle.papaya_waits.proofs.Given.CallersTogether.At.{at_other, at_same}
+use Rattle.papaya_waits.proofs.Given.CallersTogether.Sweeps.{sweeps_begin_together}
 use Rattle.papaya_whole.specs.Owner.{IsOfRoot, AtRest, IsAlone}
 use Rattle.papaya_whole.specs.WholeSweeps.{SweepsBeginAlone}
 use Rattle.papaya_whole.proofs.Keys.Begins.{one_few}

@@ -2,57 +2,57 @@
 use Rattle.std.specs.Prelude.{◌≡◌, ◌≢◌, ℕ, suc, ◌+◌, ◌-◌, ◌%◌, ◌^◌, ◌==◌, ◌&&◌, Bool, true, false, nat_lt, Some, bit_and, if◌then◌else◌}
 use Rattle.std.proofs.Common.{inl, inr, refl, ap, sym, subst, ◌∙◌, arith}
 use Rattle.std.proofs.lemmas.Bool.{ne_eqb}
-use Rattle.papaya_waits.specs.Given.SeizeWords.declared.at.At.{At}
-use Rattle.papaya_waits.specs.Given.SeizeWords.declared.at.At.TheVariants.{Word}
-use Rattle.papaya_waits.specs.Given.SeizeWords.Mem.{Mem, Can, Took, value_at, word_at, with_word}
-use Rattle.papaya_waits.specs.Given.SeizeWords.Plan.{Now, May, Steps}
-use Rattle.papaya_waits.specs.Given.SeizeWords.Word.{block_in}
-use Rattle.papaya_waits.proofs.Given.SeizeWords.OneOwner.Operations.{added}
-use Rattle.papaya_waits.specs.Given.Seize.World.{World}
-use Rattle.papaya_waits.specs.Given.Seize.declared.rows.settle.Settled.{Settled}
-use Rattle.papaya_waits.specs.Given.Seize.declared.rows.settle.Settled.TheVariants as settled
-use Rattle.papaya_passes.specs.Given.Tables.Chunks.{is_incremental}
-use Rattle.papaya_passes.specs.Given.Tables.Counts.{count_change}
-use Rattle.papaya_passes.specs.Given.Tables.Marks.{has_mark}
-use Rattle.papaya_passes.specs.Given.Tables.declared.marks.TheConstants.{COPYING}
-use Rattle.papaya_passes.specs.Given.Tables.declared.node.Node.{Node}
-use Rattle.papaya_passes.specs.Given.Tables.declared.setting.Setting.{Setting}
-use Rattle.papaya_passes.specs.Given.Tables.declared.table.Table.{Table}
-use Rattle.papaya_passes.specs.Given.Resize.Copier.{copier_plan}
-use Rattle.papaya_passes.specs.Given.Resize.Dispose as dispose
-use Rattle.papaya_passes.specs.Given.Resize.declared.copier.Copier.{Copier}
-use Rattle.papaya_passes.specs.Given.Resize.declared.dispose.Dispose.{Dispose}
-use Rattle.papaya_passes.specs.Given.Resize.declared.dispose.Disposing.{Disposing}
-use Rattle.papaya_passes.specs.Given.Resize.declared.dispose.Disposing.TheVariants as disposes
-use Rattle.papaya_passes.specs.Given.Resize.declared.outcome.Outcome.{Outcome}
-use Rattle.papaya_passes.specs.Given.Resize.declared.outcome.Outcome.TheVariants as outcome
-use Rattle.papaya_passes.specs.Given.Sweeps.Sweep.{disposed, copied, plan_at, sweep_plan}
-use Rattle.papaya_passes.specs.Given.Sweeps.SweepPoints.{removes, further, tableless, beginning, entering, telling, going, at_pair, seen, next_at, reply_at}
-use Rattle.papaya_passes.specs.Given.Sweeps.declared.sweep.Purpose.{Purpose}
-use Rattle.papaya_passes.specs.Given.Sweeps.declared.sweep.Purpose.TheVariants.{Walks, Clears, Retains}
-use Rattle.papaya_passes.specs.Given.Sweeps.declared.sweep.Sweep.{Sweep}
-use Rattle.papaya_passes.specs.Given.Sweeps.declared.sweep.Sweeping.{Sweeping}
-use Rattle.papaya_passes.specs.Given.Sweeps.declared.sweep.Sweeping.TheVariants as at
-use Rattle.papaya_passes.specs.Given.Sweeps.declared.sweep.Swept.{Swept}
-use Rattle.papaya_passes.specs.Given.Rule.Chart.{Still, Place, Chart, put}
-use Rattle.papaya_passes.specs.Given.Rule.Maps.{spot_of}
-use Rattle.papaya_passes.specs.Given.Rule.Moves.{without}
-use Rattle.papaya_passes.specs.Given.Rule.Words.{Blocks, byte_of}
-use Rattle.papaya_passes.specs.Given.Rule.InWorld.{IsMapIn}
-use Rattle.papaya_passes.proofs.Given.Rule.Spared.{PlanSpares, spares_as}
-use Rattle.papaya_passes.proofs.Given.Rule.Words.PlaceWords.{pair_block}
-use Rattle.papaya_passes.proofs.Given.Rule.Words.PlacesShown.{byte_of-few}
-use Rattle.papaya_passes.specs.Given.Points.Steps.{AreLawful}
-use Rattle.papaya_passes.specs.Given.Points.Told.{IsRowOf}
-use Rattle.papaya_waits.specs.Given.Alone.Counting.{pairs_in, shards_sum}
-use Rattle.papaya_waits.proofs.Given.Alone.Shards.PairsChanged.{put_false, pairs_as}
-use Rattle.papaya_waits.proofs.Given.Alone.Shards.Sums.{shard_added}
-use Rattle.papaya_waits.proofs.Given.Alone.Spared.Calls.{in_place}
-use Rattle.papaya_waits.proofs.Given.Alone.Spared.Shards.{counter_apart, shards_spared}
-use Rattle.papaya_passes.specs.Given.Late.FactsSweeps.{HasTaken, SweepingFacts, SweepFacts}
-use Rattle.papaya_passes.specs.Given.Late.ToldSweeps.{IsRowOfSweep}
-use Rattle.papaya_passes.proofs.Given.Late.Swept.Sweeps.Moved.{Removing, SweepMoves}
-use Rattle.papaya_waits.proofs.Given.Maps.Reserves.Counted.{whole_spares}
+use Rattle.papaya_waits.specs.Given.SeizeWordsDeclared.at.At.{At}
+use Rattle.papaya_waits.specs.Given.SeizeWordsDeclared.at.At.TheVariants.{Word}
+use Rattle.papaya_waits.specs.Given.SeizeWordsMem.{Mem, Can, Took, value_at, word_at, with_word}
+use Rattle.papaya_waits.specs.Given.SeizeWordsPlan.{Now, May, Steps}
+use Rattle.papaya_waits.specs.Given.SeizeWordsWord.{block_in}
+use Rattle.papaya_waits.proofs.Given.SeizeWordsOneOwner.Operations.{added}
+use Rattle.papaya_waits.specs.Given.SeizeWorld.{World}
+use Rattle.papaya_waits.specs.Given.SeizeDeclared.rows.settle.Settled.{Settled}
+use Rattle.papaya_waits.specs.Given.SeizeDeclared.rows.settle.Settled.TheVariants as settled
+use Rattle.papaya_passes.specs.Given.TablesChunks.{is_incremental}
+use Rattle.papaya_passes.specs.Given.TablesCounts.{count_change}
+use Rattle.papaya_passes.specs.Given.TablesMarks.{has_mark}
+use Rattle.papaya_passes.specs.Given.TablesDeclared.marks.TheConstants.{COPYING}
+use Rattle.papaya_passes.specs.Given.TablesDeclared.node.Node.{Node}
+use Rattle.papaya_passes.specs.Given.TablesDeclared.setting.Setting.{Setting}
+use Rattle.papaya_passes.specs.Given.TablesDeclared.table.Table.{Table}
+use Rattle.papaya_passes.specs.Given.ResizeCopier.{copier_plan}
+use Rattle.papaya_passes.specs.Given.ResizeDispose as dispose
+use Rattle.papaya_passes.specs.Given.ResizeDeclared.copier.Copier.{Copier}
+use Rattle.papaya_passes.specs.Given.ResizeDeclared.dispose.Dispose.{Dispose}
+use Rattle.papaya_passes.specs.Given.ResizeDeclared.dispose.Disposing.{Disposing}
+use Rattle.papaya_passes.specs.Given.ResizeDeclared.dispose.Disposing.TheVariants as disposes
+use Rattle.papaya_passes.specs.Given.ResizeDeclared.outcome.Outcome.{Outcome}
+use Rattle.papaya_passes.specs.Given.ResizeDeclared.outcome.Outcome.TheVariants as outcome
+use Rattle.papaya_passes.specs.Given.SweepsSweep.{disposed, copied, plan_at, sweep_plan}
+use Rattle.papaya_passes.specs.Given.SweepsSweepPoints.{removes, further, tableless, beginning, entering, telling, going, at_pair, seen, next_at, reply_at}
+use Rattle.papaya_passes.specs.Given.SweepsDeclared.sweep.Purpose.{Purpose}
+use Rattle.papaya_passes.specs.Given.SweepsDeclared.sweep.Purpose.TheVariants.{Walks, Clears, Retains}
+use Rattle.papaya_passes.specs.Given.SweepsDeclared.sweep.Sweep.{Sweep}
+use Rattle.papaya_passes.specs.Given.SweepsDeclared.sweep.Sweeping.{Sweeping}
+use Rattle.papaya_passes.specs.Given.SweepsDeclared.sweep.Sweeping.TheVariants as at
+use Rattle.papaya_passes.specs.Given.SweepsDeclared.sweep.Swept.{Swept}
+use Rattle.papaya_passes.specs.Given.RuleChart.{Still, Place, Chart, put}
+use Rattle.papaya_passes.specs.Given.RuleMaps.{spot_of}
+use Rattle.papaya_passes.specs.Given.RuleMoves.{without}
+use Rattle.papaya_passes.specs.Given.RuleWords.{Blocks, byte_of}
+use Rattle.papaya_passes.specs.Given.RuleInWorld.{IsMapIn}
+use Rattle.papaya_passes.proofs.Given.RuleSpared.{PlanSpares, spares_as}
+use Rattle.papaya_passes.proofs.Given.RuleWords.PlaceWords.{pair_block}
+use Rattle.papaya_passes.proofs.Given.RuleWords.PlacesShown.{byte_of-few}
+use Rattle.papaya_passes.specs.Given.PointsSteps.{AreLawful}
+use Rattle.papaya_passes.specs.Given.PointsTold.{IsRowOf}
+use Rattle.papaya_waits.specs.Given.AloneCounting.{pairs_in, shards_sum}
+use Rattle.papaya_waits.proofs.Given.AloneShards.PairsChanged.{put_false, pairs_as}
+use Rattle.papaya_waits.proofs.Given.AloneShards.Sums.{shard_added}
+use Rattle.papaya_waits.proofs.Given.AloneSpared.Calls.{in_place}
+use Rattle.papaya_waits.proofs.Given.AloneSpared.Shards.{counter_apart, shards_spared}
+use Rattle.papaya_passes.specs.Given.LateFactsSweeps.{HasTaken, SweepingFacts, SweepFacts}
+use Rattle.papaya_passes.specs.Given.LateToldSweeps.{IsRowOfSweep}
+use Rattle.papaya_passes.proofs.Given.LateSwept.Sweeps.Moved.{Removing, SweepMoves}
+use Rattle.papaya_waits.proofs.Given.MapsReserves.Counted.{whole_spares}
 use Rattle.papaya_whole.specs.WholeSweeps.{uncounted, IsCountedBut, SweptPairsCounted, TellingCountsNothing, TellingKeepsThePurpose}
 use Rattle.papaya_whole.proofs.Fresh.Sweeps.{CopiesRoot}
 use Rattle.papaya_whole.proofs.Sweeps.Over.{further_by}

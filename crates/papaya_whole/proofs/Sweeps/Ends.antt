@@ -2,31 +2,31 @@
 use Rattle.std.specs.Prelude.{◌≡◌, ℕ, Bool, List, length, [], ◌∷◌, ◌+◌}
 use Rattle.std.specs.Int.{IsPowerOfTwo}
 use Rattle.std.proofs.Common.{inl, inr, refl, ap, sym, subst, ◌∙◌, length-append}
-use Rattle.papaya_waits.specs.Given.SeizeWords.Mem.{Mem, Took, value_at}
-use Rattle.papaya_waits.specs.Given.SeizeWords.Plan.{Steps}
-use Rattle.papaya_waits.specs.Given.Seize.World.{World}
-use Rattle.papaya_passes.specs.Given.Tables.declared.node.Node.{Node}
-use Rattle.papaya_passes.specs.Given.Tables.declared.setting.Setting.{Setting}
-use Rattle.papaya_passes.specs.Given.Sweeps.Sweep.{sweep_plan}
-use Rattle.papaya_passes.specs.Given.Sweeps.SweepPoints.{after_next, after_reply}
-use Rattle.papaya_passes.specs.Given.Sweeps.declared.sweep.Sweep.{Sweep}
-use Rattle.papaya_passes.specs.Given.Sweeps.declared.sweep.Sweeping.{Sweeping}
-use Rattle.papaya_passes.specs.Given.Sweeps.declared.sweep.Sweeping.TheVariants as at
-use Rattle.papaya_passes.specs.Given.Sweeps.declared.sweep.Swept.{Swept}
-use Rattle.papaya_passes.specs.Given.Sweeps.declared.sweep.Swept.TheVariants as swept
-use Rattle.papaya_passes.specs.Given.Rule.Chart.{Chart}
-use Rattle.papaya_passes.specs.Given.Rule.Words.{Blocks}
-use Rattle.papaya_passes.specs.Given.Points.Measures.{IsBelow, EndsFrom, ends}
-use Rattle.papaya_passes.specs.Given.Points.Steps.{AreLawful}
-use Rattle.papaya_passes.proofs.Given.Points.Descents.{descents_end}
-use Rattle.papaya_waits.specs.Given.Alone.Endings.{runs_end}
-use Rattle.papaya_passes.specs.Given.Late.ToldSweeps.{IsRowOfSweep}
+use Rattle.papaya_waits.specs.Given.SeizeWordsMem.{Mem, Took, value_at}
+use Rattle.papaya_waits.specs.Given.SeizeWordsPlan.{Steps}
+use Rattle.papaya_waits.specs.Given.SeizeWorld.{World}
+use Rattle.papaya_passes.specs.Given.TablesDeclared.node.Node.{Node}
+use Rattle.papaya_passes.specs.Given.TablesDeclared.setting.Setting.{Setting}
+use Rattle.papaya_passes.specs.Given.SweepsSweep.{sweep_plan}
+use Rattle.papaya_passes.specs.Given.SweepsSweepPoints.{after_next, after_reply}
+use Rattle.papaya_passes.specs.Given.SweepsDeclared.sweep.Sweep.{Sweep}
+use Rattle.papaya_passes.specs.Given.SweepsDeclared.sweep.Sweeping.{Sweeping}
+use Rattle.papaya_passes.specs.Given.SweepsDeclared.sweep.Sweeping.TheVariants as at
+use Rattle.papaya_passes.specs.Given.SweepsDeclared.sweep.Swept.{Swept}
+use Rattle.papaya_passes.specs.Given.SweepsDeclared.sweep.Swept.TheVariants as swept
+use Rattle.papaya_passes.specs.Given.RuleChart.{Chart}
+use Rattle.papaya_passes.specs.Given.RuleWords.{Blocks}
+use Rattle.papaya_passes.specs.Given.PointsMeasures.{IsBelow, EndsFrom, ends}
+use Rattle.papaya_passes.specs.Given.PointsSteps.{AreLawful}
+use Rattle.papaya_passes.proofs.Given.PointsDescents.{descents_end}
+use Rattle.papaya_waits.specs.Given.AloneEndings.{runs_end}
+use Rattle.papaya_passes.specs.Given.LateToldSweeps.{IsRowOfSweep}
 use Rattle.papaya_passes.specs.FallsSweeps.{ComesOn}
 use Rattle.papaya_passes.specs.Sweeps.{number_of_sweep}
 use Rattle.papaya_passes.proofs.Laws.{telling_falls, sweep_numbers_are_as_many}
-use Rattle.papaya_waits.specs.Given.Callers.OverAll.{CallOverAll, gone_on, come_to, told_of, row_of_sweep}
-use Rattle.papaya_waits.specs.Given.Callers.Sights.{Sight, seen_by}
-use Rattle.papaya_waits.specs.Given.Callers.Together.{OverAll}
+use Rattle.papaya_waits.specs.Given.CallersOverAll.{CallOverAll, gone_on, come_to, told_of, row_of_sweep}
+use Rattle.papaya_waits.specs.Given.CallersSights.{Sight, seen_by}
+use Rattle.papaya_waits.specs.Given.CallersTogether.{OverAll}
 use Rattle.papaya_whole.specs.Owner.{IsAlone}
 use Rattle.papaya_whole.specs.WholeSweeps.{SweepsOn, ComesToAnEnd, SweepLeads, SweepsComeToAnEnd}
 use Rattle.papaya_whole.proofs.Keys.Falls.{row_left, lower_more}

@@ -2,34 +2,34 @@
 use Rattle.std.specs.Prelude.{◌≡◌, ℕ, suc, ◌+◌, ◌%◌, ◌^◌, ◌<◌, ◌⊎◌, Bool, true, List, None}
 use Rattle.std.specs.Int.{IsPowerOfTwo}
 use Rattle.std.proofs.Common.{inl, inr, refl, sym, subst, ◌∙◌, arith}
-use Rattle.papaya_waits.specs.Given.SeizeWords.Mem.{Mem, Can, Took, value_at}
-use Rattle.papaya_waits.specs.Given.SeizeWords.Plan.{May, Steps}
-use Rattle.papaya_waits.specs.Given.Seize.World.{World}
-use Rattle.papaya_passes.specs.Given.Tables.Chunks.{is_incremental}
-use Rattle.papaya_passes.specs.Given.Tables.declared.node.Node.{Node}
-use Rattle.papaya_passes.specs.Given.Tables.declared.setting.Setting.{Setting}
-use Rattle.papaya_passes.specs.Given.Sweeps.Sweep.{sweep_plan}
-use Rattle.papaya_passes.specs.Given.Sweeps.declared.sweep.Purpose.{Purpose}
-use Rattle.papaya_passes.specs.Given.Sweeps.declared.sweep.Sweep.{Sweep}
-use Rattle.papaya_passes.specs.Given.Sweeps.declared.sweep.Sweeping.{Sweeping}
-use Rattle.papaya_passes.specs.Given.Sweeps.declared.sweep.Sweeping.TheVariants as at
-use Rattle.papaya_passes.specs.Given.Sweeps.declared.sweep.Swept.{Swept}
-use Rattle.papaya_passes.specs.Given.Sweeps.declared.sweep.Swept.TheVariants as swept
-use Rattle.papaya_passes.specs.Given.Rule.Chart.{Chart}
-use Rattle.papaya_passes.specs.Given.Rule.Words.{Blocks}
-use Rattle.papaya_passes.proofs.Given.Rule.World.Hands.{current_known}
-use Rattle.papaya_passes.specs.Given.Points.Steps.{AreLawful}
-use Rattle.papaya_passes.proofs.Given.Points.MovedLasts.{moved_lasts}
-use Rattle.papaya_waits.specs.Given.Alone.Counting.{pairs_in, shards_sum}
-use Rattle.papaya_waits.specs.Given.Alone.Counted.{HasAdded}
-use Rattle.papaya_waits.proofs.Given.Alone.Calls.Changes.{none_stored}
-use Rattle.papaya_waits.proofs.Given.Alone.Shards.Sums.{added_none}
-use Rattle.papaya_passes.specs.Given.Late.Covers.{Came}
-use Rattle.papaya_passes.specs.Given.Late.ToldSweeps.{word_told, IsRowOfSweep}
-use Rattle.papaya_waits.specs.Given.Callers.OverAll.{CallOverAll}
-use Rattle.papaya_waits.specs.Given.Callers.Sights.{Sight}
-use Rattle.papaya_waits.specs.Given.Callers.Together.{OverAll}
-use Rattle.papaya_waits.proofs.Given.Callers.Sights.Sources.{below}
+use Rattle.papaya_waits.specs.Given.SeizeWordsMem.{Mem, Can, Took, value_at}
+use Rattle.papaya_waits.specs.Given.SeizeWordsPlan.{May, Steps}
+use Rattle.papaya_waits.specs.Given.SeizeWorld.{World}
+use Rattle.papaya_passes.specs.Given.TablesChunks.{is_incremental}
+use Rattle.papaya_passes.specs.Given.TablesDeclared.node.Node.{Node}
+use Rattle.papaya_passes.specs.Given.TablesDeclared.setting.Setting.{Setting}
+use Rattle.papaya_passes.specs.Given.SweepsSweep.{sweep_plan}
+use Rattle.papaya_passes.specs.Given.SweepsDeclared.sweep.Purpose.{Purpose}
+use Rattle.papaya_passes.specs.Given.SweepsDeclared.sweep.Sweep.{Sweep}
+use Rattle.papaya_passes.specs.Given.SweepsDeclared.sweep.Sweeping.{Sweeping}
+use Rattle.papaya_passes.specs.Given.SweepsDeclared.sweep.Sweeping.TheVariants as at
+use Rattle.papaya_passes.specs.Given.SweepsDeclared.sweep.Swept.{Swept}
+use Rattle.papaya_passes.specs.Given.SweepsDeclared.sweep.Swept.TheVariants as swept
+use Rattle.papaya_passes.specs.Given.RuleChart.{Chart}
+use Rattle.papaya_passes.specs.Given.RuleWords.{Blocks}
+use Rattle.papaya_passes.proofs.Given.RuleWorld.Hands.{current_known}
+use Rattle.papaya_passes.specs.Given.PointsSteps.{AreLawful}
+use Rattle.papaya_passes.proofs.Given.PointsMovedLasts.{moved_lasts}
+use Rattle.papaya_waits.specs.Given.AloneCounting.{pairs_in, shards_sum}
+use Rattle.papaya_waits.specs.Given.AloneCounted.{HasAdded}
+use Rattle.papaya_waits.proofs.Given.AloneCalls.Changes.{none_stored}
+use Rattle.papaya_waits.proofs.Given.AloneShards.Sums.{added_none}
+use Rattle.papaya_passes.specs.Given.LateCovers.{Came}
+use Rattle.papaya_passes.specs.Given.LateToldSweeps.{word_told, IsRowOfSweep}
+use Rattle.papaya_waits.specs.Given.CallersOverAll.{CallOverAll}
+use Rattle.papaya_waits.specs.Given.CallersSights.{Sight}
+use Rattle.papaya_waits.specs.Given.CallersTogether.{OverAll}
+use Rattle.papaya_waits.proofs.Given.CallersSights.Sources.{below}
 use Rattle.papaya_whole.specs.Contents.{KeepsPairs}
 use Rattle.papaya_whole.specs.LoneSweeps.{goes_once}
 use Rattle.papaya_whole.specs.Owner.{IsAlone}

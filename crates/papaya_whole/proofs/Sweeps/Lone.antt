@@ -1,21 +1,21 @@
 -- Where a sweep that is alone goes on: beside its copying it leaves all to itself, and then it may begin to copy; and where its copying leads.
 use Rattle.std.specs.Prelude.{◌≡◌, ℕ, Bool, true, false, ◌==◌, ◌&&◌, if◌then◌else◌}
 use Rattle.std.proofs.Common.{refl}
-use Rattle.papaya_waits.specs.Given.SeizeWords.Word.{block_in}
-use Rattle.papaya_passes.specs.Given.Tables.Marks.{has_mark}
-use Rattle.papaya_passes.specs.Given.Tables.declared.marks.TheConstants.{COPYING}
-use Rattle.papaya_passes.specs.Given.Sweeps.SweepPoints.{removes, further, told, telling, at_pair, seen}
-use Rattle.papaya_passes.specs.Given.Sweeps.declared.sweep.Purpose.{Purpose}
-use Rattle.papaya_passes.specs.Given.Sweeps.declared.sweep.Purpose.TheVariants.{Walks, Clears, Retains}
-use Rattle.papaya_passes.specs.Given.Sweeps.declared.sweep.Sweep.{Sweep}
-use Rattle.papaya_passes.specs.Given.Sweeps.declared.sweep.Sweeping.{Sweeping}
-use Rattle.papaya_passes.specs.Given.Sweeps.declared.sweep.Sweeping.TheVariants as at
-use Rattle.papaya_passes.specs.Given.Sweeps.declared.sweep.Swept.{Swept}
-use Rattle.papaya_passes.specs.Given.Sweeps.declared.sweep.Swept.TheVariants as swept
-use Rattle.papaya_passes.specs.Given.Rule.Chart.{Chart}
-use Rattle.papaya_waits.specs.Given.Alone.FactsAloneCalls.{TablesAlone, RestsAlone}
-use Rattle.papaya_passes.specs.Given.Late.FactsSweeps.{CopiesPairs}
-use Rattle.papaya_passes.proofs.Given.Late.Swept.Sweeps.Stands.{IsQuiet, quiet_further}
+use Rattle.papaya_waits.specs.Given.SeizeWordsWord.{block_in}
+use Rattle.papaya_passes.specs.Given.TablesMarks.{has_mark}
+use Rattle.papaya_passes.specs.Given.TablesDeclared.marks.TheConstants.{COPYING}
+use Rattle.papaya_passes.specs.Given.SweepsSweepPoints.{removes, further, told, telling, at_pair, seen}
+use Rattle.papaya_passes.specs.Given.SweepsDeclared.sweep.Purpose.{Purpose}
+use Rattle.papaya_passes.specs.Given.SweepsDeclared.sweep.Purpose.TheVariants.{Walks, Clears, Retains}
+use Rattle.papaya_passes.specs.Given.SweepsDeclared.sweep.Sweep.{Sweep}
+use Rattle.papaya_passes.specs.Given.SweepsDeclared.sweep.Sweeping.{Sweeping}
+use Rattle.papaya_passes.specs.Given.SweepsDeclared.sweep.Sweeping.TheVariants as at
+use Rattle.papaya_passes.specs.Given.SweepsDeclared.sweep.Swept.{Swept}
+use Rattle.papaya_passes.specs.Given.SweepsDeclared.sweep.Swept.TheVariants as swept
+use Rattle.papaya_passes.specs.Given.RuleChart.{Chart}
+use Rattle.papaya_waits.specs.Given.AloneFactsAloneCalls.{TablesAlone, RestsAlone}
+use Rattle.papaya_passes.specs.Given.LateFactsSweeps.{CopiesPairs}
+use Rattle.papaya_passes.proofs.Given.LateSwept.Sweeps.Stands.{IsQuiet, quiet_further}
 use Rattle.papaya_whole.specs.LoneSweeps.{SweepsAlone, IsLoneSweep}
 
 -- where it is quiet it copies nothing

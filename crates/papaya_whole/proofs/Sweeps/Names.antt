@@ -1,19 +1,19 @@
 -- The words of the pairs of a map: a word for a pair that the map has names that pair, with the key and the value of its block.
 use Rattle.std.specs.Prelude.{◌≡◌, ℕ, ◌<◌, Bool, true}
 use Rattle.std.proofs.Common.{ap, ◌∙◌}
-use Rattle.papaya_waits.specs.Given.SeizeWords.Word.{block_in}
-use Rattle.papaya_waits.specs.Given.Seize.World.{World}
-use Rattle.papaya_passes.specs.Given.Tables.declared.node.Node.{Node}
-use Rattle.papaya_passes.specs.Given.Tables.declared.setting.Setting.{Setting}
-use Rattle.papaya_passes.specs.Given.Rule.Chart.{Phase, Holds, Chart}
-use Rattle.papaya_passes.specs.Given.Rule.Words.{Blocks, byte_of, place_word}
-use Rattle.papaya_passes.specs.Given.Rule.InWorld.{IsMapIn}
-use Rattle.papaya_passes.proofs.Given.Rule.Words.PlaceWords.{pair_block}
-use Rattle.papaya_passes.proofs.Given.Rule.Words.PlacesShown.{byte_of-few}
-use Rattle.papaya_passes.proofs.Given.Rule.World.Hands.{current_known}
-use Rattle.papaya_passes.specs.Given.Points.Steps.{AreLawful}
-use Rattle.papaya_passes.specs.Given.Late.Covers.{NamesPair}
-use Rattle.papaya_passes.proofs.Given.Late.Swept.Covers.Shows.{names_one}
+use Rattle.papaya_waits.specs.Given.SeizeWordsWord.{block_in}
+use Rattle.papaya_waits.specs.Given.SeizeWorld.{World}
+use Rattle.papaya_passes.specs.Given.TablesDeclared.node.Node.{Node}
+use Rattle.papaya_passes.specs.Given.TablesDeclared.setting.Setting.{Setting}
+use Rattle.papaya_passes.specs.Given.RuleChart.{Phase, Holds, Chart}
+use Rattle.papaya_passes.specs.Given.RuleWords.{Blocks, byte_of, place_word}
+use Rattle.papaya_passes.specs.Given.RuleInWorld.{IsMapIn}
+use Rattle.papaya_passes.proofs.Given.RuleWords.PlaceWords.{pair_block}
+use Rattle.papaya_passes.proofs.Given.RuleWords.PlacesShown.{byte_of-few}
+use Rattle.papaya_passes.proofs.Given.RuleWorld.Hands.{current_known}
+use Rattle.papaya_passes.specs.Given.PointsSteps.{AreLawful}
+use Rattle.papaya_passes.specs.Given.LateCovers.{NamesPair}
+use Rattle.papaya_passes.proofs.Given.LateSwept.Covers.Shows.{names_one}
 use Rattle.papaya_whole.specs.WholeSweeps.{NamesPairOf}
 use Rattle.papaya_whole.proofs.Contents.Below.{has_pair}
 

@@ -2,16 +2,16 @@
 use Rattle.std.specs.Prelude.{◌≡◌, ◌≢◌, ℕ, ◌+◌, ◌<◌, ◌≤◌, ◌⊎◌, Bool, true, false, cond, eqb, List, ◌∷◌, Option}
 use Rattle.std.proofs.Common.{inl, inr, refl, ap, sym, subst, ◌∙◌, arith}
 use Rattle.std.proofs.lemmas.Bool.{cases_eq, eq-eqb, ne_eqb}
-use Rattle.papaya_waits.specs.Given.SeizeWords.Mem.{Mem}
-use Rattle.papaya_passes.specs.Given.Tables.declared.node.Node.{Node}
-use Rattle.papaya_passes.specs.Given.Sweeps.declared.sweep.Purpose.TheVariants.{Walks, Retains}
-use Rattle.papaya_passes.specs.Given.Sweeps.declared.sweep.Sweep.{Sweep}
-use Rattle.papaya_passes.specs.Given.Sweeps.declared.sweep.Sweeping.{Sweeping}
-use Rattle.papaya_passes.specs.Given.Sweeps.declared.sweep.Sweeping.TheVariants as at
-use Rattle.papaya_passes.specs.Given.Rule.Chart.{Chart, put}
-use Rattle.papaya_passes.specs.Given.Rule.Words.{Blocks}
-use Rattle.papaya_passes.specs.Given.Late.Covers.{times}
-use Rattle.papaya_waits.specs.Given.Callers.OverAll.{Verdict, verdict, CallOverAll}
+use Rattle.papaya_waits.specs.Given.SeizeWordsMem.{Mem}
+use Rattle.papaya_passes.specs.Given.TablesDeclared.node.Node.{Node}
+use Rattle.papaya_passes.specs.Given.SweepsDeclared.sweep.Purpose.TheVariants.{Walks, Retains}
+use Rattle.papaya_passes.specs.Given.SweepsDeclared.sweep.Sweep.{Sweep}
+use Rattle.papaya_passes.specs.Given.SweepsDeclared.sweep.Sweeping.{Sweeping}
+use Rattle.papaya_passes.specs.Given.SweepsDeclared.sweep.Sweeping.TheVariants as at
+use Rattle.papaya_passes.specs.Given.RuleChart.{Chart, put}
+use Rattle.papaya_passes.specs.Given.RuleWords.{Blocks}
+use Rattle.papaya_passes.specs.Given.LateCovers.{times}
+use Rattle.papaya_waits.specs.Given.CallersOverAll.{Verdict, verdict, CallOverAll}
 use Rattle.papaya_whole.specs.Contents.{KeepsPairs}
 use Rattle.papaya_whole.specs.LoneSweeps.{IsBefore, goes_once}
 use Rattle.papaya_whole.specs.SweptPairs.{about_to_go, gone_since, HasSwept}

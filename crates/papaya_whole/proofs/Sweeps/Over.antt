@@ -2,27 +2,27 @@
 use Rattle.std.specs.Prelude.{◌≡◌, ◌≢◌, ℕ, suc, ◌+◌, ◌%◌, ◌^◌, ◌<◌, ◌==◌, ◌&&◌, ◌⊎◌, Bool, true, false, nat_lt, if◌then◌else◌}
 use Rattle.std.proofs.Common.{refl, ap, inl, inr, sym, ◌∙◌, arith}
 use Rattle.std.proofs.lemmas.Bool.{eqb-false}
-use Rattle.papaya_waits.specs.Given.SeizeWords.Word.{block_in}
-use Rattle.papaya_waits.specs.Given.Seize.World.{World}
-use Rattle.papaya_passes.specs.Given.Tables.Chunks.{is_incremental}
-use Rattle.papaya_passes.specs.Given.Tables.Marks.{has_mark}
-use Rattle.papaya_passes.specs.Given.Tables.declared.marks.TheConstants.{COPYING}
-use Rattle.papaya_passes.specs.Given.Tables.declared.node.Node.{Node}
-use Rattle.papaya_passes.specs.Given.Tables.declared.setting.Setting.{Setting}
-use Rattle.papaya_passes.specs.Given.Tables.declared.table.Table.{Table}
-use Rattle.papaya_passes.specs.Given.Sweeps.SweepPoints.{removes, standing, past, further, telling, at_pair, seen}
-use Rattle.papaya_passes.specs.Given.Sweeps.declared.sweep.Purpose.{Purpose}
-use Rattle.papaya_passes.specs.Given.Sweeps.declared.sweep.Purpose.TheVariants.{Walks, Clears, Retains}
-use Rattle.papaya_passes.specs.Given.Sweeps.declared.sweep.Sweep.{Sweep}
-use Rattle.papaya_passes.specs.Given.Sweeps.declared.sweep.Sweeping.{Sweeping}
-use Rattle.papaya_passes.specs.Given.Sweeps.declared.sweep.Sweeping.TheVariants as at
-use Rattle.papaya_passes.specs.Given.Rule.Chart.{Phase, Still, Holds, Chart}
-use Rattle.papaya_passes.specs.Given.Rule.Words.{Blocks, place_word}
-use Rattle.papaya_passes.specs.Given.Rule.InWorld.{IsMapIn}
-use Rattle.papaya_passes.specs.Given.Points.FactsIdle.{IsIdle}
-use Rattle.papaya_passes.specs.Given.Late.FactsSweeps.{GoesOver}
-use Rattle.papaya_passes.proofs.Given.Late.Swept.Sweeps.On.{is_pair, mark_is, still_of}
-use Rattle.papaya_passes.proofs.Given.Late.Swept.Sweeps.Tables.{upto, has_next}
+use Rattle.papaya_waits.specs.Given.SeizeWordsWord.{block_in}
+use Rattle.papaya_waits.specs.Given.SeizeWorld.{World}
+use Rattle.papaya_passes.specs.Given.TablesChunks.{is_incremental}
+use Rattle.papaya_passes.specs.Given.TablesMarks.{has_mark}
+use Rattle.papaya_passes.specs.Given.TablesDeclared.marks.TheConstants.{COPYING}
+use Rattle.papaya_passes.specs.Given.TablesDeclared.node.Node.{Node}
+use Rattle.papaya_passes.specs.Given.TablesDeclared.setting.Setting.{Setting}
+use Rattle.papaya_passes.specs.Given.TablesDeclared.table.Table.{Table}
+use Rattle.papaya_passes.specs.Given.SweepsSweepPoints.{removes, standing, past, further, telling, at_pair, seen}
+use Rattle.papaya_passes.specs.Given.SweepsDeclared.sweep.Purpose.{Purpose}
+use Rattle.papaya_passes.specs.Given.SweepsDeclared.sweep.Purpose.TheVariants.{Walks, Clears, Retains}
+use Rattle.papaya_passes.specs.Given.SweepsDeclared.sweep.Sweep.{Sweep}
+use Rattle.papaya_passes.specs.Given.SweepsDeclared.sweep.Sweeping.{Sweeping}
+use Rattle.papaya_passes.specs.Given.SweepsDeclared.sweep.Sweeping.TheVariants as at
+use Rattle.papaya_passes.specs.Given.RuleChart.{Phase, Still, Holds, Chart}
+use Rattle.papaya_passes.specs.Given.RuleWords.{Blocks, place_word}
+use Rattle.papaya_passes.specs.Given.RuleInWorld.{IsMapIn}
+use Rattle.papaya_passes.specs.Given.PointsFactsIdle.{IsIdle}
+use Rattle.papaya_passes.specs.Given.LateFactsSweeps.{GoesOver}
+use Rattle.papaya_passes.proofs.Given.LateSwept.Sweeps.On.{is_pair, mark_is, still_of}
+use Rattle.papaya_passes.proofs.Given.LateSwept.Sweeps.Tables.{upto, has_next}
 use Rattle.papaya_whole.specs.LoneSweeps.{IsBefore, goes_once, GoesOverRoot, StandsThere, OverRoot}
 
 -- it is a walk, or the mode is incremental

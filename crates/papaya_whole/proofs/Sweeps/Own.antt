@@ -3,48 +3,48 @@ use Rattle.std.specs.Prelude.{◌≡◌, ℕ, ◌⊎◌, Bool, true, false, [], 
 use Rattle.std.specs.Int.{IsPowerOfTwo}
 use Rattle.std.proofs.Common.{inl, inr, refl, ap, sym, subst, ◌∙◌}
 use Rattle.std.proofs.lemmas.Bool.{cases_eq, cases_lt}
-use Rattle.papaya_waits.specs.Given.SeizeWords.Mem.{Mem, Can, Took, value_at}
-use Rattle.papaya_waits.specs.Given.SeizeWords.Plan.{May, Steps}
-use Rattle.papaya_waits.specs.Given.SeizeWords.Word.{link_word}
-use Rattle.papaya_waits.specs.Given.Seize.World.{World, Row, Rests, IsInside, with_at}
-use Rattle.papaya_passes.specs.Given.Tables.Chunks.{is_incremental}
-use Rattle.papaya_passes.specs.Given.Tables.declared.node.Node.{Node}
-use Rattle.papaya_passes.specs.Given.Tables.declared.setting.Setting.{Setting}
-use Rattle.papaya_passes.specs.Given.Sweeps.Sweep.{sweep_plan}
-use Rattle.papaya_passes.specs.Given.Sweeps.declared.sweep.Sweep.{Sweep}
-use Rattle.papaya_passes.specs.Given.Sweeps.declared.sweep.Sweeping.{Sweeping}
-use Rattle.papaya_passes.specs.Given.Sweeps.declared.sweep.Sweeping.TheVariants as at
-use Rattle.papaya_passes.specs.Given.Sweeps.declared.sweep.Swept.{Swept}
-use Rattle.papaya_passes.specs.Given.Sweeps.declared.sweep.Swept.TheVariants as swept
-use Rattle.papaya_passes.specs.Given.Rule.Chart.{Phase, Still, Chart}
-use Rattle.papaya_passes.specs.Given.Rule.Words.{Blocks, mark_bits, byte_of}
-use Rattle.papaya_passes.specs.Given.Rule.InWorld.{IsMapIn, Went}
-use Rattle.papaya_passes.proofs.Given.Rule.World.Hands.{current_known}
-use Rattle.papaya_passes.specs.Given.Points.Steps.{AreLawful}
-use Rattle.papaya_passes.specs.Given.Late.Covers.{CoversAt}
-use Rattle.papaya_passes.specs.Given.Late.CoversSweeps.{DoneBy, DoneAt}
-use Rattle.papaya_passes.specs.Given.Late.Left.{ClaimsAreFew}
-use Rattle.papaya_passes.specs.Given.Late.ToldSweeps.{IsRowOfSweep, TellsSo, SweepTold}
-use Rattle.papaya_passes.proofs.Given.Late.Swept.Laws.{sweeps_keep_the_map}
-use Rattle.papaya_passes.proofs.Given.Late.Swept.Sweeps.Moved.{SweepMoves}
-use Rattle.papaya_passes.proofs.Given.Late.Swept.Sweeps.Tables.{still_current}
-use Rattle.papaya_waits.specs.Given.Alone.FactsAloneCalls.{RestsAlone}
-use Rattle.papaya_passes.specs.Given.Points.Measures.{IsBelow}
+use Rattle.papaya_waits.specs.Given.SeizeWordsMem.{Mem, Can, Took, value_at}
+use Rattle.papaya_waits.specs.Given.SeizeWordsPlan.{May, Steps}
+use Rattle.papaya_waits.specs.Given.SeizeWordsWord.{link_word}
+use Rattle.papaya_waits.specs.Given.SeizeWorld.{World, Row, Rests, IsInside, with_at}
+use Rattle.papaya_passes.specs.Given.TablesChunks.{is_incremental}
+use Rattle.papaya_passes.specs.Given.TablesDeclared.node.Node.{Node}
+use Rattle.papaya_passes.specs.Given.TablesDeclared.setting.Setting.{Setting}
+use Rattle.papaya_passes.specs.Given.SweepsSweep.{sweep_plan}
+use Rattle.papaya_passes.specs.Given.SweepsDeclared.sweep.Sweep.{Sweep}
+use Rattle.papaya_passes.specs.Given.SweepsDeclared.sweep.Sweeping.{Sweeping}
+use Rattle.papaya_passes.specs.Given.SweepsDeclared.sweep.Sweeping.TheVariants as at
+use Rattle.papaya_passes.specs.Given.SweepsDeclared.sweep.Swept.{Swept}
+use Rattle.papaya_passes.specs.Given.SweepsDeclared.sweep.Swept.TheVariants as swept
+use Rattle.papaya_passes.specs.Given.RuleChart.{Phase, Still, Chart}
+use Rattle.papaya_passes.specs.Given.RuleWords.{Blocks, mark_bits, byte_of}
+use Rattle.papaya_passes.specs.Given.RuleInWorld.{IsMapIn, Went}
+use Rattle.papaya_passes.proofs.Given.RuleWorld.Hands.{current_known}
+use Rattle.papaya_passes.specs.Given.PointsSteps.{AreLawful}
+use Rattle.papaya_passes.specs.Given.LateCovers.{CoversAt}
+use Rattle.papaya_passes.specs.Given.LateCoversSweeps.{DoneBy, DoneAt}
+use Rattle.papaya_passes.specs.Given.LateLeft.{ClaimsAreFew}
+use Rattle.papaya_passes.specs.Given.LateToldSweeps.{IsRowOfSweep, TellsSo, SweepTold}
+use Rattle.papaya_passes.proofs.Given.LateSwept.Laws.{sweeps_keep_the_map}
+use Rattle.papaya_passes.proofs.Given.LateSwept.Sweeps.Moved.{SweepMoves}
+use Rattle.papaya_passes.proofs.Given.LateSwept.Sweeps.Tables.{still_current}
+use Rattle.papaya_waits.specs.Given.AloneFactsAloneCalls.{RestsAlone}
+use Rattle.papaya_passes.specs.Given.PointsMeasures.{IsBelow}
 use Rattle.papaya_passes.specs.FallsSweeps.{ComesOn}
 use Rattle.papaya_passes.specs.Sweeps.{number_of_sweep}
 use Rattle.papaya_passes.proofs.Laws.{sweeps_fall}
-use Rattle.papaya_waits.specs.Given.Callers.OverAll.{CallOverAll, come_to}
-use Rattle.papaya_waits.specs.Given.Callers.Sights.{Sight, seen_by}
-use Rattle.papaya_waits.specs.Given.Callers.Sweeps.{SweepStepsTogether}
-use Rattle.papaya_waits.specs.Given.Callers.Together.{UnderWay, OverAll, next_over_all, in_slot, KnowsSweep, Stands, Together}
-use Rattle.papaya_waits.proofs.Given.Callers.Sights.Seen.{map_seen}
-use Rattle.papaya_waits.proofs.Given.Callers.Sights.Sources.{below, above}
-use Rattle.papaya_waits.proofs.Given.Callers.Together.At.{at_other, at_same}
-use Rattle.papaya_waits.proofs.Given.Callers.Together.Came.{came_reached}
-use Rattle.papaya_waits.proofs.Given.Callers.Together.Few.{claim_few}
-use Rattle.papaya_waits.proofs.Given.Callers.Together.Fits.{map_in_slot}
-use Rattle.papaya_waits.proofs.Given.Callers.Together.Sweeps.{sweep_leads}
-use Rattle.papaya_waits.proofs.Given.Callers.Together.Users.{events_rows, inside_on}
+use Rattle.papaya_waits.specs.Given.CallersOverAll.{CallOverAll, come_to}
+use Rattle.papaya_waits.specs.Given.CallersSights.{Sight, seen_by}
+use Rattle.papaya_waits.specs.Given.CallersSweeps.{SweepStepsTogether}
+use Rattle.papaya_waits.specs.Given.CallersTogether.{UnderWay, OverAll, next_over_all, in_slot, KnowsSweep, Stands, Together}
+use Rattle.papaya_waits.proofs.Given.CallersSights.Seen.{map_seen}
+use Rattle.papaya_waits.proofs.Given.CallersSights.Sources.{below, above}
+use Rattle.papaya_waits.proofs.Given.CallersTogether.At.{at_other, at_same}
+use Rattle.papaya_waits.proofs.Given.CallersTogether.Came.{came_reached}
+use Rattle.papaya_waits.proofs.Given.CallersTogether.Few.{claim_few}
+use Rattle.papaya_waits.proofs.Given.CallersTogether.Fits.{map_in_slot}
+use Rattle.papaya_waits.proofs.Given.CallersTogether.Sweeps.{sweep_leads}
+use Rattle.papaya_waits.proofs.Given.CallersTogether.Users.{events_rows, inside_on}
 use Rattle.papaya_whole.specs.LoneSweeps.{IsBefore, goes_once, IsLoneSweep, GoesOverRoot, StandsThere, OverRoot, IsOverRoot}
 use Rattle.papaya_whole.specs.Owner.{IsOfRoot, AtRest, IsAlone}
 use Rattle.papaya_whole.specs.WholeSweeps.{SweepLeads}

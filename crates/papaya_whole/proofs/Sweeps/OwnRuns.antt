@@ -2,32 +2,32 @@
 use Rattle.std.specs.Prelude.{◌≡◌, ◌≢◌, ℕ, ◌+◌, ◌<◌, ◌≤◌, ◌⊎◌, Bool, true, false, cond, eqb, List, []}
 use Rattle.std.proofs.Common.{inl, inr, refl, ap, sym, subst, ◌∙◌, arith}
 use Rattle.std.proofs.lemmas.Bool.{cases_eq, cases_lt, eq-eqb, ne_eqb}
-use Rattle.papaya_waits.specs.Given.SeizeWords.Mem.{Mem, Took, value_at}
-use Rattle.papaya_waits.specs.Given.SeizeWords.Plan.{Steps}
-use Rattle.papaya_waits.specs.Given.Seize.World.{World}
-use Rattle.papaya_passes.specs.Given.Tables.Chunks.{is_incremental}
-use Rattle.papaya_passes.specs.Given.Tables.declared.node.Node.{Node}
-use Rattle.papaya_passes.specs.Given.Tables.declared.setting.Setting.{Setting}
-use Rattle.papaya_passes.specs.Given.Tables.declared.table.Table.{Table}
-use Rattle.papaya_passes.specs.Given.Sweeps.Sweep.{plan_at, sweep_plan}
-use Rattle.papaya_passes.specs.Given.Sweeps.declared.sweep.Purpose.TheVariants.{Walks, Retains}
-use Rattle.papaya_passes.specs.Given.Sweeps.declared.sweep.Sweep.{Sweep}
-use Rattle.papaya_passes.specs.Given.Sweeps.declared.sweep.Sweeping.{Sweeping}
-use Rattle.papaya_passes.specs.Given.Sweeps.declared.sweep.Sweeping.TheVariants as at
-use Rattle.papaya_passes.specs.Given.Sweeps.declared.sweep.Swept.{Swept}
-use Rattle.papaya_passes.specs.Given.Sweeps.declared.sweep.Swept.TheVariants as swept
-use Rattle.papaya_passes.specs.Given.Rule.Chart.{Still, Place, Holds, Chart, put}
-use Rattle.papaya_passes.specs.Given.Rule.Moves.{without}
-use Rattle.papaya_passes.specs.Given.Rule.Words.{Blocks}
-use Rattle.papaya_passes.specs.Given.Rule.Maps.{spot_of}
-use Rattle.papaya_passes.specs.Given.Rule.InWorld.{IsMapIn, Moved}
-use Rattle.papaya_passes.specs.Given.Rule.Moments.{Moments, Remembers}
-use Rattle.papaya_passes.specs.Given.Late.Covers.{times, CoversTo, CoversAt}
-use Rattle.papaya_passes.specs.Given.Late.CoversSweeps.{DoneBy, DoneAt}
-use Rattle.papaya_passes.specs.Given.Late.FactsSweeps.{SweepingFacts, SweepFacts}
-use Rattle.papaya_passes.specs.Given.Late.ToldSweeps.{RemovesPair, TellsSo, SweepAfter, SweepTold}
-use Rattle.papaya_passes.proofs.Given.Late.Swept.Sweeps.Moved.{SweepMoves}
-use Rattle.papaya_waits.specs.Given.Callers.OverAll.{CallOverAll, come_to, TriesTold, RemovesTold}
+use Rattle.papaya_waits.specs.Given.SeizeWordsMem.{Mem, Took, value_at}
+use Rattle.papaya_waits.specs.Given.SeizeWordsPlan.{Steps}
+use Rattle.papaya_waits.specs.Given.SeizeWorld.{World}
+use Rattle.papaya_passes.specs.Given.TablesChunks.{is_incremental}
+use Rattle.papaya_passes.specs.Given.TablesDeclared.node.Node.{Node}
+use Rattle.papaya_passes.specs.Given.TablesDeclared.setting.Setting.{Setting}
+use Rattle.papaya_passes.specs.Given.TablesDeclared.table.Table.{Table}
+use Rattle.papaya_passes.specs.Given.SweepsSweep.{plan_at, sweep_plan}
+use Rattle.papaya_passes.specs.Given.SweepsDeclared.sweep.Purpose.TheVariants.{Walks, Retains}
+use Rattle.papaya_passes.specs.Given.SweepsDeclared.sweep.Sweep.{Sweep}
+use Rattle.papaya_passes.specs.Given.SweepsDeclared.sweep.Sweeping.{Sweeping}
+use Rattle.papaya_passes.specs.Given.SweepsDeclared.sweep.Sweeping.TheVariants as at
+use Rattle.papaya_passes.specs.Given.SweepsDeclared.sweep.Swept.{Swept}
+use Rattle.papaya_passes.specs.Given.SweepsDeclared.sweep.Swept.TheVariants as swept
+use Rattle.papaya_passes.specs.Given.RuleChart.{Still, Place, Holds, Chart, put}
+use Rattle.papaya_passes.specs.Given.RuleMoves.{without}
+use Rattle.papaya_passes.specs.Given.RuleWords.{Blocks}
+use Rattle.papaya_passes.specs.Given.RuleMaps.{spot_of}
+use Rattle.papaya_passes.specs.Given.RuleInWorld.{IsMapIn, Moved}
+use Rattle.papaya_passes.specs.Given.RuleMoments.{Moments, Remembers}
+use Rattle.papaya_passes.specs.Given.LateCovers.{times, CoversTo, CoversAt}
+use Rattle.papaya_passes.specs.Given.LateCoversSweeps.{DoneBy, DoneAt}
+use Rattle.papaya_passes.specs.Given.LateFactsSweeps.{SweepingFacts, SweepFacts}
+use Rattle.papaya_passes.specs.Given.LateToldSweeps.{RemovesPair, TellsSo, SweepAfter, SweepTold}
+use Rattle.papaya_passes.proofs.Given.LateSwept.Sweeps.Moved.{SweepMoves}
+use Rattle.papaya_waits.specs.Given.CallersOverAll.{CallOverAll, come_to, TriesTold, RemovesTold}
 use Rattle.papaya_whole.specs.Contents.{KeepsPairs}
 use Rattle.papaya_whole.specs.LoneSweeps.{IsBefore, goes_once, OverRoot}
 use Rattle.papaya_whole.specs.SweptPairs.{about_to_go, gone_since}

@@ -2,51 +2,51 @@
 use Rattle.std.specs.Prelude.{◌≡◌, ◌≢◌, ℕ, Bool, true, false, Option, Some, None}
 use Rattle.std.proofs.Common.{inl, inr, refl, ap, sym, subst, ◌∙◌}
 use Rattle.std.proofs.lemmas.Bool.{cases_eq}
-use Rattle.papaya_waits.specs.Given.SeizeWords.Mem.{Mem, Can, Took, value_at}
-use Rattle.papaya_waits.specs.Given.SeizeWords.Plan.{May, Steps}
-use Rattle.papaya_waits.specs.Given.Seize.declared.progress.Progress.{Progress}
-use Rattle.papaya_waits.specs.Given.Seize.declared.progress.Progress.TheVariants as deferred
-use Rattle.papaya_waits.specs.Given.Seize.declared.rows.defer.Defer.{Defer}
-use Rattle.papaya_waits.specs.Given.Seize.declared.rows.settle.Settle.{Settle}
-use Rattle.papaya_waits.specs.Given.Seize.declared.rows.settle.Settled.{Settled}
-use Rattle.papaya_waits.specs.Given.Seize.declared.rows.settle.Settled.TheVariants as settled
-use Rattle.papaya_waits.specs.Given.Seize.Defer.{defer_plan}
-use Rattle.papaya_waits.specs.Given.Seize.Settle.{settle_plan}
-use Rattle.papaya_waits.specs.Given.Seize.World.{World, Rests, Settles, Defers, IsInside, with_at}
-use Rattle.papaya_waits.proofs.Given.SeizeEnds.Settling.Most.{is_going}
-use Rattle.papaya_passes.proofs.Given.SeizeRule.Rows.Others.{steps_others}
-use Rattle.papaya_passes.specs.Given.Tables.Chunks.{is_incremental}
-use Rattle.papaya_passes.specs.Given.Tables.Nodes.{deferred_word}
-use Rattle.papaya_passes.specs.Given.Tables.declared.node.Node.{Node}
-use Rattle.papaya_passes.specs.Given.Tables.declared.setting.Setting.{Setting}
-use Rattle.papaya_passes.specs.Given.Resize.declared.dispose.Dispose.{Dispose}
-use Rattle.papaya_passes.specs.Given.Sweeps.Sweep.{sweep_plan}
-use Rattle.papaya_passes.specs.Given.Sweeps.SweepPoints.{told, telling, further}
-use Rattle.papaya_passes.specs.Given.Sweeps.declared.sweep.Sweep.{Sweep}
-use Rattle.papaya_passes.specs.Given.Sweeps.declared.sweep.Sweeping.{Sweeping}
-use Rattle.papaya_passes.specs.Given.Sweeps.declared.sweep.Sweeping.TheVariants as at
-use Rattle.papaya_passes.specs.Given.Sweeps.declared.sweep.Swept.{Swept}
-use Rattle.papaya_passes.specs.Given.Sweeps.declared.sweep.Swept.TheVariants as swept
-use Rattle.papaya_passes.specs.Given.Rule.Chart.{Chart}
-use Rattle.papaya_passes.specs.Given.Rule.Words.{Blocks}
-use Rattle.papaya_passes.specs.Given.Rule.InWorld.{IsMapIn}
-use Rattle.papaya_passes.specs.Given.Points.Steps.{AreLawful}
-use Rattle.papaya_waits.specs.Given.Alone.FactsAloneCalls.{TablesAlone}
-use Rattle.papaya_passes.specs.Given.Late.FactsSweeps.{CopiesPairs, SweepingFacts}
-use Rattle.papaya_passes.specs.Given.Late.ToldSweeps.{IsRowOfSweep}
-use Rattle.papaya_passes.proofs.Given.Late.Swept.Sweeps.Stands.{quiet_further}
-use Rattle.papaya_waits.specs.Given.Callers.OverAll.{CallOverAll, gone_on, row_of_sweep, past_sweeping, sweep_once_over}
-use Rattle.papaya_waits.specs.Given.Callers.Sights.{Sight, seen_by}
-use Rattle.papaya_waits.specs.Given.Callers.Together.{UnderWay, OverAll, HasCall, next_over_all, in_slot, IsReclaimed, KnowsSweep, Stands, Together}
-use Rattle.papaya_waits.proofs.Given.Callers.Sights.Seen.{map_seen}
-use Rattle.papaya_waits.proofs.Given.Callers.Together.At.{at_other, at_same}
-use Rattle.papaya_waits.proofs.Given.Callers.Together.Begun as begun
-use Rattle.papaya_waits.proofs.Given.Callers.Together.Came.{came_reached}
-use Rattle.papaya_waits.proofs.Given.Callers.Together.Few.{sweep_row_claims_none}
-use Rattle.papaya_waits.proofs.Given.Callers.Together.Fits.{map_in_slot}
-use Rattle.papaya_waits.proofs.Given.Callers.Together.SweepRows.{Led, within_row}
-use Rattle.papaya_waits.proofs.Given.Callers.Together.SweepStepped.{begins_at}
-use Rattle.papaya_waits.proofs.Given.SeizeAlone.Histories.Uses.{inside_kept}
+use Rattle.papaya_waits.specs.Given.SeizeWordsMem.{Mem, Can, Took, value_at}
+use Rattle.papaya_waits.specs.Given.SeizeWordsPlan.{May, Steps}
+use Rattle.papaya_waits.specs.Given.SeizeDeclared.progress.Progress.{Progress}
+use Rattle.papaya_waits.specs.Given.SeizeDeclared.progress.Progress.TheVariants as deferred
+use Rattle.papaya_waits.specs.Given.SeizeDeclared.rows.defer.Defer.{Defer}
+use Rattle.papaya_waits.specs.Given.SeizeDeclared.rows.settle.Settle.{Settle}
+use Rattle.papaya_waits.specs.Given.SeizeDeclared.rows.settle.Settled.{Settled}
+use Rattle.papaya_waits.specs.Given.SeizeDeclared.rows.settle.Settled.TheVariants as settled
+use Rattle.papaya_waits.specs.Given.SeizeDefer.{defer_plan}
+use Rattle.papaya_waits.specs.Given.SeizeSettle.{settle_plan}
+use Rattle.papaya_waits.specs.Given.SeizeWorld.{World, Rests, Settles, Defers, IsInside, with_at}
+use Rattle.papaya_waits.proofs.Given.SeizeEndsSettling.Most.{is_going}
+use Rattle.papaya_passes.proofs.Given.SeizeRuleRows.Others.{steps_others}
+use Rattle.papaya_passes.specs.Given.TablesChunks.{is_incremental}
+use Rattle.papaya_passes.specs.Given.TablesNodes.{deferred_word}
+use Rattle.papaya_passes.specs.Given.TablesDeclared.node.Node.{Node}
+use Rattle.papaya_passes.specs.Given.TablesDeclared.setting.Setting.{Setting}
+use Rattle.papaya_passes.specs.Given.ResizeDeclared.dispose.Dispose.{Dispose}
+use Rattle.papaya_passes.specs.Given.SweepsSweep.{sweep_plan}
+use Rattle.papaya_passes.specs.Given.SweepsSweepPoints.{told, telling, further}
+use Rattle.papaya_passes.specs.Given.SweepsDeclared.sweep.Sweep.{Sweep}
+use Rattle.papaya_passes.specs.Given.SweepsDeclared.sweep.Sweeping.{Sweeping}
+use Rattle.papaya_passes.specs.Given.SweepsDeclared.sweep.Sweeping.TheVariants as at
+use Rattle.papaya_passes.specs.Given.SweepsDeclared.sweep.Swept.{Swept}
+use Rattle.papaya_passes.specs.Given.SweepsDeclared.sweep.Swept.TheVariants as swept
+use Rattle.papaya_passes.specs.Given.RuleChart.{Chart}
+use Rattle.papaya_passes.specs.Given.RuleWords.{Blocks}
+use Rattle.papaya_passes.specs.Given.RuleInWorld.{IsMapIn}
+use Rattle.papaya_passes.specs.Given.PointsSteps.{AreLawful}
+use Rattle.papaya_waits.specs.Given.AloneFactsAloneCalls.{TablesAlone}
+use Rattle.papaya_passes.specs.Given.LateFactsSweeps.{CopiesPairs, SweepingFacts}
+use Rattle.papaya_passes.specs.Given.LateToldSweeps.{IsRowOfSweep}
+use Rattle.papaya_passes.proofs.Given.LateSwept.Sweeps.Stands.{quiet_further}
+use Rattle.papaya_waits.specs.Given.CallersOverAll.{CallOverAll, gone_on, row_of_sweep, past_sweeping, sweep_once_over}
+use Rattle.papaya_waits.specs.Given.CallersSights.{Sight, seen_by}
+use Rattle.papaya_waits.specs.Given.CallersTogether.{UnderWay, OverAll, HasCall, next_over_all, in_slot, IsReclaimed, KnowsSweep, Stands, Together}
+use Rattle.papaya_waits.proofs.Given.CallersSights.Seen.{map_seen}
+use Rattle.papaya_waits.proofs.Given.CallersTogether.At.{at_other, at_same}
+use Rattle.papaya_waits.proofs.Given.CallersTogether.Begun as begun
+use Rattle.papaya_waits.proofs.Given.CallersTogether.Came.{came_reached}
+use Rattle.papaya_waits.proofs.Given.CallersTogether.Few.{sweep_row_claims_none}
+use Rattle.papaya_waits.proofs.Given.CallersTogether.Fits.{map_in_slot}
+use Rattle.papaya_waits.proofs.Given.CallersTogether.SweepRows.{Led, within_row}
+use Rattle.papaya_waits.proofs.Given.CallersTogether.SweepStepped.{begins_at}
+use Rattle.papaya_waits.proofs.Given.SeizeAloneHistories.Uses.{inside_kept}
 use Rattle.papaya_whole.specs.LoneSweeps.{IsBefore, goes_once, IsLoneSweep, GoesOverRoot, OverRoot, IsOverRoot}
 use Rattle.papaya_whole.specs.Owner.{CopiesOfRoot, IsOfRoot, AtRest, IsAlone}
 use Rattle.papaya_whole.specs.WholeSweeps.{uncounted, SweepLeads}

@@ -1,42 +1,42 @@
 -- Each step of a sweep that is alone, none of a row of the collector and none of its copying: what is so where it leads.
 use Rattle.std.specs.Prelude.{◌≡◌, ◌≢◌, ℕ, suc, ◌<◌, ◌≤◌, Bool, true, false, if◌then◌else◌}
 use Rattle.std.proofs.Common.{refl, ap, sym, subst, inl, inr, ◌∙◌, arith}
-use Rattle.papaya_waits.specs.Given.SeizeWords.Word.{link_word}
-use Rattle.papaya_waits.specs.Given.Seize.World.{World}
-use Rattle.papaya_waits.specs.Given.Seize.declared.rows.settle.Settled.{Settled}
-use Rattle.papaya_waits.specs.Given.Seize.declared.rows.settle.Settled.TheVariants as settled
-use Rattle.papaya_passes.specs.Given.Tables.Chunks.{is_incremental}
-use Rattle.papaya_passes.specs.Given.Tables.declared.node.Node.{Node}
-use Rattle.papaya_passes.specs.Given.Tables.declared.setting.Setting.{Setting}
-use Rattle.papaya_passes.specs.Given.Tables.declared.table.Table.{Table}
-use Rattle.papaya_passes.specs.Given.Resize.CopierStates.{resting, copying_all}
-use Rattle.papaya_passes.specs.Given.Resize.declared.copier.Copier.{Copier}
-use Rattle.papaya_passes.specs.Given.Resize.declared.copier.Copying.TheVariants as copies
-use Rattle.papaya_passes.specs.Given.Resize.declared.dispose.Dispose.{Dispose}
-use Rattle.papaya_passes.specs.Given.Sweeps.Sweep.{disposed}
-use Rattle.papaya_passes.specs.Given.Sweeps.SweepPoints.{removes, standing, further, tableless, beginning, entering, told, telling, going, seen}
-use Rattle.papaya_passes.specs.Given.Sweeps.declared.sweep.Sweep.{Sweep}
-use Rattle.papaya_passes.specs.Given.Sweeps.declared.sweep.Sweeping.{Sweeping}
-use Rattle.papaya_passes.specs.Given.Sweeps.declared.sweep.Sweeping.TheVariants as at
-use Rattle.papaya_passes.specs.Given.Sweeps.declared.sweep.Swept.{Swept}
-use Rattle.papaya_passes.specs.Given.Sweeps.declared.sweep.Swept.TheVariants as swept
-use Rattle.papaya_passes.specs.Given.Rule.Chart.{Still, Holds, Chart}
-use Rattle.papaya_passes.specs.Given.Rule.Words.{Blocks, mark_bits, byte_of, place_word}
-use Rattle.papaya_passes.specs.Given.Rule.Maps.{IsTable}
-use Rattle.papaya_passes.specs.Given.Rule.Moves.{Removes, after}
-use Rattle.papaya_passes.specs.Given.Rule.InWorld.{IsMapIn, SameBlocks}
-use Rattle.papaya_passes.specs.Given.Points.FactsIdle.{IsIdle}
-use Rattle.papaya_waits.specs.Given.Alone.FactsAloneCalls.{TablesAlone}
-use Rattle.papaya_waits.proofs.Given.Alone.Lone.Beside.{beside_tables}
-use Rattle.papaya_passes.specs.Given.Late.FactsReserves.{CopiesWhole}
-use Rattle.papaya_passes.specs.Given.Late.FactsSweeps.{CopiesPairs, HasNoTable, WasRoot, GoesOver, CopiesTable, SweepingFacts, SweepFacts}
-use Rattle.papaya_passes.specs.Given.Late.LateCopies.{LateCopying, LateCopierFacts}
-use Rattle.papaya_passes.specs.Given.Late.Left.{Left}
-use Rattle.papaya_passes.specs.Given.Late.ToldSweeps.{SweepAfter}
-use Rattle.papaya_passes.proofs.Given.Late.Swept.Sweeps.Moved.{Sees, SweepMoves}
-use Rattle.papaya_passes.proofs.Given.Late.Swept.Sweeps.Stands.{quiet_tableless, quiet_beginning, quiet_further}
-use Rattle.papaya_passes.proofs.Given.Late.Swept.Sweeps.Tables.{upto}
-use Rattle.papaya_waits.proofs.Given.Maps.Reserves.Beside.{begins_copying}
+use Rattle.papaya_waits.specs.Given.SeizeWordsWord.{link_word}
+use Rattle.papaya_waits.specs.Given.SeizeWorld.{World}
+use Rattle.papaya_waits.specs.Given.SeizeDeclared.rows.settle.Settled.{Settled}
+use Rattle.papaya_waits.specs.Given.SeizeDeclared.rows.settle.Settled.TheVariants as settled
+use Rattle.papaya_passes.specs.Given.TablesChunks.{is_incremental}
+use Rattle.papaya_passes.specs.Given.TablesDeclared.node.Node.{Node}
+use Rattle.papaya_passes.specs.Given.TablesDeclared.setting.Setting.{Setting}
+use Rattle.papaya_passes.specs.Given.TablesDeclared.table.Table.{Table}
+use Rattle.papaya_passes.specs.Given.ResizeCopierStates.{resting, copying_all}
+use Rattle.papaya_passes.specs.Given.ResizeDeclared.copier.Copier.{Copier}
+use Rattle.papaya_passes.specs.Given.ResizeDeclared.copier.Copying.TheVariants as copies
+use Rattle.papaya_passes.specs.Given.ResizeDeclared.dispose.Dispose.{Dispose}
+use Rattle.papaya_passes.specs.Given.SweepsSweep.{disposed}
+use Rattle.papaya_passes.specs.Given.SweepsSweepPoints.{removes, standing, further, tableless, beginning, entering, told, telling, going, seen}
+use Rattle.papaya_passes.specs.Given.SweepsDeclared.sweep.Sweep.{Sweep}
+use Rattle.papaya_passes.specs.Given.SweepsDeclared.sweep.Sweeping.{Sweeping}
+use Rattle.papaya_passes.specs.Given.SweepsDeclared.sweep.Sweeping.TheVariants as at
+use Rattle.papaya_passes.specs.Given.SweepsDeclared.sweep.Swept.{Swept}
+use Rattle.papaya_passes.specs.Given.SweepsDeclared.sweep.Swept.TheVariants as swept
+use Rattle.papaya_passes.specs.Given.RuleChart.{Still, Holds, Chart}
+use Rattle.papaya_passes.specs.Given.RuleWords.{Blocks, mark_bits, byte_of, place_word}
+use Rattle.papaya_passes.specs.Given.RuleMaps.{IsTable}
+use Rattle.papaya_passes.specs.Given.RuleMoves.{Removes, after}
+use Rattle.papaya_passes.specs.Given.RuleInWorld.{IsMapIn, SameBlocks}
+use Rattle.papaya_passes.specs.Given.PointsFactsIdle.{IsIdle}
+use Rattle.papaya_waits.specs.Given.AloneFactsAloneCalls.{TablesAlone}
+use Rattle.papaya_waits.proofs.Given.AloneLone.Beside.{beside_tables}
+use Rattle.papaya_passes.specs.Given.LateFactsReserves.{CopiesWhole}
+use Rattle.papaya_passes.specs.Given.LateFactsSweeps.{CopiesPairs, HasNoTable, WasRoot, GoesOver, CopiesTable, SweepingFacts, SweepFacts}
+use Rattle.papaya_passes.specs.Given.LateLateCopies.{LateCopying, LateCopierFacts}
+use Rattle.papaya_passes.specs.Given.LateLeft.{Left}
+use Rattle.papaya_passes.specs.Given.LateToldSweeps.{SweepAfter}
+use Rattle.papaya_passes.proofs.Given.LateSwept.Sweeps.Moved.{Sees, SweepMoves}
+use Rattle.papaya_passes.proofs.Given.LateSwept.Sweeps.Stands.{quiet_tableless, quiet_beginning, quiet_further}
+use Rattle.papaya_passes.proofs.Given.LateSwept.Sweeps.Tables.{upto}
+use Rattle.papaya_waits.proofs.Given.MapsReserves.Beside.{begins_copying}
 use Rattle.papaya_whole.specs.LoneSweeps.{IsBefore, goes_once, SweepsAlone, GoesOverRoot, StandsThere, OverRoot}
 use Rattle.papaya_whole.proofs.Fresh.Sweeps.{CopiesRoot}
 use Rattle.papaya_whole.proofs.Sweeps.Lone.{ReadsOn, telling_on, seen_on, alone_at}

@@ -1,23 +1,23 @@
 -- Within a row of the collector, a sweep copies the root, and so it is not late; and it goes on so once the row is over.
 use Rattle.std.specs.Prelude.{◌≡◌, ℕ, Bool, false}
 use Rattle.std.proofs.Common.{inl, inr}
-use Rattle.papaya_waits.specs.Given.Seize.World.{World}
-use Rattle.papaya_passes.specs.Given.Tables.Chunks.{is_incremental}
-use Rattle.papaya_passes.specs.Given.Tables.declared.node.Node.{Node}
-use Rattle.papaya_passes.specs.Given.Tables.declared.setting.Setting.{Setting}
-use Rattle.papaya_passes.specs.Given.Resize.declared.copier.Copier.{Copier}
-use Rattle.papaya_passes.specs.Given.Sweeps.declared.sweep.Sweep.{Sweep}
-use Rattle.papaya_passes.specs.Given.Sweeps.declared.sweep.Sweeping.{Sweeping}
-use Rattle.papaya_passes.specs.Given.Sweeps.declared.sweep.Sweeping.TheVariants as at
-use Rattle.papaya_passes.specs.Given.Rule.Chart.{Chart}
-use Rattle.papaya_passes.specs.Given.Rule.Words.{Blocks}
-use Rattle.papaya_passes.specs.Given.Points.Told.{IsRowOfCopier}
-use Rattle.papaya_passes.specs.Given.Late.FactsSweeps.{CopiesPairs, CopiesTable, SweepingFacts}
-use Rattle.papaya_passes.specs.Given.Late.ToldSweeps.{IsRowOfSweep}
-use Rattle.papaya_waits.specs.Given.Callers.OverAll.{past_sweeping}
-use Rattle.papaya_waits.specs.Given.Callers.Rows.{past_copying}
-use Rattle.papaya_waits.specs.Given.Callers.Together.{in_slot}
-use Rattle.papaya_waits.proofs.Given.Callers.Together.SweepRows.{at_row}
+use Rattle.papaya_waits.specs.Given.SeizeWorld.{World}
+use Rattle.papaya_passes.specs.Given.TablesChunks.{is_incremental}
+use Rattle.papaya_passes.specs.Given.TablesDeclared.node.Node.{Node}
+use Rattle.papaya_passes.specs.Given.TablesDeclared.setting.Setting.{Setting}
+use Rattle.papaya_passes.specs.Given.ResizeDeclared.copier.Copier.{Copier}
+use Rattle.papaya_passes.specs.Given.SweepsDeclared.sweep.Sweep.{Sweep}
+use Rattle.papaya_passes.specs.Given.SweepsDeclared.sweep.Sweeping.{Sweeping}
+use Rattle.papaya_passes.specs.Given.SweepsDeclared.sweep.Sweeping.TheVariants as at
+use Rattle.papaya_passes.specs.Given.RuleChart.{Chart}
+use Rattle.papaya_passes.specs.Given.RuleWords.{Blocks}
+use Rattle.papaya_passes.specs.Given.PointsTold.{IsRowOfCopier}
+use Rattle.papaya_passes.specs.Given.LateFactsSweeps.{CopiesPairs, CopiesTable, SweepingFacts}
+use Rattle.papaya_passes.specs.Given.LateToldSweeps.{IsRowOfSweep}
+use Rattle.papaya_waits.specs.Given.CallersOverAll.{past_sweeping}
+use Rattle.papaya_waits.specs.Given.CallersRows.{past_copying}
+use Rattle.papaya_waits.specs.Given.CallersTogether.{in_slot}
+use Rattle.papaya_waits.proofs.Given.CallersTogether.SweepRows.{at_row}
 use Rattle.papaya_whole.specs.Owner.{IsFirst, CopiesOfRoot}
 use Rattle.papaya_whole.proofs.Fresh.Rooms.{whole_blocking}
 use Rattle.papaya_whole.proofs.Fresh.Sweeps.{CopiesRoot}

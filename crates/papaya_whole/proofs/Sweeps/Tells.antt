@@ -2,28 +2,28 @@
 use Rattle.std.specs.Prelude.{◌≡◌, ◌≢◌, ℕ, ◌≤◌, Bool, true, cond, eqb, List, [], ◌∷◌}
 use Rattle.std.proofs.Common.{inl, inr, refl, ap, sym, subst, ◌∙◌, arith}
 use Rattle.std.proofs.lemmas.Bool.{eq-eqb}
-use Rattle.papaya_waits.specs.Given.SeizeWords.Word.{link_word}
-use Rattle.papaya_waits.specs.Given.Seize.World.{World}
-use Rattle.papaya_passes.specs.Given.Tables.Chunks.{is_incremental}
-use Rattle.papaya_passes.specs.Given.Tables.declared.node.Node.{Node}
-use Rattle.papaya_passes.specs.Given.Tables.declared.resize_mode.ResizeMode.{ResizeMode}
-use Rattle.papaya_passes.specs.Given.Tables.declared.setting.Setting.{Setting}
-use Rattle.papaya_passes.specs.Given.Tables.declared.table.Table.{Table}
-use Rattle.papaya_passes.specs.Given.Sweeps.declared.sweep.Sweep.{Sweep}
-use Rattle.papaya_passes.specs.Given.Sweeps.declared.sweep.Sweeping.{Sweeping}
-use Rattle.papaya_passes.specs.Given.Sweeps.declared.sweep.Sweeping.TheVariants as at
-use Rattle.papaya_passes.specs.Given.Sweeps.declared.sweep.Swept.{Swept}
-use Rattle.papaya_passes.specs.Given.Sweeps.declared.sweep.Swept.TheVariants as swept
-use Rattle.papaya_passes.specs.Given.Rule.Chart.{Phase, Still, Holds, Chart}
-use Rattle.papaya_passes.specs.Given.Rule.Words.{Blocks, mark_bits, byte_of, place_word}
-use Rattle.papaya_passes.specs.Given.Rule.InWorld.{IsMapIn}
-use Rattle.papaya_passes.specs.Given.Points.Steps.{AreLawful}
-use Rattle.papaya_passes.specs.Given.Late.Covers.{times, NamesPair, CoversAt}
-use Rattle.papaya_passes.specs.Given.Late.CoversSweeps.{DoneBy, DoneAt}
-use Rattle.papaya_passes.specs.Given.Late.FactsSweeps.{CopiesPairs}
-use Rattle.papaya_passes.specs.Given.Late.ToldSweeps.{word_told, ReadsPlace, TellsSo, OnlyRemoves, NamesThere, SweepTold}
-use Rattle.papaya_passes.proofs.Given.Late.Swept.Covers.Begins.{names_current}
-use Rattle.papaya_passes.proofs.Given.Late.Swept.Sweeps.Tables.{still_current}
+use Rattle.papaya_waits.specs.Given.SeizeWordsWord.{link_word}
+use Rattle.papaya_waits.specs.Given.SeizeWorld.{World}
+use Rattle.papaya_passes.specs.Given.TablesChunks.{is_incremental}
+use Rattle.papaya_passes.specs.Given.TablesDeclared.node.Node.{Node}
+use Rattle.papaya_passes.specs.Given.TablesDeclared.resize_mode.ResizeMode.{ResizeMode}
+use Rattle.papaya_passes.specs.Given.TablesDeclared.setting.Setting.{Setting}
+use Rattle.papaya_passes.specs.Given.TablesDeclared.table.Table.{Table}
+use Rattle.papaya_passes.specs.Given.SweepsDeclared.sweep.Sweep.{Sweep}
+use Rattle.papaya_passes.specs.Given.SweepsDeclared.sweep.Sweeping.{Sweeping}
+use Rattle.papaya_passes.specs.Given.SweepsDeclared.sweep.Sweeping.TheVariants as at
+use Rattle.papaya_passes.specs.Given.SweepsDeclared.sweep.Swept.{Swept}
+use Rattle.papaya_passes.specs.Given.SweepsDeclared.sweep.Swept.TheVariants as swept
+use Rattle.papaya_passes.specs.Given.RuleChart.{Phase, Still, Holds, Chart}
+use Rattle.papaya_passes.specs.Given.RuleWords.{Blocks, mark_bits, byte_of, place_word}
+use Rattle.papaya_passes.specs.Given.RuleInWorld.{IsMapIn}
+use Rattle.papaya_passes.specs.Given.PointsSteps.{AreLawful}
+use Rattle.papaya_passes.specs.Given.LateCovers.{times, NamesPair, CoversAt}
+use Rattle.papaya_passes.specs.Given.LateCoversSweeps.{DoneBy, DoneAt}
+use Rattle.papaya_passes.specs.Given.LateFactsSweeps.{CopiesPairs}
+use Rattle.papaya_passes.specs.Given.LateToldSweeps.{word_told, ReadsPlace, TellsSo, OnlyRemoves, NamesThere, SweepTold}
+use Rattle.papaya_passes.proofs.Given.LateSwept.Covers.Begins.{names_current}
+use Rattle.papaya_passes.proofs.Given.LateSwept.Sweeps.Tables.{still_current}
 use Rattle.papaya_whole.specs.LoneSweeps.{IsBefore, goes_once, GoesOverRoot, StandsThere, OverRoot}
 use Rattle.papaya_whole.specs.WholeSweeps.{NamesPairOf, TellsNew}
 use Rattle.papaya_whole.proofs.Sweeps.Names.{named, names_pair, one_named}

@@ -2,29 +2,29 @@
 use Rattle.std.specs.Prelude.{◌≡◌, ℕ, ◌<◌, Bool, true, false, nat_lt, cond, ◌∷◌, Some, if◌then◌else◌}
 use Rattle.std.proofs.Common.{inl, inr, refl, ap, sym, subst, ◌∙◌, arith}
 use Rattle.std.proofs.lemmas.Bool.{ltb-true}
-use Rattle.papaya_waits.specs.Given.Seize.World.{World, with_at}
-use Rattle.papaya_passes.specs.Given.Tables.Chunks.{is_incremental}
-use Rattle.papaya_passes.specs.Given.Tables.declared.node.Node.{Node}
-use Rattle.papaya_passes.specs.Given.Tables.declared.setting.Setting.{Setting}
-use Rattle.papaya_passes.specs.Given.Sweeps.SweepPoints.{standing, further, next_at, after_next, reply_at}
-use Rattle.papaya_passes.specs.Given.Sweeps.declared.sweep.Sweeping.{Sweeping}
-use Rattle.papaya_passes.specs.Given.Sweeps.declared.sweep.Sweeping.TheVariants as at
-use Rattle.papaya_passes.specs.Given.Rule.Chart.{Still, Chart}
-use Rattle.papaya_passes.specs.Given.Rule.Words.{Blocks}
-use Rattle.papaya_passes.specs.Given.Rule.InWorld.{IsMapIn}
-use Rattle.papaya_passes.specs.Given.Points.Steps.{AreLawful}
-use Rattle.papaya_waits.specs.Given.Alone.FactsAloneCalls.{TablesAlone}
-use Rattle.papaya_passes.specs.Given.Late.Covers.{times, NamesPair, CoversAt}
-use Rattle.papaya_passes.specs.Given.Late.FactsSweeps.{CopiesPairs, SweepingFacts}
-use Rattle.papaya_passes.specs.Given.Late.ToldSweeps.{IsRowOfSweep}
-use Rattle.papaya_passes.proofs.Given.Late.Swept.Sweeps.Stands.{quiet_further}
-use Rattle.papaya_passes.proofs.Given.Late.Swept.Sweeps.Tables.{still_current}
-use Rattle.papaya_waits.specs.Given.Callers.OverAll.{verdict, CallOverAll, gone_on, told_of}
-use Rattle.papaya_waits.specs.Given.Callers.Sights.{Sight, seen_by}
-use Rattle.papaya_waits.specs.Given.Callers.Sweeps.{TakesTold}
-use Rattle.papaya_waits.specs.Given.Callers.Together.{OverAll, in_slot, Stands, Together}
-use Rattle.papaya_waits.proofs.Given.Callers.Together.At.{at_other, at_same}
-use Rattle.papaya_waits.proofs.Given.Callers.Together.SweepsTold.{sweeps_told_together}
+use Rattle.papaya_waits.specs.Given.SeizeWorld.{World, with_at}
+use Rattle.papaya_passes.specs.Given.TablesChunks.{is_incremental}
+use Rattle.papaya_passes.specs.Given.TablesDeclared.node.Node.{Node}
+use Rattle.papaya_passes.specs.Given.TablesDeclared.setting.Setting.{Setting}
+use Rattle.papaya_passes.specs.Given.SweepsSweepPoints.{standing, further, next_at, after_next, reply_at}
+use Rattle.papaya_passes.specs.Given.SweepsDeclared.sweep.Sweeping.{Sweeping}
+use Rattle.papaya_passes.specs.Given.SweepsDeclared.sweep.Sweeping.TheVariants as at
+use Rattle.papaya_passes.specs.Given.RuleChart.{Still, Chart}
+use Rattle.papaya_passes.specs.Given.RuleWords.{Blocks}
+use Rattle.papaya_passes.specs.Given.RuleInWorld.{IsMapIn}
+use Rattle.papaya_passes.specs.Given.PointsSteps.{AreLawful}
+use Rattle.papaya_waits.specs.Given.AloneFactsAloneCalls.{TablesAlone}
+use Rattle.papaya_passes.specs.Given.LateCovers.{times, NamesPair, CoversAt}
+use Rattle.papaya_passes.specs.Given.LateFactsSweeps.{CopiesPairs, SweepingFacts}
+use Rattle.papaya_passes.specs.Given.LateToldSweeps.{IsRowOfSweep}
+use Rattle.papaya_passes.proofs.Given.LateSwept.Sweeps.Stands.{quiet_further}
+use Rattle.papaya_passes.proofs.Given.LateSwept.Sweeps.Tables.{still_current}
+use Rattle.papaya_waits.specs.Given.CallersOverAll.{verdict, CallOverAll, gone_on, told_of}
+use Rattle.papaya_waits.specs.Given.CallersSights.{Sight, seen_by}
+use Rattle.papaya_waits.specs.Given.CallersSweeps.{TakesTold}
+use Rattle.papaya_waits.specs.Given.CallersTogether.{OverAll, in_slot, Stands, Together}
+use Rattle.papaya_waits.proofs.Given.CallersTogether.At.{at_other, at_same}
+use Rattle.papaya_waits.proofs.Given.CallersTogether.SweepsTold.{sweeps_told_together}
 use Rattle.papaya_whole.specs.LoneSweeps.{IsBefore, goes_once, GoesOverRoot, StandsThere, OverRoot, IsOverRoot}
 use Rattle.papaya_whole.specs.Owner.{IsOfRoot, IsAlone}
 use Rattle.papaya_whole.specs.WholeSweeps.{NamesPairOf, NamesNew}

@@ -1,30 +1,30 @@
 -- What a retaining that is alone was told to remove, its try removes.
 use Rattle.std.specs.Prelude.{◌≡◌, ◌≢◌, ℕ, ◌<◌, ◌==◌, ◌&&◌, ◌⊎◌, Bool, true, false, Some, if◌then◌else◌}
 use Rattle.std.proofs.Common.{inl, inr, ap, sym, ◌∙◌}
-use Rattle.papaya_waits.specs.Given.SeizeWords.Mem.{Mem, Took, value_at, word_at}
-use Rattle.papaya_waits.specs.Given.SeizeWords.Plan.{Steps}
-use Rattle.papaya_waits.specs.Given.SeizeWords.Word.{block_in}
-use Rattle.papaya_waits.proofs.Given.SeizeWords.OneOwner.Operations.{exchanged}
-use Rattle.papaya_waits.specs.Given.Seize.World.{World}
-use Rattle.papaya_passes.specs.Given.Tables.Marks.{has_mark}
-use Rattle.papaya_passes.specs.Given.Tables.TablePlaces.{at_place}
-use Rattle.papaya_passes.specs.Given.Tables.declared.marks.TheConstants.{COPYING, TOMBSTONE}
-use Rattle.papaya_passes.specs.Given.Tables.declared.node.Node.{Node}
-use Rattle.papaya_passes.specs.Given.Tables.declared.setting.Setting.{Setting}
-use Rattle.papaya_passes.specs.Given.Tables.declared.table.Table.{Table}
-use Rattle.papaya_passes.specs.Given.Sweeps.Sweep.{tried, tries}
-use Rattle.papaya_passes.specs.Given.Sweeps.SweepPoints.{removes, further, telling, going, at_pair, seen}
-use Rattle.papaya_passes.specs.Given.Sweeps.declared.sweep.Purpose.{Purpose}
-use Rattle.papaya_passes.specs.Given.Sweeps.declared.sweep.Purpose.TheVariants.{Walks, Clears, Retains}
-use Rattle.papaya_passes.specs.Given.Sweeps.declared.sweep.Sweep.{Sweep}
-use Rattle.papaya_passes.specs.Given.Sweeps.declared.sweep.Sweeping.TheVariants as at
-use Rattle.papaya_passes.specs.Given.Sweeps.declared.sweep.Swept.{Swept}
-use Rattle.papaya_passes.specs.Given.Rule.Chart.{Chart}
-use Rattle.papaya_passes.specs.Given.Rule.Words.{Blocks, place_word}
-use Rattle.papaya_passes.specs.Given.Rule.InWorld.{IsMapIn}
-use Rattle.papaya_passes.proofs.Given.Rule.Words.TablesSeen.{place_there}
-use Rattle.papaya_passes.specs.Given.Late.FactsSweeps.{GoesOver}
-use Rattle.papaya_passes.proofs.Given.Late.Swept.Sweeps.Moved.{Sees, Removing}
+use Rattle.papaya_waits.specs.Given.SeizeWordsMem.{Mem, Took, value_at, word_at}
+use Rattle.papaya_waits.specs.Given.SeizeWordsPlan.{Steps}
+use Rattle.papaya_waits.specs.Given.SeizeWordsWord.{block_in}
+use Rattle.papaya_waits.proofs.Given.SeizeWordsOneOwner.Operations.{exchanged}
+use Rattle.papaya_waits.specs.Given.SeizeWorld.{World}
+use Rattle.papaya_passes.specs.Given.TablesMarks.{has_mark}
+use Rattle.papaya_passes.specs.Given.TablesTablePlaces.{at_place}
+use Rattle.papaya_passes.specs.Given.TablesDeclared.marks.TheConstants.{COPYING, TOMBSTONE}
+use Rattle.papaya_passes.specs.Given.TablesDeclared.node.Node.{Node}
+use Rattle.papaya_passes.specs.Given.TablesDeclared.setting.Setting.{Setting}
+use Rattle.papaya_passes.specs.Given.TablesDeclared.table.Table.{Table}
+use Rattle.papaya_passes.specs.Given.SweepsSweep.{tried, tries}
+use Rattle.papaya_passes.specs.Given.SweepsSweepPoints.{removes, further, telling, going, at_pair, seen}
+use Rattle.papaya_passes.specs.Given.SweepsDeclared.sweep.Purpose.{Purpose}
+use Rattle.papaya_passes.specs.Given.SweepsDeclared.sweep.Purpose.TheVariants.{Walks, Clears, Retains}
+use Rattle.papaya_passes.specs.Given.SweepsDeclared.sweep.Sweep.{Sweep}
+use Rattle.papaya_passes.specs.Given.SweepsDeclared.sweep.Sweeping.TheVariants as at
+use Rattle.papaya_passes.specs.Given.SweepsDeclared.sweep.Swept.{Swept}
+use Rattle.papaya_passes.specs.Given.RuleChart.{Chart}
+use Rattle.papaya_passes.specs.Given.RuleWords.{Blocks, place_word}
+use Rattle.papaya_passes.specs.Given.RuleInWorld.{IsMapIn}
+use Rattle.papaya_passes.proofs.Given.RuleWords.TablesSeen.{place_there}
+use Rattle.papaya_passes.specs.Given.LateFactsSweeps.{GoesOver}
+use Rattle.papaya_passes.proofs.Given.LateSwept.Sweeps.Moved.{Sees, Removing}
 use Rattle.papaya_whole.specs.LoneSweeps.{StandsThere}
 use Rattle.papaya_whole.proofs.Sweeps.Over.{further_by}
 

@@ -2,51 +2,51 @@
 use Rattle.std.specs.Prelude.{◌≡◌, ◌≢◌, ℕ, ◌≤◌, Bool, true, false, cond, ◌⊎◌}
 use Rattle.std.specs.Int.{IsPowerOfTwo}
 use Rattle.std.proofs.Common.{refl, ap, sym, subst, inl, inr, ◌∙◌}
-use Rattle.papaya_waits.specs.Given.SeizeWords.Mem.{Mem, Took, value_at}
-use Rattle.papaya_waits.specs.Given.SeizeWords.Plan.{Steps}
-use Rattle.papaya_waits.specs.Given.Seize.World.{World}
-use Rattle.papaya_passes.proofs.Given.SeizeRule.Rows.Leaving.{steps_back}
-use Rattle.papaya_passes.specs.Given.Tables.Chunks.{is_incremental}
-use Rattle.papaya_passes.specs.Given.Tables.declared.node.Node.{Node}
-use Rattle.papaya_passes.specs.Given.Tables.declared.setting.Setting.{Setting}
-use Rattle.papaya_passes.specs.Given.Tables.declared.table.Table.{Table}
-use Rattle.papaya_passes.specs.Given.Resize.Copier.{copier_plan}
-use Rattle.papaya_passes.specs.Given.Resize.declared.copier.Copier.{Copier}
-use Rattle.papaya_passes.specs.Given.Resize.declared.outcome.Outcome.{Outcome}
-use Rattle.papaya_passes.specs.Given.Resize.declared.outcome.Outcome.TheVariants as outcome
-use Rattle.papaya_passes.specs.Given.Sweeps.Sweep.{copied, plan_at, sweep_plan}
-use Rattle.papaya_passes.specs.Given.Sweeps.SweepPoints.{entering, told}
-use Rattle.papaya_passes.specs.Given.Sweeps.declared.sweep.Sweep.{Sweep}
-use Rattle.papaya_passes.specs.Given.Sweeps.declared.sweep.Sweeping.{Sweeping}
-use Rattle.papaya_passes.specs.Given.Sweeps.declared.sweep.Sweeping.TheVariants as at
-use Rattle.papaya_passes.specs.Given.Sweeps.declared.sweep.Swept.{Swept}
-use Rattle.papaya_passes.specs.Given.Sweeps.declared.sweep.Swept.TheVariants as swept
-use Rattle.papaya_passes.specs.Given.Rule.Chart.{Chart}
-use Rattle.papaya_passes.specs.Given.Rule.Words.{Blocks}
-use Rattle.papaya_passes.specs.Given.Rule.Moves.{Removes}
-use Rattle.papaya_passes.specs.Given.Rule.Moments.{Moments}
-use Rattle.papaya_passes.specs.Given.Rule.InWorld.{IsMapIn, SparesPairs, Moved, SameBlocks, Went}
-use Rattle.papaya_passes.proofs.Given.Rule.World.WentTold.{went_as}
-use Rattle.papaya_passes.specs.Given.Points.FactsCopies.{CopierFacts}
-use Rattle.papaya_passes.specs.Given.Points.FactsCopiesBlocking.{CopierFactsBlocking}
-use Rattle.papaya_passes.specs.Given.Points.Measures.{OthersIdle}
-use Rattle.papaya_passes.specs.Given.Points.Steps.{AreLawful}
-use Rattle.papaya_passes.specs.Given.Points.Told.{IsRowOfCopier, CopierTold, CopierToldBlocking, MovedBeside}
-use Rattle.papaya_waits.proofs.Given.Alone.Lone.Beside.{beside_idle}
-use Rattle.papaya_passes.specs.Given.Late.CoversSweeps.{CoversOn}
-use Rattle.papaya_passes.specs.Given.Late.FactsReserves.{IsEnding, CopiesWhole}
-use Rattle.papaya_passes.specs.Given.Late.FactsSweeps.{CopiesPairs, SweepFacts}
-use Rattle.papaya_passes.specs.Given.Late.Left.{ClaimsAreFew}
-use Rattle.papaya_passes.specs.Given.Late.ToldReserves.{EndsAtRoot, WholeTold}
-use Rattle.papaya_passes.specs.Given.Late.ToldSweeps.{IsRowOfSweep, TellsSo, OnlyRemoves, SweepAfter, SweepTold}
-use Rattle.papaya_passes.proofs.Given.Late.Rooms.Reserves.Copies.{went_whole}
-use Rattle.papaya_passes.proofs.Given.Late.Rooms.Reserves.Moved.{CopierMoves}
-use Rattle.papaya_passes.proofs.Given.Late.Swept.Covers.Steps.{covers_by}
-use Rattle.papaya_passes.proofs.Given.Late.Swept.Sweeps.Copies.{whole_leads_in}
-use Rattle.papaya_passes.proofs.Given.Late.Swept.Sweeps.Moved.{SweepMoves, SweepTells}
-use Rattle.papaya_passes.proofs.Given.Late.Swept.Sweeps.Points.{went_sweep}
-use Rattle.papaya_passes.proofs.Given.Late.Swept.Sweeps.Told.{told_of}
-use Rattle.papaya_waits.proofs.Given.Maps.Reserves.Beside.{CopierLeads, copier_leads}
+use Rattle.papaya_waits.specs.Given.SeizeWordsMem.{Mem, Took, value_at}
+use Rattle.papaya_waits.specs.Given.SeizeWordsPlan.{Steps}
+use Rattle.papaya_waits.specs.Given.SeizeWorld.{World}
+use Rattle.papaya_passes.proofs.Given.SeizeRuleRows.Leaving.{steps_back}
+use Rattle.papaya_passes.specs.Given.TablesChunks.{is_incremental}
+use Rattle.papaya_passes.specs.Given.TablesDeclared.node.Node.{Node}
+use Rattle.papaya_passes.specs.Given.TablesDeclared.setting.Setting.{Setting}
+use Rattle.papaya_passes.specs.Given.TablesDeclared.table.Table.{Table}
+use Rattle.papaya_passes.specs.Given.ResizeCopier.{copier_plan}
+use Rattle.papaya_passes.specs.Given.ResizeDeclared.copier.Copier.{Copier}
+use Rattle.papaya_passes.specs.Given.ResizeDeclared.outcome.Outcome.{Outcome}
+use Rattle.papaya_passes.specs.Given.ResizeDeclared.outcome.Outcome.TheVariants as outcome
+use Rattle.papaya_passes.specs.Given.SweepsSweep.{copied, plan_at, sweep_plan}
+use Rattle.papaya_passes.specs.Given.SweepsSweepPoints.{entering, told}
+use Rattle.papaya_passes.specs.Given.SweepsDeclared.sweep.Sweep.{Sweep}
+use Rattle.papaya_passes.specs.Given.SweepsDeclared.sweep.Sweeping.{Sweeping}
+use Rattle.papaya_passes.specs.Given.SweepsDeclared.sweep.Sweeping.TheVariants as at
+use Rattle.papaya_passes.specs.Given.SweepsDeclared.sweep.Swept.{Swept}
+use Rattle.papaya_passes.specs.Given.SweepsDeclared.sweep.Swept.TheVariants as swept
+use Rattle.papaya_passes.specs.Given.RuleChart.{Chart}
+use Rattle.papaya_passes.specs.Given.RuleWords.{Blocks}
+use Rattle.papaya_passes.specs.Given.RuleMoves.{Removes}
+use Rattle.papaya_passes.specs.Given.RuleMoments.{Moments}
+use Rattle.papaya_passes.specs.Given.RuleInWorld.{IsMapIn, SparesPairs, Moved, SameBlocks, Went}
+use Rattle.papaya_passes.proofs.Given.RuleWorld.WentTold.{went_as}
+use Rattle.papaya_passes.specs.Given.PointsFactsCopies.{CopierFacts}
+use Rattle.papaya_passes.specs.Given.PointsFactsCopiesBlocking.{CopierFactsBlocking}
+use Rattle.papaya_passes.specs.Given.PointsMeasures.{OthersIdle}
+use Rattle.papaya_passes.specs.Given.PointsSteps.{AreLawful}
+use Rattle.papaya_passes.specs.Given.PointsTold.{IsRowOfCopier, CopierTold, CopierToldBlocking, MovedBeside}
+use Rattle.papaya_waits.proofs.Given.AloneLone.Beside.{beside_idle}
+use Rattle.papaya_passes.specs.Given.LateCoversSweeps.{CoversOn}
+use Rattle.papaya_passes.specs.Given.LateFactsReserves.{IsEnding, CopiesWhole}
+use Rattle.papaya_passes.specs.Given.LateFactsSweeps.{CopiesPairs, SweepFacts}
+use Rattle.papaya_passes.specs.Given.LateLeft.{ClaimsAreFew}
+use Rattle.papaya_passes.specs.Given.LateToldReserves.{EndsAtRoot, WholeTold}
+use Rattle.papaya_passes.specs.Given.LateToldSweeps.{IsRowOfSweep, TellsSo, OnlyRemoves, SweepAfter, SweepTold}
+use Rattle.papaya_passes.proofs.Given.LateRooms.Reserves.Copies.{went_whole}
+use Rattle.papaya_passes.proofs.Given.LateRooms.Reserves.Moved.{CopierMoves}
+use Rattle.papaya_passes.proofs.Given.LateSwept.Covers.Steps.{covers_by}
+use Rattle.papaya_passes.proofs.Given.LateSwept.Sweeps.Copies.{whole_leads_in}
+use Rattle.papaya_passes.proofs.Given.LateSwept.Sweeps.Moved.{SweepMoves, SweepTells}
+use Rattle.papaya_passes.proofs.Given.LateSwept.Sweeps.Points.{went_sweep}
+use Rattle.papaya_passes.proofs.Given.LateSwept.Sweeps.Told.{told_of}
+use Rattle.papaya_waits.proofs.Given.MapsReserves.Beside.{CopierLeads, copier_leads}
 use Rattle.papaya_waits.specs.Waits.{SweepAwaits}
 use Rattle.papaya_waits.proofs.Laws.{sweeps_wait_for_a_copying}
 use Rattle.papaya_whole.specs.LoneSweeps.{IsBefore, SweepsAlone, IsLoneSweep, OverRoot}

@@ -2,20 +2,20 @@
 use Rattle.std.specs.Prelude.{Option}
 use Rattle.std.proofs.Common.{◌≡◌, ℕ, zero, suc, ◌+◌, ◌<◌, ◌≤◌, ◌^◌, false, List, [], ◌∷◌, length, inl, inr, refl, arith, ap, sym, subst, ◌∙◌}
 use Rattle.std.proofs.lemmas.Bool.{cases_eq, cases_lt}
-use Rattle.seize_alone.specs.Given.Seize.declared.states.TheConstants.{LAST_SLOT}
-use Rattle.seize_alone.specs.Given.Seize.declared.rows.enter.Unregister.{Unregister}
-use Rattle.seize_alone.specs.Given.Seize.Law.{is_retired}
-use Rattle.seize_alone.specs.Given.Seize.WaitingSets.{Sets}
-use Rattle.seize_alone.specs.Given.Seize.World.{World, Use, Vacant, Outside, Changing, Frees, Unregister', IsOutside, with_row, with_use, at_start}
-use Rattle.seize_alone.proofs.Given.SeizeWaiting.Flushes.{much}
-use Rattle.seize_alone.proofs.Given.SeizeRule.World.Start.{start_good}
-use Rattle.seize_alone.proofs.Given.SeizeEnds.Batches.Rows.{HeldByRows, runs_held, start_held}
+use Rattle.seize_alone.specs.Given.SeizeDeclared.states.TheConstants.{LAST_SLOT}
+use Rattle.seize_alone.specs.Given.SeizeDeclared.rows.enter.Unregister.{Unregister}
+use Rattle.seize_alone.specs.Given.SeizeLaw.{is_retired}
+use Rattle.seize_alone.specs.Given.SeizeWaitingSets.{Sets}
+use Rattle.seize_alone.specs.Given.SeizeWorld.{World, Use, Vacant, Outside, Changing, Frees, Unregister', IsOutside, with_row, with_use, at_start}
+use Rattle.seize_alone.proofs.Given.SeizeWaitingFlushes.{much}
+use Rattle.seize_alone.proofs.Given.SeizeRuleWorld.Start.{start_good}
+use Rattle.seize_alone.proofs.Given.SeizeEndsBatches.Rows.{HeldByRows, runs_held, start_held}
 use Rattle.seize_alone.proofs.Histories.Reached.{runs_reached}
-use Rattle.seize_alone.proofs.Given.SeizeSets.Reclaims.Ends.{none_retired}
-use Rattle.seize_alone.proofs.Given.SeizeSets.Slots.Kept.{given_up_vacant}
-use Rattle.seize_alone.proofs.Given.SeizeSets.Turns.All.{calls_come}
-use Rattle.seize_alone.proofs.Given.SeizeSets.Turns.Begins.{Shown}
-use Rattle.seize_alone.proofs.Given.SeizeRule.Rows.Short.{tries_on}
+use Rattle.seize_alone.proofs.Given.SeizeSetsReclaims.Ends.{none_retired}
+use Rattle.seize_alone.proofs.Given.SeizeSetsSlots.Kept.{given_up_vacant}
+use Rattle.seize_alone.proofs.Given.SeizeSetsTurns.All.{calls_come}
+use Rattle.seize_alone.proofs.Given.SeizeSetsTurns.Begins.{Shown}
+use Rattle.seize_alone.proofs.Given.SeizeRuleRows.Short.{tries_on}
 use Rattle.seize_acts.specs.Reclaimed.{HasNothingLeft, EverythingCanBeReclaimed}
 use Rattle.seize_acts.proofs.Fine.{all_fine}
 use Rattle.seize_acts.proofs.Lost.{behind_others}

@@ -2,21 +2,21 @@
 use Rattle.std.specs.Prelude.{Option, Some}
 use Rattle.std.proofs.Common.{◌≡◌, ℕ, zero, suc, ◌+◌, ◌<◌, ◌≤◌, ◌^◌, Bool, true, false, cond, eqb, List, [], ◌∷◌, length, ◌⊎◌, inl, inr, refl, arith, ap, sym, subst, ◌∙◌}
 use Rattle.std.proofs.lemmas.Bool.{cases_eq, cases_lt}
-use Rattle.seize_alone.specs.Given.SeizeWords.declared.at.At.TheVariants as name
-use Rattle.seize_alone.specs.Given.SeizeWords.Mem.{word_at}
-use Rattle.seize_alone.specs.Given.Seize.declared.states.TheConstants.{BATCH, LAST_SLOT}
-use Rattle.seize_alone.specs.Given.Seize.Settle.{flushing}
-use Rattle.seize_alone.specs.Given.Seize.WaitingSets.{Sets, flushed}
-use Rattle.seize_alone.specs.Given.Seize.World.{World, Use, Vacant, Outside, Settles, Flush, IsTaken, with_row, with_use, one_more}
-use Rattle.seize_alone.specs.Given.SeizeWaiting.Held.{Once}
-use Rattle.seize_alone.proofs.Given.SeizeWaiting.Flushes.{much, flushed_falls, flushed_frame}
-use Rattle.seize_alone.proofs.Given.SeizeMoves.Sets.Counters.{once_shown}
-use Rattle.seize_alone.proofs.Given.SeizeRule.Words.Chains.{last_of}
-use Rattle.seize_alone.proofs.Given.SeizeRule.Words.Named.{word_found, link}
-use Rattle.seize_alone.proofs.Given.SeizeEnds.Batches.Rows.{HeldByRows, none_held}
-use Rattle.seize_alone.proofs.Given.SeizeSets.Slots.Kept.{flush_outside, flush_vacant}
-use Rattle.seize_alone.proofs.Given.SeizeSets.Turns.All.{calls_come}
-use Rattle.seize_alone.proofs.Given.SeizeSets.Turns.Begins.{Shown, rest}
+use Rattle.seize_alone.specs.Given.SeizeWordsDeclared.at.At.TheVariants as name
+use Rattle.seize_alone.specs.Given.SeizeWordsMem.{word_at}
+use Rattle.seize_alone.specs.Given.SeizeDeclared.states.TheConstants.{BATCH, LAST_SLOT}
+use Rattle.seize_alone.specs.Given.SeizeSettle.{flushing}
+use Rattle.seize_alone.specs.Given.SeizeWaitingSets.{Sets, flushed}
+use Rattle.seize_alone.specs.Given.SeizeWorld.{World, Use, Vacant, Outside, Settles, Flush, IsTaken, with_row, with_use, one_more}
+use Rattle.seize_alone.specs.Given.SeizeWaitingHeld.{Once}
+use Rattle.seize_alone.proofs.Given.SeizeWaitingFlushes.{much, flushed_falls, flushed_frame}
+use Rattle.seize_alone.proofs.Given.SeizeMovesSets.Counters.{once_shown}
+use Rattle.seize_alone.proofs.Given.SeizeRuleWords.Chains.{last_of}
+use Rattle.seize_alone.proofs.Given.SeizeRuleWords.Named.{word_found, link}
+use Rattle.seize_alone.proofs.Given.SeizeEndsBatches.Rows.{HeldByRows, none_held}
+use Rattle.seize_alone.proofs.Given.SeizeSetsSlots.Kept.{flush_outside, flush_vacant}
+use Rattle.seize_alone.proofs.Given.SeizeSetsTurns.All.{calls_come}
+use Rattle.seize_alone.proofs.Given.SeizeSetsTurns.Begins.{Shown, rest}
 use Rattle.seize_acts.proofs.Reclaimed.Whole.{Calm, Reaches, reaches_on, call_there, calls_calm, flushes_reach}
 
 -- a slot with an open batch that isn't empty, or none below k has one

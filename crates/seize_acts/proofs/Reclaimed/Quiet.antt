@@ -3,23 +3,23 @@ use Rattle.std.specs.Prelude.{Option, Some, None, IsSome, map, filter, ◌==◌,
 use Rattle.std.proofs.Common.{◌≡◌, ℕ, zero, suc, ◌+◌, ◌-◌, ◌<◌, ◌≤◌, Bool, true, false, cond, ltb, List, [], ◌∷◌, ◌++◌, length, inl, inr, refl, arith, ap, sym, ◌∙◌}
 use Rattle.std.proofs.lemmas.Bool.{cases_lt, cases_eq, eq-eqb}
 use Rattle.std.proofs.Math.ListN.{get_or-eq_default}
-use Rattle.seize_alone.specs.Given.SeizeWords.declared.block.Block.{Block}
-use Rattle.seize_alone.specs.Given.SeizeWords.Mem.{value_at, value_in}
-use Rattle.seize_alone.specs.Given.Seize.declared.states.TheConstants.{LAST_SLOT}
-use Rattle.seize_alone.specs.Given.Seize.WaitingSets.{Further, Sets, further_of}
-use Rattle.seize_alone.specs.Given.Seize.World.{World, Rests, IsOutside}
-use Rattle.seize_alone.specs.Given.SeizeWaiting.Held.{count}
-use Rattle.seize_alone.proofs.Given.SeizeWaiting.Counts.{none_counted}
-use Rattle.seize_alone.proofs.Given.SeizeMoves.State.Ghost.{State, Head, Never, Free, Idle, Active, list_of, is_active}
-use Rattle.seize_alone.proofs.Given.SeizeMoves.State.Rule.{Inv, Pending}
-use Rattle.seize_alone.proofs.Given.SeizeMoves.Sets.Quiescent.{IsQuiescent, none_shut}
-use Rattle.seize_alone.proofs.Given.SeizeMoves.Sets.Shown.{Models, batches_in, ascending_same, ascending_none}
-use Rattle.seize_alone.proofs.Given.SeizeRule.Words.Lists.{deferred_of}
-use Rattle.seize_alone.proofs.Given.SeizeRule.Words.There.{value_there}
-use Rattle.seize_alone.proofs.Given.SeizeRule.World.Bounded.{quiescent}
-use Rattle.seize_alone.proofs.Given.SeizeRule.World.Good.{Good}
-use Rattle.seize_alone.proofs.Given.SeizeRule.World.Rested.{Rested}
-use Rattle.seize_alone.proofs.Given.SeizeSets.Turns.Begins.{Shown}
+use Rattle.seize_alone.specs.Given.SeizeWordsDeclared.block.Block.{Block}
+use Rattle.seize_alone.specs.Given.SeizeWordsMem.{value_at, value_in}
+use Rattle.seize_alone.specs.Given.SeizeDeclared.states.TheConstants.{LAST_SLOT}
+use Rattle.seize_alone.specs.Given.SeizeWaitingSets.{Further, Sets, further_of}
+use Rattle.seize_alone.specs.Given.SeizeWorld.{World, Rests, IsOutside}
+use Rattle.seize_alone.specs.Given.SeizeWaitingHeld.{count}
+use Rattle.seize_alone.proofs.Given.SeizeWaitingCounts.{none_counted}
+use Rattle.seize_alone.proofs.Given.SeizeMovesState.Ghost.{State, Head, Never, Free, Idle, Active, list_of, is_active}
+use Rattle.seize_alone.proofs.Given.SeizeMovesState.Rule.{Inv, Pending}
+use Rattle.seize_alone.proofs.Given.SeizeMovesSets.Quiescent.{IsQuiescent, none_shut}
+use Rattle.seize_alone.proofs.Given.SeizeMovesSets.Shown.{Models, batches_in, ascending_same, ascending_none}
+use Rattle.seize_alone.proofs.Given.SeizeRuleWords.Lists.{deferred_of}
+use Rattle.seize_alone.proofs.Given.SeizeRuleWords.There.{value_there}
+use Rattle.seize_alone.proofs.Given.SeizeRuleWorld.Bounded.{quiescent}
+use Rattle.seize_alone.proofs.Given.SeizeRuleWorld.Good.{Good}
+use Rattle.seize_alone.proofs.Given.SeizeRuleWorld.Rested.{Rested}
+use Rattle.seize_alone.proofs.Given.SeizeSetsTurns.Begins.{Shown}
 use Rattle.seize_acts.proofs.Lost.{carries, living}
 
 -- further values, of one block and of all blocks below a number

@@ -2,18 +2,18 @@
 use Rattle.std.specs.Prelude.{Option, Some, None, IsSome, if◌then◌else◌}
 use Rattle.std.proofs.Common.{◌≡◌, ℕ, zero, suc, ◌+◌, ◌<◌, ◌≤◌, Bool, true, false, inl, inr, refl, arith, ap, sym, subst, ◌∙◌}
 use Rattle.std.proofs.lemmas.Bool.{cases_eq}
-use Rattle.seize_alone.specs.Given.SeizeWords.declared.at.At.TheVariants as name
-use Rattle.seize_alone.specs.Given.SeizeWords.Mem.{Mem, word_at}
-use Rattle.seize_alone.proofs.Given.SeizeWords.OneOwner.AfterWrites.{word_at-with_word}
-use Rattle.seize_alone.specs.Given.Seize.declared.states.TheConstants.{HEAD, FREE, IDLE, LAST_SLOT}
-use Rattle.seize_alone.specs.Given.Seize.Leave.{leaving as leaving_slot}
-use Rattle.seize_alone.specs.Given.Seize.World.{World, Use, Vacant, Outside, Inside, Changing, Leaves, Register', Leave', with_row, with_use}
-use Rattle.seize_alone.proofs.Given.SeizeMoves.State.Ghost.{is_never}
-use Rattle.seize_alone.proofs.Given.SeizeRule.Words.Named.{same_at-refl, words_of, word_found}
-use Rattle.seize_alone.proofs.Given.SeizeRule.Words.View.{view}
-use Rattle.seize_alone.proofs.Given.SeizeSets.Slots.Kept.{leave_idles}
-use Rattle.seize_alone.proofs.Given.SeizeSets.Slots.Retaken.{retaken, retaken_idle}
-use Rattle.seize_alone.proofs.Given.SeizeSets.Turns.Heads.{WordOf, head_word, word_says, vacant_by, outside_by, zero_never}
+use Rattle.seize_alone.specs.Given.SeizeWordsDeclared.at.At.TheVariants as name
+use Rattle.seize_alone.specs.Given.SeizeWordsMem.{Mem, word_at}
+use Rattle.seize_alone.proofs.Given.SeizeWordsOneOwner.AfterWrites.{word_at-with_word}
+use Rattle.seize_alone.specs.Given.SeizeDeclared.states.TheConstants.{HEAD, FREE, IDLE, LAST_SLOT}
+use Rattle.seize_alone.specs.Given.SeizeLeave.{leaving as leaving_slot}
+use Rattle.seize_alone.specs.Given.SeizeWorld.{World, Use, Vacant, Outside, Inside, Changing, Leaves, Register', Leave', with_row, with_use}
+use Rattle.seize_alone.proofs.Given.SeizeMovesState.Ghost.{is_never}
+use Rattle.seize_alone.proofs.Given.SeizeRuleWords.Named.{same_at-refl, words_of, word_found}
+use Rattle.seize_alone.proofs.Given.SeizeRuleWords.View.{view}
+use Rattle.seize_alone.proofs.Given.SeizeSetsSlots.Kept.{leave_idles}
+use Rattle.seize_alone.proofs.Given.SeizeSetsSlots.Retaken.{retaken, retaken_idle}
+use Rattle.seize_alone.proofs.Given.SeizeSetsTurns.Heads.{WordOf, head_word, word_says, vacant_by, outside_by, zero_never}
 use Rattle.seize_acts.proofs.Slots.{head_none}
 use Rattle.seize_acts.proofs.Reclaimed.Whole.{Calm, Reaches, stays, reaches_on, call_there, calls_calm, registers_reach, leaves_reach}
 

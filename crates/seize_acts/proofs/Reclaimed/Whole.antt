@@ -1,25 +1,25 @@
 -- A row that may begin while all others rest can come to its end, and that whole call is a list of its caller's acts.
 use Rattle.std.specs.Prelude.{Option, Some, None, if◌then◌else◌, ◌==◌, ◌++◌}
 use Rattle.std.proofs.Common.{◌≡◌, ℕ, zero, suc, ◌+◌, ◌≤◌, Bool, true, false, List, [], ◌∷◌, refl, arith, ap, sym, subst, ◌∙◌}
-use Rattle.seize_alone.specs.Given.SeizeWords.Mem.{Mem}
-use Rattle.seize_alone.specs.Given.SeizeWords.Plan.{Plan, Turn, Do}
-use Rattle.seize_alone.specs.Given.Seize.declared.states.TheConstants.{LAST_SLOT, IDLE}
-use Rattle.seize_alone.specs.Given.Seize.declared.rows.register.Register.{Register}
-use Rattle.seize_alone.specs.Given.Seize.declared.rows.register.Registering.TheVariants as registering
-use Rattle.seize_alone.specs.Given.Seize.declared.rows.enter.Unregister.{Unregister}
-use Rattle.seize_alone.specs.Given.Seize.Settle.{settle_plan, flushing}
-use Rattle.seize_alone.specs.Given.Seize.Leave.{leave_plan, leaving as leaving_slot}
-use Rattle.seize_alone.specs.Given.Seize.Defer.{defer_plan}
-use Rattle.seize_alone.specs.Given.Seize.Register.{register_plan}
-use Rattle.seize_alone.specs.Given.Seize.Enter.{enter_plan, unregister_plan}
-use Rattle.seize_alone.specs.Given.Seize.Law.{Entered}
-use Rattle.seize_alone.specs.Given.Seize.World as world
-use Rattle.seize_alone.specs.Given.Seize.World.{World, Row, Rests, Registers, Enters, Settles, Leaves, Defers, Frees, Use, Vacant, Outside, Inside, Changing, Request, Register', Leave', Flush, Unregister', Steps', Begins, IsTaken, registers_on, settles_on, leaves_on, defers_on, with_row, with_use, one_more}
-use Rattle.seize_alone.specs.Given.Seize.Sequence.{RunsOn, Calls, Whole, changes}
-use Rattle.seize_alone.proofs.Given.SeizeRule.Rows.Others.{with_here}
-use Rattle.seize_alone.proofs.Given.SeizeRule.World.Kept.{row_may}
-use Rattle.seize_alone.proofs.Given.SeizeRule.World.Rested.{Rested, Lone, begins_lone, steps_lone, calls_rested}
-use Rattle.seize_alone.proofs.Given.SeizeEnds.Batches.Rows.{HeldByRows, happens_held, turns_held}
+use Rattle.seize_alone.specs.Given.SeizeWordsMem.{Mem}
+use Rattle.seize_alone.specs.Given.SeizeWordsPlan.{Plan, Turn, Do}
+use Rattle.seize_alone.specs.Given.SeizeDeclared.states.TheConstants.{LAST_SLOT, IDLE}
+use Rattle.seize_alone.specs.Given.SeizeDeclared.rows.register.Register.{Register}
+use Rattle.seize_alone.specs.Given.SeizeDeclared.rows.register.Registering.TheVariants as registering
+use Rattle.seize_alone.specs.Given.SeizeDeclared.rows.enter.Unregister.{Unregister}
+use Rattle.seize_alone.specs.Given.SeizeSettle.{settle_plan, flushing}
+use Rattle.seize_alone.specs.Given.SeizeLeave.{leave_plan, leaving as leaving_slot}
+use Rattle.seize_alone.specs.Given.SeizeDefer.{defer_plan}
+use Rattle.seize_alone.specs.Given.SeizeRegister.{register_plan}
+use Rattle.seize_alone.specs.Given.SeizeEnter.{enter_plan, unregister_plan}
+use Rattle.seize_alone.specs.Given.SeizeLaw.{Entered}
+use Rattle.seize_alone.specs.Given.SeizeWorld as world
+use Rattle.seize_alone.specs.Given.SeizeWorld.{World, Row, Rests, Registers, Enters, Settles, Leaves, Defers, Frees, Use, Vacant, Outside, Inside, Changing, Request, Register', Leave', Flush, Unregister', Steps', Begins, IsTaken, registers_on, settles_on, leaves_on, defers_on, with_row, with_use, one_more}
+use Rattle.seize_alone.specs.Given.SeizeSequence.{RunsOn, Calls, Whole, changes}
+use Rattle.seize_alone.proofs.Given.SeizeRuleRows.Others.{with_here}
+use Rattle.seize_alone.proofs.Given.SeizeRuleWorld.Kept.{row_may}
+use Rattle.seize_alone.proofs.Given.SeizeRuleWorld.Rested.{Rested, Lone, begins_lone, steps_lone, calls_rested}
+use Rattle.seize_alone.proofs.Given.SeizeEndsBatches.Rows.{HeldByRows, happens_held, turns_held}
 use Rattle.seize_acts.specs.Answers.{Grant, then_on, stepped, is_turn}
 use Rattle.seize_acts.specs.Acts.{Act, Begin, Step, AllDid, begun, rests, is_inside, is_outside, is_taken, row_steps, turns, turned, steps}
 use Rattle.seize_acts.specs.Reclaimed.{is_reclaiming, AllReclaim}

@@ -1,30 +1,30 @@
 -- A row is refused as having no memory where its operation was answered so, and there is one other fault.
 use Rattle.std.specs.Prelude.{Option, Some, None, Ok, Err, nat_lt, if◌then◌else◌}
 use Rattle.std.proofs.Common.{◌≡◌, ℕ, ◌+◌, Bool, true, false, length, ◌⊎◌, inl, inr, refl, ap, sym, subst, ◌∙◌}
-use Rattle.seize_alone.specs.Given.SeizeWords.declared.fault.Fault.{Fault}
-use Rattle.seize_alone.specs.Given.SeizeWords.declared.fault.Fault.TheVariants.{SlotsUsedUp, Memory}
-use Rattle.seize_alone.specs.Given.SeizeWords.Mem.{Mem, Gives, after, value_at}
-use Rattle.seize_alone.specs.Given.SeizeWords.Op.{Op, Out, Room, Found, Exchanged, Roomed}
-use Rattle.seize_alone.specs.Given.SeizeWords.Place.{capacity}
-use Rattle.seize_alone.specs.Given.SeizeWords.Plan.{Then, Do, Ends}
-use Rattle.seize_alone.specs.Given.Seize.declared.states.TheConstants.{LAST_SLOT}
-use Rattle.seize_alone.specs.Given.Seize.declared.progress.Progress.{Progress}
-use Rattle.seize_alone.specs.Given.Seize.declared.progress.Progress.TheVariants.{Goes, Refused}
-use Rattle.seize_alone.specs.Given.Seize.declared.rows.register.Register.{Register}
-use Rattle.seize_alone.specs.Given.Seize.declared.rows.register.Registering.{Registering}
-use Rattle.seize_alone.specs.Given.Seize.declared.rows.register.Registering.TheVariants as at
-use Rattle.seize_alone.specs.Given.Seize.declared.rows.defer.Defer.{Defer}
-use Rattle.seize_alone.specs.Given.Seize.declared.rows.defer.Deferring.{Deferring}
-use Rattle.seize_alone.specs.Given.Seize.declared.rows.defer.Deferring.TheVariants as deferring
-use Rattle.seize_alone.specs.Given.Seize.Register.{begun, looked, widened, taken, further, taking, going, refused, registered, can_be_taken, bucket_needed, plan_at}
-use Rattle.seize_alone.specs.Given.Seize.Defer as defer
-use Rattle.seize_alone.specs.Given.Seize.Enter.{enter_plan, unregister_plan}
-use Rattle.seize_alone.specs.Given.Seize.World.{Row, Rests, Registers, Enters, Settles, Leaves, Defers, Frees}
-use Rattle.seize_alone.proofs.Given.SeizeMoves.State.Ghost.{State}
-use Rattle.seize_alone.proofs.Given.SeizeRule.Words.View.{View}
-use Rattle.seize_alone.proofs.Given.SeizeRule.Words.Shows.{Extra}
-use Rattle.seize_alone.proofs.Given.SeizeRule.Rows.Known.{FitsRegister, FitsRow}
-use Rattle.seize_alone.proofs.Given.SeizeEnds.Batches.Free.{Outcomes, PlanOutcomes, plan_outcome}
+use Rattle.seize_alone.specs.Given.SeizeWordsDeclared.fault.Fault.{Fault}
+use Rattle.seize_alone.specs.Given.SeizeWordsDeclared.fault.Fault.TheVariants.{SlotsUsedUp, Memory}
+use Rattle.seize_alone.specs.Given.SeizeWordsMem.{Mem, Gives, after, value_at}
+use Rattle.seize_alone.specs.Given.SeizeWordsOp.{Op, Out, Room, Found, Exchanged, Roomed}
+use Rattle.seize_alone.specs.Given.SeizeWordsPlace.{capacity}
+use Rattle.seize_alone.specs.Given.SeizeWordsPlan.{Then, Do, Ends}
+use Rattle.seize_alone.specs.Given.SeizeDeclared.states.TheConstants.{LAST_SLOT}
+use Rattle.seize_alone.specs.Given.SeizeDeclared.progress.Progress.{Progress}
+use Rattle.seize_alone.specs.Given.SeizeDeclared.progress.Progress.TheVariants.{Goes, Refused}
+use Rattle.seize_alone.specs.Given.SeizeDeclared.rows.register.Register.{Register}
+use Rattle.seize_alone.specs.Given.SeizeDeclared.rows.register.Registering.{Registering}
+use Rattle.seize_alone.specs.Given.SeizeDeclared.rows.register.Registering.TheVariants as at
+use Rattle.seize_alone.specs.Given.SeizeDeclared.rows.defer.Defer.{Defer}
+use Rattle.seize_alone.specs.Given.SeizeDeclared.rows.defer.Deferring.{Deferring}
+use Rattle.seize_alone.specs.Given.SeizeDeclared.rows.defer.Deferring.TheVariants as deferring
+use Rattle.seize_alone.specs.Given.SeizeRegister.{begun, looked, widened, taken, further, taking, going, refused, registered, can_be_taken, bucket_needed, plan_at}
+use Rattle.seize_alone.specs.Given.SeizeDefer as defer
+use Rattle.seize_alone.specs.Given.SeizeEnter.{enter_plan, unregister_plan}
+use Rattle.seize_alone.specs.Given.SeizeWorld.{Row, Rests, Registers, Enters, Settles, Leaves, Defers, Frees}
+use Rattle.seize_alone.proofs.Given.SeizeMovesState.Ghost.{State}
+use Rattle.seize_alone.proofs.Given.SeizeRuleWords.View.{View}
+use Rattle.seize_alone.proofs.Given.SeizeRuleWords.Shows.{Extra}
+use Rattle.seize_alone.proofs.Given.SeizeRuleRows.Known.{FitsRegister, FitsRow}
+use Rattle.seize_alone.proofs.Given.SeizeEndsBatches.Free.{Outcomes, PlanOutcomes, plan_outcome}
 use Rattle.seize_acts.specs.Answers.{Grant, then_on, answer, ends, stepped}
 use Rattle.seize_acts.specs.Acts.{row_answered}
 use Rattle.seize_acts.specs.Refused.{IsRegistering, Refuses}

@@ -1,55 +1,55 @@
 -- A slot that can be taken stays as it is with each step of a row, or is taken by it.
 use Rattle.std.specs.Prelude.{Option, IsSome, Ok, ◌&&◌, not}
 use Rattle.std.proofs.Common.{◌≡◌, ℕ, ◌+◌, ◌<◌, Bool, true, false, eqb, eqb-true, length, ◌⊎◌, inl, inr, refl, arith, ap, sym, subst, ◌∙◌}
-use Rattle.seize_alone.specs.Given.SeizeWords.declared.at.At.TheVariants.{Slot}
-use Rattle.seize_alone.specs.Given.SeizeWords.Mem.{Mem, Can, Took, after, value_at, word_at, with_word}
-use Rattle.seize_alone.specs.Given.SeizeWords.Op.{Out, Room, Roomed}
-use Rattle.seize_alone.specs.Given.SeizeWords.Plan.{Plan, Steps, May, Now}
-use Rattle.seize_alone.proofs.Given.SeizeWords.OneOwner.Operations.{stored, swapped, exchanged}
-use Rattle.seize_alone.specs.Given.Seize.declared.states.TheConstants.{HEAD, FREE, IDLE, ACTIVE, LAST_SLOT}
-use Rattle.seize_alone.specs.Given.Seize.declared.progress.Progress.{Progress}
-use Rattle.seize_alone.specs.Given.Seize.declared.progress.Progress.TheVariants.{Done}
-use Rattle.seize_alone.specs.Given.Seize.declared.rows.settle.Settle.{Settle}
-use Rattle.seize_alone.specs.Given.Seize.declared.rows.settle.Settling.{Settling}
-use Rattle.seize_alone.specs.Given.Seize.declared.rows.settle.Settling.TheVariants as settling
-use Rattle.seize_alone.specs.Given.Seize.declared.rows.settle.Settled.{Settled}
-use Rattle.seize_alone.specs.Given.Seize.declared.rows.settle.Settled.TheVariants as settled
-use Rattle.seize_alone.specs.Given.Seize.declared.rows.leave.Leave.{Leave}
-use Rattle.seize_alone.specs.Given.Seize.declared.rows.leave.Leaving.{Leaving}
-use Rattle.seize_alone.specs.Given.Seize.declared.rows.leave.Leaving.TheVariants as leaving
-use Rattle.seize_alone.specs.Given.Seize.declared.rows.register.Register.{Register}
-use Rattle.seize_alone.specs.Given.Seize.declared.rows.register.Registering.{Registering}
-use Rattle.seize_alone.specs.Given.Seize.declared.rows.register.Registering.TheVariants as registering
-use Rattle.seize_alone.specs.Given.Seize.declared.rows.enter.Enter.{Enter}
-use Rattle.seize_alone.specs.Given.Seize.declared.rows.enter.Unregister.{Unregister}
-use Rattle.seize_alone.specs.Given.Seize.declared.rows.defer.Defer.{Defer}
-use Rattle.seize_alone.specs.Given.Seize.declared.rows.defer.Deferring.{Deferring}
-use Rattle.seize_alone.specs.Given.Seize.declared.rows.defer.Deferring.TheVariants as deferring
-use Rattle.seize_alone.specs.Given.Seize.Settle as settles
-use Rattle.seize_alone.specs.Given.Seize.Settle.{settle_plan}
-use Rattle.seize_alone.specs.Given.Seize.Leave as leaves
-use Rattle.seize_alone.specs.Given.Seize.Leave.{list_taken, standing}
-use Rattle.seize_alone.specs.Given.Seize.Register as registers
-use Rattle.seize_alone.specs.Given.Seize.Register.{can_be_taken}
-use Rattle.seize_alone.specs.Given.Seize.Defer as defer
-use Rattle.seize_alone.specs.Given.Seize.World.{World, Row, Rests, Registers, Enters, Settles, Leaves, Defers, Frees, Steps'}
-use Rattle.seize_alone.proofs.Given.SeizeMoves.State.Ghost.{Head, Idle}
-use Rattle.seize_alone.proofs.Given.SeizeRule.Words.Named.{words_of, wrote, word_found, write_here, write_apart}
-use Rattle.seize_alone.proofs.Given.SeizeRule.Words.View.{View, view}
-use Rattle.seize_alone.proofs.Given.SeizeRule.Words.Shows.{HeadIs}
-use Rattle.seize_alone.proofs.Given.SeizeRule.Words.Kept.{IsQuietPlan, settle_quiet}
-use Rattle.seize_alone.proofs.Given.SeizeRule.Points.Known.{FitsAt, Fits, bare}
-use Rattle.seize_alone.proofs.Given.SeizeRule.Points.May.{may_at}
-use Rattle.seize_alone.proofs.Given.SeizeRule.Rows.Known.{OnSlot, FitsRow, FitsLeave, FitsDefer, word_of}
-use Rattle.seize_alone.proofs.Given.SeizeRule.Rows.Leave.{leaves_may}
-use Rattle.seize_alone.proofs.Given.SeizeRule.Rows.Leaving.{steps_back}
-use Rattle.seize_alone.proofs.Given.SeizeRule.Rows.Register.{room_view, registers_may}
-use Rattle.seize_alone.proofs.Given.SeizeRule.Rows.Slots.{idle_head, enters_may, frees_may}
-use Rattle.seize_alone.proofs.Given.SeizeRule.Rows.Deferring.{defers_may}
-use Rattle.seize_alone.proofs.Given.SeizeRule.World.Good.{Good}
-use Rattle.seize_alone.proofs.Given.SeizeRule.World.Start.{words_good}
-use Rattle.seize_alone.proofs.Given.SeizeEnds.Batches.Free.{is_field, spares_plan, plan_same}
-use Rattle.seize_alone.proofs.Given.SeizeEnds.Batches.Rows.{registers_memory, settles_memory, defers_memory}
+use Rattle.seize_alone.specs.Given.SeizeWordsDeclared.at.At.TheVariants.{Slot}
+use Rattle.seize_alone.specs.Given.SeizeWordsMem.{Mem, Can, Took, after, value_at, word_at, with_word}
+use Rattle.seize_alone.specs.Given.SeizeWordsOp.{Out, Room, Roomed}
+use Rattle.seize_alone.specs.Given.SeizeWordsPlan.{Plan, Steps, May, Now}
+use Rattle.seize_alone.proofs.Given.SeizeWordsOneOwner.Operations.{stored, swapped, exchanged}
+use Rattle.seize_alone.specs.Given.SeizeDeclared.states.TheConstants.{HEAD, FREE, IDLE, ACTIVE, LAST_SLOT}
+use Rattle.seize_alone.specs.Given.SeizeDeclared.progress.Progress.{Progress}
+use Rattle.seize_alone.specs.Given.SeizeDeclared.progress.Progress.TheVariants.{Done}
+use Rattle.seize_alone.specs.Given.SeizeDeclared.rows.settle.Settle.{Settle}
+use Rattle.seize_alone.specs.Given.SeizeDeclared.rows.settle.Settling.{Settling}
+use Rattle.seize_alone.specs.Given.SeizeDeclared.rows.settle.Settling.TheVariants as settling
+use Rattle.seize_alone.specs.Given.SeizeDeclared.rows.settle.Settled.{Settled}
+use Rattle.seize_alone.specs.Given.SeizeDeclared.rows.settle.Settled.TheVariants as settled
+use Rattle.seize_alone.specs.Given.SeizeDeclared.rows.leave.Leave.{Leave}
+use Rattle.seize_alone.specs.Given.SeizeDeclared.rows.leave.Leaving.{Leaving}
+use Rattle.seize_alone.specs.Given.SeizeDeclared.rows.leave.Leaving.TheVariants as leaving
+use Rattle.seize_alone.specs.Given.SeizeDeclared.rows.register.Register.{Register}
+use Rattle.seize_alone.specs.Given.SeizeDeclared.rows.register.Registering.{Registering}
+use Rattle.seize_alone.specs.Given.SeizeDeclared.rows.register.Registering.TheVariants as registering
+use Rattle.seize_alone.specs.Given.SeizeDeclared.rows.enter.Enter.{Enter}
+use Rattle.seize_alone.specs.Given.SeizeDeclared.rows.enter.Unregister.{Unregister}
+use Rattle.seize_alone.specs.Given.SeizeDeclared.rows.defer.Defer.{Defer}
+use Rattle.seize_alone.specs.Given.SeizeDeclared.rows.defer.Deferring.{Deferring}
+use Rattle.seize_alone.specs.Given.SeizeDeclared.rows.defer.Deferring.TheVariants as deferring
+use Rattle.seize_alone.specs.Given.SeizeSettle as settles
+use Rattle.seize_alone.specs.Given.SeizeSettle.{settle_plan}
+use Rattle.seize_alone.specs.Given.SeizeLeave as leaves
+use Rattle.seize_alone.specs.Given.SeizeLeave.{list_taken, standing}
+use Rattle.seize_alone.specs.Given.SeizeRegister as registers
+use Rattle.seize_alone.specs.Given.SeizeRegister.{can_be_taken}
+use Rattle.seize_alone.specs.Given.SeizeDefer as defer
+use Rattle.seize_alone.specs.Given.SeizeWorld.{World, Row, Rests, Registers, Enters, Settles, Leaves, Defers, Frees, Steps'}
+use Rattle.seize_alone.proofs.Given.SeizeMovesState.Ghost.{Head, Idle}
+use Rattle.seize_alone.proofs.Given.SeizeRuleWords.Named.{words_of, wrote, word_found, write_here, write_apart}
+use Rattle.seize_alone.proofs.Given.SeizeRuleWords.View.{View, view}
+use Rattle.seize_alone.proofs.Given.SeizeRuleWords.Shows.{HeadIs}
+use Rattle.seize_alone.proofs.Given.SeizeRuleWords.Kept.{IsQuietPlan, settle_quiet}
+use Rattle.seize_alone.proofs.Given.SeizeRulePoints.Known.{FitsAt, Fits, bare}
+use Rattle.seize_alone.proofs.Given.SeizeRulePoints.May.{may_at}
+use Rattle.seize_alone.proofs.Given.SeizeRuleRows.Known.{OnSlot, FitsRow, FitsLeave, FitsDefer, word_of}
+use Rattle.seize_alone.proofs.Given.SeizeRuleRows.Leave.{leaves_may}
+use Rattle.seize_alone.proofs.Given.SeizeRuleRows.Leaving.{steps_back}
+use Rattle.seize_alone.proofs.Given.SeizeRuleRows.Register.{room_view, registers_may}
+use Rattle.seize_alone.proofs.Given.SeizeRuleRows.Slots.{idle_head, enters_may, frees_may}
+use Rattle.seize_alone.proofs.Given.SeizeRuleRows.Deferring.{defers_may}
+use Rattle.seize_alone.proofs.Given.SeizeRuleWorld.Good.{Good}
+use Rattle.seize_alone.proofs.Given.SeizeRuleWorld.Start.{words_good}
+use Rattle.seize_alone.proofs.Given.SeizeEndsBatches.Free.{is_field, spares_plan, plan_same}
+use Rattle.seize_alone.proofs.Given.SeizeEndsBatches.Rows.{registers_memory, settles_memory, defers_memory}
 
 module _ {T : Type 0} where
   -- each slot that can be taken is as it was, or it is taken

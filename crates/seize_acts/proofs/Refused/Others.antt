@@ -1,21 +1,21 @@
 -- What the acts of others leave: a slot that can be taken stays as it is, or is taken, and a caller's row is the same.
 use Rattle.std.specs.Prelude.{Option, Some, None, Ok, if◌then◌else◌, ◌||◌, ◌^◌, ◌%◌, bit_or}
 use Rattle.std.proofs.Common.{◌≡◌, ℕ, zero, suc, ◌+◌, Bool, true, false, List, refl, ap, subst, ◌∙◌}
-use Rattle.seize_alone.specs.Given.SeizeWords.declared.at.At.{At}
-use Rattle.seize_alone.specs.Given.SeizeWords.declared.at.At.TheVariants as name
-use Rattle.seize_alone.specs.Given.SeizeWords.Mem.{Mem, with_word}
-use Rattle.seize_alone.specs.Given.SeizeWords.Op.{Op, Out, Load, Store, Swap, Add, Or, Exchange, Make, Take, Rewrite, Room, Found, Exchanged, Made}
-use Rattle.seize_alone.specs.Given.Seize.declared.states.TheConstants.{HEAD}
-use Rattle.seize_alone.specs.Given.Seize.Settle.{settle_plan}
-use Rattle.seize_alone.specs.Given.Seize.Leave.{leave_plan}
-use Rattle.seize_alone.specs.Given.Seize.Defer.{defer_plan}
-use Rattle.seize_alone.specs.Given.Seize.Register.{register_plan}
-use Rattle.seize_alone.specs.Given.Seize.Enter.{enter_plan, unregister_plan}
-use Rattle.seize_alone.specs.Given.Seize.World.{World, Row, Rests, Registers, Enters, Settles, Leaves, Defers, Frees, Steps'}
-use Rattle.seize_alone.specs.Given.SeizeWords.SlotWords.{slot_word}
-use Rattle.seize_alone.proofs.Given.SeizeRule.Words.Named.{or_zero}
-use Rattle.seize_alone.proofs.Given.SeizeRule.Rows.Others.{steps_others}
-use Rattle.seize_alone.proofs.Given.SeizeEnds.Batches.Rows.{registers_memory, settles_memory, defers_memory}
+use Rattle.seize_alone.specs.Given.SeizeWordsDeclared.at.At.{At}
+use Rattle.seize_alone.specs.Given.SeizeWordsDeclared.at.At.TheVariants as name
+use Rattle.seize_alone.specs.Given.SeizeWordsMem.{Mem, with_word}
+use Rattle.seize_alone.specs.Given.SeizeWordsOp.{Op, Out, Load, Store, Swap, Add, Or, Exchange, Make, Take, Rewrite, Room, Found, Exchanged, Made}
+use Rattle.seize_alone.specs.Given.SeizeDeclared.states.TheConstants.{HEAD}
+use Rattle.seize_alone.specs.Given.SeizeSettle.{settle_plan}
+use Rattle.seize_alone.specs.Given.SeizeLeave.{leave_plan}
+use Rattle.seize_alone.specs.Given.SeizeDefer.{defer_plan}
+use Rattle.seize_alone.specs.Given.SeizeRegister.{register_plan}
+use Rattle.seize_alone.specs.Given.SeizeEnter.{enter_plan, unregister_plan}
+use Rattle.seize_alone.specs.Given.SeizeWorld.{World, Row, Rests, Registers, Enters, Settles, Leaves, Defers, Frees, Steps'}
+use Rattle.seize_alone.specs.Given.SeizeWordsSlotWords.{slot_word}
+use Rattle.seize_alone.proofs.Given.SeizeRuleWords.Named.{or_zero}
+use Rattle.seize_alone.proofs.Given.SeizeRuleRows.Others.{steps_others}
+use Rattle.seize_alone.proofs.Given.SeizeEndsBatches.Rows.{registers_memory, settles_memory, defers_memory}
 use Rattle.seize_alone.proofs.Histories.Reached.{Reached}
 use Rattle.seize_acts.specs.Answers.{Grant, then_on, answer}
 use Rattle.seize_acts.specs.Acts.{Operate, Change, became, row_steps, turns, turned, steps, may_operate, operated, changed, is_own, is_left_link}

@@ -2,21 +2,21 @@
 use Rattle.std.specs.Prelude.{Option, Some, None, nat_lt, if◌then◌else◌}
 use Rattle.std.proofs.Common.{◌≡◌, ℕ, ◌+◌, ◌<◌, ◌≤◌, Bool, true, false, ◌⊎◌, inl, inr, refl, arith, ap, sym, subst, ◌∙◌}
 use Rattle.std.proofs.lemmas.Bool.{cases_lt}
-use Rattle.seize_alone.specs.Given.SeizeWords.declared.at.At.TheVariants.{Slot}
-use Rattle.seize_alone.specs.Given.SeizeWords.declared.fault.Fault.TheVariants.{SlotsUsedUp, Memory}
-use Rattle.seize_alone.specs.Given.SeizeWords.Mem.{Mem, Took, value_at, word_at, with_room}
-use Rattle.seize_alone.specs.Given.SeizeWords.Plan.{Steps, Now}
-use Rattle.seize_alone.proofs.Given.SeizeWords.OneOwner.Operations.{loaded, stored, exchanged, roomed}
-use Rattle.seize_alone.specs.Given.Seize.declared.states.TheConstants.{HEAD, IDLE, ACTIVE, LAST_SLOT}
-use Rattle.seize_alone.specs.Given.Seize.declared.progress.Progress.{Progress}
-use Rattle.seize_alone.specs.Given.Seize.declared.progress.Progress.TheVariants.{Goes, Waits, Done, Refused}
-use Rattle.seize_alone.specs.Given.Seize.declared.rows.register.Register.{Register}
-use Rattle.seize_alone.specs.Given.Seize.declared.rows.register.Registering.{Registering}
-use Rattle.seize_alone.specs.Given.Seize.declared.rows.register.Registering.TheVariants as at
-use Rattle.seize_alone.specs.Given.Seize.Register.{begun, looked, widened, taken, further, taking, going, refused, registered, can_be_taken, bucket_needed, plan_at}
-use Rattle.seize_alone.proofs.Given.SeizeRule.Words.Named.{words_of, word_found}
-use Rattle.seize_alone.proofs.Given.SeizeRule.Words.View.{View}
-use Rattle.seize_alone.proofs.Given.SeizeRule.Rows.Register.{room_view}
+use Rattle.seize_alone.specs.Given.SeizeWordsDeclared.at.At.TheVariants.{Slot}
+use Rattle.seize_alone.specs.Given.SeizeWordsDeclared.fault.Fault.TheVariants.{SlotsUsedUp, Memory}
+use Rattle.seize_alone.specs.Given.SeizeWordsMem.{Mem, Took, value_at, word_at, with_room}
+use Rattle.seize_alone.specs.Given.SeizeWordsPlan.{Steps, Now}
+use Rattle.seize_alone.proofs.Given.SeizeWordsOneOwner.Operations.{loaded, stored, exchanged, roomed}
+use Rattle.seize_alone.specs.Given.SeizeDeclared.states.TheConstants.{HEAD, IDLE, ACTIVE, LAST_SLOT}
+use Rattle.seize_alone.specs.Given.SeizeDeclared.progress.Progress.{Progress}
+use Rattle.seize_alone.specs.Given.SeizeDeclared.progress.Progress.TheVariants.{Goes, Waits, Done, Refused}
+use Rattle.seize_alone.specs.Given.SeizeDeclared.rows.register.Register.{Register}
+use Rattle.seize_alone.specs.Given.SeizeDeclared.rows.register.Registering.{Registering}
+use Rattle.seize_alone.specs.Given.SeizeDeclared.rows.register.Registering.TheVariants as at
+use Rattle.seize_alone.specs.Given.SeizeRegister.{begun, looked, widened, taken, further, taking, going, refused, registered, can_be_taken, bucket_needed, plan_at}
+use Rattle.seize_alone.proofs.Given.SeizeRuleWords.Named.{words_of, word_found}
+use Rattle.seize_alone.proofs.Given.SeizeRuleWords.View.{View}
+use Rattle.seize_alone.proofs.Given.SeizeRuleRows.Register.{room_view}
 use Rattle.seize_acts.specs.Refused.{IsHad}
 
 module _ {T : Type 0} where

@@ -1,25 +1,25 @@
 -- What a registering row has seen, through its own steps and those of others.
 use Rattle.std.specs.Prelude.{Option, Some, None, if◌then◌else◌}
 use Rattle.std.proofs.Common.{◌≡◌, ℕ, zero, suc, Bool, true, false, ◌⊎◌, inl, inr, refl, ap, sym, subst, ◌∙◌}
-use Rattle.seize_alone.specs.Given.SeizeWords.declared.at.At.TheVariants as name
-use Rattle.seize_alone.specs.Given.SeizeWords.Mem.{Mem, Took, value_at}
-use Rattle.seize_alone.specs.Given.SeizeWords.Plan.{Plan, Steps, Turn, Do}
-use Rattle.seize_alone.specs.Given.Seize.declared.states.TheConstants.{HEAD}
-use Rattle.seize_alone.specs.Given.Seize.declared.progress.Progress.{Progress}
-use Rattle.seize_alone.specs.Given.Seize.declared.progress.Progress.TheVariants as progress
-use Rattle.seize_alone.specs.Given.Seize.declared.rows.settle.Settle.{Settle}
-use Rattle.seize_alone.specs.Given.Seize.declared.rows.settle.Settled.{Settled}
-use Rattle.seize_alone.specs.Given.Seize.declared.rows.settle.Settled.TheVariants as settled
-use Rattle.seize_alone.specs.Given.Seize.declared.rows.leave.Leave.{Leave}
-use Rattle.seize_alone.specs.Given.Seize.declared.rows.defer.Defer.{Defer}
-use Rattle.seize_alone.specs.Given.Seize.declared.rows.register.Register.{Register}
-use Rattle.seize_alone.specs.Given.Seize.declared.rows.register.Registering.{Registering}
-use Rattle.seize_alone.specs.Given.Seize.declared.rows.register.Registering.TheVariants as at
-use Rattle.seize_alone.specs.Given.Seize.Register.{can_be_taken, plan_at}
-use Rattle.seize_alone.specs.Given.Seize.World.{World, Row, Rests, Registers, Enters, Settles, Leaves, Defers, Frees, Request, Register', Enter', Leave', LeaveOwned, Refresh, Unregister', Retire, Flush, Defer', Begins, Steps', settles_on, registers_on, defers_on, left_row}
-use Rattle.seize_alone.specs.Given.Seize.World as world
-use Rattle.seize_alone.proofs.Given.SeizeRule.Words.Named.{words_of}
-use Rattle.seize_alone.proofs.Given.SeizeRule.Rows.Others.{with_here}
+use Rattle.seize_alone.specs.Given.SeizeWordsDeclared.at.At.TheVariants as name
+use Rattle.seize_alone.specs.Given.SeizeWordsMem.{Mem, Took, value_at}
+use Rattle.seize_alone.specs.Given.SeizeWordsPlan.{Plan, Steps, Turn, Do}
+use Rattle.seize_alone.specs.Given.SeizeDeclared.states.TheConstants.{HEAD}
+use Rattle.seize_alone.specs.Given.SeizeDeclared.progress.Progress.{Progress}
+use Rattle.seize_alone.specs.Given.SeizeDeclared.progress.Progress.TheVariants as progress
+use Rattle.seize_alone.specs.Given.SeizeDeclared.rows.settle.Settle.{Settle}
+use Rattle.seize_alone.specs.Given.SeizeDeclared.rows.settle.Settled.{Settled}
+use Rattle.seize_alone.specs.Given.SeizeDeclared.rows.settle.Settled.TheVariants as settled
+use Rattle.seize_alone.specs.Given.SeizeDeclared.rows.leave.Leave.{Leave}
+use Rattle.seize_alone.specs.Given.SeizeDeclared.rows.defer.Defer.{Defer}
+use Rattle.seize_alone.specs.Given.SeizeDeclared.rows.register.Register.{Register}
+use Rattle.seize_alone.specs.Given.SeizeDeclared.rows.register.Registering.{Registering}
+use Rattle.seize_alone.specs.Given.SeizeDeclared.rows.register.Registering.TheVariants as at
+use Rattle.seize_alone.specs.Given.SeizeRegister.{can_be_taken, plan_at}
+use Rattle.seize_alone.specs.Given.SeizeWorld.{World, Row, Rests, Registers, Enters, Settles, Leaves, Defers, Frees, Request, Register', Enter', Leave', LeaveOwned, Refresh, Unregister', Retire, Flush, Defer', Begins, Steps', settles_on, registers_on, defers_on, left_row}
+use Rattle.seize_alone.specs.Given.SeizeWorld as world
+use Rattle.seize_alone.proofs.Given.SeizeRuleWords.Named.{words_of}
+use Rattle.seize_alone.proofs.Given.SeizeRuleRows.Others.{with_here}
 use Rattle.seize_acts.specs.Answers.{Grant, then_on, is_turn}
 use Rattle.seize_acts.specs.Acts.{row_steps, turns, turned, steps}
 use Rattle.seize_acts.specs.Acts.{Begin}

@@ -1,24 +1,24 @@
 -- Acts worked by hand, acts that can't be, and worlds that the laws refuse.
 use Rattle.std.specs.Prelude.{Option, Some, None, IsSome}
 use Rattle.std.proofs.Common.{◌≡◌, ℕ, true, false, List, [], ◌∷◌, ◌++◌, refl, inl, inr}
-use Rattle.seize_alone.specs.Given.SeizeWords.Word.{link_to}
-use Rattle.seize_alone.specs.Given.SeizeWords.declared.at.At.TheVariants.{Root, Slot}
-use Rattle.seize_alone.specs.Given.SeizeWords.Mem.{value_at, with_block, with_value}
-use Rattle.seize_alone.specs.Given.SeizeWords.Op.{Load, Store, Make, Take}
-use Rattle.seize_alone.specs.Given.Seize.declared.states.TheConstants.{HEAD, IDLE}
-use Rattle.seize_alone.specs.Given.Seize.Law.{Effect, Entered, Left, Linked, Unlinked, is_retired, holds, IsSound}
-use Rattle.seize_alone.specs.Given.Seize.Law as law
-use Rattle.seize_alone.specs.Given.Seize.Further.{FurtherAre}
-use Rattle.seize_alone.specs.Given.Seize.World.{World, Rests, Handed, Enter', Leave', Retire, Flush, with_row, at_start}
-use Rattle.seize_alone.specs.Given.Seize.WaitingSets.{is_one_of}
+use Rattle.seize_alone.specs.Given.SeizeWordsWord.{link_to}
+use Rattle.seize_alone.specs.Given.SeizeWordsDeclared.at.At.TheVariants.{Root, Slot}
+use Rattle.seize_alone.specs.Given.SeizeWordsMem.{value_at, with_block, with_value}
+use Rattle.seize_alone.specs.Given.SeizeWordsOp.{Load, Store, Make, Take}
+use Rattle.seize_alone.specs.Given.SeizeDeclared.states.TheConstants.{HEAD, IDLE}
+use Rattle.seize_alone.specs.Given.SeizeLaw.{Effect, Entered, Left, Linked, Unlinked, is_retired, holds, IsSound}
+use Rattle.seize_alone.specs.Given.SeizeLaw as law
+use Rattle.seize_alone.specs.Given.SeizeFurther.{FurtherAre}
+use Rattle.seize_alone.specs.Given.SeizeWorld.{World, Rests, Handed, Enter', Leave', Retire, Flush, with_row, at_start}
+use Rattle.seize_alone.specs.Given.SeizeWaitingSets.{is_one_of}
 use Rattle.seize_acts.specs.Answers.{then_on}
 use Rattle.seize_acts.specs.Acts.{Act, Begin, Step, Operate, Links, Parts, Unlinks, Ends, LeavesOver, MayTake}
 use Rattle.seize_acts.specs.Laws.{IsNotLost}
 use Rattle.seize_acts.specs.Stays.{how_many, is_making_of}
 use Rattle.seize_acts.specs.Waits.{Waits}
 use Rattle.seize_acts.proofs.Samples.Base.{all as all_acts, or_start, plain, enters, links}
-use Rattle.seize_alone.specs.Given.SeizeEnds.Holders.{has_batch}
-use Rattle.seize_alone.specs.Given.Seize.Settle.{flushing}
+use Rattle.seize_alone.specs.Given.SeizeEndsHolders.{has_batch}
+use Rattle.seize_alone.specs.Given.SeizeSettle.{flushing}
 
 abbrev all : List (Act ℕ) → World ℕ → Option (World ℕ)
 all = all_acts plain 1

@@ -1,15 +1,15 @@
 -- What samples of acts are computed with: a few acts to begin with, and rows that take a step by a plan of their own.
 use Rattle.std.specs.Prelude.{Option, Some, None, ◌==◌, if◌then◌else◌}
 use Rattle.std.proofs.Common.{ℕ, zero, suc, false, List, [], ◌∷◌}
-use Rattle.seize_alone.specs.Given.SeizeWords.Word.{link_to}
-use Rattle.seize_alone.specs.Given.SeizeWords.declared.at.At.TheVariants.{Root}
-use Rattle.seize_alone.specs.Given.SeizeWords.Op.{Store, Make}
-use Rattle.seize_alone.specs.Given.SeizeWords.Plan.{Plan}
-use Rattle.seize_alone.specs.Given.Seize.declared.progress.Progress.{Progress}
-use Rattle.seize_alone.specs.Given.Seize.declared.rows.settle.Settle.{Settle}
-use Rattle.seize_alone.specs.Given.Seize.declared.rows.settle.Settled.{Settled}
-use Rattle.seize_alone.specs.Given.Seize.declared.rows.defer.Defer.{Defer}
-use Rattle.seize_alone.specs.Given.Seize.World.{World, Row, Settles, Defers, Register', Enter', settles_on, defers_on, at_start}
+use Rattle.seize_alone.specs.Given.SeizeWordsWord.{link_to}
+use Rattle.seize_alone.specs.Given.SeizeWordsDeclared.at.At.TheVariants.{Root}
+use Rattle.seize_alone.specs.Given.SeizeWordsOp.{Store, Make}
+use Rattle.seize_alone.specs.Given.SeizeWordsPlan.{Plan}
+use Rattle.seize_alone.specs.Given.SeizeDeclared.progress.Progress.{Progress}
+use Rattle.seize_alone.specs.Given.SeizeDeclared.rows.settle.Settle.{Settle}
+use Rattle.seize_alone.specs.Given.SeizeDeclared.rows.settle.Settled.{Settled}
+use Rattle.seize_alone.specs.Given.SeizeDeclared.rows.defer.Defer.{Defer}
+use Rattle.seize_alone.specs.Given.SeizeWorld.{World, Row, Settles, Defers, Register', Enter', settles_on, defers_on, at_start}
 use Rattle.seize_acts.specs.Answers.{then_on, stepped}
 use Rattle.seize_acts.specs.Acts.{Act, Begin, Step, Operate, Links, became, rests}
 

@@ -1,18 +1,18 @@
 -- A wrong plan that passes a slot by as soon as an exchange is lost, stepped in a world of two blocks: refused by `ActsAreSound`.
 use Rattle.std.specs.Prelude.{Some, None, Err}
 use Rattle.std.proofs.Common.{◌≡◌, ℕ, true, false, [], ◌∷◌, ◌++◌, refl}
-use Rattle.seize_alone.specs.Given.SeizeWords.declared.at.At.TheVariants.{Root, Slot}
-use Rattle.seize_alone.specs.Given.SeizeWords.Mem.{value_at}
-use Rattle.seize_alone.specs.Given.SeizeWords.Op.{Out, Store, Exchange, Make, Exchanged}
-use Rattle.seize_alone.specs.Given.SeizeWords.Plan.{Plan, Then, Do}
-use Rattle.seize_alone.specs.Given.Seize.declared.states.TheConstants.{HEAD}
-use Rattle.seize_alone.specs.Given.Seize.declared.rows.settle.Settle.{Settle}
-use Rattle.seize_alone.specs.Given.Seize.declared.rows.settle.Settling.{Settling}
-use Rattle.seize_alone.specs.Given.Seize.declared.rows.settle.Settling.TheVariants as settling
-use Rattle.seize_alone.specs.Given.Seize.declared.rows.settle.Settled.{Settled}
-use Rattle.seize_alone.specs.Given.Seize.Settle.{goes, pushed_of, push_told, settle_plan}
-use Rattle.seize_alone.specs.Given.Seize.Law.{holds, IsSound}
-use Rattle.seize_alone.specs.Given.Seize.World.{World, Register', Retire, at_start}
+use Rattle.seize_alone.specs.Given.SeizeWordsDeclared.at.At.TheVariants.{Root, Slot}
+use Rattle.seize_alone.specs.Given.SeizeWordsMem.{value_at}
+use Rattle.seize_alone.specs.Given.SeizeWordsOp.{Out, Store, Exchange, Make, Exchanged}
+use Rattle.seize_alone.specs.Given.SeizeWordsPlan.{Plan, Then, Do}
+use Rattle.seize_alone.specs.Given.SeizeDeclared.states.TheConstants.{HEAD}
+use Rattle.seize_alone.specs.Given.SeizeDeclared.rows.settle.Settle.{Settle}
+use Rattle.seize_alone.specs.Given.SeizeDeclared.rows.settle.Settling.{Settling}
+use Rattle.seize_alone.specs.Given.SeizeDeclared.rows.settle.Settling.TheVariants as settling
+use Rattle.seize_alone.specs.Given.SeizeDeclared.rows.settle.Settled.{Settled}
+use Rattle.seize_alone.specs.Given.SeizeSettle.{goes, pushed_of, push_told, settle_plan}
+use Rattle.seize_alone.specs.Given.SeizeLaw.{holds, IsSound}
+use Rattle.seize_alone.specs.Given.SeizeWorld.{World, Register', Retire, at_start}
 use Rattle.seize_acts.specs.Acts.{Begin, Step, Operate, Links, Unlinks}
 use Rattle.seize_acts.proofs.Samples.Base.{plain, or_start, after, on, enters, links, settle_by}
 

@@ -1,26 +1,26 @@
 -- Wrong plans, each of them stepped in a world of a few blocks, and the clause of a law that is false of what it leaves.
 use Rattle.std.specs.Prelude.{Some, None, Err}
 use Rattle.std.proofs.Common.{◌≡◌, ℕ, zero, suc, ◌*◌, Bool, true, false, cond, eqb, List, [], ◌∷◌, ◌++◌, refl, arith, inl, inr, subst, sym, ap, ◌∙◌}
-use Rattle.seize_alone.specs.Given.SeizeWords.Word.{link_to, block_in}
-use Rattle.seize_alone.specs.Given.SeizeWords.declared.at.At.TheVariants.{Root, Slot, Entry}
-use Rattle.seize_alone.specs.Given.SeizeWords.Mem.{Mem, word_at}
-use Rattle.seize_alone.specs.Given.SeizeWords.Op.{Out, Load, Store, Exchange, Make, Take, Exchanged}
-use Rattle.seize_alone.specs.Given.SeizeWords.Plan.{Plan, Then, Do, Now}
-use Rattle.seize_alone.specs.Given.Seize.declared.states.TheConstants.{BATCH, HELD}
-use Rattle.seize_alone.specs.Given.Seize.declared.progress.Progress.{Progress}
-use Rattle.seize_alone.specs.Given.Seize.declared.progress.Progress.TheVariants as progress
-use Rattle.seize_alone.specs.Given.Seize.declared.rows.settle.Settle.{Settle}
-use Rattle.seize_alone.specs.Given.Seize.declared.rows.settle.Settling.TheVariants as settling
-use Rattle.seize_alone.specs.Given.Seize.declared.rows.settle.Settled.{Settled}
-use Rattle.seize_alone.specs.Given.Seize.declared.rows.settle.Settled.TheVariants as settled
-use Rattle.seize_alone.specs.Given.Seize.declared.rows.defer.Defer.{Defer}
-use Rattle.seize_alone.specs.Given.Seize.Settle.{settle_plan, taken_hold, flushing}
-use Rattle.seize_alone.specs.Given.Seize.Defer.{defer_plan, push_told}
-use Rattle.seize_alone.specs.Given.Seize.Further.{FurtherAre, FurtherFrom, ListFrom}
-use Rattle.seize_alone.specs.Given.Seize.Law.{holds, IsSound}
-use Rattle.seize_alone.specs.Given.Seize.WaitingSets.{is_one_of}
-use Rattle.seize_alone.specs.Given.Seize.World.{World, Row, Rests, IsOnto, Settles, Handed, Cutting, Leave', Retire, Flush, Defer', at_start}
-use Rattle.seize_alone.specs.Given.SeizeEnds.Holders.{has_batch}
+use Rattle.seize_alone.specs.Given.SeizeWordsWord.{link_to, block_in}
+use Rattle.seize_alone.specs.Given.SeizeWordsDeclared.at.At.TheVariants.{Root, Slot, Entry}
+use Rattle.seize_alone.specs.Given.SeizeWordsMem.{Mem, word_at}
+use Rattle.seize_alone.specs.Given.SeizeWordsOp.{Out, Load, Store, Exchange, Make, Take, Exchanged}
+use Rattle.seize_alone.specs.Given.SeizeWordsPlan.{Plan, Then, Do, Now}
+use Rattle.seize_alone.specs.Given.SeizeDeclared.states.TheConstants.{BATCH, HELD}
+use Rattle.seize_alone.specs.Given.SeizeDeclared.progress.Progress.{Progress}
+use Rattle.seize_alone.specs.Given.SeizeDeclared.progress.Progress.TheVariants as progress
+use Rattle.seize_alone.specs.Given.SeizeDeclared.rows.settle.Settle.{Settle}
+use Rattle.seize_alone.specs.Given.SeizeDeclared.rows.settle.Settling.TheVariants as settling
+use Rattle.seize_alone.specs.Given.SeizeDeclared.rows.settle.Settled.{Settled}
+use Rattle.seize_alone.specs.Given.SeizeDeclared.rows.settle.Settled.TheVariants as settled
+use Rattle.seize_alone.specs.Given.SeizeDeclared.rows.defer.Defer.{Defer}
+use Rattle.seize_alone.specs.Given.SeizeSettle.{settle_plan, taken_hold, flushing}
+use Rattle.seize_alone.specs.Given.SeizeDefer.{defer_plan, push_told}
+use Rattle.seize_alone.specs.Given.SeizeFurther.{FurtherAre, FurtherFrom, ListFrom}
+use Rattle.seize_alone.specs.Given.SeizeLaw.{holds, IsSound}
+use Rattle.seize_alone.specs.Given.SeizeWaitingSets.{is_one_of}
+use Rattle.seize_alone.specs.Given.SeizeWorld.{World, Row, Rests, IsOnto, Settles, Handed, Cutting, Leave', Retire, Flush, Defer', at_start}
+use Rattle.seize_alone.specs.Given.SeizeEndsHolders.{has_batch}
 use Rattle.seize_acts.specs.Answers.{stepped}
 use Rattle.seize_acts.specs.Acts.{Begin, Step, Operate, Links, Unlinks, Ends, LeavesOver, MayTake, NoRootNames, AllMayChange}
 use Rattle.seize_acts.specs.Laws.{IsNotLost}

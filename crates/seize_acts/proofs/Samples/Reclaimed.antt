@@ -1,12 +1,12 @@
 -- What waits in the batch of a slot that was given up is left still, and is reclaimed once the slot was taken again and flushed.
 use Rattle.std.specs.Prelude.{Some, None}
 use Rattle.std.proofs.Common.{◌≡◌, ℕ, true, false, [], ◌∷◌, ◌++◌, refl}
-use Rattle.seize_alone.specs.Given.SeizeWords.declared.at.At.TheVariants.{Root, Slot}
-use Rattle.seize_alone.specs.Given.SeizeWords.Mem.{word_at}
-use Rattle.seize_alone.specs.Given.SeizeWords.Op.{Store}
-use Rattle.seize_alone.specs.Given.Seize.declared.states.TheConstants.{BATCH}
-use Rattle.seize_alone.specs.Given.Seize.Law.{is_retired}
-use Rattle.seize_alone.specs.Given.Seize.World.{World, Rests, Vacant, Leave', Retire, Flush, Register', Unregister', at_start}
+use Rattle.seize_alone.specs.Given.SeizeWordsDeclared.at.At.TheVariants.{Root, Slot}
+use Rattle.seize_alone.specs.Given.SeizeWordsMem.{word_at}
+use Rattle.seize_alone.specs.Given.SeizeWordsOp.{Store}
+use Rattle.seize_alone.specs.Given.SeizeDeclared.states.TheConstants.{BATCH}
+use Rattle.seize_alone.specs.Given.SeizeLaw.{is_retired}
+use Rattle.seize_alone.specs.Given.SeizeWorld.{World, Rests, Vacant, Leave', Retire, Flush, Register', Unregister', at_start}
 use Rattle.seize_acts.specs.Acts.{Act, Begin, Operate, Unlinks}
 use Rattle.seize_acts.specs.Reclaimed.{HasNothingLeft}
 use Rattle.seize_acts.proofs.Samples.Base.{plain, after, on, enters, links}

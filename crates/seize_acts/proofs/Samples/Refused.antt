@@ -1,17 +1,17 @@
 -- Registrations: wrong plans for whoever loses one exchange, and memory that is refused.
 use Rattle.std.specs.Prelude.{Option, Some, None, Err}
 use Rattle.std.proofs.Common.{◌≡◌, ℕ, false, List, [], ◌∷◌, refl, arith, inl, inr, subst, sym}
-use Rattle.seize_alone.specs.Given.SeizeWords.declared.at.At.TheVariants.{Slot}
-use Rattle.seize_alone.specs.Given.SeizeWords.declared.fault.Fault.TheVariants.{SlotsUsedUp, Memory}
-use Rattle.seize_alone.specs.Given.SeizeWords.Op.{Out, Exchange, Exchanged}
-use Rattle.seize_alone.specs.Given.SeizeWords.Plan.{Plan, Then, Do, Now}
-use Rattle.seize_alone.specs.Given.Seize.declared.states.TheConstants.{HEAD, IDLE}
-use Rattle.seize_alone.specs.Given.Seize.declared.progress.Progress.{Progress}
-use Rattle.seize_alone.specs.Given.Seize.declared.progress.Progress.TheVariants as progress
-use Rattle.seize_alone.specs.Given.Seize.declared.rows.register.Register.{Register}
-use Rattle.seize_alone.specs.Given.Seize.declared.rows.register.Registering.TheVariants as at
-use Rattle.seize_alone.specs.Given.Seize.Register.{register_plan, taken, going, refused, can_be_taken}
-use Rattle.seize_alone.specs.Given.Seize.World.{World, Rests, Registers, Register', at_start}
+use Rattle.seize_alone.specs.Given.SeizeWordsDeclared.at.At.TheVariants.{Slot}
+use Rattle.seize_alone.specs.Given.SeizeWordsDeclared.fault.Fault.TheVariants.{SlotsUsedUp, Memory}
+use Rattle.seize_alone.specs.Given.SeizeWordsOp.{Out, Exchange, Exchanged}
+use Rattle.seize_alone.specs.Given.SeizeWordsPlan.{Plan, Then, Do, Now}
+use Rattle.seize_alone.specs.Given.SeizeDeclared.states.TheConstants.{HEAD, IDLE}
+use Rattle.seize_alone.specs.Given.SeizeDeclared.progress.Progress.{Progress}
+use Rattle.seize_alone.specs.Given.SeizeDeclared.progress.Progress.TheVariants as progress
+use Rattle.seize_alone.specs.Given.SeizeDeclared.rows.register.Register.{Register}
+use Rattle.seize_alone.specs.Given.SeizeDeclared.rows.register.Registering.TheVariants as at
+use Rattle.seize_alone.specs.Given.SeizeRegister.{register_plan, taken, going, refused, can_be_taken}
+use Rattle.seize_alone.specs.Given.SeizeWorld.{World, Rests, Registers, Register', at_start}
 use Rattle.seize_acts.specs.Answers.{stepped}
 use Rattle.seize_acts.specs.Acts.{Act, Begin, Step, AllDid, became}
 use Rattle.seize_acts.specs.Waits.{AnotherHasIt}

@@ -9,7 +9,7 @@ use Rattle.seize.specs.WaitingSets.{Change}
 use Rattle.seize.specs.World.{Row, Rests, Request, Event, Happens, with_at, at_start}
 use Rattle.seize.specs.Sequence.{Turn, Whole, Between, IsBetween, Calls, TakesTurns, changes, ended_by}
 use Rattle.seize_alone.specs.Alone.{History, IsHistory, at_rest}
-use Rattle.seize_sets.proofs.Given.SeizeRule.World.Rested.{Rested, start_rested, turns_rested}
+use Rattle.seize_sets.proofs.Given.SeizeRuleWorld.Rested.{Rested, start_rested, turns_rested}
 use Rattle.seize_sets.proofs.Turns.Append.{turns_append}
 
 -- the last value put counts

@@ -7,23 +7,23 @@ use Rattle.seize.specs.declared.states.TheConstants.{NEXT, LAST_SLOT}
 use Rattle.seize.specs.Law.{With, Nowhere, where_is}
 use Rattle.seize.specs.Further.{FurtherFrom, FurtherAre}
 use Rattle.seize.specs.World.{World, IsOnto, Hand, NoBlock, Making, InUse, Parting, Cutting, Handed, LeftTo, times, at_start}
-use Rattle.seize_sets.proofs.Given.SeizeMoves.State.Ghost.{lies_with, Life, IsFree, IsOwned, IsUnlinked, IsDeferring, IsPending, IsIn, IsDoomed, IsLeft, IsLinked, IsDeferred, State, is_deferred, place_of, is_linked}
-use Rattle.seize_sets.proofs.Given.SeizeRule.Points.Aside.{HandFits}
-use Rattle.seize_sets.proofs.Given.SeizeRule.Words.Chains.{Chain}
-use Rattle.seize_sets.proofs.Given.SeizeRule.Words.Shows.{DeferredIs, DrainedIs, CarrierIs, lives}
-use Rattle.seize_sets.proofs.Given.SeizeRule.Words.View.{view, list_in}
-use Rattle.seize_sets.proofs.Given.SeizeRule.Words.Lists.{some_word, list_from, deferred_of}
-use Rattle.seize_sets.proofs.Given.SeizeRule.Words.Named.{word_found}
-use Rattle.seize_sets.proofs.Given.SeizeRule.Words.There.{entry_there, list_there, value_there}
-use Rattle.seize_sets.proofs.Given.SeizeRule.World.Good.{Good}
-use Rattle.seize_sets.proofs.Given.SeizeRule.Rows.Onto.{row_onto}
+use Rattle.seize_sets.proofs.Given.SeizeMovesState.Ghost.{lies_with, Life, IsFree, IsOwned, IsUnlinked, IsDeferring, IsPending, IsIn, IsDoomed, IsLeft, IsLinked, IsDeferred, State, is_deferred, place_of, is_linked}
+use Rattle.seize_sets.proofs.Given.SeizeRulePoints.Aside.{HandFits}
+use Rattle.seize_sets.proofs.Given.SeizeRuleWords.Chains.{Chain}
+use Rattle.seize_sets.proofs.Given.SeizeRuleWords.Shows.{DeferredIs, DrainedIs, CarrierIs, lives}
+use Rattle.seize_sets.proofs.Given.SeizeRuleWords.View.{view, list_in}
+use Rattle.seize_sets.proofs.Given.SeizeRuleWords.Lists.{some_word, list_from, deferred_of}
+use Rattle.seize_sets.proofs.Given.SeizeRuleWords.Named.{word_found}
+use Rattle.seize_sets.proofs.Given.SeizeRuleWords.There.{entry_there, list_there, value_there}
+use Rattle.seize_sets.proofs.Given.SeizeRuleWorld.Good.{Good}
+use Rattle.seize_sets.proofs.Given.SeizeRuleRows.Onto.{row_onto}
 use Rattle.seize_alone.proofs.Histories.Hands.{times_counted}
 use Rattle.std.proofs.lemmas.Bool.{eq-eqb}
 use Rattle.seize_sets.proofs.Turns.All.{turns_shown, start_shown}
 use Rattle.seize_alone.specs.Alone.{History, IsHistory, at_rest}
 use Rattle.seize.specs.WaitingSets.{further_of, all_changed, at_start as sets_at_start}
-use Rattle.seize_sets.specs.Given.SeizeWaiting.Held.{count}
-use Rattle.seize_sets.proofs.Given.SeizeWaiting.Counts.{none_counted}
+use Rattle.seize_sets.specs.Given.SeizeWaitingHeld.{count}
+use Rattle.seize_sets.proofs.Given.SeizeWaitingCounts.{none_counted}
 
 pub record Behind {T : Type 0} (defers : T → Option ℕ) (w : World T) (b : ℕ) : Type 0 where
   pub blocks : List ℕ

@@ -3,8 +3,8 @@ use Rattle.std.proofs.Common.{◌≡◌, ℕ, Bool, true, false, cond, eqb, List
 use Rattle.seize.specs.Law.{Effect, Entered, Left, Linked, Unlinked, Deferred, Retired, Taken, Dropped, Ended, Made, LeftOver}
 use Rattle.seize.specs.World.{Hand, NoBlock, handed_by, times}
 use Rattle.seize.specs.Sequence.{taken_in}
-use Rattle.seize_sets.specs.Given.SeizeWaiting.Held.{same, count}
-use Rattle.seize_sets.proofs.Given.SeizeWaiting.Counts.{count-append}
+use Rattle.seize_sets.specs.Given.SeizeWaitingHeld.{same, count}
+use Rattle.seize_sets.proofs.Given.SeizeWaitingCounts.{count-append}
 
 -- the two ways to count
 pub times_counted : (x : ℕ) (l : List ℕ) → times x l ≡ count x l

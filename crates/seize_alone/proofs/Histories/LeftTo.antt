@@ -13,12 +13,12 @@ use Rattle.seize.specs.declared.rows.defer.Defer.{Defer}
 use Rattle.seize.specs.declared.states.TheConstants.{LAST_SLOT, NEXT}
 use Rattle.seize.specs.Law.{Effect, Entered, Left, Linked, Unlinked, Deferred, Retired, Taken, Dropped, Ended, Made, LeftOver, is_orphan, is_over}
 use Rattle.seize.specs.World.{World, Row, Rests, Registers, Enters, Settles, Leaves, Defers, Frees, Hand, LeftTo, Steps', settles_on, registers_on, defers_on}
-use Rattle.seize_sets.proofs.Given.SeizeMoves.State.Ghost.{IsLeft}
-use Rattle.seize_sets.proofs.Given.SeizeRule.Points.Aside.{HandFits}
-use Rattle.seize_sets.proofs.Given.SeizeRule.Rows.Effects.{IsOneStep}
-use Rattle.seize_sets.proofs.Given.SeizeRule.Rows.Known.{FitsRow}
-use Rattle.seize_sets.proofs.Given.SeizeRule.Words.View.{view}
-use Rattle.seize_sets.proofs.Given.SeizeRule.World.Kept.{row_may}
+use Rattle.seize_sets.proofs.Given.SeizeMovesState.Ghost.{IsLeft}
+use Rattle.seize_sets.proofs.Given.SeizeRulePoints.Aside.{HandFits}
+use Rattle.seize_sets.proofs.Given.SeizeRuleRows.Effects.{IsOneStep}
+use Rattle.seize_sets.proofs.Given.SeizeRuleRows.Known.{FitsRow}
+use Rattle.seize_sets.proofs.Given.SeizeRuleWords.View.{view}
+use Rattle.seize_sets.proofs.Given.SeizeRuleWorld.Kept.{row_may}
 use Rattle.seize_alone.proofs.Spared.Links.{SameNext, settle_next, leave_next, defer_next, register_links, enter_links, unregister_links}
 use Rattle.seize_alone.proofs.Histories.NotTaken.{did}
 use Rattle.seize_alone.proofs.Histories.Reached.{Reached}

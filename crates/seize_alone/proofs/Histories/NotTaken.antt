@@ -7,15 +7,15 @@ use Rattle.seize.specs.declared.states.TheConstants.{LAST_SLOT}
 use Rattle.seize.specs.Law.{Effect, Taken, is_somewhere, where_is, reachable, is_retired, holds, IsSound}
 use Rattle.seize.specs.World.{World, Steps', times, IsInside, IsOwn, Hand, NoBlock, Making, InUse, Parting, Cutting, Handed, LeftTo}
 use Rattle.seize.specs.Sequence.{taken_in}
-use Rattle.seize_sets.proofs.Given.SeizeMoves.State.Ghost.{Debt, State, Life, IsFree, IsOwned, IsLinked, IsUnlinked, IsDeferring, IsDeferred, IsPending, IsIn, IsDoomed, IsLeft, is_given, place_of}
-use Rattle.seize_sets.proofs.Given.SeizeMoves.State.Rule.{IsGuarded}
-use Rattle.seize_sets.proofs.Given.SeizeRule.Words.Shows.{lives}
-use Rattle.seize_sets.proofs.Given.SeizeRule.Words.There.{value_there}
-use Rattle.seize_sets.proofs.Given.SeizeRule.Points.Aside.{HandFits}
-use Rattle.seize_sets.proofs.Given.SeizeMoves.State.Held.{held_through}
+use Rattle.seize_sets.proofs.Given.SeizeMovesState.Ghost.{Debt, State, Life, IsFree, IsOwned, IsLinked, IsUnlinked, IsDeferring, IsDeferred, IsPending, IsIn, IsDoomed, IsLeft, is_given, place_of}
+use Rattle.seize_sets.proofs.Given.SeizeMovesState.Rule.{IsGuarded}
+use Rattle.seize_sets.proofs.Given.SeizeRuleWords.Shows.{lives}
+use Rattle.seize_sets.proofs.Given.SeizeRuleWords.There.{value_there}
+use Rattle.seize_sets.proofs.Given.SeizeRulePoints.Aside.{HandFits}
+use Rattle.seize_sets.proofs.Given.SeizeMovesState.Held.{held_through}
 use Rattle.seize_alone.specs.Alone.{IsOfUsers}
 use Rattle.seize_alone.proofs.Spared.Users.{own_kept}
-use Rattle.seize_sets.proofs.Given.SeizeRule.Rows.Effects.{one_not_taken, hand_kept, place_kept, taken_hand}
+use Rattle.seize_sets.proofs.Given.SeizeRuleRows.Effects.{one_not_taken, hand_kept, place_kept, taken_hand}
 use Rattle.seize_alone.proofs.Spared.Rows.{RowStepped, row_stepped}
 use Rattle.seize_alone.proofs.Histories.Reached.{Reached, steps_reached}
 

@@ -16,23 +16,23 @@ use Rattle.seize.specs.Law.{Linked, Unlinked, Deferred, Ended, is_open, holds}
 use Rattle.seize.specs.Sequence.{IsBetween}
 use Rattle.seize.specs.WaitingSets.{is_one_of}
 use Rattle.seize.specs.World.{World, Row, Rests, Registers, Enters, Settles, Leaves, Defers, Frees, Use, Vacant, Outside, Inside, Changing, Hand, NoBlock, Making, InUse, Parting, Cutting, Handed, LeftTo, Event, Begin, Step, Makes, Drops, Links, Parts, Unlinks, Rewrites, Operates, Ends, LeavesOver, Relinks, Clears, Chooses, Request, Register', Enter', Leave', LeaveOwned, Refresh, Unregister', Retire, Flush, Defer', Begins, Steps', Happens, Runs, ListWord, IsInside, IsNotLeft, IsOnto, with_at, made_by, at_start}
-use Rattle.seize_sets.proofs.Given.SeizeMoves.Moves.Blocks.{never_held}
-use Rattle.seize_sets.proofs.Given.SeizeMoves.Moves.Ended.{is_on, ends_with}
-use Rattle.seize_sets.proofs.Given.SeizeMoves.State.Ghost.{Life, IsFree, IsOwned, IsLinked, IsUnlinked, IsDeferring, IsDeferred, IsPending, IsIn, IsDoomed, IsLeft, State, emptied, is_active, lies_with}
-use Rattle.seize_sets.proofs.Given.SeizeMoves.State.Held.{held_on, held_beside}
-use Rattle.seize_sets.proofs.Given.SeizeMoves.State.Logs.{held_open}
-use Rattle.seize_sets.proofs.Given.SeizeRule.Points.Aside.{HandFits}
-use Rattle.seize_sets.proofs.Given.SeizeRule.Rows.Known.{works_on}
-use Rattle.seize_sets.proofs.Given.SeizeRule.Rows.Others.{steps_others, users_rows}
-use Rattle.seize_sets.proofs.Given.SeizeRule.Rows.Teams.{UseFits, shares, is_shared}
-use Rattle.seize_sets.proofs.Given.SeizeRule.Rows.Told.{RowTold, HasSettled, TakesFor, SettleGoes, SettleEnds, LeaveSwaps, LeaveGoes, LeaveSettled, LeaveEnds, RegisterLooks, RegisterRefused, RegisterTakes, RegisterEnters, EntersSlot, FreesSlot, DeferGoes, DeferPushes, DeferEnds}
-use Rattle.seize_sets.proofs.Given.SeizeRule.Words.Shows.{CarrierIs}
-use Rattle.seize_sets.proofs.Given.SeizeRule.Words.There.{entry_there}
-use Rattle.seize_sets.proofs.Given.SeizeRule.Words.View.{list_in}
-use Rattle.seize_sets.proofs.Given.SeizeRule.World.Bounded.{outside_head}
-use Rattle.seize_sets.proofs.Given.SeizeRule.World.Events.{leaves_over_good}
-use Rattle.seize_sets.proofs.Given.SeizeRule.World.Kept.{steps_next}
-use Rattle.seize_sets.proofs.Given.SeizeRule.World.Values.{own_op_value, taken_value, made_value, rewritten_value}
+use Rattle.seize_sets.proofs.Given.SeizeMovesMoves.Blocks.{never_held}
+use Rattle.seize_sets.proofs.Given.SeizeMovesMoves.Ended.{is_on, ends_with}
+use Rattle.seize_sets.proofs.Given.SeizeMovesState.Ghost.{Life, IsFree, IsOwned, IsLinked, IsUnlinked, IsDeferring, IsDeferred, IsPending, IsIn, IsDoomed, IsLeft, State, emptied, is_active, lies_with}
+use Rattle.seize_sets.proofs.Given.SeizeMovesState.Held.{held_on, held_beside}
+use Rattle.seize_sets.proofs.Given.SeizeMovesState.Logs.{held_open}
+use Rattle.seize_sets.proofs.Given.SeizeRulePoints.Aside.{HandFits}
+use Rattle.seize_sets.proofs.Given.SeizeRuleRows.Known.{works_on}
+use Rattle.seize_sets.proofs.Given.SeizeRuleRows.Others.{steps_others, users_rows}
+use Rattle.seize_sets.proofs.Given.SeizeRuleRows.Teams.{UseFits, shares, is_shared}
+use Rattle.seize_sets.proofs.Given.SeizeRuleRows.Told.{RowTold, HasSettled, TakesFor, SettleGoes, SettleEnds, LeaveSwaps, LeaveGoes, LeaveSettled, LeaveEnds, RegisterLooks, RegisterRefused, RegisterTakes, RegisterEnters, EntersSlot, FreesSlot, DeferGoes, DeferPushes, DeferEnds}
+use Rattle.seize_sets.proofs.Given.SeizeRuleWords.Shows.{CarrierIs}
+use Rattle.seize_sets.proofs.Given.SeizeRuleWords.There.{entry_there}
+use Rattle.seize_sets.proofs.Given.SeizeRuleWords.View.{list_in}
+use Rattle.seize_sets.proofs.Given.SeizeRuleWorld.Bounded.{outside_head}
+use Rattle.seize_sets.proofs.Given.SeizeRuleWorld.Events.{leaves_over_good}
+use Rattle.seize_sets.proofs.Given.SeizeRuleWorld.Kept.{steps_next}
+use Rattle.seize_sets.proofs.Given.SeizeRuleWorld.Values.{own_op_value, taken_value, made_value, rewritten_value}
 use Rattle.seize_alone.proofs.Histories.NotTaken.{IsHeld, kept_there, kept_value, kept_hand, still_held}
 use Rattle.seize_alone.proofs.Histories.Reached.{Reached, happens_reached}
 

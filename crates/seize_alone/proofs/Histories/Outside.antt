@@ -6,11 +6,11 @@ use Rattle.seize_words.specs.Mem.{Mem}
 use Rattle.seize.specs.declared.states.TheConstants.{LAST_SLOT}
 use Rattle.seize.specs.WaitingSets.{all_changed, at_start as sets_at_start}
 use Rattle.seize.specs.World.{Use, Vacant, Outside, Inside, Changing, IsInside, at_start}
-use Rattle.seize_sets.specs.Given.SeizeWaiting.Held.{count}
-use Rattle.seize_sets.proofs.Given.SeizeWaiting.Counts.{count-append}
+use Rattle.seize_sets.specs.Given.SeizeWaitingHeld.{count}
+use Rattle.seize_sets.proofs.Given.SeizeWaitingCounts.{count-append}
 use Rattle.seize_alone.specs.Alone.{History, IsHistory, at_rest}
-use Rattle.seize_sets.proofs.Given.SeizeMoves.State.Ghost.{is_active}
-use Rattle.seize_sets.proofs.Given.SeizeMoves.Sets.Shown.{ascending}
+use Rattle.seize_sets.proofs.Given.SeizeMovesState.Ghost.{is_active}
+use Rattle.seize_sets.proofs.Given.SeizeMovesSets.Shown.{ascending}
 use Rattle.seize_sets.proofs.Turns.Heads.{no_team}
 use Rattle.seize_sets.proofs.Turns.All.{turns_shown, start_shown}
 use Rattle.seize_sets.proofs.Turns.Begins.{Shown}

@@ -5,11 +5,11 @@ use Rattle.seize_words.specs.Mem.{Mem}
 use Rattle.seize.specs.declared.states.TheConstants.{LAST_SLOT}
 use Rattle.seize.specs.World.{World, Event, Step, Happens, Runs, Steps'}
 use Rattle.seize_alone.specs.Alone.{History, IsHistory, at_rest}
-use Rattle.seize_sets.proofs.Given.SeizeRule.World.Good.{Good}
-use Rattle.seize_sets.proofs.Given.SeizeRule.Rows.Sizes.{AllSized}
-use Rattle.seize_sets.proofs.Given.SeizeRule.Rows.SizesKept.{happens_sized}
-use Rattle.seize_sets.proofs.Given.SeizeRule.World.Kept.{happens_good}
-use Rattle.seize_sets.proofs.Given.SeizeRule.World.Rested.{resting_sized}
+use Rattle.seize_sets.proofs.Given.SeizeRuleWorld.Good.{Good}
+use Rattle.seize_sets.proofs.Given.SeizeRuleRows.Sizes.{AllSized}
+use Rattle.seize_sets.proofs.Given.SeizeRuleRows.SizesKept.{happens_sized}
+use Rattle.seize_sets.proofs.Given.SeizeRuleWorld.Kept.{happens_good}
+use Rattle.seize_sets.proofs.Given.SeizeRuleWorld.Rested.{resting_sized}
 use Rattle.seize_alone.proofs.Histories.Calls.{history_rested}
 
 pub record Reached {T : Type 0} (defers : T → Option ℕ) (size : ℕ) (w : World T) : Type 0 where

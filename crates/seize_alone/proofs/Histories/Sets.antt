@@ -6,7 +6,7 @@ use Rattle.seize.specs.declared.states.TheConstants.{LAST_SLOT}
 use Rattle.seize.specs.WaitingSets.{all_changed, at_start as sets_at_start}
 use Rattle.seize.specs.World.{Vacant, at_start}
 use Rattle.seize_alone.specs.Alone.{History, IsHistory, at_rest}
-use Rattle.seize_sets.proofs.Given.SeizeMoves.Sets.Shown.{ascending}
+use Rattle.seize_sets.proofs.Given.SeizeMovesSets.Shown.{ascending}
 use Rattle.seize_sets.proofs.Turns.All.{turns_shown, start_shown}
 use Rattle.seize_sets.proofs.Reclaims.Sets.{is_inside, active_is}
 

@@ -6,7 +6,7 @@ use Rattle.seize_words.specs.Mem.{Mem}
 use Rattle.seize.specs.World.{World, Rests, Event, Begin, Step, Makes, Drops, Links, Parts, Unlinks, Rewrites, Operates, Chooses, Happens, Runs, made_by, LeavesOver, Relinks, Clears, Ends}
 use Rattle.seize.specs.Sequence.{IsUsers, IsBetween, ended_by}
 use Rattle.seize_alone.specs.Alone.{History, IsHistory, at_rest}
-use Rattle.seize_sets.proofs.Given.SeizeRule.Rows.Others.{users_rows}
+use Rattle.seize_sets.proofs.Given.SeizeRuleRows.Others.{users_rows}
 use Rattle.seize_alone.proofs.Histories.Calls.{happened_history}
 
 -- none of these is a step of a row or begins one

@@ -16,15 +16,15 @@ use Rattle.seize.specs.declared.rows.register.Register.{Register}
 use Rattle.seize.specs.declared.rows.defer.Defer.{Defer}
 use Rattle.seize.specs.Law.{holds, is_open}
 use Rattle.seize.specs.World.{World, Row, Rests, Registers, Enters, Settles, Leaves, Defers, Frees, Use, Vacant, Outside, Inside, Changing, IsInside, IsOutside, Steps', with_at, one_less, left_as, settles_on, defers_on}
-use Rattle.seize_sets.proofs.Given.SeizeMoves.State.Ghost.{State, emptied}
-use Rattle.seize_sets.proofs.Given.SeizeMoves.State.Logs.{held_open}
-use Rattle.seize_sets.proofs.Given.SeizeRule.Words.View.{view}
-use Rattle.seize_sets.proofs.Given.SeizeRule.Rows.Known.{works_on, registering_on, leaving_on, FitsLeave, FitsRow}
-use Rattle.seize_sets.proofs.Given.SeizeRule.Rows.Teams.{UseFits, shares, is_shared}
-use Rattle.seize_sets.proofs.Given.SeizeRule.Rows.Others.{with_here, with_other}
-use Rattle.seize_sets.proofs.Given.SeizeRule.Rows.Told.{RowTold, SettleGoes, SettleEnds, LeaveSwaps, LeaveGoes, LeaveSettled, LeaveEnds, RegisterLooks, RegisterRefused, RegisterTakes, RegisterEnters, EntersSlot, FreesSlot, DeferGoes, DeferPushes, DeferEnds, TakesFor}
-use Rattle.seize_sets.proofs.Given.SeizeRule.World.Bounded.{outside_head}
-use Rattle.seize_sets.proofs.Given.SeizeRule.World.Kept.{steps_next}
+use Rattle.seize_sets.proofs.Given.SeizeMovesState.Ghost.{State, emptied}
+use Rattle.seize_sets.proofs.Given.SeizeMovesState.Logs.{held_open}
+use Rattle.seize_sets.proofs.Given.SeizeRuleWords.View.{view}
+use Rattle.seize_sets.proofs.Given.SeizeRuleRows.Known.{works_on, registering_on, leaving_on, FitsLeave, FitsRow}
+use Rattle.seize_sets.proofs.Given.SeizeRuleRows.Teams.{UseFits, shares, is_shared}
+use Rattle.seize_sets.proofs.Given.SeizeRuleRows.Others.{with_here, with_other}
+use Rattle.seize_sets.proofs.Given.SeizeRuleRows.Told.{RowTold, SettleGoes, SettleEnds, LeaveSwaps, LeaveGoes, LeaveSettled, LeaveEnds, RegisterLooks, RegisterRefused, RegisterTakes, RegisterEnters, EntersSlot, FreesSlot, DeferGoes, DeferPushes, DeferEnds, TakesFor}
+use Rattle.seize_sets.proofs.Given.SeizeRuleWorld.Bounded.{outside_head}
+use Rattle.seize_sets.proofs.Given.SeizeRuleWorld.Kept.{steps_next}
 use Rattle.seize_alone.proofs.Histories.Reached.{Reached}
 
 -- a slot that is used is not taken by a row that registers, and one that it has taken it works on

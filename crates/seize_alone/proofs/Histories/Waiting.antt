@@ -6,20 +6,20 @@ use Rattle.seize_words.specs.Mem.{Mem, value_at}
 use Rattle.seize.specs.declared.states.TheConstants.{LAST_SLOT}
 use Rattle.seize.specs.WaitingSets.{Sets, opened, all_changed, at_start as sets_at_start}
 use Rattle.seize.specs.World.{Hand, NoBlock, Making, InUse, Cutting, Handed, LeftTo, at_start, Parting}
-use Rattle.seize_sets.specs.Given.SeizeWaiting.Held.{same, count, held_closed, Every, all_held}
-use Rattle.seize_sets.proofs.Given.SeizeWaiting.Behind.{every_of, none_further}
-use Rattle.seize_sets.proofs.Given.SeizeWaiting.Counts.{count-append}
+use Rattle.seize_sets.specs.Given.SeizeWaitingHeld.{same, count, held_closed, Every, all_held}
+use Rattle.seize_sets.proofs.Given.SeizeWaitingBehind.{every_of, none_further}
+use Rattle.seize_sets.proofs.Given.SeizeWaitingCounts.{count-append}
 use Rattle.seize_alone.specs.Alone.{History, IsHistory, at_rest}
-use Rattle.seize_sets.proofs.Given.SeizeRule.Points.Aside.{HandFits, is_handed}
-use Rattle.seize_sets.proofs.Given.SeizeMoves.State.Ghost.{Debt, Stage, Unused, Open, Closing, Closed, Dead, Life, IsFree, IsOwned, IsLinked, IsUnlinked, IsDeferring, IsDeferred, IsPending, IsIn, IsDoomed, IsLeft, State, is_in, is_deferred, lies_with, can_carry}
-use Rattle.seize_sets.proofs.Given.SeizeMoves.Sets.Shown.{batch_shown, is_shut, shut_in}
+use Rattle.seize_sets.proofs.Given.SeizeRulePoints.Aside.{HandFits, is_handed}
+use Rattle.seize_sets.proofs.Given.SeizeMovesState.Ghost.{Debt, Stage, Unused, Open, Closing, Closed, Dead, Life, IsFree, IsOwned, IsLinked, IsUnlinked, IsDeferring, IsDeferred, IsPending, IsIn, IsDoomed, IsLeft, State, is_in, is_deferred, lies_with, can_carry}
+use Rattle.seize_sets.proofs.Given.SeizeMovesSets.Shown.{batch_shown, is_shut, shut_in}
 use Rattle.seize_sets.proofs.Reclaims.NeverTaken.{NonePast, turns_past}
-use Rattle.seize_sets.proofs.Given.SeizeMoves.State.Rule.{SameUnlessDead}
-use Rattle.seize_sets.proofs.Given.SeizeRule.Words.Shows.{CarrierIs, lives}
+use Rattle.seize_sets.proofs.Given.SeizeMovesState.Rule.{SameUnlessDead}
+use Rattle.seize_sets.proofs.Given.SeizeRuleWords.Shows.{CarrierIs, lives}
 use Rattle.seize_sets.proofs.Turns.All.{turns_shown, start_shown}
 use Rattle.seize_sets.proofs.Turns.Begins.{Shown}
-use Rattle.seize_sets.proofs.Given.SeizeRule.Words.View.{list_in}
-use Rattle.seize_sets.proofs.Given.SeizeRule.Words.There.{value_there}
+use Rattle.seize_sets.proofs.Given.SeizeRuleWords.View.{list_in}
+use Rattle.seize_sets.proofs.Given.SeizeRuleWords.There.{value_there}
 
 not_in : (x : ℕ) (l : Life) → is_handed l ≡ false → is_in x l ≡ 0
 not_in x IsFree e = refl

@@ -8,7 +8,7 @@ use Rattle.seize_words.specs.Op.{Op, Out, Load, Store, Swap, Add, Or, Exchange, 
 use Rattle.seize_words.specs.Mem.{Mem, value_at, value_in, entry_in, word_in, word_at, with_word, with_entry, with_word_in, with_block, Can, Took, Gives, after}
 use Rattle.seize_words.specs.Plan.{Plan, Turn, Do, May, Steps}
 use Rattle.seize_alone.specs.Alone.{number_of, blocks_in}
-use Rattle.seize_sets.proofs.Given.SeizeRule.Words.Kept.{IsQuiet, IsQuietPlan}
+use Rattle.seize_sets.proofs.Given.SeizeRuleWords.Kept.{IsQuiet, IsQuietPlan}
 
 module _ {X : Type 0} where
   set_some : (l : List (Option X)) (i : ℕ) (x y : X) → slice_index_or l i None ≡ Some x → number_of (slice_set l i (Some y)) ≡ number_of l

@@ -33,20 +33,20 @@ use Rattle.seize.specs.Settle.{settle_plan, plan_at}
 use Rattle.seize.specs.Leave as leave
 use Rattle.seize.specs.Law.{Entered}
 use Rattle.seize.specs.World.{Hand, NoBlock, handed_by, settle_effects, leave_effects}
-use Rattle.seize_sets.specs.Given.SeizeWaiting.Held.{count}
-use Rattle.seize_sets.proofs.Given.SeizeMoves.State.Ghost.{Life, IsDeferring, IsPending, IsIn, IsDoomed, IsLeft, State}
-use Rattle.seize_sets.proofs.Given.SeizeMoves.State.Rule.{Inv}
-use Rattle.seize_sets.proofs.Given.SeizeRule.Words.Chains.{last_of, last_from, count_last}
-use Rattle.seize_sets.proofs.Given.SeizeRule.Words.View.{view}
-use Rattle.seize_sets.proofs.Given.SeizeRule.Words.Named.{block_there, link, link-block}
-use Rattle.seize_sets.proofs.Given.SeizeRule.Words.Shows.{Extra, Shows}
-use Rattle.seize_sets.proofs.Given.SeizeRule.Words.Apart.{is_doomed_first, is_pending_first, is_pending_put}
-use Rattle.seize_sets.proofs.Given.SeizeRule.Points.Deferred.{next_left, puts_some}
-use Rattle.seize_sets.proofs.Given.SeizeRule.Points.Retire.{open_stage, some_last}
-use Rattle.seize_sets.proofs.Given.SeizeRule.Written.Retire.{in_batch}
-use Rattle.seize_sets.proofs.Given.SeizeRule.Points.Known.{FitsAt, Ends, Appends, Backs, bare, open_blocks}
-use Rattle.seize_sets.proofs.Given.SeizeRule.Rows.Known.{FitsLeave, FitsDefer}
-use Rattle.seize_sets.proofs.Given.SeizeRule.Rows.Others.{with_other}
+use Rattle.seize_sets.specs.Given.SeizeWaitingHeld.{count}
+use Rattle.seize_sets.proofs.Given.SeizeMovesState.Ghost.{Life, IsDeferring, IsPending, IsIn, IsDoomed, IsLeft, State}
+use Rattle.seize_sets.proofs.Given.SeizeMovesState.Rule.{Inv}
+use Rattle.seize_sets.proofs.Given.SeizeRuleWords.Chains.{last_of, last_from, count_last}
+use Rattle.seize_sets.proofs.Given.SeizeRuleWords.View.{view}
+use Rattle.seize_sets.proofs.Given.SeizeRuleWords.Named.{block_there, link, link-block}
+use Rattle.seize_sets.proofs.Given.SeizeRuleWords.Shows.{Extra, Shows}
+use Rattle.seize_sets.proofs.Given.SeizeRuleWords.Apart.{is_doomed_first, is_pending_first, is_pending_put}
+use Rattle.seize_sets.proofs.Given.SeizeRulePoints.Deferred.{next_left, puts_some}
+use Rattle.seize_sets.proofs.Given.SeizeRulePoints.Retire.{open_stage, some_last}
+use Rattle.seize_sets.proofs.Given.SeizeRuleWritten.Retire.{in_batch}
+use Rattle.seize_sets.proofs.Given.SeizeRulePoints.Known.{FitsAt, Ends, Appends, Backs, bare, open_blocks}
+use Rattle.seize_sets.proofs.Given.SeizeRuleRows.Known.{FitsLeave, FitsDefer}
+use Rattle.seize_sets.proofs.Given.SeizeRuleRows.Others.{with_other}
 
 -- a name of no link of this block
 abbrev pub IsApart : ℕ → At → Type 0

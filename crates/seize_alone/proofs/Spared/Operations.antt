@@ -16,7 +16,7 @@ use Rattle.seize_words.proofs.Places.Words.{slot_lt, with_bucket_next, with_buck
 use Rattle.seize.specs.declared.states.TheConstants.{HEAD}
 use Rattle.seize.specs.World.{times}
 use Rattle.seize_alone.specs.Alone.{Spares}
-use Rattle.seize_sets.proofs.Given.SeizeRule.Words.Named.{block_there}
+use Rattle.seize_sets.proofs.Given.SeizeRuleWords.Named.{block_there}
 
 pub none_first : (b : ℕ) (a c : List ℕ) → times b (a ++ c) ≡ 0 → times b a ≡ 0
 none_first b [] c e = refl

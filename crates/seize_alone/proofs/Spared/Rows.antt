@@ -6,9 +6,9 @@ use Rattle.seize_words.specs.Mem.{Mem, Can, Took, same_at, value_at, word_at, wi
 use Rattle.seize_words.specs.declared.at.At.TheVariants.{Word}
 use Rattle.seize_words.proofs.OneOwner.AfterWrites.{word_at-with_word}
 use Rattle.std.proofs.lemmas.Bool.{eq-eqb}
-use Rattle.seize_sets.proofs.Given.SeizeMoves.State.Ghost.{IsOwned, lies_with, can_carry}
-use Rattle.seize_sets.proofs.Given.SeizeRule.Points.Aside.{HandFits}
-use Rattle.seize_sets.proofs.Given.SeizeRule.Words.Named.{same_at-true}
+use Rattle.seize_sets.proofs.Given.SeizeMovesState.Ghost.{IsOwned, lies_with, can_carry}
+use Rattle.seize_sets.proofs.Given.SeizeRulePoints.Aside.{HandFits}
+use Rattle.seize_sets.proofs.Given.SeizeRuleWords.Named.{same_at-true}
 use Rattle.seize.specs.World.{Hand, Making, times}
 use Rattle.seize_words.specs.Plan.{May, Steps}
 use Rattle.seize_words.proofs.OneOwner.Operations.{exchanged}
@@ -32,17 +32,17 @@ use Rattle.seize.specs.Law.{Effect, Entered}
 use Rattle.seize.specs.World.{World, Row, Rests, Registers, Enters, Settles, Leaves, Defers, Frees, Use, Vacant, Outside, Inside, Changing, IsInside, Steps', handed_by, settle_effects, leave_effects, register_effects, settles_on, registers_on, defers_on}
 use Rattle.seize.specs.Sequence.{taken_in}
 use Rattle.seize_alone.specs.Alone.{Spares}
-use Rattle.seize_sets.proofs.Given.SeizeRule.Words.View.{view}
-use Rattle.seize_sets.proofs.Given.SeizeRule.Rows.Known.{works_on, leaving_on, FitsDefer, FitsRow, Linked_to}
-use Rattle.seize_sets.proofs.Given.SeizeRule.Rows.Teams.{shares, is_shared}
-use Rattle.seize_sets.proofs.Given.SeizeRule.World.Good.{Good}
-use Rattle.seize_sets.proofs.Given.SeizeRule.World.Kept.{row_may}
-use Rattle.seize_sets.proofs.Given.SeizeRule.Rows.Others.{steps_others}
+use Rattle.seize_sets.proofs.Given.SeizeRuleWords.View.{view}
+use Rattle.seize_sets.proofs.Given.SeizeRuleRows.Known.{works_on, leaving_on, FitsDefer, FitsRow, Linked_to}
+use Rattle.seize_sets.proofs.Given.SeizeRuleRows.Teams.{shares, is_shared}
+use Rattle.seize_sets.proofs.Given.SeizeRuleWorld.Good.{Good}
+use Rattle.seize_sets.proofs.Given.SeizeRuleWorld.Kept.{row_may}
+use Rattle.seize_sets.proofs.Given.SeizeRuleRows.Others.{steps_others}
 use Rattle.seize_alone.proofs.Spared.Operations.{IsSparingPlan, plan_takes, plan_spares, spares_same}
 use Rattle.seize_alone.proofs.Spared.Steps.{settle_spares, leave_spares, register_spares, enter_spares, unregister_spares}
-use Rattle.seize_sets.proofs.Given.SeizeRule.Rows.Taken.{TellsTaken, settle_tells}
-use Rattle.seize_sets.proofs.Given.SeizeMoves.State.Held.{NoneLeft}
-use Rattle.seize_sets.proofs.Given.SeizeRule.Rows.Effects.{IsOneStep, settle_one, leave_one, register_one, settle_goes_on, leave_goes_on, register_goes_on, register_none}
+use Rattle.seize_sets.proofs.Given.SeizeRuleRows.Taken.{TellsTaken, settle_tells}
+use Rattle.seize_sets.proofs.Given.SeizeMovesState.Held.{NoneLeft}
+use Rattle.seize_sets.proofs.Given.SeizeRuleRows.Effects.{IsOneStep, settle_one, leave_one, register_one, settle_goes_on, leave_goes_on, register_goes_on, register_none}
 use Rattle.seize_alone.proofs.Spared.Users.{Frames, frames_spared, frames_list}
 
 -- in these blocks, which their makers have and nobody took, all words are as they were

@@ -26,15 +26,15 @@ use Rattle.seize.specs.World.{settle_effects, leave_effects}
 use Rattle.seize.specs.Law.{Entered}
 use Rattle.seize.specs.Sequence.{taken_in}
 use Rattle.seize_alone.specs.Alone.{Spares}
-use Rattle.seize_sets.proofs.Given.SeizeMoves.State.Ghost.{State}
-use Rattle.seize_sets.proofs.Given.SeizeMoves.State.Rule.{Inv}
-use Rattle.seize_sets.proofs.Given.SeizeRule.Words.View.{view}
-use Rattle.seize_sets.proofs.Given.SeizeRule.Words.Named.{link}
-use Rattle.seize_sets.proofs.Given.SeizeRule.Words.There.{live_pos}
-use Rattle.seize_sets.proofs.Given.SeizeRule.Words.Shows.{Extra, Shows}
-use Rattle.seize_sets.proofs.Given.SeizeRule.Points.Known.{FitsAt, Pushes, bare}
-use Rattle.seize_sets.proofs.Given.SeizeRule.Rows.Known.{FitsLeave, word_of}
-use Rattle.seize_sets.proofs.Given.SeizeRule.Points.Entries.{block_lives}
+use Rattle.seize_sets.proofs.Given.SeizeMovesState.Ghost.{State}
+use Rattle.seize_sets.proofs.Given.SeizeMovesState.Rule.{Inv}
+use Rattle.seize_sets.proofs.Given.SeizeRuleWords.View.{view}
+use Rattle.seize_sets.proofs.Given.SeizeRuleWords.Named.{link}
+use Rattle.seize_sets.proofs.Given.SeizeRuleWords.There.{live_pos}
+use Rattle.seize_sets.proofs.Given.SeizeRuleWords.Shows.{Extra, Shows}
+use Rattle.seize_sets.proofs.Given.SeizeRulePoints.Known.{FitsAt, Pushes, bare}
+use Rattle.seize_sets.proofs.Given.SeizeRuleRows.Known.{FitsLeave, word_of}
+use Rattle.seize_sets.proofs.Given.SeizeRulePoints.Entries.{block_lives}
 use Rattle.seize_alone.proofs.Spared.Operations.{IsSparingPlan, plan_takes, plan_spares, sparing_as, takes_as}
 
 link_some : (a d : ℕ) → a ≡ link d → 0 < d → 0 < a

@@ -7,8 +7,8 @@ use Rattle.seize_words.proofs.OneOwner.AfterWrites.{word_at-with_word, value_at-
 use Rattle.seize.specs.declared.states.TheConstants.{HEAD}
 use Rattle.seize.specs.World.{times, IsOwn}
 use Rattle.seize_alone.specs.Alone.{Spares}
-use Rattle.seize_sets.proofs.Given.SeizeRule.Words.View.{list_in}
-use Rattle.seize_sets.proofs.Given.SeizeRule.Words.Named.{same_at-true}
+use Rattle.seize_sets.proofs.Given.SeizeRuleWords.View.{list_in}
+use Rattle.seize_sets.proofs.Given.SeizeRuleWords.Named.{same_at-true}
 
 module _ {T : Type 0} (defers : T → Option ℕ) where
   -- no list of further values begins with the word

@@ -5,8 +5,8 @@ use Rattle.seize_words.specs.declared.at.At.{At}
 use Rattle.seize_words.specs.Op.{Op, Out, Load, Store, Swap, Add, Or, Exchange, Make, Take, Rewrite, Room, Found, Stored, Exchanged, Made, Taken, Roomed}
 use Rattle.seize_words.specs.Mem.{Mem, value_at, word_at, with_word, with_block, Can, Took, Gives, after}
 use Rattle.seize_words.specs.Plan.{Plan, Turn, Do, May, Steps}
-use Rattle.seize_sets.proofs.Given.SeizeRule.Words.Named.{wrote, taken_one}
-use Rattle.seize_sets.proofs.Given.SeizeRule.Words.Kept.{IsQuiet, IsQuietPlan}
+use Rattle.seize_sets.proofs.Given.SeizeRuleWords.Named.{wrote, taken_one}
+use Rattle.seize_sets.proofs.Given.SeizeRuleWords.Kept.{IsQuiet, IsQuietPlan}
 
 module _ {T : Type 0} where
   -- the blocks that are there have the values that they had

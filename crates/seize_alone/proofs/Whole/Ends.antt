@@ -14,10 +14,10 @@ use Rattle.seize.specs.Leave.{leave_plan}
 use Rattle.seize.specs.declared.states.TheConstants.{LAST_SLOT}
 use Rattle.seize.specs.World.{World, Row, Settles, Leaves, Request, Begin, Step, at_start}
 use Rattle.seize_alone.specs.Alone.{History, IsMidway, TakesSteps, CallSteps, at_rest, row_of}
-use Rattle.seize_sets.proofs.Given.SeizeEnds.Settling.Most.{is_going, settle_to_go}
-use Rattle.seize_sets.proofs.Given.SeizeEnds.Rows.Lone.{leave_to_go, settles_lower, leaves_lower}
-use Rattle.seize_sets.proofs.Given.SeizeEnds.Batches.Rows.{HeldByRows, happens_held, start_held, turns_held, settles_alone}
-use Rattle.seize_sets.proofs.Given.SeizeRule.World.Rested.{start_rested}
+use Rattle.seize_sets.proofs.Given.SeizeEndsSettling.Most.{is_going, settle_to_go}
+use Rattle.seize_sets.proofs.Given.SeizeEndsRows.Lone.{leave_to_go, settles_lower, leaves_lower}
+use Rattle.seize_sets.proofs.Given.SeizeEndsBatches.Rows.{HeldByRows, happens_held, start_held, turns_held, settles_alone}
+use Rattle.seize_sets.proofs.Given.SeizeRuleWorld.Rested.{start_rested}
 use Rattle.seize_alone.proofs.Histories.Calls.{history_rested}
 use Rattle.seize_alone.proofs.Whole.Steps.{Since, since, since_step, since_begun}
 

@@ -13,8 +13,8 @@ use Rattle.seize.specs.Law.{Entered}
 use Rattle.seize.specs.World.{World, Rests, Enters, Frees, Vacant, Outside, Inside, Changing, Enter', Unregister', Request, Begins, with_row, with_use, after_step}
 use Rattle.seize.specs.Sequence.{Calls}
 use Rattle.seize_alone.specs.Alone.{History, IsHistory, at_rest, entered, given_up}
-use Rattle.seize_sets.proofs.Given.SeizeRule.World.Rested.{Lone, begins_lone}
-use Rattle.seize_sets.proofs.Given.SeizeRule.World.Kept.{row_may}
+use Rattle.seize_sets.proofs.Given.SeizeRuleWorld.Rested.{Lone, begins_lone}
+use Rattle.seize_sets.proofs.Given.SeizeRuleWorld.Kept.{row_may}
 use Rattle.seize_alone.proofs.Histories.Calls.{with_anew, rests_anew, called_history, history_rested}
 
 module _ {T : Type 0} (defers : T → Option ℕ) (batch_size roots : ℕ) (m : Mem T) (h : History) (had : IsHistory defers batch_size roots m h) where

@@ -19,24 +19,24 @@ use Rattle.seize.specs.Law.{Effect, Entered, Left, Linked, Unlinked, Deferred, R
 use Rattle.seize.specs.World.{World, Row, Rests, Settles, Leaves, Use, Vacant, Outside, Inside, Changing, Hand, NoBlock, LeftTo, Request, Retire, Flush, Leave', LeaveOwned, Refresh, with_at, one_more, one_less, handed_by, settle_effects, leave_effects, left_as, settles_on, leaves_on}
 use Rattle.seize.specs.Sequence.{taken_in}
 use Rattle.seize_alone.specs.Alone.{Spares}
-use Rattle.seize_sets.proofs.Given.SeizeRule.Words.View.{view}
-use Rattle.seize_sets.proofs.Given.SeizeRule.Points.Known.{FitsAt, bare}
-use Rattle.seize_sets.proofs.Given.SeizeRule.Rows.Known.{FitsLeave, FitsRow}
-use Rattle.seize_sets.proofs.Given.SeizeRule.World.Start.{words_good}
-use Rattle.seize_sets.proofs.Given.SeizeRule.Rows.Leaving.{with_same}
-use Rattle.seize_sets.proofs.Given.SeizeRule.Points.Settle.{is_over, settle_steps}
-use Rattle.seize_sets.proofs.Given.SeizeRule.World.Rested.{Lone}
-use Rattle.seize_sets.proofs.Given.SeizeRule.World.Kept.{row_may}
-use Rattle.seize_sets.proofs.Given.SeizeRule.Rows.Others.{with_here}
-use Rattle.seize_sets.proofs.Given.SeizeRule.Words.Kept.{settle_quiet}
+use Rattle.seize_sets.proofs.Given.SeizeRuleWords.View.{view}
+use Rattle.seize_sets.proofs.Given.SeizeRulePoints.Known.{FitsAt, bare}
+use Rattle.seize_sets.proofs.Given.SeizeRuleRows.Known.{FitsLeave, FitsRow}
+use Rattle.seize_sets.proofs.Given.SeizeRuleWorld.Start.{words_good}
+use Rattle.seize_sets.proofs.Given.SeizeRuleRows.Leaving.{with_same}
+use Rattle.seize_sets.proofs.Given.SeizeRulePoints.Settle.{is_over, settle_steps}
+use Rattle.seize_sets.proofs.Given.SeizeRuleWorld.Rested.{Lone}
+use Rattle.seize_sets.proofs.Given.SeizeRuleWorld.Kept.{row_may}
+use Rattle.seize_sets.proofs.Given.SeizeRuleRows.Others.{with_here}
+use Rattle.seize_sets.proofs.Given.SeizeRuleWords.Kept.{settle_quiet}
 use Rattle.seize_alone.proofs.Histories.Calls.{with_anew}
 use Rattle.seize_alone.proofs.Spared.Values.{Keeps, plan_keeps}
-use Rattle.seize_sets.proofs.Given.SeizeRule.Rows.Taken.{TellsTaken, settle_tells}
+use Rattle.seize_sets.proofs.Given.SeizeRuleRows.Taken.{TellsTaken, settle_tells}
 use Rattle.seize_alone.proofs.Spared.Steps.{settle_spares, leave_spares}
 use Rattle.seize_alone.proofs.Spared.Links.{SameNext, settle_next, leave_next}
-use Rattle.seize_sets.proofs.Given.SeizeRule.Points.Aside.{HandFits}
-use Rattle.seize_sets.proofs.Given.SeizeMoves.State.Ghost.{IsLeft}
-use Rattle.seize_sets.proofs.Given.SeizeRule.Rows.LeavesTold.{UsedAs, LeaveIs, leave_still, leave_quiet}
+use Rattle.seize_sets.proofs.Given.SeizeRulePoints.Aside.{HandFits}
+use Rattle.seize_sets.proofs.Given.SeizeMovesState.Ghost.{IsLeft}
+use Rattle.seize_sets.proofs.Given.SeizeRuleRows.LeavesTold.{UsedAs, LeaveIs, leave_still, leave_quiet}
 
 -- one row more works on the slot, and then one less
 pub less_more : (u : Use) → one_less (one_more u) ≡ u

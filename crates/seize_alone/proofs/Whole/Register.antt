@@ -20,10 +20,10 @@ use Rattle.seize.specs.WaitingSets.{Change, Enters}
 use Rattle.seize.specs.World.{World, Rests, Registers, Use, Inside, Outside, Hand, Register', Steps', with_at, register_effects, handed_by, registers_on}
 use Rattle.seize.specs.Sequence.{RunsOn, new_slot, changes}
 use Rattle.seize_alone.specs.Alone.{History, IsHistory, at_rest, registered, IsRefusal, TakesSteps, TellsSlot}
-use Rattle.seize_sets.proofs.Given.SeizeRule.World.Rested.{Lone, steps_lone}
-use Rattle.seize_sets.proofs.Given.SeizeRule.World.Kept.{row_may}
+use Rattle.seize_sets.proofs.Given.SeizeRuleWorld.Rested.{Lone, steps_lone}
+use Rattle.seize_sets.proofs.Given.SeizeRuleWorld.Kept.{row_may}
 use Rattle.seize_sets.proofs.Slots.Registers.{use_taken, WhyRefused, LooksAt, RegistersOn, Comes, GoesOn, IsRefused, TakesFirst, registers_alone}
-use Rattle.seize_sets.proofs.Given.SeizeEnds.Rows.Register.{register_to_go, register_ends, IsUnderWay}
+use Rattle.seize_sets.proofs.Given.SeizeEndsRows.Register.{register_to_go, register_ends, IsUnderWay}
 use Rattle.seize_sets.proofs.Slots.Least.{entered_if, refused_changes, taken_changes}
 use Rattle.seize_alone.proofs.Histories.Calls.{with_anew, rests_anew, called_history}
 use Rattle.seize_alone.proofs.Whole.Enter.{first_may}

@@ -14,9 +14,9 @@ use Rattle.seize.specs.Settle.{settle_plan}
 use Rattle.seize.specs.Leave.{leave_plan}
 use Rattle.seize.specs.World.{Request, MayStep}
 use Rattle.seize_alone.specs.Alone.{History, IsMidway, IsEnded, CallSteps, given_back, row_of}
-use Rattle.seize_sets.proofs.Given.SeizeRule.Words.Kept.{IsQuiet, IsQuietPlan, settle_quiet}
-use Rattle.seize_sets.proofs.Given.SeizeEnds.Settling.Most.{is_going}
-use Rattle.seize_sets.proofs.Given.SeizeRule.Rows.LeavesTold.{leave_quiet}
+use Rattle.seize_sets.proofs.Given.SeizeRuleWords.Kept.{IsQuiet, IsQuietPlan, settle_quiet}
+use Rattle.seize_sets.proofs.Given.SeizeEndsSettling.Most.{is_going}
+use Rattle.seize_sets.proofs.Given.SeizeRuleRows.LeavesTold.{leave_quiet}
 use Rattle.seize_alone.proofs.Whole.Steps.{call_may, call_told}
 use Rattle.seize_alone.proofs.Whole.Ends.{call_to_go, call_falls}
 

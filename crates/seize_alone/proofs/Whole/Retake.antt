@@ -10,8 +10,8 @@ use Rattle.seize.specs.WaitingSets.{Change}
 use Rattle.seize.specs.World.{World, Use, Vacant, Outside, Register', with_at}
 use Rattle.seize.specs.Sequence.{Calls, new_slot}
 use Rattle.seize_alone.specs.Alone.{History, IsHistory, at_rest, registered}
-use Rattle.seize_sets.proofs.Given.SeizeRule.Words.Named.{same_at-refl}
-use Rattle.seize_sets.proofs.Given.SeizeRule.World.Rested.{Rested, calls_rested}
+use Rattle.seize_sets.proofs.Given.SeizeRuleWords.Named.{same_at-refl}
+use Rattle.seize_sets.proofs.Given.SeizeRuleWorld.Rested.{Rested, calls_rested}
 use Rattle.seize_sets.proofs.Turns.Heads.{WordOf, word_says, vacant_by}
 use Rattle.seize_sets.proofs.Slots.Retaken.{retaken}
 use Rattle.seize_sets.proofs.Slots.Vacant.{new_slot_is}

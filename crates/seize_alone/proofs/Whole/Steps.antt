@@ -20,20 +20,20 @@ use Rattle.seize.specs.WaitingSets.{Change, all_changed, at_start as sets_at_sta
 use Rattle.seize.specs.World.{World, Row, Rests, Registers, Enters, Settles, Leaves, Defers, Frees, Hand, Use, Changing, Handed, LeftTo, Request, Register', Enter', Unregister', Retire, Flush, Leave', LeaveOwned, Refresh, Defer', Begins, Steps', MayStep, with_row, with_use, with_hand, one_more, handed_by, settle_effects, leave_effects, settles_on, leaves_on}
 use Rattle.seize.specs.Sequence.{Calls, taken_in, changes}
 use Rattle.seize_alone.specs.Alone.{History, IsHistory, IsMidway, IsEnded, MayGive, TakesSteps, AreValues, Spares, CallSteps, at_rest, blocks_in, called, given_back, hand_at, uses_after, row_of}
-use Rattle.seize_sets.proofs.Given.SeizeRule.World.Rested.{Lone, steps_lone, lone_rested}
-use Rattle.seize_sets.proofs.Given.SeizeRule.World.Kept.{row_may}
+use Rattle.seize_sets.proofs.Given.SeizeRuleWorld.Rested.{Lone, steps_lone, lone_rested}
+use Rattle.seize_sets.proofs.Given.SeizeRuleWorld.Kept.{row_may}
 use Rattle.seize_sets.proofs.Turns.All.{rows_follow}
-use Rattle.seize_sets.proofs.Given.SeizeRule.Rows.Others.{with_here, with_other}
+use Rattle.seize_sets.proofs.Given.SeizeRuleRows.Others.{with_here, with_other}
 use Rattle.seize_alone.proofs.Histories.Calls.{called_history}
 use Rattle.seize_alone.proofs.Whole.Enter.{first_may}
 use Rattle.seize_alone.proofs.Whole.Register.{steps_more, steps_end}
 use Rattle.seize_alone.proofs.Spared.Values.{Keeps, keeps_twice}
 use Rattle.seize_alone.proofs.Spared.Operations.{spares_same, spares_twice}
 use Rattle.seize_alone.proofs.Spared.Links.{SameNext}
-use Rattle.seize_sets.proofs.Given.SeizeRule.Rows.Taken.{TellsTaken, settle_tells}
-use Rattle.seize_sets.proofs.Given.SeizeRule.Words.Kept.{settle_quiet}
+use Rattle.seize_sets.proofs.Given.SeizeRuleRows.Taken.{TellsTaken, settle_tells}
+use Rattle.seize_sets.proofs.Given.SeizeRuleWords.Kept.{settle_quiet}
 use Rattle.seize_alone.proofs.Spared.Fewer.{take_fewer, plan_fewer}
-use Rattle.seize_sets.proofs.Given.SeizeRule.Rows.LeavesTold.{leave_tells, leave_quiet}
+use Rattle.seize_sets.proofs.Given.SeizeRuleRows.LeavesTold.{leave_tells, leave_quiet}
 use Rattle.seize_alone.proofs.Whole.Midway.{Did, Stands, SettlesFor, LeavesFor, handed_append, taken_append, settles_did, leaves_did, settles_for, leaves_for}
 
 -- the row is one that settles or leaves, or it has ended

@@ -4,16 +4,16 @@ use Rattle.std.proofs.lemmas.Bool.{ne_eqb}
 use Rattle.seize.specs.declared.rows.settle.Settle.{Settle}
 use Rattle.seize.specs.declared.rows.defer.Deferring.TheVariants as deferring
 use Rattle.seize.specs.World.{Row, Registers, Leaves, Defers, Frees, Use}
-use Rattle.seize_acts.proofs.Given.SeizeMoves.State.Ghost.{State, Entry, Open, Closing, put}
-use Rattle.seize_acts.proofs.Given.SeizeMoves.State.Rule.{Inv}
-use Rattle.seize_acts.proofs.Given.SeizeMoves.State.Moves
-use Rattle.seize_acts.proofs.Given.SeizeMoves.Sets.Unmoved.{Unmoved}
-use Rattle.seize_acts.proofs.Given.SeizeRule.Points.Passed.{passed_rest}
-use Rattle.seize_acts.proofs.Given.SeizeRule.Points.Told.{Part, part, batch_now, Told, Stays, Holds, HoldsNone, Gives, Begins, Appends, Fills, Skips, Passes, Finds, Marks}
-use Rattle.seize_acts.proofs.Given.SeizeRule.Points.Told.{GivesUp, Closes, Pushes, Misses, Sums, SumsLast, Drains, DrainsNone, Takes, TakesLast, Joins, Counts, CountsLast}
-use Rattle.seize_acts.proofs.Given.SeizeRule.Rows.Told.{RowTold, SettleGoes, SettleEnds, LeaveSwaps, LeaveGoes, LeaveSettled, LeaveEnds, RegisterLooks, RegisterRefused}
-use Rattle.seize_acts.proofs.Given.SeizeRule.Rows.Told.{RegisterTakes, RegisterEnters, EntersSlot, FreesSlot, DeferGoes, DeferPushes, DeferEnds, IsSettled}
-use Rattle.seize_acts.proofs.Given.SeizeRule.Rows.Told.{IsLooking, list_off}
+use Rattle.seize_acts.proofs.Given.SeizeMovesState.Ghost.{State, Entry, Open, Closing, put}
+use Rattle.seize_acts.proofs.Given.SeizeMovesState.Rule.{Inv}
+use Rattle.seize_acts.proofs.Given.SeizeMovesState.Moves
+use Rattle.seize_acts.proofs.Given.SeizeMovesSets.Unmoved.{Unmoved}
+use Rattle.seize_acts.proofs.Given.SeizeRulePoints.Passed.{passed_rest}
+use Rattle.seize_acts.proofs.Given.SeizeRulePoints.Told.{Part, part, batch_now, Told, Stays, Holds, HoldsNone, Gives, Begins, Appends, Fills, Skips, Passes, Finds, Marks}
+use Rattle.seize_acts.proofs.Given.SeizeRulePoints.Told.{GivesUp, Closes, Pushes, Misses, Sums, SumsLast, Drains, DrainsNone, Takes, TakesLast, Joins, Counts, CountsLast}
+use Rattle.seize_acts.proofs.Given.SeizeRuleRows.Told.{RowTold, SettleGoes, SettleEnds, LeaveSwaps, LeaveGoes, LeaveSettled, LeaveEnds, RegisterLooks, RegisterRefused}
+use Rattle.seize_acts.proofs.Given.SeizeRuleRows.Told.{RegisterTakes, RegisterEnters, EntersSlot, FreesSlot, DeferGoes, DeferPushes, DeferEnds, IsSettled}
+use Rattle.seize_acts.proofs.Given.SeizeRuleRows.Told.{IsLooking, list_off}
 use Rattle.seize_bounds.proofs.Bounds.Opened.{WorksThere}
 
 -- what a row has in hand is the same, and the batch that it closes

@@ -25,11 +25,11 @@ use Rattle.seize.specs.Defer as defer
 use Rattle.seize.specs.World.{World, Row, Rests, Registers, Enters, Settles, Leaves, Defers, Frees, Event, Begin, Step, Makes, Drops, Links, Parts, Unlinks}
 use Rattle.seize.specs.World.{Rewrites, Operates, Ends, LeavesOver, Relinks, Clears, Chooses, Happens, Steps', IsOwn, IsOwnOp, Hand, Making, LeftTo, Handed}
 use Rattle.seize.specs.Sequence.{IsBetween}
-use Rattle.seize_acts.proofs.Given.SeizeRule.Words.Named.{words_of, wrote, made_one, taken_one, write_apart}
-use Rattle.seize_acts.proofs.Given.SeizeRule.Words.Rewritten.{rewritten_words}
-use Rattle.seize_acts.proofs.Given.SeizeRule.World.Events.{missing}
-use Rattle.seize_acts.proofs.Given.SeizeRule.Rows.Told.{IsSettled, IsLooking}
-use Rattle.seize_acts.proofs.Given.SeizeEnds.Batches.Rows.{made_memory, registers_memory, defers_memory}
+use Rattle.seize_acts.proofs.Given.SeizeRuleWords.Named.{words_of, wrote, made_one, taken_one, write_apart}
+use Rattle.seize_acts.proofs.Given.SeizeRuleWords.Rewritten.{rewritten_words}
+use Rattle.seize_acts.proofs.Given.SeizeRuleWorld.Events.{missing}
+use Rattle.seize_acts.proofs.Given.SeizeRuleRows.Told.{IsSettled, IsLooking}
+use Rattle.seize_acts.proofs.Given.SeizeEndsBatches.Rows.{made_memory, registers_memory, defers_memory}
 use Rattle.seize_bounds.proofs.Bounds.Beside.{IsAsideRow}
 
 -- a word of a block's entry

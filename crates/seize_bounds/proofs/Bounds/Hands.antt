@@ -12,27 +12,27 @@ use Rattle.seize.specs.World.{World, Row, Settles, Leaves, Event, Begin, Step, M
 use Rattle.seize.specs.World.{Relinks, Clears, Chooses, Happens, Hand, NoBlock, Making, InUse, Parting, Cutting, Handed, LeftTo, Request, Register', Enter', Leave'}
 use Rattle.seize.specs.World.{LeaveOwned, Refresh, Unregister', Retire, Flush, Defer'}
 use Rattle.seize.specs.Sequence.{IsBetween}
-use Rattle.seize_acts.specs.Given.SeizeWaiting.Held.{count}
-use Rattle.seize_acts.proofs.Given.SeizeMoves.State.Ghost.{State, Entry, Stage, Closing, Life, is_in}
-use Rattle.seize_acts.proofs.Given.SeizeMoves.State.Rule.{SameUnlessDead}
-use Rattle.seize_acts.proofs.Given.SeizeMoves.State.Moves
-use Rattle.seize_acts.proofs.Given.SeizeMoves.Sets.Unmoved.{Unmoved}
-use Rattle.seize_acts.proofs.Given.SeizeRule.Words.Chains.{Chain, blocks_of, count_first, waiting}
-use Rattle.seize_acts.proofs.Given.SeizeRule.Words.Sums.{blocks_long}
-use Rattle.seize_acts.proofs.Given.SeizeRule.Words.View.{view}
-use Rattle.seize_acts.proofs.Given.SeizeRule.Words.Shows.{Extra, Spot, Nowhere, Unspent, On, InHands, SpotLife, LinkedIs, stands, is_in_hands}
-use Rattle.seize_acts.proofs.Given.SeizeRule.Points.Aside.{HandFits, is_handed}
-use Rattle.seize_acts.proofs.Given.SeizeRule.Points.Known.{Fits, list_word}
-use Rattle.seize_acts.proofs.Given.SeizeRule.Points.Told.{Pushing, part}
-use Rattle.seize_acts.proofs.Given.SeizeRule.Rows.Known.{FitsRow, FitsLeave}
-use Rattle.seize_acts.proofs.Given.SeizeRule.Rows.SizesKept.{happens_sized}
-use Rattle.seize_acts.proofs.Given.SeizeRule.Rows.Told.{BeginTold}
-use Rattle.seize_acts.proofs.Given.SeizeRule.World.Begins.{begins_next}
-use Rattle.seize_acts.proofs.Given.SeizeRule.World.Events.{leaves_over_good}
-use Rattle.seize_acts.proofs.Given.SeizeRule.World.Good.{Good}
-use Rattle.seize_acts.proofs.Given.SeizeRule.World.Kept.{IsStill, steps_next, users_good}
-use Rattle.seize_acts.proofs.Given.SeizeEnds.Batches.Rows.{begins_memory}
-use Rattle.seize_acts.proofs.Given.SeizeAlone.Histories.Reached.{Reached}
+use Rattle.seize_acts.specs.Given.SeizeWaitingHeld.{count}
+use Rattle.seize_acts.proofs.Given.SeizeMovesState.Ghost.{State, Entry, Stage, Closing, Life, is_in}
+use Rattle.seize_acts.proofs.Given.SeizeMovesState.Rule.{SameUnlessDead}
+use Rattle.seize_acts.proofs.Given.SeizeMovesState.Moves
+use Rattle.seize_acts.proofs.Given.SeizeMovesSets.Unmoved.{Unmoved}
+use Rattle.seize_acts.proofs.Given.SeizeRuleWords.Chains.{Chain, blocks_of, count_first, waiting}
+use Rattle.seize_acts.proofs.Given.SeizeRuleWords.Sums.{blocks_long}
+use Rattle.seize_acts.proofs.Given.SeizeRuleWords.View.{view}
+use Rattle.seize_acts.proofs.Given.SeizeRuleWords.Shows.{Extra, Spot, Nowhere, Unspent, On, InHands, SpotLife, LinkedIs, stands, is_in_hands}
+use Rattle.seize_acts.proofs.Given.SeizeRulePoints.Aside.{HandFits, is_handed}
+use Rattle.seize_acts.proofs.Given.SeizeRulePoints.Known.{Fits, list_word}
+use Rattle.seize_acts.proofs.Given.SeizeRulePoints.Told.{Pushing, part}
+use Rattle.seize_acts.proofs.Given.SeizeRuleRows.Known.{FitsRow, FitsLeave}
+use Rattle.seize_acts.proofs.Given.SeizeRuleRows.SizesKept.{happens_sized}
+use Rattle.seize_acts.proofs.Given.SeizeRuleRows.Told.{BeginTold}
+use Rattle.seize_acts.proofs.Given.SeizeRuleWorld.Begins.{begins_next}
+use Rattle.seize_acts.proofs.Given.SeizeRuleWorld.Events.{leaves_over_good}
+use Rattle.seize_acts.proofs.Given.SeizeRuleWorld.Good.{Good}
+use Rattle.seize_acts.proofs.Given.SeizeRuleWorld.Kept.{IsStill, steps_next, users_good}
+use Rattle.seize_acts.proofs.Given.SeizeEndsBatches.Rows.{begins_memory}
+use Rattle.seize_acts.proofs.Given.SeizeAloneHistories.Reached.{Reached}
 use Rattle.seize_acts.specs.Waits.{SettlesOn}
 use Rattle.seize_bounds.specs.Bounds.{IsOfOthers}
 use Rattle.seize_bounds.proofs.Bounds.Beside.{SameHand, beside, row_same}

@@ -5,15 +5,15 @@ use Rattle.std.proofs.Common.{◌≡◌, ℕ, ◌+◌, ◌<◌, Bool, true, fals
 use Rattle.seize.specs.declared.rows.settle.Settle.{Settle}
 use Rattle.seize.specs.declared.rows.settle.Settling.{Settling}
 use Rattle.seize.specs.declared.rows.settle.Settling.TheVariants as at
-use Rattle.seize_acts.specs.Given.SeizeWaiting.Held.{count}
-use Rattle.seize_acts.proofs.Given.SeizeMoves.State.Ghost.{State, Life, Closing, is_pending}
-use Rattle.seize_acts.proofs.Given.SeizeRule.Words.Named.{link}
-use Rattle.seize_acts.proofs.Given.SeizeRule.Words.Chains.{first_or, waiting}
-use Rattle.seize_acts.proofs.Given.SeizeRule.Words.View.{View}
-use Rattle.seize_acts.proofs.Given.SeizeRule.Words.Shows.{Extra}
-use Rattle.seize_acts.proofs.Given.SeizeRule.Points.Aside.{is_handed}
-use Rattle.seize_acts.proofs.Given.SeizeRule.Points.Known.{CommonOf, Rest, Putting, Shuts, FitsAt, FirstsOf, bare}
-use Rattle.seize_acts.proofs.Given.SeizeRule.Points.Told.{Pushing, part_at, flush_part}
+use Rattle.seize_acts.specs.Given.SeizeWaitingHeld.{count}
+use Rattle.seize_acts.proofs.Given.SeizeMovesState.Ghost.{State, Life, Closing, is_pending}
+use Rattle.seize_acts.proofs.Given.SeizeRuleWords.Named.{link}
+use Rattle.seize_acts.proofs.Given.SeizeRuleWords.Chains.{first_or, waiting}
+use Rattle.seize_acts.proofs.Given.SeizeRuleWords.View.{View}
+use Rattle.seize_acts.proofs.Given.SeizeRuleWords.Shows.{Extra}
+use Rattle.seize_acts.proofs.Given.SeizeRulePoints.Aside.{is_handed}
+use Rattle.seize_acts.proofs.Given.SeizeRulePoints.Known.{CommonOf, Rest, Putting, Shuts, FitsAt, FirstsOf, bare}
+use Rattle.seize_acts.proofs.Given.SeizeRulePoints.Told.{Pushing, part_at, flush_part}
 
 -- the first block to be retired is on its way
 abbrev pub is_popped : Settling → Bool

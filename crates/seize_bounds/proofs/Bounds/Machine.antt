@@ -6,12 +6,12 @@ use Rattle.seize.specs.declared.rows.settle.Settle.{Settle}
 use Rattle.seize.specs.declared.rows.settle.Settling.{Settling}
 use Rattle.seize.specs.declared.rows.settle.Settling.TheVariants as at
 use Rattle.seize.specs.Settle.{onward, with_batch, with_put, without_block, standing}
-use Rattle.seize_acts.proofs.Given.SeizeMoves.State.Ghost.{State, Entry, put}
-use Rattle.seize_acts.proofs.Given.SeizeMoves.State.Moves
-use Rattle.seize_acts.proofs.Given.SeizeRule.Points.Passed.{passed_rest}
-use Rattle.seize_acts.proofs.Given.SeizeRule.Points.Told.{Part, Plain, Pushing, Draining, part, batch_now, Told, Stays, Holds, HoldsNone, Gives, Begins, Appends, Fills, Skips}
-use Rattle.seize_acts.proofs.Given.SeizeRule.Points.Told.{Passes, Finds, Marks, GivesUp, Closes, Pushes, Misses, Sums, SumsLast, Drains, DrainsNone, Takes, TakesLast, Joins}
-use Rattle.seize_acts.proofs.Given.SeizeRule.Points.Told.{Counts, CountsLast}
+use Rattle.seize_acts.proofs.Given.SeizeMovesState.Ghost.{State, Entry, put}
+use Rattle.seize_acts.proofs.Given.SeizeMovesState.Moves
+use Rattle.seize_acts.proofs.Given.SeizeRulePoints.Passed.{passed_rest}
+use Rattle.seize_acts.proofs.Given.SeizeRulePoints.Told.{Part, Plain, Pushing, Draining, part, batch_now, Told, Stays, Holds, HoldsNone, Gives, Begins, Appends, Fills, Skips}
+use Rattle.seize_acts.proofs.Given.SeizeRulePoints.Told.{Passes, Finds, Marks, GivesUp, Closes, Pushes, Misses, Sums, SumsLast, Drains, DrainsNone, Takes, TakesLast, Joins}
+use Rattle.seize_acts.proofs.Given.SeizeRulePoints.Told.{Counts, CountsLast}
 use Rattle.seize_bounds.proofs.Bounds.Moves.{put_here, taken_off}
 
 -- it counts its list, or reclaims, or is over

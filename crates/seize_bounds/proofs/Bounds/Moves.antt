@@ -1,12 +1,12 @@
 -- What the moves of a row leave in its hand: where it only tries its batch there is never more to be retired, and more to be taken only at the end of a try.
 use Rattle.std.proofs.Common.{◌≡◌, ℕ, ◌+◌, ◌≤◌, List, [], ◌∷◌, ◌++◌, length, refl, arith, ap, ◌∙◌}
 use Rattle.seize.specs.declared.rows.settle.Settle.{Settle}
-use Rattle.seize_acts.proofs.Given.SeizeMoves.State.Ghost.{State, Entry, put}
-use Rattle.seize_acts.proofs.Given.SeizeMoves.State.Moves
-use Rattle.seize_acts.proofs.Given.SeizeRule.Points.Passed.{passed_rest}
-use Rattle.seize_acts.proofs.Given.SeizeRule.Points.Told.{Part, Plain, Pushing, Draining, part, batch_now, Told, Stays, Holds, HoldsNone, Gives, Begins, Appends, Fills, Skips}
-use Rattle.seize_acts.proofs.Given.SeizeRule.Points.Told.{Passes, Finds, Marks, GivesUp, Closes, Pushes, Misses, Sums, SumsLast, Drains, DrainsNone, Takes, TakesLast, Joins}
-use Rattle.seize_acts.proofs.Given.SeizeRule.Points.Told.{Counts, CountsLast}
+use Rattle.seize_acts.proofs.Given.SeizeMovesState.Ghost.{State, Entry, put}
+use Rattle.seize_acts.proofs.Given.SeizeMovesState.Moves
+use Rattle.seize_acts.proofs.Given.SeizeRulePoints.Passed.{passed_rest}
+use Rattle.seize_acts.proofs.Given.SeizeRulePoints.Told.{Part, Plain, Pushing, Draining, part, batch_now, Told, Stays, Holds, HoldsNone, Gives, Begins, Appends, Fills, Skips}
+use Rattle.seize_acts.proofs.Given.SeizeRulePoints.Told.{Passes, Finds, Marks, GivesUp, Closes, Pushes, Misses, Sums, SumsLast, Drains, DrainsNone, Takes, TakesLast, Joins}
+use Rattle.seize_acts.proofs.Given.SeizeRulePoints.Told.{Counts, CountsLast}
 
 pub put_here : {X : Type 0} (f : ℕ → X) (k : ℕ) (x : X) → put f k x k ≡ x
 put_here f k x = grind arith

@@ -7,17 +7,17 @@ use Rattle.seize.specs.declared.rows.leave.Leaving.{Leaving}
 use Rattle.seize.specs.declared.rows.leave.Leaving.TheVariants as leaving
 use Rattle.seize.specs.World.{World, Row, Rests, Registers, Enters, Settles, Leaves, Defers, Frees, Use}
 use Rattle.std.specs.Prelude.{Option}
-use Rattle.seize_acts.proofs.Given.SeizeMoves.State.Ghost.{State, Entry, Open}
-use Rattle.seize_acts.proofs.Given.SeizeMoves.State.Rule.{Inv}
-use Rattle.seize_acts.proofs.Given.SeizeMoves.State.Moves
-use Rattle.seize_acts.proofs.Given.SeizeRule.Words.View.{view}
-use Rattle.seize_acts.proofs.Given.SeizeRule.Points.Passed.{passed_rest}
-use Rattle.seize_acts.proofs.Given.SeizeRule.Points.Told.{Part, part, batch_now, Told, Stays, Holds, HoldsNone, Gives, Begins, Appends, Fills, Skips, Passes, Finds, Marks}
-use Rattle.seize_acts.proofs.Given.SeizeRule.Points.Told.{GivesUp, Closes, Pushes, Misses, Sums, SumsLast, Drains, DrainsNone, Takes, TakesLast, Joins, Counts, CountsLast}
-use Rattle.seize_acts.proofs.Given.SeizeRule.Rows.Known.{FitsRow, FitsLeave}
-use Rattle.seize_acts.proofs.Given.SeizeRule.Rows.Told.{RowTold, SettleGoes, SettleEnds, LeaveSwaps, LeaveGoes, LeaveSettled, LeaveEnds, RegisterLooks, RegisterRefused}
-use Rattle.seize_acts.proofs.Given.SeizeRule.Rows.Told.{RegisterTakes, RegisterEnters, EntersSlot, FreesSlot, DeferGoes, DeferPushes, DeferEnds, list_off}
-use Rattle.seize_acts.proofs.Given.SeizeRule.World.Good.{Good}
+use Rattle.seize_acts.proofs.Given.SeizeMovesState.Ghost.{State, Entry, Open}
+use Rattle.seize_acts.proofs.Given.SeizeMovesState.Rule.{Inv}
+use Rattle.seize_acts.proofs.Given.SeizeMovesState.Moves
+use Rattle.seize_acts.proofs.Given.SeizeRuleWords.View.{view}
+use Rattle.seize_acts.proofs.Given.SeizeRulePoints.Passed.{passed_rest}
+use Rattle.seize_acts.proofs.Given.SeizeRulePoints.Told.{Part, part, batch_now, Told, Stays, Holds, HoldsNone, Gives, Begins, Appends, Fills, Skips, Passes, Finds, Marks}
+use Rattle.seize_acts.proofs.Given.SeizeRulePoints.Told.{GivesUp, Closes, Pushes, Misses, Sums, SumsLast, Drains, DrainsNone, Takes, TakesLast, Joins, Counts, CountsLast}
+use Rattle.seize_acts.proofs.Given.SeizeRuleRows.Known.{FitsRow, FitsLeave}
+use Rattle.seize_acts.proofs.Given.SeizeRuleRows.Told.{RowTold, SettleGoes, SettleEnds, LeaveSwaps, LeaveGoes, LeaveSettled, LeaveEnds, RegisterLooks, RegisterRefused}
+use Rattle.seize_acts.proofs.Given.SeizeRuleRows.Told.{RegisterTakes, RegisterEnters, EntersSlot, FreesSlot, DeferGoes, DeferPushes, DeferEnds, list_off}
+use Rattle.seize_acts.proofs.Given.SeizeRuleWorld.Good.{Good}
 use Rattle.seize_acts.specs.Waits.{SettlesOn}
 use Rattle.seize_bounds.proofs.Bounds.Knows.{known_at}
 

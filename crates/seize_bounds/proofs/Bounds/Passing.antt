@@ -4,7 +4,7 @@ use Rattle.std.proofs.Common.{◌≡◌, ℕ, zero, suc, ◌<◌, List, [], ◌�
 use Rattle.seize.specs.World.{World, Row, Event, Begin, Step, Makes, Drops, Links, Parts, Unlinks, Rewrites, Operates, Ends, LeavesOver, Relinks, Clears}
 use Rattle.seize.specs.World.{Chooses, Happens, Steps'}
 use Rattle.seize.specs.Sequence.{IsBetween}
-use Rattle.seize_acts.proofs.Given.SeizeRule.Rows.Others.{begins_others, steps_others, users_rows}
+use Rattle.seize_acts.proofs.Given.SeizeRuleRows.Others.{begins_others, steps_others, users_rows}
 use Rattle.seize_bounds.specs.Bounds.{IsOfOthers, Meanwhile, Within}
 
 module _ {T : Type 0} (defers : T → Option ℕ) (so : World T → Type 0) (size j : ℕ) where

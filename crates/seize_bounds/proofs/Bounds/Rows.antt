@@ -14,19 +14,19 @@ use Rattle.seize.specs.declared.rows.leave.Leaving.TheVariants as leaving
 use Rattle.seize.specs.Settle.{settle_plan}
 use Rattle.seize.specs.Leave.{standing, settled}
 use Rattle.seize.specs.World.{World, Row, Settles, Leaves, Use, Step, Steps', leaves_on, settles_on}
-use Rattle.seize_acts.proofs.Given.SeizeMoves.State.Ghost.{State}
-use Rattle.seize_acts.proofs.Given.SeizeRule.Points.Told.{part, Told}
-use Rattle.seize_acts.proofs.Given.SeizeRule.Points.Stepped.{IsGoing}
-use Rattle.seize_acts.proofs.Given.SeizeRule.Points.Settle.{is_over, settle_steps}
-use Rattle.seize_acts.proofs.Given.SeizeRule.Rows.Leaving.{steps_back}
-use Rattle.seize_acts.proofs.Given.SeizeRule.Rows.Others.{with_here}
-use Rattle.seize_acts.proofs.Given.SeizeRule.Rows.SizesKept.{happens_sized}
-use Rattle.seize_acts.proofs.Given.SeizeRule.Rows.Told.{RowTold, SettleGoes, SettleEnds, LeaveSwaps, LeaveGoes, LeaveSettled, LeaveEnds, RegisterLooks, RegisterRefused}
-use Rattle.seize_acts.proofs.Given.SeizeRule.Rows.Told.{RegisterTakes, RegisterEnters, EntersSlot, FreesSlot, DeferGoes, DeferPushes, DeferEnds, IsSettled}
-use Rattle.seize_acts.proofs.Given.SeizeRule.World.Kept.{steps_next}
-use Rattle.seize_acts.proofs.Given.SeizeRule.World.Start.{words_good}
-use Rattle.seize_acts.proofs.Given.SeizeAlone.Histories.Reached.{Reached}
-use Rattle.seize_acts.proofs.Given.SeizeEnds.Batches.Rows.{settles_memory}
+use Rattle.seize_acts.proofs.Given.SeizeMovesState.Ghost.{State}
+use Rattle.seize_acts.proofs.Given.SeizeRulePoints.Told.{part, Told}
+use Rattle.seize_acts.proofs.Given.SeizeRulePoints.Stepped.{IsGoing}
+use Rattle.seize_acts.proofs.Given.SeizeRulePoints.Settle.{is_over, settle_steps}
+use Rattle.seize_acts.proofs.Given.SeizeRuleRows.Leaving.{steps_back}
+use Rattle.seize_acts.proofs.Given.SeizeRuleRows.Others.{with_here}
+use Rattle.seize_acts.proofs.Given.SeizeRuleRows.SizesKept.{happens_sized}
+use Rattle.seize_acts.proofs.Given.SeizeRuleRows.Told.{RowTold, SettleGoes, SettleEnds, LeaveSwaps, LeaveGoes, LeaveSettled, LeaveEnds, RegisterLooks, RegisterRefused}
+use Rattle.seize_acts.proofs.Given.SeizeRuleRows.Told.{RegisterTakes, RegisterEnters, EntersSlot, FreesSlot, DeferGoes, DeferPushes, DeferEnds, IsSettled}
+use Rattle.seize_acts.proofs.Given.SeizeRuleWorld.Kept.{steps_next}
+use Rattle.seize_acts.proofs.Given.SeizeRuleWorld.Start.{words_good}
+use Rattle.seize_acts.proofs.Given.SeizeAloneHistories.Reached.{Reached}
+use Rattle.seize_acts.proofs.Given.SeizeEndsBatches.Rows.{settles_memory}
 use Rattle.seize_bounds.proofs.Bounds.Hands.{FitsIn, leaving_fits, settling_fits}
 
 -- how a row settles

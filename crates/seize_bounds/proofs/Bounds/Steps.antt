@@ -13,15 +13,15 @@ use Rattle.seize.specs.declared.rows.settle.Settling.TheVariants as at
 use Rattle.seize.specs.declared.rows.settle.Settled.{Settled}
 use Rattle.seize.specs.declared.rows.settle.Settled.TheVariants.{Goes, Gave}
 use Rattle.seize.specs.Settle as plans
-use Rattle.seize_acts.proofs.Given.SeizeMoves.State.Ghost.{State}
-use Rattle.seize_acts.proofs.Given.SeizeRule.Words.Named.{wrote}
-use Rattle.seize_acts.proofs.Given.SeizeRule.Words.Chains.{Chain, blocks_of}
-use Rattle.seize_acts.proofs.Given.SeizeRule.Words.Sums.{blocks_long}
-use Rattle.seize_acts.proofs.Given.SeizeRule.Words.View.{View, view, view_count}
-use Rattle.seize_acts.proofs.Given.SeizeRule.Words.Shows.{Extra, Shows}
-use Rattle.seize_acts.proofs.Given.SeizeRule.Points.Told.{Plain, Pushing, Draining, part, part_at, Told}
-use Rattle.seize_acts.proofs.Given.SeizeRule.Points.Known.{FitsAt, Fits, Downs, bare, list_word}
-use Rattle.seize_acts.proofs.Given.SeizeRule.Points.Down.{word_of_list}
+use Rattle.seize_acts.proofs.Given.SeizeMovesState.Ghost.{State}
+use Rattle.seize_acts.proofs.Given.SeizeRuleWords.Named.{wrote}
+use Rattle.seize_acts.proofs.Given.SeizeRuleWords.Chains.{Chain, blocks_of}
+use Rattle.seize_acts.proofs.Given.SeizeRuleWords.Sums.{blocks_long}
+use Rattle.seize_acts.proofs.Given.SeizeRuleWords.View.{View, view, view_count}
+use Rattle.seize_acts.proofs.Given.SeizeRuleWords.Shows.{Extra, Shows}
+use Rattle.seize_acts.proofs.Given.SeizeRulePoints.Told.{Plain, Pushing, Draining, part, part_at, Told}
+use Rattle.seize_acts.proofs.Given.SeizeRulePoints.Known.{FitsAt, Fits, Downs, bare, list_word}
+use Rattle.seize_acts.proofs.Given.SeizeRulePoints.Down.{word_of_list}
 use Rattle.seize_bounds.proofs.Bounds.Machine.{IsCounting, OnlyCounts, onward_counts, without_counts, point, weight, less_loose, no_more, taken_less}
 use Rattle.seize_bounds.proofs.Bounds.Hands.{chains_agree}
 use Rattle.seize_bounds.proofs.Bounds.Knows.{known_at}

@@ -9,15 +9,15 @@ use Rattle.seize.specs.declared.states.TheConstants.{NEXT, LAST_SLOT}
 use Rattle.seize.specs.Sequence.{taken_in}
 use Rattle.seize.specs.World.{World, Event, Begin, Step, Makes, Drops, Links, Parts, Unlinks, Rewrites, Operates, Ends, LeavesOver, Relinks, Clears, Chooses}
 use Rattle.seize.specs.World.{Happens, Hand, Handed, Making, LeftTo, Steps', times}
-use Rattle.seize_acts.proofs.Given.SeizeMoves.State.Ghost.{IsLeft}
-use Rattle.seize_acts.proofs.Given.SeizeRule.Words.Shows.{lives}
-use Rattle.seize_acts.proofs.Given.SeizeRule.Words.There.{entry_there}
-use Rattle.seize_acts.proofs.Given.SeizeRule.Points.Aside.{HandFits}
-use Rattle.seize_acts.proofs.Given.SeizeRule.World.Values.{own_op_value, taken_value, made_value, rewritten_value}
-use Rattle.seize_acts.proofs.Given.SeizeAlone.Spared.Rows.{RowStepped}
-use Rattle.seize_acts.proofs.Given.SeizeAlone.Histories.Reached.{Reached}
-use Rattle.seize_acts.proofs.Given.SeizeAlone.Histories.NotTaken.{did, taken_gone}
-use Rattle.seize_acts.proofs.Given.SeizeEnds.Batches.Rows.{begins_memory, made_memory}
+use Rattle.seize_acts.proofs.Given.SeizeMovesState.Ghost.{IsLeft}
+use Rattle.seize_acts.proofs.Given.SeizeRuleWords.Shows.{lives}
+use Rattle.seize_acts.proofs.Given.SeizeRuleWords.There.{entry_there}
+use Rattle.seize_acts.proofs.Given.SeizeRulePoints.Aside.{HandFits}
+use Rattle.seize_acts.proofs.Given.SeizeRuleWorld.Values.{own_op_value, taken_value, made_value, rewritten_value}
+use Rattle.seize_acts.proofs.Given.SeizeAloneSpared.Rows.{RowStepped}
+use Rattle.seize_acts.proofs.Given.SeizeAloneHistories.Reached.{Reached}
+use Rattle.seize_acts.proofs.Given.SeizeAloneHistories.NotTaken.{did, taken_gone}
+use Rattle.seize_acts.proofs.Given.SeizeEndsBatches.Rows.{begins_memory, made_memory}
 use Rattle.seize_bounds.specs.Bounds.{ArePlain}
 use Rattle.seize_bounds.proofs.Bounds.Entries.{apart_made, apart_left}
 

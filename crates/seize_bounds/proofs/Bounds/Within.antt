@@ -8,13 +8,13 @@ use Rattle.seize.specs.declared.rows.settle.Settling.TheVariants as at
 use Rattle.seize.specs.declared.rows.leave.Leave.{Leave}
 use Rattle.seize.specs.Settle.{counting_down}
 use Rattle.seize.specs.World.{World, Row, Event, Steps', at_start}
-use Rattle.seize_acts.proofs.Given.SeizeMoves.State.Ghost.{Life, is_doomed}
-use Rattle.seize_acts.proofs.Given.SeizeRule.Words.Sums.{list_below}
-use Rattle.seize_acts.proofs.Given.SeizeRule.Words.Shows.{lives}
-use Rattle.seize_acts.proofs.Given.SeizeRule.Points.Settle.{is_over}
-use Rattle.seize_acts.proofs.Given.SeizeRule.World.Good.{Good}
-use Rattle.seize_acts.proofs.Given.SeizeRule.World.Start.{start_good}
-use Rattle.seize_acts.proofs.Given.SeizeAlone.Histories.Reached.{Reached, runs_reached}
+use Rattle.seize_acts.proofs.Given.SeizeMovesState.Ghost.{Life, is_doomed}
+use Rattle.seize_acts.proofs.Given.SeizeRuleWords.Sums.{list_below}
+use Rattle.seize_acts.proofs.Given.SeizeRuleWords.Shows.{lives}
+use Rattle.seize_acts.proofs.Given.SeizeRulePoints.Settle.{is_over}
+use Rattle.seize_acts.proofs.Given.SeizeRuleWorld.Good.{Good}
+use Rattle.seize_acts.proofs.Given.SeizeRuleWorld.Start.{start_good}
+use Rattle.seize_acts.proofs.Given.SeizeAloneHistories.Reached.{Reached, runs_reached}
 use Rattle.seize_bounds.specs.Bounds.{HasCounted, ArePlain, Meanwhile, CountsWithin, ListsAreCounted}
 use Rattle.seize_bounds.proofs.Bounds.Machine.{IsCounting, OnlyCounts, MOST, point, each, weight}
 use Rattle.seize_bounds.proofs.Bounds.Hands.{after_event}

@@ -3,16 +3,16 @@ use Rattle.std.proofs.Common.{◌≡◌, ℕ, zero, suc, ◌+◌, ◌*◌, ◌<�
 use Rattle.std.proofs.Common.{arith, ap, sym, subst, ◌∙◌}
 use Rattle.seize.specs.declared.states.TheConstants.{LAST_SLOT, MOST_LOST}
 use Rattle.seize.specs.declared.rows.settle.Settle.{Settle}
-use Rattle.seize_acts.specs.Given.SeizeWaiting.Held.{count}
-use Rattle.seize_acts.proofs.Given.SeizeMoves.State.Ghost.{State, Entry, Life, Closing, put, is_deferred, lies_with}
-use Rattle.seize_acts.proofs.Given.SeizeMoves.State.Ghost.{IsDeferred}
-use Rattle.seize_acts.proofs.Given.SeizeMoves.State.Rule.{Inv}
-use Rattle.seize_acts.proofs.Given.SeizeMoves.State.Moves
-use Rattle.seize_acts.proofs.Given.SeizeRule.Words.Chains.{waiting, count_first}
-use Rattle.seize_acts.proofs.Given.SeizeRule.Points.Passed.{passed_rest}
-use Rattle.seize_acts.proofs.Given.SeizeRule.Points.Told.{Part, Plain, Flushing, Trying, Marking, Pushing, Draining, part, batch_now, Told, Stays, Holds, HoldsNone, Gives, Begins}
-use Rattle.seize_acts.proofs.Given.SeizeRule.Points.Told.{Appends, Fills, Skips, Passes, Finds, Marks, GivesUp, Closes, Pushes, Misses, Sums, SumsLast, Drains, DrainsNone}
-use Rattle.seize_acts.proofs.Given.SeizeRule.Points.Told.{Takes, TakesLast, Joins, Counts, CountsLast}
+use Rattle.seize_acts.specs.Given.SeizeWaitingHeld.{count}
+use Rattle.seize_acts.proofs.Given.SeizeMovesState.Ghost.{State, Entry, Life, Closing, put, is_deferred, lies_with}
+use Rattle.seize_acts.proofs.Given.SeizeMovesState.Ghost.{IsDeferred}
+use Rattle.seize_acts.proofs.Given.SeizeMovesState.Rule.{Inv}
+use Rattle.seize_acts.proofs.Given.SeizeMovesState.Moves
+use Rattle.seize_acts.proofs.Given.SeizeRuleWords.Chains.{waiting, count_first}
+use Rattle.seize_acts.proofs.Given.SeizeRulePoints.Passed.{passed_rest}
+use Rattle.seize_acts.proofs.Given.SeizeRulePoints.Told.{Part, Plain, Flushing, Trying, Marking, Pushing, Draining, part, batch_now, Told, Stays, Holds, HoldsNone, Gives, Begins}
+use Rattle.seize_acts.proofs.Given.SeizeRulePoints.Told.{Appends, Fills, Skips, Passes, Finds, Marks, GivesUp, Closes, Pushes, Misses, Sums, SumsLast, Drains, DrainsNone}
+use Rattle.seize_acts.proofs.Given.SeizeRulePoints.Told.{Takes, TakesLast, Joins, Counts, CountsLast}
 use Rattle.seize_bounds.proofs.Bounds.Machine.{MOST}
 use Rattle.seize_bounds.proofs.Bounds.Moves.{put_here}
 

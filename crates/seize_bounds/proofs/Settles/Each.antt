@@ -9,11 +9,11 @@ use Rattle.seize.specs.declared.rows.settle.Settling.{Settling}
 use Rattle.seize.specs.declared.rows.settle.Settling.TheVariants as at
 use Rattle.seize.specs.declared.rows.settle.Settled.{Settled}
 use Rattle.seize.specs.Settle as plans
-use Rattle.seize_acts.proofs.Given.SeizeMoves.State.Ghost.{State}
-use Rattle.seize_acts.proofs.Given.SeizeRule.Words.View.{view}
-use Rattle.seize_acts.proofs.Given.SeizeRule.Words.Shows.{Extra}
-use Rattle.seize_acts.proofs.Given.SeizeRule.Points.Told.{part_at, Told}
-use Rattle.seize_acts.proofs.Given.SeizeRule.Points.Known.{FitsAt, bare}
+use Rattle.seize_acts.proofs.Given.SeizeMovesState.Ghost.{State}
+use Rattle.seize_acts.proofs.Given.SeizeRuleWords.View.{view}
+use Rattle.seize_acts.proofs.Given.SeizeRuleWords.Shows.{Extra}
+use Rattle.seize_acts.proofs.Given.SeizeRulePoints.Told.{part_at, Told}
+use Rattle.seize_acts.proofs.Given.SeizeRulePoints.Known.{FitsAt, bare}
 use Rattle.seize_bounds.proofs.Settles.Measure.{SeenAt}
 use Rattle.seize_bounds.proofs.Settles.Step.{Stepping, Less}
 use Rattle.seize_bounds.proofs.Settles.Points.{sees_less, holds_less, pops_less, firsts_less, batches_less, ends_less, appends_less, counts_less, scans_less}

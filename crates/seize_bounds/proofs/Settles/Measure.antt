@@ -6,10 +6,10 @@ use Rattle.seize.specs.declared.rows.settle.Settle.{Settle}
 use Rattle.seize.specs.declared.rows.settle.Settling.{Settling}
 use Rattle.seize.specs.declared.rows.settle.Settling.TheVariants as at
 use Rattle.seize.specs.Settle.{onward, with_batch, standing}
-use Rattle.seize_acts.specs.Given.SeizeWaiting.Held.{count}
-use Rattle.seize_acts.proofs.Given.SeizeMoves.State.Ghost.{State}
-use Rattle.seize_acts.proofs.Given.SeizeRule.Words.Named.{link}
-use Rattle.seize_acts.proofs.Given.SeizeRule.Words.Chains.{last_of, count_first}
+use Rattle.seize_acts.specs.Given.SeizeWaitingHeld.{count}
+use Rattle.seize_acts.proofs.Given.SeizeMovesState.Ghost.{State}
+use Rattle.seize_acts.proofs.Given.SeizeRuleWords.Named.{link}
+use Rattle.seize_acts.proofs.Given.SeizeRuleWords.Chains.{last_of, count_first}
 use Rattle.seize_bounds.proofs.Bounds.Knows.{is_popped}
 use Rattle.seize_bounds.proofs.Settles.Carried.{TAKING, PUSHING, SHUTTING, SCANNING, TRYING}
 

@@ -5,16 +5,16 @@ use Rattle.seize_words.specs.Mem.{value_at}
 use Rattle.seize.specs.declared.states.TheConstants.{LAST_SLOT}
 use Rattle.seize.specs.declared.rows.settle.Settle.{Settle}
 use Rattle.seize.specs.World.{World, Event, Happens}
-use Rattle.seize_acts.specs.Given.SeizeWaiting.Held.{count}
-use Rattle.seize_acts.proofs.Given.SeizeMoves.State.Ghost.{State, Life, IsFree, Stage, Closing, is_doomed, is_in}
-use Rattle.seize_acts.proofs.Given.SeizeMoves.State.Rule.{Inv, SameUnlessDead}
-use Rattle.seize_acts.proofs.Given.SeizeRule.Words.Chains.{waiting}
-use Rattle.seize_acts.proofs.Given.SeizeRule.Words.Shows.{CarrierIs, lives}
-use Rattle.seize_acts.proofs.Given.SeizeRule.Words.There.{value_there}
-use Rattle.seize_acts.proofs.Given.SeizeRule.Words.View.{list_in}
-use Rattle.seize_acts.proofs.Given.SeizeRule.Points.Aside.{is_handed}
-use Rattle.seize_acts.proofs.Given.SeizeRule.Points.Told.{Part, Pushing, part}
-use Rattle.seize_acts.proofs.Given.SeizeAlone.Histories.Reached.{Reached}
+use Rattle.seize_acts.specs.Given.SeizeWaitingHeld.{count}
+use Rattle.seize_acts.proofs.Given.SeizeMovesState.Ghost.{State, Life, IsFree, Stage, Closing, is_doomed, is_in}
+use Rattle.seize_acts.proofs.Given.SeizeMovesState.Rule.{Inv, SameUnlessDead}
+use Rattle.seize_acts.proofs.Given.SeizeRuleWords.Chains.{waiting}
+use Rattle.seize_acts.proofs.Given.SeizeRuleWords.Shows.{CarrierIs, lives}
+use Rattle.seize_acts.proofs.Given.SeizeRuleWords.There.{value_there}
+use Rattle.seize_acts.proofs.Given.SeizeRuleWords.View.{list_in}
+use Rattle.seize_acts.proofs.Given.SeizeRulePoints.Aside.{is_handed}
+use Rattle.seize_acts.proofs.Given.SeizeRulePoints.Told.{Part, Pushing, part}
+use Rattle.seize_acts.proofs.Given.SeizeAloneHistories.Reached.{Reached}
 use Rattle.seize_bounds.proofs.Bounds.Hands.{SameInHand, SameShut, in_batch, in_hand}
 use Rattle.seize_bounds.proofs.Bounds.Knows.{behind_count, pending_handed, put_handed}
 use Rattle.seize_bounds.proofs.Bounds.Values.{value_kept}

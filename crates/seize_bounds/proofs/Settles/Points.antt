@@ -15,14 +15,14 @@ use Rattle.seize.specs.declared.rows.settle.Settling.TheVariants as at
 use Rattle.seize.specs.declared.rows.settle.Settled.{Settled}
 use Rattle.seize.specs.declared.rows.settle.Settled.TheVariants.{Goes, Waits}
 use Rattle.seize.specs.Settle as plans
-use Rattle.seize_acts.proofs.Given.SeizeMoves.State.Ghost.{State}
-use Rattle.seize_acts.proofs.Given.SeizeRule.Words.Named.{words_of, word_found, wrote, link}
-use Rattle.seize_acts.proofs.Given.SeizeRule.Words.Chains.{Chain, last_of, waiting}
-use Rattle.seize_acts.proofs.Given.SeizeRule.Words.View.{View, view, view_count}
-use Rattle.seize_acts.proofs.Given.SeizeRule.Words.Shows.{Extra, Shows}
-use Rattle.seize_acts.proofs.Given.SeizeRule.Points.Deferred.{puts_none}
-use Rattle.seize_acts.proofs.Given.SeizeRule.Points.Told.{Plain, Pushing, part_at, Told}
-use Rattle.seize_acts.proofs.Given.SeizeRule.Points.Known.{Counts as CountsKnown, bare}
+use Rattle.seize_acts.proofs.Given.SeizeMovesState.Ghost.{State}
+use Rattle.seize_acts.proofs.Given.SeizeRuleWords.Named.{words_of, word_found, wrote, link}
+use Rattle.seize_acts.proofs.Given.SeizeRuleWords.Chains.{Chain, last_of, waiting}
+use Rattle.seize_acts.proofs.Given.SeizeRuleWords.View.{View, view, view_count}
+use Rattle.seize_acts.proofs.Given.SeizeRuleWords.Shows.{Extra, Shows}
+use Rattle.seize_acts.proofs.Given.SeizeRulePoints.Deferred.{puts_none}
+use Rattle.seize_acts.proofs.Given.SeizeRulePoints.Told.{Plain, Pushing, part_at, Told}
+use Rattle.seize_acts.proofs.Given.SeizeRulePoints.Known.{Counts as CountsKnown, bare}
 use Rattle.seize_bounds.proofs.Bounds.Hands.{chains_agree}
 use Rattle.seize_bounds.proofs.Bounds.Knows.{is_popped, known_at}
 use Rattle.seize_bounds.proofs.Bounds.Machine.{MOST}

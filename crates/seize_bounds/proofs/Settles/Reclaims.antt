@@ -14,15 +14,15 @@ use Rattle.seize.specs.declared.rows.settle.Settling.TheVariants as at
 use Rattle.seize.specs.declared.rows.settle.Settled.{Settled}
 use Rattle.seize.specs.declared.rows.settle.Settled.TheVariants.{Goes, Gave}
 use Rattle.seize.specs.Settle as plans
-use Rattle.seize_acts.specs.Given.SeizeWaiting.Held.{count}
-use Rattle.seize_acts.proofs.Given.SeizeMoves.State.Ghost.{State, Life, is_pending}
-use Rattle.seize_acts.proofs.Given.SeizeMoves.Moves.Takes.{first_doomed}
-use Rattle.seize_acts.proofs.Given.SeizeRule.Words.Named.{words_of, word_found, link-block}
-use Rattle.seize_acts.proofs.Given.SeizeRule.Words.Chains.{Chain, chain_behind, chain_cons}
-use Rattle.seize_acts.proofs.Given.SeizeRule.Words.View.{view}
-use Rattle.seize_acts.proofs.Given.SeizeRule.Words.Shows.{Extra, CarrierIs}
-use Rattle.seize_acts.proofs.Given.SeizeRule.Points.Told.{Part, Plain, Pushing, Draining, part, part_at, Told, onward_part}
-use Rattle.seize_acts.proofs.Given.SeizeRule.Points.Known.{Drains, Joins, Tails, Downs, bare}
+use Rattle.seize_acts.specs.Given.SeizeWaitingHeld.{count}
+use Rattle.seize_acts.proofs.Given.SeizeMovesState.Ghost.{State, Life, is_pending}
+use Rattle.seize_acts.proofs.Given.SeizeMovesMoves.Takes.{first_doomed}
+use Rattle.seize_acts.proofs.Given.SeizeRuleWords.Named.{words_of, word_found, link-block}
+use Rattle.seize_acts.proofs.Given.SeizeRuleWords.Chains.{Chain, chain_behind, chain_cons}
+use Rattle.seize_acts.proofs.Given.SeizeRuleWords.View.{view}
+use Rattle.seize_acts.proofs.Given.SeizeRuleWords.Shows.{Extra, CarrierIs}
+use Rattle.seize_acts.proofs.Given.SeizeRulePoints.Told.{Part, Plain, Pushing, Draining, part, part_at, Told, onward_part}
+use Rattle.seize_acts.proofs.Given.SeizeRulePoints.Known.{Drains, Joins, Tails, Downs, bare}
 use Rattle.seize_bounds.proofs.Bounds.Hands.{chains_agree}
 use Rattle.seize_bounds.proofs.Bounds.Knows.{known_at}
 use Rattle.seize_bounds.proofs.Bounds.Machine.{MOST}

@@ -9,13 +9,13 @@ use Rattle.seize.specs.declared.rows.settle.Settling.{Settling}
 use Rattle.seize.specs.declared.rows.settle.Settled.{Settled}
 use Rattle.seize.specs.declared.rows.settle.Settled.TheVariants.{Goes}
 use Rattle.seize.specs.Settle as plans
-use Rattle.seize_acts.proofs.Given.SeizeMoves.State.Ghost.{State}
-use Rattle.seize_acts.proofs.Given.SeizeMoves.State.Rule.{Inv}
-use Rattle.seize_acts.proofs.Given.SeizeRule.Words.Named.{words_of}
-use Rattle.seize_acts.proofs.Given.SeizeRule.Words.View.{view}
-use Rattle.seize_acts.proofs.Given.SeizeRule.Words.Shows.{Extra, Shows}
-use Rattle.seize_acts.proofs.Given.SeizeRule.Points.Told.{Plain, Pushing, part, part_at, flush_part, Told}
-use Rattle.seize_acts.proofs.Given.SeizeRule.Points.Known.{Fits}
+use Rattle.seize_acts.proofs.Given.SeizeMovesState.Ghost.{State}
+use Rattle.seize_acts.proofs.Given.SeizeMovesState.Rule.{Inv}
+use Rattle.seize_acts.proofs.Given.SeizeRuleWords.Named.{words_of}
+use Rattle.seize_acts.proofs.Given.SeizeRuleWords.View.{view}
+use Rattle.seize_acts.proofs.Given.SeizeRuleWords.Shows.{Extra, Shows}
+use Rattle.seize_acts.proofs.Given.SeizeRulePoints.Told.{Plain, Pushing, part, part_at, flush_part, Told}
+use Rattle.seize_acts.proofs.Given.SeizeRulePoints.Known.{Fits}
 use Rattle.seize_bounds.proofs.Bounds.Machine.{MOST}
 use Rattle.seize_bounds.proofs.Settles.Carried.{NoMore, no_more, owes}
 use Rattle.seize_bounds.proofs.Settles.Measure.{ahead, behind, point, here, HasSeen, goes_onward}

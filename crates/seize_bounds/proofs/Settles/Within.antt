@@ -11,21 +11,21 @@ use Rattle.seize.specs.declared.rows.leave.Leaving.{Leaving}
 use Rattle.seize.specs.declared.rows.leave.Leaving.TheVariants as leaving
 use Rattle.seize.specs.Settle.{counting_down}
 use Rattle.seize.specs.World.{World, Row, Rests, Registers, Enters, Settles, Leaves, Defers, Frees, Event, Step, Steps', at_start}
-use Rattle.seize_acts.specs.Given.SeizeWaiting.Held.{count}
-use Rattle.seize_acts.proofs.Given.SeizeMoves.State.Ghost.{State, Life, is_pending}
-use Rattle.seize_acts.proofs.Given.SeizeRule.Words.Named.{words_of, link}
-use Rattle.seize_acts.proofs.Given.SeizeRule.Words.Chains.{last_of}
-use Rattle.seize_acts.proofs.Given.SeizeRule.Words.Shows.{lives}
-use Rattle.seize_acts.proofs.Given.SeizeRule.Words.Sums.{list_below}
-use Rattle.seize_acts.proofs.Given.SeizeRule.Words.View.{view}
-use Rattle.seize_acts.proofs.Given.SeizeRule.Points.Known.{Fits}
-use Rattle.seize_acts.proofs.Given.SeizeRule.Points.Settle.{is_over}
-use Rattle.seize_acts.proofs.Given.SeizeRule.Rows.Others.{steps_others}
-use Rattle.seize_acts.proofs.Given.SeizeRule.World.Good.{Good}
-use Rattle.seize_acts.proofs.Given.SeizeRule.World.Start.{start_good}
-use Rattle.seize_acts.proofs.Given.SeizeAlone.Histories.Reached.{Reached, runs_reached}
-use Rattle.seize_acts.specs.Given.SeizeEnds.Holders.{has_batch}
-use Rattle.seize_acts.proofs.Given.SeizeEnds.Batches.Rows.{HeldByRows, has_on, happens_held, runs_held, start_held}
+use Rattle.seize_acts.specs.Given.SeizeWaitingHeld.{count}
+use Rattle.seize_acts.proofs.Given.SeizeMovesState.Ghost.{State, Life, is_pending}
+use Rattle.seize_acts.proofs.Given.SeizeRuleWords.Named.{words_of, link}
+use Rattle.seize_acts.proofs.Given.SeizeRuleWords.Chains.{last_of}
+use Rattle.seize_acts.proofs.Given.SeizeRuleWords.Shows.{lives}
+use Rattle.seize_acts.proofs.Given.SeizeRuleWords.Sums.{list_below}
+use Rattle.seize_acts.proofs.Given.SeizeRuleWords.View.{view}
+use Rattle.seize_acts.proofs.Given.SeizeRulePoints.Known.{Fits}
+use Rattle.seize_acts.proofs.Given.SeizeRulePoints.Settle.{is_over}
+use Rattle.seize_acts.proofs.Given.SeizeRuleRows.Others.{steps_others}
+use Rattle.seize_acts.proofs.Given.SeizeRuleWorld.Good.{Good}
+use Rattle.seize_acts.proofs.Given.SeizeRuleWorld.Start.{start_good}
+use Rattle.seize_acts.proofs.Given.SeizeAloneHistories.Reached.{Reached, runs_reached}
+use Rattle.seize_acts.specs.Given.SeizeEndsHolders.{has_batch}
+use Rattle.seize_acts.proofs.Given.SeizeEndsBatches.Rows.{HeldByRows, has_on, happens_held, runs_held, start_held}
 use Rattle.seize_acts.specs.Waits.{SettlesOn}
 use Rattle.seize_bounds.specs.Bounds.{HasTried, HasCounted, IsToTry, IsAloneOnSlot, Meanwhile, Within, BatchesAreTried, ListsAreSettled}
 use Rattle.seize_bounds.proofs.Bounds.Hands.{after_event}
@@ -40,7 +40,7 @@ use Rattle.seize_bounds.proofs.Settles.Measure.{SeenAt, HasSeen, here}
 use Rattle.seize_bounds.proofs.Settles.Others.{left_of, still_left}
 use Rattle.seize_bounds.proofs.Settles.Reclaims.{put_once}
 use Rattle.seize_bounds.proofs.Settles.Step.{Stepping}
-use Rattle.seize_acts.proofs.Given.SeizeRule.Points.Told.{part}
+use Rattle.seize_acts.proofs.Given.SeizeRulePoints.Told.{part}
 
 -- a row that has a batch in hand settles on its slot
 batch_on : (n s : ℕ) (row : Row) → WorksThere n row → has_batch s row ≡ true → SettlesOn s row

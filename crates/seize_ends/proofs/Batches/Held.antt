@@ -2,11 +2,11 @@
 use Rattle.std.specs.Prelude.{if◌then◌else◌, nat_lt, ◌==◌, ◌%◌, ◌^◌, ◌+◌, ◌&&◌, Option, Some, None, IsSome, Ok, Err}
 use Rattle.std.proofs.Common.{◌≡◌, ℕ, ◌*◌, Bool, true, false, eqb, [], refl, arith, ap, sym, eqb-true, ◌∙◌, ◌⊎◌, inl, inr}
 use Rattle.std.proofs.lemmas.Bool.{eqb-false}
-use Rattle.seize.specs.Given.SeizeWords.declared.at.At.TheVariants.{Slot}
-use Rattle.seize.specs.Given.SeizeWords.Mem.{Mem, Can, Took, value_at, word_at, with_word}
-use Rattle.seize.specs.Given.SeizeWords.Op.{Out, Found, Exchanged, Taken}
-use Rattle.seize.specs.Given.SeizeWords.Plan.{May, Steps, Ends, Now}
-use Rattle.seize.proofs.Given.SeizeWords.OneOwner.Operations.{loaded, stored, exchanged}
+use Rattle.seize.specs.Given.SeizeWordsDeclared.at.At.TheVariants.{Slot}
+use Rattle.seize.specs.Given.SeizeWordsMem.{Mem, Can, Took, value_at, word_at, with_word}
+use Rattle.seize.specs.Given.SeizeWordsOp.{Out, Found, Exchanged, Taken}
+use Rattle.seize.specs.Given.SeizeWordsPlan.{May, Steps, Ends, Now}
+use Rattle.seize.proofs.Given.SeizeWordsOneOwner.Operations.{loaded, stored, exchanged}
 use Rattle.seize.specs.declared.states.TheConstants.{BATCH, HELD, ACTIVE, NEVER}
 use Rattle.seize.specs.declared.rows.settle.Settle.{Settle}
 use Rattle.seize.specs.declared.rows.settle.Settling.{Settling}
@@ -14,7 +14,7 @@ use Rattle.seize.specs.declared.rows.settle.Settling.TheVariants as at
 use Rattle.seize.specs.declared.rows.settle.Settled.{Settled}
 use Rattle.seize.specs.declared.rows.settle.Settled.TheVariants.{Goes, Waits}
 use Rattle.seize.specs.Settle as plans
-use Rattle.seize_rule.proofs.Given.SeizeMoves.State.Ghost.{State}
+use Rattle.seize_rule.proofs.Given.SeizeMovesState.Ghost.{State}
 use Rattle.seize_rule.proofs.Words.Named.{words_of, word_found, wrote, write_apart, write_here}
 use Rattle.seize_rule.proofs.Words.Chains.{last_of}
 use Rattle.seize_rule.proofs.Words.View.{View, view}

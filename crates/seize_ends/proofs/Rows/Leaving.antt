@@ -1,10 +1,10 @@
 -- A leaving row takes no more steps, until it ends or waits, than a number of its memory and its machine, and each step lowers how many it still takes.
 use Rattle.std.specs.Prelude.{Option, if◌then◌else◌, nat_lt}
 use Rattle.std.proofs.Common.{◌≡◌, ℕ, zero, suc, ◌+◌, ◌*◌, ◌<◌, ◌≤◌, Bool, true, false, length, refl, arith, ap, sym, subst, ◌∙◌}
-use Rattle.seize.specs.Given.SeizeWords.declared.at.At.TheVariants.{Slot}
-use Rattle.seize.specs.Given.SeizeWords.Mem.{Mem, Took, value_at, with_word}
-use Rattle.seize.specs.Given.SeizeWords.Plan.{Steps, Ends, Now}
-use Rattle.seize.proofs.Given.SeizeWords.OneOwner.Operations.{stored, swapped}
+use Rattle.seize.specs.Given.SeizeWordsDeclared.at.At.TheVariants.{Slot}
+use Rattle.seize.specs.Given.SeizeWordsMem.{Mem, Took, value_at, with_word}
+use Rattle.seize.specs.Given.SeizeWordsPlan.{Steps, Ends, Now}
+use Rattle.seize.proofs.Given.SeizeWordsOneOwner.Operations.{stored, swapped}
 use Rattle.seize.specs.declared.states.TheConstants.{HEAD, ACTIVE, FREE, LAST_SLOT}
 use Rattle.seize.specs.declared.rows.settle.Settle.{Settle}
 use Rattle.seize.specs.declared.rows.settle.Settled.{Settled}
@@ -15,7 +15,7 @@ use Rattle.seize.specs.declared.rows.leave.Leaving.TheVariants as leaving
 use Rattle.seize.specs.Settle.{settle_plan, counting_down}
 use Rattle.seize.specs.Leave.{standing, counted_down, list_taken, settled, plan_at, leave_plan}
 use Rattle.seize.specs.World.{World, Row, Leaves, Steps', leaves_on}
-use Rattle.seize_rule.proofs.Given.SeizeMoves.State.Ghost.{State}
+use Rattle.seize_rule.proofs.Given.SeizeMovesState.Ghost.{State}
 use Rattle.seize_rule.proofs.Words.View.{view}
 use Rattle.seize_rule.proofs.Words.Shows.{Extra}
 use Rattle.seize_rule.proofs.Rows.Leaving.{steps_back}

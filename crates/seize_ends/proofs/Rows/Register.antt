@@ -1,11 +1,11 @@
 -- Registering ends, whatever others do: a number that each of its steps lowers, save the last.
 use Rattle.std.specs.Prelude.{Option, Some, None, ◌*◌, ◌-◌, nat_lt, if◌then◌else◌}
 use Rattle.std.proofs.Common.{◌≡◌, ℕ, ◌+◌, ◌<◌, ◌≤◌, Bool, true, false, inl, inr, refl, arith, subst, sym}
-use Rattle.seize.specs.Given.SeizeWords.declared.at.At.TheVariants as at
-use Rattle.seize.specs.Given.SeizeWords.declared.fault.Fault.TheVariants.{Memory, SlotsUsedUp}
-use Rattle.seize.specs.Given.SeizeWords.Mem.{Mem, value_at, Took}
-use Rattle.seize.specs.Given.SeizeWords.Plan.{Steps, Now}
-use Rattle.seize.proofs.Given.SeizeWords.OneOwner.Operations.{loaded, stored, exchanged, roomed}
+use Rattle.seize.specs.Given.SeizeWordsDeclared.at.At.TheVariants as at
+use Rattle.seize.specs.Given.SeizeWordsDeclared.fault.Fault.TheVariants.{Memory, SlotsUsedUp}
+use Rattle.seize.specs.Given.SeizeWordsMem.{Mem, value_at, Took}
+use Rattle.seize.specs.Given.SeizeWordsPlan.{Steps, Now}
+use Rattle.seize.proofs.Given.SeizeWordsOneOwner.Operations.{loaded, stored, exchanged, roomed}
 use Rattle.seize.specs.declared.states.TheConstants.{HEAD, IDLE, ACTIVE, LAST_SLOT}
 use Rattle.seize.specs.declared.progress.Progress.{Progress}
 use Rattle.seize.specs.declared.progress.Progress.TheVariants.{Goes, Waits, Done, Refused}

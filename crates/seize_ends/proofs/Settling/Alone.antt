@@ -1,15 +1,15 @@
 -- A settling row that runs alone never waits.
 use Rattle.std.specs.Prelude.{Option}
 use Rattle.std.proofs.Common.{◌≡◌, ℕ, ◌+◌, true, false, refl, subst}
-use Rattle.seize.specs.Given.SeizeWords.Mem.{Mem, Can, Took, value_at}
-use Rattle.seize.specs.Given.SeizeWords.Plan.{Steps, May}
+use Rattle.seize.specs.Given.SeizeWordsMem.{Mem, Can, Took, value_at}
+use Rattle.seize.specs.Given.SeizeWordsPlan.{Steps, May}
 use Rattle.seize.specs.declared.states.TheConstants.{LAST_SLOT}
 use Rattle.seize.specs.declared.rows.settle.Settle.{Settle}
 use Rattle.seize.specs.declared.rows.settle.Settling.{Settling}
 use Rattle.seize.specs.declared.rows.settle.Settled.{Settled}
 use Rattle.seize.specs.declared.rows.settle.Settled.TheVariants.{Goes, Waits, Gave, Done}
 use Rattle.seize.specs.Settle.{plan_at, settle_plan}
-use Rattle.seize_rule.proofs.Given.SeizeMoves.State.Ghost.{State}
+use Rattle.seize_rule.proofs.Given.SeizeMovesState.Ghost.{State}
 use Rattle.seize_rule.proofs.Words.View.{view}
 use Rattle.seize_rule.proofs.Words.Shows.{Extra}
 use Rattle.seize_rule.proofs.Points.Known.{FitsAt, bare}

@@ -1,14 +1,14 @@
 -- A settling row, whatever rows others have under way, step by step: where it does not wait, what it relies on is there again, and less is left.
 use Rattle.std.specs.Prelude.{Option}
 use Rattle.std.proofs.Common.{◌≡◌, ℕ, ◌+◌, ◌<◌, false, length, refl, arith, ap, sym, subst, ◌∙◌}
-use Rattle.seize.specs.Given.SeizeWords.Mem.{Mem, Can, Took, value_at}
-use Rattle.seize.specs.Given.SeizeWords.Plan.{Steps, May}
+use Rattle.seize.specs.Given.SeizeWordsMem.{Mem, Can, Took, value_at}
+use Rattle.seize.specs.Given.SeizeWordsPlan.{Steps, May}
 use Rattle.seize.specs.declared.states.TheConstants.{LAST_SLOT}
 use Rattle.seize.specs.declared.rows.settle.Settle.{Settle}
 use Rattle.seize.specs.declared.rows.settle.Settled.{Settled}
 use Rattle.seize.specs.Settle.{settle_plan}
-use Rattle.seize_rule.proofs.Given.SeizeMoves.State.Ghost.{State, is_never}
-use Rattle.seize_rule.proofs.Given.SeizeMoves.State.Rule.{Inv}
+use Rattle.seize_rule.proofs.Given.SeizeMovesState.Ghost.{State, is_never}
+use Rattle.seize_rule.proofs.Given.SeizeMovesState.Rule.{Inv}
 use Rattle.seize_rule.proofs.Words.View.{view}
 use Rattle.seize_rule.proofs.Words.Shows.{Extra, Shows}
 use Rattle.seize_rule.proofs.Points.Stepped.{HasWords, IsGoing}

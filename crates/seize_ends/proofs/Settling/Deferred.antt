@@ -2,11 +2,11 @@
 use Rattle.std.specs.Prelude.{if◌then◌else◌, nat_lt, ◌==◌, ◌/◌, ◌%◌, ◌^◌, ◌-◌, IsSome, Option}
 use Rattle.std.proofs.Common.{◌≡◌, ℕ, ◌+◌, ◌<◌, ◌≤◌, Bool, true, false, List, [], ◌∷◌, ◌++◌, length, refl, arith, ap, sym, subst, ◌∙◌, append_assoc}
 use Rattle.std.proofs.lemmas.Bool.{eqb-false}
-use Rattle.seize.specs.Given.SeizeWords.declared.at.At.TheVariants.{Entry, Word}
-use Rattle.seize.specs.Given.SeizeWords.Mem.{Mem, Took, value_at, word_at, with_word}
-use Rattle.seize.specs.Given.SeizeWords.Op.{Found}
-use Rattle.seize.specs.Given.SeizeWords.Plan.{Steps, Ends, Now}
-use Rattle.seize.proofs.Given.SeizeWords.OneOwner.Operations.{loaded, stored, added}
+use Rattle.seize.specs.Given.SeizeWordsDeclared.at.At.TheVariants.{Entry, Word}
+use Rattle.seize.specs.Given.SeizeWordsMem.{Mem, Took, value_at, word_at, with_word}
+use Rattle.seize.specs.Given.SeizeWordsOp.{Found}
+use Rattle.seize.specs.Given.SeizeWordsPlan.{Steps, Ends, Now}
+use Rattle.seize.proofs.Given.SeizeWordsOneOwner.Operations.{loaded, stored, added}
 use Rattle.seize.specs.declared.states.TheConstants.{NEXT, COUNT, ACTIVE}
 use Rattle.seize.specs.declared.rows.settle.Settle.{Settle}
 use Rattle.seize.specs.declared.rows.settle.Settling.{Settling}
@@ -14,11 +14,11 @@ use Rattle.seize.specs.declared.rows.settle.Settling.TheVariants as at
 use Rattle.seize.specs.declared.rows.settle.Settled.{Settled}
 use Rattle.seize.specs.declared.rows.settle.Settled.TheVariants.{Goes}
 use Rattle.seize.specs.Settle as plans
-use Rattle.seize_rule.specs.Given.SeizeWaiting.Held.{count}
-use Rattle.seize_rule.proofs.Given.SeizeWaiting.Counts.{count-append}
-use Rattle.seize_rule.proofs.Given.SeizeMoves.State.Ghost.{State, Life, put, is_deferred, is_pending}
-use Rattle.seize_rule.proofs.Given.SeizeMoves.State.Rule.{Inv}
-use Rattle.seize_rule.proofs.Given.SeizeMoves.State.Moves
+use Rattle.seize_rule.specs.Given.SeizeWaitingHeld.{count}
+use Rattle.seize_rule.proofs.Given.SeizeWaitingCounts.{count-append}
+use Rattle.seize_rule.proofs.Given.SeizeMovesState.Ghost.{State, Life, put, is_deferred, is_pending}
+use Rattle.seize_rule.proofs.Given.SeizeMovesState.Rule.{Inv}
+use Rattle.seize_rule.proofs.Given.SeizeMovesState.Moves
 use Rattle.seize_rule.proofs.Words.Named.{link, link-block, words_of, word_found, wrote}
 use Rattle.seize_rule.proofs.Words.Chains.{Chain, blocks_of, chain_cons, chain_behind, count_first, first_or}
 use Rattle.seize_rule.proofs.Words.View.{View, view, view_count}

@@ -6,8 +6,8 @@ use Rattle.seize.specs.declared.rows.settle.Settle.{Settle}
 use Rattle.seize.specs.declared.rows.settle.Settling.{Settling}
 use Rattle.seize.specs.declared.rows.settle.Settling.TheVariants as at
 use Rattle.seize.specs.Settle.{onward, with_batch, standing}
-use Rattle.seize_rule.specs.Given.SeizeWaiting.Held.{count}
-use Rattle.seize_rule.proofs.Given.SeizeMoves.State.Ghost.{State, Life, IsFree, IsOwned, IsLinked, IsUnlinked, IsDeferring, IsDeferred, IsPending, IsIn, IsDoomed, IsLeft}
+use Rattle.seize_rule.specs.Given.SeizeWaitingHeld.{count}
+use Rattle.seize_rule.proofs.Given.SeizeMovesState.Ghost.{State, Life, IsFree, IsOwned, IsLinked, IsUnlinked, IsDeferring, IsDeferred, IsPending, IsIn, IsDoomed, IsLeft}
 use Rattle.seize_rule.proofs.Words.Sums.{sum_of}
 use Rattle.seize_rule.proofs.Words.View.{View}
 

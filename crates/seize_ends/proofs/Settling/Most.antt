@@ -1,8 +1,8 @@
 -- A settling row takes no more steps, until it ends or waits, than a number of its memory and its machine, and each step lowers how many it still takes.
 use Rattle.std.specs.Prelude.{Option, ◌/◌}
 use Rattle.std.proofs.Common.{◌≡◌, ℕ, zero, suc, ◌+◌, ◌*◌, ◌<◌, ◌≤◌, Bool, true, false, cond, eqb, List, [], ◌∷◌, length, refl, arith, ap, subst}
-use Rattle.seize.specs.Given.SeizeWords.Mem.{Mem, Took, value_at}
-use Rattle.seize.specs.Given.SeizeWords.Plan.{Steps}
+use Rattle.seize.specs.Given.SeizeWordsMem.{Mem, Took, value_at}
+use Rattle.seize.specs.Given.SeizeWordsPlan.{Steps}
 use Rattle.seize.specs.declared.states.TheConstants.{LAST_SLOT}
 use Rattle.seize.specs.declared.rows.settle.Settle.{Settle}
 use Rattle.seize.specs.declared.rows.settle.Settling.{Settling}
@@ -10,9 +10,9 @@ use Rattle.seize.specs.declared.rows.settle.Settling.TheVariants as at
 use Rattle.seize.specs.declared.rows.settle.Settled.{Settled}
 use Rattle.seize.specs.declared.rows.settle.Settled.TheVariants.{Goes, Waits, Gave, Done}
 use Rattle.seize.specs.Settle.{plan_at, settle_plan}
-use Rattle.seize_rule.specs.Given.SeizeWaiting.Held.{count, same}
-use Rattle.seize_rule.proofs.Given.SeizeMoves.State.Ghost.{State, Life, is_pending}
-use Rattle.seize_rule.proofs.Given.SeizeMoves.State.Rule.{Inv}
+use Rattle.seize_rule.specs.Given.SeizeWaitingHeld.{count, same}
+use Rattle.seize_rule.proofs.Given.SeizeMovesState.Ghost.{State, Life, is_pending}
+use Rattle.seize_rule.proofs.Given.SeizeMovesState.Rule.{Inv}
 use Rattle.seize_rule.proofs.Words.Chains.{blocks_of}
 use Rattle.seize_rule.proofs.Words.Sums.{sum_of, sum_same, sum_le, list_below, count_stands, blocks_long}
 use Rattle.seize_rule.proofs.Words.View.{View, view}

@@ -2,13 +2,13 @@
 use Rattle.std.proofs.Common.{◌≡◌, ℕ, ◌+◌, ◌*◌, ◌<◌, ◌≤◌, Bool, true, false, cond, eqb, List, [], ◌∷◌, length, refl, arith, ap, sym, subst, eqb-true, ◌∙◌}
 use Rattle.seize.specs.Law.{Effect, Retired, Taken}
 use Rattle.seize.specs.declared.rows.settle.Settle.{Settle}
-use Rattle.seize_rule.specs.Given.SeizeWaiting.Held.{count}
-use Rattle.seize_rule.proofs.Given.SeizeMoves.State.Ghost.{State, Life, IsFree, IsIn, Entry, put, is_deferred}
-use Rattle.seize_rule.proofs.Given.SeizeMoves.State.Rule.{Inv}
-use Rattle.seize_rule.proofs.Given.SeizeMoves.State.Moves
-use Rattle.seize_rule.proofs.Given.SeizeMoves.State.Moves.{doomed, undeferred}
-use Rattle.seize_rule.proofs.Given.SeizeMoves.Moves.Tries.{first_pending}
-use Rattle.seize_rule.proofs.Given.SeizeMoves.Moves.Takes.{first_doomed}
+use Rattle.seize_rule.specs.Given.SeizeWaitingHeld.{count}
+use Rattle.seize_rule.proofs.Given.SeizeMovesState.Ghost.{State, Life, IsFree, IsIn, Entry, put, is_deferred}
+use Rattle.seize_rule.proofs.Given.SeizeMovesState.Rule.{Inv}
+use Rattle.seize_rule.proofs.Given.SeizeMovesState.Moves
+use Rattle.seize_rule.proofs.Given.SeizeMovesState.Moves.{doomed, undeferred}
+use Rattle.seize_rule.proofs.Given.SeizeMovesMoves.Tries.{first_pending}
+use Rattle.seize_rule.proofs.Given.SeizeMovesMoves.Takes.{first_doomed}
 use Rattle.seize_rule.proofs.Points.Passed.{passed_rest}
 use Rattle.seize_rule.proofs.Words.Shows.{lives}
 use Rattle.seize_rule.proofs.Points.Told.{Part, Plain, Draining, part, batch_now, Told, Stays, Holds, HoldsNone, Gives, Begins, Appends, Fills, Skips, Passes, Finds, Marks, GivesUp, Closes, Pushes, Misses, Sums, SumsLast, Drains, DrainsNone, Takes, TakesLast, Joins, Counts, CountsLast}

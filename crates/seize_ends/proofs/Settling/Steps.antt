@@ -1,16 +1,16 @@
 -- Every step of a settling row, save its last, lowers what is left of its work, unless it waits.
 use Rattle.std.specs.Prelude.{◌/◌, Option}
 use Rattle.std.proofs.Common.{◌≡◌, ℕ, ◌+◌, ◌<◌, ◌++◌, false, arith}
-use Rattle.seize.specs.Given.SeizeWords.Mem.{Mem, Took, value_at}
-use Rattle.seize.specs.Given.SeizeWords.Plan.{Steps}
+use Rattle.seize.specs.Given.SeizeWordsMem.{Mem, Took, value_at}
+use Rattle.seize.specs.Given.SeizeWordsPlan.{Steps}
 use Rattle.seize.specs.declared.rows.settle.Settle.{Settle}
 use Rattle.seize.specs.declared.rows.settle.Settling.{Settling}
 use Rattle.seize.specs.declared.rows.settle.Settling.TheVariants as at
 use Rattle.seize.specs.declared.rows.settle.Settled.{Settled}
 use Rattle.seize.specs.Settle.{plan_at, settle_plan}
 use Rattle.seize.specs.World.{settle_effects}
-use Rattle.seize_rule.proofs.Given.SeizeMoves.State.Ghost.{State}
-use Rattle.seize_rule.proofs.Given.SeizeMoves.State.Rule.{Inv}
+use Rattle.seize_rule.proofs.Given.SeizeMovesState.Ghost.{State}
+use Rattle.seize_rule.proofs.Given.SeizeMovesState.Rule.{Inv}
 use Rattle.seize_rule.proofs.Words.View.{view}
 use Rattle.seize_rule.proofs.Words.Shows.{Extra, Shows}
 use Rattle.seize_rule.proofs.Points.Told.{part, part_at, Told}

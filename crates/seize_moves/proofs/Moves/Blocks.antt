@@ -1,7 +1,7 @@
 -- The moves of blocks before they are retired: each keeps the rule, and leaves to the other rows what they know.
 use Rattle.std.proofs.Common.{◌≡◌, ℕ, ◌+◌, Bool, true, false, cond, eqb, List, ◌∷◌, ◌⊎◌, refl, arith, subst, eqb-true, []}
 use Rattle.std.proofs.lemmas.Bool.{eq-eqb}
-use Rattle.seize_waiting.specs.Given.Seize.Law.{Effect, Deferred, Dropped, holds, is_over}
+use Rattle.seize_waiting.specs.Given.SeizeLaw.{Effect, Deferred, Dropped, holds, is_over}
 use Rattle.seize_moves.proofs.State.Ghost.{put, Life, IsFree, IsOwned, IsLinked, IsUnlinked, IsDeferring, IsDeferred, IsPending, IsIn, IsDoomed, IsLeft, State, of_dropper, lies_with, can_carry}
 use Rattle.seize_moves.proofs.State.Rule.{Carries, IsGuarded, OnWay, Inv, Moved, same_row, row_of, same_slot, slot_of, same_batch, batch_of, not_longer}
 use Rattle.seize_moves.proofs.State.Sums.{put_one}

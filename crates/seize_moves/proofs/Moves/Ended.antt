@@ -1,8 +1,8 @@
 -- What has ended: the moves keep the rule, and leave to the other rows what they know.
 use Rattle.std.specs.Prelude.{◌||◌}
 use Rattle.std.proofs.Common.{◌≡◌, ℕ, Bool, true, false, cond, eqb, List, ◌∷◌, refl, arith, ◌∙◌, []}
-use Rattle.seize_waiting.specs.Given.Seize.Law.{is_orphan}
-use Rattle.seize_waiting.specs.Given.Seize.WaitingSets.{is_one_of}
+use Rattle.seize_waiting.specs.Given.SeizeLaw.{is_orphan}
+use Rattle.seize_waiting.specs.Given.SeizeWaitingSets.{is_one_of}
 use Rattle.seize_waiting.specs.Held.{count}
 use Rattle.seize_waiting.proofs.Counts.{not_one, not_among}
 use Rattle.seize_moves.proofs.State.Ghost.{is_deferred, Life, IsUnlinked, IsDeferring, IsDeferred, State}

@@ -1,7 +1,7 @@
 -- The moves of a batch that is closed: each keeps the rule, and leaves to the other rows what they know.
 use Rattle.std.proofs.Common.{◌≡◌, ℕ, ◌+◌, ◌-◌, ◌%◌, ◌^◌, ◌<◌, ◌≤◌, Bool, true, false, cond, eqb, List, [], ◌∷◌, refl, arith, eqb-true, subst, sym, ap, ◌∙◌, inl, inr}
 use Rattle.std.proofs.lemmas.Bool.{eqb-false}
-use Rattle.seize_waiting.specs.Given.Seize.Law.{Effect}
+use Rattle.seize_waiting.specs.Given.SeizeLaw.{Effect}
 use Rattle.seize_waiting.specs.Held.{count, same}
 use Rattle.seize_moves.proofs.State.Ghost.{put, Entry, Active, Debt, Unscanned, Marked, Gone, Skipped, Owing, Loose, Counted, Head, list_of, is_active, Stage, Unused, Open, Closing, Closed, Dead, Life, IsFree, IsOwned, IsLinked, IsUnlinked, IsDeferring, IsDeferred, IsPending, IsIn, IsDoomed, IsLeft, State, is_loose, on_list, is_marked, owes, counts, was_put, total, is_in, entries}
 use Rattle.seize_moves.proofs.State.Rule.{Listed, AllLoose, AllMarked, Boxed, Housed, IsLive, SameUnlessDead, SeenIs, Scanned, AtStage, Tally, Guarded, IsGuarded, Waits, HasLeft, Inv, Moved, same_row, row_of, same_slot, slot_of, not_longer}

@@ -1,7 +1,7 @@
 -- The moves of slots, sections and holds: each keeps the rule, and leaves to the other rows what they know.
 use Rattle.std.proofs.Common.{◌≡◌, ℕ, ◌+◌, ◌<◌, Bool, true, false, cond, eqb, List, [], refl, arith, eqb-true, ap}
 use Rattle.std.proofs.lemmas.Bool.{eqb-false}
-use Rattle.seize_waiting.specs.Given.Seize.Law.{is_open}
+use Rattle.seize_waiting.specs.Given.SeizeLaw.{is_open}
 use Rattle.seize_moves.proofs.State.Ghost.{put, Entry, Head, Never, Free, Idle, Active, list_of, Debt, Stage, Unused, Open, Closing, Closed, Dead, State, is_active, is_never, on_list, is_loose, owes, counts, was_put, total, entries}
 use Rattle.seize_moves.proofs.State.Rule.{Listed, AllLoose, AtStage, Tally, Inv, Moved, same_row, row_of, same_slot, slot_of, same_batch, batch_of, not_longer}
 use Rattle.seize_moves.proofs.State.Sums.{total_same}

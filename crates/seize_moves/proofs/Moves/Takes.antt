@@ -1,7 +1,7 @@
 -- The moves of reclamation: each keeps the rule, and leaves to the other rows what they know.
 use Rattle.std.proofs.Common.{◌≡◌, ℕ, ◌<◌, ◌≤◌, Bool, true, false, cond, eqb, List, [], ◌∷◌, refl, arith, eqb-true, subst, sym}
 use Rattle.std.proofs.lemmas.Bool.{eqb-false}
-use Rattle.seize_waiting.specs.Given.Seize.Law.{holds}
+use Rattle.seize_waiting.specs.Given.SeizeLaw.{holds}
 use Rattle.seize_waiting.specs.Held.{count}
 use Rattle.seize_waiting.proofs.Counts.{count-append}
 use Rattle.seize_moves.proofs.State.Ghost.{put, Debt, Stage, Closed, Dead, Life, IsFree, IsOwned, IsLinked, IsUnlinked, IsDeferring, IsDeferred, IsPending, IsIn, IsDoomed, IsLeft, State, owes, total, lies_with, is_in, is_doomed}

@@ -1,7 +1,7 @@
 -- The moves of an open batch and its tries: each keeps the rule, and leaves to the other rows what they know.
 use Rattle.std.proofs.Common.{◌≡◌, ℕ, ◌+◌, ◌<◌, ◌≤◌, Bool, true, false, cond, eqb, List, [], ◌∷◌, ◌++◌, length, refl, arith, eqb-true, subst, sym, ap}
 use Rattle.std.proofs.lemmas.Bool.{eqb-false}
-use Rattle.seize_waiting.specs.Given.Seize.Law.{Effect}
+use Rattle.seize_waiting.specs.Given.SeizeLaw.{Effect}
 use Rattle.seize_waiting.specs.Held.{count}
 use Rattle.seize_waiting.proofs.Counts.{count-append}
 use Rattle.seize_moves.proofs.State.Ghost.{put, Entry, Head, Debt, Unscanned, Stage, Unused, Open, Closing, Closed, Dead, Life, IsPending, State, is_active, is_never, is_loose, counts, was_put, total, is_in}

@@ -4,7 +4,7 @@ use Rattle.std.proofs.Common.{◌≡◌, ℕ, zero, suc, ◌<◌, ◌≤◌, Boo
 use Rattle.std.proofs.lemmas.Bool.{eqb-false, le-ltb, lt-ltb}
 use Rattle.std.proofs.lemmas.List.{append-nil}
 use Rattle.std.proofs.lemmas.List.Elements.{filter-append}
-use Rattle.seize_waiting.specs.Given.Seize.WaitingSets.{with_slot, without}
+use Rattle.seize_waiting.specs.Given.SeizeWaitingSets.{with_slot, without}
 use Rattle.seize_moves.proofs.Sets.Shown.{ascending, ascending_same}
 
 abbrev AllUpTo : ℕ → List ℕ → Type 0

@@ -1,7 +1,7 @@
 -- A batch reclaimed at once, and entries counted down, by a row that runs alone.
 use Rattle.std.proofs.Common.{◌≡◌, ℕ, true, false, List, [], ◌∷◌, ◌++◌, ap, subst, sym, ◌∙◌}
 use Rattle.std.proofs.lemmas.List.{append-nil}
-use Rattle.seize_waiting.specs.Given.Seize.WaitingSets.{Batch, Sets, After, with_closed, then_also, quietly, without, is_done, given}
+use Rattle.seize_waiting.specs.Given.SeizeWaitingSets.{Batch, Sets, After, with_closed, then_also, quietly, without, is_done, given}
 use Rattle.seize_waiting.proofs.Work.{rest_counted, all_counted}
 use Rattle.seize_moves.proofs.State.Ghost.{State}
 use Rattle.seize_moves.proofs.Sets.Shown.{Models}

@@ -3,7 +3,7 @@
 use Rattle.std.specs.Prelude.{◌==◌, filter, map}
 use Rattle.std.proofs.Common.{◌≡◌, ℕ, zero, suc, ◌+◌, ◌<◌, ◌≤◌, Bool, true, false, cond, List, [], ◌∷◌, ◌++◌, length, refl, ap, arith, length-append, sym}
 use Rattle.std.proofs.lemmas.Bool.{eqb-false}
-use Rattle.seize_waiting.specs.Given.Seize.WaitingSets.{Further, Sets, further_of, without}
+use Rattle.seize_waiting.specs.Given.SeizeWaitingSets.{Further, Sets, further_of, without}
 use Rattle.seize_waiting.specs.Held.{same, count, weight_put, Once}
 use Rattle.seize_waiting.proofs.Bound.{weight_count}
 use Rattle.seize_moves.proofs.State.Ghost.{total, owes, is_marked, is_in, is_pending, Debt, Closed, State, Life, IsFree, IsOwned, IsLinked, IsUnlinked, IsDeferring, IsDeferred, IsPending, IsIn, IsDoomed, IsLeft}

@@ -3,7 +3,7 @@ use Rattle.std.specs.Prelude.{◌==◌, ◌||◌, filter, map}
 use Rattle.std.proofs.Common.{◌≡◌, ℕ, Bool, true, false, cond, eqb, List, [], ◌∷◌, ◌++◌, refl, arith, ap}
 use Rattle.std.proofs.lemmas.List.{map-append}
 use Rattle.std.proofs.lemmas.List.Elements.{filter-append}
-use Rattle.seize_waiting.specs.Given.Seize.WaitingSets.{Sets, with_active, with_closed, without, further_of, giving}
+use Rattle.seize_waiting.specs.Given.SeizeWaitingSets.{Sets, with_active, with_closed, without, further_of, giving}
 use Rattle.seize_waiting.specs.Held.{count}
 use Rattle.seize_waiting.proofs.Bound.{further_kept}
 use Rattle.seize_waiting.proofs.Counts.{count-append, map_same, filter_same}

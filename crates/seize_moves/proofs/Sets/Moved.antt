@@ -2,7 +2,7 @@
 use Rattle.std.specs.Prelude.{◌==◌, filter, map, max, if◌then◌else◌}
 use Rattle.std.proofs.Common.{◌≡◌, ℕ, ◌+◌, ◌<◌, ◌≤◌, Bool, true, false, cond, eqb, List, [], ◌∷◌, ◌++◌, refl, arith, eqb-true, sym, not, ◌∙◌}
 use Rattle.std.proofs.lemmas.Bool.{eqb-false}
-use Rattle.seize_waiting.specs.Given.Seize.WaitingSets.{Sets, Further, further_of, with_open, with_slot, ended}
+use Rattle.seize_waiting.specs.Given.SeizeWaitingSets.{Sets, Further, further_of, with_open, with_slot, ended}
 use Rattle.seize_waiting.proofs.Counts.{map_same}
 use Rattle.seize_moves.proofs.State.Ghost.{put, Open, Closing, Idle, Active, State, list_of, is_active}
 use Rattle.seize_moves.proofs.State.Rule.{Inv}

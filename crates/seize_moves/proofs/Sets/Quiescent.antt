@@ -1,6 +1,6 @@
 -- Where no call is under way and no slot is active, what is retired and not reclaimed waits in the open batches of slots.
 use Rattle.std.proofs.Common.{◌≡◌, ℕ, ◌<◌, true, false, [], refl, arith}
-use Rattle.seize_waiting.specs.Given.Seize.Law.{is_retired}
+use Rattle.seize_waiting.specs.Given.SeizeLaw.{is_retired}
 use Rattle.seize_waiting.specs.Held.{count}
 use Rattle.seize_moves.proofs.State.Ghost.{State, Debt, Unscanned, Marked, Gone, Skipped, Owing, Loose, Counted, Stage, Unused, Open, Closing, Closed, Dead, Life, IsFree, IsOwned, IsLinked, IsUnlinked, IsDeferring, IsDeferred, IsPending, IsIn, IsDoomed, IsLeft, is_active, owes}
 use Rattle.seize_moves.proofs.Sets.Shown.{is_shut}

@@ -1,7 +1,7 @@
 -- What waiting sets a state shows. A batch stands in the order from the moment of its closing on, though its entries are pushed one after another.
 use Rattle.std.specs.Prelude.{filter, map}
 use Rattle.std.proofs.Common.{◌≡◌, ℕ, zero, suc, ◌<◌, ◌≤◌, Bool, true, false, cond, ltb, List, [], ◌∷◌, ◌++◌, refl, arith, ap}
-use Rattle.seize_waiting.specs.Given.Seize.WaitingSets.{Batch, Sets, further_of, at_start}
+use Rattle.seize_waiting.specs.Given.SeizeWaitingSets.{Batch, Sets, further_of, at_start}
 use Rattle.seize_waiting.specs.Held.{count}
 use Rattle.seize_waiting.proofs.Counts.{map_same, filter_same}
 use Rattle.seize_moves.proofs.State.Ghost.{Debt, Unscanned, Marked, Gone, Skipped, Owing, Loose, Counted, Stage, Unused, Open, Closing, Closed, Dead, Entry, State, list_of, is_active, opening, start}

@@ -2,7 +2,7 @@
 use Rattle.std.specs.Prelude.{◌==◌, map, max}
 use Rattle.std.proofs.Common.{◌≡◌, ℕ, ◌+◌, ◌<◌, ◌≤◌, Bool, true, false, cond, eqb, ltb, List, [], ◌∷◌, refl, arith, eqb-true}
 use Rattle.std.proofs.lemmas.Bool.{eqb-false, lt-ltb}
-use Rattle.seize_waiting.specs.Given.Seize.WaitingSets.{Batch, Sets, with_open, closing}
+use Rattle.seize_waiting.specs.Given.SeizeWaitingSets.{Batch, Sets, with_open, closing}
 use Rattle.seize_waiting.specs.Held.{count}
 use Rattle.seize_waiting.proofs.Counts.{map_same, filter_same}
 use Rattle.seize_moves.proofs.State.Ghost.{put, Debt, Unscanned, Marked, Gone, Skipped, Owing, Loose, Counted, Open, Closing, Entry, Head, Active, State, was_put, list_of, is_active}

@@ -1,7 +1,7 @@
 -- Moves that leave the waiting sets which a state shows as they are, reclaim nothing, and leave what waits where it waits.
 use Rattle.std.proofs.Common.{◌≡◌, ℕ, Bool, true, false, cond, eqb, List, [], refl, arith, ap, eqb-true}
-use Rattle.seize_waiting.specs.Given.Seize.Sequence.{taken_in}
-use Rattle.seize_waiting.specs.Given.Seize.WaitingSets.{Sets}
+use Rattle.seize_waiting.specs.Given.SeizeSequence.{taken_in}
+use Rattle.seize_waiting.specs.Given.SeizeWaitingSets.{Sets}
 use Rattle.seize_moves.proofs.State.Ghost.{put, Head, Free, Idle, Life, IsDeferring, IsDeferred, IsPending, State, list_of, is_active}
 use Rattle.seize_moves.proofs.Sets.Shown.{Models, Alike, models_alike}
 use Rattle.seize_moves.proofs.State.Moves

@@ -2,7 +2,7 @@
 -- say of its change.
 use Rattle.std.proofs.Common.{◌≡◌, ℕ, true, false, List, [], ◌∷◌, ◌++◌, ap, append_assoc, sym, ◌∙◌}
 use Rattle.std.proofs.lemmas.List.{append-nil}
-use Rattle.seize_waiting.specs.Given.Seize.WaitingSets.{Batch, Sets, After, with_closed, then_also, without, is_done, given}
+use Rattle.seize_waiting.specs.Given.SeizeWaitingSets.{Batch, Sets, After, with_closed, then_also, without, is_done, given}
 use Rattle.seize_waiting.proofs.Work.{rest_counted, still_passed, done_given}
 use Rattle.seize_moves.proofs.State.Ghost.{State}
 use Rattle.seize_moves.proofs.Sets.Shown.{Models}

@@ -1,6 +1,6 @@
 -- The collector's state with its lists as lists: what its words say, and beside them where each block is and what each batch and slot owe one another.
 use Rattle.std.proofs.Common.{ℕ, zero, suc, ◌+◌, Bool, true, false, cond, eqb, ltb, List, [], ◌∷◌}
-use Rattle.seize_waiting.specs.Given.Seize.Law.{Effect, Place, Nowhere, Standing, With}
+use Rattle.seize_waiting.specs.Given.SeizeLaw.{Effect, Place, Nowhere, Standing, With}
 use Rattle.seize_waiting.specs.Held.{same}
 
 -- f with v at k

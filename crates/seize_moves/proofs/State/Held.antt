@@ -1,6 +1,6 @@
 -- An open section goes on through all that happens save its end, and holds what it holds until then, or until that is taken away.
 use Rattle.std.proofs.Common.{◌≡◌, ℕ, true, List, [], ◌∷◌, ◌++◌, arith}
-use Rattle.seize_waiting.specs.Given.Seize.Law.{Effect, Entered, Left, Made, Linked, Unlinked, Deferred, Retired, Taken, Dropped, Ended, LeftOver, holds}
+use Rattle.seize_waiting.specs.Given.SeizeLaw.{Effect, Entered, Left, Made, Linked, Unlinked, Deferred, Retired, Taken, Dropped, Ended, LeftOver, holds}
 use Rattle.seize_moves.proofs.State.Logs.{held_open}
 
 -- the effect ends no section of this slot, and takes no block away that a section may hold

@@ -1,6 +1,6 @@
 -- What the log says of sections: a section that holds a block is open, and an open section holds what can be reached.
 use Rattle.std.proofs.Common.{◌≡◌, ℕ, true, List, [], ◌∷◌, arith, Bool, false, cond, eqb}
-use Rattle.seize_waiting.specs.Given.Seize.Law.{Effect, Entered, Left, Made, Linked, Unlinked, Deferred, Retired, Taken, Dropped, Ended, LeftOver, reachable, is_open, holds, Nowhere, is_somewhere, where_is}
+use Rattle.seize_waiting.specs.Given.SeizeLaw.{Effect, Entered, Left, Made, Linked, Unlinked, Deferred, Retired, Taken, Dropped, Ended, LeftOver, reachable, is_open, holds, Nowhere, is_somewhere, where_is}
 
 -- a section that holds a block is open
 pub held_open : (t c : ℕ) (log : List Effect) → holds t c log ≡ true → is_open t log ≡ true

@@ -1,6 +1,6 @@
 -- The moves: the few changes of the state that the program points of all rows come down to. What each one asks for stands with its lemma.
 use Rattle.std.proofs.Common.{ℕ, ◌+◌, ◌-◌, ◌%◌, ◌^◌, ◌++◌, Bool, cond, eqb, ltb, List, [], ◌∷◌}
-use Rattle.seize_waiting.specs.Given.Seize.Law.{Entered, Left, Made, Linked, Unlinked, Deferred, Retired, Taken, Dropped, Ended, LeftOver}
+use Rattle.seize_waiting.specs.Given.SeizeLaw.{Entered, Left, Made, Linked, Unlinked, Deferred, Retired, Taken, Dropped, Ended, LeftOver}
 use Rattle.seize_moves.proofs.State.Ghost.{put, Entry, Free, Idle, Active, Debt, Unscanned, Marked, Gone, Skipped, Owing, Loose, Counted, Open, Closing, Closed, Dead, Life, IsFree, IsOwned, IsLinked, IsUnlinked, IsDeferring, IsDeferred, IsPending, IsIn, IsDoomed, IsLeft, State, was_put, total}
 
 -- blocks

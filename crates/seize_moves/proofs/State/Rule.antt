@@ -1,6 +1,6 @@
 -- The rule: what holds of the state between any two moves, and what a move of one row leaves to the others.
 use Rattle.std.proofs.Common.{◌≡◌, ℕ, ◌+◌, ◌%◌, ◌^◌, ◌<◌, ◌≤◌, Bool, true, false, cond, eqb, List, [], ◌∷◌, ◌++◌, length, ◌⊎◌, refl, arith}
-use Rattle.seize_waiting.specs.Given.Seize.Law.{Effect, Retired, where_is, is_open, holds, was_linked, is_retired, IsSound}
+use Rattle.seize_waiting.specs.Given.SeizeLaw.{Effect, Retired, where_is, is_open, holds, was_linked, is_retired, IsSound}
 use Rattle.seize_waiting.specs.Held.{count}
 use Rattle.seize_moves.proofs.State.Ghost.{Entry, Head, Never, Debt, Unscanned, Marked, Gone, Skipped, Owing, Loose, Counted, Stage, Unused, Open, Closing, Closed, Dead, Life, IsFree, IsOwned, IsLinked, IsUnlinked, IsDeferring, IsDeferred, IsPending, IsIn, IsDoomed, IsLeft, State, entries, list_of, is_active, is_never, emptied, is_marked, on_list, is_loose, owes, counts, was_put, total, is_in, is_doomed, is_pending, is_deferred, is_given, is_used, of_row, lies_with, can_carry, place_of}
 

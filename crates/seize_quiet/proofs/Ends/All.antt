@@ -1,27 +1,27 @@
 -- From each point of the work on slots: what is so of whatever comes behind it is so there.
 use Rattle.std.specs.Prelude.{Option, nat_lt, ◌==◌}
 use Rattle.std.proofs.Common.{◌≡◌, ℕ, suc, ◌+◌, ◌<◌, ◌≤◌, ◌^◌, Bool, ◌⊎◌, ◌∙◌, inl, inr, refl, arith, ap, sym, subst, true, []}
-use Rattle.seize_reclaims.specs.Given.SeizeWords.declared.at.At.TheVariants as name
-use Rattle.seize_reclaims.specs.Given.SeizeWords.Mem.{Mem, Took, value_at}
-use Rattle.seize_reclaims.specs.Given.SeizeWords.Plan.{Steps}
-use Rattle.seize_reclaims.proofs.Given.SeizeWords.OneOwner.Operations.{loaded, stored}
-use Rattle.seize_reclaims.specs.Given.Seize.declared.states.TheConstants.{HEAD, NEVER, FREE, IDLE, ACTIVE, LAST_SLOT}
-use Rattle.seize_reclaims.specs.Given.Seize.declared.rows.leave.Leave.{Leave}
-use Rattle.seize_reclaims.specs.Given.Seize.declared.rows.settle.Settle.{Settle}
-use Rattle.seize_reclaims.specs.Given.Seize.declared.rows.settle.Settled.{Settled}
-use Rattle.seize_reclaims.specs.Given.Seize.declared.rows.settle.Settled.TheVariants as settled
-use Rattle.seize_reclaims.specs.Given.Seize.declared.rows.reclaim_all.ReclaimAll.{ReclaimAll}
-use Rattle.seize_reclaims.specs.Given.Seize.declared.rows.reclaim_all.Reclaiming.{Reclaiming}
-use Rattle.seize_reclaims.specs.Given.Seize.declared.rows.reclaim_all.Reclaiming.TheVariants as at
-use Rattle.seize_reclaims.specs.Given.Seize.Leave.{leave_plan}
-use Rattle.seize_reclaims.specs.Given.Seize.ReclaimAll.{standing, next_head, to, within, head_read, plan_at}
-use Rattle.seize_reclaims.specs.Given.Seize.WaitingSets.{Sets, flushed}
-use Rattle.seize_reclaims.specs.Given.Seize.World.{World, Settles, Leaves, Flush, Leave', IsOutside}
-use Rattle.seize_reclaims.proofs.Given.SeizeRule.Rows.Leaving.{steps_back}
-use Rattle.seize_reclaims.proofs.Given.SeizeEnds.Settling.Most.{is_going}
-use Rattle.seize_reclaims.proofs.Given.SeizeEnds.Rows.Lone.{leave_to_go, leaves_lower}
-use Rattle.seize_reclaims.proofs.Given.SeizeWaiting.Flushes.{flushed_frame}
-use Rattle.seize_reclaims.proofs.Given.SeizeSets.Turns.Begins.{Shown}
+use Rattle.seize_reclaims.specs.Given.SeizeWordsDeclared.at.At.TheVariants as name
+use Rattle.seize_reclaims.specs.Given.SeizeWordsMem.{Mem, Took, value_at}
+use Rattle.seize_reclaims.specs.Given.SeizeWordsPlan.{Steps}
+use Rattle.seize_reclaims.proofs.Given.SeizeWordsOneOwner.Operations.{loaded, stored}
+use Rattle.seize_reclaims.specs.Given.SeizeDeclared.states.TheConstants.{HEAD, NEVER, FREE, IDLE, ACTIVE, LAST_SLOT}
+use Rattle.seize_reclaims.specs.Given.SeizeDeclared.rows.leave.Leave.{Leave}
+use Rattle.seize_reclaims.specs.Given.SeizeDeclared.rows.settle.Settle.{Settle}
+use Rattle.seize_reclaims.specs.Given.SeizeDeclared.rows.settle.Settled.{Settled}
+use Rattle.seize_reclaims.specs.Given.SeizeDeclared.rows.settle.Settled.TheVariants as settled
+use Rattle.seize_reclaims.specs.Given.SeizeDeclared.rows.reclaim_all.ReclaimAll.{ReclaimAll}
+use Rattle.seize_reclaims.specs.Given.SeizeDeclared.rows.reclaim_all.Reclaiming.{Reclaiming}
+use Rattle.seize_reclaims.specs.Given.SeizeDeclared.rows.reclaim_all.Reclaiming.TheVariants as at
+use Rattle.seize_reclaims.specs.Given.SeizeLeave.{leave_plan}
+use Rattle.seize_reclaims.specs.Given.SeizeReclaimAll.{standing, next_head, to, within, head_read, plan_at}
+use Rattle.seize_reclaims.specs.Given.SeizeWaitingSets.{Sets, flushed}
+use Rattle.seize_reclaims.specs.Given.SeizeWorld.{World, Settles, Leaves, Flush, Leave', IsOutside}
+use Rattle.seize_reclaims.proofs.Given.SeizeRuleRows.Leaving.{steps_back}
+use Rattle.seize_reclaims.proofs.Given.SeizeEndsSettling.Most.{is_going}
+use Rattle.seize_reclaims.proofs.Given.SeizeEndsRows.Lone.{leave_to_go, leaves_lower}
+use Rattle.seize_reclaims.proofs.Given.SeizeWaitingFlushes.{flushed_frame}
+use Rattle.seize_reclaims.proofs.Given.SeizeSetsTurns.Begins.{Shown}
 use Rattle.seize_reclaims.specs.AllReclaimed.{weight_at}
 use Rattle.seize_reclaims.proofs.AllReclaimed.Weights.{weight, at_next_head, head_lower, lower, leave_less, none_to_go, row_to_go}
 use Rattle.seize_quiet.specs.Slots.{Settling, Flushing, Within, StageAt}

@@ -1,26 +1,26 @@
 -- The work on slots ends within a number of steps: each step is the only one that can be taken.
 use Rattle.std.specs.Prelude.{Option, Some, None}
 use Rattle.std.proofs.Common.{◌≡◌, ℕ, suc, ◌<◌, ◌^◌, Bool, true, refl, sym, subst, ◌∙◌}
-use Rattle.seize_reclaims.specs.Given.SeizeWords.Op.{Op, Make, Room}
-use Rattle.seize_reclaims.specs.Given.SeizeWords.Mem.{Mem}
-use Rattle.seize_reclaims.specs.Given.SeizeWords.Plan.{Plan, Turn, Do, plan_as}
-use Rattle.seize_reclaims.specs.Given.Seize.declared.rows.leave.Leave.{Leave}
-use Rattle.seize_reclaims.specs.Given.Seize.declared.rows.leave.Leaving.{Leaving}
-use Rattle.seize_reclaims.specs.Given.Seize.declared.rows.leave.Leaving.TheVariants as leaving_at
-use Rattle.seize_reclaims.specs.Given.Seize.declared.rows.settle.Settle.{Settle}
-use Rattle.seize_reclaims.specs.Given.Seize.declared.rows.settle.Settling.{Settling}
-use Rattle.seize_reclaims.specs.Given.Seize.declared.rows.settle.Settling.TheVariants as settling_at
-use Rattle.seize_reclaims.specs.Given.Seize.declared.rows.settle.Settled.{Settled}
-use Rattle.seize_reclaims.specs.Given.Seize.declared.rows.reclaim_all.ReclaimAll.{ReclaimAll}
-use Rattle.seize_reclaims.specs.Given.Seize.declared.rows.reclaim_all.Reclaiming.{Reclaiming}
-use Rattle.seize_reclaims.specs.Given.Seize.declared.rows.reclaim_all.Reclaiming.TheVariants as at
-use Rattle.seize_reclaims.specs.Given.Seize.Leave as leave
-use Rattle.seize_reclaims.specs.Given.Seize.Settle as settle
-use Rattle.seize_reclaims.specs.Given.Seize.ReclaimAll.{standing, next_head, next_batch, within, plan_at, reclaim_all_plan}
-use Rattle.seize_reclaims.specs.Given.Seize.World.{World}
-use Rattle.seize_reclaims.specs.Given.SeizeActs.Answers.{Grant, stepped}
-use Rattle.seize_reclaims.proofs.Given.SeizeActs.Answers.{was_stepped}
-use Rattle.seize_reclaims.proofs.Given.SeizeActs.Steps.{steps_so}
+use Rattle.seize_reclaims.specs.Given.SeizeWordsOp.{Op, Make, Room}
+use Rattle.seize_reclaims.specs.Given.SeizeWordsMem.{Mem}
+use Rattle.seize_reclaims.specs.Given.SeizeWordsPlan.{Plan, Turn, Do, plan_as}
+use Rattle.seize_reclaims.specs.Given.SeizeDeclared.rows.leave.Leave.{Leave}
+use Rattle.seize_reclaims.specs.Given.SeizeDeclared.rows.leave.Leaving.{Leaving}
+use Rattle.seize_reclaims.specs.Given.SeizeDeclared.rows.leave.Leaving.TheVariants as leaving_at
+use Rattle.seize_reclaims.specs.Given.SeizeDeclared.rows.settle.Settle.{Settle}
+use Rattle.seize_reclaims.specs.Given.SeizeDeclared.rows.settle.Settling.{Settling}
+use Rattle.seize_reclaims.specs.Given.SeizeDeclared.rows.settle.Settling.TheVariants as settling_at
+use Rattle.seize_reclaims.specs.Given.SeizeDeclared.rows.settle.Settled.{Settled}
+use Rattle.seize_reclaims.specs.Given.SeizeDeclared.rows.reclaim_all.ReclaimAll.{ReclaimAll}
+use Rattle.seize_reclaims.specs.Given.SeizeDeclared.rows.reclaim_all.Reclaiming.{Reclaiming}
+use Rattle.seize_reclaims.specs.Given.SeizeDeclared.rows.reclaim_all.Reclaiming.TheVariants as at
+use Rattle.seize_reclaims.specs.Given.SeizeLeave as leave
+use Rattle.seize_reclaims.specs.Given.SeizeSettle as settle
+use Rattle.seize_reclaims.specs.Given.SeizeReclaimAll.{standing, next_head, next_batch, within, plan_at, reclaim_all_plan}
+use Rattle.seize_reclaims.specs.Given.SeizeWorld.{World}
+use Rattle.seize_reclaims.specs.Given.SeizeActsAnswers.{Grant, stepped}
+use Rattle.seize_reclaims.proofs.Given.SeizeActsAnswers.{was_stepped}
+use Rattle.seize_reclaims.proofs.Given.SeizeActsSteps.{steps_so}
 use Rattle.seize_quiet.specs.Promises.{IsOnSlots, DoneWithin, SlotsEnd}
 use Rattle.seize_quiet.proofs.Promised.{slots_lead}
 use Rattle.seize_quiet.proofs.Ends.All.{all_end}

@@ -1,25 +1,25 @@
 -- From within a flush: what is so of whatever comes behind it is so there.
 use Rattle.std.specs.Prelude.{Option, nat_lt, if◌then◌else◌}
 use Rattle.std.proofs.Common.{◌≡◌, ℕ, ◌+◌, ◌-◌, ◌<◌, ◌≤◌, ◌^◌, Bool, true, false, ◌⊎◌, inl, inr, refl, arith, sym, subst}
-use Rattle.seize_reclaims.specs.Given.SeizeWords.Mem.{Mem, Took, value_at}
-use Rattle.seize_reclaims.specs.Given.SeizeWords.Plan.{Steps}
-use Rattle.seize_reclaims.specs.Given.Seize.declared.states.TheConstants.{LAST_SLOT}
-use Rattle.seize_reclaims.specs.Given.Seize.declared.rows.settle.Settle.{Settle}
-use Rattle.seize_reclaims.specs.Given.Seize.declared.rows.settle.Settled.{Settled}
-use Rattle.seize_reclaims.specs.Given.Seize.declared.rows.settle.Settled.TheVariants as settled
-use Rattle.seize_reclaims.specs.Given.Seize.declared.rows.reclaim_all.ReclaimAll.{ReclaimAll}
-use Rattle.seize_reclaims.specs.Given.Seize.declared.rows.reclaim_all.Reclaiming.{Reclaiming}
-use Rattle.seize_reclaims.specs.Given.Seize.declared.rows.reclaim_all.Reclaiming.TheVariants as at
-use Rattle.seize_reclaims.specs.Given.Seize.Settle.{settle_plan}
-use Rattle.seize_reclaims.specs.Given.Seize.ReclaimAll.{standing, next_batch, within, plan_at}
-use Rattle.seize_reclaims.specs.Given.Seize.Sequence.{Calls}
-use Rattle.seize_reclaims.specs.Given.Seize.WaitingSets.{Sets, flushed}
-use Rattle.seize_reclaims.specs.Given.Seize.World.{World, Rests, Settles, Flush, Steps', settles_on}
-use Rattle.seize_reclaims.proofs.Given.SeizeRule.Rows.Leaving.{steps_back}
-use Rattle.seize_reclaims.proofs.Given.SeizeRule.Rows.Others.{with_here}
-use Rattle.seize_reclaims.proofs.Given.SeizeSets.Turns.All.{calls_come}
-use Rattle.seize_reclaims.proofs.Given.SeizeSets.Turns.Begins.{Shown}
-use Rattle.seize_reclaims.proofs.Given.SeizeActs.Ends.{to_go, step_less}
+use Rattle.seize_reclaims.specs.Given.SeizeWordsMem.{Mem, Took, value_at}
+use Rattle.seize_reclaims.specs.Given.SeizeWordsPlan.{Steps}
+use Rattle.seize_reclaims.specs.Given.SeizeDeclared.states.TheConstants.{LAST_SLOT}
+use Rattle.seize_reclaims.specs.Given.SeizeDeclared.rows.settle.Settle.{Settle}
+use Rattle.seize_reclaims.specs.Given.SeizeDeclared.rows.settle.Settled.{Settled}
+use Rattle.seize_reclaims.specs.Given.SeizeDeclared.rows.settle.Settled.TheVariants as settled
+use Rattle.seize_reclaims.specs.Given.SeizeDeclared.rows.reclaim_all.ReclaimAll.{ReclaimAll}
+use Rattle.seize_reclaims.specs.Given.SeizeDeclared.rows.reclaim_all.Reclaiming.{Reclaiming}
+use Rattle.seize_reclaims.specs.Given.SeizeDeclared.rows.reclaim_all.Reclaiming.TheVariants as at
+use Rattle.seize_reclaims.specs.Given.SeizeSettle.{settle_plan}
+use Rattle.seize_reclaims.specs.Given.SeizeReclaimAll.{standing, next_batch, within, plan_at}
+use Rattle.seize_reclaims.specs.Given.SeizeSequence.{Calls}
+use Rattle.seize_reclaims.specs.Given.SeizeWaitingSets.{Sets, flushed}
+use Rattle.seize_reclaims.specs.Given.SeizeWorld.{World, Rests, Settles, Flush, Steps', settles_on}
+use Rattle.seize_reclaims.proofs.Given.SeizeRuleRows.Leaving.{steps_back}
+use Rattle.seize_reclaims.proofs.Given.SeizeRuleRows.Others.{with_here}
+use Rattle.seize_reclaims.proofs.Given.SeizeSetsTurns.All.{calls_come}
+use Rattle.seize_reclaims.proofs.Given.SeizeSetsTurns.Begins.{Shown}
+use Rattle.seize_reclaims.proofs.Given.SeizeActsEnds.{to_go, step_less}
 use Rattle.seize_quiet.specs.Slots.{Flushing, Within, Led}
 use Rattle.seize_quiet.specs.Promises.{IsOnSlots}
 use Rattle.seize_quiet.proofs.Slots.Came.{came_on}

@@ -1,19 +1,19 @@
 -- A point of the work on slots, and from where slots are given up: what is so of whatever comes behind it is so there.
 use Rattle.std.specs.Prelude.{Option, nat_lt, ◌==◌, if◌then◌else◌}
 use Rattle.std.proofs.Common.{◌≡◌, ℕ, ◌+◌, ◌-◌, ◌<◌, ◌≤◌, ◌^◌, Bool, true, false, ◌⊎◌, inl, inr, refl, arith, ap, sym, subst}
-use Rattle.seize_reclaims.specs.Given.SeizeWords.Mem.{Mem, Took, value_at}
-use Rattle.seize_reclaims.specs.Given.SeizeWords.Plan.{Steps}
-use Rattle.seize_reclaims.specs.Given.Seize.declared.progress.Progress.{Progress}
-use Rattle.seize_reclaims.specs.Given.Seize.declared.rows.enter.Unregister.{Unregister}
-use Rattle.seize_reclaims.specs.Given.Seize.declared.rows.settle.Settled.{Settled}
-use Rattle.seize_reclaims.specs.Given.Seize.declared.rows.settle.Settled.TheVariants as settled
-use Rattle.seize_reclaims.specs.Given.Seize.declared.rows.reclaim_all.ReclaimAll.{ReclaimAll}
-use Rattle.seize_reclaims.specs.Given.Seize.declared.rows.reclaim_all.Reclaiming.{Reclaiming}
-use Rattle.seize_reclaims.specs.Given.Seize.declared.rows.reclaim_all.Reclaiming.TheVariants as at
-use Rattle.seize_reclaims.specs.Given.Seize.Enter.{unregister_plan}
-use Rattle.seize_reclaims.specs.Given.Seize.ReclaimAll.{standing, first_root, next_free, reclaim_all_plan, plan_at}
-use Rattle.seize_reclaims.specs.Given.Seize.World.{World}
-use Rattle.seize_reclaims.proofs.Given.SeizeRule.Rows.Leaving.{steps_back}
+use Rattle.seize_reclaims.specs.Given.SeizeWordsMem.{Mem, Took, value_at}
+use Rattle.seize_reclaims.specs.Given.SeizeWordsPlan.{Steps}
+use Rattle.seize_reclaims.specs.Given.SeizeDeclared.progress.Progress.{Progress}
+use Rattle.seize_reclaims.specs.Given.SeizeDeclared.rows.enter.Unregister.{Unregister}
+use Rattle.seize_reclaims.specs.Given.SeizeDeclared.rows.settle.Settled.{Settled}
+use Rattle.seize_reclaims.specs.Given.SeizeDeclared.rows.settle.Settled.TheVariants as settled
+use Rattle.seize_reclaims.specs.Given.SeizeDeclared.rows.reclaim_all.ReclaimAll.{ReclaimAll}
+use Rattle.seize_reclaims.specs.Given.SeizeDeclared.rows.reclaim_all.Reclaiming.{Reclaiming}
+use Rattle.seize_reclaims.specs.Given.SeizeDeclared.rows.reclaim_all.Reclaiming.TheVariants as at
+use Rattle.seize_reclaims.specs.Given.SeizeEnter.{unregister_plan}
+use Rattle.seize_reclaims.specs.Given.SeizeReclaimAll.{standing, first_root, next_free, reclaim_all_plan, plan_at}
+use Rattle.seize_reclaims.specs.Given.SeizeWorld.{World}
+use Rattle.seize_reclaims.proofs.Given.SeizeRuleRows.Leaving.{steps_back}
 use Rattle.seize_reclaims.specs.AllReclaimed.{weight_at}
 use Rattle.seize_reclaims.proofs.AllReclaimed.Weights.{weight, at_next_free}
 use Rattle.seize_quiet.specs.Slots.{Came, Stage, Led}

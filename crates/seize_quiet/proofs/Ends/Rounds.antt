@@ -2,24 +2,24 @@
 use Rattle.std.specs.Prelude.{Option, Some, ◌==◌, if◌then◌else◌}
 use Rattle.std.proofs.Common.{◌≡◌, ℕ, ◌+◌, ◌<◌, ◌≤◌, ◌^◌, Bool, true, false, List, [], ◌∷◌, length, ◌⊎◌, inl, inr, refl, arith, ap, sym, subst, ◌∙◌, eqb-true}
 use Rattle.std.proofs.lemmas.Bool.{eqb-false}
-use Rattle.seize_reclaims.specs.Given.SeizeWords.declared.at.At.TheVariants as name
-use Rattle.seize_reclaims.specs.Given.SeizeWords.Mem.{Mem, Took, value_at, word_at}
-use Rattle.seize_reclaims.specs.Given.SeizeWords.Plan.{Ends, Steps}
-use Rattle.seize_reclaims.proofs.Given.SeizeWords.OneOwner.Operations.{loaded}
-use Rattle.seize_reclaims.specs.Given.Seize.declared.states.TheConstants.{BATCH, LAST_SLOT}
-use Rattle.seize_reclaims.specs.Given.Seize.declared.rows.settle.Settled.{Settled}
-use Rattle.seize_reclaims.specs.Given.Seize.declared.rows.settle.Settled.TheVariants as settled
-use Rattle.seize_reclaims.specs.Given.Seize.declared.rows.reclaim_all.ReclaimAll.{ReclaimAll}
-use Rattle.seize_reclaims.specs.Given.Seize.declared.rows.reclaim_all.Reclaiming.{Reclaiming}
-use Rattle.seize_reclaims.specs.Given.Seize.declared.rows.reclaim_all.Reclaiming.TheVariants as at
-use Rattle.seize_reclaims.specs.Given.Seize.Settle.{flushing}
-use Rattle.seize_reclaims.specs.Given.Seize.ReclaimAll.{standing, next_batch, to, batch_read, plan_at}
-use Rattle.seize_reclaims.specs.Given.Seize.WaitingSets.{Sets, flushed}
-use Rattle.seize_reclaims.specs.Given.Seize.World.{World, Settles, Use, IsTaken, Flush, Begin, one_more, with_row, with_use}
-use Rattle.seize_reclaims.proofs.Given.SeizeRule.Rows.Others.{with_here}
-use Rattle.seize_reclaims.proofs.Given.SeizeSets.Turns.Begins.{Shown}
-use Rattle.seize_reclaims.proofs.Given.SeizeWaiting.Flushes.{much, flushed_frame}
-use Rattle.seize_reclaims.proofs.Given.SeizeActs.Reclaimed.Flushed.{batch_zero, flush_lower}
+use Rattle.seize_reclaims.specs.Given.SeizeWordsDeclared.at.At.TheVariants as name
+use Rattle.seize_reclaims.specs.Given.SeizeWordsMem.{Mem, Took, value_at, word_at}
+use Rattle.seize_reclaims.specs.Given.SeizeWordsPlan.{Ends, Steps}
+use Rattle.seize_reclaims.proofs.Given.SeizeWordsOneOwner.Operations.{loaded}
+use Rattle.seize_reclaims.specs.Given.SeizeDeclared.states.TheConstants.{BATCH, LAST_SLOT}
+use Rattle.seize_reclaims.specs.Given.SeizeDeclared.rows.settle.Settled.{Settled}
+use Rattle.seize_reclaims.specs.Given.SeizeDeclared.rows.settle.Settled.TheVariants as settled
+use Rattle.seize_reclaims.specs.Given.SeizeDeclared.rows.reclaim_all.ReclaimAll.{ReclaimAll}
+use Rattle.seize_reclaims.specs.Given.SeizeDeclared.rows.reclaim_all.Reclaiming.{Reclaiming}
+use Rattle.seize_reclaims.specs.Given.SeizeDeclared.rows.reclaim_all.Reclaiming.TheVariants as at
+use Rattle.seize_reclaims.specs.Given.SeizeSettle.{flushing}
+use Rattle.seize_reclaims.specs.Given.SeizeReclaimAll.{standing, next_batch, to, batch_read, plan_at}
+use Rattle.seize_reclaims.specs.Given.SeizeWaitingSets.{Sets, flushed}
+use Rattle.seize_reclaims.specs.Given.SeizeWorld.{World, Settles, Use, IsTaken, Flush, Begin, one_more, with_row, with_use}
+use Rattle.seize_reclaims.proofs.Given.SeizeRuleRows.Others.{with_here}
+use Rattle.seize_reclaims.proofs.Given.SeizeSetsTurns.Begins.{Shown}
+use Rattle.seize_reclaims.proofs.Given.SeizeWaitingFlushes.{much, flushed_frame}
+use Rattle.seize_reclaims.proofs.Given.SeizeActsReclaimed.Flushed.{batch_zero, flush_lower}
 use Rattle.seize_reclaims.specs.AllReclaimed.{weight_at}
 use Rattle.seize_reclaims.proofs.AllReclaimed.Weights.{weight, at_next_batch}
 use Rattle.seize_quiet.specs.Slots.{Flushing, Within, StageAt, Stage, Led}

@@ -1,13 +1,13 @@
 -- A world that came about from the start, what happens next, and a memory without a block that was taken away.
 use Rattle.std.specs.Prelude.{Option, None, IsSome, if◌then◌else◌}
 use Rattle.std.proofs.Common.{◌≡◌, ℕ, ◌+◌, Bool, List, [], ◌∷◌, ◌++◌, refl, ap, subst, ◌∙◌, eq-eqb}
-use Rattle.seize_reclaims.specs.Given.SeizeWords.Mem.{Mem, block_of, value_in, value_at, with_block}
-use Rattle.seize_reclaims.proofs.Given.SeizeWords.OneOwner.AfterWrites.{block_of-with_block}
-use Rattle.seize_reclaims.specs.Given.Seize.declared.states.TheConstants.{LAST_SLOT}
-use Rattle.seize_reclaims.specs.Given.Seize.World.{World, Event, Happens, Runs, at_start}
-use Rattle.seize_reclaims.proofs.Given.SeizeRule.Words.Named.{block_there}
-use Rattle.seize_reclaims.proofs.Given.SeizeRule.World.Start.{start_good}
-use Rattle.seize_reclaims.proofs.Given.SeizeAlone.Histories.Reached.{Reached, runs_reached}
+use Rattle.seize_reclaims.specs.Given.SeizeWordsMem.{Mem, block_of, value_in, value_at, with_block}
+use Rattle.seize_reclaims.proofs.Given.SeizeWordsOneOwner.AfterWrites.{block_of-with_block}
+use Rattle.seize_reclaims.specs.Given.SeizeDeclared.states.TheConstants.{LAST_SLOT}
+use Rattle.seize_reclaims.specs.Given.SeizeWorld.{World, Event, Happens, Runs, at_start}
+use Rattle.seize_reclaims.proofs.Given.SeizeRuleWords.Named.{block_there}
+use Rattle.seize_reclaims.proofs.Given.SeizeRuleWorld.Start.{start_good}
+use Rattle.seize_reclaims.proofs.Given.SeizeAloneHistories.Reached.{Reached, runs_reached}
 use Rattle.seize_quiet.specs.Slots.{Came}
 
 pub taken_gone : {T : Type 0} (m : Mem T) (b : ℕ) → IsSome (value_at m b) → value_at (with_block m b None) b ≡ None

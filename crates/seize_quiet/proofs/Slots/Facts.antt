@@ -2,28 +2,28 @@
 use Rattle.std.specs.Prelude.{Option, Some, None, IsSome}
 use Rattle.std.proofs.Common.{◌≡◌, ℕ, zero, suc, ◌+◌, ◌<◌, ◌≤◌, ◌^◌, true, false, List, [], ◌∷◌, length, inl, inr, refl, arith, ap, sym, subst, ◌∙◌}
 use Rattle.std.proofs.lemmas.Bool.{cases_lt}
-use Rattle.seize_reclaims.specs.Given.SeizeWords.declared.at.At.TheVariants as name
-use Rattle.seize_reclaims.specs.Given.SeizeWords.Mem.{word_at}
-use Rattle.seize_reclaims.specs.Given.Seize.declared.states.TheConstants.{HEAD, BATCH, LAST_SLOT}
-use Rattle.seize_reclaims.specs.Given.Seize.Law.{is_retired}
-use Rattle.seize_reclaims.specs.Given.Seize.Sequence.{RunsOn, Calls}
-use Rattle.seize_reclaims.specs.Given.Seize.WaitingSets.{Sets}
-use Rattle.seize_reclaims.specs.Given.Seize.World.{World, Use, Vacant, Outside, Request, Event, Begin, Step, Runs, IsOutside, at_start}
-use Rattle.seize_reclaims.proofs.Given.SeizeMoves.State.Ghost.{is_never}
-use Rattle.seize_reclaims.proofs.Given.SeizeRule.Rows.Short.{tries_on}
-use Rattle.seize_reclaims.proofs.Given.SeizeRule.Words.Named.{words_of, word_found}
-use Rattle.seize_reclaims.proofs.Given.SeizeRule.Words.Room.{slot_there}
-use Rattle.seize_reclaims.proofs.Given.SeizeRule.World.Rested.{Rested}
-use Rattle.seize_reclaims.proofs.Given.SeizeRule.World.Start.{start_good}
-use Rattle.seize_reclaims.proofs.Given.SeizeEnds.Batches.Rows.{HeldByRows, runs_held, start_held}
-use Rattle.seize_reclaims.proofs.Given.SeizeSets.Reclaims.Ends.{none_retired}
-use Rattle.seize_reclaims.proofs.Given.SeizeSets.Reclaims.Sets.{open_none}
-use Rattle.seize_reclaims.proofs.Given.SeizeSets.Turns.Begins.{Shown}
-use Rattle.seize_reclaims.proofs.Given.SeizeSets.Turns.Heads.{has_words, has_word, idle_word}
-use Rattle.seize_reclaims.specs.Given.SeizeActs.Reclaimed.{HasNothingLeft}
-use Rattle.seize_reclaims.proofs.Given.SeizeActs.Lost.{behind_others}
-use Rattle.seize_reclaims.proofs.Given.SeizeActs.Reclaimed.Flushed.{batch_zero}
-use Rattle.seize_reclaims.proofs.Given.SeizeActs.Reclaimed.Quiet.{quiet_sets, quiet_shown, opened_below, opened_past}
+use Rattle.seize_reclaims.specs.Given.SeizeWordsDeclared.at.At.TheVariants as name
+use Rattle.seize_reclaims.specs.Given.SeizeWordsMem.{word_at}
+use Rattle.seize_reclaims.specs.Given.SeizeDeclared.states.TheConstants.{HEAD, BATCH, LAST_SLOT}
+use Rattle.seize_reclaims.specs.Given.SeizeLaw.{is_retired}
+use Rattle.seize_reclaims.specs.Given.SeizeSequence.{RunsOn, Calls}
+use Rattle.seize_reclaims.specs.Given.SeizeWaitingSets.{Sets}
+use Rattle.seize_reclaims.specs.Given.SeizeWorld.{World, Use, Vacant, Outside, Request, Event, Begin, Step, Runs, IsOutside, at_start}
+use Rattle.seize_reclaims.proofs.Given.SeizeMovesState.Ghost.{is_never}
+use Rattle.seize_reclaims.proofs.Given.SeizeRuleRows.Short.{tries_on}
+use Rattle.seize_reclaims.proofs.Given.SeizeRuleWords.Named.{words_of, word_found}
+use Rattle.seize_reclaims.proofs.Given.SeizeRuleWords.Room.{slot_there}
+use Rattle.seize_reclaims.proofs.Given.SeizeRuleWorld.Rested.{Rested}
+use Rattle.seize_reclaims.proofs.Given.SeizeRuleWorld.Start.{start_good}
+use Rattle.seize_reclaims.proofs.Given.SeizeEndsBatches.Rows.{HeldByRows, runs_held, start_held}
+use Rattle.seize_reclaims.proofs.Given.SeizeSetsReclaims.Ends.{none_retired}
+use Rattle.seize_reclaims.proofs.Given.SeizeSetsReclaims.Sets.{open_none}
+use Rattle.seize_reclaims.proofs.Given.SeizeSetsTurns.Begins.{Shown}
+use Rattle.seize_reclaims.proofs.Given.SeizeSetsTurns.Heads.{has_words, has_word, idle_word}
+use Rattle.seize_reclaims.specs.Given.SeizeActsReclaimed.{HasNothingLeft}
+use Rattle.seize_reclaims.proofs.Given.SeizeActsLost.{behind_others}
+use Rattle.seize_reclaims.proofs.Given.SeizeActsReclaimed.Flushed.{batch_zero}
+use Rattle.seize_reclaims.proofs.Given.SeizeActsReclaimed.Quiet.{quiet_sets, quiet_shown, opened_below, opened_past}
 use Rattle.seize_quiet.proofs.Slots.Came.{came_reached}
 use Rattle.seize_quiet.specs.Slots.{Came, IsForSlots, AreItsRows, AllRest, HasNoBatch, IsQuiet}
 

@@ -2,37 +2,37 @@
 use Rattle.std.specs.Prelude.{Option, Some, ◌==◌, if◌then◌else◌}
 use Rattle.std.proofs.Common.{◌≡◌, ℕ, suc, ◌+◌, ◌<◌, ◌≤◌, ◌^◌, Bool, true, false, [], ◌∷◌, inl, inr, refl, arith, subst, sym, ap, ◌∙◌, eqb-true}
 use Rattle.std.proofs.lemmas.Bool.{cases_eq, cases_lt}
-use Rattle.seize_reclaims.specs.Given.SeizeWords.declared.at.At.TheVariants as name
-use Rattle.seize_reclaims.specs.Given.SeizeWords.Mem.{Mem, Can, Took, value_at, word_at}
-use Rattle.seize_reclaims.specs.Given.SeizeWords.Plan.{Ends, May, Steps}
-use Rattle.seize_reclaims.proofs.Given.SeizeWords.OneOwner.Operations.{may_load, loaded}
-use Rattle.seize_reclaims.proofs.Given.SeizeWords.Plans.{see_if, as_may}
-use Rattle.seize_reclaims.specs.Given.Seize.declared.states.TheConstants.{BATCH, LAST_SLOT}
-use Rattle.seize_reclaims.specs.Given.Seize.declared.progress.Progress.{Progress}
-use Rattle.seize_reclaims.specs.Given.Seize.declared.rows.enter.Unregister.{Unregister}
-use Rattle.seize_reclaims.specs.Given.Seize.declared.rows.settle.Settle.{Settle}
-use Rattle.seize_reclaims.specs.Given.Seize.declared.rows.settle.Settled.{Settled}
-use Rattle.seize_reclaims.specs.Given.Seize.declared.rows.settle.Settled.TheVariants as settled
-use Rattle.seize_reclaims.specs.Given.Seize.declared.rows.reclaim_all.ReclaimAll.{ReclaimAll}
-use Rattle.seize_reclaims.specs.Given.Seize.declared.rows.reclaim_all.Reclaiming.{Reclaiming}
-use Rattle.seize_reclaims.specs.Given.Seize.declared.rows.reclaim_all.Reclaiming.TheVariants as at
-use Rattle.seize_reclaims.specs.Given.Seize.Enter.{unregister_plan}
-use Rattle.seize_reclaims.specs.Given.Seize.Settle.{settle_plan, flushing}
-use Rattle.seize_reclaims.specs.Given.Seize.ReclaimAll.{standing, next_batch, next_free, to, within, batch_read, batches, plan_at}
-use Rattle.seize_reclaims.specs.Given.Seize.Sequence.{Calls}
-use Rattle.seize_reclaims.specs.Given.Seize.WaitingSets.{Sets, flushed}
-use Rattle.seize_reclaims.specs.Given.Seize.World.{World, Row, Rests, Settles, Frees, Use, Vacant, Outside, Changing, IsTaken, Flush, Unregister', Step, Steps', IsOutside, one_more, settle_effects, settles_on, with_row, with_use, after_step}
-use Rattle.seize_reclaims.proofs.Given.SeizeRule.Rows.Effects.{settle_one}
-use Rattle.seize_reclaims.proofs.Given.SeizeRule.Rows.Leaving.{steps_back}
-use Rattle.seize_reclaims.proofs.Given.SeizeRule.Rows.Others.{with_here}
-use Rattle.seize_reclaims.proofs.Given.SeizeRule.Rows.Taken.{settle_tells}
-use Rattle.seize_reclaims.proofs.Given.SeizeRule.World.Kept.{row_may}
-use Rattle.seize_reclaims.proofs.Given.SeizeRule.World.Rested.{calls_rested, begins_lone}
-use Rattle.seize_reclaims.proofs.Given.SeizeSets.Slots.Kept.{flush_outside, flush_vacant, given_up_vacant}
-use Rattle.seize_reclaims.proofs.Given.SeizeSets.Turns.All.{calls_come}
-use Rattle.seize_reclaims.proofs.Given.SeizeSets.Turns.Begins.{Shown}
-use Rattle.seize_reclaims.proofs.Given.SeizeWaiting.Flushes.{flushed_frame}
-use Rattle.seize_reclaims.proofs.Given.SeizeActs.Reclaimed.Flushed.{batch_zero}
+use Rattle.seize_reclaims.specs.Given.SeizeWordsDeclared.at.At.TheVariants as name
+use Rattle.seize_reclaims.specs.Given.SeizeWordsMem.{Mem, Can, Took, value_at, word_at}
+use Rattle.seize_reclaims.specs.Given.SeizeWordsPlan.{Ends, May, Steps}
+use Rattle.seize_reclaims.proofs.Given.SeizeWordsOneOwner.Operations.{may_load, loaded}
+use Rattle.seize_reclaims.proofs.Given.SeizeWordsPlans.{see_if, as_may}
+use Rattle.seize_reclaims.specs.Given.SeizeDeclared.states.TheConstants.{BATCH, LAST_SLOT}
+use Rattle.seize_reclaims.specs.Given.SeizeDeclared.progress.Progress.{Progress}
+use Rattle.seize_reclaims.specs.Given.SeizeDeclared.rows.enter.Unregister.{Unregister}
+use Rattle.seize_reclaims.specs.Given.SeizeDeclared.rows.settle.Settle.{Settle}
+use Rattle.seize_reclaims.specs.Given.SeizeDeclared.rows.settle.Settled.{Settled}
+use Rattle.seize_reclaims.specs.Given.SeizeDeclared.rows.settle.Settled.TheVariants as settled
+use Rattle.seize_reclaims.specs.Given.SeizeDeclared.rows.reclaim_all.ReclaimAll.{ReclaimAll}
+use Rattle.seize_reclaims.specs.Given.SeizeDeclared.rows.reclaim_all.Reclaiming.{Reclaiming}
+use Rattle.seize_reclaims.specs.Given.SeizeDeclared.rows.reclaim_all.Reclaiming.TheVariants as at
+use Rattle.seize_reclaims.specs.Given.SeizeEnter.{unregister_plan}
+use Rattle.seize_reclaims.specs.Given.SeizeSettle.{settle_plan, flushing}
+use Rattle.seize_reclaims.specs.Given.SeizeReclaimAll.{standing, next_batch, next_free, to, within, batch_read, batches, plan_at}
+use Rattle.seize_reclaims.specs.Given.SeizeSequence.{Calls}
+use Rattle.seize_reclaims.specs.Given.SeizeWaitingSets.{Sets, flushed}
+use Rattle.seize_reclaims.specs.Given.SeizeWorld.{World, Row, Rests, Settles, Frees, Use, Vacant, Outside, Changing, IsTaken, Flush, Unregister', Step, Steps', IsOutside, one_more, settle_effects, settles_on, with_row, with_use, after_step}
+use Rattle.seize_reclaims.proofs.Given.SeizeRuleRows.Effects.{settle_one}
+use Rattle.seize_reclaims.proofs.Given.SeizeRuleRows.Leaving.{steps_back}
+use Rattle.seize_reclaims.proofs.Given.SeizeRuleRows.Others.{with_here}
+use Rattle.seize_reclaims.proofs.Given.SeizeRuleRows.Taken.{settle_tells}
+use Rattle.seize_reclaims.proofs.Given.SeizeRuleWorld.Kept.{row_may}
+use Rattle.seize_reclaims.proofs.Given.SeizeRuleWorld.Rested.{calls_rested, begins_lone}
+use Rattle.seize_reclaims.proofs.Given.SeizeSetsSlots.Kept.{flush_outside, flush_vacant, given_up_vacant}
+use Rattle.seize_reclaims.proofs.Given.SeizeSetsTurns.All.{calls_come}
+use Rattle.seize_reclaims.proofs.Given.SeizeSetsTurns.Begins.{Shown}
+use Rattle.seize_reclaims.proofs.Given.SeizeWaitingFlushes.{flushed_frame}
+use Rattle.seize_reclaims.proofs.Given.SeizeActsReclaimed.Flushed.{batch_zero}
 use Rattle.seize_quiet.proofs.Slots.Came.{came_reached, came_on, came_next}
 use Rattle.seize_quiet.specs.Slots.{AllRest, HasNoBatch, Came, Flushing, Freeing, Within, Stage}
 use Rattle.seize_quiet.proofs.Slots.Facts.{outside_at, rested_by, held_by, calls_run, word_here, sets_now, shown_now, open_none_now}

@@ -2,29 +2,29 @@
 use Rattle.std.specs.Prelude.{Option, Some, IsSome}
 use Rattle.std.proofs.Common.{◌≡◌, ℕ, zero, suc, ◌+◌, true, List, [], ◌∷◌, ◌++◌, refl, ap, sym, subst, ◌∙◌}
 use Rattle.std.proofs.lemmas.List.{append-nil}
-use Rattle.seize_reclaims.specs.Given.SeizeWords.Mem.{Mem, Took, value_at}
-use Rattle.seize_reclaims.specs.Given.SeizeWords.Plan.{Steps}
-use Rattle.seize_reclaims.specs.Given.Seize.declared.states.TheConstants.{LAST_SLOT}
-use Rattle.seize_reclaims.specs.Given.Seize.declared.rows.leave.Leave.{Leave}
-use Rattle.seize_reclaims.specs.Given.Seize.declared.rows.settle.Settle.{Settle}
-use Rattle.seize_reclaims.specs.Given.Seize.declared.rows.settle.Settled.TheVariants as settled
-use Rattle.seize_reclaims.specs.Given.Seize.Leave.{leave_plan}
-use Rattle.seize_reclaims.specs.Given.Seize.Law.{Effect, Taken, IsSound, is_retired}
-use Rattle.seize_reclaims.specs.Given.Seize.Sequence.{Calls, taken_in}
-use Rattle.seize_reclaims.specs.Given.Seize.Settle.{settle_plan}
-use Rattle.seize_reclaims.specs.Given.Seize.World.{World, Row, Rests, Settles, Leaves, Request, Steps'}
-use Rattle.seize_reclaims.proofs.Given.SeizeRule.Rows.Effects.{IsOneStep}
-use Rattle.seize_reclaims.proofs.Given.SeizeRule.Rows.Taken.{TellsTaken}
-use Rattle.seize_reclaims.proofs.Given.SeizeRule.World.Kept.{row_may}
-use Rattle.seize_reclaims.proofs.Given.SeizeRule.World.Rested.{Lone, begins_lone, steps_lone}
-use Rattle.seize_reclaims.specs.Given.SeizeEnds.Holders.{has_batch}
-use Rattle.seize_reclaims.specs.Given.SeizeAlone.Alone.{TakesSteps}
-use Rattle.seize_reclaims.proofs.Given.SeizeAlone.Whole.Midway.{taken_append}
-use Rattle.seize_reclaims.proofs.Given.SeizeAlone.Whole.Register.{steps_more, steps_end}
-use Rattle.seize_reclaims.specs.Given.SeizeActs.Answers.{Grant}
-use Rattle.seize_reclaims.specs.Given.SeizeActs.Waits.{Waits}
-use Rattle.seize_reclaims.proofs.Given.SeizeActs.Steps.{steps_so}
-use Rattle.seize_reclaims.proofs.Given.SeizeActs.Waits.{row_waits}
+use Rattle.seize_reclaims.specs.Given.SeizeWordsMem.{Mem, Took, value_at}
+use Rattle.seize_reclaims.specs.Given.SeizeWordsPlan.{Steps}
+use Rattle.seize_reclaims.specs.Given.SeizeDeclared.states.TheConstants.{LAST_SLOT}
+use Rattle.seize_reclaims.specs.Given.SeizeDeclared.rows.leave.Leave.{Leave}
+use Rattle.seize_reclaims.specs.Given.SeizeDeclared.rows.settle.Settle.{Settle}
+use Rattle.seize_reclaims.specs.Given.SeizeDeclared.rows.settle.Settled.TheVariants as settled
+use Rattle.seize_reclaims.specs.Given.SeizeLeave.{leave_plan}
+use Rattle.seize_reclaims.specs.Given.SeizeLaw.{Effect, Taken, IsSound, is_retired}
+use Rattle.seize_reclaims.specs.Given.SeizeSequence.{Calls, taken_in}
+use Rattle.seize_reclaims.specs.Given.SeizeSettle.{settle_plan}
+use Rattle.seize_reclaims.specs.Given.SeizeWorld.{World, Row, Rests, Settles, Leaves, Request, Steps'}
+use Rattle.seize_reclaims.proofs.Given.SeizeRuleRows.Effects.{IsOneStep}
+use Rattle.seize_reclaims.proofs.Given.SeizeRuleRows.Taken.{TellsTaken}
+use Rattle.seize_reclaims.proofs.Given.SeizeRuleWorld.Kept.{row_may}
+use Rattle.seize_reclaims.proofs.Given.SeizeRuleWorld.Rested.{Lone, begins_lone, steps_lone}
+use Rattle.seize_reclaims.specs.Given.SeizeEndsHolders.{has_batch}
+use Rattle.seize_reclaims.specs.Given.SeizeAloneAlone.{TakesSteps}
+use Rattle.seize_reclaims.proofs.Given.SeizeAloneWhole.Midway.{taken_append}
+use Rattle.seize_reclaims.proofs.Given.SeizeAloneWhole.Register.{steps_more, steps_end}
+use Rattle.seize_reclaims.specs.Given.SeizeActsAnswers.{Grant}
+use Rattle.seize_reclaims.specs.Given.SeizeActsWaits.{Waits}
+use Rattle.seize_reclaims.proofs.Given.SeizeActsSteps.{steps_so}
+use Rattle.seize_reclaims.proofs.Given.SeizeActsWaits.{row_waits}
 use Rattle.seize_quiet.proofs.Slots.Came.{came_reached}
 use Rattle.seize_quiet.proofs.Slots.Came.{taken_gone}
 use Rattle.seize_quiet.specs.Slots.{Came, AllRest, Within, SlotsTold}

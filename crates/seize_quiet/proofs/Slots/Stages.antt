@@ -2,20 +2,20 @@
 use Rattle.std.specs.Prelude.{Option, Some, None, nat_lt, ◌==◌, if◌then◌else◌}
 use Rattle.std.proofs.Common.{◌≡◌, ℕ, suc, ◌+◌, ◌-◌, ◌<◌, ◌≤◌, Bool, true, false, inl, inr, refl, arith, subst, sym, ◌∙◌, eqb-true}
 use Rattle.std.proofs.lemmas.Bool.{cases_lt, eqb-false}
-use Rattle.seize_reclaims.specs.Given.SeizeWords.declared.at.At.TheVariants as name
-use Rattle.seize_reclaims.specs.Given.SeizeWords.Mem.{word_at}
-use Rattle.seize_reclaims.specs.Given.Seize.declared.states.TheConstants.{HEAD, LAST_SLOT}
-use Rattle.seize_reclaims.specs.Given.Seize.declared.rows.reclaim_all.ReclaimAll.{ReclaimAll}
-use Rattle.seize_reclaims.specs.Given.Seize.declared.rows.reclaim_all.Reclaiming.TheVariants as at
-use Rattle.seize_reclaims.specs.Given.Seize.ReclaimAll.{standing, first_root, first_batch, next_head, next_batch, next_free}
-use Rattle.seize_reclaims.specs.Given.Seize.World.{World, Vacant, SlotsTaken}
-use Rattle.seize_reclaims.proofs.Given.SeizeMoves.State.Ghost.{is_never}
-use Rattle.seize_reclaims.proofs.Given.SeizeRule.Words.Named.{words_of, word_found}
-use Rattle.seize_reclaims.proofs.Given.SeizeRule.World.Good.{Good}
-use Rattle.seize_reclaims.proofs.Given.SeizeRule.Words.View.{view}
-use Rattle.seize_reclaims.proofs.Given.SeizeSets.Reclaims.Ends.{untaken_vacant}
-use Rattle.seize_reclaims.proofs.Given.SeizeSets.Turns.Heads.{head_word, vacant_by, none_past, never_behind, taken_so, zero_never}
-use Rattle.seize_reclaims.proofs.Given.SeizeActs.Slots.{head_none}
+use Rattle.seize_reclaims.specs.Given.SeizeWordsDeclared.at.At.TheVariants as name
+use Rattle.seize_reclaims.specs.Given.SeizeWordsMem.{word_at}
+use Rattle.seize_reclaims.specs.Given.SeizeDeclared.states.TheConstants.{HEAD, LAST_SLOT}
+use Rattle.seize_reclaims.specs.Given.SeizeDeclared.rows.reclaim_all.ReclaimAll.{ReclaimAll}
+use Rattle.seize_reclaims.specs.Given.SeizeDeclared.rows.reclaim_all.Reclaiming.TheVariants as at
+use Rattle.seize_reclaims.specs.Given.SeizeReclaimAll.{standing, first_root, first_batch, next_head, next_batch, next_free}
+use Rattle.seize_reclaims.specs.Given.SeizeWorld.{World, Vacant, SlotsTaken}
+use Rattle.seize_reclaims.proofs.Given.SeizeMovesState.Ghost.{is_never}
+use Rattle.seize_reclaims.proofs.Given.SeizeRuleWords.Named.{words_of, word_found}
+use Rattle.seize_reclaims.proofs.Given.SeizeRuleWorld.Good.{Good}
+use Rattle.seize_reclaims.proofs.Given.SeizeRuleWords.View.{view}
+use Rattle.seize_reclaims.proofs.Given.SeizeSetsReclaims.Ends.{untaken_vacant}
+use Rattle.seize_reclaims.proofs.Given.SeizeSetsTurns.Heads.{head_word, vacant_by, none_past, never_behind, taken_so, zero_never}
+use Rattle.seize_reclaims.proofs.Given.SeizeActsSlots.{head_none}
 use Rattle.seize_quiet.specs.Slots.{AllRest, HasNoBatch, IsQuiet, Settling, Flushing, Freeing, Came, Stage as StageOf}
 use Rattle.seize_quiet.proofs.Slots.Facts.{outside_at, rested_by, word_behind, never_none}
 

@@ -2,33 +2,33 @@
 use Rattle.std.specs.Prelude.{Option, Some, IsSome, nat_lt, ◌==◌, if◌then◌else◌}
 use Rattle.std.proofs.Common.{◌≡◌, ℕ, suc, ◌+◌, ◌<◌, ◌≤◌, ◌^◌, Bool, true, false, [], ◌∷◌, inl, inr, refl, arith, subst, sym, ap, ◌∙◌, eqb-true}
 use Rattle.std.proofs.lemmas.Bool.{cases_eq}
-use Rattle.seize_reclaims.specs.Given.SeizeWords.declared.at.At.TheVariants as name
-use Rattle.seize_reclaims.specs.Given.SeizeWords.Mem.{Mem, Can, Took, value_at, word_at}
-use Rattle.seize_reclaims.specs.Given.SeizeWords.Plan.{Ends, May, Steps}
-use Rattle.seize_reclaims.proofs.Given.SeizeWords.OneOwner.AfterWrites.{word_at-with_word}
-use Rattle.seize_reclaims.proofs.Given.SeizeWords.OneOwner.Operations.{may_load, may_store, loaded, stored}
-use Rattle.seize_reclaims.proofs.Given.SeizeWords.Plans.{see_if, as_may}
-use Rattle.seize_reclaims.specs.Given.Seize.declared.states.TheConstants.{HEAD, NEVER, FREE, IDLE, ACTIVE, LAST_SLOT}
-use Rattle.seize_reclaims.specs.Given.Seize.declared.rows.leave.Leave.{Leave}
-use Rattle.seize_reclaims.specs.Given.Seize.declared.rows.settle.Settled.{Settled}
-use Rattle.seize_reclaims.specs.Given.Seize.declared.rows.settle.Settled.TheVariants as settled
-use Rattle.seize_reclaims.specs.Given.Seize.declared.rows.reclaim_all.ReclaimAll.{ReclaimAll}
-use Rattle.seize_reclaims.specs.Given.Seize.declared.rows.reclaim_all.Reclaiming.{Reclaiming}
-use Rattle.seize_reclaims.specs.Given.Seize.declared.rows.reclaim_all.Reclaiming.TheVariants as at
-use Rattle.seize_reclaims.specs.Given.Seize.Leave.{leave_plan, leaving}
-use Rattle.seize_reclaims.specs.Given.Seize.ReclaimAll.{standing, first_batch, next_head, to, within, head_read, heads, plan_at}
-use Rattle.seize_reclaims.specs.Given.Seize.Sequence.{taken_in}
-use Rattle.seize_reclaims.specs.Given.Seize.World.{World, Row, Rests, Leaves, Outside, Changing, Request, Register', Leave', Begin, Step, Steps', Begins, leave_effects, leaves_on, with_row, with_use}
-use Rattle.seize_reclaims.proofs.Given.SeizeRule.Rows.Effects.{leave_one}
-use Rattle.seize_reclaims.proofs.Given.SeizeRule.Rows.Leaving.{steps_back}
-use Rattle.seize_reclaims.proofs.Given.SeizeRule.Rows.LeavesTold.{leave_tells}
-use Rattle.seize_reclaims.proofs.Given.SeizeRule.Rows.Others.{with_here}
-use Rattle.seize_reclaims.proofs.Given.SeizeRule.Words.Named.{same_at-refl}
-use Rattle.seize_reclaims.proofs.Given.SeizeRule.World.Kept.{row_may}
-use Rattle.seize_reclaims.proofs.Given.SeizeRule.World.Rested.{calls_rested}
-use Rattle.seize_reclaims.proofs.Given.SeizeSets.Slots.Kept.{leave_idles}
-use Rattle.seize_reclaims.proofs.Given.SeizeSets.Slots.Retaken.{retaken, retaken_idle}
-use Rattle.seize_reclaims.proofs.Given.SeizeSets.Turns.Heads.{word_says, outside_by, inside_by}
+use Rattle.seize_reclaims.specs.Given.SeizeWordsDeclared.at.At.TheVariants as name
+use Rattle.seize_reclaims.specs.Given.SeizeWordsMem.{Mem, Can, Took, value_at, word_at}
+use Rattle.seize_reclaims.specs.Given.SeizeWordsPlan.{Ends, May, Steps}
+use Rattle.seize_reclaims.proofs.Given.SeizeWordsOneOwner.AfterWrites.{word_at-with_word}
+use Rattle.seize_reclaims.proofs.Given.SeizeWordsOneOwner.Operations.{may_load, may_store, loaded, stored}
+use Rattle.seize_reclaims.proofs.Given.SeizeWordsPlans.{see_if, as_may}
+use Rattle.seize_reclaims.specs.Given.SeizeDeclared.states.TheConstants.{HEAD, NEVER, FREE, IDLE, ACTIVE, LAST_SLOT}
+use Rattle.seize_reclaims.specs.Given.SeizeDeclared.rows.leave.Leave.{Leave}
+use Rattle.seize_reclaims.specs.Given.SeizeDeclared.rows.settle.Settled.{Settled}
+use Rattle.seize_reclaims.specs.Given.SeizeDeclared.rows.settle.Settled.TheVariants as settled
+use Rattle.seize_reclaims.specs.Given.SeizeDeclared.rows.reclaim_all.ReclaimAll.{ReclaimAll}
+use Rattle.seize_reclaims.specs.Given.SeizeDeclared.rows.reclaim_all.Reclaiming.{Reclaiming}
+use Rattle.seize_reclaims.specs.Given.SeizeDeclared.rows.reclaim_all.Reclaiming.TheVariants as at
+use Rattle.seize_reclaims.specs.Given.SeizeLeave.{leave_plan, leaving}
+use Rattle.seize_reclaims.specs.Given.SeizeReclaimAll.{standing, first_batch, next_head, to, within, head_read, heads, plan_at}
+use Rattle.seize_reclaims.specs.Given.SeizeSequence.{taken_in}
+use Rattle.seize_reclaims.specs.Given.SeizeWorld.{World, Row, Rests, Leaves, Outside, Changing, Request, Register', Leave', Begin, Step, Steps', Begins, leave_effects, leaves_on, with_row, with_use}
+use Rattle.seize_reclaims.proofs.Given.SeizeRuleRows.Effects.{leave_one}
+use Rattle.seize_reclaims.proofs.Given.SeizeRuleRows.Leaving.{steps_back}
+use Rattle.seize_reclaims.proofs.Given.SeizeRuleRows.LeavesTold.{leave_tells}
+use Rattle.seize_reclaims.proofs.Given.SeizeRuleRows.Others.{with_here}
+use Rattle.seize_reclaims.proofs.Given.SeizeRuleWords.Named.{same_at-refl}
+use Rattle.seize_reclaims.proofs.Given.SeizeRuleWorld.Kept.{row_may}
+use Rattle.seize_reclaims.proofs.Given.SeizeRuleWorld.Rested.{calls_rested}
+use Rattle.seize_reclaims.proofs.Given.SeizeSetsSlots.Kept.{leave_idles}
+use Rattle.seize_reclaims.proofs.Given.SeizeSetsSlots.Retaken.{retaken, retaken_idle}
+use Rattle.seize_reclaims.proofs.Given.SeizeSetsTurns.Heads.{word_says, outside_by, inside_by}
 use Rattle.seize_quiet.proofs.Slots.Came.{came_reached, came_on, came_next}
 use Rattle.seize_quiet.specs.Slots.{AreItsRows, Came, Settling, Within, StageAt, Stage, BeginsAt, DoesAt, Led}
 use Rattle.seize_quiet.proofs.Slots.Facts.{rested_by, calls_run}

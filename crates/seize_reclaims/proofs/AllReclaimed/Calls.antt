@@ -1,22 +1,22 @@
 -- A section ends, or a batch is flushed, alone: what is reclaimed, and that nobody knew it any more.
 use Rattle.std.specs.Prelude.{Option}
 use Rattle.std.proofs.Common.{◌≡◌, ℕ, zero, suc, ◌+◌, true, List, ◌++◌, ◌⊎◌, inl, inr, refl, arith, ap, sym, subst, ◌∙◌}
-use Rattle.seize.specs.Given.SeizeWords.Mem.{Mem}
+use Rattle.seize.specs.Given.SeizeWordsMem.{Mem}
 use Rattle.seize.specs.declared.rows.settle.Settled.TheVariants.{Done}
-use Rattle.seize_acts.specs.Given.SeizeAlone.declared.calls.WholeCall.{WholeCall}
+use Rattle.seize_acts.specs.Given.SeizeAloneDeclared.calls.WholeCall.{WholeCall}
 use Rattle.seize.specs.Law.{Effect, is_somewhere, reachable, where_is}
 use Rattle.seize.specs.World.{World, Hand, Request, Flush, Leave', Begin, Steps', handed_by, times}
 use Rattle.seize.specs.Sequence.{taken_in}
-use Rattle.seize_acts.specs.Given.SeizeWaiting.Held.{count}
-use Rattle.seize_acts.specs.Given.SeizeAlone.Alone.{IsOfUsers, History, IsHistory, IsMidway, TakesSteps, CallSteps, SameLeft, at_rest, called, given_back, hand_at, row_of}
+use Rattle.seize_acts.specs.Given.SeizeWaitingHeld.{count}
+use Rattle.seize_acts.specs.Given.SeizeAloneAlone.{IsOfUsers, History, IsHistory, IsMidway, TakesSteps, CallSteps, SameLeft, at_rest, called, given_back, hand_at, row_of}
 use Rattle.seize_reclaims.specs.AllReclaimed.{IsKnown, OnlyReclaims}
-use Rattle.seize_acts.proofs.Given.SeizeAlone.Histories.Hands.{times_counted, hand_spared, hand_gone}
-use Rattle.seize_acts.proofs.Given.SeizeAlone.Histories.NotTaken.{IsKept, CanBeReached, IsHad, did, not_taken, kept_hand, nobodys}
-use Rattle.seize_acts.proofs.Given.SeizeAlone.Histories.Reached.{Reached, happens_reached, history_reached, steps_reached}
+use Rattle.seize_acts.proofs.Given.SeizeAloneHistories.Hands.{times_counted, hand_spared, hand_gone}
+use Rattle.seize_acts.proofs.Given.SeizeAloneHistories.NotTaken.{IsKept, CanBeReached, IsHad, did, not_taken, kept_hand, nobodys}
+use Rattle.seize_acts.proofs.Given.SeizeAloneHistories.Reached.{Reached, happens_reached, history_reached, steps_reached}
 use Rattle.seize_reclaims.proofs.Roots.Listed.{times_append}
-use Rattle.seize_acts.proofs.Given.SeizeAlone.Whole.Midway.{taken_append}
-use Rattle.seize_acts.proofs.Given.SeizeAlone.Whole.Steps.{WholeEnd, call_whole, stepped_left}
-use Rattle.seize_acts.proofs.Given.SeizeRule.Rows.Effects.{place_kept}
+use Rattle.seize_acts.proofs.Given.SeizeAloneWhole.Midway.{taken_append}
+use Rattle.seize_acts.proofs.Given.SeizeAloneWhole.Steps.{WholeEnd, call_whole, stepped_left}
+use Rattle.seize_acts.proofs.Given.SeizeRuleRows.Effects.{place_kept}
 
 module _ {T : Type 0} (defers : T → Option ℕ) (size : ℕ) where
   -- the block can be reached, or a caller has it

@@ -2,24 +2,24 @@
 use Rattle.std.specs.Prelude.{Option, Some, slice_get, IsSome}
 use Rattle.std.proofs.Common.{◌≡◌, ℕ, suc, ◌+◌, ◌<◌, Bool, List, [], ◌∷◌, ◌++◌, refl, arith, ap, sym, subst, ◌∙◌}
 use Rattle.std.proofs.lemmas.List.{append_cancel_left}
-use Rattle.seize.specs.Given.SeizeWords.Word.{block_in}
-use Rattle.seize.specs.Given.SeizeWords.declared.at.At.TheVariants.{Root}
-use Rattle.seize.specs.Given.SeizeWords.Mem.{Mem, word_at}
+use Rattle.seize.specs.Given.SeizeWordsWord.{block_in}
+use Rattle.seize.specs.Given.SeizeWordsDeclared.at.At.TheVariants.{Root}
+use Rattle.seize.specs.Given.SeizeWordsMem.{Mem, word_at}
 use Rattle.seize.specs.declared.states.TheConstants.{LAST_SLOT}
 use Rattle.seize.specs.Further.{ListFrom}
 use Rattle.seize.specs.WaitingSets.{Sets, After, at_start as sets_at_start}
 use Rattle.seize.specs.World.{World, LeftTo, times, at_start}
 use Rattle.seize.specs.Sequence.{taken_in}
-use Rattle.seize_acts.specs.Given.SeizeSets.Reclaims.{Reclaims}
-use Rattle.seize_acts.specs.Given.SeizeAlone.Alone.{History, at_rest}
+use Rattle.seize_acts.specs.Given.SeizeSetsReclaims.{Reclaims}
+use Rattle.seize_acts.specs.Given.SeizeAloneAlone.{History, at_rest}
 use Rattle.seize_reclaims.specs.AllReclaimed.{OnlyReclaims, MayReclaimAll, SlotsReclaimed, all, sets_in}
 use Rattle.seize_reclaims.specs.Roots.{LeadsTo, LeftAt, all_lists}
-use Rattle.seize_acts.proofs.Given.SeizeRule.World.Rested.{start_rested}
-use Rattle.seize_acts.proofs.Given.SeizeSets.Reclaims.Ends.{Left, all_left_so}
-use Rattle.seize_acts.proofs.Given.SeizeSets.Reclaims.NeverTaken.{NonePast, turns_past}
-use Rattle.seize_acts.proofs.Given.SeizeSets.Turns.All.{turns_shown, start_shown, changed_then}
-use Rattle.seize_acts.proofs.Given.SeizeSets.Turns.Append.{turns_append}
-use Rattle.seize_acts.proofs.Given.SeizeSets.Turns.Begins.{Shown}
+use Rattle.seize_acts.proofs.Given.SeizeRuleWorld.Rested.{start_rested}
+use Rattle.seize_acts.proofs.Given.SeizeSetsReclaims.Ends.{Left, all_left_so}
+use Rattle.seize_acts.proofs.Given.SeizeSetsReclaims.NeverTaken.{NonePast, turns_past}
+use Rattle.seize_acts.proofs.Given.SeizeSetsTurns.All.{turns_shown, start_shown, changed_then}
+use Rattle.seize_acts.proofs.Given.SeizeSetsTurns.Append.{turns_append}
+use Rattle.seize_acts.proofs.Given.SeizeSetsTurns.Begins.{Shown}
 use Rattle.seize_reclaims.proofs.AllReclaimed.Only.{known_value, known_hand, left_known}
 use Rattle.seize_reclaims.proofs.Roots.Listed.{times_append, times_here, lists_split}
 

@@ -1,8 +1,8 @@
 -- A flush that begins while everything is reclaimed reclaims at least a value: its batch is there, and no slot is active.
 use Rattle.std.specs.Prelude.{Option, Some, ◌==◌, if◌then◌else◌}
 use Rattle.std.proofs.Common.{◌≡◌, ℕ, zero, suc, ◌+◌, ◌<◌, ◌≤◌, Bool, true, false, not, cond, eqb, List, [], ◌∷◌, ◌++◌, length, refl, arith, ap, sym, subst, ◌∙◌}
-use Rattle.seize.specs.Given.SeizeWords.declared.at.At.TheVariants as name
-use Rattle.seize.specs.Given.SeizeWords.Mem.{Mem, word_at}
+use Rattle.seize.specs.Given.SeizeWordsDeclared.at.At.TheVariants as name
+use Rattle.seize.specs.Given.SeizeWordsMem.{Mem, word_at}
 use Rattle.seize.specs.declared.states.TheConstants.{BATCH, LAST_SLOT}
 use Rattle.seize.specs.declared.rows.settle.Settle.{Settle}
 use Rattle.seize.specs.declared.rows.reclaim_all.ReclaimAll.{ReclaimAll}
@@ -11,21 +11,21 @@ use Rattle.seize.specs.declared.rows.reclaim_all.Reclaiming.TheVariants as at
 use Rattle.seize.specs.Settle.{flushing}
 use Rattle.seize.specs.WaitingSets.{Sets, flushed, given, with_open, is_enough, quietly, closing, at_start as sets_at_start}
 use Rattle.seize.specs.World.{Settles, Use, Vacant, Outside, Flush, IsTaken, at_start}
-use Rattle.seize_acts.specs.Given.SeizeAlone.Alone.{History, IsHistory, IsMidway, at_rest, given_back}
+use Rattle.seize_acts.specs.Given.SeizeAloneAlone.{History, IsHistory, IsMidway, at_rest, given_back}
 use Rattle.seize_reclaims.specs.AllReclaimed.{MayReclaimAll, sets_in}
-use Rattle.seize_acts.proofs.Given.SeizeMoves.Sets.Shown.{ascending}
-use Rattle.seize_acts.proofs.Given.SeizeRule.World.Rested.{start_rested}
-use Rattle.seize_acts.proofs.Given.SeizeEnds.Batches.Rows.{none_held, start_held, turns_held}
-use Rattle.seize_acts.proofs.Given.SeizeRule.Words.Chains.{last_of}
-use Rattle.seize_acts.proofs.Given.SeizeRule.Words.Named.{word_found, link}
-use Rattle.seize_acts.proofs.Given.SeizeSets.Reclaims.Sets.{is_inside}
-use Rattle.seize_acts.proofs.Given.SeizeSets.Reclaims.Stages.{StageAt, IsFresh, others_vacant}
-use Rattle.seize_acts.proofs.Given.SeizeSets.Turns.All.{turns_shown, start_shown}
-use Rattle.seize_acts.proofs.Given.SeizeSets.Turns.Begins.{Shown}
+use Rattle.seize_acts.proofs.Given.SeizeMovesSets.Shown.{ascending}
+use Rattle.seize_acts.proofs.Given.SeizeRuleWorld.Rested.{start_rested}
+use Rattle.seize_acts.proofs.Given.SeizeEndsBatches.Rows.{none_held, start_held, turns_held}
+use Rattle.seize_acts.proofs.Given.SeizeRuleWords.Chains.{last_of}
+use Rattle.seize_acts.proofs.Given.SeizeRuleWords.Named.{word_found, link}
+use Rattle.seize_acts.proofs.Given.SeizeSetsReclaims.Sets.{is_inside}
+use Rattle.seize_acts.proofs.Given.SeizeSetsReclaims.Stages.{StageAt, IsFresh, others_vacant}
+use Rattle.seize_acts.proofs.Given.SeizeSetsTurns.All.{turns_shown, start_shown}
+use Rattle.seize_acts.proofs.Given.SeizeSetsTurns.Begins.{Shown}
 use Rattle.seize_reclaims.proofs.AllReclaimed.Steps.{Arrived}
-use Rattle.seize_acts.proofs.Given.SeizeAlone.Histories.Calls.{history_rested}
-use Rattle.seize_acts.proofs.Given.SeizeAlone.Histories.Sets.{active_now}
-use Rattle.seize_acts.proofs.Given.SeizeAlone.Whole.Begins.{flush_begins}
+use Rattle.seize_acts.proofs.Given.SeizeAloneHistories.Calls.{history_rested}
+use Rattle.seize_acts.proofs.Given.SeizeAloneHistories.Sets.{active_now}
+use Rattle.seize_acts.proofs.Given.SeizeAloneWhole.Begins.{flush_begins}
 
 first_none : (a c : List ℕ) → a ++ c ≡ [] → a ≡ []
 first_none [] c e = refl

@@ -1,22 +1,22 @@
 -- Whole calls reclaim some blocks, and leave all else as it was.
 use Rattle.std.specs.Prelude.{Option, Some, None, IsSome}
 use Rattle.std.proofs.Common.{◌≡◌, ℕ, zero, suc, ◌<◌, false, List, [], ◌++◌, inl, inr, refl, arith, ap, sym, subst, ◌∙◌}
-use Rattle.seize.specs.Given.SeizeWords.declared.at.At.TheVariants.{Slot}
-use Rattle.seize.specs.Given.SeizeWords.Mem.{Mem, Took, value_at, word_at, with_word}
-use Rattle.seize.specs.Given.SeizeWords.Plan.{Steps}
+use Rattle.seize.specs.Given.SeizeWordsDeclared.at.At.TheVariants.{Slot}
+use Rattle.seize.specs.Given.SeizeWordsMem.{Mem, Took, value_at, word_at, with_word}
+use Rattle.seize.specs.Given.SeizeWordsPlan.{Steps}
 use Rattle.seize.specs.declared.states.TheConstants.{HEAD, FREE, IDLE}
 use Rattle.seize.specs.declared.progress.Progress.{Progress}
 use Rattle.seize.specs.declared.rows.enter.Unregister.{Unregister}
 use Rattle.seize.specs.Enter.{unregister_plan}
 use Rattle.seize.specs.Law.{is_somewhere}
 use Rattle.seize.specs.World.{Hand, Outside, LeftTo, times}
-use Rattle.seize_acts.specs.Given.SeizeAlone.Alone.{IsOfUsers, History, IsHistory, registered, given_up}
+use Rattle.seize_acts.specs.Given.SeizeAloneAlone.{IsOfUsers, History, IsHistory, registered, given_up}
 use Rattle.seize_reclaims.specs.AllReclaimed.{IsKnown, OnlyReclaims}
 use Rattle.seize_reclaims.proofs.Roots.Listed.{times_append}
-use Rattle.seize_acts.proofs.Given.SeizeAlone.Spared.Operations.{none_first, none_last, spares_same, spares_twice, spares_written}
-use Rattle.seize_acts.proofs.Given.SeizeAlone.Spared.Steps.{unregister_spares}
-use Rattle.seize_acts.proofs.Given.SeizeAlone.Spared.Links.{unregister_links}
-use Rattle.seize_acts.proofs.Given.SeizeAlone.Whole.Enter.{unregister_may}
+use Rattle.seize_acts.proofs.Given.SeizeAloneSpared.Operations.{none_first, none_last, spares_same, spares_twice, spares_written}
+use Rattle.seize_acts.proofs.Given.SeizeAloneSpared.Steps.{unregister_spares}
+use Rattle.seize_acts.proofs.Given.SeizeAloneSpared.Links.{unregister_links}
+use Rattle.seize_acts.proofs.Given.SeizeAloneWhole.Enter.{unregister_may}
 
 module _ {T : Type 0} where
   pub only_same : (m : Mem T) (h : History) → OnlyReclaims m h m h []

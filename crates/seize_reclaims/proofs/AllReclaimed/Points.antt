@@ -2,11 +2,11 @@
 use Rattle.std.specs.Prelude.{Option, Some, None, IsSome, nat_lt, ◌==◌, if◌then◌else◌, map}
 use Rattle.std.proofs.Common.{◌≡◌, ℕ, zero, suc, ◌+◌, ◌<◌, Bool, true, false, List, [], ◌∷◌, ◌++◌, refl, arith, ap, sym, subst, ◌∙◌}
 use Rattle.std.proofs.lemmas.List.{append-nil, append_assoc, map-append}
-use Rattle.seize.specs.Given.SeizeWords.declared.at.At.TheVariants as name
-use Rattle.seize.specs.Given.SeizeWords.Mem.{Mem, Can, Took, value_at, word_at}
-use Rattle.seize.specs.Given.SeizeWords.Plan.{May, MaySee}
-use Rattle.seize.proofs.Given.SeizeWords.OneOwner.Operations.{may_load, may_store}
-use Rattle.seize.proofs.Given.SeizeWords.Plans.{as_may}
+use Rattle.seize.specs.Given.SeizeWordsDeclared.at.At.TheVariants as name
+use Rattle.seize.specs.Given.SeizeWordsMem.{Mem, Can, Took, value_at, word_at}
+use Rattle.seize.specs.Given.SeizeWordsPlan.{May, MaySee}
+use Rattle.seize.proofs.Given.SeizeWordsOneOwner.Operations.{may_load, may_store}
+use Rattle.seize.proofs.Given.SeizeWordsPlans.{as_may}
 use Rattle.seize.specs.declared.states.TheConstants.{HEAD, BATCH, NEVER, FREE, IDLE, ACTIVE, LAST_SLOT}
 use Rattle.seize.specs.declared.progress.Progress.{Progress}
 use Rattle.seize.specs.declared.rows.enter.Unregister.{Unregister}
@@ -23,23 +23,23 @@ use Rattle.seize.specs.Settle.{settle_plan, flushing}
 use Rattle.seize.specs.ReclaimAll.{standing, first_batch, next_head, next_batch, next_free, to, within, head_read, batch_read, plan_at, reclaim_all_plan}
 use Rattle.seize.specs.World.{World, Leaves, Settles, Use, Outside, Flush, Leave', IsTaken, times}
 use Rattle.seize.specs.Sequence.{taken_in}
-use Rattle.seize_acts.specs.Given.SeizeSets.Reclaims.{AllSettle, Reclaims}
-use Rattle.seize_acts.specs.Given.SeizeAlone.Alone.{History, IsHistory, IsMidway, AreValues, at_rest}
+use Rattle.seize_acts.specs.Given.SeizeSetsReclaims.{AllSettle, Reclaims}
+use Rattle.seize_acts.specs.Given.SeizeAloneAlone.{History, IsHistory, IsMidway, AreValues, at_rest}
 use Rattle.seize_reclaims.specs.Roots.{IsClearing}
 use Rattle.seize_reclaims.specs.AllReclaimed.{OnlyReclaims, MayReclaimAll, SlotsReclaimed, all}
-use Rattle.seize_acts.proofs.Given.SeizeRule.World.Rested.{Rested}
-use Rattle.seize_acts.proofs.Given.SeizeRule.Words.Named.{words_of, word_found}
-use Rattle.seize_acts.proofs.Given.SeizeRule.Words.Room.{slot_there}
-use Rattle.seize_acts.proofs.Given.SeizeSets.Reclaims.Stages.{StageAt, IsFresh, Stage}
-use Rattle.seize_acts.proofs.Given.SeizeSets.Turns.Heads.{has_words, has_word, idle_word}
+use Rattle.seize_acts.proofs.Given.SeizeRuleWorld.Rested.{Rested}
+use Rattle.seize_acts.proofs.Given.SeizeRuleWords.Named.{words_of, word_found}
+use Rattle.seize_acts.proofs.Given.SeizeRuleWords.Room.{slot_there}
+use Rattle.seize_acts.proofs.Given.SeizeSetsReclaims.Stages.{StageAt, IsFresh, Stage}
+use Rattle.seize_acts.proofs.Given.SeizeSetsTurns.Heads.{has_words, has_word, idle_word}
 use Rattle.seize_reclaims.proofs.AllReclaimed.Ends.{left_now, slots, between, back_is}
 use Rattle.seize_reclaims.proofs.AllReclaimed.Only.{only_twice}
-use Rattle.seize_acts.proofs.Given.SeizeAlone.Histories.Calls.{history_rested}
+use Rattle.seize_acts.proofs.Given.SeizeAloneHistories.Calls.{history_rested}
 use Rattle.seize_reclaims.proofs.Roots.Cleared.{clear_may}
 use Rattle.seize_reclaims.proofs.Roots.First.{clear_begins, IsFirst}
-use Rattle.seize_acts.proofs.Given.SeizeAlone.Whole.Begins.{leave_begins, flush_begins}
-use Rattle.seize_acts.proofs.Given.SeizeAlone.Whole.Enter.{unregister_may}
-use Rattle.seize_acts.proofs.Given.SeizeAlone.Whole.Steps.{call_may}
+use Rattle.seize_acts.proofs.Given.SeizeAloneWhole.Begins.{leave_begins, flush_begins}
+use Rattle.seize_acts.proofs.Given.SeizeAloneWhole.Enter.{unregister_may}
+use Rattle.seize_acts.proofs.Given.SeizeAloneWhole.Steps.{call_may}
 
 -- the values of blocks, as they were before some others were reclaimed
 module _ {T : Type 0} (m m1 : Mem T) (h h1 : History) (back : List ℕ) (only : OnlyReclaims m h m1 h1 back) where

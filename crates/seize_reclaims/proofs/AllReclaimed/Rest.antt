@@ -2,8 +2,8 @@
 use Rattle.std.specs.Prelude.{Option, Some, map}
 use Rattle.std.proofs.Common.{◌≡◌, ℕ, zero, suc, ◌<◌, ◌≤◌, Bool, true, false, List, [], ◌∷◌, ◌++◌, ◌⊎◌, inl, inr, refl, arith, ap, sym, subst, ◌∙◌}
 use Rattle.std.proofs.lemmas.List.{append-nil, append_assoc, map-append}
-use Rattle.seize.specs.Given.SeizeWords.Mem.{Mem, Took, value_at}
-use Rattle.seize.specs.Given.SeizeWords.Plan.{Steps}
+use Rattle.seize.specs.Given.SeizeWordsMem.{Mem, Took, value_at}
+use Rattle.seize.specs.Given.SeizeWordsPlan.{Steps}
 use Rattle.seize.specs.declared.rows.settle.Settle.{Settle}
 use Rattle.seize.specs.declared.rows.settle.Settled.{Settled}
 use Rattle.seize.specs.declared.rows.settle.Settled.TheVariants.{Goes, Waits, Gave, Done}
@@ -15,15 +15,15 @@ use Rattle.seize.specs.Leave.{leave_plan}
 use Rattle.seize.specs.Settle.{settle_plan}
 use Rattle.seize.specs.ReclaimAll.{standing, next_head, next_batch, within, plan_at, reclaim_all_plan}
 use Rattle.seize.specs.World.{Flush, Settles}
-use Rattle.seize_acts.specs.Given.SeizeAlone.Alone.{History, IsMidway, AreValues, blocks_in, given_back}
+use Rattle.seize_acts.specs.Given.SeizeAloneAlone.{History, IsMidway, AreValues, blocks_in, given_back}
 use Rattle.seize_reclaims.specs.AllReclaimed.{IsReclaiming, IsAllReclaimed, all, is_within, is_flushing, weight_at}
 use Rattle.seize_reclaims.specs.Roots.{all_lists}
-use Rattle.seize_acts.proofs.Given.SeizeRule.Rows.LeavesTold.{leave_quiet}
-use Rattle.seize_acts.proofs.Given.SeizeRule.Words.Kept.{IsQuietPlan, quiet_as, settle_quiet}
+use Rattle.seize_acts.proofs.Given.SeizeRuleRows.LeavesTold.{leave_quiet}
+use Rattle.seize_acts.proofs.Given.SeizeRuleWords.Kept.{IsQuietPlan, quiet_as, settle_quiet}
 use Rattle.seize_reclaims.proofs.AllReclaimed.Points.{values_then}
 use Rattle.seize_reclaims.proofs.AllReclaimed.Traces.{is_point, reclaim_may, reclaim_still, reclaim_gave, reclaim_done, flush_begun, flush_still}
 use Rattle.seize_reclaims.proofs.AllReclaimed.Weights.{row_to_go, point_lower, row_less, row_falls, row_not_done}
-use Rattle.seize_acts.proofs.Given.SeizeAlone.Whole.Rest.{steps_on}
+use Rattle.seize_acts.proofs.Given.SeizeAloneWhole.Rest.{steps_on}
 
 module _ {T : Type 0} (defers : T → Option ℕ) (left_over : T → Bool) (batch_size roots : ℕ) (m : Mem T) (h : History) (lists : ℕ → List ℕ) where
   abbrev Mid : ReclaimAll → Mem T → List T → Type 0

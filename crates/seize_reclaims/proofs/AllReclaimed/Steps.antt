@@ -2,10 +2,10 @@
 use Rattle.std.specs.Prelude.{Option, IsSome}
 use Rattle.std.proofs.Common.{◌≡◌, ℕ, ◌+◌, ◌<◌, ◌≤◌, Bool, true, false, List, [], ◌∷◌, ◌++◌, refl, arith, ap, sym, subst, ◌∙◌}
 use Rattle.std.proofs.lemmas.List.{append-nil, append_assoc}
-use Rattle.seize.specs.Given.SeizeWords.declared.at.At.TheVariants as name
-use Rattle.seize.specs.Given.SeizeWords.Mem.{Mem, Took, value_at, word_at, with_word}
-use Rattle.seize.specs.Given.SeizeWords.Plan.{Now, Steps}
-use Rattle.seize.proofs.Given.SeizeWords.OneOwner.Operations.{stored}
+use Rattle.seize.specs.Given.SeizeWordsDeclared.at.At.TheVariants as name
+use Rattle.seize.specs.Given.SeizeWordsMem.{Mem, Took, value_at, word_at, with_word}
+use Rattle.seize.specs.Given.SeizeWordsPlan.{Now, Steps}
+use Rattle.seize.proofs.Given.SeizeWordsOneOwner.Operations.{stored}
 use Rattle.seize.specs.declared.states.TheConstants.{HEAD, FREE, IDLE, LAST_SLOT}
 use Rattle.seize.specs.declared.progress.Progress.{Progress}
 use Rattle.seize.specs.declared.progress.Progress.TheVariants as progress
@@ -23,21 +23,21 @@ use Rattle.seize.specs.Settle.{settle_plan}
 use Rattle.seize.specs.ReclaimAll.{standing, next_head, next_batch, next_free, to, within, plan_at, reclaim_all_plan}
 use Rattle.seize.specs.World.{Leaves, Settles, Flush, Leave', Request}
 use Rattle.seize.specs.Sequence.{taken_in}
-use Rattle.seize_acts.specs.Given.SeizeAlone.declared.calls.WholeCall.TheVariants as call
-use Rattle.seize_acts.specs.Given.SeizeAlone.Alone.{History, IsHistory, at_rest, blocks_in, called, given_back, given_up, registered}
+use Rattle.seize_acts.specs.Given.SeizeAloneDeclared.calls.WholeCall.TheVariants as call
+use Rattle.seize_acts.specs.Given.SeizeAloneAlone.{History, IsHistory, at_rest, blocks_in, called, given_back, given_up, registered}
 use Rattle.seize_reclaims.specs.AllReclaimed.{MayReclaimAll, IsAllReclaimed, OnlyReclaims, is_within}
-use Rattle.seize_acts.proofs.Given.SeizeRule.Rows.Leaving.{steps_back}
-use Rattle.seize_acts.proofs.Given.SeizeRule.World.Rested.{Rested}
-use Rattle.seize_acts.proofs.Given.SeizeSets.Reclaims.Stages.{StageAt, retake_on, leave_on, head_on, flush_on, batch_on, give_up_on}
+use Rattle.seize_acts.proofs.Given.SeizeRuleRows.Leaving.{steps_back}
+use Rattle.seize_acts.proofs.Given.SeizeRuleWorld.Rested.{Rested}
+use Rattle.seize_acts.proofs.Given.SeizeSetsReclaims.Stages.{StageAt, retake_on, leave_on, head_on, flush_on, batch_on, give_up_on}
 use Rattle.seize_reclaims.proofs.AllReclaimed.Calls.{leave_end, flush_end}
 use Rattle.seize_reclaims.proofs.AllReclaimed.Only.{only_retaken, only_given_up}
 use Rattle.seize_reclaims.proofs.AllReclaimed.Points.{SoFar, so_far_more, so_far_quiet, Within, OnSlots, OnRoots, AtSlots, AtRoots, Point, OneStage, arrives}
-use Rattle.seize_acts.proofs.Given.SeizeAlone.Histories.Calls.{history_rested}
+use Rattle.seize_acts.proofs.Given.SeizeAloneHistories.Calls.{history_rested}
 use Rattle.seize_reclaims.proofs.Roots.Cleared.{clear_to_go, comes, Comes}
-use Rattle.seize_acts.proofs.Given.SeizeAlone.Whole.Enter.{unregister_calls, unregister_history}
-use Rattle.seize_acts.proofs.Given.SeizeAlone.Whole.Midway.{taken_append}
-use Rattle.seize_acts.proofs.Given.SeizeAlone.Whole.Retake.{retake_calls, retake_history}
-use Rattle.seize_acts.proofs.Given.SeizeAlone.Whole.Steps.{WholeEnd, call_may, call_told, call_fewer, call_no_more}
+use Rattle.seize_acts.proofs.Given.SeizeAloneWhole.Enter.{unregister_calls, unregister_history}
+use Rattle.seize_acts.proofs.Given.SeizeAloneWhole.Midway.{taken_append}
+use Rattle.seize_acts.proofs.Given.SeizeAloneWhole.Retake.{retake_calls, retake_history}
+use Rattle.seize_acts.proofs.Given.SeizeAloneWhole.Steps.{WholeEnd, call_may, call_told, call_fewer, call_no_more}
 
 module _ {T : Type 0} (defers : T → Option ℕ) (left_over : T → Bool) (batch_size roots : ℕ) (m : Mem T) (h : History) (lists : ℕ → List ℕ)
     (may : MayReclaimAll defers left_over batch_size roots m h lists) where

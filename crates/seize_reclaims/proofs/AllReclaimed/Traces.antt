@@ -2,8 +2,8 @@
 use Rattle.std.specs.Prelude.{Option, Some, map}
 use Rattle.std.proofs.Common.{◌≡◌, ℕ, zero, suc, ◌+◌, ◌<◌, ◌≤◌, Bool, true, false, List, [], ◌∷◌, ◌++◌, ◌⊎◌, inl, inr, refl, arith, ap, sym, subst}
 use Rattle.std.proofs.lemmas.List.{append-nil}
-use Rattle.seize.specs.Given.SeizeWords.Mem.{Mem, Can, Took, value_at}
-use Rattle.seize.specs.Given.SeizeWords.Plan.{May, Steps}
+use Rattle.seize.specs.Given.SeizeWordsMem.{Mem, Can, Took, value_at}
+use Rattle.seize.specs.Given.SeizeWordsPlan.{May, Steps}
 use Rattle.seize.specs.declared.states.TheConstants.{LAST_SLOT}
 use Rattle.seize.specs.declared.rows.settle.Settle.{Settle}
 use Rattle.seize.specs.declared.rows.settle.Settled.{Settled}
@@ -16,24 +16,24 @@ use Rattle.seize.specs.Settle.{settle_plan}
 use Rattle.seize.specs.WaitingSets.{After, quietly}
 use Rattle.seize.specs.World.{Vacant, Flush, Settles}
 use Rattle.seize.specs.Sequence.{taken_in}
-use Rattle.seize_acts.specs.Given.SeizeSets.Reclaims.{NothingWaits}
-use Rattle.seize_acts.specs.Given.SeizeAlone.declared.calls.WholeCall.TheVariants as call
-use Rattle.seize_acts.specs.Given.SeizeAlone.Alone.{History, IsMidway, IsEnded, at_rest, blocks_in, given_back}
+use Rattle.seize_acts.specs.Given.SeizeSetsReclaims.{NothingWaits}
+use Rattle.seize_acts.specs.Given.SeizeAloneDeclared.calls.WholeCall.TheVariants as call
+use Rattle.seize_acts.specs.Given.SeizeAloneAlone.{History, IsMidway, IsEnded, at_rest, blocks_in, given_back}
 use Rattle.seize_reclaims.specs.AllReclaimed.{MayReclaimAll, Starts, HasCome, Tells, IsReclaiming, IsAllReclaimed, SlotsReclaimed, OnlyReclaims, all, sets_in, is_within, is_flushing}
 use Rattle.seize_reclaims.specs.Roots.{IsClearing, StandsAt}
-use Rattle.seize_acts.proofs.Given.SeizeRule.Rows.Leaving.{steps_back}
-use Rattle.seize_acts.proofs.Given.SeizeSets.Reclaims.Ends.{none_closed, none_retired}
-use Rattle.seize_acts.proofs.Given.SeizeSets.Reclaims.Rounds.{reclaimed_quiet}
-use Rattle.seize_acts.proofs.Given.SeizeSets.Reclaims.Stages.{first_stage}
+use Rattle.seize_acts.proofs.Given.SeizeRuleRows.Leaving.{steps_back}
+use Rattle.seize_acts.proofs.Given.SeizeSetsReclaims.Ends.{none_closed, none_retired}
+use Rattle.seize_acts.proofs.Given.SeizeSetsReclaims.Rounds.{reclaimed_quiet}
+use Rattle.seize_acts.proofs.Given.SeizeSetsReclaims.Stages.{first_stage}
 use Rattle.seize_reclaims.proofs.AllReclaimed.Ends.{shown}
 use Rattle.seize_reclaims.proofs.AllReclaimed.Gives.{begins_flush}
 use Rattle.seize_reclaims.proofs.AllReclaimed.Only.{only_same}
 use Rattle.seize_reclaims.proofs.AllReclaimed.Points.{Point, AtSlots, AtRoots, arrives, point_may}
 use Rattle.seize_reclaims.proofs.AllReclaimed.Steps.{After as Comes, point_on, walks_on}
-use Rattle.seize_acts.proofs.Given.SeizeAlone.Histories.Sets.{active_now}
+use Rattle.seize_acts.proofs.Given.SeizeAloneHistories.Sets.{active_now}
 use Rattle.seize_reclaims.proofs.Roots.Cleared.{clear_still}
 use Rattle.seize_reclaims.proofs.Roots.First.{clear_first}
-use Rattle.seize_acts.proofs.Given.SeizeAlone.Whole.Steps.{call_told}
+use Rattle.seize_acts.proofs.Given.SeizeAloneWhole.Steps.{call_told}
 
 no_values : {T : Type 0} (m : Mem T) (blocks : List ℕ) → map (value_at m) blocks ≡ map Some [] → blocks ≡ []
 no_values m [] e = refl

@@ -1,10 +1,10 @@
 -- Reclaiming everything, alone: each step between two rows, and each row but one that reclaims a value, leaves fewer points before it.
 use Rattle.std.specs.Prelude.{Option, nat_lt, ◌==◌, if◌then◌else◌}
 use Rattle.std.proofs.Common.{◌≡◌, ℕ, suc, ◌+◌, ◌-◌, ◌*◌, ◌<◌, ◌≤◌, Bool, true, false, List, ◌⊎◌, inl, inr, refl, arith, ap, sym, subst}
-use Rattle.seize.specs.Given.SeizeWords.declared.at.At.TheVariants as name
-use Rattle.seize.specs.Given.SeizeWords.Mem.{Mem, Took, value_at}
-use Rattle.seize.specs.Given.SeizeWords.Plan.{Ends, Steps}
-use Rattle.seize.proofs.Given.SeizeWords.OneOwner.Operations.{loaded, stored}
+use Rattle.seize.specs.Given.SeizeWordsDeclared.at.At.TheVariants as name
+use Rattle.seize.specs.Given.SeizeWordsMem.{Mem, Took, value_at}
+use Rattle.seize.specs.Given.SeizeWordsPlan.{Ends, Steps}
+use Rattle.seize.proofs.Given.SeizeWordsOneOwner.Operations.{loaded, stored}
 use Rattle.seize.specs.declared.states.TheConstants.{HEAD, BATCH, NEVER, FREE, IDLE, ACTIVE, LAST_SLOT}
 use Rattle.seize.specs.declared.progress.Progress.{Progress}
 use Rattle.seize.specs.declared.rows.enter.Unregister.{Unregister}
@@ -20,16 +20,16 @@ use Rattle.seize.specs.Leave.{leaving, leave_plan}
 use Rattle.seize.specs.Settle.{flushing, settle_plan}
 use Rattle.seize.specs.ReclaimAll.{standing, first_root, first_batch, next_head, next_batch, next_free, to, within, head_read, batch_read, plan_at, reclaim_all_plan}
 use Rattle.seize.specs.World.{Flush, Leave'}
-use Rattle.seize_acts.specs.Given.SeizeAlone.declared.calls.WholeCall.TheVariants as call
-use Rattle.seize_acts.specs.Given.SeizeAlone.Alone.{History}
+use Rattle.seize_acts.specs.Given.SeizeAloneDeclared.calls.WholeCall.TheVariants as call
+use Rattle.seize_acts.specs.Given.SeizeAloneAlone.{History}
 use Rattle.seize_reclaims.specs.AllReclaimed.{is_within, is_flushing, weight_at}
 use Rattle.seize_reclaims.specs.Roots.{StandsAt}
-use Rattle.seize_acts.proofs.Given.SeizeEnds.Settling.Most.{settle_to_go}
-use Rattle.seize_acts.proofs.Given.SeizeEnds.Rows.Lone.{leave_to_go}
-use Rattle.seize_acts.proofs.Given.SeizeRule.Rows.Leaving.{steps_back}
+use Rattle.seize_acts.proofs.Given.SeizeEndsSettling.Most.{settle_to_go}
+use Rattle.seize_acts.proofs.Given.SeizeEndsRows.Lone.{leave_to_go}
+use Rattle.seize_acts.proofs.Given.SeizeRuleRows.Leaving.{steps_back}
 use Rattle.seize_reclaims.proofs.AllReclaimed.Points.{OnSlots, Point, AtSlots, AtRoots}
 use Rattle.seize_reclaims.proofs.Roots.Cleared.{clear_to_go, clear_still}
-use Rattle.seize_acts.proofs.Given.SeizeAlone.Whole.Ends.{call_ends}
+use Rattle.seize_acts.proofs.Given.SeizeAloneWhole.Ends.{call_ends}
 
 lt_of : (a b : ℕ) → nat_lt a b ≡ true → a < b
 lt_of a b l = grind (arith, l)

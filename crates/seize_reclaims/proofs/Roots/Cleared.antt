@@ -2,11 +2,11 @@
 use Rattle.std.specs.Prelude.{Option, Some, None, IsSome, if◌then◌else◌, ◌==◌, ◌/◌, map}
 use Rattle.std.proofs.Common.{◌≡◌, ◌≢◌, ℕ, zero, suc, ◌+◌, ◌-◌, ◌*◌, ◌<◌, ◌≤◌, Bool, true, false, nat_lt, List, [], ◌∷◌, ◌++◌, ◌⊎◌, inl, inr, refl, arith, ap, sym, subst, ◌∙◌}
 use Rattle.std.proofs.lemmas.List.{append-nil, append_assoc, map-append}
-use Rattle.seize.specs.Given.SeizeWords.declared.at.At.TheVariants.{Root, Used, Entry}
-use Rattle.seize.specs.Given.SeizeWords.Op.{Store, Stored, Taken}
-use Rattle.seize.specs.Given.SeizeWords.Mem.{Mem, value_at, word_at, with_word, with_block, Can, Took}
-use Rattle.seize.specs.Given.SeizeWords.Plan.{Then, Now, Seeing, Ends, MaySee, May, Steps}
-use Rattle.seize.proofs.Given.SeizeWords.OneOwner.Operations.{loaded, stored, taken, may_load, may_store, may_take}
+use Rattle.seize.specs.Given.SeizeWordsDeclared.at.At.TheVariants.{Root, Used, Entry}
+use Rattle.seize.specs.Given.SeizeWordsOp.{Store, Stored, Taken}
+use Rattle.seize.specs.Given.SeizeWordsMem.{Mem, value_at, word_at, with_word, with_block, Can, Took}
+use Rattle.seize.specs.Given.SeizeWordsPlan.{Then, Now, Seeing, Ends, MaySee, May, Steps}
+use Rattle.seize.proofs.Given.SeizeWordsOneOwner.Operations.{loaded, stored, taken, may_load, may_store, may_take}
 use Rattle.seize.specs.declared.states.TheConstants.{NEXT}
 use Rattle.seize.specs.declared.rows.settle.Settled.{Settled}
 use Rattle.seize.specs.declared.rows.settle.Settled.TheVariants.{Goes, Waits, Gave, Done}
@@ -17,13 +17,13 @@ use Rattle.seize.specs.ReclaimAll.{standing, next_root, plan_at, reclaim_all_pla
 use Rattle.seize.specs.Further.{ListFrom}
 use Rattle.seize.specs.Law.{holds}
 use Rattle.seize.specs.World.{IsOutside, LeftTo, Use, Vacant, times}
-use Rattle.seize_acts.specs.Given.SeizeAlone.Alone.{History, IsHistory, AreValues, at_rest, blocks_in, cleared}
+use Rattle.seize_acts.specs.Given.SeizeAloneAlone.{History, IsHistory, AreValues, at_rest, blocks_in, cleared}
 use Rattle.seize_reclaims.specs.Roots.{all_lists, all_cleared, LeadsTo, LeftAt, Frees, named_at, unused_at, IsIn, IsPast, StandsAt, IsClearing, IsCleared}
-use Rattle.seize_acts.proofs.Given.SeizeRule.Words.Named.{link-block}
-use Rattle.seize_acts.proofs.Given.SeizeAlone.Histories.Reached.{history_reached}
-use Rattle.seize_acts.proofs.Given.SeizeAlone.Histories.Users.{operated_history, cleared_history}
-use Rattle.seize_acts.proofs.Given.SeizeAlone.Histories.Uses.{none_held}
-use Rattle.seize_acts.proofs.Given.SeizeAlone.Spared.Fewer.{take_fewer}
+use Rattle.seize_acts.proofs.Given.SeizeRuleWords.Named.{link-block}
+use Rattle.seize_acts.proofs.Given.SeizeAloneHistories.Reached.{history_reached}
+use Rattle.seize_acts.proofs.Given.SeizeAloneHistories.Users.{operated_history, cleared_history}
+use Rattle.seize_acts.proofs.Given.SeizeAloneHistories.Uses.{none_held}
+use Rattle.seize_acts.proofs.Given.SeizeAloneSpared.Fewer.{take_fewer}
 use Rattle.seize_reclaims.proofs.Roots.Listed.{times_append, lists_split, cleared_append, cleared_hand, next_some, next_none}
 use Rattle.seize_reclaims.proofs.Roots.Freed.{entry_some, kept_value, kept_next, frees_taken, frees_named, frees_unused, frees_passed}
 

@@ -2,13 +2,13 @@
 use Rattle.std.specs.Prelude.{Option, if◌then◌else◌, ◌==◌}
 use Rattle.std.proofs.Common.{◌≡◌, ℕ, ◌<◌, Bool, true, false, List, [], refl, arith, ap, sym, subst, eqb-true}
 use Rattle.std.proofs.lemmas.Bool.{eqb-false}
-use Rattle.seize.specs.Given.SeizeWords.Mem.{Mem}
+use Rattle.seize.specs.Given.SeizeWordsMem.{Mem}
 use Rattle.seize.specs.declared.rows.reclaim_all.ReclaimAll.{ReclaimAll}
 use Rattle.seize.specs.declared.rows.reclaim_all.Reclaiming.{Reclaiming}
 use Rattle.seize.specs.declared.rows.reclaim_all.Reclaiming.TheVariants as at
 use Rattle.seize.specs.ReclaimAll.{reclaiming_all, clearing, standing}
 use Rattle.seize.specs.World.{Vacant}
-use Rattle.seize_acts.specs.Given.SeizeAlone.Alone.{History, IsHistory}
+use Rattle.seize_acts.specs.Given.SeizeAloneAlone.{History, IsHistory}
 use Rattle.seize_reclaims.specs.Roots.{all_lists, LeftAt, Frees, named_at, unused_at, StandsAt, IsClearing}
 
 module _ {T : Type 0} (defers : T → Option ℕ) (left_over : T → Bool) (batch_size roots : ℕ) (m : Mem T) (h : History) (lists : ℕ → List ℕ) where

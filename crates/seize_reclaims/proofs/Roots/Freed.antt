@@ -2,14 +2,14 @@
 use Rattle.std.specs.Prelude.{Option, Some, None, IsSome, if◌then◌else◌, ◌==◌}
 use Rattle.std.proofs.Common.{◌≡◌, ℕ, suc, ◌+◌, ◌<◌, Bool, true, false, List, [], ◌∷◌, ◌++◌, inl, inr, refl, arith, ap, sym, ◌∙◌, eq-eqb}
 use Rattle.std.proofs.lemmas.Bool.{cases_eq, ne_eqb}
-use Rattle.seize.specs.Given.SeizeWords.declared.at.At.TheVariants.{Root, Used, Entry}
-use Rattle.seize.specs.Given.SeizeWords.declared.block.Block.{Block}
-use Rattle.seize.specs.Given.SeizeWords.Mem.{Mem, value_at, value_in, entry_in, word_at, block_of, with_word, with_block}
-use Rattle.seize.proofs.Given.SeizeWords.OneOwner.AfterWrites.{word_at-with_word, block_of-with_block}
+use Rattle.seize.specs.Given.SeizeWordsDeclared.at.At.TheVariants.{Root, Used, Entry}
+use Rattle.seize.specs.Given.SeizeWordsDeclared.block.Block.{Block}
+use Rattle.seize.specs.Given.SeizeWordsMem.{Mem, value_at, value_in, entry_in, word_at, block_of, with_word, with_block}
+use Rattle.seize.proofs.Given.SeizeWordsOneOwner.AfterWrites.{word_at-with_word, block_of-with_block}
 use Rattle.seize.specs.declared.states.TheConstants.{NEXT}
 use Rattle.seize.specs.World.{times}
 use Rattle.seize_reclaims.specs.Roots.{Frees, freed}
-use Rattle.seize_acts.proofs.Given.SeizeRule.Words.Named.{block_there}
+use Rattle.seize_acts.proofs.Given.SeizeRuleWords.Named.{block_there}
 use Rattle.seize_reclaims.proofs.Roots.Listed.{times_append}
 
 module _ {T : Type 0} where

@@ -1,6 +1,6 @@
 -- Taking blocks away that were left over changes neither the waiting sets nor how slots are used.
 use Rattle.std.proofs.Common.{◌≡◌, ℕ, List, [], ◌∷◌, refl}
-use Rattle.seize_acts.specs.Given.SeizeAlone.Alone.{History}
+use Rattle.seize_acts.specs.Given.SeizeAloneAlone.{History}
 use Rattle.seize_reclaims.specs.Roots.{all_cleared}
 
 pub cleared_before : (back : List ℕ) (h : History) → (all_cleared back h).before ≡ h.before

@@ -4,9 +4,9 @@ use Rattle.std.proofs.Common.{◌≡◌, ℕ, zero, suc, ◌+◌, ◌<◌, ◌�
 use Rattle.std.proofs.lemmas.Bool.{cases_eq}
 use Rattle.std.proofs.lemmas.List.{append-nil, append_assoc}
 use Rattle.seize.specs.World.{NoBlock, times}
-use Rattle.seize_acts.specs.Given.SeizeAlone.Alone.{History, cleared}
+use Rattle.seize_acts.specs.Given.SeizeAloneAlone.{History, cleared}
 use Rattle.seize_reclaims.specs.Roots.{all_lists, all_cleared, IsIn}
-use Rattle.seize_acts.proofs.Given.SeizeRule.Rows.Others.{with_other}
+use Rattle.seize_acts.proofs.Given.SeizeRuleRows.Others.{with_other}
 
 pub times_append : (b : ℕ) (a c : List ℕ) → times b (a ++ c) ≡ times b a + times b c
 times_append b [] c = omega arith

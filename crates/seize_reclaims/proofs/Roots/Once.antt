@@ -1,13 +1,13 @@
 -- What is behind the roots of a memory is one list a root.
 use Rattle.std.specs.Prelude.{Option, Some, ◌/◌}
 use Rattle.std.proofs.Common.{◌≡◌, ℕ, ◌<◌, Bool, false, List, [], ◌∷◌, refl, arith, ap, sym, subst, ◌∙◌}
-use Rattle.seize.specs.Given.SeizeWords.declared.at.At.TheVariants.{Entry}
-use Rattle.seize.specs.Given.SeizeWords.Mem.{Mem, value_at, word_at}
+use Rattle.seize.specs.Given.SeizeWordsDeclared.at.At.TheVariants.{Entry}
+use Rattle.seize.specs.Given.SeizeWordsMem.{Mem, value_at, word_at}
 use Rattle.seize.specs.declared.states.TheConstants.{NEXT}
 use Rattle.seize.specs.Further.{ListFrom}
-use Rattle.seize_acts.specs.Given.SeizeAlone.Alone.{History}
+use Rattle.seize_acts.specs.Given.SeizeAloneAlone.{History}
 use Rattle.seize_reclaims.specs.Roots.{LeadsTo, LeftAt}
-use Rattle.seize_acts.proofs.Given.SeizeRule.Words.Named.{link-block}
+use Rattle.seize_acts.proofs.Given.SeizeRuleWords.Named.{link-block}
 
 module _ {T : Type 0} (m : Mem T) where
   same_next : (a b : Option ℕ) (v w : ℕ) → a ≡ b → a ≡ Some v → b ≡ Some w → v ≡ w

@@ -12,7 +12,7 @@ use Rattle.seize.specs.declared.rows.settle.Settled.{Settled}
 use Rattle.seize.specs.declared.rows.settle.Settled.TheVariants.{Goes}
 use Rattle.seize.specs.Law.{Retired}
 use Rattle.seize.specs.Settle.{scanning, onward, to, counted, counts}
-use Rattle.seize_moves.specs.Given.SeizeWaiting.Held.{count}
+use Rattle.seize_moves.specs.Given.SeizeWaitingHeld.{count}
 use Rattle.seize_moves.proofs.State.Ghost.{put, State, Stage, Open, Life, IsPending, is_in}
 use Rattle.seize_moves.proofs.State.Rule.{Inv, SameUnlessDead, open_length}
 use Rattle.seize_moves.proofs.State.Moves

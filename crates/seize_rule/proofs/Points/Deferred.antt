@@ -12,8 +12,8 @@ use Rattle.seize.specs.declared.rows.settle.Settling.TheVariants as at
 use Rattle.seize.specs.declared.rows.settle.Settled.{Settled}
 use Rattle.seize.specs.declared.rows.settle.Settled.TheVariants.{Goes}
 use Rattle.seize.specs.Settle.{drained_first, next_read, nexts, drained as drained_on, drains, tail_read, tails, standing}
-use Rattle.seize_moves.specs.Given.SeizeWaiting.Held.{count}
-use Rattle.seize_moves.proofs.Given.SeizeWaiting.Counts.{none_counted}
+use Rattle.seize_moves.specs.Given.SeizeWaitingHeld.{count}
+use Rattle.seize_moves.proofs.Given.SeizeWaitingCounts.{none_counted}
 use Rattle.seize_moves.proofs.State.Ghost.{State, put, Life, IsDoomed, is_doomed, is_pending, is_deferred, lies_with}
 use Rattle.seize_moves.proofs.State.Rule.{Inv}
 use Rattle.seize_moves.proofs.State.Moves.{drained}

@@ -11,7 +11,7 @@ use Rattle.seize.specs.declared.rows.settle.Settle.{Settle}
 use Rattle.seize.specs.declared.rows.settle.Settled.{Settled}
 use Rattle.seize.specs.declared.rows.settle.Settled.TheVariants.{Goes}
 use Rattle.seize.specs.Settle.{onward, counted_down, downs}
-use Rattle.seize_moves.specs.Given.SeizeWaiting.Held.{count}
+use Rattle.seize_moves.specs.Given.SeizeWaitingHeld.{count}
 use Rattle.seize_moves.proofs.State.Ghost.{State, put, is_in, counts, owes, was_put, total, Stage, Unused, Open, Closing, Closed, Dead, Life, IsIn, Loose, Debt}
 use Rattle.seize_moves.proofs.State.Ghost as Ghosts
 use Rattle.seize_moves.proofs.State.Rule.{Inv, IsLive, SameUnlessDead, SeenIs, AtStage, Pending}

@@ -3,7 +3,7 @@ use Rattle.std.proofs.Common.{◌≡◌, ℕ, ◌+◌, ◌<◌, Bool, true, fals
 use Rattle.seize.specs.declared.rows.settle.Settle.{Settle}
 use Rattle.seize.specs.declared.rows.settle.Settling.{Settling}
 use Rattle.seize.specs.declared.rows.settle.Settling.TheVariants as at
-use Rattle.seize_moves.specs.Given.SeizeWaiting.Held.{count}
+use Rattle.seize_moves.specs.Given.SeizeWaitingHeld.{count}
 use Rattle.seize_moves.proofs.State.Ghost.{Entry, Stage, Open, Closing, Life, IsPending, IsDoomed, State, list_of, is_doomed}
 use Rattle.seize_moves.proofs.State.Rule.{IsOf, Inv, Keeps}
 use Rattle.seize_rule.proofs.Words.Chains.{count_first}

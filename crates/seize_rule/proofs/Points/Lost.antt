@@ -2,7 +2,7 @@
 use Rattle.std.proofs.Common.{◌≡◌, ℕ, ◌+◌, ◌^◌, ◌<◌, ◌≤◌, Bool, true, false, cond, eqb, List, [], ◌∷◌, ◌++◌, length, append_assoc, length-append, refl, arith, ap, sym, subst, ◌∙◌, eqb-true}
 use Rattle.std.proofs.lemmas.List.{append-nil}
 use Rattle.seize.specs.declared.rows.settle.Settle.{Settle}
-use Rattle.seize_moves.specs.Given.SeizeWaiting.Held.{count, same}
+use Rattle.seize_moves.specs.Given.SeizeWaitingHeld.{count, same}
 use Rattle.seize_moves.proofs.State.Ghost.{Entry, Head, Active, State, list_of}
 use Rattle.seize_moves.proofs.State.Rule.{Grows}
 use Rattle.seize_rule.proofs.Words.Chains.{Chain, blocks_of, chain_begin, first_or}

@@ -32,7 +32,7 @@ use Rattle.seize_rule.proofs.Points.Try.{here, taken_more, length-more, tries_on
 use Rattle.std.proofs.lemmas.List.{append_assoc}
 use Rattle.seize.specs.declared.states.TheConstants.{COUNT}
 use Rattle.seize.specs.Settle.{closed, closes}
-use Rattle.seize_moves.specs.Given.SeizeWaiting.Held.{count}
+use Rattle.seize_moves.specs.Given.SeizeWaitingHeld.{count}
 use Rattle.seize_moves.proofs.State.Ghost.{is_in, Unused, Closing, Closed, Debt, was_put, total}
 use Rattle.seize_moves.proofs.State.Rule.{AtStage}
 use Rattle.seize_moves.proofs.Moves.Tries.{closed_moves, passed_total, passed_put}

@@ -11,7 +11,7 @@ use Rattle.seize.specs.declared.rows.settle.Settling.{Settling}
 use Rattle.seize.specs.declared.rows.settle.Settling.TheVariants as at
 use Rattle.seize.specs.Settle as plans
 use Rattle.seize.specs.Settle.{plan_at}
-use Rattle.seize_moves.specs.Given.SeizeWaiting.Held.{count}
+use Rattle.seize_moves.specs.Given.SeizeWaitingHeld.{count}
 use Rattle.seize_moves.proofs.State.Ghost.{Entry as Entry', Head, Stage, Closing, Life, IsIn, IsPending, State, is_never, is_in, is_doomed, is_pending}
 use Rattle.seize_moves.proofs.State.Rule.{Inv, IsLive, SameUnlessDead}
 use Rattle.seize_moves.proofs.Moves.Tries.{first_pending}

@@ -12,7 +12,7 @@ use Rattle.seize.specs.declared.rows.settle.Settle.{Settle}
 use Rattle.seize.specs.declared.rows.settle.Settled.{Settled}
 use Rattle.seize.specs.declared.rows.settle.Settled.TheVariants.{Goes}
 use Rattle.seize.specs.Settle.{to, onward, summed as summed_out, sums}
-use Rattle.seize_moves.specs.Given.SeizeWaiting.Held.{count}
+use Rattle.seize_moves.specs.Given.SeizeWaitingHeld.{count}
 use Rattle.seize_moves.proofs.State.Ghost.{is_in, Stage, Closing, Closed, Life, State, was_put, total}
 use Rattle.seize_moves.proofs.State.Rule.{Inv, IsOf, SameUnlessDead}
 use Rattle.seize_moves.proofs.State.Moves.{summed, gives_up}

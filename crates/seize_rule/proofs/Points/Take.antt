@@ -13,7 +13,7 @@ use Rattle.seize.specs.declared.rows.settle.Settled.{Settled}
 use Rattle.seize.specs.declared.rows.settle.Settled.TheVariants.{Goes, Gave}
 use Rattle.seize.specs.Law.{Taken}
 use Rattle.seize.specs.Settle.{onward, with_put, without_block, joins, given_back, takes, puts}
-use Rattle.seize_moves.specs.Given.SeizeWaiting.Held.{count}
+use Rattle.seize_moves.specs.Given.SeizeWaitingHeld.{count}
 use Rattle.seize_moves.proofs.State.Ghost.{State, put}
 use Rattle.seize_moves.proofs.State.Rule.{Inv, Moved}
 use Rattle.seize_moves.proofs.State.Together.{then as moved_then}

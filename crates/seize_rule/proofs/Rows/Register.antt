@@ -25,7 +25,7 @@ use Rattle.seize.specs.declared.rows.register.Registering.TheVariants as stands
 use Rattle.seize.specs.Register.{begun, looked, widened, taken, further, taking, going, refused, registered, can_be_taken, bucket_needed, plan_at, register_plan}
 use Rattle.seize.specs.Law.{Effect, Entered, is_open}
 use Rattle.seize.specs.World.{World, Row, Rests, Registers, Use, Vacant, Outside, Inside, Changing, with_at, with_use, after_step, register_effects, registered_use, registered_as, registers_on}
-use Rattle.seize_moves.specs.Given.SeizeWaiting.Held.{count, same}
+use Rattle.seize_moves.specs.Given.SeizeWaitingHeld.{count, same}
 use Rattle.seize_moves.proofs.State.Ghost.{put, Head, Never, Free, Idle, Active, emptied, is_never, is_active, list_of}
 use Rattle.seize_moves.proofs.State.Ghost as Ghosts
 use Rattle.seize_rule.proofs.Words.Chains.{Chain, blocks_of}

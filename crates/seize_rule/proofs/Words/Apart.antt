@@ -2,7 +2,7 @@
 use Rattle.std.specs.Prelude.{Option, Some, None}
 use Rattle.std.proofs.Common.{◌≡◌, ℕ, ◌+◌, ◌<◌, ◌≤◌, Bool, true, false, cond, eqb, List, [], ◌∷◌, refl, arith, ap, subst, sym, eqb-true}
 use Rattle.std.proofs.lemmas.Bool.{eqb-false, eq-eqb}
-use Rattle.seize_moves.specs.Given.SeizeWaiting.Held.{count}
+use Rattle.seize_moves.specs.Given.SeizeWaitingHeld.{count}
 use Rattle.seize_moves.proofs.State.Ghost.{put, is_in, is_pending, Stage, Unused, Open, Closing, Closed, Dead, Life, IsIn, IsPending, IsDoomed, IsDeferring, IsDeferred, Head, Never, Free, Idle, Active, Entry, list_of, IsLeft, of_dropper}
 use Rattle.seize_moves.proofs.State.Rule.{IsLive, SameUnlessDead, Places}
 use Rattle.seize_rule.proofs.Words.Chains.{chain_apart, waiting, first_or, blocks_of}

@@ -1,6 +1,6 @@
 -- Lists that run through words: each word is the link of a block, or the word that ends the list.
 use Rattle.std.proofs.Common.{◌≡◌, ℕ, ◌+◌, ◌<◌, Bool, true, false, List, [], ◌∷◌, ◌++◌, length, arith, refl, sym, subst}
-use Rattle.seize_moves.specs.Given.SeizeWaiting.Held.{count, same}
+use Rattle.seize_moves.specs.Given.SeizeWaitingHeld.{count, same}
 use Rattle.seize_moves.proofs.State.Ghost.{put, Entry}
 use Rattle.seize_rule.proofs.Words.Named.{link}
 

@@ -1,7 +1,7 @@
 -- How the words of a memory show the state with its lists.
 use Rattle.std.specs.Prelude.{Option, Some, None, is_some}
 use Rattle.std.proofs.Common.{◌≡◌, ℕ, ◌+◌, ◌%◌, ◌^◌, ◌<◌, Bool, true, false, cond, eqb, List, [], ◌∷◌, length, refl, ap}
-use Rattle.seize_moves.specs.Given.SeizeWaiting.Held.{same, count}
+use Rattle.seize_moves.specs.Given.SeizeWaitingHeld.{same, count}
 use Rattle.seize_moves.proofs.State.Ghost.{Entry, Head, Never, Free, Idle, Active, Stage, Unused, Open, Closing, Closed, Dead, Life, IsFree, IsOwned, IsLinked, IsUnlinked, IsDeferring, IsDeferred, IsPending, IsIn, IsDoomed, IsLeft, State, list_of, of_row}
 use Rattle.seize_moves.proofs.State.Rule.{IsOf}
 use Rattle.seize_rule.proofs.Words.Named.{link}

@@ -1,7 +1,7 @@
 -- Sums over numbers, and how long a list of different numbers is.
 use Rattle.std.proofs.Common.{◌≡◌, ℕ, zero, suc, ◌+◌, ◌*◌, ◌<◌, ◌≤◌, Bool, true, false, eqb, List, [], ◌∷◌, length, refl, arith, ap, eqb-true}
 use Rattle.std.proofs.lemmas.Bool.{eqb-false}
-use Rattle.seize_moves.specs.Given.SeizeWaiting.Held.{same, count}
+use Rattle.seize_moves.specs.Given.SeizeWaitingHeld.{same, count}
 use Rattle.seize_moves.proofs.State.Ghost.{Entry}
 use Rattle.seize_rule.proofs.Words.Chains.{blocks_of, count_first}
 use Rattle.seize_rule.proofs.Words.Shows.{both, stands}

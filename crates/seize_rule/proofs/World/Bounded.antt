@@ -7,8 +7,8 @@ use Rattle.seize_words.specs.Mem.{word_at}
 use Rattle.seize.specs.declared.states.TheConstants.{HEAD, LAST_SLOT}
 use Rattle.seize.specs.Law.{Effect, is_open, is_retired}
 use Rattle.seize.specs.World.{World, Row, Rests, Use, Vacant, Outside, Inside, Changing, at_start, IsOutside, times, SlotsTaken, GarbageIsBounded}
-use Rattle.seize_moves.specs.Given.SeizeWaiting.Held.{same, count}
-use Rattle.seize_moves.proofs.Given.SeizeWaiting.Counts.{count-append}
+use Rattle.seize_moves.specs.Given.SeizeWaitingHeld.{same, count}
+use Rattle.seize_moves.proofs.Given.SeizeWaitingCounts.{count-append}
 use Rattle.seize_moves.proofs.State.Ghost.{State, Head, Never, Free, Idle, Active, emptied, is_active, is_never}
 use Rattle.seize_moves.proofs.State.Rule.{open_length}
 use Rattle.seize_moves.proofs.Sets.Quiescent.{IsQuiescent, all_wait}

@@ -9,8 +9,8 @@ use Rattle.seize.specs.WaitingSets.{is_one_of}
 use Rattle.seize.specs.declared.states.TheConstants.{NEXT}
 use Rattle.seize_words.specs.Mem.{Mem, value_at, word_at, with_word, with_block}
 use Rattle.seize_words.specs.declared.at.At.TheVariants.{Entry, Word}
-use Rattle.seize_moves.specs.Given.SeizeWaiting.Held.{count}
-use Rattle.seize_moves.proofs.Given.SeizeWaiting.Counts.{none_counted}
+use Rattle.seize_moves.specs.Given.SeizeWaitingHeld.{count}
+use Rattle.seize_moves.proofs.Given.SeizeWaitingCounts.{none_counted}
 use Rattle.seize_moves.proofs.State.Ghost.{State, Life, IsUnlinked, IsDeferring, IsDeferred, IsPending, IsLeft, is_deferred}
 use Rattle.seize_moves.proofs.State.Moves.{left_with, left_over}
 use Rattle.seize_moves.proofs.State.Rule.{AllDeferred}

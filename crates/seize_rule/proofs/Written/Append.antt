@@ -1,8 +1,8 @@
 -- The write by which a block is retired: it is counted in its slot's open batch.
 use Rattle.std.proofs.Common.{◌≡◌, ℕ, suc, ◌+◌, ◌%◌, ◌^◌, ◌<◌, Bool, true, false, cond, eqb, List, [], ◌∷◌, ◌++◌, length, length-append, refl, arith, subst, sym, ap, ◌∙◌, eqb-true}
 use Rattle.std.proofs.lemmas.Bool.{eqb-false}
-use Rattle.seize_moves.specs.Given.SeizeWaiting.Held.{count}
-use Rattle.seize_moves.proofs.Given.SeizeWaiting.Counts.{count-append}
+use Rattle.seize_moves.specs.Given.SeizeWaitingHeld.{count}
+use Rattle.seize_moves.proofs.Given.SeizeWaitingCounts.{count-append}
 use Rattle.seize_moves.proofs.State.Ghost.{put, is_in, State, Stage, Open, Life, IsIn, IsPending}
 use Rattle.seize_moves.proofs.State.Moves.{appended}
 use Rattle.seize_moves.proofs.State.Rule.{Inv, SameUnlessDead}

@@ -1,8 +1,8 @@
 -- Blocks are made, linked, unlinked, and handed to the collector or to another block's list.
 use Rattle.std.specs.Prelude.{Option}
 use Rattle.std.proofs.Common.{◌≡◌, ℕ, ◌<◌, Bool, true, false, cond, eqb, List, [], ◌∷◌, refl, arith, subst, sym, eqb-true}
-use Rattle.seize_moves.specs.Given.SeizeWaiting.Held.{count}
-use Rattle.seize_moves.proofs.Given.SeizeWaiting.Counts.{none_counted}
+use Rattle.seize_moves.specs.Given.SeizeWaitingHeld.{count}
+use Rattle.seize_moves.proofs.Given.SeizeWaitingCounts.{none_counted}
 use Rattle.seize_moves.proofs.State.Ghost.{put, is_deferred, lies_with, can_carry, State, Life, IsFree, IsOwned, IsLinked, IsUnlinked, IsDeferring, IsDeferred, IsPending, IsIn, IsDoomed, IsLeft}
 use Rattle.seize_moves.proofs.State.Moves.{linked, unlinked, begins_retire, begins_defer}
 use Rattle.seize_moves.proofs.State.Rule.{Inv}

@@ -1,7 +1,7 @@
 -- Writes to the count of a batch: its closing, the addition of what was put, and the end of the batch.
 use Rattle.std.proofs.Common.{◌≡◌, ℕ, ◌+◌, ◌%◌, ◌^◌, ◌<◌, Bool, true, false, cond, eqb, List, [], ◌∷◌, refl, arith, subst, sym, eqb-true}
 use Rattle.std.proofs.lemmas.Bool.{eqb-false}
-use Rattle.seize_moves.specs.Given.SeizeWaiting.Held.{count}
+use Rattle.seize_moves.specs.Given.SeizeWaitingHeld.{count}
 use Rattle.seize_moves.proofs.State.Ghost.{put, is_in, State, Stage, Unused, Open, Closing, Closed, Life, IsIn, was_put, total}
 use Rattle.seize_moves.proofs.State.Moves.{closed, summed}
 use Rattle.seize_moves.proofs.State.Rule.{Inv, IsLive, SameUnlessDead}

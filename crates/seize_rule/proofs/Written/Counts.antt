@@ -1,6 +1,6 @@
 -- The write by which a row counts an entry down, and the reclaiming of a batch at zero.
 use Rattle.std.proofs.Common.{◌≡◌, ℕ, ◌+◌, ◌-◌, ◌%◌, ◌^◌, ◌<◌, ◌≤◌, Bool, true, false, cond, eqb, List, ◌∷◌, refl, arith}
-use Rattle.seize_moves.specs.Given.SeizeWaiting.Held.{count}
+use Rattle.seize_moves.specs.Given.SeizeWaitingHeld.{count}
 use Rattle.seize_moves.proofs.State.Ghost.{put, entries, Entry, State, Stage, Unused, Open, Closing, Closed, Dead, Life, Debt, is_loose, was_put, owes, counts, total, list_of}
 use Rattle.seize_moves.proofs.State.Moves.{counted}
 use Rattle.seize_moves.proofs.State.Rule.{Inv, IsLive, SeenIs, AtStage}

@@ -1,6 +1,6 @@
 -- Writes to the heads of slots: they are taken, entered, left and freed.
 use Rattle.std.proofs.Common.{◌≡◌, ℕ, ◌<◌, true, cond, eqb, List, [], ◌∷◌, refl, arith}
-use Rattle.seize_moves.specs.Given.SeizeWaiting.Held.{count}
+use Rattle.seize_moves.specs.Given.SeizeWaitingHeld.{count}
 use Rattle.seize_moves.proofs.State.Ghost.{put, Entry, Head, Never, Free, Idle, Active, State, Life, list_of}
 use Rattle.seize_moves.proofs.State.Moves.{registered, freed, entered, reopened, has_left, refreshed, begins_call, ends_call}
 use Rattle.seize_moves.proofs.State.Sums.{put_both}

@@ -1,6 +1,6 @@
 -- What a batch had put goes in front of what is to be retired.
 use Rattle.std.proofs.Common.{◌≡◌, ℕ, ◌<◌, true, false, List, [], ◌∷◌, ◌++◌, refl, arith, append-nil}
-use Rattle.seize_moves.specs.Given.SeizeWaiting.Held.{count}
+use Rattle.seize_moves.specs.Given.SeizeWaitingHeld.{count}
 use Rattle.seize_moves.proofs.State.Ghost.{put, is_in, State, Life, IsPending}
 use Rattle.seize_moves.proofs.State.Moves.{joined}
 use Rattle.seize_moves.proofs.State.Rule.{Inv, IsLive}

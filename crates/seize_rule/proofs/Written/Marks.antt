@@ -1,8 +1,8 @@
 -- Writes of a try: blocks are marked with slots, and linked to the lists that they are put on.
 use Rattle.std.proofs.Common.{◌≡◌, ℕ, ◌+◌, ◌<◌, Bool, true, false, cond, eqb, List, [], ◌∷◌, ◌++◌, length, refl, arith, subst, sym, eqb-true}
 use Rattle.std.proofs.lemmas.Bool.{eqb-false}
-use Rattle.seize_moves.specs.Given.SeizeWaiting.Held.{count}
-use Rattle.seize_moves.proofs.Given.SeizeWaiting.Counts.{count-append}
+use Rattle.seize_moves.specs.Given.SeizeWaitingHeld.{count}
+use Rattle.seize_moves.proofs.Given.SeizeWaitingCounts.{count-append}
 use Rattle.seize_moves.proofs.State.Ghost.{put, Entry, Head, State, Stage, Unused, Open, Closing, Closed, Dead, list_of}
 use Rattle.seize_moves.proofs.State.Moves.{marked, given_up, skipped}
 use Rattle.seize_moves.proofs.State.Rule.{IsOf}

@@ -1,6 +1,6 @@
 -- The write by which a slot is given an entry of a batch, or is found not active.
 use Rattle.std.proofs.Common.{◌≡◌, ℕ, ◌<◌, Bool, true, false, cond, eqb, List, ◌∷◌, refl, arith, subst, sym, eqb-true}
-use Rattle.seize_moves.specs.Given.SeizeWaiting.Held.{count}
+use Rattle.seize_moves.specs.Given.SeizeWaitingHeld.{count}
 use Rattle.seize_moves.proofs.State.Ghost.{put, Entry, Head, Active, State, Closing, list_of}
 use Rattle.seize_moves.proofs.State.Moves.{pushed, missed}
 use Rattle.seize_moves.proofs.State.Sums.{put_both}

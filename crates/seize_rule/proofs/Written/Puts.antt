@@ -1,7 +1,7 @@
 -- Blocks that were deferred until one that is reclaimed: their list is taken over, and goes in front of what is to be retired.
 use Rattle.std.specs.Prelude.{Option, Some, None}
 use Rattle.std.proofs.Common.{◌≡◌, ℕ, ◌<◌, Bool, true, false, cond, eqb, List, [], ◌∷◌, ◌++◌, refl, arith, eqb-true}
-use Rattle.seize_moves.specs.Given.SeizeWaiting.Held.{count}
+use Rattle.seize_moves.specs.Given.SeizeWaitingHeld.{count}
 use Rattle.seize_moves.proofs.State.Ghost.{put, is_in, State, Life, IsPending, IsDoomed}
 use Rattle.seize_moves.proofs.State.Moves.{drained, undeferred}
 use Rattle.seize_moves.proofs.State.Rule.{Inv, IsLive}

@@ -1,6 +1,6 @@
 -- Writes by which a block goes into its slot's open batch.
 use Rattle.std.proofs.Common.{◌≡◌, ℕ, ◌+◌, Bool, true, false, cond, eqb, List, ◌∷◌, refl, arith, subst, sym}
-use Rattle.seize_moves.specs.Given.SeizeWaiting.Held.{count}
+use Rattle.seize_moves.specs.Given.SeizeWaitingHeld.{count}
 use Rattle.seize_moves.proofs.State.Ghost.{put, is_in, State, Stage, Open, Life, IsIn, IsPending}
 use Rattle.seize_moves.proofs.State.Rule.{Inv, IsOf, IsLive}
 use Rattle.seize_moves.proofs.State.Sums.{put_both}

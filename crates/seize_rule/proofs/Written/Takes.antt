@@ -1,7 +1,7 @@
 -- A block is taken or dropped: all its words are gone.
 use Rattle.std.specs.Prelude.{None}
 use Rattle.std.proofs.Common.{◌≡◌, ℕ, Bool, true, false, cond, eqb, List, [], ◌∷◌, refl, arith}
-use Rattle.seize_moves.specs.Given.SeizeWaiting.Held.{count}
+use Rattle.seize_moves.specs.Given.SeizeWaitingHeld.{count}
 use Rattle.seize_moves.proofs.State.Ghost.{put, is_in, State, Life, IsFree, IsOwned, IsDoomed, IsLeft, of_dropper, list_of}
 use Rattle.seize_moves.proofs.State.Moves.{taken, dropped}
 use Rattle.seize_moves.proofs.State.Rule.{Inv, IsLive, SameUnlessDead}

@@ -11,14 +11,14 @@ use Rattle.seize.specs.declared.rows.leave.Leaving.{Leaving}
 use Rattle.seize.specs.declared.rows.leave.Leaving.TheVariants as leaving
 use Rattle.seize.specs.Law.{is_open}
 use Rattle.seize.specs.World.{World, Row, Rests, Registers, Enters, Settles, Leaves, Defers, Frees, Use, Vacant, Outside, Inside, Changing}
-use Rattle.seize_ends.proofs.Given.SeizeMoves.State.Ghost.{Head, emptied, is_never}
-use Rattle.seize_ends.proofs.Given.SeizeRule.Words.View.{view}
-use Rattle.seize_ends.proofs.Given.SeizeRule.Rows.Known.{works_on, Idles, Settles_on, OverIs, FitsLeave, FitsRow}
-use Rattle.seize_ends.proofs.Given.SeizeRule.Rows.Teams.{shares, is_shared, UseFits}
-use Rattle.seize_ends.proofs.Given.SeizeRule.Rows.Short.{is_trying, tries_on, leave_tries, calm}
-use Rattle.seize_ends.proofs.Given.SeizeRule.World.Rested.{Lone}
-use Rattle.seize_ends.proofs.Given.SeizeRule.Rows.Told.{HasSettled, IsSettled}
-use Rattle.seize_ends.proofs.Given.SeizeRule.Points.Told.{Part, Plain, part, part_at}
+use Rattle.seize_ends.proofs.Given.SeizeMovesState.Ghost.{Head, emptied, is_never}
+use Rattle.seize_ends.proofs.Given.SeizeRuleWords.View.{view}
+use Rattle.seize_ends.proofs.Given.SeizeRuleRows.Known.{works_on, Idles, Settles_on, OverIs, FitsLeave, FitsRow}
+use Rattle.seize_ends.proofs.Given.SeizeRuleRows.Teams.{shares, is_shared, UseFits}
+use Rattle.seize_ends.proofs.Given.SeizeRuleRows.Short.{is_trying, tries_on, leave_tries, calm}
+use Rattle.seize_ends.proofs.Given.SeizeRuleWorld.Rested.{Lone}
+use Rattle.seize_ends.proofs.Given.SeizeRuleRows.Told.{HasSettled, IsSettled}
+use Rattle.seize_ends.proofs.Given.SeizeRulePoints.Told.{Part, Plain, part, part_at}
 use Rattle.seize_sets.proofs.Follows.Work.{Alone, Setting}
 use Rattle.seize_sets.proofs.Follows.Begins.{AtRest, at_rest}
 

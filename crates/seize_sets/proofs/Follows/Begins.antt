@@ -5,25 +5,25 @@ use Rattle.std.proofs.lemmas.Bool.{eqb-false}
 use Rattle.std.proofs.lemmas.List.{append-nil}
 use Rattle.seize.specs.Sequence.{taken_in}
 use Rattle.seize.specs.WaitingSets.{Batch, Sets, After, with_active, with_closed, without, size, retired, flushed, counted, left}
-use Rattle.seize_ends.specs.Given.SeizeWaiting.Held.{count}
-use Rattle.seize_ends.proofs.Given.SeizeWaiting.Bound.{rounds}
-use Rattle.seize_ends.proofs.Given.SeizeWaiting.Counts.{filter_same}
-use Rattle.seize_ends.proofs.Given.SeizeWaiting.Work.{counted_begins}
-use Rattle.seize_ends.proofs.Given.SeizeWaiting.Retired.{retired_bound}
-use Rattle.seize_ends.proofs.Given.SeizeMoves.State.Ghost.{Debt, Unscanned, Marked, Gone, Skipped, Owing, Loose, Counted, Closed, Entry, Active, State, list_of}
-use Rattle.seize_ends.proofs.Given.SeizeMoves.State.Rule.{Inv, not_longer}
-use Rattle.seize_ends.proofs.Given.SeizeRule.Words.Shows.{Extra}
-use Rattle.seize_ends.proofs.Given.SeizeRule.Points.Known.{Empty}
-use Rattle.seize_ends.proofs.Given.SeizeMoves.Sets.Shown.{waits, is_owing, batch_shown, batches_in, Models, models_alike}
-use Rattle.seize_ends.proofs.Given.SeizeMoves.Sets.ListTaken.{left_models, refreshed_models}
-use Rattle.seize_ends.proofs.Given.SeizeMoves.Sets.Working.{AllWait, retiring_comes}
-use Rattle.seize_ends.proofs.Given.SeizeMoves.Sets.Countdown.{all_done}
-use Rattle.seize_ends.proofs.Given.SeizeMoves.Sets.Unmoved.{alike_kept}
-use Rattle.seize_ends.proofs.Given.SeizeRule.Points.Told.{Part, NoneLeft}
+use Rattle.seize_ends.specs.Given.SeizeWaitingHeld.{count}
+use Rattle.seize_ends.proofs.Given.SeizeWaitingBound.{rounds}
+use Rattle.seize_ends.proofs.Given.SeizeWaitingCounts.{filter_same}
+use Rattle.seize_ends.proofs.Given.SeizeWaitingWork.{counted_begins}
+use Rattle.seize_ends.proofs.Given.SeizeWaitingRetired.{retired_bound}
+use Rattle.seize_ends.proofs.Given.SeizeMovesState.Ghost.{Debt, Unscanned, Marked, Gone, Skipped, Owing, Loose, Counted, Closed, Entry, Active, State, list_of}
+use Rattle.seize_ends.proofs.Given.SeizeMovesState.Rule.{Inv, not_longer}
+use Rattle.seize_ends.proofs.Given.SeizeRuleWords.Shows.{Extra}
+use Rattle.seize_ends.proofs.Given.SeizeRulePoints.Known.{Empty}
+use Rattle.seize_ends.proofs.Given.SeizeMovesSets.Shown.{waits, is_owing, batch_shown, batches_in, Models, models_alike}
+use Rattle.seize_ends.proofs.Given.SeizeMovesSets.ListTaken.{left_models, refreshed_models}
+use Rattle.seize_ends.proofs.Given.SeizeMovesSets.Working.{AllWait, retiring_comes}
+use Rattle.seize_ends.proofs.Given.SeizeMovesSets.Countdown.{all_done}
+use Rattle.seize_ends.proofs.Given.SeizeMovesSets.Unmoved.{alike_kept}
+use Rattle.seize_ends.proofs.Given.SeizeRulePoints.Told.{Part, NoneLeft}
 use Rattle.seize_sets.proofs.Follows.Work.{Lined, Base, Plainly, Flushes, Alone, Setting}
 use Rattle.seize_sets.proofs.Follows.Kept.{behind_in, retires_plainly, plainly_retires}
 use Rattle.seize_sets.proofs.Follows.Countdown.{all_closed, all_wait}
-use Rattle.seize_ends.proofs.Given.SeizeMoves.State.Moves
+use Rattle.seize_ends.proofs.Given.SeizeMovesState.Moves
 
 -- the row has nothing in its hands
 pub record AtRest (i : ℕ) (m : State) : Type 0 where

@@ -4,27 +4,27 @@ use Rattle.std.proofs.Common.{◌≡◌, ℕ, ◌+◌, ◌-◌, ◌%◌, ◌^◌
 use Rattle.std.proofs.lemmas.Bool.{eqb-false}
 use Rattle.std.proofs.lemmas.List.{append-nil, append_cancel_right, map-append}
 use Rattle.seize.specs.WaitingSets.{Batch, Sets, After, with_closed, quietly, without, further_of_all, is_done, size, given}
-use Rattle.seize_ends.specs.Given.SeizeWaiting.Held.{count}
-use Rattle.seize_ends.specs.Given.SeizeWaiting.Changes.{kept}
-use Rattle.seize_ends.proofs.Given.SeizeWaiting.Bound.{rounds}
-use Rattle.seize_ends.proofs.Given.SeizeWaiting.Counts.{count-append, map_same, filter_same}
-use Rattle.seize_ends.proofs.Given.SeizeWaiting.Work.{rest_given, given_begins}
-use Rattle.seize_ends.proofs.Given.SeizeWaiting.Retired.{given_bound}
-use Rattle.seize_ends.proofs.Given.SeizeMoves.State.Ghost.{put, Debt, Unscanned, Marked, Gone, Skipped, Owing, Loose, Counted, Stage, Unused, Open, Closing, Closed, Dead, Entry, Life, State, owes, is_in}
-use Rattle.seize_ends.proofs.Given.SeizeMoves.State.Rule.{Inv, Pending}
-use Rattle.seize_ends.proofs.Given.SeizeMoves.State.Sums.{total_zero}
-use Rattle.seize_ends.proofs.Given.SeizeMoves.Moves.Pushes.{counted_moves}
-use Rattle.seize_ends.proofs.Given.SeizeMoves.Sets.Shown.{waits, is_owing, is_shut, waiting, batch_shown, batches_in, Models, shut_in}
-use Rattle.seize_ends.proofs.Given.SeizeMoves.Sets.Ascending.{ascending_without}
-use Rattle.seize_ends.proofs.Given.SeizeMoves.Sets.Tries.{batch}
-use Rattle.seize_ends.proofs.Given.SeizeMoves.Sets.ListTaken.{counted_debt, counted_models, counted_shown, gives_up_models}
-use Rattle.seize_ends.proofs.Given.SeizeMoves.Sets.Counters.{closed_length, not_waiting, first_split}
-use Rattle.seize_ends.proofs.Given.SeizeMoves.Sets.Working.{AllWait}
-use Rattle.seize_ends.proofs.Given.SeizeMoves.Sets.Countdown.{last_comes, other_comes}
-use Rattle.seize_ends.proofs.Given.SeizeRule.Points.Told.{Part, NoneLeft}
+use Rattle.seize_ends.specs.Given.SeizeWaitingHeld.{count}
+use Rattle.seize_ends.specs.Given.SeizeWaitingChanges.{kept}
+use Rattle.seize_ends.proofs.Given.SeizeWaitingBound.{rounds}
+use Rattle.seize_ends.proofs.Given.SeizeWaitingCounts.{count-append, map_same, filter_same}
+use Rattle.seize_ends.proofs.Given.SeizeWaitingWork.{rest_given, given_begins}
+use Rattle.seize_ends.proofs.Given.SeizeWaitingRetired.{given_bound}
+use Rattle.seize_ends.proofs.Given.SeizeMovesState.Ghost.{put, Debt, Unscanned, Marked, Gone, Skipped, Owing, Loose, Counted, Stage, Unused, Open, Closing, Closed, Dead, Entry, Life, State, owes, is_in}
+use Rattle.seize_ends.proofs.Given.SeizeMovesState.Rule.{Inv, Pending}
+use Rattle.seize_ends.proofs.Given.SeizeMovesState.Sums.{total_zero}
+use Rattle.seize_ends.proofs.Given.SeizeMovesMoves.Pushes.{counted_moves}
+use Rattle.seize_ends.proofs.Given.SeizeMovesSets.Shown.{waits, is_owing, is_shut, waiting, batch_shown, batches_in, Models, shut_in}
+use Rattle.seize_ends.proofs.Given.SeizeMovesSets.Ascending.{ascending_without}
+use Rattle.seize_ends.proofs.Given.SeizeMovesSets.Tries.{batch}
+use Rattle.seize_ends.proofs.Given.SeizeMovesSets.ListTaken.{counted_debt, counted_models, counted_shown, gives_up_models}
+use Rattle.seize_ends.proofs.Given.SeizeMovesSets.Counters.{closed_length, not_waiting, first_split}
+use Rattle.seize_ends.proofs.Given.SeizeMovesSets.Working.{AllWait}
+use Rattle.seize_ends.proofs.Given.SeizeMovesSets.Countdown.{last_comes, other_comes}
+use Rattle.seize_ends.proofs.Given.SeizeRulePoints.Told.{Part, NoneLeft}
 use Rattle.seize_sets.proofs.Follows.Work.{Lined, Base, Plainly, Alone, Setting}
 use Rattle.seize_sets.proofs.Follows.Kept.{rest_on, Retires, plainly_retires, retires_plainly}
-use Rattle.seize_ends.proofs.Given.SeizeMoves.State.Moves
+use Rattle.seize_ends.proofs.Given.SeizeMovesState.Moves
 
 -- where no batch is being closed, those of the order are closed
 pub all_closed : (n i : ℕ) (m : State) (order : List ℕ) (w : Sets) → Inv n m → Alone i m → m.closing i ≡ 0 → Models n m order w

@@ -3,20 +3,20 @@ use Rattle.std.proofs.Common.{◌≡◌, ℕ, ◌≤◌, List, [], ◌∷◌, �
 use Rattle.std.proofs.lemmas.List.{append-nil}
 use Rattle.seize.specs.Sequence.{taken_in}
 use Rattle.seize.specs.WaitingSets.{Further, Sets, After, with_closed, giving, further_of, further_of_all}
-use Rattle.seize_ends.specs.Given.SeizeWaiting.Held.{count, weight, weight_put}
-use Rattle.seize_ends.specs.Given.SeizeWaiting.Changes.{kept}
-use Rattle.seize_ends.proofs.Given.SeizeWaiting.Behind.{kept-append}
-use Rattle.seize_ends.proofs.Given.SeizeWaiting.Bound.{one, rounds}
-use Rattle.seize_ends.proofs.Given.SeizeWaiting.Work.{rest_given, others_put, one_given, all_given}
-use Rattle.seize_ends.proofs.Given.SeizeMoves.State.Ghost.{State}
-use Rattle.seize_ends.proofs.Given.SeizeMoves.State.Rule.{Inv}
-use Rattle.seize_ends.proofs.Given.SeizeMoves.State.Moves
-use Rattle.seize_ends.proofs.Given.SeizeRule.Words.Apart.{put_here}
-use Rattle.seize_ends.proofs.Given.SeizeMoves.Sets.Shown.{Models, Alike, models_alike}
-use Rattle.seize_ends.proofs.Given.SeizeMoves.Sets.ListTaken.{drained_models, taken_alike, joined_alike}
-use Rattle.seize_ends.proofs.Given.SeizeMoves.Sets.Working.{after_these}
-use Rattle.seize_ends.proofs.Given.SeizeMoves.Sets.Countdown.{tail_of}
-use Rattle.seize_ends.proofs.Given.SeizeRule.Points.Told.{Plain, Draining}
+use Rattle.seize_ends.specs.Given.SeizeWaitingHeld.{count, weight, weight_put}
+use Rattle.seize_ends.specs.Given.SeizeWaitingChanges.{kept}
+use Rattle.seize_ends.proofs.Given.SeizeWaitingBehind.{kept-append}
+use Rattle.seize_ends.proofs.Given.SeizeWaitingBound.{one, rounds}
+use Rattle.seize_ends.proofs.Given.SeizeWaitingWork.{rest_given, others_put, one_given, all_given}
+use Rattle.seize_ends.proofs.Given.SeizeMovesState.Ghost.{State}
+use Rattle.seize_ends.proofs.Given.SeizeMovesState.Rule.{Inv}
+use Rattle.seize_ends.proofs.Given.SeizeMovesState.Moves
+use Rattle.seize_ends.proofs.Given.SeizeRuleWords.Apart.{put_here}
+use Rattle.seize_ends.proofs.Given.SeizeMovesSets.Shown.{Models, Alike, models_alike}
+use Rattle.seize_ends.proofs.Given.SeizeMovesSets.ListTaken.{drained_models, taken_alike, joined_alike}
+use Rattle.seize_ends.proofs.Given.SeizeMovesSets.Working.{after_these}
+use Rattle.seize_ends.proofs.Given.SeizeMovesSets.Countdown.{tail_of}
+use Rattle.seize_ends.proofs.Given.SeizeRulePoints.Told.{Plain, Draining}
 use Rattle.seize_sets.proofs.Follows.Work.{Setting, Plainly, Drains, BehindKept, base_on, lined_on}
 
 -- a block stands once in what is left of a batch

@@ -3,14 +3,14 @@ use Rattle.std.proofs.Common.{◌≡◌, ℕ, ◌≤◌, List, [], ◌∷◌, �
 use Rattle.std.proofs.lemmas.List.{append-nil}
 use Rattle.seize.specs.Sequence.{taken_in}
 use Rattle.seize.specs.WaitingSets.{Batch, Further, Sets, After, with_closed, further_of_all, retired_all}
-use Rattle.seize_ends.specs.Given.SeizeWaiting.Held.{count}
-use Rattle.seize_ends.specs.Given.SeizeWaiting.Changes.{kept}
-use Rattle.seize_ends.proofs.Given.SeizeWaiting.Bound.{rounds}
-use Rattle.seize_ends.proofs.Given.SeizeWaiting.Counts.{count-append}
-use Rattle.seize_ends.proofs.Given.SeizeWaiting.Work.{rest_given, all_given}
-use Rattle.seize_ends.proofs.Given.SeizeMoves.State.Ghost.{Open, State}
-use Rattle.seize_ends.proofs.Given.SeizeMoves.Sets.Shown.{Models, shut_in}
-use Rattle.seize_ends.proofs.Given.SeizeRule.Points.Told.{NoneLeft}
+use Rattle.seize_ends.specs.Given.SeizeWaitingHeld.{count}
+use Rattle.seize_ends.specs.Given.SeizeWaitingChanges.{kept}
+use Rattle.seize_ends.proofs.Given.SeizeWaitingBound.{rounds}
+use Rattle.seize_ends.proofs.Given.SeizeWaitingCounts.{count-append}
+use Rattle.seize_ends.proofs.Given.SeizeWaitingWork.{rest_given, all_given}
+use Rattle.seize_ends.proofs.Given.SeizeMovesState.Ghost.{Open, State}
+use Rattle.seize_ends.proofs.Given.SeizeMovesSets.Shown.{Models, shut_in}
+use Rattle.seize_ends.proofs.Given.SeizeRulePoints.Told.{NoneLeft}
 use Rattle.seize_sets.proofs.Follows.Work.{Lined, Base, Plainly, base_kept}
 
 -- Only the open batch changes among the batches, and the row's entries stay; nothing is reclaimed.

@@ -4,24 +4,24 @@ use Rattle.std.proofs.Common.{◌≡◌, ℕ, zero, suc, ◌+◌, ◌%◌, ◌^�
 use Rattle.std.proofs.lemmas.List.{append-nil}
 use Rattle.seize.specs.Sequence.{taken_in}
 use Rattle.seize.specs.WaitingSets.{Batch, Further, Sets, After, with_open, with_closed, closing, further_of_all, retired_all}
-use Rattle.seize_ends.specs.Given.SeizeWaiting.Held.{count, weight, weight_put}
-use Rattle.seize_ends.specs.Given.SeizeWaiting.Changes.{kept}
-use Rattle.seize_ends.proofs.Given.SeizeWaiting.Behind.{kept_nil}
-use Rattle.seize_ends.proofs.Given.SeizeWaiting.Bound.{one, rounds, set_opened}
-use Rattle.seize_ends.proofs.Given.SeizeWaiting.Work.{rest_given, all_given}
-use Rattle.seize_ends.proofs.Given.SeizeMoves.State.Ghost.{put, Debt, Unscanned, Marked, Gone, Skipped, Owing, Loose, Counted, Closing, Closed, Entry, Head, Active, State, counts, was_put, is_marked, total, is_active}
-use Rattle.seize_ends.proofs.Given.SeizeMoves.State.Rule.{Inv, HasLeft}
-use Rattle.seize_ends.proofs.Given.SeizeMoves.Sets.Scan.{NoneGone, put_stay}
-use Rattle.seize_ends.proofs.Given.SeizeMoves.State.Moves
-use Rattle.seize_ends.proofs.Given.SeizeRule.Words.Apart.{put_here}
-use Rattle.seize_ends.proofs.Given.SeizeMoves.State.Sums.{total_zero, put_parts, put_le, total_same}
-use Rattle.seize_ends.proofs.Given.SeizeMoves.Sets.Shown.{waits, is_owing, waiting, ascending_same, Models, models_alike}
-use Rattle.seize_ends.proofs.Given.SeizeMoves.Sets.Moved.{summed_alike}
-use Rattle.seize_ends.proofs.Given.SeizeMoves.Sets.Tries.{pushed_models}
-use Rattle.seize_ends.proofs.Given.SeizeMoves.Sets.ListTaken.{gives_up_models}
-use Rattle.seize_ends.proofs.Given.SeizeMoves.Sets.Counters.{waiting_length, none_total}
-use Rattle.seize_ends.proofs.Given.SeizeMoves.Sets.Countdown.{tail_of}
-use Rattle.seize_ends.proofs.Given.SeizeRule.Points.Told.{Pushing}
+use Rattle.seize_ends.specs.Given.SeizeWaitingHeld.{count, weight, weight_put}
+use Rattle.seize_ends.specs.Given.SeizeWaitingChanges.{kept}
+use Rattle.seize_ends.proofs.Given.SeizeWaitingBehind.{kept_nil}
+use Rattle.seize_ends.proofs.Given.SeizeWaitingBound.{one, rounds, set_opened}
+use Rattle.seize_ends.proofs.Given.SeizeWaitingWork.{rest_given, all_given}
+use Rattle.seize_ends.proofs.Given.SeizeMovesState.Ghost.{put, Debt, Unscanned, Marked, Gone, Skipped, Owing, Loose, Counted, Closing, Closed, Entry, Head, Active, State, counts, was_put, is_marked, total, is_active}
+use Rattle.seize_ends.proofs.Given.SeizeMovesState.Rule.{Inv, HasLeft}
+use Rattle.seize_ends.proofs.Given.SeizeMovesSets.Scan.{NoneGone, put_stay}
+use Rattle.seize_ends.proofs.Given.SeizeMovesState.Moves
+use Rattle.seize_ends.proofs.Given.SeizeRuleWords.Apart.{put_here}
+use Rattle.seize_ends.proofs.Given.SeizeMovesState.Sums.{total_zero, put_parts, put_le, total_same}
+use Rattle.seize_ends.proofs.Given.SeizeMovesSets.Shown.{waits, is_owing, waiting, ascending_same, Models, models_alike}
+use Rattle.seize_ends.proofs.Given.SeizeMovesSets.Moved.{summed_alike}
+use Rattle.seize_ends.proofs.Given.SeizeMovesSets.Tries.{pushed_models}
+use Rattle.seize_ends.proofs.Given.SeizeMovesSets.ListTaken.{gives_up_models}
+use Rattle.seize_ends.proofs.Given.SeizeMovesSets.Counters.{waiting_length, none_total}
+use Rattle.seize_ends.proofs.Given.SeizeMovesSets.Countdown.{tail_of}
+use Rattle.seize_ends.proofs.Given.SeizeRulePoints.Told.{Pushing}
 use Rattle.seize_sets.proofs.Follows.Work.{Setting, Plainly, Puts, AllActive, BehindKept, base_kept, base_on, lined_on}
 
 -- a row closes one batch

@@ -4,20 +4,20 @@ use Rattle.std.proofs.Common.{◌≡◌, ℕ, zero, suc, ◌+◌, ◌-◌, ◌%�
 use Rattle.std.proofs.lemmas.Bool.{ltb-true, ltb-false, lt-ltb, le-ltb}
 use Rattle.std.proofs.lemmas.List.{append-nil}
 use Rattle.seize.specs.WaitingSets.{Sets, After, with_open, with_closed, closing, quietly, further_of_all, is_full, is_enough, size, retired_all, flushed, given}
-use Rattle.seize_ends.specs.Given.SeizeWaiting.Held.{count, Once}
-use Rattle.seize_ends.specs.Given.SeizeWaiting.Changes.{kept}
-use Rattle.seize_ends.proofs.Given.SeizeWaiting.Bound.{rounds, rounds_given, rounds_appended, once_appended, once_counted, set_opened, tried}
-use Rattle.seize_ends.proofs.Given.SeizeWaiting.Work.{rest_given, given_begins}
-use Rattle.seize_ends.proofs.Given.SeizeWaiting.Retired.{one_retired, flush_tried, given_bound}
-use Rattle.seize_ends.proofs.Given.SeizeMoves.State.Ghost.{State}
-use Rattle.seize_ends.proofs.Given.SeizeMoves.State.Rule.{not_longer, open_length}
-use Rattle.seize_ends.proofs.Given.SeizeMoves.Sets.Shown.{Models}
-use Rattle.seize_ends.proofs.Given.SeizeMoves.Sets.Counters.{once_shown}
-use Rattle.seize_ends.proofs.Given.SeizeMoves.Sets.Moved.{appended_models}
-use Rattle.seize_ends.proofs.Given.SeizeMoves.Sets.Scan.{begins_marking}
-use Rattle.seize_ends.proofs.Given.SeizeMoves.Sets.Tries.{unused_anew}
-use Rattle.seize_ends.proofs.Given.SeizeMoves.State.Moves
-use Rattle.seize_ends.proofs.Given.SeizeRule.Points.Told.{Part, Plain, Flushing, Trying, Marking, Pushing, Draining, NoneLeft, NotScanned, length_word}
+use Rattle.seize_ends.specs.Given.SeizeWaitingHeld.{count, Once}
+use Rattle.seize_ends.specs.Given.SeizeWaitingChanges.{kept}
+use Rattle.seize_ends.proofs.Given.SeizeWaitingBound.{rounds, rounds_given, rounds_appended, once_appended, once_counted, set_opened, tried}
+use Rattle.seize_ends.proofs.Given.SeizeWaitingWork.{rest_given, given_begins}
+use Rattle.seize_ends.proofs.Given.SeizeWaitingRetired.{one_retired, flush_tried, given_bound}
+use Rattle.seize_ends.proofs.Given.SeizeMovesState.Ghost.{State}
+use Rattle.seize_ends.proofs.Given.SeizeMovesState.Rule.{not_longer, open_length}
+use Rattle.seize_ends.proofs.Given.SeizeMovesSets.Shown.{Models}
+use Rattle.seize_ends.proofs.Given.SeizeMovesSets.Counters.{once_shown}
+use Rattle.seize_ends.proofs.Given.SeizeMovesSets.Moved.{appended_models}
+use Rattle.seize_ends.proofs.Given.SeizeMovesSets.Scan.{begins_marking}
+use Rattle.seize_ends.proofs.Given.SeizeMovesSets.Tries.{unused_anew}
+use Rattle.seize_ends.proofs.Given.SeizeMovesState.Moves
+use Rattle.seize_ends.proofs.Given.SeizeRulePoints.Told.{Part, Plain, Flushing, Trying, Marking, Pushing, Draining, NoneLeft, NotScanned, length_word}
 use Rattle.seize_sets.proofs.Follows.Work.{Base, Plainly, Flushes, rest_tried, TryBounds, Tries, Puts, Follows, Setting}
 use Rattle.seize_sets.proofs.Follows.Kept.{OpenOnly, open_on, rest_on, Retires, plainly_retires, retires_plainly}
 

@@ -2,8 +2,8 @@
 use Rattle.std.proofs.Common.{◌≡◌, ℕ, List, refl, sym, subst}
 use Rattle.seize.specs.declared.rows.settle.Settle.{Settle}
 use Rattle.seize.specs.WaitingSets.{After}
-use Rattle.seize_ends.proofs.Given.SeizeMoves.State.Ghost.{State}
-use Rattle.seize_ends.proofs.Given.SeizeRule.Points.Told.{Part, part, Plain, Flushing, Trying, Marking, Pushing, Draining, Told, Stays, Holds, HoldsNone, Gives, Begins, Appends, Fills, Skips, Passes, Finds, Marks, GivesUp, Closes, Pushes, Misses, Sums, SumsLast, Drains, DrainsNone, Takes, TakesLast, Joins, Counts, CountsLast}
+use Rattle.seize_ends.proofs.Given.SeizeMovesState.Ghost.{State}
+use Rattle.seize_ends.proofs.Given.SeizeRulePoints.Told.{Part, part, Plain, Flushing, Trying, Marking, Pushing, Draining, Told, Stays, Holds, HoldsNone, Gives, Begins, Appends, Fills, Skips, Passes, Finds, Marks, GivesUp, Closes, Pushes, Misses, Sums, SumsLast, Drains, DrainsNone, Takes, TakesLast, Joins, Counts, CountsLast}
 use Rattle.seize_sets.proofs.Follows.Work.{Follows, Setting}
 use Rattle.seize_sets.proofs.Follows.Retired.{stays_follows, holds_follows, holds_none_follows, gives_follows, begins_follows, appends_follows, fills_follows}
 use Rattle.seize_sets.proofs.Follows.Tries.{skips_follows, passes_follows, finds_follows, marks_follows, gives_up_follows, closes_follows}

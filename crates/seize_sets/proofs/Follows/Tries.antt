@@ -3,21 +3,21 @@ use Rattle.std.specs.Prelude.{◌==◌, not}
 use Rattle.std.proofs.Common.{◌≡◌, ℕ, zero, suc, ◌+◌, ◌<◌, ◌≤◌, Bool, true, false, cond, eqb, ltb, List, [], ◌∷◌, ◌++◌, length, refl, arith, ap, eqb-true, length-append}
 use Rattle.std.proofs.lemmas.Bool.{eqb-false, ltb-true, ltb-false, lt-ltb, le-ltb}
 use Rattle.seize.specs.WaitingSets.{Batch, Sets, After, with_open, with_closed, closing, is_enough, retired_all}
-use Rattle.seize_ends.specs.Given.SeizeWaiting.Held.{same, count}
-use Rattle.seize_ends.proofs.Given.SeizeWaiting.Bound.{tried}
-use Rattle.seize_ends.proofs.Given.SeizeWaiting.Work.{rest_given}
-use Rattle.seize_ends.proofs.Given.SeizeMoves.State.Ghost.{put, Debt, Unscanned, Marked, Gone, Skipped, Owing, Loose, Counted, Open, Closing, Head, State, counts, was_put, is_marked, total, is_active}
-use Rattle.seize_ends.proofs.Given.SeizeMoves.State.Rule.{Inv, SeenIs}
-use Rattle.seize_ends.proofs.Given.SeizeMoves.State.Sums.{put_parts, total_zero}
-use Rattle.seize_ends.proofs.Given.SeizeMoves.Sets.Shown.{waits, ascending, ascending_same, waiting, Models, Alike, models_alike}
-use Rattle.seize_ends.proofs.Given.SeizeMoves.Sets.Counters.{waiting_length}
-use Rattle.seize_ends.proofs.Given.SeizeMoves.Sets.Moved.{given_up_alike, skipped_alike, marked_alike}
-use Rattle.seize_ends.proofs.Given.SeizeMoves.Sets.Scan.{NoneGone, MarksActive, skipped_marks, marked_marks, all_marked}
-use Rattle.seize_ends.proofs.Given.SeizeMoves.Sets.Tries.{closed_models}
-use Rattle.seize_ends.proofs.Given.SeizeMoves.State.Moves
-use Rattle.seize_ends.proofs.Given.SeizeRule.Points.Passed.{passed_rest}
-use Rattle.seize_ends.proofs.Given.SeizeMoves.Moves.Tries.{passed_total, passed_put}
-use Rattle.seize_ends.proofs.Given.SeizeRule.Points.Told.{Trying, Marking, NoneLeft}
+use Rattle.seize_ends.specs.Given.SeizeWaitingHeld.{same, count}
+use Rattle.seize_ends.proofs.Given.SeizeWaitingBound.{tried}
+use Rattle.seize_ends.proofs.Given.SeizeWaitingWork.{rest_given}
+use Rattle.seize_ends.proofs.Given.SeizeMovesState.Ghost.{put, Debt, Unscanned, Marked, Gone, Skipped, Owing, Loose, Counted, Open, Closing, Head, State, counts, was_put, is_marked, total, is_active}
+use Rattle.seize_ends.proofs.Given.SeizeMovesState.Rule.{Inv, SeenIs}
+use Rattle.seize_ends.proofs.Given.SeizeMovesState.Sums.{put_parts, total_zero}
+use Rattle.seize_ends.proofs.Given.SeizeMovesSets.Shown.{waits, ascending, ascending_same, waiting, Models, Alike, models_alike}
+use Rattle.seize_ends.proofs.Given.SeizeMovesSets.Counters.{waiting_length}
+use Rattle.seize_ends.proofs.Given.SeizeMovesSets.Moved.{given_up_alike, skipped_alike, marked_alike}
+use Rattle.seize_ends.proofs.Given.SeizeMovesSets.Scan.{NoneGone, MarksActive, skipped_marks, marked_marks, all_marked}
+use Rattle.seize_ends.proofs.Given.SeizeMovesSets.Tries.{closed_models}
+use Rattle.seize_ends.proofs.Given.SeizeMovesState.Moves
+use Rattle.seize_ends.proofs.Given.SeizeRulePoints.Passed.{passed_rest}
+use Rattle.seize_ends.proofs.Given.SeizeMovesMoves.Tries.{passed_total, passed_put}
+use Rattle.seize_ends.proofs.Given.SeizeRulePoints.Told.{Trying, Marking, NoneLeft}
 use Rattle.seize_sets.proofs.Follows.Work.{Base, Plainly, Tries, AllActive, Puts, Setting}
 use Rattle.seize_sets.proofs.Follows.Kept.{OpenOnly, open_on, open_kept, not_behind, retires_plainly}
 

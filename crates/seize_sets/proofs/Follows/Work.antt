@@ -3,17 +3,17 @@ use Rattle.std.specs.Prelude.{◌==◌, filter, map, not}
 use Rattle.std.proofs.Common.{◌≡◌, ℕ, ◌-◌, ◌^◌, ◌<◌, ◌≤◌, Bool, true, cond, List, [], ◌∷◌, ◌++◌, length, refl, ap, append_assoc}
 use Rattle.seize.specs.Sequence.{taken_in}
 use Rattle.seize.specs.WaitingSets.{Batch, Sets, After, with_open, with_closed, closing, is_enough, further_of_all, retired_all, flushed}
-use Rattle.seize_ends.specs.Given.SeizeWaiting.Held.{count}
-use Rattle.seize_ends.specs.Given.SeizeWaiting.Changes.{kept}
-use Rattle.seize_ends.proofs.Given.SeizeWaiting.Bound.{rounds, tried}
-use Rattle.seize_ends.proofs.Given.SeizeWaiting.Counts.{map_same, filter_same}
-use Rattle.seize_ends.proofs.Given.SeizeWaiting.Work.{rest_given}
-use Rattle.seize_ends.proofs.Given.SeizeMoves.State.Ghost.{Loose, Closing, State, counts, total, is_active, Head}
-use Rattle.seize_ends.proofs.Given.SeizeMoves.State.Rule.{Inv, Pending, open_length}
-use Rattle.seize_ends.proofs.Given.SeizeMoves.Sets.Shown.{waits, waiting, batch_shown, batches_in, Models}
-use Rattle.seize_ends.proofs.Given.SeizeMoves.Sets.Scan.{NoneGone, MarksActive}
-use Rattle.seize_ends.proofs.Given.SeizeMoves.Sets.Working.{after_these, Working, on_comes}
-use Rattle.seize_ends.proofs.Given.SeizeRule.Points.Told.{Part, Plain, Flushing, Trying, Marking, Pushing, Draining, NoneLeft}
+use Rattle.seize_ends.specs.Given.SeizeWaitingHeld.{count}
+use Rattle.seize_ends.specs.Given.SeizeWaitingChanges.{kept}
+use Rattle.seize_ends.proofs.Given.SeizeWaitingBound.{rounds, tried}
+use Rattle.seize_ends.proofs.Given.SeizeWaitingCounts.{map_same, filter_same}
+use Rattle.seize_ends.proofs.Given.SeizeWaitingWork.{rest_given}
+use Rattle.seize_ends.proofs.Given.SeizeMovesState.Ghost.{Loose, Closing, State, counts, total, is_active, Head}
+use Rattle.seize_ends.proofs.Given.SeizeMovesState.Rule.{Inv, Pending, open_length}
+use Rattle.seize_ends.proofs.Given.SeizeMovesSets.Shown.{waits, waiting, batch_shown, batches_in, Models}
+use Rattle.seize_ends.proofs.Given.SeizeMovesSets.Scan.{NoneGone, MarksActive}
+use Rattle.seize_ends.proofs.Given.SeizeMovesSets.Working.{after_these, Working, on_comes}
+use Rattle.seize_ends.proofs.Given.SeizeRulePoints.Told.{Part, Plain, Flushing, Trying, Marking, Pushing, Draining, NoneLeft}
 
 -- the entries that the row has still to count are those of the batches to come that wait for the slot, in their order
 pub record Lined (n i s : ℕ) (m : State) (order : List ℕ) (to_come : List Batch) : Type 0 where

@@ -1,9 +1,9 @@
 -- Reclaiming all, alone in a world in which every row rests: its work on slots is a list of whole calls, and reclaims what the waiting sets say.
 use Rattle.std.specs.Prelude.{Option}
 use Rattle.std.proofs.Common.{◌≡◌, ℕ, zero, suc, ◌+◌, ◌<◌, ◌≤◌, Bool, true, false, [], ◌⊎◌, inl, inr, refl, arith, subst, sym, ap, ◌∙◌}
-use Rattle.seize.specs.Given.SeizeWords.declared.at.At.TheVariants as name
-use Rattle.seize.specs.Given.SeizeWords.Mem.{Mem}
-use Rattle.seize.proofs.Given.SeizeWords.OneOwner.Operations.{stored}
+use Rattle.seize.specs.Given.SeizeWordsDeclared.at.At.TheVariants as name
+use Rattle.seize.specs.Given.SeizeWordsMem.{Mem}
+use Rattle.seize.proofs.Given.SeizeWordsOneOwner.Operations.{stored}
 use Rattle.seize.specs.declared.states.TheConstants.{HEAD, IDLE, LAST_SLOT}
 use Rattle.seize.specs.declared.progress.Progress.{Progress}
 use Rattle.seize.specs.declared.rows.enter.Unregister.{Unregister}
@@ -20,9 +20,9 @@ use Rattle.seize.specs.WaitingSets.{all_changed, at_start as sets_at_start}
 use Rattle.seize.specs.World.{World, Row, Rests, Settles as SettlesRow, Leaves, Frees, Use, Vacant, Changing, IsTaken, Register', Leave', Flush, Unregister', Steps', one_more, with_row, with_use, after_step, at_start}
 use Rattle.seize.specs.Sequence.{Calls}
 use Rattle.seize_sets.specs.Reclaims.{is_on_slots, RunsOnSlots, Reclaims, ReclaimsByCalls, ReclaimsAsTheSetsSay}
-use Rattle.seize_ends.proofs.Given.SeizeRule.Rows.Leaving.{steps_back}
-use Rattle.seize_ends.proofs.Given.SeizeRule.Rows.Others.{with_here}
-use Rattle.seize_ends.proofs.Given.SeizeRule.World.Rested.{Rested, calls_rested, start_rested, turns_rested}
+use Rattle.seize_ends.proofs.Given.SeizeRuleRows.Leaving.{steps_back}
+use Rattle.seize_ends.proofs.Given.SeizeRuleRows.Others.{with_here}
+use Rattle.seize_ends.proofs.Given.SeizeRuleWorld.Rested.{Rested, calls_rested, start_rested, turns_rested}
 use Rattle.seize_sets.proofs.Turns.All.{turns_shown, start_shown}
 use Rattle.seize_sets.proofs.Slots.Retaken.{retaken}
 use Rattle.seize_sets.proofs.Reclaims.NeverTaken.{turns_past}

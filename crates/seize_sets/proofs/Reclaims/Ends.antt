@@ -2,26 +2,26 @@
 use Rattle.std.specs.Prelude.{Option, Some, None, map}
 use Rattle.std.proofs.Common.{◌≡◌, ℕ, zero, suc, ◌+◌, ◌<◌, ◌≤◌, ◌^◌, Bool, true, false, List, [], inl, inr, refl, arith, subst, sym, ap, ◌∙◌}
 use Rattle.std.proofs.lemmas.Bool.{cases_eq}
-use Rattle.seize.specs.Given.SeizeWords.declared.at.At.TheVariants as name
-use Rattle.seize.specs.Given.SeizeWords.Mem.{word_at}
+use Rattle.seize.specs.Given.SeizeWordsDeclared.at.At.TheVariants as name
+use Rattle.seize.specs.Given.SeizeWordsMem.{word_at}
 use Rattle.seize.specs.declared.states.TheConstants.{HEAD, BATCH, LAST_SLOT}
 use Rattle.seize.specs.Law.{is_retired}
 use Rattle.seize_sets.specs.Reclaims.{FlushesAny, AllFlush, Rounds, AllGiveUp, NothingWaits, Reclaims}
 use Rattle.seize.specs.WaitingSets.{Sets, all_reclaimed}
 use Rattle.seize.specs.World.{World, Use, Vacant, IsOutside, SlotsTaken}
-use Rattle.seize_ends.specs.Given.SeizeWaiting.Held.{count}
-use Rattle.seize_ends.proofs.Given.SeizeWaiting.Counts.{none_counted}
-use Rattle.seize_ends.proofs.Given.SeizeRule.World.Bounded.{quiescent}
+use Rattle.seize_ends.specs.Given.SeizeWaitingHeld.{count}
+use Rattle.seize_ends.proofs.Given.SeizeWaitingCounts.{none_counted}
+use Rattle.seize_ends.proofs.Given.SeizeRuleWorld.Bounded.{quiescent}
 use Rattle.seize_sets.proofs.Slots.Kept.{flush_vacant, given_up_vacant}
-use Rattle.seize_ends.proofs.Given.SeizeMoves.Sets.Shown.{batch_shown}
-use Rattle.seize_ends.proofs.Given.SeizeMoves.Sets.Quiescent.{IsQuiescent, all_wait, none_shut}
+use Rattle.seize_ends.proofs.Given.SeizeMovesSets.Shown.{batch_shown}
+use Rattle.seize_ends.proofs.Given.SeizeMovesSets.Quiescent.{IsQuiescent, all_wait, none_shut}
 use Rattle.seize_sets.proofs.Reclaims.Rounds.{reclaims_model, none_waits}
 use Rattle.seize_sets.proofs.Reclaims.NeverTaken.{NonePast, none_untaken}
 use Rattle.seize_sets.proofs.Reclaims.Sets.{Comes, slots_fit, settled_come}
-use Rattle.seize_ends.proofs.Given.SeizeRule.World.Rested.{Rested}
+use Rattle.seize_ends.proofs.Given.SeizeRuleWorld.Rested.{Rested}
 use Rattle.seize_sets.proofs.Turns.Heads.{head_word, vacant_by}
 use Rattle.seize_sets.proofs.Turns.Begins.{Shown}
-use Rattle.seize_ends.proofs.Given.SeizeRule.Words.Named.{words_of, word_found}
+use Rattle.seize_ends.proofs.Given.SeizeRuleWords.Named.{words_of, word_found}
 
 -- which slots are vacant
 

@@ -2,25 +2,25 @@
 use Rattle.std.specs.Prelude.{Option, Some, None}
 use Rattle.std.proofs.Common.{◌≡◌, ℕ, suc, ◌+◌, ◌<◌, ◌≤◌, ◌^◌, Bool, List, [], ◌∷◌, length, inl, inr, refl, arith, subst, sym, ap, ◌∙◌}
 use Rattle.std.proofs.lemmas.Bool.{cases_lt}
-use Rattle.seize.specs.Given.SeizeWords.declared.at.At.TheVariants as name
-use Rattle.seize.specs.Given.SeizeWords.Mem.{word_at}
+use Rattle.seize.specs.Given.SeizeWordsDeclared.at.At.TheVariants as name
+use Rattle.seize.specs.Given.SeizeWordsMem.{word_at}
 use Rattle.seize.specs.declared.states.TheConstants.{HEAD, LAST_SLOT}
 use Rattle.seize.specs.Law.{is_open}
 use Rattle.seize_sets.specs.Reclaims.{Reclaims}
 use Rattle.seize.specs.Sequence.{Turn, Whole, Between, Calls, TakesTurns, entered_as, entered_at, new_slot, changes, ended_by}
 use Rattle.seize.specs.WaitingSets.{Change, Sets, all_changed, all_left, left, counted, flushed, retired, size as set_size}
 use Rattle.seize.specs.World.{World, Row, Use, Vacant, Outside, Inside, Changing, IsTaken, Request, Register', Enter', Leave', LeaveOwned, Refresh, Unregister', Retire, Flush, Defer', SlotsTaken, Event, Begin, Step, Makes, Drops, Links, Parts, Unlinks, Rewrites, Operates, LeavesOver, Relinks, Clears, Chooses, Ends}
-use Rattle.seize_ends.proofs.Given.SeizeWaiting.Flushes.{retired_all_frame, flushed_frame, counted_frame, left_others, all_left_others}
-use Rattle.seize_ends.proofs.Given.SeizeMoves.State.Ghost.{Head, Never, emptied}
+use Rattle.seize_ends.proofs.Given.SeizeWaitingFlushes.{retired_all_frame, flushed_frame, counted_frame, left_others, all_left_others}
+use Rattle.seize_ends.proofs.Given.SeizeMovesState.Ghost.{Head, Never, emptied}
 use Rattle.seize_sets.proofs.Turns.Heads.{zero_never}
-use Rattle.seize_ends.proofs.Given.SeizeRule.World.Rested.{Rested, calls_rested, users_rested}
+use Rattle.seize_ends.proofs.Given.SeizeRuleWorld.Rested.{Rested, calls_rested, users_rested}
 use Rattle.seize_sets.proofs.Reclaims.Sets.{slots_fit, settled_come, active_taken}
-use Rattle.seize_ends.proofs.Given.SeizeRule.Rows.Short.{tries_on}
-use Rattle.seize_ends.proofs.Given.SeizeRule.Rows.Teams.{UseFits, is_taken}
+use Rattle.seize_ends.proofs.Given.SeizeRuleRows.Short.{tries_on}
+use Rattle.seize_ends.proofs.Given.SeizeRuleRows.Teams.{UseFits, is_taken}
 use Rattle.seize_sets.proofs.Turns.All.{changed_then}
 use Rattle.seize_sets.proofs.Turns.Begins.{Shown}
-use Rattle.seize_ends.proofs.Given.SeizeRule.Words.View.{view}
-use Rattle.seize_ends.proofs.Given.SeizeRule.Words.Named.{words_of, word_found}
+use Rattle.seize_ends.proofs.Given.SeizeRuleWords.View.{view}
+use Rattle.seize_ends.proofs.Given.SeizeRuleWords.Named.{words_of, word_found}
 
 no_length : (xs : List ℕ) → length xs ≡ 0 → xs ≡ []
 no_length [] e = refl

@@ -2,17 +2,17 @@
 use Rattle.std.specs.Prelude.{Option, Some, max, ◌==◌}
 use Rattle.std.proofs.Common.{◌≡◌, ℕ, zero, suc, ◌+◌, ◌<◌, ◌≤◌, ◌^◌, Bool, true, false, cond, eqb, ltb, List, [], ◌∷◌, ◌++◌, length, refl, ap, arith, subst, sym, ◌∙◌, eqb-true, append_assoc}
 use Rattle.std.proofs.lemmas.Bool.{eqb-false, ltb-true, ltb-false}
-use Rattle.seize.specs.Given.SeizeWords.declared.at.At.TheVariants as name
-use Rattle.seize.specs.Given.SeizeWords.Mem.{word_at}
+use Rattle.seize.specs.Given.SeizeWordsDeclared.at.At.TheVariants as name
+use Rattle.seize.specs.Given.SeizeWordsMem.{word_at}
 use Rattle.seize.specs.declared.states.TheConstants.{BATCH, LAST_SLOT}
 use Rattle.seize.specs.WaitingSets.{Sets, After, quietly, then_also, opened, size, all_left, emptied, emptied_all, all_reclaimed}
 use Rattle.seize.specs.World.{World}
-use Rattle.seize_ends.specs.Given.SeizeWaiting.Held.{Once}
-use Rattle.seize_ends.proofs.Given.SeizeWaiting.Flushes.{len_below, opened_len, len_past, much, size_much, flushed_falls, emptied_active, emptied_slots, emptied_others, all_left_active, all_left_others}
+use Rattle.seize_ends.specs.Given.SeizeWaitingHeld.{Once}
+use Rattle.seize_ends.proofs.Given.SeizeWaitingFlushes.{len_below, opened_len, len_past, much, size_much, flushed_falls, emptied_active, emptied_slots, emptied_others, all_left_active, all_left_others}
 use Rattle.seize_sets.specs.Reclaims.{AllFlush, Rounds, Reclaims}
-use Rattle.seize_ends.proofs.Given.SeizeMoves.Sets.Counters.{once_shown}
+use Rattle.seize_ends.proofs.Given.SeizeMovesSets.Counters.{once_shown}
 use Rattle.seize_sets.proofs.Turns.Begins.{Shown, rest}
-use Rattle.seize_ends.proofs.Given.SeizeRule.Words.Named.{word_found}
+use Rattle.seize_ends.proofs.Given.SeizeRuleWords.Named.{word_found}
 use Rattle.seize_sets.proofs.Reclaims.Sets.{Comes, slots_fit, active_taken, settled_come, reclaims_come, then_quiet, flush_quiet, emptied_times, flush_all, flush_rounds, open_none}
 
 abbrev after_as : Sets → List ℕ → After

@@ -1,8 +1,8 @@
 -- The rows that run within reclaiming all: from any of their points on they take the steps of the row in the world, and then it goes on.
 use Rattle.std.specs.Prelude.{Option}
 use Rattle.std.proofs.Common.{◌≡◌, ℕ, zero, suc, ◌<◌, Bool, true, refl, arith, subst, sym}
-use Rattle.seize.specs.Given.SeizeWords.Mem.{Mem, Took, value_at}
-use Rattle.seize.specs.Given.SeizeWords.Plan.{Steps}
+use Rattle.seize.specs.Given.SeizeWordsMem.{Mem, Took, value_at}
+use Rattle.seize.specs.Given.SeizeWordsPlan.{Steps}
 use Rattle.seize.specs.declared.rows.settle.Settle.{Settle}
 use Rattle.seize.specs.declared.rows.settle.Settled.{Settled}
 use Rattle.seize.specs.declared.rows.settle.Settled.TheVariants.{Goes, Waits, Gave, Done}
@@ -15,8 +15,8 @@ use Rattle.seize.specs.ReclaimAll.{standing, next_head, next_batch, within}
 use Rattle.seize.specs.World.{World, Row, Rests, Settles, Leaves, Steps', leaves_on, settles_on}
 use Rattle.seize.specs.Sequence.{RunsOn}
 use Rattle.seize_sets.specs.Reclaims.{RunsOnSlots}
-use Rattle.seize_ends.proofs.Given.SeizeRule.Rows.Leaving.{steps_back}
-use Rattle.seize_ends.proofs.Given.SeizeRule.Rows.Others.{with_here}
+use Rattle.seize_ends.proofs.Given.SeizeRuleRows.Leaving.{steps_back}
+use Rattle.seize_ends.proofs.Given.SeizeRuleRows.Others.{with_here}
 
 module _ {T : Type 0} (defers : T → Option ℕ) (left_over : T → Bool) (i : ℕ) (last_memory : Mem T) where
   -- the row runs to its end, and fewer steps are left, in which the machine goes on

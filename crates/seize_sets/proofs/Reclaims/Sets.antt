@@ -3,27 +3,27 @@ use Rattle.std.specs.Prelude.{Option, Some, None, if◌then◌else◌}
 use Rattle.std.proofs.Common.{◌≡◌, ℕ, zero, suc, ◌+◌, ◌<◌, ◌≤◌, ◌^◌, Bool, true, false, cond, eqb, List, [], ◌∷◌, ◌++◌, length, inl, inr, refl, arith, subst, sym, ap, ◌∙◌, eqb-true, append_assoc}
 use Rattle.std.proofs.lemmas.Bool.{cases_lt}
 use Rattle.std.proofs.lemmas.List.{append-nil}
-use Rattle.seize.specs.Given.SeizeWords.declared.at.At.TheVariants as name
-use Rattle.seize.specs.Given.SeizeWords.Mem.{word_at}
+use Rattle.seize.specs.Given.SeizeWordsDeclared.at.At.TheVariants as name
+use Rattle.seize.specs.Given.SeizeWordsMem.{word_at}
 use Rattle.seize.specs.declared.states.TheConstants.{HEAD, BATCH, LAST_SLOT}
 use Rattle.seize.specs.Settle.{flushing}
 use Rattle.seize.specs.Sequence.{Turn, Whole, Calls, TakesTurns, taken_in, changes}
 use Rattle.seize.specs.WaitingSets.{Change, Leaves as LeavesSet, Flushes, Sets, After, quietly, then_also, changed, all_changed, left, flushed, all_left, emptied}
 use Rattle.seize.specs.World.{World, Use, Vacant, Outside, Inside, Changing, Request, Register', Leave', Flush, Unregister', SlotsTaken}
-use Rattle.seize_ends.specs.Given.SeizeWaiting.Held.{count}
-use Rattle.seize_ends.proofs.Given.SeizeWaiting.Counts.{count-append}
+use Rattle.seize_ends.specs.Given.SeizeWaitingHeld.{count}
+use Rattle.seize_ends.proofs.Given.SeizeWaitingCounts.{count-append}
 use Rattle.seize_sets.specs.Reclaims.{Settles, AllSettle, FlushesAny, AllFlush, Rounds, AllGiveUp, Reclaims}
-use Rattle.seize_ends.proofs.Given.SeizeMoves.State.Ghost.{Head, Never, Free, Idle, Active, emptied as bare_head, is_active}
-use Rattle.seize_ends.proofs.Given.SeizeRule.Words.Named.{words_of, word_found, link}
-use Rattle.seize_ends.proofs.Given.SeizeRule.Words.View.{view}
-use Rattle.seize_ends.proofs.Given.SeizeRule.Words.Chains.{last_of}
-use Rattle.seize_ends.proofs.Given.SeizeMoves.Sets.Shown.{ascending, ascending_same}
-use Rattle.seize_ends.proofs.Given.SeizeRule.Rows.Teams.{UseFits}
-use Rattle.seize_ends.proofs.Given.SeizeRule.Points.Retire.{none_open}
+use Rattle.seize_ends.proofs.Given.SeizeMovesState.Ghost.{Head, Never, Free, Idle, Active, emptied as bare_head, is_active}
+use Rattle.seize_ends.proofs.Given.SeizeRuleWords.Named.{words_of, word_found, link}
+use Rattle.seize_ends.proofs.Given.SeizeRuleWords.View.{view}
+use Rattle.seize_ends.proofs.Given.SeizeRuleWords.Chains.{last_of}
+use Rattle.seize_ends.proofs.Given.SeizeMovesSets.Shown.{ascending, ascending_same}
+use Rattle.seize_ends.proofs.Given.SeizeRuleRows.Teams.{UseFits}
+use Rattle.seize_ends.proofs.Given.SeizeRulePoints.Retire.{none_open}
 use Rattle.seize_sets.proofs.Slots.Vacant.{new_slot_vacant}
 use Rattle.seize_sets.proofs.Slots.Registers.{use_taken}
 use Rattle.seize_sets.proofs.Slots.Least.{calls_registered, refused_changes, taken_changes}
-use Rattle.seize_ends.proofs.Given.SeizeRule.World.Rested.{Rested}
+use Rattle.seize_ends.proofs.Given.SeizeRuleWorld.Rested.{Rested}
 use Rattle.seize_sets.proofs.Turns.Heads.{head_word, vacant_by, no_team, none_past as none_taken}
 use Rattle.seize_sets.proofs.Slots.Kept.{leave_idles}
 use Rattle.seize_sets.proofs.Turns.Begins.{Shown}

@@ -2,11 +2,11 @@
 use Rattle.std.specs.Prelude.{Option, Some, IsSome, nat_lt, ◌==◌, if◌then◌else◌}
 use Rattle.std.proofs.Common.{◌≡◌, ℕ, zero, suc, ◌+◌, ◌-◌, ◌<◌, ◌≤◌, Bool, true, false, inl, inr, refl, arith, subst, sym, ap, ◌∙◌, eqb-true}
 use Rattle.std.proofs.lemmas.Bool.{cases_eq, eqb-false}
-use Rattle.seize.specs.Given.SeizeWords.declared.at.At.TheVariants as name
-use Rattle.seize.specs.Given.SeizeWords.Mem.{Mem, Took, value_at, word_at, with_word}
-use Rattle.seize.specs.Given.SeizeWords.Plan.{Ends, Steps}
-use Rattle.seize.proofs.Given.SeizeWords.OneOwner.Operations.{loaded}
-use Rattle.seize.proofs.Given.SeizeWords.OneOwner.AfterWrites.{word_at-with_word}
+use Rattle.seize.specs.Given.SeizeWordsDeclared.at.At.TheVariants as name
+use Rattle.seize.specs.Given.SeizeWordsMem.{Mem, Took, value_at, word_at, with_word}
+use Rattle.seize.specs.Given.SeizeWordsPlan.{Ends, Steps}
+use Rattle.seize.proofs.Given.SeizeWordsOneOwner.Operations.{loaded}
+use Rattle.seize.proofs.Given.SeizeWordsOneOwner.AfterWrites.{word_at-with_word}
 use Rattle.seize.specs.declared.states.TheConstants.{HEAD, BATCH, NEVER, FREE, IDLE, ACTIVE, LAST_SLOT}
 use Rattle.seize.specs.declared.rows.settle.Settled.{Settled}
 use Rattle.seize.specs.declared.rows.settle.Settled.TheVariants.{Goes}
@@ -19,8 +19,8 @@ use Rattle.seize.specs.ReclaimAll.{reclaiming_all, standing, first_root, first_b
 use Rattle.seize.specs.World.{World, Use, Vacant, Outside, Inside, Changing, Register', Leave', Flush, Unregister', SlotsTaken}
 use Rattle.seize.specs.Sequence.{Calls}
 use Rattle.seize_sets.specs.Reclaims.{Settles, AllSettle, FlushesAny, AllFlush, Rounds, AllGiveUp, Reclaims}
-use Rattle.seize_ends.proofs.Given.SeizeRule.Words.Named.{same_at-refl}
-use Rattle.seize_ends.proofs.Given.SeizeRule.World.Rested.{Rested, calls_rested}
+use Rattle.seize_ends.proofs.Given.SeizeRuleWords.Named.{same_at-refl}
+use Rattle.seize_ends.proofs.Given.SeizeRuleWorld.Rested.{Rested, calls_rested}
 use Rattle.seize_sets.proofs.Turns.Heads.{word_says, vacant_by, outside_by, inside_by, never_behind, none_past, taken_so}
 use Rattle.seize_sets.proofs.Slots.Retaken.{retaken_idle}
 use Rattle.seize_sets.proofs.Reclaims.Ends.{flush_all_vacant, rounds_vacant, untaken_vacant}

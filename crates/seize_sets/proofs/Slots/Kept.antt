@@ -1,10 +1,10 @@
 -- What a whole call that leaves a slot, flushes, or gives a slot up makes of the uses of slots.
 use Rattle.std.specs.Prelude.{Option, if◌then◌else◌, nat_lt, ◌==◌}
 use Rattle.std.proofs.Common.{◌≡◌, ℕ, zero, suc, ◌+◌, Bool, true, false, eqb, [], refl, subst, sym, ap, ◌∙◌, eqb-true}
-use Rattle.seize.specs.Given.SeizeWords.declared.at.At.TheVariants as name
-use Rattle.seize.specs.Given.SeizeWords.Mem.{Mem, Took, value_at, with_word}
-use Rattle.seize.specs.Given.SeizeWords.Plan.{Steps, Ends, Now}
-use Rattle.seize.proofs.Given.SeizeWords.OneOwner.Operations.{swapped, stored}
+use Rattle.seize.specs.Given.SeizeWordsDeclared.at.At.TheVariants as name
+use Rattle.seize.specs.Given.SeizeWordsMem.{Mem, Took, value_at, with_word}
+use Rattle.seize.specs.Given.SeizeWordsPlan.{Steps, Ends, Now}
+use Rattle.seize.proofs.Given.SeizeWordsOneOwner.Operations.{swapped, stored}
 use Rattle.seize.specs.declared.states.TheConstants.{HEAD, FREE, IDLE, ACTIVE, LAST_SLOT}
 use Rattle.seize.specs.declared.rows.settle.Settle.{Settle}
 use Rattle.seize.specs.declared.rows.settle.Settled.{Settled}
@@ -16,9 +16,9 @@ use Rattle.seize.specs.Settle.{settle_plan, counting_down, flushing}
 use Rattle.seize.specs.Leave.{standing, counted_down, settled, list_taken, plan_at, leave_plan, leaving as leaving_slot}
 use Rattle.seize.specs.World.{World, Row, Rests, Settles, Leaves, Frees, Use, Vacant, Outside, Inside, Changing, Leave', Flush, Unregister', Steps', one_more, one_less, with_at, with_use, with_row, after_step, left_as, leaves_on, settles_on}
 use Rattle.seize.specs.Sequence.{RunsOn, Calls}
-use Rattle.seize_ends.proofs.Given.SeizeRule.Rows.Leaving.{steps_back}
-use Rattle.seize_ends.proofs.Given.SeizeRule.Rows.Others.{with_here, with_other}
-use Rattle.seize_ends.proofs.Given.SeizeRule.World.Rested.{Rested}
+use Rattle.seize_ends.proofs.Given.SeizeRuleRows.Leaving.{steps_back}
+use Rattle.seize_ends.proofs.Given.SeizeRuleRows.Others.{with_here, with_other}
+use Rattle.seize_ends.proofs.Given.SeizeRuleWorld.Rested.{Rested}
 use Rattle.seize_sets.proofs.Turns.Heads.{WordOf, head_word}
 
 abbrev pub IsOut : Use → Type 0

@@ -10,8 +10,8 @@ use Rattle.seize.specs.WaitingSets.{Change, Enters}
 use Rattle.seize.specs.World.{World, Row, Rests, Registers, Use, Vacant, Request, Register', Enter', Leave', LeaveOwned, Refresh, Unregister', Retire, Flush, Defer', Begins, Steps', with_at, at_start}
 use Rattle.seize.specs.Sequence.{new_slot, entered_as, entered_at, changes, RunsOn, Calls, NewSlotsAreLeast}
 use Rattle.seize_sets.proofs.Slots.Vacant.{new_slot_vacant}
-use Rattle.seize_ends.proofs.Given.SeizeRule.Rows.Others.{with_here, with_other}
-use Rattle.seize_ends.proofs.Given.SeizeRule.World.Rested.{Lone, Rested, begins_lone, steps_lone, start_rested, rests_on, turns_rested}
+use Rattle.seize_ends.proofs.Given.SeizeRuleRows.Others.{with_here, with_other}
+use Rattle.seize_ends.proofs.Given.SeizeRuleWorld.Rested.{Lone, Rested, begins_lone, steps_lone, start_rested, rests_on, turns_rested}
 use Rattle.seize_sets.proofs.Slots.Registers.{use_taken, RegistersOn, Comes, GoesOn, IsRefused, TakesFirst, registers_alone}
 use Rattle.seize_sets.proofs.Slots.Others.{DoesNotRegister, begins_still, runs_still}
 

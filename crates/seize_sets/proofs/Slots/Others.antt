@@ -1,10 +1,10 @@
 -- A row that doesn't register leaves a vacant slot vacant.
 use Rattle.std.specs.Prelude.{Option, if◌then◌else◌, nat_lt}
 use Rattle.std.proofs.Common.{◌≡◌, ℕ, zero, suc, Bool, true, false, eqb, refl, subst, sym, ap, ◌∙◌, eqb-true}
-use Rattle.seize.specs.Given.SeizeWords.declared.at.At.TheVariants as name
-use Rattle.seize.specs.Given.SeizeWords.Mem.{Mem, Took, value_at, with_word}
-use Rattle.seize.specs.Given.SeizeWords.Plan.{Steps, Ends, Now}
-use Rattle.seize.proofs.Given.SeizeWords.OneOwner.Operations.{swapped, stored}
+use Rattle.seize.specs.Given.SeizeWordsDeclared.at.At.TheVariants as name
+use Rattle.seize.specs.Given.SeizeWordsMem.{Mem, Took, value_at, with_word}
+use Rattle.seize.specs.Given.SeizeWordsPlan.{Steps, Ends, Now}
+use Rattle.seize.proofs.Given.SeizeWordsOneOwner.Operations.{swapped, stored}
 use Rattle.seize.specs.declared.states.TheConstants.{HEAD, FREE, ACTIVE}
 use Rattle.seize.specs.declared.progress.Progress.{Progress}
 use Rattle.seize.specs.declared.progress.Progress.TheVariants as progress
@@ -19,8 +19,8 @@ use Rattle.seize.specs.Settle.{settle_plan, counting_down}
 use Rattle.seize.specs.Leave.{standing, counted_down, settled, list_taken, plan_at, leave_plan}
 use Rattle.seize.specs.World.{World, Row, Rests, Registers, Enters, Settles, Leaves, Defers, Frees, Use, Vacant, Outside, Inside, Changing, Request, Register', Enter', Leave', LeaveOwned, Refresh, Unregister', Retire, Flush, Defer', Begins, Steps', IsTaken, IsInside, one_more, one_less, with_at, settles_on, left_row, left_as, defers_on}
 use Rattle.seize.specs.Sequence.{RunsOn}
-use Rattle.seize_ends.proofs.Given.SeizeRule.Rows.Leaving.{steps_back}
-use Rattle.seize_ends.proofs.Given.SeizeRule.Rows.Others.{with_here, with_other}
+use Rattle.seize_ends.proofs.Given.SeizeRuleRows.Leaving.{steps_back}
+use Rattle.seize_ends.proofs.Given.SeizeRuleRows.Others.{with_here, with_other}
 
 -- a leaving row keeps its slot
 

@@ -3,13 +3,13 @@ use Rattle.std.specs.Prelude.{Option, Some, None, slice_get, if◌then◌else◌
 use Rattle.std.proofs.Common.{◌≡◌, ℕ, ◌+◌, ◌<◌, ◌≤◌, Bool, true, false, cond, eqb, eqb-true, List, [], ◌∷◌, length, ◌⊎◌, inl, inr, refl, arith, sym, subst, ap, ◌∙◌}
 use Rattle.std.proofs.lemmas.Bool.{cases_eq}
 use Rattle.std.proofs.Math.ListN.{get_or-eq_default}
-use Rattle.seize.specs.Given.SeizeWords.declared.at.At.TheVariants as at
-use Rattle.seize.specs.Given.SeizeWords.declared.fault.Fault.{Fault}
-use Rattle.seize.specs.Given.SeizeWords.declared.fault.Fault.TheVariants.{Memory, SlotsUsedUp}
-use Rattle.seize.specs.Given.SeizeWords.Mem.{Mem, value_at, word_at, with_room, Took}
-use Rattle.seize.specs.Given.SeizeWords.Place.{capacity}
-use Rattle.seize.specs.Given.SeizeWords.Plan.{Steps, Now}
-use Rattle.seize.proofs.Given.SeizeWords.OneOwner.Operations.{loaded, stored, exchanged, roomed}
+use Rattle.seize.specs.Given.SeizeWordsDeclared.at.At.TheVariants as at
+use Rattle.seize.specs.Given.SeizeWordsDeclared.fault.Fault.{Fault}
+use Rattle.seize.specs.Given.SeizeWordsDeclared.fault.Fault.TheVariants.{Memory, SlotsUsedUp}
+use Rattle.seize.specs.Given.SeizeWordsMem.{Mem, value_at, word_at, with_room, Took}
+use Rattle.seize.specs.Given.SeizeWordsPlace.{capacity}
+use Rattle.seize.specs.Given.SeizeWordsPlan.{Steps, Now}
+use Rattle.seize.proofs.Given.SeizeWordsOneOwner.Operations.{loaded, stored, exchanged, roomed}
 use Rattle.seize.specs.declared.states.TheConstants.{HEAD, NEVER, IDLE, ACTIVE, LAST_SLOT}
 use Rattle.seize.specs.declared.progress.Progress.{Progress}
 use Rattle.seize.specs.declared.progress.Progress.TheVariants.{Goes, Done, Refused}
@@ -21,17 +21,17 @@ use Rattle.seize.specs.Room.{NeedsRoom}
 use Rattle.seize.specs.Law.{is_open}
 use Rattle.seize.specs.World.{World, Row, Rests, Registers, Use, Vacant, Outside, Inside, Changing, with_at, registered_use, registered_as, registers_on}
 use Rattle.seize.specs.Sequence.{new_slot}
-use Rattle.seize_ends.specs.Given.SeizeWaiting.Held.{count, same}
-use Rattle.seize_ends.proofs.Given.SeizeMoves.State.Ghost.{Head, Never, Free, Idle, Active, is_never, emptied}
-use Rattle.seize_ends.proofs.Given.SeizeRule.Words.Named.{words_of, word_found}
-use Rattle.seize_ends.proofs.Given.SeizeRule.Words.View.{View, view}
-use Rattle.seize_ends.proofs.Given.SeizeRule.Words.Shows.{HeadIs}
-use Rattle.seize_ends.proofs.Given.SeizeRule.Rows.Known.{works_on, registering_on, FitsRegister, FitsRow}
-use Rattle.seize_ends.proofs.Given.SeizeRule.Words.Room.{begun_some, needed_is, needed_not}
-use Rattle.seize_ends.proofs.Given.SeizeRule.Rows.Teams.{UseFits, VacantHead}
-use Rattle.seize_ends.proofs.Given.SeizeRule.World.Good.{Good}
-use Rattle.seize_ends.proofs.Given.SeizeRule.Rows.Register.{room_view, taken_use}
-use Rattle.seize_ends.proofs.Given.SeizeRule.Rows.Others.{OthersRest, with_here}
+use Rattle.seize_ends.specs.Given.SeizeWaitingHeld.{count, same}
+use Rattle.seize_ends.proofs.Given.SeizeMovesState.Ghost.{Head, Never, Free, Idle, Active, is_never, emptied}
+use Rattle.seize_ends.proofs.Given.SeizeRuleWords.Named.{words_of, word_found}
+use Rattle.seize_ends.proofs.Given.SeizeRuleWords.View.{View, view}
+use Rattle.seize_ends.proofs.Given.SeizeRuleWords.Shows.{HeadIs}
+use Rattle.seize_ends.proofs.Given.SeizeRuleRows.Known.{works_on, registering_on, FitsRegister, FitsRow}
+use Rattle.seize_ends.proofs.Given.SeizeRuleWords.Room.{begun_some, needed_is, needed_not}
+use Rattle.seize_ends.proofs.Given.SeizeRuleRows.Teams.{UseFits, VacantHead}
+use Rattle.seize_ends.proofs.Given.SeizeRuleWorld.Good.{Good}
+use Rattle.seize_ends.proofs.Given.SeizeRuleRows.Register.{room_view, taken_use}
+use Rattle.seize_ends.proofs.Given.SeizeRuleRows.Others.{OthersRest, with_here}
 use Rattle.seize_sets.proofs.Slots.Vacant.{NoneVacant, none_more, new_slot_is, new_slot_none}
 
 -- how a slot is used that a row has taken

@@ -1,13 +1,13 @@
 -- A slot that was given up is taken again: the store that does it is all that a whole registering call writes, which takes just this slot.
 use Rattle.std.specs.Prelude.{Option, Some, None, nat_lt, if◌then◌else◌, Ok}
 use Rattle.std.proofs.Common.{◌≡◌, ◌≢◌, ℕ, zero, suc, ◌+◌, ◌<◌, Bool, true, false, eqb, List, [], ◌++◌, length, inl, inr, refl, arith, subst, sym, ap, ◌∙◌}
-use Rattle.seize.specs.Given.SeizeWords.declared.at.At.TheVariants as name
-use Rattle.seize.specs.Given.SeizeWords.declared.fault.Fault.TheVariants.{SlotsUsedUp}
-use Rattle.seize.specs.Given.SeizeWords.Op.{Found, Exchanged, Roomed}
-use Rattle.seize.specs.Given.SeizeWords.Mem.{Mem, Took, value_at, word_at, with_word, with_room}
-use Rattle.seize.specs.Given.SeizeWords.Place.{capacity}
-use Rattle.seize.specs.Given.SeizeWords.Plan.{Steps}
-use Rattle.seize.proofs.Given.SeizeWords.Places.Words.{with_bucket_there}
+use Rattle.seize.specs.Given.SeizeWordsDeclared.at.At.TheVariants as name
+use Rattle.seize.specs.Given.SeizeWordsDeclared.fault.Fault.TheVariants.{SlotsUsedUp}
+use Rattle.seize.specs.Given.SeizeWordsOp.{Found, Exchanged, Roomed}
+use Rattle.seize.specs.Given.SeizeWordsMem.{Mem, Took, value_at, word_at, with_word, with_room}
+use Rattle.seize.specs.Given.SeizeWordsPlace.{capacity}
+use Rattle.seize.specs.Given.SeizeWordsPlan.{Steps}
+use Rattle.seize.proofs.Given.SeizeWordsPlaces.Words.{with_bucket_there}
 use Rattle.seize.specs.declared.states.TheConstants.{HEAD, FREE, IDLE, LAST_SLOT}
 use Rattle.seize.specs.declared.progress.Progress.{Progress}
 use Rattle.seize.specs.declared.progress.Progress.TheVariants.{Goes}
@@ -18,10 +18,10 @@ use Rattle.seize.specs.Register.{going, refused, registered, further, taking, bu
 use Rattle.seize.specs.Law.{Effect}
 use Rattle.seize.specs.World.{World, Row, Rests, Registers, Use, Outside, Register', Steps', with_row, registers_on, register_effects, handed_by}
 use Rattle.seize.specs.Sequence.{RunsOn, Calls}
-use Rattle.seize_ends.proofs.Given.SeizeRule.Words.Named.{words_of, word_found}
-use Rattle.seize_ends.proofs.Given.SeizeRule.Words.Room.{begun_some, needed_is, needed_not}
-use Rattle.seize_ends.proofs.Given.SeizeRule.Rows.Others.{with_here}
-use Rattle.seize_ends.proofs.Given.SeizeRule.World.Rested.{Rested}
+use Rattle.seize_ends.proofs.Given.SeizeRuleWords.Named.{words_of, word_found}
+use Rattle.seize_ends.proofs.Given.SeizeRuleWords.Room.{begun_some, needed_is, needed_not}
+use Rattle.seize_ends.proofs.Given.SeizeRuleRows.Others.{with_here}
+use Rattle.seize_ends.proofs.Given.SeizeRuleWorld.Rested.{Rested}
 use Rattle.seize_sets.proofs.Slots.Registers.{use_taken}
 use Rattle.seize_sets.proofs.Slots.Least.{calls_registered}
 use Rattle.seize_sets.proofs.Turns.Heads.{idle_word, has_word, has_words}

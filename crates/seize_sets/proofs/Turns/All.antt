@@ -7,21 +7,21 @@ use Rattle.seize.specs.declared.rows.register.Registering.TheVariants as registe
 use Rattle.seize.specs.Sequence.{Turn, Whole, Between, IsBetween, RunsOn, Calls, TakesTurns, taken_in, entered_as, entered_at, changes, RowsFollowTheSets, ended_by}
 use Rattle.seize.specs.WaitingSets.{Change, Enters as EntersSet, Leaves as LeavesSet, Refreshes, Retires, Flushes, Defers as DefersSet, Sets, After, changed, all_changed, at_start as sets_at_start, ended}
 use Rattle.seize.specs.World.{World, Row, Rests, Registers, Use, Vacant, Outside, Inside, Request, Register', Enter', Leave', LeaveOwned, Refresh, Unregister', Retire, Flush, Defer', Event, Step, Happens, with_at, at_start, LeavesOver, Begin, Makes, Drops, Links, Parts, Unlinks, Rewrites, Operates, Relinks, Clears, Chooses, Ends}
-use Rattle.seize_ends.proofs.Given.SeizeMoves.State.Ghost.{State}
-use Rattle.seize_ends.proofs.Given.SeizeMoves.Sets.Shown.{Models, models_start}
-use Rattle.seize_ends.proofs.Given.SeizeRule.Rows.SizesKept.{happens_sized}
-use Rattle.seize_ends.proofs.Given.SeizeRule.World.Start.{start_good, start_state}
-use Rattle.seize_ends.proofs.Given.SeizeRule.World.Kept.{steps_next, users_good, IsStill}
-use Rattle.seize_ends.proofs.Given.SeizeRule.Rows.Others.{steps_others, users_rows, with_here}
-use Rattle.seize_ends.proofs.Given.SeizeRule.World.Rested.{Lone, Rested, resting_sized, lone_rested}
+use Rattle.seize_ends.proofs.Given.SeizeMovesState.Ghost.{State}
+use Rattle.seize_ends.proofs.Given.SeizeMovesSets.Shown.{Models, models_start}
+use Rattle.seize_ends.proofs.Given.SeizeRuleRows.SizesKept.{happens_sized}
+use Rattle.seize_ends.proofs.Given.SeizeRuleWorld.Start.{start_good, start_state}
+use Rattle.seize_ends.proofs.Given.SeizeRuleWorld.Kept.{steps_next, users_good, IsStill}
+use Rattle.seize_ends.proofs.Given.SeizeRuleRows.Others.{steps_others, users_rows, with_here}
+use Rattle.seize_ends.proofs.Given.SeizeRuleWorld.Rested.{Lone, Rested, resting_sized, lone_rested}
 use Rattle.seize_sets.proofs.Slots.Least.{least_taken, refused_changes}
-use Rattle.seize_ends.proofs.Given.SeizeMoves.Sets.Unmoved.{unmoved_models}
-use Rattle.seize_ends.proofs.Given.SeizeRule.Rows.Told.{RowTold}
+use Rattle.seize_ends.proofs.Given.SeizeMovesSets.Unmoved.{unmoved_models}
+use Rattle.seize_ends.proofs.Given.SeizeRuleRows.Told.{RowTold}
 use Rattle.seize_sets.proofs.Turns.Middle.{Ended, EndedAs, Mid, step_mid}
 use Rattle.seize_sets.proofs.Turns.Begins.{NoNewSlot, target_of, Shown, Started, starts, as_before, begins_mid}
 use Rattle.seize_sets.proofs.Turns.Register.{MidRegister, Registered, NoneTaken, OneTaken, IsOutside, IsInside, step_registers}
-use Rattle.seize_ends.proofs.Given.SeizeRule.World.Events.{leaves_over_good}
-use Rattle.seize_ends.proofs.Given.SeizeMoves.Sets.Moved.{left_over_models}
+use Rattle.seize_ends.proofs.Given.SeizeRuleWorld.Events.{leaves_over_good}
+use Rattle.seize_ends.proofs.Given.SeizeMovesSets.Moved.{left_over_models}
 
 module _ {T : Type 0} (defers : T → Option ℕ) (n size : ℕ) (last : n ≡ LAST_SLOT + 1) (word : size < 2 ^ 64) where
   module _ (i : ℕ) where

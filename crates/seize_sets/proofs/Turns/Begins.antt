@@ -6,16 +6,16 @@ use Rattle.seize.specs.Sequence.{taken_in}
 use Rattle.seize.specs.Settle.{retiring, flushing}
 use Rattle.seize.specs.WaitingSets.{Sets, After, Enters as EntersSet, Leaves as LeavesSet, Refreshes, Retires, Flushes, Defers as DefersSet, quietly, changed}
 use Rattle.seize.specs.World.{World, Row, Request, Register', Enter', Leave', LeaveOwned, Refresh, Unregister', Retire, Flush, Defer', Settles, Begins, Begin, with_at}
-use Rattle.seize_ends.proofs.Given.SeizeMoves.State.Ghost.{State}
-use Rattle.seize_ends.proofs.Given.SeizeRule.Words.View.{view}
-use Rattle.seize_ends.proofs.Given.SeizeRule.Rows.Known.{FitsRow}
-use Rattle.seize_ends.proofs.Given.SeizeMoves.Sets.Shown.{Models}
-use Rattle.seize_ends.proofs.Given.SeizeRule.Rows.SizesKept.{happens_sized}
-use Rattle.seize_ends.proofs.Given.SeizeRule.Rows.Others.{begins_others, with_here}
-use Rattle.seize_ends.proofs.Given.SeizeRule.World.Rested.{Lone, Rested, resting_sized}
-use Rattle.seize_ends.proofs.Given.SeizeMoves.Sets.Unmoved.{Unmoved}
-use Rattle.seize_ends.proofs.Given.SeizeRule.Rows.Told.{BeginTold}
-use Rattle.seize_ends.proofs.Given.SeizeRule.World.Begins.{begins_next}
+use Rattle.seize_ends.proofs.Given.SeizeMovesState.Ghost.{State}
+use Rattle.seize_ends.proofs.Given.SeizeRuleWords.View.{view}
+use Rattle.seize_ends.proofs.Given.SeizeRuleRows.Known.{FitsRow}
+use Rattle.seize_ends.proofs.Given.SeizeMovesSets.Shown.{Models}
+use Rattle.seize_ends.proofs.Given.SeizeRuleRows.SizesKept.{happens_sized}
+use Rattle.seize_ends.proofs.Given.SeizeRuleRows.Others.{begins_others, with_here}
+use Rattle.seize_ends.proofs.Given.SeizeRuleWorld.Rested.{Lone, Rested, resting_sized}
+use Rattle.seize_ends.proofs.Given.SeizeMovesSets.Unmoved.{Unmoved}
+use Rattle.seize_ends.proofs.Given.SeizeRuleRows.Told.{BeginTold}
+use Rattle.seize_ends.proofs.Given.SeizeRuleWorld.Begins.{begins_next}
 use Rattle.seize_sets.proofs.Follows.Begins.{AtRest, at_rest, retire_begins, flush_begins}
 use Rattle.seize_sets.proofs.Turns.Middle.{Ended, ended_unmoved, Mid}
 

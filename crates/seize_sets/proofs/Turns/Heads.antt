@@ -1,21 +1,21 @@
 -- What the heads of slots say while every row rests: how each slot is used.
 use Rattle.std.specs.Prelude.{Option, Some, None, IsSome}
 use Rattle.std.proofs.Common.{◌≡◌, ℕ, ◌+◌, ◌<◌, ◌≤◌, Bool, true, false, List, [], ◌∷◌, length, refl, arith, subst, sym, ap, ◌∙◌}
-use Rattle.seize.specs.Given.SeizeWords.declared.at.At.TheVariants as name
-use Rattle.seize.specs.Given.SeizeWords.Mem.{word_at}
+use Rattle.seize.specs.Given.SeizeWordsDeclared.at.At.TheVariants as name
+use Rattle.seize.specs.Given.SeizeWordsMem.{word_at}
 use Rattle.seize.specs.declared.states.TheConstants.{HEAD, LAST_SLOT}
 use Rattle.seize.specs.Law.{is_open}
 use Rattle.seize.specs.World.{World, Use, Vacant, Outside, Inside, Changing, SlotsTaken}
-use Rattle.seize_ends.specs.Given.SeizeWaiting.Held.{count}
-use Rattle.seize_ends.proofs.Given.SeizeMoves.State.Ghost.{Head, Never, Free, Idle, Active, emptied, is_never}
-use Rattle.seize_ends.proofs.Given.SeizeRule.Words.Named.{words_of, word_found}
-use Rattle.seize_ends.proofs.Given.SeizeRule.Words.View.{view}
-use Rattle.seize_ends.proofs.Given.SeizeRule.Words.Chains.{Chain, blocks_of}
-use Rattle.seize_ends.proofs.Given.SeizeRule.Words.Shows.{HeadIs}
-use Rattle.seize_ends.proofs.Given.SeizeRule.Rows.Known.{works_on}
-use Rattle.seize_ends.proofs.Given.SeizeRule.Rows.Teams.{UseFits}
-use Rattle.seize_ends.proofs.Given.SeizeRule.Words.Room.{slot_there}
-use Rattle.seize_ends.proofs.Given.SeizeRule.World.Rested.{Rested}
+use Rattle.seize_ends.specs.Given.SeizeWaitingHeld.{count}
+use Rattle.seize_ends.proofs.Given.SeizeMovesState.Ghost.{Head, Never, Free, Idle, Active, emptied, is_never}
+use Rattle.seize_ends.proofs.Given.SeizeRuleWords.Named.{words_of, word_found}
+use Rattle.seize_ends.proofs.Given.SeizeRuleWords.View.{view}
+use Rattle.seize_ends.proofs.Given.SeizeRuleWords.Chains.{Chain, blocks_of}
+use Rattle.seize_ends.proofs.Given.SeizeRuleWords.Shows.{HeadIs}
+use Rattle.seize_ends.proofs.Given.SeizeRuleRows.Known.{works_on}
+use Rattle.seize_ends.proofs.Given.SeizeRuleRows.Teams.{UseFits}
+use Rattle.seize_ends.proofs.Given.SeizeRuleWords.Room.{slot_there}
+use Rattle.seize_ends.proofs.Given.SeizeRuleWorld.Rested.{Rested}
 
 -- a slot used like this has a head of this word
 abbrev pub WordOf : Use → ℕ → Type 0

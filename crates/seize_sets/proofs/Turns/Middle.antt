@@ -2,8 +2,8 @@
 use Rattle.std.specs.Prelude.{Option}
 use Rattle.std.proofs.Common.{◌≡◌, ℕ, ◌+◌, ◌<◌, ◌^◌, Bool, true, false, List, ◌++◌, refl, arith, subst, sym, ap, ◌∙◌}
 use Rattle.std.proofs.lemmas.List.{append-nil}
-use Rattle.seize.specs.Given.SeizeWords.declared.at.At.{At}
-use Rattle.seize.specs.Given.SeizeWords.declared.at.At.TheVariants.{Word}
+use Rattle.seize.specs.Given.SeizeWordsDeclared.at.At.{At}
+use Rattle.seize.specs.Given.SeizeWordsDeclared.at.At.TheVariants.{Word}
 use Rattle.seize.specs.declared.states.TheConstants.{LAST_SLOT}
 use Rattle.seize.specs.declared.rows.settle.Settle.{Settle}
 use Rattle.seize.specs.declared.rows.settle.Settling.TheVariants as at
@@ -16,19 +16,19 @@ use Rattle.seize.specs.Leave.{standing}
 use Rattle.seize.specs.Sequence.{taken_in}
 use Rattle.seize.specs.WaitingSets.{Sets, After, Enters as EntersSet, Defers as DefersSet, quietly, changed, left, counted}
 use Rattle.seize.specs.World.{World, Row, Rests, Registers, Enters, Settles, Leaves, Defers, Frees}
-use Rattle.seize_ends.proofs.Given.SeizeMoves.State.Ghost.{Entry, Idle, Active, State}
-use Rattle.seize_ends.proofs.Given.SeizeMoves.State.Rule.{Inv}
-use Rattle.seize_ends.proofs.Given.SeizeMoves.State.Moves
-use Rattle.seize_ends.proofs.Given.SeizeRule.Words.Named.{link}
-use Rattle.seize_ends.proofs.Given.SeizeRule.Words.View.{view}
-use Rattle.seize_ends.proofs.Given.SeizeRule.Rows.Known.{word_of, FitsLeave}
-use Rattle.seize_ends.proofs.Given.SeizeMoves.Sets.Shown.{Models}
-use Rattle.seize_ends.proofs.Given.SeizeMoves.Sets.Moved.{enters_models, defers_models}
-use Rattle.seize_ends.proofs.Given.SeizeRule.Rows.Sizes.{Sized, LeaveSized}
-use Rattle.seize_ends.proofs.Given.SeizeRule.World.Rested.{Lone}
-use Rattle.seize_ends.proofs.Given.SeizeRule.Points.Told.{Part, Plain, part, part_at, Told}
-use Rattle.seize_ends.proofs.Given.SeizeMoves.Sets.Unmoved.{Unmoved, unmoved_models}
-use Rattle.seize_ends.proofs.Given.SeizeRule.Rows.Told.{RowTold, SettleGoes, SettleEnds, LeaveSwaps, LeaveGoes, LeaveSettled, LeaveEnds, RegisterLooks, RegisterRefused, RegisterTakes, RegisterEnters, EntersSlot, FreesSlot, DeferGoes, DeferPushes, DeferEnds, list_off, IsSettled, IsBehindList, HasSettled, IsOnWay}
+use Rattle.seize_ends.proofs.Given.SeizeMovesState.Ghost.{Entry, Idle, Active, State}
+use Rattle.seize_ends.proofs.Given.SeizeMovesState.Rule.{Inv}
+use Rattle.seize_ends.proofs.Given.SeizeMovesState.Moves
+use Rattle.seize_ends.proofs.Given.SeizeRuleWords.Named.{link}
+use Rattle.seize_ends.proofs.Given.SeizeRuleWords.View.{view}
+use Rattle.seize_ends.proofs.Given.SeizeRuleRows.Known.{word_of, FitsLeave}
+use Rattle.seize_ends.proofs.Given.SeizeMovesSets.Shown.{Models}
+use Rattle.seize_ends.proofs.Given.SeizeMovesSets.Moved.{enters_models, defers_models}
+use Rattle.seize_ends.proofs.Given.SeizeRuleRows.Sizes.{Sized, LeaveSized}
+use Rattle.seize_ends.proofs.Given.SeizeRuleWorld.Rested.{Lone}
+use Rattle.seize_ends.proofs.Given.SeizeRulePoints.Told.{Part, Plain, part, part_at, Told}
+use Rattle.seize_ends.proofs.Given.SeizeMovesSets.Unmoved.{Unmoved, unmoved_models}
+use Rattle.seize_ends.proofs.Given.SeizeRuleRows.Told.{RowTold, SettleGoes, SettleEnds, LeaveSwaps, LeaveGoes, LeaveSettled, LeaveEnds, RegisterLooks, RegisterRefused, RegisterTakes, RegisterEnters, EntersSlot, FreesSlot, DeferGoes, DeferPushes, DeferEnds, list_off, IsSettled, IsBehindList, HasSettled, IsOnWay}
 use Rattle.seize_sets.proofs.Follows.Work.{Follows, Plainly, Alone, Setting}
 use Rattle.seize_sets.proofs.Follows.Begins.{AtRest, at_rest, leave_begins, refresh_begins, over_follows}
 use Rattle.seize_sets.proofs.Follows.Steps.{follows_step}

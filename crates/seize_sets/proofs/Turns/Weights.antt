@@ -5,9 +5,9 @@ use Rattle.seize.specs.declared.states.TheConstants.{LAST_SLOT}
 use Rattle.seize.specs.WaitingSets.{Sets, further_of, all_changed, at_start as sets_at_start}
 use Rattle.seize.specs.World.{at_start}
 use Rattle.seize.specs.Sequence.{weight_of_all, FurtherWeighLess}
-use Rattle.seize_ends.specs.Given.SeizeWaiting.Held.{same, count}
-use Rattle.seize_ends.proofs.Given.SeizeMoves.State.Ghost.{Life, IsFree, IsOwned, IsLinked, IsUnlinked, IsDeferring, IsDeferred, IsPending, IsIn, IsDoomed, IsLeft, is_deferred, lies_with}
-use Rattle.seize_ends.proofs.Given.SeizeMoves.State.Rule.{AllDeferred, Carries}
+use Rattle.seize_ends.specs.Given.SeizeWaitingHeld.{same, count}
+use Rattle.seize_ends.proofs.Given.SeizeMovesState.Ghost.{Life, IsFree, IsOwned, IsLinked, IsUnlinked, IsDeferring, IsDeferred, IsPending, IsIn, IsDoomed, IsLeft, is_deferred, lies_with}
+use Rattle.seize_ends.proofs.Given.SeizeMovesState.Rule.{AllDeferred, Carries}
 use Rattle.seize_sets.proofs.Turns.All.{turns_shown, start_shown}
 
 -- a block on the list of another lies with it

@@ -3,15 +3,15 @@ ghost use Rattle.std.specs.Prelude.{◌≡◌, ◌≢◌, ◌<◌, ◌+◌, ◌-
 ghost use Rattle.seize_callers.specs.Owning.{borne_by};
 ghost use Rattle.seize_shared.specs.Deeds.{has_put, has_taken};
 ghost use Rattle.seize_shared.specs.Lent.{IsLent};
-ghost use Rattle.seize_callers.specs.Given.SeizeViews.declared.view.Began.TheVariants.{Retirement};
-ghost use Rattle.seize_callers.specs.Given.SeizeViews.declared.view.Deed.TheVariants.{Looked, Wrote};
-ghost use Rattle.seize_callers.specs.Given.SeizeViews.declared.view.View.TheVariants.{Rests, Watches};
+ghost use Rattle.seize_callers.specs.Given.SeizeViewsDeclared.view.Began.TheVariants.{Retirement};
+ghost use Rattle.seize_callers.specs.Given.SeizeViewsDeclared.view.Deed.TheVariants.{Looked, Wrote};
+ghost use Rattle.seize_callers.specs.Given.SeizeViewsDeclared.view.View.TheVariants.{Rests, Watches};
 
 use crate::stay::Stay;
 use seize::rows::Defers;
 use seize_blocks::Seat;
 use seize_callers::Caller;
-use seize_callers::seize_views::OfRows;
+use seize_views::OfRows;
 
 impl<'a, T: Defers + Drop> Stay<'a, T> {
     /// Looks which block is at a root, and tells whether one is, where its section is open. What was seen before is not known any more.

@@ -1,6 +1,6 @@
 -- Each step of a call, and of the rows within it.
 use Rattle.papaya_falls.proofs.Laws.{calls_fall, late_calls_fall, rows_fall, numbers_are_as_many}
-use Rattle.papaya_late.proofs.Given.Points.Descents.{descents_end}
+use Rattle.papaya_late.proofs.Given.PointsDescents.{descents_end}
 use Rattle.papaya_falls.proofs.law.steps_lower_the_number.Goals as goal
 
 pub returns : goal.returns

@@ -1,20 +1,20 @@
 -- What the deed of an end is done to is its map's, or left over to its caller: each block that is apart from these is as it was.
 use Rattle.std.specs.Prelude.{◌≢◌, Some}
 use Rattle.std.proofs.Common.{◌≡◌, ℕ, zero, suc, ◌<◌, ◌≤◌, Bool, true, false, List, [], ◌∷◌, ◌⊎◌, inl, inr, refl, arith, ap, sym, subst, ◌∙◌}
-use Rattle.papaya_alone.specs.Given.SeizeWords.declared.at.At.TheVariants.{Entry, Word}
-use Rattle.papaya_alone.specs.Given.SeizeWords.Mem.{value_at, word_at}
-use Rattle.papaya_alone.specs.Given.Seize.declared.states.TheConstants.{NEXT}
-use Rattle.papaya_alone.specs.Given.Seize.Law.{With, where_is, holds, owner_of}
-use Rattle.papaya_alone.specs.Given.Seize.World.{World, InUse, Handed, LeftTo, times}
-use Rattle.papaya_alone.proofs.Given.SeizeAlone.Histories.Further.{none_behind}
-use Rattle.papaya_alone.specs.Given.Tables.Nodes.{deferred_word}
-use Rattle.papaya_alone.specs.Given.Tables.declared.node.Node.{Node}
-use Rattle.papaya_alone.specs.Given.Tables.declared.node.Node.TheVariants as node
-use Rattle.papaya_alone.specs.Given.Rule.InWorld.{IsHeldBy, KeepsBlocks}
-use Rattle.papaya_alone.specs.Given.Callers.Kept.{IsMaking}
-use Rattle.papaya_alone.specs.Given.Callers.Together.{CameAbout}
-use Rattle.papaya_alone.proofs.Given.Callers.Rows.Behind.{behind_handed}
-use Rattle.papaya_alone.proofs.Given.Callers.Together.Came.{came_reached}
+use Rattle.papaya_alone.specs.Given.SeizeWordsDeclared.at.At.TheVariants.{Entry, Word}
+use Rattle.papaya_alone.specs.Given.SeizeWordsMem.{value_at, word_at}
+use Rattle.papaya_alone.specs.Given.SeizeDeclared.states.TheConstants.{NEXT}
+use Rattle.papaya_alone.specs.Given.SeizeLaw.{With, where_is, holds, owner_of}
+use Rattle.papaya_alone.specs.Given.SeizeWorld.{World, InUse, Handed, LeftTo, times}
+use Rattle.papaya_alone.proofs.Given.SeizeAloneHistories.Further.{none_behind}
+use Rattle.papaya_alone.specs.Given.TablesNodes.{deferred_word}
+use Rattle.papaya_alone.specs.Given.TablesDeclared.node.Node.{Node}
+use Rattle.papaya_alone.specs.Given.TablesDeclared.node.Node.TheVariants as node
+use Rattle.papaya_alone.specs.Given.RuleInWorld.{IsHeldBy, KeepsBlocks}
+use Rattle.papaya_alone.specs.Given.CallersKept.{IsMaking}
+use Rattle.papaya_alone.specs.Given.CallersTogether.{CameAbout}
+use Rattle.papaya_alone.proofs.Given.CallersRows.Behind.{behind_handed}
+use Rattle.papaya_alone.proofs.Given.CallersTogether.Came.{came_reached}
 use Rattle.papaya_finishes.specs.Endings.{Finishing, HasCounter, FinishingFacts}
 use Rattle.papaya_finishes.specs.FactsEnds.{Deed, Looks, TakesPair, LeavesTable, JoinsPair, TakesLeft, TakesCounter, WritesRoot, taken_by, left_by, cut_by, joined_by, Spares, IsItsDeed, IsFresh}
 use Rattle.papaya_finishes.proofs.Ends.CountedBlocks.{times_other}

@@ -2,14 +2,14 @@
 use Rattle.std.specs.Prelude.{◌≢◌, Option, Some}
 use Rattle.std.proofs.Common.{◌≡◌, ℕ, Bool, refl, inl, inr, sym, subst, ◌∙◌}
 use Rattle.std.proofs.lemmas.Bool.{cases_eq}
-use Rattle.papaya_alone.specs.Given.SeizeWords.declared.at.At.TheVariants.{Root, Used}
-use Rattle.papaya_alone.specs.Given.SeizeWords.Mem.{word_at}
-use Rattle.papaya_alone.specs.Given.Seize.World.{World}
-use Rattle.papaya_alone.specs.Given.Tables.declared.node.Node.{Node}
-use Rattle.papaya_alone.specs.Given.Rule.InWorld.{IsHeldBy}
+use Rattle.papaya_alone.specs.Given.SeizeWordsDeclared.at.At.TheVariants.{Root, Used}
+use Rattle.papaya_alone.specs.Given.SeizeWordsMem.{word_at}
+use Rattle.papaya_alone.specs.Given.SeizeWorld.{World}
+use Rattle.papaya_alone.specs.Given.TablesDeclared.node.Node.{Node}
+use Rattle.papaya_alone.specs.Given.RuleInWorld.{IsHeldBy}
 use Rattle.papaya_finishes.specs.Makings.{Beginning, HasTaken, HasMade, HasRoots, HasOwnCounter, MakingsTogether}
 use Rattle.papaya_finishes.specs.Maps.{Standing, MapsTogether}
-use Rattle.papaya_alone.specs.Given.Callers.Together.{UnderWay}
+use Rattle.papaya_alone.specs.Given.CallersTogether.{UnderWay}
 use Rattle.papaya_finishes.proofs.Beside.Makings.Lasts.{IsLeftTo, counter_on, facts_last}
 use Rattle.papaya_finishes.proofs.Beside.Maps.All.{StandsSo}
 use Rattle.papaya_finishes.specs.Endings.{Finishing, HasCounter, FinishingFacts}

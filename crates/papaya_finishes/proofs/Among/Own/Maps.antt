@@ -1,17 +1,17 @@
 -- A step of the end of a map leaves each map that stands as it is.
 use Rattle.std.specs.Prelude.{◌≢◌, Option}
 use Rattle.std.proofs.Common.{◌≡◌, ℕ, Bool, inl, inr, ap, sym, subst, ◌∙◌}
-use Rattle.papaya_alone.specs.Given.Seize.Law.{is_somewhere}
-use Rattle.papaya_alone.specs.Given.Seize.World.{World, Row, Use, IsInside, IsOnto}
-use Rattle.papaya_alone.specs.Given.Tables.declared.node.Node.{Node}
-use Rattle.papaya_alone.specs.Given.Tables.declared.setting.Setting.{Setting}
-use Rattle.papaya_alone.specs.Given.Rule.Chart.{Chart}
-use Rattle.papaya_alone.specs.Given.Rule.Words.{Blocks}
-use Rattle.papaya_alone.specs.Given.Rule.InWorld.{IsOut, IsKnownBlock}
-use Rattle.papaya_alone.specs.Given.Points.Steps.{AreLawful}
-use Rattle.papaya_alone.specs.Given.Callers.Kept.{IsUsersOwn, IsKeptBy}
-use Rattle.papaya_alone.specs.Given.Callers.Sights.{Sight}
-use Rattle.papaya_alone.specs.Given.Callers.Together.{UnderWay, CameAbout, Together}
+use Rattle.papaya_alone.specs.Given.SeizeLaw.{is_somewhere}
+use Rattle.papaya_alone.specs.Given.SeizeWorld.{World, Row, Use, IsInside, IsOnto}
+use Rattle.papaya_alone.specs.Given.TablesDeclared.node.Node.{Node}
+use Rattle.papaya_alone.specs.Given.TablesDeclared.setting.Setting.{Setting}
+use Rattle.papaya_alone.specs.Given.RuleChart.{Chart}
+use Rattle.papaya_alone.specs.Given.RuleWords.{Blocks}
+use Rattle.papaya_alone.specs.Given.RuleInWorld.{IsOut, IsKnownBlock}
+use Rattle.papaya_alone.specs.Given.PointsSteps.{AreLawful}
+use Rattle.papaya_alone.specs.Given.CallersKept.{IsUsersOwn, IsKeptBy}
+use Rattle.papaya_alone.specs.Given.CallersSights.{Sight}
+use Rattle.papaya_alone.specs.Given.CallersTogether.{UnderWay, CameAbout, Together}
 use Rattle.papaya_finishes.proofs.Beside.Maps.Left.{IsLeft, Leaves, left_spared}
 use Rattle.papaya_finishes.proofs.Beside.Maps.OtherSteps.{making_not_out, known_out, known_owner}
 use Rattle.papaya_finishes.proofs.Beside.Maps.Stays.{stays}

@@ -1,9 +1,9 @@
 -- A step of the end of a map leaves each other end what it knows.
 use Rattle.std.specs.Prelude.{◌≢◌}
 use Rattle.std.proofs.Common.{◌≡◌, ℕ, zero, suc, Bool, ◌⊎◌, inl, inr, refl, arith, sym, subst, ◌∙◌}
-use Rattle.papaya_alone.specs.Given.Seize.World.{World, Row, InUse, Handed, LeftTo, IsOnto, times}
-use Rattle.papaya_alone.specs.Given.Tables.declared.node.Node.{Node}
-use Rattle.papaya_alone.specs.Given.Callers.Kept.{IsMaking}
+use Rattle.papaya_alone.specs.Given.SeizeWorld.{World, Row, InUse, Handed, LeftTo, IsOnto, times}
+use Rattle.papaya_alone.specs.Given.TablesDeclared.node.Node.{Node}
+use Rattle.papaya_alone.specs.Given.CallersKept.{IsMaking}
 use Rattle.papaya_finishes.proofs.Beside.Endings.Spares.{IsUsedOf, IsOfEnd, IsSpared, SparesEnd}
 use Rattle.papaya_finishes.specs.Endings.{Finishing, HasCounter, FinishingFacts}
 use Rattle.papaya_finishes.proofs.Among.LeftAlone.{facts_on}

@@ -2,23 +2,23 @@
 use Rattle.std.specs.Prelude.{Option, Some, None, map}
 use Rattle.std.proofs.Common.{◌≡◌, ℕ, ◌<◌, ◌≤◌, ◌⊎◌, Bool, false, List, [], ◌∷◌, ◌++◌, refl, arith, ap, sym, subst, ◌∙◌, inl, inr}
 use Rattle.std.proofs.lemmas.List.{append-nil}
-use Rattle.papaya_alone.specs.Given.SeizeWords.declared.at.At.TheVariants.{Used}
-use Rattle.papaya_alone.specs.Given.SeizeWords.Mem.{Mem, word_at}
-use Rattle.papaya_alone.specs.Given.Seize.Law.{With}
-use Rattle.papaya_alone.specs.Given.Seize.World.{World, Runs, Hand, InUse, IsNotLeft, times, with_at}
-use Rattle.papaya_alone.specs.Given.Seize.declared.rows.settle.Settled.{Settled}
-use Rattle.papaya_alone.specs.Given.Seize.declared.rows.settle.Settled.TheVariants as settled
-use Rattle.papaya_alone.specs.Given.Tables.Chunks.{is_incremental}
-use Rattle.papaya_alone.specs.Given.Tables.Nodes.{deferred_word}
-use Rattle.papaya_alone.specs.Given.Tables.declared.node.Node.{Node}
-use Rattle.papaya_alone.specs.Given.Raw.declared.machines.end_map.EndMap.{EndMap}
-use Rattle.papaya_alone.specs.Given.Raw.declared.machines.end_map.Ending.{Ending}
-use Rattle.papaya_alone.specs.Given.Raw.declared.machines.end_map.Ending.TheVariants as at
-use Rattle.papaya_alone.specs.Given.Callers.Kept.{IsPair}
+use Rattle.papaya_alone.specs.Given.SeizeWordsDeclared.at.At.TheVariants.{Used}
+use Rattle.papaya_alone.specs.Given.SeizeWordsMem.{Mem, word_at}
+use Rattle.papaya_alone.specs.Given.SeizeLaw.{With}
+use Rattle.papaya_alone.specs.Given.SeizeWorld.{World, Runs, Hand, InUse, IsNotLeft, times, with_at}
+use Rattle.papaya_alone.specs.Given.SeizeDeclared.rows.settle.Settled.{Settled}
+use Rattle.papaya_alone.specs.Given.SeizeDeclared.rows.settle.Settled.TheVariants as settled
+use Rattle.papaya_alone.specs.Given.TablesChunks.{is_incremental}
+use Rattle.papaya_alone.specs.Given.TablesNodes.{deferred_word}
+use Rattle.papaya_alone.specs.Given.TablesDeclared.node.Node.{Node}
+use Rattle.papaya_alone.specs.Given.RawDeclared.machines.end_map.EndMap.{EndMap}
+use Rattle.papaya_alone.specs.Given.RawDeclared.machines.end_map.Ending.{Ending}
+use Rattle.papaya_alone.specs.Given.RawDeclared.machines.end_map.Ending.TheVariants as at
+use Rattle.papaya_alone.specs.Given.CallersKept.{IsPair}
 use Rattle.papaya_finishes.specs.Makings.{Beginning}
 use Rattle.papaya_finishes.specs.Maps.{Standing}
-use Rattle.papaya_alone.specs.Given.Callers.Together.{UnderWay}
-use Rattle.papaya_alone.proofs.Given.Callers.Together.Came.{came_reached, came_on}
+use Rattle.papaya_alone.specs.Given.CallersTogether.{UnderWay}
+use Rattle.papaya_alone.proofs.Given.CallersTogether.Came.{came_reached, came_on}
 use Rattle.papaya_finishes.specs.Endings.{IsDoneTo, Finishing, HasCounter, FinishingFacts, HasFinished, EndingsTogether, FinishingTold, EndingsStand, waiting_by}
 use Rattle.papaya_finishes.specs.FactsEnds.{Deed, Looks, TakesPair, LeavesTable, JoinsPair, TakesLeft, TakesCounter, WritesRoot, events_of, RootIs, RootAt, EndingFacts, EndFacts, HasEnded, EndTold, EndWent, back_of, from_table, wait_before}
 use Rattle.papaya_finishes.specs.Orders.{pairs_of}

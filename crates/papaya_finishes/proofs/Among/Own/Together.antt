@@ -1,12 +1,12 @@
 -- After a step of the end of a map all stand together: the maps, the makings, the other ends, and this one, if it goes on.
 use Rattle.std.specs.Prelude.{◌≢◌, Option, Some, None}
 use Rattle.std.proofs.Common.{◌≡◌, ℕ, Bool, ap, sym, ◌∙◌}
-use Rattle.papaya_alone.specs.Given.Seize.World.{World, with_at}
-use Rattle.papaya_alone.specs.Given.Tables.declared.node.Node.{Node}
-use Rattle.papaya_alone.specs.Given.Tables.declared.setting.Setting.{Setting}
+use Rattle.papaya_alone.specs.Given.SeizeWorld.{World, with_at}
+use Rattle.papaya_alone.specs.Given.TablesDeclared.node.Node.{Node}
+use Rattle.papaya_alone.specs.Given.TablesDeclared.setting.Setting.{Setting}
 use Rattle.papaya_finishes.specs.Makings.{Beginning}
 use Rattle.papaya_finishes.specs.Maps.{Standing}
-use Rattle.papaya_alone.specs.Given.Callers.Together.{UnderWay}
+use Rattle.papaya_alone.specs.Given.CallersTogether.{UnderWay}
 use Rattle.papaya_finishes.proofs.Beside.Makings.Steps.{one_made, two_made}
 use Rattle.papaya_finishes.specs.Endings.{Finishing, HasCounter, FinishingFacts, EndingsTogether}
 use Rattle.papaya_finishes.proofs.Among.Own.Apart.{Did}

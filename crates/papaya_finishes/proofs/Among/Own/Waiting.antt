@@ -1,10 +1,10 @@
 -- What waits as a map ends are pairs: its deeds take none of them, and what they leave over with a table lay behind it.
 use Rattle.std.proofs.Common.{◌≡◌, ℕ, zero, suc, ◌<◌, ◌≤◌, Bool, true, false, List, [], ◌++◌, ◌⊎◌, inl, inr, refl, arith, ap, sym, subst, ◌∙◌}
 use Rattle.std.proofs.lemmas.Bool.{cases_lt}
-use Rattle.papaya_alone.specs.Given.Seize.Law.{With}
-use Rattle.papaya_alone.specs.Given.Seize.World.{World, Hand, NoBlock, Making, InUse, Parting, Cutting, Handed, LeftTo, IsNotLeft, times}
-use Rattle.papaya_alone.specs.Given.Tables.declared.node.Node.{Node}
-use Rattle.papaya_alone.specs.Given.Callers.Kept.{IsMaking, IsPair}
+use Rattle.papaya_alone.specs.Given.SeizeLaw.{With}
+use Rattle.papaya_alone.specs.Given.SeizeWorld.{World, Hand, NoBlock, Making, InUse, Parting, Cutting, Handed, LeftTo, IsNotLeft, times}
+use Rattle.papaya_alone.specs.Given.TablesDeclared.node.Node.{Node}
+use Rattle.papaya_alone.specs.Given.CallersKept.{IsMaking, IsPair}
 use Rattle.papaya_finishes.specs.Endings.{Finishing, FinishingFacts, waiting_by}
 use Rattle.papaya_finishes.specs.FactsEnds.{Deed, Looks, TakesPair, LeavesTable, JoinsPair, TakesLeft, TakesCounter, WritesRoot, taken_by, Spares, wait_before}
 use Rattle.papaya_finishes.proofs.Among.Own.Apart.{DoesNew, DoesIts, Did}

@@ -2,25 +2,25 @@
 use Rattle.std.specs.Prelude.{◌≡◌, ◌≢◌, ℕ, Bool, Option, Some, None}
 use Rattle.std.proofs.Common.{refl, ap, sym, subst, ◌∙◌, inl, inr}
 use Rattle.std.proofs.lemmas.Bool.{cases_eq}
-use Rattle.papaya_alone.specs.Given.Seize.Law.{Ended}
-use Rattle.papaya_alone.specs.Given.Seize.World.{World, Ends, Happens, with_at, with_effect}
-use Rattle.papaya_alone.specs.Given.Tables.Nodes.{deferred_word}
-use Rattle.papaya_alone.specs.Given.Tables.declared.node.Node.{Node}
-use Rattle.papaya_alone.specs.Given.Tables.declared.setting.Setting.{Setting}
-use Rattle.papaya_alone.specs.Given.Rule.Chart.{Chart}
-use Rattle.papaya_alone.specs.Given.Rule.Words.{Blocks}
-use Rattle.papaya_alone.proofs.Given.Rule.World.OthersSpared.{keeps_same}
-use Rattle.papaya_alone.specs.Given.Points.Steps.{AreLawful}
+use Rattle.papaya_alone.specs.Given.SeizeLaw.{Ended}
+use Rattle.papaya_alone.specs.Given.SeizeWorld.{World, Ends, Happens, with_at, with_effect}
+use Rattle.papaya_alone.specs.Given.TablesNodes.{deferred_word}
+use Rattle.papaya_alone.specs.Given.TablesDeclared.node.Node.{Node}
+use Rattle.papaya_alone.specs.Given.TablesDeclared.setting.Setting.{Setting}
+use Rattle.papaya_alone.specs.Given.RuleChart.{Chart}
+use Rattle.papaya_alone.specs.Given.RuleWords.{Blocks}
+use Rattle.papaya_alone.proofs.Given.RuleWorld.OthersSpared.{keeps_same}
+use Rattle.papaya_alone.specs.Given.PointsSteps.{AreLawful}
 use Rattle.papaya_finishes.specs.Makings.{Beginning, MakingsTogether}
 use Rattle.papaya_finishes.specs.Maps.{Standing, MapsTogether}
-use Rattle.papaya_alone.specs.Given.Callers.Sights.{Sight}
-use Rattle.papaya_alone.specs.Given.Callers.Together.{UnderWay, CameAbout, Together}
+use Rattle.papaya_alone.specs.Given.CallersSights.{Sight}
+use Rattle.papaya_alone.specs.Given.CallersTogether.{UnderWay, CameAbout, Together}
 use Rattle.papaya_finishes.proofs.Beside.Makings.Beside.{makings_on}
 use Rattle.papaya_finishes.proofs.Beside.Makings.RowSteps.{left_untouched}
 use Rattle.papaya_finishes.proofs.Beside.Maps.All.{StandsSo}
 use Rattle.papaya_finishes.proofs.Beside.Maps.Stays.{Spared, stays}
-use Rattle.papaya_alone.proofs.Given.Callers.Together.At.{at_other, at_same}
-use Rattle.papaya_alone.proofs.Given.Callers.Together.Came.{came_next}
+use Rattle.papaya_alone.proofs.Given.CallersTogether.At.{at_other, at_same}
+use Rattle.papaya_alone.proofs.Given.CallersTogether.Came.{came_next}
 
 module _ {K V Q : Type 0} (same : K → K → Bool) (hash : K → ℕ) (asks : Q → K → Bool) (setting : Setting) (slot : ℕ → ℕ) (lawful : AreLawful same hash)
     (w : World (Node K V)) (c : Chart K) (blocks : Blocks) (sights : ℕ → Sight) (calls : ℕ → Option (UnderWay K V Q)) (s : Together V same hash asks setting slot w c blocks sights calls)

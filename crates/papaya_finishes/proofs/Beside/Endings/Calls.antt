@@ -1,29 +1,29 @@
 -- A step of a call on another map spares a map that ends.
 use Rattle.std.specs.Prelude.{◌≡◌, ◌≢◌, ℕ, Bool, Some}
 use Rattle.std.proofs.Common.{refl, ap, sym, subst, ◌∙◌, inl, inr}
-use Rattle.papaya_alone.specs.Given.SeizeWords.declared.at.At.{At}
-use Rattle.papaya_alone.specs.Given.SeizeWords.declared.at.At.TheVariants.{Root, Used, Entry, Word}
-use Rattle.papaya_alone.specs.Given.SeizeWords.Mem.{Mem, value_at, word_at}
-use Rattle.papaya_alone.specs.Given.Seize.declared.states.TheConstants.{NEXT}
-use Rattle.papaya_alone.specs.Given.Seize.Law.{owner_of}
-use Rattle.papaya_alone.specs.Given.Seize.World.{World, Row, Hand, NoBlock, Making, InUse, Parting, Cutting, Handed, LeftTo, IsOnto}
-use Rattle.papaya_alone.specs.Given.Tables.Nodes.{deferred_word}
-use Rattle.papaya_alone.specs.Given.Tables.declared.node.Node.{Node}
-use Rattle.papaya_alone.specs.Given.Tables.declared.node.Node.TheVariants as node
-use Rattle.papaya_alone.specs.Given.Tables.declared.setting.Setting.{Setting}
-use Rattle.papaya_alone.specs.Given.Rule.Beside.{KeptBeside}
-use Rattle.papaya_alone.specs.Given.Rule.Chart.{Chart}
-use Rattle.papaya_alone.specs.Given.Rule.Words.{Blocks}
-use Rattle.papaya_alone.specs.Given.Rule.InWorld.{IsOut, IsKnownBlock, IsIts, InFootprint, Went}
-use Rattle.papaya_alone.proofs.Given.Rule.World.BesideKept.{steps_spare_others}
-use Rattle.papaya_alone.proofs.Given.Rule.World.WentTold.{went_as}
-use Rattle.papaya_alone.specs.Given.Callers.Kept.{IsMaking}
-use Rattle.papaya_alone.specs.Given.Callers.Together.{CameAbout}
+use Rattle.papaya_alone.specs.Given.SeizeWordsDeclared.at.At.{At}
+use Rattle.papaya_alone.specs.Given.SeizeWordsDeclared.at.At.TheVariants.{Root, Used, Entry, Word}
+use Rattle.papaya_alone.specs.Given.SeizeWordsMem.{Mem, value_at, word_at}
+use Rattle.papaya_alone.specs.Given.SeizeDeclared.states.TheConstants.{NEXT}
+use Rattle.papaya_alone.specs.Given.SeizeLaw.{owner_of}
+use Rattle.papaya_alone.specs.Given.SeizeWorld.{World, Row, Hand, NoBlock, Making, InUse, Parting, Cutting, Handed, LeftTo, IsOnto}
+use Rattle.papaya_alone.specs.Given.TablesNodes.{deferred_word}
+use Rattle.papaya_alone.specs.Given.TablesDeclared.node.Node.{Node}
+use Rattle.papaya_alone.specs.Given.TablesDeclared.node.Node.TheVariants as node
+use Rattle.papaya_alone.specs.Given.TablesDeclared.setting.Setting.{Setting}
+use Rattle.papaya_alone.specs.Given.RuleBeside.{KeptBeside}
+use Rattle.papaya_alone.specs.Given.RuleChart.{Chart}
+use Rattle.papaya_alone.specs.Given.RuleWords.{Blocks}
+use Rattle.papaya_alone.specs.Given.RuleInWorld.{IsOut, IsKnownBlock, IsIts, InFootprint, Went}
+use Rattle.papaya_alone.proofs.Given.RuleWorld.BesideKept.{steps_spare_others}
+use Rattle.papaya_alone.proofs.Given.RuleWorld.WentTold.{went_as}
+use Rattle.papaya_alone.specs.Given.CallersKept.{IsMaking}
+use Rattle.papaya_alone.specs.Given.CallersTogether.{CameAbout}
 use Rattle.papaya_finishes.proofs.Beside.Endings.Spares.{IsOfEnd, IsSpared, SparesEnd, end_not_made, end_there}
 use Rattle.papaya_finishes.proofs.Beside.Maps.OtherSteps.{making_not_out}
-use Rattle.papaya_alone.proofs.Given.Callers.Rows.Behind.{events_back}
-use Rattle.papaya_alone.proofs.Given.Callers.Together.Came.{came_reached, came_on}
-use Rattle.papaya_alone.proofs.Given.Callers.Together.Users.{events_rows}
+use Rattle.papaya_alone.proofs.Given.CallersRows.Behind.{events_back}
+use Rattle.papaya_alone.proofs.Given.CallersTogether.Came.{came_reached, came_on}
+use Rattle.papaya_alone.proofs.Given.CallersTogether.Users.{events_rows}
 
 module _ {K V : Type 0} (same : K → K → Bool) (hash : K → ℕ) (other : Setting) (i : ℕ) (w : World (Node K V)) (c : Chart K) (blocks : Blocks)
     (m2 : Mem (Node K V)) (Told : World (Node K V) → Chart K → Blocks → Type 0) (went : Went same hash other i w c blocks m2 Told) (came : CameAbout other.batch_size w)

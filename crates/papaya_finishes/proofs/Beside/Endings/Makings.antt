@@ -1,18 +1,18 @@
 -- A step of a making spares a map that ends.
 use Rattle.std.specs.Prelude.{◌≡◌, ◌≢◌, ℕ, Some}
 use Rattle.std.proofs.Common.{subst, inl, inr}
-use Rattle.papaya_alone.specs.Given.SeizeWords.Mem.{value_at}
-use Rattle.papaya_alone.specs.Given.Seize.World.{World, IsOnto}
-use Rattle.papaya_alone.specs.Given.Tables.Nodes.{deferred_word}
-use Rattle.papaya_alone.specs.Given.Tables.declared.node.Node.{Node}
-use Rattle.papaya_alone.specs.Given.Tables.declared.node.Node.TheVariants as node
-use Rattle.papaya_alone.specs.Given.Resize.declared.new_map.NewMap.{NewMap}
+use Rattle.papaya_alone.specs.Given.SeizeWordsMem.{value_at}
+use Rattle.papaya_alone.specs.Given.SeizeWorld.{World, IsOnto}
+use Rattle.papaya_alone.specs.Given.TablesNodes.{deferred_word}
+use Rattle.papaya_alone.specs.Given.TablesDeclared.node.Node.{Node}
+use Rattle.papaya_alone.specs.Given.TablesDeclared.node.Node.TheVariants as node
+use Rattle.papaya_alone.specs.Given.ResizeDeclared.new_map.NewMap.{NewMap}
 use Rattle.papaya_finishes.specs.Makings.{HasMade}
-use Rattle.papaya_alone.specs.Given.Callers.Together.{CameAbout}
+use Rattle.papaya_alone.specs.Given.CallersTogether.{CameAbout}
 use Rattle.papaya_finishes.proofs.Beside.Endings.Spares.{IsOfEnd, IsSpared, SparesEnd, end_not_made, end_there}
 use Rattle.papaya_finishes.proofs.Beside.Makings.Leaves.{IsItsBlock, IsItsRoot, IsAsItWas, LeavesOthers, came_then, rows_same}
-use Rattle.papaya_alone.proofs.Given.Callers.Rows.Behind.{events_back}
-use Rattle.papaya_alone.proofs.Given.Callers.Together.Came.{came_reached}
+use Rattle.papaya_alone.proofs.Given.CallersRows.Behind.{events_back}
+use Rattle.papaya_alone.proofs.Given.CallersTogether.Came.{came_reached}
 
 module _ {K V : Type 0} (size roots i : ℕ) (n : NewMap) (w w2 : World (Node K V)) (came : CameAbout size w) (left : LeavesOthers i n w w2 size roots)
     (owner root ender : ℕ) (counter : HasMade n.stands → owner ≢ n.setting.counter) (other_root : IsItsRoot i n w root → ⊥) where

@@ -2,27 +2,27 @@
 use Rattle.std.specs.Prelude.{◌≡◌, ◌≢◌, ℕ, Bool, cond, eqb, List, ◌∷◌, slice_get}
 use Rattle.std.proofs.Common.{refl, ap, sym, subst, ◌∙◌, inl, inr}
 use Rattle.std.proofs.lemmas.Bool.{cases_eq, eq-eqb, ne_eqb}
-use Rattle.papaya_alone.specs.Given.SeizeWords.Mem.{value_at}
-use Rattle.papaya_alone.specs.Given.Seize.Law.{Effect, With, Nowhere, Deferred, where_is, is_standing, owner_of, is_orphan, is_over}
-use Rattle.papaya_alone.specs.Given.Seize.World.{World, Row, Use, Handed, Request, Register', Enter', Leave', LeaveOwned, Refresh, Unregister', Retire, Flush, Defer', Begin, Step, Happens, IsOnto, with_at}
-use Rattle.papaya_alone.proofs.Given.SeizeRule.Rows.Effects.{owner_kept}
-use Rattle.papaya_alone.proofs.Given.SeizeAlone.Histories.LeftTo.{still_orphan, still_over, still_linked}
-use Rattle.papaya_alone.proofs.Given.SeizeAlone.Histories.NotTaken.{IsKept, did, not_taken, kept_value, kept_hand}
-use Rattle.papaya_alone.proofs.Given.SeizeAlone.Histories.Onto.{steps_onto}
-use Rattle.papaya_alone.proofs.Given.SeizeAlone.Histories.Reached.{Reached}
-use Rattle.papaya_alone.specs.Given.Tables.Nodes.{deferred_word}
-use Rattle.papaya_alone.specs.Given.Tables.declared.node.Node.{Node}
-use Rattle.papaya_alone.specs.Given.Tables.declared.setting.Setting.{Setting}
-use Rattle.papaya_alone.specs.Given.Rule.InWorld.{IsHeldBy}
-use Rattle.papaya_alone.proofs.Given.Rule.World.Hands.{at_cases, hand_kept}
-use Rattle.papaya_alone.specs.Given.Callers.Kept.{IsMaking}
-use Rattle.papaya_alone.specs.Given.Callers.Together.{CameAbout, HandsOver, IsOfSlots, IsOneStep}
+use Rattle.papaya_alone.specs.Given.SeizeWordsMem.{value_at}
+use Rattle.papaya_alone.specs.Given.SeizeLaw.{Effect, With, Nowhere, Deferred, where_is, is_standing, owner_of, is_orphan, is_over}
+use Rattle.papaya_alone.specs.Given.SeizeWorld.{World, Row, Use, Handed, Request, Register', Enter', Leave', LeaveOwned, Refresh, Unregister', Retire, Flush, Defer', Begin, Step, Happens, IsOnto, with_at}
+use Rattle.papaya_alone.proofs.Given.SeizeRuleRows.Effects.{owner_kept}
+use Rattle.papaya_alone.proofs.Given.SeizeAloneHistories.LeftTo.{still_orphan, still_over, still_linked}
+use Rattle.papaya_alone.proofs.Given.SeizeAloneHistories.NotTaken.{IsKept, did, not_taken, kept_value, kept_hand}
+use Rattle.papaya_alone.proofs.Given.SeizeAloneHistories.Onto.{steps_onto}
+use Rattle.papaya_alone.proofs.Given.SeizeAloneHistories.Reached.{Reached}
+use Rattle.papaya_alone.specs.Given.TablesNodes.{deferred_word}
+use Rattle.papaya_alone.specs.Given.TablesDeclared.node.Node.{Node}
+use Rattle.papaya_alone.specs.Given.TablesDeclared.setting.Setting.{Setting}
+use Rattle.papaya_alone.specs.Given.RuleInWorld.{IsHeldBy}
+use Rattle.papaya_alone.proofs.Given.RuleWorld.Hands.{at_cases, hand_kept}
+use Rattle.papaya_alone.specs.Given.CallersKept.{IsMaking}
+use Rattle.papaya_alone.specs.Given.CallersTogether.{CameAbout, HandsOver, IsOfSlots, IsOneStep}
 use Rattle.papaya_finishes.proofs.Beside.Endings.Spares.{IsUsedOf, IsOfEnd, IsSpared, SparesEnd, end_own, end_not_held, spares_then}
 use Rattle.papaya_finishes.proofs.Beside.Maps.OtherBegins.{cutting_not_making, cut_not_making}
-use Rattle.papaya_alone.proofs.Given.Callers.Rows.Behind.{LaySo, deferred_behind, row_back}
-use Rattle.papaya_alone.proofs.Given.Callers.Rows.Beside.{making_own}
-use Rattle.papaya_alone.proofs.Given.Callers.Rows.Keep.{kept_block}
-use Rattle.papaya_alone.proofs.Given.Callers.Together.Came.{came_reached, came_next}
+use Rattle.papaya_alone.proofs.Given.CallersRows.Behind.{LaySo, deferred_behind, row_back}
+use Rattle.papaya_alone.proofs.Given.CallersRows.Beside.{making_own}
+use Rattle.papaya_alone.proofs.Given.CallersRows.Keep.{kept_block}
+use Rattle.papaya_alone.proofs.Given.CallersTogether.Came.{came_reached, came_next}
 
 -- a row goes on
 module _ {K V : Type 0} (size : ℕ) (w : World (Node K V)) (came : CameAbout size w) (i : ℕ) (w2 : World (Node K V)) (step : Happens deferred_word size (Step i) w w2) (owner root ender : ℕ) where

@@ -1,22 +1,22 @@
 -- What others leave of a map that ends while they take their steps: its blocks, what is left over, its root, and what lies behind its tables.
 use Rattle.std.specs.Prelude.{◌≡◌, ℕ, Option, Some, None, IsSome, ◌⊎◌}
 use Rattle.std.proofs.Common.{refl, sym, subst, ◌∙◌, inl, inr}
-use Rattle.papaya_alone.specs.Given.SeizeWords.declared.at.At.TheVariants.{Root, Used, Entry, Word}
-use Rattle.papaya_alone.specs.Given.SeizeWords.Mem.{value_at, word_at}
-use Rattle.papaya_alone.specs.Given.Seize.declared.states.TheConstants.{NEXT}
-use Rattle.papaya_alone.specs.Given.Seize.Law.{owner_of, is_orphan, is_over}
-use Rattle.papaya_alone.specs.Given.Seize.World.{World, Making, InUse, LeftTo, IsOnto}
-use Rattle.papaya_alone.proofs.Given.SeizeAlone.Histories.NotTaken.{kept_there}
-use Rattle.papaya_alone.proofs.Given.SeizeAlone.Spared.Users.{IsNoList}
-use Rattle.papaya_alone.specs.Given.Tables.Nodes.{deferred_word}
-use Rattle.papaya_alone.specs.Given.Tables.declared.node.Node.{Node}
-use Rattle.papaya_alone.specs.Given.Tables.declared.node.Node.TheVariants as node
-use Rattle.papaya_alone.specs.Given.Rule.InWorld.{IsHeldBy}
-use Rattle.papaya_alone.specs.Given.Callers.Kept.{IsUsersOwn, IsMaking}
-use Rattle.papaya_alone.specs.Given.Callers.Together.{CameAbout}
-use Rattle.papaya_alone.proofs.Given.Callers.Rows.Behind.{LaySo, lay_then}
-use Rattle.papaya_alone.proofs.Given.Callers.Rows.Keep.{kept_block}
-use Rattle.papaya_alone.proofs.Given.Callers.Together.Came.{came_reached}
+use Rattle.papaya_alone.specs.Given.SeizeWordsDeclared.at.At.TheVariants.{Root, Used, Entry, Word}
+use Rattle.papaya_alone.specs.Given.SeizeWordsMem.{value_at, word_at}
+use Rattle.papaya_alone.specs.Given.SeizeDeclared.states.TheConstants.{NEXT}
+use Rattle.papaya_alone.specs.Given.SeizeLaw.{owner_of, is_orphan, is_over}
+use Rattle.papaya_alone.specs.Given.SeizeWorld.{World, Making, InUse, LeftTo, IsOnto}
+use Rattle.papaya_alone.proofs.Given.SeizeAloneHistories.NotTaken.{kept_there}
+use Rattle.papaya_alone.proofs.Given.SeizeAloneSpared.Users.{IsNoList}
+use Rattle.papaya_alone.specs.Given.TablesNodes.{deferred_word}
+use Rattle.papaya_alone.specs.Given.TablesDeclared.node.Node.{Node}
+use Rattle.papaya_alone.specs.Given.TablesDeclared.node.Node.TheVariants as node
+use Rattle.papaya_alone.specs.Given.RuleInWorld.{IsHeldBy}
+use Rattle.papaya_alone.specs.Given.CallersKept.{IsUsersOwn, IsMaking}
+use Rattle.papaya_alone.specs.Given.CallersTogether.{CameAbout}
+use Rattle.papaya_alone.proofs.Given.CallersRows.Behind.{LaySo, lay_then}
+use Rattle.papaya_alone.proofs.Given.CallersRows.Keep.{kept_block}
+use Rattle.papaya_alone.proofs.Given.CallersTogether.Came.{came_reached}
 
 module _ {K V : Type 0} (w : World (Node K V)) where
   -- the block is in use, and this owner's

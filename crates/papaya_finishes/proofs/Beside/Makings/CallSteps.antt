@@ -1,29 +1,29 @@
 -- A step of a call on a map that stands, or a reply to one, leaves each making what it has.
 use Rattle.std.specs.Prelude.{◌≡◌, ◌≢◌, ℕ, Bool, Option, Some, None}
 use Rattle.std.proofs.Common.{refl, ap, sym, subst, ◌∙◌, inl, inr}
-use Rattle.papaya_alone.specs.Given.SeizeWords.declared.at.At.{At}
-use Rattle.papaya_alone.specs.Given.SeizeWords.declared.at.At.TheVariants.{Root, Used, Word}
-use Rattle.papaya_alone.specs.Given.SeizeWords.Mem.{Mem, word_at}
-use Rattle.papaya_alone.specs.Given.Seize.World.{World, IsInside, with_at}
-use Rattle.papaya_alone.specs.Given.Tables.declared.node.Node.{Node}
-use Rattle.papaya_alone.specs.Given.Tables.declared.node.Node.TheVariants as node
-use Rattle.papaya_alone.specs.Given.Tables.declared.setting.Setting.{Setting}
-use Rattle.papaya_alone.specs.Given.Rule.Beside.{KeptBeside}
-use Rattle.papaya_alone.specs.Given.Rule.Chart.{Chart}
-use Rattle.papaya_alone.specs.Given.Rule.Words.{Blocks}
-use Rattle.papaya_alone.specs.Given.Rule.InWorld.{IsOut, IsKnownBlock, IsIts, InFootprint, Went}
-use Rattle.papaya_alone.proofs.Given.Rule.World.BesideKept.{steps_spare_others}
-use Rattle.papaya_alone.proofs.Given.Rule.World.WentTold.{went_as}
+use Rattle.papaya_alone.specs.Given.SeizeWordsDeclared.at.At.{At}
+use Rattle.papaya_alone.specs.Given.SeizeWordsDeclared.at.At.TheVariants.{Root, Used, Word}
+use Rattle.papaya_alone.specs.Given.SeizeWordsMem.{Mem, word_at}
+use Rattle.papaya_alone.specs.Given.SeizeWorld.{World, IsInside, with_at}
+use Rattle.papaya_alone.specs.Given.TablesDeclared.node.Node.{Node}
+use Rattle.papaya_alone.specs.Given.TablesDeclared.node.Node.TheVariants as node
+use Rattle.papaya_alone.specs.Given.TablesDeclared.setting.Setting.{Setting}
+use Rattle.papaya_alone.specs.Given.RuleBeside.{KeptBeside}
+use Rattle.papaya_alone.specs.Given.RuleChart.{Chart}
+use Rattle.papaya_alone.specs.Given.RuleWords.{Blocks}
+use Rattle.papaya_alone.specs.Given.RuleInWorld.{IsOut, IsKnownBlock, IsIts, InFootprint, Went}
+use Rattle.papaya_alone.proofs.Given.RuleWorld.BesideKept.{steps_spare_others}
+use Rattle.papaya_alone.proofs.Given.RuleWorld.WentTold.{went_as}
 use Rattle.papaya_finishes.specs.Makings.{Beginning, HasMade, HasOwnCounter, MakingsTogether, CallsStandBeside, RepliesStandBeside, CallsBeginBeside}
 use Rattle.papaya_finishes.specs.Maps.{Standing, with_call, MapsTogether}
-use Rattle.papaya_alone.specs.Given.Callers.Sights.{Sight, seen_by}
-use Rattle.papaya_alone.specs.Given.Callers.Together.{OnKey, UnderWay, in_slot}
+use Rattle.papaya_alone.specs.Given.CallersSights.{Sight, seen_by}
+use Rattle.papaya_alone.specs.Given.CallersTogether.{OnKey, UnderWay, in_slot}
 use Rattle.papaya_finishes.proofs.Beside.Makings.Beside.{LeavesMakings, makings_on}
 use Rattle.papaya_finishes.proofs.Beside.Makings.Lasts.{counter_on}
 use Rattle.papaya_finishes.proofs.Beside.Maps.Comes.{each_at, calls_begin_in_maps}
 use Rattle.papaya_finishes.proofs.Beside.Maps.OtherSteps.{known_out}
 use Rattle.papaya_finishes.proofs.Beside.Maps.Steps.{seen_known, calls_stand_in_maps, replies_stand_in_maps}
-use Rattle.papaya_alone.proofs.Given.Callers.Together.At.{at_other, at_same}
+use Rattle.papaya_alone.proofs.Given.CallersTogether.At.{at_other, at_same}
 use Rattle.std.proofs.lemmas.Bool.{cases_eq}
 
 -- A call of one caller more, or one that went on or ended, leaves another one without a call.

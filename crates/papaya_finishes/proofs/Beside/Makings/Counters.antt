@@ -2,42 +2,42 @@
 use Rattle.std.specs.Prelude.{◌≡◌, ◌≢◌, ℕ, ◌+◌, ◌%◌, ◌^◌, ◌<◌, ◌≤◌, ◌==◌, Bool, true, false, cond, [], ◌∷◌, Some, None, Ok, IsSome, if◌then◌else◌}
 use Rattle.std.proofs.Common.{refl, ap, sym, subst, ◌∙◌, inl, inr, arith}
 use Rattle.std.proofs.lemmas.Bool.{eq-eqb, eqb-true, ne_eqb}
-use Rattle.papaya_alone.specs.Given.SeizeWords.declared.fault.Fault.{Fault}
-use Rattle.papaya_alone.specs.Given.SeizeWords.declared.fault.Fault.TheVariants.{Memory}
-use Rattle.papaya_alone.specs.Given.SeizeWords.Op.{Make, Made, Taken}
-use Rattle.papaya_alone.specs.Given.Seize.declared.states.TheConstants.{NEXT}
-use Rattle.papaya_alone.specs.Given.SeizeWords.Mem.{Mem, block_of, value_in, word_in, entry_in, value_at, with_block, IsFreeNumber, fresh, Can, Took, after as mem_after}
-use Rattle.papaya_alone.specs.Given.SeizeWords.Plan.{Now, May, Steps}
-use Rattle.papaya_alone.proofs.Given.SeizeWords.OneOwner.AfterWrites.{block_of-made, block_of-with_block}
-use Rattle.papaya_alone.proofs.Given.SeizeWords.OneOwner.Operations.{may_make, made as make_made, may_take, taken}
-use Rattle.papaya_alone.proofs.Given.SeizeRule.Words.Named.{block_there}
-use Rattle.papaya_alone.specs.Given.Seize.Law.{Nowhere, Dropped, where_is}
-use Rattle.papaya_alone.specs.Given.Seize.World.{World, Hand, NoBlock, Making, Makes, Drops, with_at, with_hand, with_effect, made_by}
-use Rattle.papaya_alone.specs.Given.Seize.declared.progress.Progress.{Progress}
-use Rattle.papaya_alone.specs.Given.Tables.Nodes.{deferred_word}
-use Rattle.papaya_alone.specs.Given.Tables.declared.node.Node.{Node}
-use Rattle.papaya_alone.specs.Given.Tables.declared.node.Node.TheVariants as node
-use Rattle.papaya_alone.specs.Given.Tables.declared.setting.Setting.{Setting}
-use Rattle.papaya_alone.specs.Given.Resize.NewMap.{with_counter, at_root, goes, done, with_shards, made, shards, unmakes}
-use Rattle.papaya_alone.specs.Given.Resize.NewTable.{first_table}
-use Rattle.papaya_alone.specs.Given.Resize.declared.new_map.NewMap.{NewMap}
-use Rattle.papaya_alone.specs.Given.Resize.declared.new_map.Opening.TheVariants as at
-use Rattle.papaya_alone.proofs.Given.Rule.Words.BlocksApart.{new_apart}
-use Rattle.papaya_alone.proofs.Given.Rule.Words.WritesWords.{is_some_of}
-use Rattle.papaya_alone.proofs.Given.Rule.World.Hands.{at_cases, hand_kept}
-use Rattle.papaya_alone.proofs.Given.Rule.World.OthersSpared.{keeps_made, keeps_dropped}
-use Rattle.papaya_alone.specs.Given.Rule.InWorld.{IsOut}
-use Rattle.papaya_alone.specs.Given.Rule.Rule.{no_table}
-use Rattle.papaya_alone.proofs.Given.Points.Making.OwnTables.{zero_at}
-use Rattle.papaya_alone.specs.Given.Callers.Kept.{IsMaking}
+use Rattle.papaya_alone.specs.Given.SeizeWordsDeclared.fault.Fault.{Fault}
+use Rattle.papaya_alone.specs.Given.SeizeWordsDeclared.fault.Fault.TheVariants.{Memory}
+use Rattle.papaya_alone.specs.Given.SeizeWordsOp.{Make, Made, Taken}
+use Rattle.papaya_alone.specs.Given.SeizeDeclared.states.TheConstants.{NEXT}
+use Rattle.papaya_alone.specs.Given.SeizeWordsMem.{Mem, block_of, value_in, word_in, entry_in, value_at, with_block, IsFreeNumber, fresh, Can, Took, after as mem_after}
+use Rattle.papaya_alone.specs.Given.SeizeWordsPlan.{Now, May, Steps}
+use Rattle.papaya_alone.proofs.Given.SeizeWordsOneOwner.AfterWrites.{block_of-made, block_of-with_block}
+use Rattle.papaya_alone.proofs.Given.SeizeWordsOneOwner.Operations.{may_make, made as make_made, may_take, taken}
+use Rattle.papaya_alone.proofs.Given.SeizeRuleWords.Named.{block_there}
+use Rattle.papaya_alone.specs.Given.SeizeLaw.{Nowhere, Dropped, where_is}
+use Rattle.papaya_alone.specs.Given.SeizeWorld.{World, Hand, NoBlock, Making, Makes, Drops, with_at, with_hand, with_effect, made_by}
+use Rattle.papaya_alone.specs.Given.SeizeDeclared.progress.Progress.{Progress}
+use Rattle.papaya_alone.specs.Given.TablesNodes.{deferred_word}
+use Rattle.papaya_alone.specs.Given.TablesDeclared.node.Node.{Node}
+use Rattle.papaya_alone.specs.Given.TablesDeclared.node.Node.TheVariants as node
+use Rattle.papaya_alone.specs.Given.TablesDeclared.setting.Setting.{Setting}
+use Rattle.papaya_alone.specs.Given.ResizeNewMap.{with_counter, at_root, goes, done, with_shards, made, shards, unmakes}
+use Rattle.papaya_alone.specs.Given.ResizeNewTable.{first_table}
+use Rattle.papaya_alone.specs.Given.ResizeDeclared.new_map.NewMap.{NewMap}
+use Rattle.papaya_alone.specs.Given.ResizeDeclared.new_map.Opening.TheVariants as at
+use Rattle.papaya_alone.proofs.Given.RuleWords.BlocksApart.{new_apart}
+use Rattle.papaya_alone.proofs.Given.RuleWords.WritesWords.{is_some_of}
+use Rattle.papaya_alone.proofs.Given.RuleWorld.Hands.{at_cases, hand_kept}
+use Rattle.papaya_alone.proofs.Given.RuleWorld.OthersSpared.{keeps_made, keeps_dropped}
+use Rattle.papaya_alone.specs.Given.RuleInWorld.{IsOut}
+use Rattle.papaya_alone.specs.Given.RuleRule.{no_table}
+use Rattle.papaya_alone.proofs.Given.PointsMaking.OwnTables.{zero_at}
+use Rattle.papaya_alone.specs.Given.CallersKept.{IsMaking}
 use Rattle.papaya_finishes.specs.Makings.{Beginning, HasTaken, HasMade, HasRoots, HasOwnCounter, OpeningFacts, MakingFacts, KeepsIts}
 use Rattle.papaya_finishes.specs.Maps.{new_map}
-use Rattle.papaya_alone.specs.Given.Callers.Together.{CameAbout, no_blocks}
-use Rattle.papaya_alone.proofs.Given.Late.Rooms.Making.FirstBegins.{first_table_begins}
+use Rattle.papaya_alone.specs.Given.CallersTogether.{CameAbout, no_blocks}
+use Rattle.papaya_alone.proofs.Given.LateRooms.Making.FirstBegins.{first_table_begins}
 use Rattle.papaya_finishes.proofs.Beside.Makings.FirstLengths.{first_len}
 use Rattle.papaya_finishes.proofs.Beside.Makings.Leaves.{IsItsBlock, IsAsItWas, LeavesOthers, came_then}
 use Rattle.papaya_finishes.proofs.Beside.Makings.Went.{GoesTo, MakingWent, facts_at, still}
-use Rattle.papaya_alone.proofs.Given.Callers.Together.MapStands.{map_begins_together}
+use Rattle.papaya_alone.proofs.Given.CallersTogether.MapStands.{map_begins_together}
 
 module _ {K Q : Type 0} (V : Type 0) (same : K → K → Bool) (asks : Q → K → Bool) (batch_size roots : ℕ) (slot : ℕ → ℕ) (w : World (Node K V)) (came : CameAbout batch_size w) (i : ℕ) (b : Beginning K)
     (f : MakingFacts w same batch_size roots i b) (free : HasRoots w roots) where

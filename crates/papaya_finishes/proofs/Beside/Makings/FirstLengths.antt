@@ -1,29 +1,29 @@
 -- The length of a first table, from where it is planned to where it is linked.
 use Rattle.std.specs.Prelude.{◌≡◌, ℕ, ◌+◌, ◌^◌, ◌%◌, ◌/◌, Bool, true, false, max, nat_le, if◌then◌else◌}
 use Rattle.std.proofs.Common.{refl, sym, subst, inl, inr, arith}
-use Rattle.papaya_alone.specs.Given.SeizeWords.declared.at.At.{At}
-use Rattle.papaya_alone.specs.Given.SeizeWords.declared.at.At.TheVariants.{Root, Used, Slot, Entry, Word}
-use Rattle.papaya_alone.specs.Given.SeizeWords.declared.fault.Fault.TheVariants.{Capacity}
-use Rattle.papaya_alone.specs.Given.SeizeWords.Mem.{Mem, value_at, Took}
-use Rattle.papaya_alone.specs.Given.SeizeWords.Plan.{Now, Steps}
-use Rattle.papaya_alone.proofs.Given.SeizeWords.OneOwner.Operations.{exchanged, stored, made as make_made}
-use Rattle.papaya_alone.specs.Given.Seize.World.{World}
-use Rattle.papaya_alone.specs.Given.Seize.declared.progress.Progress.{Progress}
-use Rattle.papaya_alone.specs.Given.Seize.declared.progress.Progress.TheVariants as progress
-use Rattle.papaya_alone.specs.Given.Resize.NewTable.{planned, first_table, with_block, after_making, goes, made, linked, plan_at, new_table_plan}
-use Rattle.papaya_alone.specs.Given.Tables.Probes.{limit_of}
-use Rattle.papaya_alone.specs.Given.Tables.declared.node.Node.{Node}
-use Rattle.papaya_alone.specs.Given.Tables.declared.node.Node.TheVariants as node
-use Rattle.papaya_alone.specs.Given.Tables.declared.setting.Setting.{Setting}
-use Rattle.papaya_alone.specs.Given.Tables.declared.status.TheConstants.Status.{PROMOTED}
-use Rattle.papaya_alone.specs.Given.Tables.declared.table.Table.{Table}
-use Rattle.papaya_alone.specs.Given.Tables.declared.table_words.TheConstants.{STATUS, PLACES}
-use Rattle.papaya_alone.specs.Given.Resize.declared.new_table.NewTable.{NewTable}
-use Rattle.papaya_alone.specs.Given.Resize.declared.new_table.Making.{Making}
-use Rattle.papaya_alone.specs.Given.Resize.declared.new_table.Making.TheVariants as at
-use Rattle.papaya_alone.specs.Given.Rule.Rule.{no_table}
-use Rattle.papaya_alone.specs.Given.Rule.Words.{Blocks}
-use Rattle.papaya_alone.specs.Given.Points.FactsTables.{MakingFacts, NewTableFacts}
+use Rattle.papaya_alone.specs.Given.SeizeWordsDeclared.at.At.{At}
+use Rattle.papaya_alone.specs.Given.SeizeWordsDeclared.at.At.TheVariants.{Root, Used, Slot, Entry, Word}
+use Rattle.papaya_alone.specs.Given.SeizeWordsDeclared.fault.Fault.TheVariants.{Capacity}
+use Rattle.papaya_alone.specs.Given.SeizeWordsMem.{Mem, value_at, Took}
+use Rattle.papaya_alone.specs.Given.SeizeWordsPlan.{Now, Steps}
+use Rattle.papaya_alone.proofs.Given.SeizeWordsOneOwner.Operations.{exchanged, stored, made as make_made}
+use Rattle.papaya_alone.specs.Given.SeizeWorld.{World}
+use Rattle.papaya_alone.specs.Given.SeizeDeclared.progress.Progress.{Progress}
+use Rattle.papaya_alone.specs.Given.SeizeDeclared.progress.Progress.TheVariants as progress
+use Rattle.papaya_alone.specs.Given.ResizeNewTable.{planned, first_table, with_block, after_making, goes, made, linked, plan_at, new_table_plan}
+use Rattle.papaya_alone.specs.Given.TablesProbes.{limit_of}
+use Rattle.papaya_alone.specs.Given.TablesDeclared.node.Node.{Node}
+use Rattle.papaya_alone.specs.Given.TablesDeclared.node.Node.TheVariants as node
+use Rattle.papaya_alone.specs.Given.TablesDeclared.setting.Setting.{Setting}
+use Rattle.papaya_alone.specs.Given.TablesDeclared.status.TheConstants.Status.{PROMOTED}
+use Rattle.papaya_alone.specs.Given.TablesDeclared.table.Table.{Table}
+use Rattle.papaya_alone.specs.Given.TablesDeclared.table_words.TheConstants.{STATUS, PLACES}
+use Rattle.papaya_alone.specs.Given.ResizeDeclared.new_table.NewTable.{NewTable}
+use Rattle.papaya_alone.specs.Given.ResizeDeclared.new_table.Making.{Making}
+use Rattle.papaya_alone.specs.Given.ResizeDeclared.new_table.Making.TheVariants as at
+use Rattle.papaya_alone.specs.Given.RuleRule.{no_table}
+use Rattle.papaya_alone.specs.Given.RuleWords.{Blocks}
+use Rattle.papaya_alone.specs.Given.PointsFactsTables.{MakingFacts, NewTableFacts}
 use Rattle.papaya_finishes.specs.Makings.{HasLen}
 
 pub first_len : (setting : Setting) (len : ℕ) → HasLen (max len 8) (first_table setting len).stands

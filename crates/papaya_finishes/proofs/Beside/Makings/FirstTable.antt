@@ -2,32 +2,32 @@
 use Rattle.std.specs.Prelude.{length, ◌≡◌, ℕ, suc, ◌<◌, ◌≤◌, Bool, true, false, cond, List, [], ◌∷◌, Option, None}
 use Rattle.std.specs.List.{All}
 use Rattle.std.proofs.Common.{refl, ap, sym, subst, inl, arith}
-use Rattle.papaya_alone.specs.Given.Seize.Law.{With, where_is, is_somewhere, holds, owner_of}
-use Rattle.papaya_alone.specs.Given.Seize.World.{World, InUse, IsInside, IsOnto}
-use Rattle.papaya_alone.proofs.Given.SeizeMoves.State.Logs.{reached_held}
-use Rattle.papaya_alone.proofs.Given.SeizeAlone.Histories.Reached.{Reached}
-use Rattle.papaya_alone.proofs.Given.SeizeAlone.Histories.Uses.{inside_open}
-use Rattle.papaya_alone.specs.Given.Tables.Chunks.{is_incremental}
-use Rattle.papaya_alone.specs.Given.Tables.Nodes.{deferred_word}
-use Rattle.papaya_alone.specs.Given.Tables.declared.node.Node.{Node}
-use Rattle.papaya_alone.specs.Given.Tables.declared.setting.Setting.{Setting}
-use Rattle.papaya_alone.specs.Given.Tables.declared.status.TheConstants.Status.{ABORTED}
-use Rattle.papaya_alone.specs.Given.Rule.Chart.{Chart}
-use Rattle.papaya_alone.specs.Given.Rule.InWorld.{IsMapIn}
-use Rattle.papaya_alone.specs.Given.Rule.Maps.{spot_of}
-use Rattle.papaya_alone.specs.Given.Rule.Moments.{Moments}
-use Rattle.papaya_alone.specs.Given.Rule.Moves.{Links, after, is_done_by}
-use Rattle.papaya_alone.specs.Given.Rule.Rule.{no_table}
-use Rattle.papaya_alone.specs.Given.Rule.Words.{Blocks}
-use Rattle.papaya_alone.proofs.Given.Rule.Moves.Totals.{total_none}
-use Rattle.papaya_alone.specs.Given.Points.FactsCopies.{HasDone, ClaimsNone}
-use Rattle.papaya_alone.specs.Given.Points.FactsCopiesBlocking.{HasNoShares}
-use Rattle.papaya_alone.specs.Given.Callers.Claims.{AreFew, ClaimsFit}
-use Rattle.papaya_alone.specs.Given.Callers.Kept.{IsUsersOwn, IsMaking, IsKeptBy, IsWithin}
-use Rattle.papaya_alone.specs.Given.Callers.Sights.{SeesSources, IsSight}
-use Rattle.papaya_alone.specs.Given.Callers.Together.{UnderWay, HasCall, ToClaim, CameAbout, in_slot, Together}
-use Rattle.papaya_alone.proofs.Given.Callers.Rows.Defers.{used_stands}
-use Rattle.papaya_alone.proofs.Given.Callers.Together.Came.{came_reached}
+use Rattle.papaya_alone.specs.Given.SeizeLaw.{With, where_is, is_somewhere, holds, owner_of}
+use Rattle.papaya_alone.specs.Given.SeizeWorld.{World, InUse, IsInside, IsOnto}
+use Rattle.papaya_alone.proofs.Given.SeizeMovesState.Logs.{reached_held}
+use Rattle.papaya_alone.proofs.Given.SeizeAloneHistories.Reached.{Reached}
+use Rattle.papaya_alone.proofs.Given.SeizeAloneHistories.Uses.{inside_open}
+use Rattle.papaya_alone.specs.Given.TablesChunks.{is_incremental}
+use Rattle.papaya_alone.specs.Given.TablesNodes.{deferred_word}
+use Rattle.papaya_alone.specs.Given.TablesDeclared.node.Node.{Node}
+use Rattle.papaya_alone.specs.Given.TablesDeclared.setting.Setting.{Setting}
+use Rattle.papaya_alone.specs.Given.TablesDeclared.status.TheConstants.Status.{ABORTED}
+use Rattle.papaya_alone.specs.Given.RuleChart.{Chart}
+use Rattle.papaya_alone.specs.Given.RuleInWorld.{IsMapIn}
+use Rattle.papaya_alone.specs.Given.RuleMaps.{spot_of}
+use Rattle.papaya_alone.specs.Given.RuleMoments.{Moments}
+use Rattle.papaya_alone.specs.Given.RuleMoves.{Links, after, is_done_by}
+use Rattle.papaya_alone.specs.Given.RuleRule.{no_table}
+use Rattle.papaya_alone.specs.Given.RuleWords.{Blocks}
+use Rattle.papaya_alone.proofs.Given.RuleMoves.Totals.{total_none}
+use Rattle.papaya_alone.specs.Given.PointsFactsCopies.{HasDone, ClaimsNone}
+use Rattle.papaya_alone.specs.Given.PointsFactsCopiesBlocking.{HasNoShares}
+use Rattle.papaya_alone.specs.Given.CallersClaims.{AreFew, ClaimsFit}
+use Rattle.papaya_alone.specs.Given.CallersKept.{IsUsersOwn, IsMaking, IsKeptBy, IsWithin}
+use Rattle.papaya_alone.specs.Given.CallersSights.{SeesSources, IsSight}
+use Rattle.papaya_alone.specs.Given.CallersTogether.{UnderWay, HasCall, ToClaim, CameAbout, in_slot, Together}
+use Rattle.papaya_alone.proofs.Given.CallersRows.Defers.{used_stands}
+use Rattle.papaya_alone.proofs.Given.CallersTogether.Came.{came_reached}
 
 -- what is so of turn 0 is so of each turn below 1
 at_first : (P : ℕ → Type 0) → P 0 → (t : ℕ) → t < 1 → P t

@@ -1,27 +1,27 @@
 -- What a making knows lasts while others take steps that leave it what it has.
 use Rattle.std.specs.Prelude.{◌≡◌, ℕ, Bool, Some}
 use Rattle.std.proofs.Common.{refl, sym, subst, ◌∙◌, inl, arith}
-use Rattle.papaya_alone.specs.Given.SeizeWords.declared.at.At.TheVariants.{Root, Used, Word}
-use Rattle.papaya_alone.specs.Given.SeizeWords.Mem.{value_at, word_at}
-use Rattle.papaya_alone.specs.Given.Seize.World.{World}
-use Rattle.papaya_alone.specs.Given.Tables.Chunks.{is_incremental}
-use Rattle.papaya_alone.specs.Given.Tables.declared.node.Node.{Node}
-use Rattle.papaya_alone.specs.Given.Tables.declared.setting.Setting.{Setting}
-use Rattle.papaya_alone.specs.Given.Resize.declared.new_map.NewMap.{NewMap}
-use Rattle.papaya_alone.specs.Given.Resize.declared.new_map.Opening.{Opening}
-use Rattle.papaya_alone.specs.Given.Resize.declared.new_map.Opening.TheVariants as at
-use Rattle.papaya_alone.specs.Given.Resize.declared.new_table.NewTable.{NewTable}
-use Rattle.papaya_alone.specs.Given.Resize.declared.new_table.Making.{Making as Point}
-use Rattle.papaya_alone.specs.Given.Resize.declared.new_table.Making.TheVariants as makes
-use Rattle.papaya_alone.specs.Given.Rule.InWorld.{KeepsBlocks}
-use Rattle.papaya_alone.specs.Given.Rule.Maps.{spot_of}
-use Rattle.papaya_alone.specs.Given.Rule.Rule.{no_table}
-use Rattle.papaya_alone.proofs.Given.Rule.History.LeavingOn.{leaves_same}
-use Rattle.papaya_alone.specs.Given.Points.FactsTables.{MakingFacts as TableFacts, NewTableFacts}
-use Rattle.papaya_alone.specs.Given.Points.Others.{OthersStep}
-use Rattle.papaya_alone.proofs.Given.Late.Known.Tables.{own_table_on}
+use Rattle.papaya_alone.specs.Given.SeizeWordsDeclared.at.At.TheVariants.{Root, Used, Word}
+use Rattle.papaya_alone.specs.Given.SeizeWordsMem.{value_at, word_at}
+use Rattle.papaya_alone.specs.Given.SeizeWorld.{World}
+use Rattle.papaya_alone.specs.Given.TablesChunks.{is_incremental}
+use Rattle.papaya_alone.specs.Given.TablesDeclared.node.Node.{Node}
+use Rattle.papaya_alone.specs.Given.TablesDeclared.setting.Setting.{Setting}
+use Rattle.papaya_alone.specs.Given.ResizeDeclared.new_map.NewMap.{NewMap}
+use Rattle.papaya_alone.specs.Given.ResizeDeclared.new_map.Opening.{Opening}
+use Rattle.papaya_alone.specs.Given.ResizeDeclared.new_map.Opening.TheVariants as at
+use Rattle.papaya_alone.specs.Given.ResizeDeclared.new_table.NewTable.{NewTable}
+use Rattle.papaya_alone.specs.Given.ResizeDeclared.new_table.Making.{Making as Point}
+use Rattle.papaya_alone.specs.Given.ResizeDeclared.new_table.Making.TheVariants as makes
+use Rattle.papaya_alone.specs.Given.RuleInWorld.{KeepsBlocks}
+use Rattle.papaya_alone.specs.Given.RuleMaps.{spot_of}
+use Rattle.papaya_alone.specs.Given.RuleRule.{no_table}
+use Rattle.papaya_alone.proofs.Given.RuleHistory.LeavingOn.{leaves_same}
+use Rattle.papaya_alone.specs.Given.PointsFactsTables.{MakingFacts as TableFacts, NewTableFacts}
+use Rattle.papaya_alone.specs.Given.PointsOthers.{OthersStep}
+use Rattle.papaya_alone.proofs.Given.LateKnown.Tables.{own_table_on}
 use Rattle.papaya_finishes.specs.Makings.{Beginning, HasTaken, HasMade, IsTakenRoot, HasOwnCounter, OpeningFacts, MakingFacts}
-use Rattle.papaya_alone.specs.Given.Callers.Together.{no_blocks}
+use Rattle.papaya_alone.specs.Given.CallersTogether.{no_blocks}
 
 module _ {K V : Type 0} (same : K → K → Bool) (j : ℕ) (w w2 : World (Node K V)) where
   -- what is left to the caller that has this making: its root, its blocks, its counter

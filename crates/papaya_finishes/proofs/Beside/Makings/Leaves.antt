@@ -1,23 +1,23 @@
 -- What a step of a making leaves as it is: all blocks, roots and words but those that the making has.
 use Rattle.std.specs.Prelude.{◌≡◌, ◌≢◌, ℕ, true, List, Some, ◌⊎◌}
 use Rattle.std.proofs.Common.{ap, sym, subst, ◌∙◌, inl, inr}
-use Rattle.papaya_alone.specs.Given.SeizeWords.declared.at.At.TheVariants.{Root, Used, Entry, Word}
-use Rattle.papaya_alone.specs.Given.SeizeWords.Mem.{value_at, word_at}
-use Rattle.papaya_alone.specs.Given.Seize.declared.states.TheConstants.{NEXT}
-use Rattle.papaya_alone.specs.Given.Seize.Law.{where_is, is_somewhere, holds, owner_of, is_orphan, is_over}
-use Rattle.papaya_alone.specs.Given.Seize.World.{World, Row, Use, Making, Event, Runs, IsInside}
-use Rattle.papaya_alone.proofs.Given.SeizeAlone.Histories.Reached.{Reached}
-use Rattle.papaya_alone.specs.Given.Tables.Nodes.{deferred_word}
-use Rattle.papaya_alone.specs.Given.Tables.declared.node.Node.{Node}
-use Rattle.papaya_alone.specs.Given.Tables.declared.node.Node.TheVariants as node
-use Rattle.papaya_alone.specs.Given.Resize.declared.new_map.NewMap.{NewMap}
-use Rattle.papaya_alone.specs.Given.Rule.InWorld.{AllUsers, KeepsBlocks}
-use Rattle.papaya_alone.specs.Given.Callers.Kept.{IsUsersOwn, IsKeptBy}
+use Rattle.papaya_alone.specs.Given.SeizeWordsDeclared.at.At.TheVariants.{Root, Used, Entry, Word}
+use Rattle.papaya_alone.specs.Given.SeizeWordsMem.{value_at, word_at}
+use Rattle.papaya_alone.specs.Given.SeizeDeclared.states.TheConstants.{NEXT}
+use Rattle.papaya_alone.specs.Given.SeizeLaw.{where_is, is_somewhere, holds, owner_of, is_orphan, is_over}
+use Rattle.papaya_alone.specs.Given.SeizeWorld.{World, Row, Use, Making, Event, Runs, IsInside}
+use Rattle.papaya_alone.proofs.Given.SeizeAloneHistories.Reached.{Reached}
+use Rattle.papaya_alone.specs.Given.TablesNodes.{deferred_word}
+use Rattle.papaya_alone.specs.Given.TablesDeclared.node.Node.{Node}
+use Rattle.papaya_alone.specs.Given.TablesDeclared.node.Node.TheVariants as node
+use Rattle.papaya_alone.specs.Given.ResizeDeclared.new_map.NewMap.{NewMap}
+use Rattle.papaya_alone.specs.Given.RuleInWorld.{AllUsers, KeepsBlocks}
+use Rattle.papaya_alone.specs.Given.CallersKept.{IsUsersOwn, IsKeptBy}
 use Rattle.papaya_finishes.specs.Makings.{HasTaken, HasMade, HasRoots}
-use Rattle.papaya_alone.specs.Given.Callers.Together.{CameAbout}
-use Rattle.papaya_alone.proofs.Given.Callers.Rows.Users.{events_hold}
-use Rattle.papaya_alone.proofs.Given.Callers.Together.Came.{came_reached, came_on}
-use Rattle.papaya_alone.proofs.Given.Callers.Together.Users.{events_uses, events_rows}
+use Rattle.papaya_alone.specs.Given.CallersTogether.{CameAbout}
+use Rattle.papaya_alone.proofs.Given.CallersRows.Users.{events_hold}
+use Rattle.papaya_alone.proofs.Given.CallersTogether.Came.{came_reached, came_on}
+use Rattle.papaya_alone.proofs.Given.CallersTogether.Users.{events_uses, events_rows}
 
 module _ {K V : Type 0} (i : ℕ) (n : NewMap) (w : World (Node K V)) where
   -- a block that the making has: its table, or its counter

@@ -1,10 +1,10 @@
 -- A step of a making leaves each other making what it has.
 use Rattle.std.specs.Prelude.{◌≡◌, ◌≢◌, ℕ, Bool}
 use Rattle.std.proofs.Common.{sym}
-use Rattle.papaya_alone.specs.Given.Seize.World.{World, Making}
-use Rattle.papaya_alone.specs.Given.Tables.declared.node.Node.{Node}
-use Rattle.papaya_alone.specs.Given.Tables.declared.node.Node.TheVariants as node
-use Rattle.papaya_alone.specs.Given.Resize.declared.new_map.NewMap.{NewMap}
+use Rattle.papaya_alone.specs.Given.SeizeWorld.{World, Making}
+use Rattle.papaya_alone.specs.Given.TablesDeclared.node.Node.{Node}
+use Rattle.papaya_alone.specs.Given.TablesDeclared.node.Node.TheVariants as node
+use Rattle.papaya_alone.specs.Given.ResizeDeclared.new_map.NewMap.{NewMap}
 use Rattle.papaya_finishes.specs.Makings.{HasTaken, HasOwnCounter}
 use Rattle.papaya_finishes.proofs.Beside.Makings.Lasts.{IsLeftTo, counter_on}
 use Rattle.papaya_finishes.proofs.Beside.Makings.Leaves.{IsItsBlock, IsItsRoot, IsAsItWas, LeavesOthers}

@@ -1,25 +1,25 @@
 -- A step of a making leaves each map that stands as it is.
 use Rattle.std.specs.Prelude.{◌≡◌, ◌≢◌, ℕ, Bool, Option, None}
 use Rattle.std.proofs.Common.{sym, subst, ap, ◌∙◌, inl, inr}
-use Rattle.papaya_alone.specs.Given.Seize.World.{World, IsOnto}
-use Rattle.papaya_alone.specs.Given.Tables.Nodes.{deferred_word}
-use Rattle.papaya_alone.specs.Given.Tables.declared.node.Node.{Node}
-use Rattle.papaya_alone.specs.Given.Tables.declared.node.Node.TheVariants as node
-use Rattle.papaya_alone.specs.Given.Tables.declared.setting.Setting.{Setting}
-use Rattle.papaya_alone.specs.Given.Resize.declared.new_map.NewMap.{NewMap}
-use Rattle.papaya_alone.specs.Given.Rule.Chart.{Chart}
-use Rattle.papaya_alone.specs.Given.Rule.Words.{Blocks}
-use Rattle.papaya_alone.specs.Given.Rule.InWorld.{IsOut, IsKnownBlock}
-use Rattle.papaya_alone.specs.Given.Points.Steps.{AreLawful}
+use Rattle.papaya_alone.specs.Given.SeizeWorld.{World, IsOnto}
+use Rattle.papaya_alone.specs.Given.TablesNodes.{deferred_word}
+use Rattle.papaya_alone.specs.Given.TablesDeclared.node.Node.{Node}
+use Rattle.papaya_alone.specs.Given.TablesDeclared.node.Node.TheVariants as node
+use Rattle.papaya_alone.specs.Given.TablesDeclared.setting.Setting.{Setting}
+use Rattle.papaya_alone.specs.Given.ResizeDeclared.new_map.NewMap.{NewMap}
+use Rattle.papaya_alone.specs.Given.RuleChart.{Chart}
+use Rattle.papaya_alone.specs.Given.RuleWords.{Blocks}
+use Rattle.papaya_alone.specs.Given.RuleInWorld.{IsOut, IsKnownBlock}
+use Rattle.papaya_alone.specs.Given.PointsSteps.{AreLawful}
 use Rattle.papaya_finishes.specs.Makings.{HasMade}
-use Rattle.papaya_alone.specs.Given.Callers.Sights.{Sight}
-use Rattle.papaya_alone.specs.Given.Callers.Together.{UnderWay, Together}
+use Rattle.papaya_alone.specs.Given.CallersSights.{Sight}
+use Rattle.papaya_alone.specs.Given.CallersTogether.{UnderWay, Together}
 use Rattle.papaya_finishes.proofs.Beside.Makings.Leaves.{IsItsBlock, IsItsRoot, IsAsItWas, LeavesOthers, came_then, rows_same, still_inside, was_inside, goes_on_holding, kept_then}
 use Rattle.papaya_finishes.proofs.Beside.Maps.Left.{Leaves, left_spared}
 use Rattle.papaya_finishes.proofs.Beside.Maps.OtherSteps.{known_out, known_there}
 use Rattle.papaya_finishes.proofs.Beside.Maps.Stays.{stays}
-use Rattle.papaya_alone.proofs.Given.Callers.Rows.Behind.{events_back}
-use Rattle.papaya_alone.proofs.Given.Callers.Together.Came.{came_reached}
+use Rattle.papaya_alone.proofs.Given.CallersRows.Behind.{events_back}
+use Rattle.papaya_alone.proofs.Given.CallersTogether.Came.{came_reached}
 
 module _ {K V Q : Type 0} (same : K → K → Bool) (hash : K → ℕ) (asks : Q → K → Bool) (setting : Setting) (slot : ℕ → ℕ) (lawful : AreLawful same hash)
     (w : World (Node K V)) (c : Chart K) (blocks : Blocks) (sights : ℕ → Sight) (calls : ℕ → Option (UnderWay K V Q)) (s : Together V same hash asks setting slot w c blocks sights calls)

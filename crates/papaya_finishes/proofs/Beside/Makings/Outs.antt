@@ -1,23 +1,23 @@
 -- Blocks that are out: they are there, and what is out after a step of a making was so, or its maker had made it.
 use Rattle.std.specs.Prelude.{◌≡◌, ℕ, ◌+◌, true, List, [], ◌∷◌, Some, Ok, Err, ◌⊎◌}
 use Rattle.std.proofs.Common.{ap, sym, subst, ◌∙◌, inl, inr, arith}
-use Rattle.papaya_alone.specs.Given.SeizeWords.Op.{Out, Found, Stored, Exchanged, Made, Taken, Roomed}
-use Rattle.papaya_alone.specs.Given.SeizeWords.Mem.{Mem, value_at}
-use Rattle.papaya_alone.specs.Given.Seize.declared.states.TheConstants.{LAST_SLOT}
-use Rattle.papaya_alone.specs.Given.Seize.World.{World, Hand, NoBlock, Making, InUse, Parting, Cutting, Handed, LeftTo, Event, Begin, Step, Makes, Drops, Links, Parts, Unlinks, Rewrites, Operates, Ends, LeavesOver, Relinks, Clears, Chooses, Happens, Runs, with_at, made_by}
-use Rattle.papaya_alone.proofs.Given.SeizeMoves.State.Ghost.{Life}
-use Rattle.papaya_alone.proofs.Given.SeizeRule.Points.Aside.{HandFits, is_handed, IsStanding, cut_stands}
-use Rattle.papaya_alone.proofs.Given.SeizeRule.Words.Shows.{lives}
-use Rattle.papaya_alone.proofs.Given.SeizeRule.Words.There.{value_there}
-use Rattle.papaya_alone.specs.Given.Tables.Nodes.{deferred_word}
-use Rattle.papaya_alone.specs.Given.Tables.declared.node.Node.{Node}
-use Rattle.papaya_alone.specs.Given.Tables.declared.setting.Setting.{Setting}
-use Rattle.papaya_alone.specs.Given.Rule.Chart.{Chart}
-use Rattle.papaya_alone.specs.Given.Rule.InWorld.{IsOut, IsIts, IsItsEvent, IsKnownBlock, AllIts}
-use Rattle.papaya_alone.specs.Given.Rule.Words.{Blocks}
-use Rattle.papaya_alone.proofs.Given.Rule.World.Hands.{at_cases}
-use Rattle.papaya_alone.specs.Given.Callers.Together.{CameAbout}
-use Rattle.papaya_alone.proofs.Given.Callers.Together.Came.{came_reached}
+use Rattle.papaya_alone.specs.Given.SeizeWordsOp.{Out, Found, Stored, Exchanged, Made, Taken, Roomed}
+use Rattle.papaya_alone.specs.Given.SeizeWordsMem.{Mem, value_at}
+use Rattle.papaya_alone.specs.Given.SeizeDeclared.states.TheConstants.{LAST_SLOT}
+use Rattle.papaya_alone.specs.Given.SeizeWorld.{World, Hand, NoBlock, Making, InUse, Parting, Cutting, Handed, LeftTo, Event, Begin, Step, Makes, Drops, Links, Parts, Unlinks, Rewrites, Operates, Ends, LeavesOver, Relinks, Clears, Chooses, Happens, Runs, with_at, made_by}
+use Rattle.papaya_alone.proofs.Given.SeizeMovesState.Ghost.{Life}
+use Rattle.papaya_alone.proofs.Given.SeizeRulePoints.Aside.{HandFits, is_handed, IsStanding, cut_stands}
+use Rattle.papaya_alone.proofs.Given.SeizeRuleWords.Shows.{lives}
+use Rattle.papaya_alone.proofs.Given.SeizeRuleWords.There.{value_there}
+use Rattle.papaya_alone.specs.Given.TablesNodes.{deferred_word}
+use Rattle.papaya_alone.specs.Given.TablesDeclared.node.Node.{Node}
+use Rattle.papaya_alone.specs.Given.TablesDeclared.setting.Setting.{Setting}
+use Rattle.papaya_alone.specs.Given.RuleChart.{Chart}
+use Rattle.papaya_alone.specs.Given.RuleInWorld.{IsOut, IsIts, IsItsEvent, IsKnownBlock, AllIts}
+use Rattle.papaya_alone.specs.Given.RuleWords.{Blocks}
+use Rattle.papaya_alone.proofs.Given.RuleWorld.Hands.{at_cases}
+use Rattle.papaya_alone.specs.Given.CallersTogether.{CameAbout}
+use Rattle.papaya_alone.proofs.Given.CallersTogether.Came.{came_reached}
 use Rattle.papaya_finishes.proofs.Beside.Endings.Spares.{some_there}
 
 -- what is linked is out

@@ -1,24 +1,24 @@
 -- Wrong steps of a making: what each leads to is none of what the law says of a step.
 use Rattle.std.specs.Prelude.{◌≡◌, ◌⊎◌, ℕ, Bool, Option, Some, None}
 use Rattle.std.proofs.Common.{refl, ap, subst, ◌∙◌, inl, inr}
-use Rattle.papaya_alone.specs.Given.SeizeWords.declared.at.At.TheVariants.{Used}
-use Rattle.papaya_alone.specs.Given.SeizeWords.declared.fault.Fault.{Fault}
-use Rattle.papaya_alone.specs.Given.SeizeWords.Mem.{Mem, Took, value_at, word_at}
-use Rattle.papaya_alone.specs.Given.SeizeWords.Op.{Store}
-use Rattle.papaya_alone.specs.Given.SeizeWords.Plan.{Plan, Turn, Do, Now, Steps}
-use Rattle.papaya_alone.proofs.Given.SeizeWords.OneOwner.Operations.{stored}
-use Rattle.papaya_alone.specs.Given.Seize.World.{World, with_at}
-use Rattle.papaya_alone.specs.Given.Seize.declared.progress.Progress.{Progress}
-use Rattle.papaya_alone.specs.Given.Tables.declared.node.Node.{Node}
-use Rattle.papaya_alone.specs.Given.Tables.declared.setting.Setting.{Setting}
-use Rattle.papaya_alone.specs.Given.Resize.NewMap.{goes, refused}
-use Rattle.papaya_alone.specs.Given.Resize.declared.new_map.NewMap.{NewMap}
-use Rattle.papaya_alone.specs.Given.Resize.declared.new_map.Opening.TheVariants as at
+use Rattle.papaya_alone.specs.Given.SeizeWordsDeclared.at.At.TheVariants.{Used}
+use Rattle.papaya_alone.specs.Given.SeizeWordsDeclared.fault.Fault.{Fault}
+use Rattle.papaya_alone.specs.Given.SeizeWordsMem.{Mem, Took, value_at, word_at}
+use Rattle.papaya_alone.specs.Given.SeizeWordsOp.{Store}
+use Rattle.papaya_alone.specs.Given.SeizeWordsPlan.{Plan, Turn, Do, Now, Steps}
+use Rattle.papaya_alone.proofs.Given.SeizeWordsOneOwner.Operations.{stored}
+use Rattle.papaya_alone.specs.Given.SeizeWorld.{World, with_at}
+use Rattle.papaya_alone.specs.Given.SeizeDeclared.progress.Progress.{Progress}
+use Rattle.papaya_alone.specs.Given.TablesDeclared.node.Node.{Node}
+use Rattle.papaya_alone.specs.Given.TablesDeclared.setting.Setting.{Setting}
+use Rattle.papaya_alone.specs.Given.ResizeNewMap.{goes, refused}
+use Rattle.papaya_alone.specs.Given.ResizeDeclared.new_map.NewMap.{NewMap}
+use Rattle.papaya_alone.specs.Given.ResizeDeclared.new_map.Opening.TheVariants as at
 use Rattle.papaya_finishes.specs.Makings.{Beginning, HasTaken, HasMade, KeepsIts, MakingsTogether, MakingTold, StepsOfMaking}
 use Rattle.papaya_finishes.specs.Maps.{Standing}
-use Rattle.papaya_alone.specs.Given.Callers.Together.{UnderWay}
+use Rattle.papaya_alone.specs.Given.CallersTogether.{UnderWay}
 use Rattle.papaya_finishes.proofs.Beside.Makings.Lasts.{taken_root, made_counter}
-use Rattle.papaya_alone.proofs.Given.Callers.Together.At.{at_same}
+use Rattle.papaya_alone.proofs.Given.CallersTogether.At.{at_same}
 
 module _ {T : Type 0} where
   -- it takes the root without asking whether it is free

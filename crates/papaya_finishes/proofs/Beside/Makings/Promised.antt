@@ -1,19 +1,19 @@
 -- Makings begin, and whoever takes a step of one may take it, and all stand together again.
 use Rattle.std.specs.Prelude.{◌≡◌, ◌≢◌, ℕ, Bool, Option, Some, None}
 use Rattle.std.proofs.Common.{refl, sym, subst}
-use Rattle.papaya_alone.specs.Given.SeizeWords.Mem.{Mem, Can, Took, value_at}
-use Rattle.papaya_alone.specs.Given.SeizeWords.Plan.{May, Steps}
-use Rattle.papaya_alone.specs.Given.Seize.World.{World}
-use Rattle.papaya_alone.specs.Given.Seize.declared.progress.Progress.{Progress}
-use Rattle.papaya_alone.specs.Given.Tables.declared.node.Node.{Node}
-use Rattle.papaya_alone.specs.Given.Tables.declared.setting.Setting.{Setting}
-use Rattle.papaya_alone.specs.Given.Resize.NewMap.{new_map_plan, opening, plan_at}
-use Rattle.papaya_alone.specs.Given.Resize.declared.new_map.NewMap.{NewMap}
-use Rattle.papaya_alone.specs.Given.Resize.declared.new_map.Opening.{Opening}
-use Rattle.papaya_alone.specs.Given.Resize.declared.new_map.Opening.TheVariants as at
+use Rattle.papaya_alone.specs.Given.SeizeWordsMem.{Mem, Can, Took, value_at}
+use Rattle.papaya_alone.specs.Given.SeizeWordsPlan.{May, Steps}
+use Rattle.papaya_alone.specs.Given.SeizeWorld.{World}
+use Rattle.papaya_alone.specs.Given.SeizeDeclared.progress.Progress.{Progress}
+use Rattle.papaya_alone.specs.Given.TablesDeclared.node.Node.{Node}
+use Rattle.papaya_alone.specs.Given.TablesDeclared.setting.Setting.{Setting}
+use Rattle.papaya_alone.specs.Given.ResizeNewMap.{new_map_plan, opening, plan_at}
+use Rattle.papaya_alone.specs.Given.ResizeDeclared.new_map.NewMap.{NewMap}
+use Rattle.papaya_alone.specs.Given.ResizeDeclared.new_map.Opening.{Opening}
+use Rattle.papaya_alone.specs.Given.ResizeDeclared.new_map.Opening.TheVariants as at
 use Rattle.papaya_finishes.specs.Makings.{Beginning, HasTaken, HasMade, HasRoots, OpeningFacts, MakingFacts, MakingsTogether, NoMakingsBegin, MakingsBegin, MakingsStand}
 use Rattle.papaya_finishes.specs.Maps.{Standing}
-use Rattle.papaya_alone.specs.Given.Callers.Together.{UnderWay, CameAbout}
+use Rattle.papaya_alone.specs.Given.CallersTogether.{UnderWay, CameAbout}
 use Rattle.papaya_finishes.proofs.Beside.Makings.Counters.{may_shards, went_shards, may_unmakes, went_unmakes}
 use Rattle.papaya_finishes.proofs.Beside.Makings.Roots.{may_takes, went_takes, may_frees, went_frees}
 use Rattle.papaya_finishes.proofs.Beside.Makings.Steps.{one_made, two_made, making_leads}

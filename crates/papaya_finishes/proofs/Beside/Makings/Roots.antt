@@ -2,26 +2,26 @@
 use Rattle.std.specs.Prelude.{◌≡◌, ◌≢◌, ℕ, ◌+◌, ◌-◌, ◌<◌, Bool, true, false, cond, nat_lt, [], ◌∷◌, Some, Ok, IsSome, if◌then◌else◌}
 use Rattle.std.proofs.Common.{refl, ap, sym, subst, ◌∙◌, inl, inr, arith, ◌⊎◌}
 use Rattle.std.proofs.lemmas.Bool.{cases_eq, eq-eqb, ne_eqb}
-use Rattle.papaya_alone.specs.Given.SeizeWords.declared.at.At.TheVariants.{Root, Used}
-use Rattle.papaya_alone.specs.Given.SeizeWords.declared.fault.Fault.{Fault}
-use Rattle.papaya_alone.specs.Given.SeizeWords.declared.fault.Fault.TheVariants.{RootsUsedUp}
-use Rattle.papaya_alone.specs.Given.SeizeWords.Op.{Op, Out, Store, Exchange, Stored, Exchanged}
-use Rattle.papaya_alone.specs.Given.SeizeWords.Mem.{Mem, value_at, word_at, with_word, Can, Took}
-use Rattle.papaya_alone.specs.Given.SeizeWords.Plan.{Now, May, Steps}
-use Rattle.papaya_alone.proofs.Given.SeizeWords.OneOwner.AfterWrites.{word_at-with_word}
-use Rattle.papaya_alone.proofs.Given.SeizeWords.OneOwner.Operations.{may_exchange, exchanged, may_store, stored}
-use Rattle.papaya_alone.specs.Given.Seize.World.{World, Operates, IsOwnOp}
-use Rattle.papaya_alone.specs.Given.Seize.declared.progress.Progress.{Progress}
-use Rattle.papaya_alone.specs.Given.Seize.declared.progress.Progress.TheVariants as progress
-use Rattle.papaya_alone.specs.Given.Tables.Nodes.{deferred_word}
-use Rattle.papaya_alone.specs.Given.Tables.declared.node.Node.{Node}
-use Rattle.papaya_alone.specs.Given.Tables.declared.setting.Setting.{Setting}
-use Rattle.papaya_alone.specs.Given.Resize.NewMap.{at_root, next_root, taken, takes, refused, frees}
-use Rattle.papaya_alone.specs.Given.Resize.declared.new_map.NewMap.{NewMap}
-use Rattle.papaya_alone.specs.Given.Resize.declared.new_map.Opening.{Opening}
-use Rattle.papaya_alone.specs.Given.Resize.declared.new_map.Opening.TheVariants as at
-use Rattle.papaya_alone.proofs.Given.Rule.Words.WritesWords.{is_some_of}
-use Rattle.papaya_alone.proofs.Given.Rule.World.OthersSpared.{keeps_written}
+use Rattle.papaya_alone.specs.Given.SeizeWordsDeclared.at.At.TheVariants.{Root, Used}
+use Rattle.papaya_alone.specs.Given.SeizeWordsDeclared.fault.Fault.{Fault}
+use Rattle.papaya_alone.specs.Given.SeizeWordsDeclared.fault.Fault.TheVariants.{RootsUsedUp}
+use Rattle.papaya_alone.specs.Given.SeizeWordsOp.{Op, Out, Store, Exchange, Stored, Exchanged}
+use Rattle.papaya_alone.specs.Given.SeizeWordsMem.{Mem, value_at, word_at, with_word, Can, Took}
+use Rattle.papaya_alone.specs.Given.SeizeWordsPlan.{Now, May, Steps}
+use Rattle.papaya_alone.proofs.Given.SeizeWordsOneOwner.AfterWrites.{word_at-with_word}
+use Rattle.papaya_alone.proofs.Given.SeizeWordsOneOwner.Operations.{may_exchange, exchanged, may_store, stored}
+use Rattle.papaya_alone.specs.Given.SeizeWorld.{World, Operates, IsOwnOp}
+use Rattle.papaya_alone.specs.Given.SeizeDeclared.progress.Progress.{Progress}
+use Rattle.papaya_alone.specs.Given.SeizeDeclared.progress.Progress.TheVariants as progress
+use Rattle.papaya_alone.specs.Given.TablesNodes.{deferred_word}
+use Rattle.papaya_alone.specs.Given.TablesDeclared.node.Node.{Node}
+use Rattle.papaya_alone.specs.Given.TablesDeclared.setting.Setting.{Setting}
+use Rattle.papaya_alone.specs.Given.ResizeNewMap.{at_root, next_root, taken, takes, refused, frees}
+use Rattle.papaya_alone.specs.Given.ResizeDeclared.new_map.NewMap.{NewMap}
+use Rattle.papaya_alone.specs.Given.ResizeDeclared.new_map.Opening.{Opening}
+use Rattle.papaya_alone.specs.Given.ResizeDeclared.new_map.Opening.TheVariants as at
+use Rattle.papaya_alone.proofs.Given.RuleWords.WritesWords.{is_some_of}
+use Rattle.papaya_alone.proofs.Given.RuleWorld.OthersSpared.{keeps_written}
 use Rattle.papaya_finishes.specs.Makings.{Beginning, HasTaken, HasMade, HasRoots, OpeningFacts, MakingFacts, KeepsIts, HasComeTo}
 use Rattle.papaya_finishes.proofs.Beside.Makings.Leaves.{IsItsRoot, LeavesOthers}
 use Rattle.papaya_finishes.proofs.Beside.Makings.Went.{GoesTo, MakingWent, facts_at, still}

@@ -1,28 +1,28 @@
 -- A row, whoever takes its steps, leaves each making what it has.
 use Rattle.std.specs.Prelude.{◌≡◌, ◌≢◌, ℕ, Bool, Option, Some, None, slice_get}
 use Rattle.std.proofs.Common.{refl, ap, sym, subst, ◌∙◌, inl, inr}
-use Rattle.papaya_alone.specs.Given.SeizeWords.declared.at.At.TheVariants.{Root, Used, Word}
-use Rattle.papaya_alone.specs.Given.SeizeWords.Mem.{Mem, value_at, word_at}
-use Rattle.papaya_alone.specs.Given.Seize.World.{World, Hand, Making, Handed, Request, Register', Enter', Leave', LeaveOwned, Refresh, Unregister', Retire, Flush, Defer', Begin, Step, Happens, with_at}
-use Rattle.papaya_alone.proofs.Given.SeizeAlone.Histories.NotTaken.{did}
-use Rattle.papaya_alone.proofs.Given.SeizeAlone.Histories.Reached.{Reached}
-use Rattle.papaya_alone.specs.Given.Tables.Nodes.{deferred_word}
-use Rattle.papaya_alone.specs.Given.Tables.declared.node.Node.{Node}
-use Rattle.papaya_alone.specs.Given.Tables.declared.setting.Setting.{Setting}
-use Rattle.papaya_alone.specs.Given.Rule.InWorld.{IsHeldBy, KeepsBlocks}
-use Rattle.papaya_alone.proofs.Given.Rule.World.Hands.{hand_kept}
-use Rattle.papaya_alone.proofs.Given.Rule.World.OthersSpared.{held_once, keeps_same, keeps_then, keeps_handed}
-use Rattle.papaya_alone.specs.Given.Callers.Kept.{IsUsersOwn}
+use Rattle.papaya_alone.specs.Given.SeizeWordsDeclared.at.At.TheVariants.{Root, Used, Word}
+use Rattle.papaya_alone.specs.Given.SeizeWordsMem.{Mem, value_at, word_at}
+use Rattle.papaya_alone.specs.Given.SeizeWorld.{World, Hand, Making, Handed, Request, Register', Enter', Leave', LeaveOwned, Refresh, Unregister', Retire, Flush, Defer', Begin, Step, Happens, with_at}
+use Rattle.papaya_alone.proofs.Given.SeizeAloneHistories.NotTaken.{did}
+use Rattle.papaya_alone.proofs.Given.SeizeAloneHistories.Reached.{Reached}
+use Rattle.papaya_alone.specs.Given.TablesNodes.{deferred_word}
+use Rattle.papaya_alone.specs.Given.TablesDeclared.node.Node.{Node}
+use Rattle.papaya_alone.specs.Given.TablesDeclared.setting.Setting.{Setting}
+use Rattle.papaya_alone.specs.Given.RuleInWorld.{IsHeldBy, KeepsBlocks}
+use Rattle.papaya_alone.proofs.Given.RuleWorld.Hands.{hand_kept}
+use Rattle.papaya_alone.proofs.Given.RuleWorld.OthersSpared.{held_once, keeps_same, keeps_then, keeps_handed}
+use Rattle.papaya_alone.specs.Given.CallersKept.{IsUsersOwn}
 use Rattle.papaya_finishes.specs.Makings.{Beginning, HasOwnCounter, MakingsTogether, AllMakingsStand, RowsStandBeside, GuardsStandBeside}
 use Rattle.papaya_finishes.specs.Maps.{Standing, IsSameMap, AllMapsStand}
-use Rattle.papaya_alone.specs.Given.Callers.Together.{OnKey, UnderWay, CameAbout, HandsOver, IsOneStep, IsOfSlots}
+use Rattle.papaya_alone.specs.Given.CallersTogether.{OnKey, UnderWay, CameAbout, HandsOver, IsOneStep, IsOfSlots}
 use Rattle.papaya_finishes.proofs.Beside.Makings.Beside.{LeavesMakings, makings_on}
 use Rattle.papaya_finishes.proofs.Beside.Makings.CallSteps.{no_maker, still_alone}
 use Rattle.papaya_finishes.proofs.Beside.Makings.Lasts.{counter_on}
 use Rattle.papaya_finishes.proofs.Beside.Maps.All.{one_of}
 use Rattle.papaya_finishes.proofs.Beside.Maps.Rows.{rows_stand_in_maps, guards_stand_in_maps}
-use Rattle.papaya_alone.proofs.Given.Callers.Rows.Beside.{users_hand, users_value, users_word, row_keeps_blocks}
-use Rattle.papaya_alone.proofs.Given.Callers.Together.Came.{came_next, came_reached}
+use Rattle.papaya_alone.proofs.Given.CallersRows.Beside.{users_hand, users_value, users_word, row_keeps_blocks}
+use Rattle.papaya_alone.proofs.Given.CallersTogether.Came.{came_next, came_reached}
 
 -- a map that is as it was, but for what may be looked at of it, has its setting
 pub same_setting : {K : Type 0} (o after : Option (Standing K)) → IsSameMap o after → (s2 : Standing K) → after ≡ Some s2 → (s : Standing K) × (o ≡ Some s) × (s2.setting ≡ s.setting)

@@ -2,19 +2,19 @@
 use Rattle.std.specs.Prelude.{◌≡◌, ◌≢◌, ◌<◌, ◌≤◌, ◌^◌, ◌+◌, ℕ, Bool, max, [], Option, Some, None}
 use Rattle.std.specs.Int.{IsPowerOfTwo}
 use Rattle.std.proofs.Common.{refl, sym, ◌∙◌, arith}
-use Rattle.papaya_alone.specs.Given.SeizeWords.declared.at.At.TheVariants.{Root, Used}
-use Rattle.papaya_alone.specs.Given.SeizeWords.Mem.{word_at}
-use Rattle.papaya_alone.specs.Given.Seize.World.{World, InUse, at_start, with_at}
-use Rattle.papaya_alone.specs.Given.Tables.Lengths.{IsTableLen}
-use Rattle.papaya_alone.specs.Given.Tables.Nodes.{deferred_word}
-use Rattle.papaya_alone.specs.Given.Tables.declared.node.Node.{Node}
-use Rattle.papaya_alone.specs.Given.Tables.declared.setting.Setting.{Setting}
-use Rattle.papaya_alone.specs.Given.Resize.NewMap.{opening}
-use Rattle.papaya_alone.proofs.Given.Points.Making.OwnTables.{zero_at}
-use Rattle.papaya_alone.specs.Given.Points.Steps.{AreLawful}
+use Rattle.papaya_alone.specs.Given.SeizeWordsDeclared.at.At.TheVariants.{Root, Used}
+use Rattle.papaya_alone.specs.Given.SeizeWordsMem.{word_at}
+use Rattle.papaya_alone.specs.Given.SeizeWorld.{World, InUse, at_start, with_at}
+use Rattle.papaya_alone.specs.Given.TablesLengths.{IsTableLen}
+use Rattle.papaya_alone.specs.Given.TablesNodes.{deferred_word}
+use Rattle.papaya_alone.specs.Given.TablesDeclared.node.Node.{Node}
+use Rattle.papaya_alone.specs.Given.TablesDeclared.setting.Setting.{Setting}
+use Rattle.papaya_alone.specs.Given.ResizeNewMap.{opening}
+use Rattle.papaya_alone.proofs.Given.PointsMaking.OwnTables.{zero_at}
+use Rattle.papaya_alone.specs.Given.PointsSteps.{AreLawful}
 use Rattle.papaya_finishes.specs.Makings.{Beginning, HasTaken, HasMade, HasRoots, MakingsTogether}
 use Rattle.papaya_finishes.specs.Maps.{Standing}
-use Rattle.papaya_alone.specs.Given.Callers.Together.{UnderWay}
+use Rattle.papaya_alone.specs.Given.CallersTogether.{UnderWay}
 use Rattle.papaya_finishes.proofs.Beside.Makings.Lasts.{made_counter}
 use Rattle.papaya_finishes.proofs.Beside.Makings.Promised.{no_makings_begin, makings_begin}
 use Rattle.papaya_finishes.proofs.Beside.Maps.Comes.{no_maps_begin}

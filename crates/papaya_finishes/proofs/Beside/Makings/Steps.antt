@@ -4,19 +4,19 @@ use Rattle.std.specs.Prelude.{◌≡◌, ◌≢◌, ℕ, Bool, Option, Some, Non
 use Rattle.std.specs.Int.{IsPowerOfTwo}
 use Rattle.std.proofs.Common.{refl, ap, sym, subst, ◌∙◌, inl, inr}
 use Rattle.std.proofs.lemmas.Bool.{cases_eq}
-use Rattle.papaya_alone.specs.Given.SeizeWords.declared.at.At.TheVariants.{Used}
-use Rattle.papaya_alone.specs.Given.SeizeWords.Mem.{Mem, value_at, word_at}
-use Rattle.papaya_alone.specs.Given.Seize.World.{World, Making, LeftTo, with_at}
-use Rattle.papaya_alone.specs.Given.Seize.declared.progress.Progress.{Progress}
-use Rattle.papaya_alone.specs.Given.Seize.declared.progress.Progress.TheVariants as progress
-use Rattle.papaya_alone.specs.Given.Tables.declared.node.Node.{Node}
-use Rattle.papaya_alone.specs.Given.Tables.declared.setting.Setting.{Setting}
-use Rattle.papaya_alone.specs.Given.Resize.declared.new_map.NewMap.{NewMap}
-use Rattle.papaya_alone.specs.Given.Points.Steps.{AreLawful}
-use Rattle.papaya_alone.specs.Given.Rule.InWorld.{IsOut}
+use Rattle.papaya_alone.specs.Given.SeizeWordsDeclared.at.At.TheVariants.{Used}
+use Rattle.papaya_alone.specs.Given.SeizeWordsMem.{Mem, value_at, word_at}
+use Rattle.papaya_alone.specs.Given.SeizeWorld.{World, Making, LeftTo, with_at}
+use Rattle.papaya_alone.specs.Given.SeizeDeclared.progress.Progress.{Progress}
+use Rattle.papaya_alone.specs.Given.SeizeDeclared.progress.Progress.TheVariants as progress
+use Rattle.papaya_alone.specs.Given.TablesDeclared.node.Node.{Node}
+use Rattle.papaya_alone.specs.Given.TablesDeclared.setting.Setting.{Setting}
+use Rattle.papaya_alone.specs.Given.ResizeDeclared.new_map.NewMap.{NewMap}
+use Rattle.papaya_alone.specs.Given.PointsSteps.{AreLawful}
+use Rattle.papaya_alone.specs.Given.RuleInWorld.{IsOut}
 use Rattle.papaya_finishes.specs.Makings.{Beginning, HasTaken, HasMade, HasOwnCounter, MakingFacts, MakingsTogether, MakingTold, StepsOfMaking, LeavesRest}
 use Rattle.papaya_finishes.specs.Maps.{Standing, MapsTogether}
-use Rattle.papaya_alone.specs.Given.Callers.Together.{UnderWay, CameAbout}
+use Rattle.papaya_alone.specs.Given.CallersTogether.{UnderWay, CameAbout}
 use Rattle.papaya_finishes.proofs.Beside.Makings.Lasts.{facts_last, taken_root, made_counter}
 use Rattle.papaya_finishes.proofs.Beside.Makings.Leaves.{LeavesOthers, came_then, IsAsItWas}
 use Rattle.papaya_finishes.proofs.Beside.Makings.OtherMakings.{making_left}
@@ -25,7 +25,7 @@ use Rattle.papaya_finishes.proofs.Beside.Makings.Outs.{out_there}
 use Rattle.papaya_finishes.proofs.Beside.Makings.Went.{IsOwnRoot, IsOwnCounter, GoesTo, MakesMap, MakingWent}
 use Rattle.papaya_finishes.proofs.Beside.Maps.All.{one_of, StandsSo}
 use Rattle.papaya_finishes.proofs.Beside.Maps.Comes.{each_at, two_at, none_at}
-use Rattle.papaya_alone.proofs.Given.Callers.Together.At.{at_other, at_same}
+use Rattle.papaya_alone.proofs.Given.CallersTogether.At.{at_other, at_same}
 
 module _ {X : Type 0} (f : ℕ → Option X) (k : ℕ) (new : Option X) where
   -- what is so of all but one, and of that one, is so of all

@@ -2,58 +2,58 @@
 use Rattle.std.specs.Prelude.{◌≡◌, ◌≢◌, ℕ, ◌*◌, ◌<◌, Bool, max, Some, ◌⊎◌}
 use Rattle.std.specs.Int.{IsPowerOfTwo}
 use Rattle.std.proofs.Common.{refl, ap, sym, subst, ◌∙◌, inl, inr, arith}
-use Rattle.papaya_alone.specs.Given.SeizeWords.declared.at.At.{At}
-use Rattle.papaya_alone.specs.Given.SeizeWords.declared.at.At.TheVariants.{Root, Used, Entry, Word}
-use Rattle.papaya_alone.specs.Given.SeizeWords.Mem.{Mem, value_at, word_at, Can, Took}
-use Rattle.papaya_alone.specs.Given.SeizeWords.Plan.{May, Steps, plan_as}
-use Rattle.papaya_alone.proofs.Given.SeizeWords.Plans.{as_may}
-use Rattle.papaya_alone.proofs.Given.SeizeRule.Rows.Leaving.{steps_back}
-use Rattle.papaya_alone.specs.Given.Seize.Law.{Place, Nowhere, Standing, With, where_is, owner_of}
-use Rattle.papaya_alone.specs.Given.Seize.World.{World, Row, Making, Runs, IsOnto}
-use Rattle.papaya_alone.specs.Given.Seize.declared.progress.Progress.{Progress}
-use Rattle.papaya_alone.specs.Given.Seize.declared.states.TheConstants.{NEXT}
-use Rattle.papaya_alone.specs.Given.Seize.declared.progress.Progress.TheVariants as progress
-use Rattle.papaya_alone.specs.Given.Tables.Chunks.{is_incremental}
-use Rattle.papaya_alone.specs.Given.Tables.Nodes.{deferred_word}
-use Rattle.papaya_alone.specs.Given.Tables.declared.node.Node.{Node}
-use Rattle.papaya_alone.specs.Given.Tables.declared.setting.Setting.{Setting}
-use Rattle.papaya_alone.specs.Given.Tables.declared.table.Table.{Table}
-use Rattle.papaya_alone.specs.Given.Resize.NewMap.{opened}
-use Rattle.papaya_alone.specs.Given.Resize.NewTable.{new_table_plan}
-use Rattle.papaya_alone.specs.Given.Resize.declared.new_map.NewMap.{NewMap}
-use Rattle.papaya_alone.specs.Given.Resize.declared.new_map.Opening.TheVariants as at
-use Rattle.papaya_alone.specs.Given.Resize.declared.new_table.NewTable.{NewTable}
-use Rattle.papaya_alone.specs.Given.Resize.declared.new_table.Making.{Making as Point}
-use Rattle.papaya_alone.specs.Given.Resize.declared.new_table.Making.TheVariants as makes
-use Rattle.papaya_alone.specs.Given.Rule.Beside.{KeptBeside, IsBeside}
-use Rattle.papaya_alone.specs.Given.Rule.Chart.{Chart}
-use Rattle.papaya_alone.specs.Given.Rule.InWorld.{IsOut, IsIts, IsKnownBlock, InFootprint, IsMapIn, Went}
-use Rattle.papaya_alone.specs.Given.Rule.Maps.{spot_of}
-use Rattle.papaya_alone.specs.Given.Rule.Moments.{Moments}
-use Rattle.papaya_alone.specs.Given.Rule.Moves.{Links, after}
-use Rattle.papaya_alone.specs.Given.Rule.Rule.{no_table}
-use Rattle.papaya_alone.specs.Given.Rule.Words.{Blocks}
-use Rattle.papaya_alone.proofs.Given.Rule.History.History.{history_begins}
-use Rattle.papaya_alone.proofs.Given.Rule.World.BesideKept.{steps_spare_others}
-use Rattle.papaya_alone.proofs.Given.Rule.World.CounterSpared.{spares_counter}
-use Rattle.papaya_alone.proofs.Given.Rule.World.WentTold.{went_as}
-use Rattle.papaya_alone.specs.Given.Points.FactsTables.{MakingFacts as TableFacts, NewTableFacts}
-use Rattle.papaya_alone.specs.Given.Points.Told.{NewTableTold, LinksLast}
-use Rattle.papaya_alone.proofs.Given.Late.Known.Steps.{moments_on}
-use Rattle.papaya_alone.proofs.Given.Points.Making.NewTable.{may_new_table, went_new_table_lowers}
-use Rattle.papaya_alone.specs.Given.Callers.Kept.{IsMaking}
+use Rattle.papaya_alone.specs.Given.SeizeWordsDeclared.at.At.{At}
+use Rattle.papaya_alone.specs.Given.SeizeWordsDeclared.at.At.TheVariants.{Root, Used, Entry, Word}
+use Rattle.papaya_alone.specs.Given.SeizeWordsMem.{Mem, value_at, word_at, Can, Took}
+use Rattle.papaya_alone.specs.Given.SeizeWordsPlan.{May, Steps, plan_as}
+use Rattle.papaya_alone.proofs.Given.SeizeWordsPlans.{as_may}
+use Rattle.papaya_alone.proofs.Given.SeizeRuleRows.Leaving.{steps_back}
+use Rattle.papaya_alone.specs.Given.SeizeLaw.{Place, Nowhere, Standing, With, where_is, owner_of}
+use Rattle.papaya_alone.specs.Given.SeizeWorld.{World, Row, Making, Runs, IsOnto}
+use Rattle.papaya_alone.specs.Given.SeizeDeclared.progress.Progress.{Progress}
+use Rattle.papaya_alone.specs.Given.SeizeDeclared.states.TheConstants.{NEXT}
+use Rattle.papaya_alone.specs.Given.SeizeDeclared.progress.Progress.TheVariants as progress
+use Rattle.papaya_alone.specs.Given.TablesChunks.{is_incremental}
+use Rattle.papaya_alone.specs.Given.TablesNodes.{deferred_word}
+use Rattle.papaya_alone.specs.Given.TablesDeclared.node.Node.{Node}
+use Rattle.papaya_alone.specs.Given.TablesDeclared.setting.Setting.{Setting}
+use Rattle.papaya_alone.specs.Given.TablesDeclared.table.Table.{Table}
+use Rattle.papaya_alone.specs.Given.ResizeNewMap.{opened}
+use Rattle.papaya_alone.specs.Given.ResizeNewTable.{new_table_plan}
+use Rattle.papaya_alone.specs.Given.ResizeDeclared.new_map.NewMap.{NewMap}
+use Rattle.papaya_alone.specs.Given.ResizeDeclared.new_map.Opening.TheVariants as at
+use Rattle.papaya_alone.specs.Given.ResizeDeclared.new_table.NewTable.{NewTable}
+use Rattle.papaya_alone.specs.Given.ResizeDeclared.new_table.Making.{Making as Point}
+use Rattle.papaya_alone.specs.Given.ResizeDeclared.new_table.Making.TheVariants as makes
+use Rattle.papaya_alone.specs.Given.RuleBeside.{KeptBeside, IsBeside}
+use Rattle.papaya_alone.specs.Given.RuleChart.{Chart}
+use Rattle.papaya_alone.specs.Given.RuleInWorld.{IsOut, IsIts, IsKnownBlock, InFootprint, IsMapIn, Went}
+use Rattle.papaya_alone.specs.Given.RuleMaps.{spot_of}
+use Rattle.papaya_alone.specs.Given.RuleMoments.{Moments}
+use Rattle.papaya_alone.specs.Given.RuleMoves.{Links, after}
+use Rattle.papaya_alone.specs.Given.RuleRule.{no_table}
+use Rattle.papaya_alone.specs.Given.RuleWords.{Blocks}
+use Rattle.papaya_alone.proofs.Given.RuleHistory.History.{history_begins}
+use Rattle.papaya_alone.proofs.Given.RuleWorld.BesideKept.{steps_spare_others}
+use Rattle.papaya_alone.proofs.Given.RuleWorld.CounterSpared.{spares_counter}
+use Rattle.papaya_alone.proofs.Given.RuleWorld.WentTold.{went_as}
+use Rattle.papaya_alone.specs.Given.PointsFactsTables.{MakingFacts as TableFacts, NewTableFacts}
+use Rattle.papaya_alone.specs.Given.PointsTold.{NewTableTold, LinksLast}
+use Rattle.papaya_alone.proofs.Given.LateKnown.Steps.{moments_on}
+use Rattle.papaya_alone.proofs.Given.PointsMaking.NewTable.{may_new_table, went_new_table_lowers}
+use Rattle.papaya_alone.specs.Given.CallersKept.{IsMaking}
 use Rattle.papaya_finishes.specs.Makings.{Beginning, HasTaken, HasMade, HasRoots, IsTakenRoot, HasOwnCounter, OpeningFacts, MakingFacts, IsFirstTable, KeepsIts}
-use Rattle.papaya_alone.specs.Given.Callers.Together.{CameAbout, no_blocks}
-use Rattle.papaya_alone.proofs.Given.Callers.MapBegins.{map_begins}
+use Rattle.papaya_alone.specs.Given.CallersTogether.{CameAbout, no_blocks}
+use Rattle.papaya_alone.proofs.Given.CallersMapBegins.{map_begins}
 use Rattle.papaya_finishes.proofs.Beside.Makings.FirstLengths.{LensTo, lens_told}
 use Rattle.papaya_finishes.proofs.Beside.Makings.FirstTable.{first_table_together}
 use Rattle.papaya_finishes.proofs.Beside.Makings.Leaves.{IsItsBlock, LeavesOthers, came_then}
 use Rattle.papaya_finishes.proofs.Beside.Makings.Outs.{out_from}
 use Rattle.papaya_finishes.proofs.Beside.Makings.Went.{GoesTo, MakesMap, MakingWent, facts_at}
-use Rattle.papaya_alone.proofs.Given.Callers.Rows.Behind.{carrier_not_made, events_back}
-use Rattle.papaya_alone.proofs.Given.Callers.Rows.Owned.{events_owned}
-use Rattle.papaya_alone.proofs.Given.Callers.Together.Came.{came_reached, none_onto_made}
-use Rattle.papaya_alone.proofs.Given.Callers.Together.Users.{events_rows}
+use Rattle.papaya_alone.proofs.Given.CallersRows.Behind.{carrier_not_made, events_back}
+use Rattle.papaya_alone.proofs.Given.CallersRows.Owned.{events_owned}
+use Rattle.papaya_alone.proofs.Given.CallersTogether.Came.{came_reached, none_onto_made}
+use Rattle.papaya_alone.proofs.Given.CallersTogether.Users.{events_rows}
 
 -- of a map without a table nothing may be looked at, whatever is said of its blocks
 module _ {K V : Type 0} (w : World (Node K V)) (i : ℕ) (setting : Setting) (blocks : Blocks) where

@@ -1,21 +1,21 @@
 -- What a step of a making comes to, before it is put together with the other makings and the maps that stand.
 use Rattle.std.specs.Prelude.{◌≡◌, ◌≤◌, ◌^◌, ℕ, Bool, max, [], Option, Some, None, ◌⊎◌}
 use Rattle.std.proofs.Common.{refl, sym, subst, ◌∙◌, inl}
-use Rattle.papaya_alone.specs.Given.SeizeWords.declared.at.At.TheVariants.{Used}
-use Rattle.papaya_alone.specs.Given.SeizeWords.Mem.{Mem, value_at, word_at}
-use Rattle.papaya_alone.specs.Given.Seize.World.{World}
-use Rattle.papaya_alone.specs.Given.Seize.declared.progress.Progress.{Progress}
-use Rattle.papaya_alone.specs.Given.Seize.declared.progress.Progress.TheVariants as progress
-use Rattle.papaya_alone.specs.Given.Tables.Lengths.{IsTableLen}
-use Rattle.papaya_alone.specs.Given.Tables.declared.node.Node.{Node}
-use Rattle.papaya_alone.specs.Given.Tables.declared.setting.Setting.{Setting}
-use Rattle.papaya_alone.specs.Given.Resize.NewMap.{at_root, with_counter}
-use Rattle.papaya_alone.specs.Given.Resize.declared.new_map.NewMap.{NewMap}
-use Rattle.papaya_alone.specs.Given.Rule.InWorld.{IsOut}
-use Rattle.papaya_alone.proofs.Given.Rule.World.OthersSpared.{keeps_same}
+use Rattle.papaya_alone.specs.Given.SeizeWordsDeclared.at.At.TheVariants.{Used}
+use Rattle.papaya_alone.specs.Given.SeizeWordsMem.{Mem, value_at, word_at}
+use Rattle.papaya_alone.specs.Given.SeizeWorld.{World}
+use Rattle.papaya_alone.specs.Given.SeizeDeclared.progress.Progress.{Progress}
+use Rattle.papaya_alone.specs.Given.SeizeDeclared.progress.Progress.TheVariants as progress
+use Rattle.papaya_alone.specs.Given.TablesLengths.{IsTableLen}
+use Rattle.papaya_alone.specs.Given.TablesDeclared.node.Node.{Node}
+use Rattle.papaya_alone.specs.Given.TablesDeclared.setting.Setting.{Setting}
+use Rattle.papaya_alone.specs.Given.ResizeNewMap.{at_root, with_counter}
+use Rattle.papaya_alone.specs.Given.ResizeDeclared.new_map.NewMap.{NewMap}
+use Rattle.papaya_alone.specs.Given.RuleInWorld.{IsOut}
+use Rattle.papaya_alone.proofs.Given.RuleWorld.OthersSpared.{keeps_same}
 use Rattle.papaya_finishes.specs.Makings.{Beginning, HasTaken, HasMade, HasRoots, OpeningFacts, MakingFacts, IsMade, IsFirstTable, KeepsIts, HasComeTo}
 use Rattle.papaya_finishes.specs.Maps.{Standing}
-use Rattle.papaya_alone.specs.Given.Callers.Together.{UnderWay, Together}
+use Rattle.papaya_alone.specs.Given.CallersTogether.{UnderWay, Together}
 use Rattle.papaya_finishes.proofs.Beside.Makings.Leaves.{IsItsRoot, LeavesOthers}
 
 module _ {K Q : Type 0} (V : Type 0) (same : K → K → Bool) (asks : Q → K → Bool) (batch_size roots : ℕ) (slot : ℕ → ℕ) (w : World (Node K V)) (i : ℕ) (b : Beginning K) where

@@ -3,14 +3,14 @@ use Rattle.std.specs.Prelude.{◌≡◌, ◌≢◌, ℕ, Bool, Option, Some, Non
 use Rattle.std.specs.Int.{IsPowerOfTwo}
 use Rattle.std.proofs.Common.{refl, ap, sym, subst, ◌∙◌, inl, inr, ◌⊎◌}
 use Rattle.std.proofs.lemmas.Bool.{cases_eq}
-use Rattle.papaya_alone.specs.Given.Seize.World.{World, with_at}
-use Rattle.papaya_alone.specs.Given.Tables.declared.node.Node.{Node}
-use Rattle.papaya_alone.specs.Given.Rule.Words.{Blocks}
-use Rattle.papaya_alone.specs.Given.Points.Steps.{AreLawful}
+use Rattle.papaya_alone.specs.Given.SeizeWorld.{World, with_at}
+use Rattle.papaya_alone.specs.Given.TablesDeclared.node.Node.{Node}
+use Rattle.papaya_alone.specs.Given.RuleWords.{Blocks}
+use Rattle.papaya_alone.specs.Given.PointsSteps.{AreLawful}
 use Rattle.papaya_finishes.specs.Maps.{Standing, IsSameMap, with_call, MapsTogether, AllMapsStand}
-use Rattle.papaya_alone.specs.Given.Callers.Sights.{Sight, IsPartOf}
-use Rattle.papaya_alone.specs.Given.Callers.Together.{UnderWay, HasCall, CameAbout, Together}
-use Rattle.papaya_alone.proofs.Given.Callers.Together.At.{at_other, at_same}
+use Rattle.papaya_alone.specs.Given.CallersSights.{Sight, IsPartOf}
+use Rattle.papaya_alone.specs.Given.CallersTogether.{UnderWay, HasCall, CameAbout, Together}
+use Rattle.papaya_alone.proofs.Given.CallersTogether.At.{at_other, at_same}
 
 -- what is there or isn't
 pub one_of : {X : Type 0} (x y : X) → ◌≡◌ {A = Option X} (Some x) (Some y) → x ≡ y

@@ -3,14 +3,14 @@ use Rattle.std.specs.Prelude.{◌≡◌, ◌≢◌, ℕ, Bool, Option, Some, Non
 use Rattle.std.proofs.Common.{refl, sym, subst, ◌∙◌, inl, inr}
 use Rattle.std.proofs.lemmas.Bool.{cases_eq}
 use Rattle.std.specs.Int.{IsPowerOfTwo}
-use Rattle.papaya_alone.specs.Given.Seize.World.{with_at}
-use Rattle.papaya_alone.specs.Given.Points.Steps.{AreLawful}
+use Rattle.papaya_alone.specs.Given.SeizeWorld.{with_at}
+use Rattle.papaya_alone.specs.Given.PointsSteps.{AreLawful}
 use Rattle.papaya_finishes.specs.Maps.{Standing, new_map, NoMapsBegin, MapsCome, CallsBeginInMaps}
-use Rattle.papaya_alone.specs.Given.Callers.Together.{CameAbout}
+use Rattle.papaya_alone.specs.Given.CallersTogether.{CameAbout}
 use Rattle.papaya_finishes.proofs.Beside.Maps.All.{one_of, StandsSo, maps_with_call}
-use Rattle.papaya_alone.proofs.Given.Callers.Together.At.{at_other, at_same}
-use Rattle.papaya_alone.proofs.Given.Callers.Together.MapStands.{map_begins_together}
-use Rattle.papaya_alone.proofs.Given.Callers.Together.Begins.{begins_together}
+use Rattle.papaya_alone.proofs.Given.CallersTogether.At.{at_other, at_same}
+use Rattle.papaya_alone.proofs.Given.CallersTogether.MapStands.{map_begins_together}
+use Rattle.papaya_alone.proofs.Given.CallersTogether.Begins.{begins_together}
 
 module _ {K Q : Type 0} (V : Type 0) (same : K → K → Bool) (asks : Q → K → Bool) (size : ℕ) (slot : ℕ → ℕ) where
   pub no_maps_begin : NoMapsBegin {Q = Q} V same asks size slot

@@ -1,24 +1,24 @@
 -- What a step of another caller leaves of a map as it is, block by block and word by word: with it the map stands on.
 use Rattle.std.specs.Prelude.{◌≡◌, ◌<◌, ◌≤◌, ℕ, Bool, true, Option, Some}
 use Rattle.std.proofs.Common.{refl, sym, subst, ◌∙◌, inl, inr, arith}
-use Rattle.papaya_alone.specs.Given.SeizeWords.declared.at.At.TheVariants.{Root, Word}
-use Rattle.papaya_alone.specs.Given.SeizeWords.Mem.{value_at, word_at}
-use Rattle.papaya_alone.specs.Given.Seize.Law.{With, holds, owner_of, where_is}
-use Rattle.papaya_alone.specs.Given.Seize.World.{World, Hand, InUse, Handed, IsInside, IsOnto}
-use Rattle.papaya_alone.specs.Given.Tables.declared.node.Node.{Node}
-use Rattle.papaya_alone.specs.Given.Tables.declared.setting.Setting.{Setting}
-use Rattle.papaya_alone.specs.Given.Rule.Chart.{Chart}
-use Rattle.papaya_alone.specs.Given.Rule.Words.{Blocks}
-use Rattle.papaya_alone.specs.Given.Rule.InWorld.{IsOut, StandsIn, IsReached, IsKnownBlock, KeepsBlocks, IsMapIn}
-use Rattle.papaya_alone.proofs.Given.Rule.Laws.{current_is_known}
-use Rattle.papaya_alone.proofs.Given.Rule.World.Framed.{Keeps, shows_kept}
-use Rattle.papaya_alone.proofs.Given.Rule.World.Hands.{Hands}
-use Rattle.papaya_alone.proofs.Given.Rule.World.WentWrote.{HasCounter, map_in}
-use Rattle.papaya_alone.specs.Given.Callers.Kept.{IsMaking, IsKeptBy}
-use Rattle.papaya_alone.specs.Given.Callers.Sights.{Sight}
-use Rattle.papaya_alone.specs.Given.Callers.Together.{UnderWay, CameAbout, Together}
+use Rattle.papaya_alone.specs.Given.SeizeWordsDeclared.at.At.TheVariants.{Root, Word}
+use Rattle.papaya_alone.specs.Given.SeizeWordsMem.{value_at, word_at}
+use Rattle.papaya_alone.specs.Given.SeizeLaw.{With, holds, owner_of, where_is}
+use Rattle.papaya_alone.specs.Given.SeizeWorld.{World, Hand, InUse, Handed, IsInside, IsOnto}
+use Rattle.papaya_alone.specs.Given.TablesDeclared.node.Node.{Node}
+use Rattle.papaya_alone.specs.Given.TablesDeclared.setting.Setting.{Setting}
+use Rattle.papaya_alone.specs.Given.RuleChart.{Chart}
+use Rattle.papaya_alone.specs.Given.RuleWords.{Blocks}
+use Rattle.papaya_alone.specs.Given.RuleInWorld.{IsOut, StandsIn, IsReached, IsKnownBlock, KeepsBlocks, IsMapIn}
+use Rattle.papaya_alone.proofs.Given.RuleLaws.{current_is_known}
+use Rattle.papaya_alone.proofs.Given.RuleWorld.Framed.{Keeps, shows_kept}
+use Rattle.papaya_alone.proofs.Given.RuleWorld.Hands.{Hands}
+use Rattle.papaya_alone.proofs.Given.RuleWorld.WentWrote.{HasCounter, map_in}
+use Rattle.papaya_alone.specs.Given.CallersKept.{IsMaking, IsKeptBy}
+use Rattle.papaya_alone.specs.Given.CallersSights.{Sight}
+use Rattle.papaya_alone.specs.Given.CallersTogether.{UnderWay, CameAbout, Together}
 use Rattle.papaya_finishes.proofs.Beside.Maps.Stays.{Spared}
-use Rattle.papaya_alone.proofs.Given.Callers.Rows.Behind.{LaySo}
+use Rattle.papaya_alone.proofs.Given.CallersRows.Behind.{LaySo}
 
 module _ {K V Q : Type 0} (setting : Setting) (w : World (Node K V)) (c : Chart K) (blocks : Blocks) (calls : ℕ → Option (UnderWay K V Q)) (w2 : World (Node K V)) where
   -- a block that may be looked at is as it was: its value and its words, who has it, whose it is, and through which table of the map it is reached

@@ -2,29 +2,29 @@
 use Rattle.std.specs.Prelude.{◌≡◌, ◌≢◌, ◌<◌, ◌≤◌, ℕ, Bool, true, cond, eqb, List, ◌∷◌, Option, Some, None}
 use Rattle.std.proofs.Common.{refl, ap, sym, subst, ◌∙◌, inl, inr}
 use Rattle.std.proofs.lemmas.Bool.{cases_eq, eq-eqb, ne_eqb}
-use Rattle.papaya_alone.specs.Given.SeizeWords.Mem.{value_at}
-use Rattle.papaya_alone.specs.Given.Seize.Law.{Effect, With, Nowhere, Deferred, where_is, is_standing, is_somewhere, is_open, holds, owner_of}
-use Rattle.papaya_alone.specs.Given.Seize.World.{World, Row, Hand, NoBlock, Making, InUse, Parting, Cutting, Handed, LeftTo, Request, Register', Enter', Leave', LeaveOwned, Refresh, Unregister', Retire, Flush, Defer', Begin, Happens, IsOnto, MayCut, one_more, with_at}
-use Rattle.papaya_alone.proofs.Given.SeizeRule.Rows.Others.{with_other}
-use Rattle.papaya_alone.specs.Given.Tables.Nodes.{deferred_word}
-use Rattle.papaya_alone.specs.Given.Tables.declared.node.Node.{Node}
-use Rattle.papaya_alone.specs.Given.Tables.declared.setting.Setting.{Setting}
-use Rattle.papaya_alone.specs.Given.Rule.Chart.{Chart}
-use Rattle.papaya_alone.specs.Given.Rule.Words.{Blocks}
-use Rattle.papaya_alone.specs.Given.Rule.InWorld.{IsOut, IsHeldBy, IsReached, IsKnownBlock, IsMapIn}
-use Rattle.papaya_alone.proofs.Given.Rule.Laws.{current_is_known}
-use Rattle.papaya_alone.proofs.Given.Rule.World.Hands.{Hands, at_cases, hand_kept, standing_kept}
-use Rattle.papaya_alone.proofs.Given.Rule.World.OthersSpared.{held_once, keeps_handed}
-use Rattle.papaya_alone.proofs.Given.Rule.World.WentWrote.{counter_of, map_in}
-use Rattle.papaya_alone.specs.Given.Points.Steps.{AreLawful}
-use Rattle.papaya_alone.specs.Given.Callers.Kept.{IsUsersOwn, IsMaking, IsKeptBy}
-use Rattle.papaya_alone.specs.Given.Callers.Sights.{Sight}
-use Rattle.papaya_alone.specs.Given.Callers.Together.{UnderWay, CameAbout, HandsOver, Together}
+use Rattle.papaya_alone.specs.Given.SeizeWordsMem.{value_at}
+use Rattle.papaya_alone.specs.Given.SeizeLaw.{Effect, With, Nowhere, Deferred, where_is, is_standing, is_somewhere, is_open, holds, owner_of}
+use Rattle.papaya_alone.specs.Given.SeizeWorld.{World, Row, Hand, NoBlock, Making, InUse, Parting, Cutting, Handed, LeftTo, Request, Register', Enter', Leave', LeaveOwned, Refresh, Unregister', Retire, Flush, Defer', Begin, Happens, IsOnto, MayCut, one_more, with_at}
+use Rattle.papaya_alone.proofs.Given.SeizeRuleRows.Others.{with_other}
+use Rattle.papaya_alone.specs.Given.TablesNodes.{deferred_word}
+use Rattle.papaya_alone.specs.Given.TablesDeclared.node.Node.{Node}
+use Rattle.papaya_alone.specs.Given.TablesDeclared.setting.Setting.{Setting}
+use Rattle.papaya_alone.specs.Given.RuleChart.{Chart}
+use Rattle.papaya_alone.specs.Given.RuleWords.{Blocks}
+use Rattle.papaya_alone.specs.Given.RuleInWorld.{IsOut, IsHeldBy, IsReached, IsKnownBlock, IsMapIn}
+use Rattle.papaya_alone.proofs.Given.RuleLaws.{current_is_known}
+use Rattle.papaya_alone.proofs.Given.RuleWorld.Hands.{Hands, at_cases, hand_kept, standing_kept}
+use Rattle.papaya_alone.proofs.Given.RuleWorld.OthersSpared.{held_once, keeps_handed}
+use Rattle.papaya_alone.proofs.Given.RuleWorld.WentWrote.{counter_of, map_in}
+use Rattle.papaya_alone.specs.Given.PointsSteps.{AreLawful}
+use Rattle.papaya_alone.specs.Given.CallersKept.{IsUsersOwn, IsMaking, IsKeptBy}
+use Rattle.papaya_alone.specs.Given.CallersSights.{Sight}
+use Rattle.papaya_alone.specs.Given.CallersTogether.{UnderWay, CameAbout, HandsOver, Together}
 use Rattle.papaya_finishes.proofs.Beside.Maps.Stays.{Spared, stays}
 use Rattle.papaya_finishes.proofs.Beside.Maps.OtherSteps.{known_owner}
-use Rattle.papaya_alone.proofs.Given.Callers.Rows.Behind.{LaySo, deferred_behind}
-use Rattle.papaya_alone.proofs.Given.Callers.Together.Came.{came_next}
-use Rattle.papaya_alone.proofs.Given.Callers.Together.Handed.{inside_on, inside_back}
+use Rattle.papaya_alone.proofs.Given.CallersRows.Behind.{LaySo, deferred_behind}
+use Rattle.papaya_alone.proofs.Given.CallersTogether.Came.{came_next}
+use Rattle.papaya_alone.proofs.Given.CallersTogether.Handed.{inside_on, inside_back}
 
 module _ {K V Q : Type 0} (same : K → K → Bool) (hash : K → ℕ) (asks : Q → K → Bool) (setting : Setting) (slot : ℕ → ℕ)
     (w : World (Node K V)) (c : Chart K) (blocks : Blocks) (sights : ℕ → Sight) (calls : ℕ → Option (UnderWay K V Q)) (s : Together V same hash asks setting slot w c blocks sights calls)

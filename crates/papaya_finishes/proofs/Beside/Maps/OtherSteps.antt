@@ -1,30 +1,30 @@
 -- A step of a call on one map leaves each other map as it is.
 use Rattle.std.specs.Prelude.{◌≡◌, ◌≢◌, ℕ, Bool, Option, Some, None}
 use Rattle.std.proofs.Common.{ap, sym, subst, ◌∙◌, inl, inr}
-use Rattle.papaya_alone.specs.Given.SeizeWords.declared.at.At.{At}
-use Rattle.papaya_alone.specs.Given.SeizeWords.declared.at.At.TheVariants.{Root, Word}
-use Rattle.papaya_alone.specs.Given.SeizeWords.Mem.{Mem, value_at, word_at}
-use Rattle.papaya_alone.specs.Given.Seize.Law.{With, owner_of}
-use Rattle.papaya_alone.specs.Given.Seize.World.{World, Row, Hand, NoBlock, Making, InUse, Parting, Cutting, Handed, LeftTo, Runs, IsInside, IsOnto}
-use Rattle.papaya_alone.proofs.Given.SeizeAlone.Histories.Reached.{Reached}
-use Rattle.papaya_alone.specs.Given.Tables.Nodes.{deferred_word}
-use Rattle.papaya_alone.specs.Given.Tables.declared.node.Node.{Node}
-use Rattle.papaya_alone.specs.Given.Tables.declared.node.Node.TheVariants as node
-use Rattle.papaya_alone.specs.Given.Tables.declared.setting.Setting.{Setting}
-use Rattle.papaya_alone.specs.Given.Rule.Beside.{KeptBeside}
-use Rattle.papaya_alone.specs.Given.Rule.Chart.{Chart}
-use Rattle.papaya_alone.specs.Given.Rule.Words.{Blocks}
-use Rattle.papaya_alone.specs.Given.Rule.InWorld.{IsOut, IsKnownBlock, IsIts, InFootprint, Went}
-use Rattle.papaya_alone.proofs.Given.Rule.World.BesideKept.{steps_spare_others}
-use Rattle.papaya_alone.specs.Given.Callers.Kept.{IsMaking, IsKeptBy}
-use Rattle.papaya_alone.specs.Given.Callers.Sights.{Sight}
-use Rattle.papaya_alone.specs.Given.Callers.Together.{UnderWay, Together}
+use Rattle.papaya_alone.specs.Given.SeizeWordsDeclared.at.At.{At}
+use Rattle.papaya_alone.specs.Given.SeizeWordsDeclared.at.At.TheVariants.{Root, Word}
+use Rattle.papaya_alone.specs.Given.SeizeWordsMem.{Mem, value_at, word_at}
+use Rattle.papaya_alone.specs.Given.SeizeLaw.{With, owner_of}
+use Rattle.papaya_alone.specs.Given.SeizeWorld.{World, Row, Hand, NoBlock, Making, InUse, Parting, Cutting, Handed, LeftTo, Runs, IsInside, IsOnto}
+use Rattle.papaya_alone.proofs.Given.SeizeAloneHistories.Reached.{Reached}
+use Rattle.papaya_alone.specs.Given.TablesNodes.{deferred_word}
+use Rattle.papaya_alone.specs.Given.TablesDeclared.node.Node.{Node}
+use Rattle.papaya_alone.specs.Given.TablesDeclared.node.Node.TheVariants as node
+use Rattle.papaya_alone.specs.Given.TablesDeclared.setting.Setting.{Setting}
+use Rattle.papaya_alone.specs.Given.RuleBeside.{KeptBeside}
+use Rattle.papaya_alone.specs.Given.RuleChart.{Chart}
+use Rattle.papaya_alone.specs.Given.RuleWords.{Blocks}
+use Rattle.papaya_alone.specs.Given.RuleInWorld.{IsOut, IsKnownBlock, IsIts, InFootprint, Went}
+use Rattle.papaya_alone.proofs.Given.RuleWorld.BesideKept.{steps_spare_others}
+use Rattle.papaya_alone.specs.Given.CallersKept.{IsMaking, IsKeptBy}
+use Rattle.papaya_alone.specs.Given.CallersSights.{Sight}
+use Rattle.papaya_alone.specs.Given.CallersTogether.{UnderWay, Together}
 use Rattle.papaya_finishes.proofs.Beside.Maps.Left.{Leaves, left_spared}
 use Rattle.papaya_finishes.proofs.Beside.Maps.Stays.{Spared}
-use Rattle.papaya_alone.proofs.Given.Callers.Rows.Behind.{events_back}
-use Rattle.papaya_alone.proofs.Given.Callers.Rows.Users.{events_hold}
-use Rattle.papaya_alone.proofs.Given.Callers.Together.Came.{came_reached, came_on}
-use Rattle.papaya_alone.proofs.Given.Callers.Together.Users.{events_rows, inside_on, inside_back, kept_on}
+use Rattle.papaya_alone.proofs.Given.CallersRows.Behind.{events_back}
+use Rattle.papaya_alone.proofs.Given.CallersRows.Users.{events_hold}
+use Rattle.papaya_alone.proofs.Given.CallersTogether.Came.{came_reached, came_on}
+use Rattle.papaya_alone.proofs.Given.CallersTogether.Users.{events_rows, inside_on, inside_back, kept_on}
 
 -- what its maker has is not out
 pub making_not_out : (h : Hand) → IsMaking h → IsOut h → ⊥

@@ -2,20 +2,20 @@
 use Rattle.std.specs.Prelude.{◌≡◌, ◌≢◌, ℕ, ◌+◌, Bool, Option, Some, None}
 use Rattle.std.proofs.Common.{refl, ap, sym, subst, ◌∙◌, inl, inr}
 use Rattle.std.proofs.lemmas.Bool.{cases_eq}
-use Rattle.papaya_alone.specs.Given.Seize.declared.states.TheConstants.{LAST_SLOT}
-use Rattle.papaya_alone.specs.Given.Seize.World.{World, Begin, Step, Happens, with_at}
-use Rattle.papaya_alone.proofs.Given.SeizeRule.World.Kept.{row_may}
-use Rattle.papaya_alone.specs.Given.Tables.Nodes.{deferred_word}
-use Rattle.papaya_alone.specs.Given.Tables.declared.node.Node.{Node}
+use Rattle.papaya_alone.specs.Given.SeizeDeclared.states.TheConstants.{LAST_SLOT}
+use Rattle.papaya_alone.specs.Given.SeizeWorld.{World, Begin, Step, Happens, with_at}
+use Rattle.papaya_alone.proofs.Given.SeizeRuleWorld.Kept.{row_may}
+use Rattle.papaya_alone.specs.Given.TablesNodes.{deferred_word}
+use Rattle.papaya_alone.specs.Given.TablesDeclared.node.Node.{Node}
 use Rattle.papaya_finishes.specs.Maps.{AllMapsStand, Standing, with_call, MapsTogether, RowsStandInMaps, GuardsStandInMaps}
-use Rattle.papaya_alone.specs.Given.Callers.Together.{OnKey, UnderWay, CameAbout, IsOneStep, Together, GuardsOf}
+use Rattle.papaya_alone.specs.Given.CallersTogether.{OnKey, UnderWay, CameAbout, IsOneStep, Together, GuardsOf}
 use Rattle.papaya_finishes.proofs.Beside.Maps.All.{one_of, not_none, StandsSo, StandsSomehow, all_stand, calls_only, calls_once, its_calls, others_calls}
 use Rattle.papaya_finishes.proofs.Beside.Maps.OtherBegins.{other_begun}
 use Rattle.papaya_finishes.proofs.Beside.Maps.Steps.{no_other}
-use Rattle.papaya_alone.proofs.Given.Callers.Sights.Parts.{part_same}
-use Rattle.papaya_alone.proofs.Given.Callers.Together.Came.{came_next, came_reached}
-use Rattle.papaya_alone.proofs.Given.Callers.Together.Guards.{guards_stand_together}
-use Rattle.papaya_alone.proofs.Given.Callers.Together.Stepped.{rows_stand_together}
+use Rattle.papaya_alone.proofs.Given.CallersSights.Parts.{part_same}
+use Rattle.papaya_alone.proofs.Given.CallersTogether.Came.{came_next, came_reached}
+use Rattle.papaya_alone.proofs.Given.CallersTogether.Guards.{guards_stand_together}
+use Rattle.papaya_alone.proofs.Given.CallersTogether.Stepped.{rows_stand_together}
 
 module _ {K Q : Type 0} (V : Type 0) (same : K → K → Bool) (asks : Q → K → Bool) (size : ℕ) (slot : ℕ → ℕ)
     (w : World (Node K V)) (maps : ℕ → Option (Standing K)) (calls : ℕ → ℕ → Option (UnderWay K V Q)) (all : MapsTogether V same asks size slot w maps calls)

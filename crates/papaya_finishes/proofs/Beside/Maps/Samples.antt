@@ -2,22 +2,22 @@
 use Rattle.std.specs.Prelude.{◌≡◌, ◌≢◌, ◌<◌, ◌*◌, ℕ, Bool, cond, Option, Some}
 use Rattle.std.proofs.Common.{ap, sym, ◌∙◌, arith}
 use Rattle.std.proofs.lemmas.Bool.{ne_eqb}
-use Rattle.papaya_alone.specs.Given.SeizeWords.declared.at.At.TheVariants.{Root}
-use Rattle.papaya_alone.specs.Given.SeizeWords.Mem.{Mem, Took, value_at, word_at}
-use Rattle.papaya_alone.specs.Given.SeizeWords.Op.{Store}
-use Rattle.papaya_alone.specs.Given.SeizeWords.Plan.{Plan, Do, Now, Steps}
-use Rattle.papaya_alone.proofs.Given.SeizeWords.OneOwner.Operations.{stored}
-use Rattle.papaya_alone.specs.Given.Seize.World.{World, Retire, Defer'}
-use Rattle.papaya_alone.specs.Given.Tables.declared.node.Node.{Node}
-use Rattle.papaya_alone.specs.Given.Tables.declared.setting.Setting.{Setting}
-use Rattle.papaya_alone.specs.Given.Rule.Chart.{Chart}
-use Rattle.papaya_alone.specs.Given.Rule.InWorld.{IsKnownBlock}
-use Rattle.papaya_alone.specs.Given.Rule.Words.{Blocks, root_word}
+use Rattle.papaya_alone.specs.Given.SeizeWordsDeclared.at.At.TheVariants.{Root}
+use Rattle.papaya_alone.specs.Given.SeizeWordsMem.{Mem, Took, value_at, word_at}
+use Rattle.papaya_alone.specs.Given.SeizeWordsOp.{Store}
+use Rattle.papaya_alone.specs.Given.SeizeWordsPlan.{Plan, Do, Now, Steps}
+use Rattle.papaya_alone.proofs.Given.SeizeWordsOneOwner.Operations.{stored}
+use Rattle.papaya_alone.specs.Given.SeizeWorld.{World, Retire, Defer'}
+use Rattle.papaya_alone.specs.Given.TablesDeclared.node.Node.{Node}
+use Rattle.papaya_alone.specs.Given.TablesDeclared.setting.Setting.{Setting}
+use Rattle.papaya_alone.specs.Given.RuleChart.{Chart}
+use Rattle.papaya_alone.specs.Given.RuleInWorld.{IsKnownBlock}
+use Rattle.papaya_alone.specs.Given.RuleWords.{Blocks, root_word}
 use Rattle.papaya_finishes.specs.Maps.{Standing, MapsTogether}
-use Rattle.papaya_alone.specs.Given.Callers.Sights.{Sight}
-use Rattle.papaya_alone.specs.Given.Callers.Together.{UnderWay, HandsOver, Together}
+use Rattle.papaya_alone.specs.Given.CallersSights.{Sight}
+use Rattle.papaya_alone.specs.Given.CallersTogether.{UnderWay, HandsOver, Together}
 use Rattle.papaya_finishes.proofs.Beside.Maps.OtherSteps.{known_owner}
-use Rattle.papaya_alone.proofs.Given.Late.Plans.{written, there}
+use Rattle.papaya_alone.proofs.Given.LatePlans.{written, there}
 
 module _ {K V Q : Type 0} (same : K → K → Bool) (hash : K → ℕ) (asks : Q → K → Bool) (setting : Setting) (slot : ℕ → ℕ)
     (w : World (Node K V)) (c : Chart K) (blocks : Blocks) (sights : ℕ → Sight) (calls : ℕ → Option (UnderWay K V Q)) (s : Together V same hash asks setting slot w c blocks sights calls) where

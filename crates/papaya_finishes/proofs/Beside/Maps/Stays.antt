@@ -1,27 +1,27 @@
 -- A map stands on, with the calls on it, where somebody else has taken a step that leaves it as it is.
 use Rattle.std.specs.Prelude.{◌≡◌, ◌<◌, ◌≤◌, ℕ, Bool, true, Option, Some}
 use Rattle.std.proofs.Common.{refl, inl, inr, ◌∙◌}
-use Rattle.papaya_alone.specs.Given.SeizeWords.Mem.{value_at}
-use Rattle.papaya_alone.specs.Given.Seize.Law.{holds, owner_of}
-use Rattle.papaya_alone.specs.Given.Seize.World.{World, IsInside, IsOnto}
-use Rattle.papaya_alone.specs.Given.Tables.Chunks.{is_incremental}
-use Rattle.papaya_alone.specs.Given.Tables.declared.node.Node.{Node}
-use Rattle.papaya_alone.specs.Given.Tables.declared.setting.Setting.{Setting}
-use Rattle.papaya_alone.specs.Given.Rule.Chart.{Chart}
-use Rattle.papaya_alone.specs.Given.Rule.Words.{Blocks}
-use Rattle.papaya_alone.specs.Given.Rule.Maps.{spot_of}
-use Rattle.papaya_alone.specs.Given.Rule.InWorld.{KeepsBlocks, IsKnownBlock, IsMapIn}
-use Rattle.papaya_alone.proofs.Given.Rule.History.LeavingOn.{leaves_same}
-use Rattle.papaya_alone.specs.Given.Points.FactsIdle.{IsIdle}
-use Rattle.papaya_alone.specs.Given.Points.Others.{OthersStep}
-use Rattle.papaya_alone.specs.Given.Points.Steps.{AreLawful}
-use Rattle.papaya_alone.specs.Given.Callers.Kept.{IsMaking, IsKeptBy, IsWithin}
-use Rattle.papaya_alone.specs.Given.Callers.Sights.{Sight, seen_by}
-use Rattle.papaya_alone.specs.Given.Callers.Together.{UnderWay, in_slot, CameAbout, Ground, Stands, Together}
-use Rattle.papaya_alone.proofs.Given.Callers.Rows.Behind.{LaySo, pair_on}
-use Rattle.papaya_alone.proofs.Given.Callers.Sights.Seen.{map_seen}
-use Rattle.papaya_alone.proofs.Given.Callers.Together.FactsOn.{idle_on}
-use Rattle.papaya_alone.proofs.Given.Callers.Together.Fits.{unless_on, map_in_slot, stands_of, stands_on}
+use Rattle.papaya_alone.specs.Given.SeizeWordsMem.{value_at}
+use Rattle.papaya_alone.specs.Given.SeizeLaw.{holds, owner_of}
+use Rattle.papaya_alone.specs.Given.SeizeWorld.{World, IsInside, IsOnto}
+use Rattle.papaya_alone.specs.Given.TablesChunks.{is_incremental}
+use Rattle.papaya_alone.specs.Given.TablesDeclared.node.Node.{Node}
+use Rattle.papaya_alone.specs.Given.TablesDeclared.setting.Setting.{Setting}
+use Rattle.papaya_alone.specs.Given.RuleChart.{Chart}
+use Rattle.papaya_alone.specs.Given.RuleWords.{Blocks}
+use Rattle.papaya_alone.specs.Given.RuleMaps.{spot_of}
+use Rattle.papaya_alone.specs.Given.RuleInWorld.{KeepsBlocks, IsKnownBlock, IsMapIn}
+use Rattle.papaya_alone.proofs.Given.RuleHistory.LeavingOn.{leaves_same}
+use Rattle.papaya_alone.specs.Given.PointsFactsIdle.{IsIdle}
+use Rattle.papaya_alone.specs.Given.PointsOthers.{OthersStep}
+use Rattle.papaya_alone.specs.Given.PointsSteps.{AreLawful}
+use Rattle.papaya_alone.specs.Given.CallersKept.{IsMaking, IsKeptBy, IsWithin}
+use Rattle.papaya_alone.specs.Given.CallersSights.{Sight, seen_by}
+use Rattle.papaya_alone.specs.Given.CallersTogether.{UnderWay, in_slot, CameAbout, Ground, Stands, Together}
+use Rattle.papaya_alone.proofs.Given.CallersRows.Behind.{LaySo, pair_on}
+use Rattle.papaya_alone.proofs.Given.CallersSights.Seen.{map_seen}
+use Rattle.papaya_alone.proofs.Given.CallersTogether.FactsOn.{idle_on}
+use Rattle.papaya_alone.proofs.Given.CallersTogether.Fits.{unless_on, map_in_slot, stands_of, stands_on}
 
 module _ {K V Q : Type 0} (setting : Setting) (w : World (Node K V)) (c : Chart K) (blocks : Blocks) (calls : ℕ → Option (UnderWay K V Q)) (same : K → K → Bool) (hash : K → ℕ) (w2 : World (Node K V)) where
   -- Such a step: the map stands as it stood, what may be looked at of it is kept and held as it was, nothing came behind a linked table, and no row onto

@@ -2,25 +2,25 @@
 use Rattle.std.specs.Prelude.{◌≡◌, ◌≢◌, ℕ, Bool, Option, Some, None}
 use Rattle.std.specs.Int.{IsPowerOfTwo}
 use Rattle.std.proofs.Common.{refl, sym, subst, ◌∙◌, inl, inr}
-use Rattle.papaya_alone.specs.Given.SeizeWords.Mem.{Mem}
-use Rattle.papaya_alone.specs.Given.Seize.World.{World, IsInside, with_at}
-use Rattle.papaya_alone.specs.Given.Tables.declared.node.Node.{Node}
-use Rattle.papaya_alone.specs.Given.Raw.declared.machines.answer.Called.{Called}
-use Rattle.papaya_alone.specs.Given.Raw.declared.machines.call.KeyCall.{KeyCall}
-use Rattle.papaya_alone.specs.Given.Rule.Chart.{Chart}
-use Rattle.papaya_alone.specs.Given.Rule.Words.{Blocks}
-use Rattle.papaya_alone.specs.Given.Rule.InWorld.{IsKnownBlock, Went}
-use Rattle.papaya_alone.proofs.Given.Rule.World.WentTold.{went_as}
-use Rattle.papaya_alone.specs.Given.Points.Steps.{AreLawful}
+use Rattle.papaya_alone.specs.Given.SeizeWordsMem.{Mem}
+use Rattle.papaya_alone.specs.Given.SeizeWorld.{World, IsInside, with_at}
+use Rattle.papaya_alone.specs.Given.TablesDeclared.node.Node.{Node}
+use Rattle.papaya_alone.specs.Given.RawDeclared.machines.answer.Called.{Called}
+use Rattle.papaya_alone.specs.Given.RawDeclared.machines.call.KeyCall.{KeyCall}
+use Rattle.papaya_alone.specs.Given.RuleChart.{Chart}
+use Rattle.papaya_alone.specs.Given.RuleWords.{Blocks}
+use Rattle.papaya_alone.specs.Given.RuleInWorld.{IsKnownBlock, Went}
+use Rattle.papaya_alone.proofs.Given.RuleWorld.WentTold.{went_as}
+use Rattle.papaya_alone.specs.Given.PointsSteps.{AreLawful}
 use Rattle.papaya_finishes.specs.Maps.{Standing, with_call, MapsTogether, StepsInMaps, CallsStandInMaps, RepliesStandInMaps}
-use Rattle.papaya_alone.specs.Given.Callers.Sights.{Sight, seen_by}
-use Rattle.papaya_alone.specs.Given.Callers.Together.{OnKey, CallOnKey, UnderWay, CameAbout, in_slot, next_of, change_told, StepsTogether}
+use Rattle.papaya_alone.specs.Given.CallersSights.{Sight, seen_by}
+use Rattle.papaya_alone.specs.Given.CallersTogether.{OnKey, CallOnKey, UnderWay, CameAbout, in_slot, next_of, change_told, StepsTogether}
 use Rattle.papaya_finishes.proofs.Beside.Maps.All.{not_none, StandsSo, calls_only, calls_once, its_calls, others_calls, maps_with_call}
 use Rattle.papaya_finishes.proofs.Beside.Maps.Comes.{each_at, two_at, none_at}
 use Rattle.papaya_finishes.proofs.Beside.Maps.OtherSteps.{known_out, known_owner, other_spared}
 use Rattle.papaya_finishes.proofs.Beside.Maps.Stays.{stays}
-use Rattle.papaya_alone.proofs.Given.Callers.Together.Replies.{replies_stand_together}
-use Rattle.papaya_alone.proofs.Given.Callers.Together.Stand.{stand_together}
+use Rattle.papaya_alone.proofs.Given.CallersTogether.Replies.{replies_stand_together}
+use Rattle.papaya_alone.proofs.Given.CallersTogether.Stand.{stand_together}
 
 module _ {K Q : Type 0} (V : Type 0) (same : K → K → Bool) (asks : Q → K → Bool) (size : ℕ) (slot : ℕ → ℕ)
     (w : World (Node K V)) (maps : ℕ → Option (Standing K)) (calls : ℕ → ℕ → Option (UnderWay K V Q)) (all : MapsTogether V same asks size slot w maps calls)

@@ -1,42 +1,42 @@
 -- A call that asked about a pair was told to abort. It removes the pair all the same, or answers that there is none: the laws refuse both.
 use Rattle.std.specs.Prelude.{◌≡◌, ℕ, ◌+◌, ◌<◌, ◌≤◌, Bool, true, false, Some, Option}
 use Rattle.std.proofs.Common.{refl, ap, sym, subst, ◌∙◌, arith, inl, inr, ◌⊎◌}
-use Rattle.papaya_alone.specs.Given.SeizeWords.declared.at.At.TheVariants.{Word}
-use Rattle.papaya_alone.specs.Given.SeizeWords.Mem.{Mem, Took, value_at, word_at, with_word}
-use Rattle.papaya_alone.specs.Given.SeizeWords.Op.{Exchange}
-use Rattle.papaya_alone.specs.Given.SeizeWords.Plan.{Plan, Do, Now, Steps}
-use Rattle.papaya_alone.proofs.Given.SeizeWords.OneOwner.Operations.{exchanged}
-use Rattle.papaya_alone.specs.Given.Seize.World.{World}
-use Rattle.papaya_alone.specs.Given.Tables.Chunks.{is_incremental}
-use Rattle.papaya_alone.specs.Given.Tables.Trials.{place_tried}
-use Rattle.papaya_alone.specs.Given.Tables.declared.marks.TheConstants.{TOMBSTONE}
-use Rattle.papaya_alone.specs.Given.Tables.declared.node.Node.{Node}
-use Rattle.papaya_alone.specs.Given.Tables.declared.resize_mode.ResizeMode.{ResizeMode}
-use Rattle.papaya_alone.specs.Given.Tables.declared.setting.Setting.{Setting}
-use Rattle.papaya_alone.specs.Given.Tables.declared.table_words.TheConstants.{PLACES}
-use Rattle.papaya_alone.specs.Given.Raw.CallPoints.{told_answer}
-use Rattle.papaya_alone.specs.Given.Raw.declared.machines.answer.Called.{Called}
-use Rattle.papaya_alone.specs.Given.Raw.declared.machines.answer.End.TheVariants as ends
-use Rattle.papaya_alone.specs.Given.Raw.declared.machines.answer.KeyAnswer.TheVariants as answers
-use Rattle.papaya_alone.specs.Given.Raw.declared.machines.call.Calling.TheVariants as at
-use Rattle.papaya_alone.specs.Given.Raw.declared.machines.call.KeyCall.{KeyCall}
-use Rattle.papaya_alone.specs.Given.Rule.Chart.{Still, Place, Tombstone, Holds, Chart, put_in}
-use Rattle.papaya_alone.specs.Given.Rule.Lasts.{Lasts}
-use Rattle.papaya_alone.specs.Given.Rule.InWorld.{IsMapIn}
-use Rattle.papaya_alone.specs.Given.Rule.Maps.{spot_of, IsTable}
-use Rattle.papaya_alone.specs.Given.Rule.Moments.{Moments}
-use Rattle.papaya_alone.specs.Given.Rule.Moves.{Move, Links, Stores, Replaces, Removes, Marks, MarksBlocking, Skips, Unmarks, Puts, Covers, PutsLate, Claims, Reclaims, Counts, GivesUp, Aborts, Promotes, Announces, after, without, with_pair}
-use Rattle.papaya_alone.specs.Given.Rule.Rule.{Rule}
-use Rattle.papaya_alone.specs.Given.Rule.Words.{Blocks, place_word}
-use Rattle.papaya_alone.proofs.Given.Rule.Moves.Writes.{put_here, put_in_cases}
-use Rattle.papaya_alone.proofs.Given.Rule.Words.TablesSeen.{place_stands, place_there}
-use Rattle.papaya_alone.specs.Given.Points.FactsCalls.{Change, Unchanged, Stored, Replaced, Removed, IsCopying, Changes, Tells}
-use Rattle.papaya_alone.specs.Given.Points.Steps.{AreLawful}
-use Rattle.papaya_alone.specs.Given.Points.Told.{HasAnswered, IsBeside, IsRowOfCall, MovedBeside}
-use Rattle.papaya_alone.proofs.Given.Late.Known.Steps.{lasts_went}
-use Rattle.papaya_alone.specs.Given.Callers.Sights.{Sight, seen_by}
-use Rattle.papaya_alone.specs.Given.Callers.Together.{OnKey, CallOnKey, UnderWay, in_slot, Stands, Together, StepTold, Fresh, Late, StepsTogether}
-use Rattle.papaya_alone.proofs.Given.Late.Plans.{written, there}
+use Rattle.papaya_alone.specs.Given.SeizeWordsDeclared.at.At.TheVariants.{Word}
+use Rattle.papaya_alone.specs.Given.SeizeWordsMem.{Mem, Took, value_at, word_at, with_word}
+use Rattle.papaya_alone.specs.Given.SeizeWordsOp.{Exchange}
+use Rattle.papaya_alone.specs.Given.SeizeWordsPlan.{Plan, Do, Now, Steps}
+use Rattle.papaya_alone.proofs.Given.SeizeWordsOneOwner.Operations.{exchanged}
+use Rattle.papaya_alone.specs.Given.SeizeWorld.{World}
+use Rattle.papaya_alone.specs.Given.TablesChunks.{is_incremental}
+use Rattle.papaya_alone.specs.Given.TablesTrials.{place_tried}
+use Rattle.papaya_alone.specs.Given.TablesDeclared.marks.TheConstants.{TOMBSTONE}
+use Rattle.papaya_alone.specs.Given.TablesDeclared.node.Node.{Node}
+use Rattle.papaya_alone.specs.Given.TablesDeclared.resize_mode.ResizeMode.{ResizeMode}
+use Rattle.papaya_alone.specs.Given.TablesDeclared.setting.Setting.{Setting}
+use Rattle.papaya_alone.specs.Given.TablesDeclared.table_words.TheConstants.{PLACES}
+use Rattle.papaya_alone.specs.Given.RawCallPoints.{told_answer}
+use Rattle.papaya_alone.specs.Given.RawDeclared.machines.answer.Called.{Called}
+use Rattle.papaya_alone.specs.Given.RawDeclared.machines.answer.End.TheVariants as ends
+use Rattle.papaya_alone.specs.Given.RawDeclared.machines.answer.KeyAnswer.TheVariants as answers
+use Rattle.papaya_alone.specs.Given.RawDeclared.machines.call.Calling.TheVariants as at
+use Rattle.papaya_alone.specs.Given.RawDeclared.machines.call.KeyCall.{KeyCall}
+use Rattle.papaya_alone.specs.Given.RuleChart.{Still, Place, Tombstone, Holds, Chart, put_in}
+use Rattle.papaya_alone.specs.Given.RuleLasts.{Lasts}
+use Rattle.papaya_alone.specs.Given.RuleInWorld.{IsMapIn}
+use Rattle.papaya_alone.specs.Given.RuleMaps.{spot_of, IsTable}
+use Rattle.papaya_alone.specs.Given.RuleMoments.{Moments}
+use Rattle.papaya_alone.specs.Given.RuleMoves.{Move, Links, Stores, Replaces, Removes, Marks, MarksBlocking, Skips, Unmarks, Puts, Covers, PutsLate, Claims, Reclaims, Counts, GivesUp, Aborts, Promotes, Announces, after, without, with_pair}
+use Rattle.papaya_alone.specs.Given.RuleRule.{Rule}
+use Rattle.papaya_alone.specs.Given.RuleWords.{Blocks, place_word}
+use Rattle.papaya_alone.proofs.Given.RuleMoves.Writes.{put_here, put_in_cases}
+use Rattle.papaya_alone.proofs.Given.RuleWords.TablesSeen.{place_stands, place_there}
+use Rattle.papaya_alone.specs.Given.PointsFactsCalls.{Change, Unchanged, Stored, Replaced, Removed, IsCopying, Changes, Tells}
+use Rattle.papaya_alone.specs.Given.PointsSteps.{AreLawful}
+use Rattle.papaya_alone.specs.Given.PointsTold.{HasAnswered, IsBeside, IsRowOfCall, MovedBeside}
+use Rattle.papaya_alone.proofs.Given.LateKnown.Steps.{lasts_went}
+use Rattle.papaya_alone.specs.Given.CallersSights.{Sight, seen_by}
+use Rattle.papaya_alone.specs.Given.CallersTogether.{OnKey, CallOnKey, UnderWay, in_slot, Stands, Together, StepTold, Fresh, Late, StepsTogether}
+use Rattle.papaya_alone.proofs.Given.LatePlans.{written, there}
 
 module _ {K V Q : Type 0} where
   -- It answers that it has found the pair of this word, as it is to, and removes it in that step.

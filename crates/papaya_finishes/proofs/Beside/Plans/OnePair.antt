@@ -2,42 +2,42 @@
 -- wrong step, or gives a wrong answer, and no law holds of what that leaves.
 use Rattle.std.specs.Prelude.{◌≡◌, ℕ, zero, suc, ◌+◌, ◌<◌, ◌≤◌, Bool, true, false, eqb, List, [], ◌∷◌, Option, Some, Ok}
 use Rattle.std.proofs.Common.{refl, ap, sym, subst, ◌∙◌, arith, inl, inr}
-use Rattle.papaya_alone.specs.Given.SeizeWords.Mem.{Mem, Took, value_at, word_at, with_word}
-use Rattle.papaya_alone.specs.Given.SeizeWords.Op.{Exchanged}
-use Rattle.papaya_alone.specs.Given.SeizeWords.Plan.{Steps}
-use Rattle.papaya_alone.specs.Given.SeizeWords.declared.at.At.TheVariants.{Word}
-use Rattle.papaya_alone.specs.Given.Seize.World.{World, Rests, Vacant, Hand, NoBlock, Making, InUse, with_at}
-use Rattle.papaya_alone.specs.Given.Tables.declared.marks.TheConstants.{TOMBSTONE}
-use Rattle.papaya_alone.specs.Given.Tables.Lengths.{IsTableLen}
-use Rattle.papaya_alone.specs.Given.Tables.declared.node.Node.{Node}
-use Rattle.papaya_alone.specs.Given.Tables.declared.node.Node.TheVariants as node
-use Rattle.papaya_alone.specs.Given.Tables.declared.table_words.TheConstants.{PLACES}
-use Rattle.papaya_alone.specs.Given.Raw.CallAsks.{computing, replied}
-use Rattle.papaya_alone.specs.Given.Raw.CallPoints.{entering, standing, answering, told_answer}
-use Rattle.papaya_alone.specs.Given.Raw.declared.machines.answer.Called.{Called}
-use Rattle.papaya_alone.specs.Given.Raw.declared.machines.answer.End.TheVariants as ends
-use Rattle.papaya_alone.specs.Given.Raw.declared.machines.answer.KeyAnswer.TheVariants as answers
-use Rattle.papaya_alone.specs.Given.Raw.declared.machines.asking.Asking.TheVariants as asking
-use Rattle.papaya_alone.specs.Given.Raw.declared.machines.asking.Reply.{Reply}
-use Rattle.papaya_alone.specs.Given.Raw.declared.machines.asking.Reply.TheVariants as reply
-use Rattle.papaya_alone.specs.Given.Raw.declared.machines.call.Calling.TheVariants as at
-use Rattle.papaya_alone.specs.Given.Raw.declared.machines.call.KeyCall.{KeyCall}
-use Rattle.papaya_alone.specs.Given.Rule.Chart.{Still, Holds, Chart, is_taken}
-use Rattle.papaya_alone.specs.Given.Rule.InWorld.{IsOut, IsMapIn}
-use Rattle.papaya_alone.specs.Given.Rule.Maps.{IsTable, spot_of}
-use Rattle.papaya_alone.specs.Given.Rule.Moves.{Stores}
-use Rattle.papaya_alone.specs.Given.Rule.Rule.{ShutBefore}
-use Rattle.papaya_alone.specs.Given.Rule.Words.{Blocks, Shows, ShowsTable, place_word}
-use Rattle.papaya_alone.specs.Given.Points.FactsCalls.{Unchanged}
+use Rattle.papaya_alone.specs.Given.SeizeWordsMem.{Mem, Took, value_at, word_at, with_word}
+use Rattle.papaya_alone.specs.Given.SeizeWordsOp.{Exchanged}
+use Rattle.papaya_alone.specs.Given.SeizeWordsPlan.{Steps}
+use Rattle.papaya_alone.specs.Given.SeizeWordsDeclared.at.At.TheVariants.{Word}
+use Rattle.papaya_alone.specs.Given.SeizeWorld.{World, Rests, Vacant, Hand, NoBlock, Making, InUse, with_at}
+use Rattle.papaya_alone.specs.Given.TablesDeclared.marks.TheConstants.{TOMBSTONE}
+use Rattle.papaya_alone.specs.Given.TablesLengths.{IsTableLen}
+use Rattle.papaya_alone.specs.Given.TablesDeclared.node.Node.{Node}
+use Rattle.papaya_alone.specs.Given.TablesDeclared.node.Node.TheVariants as node
+use Rattle.papaya_alone.specs.Given.TablesDeclared.table_words.TheConstants.{PLACES}
+use Rattle.papaya_alone.specs.Given.RawCallAsks.{computing, replied}
+use Rattle.papaya_alone.specs.Given.RawCallPoints.{entering, standing, answering, told_answer}
+use Rattle.papaya_alone.specs.Given.RawDeclared.machines.answer.Called.{Called}
+use Rattle.papaya_alone.specs.Given.RawDeclared.machines.answer.End.TheVariants as ends
+use Rattle.papaya_alone.specs.Given.RawDeclared.machines.answer.KeyAnswer.TheVariants as answers
+use Rattle.papaya_alone.specs.Given.RawDeclared.machines.asking.Asking.TheVariants as asking
+use Rattle.papaya_alone.specs.Given.RawDeclared.machines.asking.Reply.{Reply}
+use Rattle.papaya_alone.specs.Given.RawDeclared.machines.asking.Reply.TheVariants as reply
+use Rattle.papaya_alone.specs.Given.RawDeclared.machines.call.Calling.TheVariants as at
+use Rattle.papaya_alone.specs.Given.RawDeclared.machines.call.KeyCall.{KeyCall}
+use Rattle.papaya_alone.specs.Given.RuleChart.{Still, Holds, Chart, is_taken}
+use Rattle.papaya_alone.specs.Given.RuleInWorld.{IsOut, IsMapIn}
+use Rattle.papaya_alone.specs.Given.RuleMaps.{IsTable, spot_of}
+use Rattle.papaya_alone.specs.Given.RuleMoves.{Stores}
+use Rattle.papaya_alone.specs.Given.RuleRule.{ShutBefore}
+use Rattle.papaya_alone.specs.Given.RuleWords.{Blocks, Shows, ShowsTable, place_word}
+use Rattle.papaya_alone.specs.Given.PointsFactsCalls.{Unchanged}
 use Rattle.papaya_finishes.specs.Maps.{Standing, with_call, MapsTogether, StepsInMaps}
-use Rattle.papaya_alone.specs.Given.Callers.Asked.{Asked, IsWordOf}
-use Rattle.papaya_alone.specs.Given.Callers.Kind.{computes}
-use Rattle.papaya_alone.specs.Given.Callers.Pairs.{Given, IsTold, and_told}
-use Rattle.papaya_alone.specs.Given.Callers.Together.{told_about, OnKey, CallOnKey, UnderWay}
+use Rattle.papaya_alone.specs.Given.CallersAsked.{Asked, IsWordOf}
+use Rattle.papaya_alone.specs.Given.CallersKind.{computes}
+use Rattle.papaya_alone.specs.Given.CallersPairs.{Given, IsTold, and_told}
+use Rattle.papaya_alone.specs.Given.CallersTogether.{told_about, OnKey, CallOnKey, UnderWay}
 use Rattle.papaya_finishes.proofs.Beside.Plans.Aborts.{removes_all_the_same, removes_though_told_to_abort, denies_its_pair}
 use Rattle.papaya_finishes.proofs.Beside.Plans.Untold.{tells_at_once, removes_and_tells, keeps_what_it_is_to_replace, removes_what_it_is_to_leave}
-use Rattle.papaya_alone.proofs.Given.Late.Plans.FewBlocks.{hash, lawful, setting, with_move, chart, Stands, moved, each, stands, memory, length_fits, both, new}
-use Rattle.papaya_alone.proofs.Given.Callers.Together.At.{at_same}
+use Rattle.papaya_alone.proofs.Given.LatePlans.FewBlocks.{hash, lawful, setting, with_move, chart, Stands, moved, each, stands, memory, length_fits, both, new}
+use Rattle.papaya_alone.proofs.Given.CallersTogether.At.{at_same}
 
 -- the pair of key 7 is stored at the first place of the second table: the first one is shut for it
 abbrev with_seven : Chart ℕ

@@ -1,41 +1,41 @@
 -- A call that computes goes against what it was told: it leaves what it was told to store, or removes what it was told to leave. The laws refuse each.
 use Rattle.std.specs.Prelude.{◌≡◌, ℕ, Bool, List, Option, Some, None}
 use Rattle.std.proofs.Common.{refl, ap, sym, subst, inl, inr}
-use Rattle.papaya_alone.specs.Given.SeizeWords.declared.fault.Fault.TheVariants.{RemoveNothing}
-use Rattle.papaya_alone.specs.Given.SeizeWords.Mem.{Mem, Took, value_at}
-use Rattle.papaya_alone.specs.Given.SeizeWords.Op.{Exchange}
-use Rattle.papaya_alone.specs.Given.SeizeWords.Plan.{Plan, Turn, Do, Now, Steps}
-use Rattle.papaya_alone.proofs.Given.SeizeWords.OneOwner.Operations.{exchanged}
-use Rattle.papaya_alone.specs.Given.Seize.World.{World}
-use Rattle.papaya_alone.specs.Given.Tables.Chunks.{is_incremental}
-use Rattle.papaya_alone.specs.Given.Tables.Trials.{place_tried}
-use Rattle.papaya_alone.specs.Given.Tables.declared.marks.TheConstants.{TOMBSTONE}
-use Rattle.papaya_alone.specs.Given.Tables.declared.node.Node.{Node}
-use Rattle.papaya_alone.specs.Given.Tables.declared.setting.Setting.{Setting}
-use Rattle.papaya_alone.specs.Given.Raw.CallPoints.{over, told_answer}
-use Rattle.papaya_alone.specs.Given.Raw.declared.machines.answer.Called.{Called}
-use Rattle.papaya_alone.specs.Given.Raw.declared.machines.answer.End.TheVariants as ends
-use Rattle.papaya_alone.specs.Given.Raw.declared.machines.answer.KeyAnswer.{KeyAnswer}
-use Rattle.papaya_alone.specs.Given.Raw.declared.machines.answer.KeyAnswer.TheVariants as answers
-use Rattle.papaya_alone.specs.Given.Raw.declared.machines.asking.Reply.{Reply}
-use Rattle.papaya_alone.specs.Given.Raw.declared.machines.asking.Reply.TheVariants as reply
-use Rattle.papaya_alone.specs.Given.Raw.declared.machines.call.KeyCall.{KeyCall}
-use Rattle.papaya_alone.specs.Given.Rule.Chart.{Still, Chart}
-use Rattle.papaya_alone.specs.Given.Rule.InWorld.{IsFramed, IsMapIn}
-use Rattle.papaya_alone.specs.Given.Rule.Moments.{Moments}
-use Rattle.papaya_alone.specs.Given.Rule.Words.{Blocks}
-use Rattle.papaya_alone.specs.Given.Points.FactsCalls.{Change, Unchanged, Stored, Replaced, Removed, Tells}
-use Rattle.papaya_alone.specs.Given.Points.Steps.{AreLawful}
-use Rattle.papaya_alone.proofs.Given.Late.Known.Steps.{lasts_went}
-use Rattle.papaya_alone.proofs.Given.Points.Values.Sought.{IsLook}
-use Rattle.papaya_alone.specs.Given.Callers.Asked.{Asked, last_told, IsToRemove, IsWordOf}
-use Rattle.papaya_alone.specs.Given.Callers.Kind.{computes}
-use Rattle.papaya_alone.specs.Given.Callers.Pairs.{Given, IsTold, RemovesNone, StoresGiven, LeavesGiven}
-use Rattle.papaya_alone.specs.Given.Callers.Sights.{Sight, seen_by}
-use Rattle.papaya_alone.specs.Given.Callers.Together.{CallOnKey, UnderWay, in_slot, change_told, AnswersOnce, StepsTogether}
-use Rattle.papaya_alone.proofs.Given.Callers.Asked.By.{block_of_word, one_pair}
-use Rattle.papaya_alone.proofs.Given.Callers.Asked.On.{step_stays}
-use Rattle.papaya_alone.proofs.Given.Callers.Asked.Stays.{Stays, word_on}
+use Rattle.papaya_alone.specs.Given.SeizeWordsDeclared.fault.Fault.TheVariants.{RemoveNothing}
+use Rattle.papaya_alone.specs.Given.SeizeWordsMem.{Mem, Took, value_at}
+use Rattle.papaya_alone.specs.Given.SeizeWordsOp.{Exchange}
+use Rattle.papaya_alone.specs.Given.SeizeWordsPlan.{Plan, Turn, Do, Now, Steps}
+use Rattle.papaya_alone.proofs.Given.SeizeWordsOneOwner.Operations.{exchanged}
+use Rattle.papaya_alone.specs.Given.SeizeWorld.{World}
+use Rattle.papaya_alone.specs.Given.TablesChunks.{is_incremental}
+use Rattle.papaya_alone.specs.Given.TablesTrials.{place_tried}
+use Rattle.papaya_alone.specs.Given.TablesDeclared.marks.TheConstants.{TOMBSTONE}
+use Rattle.papaya_alone.specs.Given.TablesDeclared.node.Node.{Node}
+use Rattle.papaya_alone.specs.Given.TablesDeclared.setting.Setting.{Setting}
+use Rattle.papaya_alone.specs.Given.RawCallPoints.{over, told_answer}
+use Rattle.papaya_alone.specs.Given.RawDeclared.machines.answer.Called.{Called}
+use Rattle.papaya_alone.specs.Given.RawDeclared.machines.answer.End.TheVariants as ends
+use Rattle.papaya_alone.specs.Given.RawDeclared.machines.answer.KeyAnswer.{KeyAnswer}
+use Rattle.papaya_alone.specs.Given.RawDeclared.machines.answer.KeyAnswer.TheVariants as answers
+use Rattle.papaya_alone.specs.Given.RawDeclared.machines.asking.Reply.{Reply}
+use Rattle.papaya_alone.specs.Given.RawDeclared.machines.asking.Reply.TheVariants as reply
+use Rattle.papaya_alone.specs.Given.RawDeclared.machines.call.KeyCall.{KeyCall}
+use Rattle.papaya_alone.specs.Given.RuleChart.{Still, Chart}
+use Rattle.papaya_alone.specs.Given.RuleInWorld.{IsFramed, IsMapIn}
+use Rattle.papaya_alone.specs.Given.RuleMoments.{Moments}
+use Rattle.papaya_alone.specs.Given.RuleWords.{Blocks}
+use Rattle.papaya_alone.specs.Given.PointsFactsCalls.{Change, Unchanged, Stored, Replaced, Removed, Tells}
+use Rattle.papaya_alone.specs.Given.PointsSteps.{AreLawful}
+use Rattle.papaya_alone.proofs.Given.LateKnown.Steps.{lasts_went}
+use Rattle.papaya_alone.proofs.Given.PointsValues.Sought.{IsLook}
+use Rattle.papaya_alone.specs.Given.CallersAsked.{Asked, last_told, IsToRemove, IsWordOf}
+use Rattle.papaya_alone.specs.Given.CallersKind.{computes}
+use Rattle.papaya_alone.specs.Given.CallersPairs.{Given, IsTold, RemovesNone, StoresGiven, LeavesGiven}
+use Rattle.papaya_alone.specs.Given.CallersSights.{Sight, seen_by}
+use Rattle.papaya_alone.specs.Given.CallersTogether.{CallOnKey, UnderWay, in_slot, change_told, AnswersOnce, StepsTogether}
+use Rattle.papaya_alone.proofs.Given.CallersAsked.By.{block_of_word, one_pair}
+use Rattle.papaya_alone.proofs.Given.CallersAsked.On.{step_stays}
+use Rattle.papaya_alone.proofs.Given.CallersAsked.Stays.{Stays, word_on}
 
 module _ {K V Q : Type 0} where
   -- it answers at once, whatever it was told

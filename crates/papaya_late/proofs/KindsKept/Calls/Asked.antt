@@ -1,41 +1,41 @@
 -- A call that asks stays of its kind where it goes on by what it was told, where it is told something, and where its own block gets a pair, or is given up.
 use Rattle.std.specs.Prelude.{◌==◌, Option, Some, None, Ok, Err, if◌then◌else◌}
 use Rattle.std.proofs.Common.{◌≡◌, ◌≢◌, ℕ, Bool, true, false, inl, inr, refl, sym, ◌∙◌, arith}
-use Rattle.papaya_points.specs.Given.SeizeWords.Op.{Out, Found, Stored, Exchanged, Made, Taken, Roomed}
-use Rattle.papaya_points.specs.Given.SeizeWords.Word.{block_in}
-use Rattle.papaya_points.specs.Given.SeizeWords.declared.fault.Fault.TheVariants.{RemoveNothing}
-use Rattle.papaya_points.specs.Given.Tables.declared.lengths.TheConstants.{FIRST_LEN}
-use Rattle.papaya_points.specs.Given.Tables.declared.marks.TheConstants.{TOMBSTONE}
-use Rattle.papaya_points.specs.Given.Tables.declared.node.Node.{Node}
-use Rattle.papaya_points.specs.Given.Tables.declared.node.Node.TheVariants as node
-use Rattle.papaya_points.specs.Given.Raw.CallAsks.{with_absent, with_present, absent_told, present_told, told_at}
-use Rattle.papaya_points.specs.Given.Raw.CallFills.{taken_back, filled, putting_by, fill_by, emptied, fills_with, given_up, asks_at}
-use Rattle.papaya_points.specs.Given.Raw.CallPoints.{word_to, standing, going, over, ending, full_for, following_made, storing, burying, at_gap, gap_by, asking_at, pair_by, asking_of}
-use Rattle.papaya_points.specs.Given.Raw.Replies.{owned, value_for, as_own, back, back_present, with_back}
-use Rattle.papaya_points.specs.Given.Raw.declared.machines.answer.KeyAnswer.TheVariants as answers
-use Rattle.papaya_points.specs.Given.Raw.declared.machines.answer.Called.{Called}
-use Rattle.papaya_points.specs.Given.Raw.declared.machines.answer.Called.TheVariants as called
-use Rattle.papaya_points.specs.Given.Raw.declared.machines.answer.End.{End}
-use Rattle.papaya_points.specs.Given.Raw.declared.machines.answer.End.TheVariants as ends
-use Rattle.papaya_points.specs.Given.Raw.declared.machines.answer.Missing.{Missing}
-use Rattle.papaya_points.specs.Given.Raw.declared.machines.answer.Missing.TheVariants as missing
-use Rattle.papaya_points.specs.Given.Raw.declared.machines.answer.There.{There}
-use Rattle.papaya_points.specs.Given.Raw.declared.machines.answer.There.TheVariants as there
-use Rattle.papaya_points.specs.Given.Raw.declared.machines.asking.Asking.{Asking}
-use Rattle.papaya_points.specs.Given.Raw.declared.machines.asking.Asking.TheVariants as asking
-use Rattle.papaya_points.specs.Given.Raw.declared.machines.asking.Gap.{Gap}
-use Rattle.papaya_points.specs.Given.Raw.declared.machines.asking.Gap.TheVariants as gaps
-use Rattle.papaya_points.specs.Given.Raw.declared.machines.asking.Replies.{Replies}
-use Rattle.papaya_points.specs.Given.Raw.declared.machines.asking.Reply.{Reply}
-use Rattle.papaya_points.specs.Given.Raw.declared.machines.asking.Reply.TheVariants as reply
-use Rattle.papaya_points.specs.Given.Raw.declared.machines.asking.Takes.{Takes}
-use Rattle.papaya_points.specs.Given.Raw.declared.machines.asking.Takes.TheVariants as told
-use Rattle.papaya_points.specs.Given.Raw.declared.machines.asking.Told.{Told}
-use Rattle.papaya_points.specs.Given.Raw.declared.machines.asking.Told.TheVariants as tells
-use Rattle.papaya_points.specs.Given.Raw.declared.machines.call.KeyCall.{KeyCall}
-use Rattle.papaya_points.specs.Given.Raw.declared.machines.call.Calling.{Calling}
-use Rattle.papaya_points.specs.Given.Raw.declared.machines.call.Calling.TheVariants as at
-use Rattle.papaya_points.proofs.Given.Rule.Keys.Always.{Always, AlwaysOf}
+use Rattle.papaya_points.specs.Given.SeizeWordsOp.{Out, Found, Stored, Exchanged, Made, Taken, Roomed}
+use Rattle.papaya_points.specs.Given.SeizeWordsWord.{block_in}
+use Rattle.papaya_points.specs.Given.SeizeWordsDeclared.fault.Fault.TheVariants.{RemoveNothing}
+use Rattle.papaya_points.specs.Given.TablesDeclared.lengths.TheConstants.{FIRST_LEN}
+use Rattle.papaya_points.specs.Given.TablesDeclared.marks.TheConstants.{TOMBSTONE}
+use Rattle.papaya_points.specs.Given.TablesDeclared.node.Node.{Node}
+use Rattle.papaya_points.specs.Given.TablesDeclared.node.Node.TheVariants as node
+use Rattle.papaya_points.specs.Given.RawCallAsks.{with_absent, with_present, absent_told, present_told, told_at}
+use Rattle.papaya_points.specs.Given.RawCallFills.{taken_back, filled, putting_by, fill_by, emptied, fills_with, given_up, asks_at}
+use Rattle.papaya_points.specs.Given.RawCallPoints.{word_to, standing, going, over, ending, full_for, following_made, storing, burying, at_gap, gap_by, asking_at, pair_by, asking_of}
+use Rattle.papaya_points.specs.Given.RawReplies.{owned, value_for, as_own, back, back_present, with_back}
+use Rattle.papaya_points.specs.Given.RawDeclared.machines.answer.KeyAnswer.TheVariants as answers
+use Rattle.papaya_points.specs.Given.RawDeclared.machines.answer.Called.{Called}
+use Rattle.papaya_points.specs.Given.RawDeclared.machines.answer.Called.TheVariants as called
+use Rattle.papaya_points.specs.Given.RawDeclared.machines.answer.End.{End}
+use Rattle.papaya_points.specs.Given.RawDeclared.machines.answer.End.TheVariants as ends
+use Rattle.papaya_points.specs.Given.RawDeclared.machines.answer.Missing.{Missing}
+use Rattle.papaya_points.specs.Given.RawDeclared.machines.answer.Missing.TheVariants as missing
+use Rattle.papaya_points.specs.Given.RawDeclared.machines.answer.There.{There}
+use Rattle.papaya_points.specs.Given.RawDeclared.machines.answer.There.TheVariants as there
+use Rattle.papaya_points.specs.Given.RawDeclared.machines.asking.Asking.{Asking}
+use Rattle.papaya_points.specs.Given.RawDeclared.machines.asking.Asking.TheVariants as asking
+use Rattle.papaya_points.specs.Given.RawDeclared.machines.asking.Gap.{Gap}
+use Rattle.papaya_points.specs.Given.RawDeclared.machines.asking.Gap.TheVariants as gaps
+use Rattle.papaya_points.specs.Given.RawDeclared.machines.asking.Replies.{Replies}
+use Rattle.papaya_points.specs.Given.RawDeclared.machines.asking.Reply.{Reply}
+use Rattle.papaya_points.specs.Given.RawDeclared.machines.asking.Reply.TheVariants as reply
+use Rattle.papaya_points.specs.Given.RawDeclared.machines.asking.Takes.{Takes}
+use Rattle.papaya_points.specs.Given.RawDeclared.machines.asking.Takes.TheVariants as told
+use Rattle.papaya_points.specs.Given.RawDeclared.machines.asking.Told.{Told}
+use Rattle.papaya_points.specs.Given.RawDeclared.machines.asking.Told.TheVariants as tells
+use Rattle.papaya_points.specs.Given.RawDeclared.machines.call.KeyCall.{KeyCall}
+use Rattle.papaya_points.specs.Given.RawDeclared.machines.call.Calling.{Calling}
+use Rattle.papaya_points.specs.Given.RawDeclared.machines.call.Calling.TheVariants as at
+use Rattle.papaya_points.proofs.Given.RuleKeys.Always.{Always, AlwaysOf}
 use Rattle.papaya_late.specs.Kinds.{ToldFits, IsMore, MayRemove, FitsStore, OverFits, FitsAsking, FitsAt, IsFit, ComesFit, RepliesKeepTheKind}
 use Rattle.papaya_late.proofs.KindsKept.Rooms.Making.{first_table_room, table_after_room}
 

@@ -2,67 +2,67 @@
 use Rattle.std.specs.Prelude.{◌==◌, Option, Some, None, Ok, Err, if◌then◌else◌}
 use Rattle.std.proofs.Common.{◌≡◌, ◌≢◌, ℕ, Bool, true, false, inl, refl, sym, subst, ◌∙◌, eqb-true}
 use Rattle.std.proofs.lemmas.Bool.{eqb-false}
-use Rattle.papaya_points.specs.Given.SeizeWords.Mem.{Mem, value_at, Took}
-use Rattle.papaya_points.specs.Given.SeizeWords.Op.{Out, Found, Stored, Exchanged, Made, Taken, Roomed}
-use Rattle.papaya_points.specs.Given.SeizeWords.Plan.{Then, Steps}
-use Rattle.papaya_points.specs.Given.Seize.declared.progress.Progress.{Progress}
-use Rattle.papaya_points.specs.Given.Seize.declared.progress.Progress.TheVariants as progress
-use Rattle.papaya_points.specs.Given.Seize.declared.rows.settle.Settled.{Settled}
-use Rattle.papaya_points.specs.Given.Seize.declared.rows.settle.Settled.TheVariants as settled
-use Rattle.papaya_points.proofs.Given.SeizeRule.Rows.Leaving.{steps_back}
-use Rattle.papaya_points.specs.Given.Raw.Answers.{ended}
-use Rattle.papaya_points.specs.Given.Raw.Call.{made, makes_of, root_found, next_found, dropped, key_read, pair_read, word_read, word_found, tried, looked, looks_for, first_made, next_made, disposed, helped, copied, plan_at}
-use Rattle.papaya_points.specs.Given.Raw.CallPoints.{aim_of, told, going, standing, over, ending, tableless, at_free, following_made, asking_at, at_last, at_pair, told_of, entering, went_on, changed, counted, having_met}
-use Rattle.papaya_points.specs.Given.Tables.Chunks.{is_incremental}
-use Rattle.papaya_points.specs.Given.Resize.Copier.{copier_plan}
-use Rattle.papaya_points.specs.Given.Resize.CopierStates.{copying_all, resting}
-use Rattle.papaya_points.specs.Given.Resize.Dispose.{disposing, dispose_plan}
-use Rattle.papaya_points.specs.Given.Tables.Finding.{may_name, finding}
-use Rattle.papaya_points.specs.Given.Tables.declared.finding.Aim.{Aim}
-use Rattle.papaya_points.specs.Given.Tables.declared.resize_mode.ResizeMode.{ResizeMode}
-use Rattle.papaya_points.specs.Given.Resize.Lookup.{lookup_plan}
-use Rattle.papaya_points.specs.Given.Resize.Lookup as lookups
-use Rattle.papaya_points.specs.Given.Resize.NewTable.{new_table_plan}
-use Rattle.papaya_points.specs.Given.Tables.Trials.{next_trial, with_met}
-use Rattle.papaya_points.specs.Given.Tables.declared.lengths.TheConstants.{FIRST_LEN}
-use Rattle.papaya_points.specs.Given.Tables.declared.marks.TheConstants.{TOMBSTONE}
-use Rattle.papaya_points.specs.Given.Tables.declared.node.Node.{Node}
-use Rattle.papaya_points.specs.Given.Resize.declared.outcome.Outcome.{Outcome}
-use Rattle.papaya_points.specs.Given.Resize.declared.outcome.Outcome.TheVariants as outcome
-use Rattle.papaya_points.specs.Given.Tables.declared.setting.Setting.{Setting}
-use Rattle.papaya_points.specs.Given.Tables.declared.table.Table.{Table}
-use Rattle.papaya_points.specs.Given.Raw.declared.machines.answer.KeyAnswer.{KeyAnswer}
-use Rattle.papaya_points.specs.Given.Raw.declared.machines.answer.KeyAnswer.TheVariants as answers
-use Rattle.papaya_points.specs.Given.Raw.declared.machines.answer.Called.{Called}
-use Rattle.papaya_points.specs.Given.Raw.declared.machines.answer.Called.TheVariants as called
-use Rattle.papaya_points.specs.Given.Raw.declared.machines.answer.End.{End}
-use Rattle.papaya_points.specs.Given.Raw.declared.machines.answer.End.TheVariants as ends
-use Rattle.papaya_points.specs.Given.Raw.declared.machines.answer.Missing.{Missing}
-use Rattle.papaya_points.specs.Given.Raw.declared.machines.answer.Missing.TheVariants as missing
-use Rattle.papaya_points.specs.Given.Raw.declared.machines.answer.There.{There}
-use Rattle.papaya_points.specs.Given.Raw.declared.machines.answer.There.TheVariants as there
-use Rattle.papaya_points.specs.Given.Raw.declared.machines.asking.Gap.{Gap}
-use Rattle.papaya_points.specs.Given.Raw.declared.machines.asking.Gap.TheVariants as gaps
-use Rattle.papaya_points.specs.Given.Raw.declared.machines.asking.Takes.{Takes}
-use Rattle.papaya_points.specs.Given.Raw.declared.machines.asking.Takes.TheVariants as kinds
-use Rattle.papaya_points.specs.Given.Raw.declared.machines.asking.Told.{Told}
-use Rattle.papaya_points.specs.Given.Raw.declared.machines.asking.Told.TheVariants as tells
-use Rattle.papaya_points.specs.Given.Raw.Replies.{untold}
-use Rattle.papaya_points.specs.Given.Raw.declared.machines.call.KeyCall.{KeyCall}
-use Rattle.papaya_points.specs.Given.Raw.declared.machines.call.Calling.{Calling}
-use Rattle.papaya_points.specs.Given.Raw.declared.machines.call.Calling.TheVariants as at
-use Rattle.papaya_points.specs.Given.Resize.declared.copier.Copier.{Copier}
-use Rattle.papaya_points.specs.Given.Resize.declared.copier.Copying.TheVariants as copies
-use Rattle.papaya_points.specs.Given.Resize.declared.dispose.Dispose.{Dispose}
-use Rattle.papaya_points.specs.Given.Tables.declared.finding.Finding.{Finding}
-use Rattle.papaya_points.specs.Given.Tables.declared.finding.Finding.TheVariants as finds
-use Rattle.papaya_points.specs.Given.Resize.declared.lookup.Lookup.{Lookup}
-use Rattle.papaya_points.specs.Given.Resize.declared.lookup.Looking.{Looking}
-use Rattle.papaya_points.specs.Given.Resize.declared.lookup.Looking.TheVariants as looks
-use Rattle.papaya_points.specs.Given.Resize.declared.new_table.NewTable.{NewTable}
-use Rattle.papaya_points.specs.Given.Tables.declared.trial.Trial.{Trial}
+use Rattle.papaya_points.specs.Given.SeizeWordsMem.{Mem, value_at, Took}
+use Rattle.papaya_points.specs.Given.SeizeWordsOp.{Out, Found, Stored, Exchanged, Made, Taken, Roomed}
+use Rattle.papaya_points.specs.Given.SeizeWordsPlan.{Then, Steps}
+use Rattle.papaya_points.specs.Given.SeizeDeclared.progress.Progress.{Progress}
+use Rattle.papaya_points.specs.Given.SeizeDeclared.progress.Progress.TheVariants as progress
+use Rattle.papaya_points.specs.Given.SeizeDeclared.rows.settle.Settled.{Settled}
+use Rattle.papaya_points.specs.Given.SeizeDeclared.rows.settle.Settled.TheVariants as settled
+use Rattle.papaya_points.proofs.Given.SeizeRuleRows.Leaving.{steps_back}
+use Rattle.papaya_points.specs.Given.RawAnswers.{ended}
+use Rattle.papaya_points.specs.Given.RawCall.{made, makes_of, root_found, next_found, dropped, key_read, pair_read, word_read, word_found, tried, looked, looks_for, first_made, next_made, disposed, helped, copied, plan_at}
+use Rattle.papaya_points.specs.Given.RawCallPoints.{aim_of, told, going, standing, over, ending, tableless, at_free, following_made, asking_at, at_last, at_pair, told_of, entering, went_on, changed, counted, having_met}
+use Rattle.papaya_points.specs.Given.TablesChunks.{is_incremental}
+use Rattle.papaya_points.specs.Given.ResizeCopier.{copier_plan}
+use Rattle.papaya_points.specs.Given.ResizeCopierStates.{copying_all, resting}
+use Rattle.papaya_points.specs.Given.ResizeDispose.{disposing, dispose_plan}
+use Rattle.papaya_points.specs.Given.TablesFinding.{may_name, finding}
+use Rattle.papaya_points.specs.Given.TablesDeclared.finding.Aim.{Aim}
+use Rattle.papaya_points.specs.Given.TablesDeclared.resize_mode.ResizeMode.{ResizeMode}
+use Rattle.papaya_points.specs.Given.ResizeLookup.{lookup_plan}
+use Rattle.papaya_points.specs.Given.ResizeLookup as lookups
+use Rattle.papaya_points.specs.Given.ResizeNewTable.{new_table_plan}
+use Rattle.papaya_points.specs.Given.TablesTrials.{next_trial, with_met}
+use Rattle.papaya_points.specs.Given.TablesDeclared.lengths.TheConstants.{FIRST_LEN}
+use Rattle.papaya_points.specs.Given.TablesDeclared.marks.TheConstants.{TOMBSTONE}
+use Rattle.papaya_points.specs.Given.TablesDeclared.node.Node.{Node}
+use Rattle.papaya_points.specs.Given.ResizeDeclared.outcome.Outcome.{Outcome}
+use Rattle.papaya_points.specs.Given.ResizeDeclared.outcome.Outcome.TheVariants as outcome
+use Rattle.papaya_points.specs.Given.TablesDeclared.setting.Setting.{Setting}
+use Rattle.papaya_points.specs.Given.TablesDeclared.table.Table.{Table}
+use Rattle.papaya_points.specs.Given.RawDeclared.machines.answer.KeyAnswer.{KeyAnswer}
+use Rattle.papaya_points.specs.Given.RawDeclared.machines.answer.KeyAnswer.TheVariants as answers
+use Rattle.papaya_points.specs.Given.RawDeclared.machines.answer.Called.{Called}
+use Rattle.papaya_points.specs.Given.RawDeclared.machines.answer.Called.TheVariants as called
+use Rattle.papaya_points.specs.Given.RawDeclared.machines.answer.End.{End}
+use Rattle.papaya_points.specs.Given.RawDeclared.machines.answer.End.TheVariants as ends
+use Rattle.papaya_points.specs.Given.RawDeclared.machines.answer.Missing.{Missing}
+use Rattle.papaya_points.specs.Given.RawDeclared.machines.answer.Missing.TheVariants as missing
+use Rattle.papaya_points.specs.Given.RawDeclared.machines.answer.There.{There}
+use Rattle.papaya_points.specs.Given.RawDeclared.machines.answer.There.TheVariants as there
+use Rattle.papaya_points.specs.Given.RawDeclared.machines.asking.Gap.{Gap}
+use Rattle.papaya_points.specs.Given.RawDeclared.machines.asking.Gap.TheVariants as gaps
+use Rattle.papaya_points.specs.Given.RawDeclared.machines.asking.Takes.{Takes}
+use Rattle.papaya_points.specs.Given.RawDeclared.machines.asking.Takes.TheVariants as kinds
+use Rattle.papaya_points.specs.Given.RawDeclared.machines.asking.Told.{Told}
+use Rattle.papaya_points.specs.Given.RawDeclared.machines.asking.Told.TheVariants as tells
+use Rattle.papaya_points.specs.Given.RawReplies.{untold}
+use Rattle.papaya_points.specs.Given.RawDeclared.machines.call.KeyCall.{KeyCall}
+use Rattle.papaya_points.specs.Given.RawDeclared.machines.call.Calling.{Calling}
+use Rattle.papaya_points.specs.Given.RawDeclared.machines.call.Calling.TheVariants as at
+use Rattle.papaya_points.specs.Given.ResizeDeclared.copier.Copier.{Copier}
+use Rattle.papaya_points.specs.Given.ResizeDeclared.copier.Copying.TheVariants as copies
+use Rattle.papaya_points.specs.Given.ResizeDeclared.dispose.Dispose.{Dispose}
+use Rattle.papaya_points.specs.Given.TablesDeclared.finding.Finding.{Finding}
+use Rattle.papaya_points.specs.Given.TablesDeclared.finding.Finding.TheVariants as finds
+use Rattle.papaya_points.specs.Given.ResizeDeclared.lookup.Lookup.{Lookup}
+use Rattle.papaya_points.specs.Given.ResizeDeclared.lookup.Looking.{Looking}
+use Rattle.papaya_points.specs.Given.ResizeDeclared.lookup.Looking.TheVariants as looks
+use Rattle.papaya_points.specs.Given.ResizeDeclared.new_table.NewTable.{NewTable}
+use Rattle.papaya_points.specs.Given.TablesDeclared.trial.Trial.{Trial}
 use Rattle.papaya_points.proofs.Calls.Asked.{passed_so}
-use Rattle.papaya_points.proofs.Given.Rule.Keys.Always.{Always, AlwaysOf, always_if, always_plan_as, always_steps}
+use Rattle.papaya_points.proofs.Given.RuleKeys.Always.{Always, AlwaysOf, always_if, always_plan_as, always_steps}
 use Rattle.papaya_late.specs.Faults.{RoomInCopying}
 use Rattle.papaya_late.specs.Kinds.{ToldFits, IsMore, Fits, FitsStore, FitsExchange, FitsCount, OverFits, FitsAt, TellsFit, IsFit, ComesFit, KindsBegin, AskingKindsBegin, CallsKeepTheirKind}
 use Rattle.papaya_late.proofs.KindsKept.Calls.Asked.{word_no_tombstone, either, fit_over, fit_ending, fit_puts, fit_removes, fit_following, fit_asking, fit_asking_of, on_asks}

@@ -1,22 +1,22 @@
 -- A step of a lookup leaves the memory as it is.
 use Rattle.std.specs.Prelude.{Option, Some, None}
 use Rattle.std.proofs.Common.{◌≡◌, ℕ, Bool, refl, sym, subst}
-use Rattle.papaya_points.specs.Given.SeizeWords.Mem.{Mem, value_at, Took}
-use Rattle.papaya_points.specs.Given.SeizeWords.Plan.{Steps}
-use Rattle.papaya_points.specs.Given.Seize.declared.progress.Progress.{Progress}
-use Rattle.papaya_points.specs.Given.Seize.declared.progress.Progress.TheVariants as progress
-use Rattle.papaya_points.proofs.Given.SeizeRule.Rows.Leaving.{steps_back}
-use Rattle.papaya_points.specs.Given.Raw.Call.{looked, looks_for, plan_at}
-use Rattle.papaya_points.specs.Given.Resize.Lookup.{lookup_plan}
-use Rattle.papaya_points.specs.Given.Resize.Lookup as lookups
-use Rattle.papaya_points.specs.Given.Tables.declared.node.Node.{Node}
-use Rattle.papaya_points.specs.Given.Raw.declared.machines.answer.Called.{Called}
-use Rattle.papaya_points.specs.Given.Raw.declared.machines.call.KeyCall.{KeyCall}
-use Rattle.papaya_points.specs.Given.Raw.declared.machines.call.Calling.{Calling}
-use Rattle.papaya_points.specs.Given.Raw.declared.machines.call.Calling.TheVariants as at
-use Rattle.papaya_points.specs.Given.Resize.declared.lookup.Lookup.{Lookup}
-use Rattle.papaya_points.specs.Given.Resize.declared.lookup.Looking.{Looking}
-use Rattle.papaya_points.specs.Given.Resize.declared.lookup.Looking.TheVariants as looks
+use Rattle.papaya_points.specs.Given.SeizeWordsMem.{Mem, value_at, Took}
+use Rattle.papaya_points.specs.Given.SeizeWordsPlan.{Steps}
+use Rattle.papaya_points.specs.Given.SeizeDeclared.progress.Progress.{Progress}
+use Rattle.papaya_points.specs.Given.SeizeDeclared.progress.Progress.TheVariants as progress
+use Rattle.papaya_points.proofs.Given.SeizeRuleRows.Leaving.{steps_back}
+use Rattle.papaya_points.specs.Given.RawCall.{looked, looks_for, plan_at}
+use Rattle.papaya_points.specs.Given.ResizeLookup.{lookup_plan}
+use Rattle.papaya_points.specs.Given.ResizeLookup as lookups
+use Rattle.papaya_points.specs.Given.TablesDeclared.node.Node.{Node}
+use Rattle.papaya_points.specs.Given.RawDeclared.machines.answer.Called.{Called}
+use Rattle.papaya_points.specs.Given.RawDeclared.machines.call.KeyCall.{KeyCall}
+use Rattle.papaya_points.specs.Given.RawDeclared.machines.call.Calling.{Calling}
+use Rattle.papaya_points.specs.Given.RawDeclared.machines.call.Calling.TheVariants as at
+use Rattle.papaya_points.specs.Given.ResizeDeclared.lookup.Lookup.{Lookup}
+use Rattle.papaya_points.specs.Given.ResizeDeclared.lookup.Looking.{Looking}
+use Rattle.papaya_points.specs.Given.ResizeDeclared.lookup.Looking.TheVariants as looks
 use Rattle.papaya_late.specs.Kinds.{IsLookup, LooksAt}
 
 module _ {K V Q : Type 0} (asks : Q → K → Bool) (same : K → K → Bool) (hash : K → ℕ) (m m2 : Mem (Node K V)) where

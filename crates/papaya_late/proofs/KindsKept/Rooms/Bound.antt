@@ -1,20 +1,20 @@
 -- Where a machine has a fault to tell, or is to put a table behind another one: what is so of these is so still where it goes on being so of each.
-use Rattle.papaya_points.specs.Given.SeizeWords.declared.fault.Fault.{Fault}
-use Rattle.papaya_points.specs.Given.Tables.declared.lengths.Reason.{Reason}
-use Rattle.papaya_points.specs.Given.Tables.declared.table.Table.{Table}
-use Rattle.papaya_points.specs.Given.Resize.declared.copier.Copying.{Copying}
-use Rattle.papaya_points.specs.Given.Resize.declared.copier.Copying.TheVariants as copies
-use Rattle.papaya_points.specs.Given.Resize.declared.new_table.Making.{Making}
-use Rattle.papaya_points.specs.Given.Resize.declared.new_table.Making.TheVariants as makes
-use Rattle.papaya_points.specs.Given.Reserves.declared.reserve.Reserving.{Reserving}
-use Rattle.papaya_points.specs.Given.Reserves.declared.reserve.Reserving.TheVariants as reserves
-use Rattle.papaya_points.specs.Given.Raw.declared.machines.answer.End.TheVariants as ends
-use Rattle.papaya_points.specs.Given.Raw.declared.machines.asking.Asking.TheVariants as asking
-use Rattle.papaya_points.specs.Given.Raw.declared.machines.asking.Gap.TheVariants as gaps
-use Rattle.papaya_points.specs.Given.Raw.declared.machines.call.Calling.{Calling}
-use Rattle.papaya_points.specs.Given.Raw.declared.machines.call.Calling.TheVariants as calls
-use Rattle.papaya_points.specs.Given.Sweeps.declared.sweep.Sweeping.{Sweeping}
-use Rattle.papaya_points.specs.Given.Sweeps.declared.sweep.Sweeping.TheVariants as sweeps
+use Rattle.papaya_points.specs.Given.SeizeWordsDeclared.fault.Fault.{Fault}
+use Rattle.papaya_points.specs.Given.TablesDeclared.lengths.Reason.{Reason}
+use Rattle.papaya_points.specs.Given.TablesDeclared.table.Table.{Table}
+use Rattle.papaya_points.specs.Given.ResizeDeclared.copier.Copying.{Copying}
+use Rattle.papaya_points.specs.Given.ResizeDeclared.copier.Copying.TheVariants as copies
+use Rattle.papaya_points.specs.Given.ResizeDeclared.new_table.Making.{Making}
+use Rattle.papaya_points.specs.Given.ResizeDeclared.new_table.Making.TheVariants as makes
+use Rattle.papaya_points.specs.Given.ReservesDeclared.reserve.Reserving.{Reserving}
+use Rattle.papaya_points.specs.Given.ReservesDeclared.reserve.Reserving.TheVariants as reserves
+use Rattle.papaya_points.specs.Given.RawDeclared.machines.answer.End.TheVariants as ends
+use Rattle.papaya_points.specs.Given.RawDeclared.machines.asking.Asking.TheVariants as asking
+use Rattle.papaya_points.specs.Given.RawDeclared.machines.asking.Gap.TheVariants as gaps
+use Rattle.papaya_points.specs.Given.RawDeclared.machines.call.Calling.{Calling}
+use Rattle.papaya_points.specs.Given.RawDeclared.machines.call.Calling.TheVariants as calls
+use Rattle.papaya_points.specs.Given.SweepsDeclared.sweep.Sweeping.{Sweeping}
+use Rattle.papaya_points.specs.Given.SweepsDeclared.sweep.Sweeping.TheVariants as sweeps
 use Rattle.papaya_late.specs.Faults.{StandsInMaking, StandsInCopying, StandsInReserving, StandsInSweeping, StandsInCalling}
 
 -- it stands so that a fault is known, or a table behind which another one is to be put

@@ -1,72 +1,72 @@
 -- A call on one key is refused for the length of a table only where none can follow one of its map: so it is at each of its points, and by what it is told.
 use Rattle.std.specs.Prelude.{◌≡◌, ℕ, ◌==◌, Bool, true, false, Option, Some, None, Ok, Err, if◌then◌else◌}
 use Rattle.std.proofs.Common.{refl, sym, subst, ap, ◌∙◌, eqb-true, arith}
-use Rattle.papaya_points.specs.Given.SeizeWords.Mem.{Mem, value_at, Took}
-use Rattle.papaya_points.specs.Given.SeizeWords.Op.{Out, Found, Stored, Exchanged, Made, Taken, Roomed}
-use Rattle.papaya_points.specs.Given.SeizeWords.Plan.{Steps}
-use Rattle.papaya_points.specs.Given.SeizeWords.Word.{block_in}
-use Rattle.papaya_points.specs.Given.SeizeWords.declared.fault.Fault.{Fault}
-use Rattle.papaya_points.specs.Given.SeizeWords.declared.fault.Fault.TheVariants.{Memory, RemoveNothing}
-use Rattle.papaya_points.specs.Given.Seize.declared.progress.Progress.{Progress as Counting}
-use Rattle.papaya_points.specs.Given.Seize.declared.progress.Progress.TheVariants as progress
-use Rattle.papaya_points.specs.Given.Seize.declared.rows.settle.Settled.{Settled}
-use Rattle.papaya_points.specs.Given.Seize.declared.rows.settle.Settled.TheVariants as settled
-use Rattle.papaya_points.proofs.Given.SeizeWords.OneOwner.Operations.{loaded}
-use Rattle.papaya_points.proofs.Given.SeizeRule.Rows.Leaving.{steps_back}
-use Rattle.papaya_points.specs.Given.Tables.Chunks.{is_incremental}
-use Rattle.papaya_points.specs.Given.Tables.Finding.{finding, may_name}
-use Rattle.papaya_points.specs.Given.Tables.TablePlaces.{at_word}
-use Rattle.papaya_points.specs.Given.Tables.Trials.{found_full, next_trial, with_met}
-use Rattle.papaya_points.specs.Given.Tables.declared.finding.Finding.{Finding}
-use Rattle.papaya_points.specs.Given.Tables.declared.finding.Finding.TheVariants as finds
-use Rattle.papaya_points.specs.Given.Tables.declared.lengths.Reason.{Reason}
-use Rattle.papaya_points.specs.Given.Tables.declared.lengths.TheConstants.{FIRST_LEN}
-use Rattle.papaya_points.specs.Given.Tables.declared.marks.TheConstants.{TOMBSTONE}
-use Rattle.papaya_points.specs.Given.Tables.declared.node.Node.{Node}
-use Rattle.papaya_points.specs.Given.Tables.declared.node.Node.TheVariants as node
-use Rattle.papaya_points.specs.Given.Tables.declared.table.Table.{Table}
-use Rattle.papaya_points.specs.Given.Tables.declared.table_words.TheConstants.{NEXT}
-use Rattle.papaya_points.specs.Given.Resize.Copier.{copier_plan}
-use Rattle.papaya_points.specs.Given.Resize.CopierStates.{copying_all}
-use Rattle.papaya_points.specs.Given.Resize.Dispose.{disposing, dispose_plan}
-use Rattle.papaya_points.specs.Given.Resize.Lookup.{lookup_plan}
-use Rattle.papaya_points.specs.Given.Resize.NewTable.{first_table, new_table_plan}
-use Rattle.papaya_points.specs.Given.Resize.declared.copier.Copier.{Copier}
-use Rattle.papaya_points.specs.Given.Resize.declared.dispose.Dispose.{Dispose}
-use Rattle.papaya_points.specs.Given.Resize.declared.lookup.Lookup.{Lookup}
-use Rattle.papaya_points.specs.Given.Resize.declared.new_table.NewTable.{NewTable}
-use Rattle.papaya_points.specs.Given.Resize.declared.outcome.Outcome.{Outcome}
-use Rattle.papaya_points.specs.Given.Resize.declared.outcome.Outcome.TheVariants as outcome
-use Rattle.papaya_points.specs.Given.Raw.Call.{call_plan, made, makes_of, root_found, next_found, dropped, key_read, pair_read, word_read, word_found, tried, looked, looks_for, first_made, next_made, disposed, helped, copied}
-use Rattle.papaya_points.specs.Given.Raw.Call as calls
-use Rattle.papaya_points.specs.Given.Raw.CallAsks.{absent_told, present_told, told_at, with_absent, with_present}
-use Rattle.papaya_points.specs.Given.Raw.CallFills.{emptied, fill_by, filled, fills_with, given_up, putting_by}
-use Rattle.papaya_points.specs.Given.Raw.CallPoints.{aim_of, asking_at, asking_of, at_free, at_gap, at_last, at_pair, burying, changed, counted, ending, entering, full_for, following_made, gap_by, going, having_met, over, pair_by, standing, storing, tableless, told, told_of, went_on}
-use Rattle.papaya_points.specs.Given.Raw.Replies.{as_own, value_for}
-use Rattle.papaya_points.specs.Given.Raw.declared.machines.answer.Called.{Called}
-use Rattle.papaya_points.specs.Given.Raw.declared.machines.answer.Called.TheVariants as called
-use Rattle.papaya_points.specs.Given.Raw.declared.machines.answer.End.{End}
-use Rattle.papaya_points.specs.Given.Raw.declared.machines.answer.End.TheVariants as ends
-use Rattle.papaya_points.specs.Given.Raw.declared.machines.answer.KeyAnswer.{KeyAnswer}
-use Rattle.papaya_points.specs.Given.Raw.declared.machines.answer.KeyAnswer.TheVariants as answers
-use Rattle.papaya_points.specs.Given.Raw.declared.machines.answer.Missing.{Missing}
-use Rattle.papaya_points.specs.Given.Raw.declared.machines.answer.Missing.TheVariants as missing
-use Rattle.papaya_points.specs.Given.Raw.declared.machines.answer.There.{There}
-use Rattle.papaya_points.specs.Given.Raw.declared.machines.answer.There.TheVariants as there
-use Rattle.papaya_points.specs.Given.Raw.declared.machines.asking.Asking.TheVariants as asking
-use Rattle.papaya_points.specs.Given.Raw.declared.machines.asking.Gap.{Gap}
-use Rattle.papaya_points.specs.Given.Raw.declared.machines.asking.Gap.TheVariants as gaps
-use Rattle.papaya_points.specs.Given.Raw.declared.machines.asking.Reply.{Reply}
-use Rattle.papaya_points.specs.Given.Raw.declared.machines.asking.Reply.TheVariants as reply
-use Rattle.papaya_points.specs.Given.Raw.declared.machines.asking.Takes.{Takes}
-use Rattle.papaya_points.specs.Given.Raw.declared.machines.asking.Takes.TheVariants as takes
-use Rattle.papaya_points.specs.Given.Raw.declared.machines.asking.Told.{Told}
-use Rattle.papaya_points.specs.Given.Raw.declared.machines.asking.Told.TheVariants as tells
-use Rattle.papaya_points.specs.Given.Raw.declared.machines.call.Calling.{Calling}
-use Rattle.papaya_points.specs.Given.Raw.declared.machines.call.Calling.TheVariants as at
-use Rattle.papaya_points.specs.Given.Raw.declared.machines.call.KeyCall.{KeyCall}
+use Rattle.papaya_points.specs.Given.SeizeWordsMem.{Mem, value_at, Took}
+use Rattle.papaya_points.specs.Given.SeizeWordsOp.{Out, Found, Stored, Exchanged, Made, Taken, Roomed}
+use Rattle.papaya_points.specs.Given.SeizeWordsPlan.{Steps}
+use Rattle.papaya_points.specs.Given.SeizeWordsWord.{block_in}
+use Rattle.papaya_points.specs.Given.SeizeWordsDeclared.fault.Fault.{Fault}
+use Rattle.papaya_points.specs.Given.SeizeWordsDeclared.fault.Fault.TheVariants.{Memory, RemoveNothing}
+use Rattle.papaya_points.specs.Given.SeizeDeclared.progress.Progress.{Progress as Counting}
+use Rattle.papaya_points.specs.Given.SeizeDeclared.progress.Progress.TheVariants as progress
+use Rattle.papaya_points.specs.Given.SeizeDeclared.rows.settle.Settled.{Settled}
+use Rattle.papaya_points.specs.Given.SeizeDeclared.rows.settle.Settled.TheVariants as settled
+use Rattle.papaya_points.proofs.Given.SeizeWordsOneOwner.Operations.{loaded}
+use Rattle.papaya_points.proofs.Given.SeizeRuleRows.Leaving.{steps_back}
+use Rattle.papaya_points.specs.Given.TablesChunks.{is_incremental}
+use Rattle.papaya_points.specs.Given.TablesFinding.{finding, may_name}
+use Rattle.papaya_points.specs.Given.TablesTablePlaces.{at_word}
+use Rattle.papaya_points.specs.Given.TablesTrials.{found_full, next_trial, with_met}
+use Rattle.papaya_points.specs.Given.TablesDeclared.finding.Finding.{Finding}
+use Rattle.papaya_points.specs.Given.TablesDeclared.finding.Finding.TheVariants as finds
+use Rattle.papaya_points.specs.Given.TablesDeclared.lengths.Reason.{Reason}
+use Rattle.papaya_points.specs.Given.TablesDeclared.lengths.TheConstants.{FIRST_LEN}
+use Rattle.papaya_points.specs.Given.TablesDeclared.marks.TheConstants.{TOMBSTONE}
+use Rattle.papaya_points.specs.Given.TablesDeclared.node.Node.{Node}
+use Rattle.papaya_points.specs.Given.TablesDeclared.node.Node.TheVariants as node
+use Rattle.papaya_points.specs.Given.TablesDeclared.table.Table.{Table}
+use Rattle.papaya_points.specs.Given.TablesDeclared.table_words.TheConstants.{NEXT}
+use Rattle.papaya_points.specs.Given.ResizeCopier.{copier_plan}
+use Rattle.papaya_points.specs.Given.ResizeCopierStates.{copying_all}
+use Rattle.papaya_points.specs.Given.ResizeDispose.{disposing, dispose_plan}
+use Rattle.papaya_points.specs.Given.ResizeLookup.{lookup_plan}
+use Rattle.papaya_points.specs.Given.ResizeNewTable.{first_table, new_table_plan}
+use Rattle.papaya_points.specs.Given.ResizeDeclared.copier.Copier.{Copier}
+use Rattle.papaya_points.specs.Given.ResizeDeclared.dispose.Dispose.{Dispose}
+use Rattle.papaya_points.specs.Given.ResizeDeclared.lookup.Lookup.{Lookup}
+use Rattle.papaya_points.specs.Given.ResizeDeclared.new_table.NewTable.{NewTable}
+use Rattle.papaya_points.specs.Given.ResizeDeclared.outcome.Outcome.{Outcome}
+use Rattle.papaya_points.specs.Given.ResizeDeclared.outcome.Outcome.TheVariants as outcome
+use Rattle.papaya_points.specs.Given.RawCall.{call_plan, made, makes_of, root_found, next_found, dropped, key_read, pair_read, word_read, word_found, tried, looked, looks_for, first_made, next_made, disposed, helped, copied}
+use Rattle.papaya_points.specs.Given.RawCall as calls
+use Rattle.papaya_points.specs.Given.RawCallAsks.{absent_told, present_told, told_at, with_absent, with_present}
+use Rattle.papaya_points.specs.Given.RawCallFills.{emptied, fill_by, filled, fills_with, given_up, putting_by}
+use Rattle.papaya_points.specs.Given.RawCallPoints.{aim_of, asking_at, asking_of, at_free, at_gap, at_last, at_pair, burying, changed, counted, ending, entering, full_for, following_made, gap_by, going, having_met, over, pair_by, standing, storing, tableless, told, told_of, went_on}
+use Rattle.papaya_points.specs.Given.RawReplies.{as_own, value_for}
+use Rattle.papaya_points.specs.Given.RawDeclared.machines.answer.Called.{Called}
+use Rattle.papaya_points.specs.Given.RawDeclared.machines.answer.Called.TheVariants as called
+use Rattle.papaya_points.specs.Given.RawDeclared.machines.answer.End.{End}
+use Rattle.papaya_points.specs.Given.RawDeclared.machines.answer.End.TheVariants as ends
+use Rattle.papaya_points.specs.Given.RawDeclared.machines.answer.KeyAnswer.{KeyAnswer}
+use Rattle.papaya_points.specs.Given.RawDeclared.machines.answer.KeyAnswer.TheVariants as answers
+use Rattle.papaya_points.specs.Given.RawDeclared.machines.answer.Missing.{Missing}
+use Rattle.papaya_points.specs.Given.RawDeclared.machines.answer.Missing.TheVariants as missing
+use Rattle.papaya_points.specs.Given.RawDeclared.machines.answer.There.{There}
+use Rattle.papaya_points.specs.Given.RawDeclared.machines.answer.There.TheVariants as there
+use Rattle.papaya_points.specs.Given.RawDeclared.machines.asking.Asking.TheVariants as asking
+use Rattle.papaya_points.specs.Given.RawDeclared.machines.asking.Gap.{Gap}
+use Rattle.papaya_points.specs.Given.RawDeclared.machines.asking.Gap.TheVariants as gaps
+use Rattle.papaya_points.specs.Given.RawDeclared.machines.asking.Reply.{Reply}
+use Rattle.papaya_points.specs.Given.RawDeclared.machines.asking.Reply.TheVariants as reply
+use Rattle.papaya_points.specs.Given.RawDeclared.machines.asking.Takes.{Takes}
+use Rattle.papaya_points.specs.Given.RawDeclared.machines.asking.Takes.TheVariants as takes
+use Rattle.papaya_points.specs.Given.RawDeclared.machines.asking.Told.{Told}
+use Rattle.papaya_points.specs.Given.RawDeclared.machines.asking.Told.TheVariants as tells
+use Rattle.papaya_points.specs.Given.RawDeclared.machines.call.Calling.{Calling}
+use Rattle.papaya_points.specs.Given.RawDeclared.machines.call.Calling.TheVariants as at
+use Rattle.papaya_points.specs.Given.RawDeclared.machines.call.KeyCall.{KeyCall}
 use Rattle.papaya_points.proofs.Calls.Asked.{passed_so}
-use Rattle.papaya_points.proofs.Given.Rule.Keys.Always.{Always, AlwaysOf, always_ends, always_if, always_steps}
+use Rattle.papaya_points.proofs.Given.RuleKeys.Always.{Always, AlwaysOf, always_ends, always_if, always_steps}
 use Rattle.papaya_late.specs.Ends.{IsLastFor, EndsInCalling}
 use Rattle.papaya_late.specs.Faults.{AnyTable, CallRefusesSo, SoInCalling, StandsInCalling, StandsInMaking}
 use Rattle.papaya_late.proofs.KindsKept.Calls.Kept.{LooksOn, looks_on}

@@ -1,46 +1,46 @@
 -- A copying is refused for what the making of a table is refused for: for memory, or for the length of a table.
 use Rattle.std.specs.Prelude.{◌≡◌, ℕ, ◌+◌, ◌-◌, ◌%◌, ◌/◌, ◌^◌, ◌==◌, nat_lt, if◌then◌else◌, Bool, true, false, Some, Ok, Err}
 use Rattle.std.proofs.Common.{inl, inr, refl, sym, subst, ap, ◌∙◌, eqb-true}
-use Rattle.papaya_points.specs.Given.SeizeWords.declared.fault.Fault.{Fault}
-use Rattle.papaya_points.specs.Given.SeizeWords.declared.fault.Fault.TheVariants.{Capacity, Memory}
-use Rattle.papaya_points.specs.Given.SeizeWords.Mem.{Mem, value_at, Took}
-use Rattle.papaya_points.specs.Given.SeizeWords.Op.{Out, Found, Stored, Exchanged, Made, Taken, Roomed}
-use Rattle.papaya_points.specs.Given.SeizeWords.Plan.{Steps}
-use Rattle.papaya_points.proofs.Given.SeizeWords.OneOwner.Operations.{loaded}
-use Rattle.papaya_points.proofs.Given.SeizeRule.Rows.Leaving.{steps_back}
-use Rattle.papaya_points.specs.Given.Seize.declared.progress.Progress.{Progress}
-use Rattle.papaya_points.specs.Given.Seize.declared.progress.Progress.TheVariants as progress
-use Rattle.papaya_points.specs.Given.Seize.declared.rows.settle.Settle.{Settle}
-use Rattle.papaya_points.specs.Given.Seize.declared.rows.settle.Settled.{Settled}
-use Rattle.papaya_points.specs.Given.Seize.declared.rows.settle.Settled.TheVariants as settled
-use Rattle.papaya_points.specs.Given.Seize.Settle.{settle_plan}
-use Rattle.papaya_points.specs.Given.Tables.Chunks.{is_incremental}
-use Rattle.papaya_points.specs.Given.Resize.Copier.{plan_at, copier_plan}
-use Rattle.papaya_points.specs.Given.Resize.CopierClaims.{root_read, next_read, status_read, claim_read, claimed}
-use Rattle.papaya_points.specs.Given.Resize.CopierCounts.{refusing, counted}
-use Rattle.papaya_points.specs.Given.Resize.CopierFurther.{further_read, replacement_read, grown, remade}
-use Rattle.papaya_points.specs.Given.Resize.CopierMarks.{is_mine, is_awaited, marked}
-use Rattle.papaya_points.specs.Given.Resize.CopierPlaces.{next_try, pair_put, place_read, put_told}
-use Rattle.papaya_points.specs.Given.Resize.CopierPromotes.{table_retired, promoted, successor_read, retired}
-use Rattle.papaya_points.specs.Given.Resize.CopierStates.{standing, behind, none_left, next_place, place_done}
-use Rattle.papaya_points.specs.Given.Resize.NewTable.{new_table_plan}
-use Rattle.papaya_points.specs.Given.Tables.Nodes.{deferred_word}
-use Rattle.papaya_points.specs.Given.Tables.Probes.{probe_after}
-use Rattle.papaya_points.specs.Given.Tables.TablePlaces.{at_word}
-use Rattle.papaya_points.specs.Given.Tables.declared.lengths.Reason.{Reason}
-use Rattle.papaya_points.specs.Given.Tables.declared.lengths.Reason.TheVariants.{NoPlace}
-use Rattle.papaya_points.specs.Given.Tables.declared.node.Node.{Node}
-use Rattle.papaya_points.specs.Given.Resize.declared.outcome.Outcome.{Outcome}
-use Rattle.papaya_points.specs.Given.Resize.declared.outcome.Outcome.TheVariants as outcome
-use Rattle.papaya_points.specs.Given.Tables.declared.probe.Probe.{Probe}
-use Rattle.papaya_points.specs.Given.Tables.declared.status.TheConstants.Status.{PROMOTED, ABORTED}
-use Rattle.papaya_points.specs.Given.Tables.declared.table.Table.{Table}
-use Rattle.papaya_points.specs.Given.Tables.declared.table_words.TheConstants.{NEXT}
-use Rattle.papaya_points.specs.Given.Resize.declared.copier.Copier.{Copier}
-use Rattle.papaya_points.specs.Given.Resize.declared.copier.Copying.{Copying}
-use Rattle.papaya_points.specs.Given.Resize.declared.copier.Copying.TheVariants as at
-use Rattle.papaya_points.specs.Given.Resize.declared.new_table.NewTable.{NewTable}
-use Rattle.papaya_points.proofs.Given.Rule.Keys.Always.{Always, AlwaysOf, always_ends, always_if, always_steps}
+use Rattle.papaya_points.specs.Given.SeizeWordsDeclared.fault.Fault.{Fault}
+use Rattle.papaya_points.specs.Given.SeizeWordsDeclared.fault.Fault.TheVariants.{Capacity, Memory}
+use Rattle.papaya_points.specs.Given.SeizeWordsMem.{Mem, value_at, Took}
+use Rattle.papaya_points.specs.Given.SeizeWordsOp.{Out, Found, Stored, Exchanged, Made, Taken, Roomed}
+use Rattle.papaya_points.specs.Given.SeizeWordsPlan.{Steps}
+use Rattle.papaya_points.proofs.Given.SeizeWordsOneOwner.Operations.{loaded}
+use Rattle.papaya_points.proofs.Given.SeizeRuleRows.Leaving.{steps_back}
+use Rattle.papaya_points.specs.Given.SeizeDeclared.progress.Progress.{Progress}
+use Rattle.papaya_points.specs.Given.SeizeDeclared.progress.Progress.TheVariants as progress
+use Rattle.papaya_points.specs.Given.SeizeDeclared.rows.settle.Settle.{Settle}
+use Rattle.papaya_points.specs.Given.SeizeDeclared.rows.settle.Settled.{Settled}
+use Rattle.papaya_points.specs.Given.SeizeDeclared.rows.settle.Settled.TheVariants as settled
+use Rattle.papaya_points.specs.Given.SeizeSettle.{settle_plan}
+use Rattle.papaya_points.specs.Given.TablesChunks.{is_incremental}
+use Rattle.papaya_points.specs.Given.ResizeCopier.{plan_at, copier_plan}
+use Rattle.papaya_points.specs.Given.ResizeCopierClaims.{root_read, next_read, status_read, claim_read, claimed}
+use Rattle.papaya_points.specs.Given.ResizeCopierCounts.{refusing, counted}
+use Rattle.papaya_points.specs.Given.ResizeCopierFurther.{further_read, replacement_read, grown, remade}
+use Rattle.papaya_points.specs.Given.ResizeCopierMarks.{is_mine, is_awaited, marked}
+use Rattle.papaya_points.specs.Given.ResizeCopierPlaces.{next_try, pair_put, place_read, put_told}
+use Rattle.papaya_points.specs.Given.ResizeCopierPromotes.{table_retired, promoted, successor_read, retired}
+use Rattle.papaya_points.specs.Given.ResizeCopierStates.{standing, behind, none_left, next_place, place_done}
+use Rattle.papaya_points.specs.Given.ResizeNewTable.{new_table_plan}
+use Rattle.papaya_points.specs.Given.TablesNodes.{deferred_word}
+use Rattle.papaya_points.specs.Given.TablesProbes.{probe_after}
+use Rattle.papaya_points.specs.Given.TablesTablePlaces.{at_word}
+use Rattle.papaya_points.specs.Given.TablesDeclared.lengths.Reason.{Reason}
+use Rattle.papaya_points.specs.Given.TablesDeclared.lengths.Reason.TheVariants.{NoPlace}
+use Rattle.papaya_points.specs.Given.TablesDeclared.node.Node.{Node}
+use Rattle.papaya_points.specs.Given.ResizeDeclared.outcome.Outcome.{Outcome}
+use Rattle.papaya_points.specs.Given.ResizeDeclared.outcome.Outcome.TheVariants as outcome
+use Rattle.papaya_points.specs.Given.TablesDeclared.probe.Probe.{Probe}
+use Rattle.papaya_points.specs.Given.TablesDeclared.status.TheConstants.Status.{PROMOTED, ABORTED}
+use Rattle.papaya_points.specs.Given.TablesDeclared.table.Table.{Table}
+use Rattle.papaya_points.specs.Given.TablesDeclared.table_words.TheConstants.{NEXT}
+use Rattle.papaya_points.specs.Given.ResizeDeclared.copier.Copier.{Copier}
+use Rattle.papaya_points.specs.Given.ResizeDeclared.copier.Copying.{Copying}
+use Rattle.papaya_points.specs.Given.ResizeDeclared.copier.Copying.TheVariants as at
+use Rattle.papaya_points.specs.Given.ResizeDeclared.new_table.NewTable.{NewTable}
+use Rattle.papaya_points.proofs.Given.RuleKeys.Always.{Always, AlwaysOf, always_ends, always_if, always_steps}
 use Rattle.papaya_late.specs.Ends.{EndsSo, IsLastFor, EndsInCopying}
 use Rattle.papaya_late.specs.Faults.{AnyTable, IsRoom, RoomInCopying, RefusesSo, SoInCopying, StandsInCopying}
 use Rattle.papaya_late.proofs.KindsKept.Rooms.Making.{MakesAs, MakesFor, always_long, always_where, new_table_as, table_after_as}

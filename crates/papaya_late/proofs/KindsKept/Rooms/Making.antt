@@ -3,34 +3,34 @@ use Rattle.std.specs.Prelude.{◌≡◌, ℕ, ◌+◌, ◌^◌, ◌<◌, ◌≤�
 use Rattle.std.proofs.Common.{inl, inr, refl, sym, subst, ap, arith}
 use Rattle.std.proofs.lemmas.Bool.{cases_lt, lt-ltb}
 use Rattle.std.proofs.lemmas.Bool.Decides.{leb_tells}
-use Rattle.papaya_points.specs.Given.SeizeWords.declared.at.At.{At}
-use Rattle.papaya_points.specs.Given.SeizeWords.declared.at.At.TheVariants as name
-use Rattle.papaya_points.specs.Given.SeizeWords.declared.fault.Fault.{Fault}
-use Rattle.papaya_points.specs.Given.SeizeWords.declared.fault.Fault.TheVariants.{Capacity, Memory}
-use Rattle.papaya_points.specs.Given.SeizeWords.Mem.{Mem, value_at, Took}
-use Rattle.papaya_points.specs.Given.SeizeWords.Op.{Out, Found, Stored, Exchanged, Made, Taken, Roomed}
-use Rattle.papaya_points.specs.Given.SeizeWords.Plan.{Then, Steps}
-use Rattle.papaya_points.specs.Given.Seize.declared.progress.Progress.{Progress}
-use Rattle.papaya_points.specs.Given.Seize.declared.progress.Progress.TheVariants as progress
-use Rattle.papaya_points.specs.Given.Tables.Lengths.{if_few, next_len, next_limit, next_turn, NoneFollows}
-use Rattle.papaya_points.specs.Given.Tables.Probes.{limit_of}
-use Rattle.papaya_points.specs.Given.Resize.NewTable.{planned, making_first, following, making_of, begun_for, first_table, table_after, table_reserved, counted, made, linked, after_making, with_block, plan_at, new_table_plan}
-use Rattle.papaya_points.specs.Given.Resize.Sum as counts
-use Rattle.papaya_points.specs.Given.Resize.Sum.{added, sum_plan}
-use Rattle.papaya_points.specs.Given.Tables.declared.lengths.Reason.{Reason}
-use Rattle.papaya_points.specs.Given.Tables.declared.lengths.Reason.TheVariants as reason
-use Rattle.papaya_points.specs.Given.Resize.declared.new_table.NewTable.{NewTable}
-use Rattle.papaya_points.specs.Given.Resize.declared.new_table.Making.{Making}
-use Rattle.papaya_points.specs.Given.Resize.declared.new_table.Making.TheVariants as makes
-use Rattle.papaya_points.specs.Given.Resize.declared.sum.Sum.{Sum}
-use Rattle.papaya_points.specs.Given.Resize.declared.sum.Summing.{Summing}
-use Rattle.papaya_points.specs.Given.Resize.declared.sum.Summing.TheVariants as sums
-use Rattle.papaya_points.specs.Given.Tables.declared.node.Node.{Node}
-use Rattle.papaya_points.specs.Given.Tables.declared.setting.Setting.{Setting}
-use Rattle.papaya_points.specs.Given.Tables.declared.table.Table.{Table}
-use Rattle.papaya_points.proofs.Given.SeizeRule.Rows.Leaving.{steps_back}
-use Rattle.papaya_points.proofs.Given.Tables.Ends.{next_few}
-use Rattle.papaya_points.proofs.Given.Rule.Keys.Always.{Always, AlwaysOf, always_if, always_steps}
+use Rattle.papaya_points.specs.Given.SeizeWordsDeclared.at.At.{At}
+use Rattle.papaya_points.specs.Given.SeizeWordsDeclared.at.At.TheVariants as name
+use Rattle.papaya_points.specs.Given.SeizeWordsDeclared.fault.Fault.{Fault}
+use Rattle.papaya_points.specs.Given.SeizeWordsDeclared.fault.Fault.TheVariants.{Capacity, Memory}
+use Rattle.papaya_points.specs.Given.SeizeWordsMem.{Mem, value_at, Took}
+use Rattle.papaya_points.specs.Given.SeizeWordsOp.{Out, Found, Stored, Exchanged, Made, Taken, Roomed}
+use Rattle.papaya_points.specs.Given.SeizeWordsPlan.{Then, Steps}
+use Rattle.papaya_points.specs.Given.SeizeDeclared.progress.Progress.{Progress}
+use Rattle.papaya_points.specs.Given.SeizeDeclared.progress.Progress.TheVariants as progress
+use Rattle.papaya_points.specs.Given.TablesLengths.{if_few, next_len, next_limit, next_turn, NoneFollows}
+use Rattle.papaya_points.specs.Given.TablesProbes.{limit_of}
+use Rattle.papaya_points.specs.Given.ResizeNewTable.{planned, making_first, following, making_of, begun_for, first_table, table_after, table_reserved, counted, made, linked, after_making, with_block, plan_at, new_table_plan}
+use Rattle.papaya_points.specs.Given.ResizeSum as counts
+use Rattle.papaya_points.specs.Given.ResizeSum.{added, sum_plan}
+use Rattle.papaya_points.specs.Given.TablesDeclared.lengths.Reason.{Reason}
+use Rattle.papaya_points.specs.Given.TablesDeclared.lengths.Reason.TheVariants as reason
+use Rattle.papaya_points.specs.Given.ResizeDeclared.new_table.NewTable.{NewTable}
+use Rattle.papaya_points.specs.Given.ResizeDeclared.new_table.Making.{Making}
+use Rattle.papaya_points.specs.Given.ResizeDeclared.new_table.Making.TheVariants as makes
+use Rattle.papaya_points.specs.Given.ResizeDeclared.sum.Sum.{Sum}
+use Rattle.papaya_points.specs.Given.ResizeDeclared.sum.Summing.{Summing}
+use Rattle.papaya_points.specs.Given.ResizeDeclared.sum.Summing.TheVariants as sums
+use Rattle.papaya_points.specs.Given.TablesDeclared.node.Node.{Node}
+use Rattle.papaya_points.specs.Given.TablesDeclared.setting.Setting.{Setting}
+use Rattle.papaya_points.specs.Given.TablesDeclared.table.Table.{Table}
+use Rattle.papaya_points.proofs.Given.SeizeRuleRows.Leaving.{steps_back}
+use Rattle.papaya_points.proofs.Given.TablesEnds.{next_few}
+use Rattle.papaya_points.proofs.Given.RuleKeys.Always.{Always, AlwaysOf, always_if, always_steps}
 use Rattle.papaya_late.specs.Ends.{EndsSo}
 use Rattle.papaya_late.specs.Faults.{AnyTable, IsRoom, RoomInMaking, SoInMaking, StandsInMaking}
 

@@ -2,40 +2,40 @@
 use Rattle.std.specs.Prelude.{◌≡◌, ℕ, suc, ◌<◌, Bool, false}
 use Rattle.std.specs.Int.{IsPowerOfTwo}
 use Rattle.std.proofs.Common.{inl, inr, refl, ap, sym, subst, ◌∙◌, arith}
-use Rattle.papaya_points.specs.Given.SeizeWords.declared.at.At.TheVariants.{Word}
-use Rattle.papaya_points.specs.Given.SeizeWords.Mem.{Mem, value_at, Can, Took}
-use Rattle.papaya_points.specs.Given.SeizeWords.Plan.{May, Steps}
-use Rattle.papaya_points.proofs.Given.SeizeWords.OneOwner.Operations.{loaded}
-use Rattle.papaya_points.proofs.Given.SeizeWords.Plans.{as_may}
-use Rattle.papaya_points.proofs.Given.SeizeRule.Rows.Leaving.{steps_back}
-use Rattle.papaya_points.specs.Given.Seize.World.{World}
-use Rattle.papaya_points.specs.Given.Seize.declared.progress.Progress.{Progress}
-use Rattle.papaya_points.specs.Given.Seize.declared.progress.Progress.TheVariants as progress
-use Rattle.papaya_points.specs.Given.Tables.Chunks.{is_incremental}
-use Rattle.papaya_points.specs.Given.Tables.TablePlaces.{at_word}
-use Rattle.papaya_points.specs.Given.Tables.declared.node.Node.{Node}
-use Rattle.papaya_points.specs.Given.Tables.declared.setting.Setting.{Setting}
-use Rattle.papaya_points.specs.Given.Tables.declared.table.Table.{Table}
-use Rattle.papaya_points.specs.Given.Tables.declared.table_words.TheConstants.{NEXT}
-use Rattle.papaya_points.specs.Given.Resize.NewTable.{new_table_plan}
-use Rattle.papaya_points.specs.Given.Resize.Sum.{sum_plan}
-use Rattle.papaya_points.specs.Given.Resize.declared.new_table.NewTable.{NewTable}
-use Rattle.papaya_points.specs.Given.Resize.declared.outcome.Outcome.{Outcome}
-use Rattle.papaya_points.specs.Given.Resize.declared.sum.Sum.{Sum}
-use Rattle.papaya_points.specs.Given.Reserves.Reserve.{made, summed, grown, next_read, plan_at}
-use Rattle.papaya_points.specs.Given.Reserves.declared.reserve.Reserve.{Reserve}
-use Rattle.papaya_points.specs.Given.Reserves.declared.reserve.Reserving.TheVariants as at
-use Rattle.papaya_points.specs.Given.Rule.Chart.{Chart}
-use Rattle.papaya_points.specs.Given.Rule.Rule.{IsLawful}
-use Rattle.papaya_points.specs.Given.Rule.Words.{Blocks}
-use Rattle.papaya_points.specs.Given.Rule.Maps.{spot_of, IsTable}
-use Rattle.papaya_points.specs.Given.Rule.Moments.{Moments}
-use Rattle.papaya_points.specs.Given.Rule.InWorld.{IsMapIn, SparesPairs}
-use Rattle.papaya_points.proofs.Given.Rule.Keys.TriesLast.{table_lasts}
-use Rattle.papaya_points.proofs.Given.Rule.Words.LinksRead.{link_ends}
-use Rattle.papaya_points.proofs.Given.Rule.Words.LinksSeen.{next_leads}
-use Rattle.papaya_points.proofs.Given.Rule.World.WentTold.{went_as}
-use Rattle.papaya_points.proofs.Given.Rule.World.WentWrote.{counter_of}
+use Rattle.papaya_points.specs.Given.SeizeWordsDeclared.at.At.TheVariants.{Word}
+use Rattle.papaya_points.specs.Given.SeizeWordsMem.{Mem, value_at, Can, Took}
+use Rattle.papaya_points.specs.Given.SeizeWordsPlan.{May, Steps}
+use Rattle.papaya_points.proofs.Given.SeizeWordsOneOwner.Operations.{loaded}
+use Rattle.papaya_points.proofs.Given.SeizeWordsPlans.{as_may}
+use Rattle.papaya_points.proofs.Given.SeizeRuleRows.Leaving.{steps_back}
+use Rattle.papaya_points.specs.Given.SeizeWorld.{World}
+use Rattle.papaya_points.specs.Given.SeizeDeclared.progress.Progress.{Progress}
+use Rattle.papaya_points.specs.Given.SeizeDeclared.progress.Progress.TheVariants as progress
+use Rattle.papaya_points.specs.Given.TablesChunks.{is_incremental}
+use Rattle.papaya_points.specs.Given.TablesTablePlaces.{at_word}
+use Rattle.papaya_points.specs.Given.TablesDeclared.node.Node.{Node}
+use Rattle.papaya_points.specs.Given.TablesDeclared.setting.Setting.{Setting}
+use Rattle.papaya_points.specs.Given.TablesDeclared.table.Table.{Table}
+use Rattle.papaya_points.specs.Given.TablesDeclared.table_words.TheConstants.{NEXT}
+use Rattle.papaya_points.specs.Given.ResizeNewTable.{new_table_plan}
+use Rattle.papaya_points.specs.Given.ResizeSum.{sum_plan}
+use Rattle.papaya_points.specs.Given.ResizeDeclared.new_table.NewTable.{NewTable}
+use Rattle.papaya_points.specs.Given.ResizeDeclared.outcome.Outcome.{Outcome}
+use Rattle.papaya_points.specs.Given.ResizeDeclared.sum.Sum.{Sum}
+use Rattle.papaya_points.specs.Given.ReservesReserve.{made, summed, grown, next_read, plan_at}
+use Rattle.papaya_points.specs.Given.ReservesDeclared.reserve.Reserve.{Reserve}
+use Rattle.papaya_points.specs.Given.ReservesDeclared.reserve.Reserving.TheVariants as at
+use Rattle.papaya_points.specs.Given.RuleChart.{Chart}
+use Rattle.papaya_points.specs.Given.RuleRule.{IsLawful}
+use Rattle.papaya_points.specs.Given.RuleWords.{Blocks}
+use Rattle.papaya_points.specs.Given.RuleMaps.{spot_of, IsTable}
+use Rattle.papaya_points.specs.Given.RuleMoments.{Moments}
+use Rattle.papaya_points.specs.Given.RuleInWorld.{IsMapIn, SparesPairs}
+use Rattle.papaya_points.proofs.Given.RuleKeys.TriesLast.{table_lasts}
+use Rattle.papaya_points.proofs.Given.RuleWords.LinksRead.{link_ends}
+use Rattle.papaya_points.proofs.Given.RuleWords.LinksSeen.{next_leads}
+use Rattle.papaya_points.proofs.Given.RuleWorld.WentTold.{went_as}
+use Rattle.papaya_points.proofs.Given.RuleWorld.WentWrote.{counter_of}
 use Rattle.papaya_points.specs.FactsCopiesBlocking.{HasNoShares}
 use Rattle.papaya_points.specs.FactsTables.{SumFacts, NewTableFacts}
 use Rattle.papaya_points.specs.Told.{SumTold, NewTableTold, OnlyLinks}

@@ -2,17 +2,17 @@
 use Rattle.std.specs.Prelude.{ℕ, ◌≤◌, ◌^◌, Bool, max, if◌then◌else◌}
 use Rattle.std.proofs.Common.{refl, sym, subst, inl, inr}
 use Rattle.std.proofs.lemmas.Bool.Decides.{leb_tells}
-use Rattle.papaya_points.specs.Given.SeizeWords.declared.at.At.TheVariants.{Root}
-use Rattle.papaya_points.specs.Given.SeizeWords.declared.fault.Fault.TheVariants.{Capacity}
-use Rattle.papaya_points.specs.Given.Seize.World.{World}
-use Rattle.papaya_points.specs.Given.Tables.Lengths.{IsTableLen}
-use Rattle.papaya_points.specs.Given.Tables.Probes.{limit_of}
-use Rattle.papaya_points.specs.Given.Tables.declared.node.Node.{Node}
-use Rattle.papaya_points.specs.Given.Tables.declared.setting.Setting.{Setting}
-use Rattle.papaya_points.specs.Given.Resize.NewTable.{planned, first_table}
-use Rattle.papaya_points.specs.Given.Resize.declared.new_table.Making.TheVariants as at
-use Rattle.papaya_points.specs.Given.Rule.Chart.{Chart}
-use Rattle.papaya_points.specs.Given.Rule.Words.{Blocks}
+use Rattle.papaya_points.specs.Given.SeizeWordsDeclared.at.At.TheVariants.{Root}
+use Rattle.papaya_points.specs.Given.SeizeWordsDeclared.fault.Fault.TheVariants.{Capacity}
+use Rattle.papaya_points.specs.Given.SeizeWorld.{World}
+use Rattle.papaya_points.specs.Given.TablesLengths.{IsTableLen}
+use Rattle.papaya_points.specs.Given.TablesProbes.{limit_of}
+use Rattle.papaya_points.specs.Given.TablesDeclared.node.Node.{Node}
+use Rattle.papaya_points.specs.Given.TablesDeclared.setting.Setting.{Setting}
+use Rattle.papaya_points.specs.Given.ResizeNewTable.{planned, first_table}
+use Rattle.papaya_points.specs.Given.ResizeDeclared.new_table.Making.TheVariants as at
+use Rattle.papaya_points.specs.Given.RuleChart.{Chart}
+use Rattle.papaya_points.specs.Given.RuleWords.{Blocks}
 use Rattle.papaya_points.specs.FactsTables.{MakingFacts, NewTableFacts}
 use Rattle.papaya_points.proofs.Making.TablesBegin.{first_table_facts}
 

@@ -2,25 +2,25 @@
 use Rattle.std.specs.Prelude.{◌≡◌, ℕ, suc, ◌+◌, ◌^◌, ◌<◌, ◌≤◌, Bool, false, nat_le, cond, max, Result, Ok, Err, IfOk, if◌then◌else◌}
 use Rattle.std.proofs.Common.{sym, subst, inl, inr, arith}
 use Rattle.std.proofs.lemmas.Bool.Decides.{leb_tells}
-use Rattle.papaya_points.specs.Given.SeizeWords.declared.at.At.TheVariants.{Word}
-use Rattle.papaya_points.specs.Given.SeizeWords.declared.fault.Fault.{Fault}
-use Rattle.papaya_points.specs.Given.SeizeWords.declared.fault.Fault.TheVariants.{Capacity}
-use Rattle.papaya_points.specs.Given.Seize.World.{World}
-use Rattle.papaya_points.specs.Given.Tables.Chunks.{is_incremental}
-use Rattle.papaya_points.specs.Given.Tables.Lengths.{len_of, next_limit, next_turn, IsTableLen}
-use Rattle.papaya_points.specs.Given.Resize.NewTable.{planned, following, making_of, table_reserved}
-use Rattle.papaya_points.specs.Given.Reserves.Reserve.{or_too_long, needed}
-use Rattle.papaya_points.specs.Given.Tables.declared.lengths.Reason.TheVariants.{Reserved}
-use Rattle.papaya_points.specs.Given.Tables.declared.node.Node.{Node}
-use Rattle.papaya_points.specs.Given.Tables.declared.setting.Setting.{Setting}
-use Rattle.papaya_points.specs.Given.Tables.declared.status.TheConstants.Status.{ABORTED}
-use Rattle.papaya_points.specs.Given.Tables.declared.table.Table.{Table}
-use Rattle.papaya_points.specs.Given.Tables.declared.table_words.TheConstants.{NEXT}
-use Rattle.papaya_points.specs.Given.Resize.declared.new_table.Making.TheVariants as at
-use Rattle.papaya_points.proofs.Given.Tables.TableLens.{have_table_lens}
-use Rattle.papaya_points.specs.Given.Rule.Chart.{Chart}
-use Rattle.papaya_points.specs.Given.Rule.Words.{Blocks}
-use Rattle.papaya_points.specs.Given.Rule.Maps.{IsTable}
+use Rattle.papaya_points.specs.Given.SeizeWordsDeclared.at.At.TheVariants.{Word}
+use Rattle.papaya_points.specs.Given.SeizeWordsDeclared.fault.Fault.{Fault}
+use Rattle.papaya_points.specs.Given.SeizeWordsDeclared.fault.Fault.TheVariants.{Capacity}
+use Rattle.papaya_points.specs.Given.SeizeWorld.{World}
+use Rattle.papaya_points.specs.Given.TablesChunks.{is_incremental}
+use Rattle.papaya_points.specs.Given.TablesLengths.{len_of, next_limit, next_turn, IsTableLen}
+use Rattle.papaya_points.specs.Given.ResizeNewTable.{planned, following, making_of, table_reserved}
+use Rattle.papaya_points.specs.Given.ReservesReserve.{or_too_long, needed}
+use Rattle.papaya_points.specs.Given.TablesDeclared.lengths.Reason.TheVariants.{Reserved}
+use Rattle.papaya_points.specs.Given.TablesDeclared.node.Node.{Node}
+use Rattle.papaya_points.specs.Given.TablesDeclared.setting.Setting.{Setting}
+use Rattle.papaya_points.specs.Given.TablesDeclared.status.TheConstants.Status.{ABORTED}
+use Rattle.papaya_points.specs.Given.TablesDeclared.table.Table.{Table}
+use Rattle.papaya_points.specs.Given.TablesDeclared.table_words.TheConstants.{NEXT}
+use Rattle.papaya_points.specs.Given.ResizeDeclared.new_table.Making.TheVariants as at
+use Rattle.papaya_points.proofs.Given.TablesTableLens.{have_table_lens}
+use Rattle.papaya_points.specs.Given.RuleChart.{Chart}
+use Rattle.papaya_points.specs.Given.RuleWords.{Blocks}
+use Rattle.papaya_points.specs.Given.RuleMaps.{IsTable}
 use Rattle.papaya_points.specs.FactsTables.{MakingFacts, NewTableFacts}
 use Rattle.papaya_points.proofs.Making.Planned.{at_least_eight}
 use Rattle.papaya_points.proofs.Making.TablesBegin.{behind_facts, table_reserved_facts}

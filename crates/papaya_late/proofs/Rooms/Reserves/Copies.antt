@@ -2,27 +2,27 @@
 use Rattle.std.specs.Prelude.{◌≡◌, ℕ, ◌^◌, ◌<◌, ◌≤◌, Bool, true, false, cond}
 use Rattle.std.specs.Int.{IsPowerOfTwo}
 use Rattle.std.proofs.Common.{refl, sym, subst, ◌∙◌}
-use Rattle.papaya_points.specs.Given.SeizeWords.Mem.{Mem, value_at, Can, Took}
-use Rattle.papaya_points.specs.Given.SeizeWords.Plan.{May, Steps}
-use Rattle.papaya_points.proofs.Given.SeizeWords.Plans.{as_may}
-use Rattle.papaya_points.proofs.Given.SeizeRule.Rows.Leaving.{steps_back}
-use Rattle.papaya_points.specs.Given.Seize.World.{World}
-use Rattle.papaya_points.specs.Given.Tables.Chunks.{is_incremental}
-use Rattle.papaya_points.specs.Given.Resize.Copier.{copier_plan}
-use Rattle.papaya_points.specs.Given.Reserves.Reserve.{standing, copied, plan_at}
-use Rattle.papaya_points.specs.Given.Tables.declared.node.Node.{Node}
-use Rattle.papaya_points.specs.Given.Resize.declared.outcome.Outcome.{Outcome}
-use Rattle.papaya_points.specs.Given.Resize.declared.outcome.Outcome.TheVariants as outcome
-use Rattle.papaya_points.specs.Given.Tables.declared.setting.Setting.{Setting}
-use Rattle.papaya_points.specs.Given.Tables.declared.table.Table.{Table}
-use Rattle.papaya_points.specs.Given.Resize.declared.copier.Copier.{Copier}
-use Rattle.papaya_points.specs.Given.Reserves.declared.reserve.Reserve.{Reserve}
-use Rattle.papaya_points.specs.Given.Reserves.declared.reserve.Reserving.TheVariants as at
-use Rattle.papaya_points.specs.Given.Rule.Chart.{Chart}
-use Rattle.papaya_points.specs.Given.Rule.Rule.{IsLawful}
-use Rattle.papaya_points.specs.Given.Rule.Words.{Blocks}
-use Rattle.papaya_points.specs.Given.Rule.Maps.{spot_of}
-use Rattle.papaya_points.specs.Given.Rule.InWorld.{IsMapIn, Went, SparesPairs}
+use Rattle.papaya_points.specs.Given.SeizeWordsMem.{Mem, value_at, Can, Took}
+use Rattle.papaya_points.specs.Given.SeizeWordsPlan.{May, Steps}
+use Rattle.papaya_points.proofs.Given.SeizeWordsPlans.{as_may}
+use Rattle.papaya_points.proofs.Given.SeizeRuleRows.Leaving.{steps_back}
+use Rattle.papaya_points.specs.Given.SeizeWorld.{World}
+use Rattle.papaya_points.specs.Given.TablesChunks.{is_incremental}
+use Rattle.papaya_points.specs.Given.ResizeCopier.{copier_plan}
+use Rattle.papaya_points.specs.Given.ReservesReserve.{standing, copied, plan_at}
+use Rattle.papaya_points.specs.Given.TablesDeclared.node.Node.{Node}
+use Rattle.papaya_points.specs.Given.ResizeDeclared.outcome.Outcome.{Outcome}
+use Rattle.papaya_points.specs.Given.ResizeDeclared.outcome.Outcome.TheVariants as outcome
+use Rattle.papaya_points.specs.Given.TablesDeclared.setting.Setting.{Setting}
+use Rattle.papaya_points.specs.Given.TablesDeclared.table.Table.{Table}
+use Rattle.papaya_points.specs.Given.ResizeDeclared.copier.Copier.{Copier}
+use Rattle.papaya_points.specs.Given.ReservesDeclared.reserve.Reserve.{Reserve}
+use Rattle.papaya_points.specs.Given.ReservesDeclared.reserve.Reserving.TheVariants as at
+use Rattle.papaya_points.specs.Given.RuleChart.{Chart}
+use Rattle.papaya_points.specs.Given.RuleRule.{IsLawful}
+use Rattle.papaya_points.specs.Given.RuleWords.{Blocks}
+use Rattle.papaya_points.specs.Given.RuleMaps.{spot_of}
+use Rattle.papaya_points.specs.Given.RuleInWorld.{IsMapIn, Went, SparesPairs}
 use Rattle.papaya_points.specs.FactsCopies.{CopierFacts}
 use Rattle.papaya_points.specs.FactsCopiesBlocking.{CopierFactsBlocking}
 use Rattle.papaya_points.specs.FactsAloneBlocking.{AloneBlocking, LeadsAlone}
@@ -30,12 +30,12 @@ use Rattle.papaya_points.specs.Measures.{OthersIdle}
 use Rattle.papaya_points.specs.ToldMoves.{MovedAt}
 use Rattle.papaya_points.specs.Told.{IsRowOfCopier, CopierTold, CopierToldBlocking}
 use Rattle.papaya_points.proofs.MovedLasts.{moved_lasts, idle_in}
-use Rattle.papaya_points.proofs.Given.Rule.World.WentTold.{went_as}
+use Rattle.papaya_points.proofs.Given.RuleWorld.WentTold.{went_as}
 use Rattle.papaya_points.proofs.Copiers.CopiersWhole.{whole_stays}
 use Rattle.papaya_points.proofs.Copiers.CopierWent.{CopierTells}
 use Rattle.papaya_points.proofs.Copiers.Points.{may_copier, went_copier_moved}
 use Rattle.papaya_points.proofs.Blocking.Points.{may_copier_blocking, went_copier_blocking_alone}
-use Rattle.papaya_points.proofs.Given.Rule.Keys.TriesLast.{table_lasts}
+use Rattle.papaya_points.proofs.Given.RuleKeys.TriesLast.{table_lasts}
 use Rattle.papaya_late.specs.FactsReserves.{IsRoot, IsEnding, CopiesWhole, ReserveFacts}
 use Rattle.papaya_late.specs.ToldReserves.{EndsAtRoot, WholeTold, ReserveAfter}
 use Rattle.papaya_late.proofs.Rooms.Reserves.WholeCopies.{comes_to_root}

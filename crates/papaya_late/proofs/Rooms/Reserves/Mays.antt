@@ -2,35 +2,35 @@
 use Rattle.std.specs.Prelude.{◌≡◌, ℕ, suc, Bool}
 use Rattle.std.specs.Int.{IsPowerOfTwo}
 use Rattle.std.proofs.Common.{ap, sym, ◌∙◌}
-use Rattle.papaya_points.specs.Given.SeizeWords.declared.at.At.TheVariants.{Root, Word}
-use Rattle.papaya_points.specs.Given.SeizeWords.Mem.{value_at, word_at, Can, Took}
-use Rattle.papaya_points.specs.Given.SeizeWords.Plan.{May}
-use Rattle.papaya_points.proofs.Given.SeizeWords.OneOwner.Operations.{may_load}
-use Rattle.papaya_points.proofs.Given.SeizeWords.Plans.{as_may}
-use Rattle.papaya_points.specs.Given.Seize.World.{World}
-use Rattle.papaya_points.specs.Given.Resize.NewTable.{first_table, table_reserved, new_table_plan}
-use Rattle.papaya_points.specs.Given.Resize.Sum.{sum_plan}
-use Rattle.papaya_points.specs.Given.Resize.declared.new_table.NewTable.{NewTable}
-use Rattle.papaya_points.specs.Given.Resize.declared.outcome.Outcome.{Outcome}
-use Rattle.papaya_points.specs.Given.Resize.declared.outcome.Outcome.TheVariants as outcome
-use Rattle.papaya_points.specs.Given.Resize.declared.sum.Sum.{Sum}
-use Rattle.papaya_points.specs.Given.Tables.TablePlaces.{at_word}
-use Rattle.papaya_points.specs.Given.Tables.declared.node.Node.{Node}
-use Rattle.papaya_points.specs.Given.Tables.declared.setting.Setting.{Setting}
-use Rattle.papaya_points.specs.Given.Tables.declared.table.Table.{Table}
-use Rattle.papaya_points.specs.Given.Tables.declared.table_words.TheConstants.{NEXT}
-use Rattle.papaya_points.specs.Given.Reserves.Reserve.{standing, counting, copying, needed, made, summed, grown, root_read, reads, next_read, follows, plan_at}
-use Rattle.papaya_points.specs.Given.Reserves.declared.reserve.Reserve.{Reserve}
-use Rattle.papaya_points.specs.Given.Reserves.declared.reserve.Reserving.TheVariants as at
-use Rattle.papaya_points.specs.Given.Rule.Chart.{Chart}
-use Rattle.papaya_points.specs.Given.Rule.Words.{Blocks}
-use Rattle.papaya_points.specs.Given.Rule.Maps.{IsTable}
-use Rattle.papaya_points.specs.Given.Rule.InWorld.{IsMapIn}
-use Rattle.papaya_points.proofs.Given.Rule.Words.LinksRead.{see_link}
-use Rattle.papaya_points.proofs.Given.Rule.Words.LinksSeen.{root_leads, next_leads}
-use Rattle.papaya_points.proofs.Given.Rule.Words.TablesSeen.{next_there}
-use Rattle.papaya_points.proofs.Given.Rule.Words.WritesWords.{is_some_of}
-use Rattle.papaya_points.proofs.Given.Rule.World.WentWrote.{counter_of}
+use Rattle.papaya_points.specs.Given.SeizeWordsDeclared.at.At.TheVariants.{Root, Word}
+use Rattle.papaya_points.specs.Given.SeizeWordsMem.{value_at, word_at, Can, Took}
+use Rattle.papaya_points.specs.Given.SeizeWordsPlan.{May}
+use Rattle.papaya_points.proofs.Given.SeizeWordsOneOwner.Operations.{may_load}
+use Rattle.papaya_points.proofs.Given.SeizeWordsPlans.{as_may}
+use Rattle.papaya_points.specs.Given.SeizeWorld.{World}
+use Rattle.papaya_points.specs.Given.ResizeNewTable.{first_table, table_reserved, new_table_plan}
+use Rattle.papaya_points.specs.Given.ResizeSum.{sum_plan}
+use Rattle.papaya_points.specs.Given.ResizeDeclared.new_table.NewTable.{NewTable}
+use Rattle.papaya_points.specs.Given.ResizeDeclared.outcome.Outcome.{Outcome}
+use Rattle.papaya_points.specs.Given.ResizeDeclared.outcome.Outcome.TheVariants as outcome
+use Rattle.papaya_points.specs.Given.ResizeDeclared.sum.Sum.{Sum}
+use Rattle.papaya_points.specs.Given.TablesTablePlaces.{at_word}
+use Rattle.papaya_points.specs.Given.TablesDeclared.node.Node.{Node}
+use Rattle.papaya_points.specs.Given.TablesDeclared.setting.Setting.{Setting}
+use Rattle.papaya_points.specs.Given.TablesDeclared.table.Table.{Table}
+use Rattle.papaya_points.specs.Given.TablesDeclared.table_words.TheConstants.{NEXT}
+use Rattle.papaya_points.specs.Given.ReservesReserve.{standing, counting, copying, needed, made, summed, grown, root_read, reads, next_read, follows, plan_at}
+use Rattle.papaya_points.specs.Given.ReservesDeclared.reserve.Reserve.{Reserve}
+use Rattle.papaya_points.specs.Given.ReservesDeclared.reserve.Reserving.TheVariants as at
+use Rattle.papaya_points.specs.Given.RuleChart.{Chart}
+use Rattle.papaya_points.specs.Given.RuleWords.{Blocks}
+use Rattle.papaya_points.specs.Given.RuleMaps.{IsTable}
+use Rattle.papaya_points.specs.Given.RuleInWorld.{IsMapIn}
+use Rattle.papaya_points.proofs.Given.RuleWords.LinksRead.{see_link}
+use Rattle.papaya_points.proofs.Given.RuleWords.LinksSeen.{root_leads, next_leads}
+use Rattle.papaya_points.proofs.Given.RuleWords.TablesSeen.{next_there}
+use Rattle.papaya_points.proofs.Given.RuleWords.WritesWords.{is_some_of}
+use Rattle.papaya_points.proofs.Given.RuleWorld.WentWrote.{counter_of}
 use Rattle.papaya_points.specs.FactsTables.{SumFacts, NewTableFacts}
 use Rattle.papaya_points.proofs.Making.NewTable.{may_new_table}
 use Rattle.papaya_points.proofs.Making.Sum.{may_sum}

@@ -1,23 +1,23 @@
 -- How a step of a reservation moves its map, beside what it tells.
 use Rattle.std.specs.Prelude.{◌≡◌, ℕ, Bool, cond}
-use Rattle.papaya_points.specs.Given.SeizeWords.Mem.{Mem, value_at, Took}
-use Rattle.papaya_points.specs.Given.SeizeWords.Plan.{Steps}
-use Rattle.papaya_points.specs.Given.Seize.World.{World}
-use Rattle.papaya_points.specs.Given.Tables.Chunks.{is_incremental}
-use Rattle.papaya_points.specs.Given.Tables.declared.node.Node.{Node}
-use Rattle.papaya_points.specs.Given.Tables.declared.setting.Setting.{Setting}
-use Rattle.papaya_points.specs.Given.Tables.declared.table.Table.{Table}
-use Rattle.papaya_points.specs.Given.Resize.Copier.{copier_plan}
-use Rattle.papaya_points.specs.Given.Resize.CopierStates.{copying_all}
-use Rattle.papaya_points.specs.Given.Resize.declared.outcome.Outcome.{Outcome}
-use Rattle.papaya_points.specs.Given.Resize.declared.outcome.Outcome.TheVariants as outcome
-use Rattle.papaya_points.specs.Given.Resize.declared.copier.Copier.{Copier}
-use Rattle.papaya_points.specs.Given.Reserves.Reserve.{copied}
-use Rattle.papaya_points.specs.Given.Reserves.declared.reserve.Reserve.{Reserve}
-use Rattle.papaya_points.specs.Given.Reserves.declared.reserve.Reserving.{Reserving}
-use Rattle.papaya_points.specs.Given.Reserves.declared.reserve.Reserving.TheVariants as at
-use Rattle.papaya_points.specs.Given.Rule.Chart.{Chart}
-use Rattle.papaya_points.specs.Given.Rule.Words.{Blocks}
+use Rattle.papaya_points.specs.Given.SeizeWordsMem.{Mem, value_at, Took}
+use Rattle.papaya_points.specs.Given.SeizeWordsPlan.{Steps}
+use Rattle.papaya_points.specs.Given.SeizeWorld.{World}
+use Rattle.papaya_points.specs.Given.TablesChunks.{is_incremental}
+use Rattle.papaya_points.specs.Given.TablesDeclared.node.Node.{Node}
+use Rattle.papaya_points.specs.Given.TablesDeclared.setting.Setting.{Setting}
+use Rattle.papaya_points.specs.Given.TablesDeclared.table.Table.{Table}
+use Rattle.papaya_points.specs.Given.ResizeCopier.{copier_plan}
+use Rattle.papaya_points.specs.Given.ResizeCopierStates.{copying_all}
+use Rattle.papaya_points.specs.Given.ResizeDeclared.outcome.Outcome.{Outcome}
+use Rattle.papaya_points.specs.Given.ResizeDeclared.outcome.Outcome.TheVariants as outcome
+use Rattle.papaya_points.specs.Given.ResizeDeclared.copier.Copier.{Copier}
+use Rattle.papaya_points.specs.Given.ReservesReserve.{copied}
+use Rattle.papaya_points.specs.Given.ReservesDeclared.reserve.Reserve.{Reserve}
+use Rattle.papaya_points.specs.Given.ReservesDeclared.reserve.Reserving.{Reserving}
+use Rattle.papaya_points.specs.Given.ReservesDeclared.reserve.Reserving.TheVariants as at
+use Rattle.papaya_points.specs.Given.RuleChart.{Chart}
+use Rattle.papaya_points.specs.Given.RuleWords.{Blocks}
 use Rattle.papaya_points.specs.FactsAloneBlocking.{AloneBlocking, LeadsAlone}
 use Rattle.papaya_points.specs.Measures.{OthersIdle}
 use Rattle.papaya_points.specs.Told.{OnlyLinks}

@@ -1,26 +1,26 @@
 -- How a reservation goes on: what it knows where it comes to.
 use Rattle.std.specs.Prelude.{◌≡◌, ℕ, suc, ◌^◌, Bool, true, false, nat_lt, if◌then◌else◌}
 use Rattle.std.proofs.Common.{inl, refl, sym, subst, arith}
-use Rattle.papaya_points.specs.Given.SeizeWords.Mem.{Mem}
-use Rattle.papaya_points.specs.Given.SeizeWords.declared.fault.Fault.TheVariants.{Capacity}
-use Rattle.papaya_points.specs.Given.Seize.World.{World}
-use Rattle.papaya_points.specs.Given.Resize.CopierStates.{copying_all}
-use Rattle.papaya_points.specs.Given.Reserves.Reserve.{standing, counting, copying, enough, needed, refusing}
-use Rattle.papaya_points.specs.Given.Tables.declared.node.Node.{Node}
-use Rattle.papaya_points.specs.Given.Resize.declared.outcome.Outcome.{Outcome}
-use Rattle.papaya_points.specs.Given.Resize.declared.outcome.Outcome.TheVariants as outcome
-use Rattle.papaya_points.specs.Given.Tables.declared.setting.Setting.{Setting}
-use Rattle.papaya_points.specs.Given.Tables.declared.table.Table.{Table}
-use Rattle.papaya_points.specs.Given.Reserves.declared.reserve.Reserve.{Reserve}
-use Rattle.papaya_points.specs.Given.Reserves.declared.reserve.Reserving.{Reserving}
-use Rattle.papaya_points.specs.Given.Reserves.declared.reserve.Reserving.TheVariants as at
-use Rattle.papaya_points.specs.Given.Rule.Chart.{Chart}
-use Rattle.papaya_points.specs.Given.Rule.Words.{Blocks}
-use Rattle.papaya_points.specs.Given.Rule.Maps.{IsTable}
-use Rattle.papaya_points.specs.Given.Rule.InWorld.{IsMapIn, Went, SparesPairs}
+use Rattle.papaya_points.specs.Given.SeizeWordsMem.{Mem}
+use Rattle.papaya_points.specs.Given.SeizeWordsDeclared.fault.Fault.TheVariants.{Capacity}
+use Rattle.papaya_points.specs.Given.SeizeWorld.{World}
+use Rattle.papaya_points.specs.Given.ResizeCopierStates.{copying_all}
+use Rattle.papaya_points.specs.Given.ReservesReserve.{standing, counting, copying, enough, needed, refusing}
+use Rattle.papaya_points.specs.Given.TablesDeclared.node.Node.{Node}
+use Rattle.papaya_points.specs.Given.ResizeDeclared.outcome.Outcome.{Outcome}
+use Rattle.papaya_points.specs.Given.ResizeDeclared.outcome.Outcome.TheVariants as outcome
+use Rattle.papaya_points.specs.Given.TablesDeclared.setting.Setting.{Setting}
+use Rattle.papaya_points.specs.Given.TablesDeclared.table.Table.{Table}
+use Rattle.papaya_points.specs.Given.ReservesDeclared.reserve.Reserve.{Reserve}
+use Rattle.papaya_points.specs.Given.ReservesDeclared.reserve.Reserving.{Reserving}
+use Rattle.papaya_points.specs.Given.ReservesDeclared.reserve.Reserving.TheVariants as at
+use Rattle.papaya_points.specs.Given.RuleChart.{Chart}
+use Rattle.papaya_points.specs.Given.RuleWords.{Blocks}
+use Rattle.papaya_points.specs.Given.RuleMaps.{IsTable}
+use Rattle.papaya_points.specs.Given.RuleInWorld.{IsMapIn, Went, SparesPairs}
 use Rattle.papaya_points.specs.FactsIdle.{IsIdle}
 use Rattle.papaya_points.specs.Told.{OnlyLinks}
-use Rattle.papaya_points.proofs.Given.Rule.World.WentStill.{went_still, spares_same}
+use Rattle.papaya_points.proofs.Given.RuleWorld.WentStill.{went_still, spares_same}
 use Rattle.papaya_late.specs.FactsReserves.{CopiesPairs, IsRoot, CopiesWhole, ReservingFacts, ReserveFacts}
 use Rattle.papaya_late.specs.ToldReserves.{ReserveAfter}
 use Rattle.papaya_late.proofs.Rooms.Reserves.Moved.{Proceeds, ReserveMoves}

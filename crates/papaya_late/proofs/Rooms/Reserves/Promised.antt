@@ -1,18 +1,18 @@
 -- What is promised of each step of a reservation, and of its first point.
 use Rattle.std.specs.Prelude.{ℕ, Bool}
 use Rattle.std.proofs.Common.{refl}
-use Rattle.papaya_points.specs.Given.SeizeWords.Mem.{Mem}
-use Rattle.papaya_points.specs.Given.Seize.World.{World}
-use Rattle.papaya_points.specs.Given.Tables.declared.node.Node.{Node}
-use Rattle.papaya_points.specs.Given.Tables.declared.setting.Setting.{Setting}
-use Rattle.papaya_points.specs.Given.Resize.declared.outcome.Outcome.{Outcome}
-use Rattle.papaya_points.specs.Given.Reserves.declared.reserve.Reserve.{Reserve}
-use Rattle.papaya_points.specs.Given.Reserves.declared.reserve.Reserving.{Reserving}
-use Rattle.papaya_points.specs.Given.Reserves.declared.reserve.Reserving.TheVariants as at
-use Rattle.papaya_points.specs.Given.Rule.Chart.{Chart}
-use Rattle.papaya_points.specs.Given.Rule.Words.{Blocks}
-use Rattle.papaya_points.specs.Given.Rule.InWorld.{SparesPairs}
-use Rattle.papaya_points.proofs.Given.Rule.World.WentTold.{went_as}
+use Rattle.papaya_points.specs.Given.SeizeWordsMem.{Mem}
+use Rattle.papaya_points.specs.Given.SeizeWorld.{World}
+use Rattle.papaya_points.specs.Given.TablesDeclared.node.Node.{Node}
+use Rattle.papaya_points.specs.Given.TablesDeclared.setting.Setting.{Setting}
+use Rattle.papaya_points.specs.Given.ResizeDeclared.outcome.Outcome.{Outcome}
+use Rattle.papaya_points.specs.Given.ReservesDeclared.reserve.Reserve.{Reserve}
+use Rattle.papaya_points.specs.Given.ReservesDeclared.reserve.Reserving.{Reserving}
+use Rattle.papaya_points.specs.Given.ReservesDeclared.reserve.Reserving.TheVariants as at
+use Rattle.papaya_points.specs.Given.RuleChart.{Chart}
+use Rattle.papaya_points.specs.Given.RuleWords.{Blocks}
+use Rattle.papaya_points.specs.Given.RuleInWorld.{SparesPairs}
+use Rattle.papaya_points.proofs.Given.RuleWorld.WentTold.{went_as}
 use Rattle.papaya_points.specs.Told.{OnlyLinks}
 use Rattle.papaya_late.specs.FactsReserves.{CopiesPairs}
 use Rattle.papaya_late.specs.ToldReserves.{ReserveTold}

@@ -2,53 +2,53 @@
 use Rattle.std.specs.Prelude.{◌≡◌, ℕ, suc, ◌+◌, ◌-◌, ◌/◌, ◌%◌, ◌^◌, ◌<◌, ◌≤◌, ◌==◌, Bool, true, false, nat_lt, Some, ◌⊎◌, if◌then◌else◌}
 use Rattle.std.proofs.Common.{sym, subst, inl, inr, arith, eqb-true}
 use Rattle.std.proofs.lemmas.Bool.{cases_lt}
-use Rattle.papaya_points.specs.Given.SeizeWords.declared.at.At.TheVariants.{Root, Word}
-use Rattle.papaya_points.specs.Given.SeizeWords.Mem.{Mem, value_at, word_at, Took}
-use Rattle.papaya_points.specs.Given.SeizeWords.Op.{Found}
-use Rattle.papaya_points.specs.Given.SeizeWords.Plan.{Then, Now, Seeing, Steps, Ends}
-use Rattle.papaya_points.proofs.Given.SeizeWords.Plans.{ends_if}
-use Rattle.papaya_points.proofs.Given.SeizeWords.OneOwner.Operations.{loaded, ored, added, exchanged}
-use Rattle.papaya_points.proofs.Given.SeizeRule.Rows.Leaving.{steps_back}
-use Rattle.papaya_points.specs.Given.Seize.World.{World}
-use Rattle.papaya_points.specs.Given.Seize.declared.progress.Progress.{Progress}
-use Rattle.papaya_points.specs.Given.Seize.declared.progress.Progress.TheVariants as progress
-use Rattle.papaya_points.specs.Given.Seize.declared.rows.settle.Settle.{Settle}
-use Rattle.papaya_points.specs.Given.Seize.declared.rows.settle.Settled.{Settled}
-use Rattle.papaya_points.specs.Given.Seize.declared.rows.settle.Settled.TheVariants as settled
-use Rattle.papaya_points.specs.Given.Seize.Settle.{settle_plan}
-use Rattle.papaya_points.specs.Given.Tables.Chunks.{is_incremental}
-use Rattle.papaya_points.specs.Given.Resize.Copier.{plan_at}
-use Rattle.papaya_points.specs.Given.Resize.CopierClaims.{status_read}
-use Rattle.papaya_points.specs.Given.Resize.CopierCounts.{counted}
-use Rattle.papaya_points.specs.Given.Resize.CopierFurther.{further_read, grown}
-use Rattle.papaya_points.specs.Given.Resize.CopierMarks.{is_mine, is_awaited, without_copying, probing, key_hash, mine_marked, marked}
-use Rattle.papaya_points.specs.Given.Tables.Nodes.{deferred_word, table_seen}
-use Rattle.papaya_points.specs.Given.Resize.CopierPlaces.{copied_word, place_read, put_told, next_try, pair_put}
-use Rattle.papaya_points.specs.Given.Resize.CopierPromotes.{promoted, successor_read, retired}
-use Rattle.papaya_points.specs.Given.Resize.CopierStates.{standing, behind, next_place, place_done}
-use Rattle.papaya_points.specs.Given.Resize.NewTable.{table_after, new_table_plan}
-use Rattle.papaya_points.specs.Given.Tables.declared.lengths.Reason.TheVariants.{NoPlace}
-use Rattle.papaya_points.specs.Given.Tables.TablePlaces.{at_word, at_place}
-use Rattle.papaya_points.specs.Given.Tables.declared.node.Node.{Node}
-use Rattle.papaya_points.specs.Given.Resize.declared.outcome.Outcome.{Outcome}
-use Rattle.papaya_points.specs.Given.Resize.declared.outcome.Outcome.TheVariants as outcome
-use Rattle.papaya_points.specs.Given.Tables.declared.setting.Setting.{Setting}
-use Rattle.papaya_points.specs.Given.Tables.declared.marks.TheConstants.{COPYING}
-use Rattle.papaya_points.specs.Given.Tables.declared.probe.Probe.{Probe}
-use Rattle.papaya_points.specs.Given.Tables.declared.status.TheConstants.Status.{ABORTED, PROMOTED}
-use Rattle.papaya_points.specs.Given.Tables.declared.table.Table.{Table}
-use Rattle.papaya_points.specs.Given.Tables.declared.table_words.TheConstants.{NEXT, COPIED, STATUS}
-use Rattle.papaya_points.specs.Given.Resize.declared.new_table.NewTable.{NewTable}
-use Rattle.papaya_points.specs.Given.Resize.declared.copier.Copier.{Copier}
-use Rattle.papaya_points.specs.Given.Resize.declared.copier.Copying.{Copying as Point}
-use Rattle.papaya_points.specs.Given.Resize.declared.copier.Copying.TheVariants as at
-use Rattle.papaya_points.specs.Given.Rule.Chart.{Chart}
-use Rattle.papaya_points.specs.Given.Rule.Words.{Blocks}
-use Rattle.papaya_points.specs.Given.Rule.Maps.{IsTable}
-use Rattle.papaya_points.specs.Given.Rule.InWorld.{IsMapIn}
+use Rattle.papaya_points.specs.Given.SeizeWordsDeclared.at.At.TheVariants.{Root, Word}
+use Rattle.papaya_points.specs.Given.SeizeWordsMem.{Mem, value_at, word_at, Took}
+use Rattle.papaya_points.specs.Given.SeizeWordsOp.{Found}
+use Rattle.papaya_points.specs.Given.SeizeWordsPlan.{Then, Now, Seeing, Steps, Ends}
+use Rattle.papaya_points.proofs.Given.SeizeWordsPlans.{ends_if}
+use Rattle.papaya_points.proofs.Given.SeizeWordsOneOwner.Operations.{loaded, ored, added, exchanged}
+use Rattle.papaya_points.proofs.Given.SeizeRuleRows.Leaving.{steps_back}
+use Rattle.papaya_points.specs.Given.SeizeWorld.{World}
+use Rattle.papaya_points.specs.Given.SeizeDeclared.progress.Progress.{Progress}
+use Rattle.papaya_points.specs.Given.SeizeDeclared.progress.Progress.TheVariants as progress
+use Rattle.papaya_points.specs.Given.SeizeDeclared.rows.settle.Settle.{Settle}
+use Rattle.papaya_points.specs.Given.SeizeDeclared.rows.settle.Settled.{Settled}
+use Rattle.papaya_points.specs.Given.SeizeDeclared.rows.settle.Settled.TheVariants as settled
+use Rattle.papaya_points.specs.Given.SeizeSettle.{settle_plan}
+use Rattle.papaya_points.specs.Given.TablesChunks.{is_incremental}
+use Rattle.papaya_points.specs.Given.ResizeCopier.{plan_at}
+use Rattle.papaya_points.specs.Given.ResizeCopierClaims.{status_read}
+use Rattle.papaya_points.specs.Given.ResizeCopierCounts.{counted}
+use Rattle.papaya_points.specs.Given.ResizeCopierFurther.{further_read, grown}
+use Rattle.papaya_points.specs.Given.ResizeCopierMarks.{is_mine, is_awaited, without_copying, probing, key_hash, mine_marked, marked}
+use Rattle.papaya_points.specs.Given.TablesNodes.{deferred_word, table_seen}
+use Rattle.papaya_points.specs.Given.ResizeCopierPlaces.{copied_word, place_read, put_told, next_try, pair_put}
+use Rattle.papaya_points.specs.Given.ResizeCopierPromotes.{promoted, successor_read, retired}
+use Rattle.papaya_points.specs.Given.ResizeCopierStates.{standing, behind, next_place, place_done}
+use Rattle.papaya_points.specs.Given.ResizeNewTable.{table_after, new_table_plan}
+use Rattle.papaya_points.specs.Given.TablesDeclared.lengths.Reason.TheVariants.{NoPlace}
+use Rattle.papaya_points.specs.Given.TablesTablePlaces.{at_word, at_place}
+use Rattle.papaya_points.specs.Given.TablesDeclared.node.Node.{Node}
+use Rattle.papaya_points.specs.Given.ResizeDeclared.outcome.Outcome.{Outcome}
+use Rattle.papaya_points.specs.Given.ResizeDeclared.outcome.Outcome.TheVariants as outcome
+use Rattle.papaya_points.specs.Given.TablesDeclared.setting.Setting.{Setting}
+use Rattle.papaya_points.specs.Given.TablesDeclared.marks.TheConstants.{COPYING}
+use Rattle.papaya_points.specs.Given.TablesDeclared.probe.Probe.{Probe}
+use Rattle.papaya_points.specs.Given.TablesDeclared.status.TheConstants.Status.{ABORTED, PROMOTED}
+use Rattle.papaya_points.specs.Given.TablesDeclared.table.Table.{Table}
+use Rattle.papaya_points.specs.Given.TablesDeclared.table_words.TheConstants.{NEXT, COPIED, STATUS}
+use Rattle.papaya_points.specs.Given.ResizeDeclared.new_table.NewTable.{NewTable}
+use Rattle.papaya_points.specs.Given.ResizeDeclared.copier.Copier.{Copier}
+use Rattle.papaya_points.specs.Given.ResizeDeclared.copier.Copying.{Copying as Point}
+use Rattle.papaya_points.specs.Given.ResizeDeclared.copier.Copying.TheVariants as at
+use Rattle.papaya_points.specs.Given.RuleChart.{Chart}
+use Rattle.papaya_points.specs.Given.RuleWords.{Blocks}
+use Rattle.papaya_points.specs.Given.RuleMaps.{IsTable}
+use Rattle.papaya_points.specs.Given.RuleInWorld.{IsMapIn}
 use Rattle.papaya_points.specs.FactsCopies.{CopyingFacts}
-use Rattle.papaya_points.proofs.Given.Rule.Keys.Always.{Always, always_if, always_ends}
-use Rattle.papaya_points.proofs.Given.Rule.Words.TablesSeen.{status_there}
+use Rattle.papaya_points.proofs.Given.RuleKeys.Always.{Always, always_if, always_ends}
+use Rattle.papaya_points.proofs.Given.RuleWords.TablesSeen.{status_there}
 use Rattle.papaya_late.specs.FactsReserves.{IsEnding}
 use Rattle.papaya_late.specs.ToldReserves.{EndsAtRoot}
 

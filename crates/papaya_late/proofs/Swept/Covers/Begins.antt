@@ -2,12 +2,12 @@
 use Rattle.std.specs.Prelude.{◌≡◌, ◌≢◌, ℕ, suc, ◌<◌, ◌≤◌, Bool, true, false, [], ◌⊎◌}
 use Rattle.std.proofs.Common.{refl, ap, inl, inr, sym, subst, ◌∙◌, arith}
 use Rattle.std.proofs.lemmas.Bool.{cases_lt}
-use Rattle.papaya_points.specs.Given.Sweeps.declared.sweep.Purpose.{Purpose}
-use Rattle.papaya_points.specs.Given.Rule.Chart.{Phase, Copied, Free, Share, Holds, Chart}
-use Rattle.papaya_points.specs.Given.Rule.Rule.{Rule, Agrees}
-use Rattle.papaya_points.specs.Given.Rule.Moments.{Names, Moments}
-use Rattle.papaya_points.specs.Given.Rule.Maps.{spot_of}
-use Rattle.papaya_points.proofs.Given.Rule.History.History.{root_names}
+use Rattle.papaya_points.specs.Given.SweepsDeclared.sweep.Purpose.{Purpose}
+use Rattle.papaya_points.specs.Given.RuleChart.{Phase, Copied, Free, Share, Holds, Chart}
+use Rattle.papaya_points.specs.Given.RuleRule.{Rule, Agrees}
+use Rattle.papaya_points.specs.Given.RuleMoments.{Names, Moments}
+use Rattle.papaya_points.specs.Given.RuleMaps.{spot_of}
+use Rattle.papaya_points.proofs.Given.RuleHistory.History.{root_names}
 use Rattle.papaya_late.specs.Covers.{Came, Covers}
 use Rattle.papaya_late.proofs.Swept.Sweeps.Tables.{WasRootIn}
 

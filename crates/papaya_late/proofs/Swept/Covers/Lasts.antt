@@ -1,11 +1,11 @@
 -- What a sweep has come to lasts over each allowed move, whoever makes it.
 use Rattle.std.specs.Prelude.{◌≡◌, ℕ, ◌<◌, ◌≤◌, Bool, true, false, ◌&&◌, List}
 use Rattle.std.proofs.Common.{ap, inl, inr, sym, ◌∙◌, arith}
-use Rattle.papaya_points.specs.Given.Sweeps.SweepPoints.{removes}
-use Rattle.papaya_points.specs.Given.Sweeps.declared.sweep.Purpose.{Purpose}
-use Rattle.papaya_points.specs.Given.Rule.Chart.{Phase, Holds, Chart}
-use Rattle.papaya_points.specs.Given.Rule.Rule.{Rule}
-use Rattle.papaya_points.specs.Given.Rule.Moments.{Names, Moments, Remembers}
+use Rattle.papaya_points.specs.Given.SweepsSweepPoints.{removes}
+use Rattle.papaya_points.specs.Given.SweepsDeclared.sweep.Purpose.{Purpose}
+use Rattle.papaya_points.specs.Given.RuleChart.{Phase, Holds, Chart}
+use Rattle.papaya_points.specs.Given.RuleRule.{Rule}
+use Rattle.papaya_points.specs.Given.RuleMoments.{Names, Moments, Remembers}
 use Rattle.papaya_late.specs.Covers.{IsKept, WasSince, WasAlways, AreShown, Came, Covers, Asked}
 use Rattle.papaya_late.proofs.Swept.Covers.Places.{Follows}
 

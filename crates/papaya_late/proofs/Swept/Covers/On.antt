@@ -2,22 +2,22 @@
 use Rattle.std.specs.Prelude.{◌≡◌, ◌≢◌, ℕ, suc, ◌+◌, ◌%◌, ◌^◌, ◌<◌, ◌≤◌, ◌==◌, Bool, true, false, nat_lt, ◌&&◌, List, ◌∷◌, if◌then◌else◌}
 use Rattle.std.proofs.Common.{refl, ap, inr, sym, subst, arith}
 use Rattle.std.proofs.lemmas.Bool.{ltb-false, eqb-false, eqb-true}
-use Rattle.papaya_points.specs.Given.SeizeWords.Word.{block_in}
-use Rattle.papaya_points.specs.Given.Tables.Marks.{has_mark}
-use Rattle.papaya_points.specs.Given.Tables.declared.marks.TheConstants.{COPYING}
-use Rattle.papaya_points.specs.Given.Tables.declared.status.TheConstants.Status.{ABORTED}
-use Rattle.papaya_points.specs.Given.Sweeps.SweepPoints.{removes, further, told, telling, at_pair, seen}
-use Rattle.papaya_points.specs.Given.Sweeps.declared.sweep.Purpose.{Purpose}
-use Rattle.papaya_points.specs.Given.Sweeps.declared.sweep.Purpose.TheVariants.{Walks, Clears, Retains}
-use Rattle.papaya_points.specs.Given.Sweeps.declared.sweep.Sweep.{Sweep}
-use Rattle.papaya_points.specs.Given.Sweeps.declared.sweep.Sweeping.{Sweeping}
-use Rattle.papaya_points.specs.Given.Sweeps.declared.sweep.Sweeping.TheVariants as at
-use Rattle.papaya_points.specs.Given.Sweeps.declared.sweep.Swept.{Swept}
-use Rattle.papaya_points.specs.Given.Rule.Chart.{Phase, Holds, Chart}
-use Rattle.papaya_points.specs.Given.Rule.Rule.{Common, IsLawful}
-use Rattle.papaya_points.specs.Given.Rule.Words.{Blocks, byte_of, place_word}
-use Rattle.papaya_points.specs.Given.Rule.Maps.{spot_of}
-use Rattle.papaya_points.proofs.Given.Rule.Words.PlaceWordsRead.{word-pair}
+use Rattle.papaya_points.specs.Given.SeizeWordsWord.{block_in}
+use Rattle.papaya_points.specs.Given.TablesMarks.{has_mark}
+use Rattle.papaya_points.specs.Given.TablesDeclared.marks.TheConstants.{COPYING}
+use Rattle.papaya_points.specs.Given.TablesDeclared.status.TheConstants.Status.{ABORTED}
+use Rattle.papaya_points.specs.Given.SweepsSweepPoints.{removes, further, told, telling, at_pair, seen}
+use Rattle.papaya_points.specs.Given.SweepsDeclared.sweep.Purpose.{Purpose}
+use Rattle.papaya_points.specs.Given.SweepsDeclared.sweep.Purpose.TheVariants.{Walks, Clears, Retains}
+use Rattle.papaya_points.specs.Given.SweepsDeclared.sweep.Sweep.{Sweep}
+use Rattle.papaya_points.specs.Given.SweepsDeclared.sweep.Sweeping.{Sweeping}
+use Rattle.papaya_points.specs.Given.SweepsDeclared.sweep.Sweeping.TheVariants as at
+use Rattle.papaya_points.specs.Given.SweepsDeclared.sweep.Swept.{Swept}
+use Rattle.papaya_points.specs.Given.RuleChart.{Phase, Holds, Chart}
+use Rattle.papaya_points.specs.Given.RuleRule.{Common, IsLawful}
+use Rattle.papaya_points.specs.Given.RuleWords.{Blocks, byte_of, place_word}
+use Rattle.papaya_points.specs.Given.RuleMaps.{spot_of}
+use Rattle.papaya_points.proofs.Given.RuleWords.PlaceWordsRead.{word-pair}
 use Rattle.papaya_late.specs.Covers.{IsKept, Came, Covers, Asked, NamesPair, CoversAt}
 use Rattle.papaya_late.specs.CoversSweeps.{DoneBy}
 use Rattle.papaya_late.proofs.Swept.Covers.Passes.{times_new, passes, adds, asked_of}

@@ -1,12 +1,12 @@
 -- How the places of a table that is the root, or was, change by a move: each names the pair that it named, unless that is in the map no more, and what it
 -- names else was stored just now.
 use Rattle.std.proofs.Common.{◌≡◌, ◌≢◌, ℕ, suc, ◌<◌, ◌≤◌, Bool, true, false, ◌⊎◌, inl, inr, refl, arith, ap, sym, subst, ◌∙◌}
-use Rattle.papaya_points.specs.Given.Tables.declared.status.TheConstants.Status.{ABORTED}
-use Rattle.papaya_points.specs.Given.Rule.Chart.{Phase, Still, Copying, Copied, Place, Empty, Tombstone, Holds, Chart, put, put_in}
-use Rattle.papaya_points.specs.Given.Rule.Rule.{Common}
-use Rattle.papaya_points.specs.Given.Rule.Moves.{Move, Links, Stores, Replaces, Removes, Marks, MarksBlocking, Skips, Unmarks, Puts, Covers, PutsLate, Claims, Reclaims, Counts, GivesUp, Aborts, Promotes, Announces}
-use Rattle.papaya_points.specs.Given.Rule.Moves.{marked, still_place, copied_place, lent_place, without, after, Allowed}
-use Rattle.papaya_points.proofs.Given.Rule.Moves.Writes.{put_here, put_elsewhere, put_in_one, put_in_elsewhere}
+use Rattle.papaya_points.specs.Given.TablesDeclared.status.TheConstants.Status.{ABORTED}
+use Rattle.papaya_points.specs.Given.RuleChart.{Phase, Still, Copying, Copied, Place, Empty, Tombstone, Holds, Chart, put, put_in}
+use Rattle.papaya_points.specs.Given.RuleRule.{Common}
+use Rattle.papaya_points.specs.Given.RuleMoves.{Move, Links, Stores, Replaces, Removes, Marks, MarksBlocking, Skips, Unmarks, Puts, Covers, PutsLate, Claims, Reclaims, Counts, GivesUp, Aborts, Promotes, Announces}
+use Rattle.papaya_points.specs.Given.RuleMoves.{marked, still_place, copied_place, lent_place, without, after, Allowed}
+use Rattle.papaya_points.proofs.Given.RuleMoves.Writes.{put_here, put_elsewhere, put_in_one, put_in_elsewhere}
 
 module _ {K : Type 0} (c c2 : Chart K) where
   -- from one state of the tables to the next, at one place

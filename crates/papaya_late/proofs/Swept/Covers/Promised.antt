@@ -1,6 +1,6 @@
 -- What is promised of what a sweep comes to by its own steps.
 use Rattle.std.specs.Prelude.{ℕ, Bool}
-use Rattle.papaya_points.proofs.Given.Rule.World.WentTold.{went_as}
+use Rattle.papaya_points.proofs.Given.RuleWorld.WentTold.{went_as}
 use Rattle.papaya_late.specs.CoversSweeps.{CoversOn, SweepsCover}
 use Rattle.papaya_late.specs.ToldSweeps.{SweepTold}
 use Rattle.papaya_late.proofs.Swept.Covers.Steps.{covers_by}

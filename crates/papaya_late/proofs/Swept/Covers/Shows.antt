@@ -1,18 +1,18 @@
 -- What a sweep shows, or asks about, was in the map since it began; at its end it has come to what it comes to; and one word names one pair.
 use Rattle.std.specs.Prelude.{◌≡◌, ℕ, ◌^◌, ◌<◌, ◌≤◌, List, Some}
 use Rattle.std.proofs.Common.{refl, ap, inl, inr, sym, subst, ◌∙◌, arith}
-use Rattle.papaya_points.specs.Given.SeizeWords.Mem.{Mem}
-use Rattle.papaya_points.specs.Given.SeizeWords.Word.{block_in}
-use Rattle.papaya_points.specs.Given.Tables.declared.node.Node.{Node}
-use Rattle.papaya_points.specs.Given.Sweeps.declared.sweep.Sweep.{Sweep}
-use Rattle.papaya_points.specs.Given.Sweeps.declared.sweep.Sweeping.{Sweeping}
-use Rattle.papaya_points.specs.Given.Sweeps.declared.sweep.Sweeping.TheVariants as at
-use Rattle.papaya_points.specs.Given.Sweeps.declared.sweep.Swept.{Swept}
-use Rattle.papaya_points.specs.Given.Sweeps.declared.sweep.Swept.TheVariants as swept
-use Rattle.papaya_points.specs.Given.Rule.Chart.{Chart}
-use Rattle.papaya_points.specs.Given.Rule.Words.{Blocks, Shows, byte_of}
-use Rattle.papaya_points.proofs.Given.Rule.Words.PlaceWords.{pair_block}
-use Rattle.papaya_points.proofs.Given.Rule.Words.PlacesShown.{byte_of-few}
+use Rattle.papaya_points.specs.Given.SeizeWordsMem.{Mem}
+use Rattle.papaya_points.specs.Given.SeizeWordsWord.{block_in}
+use Rattle.papaya_points.specs.Given.TablesDeclared.node.Node.{Node}
+use Rattle.papaya_points.specs.Given.SweepsDeclared.sweep.Sweep.{Sweep}
+use Rattle.papaya_points.specs.Given.SweepsDeclared.sweep.Sweeping.{Sweeping}
+use Rattle.papaya_points.specs.Given.SweepsDeclared.sweep.Sweeping.TheVariants as at
+use Rattle.papaya_points.specs.Given.SweepsDeclared.sweep.Swept.{Swept}
+use Rattle.papaya_points.specs.Given.SweepsDeclared.sweep.Swept.TheVariants as swept
+use Rattle.papaya_points.specs.Given.RuleChart.{Chart}
+use Rattle.papaya_points.specs.Given.RuleWords.{Blocks, Shows, byte_of}
+use Rattle.papaya_points.proofs.Given.RuleWords.PlaceWords.{pair_block}
+use Rattle.papaya_points.proofs.Given.RuleWords.PlacesShown.{byte_of-few}
 use Rattle.papaya_late.specs.Covers.{times, WasSince, AreShown, Came, NamesPair, CoversAt}
 use Rattle.papaya_late.specs.CoversSweeps.{Adds, DoneAt}
 use Rattle.papaya_late.specs.ToldSweeps.{word_told, ReadsPlace, TellsSo}

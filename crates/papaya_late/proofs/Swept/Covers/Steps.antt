@@ -1,31 +1,31 @@
 -- What a sweep comes to by each of its own steps.
 use Rattle.std.specs.Prelude.{◌≡◌, ◌≢◌, ℕ, suc, ◌<◌, ◌≤◌, Bool, true, false, List, [], if◌then◌else◌}
 use Rattle.std.proofs.Common.{refl, ap, inl, inr, sym, subst, ◌∙◌, arith}
-use Rattle.papaya_points.specs.Given.Seize.World.{World}
-use Rattle.papaya_points.specs.Given.Seize.declared.rows.settle.Settled.{Settled}
-use Rattle.papaya_points.specs.Given.Seize.declared.rows.settle.Settled.TheVariants as settled
-use Rattle.papaya_points.specs.Given.Tables.Chunks.{is_incremental}
-use Rattle.papaya_points.specs.Given.Tables.declared.node.Node.{Node}
-use Rattle.papaya_points.specs.Given.Tables.declared.setting.Setting.{Setting}
-use Rattle.papaya_points.specs.Given.Tables.declared.table.Table.{Table}
-use Rattle.papaya_points.specs.Given.Resize.declared.copier.Copier.{Copier}
-use Rattle.papaya_points.specs.Given.Resize.declared.dispose.Dispose.{Dispose}
-use Rattle.papaya_points.specs.Given.Resize.declared.outcome.Outcome.{Outcome}
-use Rattle.papaya_points.specs.Given.Resize.declared.outcome.Outcome.TheVariants as outcome
-use Rattle.papaya_points.specs.Given.Sweeps.Sweep.{copied, disposed}
-use Rattle.papaya_points.specs.Given.Sweeps.SweepPoints.{removes, tableless, beginning, entering, further, seen}
-use Rattle.papaya_points.specs.Given.Sweeps.declared.sweep.Sweep.{Sweep}
-use Rattle.papaya_points.specs.Given.Sweeps.declared.sweep.Sweeping.{Sweeping}
-use Rattle.papaya_points.specs.Given.Sweeps.declared.sweep.Sweeping.TheVariants as at
-use Rattle.papaya_points.specs.Given.Sweeps.declared.sweep.Swept.{Swept}
-use Rattle.papaya_points.specs.Given.Rule.Chart.{Phase, Tombstone, Holds, Chart}
-use Rattle.papaya_points.specs.Given.Rule.Moves.{Removes, after}
-use Rattle.papaya_points.specs.Given.Rule.Words.{Blocks, place_word}
-use Rattle.papaya_points.specs.Given.Rule.Maps.{spot_of, IsTable}
-use Rattle.papaya_points.specs.Given.Rule.Moments.{Moments}
-use Rattle.papaya_points.specs.Given.Rule.InWorld.{IsMapIn, Moved, SameBlocks}
-use Rattle.papaya_points.proofs.Given.Rule.History.History.{history_kept}
-use Rattle.papaya_points.proofs.Given.Rule.Moves.Writes.{put_in_here}
+use Rattle.papaya_points.specs.Given.SeizeWorld.{World}
+use Rattle.papaya_points.specs.Given.SeizeDeclared.rows.settle.Settled.{Settled}
+use Rattle.papaya_points.specs.Given.SeizeDeclared.rows.settle.Settled.TheVariants as settled
+use Rattle.papaya_points.specs.Given.TablesChunks.{is_incremental}
+use Rattle.papaya_points.specs.Given.TablesDeclared.node.Node.{Node}
+use Rattle.papaya_points.specs.Given.TablesDeclared.setting.Setting.{Setting}
+use Rattle.papaya_points.specs.Given.TablesDeclared.table.Table.{Table}
+use Rattle.papaya_points.specs.Given.ResizeDeclared.copier.Copier.{Copier}
+use Rattle.papaya_points.specs.Given.ResizeDeclared.dispose.Dispose.{Dispose}
+use Rattle.papaya_points.specs.Given.ResizeDeclared.outcome.Outcome.{Outcome}
+use Rattle.papaya_points.specs.Given.ResizeDeclared.outcome.Outcome.TheVariants as outcome
+use Rattle.papaya_points.specs.Given.SweepsSweep.{copied, disposed}
+use Rattle.papaya_points.specs.Given.SweepsSweepPoints.{removes, tableless, beginning, entering, further, seen}
+use Rattle.papaya_points.specs.Given.SweepsDeclared.sweep.Sweep.{Sweep}
+use Rattle.papaya_points.specs.Given.SweepsDeclared.sweep.Sweeping.{Sweeping}
+use Rattle.papaya_points.specs.Given.SweepsDeclared.sweep.Sweeping.TheVariants as at
+use Rattle.papaya_points.specs.Given.SweepsDeclared.sweep.Swept.{Swept}
+use Rattle.papaya_points.specs.Given.RuleChart.{Phase, Tombstone, Holds, Chart}
+use Rattle.papaya_points.specs.Given.RuleMoves.{Removes, after}
+use Rattle.papaya_points.specs.Given.RuleWords.{Blocks, place_word}
+use Rattle.papaya_points.specs.Given.RuleMaps.{spot_of, IsTable}
+use Rattle.papaya_points.specs.Given.RuleMoments.{Moments}
+use Rattle.papaya_points.specs.Given.RuleInWorld.{IsMapIn, Moved, SameBlocks}
+use Rattle.papaya_points.proofs.Given.RuleHistory.History.{history_kept}
+use Rattle.papaya_points.proofs.Given.RuleMoves.Writes.{put_in_here}
 use Rattle.papaya_points.specs.Steps.{AreLawful}
 use Rattle.papaya_late.specs.Covers.{Came, Covers, CoversAt}
 use Rattle.papaya_late.specs.CoversSweeps.{DoneBy, DoneAt, CoversOn}

@@ -2,27 +2,27 @@
 use Rattle.std.specs.Prelude.{◌≡◌, ◌≢◌, ℕ, suc, ◌+◌, ◌%◌, ◌^◌, ◌<◌, ◌==◌, ◌&&◌, Bool, true, false, nat_lt, if◌then◌else◌}
 use Rattle.std.proofs.Common.{refl, ap, inr, ◌∙◌, arith}
 use Rattle.std.proofs.lemmas.Bool.{ltb-true, eqb-false}
-use Rattle.papaya_points.specs.Given.SeizeWords.Word.{block_in}
-use Rattle.papaya_points.specs.Given.Seize.World.{World}
-use Rattle.papaya_points.specs.Given.Tables.Chunks.{is_incremental}
-use Rattle.papaya_points.specs.Given.Tables.Marks.{has_mark}
-use Rattle.papaya_points.specs.Given.Tables.declared.marks.TheConstants.{COPYING}
-use Rattle.papaya_points.specs.Given.Tables.declared.node.Node.{Node}
-use Rattle.papaya_points.specs.Given.Tables.declared.setting.Setting.{Setting}
-use Rattle.papaya_points.specs.Given.Tables.declared.table.Table.{Table}
-use Rattle.papaya_points.specs.Given.Sweeps.SweepPoints.{removes, standing, beginning, entering, further, told, telling, at_pair, seen}
-use Rattle.papaya_points.specs.Given.Sweeps.declared.sweep.Purpose.{Purpose}
-use Rattle.papaya_points.specs.Given.Sweeps.declared.sweep.Purpose.TheVariants.{Walks, Clears, Retains}
-use Rattle.papaya_points.specs.Given.Sweeps.declared.sweep.Sweep.{Sweep}
-use Rattle.papaya_points.specs.Given.Sweeps.declared.sweep.Sweeping.{Sweeping}
-use Rattle.papaya_points.specs.Given.Sweeps.declared.sweep.Sweeping.TheVariants as at
-use Rattle.papaya_points.specs.Given.Sweeps.declared.sweep.Swept.{Swept}
-use Rattle.papaya_points.specs.Given.Rule.Chart.{Phase, Still, Copying, Copied, Holds, Chart, is_marked}
-use Rattle.papaya_points.specs.Given.Rule.Words.{Blocks, byte_of, place_word}
-use Rattle.papaya_points.specs.Given.Rule.Maps.{IsTable}
-use Rattle.papaya_points.specs.Given.Rule.InWorld.{IsMapIn}
-use Rattle.papaya_points.proofs.Given.Rule.Words.PlaceWordsMarks.{has_copying}
-use Rattle.papaya_points.proofs.Given.Rule.Words.PlaceWordsRead.{word-pair}
+use Rattle.papaya_points.specs.Given.SeizeWordsWord.{block_in}
+use Rattle.papaya_points.specs.Given.SeizeWorld.{World}
+use Rattle.papaya_points.specs.Given.TablesChunks.{is_incremental}
+use Rattle.papaya_points.specs.Given.TablesMarks.{has_mark}
+use Rattle.papaya_points.specs.Given.TablesDeclared.marks.TheConstants.{COPYING}
+use Rattle.papaya_points.specs.Given.TablesDeclared.node.Node.{Node}
+use Rattle.papaya_points.specs.Given.TablesDeclared.setting.Setting.{Setting}
+use Rattle.papaya_points.specs.Given.TablesDeclared.table.Table.{Table}
+use Rattle.papaya_points.specs.Given.SweepsSweepPoints.{removes, standing, beginning, entering, further, told, telling, at_pair, seen}
+use Rattle.papaya_points.specs.Given.SweepsDeclared.sweep.Purpose.{Purpose}
+use Rattle.papaya_points.specs.Given.SweepsDeclared.sweep.Purpose.TheVariants.{Walks, Clears, Retains}
+use Rattle.papaya_points.specs.Given.SweepsDeclared.sweep.Sweep.{Sweep}
+use Rattle.papaya_points.specs.Given.SweepsDeclared.sweep.Sweeping.{Sweeping}
+use Rattle.papaya_points.specs.Given.SweepsDeclared.sweep.Sweeping.TheVariants as at
+use Rattle.papaya_points.specs.Given.SweepsDeclared.sweep.Swept.{Swept}
+use Rattle.papaya_points.specs.Given.RuleChart.{Phase, Still, Copying, Copied, Holds, Chart, is_marked}
+use Rattle.papaya_points.specs.Given.RuleWords.{Blocks, byte_of, place_word}
+use Rattle.papaya_points.specs.Given.RuleMaps.{IsTable}
+use Rattle.papaya_points.specs.Given.RuleInWorld.{IsMapIn}
+use Rattle.papaya_points.proofs.Given.RuleWords.PlaceWordsMarks.{has_copying}
+use Rattle.papaya_points.proofs.Given.RuleWords.PlaceWordsRead.{word-pair}
 use Rattle.papaya_points.specs.FactsIdle.{IsIdle}
 use Rattle.papaya_late.specs.FactsSweeps.{WasRoot, GoesOver, NamesStill, SweepingFacts, SweepFacts}
 use Rattle.papaya_late.specs.ToldSweeps.{SweepAfter}

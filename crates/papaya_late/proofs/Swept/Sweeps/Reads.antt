@@ -1,35 +1,35 @@
 -- The steps of a sweep that read the root, the link behind its table, and the word of its place.
 use Rattle.std.specs.Prelude.{◌≡◌, ℕ, suc, ◌≤◌, ◌<◌, Bool, true, false, cond, Some, if◌then◌else◌}
 use Rattle.std.proofs.Common.{refl, ap, inl, inr, sym, subst, ◌∙◌}
-use Rattle.papaya_points.specs.Given.SeizeWords.declared.at.At.TheVariants.{Root}
-use Rattle.papaya_points.specs.Given.SeizeWords.Mem.{Mem, value_at, word_at, Can, Took}
-use Rattle.papaya_points.specs.Given.SeizeWords.Plan.{May, Steps}
-use Rattle.papaya_points.proofs.Given.SeizeWords.OneOwner.Operations.{may_load, loaded}
-use Rattle.papaya_points.specs.Given.Seize.World.{World}
-use Rattle.papaya_points.specs.Given.Tables.Chunks.{is_incremental}
-use Rattle.papaya_points.specs.Given.Tables.TablePlaces.{at_word, at_place}
-use Rattle.papaya_points.specs.Given.Tables.declared.node.Node.{Node}
-use Rattle.papaya_points.specs.Given.Tables.declared.setting.Setting.{Setting}
-use Rattle.papaya_points.specs.Given.Tables.declared.table.Table.{Table}
-use Rattle.papaya_points.specs.Given.Tables.declared.table_words.TheConstants.{NEXT}
-use Rattle.papaya_points.specs.Given.Resize.CopierStates.{copying_all}
-use Rattle.papaya_points.specs.Given.Sweeps.Sweep.{root_read, reads, next_read, follows, word_found, words}
-use Rattle.papaya_points.specs.Given.Sweeps.SweepPoints.{removes, beginning, tableless, entering, telling, going, seen}
-use Rattle.papaya_points.specs.Given.Sweeps.declared.sweep.Purpose.{Purpose}
-use Rattle.papaya_points.specs.Given.Sweeps.declared.sweep.Purpose.TheVariants.{Walks, Clears, Retains}
-use Rattle.papaya_points.specs.Given.Sweeps.declared.sweep.Sweep.{Sweep}
-use Rattle.papaya_points.specs.Given.Sweeps.declared.sweep.Sweeping.TheVariants as at
-use Rattle.papaya_points.specs.Given.Sweeps.declared.sweep.Swept.{Swept}
-use Rattle.papaya_points.specs.Given.Rule.Chart.{Chart}
-use Rattle.papaya_points.specs.Given.Rule.Words.{Blocks, place_word}
-use Rattle.papaya_points.specs.Given.Rule.Maps.{IsTable}
-use Rattle.papaya_points.specs.Given.Rule.Moments.{Moments}
-use Rattle.papaya_points.specs.Given.Rule.InWorld.{IsMapIn}
-use Rattle.papaya_points.proofs.Given.Rule.Words.LinksRead.{see_link, link_ends}
-use Rattle.papaya_points.proofs.Given.Rule.Words.LinksSeen.{root_leads, next_leads}
-use Rattle.papaya_points.proofs.Given.Rule.Words.TablesSeen.{next_there, place_there}
-use Rattle.papaya_points.proofs.Given.Rule.Words.WritesWords.{is_some_of}
-use Rattle.papaya_points.proofs.Given.Rule.World.WentStill.{went_still}
+use Rattle.papaya_points.specs.Given.SeizeWordsDeclared.at.At.TheVariants.{Root}
+use Rattle.papaya_points.specs.Given.SeizeWordsMem.{Mem, value_at, word_at, Can, Took}
+use Rattle.papaya_points.specs.Given.SeizeWordsPlan.{May, Steps}
+use Rattle.papaya_points.proofs.Given.SeizeWordsOneOwner.Operations.{may_load, loaded}
+use Rattle.papaya_points.specs.Given.SeizeWorld.{World}
+use Rattle.papaya_points.specs.Given.TablesChunks.{is_incremental}
+use Rattle.papaya_points.specs.Given.TablesTablePlaces.{at_word, at_place}
+use Rattle.papaya_points.specs.Given.TablesDeclared.node.Node.{Node}
+use Rattle.papaya_points.specs.Given.TablesDeclared.setting.Setting.{Setting}
+use Rattle.papaya_points.specs.Given.TablesDeclared.table.Table.{Table}
+use Rattle.papaya_points.specs.Given.TablesDeclared.table_words.TheConstants.{NEXT}
+use Rattle.papaya_points.specs.Given.ResizeCopierStates.{copying_all}
+use Rattle.papaya_points.specs.Given.SweepsSweep.{root_read, reads, next_read, follows, word_found, words}
+use Rattle.papaya_points.specs.Given.SweepsSweepPoints.{removes, beginning, tableless, entering, telling, going, seen}
+use Rattle.papaya_points.specs.Given.SweepsDeclared.sweep.Purpose.{Purpose}
+use Rattle.papaya_points.specs.Given.SweepsDeclared.sweep.Purpose.TheVariants.{Walks, Clears, Retains}
+use Rattle.papaya_points.specs.Given.SweepsDeclared.sweep.Sweep.{Sweep}
+use Rattle.papaya_points.specs.Given.SweepsDeclared.sweep.Sweeping.TheVariants as at
+use Rattle.papaya_points.specs.Given.SweepsDeclared.sweep.Swept.{Swept}
+use Rattle.papaya_points.specs.Given.RuleChart.{Chart}
+use Rattle.papaya_points.specs.Given.RuleWords.{Blocks, place_word}
+use Rattle.papaya_points.specs.Given.RuleMaps.{IsTable}
+use Rattle.papaya_points.specs.Given.RuleMoments.{Moments}
+use Rattle.papaya_points.specs.Given.RuleInWorld.{IsMapIn}
+use Rattle.papaya_points.proofs.Given.RuleWords.LinksRead.{see_link, link_ends}
+use Rattle.papaya_points.proofs.Given.RuleWords.LinksSeen.{root_leads, next_leads}
+use Rattle.papaya_points.proofs.Given.RuleWords.TablesSeen.{next_there, place_there}
+use Rattle.papaya_points.proofs.Given.RuleWords.WritesWords.{is_some_of}
+use Rattle.papaya_points.proofs.Given.RuleWorld.WentStill.{went_still}
 use Rattle.papaya_points.specs.FactsIdle.{IsIdle}
 use Rattle.papaya_late.proofs.Copiers.LateBegins.{late_begins, behind_left}
 use Rattle.papaya_late.specs.FactsReserves.{IsRoot}

@@ -1,38 +1,38 @@
 -- The steps of a sweep that remove a pair, count it, and dispose of it.
 use Rattle.std.specs.Prelude.{◌≡◌, ℕ, ◌+◌, ◌*◌, ◌^◌, ◌<◌, Bool, true, Some, bit_and}
 use Rattle.std.proofs.Common.{refl, ap, inl, inr, sym, subst, ◌∙◌}
-use Rattle.papaya_points.specs.Given.SeizeWords.declared.at.At.TheVariants.{Word}
-use Rattle.papaya_points.specs.Given.SeizeWords.Mem.{Mem, value_at, word_at, with_word, Can, Took}
-use Rattle.papaya_points.specs.Given.SeizeWords.Plan.{Now, May, Steps}
-use Rattle.papaya_points.proofs.Given.SeizeWords.OneOwner.Operations.{may_exchange, exchanged, may_add, added}
-use Rattle.papaya_points.proofs.Given.SeizeWords.Plans.{as_may}
-use Rattle.papaya_points.proofs.Given.SeizeRule.Rows.Leaving.{steps_back}
-use Rattle.papaya_points.specs.Given.Seize.World.{World}
-use Rattle.papaya_points.specs.Given.Seize.declared.rows.settle.Settled.{Settled}
-use Rattle.papaya_points.specs.Given.Seize.declared.rows.settle.Settled.TheVariants as settled
-use Rattle.papaya_points.specs.Given.Tables.Chunks.{is_incremental}
-use Rattle.papaya_points.specs.Given.Tables.Counts.{count_change}
-use Rattle.papaya_points.specs.Given.Tables.TablePlaces.{at_place}
-use Rattle.papaya_points.specs.Given.Tables.declared.marks.TheConstants.{TOMBSTONE}
-use Rattle.papaya_points.specs.Given.Tables.declared.node.Node.{Node}
-use Rattle.papaya_points.specs.Given.Tables.declared.setting.Setting.{Setting}
-use Rattle.papaya_points.specs.Given.Tables.declared.table_words.TheConstants.{PLACES}
-use Rattle.papaya_points.specs.Given.Resize.Dispose.{disposing, dispose_plan}
-use Rattle.papaya_points.specs.Given.Resize.declared.dispose.Dispose.{Dispose}
-use Rattle.papaya_points.specs.Given.Sweeps.Sweep.{tries, tried, counts, disposed, plan_at}
-use Rattle.papaya_points.specs.Given.Sweeps.SweepPoints.{removes, further, going}
-use Rattle.papaya_points.specs.Given.Sweeps.declared.sweep.Sweep.{Sweep}
-use Rattle.papaya_points.specs.Given.Sweeps.declared.sweep.Sweeping.TheVariants as at
-use Rattle.papaya_points.specs.Given.Sweeps.declared.sweep.Swept.{Swept}
-use Rattle.papaya_points.specs.Given.Rule.Chart.{Still, Holds, Chart}
-use Rattle.papaya_points.specs.Given.Rule.Rule.{IsLawful, is_of}
-use Rattle.papaya_points.specs.Given.Rule.Moves.{Removes, MayChange, after}
-use Rattle.papaya_points.specs.Given.Rule.Words.{Blocks}
-use Rattle.papaya_points.specs.Given.Rule.Maps.{spot_of}
-use Rattle.papaya_points.specs.Given.Rule.InWorld.{IsMapIn, SameBlocks}
-use Rattle.papaya_points.proofs.Given.Rule.Words.TablesSeen.{place_stands}
-use Rattle.papaya_points.proofs.Given.Rule.World.WentStill.{went_still}
-use Rattle.papaya_points.proofs.Given.Rule.World.WentTold.{went_as}
+use Rattle.papaya_points.specs.Given.SeizeWordsDeclared.at.At.TheVariants.{Word}
+use Rattle.papaya_points.specs.Given.SeizeWordsMem.{Mem, value_at, word_at, with_word, Can, Took}
+use Rattle.papaya_points.specs.Given.SeizeWordsPlan.{Now, May, Steps}
+use Rattle.papaya_points.proofs.Given.SeizeWordsOneOwner.Operations.{may_exchange, exchanged, may_add, added}
+use Rattle.papaya_points.proofs.Given.SeizeWordsPlans.{as_may}
+use Rattle.papaya_points.proofs.Given.SeizeRuleRows.Leaving.{steps_back}
+use Rattle.papaya_points.specs.Given.SeizeWorld.{World}
+use Rattle.papaya_points.specs.Given.SeizeDeclared.rows.settle.Settled.{Settled}
+use Rattle.papaya_points.specs.Given.SeizeDeclared.rows.settle.Settled.TheVariants as settled
+use Rattle.papaya_points.specs.Given.TablesChunks.{is_incremental}
+use Rattle.papaya_points.specs.Given.TablesCounts.{count_change}
+use Rattle.papaya_points.specs.Given.TablesTablePlaces.{at_place}
+use Rattle.papaya_points.specs.Given.TablesDeclared.marks.TheConstants.{TOMBSTONE}
+use Rattle.papaya_points.specs.Given.TablesDeclared.node.Node.{Node}
+use Rattle.papaya_points.specs.Given.TablesDeclared.setting.Setting.{Setting}
+use Rattle.papaya_points.specs.Given.TablesDeclared.table_words.TheConstants.{PLACES}
+use Rattle.papaya_points.specs.Given.ResizeDispose.{disposing, dispose_plan}
+use Rattle.papaya_points.specs.Given.ResizeDeclared.dispose.Dispose.{Dispose}
+use Rattle.papaya_points.specs.Given.SweepsSweep.{tries, tried, counts, disposed, plan_at}
+use Rattle.papaya_points.specs.Given.SweepsSweepPoints.{removes, further, going}
+use Rattle.papaya_points.specs.Given.SweepsDeclared.sweep.Sweep.{Sweep}
+use Rattle.papaya_points.specs.Given.SweepsDeclared.sweep.Sweeping.TheVariants as at
+use Rattle.papaya_points.specs.Given.SweepsDeclared.sweep.Swept.{Swept}
+use Rattle.papaya_points.specs.Given.RuleChart.{Still, Holds, Chart}
+use Rattle.papaya_points.specs.Given.RuleRule.{IsLawful, is_of}
+use Rattle.papaya_points.specs.Given.RuleMoves.{Removes, MayChange, after}
+use Rattle.papaya_points.specs.Given.RuleWords.{Blocks}
+use Rattle.papaya_points.specs.Given.RuleMaps.{spot_of}
+use Rattle.papaya_points.specs.Given.RuleInWorld.{IsMapIn, SameBlocks}
+use Rattle.papaya_points.proofs.Given.RuleWords.TablesSeen.{place_stands}
+use Rattle.papaya_points.proofs.Given.RuleWorld.WentStill.{went_still}
+use Rattle.papaya_points.proofs.Given.RuleWorld.WentTold.{went_as}
 use Rattle.papaya_points.specs.FactsDisposes.{DisposeFacts}
 use Rattle.papaya_points.specs.FactsIdle.{IsIdle}
 use Rattle.papaya_points.specs.Told.{IsRowOf, DisposeTold}

@@ -1,33 +1,33 @@
 -- Where a sweep stands after a step, and what it tells of that.
 use Rattle.std.specs.Prelude.{◌≡◌, ◌≢◌, ℕ, ◌+◌, ◌%◌, ◌^◌, Bool, true, false, nat_lt, ◌==◌, ◌&&◌, if◌then◌else◌}
 use Rattle.std.proofs.Common.{refl, ap, inl, inr, sym, subst, ◌∙◌}
-use Rattle.papaya_points.specs.Given.SeizeWords.Word.{block_in}
-use Rattle.papaya_points.specs.Given.Seize.World.{World}
-use Rattle.papaya_points.specs.Given.Seize.declared.rows.settle.Settled.{Settled}
-use Rattle.papaya_points.specs.Given.Seize.declared.rows.settle.Settled.TheVariants as settled
-use Rattle.papaya_points.specs.Given.Tables.Chunks.{is_incremental}
-use Rattle.papaya_points.specs.Given.Tables.Marks.{has_mark}
-use Rattle.papaya_points.specs.Given.Tables.declared.marks.TheConstants.{COPYING}
-use Rattle.papaya_points.specs.Given.Tables.declared.node.Node.{Node}
-use Rattle.papaya_points.specs.Given.Tables.declared.setting.Setting.{Setting}
-use Rattle.papaya_points.specs.Given.Tables.declared.table.Table.{Table}
-use Rattle.papaya_points.specs.Given.Resize.CopierStates.{resting, copying_all}
-use Rattle.papaya_points.specs.Given.Resize.declared.copier.Copier.{Copier}
-use Rattle.papaya_points.specs.Given.Resize.declared.copier.Copying.TheVariants as copies
-use Rattle.papaya_points.specs.Given.Resize.declared.dispose.Dispose.{Dispose}
-use Rattle.papaya_points.specs.Given.Resize.declared.outcome.Outcome.{Outcome}
-use Rattle.papaya_points.specs.Given.Resize.declared.outcome.Outcome.TheVariants as outcome
-use Rattle.papaya_points.specs.Given.Sweeps.Sweep.{copied, disposed}
-use Rattle.papaya_points.specs.Given.Sweeps.SweepPoints.{removes, standing, tableless, beginning, entering, further, told, telling, at_pair, seen}
-use Rattle.papaya_points.specs.Given.Sweeps.declared.sweep.Purpose.{Purpose}
-use Rattle.papaya_points.specs.Given.Sweeps.declared.sweep.Purpose.TheVariants.{Walks, Clears, Retains}
-use Rattle.papaya_points.specs.Given.Sweeps.declared.sweep.Sweep.{Sweep}
-use Rattle.papaya_points.specs.Given.Sweeps.declared.sweep.Sweeping.{Sweeping}
-use Rattle.papaya_points.specs.Given.Sweeps.declared.sweep.Sweeping.TheVariants as at
-use Rattle.papaya_points.specs.Given.Sweeps.declared.sweep.Swept.{Swept}
-use Rattle.papaya_points.specs.Given.Sweeps.declared.sweep.Swept.TheVariants as swept
-use Rattle.papaya_points.specs.Given.Rule.Chart.{Chart}
-use Rattle.papaya_points.specs.Given.Rule.Words.{Blocks, place_word}
+use Rattle.papaya_points.specs.Given.SeizeWordsWord.{block_in}
+use Rattle.papaya_points.specs.Given.SeizeWorld.{World}
+use Rattle.papaya_points.specs.Given.SeizeDeclared.rows.settle.Settled.{Settled}
+use Rattle.papaya_points.specs.Given.SeizeDeclared.rows.settle.Settled.TheVariants as settled
+use Rattle.papaya_points.specs.Given.TablesChunks.{is_incremental}
+use Rattle.papaya_points.specs.Given.TablesMarks.{has_mark}
+use Rattle.papaya_points.specs.Given.TablesDeclared.marks.TheConstants.{COPYING}
+use Rattle.papaya_points.specs.Given.TablesDeclared.node.Node.{Node}
+use Rattle.papaya_points.specs.Given.TablesDeclared.setting.Setting.{Setting}
+use Rattle.papaya_points.specs.Given.TablesDeclared.table.Table.{Table}
+use Rattle.papaya_points.specs.Given.ResizeCopierStates.{resting, copying_all}
+use Rattle.papaya_points.specs.Given.ResizeDeclared.copier.Copier.{Copier}
+use Rattle.papaya_points.specs.Given.ResizeDeclared.copier.Copying.TheVariants as copies
+use Rattle.papaya_points.specs.Given.ResizeDeclared.dispose.Dispose.{Dispose}
+use Rattle.papaya_points.specs.Given.ResizeDeclared.outcome.Outcome.{Outcome}
+use Rattle.papaya_points.specs.Given.ResizeDeclared.outcome.Outcome.TheVariants as outcome
+use Rattle.papaya_points.specs.Given.SweepsSweep.{copied, disposed}
+use Rattle.papaya_points.specs.Given.SweepsSweepPoints.{removes, standing, tableless, beginning, entering, further, told, telling, at_pair, seen}
+use Rattle.papaya_points.specs.Given.SweepsDeclared.sweep.Purpose.{Purpose}
+use Rattle.papaya_points.specs.Given.SweepsDeclared.sweep.Purpose.TheVariants.{Walks, Clears, Retains}
+use Rattle.papaya_points.specs.Given.SweepsDeclared.sweep.Sweep.{Sweep}
+use Rattle.papaya_points.specs.Given.SweepsDeclared.sweep.Sweeping.{Sweeping}
+use Rattle.papaya_points.specs.Given.SweepsDeclared.sweep.Sweeping.TheVariants as at
+use Rattle.papaya_points.specs.Given.SweepsDeclared.sweep.Swept.{Swept}
+use Rattle.papaya_points.specs.Given.SweepsDeclared.sweep.Swept.TheVariants as swept
+use Rattle.papaya_points.specs.Given.RuleChart.{Chart}
+use Rattle.papaya_points.specs.Given.RuleWords.{Blocks, place_word}
 use Rattle.papaya_late.specs.FactsSweeps.{CopiesPairs}
 use Rattle.papaya_late.specs.ToldSweeps.{ReadsPlace, TellsSo, StandsThen}
 use Rattle.papaya_late.proofs.Swept.Sweeps.Moved.{Sees, SweepMoves}

@@ -2,21 +2,21 @@
 use Rattle.std.specs.Prelude.{◌≡◌, ◌≢◌, ℕ, suc, ◌^◌, ◌<◌, ◌≤◌, Bool, true, false, cond, ◌⊎◌}
 use Rattle.std.proofs.Common.{refl, ap, ◌∙◌, inl, inr, sym, subst, arith}
 use Rattle.std.proofs.lemmas.Bool.{cases_lt}
-use Rattle.papaya_points.specs.Given.SeizeWords.Word.{block_in}
-use Rattle.papaya_points.specs.Given.Seize.World.{World}
-use Rattle.papaya_points.specs.Given.Tables.Chunks.{is_incremental}
-use Rattle.papaya_points.specs.Given.Tables.declared.node.Node.{Node}
-use Rattle.papaya_points.specs.Given.Tables.declared.setting.Setting.{Setting}
-use Rattle.papaya_points.specs.Given.Tables.declared.status.TheConstants.Status.{ABORTED}
-use Rattle.papaya_points.specs.Given.Rule.Chart.{Phase, Still, Share, Free, Holds, Chart, is_marked}
-use Rattle.papaya_points.specs.Given.Rule.Rule.{IsLawful, Rule, Agrees}
-use Rattle.papaya_points.specs.Given.Rule.Moves.{Removes, after, MayChange}
-use Rattle.papaya_points.specs.Given.Rule.Words.{Blocks, byte_of, place_word}
-use Rattle.papaya_points.specs.Given.Rule.Maps.{spot_of}
-use Rattle.papaya_points.specs.Given.Rule.InWorld.{IsMapIn}
-use Rattle.papaya_points.proofs.Given.Rule.Moves.Shuts.{past_shut}
-use Rattle.papaya_points.proofs.Given.Rule.Words.PlaceWords.{pair_block}
-use Rattle.papaya_points.proofs.Given.Rule.Words.PlacesShown.{byte_of-few}
+use Rattle.papaya_points.specs.Given.SeizeWordsWord.{block_in}
+use Rattle.papaya_points.specs.Given.SeizeWorld.{World}
+use Rattle.papaya_points.specs.Given.TablesChunks.{is_incremental}
+use Rattle.papaya_points.specs.Given.TablesDeclared.node.Node.{Node}
+use Rattle.papaya_points.specs.Given.TablesDeclared.setting.Setting.{Setting}
+use Rattle.papaya_points.specs.Given.TablesDeclared.status.TheConstants.Status.{ABORTED}
+use Rattle.papaya_points.specs.Given.RuleChart.{Phase, Still, Share, Free, Holds, Chart, is_marked}
+use Rattle.papaya_points.specs.Given.RuleRule.{IsLawful, Rule, Agrees}
+use Rattle.papaya_points.specs.Given.RuleMoves.{Removes, after, MayChange}
+use Rattle.papaya_points.specs.Given.RuleWords.{Blocks, byte_of, place_word}
+use Rattle.papaya_points.specs.Given.RuleMaps.{spot_of}
+use Rattle.papaya_points.specs.Given.RuleInWorld.{IsMapIn}
+use Rattle.papaya_points.proofs.Given.RuleMoves.Shuts.{past_shut}
+use Rattle.papaya_points.proofs.Given.RuleWords.PlaceWords.{pair_block}
+use Rattle.papaya_points.proofs.Given.RuleWords.PlacesShown.{byte_of-few}
 use Rattle.papaya_late.specs.Left.{Entered}
 use Rattle.papaya_late.specs.FactsSweeps.{WasRoot}
 

@@ -1,5 +1,5 @@
 -- Each step by which a machine goes on.
-use Rattle.papaya_whole.proofs.Given.Points.Descents.{descents_end}
+use Rattle.papaya_whole.proofs.Given.PointsDescents.{descents_end}
 use Rattle.papaya_lowers.proofs.Machines.{steps_lower}
 use Rattle.papaya_lowers.proofs.law.steps_lower_the_numbers.Goals as goal
 

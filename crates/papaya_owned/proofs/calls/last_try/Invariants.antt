@@ -1,6 +1,6 @@
 -- The tries so far have led to the present one.
 use Rattle.std.proofs.Common.{◌≡◌}
-use Rattle.papaya_straight.specs.Given.Raw.declared.machines.call.Calling.TheVariants as at
+use Rattle.papaya_straight.specs.Given.RawDeclared.machines.call.Calling.TheVariants as at
 use Rattle.papaya_owned.specs.Ending.{Leads}
 use Rattle.papaya_owned.specs.Machines.{at_trial, on_key_plan}
 use Rattle.papaya_owned.specs.declared.machines.OnKey.{OnKey}

@@ -1,9 +1,9 @@
 -- The try that is passed is a step of the call.
 use Rattle.std.specs.Prelude.{false}
 use Rattle.std.proofs.Common.{sym, ap, ◌∙◌}
-use Rattle.papaya_straight.specs.Given.Tables.Finding.{finding, may_name}
-use Rattle.papaya_straight.specs.Given.Tables.Trials.{next_trial}
-use Rattle.papaya_straight.specs.Given.Tables.declared.finding.Aim.TheVariants.{Looks}
+use Rattle.papaya_straight.specs.Given.TablesFinding.{finding, may_name}
+use Rattle.papaya_straight.specs.Given.TablesTrials.{next_trial}
+use Rattle.papaya_straight.specs.Given.TablesDeclared.finding.Aim.TheVariants.{Looks}
 use Rattle.papaya_owned.proofs.Lookups.Tries.{found_at}
 use Rattle.papaya_owned.proofs.Passing.{passes_if, try_can}
 use Rattle.papaya_owned.proofs.calls.next_try.Goals as goal

@@ -1,13 +1,13 @@
 -- Each step of the copying is one of the call, which goes on from there.
 use Rattle.std.specs.Prelude.{ℕ}
 use Rattle.std.proofs.Common.{sym, ◌∙◌, subst, ap}
-use Rattle.seize.specs.Given.SeizeWords.Mem.{Can, Took, value_at}
-use Rattle.seize.specs.Given.SeizeWords.Plan.{May, Steps}
-use Rattle.papaya_shown.specs.Given.Resize.Copier.{copier_plan}
+use Rattle.seize.specs.Given.SeizeWordsMem.{Can, Took, value_at}
+use Rattle.seize.specs.Given.SeizeWordsPlan.{May, Steps}
+use Rattle.papaya_shown.specs.Given.ResizeCopier.{copier_plan}
 use Rattle.papaya_owned.specs.Ending.{none_taken, one_more}
 use Rattle.papaya_owned.proofs.Inner.{copier_may, helps_on}
 use Rattle.papaya_straight.specs.Going.{CopyGoes}
-use Rattle.papaya_straight.specs.Given.SeizeStraight.Runs.{MayRun}
+use Rattle.papaya_straight.specs.Given.SeizeStraightRuns.{MayRun}
 use Rattle.papaya_owned.proofs.Runs.Leading.{ends_along, leads_on}
 use Rattle.papaya_owned.proofs.Straight.{copies_run, places_on}
 use Rattle.papaya_owned.proofs.inside.copies.Goals as goal

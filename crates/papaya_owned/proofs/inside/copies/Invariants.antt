@@ -1,6 +1,6 @@
 -- The steps so far have led to the present one.
 use Rattle.std.proofs.Common.{◌≡◌}
-use Rattle.papaya_straight.specs.Given.Tables.declared.table.Table.{Table}
+use Rattle.papaya_straight.specs.Given.TablesDeclared.table.Table.{Table}
 use Rattle.papaya_owned.specs.Ending.{Leads}
 use Rattle.papaya_owned.specs.Inside.{helping}
 use Rattle.papaya_owned.specs.Machines.{on_key_plan}

@@ -1,6 +1,6 @@
 -- The steps so far have led to the present one.
-use Rattle.papaya_shown.specs.Given.Resize.declared.dispose.Dispose.{Dispose}
-use Rattle.papaya_straight.specs.Given.Raw.declared.machines.answer.KeyAnswer.{KeyAnswer}
+use Rattle.papaya_shown.specs.Given.ResizeDeclared.dispose.Dispose.{Dispose}
+use Rattle.papaya_straight.specs.Given.RawDeclared.machines.answer.KeyAnswer.{KeyAnswer}
 use Rattle.papaya_owned.specs.Ending.{Leads}
 use Rattle.papaya_owned.specs.Inside.{retiring}
 use Rattle.papaya_owned.specs.Machines.{on_key_plan}

@@ -1,6 +1,6 @@
 -- Its steps over the memory that is lent are those over the memory. The tries at a table are steps, too.
 use Rattle.std.proofs.Common.{subst, option_map}
-use Rattle.papaya_shown.specs.Given.Resize.Lookup.{lookup_plan}
+use Rattle.papaya_shown.specs.Given.ResizeLookup.{lookup_plan}
 use Rattle.papaya_owned.specs.Looking.{at_next}
 use Rattle.papaya_owned.specs.Tries.{IsMet, Nearer, TriesTo}
 use Rattle.papaya_owned.specs.Within.{within}

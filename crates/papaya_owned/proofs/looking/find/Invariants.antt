@@ -1,8 +1,8 @@
 -- What a lookup keeps from step to step, and what each step lowers.
 use Rattle.std.proofs.Common.{◌≡◌, ℕ}
 use Rattle.papaya_owned.specs.Looking.{LooksIn}
-use Rattle.papaya_whole.specs.Given.Rule.Chart.{Chart}
-use Rattle.papaya_whole.specs.Given.Rule.Words.{Blocks}
+use Rattle.papaya_whole.specs.Given.RuleChart.{Chart}
+use Rattle.papaya_whole.specs.Given.RuleWords.{Blocks}
 use Rattle.papaya_owned.proofs.looking.find.Given as goal
 
 abbrev pub invariant-loop-found : goal.invariant-loop-found

@@ -1,6 +1,6 @@
 -- Its runs from here on have a least bound.
 use Rattle.std.proofs.Common.{sym, subst}
-use Rattle.papaya_shown.specs.Given.Resize.Lookup.{lookup_plan}
+use Rattle.papaya_shown.specs.Given.ResizeLookup.{lookup_plan}
 use Rattle.papaya_owned.specs.Ending.{Ends}
 use Rattle.papaya_owned.proofs.Runs.Steps.{lowest_at}
 use Rattle.papaya_owned.proofs.looking.most.Goals as goal

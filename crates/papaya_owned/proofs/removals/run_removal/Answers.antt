@@ -1,7 +1,7 @@
 -- It goes on from where the straight code has stopped, or has ended there.
 use Rattle.std.proofs.Common.{sym, subst}
-use Rattle.papaya_straight.specs.Given.Raw.CallPoints.{removing}
-use Rattle.papaya_straight.specs.Given.Raw.declared.machines.call.KeyCall.{KeyCall}
+use Rattle.papaya_straight.specs.Given.RawCallPoints.{removing}
+use Rattle.papaya_straight.specs.Given.RawDeclared.machines.call.KeyCall.{KeyCall}
 use Rattle.papaya_straight.specs.Removing.{removing_at, seeking}
 use Rattle.papaya_owned.specs.Ending.{Ends, RunsTo}
 use Rattle.papaya_owned.specs.Machines.{on_call, on_key_plan}

@@ -1,6 +1,6 @@
 -- It comes to its end, and what it comes to.
 use Rattle.std.proofs.Common.{subst}
-use Rattle.papaya_whole.specs.Given.Reserves.declared.reserve.Reserve.{Reserve}
+use Rattle.papaya_whole.specs.Given.ReservesDeclared.reserve.Reserve.{Reserve}
 use Rattle.papaya_owned.specs.Ending.{HasCome}
 use Rattle.papaya_owned.specs.Machines.{for_room_plan}
 use Rattle.papaya_owned.proofs.Owned.Rooms.{making_room_ends, making_room_by}

@@ -1,7 +1,7 @@
 -- What a run keeps from step to step, and what each step lowers.
 use Rattle.std.proofs.Common.{◌≡◌, Result}
-use Rattle.seize.specs.Given.SeizeWords.Mem.{Mem}
-use Rattle.seize.specs.Given.SeizeWords.declared.fault.Fault.{Fault}
+use Rattle.seize.specs.Given.SeizeWordsMem.{Mem}
+use Rattle.seize.specs.Given.SeizeWordsDeclared.fault.Fault.{Fault}
 use Rattle.papaya_owned.specs.Ending.{Ends, RunsTo}
 use Rattle.papaya_owned.proofs.running.run_skimming.Given as goal
 

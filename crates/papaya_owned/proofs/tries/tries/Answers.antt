@@ -1,6 +1,6 @@
 -- Each try is a step of the lookup, which goes on from there.
 use Rattle.std.proofs.Common.{sym, ◌∙◌, ap, subst, arith, ⊎_elim}
-use Rattle.papaya_shown.specs.Given.Resize.Lookup.{lookup_plan}
+use Rattle.papaya_shown.specs.Given.ResizeLookup.{lookup_plan}
 use Rattle.papaya_owned.specs.Looking.{LooksIn, at_try, at_next}
 use Rattle.papaya_owned.specs.Tries.{Nearer, TriesTo, is_there}
 use Rattle.papaya_owned.specs.Within.{within}

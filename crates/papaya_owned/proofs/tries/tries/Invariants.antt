@@ -1,9 +1,9 @@
 -- The lookup at the present try is one that the begun one comes to, and no further from its end.
 use Rattle.std.proofs.Common.{◌≡◌, ◌≤◌, ◌-◌, ℕ, true}
-use Rattle.papaya_shown.specs.Given.Resize.Lookup.{lookup_plan}
-use Rattle.papaya_shown.specs.Given.Resize.declared.lookup.Lookup.{Lookup}
-use Rattle.papaya_whole.specs.Given.Rule.Chart.{Chart}
-use Rattle.papaya_whole.specs.Given.Rule.Words.{Blocks}
+use Rattle.papaya_shown.specs.Given.ResizeLookup.{lookup_plan}
+use Rattle.papaya_shown.specs.Given.ResizeDeclared.lookup.Lookup.{Lookup}
+use Rattle.papaya_whole.specs.Given.RuleChart.{Chart}
+use Rattle.papaya_whole.specs.Given.RuleWords.{Blocks}
 use Rattle.papaya_owned.specs.Looking.{LooksIn, at_try}
 use Rattle.papaya_owned.specs.Within.{within}
 use Rattle.papaya_owned.proofs.tries.tries.Given as goal

@@ -1,7 +1,7 @@
 -- It is a step of the lookup at this try.
 use Rattle.std.specs.Prelude.{◌≡◌, Some, IsSome, is_some}
 use Rattle.std.proofs.Common.{sym, ◌∙◌, ap, subst}
-use Rattle.seize.specs.Given.SeizeWords.Mem.{value_at}
+use Rattle.seize.specs.Given.SeizeWordsMem.{value_at}
 use Rattle.papaya_owned.proofs.Lookups.Tries.{found_at, try_sees, try_names, try_passes}
 use Rattle.papaya_owned.proofs.tries.try_at.Goals as goal
 use Rattle.papaya_owned.proofs.tries.try_at.Goals.{then-may_be, else-may_be}

@@ -8,7 +8,7 @@ ghost use Rattle.papaya_raw.specs.declared.machines.call.Calling.TheVariants.{Ro
 use crate::machines::answer::{Missing, There};
 use crate::machines::asking::{Replies, Takes, Told};
 use crate::machines::call::{Calling, KeyCall};
-use papaya_sweeps::papaya_resize::Lookup;
+use papaya_sweeps::named::Lookup;
 use papaya_tables::{Node, Probe, Setting, Table, Trial};
 
 impl<K, V, Q> KeyCall<K, V, Q> {

@@ -1,6 +1,6 @@
 //! A call puts what it was told into its own block, or gives that block up.
 ghost use Rattle.std.specs.Prelude.{None};
-ghost use Rattle.papaya_tables.specs.Given.SeizeWords.Plan.{May, Steps};
+ghost use Rattle.papaya_tables.specs.Given.SeizeWordsPlan.{May, Steps};
 ghost use Rattle.papaya_raw.specs.CallFills.{putting, fills_with, fills, gives_up};
 
 use crate::machines::answer::{Called, End};
@@ -8,7 +8,7 @@ use crate::machines::call::values::link_to;
 use crate::machines::call::{Calling, KeyCall};
 use papaya_tables::Node;
 use papaya_tables::marks::TOMBSTONE;
-use papaya_tables::seize_words::{Fault, Link, Memory};
+use papaya_tables::named::{Fault, Link, Memory};
 
 impl<K: Drop, V: Drop, Q> KeyCall<K, V, Q> {
     /// Puts the value that it was told into its own block. Where one is there that was not stored, it is taken out first.

@@ -1,6 +1,6 @@
 //! From table to table.
 ghost use Rattle.std.specs.Prelude.{◌≡◌, ℕ};
-ghost use Rattle.papaya_tables.specs.Given.SeizeWords.Plan.{May, MaySee, Steps, Ends};
+ghost use Rattle.papaya_tables.specs.Given.SeizeWordsPlan.{May, MaySee, Steps, Ends};
 ghost use Rattle.papaya_raw.specs.CallPoints.{tableless, at_last, entering, went_on, standing};
 ghost use Rattle.papaya_raw.specs.Call.{roots, nexts, first_made, next_made, call_plan};
 ghost use Rattle.papaya_raw.specs.declared.machines.call.Calling.TheVariants as at;
@@ -8,10 +8,9 @@ ghost use Rattle.papaya_raw.specs.declared.machines.call.Calling.TheVariants as 
 use crate::machines::answer::{Called, End, KeyAnswer, Missing};
 use crate::machines::asking::Gap;
 use crate::machines::call::{Calling, KeyCall};
-use papaya_sweeps::papaya_resize::{Copier, NewTable};
+use papaya_sweeps::named::{Copier, NewTable};
 use papaya_tables::lengths::FIRST_LEN;
-use papaya_tables::seize::{Machine, Progress};
-use papaya_tables::seize_words::{At, Link, Memory};
+use papaya_tables::named::{At, Link, Machine, Memory, Progress};
 use papaya_tables::table_words::NEXT;
 use papaya_tables::{Equivalent, Node, Table};
 use std::hash::Hash;

@@ -1,16 +1,14 @@
 //! The call's own pair, the pairs that it disposes of, and lookups.
 ghost use Rattle.std.specs.Prelude.{◌≡◌, ℕ};
-ghost use Rattle.papaya_tables.specs.Given.SeizeWords.Plan.{May, Steps};
+ghost use Rattle.papaya_tables.specs.Given.SeizeWordsPlan.{May, Steps};
 ghost use Rattle.papaya_raw.specs.CallPoints.{word_to, standing};
 ghost use Rattle.papaya_raw.specs.Call.{makes, drops, looked, disposed, call_plan};
 ghost use Rattle.papaya_raw.specs.declared.machines.call.Calling.TheVariants as at;
 
 use crate::machines::answer::{Called, End, KeyAnswer};
 use crate::machines::call::{Calling, KeyCall};
-use papaya_sweeps::papaya_resize::{Dispose, Lookup};
-use papaya_tables::seize::rows::Settled;
-use papaya_tables::seize::{Machine, Progress};
-use papaya_tables::seize_words::{Fault, Link, Memory};
+use papaya_sweeps::named::{Dispose, Lookup};
+use papaya_tables::named::{Fault, Link, Machine, Memory, Progress, Settled};
 use papaya_tables::{Equivalent, Node, h2};
 use std::hash::Hash;
 

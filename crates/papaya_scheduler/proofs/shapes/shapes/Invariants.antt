@@ -1,7 +1,7 @@
 -- Those that were shown are the tables that were passed.
 use Rattle.std.specs.Prelude.{◌-◌, ◌^◌, ℕ, Bool, List, length, map}
 use Rattle.std.proofs.Common.{◌≡◌}
-use Rattle.papaya_runs.specs.Given.Tables.declared.table.Table.{Table}
+use Rattle.papaya_runs.specs.Given.TablesDeclared.table.Table.{Table}
 use Rattle.papaya_rows.specs.Given.RuleChart.{Chart}
 use Rattle.papaya_rows.specs.Given.RuleWords.{Blocks}
 use Rattle.papaya_rows.specs.Given.ShownShown.{Stands}

@@ -1,7 +1,7 @@
 use Rattle.std.specs.List.Sorted.{IsPermutation}
 use Rattle.std.proofs.Common.{◌≡◌, ◌∙◌, ap, sym, subst, refl}
-use Rattle.papaya_rule.specs.Given.SeizeWords.declared.at.At.TheVariants.{Root}
-use Rattle.papaya_rule.specs.Given.Tables.Chunks.{is_incremental}
+use Rattle.papaya_rule.specs.Given.SeizeWordsDeclared.at.At.TheVariants.{Root}
+use Rattle.papaya_rule.specs.Given.TablesChunks.{is_incremental}
 use Rattle.papaya_shown.specs.Chain.{HasTables, one_count, pairs_on, root_link, word_or_none}
 use Rattle.papaya_shown.specs.Shown.{NoneMoves, pairs_stored}
 use Rattle.papaya_shown.proofs.Chains.{root_counts, root_read, all_shown}

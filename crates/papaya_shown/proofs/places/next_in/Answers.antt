@@ -1,5 +1,5 @@
 use Rattle.std.proofs.Common.{refl, ◌∙◌, arith}
-use Rattle.papaya_rule.specs.Given.Tables.Chunks.{is_incremental}
+use Rattle.papaya_rule.specs.Given.TablesChunks.{is_incremental}
 use Rattle.papaya_shown.proofs.Onward.{none_here, one_here, none_left}
 use Rattle.papaya_shown.proofs.places.next_in.Goals as goal
 

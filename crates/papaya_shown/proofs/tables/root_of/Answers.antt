@@ -1,5 +1,5 @@
 use Rattle.std.proofs.Common.{refl}
-use Rattle.papaya_rule.specs.Given.SeizeWords.declared.at.At.TheVariants.{Root}
+use Rattle.papaya_rule.specs.Given.SeizeWordsDeclared.at.At.TheVariants.{Root}
 use Rattle.papaya_shown.proofs.Links.{seen_as, read_as, root_shown, root_leads_on, led_shown, led}
 use Rattle.papaya_shown.proofs.tables.root_of.Goals as goal
 

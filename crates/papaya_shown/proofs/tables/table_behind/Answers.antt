@@ -1,8 +1,8 @@
 use Rattle.std.specs.Prelude.{suc}
 use Rattle.std.proofs.Common.{ℕ, ap}
-use Rattle.papaya_rule.specs.Given.SeizeWords.declared.at.At.TheVariants.{Word}
-use Rattle.papaya_rule.specs.Given.Tables.TablePlaces.{at_word}
-use Rattle.papaya_rule.specs.Given.Tables.declared.table_words.TheConstants.{NEXT}
+use Rattle.papaya_rule.specs.Given.SeizeWordsDeclared.at.At.TheVariants.{Word}
+use Rattle.papaya_rule.specs.Given.TablesTablePlaces.{at_word}
+use Rattle.papaya_rule.specs.Given.TablesDeclared.table_words.TheConstants.{NEXT}
 use Rattle.papaya_shown.proofs.Links.{seen_as, read_as, next_shown, next_leads_on, led_shown, led}
 use Rattle.papaya_shown.proofs.tables.table_behind.Goals as goal
 

@@ -3,7 +3,7 @@ use Rattle.std.specs.Prelude.{position}
 use Rattle.std.specs.List.{list_any}
 use Rattle.std.proofs.Common.{refl, sym, ap, subst, ◌∙◌, arith}
 use Rattle.std.proofs.lemmas.Result.{IfOk-weaker}
-use Rattle.papaya_runs.specs.Given.SeizeWords.declared.fault.Fault.TheVariants.{Busy}
+use Rattle.papaya_runs.specs.Given.SeizeWordsDeclared.fault.Fault.TheVariants.{Busy}
 use Rattle.papaya_works.specs.Given.SchedulesAfter.{moment}
 use Rattle.papaya_works.specs.Given.SchedulesHanding.{is_made}
 use Rattle.papaya_works.specs.Given.SchedulesDeclared.event.Event.TheVariants.{Go}

@@ -1,7 +1,7 @@
 -- A call without a name begins, and goes on, or does not begin.
 use Rattle.std.proofs.Common.{rules, ◌≡◌, Bool, true, false, refl, sym, subst, arith}
 use Rattle.std.proofs.lemmas.Result.{IfOk-weaker}
-use Rattle.papaya_runs.specs.Given.SeizeWords.declared.fault.Fault.TheVariants.{Busy}
+use Rattle.papaya_runs.specs.Given.SeizeWordsDeclared.fault.Fault.TheVariants.{Busy}
 use Rattle.papaya_runs.specs.Stopped.{most_steps}
 use Rattle.papaya_works.specs.Given.SchedulesAfter.{moment}
 use Rattle.papaya_works.specs.Given.SchedulesEntry.{nameless}

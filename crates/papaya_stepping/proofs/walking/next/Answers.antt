@@ -1,7 +1,7 @@
 -- The next pair of a walk is shown, or that there is none.
 use Rattle.std.specs.Prelude.{is_some}
 use Rattle.std.proofs.Common.{[], refl, sym, ap, subst, ◌∙◌}
-use Rattle.papaya_runs.specs.Given.SeizeWords.declared.fault.Fault.TheVariants.{Busy}
+use Rattle.papaya_runs.specs.Given.SeizeWordsDeclared.fault.Fault.TheVariants.{Busy}
 use Rattle.papaya_works.specs.Given.SchedulesAfter.{moment}
 use Rattle.papaya_works.specs.Given.SchedulesDeclared.event.Event.TheVariants.{Next}
 use Rattle.papaya_works.specs.Given.SchedulesDeclared.outcome.Outcome.TheVariants.{Refused}

@@ -1,9 +1,9 @@
 -- The place is marked, its pair put into the table that is copied into, and the place covered.
 use Rattle.std.specs.Prelude.{◌≡◌, bit_or, IsSome, Some}
-use Rattle.papaya_raw.specs.Given.Resize.CopierMarks.{without_copying}
+use Rattle.papaya_raw.specs.Given.ResizeCopierMarks.{without_copying}
 use Rattle.std.proofs.Common.{sym, ◌∙◌, subst}
-use Rattle.papaya_tables.specs.Given.SeizeWords.Op.{Or, Store, Found, Stored}
-use Rattle.papaya_tables.specs.Given.SeizeWords.declared.at.At.{At}
+use Rattle.papaya_tables.specs.Given.SeizeWordsOp.{Or, Store, Found, Stored}
+use Rattle.papaya_tables.specs.Given.SeizeWordsDeclared.at.At.{At}
 use Rattle.papaya_tables.specs.declared.marks.TheConstants.{COPIED, COPYING}
 use Rattle.seize_straight.specs.Runs.{none_taken}
 use Rattle.papaya_straight.specs.declared.copying.Placed.TheVariants as placed

@@ -2,9 +2,9 @@
 use Rattle.std.proofs.Common.{ap, sym, subst, ◌∙◌}
 use Rattle.papaya_tables.specs.Probes.{probe_from}
 use Rattle.papaya_tables.specs.declared.probe.Probe.{Probe}
-use Rattle.papaya_raw.specs.Given.Resize.CopierMarks.{probing}
-use Rattle.papaya_raw.specs.Given.Resize.CopierStates.{standing}
-use Rattle.papaya_raw.specs.Given.Resize.declared.copier.Copying.TheVariants as at
+use Rattle.papaya_raw.specs.Given.ResizeCopierMarks.{probing}
+use Rattle.papaya_raw.specs.Given.ResizeCopierStates.{standing}
+use Rattle.papaya_raw.specs.Given.ResizeDeclared.copier.Copying.TheVariants as at
 use Rattle.papaya_straight.specs.Going.{CopyLeads}
 use Rattle.seize_straight.specs.Runs.{none_taken}
 use Rattle.seize_straight.proofs.Running.{leads_on, runs_along}

@@ -1,7 +1,7 @@
 -- The tries so far have led to the present one.
-use Rattle.papaya_raw.specs.Given.Resize.CopierMarks.{probing}
-use Rattle.papaya_raw.specs.Given.Resize.CopierStates.{standing}
-use Rattle.papaya_raw.specs.Given.Resize.declared.copier.Copying.TheVariants as at
+use Rattle.papaya_raw.specs.Given.ResizeCopierMarks.{probing}
+use Rattle.papaya_raw.specs.Given.ResizeCopierStates.{standing}
+use Rattle.papaya_raw.specs.Given.ResizeDeclared.copier.Copying.TheVariants as at
 use Rattle.papaya_straight.specs.Going.{CopyLeads}
 use Rattle.papaya_straight.proofs.copying.put_pair.Given as goal
 

@@ -1,8 +1,8 @@
 -- The place is read, and taken where it is empty.
 use Rattle.std.specs.Prelude.{Ok, Err}
 use Rattle.std.proofs.Common.{sym, subst}
-use Rattle.papaya_tables.specs.Given.SeizeWords.Op.{Load, Exchange, Found, Exchanged}
-use Rattle.papaya_tables.specs.Given.SeizeWords.declared.at.At.{At}
+use Rattle.papaya_tables.specs.Given.SeizeWordsOp.{Load, Exchange, Found, Exchanged}
+use Rattle.papaya_tables.specs.Given.SeizeWordsDeclared.at.At.{At}
 use Rattle.papaya_straight.proofs.Copies as by
 use Rattle.papaya_straight.proofs.copying.try_put.Given as given
 use Rattle.papaya_straight.proofs.copying.try_put.Goals as goal

@@ -1,6 +1,6 @@
 -- The retirement of a pair is part of its disposal.
 use Rattle.std.proofs.Common.{sym, subst}
-use Rattle.papaya_tables.specs.Given.Seize.Settle.{retiring}
+use Rattle.papaya_tables.specs.Given.SeizeSettle.{retiring}
 use Rattle.papaya_tables.specs.Nodes.{deferred_word}
 use Rattle.seize_straight.specs.Going.{MaySettle, SettleReaches}
 use Rattle.seize_straight.specs.Retiring.{retired}

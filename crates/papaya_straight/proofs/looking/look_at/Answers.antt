@@ -1,10 +1,10 @@
 -- The word of the try is read, and judged.
 use Rattle.std.proofs.Common.{sym, subst}
-use Rattle.papaya_tables.specs.Given.SeizeWords.Op.{Load, Found}
-use Rattle.papaya_tables.specs.Given.SeizeWords.declared.at.At.{At}
+use Rattle.papaya_tables.specs.Given.SeizeWordsOp.{Load, Found}
+use Rattle.papaya_tables.specs.Given.SeizeWordsDeclared.at.At.{At}
 use Rattle.papaya_tables.specs.declared.finding.Finding.{Finding}
-use Rattle.papaya_raw.specs.Given.Resize.Lookup.{lookup_plan, told, told_of, word_read}
-use Rattle.papaya_raw.specs.Given.Resize.declared.lookup.Looking.TheVariants as at
+use Rattle.papaya_raw.specs.Given.ResizeLookup.{lookup_plan, told, told_of, word_read}
+use Rattle.papaya_raw.specs.Given.ResizeDeclared.lookup.Looking.TheVariants as at
 use Rattle.papaya_straight.specs.Going.{LookGoes}
 use Rattle.papaya_straight.specs.Looking.{glance_at, looks}
 use Rattle.seize_straight.specs.Reaches.{ComesTo}

@@ -1,5 +1,5 @@
 -- Each try leads on.
-use Rattle.papaya_raw.specs.Given.Resize.Lookup.{lookup_plan}
+use Rattle.papaya_raw.specs.Given.ResizeLookup.{lookup_plan}
 use Rattle.papaya_straight.specs.Going.{LookGoes}
 use Rattle.papaya_straight.specs.Looking.{sight_at}
 use Rattle.seize_straight.specs.Runs.{none_taken}

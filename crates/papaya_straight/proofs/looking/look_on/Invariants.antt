@@ -1,5 +1,5 @@
 -- The tries so far have led to the present one.
-use Rattle.papaya_raw.specs.Given.Resize.declared.lookup.Looking.TheVariants as at
+use Rattle.papaya_raw.specs.Given.ResizeDeclared.lookup.Looking.TheVariants as at
 use Rattle.papaya_straight.specs.Going.{LookLeads}
 use Rattle.papaya_straight.specs.Looking.{looks}
 use Rattle.papaya_straight.proofs.looking.look_on.Given as goal

@@ -1,8 +1,8 @@
 -- The word is exchanged, the change counted, and the pair that was there disposed of.
 use Rattle.std.proofs.Common.{sym, subst}
 use Rattle.std.specs.Prelude.{false, Ok, Err}
-use Rattle.papaya_tables.specs.Given.SeizeWords.Op.{Exchange, Exchanged}
-use Rattle.papaya_tables.specs.Given.SeizeWords.declared.at.At.{At}
+use Rattle.papaya_tables.specs.Given.SeizeWordsOp.{Exchange, Exchanged}
+use Rattle.papaya_tables.specs.Given.SeizeWordsDeclared.at.At.{At}
 use Rattle.papaya_tables.specs.declared.marks.TheConstants.{TOMBSTONE}
 use Rattle.papaya_raw.specs.declared.machines.call.Calling.TheVariants as at
 use Rattle.papaya_straight.specs.Going.{CallReaches}

@@ -1,8 +1,8 @@
 -- The word of the try is read, and weighed.
 use Rattle.std.proofs.Common.{sym, subst}
 use Rattle.std.specs.Prelude.{true}
-use Rattle.papaya_tables.specs.Given.SeizeWords.Op.{Load, Found}
-use Rattle.papaya_tables.specs.Given.SeizeWords.declared.at.At.{At}
+use Rattle.papaya_tables.specs.Given.SeizeWordsOp.{Load, Found}
+use Rattle.papaya_tables.specs.Given.SeizeWordsDeclared.at.At.{At}
 use Rattle.papaya_raw.specs.declared.machines.call.Calling.TheVariants as at
 use Rattle.papaya_straight.proofs.Removals as by
 use Rattle.seize_straight.proofs.Running.{begins, next}

@@ -1,6 +1,6 @@
-use Rattle.seize_alone.specs.Given.Seize.World.{at_start}
-use Rattle.seize_alone.proofs.Given.SeizeRule.World.Kept.{rows_sound, rows_may}
-use Rattle.seize_alone.proofs.Given.SeizeRule.World.Bounded.{garbage_bounded}
+use Rattle.seize_alone.specs.Given.SeizeWorld.{at_start}
+use Rattle.seize_alone.proofs.Given.SeizeRuleWorld.Kept.{rows_sound, rows_may}
+use Rattle.seize_alone.proofs.Given.SeizeRuleWorld.Bounded.{garbage_bounded}
 use Rattle.seize_acts.proofs.Fine.{all_fine}
 use Rattle.seize_acts.proofs.Slots.{slots_are_first}
 use Rattle.seize_acts.proofs.Steps.{steps_are_acts}

@@ -1,7 +1,7 @@
 use Rattle.std.proofs.Common.{ℕ, []}
 use Rattle.seize_alone.specs.Alone.{History, IsHistory, Spares, SameLinks}
 use Rattle.seize_alone.proofs.Whole.Register.{RegistersStill}
-use Rattle.seize_sets.proofs.Given.SeizeEnds.Rows.Register.{register_to_go}
+use Rattle.seize_sets.proofs.Given.SeizeEndsRows.Register.{register_to_go}
 use Rattle.seize_alone.proofs.calls.register.Given as goal
 
 -- whatever has happened before, the row is registering since; and what users have is as it was

@@ -1,7 +1,7 @@
 use Rattle.std.specs.Prelude.{nat_lt}
 use Rattle.std.specs.List.{list_any}
 use Rattle.std.proofs.Common.{◌≡◌, ap, arith, sym, ◌∙◌}
-use Rattle.papaya_present.specs.Given.Runs.Same.{is_same}
+use Rattle.papaya_present.specs.Given.RunsSame.{is_same}
 use Rattle.papaya_named.proofs.Roll.Kept.{any_counted, nobody_there}
 use Rattle.papaya_named.proofs.callers.Callers.uses.Goals as goal
 

@@ -1,6 +1,6 @@
 -- A step of the reservation is the machine's, with its outcome turned.
 use Rattle.seize.proofs.StepsInto.{steps_into}
-use Rattle.papaya_whole.specs.Given.Reserves.Reserve.{reserve_plan}
+use Rattle.papaya_whole.specs.Given.ReservesReserve.{reserve_plan}
 use Rattle.papaya_owned.specs.Machines.{for_room_after}
 use Rattle.papaya_owned.proofs.machines.ForRoomMachineNode.step.Goals as goal
 

@@ -1,8 +1,8 @@
 -- The steps of the retirement are those of the call.
 use Rattle.std.proofs.Common.{sym, ap, subst, ◌∙◌}
-use Rattle.papaya_shown.specs.Given.Resize.declared.dispose.Disposing.{Disposing}
-use Rattle.papaya_straight.specs.Given.Raw.declared.machines.call.Calling.{Calling}
-use Rattle.papaya_straight.specs.Given.Raw.declared.machines.call.Calling.TheVariants as at
+use Rattle.papaya_shown.specs.Given.ResizeDeclared.dispose.Disposing.{Disposing}
+use Rattle.papaya_straight.specs.Given.RawDeclared.machines.call.Calling.{Calling}
+use Rattle.papaya_straight.specs.Given.RawDeclared.machines.call.Calling.TheVariants as at
 use Rattle.seize.specs.declared.progress.Progress.TheVariants as progress
 use Rattle.papaya_owned.specs.Ending.{Ends, Strides}
 use Rattle.papaya_owned.specs.Inside.{answered, retiring}

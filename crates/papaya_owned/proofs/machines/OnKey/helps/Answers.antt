@@ -1,6 +1,6 @@
 -- The steps of the copying are those of the call.
 use Rattle.std.proofs.Common.{refl, sym, subst}
-use Rattle.papaya_straight.specs.Given.Raw.declared.machines.call.Calling.{Calling}
+use Rattle.papaya_straight.specs.Given.RawDeclared.machines.call.Calling.{Calling}
 use Rattle.papaya_owned.specs.Ending.{Ends, Strides}
 use Rattle.papaya_owned.specs.Inside.{helping}
 use Rattle.papaya_owned.specs.Machines.{on_key_plan}

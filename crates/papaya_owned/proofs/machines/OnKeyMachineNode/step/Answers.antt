@@ -1,7 +1,7 @@
 -- A step of the call is the machine's, with its outcome turned.
-use Rattle.seize.proofs.Given.SeizeWords.Plans.{may_as}
+use Rattle.seize.proofs.Given.SeizeWordsPlans.{may_as}
 use Rattle.seize.proofs.StepsInto.{steps_into}
-use Rattle.papaya_straight.specs.Given.Raw.Call.{call_plan}
+use Rattle.papaya_straight.specs.Given.RawCall.{call_plan}
 use Rattle.papaya_owned.specs.Machines.{on_key_after}
 use Rattle.papaya_owned.proofs.machines.OnKeyMachineNode.step.Goals as goal
 

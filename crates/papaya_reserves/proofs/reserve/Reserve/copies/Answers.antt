@@ -1,6 +1,6 @@
 -- A step of the copying is the reservation's, with its outcome turned.
-use Rattle.papaya_resize.proofs.Given.SeizeWords.Plans.{may_as}
-use Rattle.papaya_resize.proofs.Given.Seize.StepsInto.{steps_into}
+use Rattle.papaya_resize.proofs.Given.SeizeWordsPlans.{may_as}
+use Rattle.papaya_resize.proofs.Given.SeizeStepsInto.{steps_into}
 use Rattle.papaya_resize.specs.Copier.{copier_plan}
 use Rattle.papaya_reserves.specs.Reserve.{copied}
 use Rattle.papaya_reserves.proofs.reserve.Reserve.copies.Goals as goal

@@ -1,7 +1,7 @@
 -- A step of the making is the copying's, with its outcome turned.
 use Rattle.std.proofs.Common.{refl, subst, sym}
-use Rattle.papaya_tables.specs.Given.SeizeWords.Plan.{Steps}
-use Rattle.papaya_tables.proofs.Given.Seize.StepsInto.{steps_into}
+use Rattle.papaya_tables.specs.Given.SeizeWordsPlan.{Steps}
+use Rattle.papaya_tables.proofs.Given.SeizeStepsInto.{steps_into}
 use Rattle.papaya_resize.specs.NewTable.{new_table_plan}
 use Rattle.papaya_resize.specs.declared.copier.Copying.{Copying}
 use Rattle.papaya_resize.specs.Copier.{plan_at}

@@ -1,8 +1,8 @@
 -- A step of the retirement is the disposal's, with its outcome turned.
 use Rattle.std.proofs.Common.{refl, subst, sym}
-use Rattle.papaya_tables.specs.Given.SeizeWords.Plan.{Steps}
-use Rattle.papaya_tables.proofs.Given.Seize.StepsInto.{steps_into}
-use Rattle.papaya_tables.specs.Given.Seize.Settle.{settle_plan}
+use Rattle.papaya_tables.specs.Given.SeizeWordsPlan.{Steps}
+use Rattle.papaya_tables.proofs.Given.SeizeStepsInto.{steps_into}
+use Rattle.papaya_tables.specs.Given.SeizeSettle.{settle_plan}
 use Rattle.papaya_tables.specs.Nodes.{deferred_word}
 use Rattle.papaya_resize.specs.declared.dispose.Disposing.{Disposing}
 use Rattle.papaya_resize.specs.Dispose.{plan_at, settled}

@@ -1,6 +1,6 @@
 -- A step of the making is the beginning's, with its outcome turned.
-use Rattle.papaya_tables.proofs.Given.SeizeWords.Plans.{may_as}
-use Rattle.papaya_tables.proofs.Given.Seize.StepsInto.{steps_into}
+use Rattle.papaya_tables.proofs.Given.SeizeWordsPlans.{may_as}
+use Rattle.papaya_tables.proofs.Given.SeizeStepsInto.{steps_into}
 use Rattle.papaya_resize.specs.NewTable.{new_table_plan}
 use Rattle.papaya_resize.specs.NewMap.{opened}
 use Rattle.papaya_resize.proofs.new_map.NewMap.tables.Goals as goal

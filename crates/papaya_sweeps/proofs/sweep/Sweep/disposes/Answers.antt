@@ -1,7 +1,7 @@
 -- A step of the disposal is the sweep's, with its outcome turned.
-use Rattle.papaya_reserves.proofs.Given.SeizeWords.Plans.{may_as}
-use Rattle.papaya_reserves.proofs.Given.Seize.StepsInto.{steps_into}
-use Rattle.papaya_reserves.specs.Given.Resize.Dispose.{dispose_plan}
+use Rattle.papaya_reserves.proofs.Given.SeizeWordsPlans.{may_as}
+use Rattle.papaya_reserves.proofs.Given.SeizeStepsInto.{steps_into}
+use Rattle.papaya_reserves.specs.Given.ResizeDispose.{dispose_plan}
 use Rattle.papaya_sweeps.specs.Sweep.{disposed}
 use Rattle.papaya_sweeps.proofs.sweep.Sweep.disposes.Goals as goal
 

@@ -1,9 +1,9 @@
 use Rattle.std.proofs.Common.{◌≡◌, ℕ, List, [], ◌≤◌, false}
-use Rattle.seize.specs.Given.SeizeWords.Mem.{Mem}
+use Rattle.seize.specs.Given.SeizeWordsMem.{Mem}
 use Rattle.seize.specs.declared.rows.settle.Settle.{Settle}
 use Rattle.seize.specs.declared.rows.reclaim_all.Reclaiming.TheVariants.{Flushes}
 use Rattle.seize.specs.World.{Flush, Settles}
-use Rattle.seize_acts.specs.Given.SeizeAlone.Alone.{History, IsMidway, blocks_in, given_back}
+use Rattle.seize_acts.specs.Given.SeizeAloneAlone.{History, IsMidway, blocks_in, given_back}
 use Rattle.seize_reclaims.specs.AllReclaimed.{IsReclaiming, is_flushing, weight_at}
 use Rattle.seize_reclaims.proofs.AllReclaimed.Weights.{row_to_go}
 use Rattle.seize_reclaims.proofs.reclaiming.ReclaimingAll.finish_row.Given as goal

@@ -1,6 +1,6 @@
 use Rattle.std.proofs.Common.{◌≡◌, ℕ, List, ◌≤◌, false}
-use Rattle.seize.specs.Given.SeizeWords.Mem.{Mem}
-use Rattle.seize_acts.specs.Given.SeizeAlone.Alone.{History, blocks_in}
+use Rattle.seize.specs.Given.SeizeWordsMem.{Mem}
+use Rattle.seize_acts.specs.Given.SeizeAloneAlone.{History, blocks_in}
 use Rattle.seize_reclaims.specs.AllReclaimed.{IsReclaiming, is_within, weight_at}
 use Rattle.seize_reclaims.proofs.reclaiming.ReclaimingAll.next.Given as goal
 

@@ -1,9 +1,9 @@
 -- A step of the copying is the call's, with its outcome turned.
 use Rattle.std.proofs.Common.{refl, subst, sym}
-use Rattle.papaya_tables.specs.Given.SeizeWords.Plan.{May, Steps}
-use Rattle.papaya_tables.proofs.Given.SeizeWords.Plans.{may_as}
-use Rattle.papaya_tables.proofs.Given.Seize.StepsInto.{steps_into}
-use Rattle.papaya_sweeps.specs.Given.Resize.Copier.{copier_plan}
+use Rattle.papaya_tables.specs.Given.SeizeWordsPlan.{May, Steps}
+use Rattle.papaya_tables.proofs.Given.SeizeWordsPlans.{may_as}
+use Rattle.papaya_tables.proofs.Given.SeizeStepsInto.{steps_into}
+use Rattle.papaya_sweeps.specs.Given.ResizeCopier.{copier_plan}
 use Rattle.papaya_raw.specs.declared.machines.call.Calling.{Calling}
 use Rattle.papaya_raw.specs.Call.{plan_at, copied}
 use Rattle.papaya_raw.proofs.machines.call.KeyCall.copies.Goals as goal

@@ -1,7 +1,7 @@
 -- A step of the sweep is the machine's, with its outcome turned.
 use Rattle.std.proofs.Common.{ap}
-use Rattle.papaya_tables.proofs.Given.SeizeWords.Plans.{may_as}
-use Rattle.papaya_tables.proofs.Given.Seize.StepsInto.{steps_into}
+use Rattle.papaya_tables.proofs.Given.SeizeWordsPlans.{may_as}
+use Rattle.papaya_tables.proofs.Given.SeizeStepsInto.{steps_into}
 use Rattle.papaya_sweeps.specs.Sweep.{sweep_plan}
 use Rattle.papaya_raw.specs.declared.machines.machine.Machine.TheVariants as kinds
 use Rattle.papaya_raw.specs.Machine.{swept}
