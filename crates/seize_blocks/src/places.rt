@@ -32,12 +32,10 @@ impl<T, R: Rule<T>> Blocks<T, R> {
         ensures errand { seat.new.away ≡ seat.old.away }
         ensures goes { R.then seat.old.view (A.op access at) (A.out result) seat.new.view }
     {
-        if let At::Slot(slot, field) = at {
-            if slot >= 32 {
-                return self.access_far(seat, slot, field, access);
-            }
+        match at {
+            At::Slot(slot, field) if slot >= 32 => self.access_far(seat, slot, field, access),
+            _ => self.access_there(seat, at, access),
         }
-        self.access_there(seat, at, access)
     }
 
     /// The same, on a word of a slot behind the first bucket. It is a call of its own, so that an operation on any other word has nothing to save before it.
