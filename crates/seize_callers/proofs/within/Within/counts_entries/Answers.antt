@@ -1,7 +1,6 @@
-use Rattle.std.specs.Prelude.{◌<◌, None}
-use Rattle.std.proofs.Common.{◌≡◌, ℕ, refl, ap, sym, ◌∙◌, arith}
+use Rattle.std.specs.Prelude.{None}
+use Rattle.std.proofs.Common.{◌≡◌, ℕ, refl, ap, sym, ◌∙◌}
 use Rattle.seize.specs.declared.rows.settle.Settle.{Settle}
-use Rattle.seize.specs.declared.states.TheConstants.{ACTIVE}
 use Rattle.seize.specs.Settle.{counting_down}
 use Rattle.seize_views.specs.Begun.{ended}
 use Rattle.seize_views.specs.Notes.{still, noted}
