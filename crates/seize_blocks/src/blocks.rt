@@ -6,6 +6,7 @@ ghost use Rattle.seize_seats.specs.Errands.{MayGo, MayMeet, RenewsIdle};
 ghost use Rattle.seize_seats.specs.Owned.{IsFirst};
 ghost use Rattle.seize_seats.specs.Lendings.{Shown, ShownToBoth, IsValueOf, IsValueOfBoth};
 
+use crate::access::{Adds, Exchanges, Loads, Sets, Stores, Swaps};
 use crate::errand::{Errand, Sent};
 use seize_atoms::{Meeting, Rule, Seat, Turn, Words};
 use seize_plots::{Doors, Kept, Laid, Place, give_words, lay_words};
@@ -103,11 +104,7 @@ impl<T, R: Rule<T>> Blocks<T, R> {
         ensures errand { seat.new.away ≡ seat.old.away }
         ensures goes { R.then seat.old.view (Load at) (Found result) seat.new.view }
     {
-        let reached = self.place_of(seat, at);
-        let address = reached.address;
-        self.words
-            .by(&reached.strip)
-            .load(seat, &at, address, reached.place)
+        self.access(seat, at, Loads)
     }
 
     /// Writes the word of a name.
@@ -119,11 +116,7 @@ impl<T, R: Rule<T>> Blocks<T, R> {
         ensures errand { seat.new.away ≡ seat.old.away }
         ensures goes { R.then seat.old.view (Store at word) Stored seat.new.view }
     {
-        let reached = self.place_of(seat, at);
-        let address = reached.address;
-        self.words
-            .by(&reached.strip)
-            .store(seat, &at, address, reached.place, word)
+        self.access(seat, at, Stores(word))
     }
 
     /// Writes the word of a name, and answers the one before.
@@ -135,11 +128,7 @@ impl<T, R: Rule<T>> Blocks<T, R> {
         ensures errand { seat.new.away ≡ seat.old.away }
         ensures goes { R.then seat.old.view (Swap at word) (Found result) seat.new.view }
     {
-        let reached = self.place_of(seat, at);
-        let address = reached.address;
-        self.words
-            .by(&reached.strip)
-            .swap(seat, &at, address, reached.place, word)
+        self.access(seat, at, Swaps(word))
     }
 
     /// Adds to the word of a name, round at 2^64, and answers the one before.
@@ -151,11 +140,7 @@ impl<T, R: Rule<T>> Blocks<T, R> {
         ensures errand { seat.new.away ≡ seat.old.away }
         ensures goes { R.then seat.old.view (Add at by) (Found result) seat.new.view }
     {
-        let reached = self.place_of(seat, at);
-        let address = reached.address;
-        self.words
-            .by(&reached.strip)
-            .add(seat, &at, address, reached.place, by)
+        self.access(seat, at, Adds(by))
     }
 
     /// Sets bits of the word of a name, and answers the one before.
@@ -167,11 +152,7 @@ impl<T, R: Rule<T>> Blocks<T, R> {
         ensures errand { seat.new.away ≡ seat.old.away }
         ensures goes { R.then seat.old.view (Or at bits) (Found result) seat.new.view }
     {
-        let reached = self.place_of(seat, at);
-        let address = reached.address;
-        self.words
-            .by(&reached.strip)
-            .or(seat, &at, address, reached.place, bits)
+        self.access(seat, at, Sets(bits))
     }
 
     /// Writes a new word where the old one, the whole word, is found, and answers the word found: `Ok` where it was written.
@@ -183,11 +164,7 @@ impl<T, R: Rule<T>> Blocks<T, R> {
         ensures errand { seat.new.away ≡ seat.old.away }
         ensures goes { R.then seat.old.view (Exchange at old new) (Exchanged result) seat.new.view }
     {
-        let reached = self.place_of(seat, at);
-        let address = reached.address;
-        self.words
-            .by(&reached.strip)
-            .exchange(seat, &at, address, reached.place, old, new)
+        self.access(seat, at, Exchanges { old, new })
     }
 
     /// Where somebody who has this slot begins to look for numbers, so that those of different slots are apart.

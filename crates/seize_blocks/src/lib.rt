@@ -1,6 +1,7 @@
 //! A memory that threads share, under any rule. Each operation on a word is one atomic step, which owes that the rule holds again.
 #![tactic(auto)]
 
+mod access;
 mod alone;
 mod blocks;
 mod errand;

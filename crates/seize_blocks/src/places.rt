@@ -3,12 +3,14 @@ ghost use Rattle.std.specs.Prelude.{◌≡◌, ℕ, ◌+◌, ◌-◌, ◌*◌, �
 ghost use denote.RawPtr.{Ptr, InBlock};
 ghost use Rattle.seize_seats.specs.Lines.{long};
 ghost use Rattle.seize_seats.specs.Owned.{core_of};
+ghost use Rattle.seize_seats.specs.State.{Allows};
 ghost use Rattle.seize_seats.specs.Lendings.{Shown, ShownToBoth};
 ghost use Rattle.seize_atoms.specs.Visiting.{HoldsHere};
-ghost use Rattle.seize_words.specs.declared.at.At.TheVariants.{Word};
+ghost use Rattle.seize_words.specs.declared.at.At.TheVariants.{Slot, Word};
 ghost use Rattle.seize_plots.specs.Pieces.{lies};
 ghost use Rattle.seize_atoms.specs.Placed.{IsItsPlace, IsItsIndex, IsBehind, HasWord};
 
+use crate::access::Access;
 use crate::blocks::{Blocks, MOST};
 use crate::part::{Reached, Spot, places_in, words_in};
 use seize_atoms::{Rule, Seat};
@@ -16,6 +18,66 @@ use seize_plots::{Beside, Kept, skip_of};
 use seize_words::At;
 
 impl<T, R: Rule<T>> Blocks<T, R> {
+    /// Makes an operation on the word of a name.
+    #[inline(always)]
+    pub(crate) fn access<A: Access<T, R>>(
+        &self,
+        seat: &mut Seat<T, R>,
+        at: At,
+        access: A,
+    ) -> A::Answer
+        requires own { seat.old.base ≡ self.now.words.id.views_name }
+        requires may { Allows (R.holds self.now.words.fixed) R.keeps seat.old.id seat.old.view (A.op access at) (R.then seat.old.view (A.op access at)) }
+        ensures same { (seat.new.base ≡ seat.old.base) × (seat.new.id ≡ seat.old.id) }
+        ensures errand { seat.new.away ≡ seat.old.away }
+        ensures goes { R.then seat.old.view (A.op access at) (A.out result) seat.new.view }
+    {
+        match at {
+            At::Slot(slot, field) if slot >= 32 => self.access_far(seat, slot, field, access),
+            _ => self.access_there(seat, at, access),
+        }
+    }
+
+    /// The same, on a word of a slot behind the first bucket. It is a call of its own, so that an operation on any other word has nothing to save before it.
+    #[cold]
+    #[inline(never)]
+    fn access_far<A: Access<T, R>>(
+        &self,
+        seat: &mut Seat<T, R>,
+        slot: u64,
+        field: u64,
+        access: A,
+    ) -> A::Answer
+        requires own { seat.old.base ≡ self.now.words.id.views_name }
+        requires may { Allows (R.holds self.now.words.fixed) R.keeps seat.old.id seat.old.view (A.op access (Slot slot field))
+            (R.then seat.old.view (A.op access (Slot slot field))) }
+        ensures same { (seat.new.base ≡ seat.old.base) × (seat.new.id ≡ seat.old.id) }
+        ensures errand { seat.new.away ≡ seat.old.away }
+        ensures goes { R.then seat.old.view (A.op access (Slot slot field)) (A.out result) seat.new.view }
+    {
+        self.access_there(seat, At::Slot(slot, field), access)
+    }
+
+    /// The same, on any word, where it is called.
+    #[inline(always)]
+    fn access_there<A: Access<T, R>>(&self, seat: &mut Seat<T, R>, at: At, access: A) -> A::Answer
+        requires own { seat.old.base ≡ self.now.words.id.views_name }
+        requires may { Allows (R.holds self.now.words.fixed) R.keeps seat.old.id seat.old.view (A.op access at) (R.then seat.old.view (A.op access at)) }
+        ensures same { (seat.new.base ≡ seat.old.base) × (seat.new.id ≡ seat.old.id) }
+        ensures errand { seat.new.away ≡ seat.old.away }
+        ensures goes { R.then seat.old.view (A.op access at) (A.out result) seat.new.view }
+    {
+        let reached = self.place_of(seat, at);
+        let address = reached.address;
+        access.made(
+            self.words.by(&reached.strip),
+            seat,
+            &at,
+            address,
+            reached.place,
+        )
+    }
+
     /// From where an operation on the word of a name is made: by which strip, from which address, and how many words on. Whatever the state is, if the seat
     /// has this view then there is such a word, whose place is known then.
     #[inline(always)]

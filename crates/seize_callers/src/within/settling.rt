@@ -1,6 +1,7 @@
 //! A caller's seat on an errand as the memory of the rows that it has under way: it retires blocks, and leaves.
 ghost use Rattle.std.specs.Prelude.{◌≡◌, ◌≢◌, ◌<◌, ◌^◌, ℕ, true, false};
 ghost use Rattle.seize.specs.declared.rows.settle.Settling.TheVariants.{Over};
+ghost use Rattle.seize.specs.declared.states.TheConstants.{ACTIVE};
 ghost use Rattle.seize.specs.Settle.{retiring};
 ghost use Rattle.seize_views.specs.Begun.{IsBegun, left_with};
 ghost use Rattle.seize_callers.specs.Kept.{kept};
@@ -122,6 +123,24 @@ impl<'a, T: Defers + Drop, C: Content<T>> Within<'a, T, C> {
         if head <= ACTIVE {
             return;
         }
+        self.counts_entries(slot, head);
+    }
+
+    /// The same, of a list that has entries. It is a call of its own, so that a section which finds none has nothing to save.
+    #[cold]
+    #[inline(never)]
+    fn counts_entries(&mut self, slot: u64, head: u64)
+        requires some { ACTIVE < head }
+        requires taken { (way : Becomes) × (left : ℕ)
+            × ((C.notes self.old.seat.now.view).knows ≡ list_taken slot self.old.blocks.now.words.fixed.batch_size way head left) }
+        ensures left { (way : Becomes) (left : ℕ)
+            → (C.notes self.old.seat.now.view).knows ≡ list_taken slot self.old.blocks.now.words.fixed.batch_size way head left
+            → (C.notes self.new.seat.now.view).knows ≡ Left slot self.old.blocks.now.words.fixed.batch_size way }
+        ensures notes { SameNotes (C.notes self.old.seat.now.view) (C.notes self.new.seat.now.view) }
+        ensures same { kept self.new.blocks self.new.seat.ghost_name self.new.seat.now.id self.new.seat.now.away
+            ≡ kept self.old.blocks self.old.seat.ghost_name self.old.seat.now.id self.old.seat.now.away }
+        ensures beside { C.beside self.new.seat.now.view ≡ C.beside self.old.seat.now.view }
+    {
         C::goes_on();
         let mut row = Settle::count_down(slot, self.batch_size, head);
         self.settles(&mut row);

@@ -1,7 +1,6 @@
-use Rattle.std.specs.Prelude.{◌<◌, None}
-use Rattle.std.proofs.Common.{◌≡◌, ℕ, refl, ap, sym, ◌∙◌, arith}
+use Rattle.std.specs.Prelude.{None}
+use Rattle.std.proofs.Common.{◌≡◌, ℕ, refl, ap, sym, ◌∙◌}
 use Rattle.seize.specs.declared.rows.settle.Settle.{Settle}
-use Rattle.seize.specs.declared.states.TheConstants.{ACTIVE}
 use Rattle.seize.specs.Settle.{counting_down}
 use Rattle.seize_views.specs.Begun.{ended}
 use Rattle.seize_views.specs.Notes.{still, noted}
@@ -12,9 +11,9 @@ use Rattle.seize_views.specs.declared.view.View.TheVariants.{Settles, Left}
 use Rattle.seize_views.specs.declared.view.Why.TheVariants.{Ending}
 use Rattle.seize_callers.specs.Made.{IsSettling, task_of}
 use Rattle.seize_callers.proofs.Turns.{may_turn, row_told}
-use Rattle.seize_callers.proofs.within.Within.counts_down.Given as given
-use Rattle.seize_callers.proofs.within.Within.counts_down.Goals as goal
-use Rattle.seize_callers.proofs.within.Within.counts_down.Goals.{After-count_down-row}
+use Rattle.seize_callers.proofs.within.Within.counts_entries.Given as given
+use Rattle.seize_callers.proofs.within.Within.counts_entries.Goals as goal
+use Rattle.seize_callers.proofs.within.Within.counts_entries.Goals.{After-count_down-row}
 
 row_is : (g : given.Over) (c : After-count_down-row g)
     → c.count_down-row.result ≡ counting_down c.args.slot c.args.self.now.blocks.now.words.fixed.batch_size c.args.head
@@ -28,13 +27,12 @@ begins : (g : given.Over) (c : After-count_down-row g) (way : Becomes) (left : �
     (task_of (Ending c.args.self.now.blocks.now.words.fixed.batch_size way) (g.C.Content.notes c.args.self.now.seat.now.view)) c.count_down-row.result
     (g.C.Content.notes c.args.self.now.seat.now.view)
 begins g c way left is =
-    let x = c.args.self.now in let v = g.C.Content.notes x.seat.now.view in
-    let lt : ACTIVE < c.args.head = (let k = c.if-head-le-ACTIVE.false in grind (arith, k)) in (
+    let x = c.args.self.now in let v = g.C.Content.notes x.seat.now.view in (
       None,
       left,
       ap (λ k. noted k v.did v.began v.guards)
           (row_told g.T.Defers.defers v.knows v.knows c.args.slot x.blocks.now.words.fixed.batch_size way c.args.head left c.count_down-row.result
-          is lt (row_is g c)),
+          is c.requires.some (row_is g c)),
     )
 
 pub settles-requires : goal.settles-requires
