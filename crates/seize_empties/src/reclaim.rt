@@ -3,6 +3,7 @@ ghost use Rattle.std.specs.Prelude.{◌≡◌, ◌<◌, ◌^◌};
 ghost use Rattle.seize.specs.declared.rows.reclaim_all.Reclaiming.TheVariants.{Over};
 ghost use Rattle.seize.specs.declared.rows.reclaim_all.ReclaimAll.{ReclaimAll};
 ghost use Rattle.seize.specs.declared.rows.register.Registering.TheVariants.{Begin};
+ghost use Rattle.seize_seats.specs.Owned.{IsLike};
 ghost use Rattle.seize_views.specs.Begun.{seeker_at};
 ghost use Rattle.seize_renews.specs.declared.alone.Alone.TheVariants.{Registers};
 ghost use Rattle.seize_renews.specs.Emptied.{IsEmptied};
@@ -49,6 +50,7 @@ fn emptied<T: Defers + LeftOver + Drop>(
 ) -> (Home<T, OfRows>, ())
     requires { home.blocks.words.fixed ≡ fixed.now }
     ensures fixed { result.0.blocks.words.fixed ≡ fixed.now }
+    ensures same { (result.0.blocks.words.words ≡ home.blocks.words.words) × IsLike result.0.blocks.words.id home.blocks.words.id }
     ensures empty { IsEmptied T.defers fixed.now result.0.blocks.words.start }
 {
     one_acts_alone::<T>();
@@ -58,11 +60,12 @@ fn emptied<T: Defers + LeftOver + Drop>(
 }
 
 /// Reclaims everything that waits: nobody else has the memory meanwhile. A slot that somebody has forgotten leaves, each batch is flushed, and then every slot is free.
-/// Values that are reclaimed are dropped. What stands at roots stays there. What is chosen is what was chosen as the memory was opened. The memory begins another
-/// lifetime: until it is lent again nothing waits in it.
+/// Values that are reclaimed are dropped. What stands at roots stays there. What is chosen is what was chosen as the memory was opened. The same memory begins
+/// another lifetime: until it is lent again nothing waits in it.
 pub fn reclaim_all<T: Defers + LeftOver + Drop>(home: &mut Home<T, OfRows>, fixed: &Fixed)
     requires { home.old.blocks.words.fixed ≡ fixed.now }
     ensures fixed { home.new.blocks.words.fixed ≡ fixed.now }
+    ensures same { (home.new.blocks.words.words ≡ home.old.blocks.words.words) × IsLike home.new.blocks.words.id home.old.blocks.words.id }
     ensures empty { IsEmptied T.defers fixed.now home.new.blocks.words.start }
 {
     replace_with(home, fixed, emptied::<T>)
