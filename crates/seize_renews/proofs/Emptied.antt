@@ -23,7 +23,7 @@ free_head (suc (suc n)) l = absurd (omega (arith, l))
 
 module _ {T : Type 0} (defers : T → Option ℕ) where
   are_free : (fixed : Fixed) (w : World T) → Came defers fixed w → IsQuiet w → AreFree w.memory
-  are_free fixed w came quiet = record { head = head; batch = quiet.none }
+  are_free fixed w came quiet = record { head = head; batch = λ s word le is. quiet.none s le word is }
     where
       head : (s word : ℕ) → word_at w.memory (Slot s HEAD) ≡ Some word → (word ≡ NEVER) ⊎ (word ≡ FREE)
       head s word is =
