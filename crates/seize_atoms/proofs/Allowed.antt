@@ -1,13 +1,14 @@
 -- What a rule allows a seat it may do where seats visit blocks and go on errands.
 use Rattle.std.specs.Prelude.{◌≡◌, ℕ, zero, suc, List, [], ◌∷◌, Some, None, IsSome, slice_get}
-use Rattle.std.proofs.Common.{sym, ap, subst}
+use Rattle.std.proofs.Common.{refl, sym, ap, subst}
 use Rattle.seize_words.specs.Mem.{value_at, word_at}
 use Rattle.seize_words.specs.declared.at.At.TheVariants.{Slot}
 use Rattle.seize_words.specs.Op.{Op, Out, Make, Take, Rewrite}
 use Rattle.seize_seats.specs.State.{State, view_of, Allows, Owns, Turns, Starts, Comes, Meets}
 use Rattle.seize_seats.specs.State as State
 use Rattle.seize_seats.specs.Lendings.{Shown, ShownToBoth, IsValueOf, IsValueOfBoth}
-use Rattle.seize_seats.specs.Visits.{Spot, Visit, plain, plain_op, plain_out, HoldsKept, keeps_kept, then_kept}
+use Rattle.seize_seats.specs.Start.{WasIdle, WasKnown}
+use Rattle.seize_seats.specs.Visits.{Spot, Visit, plain, plain_memory, plain_op, plain_out, HoldsKept, keeps_kept, then_kept}
 use Rattle.seize_seats.specs.Errands.{Away, inward, RenewsBack, RenewsIdle, RenewsTo, RenewsFrom, AreAllBack, AreIdle, then_away, MayGo, MayGoAll, MayMeet}
 use Rattle.seize_seats.proofs.Plain.{IsOnWord}
 use Rattle.seize_seats.proofs.Visits as Visits
@@ -136,6 +137,16 @@ module _ {T V W : Type 0} (rests : V → Type 0) (holds : State T V W → Type 0
         → slice_get s.views id ≡ Some ((v, y), e) → (w : W') × Then record { memory = s.memory; views = []; world = w }
     ends_alone id v y e law = Errands.ends_alone rest Visited Keeps rest' Later id (v, y) e
         (λ s h at idle. (let r = law (plain value_of s) h.0 (Visits.view_plain value_of lies holds keeps s id (v, y) at) (plain_idle s idle) in (r.0, (r.1, λ i u b p is. absurd (cc is)))))
+
+  -- what was so of the memory as a renewal found it
+  pub was_idle : (s : St) → Hold s → AreAllBack (λ (u : Seen V). u.1) s.views → WasIdle rests holds (plain_memory value_of s.memory)
+  was_idle s h home = (plain value_of (inward s), h.0.0, plain_idle (inward s) (Errands.idle rest Visited Keeps s h home), refl)
+
+  pub was_known : (id : ℕ) (v : V) (y : Visit) (e : Away) (s : St) → Hold s → AreAllBack (λ (u : Seen V). u.1) s.views
+      → slice_get s.views id ≡ Some ((v, y), e) → WasKnown rests holds id v (plain_memory value_of s.memory)
+  was_known id v y e s h home at =
+      let known = Visits.view_plain value_of lies holds keeps (inward s) id (v, y) (Errands.inward_view rest Visited Keeps s id ((v, y), e) at) in
+      (plain value_of (inward s), h.0.0, known, plain_idle (inward s) (Errands.idle rest Visited Keeps s h home), refl)
 
   pub shown_here : (i : ℕ) (v : V) (y : Visit) (e : Away) (j : ℕ) (u : V) (x : Visit) (f : Away) (b : ℕ) → ShownToBoth holds i v j u b
       → ShownToBoth Hold i ((v, y), e) j ((u, x), f) b

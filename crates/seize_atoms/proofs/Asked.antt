@@ -7,7 +7,7 @@ use base.Fml.{Share, Fml, ftrue}
 use types.Logic.{Logic, sem}
 use types.Kit.{‵, ◌$◌, ◌∵◌, !, qed, drop, fsplit, fjoin, fpick, fpack, done}
 use denote.RattleType.{RattleType}
-use denote.RawPtr.{Ptr, null_ptr, block_ptr, InBlock, Testable, block_of, count_of}
+use denote.RawPtr.{Ptr, null_ptr, block_ptr, InBlock, Testable, count_of}
 use denote.Steps.{nothing}
 use Rattle.seize_words.specs.Op.{Out, Room, Roomed}
 use Rattle.seize_words.specs.declared.fault.Fault.TheVariants.{Memory}

@@ -1,6 +1,7 @@
 //! Who has the memory to himself, and errands, in the midst of which nobody has.
 ghost use Rattle.std.specs.Prelude.{◌≡◌, ◌≢◌, List, [], ◌∷◌, None};
 ghost use Rattle.seize_seats.specs.Errands.{RenewsIdle, RenewsTo, RenewsFrom};
+ghost use Rattle.seize_seats.specs.Start.{WasIdle, WasKnown};
 ghost use Rattle.seize_seats.specs.Owned.{IsLike};
 
 use crate::rule::Rule;
@@ -33,7 +34,8 @@ impl<T, R: Rule<T>> Words<T, R> {
     pub fn alone<S: Rule<T>>(self, fixed: &S::Fixed) -> (Words<T, S>, Seat<T, S>)
         requires { RenewsTo R.rests (R.holds self.fixed) (S.holds fixed.now) (S.newcomer fixed.now ∷ []) }
         ensures { (result.0.words ≡ self.words) × (result.0.fixed ≡ fixed.now) × IsLike result.0.id self.id
-            × (result.1.base ≡ result.0.id.views_name) × (result.1.id ≡ 0) × (result.1.view ≡ S.newcomer fixed.now) × (result.1.away ≡ None) }
+            × (result.1.base ≡ result.0.id.views_name) × (result.1.id ≡ 0) × (result.1.view ≡ S.newcomer fixed.now) × (result.1.away ≡ None)
+            × WasIdle R.rests (R.holds self.fixed) result.0.start }
     {
         let Words { words, marker: _ } = self;
         (
@@ -50,7 +52,8 @@ impl<T, R: Rule<T>> Words<T, R> {
     /// All seats end, where it is known what this one knows, and the memory is under another rule from then on, with no seat.
     pub fn used<S: Rule<T>>(self, seat: &mut Seat<T, R>, fixed: &S::Fixed) -> Words<T, S>
         requires { (seat.old.base ≡ self.id.views_name) × RenewsFrom R.rests (R.holds self.fixed) (S.holds fixed.now) seat.old.id seat.old.view }
-        ensures { (result.words ≡ self.words) × (result.fixed ≡ fixed.now) × IsLike result.id self.id }
+        ensures { (result.words ≡ self.words) × (result.fixed ≡ fixed.now) × IsLike result.id self.id
+            × WasKnown R.rests (R.holds self.fixed) seat.old.id seat.old.view result.start }
     {
         let Words { words, marker: _ } = self;
         Words {
@@ -62,6 +65,7 @@ impl<T, R: Rule<T>> Words<T, R> {
     /// All seats end.
     pub fn renew(&mut self)
         requires { RenewsIdle R.rests (R.holds self.old.fixed) }
-        ensures { (self.new.words ≡ self.old.words) × (self.new.fixed ≡ self.old.fixed) × IsLike self.new.id self.old.id }
+        ensures { (self.new.words ≡ self.old.words) × (self.new.fixed ≡ self.old.fixed) × IsLike self.new.id self.old.id
+            × WasIdle R.rests (R.holds self.old.fixed) self.new.start }
     {}
 }

@@ -8,6 +8,8 @@ ghost use Rattle.seize_seats.specs.State.{Allows, Owns, Turns, Comes, Meets, Sta
 ghost use Rattle.seize_seats.specs.Lines.{whole};
 ghost use Rattle.seize_seats.specs.Doors.{before, block_bytes, words_from, IsFurther, AreBehind};
 ghost use Rattle.seize_seats.specs.Lendings.{Shown, ShownToBoth, IsValueOf, IsValueOfBoth};
+ghost use Rattle.seize_words.specs.Mem.{Mem};
+ghost use Rattle.seize_seats.specs.Start.{memory_coded, bare};
 ghost use Rattle.seize_seats.specs.Owned.{BaseId, base_id_coded, core_of, stride, IsFirst, words_own, words_share};
 ghost use Rattle.seize_seats.specs.Visits.{Spot};
 ghost use Rattle.seize_seats.specs.Errands.{MayGo, MayMeet};
@@ -30,12 +32,13 @@ use std::ptr::null_mut;
 use std::sync::atomic::Ordering::SeqCst;
 use std::sync::atomic::raw;
 
-/// Words, and places for values, by one strip of the numbers of a memory.
+/// Words, and places for values, by one strip of the numbers of a memory. `start` is what the memory was as its present lifetime began.
 pub struct Words<T, R: Rule<T>> {
     pub words: *mut u64,
     pub(crate) marker: PhantomData<(T, R)>,
     pub ghost id: { BaseId } by { base_id_coded },
     pub ghost fixed: { R.Fixed } by { R.Fixed.code },
+    pub ghost start: { Mem T } by { memory_coded T.code },
 }
 
 impl<T, R: Rule<T>> Model for Words<T, R> {
@@ -62,7 +65,7 @@ impl<T, R: Rule<T>> Words<T, R> {
             × Filled doors.filled 0 (length doors.items) }
         ensures { (result.0.words ≡ row.at) × (result.0.id.roots ≡ _roots) × (result.0.id.count ≡ _most) × (result.0.id.values ≡ values.at)
             × (result.0.id.size ≡ _count) × (result.0.id.least ≡ _count) × (result.0.id.doors ≡ doors.at) × IsFirst row.at result.0.id
-            × (result.0.fixed ≡ fixed.now) × (result.1.at ≡ values.at) × (result.2.at ≡ doors.at) }
+            × (result.0.fixed ≡ fixed.now) × (result.1.at ≡ values.at) × (result.2.at ≡ doors.at) × (result.0.start ≡ bare _roots) }
     {
         let Row { at } = row;
         let Row { at: places } = values;

@@ -1,6 +1,7 @@
 //! A memory that one seat has to itself, under a rule of its own, and that goes back under the rule of all.
 ghost use Rattle.std.specs.Prelude.{◌≡◌, List, [], ◌∷◌, None};
 ghost use Rattle.seize_seats.specs.Errands.{RenewsTo, RenewsFrom};
+ghost use Rattle.seize_seats.specs.Start.{WasIdle, WasKnown};
 ghost use Rattle.seize_seats.specs.Owned.{IsLike};
 
 use crate::blocks::Blocks;
@@ -12,6 +13,7 @@ impl<T, R: Rule<T>> Blocks<T, R> {
         requires { RenewsTo R.rests (R.holds self.words.fixed) (S.holds fixed.now) (S.newcomer fixed.now ∷ []) }
         ensures fixed { result.0.words.fixed ≡ fixed.now }
         ensures comes { (result.1.base ≡ result.0.words.id.views_name) × (result.1.view ≡ S.newcomer fixed.now) × (result.1.away ≡ None) }
+        ensures start { WasIdle R.rests (R.holds self.words.fixed) result.0.words.start }
         ensures same { (result.0.words.words ≡ self.words.words) × IsLike result.0.words.id self.words.id × (result.0.values.at ≡ self.values.at)
             × (result.0.doors.at ≡ self.doors.at) }
     {
@@ -41,6 +43,7 @@ impl<T, R: Rule<T>> Blocks<T, R> {
     pub(crate) fn used<S: Rule<T>>(self, seat: Seat<T, R>, fixed: &S::Fixed) -> Blocks<T, S>
         requires { (seat.base ≡ self.words.id.views_name) × RenewsFrom R.rests (R.holds self.words.fixed) (S.holds fixed.now) seat.id seat.view }
         ensures fixed { result.words.fixed ≡ fixed.now }
+        ensures start { WasKnown R.rests (R.holds self.words.fixed) seat.id seat.view result.words.start }
         ensures same { (result.words.words ≡ self.words.words) × IsLike result.words.id self.words.id × (result.values.at ≡ self.values.at)
             × (result.doors.at ≡ self.doors.at) }
     {

@@ -3,6 +3,7 @@ ghost use Rattle.std.specs.Prelude.{◌≡◌, None, ◌≤◌, ◌<◌, ◌^◌
 ghost use Rattle.seize_words.specs.Op.{Load, Store, Swap, Add, Or, Exchange, Make, Take, Rewrite, Found, Stored, Exchanged, Made, Taken};
 ghost use Rattle.seize_seats.specs.State.{Allows, Owns, Turns, Comes, Meets};
 ghost use Rattle.seize_seats.specs.Errands.{MayGo, MayMeet, RenewsIdle};
+ghost use Rattle.seize_seats.specs.Start.{WasIdle};
 ghost use Rattle.seize_seats.specs.Owned.{IsFirst};
 ghost use Rattle.seize_seats.specs.Lendings.{Shown, ShownToBoth, IsValueOf, IsValueOfBoth};
 
@@ -91,6 +92,7 @@ impl<T, R: Rule<T>> Blocks<T, R> {
         ensures names { (self.new.words.id.roots ≡ self.old.words.id.roots) × (self.new.words.id.count ≡ self.old.words.id.count)
             × (self.new.words.id.values ≡ self.old.words.id.values) × (self.new.words.id.doors ≡ self.old.words.id.doors)
             × (self.new.words.id.size ≡ self.old.words.id.size) }
+        ensures start { WasIdle R.rests (R.holds self.old.words.fixed) self.new.words.start }
     {
         self.words.renew()
     }

@@ -2,8 +2,10 @@
 ghost use Rattle.std.specs.Prelude.{◌≡◌, ◌≤◌, ◌^◌, List, [], ◌∷◌, None, IfOk};
 ghost use Rattle.core.specs.Mem.Slots.{lease_ptr, lease_len};
 ghost use Rattle.seize_seats.specs.Errands.{RenewsTo, RenewsFrom};
+ghost use Rattle.seize_seats.specs.Start.{WasIdle, WasKnown};
 ghost use Rattle.seize_seats.specs.State.{Starts};
 ghost use Rattle.seize_seats.specs.Lines.{whole};
+ghost use Rattle.seize_seats.specs.Owned.{IsLike};
 
 use crate::blocks::{Blocks, MOST};
 use seize_atoms::{Rule, Seat, Words};
@@ -76,6 +78,8 @@ impl<T: Drop, R: Rule<T>> Home<T, R> {
         requires ends { RenewsTo R.rests (R.holds self.blocks.words.fixed) (S.holds fixed.now) (S.newcomer fixed.now ∷ []) }
         ensures fixed { result.0.blocks.words.fixed ≡ fixed.now }
         ensures comes { (result.1.base ≡ result.0.blocks.words.id.views_name) × (result.1.view ≡ S.newcomer fixed.now) × (result.1.away ≡ None) }
+        ensures start { WasIdle R.rests (R.holds self.blocks.words.fixed) result.0.blocks.words.start }
+        ensures same { (result.0.blocks.words.words ≡ self.blocks.words.words) × IsLike result.0.blocks.words.id self.blocks.words.id }
     {
         let Home {
             blocks,
@@ -99,7 +103,9 @@ impl<T: Drop, R: Rule<T>> Home<T, R> {
     pub fn used<S: Rule<T>>(self, seat: Seat<T, R>, fixed: &S::Fixed) -> Home<T, S>
         requires own { seat.base ≡ self.blocks.words.id.views_name }
         requires ends { RenewsFrom R.rests (R.holds self.blocks.words.fixed) (S.holds fixed.now) seat.id seat.view }
-        ensures { result.blocks.words.fixed ≡ fixed.now }
+        ensures fixed { result.blocks.words.fixed ≡ fixed.now }
+        ensures start { WasKnown R.rests (R.holds self.blocks.words.fixed) seat.id seat.view result.blocks.words.start }
+        ensures same { (result.blocks.words.words ≡ self.blocks.words.words) × IsLike result.blocks.words.id self.blocks.words.id }
     {
         let Home {
             blocks,

@@ -8,7 +8,8 @@ use Rattle.seize.specs.declared.rows.register.Register.{Register}
 use Rattle.seize.specs.declared.rows.register.Registering.TheVariants as at
 use Rattle.seize.specs.Register.{further, taking, can_be_taken, bucket_needed}
 use Rattle.seize_views.specs.Told.{left_by, told}
-use Rattle.seize_callers.specs.Seeking.{row_at, seeks}
+use Rattle.seize_views.specs.Begun.{seeker_at}
+use Rattle.seize_callers.specs.Seeking.{seeks}
 use Rattle.seize_views.specs.declared.view.View.{View}
 use Rattle.seize_views.specs.declared.view.View.TheVariants.{Registers}
 
@@ -18,7 +19,7 @@ free_head seen (inl e) = subst (λ (k : ℕ). can_be_taken k ≡ true) (sym e.1)
 free_head seen (inr e) = subst (λ (k : ℕ). can_be_taken k ≡ true) (sym e) refl
 
 -- a slot that is looked at is one
-pub seeks_here : {T : Type 0} (slot : ℕ) → slot < LAST_SLOT + 1 → seeks {T = T} slot ≡ Registers (row_at slot at.Look)
+pub seeks_here : {T : Type 0} (slot : ℕ) → slot < LAST_SLOT + 1 → seeks {T = T} slot ≡ Registers (seeker_at slot at.Look)
 seeks_here slot lt = rw (let k : nat_lt slot (LAST_SLOT + 1) ≡ true = grind (arith, lt) in k) refl
 
 module _ (T : Type 0) (defers : T → Option ℕ) (v w : View T) where
@@ -26,12 +27,12 @@ module _ (T : Type 0) (defers : T → Option ℕ) (v w : View T) where
   known c op out is told_so = subst (λ (x : View T). told defers x op out w) is told_so
 
   module _ (slot seen : ℕ) where
-    after_look : (b : Bool) → can_be_taken seen ≡ b → v ≡ Registers (row_at slot at.Look) → told defers v (Load (Slot slot HEAD)) (Found seen) w
-        → w ≡ left_by (if b then taking (row_at slot at.Look) seen (bucket_needed slot) else further (row_at slot at.Look))
+    after_look : (b : Bool) → can_be_taken seen ≡ b → v ≡ Registers (seeker_at slot at.Look) → told defers v (Load (Slot slot HEAD)) (Found seen) w
+        → w ≡ left_by (if b then taking (seeker_at slot at.Look) seen (bucket_needed slot) else further (seeker_at slot at.Look))
     after_look b free is so =
-        let c : Register = row_at slot at.Look in let k = known c (Load (Slot slot HEAD)) (Found seen) is so in
+        let c : Register = seeker_at slot at.Look in let k = known c (Load (Slot slot HEAD)) (Found seen) is so in
         k.2 ∙ ap left_by k.1.3 ∙ ap (λ (t : Bool). left_by (if t then taking c seen (bucket_needed slot) else further c)) free
 
-    pub seen_free : (bucket : Option ℕ) → bucket ≡ bucket_needed slot → can_be_taken seen ≡ true → v ≡ Registers (row_at slot at.Look)
-        → told defers v (Load (Slot slot HEAD)) (Found seen) w → w ≡ left_by (taking (row_at slot at.Look) seen bucket)
-    seen_free bucket needs free is so = after_look true free is so ∙ ap (λ (o : Option ℕ). left_by (taking (row_at slot at.Look) seen o)) (sym needs)
+    pub seen_free : (bucket : Option ℕ) → bucket ≡ bucket_needed slot → can_be_taken seen ≡ true → v ≡ Registers (seeker_at slot at.Look)
+        → told defers v (Load (Slot slot HEAD)) (Found seen) w → w ≡ left_by (taking (seeker_at slot at.Look) seen bucket)
+    seen_free bucket needs free is so = after_look true free is so ∙ ap (λ (o : Option ℕ). left_by (taking (seeker_at slot at.Look) seen o)) (sym needs)

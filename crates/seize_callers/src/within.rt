@@ -3,7 +3,8 @@ ghost use Rattle.std.specs.Prelude.{◌≡◌, ◌≢◌, ◌<◌, ◌+◌, None
 ghost use Rattle.seize.specs.declared.states.TheConstants.{LAST_SLOT};
 ghost use Rattle.seize.specs.declared.rows.register.Registering.TheVariants.{Take};
 ghost use Rattle.seize_callers.specs.Kept.{kept};
-ghost use Rattle.seize_callers.specs.Seeking.{row_at, seeks};
+ghost use Rattle.seize_callers.specs.Seeking.{seeks};
+ghost use Rattle.seize_views.specs.Begun.{seeker_at};
 ghost use Rattle.seize_views.specs.declared.view.Began.TheVariants.{Section};
 ghost use Rattle.seize_views.specs.declared.view.View.TheVariants.{Rests, Registers, Outside, Inside};
 ghost use Rattle.seize_views.specs.declared.view.Has.TheVariants.{Nothing};
@@ -62,7 +63,7 @@ impl<'a, T: Defers, C: Content<T>> Within<'a, T, C> {
 
     /// Takes a slot whose head was seen so, if no other caller is faster.
     fn occupy(&mut self, slot: u64, seen: u64) -> bool
-        requires { (C.notes self.old.seat.now.view).knows ≡ Registers (row_at slot (Take seen)) }
+        requires { (C.notes self.old.seat.now.view).knows ≡ Registers (seeker_at slot (Take seen)) }
         ensures taken { result ≡ true → (C.notes self.new.seat.now.view).knows ≡ Outside slot }
         ensures lost { result ≡ false → (C.notes self.new.seat.now.view).knows ≡ seeks (slot + 1) }
         ensures same { kept self.new.blocks self.new.seat.ghost_name self.new.seat.now.id self.new.seat.now.away

@@ -11,7 +11,7 @@ use Rattle.seize.specs.declared.states.TheConstants.{HEAD, NEVER, FREE, IDLE, LA
 use Rattle.seize.specs.declared.rows.register.Register.{Register}
 use Rattle.seize.specs.declared.rows.register.Registering.TheVariants as at
 use Rattle.seize.specs.Register.{further, taking, can_be_taken, bucket_needed, going, refused, registered}
-use Rattle.seize_renews.specs.One.{seeker_at}
+use Rattle.seize_views.specs.Begun.{seeker_at}
 use Rattle.seize_renews.specs.Rule.{told, begun_by, all_of, over_of}
 use Rattle.seize_renews.specs.declared.alone.Alone.{Alone}
 use Rattle.seize_renews.specs.declared.alone.Alone.TheVariants.{Registers, Reclaims}

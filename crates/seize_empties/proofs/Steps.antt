@@ -24,7 +24,8 @@ use Rattle.seize.specs.Settle as settle
 use Rattle.seize.specs.ReclaimAll.{standing, next_head, next_batch, within, head_read, batch_read, root_read, given_back, next_read, reclaim_all_plan, plan_at}
 use Rattle.seize_views.specs.Promises.{op_in}
 use Rattle.seize_views.specs.Told.{FollowsBy, shown_by}
-use Rattle.seize_views.proofs.Looks.{IsNow, LooksOnce, rest_of, once, ends_may, ends_same}
+use Rattle.seize_views.proofs.Looks.{IsNow, LooksOnce, rest_of, once}
+use Rattle.seize_views.proofs.Makes.{IsDo, IsNoRewrite, may_by, was_made}
 use Rattle.seize_renews.specs.One.{op_of_one, one_told, shown_to_one, Passes, OneGoesOn}
 use Rattle.seize_renews.specs.Rule.{ReclaimsOn}
 use Rattle.seize_renews.specs.declared.alone.Alone.{Alone}
@@ -32,11 +33,6 @@ use Rattle.seize_renews.specs.declared.alone.Alone.TheVariants.{Registers, Recla
 use Rattle.seize_empties.specs.Emptying.{IsUnderWay, left_of, settling_over, leaving_over, passes_at}
 use Rattle.seize_empties.specs.Made.{HasAlone, Can, Has, shown_of}
 use Rattle.seize_empties.specs.declared.sole.Sole.{Sole}
-
--- it makes an operation
-abbrev pub IsDo : {T R : Type 0} → Plan T R → Type 0
-IsDo (Turn rest) = ⊥
-IsDo (Do op rest) = Unit {0}
 
 module _ {T A B : Type 0} (f : A → B) where
   do_as : (plan : Plan T A) → IsDo plan → IsDo (plan_as f plan)
@@ -184,11 +180,6 @@ module _ {T : Type 0} (defers : T → Option ℕ) (left_over : T → Bool) where
   once_at c at.Over out = tt
 
 -- ---- it replaces no value
-abbrev IsNoRewrite : {T : Type 0} → Option (Op T) → Type 0
-IsNoRewrite None = Unit {0}
-IsNoRewrite (Some (Rewrite b x)) = ⊥
-IsNoRewrite (Some _) = Unit {0}
-
 none_as : {T A B : Type 0} (f : A → B) (plan : Plan T A) → IsNoRewrite (op_in plan) → IsNoRewrite (op_in (plan_as f plan))
 none_as f (Turn rest) is = tt
 none_as f (Do op rest) is = is
@@ -222,19 +213,6 @@ module _ {T : Type 0} (defers : T → Option ℕ) (left_over : T → Bool) where
   not_rewrite v b x e = subst IsNoRewrite e (one_none v)
 
 -- ---- a step over a memory of which it is known what may be done, and what it told
-module _ {T R M : Type 0} (can : M → Op T → Type 0) (took : M → Op T → Out T → M → Type 0) (shown : M → ℕ → Option T) (m : M) where
-  may_by : (plan : Plan T R) → IsDo plan → ((op : Op T) → op_in plan ≡ Some op → can m op)
-      → ((op : Op T) (out : Out T) (n : M) → op_in plan ≡ Some op → took m op out n → (end : R) × FollowsBy (shown n) plan out end)
-      → ((out : Out T) → LooksOnce (rest_of plan out)) → May can took shown m plan
-  may_by (Turn rest) is may tells looks = absurd is
-  may_by (Do op rest) is may tells looks =
-      (may op refl, λ out n t. let f = tells op out n refl t in ends_may (shown n) (rest out) f.0 (looks out) f.1)
-
-  was_made : (plan : Plan T R) (n : M) (end : R) → IsDo plan → Steps took shown m plan n end
-      → (op : Op T) × (out : Out T) × took m op out n × ((other : R) → FollowsBy (shown n) plan out other → end ≡ other)
-  was_made (Turn rest) n end is st = absurd is
-  was_made (Do op rest) n end is st = (op, st.0, st.1, λ other f. ends_same (shown n) (rest st.0) end other st.2 f)
-
 module _ {T : Type 0} (defers : T → Option ℕ) (left_over : T → Bool) where
   abbrev M : Type 0
   M = Sole T

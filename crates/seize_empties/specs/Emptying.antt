@@ -11,7 +11,7 @@ use Rattle.seize.specs.declared.rows.reclaim_all.ReclaimAll.{ReclaimAll}
 use Rattle.seize.specs.declared.rows.reclaim_all.Reclaiming.{Reclaiming}
 use Rattle.seize.specs.declared.rows.reclaim_all.Reclaiming.TheVariants as at
 use Rattle.seize.specs.declared.rows.register.Registering.TheVariants as register_at
-use Rattle.seize_renews.specs.One.{seeker_at}
+use Rattle.seize_views.specs.Begun.{seeker_at}
 use Rattle.seize_renews.specs.Rule.{all_of}
 use Rattle.seize_renews.specs.declared.alone.Alone.{Alone}
 use Rattle.seize_renews.specs.declared.alone.Alone.TheVariants.{Registers, Reclaims}

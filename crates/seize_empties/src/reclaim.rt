@@ -1,10 +1,12 @@
 //! Everything that waits in a memory is reclaimed.
-ghost use Rattle.std.specs.Prelude.{◌≡◌};
+ghost use Rattle.std.specs.Prelude.{◌≡◌, ◌<◌, ◌^◌};
 ghost use Rattle.seize.specs.declared.rows.reclaim_all.Reclaiming.TheVariants.{Over};
 ghost use Rattle.seize.specs.declared.rows.reclaim_all.ReclaimAll.{ReclaimAll};
 ghost use Rattle.seize.specs.declared.rows.register.Registering.TheVariants.{Begin};
-ghost use Rattle.seize_renews.specs.One.{seeker_at};
+ghost use Rattle.seize_seats.specs.Owned.{IsLike};
+ghost use Rattle.seize_views.specs.Begun.{seeker_at};
 ghost use Rattle.seize_renews.specs.declared.alone.Alone.TheVariants.{Registers};
+ghost use Rattle.seize_renews.specs.Emptied.{IsEmptied};
 ghost use Rattle.seize_empties.specs.Emptying.{IsUnderWay};
 
 use crate::sole::Sole;
@@ -24,6 +26,7 @@ fn acts<T: Defers + LeftOver + Drop>(
     requires sized { blocks.now.words.fixed.batch_size ≡ batch_size }
     requires begins { seat.view ≡ Registers (seeker_at 0 Begin) batch_size }
     ensures own { result.base ≡ blocks.now.words.id.views_name }
+    ensures sized { batch_size < 2 ^ 64 }
     ensures over { (c : ReclaimAll) × (c.stands ≡ Over) × IsUnderWay c result.view }
 {
     let mut sole = Sole {
@@ -46,7 +49,9 @@ fn emptied<T: Defers + LeftOver + Drop>(
     fixed: &Fixed,
 ) -> (Home<T, OfRows>, ())
     requires { home.blocks.words.fixed ≡ fixed.now }
-    ensures { result.0.blocks.words.fixed ≡ fixed.now }
+    ensures fixed { result.0.blocks.words.fixed ≡ fixed.now }
+    ensures same { (result.0.blocks.words.words ≡ home.blocks.words.words) × IsLike result.0.blocks.words.id home.blocks.words.id }
+    ensures empty { IsEmptied T.defers fixed.now result.0.blocks.words.start }
 {
     one_acts_alone::<T>();
     let (home, seat) = home.alone::<OfOne>(fixed);
@@ -55,10 +60,13 @@ fn emptied<T: Defers + LeftOver + Drop>(
 }
 
 /// Reclaims everything that waits: nobody else has the memory meanwhile. A slot that somebody has forgotten leaves, each batch is flushed, and then every slot is free.
-/// Values that are reclaimed are dropped. What stands at roots stays there. What is chosen is what was chosen as the memory was opened.
+/// Values that are reclaimed are dropped. What stands at roots stays there. What is chosen is what was chosen as the memory was opened. The same memory begins
+/// another lifetime: until it is lent again nothing waits in it.
 pub fn reclaim_all<T: Defers + LeftOver + Drop>(home: &mut Home<T, OfRows>, fixed: &Fixed)
     requires { home.old.blocks.words.fixed ≡ fixed.now }
-    ensures { home.new.blocks.words.fixed ≡ fixed.now }
+    ensures fixed { home.new.blocks.words.fixed ≡ fixed.now }
+    ensures same { (home.new.blocks.words.words ≡ home.old.blocks.words.words) × IsLike home.new.blocks.words.id home.old.blocks.words.id }
+    ensures empty { IsEmptied T.defers fixed.now home.new.blocks.words.start }
 {
     replace_with(home, fixed, emptied::<T>)
 }

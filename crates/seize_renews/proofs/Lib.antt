@@ -5,3 +5,4 @@ pub mod Registering
 pub mod Steps
 pub mod Ends
 pub mod One
+pub mod Emptied

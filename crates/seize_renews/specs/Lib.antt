@@ -1,3 +1,4 @@
 pub mod Rule
 pub mod Promises
 pub mod One
+pub mod Emptied

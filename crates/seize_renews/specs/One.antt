@@ -1,11 +1,10 @@
 -- The rule by which one seat acts alone: how the memory that seats have shared comes under it, and goes back.
-use Rattle.std.specs.Prelude.{◌≡◌, ℕ, ◌<◌, ◌^◌, Bool, false, Option, Some, None, [], ◌∷◌}
+use Rattle.std.specs.Prelude.{◌≡◌, ℕ, ◌<◌, ◌^◌, Bool, Option, Some, None, [], ◌∷◌}
+use Rattle.seize_words.specs.Mem.{Mem}
 use Rattle.seize_words.specs.Op.{Op, Out}
 use Rattle.seize_words.specs.Plan.{Turn, Now}
 use Rattle.seize.specs.declared.rows.reclaim_all.ReclaimAll.{ReclaimAll}
 use Rattle.seize.specs.declared.rows.reclaim_all.Reclaiming.TheVariants as at
-use Rattle.seize.specs.declared.rows.register.Register.{Register}
-use Rattle.seize.specs.declared.rows.register.Registering.{Registering}
 use Rattle.seize.specs.declared.rows.register.Registering.TheVariants as register_at
 use Rattle.seize.specs.declared.rows.settle.Settled.{Settled}
 use Rattle.seize.specs.Register.{register_plan}
@@ -13,20 +12,19 @@ use Rattle.seize.specs.ReclaimAll.{reclaim_all_plan}
 use Rattle.seize.specs.World.{World}
 use Rattle.seize_seats.specs.Errands.{RenewsTo, RenewsFrom}
 use Rattle.seize_seats.specs.Lendings.{Shown, IsValueOf}
+use Rattle.seize_seats.specs.Start.{WasKnown}
 use Rattle.seize_seats.specs.State.{State, Allows, Turns}
+use Rattle.seize_views.specs.Begun.{seeker_at}
 use Rattle.seize_views.specs.Notes.{NotedHolds}
 use Rattle.seize_views.specs.Promises.{op_in}
 use Rattle.seize_views.specs.Rows.{IsAtRest}
 use Rattle.seize_views.specs.Told.{shown_by}
 use Rattle.seize_views.specs.declared.view.Fixed.{Fixed}
 use Rattle.seize_views.specs.declared.view.Noted.{Noted}
+use Rattle.seize_renews.specs.Emptied.{IsEmptied}
 use Rattle.seize_renews.specs.Rule.{told, HoldsAlone, KeepsNone}
 use Rattle.seize_renews.specs.declared.alone.Alone.{Alone}
 use Rattle.seize_renews.specs.declared.alone.Alone.TheVariants.{Registers, Reclaims}
-
--- it has come to this slot, which it only takes, and stands here
-abbrev pub seeker_at : ℕ → Registering → Register
-seeker_at slot stands = record { slot = slot; enters = false; stands = stands }
 
 -- who acts begins to take a slot
 abbrev pub one_first : {T : Type 0} → Fixed → Alone T
@@ -88,3 +86,9 @@ module _ {T : Type 0} (defers : T → Option ℕ) (left_over : T → Bool) where
   OneEnds =
       (fixed : Fixed) (id : ℕ) (c : ReclaimAll) (seen : Option (ℕ × T)) (left : ℕ) → c.stands ≡ at.Over
       → RenewsFrom (λ (v : Alone T). Unit {0}) (HoldsOne fixed) (NotedHolds defers fixed) id (Reclaims c seen left)
+
+  -- and so it is as its present lifetime begins: nothing waits in it
+  abbrev pub OneEmpties : Type 0
+  OneEmpties =
+      (fixed : Fixed) (id : ℕ) (c : ReclaimAll) (seen : Option (ℕ × T)) (left : ℕ) (m : Mem T) → fixed.batch_size < 2 ^ 64 → c.stands ≡ at.Over
+      → WasKnown (λ (v : Alone T). Unit {0}) (HoldsOne fixed) id (Reclaims c seen left) m → IsEmptied defers fixed m

@@ -1,5 +1,5 @@
 -- What is promised while one seat acts alone: each of its steps may be taken; and where it is over nothing is left that waits, and the rule of all holds again.
-use Rattle.std.specs.Prelude.{◌≡◌, ℕ, ◌<◌, ◌^◌, Bool, false, Option, Some, None, [], ◌∷◌}
+use Rattle.std.specs.Prelude.{◌≡◌, ℕ, ◌<◌, ◌^◌, Bool, Option, Some, None, [], ◌∷◌}
 use Rattle.seize_words.specs.Op.{Op}
 use Rattle.seize_words.specs.Plan.{Turn, Now}
 use Rattle.seize.specs.declared.rows.register.Register.{Register}
@@ -16,6 +16,7 @@ use Rattle.seize_seats.specs.State.{State, view_of, Allows, Turns}
 use Rattle.seize_acts.specs.Reclaimed.{HasNothingLeft}
 use Rattle.seize_quiet.specs.Slots.{IsQuiet}
 use Rattle.seize_quiet.specs.Promises.{IsOnSlots}
+use Rattle.seize_views.specs.Begun.{seeker_at}
 use Rattle.seize_views.specs.Promises.{op_in}
 use Rattle.seize_views.specs.Rows.{row_of, Holds}
 use Rattle.seize_views.specs.declared.view.View.{View}
@@ -30,7 +31,7 @@ module _ {T : Type 0} (defers : T → Option ℕ) (left_over : T → Bool) where
   AreIdle s = (j : ℕ) (v : View T) → view_of s j ≡ Some v → row_of v ≡ world.Rests
 
   abbrev pub first_of : Fixed → Alone T
-  first_of fixed = Registers record { slot = 0; enters = false; stands = register_at.Begin } fixed.batch_size
+  first_of fixed = Registers (seeker_at 0 register_at.Begin) fixed.batch_size
 
   abbrev pub IdleRenew : Type 0
   IdleRenew =

@@ -151,7 +151,7 @@ module _ {T V W : Type 0} (rests : V → Type 0) (holds : State T V W → Type 0
   pub starts_away : (roots : ℕ) → Starts holds roots → Starts Hold roots
   starts_away roots s = (s.0, (s.1, λ id v e. absurd (cc e)))
 
-  idle : (s : St) → Hold s → AreAllBack (λ (u : V × Away). u.1) s.views → AreIdle rests (inward s)
+  pub idle : (s : St) → Hold s → AreAllBack (λ (u : V × Away). u.1) s.views → AreIdle rests (inward s)
   idle s h back id v at = let u = mapped_at view s.views id v at in let home : u.0.1 ≡ None = back id u.0 u.1 in
       h.1 id v (u.1 ∙ ap (λ (x : V). Some (of x u.0.1)) u.2 ∙ ap (λ (x : Away). Some (of v x)) home)
 

@@ -15,7 +15,7 @@ use denote.RawPtr.{Ptr, block_of, count_of}
 use denote.Shares.{Shares}
 use denote.Steps.{nothing}
 use Rattle.core.specs.contracts.option.Option.{the_row as OptionOf}
-use Rattle.seize_seats.specs.Errands.{Sight, AreAllBack, RenewsBack}
+use Rattle.seize_seats.specs.Errands.{Sight, Away, AreAllBack, RenewsBack}
 use Rattle.seize_seats.specs.State.{State}
 use Rattle.seize_seats.specs.Cells.{Body, Cell, Free, Claimed, Out, Has as Hold, Held}
 use Rattle.seize_seats.specs.Seen.{seen}
@@ -27,6 +27,10 @@ use Rattle.seize_seats.proofs.Sitters as Sitters
 use Rattle.seize_seats.proofs.Stretches as Stretches
 use Rattle.seize_seats.proofs.Pieces as Pieces
 use Rattle.seize_seats.proofs.Opening as Opening
+
+-- the state in which the memory was as it went: the rule held, nobody was on an errand, and this was known of the views
+abbrev pub WasFound : {T V W : Type 0} → (V → Away) → (State T V W → Type 0) → (List V → Type 0) → State T V W → Type 0
+WasFound away holds Knows s = holds s × AreAllBack away s.views × Knows s.views
 
 module _ {M : Type 1} {𝓤 : Ura M} (𝓛 : Logic 𝓤) (R : RattleType) (own : Pieces R.Denot) {V W V' W' : Type 0} (cv : Sight V) (cv' : Sight V') (holds : State R.Denot V W → Type 0) (after : State R.Denot V' W' → Type 0) (p : Ptr) (z : BaseId) where
   open 𝓛 use {H, A}
@@ -152,8 +156,11 @@ module _ {M : Type 1} {𝓤 : Ura M} (𝓛 : Logic 𝓤) (R : RattleType) (own :
   -- K: what shows that the views are such
   module _ (K : Fml) (Knows : List V → Type 0) (shows : (d : V) (vs : List V) → ⟦ sitting α cv z.views_name d vs ⟧ ∗ ⟦ K ⟧
       ⊢ guard 𝓤 (Knows vs) (⟦ sitting α cv z.views_name d vs ⟧ ∗ ⟦ K ⟧)) (who : Option V') (comes : IsHome who) (blank : V → V') where
-    abbrev pub Renewed : BaseId → Pr
-    Renewed y = guard 𝓤 (IsLike y z) (⟦ words_own R own cv' after p y ⟧ ∗ ⟦ seat_of y.views_name who ⟧)
+    abbrev IsGone : BaseId × State R.Denot V W → Type 0
+    IsGone u = IsLike u.0 z × WasFound cv.away holds Knows u.1
+
+    abbrev pub Renewed : BaseId × State R.Denot V W → Pr
+    Renewed u = guard 𝓤 (IsGone u) (⟦ words_own R own cv' after p u.0 ⟧ ∗ ⟦ seat_of u.0.views_name who ⟧)
 
     -- THE MEMORY GOES INTO ANOTHER LIFETIME
     module _ (law : (s : State R.Denot V W) → holds s → AreAllBack cv.away s.views → Knows s.views
@@ -200,8 +207,9 @@ module _ {M : Type 1} {𝓤 : Ura M} (𝓛 : Logic 𝓤) (R : RattleType) (own :
           fjoin ! $
           -- [the memory; dead and the type's token; the seat]
           move ! (1 ∷ []) $ split ! $ leave ! $ move ! (1 ∷ 2 ∷ []) $
-          use2 𝓛 (raw (ex 𝓤 Renewed)) (via 𝓤 (Renewed y) (guard_i 𝓤 (IsLike y z) (⟦ words_own R own cv' after p y ⟧ ∗ ⟦ seat_of y.views_name who ⟧)
-          (refl, refl, refl, refl, refl, refl, refl, refl, refl, refl, refl, refl, refl, refl, refl)) (ex_i 𝓤 Renewed y)) $
+          let u : BaseId × State R.Denot V W = (y, state_of z t) in
+          use2 𝓛 (raw (ex 𝓤 Renewed)) (via 𝓤 (Renewed u) (guard_i 𝓤 (IsGone u) (⟦ words_own R own cv' after p y ⟧ ∗ ⟦ seat_of y.views_name who ⟧)
+          ((refl, refl, refl, refl, refl, refl, refl, refl, refl, refl, refl, refl, refl, refl, refl), (sound.0, home, knows))) (ex_i 𝓤 Renewed u)) $
           now ! $ done !))))))))
 
   -- a seat shows its view
@@ -217,15 +225,21 @@ module _ {M : Type 1} {𝓤 : Ura M} (𝓛 : Logic 𝓤) (R : RattleType) (own :
 module _ {M : Type 1} {𝓤 : Ura M} (𝓛 : Logic 𝓤) (R : RattleType) (own : Pieces R.Denot) {V W : Type 0} (cv : Sight V) (holds : State R.Denot V W → Type 0) (p : Ptr) (z : BaseId) where
   open 𝓛 use {H, A}
 
-  abbrev Anew : BaseId → SProp 𝓤
-  Anew y = guard 𝓤 (IsLike y z) (sem 𝓛 (words_own R own cv holds p y))
+  abbrev Knows : List V → Type 0
+  Knows _ = Unit {0}
+
+  abbrev IsFrom : BaseId × State R.Denot V W → Type 0
+  IsFrom u = IsLike u.0 z × WasFound cv.away holds Knows u.1
+
+  abbrev Anew : BaseId × State R.Denot V W → SProp 𝓤
+  Anew u = guard 𝓤 (IsFrom u) (sem 𝓛 (words_own R own cv holds p u.0))
 
   -- with no seat
   pub renews : (law : RenewsBack cv.away holds) (τ : Lft) (s : Share) (shares : Shares 𝓛 (OptionOf R) (OptionOf R).lives) (inc : Incl τ (OptionOf R).lives)
       → ent 𝓤 (sep 𝓤 (sem 𝓛 (words_own R own cv holds p z)) (A.lft τ s)) (H.⇛ (sep 𝓤 (ex 𝓤 Anew) (A.lft τ s)))
-  renews law τ s shares inc = let Knows : List V → Type 0 = λ _. Unit {0} in let w = shows_nothing 𝓛 R own cv cv holds holds p z in
+  renews law τ s shares inc = let w = shows_nothing 𝓛 R own cv cv holds holds p z in
       qed 𝓛 (‵ (words_own R own cv holds p z) ∷ ‵ (flft τ s) ∷ []) ∵ updating ! $ nothing ! $ move ! (1 ∷ 0 ∷ 2 ∷ []) $
-      use3 𝓛 (later (items (λ (y : BaseId). given (IsLike y z) (‵ (words_own R own cv holds p y) ⊛ ‵ ftrue)) ⊛ ‵ (flft τ s) ⊛ ‵ ftrue))
-      (goes_on 𝓛 R own cv cv holds holds p z ftrue Knows w None tt (λ v. v) (λ st h back _. law st h back) τ s shares inc) $ await ! tt $ split3 ! $ pick ! (λ y. learn ! (λ like. split ! $
-      move ! (0 ∷ 2 ∷ []) $ use1 𝓛 (raw (ex 𝓤 Anew)) (via 𝓤 (Anew y) (guard_i 𝓤 (IsLike y z) (sem 𝓛 (words_own R own cv holds p y)) like) (ex_i 𝓤 Anew y)) $
+      use3 𝓛 (later (items (λ (u : BaseId × State R.Denot V W). given (IsFrom u) (‵ (words_own R own cv holds p u.0) ⊛ ‵ ftrue)) ⊛ ‵ (flft τ s) ⊛ ‵ ftrue))
+      (goes_on 𝓛 R own cv cv holds holds p z ftrue Knows w None tt (λ v. v) (λ st h back _. law st h back) τ s shares inc) $ await ! tt $ split3 ! $ pick ! (λ u. learn ! (λ like. split ! $
+      move ! (0 ∷ 2 ∷ []) $ use1 𝓛 (raw (ex 𝓤 Anew)) (via 𝓤 (Anew u) (guard_i 𝓤 (IsFrom u) (sem 𝓛 (words_own R own cv holds p u.0)) like) (ex_i 𝓤 Anew u)) $
       now ! $ keep ! (0 ∷ 1 ∷ []) $ done !))

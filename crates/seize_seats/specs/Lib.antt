@@ -11,6 +11,7 @@ pub mod Stretches
 pub mod Lendings
 pub mod Visits
 pub mod Errands
+pub mod Start
 pub mod Owned
 pub mod Reached
 pub mod Laws

@@ -13,6 +13,7 @@ pub mod Lifted
 pub mod Beginnings
 pub mod Registers
 pub mod Looks
+pub mod Makes
 pub mod Settling
 pub mod GoesOn
 pub mod Users

@@ -1,6 +1,8 @@
 -- What a seat knows once a row of it has begun, or ended, without an operation.
 use Rattle.std.specs.Prelude.{◌≡◌, false, None, ℕ}
 use Rattle.seize_words.specs.Word.{link_to}
+use Rattle.seize.specs.declared.rows.register.Register.{Register}
+use Rattle.seize.specs.declared.rows.register.Registering.{Registering}
 use Rattle.seize.specs.declared.rows.register.Registering.TheVariants as at
 use Rattle.seize.specs.declared.rows.settle.Settle.{Settle}
 use Rattle.seize.specs.Settle.{retiring, flushing}
@@ -12,6 +14,10 @@ use Rattle.seize_views.specs.declared.view.Has.TheVariants.{Nothing, Seen, Cut}
 use Rattle.seize_views.specs.declared.view.Why.TheVariants.{Retiring, Ending}
 use Rattle.seize_views.specs.declared.view.Fixed.{Fixed}
 
+-- it has come to this slot, which it only takes, and stands here
+abbrev pub seeker_at : ℕ → Registering → Register
+seeker_at slot stands = record { slot = slot; enters = false; stands = stands }
+
 -- a seat that has a slot whose head is so, and knows of no block
 abbrev pub left_with : {T : Type 0} → Becomes → ℕ → View T
 left_with Idle t = Outside t
@@ -19,7 +25,7 @@ left_with Active t = Inside t Nothing
 
 module _ {T : Type 0} (fixed : Fixed) where
   abbrev pub registering : View T → View T
-  registering Rests = Registers record { slot = 0; enters = false; stands = at.Begin }
+  registering Rests = Registers (seeker_at 0 at.Begin)
   registering v = v
 
   abbrev pub entering : View T → View T

@@ -1,6 +1,6 @@
 -- What is promised of the rule: it may start, seats may come, and each row may begin, go on and end, whatever the other seats do; and what a seat may do with
 -- blocks within its section.
-use Rattle.std.specs.Prelude.{◌≡◌, ◌<◌, ◌⊎◌, ℕ, false, Option, Some, None}
+use Rattle.std.specs.Prelude.{◌≡◌, ◌<◌, ◌⊎◌, ℕ, Option, Some, None}
 use Rattle.seize_words.specs.Word.{link_to}
 use Rattle.seize_words.specs.Op.{Op, Load, Store, Swap, Exchange, Make, Take}
 use Rattle.seize_words.specs.Plan.{Plan, Turn, Do}
@@ -15,7 +15,7 @@ use Rattle.seize.specs.World.{HasListWord}
 use Rattle.seize_seats.specs.Lendings.{Shown, IsValueOf}
 use Rattle.seize_seats.specs.State.{Starts, Comes, Meets}
 use Rattle.seize_views.specs.Rows.{TurnsTo, Permits}
-use Rattle.seize_views.specs.Begun.{IsBegun, Hands, left_with}
+use Rattle.seize_views.specs.Begun.{IsBegun, Hands, left_with, seeker_at}
 use Rattle.seize_views.specs.Rows.{head_of, Holds, Keeps}
 use Rattle.seize_views.specs.Told.{alone_with, told}
 use Rattle.seize_views.specs.declared.view.View.{View}
@@ -49,7 +49,7 @@ IsFree fixed t u = ((way : Becomes) × (u ≡ Leaves t fixed.batch_size way)) �
 
 -- what a seat may come to know without an operation: a row begins, or ends
 abbrev pub IsNext : {T : Type 0} → Fixed → View T → View T → Type 0
-IsNext fixed Rests u = u ≡ Registers record { slot = 0; enters = false; stands = at.Begin }
+IsNext fixed Rests u = u ≡ Registers (seeker_at 0 at.Begin)
 IsNext fixed (Outside t) u = (u ≡ Enters t) ⊎ (u ≡ Frees t)
 IsNext fixed (Inside t Nothing) u = IsFree fixed t u
 IsNext fixed (Inside t (Seen b)) u = IsFree fixed t u

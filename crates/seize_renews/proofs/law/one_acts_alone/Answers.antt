@@ -1,4 +1,5 @@
 use Rattle.seize_renews.proofs.One.{one_begins, one_goes_on, one_turns, one_is_shown, one_ends}
+use Rattle.seize_renews.proofs.Emptied.{one_empties}
 use Rattle.seize_renews.proofs.law.one_acts_alone.Goals as goal
 
 pub returns-clause-begins : goal.returns-clause-begins
@@ -15,3 +16,6 @@ returns-clause-shown g c defers left_over = one_is_shown defers left_over
 
 pub returns-clause-ends : goal.returns-clause-ends
 returns-clause-ends g c defers left_over = one_ends defers left_over
+
+pub returns-clause-empties : goal.returns-clause-empties
+returns-clause-empties g c defers left_over = one_empties defers left_over

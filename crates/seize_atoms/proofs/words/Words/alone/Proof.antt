@@ -1,7 +1,11 @@
 -- `alone` ends the lifetime of the memory and begins another one, under another rule, in which there is one seat, and takes no step of the machine.
 use Rattle.seize_atoms.specs.Visiting.{Seen, HoldsHere, seat_coded}
 use Rattle.seize_seats.specs.Errands.{RenewsTo, Away, coded_of}
-use Rattle.seize_atoms.proofs.Allowed.{comes_alone}
+use Rattle.seize_seats.specs.Start.{WasIdle}
+use Rattle.seize_seats.specs.State.{State}
+use Rattle.seize_seats.specs.Visits.{plain_memory}
+use Rattle.seize_words.specs.Mem.{Mem}
+use Rattle.seize_atoms.proofs.Allowed.{comes_alone, was_idle}
 use Rattle.std.specs.Prelude.{Some, None}
 use Rattle.std.proofs.Common.{◌≡◌, ℕ, List, [], ◌∷◌, refl}
 use mir.Syntax.{dcons, dnil, a_type, named}
@@ -34,7 +38,7 @@ use Rattle.std.proofs.raw_atomic.Walks.{proved, leaves}
 use Rattle.seize_seats.specs.Stretches.{seat_owns}
 use Rattle.seize_seats.proofs.Stretches.{begins}
 use Rattle.seize_seats.specs.Owned.{BaseId, IsLike, words_own}
-use Rattle.seize_seats.proofs.Renewal.{goes_on, shows_nothing, seat_of}
+use Rattle.seize_seats.proofs.Renewal.{goes_on, shows_nothing, seat_of, WasFound}
 use Rattle.seize_atoms.specs.contracts.words.Words as words
 use Rattle.seize_atoms.specs.contracts.seat.Seat as seat
 use Rattle.seize_atoms.proofs.Fields.{Data, Token, token, token_made, told, hand_of, hand_made, hand_good, had_good}
@@ -48,7 +52,7 @@ use Rattle.core.specs.contracts.option.Option.{the_row as OptionOf}
 use Rattle.seize_atoms.proofs.Lives.{kept_lives}
 use Rattle.seize_plots.specs.contracts.kept.Kept as kept_of
 use Rattle.seize_plots.proofs.kept.Kept.TheLaws.{the_row_laws as kept_laws}
-use Rattle.seize_plots.specs.Pieces.{kept_words}
+use Rattle.seize_plots.specs.Pieces.{kept_words, value_of}
 
 pub alone_spec : {M : Type 1} → statement M
 alone_spec 𝓤 𝓛 𝓜 𝓡 wired X P U F N V G LX LP LU LF LN LV LG g d g' d' _ _ =
@@ -66,7 +70,7 @@ alone_spec 𝓤 𝓛 𝓜 𝓡 wired X P U F N V G LX LP LU LF LN LV LG g d g' d
     let t : Row.Denot = a.0 in let p : Ptr = t.words in let z : BaseId = t.id in let b : ℕ = a.1.0.ref_ptr.0 in let o : ℕ = a.1.0.ref_ptr.1 in let f : G.Denot = a.1.0.now in
     let cv = seat_coded R₂.coded in let cv' = seat_coded R₅.coded in let rule = g.holds t.fixed in let holds = HoldsHere g.rests rule in
     let after = HoldsHere g'.rests (g'.holds f) in let v₀ : V.Denot = g'.newcomer f in let v : Seen V.Denot = ((v₀, None), None) in let h₀ : Away = None in
-    let Knows : List (Seen U.Denot) → Type 0 = λ _. Unit {0} in
+    let Knows : List (Seen U.Denot) → Type 0 = λ _. Unit {0} in let St : Type 0 = State K₀.Denot (Seen U.Denot) g.World in
     let rest : Fml = fsep (flft κs.1.1.0 qs.1.1.0) (fsep (flft κs.1.1.1.0 qs.1.1.1.0) (fsep (flft κs.1.1.1.1.0 qs.1.1.1.1.0) (fsep (flft κs.1.1.1.1.1.0 qs.1.1.1.1.1.0) (fsep (flft κs.1.1.1.1.1.1.0 qs.1.1.1.1.1.1.0) (fsep (flft κs.1.1.1.1.1.1.1.0 qs.1.1.1.1.1.1.1.0) ftrue))))) in
     let others : Fml = fsep (flft κs.1.0 qs.1.0) rest in let Asked : Type 0 = RenewsTo g.rests rule (g'.holds f) (v₀ ∷ []) in
     let y : (walk_of 𝓛 En hs c).Ghost = ((κs, qs, bounds, a, (hand_of p ∷ [], (vptr b o ∷ [], tt))), gh) in let Post : Val → SProp 𝓤 = (walk_of 𝓛 En hs c).post y in
@@ -76,10 +80,12 @@ alone_spec 𝓤 𝓛 𝓜 𝓡 wired X P U F N V G LX LP LU LF LN LV LG g d g' d
     -- [the memory; the token; the others]
     enter ! 𝓣.C 𝓣.Λ fn (hand_of p ∷ vptr b o ∷ []) Post $ alloc_all ! (λ l. pass_all ! refl (hand_good p, ((tt, tt), tt)) $
     move ! (2 ∷ []) $ fsplit ! $ move ! (2 ∷ 0 ∷ []) $ nothing ! $ move ! (1 ∷ 0 ∷ 2 ∷ []) $
-    use3 𝓛 (later (items (λ (u : BaseId). given (IsLike u z) (‵ (words_own K₀ kept_words cv' after p u) ⊛ ‵ (seat_of 𝓛 K₀ kept_words cv cv' holds after p z u.views_name (Some v))))
+    use3 𝓛 (later (items (λ (i : BaseId × St). given (IsLike i.0 z × WasFound cv.away holds Knows i.1)
+    (‵ (words_own K₀ kept_words cv' after p i.0) ⊛ ‵ (seat_of 𝓛 K₀ kept_words cv cv' holds after p z i.0.views_name (Some v))))
     ⊛ ‵ (flft κs.1.0 qs.1.0) ⊛ ‵ ftrue)) (goes_on 𝓛 K₀ kept_words cv cv' holds after p z ftrue Knows (shows_nothing 𝓛 K₀ kept_words cv cv' holds after p z) (Some v) refl (λ _. v)
     (λ st so back _. comes_alone g.rests rule g.keeps g'.rests (g'.holds f) v₀ (g'.newcomers_rest f) asked st so back) κs.1.0 qs.1.0 (LO.shares 𝓛)
-    (Incl-trans inc (Incl-trans (kept_lives R₀) (option_lives K₀)))) $ await ! tt $ split3 ! $ pick ! (λ u. learn ! (λ like. split ! $ move ! (3 ∷ []) $ drop ! $
+    (Incl-trans inc (Incl-trans (kept_lives R₀) (option_lives K₀)))) $ await ! tt $ split3 ! $ pick ! (λ i. learn ! (λ like. split ! $ let u : BaseId = i.0 in
+    let m : Mem X.Denot = plain_memory value_of i.1.memory in move ! (3 ∷ []) $ drop ! $
     -- [the memory; the seat; the type's token; the rest; the token]
     move ! (2 ∷ 3 ∷ []) $ fjoin ! $ move ! (2 ∷ []) $
     use1 𝓛 (later (items (λ (st : ℕ × ℕ). ‵ (seat_owns cv'.code u.views_name 0 v st.0 st.1)))) (begins 𝓛 (coded_of cv') u.views_name 0 v) $ await ! tt $ pick ! (λ st.
@@ -88,9 +94,9 @@ alone_spec 𝓤 𝓛 𝓜 𝓡 wired X P U F N V G LX LP LU LF LN LV LG g d g' d
     sets ! (agg ! (and_then ! (get ! refl) (and_then ! (get ! refl) (no_more !)))) refl (hand_good p) $
     sets ! (agg ! (no_more !)) refl (tt, tt) $ sets ! (agg ! (and_then ! (get ! refl) (no_more !))) refl (tt, (tt, tt)) $
     sets ! (agg ! (and_then ! (get ! refl) (and_then ! (get ! refl) (no_more !)))) refl (had_good p) $
-    let t' : Other.Denot = record { words = p; marker = record {}; id = u; fixed = f } in
+    let t' : Other.Denot = record { words = p; marker = record {}; id = u; fixed = f; start = m } in
     let r : Sr.Denot = record { marker = record {}; base = u.views_name; id = 0; view = v₀; visit = None; away = None; stretch = st.0; mark = st.1 } in
-    let Told : Type 0 = (p ≡ p) × (f ≡ f) × IsLike u z × (u.views_name ≡ u.views_name) × (0 ≡ 0) × (v₀ ≡ v₀) × (h₀ ≡ None) in
+    let Told : Type 0 = (p ≡ p) × (f ≡ f) × IsLike u z × (u.views_name ≡ u.views_name) × (0 ≡ 0) × (v₀ ≡ v₀) × (h₀ ≡ None) × WasIdle g.rests rule m in
     let pair : Val = vstruct (vcons (hand_of p) (vcons token vnil)) in
     use0 𝓛 (‵ ((Token R₀ R₄ R₅ R₆ g').own_val (tt, tt) (token ∷ []))) (token_made R₀ R₄ R₅ R₆ g' 𝓛) $ fjoin ! $ move ! (2 ∷ []) $
     use0 𝓛 (‵ ((Data R₀ R₄ R₅ R₆ g').own_val (p, (tt, tt)) (hand_of p ∷ []))) (hand_made R₀ R₄ R₅ R₆ g' 𝓛 p) $ fjoin ! $
@@ -98,5 +104,5 @@ alone_spec 𝓤 𝓛 𝓜 𝓡 wired X P U F N V G LX LP LU LF LN LV LG g d g' d
     move ! (1 ∷ []) $ nothing ! $ move ! (1 ∷ 0 ∷ []) $ fjoin ! $ move ! (1 ∷ 0 ∷ []) $ fjoin ! $ feq_i ! (List Val) (pair ∷ []) (pair ∷ []) refl $ fjoin ! $
     fpack ! (Valss (Other ∷ Sr ∷ [])) (within (declared.shape (tuple_type (Other ∷ Sr ∷ []))) (t', (r, tt)) (pair ∷ [])) (hand_of p ∷ [], (token ∷ [], tt)) $
     nothing ! $ nothing ! $ fjoin ! $ nothing ! $ fjoin ! $ move ! (3 ∷ 2 ∷ []) $ join ! $
-    use0 𝓛 (raw (fact 𝓤 Told)) (fact_i 𝓤 Told (emp 𝓤) (refl, refl, like, refl, refl, refl, refl)) $
+    use0 𝓛 (raw (fact 𝓤 Told)) (fact_i 𝓤 Told (emp 𝓤) (refl, refl, like.0, refl, refl, refl, refl, was_idle g.rests rule g.keeps i.1 like.1.0 like.1.1)) $
     returns ! (look_at ! 0 refl) $ free_all ! refl $ keep ! (1 ∷ 2 ∷ 3 ∷ 0 ∷ []) $ by ! (leaves 𝓛 En hs c y pair (t', r) (tt, (tt, tt)) (tt, (tt, tt))))))))))

@@ -3,14 +3,14 @@ use Rattle.seize_atoms.specs.Visiting.{Seen, HoldsHere, keeps_here, seat_coded}
 use Rattle.seize_seats.specs.Errands.{coded_of, then_away}
 use Rattle.seize_atoms.proofs.Allowed.{word_allowed}
 use Rattle.seize_seats.specs.Visits.{then_kept}
-use Rattle.std.proofs.Common.{◌≡◌, ℕ, Bool, true, false, suc, ◌-◌, ◌≤◌, ◌∙◌, ap, List, [], ◌∷◌, ◌+◌, ◌*◌, ◌^◌, ◌<◌, sym, refl, lit<, w64, arith, subst}
+use Rattle.std.proofs.Common.{◌≡◌, ℕ, Bool, true, false, suc, ◌-◌, ◌≤◌, ◌∙◌, ap, List, [], ◌∷◌, ◌+◌, ◌*◌, ◌^◌, ◌<◌, sym, refl, w64, arith, subst}
 use mir.Syntax.{dcons, dnil, a_type, named}
 use mir.MapTy.{inst_fn}
 use mir.Val.{Val, vint, vbool, vptr}
 use prog.Wp.{WpFn}
 use base.Logic.{SProp, ent, emp, id⊢, via}
 use base.Fml.{Lft, Fml, ftrue, fsep, flft, fhide}
-use types.Kit.{‵, raw, ◌⊛◌, given, mean, at_ret, ◌$◌, ◌∵◌, !, qed, by, move, keep, drop, split, split3, join, fsplit, fsplit3, fjoin, fjoin3, fpick, learn, use0, use1, use3, rewrite, feq_i, flt_i, some as items, later, pick, await, suffices}
+use types.Kit.{‵, raw, ◌⊛◌, given, mean, at_ret, ◌$◌, ◌∵◌, !, qed, by, move, keep, drop, split, split3, join, fsplit, fsplit3, fjoin, fjoin3, fpick, learn, use0, use1, use3, rewrite, feq_i, some as items, later, pick, await, suffices}
 use types.Run.{lit, of_opd, bin, no_more, and_then, first, blocks, exec, Calls-last, returns, enter}
 use types.ByLocal.{alloc_all, pass_all, free_all, look_at, get, sets, env, lands_last}
 use types.Part.{agg}

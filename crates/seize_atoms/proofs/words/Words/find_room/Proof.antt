@@ -42,9 +42,8 @@ use Rattle.std.proofs.raw_atomic.PtrCalls.{found, finds, loads, seq_cst_good}
 use Rattle.seize_words.specs.Place.{capacity}
 use Rattle.seize_words.specs.declared.at.At.TheVariants.{Slot}
 use Rattle.seize_seats.specs.Strips.{Strip}
-use Rattle.seize_seats.specs.Doors.{stays}
 use Rattle.seize_seats.specs.Buckets.{bucket_at, IsBucket}
-use Rattle.seize_seats.specs.Owned.{BaseId, IsPlaced, age, core_of, common, strip_of, bucket_told, told as told_to_all, words_share}
+use Rattle.seize_seats.specs.Owned.{BaseId, IsPlaced, age, core_of, common, told as told_to_all, words_share}
 use Rattle.seize_seats.proofs.Known as Known
 use Rattle.seize_seats.proofs.Shown.{placed, told_there}
 use Rattle.seize_atoms.specs.Placed.{HasWord}

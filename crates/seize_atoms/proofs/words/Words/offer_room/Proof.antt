@@ -3,7 +3,7 @@ use Rattle.seize_atoms.specs.Visiting.{Seen, HoldsHere, keeps_here, seat_coded}
 use Rattle.seize_seats.specs.Errands.{coded_of, then_away}
 use Rattle.seize_atoms.proofs.Allowed.{word_allowed}
 use Rattle.seize_seats.specs.Visits.{then_kept}
-use Rattle.std.proofs.Common.{◌≡◌, ℕ, suc, replicate, length, ◌-◌, ◌≤◌, ◌∙◌, ap, List, [], ◌∷◌, ◌+◌, ◌*◌, ◌^◌, ◌<◌, sym, refl, lit<, w64, arith, subst}
+use Rattle.std.proofs.Common.{◌≡◌, ℕ, suc, replicate, ◌-◌, ◌≤◌, ◌∙◌, ap, List, [], ◌∷◌, ◌+◌, ◌*◌, ◌^◌, ◌<◌, sym, refl, w64, arith, subst}
 use mir.Syntax.{dcons, dnil, a_type, named}
 use mir.MapTy.{inst_fn}
 use mir.Val.{Val, vint, vnull, vptr, vstruct, vcons, vnil}
@@ -11,7 +11,7 @@ use prog.Wp.{WpFn}
 use base.Logic.{SProp, ent, emp, id⊢, via}
 use base.Fml.{Lft, Fml, ftrue, fsep, flft, fhide}
 use Rattle.seize_seats.proofs.Grounds.{capacity_least}
-use types.Kit.{group, fpack, ‵, raw, ◌⊛◌, given, mean, at_ret, ◌$◌, ◌∵◌, !, qed, by, move, keep, drop, split, split3, join, fsplit, fsplit3, fjoin, fjoin3, fpick, learn, use0, use1, use3, rewrite, feq_i, flt_i, some as items, later, pick, await, suffices}
+use types.Kit.{group, fpack, ‵, raw, ◌⊛◌, given, mean, at_ret, ◌$◌, ◌∵◌, !, qed, by, move, keep, drop, split, split3, join, fsplit, fsplit3, fjoin, fjoin3, fpick, learn, use0, use1, rewrite, feq_i, some as items, later, pick, await, suffices}
 use types.Run.{lit, of_opd, bin, no_more, and_then, first, blocks, exec, Calls-last, returns, enter}
 use types.ByLocal.{alloc_all, pass_all, free_all, look_at, get, sets, env, lands_last}
 use types.Part.{agg}
@@ -45,12 +45,12 @@ use Rattle.seize_words.specs.Op.{Out, Room, Roomed}
 use Rattle.seize_words.specs.Place.{capacity}
 use Rattle.core.specs.Result.{MatchResult}
 use Rattle.core.specs.declared.result.Result.{Result}
-use Rattle.seize_seats.specs.Owned.{row as row_of, words_right}
-use Rattle.seize_plots.specs.Pieces.{AreAt, piece_at, some_piece, all_pieces}
+use Rattle.seize_seats.specs.Owned.{words_right}
+use Rattle.seize_plots.specs.Pieces.{AreAt, piece_at}
 use Rattle.seize_seats.specs.State.{Allows}
 use Rattle.seize_seats.specs.Owned.{BaseId, IsPlaced, age, common, words_share}
 use Rattle.seize_seats.proofs.Shown.{placed}
-use Rattle.seize_seats.proofs.Moves.{seat as seat_of, gone_on}
+use Rattle.seize_seats.proofs.Moves.{seat as seat_of}
 use Rattle.seize_seats.proofs.RoomSteps.{won, lost, offers}
 use Rattle.seize_seats.proofs.Plots.{words_tested}
 use Rattle.seize_atoms.specs.contracts.words.Words as words

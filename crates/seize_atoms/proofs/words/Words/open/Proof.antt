@@ -43,6 +43,7 @@ use Rattle.seize_atoms.proofs.Fields.{hand_of, hand_good, hand_made, one_of, one
 use Rattle.core.specs.Mem.Slots.Ownership.{owned, Filled}
 use Rattle.seize_seats.proofs.Slotted.{full_is, Fits, whole_out, Roomy, values_out, nones_are, doorway_out, nulls_are}
 use Rattle.seize_seats.specs.State.{Starts}
+use Rattle.seize_seats.specs.Start.{bare}
 use Rattle.seize_seats.proofs.Opening.{opens}
 use Rattle.seize_atoms.specs.contracts.words.Words.open.{ended, clauses}
 use Rattle.seize_atoms.specs.contracts.words.Words.open.Key.{name as #self}
@@ -154,10 +155,10 @@ open_spec 𝓤 𝓛 𝓜 𝓡 wired X P U F LX LP LU LF g d _ =
     sets ! (agg ! (and_then ! (get ! refl) (and_then ! (get ! refl) (no_more !)))) refl (hand_good p) $
     sets ! (agg ! (and_then ! (get ! refl) (no_more !))) refl (one_good pv) $ sets ! (agg ! (and_then ! (get ! refl) (no_more !))) refl (one_good dp) $
     sets ! (agg ! (and_then ! (get ! refl) (and_then ! (get ! refl) (and_then ! (get ! refl) (no_more !))))) refl (opened_good p pv dp) $
-    let t : Row.Denot = record { words = p; marker = record {}; id = z; fixed = about_is } in let q : Pl.Denot = record { at = pv } in let dd : Dd.Denot = record { at = dp } in
+    let t : Row.Denot = record { words = p; marker = record {}; id = z; fixed = about_is; start = bare roots } in let q : Pl.Denot = record { at = pv } in let dd : Dd.Denot = record { at = dp } in
     let pair : Val = vstruct (vcons (hand_of p) (vcons (one_of pv) (vcons (one_of dp) vnil))) in
     let Told : Type 0 = (p ≡ p) × (z.roots ≡ roots) × (z.count ≡ most) × (z.values ≡ pv) × (z.size ≡ count) × (z.least ≡ count) × (z.doors ≡ dp)
-    × IsFirst p z × (about_is ≡ about_is) × (pv ≡ pv) × (dp ≡ dp) in
+    × IsFirst p z × (about_is ≡ about_is) × (pv ≡ pv) × (dp ≡ dp) × (t.start ≡ bare roots) in
     use0 𝓛 (‵ ((Data R₀ R₁ R₂ R₃ g).own_val (p, (tt, tt)) (hand_of p ∷ []))) (hand_made R₀ R₁ R₂ R₃ g 𝓛 p) $ fjoin ! $
     use0 𝓛 (‵ (Pl.own_val q (one_of pv ∷ []))) (place_made R₀ 𝓛 pv) $ use0 𝓛 (‵ (Dd.own_val dd (one_of dp ∷ []))) (doors_made 𝓛 dp) $
     nothing ! $ move ! (1 ∷ 0 ∷ []) $ fjoin ! $ move ! (2 ∷ 1 ∷ 0 ∷ []) $ fjoin3 ! $ feq_i ! (List Val) (pair ∷ []) (pair ∷ []) refl $ fjoin ! $
@@ -165,6 +166,6 @@ open_spec 𝓤 𝓛 𝓜 𝓡 wired X P U F LX LP LU LF g d _ =
     (hand_of p ∷ [], (one_of pv ∷ [], (one_of dp ∷ [], tt))) $
     nothing ! $ nothing ! $ fjoin ! $ nothing ! $ fjoin ! $ nothing ! $ fjoin ! $ nothing ! $ fjoin ! $ nothing ! $ fjoin ! $
     nothing ! $ fjoin ! $ nothing ! $ fjoin ! $ move ! (2 ∷ 3 ∷ []) $ join ! $
-    use0 𝓛 (raw (fact 𝓤 Told)) (fact_i 𝓤 Told (emp 𝓤) (refl, is.0, is.1, is.2, is.3, is.4, is.5, is.6, refl, refl, refl)) $
+    use0 𝓛 (raw (fact 𝓤 Told)) (fact_i 𝓤 Told (emp 𝓤) (refl, is.0, is.1, is.2, is.3, is.4, is.5, is.6, refl, refl, refl, refl)) $
     returns ! (look_at ! 0 refl) $ free_all ! refl $ keep ! (1 ∷ 2 ∷ 3 ∷ 0 ∷ []) $
     by ! (leaves 𝓛 En hs c y pair (t, q, dd) (tt, (tt, (tt, (tt, (tt, (tt, (tt, tt))))))) (tt, (tt, (tt, (tt, (tt, (tt, (tt, tt))))))))))))))))

@@ -1,7 +1,11 @@
 -- `renew` ends the lifetime of the memory and begins another one, and takes no step of the machine.
-use Rattle.seize_atoms.specs.Visiting.{HoldsHere, keeps_here, seat_coded}
+use Rattle.seize_atoms.specs.Visiting.{Seen, HoldsHere, keeps_here, seat_coded}
 use Rattle.seize_seats.specs.Errands.{RenewsIdle}
-use Rattle.seize_atoms.proofs.Allowed.{renew_allowed}
+use Rattle.seize_seats.specs.Start.{WasIdle}
+use Rattle.seize_words.specs.Mem.{Mem}
+use Rattle.seize_seats.specs.State.{State}
+use Rattle.seize_seats.specs.Visits.{plain_memory}
+use Rattle.seize_atoms.proofs.Allowed.{renew_allowed, was_idle}
 use Rattle.std.proofs.Common.{◌≡◌, ℕ, List, [], ◌∷◌, refl}
 use mir.Syntax.{dcons, dnil, a_type, named}
 use mir.MapTy.{inst_fn}
@@ -23,7 +27,7 @@ use denote.Ref.{mut_vals, mut_Tells}
 use denote.Triple.Walked.{Stays, stay_ref, walk_of, Goes-ref}
 use Rattle.std.proofs.raw_atomic.Walks.{proved, leaves}
 use Rattle.seize_seats.specs.Owned.{BaseId, IsLike, words_own}
-use Rattle.seize_seats.proofs.Renewal.{renews}
+use Rattle.seize_seats.proofs.Renewal.{renews, WasFound}
 use Rattle.seize_atoms.specs.contracts.words.Words as words
 use Rattle.seize_atoms.specs.contracts.words.Words.renew.{ended, clauses}
 use Rattle.seize_atoms.specs.contracts.words.Words.renew.Key.{name as #self}
@@ -36,7 +40,7 @@ use Rattle.core.proofs.option.Option.TheLaws.{the_row_laws as option_laws}
 use Rattle.core.specs.contracts.option.Option.{the_row as OptionOf}
 use Rattle.seize_plots.specs.contracts.kept.Kept as kept_of
 use Rattle.seize_plots.proofs.kept.Kept.TheLaws.{the_row_laws as kept_laws}
-use Rattle.seize_plots.specs.Pieces.{kept_words}
+use Rattle.seize_plots.specs.Pieces.{kept_words, value_of}
 
 pub renew_spec : {M : Type 1} → statement M
 renew_spec 𝓤 𝓛 𝓜 𝓡 wired X P U F LX LP LU LF g d _ =
@@ -52,6 +56,7 @@ renew_spec 𝓤 𝓛 𝓜 𝓡 wired X P U F LX LP LU LF g d _ =
     let b : ℕ = a.0.ref_ptr.0 in let o : ℕ = a.0.ref_ptr.1 in let t : Row.Denot = a.0.now in let p : Ptr = t.words in let z : BaseId = t.id in
     let cv = seat_coded R₂.coded in let rule = g.holds t.fixed in let holds = HoldsHere g.rests rule in let keeps = keeps_here g.keeps in
     let rest : Fml = fsep (flft κs.1.1.0 qs.1.1.0) (fsep (flft κs.1.1.1.0 qs.1.1.1.0) (fsep (flft κs.1.1.1.1.0 qs.1.1.1.1.0) ftrue)) in
+    let St : Type 0 = State K₀.Denot (Seen U.Denot) g.World in let Knows : List (Seen U.Denot) → Type 0 = λ _. Unit {0} in
     let others : Fml = fsep (flft κs.1.0 qs.1.0) rest in let Asked : Type 0 = RenewsIdle g.rests rule in
     let y : (walk_of 𝓛 En hs c).Ghost = ((κs, qs, bounds, a, (vptr b o ∷ [], tt)), gh) in
     let Post : Val → SProp 𝓤 = (walk_of 𝓛 En hs c).post y in
@@ -64,13 +69,13 @@ renew_spec 𝓤 𝓛 𝓜 𝓡 wired X P U F LX LP LU LF g d _ =
     opens ! tt Row b o (λ ts. move ! (1 ∷ []) $ fsplit ! $
     -- [the fields; the memory; four of self; the others]
     move ! (6 ∷ []) $ fsplit ! $ move ! (3 ∷ 0 ∷ []) $
-    use2 𝓛 (later (items (λ (u : BaseId). given (IsLike u z) (‵ (words_own K₀ kept_words cv holds p u))) ⊛ ‵ (flft κs.1.0 qs.1.0)))
+    use2 𝓛 (later (items (λ (u : BaseId × St). given (IsLike u.0 z × WasFound cv.away holds Knows u.1) (‵ (words_own K₀ kept_words cv holds p u.0))) ⊛ ‵ (flft κs.1.0 qs.1.0)))
     (renews 𝓛 K₀ kept_words cv holds p z (renew_allowed g.rests rule g.keeps asked) κs.1.0 qs.1.0 (LO.shares 𝓛) (Incl-trans inc (Incl-trans (kept_lives R₀) (option_lives K₀)))) $ await ! tt $ split ! $ pick ! (λ u. learn ! (λ like.
     -- [the memory; the type's token; the rest; the fields; four of self]
-    let t' : Row.Denot = record { words = p; marker = t.marker; id = u; fixed = t.fixed } in
-    let Told : Type 0 = (p ≡ p) × (t.fixed ≡ t.fixed) × IsLike u z in
+    let m : Mem X.Denot = plain_memory value_of u.1.memory in let t' : Row.Denot = record { words = p; marker = t.marker; id = u.0; fixed = t.fixed; start = m } in
+    let Told : Type 0 = (p ≡ p) × (t.fixed ≡ t.fixed) × IsLike u.0 z × WasIdle g.rests rule m in
     move ! (1 ∷ 2 ∷ []) $ fjoin ! $ move ! (2 ∷ 1 ∷ []) $ fjoin ! $ move ! (2 ∷ 0 ∷ 3 ∷ 4 ∷ 5 ∷ []) $ closes ! tt Row t' ts b o $
     feq_i ! (List Val) (vptr b o ∷ []) (vptr b o ∷ []) refl $ fjoin3 ! $ nothing ! $ move ! (1 ∷ 0 ∷ []) $ fjoin ! $ move ! (1 ∷ 2 ∷ []) $ join ! $
     sets ! (of_opd ! (unit_lit !)) refl (tt, tt) $ feq_i ! (List Val) (vunit ∷ []) (vunit ∷ []) refl $
-    use0 𝓛 (raw (fact 𝓤 Told)) (fact_i 𝓤 Told (emp 𝓤) (refl, refl, like)) $
+    use0 𝓛 (raw (fact 𝓤 Told)) (fact_i 𝓤 Told (emp 𝓤) (refl, refl, like.0, was_idle g.rests rule g.keeps u.1 like.1.0 like.1.1)) $
     returns ! (look_at ! 0 refl) $ free_all ! refl $ keep ! (2 ∷ 3 ∷ 1 ∷ 0 ∷ []) $ by ! (leaves 𝓛 En hs c y vunit tt (t', tt) (tt, tt)))))))))

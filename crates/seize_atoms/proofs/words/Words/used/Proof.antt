@@ -1,7 +1,11 @@
 -- `used` ends the lifetime of the memory, in which it is known what one seat knows, and begins another one, under another rule, and takes no step of the machine.
 use Rattle.seize_atoms.specs.Visiting.{Seen, HoldsHere, seat_coded}
 use Rattle.seize_seats.specs.Errands.{RenewsFrom, coded_of}
-use Rattle.seize_atoms.proofs.Allowed.{ends_alone}
+use Rattle.seize_seats.specs.Start.{WasKnown}
+use Rattle.seize_seats.specs.State.{State}
+use Rattle.seize_seats.specs.Visits.{plain_memory}
+use Rattle.seize_words.specs.Mem.{Mem}
+use Rattle.seize_atoms.proofs.Allowed.{ends_alone, was_known}
 use Rattle.std.specs.Prelude.{Some, None, slice_get}
 use Rattle.std.proofs.Common.{◌≡◌, ℕ, List, [], ◌∷◌, refl}
 use mir.Syntax.{dcons, dnil, a_type, named}
@@ -33,7 +37,7 @@ use Rattle.seize_seats.specs.Seen.{seen}
 use Rattle.seize_seats.specs.Stretches.{seat_owns}
 use Rattle.seize_seats.proofs.Stretches.{ends, begins}
 use Rattle.seize_seats.specs.Owned.{BaseId, IsLike, words_own}
-use Rattle.seize_seats.proofs.Renewal.{goes_on, shows_itself}
+use Rattle.seize_seats.proofs.Renewal.{goes_on, shows_itself, WasFound}
 use Rattle.seize_atoms.specs.contracts.words.Words as words
 use Rattle.seize_atoms.specs.contracts.seat.Seat as seat
 use Rattle.seize_atoms.proofs.Fields.{Data, told, hand_of, hand_made, hand_good}
@@ -47,7 +51,7 @@ use Rattle.core.specs.contracts.option.Option.{the_row as OptionOf}
 use Rattle.seize_atoms.proofs.Lives.{kept_lives}
 use Rattle.seize_plots.specs.contracts.kept.Kept as kept_of
 use Rattle.seize_plots.proofs.kept.Kept.TheLaws.{the_row_laws as kept_laws}
-use Rattle.seize_plots.specs.Pieces.{kept_words}
+use Rattle.seize_plots.specs.Pieces.{kept_words, value_of}
 
 pub used_spec : {M : Type 1} → statement M
 used_spec 𝓤 𝓛 𝓜 𝓡 wired X P U F N V G LX LP LU LF LN LV LG g d g' d' _ _ =
@@ -68,6 +72,7 @@ used_spec 𝓤 𝓛 𝓜 𝓡 wired X P U F N V G LX LP LU LF LN LV LG g d g' d'
     let cv = seat_coded R₂.coded in let cv' = seat_coded R₅.coded in let rule = g.holds t.fixed in let holds = HoldsHere g.rests rule in
     let after = HoldsHere g'.rests (g'.holds f) in let blank : Seen U.Denot → Seen V.Denot = λ _. ((g'.newcomer f, None), None) in
     let Known : Fml = seen cv.code z.views_name three_quarters id v in let Knows : List (Seen U.Denot) → Type 0 = λ vs. slice_get vs id ≡ Some v in
+    let St : Type 0 = State K₀.Denot (Seen U.Denot) g.World in
     let rest : Fml = fsep (flft κs.1.1.1.0 qs.1.1.1.0) (fsep (flft κs.1.1.1.1.0 qs.1.1.1.1.0) (fsep (flft κs.1.1.1.1.1.0 qs.1.1.1.1.1.0) (fsep (flft κs.1.1.1.1.1.1.0 qs.1.1.1.1.1.1.0) (fsep (flft κs.1.1.1.1.1.1.1.0 qs.1.1.1.1.1.1.1.0) (fsep (flft κs.1.1.1.1.1.1.1.1.0 qs.1.1.1.1.1.1.1.1.0) ftrue))))) in
     let others : Fml = fsep (flft κs.1.1.0 qs.1.1.0) rest in let Asked : Type 0 = (h.base ≡ z.views_name) × RenewsFrom g.rests rule (g'.holds f) id h.view in
     let y : (walk_of 𝓛 En hs c).Ghost = ((κs, qs, bounds, a, (hand_of p ∷ [], (vptr b' o' ∷ [], (vptr b o ∷ [], tt)))), gh) in
@@ -82,15 +87,17 @@ used_spec 𝓤 𝓛 𝓜 𝓡 wired X P U F N V G LX LP LU LF LN LV LG g d g' d'
     -- [the seat's fields; the seat; four of it; the memory; the token; the others]
     rewrite ! 1 (λ (u : ℕ). ‵ (seat_owns cv.code u id v h.stretch h.mark)) asked.0 refl $ move ! (1 ∷ []) $
     use1 𝓛 (later (‵ Known)) (ends 𝓛 (coded_of cv) z.views_name id v h.stretch h.mark) $ await ! tt $ move ! (8 ∷ []) $ fsplit ! $ move ! (8 ∷ 2 ∷ 0 ∷ []) $
-    use3 𝓛 (later (items (λ (u : BaseId). given (IsLike u z) (‵ (words_own K₀ kept_words cv' after p u) ⊛ ‵ ftrue)) ⊛ ‵ (flft κs.1.1.0 qs.1.1.0) ⊛ ‵ Known))
+    use3 𝓛 (later (items (λ (i : BaseId × St). given (IsLike i.0 z × WasFound cv.away holds Knows i.1) (‵ (words_own K₀ kept_words cv' after p i.0) ⊛ ‵ ftrue)) ⊛ ‵ (flft κs.1.1.0 qs.1.1.0) ⊛ ‵ Known))
     (goes_on 𝓛 K₀ kept_words cv cv' holds after p z Known Knows (shows_itself 𝓛 K₀ kept_words cv cv' holds after p z id v) None tt blank
     (λ st so back at. ends_alone g.rests rule g.keeps g'.rests (g'.holds f) id h.view h.visit h.away asked.1 st so back at) κs.1.1.0 qs.1.1.0 (LO.shares 𝓛)
-    (Incl-trans inc (Incl-trans (kept_lives R₀) (option_lives K₀)))) $ await ! tt $ split3 ! $ pick ! (λ u. learn ! (λ like. split ! $ move ! (1 ∷ []) $ drop ! $
+    (Incl-trans inc (Incl-trans (kept_lives R₀) (option_lives K₀)))) $ await ! tt $ split3 ! $ pick ! (λ i. learn ! (λ like. split ! $ let u : BaseId = i.0 in
+    let m : Mem X.Denot = plain_memory value_of i.1.memory in move ! (1 ∷ []) $ drop ! $
     -- [the memory; the type's token; the view; the rest; the seat's fields; four of it; the token]
     move ! (1 ∷ 3 ∷ []) $ fjoin ! $ move ! (2 ∷ []) $
     use1 𝓛 (later (items (λ (st : ℕ × ℕ). ‵ (seat_owns cv.code z.views_name id v st.0 st.1)))) (begins 𝓛 (coded_of cv) z.views_name id v) $ await ! tt $ pick ! (λ st.
     let h' : Sr.Denot = record { marker = h.marker; base = z.views_name; id = id; view = h.view; visit = h.visit; away = h.away; stretch = st.0; mark = st.1 } in
-    let t' : Other.Denot = record { words = p; marker = record {}; id = u; fixed = f } in let Told : Type 0 = (p ≡ p) × (f ≡ f) × IsLike u z in
+    let t' : Other.Denot = record { words = p; marker = record {}; id = u; fixed = f; start = m } in
+    let Told : Type 0 = (p ≡ p) × (f ≡ f) × IsLike u z × WasKnown g.rests rule id h.view m in
     -- [the seat; the others; the memory; the seat's fields; four of it; the token]
     move ! (3 ∷ 0 ∷ []) $ fjoin ! $ move ! (3 ∷ 0 ∷ 4 ∷ 5 ∷ 6 ∷ []) $ closes ! tt Sr h' ts b' o' $
     feq_i ! (List Val) (vptr b' o' ∷ []) (vptr b' o' ∷ []) refl $ fjoin3 ! $
@@ -100,5 +107,5 @@ used_spec 𝓤 𝓛 𝓜 𝓡 wired X P U F N V G LX LP LU LF LN LV LG g d g' d'
     move ! (3 ∷ []) $ use0 𝓛 (‵ ((Data R₀ R₄ R₅ R₆ g').own_val (p, (tt, tt)) (hand_of p ∷ []))) (hand_made R₀ R₄ R₅ R₆ g' 𝓛 p) $ fjoin ! $ move ! (1 ∷ []) $
     nothing ! $ nothing ! $ fjoin ! $ move ! (1 ∷ 0 ∷ []) $ fjoin ! $ nothing ! $ fjoin ! $
     -- [what is left; the memory; the seat's token; the others; the token]
-    move ! (4 ∷ 3 ∷ []) $ join ! $ move ! (3 ∷ 0 ∷ []) $ join ! $ use0 𝓛 (raw (fact 𝓤 Told)) (fact_i 𝓤 Told (emp 𝓤) (refl, refl, like)) $
+    move ! (4 ∷ 3 ∷ []) $ join ! $ move ! (3 ∷ 0 ∷ []) $ join ! $ use0 𝓛 (raw (fact 𝓤 Told)) (fact_i 𝓤 Told (emp 𝓤) (refl, refl, like.0, was_known g.rests rule g.keeps id h.view h.visit h.away i.1 like.1.0 like.1.1 like.1.2)) $
     returns ! (look_at ! 0 refl) $ free_all ! refl $ keep ! (1 ∷ 2 ∷ 3 ∷ 0 ∷ []) $ by ! (leaves 𝓛 En hs c y (hand_of p) t' (tt, (h', (tt, tt))) (tt, (tt, (tt, tt))))))))))))
