@@ -4,7 +4,7 @@ ghost use Rattle.std.specs.Prelude.{◌≡◌};
 use crate::guards::CHOSEN;
 use crate::retiring::{Counted, Table, dropped, table};
 use seize_blocks::{Blocks, Home};
-use seize_shared::{Desk, OfRows, Place, Registration, RootGuard};
+use seize_shared::{Desk, DeskGuard, MOST_GUARDS, OfRows, Place, Registration, RootGuard};
 use std::alloc::{AllocError, Global};
 use std::marker::Brand;
 use std::mem;
@@ -81,6 +81,50 @@ fn what_a_guard_has_seen_is_there_until_the_last_one_ends(rt: HostRuntime) -> Re
         assert!(rt; times.seen);
         assert_eq!(rt; (times.both, times.one, times.none), (0, 0, 1));
     }
+    Ok(())
+}
+
+/// Enters as many guards as a desk may have; tells whether they are there.
+fn enters_all<'d, 'a, B: Place>(
+    desk: &'d Desk<'a, Counted, B>,
+    guards: &mut Vec<DeskGuard<'d, 'a, Counted, B>>,
+) -> bool {
+    for _ in 0..MOST_GUARDS {
+        let Some(guard) = desk.enter() else {
+            return false;
+        };
+        if guards.push(guard).is_err() {
+            return false;
+        }
+    }
+    true
+}
+
+/// As many guards as there may be, one of which ends; whether there is a further one before, and then.
+fn fills<B: Place>(alloc: Global, blocks: &Blocks<Counted, OfRows>) -> Option<(bool, bool)>
+    requires fixed { blocks.now.words.fixed ≡ record { batch_size = 5; roots = 1 } }
+    requires home { blocks.now.words.id.views_name ≡ B.base }
+{
+    let desk = Desk::<Counted, B>::new(blocks, &CHOSEN).ok()?;
+    let mut guards = Vec::new(alloc);
+    let all = enters_all(&desk, &mut guards);
+    let before = desk.enter().is_some();
+    drop(guards.pop());
+    let then = desk.enter().is_some();
+    if all { Some((before, then)) } else { None }
+}
+
+/// In this memory.
+fn fills_here(alloc: Global, blocks: &Blocks<Counted, OfRows>) -> Option<(bool, bool)>
+    requires { blocks.now.words.fixed ≡ record { batch_size = 5; roots = 1 } }
+{
+    fills::<Brand>(alloc, blocks)
+}
+
+#[test]
+fn a_desk_refuses_a_guard_where_it_has_the_most(rt: HostRuntime) -> Result<(), Fail> {
+    let home = Home::<Counted, OfRows>::open(rt.alloc(), 1, 8, &CHOSEN)?;
+    assert_eq!(rt; fills_here(rt.alloc(), &home.blocks), Some((false, true)));
     Ok(())
 }
 
