@@ -7,8 +7,8 @@ With --planted it has each of two wrong bodies in place of the right one, and ex
 whoever looks at it still; and one that is open only after its first look.
 
 Each value names a place of a table of flags, which its drop clears. A thread looks at the root within a section of its own, tests the flag of the value that it
-has seen, pauses, asks the guard for the value again, which is to have the same place, and tests the flag once more; then it puts a value of its own there, which
-retires the one that it finds. The program is built without proofs, in a folder of its own beside links to this workspace's crates.
+has seen, pauses, asks the guard for the value again, which is to have the same place, and tests the flag once more; each other thread then puts a value of its
+own there, and so retires the one that it finds. The program is built without proofs, in a folder of its own beside links to this workspace's crates.
 """
 import argparse
 import os
@@ -46,8 +46,8 @@ const CHOSEN: Fixed = Fixed {
 /// How many flags a thread has for its values.
 const EACH: u64 = 4096;
 
-/// How many tests a pause lasts.
-const PAUSE: u64 = 20;
+/// How many tests a pause lasts. One value in eight is looked at for so long.
+const PAUSE: u64 = 256;
 
 /// A flag for each place: the number of the value that has it, or 0. Two more count what was read after its drop, and what was dropped twice.
 type Flags = Arc<Vec<AtomicU64>>;
@@ -119,10 +119,12 @@ fn tests(guard: &mut LocalGuard<'_, '_, Flagged>, flags: &Flags) -> bool {
         None => return true,
     };
     let mut fresh = flag(flags, place) == number;
-    for _ in 0..PAUSE {
-        fresh = fresh && flag(flags, place) == number;
+    if number % 8 == 0 {
+        for _ in 0..PAUSE {
+            fresh = fresh && flag(flags, place) == number;
+        }
     }
-    if number % 16 == 0 {
+    if number % 64 == 0 {
         thread::yield_now();
     }
     let again = match guard.value() {
@@ -132,11 +134,14 @@ fn tests(guard: &mut LocalGuard<'_, '_, Flagged>, flags: &Flags) -> bool {
     fresh && again && flag(flags, place) == number
 }
 
-/// A turn: a section in which it tests what is there, and puts a value of its own, where a place is free. Whether it has put one.
+/// A turn: a section in which it tests what is there. Each other thread puts a value of its own, too, where a place is free. Whether it has put one.
 fn turns(registration: &mut Registration<'_, Flagged>, flags: &Flags, thread: u64, number: u64) -> bool {
     let mut guard = registration.enter();
     if !tests(&mut guard, flags) {
         count(flags, 0);
+    }
+    if thread % 2 == 1 {
+        return false;
     }
     match value_of(flags, thread, number) {
         Some(value) => guard.put(0, value).is_ok(),
@@ -144,8 +149,8 @@ fn turns(registration: &mut Registration<'_, Flagged>, flags: &Flags, thread: u6
     }
 }
 
-/// Takes turns for so long, or until something was found; answers how many, and how many values it has put.
-fn goes<R: Clock>(
+/// Takes turns for so long, or until something was found, which it tells; answers how many, and how many values it has put.
+fn goes<R: Clock + Print>(
     rt: &R,
     blocks: &Blocks<Flagged, OfRows>,
     flags: &Flags,
@@ -166,6 +171,9 @@ fn goes<R: Clock>(
             }
         }
     }
+    if flag(flags, 0) + flag(flags, 1) != 0 {
+        println!(rt; "found: stale {} twice {}", flag(flags, 0), flag(flags, 1))?;
+    }
     Ok((number, put))
 }
 
@@ -178,7 +186,7 @@ fn flags_of(alloc: Global, places: u64) -> io::Result<Flags> {
 }
 
 /// As many threads over one memory, which ends then.
-fn all<R: Clock + Threads + Sync>(
+fn all<R: Clock + Print + Threads + Sync>(
     rt: &R,
     alloc: Global,
     flags: &Flags,
@@ -229,7 +237,7 @@ fn main(rt: HostRuntime) -> io::Result<()> {
     Ok(())
 }
 """
-# a wrong body: its name, and what stands in which file in place of what
+# a wrong body: its name, and what stands in which file in place of what. The second one takes its time, so that it is found on a machine with other work, too
 PLANTED = [
     ("a list that is freed as its section ends", [("seize/src/rows/settle/reclaims.rt", "if count == 1 {", "if count != 0 {")]),
     (
@@ -241,6 +249,9 @@ PLANTED = [
                 "        let word = self.blocks.load(&mut self.seat, At::Root(root));\n        named(word)\n",
                 "        let word = self.blocks.load(&mut self.seat, At::Root(root));\n"
                 "        let head = At::Slot(_slot, seize::states::HEAD);\n"
+                "        for _ in 0..100 {\n"
+                "            let _ = self.blocks.load(&mut self.seat, head);\n"
+                "        }\n"
                 "        if self.blocks.load(&mut self.seat, head) == seize::states::IDLE {\n"
                 "            self.blocks.store(&mut self.seat, head, seize::states::ACTIVE);\n"
                 "        }\n"
@@ -252,15 +263,14 @@ PLANTED = [
 
 
 def ran(threads, seconds, planted):
-    """What the program says, and its counts, or none where it doesn't come to its end."""
+    """What the program says, with these wrong bodies, if any."""
     with tempfile.TemporaryDirectory(prefix=f"{NAME}-") as room:
         laid(room, NAME, BELOW, TEXT, planted)
         command = ["rt", "try", "--steps", "1000000000000000", "--seconds", str(seconds + 60)]
         ended = subprocess.run(
             command, cwd=f"{room}/crates/{NAME}", input=f"{threads} {seconds}\n", stdout=subprocess.PIPE, stderr=subprocess.STDOUT, text=True, check=False,
         )
-    counts = re.search(r"^turns (\d+) put (\d+) stale (\d+) twice (\d+) left (\d+)$", ended.stdout, re.M)
-    return ended.stdout, counts and [int(it) for it in counts.groups()]
+        return ended.stdout
 
 
 def main():
@@ -270,13 +280,13 @@ def main():
     parser.add_argument("--planted", action="store_true")
     given = parser.parse_args()
     for name, planted in PLANTED if given.planted else [("the right bodies", [])]:
-        said, counts = ran(given.threads, given.seconds, planted)
-        if counts is None and not (planted and "stale_reads" in said):
-            sys.exit(f"{said}\nstale reads: {name}: the program did not come to its end")
-        print(f"{name}: {said if counts is None else dict(zip(('turns', 'put', 'stale', 'twice', 'left'), counts))}", flush=True)
-        found = counts is None or any(counts[2:])
-        if found != bool(planted):
-            sys.exit(f"stale reads: {name}: {'something' if found else 'nothing'} was found")
+        said = ran(given.threads, given.seconds, planted)
+        # a wrong body may lose lists, and go on for ever once something was found
+        found = re.search(r"^found: .*$", said, re.M)
+        ended = re.search(r"^turns \d+ put \d+ stale 0 twice 0 left 0$", said, re.M)
+        if bool(found) != bool(planted) or not (found or ended):
+            sys.exit(f"{said}\nstale reads: {name}: {'something' if found else 'nothing'} was found")
+        print(f"{name}: {(found or ended).group(0)}", flush=True)
 
 
 if __name__ == "__main__":

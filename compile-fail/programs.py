@@ -9,7 +9,8 @@ TOP = os.path.dirname(os.path.dirname(os.path.abspath(__file__)))
 
 
 def laid(room, name, below, text, planted=()):
-    """Lays this program, which stands on these crates, into a folder beside links to them. What is planted, a file below crates/, a text and another one for it, is so there alone."""
+    """Lays this program, which stands on these crates, into a folder beside links to them. What is planted is another text there: a file below crates/, what
+    stands in it, and what in its place."""
     with open(f"{TOP}/crates.txt", encoding="utf-8") as lines, open(f"{room}/crates.txt", "w", encoding="utf-8") as to:
         to.write(lines.read() + f"{name}: {below}\n")
     os.symlink(f"{TOP}/HANDLES", f"{room}/HANDLES")

@@ -4,7 +4,8 @@
     refusals/each_request.py [PROGRAM]    exits 1 if a run ends or prints otherwise, and then says which request was refused
 
 PROGRAM is built, with its wanted output in a file `stdout` beside its folder out/. Without it, it is each of those that `rt ci` has built in
-crates/papaya_seq_refusals and crates/shared_refusals, and nothing is printed where all is well. Its requests are calls of malloc and realloc, so a library is put before the C library that refuses one of them.
+crates/papaya_seq_refusals and crates/shared_refusals, and nothing is printed where all is well. Its requests are calls of malloc and realloc, so a library is
+put before the C library that refuses one of them.
 """
 import os
 import shutil
