@@ -46,8 +46,9 @@ const CHOSEN: Fixed = Fixed {
 /// How many flags a thread has for its values.
 const EACH: u64 = 4096;
 
-/// How many tests a pause lasts. One value in eight is looked at for so long.
+/// How many tests a pause lasts, and how many turns of a thread come to one pause.
 const PAUSE: u64 = 256;
+const TURNS: u64 = 512;
 
 /// A flag for each place: the number of the value that has it, or 0. Two more count what was read after its drop, and what was dropped twice.
 type Flags = Arc<Vec<AtomicU64>>;
@@ -57,6 +58,11 @@ fn flag(flags: &Flags, place: u64) -> u64 {
         Some(word) => word.load(SeqCst),
         None => 0,
     }
+}
+
+/// The value of this place, with this number, was not dropped. Where one was, its place in the memory may be empty: the number is 0 there, which none has.
+fn is_fresh(flags: &Flags, place: u64, number: u64) -> bool {
+    number != 0 && flag(flags, place) == number
 }
 
 fn count(flags: &Flags, place: u64) {
@@ -112,32 +118,29 @@ fn value_of(flags: &Flags, thread: u64, number: u64) -> Option<Flagged> {
 }
 
 /// Looks at the root and tests what it sees there, which may be nothing.
-fn tests(guard: &mut LocalGuard<'_, '_, Flagged>, flags: &Flags) -> bool {
+fn tests(guard: &mut LocalGuard<'_, '_, Flagged>, flags: &Flags, turn: u64) -> bool {
     guard.see(0);
     let (place, number) = match guard.value() {
         Some(value) => (value.place, value.number),
         None => return true,
     };
-    let mut fresh = flag(flags, place) == number;
-    if number % 8 == 0 {
+    let mut fresh = is_fresh(flags, place, number);
+    if turn % TURNS == 0 {
         for _ in 0..PAUSE {
-            fresh = fresh && flag(flags, place) == number;
+            fresh = fresh && is_fresh(flags, place, number);
         }
-    }
-    if number % 64 == 0 {
-        thread::yield_now();
     }
     let again = match guard.value() {
         Some(value) => value.place == place && value.number == number,
         None => false,
     };
-    fresh && again && flag(flags, place) == number
+    fresh && again && is_fresh(flags, place, number)
 }
 
 /// A turn: a section in which it tests what is there. Each other thread puts a value of its own, too, where a place is free. Whether it has put one.
 fn turns(registration: &mut Registration<'_, Flagged>, flags: &Flags, thread: u64, number: u64) -> bool {
     let mut guard = registration.enter();
-    if !tests(&mut guard, flags) {
+    if !tests(&mut guard, flags, number) {
         count(flags, 0);
     }
     if thread % 2 == 1 {
@@ -237,7 +240,7 @@ fn main(rt: HostRuntime) -> io::Result<()> {
     Ok(())
 }
 """
-# a wrong body: its name, and what stands in which file in place of what. The second one takes its time, so that it is found on a machine with other work, too
+# a wrong body: its name, and what stands in which file in place of what
 PLANTED = [
     ("a list that is freed as its section ends", [("seize/src/rows/settle/reclaims.rt", "if count == 1 {", "if count != 0 {")]),
     (
@@ -249,9 +252,6 @@ PLANTED = [
                 "        let word = self.blocks.load(&mut self.seat, At::Root(root));\n        named(word)\n",
                 "        let word = self.blocks.load(&mut self.seat, At::Root(root));\n"
                 "        let head = At::Slot(_slot, seize::states::HEAD);\n"
-                "        for _ in 0..100 {\n"
-                "            let _ = self.blocks.load(&mut self.seat, head);\n"
-                "        }\n"
                 "        if self.blocks.load(&mut self.seat, head) == seize::states::IDLE {\n"
                 "            self.blocks.store(&mut self.seat, head, seize::states::ACTIVE);\n"
                 "        }\n"
