@@ -7,8 +7,11 @@ With --planted it has each of two wrong bodies in place of the right one, and ex
 whoever looks at it still; and one that is open only after its first look.
 
 Each value names a place of a table of flags, which its drop clears. A thread looks at the root within a section of its own, tests the flag of the value that it
-has seen, pauses, asks the guard for the value again, which is to have the same place, and tests the flag once more; each other thread then puts a value of its
-own there, and so retires the one that it finds. The program is built without proofs, in a folder of its own beside links to this workspace's crates.
+has seen, at times for long, asks the guard for the value again, which is to have the same place, and tests the flag once more; each other thread then puts a
+value of its own there, and so retires the one that it finds. The program is built without proofs, in a folder of its own beside links to this workspace's crates.
+
+It runs twice, half of the time each: two threads on one processor, each of which stops wherever its time is up, so also between two steps, while the other one
+takes thousands of turns; and as many threads as are asked for, on all processors.
 """
 import argparse
 import os
@@ -262,15 +265,27 @@ PLANTED = [
 ]
 
 
-def ran(threads, seconds, planted):
-    """What the program says, with these wrong bodies, if any."""
+def ran(processors, threads, seconds, planted):
+    """What the program says on these processors, with these wrong bodies, if any."""
     with tempfile.TemporaryDirectory(prefix=f"{NAME}-") as room:
         laid(room, NAME, BELOW, TEXT, planted)
         command = ["rt", "try", "--steps", "1000000000000000", "--seconds", str(seconds + 60)]
         ended = subprocess.run(
             command, cwd=f"{room}/crates/{NAME}", input=f"{threads} {seconds}\n", stdout=subprocess.PIPE, stderr=subprocess.STDOUT, text=True, check=False,
+            preexec_fn=lambda: os.sched_setaffinity(0, processors),
         )
         return ended.stdout
+
+
+def tells(name, said, planted):
+    """Prints what the program has found, and ends all where it did not end, or the right bodies came to something."""
+    # a wrong body may lose lists, and go on for ever once something was found
+    found = re.search(r"^found: .*$", said, re.M)
+    ended = re.search(r"^turns \d+ put \d+ stale 0 twice 0 left 0$", said, re.M)
+    if not (found or ended) or (found and not planted):
+        sys.exit(f"{said}\nstale reads: {name}: {'something was found' if found else 'it did not end'}")
+    print(f"{name}: {(found or ended).group(0)}", flush=True)
+    return found
 
 
 def main():
@@ -279,14 +294,14 @@ def main():
     parser.add_argument("--threads", type=int, default=4)
     parser.add_argument("--planted", action="store_true")
     given = parser.parse_args()
+    every = os.sched_getaffinity(0)
     for name, planted in PLANTED if given.planted else [("the right bodies", [])]:
-        said = ran(given.threads, given.seconds, planted)
-        # a wrong body may lose lists, and go on for ever once something was found
-        found = re.search(r"^found: .*$", said, re.M)
-        ended = re.search(r"^turns \d+ put \d+ stale 0 twice 0 left 0$", said, re.M)
-        if bool(found) != bool(planted) or not (found or ended):
-            sys.exit(f"{said}\nstale reads: {name}: {'something' if found else 'nothing'} was found")
-        print(f"{name}: {(found or ended).group(0)}", flush=True)
+        for processors, threads in (({min(every)}, 2), (every, given.threads)):
+            found = tells(name, ran(processors, threads, given.seconds // 2, planted), planted)
+            if found:
+                break
+        if planted and not found:
+            sys.exit(f"stale reads: {name}: nothing was found")
 
 
 if __name__ == "__main__":
