@@ -4,8 +4,8 @@
 
 ghost use Rattle.std.specs.Prelude.{◌≡◌, Some, IfOk};
 
+use seize::Fault;
 use seize::rows::Defers;
-use seize::seize_words::Fault;
 use seize_blocks::{Blocks, Home};
 use seize_shared::{Fixed, Guard, LocalGuard, OfRows, Registration, RootGuard};
 use std::alloc::{AllocError, Global};
