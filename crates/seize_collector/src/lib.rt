@@ -1,0 +1,11 @@
+//! The collector: a number, a memory that threads share by its rows, and the end of all that waits there.
+#![tactic(auto)]
+
+mod collector;
+
+pub use collector::Collector;
+pub use seize::IdSource;
+pub use seize_receivers::{Drops, Receiver};
+
+#[cfg(test)]
+mod tests;
