@@ -5,7 +5,7 @@ mod collector;
 
 pub use collector::Collector;
 pub use seize::IdSource;
-pub use seize_receivers::{Drops, Receiver};
+pub use seize_shared;
 
 #[cfg(test)]
 mod tests;

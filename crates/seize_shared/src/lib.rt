@@ -14,3 +14,4 @@ pub use seize_callers::Caller;
 pub use seize_callers::seize_views::{
     Becomes, Began, Content, Deed, Fixed, Has, Noted, OfRows, View, Why,
 };
+pub use seize_receivers::{Drops, Receiver};
