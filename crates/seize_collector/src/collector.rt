@@ -5,14 +5,14 @@ ghost use Rattle.std.specs.Cmp.Rules.{comparing};
 ghost use Rattle.seize.specs.Collector.{made_by, root_of};
 ghost use Rattle.seize.specs.Given.SeizeWords.declared.fault.Fault.TheVariants.{Memory};
 ghost use Rattle.seize.specs.Ids.{given, following};
-ghost use Rattle.seize_views.specs.declared.view.View.TheVariants.{Brings};
 ghost use Rattle.seize_collector.specs.Made.{IsMade};
 
+use crate::shared::Shared;
 use seize::rows::{Defers, LeftOver};
 use seize::{At, Collector as Setting, Fault, IdSource};
-use seize_blocks::{Blocks, Home};
+use seize_blocks::Home;
 use seize_empties::reclaim_all;
-use seize_shared::{Content, Drops, Fixed, OfRows, Owned, OwnedGuard, Receiver, Registration};
+use seize_shared::{Content, Drops, Fixed, OfRows, OwnedGuard, Receiver, Registration};
 use std::alloc::Global;
 use std::fmt;
 use std::marker::PhantomData;
@@ -86,23 +86,6 @@ impl<T: Defers + Drop, R: Receiver<T>> Collector<T, OfRows, R> {
         drop(home);
         Collector::opened(alloc, setting.batch_size(size))
     }
-
-    /// Makes a block of a value, without a slot; a number is looked for from `near` on, which says then where to look next. Without words for it, or memory, the
-    /// value comes back.
-    pub fn make(&self, near: &mut u64, value: T) -> Result<Owned<'_, T>, T>
-        ensures made { IfOk result (λ owned. owned.caller.seat.view.knows ≡ Brings owned.block value) }
-        ensures home { IfOk result (λ owned. owned.caller.blocks.now ≡ self.now.home.blocks) }
-        ensures number { IfOk result (λ owned. owned.number ≡ self.now.setting.number) }
-        ensures back { IfErr result (λ back. back ≡ value) }
-    {
-        Owned::of(
-            &self.home.blocks,
-            &self.chosen(),
-            self.number(),
-            near,
-            value,
-        )
-    }
 }
 
 impl<T: Defers + Drop, C: Content<T>, R: Receiver<T>> Collector<T, C, R> {
@@ -130,11 +113,17 @@ impl<T: Defers + Drop, C: Content<T>, R: Receiver<T>> Collector<T, C, R> {
         self.setting.root(root)
     }
 
-    /// Its memory.
-    pub fn blocks(&self) -> &Blocks<T, C>
-        ensures { result.now ≡ self.now.home.blocks }
+    /// The same collector, for those who share it: it may go to other threads.
+    pub fn shared(&self) -> Shared<'_, T, C, R>
+        ensures home { result.blocks.now ≡ self.now.home.blocks }
+        ensures number { result.number ≡ self.now.setting.number }
     {
-        &self.home.blocks
+        Shared {
+            blocks: &self.home.blocks,
+            chosen: self.chosen(),
+            number: self.setting.number(),
+            receiver: PhantomData,
+        }
     }
 
     /// Takes the first slot that can be taken. Where none can be nothing changes.
@@ -142,7 +131,7 @@ impl<T: Defers + Drop, C: Content<T>, R: Receiver<T>> Collector<T, C, R> {
         ensures home { IfOk result (λ registration. registration.stay.caller.blocks.now ≡ self.now.home.blocks) }
         ensures number { IfOk result (λ registration. registration.number ≡ self.now.setting.number) }
     {
-        Registration::of(&self.home.blocks, &self.chosen(), self.number())
+        self.shared().register()
     }
 
     /// Takes the first slot that can be taken, and opens a section of it, by a guard that may be sent. Where none can be taken nothing changes.
@@ -151,7 +140,7 @@ impl<T: Defers + Drop, C: Content<T>, R: Receiver<T>> Collector<T, C, R> {
         ensures number { IfOk result (λ guard. guard.number ≡ self.now.setting.number) }
         ensures fresh { IfOk result (λ guard. guard.stay.seen ≡ 0) }
     {
-        OwnedGuard::of(&self.home.blocks, &self.chosen(), self.number())
+        self.shared().enter_owned()
     }
 }
 

@@ -2,10 +2,12 @@
 #![tactic(auto)]
 
 mod collector;
+mod shared;
 
 pub use collector::Collector;
 pub use seize::IdSource;
 pub use seize_shared;
+pub use shared::Shared;
 
 #[cfg(test)]
 mod tests;

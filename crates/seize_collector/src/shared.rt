@@ -1,0 +1,58 @@
+//! A collector as those have it who share it: they take slots of it, and make blocks.
+ghost use Rattle.std.specs.Prelude.{◌≡◌, IfOk, IfErr};
+ghost use Rattle.seize_views.specs.declared.view.View.TheVariants.{Brings};
+
+use seize::Fault;
+use seize::rows::Defers;
+use seize_blocks::Blocks;
+use seize_shared::{Content, Drops, Fixed, OfRows, Owned, OwnedGuard, Receiver, Registration};
+use std::marker::PhantomData;
+
+/// A collector, lent: it may go to other threads, and each of them may take slots of it.
+#[derive_where(Clone, Copy)]
+pub struct Shared<'c, T: Defers + Drop, C: Content<T> = OfRows, R: Receiver<T> = Drops> {
+    pub(crate) blocks: &'c Blocks<T, C>,
+    pub(crate) chosen: Fixed,
+    pub(crate) number: u64,
+    pub(crate) receiver: PhantomData<R>,
+    pub(crate) ghost fixed: { blocks.now.words.fixed ≡ chosen },
+}
+
+impl<'c, T: Defers + Drop, C: Content<T>, R: Receiver<T>> Shared<'c, T, C, R> {
+    /// Its number, which no other collector of its source has.
+    pub fn number(&self) -> u64
+        ensures { result ≡ self.now.number }
+    {
+        self.number
+    }
+
+    /// Takes the first slot that can be taken. Where none can be nothing changes.
+    pub fn register(&self) -> Result<Registration<'c, T, C, R>, Fault>
+        ensures home { IfOk result (λ registration. registration.stay.caller.blocks.now ≡ self.now.blocks.now) }
+        ensures number { IfOk result (λ registration. registration.number ≡ self.now.number) }
+    {
+        Registration::of(self.blocks, &self.chosen, self.number)
+    }
+
+    /// Takes the first slot that can be taken, and opens a section of it, by a guard that may be sent. Where none can be taken nothing changes.
+    pub fn enter_owned(&self) -> Result<OwnedGuard<'c, T, C, R>, Fault>
+        ensures home { IfOk result (λ guard. guard.stay.caller.blocks.now ≡ self.now.blocks.now) }
+        ensures number { IfOk result (λ guard. guard.number ≡ self.now.number) }
+        ensures fresh { IfOk result (λ guard. guard.stay.seen ≡ 0) }
+    {
+        OwnedGuard::of(self.blocks, &self.chosen, self.number)
+    }
+}
+
+impl<'c, T: Defers + Drop, R: Receiver<T>> Shared<'c, T, OfRows, R> {
+    /// Makes a block of a value, without a slot; a number is looked for from `near` on, which says then where to look next. Without words for it, or memory, the
+    /// value comes back.
+    pub fn make(&self, near: &mut u64, value: T) -> Result<Owned<'c, T>, T>
+        ensures made { IfOk result (λ owned. owned.caller.seat.view.knows ≡ Brings owned.block value) }
+        ensures home { IfOk result (λ owned. owned.caller.blocks.now ≡ self.now.blocks.now) }
+        ensures number { IfOk result (λ owned. owned.number ≡ self.now.number) }
+        ensures back { IfErr result (λ back. back ≡ value) }
+    {
+        Owned::of(self.blocks, &self.chosen, self.number, near, value)
+    }
+}
