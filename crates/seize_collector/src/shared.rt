@@ -9,7 +9,7 @@ use seize_shared::{Content, Drops, Fixed, OfRows, Owned, OwnedGuard, Receiver, R
 use std::marker::PhantomData;
 
 /// A collector, lent: it may go to other threads, and each of them may take slots of it.
-#[derive_where(Clone, Copy)]
+#[derive(Drop)]
 pub struct Shared<'c, T: Defers + Drop, C: Content<T> = OfRows, R: Receiver<T> = Drops> {
     pub(crate) blocks: &'c Blocks<T, C>,
     pub(crate) chosen: Fixed,
