@@ -5,7 +5,7 @@ use crate::{Collector, IdSource, Shared};
 use seize::Fault;
 use seize::rows::{Defers, LeftOver};
 use seize_shared::{Registration, RootGuard, Unlinked};
-use std::alloc::{AllocError, Global};
+use std::alloc::Global;
 use std::sync::Arc;
 use std::sync::atomic::AtomicU64;
 use std::sync::atomic::Ordering::SeqCst;
