@@ -4,11 +4,23 @@ ghost use Rattle.std.specs.Prelude.{◌≡◌};
 use crate::guards::{CHOSEN, TIMES, goes, went};
 use crate::retiring::{Counted, Table, all_are, dropped, table};
 use seize_blocks::{Blocks, Home};
-use seize_shared::{Guard, OfRows, Owned, OwnedGuard, Registration, RootGuard};
+use seize_shared::{Guard, OfRows, Owned, OwnedGuard, Registration, RootGuard, Unlinked};
+use seize_words::Fault;
 use std::alloc::{AllocError, Global};
 use std::test::Fail;
-use std::thread;
 use std::thread::Threads;
+use std::{mem, thread};
+
+/// Whether a block was retired. One that has come back is forgotten.
+fn is_retired<'u>(retired: Result<(), (Fault, Unlinked<'u, Counted>)>) -> bool {
+    match retired {
+        Ok(()) => true,
+        Err((_, old)) => {
+            mem::forget(old);
+            false
+        }
+    }
+}
 
 /// Makes a block of a value, and puts it at the root; looks at the value that was there, and retires it, without a section. Answers whether it was put, and
 /// what was there had not been dropped.
@@ -30,8 +42,8 @@ fn brings(
         Ok(Some(old)) => {
             let was = old.value();
             let fresh = dropped(&was.drops, was.place) == 0;
-            registration.retire(old);
-            fresh
+            let put = is_retired(registration.retire(old));
+            put && fresh
         }
         Ok(None) => true,
         Err(owned) => {
@@ -150,7 +162,11 @@ fn sends<R: Threads + Sync>(
     }
     let second = Owned::new(blocks, &CHOSEN, &mut near, Counted::of(drops, 2)?).ok()?;
     match second.publish(0) {
-        Ok(Some(old)) => old.retire(&mut guard),
+        Ok(Some(old)) => {
+            if !is_retired(old.retire(&mut guard)) {
+                return None;
+            }
+        }
         Ok(None) => return None,
         Err(owned) => drop(owned.into_value()),
     }
