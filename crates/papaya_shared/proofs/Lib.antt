@@ -1,0 +1,10 @@
+mod Plans
+mod Looking
+mod Making
+mod Calls
+mod Lookups
+mod Makings
+mod Beginnings
+mod Shown
+mod Rows
+mod Sessions

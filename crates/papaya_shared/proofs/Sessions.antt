@@ -1,0 +1,34 @@
+-- What a session knows of its map, and that it may look a key up there.
+use Rattle.std.specs.Prelude.{Option, Some, None}
+use Rattle.std.proofs.Common.{◌≡◌, ℕ, true, refl, sym, ap, ◌∙◌}
+use Rattle.papaya_views.proofs.Given.SeizeActs.Answers.{same_some}
+use Rattle.papaya_views.specs.Given.Tables.Chunks.{is_incremental}
+use Rattle.papaya_views.specs.Given.Tables.declared.setting.Setting.{Setting}
+use Rattle.papaya_views.specs.Given.Resize.Lookup.{looking}
+use Rattle.papaya_views.specs.Given.Resize.declared.lookup.Lookup.{Lookup}
+use Rattle.papaya_views.specs.declared.view.Map.{Map}
+use Rattle.papaya_views.specs.declared.view.View.{View}
+use Rattle.papaya_views.specs.declared.view.Work.TheVariants.{Nothing}
+use Rattle.papaya_views.specs.Given.SeizeViews.declared.view.Has.TheVariants.{Nothing as NoBlock}
+use Rattle.papaya_views.specs.Given.SeizeViews.declared.view.View.TheVariants.{Inside}
+use Rattle.papaya_shared.specs.Looking.{MayLook}
+use Rattle.papaya_shared.specs.Standing.{known_as, known_by}
+
+-- the map that it knows, with its setting and its hasher
+pub known : {S : Type 0} (o : Option (Map S)) (x : Setting × S) → known_as o ≡ Some x → (map : Map S) × (o ≡ Some map) × ((map.setting, map.hasher) ≡ x)
+known None x e = absurd (cc e)
+known (Some map) x e = (map, refl, same_some (map.setting, map.hasher) x e)
+
+module _ {K V S : Type 0} (hash : S → K → ℕ) where
+  -- it may look a key up, within its section
+  pub may_look : (v : View K V S) (setting : Setting) (hasher : S) (key : K) (lookup : Lookup) (t : ℕ) → v.slot ≡ Inside t NoBlock → v.work ≡ Nothing
+      → known_by v ≡ Some (setting, hasher) → is_incremental setting.mode ≡ true → lookup ≡ looking setting.root setting.mode (hash hasher key) → MayLook hash key lookup v
+  may_look v setting hasher key lookup t inside free knows incremental is = let k = known v.map (setting, hasher) knows in record {
+    slot = t;
+    map = k.0;
+    inside = inside;
+    knows = k.1;
+    incremental = ap (λ (p : Setting × S). is_incremental p.0.mode) k.2 ∙ incremental;
+    free = free;
+    begins = is ∙ ap (λ (p : Setting × S). looking p.0.root p.0.mode (hash p.1 key)) (sym k.2);
+  }

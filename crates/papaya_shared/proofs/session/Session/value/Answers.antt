@@ -1,0 +1,13 @@
+use Rattle.std.proofs.Common.{subst}
+use Rattle.papaya_views.specs.Given.SeizeSeats.Lendings.{IsValueOf}
+use Rattle.papaya_views.specs.Given.Tables.declared.node.Node.{Node}
+use Rattle.papaya_views.specs.Rule.{Holds}
+use Rattle.papaya_shared.proofs.session.Session.value.Goals as goal
+
+pub returns : goal.returns
+returns g c =
+    let x = c.args.self.now.caller in (
+      c.in-Pair.field-0,
+      subst (λ (n : Node g.row.K.Denot g.row.V.Denot). IsValueOf (Holds g.K.PartialEq.eq g.S.Hashes.hash x.blocks.now.words.fixed) x.seat.id x.seat.view c.args.block n) c.in-Pair.is
+          c.pair.ensures.value,
+    )

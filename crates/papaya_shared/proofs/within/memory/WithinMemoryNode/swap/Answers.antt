@@ -1,0 +1,5 @@
+use Rattle.seize_callers.proofs.Keeping.{still_kept}
+use Rattle.papaya_shared.proofs.within.memory.WithinMemoryNode.swap.Goals as goal
+
+pub returns : goal.returns
+returns g c = record { seat = still_kept _ _ c.swap.ensures.same.1 c.swap.ensures.errand; fits = tt; told = c.swap.ensures.goes }

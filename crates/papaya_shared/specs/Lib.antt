@@ -1,0 +1,5 @@
+pub mod Answers
+pub mod Standing
+pub mod Made
+pub mod Looking
+pub mod Making

@@ -1,0 +1,40 @@
+//! A seat of maps on an errand, with the memory.
+ghost use Rattle.std.specs.Prelude.{◌≡◌, ◌≢◌, None};
+
+mod looking;
+mod making;
+mod memory;
+
+use papaya_views::OfMaps;
+use papaya_views::papaya_tables::{Hashes, Node};
+use papaya_views::seize_blocks::{Blocks, Seat};
+
+/// A seat of maps on an errand, with the memory. It is a memory for the machine that it has under way.
+#[derive(Drop)]
+pub struct Within<'a, K: Eq, V, S: Hashes<K>> {
+    blocks: &'a Blocks<Node<K, V>, OfMaps<S>>,
+    seat: &'a mut Seat<Node<K, V>, OfMaps<S>>,
+    near: u64,
+    ghost own: { seat.now.base ≡ blocks.now.words.id.views_name },
+    ghost away: { seat.now.away ≢ None },
+}
+
+impl<'a, K: Eq, V, S: Hashes<K>> Within<'a, K, V, S> {
+    /// The errand begins.
+    pub(crate) fn new(
+        blocks: &'a Blocks<Node<K, V>, OfMaps<S>>,
+        seat: &'a mut Seat<Node<K, V>, OfMaps<S>>,
+    ) -> Self
+        requires own { seat.old.base ≡ blocks.now.words.id.views_name }
+        requires away { seat.old.away ≢ None }
+        ensures name { result.seat.ghost_name ≡ seat.entry.ghost_name }
+        ensures seat { result.seat.now ≡ seat.old }
+        ensures blocks { result.blocks.now ≡ blocks.now }
+    {
+        Within {
+            blocks,
+            seat,
+            near: 0,
+        }
+    }
+}
