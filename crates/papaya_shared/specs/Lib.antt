@@ -3,3 +3,4 @@ pub mod Standing
 pub mod Made
 pub mod Looking
 pub mod Making
+pub mod Given

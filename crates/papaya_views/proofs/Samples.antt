@@ -19,7 +19,7 @@ use Rattle.seize_views.specs.declared.view.View.TheVariants.{Outside, Enters, In
 use Rattle.papaya_views.specs.Begun.{machine_for, with_slot}
 use Rattle.papaya_views.specs.Notes.{notes_of}
 use Rattle.seize_views.specs.declared.view.Began.TheVariants.{NotYet, Section}
-use Rattle.papaya_views.specs.Told.{told, call_after}
+use Rattle.papaya_views.specs.Told.{told, call_after, untold}
 use Rattle.papaya_views.specs.declared.view.Map.{Map}
 use Rattle.papaya_views.specs.declared.view.View.{View}
 use Rattle.papaya_views.specs.declared.view.Work.{Work}
@@ -45,7 +45,7 @@ abbrev machine : Machine ℕ ℕ ℕ
 machine = machine_for same hash map 0 (Get 5)
 
 abbrev with_work : Work ℕ ℕ ℕ → View ℕ ℕ ℕ
-with_work work = record { slot = Inside 0 NoBlock; map = Some map; work = work; looks = []; held = []; began = NotYet }
+with_work work = record { slot = Inside 0 NoBlock; map = Some map; work = work; looks = []; held = []; began = NotYet; last = untold }
 
 -- the root leads nowhere: the call has ended
 ends : told same hash (with_work (Calls machine)) (Load (Root 3)) (Found 0) (with_work Nothing)

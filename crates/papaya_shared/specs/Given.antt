@@ -1,0 +1,3 @@
+-- The words of the crates below, given on to the crates above: these list this crate in place of those.
+pub use Rattle.papaya_views.specs.Given.SeizeViews
+pub use Rattle.papaya_views.specs as Views
