@@ -1,0 +1,23 @@
+"""Counts the ways that lead down through crates.txt, and fails where they are too many for the gate: it goes over each of them, twice a library."""
+import functools
+import os
+import sys
+
+MOST = 60_000
+
+with open(os.path.join(os.path.dirname(os.path.abspath(__file__)), "..", "crates.txt"), encoding="utf-8") as file:
+    lines = [line.split("#")[0].partition(":") for line in file]
+below = {name.strip(): libraries.split() for name, colon, libraries in lines if colon}
+
+
+@functools.lru_cache(maxsize=None)
+def ways(crate):
+    return 1 + sum(ways(library) for library in below[crate] if library in below)
+
+
+found = sum(map(ways, below))
+print(f"{found} ways down through crates.txt, {MOST} at most")
+if found > MOST:
+    for crate in sorted(below, key=ways)[-10:]:
+        print(f"  {ways(crate):>8} of {crate}")
+    sys.exit("a crate lists only what stands below none of its others (CONTRIBUTING.md, The gate's rules)")
