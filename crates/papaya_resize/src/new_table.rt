@@ -102,7 +102,7 @@ impl NewTable {
     }
 
     /// Takes a step of the counting. Once the count is known, so is the table.
-    #[tactic(auto, using(papaya_tables::proofs::Given::SeizeWords::Plans::may_as, papaya_tables::proofs::Given::SeizeWords::Plans::steps_as))]
+    #[tactic(auto, using(seize_words::proofs::Plans::may_as, seize_words::proofs::Plans::steps_as))]
     fn sums<T, M: Memory<T>>(
         &mut self,
         memory: &mut M,
