@@ -5,14 +5,16 @@ use Rattle.papaya_views.proofs.Given.SeizeActs.Answers.{same_some}
 use Rattle.papaya_views.specs.Given.SeizeSeats.State.{Turns, Meets}
 use Rattle.papaya_views.specs.Given.Tables.Chunks.{is_incremental}
 use Rattle.papaya_views.specs.Given.Tables.Lengths.{IsTableLen}
+use Rattle.papaya_views.specs.Given.Tables.declared.node.Node.{Node}
+use Rattle.papaya_views.specs.Given.Tables.declared.setting.Setting.{Setting}
 use Rattle.papaya_views.specs.Given.Resize.Lookup.{looking}
 use Rattle.papaya_views.specs.Given.Resize.declared.lookup.Lookup.{Lookup}
 use Rattle.papaya_views.specs.Given.Resize.declared.new_map.NewMap.{NewMap}
-use Rattle.papaya_views.specs.Given.Raw.CallPoints.{getting, standing}
+use Rattle.papaya_views.specs.Given.Raw.CallPoints.{getting, inserting, standing}
 use Rattle.papaya_views.specs.Given.Raw.declared.machines.call.Calling.TheVariants.{Looks}
 use Rattle.papaya_views.specs.Given.Raw.declared.machines.call.KeyCall.{KeyCall}
 use Rattle.papaya_views.specs.Given.Raw.declared.machines.machine.Machine.TheVariants.{Key}
-use Rattle.papaya_views.specs.Given.Acts.Acts.{Wanted, Get}
+use Rattle.papaya_views.specs.Given.Acts.Acts.{Wanted, Get, Insert}
 use Rattle.papaya_views.specs.Given.SeizeViews.declared.view.Fixed.{Fixed}
 use Rattle.papaya_views.specs.Given.SeizeViews.declared.view.Has.TheVariants.{Nothing as NoBlock}
 use Rattle.papaya_views.specs.Given.SeizeViews.declared.view.View.TheVariants.{Rests, Inside}
@@ -22,6 +24,7 @@ use Rattle.papaya_views.specs.declared.view.Map.{Map}
 use Rattle.papaya_views.specs.declared.view.View.{View}
 use Rattle.papaya_views.specs.declared.view.Work.TheVariants.{Nothing, Calls}
 use Rattle.papaya_views.proofs.Laws.{calls_begin, makings_begin, maps_are_handed_on}
+use Rattle.papaya_shared.specs.Calling.{IsCalling, MayCall}
 use Rattle.papaya_shared.specs.Looking.{Begins, IsOn, LooksFor, MayLook, StaysThere}
 use Rattle.papaya_shared.specs.Making.{BeginsMaking, HandsOn, MayBegin, PlansJust}
 
@@ -68,9 +71,33 @@ module _ {K V S : Type 0} (same : K → K → Bool) (hash : S → K → ℕ) (ke
         on = subst (λ (l : Lookup). IsOn l.stands) (sym is) tt;
       }
 
-  -- slot and map stay as a call begins
-  pub stays_begun : (v w : View K V S) → Begins same hash (Get key) v w → StaysThere v w
-  stays_begun v w begins = record { slot = ap (λ (u : View K V S). u.slot) begins.4; map = ap (λ (u : View K V S). u.map) begins.4 }
+-- slot and map stay as a call begins
+pub stays_begun : {K V S : Type 0} (same : K → K → Bool) (hash : S → K → ℕ) (wanted : Wanted K V) (v w : View K V S) → Begins same hash wanted v w → StaysThere v w
+stays_begun {K} {V} {S} same hash wanted v w begins =
+    record { slot = ap (λ (u : View K V S). u.slot) begins.4; map = ap (λ (u : View K V S). u.map) begins.4 }
+
+module _ {K V S : Type 0} (same : K → K → Bool) (hash : S → K → ℕ) (key : K) (value : V) where
+  -- what has begun is the storing of this pair
+  pub stores : (hasher : S) (setting : Setting) (hashed : ℕ) (v w : View K V S) → MayCall hash hasher key setting hashed v → Begins same hash (Insert key value) v w
+      → IsCalling hasher (Key (inserting setting hashed key value)) w
+  stores hasher setting hashed v w may begins =
+      let map : Map S = begins.0 in
+      let one : may.map ≡ map = same_some may.map map (sym may.knows ∙ begins.2) in
+      let inside : Inside {T = Node K V} setting.slot NoBlock ≡ Inside begins.1 NoBlock = sym may.inside ∙ begins.3 in
+      let slot : setting.slot ≡ begins.1 = cc inside in
+      let its : setting ≡ record map.setting { slot = begins.1 } =
+      may.is ∙ ap (λ (m : Map S). record m.setting { slot = setting.slot }) one ∙ ap (λ (t : ℕ). record map.setting { slot = t }) slot in
+      let hashes : map.hasher ≡ hasher = ap (λ (m : Map S). m.hasher) (sym one) ∙ may.hashes in
+      let word : hashed ≡ hash map.hasher key = may.hashed ∙ ap (λ (h : S). hash h key) (sym hashes) in record {
+        map = map;
+        knows = ap (λ (u : View K V S). u.map) begins.4 ∙ begins.2;
+        hashes = hashes;
+        incremental = ap (λ (m : Map S). is_incremental m.setting.mode) (sym one) ∙ may.incremental;
+        works =
+            ap (λ (u : View K V S). u.work) begins.4 ∙ ap (λ (s : Setting). Calls (Key (inserting s (hash map.hasher key) key value))) (sym its)
+            ∙ ap (λ (h : ℕ). Calls (Key (inserting setting h key value))) (sym word);
+        asks = record { present = tt; absent = tt; here = tt };
+      }
 
 -- what stays in one course stays in both
 pub stays_on : {K V S : Type 0} (u v w : View K V S) → StaysThere u v → StaysThere v w → StaysThere u w

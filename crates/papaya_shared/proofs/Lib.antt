@@ -1,7 +1,10 @@
 mod Plans
 mod Looking
 mod Making
+mod Quiet
+mod Asking
 mod Calls
+mod Calling
 mod Lookups
 mod Makings
 mod Beginnings

@@ -90,8 +90,8 @@ module _ {K V S : Type 0} (same : K → K → Bool) (hash : S → K → ℕ) (c 
     on = on;
   }
   so_far n (d, progress.Waits) view none = none
-  so_far n (d, progress.Done None) view none = record { free = ap (λ (v : View K V S). v.work) view; shows = tt }
-  so_far n (d, progress.Done (Some word)) view shows = record { free = ap (λ (v : View K V S). v.work) view; shows = shows }
+  so_far n (d, progress.Done None) view none = record { free = ap (λ (v : View K V S). v.work) view; told = ap (λ (v : View K V S). v.last) view; shows = tt }
+  so_far n (d, progress.Done (Some word)) view shows = record { free = ap (λ (v : View K V S). v.work) view; told = ap (λ (v : View K V S). v.last) view; shows = shows }
   so_far n (d, progress.Refused fault) view none = none
 
   pub has_looked : (n : Within K V S) (end : Lookup × Progress (Option ℕ)) → Steps (HasMade same hash) shown_of c own n end

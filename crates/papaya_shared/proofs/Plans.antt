@@ -101,7 +101,7 @@ module _ {T A B : Type 0} (f : A → B) where
   pub leaves_as : (plan : Plan T A) (other : Plan T B) → other ≡ plan_as f plan → LeavesValues plan → LeavesValues other
   leaves_as plan other e is = subst (λ (p : Plan T B). LeavesValues p) (sym e) (leaves_in plan is)
 
-  ends_as : (shown : ℕ → Option T) (rest : Then T A) (end : B) → Ends shown (then_as f rest) end → (e : A) × Ends shown rest e × (end ≡ f e)
+  pub ends_as : (shown : ℕ → Option T) (rest : Then T A) (end : B) → Ends shown (then_as f rest) end → (e : A) × Ends shown rest e × (end ≡ f e)
   ends_as shown (Now r) end e = (r, refl, e)
   ends_as shown (Seeing block rest) end e = let k = ends_as shown (rest e.0) end e.2 in (k.0, (e.0, e.1, k.1), k.2)
   ends_as shown (Sure fact rest) end e = ends_as shown rest end e

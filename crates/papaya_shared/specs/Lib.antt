@@ -3,4 +3,5 @@ pub mod Standing
 pub mod Made
 pub mod Looking
 pub mod Making
+pub mod Calling
 pub mod Given

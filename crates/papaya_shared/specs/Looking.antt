@@ -1,5 +1,5 @@
 -- What a seat knows while its call looks for a key, and once it has ended.
-use Rattle.std.specs.Prelude.{◌≡◌, ℕ, Bool, true, Some, IfSome, Option}
+use Rattle.std.specs.Prelude.{◌≡◌, ℕ, Bool, true, Some, None, IfSome, Option}
 use Rattle.papaya_views.specs.Given.SeizeWords.Word.{block_in}
 use Rattle.papaya_views.specs.Given.Seize.declared.progress.Progress.{Progress}
 use Rattle.papaya_views.specs.Given.Seize.declared.progress.Progress.TheVariants as progress
@@ -13,6 +13,10 @@ use Rattle.papaya_views.specs.Given.Raw.CallPoints.{standing}
 use Rattle.papaya_views.specs.Given.Raw.declared.machines.call.Calling.TheVariants.{Looks}
 use Rattle.papaya_views.specs.Given.Raw.declared.machines.call.KeyCall.{KeyCall}
 use Rattle.papaya_views.specs.Given.Raw.declared.machines.machine.Machine.TheVariants.{Key}
+use Rattle.papaya_views.specs.Given.Raw.declared.machines.answer.KeyAnswer.{KeyAnswer}
+use Rattle.papaya_views.specs.Given.Raw.declared.machines.answer.KeyAnswer.TheVariants as answers
+use Rattle.papaya_views.specs.Given.Raw.declared.machines.progress.Answer.TheVariants.{Key as OfKey}
+use Rattle.papaya_views.specs.Given.Raw.declared.machines.progress.Progress.TheVariants as told_as
 use Rattle.papaya_views.specs.Given.Acts.Acts.{Wanted}
 use Rattle.papaya_views.specs.Given.SeizeViews.declared.view.Has.TheVariants.{Nothing as NoBlock}
 use Rattle.papaya_views.specs.Given.SeizeViews.declared.view.View.TheVariants.{Inside}
@@ -29,6 +33,11 @@ use Rattle.papaya_shared.specs.declared.caller.Caller.{Caller}
 abbrev pub IsOn : Looking → Type 0
 IsOn (at.Over found) = ⊥
 IsOn _ = Unit {0}
+
+-- the pair of this word was found, or the key was not there
+abbrev pub answer_of : Option ℕ → KeyAnswer
+answer_of None = answers.Absent
+answer_of (Some word) = answers.Found word
 
 module _ {K V S : Type 0} where
   -- within its section it begins to do this with the map that it knows
@@ -49,8 +58,13 @@ module _ {K V S : Type 0} where
   abbrev pub Shows : (K → K → Bool) → K → View K V S → ℕ → Type 0
   Shows same key v word = (found : K) × (value : V) × (same key found ≡ true) × (shown_in v.held (block_in word) ≡ Some (Pair found value))
 
+  -- its call has answered last that this was found
+  abbrev pub Answered : Option ℕ → View K V S → Type 0
+  Answered found v = v.last ≡ told_as.Done (OfKey (answer_of found))
+
   pub record HasLooked (same : K → K → Bool) (key : K) (found : Option ℕ) (v : View K V S) : Type 0 where
     pub free : v.work ≡ Nothing
+    pub told : Answered found v
     pub shows : IfSome found (Shows same key v)
 
   -- within its section, with nothing else under way, it may look for the key by this lookup, in the map that it knows, which is in incremental mode
@@ -81,11 +95,11 @@ module _ {K V S : Type 0} where
     pub stays : StaysThere v w
 
 module _ {K V S : Type 0} (same : K → K → Bool) where
-  -- the caller shows a pair of an equal key at this block
+  -- the caller shows the pair of this word, of an equal key
   abbrev pub IsShown : K → Caller K V S → ℕ → Type 0
-  IsShown key c b = (found : K) × (value : V) × (same key found ≡ true) × (shown_in c.seat.view.held b ≡ Some (Pair found value))
+  IsShown key c word = Shows same key c.seat.view word
 
 module _ {K V S : Type 0} (same : K → K → Bool) (hash : S → K → ℕ) where
-  -- it is the value of this pair, as it is while the seat knows what it knows
+  -- it is the value of the pair of this word, as it is while the seat knows what it knows
   abbrev pub IsLent : Caller K V S → ℕ → V → Type 0
-  IsLent c b value = (key : K) × IsValueOf (Holds same hash c.blocks.now.words.fixed) c.seat.id c.seat.view b (Pair key value)
+  IsLent c word value = (key : K) × IsValueOf (Holds same hash c.blocks.now.words.fixed) c.seat.id c.seat.view (block_in word) (Pair key value)

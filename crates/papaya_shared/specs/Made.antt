@@ -1,5 +1,5 @@
 -- A seat on an errand as the memory of the machine that it has under way: what it may do next, what it has done, and what it shows.
-use Rattle.std.specs.Prelude.{◌≡◌, ℕ, Bool, Option}
+use Rattle.std.specs.Prelude.{◌≡◌, ℕ, Bool, true, Option}
 use Rattle.papaya_views.specs.Given.SeizeWords.Op.{Op, Out, Rewrite}
 use Rattle.papaya_views.specs.Given.SeizeSeats.State.{Allows, Owns}
 use Rattle.papaya_views.specs.Given.Tables.declared.node.Node.{Node}
@@ -33,5 +33,6 @@ module _ {K V S : Type 0} (same : K → K → Bool) (hash : S → K → ℕ) whe
   -- it has made it, and knows what it told
   pub record HasMade (c : Within K V S) (op : Op (Node K V)) (out : Out (Node K V)) (n : Within K V S) : Type 0 where
     pub seat : IsSameSeat c n
+    pub made : n.made ≡ true
     pub fits : IsAnswer op out
     pub told : told same hash c.seat.now.view op out n.seat.now.view

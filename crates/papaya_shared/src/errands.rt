@@ -1,5 +1,6 @@
-//! What a seat of maps is sent for: to make a map, and to look a key up.
+//! What a seat of maps is sent for: to make a map, to look a key up, and to store a pair.
 ghost use Rattle.std.specs.Prelude.{◌≡◌};
+ghost use Rattle.papaya_shared.specs.Calling.{HasCalled, MayCall};
 ghost use Rattle.papaya_shared.specs.Looking.{HasFound, MayLook};
 ghost use Rattle.papaya_shared.specs.Making.{CameTo, MayBegin};
 ghost use Rattle.papaya_views.specs.declared.view.Work.TheVariants.{Nothing as NoWork};
@@ -7,6 +8,7 @@ ghost use Rattle.papaya_views.specs.Given.SeizeViews.declared.view.View.TheVaria
 
 use crate::within::Within;
 use papaya_views::OfMaps;
+use papaya_views::machines::Answer;
 use papaya_views::papaya_resize::{Lookup, NewMap};
 use papaya_views::papaya_tables::seize_words::Fault;
 use papaya_views::papaya_tables::{Hashes, Node, Setting};
@@ -60,5 +62,42 @@ impl<'f, R: Wait, K: Eq + Hash, V, S: Hashes<K>> Errand<Node<K, V>, OfMaps<S>> f
     ) -> Option<u64> {
         let mut within = Within::new(blocks, seat);
         within.finds(self.rt, self.lookup, self.key)
+    }
+}
+
+/// Stores a pair.
+#[derive(Drop)]
+pub(crate) struct Inserts<'i, R, K, V, S> {
+    pub(crate) rt: &'i R,
+    pub(crate) hasher: &'i S,
+    pub(crate) setting: Setting,
+    pub(crate) hash: u64,
+    pub(crate) key: K,
+    pub(crate) value: V,
+}
+
+impl<'i, R: Wait, K: Eq + Hash + Drop, V: Drop, S: Hashes<K>> Errand<Node<K, V>, OfMaps<S>>
+    for Inserts<'i, R, K, V, S> {
+    type Answer = (Result<Answer, Fault>, Option<Node<K, V>>);
+
+    ghost asks = { λ i fixed v. MayCall S.hash i.hasher.now i.key i.setting i.hash v };
+
+    ghost did = { λ i fixed v answer w. HasCalled answer.0 v w };
+
+    fn run(
+        self,
+        blocks: &Blocks<Node<K, V>, OfMaps<S>>,
+        seat: &mut Seat<Node<K, V>, OfMaps<S>>,
+    ) -> (Result<Answer, Fault>, Option<Node<K, V>>) {
+        let Inserts {
+            rt,
+            hasher,
+            setting,
+            hash,
+            key,
+            value,
+        } = self;
+        let mut within = Within::new(blocks, seat);
+        within.inserts(rt, hasher, setting, hash, key, value)
     }
 }

@@ -13,4 +13,4 @@ pub use memory::memory_for;
 pub use papaya_views::OfMaps;
 pub use papaya_views::papaya_tables::seize_words;
 pub use papaya_views::seize_views::Fixed;
-pub use session::Session;
+pub use session::{Found, Session};

@@ -1,6 +1,7 @@
 //! A map, as one of those knows it who share it.
-ghost use Rattle.std.specs.Prelude.{◌≡◌, ◌≤◌, ◌<◌, ◌^◌, Some, true, IfErr, IfOk, IfSome};
-ghost use Rattle.papaya_shared.specs.Looking.{IsLent, IsShown};
+ghost use Rattle.std.specs.Prelude.{◌≡◌, ◌≤◌, ◌<◌, ◌^◌, Some, None, Err, true, IfErr, IfNone, IfOk, IfSome};
+ghost use Rattle.papaya_shared.specs.Calling.{HasEnded, HasStored, is_replaced as replaces};
+ghost use Rattle.papaya_shared.specs.Looking.{Answered, IsLent, IsShown};
 ghost use Rattle.papaya_shared.specs.Standing.{known_by};
 ghost use Rattle.papaya_views.specs.Given.Tables.Chunks.{is_incremental};
 ghost use Rattle.papaya_views.specs.Given.Tables.declared.resize_mode.ResizeMode.TheVariants.{Incremental};
@@ -10,6 +11,7 @@ ghost use Rattle.papaya_views.specs.Given.SeizeViews.declared.view.View.TheVaria
 
 use crate::caller::Caller;
 use papaya_views::OfMaps;
+use papaya_views::machines::{Answer, KeyAnswer};
 use papaya_views::papaya_resize::{Lookup, NewMap};
 use papaya_views::papaya_tables::seize_words::{Fault, Link};
 use papaya_views::papaya_tables::{Counter, Hashes, Node, ResizeMode, Setting};
@@ -28,6 +30,34 @@ pub struct Session<'a, K: Eq, V, S: Hashes<K>> {
     ghost knows: { known_by caller.seat.view ≡ Some (setting, hasher.now) },
     ghost free: { caller.seat.view.work ≡ NoWork },
     ghost incremental: { is_incremental setting.mode ≡ true },
+}
+
+/// A pair that was found, by the word that links to its block.
+#[derive(Clone, Copy)]
+pub struct Found {
+    word: u64,
+}
+
+/// What a call works with in this slot.
+fn within(setting: Setting, slot: u64) -> Setting
+    ensures { result ≡ record setting { slot = slot } }
+{
+    Setting { slot, ..setting }
+}
+
+/// Whether a pair was replaced by another one.
+fn is_replaced(answer: &Answer) -> bool
+    ensures { result ≡ replaces answer.now }
+{
+    matches!(answer, Answer::Key(KeyAnswer::Replaced { .. }))
+}
+
+/// The key and the value of a pair.
+fn pair_of<K: Drop, V: Drop>(node: Node<K, V>) -> Option<(K, V)> {
+    match node {
+        Node::Pair(key, value) => Some((key, value)),
+        Node::Table { .. } | Node::Shards => None,
+    }
 }
 
 impl<'a, K: Eq + Drop, V: Drop, S: Hashes<K>> Session<'a, K, V, S> {
@@ -132,29 +162,59 @@ impl<'a, K: Eq + Drop, V: Drop, S: Hashes<K>> Session<'a, K, V, S> {
 }
 
 impl<'a, K: Eq + Hash, V, S: Hashes<K>> Session<'a, K, V, S> {
-    /// Looks a key up within the section of its slot, and answers the block of its pair, if the map has one. The pair is there until the session looks for another one,
-    /// or ends its section, whoever replaces or removes it meanwhile.
-    pub fn find<R: Wait>(&mut self, rt: &R, key: &K) -> Option<u64>
+    /// Looks a key up within the section of its slot, and answers its pair, if the map has one. The pair is there until the session takes its next step, whoever replaces or
+    /// removes it meanwhile.
+    pub fn find<R: Wait>(&mut self, rt: &R, key: &K) -> Option<Found>
         requires inside { self.old.caller.seat.view.slot ≡ Inside self.old.slot Nothing }
         ensures inside { self.new.caller.seat.view.slot ≡ Inside self.new.slot Nothing }
-        ensures shown { IfSome result (λ block. IsShown K.eq key.now self.new.caller block) }
+        ensures shown { IfSome result (λ found. IsShown K.eq key.now self.new.caller found.word) }
+        ensures found { IfSome result (λ found. Answered (Some found.word) self.new.caller.seat.view) }
+        ensures absent { IfNone result (Answered None self.new.caller.seat.view) }
         ensures map { self.new.caller.seat.view.map ≡ self.old.caller.seat.view.map }
         ensures blocks { self.new.caller.blocks ≡ self.old.caller.blocks }
     {
         let hash = self.hasher.hash_of(key);
         let lookup = Lookup::new(self.setting.root, self.setting.mode, hash);
         let word = self.caller.finds(rt, lookup, key)?;
-        Some(Link::block_of(word))
+        Some(Found { word })
     }
 
     /// The value of the pair that was found, for as long as the session is borrowed.
-    pub fn value(&self, block: u64) -> &V
-        requires shown { (key : K) × IsShown K.eq key self.now.caller block }
-        ensures { IsLent K.eq S.hash self.now.caller block result.now }
+    pub fn value(&self, found: Found) -> &V
+        requires shown { (key : K) × IsShown K.eq key self.now.caller found.word }
+        ensures { IsLent K.eq S.hash self.now.caller found.word result.now }
     {
-        match self.caller.pair(block) {
+        match self.caller.pair(Link::block_of(found.word)) {
             Node::Pair(_, value) => value,
             Node::Table { .. } | Node::Shards => unreachable!(),
+        }
+    }
+}
+
+impl<'a, K: Eq + Hash + Drop, V: Drop, S: Hashes<K>> Session<'a, K, V, S> {
+    /// Stores a pair within the section of its slot, in the place of one of an equal key, if there is one, and answers whether one was replaced. The faults are `Memory`
+    /// and `Capacity`; the pair that was not stored comes back then.
+    pub fn insert<R: Wait>(
+        &mut self,
+        rt: &R,
+        key: K,
+        value: V,
+    ) -> Result<bool, (Fault, Option<(K, V)>)>
+        requires inside { self.old.caller.seat.view.slot ≡ Inside self.old.slot Nothing }
+        ensures inside { self.new.caller.seat.view.slot ≡ Inside self.new.slot Nothing }
+        ensures stored { IfOk result (λ replaced. HasStored replaced self.new.caller.seat.view) }
+        ensures refused { IfErr result (λ refused. HasEnded (Err refused.0) self.new.caller.seat.view) }
+        ensures map { self.new.caller.seat.view.map ≡ self.old.caller.seat.view.map }
+        ensures blocks { self.new.caller.blocks ≡ self.old.caller.blocks }
+    {
+        let hash = self.hasher.hash_of(&key);
+        let setting = within(self.setting, self.slot);
+        let (told, unstored) = self
+            .caller
+            .inserts(rt, self.hasher, setting, hash, key, value);
+        match told {
+            Ok(answer) => Ok(is_replaced(&answer)),
+            Err(fault) => Err((fault, unstored.and_then(pair_of))),
         }
     }
 }

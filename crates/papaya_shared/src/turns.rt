@@ -55,3 +55,12 @@ impl<K, V, S> Meeting<Fixed, View<K, V, S>> for Showing {
 
     ghost to = { λ _. HandsOn };
 }
+
+/// A call takes a step that makes no operation.
+pub struct Stepping;
+
+impl<K: Eq, V, S: Hashes<K>> Turn<Fixed, View<K, V, S>> for Stepping {
+    ghost use Rattle.papaya_views.specs.Told.{turned};
+
+    ghost to = { λ _. turned K.eq S.hash };
+}

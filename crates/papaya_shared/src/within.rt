@@ -1,6 +1,7 @@
 //! A seat of maps on an errand, with the memory.
 ghost use Rattle.std.specs.Prelude.{◌≡◌, ◌≢◌, None};
 
+mod calling;
 mod looking;
 mod making;
 mod memory;
@@ -9,12 +10,13 @@ use papaya_views::OfMaps;
 use papaya_views::papaya_tables::{Hashes, Node};
 use papaya_views::seize_blocks::{Blocks, Seat};
 
-/// A seat of maps on an errand, with the memory. It is a memory for the machine that it has under way.
+/// A seat of maps on an errand, with the memory. It is a memory for the machine that it has under way, and knows whether an operation was made.
 #[derive(Drop)]
 pub struct Within<'a, K: Eq, V, S: Hashes<K>> {
     blocks: &'a Blocks<Node<K, V>, OfMaps<S>>,
     seat: &'a mut Seat<Node<K, V>, OfMaps<S>>,
     near: u64,
+    made: bool,
     ghost own: { seat.now.base ≡ blocks.now.words.id.views_name },
     ghost away: { seat.now.away ≢ None },
 }
@@ -35,6 +37,7 @@ impl<'a, K: Eq, V, S: Hashes<K>> Within<'a, K, V, S> {
             blocks,
             seat,
             near: 0,
+            made: false,
         }
     }
 }

@@ -1,5 +1,6 @@
-//! A caller is sent to make a map, and to look a key up.
+//! A caller is sent to make a map, to look a key up, and to store a pair.
 ghost use Rattle.std.specs.Prelude.{◌≡◌, IsSome, Some};
+ghost use Rattle.papaya_shared.specs.Calling.{HasCalled, MayCall};
 ghost use Rattle.papaya_shared.specs.Looking.{HasFound, MayLook};
 ghost use Rattle.papaya_shared.specs.Making.{CameTo, MayBegin};
 ghost use Rattle.papaya_views.specs.Looks.{shown_in};
@@ -9,7 +10,8 @@ ghost use Rattle.papaya_views.specs.Given.SeizeSeats.Lendings.{IsValueOf};
 ghost use Rattle.papaya_views.specs.Given.SeizeViews.declared.view.View.TheVariants.{Rests};
 
 use crate::caller::Caller;
-use crate::errands::{Finds, Makes};
+use crate::errands::{Finds, Inserts, Makes};
+use papaya_views::machines::Answer;
 use papaya_views::papaya_resize::{Lookup, NewMap};
 use papaya_views::papaya_tables::seize_words::Fault;
 use papaya_views::papaya_tables::{Hashes, Node, Setting};
@@ -40,6 +42,35 @@ impl<'a, K: Eq + Hash, V, S: Hashes<K>> Caller<'a, K, V, S> {
     {
         self.blocks
             .errand(&mut self.seat, Finds { rt, key, lookup })
+    }
+}
+
+impl<'a, K: Eq + Hash + Drop, V: Drop, S: Hashes<K>> Caller<'a, K, V, S> {
+    /// Stores this pair within its section, in the map that it knows, and answers what its call has told, and the pair where that was not stored.
+    pub(crate) fn inserts<R: Wait>(
+        &mut self,
+        rt: &R,
+        hasher: &S,
+        setting: Setting,
+        hash: u64,
+        key: K,
+        value: V,
+    ) -> (Result<Answer, Fault>, Option<Node<K, V>>)
+        requires may { MayCall S.hash hasher.now key setting hash self.old.seat.view }
+        ensures called { HasCalled result.0 self.old.seat.view self.new.seat.view }
+        ensures blocks { self.new.blocks ≡ self.old.blocks }
+    {
+        self.blocks.errand(
+            &mut self.seat,
+            Inserts {
+                rt,
+                hasher,
+                setting,
+                hash,
+                key,
+                value,
+            },
+        )
     }
 }
 

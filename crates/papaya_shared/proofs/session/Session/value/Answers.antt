@@ -1,5 +1,6 @@
 use Rattle.std.proofs.Common.{subst}
 use Rattle.papaya_views.specs.Given.SeizeSeats.Lendings.{IsValueOf}
+use Rattle.papaya_views.specs.Given.SeizeWords.Word.{block_in}
 use Rattle.papaya_views.specs.Given.Tables.declared.node.Node.{Node}
 use Rattle.papaya_views.specs.Rule.{Holds}
 use Rattle.papaya_shared.proofs.session.Session.value.Goals as goal
@@ -8,6 +9,6 @@ pub returns : goal.returns
 returns g c =
     let x = c.args.self.now.caller in (
       c.in-Pair.field-0,
-      subst (λ (n : Node g.row.K.Denot g.row.V.Denot). IsValueOf (Holds g.K.PartialEq.eq g.S.Hashes.hash x.blocks.now.words.fixed) x.seat.id x.seat.view c.args.block n) c.in-Pair.is
+      subst (λ (n : Node g.row.K.Denot g.row.V.Denot). IsValueOf (Holds g.K.PartialEq.eq g.S.Hashes.hash x.blocks.now.words.fixed) x.seat.id x.seat.view (block_in c.args.found.word) n) c.in-Pair.is
           c.pair.ensures.value,
     )

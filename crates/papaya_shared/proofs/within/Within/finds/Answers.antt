@@ -1,3 +1,4 @@
+use Rattle.papaya_views.specs.Given.Acts.Acts.{Get}
 use Rattle.papaya_shared.proofs.Beginnings.{looks_for, stays_begun, stays_on}
 use Rattle.papaya_shared.proofs.within.Within.finds.Goals as goal
 
@@ -14,4 +15,4 @@ goes_through-requires g c = record {
 pub returns-clause-stays : goal.returns-clause-stays
 returns-clause-stays g c =
     let u = c.args.self.now.seat.now.view in let v = c.begins_to_look.new.self.seat.now.view in
-    stays_on u v c.goes_through.new.self.seat.now.view (stays_begun g.K.PartialEq.eq g.S.Hashes.hash c.args.key.now u v c.begins_to_look.ensures.begins) c.goes_through.ensures.stays
+    stays_on u v c.goes_through.new.self.seat.now.view (stays_begun g.K.PartialEq.eq g.S.Hashes.hash (Get c.args.key.now) u v c.begins_to_look.ensures.begins) c.goes_through.ensures.stays

@@ -1,3 +1,4 @@
+use Rattle.std.proofs.Common.{refl}
 use Rattle.seize_callers.proofs.Keeping.{still_kept}
 use Rattle.papaya_shared.proofs.within.memory.WithinMemoryNode.rewrite.Goals as goal
 
@@ -6,4 +7,4 @@ pub rewrite-requires-clause-alone : goal.rewrite-requires-clause-alone
 rewrite-requires-clause-alone g c = c.requires.alone
 
 pub returns : goal.returns
-returns g c = record { seat = still_kept _ _ c.rewrite.ensures.same.1 c.rewrite.ensures.errand; fits = tt; told = c.rewrite.ensures.goes }
+returns g c = record { seat = still_kept _ _ c.rewrite.ensures.same.1 c.rewrite.ensures.errand; made = refl; fits = tt; told = c.rewrite.ensures.goes }
