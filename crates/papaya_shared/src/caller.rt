@@ -19,6 +19,7 @@ use papaya_views::seize_blocks::{Blocks, Seat};
 pub struct Caller<'a, K: Eq, V, S: Hashes<K>> {
     blocks: &'a Blocks<Node<K, V>, OfMaps<S>>,
     seat: Seat<Node<K, V>, OfMaps<S>>,
+    near: u64,
     ghost own: { seat.base ≡ blocks.now.words.id.views_name },
     ghost home: { is_home seat.away ≡ true },
 }
@@ -30,7 +31,11 @@ impl<'a, K: Eq, V, S: Hashes<K>> Caller<'a, K, V, S> {
         ensures blocks { result.blocks.now ≡ blocks.now }
     {
         let seat = blocks.seat();
-        Caller { blocks, seat }
+        Caller {
+            blocks,
+            seat,
+            near: 0,
+        }
     }
 
     /// One more of them, who holds no slot, and to whom the map is handed on that this one knows.
@@ -51,6 +56,10 @@ impl<'a, K: Eq, V, S: Hashes<K>> Drop for Caller<'a, K, V, S> {
         requires rests { self.seat.view.slot ≡ Rests }
         requires free { self.seat.view.work ≡ Nothing }
     {
-        let Caller { blocks: _, seat: _ } = self;
+        let Caller {
+            blocks: _,
+            seat: _,
+            near: _,
+        } = self;
     }
 }

@@ -6,9 +6,8 @@ ghost use Rattle.papaya_shared.specs.Making.{CameTo, MayBegin};
 ghost use Rattle.papaya_views.specs.declared.view.Work.TheVariants.{Nothing as NoWork};
 ghost use Rattle.papaya_views.specs.Given.SeizeViews.declared.view.View.TheVariants.{Rests};
 
-use crate::within::Within;
+use crate::within::{Ran, Within};
 use papaya_views::OfMaps;
-use papaya_views::machines::Answer;
 use papaya_views::papaya_resize::{Lookup, NewMap};
 use papaya_views::papaya_tables::seize_words::Fault;
 use papaya_views::papaya_tables::{Hashes, Node, Setting};
@@ -35,8 +34,9 @@ impl<'h, K: Eq + Drop, V: Drop, S: Hashes<K>> Errand<Node<K, V>, OfMaps<S>> for 
         blocks: &Blocks<Node<K, V>, OfMaps<S>>,
         seat: &mut Seat<Node<K, V>, OfMaps<S>>,
     ) -> Result<Setting, Fault> {
-        let mut within = Within::new(blocks, seat);
-        within.makes_map(self.hasher, self.opening)
+        let Makes { hasher, opening } = self;
+        let mut within = Within::new(blocks, seat, 0);
+        within.makes_map(hasher, opening)
     }
 }
 
@@ -60,8 +60,9 @@ impl<'f, R: Wait, K: Eq + Hash, V, S: Hashes<K>> Errand<Node<K, V>, OfMaps<S>> f
         blocks: &Blocks<Node<K, V>, OfMaps<S>>,
         seat: &mut Seat<Node<K, V>, OfMaps<S>>,
     ) -> Option<u64> {
-        let mut within = Within::new(blocks, seat);
-        within.finds(self.rt, self.lookup, self.key)
+        let Finds { rt, key, lookup } = self;
+        let mut within = Within::new(blocks, seat, 0);
+        within.finds(rt, lookup, key)
     }
 }
 
@@ -74,21 +75,22 @@ pub(crate) struct Inserts<'i, R, K, V, S> {
     pub(crate) hash: u64,
     pub(crate) key: K,
     pub(crate) value: V,
+    pub(crate) near: u64,
 }
 
 impl<'i, R: Wait, K: Eq + Hash + Drop, V: Drop, S: Hashes<K>> Errand<Node<K, V>, OfMaps<S>>
     for Inserts<'i, R, K, V, S> {
-    type Answer = (Result<Answer, Fault>, Option<Node<K, V>>);
+    type Answer = Ran<K, V>;
 
     ghost asks = { λ i fixed v. MayCall S.hash i.hasher.now i.key i.setting i.hash v };
 
-    ghost did = { λ i fixed v answer w. HasCalled answer.0 v w };
+    ghost did = { λ i fixed v answer w. HasCalled answer.told v w };
 
     fn run(
         self,
         blocks: &Blocks<Node<K, V>, OfMaps<S>>,
         seat: &mut Seat<Node<K, V>, OfMaps<S>>,
-    ) -> (Result<Answer, Fault>, Option<Node<K, V>>) {
+    ) -> Ran<K, V> {
         let Inserts {
             rt,
             hasher,
@@ -96,8 +98,9 @@ impl<'i, R: Wait, K: Eq + Hash + Drop, V: Drop, S: Hashes<K>> Errand<Node<K, V>,
             hash,
             key,
             value,
+            near,
         } = self;
-        let mut within = Within::new(blocks, seat);
+        let mut within = Within::new(blocks, seat, near);
         within.inserts(rt, hasher, setting, hash, key, value)
     }
 }

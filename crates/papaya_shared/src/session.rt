@@ -10,6 +10,7 @@ ghost use Rattle.papaya_views.specs.Given.SeizeViews.declared.view.Has.TheVarian
 ghost use Rattle.papaya_views.specs.Given.SeizeViews.declared.view.View.TheVariants.{Inside, Outside, Rests};
 
 use crate::caller::Caller;
+use crate::within::Ran;
 use papaya_views::OfMaps;
 use papaya_views::machines::{Answer, KeyAnswer};
 use papaya_views::papaya_resize::{Lookup, NewMap};
@@ -52,11 +53,11 @@ fn is_replaced(answer: &Answer) -> bool
     matches!(answer, Answer::Key(KeyAnswer::Replaced { .. }))
 }
 
-/// The key and the value of a pair.
-fn pair_of<K: Drop, V: Drop>(node: Node<K, V>) -> Option<(K, V)> {
-    match node {
-        Node::Pair(key, value) => Some((key, value)),
-        Node::Table { .. } | Node::Shards => None,
+/// The key and the value of a pair that was not stored.
+fn pair_of<K: Drop, V: Drop>(unstored: Option<Node<K, V>>) -> Option<(K, V)> {
+    match unstored {
+        Some(Node::Pair(key, value)) => Some((key, value)),
+        _ => None,
     }
 }
 
@@ -209,12 +210,17 @@ impl<'a, K: Eq + Hash + Drop, V: Drop, S: Hashes<K>> Session<'a, K, V, S> {
     {
         let hash = self.hasher.hash_of(&key);
         let setting = within(self.setting, self.slot);
-        let (told, unstored) = self
+        let ran = self
             .caller
             .inserts(rt, self.hasher, setting, hash, key, value);
+        let Ran {
+            told,
+            unstored,
+            near: _,
+        } = ran;
         match told {
             Ok(answer) => Ok(is_replaced(&answer)),
-            Err(fault) => Err((fault, unstored.and_then(pair_of))),
+            Err(fault) => Err((fault, pair_of(unstored))),
         }
     }
 }

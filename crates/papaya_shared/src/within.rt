@@ -6,6 +6,7 @@ mod looking;
 mod making;
 mod memory;
 
+pub(crate) use calling::Ran;
 use papaya_views::OfMaps;
 use papaya_views::papaya_tables::{Hashes, Node};
 use papaya_views::seize_blocks::{Blocks, Seat};
@@ -22,10 +23,11 @@ pub struct Within<'a, K: Eq, V, S: Hashes<K>> {
 }
 
 impl<'a, K: Eq, V, S: Hashes<K>> Within<'a, K, V, S> {
-    /// The errand begins.
+    /// The errand begins. Numbers for blocks are looked for from `near` on.
     pub(crate) fn new(
         blocks: &'a Blocks<Node<K, V>, OfMaps<S>>,
         seat: &'a mut Seat<Node<K, V>, OfMaps<S>>,
+        near: u64,
     ) -> Self
         requires own { seat.old.base ≡ blocks.now.words.id.views_name }
         requires away { seat.old.away ≢ None }
@@ -36,7 +38,7 @@ impl<'a, K: Eq, V, S: Hashes<K>> Within<'a, K, V, S> {
         Within {
             blocks,
             seat,
-            near: 0,
+            near,
             made: false,
         }
     }

@@ -11,7 +11,7 @@ ghost use Rattle.papaya_views.specs.Given.SeizeViews.declared.view.View.TheVaria
 
 use crate::caller::Caller;
 use crate::errands::{Finds, Inserts, Makes};
-use papaya_views::machines::Answer;
+use crate::within::Ran;
 use papaya_views::papaya_resize::{Lookup, NewMap};
 use papaya_views::papaya_tables::seize_words::Fault;
 use papaya_views::papaya_tables::{Hashes, Node, Setting};
@@ -55,12 +55,12 @@ impl<'a, K: Eq + Hash + Drop, V: Drop, S: Hashes<K>> Caller<'a, K, V, S> {
         hash: u64,
         key: K,
         value: V,
-    ) -> (Result<Answer, Fault>, Option<Node<K, V>>)
+    ) -> Ran<K, V>
         requires may { MayCall S.hash hasher.now key setting hash self.old.seat.view }
-        ensures called { HasCalled result.0 self.old.seat.view self.new.seat.view }
+        ensures called { HasCalled result.told self.old.seat.view self.new.seat.view }
         ensures blocks { self.new.blocks ≡ self.old.blocks }
     {
-        self.blocks.errand(
+        let ran = self.blocks.errand(
             &mut self.seat,
             Inserts {
                 rt,
@@ -69,8 +69,11 @@ impl<'a, K: Eq + Hash + Drop, V: Drop, S: Hashes<K>> Caller<'a, K, V, S> {
                 hash,
                 key,
                 value,
+                near: self.near,
             },
-        )
+        );
+        self.near = ran.near;
+        ran
     }
 }
 

@@ -21,7 +21,11 @@ impl<'a, K: Eq, V, S: Hashes<K>> Caller<'a, K, V, S> {
         ensures map { self.new.seat.view.map ≡ self.old.seat.view.map }
         ensures blocks { self.new.blocks ≡ self.old.blocks }
     {
-        self.blocks.errand(&mut self.seat, Registers { batch_size })
+        let slot = self
+            .blocks
+            .errand(&mut self.seat, Registers { batch_size })?;
+        self.near = self.blocks.beginning(slot);
+        Ok(slot)
     }
 
     /// Opens a section of its slot.

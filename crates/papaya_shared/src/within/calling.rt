@@ -19,6 +19,16 @@ use std::hash::Hash;
 use std::marker::Brand;
 use std::sync::Wait;
 
+/// What a call has come to.
+pub(crate) struct Ran<K, V> {
+    /// What it has told last.
+    pub(crate) told: Result<Answer, Fault>,
+    /// Its own pair, where that was not stored.
+    pub(crate) unstored: Option<Node<K, V>>,
+    /// Where to look for numbers next.
+    pub(crate) near: u64,
+}
+
 impl<'a, K: Eq + Hash + Drop, V: Drop, S: Hashes<K>> Within<'a, K, V, S> {
     /// Takes the next step of its call.
     fn calls(&mut self, machine: &mut Machine<K, V>, hasher: &S) -> Progress<Node<K, V>>
@@ -35,15 +45,21 @@ impl<'a, K: Eq + Hash + Drop, V: Drop, S: Hashes<K>> Within<'a, K, V, S> {
         told
     }
 
+    /// What its call has come to.
+    fn ran(&self, told: Result<Answer, Fault>, unstored: Option<Node<K, V>>) -> Ran<K, V>
+        ensures { result.told ≡ told }
+    {
+        Ran {
+            told,
+            unstored,
+            near: self.near,
+        }
+    }
+
     /// Takes the steps of its call until it has ended, and answers how, and the call's own pair where that was not stored. How many steps it takes is up to the others.
-    fn runs<R: Wait>(
-        &mut self,
-        rt: &R,
-        hasher: &S,
-        machine: Machine<K, V>,
-    ) -> (Result<Answer, Fault>, Option<Node<K, V>>)
+    fn runs<R: Wait>(&mut self, rt: &R, hasher: &S, machine: Machine<K, V>) -> Ran<K, V>
         requires calls { IsCalling hasher.now machine self.old.seat.now.view }
-        ensures ended { HasEnded result.0 self.new.seat.now.view }
+        ensures ended { HasEnded result.told self.new.seat.now.view }
         ensures stays { StaysThere self.old.seat.now.view self.new.seat.now.view }
         ensures same { IsSameSeat self.old self.new }
     {
@@ -53,8 +69,8 @@ impl<'a, K: Eq + Hash + Drop, V: Drop, S: Hashes<K>> Within<'a, K, V, S> {
             match self.calls(&mut machine, hasher) {
                 Progress::Goes | Progress::Waits | Progress::Gave(_) => {}
                 Progress::Unstored(node) => unstored = Some(node),
-                Progress::Done(answer) => return (Ok(answer), unstored),
-                Progress::Refused(fault) => return (Err(fault), unstored),
+                Progress::Done(answer) => return self.ran(Ok(answer), unstored),
+                Progress::Refused(fault) => return self.ran(Err(fault), unstored),
                 Progress::Asks(_) | Progress::Ready | Progress::Pair(_) => unreachable!(),
             }
         }
@@ -93,9 +109,9 @@ impl<'a, K: Eq + Hash + Drop, V: Drop, S: Hashes<K>> Within<'a, K, V, S> {
         hash: u64,
         key: K,
         value: V,
-    ) -> (Result<Answer, Fault>, Option<Node<K, V>>)
+    ) -> Ran<K, V>
         requires may { MayCall S.hash hasher.now key setting hash self.old.seat.now.view }
-        ensures ended { HasEnded result.0 self.new.seat.now.view }
+        ensures ended { HasEnded result.told self.new.seat.now.view }
         ensures stays { StaysThere self.old.seat.now.view self.new.seat.now.view }
         ensures same { IsSameSeat self.old self.new }
     {
