@@ -63,17 +63,17 @@ abbrev pub IsNoQuestion : {T : Type 0} → Called T → Type 0
 IsNoQuestion (called.Asks pair) = ⊥
 IsNoQuestion _ = Unit {0}
 
+ended_is : (T : Type 0) (end : End) → IsNoQuestion (ended {T = T} end)
+ended_is T (ends.Answered answer) = tt
+ended_is T (ends.Refused fault) = tt
+
 module _ {K V Q : Type 0} where
   abbrev pub Keeps : KeyCall K V Q × Called (Node K V) → Type 0
   Keeps end = AsksNothing end.0 × IsNoQuestion end.1
 
-  ended_is : (end : End) → IsNoQuestion (ended {T = Node K V} end)
-  ended_is (ends.Answered answer) = tt
-  ended_is (ends.Refused fault) = tt
-
   module _ (c : KeyCall K V Q) (is : AsksNothing c) where
     over_keeps : (end : End) → Keeps (over c end)
-    over_keeps end = (record { present = is.present; absent = is.absent; here = tt }, ended_is end)
+    over_keeps end = (record { present = is.present; absent = is.absent; here = tt }, ended_is (Node K V) end)
 
     ending_keeps : (end : End) → Keeps (ending c end)
     ending_keeps end = by (c.own == 0)
@@ -336,7 +336,7 @@ module _ {K V Q : Type 0} where
       keeps_at (at.Asks asking) not e = absurd not
       keeps_at (at.Disposes dispose answer) not e = let k = leads_as (disposed c answer) shown (dispose_plan dispose) end e in subst Keeps (sym k.2) (disposed_keeps c is answer k.0)
       keeps_at (at.Drops over) not e = drops_keep over e.0 e.1
-      keeps_at (at.Over over) not e = subst Keeps (sym e) (is, ended_is over)
+      keeps_at (at.Over over) not e = subst Keeps (sym e) (is, ended_is (Node K V) over)
 
       pub keeps : Leads shown (call_plan asks eq hashes c) end → Keeps end
       keeps e = keeps_at c.stands is.here e

@@ -88,6 +88,7 @@ module _ {T : Type 0} where
   settle_at of c settles.Gives = tt
   settle_at of c settles.Over = tt
 
+module _ (T : Type 0) where
   defer_at : (c : Defer) (p : Deferring) → IsQuiet (defer.plan_at {T = T} c p)
   defer_at c defers.Reads = tt
   defer_at c (defers.Links head) = tt
@@ -100,7 +101,7 @@ module _ {T : Type 0} where
 
 module _ (K V : Type 0) where
   table_at : (c : NewTable) (p : Making) → IsQuiet (new_table.plan_at {K = K} {V = V} c p)
-  table_at c (makes.Sums before reason sum) = quiet_as (counted c before reason) (sum_plan sum) (sum_at sum sum.stands)
+  table_at c (makes.Sums before reason sum) = quiet_as (counted c before reason) (sum_plan sum) (sum_at (Node K V) sum sum.stands)
   table_at c (makes.Makes table) = tt
   table_at c (makes.Promotes table) = tt
   table_at c (makes.Links table) = tt
@@ -112,7 +113,7 @@ module _ (K V : Type 0) where
   dispose_at c (disposes.Settles s) = quiet_as (settled c) (settle_plan deferred_word s) (settle_at deferred_word s s.stands)
   dispose_at c disposes.Reads = tt
   dispose_at c (disposes.Walks table) = tt
-  dispose_at c (disposes.Defers d) = quiet_as (deferred c) (defer_plan d) (defer_at d d.stands)
+  dispose_at c (disposes.Defers d) = quiet_as (deferred c) (defer_plan d) (defer_at (Node K V) d d.stands)
   dispose_at c disposes.Over = tt
 
   copier_at : (hashes : K → ℕ) (c : Copier) (p : Copying) → IsQuiet (copier.plan_at {V = V} hashes c p)

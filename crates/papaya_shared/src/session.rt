@@ -40,7 +40,7 @@ pub struct Found {
 }
 
 /// What a call works with in this slot.
-fn within(setting: Setting, slot: u64) -> Setting
+fn setting_in(setting: Setting, slot: u64) -> Setting
     ensures { result ≡ record setting { slot = slot } }
 {
     Setting { slot, ..setting }
@@ -209,7 +209,7 @@ impl<'a, K: Eq + Hash + Drop, V: Drop, S: Hashes<K>> Session<'a, K, V, S> {
         ensures blocks { self.new.caller.blocks ≡ self.old.caller.blocks }
     {
         let hash = self.hasher.hash_of(&key);
-        let setting = within(self.setting, self.slot);
+        let setting = setting_in(self.setting, self.slot);
         let ran = self
             .caller
             .inserts(rt, self.hasher, setting, hash, key, value);

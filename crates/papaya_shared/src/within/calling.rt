@@ -1,5 +1,5 @@
 //! A seat on an errand runs a call on one key that asks nothing.
-ghost use Rattle.std.specs.Prelude.{◌≡◌, ℕ, true, Some};
+ghost use Rattle.std.specs.Prelude.{◌≡◌, ℕ, true, false, Some};
 ghost use Rattle.papaya_views.specs.Given.Acts.Acts.{Insert};
 ghost use Rattle.papaya_shared.specs.Calling.{CalledSo, HasEnded, IsCalling, MayCall};
 ghost use Rattle.papaya_shared.specs.Looking.{Begins, StaysThere};
@@ -30,6 +30,15 @@ pub(crate) struct Ran<K, V> {
 }
 
 impl<'a, K: Eq + Hash + Drop, V: Drop, S: Hashes<K>> Within<'a, K, V, S> {
+    /// A step begins, and no operation was made yet.
+    fn begins_step(&mut self)
+        ensures none { self.new.made ≡ false }
+        ensures view { self.new.seat.now.view ≡ self.old.seat.now.view }
+        ensures same { IsSameSeat self.old self.new }
+    {
+        self.made = false;
+    }
+
     /// Takes the next step of its call.
     fn calls(&mut self, machine: &mut Machine<K, V>, hasher: &S) -> Progress<Node<K, V>>
         requires calls { IsCalling hasher.now machine.old self.old.seat.now.view }
@@ -37,7 +46,7 @@ impl<'a, K: Eq + Hash + Drop, V: Drop, S: Hashes<K>> Within<'a, K, V, S> {
         ensures stays { StaysThere self.old.seat.now.view self.new.seat.now.view }
         ensures same { IsSameSeat self.old self.new }
     {
-        self.made = false;
+        self.begins_step();
         let told = machine.step(self, hasher);
         if !self.made {
             self.blocks.turn::<Stepping>(&mut *self.seat);
